@@ -1,0 +1,5 @@
+pub mod Gcd
+pub mod Integers
+pub mod Rational
+pub mod Sum
+pub mod Written
