@@ -1,0 +1,5 @@
+mod LabelFacts
+mod ModelFacts
+mod Names
+mod Pieces
+mod RowFacts

@@ -1,0 +1,6 @@
+use Rattle.std.proofs.Common.{arith}
+use Rattle.mdp_rows.proofs.ModelFacts.{states_are}
+use Rattle.mdp_rows.proofs.model.Model.states.Goals as goal
+
+pub returns : goal.returns
+returns c = omega (arith, states_are _ _ c.self.invariant c.self.view_is, c.len.ensures)

@@ -1,0 +1,56 @@
+ghost use Rattle.std.specs.Prelude.{◌≡◌, ◌<◌, length, slice_index_or, [], ◌==◌};
+ghost use Rattle.std.specs.List.{list_any};
+ghost use Rattle.mdp_spec.specs.Labels.{place_of};
+
+use indexmap::IndexSet;
+use std::marker::Model;
+
+/// Label names in order of first sight, and for each state the places of its labels, ascending.
+#[derive(Drop)]
+pub struct Labels {
+    names: IndexSet<Vec<u8>>,
+    starts: Vec<u32>,
+    places: Vec<u32>,
+}
+
+impl Model for Labels {
+    ghost use Rattle.mdp_rows.specs.Code.{labels_code};
+    ghost use Rattle.mdp_rows.specs.Labelling.{Labelling};
+
+    ghost Value = { Labelling };
+
+    ghost coded = { labels_code };
+
+    ghost use Rattle.mdp_rows.specs.FlatLabels.{labels_in, AreLabels};
+
+    ghost view = { labels_in };
+
+    ghost invariant = { AreLabels };
+}
+
+impl Labels {
+    /// How many states have their labels here.
+    pub fn states(&self) -> u32
+        ensures { result ≡ length self.now.of_state }
+    {
+        (self.starts.len() - 1) as u32
+    }
+
+    /// The place of a name.
+    pub fn place(&self, name: &[u8]) -> Option<u32>
+        ensures { result ≡ place_of name.now self.now.names }
+    {
+        let place = self.names.get_index_of(name)?;
+        Some(place as u32)
+    }
+
+    /// Whether state `s` has the label of place `l`.
+    pub fn has(&self, l: u32, s: u32) -> bool
+        requires { s < length self.now.of_state }
+        ensures { result ≡ list_any (λ k. k == l) (slice_index_or self.now.of_state s []) }
+    {
+        let start = self.starts[s as usize] as usize;
+        let end = self.starts[s as usize + 1] as usize;
+        self.places[start..end].contains(&l)
+    }
+}

@@ -1,0 +1,12 @@
+//! The model: rows in flat vectors, lent as slices; one truth value per state.
+#![tactic(auto)]
+
+mod labels;
+mod marks;
+mod model;
+mod row;
+mod rows;
+
+pub use marks::Marks;
+pub use model::Model;
+pub use row::Row;

@@ -1,0 +1,112 @@
+ghost use Rattle.std.specs.Prelude.{◌≡◌, ◌<◌, length, IfOk, codes};
+ghost use Rattle.std.specs.List.{All};
+ghost use Rattle.mdp_spec.specs.Mdp.{states_of, choices_at, row_at, has_label};
+ghost use Rattle.mdp_spec.specs.Row.{entries, IsMdp};
+ghost use Rattle.mdp_spec.specs.Labels.{place_of, marks_of, initial_of};
+
+use crate::labels::Labels;
+use crate::marks::Marks;
+use crate::row::Row;
+use crate::rows::Rows;
+use mdp_num::Memory;
+use std::alloc::Global;
+
+/// A Markov decision process. States are numbered from 0, and so are the choices of each state.
+#[derive(Drop)]
+pub struct Model {
+    rows: Rows,
+    starts: Vec<u32>,
+    labels: Labels,
+}
+
+impl std::marker::Model for Model {
+    ghost use Rattle.mdp_spec.specs.Mdp.{Mdp};
+    ghost use Rattle.mdp_rows.specs.Code.{mdp_code};
+
+    ghost Value = { Mdp };
+
+    ghost coded = { mdp_code };
+
+    ghost use Rattle.mdp_rows.specs.FlatModel.{mdp_in, IsFlat};
+
+    ghost view = { mdp_in };
+
+    ghost invariant = { IsFlat };
+}
+
+impl Model {
+    /// What each model keeps.
+    pub fn known(&self)
+        ensures { IsMdp self.now }
+    {
+        self.rows.known();
+    }
+
+    /// How many states there are.
+    pub fn states(&self) -> u32
+        ensures { result ≡ states_of self.now }
+    {
+        (self.starts.len() - 1) as u32
+    }
+
+    /// How many choices state `s` has.
+    pub fn choices(&self, s: u32) -> u32
+        requires { s < states_of self.now }
+        ensures { result ≡ length (choices_at self.now s) }
+    {
+        self.starts[s as usize + 1] - self.starts[s as usize]
+    }
+
+    /// The row of choice `c` at state `s`.
+    pub fn row(&self, s: u32, c: u32) -> Row<'_>
+        requires state { s < states_of self.now }
+        requires choice { c < length (choices_at self.now s) }
+        ensures row { entries result.targets.now result.probs.now ≡ row_at self.now s c }
+        ensures in_range { All (λ t. t < states_of self.now) result.targets.now }
+    {
+        self.rows.row(self.starts[s as usize] + c)
+    }
+
+    /// The place of a label in the order of first sight, by the bytes of its name.
+    pub fn label(&self, name: &[u8]) -> Option<u32>
+        ensures { result ≡ place_of name.now self.now.labels }
+    {
+        self.labels.place(name)
+    }
+
+    /// Whether state `s` has the label of place `l`.
+    pub fn has(&self, l: u32, s: u32) -> bool
+        requires { s < states_of self.now }
+        ensures { result ≡ has_label self.now l s }
+    {
+        self.labels.has(l, s)
+    }
+
+    /// The one state with the label `init`; none where there isn't exactly one.
+    pub fn initial(&self) -> Option<u32>
+        ensures { result ≡ initial_of self.now }
+    {
+        let init = self.label(b"init")?;
+        let mut found = None;
+        for s in 0..self.states() {
+            if self.has(init, s) {
+                if found.is_some() {
+                    return None;
+                }
+                found = Some(s);
+            }
+        }
+        found
+    }
+
+    /// Which states have the label of place `l`.
+    pub fn marks_of(&self, alloc: Global, l: u32) -> Result<Marks, Memory>
+        ensures { IfOk result (λ marks. marks ≡ marks_of self.now l) }
+    {
+        let mut marks = Marks::empty(alloc, self.states())?;
+        for s in 0..self.states() {
+            marks.set(s, self.has(l, s));
+        }
+        Ok(marks)
+    }
+}
