@@ -3,3 +3,4 @@ mod ModelFacts
 mod Names
 mod Pieces
 mod RowFacts
+mod Tally

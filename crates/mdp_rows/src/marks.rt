@@ -18,6 +18,13 @@ impl std::marker::Model for Marks {
 }
 
 impl Marks {
+    /// One given value for each state.
+    pub fn from_values(values: Vec<bool>) -> Marks
+        ensures { result ≡ values.items }
+    {
+        Marks { items: values }
+    }
+
     /// One `false` for each of so many states.
     pub fn empty(alloc: Global, states: u32) -> Result<Marks, Memory>
         ensures { IfOk result (λ m. m ≡ replicate states false) }

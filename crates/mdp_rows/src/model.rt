@@ -9,7 +9,7 @@ use crate::marks::Marks;
 use crate::row::Row;
 use crate::rows::Rows;
 use mdp_num::Memory;
-use std::alloc::Global;
+use std::alloc::{AllocError, Global};
 
 /// A Markov decision process. States are numbered from 0, and so are the choices of each state.
 #[derive(Drop)]
@@ -87,26 +87,34 @@ impl Model {
         ensures { result ≡ initial_of self.now }
     {
         let init = self.label(b"init")?;
-        let mut found = None;
+        let mut first = None;
+        let mut more = false;
         for s in 0..self.states() {
             if self.has(init, s) {
-                if found.is_some() {
-                    return None;
+                if first.is_some() {
+                    more = true;
+                } else {
+                    first = Some(s);
                 }
-                found = Some(s);
             }
         }
-        found
+        if more { None } else { first }
     }
 
     /// Which states have the label of place `l`.
     pub fn marks_of(&self, alloc: Global, l: u32) -> Result<Marks, Memory>
         ensures { IfOk result (λ marks. marks ≡ marks_of self.now l) }
     {
-        let mut marks = Marks::empty(alloc, self.states())?;
+        Ok(Marks::from_values(self.values_of(alloc, l)?))
+    }
+
+    fn values_of(&self, alloc: Global, l: u32) -> Result<Vec<bool>, AllocError>
+        ensures { IfOk result (λ values. values.items ≡ marks_of self.now l) }
+    {
+        let mut values = Vec::with_capacity(alloc, self.states() as usize)?;
         for s in 0..self.states() {
-            marks.set(s, self.has(l, s));
+            values.push(self.has(l, s))?;
         }
-        Ok(marks)
+        Ok(values)
     }
 }
