@@ -4,3 +4,4 @@ pub mod FlatLabels
 pub mod FlatModel
 pub mod FlatRows
 pub mod Labelling
+pub mod Draft

@@ -1,12 +1,14 @@
 //! The model: rows in flat vectors, lent as slices; one truth value per state.
 #![tactic(auto)]
 
+mod error;
 mod labels;
 mod marks;
 mod model;
 mod row;
 mod rows;
 
+pub use error::RowsError;
 pub use marks::Marks;
 pub use model::Model;
 pub use row::Row;
