@@ -1,13 +1,13 @@
 -- What the value of a fraction is.
 use Rattle.std.proofs.Common.{◌≡◌, ℕ, ◌/◌, ◌<◌, ◌≤◌, ◌^◌, ◌-◌, Bool, false, ◌⊎◌, inl, inr, sym, ◌∙◌, ap, ap₂, subst, arith, ℤ, pos, ◌<ℤ◌, ◌*ℤ◌, int_div, unsigned_abs, List, [], ◌∷◌, Some, None}
-use Rattle.std.proofs.lemmas.Int.{ints, fits_signed_from_abs, to_z_pos}
+use Rattle.std.proofs.lemmas.Int.{ints, fits_signed_from_abs}
 use Rattle.std.proofs.Common.{to_z, of_z, to_z-of_z}
 use mir.Syntax.{w128}
 use lib.Signed.{mag}
 use Rattle.mdp_math.specs.Gcd.{gcd, gcd-reduced, gcd-pos}
 use Rattle.mdp_math.specs.Rational.{ℚ, ratio, ◌*ℚ◌}
 use Rattle.mdp_math.specs.Written.{narrow, narrow_ℚ, signed, reduced_num, reduced_den}
-use Rattle.mdp_math.proofs.Laws.{ratio_self, num-ratio, den-ratio, den-pos, coprime}
+use Rattle.mdp_math.proofs.Laws.{ratio_self, num-ratio, den-ratio, den-pos, coprime, same_terms}
 use Rattle.mdp_math.proofs.Written.{narrow-some, num-product, den-product, narrow_ℚ-kept, narrow_ℚ-past_num, narrow_ℚ-past_den, num-ratio_signed, den-ratio_signed, abs-signed}
 use Rattle.mdp_num.specs.declared.frac.Frac.TheInside.{Inside}
 use Rattle.mdp_num.specs.Inside.{value_of, IsFrac}
@@ -52,49 +52,44 @@ back-num f i = to_z-of_z (fits_signed_from_abs w128 f.num i.narrow_num)
 pub back-den : (f : Inside) (i : IsFrac f) → to_z w128 (of_z w128 f.den) ≡ f.den
 back-den f i = to_z-of_z (fits_signed_from_abs w128 f.den i.narrow_den)
 
+-- a fraction of terms n and d has the value n/d
+pub value_of_terms : (f : Inside) (n : ℤ) (d : ℕ) → f.num ≡ n → f.den ≡ pos d → value_of f ≡ ratio n d
+unfolding value_of
+value_of_terms f n d p q = ap₂ (λ (x y : ℤ). ratio x (unsigned_abs y)) p q
+
 -- ---- n/d with its sign, divided by the greatest common divisor g
 
-pub record IsReduced (b : Bool) (n d g : ℕ) (N D : ℤ) : Type 0 where
-  pub some : 0 < d
-  pub divisor : g ≡ gcd n d
-  pub top : N ≡ signed b (n / g)
-  pub bottom : D ≡ pos (d / g)
-
-quotient-pos : (n d g : ℕ) → 0 < d → g ≡ gcd n d → 0 < d / g
+pub quotient-pos : (n d g : ℕ) → 0 < d → g ≡ gcd n d → 0 < d / g
 quotient-pos n d g h e = let p : 0 < ℚ.den (ratio (signed false n) d) = den-pos (ratio (signed false n) d) in let q : ℚ.den (ratio (signed false n) d) ≡ d / g = den-ratio_signed false n d h ∙ ap (λ (k : ℕ). d / k) (sym e) in omega arith
 
-pub reduced-positive : (b : Bool) (n d g : ℕ) (N D : ℤ) → IsReduced b n d g N D → pos 0 <ℤ D
-reduced-positive b n d g N D h = subst (λ (z : ℤ). pos 0 <ℤ z) (sym h.bottom) (let p : 0 < d / g = quotient-pos n d g h.some h.divisor in omega (arith, ints))
+pub quotients-lowest : (n d g : ℕ) → 0 < d → g ≡ gcd n d → gcd (n / g) (d / g) ≡ 1
+quotients-lowest n d g h e = ap (λ (k : ℕ). gcd (n / k) (d / k)) e ∙ gcd-reduced n d h
 
-pub reduced-lowest : (b : Bool) (n d g : ℕ) (N D : ℤ) → IsReduced b n d g N D → gcd (unsigned_abs N) (unsigned_abs D) ≡ 1
-reduced-lowest b n d g N D h =
-    ap₂ gcd (ap unsigned_abs h.top ∙ abs-signed b (n / g)) (ap unsigned_abs h.bottom)
-    ∙ ap (λ (k : ℕ). gcd (n / k) (d / k)) h.divisor ∙ gcd-reduced n d h.some
+num-reduced : (b : Bool) (n d g : ℕ) → 0 < d → g ≡ gcd n d → ℚ.num (ratio (signed b n) d) ≡ signed b (n / g)
+num-reduced b n d g h e = num-ratio_signed b n d h ∙ ap (λ (k : ℕ). signed b (n / k)) (sym e)
 
-pub reduced-num : (b : Bool) (n d g : ℕ) (N D : ℤ) → IsReduced b n d g N D → N ≡ ℚ.num (ratio (signed b n) d)
-reduced-num b n d g N D h = h.top ∙ ap (λ (k : ℕ). signed b (n / k)) h.divisor ∙ sym (num-ratio_signed b n d h.some)
+den-reduced : (b : Bool) (n d g : ℕ) → 0 < d → g ≡ gcd n d → ℚ.den (ratio (signed b n) d) ≡ d / g
+den-reduced b n d g h e = den-ratio_signed b n d h ∙ ap (λ (k : ℕ). d / k) (sym e)
 
-pub reduced-den : (b : Bool) (n d g : ℕ) (N D : ℤ) → IsReduced b n d g N D → D ≡ pos (ℚ.den (ratio (signed b n) d))
-reduced-den b n d g N D h = h.bottom ∙ ap (λ (k : ℕ). pos (d / k)) h.divisor ∙ ap pos (sym (den-ratio_signed b n d h.some))
+-- division of both terms keeps the value
+pub ratio_reduced : (b : Bool) (n d g : ℕ) → 0 < d → g ≡ gcd n d → ratio (signed b (n / g)) (d / g) ≡ ratio (signed b n) d
+ratio_reduced b n d g h e =
+    let p = quotient-pos n d g h e in
+    let one : gcd (unsigned_abs (signed b (n / g))) (d / g) ≡ 1 = ap (λ (k : ℕ). gcd k (d / g)) (abs-signed b (n / g)) ∙ quotients-lowest n d g h e in
+    same_terms (ratio (signed b (n / g)) (d / g)) (ratio (signed b n) d)
+    (num-ratio (signed b (n / g)) (d / g) p one ∙ sym (num-reduced b n d g h e))
+    (den-ratio (signed b (n / g)) (d / g) p one ∙ sym (den-reduced b n d g h e))
 
-pub reduced-abs_num : (b : Bool) (n d g : ℕ) (N D : ℤ) → IsReduced b n d g N D → unsigned_abs N ≡ n / g
-reduced-abs_num b n d g N D h = ap unsigned_abs h.top ∙ abs-signed b (n / g)
+pub reduced-kept : (b : Bool) (n d g : ℕ) → 0 < d → g ≡ gcd n d → n / g ≤ 2 ^ 127 - 1 → d / g ≤ 2 ^ 127 - 1 → Some (ratio (signed b (n / g)) (d / g)) ≡ narrow_ℚ (ratio (signed b n) d)
+reduced-kept b n d g h e p q =
+    let top : unsigned_abs (ℚ.num (ratio (signed b n) d)) ≡ n / g = ap unsigned_abs (num-reduced b n d g h e) ∙ abs-signed b (n / g) in
+    ap Some (ratio_reduced b n d g h e) ∙ sym (narrow_ℚ-kept (ratio (signed b n) d) (omega (arith, top)) (omega (arith, den-reduced b n d g h e)))
 
 pub reduced-past : (b : Bool) (n d g : ℕ) → 0 < d → g ≡ gcd n d → (2 ^ 127 - 1 < n / g) ⊎ (2 ^ 127 - 1 < d / g) → None ≡ narrow_ℚ (ratio (signed b n) d)
 reduced-past b n d g h e k =
-    let p : unsigned_abs (ℚ.num (ratio (signed b n) d)) ≡ n / g = ap unsigned_abs (num-ratio_signed b n d h) ∙ abs-signed b (n / gcd n d) ∙ ap (λ (x : ℕ). n / x) (sym e) in
-    let q : ℚ.den (ratio (signed b n) d) ≡ d / g = den-ratio_signed b n d h ∙ ap (λ (x : ℕ). d / x) (sym e) in
-    elim k as (λ _. None ≡ narrow_ℚ (ratio (signed b n) d)) [ inl u ↦ sym (narrow_ℚ-past_num (ratio (signed b n) d) (omega arith)) | inr u ↦ sym (narrow_ℚ-past_den (ratio (signed b n) d) (omega arith)) ]
-
-pub is_reduced : (b : Bool) (n d g : ℕ) (r : ℤ) → 0 < d → g ≡ gcd n d → n / g ≤ 2 ^ 127 - 1 → d / g ≤ 2 ^ 127 - 1 → r ≡ signed b (n / g) → IsReduced b n d g (to_z w128 (of_z w128 r)) (to_z w128 (d / g))
-is_reduced b n d g r h e p q t =
-    let u : unsigned_abs r ≡ n / g = ap unsigned_abs t ∙ abs-signed b (n / g) in
-    record {
-      some = h;
-      divisor = e;
-      top = to_z-of_z (fits_signed_from_abs w128 r (omega arith)) ∙ t;
-      bottom = to_z_pos w128 (d / g) (omega arith);
-    }
+    let top : unsigned_abs (ℚ.num (ratio (signed b n) d)) ≡ n / g = ap unsigned_abs (num-reduced b n d g h e) ∙ abs-signed b (n / g) in
+    let bottom = den-reduced b n d g h e in
+    elim k as (λ _. None ≡ narrow_ℚ (ratio (signed b n) d)) [ inl u ↦ sym (narrow_ℚ-past_num (ratio (signed b n) d) (omega (arith, top))) | inr u ↦ sym (narrow_ℚ-past_den (ratio (signed b n) d) (omega (arith, bottom))) ]
 
 pub num-bits : (f : Inside) (x : ℚ) → value_of f ≡ x → IsFrac f → to_z w128 (of_z w128 f.num) ≡ x.num
 num-bits f x e i = back-num f i ∙ sym (num-value f i) ∙ ap (λ (z : ℚ). z.num) e

@@ -5,44 +5,23 @@ ghost use Rattle.mdp_math.specs.Written.{narrow, narrow_ℚ, across, common_den,
 ghost use Rattle.mdp_math.specs.Rational.{ratio, of_int, neg_ℚ};
 ghost use Rattle.mdp_math.specs.Written.{signed};
 
+use crate::errors::{Memory, NumError, Wide};
 use crate::gcd::greatest_common_divisor;
 use itoa::Buffer;
-use std::alloc::AllocError;
 use std::cmp::Ordering;
 use std::marker::Model;
 
-// A term of a result is past width.
-#[derive(Clone, Copy, PartialEq, Eq, Debug)]
-pub struct Wide;
+/// The greatest magnitude of a term, 2 ^ 127 - 1. Below 0 it leaves out `i128::MIN`.
+pub(crate) const WIDTH: u128 = 170141183460469231731687303715884105727;
 
-// Memory was refused.
-#[derive(Clone, Copy, PartialEq, Eq, Debug)]
-pub struct Memory;
-
-impl From<AllocError> for Memory {
-    fn from(_error: AllocError) -> Memory {
-        Memory
-    }
-}
-
-// Why a fraction cannot be made.
-#[derive(Clone, Copy, PartialEq, Eq, Debug)]
-pub enum NumError {
-    ZeroDen = 1,
-    Wide = 2,
-}
-
-// The greatest magnitude of a term.
-const WIDTH: u128 = 170141183460469231731687303715884105727;
-
-// A fraction in lowest terms, both in width.
-#[derive(Clone, Copy)]
+/// An exact fraction in lowest terms, with a denominator of at least 1. Both terms are in width: their magnitude is at most 2 ^ 127 - 1.
+#[derive(Clone, Copy, Debug)]
 pub struct Frac {
     num: i128,
     den: i128,
 }
 
-// The product, where it is in width.
+/// The product, where it is in width.
 fn times(a: i128, b: i128) -> Result<i128, Wide>
     ensures { result_ok result ≡ narrow (a *ℤ b) }
 {
@@ -52,7 +31,7 @@ fn times(a: i128, b: i128) -> Result<i128, Wide>
     }
 }
 
-// The sum, where it is in width.
+/// The sum, where it is in width.
 fn plus(a: i128, b: i128) -> Result<i128, Wide>
     ensures { result_ok result ≡ narrow (a +ℤ b) }
 {
@@ -62,7 +41,7 @@ fn plus(a: i128, b: i128) -> Result<i128, Wide>
     }
 }
 
-// The greatest common divisor of numbers in width.
+/// The greatest common divisor of numbers in width.
 fn common_divisor(a: i128, b: i128) -> i128
     requires { pos 0 <ℤ b }
     ensures { result ≡ pos (gcd (unsigned_abs a) (unsigned_abs b)) }
@@ -70,6 +49,7 @@ fn common_divisor(a: i128, b: i128) -> i128
     greatest_common_divisor(a.unsigned_abs(), b.unsigned_abs()) as i128
 }
 
+/// The quotient of an exact division.
 fn divided(n: i128, divisor: i128) -> i128
     requires { pos 0 <ℤ divisor }
     ensures { result ≡ int_div n divisor }
@@ -77,7 +57,7 @@ fn divided(n: i128, divisor: i128) -> i128
     n / divisor
 }
 
-// magnitude, or -magnitude
+/// The magnitude, or its negation.
 fn with_sign(is_negative: bool, magnitude: u128) -> i128
     requires { magnitude < 2 ^ 127 }
     ensures { result ≡ signed is_negative magnitude }
@@ -106,9 +86,38 @@ impl Model for Frac {
     ghost inverse_ok = { terms_back };
 }
 
-impl Frac {
-    ghost use Rattle.mdp_num.specs.Value.{quotient, spelling, IsNarrow};
+impl PartialEq for Frac {
+    ghost use Rattle.std.specs.Prelude.{IsTrue};
+    ghost use Rattle.std.specs.Cmp.Rules.{comparing};
+    ghost use Rattle.std.proofs.Common.{rules};
+    ghost use Rattle.mdp_num.specs.Equal.{eq_ℚ};
 
+    ghost eq = { eq_ℚ };
+
+    ghost laws = { Prim.search (comparing, rules) };
+
+    fn eq(&self, other: &Frac) -> bool
+        ensures test { result ≡ eq_ℚ self.now other.now }
+        ensures equal { IsTrue result ↔ (self.now ≡ other.now) }
+    {
+        self.num == other.num && self.den == other.den
+    }
+}
+
+impl Eq for Frac {
+    ghost use Rattle.std.specs.Cmp.Rules.{comparing};
+    ghost use Rattle.std.proofs.Common.{rules};
+
+    ghost laws = { Prim.search (comparing, rules) };
+}
+
+impl Frac {
+    ghost use Rattle.mdp_math.proofs.Order.{0ℚ};
+    ghost use Rattle.mdp_math.specs.Rational.{inv_ℚ, ◌<ℚ◌};
+    ghost use Rattle.mdp_num.specs.Value.{quotient, sign_of, spelling, IsNarrow};
+    ghost use Rattle.mdp_num.specs.Written.{written_sub, written_div};
+
+    /// The numerator.
     pub fn num(&self) -> i128
         ensures value { result ≡ self.now.num }
         ensures narrow { IsNarrow self.now }
@@ -116,13 +125,41 @@ impl Frac {
         self.num
     }
 
+    /// The denominator, at least 1.
     pub fn den(&self) -> i128
-        ensures { result ≡ pos self.now.den }
+        ensures value { result ≡ pos self.now.den }
+        ensures positive { pos 0 <ℤ result }
+        ensures narrow { IsNarrow self.now }
     {
         self.den
     }
 
-    // num/den in lowest terms, with the sign given apart.
+    /// -1, 0 or 1, as the fraction is below 0, 0 or above 0.
+    pub fn sign(&self) -> i32
+        ensures value { result ≡ sign_of self.now }
+        ensures zero { (result ≡ pos 0) ↔ (self.now ≡ 0ℚ) }
+        ensures positive { (pos 0 <ℤ result) ↔ (0ℚ <ℚ self.now) }
+        ensures negative { (result <ℤ pos 0) ↔ (self.now <ℚ 0ℚ) }
+        ensures narrow { IsNarrow self.now }
+    {
+        self.num.signum() as i32
+    }
+
+    /// The fraction of these terms, with the sign given apart.
+    pub(crate) fn from_lowest(is_negative: bool, num: u128, den: u128) -> Frac
+        requires some { 0 < den }
+        requires lowest { gcd num den ≡ 1 }
+        requires num_fits { num < 2 ^ 127 }
+        requires den_fits { den < 2 ^ 127 }
+        ensures { result ≡ ratio (signed is_negative num) den }
+    {
+        Frac {
+            num: with_sign(is_negative, num),
+            den: den as i128,
+        }
+    }
+
+    /// num/den in lowest terms, with the sign given apart. `Wide` where one of them is past width.
     fn reduce(is_negative: bool, num: u128, den: u128) -> Result<Frac, Wide>
         requires { 0 < den }
         ensures { result_ok result ≡ narrow_ℚ (ratio (signed is_negative num) den) }
@@ -133,12 +170,10 @@ impl Frac {
         if top > WIDTH || bottom > WIDTH {
             return Err(Wide);
         }
-        Ok(Frac {
-            num: with_sign(is_negative, top),
-            den: bottom as i128,
-        })
+        Ok(Frac::from_lowest(is_negative, top, bottom))
     }
 
+    /// num/den. `ZeroDen` where den is 0, else `Wide` where a lowest term is past width.
     pub fn try_new(num: i128, den: i128) -> Result<Frac, NumError>
         ensures zero { (result ≡ Err NumError.ZeroDen) ↔ (den ≡ pos 0) }
         ensures value { den ≢ pos 0 → result_ok result ≡ narrow_ℚ (quotient num den) }
@@ -153,6 +188,7 @@ impl Frac {
         }
     }
 
+    /// The whole number n.
     pub fn whole(n: i64) -> Frac
         ensures { result ≡ of_int n }
     {
@@ -162,6 +198,7 @@ impl Frac {
         }
     }
 
+    /// The negated fraction.
     pub fn negate(&self) -> Frac
         ensures { result ≡ neg_ℚ self.now }
     {
@@ -171,13 +208,35 @@ impl Frac {
         }
     }
 
+    /// The exact difference, as `add` of the negated second gives it.
     pub fn sub(&self, other: &Frac) -> Result<Frac, Wide>
-        ensures { result_ok result ≡ written_add self.now (neg_ℚ other.now) }
+        ensures { result_ok result ≡ written_sub self.now other.now }
     {
         self.add(&other.negate())
     }
 
-    // Appends the spelling. After `Memory` the text is as before.
+    /// 1 over the fraction.
+    fn reciprocal(&self) -> Frac
+        requires { self.now ≢ 0ℚ }
+        ensures { result ≡ inv_ℚ self.now }
+    {
+        Frac::from_lowest(
+            self.num < 0,
+            self.den.unsigned_abs(),
+            self.num.unsigned_abs(),
+        )
+    }
+
+    /// The exact quotient, as `mul` by the reciprocal gives it.
+    pub fn div(&self, other: &Frac) -> Result<Frac, Wide>
+        requires { other.now ≢ 0ℚ }
+        ensures { result_ok result ≡ written_div self.now other.now }
+    {
+        self.mul(&other.reciprocal())
+    }
+
+    /// Appends the spelling: the numerator in decimal, with `-` in front where it is negative, and where the denominator isn't 1, `/` and the denominator.
+    /// After `Memory` the text is as before.
     pub fn push_text(&self, out: &mut Vec<u8>) -> Result<(), Memory>
         ensures { out.new.items ≡ (if is_ok result then out.old.items ++ spelling self.now else out.old.items) }
     {
@@ -196,7 +255,7 @@ impl Frac {
         Ok(())
     }
 
-    // The numerator times what the other denominator has beyond the common divisor.
+    /// The numerator times what the other denominator has beyond the common divisor.
     fn across(&self, other: &Frac) -> Result<i128, Wide>
         ensures { result_ok result ≡ narrow (across self.now other.now) }
     {
@@ -206,7 +265,7 @@ impl Frac {
         )
     }
 
-    // The least common multiple of the denominators.
+    /// The least common multiple of the denominators.
     fn common_den(&self, other: &Frac) -> Result<i128, Wide>
         ensures { result_ok result ≡ narrow (common_den self.now other.now) }
     {
@@ -216,20 +275,21 @@ impl Frac {
         )
     }
 
-    // The numerator without what it shares with the other denominator.
+    /// The numerator without what it shares with the other denominator.
     fn reduced_num(&self, other: &Frac) -> i128
         ensures { result ≡ reduced_num self.now other.now }
     {
         divided(self.num, common_divisor(self.num, other.den))
     }
 
-    // The denominator without what it shares with the other numerator.
+    /// The denominator without what it shares with the other numerator.
     fn reduced_den(&self, other: &Frac) -> i128
         ensures { result ≡ pos (reduced_den self.now other.now) }
     {
         divided(self.den, common_divisor(other.num, self.den))
     }
 
+    /// The exact sum. `Wide` where a numerator over the least common denominator, their sum, that denominator or a lowest term of the result is past width.
     #[tactic(auto, unfolding(mdp_math::specs::Written::written_add))]
     pub fn add(&self, other: &Frac) -> Result<Frac, Wide>
         ensures { result_ok result ≡ written_add self.now other.now }
@@ -241,6 +301,7 @@ impl Frac {
         Frac::reduce(sum < 0, sum.unsigned_abs(), den.unsigned_abs())
     }
 
+    /// The exact product. `Wide` where a lowest term of it is past width.
     pub fn mul(&self, other: &Frac) -> Result<Frac, Wide>
         ensures { result_ok result ≡ written_mul self.now other.now }
     {
@@ -249,6 +310,7 @@ impl Frac {
         Ok(Frac { num, den })
     }
 
+    /// The exact order. `Wide` where a numerator over the least common denominator is past width.
     #[tactic(auto, unfolding(mdp_math::specs::Written::written_compare))]
     pub fn compare(&self, other: &Frac) -> Result<Ordering, Wide>
         ensures { result_ok result ≡ written_compare self.now other.now }

@@ -1,0 +1,7 @@
+-- Equality of fractions, as a test of their terms.
+use Rattle.std.specs.Prelude.{Bool, ◌==◌, ◌&&◌}
+use Rattle.std.specs.Ordering.{int_eq}
+use Rattle.mdp_math.specs.Rational.{ℚ}
+
+abbrev pub eq_ℚ : ℚ → ℚ → Bool
+eq_ℚ x y = int_eq x.num y.num && (x.den == y.den)
