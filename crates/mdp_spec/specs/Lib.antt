@@ -1,3 +1,4 @@
 pub mod Labels
 pub mod Mdp
 pub mod Row
+pub mod Written

@@ -1,0 +1,53 @@
+-- The rules for upper bounds of the probability to reach a goal (Funke, Jantsch and Baier 2020).
+--     rule 3   the value is from 0 to 1
+--     rule 4   at a goal it is 1
+--     rule 5   at any other state it is at least the sum over each choice's row
+use Rattle.std.specs.Prelude.{ℕ, Bool, false, List, [], ◌∷◌, ◌++◌, length, map, slice_index_or, Option, Some, None, pos, if◌then◌else◌}
+use Rattle.std.specs.List.{flat_map, range_with_len}
+use Rattle.mdp_math.specs.Rational.{ℚ, of_int}
+use Rattle.mdp_math.specs.Written.{◌>>=◌}
+use Rattle.mdp_spec.specs.Mdp.{Entry, Mdp, states_of, choices_at, row_at, value_at}
+use Rattle.mdp_spec.specs.Written.{written_sum}
+use Rattle.mdp_farkas.specs.Compare.{is_at_least, is_at_most, is_equal}
+use Rattle.mdp_farkas.specs.Verdict.{Check}
+
+abbrev pub 0ℚ : ℚ
+0ℚ = of_int (pos 0)
+
+abbrev pub 1ℚ : ℚ
+1ℚ = of_int (pos 1)
+
+abbrev pub is_goal : List Bool → ℕ → Bool
+is_goal goals s = slice_index_or goals s false
+
+-- a check at a state, and one at a choice of a state
+abbrev pub at_state : ℕ → ℕ → Option Bool → Check
+at_state rule s holds = record { rule = rule; state = Some s; choice = None; holds = holds }
+
+abbrev pub at_choice : ℕ → ℕ → ℕ → Option Bool → Check
+at_choice rule s c holds = record { rule = rule; state = Some s; choice = Some c; holds = holds }
+
+-- rule 3
+abbrev pub probability_checks : List ℚ → ℕ → List Check
+probability_checks z s = at_state 3 s (is_at_least (value_at z s) 0ℚ) ∷ at_state 3 s (is_at_most (value_at z s) 1ℚ) ∷ []
+
+-- rule 4
+abbrev pub goal_check : List ℚ → ℕ → Check
+goal_check z s = at_state 4 s (is_equal (value_at z s) 1ℚ)
+
+-- rule 5
+abbrev pub covers : Mdp → List ℚ → ℕ → ℕ → Option Bool
+covers m z s c = written_sum z 0ℚ (row_at m s c) >>= is_at_least (value_at z s)
+
+abbrev pub choice_check : Mdp → List ℚ → ℕ → ℕ → Check
+choice_check m z s c = at_choice 5 s c (covers m z s c)
+
+abbrev pub choice_checks : Mdp → List ℚ → ℕ → List Check
+choice_checks m z s = map (choice_check m z s) (range_with_len 0 (length (choices_at m s)))
+
+abbrev pub upper_at : Mdp → List Bool → List ℚ → ℕ → List Check
+upper_at m goals z s = probability_checks z s ++ (if is_goal goals s then goal_check z s ∷ [] else choice_checks m z s)
+
+-- the states ascend, at a state the rules, in a rule the choices
+abbrev pub upper_checks : Mdp → List Bool → List ℚ → List Check
+upper_checks m goals z = flat_map (upper_at m goals z) (range_with_len 0 (states_of m))

@@ -1,0 +1,10 @@
+//! The rules of certificates: each call goes through the rules in their order and answers yes, the first rule that is false, or the
+//! first written term past width.
+#![tactic(auto)]
+
+mod compare;
+mod upper;
+mod verdict;
+
+pub use upper::{UpperCert, holds_upper};
+pub use verdict::{Fault, Verdict};

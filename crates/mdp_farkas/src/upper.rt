@@ -1,0 +1,97 @@
+ghost use Rattle.std.specs.Prelude.{◌≡◌, ◌<◌, length, [], ◌∷◌};
+ghost use Rattle.std.specs.Result.{result_ok};
+ghost use Rattle.mdp_spec.specs.Mdp.{states_of, choices_at};
+ghost use Rattle.mdp_farkas.specs.Upper.{covers, probability_checks, goal_check, choice_checks, upper_at, upper_checks};
+ghost use Rattle.mdp_farkas.specs.Verdict.{verdict_of};
+
+use crate::compare::{at_least, at_most, equal};
+use crate::verdict::{Verdict, judged};
+use mdp_num::{Frac, Wide};
+use mdp_rows::{Marks, Model};
+
+/// Values that are said to bound the probability of reaching a goal from above: one per state.
+#[derive(Debug, Drop)]
+pub struct UpperCert {
+    pub values: Vec<Frac>,
+}
+
+/// The value of state `s` is from 0 to 1.
+fn probability_at(values: &[Frac], s: u32) -> Verdict
+    requires { s < length values.now }
+    ensures { result ≡ verdict_of (probability_checks values.now s) }
+{
+    let value = values[s as usize];
+    match judged(at_least(&value, &Frac::whole(0)), 3, s, None) {
+        Verdict::Yes => judged(at_most(&value, &Frac::whole(1)), 3, s, None),
+        other => other,
+    }
+}
+
+/// The value of the goal `s` is 1.
+fn goal_at(values: &[Frac], s: u32) -> Verdict
+    requires { s < length values.now }
+    ensures { result ≡ verdict_of (goal_check values.now s ∷ []) }
+{
+    judged(equal(&values[s as usize], &Frac::whole(1)), 4, s, None)
+}
+
+/// Whether the value of state `s` is at least the sum over the row of its choice `c`.
+fn row_is_covered(model: &Model, values: &[Frac], s: u32, c: u32) -> Result<bool, Wide>
+    requires values { length values.now ≡ states_of model.now }
+    requires state { s < states_of model.now }
+    requires choice { c < length (choices_at model.now s) }
+    ensures { result_ok result ≡ covers model.now values.now s c }
+{
+    let sum = model.row(s, c).sum(&Frac::whole(0), values)?;
+    at_least(&values[s as usize], &sum)
+}
+
+/// The value of state `s` is at least the sum over the row of each choice.
+fn choices_at_state(model: &Model, values: &[Frac], s: u32) -> Verdict
+    requires values { length values.now ≡ states_of model.now }
+    requires state { s < states_of model.now }
+    ensures { result ≡ verdict_of (choice_checks model.now values.now s) }
+{
+    for c in 0..model.choices(s) {
+        match judged(row_is_covered(model, values, s, c), 5, s, Some(c)) {
+            Verdict::Yes => {}
+            other => return other,
+        }
+    }
+    Verdict::Yes
+}
+
+/// The rules at state `s`.
+fn upper_at_state(model: &Model, goals: &Marks, values: &[Frac], s: u32) -> Verdict
+    requires goals { length goals.now ≡ states_of model.now }
+    requires values { length values.now ≡ states_of model.now }
+    requires state { s < states_of model.now }
+    ensures { result ≡ verdict_of (upper_at model.now goals.now values.now s) }
+{
+    match probability_at(values, s) {
+        Verdict::Yes => {}
+        other => return other,
+    }
+    if goals.at(s) {
+        goal_at(values, s)
+    } else {
+        choices_at_state(model, values, s)
+    }
+}
+
+/// What rules 3, 4 and 5 say of the values: yes, the first rule that is false with its place, or the place of the first written term past
+/// width where that comes before. It takes no memory.
+pub fn holds_upper(model: &Model, goals: &Marks, cert: &UpperCert) -> Verdict
+    requires goals { length goals.now ≡ states_of model.now }
+    requires values { length cert.now.values.items ≡ states_of model.now }
+    ensures verdict { result ≡ verdict_of (upper_checks model.now goals.now cert.now.values.items) }
+{
+    let values = cert.values.as_slice();
+    for s in 0..model.states() {
+        match upper_at_state(model, goals, values, s) {
+            Verdict::Yes => {}
+            other => return other,
+        }
+    }
+    Verdict::Yes
+}
