@@ -1,5 +1,5 @@
 -- The sources and sinks of this crate, as contracts see them.
-use Rattle.std.specs.Prelude.{ℕ, ◌-◌, List, ◌++◌, length, take, drop}
+use Rattle.std.specs.Prelude.{ℕ, Bool, ◌-◌, List, ◌++◌, length, take, drop}
 use Rattle.mdp_edge.specs.Plan.{Plan, after_call, after_fault}
 
 -- a source over a list
@@ -41,3 +41,9 @@ after_flush sink = record sink { settled = length sink.taken; plan = after_call 
 -- after a write or a flush that failed
 abbrev pub after_failed_call : Stored → Stored
 after_failed_call sink = record sink { plan = after_fault sink.plan }
+
+-- a source outside
+pub record Opened : Type 0 where
+  -- there is something to read from
+  pub is_open : Bool
+  pub faults : ℕ
