@@ -5,12 +5,15 @@ mod fault_plan;
 mod list_sink;
 mod list_source;
 mod reading;
+mod retrying;
 mod sink;
 mod source;
 mod std_sink;
 mod std_source;
 mod sure_sink;
 mod sure_source;
+#[cfg(test)]
+mod tests;
 mod writing;
 
 pub use list_sink::ListSink;

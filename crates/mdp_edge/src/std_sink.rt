@@ -1,11 +1,10 @@
-ghost use Rattle.std.specs.Prelude.{◌≡◌, ◌≤◌, ◌<◌, length, IfOk, IfSome, OnOk, OnErr, None};
+ghost use Rattle.std.specs.Prelude.{◌≡◌, ◌≤◌, ◌<◌, length, IfOk, OnOk, OnErr, None};
 ghost use Rattle.mdp_edge.specs.Rose.{one_more, last_count};
 
+use crate::retrying::{flush_retrying, write_retrying};
 use crate::sink::Sink;
 use crate::source::Failed;
-use crate::std_source::MOST_TRIES;
-use std::io;
-use std::io::{ErrorKind, Write};
+use std::io::Write;
 use std::marker::Model;
 
 /// Bytes to outside. It tells nothing of them.
@@ -71,36 +70,4 @@ impl<W: Write> Sink for StdSink<W> {
         self.faults = self.faults.saturating_add(1);
         Err(Failed)
     }
-}
-
-/// One write, made again where it is interrupted. None where it fails or takes nothing.
-fn write_retrying<W: Write>(inner: &mut W, piece: &[u8]) -> Option<usize>
-    ensures some { IfSome result (λ n. 1 ≤ n) }
-    ensures room { IfSome result (λ n. n ≤ length piece.now) }
-{
-    for _ in 0..MOST_TRIES {
-        match inner.write(piece) {
-            Ok(0) => return None,
-            Ok(count) => return Some(count),
-            Err(error) if is_interrupted(&error) => {}
-            Err(_) => return None,
-        }
-    }
-    None
-}
-
-/// One flush, made again where it is interrupted. Whether it succeeded.
-fn flush_retrying<W: Write>(inner: &mut W) -> bool {
-    for _ in 0..MOST_TRIES {
-        match inner.flush() {
-            Ok(()) => return true,
-            Err(error) if is_interrupted(&error) => {}
-            Err(_) => return false,
-        }
-    }
-    false
-}
-
-fn is_interrupted(error: &io::Error) -> bool {
-    error.kind() == ErrorKind::Interrupted
 }

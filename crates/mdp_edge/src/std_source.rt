@@ -1,12 +1,10 @@
-ghost use Rattle.std.specs.Prelude.{◌≡◌, ◌≤◌, ◌<◌, false, length, is_some, IfOk, IfSome, IsErr, OnOk, OnErr, None};
+ghost use Rattle.std.specs.Prelude.{◌≡◌, ◌≤◌, ◌<◌, false, length, is_some, IfOk, IsErr, OnOk, OnErr, None};
 ghost use Rattle.mdp_edge.specs.Rose.{one_more, last_count};
 
+use crate::retrying::read_retrying;
 use crate::source::{Failed, Source};
-use std::io::{ErrorKind, Read};
+use std::io::Read;
 use std::marker::Model;
-
-/// How often a call that was interrupted is made, before that counts as a fault.
-pub const MOST_TRIES: u32 = 1000;
 
 /// Bytes from outside, or from nowhere where what should have been read could not be opened. It tells nothing of them.
 #[derive(Drop)]
@@ -58,18 +56,4 @@ impl<R: Read> Source for StdSource<R> {
         self.faults = self.faults.saturating_add(1);
         Err(Failed)
     }
-}
-
-/// One read, made again where it is interrupted. None where it fails.
-fn read_retrying<R: Read>(inner: &mut R, buf: &mut [u8]) -> Option<usize>
-    ensures { IfSome result (λ n. n ≤ length buf.new) }
-{
-    for _ in 0..MOST_TRIES {
-        match inner.read(buf) {
-            Ok(count) => return Some(count),
-            Err(error) if error.kind() == ErrorKind::Interrupted => {}
-            Err(_) => return None,
-        }
-    }
-    None
 }

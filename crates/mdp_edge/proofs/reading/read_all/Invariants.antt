@@ -5,7 +5,7 @@ use Rattle.mdp_edge.proofs.reading.read_all.Given as goal
 abbrev pub invariant-reading : goal.invariant-reading
 invariant-reading g l = record {
   gave : Gave (g.S.Source.left l.initial.source) (g.S.Source.left l.source) l.bytes.items;
-  later : g.S.Source.faults l.initial.source ≤ g.S.Source.faults l.source
+  later : g.S.Source.faults l.initial.source ≤ g.S.Source.faults l.source;
 }
 
 abbrev pub decreases-reading : goal.decreases-reading
