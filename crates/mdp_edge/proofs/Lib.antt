@@ -1,0 +1,3 @@
+mod Examples
+mod Pieces
+pub mod Rose

@@ -1,0 +1,4 @@
+pub mod Rose
+pub mod Bytes
+pub mod Plan
+pub mod Kinds

@@ -1,0 +1,50 @@
+ghost use Rattle.std.specs.Prelude.{◌≡◌, ◌<◌, ◌≤◌, length, vec_len, IfOk, OnOk, IsErr, IsErrOf, IfSome};
+ghost use Rattle.std.specs.Io.KnownBytes.{IsAtEnd};
+ghost use Rattle.mdp_edge.specs.Rose.{Rose};
+ghost use Rattle.mdp_edge.specs.Bytes.{Gave, GaveSome};
+
+use crate::source::Source;
+use std::alloc::Global;
+
+/// How many bytes a call of a source is asked for at most.
+const PIECE: usize = 4096;
+
+/// Why the bytes of a source could not be read to their end.
+#[derive(Clone, Copy, Debug, PartialEq, Eq)]
+pub enum InError {
+    /// The source failed.
+    ReadFault = 1,
+    /// It gave more bytes than the limit.
+    Long = 2,
+    /// There was no memory for them.
+    Memory = 3,
+}
+
+/// All the bytes that a source has left, of which there may be at most `limit`. It stops at the first fault, and once more than `limit` bytes came.
+pub fn read_all<S: Source>(alloc: Global, source: &mut S, limit: usize) -> Result<Vec<u8>, InError>
+    ensures all { IfOk result (λ bytes. Gave (S.left source.old) (S.left source.new) bytes.items) }
+    ensures end { OnOk result (IsAtEnd (S.left source.new)) }
+    ensures fits { IfOk result (λ bytes. vec_len bytes ≤ limit) }
+    ensures too_long { IfSome (S.left source.old) (λ left. limit < length left → IsErr result) }
+
+    // An error leaves the bytes behind those that came.
+    ensures rest { GaveSome (S.left source.old) (S.left source.new) }
+    ensures long { IsErrOf result InError.Long → IfSome (S.left source.old) (λ left. limit < length left) }
+    ensures fault { IsErrOf result InError.ReadFault → Rose (S.faults source.old) (S.faults source.new) }
+    ensures later { S.faults source.old ≤ S.faults source.new }
+{
+    let mut bytes = Vec::new(alloc);
+    let mut piece = [0u8; PIECE];
+    'reading: while bytes.len() <= limit {
+        let Ok(count) = source.read(&mut piece) else {
+            return Err(InError::ReadFault);
+        };
+        if count == 0 {
+            return Ok(bytes);
+        }
+        let Ok(()) = bytes.extend_from_slice(&piece[..count]) else {
+            return Err(InError::Memory);
+        };
+    }
+    Err(InError::Long)
+}
