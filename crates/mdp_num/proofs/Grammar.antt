@@ -24,7 +24,7 @@ prefix-front p (x ∷ xs) = by (p x) refl (prefix-front p xs)
 front-digits : (bytes : List ℕ) → ltb 0 (length (front_digits bytes)) ≡ true → IsDigits (front_digits bytes)
 front-digits bytes some = let n = prefix-front is_ascii_digit bytes in let l = length-prefix_len is_ascii_digit bytes in grind (arith, nat_tests)
 
-digits-long : (w : List ℕ) → IsDigits w → (0 < length w) × (prefix_len is_ascii_digit w ≡ length w)
+pub digits-long : (w : List ℕ) → IsDigits w → (0 < length w) × (prefix_len is_ascii_digit w ≡ length w)
 digits-long w d = grind (arith, nat_tests)
 
 -- digits, and bytes behind them that don't begin with one
@@ -48,11 +48,11 @@ or-cases : (a b : Bool) → (a || b) ≡ true → (a ≡ true) ⊎ (b ≡ true)
 or-cases true b e = inl refl
 or-cases false b e = inr e
 
-eqb-is : (a b : ℕ) → eqb a b ≡ true → a ≡ b
+pub eqb-is : (a b : ℕ) → eqb a b ≡ true → a ≡ b
 eqb-is a b e = grind (arith, nat_tests)
 
 -- what a chain of tests chose
-chosen : {A : Type 0} (b : Bool) (x y z : A) → cond b x y ≡ z → ((b ≡ true) × (x ≡ z)) ⊎ ((b ≡ false) × (y ≡ z))
+pub chosen : {A : Type 0} (b : Bool) (x y z : A) → cond b x y ≡ z → ((b ≡ true) × (x ≡ z)) ⊎ ((b ≡ false) × (y ≡ z))
 chosen true x y z e = inl (refl, e)
 chosen false x y z e = inr (refl, e)
 

@@ -12,7 +12,7 @@ use Rattle.mdp_math.specs.Written.{signed}
 use Rattle.mdp_math.proofs.Laws.{ratio_self, num-ratio, den-ratio, den-pos, coprime}
 use Rattle.mdp_math.proofs.Written.{abs-signed}
 use Rattle.mdp_num.specs.Digits.{front_digits, behind_digits, is_digits, is_plain, number}
-use Rattle.mdp_num.specs.Canonical.{term_of, above_one, den_behind, lowest_of, unsigned_of, canonical_of}
+use Rattle.mdp_num.specs.Canonical.{term_of, above_one, den_behind, lowest_of, unsigned_of, canonical_of, IsReadBack, IsOneSpelling}
 use Rattle.mdp_num.specs.Value.{spelling, IsNarrow}
 use Rattle.mdp_num.proofs.Plain.{decimal-plain, one-plain}
 use Rattle.mdp_num.proofs.Grammar.{cond-some, digit-first, front-is, behind-is}
@@ -213,7 +213,7 @@ minus : (text : List ℕ) → canonical_of (45 ∷ text) ≡ unsigned_of true te
 unfolding canonical_of
 minus text = refl
 
-pub complete : (x : ℚ) → IsNarrow x → canonical_of (spelling x) ≡ Some x
+pub complete : IsReadBack
 complete x narrow = ap canonical_of (spelling-tail x) ∙ by x.num refl
   where
     by : (z : ℤ) → x.num ≡ z → canonical_of (signed_decimal x.num ++ tail x.den) ≡ Some x
@@ -238,7 +238,7 @@ complete x narrow = ap canonical_of (spelling-tail x) ∙ by x.num refl
 some-is : (x y : ℚ) → Some x ≡ Some y → x ≡ y
 some-is x y e = cc
 
-pub one_spelling : (x y : ℚ) → IsNarrow x → IsNarrow y → spelling x ≡ spelling y → x ≡ y
+pub one_spelling : IsOneSpelling
 one_spelling x y p q e = some-is x y (sym (complete x p) ∙ ap canonical_of e ∙ complete y q)
 
 pub found : (bytes : List ℕ) (r : Option ℚ) → r ≡ canonical_of bytes → IfSome r (λ f. bytes ≡ spelling f)

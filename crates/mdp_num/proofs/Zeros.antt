@@ -42,7 +42,7 @@ significant-none xs ys z is all =
 
 -- ---- numbers
 
-number_after-append : (n : ℕ) (xs ys : List ℕ) → number_after n (xs ++ ys) ≡ number_after (number_after n xs) ys
+pub number_after-append : (n : ℕ) (xs ys : List ℕ) → number_after n (xs ++ ys) ≡ number_after (number_after n xs) ys
 number_after-append n [] ys = refl
 number_after-append n (x ∷ xs) ys = number_after-append (n * 10 + (x - 48)) xs ys
 

@@ -1,8 +1,9 @@
 -- The canonical spelling of fractions, as it is read.
-use Rattle.std.specs.Prelude.{ℕ, ◌^◌, Bool, true, false, not, ◌&&◌, ◌||◌, List, [], ◌∷◌, Option, Some, None, nat_lt, ◌==◌, if◌then◌else◌}
+use Rattle.std.specs.Prelude.{◌≡◌, ℕ, ◌^◌, Bool, true, false, not, ◌&&◌, ◌||◌, List, [], ◌∷◌, Option, Some, None, nat_lt, ◌==◌, if◌then◌else◌}
 use Rattle.mdp_math.specs.Gcd.{gcd}
 use Rattle.mdp_math.specs.Rational.{ℚ, ratio}
 use Rattle.mdp_math.specs.Written.{signed}
+use Rattle.mdp_num.specs.Value.{spelling, IsNarrow}
 use Rattle.mdp_num.specs.Digits.{front_digits, behind_digits, number, is_plain}
 
 -- a term: digits without leading zeros, of a number in width
@@ -31,3 +32,11 @@ unsigned_of negative bytes = lowest_of negative (term_of (front_digits bytes)) (
 unfoldable pub canonical_of : List ℕ → Option ℚ
 canonical_of [] = None
 canonical_of (c ∷ bytes) = if c == 45 then unsigned_of true bytes else unsigned_of false (c ∷ bytes)
+
+-- each spelling is read back
+abbrev pub IsReadBack : Type 0
+IsReadBack = (x : ℚ) → IsNarrow x → canonical_of (spelling x) ≡ Some x
+
+-- and no two numbers have the same one
+abbrev pub IsOneSpelling : Type 0
+IsOneSpelling = (x y : ℚ) → IsNarrow x → IsNarrow y → spelling x ≡ spelling y → x ≡ y

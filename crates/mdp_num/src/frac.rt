@@ -159,6 +159,17 @@ impl Frac {
         }
     }
 
+    /// num/den in lowest terms, where both are in width as they come.
+    pub(crate) fn from_terms(num: u128, den: u128) -> Frac
+        requires some { 0 < den }
+        requires num_fits { num < 2 ^ 127 }
+        requires den_fits { den < 2 ^ 127 }
+        ensures { result ≡ ratio (pos num) den }
+    {
+        let divisor = greatest_common_divisor(num, den);
+        Frac::from_lowest(false, num / divisor, den / divisor)
+    }
+
     /// num/den in lowest terms, with the sign given apart. `Wide` where one of them is past width.
     fn reduce(is_negative: bool, num: u128, den: u128) -> Result<Frac, Wide>
         requires { 0 < den }

@@ -1,0 +1,5 @@
+use Rattle.mdp_num.proofs.Spellings.{complete, one_spelling}
+use Rattle.mdp_num.proofs.laws.spelling_law.Goals as goal
+
+pub returns : goal.returns
+returns c = record { read_back = complete; one = one_spelling }
