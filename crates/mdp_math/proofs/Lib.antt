@@ -4,4 +4,5 @@ pub mod Laws
 pub mod Order
 pub mod Sums
 pub mod Linear
+pub mod Powers
 pub mod Written

@@ -2,4 +2,5 @@ pub mod Gcd
 pub mod Integers
 pub mod Rational
 pub mod Sum
+pub mod Power
 pub mod Written
