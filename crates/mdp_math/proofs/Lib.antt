@@ -5,4 +5,5 @@ pub mod Order
 pub mod Sums
 pub mod Linear
 pub mod Powers
+pub mod Extremes
 pub mod Written

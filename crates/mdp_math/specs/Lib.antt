@@ -3,4 +3,5 @@ pub mod Integers
 pub mod Rational
 pub mod Sum
 pub mod Power
+pub mod Extremes
 pub mod Written
