@@ -3,6 +3,7 @@ pub mod IntegerRing
 pub mod Laws
 pub mod Order
 pub mod Sums
+pub mod SumsAt
 pub mod Linear
 pub mod Powers
 pub mod Extremes
