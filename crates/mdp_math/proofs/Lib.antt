@@ -7,4 +7,8 @@ pub mod SumsAt
 pub mod Linear
 pub mod Powers
 pub mod Extremes
+pub mod Division
+pub mod Kernel
+pub mod Weight
+pub mod Leaving
 pub mod Written

@@ -4,4 +4,5 @@ pub mod Rational
 pub mod Sum
 pub mod Power
 pub mod Extremes
+pub mod Kernel
 pub mod Written
