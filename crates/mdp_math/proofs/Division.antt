@@ -1,12 +1,12 @@
 -- The laws of the reciprocal and of division.
-use Rattle.std.proofs.Common.{◌≡◌, ◌≢◌, ℕ, ◌<◌, [], ◌∷◌, inl, inr, refl, sym, arith, ℤ, pos}
+use Rattle.std.proofs.Common.{◌≡◌, ◌≢◌, ℕ, ◌<◌, [], ◌∷◌, inl, inr, refl, sym, ◌∙◌, arith, ℤ, pos}
 use Rattle.std.proofs.lemmas.Int.{ints}
-use Rattle.mdp_math.specs.Rational.{ℚ, of_int, ratio, ◌+ℚ◌, ◌*ℚ◌, inv_ℚ, ◌≤ℚ◌, ◌<ℚ◌}
-use Rattle.mdp_math.proofs.Ring.{◌⊕◌, ◌⊗◌, lit, ring}
+use Rattle.mdp_math.specs.Rational.{ℚ, of_int, ratio, ◌+ℚ◌, ◌*ℚ◌, ◌-ℚ◌, inv_ℚ, ◌≤ℚ◌, ◌<ℚ◌}
+use Rattle.mdp_math.proofs.Ring.{◌⊕◌, ◌⊗◌, ⊖, lit, ring}
 use Rattle.mdp_math.proofs.Laws.{rat_ring, is_ratio, is_of_int}
-use Rattle.mdp_math.proofs.Order.{0ℚ, 1ℚ, ◌/ℚ◌, ≤ℚ_of_lt, ≤ℚ_or_gt, clash_ℚ, mul-inv, mul-nonneg, mul-pos_ℚ, ne-zero_of_pos, div-of_int, is_positive, strict_of}
+use Rattle.mdp_math.proofs.Order.{0ℚ, 1ℚ, ◌/ℚ◌, ≤ℚ_of_lt, ≤ℚ_or_gt, sub-pos, clash_ℚ, mul-inv, mul-nonneg, mul-pos_ℚ, ne-zero_of_pos, div-of_int, is_positive, strict_of}
 use Rattle.mdp_math.proofs.Powers.{one-pos}
-use Rattle.mdp_math.proofs.Linear.{linear, combine, equal, at_most}
+use Rattle.mdp_math.proofs.Linear.{linear, linear_lt, combine, equal, at_most, known}
 
 -- ---- whole numbers and their fractions
 
@@ -59,3 +59,26 @@ div-le x y z h k =
 pub le-div : (x y z : ℚ) → 0ℚ <ℚ y → z *ℚ y ≤ℚ x → z ≤ℚ x /ℚ y
 le-div x y z h k =
     linear 4 (λ x y z i. z) (λ x y z i. x ⊗ i) (λ x y z i. at_most i (z ⊗ y) x ∷ equal z (lit (pos 1)) (y ⊗ i) ∷ []) refl x y z (inv_ℚ y) (≤ℚ_of_lt 0ℚ (inv_ℚ y) (inv-pos y h)) k (sym (mul-inv_pos y h))
+
+-- ---- one half
+
+abbrev pub half : ℚ
+half = ratio (pos 1) 2
+
+pub half_twice : of_int (pos 2) *ℚ half ≡ 1ℚ
+half_twice = ring rat_ring 1 (λ h. lit (pos 2) ⊗ h) (λ h. h ⊗ lit (pos 2)) refl half ∙ div-of_int (pos 1) 2 (omega arith)
+
+pub half_pos : 0ℚ <ℚ half
+half_pos = ratio-pos 1 2 (omega arith) (omega arith)
+
+pub half-lt : (x : ℚ) → 0ℚ <ℚ x → x *ℚ half <ℚ x
+half-lt x h = linear_lt 2 (λ x h. x ⊗ h) (λ x h. x) (λ x h. x ⊗ h) (λ x h. equal x (lit (pos 2) ⊗ h) (lit (pos 1)) ∷ []) refl x half (mul-pos_ℚ x half h half_pos) half_twice
+
+-- x is at most y, where it is at most y and any positive number
+pub le_of_bounds : (x y : ℚ) → ((q : ℚ) → 0ℚ <ℚ q → x ≤ℚ y +ℚ q) → x ≤ℚ y
+le_of_bounds x y h = elim (≤ℚ_or_gt x y) as (λ _. x ≤ℚ y) [
+  | inl l ↦ l
+  | inr l ↦
+    let d : 0ℚ <ℚ x -ℚ y = sub-pos y x l in
+    absurd (clash_ℚ ((x -ℚ y) *ℚ half) (x -ℚ y) (half-lt (x -ℚ y) d) (linear 3 (λ x y h. x ⊕ ⊖ y) (λ x y h. (x ⊕ ⊖ y) ⊗ h) (λ x y h. known x (y ⊕ (x ⊕ ⊖ y) ⊗ h) ∷ []) refl x y half (h ((x -ℚ y) *ℚ half) (mul-pos_ℚ (x -ℚ y) half d half_pos))))
+]

@@ -11,4 +11,5 @@ pub mod Division
 pub mod Kernel
 pub mod Weight
 pub mod Leaving
+pub mod Solutions
 pub mod Written

@@ -3,25 +3,19 @@
 -- A kernel gives rows of entries to some numbers, the active ones. Each entry stands at an index, again a number.
 -- Where from each active number some entry of each allowed row leads to a number of smaller rank, or to none that is active, there is a weight
 -- on the active numbers that each allowed row shrinks by one factor below 1.
-use Rattle.std.proofs.Common.{◌≡◌, ℕ, zero, suc, ◌<◌, ◌≤◌, ◌⊎◌, inl, inr, Bool, true, false, if◌then◌else◌, List, refl, sym, ◌∙◌, ap, subst, arith, pos}
+use Rattle.std.proofs.Common.{◌≡◌, ℕ, zero, suc, ◌<◌, ◌≤◌, ◌⊎◌, inl, inr, Bool, true, false, if◌then◌else◌, List, refl, sym, ap, subst, arith, pos}
 use Rattle.std.specs.List.{All, Any}
-use Rattle.mdp_math.specs.Rational.{ℚ, of_int, ratio, lt_ℚ, ◌+ℚ◌, ◌*ℚ◌, ◌-ℚ◌, ◌≤ℚ◌, ◌<ℚ◌}
+use Rattle.mdp_math.specs.Rational.{ℚ, of_int, ◌+ℚ◌, ◌*ℚ◌, ◌-ℚ◌, ◌≤ℚ◌, ◌<ℚ◌}
 use Rattle.mdp_math.specs.Sum.{sum_of}
 use Rattle.mdp_math.specs.Power.{pow_ℚ}
 use Rattle.mdp_math.specs.Kernel.{weigh}
-use Rattle.mdp_math.proofs.Ring.{◌⊕◌, ◌⊗◌, ⊖, lit, ring}
-use Rattle.mdp_math.proofs.Laws.{rat_ring}
-use Rattle.mdp_math.proofs.Order.{0ℚ, 1ℚ, ≤ℚ_trans, ≤ℚ_of_lt, ≤ℚ_or_gt, clash_ℚ, mul-pos_ℚ, div-of_int}
+use Rattle.mdp_math.proofs.Ring.{◌⊕◌, ◌⊗◌, ⊖, lit}
+use Rattle.mdp_math.proofs.Order.{0ℚ, 1ℚ, ≤ℚ_trans, ≤ℚ_of_lt, mul-pos_ℚ}
 use Rattle.mdp_math.proofs.Powers.{one-pos, pow_ℚ-nonneg, pow_ℚ-pos, pow_ℚ-le_one, pow_ℚ-antitone, pow_ℚ-one}
 use Rattle.mdp_math.proofs.Linear.{linear, linear_lt, combine, equal, at_most, known}
+use Rattle.mdp_math.proofs.Division.{half, half_twice, half_pos}
 use Rattle.mdp_math.proofs.Kernel.{weigh-below_mass}
 use Rattle.std.proofs.Common.{[], ◌∷◌}
-
-abbrev pub half : ℚ
-half = ratio (pos 1) 2
-
-pub half_twice : of_int (pos 2) *ℚ half ≡ 1ℚ
-half_twice = ring rat_ring 1 (λ h. lit (pos 2) ⊗ h) (λ h. h ⊗ lit (pos 2)) refl half ∙ div-of_int (pos 1) 2 (omega arith)
 
 -- a weight of 0 outside, and between 1/2 and 1 at active numbers, which each allowed row shrinks by the rate
 pub record Shrinks {A : Type 0} (index : A → ℕ) (entry : A → ℚ) (active : ℕ → Bool) (Allowed : ℕ → List A → Type 0) : Type 0 where
@@ -69,16 +63,6 @@ row_shrinks e d m w p q twice row mass small hq hp =
     linear 6 (λ e d m w p q. w) (λ e d m w p q. (lit (pos 1) ⊕ ⊖ q) ⊗ (lit (pos 1) ⊕ ⊖ (d ⊗ p)))
     (λ e d m w p q. equal p (lit (pos 2) ⊗ d) e ∷ known (w ⊕ e ⊗ p) m ∷ known m (lit (pos 1)) ∷ known q (d ⊗ p) ∷ at_most q (lit (pos 0)) (d ⊗ p) ∷ []) refl
     e d m w p q (sym twice) row mass small hq hp
-
-two_pos : 0ℚ <ℚ of_int (pos 2)
-unfolding lt_ℚ of_int
-two_pos = record { lt = tt }
-
-pub half_pos : 0ℚ <ℚ half
-half_pos = elim (≤ℚ_or_gt half 0ℚ) as (λ _. 0ℚ <ℚ half) [
-  | inl l ↦ absurd (clash_ℚ 0ℚ 1ℚ one-pos (linear 1 (λ h. lit (pos 1)) (λ h. lit (pos 0)) (λ h. equal (lit (pos 1)) (lit (pos 1)) (lit (pos 2) ⊗ h) ∷ at_most (lit (pos 2)) h (lit (pos 0)) ∷ []) refl half (sym half_twice) (≤ℚ_of_lt 0ℚ _ two_pos) l))
-  | inr h ↦ h
-]
 
 -- d = e / 2
 half_of : (e : ℚ) → e ≡ of_int (pos 2) *ℚ (e *ℚ half)
