@@ -12,4 +12,5 @@ pub mod Kernel
 pub mod Weight
 pub mod Leaving
 pub mod Solutions
+pub mod Pivots
 pub mod Written

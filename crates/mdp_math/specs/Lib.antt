@@ -5,4 +5,5 @@ pub mod Sum
 pub mod Power
 pub mod Extremes
 pub mod Kernel
+pub mod Pivot
 pub mod Written
