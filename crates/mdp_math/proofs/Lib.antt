@@ -13,4 +13,5 @@ pub mod Weight
 pub mod Leaving
 pub mod Solutions
 pub mod Pivots
+pub mod Dense
 pub mod Written
