@@ -15,3 +15,4 @@ pub mod Solutions
 pub mod Pivots
 pub mod Dense
 pub mod Written
+mod Examples
