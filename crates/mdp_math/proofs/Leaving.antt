@@ -1,10 +1,12 @@
 -- What a weight that shrinks bounds: a family that each step weighs by allowed rows comes below each positive bound.
-use Rattle.std.proofs.Common.{◌≡◌, ℕ, zero, suc, ◌<◌, ◌≤◌, Bool, true, false, List, [], ◌∷◌, refl, sym, arith, pos}
+use Rattle.std.proofs.Common.{◌≡◌, ℕ, zero, suc, ◌<◌, ◌≤◌, Bool, true, false, List, [], ◌∷◌, refl, sym, subst, arith, pos}
 use Rattle.mdp_math.specs.Rational.{ℚ, of_int, ratio, ◌+ℚ◌, ◌*ℚ◌, inv_ℚ, ◌≤ℚ◌, ◌<ℚ◌}
 use Rattle.mdp_math.specs.Power.{pow_ℚ}
+use Rattle.mdp_math.specs.Sum.{sum_at, EachAt}
 use Rattle.mdp_math.specs.Kernel.{weigh}
+use Rattle.mdp_math.proofs.SumsAt.{sum_at-sum_of, sum_at-le, sum_at-weighted_le, EachAt_mono, EachAt_both, EachAt-from_All}
 use Rattle.mdp_math.proofs.Ring.{◌⊕◌, ◌⊗◌, lit}
-use Rattle.mdp_math.proofs.Order.{0ℚ, 1ℚ, ≤ℚ_trans, ≤ℚ_of_lt, ≤ℚ_of_eq, <ℚ-≤ℚ_trans, mul-nonneg, mul-pos_ℚ}
+use Rattle.mdp_math.proofs.Order.{0ℚ, 1ℚ, mul-le-mul_left_ℚ, ≤ℚ_refl, ≤ℚ_trans, ≤ℚ_of_lt, ≤ℚ_of_eq, <ℚ-≤ℚ_trans, mul-nonneg, mul-pos_ℚ}
 use Rattle.mdp_math.proofs.Powers.{one-pos, of_nat-nonneg, pow_ℚ-nonneg, pow_ℚ-below}
 use Rattle.mdp_math.proofs.Division.{inv-pos, mul-inv_pos, ratio-pos, half, half_pos, half_twice}
 use Rattle.mdp_math.proofs.Linear.{linear, linear_lt, equal, at_most, known}
@@ -32,6 +34,27 @@ module _ {A : Type 0} {index : A → ℕ} {entry : A → ℚ} {active : ℕ → 
       linear 6 (λ w u r c l m. w) (λ w u r c l m. (l ⊗ c) ⊗ m) (λ w u r c l m. known w u ∷ equal (lit (pos 1)) u (c ⊗ r) ∷ at_most c r (l ⊗ m) ∷ []) refl
       (weigh index entry f row) (weigh index entry (λ v. c *ℚ K.weight v) row) (weigh index entry K.weight row) c K.rate (K.weight s)
       (weigh-le index entry f (λ v. c *ℚ K.weight v) row (K.entries s row a ok) h) (weigh-scale index entry c K.weight row) hc (K.shrinks s row a ok)
+
+  -- the same of numbers at the entries themselves
+  pub shrinks-step_at : (g : ℕ → A → ℚ) (c : ℚ) (s : ℕ) (row : List A) → 0ℚ ≤ℚ c → EachAt row (λ k x. g k x ≤ℚ c *ℚ K.weight (index x)) → active s ≡ true → Allowed s row
+      → sum_at row (λ k x. entry x *ℚ g k x) ≤ℚ (K.rate *ℚ c) *ℚ K.weight s
+  shrinks-step_at g c s row hc h a ok =
+      ≤ℚ_trans _ _ _
+      (subst (λ (u : ℚ). sum_at row (λ k x. entry x *ℚ g k x) ≤ℚ u) (sum_at-sum_of row (λ x. entry x *ℚ (c *ℚ K.weight (index x))))
+      (sum_at-le row (λ k x. entry x *ℚ g k x) (λ k x. entry x *ℚ (c *ℚ K.weight (index x)))
+      (EachAt_mono row (λ k x. (0ℚ ≤ℚ entry x) × (g k x ≤ℚ c *ℚ K.weight (index x))) (λ k x. entry x *ℚ g k x ≤ℚ entry x *ℚ (c *ℚ K.weight (index x))) (λ k x p. mul-le-mul_left_ℚ (entry x) (g k x) (c *ℚ K.weight (index x)) p.0 p.1)
+      (EachAt_both row (λ k x. 0ℚ ≤ℚ entry x) (λ k x. g k x ≤ℚ c *ℚ K.weight (index x)) (EachAt-from_All row (λ x. 0ℚ ≤ℚ entry x) (K.entries s row a ok)) h))))
+      (shrinks-step (λ v. c *ℚ K.weight v) c s row hc (λ v. ≤ℚ_refl (c *ℚ K.weight v)) a ok)
+
+  -- and of several rows, each with a weight of at least 0
+  pub shrinks-mixed : {C : Type 0} (cs : List C) (u : ℕ → C → ℚ) (row : ℕ → C → List A) (g : ℕ → C → ℕ → A → ℚ) (c : ℚ) (s : ℕ) → 0ℚ ≤ℚ c → active s ≡ true → EachAt cs (λ j y. 0ℚ ≤ℚ u j y)
+      → EachAt cs (λ j y. 0ℚ <ℚ u j y → Allowed s (row j y) × EachAt (row j y) (λ k x. g j y k x ≤ℚ c *ℚ K.weight (index x)))
+      → sum_at cs (λ j y. u j y *ℚ sum_at (row j y) (λ k x. entry x *ℚ g j y k x)) ≤ℚ sum_at cs u *ℚ ((K.rate *ℚ c) *ℚ K.weight s)
+  shrinks-mixed cs u row g c s hc a nonneg h =
+      sum_at-weighted_le cs u (λ j y. sum_at (row j y) (λ k x. entry x *ℚ g j y k x)) ((K.rate *ℚ c) *ℚ K.weight s) nonneg
+      (EachAt_mono cs (λ j y. 0ℚ <ℚ u j y → Allowed s (row j y) × EachAt (row j y) (λ k x. g j y k x ≤ℚ c *ℚ K.weight (index x)))
+      (λ j y. 0ℚ <ℚ u j y → sum_at (row j y) (λ k x. entry x *ℚ g j y k x) ≤ℚ (K.rate *ℚ c) *ℚ K.weight s)
+      (λ j y f p. shrinks-step_at (g j y) c s (row j y) hc (f p).1 a (f p).0) h)
 
   -- at a number that is active or not: the next member of a family
   next_by : (f g : ℕ → ℚ) (c : ℚ) (s : ℕ) (b : Bool) → active s ≡ b → 0ℚ ≤ℚ c → ((v : ℕ) → f v ≤ℚ c *ℚ K.weight v) → (active s ≡ false → g s ≤ℚ 0ℚ)

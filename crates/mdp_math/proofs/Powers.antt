@@ -1,10 +1,10 @@
 -- The laws of powers of a fraction, and how fast the powers of a fraction below 1 fall.
-use Rattle.std.proofs.Common.{◌≡◌, ℕ, zero, suc, ◌+◌, ◌*◌, ◌-◌, ◌<◌, ◌≤◌, refl, sym, ◌∙◌, ap, subst, arith, ℤ, pos, negsuc, ◌+ℤ◌, ◌*ℤ◌, ◌≤ℤ◌, ◌<ℤ◌}
+use Rattle.std.proofs.Common.{◌≡◌, ℕ, zero, suc, ◌+◌, ◌*◌, ◌-◌, ◌<◌, ◌≤◌, refl, sym, ◌∙◌, ap, subst, arith, ℤ, pos, negsuc, ◌*ℤ◌, ◌≤ℤ◌, ◌<ℤ◌}
 use Rattle.std.proofs.lemmas.Int.{ints}
 use Rattle.mdp_math.specs.Rational.{ℚ, of_int, ratio, lt_ℚ, ◌+ℚ◌, ◌*ℚ◌, ◌-ℚ◌, ◌≤ℚ◌, ◌<ℚ◌}
 use Rattle.mdp_math.specs.Power.{pow_ℚ}
 use Rattle.mdp_math.proofs.Ring.{◌⊕◌, ◌⊗◌, ⊖, lit, ring}
-use Rattle.mdp_math.proofs.Laws.{rat_ring, den-pos, is_self, is_ratio, of_int-+ℤ, of_int-*ℤ, one-*ℚ, *ℚ_assoc}
+use Rattle.mdp_math.proofs.Laws.{rat_ring, den-pos, is_self, is_ratio, of_nat-suc, of_int-*ℤ, one-*ℚ, *ℚ_assoc}
 use Rattle.mdp_math.proofs.Order.{0ℚ, 1ℚ, ≤ℚ_refl, ≤ℚ_trans, ≤ℚ_of_lt, ≤ℚ_of_eq, mul-nonneg, mul-pos_ℚ, sub-nonneg, sub-pos, of_int-le, le_of_is, positive, ratio-nonneg, div-of_int}
 use Rattle.mdp_math.proofs.Linear.{linear, equal, at_most, known}
 use Rattle.std.proofs.Common.{[], ◌∷◌}
@@ -23,6 +23,12 @@ pow_ℚ-add x (suc m) n =
 
 pub pow_ℚ-one : (x : ℚ) → pow_ℚ x 1 ≡ x
 pow_ℚ-one = ring rat_ring 1 (λ x. x ⊗ lit (pos 1)) (λ x. x) refl
+
+pub pow_ℚ-mul : (x y : ℚ) (n : ℕ) → pow_ℚ (x *ℚ y) n ≡ pow_ℚ x n *ℚ pow_ℚ y n
+pow_ℚ-mul x y zero = ring rat_ring 0 (lit (pos 1)) (lit (pos 1) ⊗ lit (pos 1)) refl
+pow_ℚ-mul x y (suc n) =
+    ap (λ (p : ℚ). (x *ℚ y) *ℚ p) (pow_ℚ-mul x y n)
+    ∙ ring rat_ring 4 (λ x y p q. (x ⊗ y) ⊗ (p ⊗ q)) (λ x y p q. (x ⊗ p) ⊗ (y ⊗ q)) refl x y (pow_ℚ x n) (pow_ℚ y n)
 
 -- ---- order
 
@@ -59,9 +65,6 @@ pow_ℚ-le x y (suc n) h k =
 
 -- ---- Bernoulli's bound
 
-pub of_int-suc : (n : ℕ) → of_int (pos (suc n)) ≡ of_int (pos n) +ℚ 1ℚ
-of_int-suc n = let e : pos (suc n) ≡ pos n +ℤ pos 1 = omega (arith, ints) in ap of_int e ∙ of_int-+ℤ (pos n) (pos 1)
-
 pub of_nat-nonneg : (n : ℕ) → 0ℚ ≤ℚ of_int (pos n)
 of_nat-nonneg n = of_int-le (pos 0) (pos n) (omega (arith, ints))
 
@@ -73,10 +76,10 @@ bernoulli e (suc n) h k =
     linear 4 (λ p e c d. ((lit (pos 1) ⊕ ⊖ e) ⊗ p) ⊗ (lit (pos 1) ⊕ d ⊗ e)) (λ p e c d. lit (pos 1))
     (λ p e c d. equal (((lit (pos 1) ⊕ ⊖ e) ⊗ p) ⊗ e) d (c ⊕ lit (pos 1)) ∷ known (p ⊗ (lit (pos 1) ⊕ c ⊗ e)) (lit (pos 1)) ∷ at_most (p ⊗ (e ⊗ e)) (lit (pos 0)) (c ⊕ lit (pos 1)) ∷ []) refl
     p e c (of_int (pos (suc n)))
-    (of_int-suc n)
+    (of_nat-suc n)
     (bernoulli e n h k)
     (mul-nonneg p (e *ℚ e) (pow_ℚ-nonneg (1ℚ -ℚ e) n (sub-nonneg e 1ℚ k)) (mul-nonneg e e h h))
-    (subst (λ (u : ℚ). 0ℚ ≤ℚ u) (of_int-suc n) (of_nat-nonneg (suc n)))
+    (subst (λ (u : ℚ). 0ℚ ≤ℚ u) (of_nat-suc n) (of_nat-nonneg (suc n)))
 
 -- ---- powers of a fraction below 1 come below each positive bound
 

@@ -1,10 +1,12 @@
 -- The laws of sums and claims that go by element and place.
 use Rattle.std.proofs.Common.{◌≡◌, ℕ, zero, suc, ◌+◌, ◌<◌, inl, inr, List, [], ◌∷◌, ◌++◌, length, get_or, map, refl, sym, ◌∙◌, ap, ap₂, subst, arith, pos}
-use Rattle.mdp_math.specs.Rational.{ℚ, ◌+ℚ◌, ◌*ℚ◌, ◌≤ℚ◌, ◌<ℚ◌}
+use Rattle.std.specs.List.{All}
+use Rattle.mdp_math.specs.Rational.{ℚ, ◌+ℚ◌, ◌*ℚ◌, ◌-ℚ◌, inv_ℚ, ◌≤ℚ◌, ◌<ℚ◌}
 use Rattle.mdp_math.specs.Sum.{sum_of, sum_at, EachAt, AnyAt}
-use Rattle.mdp_math.proofs.Ring.{◌⊕◌, ◌⊗◌, lit, ring}
-use Rattle.mdp_math.proofs.Laws.{rat_ring, zero-+ℚ, zero-*ℚ, +ℚ_assoc}
-use Rattle.mdp_math.proofs.Order.{0ℚ, ≤ℚ_refl, ≤ℚ_antisymm, ≤ℚ_or_gt, add-le-add_ℚ, add-nonneg, mul-le-mul_left_ℚ, ≤ℚ_of_eq}
+use Rattle.mdp_math.proofs.Ring.{◌⊕◌, ◌⊗◌, ⊖, lit, ring}
+use Rattle.mdp_math.proofs.Laws.{rat_ring, zero-+ℚ, zero-*ℚ, +ℚ_assoc, *ℚ_comm}
+use Rattle.mdp_math.proofs.Division.{div-le, le-div}
+use Rattle.mdp_math.proofs.Order.{0ℚ, ◌/ℚ◌, ≤ℚ_trans, ≤ℚ_refl, ≤ℚ_antisymm, ≤ℚ_or_gt, add-le-add_ℚ, add-nonneg, mul-le-mul_left_ℚ, ≤ℚ_of_eq}
 
 -- ---- claims at each place
 
@@ -32,6 +34,9 @@ EachAt-from_map g (x ∷ xs) P h = (h.0, EachAt-from_map g xs (λ k y. P (suc k)
 pub EachAt-from_places : {A : Type 0} (xs : List A) (P : ℕ → A → Type 0) → ((k : ℕ) (d : A) → k < length xs → P k (get_or xs k d)) → EachAt xs P
 EachAt-from_places [] P h = tt
 EachAt-from_places (x ∷ xs) P h = (h 0 x (omega arith), EachAt-from_places xs (λ k y. P (suc k) y) (λ k d l. h (suc k) d (omega arith)))
+
+pub EachAt-from_All : {A : Type 0} (xs : List A) (P : A → Type 0) → All P xs → EachAt xs (λ k x. P x)
+EachAt-from_All xs P h = EachAt-from_places xs (λ k x. P x) (λ k d l. h k d l)
 
 pub places_from_EachAt : {A : Type 0} (xs : List A) (P : ℕ → A → Type 0) → EachAt xs P → (k : ℕ) (d : A) → k < length xs → P k (get_or xs k d)
 places_from_EachAt [] P h k d l = absurd (omega arith)
@@ -79,6 +84,12 @@ sum_at-scale_right c [] f = ring rat_ring 1 (λ c. lit (pos 0)) (λ c. lit (pos 
 sum_at-scale_right c (x ∷ xs) f =
     ap (λ (u : ℚ). f 0 x *ℚ c +ℚ u) (sum_at-scale_right c xs (λ k y. f (suc k) y))
     ∙ ring rat_ring 3 (λ c a s. a ⊗ c ⊕ s ⊗ c) (λ c a s. (a ⊕ s) ⊗ c) refl c (f 0 x) (sum_at xs (λ k y. f (suc k) y))
+
+pub sum_at-sub : {A : Type 0} (xs : List A) (f g : ℕ → A → ℚ) → sum_at xs (λ k x. f k x -ℚ g k x) ≡ sum_at xs f -ℚ sum_at xs g
+sum_at-sub [] f g = ring rat_ring 0 (lit (pos 0)) (lit (pos 0) ⊕ ⊖ (lit (pos 0))) refl
+sum_at-sub (x ∷ xs) f g =
+    ap (λ (u : ℚ). (f 0 x -ℚ g 0 x) +ℚ u) (sum_at-sub xs (λ k y. f (suc k) y) (λ k y. g (suc k) y))
+    ∙ ring rat_ring 4 (λ a b s t. (a ⊕ ⊖ b) ⊕ (s ⊕ ⊖ t)) (λ a b s t. (a ⊕ s) ⊕ ⊖ (b ⊕ t)) refl (f 0 x) (g 0 x) (sum_at xs (λ k y. f (suc k) y)) (sum_at xs (λ k y. g (suc k) y))
 
 pub sum_at-le : {A : Type 0} (xs : List A) (f g : ℕ → A → ℚ) → EachAt xs (λ k x. f k x ≤ℚ g k x) → sum_at xs f ≤ℚ sum_at xs g
 sum_at-le [] f g h = ≤ℚ_refl 0ℚ
@@ -132,3 +143,23 @@ sum_at-weighted_ge xs u v y h b =
     (sum_at-le xs (λ k x. u k x *ℚ y) (λ k x. u k x *ℚ v k x)
     (EachAt_mono xs (λ k x. (0ℚ ≤ℚ u k x) × (0ℚ <ℚ u k x → y ≤ℚ v k x)) (λ k x. u k x *ℚ y ≤ℚ u k x *ℚ v k x) (λ k x p. weighted_le (u k x) y (v k x) p.0 p.1)
     (EachAt_both xs (λ k x. 0ℚ ≤ℚ u k x) (λ k x. 0ℚ <ℚ u k x → y ≤ℚ v k x) h b)))
+
+-- ---- averages: the weights divided by their sum
+
+average_is : {A : Type 0} (xs : List A) (u v : ℕ → A → ℚ) (i : ℚ) → sum_at xs (λ k x. (u k x *ℚ i) *ℚ v k x) ≡ sum_at xs (λ k x. u k x *ℚ v k x) *ℚ i
+average_is xs u v i =
+    sum_at-same xs (λ k x. (u k x *ℚ i) *ℚ v k x) (λ k x. (u k x *ℚ v k x) *ℚ i)
+    (EachAt_all xs (λ k x. (u k x *ℚ i) *ℚ v k x ≡ (u k x *ℚ v k x) *ℚ i) (λ k x. ring rat_ring 3 (λ u v i. (u ⊗ i) ⊗ v) (λ u v i. (u ⊗ v) ⊗ i) refl (u k x) (v k x) i))
+    ∙ sum_at-scale_right i xs (λ k x. u k x *ℚ v k x)
+
+pub average-le : {A : Type 0} (xs : List A) (u v : ℕ → A → ℚ) (y : ℚ) → 0ℚ <ℚ sum_at xs u → EachAt xs (λ k x. 0ℚ ≤ℚ u k x) → EachAt xs (λ k x. 0ℚ <ℚ u k x → v k x ≤ℚ y)
+    → sum_at xs (λ k x. (u k x /ℚ sum_at xs u) *ℚ v k x) ≤ℚ y
+average-le xs u v y p h b =
+    subst (λ (s : ℚ). s ≤ℚ y) (sym (average_is xs u v (inv_ℚ (sum_at xs u))))
+    (div-le (sum_at xs (λ k x. u k x *ℚ v k x)) (sum_at xs u) y p (≤ℚ_trans _ _ _ (sum_at-weighted_le xs u v y h b) (≤ℚ_of_eq _ _ (*ℚ_comm (sum_at xs u) y))))
+
+pub average-ge : {A : Type 0} (xs : List A) (u v : ℕ → A → ℚ) (y : ℚ) → 0ℚ <ℚ sum_at xs u → EachAt xs (λ k x. 0ℚ ≤ℚ u k x) → EachAt xs (λ k x. 0ℚ <ℚ u k x → y ≤ℚ v k x)
+    → y ≤ℚ sum_at xs (λ k x. (u k x /ℚ sum_at xs u) *ℚ v k x)
+average-ge xs u v y p h b =
+    subst (λ (s : ℚ). y ≤ℚ s) (sym (average_is xs u v (inv_ℚ (sum_at xs u))))
+    (le-div (sum_at xs (λ k x. u k x *ℚ v k x)) (sum_at xs u) y p (≤ℚ_trans _ _ _ (≤ℚ_of_eq _ _ (*ℚ_comm y (sum_at xs u))) (sum_at-weighted_ge xs u v y h b)))
