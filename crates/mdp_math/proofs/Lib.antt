@@ -14,5 +14,6 @@ pub mod Leaving
 pub mod Solutions
 pub mod Pivots
 pub mod Dense
+pub mod Elimination
 pub mod Written
 mod Examples

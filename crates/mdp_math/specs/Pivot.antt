@@ -1,6 +1,6 @@
 -- One step of elimination in a linear system x(t) = c(t) + the sum of q(t, v) x(v), and the entries of a row by index.
 use Rattle.std.proofs.Common.{ℕ, zero, suc, List, [], ◌∷◌, Bool, eqb, if◌then◌else◌, pos}
-use Rattle.mdp_math.specs.Rational.{ℚ, of_int, ◌+ℚ◌, ◌*ℚ◌, ◌-ℚ◌, inv_ℚ}
+use Rattle.mdp_math.specs.Rational.{ℚ, of_int, ◌+ℚ◌, ◌*ℚ◌, ◌-ℚ◌, inv_ℚ, ◌<ℚ◌}
 use Rattle.mdp_math.specs.Sum.{sum_of}
 
 -- row s without its entry at s: what is left is divided by 1 - q(s, s)
@@ -25,3 +25,14 @@ active_below active (suc n) = if active n then n ∷ active_below active n else 
 -- the entries of a row at the index v, summed
 abbrev pub entry_at : {A : Type 0} → (A → ℕ) → (A → ℚ) → List A → ℕ → ℚ
 entry_at index entry row v = sum_of (λ x. if eqb (index x) v then entry x else of_int (pos 0)) row
+
+-- each pivot 1 - q(s, s) of the elimination of all the numbers is above 0
+abbrev pub HasPivots : List ℕ → (ℕ → ℕ → ℚ) → Type 0
+HasPivots [] q = Unit {0}
+HasPivots (s ∷ rest) q = (q s s <ℚ of_int (pos 1)) × HasPivots rest (pivoted q s)
+
+-- the solution that elimination gives: 0 at all other numbers
+abbrev pub solution : List ℕ → (ℕ → ℕ → ℚ) → (ℕ → ℚ) → ℕ → ℚ
+solution [] q c v = of_int (pos 0)
+solution (s ∷ rest) q c v =
+    if eqb v s then divided_constant q c s +ℚ sum_of (λ u. divided q s u *ℚ solution rest (pivoted q s) (pivoted_constant q c s) u) rest else solution rest (pivoted q s) (pivoted_constant q c s) v
