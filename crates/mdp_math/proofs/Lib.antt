@@ -8,6 +8,8 @@ pub mod Linear
 pub mod Powers
 pub mod Extremes
 pub mod Division
+pub mod Floors
+pub mod Whole
 pub mod Kernel
 pub mod Weight
 pub mod Leaving
