@@ -79,6 +79,6 @@ pub le_of_bounds : (x y : ℚ) → ((q : ℚ) → 0ℚ <ℚ q → x ≤ℚ y +�
 le_of_bounds x y h = elim (≤ℚ_or_gt x y) as (λ _. x ≤ℚ y) [
   | inl l ↦ l
   | inr l ↦
-    let d : 0ℚ <ℚ x -ℚ y = sub-pos y x l in
-    absurd (clash_ℚ ((x -ℚ y) *ℚ half) (x -ℚ y) (half-lt (x -ℚ y) d) (linear 3 (λ x y h. x ⊕ ⊖ y) (λ x y h. (x ⊕ ⊖ y) ⊗ h) (λ x y h. known x (y ⊕ (x ⊕ ⊖ y) ⊗ h) ∷ []) refl x y half (h ((x -ℚ y) *ℚ half) (mul-pos_ℚ (x -ℚ y) half d half_pos))))
+      let d : 0ℚ <ℚ x -ℚ y = sub-pos y x l in
+      absurd (clash_ℚ ((x -ℚ y) *ℚ half) (x -ℚ y) (half-lt (x -ℚ y) d) (linear 3 (λ x y h. x ⊕ ⊖ y) (λ x y h. (x ⊕ ⊖ y) ⊗ h) (λ x y h. known x (y ⊕ (x ⊕ ⊖ y) ⊗ h) ∷ []) refl x y half (h ((x -ℚ y) *ℚ half) (mul-pos_ℚ (x -ℚ y) half d half_pos))))
 ]

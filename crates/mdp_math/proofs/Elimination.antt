@@ -48,8 +48,8 @@ Apart (s ∷ rest) = All (λ v. eqb v s ≡ false) rest × Apart rest
 -- a system looks at x only at the numbers that are left
 solves_same : (left : List ℕ) (q : ℕ → ℕ → ℚ) (c x y : ℕ → ℚ) → All (λ t. x t ≡ y t) left → SolvesOn left q c y → SolvesOn left q c x
 solves_same left q c x y same h = λ j d l.
-  same j d l ∙ h j d l
-  ∙ ap (λ (w : ℚ). c (get_or left j d) +ℚ w) (sym (sum_of-same_all (λ t. q (get_or left j d) t *ℚ x t) (λ t. q (get_or left j d) t *ℚ y t) left (λ i e m. ap (λ (w : ℚ). q (get_or left j d) (get_or left i e) *ℚ w) (same i e m))))
+    same j d l ∙ h j d l
+    ∙ ap (λ (w : ℚ). c (get_or left j d) +ℚ w) (sym (sum_of-same_all (λ t. q (get_or left j d) t *ℚ x t) (λ t. q (get_or left j d) t *ℚ y t) left (λ i e m. ap (λ (w : ℚ). q (get_or left j d) (get_or left i e) *ℚ w) (same i e m))))
 
 same_number : (n : ℕ) → eqb n n ≡ true
 same_number n = grind arith
@@ -59,7 +59,7 @@ solution-solves [] q c a p = All-nil (λ t. solution [] q c t ≡ c t +ℚ sum_o
 solution-solves (s ∷ rest) q c a p =
     let y : ℕ → ℚ = solution rest (pivoted q s) (pivoted_constant q c s) in
     let same : All (λ t. solution (s ∷ rest) q c t ≡ solution rest (pivoted q s) (pivoted_constant q c s) t) rest = λ j d l.
-      ap (λ (b : Bool). if b then divided_constant q c s +ℚ sum_of (λ u. divided q s u *ℚ solution rest (pivoted q s) (pivoted_constant q c s) u) rest else solution rest (pivoted q s) (pivoted_constant q c s) (get_or rest j d)) (a.0 j d l)
+    ap (λ (b : Bool). if b then divided_constant q c s +ℚ sum_of (λ u. divided q s u *ℚ solution rest (pivoted q s) (pivoted_constant q c s) u) rest else solution rest (pivoted q s) (pivoted_constant q c s) (get_or rest j d)) (a.0 j d l)
     in
     solves-pivot q c (solution (s ∷ rest) q c) s rest (pivot-nonzero q s p.0)
     (ap (λ (b : Bool). if b then divided_constant q c s +ℚ sum_of (λ u. divided q s u *ℚ solution rest (pivoted q s) (pivoted_constant q c s) u) rest else solution rest (pivoted q s) (pivoted_constant q c s) s) (same_number s)

@@ -50,13 +50,12 @@ pick_right_by better o x y false e = o.same y
 best-each : (better : ℚ → ℚ → Bool) → Order better → (xs : List ℚ) → AllByRecursion (λ x. better (best better xs) x ≡ true) xs
 best-each better o [] = tt
 best-each better o (x ∷ []) = (o.same x, tt)
-best-each better o (x ∷ y ∷ ys) =
-    (
-      pick_left_by better o x (best better (y ∷ ys)) (better x (best better (y ∷ ys))) refl,
-      each_mono (λ z. better (best better (y ∷ ys)) z ≡ true) (λ z. better (pick better x (best better (y ∷ ys))) z ≡ true) (y ∷ ys)
+best-each better o (x ∷ y ∷ ys) = (
+  pick_left_by better o x (best better (y ∷ ys)) (better x (best better (y ∷ ys))) refl,
+  each_mono (λ z. better (best better (y ∷ ys)) z ≡ true) (λ z. better (pick better x (best better (y ∷ ys))) z ≡ true) (y ∷ ys)
       (λ z h. o.chain _ _ z (pick_right_by better o x (best better (y ∷ ys)) (better x (best better (y ∷ ys))) refl) h)
-      (best-each better o (y ∷ ys))
-    )
+      (best-each better o (y ∷ ys)),
+)
 
 in_by : (better : ℚ → ℚ → Bool) (x y : ℚ) (ys : List ℚ) (b : Bool) → Contains (y ∷ ys) (best better (y ∷ ys)) → Contains (x ∷ y ∷ ys) (if b then x else best better (y ∷ ys))
 in_by better x y ys true h = (0, omega arith, refl)

@@ -1,5 +1,5 @@
 -- Bounds on finitely many: a positive number below each of them, and a greatest rank.
-use Rattle.std.proofs.Common.{◌≡◌, ℕ, zero, suc, ◌+◌, ◌<◌, ◌≤◌, ◌⊎◌, inl, inr, List, [], ◌∷◌, get_or, refl, sym, subst, arith}
+use Rattle.std.proofs.Common.{◌≡◌, ℕ, zero, suc, ◌+◌, ◌<◌, ◌≤◌, ◌⊎◌, inl, inr, List, [], ◌∷◌, get_or, sym, subst, arith}
 use Rattle.std.specs.List.{All}
 use Rattle.std.proofs.lemmas.List.Elements.{All-nil, All-cons}
 use Rattle.mdp_math.specs.Rational.{ℚ, ◌≤ℚ◌, ◌<ℚ◌}
@@ -35,11 +35,15 @@ small_for_below P down zero h = (1ℚ, one-pos, ≤ℚ_refl 1ℚ, λ s l. absurd
 small_for_below P down (suc n) h =
     let a = h n (omega arith) in
     let b = small_for_below P down n (λ s l. h s (omega arith)) in
-    let m = smaller a.0 b.0 a.1 b.1 in
-    (m.0, m.1, ≤ℚ_trans m.0 a.0 1ℚ m.2 a.2, λ s l. elim (last_or n s l) as (λ _. P s m.0) [
-      | inl e ↦ subst (λ (t : ℕ). P t m.0) (sym e) (down n m.0 a.0 m.2 a.3)
-      | inr k ↦ down s m.0 b.0 m.3 (b.3 s k)
-    ])
+    let m = smaller a.0 b.0 a.1 b.1 in (
+      m.0,
+      m.1,
+      ≤ℚ_trans m.0 a.0 1ℚ m.2 a.2,
+      λ s l. elim (last_or n s l) as (λ _. P s m.0) [
+        | inl e ↦ subst (λ (t : ℕ). P t m.0) (sym e) (down n m.0 a.0 m.2 a.3)
+        | inr k ↦ down s m.0 b.0 m.3 (b.3 s k)
+      ],
+    )
 
 small_one : (x : ℚ) → 0ℚ <ℚ x → ForSmall (λ e. e ≤ℚ x)
 small_one x h = let m = smaller x 1ℚ h one-pos in (m.0, m.1, m.3, m.2)
@@ -57,8 +61,10 @@ positive_floor_lists f xss h =
 pub greatest_rank : (rank : ℕ → ℕ) (n : ℕ) → (m : ℕ) × ((s : ℕ) → s < n → rank s ≤ m)
 greatest_rank rank zero = (0, λ s l. absurd (omega arith))
 greatest_rank rank (suc n) =
-    let r = greatest_rank rank n in
-    (r.0 + rank n, λ s l. elim (last_or n s l) as (λ _. rank s ≤ r.0 + rank n) [
-      | inl e ↦ subst (λ (t : ℕ). rank t ≤ r.0 + rank n) (sym e) (omega arith)
-      | inr k ↦ omega (arith, r.1 s k)
-    ])
+    let r = greatest_rank rank n in (
+      r.0 + rank n,
+      λ s l. elim (last_or n s l) as (λ _. rank s ≤ r.0 + rank n) [
+        | inl e ↦ subst (λ (t : ℕ). rank t ≤ r.0 + rank n) (sym e) (omega arith)
+        | inr k ↦ omega (arith, r.1 s k)
+      ],
+    )

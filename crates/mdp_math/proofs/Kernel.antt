@@ -97,13 +97,13 @@ module _ {A : Type 0} (index : A → ℕ) (entry : A → ℚ) where
       let tail = All-tail (λ y. 0ℚ ≤ℚ entry y) x row p in
       elim (Any-cases (λ y. (e ≤ℚ entry y) × (f (index y) +ℚ g ≤ℚ 1ℚ)) x row any) as (λ _. weigh index entry f (x ∷ row) +ℚ e *ℚ g ≤ℚ sum_of entry (x ∷ row)) [
         | inl q ↦
-          linear 6 (λ a u e g s t. (a ⊗ u ⊕ s) ⊕ e ⊗ g) (λ a u e g s t. a ⊕ t) (λ a u e g s t. at_most a (u ⊕ g) (lit (pos 1)) ∷ at_most g e a ∷ known s t ∷ []) refl
-          (entry x) (f (index x)) e g (weigh index entry f row) (sum_of entry row)
-          head q.1 k q.0 (weigh-le_mass f row tail h)
+            linear 6 (λ a u e g s t. (a ⊗ u ⊕ s) ⊕ e ⊗ g) (λ a u e g s t. a ⊕ t) (λ a u e g s t. at_most a (u ⊕ g) (lit (pos 1)) ∷ at_most g e a ∷ known s t ∷ []) refl
+            (entry x) (f (index x)) e g (weigh index entry f row) (sum_of entry row)
+            head q.1 k q.0 (weigh-le_mass f row tail h)
         | inr q ↦
-          linear 6 (λ a u e g s t. (a ⊗ u ⊕ s) ⊕ e ⊗ g) (λ a u e g s t. a ⊕ t) (λ a u e g s t. at_most a u (lit (pos 1)) ∷ known (s ⊕ e ⊗ g) t ∷ []) refl
-          (entry x) (f (index x)) e g (weigh index entry f row) (sum_of entry row)
-          head (h (index x)) (weigh-below_mass f e g row tail h k q)
+            linear 6 (λ a u e g s t. (a ⊗ u ⊕ s) ⊕ e ⊗ g) (λ a u e g s t. a ⊕ t) (λ a u e g s t. at_most a u (lit (pos 1)) ∷ known (s ⊕ e ⊗ g) t ∷ []) refl
+            (entry x) (f (index x)) e g (weigh index entry f row) (sum_of entry row)
+            head (h (index x)) (weigh-below_mass f e g row tail h k q)
       ]
 
   -- above 0, where a positive entry leads to a positive number
@@ -115,6 +115,6 @@ module _ {A : Type 0} (index : A → ℕ) (entry : A → ℚ) where
       elim (Any-cases (λ y. (0ℚ <ℚ entry y) × (0ℚ <ℚ f (index y))) x row any) as (λ _. 0ℚ <ℚ weigh index entry f (x ∷ row)) [
         | inl q ↦ add-pos-nonneg _ _ (mul-pos_ℚ (entry x) (f (index x)) q.0 q.1) (weigh-nonneg f row tail h)
         | inr q ↦
-          linear_lt 3 (λ a u s. lit (pos 0)) (λ a u s. a ⊗ u ⊕ s) (λ a u s. s) (λ a u s. at_most a (lit (pos 0)) u ∷ []) refl (entry x) (f (index x)) (weigh index entry f row)
-          (weigh-pos f row tail h q) head (h (index x))
+            linear_lt 3 (λ a u s. lit (pos 0)) (λ a u s. a ⊗ u ⊕ s) (λ a u s. s) (λ a u s. at_most a (lit (pos 0)) u ∷ []) refl (entry x) (f (index x)) (weigh index entry f row)
+            (weigh-pos f row tail h q) head (h (index x))
       ]

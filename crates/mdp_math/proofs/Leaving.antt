@@ -80,15 +80,17 @@ module _ {A : Type 0} {index : A → ℕ} {entry : A → ℚ} {active : ℕ → 
   shrinks-fades c q hc hq =
       let positive : 0ℚ <ℚ c +ℚ 1ℚ = linear_lt 1 (λ c. lit (pos 0)) (λ c. c ⊕ lit (pos 1)) (λ c. lit (pos 1)) (λ c. known (lit (pos 0)) c ∷ []) refl c one-pos hc in
       let hi : 0ℚ <ℚ inv_ℚ (c +ℚ 1ℚ) = inv-pos (c +ℚ 1ℚ) positive in
-      let below = pow_ℚ-below K.rate (q *ℚ inv_ℚ (c +ℚ 1ℚ)) K.rate_nonneg K.rate_below (mul-pos_ℚ q (inv_ℚ (c +ℚ 1ℚ)) hq hi) in
-      (below.0, λ m s hm.
-        linear 5 (λ p c w q i. (p ⊗ c) ⊗ w) (λ p c w q i. q)
-        (λ p c w q i. at_most (p ⊗ c) w (lit (pos 1)) ∷ at_most c p (q ⊗ i) ∷ equal q ((c ⊕ lit (pos 1)) ⊗ i) (lit (pos 1)) ∷ at_most q (lit (pos 0)) i ∷ []) refl
-        (pow_ℚ K.rate m) c (K.weight s) q (inv_ℚ (c +ℚ 1ℚ))
-        (mul-nonneg _ _ (pow_ℚ-nonneg K.rate m K.rate_nonneg) hc) (K.at_most_one s)
-        hc (below.1 m hm)
-        (mul-inv_pos (c +ℚ 1ℚ) positive)
-        (≤ℚ_of_lt 0ℚ q hq) (≤ℚ_of_lt 0ℚ (inv_ℚ (c +ℚ 1ℚ)) hi))
+      let below = pow_ℚ-below K.rate (q *ℚ inv_ℚ (c +ℚ 1ℚ)) K.rate_nonneg K.rate_below (mul-pos_ℚ q (inv_ℚ (c +ℚ 1ℚ)) hq hi) in (
+        below.0,
+        λ m s hm.
+            linear 5 (λ p c w q i. (p ⊗ c) ⊗ w) (λ p c w q i. q)
+            (λ p c w q i. at_most (p ⊗ c) w (lit (pos 1)) ∷ at_most c p (q ⊗ i) ∷ equal q ((c ⊕ lit (pos 1)) ⊗ i) (lit (pos 1)) ∷ at_most q (lit (pos 0)) i ∷ []) refl
+            (pow_ℚ K.rate m) c (K.weight s) q (inv_ℚ (c +ℚ 1ℚ))
+            (mul-nonneg _ _ (pow_ℚ-nonneg K.rate m K.rate_nonneg) hc) (K.at_most_one s)
+            hc (below.1 m hm)
+            (mul-inv_pos (c +ℚ 1ℚ) positive)
+            (≤ℚ_of_lt 0ℚ q hq) (≤ℚ_of_lt 0ℚ (inv_ℚ (c +ℚ 1ℚ)) hi),
+      )
 
   one_by : (x w : ℚ) → x ≤ℚ 1ℚ → half ≤ℚ w → x ≤ℚ of_int (pos 2) *ℚ w
   one_by x w h k = linear 3 (λ x w h. x) (λ x w h. lit (pos 2) ⊗ w) (λ x w h. known x (lit (pos 1)) ∷ equal (lit (pos 1)) (lit (pos 1)) (lit (pos 2) ⊗ h) ∷ at_most (lit (pos 2)) h w ∷ []) refl x w half h (sym half_twice) two-nonneg k

@@ -132,13 +132,12 @@ module _ (q : ℕ → ℕ → ℚ) (c x : ℕ → ℚ) (s : ℕ) (rest : List �
   -- one step keeps each solution
   pub pivot-solves : SolvesOn (s ∷ rest) q c x → SolvedBy rest q c x s × SolvesOn rest (pivoted q s) (pivoted_constant q c s) x
   pivot-solves h =
-      let solved = solved_for (x s) (q s s) (c s) (sum_of (λ v. q s v *ℚ x v) rest) (inv_ℚ (1ℚ -ℚ q s s)) (mul-inv (1ℚ -ℚ q s s) pivot) (h 0 s (omega arith)) in
-      (
+      let solved = solved_for (x s) (q s s) (c s) (sum_of (λ v. q s v *ℚ x v) rest) (inv_ℚ (1ℚ -ℚ q s s)) (mul-inv (1ℚ -ℚ q s s) pivot) (h 0 s (omega arith)) in (
         solved ∙ ap (λ (u : ℚ). divided_constant q c s +ℚ u) (sym (divided_sum (q s) x (inv_ℚ (1ℚ -ℚ q s s)) rest)),
         λ k d l.
-          row_on (x (get_or rest k d)) (x s) (q (get_or rest k d) s) (sum_of (λ v. q (get_or rest k d) v *ℚ x v) rest) (c (get_or rest k d)) (c s) (sum_of (λ v. q s v *ℚ x v) rest) (inv_ℚ (1ℚ -ℚ q s s))
-          solved (h (suc k) d (omega arith))
-          ∙ ap (λ (u : ℚ). pivoted_constant q c s (get_or rest k d) +ℚ u) (sym (pivoted_sum (q (get_or rest k d)) (q s) x (q (get_or rest k d) s) (inv_ℚ (1ℚ -ℚ q s s)) rest))
+            row_on (x (get_or rest k d)) (x s) (q (get_or rest k d) s) (sum_of (λ v. q (get_or rest k d) v *ℚ x v) rest) (c (get_or rest k d)) (c s) (sum_of (λ v. q s v *ℚ x v) rest) (inv_ℚ (1ℚ -ℚ q s s))
+            solved (h (suc k) d (omega arith))
+            ∙ ap (λ (u : ℚ). pivoted_constant q c s (get_or rest k d) +ℚ u) (sym (pivoted_sum (q (get_or rest k d)) (q s) x (q (get_or rest k d) s) (inv_ℚ (1ℚ -ℚ q s s)) rest)),
       )
 
   back_at : SolvedBy rest q c x s → SolvesOn rest (pivoted q s) (pivoted_constant q c s) x → (k d : ℕ) → k < length (s ∷ rest)

@@ -51,7 +51,8 @@ module _ {A : Type 0} {index : A → ℕ} {entry : A → ℚ} {active : ℕ → 
 
 -- ---- bounded below on finitely many numbers
 
-abbrev Floor : (ℕ → ℚ) → ℕ → Type 0
+-- c is at least 0, and -c is at most each of x 0, .., x (n - 1)
+abbrev pub Floor : (ℕ → ℚ) → ℕ → Type 0
 Floor x n = (c : ℚ) × (0ℚ ≤ℚ c) × ((s : ℕ) → s < n → neg_ℚ c ≤ℚ x s)
 
 last_or : (n s : ℕ) → s < suc n → (s ≡ n) ⊎ (s < n)
@@ -59,11 +60,12 @@ last_or n s h = grind arith
 
 floor_step : (x : ℕ → ℚ) (n : ℕ) → Floor x n → (0ℚ ≤ℚ x n) ⊎ (x n <ℚ 0ℚ) → Floor x (suc n)
 floor_step x n f (inl h) = (
-  f.0, f.1,
+  f.0,
+  f.1,
   λ s l. elim (last_or n s l) as (λ _. neg_ℚ f.0 ≤ℚ x s) [
     | inl e ↦ linear 2 (λ c x. ⊖ c) (λ c x. x) (λ c x. known (lit (pos 0)) c ∷ known (lit (pos 0)) x ∷ []) refl f.0 (x s) f.1 (subst (λ (k : ℕ). 0ℚ ≤ℚ x k) (sym e) h)
     | inr k ↦ f.2 s k
-  ]
+  ],
 )
 floor_step x n f (inr h) = (
   f.0 -ℚ x n,
@@ -71,10 +73,9 @@ floor_step x n f (inr h) = (
   λ s l. elim (last_or n s l) as (λ _. neg_ℚ (f.0 -ℚ x n) ≤ℚ x s) [
     | inl e ↦ linear 3 (λ c x y. ⊖ (c ⊕ ⊖ x)) (λ c x y. y) (λ c x y. known (lit (pos 0)) c ∷ equal (lit (pos 1)) x y ∷ []) refl f.0 (x n) (x s) f.1 (ap x (sym e))
     | inr k ↦ linear 3 (λ c x y. ⊖ (c ⊕ ⊖ x)) (λ c x y. y) (λ c x y. known (⊖ c) y ∷ known x (lit (pos 0)) ∷ []) refl f.0 (x n) (x s) (f.2 s k) (≤ℚ_of_lt (x n) 0ℚ h)
-  ]
+  ],
 )
 
--- a number that is at least 0 and whose negative is at most each of x 0, .., x (n - 1)
 pub floor_below : (x : ℕ → ℚ) (n : ℕ) → Floor x n
 floor_below x zero = (0ℚ, ≤ℚ_refl 0ℚ, λ s l. absurd (omega arith))
 floor_below x (suc n) = floor_step x n (floor_below x n) (≤ℚ_or_gt 0ℚ (x n))
@@ -91,50 +92,59 @@ module _ {A : Type 0} {index : A → ℕ} {entry : A → ℚ} {active : ℕ → 
       (x s) c (K.weight s) (k a) (mul-nonneg (of_int (pos 2)) c (of_nat-nonneg 2) hc) (weight-nonneg K s)
 
   -- x is at least 0, where it is so outside, and at least what it weighs in some allowed row of each active number
-  pub sign : (n : ℕ) → ((s : ℕ) → active s ≡ true → s < n) → (x : ℕ → ℚ) → ((s : ℕ) → active s ≡ false → 0ℚ ≤ℚ x s)
+  pub nonneg_of_rows : (n : ℕ) → ((s : ℕ) → active s ≡ true → s < n) → (x : ℕ → ℚ) → ((s : ℕ) → active s ≡ false → 0ℚ ≤ℚ x s)
       → ((s : ℕ) → active s ≡ true → (row : List A) × Allowed s row × (weigh index entry x row ≤ℚ x s)) → (s : ℕ) → 0ℚ ≤ℚ x s
-  sign n bound x out step s =
+  nonneg_of_rows n bound x out step s =
       let f = floor_below x n in
       let hc : 0ℚ ≤ℚ of_int (pos 2) *ℚ f.0 = mul-nonneg (of_int (pos 2)) f.0 (of_nat-nonneg 2) f.1 in
       let bounds = shrinks-steps K (λ m v. neg_ℚ (x v)) (of_int (pos 2) *ℚ f.0) hc
-          (λ v. start_by x f.0 v (active v) refl f.1 (λ a. f.2 v (bound v a)) (out v))
-          (λ m v a. linear 1 (λ x. ⊖ x) (λ x. lit (pos 0)) (λ x. known (lit (pos 0)) x ∷ []) refl (x v) (out v a))
-          (λ m v a. ((step v a).0, (step v a).1,
-            linear 3 (λ x u w. ⊖ x) (λ x u w. w) (λ x u w. known u x ∷ equal (lit (pos 1)) (⊖ u) w ∷ []) refl
-            (x v) (weigh index entry x (step v a).0) (weigh index entry (λ t. neg_ℚ (x t)) (step v a).0) (step v a).2 (sym (weigh-neg index entry x (step v a).0)))) in
+      (λ v. start_by x f.0 v (active v) refl f.1 (λ a. f.2 v (bound v a)) (out v))
+      (λ m v a. linear 1 (λ x. ⊖ x) (λ x. lit (pos 0)) (λ x. known (lit (pos 0)) x ∷ []) refl (x v) (out v a))
+      (λ m v a. (
+        (step v a).0,
+        (step v a).1,
+        linear 3 (λ x u w. ⊖ x) (λ x u w. w) (λ x u w. known u x ∷ equal (lit (pos 1)) (⊖ u) w ∷ []) refl
+            (x v) (weigh index entry x (step v a).0) (weigh index entry (λ t. neg_ℚ (x t)) (step v a).0) (step v a).2 (sym (weigh-neg index entry x (step v a).0)),
+      )) in
       let small : neg_ℚ (x s) ≤ℚ 0ℚ = le_of_bounds (neg_ℚ (x s)) 0ℚ (λ q hq.
-        let fades = shrinks-fades K (of_int (pos 2) *ℚ f.0) q hc hq in
-        linear 3 (λ x b q. x) (λ x b q. lit (pos 0) ⊕ q) (λ x b q. known x b ∷ known b q ∷ []) refl (neg_ℚ (x s)) ((pow_ℚ K.rate fades.0 *ℚ (of_int (pos 2) *ℚ f.0)) *ℚ K.weight s) q (bounds fades.0 s) (fades.1 fades.0 s (omega arith))) in
+      let fades = shrinks-fades K (of_int (pos 2) *ℚ f.0) q hc hq in
+      linear 3 (λ x b q. x) (λ x b q. lit (pos 0) ⊕ q) (λ x b q. known x b ∷ known b q ∷ []) refl (neg_ℚ (x s)) ((pow_ℚ K.rate fades.0 *ℚ (of_int (pos 2) *ℚ f.0)) *ℚ K.weight s) q (bounds fades.0 s) (fades.1 fades.0 s (omega arith))) in
       linear 1 (λ x. lit (pos 0)) (λ x. x) (λ x. known (⊖ x) (lit (pos 0)) ∷ []) refl (x s) small
 
   module _ (n : ℕ) (bound : (s : ℕ) → active s ≡ true → s < n) (row_of : ℕ → List A) (allowed : (s : ℕ) → active s ≡ true → Allowed s (row_of s)) where
     -- what is at least its sum lies above what is at most its sum
-    pub compare : (c y z : ℕ → ℚ) → ((s : ℕ) → active s ≡ false → z s ≤ℚ y s) → ((s : ℕ) → active s ≡ true → c s +ℚ weigh index entry y (row_of s) ≤ℚ y s)
+    pub le_of_rows : (c y z : ℕ → ℚ) → ((s : ℕ) → active s ≡ false → z s ≤ℚ y s) → ((s : ℕ) → active s ≡ true → c s +ℚ weigh index entry y (row_of s) ≤ℚ y s)
         → ((s : ℕ) → active s ≡ true → z s ≤ℚ c s +ℚ weigh index entry z (row_of s)) → (s : ℕ) → z s ≤ℚ y s
-    compare c y z out above below s =
+    le_of_rows c y z out above below s =
         linear 2 (λ y z. z) (λ y z. y) (λ y z. known (lit (pos 0)) (y ⊕ ⊖ z) ∷ []) refl (y s) (z s)
-        (sign n bound (λ v. y v -ℚ z v)
+        (nonneg_of_rows n bound (λ v. y v -ℚ z v)
         (λ v a. linear 2 (λ y z. lit (pos 0)) (λ y z. y ⊕ ⊖ z) (λ y z. known z y ∷ []) refl (y v) (z v) (out v a))
-        (λ v a. (row_of v, allowed v a,
+        (λ v a. (
+          row_of v,
+          allowed v a,
           linear 6 (λ y z c u w d. d) (λ y z c u w d. y ⊕ ⊖ z) (λ y z c u w d. equal (lit (pos 1)) d (u ⊕ ⊖ w) ∷ known (c ⊕ u) y ∷ known z (c ⊕ w) ∷ []) refl
-          (y v) (z v) (c v) (weigh index entry y (row_of v)) (weigh index entry z (row_of v)) (weigh index entry (λ t. y t -ℚ z t) (row_of v))
-          (weigh-sub index entry y z (row_of v)) (above v a) (below v a)))
+              (y v) (z v) (c v) (weigh index entry y (row_of v)) (weigh index entry z (row_of v)) (weigh index entry (λ t. y t -ℚ z t) (row_of v))
+              (weigh-sub index entry y z (row_of v)) (above v a) (below v a),
+        ))
         s)
 
     -- a system has one solution at most
-    pub unique : (c y z : ℕ → ℚ) → Solves index entry active row_of c y → Solves index entry active row_of c z → (s : ℕ) → y s ≡ z s
-    unique c y z p q s =
+    pub one_solution : (c y z : ℕ → ℚ) → Solves index entry active row_of c y → Solves index entry active row_of c z → (s : ℕ) → y s ≡ z s
+    one_solution c y z p q s =
         ≤ℚ_antisymm (y s) (z s)
-        (compare c z y (λ v a. ≤ℚ_of_eq _ _ (p.outside v a ∙ sym (q.outside v a))) (λ v a. ≤ℚ_of_eq _ _ (sym (q.inside v a))) (λ v a. ≤ℚ_of_eq _ _ (p.inside v a)) s)
-        (compare c y z (λ v a. ≤ℚ_of_eq _ _ (q.outside v a ∙ sym (p.outside v a))) (λ v a. ≤ℚ_of_eq _ _ (sym (p.inside v a))) (λ v a. ≤ℚ_of_eq _ _ (q.inside v a)) s)
+        (le_of_rows c z y (λ v a. ≤ℚ_of_eq _ _ (p.outside v a ∙ sym (q.outside v a))) (λ v a. ≤ℚ_of_eq _ _ (sym (q.inside v a))) (λ v a. ≤ℚ_of_eq _ _ (p.inside v a)) s)
+        (le_of_rows c y z (λ v a. ≤ℚ_of_eq _ _ (q.outside v a ∙ sym (p.outside v a))) (λ v a. ≤ℚ_of_eq _ _ (sym (p.inside v a))) (λ v a. ≤ℚ_of_eq _ _ (q.inside v a)) s)
 
     -- ---- a system with constants of at least 0
 
     module _ (e x : ℕ → ℚ) (nonneg : (s : ℕ) → active s ≡ true → 0ℚ ≤ℚ e s) (solves : Solves index entry active row_of e x) where
       pub solution-nonneg : (s : ℕ) → 0ℚ ≤ℚ x s
-      solution-nonneg = sign n bound x (λ s a. ≤ℚ_of_eq _ _ (sym (solves.outside s a)))
-          (λ s a. (row_of s, allowed s a,
-            linear 3 (λ x e u. u) (λ x e u. x) (λ x e u. equal (lit (pos 1)) (e ⊕ u) x ∷ known (lit (pos 0)) e ∷ []) refl (x s) (e s) (weigh index entry x (row_of s)) (sym (solves.inside s a)) (nonneg s a)))
+      solution-nonneg = nonneg_of_rows n bound x (λ s a. ≤ℚ_of_eq _ _ (sym (solves.outside s a)))
+          (λ s a. (
+            row_of s,
+            allowed s a,
+            linear 3 (λ x e u. u) (λ x e u. x) (λ x e u. equal (lit (pos 1)) (e ⊕ u) x ∷ known (lit (pos 0)) e ∷ []) refl (x s) (e s) (weigh index entry x (row_of s)) (sym (solves.inside s a)) (nonneg s a),
+          ))
 
       pub solution-ge : (s : ℕ) → active s ≡ true → e s ≤ℚ x s
       solution-ge s a =

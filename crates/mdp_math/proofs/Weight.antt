@@ -3,7 +3,7 @@
 -- A kernel gives rows of entries to some numbers, the active ones. Each entry stands at an index, again a number.
 -- Where from each active number some entry of each allowed row leads to a number of smaller rank, or to none that is active, there is a weight
 -- on the active numbers that each allowed row shrinks by one factor below 1.
-use Rattle.std.proofs.Common.{◌≡◌, ℕ, zero, suc, ◌<◌, ◌≤◌, ◌⊎◌, inl, inr, Bool, true, false, if◌then◌else◌, List, refl, sym, ap, subst, arith, pos}
+use Rattle.std.proofs.Common.{◌≡◌, ℕ, zero, suc, ◌<◌, ◌≤◌, ◌⊎◌, inl, inr, Bool, true, false, if◌then◌else◌, List, refl, sym, ap, subst, arith, pos, [], ◌∷◌}
 use Rattle.std.specs.List.{All, Any}
 use Rattle.mdp_math.specs.Rational.{ℚ, of_int, ◌+ℚ◌, ◌*ℚ◌, ◌-ℚ◌, ◌≤ℚ◌, ◌<ℚ◌}
 use Rattle.mdp_math.specs.Sum.{sum_of}
@@ -15,7 +15,6 @@ use Rattle.mdp_math.proofs.Powers.{one-pos, pow_ℚ-nonneg, pow_ℚ-pos, pow_ℚ
 use Rattle.mdp_math.proofs.Linear.{linear, linear_lt, combine, equal, at_most, known}
 use Rattle.mdp_math.proofs.Division.{half, half_twice, half_pos}
 use Rattle.mdp_math.proofs.Kernel.{weigh-below_mass}
-use Rattle.std.proofs.Common.{[], ◌∷◌}
 
 -- a weight of 0 outside, and between 1/2 and 1 at active numbers, which each allowed row shrinks by the rate
 pub record Shrinks {A : Type 0} (index : A → ℕ) (entry : A → ℚ) (active : ℕ → Bool) (Allowed : ℕ → List A → Type 0) : Type 0 where

@@ -1,12 +1,12 @@
 -- Whole numbers as fractions.
-use Rattle.std.proofs.Common.{◌≡◌, ℕ, zero, suc, ◌+◌, ◌*◌, ◌<◌, ◌≤◌, List, [], ◌∷◌, refl, sym, ◌∙◌, ap, arith, pos, ◌+ℤ◌, ◌*ℤ◌}
+use Rattle.std.proofs.Common.{◌≡◌, ℕ, ◌+◌, ◌*◌, ◌<◌, ◌≤◌, List, [], ◌∷◌, refl, sym, ◌∙◌, ap, arith, pos}
 use Rattle.std.specs.List.{sum_by}
 use Rattle.std.proofs.lemmas.List.Sums.{sum_by-cons}
 use Rattle.std.proofs.lemmas.Int.{ints}
-use Rattle.mdp_math.specs.Rational.{ℚ, of_int, ratio, ◌+ℚ◌, ◌*ℚ◌, ◌≤ℚ◌, ◌<ℚ◌}
+use Rattle.mdp_math.specs.Rational.{ℚ, of_int, ratio, ◌+ℚ◌, ◌*ℚ◌, ◌≤ℚ◌}
 use Rattle.mdp_math.specs.Sum.{sum_of}
 use Rattle.mdp_math.proofs.Laws.{of_int-+ℤ, of_int-*ℤ, is_of_int, is_ratio, same_is}
-use Rattle.mdp_math.proofs.Order.{of_int-le, le_of_is, is_le, ratio-add_same}
+use Rattle.mdp_math.proofs.Order.{of_int-le, is_le, ratio-add_same}
 
 pub of_nat-add : (m n : ℕ) → of_int (pos (m + n)) ≡ of_int (pos m) +ℚ of_int (pos n)
 of_nat-add m n = of_int-+ℤ (pos m) (pos n)
