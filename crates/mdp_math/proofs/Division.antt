@@ -1,20 +1,11 @@
 -- The laws of the reciprocal and of division.
 use Rattle.std.proofs.Common.{◌≡◌, ◌≢◌, ℕ, ◌<◌, [], ◌∷◌, inl, inr, refl, sym, ◌∙◌, arith, ℤ, pos}
-use Rattle.std.proofs.lemmas.Int.{ints}
 use Rattle.mdp_math.specs.Rational.{ℚ, of_int, ratio, ◌+ℚ◌, ◌*ℚ◌, ◌-ℚ◌, inv_ℚ, ◌≤ℚ◌, ◌<ℚ◌}
 use Rattle.mdp_math.proofs.Ring.{◌⊕◌, ◌⊗◌, ⊖, lit, ring}
-use Rattle.mdp_math.proofs.Laws.{rat_ring, is_ratio, is_of_int}
-use Rattle.mdp_math.proofs.Order.{0ℚ, 1ℚ, ◌/ℚ◌, ≤ℚ_of_lt, ≤ℚ_or_gt, sub-pos, clash_ℚ, mul-inv, mul-nonneg, mul-pos_ℚ, ne-zero_of_pos, div-of_int, is_positive, strict_of}
-use Rattle.mdp_math.proofs.Powers.{one-pos}
+use Rattle.mdp_math.proofs.Laws.{rat_ring}
+use Rattle.mdp_math.proofs.Order.{0ℚ, 1ℚ, ◌/ℚ◌, ≤ℚ_of_lt, ≤ℚ_or_gt, sub-pos, clash_ℚ, mul-inv, mul-nonneg, mul-pos_ℚ, ne-zero_of_pos, div-of_int}
+use Rattle.mdp_math.proofs.Whole.{one-pos, of_nat-pos, ratio-pos}
 use Rattle.mdp_math.proofs.Linear.{linear, linear_lt, combine, equal, at_most, known}
-
--- ---- whole numbers and their fractions
-
-pub of_nat-pos : (n : ℕ) → 0 < n → 0ℚ <ℚ of_int (pos n)
-of_nat-pos n h = is_positive (of_int (pos n)) (strict_of (of_int (pos n)) (pos n) 1 (is_of_int (pos n)) (omega (arith, ints)))
-
-pub ratio-pos : (m k : ℕ) → 0 < m → 0 < k → 0ℚ <ℚ ratio (pos m) k
-ratio-pos m k h l = is_positive (ratio (pos m) k) (strict_of (ratio (pos m) k) (pos m) k (is_ratio (pos m) k l) (omega (arith, ints)))
 
 -- ---- equations, for y not 0
 

@@ -1,6 +1,6 @@
 -- The laws of ℚ.
 use Rattle.std.proofs.Common.{◌≡◌, ℕ, zero, suc, ◌*◌, ◌/◌, ◌<◌, T, eqb, ltb, eqb→eq, ltb→lt, lt→ltb, refl, sym, ◌∙◌, ap, ap₂, subst, arith, ℤ, pos, negsuc, ◌+ℤ◌, ◌*ℤ◌, neg_ℤ, unsigned_abs, int_div, mul-pos, mul_comm}
-use Rattle.std.proofs.lemmas.Int.{unsigned_abs-mul, ints}
+use Rattle.std.proofs.lemmas.Int.{unsigned_abs-mul}
 use mathlib.Core.HLevel.{is_prop→PathP}
 use lib.Dec.{T_prop}
 use Rattle.std.specs.Int.{◌∣◌}
@@ -162,10 +162,6 @@ of_int-+ℤ a b = same_is (of_int (a +ℤ b)) (of_int a +ℚ of_int b) _ _ _ _ (
 pub of_int-*ℤ : (a b : ℤ) → of_int (a *ℤ b) ≡ of_int a *ℚ of_int b
 of_int-*ℤ a b = same_is (of_int (a *ℤ b)) (of_int a *ℚ of_int b) _ _ _ _ (is_of_int (a *ℤ b)) (is_mul _ _ _ _ _ _ (is_of_int a) (is_of_int b))
     (ring₂ int_ring (λ a b. (a ⊗ b) ⊗ lit (pos 1)) (λ a b. (a ⊗ b) ⊗ lit (pos 1)) refl a b)
-
--- the next whole number
-pub of_nat-suc : (n : ℕ) → of_int (pos (suc n)) ≡ of_int (pos n) +ℚ of_int (pos 1)
-of_nat-suc n = let e : pos (suc n) ≡ pos n +ℤ pos 1 = omega (arith, ints) in ap of_int e ∙ of_int-+ℤ (pos n) (pos 1)
 
 abbrev pub rat_ring : CommRing
 rat_ring = record {

@@ -2,14 +2,15 @@ pub mod Ring
 pub mod IntegerRing
 pub mod Laws
 pub mod Order
+pub mod Linear
+pub mod Written
+pub mod Whole
+pub mod Division
 pub mod Sums
 pub mod SumsAt
-pub mod Linear
 pub mod Powers
 pub mod Extremes
-pub mod Division
 pub mod Floors
-pub mod Whole
 pub mod Kernel
 pub mod Weight
 pub mod Leaving
@@ -17,5 +18,4 @@ pub mod Solutions
 pub mod Pivots
 pub mod Dense
 pub mod Elimination
-pub mod Written
 mod Examples

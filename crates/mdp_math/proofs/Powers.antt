@@ -1,10 +1,11 @@
 -- The laws of powers of a fraction, and how fast the powers of a fraction below 1 fall.
 use Rattle.std.proofs.Common.{◌≡◌, ℕ, zero, suc, ◌+◌, ◌*◌, ◌-◌, ◌<◌, ◌≤◌, refl, sym, ◌∙◌, ap, subst, arith, ℤ, pos, negsuc, ◌*ℤ◌, ◌≤ℤ◌, ◌<ℤ◌, [], ◌∷◌}
 use Rattle.std.proofs.lemmas.Int.{ints}
-use Rattle.mdp_math.specs.Rational.{ℚ, of_int, ratio, lt_ℚ, ◌+ℚ◌, ◌*ℚ◌, ◌-ℚ◌, ◌≤ℚ◌, ◌<ℚ◌}
+use Rattle.mdp_math.specs.Rational.{ℚ, of_int, ratio, ◌+ℚ◌, ◌*ℚ◌, ◌-ℚ◌, ◌≤ℚ◌, ◌<ℚ◌}
 use Rattle.mdp_math.specs.Power.{pow_ℚ}
 use Rattle.mdp_math.proofs.Ring.{◌⊕◌, ◌⊗◌, ⊖, lit, ring}
-use Rattle.mdp_math.proofs.Laws.{rat_ring, den-pos, is_self, is_ratio, of_nat-suc, of_int-*ℤ, one-*ℚ, *ℚ_assoc}
+use Rattle.mdp_math.proofs.Laws.{rat_ring, den-pos, is_self, is_ratio, of_int-*ℤ, one-*ℚ, *ℚ_assoc}
+use Rattle.mdp_math.proofs.Whole.{one-pos, of_nat-suc, of_nat-nonneg}
 use Rattle.mdp_math.proofs.Order.{0ℚ, 1ℚ, ≤ℚ_refl, ≤ℚ_trans, ≤ℚ_of_lt, ≤ℚ_of_eq, mul-nonneg, mul-pos_ℚ, sub-nonneg, sub-pos, of_int-le, le_of_is, positive, ratio-nonneg, div-of_int}
 use Rattle.mdp_math.proofs.Linear.{linear, equal, at_most, known}
 
@@ -30,10 +31,6 @@ pow_ℚ-mul x y (suc n) =
     ∙ ring rat_ring 4 (λ x y p q. (x ⊗ y) ⊗ (p ⊗ q)) (λ x y p q. (x ⊗ p) ⊗ (y ⊗ q)) refl x y (pow_ℚ x n) (pow_ℚ y n)
 
 -- ---- order
-
-pub one-pos : 0ℚ <ℚ 1ℚ
-unfolding lt_ℚ of_int
-one-pos = record { lt = tt }
 
 pub pow_ℚ-nonneg : (x : ℚ) (n : ℕ) → 0ℚ ≤ℚ x → 0ℚ ≤ℚ pow_ℚ x n
 pow_ℚ-nonneg x zero h = of_int-le (pos 0) (pos 1) (omega (arith, ints))
@@ -63,9 +60,6 @@ pow_ℚ-le x y (suc n) h k =
     (≤ℚ_trans 0ℚ x y h k) (pow_ℚ-le x y n h k) (pow_ℚ-nonneg x n h) k
 
 -- ---- Bernoulli's bound
-
-pub of_nat-nonneg : (n : ℕ) → 0ℚ ≤ℚ of_int (pos n)
-of_nat-nonneg n = of_int-le (pos 0) (pos n) (omega (arith, ints))
 
 pub bernoulli : (e : ℚ) (n : ℕ) → 0ℚ ≤ℚ e → e ≤ℚ 1ℚ → pow_ℚ (1ℚ -ℚ e) n *ℚ (1ℚ +ℚ of_int (pos n) *ℚ e) ≤ℚ 1ℚ
 bernoulli e zero h k = ≤ℚ_of_eq _ _ (ring rat_ring 1 (λ e. lit (pos 1) ⊗ (lit (pos 1) ⊕ lit (pos 0) ⊗ e)) (λ e. lit (pos 1)) refl e)

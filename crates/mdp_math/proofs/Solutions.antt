@@ -5,8 +5,8 @@ use Rattle.mdp_math.specs.Rational.{ℚ, of_int, ◌+ℚ◌, ◌*ℚ◌, ◌-ℚ
 use Rattle.mdp_math.specs.Power.{pow_ℚ}
 use Rattle.mdp_math.specs.Kernel.{weigh}
 use Rattle.mdp_math.proofs.Ring.{◌⊕◌, ◌⊗◌, ⊖, lit}
+use Rattle.mdp_math.proofs.Whole.{of_nat-nonneg}
 use Rattle.mdp_math.proofs.Order.{0ℚ, ≤ℚ_refl, ≤ℚ_of_lt, ≤ℚ_of_eq, ≤ℚ_or_gt, ≤ℚ_antisymm, <ℚ-≤ℚ_trans, mul-nonneg}
-use Rattle.mdp_math.proofs.Powers.{of_nat-nonneg}
 use Rattle.mdp_math.proofs.Division.{half, half_twice, le_of_bounds}
 use Rattle.mdp_math.proofs.Linear.{linear, linear_lt, combine, equal, at_most, known}
 use Rattle.mdp_math.proofs.Kernel.{weigh-neg, weigh-sub, weigh-add, weigh-scale, weigh-nonneg, weigh-pos}

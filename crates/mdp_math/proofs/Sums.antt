@@ -5,7 +5,8 @@ use Rattle.std.proofs.lemmas.List.Elements.{recursion_from_All}
 use Rattle.mdp_math.proofs.Ring.{◌⊕◌, ◌⊗◌, ⊖, lit, ring, ring₁, ring₃, ring₄}
 use Rattle.mdp_math.specs.Rational.{ℚ, of_int, ◌-ℚ◌, ◌+ℚ◌, ◌*ℚ◌, ◌≤ℚ◌}
 use Rattle.mdp_math.specs.Sum.{sum_of}
-use Rattle.mdp_math.proofs.Laws.{rat_ring, of_nat-suc, zero-+ℚ, +ℚ_assoc}
+use Rattle.mdp_math.proofs.Laws.{rat_ring, zero-+ℚ, +ℚ_assoc}
+use Rattle.mdp_math.proofs.Whole.{of_nat-suc}
 use Rattle.mdp_math.proofs.Order.{0ℚ, ≤ℚ_refl, add-le-add_ℚ, add-nonneg}
 
 sum-le-by : {A : Type 0} → (f g : A → ℚ) (xs : List A) → AllByRecursion (λ x. f x ≤ℚ g x) xs → sum_of f xs ≤ℚ sum_of g xs

@@ -10,8 +10,9 @@ use Rattle.mdp_math.specs.Sum.{sum_of}
 use Rattle.mdp_math.specs.Power.{pow_ℚ}
 use Rattle.mdp_math.specs.Kernel.{weigh}
 use Rattle.mdp_math.proofs.Ring.{◌⊕◌, ◌⊗◌, ⊖, lit}
+use Rattle.mdp_math.proofs.Whole.{one-pos}
 use Rattle.mdp_math.proofs.Order.{0ℚ, 1ℚ, ≤ℚ_trans, ≤ℚ_of_lt, mul-pos_ℚ}
-use Rattle.mdp_math.proofs.Powers.{one-pos, pow_ℚ-nonneg, pow_ℚ-pos, pow_ℚ-le_one, pow_ℚ-antitone, pow_ℚ-one}
+use Rattle.mdp_math.proofs.Powers.{pow_ℚ-nonneg, pow_ℚ-pos, pow_ℚ-le_one, pow_ℚ-antitone, pow_ℚ-one}
 use Rattle.mdp_math.proofs.Linear.{linear, linear_lt, combine, equal, at_most, known}
 use Rattle.mdp_math.proofs.Division.{half, half_twice, half_pos}
 use Rattle.mdp_math.proofs.Kernel.{weigh-below_mass}
