@@ -6,6 +6,7 @@ use Rattle.mdp_math.specs.Rational.{ℚ, ◌+ℚ◌, ◌*ℚ◌, ◌-ℚ◌, ◌
 use Rattle.mdp_math.specs.Sum.{sum_of}
 use Rattle.mdp_math.specs.Kernel.{weigh}
 use Rattle.mdp_math.specs.Pivot.{active_below, entry_at}
+use Rattle.mdp_math.proofs.Numbers.{last_or, le_or, eqb-same, eqb-smaller, eqb-greater}
 use Rattle.mdp_math.proofs.Ring.{◌⊕◌, ◌⊗◌, ⊖, lit, ring}
 use Rattle.mdp_math.proofs.Laws.{rat_ring, zero-*ℚ}
 use Rattle.mdp_math.proofs.Order.{0ℚ, 1ℚ, ≤ℚ_refl, add-nonneg, mul-pos_ℚ, sub-pos}
@@ -17,18 +18,6 @@ use Rattle.mdp_math.proofs.Solutions.{Solves}
 use Rattle.mdp_math.proofs.Pivots.{RowsShrink, SolvesOn}
 
 -- ---- the active numbers below n
-
-same_number : (n : ℕ) → eqb n n ≡ true
-same_number n = grind arith
-
-smaller_number : (k n : ℕ) → k < n → eqb k n ≡ false
-smaller_number k n h = grind arith
-
-greater_number : (k n : ℕ) → n < k → eqb k n ≡ false
-greater_number k n h = grind arith
-
-le_or : (n k : ℕ) → (n ≤ k) ⊎ (k < n)
-le_or n k = grind arith
 
 module _ (active : ℕ → Bool) where
   all_active_by : (n : ℕ) (b : Bool) → active n ≡ b → All (λ s. (active s ≡ true) × (s < n)) (active_below active n) → All (λ s. (active s ≡ true) × (s < suc n)) (if b then n ∷ active_below active n else active_below active n)
@@ -45,9 +34,6 @@ module _ (active : ℕ → Bool) where
   contains_by n s true a e (inr h) = (suc h.0, omega (arith, h.1), h.2)
   contains_by n s false a e (inl h) = cc
   contains_by n s false a e (inr h) = h
-
-  last_or : (n s : ℕ) → s < suc n → (s ≡ n) ⊎ (s < n)
-  last_or n s h = grind arith
 
   -- and each active number below n is one of them
   pub active_below-contains : (n s : ℕ) → active s ≡ true → s < n → Contains (active_below active n) s
@@ -77,7 +63,7 @@ one_term-other : (k : ℕ) (a : ℚ) (f : ℕ → ℚ) (v : ℕ) → eqb k v ≡
 one_term-other k a f v e = ap (λ (b : Bool). (if b then a else 0ℚ) *ℚ f v) e ∙ zero-*ℚ (f v)
 
 one_term-same : (k : ℕ) (a : ℚ) (f : ℕ → ℚ) → one_term k a f k ≡ a *ℚ f k
-one_term-same k a f = ap (λ (b : Bool). (if b then a else 0ℚ) *ℚ f k) (same_number k)
+one_term-same k a f = ap (λ (b : Bool). (if b then a else 0ℚ) *ℚ f k) (eqb-same k)
 
 plus_zero : (x y z : ℚ) → x ≡ z → y ≡ 0ℚ → x +ℚ y ≡ z
 plus_zero x y z p q = combine 3 (λ x y z. x ⊕ y) (λ x y z. z) (λ x y z. equal (lit (pos 1)) x z ∷ equal (lit (pos 1)) y (lit (pos 0)) ∷ []) refl x y z p q
@@ -87,7 +73,7 @@ zero_plus x y z p q = combine 3 (λ x y z. x ⊕ y) (λ x y z. z) (λ x y z. equ
 
 module _ (active : ℕ → Bool) (k : ℕ) (a : ℚ) (f : ℕ → ℚ) where
   missed_by : (n : ℕ) (b : Bool) → n < k → sum_of (one_term k a f) (active_below active n) ≡ 0ℚ → sum_of (one_term k a f) (if b then n ∷ active_below active n else active_below active n) ≡ 0ℚ
-  missed_by n true h e = zero_plus _ _ 0ℚ (one_term-other k a f n (greater_number k n h)) e
+  missed_by n true h e = zero_plus _ _ 0ℚ (one_term-other k a f n (eqb-greater k n h)) e
   missed_by n false h e = e
 
   missed : (n : ℕ) → n ≤ k → sum_of (one_term k a f) (active_below active n) ≡ 0ℚ
@@ -100,12 +86,12 @@ module _ (active : ℕ → Bool) (k : ℕ) (a : ℚ) (f : ℕ → ℚ) where
       missed n (omega arith) ∙ ring rat_ring 1 (λ a. lit (pos 0)) (λ a. a ⊗ lit (pos 0)) refl a ∙ ap (λ (u : ℚ). a *ℚ u) (sym (out e) ∙ ap f (sym same))
 
   picked_later : (n : ℕ) (b : Bool) → k < n → sum_of (one_term k a f) (active_below active n) ≡ a *ℚ f k → sum_of (one_term k a f) (if b then n ∷ active_below active n else active_below active n) ≡ a *ℚ f k
-  picked_later n true h e = zero_plus _ _ _ (one_term-other k a f n (smaller_number k n h)) e
+  picked_later n true h e = zero_plus _ _ _ (one_term-other k a f n (eqb-smaller k n h)) e
   picked_later n false h e = e
 
   picked : (n : ℕ) → k < n → ((v : ℕ) → active v ≡ false → f v ≡ 0ℚ) → sum_of (one_term k a f) (active_below active n) ≡ a *ℚ f k
   picked zero h out = absurd (omega arith)
-  picked (suc n) h out = elim (last_or active n k h) as (λ _. sum_of (one_term k a f) (active_below active (suc n)) ≡ a *ℚ f k) [
+  picked (suc n) h out = elim (last_or n k h) as (λ _. sum_of (one_term k a f) (active_below active (suc n)) ≡ a *ℚ f k) [
     | inl e ↦ picked_here n (active n) refl e (out n)
     | inr l ↦ picked_later n (active n) l (picked n l out)
   ]

@@ -5,6 +5,7 @@ use Rattle.std.proofs.lemmas.List.Elements.{All-nil, All-cons}
 use Rattle.mdp_math.specs.Rational.{ℚ, ◌+ℚ◌, ◌*ℚ◌, ◌-ℚ◌, ◌<ℚ◌}
 use Rattle.mdp_math.specs.Sum.{sum_of}
 use Rattle.mdp_math.specs.Pivot.{divided, divided_constant, pivoted, pivoted_constant, active_below, entry_at, HasPivots, solution}
+use Rattle.mdp_math.proofs.Numbers.{eqb-same, eqb-smaller}
 use Rattle.mdp_math.proofs.Order.{0ℚ, 1ℚ, sub-pos, ne-zero_of_pos}
 use Rattle.mdp_math.proofs.Sums.{sum_of-same_all}
 use Rattle.mdp_math.proofs.Kernel.{All-head, All-tail}
@@ -51,18 +52,14 @@ solves_same left q c x y same h = λ j d l.
     same j d l ∙ h j d l
     ∙ ap (λ (w : ℚ). c (get_or left j d) +ℚ w) (sym (sum_of-same_all (λ t. q (get_or left j d) t *ℚ x t) (λ t. q (get_or left j d) t *ℚ y t) left (λ i e m. ap (λ (w : ℚ). q (get_or left j d) (get_or left i e) *ℚ w) (same i e m))))
 
-same_number : (n : ℕ) → eqb n n ≡ true
-same_number n = grind arith
-
 pub solution-solves : (left : List ℕ) (q : ℕ → ℕ → ℚ) (c : ℕ → ℚ) → Apart left → HasPivots left q → SolvesOn left q c (solution left q c)
 solution-solves [] q c a p = All-nil (λ t. solution [] q c t ≡ c t +ℚ sum_of (λ v. q t v *ℚ solution [] q c v) [])
 solution-solves (s ∷ rest) q c a p =
-    let y : ℕ → ℚ = solution rest (pivoted q s) (pivoted_constant q c s) in
     let same : All (λ t. solution (s ∷ rest) q c t ≡ solution rest (pivoted q s) (pivoted_constant q c s) t) rest = λ j d l.
     ap (λ (b : Bool). if b then divided_constant q c s +ℚ sum_of (λ u. divided q s u *ℚ solution rest (pivoted q s) (pivoted_constant q c s) u) rest else solution rest (pivoted q s) (pivoted_constant q c s) (get_or rest j d)) (a.0 j d l)
     in
     solves-pivot q c (solution (s ∷ rest) q c) s rest (pivot-nonzero q s p.0)
-    (ap (λ (b : Bool). if b then divided_constant q c s +ℚ sum_of (λ u. divided q s u *ℚ solution rest (pivoted q s) (pivoted_constant q c s) u) rest else solution rest (pivoted q s) (pivoted_constant q c s) s) (same_number s)
+    (ap (λ (b : Bool). if b then divided_constant q c s +ℚ sum_of (λ u. divided q s u *ℚ solution rest (pivoted q s) (pivoted_constant q c s) u) rest else solution rest (pivoted q s) (pivoted_constant q c s) s) (eqb-same s)
     ∙ ap (λ (w : ℚ). divided_constant q c s +ℚ w) (sym (sum_of-same_all (λ t. divided q s t *ℚ solution (s ∷ rest) q c t) (λ t. divided q s t *ℚ solution rest (pivoted q s) (pivoted_constant q c s) t) rest (λ j d l. ap (λ (w : ℚ). divided q s (get_or rest j d) *ℚ w) (same j d l)))))
     (solves_same rest (pivoted q s) (pivoted_constant q c s) (solution (s ∷ rest) q c) (solution rest (pivoted q s) (pivoted_constant q c s)) same
     (solution-solves rest (pivoted q s) (pivoted_constant q c s) a.1 p.1))
@@ -76,11 +73,8 @@ solution-outside (s ∷ rest) q c v h =
 
 -- ---- of a kernel with a weight
 
-smaller_number : (k n : ℕ) → k < n → eqb k n ≡ false
-smaller_number k n h = grind arith
-
 apart_by : (active : ℕ → Bool) (n : ℕ) (b : Bool) → Apart (active_below active n) → Apart (if b then n ∷ active_below active n else active_below active n)
-apart_by active n true h = (λ j d l. smaller_number (get_or (active_below active n) j d) n (active_below-all active n j d l).1, h)
+apart_by active n true h = (λ j d l. eqb-smaller (get_or (active_below active n) j d) n (active_below-all active n j d l).1, h)
 apart_by active n false h = h
 
 pub active_below-apart : (active : ℕ → Bool) (n : ℕ) → Apart (active_below active n)

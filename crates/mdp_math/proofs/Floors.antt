@@ -1,9 +1,10 @@
 -- Bounds on finitely many: a positive number below each of them, and a greatest rank.
-use Rattle.std.proofs.Common.{◌≡◌, ℕ, zero, suc, ◌+◌, ◌<◌, ◌≤◌, ◌⊎◌, inl, inr, List, [], ◌∷◌, get_or, sym, subst, arith}
+use Rattle.std.proofs.Common.{ℕ, zero, suc, ◌+◌, ◌<◌, ◌≤◌, inl, inr, List, [], ◌∷◌, get_or, sym, subst, arith}
 use Rattle.std.specs.List.{All}
 use Rattle.std.proofs.lemmas.List.Elements.{All-nil, All-cons}
 use Rattle.mdp_math.specs.Rational.{ℚ, ◌≤ℚ◌, ◌<ℚ◌}
 use Rattle.mdp_math.proofs.Whole.{one-pos}
+use Rattle.mdp_math.proofs.Numbers.{last_or}
 use Rattle.mdp_math.proofs.Order.{0ℚ, 1ℚ, ≤ℚ_refl, ≤ℚ_trans, ≤ℚ_of_lt, ≤ℚ_or_gt}
 use Rattle.mdp_math.proofs.Kernel.{All-head, All-tail}
 
@@ -25,9 +26,6 @@ small_for_all P down (x ∷ xs) h =
     let b = small_for_all P down xs (All-tail (λ y. ForSmall (P y)) x xs h) in
     let m = smaller a.0 b.0 a.1 b.1 in
     (m.0, m.1, ≤ℚ_trans m.0 a.0 1ℚ m.2 a.2, All-cons (λ y. P y m.0) x xs (down x m.0 a.0 m.2 a.3) (λ k d l. down (get_or xs k d) m.0 b.0 m.3 (b.3 k d l)))
-
-last_or : (n s : ℕ) → s < suc n → (s ≡ n) ⊎ (s < n)
-last_or n s h = grind arith
 
 -- and for each number below n
 pub small_for_below : (P : ℕ → ℚ → Type 0) → ((s : ℕ) (d e : ℚ) → d ≤ℚ e → P s e → P s d) → (n : ℕ) → ((s : ℕ) → s < n → ForSmall (P s)) → ForSmall (λ e. (s : ℕ) → s < n → P s e)

@@ -4,6 +4,7 @@ pub mod Laws
 pub mod Order
 pub mod Linear
 pub mod Written
+pub mod Numbers
 pub mod Whole
 pub mod Division
 pub mod Sums

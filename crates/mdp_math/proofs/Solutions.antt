@@ -6,6 +6,7 @@ use Rattle.mdp_math.specs.Power.{pow_ℚ}
 use Rattle.mdp_math.specs.Kernel.{weigh}
 use Rattle.mdp_math.proofs.Ring.{◌⊕◌, ◌⊗◌, ⊖, lit}
 use Rattle.mdp_math.proofs.Whole.{of_nat-nonneg}
+use Rattle.mdp_math.proofs.Numbers.{last_or}
 use Rattle.mdp_math.proofs.Order.{0ℚ, ≤ℚ_refl, ≤ℚ_of_lt, ≤ℚ_of_eq, ≤ℚ_or_gt, ≤ℚ_antisymm, <ℚ-≤ℚ_trans, mul-nonneg}
 use Rattle.mdp_math.proofs.Division.{half, half_twice, le_of_bounds}
 use Rattle.mdp_math.proofs.Linear.{linear, linear_lt, combine, equal, at_most, known}
@@ -54,9 +55,6 @@ module _ {A : Type 0} {index : A → ℕ} {entry : A → ℚ} {active : ℕ → 
 -- c is at least 0, and -c is at most each of x 0, .., x (n - 1)
 abbrev pub Floor : (ℕ → ℚ) → ℕ → Type 0
 Floor x n = (c : ℚ) × (0ℚ ≤ℚ c) × ((s : ℕ) → s < n → neg_ℚ c ≤ℚ x s)
-
-last_or : (n s : ℕ) → s < suc n → (s ≡ n) ⊎ (s < n)
-last_or n s h = grind arith
 
 floor_step : (x : ℕ → ℚ) (n : ℕ) → Floor x n → (0ℚ ≤ℚ x n) ⊎ (x n <ℚ 0ℚ) → Floor x (suc n)
 floor_step x n f (inl h) = (
