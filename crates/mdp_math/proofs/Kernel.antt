@@ -1,12 +1,13 @@
 -- The laws of weighing a function by a row.
 use Rattle.std.proofs.Common.{◌≡◌, ℕ, zero, suc, ◌<◌, ◌⊎◌, inl, inr, List, [], ◌∷◌, length, get_or, refl, sym, ◌∙◌, ap, ap₂, subst, arith, pos}
 use Rattle.std.specs.List.{All, Any}
+use Rattle.std.proofs.lemmas.List.Elements.{All-nil, All-cons}
 use Rattle.mdp_math.specs.Rational.{ℚ, ◌+ℚ◌, ◌*ℚ◌, ◌-ℚ◌, neg_ℚ, ◌≤ℚ◌, ◌<ℚ◌}
 use Rattle.mdp_math.specs.Sum.{sum_of}
 use Rattle.mdp_math.specs.Kernel.{weigh}
 use Rattle.mdp_math.proofs.Ring.{◌⊕◌, ◌⊗◌, ⊖, lit, ring}
-use Rattle.mdp_math.proofs.Laws.{rat_ring}
-use Rattle.mdp_math.proofs.Order.{0ℚ, 1ℚ, ≤ℚ_refl, add-le-add_ℚ, mul-le-mul_left_ℚ, mul-nonneg, mul-pos_ℚ, add-nonneg, add-pos-nonneg}
+use Rattle.mdp_math.proofs.Laws.{rat_ring, zero-*ℚ}
+use Rattle.mdp_math.proofs.Order.{≤ℚ_antisymm, ≤ℚ_or_gt, ≤ℚ_of_eq, clash_ℚ, <ℚ_irrefl, lt_or_eq_ℚ, le_of_mul_left_ℚ, sub-pos, 0ℚ, 1ℚ, ≤ℚ_refl, add-le-add_ℚ, mul-le-mul_left_ℚ, mul-nonneg, mul-pos_ℚ, add-nonneg, add-pos-nonneg}
 use Rattle.mdp_math.proofs.Linear.{linear, linear_lt, at_most, known}
 
 -- ---- claims on the elements of a list
@@ -26,6 +27,16 @@ Any-cases P x xs h = any_cases P x xs h.0 h.1 h.2 h.3 h.4
 
 pub Any-none : {A : Type 0} (P : A → Type 0) → Any P [] → ⊥
 Any-none {A = A} P h = let l : h.0 < length {A = A} [] = h.2 in omega arith
+
+-- a m < a u, and a is at least 0
+factor_lt : (a u m : ℚ) → 0ℚ ≤ℚ a → a *ℚ m <ℚ a *ℚ u → m <ℚ u
+factor_lt a u m h k = elim (≤ℚ_or_gt u m) as (λ _. m <ℚ u) [ inl l ↦ absurd (clash_ℚ _ _ k (mul-le-mul_left_ℚ a u m h l)) | inr l ↦ l ]
+
+entry_pos : (a u m : ℚ) → 0ℚ ≤ℚ a → a *ℚ m <ℚ a *ℚ u → 0ℚ <ℚ a
+entry_pos a u m h k = elim (lt_or_eq_ℚ 0ℚ a h) as (λ _. 0ℚ <ℚ a) [
+  | inl l ↦ l
+  | inr e ↦ absurd (<ℚ_irrefl 0ℚ (subst (λ (x : ℚ). x <ℚ 0ℚ) (zero-*ℚ m) (subst (λ (x : ℚ). 0ℚ *ℚ m <ℚ x) (zero-*ℚ u) (subst (λ (b : ℚ). b *ℚ m <ℚ b *ℚ u) (sym e) k))))
+]
 
 module _ {A : Type 0} (index : A → ℕ) (entry : A → ℚ) where
   pub weigh-same : (f g : ℕ → ℚ) (row : List A) → All (λ x. f (index x) ≡ g (index x)) row → weigh index entry f row ≡ weigh index entry g row
@@ -117,4 +128,61 @@ module _ {A : Type 0} (index : A → ℕ) (entry : A → ℚ) where
         | inr q ↦
             linear_lt 3 (λ a u s. lit (pos 0)) (λ a u s. a ⊗ u ⊕ s) (λ a u s. s) (λ a u s. at_most a (lit (pos 0)) u ∷ []) refl (entry x) (f (index x)) (weigh index entry f row)
             (weigh-pos f row tail h q) head (h (index x))
+      ]
+
+  -- ---- bounds on the row's numbers
+
+  pub weigh-le_const : (f : ℕ → ℚ) (m : ℚ) (row : List A) → All (λ x. 0ℚ ≤ℚ entry x) row → All (λ x. f (index x) ≤ℚ m) row → weigh index entry f row ≤ℚ m *ℚ sum_of entry row
+  weigh-le_const f m row p h = subst (λ (u : ℚ). weigh index entry f row ≤ℚ u) (weigh-const m row) (weigh-le_at f (λ v. m) row p h)
+
+  pub weigh-ge_const : (f : ℕ → ℚ) (m : ℚ) (row : List A) → All (λ x. 0ℚ ≤ℚ entry x) row → All (λ x. m ≤ℚ f (index x)) row → m *ℚ sum_of entry row ≤ℚ weigh index entry f row
+  weigh-ge_const f m row p h = subst (λ (u : ℚ). u ≤ℚ weigh index entry f row) (weigh-const m row) (weigh-le_at (λ v. m) f row p h)
+
+  -- where the bound is reached, each number with an entry above 0 reaches it
+  pub weigh-reaches_greatest : (f : ℕ → ℚ) (m : ℚ) (row : List A) → All (λ x. 0ℚ ≤ℚ entry x) row → All (λ x. f (index x) ≤ℚ m) row → m *ℚ sum_of entry row ≤ℚ weigh index entry f row
+      → All (λ x. 0ℚ <ℚ entry x → f (index x) ≡ m) row
+  weigh-reaches_greatest f m [] p h k = All-nil (λ x. 0ℚ <ℚ entry x → f (index x) ≡ m)
+  weigh-reaches_greatest f m (x ∷ row) p h k =
+      let p1 : 0ℚ ≤ℚ entry x = All-head (λ y. 0ℚ ≤ℚ entry y) x row p in
+      let h1 : f (index x) ≤ℚ m = All-head (λ y. f (index y) ≤ℚ m) x row h in
+      let p2 = All-tail (λ y. 0ℚ ≤ℚ entry y) x row p in
+      let h2 = All-tail (λ y. f (index y) ≤ℚ m) x row h in
+      All-cons (λ y. 0ℚ <ℚ entry y → f (index y) ≡ m) x row
+      (λ l. ≤ℚ_antisymm (f (index x)) m h1 (le_of_mul_left_ℚ (entry x) m (f (index x)) l
+        (linear 5 (λ a u m s t. a ⊗ m) (λ a u m s t. a ⊗ u) (λ a u m s t. known (m ⊗ (a ⊕ t)) (a ⊗ u ⊕ s) ∷ known s (m ⊗ t) ∷ []) refl
+        (entry x) (f (index x)) m (weigh index entry f row) (sum_of entry row) k (weigh-le_const f m row p2 h2))))
+      (weigh-reaches_greatest f m row p2 h2
+      (linear 5 (λ a u m s t. m ⊗ t) (λ a u m s t. s) (λ a u m s t. known (m ⊗ (a ⊕ t)) (a ⊗ u ⊕ s) ∷ at_most a u m ∷ []) refl
+      (entry x) (f (index x)) m (weigh index entry f row) (sum_of entry row) k p1 h1))
+
+  pub weigh-reaches_least : (f : ℕ → ℚ) (m : ℚ) (row : List A) → All (λ x. 0ℚ ≤ℚ entry x) row → All (λ x. m ≤ℚ f (index x)) row → weigh index entry f row ≤ℚ m *ℚ sum_of entry row
+      → All (λ x. 0ℚ <ℚ entry x → f (index x) ≡ m) row
+  weigh-reaches_least f m [] p h k = All-nil (λ x. 0ℚ <ℚ entry x → f (index x) ≡ m)
+  weigh-reaches_least f m (x ∷ row) p h k =
+      let p1 : 0ℚ ≤ℚ entry x = All-head (λ y. 0ℚ ≤ℚ entry y) x row p in
+      let h1 : m ≤ℚ f (index x) = All-head (λ y. m ≤ℚ f (index y)) x row h in
+      let p2 = All-tail (λ y. 0ℚ ≤ℚ entry y) x row p in
+      let h2 = All-tail (λ y. m ≤ℚ f (index y)) x row h in
+      All-cons (λ y. 0ℚ <ℚ entry y → f (index y) ≡ m) x row
+      (λ l. sym (≤ℚ_antisymm m (f (index x)) h1 (le_of_mul_left_ℚ (entry x) (f (index x)) m l
+        (linear 5 (λ a u m s t. a ⊗ u) (λ a u m s t. a ⊗ m) (λ a u m s t. known (a ⊗ u ⊕ s) (m ⊗ (a ⊕ t)) ∷ known (m ⊗ t) s ∷ []) refl
+        (entry x) (f (index x)) m (weigh index entry f row) (sum_of entry row) k (weigh-ge_const f m row p2 h2)))))
+      (weigh-reaches_least f m row p2 h2
+      (linear 5 (λ a u m s t. s) (λ a u m s t. m ⊗ t) (λ a u m s t. known (a ⊗ u ⊕ s) (m ⊗ (a ⊕ t)) ∷ at_most a m u ∷ []) refl
+      (entry x) (f (index x)) m (weigh index entry f row) (sum_of entry row) k p1 h1))
+
+  any_later : (P : A → Type 0) (x : A) (row : List A) → Any P row → Any P (x ∷ row)
+  any_later P x row h = (suc h.0, h.1, omega (arith, h.2), h.3, h.4)
+
+  -- a row that weighs more than m times its mass has a number above m, and a row that weighs less has one below
+  pub weigh-some_above : (f : ℕ → ℚ) (m : ℚ) (row : List A) → All (λ x. 0ℚ ≤ℚ entry x) row → m *ℚ sum_of entry row <ℚ weigh index entry f row → Any (λ x. (0ℚ <ℚ entry x) × (m <ℚ f (index x))) row
+  weigh-some_above f m [] p h = absurd (clash_ℚ (m *ℚ 0ℚ) 0ℚ h (≤ℚ_of_eq _ _ (ring rat_ring 1 (λ m. lit (pos 0)) (λ m. m ⊗ lit (pos 0)) refl m)))
+  weigh-some_above f m (x ∷ row) p h =
+      let p1 : 0ℚ ≤ℚ entry x = All-head (λ y. 0ℚ ≤ℚ entry y) x row p in
+      let p2 = All-tail (λ y. 0ℚ ≤ℚ entry y) x row p in
+      elim (≤ℚ_or_gt (entry x *ℚ f (index x)) (entry x *ℚ m)) as (λ _. Any (λ y. (0ℚ <ℚ entry y) × (m <ℚ f (index y))) (x ∷ row)) [
+        | inl l ↦ any_later (λ y. (0ℚ <ℚ entry y) × (m <ℚ f (index y))) x row (weigh-some_above f m row p2
+            (linear_lt 5 (λ a u m s t. m ⊗ t) (λ a u m s t. s) (λ a u m s t. (a ⊗ u ⊕ s) ⊕ ⊖ (m ⊗ (a ⊕ t))) (λ a u m s t. known (a ⊗ u) (a ⊗ m) ∷ []) refl
+            (entry x) (f (index x)) m (weigh index entry f row) (sum_of entry row) (sub-pos _ _ h) l))
+        | inr l ↦ (0, x, omega arith, refl, (entry_pos (entry x) (f (index x)) m p1 l, factor_lt (entry x) (f (index x)) m p1 l))
       ]

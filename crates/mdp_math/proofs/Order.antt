@@ -200,6 +200,12 @@ pub ≤ℚ_or_gt : (x y : ℚ) → (x ≤ℚ y) ⊎ (y <ℚ x)
 pub clash_ℚ : (x y : ℚ) → x <ℚ y → y ≤ℚ x → ⊥
 clash_ℚ x y h k = <ℚ_irrefl x (<ℚ-≤ℚ_trans x y x h k)
 
+pub <ℚ_trans : (x y z : ℚ) → x <ℚ y → y <ℚ z → x <ℚ z
+<ℚ_trans x y z h k = <ℚ-≤ℚ_trans x y z h (≤ℚ_of_lt y z k)
+
+pub lt_or_eq_ℚ : (x y : ℚ) → x ≤ℚ y → (x <ℚ y) ⊎ (x ≡ y)
+lt_or_eq_ℚ x y h = elim (≤ℚ_or_gt y x) as (λ _. (x <ℚ y) ⊎ (x ≡ y)) [ inl k ↦ inr (≤ℚ_antisymm x y h k) | inr k ↦ inl k ]
+
 -- ---- monotone
 
 pub add-le-add_ℚ : (a b c d : ℚ) → a ≤ℚ b → c ≤ℚ d → (a +ℚ c) ≤ℚ (b +ℚ d)

@@ -163,3 +163,11 @@ pub average-ge : {A : Type 0} (xs : List A) (u v : ℕ → A → ℚ) (y : ℚ) 
 average-ge xs u v y p h b =
     subst (λ (s : ℚ). y ≤ℚ s) (sym (average_is xs u v (inv_ℚ (sum_at xs u))))
     (le-div (sum_at xs (λ k x. u k x *ℚ v k x)) (sum_at xs u) y p (≤ℚ_trans _ _ _ (≤ℚ_of_eq _ _ (*ℚ_comm y (sum_at xs u))) (sum_at-weighted_ge xs u v y h b)))
+
+-- an average of numbers that are all y
+pub average-same : {A : Type 0} (xs : List A) (u v : ℕ → A → ℚ) (y : ℚ) → 0ℚ <ℚ sum_at xs u → EachAt xs (λ k x. 0ℚ ≤ℚ u k x) → EachAt xs (λ k x. 0ℚ <ℚ u k x → v k x ≡ y)
+    → sum_at xs (λ k x. (u k x /ℚ sum_at xs u) *ℚ v k x) ≡ y
+average-same xs u v y p h b =
+    ≤ℚ_antisymm _ _
+    (average-le xs u v y p h (EachAt_mono xs (λ k x. 0ℚ <ℚ u k x → v k x ≡ y) (λ k x. 0ℚ <ℚ u k x → v k x ≤ℚ y) (λ k x f l. ≤ℚ_of_eq _ _ (f l)) b))
+    (average-ge xs u v y p h (EachAt_mono xs (λ k x. 0ℚ <ℚ u k x → v k x ≡ y) (λ k x. 0ℚ <ℚ u k x → y ≤ℚ v k x) (λ k x f l. ≤ℚ_of_eq _ _ (sym (f l))) b))
