@@ -1,8 +1,10 @@
 -- Computations and recipes, each checked.
-use Rattle.std.proofs.Common.{◌≡◌, ℕ, zero, suc, [], ◌∷◌, true, false, cond, refl, pos, negsuc}
+use Rattle.std.proofs.Common.{◌≡◌, ℕ, zero, suc, ◌<◌, ◌⊎◌, inl, List, [], ◌∷◌, true, false, cond, eqb, refl, sym, subst, arith, pos, negsuc}
+use Rattle.std.specs.List.{All, Any}
+use Rattle.std.proofs.lemmas.List.Elements.{All-from_recursion}
 use Rattle.mdp_math.specs.Gcd.{gcd, gcd_with_fuel}
 use Rattle.mdp_math.specs.Rational.{ℚ, of_int, ratio, ◌+ℚ◌, ◌*ℚ◌, ◌-ℚ◌, neg_ℚ, inv_ℚ, le_ℚ, lt_ℚ, ◌≤ℚ◌, ◌<ℚ◌}
-use Rattle.mdp_math.specs.Sum.{sum_at}
+use Rattle.mdp_math.specs.Sum.{sum_of, sum_at}
 use Rattle.mdp_math.specs.Power.{pow_ℚ}
 use Rattle.mdp_math.specs.Extremes.{least, greatest}
 use Rattle.mdp_math.specs.Kernel.{weigh}
@@ -11,6 +13,7 @@ use Rattle.mdp_math.proofs.Ring.{◌⊕◌, ◌⊗◌, ⊖, lit, ring}
 use Rattle.mdp_math.proofs.IntegerRing.{int_ring}
 use Rattle.mdp_math.proofs.Laws.{rat_ring, is_self, is_add, is_mul, is_of_int, same_is}
 use Rattle.mdp_math.proofs.Order.{0ℚ, 1ℚ}
+use Rattle.mdp_math.proofs.Weight.{Shrinks, RanksFall, shrinks_by_ranks, weight_by_ranks, rate_by_ranks}
 use Rattle.mdp_math.proofs.Linear.{linear, linear_lt, combine, equal, at_most, known}
 
 -- ---- computations
@@ -86,6 +89,28 @@ two_rows (suc t) (suc v) = ratio (pos 1) 2
 one_step : (pivoted two_rows 1 0 0 ≡ ratio (pos 1) 4) × (pivoted_constant two_rows (λ t. elim t [ zero ↦ of_int (pos 0) | suc n ↦ ratio (pos 1) 2 ]) 1 0 ≡ ratio (pos 1) 2)
 unfolding gcd gcd_with_fuel two_rows ratio ◌+ℚ◌ ◌*ℚ◌ neg_ℚ inv_ℚ of_int
 one_step = (refl, refl)
+
+-- ---- a kernel with a weight: from 0 one half leads back to 0, one half to 1, which is not active
+
+half_row : List (ℕ × ℚ)
+half_row = (0, ratio (pos 1) 2) ∷ (1, ratio (pos 1) 2) ∷ []
+
+ranks : RanksFall {A = ℕ × ℚ} (λ x. x.0) (λ x. x.1) (λ v. eqb v 0) (λ s row. row ≡ half_row) (ratio (pos 1) 2) (λ s. 1) 1
+unfolding gcd gcd_with_fuel half_row ratio of_int le_ℚ lt_ℚ ◌+ℚ◌
+ranks = record {
+  eps_positive = record { lt = tt };
+  eps_at_most_one = record { le = tt };
+  rank_positive = λ s a. omega arith;
+  rank_at_most = λ s a. omega arith;
+  entries = λ s row a e. subst (λ (r : List (ℕ × ℚ)). All (λ x. 0ℚ ≤ℚ x.1) r) (sym e) (All-from_recursion (λ x. 0ℚ ≤ℚ x.1) half_row (record { le = tt }, (record { le = tt }, tt)));
+  mass = λ s row a e. subst (λ (r : List (ℕ × ℚ)). sum_of (λ x. x.1) r ≤ℚ 1ℚ) (sym e) (record { le = tt });
+  falls = λ s row a e.
+      subst (λ (r : List (ℕ × ℚ)). Any (λ x. (ratio (pos 1) 2 ≤ℚ x.1) × ((eqb x.0 0 ≡ false) ⊎ (1 < 1))) r) (sym e) (1, (1, ratio (pos 1) 2), omega arith, refl, (record { le = tt }, inl refl));
+}
+
+weight_and_rate : (Shrinks.weight (shrinks_by_ranks ranks) 0 ≡ ratio (pos 3) 4) × (Shrinks.weight (shrinks_by_ranks ranks) 1 ≡ 0ℚ) × (Shrinks.rate (shrinks_by_ranks ranks) ≡ ratio (pos 3) 4)
+unfolding gcd gcd_with_fuel ratio of_int ◌+ℚ◌ ◌*ℚ◌ neg_ℚ
+weight_and_rate = (weight_by_ranks ranks 0, weight_by_ranks ranks 1, rate_by_ranks ranks)
 
 -- ---- recipes
 

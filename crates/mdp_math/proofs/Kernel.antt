@@ -149,8 +149,8 @@ module _ {A : Type 0} (index : A → ℕ) (entry : A → ℚ) where
       let h2 = All-tail (λ y. f (index y) ≤ℚ m) x row h in
       All-cons (λ y. 0ℚ <ℚ entry y → f (index y) ≡ m) x row
       (λ l. ≤ℚ_antisymm (f (index x)) m h1 (le_of_mul_left_ℚ (entry x) m (f (index x)) l
-        (linear 5 (λ a u m s t. a ⊗ m) (λ a u m s t. a ⊗ u) (λ a u m s t. known (m ⊗ (a ⊕ t)) (a ⊗ u ⊕ s) ∷ known s (m ⊗ t) ∷ []) refl
-        (entry x) (f (index x)) m (weigh index entry f row) (sum_of entry row) k (weigh-le_const f m row p2 h2))))
+      (linear 5 (λ a u m s t. a ⊗ m) (λ a u m s t. a ⊗ u) (λ a u m s t. known (m ⊗ (a ⊕ t)) (a ⊗ u ⊕ s) ∷ known s (m ⊗ t) ∷ []) refl
+      (entry x) (f (index x)) m (weigh index entry f row) (sum_of entry row) k (weigh-le_const f m row p2 h2))))
       (weigh-reaches_greatest f m row p2 h2
       (linear 5 (λ a u m s t. m ⊗ t) (λ a u m s t. s) (λ a u m s t. known (m ⊗ (a ⊕ t)) (a ⊗ u ⊕ s) ∷ at_most a u m ∷ []) refl
       (entry x) (f (index x)) m (weigh index entry f row) (sum_of entry row) k p1 h1))
@@ -165,8 +165,8 @@ module _ {A : Type 0} (index : A → ℕ) (entry : A → ℚ) where
       let h2 = All-tail (λ y. m ≤ℚ f (index y)) x row h in
       All-cons (λ y. 0ℚ <ℚ entry y → f (index y) ≡ m) x row
       (λ l. sym (≤ℚ_antisymm m (f (index x)) h1 (le_of_mul_left_ℚ (entry x) (f (index x)) m l
-        (linear 5 (λ a u m s t. a ⊗ u) (λ a u m s t. a ⊗ m) (λ a u m s t. known (a ⊗ u ⊕ s) (m ⊗ (a ⊕ t)) ∷ known (m ⊗ t) s ∷ []) refl
-        (entry x) (f (index x)) m (weigh index entry f row) (sum_of entry row) k (weigh-ge_const f m row p2 h2)))))
+      (linear 5 (λ a u m s t. a ⊗ u) (λ a u m s t. a ⊗ m) (λ a u m s t. known (a ⊗ u ⊕ s) (m ⊗ (a ⊕ t)) ∷ known (m ⊗ t) s ∷ []) refl
+      (entry x) (f (index x)) m (weigh index entry f row) (sum_of entry row) k (weigh-ge_const f m row p2 h2)))))
       (weigh-reaches_least f m row p2 h2
       (linear 5 (λ a u m s t. s) (λ a u m s t. m ⊗ t) (λ a u m s t. known (a ⊗ u ⊕ s) (m ⊗ (a ⊕ t)) ∷ at_most a m u ∷ []) refl
       (entry x) (f (index x)) m (weigh index entry f row) (sum_of entry row) k p1 h1))

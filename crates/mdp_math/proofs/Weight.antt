@@ -152,3 +152,11 @@ module _ {A : Type 0} {index : A → ℕ} {entry : A → ℚ} {active : ℕ → 
         entries = R.entries;
         shrinks = λ s row a ok. subst (λ (b : Bool). weigh index entry (ranked_weight (eps *ℚ half) active rank) row ≤ℚ (1ℚ -ℚ pow_ℚ (eps *ℚ half) most) *ℚ weight_of (eps *ℚ half) b (rank s)) (sym a) (shrinks_at s row (rank s) refl a ok);
       }
+
+  pub weight_by_ranks : (s : ℕ) → Shrinks.weight shrinks_by_ranks s ≡ weight_of (eps *ℚ half) (active s) (rank s)
+  unfolding shrinks_by_ranks
+  weight_by_ranks s = refl
+
+  pub rate_by_ranks : Shrinks.rate shrinks_by_ranks ≡ 1ℚ -ℚ pow_ℚ (eps *ℚ half) most
+  unfolding shrinks_by_ranks
+  rate_by_ranks = refl
