@@ -1,5 +1,5 @@
 -- Computations and recipes, each checked.
-use Rattle.std.proofs.Common.{◌≡◌, ℕ, zero, suc, ◌<◌, ◌⊎◌, inl, List, [], ◌∷◌, true, false, cond, eqb, refl, sym, subst, arith, pos, negsuc}
+use Rattle.std.proofs.Common.{◌≡◌, ℕ, zero, suc, ◌<◌, ◌⊎◌, inl, List, [], ◌∷◌, true, false, cond, eqb, refl, sym, ◌∙◌, subst, arith, pos, negsuc}
 use Rattle.std.specs.List.{All, Any}
 use Rattle.std.proofs.lemmas.List.Elements.{All-from_recursion}
 use Rattle.mdp_math.specs.Gcd.{gcd, gcd_with_fuel}
@@ -8,12 +8,14 @@ use Rattle.mdp_math.specs.Sum.{sum_of, sum_at}
 use Rattle.mdp_math.specs.Power.{pow_ℚ}
 use Rattle.mdp_math.specs.Extremes.{least, greatest}
 use Rattle.mdp_math.specs.Kernel.{weigh}
-use Rattle.mdp_math.specs.Pivot.{pivoted, pivoted_constant, active_below}
+use Rattle.mdp_math.specs.Pivot.{pivoted, pivoted_constant, active_below, entry_at, solution}
 use Rattle.mdp_math.proofs.Ring.{◌⊕◌, ◌⊗◌, ⊖, lit, ring}
 use Rattle.mdp_math.proofs.IntegerRing.{int_ring}
 use Rattle.mdp_math.proofs.Laws.{rat_ring, is_self, is_add, is_mul, is_of_int, same_is}
 use Rattle.mdp_math.proofs.Order.{0ℚ, 1ℚ}
 use Rattle.mdp_math.proofs.Weight.{Shrinks, RanksFall, shrinks_by_ranks, weight_by_ranks, rate_by_ranks}
+use Rattle.mdp_math.proofs.Solutions.{Solves, one_solution}
+use Rattle.mdp_math.proofs.Elimination.{kernel_solution}
 use Rattle.mdp_math.proofs.Linear.{linear, linear_lt, combine, equal, at_most, known}
 
 -- ---- computations
@@ -111,6 +113,19 @@ ranks = record {
 weight_and_rate : (Shrinks.weight (shrinks_by_ranks ranks) 0 ≡ ratio (pos 3) 4) × (Shrinks.weight (shrinks_by_ranks ranks) 1 ≡ 0ℚ) × (Shrinks.rate (shrinks_by_ranks ranks) ≡ ratio (pos 3) 4)
 unfolding gcd gcd_with_fuel ratio of_int ◌+ℚ◌ ◌*ℚ◌ neg_ℚ
 weight_and_rate = (weight_by_ranks ranks 0, weight_by_ranks ranks 1, rate_by_ranks ranks)
+
+-- x(0) = 1/2 + 1/2 x(0) has the one solution 1
+only_zero : (s : ℕ) → eqb s 0 ≡ true → s < 1
+only_zero s a = grind arith
+
+eliminated : solution (active_below (λ v. eqb v 0) 1) (λ s. entry_at (λ (x : ℕ × ℚ). x.0) (λ x. x.1) half_row) (λ s. ratio (pos 1) 2) 0 ≡ 1ℚ
+unfolding gcd gcd_with_fuel half_row ratio of_int ◌+ℚ◌ ◌*ℚ◌ neg_ℚ inv_ℚ
+eliminated = refl
+
+only_solution : (x : ℕ → ℚ) → Solves {A = ℕ × ℚ} (λ x. x.0) (λ x. x.1) (λ v. eqb v 0) (λ s. half_row) (λ s. ratio (pos 1) 2) x → x 0 ≡ 1ℚ
+only_solution x h =
+    one_solution (shrinks_by_ranks ranks) 1 only_zero (λ s. half_row) (λ s a. refl) (λ s. ratio (pos 1) 2) x _ h (kernel_solution (shrinks_by_ranks ranks) 1 only_zero (λ s. half_row) (λ s a. refl) (λ s. ratio (pos 1) 2)) 0
+    ∙ eliminated
 
 -- ---- recipes
 

@@ -28,6 +28,10 @@ Any-cases P x xs h = any_cases P x xs h.0 h.1 h.2 h.3 h.4
 pub Any-none : {A : Type 0} (P : A → Type 0) → Any P [] → ⊥
 Any-none {A = A} P h = let l : h.0 < length {A = A} [] = h.2 in omega arith
 
+-- what holds of each holds of the one
+pub Any-and : {A : Type 0} (P Q : A → Type 0) (xs : List A) → All P xs → Any Q xs → Any (λ x. P x × Q x) xs
+Any-and P Q xs h any = (any.0, any.1, any.2, any.3, (subst P any.3 (h any.0 any.1 any.2), any.4))
+
 -- a m < a u, and a is at least 0
 factor_lt : (a u m : ℚ) → 0ℚ ≤ℚ a → a *ℚ m <ℚ a *ℚ u → m <ℚ u
 factor_lt a u m h k = elim (≤ℚ_or_gt u m) as (λ _. m <ℚ u) [ inl l ↦ absurd (clash_ℚ _ _ k (mul-le-mul_left_ℚ a u m h l)) | inr l ↦ l ]

@@ -50,6 +50,18 @@ module _ {A : Type 0} {index : A → ℕ} {entry : A → ℚ} {active : ℕ → 
         (p.inside s a) (sym (weigh-scale index entry k x (row_of s)));
   }
 
+  -- where y misses its sum by e, x - y solves the system for e
+  pub Solves-excess : (c e x y : ℕ → ℚ) → Solves index entry active row_of c x → ((s : ℕ) → active s ≡ false → y s ≡ 0ℚ) → ((s : ℕ) → active s ≡ true → c s +ℚ weigh index entry y (row_of s) ≡ y s +ℚ e s)
+      → Solves index entry active row_of e (λ s. x s -ℚ y s)
+  Solves-excess c e x y p out excess = record {
+    outside = λ s a. combine 2 (λ x y. x ⊕ ⊖ y) (λ x y. lit (pos 0)) (λ x y. equal (lit (pos 1)) x (lit (pos 0)) ∷ equal (lit (pos 1)) (lit (pos 0)) y ∷ []) refl (x s) (y s) (p.outside s a) (sym (out s a));
+    inside = λ s a.
+        combine 7 (λ x y c e u v w. x ⊕ ⊖ y) (λ x y c e u v w. e ⊕ w)
+        (λ x y c e u v w. equal (lit (pos 1)) x (c ⊕ u) ∷ equal (lit (pos 1)) (c ⊕ v) (y ⊕ e) ∷ equal (lit (pos 1)) (u ⊕ ⊖ v) w ∷ []) refl
+        (x s) (y s) (c s) (e s) (weigh index entry x (row_of s)) (weigh index entry y (row_of s)) (weigh index entry (λ v. x v -ℚ y v) (row_of s))
+        (p.inside s a) (excess s a) (sym (weigh-sub index entry x y (row_of s)));
+  }
+
 -- ---- bounded below on finitely many numbers
 
 -- c is at least 0, and -c is at most each of x 0, .., x (n - 1)

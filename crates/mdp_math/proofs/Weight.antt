@@ -78,7 +78,7 @@ row_shrinks e d m w p q twice row mass small hq hp =
     (λ e d m w p q. equal p (lit (pos 2) ⊗ d) e ∷ known (w ⊕ e ⊗ p) m ∷ known m (lit (pos 1)) ∷ known q (d ⊗ p) ∷ at_most q (lit (pos 0)) (d ⊗ p) ∷ []) refl
     e d m w p q (sym twice) row mass small hq hp
 
--- d = e / 2
+-- e is twice its half
 half_of : (e : ℚ) → e ≡ of_int (pos 2) *ℚ (e *ℚ half)
 half_of e = combine 2 (λ e h. e) (λ e h. lit (pos 2) ⊗ (e ⊗ h)) (λ e h. equal (⊖ e) (lit (pos 2) ⊗ h) (lit (pos 1)) ∷ []) refl e half half_twice
 
@@ -91,7 +91,7 @@ half_of-le e h = linear 2 (λ e h. e ⊗ h) (λ e h. h) (λ e h. at_most h e (li
 half-le_one : half ≤ℚ 1ℚ
 half-le_one = linear 1 (λ h. h) (λ h. lit (pos 1)) (λ h. equal (lit (pos 1)) (lit (pos 2) ⊗ h) (lit (pos 1)) ∷ known (lit (pos 0)) h ∷ []) refl half half_twice (≤ℚ_of_lt 0ℚ half half_pos)
 
--- 1 - p is at least 1/2, and is at least 0
+-- where p is small, 1 - p is large
 one_minus-half : (d p : ℚ) → d ≤ℚ half → p ≤ℚ d → half ≤ℚ 1ℚ -ℚ p
 one_minus-half d p h k =
     linear 3 (λ h d p. h) (λ h d p. lit (pos 1) ⊕ ⊖ p) (λ h d p. equal (lit (pos 1)) (lit (pos 2) ⊗ h) (lit (pos 1)) ∷ known d h ∷ known p d ∷ []) refl half d p half_twice h k
