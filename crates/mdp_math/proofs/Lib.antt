@@ -2,6 +2,21 @@ pub mod Ring
 pub mod IntegerRing
 pub mod Laws
 pub mod Order
-pub mod Sums
 pub mod Linear
 pub mod Written
+pub mod Numbers
+pub mod Whole
+pub mod Division
+pub mod Sums
+pub mod SumsAt
+pub mod Powers
+pub mod Extremes
+pub mod Floors
+pub mod Kernel
+pub mod Weight
+pub mod Leaving
+pub mod Solutions
+pub mod Pivots
+pub mod Dense
+pub mod Elimination
+mod Examples

@@ -1,4 +1,4 @@
--- Inequalities and equations of ℚ from others, by a certificate: multiples of the hypotheses that add to the claim.
+-- Inequalities and equations of ℚ from others: multiples of the hypotheses that add to the claim.
 use Rattle.std.proofs.Common.{◌≡◌, ℕ, List, [], ◌∷◌, refl, sym, ◌∙◌, ap, pos}
 use Rattle.mdp_math.proofs.Ring.{Expr, ◌⊕◌, ◌⊗◌, ⊖, lit, normal, value, ring_by, ring, Curried, at_variables, ForAll, for_all}
 use Rattle.mdp_math.specs.Rational.{ℚ, ◌+ℚ◌, ◌*ℚ◌, ◌-ℚ◌, ◌≤ℚ◌, ◌<ℚ◌}

@@ -200,6 +200,12 @@ pub ≤ℚ_or_gt : (x y : ℚ) → (x ≤ℚ y) ⊎ (y <ℚ x)
 pub clash_ℚ : (x y : ℚ) → x <ℚ y → y ≤ℚ x → ⊥
 clash_ℚ x y h k = <ℚ_irrefl x (<ℚ-≤ℚ_trans x y x h k)
 
+pub <ℚ_trans : (x y z : ℚ) → x <ℚ y → y <ℚ z → x <ℚ z
+<ℚ_trans x y z h k = <ℚ-≤ℚ_trans x y z h (≤ℚ_of_lt y z k)
+
+pub lt_or_eq_ℚ : (x y : ℚ) → x ≤ℚ y → (x <ℚ y) ⊎ (x ≡ y)
+lt_or_eq_ℚ x y h = elim (≤ℚ_or_gt y x) as (λ _. (x <ℚ y) ⊎ (x ≡ y)) [ inl k ↦ inr (≤ℚ_antisymm x y h k) | inr k ↦ inl k ]
+
 -- ---- monotone
 
 pub add-le-add_ℚ : (a b c d : ℚ) → a ≤ℚ b → c ≤ℚ d → (a +ℚ c) ≤ℚ (b +ℚ d)
@@ -258,7 +264,7 @@ le_of_is x y a c b d p q h = le_of_sign x y (sign_of (y -ℚ x) _ _ (is_add _ _ 
 pub is_le : (x y : ℚ) (a c : ℤ) (b d : ℕ) → Is x a b → Is y c d → x ≤ℚ y → (a *ℤ pos d) ≤ℤ (c *ℤ pos b)
 is_le x y a c b d p q h = across_shape a c b d (sign_to (y -ℚ x) _ _ (is_add _ _ _ _ _ _ q (is_neg _ _ _ p)) (sign_of_le x y h))
 
--- fractions with whole terms, as the trees give them
+-- fractions with whole terms
 pub ratio-le : (m n b d : ℕ) → 0 < b → 0 < d → m * d ≤ n * b → ratio (pos m) b ≤ℚ ratio (pos n) d
 ratio-le m n b d h k e = le_of_is _ _ (pos m) (pos n) b d (is_ratio (pos m) b h) (is_ratio (pos n) d k) (omega (arith, ints))
 

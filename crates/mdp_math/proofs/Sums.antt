@@ -1,11 +1,12 @@
 -- The laws of sums.
-use Rattle.std.proofs.Common.{◌≡◌, List, [], ◌∷◌, ◌++◌, refl, sym, ◌∙◌, ap, ap₂, pos, map}
+use Rattle.std.proofs.Common.{◌≡◌, List, [], ◌∷◌, ◌++◌, refl, sym, ◌∙◌, ap, ap₂, pos, map, length}
 use Rattle.std.specs.List.{All, AllByRecursion}
 use Rattle.std.proofs.lemmas.List.Elements.{recursion_from_All}
-use Rattle.mdp_math.proofs.Ring.{◌⊕◌, ◌⊗◌, lit, ring₁, ring₃, ring₄}
-use Rattle.mdp_math.specs.Rational.{ℚ, ◌+ℚ◌, ◌*ℚ◌, ◌≤ℚ◌}
+use Rattle.mdp_math.proofs.Ring.{◌⊕◌, ◌⊗◌, ⊖, lit, ring, ring₁, ring₃, ring₄}
+use Rattle.mdp_math.specs.Rational.{ℚ, of_int, ◌-ℚ◌, ◌+ℚ◌, ◌*ℚ◌, ◌≤ℚ◌}
 use Rattle.mdp_math.specs.Sum.{sum_of}
 use Rattle.mdp_math.proofs.Laws.{rat_ring, zero-+ℚ, +ℚ_assoc}
+use Rattle.mdp_math.proofs.Whole.{of_nat-suc}
 use Rattle.mdp_math.proofs.Order.{0ℚ, ≤ℚ_refl, add-le-add_ℚ, add-nonneg}
 
 sum-le-by : {A : Type 0} → (f g : A → ℚ) (xs : List A) → AllByRecursion (λ x. f x ≤ℚ g x) xs → sum_of f xs ≤ℚ sum_of g xs
@@ -51,3 +52,31 @@ sum_of-swap f (x ∷ xs) ys = ap (λ (s : ℚ). sum_of (f x) ys +ℚ s) (sum_of-
 pub sum_of-map : {A B : Type 0} → (g : A → B) (f : B → ℚ) (xs : List A) → sum_of f (map g xs) ≡ sum_of (λ x. f (g x)) xs
 sum_of-map g f [] = refl
 sum_of-map g f (x ∷ xs) = ap (λ (s : ℚ). f (g x) +ℚ s) (sum_of-map g f xs)
+
+-- ---- more forms
+
+same_by_each : {A : Type 0} → (f g : A → ℚ) (xs : List A) → AllByRecursion (λ x. f x ≡ g x) xs → sum_of f xs ≡ sum_of g xs
+same_by_each f g [] h = refl
+same_by_each f g (x ∷ xs) h = ap₂ ◌+ℚ◌ h.0 (same_by_each f g xs h.1)
+
+pub sum_of-same_all : {A : Type 0} → (f g : A → ℚ) (xs : List A) → All (λ x. f x ≡ g x) xs → sum_of f xs ≡ sum_of g xs
+sum_of-same_all f g xs h = same_by_each f g xs (recursion_from_All (λ x. f x ≡ g x) xs h)
+
+pub sum_of-sub : {A : Type 0} → (f g : A → ℚ) (xs : List A) → sum_of (λ x. f x -ℚ g x) xs ≡ sum_of f xs -ℚ sum_of g xs
+sum_of-sub f g [] = ring rat_ring 0 (lit (pos 0)) (lit (pos 0) ⊕ ⊖ (lit (pos 0))) refl
+sum_of-sub f g (x ∷ xs) =
+    ap (λ (s : ℚ). (f x -ℚ g x) +ℚ s) (sum_of-sub f g xs)
+    ∙ ring rat_ring 4 (λ a b s t. (a ⊕ ⊖ b) ⊕ (s ⊕ ⊖ t)) (λ a b s t. (a ⊕ s) ⊕ ⊖ (b ⊕ t)) refl (f x) (g x) (sum_of f xs) (sum_of g xs)
+
+pub sum_of-scale_right : {A : Type 0} → (c : ℚ) (f : A → ℚ) (xs : List A) → sum_of (λ x. f x *ℚ c) xs ≡ sum_of f xs *ℚ c
+sum_of-scale_right c f [] = ring rat_ring 1 (λ c. lit (pos 0)) (λ c. lit (pos 0) ⊗ c) refl c
+sum_of-scale_right c f (x ∷ xs) =
+    ap (λ (s : ℚ). f x *ℚ c +ℚ s) (sum_of-scale_right c f xs)
+    ∙ ring rat_ring 3 (λ c a s. a ⊗ c ⊕ s ⊗ c) (λ c a s. (a ⊕ s) ⊗ c) refl c (f x) (sum_of f xs)
+
+pub sum_of-const : {A : Type 0} → (c : ℚ) (xs : List A) → sum_of (λ x. c) xs ≡ of_int (pos (length xs)) *ℚ c
+sum_of-const c [] = ring rat_ring 1 (λ c. lit (pos 0)) (λ c. lit (pos 0) ⊗ c) refl c
+sum_of-const c (x ∷ xs) =
+    ap (λ (s : ℚ). c +ℚ s) (sum_of-const c xs)
+    ∙ ring rat_ring 2 (λ c n. c ⊕ n ⊗ c) (λ c n. (n ⊕ lit (pos 1)) ⊗ c) refl c (of_int (pos (length xs)))
+    ∙ ap (λ (n : ℚ). n *ℚ c) (sym (of_nat-suc (length xs)))

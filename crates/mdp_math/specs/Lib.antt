@@ -2,4 +2,8 @@ pub mod Gcd
 pub mod Integers
 pub mod Rational
 pub mod Sum
+pub mod Power
+pub mod Extremes
+pub mod Kernel
+pub mod Pivot
 pub mod Written
