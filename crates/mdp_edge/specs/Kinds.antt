@@ -1,5 +1,5 @@
 -- The sources and sinks of this crate, as contracts see them.
-use Rattle.std.specs.Prelude.{ℕ, Bool, ◌-◌, List, ◌++◌, length, take, drop}
+use Rattle.std.specs.Prelude.{ℕ, ◌-◌, Option, List, ◌++◌, length, take, drop}
 use Rattle.mdp_edge.specs.Plan.{Plan, after_call, after_fault}
 
 -- a source over a list
@@ -43,7 +43,13 @@ abbrev pub after_failed_call : Stored → Stored
 after_failed_call sink = record sink { plan = after_fault sink.plan }
 
 -- a source outside
-pub record Opened : Type 0 where
-  -- there is something to read from
-  pub is_open : Bool
+pub record Opened (R : Type 0) : Type 0 where
+  -- what it reads from, or nothing where that could not be opened
+  pub inner : Option R
+  pub faults : ℕ
+
+-- a sink outside
+pub record Outside (W : Type 0) : Type 0 where
+  -- what it writes to
+  pub inner : W
   pub faults : ℕ

@@ -1,5 +1,6 @@
 //! Calls of std's readers and writers, made again where they are interrupted.
-ghost use Rattle.std.specs.Prelude.{◌≤◌, length, IfSome};
+ghost use Rattle.std.specs.Prelude.{◌≡◌, ◌≤◌, ◌<◌, length, take, IfSome, IfNone};
+ghost use Rattle.std.specs.Io.KnownBytes.{Appends, Consumes, IsAtEnd, Keeps};
 
 use std::io;
 use std::io::{ErrorKind, Read, Write};
@@ -9,7 +10,10 @@ const MOST_TRIES: u32 = 1000;
 
 /// One read. None where it fails.
 pub fn read_retrying<R: Read>(inner: &mut R, buf: &mut [u8]) -> Option<usize>
-    ensures { IfSome result (λ n. n ≤ length buf.new) }
+    ensures room { IfSome result (λ n. n ≤ length buf.new) }
+    ensures bytes { IfSome result (λ n. Consumes (R.remaining inner.old) (R.remaining inner.new) (take n buf.new)) }
+    ensures end { IfSome result (λ n. n ≡ 0 → 0 < length buf.old → IsAtEnd (R.remaining inner.new)) }
+    ensures kept { IfNone result (Keeps (R.remaining inner.old) (R.remaining inner.new)) }
 {
     for _ in 0..MOST_TRIES {
         match inner.read(buf) {
@@ -25,6 +29,8 @@ pub fn read_retrying<R: Read>(inner: &mut R, buf: &mut [u8]) -> Option<usize>
 pub fn write_retrying<W: Write>(inner: &mut W, piece: &[u8]) -> Option<usize>
     ensures some { IfSome result (λ n. 1 ≤ n) }
     ensures room { IfSome result (λ n. n ≤ length piece.now) }
+    ensures bytes { IfSome result (λ n. Appends (W.contents inner.old) (W.contents inner.new) (take n piece.now)) }
+    ensures kept { IfNone result (Keeps (W.contents inner.old) (W.contents inner.new)) }
 {
     for _ in 0..MOST_TRIES {
         match inner.write(piece) {
@@ -38,7 +44,9 @@ pub fn write_retrying<W: Write>(inner: &mut W, piece: &[u8]) -> Option<usize>
 }
 
 /// One flush. Whether it succeeded.
-pub fn flush_retrying<W: Write>(inner: &mut W) -> bool {
+pub fn flush_retrying<W: Write>(inner: &mut W) -> bool
+    ensures kept { Keeps (W.contents inner.old) (W.contents inner.new) }
+{
     for _ in 0..MOST_TRIES {
         match inner.flush() {
             Ok(()) => return true,

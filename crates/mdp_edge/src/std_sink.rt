@@ -1,4 +1,5 @@
 ghost use Rattle.std.specs.Prelude.{◌≡◌, ◌≤◌, ◌<◌, length, IfOk, OnOk, OnErr, None};
+ghost use Rattle.std.specs.Io.KnownBytes.{Keeps, WriteAppends};
 ghost use Rattle.mdp_edge.specs.Rose.{one_more, last_count};
 
 use crate::retrying::{flush_retrying, write_retrying};
@@ -7,7 +8,7 @@ use crate::source::Failed;
 use std::io::Write;
 use std::marker::Model;
 
-/// Bytes to outside. It tells nothing of them.
+/// Bytes to outside. As a `Sink` it tells nothing of them. A call that is interrupted is made again, at most 1,000 times in all, and a write that takes nothing is a fault.
 #[derive(Drop)]
 pub struct StdSink<W> {
     inner: W,
@@ -15,19 +16,20 @@ pub struct StdSink<W> {
 }
 
 impl<W> Model for StdSink<W> {
-    ghost use Rattle.std.specs.Prelude.{◌≤◌, ℕ};
+    ghost use Rattle.std.specs.Prelude.{◌≤◌};
     ghost use Rattle.mdp_edge.specs.Rose.{last_count};
+    ghost use Rattle.mdp_edge.specs.Kinds.{Outside};
 
-    ghost Value = { ℕ };
+    ghost Value = { Outside W };
 
-    ghost view = { λ s. s.faults };
+    ghost view = { λ s. record { inner = s.inner; faults = s.faults } };
 
     ghost invariant = { λ s. s.faults ≤ last_count };
 }
 
 impl<W: Write> StdSink<W> {
     pub fn new(inner: W) -> StdSink<W>
-        ensures { result ≡ 0 }
+        ensures { result ≡ record { inner = inner; faults = 0 } }
     {
         StdSink { inner, faults: 0 }
     }
@@ -40,7 +42,7 @@ impl<W: Write> Sink for StdSink<W> {
 
     ghost settled = { λ _. None };
 
-    ghost faults = { λ s. s };
+    ghost faults = { λ s. s.faults };
 
     ghost told_together = { λ _. refl };
 
@@ -48,9 +50,13 @@ impl<W: Write> Sink for StdSink<W> {
         requires { 0 < length piece.now }
         ensures some { IfOk result (λ n. 1 ≤ n) }
         ensures room { IfOk result (λ n. n ≤ length piece.now) }
-        ensures ok { OnOk result (self.new ≡ self.old) }
-        ensures failed { OnErr result (self.new ≡ one_more self.old) }
-        ensures counted { self.old ≤ last_count }
+
+        // At a writer of std that tells its bytes, these were appended.
+        ensures bytes { WriteAppends (W.contents self.old.inner) (W.contents self.new.inner) result piece.now }
+
+        ensures ok { OnOk result (self.new.faults ≡ self.old.faults) }
+        ensures failed { OnErr result (self.new.faults ≡ one_more self.old.faults) }
+        ensures counted { self.old.faults ≤ last_count }
     {
         if let Some(count) = write_retrying(&mut self.inner, piece) {
             return Ok(count);
@@ -60,9 +66,10 @@ impl<W: Write> Sink for StdSink<W> {
     }
 
     fn flush(&mut self) -> Result<(), Failed>
-        ensures ok { OnOk result (self.new ≡ self.old) }
-        ensures failed { OnErr result (self.new ≡ one_more self.old) }
-        ensures counted { self.old ≤ last_count }
+        ensures bytes { Keeps (W.contents self.old.inner) (W.contents self.new.inner) }
+        ensures ok { OnOk result (self.new.faults ≡ self.old.faults) }
+        ensures failed { OnErr result (self.new.faults ≡ one_more self.old.faults) }
+        ensures counted { self.old.faults ≤ last_count }
     {
         if flush_retrying(&mut self.inner) {
             return Ok(());

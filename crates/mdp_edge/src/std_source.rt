@@ -1,4 +1,5 @@
-ghost use Rattle.std.specs.Prelude.{◌≡◌, ◌≤◌, ◌<◌, false, length, is_some, IfOk, IsErr, OnOk, OnErr, None};
+ghost use Rattle.std.specs.Prelude.{◌≡◌, ◌≤◌, ◌<◌, length, is_some, IsNone, option_and_then, IfOk, IsErr, OnOk, OnErr, None};
+ghost use Rattle.std.specs.Io.KnownBytes.{ReadConsumes};
 ghost use Rattle.mdp_edge.specs.Rose.{one_more, last_count};
 
 use crate::retrying::read_retrying;
@@ -6,7 +7,7 @@ use crate::source::{Failed, Source};
 use std::io::Read;
 use std::marker::Model;
 
-/// Bytes from outside, or from nowhere where what should have been read could not be opened. It tells nothing of them.
+/// Bytes from outside, or from nowhere where what should have been read could not be opened. As a `Source` it tells nothing of them. A call that is interrupted is made again, at most 1,000 times in all.
 #[derive(Drop)]
 pub struct StdSource<R> {
     inner: Option<R>,
@@ -14,13 +15,13 @@ pub struct StdSource<R> {
 }
 
 impl<R> Model for StdSource<R> {
-    ghost use Rattle.std.specs.Prelude.{◌≤◌, is_some};
+    ghost use Rattle.std.specs.Prelude.{◌≤◌};
     ghost use Rattle.mdp_edge.specs.Rose.{last_count};
     ghost use Rattle.mdp_edge.specs.Kinds.{Opened};
 
-    ghost Value = { Opened };
+    ghost Value = { Opened R };
 
-    ghost view = { λ s. record { is_open = is_some s.inner; faults = s.faults } };
+    ghost view = { λ s. record { inner = s.inner; faults = s.faults } };
 
     ghost invariant = { λ s. s.faults ≤ last_count };
 }
@@ -28,7 +29,7 @@ impl<R> Model for StdSource<R> {
 impl<R: Read> StdSource<R> {
     /// A source of what `inner` reads. Made of None, it fails at each read.
     pub fn new(inner: Option<R>) -> StdSource<R>
-        ensures { result ≡ record { is_open = is_some inner; faults = 0 } }
+        ensures { result ≡ record { inner = inner; faults = 0 } }
     {
         StdSource { inner, faults: 0 }
     }
@@ -42,8 +43,12 @@ impl<R: Read> Source for StdSource<R> {
     fn read(&mut self, buf: &mut [u8]) -> Result<usize, Failed>
         requires { 0 < length buf.old }
         ensures room { IfOk result (λ n. n ≤ length buf.new) }
-        ensures closed { self.old.is_open ≡ false → IsErr result }
-        ensures open { self.new.is_open ≡ self.old.is_open }
+        ensures closed { IsNone self.old.inner → IsErr result }
+        ensures open { is_some self.new.inner ≡ is_some self.old.inner }
+
+        // Of a reader of std that tells its bytes, these are the next ones.
+        ensures bytes { ReadConsumes (option_and_then R.remaining self.old.inner) (option_and_then R.remaining self.new.inner) result buf.new }
+
         ensures ok { OnOk result (self.new.faults ≡ self.old.faults) }
         ensures failed { OnErr result (self.new.faults ≡ one_more self.old.faults) }
         ensures counted { self.old.faults ≤ last_count }
