@@ -1,4 +1,10 @@
+pub mod Bounds
+pub mod Hit
 pub mod Labels
 pub mod Mdp
+pub mod Pay
 pub mod Row
+pub mod Sub
+pub mod Tree
+pub mod Unit
 pub mod Written
