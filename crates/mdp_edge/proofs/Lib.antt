@@ -1,3 +1,3 @@
 mod Examples
-mod Pieces
+pub mod Pieces
 pub mod Rose

@@ -1,4 +1,4 @@
-ghost use Rattle.std.specs.Prelude.{◌≡◌, ◌+◌, ◌-◌, ◌≤◌, ◌<◌, ◌↔◌, ◌⊎◌, ◌++◌, [], min, length, take, vec_len, IsErr, IfOk, OnOk, OnErr, Some};
+ghost use Rattle.std.specs.Prelude.{◌≡◌, ◌≤◌, ◌<◌, ◌↔◌, ◌⊎◌, [], min, length, vec_len, IsErr, IfOk, OnOk, OnErr, Some};
 ghost use Rattle.mdp_edge.specs.Plan.{plan_of, IsCounted, FailsNext};
 ghost use Rattle.mdp_edge.specs.Kinds.{after_write, after_flush, after_failed_call};
 

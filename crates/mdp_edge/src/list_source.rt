@@ -1,4 +1,4 @@
-ghost use Rattle.std.specs.Prelude.{◌≡◌, ◌+◌, ◌≤◌, ◌<◌, ◌↔◌, ◌++◌, min, length, take, drop, vec_len, IsErr, IfOk, OnErr, MatchResult, Some};
+ghost use Rattle.std.specs.Prelude.{◌≡◌, ◌≤◌, ◌<◌, ◌↔◌, ◌++◌, min, length, take, drop, IsErr, IfOk, OnErr, Some};
 ghost use Rattle.mdp_edge.specs.Plan.{plan_of, IsCounted, FailsNext};
 ghost use Rattle.mdp_edge.specs.Kinds.{after_read, after_failed_read};
 

@@ -1,7 +1,7 @@
 ghost use Rattle.std.specs.Prelude.{◌≡◌, ◌<◌, ◌≤◌, length, vec_len, IfOk, OnOk, IsErr, IsErrOf, IfSome};
 ghost use Rattle.std.specs.Io.KnownBytes.{IsAtEnd};
 ghost use Rattle.mdp_edge.specs.Rose.{Rose};
-ghost use Rattle.mdp_edge.specs.Bytes.{Gave, GaveSome};
+ghost use Rattle.mdp_edge.specs.Bytes.{GaveSome};
 
 use crate::source::Source;
 use std::alloc::Global;
@@ -22,7 +22,8 @@ pub enum InError {
 
 /// All the bytes that a source has left, of which there may be at most `limit`. It stops at the first fault, and once more than `limit` bytes came.
 pub fn read_all<S: Source>(alloc: Global, source: &mut S, limit: usize) -> Result<Vec<u8>, InError>
-    ensures all { IfOk result (λ bytes. Gave (S.left source.old) (S.left source.new) bytes.items) }
+    // These are all the bytes that were left.
+    ensures all { IfOk result (λ bytes. IfSome (S.left source.old) (λ left. bytes.items ≡ left)) }
     ensures end { OnOk result (IsAtEnd (S.left source.new)) }
     ensures fits { IfOk result (λ bytes. vec_len bytes ≤ limit) }
     ensures too_long { IfSome (S.left source.old) (λ left. limit < length left → IsErr result) }
