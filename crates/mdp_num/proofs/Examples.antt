@@ -24,73 +24,73 @@ IsRefused text error = numeral_of text ≡ Err error
 
 -- 1e-05 is 1/100000
 small : Gives (codes "1e-05") (pos 1) 100000
-unfolding parts_of
+unfolding numeral_of parts_of
 small = refl
 
 -- 2.50 is 5/2
 places : Gives (codes "2.50") (pos 5) 2
-unfolding parts_of
+unfolding numeral_of parts_of
 places = ap Ok (ratio_same 25 10 5 2 (lit< tt) (lit< tt) refl)
 
 zero_any_exponent : Gives (codes "0e999") (pos 0) 1
-unfolding parts_of
+unfolding numeral_of parts_of
 zero_any_exponent = refl
 
 zeros : Gives (codes "000.000") (pos 0) 1
-unfolding parts_of
+unfolding numeral_of parts_of
 zeros = refl
 
 leading_zeros : Gives (codes "007") (pos 7) 1
-unfolding parts_of
+unfolding numeral_of parts_of
 leading_zeros = refl
 
 greatest : Gives (codes "1e36") (pos (10 ^ 36)) 1
-unfolding parts_of
+unfolding numeral_of parts_of
 greatest = refl
 
 least : Gives (codes "1e-36") (pos 1) (10 ^ 36)
-unfolding parts_of
+unfolding numeral_of parts_of
 least = refl
 
 trailing_zeros : Gives (codes "1000000000000000000000000000000000000.0") (pos limit) 1
-unfolding parts_of
+unfolding numeral_of parts_of
 trailing_zeros = refl
 
 too_great : IsRefused (codes "1e37") Large
-unfolding parts_of
+unfolding numeral_of parts_of
 too_great = refl
 
 too_small : IsRefused (codes "1e-37") Large
-unfolding parts_of
+unfolding numeral_of parts_of
 too_small = refl
 
 one_more : IsRefused (codes "1000000000000000000000000000000000001") Large
-unfolding parts_of
+unfolding numeral_of parts_of
 one_more = refl
 
 zero_den : IsRefused (codes "1/0") ZeroDen
-unfolding parts_of
+unfolding numeral_of parts_of
 zero_den = refl
 
 -- ZeroDen comes before Large
 zero_den_first : IsRefused (codes "1000000000000000000000000000000000001/0") ZeroDen
-unfolding parts_of
+unfolding numeral_of parts_of
 zero_den_first = refl
 
 no_whole : IsRefused (codes ".5") Shape
-unfolding parts_of
+unfolding numeral_of parts_of
 no_whole = refl
 
 no_places : IsRefused (codes "5.") Shape
-unfolding parts_of
+unfolding numeral_of parts_of
 no_places = refl
 
 blank : IsRefused (codes "1 /2") Shape
-unfolding parts_of
+unfolding numeral_of parts_of
 blank = refl
 
 empty : IsRefused [] Shape
-unfolding parts_of
+unfolding numeral_of parts_of
 empty = refl
 
 -- ---- making a fraction

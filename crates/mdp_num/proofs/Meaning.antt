@@ -13,12 +13,13 @@ use Rattle.mdp_math.proofs.Laws.{same_is, is_ratio}
 use Rattle.mdp_math.proofs.Order.{ratio-nonneg}
 use Rattle.mdp_math.proofs.Written.{num-ratio_signed, den-ratio_signed}
 use Rattle.mdp_num.specs.Digits.{number}
-use Rattle.mdp_num.specs.Numeral.{Parts, Decimal, Quotient, limit, zeros_behind, significant, scaled, decimal_terms, quotient_terms, parts_of, terms_of, value_of}
-use Rattle.mdp_num.specs.Meaning.{meaning, decimal_value, IsMeant, IsSplit, HasNoZero, AreWithinLimit, IsWithinLimit}
+use Rattle.mdp_num.specs.Grammar.{Spells}
+use Rattle.mdp_num.specs.Numeral.{Parts, Decimal, Quotient, limit, zeros_behind, significant, scaled, decimal_terms, quotient_terms, parts_of, terms_of, value_of, numeral_of}
+use Rattle.mdp_num.specs.Meaning.{meaning, decimal_value, IsMeant, IsRefusedByShape, IsSplit, HasNoZero, AreWithinLimit, IsWithinLimit}
 use Rattle.mdp_num.specs.Value.{IsNarrow}
 use Rattle.mdp_num.specs.declared.errors.NumeralError.{NumeralError}
-use Rattle.mdp_num.specs.declared.errors.NumeralError.TheVariants.{ZeroDen, Large}
-use Rattle.mdp_num.proofs.Grammar.{complete, chosen, eqb-is, digits-long}
+use Rattle.mdp_num.specs.declared.errors.NumeralError.TheVariants.{Shape, ZeroDen, Large}
+use Rattle.mdp_num.proofs.Grammar.{sound, complete, chosen, eqb-is, digits-long}
 use Rattle.mdp_num.proofs.Plain.{digit-at, digit-bounds}
 use Rattle.mdp_num.proofs.Scale.{ten-le}
 use Rattle.mdp_num.proofs.Zeros.{significant-some, significant-none, zeros-all, zeros-some, number_after-append}
@@ -228,9 +229,68 @@ value-case (Ok p) x e = (p, refl, cc)
 value-case (Err k) x e = absurd cc
 
 pub meant : IsMeant
+unfolding numeral_of
 meant text parts x s e =
     let v = value-case (terms_of (parts_of text)) x e in
     v.2 ∙ terms-meant parts v.0 (ap terms_of (sym (complete text parts s)) ∙ v.1)
+
+-- ---- the shape
+
+-- parts that were read are never refused for their shape
+scaled-no_shape : (d up down : ℕ) → scaled d up down ≡ Err Shape → ⊥
+scaled-no_shape d up down e =
+    elim (chosen (eqb d 0) (Ok (0, 1)) (cond (ltb limit d || ltb (up + 36) down) (Err Large) (cond (ltb up down) (Ok (d, 10 ^ (down - up))) (cond (ltb limit (d * 10 ^ (up - down))) (Err Large) (Ok (d * 10 ^ (up - down), 1))))) (Err Shape) e) [
+      | inl m ↦ absurd cc
+      | inr m ↦ elim (chosen (ltb limit d || ltb (up + 36) down) (Err Large) (cond (ltb up down) (Ok (d, 10 ^ (down - up))) (cond (ltb limit (d * 10 ^ (up - down))) (Err Large) (Ok (d * 10 ^ (up - down), 1)))) (Err Shape) m.1) [
+        | inl k ↦ absurd (other k.1)
+        | inr k ↦ elim (chosen (ltb up down) (Ok (d, 10 ^ (down - up))) (cond (ltb limit (d * 10 ^ (up - down))) (Err Large) (Ok (d * 10 ^ (up - down), 1))) (Err Shape) k.1) [
+          | inl j ↦ absurd cc
+          | inr j ↦ elim (chosen (ltb limit (d * 10 ^ (up - down))) (Err Large) (Ok (d * 10 ^ (up - down), 1)) (Err Shape) j.1) [
+            | inl i ↦ absurd (other i.1)
+            | inr i ↦ absurd cc
+          ]
+        ]
+      ]
+    ]
+  where
+    other : (let a : Result (ℕ × ℕ) NumeralError = Err Large in a) ≡ Err Shape → ⊥
+    other e = cc
+
+quotient-no_shape : (a b : ℕ) → quotient_terms a b ≡ Err Shape → ⊥
+quotient-no_shape a b e =
+    elim (chosen (eqb b 0) (Err ZeroDen) (cond (ltb limit a || ltb limit b) (Err Large) (Ok (a, b))) (Err Shape) e) [
+      | inl m ↦ absurd (other ZeroDen m.1 (λ same. cc))
+      | inr m ↦ elim (chosen (ltb limit a || ltb limit b) (Err Large) (Ok (a, b)) (Err Shape) m.1) [
+        | inl k ↦ absurd (other Large k.1 (λ same. cc))
+        | inr k ↦ absurd cc
+      ]
+    ]
+  where
+    other : (k : NumeralError) → (let a : Result (ℕ × ℕ) NumeralError = Err k in a) ≡ Err Shape → (k ≡ Shape → ⊥) → ⊥
+    other k e h = h cc
+
+parts-no_shape : (parts : Parts) → terms_of (Some parts) ≡ Err Shape → ⊥
+parts-no_shape (Decimal whole places negative exponent) e =
+    let d : ℕ = number (significant (whole ++ places)) in
+    let up : ℕ = cond negative 0 (number exponent) + zeros_behind (whole ++ places) in
+    let down : ℕ = cond negative (number exponent) 0 + length places in
+    scaled-no_shape d up down e
+parts-no_shape (Quotient over under) e = quotient-no_shape (number over) (number under) e
+
+value-refused : (r : Result (ℕ × ℕ) NumeralError) → value_of r ≡ Err Shape → r ≡ Err Shape
+value-refused (Ok p) e = absurd cc
+value-refused (Err k) e = cc
+
+pub refused-by_shape : IsRefusedByShape
+unfolding numeral_of
+refused-by_shape text = (
+  λ e parts s. parts-no_shape parts (ap terms_of (sym (complete text parts s)) ∙ value-refused (terms_of (parts_of text)) e),
+  λ none. by (parts_of text) refl none,
+)
+  where
+    by : (o : Option Parts) → parts_of text ≡ o → ((parts : Parts) → Spells parts text → ⊥) → value_of (terms_of (parts_of text)) ≡ Err Shape
+    by None e none = ap (λ (o : Option Parts). value_of (terms_of o)) e
+    by (Some parts) e none = absurd (none parts (sound text parts e))
 
 -- ---- the terms are within the limit
 

@@ -12,7 +12,7 @@ use Rattle.mdp_math.specs.Written.{signed}
 use Rattle.mdp_math.proofs.Laws.{ratio_self, num-ratio, den-ratio, den-pos, coprime}
 use Rattle.mdp_math.proofs.Written.{abs-signed}
 use Rattle.mdp_num.specs.Digits.{front_digits, behind_digits, is_digits, is_plain, number}
-use Rattle.mdp_num.specs.Canonical.{term_of, above_one, den_behind, lowest_of, unsigned_of, canonical_of, IsReadBack, IsOneSpelling}
+use Rattle.mdp_num.specs.Canonical.{term_of, above_one, den_behind, lowest_of, unsigned_of, canonical_of, IsSpelled, IsReadBack, IsOneSpelling}
 use Rattle.mdp_num.specs.Value.{spelling, IsNarrow}
 use Rattle.mdp_num.proofs.Plain.{decimal-plain, one-plain}
 use Rattle.mdp_num.proofs.Grammar.{cond-some, digit-first, front-is, behind-is}
@@ -172,7 +172,7 @@ unsigned-sound b bytes x e =
       subst IsNarrow l.value (narrow_is b l.num l.den d.some l.lowest t.1 d.narrow),
     )
 
-pub sound : (bytes : List ℕ) (x : ℚ) → canonical_of bytes ≡ Some x → (bytes ≡ spelling x) × IsNarrow x
+pub sound : IsSpelled
 unfolding canonical_of
 sound [] x e = absurd cc
 sound (c ∷ bytes) x e = by (eqb c 45) refl e

@@ -33,7 +33,11 @@ unfoldable pub canonical_of : List ℕ → Option ℚ
 canonical_of [] = None
 canonical_of (c ∷ bytes) = if c == 45 then unsigned_of true bytes else unsigned_of false (c ∷ bytes)
 
--- each spelling is read back
+-- what is read is the spelling of a fraction in width
+abbrev pub IsSpelled : Type 0
+IsSpelled = (bytes : List ℕ) (x : ℚ) → canonical_of bytes ≡ Some x → (bytes ≡ spelling x) × IsNarrow x
+
+-- each such spelling is read back
 abbrev pub IsReadBack : Type 0
 IsReadBack = (x : ℚ) → IsNarrow x → canonical_of (spelling x) ≡ Some x
 

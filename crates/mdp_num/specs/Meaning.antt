@@ -1,7 +1,8 @@
 -- What the parts of a numeral mean.
-use Rattle.std.specs.Prelude.{◌≡◌, ◌≢◌, ℕ, ◌+◌, ◌*◌, ◌%◌, ◌^◌, ◌<◌, ◌≤◌, Bool, true, false, List, ◌++◌, length, pos, unsigned_abs, Ok}
+use Rattle.std.specs.Prelude.{◌≡◌, ◌≢◌, ◌↔◌, ℕ, ◌+◌, ◌*◌, ◌%◌, ◌^◌, ◌<◌, ◌≤◌, Bool, true, false, List, ◌++◌, length, pos, unsigned_abs, Ok, Err}
 use Rattle.mdp_math.specs.Rational.{ℚ, ratio, ◌≤ℚ◌}
 use Rattle.mdp_math.proofs.Order.{0ℚ}
+use Rattle.mdp_num.specs.declared.errors.NumeralError.TheVariants.{Shape}
 use Rattle.mdp_num.specs.Digits.{number}
 use Rattle.mdp_num.specs.Grammar.{IsDigits, Spells}
 use Rattle.mdp_num.specs.Numeral.{Parts, Decimal, Quotient, limit, numeral_of, significant, zeros_behind}
@@ -18,6 +19,10 @@ meaning (Quotient over under) = ratio (pos (number over)) (number under)
 -- a numeral that is read has the value that its parts mean
 abbrev pub IsMeant : Type 0
 IsMeant = (text : List ℕ) (parts : Parts) (x : ℚ) → Spells parts text → numeral_of text ≡ Ok x → x ≡ meaning parts
+
+-- a text is refused for its shape exactly where it spells no parts
+abbrev pub IsRefusedByShape : Type 0
+IsRefusedByShape = (text : List ℕ) → (numeral_of text ≡ Err Shape) ↔ ((parts : Parts) → Spells parts text → ⊥)
 
 -- the number of digits is that of the digits without the zeros at their end, times a power of ten
 abbrev pub IsSplit : Type 0

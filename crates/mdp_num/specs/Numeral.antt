@@ -55,7 +55,8 @@ zeros_behind digits = suffix_len (λ c. c == 48) digits
 abbrev pub significant : List ℕ → List ℕ
 significant digits = take (length digits - zeros_behind digits) digits
 
--- d times 10 ^ up over 10 ^ down: its terms, where they are within the limit
+-- the terms of d times 10 ^ e, for e = up - down: 0 in any case where d is 0; else too large where d is above the limit, where e is below -36,
+-- and where e is at least 0 and d times 10 ^ e is above the limit
 abbrev pub scaled : ℕ → ℕ → ℕ → Result (ℕ × ℕ) NumeralError
 scaled d up down =
     if d == 0 then Ok (0, 1)
@@ -83,5 +84,5 @@ value_of (Ok p) = Ok (ratio (pos p.0) p.1)
 value_of (Err e) = Err e
 
 -- a numeral's value, or why it has none
-abbrev pub numeral_of : List ℕ → Result ℚ NumeralError
+unfoldable pub numeral_of : List ℕ → Result ℚ NumeralError
 numeral_of bytes = value_of (terms_of (parts_of bytes))

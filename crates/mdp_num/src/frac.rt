@@ -12,7 +12,7 @@ use std::cmp::Ordering;
 use std::marker::Model;
 
 /// The greatest magnitude of a term, 2 ^ 127 - 1. Below 0 it leaves out `i128::MIN`.
-pub(crate) const WIDTH: u128 = 170141183460469231731687303715884105727;
+pub(crate) const WIDTH: u128 = 170_141_183_460_469_231_731_687_303_715_884_105_727;
 
 /// An exact fraction in lowest terms, with a denominator of at least 1. Both terms are in width: their magnitude is at most 2 ^ 127 - 1.
 #[derive(Clone, Copy, Debug)]
