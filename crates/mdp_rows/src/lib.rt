@@ -5,10 +5,14 @@ mod error;
 mod labels;
 mod marks;
 mod model;
+mod policy_rows;
 mod row;
 mod rows;
+mod rows_of;
 
 pub use error::RowsError;
 pub use marks::Marks;
 pub use model::Model;
+pub use policy_rows::PolicyRows;
 pub use row::Row;
+pub use rows_of::RowsOf;

@@ -26,6 +26,10 @@ pub record IsRow (n : ℕ) (row : List Entry) : Type 0 where
   pub distribution : IsDistribution row
   pub in_range : All (λ x. x.target < n) row
 
+-- one row per state: each is a distribution over the states
+abbrev pub AreRows : List (List Entry) → Type 0
+AreRows rows = All (IsRow (length rows)) rows
+
 -- what each model keeps: it has a state, each state has a choice, and each row is a distribution over its states
 pub record IsMdp (m : Mdp) : Type 0 where
   pub some : 0 < states_of m
