@@ -15,8 +15,8 @@ both : (a b : Bool) → (a && b) ≡ true → (a ≡ true) × (b ≡ true)
 both true b e = (refl, e)
 both false b e = absurd cc
 
-pub eq_ℚ-decides : (x y : ℚ) → Decides (eq_ℚ x y) (x ≡ y)
-eq_ℚ-decides x y = (
+pub equal_decides : (x y : ℚ) → Decides (eq_ℚ x y) (x ≡ y)
+equal_decides x y = (
   λ e. (let p = both (int_eq x.num y.num) (eqb x.den y.den) e in same_terms x y ((Decides-int_eq x.num y.num).0 p.0) ((Decides-eqb x.den y.den).0 p.1)),
   λ e. ap₂ (λ (a b : Bool). a && b) ((Decides-int_eq x.num y.num).1 (ap (λ (z : ℚ). z.num) e)) ((Decides-eqb x.den y.den).1 (ap (λ (z : ℚ). z.den) e)),
 )
