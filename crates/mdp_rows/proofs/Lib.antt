@@ -4,3 +4,5 @@ mod Names
 mod Pieces
 mod RowFacts
 mod Tally
+mod Denominators
+mod Parts

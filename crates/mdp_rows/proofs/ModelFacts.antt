@@ -1,10 +1,10 @@
 -- What the flat vectors say of the model.
-use Rattle.std.proofs.Common.{◌≡◌, ℕ, zero, suc, ◌+◌, ◌-◌, ◌<◌, ◌≤◌, Bool, true, false, List, [], ◌∷◌, length, map, take, drop, get_or, refl, sym, ap, subst, ◌∙◌, arith}
+use Rattle.std.proofs.Common.{◌≡◌, ℕ, zero, suc, ◌+◌, ◌-◌, ◌<◌, List, [], ◌∷◌, length, map, drop, get_or, refl, sym, ap, ◌∙◌, arith}
 use Rattle.std.specs.List.{All}
-use Rattle.std.proofs.lemmas.List.{get_or-take, get_or-drop, get_or-map, get_or_default, length-map}
+use Rattle.std.proofs.lemmas.List.{get_or-take, get_or-drop, get_or_default, length-map}
 use Rattle.mdp_math.specs.Rational.{ℚ}
 use Rattle.mdp_spec.specs.Mdp.{Entry, Choice, State, Mdp, no_choice, no_state, states_of, state_at, choices_at, row_at}
-use Rattle.mdp_spec.specs.Row.{entries, IsDistribution, IsRow, IsMdp}
+use Rattle.mdp_spec.specs.Row.{entries, IsDistribution, IsMdp}
 use Rattle.mdp_rows.specs.Pieces.{piece, pieces}
 use Rattle.mdp_rows.specs.FlatModel.{mdp_in, IsFlat, states_from, choice_of}
 use Rattle.mdp_rows.proofs.Pieces.{AreNext, next_places, piece_is, length-pieces, piece_len}

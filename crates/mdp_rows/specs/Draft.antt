@@ -1,5 +1,5 @@
 -- A model while it is made, and what each call of a builder makes of it.
-use Rattle.std.specs.Prelude.{◌≡◌, ◌⊎◌, ℕ, ◌+◌, ◌*◌, ◌/◌, ◌<◌, ◌^◌, Bool, true, false, not, ◌||◌, ◌&&◌, List, [], ◌∷◌, ◌++◌, length, sum_by, filter, unsigned_abs, pos, Option, Some, None, Result, Ok, Err, OnOk, IfErr, ◌==◌, nat_lt, nat_le, if◌then◌else◌}
+use Rattle.std.specs.Prelude.{◌≡◌, ◌⊎◌, ℕ, ◌+◌, ◌*◌, ◌/◌, ◌^◌, Bool, not, ◌||◌, ◌&&◌, List, [], ◌∷◌, ◌++◌, length, sum_by, filter, unsigned_abs, pos, Option, Some, None, Result, Ok, Err, OnOk, IfErr, ◌==◌, nat_lt, nat_le, if◌then◌else◌}
 use Rattle.std.specs.List.{list_any, position_or_len}
 use Rattle.std.specs.Str.{bytes_eq}
 use Rattle.mdp_math.specs.Gcd.{gcd}
@@ -7,22 +7,22 @@ use Rattle.mdp_math.specs.Rational.{ℚ, of_int, le_ℚ}
 use Rattle.mdp_math.specs.Sum.{sum_of}
 use Rattle.mdp_spec.specs.Mdp.{Entry, Choice, State, Mdp}
 use Rattle.mdp_rows.specs.FlatModel.{choice_of}
+use Rattle.mdp_rows.specs.Term.{den_limit}
 use Rattle.mdp_rows.specs.declared.error.RowsError.{RowsError}
 use Rattle.mdp_rows.specs.declared.error.RowsError.TheVariants.{RowSum, RowWide, Twice, NoChoice, TooMany, Target, Count, Memory}
 
 -- ---- rows
 
--- the greatest common denominator of a row, and of a term of a value
-abbrev pub den_limit : ℕ
-den_limit = 10 ^ 36
-
 abbrev pub lcm : ℕ → ℕ → ℕ
 lcm a b = a / gcd a b * b
 
--- the least common denominator of the values
+-- the least common denominator of the values of a row, and of d
+abbrev pub den_with : ℕ → List Entry → ℕ
+den_with d [] = d
+den_with d (x ∷ row) = den_with (lcm d x.prob.den) row
+
 abbrev pub row_den : List Entry → ℕ
-row_den [] = 1
-row_den (x ∷ row) = lcm (row_den row) x.prob.den
+row_den row = den_with 1 row
 
 abbrev pub is_one : ℚ → Bool
 is_one x = le_ℚ x (of_int (pos 1)) && le_ℚ (of_int (pos 1)) x
@@ -30,11 +30,15 @@ is_one x = le_ℚ x (of_int (pos 1)) && le_ℚ (of_int (pos 1)) x
 abbrev pub is_zero : ℚ → Bool
 is_zero x = unsigned_abs x.num == 0
 
--- the row that is kept of the values given: those that are 0 go
+-- the entries that are kept: those of value 0 go
+abbrev pub kept : List Entry → List Entry
+kept row = filter (λ x. not (is_zero x.prob)) row
+
+-- what a row of the values given closes as
 abbrev pub closed_row : ℕ → ℕ → List Entry → Result (List Entry) RowsError
 closed_row s c row =
     if nat_lt den_limit (row_den row) then Err (RowWide s c)
-    else (if is_one (sum_of (λ x. x.prob) row) then Ok (filter (λ x. not (is_zero x.prob)) row) else Err (RowSum s c))
+    else (if is_one (sum_of (λ x. x.prob) row) then Ok (kept row) else Err (RowSum s c))
 
 -- with one entry more, targets ascending
 abbrev pub with_entry : Entry → List Entry → List Entry

@@ -5,3 +5,5 @@ pub mod FlatModel
 pub mod FlatRows
 pub mod Labelling
 pub mod Draft
+pub mod Term
+pub mod Given

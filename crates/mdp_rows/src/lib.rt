@@ -1,7 +1,9 @@
 //! The model: rows in flat vectors, lent as slices; one truth value per state.
 #![tactic(auto)]
 
+mod closing;
 mod error;
+mod given;
 mod labels;
 mod marks;
 mod model;
