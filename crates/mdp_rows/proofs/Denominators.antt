@@ -95,7 +95,7 @@ lcm-left a b =
     let ea : a / g * g ≡ a = div-mul_cancel g (gcd_is a b).0 in
     let eb : b / g * g ≡ b = div-mul_cancel g (gcd_is a b).1 in
     let m : b / g * a ≡ a / g * b =
-        ap (λ (n : ℕ). b / gcd a b * n) (sym ea) ∙ regroup (b / g) (a / g) g ∙ ap (λ (n : ℕ). a / gcd a b * n) eb in
+    ap (λ (n : ℕ). b / gcd a b * n) (sym ea) ∙ regroup (b / g) (a / g) g ∙ ap (λ (n : ℕ). a / gcd a b * n) eb in
     subst (λ (n : ℕ). a ∣ n) m (dvd-mul_left a (b / g))
 
 -- ---- the least common denominator of a row
@@ -165,3 +165,12 @@ den_read g z n e f = read_abs z (pos g.value.den) n e f (omega (arith, g.term.de
 
 pub num_read : (g : Given) (z : ℤ) (n : ℕ) → n ≡ unsigned_abs (to_z w128 (of_z w128 z)) → z ≡ g.value.num → n ≡ unsigned_abs g.value.num
 num_read g z n e f = read_abs z g.value.num n e f (omega (arith, g.term.num))
+
+zero_bits : (z : ℤ) → unsigned_abs z < 2 ^ 127 → of_z w128 z ≡ 0 → z ≡ pos 0
+zero_bits z h e = sym (read_back z h) ∙ ap (to_z w128) e ∙ to_z_pos w128 0 (omega arith)
+
+pub zero_num : (g : Given) (z : ℤ) → of_z w128 z ≡ 0 → z ≡ g.value.num → g.value.num ≡ pos 0
+zero_num g z e f = sym f ∙ zero_bits z (let k = ap unsigned_abs f in omega (arith, k, g.term.num)) e
+
+pub nonzero_num : (g : Given) (z : ℤ) → (of_z w128 z ≡ 0 → ⊥) → z ≡ g.value.num → g.value.num ≡ pos 0 → ⊥
+nonzero_num g z h f e = h (ap (of_z w128) (f ∙ e))

@@ -50,7 +50,7 @@ both_true : (a b : Bool) → (a && b) ≡ true → (a ≡ true) × (b ≡ true)
 both_true true b e = (refl, e)
 both_true false b e = absurd cc
 
-one_by : (x : ℚ) → is_one x ≡ true → x ≡ 1ℚ
+pub one_by : (x : ℚ) → is_one x ≡ true → x ≡ 1ℚ
 one_by x e =
     let p = both_true (le_ℚ x 1ℚ) (le_ℚ 1ℚ x) e in
     ≤ℚ_antisymm x 1ℚ (record { le = subst T (sym p.0) tt }) (record { le = subst T (sym p.1) tt })

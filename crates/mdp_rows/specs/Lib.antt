@@ -7,3 +7,6 @@ pub mod Labelling
 pub mod Draft
 pub mod Term
 pub mod Given
+pub mod FlatDraft
+pub mod DraftCode
+pub mod Place

@@ -1,6 +1,7 @@
 //! The model: rows in flat vectors, lent as slices; one truth value per state.
 #![tactic(auto)]
 
+mod builder;
 mod closing;
 mod error;
 mod given;
@@ -10,6 +11,7 @@ mod model;
 mod row;
 mod rows;
 
+pub use builder::Builder;
 pub use error::RowsError;
 pub use marks::Marks;
 pub use model::Model;
