@@ -1,5 +1,5 @@
 -- What the flat vectors say of the labels.
-use Rattle.std.proofs.Common.{◌≡◌, ℕ, ◌-◌, List, length, sym, ap, ◌∙◌, arith}
+use Rattle.std.proofs.Common.{◌≡◌, ◌-◌, length, sym, ap, ◌∙◌}
 use Rattle.mdp_rows.specs.FlatLabels.{labels_in}
 use Rattle.mdp_rows.specs.Labelling.{Labelling}
 use Rattle.mdp_rows.specs.Pieces.{pieces}

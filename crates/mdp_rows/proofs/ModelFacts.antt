@@ -1,19 +1,26 @@
 -- What the flat vectors say of the model.
-use Rattle.std.proofs.Common.{◌≡◌, ℕ, zero, suc, ◌+◌, ◌-◌, ◌<◌, ◌≤◌, Bool, true, false, List, [], ◌∷◌, length, map, take, drop, get_or, refl, sym, ap, subst, ◌∙◌, arith}
+use Rattle.std.proofs.Common.{◌≡◌, ℕ, zero, suc, ◌+◌, ◌-◌, ◌<◌, List, [], ◌∷◌, ◌++◌, length, map, drop, get_or, refl, sym, ap, ◌∙◌, arith}
 use Rattle.std.specs.List.{All}
-use Rattle.std.proofs.lemmas.List.{get_or-take, get_or-drop, get_or-map, get_or_default, length-map}
+use Rattle.std.proofs.lemmas.List.{get_or-take, get_or-drop, get_or_default, length-map}
 use Rattle.mdp_math.specs.Rational.{ℚ}
 use Rattle.mdp_spec.specs.Mdp.{Entry, Choice, State, Mdp, no_choice, no_state, states_of, state_at, choices_at, row_at}
-use Rattle.mdp_spec.specs.Row.{entries, IsDistribution, IsRow, IsMdp}
+use Rattle.mdp_spec.specs.Row.{entries, IsDistribution, IsMdp}
 use Rattle.mdp_rows.specs.Pieces.{piece, pieces}
 use Rattle.mdp_rows.specs.FlatModel.{mdp_in, IsFlat, states_from, choice_of}
 use Rattle.mdp_rows.proofs.Pieces.{AreNext, next_places, piece_is, length-pieces, piece_len}
 use Rattle.mdp_rows.specs.declared.model.Model.TheInside.{Inside}
 
-length-states_from : (rows : List (List (List Entry))) (labels : List (List ℕ)) → length rows ≡ length labels → length (states_from rows labels) ≡ length rows
+pub length-states_from : (rows : List (List (List Entry))) (labels : List (List ℕ)) → length rows ≡ length labels → length (states_from rows labels) ≡ length rows
 length-states_from [] labels e = refl
 length-states_from (r ∷ rows) [] e = absurd (omega arith)
 length-states_from (r ∷ rows) (l ∷ labels) e = let h = length-states_from rows labels (omega arith) in omega (arith, h)
+
+pub states_from-more : (rows : List (List (List Entry))) (labels : List (List ℕ)) (row : List (List Entry)) (label : List ℕ) → length rows ≡ length labels
+    → states_from (rows ++ row ∷ []) (labels ++ label ∷ []) ≡ states_from rows labels ++ record { labels = label; choices = map choice_of row } ∷ []
+states_from-more [] [] row label e = refl
+states_from-more [] (l ∷ labels) row label e = absurd (omega arith)
+states_from-more (r ∷ rows) [] row label e = absurd (omega arith)
+states_from-more (r ∷ rows) (l ∷ labels) row label e = ap (λ (s : List State). record { labels = l; choices = map choice_of r } ∷ s) (states_from-more rows labels row label (omega arith))
 
 get_or-states_from : (rows : List (List (List Entry))) (labels : List (List ℕ)) (s : ℕ) → length rows ≡ length labels
     → get_or (states_from rows labels) s no_state ≡ record { labels = get_or labels s []; choices = map choice_of (get_or rows s []) }
@@ -68,7 +75,7 @@ choices_stand m v s a b ok is h ea eb =
     let next = next_places m.starts.items (length m.rows) s a b ok.places (omega (arith, n)) ea eb in
     let here : piece m.rows a b ≡ rows_of m s = piece_is m.rows m.starts.items (length m.rows) s a b (pieces m.rows m.starts.items) next refl in
     let count : b - a ≡ length (choices_at v s) =
-        sym (piece_len m.rows a b next.within) ∙ ap length here ∙ sym (length-map (rows_of m s) choice_of) ∙ ap length (sym (choices_are m v s ok is)) in
+    sym (piece_len m.rows a b next.within) ∙ ap length here ∙ sym (length-map (rows_of m s) choice_of) ∙ ap length (sym (choices_are m v s ok is)) in
     record {
       next = next;
       some = omega (arith, ok.choice s next.place, next.first, next.second);

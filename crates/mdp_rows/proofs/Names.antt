@@ -1,8 +1,7 @@
 -- Looking up by the bytes of a key is looking up in the list of names.
-use Rattle.std.proofs.Common.{◌≡◌, ℕ, suc, ◌+◌, ◌<◌, Bool, true, false, cond, not, List, [], ◌∷◌, length, map, Option, Some, None, refl, ap, ltb, arith}
+use Rattle.std.proofs.Common.{◌≡◌, ◌+◌, Bool, cond, not, List, [], ◌∷◌, map, refl, ap}
 use Rattle.std.specs.List.{position_or_len, position}
 use Rattle.std.proofs.lemmas.List.{length-map}
-use borrow.Author.Tests.{ltb-true}
 
 module _ {X Y : Type 0} (p : Y → Bool) (f : X → Y) where
   pub position_or_len-map : (xs : List X) → position_or_len p (map f xs) ≡ position_or_len (λ x. p (f x)) xs

@@ -1,6 +1,6 @@
 -- The laws of pieces.
-use Rattle.std.proofs.Common.{◌≡◌, ℕ, zero, suc, ◌+◌, ◌-◌, ◌<◌, ◌≤◌, List, [], ◌∷◌, ◌++◌, length, take, drop, get_or, add-one, subst, refl, sym, ap, ap₂, ◌∙◌, arith, length-append}
-use Rattle.std.proofs.lemmas.List.{take-append-le, drop-append-le, length-drop, length-take-le, get_or_default}
+use Rattle.std.proofs.Common.{◌≡◌, ℕ, zero, suc, ◌+◌, ◌-◌, ◌<◌, ◌≤◌, List, [], ◌∷◌, length, take, drop, get_or, add-one, refl, sym, ap, ◌∙◌, arith}
+use Rattle.std.proofs.lemmas.List.{length-drop, length-take-le, get_or_default}
 use Rattle.mdp_math.specs.Rational.{ℚ}
 use Rattle.mdp_spec.specs.Mdp.{Entry}
 use Rattle.mdp_spec.specs.Row.{entries}

@@ -1,11 +1,11 @@
 -- The first element of a list, and whether there are more.
-use Rattle.std.proofs.Common.{◌≡◌, ℕ, suc, ◌+◌, Bool, true, false, cond, List, [], ◌∷◌, ◌++◌, map, Option, Some, None, refl, sym, ap, ap₂, ◌∙◌, zero-add, append-nil}
+use Rattle.std.proofs.Common.{◌≡◌, ℕ, ◌+◌, Bool, true, false, cond, List, [], ◌∷◌, ◌++◌, map, Option, Some, None, refl, sym, ap, ap₂, ◌∙◌, zero-add, append-nil}
 use Rattle.std.specs.List.{filter, range_with_len}
 use Rattle.std.proofs.lemmas.List.FromFn.{filter_of_map_range_with_len_more}
 use Rattle.std.specs.Option.{is_some}
 use Rattle.std.specs.Prelude.{codes}
 use Rattle.mdp_spec.specs.Mdp.{Mdp, states_of, has_label}
-use Rattle.mdp_spec.specs.Labels.{only, place_of, initial_of, has_at}
+use Rattle.mdp_spec.specs.Labels.{only, place_of, initial_of}
 
 abbrev pub first_of : List ℕ → Option ℕ
 first_of [] = None

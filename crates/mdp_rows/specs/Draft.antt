@@ -1,28 +1,30 @@
 -- A model while it is made, and what each call of a builder makes of it.
-use Rattle.std.specs.Prelude.{◌≡◌, ◌⊎◌, ℕ, ◌+◌, ◌*◌, ◌/◌, ◌<◌, ◌^◌, Bool, true, false, not, ◌||◌, ◌&&◌, List, [], ◌∷◌, ◌++◌, length, sum_by, filter, unsigned_abs, pos, Option, Some, None, Result, Ok, Err, OnOk, IfErr, ◌==◌, nat_lt, nat_le, if◌then◌else◌}
+use Rattle.std.specs.Prelude.{false, ◌≡◌, ◌⊎◌, ℕ, ◌+◌, ◌*◌, ◌/◌, ◌^◌, Bool, not, ◌||◌, ◌&&◌, List, [], ◌∷◌, ◌++◌, length, sum_by, filter, unsigned_abs, pos, Option, Some, None, Result, Ok, Err, OnOk, IfErr, ◌==◌, nat_lt, nat_le, if◌then◌else◌}
 use Rattle.std.specs.List.{list_any, position_or_len}
+use Rattle.std.specs.Option.{is_some}
+use Rattle.std.specs.Result.{MatchResult}
 use Rattle.std.specs.Str.{bytes_eq}
 use Rattle.mdp_math.specs.Gcd.{gcd}
 use Rattle.mdp_math.specs.Rational.{ℚ, of_int, le_ℚ}
 use Rattle.mdp_math.specs.Sum.{sum_of}
 use Rattle.mdp_spec.specs.Mdp.{Entry, Choice, State, Mdp}
 use Rattle.mdp_rows.specs.FlatModel.{choice_of}
+use Rattle.mdp_rows.specs.Term.{den_limit}
 use Rattle.mdp_rows.specs.declared.error.RowsError.{RowsError}
 use Rattle.mdp_rows.specs.declared.error.RowsError.TheVariants.{RowSum, RowWide, Twice, NoChoice, TooMany, Target, Count, Memory}
 
 -- ---- rows
 
--- the greatest common denominator of a row, and of a term of a value
-abbrev pub den_limit : ℕ
-den_limit = 10 ^ 36
-
 abbrev pub lcm : ℕ → ℕ → ℕ
 lcm a b = a / gcd a b * b
 
--- the least common denominator of the values
+-- the least common denominator of the values of a row, and of d
+abbrev pub den_with : ℕ → List Entry → ℕ
+den_with d [] = d
+den_with d (x ∷ row) = den_with (lcm d x.prob.den) row
+
 abbrev pub row_den : List Entry → ℕ
-row_den [] = 1
-row_den (x ∷ row) = lcm (row_den row) x.prob.den
+row_den row = den_with 1 row
 
 abbrev pub is_one : ℚ → Bool
 is_one x = le_ℚ x (of_int (pos 1)) && le_ℚ (of_int (pos 1)) x
@@ -30,11 +32,15 @@ is_one x = le_ℚ x (of_int (pos 1)) && le_ℚ (of_int (pos 1)) x
 abbrev pub is_zero : ℚ → Bool
 is_zero x = unsigned_abs x.num == 0
 
--- the row that is kept of the values given: those that are 0 go
+-- the entries that are kept: those of value 0 go
+abbrev pub kept : List Entry → List Entry
+kept row = filter (λ x. not (is_zero x.prob)) row
+
+-- what a row of the values given closes as
 abbrev pub closed_row : ℕ → ℕ → List Entry → Result (List Entry) RowsError
 closed_row s c row =
     if nat_lt den_limit (row_den row) then Err (RowWide s c)
-    else (if is_one (sum_of (λ x. x.prob) row) then Ok (filter (λ x. not (is_zero x.prob)) row) else Err (RowSum s c))
+    else (if is_one (sum_of (λ x. x.prob) row) then Ok (kept row) else Err (RowSum s c))
 
 -- with one entry more, targets ascending
 abbrev pub with_entry : Entry → List Entry → List Entry
@@ -70,31 +76,74 @@ abbrev pub ◌>>=◌ : {A B : Type 0} → Result A RowsError → (A → Result B
 Ok x >>= f = f x
 Err e >>= f = Err e
 
--- the open row is closed
-abbrev pub row_closed : ℕ → OpenState → Option (List Entry) → Result OpenState RowsError
-row_closed s o None = Ok o
-row_closed s o (Some row) = closed_row s (length o.choices) row >>= λ kept. Ok (record o { choices = o.choices ++ choice_of kept ∷ []; row = None })
+-- how many choices a state that is open has, its open row not counted
+abbrev pub choices_of : Option OpenState → List Choice
+choices_of None = []
+choices_of (Some o) = o.choices
 
--- the open state is closed
-abbrev pub state_closed : ℕ → OpenState → Result State RowsError
-state_closed s o = if length o.choices == 0 then Err (NoChoice s) else Ok (record { labels = o.labels; choices = o.choices })
+abbrev pub closed_choices : Draft → ℕ
+closed_choices d = sum_by (λ x. length x.choices) d.closed
 
-abbrev pub all_closed : Draft → Option OpenState → Result (List State) RowsError
-all_closed d None = Ok d.closed
-all_closed d (Some o) = row_closed (length d.closed) o o.row >>= state_closed (length d.closed) >>= λ x. Ok (d.closed ++ x ∷ [])
+-- the open row of the open state is closed, where there is one
+abbrev pub with_row_closed : Draft → OpenState → Option (List Entry) → Result Draft RowsError
+with_row_closed d o None = Ok d
+with_row_closed d o (Some row) =
+    closed_row (length d.closed) (length o.choices) row
+    >>= λ kept. Ok (record d { state = Some (record o { choices = o.choices ++ choice_of kept ∷ []; row = None }) })
 
--- how many choices were opened
-abbrev pub open_choices : Option OpenState → ℕ
-open_choices None = 0
-open_choices (Some o) = length o.choices + (elim o.row [ None ↦ 0 | Some row ↦ 1 ])
+abbrev pub row_closed_in : Draft → Option OpenState → Result Draft RowsError
+row_closed_in d None = Ok d
+row_closed_in d (Some o) = with_row_closed d o o.row
 
-abbrev pub choice_count : Draft → ℕ
-choice_count d = sum_by (λ x. length x.choices) d.closed + open_choices d.state
+abbrev pub row_closed : Draft → Result Draft RowsError
+row_closed d = row_closed_in d d.state
 
--- ---- the calls, of a draft that wasn't refused
+-- the open state is closed, where there is one
+abbrev pub state_closed_in : Draft → Option OpenState → Result Draft RowsError
+state_closed_in d None = Ok d
+state_closed_in d (Some o) =
+    if length o.choices == 0 then Err (NoChoice (length d.closed))
+    else Ok (record d { closed = d.closed ++ record { labels = o.labels; choices = o.choices } ∷ []; state = None })
+
+abbrev pub state_closed : Draft → Result Draft RowsError
+state_closed d = state_closed_in d d.state
+
+abbrev pub all_closed : Draft → Result Draft RowsError
+all_closed d = row_closed d >>= state_closed
+
+-- ---- the calls, of a draft that wasn't refused. Where nothing is open that a call needs, the draft stays: such calls don't come
+
+abbrev pub state_opened : Draft → Result Draft RowsError
+state_opened d = if length d.closed == d.announced then Err Count else Ok (record d { state = Some new_state })
 
 abbrev pub after_state : Draft → Result Draft RowsError
-after_state d = all_closed d d.state >>= λ states. if length states == d.announced then Err Count else Ok (record d { closed = states; state = Some new_state })
+after_state d = all_closed d >>= state_opened
+
+abbrev pub choice_opened_in : Draft → Option OpenState → Result Draft RowsError
+choice_opened_in d None = Ok d
+choice_opened_in d (Some o) =
+    if nat_lt (2 ^ 22) (closed_choices d + length o.choices + 1) then Err TooMany else Ok (record d { state = Some (record o { row = Some [] }) })
+
+abbrev pub choice_opened : Draft → Result Draft RowsError
+choice_opened d = choice_opened_in d d.state
+
+abbrev pub after_choice : Draft → Result Draft RowsError
+after_choice d = row_closed d >>= choice_opened
+
+abbrev pub with_row_entry : Draft → ℕ → ℚ → OpenState → Option (List Entry) → Result Draft RowsError
+with_row_entry d target value o None = Ok d
+with_row_entry d target value o (Some row) =
+    if nat_le d.announced target then Err Target
+    else (if list_any (λ x. x.target == target) row then Err Twice
+    else (if nat_le (2 ^ 24) d.entries then Err TooMany
+    else Ok (record d { entries = d.entries + 1; state = Some (record o { row = Some (with_entry (record { target = target; prob = value }) row) }) })))
+
+abbrev pub entry_in : Draft → ℕ → ℚ → Option OpenState → Result Draft RowsError
+entry_in d target value None = Ok d
+entry_in d target value (Some o) = with_row_entry d target value o o.row
+
+abbrev pub after_entry : Draft → ℕ → ℚ → Result Draft RowsError
+after_entry d target value = entry_in d target value d.state
 
 -- the place of a label, which a new name gets at the end
 abbrev pub with_name : List (List ℕ) → List ℕ → List (List ℕ)
@@ -104,36 +153,35 @@ abbrev pub with_place : ℕ → List ℕ → List ℕ
 with_place l [] = l ∷ []
 with_place l (k ∷ places) = if l == k then k ∷ places else (if nat_lt l k then l ∷ k ∷ places else k ∷ with_place l places)
 
-abbrev pub labelled : Draft → List ℕ → OpenState → Result Draft RowsError
-labelled d name o =
+abbrev pub label_in : Draft → List ℕ → Option OpenState → Result Draft RowsError
+label_in d name None = Ok d
+label_in d name (Some o) =
     if nat_le 64 o.label_calls || nat_lt 1024 (length (with_name d.labels name)) then Err TooMany
     else Ok (record d { labels = with_name d.labels name; state = Some (record o { labels = with_place (position_or_len (bytes_eq name) d.labels) o.labels; label_calls = o.label_calls + 1 }) })
 
--- nothing is open: such calls don't come
-abbrev pub in_open_state : Draft → Option OpenState → (OpenState → Result Draft RowsError) → Result Draft RowsError
-in_open_state d None f = Ok d
-in_open_state d (Some o) f = f o
-
 abbrev pub after_label : Draft → List ℕ → Result Draft RowsError
-after_label d name = in_open_state d d.state (labelled d name)
+after_label d name = label_in d name d.state
 
-abbrev pub after_choice : Draft → Result Draft RowsError
-after_choice d = in_open_state d d.state (λ o. row_closed (length d.closed) o o.row >>= λ p.
-    if nat_lt (2 ^ 22) (sum_by (λ x. length x.choices) d.closed + length p.choices + 1) then Err TooMany else Ok (record d { state = Some (record p { row = Some [] }) }))
-
-abbrev pub in_open_row : Draft → OpenState → Option (List Entry) → (List Entry → Result Draft RowsError) → Result Draft RowsError
-in_open_row d o None f = Ok d
-in_open_row d o (Some row) f = f row
-
-abbrev pub after_entry : Draft → ℕ → ℚ → Result Draft RowsError
-after_entry d target value = in_open_state d d.state (λ o. in_open_row d o o.row (λ row.
-    if nat_le d.announced target then Err Target
-    else (if list_any (λ x. x.target == target) row then Err Twice
-    else (if nat_le (2 ^ 24) d.entries then Err TooMany
-    else Ok (record d { entries = d.entries + 1; state = Some (record o { row = Some (with_entry (record { target = target; prob = value }) row) }) })))))
+abbrev pub finished : Draft → Result Mdp RowsError
+finished d = if length d.closed == d.announced then Ok (record { names = (45 ∷ []) ∷ []; labels = d.labels; states = d.closed }) else Err Count
 
 abbrev pub after_finish : Draft → Result Mdp RowsError
-after_finish d = all_closed d d.state >>= λ states. if length states == d.announced then Ok (record { names = (45 ∷ []) ∷ []; labels = d.labels; states = states }) else Err Count
+after_finish d = all_closed d >>= finished
+
+-- no row is open
+abbrev pub IsRowClosed : Option OpenState → Type 0
+IsRowClosed None = Unit {0}
+IsRowClosed (Some o) = o.row ≡ None
+
+-- what the calls need, of a builder that hasn't refused
+abbrev pub IsUnrefused : Draft → Type 0
+IsUnrefused d = d.refused ≡ None
+
+abbrev pub has_state : Draft → Bool
+has_state d = is_some d.state
+
+abbrev pub has_row : Draft → Bool
+has_row d = elim d.state [ None ↦ false | Some o ↦ is_some o.row ]
 
 -- ---- what a call answers
 
@@ -141,6 +189,10 @@ after_finish d = all_closed d d.state >>= λ states. if length states == d.annou
 abbrev pub due_after : {A : Type 0} → Draft → Result A RowsError → Option RowsError → Result A RowsError
 due_after d due None = due
 due_after d due (Some e) = Err e
+
+-- what a builder does: its draft follows on Ok; a refusal is the draft's or want of memory
+abbrev pub Follows : {A : Type 0} → Result A RowsError → Result (Unit {0}) RowsError → A → Type 0
+Follows due result new = MatchResult result (λ _. due ≡ Ok new) (λ e. (e ≡ Memory) ⊎ (due ≡ Err e))
 
 pub record IsCall (old new : Draft) (due : Result Draft RowsError) (result : Result (Unit {0}) RowsError) : Type 0 where
   pub ok : OnOk result (due_after old due old.refused ≡ Ok new)

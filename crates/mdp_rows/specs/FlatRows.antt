@@ -1,5 +1,5 @@
 -- The rows that flat vectors hold.
-use Rattle.std.specs.Prelude.{◌≡◌, ℕ, ◌<◌, ◌^◌, List, length, All}
+use Rattle.std.specs.Prelude.{◌≡◌, ◌<◌, ◌^◌, List, length, All}
 use Rattle.mdp_spec.specs.Mdp.{Entry}
 use Rattle.mdp_spec.specs.Row.{entries, IsDistribution}
 use Rattle.mdp_rows.specs.Pieces.{pieces, ArePlaces}

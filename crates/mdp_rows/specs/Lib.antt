@@ -5,3 +5,8 @@ pub mod FlatModel
 pub mod FlatRows
 pub mod Labelling
 pub mod Draft
+pub mod Term
+pub mod Given
+pub mod FlatDraft
+pub mod DraftCode
+pub mod Place

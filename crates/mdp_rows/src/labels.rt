@@ -1,8 +1,9 @@
-ghost use Rattle.std.specs.Prelude.{◌≡◌, ◌<◌, length, slice_index_or, [], ◌==◌};
+ghost use Rattle.std.specs.Prelude.{◌≡◌, ◌+◌, ◌-◌, ◌<◌, ◌^◌, length, sum_by, slice_index_or, [], ◌∷◌, ◌++◌, ◌==◌, IfOk, OnOk, OnErr};
 ghost use Rattle.std.specs.List.{list_any};
 ghost use Rattle.mdp_spec.specs.Labels.{place_of};
 
 use indexmap::IndexSet;
+use std::alloc::{AllocError, Global};
 use std::marker::Model;
 
 /// Label names in order of first sight, and for each state the places of its labels, ascending.
@@ -29,6 +30,30 @@ impl Model for Labels {
 }
 
 impl Labels {
+    /// No names and no states yet.
+    pub fn new(alloc: Global) -> Result<Labels, AllocError>
+        ensures { IfOk result (λ labels. labels ≡ record { names = []; of_state = [] }) }
+    {
+        Ok(Labels {
+            names: IndexSet::new(alloc),
+            starts: vec![in alloc; 0]?,
+            places: Vec::new(alloc),
+        })
+    }
+
+    /// Appends a state with the labels of these places. On `Err` the labels are as before.
+    pub fn push_state(&mut self, places: &[u32]) -> Result<(), AllocError>
+        requires few_states { length self.old.of_state < 2 ^ 32 - 2 }
+        requires few_places { sum_by length self.old.of_state + length places.now < 2 ^ 32 }
+        ensures appended { OnOk result (self.new ≡ record { names = self.old.names; of_state = self.old.of_state ++ places.now ∷ [] }) }
+        ensures unchanged { OnErr result (self.new ≡ self.old) }
+    {
+        self.starts.reserve(1)?;
+        self.places.extend_from_slice(places)?;
+        self.starts.push(self.places.len() as u32)?;
+        Ok(())
+    }
+
     /// How many states have their labels here.
     pub fn states(&self) -> u32
         ensures { result ≡ length self.now.of_state }

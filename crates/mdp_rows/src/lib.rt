@@ -1,7 +1,10 @@
 //! The model: rows in flat vectors, lent as slices; one truth value per state.
 #![tactic(auto)]
 
+mod builder;
+mod closing;
 mod error;
+mod given;
 mod labels;
 mod marks;
 mod model;
@@ -10,6 +13,7 @@ mod row;
 mod rows;
 mod rows_of;
 
+pub use builder::Builder;
 pub use error::RowsError;
 pub use marks::Marks;
 pub use model::Model;

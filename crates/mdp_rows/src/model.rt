@@ -35,6 +35,20 @@ impl std::marker::Model for Model {
 }
 
 impl Model {
+    ghost use Rattle.mdp_rows.specs.FlatModel.{mdp_in, IsFlat};
+
+    // The model that these parts hold.
+    pub(crate) fn from_parts(rows: Rows, starts: Vec<u32>, labels: Labels) -> Model
+        requires { IsFlat (record { rows = rows; starts = starts; labels = labels }) }
+        ensures { result ≡ mdp_in (record { rows = rows; starts = starts; labels = labels }) }
+    {
+        Model {
+            rows,
+            starts,
+            labels,
+        }
+    }
+
     /// What each model keeps.
     pub fn known(&self)
         ensures { IsMdp self.now }

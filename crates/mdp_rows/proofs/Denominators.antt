@@ -1,0 +1,176 @@
+-- Least common denominators.
+use Rattle.std.proofs.Common.{◌≡◌, ◌≢◌, ℕ, ◌+◌, ◌*◌, ◌/◌, ◌<◌, ◌≤◌, ◌^◌, Bool, true, false, if◌then◌else◌, ltb, lt-ltb, le-ltb, List, [], ◌∷◌, length, drop, get_or, add-one, drop-cons, Option, Some, None, ℤ, pos, to_z, of_z, to_z-of_z, unsigned_abs, refl, sym, ap, subst, ◌∙◌, arith, mul-pos}
+use Rattle.std.specs.Int.{◌∣◌}
+use Rattle.std.specs.List.{AllByRecursion}
+use Rattle.mdp_math.specs.Gcd.{gcd, gcd_is, gcd_comm}
+use Rattle.mdp_math.specs.Rational.{ℚ, ratio, quotient-pos}
+use Rattle.mdp_math.specs.Written.{narrow_ℚ}
+use Rattle.mdp_math.proofs.Laws.{den-pos}
+use Rattle.mdp_math.proofs.Written.{narrow_ℚ-kept, num-ratio_signed, den-ratio_signed}
+use Rattle.mdp_spec.specs.Mdp.{Entry}
+use Rattle.mdp_rows.specs.Term.{den_limit}
+use Rattle.mdp_rows.specs.Given.{row_of}
+use Rattle.mdp_rows.specs.declared.given.Given.{Given}
+use Rattle.mdp_rows.specs.Draft.{lcm, den_with, row_den}
+use Rattle.std.proofs.Math.Nat.{div-le_self}
+use Rattle.std.proofs.Math.Seq.{drop-length}
+use borrow.Author.Tests.{ltb-false, ltb-true}
+use Rattle.std.proofs.lemmas.Int.{fits_signed_from_abs, to_z_pos, ints}
+use Rattle.mdp_num.specs.Value.{quotient}
+use mir.Syntax.{w128}
+use native.Mathlib.Nat.{le_of_dvd, dvd_trans, dvd_refl, dvd-mul_left, div-mul_cancel}
+
+-- b/a in lowest terms stands in width, and its denominator is what the least common multiple has beyond b
+pub quotient_den : (a b : ℕ) → 0 < a → ℚ.den (ratio (pos b) a) ≡ a / gcd a b
+quotient_den a b h = den-ratio_signed false b a h ∙ ap (λ (g : ℕ). a / g) (gcd_comm b a)
+
+pub quotient_kept : (a b : ℕ) → 0 < a → a ≤ den_limit → b ≤ den_limit → narrow_ℚ (ratio (pos b) a) ≡ Some (ratio (pos b) a)
+quotient_kept a b h k l =
+    let n : ℚ.num (ratio (pos b) a) ≡ pos (b / gcd b a) = num-ratio_signed false b a h in
+    let d : ℚ.den (ratio (pos b) a) ≡ a / gcd b a = den-ratio_signed false b a h in
+    let nb : b / gcd b a ≤ b = div-le_self b (gcd b a) in
+    let db : a / gcd b a ≤ a = div-le_self a (gcd b a) in
+    narrow_ℚ-kept (ratio (pos b) a) (let e : unsigned_abs (ℚ.num (ratio (pos b) a)) ≡ b / gcd b a = ap unsigned_abs n in omega arith) (omega arith)
+
+-- a multiple, where it is within the limit
+abbrev pub within_limit : ℕ → Option ℕ
+within_limit m = if ltb den_limit m then None else Some m
+
+pub past_limit : (m : ℕ) → den_limit < m → None ≡ within_limit m
+past_limit m h = ap (λ (b : Bool). if b then None else Some m) (sym (lt-ltb den_limit m h))
+
+pub in_limit : (m : ℕ) → m ≤ den_limit → Some m ≡ within_limit m
+in_limit m h = ap (λ (b : Bool). if b then None else Some m) (sym (le-ltb den_limit m h))
+
+some_by : (b : Bool) (m n : ℕ) → (b ≡ false → m ≤ den_limit) → Some n ≡ (if b then None else Some m) → (n ≡ m) × (m ≤ den_limit)
+some_by true m n h e = absurd cc
+some_by false m n h e = (cc, h refl)
+
+none_by : (b : Bool) (m : ℕ) → (b ≡ true → den_limit < m) → None ≡ (if b then None else Some m) → den_limit < m
+none_by true m h e = h refl
+none_by false m h e = absurd cc
+
+pub within-none : (m : ℕ) → None ≡ within_limit m → den_limit < m
+within-none m e = none_by (ltb den_limit m) m (λ t. ltb-true den_limit m t) e
+
+pub within-some : (m n : ℕ) → Some n ≡ within_limit m → (n ≡ m) × (m ≤ den_limit)
+within-some m n e = some_by (ltb den_limit m) m n (λ t. ltb-false den_limit m t) e
+
+-- a number in width comes back from its bits
+pub read_back : (z : ℤ) → unsigned_abs z < 2 ^ 127 → to_z w128 (of_z w128 z) ≡ z
+read_back z h = to_z-of_z (fits_signed_from_abs w128 z h)
+
+pub read_abs : (z w : ℤ) (n : ℕ) → n ≡ unsigned_abs (to_z w128 (of_z w128 z)) → z ≡ w → unsigned_abs w < 2 ^ 127 → n ≡ unsigned_abs w
+read_abs z w n e f h = e ∙ ap (λ (x : ℤ). unsigned_abs (to_z w128 (of_z w128 x))) f ∙ ap unsigned_abs (read_back w h)
+
+-- what the quotient of a by the common divisor is read from
+pub quotient_read : (a b : ℕ) (o : Option ℚ) → 0 < a → a ≤ den_limit → b ≤ den_limit → (to_z w128 a ≢ pos 0 → o ≡ narrow_ℚ (quotient (to_z w128 b) (to_z w128 a))) → o ≡ Some (ratio (pos b) a)
+quotient_read a b o h k l e =
+    let za : to_z w128 a ≡ pos a = to_z_pos w128 a (omega arith) in
+    let zb : to_z w128 b ≡ pos b = to_z_pos w128 b (omega arith) in
+    e (λ z. let x : pos a ≡ pos 0 = sym za ∙ z in absurd (omega (arith, ints)))
+    ∙ ap (λ (z : ℤ). narrow_ℚ (quotient z (to_z w128 a))) zb ∙ ap (λ (z : ℤ). narrow_ℚ (quotient (pos b) z)) za ∙ quotient_kept a b h k l
+
+-- the multiple that is read from the quotient's denominator
+pub multiple_read : (a b q : ℕ) (o : Option ℚ) (x : ℚ) (d : ℤ) → 0 < a → a ≤ den_limit → o ≡ Some (ratio (pos b) a) → Some x ≡ o → d ≡ pos x.den → q ≡ unsigned_abs (to_z w128 (of_z w128 d)) → q * b ≡ lcm a b
+multiple_read a b q o x d h k e f g r =
+    let is : x ≡ ratio (pos b) a = (let s : Some x ≡ Some (ratio (pos b) a) = f ∙ e in cc) in
+    let den : x.den ≡ a / gcd a b = ap (λ (y : ℚ). ℚ.den y) is ∙ quotient_den a b h in
+    ap (λ (n : ℕ). n * b) (read_abs d (pos x.den) q r g (omega (arith, div-le_self a (gcd a b))) ∙ den)
+
+-- ---- the least common multiple is one
+
+regroup : (x y g : ℕ) → x * (y * g) ≡ y * (x * g)
+regroup x y g = omega arith
+
+pub lcm-pos : (a b : ℕ) → 0 < a → 0 < b → 0 < lcm a b
+lcm-pos a b h k = mul-pos (quotient-pos a (gcd a b) h (gcd_is a b).0) k
+
+pub lcm-right : (a b : ℕ) → b ∣ lcm a b
+lcm-right a b = dvd-mul_left b (a / gcd a b)
+
+pub lcm-left : (a b : ℕ) → a ∣ lcm a b
+lcm-left a b =
+    let g : ℕ = gcd a b in
+    let ea : a / g * g ≡ a = div-mul_cancel g (gcd_is a b).0 in
+    let eb : b / g * g ≡ b = div-mul_cancel g (gcd_is a b).1 in
+    let m : b / g * a ≡ a / g * b =
+    ap (λ (n : ℕ). b / gcd a b * n) (sym ea) ∙ regroup (b / g) (a / g) g ∙ ap (λ (n : ℕ). a / gcd a b * n) eb in
+    subst (λ (n : ℕ). a ∣ n) m (dvd-mul_left a (b / g))
+
+-- ---- the least common denominator of a row
+
+pub den_with-divides : (d : ℕ) (row : List Entry) → d ∣ den_with d row
+den_with-divides d [] = dvd_refl d
+den_with-divides d (x ∷ row) = dvd_trans d (lcm-left d x.prob.den) (den_with-divides (lcm d x.prob.den) row)
+
+pub den_with-pos : (d : ℕ) (row : List Entry) → 0 < d → 0 < den_with d row
+den_with-pos d [] h = h
+den_with-pos d (x ∷ row) h = den_with-pos (lcm d x.prob.den) row (lcm-pos d x.prob.den h (den-pos x.prob))
+
+pub den_with-le : (d : ℕ) (row : List Entry) → 0 < d → d ≤ den_with d row
+den_with-le d row h = le_of_dvd (den_with-pos d row h) (den_with-divides d row)
+
+pub den_with-all : (d : ℕ) (row : List Entry) → AllByRecursion (λ x. x.prob.den ∣ den_with d row) row
+den_with-all d [] = tt
+den_with-all d (x ∷ row) =
+    (dvd_trans x.prob.den (lcm-right d x.prob.den) (den_with-divides (lcm d x.prob.den) row), den_with-all (lcm d x.prob.den) row)
+
+-- ---- the denominator so far
+
+pub record IsDenSoFar (row : List Given) (i d : ℕ) : Type 0 where
+  pub some : 0 < d
+  pub limit : d ≤ den_limit
+  pub rest : den_with d (row_of (drop i row)) ≡ row_den (row_of row)
+
+pub den_start : (row : List Given) → IsDenSoFar row 0 1
+den_start row = record { some = omega arith; limit = omega arith; rest = refl }
+
+drop_at : (row : List Given) (i : ℕ) (g : Given) → i < length row → drop i row ≡ get_or row i g ∷ drop (i + 1) row
+drop_at row i g h = rw add-one (drop-cons row i g h)
+
+den_step : (row : List Given) (i d : ℕ) (g : Given) → i < length row → g ≡ get_or row i g → IsDenSoFar row i d → den_with (lcm d g.value.den) (row_of (drop (i + 1) row)) ≡ row_den (row_of row)
+den_step row i d g h e so =
+    ap (λ (x : Given). den_with (lcm d x.value.den) (row_of (drop (i + 1) row))) e
+    ∙ ap (λ (r : List Given). den_with d (row_of r)) (sym (drop_at row i g h)) ∙ so.rest
+
+pub den_more : (row : List Given) (i d m : ℕ) (g : Given) → i < length row → g ≡ get_or row i g → IsDenSoFar row i d → Some m ≡ within_limit (lcm d g.value.den) → IsDenSoFar row (i + 1) m
+den_more row i d m g h e so w =
+    let f = within-some (lcm d g.value.den) m w in
+    record {
+      some = rw f.0 (lcm-pos d g.value.den so.some (den-pos g.value));
+      limit = rw f.0 f.1;
+      rest = rw f.0 (den_step row i d g h e so);
+    }
+
+pub den_wide : (row : List Given) (i d : ℕ) (g : Given) → i < length row → g ≡ get_or row i g → IsDenSoFar row i d → None ≡ within_limit (lcm d g.value.den) → None ≡ within_limit (row_den (row_of row))
+den_wide row i d g h e so w =
+    past_limit (row_den (row_of row))
+    (let k : den_limit < lcm d g.value.den = within-none (lcm d g.value.den) w in
+    let l : lcm d g.value.den ≤ den_with (lcm d g.value.den) (row_of (drop (i + 1) row)) = den_with-le (lcm d g.value.den) (row_of (drop (i + 1) row)) (lcm-pos d g.value.den so.some (den-pos g.value)) in
+    let s = den_step row i d g h e so in omega arith)
+
+drop_all : (row : List Given) (i : ℕ) → i ≡ length row → drop i row ≡ []
+drop_all row i e = rw e (drop-length row)
+
+pub den_end : (row : List Given) (i d : ℕ) → i ≡ length row → IsDenSoFar row i d → Some d ≡ within_limit (row_den (row_of row))
+den_end row i d e so =
+    let s : d ≡ row_den (row_of row) = ap (λ (r : List Given). den_with d (row_of r)) (sym (drop_all row i e)) ∙ so.rest in
+    rw (← s) (in_limit d so.limit)
+
+-- ---- the terms that are read of an entry
+
+pub den_read : (g : Given) (z : ℤ) (n : ℕ) → n ≡ unsigned_abs (to_z w128 (of_z w128 z)) → z ≡ pos g.value.den → n ≡ g.value.den
+den_read g z n e f = read_abs z (pos g.value.den) n e f (omega (arith, g.term.den))
+
+pub num_read : (g : Given) (z : ℤ) (n : ℕ) → n ≡ unsigned_abs (to_z w128 (of_z w128 z)) → z ≡ g.value.num → n ≡ unsigned_abs g.value.num
+num_read g z n e f = read_abs z g.value.num n e f (omega (arith, g.term.num))
+
+zero_bits : (z : ℤ) → unsigned_abs z < 2 ^ 127 → of_z w128 z ≡ 0 → z ≡ pos 0
+zero_bits z h e = sym (read_back z h) ∙ ap (to_z w128) e ∙ to_z_pos w128 0 (omega arith)
+
+pub zero_num : (g : Given) (z : ℤ) → of_z w128 z ≡ 0 → z ≡ g.value.num → g.value.num ≡ pos 0
+zero_num g z e f = sym f ∙ zero_bits z (let k = ap unsigned_abs f in omega (arith, k, g.term.num)) e
+
+pub nonzero_num : (g : Given) (z : ℤ) → (of_z w128 z ≡ 0 → ⊥) → z ≡ g.value.num → g.value.num ≡ pos 0 → ⊥
+nonzero_num g z h f e = h (ap (of_z w128) (f ∙ e))

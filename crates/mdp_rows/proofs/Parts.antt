@@ -1,0 +1,116 @@
+-- A row's values in parts of a common denominator.
+use Rattle.std.proofs.Common.{◌≡◌, ℕ, zero, suc, ◌+◌, ◌*◌, ◌/◌, ◌<◌, Bool, true, false, ◌&&◌, T, eqb, eq-eqb, eqb→eq, zero-mul, List, [], ◌∷◌, length, take, get_or, ℤ, pos, ◌*ℤ◌, ◌≤ℤ◌, unsigned_abs, refl, sym, ap, ap₂, subst, ◌∙◌, arith}
+use Rattle.std.proofs.lemmas.Int.{ints}
+use Rattle.std.specs.Int.{◌∣◌}
+use Rattle.std.specs.List.{AllByRecursion, sum_by}
+use Rattle.std.proofs.lemmas.List.Sums.{sum_by-cons, sum_by_more_le}
+use Rattle.mdp_math.specs.Rational.{ℚ, ratio, of_int, le_ℚ, ◌+ℚ◌}
+use Rattle.mdp_math.specs.Sum.{sum_of}
+use Rattle.mdp_math.proofs.Laws.{is_self, is_ratio, is_of_int, same_is}
+use Rattle.mdp_math.proofs.Order.{0ℚ, 1ℚ, nonneg, is_le, ratio-add_same, ≤ℚ_antisymm, ≤ℚ_of_eq}
+use Rattle.mdp_rows.specs.Draft.{is_one, row_den}
+use Rattle.mdp_rows.specs.Given.{row_of}
+use Rattle.mdp_rows.specs.declared.given.Given.{Given}
+use Rattle.mdp_rows.proofs.Denominators.{den_with-all, den_with-pos}
+use native.Mathlib.Nat.{div-mul_cancel, mul-lt-mul_of_pos_left}
+use Rattle.std.proofs.Math.Seq.{take-length}
+use Rattle.std.proofs.lemmas.Bool.{ne_eqb}
+
+-- how many parts of 1/d a value is, and all of a row
+abbrev pub part : ℕ → Given → ℕ
+part d g = d / g.value.den * unsigned_abs g.value.num
+
+abbrev pub parts : ℕ → List Given → ℕ
+parts d row = sum_by (part d) row
+
+pos-abs : (z : ℤ) → pos 0 ≤ℤ z → z ≡ pos (unsigned_abs z)
+pos-abs z h = omega (arith, ints)
+
+shuffle : (n q e d : ℕ) → q * e ≡ d → n * d ≡ q * n * e
+shuffle n q e d h = ap (λ (k : ℕ). n * k) (sym h) ∙ omega arith
+
+part_is : (d : ℕ) (g : Given) → 0 < d → g.value.den ∣ d → g.value ≡ ratio (pos (part d g)) d
+part_is d g h k =
+    let z : g.value.num ≡ pos (unsigned_abs g.value.num) = pos-abs g.value.num (nonneg g.value g.term.nonneg) in
+    same_is _ _ _ _ _ _ (is_self g.value) (is_ratio (pos (part d g)) d h)
+    (ap (λ (n : ℤ). n *ℤ pos d) z ∙ ap pos (shuffle (unsigned_abs g.value.num) (d / g.value.den) g.value.den d (div-mul_cancel g.value.den k)))
+
+none_is : (d : ℕ) → 0 < d → 0ℚ ≡ ratio (pos 0) d
+none_is d h = same_is _ _ _ _ _ _ (is_of_int (pos 0)) (is_ratio (pos 0) d h) (omega (arith, ints))
+
+pub sum_parts : (d : ℕ) (row : List Given) → 0 < d → AllByRecursion (λ x. x.prob.den ∣ d) (row_of row) → sum_of (λ x. x.prob) (row_of row) ≡ ratio (pos (parts d row)) d
+sum_parts d [] h all = none_is d h
+sum_parts d (g ∷ row) h all =
+    ap₂ ◌+ℚ◌ (part_is d g h all.0) (sum_parts d row h all.1) ∙ ratio-add_same (part d g) (parts d row) d h
+    ∙ ap (λ (n : ℕ). ratio (pos n) d) (sym (sum_by-cons (part d) g row))
+
+-- ---- whether a number of parts is 1
+
+both_true : (a b : Bool) → (a && b) ≡ true → (a ≡ true) × (b ≡ true)
+both_true true b e = (refl, e)
+both_true false b e = absurd cc
+
+pub one_by : (x : ℚ) → is_one x ≡ true → x ≡ 1ℚ
+one_by x e =
+    let p = both_true (le_ℚ x 1ℚ) (le_ℚ 1ℚ x) e in
+    ≤ℚ_antisymm x 1ℚ (record { le = subst T (sym p.0) tt }) (record { le = subst T (sym p.1) tt })
+
+one_is : is_one 1ℚ ≡ true
+unfolding le_ℚ of_int
+one_is = refl
+
+same_bool : (a b : Bool) → (a ≡ true → b ≡ true) → (b ≡ true → a ≡ true) → a ≡ b
+same_bool true b f g = sym (f refl)
+same_bool false true f g = absurd (let e = g refl in cc)
+same_bool false false f g = refl
+
+pub is_one-ratio : (t d : ℕ) → 0 < d → is_one (ratio (pos t) d) ≡ eqb t d
+is_one-ratio t d h =
+    same_bool (is_one (ratio (pos t) d)) (eqb t d)
+    (λ e. (let x : ratio (pos t) d ≡ 1ℚ = one_by (ratio (pos t) d) e in
+    let a = is_le (ratio (pos t) d) 1ℚ (pos t) (pos 1) d 1 (is_ratio (pos t) d h) (is_of_int (pos 1)) (≤ℚ_of_eq _ _ x) in
+    let b = is_le 1ℚ (ratio (pos t) d) (pos 1) (pos t) 1 d (is_of_int (pos 1)) (is_ratio (pos t) d h) (≤ℚ_of_eq _ _ (sym x)) in
+    eq-eqb t d (omega (arith, ints, a, b))))
+    (λ e. (let s : t ≡ d = eqb→eq t d (subst T (sym e) tt) in
+    ap is_one (same_is _ _ _ _ _ _ (is_ratio (pos t) d h) (is_of_int (pos 1)) (omega (arith, ints))) ∙ one_is))
+
+pub is_one-parts : (row : List Given) (d : ℕ) → d ≡ row_den (row_of row) → is_one (sum_of (λ x. x.prob) (row_of row)) ≡ eqb (parts d row) d
+is_one-parts row d e =
+    let h : 0 < d = rw e (den_with-pos 1 (row_of row) (omega arith)) in
+    let all : AllByRecursion (λ x. x.prob.den ∣ d) (row_of row) = rw e (den_with-all 1 (row_of row)) in
+    ap is_one (sum_parts d row h all) ∙ is_one-ratio (parts d row) d h
+
+taken : (row : List Given) (i : ℕ) → i ≡ length row → take i row ≡ row
+taken row i e = rw e (take-length row)
+
+-- a row of more parts than the denominator, so far or in one value, doesn't add to 1
+pub past_one : (row : List Given) (d : ℕ) → d ≡ row_den (row_of row) → d < parts d row → false ≡ is_one (sum_of (λ x. x.prob) (row_of row))
+past_one row d e h = sym (is_one-parts row d e ∙ ne_eqb (parts d row) d (λ s. omega arith))
+
+divides_at : (d : ℕ) (row : List Given) (i : ℕ) (g : Given) → i < length row → AllByRecursion (λ x. x.prob.den ∣ d) (row_of row) → ℚ.den (Given.value (get_or row i g)) ∣ d
+divides_at d [] i g h all = absurd (omega arith)
+divides_at d (x ∷ row) zero g h all = all.0
+divides_at d (x ∷ row) (suc i) g h all = divides_at d row i g (omega arith) all.1
+
+part_past : (d q b n : ℕ) → 0 < d → q * b ≡ d → b < n → d < q * n
+part_past d zero b n h e l = absurd (omega (arith, zero-mul b))
+part_past d (suc q) b n h e l = let m : suc q * b < suc q * n = mul-lt-mul_of_pos_left l (omega arith) in omega arith
+
+pub value_past : (row : List Given) (d i : ℕ) (g : Given) → d ≡ row_den (row_of row) → i < length row → g ≡ get_or row i g → g.value.den < unsigned_abs g.value.num → false ≡ is_one (sum_of (λ x. x.prob) (row_of row))
+value_past row d i g e h is past =
+    let pos : 0 < d = rw e (den_with-pos 1 (row_of row) (omega arith)) in
+    let all : AllByRecursion (λ x. x.prob.den ∣ d) (row_of row) = rw e (den_with-all 1 (row_of row)) in
+    let k : g.value.den ∣ d = rw is (divides_at d row i g h all) in
+    let m : d < part d g = part_past d (d / g.value.den) g.value.den (unsigned_abs g.value.num) pos (div-mul_cancel g.value.den k) past in
+    let s = sum_by_more_le (part d) row i g h in
+    let t : part d g ≡ part d (get_or row i g) = ap (part d) is in
+    past_one row d e (omega (arith, s, t, m))
+
+pub so_far_past : (row : List Given) (d i : ℕ) (g : Given) (n : ℕ) → d ≡ row_den (row_of row) → i < length row → g ≡ get_or row i g → n ≡ parts d (take i row) → d < n + part d g → false ≡ is_one (sum_of (λ x. x.prob) (row_of row))
+so_far_past row d i g n e h is f past =
+    let s = sum_by_more_le (part d) row i g h in
+    let t : part d g ≡ part d (get_or row i g) = ap (part d) is in
+    past_one row d e (omega (arith, s, t))
+
+pub all_parts : (row : List Given) (d i n : ℕ) → d ≡ row_den (row_of row) → i ≡ length row → n ≡ parts d (take i row) → eqb n d ≡ is_one (sum_of (λ x. x.prob) (row_of row))
+all_parts row d i n e s f = ap (λ (k : ℕ). eqb k d) (f ∙ ap (parts d) (taken row i s)) ∙ sym (is_one-parts row d e)

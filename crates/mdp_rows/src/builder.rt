@@ -1,0 +1,309 @@
+ghost use Rattle.std.specs.Prelude.{◌≡◌, ◌⊎◌, ◌<◌, ◌≤◌, ◌^◌, None, Some, IsTrue, IsSome, IfOk, IfErr, OnOk, MatchResult};
+ghost use Rattle.mdp_rows.specs.Draft.{new_draft, row_closed, state_closed, all_closed, state_opened, choice_opened, after_state, after_choice, after_entry, after_finish, finished, due_after, Follows, IsCall, IsUnrefused, has_state, has_row};
+ghost use Rattle.mdp_rows.specs.Term.{IsTerm};
+ghost use Rattle.std.specs.Prelude.{◌==◌};
+ghost use Rattle.std.specs.List.{list_any};
+ghost use Rattle.mdp_spec.specs.Row.{ascends_from};
+ghost use Rattle.mdp_rows.specs.Given.{row_of};
+ghost use Rattle.mdp_rows.specs.Place.{IsPlace};
+ghost use Rattle.mdp_rows.specs.Draft.{IsRowClosed};
+
+use crate::closing::check_row;
+use crate::error::RowsError;
+use crate::given::Given;
+use crate::labels::Labels;
+use crate::rows::Rows;
+use mdp_num::{Frac, Memory};
+use std::alloc::{AllocError, Global};
+use std::marker::Model;
+
+// The most choices, and the most entries.
+const MAX_CHOICES: u32 = 4_194_304;
+
+const MAX_ENTRIES: u32 = 16_777_216;
+
+// What is open.
+#[derive(Clone, Copy)]
+enum Stage {
+    Between,
+    InState,
+    InRow,
+}
+
+/// A model while it is made, state by state, choice by choice, entry by entry. One that has refused answers the same refusal from then on.
+#[derive(Drop)]
+pub struct Builder {
+    announced: u32,
+    rows: Rows,
+    // Where each closed state's rows start, and where the next one's do.
+    starts: Vec<u32>,
+    first_row: u32,
+    labels: Labels,
+    stage: Stage,
+    // The open state's labels, ascending.
+    places: Vec<u32>,
+    label_calls: u32,
+    // The open row, targets ascending.
+    row: Vec<Given>,
+    entries: u32,
+    refused: Option<RowsError>,
+}
+
+// How many entries go before the target: where it stands, or would stand.
+fn place_of_target(row: &[Given], target: u32) -> usize
+    requires { IsTrue (ascends_from 0 (row_of row.now)) }
+    ensures { IsPlace (row_of row.now) target result }
+{
+    row.partition_point(|given| given.target < target)
+}
+
+// Whether the target stands at its place.
+fn has_target(row: &[Given], place: usize, target: u32) -> bool
+    requires { IsPlace (row_of row.now) target place }
+    ensures { result ≡ list_any (λ x. x.target == target) (row_of row.now) }
+{
+    place < row.len() && row[place].target == target
+}
+
+impl Model for Builder {
+    ghost use Rattle.mdp_rows.specs.Draft.{Draft};
+    ghost use Rattle.mdp_rows.specs.DraftCode.{draft_code};
+
+    ghost Value = { Draft };
+
+    ghost coded = { draft_code };
+
+    ghost use Rattle.mdp_rows.specs.FlatDraft.{draft_in, IsDraft};
+
+    ghost view = { draft_in };
+
+    ghost invariant = { IsDraft };
+}
+
+impl Builder {
+    // Closes the open row, where there is one.
+    fn close_row(&mut self) -> Result<(), RowsError>
+        ensures follows { Follows (row_closed self.old) result self.new }
+    {
+        let Stage::InRow = self.stage else {
+            return Ok(());
+        };
+        let state = self.labels.states();
+        let choice = self.rows.len() - self.first_row;
+        check_row(&self.row, state, choice)?;
+        if self.rows.push_row(&self.row).is_err() {
+            return Err(RowsError::Memory);
+        }
+        self.row.clear();
+        self.stage = Stage::InState;
+        Ok(())
+    }
+
+    // Closes the open state, where there is one.
+    fn close_state(&mut self) -> Result<(), RowsError>
+        requires { IsRowClosed self.old.state }
+        ensures follows { Follows (state_closed self.old) result self.new }
+    {
+        let Stage::InState = self.stage else {
+            return Ok(());
+        };
+        let end = self.rows.len();
+        if end == self.first_row {
+            let state = self.labels.states();
+            return Err(RowsError::NoChoice { state });
+        }
+        if self.starts.reserve(1).is_err() || self.labels.push_state(&self.places).is_err() {
+            return Err(RowsError::Memory);
+        }
+        if self.starts.push(end).is_err() {
+            return Err(RowsError::Memory);
+        }
+        self.first_row = end;
+        self.stage = Stage::Between;
+        Ok(())
+    }
+
+    // Opens the next state.
+    fn open_state(&mut self) -> Result<(), RowsError>
+        requires { self.old.state ≡ None }
+        ensures follows { Follows (state_opened self.old) result self.new }
+    {
+        if self.labels.states() == self.announced {
+            return Err(RowsError::Count);
+        }
+        self.places.clear();
+        self.label_calls = 0;
+        self.stage = Stage::InState;
+        Ok(())
+    }
+
+    // Opens the next choice of the open state.
+    fn open_choice(&mut self) -> Result<(), RowsError>
+        requires { IsRowClosed self.old.state }
+        ensures follows { Follows (choice_opened self.old) result self.new }
+    {
+        let Stage::InState = self.stage else {
+            return Ok(());
+        };
+        if self.rows.len() >= MAX_CHOICES {
+            return Err(RowsError::TooMany);
+        }
+        self.stage = Stage::InRow;
+        Ok(())
+    }
+
+    // Adds an entry to the open row.
+    fn add_entry(&mut self, target: u32, value: Frac) -> Result<(), RowsError>
+        requires { IsTerm value }
+        ensures follows { Follows (after_entry self.old target value) result self.new }
+    {
+        let Stage::InRow = self.stage else {
+            return Ok(());
+        };
+        if target >= self.announced {
+            return Err(RowsError::Target);
+        }
+        let place = place_of_target(&self.row, target);
+        if has_target(&self.row, place, target) {
+            return Err(RowsError::Twice);
+        }
+        if self.entries >= MAX_ENTRIES {
+            return Err(RowsError::TooMany);
+        }
+        if self.row.insert(place, Given { target, value }).is_err() {
+            return Err(RowsError::Memory);
+        }
+        self.entries += 1;
+        Ok(())
+    }
+
+    // Keeps the refusal, where the outcome is one.
+    fn keep_refusal(&mut self, outcome: Result<(), RowsError>) -> Result<(), RowsError>
+        ensures same { result ≡ outcome }
+        ensures unchanged { OnOk outcome (self.new ≡ self.old) }
+        ensures refused { IfErr outcome (λ e. self.new.refused ≡ Some e) }
+    {
+        if let Err(refusal) = outcome {
+            self.refused = Some(refusal);
+        }
+        outcome
+    }
+
+    fn try_state(&mut self) -> Result<(), RowsError>
+        ensures follows { Follows (after_state self.old) result self.new }
+    {
+        self.close_row()?;
+        self.close_state()?;
+        self.open_state()
+    }
+
+    fn try_choice(&mut self) -> Result<(), RowsError>
+        ensures follows { Follows (after_choice self.old) result self.new }
+    {
+        self.close_row()?;
+        self.open_choice()
+    }
+
+    fn empty(alloc: Global, states: u32) -> Result<Builder, AllocError>
+        requires some { 1 ≤ states }
+        requires few { states ≤ 2 ^ 20 }
+        ensures { IfOk result (λ builder. builder ≡ new_draft states) }
+    {
+        Ok(Builder {
+            announced: states,
+            rows: Rows::new(alloc)?,
+            starts: vec![in alloc; 0]?,
+            first_row: 0,
+            labels: Labels::new(alloc)?,
+            stage: Stage::Between,
+            places: Vec::new(alloc),
+            label_calls: 0,
+            row: Vec::new(alloc),
+            entries: 0,
+            refused: None,
+        })
+    }
+
+    // The model of the states that are closed.
+    fn into_model(self) -> Result<crate::model::Model, RowsError>
+        requires { self.state ≡ None }
+        ensures { finished self ≡ result }
+    {
+        if self.labels.states() != self.announced {
+            return Err(RowsError::Count);
+        }
+        let Builder {
+            announced: _,
+            rows,
+            starts,
+            first_row: _,
+            labels,
+            stage: _,
+            places: _,
+            label_calls: _,
+            row: _,
+            entries: _,
+            refused: _,
+        } = self;
+        Ok(crate::model::Model::from_parts(rows, starts, labels))
+    }
+
+    /// A builder of a model of so many states, 1 to 2^20.
+    pub fn new(alloc: Global, states: u32) -> Result<Builder, Memory>
+        requires some { 1 ≤ states }
+        requires few { states ≤ 2 ^ 20 }
+        ensures { IfOk result (λ builder. builder ≡ new_draft states) }
+    {
+        Ok(Builder::empty(alloc, states)?)
+    }
+
+    /// Opens the next state, and closes the open row and the open state before.
+    pub fn state(&mut self) -> Result<(), RowsError>
+        ensures call { IsCall self.old self.new (after_state self.old) result }
+    {
+        if let Some(refusal) = self.refused {
+            return Err(refusal);
+        }
+        let outcome = self.try_state();
+        self.keep_refusal(outcome)
+    }
+
+    /// Opens the next choice of the open state, and closes the open row before.
+    pub fn choice(&mut self) -> Result<(), RowsError>
+        requires open { IsUnrefused self.old → IsTrue (has_state self.old) }
+        ensures call { IsCall self.old self.new (after_choice self.old) result }
+    {
+        if let Some(refusal) = self.refused {
+            return Err(refusal);
+        }
+        let outcome = self.try_choice();
+        self.keep_refusal(outcome)
+    }
+
+    /// Adds an entry to the open row. An entry of value 0 counts, and goes when the row closes.
+    pub fn entry(&mut self, target: u32, value: Frac) -> Result<(), RowsError>
+        requires open { IsUnrefused self.old → IsTrue (has_row self.old) }
+        requires term { IsTerm value }
+        ensures call { IsCall self.old self.new (after_entry self.old target value) result }
+    {
+        if let Some(refusal) = self.refused {
+            return Err(refusal);
+        }
+        let outcome = self.add_entry(target, value);
+        self.keep_refusal(outcome)
+    }
+
+    /// Closes what is open, and gives the model.
+    pub fn finish(self) -> Result<crate::model::Model, RowsError>
+        ensures model { IfOk result (λ model. due_after self (after_finish self) self.refused ≡ Ok model) }
+        ensures refusal { IfErr result (λ e. (e ≡ RowsError.Memory) ⊎ (due_after self (after_finish self) self.refused ≡ Err e)) }
+    {
+        let mut builder = self;
+        if let Some(refusal) = builder.refused {
+            return Err(refusal);
+        }
+        builder.close_row()?;
+        builder.close_state()?;
+        builder.into_model()
+    }
+}

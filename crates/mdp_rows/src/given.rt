@@ -1,0 +1,11 @@
+ghost use Rattle.mdp_rows.specs.Term.{IsTerm};
+
+use mdp_num::Frac;
+
+/// An entry of the open row: a target state, and its value, which may be 0.
+#[derive(Clone, Copy)]
+pub struct Given {
+    pub target: u32,
+    pub value: Frac,
+    ghost term: { IsTerm value },
+}
