@@ -9,6 +9,7 @@ mod LabelFacts
 mod LabelsGrow
 mod ModelFacts
 mod Names
+mod OpenFacts
 mod Outcomes
 mod Parts
 mod Pieces

@@ -257,6 +257,28 @@ impl Builder {
         Ok(Builder::empty(alloc, states)?)
     }
 
+    /// Whether a state is open, so that a label or a choice may come.
+    pub fn is_state_open(&self) -> bool
+        ensures { result ≡ has_state self.now }
+    {
+        match self.stage {
+            Stage::Between => false,
+            Stage::InState => true,
+            Stage::InRow => true,
+        }
+    }
+
+    /// Whether a choice is open, so that an entry may come.
+    pub fn is_choice_open(&self) -> bool
+        ensures { result ≡ has_row self.now }
+    {
+        match self.stage {
+            Stage::Between => false,
+            Stage::InState => false,
+            Stage::InRow => true,
+        }
+    }
+
     /// Opens the next state, and closes the open row and the open state before.
     pub fn state(&mut self) -> Result<(), RowsError>
         ensures call { IsCall self.old self.new (after_state self.old) result }
