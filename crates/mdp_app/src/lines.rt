@@ -1,3 +1,4 @@
+use mdp_num::Memory;
 use std::alloc::{AllocError, AllocFailed};
 
 /// Why a text gave nothing.
@@ -17,6 +18,12 @@ impl From<AllocError> for Unread {
 
 impl<T: Drop> From<AllocFailed<T>> for Unread {
     fn from(_error: AllocFailed<T>) -> Unread {
+        Unread::Memory
+    }
+}
+
+impl From<Memory> for Unread {
+    fn from(_error: Memory) -> Unread {
         Unread::Memory
     }
 }

@@ -8,6 +8,8 @@ mod lines;
 mod model_text;
 mod run;
 mod status;
+#[cfg(test)]
+mod tests;
 
 use crate::run::run;
 use crate::status::Status;
