@@ -1,4 +1,6 @@
+mod LabelCalls
 mod LabelFacts
+mod LabelSets
 mod LabelsGrow
 mod ModelFacts
 mod Names
