@@ -1,5 +1,5 @@
 -- Labels of one state more.
-use Rattle.std.proofs.Common.{◌≡◌, ℕ, ◌+◌, ◌-◌, ◌<◌, ◌^◌, List, [], ◌∷◌, ◌++◌, length, sum_by, refl, ap, ap₂, ◌∙◌, arith, length-append}
+use Rattle.std.proofs.Common.{◌≡◌, ◌≤◌, map, sym, ℕ, ◌+◌, ◌-◌, ◌<◌, ◌^◌, List, [], ◌∷◌, ◌++◌, length, sum_by, refl, ap, ap₂, ◌∙◌, arith, length-append}
 use Rattle.std.specs.Global.{Vec}
 use Rattle.mdp_rows.specs.FlatLabels.{labels_in, names_of, AreLabels}
 use Rattle.mdp_rows.specs.Labelling.{Labelling}
@@ -43,3 +43,26 @@ module _ (a : Inside) (starts places : Vec ℕ) (ps : List ℕ) (n : ℕ) (ok : 
     few_places = less;
     few_names = ok.few_names;
   }
+
+-- ---- one name more, from where n has its names
+
+module _ (a n : Inside) (starts : n.starts ≡ a.starts) (places : n.places ≡ a.places) where
+  pub names_grown : (v : Labelling) (to : List (List ℕ)) → labels_in a ≡ v → names_of n.names ≡ to → labels_in n ≡ record { names = to; of_state = v.of_state }
+  unfolding labels_in
+  names_grown v to is e =
+      same_labelling _ _ e (ap₂ (λ (x y : Vec ℕ). pieces x.items y.items) places starts ∙ ap (λ (x : Labelling). x.of_state) is)
+
+  pub are_labels_named : AreLabels a → length n.names.keys ≤ 2 ^ 10 → AreLabels n
+  are_labels_named ok few = record {
+    places = rw (starts, places) ok.places;
+    few_states = rw starts ok.few_states;
+    few_places = rw places ok.few_places;
+    few_names = few;
+  }
+
+pub same_names : (v : Labelling) (to : List (List ℕ)) → to ≡ v.names → v ≡ record { names = to; of_state = v.of_state }
+same_names v to e = same_labelling _ _ (sym e) refl
+
+pub names_unchanged : (a n : Inside) → n.starts ≡ a.starts → n.places ≡ a.places → n.names.keys ≡ a.names.keys → labels_in n ≡ labels_in a
+unfolding labels_in
+names_unchanged a n s p k = same_labelling _ _ (ap (map (λ (v : Vec ℕ). v.items)) k) (ap₂ (λ (x y : Vec ℕ). pieces x.items y.items) p s)

@@ -5,7 +5,9 @@ mod DraftFacts
 mod EntryFacts
 mod Growth
 mod KeptFacts
+mod LabelCalls
 mod LabelFacts
+mod LabelSets
 mod LabelsGrow
 mod ModelFacts
 mod Names

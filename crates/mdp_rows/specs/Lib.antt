@@ -10,3 +10,4 @@ pub mod Given
 pub mod FlatDraft
 pub mod DraftCode
 pub mod Place
+pub mod Name

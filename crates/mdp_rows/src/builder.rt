@@ -2,7 +2,10 @@ ghost use Rattle.std.specs.Prelude.{◌≡◌, ◌⊎◌, ◌<◌, ◌≤◌, �
 ghost use Rattle.mdp_rows.specs.Draft.{new_draft, row_closed, state_closed, all_closed, state_opened, choice_opened, after_state, after_choice, after_entry, after_finish, finished, due_after, Follows, IsCall, IsUnrefused, has_state, has_row};
 ghost use Rattle.mdp_rows.specs.Term.{IsTerm};
 ghost use Rattle.std.specs.Prelude.{◌==◌};
-ghost use Rattle.std.specs.List.{list_any};
+ghost use Rattle.std.specs.List.{list_any, position, position_or_len};
+ghost use Rattle.std.specs.Prelude.{OnErr, nat_le};
+ghost use Rattle.mdp_rows.specs.Name.{IsName};
+ghost use Rattle.mdp_rows.specs.Draft.{after_label, with_place};
 ghost use Rattle.mdp_spec.specs.Row.{ascends_from};
 ghost use Rattle.mdp_rows.specs.Given.{row_of};
 ghost use Rattle.mdp_rows.specs.Place.{IsPlace};
@@ -17,7 +20,11 @@ use mdp_num::{Frac, Memory};
 use std::alloc::{AllocError, Global};
 use std::marker::Model;
 
-// The most choices, and the most entries.
+// The most calls of `label` for one state, label names, choices, and entries.
+const MAX_LABEL_CALLS: u32 = 64;
+
+const MAX_NAMES: u32 = 1024;
+
 const MAX_CHOICES: u32 = 4_194_304;
 
 const MAX_ENTRIES: u32 = 16_777_216;
@@ -63,6 +70,35 @@ fn has_target(row: &[Given], place: usize, target: u32) -> bool
     ensures { result ≡ list_any (λ x. x.target == target) (row_of row.now) }
 {
     place < row.len() && row[place].target == target
+}
+
+fn first_from(places: &[u32], label: u32) -> Option<usize>
+    ensures { result ≡ position (λ k. nat_le label k) places.now }
+{
+    places.iter().position(|place| *place >= label)
+}
+
+// Where a label's place stands among ascending ones, or would stand.
+fn place_of_label(places: &[u32], label: u32) -> usize
+    ensures { result ≡ position_or_len (λ k. nat_le label k) places.now }
+{
+    match first_from(places, label) {
+        Some(place) => place,
+        None => places.len(),
+    }
+}
+
+// Adds the label's place, where it isn't there. On `Err` the places are as before.
+fn add_place(places: &mut Vec<u32>, label: u32) -> Result<(), AllocError>
+    ensures added { OnOk result (places.new.items ≡ with_place label places.old.items) }
+    ensures unchanged { OnErr result (places.new.items ≡ places.old.items) }
+{
+    let place = place_of_label(places, label);
+    if place < places.len() && places[place] == label {
+        return Ok(());
+    }
+    places.insert(place, label)?;
+    Ok(())
 }
 
 impl Model for Builder {
@@ -204,6 +240,28 @@ impl Builder {
         self.open_choice()
     }
 
+    fn try_label(&mut self, name: &[u8]) -> Result<(), RowsError>
+        ensures follows { Follows (after_label self.old name.now) result self.new }
+    {
+        if let Stage::Between = self.stage {
+            return Ok(());
+        }
+        if self.label_calls >= MAX_LABEL_CALLS {
+            return Err(RowsError::TooMany);
+        }
+        if self.labels.names_with(name) > MAX_NAMES {
+            return Err(RowsError::TooMany);
+        }
+        let Ok(label) = self.labels.see_name(name) else {
+            return Err(RowsError::Memory);
+        };
+        if add_place(&mut self.places, label).is_err() {
+            return Err(RowsError::Memory);
+        }
+        self.label_calls += 1;
+        Ok(())
+    }
+
     fn empty(alloc: Global, states: u32) -> Result<Builder, AllocError>
         requires some { 1 ≤ states }
         requires few { states ≤ 2 ^ 20 }
@@ -287,6 +345,19 @@ impl Builder {
             return Err(refusal);
         }
         let outcome = self.try_state();
+        self.keep_refusal(outcome)
+    }
+
+    /// Gives the open state a label: 1 to 255 bytes without `"` and LF. A label that the state has already is taken once.
+    pub fn label(&mut self, name: &[u8]) -> Result<(), RowsError>
+        requires open { IsUnrefused self.old → IsTrue (has_state self.old) }
+        requires name { IsName name.now }
+        ensures call { IsCall self.old self.new (after_label self.old name.now) result }
+    {
+        if let Some(refusal) = self.refused {
+            return Err(refusal);
+        }
+        let outcome = self.try_label(name);
         self.keep_refusal(outcome)
     }
 

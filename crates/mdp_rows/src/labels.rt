@@ -1,5 +1,7 @@
-ghost use Rattle.std.specs.Prelude.{◌≡◌, ◌+◌, ◌-◌, ◌<◌, ◌^◌, length, sum_by, slice_index_or, [], ◌∷◌, ◌++◌, ◌==◌, IfOk, OnOk, OnErr};
-ghost use Rattle.std.specs.List.{list_any};
+ghost use Rattle.std.specs.Prelude.{◌≡◌, ◌+◌, ◌-◌, ◌<◌, ◌≤◌, ◌^◌, length, sum_by, slice_index_or, [], ◌∷◌, ◌++◌, ◌==◌, IfOk, OnOk, OnErr};
+ghost use Rattle.std.specs.List.{list_any, position_or_len};
+ghost use Rattle.std.specs.Str.{bytes_eq};
+ghost use Rattle.mdp_rows.specs.Draft.{with_name};
 ghost use Rattle.mdp_spec.specs.Labels.{place_of};
 
 use indexmap::IndexSet;
@@ -12,6 +14,7 @@ pub struct Labels {
     names: IndexSet<Vec<u8>>,
     starts: Vec<u32>,
     places: Vec<u32>,
+    alloc: Global,
 }
 
 impl Model for Labels {
@@ -38,6 +41,7 @@ impl Labels {
             names: IndexSet::new(alloc),
             starts: vec![in alloc; 0]?,
             places: Vec::new(alloc),
+            alloc,
         })
     }
 
@@ -52,6 +56,31 @@ impl Labels {
         self.places.extend_from_slice(places)?;
         self.starts.push(self.places.len() as u32)?;
         Ok(())
+    }
+
+    /// How many names there are with this one.
+    pub fn names_with(&self, name: &[u8]) -> u32
+        ensures { result ≡ length (with_name self.now.names name.now) }
+    {
+        let count = self.names.len() as u32;
+        match self.names.get_index_of(name) {
+            Some(_) => count,
+            None => count + 1,
+        }
+    }
+
+    /// The place of a name, which goes last where it is new. On `Err` the labels are as before.
+    pub fn see_name(&mut self, name: &[u8]) -> Result<u32, AllocError>
+        requires { length (with_name self.old.names name.now) ≤ 2 ^ 10 }
+        ensures place { IfOk result (λ place. place ≡ position_or_len (bytes_eq name.now) self.old.names) }
+        ensures seen { OnOk result (self.new ≡ record { names = with_name self.old.names name.now; of_state = self.old.of_state }) }
+        ensures unchanged { OnErr result (self.new ≡ self.old) }
+    {
+        if let Some(place) = self.names.get_index_of(name) {
+            return Ok(place as u32);
+        }
+        let (place, _) = self.names.insert_full(Vec::from_slice(self.alloc, name)?)?;
+        Ok(place as u32)
     }
 
     /// How many states have their labels here.
