@@ -1,3 +1,7 @@
+ghost use Rattle.std.specs.Prelude.{◌≢◌, ◌≤◌, ◌^◌, All, IsTrue, IfSome};
+ghost use Rattle.mdp_rows.specs.Name.{IsName};
+ghost use Rattle.mdp_rows.specs.Term.{IsTerm};
+
 use crate::lines::{Unread, is_blank, is_line_feed, number_of};
 use mdp_num::{Frac, read_numeral};
 use mdp_rows::{Builder, Model, RowsError};
@@ -33,7 +37,9 @@ fn cut_line(text: &[u8]) -> Option<(&[u8], &[u8])> {
 }
 
 /// How many states and choices the header announces, and the lines behind it.
-fn read_header(text: &[u8]) -> Option<(u32, u32, &[u8])> {
+fn read_header(text: &[u8]) -> Option<(u32, u32, &[u8])>
+    ensures { IfSome result (λ header. (1 ≤ header.0) × (header.0 ≤ 2 ^ 20)) }
+{
     let text =
         text.strip_prefix(b"@type: MDP\n@parameters\n\n@reward_models\n\n@nr_states\n")?;
     let (states, text) = cut_line(text)?;
@@ -45,13 +51,29 @@ fn read_header(text: &[u8]) -> Option<(u32, u32, &[u8])> {
     Some((states, number_of(choices)?, text.strip_prefix(b"@model\n")?))
 }
 
-/// A label of 1 to 255 bytes, without quotes.
+/// Whether no byte is this one.
+fn is_without(text: &[u8], byte: u8) -> bool
+    ensures { IsTrue result → All (λ b. b ≢ byte) text.now }
+{
+    text.iter().all(|other| *other != byte)
+}
+
+/// Whether a label has 1 to 255 bytes, and no quote and no line feed.
+fn is_label(label: &[u8]) -> bool
+    ensures { IsTrue result → IsName label.now }
+{
+    if label.is_empty() || label.len() > 255 {
+        return false;
+    }
+    is_without(label, b'"') && is_without(label, b'\n')
+}
+
+/// Gives the open state a label.
 fn push_label(builder: &mut Builder, label: &[u8]) -> Result<(), Unread> {
-    let fits = !label.is_empty() && label.len() <= 255;
-    if !fits || label.contains(&b'"') || label.contains(&b'\n') || !builder.is_state_open() {
+    if !is_label(label) || !builder.is_state_open() {
         return Err(Unread::Refused);
     }
-
+    builder.label(label)?;
     Ok(())
 }
 
@@ -71,7 +93,9 @@ fn push_labels(builder: &mut Builder, labels: &[u8]) -> Result<(), Unread> {
 }
 
 /// The target and the value of a line `TARGET : VALUE`, where the value is digits or two of them with a slash between.
-fn entry_of(line: &[u8]) -> Option<(u32, Frac)> {
+fn entry_of(line: &[u8]) -> Option<(u32, Frac)>
+    ensures { IfSome result (λ entry. IsTerm entry.1) }
+{
     let end = line.iter().position(is_blank)?;
     let value = line[end..].strip_prefix(b" : ")?;
     if !value.iter().all(|byte| byte.is_ascii_digit() || *byte == b'/') {
