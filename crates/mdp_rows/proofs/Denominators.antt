@@ -8,7 +8,8 @@ use Rattle.mdp_math.specs.Written.{narrow_ℚ}
 use Rattle.mdp_math.proofs.Laws.{den-pos}
 use Rattle.mdp_math.proofs.Written.{narrow_ℚ-kept, num-ratio_signed, den-ratio_signed}
 use Rattle.mdp_spec.specs.Mdp.{Entry}
-use Rattle.mdp_rows.specs.Term.{den_limit}
+use Rattle.mdp_math.proofs.Order.{ratio-nonneg}
+use Rattle.mdp_rows.specs.Term.{den_limit, IsTerm}
 use Rattle.mdp_rows.specs.Given.{row_of}
 use Rattle.mdp_rows.specs.declared.given.Given.{Given}
 use Rattle.mdp_rows.specs.Draft.{lcm, den_with, row_den}
@@ -174,3 +175,15 @@ zero_num g z e f = sym f ∙ zero_bits z (let k = ap unsigned_abs f in omega (ar
 
 pub nonzero_num : (g : Given) (z : ℤ) → (of_z w128 z ≡ 0 → ⊥) → z ≡ g.value.num → g.value.num ≡ pos 0 → ⊥
 nonzero_num g z h f e = h (ap (of_z w128) (f ∙ e))
+
+-- ---- small fractions are values that a builder takes
+
+pub term_of : (a b : ℕ) (o : Option ℚ) (x : ℚ) → 0 < a → a ≤ den_limit → b ≤ den_limit → o ≡ Some (ratio (pos b) a) → Some x ≡ o → IsTerm x
+term_of a b o x h k l e f =
+    let is : x ≡ ratio (pos b) a = (let s : Some x ≡ Some (ratio (pos b) a) = f ∙ e in cc) in
+    let n : ℚ.num (ratio (pos b) a) ≡ pos (b / gcd b a) = num-ratio_signed false b a h in
+    let m = ap unsigned_abs n in
+    let d : ℚ.den (ratio (pos b) a) ≡ a / gcd b a = den-ratio_signed false b a h in
+    let nb : b / gcd b a ≤ b = div-le_self b (gcd b a) in
+    let db : a / gcd b a ≤ a = div-le_self a (gcd b a) in
+    rw is (record { nonneg = ratio-nonneg b a h; num = omega arith; den = omega arith })

@@ -16,5 +16,6 @@ mod DraftFacts
 mod EntryFacts
 mod Growth
 mod KeptFacts
+mod OpenFacts
 mod Outcomes
 mod Parts

@@ -318,6 +318,7 @@ impl Builder {
     /// Opens the next state, and closes the open row and the open state before.
     pub fn state(&mut self) -> Result<(), RowsError>
         ensures call { IsCall self.old self.new (after_state self.old) result }
+        ensures state_open { OnOk result (IsTrue (has_state self.new)) }
     {
         if let Some(refusal) = self.refused {
             return Err(refusal);
@@ -331,6 +332,7 @@ impl Builder {
         requires open { IsUnrefused self.old → IsTrue (has_state self.old) }
         requires name { IsName name.now }
         ensures call { IsCall self.old self.new (after_label self.old name.now) result }
+        ensures state_open { OnOk result (IsTrue (has_state self.new)) }
     {
         if let Some(refusal) = self.refused {
             return Err(refusal);
@@ -343,6 +345,8 @@ impl Builder {
     pub fn choice(&mut self) -> Result<(), RowsError>
         requires open { IsUnrefused self.old → IsTrue (has_state self.old) }
         ensures call { IsCall self.old self.new (after_choice self.old) result }
+        ensures state_open { OnOk result (IsTrue (has_state self.new)) }
+        ensures row_open { OnOk result (IsTrue (has_row self.new)) }
     {
         if let Some(refusal) = self.refused {
             return Err(refusal);
@@ -356,6 +360,8 @@ impl Builder {
         requires open { IsUnrefused self.old → IsTrue (has_row self.old) }
         requires term { IsTerm value }
         ensures call { IsCall self.old self.new (after_entry self.old target value) result }
+        ensures state_open { OnOk result (IsTrue (has_state self.new)) }
+        ensures row_open { OnOk result (IsTrue (has_row self.new)) }
     {
         if let Some(refusal) = self.refused {
             return Err(refusal);

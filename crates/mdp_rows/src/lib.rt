@@ -10,6 +10,8 @@ mod marks;
 mod model;
 mod row;
 mod rows;
+#[cfg(test)]
+mod tests;
 
 pub use builder::Builder;
 pub use error::RowsError;
