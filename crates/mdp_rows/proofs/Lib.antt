@@ -19,4 +19,5 @@ mod Places
 mod RowFacts
 mod RowsGrow
 mod RowsOfPolicy
+mod StageFacts
 mod Tally

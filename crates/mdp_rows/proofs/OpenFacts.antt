@@ -1,25 +1,104 @@
--- What of a draft is open, from the stage of its builder.
-use Rattle.std.proofs.Common.{◌≡◌, [], None, sym, ap, ◌∙◌}
-use Rattle.mdp_rows.specs.Draft.{Draft, has_state, has_row}
-use Rattle.mdp_rows.specs.FlatDraft.{draft_in, open_in, open_choices}
-use Rattle.mdp_rows.specs.Given.{row_of}
-use Rattle.mdp_rows.specs.declared.builder.Builder.TheInside.{Inside}
-use Rattle.mdp_rows.specs.declared.builder.Stage.{Stage}
+-- What stays open after a call.
+use Rattle.std.proofs.Common.{◌≡◌, ℕ, ◌+◌, ◌^◌, ◌==◌, Bool, true, false, ◌||◌, IsTrue, List, [], ◌∷◌, ◌++◌, length, Option, Some, None, refl, sym, ap, subst, ◌∙◌, leb, ltb, eqb, if◌then◌else◌}
+use Rattle.std.specs.Prelude.{Result, Ok, Err, OnOk}
+use Rattle.std.specs.List.{list_any}
+use Rattle.std.specs.Option.{is_some}
+use Rattle.mdp_math.specs.Rational.{ℚ}
+use Rattle.mdp_spec.specs.Mdp.{Entry}
+use Rattle.mdp_rows.specs.FlatModel.{choice_of}
+use Rattle.mdp_rows.specs.Draft.{Draft, OpenState, closed_row, row_closed, row_closed_in, with_row_closed, all_closed, state_opened, choice_opened, choice_opened_in, closed_choices, after_state, after_choice, after_entry, after_label, entry_in, with_row_entry, with_entry, label_in, with_name, due_after, IsCall, has_state, has_row, ◌>>=◌}
+use Rattle.mdp_rows.specs.declared.error.RowsError.{RowsError}
+use Rattle.mdp_rows.specs.declared.error.RowsError.TheVariants.{Count, TooMany, Target, Twice}
 
-abbrev pub draft_at : Inside → Stage → Draft
-draft_at b stage = record {
-  announced = 0;
-  labels = [];
-  closed = [];
-  state = open_in stage b.places.items b.label_calls (open_choices b) (row_of b.row.items);
-  entries = 0;
-  refused = None;
-}
+abbrev done : {A : Type 0} → A → Result A RowsError
+done x = Ok x
 
-pub state_is : (b : Inside) (v : Draft) (stage : Stage) → draft_in b ≡ v → b.stage ≡ stage → has_state (draft_at b stage) ≡ has_state v
-unfolding draft_in
-state_is b v stage is e = ap (λ (x : Stage). has_state (draft_at b x)) (sym e) ∙ ap has_state is
+done_same : {A : Type 0} → (d n : A) → done d ≡ Ok n → d ≡ n
+done_same d n e = cc
 
-pub row_is : (b : Inside) (v : Draft) (stage : Stage) → draft_in b ≡ v → b.stage ≡ stage → has_row (draft_at b stage) ≡ has_row v
-unfolding draft_in
-row_is b v stage is e = ap (λ (x : Stage). has_row (draft_at b x)) (sym e) ∙ ap has_row is
+-- where a call's result is Ok, nothing was refused before, and the draft followed
+due_ok : (old new : Draft) (due : Result Draft RowsError) (o : Option RowsError) → due_after old due o ≡ Ok new → (o ≡ None) × (due ≡ Ok new)
+due_ok old new due None e = (refl, e)
+due_ok old new due (Some x) e = absurd cc
+
+pub when_ok : {P : Type 0} → (old new : Draft) (due : Result Draft RowsError) (r : Result (Unit {0}) RowsError) → IsCall old new due r → (old.refused ≡ None → due ≡ Ok new → P) → OnOk r P
+when_ok old new due (Ok u) c f = let h = due_ok old new due old.refused c.ok in f h.0 h.1
+when_ok old new due (Err e) c f = tt
+
+-- a test that was passed
+passed_test : (b : Bool) (e : RowsError) (r : Result Draft RowsError) (n : Draft) → (if b then Err e else r) ≡ Ok n → r ≡ Ok n
+passed_test true e r n h = absurd cc
+passed_test false e r n h = h
+
+state_of_done : (m n : Draft) → done m ≡ Ok n → IsTrue (has_state m) → IsTrue (has_state n)
+state_of_done m n e h = subst (λ (x : Draft). IsTrue (has_state x)) (done_same m n e) h
+
+row_of_done : (m n : Draft) → done m ≡ Ok n → IsTrue (has_row m) → IsTrue (has_row n)
+row_of_done m n e h = subst (λ (x : Draft). IsTrue (has_row x)) (done_same m n e) h
+
+after_closing : (r : Result Draft RowsError) (n : Draft) → (r >>= state_opened) ≡ Ok n → IsTrue (has_state n)
+after_closing (Ok m) n e = state_of_done _ n (passed_test (length m.closed == m.announced) Count _ n e) refl
+after_closing (Err x) n e = absurd cc
+
+pub state_opens : (d n : Draft) → after_state d ≡ Ok n → IsTrue (has_state n)
+state_opens d n e = after_closing (all_closed d) n e
+
+-- ---- a choice
+
+closed_keeps : (d n : Draft) (o : OpenState) (r : Result (List Entry) RowsError) → (r >>= λ k. Ok (record d { state = Some (record o { choices = o.choices ++ choice_of k ∷ []; row = None }) })) ≡ Ok n → IsTrue (has_state n)
+closed_keeps d n o (Ok k) e = state_of_done _ n e refl
+closed_keeps d n o (Err x) e = absurd cc
+
+row_keeps : (d n : Draft) (o : OpenState) (r : Option (List Entry)) → IsTrue (has_state d) → with_row_closed d o r ≡ Ok n → IsTrue (has_state n)
+row_keeps d n o None h e = state_of_done d n e h
+row_keeps d n o (Some row) h e = closed_keeps d n o (closed_row (length d.closed) (length o.choices) row) e
+
+keeps_state : (d n : Draft) (s : Option OpenState) → IsTrue (has_state d) → row_closed_in d s ≡ Ok n → IsTrue (has_state n)
+keeps_state d n None h e = state_of_done d n e h
+keeps_state d n (Some o) h e = row_keeps d n o o.row h e
+
+choice_row : (m n : Draft) (s : Option OpenState) → IsTrue (is_some s) → choice_opened_in m s ≡ Ok n → IsTrue (has_state n) × IsTrue (has_row n)
+choice_row m n None h e = absurd cc
+choice_row m n (Some o) h e =
+    let k = passed_test (ltb (2 ^ 22) (closed_choices m + length o.choices + 1)) TooMany _ n e in
+    (state_of_done _ n k refl, row_of_done _ n k refl)
+
+choice_after : (d n : Draft) (r : Result Draft RowsError) → r ≡ row_closed d → IsTrue (has_state d) → (r >>= choice_opened) ≡ Ok n → IsTrue (has_state n) × IsTrue (has_row n)
+choice_after d n (Ok m) f h e = choice_row m n m.state (keeps_state d m d.state h (sym f)) e
+choice_after d n (Err x) f h e = absurd cc
+
+pub choice_opens : (d n : Draft) → IsTrue (has_state d) → after_choice d ≡ Ok n → IsTrue (has_state n) × IsTrue (has_row n)
+choice_opens d n h e = choice_after d n (row_closed d) refl h e
+
+-- ---- an entry
+
+entry_row : (d n : Draft) (t : ℕ) (x : ℚ) (o : OpenState) (r : Option (List Entry)) → IsTrue (is_some r) → with_row_entry d t x o r ≡ Ok n → IsTrue (has_state n) × IsTrue (has_row n)
+entry_row d n t x o None h e = absurd cc
+entry_row d n t x o (Some row) h e =
+    let k = passed_test (leb (2 ^ 24) d.entries) TooMany _ n (passed_test (list_any (λ y. y.target == t) row) Twice _ n (passed_test (leb d.announced t) Target _ n e)) in
+    (state_of_done _ n k refl, row_of_done _ n k refl)
+
+abbrev row_in : Option OpenState → Bool
+row_in None = false
+row_in (Some o) = is_some o.row
+
+entry_state : (d n : Draft) (t : ℕ) (x : ℚ) (s : Option OpenState) → IsTrue (row_in s) → entry_in d t x s ≡ Ok n → IsTrue (has_state n) × IsTrue (has_row n)
+entry_state d n t x None h e = absurd cc
+entry_state d n t x (Some o) h e = entry_row d n t x o o.row h e
+
+row_of_draft : (d : Draft) (s : Option OpenState) → d.state ≡ s → has_row d ≡ row_in s
+row_of_draft d None e = rw e refl
+row_of_draft d (Some o) e = rw e refl
+
+pub entry_keeps : (d n : Draft) (t : ℕ) (x : ℚ) → IsTrue (has_row d) → after_entry d t x ≡ Ok n → IsTrue (has_state n) × IsTrue (has_row n)
+entry_keeps d n t x h e = entry_state d n t x d.state (sym (row_of_draft d d.state refl) ∙ h) e
+
+-- ---- a label
+
+label_state : (d n : Draft) (name : List ℕ) (s : Option OpenState) → IsTrue (is_some s) → label_in d name s ≡ Ok n → IsTrue (has_state n)
+label_state d n name None h e = absurd cc
+label_state d n name (Some o) h e =
+    state_of_done _ n (passed_test (leb 64 o.label_calls || ltb 1024 (length (with_name d.labels name))) TooMany _ n e) refl
+
+pub label_keeps : (d n : Draft) (name : List ℕ) → IsTrue (has_state d) → after_label d name ≡ Ok n → IsTrue (has_state n)
+label_keeps d n name h e = label_state d n name d.state h e

@@ -340,6 +340,7 @@ impl Builder {
     /// Opens the next state, and closes the open row and the open state before.
     pub fn state(&mut self) -> Result<(), RowsError>
         ensures call { IsCall self.old self.new (after_state self.old) result }
+        ensures state_open { OnOk result (IsTrue (has_state self.new)) }
     {
         if let Some(refusal) = self.refused {
             return Err(refusal);
@@ -353,6 +354,7 @@ impl Builder {
         requires open { IsUnrefused self.old → IsTrue (has_state self.old) }
         requires name { IsName name.now }
         ensures call { IsCall self.old self.new (after_label self.old name.now) result }
+        ensures state_open { OnOk result (IsTrue (has_state self.new)) }
     {
         if let Some(refusal) = self.refused {
             return Err(refusal);
@@ -365,6 +367,8 @@ impl Builder {
     pub fn choice(&mut self) -> Result<(), RowsError>
         requires open { IsUnrefused self.old → IsTrue (has_state self.old) }
         ensures call { IsCall self.old self.new (after_choice self.old) result }
+        ensures state_open { OnOk result (IsTrue (has_state self.new)) }
+        ensures row_open { OnOk result (IsTrue (has_row self.new)) }
     {
         if let Some(refusal) = self.refused {
             return Err(refusal);
@@ -378,6 +382,8 @@ impl Builder {
         requires open { IsUnrefused self.old → IsTrue (has_row self.old) }
         requires term { IsTerm value }
         ensures call { IsCall self.old self.new (after_entry self.old target value) result }
+        ensures state_open { OnOk result (IsTrue (has_state self.new)) }
+        ensures row_open { OnOk result (IsTrue (has_row self.new)) }
     {
         if let Some(refusal) = self.refused {
             return Err(refusal);

@@ -12,6 +12,8 @@ mod policy_rows;
 mod row;
 mod rows;
 mod rows_of;
+#[cfg(test)]
+mod tests;
 
 pub use builder::Builder;
 pub use error::RowsError;

@@ -1,13 +1,25 @@
 use Rattle.std.proofs.Common.{sym, ◌∙◌}
+use Rattle.mdp_rows.specs.Draft.{IsCall, after_choice}
 use Rattle.mdp_rows.proofs.CallFacts.{refused_is, call_refused, call_kept}
+use Rattle.mdp_rows.proofs.OpenFacts.{when_ok, choice_opens}
 use Rattle.mdp_rows.proofs.builder.Builder.choice.Goals as goal
 
-pub returns-in-Some : goal.returns-in-Some
-returns-in-Some c = record { call = call_refused _ _ _ (sym (refused_is c.self.inside _ c.self.view_is) ∙ c.in-Some.is) }
+pub returns-in-Some-clause-call : goal.returns-in-Some-clause-call
+returns-in-Some-clause-call c = call_refused _ _ _ (sym (refused_is c.self.inside _ c.self.view_is) ∙ c.in-Some.is)
 
-pub returns : goal.returns
-returns c =
-    record {
-      call = rw c.keep_refusal.ensures.same
-          (call_kept _ c.try_choice-outcome.new.self c.keep_refusal.new.self _ c.try_choice-outcome.result (sym (refused_is c.self.inside _ c.self.view_is) ∙ c.in_default.is) c.try_choice-outcome.ensures.follows c.keep_refusal.ensures.unchanged c.keep_refusal.ensures.refused);
-    }
+pub returns-clause-call : goal.returns-clause-call
+returns-clause-call c =
+    rw c.keep_refusal.ensures.same
+    (call_kept _ c.try_choice-outcome.new.self c.keep_refusal.new.self _ c.try_choice-outcome.result (sym (refused_is c.self.inside _ c.self.view_is) ∙ c.in_default.is) c.try_choice-outcome.ensures.follows c.keep_refusal.ensures.unchanged c.keep_refusal.ensures.refused)
+
+pub returns-clause-state_open : goal.returns-clause-state_open
+returns-clause-state_open c =
+    let k : IsCall c.args.self.now c.keep_refusal.new.self (after_choice c.args.self.now) c.try_choice-outcome.result =
+        call_kept _ c.try_choice-outcome.new.self c.keep_refusal.new.self _ c.try_choice-outcome.result (sym (refused_is c.self.inside _ c.self.view_is) ∙ c.in_default.is) c.try_choice-outcome.ensures.follows c.keep_refusal.ensures.unchanged c.keep_refusal.ensures.refused in
+    rw c.keep_refusal.ensures.same (when_ok c.args.self.now c.keep_refusal.new.self (after_choice c.args.self.now) c.try_choice-outcome.result k (λ u e. (choice_opens c.args.self.now _ (c.requires.open u) e).0))
+
+pub returns-clause-row_open : goal.returns-clause-row_open
+returns-clause-row_open c =
+    let k : IsCall c.args.self.now c.keep_refusal.new.self (after_choice c.args.self.now) c.try_choice-outcome.result =
+        call_kept _ c.try_choice-outcome.new.self c.keep_refusal.new.self _ c.try_choice-outcome.result (sym (refused_is c.self.inside _ c.self.view_is) ∙ c.in_default.is) c.try_choice-outcome.ensures.follows c.keep_refusal.ensures.unchanged c.keep_refusal.ensures.refused in
+    rw c.keep_refusal.ensures.same (when_ok c.args.self.now c.keep_refusal.new.self (after_choice c.args.self.now) c.try_choice-outcome.result k (λ u e. (choice_opens c.args.self.now _ (c.requires.open u) e).1))

@@ -1,4 +1,4 @@
-use Rattle.mdp_rows.proofs.OpenFacts.{row_is}
+use Rattle.mdp_rows.proofs.StageFacts.{row_is}
 use Rattle.mdp_rows.proofs.builder.Builder.is_choice_open.Goals as goal
 
 pub returns-in-Between : goal.returns-in-Between
