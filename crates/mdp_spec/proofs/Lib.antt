@@ -1,0 +1,7 @@
+pub mod Units
+pub mod Rows
+pub mod Hits
+pub mod Keeping
+pub mod Above
+pub mod Close
+pub mod Ranks
