@@ -13,6 +13,7 @@ use Rattle.mdp_math.proofs.Division.{ratio-div, mul-inv_pos}
 use Rattle.mdp_math.proofs.SumsAt.{sum_at-same, sum_at-sub, sum_at-scale_right, sum_at-weighted_le, sum_at-weighted_ge, EachAt_all, EachAt_mono, EachAt_both, EachAt-from_places}
 use Rattle.mdp_spec.specs.Mdp.{Entry, Choice, Mdp, states_of, choices_at, row_at}
 use Rattle.mdp_spec.specs.Row.{IsRow, IsMdp}
+use Rattle.mdp_spec.specs.Rules.{IsPolicy}
 use Rattle.mdp_spec.specs.Unit.{count_at}
 use Rattle.mdp_spec.specs.Tree.{Tree, Fits, unfolded, target_at}
 use Rattle.mdp_spec.specs.Tree.Tree.{leaf, node}
@@ -46,10 +47,6 @@ keeps_of_Fits m u (suc n) (node weights kids) s fits = (
 )
 
 -- ---- the tree that follows a policy
-
--- a choice of its own for each state
-abbrev pub IsPolicy : Mdp → List ℕ → Type 0
-IsPolicy m policy = (s : ℕ) → s < states_of m → get_or policy s 0 < length (choices_at m s)
 
 abbrev pub Follows : List ℕ → ℕ → ℕ → Type 0
 Follows policy s c = c ≡ get_or policy s 0

@@ -5,3 +5,4 @@ pub mod Keeping
 pub mod Above
 pub mod Close
 pub mod Ranks
+pub mod Reach
