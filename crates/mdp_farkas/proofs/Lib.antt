@@ -1,1 +1,5 @@
 mod Walk
+mod Holds
+mod Comparing
+mod Summing
+mod UpperRules
