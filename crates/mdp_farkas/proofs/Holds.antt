@@ -1,8 +1,9 @@
 -- A verdict is yes exactly where each check holds; and the claims on lists of checks, part by part.
 use Rattle.std.proofs.Common.{◌≡◌, ℕ, zero, suc, ◌+◌, ◌<◌, ◌≤◌, Bool, true, false, cond, List, [], ◌∷◌, ◌++◌, map, Option, Some, None, inl, inr, ⊎_elim, refl, sym, ap, subst, ◌∙◌, arith}
 use Rattle.std.specs.List.{flat_map, range_with_len, AllByRecursion}
+use Rattle.std.specs.Option.{IsSome}
 use Rattle.mdp_math.proofs.Numbers.{last_or}
-use Rattle.mdp_farkas.specs.Verdict.{Check, decide, verdict_of, IfYes}
+use Rattle.mdp_farkas.specs.Verdict.{Check, decide, verdict_of, InWidth, IfYes}
 use Rattle.mdp_farkas.specs.declared.verdict.Verdict.{Verdict}
 use Rattle.mdp_farkas.specs.declared.verdict.Verdict.TheVariants.{Yes, No, Wide}
 use Rattle.mdp_farkas.proofs.Walk.{flat_more, map_more}
@@ -25,6 +26,10 @@ each_of_yes (c ∷ cs) e = let d = decide_yes c c.holds (verdict_of cs) e in (d.
 pub yes_of_each : (cs : List Check) → Each Holds cs → verdict_of cs ≡ Yes
 yes_of_each [] h = refl
 yes_of_each (c ∷ cs) h = ap (λ (x : Option Bool). decide c x (verdict_of cs)) h.0 ∙ yes_of_each cs h.1
+
+pub told_of_each : (cs : List Check) → Each Holds cs → Each InWidth cs
+told_of_each [] h = tt
+told_of_each (c ∷ cs) h = (subst (λ (x : Option Bool). IsSome x) (sym h.0) refl, told_of_each cs h.1)
 
 pub if_yes : (v : Verdict) (P : Type 0) → (v ≡ Yes → P) → IfYes v P
 if_yes Yes P h = h refl

@@ -3,3 +3,5 @@ mod Holds
 mod Comparing
 mod Summing
 mod UpperRules
+mod Entries
+mod ReachRules

@@ -15,7 +15,7 @@ use Rattle.mdp_farkas.specs.Compare.{is_at_least, is_at_most, is_equal}
 use Rattle.mdp_farkas.specs.Verdict.{Check, verdict_of, InWidth, IsYes, IfYes}
 use Rattle.mdp_farkas.specs.Upper.{0ℚ, 1ℚ, is_goal, covers, probability_checks, goal_check, choice_check, choice_checks, upper_at, upper_checks, IsUpper}
 use Rattle.mdp_farkas.specs.declared.verdict.Verdict.{Verdict}
-use Rattle.mdp_farkas.proofs.Holds.{Each, Holds, each_of_yes, yes_of_each, if_yes, each_flat, each_flat_at, each_map, each_map_at, each_if, each_if_true, each_if_false}
+use Rattle.mdp_farkas.proofs.Holds.{Each, Holds, each_of_yes, yes_of_each, told_of_each, if_yes, each_flat, each_flat_at, each_map, each_map_at, each_if, each_if_true, each_if_false}
 use Rattle.mdp_farkas.proofs.Comparing.{le_of_at_least, at_least_of_le, le_of_at_most, at_most_of_le, same_of_equal, equal_of_same}
 use Rattle.mdp_farkas.proofs.Summing.{summed, told_of_holds}
 
@@ -50,10 +50,6 @@ module _ (m : Mdp) (goals : List Bool) (z : List ℚ) where
     probabilities = probabilities_of h;
     covers = λ s c l g i. covers_le m z s c (each_map_at Holds (choice_check m z s) (length (choices_at m s)) c (each_if_false Holds (is_goal goals s) (goal_check z s ∷ []) (choice_checks m z s) g (at Holds s h l).1.1) i);
   }
-
-  told_of_each : (cs : List Check) → Each Holds cs → Each InWidth cs
-  told_of_each [] h = tt
-  told_of_each (c ∷ cs) h = (told_of_holds c.holds h.0, told_of_each cs h.1)
 
   holds_at : (s : ℕ) → s < states_of m → MeetsUpper m goals z → Each InWidth (upper_at m goals z s) → Each Holds (upper_at m goals z s)
   holds_at s l r w = (

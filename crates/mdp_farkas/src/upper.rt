@@ -17,7 +17,7 @@ pub struct UpperCert {
 }
 
 /// The value of state `s` is from 0 to 1.
-fn probability_at(values: &[Frac], s: u32) -> Verdict
+pub(crate) fn probability_at(values: &[Frac], s: u32) -> Verdict
     requires { s < length values.now }
     ensures { result ≡ verdict_of (probability_checks values.now s) }
 {
@@ -29,7 +29,7 @@ fn probability_at(values: &[Frac], s: u32) -> Verdict
 }
 
 /// The value of the goal `s` is 1.
-fn goal_at(values: &[Frac], s: u32) -> Verdict
+pub(crate) fn goal_at(values: &[Frac], s: u32) -> Verdict
     requires { s < length values.now }
     ensures { result ≡ verdict_of (goal_check values.now s ∷ []) }
 {
