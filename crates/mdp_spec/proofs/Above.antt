@@ -1,19 +1,22 @@
 -- Values that no tree passes: at a goal they are at least 1, and elsewhere at least the sum over the row of each choice that the trees use.
-use Rattle.std.proofs.Common.{◌≡◌, ℕ, zero, suc, ◌<◌, ◌≤◌, ⊎_elim, Bool, true, false, List, length, refl, sym, ◌∙◌, ap, subst, arith, pos}
+use Rattle.std.proofs.Common.{◌≡◌, ℕ, zero, suc, ◌<◌, ◌≤◌, ⊎_elim, Bool, true, false, List, length, sym, ◌∙◌, subst}
 use Rattle.std.proofs.lemmas.Bool.{cases_Bool}
-use Rattle.mdp_math.specs.Rational.{ℚ, of_int, ratio, ◌+ℚ◌, ◌*ℚ◌, ◌≤ℚ◌, ◌<ℚ◌}
+use Rattle.mdp_math.specs.Rational.{ℚ, ◌*ℚ◌, ◌≤ℚ◌}
 use Rattle.mdp_math.specs.Sum.{sum_of, sum_at, EachAt}
 use Rattle.mdp_math.specs.Kernel.{weigh}
-use Rattle.mdp_math.proofs.Order.{0ℚ, 1ℚ, ≤ℚ_trans, ≤ℚ_refl, ≤ℚ_of_eq, ratio-nonneg, mul-le-mul_left_ℚ}
+use Rattle.mdp_math.proofs.Order.{0ℚ, 1ℚ, ≤ℚ_trans, ≤ℚ_refl, ≤ℚ_of_eq, ≤ℚ_of_lt, ratio-nonneg, mul-le-mul_left_ℚ}
 use Rattle.mdp_math.proofs.SumsAt.{sum_at-le, sum_at-sum_of, EachAt_mono, EachAt_both}
-use Rattle.mdp_spec.specs.Mdp.{Entry, Choice, Mdp, states_of, choices_at, row_at}
+use Rattle.mdp_spec.specs.Mdp.{Entry, Mdp, states_of, choices_at, row_at}
 use Rattle.mdp_spec.specs.Row.{IsRow, IsMdp}
 use Rattle.mdp_spec.specs.Tree.{Tree, Fits, is_marked}
 use Rattle.mdp_spec.specs.Tree.Tree.{leaf, node}
 use Rattle.mdp_spec.specs.Hit.{hit}
 use Rattle.mdp_spec.proofs.Rows.{rows_known, placed, targets_at, nonneg_at}
-use Rattle.mdp_spec.proofs.Hits.{share, mixed, hit-goal, hit-end, hit-node, paths-pos}
-use Rattle.mdp_spec.proofs.Keeping.{Keeps, mixed-le}
+use Rattle.mdp_spec.proofs.Hits.{hit-goal, hit-end, hit-node, paths-pos}
+use Rattle.mdp_math.proofs.Laws.{one-*ℚ}
+use Rattle.mdp_math.proofs.Whole.{one-pos}
+use Rattle.mdp_math.proofs.Kernel.{weigh-const}
+use Rattle.mdp_spec.proofs.Keeping.{Keeps, HasChoice, keeps_of_Fits, mixed-le}
 
 -- what a function of the state weighs in a row
 abbrev pub row_weigh : (ℕ → ℚ) → List Entry → ℚ
@@ -60,3 +63,13 @@ module _ (m : Mdp) (goals : List Bool) (u : ℕ) (known : IsMdp m) (hu : 1 ≤ u
       (EachAt_both (choices_at m s) (λ c x. ((c < length (choices_at m s)) × (row_at m s c ≡ x.row)) × IsRow (states_of m) x.row) (λ c x. (0 < weights c → P s c) × EachAt x.row (λ e y. Keeps m P u n (kids c e) y.target))
       (EachAt_both (choices_at m s) (λ c x. (c < length (choices_at m s)) × (row_at m s c ≡ x.row)) (λ c x. IsRow (states_of m) x.row) (placed m s) (rows_known m s known)) keeps.1))))
       (cases_Bool (is_marked goals s))
+
+-- what 1 weighs in a row
+row_weigh-one : (k : ℕ) (row : List Entry) → IsRow k row → row_weigh (λ v. 1ℚ) row ≡ 1ℚ
+row_weigh-one k row known = weigh-const (λ (y : Entry). y.target) (λ (y : Entry). y.prob) 1ℚ row ∙ one-*ℚ (sum_of (λ (y : Entry). y.prob) row) ∙ known.distribution.total
+
+-- hits are probabilities: at least 0, as above, and at most 1
+pub hit-le_one : (m : Mdp) (goals : List Bool) (u n : ℕ) (t : Tree) (s : ℕ) → IsMdp m → 1 ≤ u → s < states_of m → Fits m u n t s → hit m goals u n t s ≤ℚ 1ℚ
+hit-le_one m goals u n t s known hu h fits =
+    hit-le_by m goals u known hu (HasChoice m) (λ v. 1ℚ) (λ v l. ≤ℚ_of_lt 0ℚ 1ℚ one-pos) (λ v l g. ≤ℚ_refl 1ℚ)
+    (λ v c l g k i. ≤ℚ_of_eq _ _ (row_weigh-one (states_of m) (row_at m v c) (IsMdp.row known v c l i))) n t s h (keeps_of_Fits m u n t s fits)

@@ -1,23 +1,22 @@
 -- Trees that come close to the values: the deficit, value minus hit, stays below the n-th power of a rate, where the trees use rows that a
 -- weight shrinks, and no value passes the sum over such a row.
-use Rattle.std.proofs.Common.{◌≡◌, ℕ, zero, suc, ◌<◌, ◌≤◌, ⊎_elim, Bool, true, false, true≢false, List, [], ◌∷◌, length, refl, sym, ◌∙◌, ap, subst, arith, pos}
+use Rattle.std.proofs.Common.{◌≡◌, ℕ, zero, suc, ◌<◌, ◌≤◌, ⊎_elim, Bool, true, false, List, [], ◌∷◌, length, refl, sym, ◌∙◌, ap, subst, arith, pos}
 use Rattle.std.proofs.lemmas.Bool.{cases_Bool}
-use Rattle.mdp_math.specs.Rational.{ℚ, of_int, ratio, ◌+ℚ◌, ◌*ℚ◌, ◌-ℚ◌, neg_ℚ, ◌≤ℚ◌, ◌<ℚ◌}
-use Rattle.mdp_math.specs.Sum.{sum_of, sum_at, EachAt}
+use Rattle.mdp_math.specs.Rational.{ℚ, of_int, ratio, ◌+ℚ◌, ◌*ℚ◌, ◌-ℚ◌, ◌≤ℚ◌, ◌<ℚ◌}
+use Rattle.mdp_math.specs.Sum.{sum_at, EachAt}
 use Rattle.mdp_math.specs.Power.{pow_ℚ}
-use Rattle.mdp_math.specs.Kernel.{weigh}
 use Rattle.mdp_math.proofs.Ring.{◌⊕◌, ◌⊗◌, ⊖, lit}
 use Rattle.mdp_math.proofs.Linear.{linear, equal, at_most, known}
-use Rattle.mdp_math.proofs.Order.{0ℚ, 1ℚ, ≤ℚ_trans, ≤ℚ_refl, ≤ℚ_of_eq, mul-nonneg, ratio-nonneg}
+use Rattle.mdp_math.proofs.Order.{0ℚ, 1ℚ, mul-nonneg}
 use Rattle.mdp_math.proofs.Whole.{of_nat-nonneg, ratio-pos}
 use Rattle.mdp_math.proofs.Division.{half, half_twice}
 use Rattle.mdp_math.proofs.Powers.{pow_ℚ-nonneg}
 use Rattle.mdp_math.proofs.SumsAt.{sum_at-sum_of, EachAt_all, EachAt_mono, EachAt_both}
 use Rattle.mdp_math.proofs.Weight.{Shrinks}
 use Rattle.mdp_math.proofs.Leaving.{weight-nonneg, shrinks-mixed, shrinks-fades}
-use Rattle.mdp_spec.specs.Mdp.{Entry, Choice, Mdp, states_of, choices_at, row_at}
+use Rattle.mdp_spec.specs.Mdp.{Entry, Mdp, states_of, choices_at, row_at}
 use Rattle.mdp_spec.specs.Row.{IsRow, IsMdp}
-use Rattle.mdp_spec.specs.Tree.{Tree, Fits, is_marked}
+use Rattle.mdp_spec.specs.Tree.{Tree, is_marked}
 use Rattle.mdp_spec.specs.Tree.Tree.{leaf, node}
 use Rattle.mdp_spec.specs.Hit.{hit}
 use Rattle.mdp_spec.proofs.Rows.{rows_known, placed, targets_at}
@@ -114,21 +113,21 @@ module _ (m : Mdp) (goals : List Bool) (u : ℕ) (known_ : IsMdp m) (hu : 1 ≤ 
   deficit-le zero t s h keeps =
       ⊎_elim (λ g. at_goal zero t s h g)
       (λ g. ⊎_elim
-        (λ a. subst (λ (x : ℚ). z s -ℚ x ≤ℚ (1ℚ *ℚ of_int (pos 2)) *ℚ K.weight s) (sym (hit-end m goals u t s hu g)) (deficit_leaf (z s) (K.weight s) (start s h) (K.at_least_half s a)))
-        (λ a. at_none zero t s h g a) (cases_Bool (active s)))
+      (λ a. subst (λ (x : ℚ). z s -ℚ x ≤ℚ (1ℚ *ℚ of_int (pos 2)) *ℚ K.weight s) (sym (hit-end m goals u t s hu g)) (deficit_leaf (z s) (K.weight s) (start s h) (K.at_least_half s a)))
+      (λ a. at_none zero t s h g a) (cases_Bool (active s)))
       (cases_Bool (is_marked goals s))
   deficit-le (suc n) leaf s h keeps = absurd keeps
   deficit-le (suc n) (node weights kids) s h keeps =
       ⊎_elim (λ g. at_goal (suc n) (node weights kids) s h g)
       (λ g. ⊎_elim
-        (λ a. at_node n s weights kids h g a keeps
-        (EachAt_mono (choices_at m s) (λ c x. IsRow (states_of m) x.row × ((0 < weights c → P s c) × EachAt x.row (λ e y. Keeps m P u n (kids c e) y.target)))
-        (λ c x. EachAt x.row (λ e y. z y.target -ℚ hit m goals u n (kids c e) y.target ≤ℚ (pow_ℚ K.rate n *ℚ of_int (pos 2)) *ℚ K.weight y.target))
-        (λ c x q. EachAt_mono x.row (λ e y. (y.target < states_of m) × Keeps m P u n (kids c e) y.target) (λ e y. z y.target -ℚ hit m goals u n (kids c e) y.target ≤ℚ (pow_ℚ K.rate n *ℚ of_int (pos 2)) *ℚ K.weight y.target)
-        (λ e y r. deficit-le n (kids c e) y.target r.0 r.1)
-        (EachAt_both x.row (λ e y. y.target < states_of m) (λ e y. Keeps m P u n (kids c e) y.target) (targets_at (states_of m) x.row q.0) q.1.1))
-        (EachAt_both (choices_at m s) (λ c x. IsRow (states_of m) x.row) (λ c x. (0 < weights c → P s c) × EachAt x.row (λ e y. Keeps m P u n (kids c e) y.target)) (rows_known m s known_) keeps.1)))
-        (λ a. at_none (suc n) (node weights kids) s h g a) (cases_Bool (active s)))
+      (λ a. at_node n s weights kids h g a keeps
+      (EachAt_mono (choices_at m s) (λ c x. IsRow (states_of m) x.row × ((0 < weights c → P s c) × EachAt x.row (λ e y. Keeps m P u n (kids c e) y.target)))
+      (λ c x. EachAt x.row (λ e y. z y.target -ℚ hit m goals u n (kids c e) y.target ≤ℚ (pow_ℚ K.rate n *ℚ of_int (pos 2)) *ℚ K.weight y.target))
+      (λ c x q. EachAt_mono x.row (λ e y. (y.target < states_of m) × Keeps m P u n (kids c e) y.target) (λ e y. z y.target -ℚ hit m goals u n (kids c e) y.target ≤ℚ (pow_ℚ K.rate n *ℚ of_int (pos 2)) *ℚ K.weight y.target)
+      (λ e y r. deficit-le n (kids c e) y.target r.0 r.1)
+      (EachAt_both x.row (λ e y. y.target < states_of m) (λ e y. Keeps m P u n (kids c e) y.target) (targets_at (states_of m) x.row q.0) q.1.1))
+      (EachAt_both (choices_at m s) (λ c x. IsRow (states_of m) x.row) (λ c x. (0 < weights c → P s c) × EachAt x.row (λ e y. Keeps m P u n (kids c e) y.target)) (rows_known m s known_) keeps.1)))
+      (λ a. at_none (suc n) (node weights kids) s h g a) (cases_Bool (active s)))
       (cases_Bool (is_marked goals s))
 
 -- what is bounded falls below each 1/k, from one depth on

@@ -1,13 +1,13 @@
 -- Trees that keep a rule: each choice of weight above 0 meets it. Each tree keeps a rule that all choices meet, and the tree that follows a
 -- policy keeps the rule of the policy's choices. So a bound is proved once, for trees that keep a rule.
-use Rattle.std.proofs.Common.{◌≡◌, ℕ, zero, suc, ◌+◌, ◌<◌, ◌≤◌, inl, inr, ⊎_elim, Bool, true, false, cond, eqb, List, [], ◌∷◌, length, get_or, refl, sym, ◌∙◌, ap, subst, arith, pos}
+use Rattle.std.proofs.Common.{◌≡◌, ℕ, zero, suc, ◌<◌, ◌≤◌, ⊎_elim, Bool, true, false, cond, eqb, List, [], ◌∷◌, length, get_or, refl, sym, ◌∙◌, ap, subst, arith, pos}
 use Rattle.std.proofs.lemmas.List.{get_or_default}
-use Rattle.std.proofs.lemmas.Bool.{cases_Bool, cases_eq, eqb-true, eq-eqb, ne_eqb}
-use Rattle.mdp_math.specs.Rational.{ℚ, of_int, ratio, ◌+ℚ◌, ◌*ℚ◌, ◌-ℚ◌, inv_ℚ, neg_ℚ, ◌≤ℚ◌, ◌<ℚ◌}
+use Rattle.std.proofs.lemmas.Bool.{cases_eq, eqb-true, eq-eqb, ne_eqb}
+use Rattle.mdp_math.specs.Rational.{ℚ, of_int, ratio, ◌*ℚ◌, ◌-ℚ◌, inv_ℚ, ◌≤ℚ◌, ◌<ℚ◌}
 use Rattle.mdp_math.specs.Sum.{sum_at, EachAt}
-use Rattle.mdp_math.proofs.Ring.{◌⊕◌, ◌⊗◌, ⊖, lit, ring}
+use Rattle.mdp_math.proofs.Ring.{◌⊕◌, ◌⊗◌, ⊖, ring}
 use Rattle.mdp_math.proofs.Laws.{rat_ring, one-*ℚ}
-use Rattle.mdp_math.proofs.Order.{0ℚ, 1ℚ, ◌/ℚ◌, ≤ℚ_trans, <ℚ_irrefl, ratio-nonneg}
+use Rattle.mdp_math.proofs.Order.{0ℚ, 1ℚ, <ℚ_irrefl, ratio-nonneg}
 use Rattle.mdp_math.proofs.Whole.{of_nat-pos}
 use Rattle.mdp_math.proofs.Division.{ratio-div, mul-inv_pos}
 use Rattle.mdp_math.proofs.SumsAt.{sum_at-same, sum_at-sub, sum_at-scale_right, sum_at-weighted_le, sum_at-weighted_ge, EachAt_all, EachAt_mono, EachAt_both, EachAt-from_places}
@@ -40,10 +40,10 @@ keeps_of_Fits m u (suc n) leaf s fits = absurd fits
 keeps_of_Fits m u (suc n) (node weights kids) s fits = (
   fits.0,
   EachAt_mono (choices_at m s)
-  (λ c x. ((c < length (choices_at m s)) × (row_at m s c ≡ x.row)) × EachAt x.row (λ e y. Fits m u n (kids c e) y.target))
-  (λ c x. (0 < weights c → HasChoice m s c) × EachAt x.row (λ e y. Keeps m (HasChoice m) u n (kids c e) y.target))
-  (λ c x q. (λ above. q.0.0, EachAt_mono x.row (λ e y. Fits m u n (kids c e) y.target) (λ e y. Keeps m (HasChoice m) u n (kids c e) y.target) (λ e y f. keeps_of_Fits m u n (kids c e) y.target f) q.1))
-  (EachAt_both (choices_at m s) (λ c x. (c < length (choices_at m s)) × (row_at m s c ≡ x.row)) (λ c x. EachAt x.row (λ e y. Fits m u n (kids c e) y.target)) (placed m s) fits.1),
+      (λ c x. ((c < length (choices_at m s)) × (row_at m s c ≡ x.row)) × EachAt x.row (λ e y. Fits m u n (kids c e) y.target))
+      (λ c x. (0 < weights c → HasChoice m s c) × EachAt x.row (λ e y. Keeps m (HasChoice m) u n (kids c e) y.target))
+      (λ c x q. (λ above. q.0.0, EachAt_mono x.row (λ e y. Fits m u n (kids c e) y.target) (λ e y. Keeps m (HasChoice m) u n (kids c e) y.target) (λ e y f. keeps_of_Fits m u n (kids c e) y.target f) q.1))
+      (EachAt_both (choices_at m s) (λ c x. (c < length (choices_at m s)) × (row_at m s c ≡ x.row)) (λ c x. EachAt x.row (λ e y. Fits m u n (kids c e) y.target)) (placed m s) fits.1),
 )
 
 -- ---- the tree that follows a policy
@@ -84,15 +84,15 @@ keeps_unfolded m policy zero s known choice h = tt
 keeps_unfolded m policy (suc n) s known choice h = (
   count_at-one (choices_at m s) (get_or policy s 0) (choice s h),
   EachAt_mono (choices_at m s)
-  (λ c x. ((c < length (choices_at m s)) × (row_at m s c ≡ x.row)) × IsRow (states_of m) x.row)
-  (λ c x. (0 < cond (eqb (get_or policy s 0) c) 1 0 → Follows policy s c) × EachAt x.row (λ e y. Keeps m (Follows policy) 1 n (unfolded m policy n (target_at m s c e)) y.target))
-  (λ c x q. (
-    chosen (get_or policy s 0) c,
-    EachAt_mono x.row (λ e y. (target_at m s c e ≡ y.target) × (y.target < states_of m)) (λ e y. Keeps m (Follows policy) 1 n (unfolded m policy n (target_at m s c e)) y.target)
-    (λ e y r. subst (λ (t : ℕ). Keeps m (Follows policy) 1 n (unfolded m policy n t) y.target) (sym r.0) (keeps_unfolded m policy n y.target known choice r.1))
-    (EachAt_both x.row (λ e y. target_at m s c e ≡ y.target) (λ e y. y.target < states_of m) (target_placed m s c x.row q.0.1) (targets_at (states_of m) x.row q.1)),
-  ))
-  (EachAt_both (choices_at m s) (λ c x. (c < length (choices_at m s)) × (row_at m s c ≡ x.row)) (λ c x. IsRow (states_of m) x.row) (placed m s) (rows_known m s known)),
+      (λ c x. ((c < length (choices_at m s)) × (row_at m s c ≡ x.row)) × IsRow (states_of m) x.row)
+      (λ c x. (0 < cond (eqb (get_or policy s 0) c) 1 0 → Follows policy s c) × EachAt x.row (λ e y. Keeps m (Follows policy) 1 n (unfolded m policy n (target_at m s c e)) y.target))
+      (λ c x q. (
+        chosen (get_or policy s 0) c,
+        EachAt_mono x.row (λ e y. (target_at m s c e ≡ y.target) × (y.target < states_of m)) (λ e y. Keeps m (Follows policy) 1 n (unfolded m policy n (target_at m s c e)) y.target)
+            (λ e y r. subst (λ (t : ℕ). Keeps m (Follows policy) 1 n (unfolded m policy n t) y.target) (sym r.0) (keeps_unfolded m policy n y.target known choice r.1))
+            (EachAt_both x.row (λ e y. target_at m s c e ≡ y.target) (λ e y. y.target < states_of m) (target_placed m s c x.row q.0.1) (targets_at (states_of m) x.row q.1)),
+      ))
+      (EachAt_both (choices_at m s) (λ c x. (c < length (choices_at m s)) × (row_at m s c ≡ x.row)) (λ c x. IsRow (states_of m) x.row) (placed m s) (rows_known m s known)),
 )
 
 -- and it fits
@@ -101,13 +101,13 @@ unfolded_fits m policy zero s known choice h = tt
 unfolded_fits m policy (suc n) s known choice h = (
   count_at-one (choices_at m s) (get_or policy s 0) (choice s h),
   EachAt_mono (choices_at m s)
-  (λ c x. ((c < length (choices_at m s)) × (row_at m s c ≡ x.row)) × IsRow (states_of m) x.row)
-  (λ c x. EachAt x.row (λ e y. Fits m 1 n (unfolded m policy n (target_at m s c e)) y.target))
-  (λ c x q.
-    EachAt_mono x.row (λ e y. (target_at m s c e ≡ y.target) × (y.target < states_of m)) (λ e y. Fits m 1 n (unfolded m policy n (target_at m s c e)) y.target)
-    (λ e y r. subst (λ (t : ℕ). Fits m 1 n (unfolded m policy n t) y.target) (sym r.0) (unfolded_fits m policy n y.target known choice r.1))
-    (EachAt_both x.row (λ e y. target_at m s c e ≡ y.target) (λ e y. y.target < states_of m) (target_placed m s c x.row q.0.1) (targets_at (states_of m) x.row q.1)))
-  (EachAt_both (choices_at m s) (λ c x. (c < length (choices_at m s)) × (row_at m s c ≡ x.row)) (λ c x. IsRow (states_of m) x.row) (placed m s) (rows_known m s known)),
+      (λ c x. ((c < length (choices_at m s)) × (row_at m s c ≡ x.row)) × IsRow (states_of m) x.row)
+      (λ c x. EachAt x.row (λ e y. Fits m 1 n (unfolded m policy n (target_at m s c e)) y.target))
+      (λ c x q.
+      EachAt_mono x.row (λ e y. (target_at m s c e ≡ y.target) × (y.target < states_of m)) (λ e y. Fits m 1 n (unfolded m policy n (target_at m s c e)) y.target)
+      (λ e y r. subst (λ (t : ℕ). Fits m 1 n (unfolded m policy n t) y.target) (sym r.0) (unfolded_fits m policy n y.target known choice r.1))
+      (EachAt_both x.row (λ e y. target_at m s c e ≡ y.target) (λ e y. y.target < states_of m) (target_placed m s c x.row q.0.1) (targets_at (states_of m) x.row q.1)))
+      (EachAt_both (choices_at m s) (λ c x. (c < length (choices_at m s)) × (row_at m s c ≡ x.row)) (λ c x. IsRow (states_of m) x.row) (placed m s) (rows_known m s known)),
 )
 
 -- ---- averages over the choices

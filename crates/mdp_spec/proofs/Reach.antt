@@ -1,20 +1,20 @@
 -- What the rules of a reachability certificate say of trees, and that such values are the only ones.
-use Rattle.std.proofs.Common.{◌≡◌, ℕ, zero, suc, ◌<◌, ◌≤◌, ⊎_elim, inl, inr, Bool, true, false, true≢false, cond, ltb, lt-ltb, ltb-true, List, [], ◌∷◌, length, get_or, T, refl, sym, ◌∙◌, ap, subst, arith, pos}
+use Rattle.std.proofs.Common.{◌≡◌, ℕ, ◌<◌, ◌≤◌, ⊎_elim, Bool, true, false, true≢false, cond, ltb, lt-ltb, ltb-true, List, [], ◌∷◌, get_or, T, refl, sym, subst, arith, pos}
 use Rattle.std.specs.List.{Any}
-use Rattle.mdp_math.specs.Rational.{ℚ, of_int, ratio, lt_ℚ, ◌+ℚ◌, ◌*ℚ◌, ◌-ℚ◌, ◌≤ℚ◌, ◌<ℚ◌}
-use Rattle.mdp_math.proofs.Order.{0ℚ, 1ℚ, ≤ℚ_or_gt, ≤ℚ_of_eq, ≤ℚ_refl, ≤ℚ_trans, ≤ℚ_antisymm}
+use Rattle.mdp_math.specs.Rational.{ℚ, ratio, lt_ℚ, ◌+ℚ◌, ◌≤ℚ◌, ◌<ℚ◌}
+use Rattle.mdp_math.proofs.Order.{0ℚ, ≤ℚ_or_gt, ≤ℚ_of_eq, ≤ℚ_antisymm}
 use Rattle.mdp_math.proofs.Division.{le_of_bounds}
 use Rattle.mdp_math.proofs.Powers.{unit_fraction-le}
 use Rattle.mdp_math.proofs.Laws.{den-pos}
-use Rattle.mdp_math.proofs.Ring.{◌⊕◌, lit}
+use Rattle.mdp_math.proofs.Ring.{◌⊕◌}
 use Rattle.mdp_math.proofs.Linear.{linear, known}
-use Rattle.mdp_spec.specs.Mdp.{Entry, Mdp, states_of, choices_at, row_at, value_at}
-use Rattle.mdp_spec.specs.Row.{IsMdp, row_sum}
-use Rattle.mdp_spec.specs.Tree.{Tree, Fits, is_marked, unfolded}
+use Rattle.mdp_spec.specs.Mdp.{Mdp, states_of, row_at, value_at}
+use Rattle.mdp_spec.specs.Row.{IsMdp}
+use Rattle.mdp_spec.specs.Tree.{is_marked, unfolded}
 use Rattle.mdp_spec.specs.Hit.{hit}
-use Rattle.mdp_spec.specs.Rules.{IsPolicy, AreProbabilities, Covers, MeetsUpper, MeetsReachMax, MeetsReachMin}
+use Rattle.mdp_spec.specs.Rules.{IsPolicy, AreProbabilities, Covers, MeetsReachMax, MeetsReachMin}
 use Rattle.mdp_spec.specs.Bounds.{Above, ReachMax, ReachMin, part}
-use Rattle.mdp_spec.proofs.Keeping.{Keeps, HasChoice, Follows, keeps_of_Fits, keeps_unfolded, unfolded_fits}
+use Rattle.mdp_spec.proofs.Keeping.{HasChoice, Follows, keeps_of_Fits, keeps_unfolded, unfolded_fits}
 use Rattle.mdp_spec.proofs.Above.{row_weigh, hit-le_by}
 use Rattle.mdp_spec.proofs.Close.{RowsShrink, deficit-le, deficit-fades}
 use Rattle.mdp_spec.proofs.Ranks.{shrinks_of_ranks}
@@ -74,9 +74,9 @@ module _ (m : Mdp) (goals : List Bool) (z : List ℚ) (policy ranks : List ℕ) 
             let fades = deficit-fades m (is_active m goals z) (Follows policy) K k hk in (
               fades.0,
               fades.1 fades.0 s (value_at z s) (hit m goals 1 fades.0 (unfolded m policy fades.0 s) s) (omega arith)
-              (deficit-le m goals 1 known_ (omega arith) (Follows policy) (is_active m goals z) K (value_at z) (AreProbabilities.at_most_one r.probabilities) (inactive_value m goals z)
-              (λ v c l a is i. subst (λ (d : ℕ). value_at z v ≤ℚ row_weigh (value_at z) (row_at m v d)) (sym is) (r.reached v l (active_parts m goals z v a).1))
-              fades.0 (unfolded m policy fades.0 s) s h (keeps_unfolded m policy fades.0 s known_ r.choices h)),
+                  (deficit-le m goals 1 known_ (omega arith) (Follows policy) (is_active m goals z) K (value_at z) (AreProbabilities.at_most_one r.probabilities) (inactive_value m goals z)
+                  (λ v c l a is i. subst (λ (d : ℕ). value_at z v ≤ℚ row_weigh (value_at z) (row_at m v d)) (sym is) (r.reached v l (active_parts m goals z v a).1))
+                  fades.0 (unfolded m policy fades.0 s) s h (keeps_unfolded m policy fades.0 s known_ r.choices h)),
             );
       }
 

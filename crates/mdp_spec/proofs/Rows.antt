@@ -1,14 +1,14 @@
 -- What is known of each row of a model, by the row's state and place.
-use Rattle.std.proofs.Common.{◌≡◌, ℕ, ◌<◌, ◌≤◌, ◌⊎◌, inl, inr, ⊎_elim, List, [], length, get_or, refl, sym, ◌∙◌, ap, subst, arith}
+use Rattle.std.proofs.Common.{◌≡◌, ℕ, ◌<◌, ◌≤◌, ⊎_elim, List, [], length, get_or, ap, subst, arith}
 use Rattle.std.specs.List.{All}
 use Rattle.std.proofs.lemmas.List.{get_or_past, get_or_default}
 use Rattle.std.proofs.lemmas.Bool.{cases_lt}
-use Rattle.mdp_math.specs.Rational.{ℚ, ◌≤ℚ◌}
+use Rattle.mdp_math.specs.Rational.{◌≤ℚ◌}
 use Rattle.mdp_math.specs.Sum.{EachAt}
-use Rattle.mdp_math.proofs.SumsAt.{EachAt_mono, EachAt-from_places, EachAt-from_All}
+use Rattle.mdp_math.proofs.SumsAt.{EachAt-from_places, EachAt-from_All}
 use Rattle.mdp_math.proofs.Order.{0ℚ, ≤ℚ_of_lt}
-use Rattle.mdp_spec.specs.Mdp.{Entry, Choice, State, Mdp, states_of, state_at, choices_at, row_at, no_choice, no_state}
-use Rattle.mdp_spec.specs.Row.{IsDistribution, IsRow, IsMdp}
+use Rattle.mdp_spec.specs.Mdp.{Entry, Choice, State, Mdp, states_of, choices_at, row_at, no_choice, no_state}
+use Rattle.mdp_spec.specs.Row.{IsRow, IsMdp}
 
 -- past the last state there is no choice
 pub choices_at-past : (m : Mdp) (s : ℕ) → states_of m ≤ s → choices_at m s ≡ []
@@ -18,9 +18,9 @@ pub rows_known : (m : Mdp) (s : ℕ) → IsMdp m → EachAt (choices_at m s) (λ
 rows_known m s k =
     EachAt-from_places (choices_at m s) (λ c x. IsRow (states_of m) x.row)
     (λ c d l. ⊎_elim
-      (λ inside. subst (λ (x : Choice). IsRow (states_of m) x.row) (get_or_default (choices_at m s) c no_choice d l) (IsMdp.row k s c inside l))
-      (λ past. let e : length (choices_at m s) ≡ 0 = ap length (choices_at-past m s past) in absurd (omega arith))
-      (cases_lt s (states_of m)))
+    (λ inside. subst (λ (x : Choice). IsRow (states_of m) x.row) (get_or_default (choices_at m s) c no_choice d l) (IsMdp.row k s c inside l))
+    (λ past. let e : length (choices_at m s) ≡ 0 = ap length (choices_at-past m s past) in absurd (omega arith))
+    (cases_lt s (states_of m)))
 
 -- the place of each choice, and its row by that place
 pub placed : (m : Mdp) (s : ℕ) → EachAt (choices_at m s) (λ c x. (c < length (choices_at m s)) × (row_at m s c ≡ x.row))
