@@ -1,21 +1,20 @@
 -- The verdict on values and a policy is yes exactly where the rules hold in exact numbers and no written term is past width.
-use Rattle.std.proofs.Common.{◌≡◌, ℕ, ◌<◌, ◌⊎◌, inl, inr, ⊎_elim, Bool, true, false, true≢false, cond, not, ◌&&◌, ◌||◌, ltb, eqb, lt-ltb, ltb-true, eqb-true, eq-eqb, T, List, [], ◌∷◌, ◌++◌, length, map, get_or, slice_index, Option, Some, None, ◌↔◌, refl, sym, ap, subst, ◌∙◌, pos}
-use Rattle.std.specs.List.{All, Any, list_any, flat_map, range_with_len}
-use Rattle.std.specs.Option.{IsSome, option_and_then}
+use Rattle.std.proofs.Common.{◌≡◌, ℕ, ◌<◌, ◌⊎◌, inl, inr, ⊎_elim, Bool, true, false, true≢false, not, ◌&&◌, ◌||◌, ltb, lt-ltb, ltb-true, eqb-true, eq-eqb, T, List, [], ◌∷◌, ◌++◌, length, slice_index, Option, Some, ◌↔◌, refl, sym, ap, subst, ◌∙◌, pos}
+use Rattle.std.specs.List.{Any, list_any}
+use Rattle.std.specs.Option.{IsSome}
 use Rattle.std.proofs.lemmas.List.Elements.{All-from_recursion, recursion_from_All}
 use Rattle.std.proofs.lemmas.List.Folds.{Any-from_list_any, list_any-from_Any}
 use Rattle.mdp_math.specs.Rational.{ℚ, of_int, lt_ℚ, ◌≤ℚ◌, ◌<ℚ◌}
 use Rattle.mdp_math.proofs.Order.{≤ℚ_of_eq, ≤ℚ_or_gt, ≤ℚ_antisymm, clash_ℚ}
 use Rattle.mdp_spec.specs.Mdp.{Entry, Mdp, states_of, choices_at, row_at, value_at}
 use Rattle.mdp_spec.specs.Row.{IsMdp, row_sum}
-use Rattle.mdp_spec.specs.Rules.{IsPolicy, AreProbabilities, RanksEnd, MeetsReachMax, MeetsReachMin}
+use Rattle.mdp_spec.specs.Rules.{IsPolicy, AreProbabilities, RanksEnd}
 use Rattle.mdp_spec.specs.Bounds.{ReachMax, ReachMin}
 use Rattle.mdp_spec.specs.Tree.{is_marked}
 use Rattle.mdp_spec.proofs.Reach.{reach_max_of_rules, reach_min_of_rules}
-use Rattle.mdp_farkas.specs.Compare.{is_at_least, is_at_most, is_equal}
 use Rattle.mdp_farkas.specs.Verdict.{Check, verdict_of, InWidth, IsYes, IfYes}
-use Rattle.mdp_farkas.specs.Upper.{0ℚ, 1ℚ, is_goal, probability_checks, goal_check}
-use Rattle.mdp_farkas.specs.Reach.{choice_exists, stands, other, stands_at, bound_check, bound_checks, policy_check, value_checks, ends, rank_check, leads_down, fall_check, fall_checks, rank_checks, reach_at, reach_checks, MeetsReach, IsReach}
+use Rattle.mdp_farkas.specs.Upper.{0ℚ, 1ℚ, is_goal, goal_check}
+use Rattle.mdp_farkas.specs.Reach.{stands, other, stands_at, bound_check, bound_checks, policy_check, value_checks, ends, rank_check, leads_down, fall_check, fall_checks, rank_checks, reach_at, reach_checks, MeetsReach, IsReach}
 use Rattle.mdp_farkas.specs.declared.dir.Dir.{Dir}
 use Rattle.mdp_farkas.specs.declared.dir.Dir.TheVariants.{Max, Min}
 use Rattle.mdp_farkas.specs.declared.verdict.Verdict.{Verdict}
@@ -239,12 +238,12 @@ module _ (m : Mdp) (goals : List Bool) (z : List ℚ) (policy ranks : List ℕ) 
   pub reach_rules : (dir : Dir) (v : Verdict) → v ≡ verdict_of (reach_checks dir m goals z policy ranks) → IsYes v ↔ IsReach dir m goals z policy ranks
   reach_rules dir v e = (
     (λ yes_.
-    let h = each_of_yes (reach_checks dir m goals z policy ranks) (sym e ∙ yes_) in
-    record { rules = meets_of_holds dir h; in_width = All-from_recursion InWidth (reach_checks dir m goals z policy ranks) (told_of_each (reach_checks dir m goals z policy ranks) h) }),
+        let h = each_of_yes (reach_checks dir m goals z policy ranks) (sym e ∙ yes_) in
+        record { rules = meets_of_holds dir h; in_width = All-from_recursion InWidth (reach_checks dir m goals z policy ranks) (told_of_each (reach_checks dir m goals z policy ranks) h) }),
     (λ is.
-    let w = recursion_from_All InWidth (reach_checks dir m goals z policy ranks) is.in_width in
-    e ∙ yes_of_each (reach_checks dir m goals z policy ranks)
-    (each_flat Holds (λ s. reach_at dir m goals z ranks s (slice_index policy s)) (states_of m) (λ s l. holds_of_meets dir s l is.rules (at dir m goals z policy ranks InWidth s w l)))),
+        let w = recursion_from_All InWidth (reach_checks dir m goals z policy ranks) is.in_width in
+        e ∙ yes_of_each (reach_checks dir m goals z policy ranks)
+        (each_flat Holds (λ s. reach_at dir m goals z ranks s (slice_index policy s)) (states_of m) (λ s l. holds_of_meets dir s l is.rules (at dir m goals z policy ranks InWidth s w l)))),
   )
 
   pub reach_max : (dir : Dir) (v : Verdict) → IsMdp m → v ≡ verdict_of (reach_checks dir m goals z policy ranks) → dir ≡ Max → IfYes v (ReachMax m goals z policy)

@@ -11,7 +11,7 @@ use Rattle.std.specs.Prelude.{ℕ, Bool, ◌==◌, ◌&&◌, ◌||◌, not, nat_
 use Rattle.std.specs.List.{All, flat_map, list_any, range_with_len}
 use Rattle.mdp_math.specs.Rational.{ℚ, lt_ℚ}
 use Rattle.mdp_math.specs.Written.{◌>>=◌}
-use Rattle.mdp_spec.specs.Mdp.{Entry, Mdp, states_of, choices_at, row_at, value_at}
+use Rattle.mdp_spec.specs.Mdp.{Mdp, states_of, choices_at, row_at, value_at}
 use Rattle.mdp_spec.specs.Written.{written_sum}
 use Rattle.mdp_spec.specs.Rules.{MeetsReachMax, MeetsReachMin}
 use Rattle.mdp_farkas.specs.Compare.{is_at_least, is_at_most}

@@ -6,7 +6,7 @@ use Rattle.std.specs.Prelude.{ℕ, Bool, false, List, [], ◌∷◌, ◌++◌, l
 use Rattle.std.specs.List.{All, flat_map, range_with_len}
 use Rattle.mdp_math.specs.Rational.{ℚ, of_int}
 use Rattle.mdp_math.specs.Written.{◌>>=◌}
-use Rattle.mdp_spec.specs.Mdp.{Entry, Mdp, states_of, choices_at, row_at, value_at}
+use Rattle.mdp_spec.specs.Mdp.{Mdp, states_of, choices_at, row_at, value_at}
 use Rattle.mdp_spec.specs.Written.{written_sum}
 use Rattle.mdp_spec.specs.Rules.{MeetsUpper}
 use Rattle.mdp_farkas.specs.Compare.{is_at_least, is_at_most, is_equal}

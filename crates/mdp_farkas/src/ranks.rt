@@ -66,7 +66,12 @@ fn fall_at(model: &Model, dir: Dir, values: &[Frac], ranks: &[u32], s: u32, c: u
     requires choice { c < length (choices_at model.now s) }
     ensures { result ≡ verdict_of (fall_check dir model.now values.now ranks.now s c ∷ []) }
 {
-    judged(Ok(row_leads_on(model.row(s, c), dir, values, ranks, s)), 8, s, Some(c))
+    judged(
+        Ok(row_leads_on(model.row(s, c), dir, values, ranks, s)),
+        8,
+        s,
+        Some(c),
+    )
 }
 
 /// An entry of the row of each choice leads on from state `s`.
@@ -86,7 +91,15 @@ fn falls_at_choices(model: &Model, values: &[Frac], ranks: &[u32], s: u32) -> Ve
 }
 
 /// State `s` has rank 0 where it is a goal or has value 0; else its row, or for the least probability each row, leads on from it.
-pub(crate) fn rank_at_state(model: &Model, goals: &Marks, dir: Dir, values: &[Frac], ranks: &[u32], s: u32, choice: u32) -> Verdict
+pub(crate) fn rank_at_state(
+    model: &Model,
+    goals: &Marks,
+    dir: Dir,
+    values: &[Frac],
+    ranks: &[u32],
+    s: u32,
+    choice: u32,
+) -> Verdict
     requires goals { length goals.now ≡ states_of model.now }
     requires values { length values.now ≡ states_of model.now }
     requires ranks { length ranks.now ≡ states_of model.now }

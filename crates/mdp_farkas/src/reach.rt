@@ -70,7 +70,14 @@ fn bounds_at_state(model: &Model, dir: Dir, values: &[Frac], s: u32) -> Verdict
 }
 
 /// The value of state `s` is 1 at a goal; else it bounds the sums, and meets that of the policy's choice.
-fn value_at_state(model: &Model, goals: &Marks, dir: Dir, values: &[Frac], s: u32, choice: u32) -> Verdict
+fn value_at_state(
+    model: &Model,
+    goals: &Marks,
+    dir: Dir,
+    values: &[Frac],
+    s: u32,
+    choice: u32,
+) -> Verdict
     requires goals { length goals.now ≡ states_of model.now }
     requires values { length values.now ≡ states_of model.now }
     requires state { s < states_of model.now }
@@ -84,11 +91,24 @@ fn value_at_state(model: &Model, goals: &Marks, dir: Dir, values: &[Frac], s: u3
         Verdict::Yes => {}
         other => return other,
     }
-    judged(row_stands(model, reversed(dir), values, s, choice), 6, s, Some(choice))
+    judged(
+        row_stands(model, reversed(dir), values, s, choice),
+        6,
+        s,
+        Some(choice),
+    )
 }
 
 /// The rules at state `s`, where the policy takes this choice.
-fn reach_at_state(model: &Model, goals: &Marks, dir: Dir, values: &[Frac], ranks: &[u32], s: u32, choice: u32) -> Verdict
+fn reach_at_state(
+    model: &Model,
+    goals: &Marks,
+    dir: Dir,
+    values: &[Frac],
+    ranks: &[u32],
+    s: u32,
+    choice: u32,
+) -> Verdict
     requires goals { length goals.now ≡ states_of model.now }
     requires values { length values.now ≡ states_of model.now }
     requires ranks { length ranks.now ≡ states_of model.now }
@@ -111,7 +131,14 @@ fn reach_at_state(model: &Model, goals: &Marks, dir: Dir, values: &[Frac], ranks
 }
 
 /// The rules at each state, from 0 on.
-fn reach_at_states(model: &Model, goals: &Marks, dir: Dir, values: &[Frac], choices: &[u32], ranks: &[u32]) -> Verdict
+fn reach_at_states(
+    model: &Model,
+    goals: &Marks,
+    dir: Dir,
+    values: &[Frac],
+    choices: &[u32],
+    ranks: &[u32],
+) -> Verdict
     requires goals { length goals.now ≡ states_of model.now }
     requires values { length values.now ≡ states_of model.now }
     requires choices { length choices.now ≡ states_of model.now }
@@ -141,5 +168,12 @@ pub fn holds_reach(model: &Model, goals: &Marks, dir: Dir, cert: &ReachCert) -> 
     ensures min { dir ≡ Min → IfYes result (ReachMin model.now goals.now cert.now.values.items cert.now.choices.items) }
 {
     model.known();
-    reach_at_states(model, goals, dir, cert.values.as_slice(), cert.choices.as_slice(), cert.ranks.as_slice())
+    reach_at_states(
+        model,
+        goals,
+        dir,
+        cert.values.as_slice(),
+        cert.choices.as_slice(),
+        cert.ranks.as_slice(),
+    )
 }

@@ -6,3 +6,4 @@ pub mod Above
 pub mod Close
 pub mod Ranks
 pub mod Reach
+mod Examples

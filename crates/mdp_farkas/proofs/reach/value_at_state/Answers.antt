@@ -1,6 +1,6 @@
 use Rattle.std.proofs.Common.{◌≡◌, Bool, cond, [], ◌∷◌, ◌++◌, sym, ap, subst, ◌∙◌}
 use Rattle.mdp_farkas.specs.Upper.{goal_check, at_choice}
-use Rattle.mdp_farkas.specs.Reach.{bound_checks, policy_check, stands_at, other}
+use Rattle.mdp_farkas.specs.Reach.{bound_checks, policy_check, stands_at}
 use Rattle.mdp_farkas.specs.Verdict.{decide, verdict_of}
 use Rattle.mdp_farkas.specs.declared.verdict.Verdict.TheVariants.{Yes}
 use Rattle.mdp_farkas.proofs.Walk.{halts, goes_on}
