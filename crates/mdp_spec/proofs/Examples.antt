@@ -1,15 +1,15 @@
 -- Small models, trees and policies, computed.
-use Rattle.std.proofs.Common.{◌≡◌, ℕ, zero, suc, Bool, true, false, List, [], ◌∷◌, refl, pos, negsuc, inl, inr, arith, Option, Some, None}
+use Rattle.std.proofs.Common.{◌≡◌, ℕ, Bool, true, false, List, [], ◌∷◌, refl, pos, inl, inr, arith, Some}
 use Rattle.mdp_math.specs.Gcd.{gcd, gcd_with_fuel}
 use Rattle.mdp_math.specs.Rational.{ℚ, of_int, ratio, ◌+ℚ◌, ◌*ℚ◌}
 use Rattle.mdp_math.specs.Written.{narrow, narrow_ℚ, written_add, written_mul}
-use Rattle.mdp_spec.specs.Mdp.{Entry, Choice, State, Mdp, row_at, states_of}
-use Rattle.mdp_spec.specs.Row.{entries, ascends_from, row_sum}
-use Rattle.mdp_spec.specs.Labels.{initial_of, labelled, marks_of}
-use Rattle.mdp_spec.specs.Unit.{unit_of, weight_of, scale_of, whole_reward}
+use Rattle.mdp_spec.specs.Mdp.{Entry, Choice, State, Mdp, row_at}
+use Rattle.mdp_spec.specs.Row.{row_sum}
+use Rattle.mdp_spec.specs.Labels.{initial_of, marks_of}
+use Rattle.mdp_spec.specs.Unit.{unit_of, weight_of, scale_of}
 use Rattle.mdp_spec.specs.Tree.{Tree, Fits, unfolded}
 use Rattle.mdp_spec.specs.Tree.Tree.{leaf, node}
-use Rattle.mdp_spec.specs.Hit.{hits, hit}
+use Rattle.mdp_spec.specs.Hit.{hit}
 use Rattle.mdp_spec.specs.Pay.{pay, total, Enters}
 use Rattle.mdp_spec.specs.Sub.{sub_of}
 use Rattle.mdp_spec.specs.Written.{written_sum}

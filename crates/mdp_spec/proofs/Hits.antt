@@ -1,6 +1,6 @@
 -- What a tree hits, by its first step: 1 at a goal, 0 at a leaf, and at a node the average over the choices, by the weights, of the sum
 -- over the row of probability times what the entry's tree hits.
-use Rattle.std.proofs.Common.{◌≡◌, ℕ, zero, suc, ◌*◌, ◌^◌, ◌<◌, ◌≤◌, Bool, true, false, cond, List, refl, sym, ◌∙◌, ap, arith, pos}
+use Rattle.std.proofs.Common.{◌≡◌, ℕ, zero, suc, ◌*◌, ◌^◌, ◌<◌, ◌≤◌, Bool, true, false, cond, List, refl, sym, ◌∙◌, ap, arith, ℤ, pos}
 use Rattle.std.specs.Int.{◌∣◌}
 use Rattle.std.proofs.Math.Nat.{pow-zero, pow-suc, one-le-mul}
 use Rattle.mdp_math.specs.Rational.{ℚ, of_int, ratio, ◌*ℚ◌, ◌≤ℚ◌}
@@ -38,14 +38,14 @@ of_nat-paths_suc m u n =
 
 -- ---- fractions by their terms
 
-ratio-is : (a b : ℕ) (x : ℚ) → 0 < b → of_int (pos a) ≡ x *ℚ of_int (pos b) → ratio (pos a) b ≡ x
-ratio-is a b x h e = ratio-div (pos a) b h ∙ sym (div-unique (of_int (pos a)) (of_int (pos b)) x (ne-zero_of_pos (of_int (pos b)) (of_nat-pos b h)) (sym e))
+pub ratio-is : (a : ℤ) (b : ℕ) (x : ℚ) → 0 < b → of_int a ≡ x *ℚ of_int (pos b) → ratio a b ≡ x
+ratio-is a b x h e = ratio-div a b h ∙ sym (div-unique (of_int a) (of_int (pos b)) x (ne-zero_of_pos (of_int (pos b)) (of_nat-pos b h)) (sym e))
 
 ratio-self : (b : ℕ) → 0 < b → ratio (pos b) b ≡ 1ℚ
-ratio-self b h = ratio-is b b 1ℚ h (ring rat_ring 1 (λ x. x) (λ x. lit (pos 1) ⊗ x) refl (of_int (pos b)))
+ratio-self b h = ratio-is (pos b) b 1ℚ h (ring rat_ring 1 (λ x. x) (λ x. lit (pos 1) ⊗ x) refl (of_int (pos b)))
 
 pub ratio-none : (b : ℕ) → 0 < b → ratio (pos 0) b ≡ 0ℚ
-ratio-none b h = ratio-is 0 b 0ℚ h (ring rat_ring 1 (λ x. lit (pos 0)) (λ x. lit (pos 0) ⊗ x) refl (of_int (pos b)))
+ratio-none b h = ratio-is (pos 0) b 0ℚ h (ring rat_ring 1 (λ x. lit (pos 0)) (λ x. lit (pos 0) ⊗ x) refl (of_int (pos b)))
 
 -- ---- where a tree ends
 
@@ -123,6 +123,6 @@ unfolding hit
 hit-node m goals u n weights kids s known hu g =
     let f : ℕ → ℕ → Entry → ℚ = λ c e y. hit m goals u n (kids c e) y.target in
     ap (λ (k : ℕ). ratio (pos k) (paths m u (suc n))) (if_not_marked (is_marked goals s) (paths m u (suc n)) _ g)
-    ∙ ratio-is _ (paths m u (suc n)) (mixed m u weights f s) (paths-pos m u (suc n) hu)
+    ∙ ratio-is (pos _) (paths m u (suc n)) (mixed m u weights f s) (paths-pos m u (suc n) hu)
     (node_counts m u (paths m u n) s weights (λ c e y. hits m goals u n (kids c e) y.target) f known hu (λ c e y. of_nat-hits m goals u n (kids c e) y.target hu)
     ∙ ap (λ (w : ℚ). mixed m u weights f s *ℚ w) (sym (of_nat-paths_suc m u n)))

@@ -1,6 +1,7 @@
 pub mod Units
 pub mod Rows
 pub mod Hits
+pub mod Earnings
 pub mod Keeping
 pub mod Above
 pub mod Close
