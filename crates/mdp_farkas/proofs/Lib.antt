@@ -5,3 +5,4 @@ mod Summing
 mod UpperRules
 mod Entries
 mod ReachRules
+mod Examples
