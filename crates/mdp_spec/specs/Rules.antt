@@ -1,4 +1,4 @@
--- The rules for values and a policy of reachability, in exact numbers (Funke, Jantsch and Baier 2020; Jantsch, Funke and Baier 2020). Each
+-- The rules for values and a policy of reachability, in exact numbers (the sums: Funke, Jantsch and Baier 2020). Each
 -- value is from 0 to 1, and 1 at a goal. At any other state the value is at least the sum over each choice's row; where it is the greatest
 -- probability, it is at most the sum over the policy's row; and for the least both the other way round. Ranks fall along the rows that
 -- have to lead to a goal.
