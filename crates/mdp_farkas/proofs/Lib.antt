@@ -1,1 +1,8 @@
 mod Walk
+mod Holds
+mod Comparing
+mod Summing
+mod UpperRules
+mod Entries
+mod ReachRules
+mod Examples

@@ -31,6 +31,13 @@ behind-other Yes v h = absurd (h refl)
 behind-other (No f) v h = refl
 behind-other (Wide s c) v h = refl
 
+-- two parts: a verdict on the first that isn't yes, and a verdict on the second behind a yes
+pub halts : (xs ys : List Check) (v : Verdict) → v ≡ verdict_of xs → (v ≡ Yes → ⊥) → v ≡ verdict_of (xs ++ ys)
+halts xs ys v e h = e ∙ sym (behind-other (verdict_of xs) (verdict_of ys) (λ y. h (e ∙ y))) ∙ sym (verdict_of-append xs ys)
+
+pub goes_on : (xs ys : List Check) (u v : Verdict) → u ≡ verdict_of xs → u ≡ Yes → v ≡ verdict_of ys → v ≡ verdict_of (xs ++ ys)
+goes_on xs ys u v e y h = h ∙ sym (behind-yes (verdict_of xs) (verdict_of ys) (sym e ∙ y)) ∙ sym (verdict_of-append xs ys)
+
 -- ---- parts P 0, P 1, .. make the wholes W 0, W 1, ..
 module _ (P W : ℕ → List Check) (more : (n : ℕ) → W (n + 1) ≡ W n ++ P n) where
   step : (n : ℕ) → verdict_of (W (n + 1)) ≡ behind (verdict_of (W n)) (verdict_of (P n))

@@ -1,3 +1,4 @@
 pub mod Compare
+pub mod Reach
 pub mod Upper
 pub mod Verdict

@@ -3,13 +3,14 @@
 --     rule 4   at a goal it is 1
 --     rule 5   at any other state it is at least the sum over each choice's row
 use Rattle.std.specs.Prelude.{ℕ, Bool, false, List, [], ◌∷◌, ◌++◌, length, map, slice_index_or, Option, Some, None, pos, if◌then◌else◌}
-use Rattle.std.specs.List.{flat_map, range_with_len}
+use Rattle.std.specs.List.{All, flat_map, range_with_len}
 use Rattle.mdp_math.specs.Rational.{ℚ, of_int}
 use Rattle.mdp_math.specs.Written.{◌>>=◌}
-use Rattle.mdp_spec.specs.Mdp.{Entry, Mdp, states_of, choices_at, row_at, value_at}
+use Rattle.mdp_spec.specs.Mdp.{Mdp, states_of, choices_at, row_at, value_at}
 use Rattle.mdp_spec.specs.Written.{written_sum}
+use Rattle.mdp_spec.specs.Rules.{MeetsUpper}
 use Rattle.mdp_farkas.specs.Compare.{is_at_least, is_at_most, is_equal}
-use Rattle.mdp_farkas.specs.Verdict.{Check}
+use Rattle.mdp_farkas.specs.Verdict.{Check, InWidth}
 
 abbrev pub 0ℚ : ℚ
 0ℚ = of_int (pos 0)
@@ -51,3 +52,8 @@ upper_at m goals z s = probability_checks z s ++ (if is_goal goals s then goal_c
 -- the states ascend, at a state the rules, in a rule the choices
 abbrev pub upper_checks : Mdp → List Bool → List ℚ → List Check
 upper_checks m goals z = flat_map (upper_at m goals z) (range_with_len 0 (states_of m))
+
+-- what yes means: the rules hold in exact numbers, and no written term of a check is past width
+pub record IsUpper (m : Mdp) (goals : List Bool) (z : List ℚ) : Type 0 where
+  pub rules : MeetsUpper m goals z
+  pub in_width : All InWidth (upper_checks m goals z)

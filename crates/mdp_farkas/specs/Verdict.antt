@@ -1,5 +1,6 @@
 -- A verdict: what a list of checks, walked in order, says.
-use Rattle.std.specs.Prelude.{ℕ, Bool, true, false, List, [], ◌∷◌, Option, Some, None}
+use Rattle.std.specs.Prelude.{◌≡◌, ℕ, Bool, true, false, List, [], ◌∷◌, Option, Some, None}
+use Rattle.std.specs.Option.{IsSome}
 use Rattle.mdp_farkas.specs.declared.verdict.Verdict.{Verdict}
 use Rattle.mdp_farkas.specs.declared.verdict.Verdict.TheVariants.{Yes, No, Wide}
 
@@ -20,3 +21,16 @@ decide c (Some true) rest = rest
 abbrev pub verdict_of : List Check → Verdict
 verdict_of [] = Yes
 verdict_of (c ∷ cs) = decide c c.holds (verdict_of cs)
+
+-- no written term of the check is past width
+abbrev pub InWidth : Check → Type 0
+InWidth c = IsSome c.holds
+
+abbrev pub IsYes : Verdict → Type 0
+IsYes v = v ≡ Yes
+
+-- P, where the verdict is yes
+abbrev pub IfYes : Verdict → Type 0 → Type 0
+IfYes Yes P = P
+IfYes (No fault) P = Unit {0}
+IfYes (Wide state choice) P = Unit {0}

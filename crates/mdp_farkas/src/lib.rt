@@ -3,8 +3,13 @@
 #![tactic(auto)]
 
 mod compare;
+mod dir;
+mod ranks;
+mod reach;
 mod upper;
 mod verdict;
 
+pub use dir::Dir;
+pub use reach::{ReachCert, holds_reach};
 pub use upper::{UpperCert, holds_upper};
 pub use verdict::{Fault, Verdict};

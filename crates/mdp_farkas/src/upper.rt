@@ -1,8 +1,9 @@
-ghost use Rattle.std.specs.Prelude.{◌≡◌, ◌<◌, length, [], ◌∷◌};
+ghost use Rattle.std.specs.Prelude.{◌≡◌, ◌<◌, ◌↔◌, length, [], ◌∷◌};
 ghost use Rattle.std.specs.Result.{result_ok};
 ghost use Rattle.mdp_spec.specs.Mdp.{states_of, choices_at};
-ghost use Rattle.mdp_farkas.specs.Upper.{covers, probability_checks, goal_check, choice_checks, upper_at, upper_checks};
-ghost use Rattle.mdp_farkas.specs.Verdict.{verdict_of};
+ghost use Rattle.mdp_farkas.specs.Upper.{covers, probability_checks, goal_check, choice_checks, upper_at, upper_checks, IsUpper};
+ghost use Rattle.mdp_farkas.specs.Verdict.{verdict_of, IsYes, IfYes};
+ghost use Rattle.mdp_spec.specs.Bounds.{Above};
 
 use crate::compare::{at_least, at_most, equal};
 use crate::verdict::{Verdict, judged};
@@ -16,7 +17,7 @@ pub struct UpperCert {
 }
 
 /// The value of state `s` is from 0 to 1.
-fn probability_at(values: &[Frac], s: u32) -> Verdict
+pub(crate) fn probability_at(values: &[Frac], s: u32) -> Verdict
     requires { s < length values.now }
     ensures { result ≡ verdict_of (probability_checks values.now s) }
 {
@@ -28,7 +29,7 @@ fn probability_at(values: &[Frac], s: u32) -> Verdict
 }
 
 /// The value of the goal `s` is 1.
-fn goal_at(values: &[Frac], s: u32) -> Verdict
+pub(crate) fn goal_at(values: &[Frac], s: u32) -> Verdict
     requires { s < length values.now }
     ensures { result ≡ verdict_of (goal_check values.now s ∷ []) }
 {
@@ -79,14 +80,12 @@ fn upper_at_state(model: &Model, goals: &Marks, values: &[Frac], s: u32) -> Verd
     }
 }
 
-/// What rules 3, 4 and 5 say of the values: yes, the first rule that is false with its place, or the place of the first written term past
-/// width where that comes before. It takes no memory.
-pub fn holds_upper(model: &Model, goals: &Marks, cert: &UpperCert) -> Verdict
+/// The rules at each state, from 0 on.
+fn upper_at_states(model: &Model, goals: &Marks, values: &[Frac]) -> Verdict
     requires goals { length goals.now ≡ states_of model.now }
-    requires values { length cert.now.values.items ≡ states_of model.now }
-    ensures verdict { result ≡ verdict_of (upper_checks model.now goals.now cert.now.values.items) }
+    requires values { length values.now ≡ states_of model.now }
+    ensures { result ≡ verdict_of (upper_checks model.now goals.now values.now) }
 {
-    let values = cert.values.as_slice();
     for s in 0..model.states() {
         match upper_at_state(model, goals, values, s) {
             Verdict::Yes => {}
@@ -94,4 +93,17 @@ pub fn holds_upper(model: &Model, goals: &Marks, cert: &UpperCert) -> Verdict
         }
     }
     Verdict::Yes
+}
+
+/// What rules 3, 4 and 5 say of the values: yes, the first rule that is false with its place, or the place of the first written term past
+/// width where that comes before. After yes no tree passes the values. It takes no memory.
+pub fn holds_upper(model: &Model, goals: &Marks, cert: &UpperCert) -> Verdict
+    requires goals { length goals.now ≡ states_of model.now }
+    requires values { length cert.now.values.items ≡ states_of model.now }
+    ensures verdict { result ≡ verdict_of (upper_checks model.now goals.now cert.now.values.items) }
+    ensures rules { IsYes result ↔ IsUpper model.now goals.now cert.now.values.items }
+    ensures bound { IfYes result (Above model.now goals.now cert.now.values.items) }
+{
+    model.known();
+    upper_at_states(model, goals, cert.values.as_slice())
 }

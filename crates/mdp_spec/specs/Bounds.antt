@@ -1,6 +1,6 @@
 -- What the values and the policy of a certificate mean, over every policy with history and rational mixing, at every depth. Each sentence
 -- has a name. `k` stands for any whole number of at least 1: what holds for 1/k holds for every fraction above 0.
-use Rattle.std.specs.Prelude.{◌≡◌, ℕ, ◌<◌, ◌≤◌, ◌*◌, ◌⊎◌, Bool, List, length, map, slice_index, slice_index_or, Option, Some, None, pos, is_some, not}
+use Rattle.std.specs.Prelude.{◌≡◌, ℕ, ◌<◌, ◌≤◌, ◌⊎◌, Bool, List, map, slice_index_or, Option, Some, None, pos, is_some, not}
 use Rattle.mdp_math.specs.Rational.{ℚ, of_int, ratio, ◌+ℚ◌, ◌*ℚ◌, ◌-ℚ◌, ◌≤ℚ◌}
 use Rattle.mdp_spec.specs.Mdp.{Mdp, states_of, value_at}
 use Rattle.mdp_spec.specs.Tree.{Tree, Fits, unfolded}

@@ -1,8 +1,8 @@
 -- The probability of meeting a goal within the depth of a tree.
-use Rattle.std.specs.Prelude.{ℕ, zero, suc, ◌*◌, ◌^◌, Bool, List, pos, if◌then◌else◌}
+use Rattle.std.specs.Prelude.{ℕ, zero, suc, ◌*◌, Bool, List, pos, if◌then◌else◌}
 use Rattle.mdp_math.specs.Rational.{ℚ, ratio}
 use Rattle.mdp_spec.specs.Mdp.{Mdp, choices_at}
-use Rattle.mdp_spec.specs.Unit.{count_at, unit_of, weight_of}
+use Rattle.mdp_spec.specs.Unit.{count_at, weight_of}
 use Rattle.mdp_spec.specs.Tree.{Tree, paths, is_marked}
 use Rattle.mdp_spec.specs.Tree.Tree.{leaf, node}
 

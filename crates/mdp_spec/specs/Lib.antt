@@ -4,6 +4,7 @@ pub mod Labels
 pub mod Mdp
 pub mod Pay
 pub mod Row
+pub mod Rules
 pub mod Sub
 pub mod Tree
 pub mod Unit

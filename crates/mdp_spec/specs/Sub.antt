@@ -1,6 +1,6 @@
 -- Subsystems (Funke, Jantsch and Baier 2020): each state that is neither kept nor a goal is left with one choice, a loop that earns nothing.
 use Rattle.std.specs.Prelude.{ℕ, suc, Bool, List, [], ◌∷◌, map, pos, ◌||◌, if◌then◌else◌}
-use Rattle.mdp_math.specs.Rational.{ℚ, of_int}
+use Rattle.mdp_math.specs.Rational.{of_int}
 use Rattle.mdp_spec.specs.Mdp.{Choice, State, Mdp}
 use Rattle.mdp_spec.specs.Tree.{is_marked}
 

@@ -2,7 +2,7 @@
 -- history-dependent policy, cut at a horizon).
 use Rattle.std.specs.Prelude.{◌≡◌, ℕ, zero, suc, ◌*◌, ◌^◌, Bool, false, ◌==◌, slice_index, slice_index_or, List, if◌then◌else◌}
 use Rattle.mdp_math.specs.Sum.{EachAt}
-use Rattle.mdp_spec.specs.Mdp.{Entry, Mdp, choices_at, row_at}
+use Rattle.mdp_spec.specs.Mdp.{Mdp, choices_at, row_at}
 use Rattle.mdp_spec.specs.Unit.{count_at, unit_of}
 use Rattle.mdp_math.specs.Rational.{of_int}
 use Rattle.std.specs.Prelude.{pos}

@@ -1,20 +1,19 @@
-use Rattle.std.proofs.Common.{ℕ, sym, ap, subst, ◌∙◌, ◌<◌}
-use Rattle.std.specs.List.{flat_map, range_with_len}
-use Rattle.mdp_farkas.specs.Upper.{upper_at, upper_checks}
+use Rattle.std.proofs.Common.{◌≡◌, ap, ◌∙◌}
+use Rattle.mdp_farkas.specs.Upper.{upper_checks}
 use Rattle.mdp_farkas.specs.Verdict.{verdict_of}
-use Rattle.mdp_farkas.proofs.Walk.{passed, stopped, flat_more}
+use Rattle.mdp_farkas.proofs.UpperRules.{upper_rules, upper_bound}
 use Rattle.mdp_farkas.proofs.upper.holds_upper.Goals as goal
 
-pub returns-in_default : goal.returns-in_default
-returns-in_default c =
-    let f = upper_at c.args.model.now c.args.goals.now c.as_slice-values.result.now in
+pub returns : goal.returns
+returns c =
+    let m = c.args.model.now in
+    let goals = c.args.goals.now in
+    let z = c.args.cert.now.values.items in
+    let e : c.upper_at_states.result ≡ verdict_of (upper_checks c.args.model.now c.args.goals.now c.args.cert.now.values.items) =
+    c.upper_at_states.ensures ∙ ap (λ z. verdict_of (upper_checks c.args.model.now c.args.goals.now z)) c.as_slice.ensures.value
+    in
     record {
-      verdict =
-          stopped f (λ n. flat_map f (range_with_len 0 n)) (flat_more f) c.loop-s.s _ c.upper_at_state.result (subst (λ (n : ℕ). c.loop-s.s < n) c.states-s-end.ensures c.loop-s-test.true) c.loop-s.invariant c.upper_at_state.ensures c.in_default.not-Yes
-          ∙ ap (λ z. verdict_of (upper_checks c.args.model.now c.args.goals.now z)) c.as_slice-values.ensures.value;
+      verdict = e;
+      rules = upper_rules m goals z c.upper_at_states.result e;
+      bound = upper_bound m goals z c.upper_at_states.result c.known.ensures e;
     }
-
-pub loop-s-preserved : goal.loop-s-preserved
-loop-s-preserved c =
-    let f = upper_at c.args.model.now c.args.goals.now c.as_slice-values.result.now in
-    passed f (λ n. flat_map f (range_with_len 0 n)) (flat_more f) c.loop-s.s c.loop-s.invariant (sym c.upper_at_state.ensures ∙ c.in-Yes.is)

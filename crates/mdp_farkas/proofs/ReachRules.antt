@@ -1,0 +1,257 @@
+-- The verdict on values and a policy is yes exactly where the rules hold in exact numbers and no written term is past width.
+use Rattle.std.proofs.Common.{◌≡◌, ℕ, ◌<◌, ◌⊎◌, inl, inr, ⊎_elim, Bool, true, false, true≢false, not, ◌&&◌, ◌||◌, ltb, lt-ltb, ltb-true, eqb-true, eq-eqb, T, List, [], ◌∷◌, ◌++◌, length, slice_index, Option, Some, ◌↔◌, refl, sym, ap, subst, ◌∙◌, pos}
+use Rattle.std.specs.List.{Any, list_any}
+use Rattle.std.specs.Option.{IsSome}
+use Rattle.std.proofs.lemmas.List.Elements.{All-from_recursion, recursion_from_All}
+use Rattle.std.proofs.lemmas.List.Folds.{Any-from_list_any, list_any-from_Any}
+use Rattle.mdp_math.specs.Rational.{ℚ, of_int, lt_ℚ, ◌≤ℚ◌, ◌<ℚ◌}
+use Rattle.mdp_math.proofs.Order.{≤ℚ_of_eq, ≤ℚ_or_gt, ≤ℚ_antisymm, clash_ℚ}
+use Rattle.mdp_spec.specs.Mdp.{Entry, Mdp, states_of, choices_at, row_at, value_at}
+use Rattle.mdp_spec.specs.Row.{IsMdp, row_sum}
+use Rattle.mdp_spec.specs.Rules.{IsPolicy, AreProbabilities, RanksEnd}
+use Rattle.mdp_spec.specs.Bounds.{ReachMax, ReachMin}
+use Rattle.mdp_spec.specs.Tree.{is_marked}
+use Rattle.mdp_spec.proofs.Reach.{reach_max_of_rules, reach_min_of_rules}
+use Rattle.mdp_farkas.specs.Verdict.{Check, verdict_of, InWidth, IsYes, IfYes}
+use Rattle.mdp_farkas.specs.Upper.{0ℚ, 1ℚ, is_goal, goal_check}
+use Rattle.mdp_farkas.specs.Reach.{stands, other, stands_at, bound_check, bound_checks, policy_check, value_checks, ends, rank_check, leads_down, fall_check, fall_checks, rank_checks, reach_at, reach_checks, MeetsReach, IsReach}
+use Rattle.mdp_farkas.specs.declared.dir.Dir.{Dir}
+use Rattle.mdp_farkas.specs.declared.dir.Dir.TheVariants.{Max, Min}
+use Rattle.mdp_farkas.specs.declared.verdict.Verdict.{Verdict}
+use Rattle.mdp_farkas.proofs.Holds.{Each, Holds, each_of_yes, yes_of_each, told_of_each, if_yes, each_append, each_left, each_right, each_flat, each_flat_at, each_map, each_map_at, each_if, each_if_true, each_if_false}
+use Rattle.mdp_farkas.proofs.Comparing.{le_of_at_least, at_least_of_le, le_of_at_most, at_most_of_le, same_of_equal, equal_of_same}
+use Rattle.mdp_farkas.proofs.Summing.{summed, told_of_holds}
+
+-- ---- tests
+
+some_same : (a b : Bool) → Some a ≡ Some b → a ≡ b
+some_same a b e = cc
+
+true_of_T : (b : Bool) → T b → b ≡ true
+true_of_T true h = refl
+true_of_T false h = absurd h
+
+test_of_lt : (x y : ℚ) → x <ℚ y → lt_ℚ x y ≡ true
+test_of_lt x y h = true_of_T (lt_ℚ x y) h.lt
+
+lt_of_test : (x y : ℚ) → lt_ℚ x y ≡ true → x <ℚ y
+lt_of_test x y e = record { lt = subst T (sym e) tt }
+
+not_true : (b : Bool) → (b ≡ true → ⊥) → b ≡ false
+not_true true h = absurd (h refl)
+not_true false h = refl
+
+no_test_of_le : (x y : ℚ) → y ≤ℚ x → lt_ℚ x y ≡ false
+no_test_of_le x y h = not_true (lt_ℚ x y) (λ e. clash_ℚ x y (lt_of_test x y e) h)
+
+le_of_no_test : (x y : ℚ) → lt_ℚ x y ≡ false → y ≤ℚ x
+le_of_no_test x y e = ⊎_elim (λ l. l) (λ l. absurd (true≢false (sym (test_of_lt x y l) ∙ e))) (≤ℚ_or_gt y x)
+
+both_of_and : (a b : Bool) → a && b ≡ true → (a ≡ true) × (b ≡ true)
+both_of_and true b e = (refl, e)
+both_of_and false b e = absurd (true≢false (sym e))
+
+and_of_both : (a b : Bool) → a ≡ true → b ≡ true → a && b ≡ true
+and_of_both true b e f = f
+and_of_both false b e f = e
+
+end_of : (g l : Bool) → (g ≡ true) ⊎ (l ≡ false) → (g || not l) ≡ true
+end_of true l h = refl
+end_of false true h = ⊎_elim (λ e. e) (λ e. sym e) h
+end_of false false h = refl
+
+no_end_of : (g l : Bool) → g ≡ false → l ≡ true → (g || not l) ≡ false
+no_end_of true l e f = absurd (true≢false e)
+no_end_of false true e f = refl
+no_end_of false false e f = absurd (true≢false (sym f))
+
+of_end : (g l : Bool) → (g || not l) ≡ true → (g ≡ true) ⊎ (l ≡ false)
+of_end true l e = inl refl
+of_end false true e = absurd (true≢false (sym e))
+of_end false false e = inr refl
+
+of_no_end : (g l : Bool) → (g || not l) ≡ false → (g ≡ false) × (l ≡ true)
+of_no_end true l e = absurd (true≢false e)
+of_no_end false true e = (refl, refl)
+of_no_end false false e = absurd (true≢false e)
+
+-- ---- how a value stands to a sum
+
+abbrev pub Stands : Dir → ℚ → ℚ → Type 0
+Stands Max value sum = sum ≤ℚ value
+Stands Min value sum = value ≤ℚ sum
+
+stands_of : (dir : Dir) (x y : ℚ) → stands dir x y ≡ Some true → Stands dir x y
+stands_of Max x y h = le_of_at_least x y h
+stands_of Min x y h = le_of_at_most x y h
+
+of_stands : (dir : Dir) (x y : ℚ) → Stands dir x y → IsSome (stands dir x y) → stands dir x y ≡ Some true
+of_stands Max x y h w = at_least_of_le x y h w
+of_stands Min x y h w = at_most_of_le x y h w
+
+module _ (m : Mdp) (z : List ℚ) where
+  stands_at_of : (dir : Dir) (s c : ℕ) → stands_at dir m z s c ≡ Some true → Stands dir (value_at z s) (row_sum (row_at m s c) z)
+  stands_at_of dir s c h = stands_of dir (value_at z s) (row_sum (row_at m s c) z) (sym (summed (stands dir (value_at z s)) z (row_at m s c) (told_of_holds _ h)) ∙ h)
+
+  of_stands_at : (dir : Dir) (s c : ℕ) → Stands dir (value_at z s) (row_sum (row_at m s c) z) → IsSome (stands_at dir m z s c) → stands_at dir m z s c ≡ Some true
+  of_stands_at dir s c le w =
+      let e = summed (stands dir (value_at z s)) z (row_at m s c) w in
+      e ∙ of_stands dir (value_at z s) (row_sum (row_at m s c) z) le (subst (λ (o : Option Bool). IsSome o) e w)
+
+module _ (dir : Dir) (m : Mdp) (goals : List Bool) (z : List ℚ) (policy ranks : List ℕ) where
+  at : (P : Check → Type 0) (s : ℕ) → Each P (reach_checks dir m goals z policy ranks) → s < states_of m → Each P (reach_at dir m goals z ranks s (slice_index policy s))
+  at P s h l = each_flat_at P (λ s. reach_at dir m goals z ranks s (slice_index policy s)) (states_of m) s h l
+
+  values_at : (P : Check → Type 0) (s : ℕ) → Each P (reach_at dir m goals z ranks s (slice_index policy s)) → Each P (value_checks dir m goals z s (slice_index policy s))
+  values_at P s h = each_left P (value_checks dir m goals z s (slice_index policy s)) (rank_checks dir m goals z ranks s (slice_index policy s)) h.1.1.1
+
+  ranks_at : (P : Check → Type 0) (s : ℕ) → Each P (reach_at dir m goals z ranks s (slice_index policy s)) → Each P (rank_checks dir m goals z ranks s (slice_index policy s))
+  ranks_at P s h = each_right P (value_checks dir m goals z s (slice_index policy s)) (rank_checks dir m goals z ranks s (slice_index policy s)) h.1.1.1
+
+  goal_at : (P : Check → Type 0) (s : ℕ) → is_goal goals s ≡ true → Each P (reach_at dir m goals z ranks s (slice_index policy s)) → P (goal_check z s)
+  goal_at P s g h = (each_if_true P (is_goal goals s) (goal_check z s ∷ []) (bound_checks dir m z s ++ policy_check dir m z s (slice_index policy s) ∷ []) g (values_at P s h)).0
+
+  sums_at : (P : Check → Type 0) (s : ℕ) → is_goal goals s ≡ false → Each P (reach_at dir m goals z ranks s (slice_index policy s)) → Each P (bound_checks dir m z s ++ policy_check dir m z s (slice_index policy s) ∷ [])
+  sums_at P s g h = each_if_false P (is_goal goals s) (goal_check z s ∷ []) (bound_checks dir m z s ++ policy_check dir m z s (slice_index policy s) ∷ []) g (values_at P s h)
+
+  bound_at : (P : Check → Type 0) (s c : ℕ) → is_goal goals s ≡ false → c < length (choices_at m s) → Each P (reach_at dir m goals z ranks s (slice_index policy s)) → P (bound_check dir m z s c)
+  bound_at P s c g i h = each_map_at P (bound_check dir m z s) (length (choices_at m s)) c (each_left P (bound_checks dir m z s) (policy_check dir m z s (slice_index policy s) ∷ []) (sums_at P s g h)) i
+
+  policy_at : (P : Check → Type 0) (s : ℕ) → is_goal goals s ≡ false → Each P (reach_at dir m goals z ranks s (slice_index policy s)) → P (policy_check dir m z s (slice_index policy s))
+  policy_at P s g h = (each_right P (bound_checks dir m z s) (policy_check dir m z s (slice_index policy s) ∷ []) (sums_at P s g h)).0
+
+  end_at : (P : Check → Type 0) (s : ℕ) → ends goals z s ≡ true → Each P (reach_at dir m goals z ranks s (slice_index policy s)) → P (rank_check ranks s)
+  end_at P s e h = (each_if_true P (ends goals z s) (rank_check ranks s ∷ []) (fall_checks dir m z ranks s (slice_index policy s)) e (ranks_at P s h)).0
+
+  falls_at : (P : Check → Type 0) (s : ℕ) → ends goals z s ≡ false → Each P (reach_at dir m goals z ranks s (slice_index policy s)) → Each P (fall_checks dir m z ranks s (slice_index policy s))
+  falls_at P s e h = each_if_false P (ends goals z s) (rank_check ranks s ∷ []) (fall_checks dir m z ranks s (slice_index policy s)) e (ranks_at P s h)
+
+  is_end : (s : ℕ) → (is_marked goals s ≡ true) ⊎ (value_at z s ≡ of_int (pos 0)) → ends goals z s ≡ true
+  is_end s h = end_of (is_goal goals s) (lt_ℚ 0ℚ (value_at z s)) (⊎_elim (λ g. inl g) (λ e. inr (no_test_of_le 0ℚ (value_at z s) (≤ℚ_of_eq (value_at z s) 0ℚ e))) h)
+
+  is_no_end : (s : ℕ) → is_marked goals s ≡ false → 0ℚ <ℚ value_at z s → ends goals z s ≡ false
+  is_no_end s g l = no_end_of (is_goal goals s) (lt_ℚ 0ℚ (value_at z s)) g (test_of_lt 0ℚ (value_at z s) l)
+
+  -- ---- what holds, in exact numbers
+
+  module _ (h : Each Holds (reach_checks dir m goals z policy ranks)) where
+    choices_of : IsPolicy m policy
+    choices_of s l = ltb-true (slice_index policy s) (length (choices_at m s)) (some_same _ _ (at Holds s h l).0)
+
+    probabilities_of : AreProbabilities m goals z
+    probabilities_of = record {
+      at_least_zero = λ s l. le_of_at_least (value_at z s) 0ℚ (at Holds s h l).1.0;
+      at_most_one = λ s l. le_of_at_most (value_at z s) 1ℚ (at Holds s h l).1.1.0;
+      at_goal = λ s l g. same_of_equal (value_at z s) 1ℚ (goal_at Holds s g (at Holds s h l));
+    }
+
+    bounds_of : (s c : ℕ) → s < states_of m → is_marked goals s ≡ false → c < length (choices_at m s) → Stands dir (value_at z s) (row_sum (row_at m s c) z)
+    bounds_of s c l g i = stands_at_of m z dir s c (bound_at Holds s c g i (at Holds s h l))
+
+    meets_of : (s : ℕ) → s < states_of m → is_marked goals s ≡ false → Stands (other dir) (value_at z s) (row_sum (row_at m s (slice_index policy s)) z)
+    meets_of s l g = stands_at_of m z (other dir) s (slice_index policy s) (policy_at Holds s g (at Holds s h l))
+
+    ends_of : RanksEnd m goals z ranks
+    ends_of s l e = eqb-true (slice_index ranks s) 0 (some_same _ _ (end_at Holds s (is_end s e) (at Holds s h l)))
+
+    falls_of : (s : ℕ) → s < states_of m → is_marked goals s ≡ false → 0ℚ <ℚ value_at z s → Each Holds (fall_checks dir m z ranks s (slice_index policy s))
+    falls_of s l g p = falls_at Holds s (is_no_end s g p) (at Holds s h l)
+
+  -- ---- and the other way round
+
+  module _ (s : ℕ) (l : s < states_of m) (w : Each InWidth (reach_at dir m goals z ranks s (slice_index policy s)))
+      (choice : slice_index policy s < length (choices_at m s)) (p : AreProbabilities m goals z)
+      (bounds : (c : ℕ) → is_marked goals s ≡ false → c < length (choices_at m s) → Stands dir (value_at z s) (row_sum (row_at m s c) z))
+      (meets : is_marked goals s ≡ false → Stands (other dir) (value_at z s) (row_sum (row_at m s (slice_index policy s)) z))
+      (end : RanksEnd m goals z ranks)
+      (falls : is_marked goals s ≡ false → 0ℚ <ℚ value_at z s → Each Holds (fall_checks dir m z ranks s (slice_index policy s))) where
+    values_hold : Each Holds (value_checks dir m goals z s (slice_index policy s))
+    values_hold =
+        each_if Holds (is_goal goals s) (goal_check z s ∷ []) (bound_checks dir m z s ++ policy_check dir m z s (slice_index policy s) ∷ [])
+        (λ g. (equal_of_same (value_at z s) 1ℚ (AreProbabilities.at_goal p s l g) (goal_at InWidth s g w), tt))
+        (λ g.
+        each_append Holds (bound_checks dir m z s) (policy_check dir m z s (slice_index policy s) ∷ [])
+        (each_map Holds (bound_check dir m z s) (length (choices_at m s)) (λ c i. of_stands_at m z dir s c (bounds c g i) (bound_at InWidth s c g i w)))
+        (of_stands_at m z (other dir) s (slice_index policy s) (meets g) (policy_at InWidth s g w), tt))
+
+    ranks_hold : Each Holds (rank_checks dir m goals z ranks s (slice_index policy s))
+    ranks_hold =
+        each_if Holds (ends goals z s) (rank_check ranks s ∷ []) (fall_checks dir m z ranks s (slice_index policy s))
+        (λ e.
+        let zero_at = end s l (⊎_elim (λ g. inl g) (λ n. inr (≤ℚ_antisymm _ _ (le_of_no_test 0ℚ (value_at z s) n) (AreProbabilities.at_least_zero p s l))) (of_end (is_goal goals s) (lt_ℚ 0ℚ (value_at z s)) e)) in
+        (ap Some (eq-eqb (slice_index ranks s) 0 zero_at), tt))
+        (λ e. let n = of_no_end (is_goal goals s) (lt_ℚ 0ℚ (value_at z s)) e in falls n.0 (lt_of_test 0ℚ (value_at z s) n.1))
+
+    state_holds : Each Holds (reach_at dir m goals z ranks s (slice_index policy s))
+    state_holds = (
+      ap Some (lt-ltb (slice_index policy s) (length (choices_at m s)) choice),
+      (
+        at_least_of_le (value_at z s) 0ℚ (AreProbabilities.at_least_zero p s l) w.1.0,
+        (at_most_of_le (value_at z s) 1ℚ (AreProbabilities.at_most_one p s l) w.1.1.0, each_append Holds (value_checks dir m goals z s (slice_index policy s)) (rank_checks dir m goals z ranks s (slice_index policy s)) values_hold ranks_hold),
+      ),
+    )
+
+-- ---- each direction
+
+module _ (m : Mdp) (goals : List Bool) (z : List ℚ) (policy ranks : List ℕ) where
+  max_falls : (s c : ℕ) → list_any (λ (y : Entry). leads_down Max z ranks s y.target) (row_at m s c) ≡ true → Any (λ y. (0ℚ <ℚ value_at z y.target) × (slice_index ranks y.target < slice_index ranks s)) (row_at m s c)
+  max_falls s c e =
+      let a = Any-from_list_any (λ (y : Entry). leads_down Max z ranks s y.target) (row_at m s c) e in
+      let b = both_of_and (ltb (slice_index ranks (Entry.target a.1)) (slice_index ranks s)) (lt_ℚ 0ℚ (value_at z (Entry.target a.1))) a.4 in
+      (a.0, a.1, a.2, a.3, (lt_of_test 0ℚ _ b.1, ltb-true _ _ b.0))
+
+  falls_max : (s c : ℕ) → Any (λ y. (0ℚ <ℚ value_at z y.target) × (slice_index ranks y.target < slice_index ranks s)) (row_at m s c) → list_any (λ (y : Entry). leads_down Max z ranks s y.target) (row_at m s c) ≡ true
+  falls_max s c a = list_any-from_Any (λ (y : Entry). leads_down Max z ranks s y.target) (row_at m s c) (a.0, a.1, a.2, a.3, and_of_both _ _ (lt-ltb _ _ a.4.1) (test_of_lt 0ℚ _ a.4.0))
+
+  min_falls : (s c : ℕ) → list_any (λ (y : Entry). leads_down Min z ranks s y.target) (row_at m s c) ≡ true → Any (λ y. slice_index ranks y.target < slice_index ranks s) (row_at m s c)
+  min_falls s c e = let a = Any-from_list_any (λ (y : Entry). leads_down Min z ranks s y.target) (row_at m s c) e in (a.0, a.1, a.2, a.3, ltb-true _ _ a.4)
+
+  falls_min : (s c : ℕ) → Any (λ y. slice_index ranks y.target < slice_index ranks s) (row_at m s c) → list_any (λ (y : Entry). leads_down Min z ranks s y.target) (row_at m s c) ≡ true
+  falls_min s c a = list_any-from_Any (λ (y : Entry). leads_down Min z ranks s y.target) (row_at m s c) (a.0, a.1, a.2, a.3, lt-ltb _ _ a.4)
+
+  meets_of_holds : (dir : Dir) → Each Holds (reach_checks dir m goals z policy ranks) → MeetsReach dir m goals z policy ranks
+  meets_of_holds Max h = record {
+    choices = choices_of Max m goals z policy ranks h;
+    probabilities = probabilities_of Max m goals z policy ranks h;
+    covers = bounds_of Max m goals z policy ranks h;
+    reached = meets_of Max m goals z policy ranks h;
+    ends = ends_of Max m goals z policy ranks h;
+    falls = λ s l g p. max_falls s (slice_index policy s) (some_same _ _ (falls_of Max m goals z policy ranks h s l g p).0);
+  }
+  meets_of_holds Min h = record {
+    choices = choices_of Min m goals z policy ranks h;
+    probabilities = probabilities_of Min m goals z policy ranks h;
+    covered = bounds_of Min m goals z policy ranks h;
+    reached = meets_of Min m goals z policy ranks h;
+    ends = ends_of Min m goals z policy ranks h;
+    falls = λ s c l g p i. min_falls s c (some_same _ _ (each_map_at Holds (fall_check Min m z ranks s) (length (choices_at m s)) c (falls_of Min m goals z policy ranks h s l g p) i));
+  }
+
+  holds_of_meets : (dir : Dir) (s : ℕ) → s < states_of m → MeetsReach dir m goals z policy ranks → Each InWidth (reach_at dir m goals z ranks s (slice_index policy s)) → Each Holds (reach_at dir m goals z ranks s (slice_index policy s))
+  holds_of_meets Max s l r w =
+      state_holds Max m goals z policy ranks s l w (r.choices s l) r.probabilities (λ c g i. r.covers s c l g i) (λ g. r.reached s l g) r.ends
+      (λ g p. (ap Some (falls_max s (slice_index policy s) (r.falls s l g p)), tt))
+  holds_of_meets Min s l r w =
+      state_holds Min m goals z policy ranks s l w (r.choices s l) r.probabilities (λ c g i. r.covered s c l g i) (λ g. r.reached s l g) r.ends
+      (λ g p. each_map Holds (fall_check Min m z ranks s) (length (choices_at m s)) (λ c i. ap Some (falls_min s c (r.falls s c l g p i))))
+
+  pub reach_rules : (dir : Dir) (v : Verdict) → v ≡ verdict_of (reach_checks dir m goals z policy ranks) → IsYes v ↔ IsReach dir m goals z policy ranks
+  reach_rules dir v e = (
+    (λ yes_.
+        let h = each_of_yes (reach_checks dir m goals z policy ranks) (sym e ∙ yes_) in
+        record { rules = meets_of_holds dir h; in_width = All-from_recursion InWidth (reach_checks dir m goals z policy ranks) (told_of_each (reach_checks dir m goals z policy ranks) h) }),
+    (λ is.
+        let w = recursion_from_All InWidth (reach_checks dir m goals z policy ranks) is.in_width in
+        e ∙ yes_of_each (reach_checks dir m goals z policy ranks)
+        (each_flat Holds (λ s. reach_at dir m goals z ranks s (slice_index policy s)) (states_of m) (λ s l. holds_of_meets dir s l is.rules (at dir m goals z policy ranks InWidth s w l)))),
+  )
+
+  pub reach_max : (dir : Dir) (v : Verdict) → IsMdp m → v ≡ verdict_of (reach_checks dir m goals z policy ranks) → dir ≡ Max → IfYes v (ReachMax m goals z policy)
+  reach_max dir v known e is =
+      if_yes v (ReachMax m goals z policy)
+      (λ yes_. reach_max_of_rules m goals z policy ranks known (subst (λ (d : Dir). MeetsReach d m goals z policy ranks) is (IsReach.rules ((reach_rules dir v e).0 yes_))))
+
+  pub reach_min : (dir : Dir) (v : Verdict) → IsMdp m → v ≡ verdict_of (reach_checks dir m goals z policy ranks) → dir ≡ Min → IfYes v (ReachMin m goals z policy)
+  reach_min dir v known e is =
+      if_yes v (ReachMin m goals z policy)
+      (λ yes_. reach_min_of_rules m goals z policy ranks known (subst (λ (d : Dir). MeetsReach d m goals z policy ranks) is (IsReach.rules ((reach_rules dir v e).0 yes_))))

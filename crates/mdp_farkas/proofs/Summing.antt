@@ -1,0 +1,40 @@
+-- A written sum is the sum, where none of its terms is past width.
+use Rattle.std.proofs.Common.{◌≡◌, Bool, true, true≢false, List, [], ◌∷◌, Option, Some, None, refl, sym, ap, subst, ◌∙◌, pos}
+use Rattle.std.specs.Option.{IsSome, option_and_then}
+use Rattle.mdp_math.specs.Rational.{ℚ, of_int, ◌+ℚ◌, ◌*ℚ◌}
+use Rattle.mdp_math.specs.Written.{written_add, written_mul}
+use Rattle.mdp_math.proofs.Written.{written_mul-some, written_add-some}
+use Rattle.mdp_math.proofs.Ring.{◌⊕◌, lit, ring}
+use Rattle.mdp_math.proofs.Laws.{rat_ring, zero-+ℚ, +ℚ_assoc}
+use Rattle.mdp_spec.specs.Mdp.{Entry, value_at}
+use Rattle.mdp_spec.specs.Row.{row_sum}
+use Rattle.mdp_spec.specs.Written.{written_sum}
+
+-- the first step that is told
+told : {A B : Type 0} (o : Option A) (f : A → Option B) (v : B) → Some v ≡ option_and_then f o → (a : A) × (Some a ≡ o) × (Some v ≡ f a)
+told None f v e = cc
+told (Some a) f v e = (a, refl, e)
+
+pub written_sum-some : (z : List ℚ) (acc : ℚ) (row : List Entry) (v : ℚ) → Some v ≡ written_sum z acc row → v ≡ acc +ℚ row_sum row z
+written_sum-some z acc [] v e =
+    let same : v ≡ acc = cc in
+    same ∙ ring rat_ring 1 (λ a. a) (λ a. a ⊕ lit (pos 0)) refl acc
+written_sum-some z acc (x ∷ row) v e =
+    let p = told (written_mul x.prob (value_at z x.target)) (λ term. option_and_then (λ sum. written_sum z sum row) (written_add acc term)) v e in
+    let q = told (written_add acc p.0) (λ sum. written_sum z sum row) v p.2 in
+    let product = written_mul-some x.prob (value_at z x.target) p.0 p.1 in
+    let sum = written_add-some acc p.0 q.0 q.1 in
+    written_sum-some z q.0 row v q.2
+    ∙ ap (λ (s : ℚ). s +ℚ row_sum row z) (sum ∙ ap (λ (t : ℚ). acc +ℚ t) product)
+    ∙ +ℚ_assoc acc (x.prob *ℚ value_at z x.target) (row_sum row z)
+
+summed_by : (f : ℚ → Option Bool) (z : List ℚ) (row : List Entry) (o : Option ℚ) → o ≡ written_sum z (of_int (pos 0)) row → IsSome (option_and_then f o) → option_and_then f o ≡ f (row_sum row z)
+summed_by f z row None e h = absurd (true≢false (sym h))
+summed_by f z row (Some v) e h = ap f (written_sum-some z (of_int (pos 0)) row v e ∙ zero-+ℚ (row_sum row z))
+
+-- what is asked of a written sum is asked of the sum
+pub summed : (f : ℚ → Option Bool) (z : List ℚ) (row : List Entry) → IsSome (option_and_then f (written_sum z (of_int (pos 0)) row)) → option_and_then f (written_sum z (of_int (pos 0)) row) ≡ f (row_sum row z)
+summed f z row h = summed_by f z row (written_sum z (of_int (pos 0)) row) refl h
+
+pub told_of_holds : (o : Option Bool) → o ≡ Some true → IsSome o
+told_of_holds o e = subst (λ (x : Option Bool). IsSome x) (sym e) refl

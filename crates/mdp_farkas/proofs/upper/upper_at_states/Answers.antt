@@ -1,0 +1,15 @@
+use Rattle.std.proofs.Common.{ℕ, sym, subst, ◌∙◌, ◌<◌}
+use Rattle.std.specs.List.{flat_map, range_with_len}
+use Rattle.mdp_farkas.specs.Upper.{upper_at}
+use Rattle.mdp_farkas.proofs.Walk.{passed, stopped, flat_more}
+use Rattle.mdp_farkas.proofs.upper.upper_at_states.Goals as goal
+
+pub returns-in_default : goal.returns-in_default
+returns-in_default c =
+    let f = upper_at c.args.model.now c.args.goals.now c.args.values.now in
+    stopped f (λ n. flat_map f (range_with_len 0 n)) (flat_more f) c.loop-s.s _ c.upper_at_state.result (subst (λ (n : ℕ). c.loop-s.s < n) c.states-s-end.ensures c.loop-s-test.true) c.loop-s.invariant c.upper_at_state.ensures c.in_default.not-Yes
+
+pub loop-s-preserved : goal.loop-s-preserved
+loop-s-preserved c =
+    let f = upper_at c.args.model.now c.args.goals.now c.args.values.now in
+    passed f (λ n. flat_map f (range_with_len 0 n)) (flat_more f) c.loop-s.s c.loop-s.invariant (sym c.upper_at_state.ensures ∙ c.in-Yes.is)

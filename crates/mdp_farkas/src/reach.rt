@@ -1,0 +1,179 @@
+ghost use Rattle.std.specs.Prelude.{◌≡◌, ◌<◌, ◌↔◌, length, [], ◌∷◌, slice_index};
+ghost use Rattle.std.specs.Result.{result_ok};
+ghost use Rattle.mdp_spec.specs.Mdp.{states_of, choices_at};
+ghost use Rattle.mdp_farkas.specs.Reach.{choice_exists, other, stands_at, bound_checks, value_checks, reach_at, reach_checks, IsReach};
+ghost use Rattle.mdp_farkas.specs.Verdict.{verdict_of, IsYes, IfYes};
+ghost use Rattle.mdp_farkas.specs.declared.dir.Dir.TheVariants.{Max, Min};
+ghost use Rattle.mdp_spec.specs.Bounds.{ReachMax, ReachMin};
+
+use crate::compare::{at_least, at_most};
+use crate::dir::Dir;
+use crate::ranks::rank_at_state;
+use crate::upper::{goal_at, probability_at};
+use crate::verdict::{Verdict, judged};
+use mdp_num::{Frac, Wide};
+use mdp_rows::{Marks, Model};
+
+/// Values, a memoryless policy and ranks that are said to be the greatest or the least probabilities of reaching a goal: one per state.
+#[derive(Debug, Drop)]
+pub struct ReachCert {
+    pub values: Vec<Frac>,
+    pub choices: Vec<u32>,
+    pub ranks: Vec<u32>,
+}
+
+/// The other direction.
+fn reversed(dir: Dir) -> Dir
+    ensures { result ≡ other dir }
+{
+    match dir {
+        Dir::Max => Dir::Min,
+        Dir::Min => Dir::Max,
+    }
+}
+
+/// State `s` has the choice.
+fn choice_at(model: &Model, s: u32, choice: u32) -> Verdict
+    requires { s < states_of model.now }
+    ensures { result ≡ verdict_of (choice_exists model.now s choice ∷ []) }
+{
+    judged(Ok(choice < model.choices(s)), 2, s, Some(choice))
+}
+
+/// Whether the value of state `s` is at least, or for the least probability at most, the sum over the row of its choice `c`.
+fn row_stands(model: &Model, dir: Dir, values: &[Frac], s: u32, c: u32) -> Result<bool, Wide>
+    requires values { length values.now ≡ states_of model.now }
+    requires state { s < states_of model.now }
+    requires choice { c < length (choices_at model.now s) }
+    ensures { result_ok result ≡ stands_at dir model.now values.now s c }
+{
+    let sum = model.row(s, c).sum(&Frac::whole(0), values)?;
+    match dir {
+        Dir::Max => at_least(&values[s as usize], &sum),
+        Dir::Min => at_most(&values[s as usize], &sum),
+    }
+}
+
+/// The value of state `s` stands so to the sum over the row of each choice.
+fn bounds_at_state(model: &Model, dir: Dir, values: &[Frac], s: u32) -> Verdict
+    requires values { length values.now ≡ states_of model.now }
+    requires state { s < states_of model.now }
+    ensures { result ≡ verdict_of (bound_checks dir model.now values.now s) }
+{
+    for c in 0..model.choices(s) {
+        match judged(row_stands(model, dir, values, s, c), 5, s, Some(c)) {
+            Verdict::Yes => {}
+            other => return other,
+        }
+    }
+    Verdict::Yes
+}
+
+/// The value of state `s` is 1 at a goal; else it bounds the sums, and meets that of the policy's choice.
+fn value_at_state(
+    model: &Model,
+    goals: &Marks,
+    dir: Dir,
+    values: &[Frac],
+    s: u32,
+    choice: u32,
+) -> Verdict
+    requires goals { length goals.now ≡ states_of model.now }
+    requires values { length values.now ≡ states_of model.now }
+    requires state { s < states_of model.now }
+    requires choice { choice < length (choices_at model.now s) }
+    ensures { result ≡ verdict_of (value_checks dir model.now goals.now values.now s choice) }
+{
+    if goals.at(s) {
+        return goal_at(values, s);
+    }
+    match bounds_at_state(model, dir, values, s) {
+        Verdict::Yes => {}
+        other => return other,
+    }
+    judged(
+        row_stands(model, reversed(dir), values, s, choice),
+        6,
+        s,
+        Some(choice),
+    )
+}
+
+/// The rules at state `s`, where the policy takes this choice.
+fn reach_at_state(
+    model: &Model,
+    goals: &Marks,
+    dir: Dir,
+    values: &[Frac],
+    ranks: &[u32],
+    s: u32,
+    choice: u32,
+) -> Verdict
+    requires goals { length goals.now ≡ states_of model.now }
+    requires values { length values.now ≡ states_of model.now }
+    requires ranks { length ranks.now ≡ states_of model.now }
+    requires state { s < states_of model.now }
+    ensures { result ≡ verdict_of (reach_at dir model.now goals.now values.now ranks.now s choice) }
+{
+    match choice_at(model, s, choice) {
+        Verdict::Yes => {}
+        other => return other,
+    }
+    match probability_at(values, s) {
+        Verdict::Yes => {}
+        other => return other,
+    }
+    match value_at_state(model, goals, dir, values, s, choice) {
+        Verdict::Yes => {}
+        other => return other,
+    }
+    rank_at_state(model, goals, dir, values, ranks, s, choice)
+}
+
+/// The rules at each state, from 0 on.
+fn reach_at_states(
+    model: &Model,
+    goals: &Marks,
+    dir: Dir,
+    values: &[Frac],
+    choices: &[u32],
+    ranks: &[u32],
+) -> Verdict
+    requires goals { length goals.now ≡ states_of model.now }
+    requires values { length values.now ≡ states_of model.now }
+    requires choices { length choices.now ≡ states_of model.now }
+    requires ranks { length ranks.now ≡ states_of model.now }
+    ensures { result ≡ verdict_of (reach_checks dir model.now goals.now values.now choices.now ranks.now) }
+{
+    for s in 0..model.states() {
+        match reach_at_state(model, goals, dir, values, ranks, s, choices[s as usize]) {
+            Verdict::Yes => {}
+            other => return other,
+        }
+    }
+    Verdict::Yes
+}
+
+/// What rules 2 to 8 say of the values, the policy and the ranks: yes, the first rule that is false with its place, or the place of the
+/// first written term past width where that comes before. After yes the values are the greatest, or the least, probabilities of reaching a
+/// goal, and the policy comes close to them. It takes no memory.
+pub fn holds_reach(model: &Model, goals: &Marks, dir: Dir, cert: &ReachCert) -> Verdict
+    requires goals { length goals.now ≡ states_of model.now }
+    requires values { length cert.now.values.items ≡ states_of model.now }
+    requires choices { length cert.now.choices.items ≡ states_of model.now }
+    requires ranks { length cert.now.ranks.items ≡ states_of model.now }
+    ensures verdict { result ≡ verdict_of (reach_checks dir model.now goals.now cert.now.values.items cert.now.choices.items cert.now.ranks.items) }
+    ensures rules { IsYes result ↔ IsReach dir model.now goals.now cert.now.values.items cert.now.choices.items cert.now.ranks.items }
+    ensures max { dir ≡ Max → IfYes result (ReachMax model.now goals.now cert.now.values.items cert.now.choices.items) }
+    ensures min { dir ≡ Min → IfYes result (ReachMin model.now goals.now cert.now.values.items cert.now.choices.items) }
+{
+    model.known();
+    reach_at_states(
+        model,
+        goals,
+        dir,
+        cert.values.as_slice(),
+        cert.choices.as_slice(),
+        cert.ranks.as_slice(),
+    )
+}
