@@ -1,9 +1,10 @@
 -- What holding a certificate of upper bounds against a model answers.
-use Rattle.std.specs.Prelude.{ℕ, Bool, List, length, Option, Some, None, ◌&&◌, ◌==◌, nat_lt, if◌then◌else◌}
+use Rattle.std.specs.Prelude.{◌≡◌, ℕ, Bool, List, length, Option, Some, None, ◌&&◌, ◌==◌, nat_lt, if◌then◌else◌}
 use Rattle.mdp_math.specs.Rational.{ℚ}
 use Rattle.mdp_num.specs.Equal.{eq_ℚ}
 use Rattle.mdp_spec.specs.Mdp.{Mdp, states_of, value_at}
 use Rattle.mdp_spec.specs.Labels.{place_of, marks_of, initial_of}
+use Rattle.mdp_spec.specs.Bounds.{Above}
 use Rattle.mdp_farkas.specs.Upper.{upper_checks}
 use Rattle.mdp_farkas.specs.Verdict.{verdict_of}
 use Rattle.mdp_farkas.specs.declared.verdict.Verdict.{Verdict}
@@ -39,3 +40,7 @@ at_label m t (Some l) = answer_of (after_init (init_check t.init (initial_of m) 
 -- the numbers of states, then the label, then the rules in their order
 abbrev pub answer_to : Mdp → UpperText → Answer
 answer_to m t = if length t.cert.values.items == states_of m then at_label m t (place_of t.label.items m.labels) else QuerySize
+
+-- no strategy tree passes the certificate's values, where the goals are the states with its label
+abbrev pub IsBound : Mdp → UpperText → Type 0
+IsBound m t = (l : ℕ) × (place_of t.label.items m.labels ≡ Some l) × Above m (marks_of m l) t.cert.values.items

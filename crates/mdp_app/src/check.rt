@@ -1,5 +1,5 @@
 ghost use Rattle.std.specs.Prelude.{◌≡◌, ◌⊎◌};
-ghost use Rattle.mdp_app.specs.Check.{answer_to, init_check, init_fault, is_value};
+ghost use Rattle.mdp_app.specs.Check.{IsBound, answer_to, init_check, init_fault, is_value};
 ghost use Rattle.mdp_spec.specs.Labels.{initial_of};
 
 use crate::answer::{Answer, answer_of_verdict};
@@ -48,9 +48,11 @@ fn init_verdict(model: &Model, init: &Option<(u32, Frac)>, values: &[Frac]) -> V
     }
 }
 
-/// Holds a certificate against a model: the numbers of states, then the label, then the rules in their order.
+/// Holds a certificate against a model: the numbers of states, then the label, then the rules in their order. After yes no policy passes the
+/// certificate's values.
 pub fn checked(alloc: Global, model: &Model, text: &UpperText) -> Answer
-    ensures { (result ≡ Answer.Memory) ⊎ (result ≡ answer_to model.now text.now) }
+    ensures answer { (result ≡ Answer.Memory) ⊎ (result ≡ answer_to model.now text.now) }
+    ensures bound { result ≡ Answer.Yes → IsBound model.now text.now }
 {
     if text.cert.values.len() != model.states() as usize {
         return Answer::QuerySize;
