@@ -1,6 +1,6 @@
 ghost use Rattle.std.specs.Prelude.{◌≢◌, ◌≤◌, ◌^◌, All, IsTrue, IfSome};
 ghost use Rattle.mdp_rows.specs.Name.{IsName};
-ghost use Rattle.mdp_rows.specs.Term.{IsTerm};
+ghost use Rattle.mdp_num.specs.Meaning.{IsWithinLimit};
 
 use crate::lines::{Unread, is_blank, is_line_feed, number_of};
 use mdp_num::{Frac, read_numeral};
@@ -94,7 +94,7 @@ fn push_labels(builder: &mut Builder, labels: &[u8]) -> Result<(), Unread> {
 
 /// The target and the value of a line `TARGET : VALUE`, where the value is digits or two of them with a slash between.
 fn entry_of(line: &[u8]) -> Option<(u32, Frac)>
-    ensures { IfSome result (λ entry. IsTerm entry.1) }
+    ensures { IfSome result (λ entry. IsWithinLimit entry.1) }
 {
     let end = line.iter().position(is_blank)?;
     let value = line[end..].strip_prefix(b" : ")?;

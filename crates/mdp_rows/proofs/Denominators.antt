@@ -10,10 +10,12 @@ use Rattle.mdp_math.proofs.Written.{narrow_ℚ-kept, num-ratio_signed, den-ratio
 use Rattle.mdp_spec.specs.Mdp.{Entry}
 use Rattle.mdp_math.proofs.Order.{ratio-nonneg}
 use Rattle.std.specs.Option.{IfSome}
-use Rattle.mdp_rows.specs.Term.{den_limit, IsTerm}
+use Rattle.mdp_num.specs.Numeral.{limit}
+use Rattle.mdp_num.specs.Meaning.{IsWithinLimit}
 use Rattle.mdp_rows.specs.Given.{row_of}
 use Rattle.mdp_rows.specs.declared.given.Given.{Given}
-use Rattle.mdp_rows.specs.Draft.{lcm, den_with, row_den}
+use Rattle.mdp_spec.specs.Unit.{lcm}
+use Rattle.mdp_rows.specs.Draft.{den_with, row_den}
 use Rattle.std.proofs.Math.Nat.{div-le_self}
 use Rattle.std.proofs.Math.Seq.{drop-length}
 use borrow.Author.Tests.{ltb-false, ltb-true}
@@ -26,7 +28,7 @@ use native.Mathlib.Nat.{le_of_dvd, dvd_trans, dvd_refl, dvd-mul_left, div-mul_ca
 pub quotient_den : (a b : ℕ) → 0 < a → ℚ.den (ratio (pos b) a) ≡ a / gcd a b
 quotient_den a b h = den-ratio_signed false b a h ∙ ap (λ (g : ℕ). a / g) (gcd_comm b a)
 
-pub quotient_kept : (a b : ℕ) → 0 < a → a ≤ den_limit → b ≤ den_limit → narrow_ℚ (ratio (pos b) a) ≡ Some (ratio (pos b) a)
+pub quotient_kept : (a b : ℕ) → 0 < a → a ≤ limit → b ≤ limit → narrow_ℚ (ratio (pos b) a) ≡ Some (ratio (pos b) a)
 quotient_kept a b h k l =
     let n : ℚ.num (ratio (pos b) a) ≡ pos (b / gcd b a) = num-ratio_signed false b a h in
     let d : ℚ.den (ratio (pos b) a) ≡ a / gcd b a = den-ratio_signed false b a h in
@@ -36,27 +38,27 @@ quotient_kept a b h k l =
 
 -- a multiple, where it is within the limit
 abbrev pub within_limit : ℕ → Option ℕ
-within_limit m = if ltb den_limit m then None else Some m
+within_limit m = if ltb limit m then None else Some m
 
-pub past_limit : (m : ℕ) → den_limit < m → None ≡ within_limit m
-past_limit m h = ap (λ (b : Bool). if b then None else Some m) (sym (lt-ltb den_limit m h))
+pub past_limit : (m : ℕ) → limit < m → None ≡ within_limit m
+past_limit m h = ap (λ (b : Bool). if b then None else Some m) (sym (lt-ltb limit m h))
 
-pub in_limit : (m : ℕ) → m ≤ den_limit → Some m ≡ within_limit m
-in_limit m h = ap (λ (b : Bool). if b then None else Some m) (sym (le-ltb den_limit m h))
+pub in_limit : (m : ℕ) → m ≤ limit → Some m ≡ within_limit m
+in_limit m h = ap (λ (b : Bool). if b then None else Some m) (sym (le-ltb limit m h))
 
-some_by : (b : Bool) (m n : ℕ) → (b ≡ false → m ≤ den_limit) → Some n ≡ (if b then None else Some m) → (n ≡ m) × (m ≤ den_limit)
+some_by : (b : Bool) (m n : ℕ) → (b ≡ false → m ≤ limit) → Some n ≡ (if b then None else Some m) → (n ≡ m) × (m ≤ limit)
 some_by true m n h e = absurd cc
 some_by false m n h e = (cc, h refl)
 
-none_by : (b : Bool) (m : ℕ) → (b ≡ true → den_limit < m) → None ≡ (if b then None else Some m) → den_limit < m
+none_by : (b : Bool) (m : ℕ) → (b ≡ true → limit < m) → None ≡ (if b then None else Some m) → limit < m
 none_by true m h e = h refl
 none_by false m h e = absurd cc
 
-pub within-none : (m : ℕ) → None ≡ within_limit m → den_limit < m
-within-none m e = none_by (ltb den_limit m) m (λ t. ltb-true den_limit m t) e
+pub within-none : (m : ℕ) → None ≡ within_limit m → limit < m
+within-none m e = none_by (ltb limit m) m (λ t. ltb-true limit m t) e
 
-pub within-some : (m n : ℕ) → Some n ≡ within_limit m → (n ≡ m) × (m ≤ den_limit)
-within-some m n e = some_by (ltb den_limit m) m n (λ t. ltb-false den_limit m t) e
+pub within-some : (m n : ℕ) → Some n ≡ within_limit m → (n ≡ m) × (m ≤ limit)
+within-some m n e = some_by (ltb limit m) m n (λ t. ltb-false limit m t) e
 
 -- a number in width comes back from its bits
 pub read_back : (z : ℤ) → unsigned_abs z < 2 ^ 127 → to_z w128 (of_z w128 z) ≡ z
@@ -66,7 +68,7 @@ pub read_abs : (z w : ℤ) (n : ℕ) → n ≡ unsigned_abs (to_z w128 (of_z w12
 read_abs z w n e f h = e ∙ ap (λ (x : ℤ). unsigned_abs (to_z w128 (of_z w128 x))) f ∙ ap unsigned_abs (read_back w h)
 
 -- what the quotient of a by the common divisor is read from
-pub quotient_read : (a b : ℕ) (o : Option ℚ) → 0 < a → a ≤ den_limit → b ≤ den_limit → (to_z w128 a ≢ pos 0 → o ≡ narrow_ℚ (quotient (to_z w128 b) (to_z w128 a))) → o ≡ Some (ratio (pos b) a)
+pub quotient_read : (a b : ℕ) (o : Option ℚ) → 0 < a → a ≤ limit → b ≤ limit → (to_z w128 a ≢ pos 0 → o ≡ narrow_ℚ (quotient (to_z w128 b) (to_z w128 a))) → o ≡ Some (ratio (pos b) a)
 quotient_read a b o h k l e =
     let za : to_z w128 a ≡ pos a = to_z_pos w128 a (omega arith) in
     let zb : to_z w128 b ≡ pos b = to_z_pos w128 b (omega arith) in
@@ -74,7 +76,7 @@ quotient_read a b o h k l e =
     ∙ ap (λ (z : ℤ). narrow_ℚ (quotient z (to_z w128 a))) zb ∙ ap (λ (z : ℤ). narrow_ℚ (quotient (pos b) z)) za ∙ quotient_kept a b h k l
 
 -- the multiple that is read from the quotient's denominator
-pub multiple_read : (a b q : ℕ) (o : Option ℚ) (x : ℚ) (d : ℤ) → 0 < a → a ≤ den_limit → o ≡ Some (ratio (pos b) a) → Some x ≡ o → d ≡ pos x.den → q ≡ unsigned_abs (to_z w128 (of_z w128 d)) → q * b ≡ lcm a b
+pub multiple_read : (a b q : ℕ) (o : Option ℚ) (x : ℚ) (d : ℤ) → 0 < a → a ≤ limit → o ≡ Some (ratio (pos b) a) → Some x ≡ o → d ≡ pos x.den → q ≡ unsigned_abs (to_z w128 (of_z w128 d)) → q * b ≡ lcm a b
 multiple_read a b q o x d h k e f g r =
     let is : x ≡ ratio (pos b) a = (let s : Some x ≡ Some (ratio (pos b) a) = f ∙ e in cc) in
     let den : x.den ≡ a / gcd a b = ap (λ (y : ℚ). ℚ.den y) is ∙ quotient_den a b h in
@@ -122,11 +124,11 @@ den_with-all d (x ∷ row) =
 
 pub record IsDenSoFar (row : List Given) (i d : ℕ) : Type 0 where
   pub some : 0 < d
-  pub limit : d ≤ den_limit
+  pub within : d ≤ limit
   pub rest : den_with d (row_of (drop i row)) ≡ row_den (row_of row)
 
 pub den_start : (row : List Given) → IsDenSoFar row 0 1
-den_start row = record { some = omega arith; limit = omega arith; rest = refl }
+den_start row = record { some = omega arith; within = omega arith; rest = refl }
 
 drop_at : (row : List Given) (i : ℕ) (g : Given) → i < length row → drop i row ≡ get_or row i g ∷ drop (i + 1) row
 drop_at row i g h = rw add-one (drop-cons row i g h)
@@ -141,14 +143,14 @@ den_more row i d m g h e so w =
     let f = within-some (lcm d g.value.den) m w in
     record {
       some = rw f.0 (lcm-pos d g.value.den so.some (den-pos g.value));
-      limit = rw f.0 f.1;
+      within = rw f.0 f.1;
       rest = rw f.0 (den_step row i d g h e so);
     }
 
 pub den_wide : (row : List Given) (i d : ℕ) (g : Given) → i < length row → g ≡ get_or row i g → IsDenSoFar row i d → None ≡ within_limit (lcm d g.value.den) → None ≡ within_limit (row_den (row_of row))
 den_wide row i d g h e so w =
     past_limit (row_den (row_of row))
-    (let k : den_limit < lcm d g.value.den = within-none (lcm d g.value.den) w in
+    (let k : limit < lcm d g.value.den = within-none (lcm d g.value.den) w in
     let l : lcm d g.value.den ≤ den_with (lcm d g.value.den) (row_of (drop (i + 1) row)) = den_with-le (lcm d g.value.den) (row_of (drop (i + 1) row)) (lcm-pos d g.value.den so.some (den-pos g.value)) in
     let s = den_step row i d g h e so in omega arith)
 
@@ -158,7 +160,7 @@ drop_all row i e = rw e (drop-length row)
 pub den_end : (row : List Given) (i d : ℕ) → i ≡ length row → IsDenSoFar row i d → Some d ≡ within_limit (row_den (row_of row))
 den_end row i d e so =
     let s : d ≡ row_den (row_of row) = ap (λ (r : List Given). den_with d (row_of r)) (sym (drop_all row i e)) ∙ so.rest in
-    rw (← s) (in_limit d so.limit)
+    rw (← s) (in_limit d so.within)
 
 -- ---- the terms that are read of an entry
 
@@ -179,7 +181,7 @@ nonzero_num g z h f e = h (ap (of_z w128) (f ∙ e))
 
 -- ---- small fractions are values that a builder takes
 
-pub term_of : (a b : ℕ) (o : Option ℚ) (x : ℚ) → 0 < a → a ≤ den_limit → b ≤ den_limit → o ≡ Some (ratio (pos b) a) → Some x ≡ o → IsTerm x
+pub term_of : (a b : ℕ) (o : Option ℚ) (x : ℚ) → 0 < a → a ≤ limit → b ≤ limit → o ≡ Some (ratio (pos b) a) → Some x ≡ o → IsWithinLimit x
 term_of a b o x h k l e f =
     let is : x ≡ ratio (pos b) a = (let s : Some x ≡ Some (ratio (pos b) a) = f ∙ e in cc) in
     let n : ℚ.num (ratio (pos b) a) ≡ pos (b / gcd b a) = num-ratio_signed false b a h in
@@ -187,14 +189,14 @@ term_of a b o x h k l e f =
     let d : ℚ.den (ratio (pos b) a) ≡ a / gcd b a = den-ratio_signed false b a h in
     let nb : b / gcd b a ≤ b = div-le_self b (gcd b a) in
     let db : a / gcd b a ≤ a = div-le_self a (gcd b a) in
-    rw is (record { nonneg = ratio-nonneg b a h; num = omega arith; den = omega arith })
+    rw is (record { nonnegative = ratio-nonneg b a h; num = omega arith; den = omega arith })
 
-some_term : (a b : ℕ) (o r : Option ℚ) → 0 < a → a ≤ den_limit → b ≤ den_limit → o ≡ Some (ratio (pos b) a) → r ≡ o → IfSome r IsTerm
+some_term : (a b : ℕ) (o r : Option ℚ) → 0 < a → a ≤ limit → b ≤ limit → o ≡ Some (ratio (pos b) a) → r ≡ o → IfSome r IsWithinLimit
 some_term a b o None h k l e f = tt
 some_term a b o (Some x) h k l e f = term_of a b o x h k l e f
 
-pub term_read : (a b : ℕ) (o r : Option ℚ) (d n : ℤ) → 0 < a → a ≤ den_limit → b ≤ den_limit → d ≡ pos a → n ≡ pos b
-    → (to_z w128 (of_z w128 d) ≢ pos 0 → o ≡ narrow_ℚ (quotient (to_z w128 (of_z w128 n)) (to_z w128 (of_z w128 d)))) → r ≡ o → IfSome r IsTerm
+pub term_read : (a b : ℕ) (o r : Option ℚ) (d n : ℤ) → 0 < a → a ≤ limit → b ≤ limit → d ≡ pos a → n ≡ pos b
+    → (to_z w128 (of_z w128 d) ≢ pos 0 → o ≡ narrow_ℚ (quotient (to_z w128 (of_z w128 n)) (to_z w128 (of_z w128 d)))) → r ≡ o → IfSome r IsWithinLimit
 term_read a b o r d n h k l ed en e f =
     let zd : to_z w128 (of_z w128 d) ≡ pos a = ap (λ (z : ℤ). to_z w128 (of_z w128 z)) ed ∙ read_back (pos a) (omega arith) in
     let zn : to_z w128 (of_z w128 n) ≡ pos b = ap (λ (z : ℤ). to_z w128 (of_z w128 z)) en ∙ read_back (pos b) (omega arith) in

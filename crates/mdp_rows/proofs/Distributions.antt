@@ -87,7 +87,7 @@ positive_head false x rest h all = (h refl, all)
 
 positive_kept : (row : List Given) → AllByRecursion (λ y. 0ℚ <ℚ y.prob) (kept (row_of row))
 positive_kept [] = tt
-positive_kept (g ∷ row) = positive_head (is_zero g.value) (entry_of g) (kept (row_of row)) (λ z. value_positive g.value g.term.nonneg z) (positive_kept row)
+positive_kept (g ∷ row) = positive_head (is_zero g.value) (entry_of g) (kept (row_of row)) (λ z. value_positive g.value g.term.nonnegative z) (positive_kept row)
 
 pub distribution_kept : (s c : ℕ) (row : List Given) (r : List Entry) → IsTrue (ascends_from 0 (row_of row)) → closed_row s c (row_of row) ≡ Ok r → IsDistribution (kept (row_of row))
 distribution_kept s c row r a h = record {

@@ -31,7 +31,7 @@ shuffle n q e d h = ap (λ (k : ℕ). n * k) (sym h) ∙ omega arith
 
 part_is : (d : ℕ) (g : Given) → 0 < d → g.value.den ∣ d → g.value ≡ ratio (pos (part d g)) d
 part_is d g h k =
-    let z : g.value.num ≡ pos (unsigned_abs g.value.num) = pos-abs g.value.num (nonneg g.value g.term.nonneg) in
+    let z : g.value.num ≡ pos (unsigned_abs g.value.num) = pos-abs g.value.num (nonneg g.value g.term.nonnegative) in
     same_is _ _ _ _ _ _ (is_self g.value) (is_ratio (pos (part d g)) d h)
     (ap (λ (n : ℤ). n *ℤ pos d) z ∙ ap pos (shuffle (unsigned_abs g.value.num) (d / g.value.den) g.value.den d (div-mul_cancel g.value.den k)))
 

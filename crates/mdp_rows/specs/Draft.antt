@@ -1,22 +1,19 @@
 -- A model while it is made, and what each call of a builder makes of it.
-use Rattle.std.specs.Prelude.{false, ◌≡◌, ◌⊎◌, ℕ, ◌+◌, ◌*◌, ◌/◌, ◌^◌, Bool, not, ◌||◌, ◌&&◌, List, [], ◌∷◌, ◌++◌, length, sum_by, filter, unsigned_abs, pos, Option, Some, None, Result, Ok, Err, OnOk, IfErr, ◌==◌, nat_lt, nat_le, if◌then◌else◌}
+use Rattle.std.specs.Prelude.{false, ◌≡◌, ◌⊎◌, ℕ, ◌+◌, ◌^◌, Bool, not, ◌||◌, ◌&&◌, List, [], ◌∷◌, ◌++◌, length, sum_by, filter, unsigned_abs, pos, Option, Some, None, Result, Ok, Err, OnOk, IfErr, ◌==◌, nat_lt, nat_le, if◌then◌else◌}
 use Rattle.std.specs.List.{list_any, position_or_len}
 use Rattle.std.specs.Option.{is_some}
 use Rattle.std.specs.Result.{MatchResult}
 use Rattle.std.specs.Str.{bytes_eq}
-use Rattle.mdp_math.specs.Gcd.{gcd}
 use Rattle.mdp_math.specs.Rational.{ℚ, of_int, le_ℚ}
 use Rattle.mdp_math.specs.Sum.{sum_of}
 use Rattle.mdp_spec.specs.Mdp.{Entry, Choice, State, Mdp}
+use Rattle.mdp_spec.specs.Unit.{lcm}
 use Rattle.mdp_rows.specs.FlatModel.{choice_of}
-use Rattle.mdp_rows.specs.Term.{den_limit}
+use Rattle.mdp_num.specs.Numeral.{limit}
 use Rattle.mdp_rows.specs.declared.error.RowsError.{RowsError}
 use Rattle.mdp_rows.specs.declared.error.RowsError.TheVariants.{RowSum, RowWide, Twice, NoChoice, TooMany, Target, Count, Memory}
 
 -- ---- rows
-
-abbrev pub lcm : ℕ → ℕ → ℕ
-lcm a b = a / gcd a b * b
 
 -- the least common denominator of the values of a row, and of d
 abbrev pub den_with : ℕ → List Entry → ℕ
@@ -39,7 +36,7 @@ kept row = filter (λ x. not (is_zero x.prob)) row
 -- what a row of the values given closes as
 abbrev pub closed_row : ℕ → ℕ → List Entry → Result (List Entry) RowsError
 closed_row s c row =
-    if nat_lt den_limit (row_den row) then Err (RowWide s c)
+    if nat_lt limit (row_den row) then Err (RowWide s c)
     else (if is_one (sum_of (λ x. x.prob) row) then Ok (kept row) else Err (RowSum s c))
 
 -- with one entry more, targets ascending

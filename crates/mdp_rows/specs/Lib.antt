@@ -5,7 +5,6 @@ pub mod FlatModel
 pub mod FlatRows
 pub mod Labelling
 pub mod Draft
-pub mod Term
 pub mod Given
 pub mod FlatDraft
 pub mod DraftCode

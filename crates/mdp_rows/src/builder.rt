@@ -1,6 +1,6 @@
 ghost use Rattle.std.specs.Prelude.{◌≡◌, ◌⊎◌, ◌<◌, ◌≤◌, ◌^◌, None, Some, IsTrue, IsSome, IfOk, IfErr, OnOk, MatchResult};
 ghost use Rattle.mdp_rows.specs.Draft.{new_draft, row_closed, state_closed, all_closed, state_opened, choice_opened, after_state, after_choice, after_entry, after_finish, finished, due_after, Follows, IsCall, IsUnrefused, has_state, has_row};
-ghost use Rattle.mdp_rows.specs.Term.{IsTerm};
+ghost use Rattle.mdp_num.specs.Meaning.{IsWithinLimit};
 ghost use Rattle.std.specs.Prelude.{◌==◌};
 ghost use Rattle.std.specs.List.{list_any, position, position_or_len};
 ghost use Rattle.std.specs.Prelude.{OnErr, nat_le};
@@ -20,16 +20,19 @@ use mdp_num::{Frac, Memory};
 use std::alloc::{AllocError, Global};
 use std::marker::Model;
 
-// The most calls of `label` for one state, label names, choices, and entries.
+/// The most calls of `label` for one state.
 const MAX_LABEL_CALLS: u32 = 64;
 
+/// The most label names.
 const MAX_NAMES: u32 = 1024;
 
+/// The most choices, 2^22.
 const MAX_CHOICES: u32 = 4_194_304;
 
+/// The most entries, 2^24, those of value 0 among them.
 const MAX_ENTRIES: u32 = 16_777_216;
 
-// What is open.
+/// What is open.
 #[derive(Clone, Copy)]
 enum Stage {
     Between,
@@ -42,21 +45,21 @@ enum Stage {
 pub struct Builder {
     announced: u32,
     rows: Rows,
-    // Where each closed state's rows start, and where the next one's do.
+    /// Where each closed state's rows start, and where the next one's do.
     starts: Vec<u32>,
     first_row: u32,
     labels: Labels,
     stage: Stage,
-    // The open state's labels, ascending.
+    /// The open state's labels, ascending.
     places: Vec<u32>,
     label_calls: u32,
-    // The open row, targets ascending.
+    /// The open row, targets ascending.
     row: Vec<Given>,
     entries: u32,
     refused: Option<RowsError>,
 }
 
-// How many entries go before the target: where it stands, or would stand.
+/// How many entries go before the target: where it stands, or would stand.
 fn place_of_target(row: &[Given], target: u32) -> usize
     requires { IsTrue (ascends_from 0 (row_of row.now)) }
     ensures { IsPlace (row_of row.now) target result }
@@ -64,7 +67,7 @@ fn place_of_target(row: &[Given], target: u32) -> usize
     row.partition_point(|given| given.target < target)
 }
 
-// Whether the target stands at its place.
+/// Whether the target stands at its place.
 fn has_target(row: &[Given], place: usize, target: u32) -> bool
     requires { IsPlace (row_of row.now) target place }
     ensures { result ≡ list_any (λ x. x.target == target) (row_of row.now) }
@@ -78,7 +81,7 @@ fn first_from(places: &[u32], label: u32) -> Option<usize>
     places.iter().position(|place| *place >= label)
 }
 
-// Where a label's place stands among ascending ones, or would stand.
+/// Where a label's place stands among ascending ones, or would stand.
 fn place_of_label(places: &[u32], label: u32) -> usize
     ensures { result ≡ position_or_len (λ k. nat_le label k) places.now }
 {
@@ -88,7 +91,7 @@ fn place_of_label(places: &[u32], label: u32) -> usize
     }
 }
 
-// Adds the label's place, where it isn't there. On `Err` the places are as before.
+/// Adds the label's place, where it isn't there. On `Err` the places are as before.
 fn add_place(places: &mut Vec<u32>, label: u32) -> Result<(), AllocError>
     ensures added { OnOk result (places.new.items ≡ with_place label places.old.items) }
     ensures unchanged { OnErr result (places.new.items ≡ places.old.items) }
@@ -117,7 +120,7 @@ impl Model for Builder {
 }
 
 impl Builder {
-    // Closes the open row, where there is one.
+    /// Closes the open row, where there is one.
     fn close_row(&mut self) -> Result<(), RowsError>
         ensures follows { Follows (row_closed self.old) result self.new }
     {
@@ -135,7 +138,7 @@ impl Builder {
         Ok(())
     }
 
-    // Closes the open state, where there is one.
+    /// Closes the open state, where there is one.
     fn close_state(&mut self) -> Result<(), RowsError>
         requires { IsRowClosed self.old.state }
         ensures follows { Follows (state_closed self.old) result self.new }
@@ -159,7 +162,7 @@ impl Builder {
         Ok(())
     }
 
-    // Opens the next state.
+    /// Opens the next state.
     fn open_state(&mut self) -> Result<(), RowsError>
         requires { self.old.state ≡ None }
         ensures follows { Follows (state_opened self.old) result self.new }
@@ -173,7 +176,7 @@ impl Builder {
         Ok(())
     }
 
-    // Opens the next choice of the open state.
+    /// Opens the next choice of the open state.
     fn open_choice(&mut self) -> Result<(), RowsError>
         requires { IsRowClosed self.old.state }
         ensures follows { Follows (choice_opened self.old) result self.new }
@@ -188,9 +191,9 @@ impl Builder {
         Ok(())
     }
 
-    // Adds an entry to the open row.
+    /// Adds an entry to the open row.
     fn add_entry(&mut self, target: u32, value: Frac) -> Result<(), RowsError>
-        requires { IsTerm value }
+        requires { IsWithinLimit value }
         ensures follows { Follows (after_entry self.old target value) result self.new }
     {
         let Stage::InRow = self.stage else {
@@ -213,7 +216,7 @@ impl Builder {
         Ok(())
     }
 
-    // Keeps the refusal, where the outcome is one.
+    /// Keeps the refusal, where the outcome is one.
     fn keep_refusal(&mut self, outcome: Result<(), RowsError>) -> Result<(), RowsError>
         ensures same { result ≡ outcome }
         ensures unchanged { OnOk outcome (self.new ≡ self.old) }
@@ -282,7 +285,7 @@ impl Builder {
         })
     }
 
-    // The model of the states that are closed.
+    /// The model of the states that are closed.
     fn into_model(self) -> Result<crate::model::Model, RowsError>
         requires { self.state ≡ None }
         ensures { finished self ≡ result }
@@ -380,7 +383,7 @@ impl Builder {
     /// Adds an entry to the open row. An entry of value 0 counts, and goes when the row closes.
     pub fn entry(&mut self, target: u32, value: Frac) -> Result<(), RowsError>
         requires open { IsUnrefused self.old → IsTrue (has_row self.old) }
-        requires term { IsTerm value }
+        requires term { IsWithinLimit value }
         ensures call { IsCall self.old self.new (after_entry self.old target value) result }
         ensures state_open { OnOk result (IsTrue (has_state self.new)) }
         ensures row_open { OnOk result (IsTrue (has_row self.new)) }

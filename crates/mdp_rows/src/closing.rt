@@ -1,21 +1,22 @@
 ghost use Rattle.std.specs.Prelude.{◌≡◌, ◌<◌, ◌≤◌, ◌+◌, ◌*◌, Some, None, nat_lt, if◌then◌else◌, MatchResult};
 ghost use Rattle.mdp_math.specs.Sum.{sum_of};
-ghost use Rattle.mdp_rows.specs.Term.{den_limit};
+ghost use Rattle.mdp_num.specs.Numeral.{limit};
 ghost use Rattle.mdp_rows.specs.Given.{row_of};
-ghost use Rattle.mdp_rows.specs.Draft.{lcm, row_den, is_one, kept, closed_row};
+ghost use Rattle.mdp_spec.specs.Unit.{lcm};
+ghost use Rattle.mdp_rows.specs.Draft.{row_den, is_one, kept, closed_row};
 
 use crate::error::RowsError;
 use crate::given::Given;
 use mdp_num::Frac;
 
-// The greatest common denominator of a row: 10^36.
+/// The greatest common denominator of a row: 10^36.
 const DEN_LIMIT: u128 = 1_000_000_000_000_000_000_000_000_000_000_000_000;
 
-// The least common multiple, where it is at most 10^36.
+/// The least common multiple, where it is at most 10^36.
 fn common_multiple(a: u128, b: u128) -> Option<u128>
     requires positive { (0 < a) × (0 < b) }
-    requires limit { (a ≤ den_limit) × (b ≤ den_limit) }
-    ensures { result ≡ (if nat_lt den_limit (lcm a b) then None else Some (lcm a b)) }
+    requires within { (a ≤ limit) × (b ≤ limit) }
+    ensures { result ≡ (if nat_lt limit (lcm a b) then None else Some (lcm a b)) }
 {
     let quotient = Frac::try_new(b as i128, a as i128).ok()?;
     let multiple = quotient.den().unsigned_abs().checked_mul(b)?;
@@ -26,9 +27,9 @@ fn common_multiple(a: u128, b: u128) -> Option<u128>
     }
 }
 
-// The least common denominator of the values, where it is at most 10^36.
+/// The least common denominator of the values, where it is at most 10^36.
 fn common_den(row: &[Given]) -> Option<u128>
-    ensures { result ≡ (if nat_lt den_limit (row_den (row_of row.now)) then None else Some (row_den (row_of row.now))) }
+    ensures { result ≡ (if nat_lt limit (row_den (row_of row.now)) then None else Some (row_den (row_of row.now))) }
 {
     let mut den = 1;
     for given in row {
@@ -37,10 +38,10 @@ fn common_den(row: &[Given]) -> Option<u128>
     Some(den)
 }
 
-// Whether the values add to 1, summed in parts of their least common denominator.
+/// Whether the values add to 1, summed in parts of their least common denominator.
 fn adds_to_one(row: &[Given], den: u128) -> bool
     requires common { den ≡ row_den (row_of row.now) }
-    requires limit { den ≤ den_limit }
+    requires within { den ≤ limit }
     ensures { result ≡ is_one (sum_of (λ x. x.prob) (row_of row.now)) }
 {
     let mut parts = 0;

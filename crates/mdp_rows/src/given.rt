@@ -1,4 +1,4 @@
-ghost use Rattle.mdp_rows.specs.Term.{IsTerm};
+ghost use Rattle.mdp_num.specs.Meaning.{IsWithinLimit};
 
 use mdp_num::Frac;
 
@@ -7,5 +7,5 @@ use mdp_num::Frac;
 pub struct Given {
     pub target: u32,
     pub value: Frac,
-    ghost term: { IsTerm value },
+    ghost term: { IsWithinLimit value },
 }

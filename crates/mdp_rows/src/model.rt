@@ -37,7 +37,7 @@ impl std::marker::Model for Model {
 impl Model {
     ghost use Rattle.mdp_rows.specs.FlatModel.{mdp_in, IsFlat};
 
-    // The model that these parts hold.
+    /// The model that these parts hold.
     pub(crate) fn from_parts(rows: Rows, starts: Vec<u32>, labels: Labels) -> Model
         requires { IsFlat (record { rows = rows; starts = starts; labels = labels }) }
         ensures { result ≡ mdp_in (record { rows = rows; starts = starts; labels = labels }) }

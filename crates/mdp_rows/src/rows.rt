@@ -10,7 +10,7 @@ use mdp_num::Frac;
 use std::alloc::{AllocError, Global};
 use std::marker::Model;
 
-// Appends the entries whose values aren't 0. On `Err` both vectors are as before.
+/// Appends the entries whose values aren't 0. On `Err` both vectors are as before.
 fn append_kept(
     targets: &mut Vec<u32>,
     probs: &mut Vec<Frac>,

@@ -1,6 +1,6 @@
 ghost use Rattle.std.specs.Prelude.{◌<◌};
 ghost use Rattle.std.specs.Option.{IfSome};
-ghost use Rattle.mdp_rows.specs.Term.{IsTerm};
+ghost use Rattle.mdp_num.specs.Meaning.{IsWithinLimit};
 
 use crate::builder::Builder;
 use crate::error::RowsError;
@@ -9,7 +9,7 @@ use std::test::Fail;
 
 fn part(num: u32, den: u32) -> Option<Frac>
     requires { 0 < den }
-    ensures { IfSome result IsTerm }
+    ensures { IfSome result IsWithinLimit }
 {
     Frac::try_new(i128::from(num), i128::from(den)).ok()
 }

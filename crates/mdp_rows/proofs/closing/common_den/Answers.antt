@@ -1,6 +1,6 @@
 use Rattle.std.proofs.Common.{arith, ap, ◌∙◌}
 use Rattle.mdp_rows.proofs.Denominators.{den_more, den_wide, den_read, within_limit}
-use Rattle.mdp_rows.specs.Draft.{lcm}
+use Rattle.mdp_spec.specs.Unit.{lcm}
 use Rattle.mdp_rows.proofs.closing.common_den.Goals as goal
 
 pub returns-in_err-den : goal.returns-in_err-den
