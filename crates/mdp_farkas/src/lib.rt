@@ -6,6 +6,8 @@ mod compare;
 mod dir;
 mod ranks;
 mod reach;
+#[cfg(test)]
+mod tests;
 mod upper;
 mod verdict;
 
