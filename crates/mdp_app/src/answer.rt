@@ -118,7 +118,11 @@ fn push_denied(fault: &Fault, out: &mut Vec<u8>) -> Result<(), AllocError>
 }
 
 /// Appends the line of a term past width.
-fn push_too_wide(state: Option<u32>, choice: Option<u32>, out: &mut Vec<u8>) -> Result<(), AllocError>
+fn push_too_wide(
+    state: Option<u32>,
+    choice: Option<u32>,
+    out: &mut Vec<u8>,
+) -> Result<(), AllocError>
     ensures { OnOk result (out.new.items ≡ out.old.items ++ too_wide_text state choice) }
 {
     out.extend_from_slice(b"too-wide check")?;

@@ -48,7 +48,9 @@ pub fn number_of(digits: &[u8]) -> Option<u32> {
         if !digit.is_ascii_digit() {
             return None;
         }
-        number = number.checked_mul(10)?.checked_add(u32::from(digit - b'0'))?;
+        number = number
+            .checked_mul(10)?
+            .checked_add(u32::from(digit - b'0'))?;
     }
     Some(number)
 }

@@ -40,8 +40,7 @@ fn cut_line(text: &[u8]) -> Option<(&[u8], &[u8])> {
 fn read_header(text: &[u8]) -> Option<(u32, u32, &[u8])>
     ensures { IfSome result (λ header. (1 ≤ header.0) × (header.0 ≤ 2 ^ 20)) }
 {
-    let text =
-        text.strip_prefix(b"@type: MDP\n@parameters\n\n@reward_models\n\n@nr_states\n")?;
+    let text = text.strip_prefix(b"@type: MDP\n@parameters\n\n@reward_models\n\n@nr_states\n")?;
     let (states, text) = cut_line(text)?;
     let (choices, text) = cut_line(text.strip_prefix(b"@nr_choices\n")?)?;
     let states = number_of(states)?;
@@ -98,7 +97,10 @@ fn entry_of(line: &[u8]) -> Option<(u32, Frac)>
 {
     let end = line.iter().position(is_blank)?;
     let value = line[end..].strip_prefix(b" : ")?;
-    if !value.iter().all(|byte| byte.is_ascii_digit() || *byte == b'/') {
+    if !value
+        .iter()
+        .all(|byte| byte.is_ascii_digit() || *byte == b'/')
+    {
         return None;
     }
     Some((number_of(&line[..end])?, read_numeral(value).ok()?))

@@ -7,10 +7,12 @@ use std::fs;
 use std::test::Fail;
 
 /// The model of three states of examples/coin.drn.
-const COIN: &[u8] = b"@type: MDP\n@parameters\n\n@reward_models\n\n@nr_states\n3\n@nr_choices\n4\n@model\nstate 0 init\naction a\n0 : 1\naction b\n1 : 1/3\n2 : 2/3\nstate 1 goal\naction a\n1 : 1\nstate 2\naction a\n2 : 1\n";
+const COIN: &[u8] =
+    b"@type: MDP\n@parameters\n\n@reward_models\n\n@nr_states\n3\n@nr_choices\n4\n@model\nstate 0 init\naction a\n0 : 1\naction b\n1 : 1/3\n2 : 2/3\nstate 1 goal\naction a\n1 : 1\nstate 2\naction a\n2 : 1\n";
 
 /// Its certificate that 1 bounds state 0.
-const UPPER: &[u8] = b"mdp-certificate 1\nclaim upper reach \"goal\"\nstates 3\ninit 0 1\nstate 0 1\nstate 1 1\nstate 2 0\nend\n";
+const UPPER: &[u8] =
+    b"mdp-certificate 1\nclaim upper reach \"goal\"\nstates 3\ninit 0 1\nstate 0 1\nstate 1 1\nstate 2 0\nend\n";
 
 const JOB: &[&str] = &["check", "MODEL", "exact", "CERT"];
 
@@ -52,7 +54,11 @@ fn ended(
 #[test]
 fn judges_certificates(rt: HostRuntime) -> Result<(), Fail> {
     for (body, text, status) in [
-        ("states 3\ninit 0 1\nstate 0 1\nstate 1 1\nstate 2 0", "yes\n", Status::Done),
+        (
+            "states 3\ninit 0 1\nstate 0 1\nstate 1 1\nstate 2 0",
+            "yes\n",
+            Status::Done,
+        ),
         (
             "states 3\ninit 0 1/4\nstate 0 1/4\nstate 1 1\nstate 2 0",
             "denied rule 5 state 0 choice 1\n",
@@ -125,7 +131,10 @@ fn refuses_what_it_cannot_read(rt: HostRuntime) -> Result<(), Fail> {
         (&["solve", "MODEL", "exact", "CERT"], "words unread\n"),
     ] {
         let mut out = sink(rt.alloc(), 100, 16, &[])?;
-        assert_eq!(rt; ended(rt.alloc(), given, COIN, UPPER, &mut out)?, Status::Words);
+        assert_eq!(rt;
+            ended(rt.alloc(), given, COIN, UPPER, &mut out)?,
+            Status::Words
+        );
         assert_eq!(rt; out.bytes(), text.as_bytes());
     }
     for (place, byte) in [
@@ -145,9 +154,13 @@ fn refuses_what_it_cannot_read(rt: HostRuntime) -> Result<(), Fail> {
         assert_eq!(rt; end, Status::Model, "at {place}");
         assert_eq!(rt; out.bytes(), b"model unread\n".as_slice());
     }
-    let other = b"mdp-certificate 1\nclaim upper reach \"done\"\nstates 3\ninit 0 1\nstate 0 1\nstate 1 1\nstate 2 0\nend\n";
+    let other =
+        b"mdp-certificate 1\nclaim upper reach \"done\"\nstates 3\ninit 0 1\nstate 0 1\nstate 1 1\nstate 2 0\nend\n";
     let mut out = sink(rt.alloc(), 100, 16, &[])?;
-    assert_eq!(rt; ended(rt.alloc(), JOB, COIN, other, &mut out)?, Status::Query);
+    assert_eq!(rt;
+        ended(rt.alloc(), JOB, COIN, other, &mut out)?,
+        Status::Query
+    );
     assert_eq!(rt; out.bytes(), b"query label\n".as_slice());
     Ok(())
 }

@@ -51,7 +51,9 @@ fn judges_upper_bounds(rt: HostRuntime) -> Result<(), Fail> {
         (["1", "1", "0"], Verdict::Yes),
         (["1/4", "1", "0"], no(5, 0, Some(1))),
     ] {
-        let cert = UpperCert { values: values(rt.alloc(), &texts)? };
+        let cert = UpperCert {
+            values: values(rt.alloc(), &texts)?,
+        };
         assert_eq!(rt; cert.values.len(), 3);
         assert_eq!(rt; holds_upper(&model, &goals, &cert), verdict);
     }
