@@ -1,5 +1,6 @@
-ghost use Rattle.std.specs.Prelude.{◌≢◌, ◌≤◌, ◌^◌, All, IsTrue, IfSome};
-ghost use Rattle.mdp_rows.specs.Name.{IsName};
+ghost use Rattle.std.specs.Prelude.{◌≡◌, ◌≤◌, ◌^◌, ◌==◌, ◌||◌, IfSome};
+ghost use Rattle.std.specs.List.{list_any};
+ghost use Rattle.mdp_rows.specs.Name.{is_name};
 ghost use Rattle.mdp_num.specs.Meaning.{IsWithinLimit};
 
 use crate::lines::{Unread, is_blank, is_line_feed, number_of};
@@ -50,21 +51,21 @@ fn read_header(text: &[u8]) -> Option<(u32, u32, &[u8])>
     Some((states, number_of(choices)?, text.strip_prefix(b"@model\n")?))
 }
 
-/// Whether no byte is this one.
-fn is_without(text: &[u8], byte: u8) -> bool
-    ensures { IsTrue result → All (λ b. b ≢ byte) text.now }
+/// Whether a quote or a line feed is among the bytes.
+fn has_quote_or_line_feed(text: &[u8]) -> bool
+    ensures { result ≡ list_any (λ b. b == 34 || b == 10) text.now }
 {
-    text.iter().all(|other| *other != byte)
+    text.iter().any(|byte| *byte == b'"' || *byte == b'\n')
 }
 
-/// Whether a label has 1 to 255 bytes, and no quote and no line feed.
+/// Whether a label has 1 to 255 bytes, and no quote and no line feed among them.
 fn is_label(label: &[u8]) -> bool
-    ensures { IsTrue result → IsName label.now }
+    ensures { result ≡ is_name label.now }
 {
     if label.is_empty() || label.len() > 255 {
         return false;
     }
-    is_without(label, b'"') && is_without(label, b'\n')
+    !has_quote_or_line_feed(label)
 }
 
 /// Gives the open state a label.
