@@ -8,10 +8,7 @@ use Rattle.mdp_math.specs.Written.{narrow_ℚ}
 use Rattle.mdp_math.proofs.Laws.{den-pos}
 use Rattle.mdp_math.proofs.Written.{narrow_ℚ-kept, num-ratio_signed, den-ratio_signed}
 use Rattle.mdp_spec.specs.Mdp.{Entry}
-use Rattle.mdp_math.proofs.Order.{ratio-nonneg}
-use Rattle.std.specs.Option.{IfSome}
 use Rattle.mdp_num.specs.Numeral.{limit}
-use Rattle.mdp_num.specs.Meaning.{IsWithinLimit}
 use Rattle.mdp_rows.specs.Given.{row_of}
 use Rattle.mdp_rows.specs.declared.given.Given.{Given}
 use Rattle.mdp_spec.specs.Unit.{lcm}
