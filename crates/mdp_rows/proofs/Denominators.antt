@@ -8,10 +8,7 @@ use Rattle.mdp_math.specs.Written.{narrow_ℚ}
 use Rattle.mdp_math.proofs.Laws.{den-pos}
 use Rattle.mdp_math.proofs.Written.{narrow_ℚ-kept, num-ratio_signed, den-ratio_signed}
 use Rattle.mdp_spec.specs.Mdp.{Entry}
-use Rattle.mdp_math.proofs.Order.{ratio-nonneg}
-use Rattle.std.specs.Option.{IfSome}
 use Rattle.mdp_num.specs.Numeral.{limit}
-use Rattle.mdp_num.specs.Meaning.{IsWithinLimit}
 use Rattle.mdp_rows.specs.Given.{row_of}
 use Rattle.mdp_rows.specs.declared.given.Given.{Given}
 use Rattle.mdp_spec.specs.Unit.{lcm}
@@ -178,28 +175,3 @@ zero_num g z e f = sym f ∙ zero_bits z (let k = ap unsigned_abs f in omega (ar
 
 pub nonzero_num : (g : Given) (z : ℤ) → (of_z w128 z ≡ 0 → ⊥) → z ≡ g.value.num → g.value.num ≡ pos 0 → ⊥
 nonzero_num g z h f e = h (ap (of_z w128) (f ∙ e))
-
--- ---- small fractions are values that a builder takes
-
-pub term_of : (a b : ℕ) (o : Option ℚ) (x : ℚ) → 0 < a → a ≤ limit → b ≤ limit → o ≡ Some (ratio (pos b) a) → Some x ≡ o → IsWithinLimit x
-term_of a b o x h k l e f =
-    let is : x ≡ ratio (pos b) a = (let s : Some x ≡ Some (ratio (pos b) a) = f ∙ e in cc) in
-    let n : ℚ.num (ratio (pos b) a) ≡ pos (b / gcd b a) = num-ratio_signed false b a h in
-    let m = ap unsigned_abs n in
-    let d : ℚ.den (ratio (pos b) a) ≡ a / gcd b a = den-ratio_signed false b a h in
-    let nb : b / gcd b a ≤ b = div-le_self b (gcd b a) in
-    let db : a / gcd b a ≤ a = div-le_self a (gcd b a) in
-    rw is (record { nonnegative = ratio-nonneg b a h; num = omega arith; den = omega arith })
-
-some_term : (a b : ℕ) (o r : Option ℚ) → 0 < a → a ≤ limit → b ≤ limit → o ≡ Some (ratio (pos b) a) → r ≡ o → IfSome r IsWithinLimit
-some_term a b o None h k l e f = tt
-some_term a b o (Some x) h k l e f = term_of a b o x h k l e f
-
-pub term_read : (a b : ℕ) (o r : Option ℚ) (d n : ℤ) → 0 < a → a ≤ limit → b ≤ limit → d ≡ pos a → n ≡ pos b
-    → (to_z w128 (of_z w128 d) ≢ pos 0 → o ≡ narrow_ℚ (quotient (to_z w128 (of_z w128 n)) (to_z w128 (of_z w128 d)))) → r ≡ o → IfSome r IsWithinLimit
-term_read a b o r d n h k l ed en e f =
-    let zd : to_z w128 (of_z w128 d) ≡ pos a = ap (λ (z : ℤ). to_z w128 (of_z w128 z)) ed ∙ read_back (pos a) (omega arith) in
-    let zn : to_z w128 (of_z w128 n) ≡ pos b = ap (λ (z : ℤ). to_z w128 (of_z w128 z)) en ∙ read_back (pos b) (omega arith) in
-    some_term a b o r h k l
-    (e (λ z. let x : pos a ≡ pos 0 = sym zd ∙ z in absurd (omega (arith, ints)))
-    ∙ ap (λ (z : ℤ). narrow_ℚ (quotient z (to_z w128 (of_z w128 d)))) zn ∙ ap (λ (z : ℤ). narrow_ℚ (quotient (pos b) z)) zd ∙ quotient_kept a b h k l) f

@@ -1,58 +1,64 @@
-ghost use Rattle.std.specs.Prelude.{◌<◌};
-ghost use Rattle.std.specs.Option.{IfSome};
-ghost use Rattle.mdp_num.specs.Meaning.{IsWithinLimit};
-
 use crate::builder::Builder;
 use crate::error::RowsError;
-use mdp_num::Frac;
+use crate::given::Given;
+use crate::marks::Marks;
+use mdp_num::{NumeralError, read_numeral};
 use std::test::Fail;
 
-fn part(num: u32, den: u32) -> Option<Frac>
-    requires { 0 < den }
-    ensures { IfSome result IsWithinLimit }
-{
-    Frac::try_new(i128::from(num), i128::from(den)).ok()
+fn given(target: u32, value: &[u8]) -> Result<Given, NumeralError> {
+    let value = read_numeral(value)?;
+    Ok(Given { target, value })
 }
 
-// 0 init: [0 1] [1 1/3, 2 2/3]; 1 goal: [1 1]; 2: [2 1]
+/// Adds these entries to the open choice.
+fn add_entries(builder: &mut Builder, row: &[Given]) -> Result<(), RowsError> {
+    for given in row {
+        if builder.is_choice_open() {
+            builder.entry(given.target, given.value)?;
+        }
+    }
+    Ok(())
+}
+
+/// Adds a state with one choice.
+fn add_state(builder: &mut Builder, row: &[Given]) -> Result<(), RowsError> {
+    builder.state()?;
+    builder.choice()?;
+    add_entries(builder, row)
+}
+
 #[test]
 fn builds_a_model(rt: HostRuntime) -> Result<(), Fail> {
-    let one = part(1, 1).ok_or("one")?;
-    let mut builder = Builder::new(rt.alloc(), 3)?;
-    builder.state()?;
-    builder.label(b"init")?;
-    builder.choice()?;
-    builder.entry(0, one)?;
-    builder.choice()?;
-    builder.entry(2, part(2, 3).ok_or("two thirds")?)?;
-    builder.entry(0, part(0, 1).ok_or("zero")?)?;
-    builder.entry(1, part(1, 3).ok_or("third")?)?;
-    builder.state()?;
-    builder.label(b"goal")?;
-    builder.choice()?;
-    builder.entry(1, one)?;
-    builder.state()?;
-    builder.choice()?;
-    builder.entry(2, one)?;
+    let row = [given(1, b"2/3")?, given(0, b"1/3")?];
+    let mut builder = Builder::new(rt.alloc(), 2)?;
+    add_state(&mut builder, &row)?;
+    add_state(&mut builder, &row)?;
     let model = builder.finish()?;
-    assert_eq!(rt; model.states(), 3);
-    assert_eq!(rt; model.choices(0), 2);
-    assert_eq!(rt; model.choices(2), 1);
-    assert_eq!(rt; model.initial(), Some(0));
-    assert_eq!(rt; model.label(b"goal"), Some(1));
-    assert!(rt; model.has(1, 1));
-    assert_eq!(rt; model.row(0, 1).targets, [1, 2].as_slice());
+    assert_eq!(rt; model.states(), 2);
+    assert_eq!(rt; model.choices(0), 1);
+    assert_eq!(rt; model.row(0, 0).targets, [0, 1].as_slice());
+    assert_eq!(rt; model.initial(), None);
     Ok(())
 }
 
 #[test]
 fn refuses(rt: HostRuntime) -> Result<(), Fail> {
-    let mut builder = Builder::new(rt.alloc(), 1)?;
-    builder.state()?;
-    builder.choice()?;
-    builder.entry(0, part(1, 2).ok_or("half")?)?;
-    let refusal = Err(RowsError::RowSum { state: 0, choice: 0 });
+    let row = [given(0, b"1/3")?];
+    let refusal = Err(RowsError::RowSum {
+        state: 0,
+        choice: 0,
+    });
+    let mut builder = Builder::new(rt.alloc(), 2)?;
+    add_state(&mut builder, &row)?;
     assert_eq!(rt; builder.state(), refusal);
     assert_eq!(rt; builder.state(), refusal);
+    Ok(())
+}
+
+#[test]
+fn marks_states(rt: HostRuntime) -> Result<(), Fail> {
+    let mut marks = Marks::empty(rt.alloc(), 2)?;
+    marks.set(1, true);
+    assert!(rt; !marks.at(0) && marks.at(1));
     Ok(())
 }

@@ -15,11 +15,11 @@ returns-clause-call c =
 pub returns-clause-state_open : goal.returns-clause-state_open
 returns-clause-state_open c =
     let k : IsCall c.args.self.now c.keep_refusal.new.self (after_choice c.args.self.now) c.try_choice-outcome.result =
-        call_kept _ c.try_choice-outcome.new.self c.keep_refusal.new.self _ c.try_choice-outcome.result (sym (refused_is c.self.inside _ c.self.view_is) ∙ c.in_default.is) c.try_choice-outcome.ensures.follows c.keep_refusal.ensures.unchanged c.keep_refusal.ensures.refused in
+    call_kept _ c.try_choice-outcome.new.self c.keep_refusal.new.self _ c.try_choice-outcome.result (sym (refused_is c.self.inside _ c.self.view_is) ∙ c.in_default.is) c.try_choice-outcome.ensures.follows c.keep_refusal.ensures.unchanged c.keep_refusal.ensures.refused in
     rw c.keep_refusal.ensures.same (when_ok c.args.self.now c.keep_refusal.new.self (after_choice c.args.self.now) c.try_choice-outcome.result k (λ u e. (choice_opens c.args.self.now _ (c.requires.open u) e).0))
 
 pub returns-clause-row_open : goal.returns-clause-row_open
 returns-clause-row_open c =
     let k : IsCall c.args.self.now c.keep_refusal.new.self (after_choice c.args.self.now) c.try_choice-outcome.result =
-        call_kept _ c.try_choice-outcome.new.self c.keep_refusal.new.self _ c.try_choice-outcome.result (sym (refused_is c.self.inside _ c.self.view_is) ∙ c.in_default.is) c.try_choice-outcome.ensures.follows c.keep_refusal.ensures.unchanged c.keep_refusal.ensures.refused in
+    call_kept _ c.try_choice-outcome.new.self c.keep_refusal.new.self _ c.try_choice-outcome.result (sym (refused_is c.self.inside _ c.self.view_is) ∙ c.in_default.is) c.try_choice-outcome.ensures.follows c.keep_refusal.ensures.unchanged c.keep_refusal.ensures.refused in
     rw c.keep_refusal.ensures.same (when_ok c.args.self.now c.keep_refusal.new.self (after_choice c.args.self.now) c.try_choice-outcome.result k (λ u e. (choice_opens c.args.self.now _ (c.requires.open u) e).1))

@@ -15,5 +15,5 @@ returns-clause-call c =
 pub returns-clause-state_open : goal.returns-clause-state_open
 returns-clause-state_open c =
     let k : IsCall c.args.self.now c.keep_refusal.new.self (after_label c.args.self.now c.args.name.now) c.try_label-outcome.result =
-        call_kept _ c.try_label-outcome.new.self c.keep_refusal.new.self _ c.try_label-outcome.result (sym (refused_is c.self.inside _ c.self.view_is) ∙ c.in_default.is) c.try_label-outcome.ensures.follows c.keep_refusal.ensures.unchanged c.keep_refusal.ensures.refused in
+    call_kept _ c.try_label-outcome.new.self c.keep_refusal.new.self _ c.try_label-outcome.result (sym (refused_is c.self.inside _ c.self.view_is) ∙ c.in_default.is) c.try_label-outcome.ensures.follows c.keep_refusal.ensures.unchanged c.keep_refusal.ensures.refused in
     rw c.keep_refusal.ensures.same (when_ok c.args.self.now c.keep_refusal.new.self (after_label c.args.self.now c.args.name.now) c.try_label-outcome.result k (λ u e. label_keeps c.args.self.now _ c.args.name.now (c.requires.open u) e))

@@ -15,5 +15,5 @@ returns-clause-call c =
 pub returns-clause-state_open : goal.returns-clause-state_open
 returns-clause-state_open c =
     let k : IsCall c.args.self.now c.keep_refusal.new.self (after_state c.args.self.now) c.try_state-outcome.result =
-        call_kept _ c.try_state-outcome.new.self c.keep_refusal.new.self _ c.try_state-outcome.result (sym (refused_is c.self.inside _ c.self.view_is) ∙ c.in_default.is) c.try_state-outcome.ensures.follows c.keep_refusal.ensures.unchanged c.keep_refusal.ensures.refused in
+    call_kept _ c.try_state-outcome.new.self c.keep_refusal.new.self _ c.try_state-outcome.result (sym (refused_is c.self.inside _ c.self.view_is) ∙ c.in_default.is) c.try_state-outcome.ensures.follows c.keep_refusal.ensures.unchanged c.keep_refusal.ensures.refused in
     rw c.keep_refusal.ensures.same (when_ok c.args.self.now c.keep_refusal.new.self (after_state c.args.self.now) c.try_state-outcome.result k (λ u e. state_opens c.args.self.now _ e))

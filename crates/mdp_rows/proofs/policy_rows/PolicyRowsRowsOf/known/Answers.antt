@@ -1,4 +1,4 @@
-use Rattle.std.proofs.Common.{ℕ, slice_index}
+use Rattle.std.proofs.Common.{slice_index}
 use Rattle.mdp_rows.proofs.RowsOfPolicy.{rows_known}
 use Rattle.mdp_rows.proofs.policy_rows.PolicyRowsRowsOf.known.Goals as goal
 
