@@ -1,0 +1,4 @@
+mod Places
+mod Steps
+mod Equations
+mod Finish

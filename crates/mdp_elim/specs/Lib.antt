@@ -1,0 +1,5 @@
+pub mod Equation
+pub mod Entries
+pub mod Elimination
+pub mod Code
+pub mod Finish

@@ -1,0 +1,9 @@
+//! State elimination: the solution of x = c + Q x over the active states of a chain, in written arithmetic.
+#![tactic(auto)]
+
+mod elimination;
+mod entries;
+mod equation;
+mod errors;
+
+pub use errors::ElimError;
