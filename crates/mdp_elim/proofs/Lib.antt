@@ -2,3 +2,6 @@ mod Places
 mod Steps
 mod Equations
 mod Finish
+mod RowSums
+mod Step
+mod Law

@@ -3,3 +3,4 @@ pub mod Entries
 pub mod Elimination
 pub mod Code
 pub mod Finish
+pub mod System
