@@ -5,3 +5,4 @@ mod Finish
 mod RowSums
 mod Step
 mod Law
+mod Leaving

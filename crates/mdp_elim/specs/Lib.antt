@@ -4,3 +4,4 @@ pub mod Elimination
 pub mod Code
 pub mod Finish
 pub mod System
+pub mod Solve

@@ -38,3 +38,7 @@ pub record IsSolution (rows : List (List Entry)) (active : List Bool) (column x 
   pub len : length x ≡ length rows
   pub inside : (s : ℕ) → is_active active s ≡ true → value_at x s ≡ value_at column s +ℚ row_sum (row_of rows s) x
   pub outside : (s : ℕ) → is_active active s ≡ false → value_at x s ≡ of_int (pos 0)
+
+-- each of the vectors solves its column's system
+abbrev pub SolveEach : List (List Entry) → List Bool → List (List ℚ) → List (List ℚ) → Type 0
+SolveEach rows active columns xs = (length xs ≡ length columns) × ((k : ℕ) → k < length columns → IsSolution rows active (slice_index_or columns k []) (slice_index_or xs k []))

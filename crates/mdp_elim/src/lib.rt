@@ -1,9 +1,11 @@
 //! State elimination: the solution of x = c + Q x over the active states of a chain, in written arithmetic.
 #![tactic(auto)]
 
+mod chain;
 mod elimination;
 mod entries;
 mod equation;
 mod errors;
 
+pub use chain::{Chain, solve};
 pub use errors::ElimError;
