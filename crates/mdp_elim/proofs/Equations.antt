@@ -1,7 +1,7 @@
 -- An equation that is divided, and one that is added to another, step by step.
-use Rattle.std.proofs.Common.{◌≡◌, ◌≢◌, ◌++◌, ℕ, zero, suc, length, take, get_or, ap, arith, List, Option, Some, None, refl, sym, ◌∙◌, pos, negsuc, [], ◌∷◌}
+use Rattle.std.proofs.Common.{◌≡◌, ◌≢◌, ◌++◌, ℕ, zero, suc, length, take, get_or, ap, arith, List, Some, None, refl, sym, ◌∙◌, pos, negsuc, [], ◌∷◌}
 use Rattle.std.specs.List.{remove}
-use Rattle.mdp_math.specs.Rational.{ℚ, of_int, neg_ℚ, ◌-ℚ◌}
+use Rattle.mdp_math.specs.Rational.{ℚ, neg_ℚ}
 use Rattle.mdp_math.specs.Written.{written_add, written_mul, ◌>>=◌}
 use Rattle.mdp_math.proofs.Written.{written_add-some}
 use Rattle.mdp_math.proofs.Ring.{◌⊕◌, ⊖, lit}

@@ -1,8 +1,7 @@
 -- Equations that are eliminated one after the other, and then evaluated in the opposite order.
-use Rattle.std.proofs.Common.{◌≡◌, ℕ, zero, suc, ◌+◌, ◌<◌, List, [], ◌∷◌, ◌++◌, length, Option, Some, None, Result, Ok, Err, refl, sym, ◌∙◌, ap, subst, arith}
+use Rattle.std.proofs.Common.{◌≡◌, ℕ, suc, ◌+◌, ◌<◌, List, [], ◌∷◌, ◌++◌, length, Some, None, Result, Ok, Err, refl, sym, ◌∙◌, ap, subst, arith}
 use Rattle.std.proofs.lemmas.List.{length-append}
 use Rattle.std.specs.List.{All}
-use Rattle.mdp_spec.specs.Mdp.{Entry}
 use Rattle.mdp_elim.specs.Equation.{Equation, Values}
 use Rattle.mdp_elim.specs.Elimination.{CanEliminate, evaluated, at_state, ◌and_then◌, eliminated, Eliminated, solution}
 use Rattle.mdp_elim.specs.Finish.{finish, LeadDown, placed}

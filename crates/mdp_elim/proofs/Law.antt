@@ -1,10 +1,9 @@
 -- Where the pivots of a system are above 0, each elimination can be made, and the values that come out solve the system.
-use Rattle.std.proofs.Common.{◌≡◌, ◌≢◌, ℕ, zero, suc, ◌+◌, ◌<◌, ◌≤◌, ◌⊎◌, inl, inr, Bool, true, false, List, [], ◌∷◌, ◌++◌, length, get_or, Option, Some, None, Result, Ok, Err, refl, sym, ◌∙◌, ap, ap₂, subst, arith, eqb, if◌then◌else◌, pos, negsuc}
-use Rattle.std.specs.List.{All}
+use Rattle.std.proofs.Common.{◌≡◌, ℕ, zero, suc, ◌<◌, ◌⊎◌, inl, inr, Bool, true, List, [], ◌∷◌, ◌++◌, length, Option, Some, None, Result, Ok, Err, refl, sym, ◌∙◌, ap, ap₂, subst, arith, eqb, if◌then◌else◌, pos, negsuc}
 use Rattle.std.proofs.Math.Seq.{get_or-append_seam}
 use Rattle.std.proofs.lemmas.List.{get_or_append_left, length-append}
-use Rattle.mdp_math.specs.Rational.{ℚ, of_int, ◌+ℚ◌, ◌*ℚ◌, ◌-ℚ◌, inv_ℚ, ◌<ℚ◌}
-use Rattle.mdp_math.specs.Pivot.{divided as divided_row, pivoted, active_below, HasPivots}
+use Rattle.mdp_math.specs.Rational.{ℚ, ◌+ℚ◌, ◌*ℚ◌, ◌-ℚ◌, inv_ℚ, ◌<ℚ◌}
+use Rattle.mdp_math.specs.Pivot.{pivoted, active_below, HasPivots}
 use Rattle.mdp_math.proofs.Numbers.{last_or, eqb-same, eqb-smaller, eqb-greater}
 use Rattle.mdp_math.proofs.Ring.{◌⊕◌, ◌⊗◌, ⊖, lit, ring}
 use Rattle.mdp_math.proofs.Linear.{combine, equal}
@@ -15,11 +14,11 @@ use Rattle.mdp_math.proofs.Written.{written_add-some, written_mul-some}
 use Rattle.mdp_math.specs.Written.{written_add, written_mul, ◌>>=◌}
 use Rattle.mdp_spec.specs.Mdp.{Entry, value_at}
 use Rattle.mdp_spec.specs.Written.{written_sum}
-use Rattle.mdp_elim.specs.Equation.{Equation, Values, no_equation}
-use Rattle.mdp_elim.specs.Entries.{entry_to, without}
+use Rattle.mdp_elim.specs.Equation.{Equation, Values}
+use Rattle.mdp_elim.specs.Entries.{without}
 use Rattle.mdp_elim.specs.Elimination.{eliminated, Eliminated, evaluated, solution, at_state, ◌and_then◌, no_values, CanEliminate}
 use Rattle.mdp_elim.proofs.RowSums.{over, or_zero, over-split, over-same, some_part, Between, between-without, between-below}
-use Rattle.mdp_elim.proofs.Step.{factor, at, IsEliminated, IsDivided, IsSubstituted, eliminated-is}
+use Rattle.mdp_elim.proofs.Step.{factor, at, IsEliminated, eliminated-is}
 
 -- 1 at v, 0 elsewhere
 abbrev pub unit : ℕ → ℕ → ℚ

@@ -1,13 +1,13 @@
 -- Where a chain leaves its active states, the pivots of its system are above 0.
-use Rattle.std.proofs.Common.{◌≡◌, ℕ, zero, suc, ◌+◌, ◌<◌, ◌≤◌, ◌⊎◌, inl, inr, Bool, true, false, List, [], ◌∷◌, length, map, get_or, refl, sym, ◌∙◌, ap, ap₂, subst, arith, eqb, nat_le, ◌&&◌, if◌then◌else◌, pos, zero-add, IsTrue}
-use Rattle.std.specs.List.{All, Any, filter, range_with_len}
+use Rattle.std.proofs.Common.{◌≡◌, ℕ, zero, suc, ◌+◌, ◌<◌, ◌≤◌, ◌⊎◌, inl, inr, Bool, true, false, List, [], ◌∷◌, length, get_or, Ok, refl, sym, ◌∙◌, ap, ap₂, subst, arith, eqb, nat_le, ◌&&◌, if◌then◌else◌, pos, zero-add, IsTrue}
+use Rattle.std.specs.List.{All, Any, filter}
 use Rattle.std.proofs.Math.ListN.{get_or-eq_default}
 use Rattle.std.proofs.lemmas.List.FromFn.{get_or-map-range_with_len, length-map-range_with_len}
 use Rattle.std.proofs.lemmas.Bool.{ne_eqb, leb-true}
-use Rattle.mdp_math.specs.Rational.{ℚ, of_int, ◌+ℚ◌, ◌*ℚ◌, ◌-ℚ◌, inv_ℚ, ◌≤ℚ◌, ◌<ℚ◌}
+use Rattle.mdp_math.specs.Rational.{ℚ, ◌+ℚ◌, ◌*ℚ◌, ◌-ℚ◌, inv_ℚ, ◌≤ℚ◌, ◌<ℚ◌}
 use Rattle.mdp_math.specs.Sum.{sum_of}
 use Rattle.mdp_math.specs.Pivot.{pivoted, active_below, entry_at, HasPivots}
-use Rattle.mdp_math.proofs.Numbers.{last_or, le_or}
+use Rattle.mdp_math.proofs.Numbers.{le_or}
 use Rattle.mdp_math.proofs.Ring.{◌⊕◌, ◌⊗◌, ⊖, lit, ring}
 use Rattle.mdp_math.proofs.Linear.{combine, equal}
 use Rattle.mdp_math.proofs.Laws.{rat_ring}
@@ -15,16 +15,18 @@ use Rattle.mdp_math.proofs.Order.{0ℚ, 1ℚ, ≤ℚ_of_lt, ≤ℚ_of_eq}
 use Rattle.mdp_math.proofs.Whole.{one-pos}
 use Rattle.mdp_math.proofs.Sums.{sum_of-same}
 use Rattle.mdp_math.proofs.Kernel.{Any-and, All-head, All-tail}
-use Rattle.mdp_math.proofs.Floors.{ForSmall, positive_floor_lists, greatest_rank}
+use Rattle.mdp_math.proofs.Floors.{positive_floor_lists, greatest_rank}
 use Rattle.mdp_math.proofs.Weight.{Shrinks, RanksFall, shrinks_by_ranks}
 use Rattle.mdp_math.proofs.Elimination.{kernel_pivots}
 use Rattle.mdp_spec.specs.Mdp.{Entry, value_at}
-use Rattle.mdp_spec.specs.Row.{IsRow, AreRows, ascends_from, row_sum}
+use Rattle.mdp_spec.specs.Row.{IsRow, AreRows, ascends_from}
 use Rattle.mdp_elim.specs.Equation.{Equation, Values, no_equation}
-use Rattle.mdp_elim.specs.System.{is_active, row_of, inner, column_at, equation_of, system, Leaves, IsSolution}
+use Rattle.mdp_elim.specs.System.{is_active, row_of, inner, column_at, equation_of, system, Leaves, IsSolution, SolveEach}
+use Rattle.mdp_elim.specs.Solve.{columns_of}
+use Rattle.mdp_elim.specs.Elimination.{solution, CanEliminate}
 use Rattle.mdp_elim.proofs.RowSums.{over, Between, between-lower}
 use Rattle.mdp_elim.proofs.Step.{at}
-use Rattle.mdp_elim.proofs.Law.{unit, matrix, all_below, LeadBelow, Solved}
+use Rattle.mdp_elim.proofs.Law.{unit, matrix, all_below, LeadBelow, Solved, can_eliminate, solution_solves}
 
 -- ---- pivots over all numbers, from those over the active ones
 
@@ -235,3 +237,27 @@ module _ (rows : List (List Entry)) (active : List Bool) (ranks : List ℕ) (kno
               ∙ ap (λ (o : ℚ). column_at columns 1 s +ℚ o) (over-inner active (value_at values.second) (row_of rows s) (λ v f. second_outside v (le_or (length rows) v) f));
           outside = λ s a. second_outside s (le_or (length rows) s) a;
         }
+
+      -- each elimination can be made
+      pub system-can : CanEliminate (length (system rows active columns)) (system rows active columns)
+      system-can = subst (λ n. CanEliminate n (system rows active columns)) (sym system-len) (can_eliminate (length rows) (system rows active columns) system-len system-down system-pivots)
+
+      each_one : (values : Values) → Solved (length rows) (system rows active columns) values → (n : ℕ) → (n ≡ 1) ⊎ (n ≡ 2) → (k : ℕ) → k < n → IsSolution rows active (get_or columns k []) (get_or (columns_of n values) k [])
+      each_one values solved n (inl one) k l =
+          let e : 0 ≡ k = omega arith in
+          subst (λ m. IsSolution rows active (get_or columns k []) (get_or (columns_of m values) k [])) (sym one) (subst (λ j. IsSolution rows active (get_or columns j []) (get_or (columns_of 1 values) j [])) e (first_solves values solved))
+      each_one values solved n (inr two) zero l = subst (λ m. IsSolution rows active (get_or columns 0 []) (get_or (columns_of m values) 0 [])) (sym two) (first_solves values solved)
+      each_one values solved n (inr two) (suc k) l =
+          let e : 1 ≡ suc k = omega arith in
+          subst (λ m. IsSolution rows active (get_or columns (suc k) []) (get_or (columns_of m values) (suc k) [])) (sym two) (subst (λ j. IsSolution rows active (get_or columns j []) (get_or (columns_of 2 values) j [])) e (second_solves values solved))
+
+      columns-len : (values : Values) (n : ℕ) → (n ≡ 1) ⊎ (n ≡ 2) → length (columns_of n values) ≡ n
+      columns-len values n (inl one) = subst (λ m. length (columns_of m values) ≡ m) (sym one) refl
+      columns-len values n (inr two) = subst (λ m. length (columns_of m values) ≡ m) (sym two) refl
+
+      -- the vectors that come out solve the systems
+      pub solve_each : (values : Values) → solution (length rows) (system rows active columns) ≡ Ok values → (length columns ≡ 1) ⊎ (length columns ≡ 2) → SolveEach rows active columns (columns_of (length columns) values)
+      solve_each values made few = (
+        columns-len values (length columns) few,
+        each_one values (solution_solves (length rows) (system rows active columns) values system-len system-down system-pivots made) (length columns) few,
+      )

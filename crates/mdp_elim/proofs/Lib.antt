@@ -6,3 +6,4 @@ mod RowSums
 mod Step
 mod Law
 mod Leaving
+mod Chains

@@ -1,5 +1,5 @@
 -- A step for each element of a list, made in place from the front.
-use Rattle.std.proofs.Common.{◌≡◌, ℕ, zero, suc, ◌+◌, ◌<◌, ◌≤◌, List, [], ◌∷◌, length, get_or, refl, sym, ◌∙◌, ap, subst, arith, Option, Some, None}
+use Rattle.std.proofs.Common.{◌≡◌, ℕ, zero, suc, ◌+◌, ◌<◌, ◌≤◌, List, [], ◌∷◌, length, get_or, refl, ◌∙◌, ap, subst, arith, Option, Some, None}
 use Rattle.std.proofs.Math.ListN.{set}
 use Rattle.mdp_math.specs.Written.{◌>>=◌}
 use Rattle.mdp_elim.specs.Entries.{each}

@@ -3,7 +3,7 @@
 --     substituted    an entry w of a smaller state to the eliminated one: w times the equation of that one takes its place
 --     solution       after all eliminations, the values from state 0 on
 -- An answer is the values, or the first state at whose elimination or evaluation a term is past width.
-use Rattle.std.specs.Prelude.{◌≢◌, ◌≡◌, ◌<◌, ℕ, zero, suc, List, [], ◌∷◌, ◌++◌, length, take, slice_index_or, Option, Some, None, Result, Ok, Err, pos}
+use Rattle.std.specs.Prelude.{◌≢◌, ◌≡◌, ◌<◌, ℕ, zero, suc, List, [], ◌∷◌, ◌++◌, take, slice_index_or, Option, Some, None, Result, Ok, Err, pos}
 use Rattle.std.specs.List.{All}
 use Rattle.mdp_math.specs.Rational.{ℚ, of_int}
 use Rattle.mdp_math.specs.Written.{written_add, written_mul, ◌>>=◌}

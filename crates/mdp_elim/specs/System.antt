@@ -1,6 +1,6 @@
 -- The system of a chain: for each active state an equation with the entries of its row to active states; any other state has the value 0.
-use Rattle.std.specs.Prelude.{◌≡◌, ℕ, ◌+◌, ◌<◌, Bool, true, false, List, [], ◌∷◌, length, map, slice_index, slice_index_or, IsTrue, ◌⊎◌, if◌then◌else◌, pos}
-use Rattle.std.specs.List.{All, Any, filter, range_with_len}
+use Rattle.std.specs.Prelude.{◌≡◌, ℕ, ◌<◌, Bool, true, false, List, [], length, map, slice_index, slice_index_or, ◌⊎◌, if◌then◌else◌, pos}
+use Rattle.std.specs.List.{Any, filter, range_with_len}
 use Rattle.mdp_math.specs.Rational.{ℚ, of_int, ◌+ℚ◌}
 use Rattle.mdp_spec.specs.Mdp.{Entry, value_at}
 use Rattle.mdp_spec.specs.Row.{row_sum}

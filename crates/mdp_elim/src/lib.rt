@@ -6,6 +6,8 @@ mod elimination;
 mod entries;
 mod equation;
 mod errors;
+mod shared;
 
 pub use chain::{Chain, solve};
 pub use errors::ElimError;
+pub use shared::{Kind, Part, SolveError, TooWide};

@@ -1,11 +1,9 @@
 use Rattle.std.proofs.Common.{◌≡◌, List, None, Some, Err, take, get_or, suc, length, subst, sym, ap, ◌∙◌, rules, arith}
-use Rattle.std.specs.List.{remove}
-use Rattle.std.specs.Vec.{with_items}
 use Rattle.std.proofs.lemmas.List.{with_items_is, get_or_default}
 use Rattle.mdp_elim.specs.declared.errors.StepError.TheVariants as error
 use Rattle.mdp_elim.specs.Equation as spec
 use Rattle.mdp_elim.specs.Entries.{each}
-use Rattle.mdp_elim.specs.Elimination.{divided, substituted, eliminated, Eliminated}
+use Rattle.mdp_elim.specs.Elimination.{divided, substituted, Eliminated}
 use Rattle.mdp_elim.proofs.Equations.{remove-last, eliminated-none_pivot, eliminated-none_rest, eliminated-some}
 use Rattle.mdp_elim.proofs.elimination.eliminate.Goals as goal
 

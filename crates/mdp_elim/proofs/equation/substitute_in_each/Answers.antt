@@ -1,4 +1,4 @@
-use Rattle.std.proofs.Common.{arith, refl, rules, ◌≡◌, Err}
+use Rattle.std.proofs.Common.{arith, rules, ◌≡◌, Err}
 use Rattle.mdp_elim.specs.declared.errors.StepError.TheVariants as error
 use Rattle.mdp_elim.specs.Elimination.{substituted}
 use Rattle.mdp_elim.proofs.Steps.{so_far-next, so_far-all, so_far-stop, so_far-len}
