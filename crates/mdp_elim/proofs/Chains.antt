@@ -9,7 +9,7 @@ use Rattle.mdp_elim.specs.Elimination.{solution}
 use Rattle.mdp_elim.specs.System.{is_active, row_of, inner, column_at, equation_of, system}
 use Rattle.mdp_elim.specs.Solve.{kept, columns_of, written_solution}
 
-entries_next : (ts : List ℕ) (ps : List ℚ) (i t : ℕ) (p : ℚ) → i < length ts → length ts ≡ length ps → t ≡ get_or ts i t → p ≡ get_or ps i p
+pub entries_next : (ts : List ℕ) (ps : List ℚ) (i t : ℕ) (p : ℚ) → i < length ts → length ts ≡ length ps → t ≡ get_or ts i t → p ≡ get_or ps i p
     → entries (drop i ts) (drop i ps) ≡ (let x : Entry = record { target = t; prob = p } in x) ∷ entries (drop (suc i) ts) (drop (suc i) ps)
 entries_next [] ps i t p l n a b = absurd (omega arith)
 entries_next (u ∷ ts) [] i t p l n a b = absurd (omega arith)

@@ -17,7 +17,7 @@ use Rattle.mdp_math.proofs.Sums.{sum_of-same}
 use Rattle.mdp_math.proofs.Kernel.{Any-and, All-head, All-tail}
 use Rattle.mdp_math.proofs.Floors.{positive_floor_lists, greatest_rank}
 use Rattle.mdp_math.proofs.Weight.{Shrinks, RanksFall, shrinks_by_ranks}
-use Rattle.mdp_math.proofs.Elimination.{kernel_pivots}
+use Rattle.mdp_math.proofs.Elimination.{kernel_pivots, kernel_pivots_transposed}
 use Rattle.mdp_spec.specs.Mdp.{Entry, value_at}
 use Rattle.mdp_spec.specs.Row.{IsRow, AreRows, ascends_from}
 use Rattle.mdp_elim.specs.Equation.{Equation, Values, no_equation}
@@ -121,9 +121,9 @@ module _ (active : List Bool) where
   pub inner-inactive : (v : ℕ) (row : List Entry) → is_active active v ≡ false → over (unit v) (inner active row) ≡ 0ℚ
   inner-inactive v row e = over-inner_none (unit v) row (λ k f. unit-other v k false true e f (λ h. cc))
 
--- ---- the chain
+-- ---- the system of rows
 
-module _ (rows : List (List Entry)) (active : List Bool) (ranks : List ℕ) (known : AreRows rows) (size : length active ≡ length rows) where
+module _ (rows : List (List Entry)) (active : List Bool) (size : length active ≡ length rows) where
   -- an active state is below the number of states
   pub active-below : (s : ℕ) → is_active active s ≡ true → s < length rows
   active-below s a = elim (le_or (length active) s) as (λ _. s < length rows) [
@@ -131,6 +131,77 @@ module _ (rows : List (List Entry)) (active : List Bool) (ranks : List ℕ) (kno
     | inr l ↦ omega (arith, size)
   ]
 
+  module _ (columns : List (List ℚ)) where
+    at-system : (s : ℕ) → s < length rows → at (system rows active columns) s ≡ equation_of rows active columns s
+    at-system s l = get_or-map-range_with_len (equation_of rows active columns) 0 (length rows) s s no_equation l (zero-add s)
+
+    pub length-system : length (system rows active columns) ≡ length rows
+    length-system = length-map-range_with_len (equation_of rows active columns) 0 (length rows)
+
+    pub at_active : (s : ℕ) → is_active active s ≡ true → at (system rows active columns) s ≡ (let e : Equation = record { entries = inner active (row_of rows s); first = column_at columns 0 s; second = column_at columns 1 s } in e)
+    unfolding equation_of
+    at_active s a = at-system s (active-below s a) ∙ ap (λ (b : Bool). let e : Equation = record { entries = inner active (row_of rows s); first = column_at columns 0 s; second = column_at columns 1 s } in if b then e else no_equation) a
+
+    past_or : (s : ℕ) → (length rows ≤ s) ⊎ (s < length rows) → is_active active s ≡ false → at (system rows active columns) s ≡ no_equation
+    unfolding equation_of
+    past_or s (inl l) a = get_or-eq_default (system rows active columns) no_equation (omega (arith, length-system))
+    past_or s (inr l) a = at-system s l ∙ ap (λ (b : Bool). let e : Equation = record { entries = inner active (row_of rows s); first = column_at columns 0 s; second = column_at columns 1 s } in if b then e else no_equation) a
+
+    pub at_inactive : (s : ℕ) → is_active active s ≡ false → at (system rows active columns) s ≡ no_equation
+    at_inactive s a = past_or s (le_or (length rows) s) a
+
+    -- the entries lie below the number of states, where those of the active rows do
+    down_by : ((s : ℕ) → s < length rows → Between 0 (length rows) (row_of rows s)) → (s : ℕ) (b : Bool) → is_active active s ≡ b → Between 0 (length rows) (at (system rows active columns) s).entries
+    down_by between s true a = subst (λ (e : Equation). Between 0 (length rows) e.entries) (sym (at_active s a)) (between-filter (λ x. is_active active x.target) 0 (length rows) (row_of rows s) (between s (active-below s a)))
+    down_by between s false a = subst (λ (e : Equation). Between 0 (length rows) e.entries) (sym (at_inactive s a)) tt
+
+    pub down-system : ((s : ℕ) → s < length rows → Between 0 (length rows) (row_of rows s)) → LeadBelow (length rows) (length rows) (system rows active columns)
+    down-system between s l = down_by between s (is_active active s) refl
+
+    pub matrix-active : (t v : ℕ) → is_active active t ≡ true → is_active active v ≡ true → matrix (system rows active columns) t v ≡ over (unit v) (row_of rows t)
+    matrix-active t v a e = ap (λ (x : Equation). over (unit v) x.entries) (at_active t a) ∙ inner-active active v (row_of rows t) e ∙ sym (over-unit active v (row_of rows t))
+
+    none_at : (t v : ℕ) (b : Bool) → is_active active t ≡ b → is_active active v ≡ false → matrix (system rows active columns) t v ≡ 0ℚ
+    none_at t v true a e = ap (λ (x : Equation). over (unit v) x.entries) (at_active t a) ∙ inner-inactive active v (row_of rows t) e
+    none_at t v false a e = ap (λ (x : Equation). over (unit v) x.entries) (at_inactive t a)
+
+    pub matrix-inactive : (t v : ℕ) → is_active active v ≡ false → matrix (system rows active columns) t v ≡ 0ℚ
+    matrix-inactive t v e = none_at t v (is_active active t) refl e
+
+    -- ---- the solution
+
+    module _ (values : Values) (solved : Solved (length rows) (system rows active columns) values) where
+      first_outside : (s : ℕ) → (length rows ≤ s) ⊎ (s < length rows) → is_active active s ≡ false → value_at values.first s ≡ 0ℚ
+      first_outside s (inl l) a = get_or-eq_default values.first 0ℚ (omega (arith, solved.first_len))
+      first_outside s (inr l) a = solved.first s l ∙ ap (λ (e : Equation). e.first +ℚ over (value_at values.first) e.entries) (at_inactive s a) ∙ ring rat_ring 0 (lit (pos 0) ⊕ lit (pos 0)) (lit (pos 0)) refl
+
+      second_outside : (s : ℕ) → (length rows ≤ s) ⊎ (s < length rows) → is_active active s ≡ false → value_at values.second s ≡ 0ℚ
+      second_outside s (inl l) a = get_or-eq_default values.second 0ℚ (omega (arith, solved.second_len))
+      second_outside s (inr l) a = solved.second s l ∙ ap (λ (e : Equation). e.second +ℚ over (value_at values.second) e.entries) (at_inactive s a) ∙ ring rat_ring 0 (lit (pos 0) ⊕ lit (pos 0)) (lit (pos 0)) refl
+
+      pub first_solves : IsSolution rows active (get_or columns 0 []) values.first
+      first_solves = record {
+        len = solved.first_len;
+        inside = λ s a.
+            solved.first s (active-below s a)
+            ∙ ap (λ (e : Equation). e.first +ℚ over (value_at values.first) e.entries) (at_active s a)
+            ∙ ap (λ (o : ℚ). column_at columns 0 s +ℚ o) (over-inner active (value_at values.first) (row_of rows s) (λ v f. first_outside v (le_or (length rows) v) f));
+        outside = λ s a. first_outside s (le_or (length rows) s) a;
+      }
+
+      pub second_solves : IsSolution rows active (get_or columns 1 []) values.second
+      second_solves = record {
+        len = solved.second_len;
+        inside = λ s a.
+            solved.second s (active-below s a)
+            ∙ ap (λ (e : Equation). e.second +ℚ over (value_at values.second) e.entries) (at_active s a)
+            ∙ ap (λ (o : ℚ). column_at columns 1 s +ℚ o) (over-inner active (value_at values.second) (row_of rows s) (λ v f. second_outside v (le_or (length rows) v) f));
+        outside = λ s a. second_outside s (le_or (length rows) s) a;
+      }
+
+-- ---- the chain
+
+module _ (rows : List (List Entry)) (active : List Bool) (ranks : List ℕ) (known : AreRows rows) (size : length active ≡ length rows) where
   row_known : (s : ℕ) → s < length rows → IsRow (length rows) (row_of rows s)
   row_known s l = known s [] l
 
@@ -157,86 +228,39 @@ module _ (rows : List (List Entry)) (active : List Bool) (ranks : List ℕ) (kno
           eps_positive = floor.1;
           eps_at_most_one = floor.2;
           rank_positive = λ s a. rank-above s;
-          rank_at_most = λ s a. (greatest_rank rank (length rows)).1 s (active-below s a);
-          entries = λ s row a ok. subst (λ (r : List Entry). All (λ x. 0ℚ ≤ℚ x.prob) r) (sym ok) (λ k d l. ≤ℚ_of_lt 0ℚ (Entry.prob (get_or (row_of rows s) k d)) ((row_known s (active-below s a)).distribution.positive k d l));
-          mass = λ s row a ok. ≤ℚ_of_eq _ _ (ap (sum_of (λ x. x.prob)) ok ∙ (row_known s (active-below s a)).distribution.total);
+          rank_at_most = λ s a. (greatest_rank rank (length rows)).1 s (active-below rows active size s a);
+          entries = λ s row a ok. subst (λ (r : List Entry). All (λ x. 0ℚ ≤ℚ x.prob) r) (sym ok) (λ k d l. ≤ℚ_of_lt 0ℚ (Entry.prob (get_or (row_of rows s) k d)) ((row_known s (active-below rows active size s a)).distribution.positive k d l));
+          mass = λ s row a ok. ≤ℚ_of_eq _ _ (ap (sum_of (λ x. x.prob)) ok ∙ (row_known s (active-below rows active size s a)).distribution.total);
           falls = λ s row a ok.
-              let any = Any-and (λ x. floor.0 ≤ℚ x.prob) (λ x. (is_active active x.target ≡ false) ⊎ (get_or ranks x.target 0 < get_or ranks s 0)) (row_of rows s) (floor.3 s [] (active-below s a)) (leaves.falls s (active-below s a) a) in
+              let any = Any-and (λ x. floor.0 ≤ℚ x.prob) (λ x. (is_active active x.target ≡ false) ⊎ (get_or ranks x.target 0 < get_or ranks s 0)) (row_of rows s) (floor.3 s [] (active-below rows active size s a)) (leaves.falls s (active-below rows active size s a) a) in
               subst (λ (r : List Entry). Any (λ x. (floor.0 ≤ℚ x.prob) × ((is_active active x.target ≡ false) ⊎ (rank x.target < rank s))) r) (sym ok) (any.0, any.1, any.2, any.3, (any.4.0, rank_more s any.1 any.4.1));
         }
 
     pub chain_shrinks : Shrinks (λ x. x.target) (λ x. x.prob) (is_active active) Allowed
     chain_shrinks = shrinks_by_ranks ranks_fall
 
+    pub chain_pivots : HasPivots (active_below (is_active active) (length rows)) (λ s. entry_at (λ x. x.target) (λ x. x.prob) (row_of rows s))
+    chain_pivots = kernel_pivots chain_shrinks (length rows) (active-below rows active size) (row_of rows) (λ s a. refl)
+
+    pub chain_pivots_transposed : HasPivots (active_below (is_active active) (length rows)) (λ s t. entry_at (λ x. x.target) (λ x. x.prob) (row_of rows t) s)
+    chain_pivots_transposed = kernel_pivots_transposed chain_shrinks (length rows) (active-below rows active size) (row_of rows) (λ s a. refl)
+
+    pub row_between : (s : ℕ) → s < length rows → Between 0 (length rows) (row_of rows s)
+    row_between s l = between-row 0 (length rows) (row_of rows s) (row_known s l).distribution.ascending (row_known s l).in_range
+
     module _ (columns : List (List ℚ)) where
-      at-system : (s : ℕ) → s < length rows → at (system rows active columns) s ≡ equation_of rows active columns s
-      at-system s l = get_or-map-range_with_len (equation_of rows active columns) 0 (length rows) s s no_equation l (zero-add s)
-
       pub system-len : length (system rows active columns) ≡ length rows
-      system-len = length-map-range_with_len (equation_of rows active columns) 0 (length rows)
+      system-len = length-system rows active size columns
 
-      pub at_active : (s : ℕ) → is_active active s ≡ true → at (system rows active columns) s ≡ (let e : Equation = record { entries = inner active (row_of rows s); first = column_at columns 0 s; second = column_at columns 1 s } in e)
-      unfolding equation_of
-      at_active s a = at-system s (active-below s a) ∙ ap (λ (b : Bool). let e : Equation = record { entries = inner active (row_of rows s); first = column_at columns 0 s; second = column_at columns 1 s } in if b then e else no_equation) a
+      system-down : LeadBelow (length rows) (length rows) (system rows active columns)
+      system-down = down-system rows active size columns row_between
 
-      past_or : (s : ℕ) → (length rows ≤ s) ⊎ (s < length rows) → is_active active s ≡ false → at (system rows active columns) s ≡ no_equation
-      unfolding equation_of
-      past_or s (inl l) a = get_or-eq_default (system rows active columns) no_equation (omega (arith, system-len))
-      past_or s (inr l) a = at-system s l ∙ ap (λ (b : Bool). let e : Equation = record { entries = inner active (row_of rows s); first = column_at columns 0 s; second = column_at columns 1 s } in if b then e else no_equation) a
-
-      pub at_inactive : (s : ℕ) → is_active active s ≡ false → at (system rows active columns) s ≡ no_equation
-      at_inactive s a = past_or s (le_or (length rows) s) a
-
-      down_by : (s : ℕ) (b : Bool) → is_active active s ≡ b → Between 0 (length rows) (at (system rows active columns) s).entries
-      down_by s true a =
-          let r = row_known s (active-below s a) in
-          subst (λ (e : Equation). Between 0 (length rows) e.entries) (sym (at_active s a)) (between-filter (λ x. is_active active x.target) 0 (length rows) (row_of rows s) (between-row 0 (length rows) (row_of rows s) r.distribution.ascending r.in_range))
-      down_by s false a = subst (λ (e : Equation). Between 0 (length rows) e.entries) (sym (at_inactive s a)) tt
-
-      pub system-down : LeadBelow (length rows) (length rows) (system rows active columns)
-      system-down s l = down_by s (is_active active s) refl
-
-      none_at : (t v : ℕ) (b : Bool) → is_active active t ≡ b → is_active active v ≡ false → matrix (system rows active columns) t v ≡ 0ℚ
-      none_at t v true a e = ap (λ (x : Equation). over (unit v) x.entries) (at_active t a) ∙ inner-inactive active v (row_of rows t) e
-      none_at t v false a e = ap (λ (x : Equation). over (unit v) x.entries) (at_inactive t a)
-
-      pub system-pivots : HasPivots (all_below (length rows)) (matrix (system rows active columns))
+      system-pivots : HasPivots (all_below (length rows)) (matrix (system rows active columns))
       system-pivots =
           all_pivots (is_active active) (length rows) (λ s. entry_at (λ x. x.target) (λ x. x.prob) (row_of rows s)) (matrix (system rows active columns))
-          (λ t v at av. sym (ap (λ (x : Equation). over (unit v) x.entries) (at_active t at) ∙ inner-active active v (row_of rows t) av))
-          (λ t v av. none_at t v (is_active active t) refl av)
-          (kernel_pivots chain_shrinks (length rows) (active-below) (row_of rows) (λ s a. refl))
-
-      -- ---- the solution
-
-      module _ (values : Values) (solved : Solved (length rows) (system rows active columns) values) where
-        first_outside : (s : ℕ) → (length rows ≤ s) ⊎ (s < length rows) → is_active active s ≡ false → value_at values.first s ≡ 0ℚ
-        first_outside s (inl l) a = get_or-eq_default values.first 0ℚ (omega (arith, solved.first_len))
-        first_outside s (inr l) a = solved.first s l ∙ ap (λ (e : Equation). e.first +ℚ over (value_at values.first) e.entries) (at_inactive s a) ∙ ring rat_ring 0 (lit (pos 0) ⊕ lit (pos 0)) (lit (pos 0)) refl
-
-        second_outside : (s : ℕ) → (length rows ≤ s) ⊎ (s < length rows) → is_active active s ≡ false → value_at values.second s ≡ 0ℚ
-        second_outside s (inl l) a = get_or-eq_default values.second 0ℚ (omega (arith, solved.second_len))
-        second_outside s (inr l) a = solved.second s l ∙ ap (λ (e : Equation). e.second +ℚ over (value_at values.second) e.entries) (at_inactive s a) ∙ ring rat_ring 0 (lit (pos 0) ⊕ lit (pos 0)) (lit (pos 0)) refl
-
-        pub first_solves : IsSolution rows active (get_or columns 0 []) values.first
-        first_solves = record {
-          len = solved.first_len;
-          inside = λ s a.
-              solved.first s (active-below s a)
-              ∙ ap (λ (e : Equation). e.first +ℚ over (value_at values.first) e.entries) (at_active s a)
-              ∙ ap (λ (o : ℚ). column_at columns 0 s +ℚ o) (over-inner active (value_at values.first) (row_of rows s) (λ v f. first_outside v (le_or (length rows) v) f));
-          outside = λ s a. first_outside s (le_or (length rows) s) a;
-        }
-
-        pub second_solves : IsSolution rows active (get_or columns 1 []) values.second
-        second_solves = record {
-          len = solved.second_len;
-          inside = λ s a.
-              solved.second s (active-below s a)
-              ∙ ap (λ (e : Equation). e.second +ℚ over (value_at values.second) e.entries) (at_active s a)
-              ∙ ap (λ (o : ℚ). column_at columns 1 s +ℚ o) (over-inner active (value_at values.second) (row_of rows s) (λ v f. second_outside v (le_or (length rows) v) f));
-          outside = λ s a. second_outside s (le_or (length rows) s) a;
-        }
+          (λ t v at av. sym (over-unit active v (row_of rows t)) ∙ sym (matrix-active rows active size columns t v at av))
+          (λ t v av. matrix-inactive rows active size columns t v av)
+          chain_pivots
 
       -- each elimination can be made
       pub system-can : CanEliminate (length (system rows active columns)) (system rows active columns)
@@ -245,11 +269,11 @@ module _ (rows : List (List Entry)) (active : List Bool) (ranks : List ℕ) (kno
       each_one : (values : Values) → Solved (length rows) (system rows active columns) values → (n : ℕ) → (n ≡ 1) ⊎ (n ≡ 2) → (k : ℕ) → k < n → IsSolution rows active (get_or columns k []) (get_or (columns_of n values) k [])
       each_one values solved n (inl one) k l =
           let e : 0 ≡ k = omega arith in
-          subst (λ m. IsSolution rows active (get_or columns k []) (get_or (columns_of m values) k [])) (sym one) (subst (λ j. IsSolution rows active (get_or columns j []) (get_or (columns_of 1 values) j [])) e (first_solves values solved))
-      each_one values solved n (inr two) zero l = subst (λ m. IsSolution rows active (get_or columns 0 []) (get_or (columns_of m values) 0 [])) (sym two) (first_solves values solved)
+          subst (λ m. IsSolution rows active (get_or columns k []) (get_or (columns_of m values) k [])) (sym one) (subst (λ j. IsSolution rows active (get_or columns j []) (get_or (columns_of 1 values) j [])) e (first_solves rows active size columns values solved))
+      each_one values solved n (inr two) zero l = subst (λ m. IsSolution rows active (get_or columns 0 []) (get_or (columns_of m values) 0 [])) (sym two) (first_solves rows active size columns values solved)
       each_one values solved n (inr two) (suc k) l =
           let e : 1 ≡ suc k = omega arith in
-          subst (λ m. IsSolution rows active (get_or columns (suc k) []) (get_or (columns_of m values) (suc k) [])) (sym two) (subst (λ j. IsSolution rows active (get_or columns j []) (get_or (columns_of 2 values) j [])) e (second_solves values solved))
+          subst (λ m. IsSolution rows active (get_or columns (suc k) []) (get_or (columns_of m values) (suc k) [])) (sym two) (subst (λ j. IsSolution rows active (get_or columns j []) (get_or (columns_of 2 values) j [])) e (second_solves rows active size columns values solved))
 
       columns-len : (values : Values) (n : ℕ) → (n ≡ 1) ⊎ (n ≡ 2) → length (columns_of n values) ≡ n
       columns-len values n (inl one) = subst (λ m. length (columns_of m values) ≡ m) (sym one) refl

@@ -7,3 +7,5 @@ mod Step
 mod Law
 mod Leaving
 mod Chains
+mod RowsInto
+mod Expected

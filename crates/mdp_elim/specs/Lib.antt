@@ -5,3 +5,4 @@ pub mod Code
 pub mod Finish
 pub mod System
 pub mod Solve
+pub mod Visits

@@ -7,7 +7,9 @@ mod entries;
 mod equation;
 mod errors;
 mod shared;
+mod transposed;
 
 pub use chain::{Chain, solve};
 pub use errors::ElimError;
 pub use shared::{Kind, Part, SolveError, TooWide};
+pub use transposed::visits;
