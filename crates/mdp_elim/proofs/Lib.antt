@@ -9,3 +9,4 @@ mod Leaving
 mod Chains
 mod RowsInto
 mod Expected
+mod Examples
