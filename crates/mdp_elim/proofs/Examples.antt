@@ -1,0 +1,66 @@
+-- Computations of the definitions.
+use Rattle.std.proofs.Common.{◌≡◌, ℕ, ◌-◌, ◌^◌, List, [], ◌∷◌, Bool, true, false, Result, Ok, Err, Some, None, refl, pos, negsuc}
+use Rattle.mdp_math.specs.Gcd.{gcd, gcd_with_fuel}
+use Rattle.mdp_math.specs.Rational.{ℚ, of_int, ratio, ◌+ℚ◌, ◌*ℚ◌, neg_ℚ, inv_ℚ}
+use Rattle.mdp_math.specs.Written.{written_add, written_mul, narrow, narrow_ℚ}
+use Rattle.mdp_spec.specs.Mdp.{Entry}
+use Rattle.mdp_elim.specs.Equation.{Equation}
+use Rattle.mdp_elim.specs.Entries.{entry_to, without, plus_row}
+use Rattle.mdp_elim.specs.Elimination.{divided, divided_rest, plus_equation, eliminated, evaluated, solution}
+use Rattle.mdp_elim.specs.System.{equation_of, system}
+use Rattle.mdp_elim.specs.Solve.{written_solution}
+use Rattle.mdp_elim.specs.Visits.{transposed, written_visits}
+
+abbrev to : ℕ → ℚ → Entry
+to t p = record { target = t; prob = p }
+
+-- three states: 0 stays with 1/2 and goes to 1 and 2 with 1/4 each, 1 goes to 0 with 1/3 and to 2 with 2/3, and 2 stays
+abbrev three : List (List Entry)
+three =
+    (to 0 (ratio (pos 1) 2) ∷ to 1 (ratio (pos 1) 4) ∷ to 2 (ratio (pos 1) 4) ∷ [])
+    ∷ (to 0 (ratio (pos 1) 3) ∷ to 2 (ratio (pos 2) 3) ∷ [])
+    ∷ (to 2 (of_int (pos 1)) ∷ [])
+    ∷ []
+
+abbrev first_two : List Bool
+first_two = true ∷ true ∷ false ∷ []
+
+row_without : without 1 (to 0 (ratio (pos 1) 2) ∷ to 1 (ratio (pos 1) 4) ∷ []) ≡ to 0 (ratio (pos 1) 2) ∷ []
+row_without = refl
+
+transposed_row : transposed three ≡ (to 0 (ratio (pos 1) 2) ∷ to 1 (ratio (pos 1) 3) ∷ []) ∷ (to 0 (ratio (pos 1) 4) ∷ []) ∷ (to 0 (ratio (pos 1) 4) ∷ to 1 (ratio (pos 2) 3) ∷ to 2 (of_int (pos 1)) ∷ []) ∷ []
+transposed_row = refl
+
+-- the column 0, 1, 0 gives 3/5, 6/5, 0
+one_column : written_solution three first_two ((of_int (pos 0) ∷ of_int (pos 1) ∷ of_int (pos 0) ∷ []) ∷ []) ≡ Ok ((ratio (pos 3) 5 ∷ ratio (pos 6) 5 ∷ of_int (pos 0) ∷ []) ∷ [])
+unfolding equation_of eliminated divided_rest plus_equation evaluated written_add written_mul narrow narrow_ℚ ◌+ℚ◌ ◌*ℚ◌ neg_ℚ inv_ℚ ratio of_int gcd gcd_with_fuel
+one_column = refl
+
+-- and the column 1/4, 2/3, 0 beside it gives 1, 1, 0
+two_columns : written_solution three first_two ((of_int (pos 0) ∷ of_int (pos 1) ∷ of_int (pos 0) ∷ []) ∷ (ratio (pos 1) 4 ∷ ratio (pos 2) 3 ∷ of_int (pos 0) ∷ []) ∷ [])
+    ≡ Ok ((ratio (pos 3) 5 ∷ ratio (pos 6) 5 ∷ of_int (pos 0) ∷ []) ∷ (of_int (pos 1) ∷ of_int (pos 1) ∷ of_int (pos 0) ∷ []) ∷ [])
+unfolding equation_of eliminated divided_rest plus_equation evaluated written_add written_mul narrow narrow_ℚ ◌+ℚ◌ ◌*ℚ◌ neg_ℚ inv_ℚ ratio of_int gcd gcd_with_fuel
+two_columns = refl
+
+-- from state 0, state 0 is visited 12/5 times and state 1 3/5 times
+three_visits : written_visits three first_two 0 ≡ Ok (ratio (pos 12) 5 ∷ ratio (pos 3) 5 ∷ of_int (pos 0) ∷ [])
+unfolding equation_of eliminated divided_rest plus_equation evaluated written_add written_mul narrow narrow_ℚ ◌+ℚ◌ ◌*ℚ◌ neg_ℚ inv_ℚ ratio of_int gcd gcd_with_fuel
+three_visits = refl
+
+-- state 0 goes to 1 with 1/10^36 and otherwise to 2
+abbrev small_step : List (List Entry)
+small_step =
+    (to 1 (ratio (pos 1) (10 ^ 36)) ∷ to 2 (ratio (pos (10 ^ 36 - 1)) (10 ^ 36)) ∷ [])
+    ∷ (to 2 (of_int (pos 1)) ∷ [])
+    ∷ (to 2 (of_int (pos 1)) ∷ [])
+    ∷ []
+
+-- with 1/10 at state 1 the product 1/10^37 is in width
+in_width_still : written_solution small_step first_two ((of_int (pos 0) ∷ ratio (pos 1) 10 ∷ of_int (pos 0) ∷ []) ∷ []) ≡ Ok ((ratio (pos 1) (10 ^ 37) ∷ ratio (pos 1) 10 ∷ of_int (pos 0) ∷ []) ∷ [])
+unfolding equation_of eliminated divided_rest plus_equation evaluated written_add written_mul narrow narrow_ℚ ◌+ℚ◌ ◌*ℚ◌ neg_ℚ inv_ℚ ratio of_int gcd gcd_with_fuel
+in_width_still = refl
+
+-- with 1/1000 it has the denominator 10^39, past width, at the elimination of state 1
+past_width : written_solution small_step first_two ((of_int (pos 0) ∷ ratio (pos 1) 1000 ∷ of_int (pos 0) ∷ []) ∷ []) ≡ Err 1
+unfolding equation_of eliminated divided_rest plus_equation evaluated written_add written_mul narrow narrow_ℚ ◌+ℚ◌ ◌*ℚ◌ neg_ℚ inv_ℚ ratio of_int gcd gcd_with_fuel
+past_width = refl

@@ -1,0 +1,12 @@
+mod Places
+mod Steps
+mod Equations
+mod Finish
+mod RowSums
+mod Step
+mod Law
+mod Leaving
+mod Chains
+mod RowsInto
+mod Expected
+mod Examples

@@ -1,0 +1,26 @@
+use Rattle.std.proofs.Common.{◌≡◌, ◌<◌, ◌∙◌, ◌∷◌, ◌++◌, [], ap, length, get_or, rules, arith, eq-eqb}
+use Rattle.std.proofs.lemmas.List.{get_or_default}
+use Rattle.std.proofs.lemmas.Bool.{ne_eqb}
+use Rattle.mdp_math.proofs.Order.{0ℚ}
+use Rattle.mdp_spec.specs.Mdp.{Entry}
+use Rattle.mdp_elim.proofs.Expected.{into-kept, into-left}
+use Rattle.mdp_elim.proofs.transposed.push_entries_into.Goals.{then-row-i+in_ok-push, else-row-i}
+use Rattle.mdp_elim.proofs.transposed.push_entries_into.Goals as goal
+
+pub loop-i-preserved : goal.loop-i-preserved
+loop-i-preserved c =
+    let l : c.loop-i.i < length c.args.row.probs.now = omega (arith, c.args.row.same_length) in
+    let t = get_or_default c.args.row.targets.now c.loop-i.i 0 (get_or c.args.row.targets.now c.loop-i.i 0) (omega arith) in
+    elim c.if-row-i.branch [
+      | then-row-i+in_ok-push w ↦
+          let is : c.if-row-i.terms.items ≡ w.push.new.self.items = search rules in
+          rw is
+          (into-kept c.args.s c.args.t c.args.row.targets.now c.args.row.probs.now c.loop-i.i (get_or c.args.row.targets.now c.loop-i.i 0) (get_or c.args.row.probs.now c.loop-i.i w.index-row-i.result) (omega arith) c.args.row.same_length
+          t (get_or_default c.args.row.probs.now c.loop-i.i w.index-row-i.result _ l) c.loop-i.terms.items _ c.loop-i.invariant
+          w.push.new.self.items (eq-eqb _ _ w.if-row-i.true) ((w.in_ok-push.ensures {u = tt}).items ∙ ap (λ (x : Entry). c.loop-i.terms.items ++ x ∷ []) w.new.ensures))
+      | else-row-i w ↦
+          let is : c.if-row-i.terms.items ≡ c.loop-i.terms.items = search rules in
+          rw is
+          (into-left c.args.s c.args.t c.args.row.targets.now c.args.row.probs.now c.loop-i.i (get_or c.args.row.targets.now c.loop-i.i 0) (get_or c.args.row.probs.now c.loop-i.i 0ℚ) (omega arith) c.args.row.same_length
+          t (get_or_default c.args.row.probs.now c.loop-i.i 0ℚ _ l) c.loop-i.terms.items _ c.loop-i.invariant (ne_eqb _ _ w.if-row-i.false))
+    ]

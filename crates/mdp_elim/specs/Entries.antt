@@ -1,0 +1,68 @@
+-- Written arithmetic on the entries of an equation, whose targets ascend.
+use Rattle.std.specs.Prelude.{◌≡◌, ◌≢◌, ◌<◌, ◌≤◌, length, slice_index_or, ℕ, suc, List, [], ◌∷◌, Option, Some, None, ◌==◌, nat_le, if◌then◌else◌, pos}
+use Rattle.mdp_math.specs.Rational.{ℚ, of_int}
+use Rattle.mdp_math.specs.Written.{written_add, written_mul, ◌>>=◌}
+use Rattle.mdp_num.specs.Written.{written_div}
+use Rattle.mdp_spec.specs.Mdp.{Entry}
+
+-- the place of the first entry to s or a greater state, or the row's length
+abbrev pub place : ℕ → List Entry → ℕ
+place s [] = 0
+place s (x ∷ row) = if nat_le s x.target then 0 else suc (place s row)
+
+-- the entry to s, where there is one
+abbrev pub entry_to : ℕ → List Entry → Option ℚ
+entry_to s [] = None
+entry_to s (x ∷ row) = if nat_le s x.target then (if x.target == s then Some x.prob else None) else entry_to s row
+
+-- the other entries
+abbrev pub without : ℕ → List Entry → List Entry
+without s [] = []
+without s (x ∷ row) = if nat_le s x.target then (if x.target == s then row else x ∷ row) else x ∷ without s row
+
+-- what stands past the end of a row
+abbrev pub no_entry : Entry
+no_entry = record { target = 0; prob = of_int (pos 0) }
+
+-- i is the place of an entry to s
+pub record IsAt (s : ℕ) (row : List Entry) (i : ℕ) : Type 0 where
+  pub place : i ≡ place s row
+  pub within : i < length row
+  pub target : (slice_index_or row i no_entry).target ≡ s
+
+-- there is none, and i is where it would stand
+pub record IsBetween (s : ℕ) (row : List Entry) (i : ℕ) : Type 0 where
+  pub place : i ≡ place s row
+  pub within : i ≤ length row
+  pub other : i < length row → (slice_index_or row i no_entry).target ≢ s
+
+-- a step for each element, where each of them can be made
+abbrev pub each : {A : Type 0} → (A → Option A) → List A → Option (List A)
+each f [] = Some []
+each f (x ∷ xs) = do
+  y ← f x
+  ys ← each f xs
+  Some (y ∷ ys)
+
+abbrev pub divided_entry : ℚ → Entry → Option Entry
+divided_entry u x = do
+  quotient ← written_div x.prob u
+  Some (record { target = x.target; prob = quotient })
+
+-- x, added to the entry to v, or to 0 where there is none
+abbrev pub plus_entry : ℕ → ℚ → List Entry → Option (List Entry)
+plus_entry v x [] = do
+  sum ← written_add (of_int (pos 0)) x
+  Some (record { target = v; prob = sum } ∷ [])
+plus_entry v x (y ∷ row) =
+    if nat_le v y.target
+    then (if y.target == v then (written_add y.prob x >>= (λ sum. Some (record { target = v; prob = sum } ∷ row))) else (written_add (of_int (pos 0)) x >>= (λ sum. Some (record { target = v; prob = sum } ∷ y ∷ row))))
+    else (plus_entry v x row >>= (λ rest. Some (y ∷ rest)))
+
+-- w times each entry, in their order, added to the entries of a row
+abbrev pub plus_row : ℚ → List Entry → List Entry → Option (List Entry)
+plus_row w [] row = Some row
+plus_row w (x ∷ source) row = do
+  term ← written_mul w x.prob
+  sum ← plus_entry x.target term row
+  plus_row w source sum

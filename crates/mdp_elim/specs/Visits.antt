@@ -1,0 +1,44 @@
+-- Expected visits: the system of the transposed rows, where the equation of a state has an entry for each active state that leads to it.
+use Rattle.std.specs.Prelude.{◌≡◌, ℕ, Bool, true, false, List, [], ◌∷◌, length, map, ◌==◌, if◌then◌else◌, Result, pos}
+use Rattle.std.specs.List.{flat_map, range_with_len}
+use Rattle.mdp_math.specs.Rational.{ℚ, of_int, ◌+ℚ◌, ◌*ℚ◌}
+use Rattle.mdp_math.specs.Sum.{sum_of}
+use Rattle.mdp_math.specs.Pivot.{entry_at}
+use Rattle.mdp_spec.specs.Mdp.{Entry, value_at}
+use Rattle.mdp_elim.specs.Equation.{Values}
+use Rattle.mdp_elim.specs.Elimination.{solution}
+use Rattle.mdp_elim.specs.System.{is_active, row_of, system}
+use Rattle.mdp_elim.specs.Solve.{kept}
+
+-- the entry of state t's row to s, as an entry to t
+abbrev pub entries_into : ℕ → ℕ → List Entry → List Entry
+entries_into s t [] = []
+entries_into s t (x ∷ row) = if x.target == s then record { target = t; prob = x.prob } ∷ entries_into s t row else entries_into s t row
+
+-- the entries of all rows to s, in the order of the states
+abbrev pub row_into : List (List Entry) → ℕ → List Entry
+row_into rows s = flat_map (λ t. entries_into s t (row_of rows t)) (range_with_len 0 (length rows))
+
+abbrev pub transposed : List (List Entry) → List (List Entry)
+transposed rows = map (row_into rows) (range_with_len 0 (length rows))
+
+abbrev pub one_at : ℕ → ℕ → ℚ
+one_at start s = if s == start then of_int (pos 1) else of_int (pos 0)
+
+-- 1 at the start, 0 at any other state
+abbrev pub unit_column : ℕ → ℕ → List ℚ
+unit_column n start = map (one_at start) (range_with_len 0 n)
+
+-- the values of the written elimination, or the first state with a term past width
+abbrev pub written_visits : List (List Entry) → List Bool → ℕ → Result (List ℚ) ℕ
+written_visits rows active start = kept Values.first (solution (length rows) (system (transposed rows) active (unit_column (length rows) start ∷ [])))
+
+-- the probability to step from t to s
+abbrev pub step : List (List Entry) → ℕ → ℕ → ℚ
+step rows t s = entry_at (λ x. x.target) (λ x. x.prob) (row_of rows t) s
+
+-- how often each active state is visited: once at the start, and after the visits of the states that lead to it
+pub record AreVisits (rows : List (List Entry)) (active : List Bool) (start : ℕ) (y : List ℚ) : Type 0 where
+  pub len : length y ≡ length rows
+  pub inside : (s : ℕ) → is_active active s ≡ true → value_at y s ≡ one_at start s +ℚ sum_of (λ t. step rows t s *ℚ value_at y t) (range_with_len 0 (length rows))
+  pub outside : (s : ℕ) → is_active active s ≡ false → value_at y s ≡ of_int (pos 0)

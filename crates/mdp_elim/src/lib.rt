@@ -1,0 +1,15 @@
+//! State elimination: the solution of x = c + Q x over the active states of a chain, in written arithmetic.
+#![tactic(auto)]
+
+mod chain;
+mod elimination;
+mod entries;
+mod equation;
+mod errors;
+mod shared;
+mod transposed;
+
+pub use chain::{Chain, solve};
+pub use errors::ElimError;
+pub use shared::{Kind, Part, SolveError, TooWide};
+pub use transposed::visits;
