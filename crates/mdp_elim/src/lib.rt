@@ -7,6 +7,8 @@ mod entries;
 mod equation;
 mod errors;
 mod shared;
+#[cfg(test)]
+mod tests;
 mod transposed;
 
 pub use chain::{Chain, solve};
