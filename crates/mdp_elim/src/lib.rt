@@ -6,6 +6,7 @@ mod elimination;
 mod entries;
 mod equation;
 mod errors;
+mod laws;
 mod shared;
 #[cfg(test)]
 mod tests;
@@ -13,5 +14,6 @@ mod transposed;
 
 pub use chain::{Chain, solve};
 pub use errors::ElimError;
+pub use laws::solution_law;
 pub use shared::{Kind, Part, SolveError, TooWide};
 pub use transposed::visits;
