@@ -1,13 +1,12 @@
 -- Computations of the definitions.
-use Rattle.std.proofs.Common.{◌≡◌, ℕ, ◌-◌, ◌^◌, List, [], ◌∷◌, Bool, true, false, Result, Ok, Err, Some, None, refl, pos, negsuc}
+use Rattle.std.proofs.Common.{◌≡◌, ℕ, ◌-◌, ◌^◌, List, [], ◌∷◌, Bool, true, false, Ok, Err, refl, pos}
 use Rattle.mdp_math.specs.Gcd.{gcd, gcd_with_fuel}
 use Rattle.mdp_math.specs.Rational.{ℚ, of_int, ratio, ◌+ℚ◌, ◌*ℚ◌, neg_ℚ, inv_ℚ}
 use Rattle.mdp_math.specs.Written.{written_add, written_mul, narrow, narrow_ℚ}
 use Rattle.mdp_spec.specs.Mdp.{Entry}
-use Rattle.mdp_elim.specs.Equation.{Equation}
-use Rattle.mdp_elim.specs.Entries.{entry_to, without, plus_row}
-use Rattle.mdp_elim.specs.Elimination.{divided, divided_rest, plus_equation, eliminated, evaluated, solution}
-use Rattle.mdp_elim.specs.System.{equation_of, system}
+use Rattle.mdp_elim.specs.Entries.{without}
+use Rattle.mdp_elim.specs.Elimination.{divided_rest, plus_equation, eliminated, evaluated}
+use Rattle.mdp_elim.specs.System.{equation_of}
 use Rattle.mdp_elim.specs.Solve.{written_solution}
 use Rattle.mdp_elim.specs.Visits.{transposed, written_visits}
 

@@ -1,21 +1,19 @@
 -- The system of the transposed rows, as it is made, and that its values are the expected visits.
-use Rattle.std.proofs.Common.{◌≡◌, ℕ, zero, suc, ◌+◌, ◌<◌, Bool, true, false, List, [], ◌∷◌, ◌++◌, length, map, drop, get_or, refl, sym, ◌∙◌, ap, ap₂, subst, arith, eqb, if◌then◌else◌, pos, zero-add, Result, Ok, Err}
+use Rattle.std.proofs.Common.{◌≡◌, ℕ, suc, ◌+◌, ◌<◌, Bool, true, false, List, [], ◌∷◌, ◌++◌, length, drop, get_or, refl, sym, ◌∙◌, ap, ap₂, subst, arith, eqb, if◌then◌else◌, pos, zero-add, Result, Ok, Err}
 use Rattle.std.specs.List.{flat_map, range_with_len}
 use Rattle.std.proofs.lemmas.List.{append_assoc, append-nil}
 use Rattle.std.proofs.lemmas.List.FromFn.{get_or-map-range_with_len}
-use Rattle.mdp_math.specs.Rational.{ℚ, of_int, ◌+ℚ◌, ◌*ℚ◌}
-use Rattle.mdp_math.specs.Sum.{sum_of}
+use Rattle.mdp_math.specs.Rational.{ℚ, of_int, ◌+ℚ◌}
 use Rattle.mdp_math.specs.Pivot.{active_below, entry_at, HasPivots}
-use Rattle.mdp_math.proofs.Numbers.{eqb-same}
 use Rattle.mdp_spec.specs.Mdp.{Entry, value_at}
 use Rattle.mdp_spec.specs.Row.{AreRows, entries}
 use Rattle.mdp_elim.specs.Equation.{Equation, Values}
 use Rattle.mdp_elim.specs.Elimination.{solution, CanEliminate}
-use Rattle.mdp_elim.specs.System.{is_active, row_of, inner, column_at, system, Leaves}
+use Rattle.mdp_elim.specs.System.{is_active, row_of, inner, system, Leaves}
 use Rattle.mdp_elim.specs.Solve.{kept}
-use Rattle.mdp_elim.specs.Visits.{entries_into, row_into, transposed, one_at, unit_column, written_visits, step, AreVisits}
+use Rattle.mdp_elim.specs.Visits.{entries_into, transposed, one_at, unit_column, written_visits, step, AreVisits}
 use Rattle.mdp_elim.proofs.RowSums.{over, Between}
-use Rattle.mdp_elim.proofs.Law.{unit, matrix, all_below, LeadBelow, Solved, can_eliminate, solution_solves}
+use Rattle.mdp_elim.proofs.Law.{unit, matrix, all_below, LeadBelow, can_eliminate, solution_solves}
 use Rattle.mdp_elim.proofs.Chains.{entries_next}
 use Rattle.mdp_elim.proofs.RowsInto.{flat_more, over-row_into, between-row_into, one_term, length-transposed, row_of-transposed}
 use Rattle.mdp_elim.proofs.Leaving.{active-below, length-system, down-system, matrix-active, matrix-inactive, all_pivots, first_solves, chain_pivots_transposed, row_between}

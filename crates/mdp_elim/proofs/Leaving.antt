@@ -21,7 +21,8 @@ use Rattle.mdp_math.proofs.Elimination.{kernel_pivots, kernel_pivots_transposed}
 use Rattle.mdp_spec.specs.Mdp.{Entry, value_at}
 use Rattle.mdp_spec.specs.Row.{IsRow, AreRows, ascends_from}
 use Rattle.mdp_elim.specs.Equation.{Equation, Values, no_equation}
-use Rattle.mdp_elim.specs.System.{is_active, row_of, inner, column_at, equation_of, system, Leaves, IsSolution, SolveEach}
+use Rattle.mdp_elim.specs.System.{is_active, row_of, inner, column_at, equation_of, system, Leaves, IsSolution, SolveEach, HasOneSolution}
+use Rattle.mdp_math.proofs.Solutions.{one_solution}
 use Rattle.mdp_elim.specs.Solve.{columns_of}
 use Rattle.mdp_elim.specs.Elimination.{solution, CanEliminate}
 use Rattle.mdp_elim.proofs.RowSums.{over, Between, between-lower}
@@ -285,3 +286,10 @@ module _ (rows : List (List Entry)) (active : List Bool) (ranks : List ℕ) (kno
         columns-len values (length columns) few,
         each_one values (solution_solves (length rows) (system rows active columns) values system-len system-down system-pivots made) (length columns) few,
       )
+
+-- ---- one solution
+
+pub has_one_solution : HasOneSolution
+has_one_solution rows active ranks column x y known size leaves p q s =
+    one_solution (chain_shrinks rows active ranks known size leaves) (length rows) (active-below rows active size) (row_of rows) (λ s a. refl) (value_at column) (value_at x) (value_at y)
+    (record { outside = p.outside; inside = p.inside }) (record { outside = q.outside; inside = q.inside }) s

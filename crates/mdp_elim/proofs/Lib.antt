@@ -10,3 +10,4 @@ mod Chains
 mod RowsInto
 mod Expected
 mod Examples
+mod TwoStates

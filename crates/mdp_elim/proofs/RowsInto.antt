@@ -1,20 +1,20 @@
 -- The transposed rows of a chain: their entries, where they lie, and the pivots of their system.
-use Rattle.std.proofs.Common.{◌≡◌, ℕ, zero, suc, ◌+◌, ◌<◌, ◌≤◌, ◌⊎◌, inl, inr, Bool, true, false, List, [], ◌∷◌, ◌++◌, length, map, drop, get_or, refl, sym, ◌∙◌, ap, ap₂, subst, arith, eqb, if◌then◌else◌, pos, zero-add, Result, Ok, Err}
-use Rattle.std.specs.List.{All, filter, flat_map, range_with_len}
-use Rattle.std.proofs.lemmas.List.{append_assoc, append-nil}
+use Rattle.std.proofs.Common.{◌≡◌, ℕ, zero, suc, ◌+◌, ◌<◌, ◌≤◌, inl, inr, Bool, true, false, List, [], ◌∷◌, ◌++◌, length, map, refl, sym, ◌∙◌, ap, ap₂, subst, arith, eqb, if◌then◌else◌, pos, zero-add}
+use Rattle.std.specs.List.{flat_map, range_with_len}
+use Rattle.std.proofs.lemmas.List.{append-nil}
 use Rattle.std.proofs.lemmas.List.FromFn.{map-range_with_len_more, get_or-map-range_with_len, length-map-range_with_len}
 use Rattle.std.proofs.lemmas.Grind.{flat_map-append}
-use Rattle.mdp_math.specs.Rational.{ℚ, of_int, ◌+ℚ◌, ◌*ℚ◌}
+use Rattle.mdp_math.specs.Rational.{ℚ, ◌+ℚ◌, ◌*ℚ◌}
 use Rattle.mdp_math.specs.Sum.{sum_of}
-use Rattle.mdp_math.specs.Pivot.{active_below, entry_at, HasPivots}
+use Rattle.mdp_math.specs.Pivot.{entry_at}
 use Rattle.mdp_math.proofs.Numbers.{last_or, eqb-same, eqb-smaller, eqb-greater}
-use Rattle.mdp_math.proofs.Ring.{◌⊕◌, ◌⊗◌, ⊖, lit, ring}
+use Rattle.mdp_math.proofs.Ring.{◌⊕◌, ◌⊗◌, lit, ring}
 use Rattle.mdp_math.proofs.Linear.{combine, equal}
 use Rattle.mdp_math.proofs.Laws.{rat_ring}
 use Rattle.mdp_math.proofs.Order.{0ℚ, 1ℚ}
 use Rattle.mdp_math.proofs.Sums.{sum_of-append}
-use Rattle.mdp_spec.specs.Mdp.{Entry, value_at}
-use Rattle.mdp_elim.specs.System.{is_active, row_of, inner}
+use Rattle.mdp_spec.specs.Mdp.{Entry}
+use Rattle.mdp_elim.specs.System.{row_of}
 use Rattle.mdp_elim.specs.Visits.{entries_into, row_into, transposed, step}
 use Rattle.mdp_elim.proofs.RowSums.{over, Between, between-lower}
 

@@ -14,6 +14,7 @@ use std::alloc::{AllocError, Global};
 
 /// A chain: one row per state. The value of a state that isn't active is 0. The ranks say how each active state leaves: by an entry to a state
 /// that isn't active, or to an active state of smaller rank.
+#[derive(Drop)]
 pub struct Chain<'a, R: RowsOf> {
     pub rows: &'a R,
     pub active: &'a Marks,

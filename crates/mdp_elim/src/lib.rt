@@ -6,10 +6,14 @@ mod elimination;
 mod entries;
 mod equation;
 mod errors;
+mod laws;
 mod shared;
+#[cfg(test)]
+mod tests;
 mod transposed;
 
 pub use chain::{Chain, solve};
 pub use errors::ElimError;
+pub use laws::solution_law;
 pub use shared::{Kind, Part, SolveError, TooWide};
 pub use transposed::visits;
