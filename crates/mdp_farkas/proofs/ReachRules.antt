@@ -15,8 +15,8 @@ use Rattle.mdp_spec.proofs.Reach.{reach_max_of_rules, reach_min_of_rules}
 use Rattle.mdp_farkas.specs.Verdict.{Check, verdict_of, InWidth, IsYes, IfYes}
 use Rattle.mdp_farkas.specs.Upper.{0ℚ, 1ℚ, is_goal, goal_check}
 use Rattle.mdp_farkas.specs.Reach.{stands, other, stands_at, bound_check, bound_checks, policy_check, value_checks, ends, rank_check, leads_down, fall_check, fall_checks, rank_checks, reach_at, reach_checks, MeetsReach, IsReach}
-use Rattle.mdp_farkas.specs.declared.dir.Dir.{Dir}
-use Rattle.mdp_farkas.specs.declared.dir.Dir.TheVariants.{Max, Min}
+use Rattle.mdp_rows.specs.declared.dir.Dir.{Dir}
+use Rattle.mdp_rows.specs.declared.dir.Dir.TheVariants.{Max, Min}
 use Rattle.mdp_farkas.specs.declared.verdict.Verdict.{Verdict}
 use Rattle.mdp_farkas.proofs.Holds.{Each, Holds, each_of_yes, yes_of_each, told_of_each, if_yes, each_append, each_left, each_right, each_flat, each_flat_at, each_map, each_map_at, each_if, each_if_true, each_if_false}
 use Rattle.mdp_farkas.proofs.Comparing.{le_of_at_least, at_least_of_le, le_of_at_most, at_most_of_le, same_of_equal, equal_of_same}

@@ -17,8 +17,8 @@ use Rattle.mdp_spec.specs.Rules.{MeetsReachMax, MeetsReachMin}
 use Rattle.mdp_farkas.specs.Compare.{is_at_least, is_at_most}
 use Rattle.mdp_farkas.specs.Verdict.{Check, InWidth}
 use Rattle.mdp_farkas.specs.Upper.{0ℚ, is_goal, at_state, at_choice, probability_checks, goal_check}
-use Rattle.mdp_farkas.specs.declared.dir.Dir.{Dir}
-use Rattle.mdp_farkas.specs.declared.dir.Dir.TheVariants.{Max, Min}
+use Rattle.mdp_rows.specs.declared.dir.Dir.{Dir}
+use Rattle.mdp_rows.specs.declared.dir.Dir.TheVariants.{Max, Min}
 
 -- rule 2
 abbrev pub choice_exists : Mdp → ℕ → ℕ → Check

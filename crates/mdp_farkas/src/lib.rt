@@ -3,7 +3,6 @@
 #![tactic(auto)]
 
 mod compare;
-mod dir;
 mod ranks;
 mod reach;
 #[cfg(test)]
@@ -11,7 +10,7 @@ mod tests;
 mod upper;
 mod verdict;
 
-pub use dir::Dir;
+pub use mdp_rows::Dir;
 pub use reach::{ReachCert, holds_reach};
 pub use upper::{UpperCert, holds_upper};
 pub use verdict::{Fault, Verdict};

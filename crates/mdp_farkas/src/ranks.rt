@@ -6,12 +6,11 @@ ghost use Rattle.mdp_spec.specs.Row.{entries};
 ghost use Rattle.mdp_farkas.specs.Upper.{0ℚ};
 ghost use Rattle.mdp_farkas.specs.Reach.{ends, leads_down, rank_check, fall_check, fall_checks, rank_checks};
 ghost use Rattle.mdp_farkas.specs.Verdict.{verdict_of};
-ghost use Rattle.mdp_farkas.specs.declared.dir.Dir.TheVariants.{Min};
+ghost use Rattle.mdp_rows.specs.declared.dir.Dir.TheVariants.{Min};
 
-use crate::dir::Dir;
 use crate::verdict::{Verdict, judged};
 use mdp_num::Frac;
-use mdp_rows::{Marks, Model, Row};
+use mdp_rows::{Dir, Marks, Model, Row};
 
 /// Whether a number is above 0.
 fn is_above_zero(value: &Frac) -> bool

@@ -3,16 +3,15 @@ ghost use Rattle.std.specs.Result.{result_ok};
 ghost use Rattle.mdp_spec.specs.Mdp.{states_of, choices_at};
 ghost use Rattle.mdp_farkas.specs.Reach.{choice_exists, other, stands_at, bound_checks, value_checks, reach_at, reach_checks, IsReach};
 ghost use Rattle.mdp_farkas.specs.Verdict.{verdict_of, IsYes, IfYes};
-ghost use Rattle.mdp_farkas.specs.declared.dir.Dir.TheVariants.{Max, Min};
+ghost use Rattle.mdp_rows.specs.declared.dir.Dir.TheVariants.{Max, Min};
 ghost use Rattle.mdp_spec.specs.Bounds.{ReachMax, ReachMin};
 
 use crate::compare::{at_least, at_most};
-use crate::dir::Dir;
 use crate::ranks::rank_at_state;
 use crate::upper::{goal_at, probability_at};
 use crate::verdict::{Verdict, judged};
 use mdp_num::{Frac, Wide};
-use mdp_rows::{Marks, Model};
+use mdp_rows::{Dir, Marks, Model};
 
 /// Values, a memoryless policy and ranks that are said to be the greatest or the least probabilities of reaching a goal: one per state.
 #[derive(Debug, Drop)]

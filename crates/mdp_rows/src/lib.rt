@@ -3,6 +3,7 @@
 
 mod builder;
 mod closing;
+mod dir;
 mod error;
 mod given;
 mod labels;
@@ -16,6 +17,7 @@ mod rows_of;
 mod tests;
 
 pub use builder::Builder;
+pub use dir::Dir;
 pub use error::RowsError;
 pub use marks::Marks;
 pub use model::Model;

@@ -1,7 +1,7 @@
 use Rattle.std.proofs.Common.{ℕ, [], ◌∷◌, map, sym, subst, ◌∙◌, ◌<◌}
 use Rattle.std.specs.List.{range_with_len}
 use Rattle.mdp_farkas.specs.Reach.{fall_check}
-use Rattle.mdp_farkas.specs.declared.dir.Dir.TheVariants.{Min}
+use Rattle.mdp_rows.specs.declared.dir.Dir.TheVariants.{Min}
 use Rattle.mdp_farkas.proofs.Walk.{passed, stopped, map_more}
 use Rattle.mdp_farkas.proofs.ranks.falls_at_choices.Goals as goal
 
