@@ -14,6 +14,6 @@ mod transposed;
 
 pub use chain::{Chain, solve};
 pub use errors::ElimError;
-pub use laws::solution_law;
+pub use laws::{solution_law, visits_law};
 pub use shared::{Kind, Part, SolveError, TooWide};
 pub use transposed::visits;
