@@ -11,4 +11,4 @@ mod RowsInto
 mod Expected
 mod OneSolution
 mod Examples
-mod TwoStates
+mod GivenRows

@@ -7,6 +7,8 @@ mod entries;
 mod equation;
 mod errors;
 mod laws;
+#[cfg(test)]
+mod listed;
 mod shared;
 #[cfg(test)]
 mod tests;
