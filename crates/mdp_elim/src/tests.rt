@@ -191,10 +191,10 @@ fn solves_a_line(rt: HostRuntime) -> Result<(), Fail> {
     let mut last = Vec::new(alloc);
     let mut mean = Vec::new(alloc);
     let mut once = Vec::new(alloc);
-    for s in 0..200 {
+    for s in 0..200_u32 {
         steps.push(Frac::whole(1))?;
         last.push(Frac::try_new(if s < 199 { 0 } else { 1 }, 3)?)?;
-        mean.push(Frac::whole(3 * (200 - s)))?;
+        mean.push(Frac::whole(i64::from(3 * (200 - s))))?;
         once.push(Frac::whole(1))?;
     }
     steps.push(Frac::whole(0))?;
