@@ -1,9 +1,9 @@
 -- Rows that are given as lists, and what a look at each entry tells of them.
-use Rattle.std.proofs.Common.{◌≡◌, ℕ, zero, suc, ◌+◌, ◌<◌, ◌≤◌, Bool, true, List, [], ◌∷◌, length, drop, get_or, refl, sym, ◌∙◌, ap, ap₂, subst, arith, nat_le, ◌&&◌, pos, IsTrue}
+use Rattle.std.proofs.Common.{◌≡◌, ℕ, zero, suc, ◌+◌, ◌<◌, ◌≤◌, true, List, [], ◌∷◌, length, drop, get_or, refl, sym, ◌∙◌, ap₂, subst, arith, ◌&&◌, pos}
 use Rattle.std.specs.List.{All, Any}
 use Rattle.std.proofs.lemmas.List.Elements.{All-nil, All-cons}
 use Rattle.std.proofs.lemmas.Bool.{le-leb}
-use Rattle.mdp_math.specs.Rational.{ℚ, of_int, ◌+ℚ◌, ◌<ℚ◌}
+use Rattle.mdp_math.specs.Rational.{ℚ, ◌+ℚ◌, ◌<ℚ◌}
 use Rattle.mdp_math.specs.Sum.{sum_of}
 use Rattle.mdp_math.proofs.Ring.{◌⊕◌, lit, ring}
 use Rattle.mdp_math.proofs.Laws.{rat_ring}

@@ -1,4 +1,4 @@
-use Rattle.std.proofs.Common.{◌≡◌, ◌<◌, ◌∙◌, [], List, ap, ap₂, sym, subst, length, map, get_or, ℕ, arith, below_more, rules, IsTrue, true}
+use Rattle.std.proofs.Common.{◌<◌, ◌∙◌, [], List, ap, ap₂, sym, subst, length, map, get_or, arith, below_more, rules, IsTrue}
 use Rattle.std.proofs.lemmas.List.{get_or-map, length-map, get_or_default}
 use Rattle.mdp_spec.specs.Mdp.{Entry}
 use Rattle.mdp_spec.specs.Row.{entries, IsRow}

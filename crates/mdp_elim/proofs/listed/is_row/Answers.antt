@@ -1,4 +1,4 @@
-use Rattle.std.proofs.Common.{◌≡◌, ◌+◌, ◌<◌, ◌∙◌, length, drop, get_or, subst, sym, ap, arith, rules, List, ℕ, pos, ◌<ℤ◌}
+use Rattle.std.proofs.Common.{◌≡◌, ◌+◌, ◌∙◌, length, drop, get_or, subst, sym, ap, arith, rules, List, ℕ, pos, ◌<ℤ◌}
 use Rattle.std.proofs.lemmas.List.{get_or_default}
 use Rattle.std.proofs.Math.Seq.{drop-length}
 use Rattle.mdp_math.specs.Rational.{ℚ}

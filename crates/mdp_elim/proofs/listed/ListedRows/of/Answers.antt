@@ -1,4 +1,4 @@
-use Rattle.std.proofs.Common.{List, subst, rules, arith, IsTrue, length, map, ◌<◌}
+use Rattle.std.proofs.Common.{List, subst, rules, arith, IsTrue, map}
 use Rattle.mdp_spec.specs.Row.{entries, AreRows}
 use Rattle.mdp_elim.specs.declared.listed.ListedRow.{ListedRow}
 use Rattle.mdp_elim.proofs.listed.ListedRows.of.Goals as goal
