@@ -1,11 +1,13 @@
 -- Computations of the definitions.
-use Rattle.std.proofs.Common.{◌≡◌, ℕ, ◌-◌, ◌^◌, List, [], ◌∷◌, Bool, true, false, Ok, Err, refl, pos}
+use Rattle.std.proofs.Common.{◌≡◌, ℕ, ◌-◌, ◌^◌, List, [], ◌∷◌, Bool, true, false, Ok, Err, refl, subst, pos}
 use Rattle.mdp_math.specs.Gcd.{gcd, gcd_with_fuel}
-use Rattle.mdp_math.specs.Rational.{ℚ, of_int, ratio, ◌+ℚ◌, ◌*ℚ◌, neg_ℚ, inv_ℚ}
+use Rattle.mdp_math.specs.Rational.{ℚ, of_int, ratio, ◌+ℚ◌, ◌*ℚ◌, neg_ℚ, inv_ℚ, ◌-ℚ◌, ◌<ℚ◌}
 use Rattle.mdp_math.specs.Written.{written_add, written_mul, narrow, narrow_ℚ}
+use Rattle.mdp_math.proofs.Order.{<ℚ_irrefl}
 use Rattle.mdp_spec.specs.Mdp.{Entry}
+use Rattle.mdp_elim.specs.Equation.{Equation}
 use Rattle.mdp_elim.specs.Entries.{without}
-use Rattle.mdp_elim.specs.Elimination.{divided_rest, plus_equation, eliminated, evaluated}
+use Rattle.mdp_elim.specs.Elimination.{divided_rest, plus_equation, eliminated, evaluated, DividesByPositive}
 use Rattle.mdp_elim.specs.System.{equation_of}
 use Rattle.mdp_elim.specs.Solve.{written_solution}
 use Rattle.mdp_elim.specs.Visits.{transposed, written_visits}
@@ -119,3 +121,15 @@ quotient_in_width = refl
 quotient_past_width : written_solution long_stay first_two ((of_int (pos 1) ∷ of_int (pos 1000) ∷ of_int (pos 0) ∷ []) ∷ []) ≡ Err 1
 unfolding equation_of eliminated divided_rest plus_equation evaluated written_add written_mul narrow narrow_ℚ ◌+ℚ◌ ◌*ℚ◌ neg_ℚ inv_ℚ ratio of_int gcd gcd_with_fuel
 quotient_past_width = refl
+
+-- a state that only stays would be divided by 0
+stays : List Equation
+stays = record { entries = to 0 (of_int (pos 1)) ∷ []; first = of_int (pos 0); second = of_int (pos 0) } ∷ []
+
+difference : of_int (pos 1) -ℚ of_int (pos 1) ≡ of_int (pos 0)
+unfolding ◌+ℚ◌ neg_ℚ ratio of_int gcd gcd_with_fuel
+difference = refl
+
+stays_refused : DividesByPositive 1 stays → ⊥
+unfolding stays
+stays_refused h = <ℚ_irrefl (of_int (pos 0)) (subst (λ (x : ℚ). of_int (pos 0) <ℚ x) difference (h.0 (of_int (pos 1)) refl))
