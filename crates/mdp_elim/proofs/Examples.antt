@@ -1,11 +1,13 @@
 -- Computations of the definitions.
-use Rattle.std.proofs.Common.{◌≡◌, ℕ, ◌-◌, ◌^◌, List, [], ◌∷◌, Bool, true, false, Ok, Err, refl, pos}
+use Rattle.std.proofs.Common.{◌≡◌, ℕ, ◌-◌, ◌^◌, List, [], ◌∷◌, Bool, true, false, Ok, Err, refl, subst, pos}
 use Rattle.mdp_math.specs.Gcd.{gcd, gcd_with_fuel}
-use Rattle.mdp_math.specs.Rational.{ℚ, of_int, ratio, ◌+ℚ◌, ◌*ℚ◌, neg_ℚ, inv_ℚ}
+use Rattle.mdp_math.specs.Rational.{ℚ, of_int, ratio, ◌+ℚ◌, ◌*ℚ◌, neg_ℚ, inv_ℚ, ◌-ℚ◌, ◌<ℚ◌}
 use Rattle.mdp_math.specs.Written.{written_add, written_mul, narrow, narrow_ℚ}
+use Rattle.mdp_math.proofs.Order.{<ℚ_irrefl}
 use Rattle.mdp_spec.specs.Mdp.{Entry}
+use Rattle.mdp_elim.specs.Equation.{Equation}
 use Rattle.mdp_elim.specs.Entries.{without}
-use Rattle.mdp_elim.specs.Elimination.{divided_rest, plus_equation, eliminated, evaluated}
+use Rattle.mdp_elim.specs.Elimination.{divided_rest, plus_equation, eliminated, evaluated, DividesByPositive}
 use Rattle.mdp_elim.specs.System.{equation_of}
 use Rattle.mdp_elim.specs.Solve.{written_solution}
 use Rattle.mdp_elim.specs.Visits.{transposed, written_visits}
@@ -63,3 +65,71 @@ in_width_still = refl
 past_width : written_solution small_step first_two ((of_int (pos 0) ∷ ratio (pos 1) 1000 ∷ of_int (pos 0) ∷ []) ∷ []) ≡ Err 1
 unfolding equation_of eliminated divided_rest plus_equation evaluated written_add written_mul narrow narrow_ℚ ◌+ℚ◌ ◌*ℚ◌ neg_ℚ inv_ℚ ratio of_int gcd gcd_with_fuel
 past_width = refl
+
+-- columns of zeros give zeros
+no_constants : written_solution three first_two ((of_int (pos 0) ∷ of_int (pos 0) ∷ of_int (pos 0) ∷ []) ∷ (of_int (pos 0) ∷ of_int (pos 0) ∷ of_int (pos 0) ∷ []) ∷ [])
+    ≡ Ok ((of_int (pos 0) ∷ of_int (pos 0) ∷ of_int (pos 0) ∷ []) ∷ (of_int (pos 0) ∷ of_int (pos 0) ∷ of_int (pos 0) ∷ []) ∷ [])
+unfolding equation_of eliminated divided_rest plus_equation evaluated written_add written_mul narrow narrow_ℚ ◌+ℚ◌ ◌*ℚ◌ neg_ℚ inv_ℚ ratio of_int gcd gcd_with_fuel
+no_constants = refl
+
+-- a ring: 0 goes to 1, 1 to 2 and 2 to 0 with 1/2 each, and otherwise to 3
+abbrev ring : List (List Entry)
+ring =
+    (to 1 (ratio (pos 1) 2) ∷ to 3 (ratio (pos 1) 2) ∷ [])
+    ∷ (to 2 (ratio (pos 1) 2) ∷ to 3 (ratio (pos 1) 2) ∷ [])
+    ∷ (to 0 (ratio (pos 1) 2) ∷ to 3 (ratio (pos 1) 2) ∷ [])
+    ∷ (to 3 (of_int (pos 1)) ∷ [])
+    ∷ []
+
+abbrev first_three : List Bool
+first_three = true ∷ true ∷ true ∷ false ∷ []
+
+-- x0 = 1 + x1/2, x1 = x2/2, x2 = x0/2
+ring_values : written_solution ring first_three ((of_int (pos 1) ∷ of_int (pos 0) ∷ of_int (pos 0) ∷ of_int (pos 0) ∷ []) ∷ []) ≡ Ok ((ratio (pos 8) 7 ∷ ratio (pos 2) 7 ∷ ratio (pos 4) 7 ∷ of_int (pos 0) ∷ []) ∷ [])
+unfolding equation_of eliminated divided_rest plus_equation evaluated written_add written_mul narrow narrow_ℚ ◌+ℚ◌ ◌*ℚ◌ neg_ℚ inv_ℚ ratio of_int gcd gcd_with_fuel
+ring_values = refl
+
+-- y0 = 1 + y2/2, y1 = y0/2, y2 = y1/2
+ring_visits : written_visits ring first_three 0 ≡ Ok (ratio (pos 8) 7 ∷ ratio (pos 4) 7 ∷ ratio (pos 2) 7 ∷ of_int (pos 0) ∷ [])
+unfolding equation_of eliminated divided_rest plus_equation evaluated written_add written_mul narrow narrow_ℚ ◌+ℚ◌ ◌*ℚ◌ neg_ℚ inv_ℚ ratio of_int gcd gcd_with_fuel
+ring_visits = refl
+
+-- state 0 stays with 2/3, and otherwise goes to 1
+abbrev one_loop : List (List Entry)
+one_loop = (to 0 (ratio (pos 2) 3) ∷ to 1 (ratio (pos 1) 3) ∷ []) ∷ (to 1 (of_int (pos 1)) ∷ []) ∷ []
+
+loop_value : written_solution one_loop (true ∷ false ∷ []) ((of_int (pos 1) ∷ of_int (pos 0) ∷ []) ∷ []) ≡ Ok ((of_int (pos 3) ∷ of_int (pos 0) ∷ []) ∷ [])
+unfolding equation_of eliminated divided_rest plus_equation evaluated written_add written_mul narrow narrow_ℚ ◌+ℚ◌ ◌*ℚ◌ neg_ℚ inv_ℚ ratio of_int gcd gcd_with_fuel
+loop_value = refl
+
+loop_visits : written_visits one_loop (true ∷ false ∷ []) 0 ≡ Ok (of_int (pos 3) ∷ of_int (pos 0) ∷ [])
+unfolding equation_of eliminated divided_rest plus_equation evaluated written_add written_mul narrow narrow_ℚ ◌+ℚ◌ ◌*ℚ◌ neg_ℚ inv_ℚ ratio of_int gcd gcd_with_fuel
+loop_visits = refl
+
+-- state 1 stays with all but 1/10^36, so its constant is divided by 1/10^36
+abbrev long_stay : List (List Entry)
+long_stay =
+    (to 0 (ratio (pos 1) 2) ∷ to 2 (ratio (pos 1) 2) ∷ [])
+    ∷ (to 1 (ratio (pos (10 ^ 36 - 1)) (10 ^ 36)) ∷ to 2 (ratio (pos 1) (10 ^ 36)) ∷ [])
+    ∷ (to 2 (of_int (pos 1)) ∷ [])
+    ∷ []
+
+quotient_in_width : written_solution long_stay first_two ((of_int (pos 1) ∷ of_int (pos 100) ∷ of_int (pos 0) ∷ []) ∷ []) ≡ Ok ((of_int (pos 2) ∷ of_int (pos (10 ^ 38)) ∷ of_int (pos 0) ∷ []) ∷ [])
+unfolding equation_of eliminated divided_rest plus_equation evaluated written_add written_mul narrow narrow_ℚ ◌+ℚ◌ ◌*ℚ◌ neg_ℚ inv_ℚ ratio of_int gcd gcd_with_fuel
+quotient_in_width = refl
+
+quotient_past_width : written_solution long_stay first_two ((of_int (pos 1) ∷ of_int (pos 1000) ∷ of_int (pos 0) ∷ []) ∷ []) ≡ Err 1
+unfolding equation_of eliminated divided_rest plus_equation evaluated written_add written_mul narrow narrow_ℚ ◌+ℚ◌ ◌*ℚ◌ neg_ℚ inv_ℚ ratio of_int gcd gcd_with_fuel
+quotient_past_width = refl
+
+-- a state that only stays would be divided by 0
+stays : List Equation
+stays = record { entries = to 0 (of_int (pos 1)) ∷ []; first = of_int (pos 0); second = of_int (pos 0) } ∷ []
+
+difference : of_int (pos 1) -ℚ of_int (pos 1) ≡ of_int (pos 0)
+unfolding ◌+ℚ◌ neg_ℚ ratio of_int gcd gcd_with_fuel
+difference = refl
+
+stays_refused : DividesByPositive 1 stays → ⊥
+unfolding stays
+stays_refused h = <ℚ_irrefl (of_int (pos 0)) (subst (λ (x : ℚ). of_int (pos 0) <ℚ x) difference (h.0 (of_int (pos 1)) refl))

@@ -8,12 +8,12 @@ use Rattle.mdp_math.specs.Pivot.{active_below, entry_at, HasPivots}
 use Rattle.mdp_spec.specs.Mdp.{Entry, value_at}
 use Rattle.mdp_spec.specs.Row.{AreRows, entries}
 use Rattle.mdp_elim.specs.Equation.{Equation, Values}
-use Rattle.mdp_elim.specs.Elimination.{solution, CanEliminate}
+use Rattle.mdp_elim.specs.Elimination.{solution, CanEliminate, DividesByPositive}
 use Rattle.mdp_elim.specs.System.{is_active, row_of, inner, system, Leaves}
 use Rattle.mdp_elim.specs.Solve.{kept}
 use Rattle.mdp_elim.specs.Visits.{entries_into, transposed, one_at, unit_column, written_visits, step, AreVisits}
 use Rattle.mdp_elim.proofs.RowSums.{over, Between}
-use Rattle.mdp_elim.proofs.Law.{unit, matrix, all_below, LeadBelow, can_eliminate, solution_solves}
+use Rattle.mdp_elim.proofs.Law.{unit, matrix, all_below, LeadBelow, can_eliminate, divides_by_positive, solution_solves}
 use Rattle.mdp_elim.proofs.Chains.{entries_next}
 use Rattle.mdp_elim.proofs.RowsInto.{flat_more, over-row_into, between-row_into, one_term, length-transposed, row_of-transposed}
 use Rattle.mdp_elim.proofs.Leaving.{active-below, length-system, down-system, matrix-active, matrix-inactive, all_pivots, first_solves, chain_pivots_transposed, row_between}
@@ -126,6 +126,11 @@ module _ (rows : List (List Entry)) (active : List Bool) (ranks : List ℕ) (kno
   visits-can =
       subst (λ n. CanEliminate n (system (transposed rows) active columns)) (sym (length-system (transposed rows) active active-size columns))
       (can_eliminate (length (transposed rows)) (system (transposed rows) active columns) (length-system (transposed rows) active active-size columns) visits-down visits-pivots)
+
+  pub visits-divide : DividesByPositive (length rows) (system (transposed rows) active columns)
+  visits-divide =
+      subst (λ n. DividesByPositive n (system (transposed rows) active columns)) (length-transposed rows)
+      (divides_by_positive (length (transposed rows)) (system (transposed rows) active columns) (length-system (transposed rows) active active-size columns) visits-down visits-pivots)
 
   module _ (equations : List Equation) (is : equations ≡ system (transposed rows) active columns) where
     pub visits-solution : (r : Result Values ℕ) → solution (length equations) equations ≡ r → solution (length rows) (system (transposed rows) active columns) ≡ r

@@ -16,7 +16,7 @@ use Rattle.mdp_spec.specs.Mdp.{Entry, value_at}
 use Rattle.mdp_spec.specs.Written.{written_sum}
 use Rattle.mdp_elim.specs.Equation.{Equation, Values}
 use Rattle.mdp_elim.specs.Entries.{without}
-use Rattle.mdp_elim.specs.Elimination.{eliminated, Eliminated, evaluated, solution, at_state, ◌and_then◌, no_values, CanEliminate}
+use Rattle.mdp_elim.specs.Elimination.{eliminated, Eliminated, evaluated, solution, at_state, ◌and_then◌, no_values, CanEliminate, DividesByPositive}
 use Rattle.mdp_elim.proofs.RowSums.{over, or_zero, over-split, over-same, some_part, Between, between-without, between-below}
 use Rattle.mdp_elim.proofs.Step.{factor, at, IsEliminated, eliminated-is}
 
@@ -112,6 +112,16 @@ can_eliminate (suc s) equations len down h = (
         between-below 0 s e.pivot.entries (pivot-down s equations e down is),
         can_eliminate s e.rest is.count (rest-down s equations e down is) (pivots-step s equations e down is h),
       ),
+)
+
+-- each division is by a number above 0
+pub divides_by_positive : (n : ℕ) (equations : List Equation) → length equations ≡ n → LeadBelow n n equations → HasPivots (all_below n) (matrix equations) → DividesByPositive n equations
+divides_by_positive zero equations len down h = tt
+divides_by_positive (suc s) equations len down h = (
+  λ p own. sub-pos p 1ℚ (subst (λ (x : ℚ). x <ℚ 1ℚ) (ap or_zero own) (pivot-below s equations down h)),
+  λ e made.
+      let is = eliminated-is s equations e len made in
+      divides_by_positive s e.rest is.count (rest-down s equations e down is) (pivots-step s equations e down is h),
 )
 
 -- ---- the values

@@ -21,13 +21,12 @@ use Rattle.mdp_math.proofs.Elimination.{kernel_pivots, kernel_pivots_transposed}
 use Rattle.mdp_spec.specs.Mdp.{Entry, value_at}
 use Rattle.mdp_spec.specs.Row.{IsRow, AreRows, ascends_from}
 use Rattle.mdp_elim.specs.Equation.{Equation, Values, no_equation}
-use Rattle.mdp_elim.specs.System.{is_active, row_of, inner, column_at, equation_of, system, Leaves, IsSolution, SolveEach, HasOneSolution}
-use Rattle.mdp_math.proofs.Solutions.{one_solution}
+use Rattle.mdp_elim.specs.System.{is_active, row_of, inner, column_at, equation_of, system, Leaves, IsSolution, SolveEach}
 use Rattle.mdp_elim.specs.Solve.{columns_of}
-use Rattle.mdp_elim.specs.Elimination.{solution, CanEliminate}
+use Rattle.mdp_elim.specs.Elimination.{solution, CanEliminate, DividesByPositive}
 use Rattle.mdp_elim.proofs.RowSums.{over, Between, between-lower}
 use Rattle.mdp_elim.proofs.Step.{at}
-use Rattle.mdp_elim.proofs.Law.{unit, matrix, all_below, LeadBelow, Solved, can_eliminate, solution_solves}
+use Rattle.mdp_elim.proofs.Law.{unit, matrix, all_below, LeadBelow, Solved, can_eliminate, divides_by_positive, solution_solves}
 
 -- ---- pivots over all numbers, from those over the active ones
 
@@ -267,6 +266,9 @@ module _ (rows : List (List Entry)) (active : List Bool) (ranks : List ℕ) (kno
       pub system-can : CanEliminate (length (system rows active columns)) (system rows active columns)
       system-can = subst (λ n. CanEliminate n (system rows active columns)) (sym system-len) (can_eliminate (length rows) (system rows active columns) system-len system-down system-pivots)
 
+      pub system-divides : DividesByPositive (length rows) (system rows active columns)
+      system-divides = divides_by_positive (length rows) (system rows active columns) system-len system-down system-pivots
+
       each_one : (values : Values) → Solved (length rows) (system rows active columns) values → (n : ℕ) → (n ≡ 1) ⊎ (n ≡ 2) → (k : ℕ) → k < n → IsSolution rows active (get_or columns k []) (get_or (columns_of n values) k [])
       each_one values solved n (inl one) k l =
           let e : 0 ≡ k = omega arith in
@@ -286,10 +288,3 @@ module _ (rows : List (List Entry)) (active : List Bool) (ranks : List ℕ) (kno
         columns-len values (length columns) few,
         each_one values (solution_solves (length rows) (system rows active columns) values system-len system-down system-pivots made) (length columns) few,
       )
-
--- ---- one solution
-
-pub has_one_solution : HasOneSolution
-has_one_solution rows active ranks column x y known size leaves p q s =
-    one_solution (chain_shrinks rows active ranks known size leaves) (length rows) (active-below rows active size) (row_of rows) (λ s a. refl) (value_at column) (value_at x) (value_at y)
-    (record { outside = p.outside; inside = p.inside }) (record { outside = q.outside; inside = q.inside }) s

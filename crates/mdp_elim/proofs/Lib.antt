@@ -9,5 +9,6 @@ mod Leaving
 mod Chains
 mod RowsInto
 mod Expected
+mod OneSolution
 mod Examples
-mod TwoStates
+mod GivenRows

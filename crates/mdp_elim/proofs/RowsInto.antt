@@ -30,7 +30,7 @@ range_more n = sym (map-same (range_with_len 0 (n + 1))) ∙ map-range_with_len_
 pub flat_more : (f : ℕ → List Entry) (n : ℕ) → flat_map f (range_with_len 0 (n + 1)) ≡ flat_map f (range_with_len 0 n) ++ f n
 flat_more f n = ap (flat_map f) (range_more n) ∙ flat_map-append f (range_with_len 0 n) (n ∷ []) ∙ ap (λ xs. flat_map f (range_with_len 0 n) ++ xs) (append-nil (f n))
 
-sum_more : (f : ℕ → ℚ) (n : ℕ) → sum_of f (range_with_len 0 (n + 1)) ≡ sum_of f (range_with_len 0 n) +ℚ f n
+pub sum_more : (f : ℕ → ℚ) (n : ℕ) → sum_of f (range_with_len 0 (n + 1)) ≡ sum_of f (range_with_len 0 n) +ℚ f n
 sum_more f n = ap (sum_of f) (range_more n) ∙ sum_of-append f (range_with_len 0 n) (n ∷ []) ∙ ring rat_ring 2 (λ a b. a ⊕ (b ⊕ lit (pos 0))) (λ a b. a ⊕ b) refl (sum_of f (range_with_len 0 n)) (f n)
 
 -- ---- what they weigh

@@ -5,7 +5,7 @@
 -- An answer is the values, or the first state at whose elimination or evaluation a term is past width.
 use Rattle.std.specs.Prelude.{◌≢◌, ◌≡◌, ◌<◌, ℕ, zero, suc, List, [], ◌∷◌, ◌++◌, take, slice_index_or, Option, Some, None, Result, Ok, Err, pos}
 use Rattle.std.specs.List.{All}
-use Rattle.mdp_math.specs.Rational.{ℚ, of_int}
+use Rattle.mdp_math.specs.Rational.{ℚ, of_int, ◌-ℚ◌, ◌<ℚ◌}
 use Rattle.mdp_math.specs.Written.{written_add, written_mul, ◌>>=◌}
 use Rattle.mdp_num.specs.Written.{written_sub, written_div}
 use Rattle.mdp_spec.specs.Written.{written_sum}
@@ -96,3 +96,10 @@ CanEliminate zero equations = Unit {0}
 CanEliminate (suc s) equations =
     (entry_to s (slice_index_or equations s no_equation).entries ≢ Some (of_int (pos 1)))
     × ((e : Eliminated) → eliminated s equations ≡ Some e → All (λ x. x.target < s) e.pivot.entries × CanEliminate s e.rest)
+
+-- each elimination of the states below n divides by a number above 0, as far as no term is past width: 1 - p, for an entry p of the state to itself
+abbrev pub DividesByPositive : ℕ → List Equation → Type 0
+DividesByPositive zero equations = Unit {0}
+DividesByPositive (suc s) equations =
+    ((p : ℚ) → entry_to s (slice_index_or equations s no_equation).entries ≡ Some p → of_int (pos 0) <ℚ (of_int (pos 1) -ℚ p))
+    × ((e : Eliminated) → eliminated s equations ≡ Some e → DividesByPositive s e.rest)

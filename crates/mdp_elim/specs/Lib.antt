@@ -6,3 +6,4 @@ pub mod Finish
 pub mod System
 pub mod Solve
 pub mod Visits
+pub mod Laws

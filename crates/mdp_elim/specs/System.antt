@@ -3,7 +3,7 @@ use Rattle.std.specs.Prelude.{◌≡◌, ℕ, ◌<◌, Bool, true, false, List, 
 use Rattle.std.specs.List.{Any, filter, range_with_len}
 use Rattle.mdp_math.specs.Rational.{ℚ, of_int, ◌+ℚ◌}
 use Rattle.mdp_spec.specs.Mdp.{Entry, value_at}
-use Rattle.mdp_spec.specs.Row.{row_sum, AreRows}
+use Rattle.mdp_spec.specs.Row.{row_sum}
 use Rattle.mdp_elim.specs.Equation.{Equation, no_equation}
 
 abbrev pub is_active : List Bool → ℕ → Bool
@@ -42,9 +42,3 @@ pub record IsSolution (rows : List (List Entry)) (active : List Bool) (column x 
 -- each of the vectors solves its column's system
 abbrev pub SolveEach : List (List Entry) → List Bool → List (List ℚ) → List (List ℚ) → Type 0
 SolveEach rows active columns xs = (length xs ≡ length columns) × ((k : ℕ) → k < length columns → IsSolution rows active (slice_index_or columns k []) (slice_index_or xs k []))
-
--- where a chain leaves its active states, a column's system has one solution at most
-abbrev pub HasOneSolution : Type 0
-HasOneSolution =
-    (rows : List (List Entry)) (active : List Bool) (ranks : List ℕ) (column x y : List ℚ) → AreRows rows → length active ≡ length rows → Leaves rows active ranks → IsSolution rows active column x → IsSolution rows active column y
-    → (s : ℕ) → value_at x s ≡ value_at y s

@@ -7,6 +7,8 @@ mod entries;
 mod equation;
 mod errors;
 mod laws;
+#[cfg(test)]
+mod listed;
 mod shared;
 #[cfg(test)]
 mod tests;
@@ -14,6 +16,6 @@ mod transposed;
 
 pub use chain::{Chain, solve};
 pub use errors::ElimError;
-pub use laws::solution_law;
+pub use laws::{solution_law, visits_law};
 pub use shared::{Kind, Part, SolveError, TooWide};
 pub use transposed::visits;
