@@ -15,7 +15,7 @@ use Rattle.mdp_rows.specs.FlatDraft.{draft_in, open_in, state_in, choice_in, IsD
 use Rattle.mdp_rows.specs.declared.error.RowsError.{RowsError}
 use Rattle.mdp_rows.specs.declared.error.RowsError.TheVariants.{Count, Memory, NoChoice}
 use Rattle.mdp_rows.specs.declared.builder.Stage.{Stage}
-use Rattle.mdp_rows.specs.declared.builder.Stage.TheVariants.{Between, InRow}
+use Rattle.mdp_rows.specs.declared.builder.Stage.TheVariants.{Between}
 use Rattle.mdp_rows.specs.declared.builder.Builder.TheInside.{Inside}
 use Rattle.mdp_rows.specs.declared.model.Model.TheInside.{Inside as ModelInside}
 use Rattle.mdp_rows.proofs.DraftFacts.{same_draft, closed_in, closed_len, closed_is}
@@ -98,6 +98,11 @@ pub follows_same : {A : Type 0} → (due now : Result A RowsError) (r : Result (
 follows_same due now (Ok u) n e h = e ∙ h
 follows_same due now (Err x) n e (inl m) = inl m
 follows_same due now (Err x) n e (inr h) = inr (e ∙ h)
+
+-- a refusal that comes from another, or want of memory
+pub or_memory : {P Q : Type 0} → (e : RowsError) → (P → Q) → (e ≡ Memory) ⊎ P → (e ≡ Memory) ⊎ Q
+or_memory e f (inl m) = inl m
+or_memory e f (inr p) = inr (f p)
 
 -- ---- the calls
 

@@ -1,7 +1,7 @@
 -- What a row closes as.
-use Rattle.std.proofs.Common.{◌≡◌, ◌≢◌, ℕ, ◌+◌, ◌-◌, ◌*◌, ◌/◌, ◌<◌, ◌≤◌, Bool, true, false, ◌&&◌, T, ltb, lt-ltb, le-ltb, eqb, eq-eqb, List, map, pos, refl, sym, ap, subst, ◌∙◌, inl, inr, arith, if◌then◌else◌}
+use Rattle.std.proofs.Common.{◌≡◌, ◌≢◌, ℕ, ◌+◌, ◌*◌, ◌/◌, ◌<◌, ◌≤◌, Bool, true, false, ◌&&◌, T, ltb, lt-ltb, le-ltb, eqb, eq-eqb, List, pos, refl, sym, ap, subst, ◌∙◌, arith, if◌then◌else◌}
 use Rattle.std.specs.Prelude.{Result, Ok, Err}
-use Rattle.mdp_math.specs.Rational.{ℚ, ratio, of_int, le_ℚ, inv_ℚ, ◌≤ℚ◌, ◌<ℚ◌, ◌*ℚ◌}
+use Rattle.mdp_math.specs.Rational.{ℚ, ratio, le_ℚ, inv_ℚ, ◌≤ℚ◌, ◌<ℚ◌}
 use Rattle.mdp_math.specs.Sum.{sum_of}
 use Rattle.mdp_math.proofs.Order.{0ℚ, 1ℚ, ratio-le, le-ratio, mul-inv, ne-zero_of_pos, <ℚ-≤ℚ_trans, is_positive, strict_of}
 use Rattle.mdp_math.proofs.Laws.{is_ratio}

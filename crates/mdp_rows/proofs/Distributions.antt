@@ -1,5 +1,5 @@
 -- What is kept of a row that closes is a distribution.
-use Rattle.std.proofs.Common.{◌≡◌, ℕ, ◌+◌, ◌≤◌, Bool, true, false, cond, not, ◌&&◌, IsTrue, leb, le-leb, List, [], ◌∷◌, pos, unsigned_abs, eqb→eq, T, refl, sym, ap, subst, ◌∙◌, arith, if◌then◌else◌}
+use Rattle.std.proofs.Common.{◌≡◌, ℕ, ◌+◌, ◌≤◌, Bool, true, false, cond, not, ◌&&◌, IsTrue, leb, le-leb, List, [], ◌∷◌, pos, unsigned_abs, eqb→eq, T, refl, sym, ap, subst, ◌∙◌, arith}
 use Rattle.std.proofs.lemmas.Int.{ints}
 use Rattle.std.specs.List.{AllByRecursion}
 use Rattle.std.proofs.lemmas.List.Elements.{All-from_recursion}

@@ -3,6 +3,8 @@ use Rattle.std.proofs.Common.{◌≡◌, ◌≢◌, ℕ, ◌+◌, ◌-◌, ◌<�
 use Rattle.std.specs.Prelude.{Result, Ok, Err}
 use Rattle.std.specs.List.{All}
 use Rattle.std.specs.Global.{Vec}
+use Rattle.std.specs.Vec.{with_items}
+use Rattle.std.proofs.lemmas.List.{with_items_is}
 use Rattle.std.proofs.lemmas.List.{drop-append-le, length-map, length-drop}
 use Rattle.std.proofs.lemmas.List.Elements.{All-append, All-filter}
 use Rattle.std.proofs.lemmas.List.Sums.{sum_by-append, sum_by-cons}
@@ -15,7 +17,6 @@ use Rattle.mdp_rows.specs.Given.{row_of, entry_of}
 use Rattle.mdp_rows.specs.Draft.{Draft, OpenState, OpenChoice, closed_row, kept, is_zero, choice_closed, choice_closed_in, with_choice_closed, state_closed, state_closed_in, state_opened, new_state, IsChoiceClosed, ◌>>=◌}
 use Rattle.mdp_rows.specs.FlatDraft.{draft_in, open_in, state_in, choice_in, open_choices, IsDraft}
 use Rattle.mdp_rows.specs.declared.given.Given.{Given}
-use Rattle.mdp_rows.specs.declared.rule.RowRule.{RowRule}
 use Rattle.mdp_rows.specs.declared.error.RowsError.{RowsError}
 use Rattle.mdp_rows.specs.declared.error.RowsError.TheVariants.{NoChoice, Count}
 use Rattle.mdp_rows.specs.Labelling.{Labelling}
@@ -112,6 +113,10 @@ is_with_values b row ok same stage = record {
   total = let l = same_length row.items b.row.items same in omega (arith, ok.total);
   few_entries = ok.few_entries;
 }
+
+-- a vector with other items, as many
+pub items_are : (v : Vec Given) (row : List Given) → length row ≡ length v.items → (let w : Vec Given = with_items v row in w.items) ≡ row
+items_are v row e = with_items_is v row (e ∙ sym v.ok.0)
 
 -- the builder with the row closed
 abbrev pub with_row : Inside → ChoiceTable → Vec Given → Inside

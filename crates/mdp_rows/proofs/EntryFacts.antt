@@ -1,16 +1,14 @@
 -- What an entry, and a choice, make of a draft.
-use Rattle.std.proofs.Common.{◌≡◌, ◌≢◌, ℕ, ◌+◌, ◌<◌, ◌≤◌, ◌^◌, ◌==◌, Bool, true, false, List, [], ◌∷◌, ◌++◌, length, map, take, drop, sum_by, Some, None, refl, sym, ap, ap₂, subst, ◌∙◌, arith, leb, le-leb, ltb, lt-ltb, le-ltb, length-append, if◌then◌else◌}
+use Rattle.std.proofs.Common.{◌≡◌, ◌≢◌, ℕ, ◌+◌, ◌<◌, ◌≤◌, ◌^◌, ◌==◌, Bool, true, false, List, [], ◌∷◌, ◌++◌, length, take, drop, Some, None, refl, sym, ap, ap₂, subst, ◌∙◌, arith, leb, le-leb, ltb, lt-ltb, le-ltb, length-append, if◌then◌else◌}
 use Rattle.std.specs.Prelude.{Result, Ok, Err}
 use Rattle.std.specs.List.{list_any}
 use Rattle.std.specs.Global.{Vec}
 use Rattle.std.proofs.lemmas.List.{length-map, length-take-le, length-drop}
-use Rattle.std.proofs.lemmas.List.Sums.{sum_by-cons}
 use Rattle.std.proofs.lemmas.List.Elements.{All-from_recursion, recursion_from_All}
 use borrow.Author.Tests.{lt-leb}
 use Rattle.mdp_math.specs.Rational.{ℚ}
-use Rattle.mdp_spec.specs.Mdp.{Entry, Choice, State}
+use Rattle.mdp_spec.specs.Mdp.{Entry}
 use Rattle.mdp_rows.specs.Pieces.{pieces}
-use Rattle.mdp_rows.specs.FlatModel.{states_from}
 use Rattle.mdp_rows.specs.Given.{row_of, entry_of}
 use Rattle.mdp_rows.specs.Place.{IsPlace}
 use Rattle.mdp_rows.specs.Draft.{Draft, OpenState, OpenChoice, after_entry, entry_in, with_choice_entry, with_entry, choice_opened, choice_opened_in, closed_choices, summed_rewards, IsChoiceClosed, ◌>>=◌}
@@ -24,6 +22,7 @@ use Rattle.mdp_rows.specs.declared.builder.Builder.TheInside.{Inside}
 use Rattle.mdp_rows.proofs.DraftFacts.{same_draft, state_of, open_len}
 use Rattle.mdp_rows.proofs.Growth.{pieces-sum-to}
 use Rattle.mdp_rows.proofs.Pieces.{length-pieces}
+use Rattle.mdp_rows.proofs.ModelFacts.{choices-total}
 use Rattle.mdp_rows.proofs.Places.{inserted, ascends_with, all_with, above_here}
 
 -- ---- an entry
@@ -129,15 +128,6 @@ no_state_for_choice b v rewards is h k =
     ap (λ (d : Draft). choice_opened d rewards) (sym is)
     ∙ no_choice_for b.stage (draft_in b) rewards (state_in b) (choice_in b) h (subst (λ (d : Draft). IsChoiceClosed d.state) (sym is) k)
     ∙ ap Ok is
-
--- how many choices there are
-pub choices-total : (choices : List (List Choice)) (labels : List (List ℕ)) → length choices ≡ length labels → sum_by (λ (x : State). length x.choices) (states_from choices labels) ≡ sum_by length choices
-choices-total [] labels e = refl
-choices-total (r ∷ choices) [] e = absurd (omega arith)
-choices-total (r ∷ choices) (l ∷ labels) e =
-    sum_by-cons (λ (x : State). length x.choices) (record { labels = l; choices = r }) (states_from choices labels)
-    ∙ ap (λ (n : ℕ). length r + n) (choices-total choices labels (omega arith))
-    ∙ sym (sum_by-cons length r choices)
 
 choice_count : (b : Inside) → IsDraft b → closed_choices (draft_in b) + length (open_choices b) ≡ length b.choices.choices
 unfolding draft_in

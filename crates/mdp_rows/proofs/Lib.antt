@@ -1,4 +1,5 @@
 mod CallFacts
+mod ChoiceFacts
 mod Closings
 mod Denominators
 mod Distributions

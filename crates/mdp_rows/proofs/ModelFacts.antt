@@ -1,13 +1,15 @@
 -- What the flat vectors say of the model.
-use Rattle.std.proofs.Common.{◌≡◌, ℕ, zero, suc, ◌+◌, ◌-◌, ◌<◌, List, [], ◌∷◌, ◌++◌, length, drop, get_or, refl, sym, ap, ◌∙◌, arith}
+use Rattle.std.proofs.Common.{◌≡◌, ℕ, zero, suc, ◌+◌, ◌-◌, ◌<◌, List, [], ◌∷◌, ◌++◌, length, drop, get_or, sum_by, refl, sym, ap, subst, ◌∙◌, arith}
 use Rattle.std.specs.List.{All}
 use Rattle.std.proofs.lemmas.List.{get_or-take, get_or-drop, get_or_default}
 use Rattle.mdp_math.specs.Rational.{ℚ}
-use Rattle.mdp_spec.specs.Mdp.{Entry, Choice, State, Mdp, no_choice, no_state, states_of, state_at, choices_at}
-use Rattle.mdp_spec.specs.Row.{entries, IsMdp}
+use Rattle.mdp_spec.specs.Mdp.{Choice, State, Mdp, no_choice, no_state, states_of, state_at, choices_at}
+use Rattle.mdp_spec.specs.Row.{entries, IsDistribution, IsMdp}
 use Rattle.mdp_rows.specs.ChoiceTable.{IsChoice}
 use Rattle.mdp_rows.specs.Pieces.{piece, pieces}
 use Rattle.mdp_rows.specs.FlatModel.{mdp_in, IsFlat, states_from}
+use Rattle.std.proofs.lemmas.List.Sums.{sum_by-cons}
+use Rattle.mdp_rows.proofs.Growth.{pieces-sum}
 use Rattle.mdp_rows.proofs.Pieces.{AreNext, next_places, piece_is, length-pieces, piece_len}
 use Rattle.mdp_rows.specs.declared.model.Model.TheInside.{Inside}
 
@@ -104,8 +106,8 @@ is_mdp m v ok all is =
           let a = get_or m.starts.items s 0 in
           let inside : a + c < length m.choices.choices = omega (arith, f.next.within, f.count) in
           record {
-            distribution = rw (f.choice c k) (let h = all (a + c) no_choice inside in h.distribution);
-            in_range = rw (f.choice c k, n) (ok.in_range (a + c) no_choice inside);
+            distribution = subst (λ (x : Choice). IsDistribution x.row) (sym (f.choice c k)) (let h = all (a + c) no_choice inside in h.distribution);
+            in_range = subst (λ (x : Choice). All (λ y. y.target < states_of v) x.row) (sym (f.choice c k)) (rw n (ok.in_range (a + c) no_choice inside));
           });
     }
 
@@ -125,3 +127,18 @@ targets_in_range m v i ts ps ok is h same e =
 pub names_are : (m : Inside) (v : Mdp) → mdp_in m ≡ v → m.choices.names ≡ v.names
 unfolding mdp_in
 names_are m v is = ap (λ (x : Mdp). x.names) is
+
+-- how many choices there are
+pub choices-total : (choices : List (List Choice)) (labels : List (List ℕ)) → length choices ≡ length labels → sum_by (λ (x : State). length x.choices) (states_from choices labels) ≡ sum_by length choices
+choices-total [] labels e = refl
+choices-total (r ∷ choices) [] e = absurd (omega arith)
+choices-total (r ∷ choices) (l ∷ labels) e =
+    sum_by-cons (λ (x : State). length x.choices) (record { labels = l; choices = r }) (states_from choices labels)
+    ∙ ap (λ (n : ℕ). length r + n) (choices-total choices labels (omega arith))
+    ∙ sym (sum_by-cons length r choices)
+
+pub all_choices_are : (m : Inside) (v : Mdp) → IsFlat m → mdp_in m ≡ v → length m.choices.choices ≡ sum_by (λ (x : State). length x.choices) v.states
+unfolding mdp_in
+all_choices_are m v ok is =
+    sym (choices-total (pieces m.choices.choices m.starts.items) m.labels.of_state (as_many m ok) ∙ pieces-sum m.choices.choices m.starts.items ok.places)
+    ∙ ap (λ (x : Mdp). sum_by (λ (y : State). length y.choices) x.states) is

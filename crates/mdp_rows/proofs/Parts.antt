@@ -2,7 +2,7 @@
 use Rattle.std.proofs.Common.{◌≡◌, ℕ, zero, suc, ◌+◌, ◌*◌, ◌/◌, ◌<◌, ◌≤◌, ltb, lt-ltb, le-ltb, Option, Some, None, if◌then◌else◌, Bool, true, false, ◌&&◌, T, eqb, eq-eqb, eqb→eq, zero-mul, List, [], ◌∷◌, length, take, get_or, ℤ, pos, ◌*ℤ◌, ◌≤ℤ◌, unsigned_abs, refl, sym, ap, ap₂, subst, ◌∙◌, arith}
 use Rattle.std.proofs.lemmas.Int.{ints}
 use Rattle.std.specs.Int.{◌∣◌}
-use Rattle.std.specs.List.{AllByRecursion, sum_by}
+use Rattle.std.specs.List.{AllByRecursion}
 use Rattle.std.proofs.lemmas.List.Sums.{sum_by-cons, sum_by_more_le}
 use Rattle.mdp_math.specs.Rational.{ℚ, ratio, of_int, le_ℚ, ◌+ℚ◌}
 use Rattle.mdp_math.specs.Sum.{sum_of}

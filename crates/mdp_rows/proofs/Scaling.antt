@@ -1,5 +1,5 @@
 -- A row's values divided by their sum.
-use Rattle.std.proofs.Common.{◌≡◌, ◌≢◌, ℕ, zero, suc, ◌+◌, ◌*◌, ◌/◌, ◌<◌, ◌≤◌, ◌^◌, false, Option, Some, to_z, mul-pos, List, [], ◌∷◌, length, map, get_or, slice_set, ℤ, pos, ◌*ℤ◌, ◌≤ℤ◌, unsigned_abs, refl, sym, ap, ap₂, subst, ◌∙◌, arith, mul_comm}
+use Rattle.std.proofs.Common.{◌≡◌, ◌≢◌, ℕ, zero, suc, ◌*◌, ◌/◌, ◌<◌, ◌≤◌, ◌^◌, false, Option, Some, to_z, mul-pos, List, [], ◌∷◌, length, map, get_or, slice_set, ℤ, pos, unsigned_abs, refl, sym, ap, ap₂, subst, ◌∙◌, arith, mul_comm}
 use Rattle.std.proofs.lemmas.Int.{ints, to_z_pos}
 use Rattle.std.proofs.Math.Nat.{div-le_self}
 use mir.Syntax.{w128}
@@ -8,8 +8,8 @@ use Rattle.mdp_math.specs.Written.{narrow_ℚ}
 use Rattle.mdp_math.proofs.Written.{narrow_ℚ-kept, num-ratio_signed, den-ratio_signed}
 use Rattle.mdp_num.specs.Value.{quotient}
 use Rattle.std.specs.Int.{◌∣◌}
-use Rattle.mdp_math.specs.Rational.{ℚ, ratio, inv_ℚ, of_int, ◌*ℚ◌, ◌≤ℚ◌}
-use Rattle.mdp_math.proofs.Laws.{is_self, is_ratio, is_of_int, same_is, den-pos}
+use Rattle.mdp_math.specs.Rational.{ℚ, ratio, inv_ℚ, ◌*ℚ◌, ◌≤ℚ◌}
+use Rattle.mdp_math.proofs.Laws.{is_self, is_ratio, is_of_int, same_is}
 use Rattle.mdp_math.proofs.Order.{0ℚ, 1ℚ, is_le, le_of_is, ratio-mul, ratio-nonneg, mul-inv, mul-left_cancel_ℚ}
 use Rattle.mdp_num.specs.Meaning.{IsWithinLimit}
 use Rattle.mdp_num.specs.Numeral.{limit}

@@ -1,7 +1,6 @@
 -- The draft that a builder's vectors hold.
 use Rattle.std.specs.Prelude.{◌≡◌, ◌≢◌, ℕ, ◌+◌, ◌*◌, ◌<◌, ◌≤◌, ◌^◌, IsTrue, List, [], length, drop, sum_by, slice_index, All, Option, Some, None}
-use Rattle.mdp_math.specs.Rational.{ℚ}
-use Rattle.mdp_spec.specs.Mdp.{Entry, Choice}
+use Rattle.mdp_spec.specs.Mdp.{Choice}
 use Rattle.mdp_spec.specs.Row.{ascends_from}
 use Rattle.mdp_rows.specs.Pieces.{pieces, ArePlaces}
 use Rattle.mdp_rows.specs.FlatModel.{states_from}

@@ -1,5 +1,5 @@
 -- The calls that hand a model to a builder, state by state: the state with rewards 0, its labels, and each choice with its entries.
-use Rattle.std.specs.Prelude.{◌≡◌, ℕ, List, [], ◌∷◌, length, map, slice_index_or, pos, Result, Ok}
+use Rattle.std.specs.Prelude.{◌≡◌, ℕ, List, [], ◌∷◌, map, slice_index_or, pos, Result, Ok}
 use Rattle.mdp_math.specs.Rational.{ℚ, of_int}
 use Rattle.mdp_spec.specs.Mdp.{Entry, Choice, State, Mdp, states_of}
 use Rattle.mdp_rows.specs.Draft.{Draft, new_draft, ◌>>=◌, after_state, after_label, after_choice, after_entry, after_finish}

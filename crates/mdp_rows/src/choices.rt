@@ -1,5 +1,6 @@
 ghost use Rattle.std.specs.Prelude.{◌≡◌, ◌+◌, ◌<◌, ◌-◌, ◌^◌, ◌++◌, ◌∷◌, [], length, map, sum_by, slice_index_or, IfOk, OnOk, OnErr, pos};
-ghost use Rattle.std.specs.List.{All};
+ghost use Rattle.std.specs.List.{All, position};
+ghost use Rattle.std.specs.Str.{bytes_eq};
 ghost use Rattle.mdp_math.specs.Rational.{of_int};
 ghost use Rattle.mdp_rows.specs.ChoiceTable.{IsChoice};
 ghost use Rattle.mdp_rows.specs.Draft.{kept};
@@ -16,6 +17,13 @@ use crate::rows::Rows;
 use mdp_num::Frac;
 use std::alloc::{AllocError, Global};
 use std::marker::Model;
+
+/// The place of a name among these.
+fn place_in(names: &[Vec<u8>], name: &[u8]) -> Option<usize>
+    ensures { result ≡ position (λ v. bytes_eq name.now v.items) names.now }
+{
+    names.iter().position(|other| name == other.as_slice())
+}
 
 /// The choices of all states one after the other: their rows, and the rewards of all of them in one vector, one for each name.
 #[derive(Drop)]
@@ -119,11 +127,7 @@ impl Choices {
     pub fn place(&self, name: &[u8]) -> Option<u32>
         ensures { result ≡ place_of name.now self.now.names }
     {
-        for i in 0..self.names.len() {
-            if self.names[i].as_slice() == name {
-                return Some(i as u32);
-            }
-        }
-        None
+        let place = place_in(&self.names, name)?;
+        Some(place as u32)
     }
 }

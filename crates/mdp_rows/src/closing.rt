@@ -105,12 +105,7 @@ fn scale(row: &mut [Given], den: u128, parts: u128) -> bool
 }
 
 /// Closes a row by the rule: under `Exact` its values stay, under `Scaled` each is divided by their sum.
-pub fn close_row(
-    row: &mut [Given],
-    rule: RowRule,
-    state: u32,
-    choice: u32,
-) -> Result<(), RowsError>
+pub fn close_row(row: &mut [Given], rule: RowRule, state: u32, choice: u32) -> Result<(), RowsError>
     ensures closed { OnOk result (closed_row rule state choice (row_of row.old) ≡ Ok (kept (row_of row.new))) }
     ensures refused { IfErr result (λ e. closed_row rule state choice (row_of row.old) ≡ Err e) }
     ensures targets { map (λ g. g.target) row.new ≡ map (λ g. g.target) row.old }

@@ -1,9 +1,6 @@
-use Rattle.std.proofs.Common.{◌≡◌, ◌<◌, ◌≤◌, ◌*◌, List, Option, Some, None, refl, sym, ap, ◌∙◌, arith}
-use Rattle.std.specs.Option.{is_some}
-use Rattle.mdp_num.specs.Numeral.{limit}
+use Rattle.std.proofs.Common.{sym, ap, ◌∙◌, arith}
 use Rattle.mdp_spec.specs.Unit.{row_den}
 use Rattle.mdp_rows.specs.Given.{row_of}
-use Rattle.mdp_rows.specs.Draft.{scaled_row}
 use Rattle.mdp_rows.proofs.Closings.{IsSummed, closed-wide, refused_past, refused_diff, some_parts, closes_exact, refused_exact, closes_scaled, refused_wide}
 use Rattle.mdp_rows.proofs.Denominators.{within-none, within-some, some_within, none_within}
 use Rattle.mdp_rows.proofs.Parts as parts

@@ -1,4 +1,4 @@
-use Rattle.std.proofs.Common.{◌≡◌, ℕ, ◌*◌, ◌/◌, arith, ap, ap₂, sym, subst, ◌∙◌, pos, Some}
+use Rattle.std.proofs.Common.{◌≡◌, ℕ, ◌*◌, ◌/◌, arith, ap, ap₂, sym, ◌∙◌, pos, Some}
 use Rattle.mdp_math.specs.Rational.{ℚ, ratio}
 use Rattle.mdp_rows.specs.Parts.{part}
 use Rattle.mdp_rows.proofs.Denominators.{den_read, num_read, read_abs}

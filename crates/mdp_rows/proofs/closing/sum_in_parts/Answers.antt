@@ -1,4 +1,4 @@
-use Rattle.std.proofs.Common.{◌≡◌, ◌≤◌, ℕ, ◌*◌, ◌/◌, arith, ap₂}
+use Rattle.std.proofs.Common.{◌≤◌, ℕ, ◌*◌, ◌/◌, arith, ap₂}
 use Rattle.mdp_rows.specs.Parts.{part}
 use Rattle.mdp_rows.proofs.Denominators.{den_read, num_read}
 use Rattle.mdp_rows.proofs.Parts.{value_past, value_within, so_far_past}
