@@ -411,7 +411,7 @@ impl Builder {
 
     /// Opens the next state, with its own reward for each name, at least 0, and closes the open row and the open state before.
     pub fn state(&mut self, rewards: &[Frac]) -> Result<(), RowsError>
-        requires one_each { length rewards.now ≡ length self.old.names }
+        requires one_each { IsUnrefused self.old → length rewards.now ≡ length self.old.names }
         requires at_least_0 { All (λ x. of_int (pos 0) ≤ℚ x) rewards.now }
         ensures call { IsCall self.old self.new (after_state self.old rewards.now) result }
         ensures same { OnOk result (IsSameHead self.old self.new) }
@@ -442,7 +442,7 @@ impl Builder {
     /// Opens the next choice of the open state, with its own reward for each name, at least 0, and closes the open row before.
     pub fn choice(&mut self, rewards: &[Frac]) -> Result<(), RowsError>
         requires open { IsUnrefused self.old → IsTrue (has_state self.old) }
-        requires one_each { length rewards.now ≡ length self.old.names }
+        requires one_each { IsUnrefused self.old → length rewards.now ≡ length self.old.names }
         requires at_least_0 { All (λ x. of_int (pos 0) ≤ℚ x) rewards.now }
         ensures call { IsCall self.old self.new (after_choice self.old rewards.now) result }
         ensures same { OnOk result (IsSameHead self.old self.new) }

@@ -30,3 +30,6 @@ returns-clause-same c =
     let k : IsCall c.args.self.now c.keep_refusal.new.self (after_choice c.args.self.now c.args.rewards.now) c.try_choice-outcome.result =
     call_kept _ c.try_choice-outcome.new.self c.keep_refusal.new.self _ c.try_choice-outcome.result (sym (refused_is c.self.inside _ c.self.view_is) ∙ c.in_default.is) c.try_choice-outcome.ensures.follows c.keep_refusal.ensures.unchanged c.keep_refusal.ensures.refused in
     rw c.keep_refusal.ensures.same (when_ok c.args.self.now c.keep_refusal.new.self (after_choice c.args.self.now c.args.rewards.now) c.try_choice-outcome.result k (λ u e. after_choice_same c.args.self.now _ c.args.rewards.now e))
+
+pub try_choice-outcome-requires : goal.try_choice-outcome-requires
+try_choice-outcome-requires c = c.requires.one_each (sym (refused_is c.self.inside _ c.self.view_is) ∙ c.in_default.is)

@@ -24,3 +24,6 @@ returns-clause-same c =
     let k : IsCall c.args.self.now c.keep_refusal.new.self (after_state c.args.self.now c.args.rewards.now) c.try_state-outcome.result =
     call_kept _ c.try_state-outcome.new.self c.keep_refusal.new.self _ c.try_state-outcome.result (sym (refused_is c.self.inside _ c.self.view_is) ∙ c.in_default.is) c.try_state-outcome.ensures.follows c.keep_refusal.ensures.unchanged c.keep_refusal.ensures.refused in
     rw c.keep_refusal.ensures.same (when_ok c.args.self.now c.keep_refusal.new.self (after_state c.args.self.now c.args.rewards.now) c.try_state-outcome.result k (λ u e. after_state_same c.args.self.now _ c.args.rewards.now e))
+
+pub try_state-outcome-requires : goal.try_state-outcome-requires
+try_state-outcome-requires c = c.requires.one_each (sym (refused_is c.self.inside _ c.self.view_is) ∙ c.in_default.is)
