@@ -4,13 +4,14 @@ use Rattle.std.specs.Prelude.{Result, Ok, Err, OnOk, IfOk, IfErr}
 use Rattle.std.specs.List.{All}
 use Rattle.std.proofs.lemmas.Bool.{ne_eqb}
 use Rattle.std.proofs.lemmas.List.Elements.{All-nil}
-use Rattle.mdp_spec.specs.Mdp.{Entry, Mdp}
+use Rattle.mdp_spec.specs.Mdp.{Entry, Choice, Mdp}
+use Rattle.mdp_rows.specs.ChoiceTable.{ChoiceTable}
+use Rattle.mdp_rows.specs.declared.rule.RowRule.{RowRule}
 use Rattle.mdp_rows.specs.Pieces.{pieces, ArePlaces}
 use Rattle.mdp_rows.specs.Labelling.{Labelling}
-use Rattle.mdp_rows.specs.FlatModel.{states_from, choice_of, mdp_in, IsFlat}
-use Rattle.mdp_rows.specs.Given.{row_of}
-use Rattle.mdp_rows.specs.Draft.{Draft, OpenState, closed_row, new_draft, row_closed, row_closed_in, with_row_closed, state_closed, state_closed_in, all_closed, finished, due_after, Follows, IsCall, IsRowClosed, ◌>>=◌}
-use Rattle.mdp_rows.specs.FlatDraft.{draft_in, open_in, open_choices, IsDraft}
+use Rattle.mdp_rows.specs.FlatModel.{states_from, mdp_in, IsFlat}
+use Rattle.mdp_rows.specs.Draft.{Draft, OpenState, OpenChoice, closed_row, new_draft, choice_closed, choice_closed_in, with_choice_closed, state_closed, state_closed_in, all_closed, finished, due_after, Follows, IsCall, IsChoiceClosed, ◌>>=◌}
+use Rattle.mdp_rows.specs.FlatDraft.{draft_in, open_in, state_in, choice_in, IsDraft}
 use Rattle.mdp_rows.specs.declared.error.RowsError.{RowsError}
 use Rattle.mdp_rows.specs.declared.error.RowsError.TheVariants.{Count, Memory, NoChoice}
 use Rattle.mdp_rows.specs.declared.builder.Stage.{Stage}
@@ -22,25 +23,26 @@ use Rattle.mdp_rows.proofs.Growth.{one_place}
 
 -- ---- what is closed after a step
 
-after_row : (d n : Draft) (o : OpenState) (r : Result (List Entry) RowsError) → (r >>= λ k. Ok (record d { state = Some (record o { choices = o.choices ++ choice_of k ∷ []; row = None }) })) ≡ Ok n → IsRowClosed n.state
-after_row d n o (Ok k) e = subst (λ (x : Draft). IsRowClosed x.state) (let s : (let x : Draft = record d { state = Some (record o { choices = o.choices ++ choice_of k ∷ []; row = None }) } in x) ≡ n = cc in s) refl
-after_row d n o (Err x) e = absurd cc
+after_row : (d n : Draft) (o : OpenState) (c : OpenChoice) (r : Result (List Entry) RowsError) → (r >>= λ k. Ok (record d { state = Some (record o { choices = o.choices ++ record { row = k; rewards = c.rewards } ∷ []; choice = None }) })) ≡ Ok n → IsChoiceClosed n.state
+after_row d n o c (Ok k) e =
+    subst (λ (x : Draft). IsChoiceClosed x.state) (let s : (let x : Draft = record d { state = Some (record o { choices = o.choices ++ record { row = k; rewards = c.rewards } ∷ []; choice = None }) } in x) ≡ n = cc in s) refl
+after_row d n o c (Err x) e = absurd cc
 
-abbrev done : {A : Type 0} → A → Result A RowsError
+abbrev pub done : {A : Type 0} → A → Result A RowsError
 done x = Ok x
 
-ok_same : {A : Type 0} → (d n : A) → done d ≡ Ok n → d ≡ n
+pub ok_same : {A : Type 0} → (d n : A) → done d ≡ Ok n → d ≡ n
 ok_same d n e = cc
 
-closed_cases : (d n : Draft) (o : OpenState) (r : Option (List Entry)) → d.state ≡ Some o → o.row ≡ r → with_row_closed d o r ≡ Ok n → IsRowClosed n.state
-closed_cases d n o None s e h = subst (λ (x : Draft). IsRowClosed x.state) (ok_same d n h) (rw s e)
-closed_cases d n o (Some row) s e h = after_row d n o (closed_row (length d.closed) (length o.choices) row) h
+closed_cases : (d n : Draft) (o : OpenState) (r : Option OpenChoice) → d.state ≡ Some o → o.choice ≡ r → with_choice_closed d o r ≡ Ok n → IsChoiceClosed n.state
+closed_cases d n o None s e h = subst (λ (x : Draft). IsChoiceClosed x.state) (ok_same d n h) (rw s e)
+closed_cases d n o (Some c) s e h = after_row d n o c (closed_row d.rule (length d.closed) (length o.choices) c.row) h
 
-row_cases : (d n : Draft) (s : Option OpenState) → d.state ≡ s → row_closed_in d s ≡ Ok n → IsRowClosed n.state
-row_cases d n None s h = subst (λ (x : Draft). IsRowClosed x.state) (ok_same d n h) (rw s tt)
-row_cases d n (Some o) s h = closed_cases d n o o.row s refl h
+row_cases : (d n : Draft) (s : Option OpenState) → d.state ≡ s → choice_closed_in d s ≡ Ok n → IsChoiceClosed n.state
+row_cases d n None s h = subst (λ (x : Draft). IsChoiceClosed x.state) (ok_same d n h) (rw s tt)
+row_cases d n (Some o) s h = closed_cases d n o o.choice s refl h
 
-pub row_is_closed : (d n : Draft) → row_closed d ≡ Ok n → IsRowClosed n.state
+pub row_is_closed : (d n : Draft) → choice_closed d ≡ Ok n → IsChoiceClosed n.state
 row_is_closed d n h = row_cases d n d.state refl h
 
 state_branch : (d n : Draft) (o : OpenState) (b : Bool) (e : RowsError) → (if b then Err e else Ok (record d { closed = d.closed ++ record { labels = o.labels; choices = o.choices } ∷ []; state = None })) ≡ Ok n → n.state ≡ None
@@ -54,6 +56,13 @@ state_cases d n (Some o) s h = state_branch d n o (eqb (length o.choices) 0) (No
 pub state_is_closed : (d n : Draft) → state_closed d ≡ Ok n → n.state ≡ None
 state_is_closed d n h = state_cases d n d.state refl h
 
+both_closed : (n : Draft) (r : Result Draft RowsError) → (r >>= state_closed) ≡ Ok n → n.state ≡ None
+both_closed n (Ok m) e = state_is_closed m n e
+both_closed n (Err x) e = absurd cc
+
+pub all_are_closed : (d n : Draft) → all_closed d ≡ Ok n → n.state ≡ None
+all_are_closed d n e = both_closed n (choice_closed d) e
+
 -- ---- steps one after the other
 
 goes : {A B : Type 0} → (r : Result A RowsError) (f : A → Result B RowsError) (x : A) → r ≡ Ok x → (r >>= f) ≡ f x
@@ -63,32 +72,37 @@ stop : {A B : Type 0} → (r : Result A RowsError) (f : A → Result B RowsError
 stop r f e h = ap (λ (y : Result _ RowsError). y >>= f) h
 
 module _ {B : Type 0} (d : Draft) (f : Draft → Result B RowsError) where
-  pub first_stops : (e : RowsError) → (e ≡ Memory) ⊎ (row_closed d ≡ Err e) → (e ≡ Memory) ⊎ ((row_closed d >>= f) ≡ Err e)
+  pub first_stops : (e : RowsError) → (e ≡ Memory) ⊎ (choice_closed d ≡ Err e) → (e ≡ Memory) ⊎ ((choice_closed d >>= f) ≡ Err e)
   first_stops e (inl m) = inl m
-  first_stops e (inr h) = inr (stop (row_closed d) f e h)
+  first_stops e (inr h) = inr (stop (choice_closed d) f e h)
 
-  pub first_goes : (n : Draft) → row_closed d ≡ Ok n → (row_closed d >>= f) ≡ f n
-  first_goes n h = goes (row_closed d) f n h
+  pub first_goes : (n : Draft) → choice_closed d ≡ Ok n → (choice_closed d >>= f) ≡ f n
+  first_goes n h = goes (choice_closed d) f n h
 
   all_stop : (e : RowsError) → (e ≡ Memory) ⊎ (all_closed d ≡ Err e) → (e ≡ Memory) ⊎ ((all_closed d >>= f) ≡ Err e)
   all_stop e (inl m) = inl m
   all_stop e (inr h) = inr (stop (all_closed d) f e h)
 
-  pub row_stops : (e : RowsError) → (e ≡ Memory) ⊎ (row_closed d ≡ Err e) → (e ≡ Memory) ⊎ ((all_closed d >>= f) ≡ Err e)
+  pub row_stops : (e : RowsError) → (e ≡ Memory) ⊎ (choice_closed d ≡ Err e) → (e ≡ Memory) ⊎ ((all_closed d >>= f) ≡ Err e)
   row_stops e (inl m) = inl m
-  row_stops e (inr h) = inr (stop (all_closed d) f e (stop (row_closed d) state_closed e h))
+  row_stops e (inr h) = inr (stop (all_closed d) f e (stop (choice_closed d) state_closed e h))
 
-  pub state_stops : (n : Draft) (e : RowsError) → row_closed d ≡ Ok n → (e ≡ Memory) ⊎ (state_closed n ≡ Err e) → (e ≡ Memory) ⊎ ((all_closed d >>= f) ≡ Err e)
+  pub state_stops : (n : Draft) (e : RowsError) → choice_closed d ≡ Ok n → (e ≡ Memory) ⊎ (state_closed n ≡ Err e) → (e ≡ Memory) ⊎ ((all_closed d >>= f) ≡ Err e)
   state_stops n e h (inl m) = inl m
-  state_stops n e h (inr k) = inr (stop (all_closed d) f e (goes (row_closed d) state_closed n h ∙ k))
+  state_stops n e h (inr k) = inr (stop (all_closed d) f e (goes (choice_closed d) state_closed n h ∙ k))
 
-  pub all_go : (n m : Draft) → row_closed d ≡ Ok n → state_closed n ≡ Ok m → (all_closed d >>= f) ≡ f m
-  all_go n m h k = goes (all_closed d) f m (goes (row_closed d) state_closed n h ∙ k)
+  pub all_go : (n m : Draft) → choice_closed d ≡ Ok n → state_closed n ≡ Ok m → (all_closed d >>= f) ≡ f m
+  all_go n m h k = goes (all_closed d) f m (goes (choice_closed d) state_closed n h ∙ k)
 
 pub follows_same : {A : Type 0} → (due now : Result A RowsError) (r : Result (Unit {0}) RowsError) (n : A) → due ≡ now → Follows now r n → Follows due r n
 follows_same due now (Ok u) n e h = e ∙ h
 follows_same due now (Err x) n e (inl m) = inl m
 follows_same due now (Err x) n e (inr h) = inr (e ∙ h)
+
+-- a refusal that comes from another, or want of memory
+pub or_memory : {P Q : Type 0} → (e : RowsError) → (P → Q) → (e ≡ Memory) ⊎ P → (e ≡ Memory) ⊎ Q
+or_memory e f (inl m) = inl m
+or_memory e f (inr p) = inr (f p)
 
 -- ---- the calls
 
@@ -113,14 +127,20 @@ call_kept old mid new due (Err e) n f k s = record { ok = tt; err = by_cases f; 
 
 -- ---- a new builder
 
-module _ (b : Inside) (states : ℕ) (some : 1 ≤ states) (few : states ≤ 2 ^ 20) (announced : b.announced ≡ states) (rows : b.rows ≡ []) (starts : b.starts.items ≡ 0 ∷ []) (first : b.first_row ≡ 0)
+module _ (b : Inside) (states : ℕ) (rule : RowRule) (names : List (List ℕ)) (some : 1 ≤ states) (few : states ≤ 2 ^ 20) (announced : b.announced ≡ states) (ruled : b.rule ≡ rule)
+    (choices : b.choices ≡ record { names = names; choices = [] }) (starts : b.starts.items ≡ 0 ∷ []) (first : b.first_choice ≡ 0)
     (labels : b.labels ≡ record { names = []; of_state = [] }) (stage : b.stage ≡ Between) (places : b.places.items ≡ []) (calls : b.label_calls ≡ 0) (row : b.row.items ≡ []) (entries : b.entries ≡ 0) (refused : b.refused ≡ None) where
   of_state_none : b.labels.of_state ≡ []
   of_state_none = ap (λ (l : Labelling). l.of_state) labels
 
-  pub new_is : draft_in b ≡ new_draft states
+  no_choices : b.choices.choices ≡ []
+  no_choices = ap (λ (t : ChoiceTable). t.choices) choices
+
+  pub new_is : draft_in b ≡ new_draft states rule names
   unfolding draft_in
-  new_is = same_draft _ _ announced (ap (λ (l : Labelling). l.names) labels) (ap₂ states_from (ap₂ pieces rows starts) of_state_none) (ap (λ (st : Stage). open_in st b.places.items b.label_calls (open_choices b) (row_of b.row.items)) stage) entries refused
+  new_is =
+      same_draft _ _ announced ruled (ap (λ (t : ChoiceTable). t.names) choices) (ap (λ (l : Labelling). l.names) labels) (ap₂ states_from (ap₂ pieces no_choices starts) of_state_none)
+      (ap (λ (st : Stage). open_in st (state_in b) (choice_in b)) stage) entries refused
 
   pub is_new : IsDraft b
   is_new = record {
@@ -133,30 +153,32 @@ module _ (b : Inside) (states : ℕ) (some : 1 ≤ states) (few : states ≤ 2 ^
     label_total = rw of_state_none (omega arith);
     few_places = rw places (omega arith);
     few_calls = omega arith;
+    own = λ h. absurd (h stage);
+    summed = λ e. absurd (let x = sym stage ∙ e in cc);
     inside = omega arith;
-    closed_up = λ e. first ∙ ap length (sym rows);
+    closed_up = λ e. first ∙ ap length (sym no_choices);
     idle = λ h. row;
-    few_rows = rw (rows, stage) (omega arith);
-    in_range = rw rows (All-nil (All (λ x. x.target < b.announced)));
+    few_rows = rw (no_choices, stage) (omega arith);
+    in_range = rw no_choices (All-nil (λ (c : Choice). All (λ x. x.target < b.announced) c.row));
     ascending = rw row refl;
     row_in_range = rw row (All-nil (λ x. x.target < b.announced));
-    total = rw (rows, row) (omega arith);
+    total = rw (no_choices, row) (omega arith);
     few_entries = omega arith;
   }
 
 -- ---- the model
 
-finish_by : (b : Inside) (t : Bool) → IsDraft b → eqb (length b.labels.of_state) b.announced ≡ t → finished (draft_in b) ≡ (if t then Ok (record { names = (45 ∷ []) ∷ []; labels = b.labels.names; states = closed_in b }) else Err Count)
+finish_by : (b : Inside) (t : Bool) → IsDraft b → eqb (length b.labels.of_state) b.announced ≡ t → finished (draft_in b) ≡ (if t then Ok (record { names = b.choices.names; labels = b.labels.names; states = closed_in b }) else Err Count)
 unfolding draft_in
 finish_by b t ok e =
-    ap (λ (n : ℕ). if eqb n b.announced then Ok (let m : Mdp = record { names = (45 ∷ []) ∷ []; labels = b.labels.names; states = closed_in b } in m) else Err Count) (closed_len b ok)
-    ∙ ap (λ (u : Bool). if u then Ok (let m : Mdp = record { names = (45 ∷ []) ∷ []; labels = b.labels.names; states = closed_in b } in m) else Err Count) e
+    ap (λ (n : ℕ). if eqb n b.announced then Ok (let m : Mdp = record { names = b.choices.names; labels = b.labels.names; states = closed_in b } in m) else Err Count) (closed_len b ok)
+    ∙ ap (λ (u : Bool). if u then Ok (let m : Mdp = record { names = b.choices.names; labels = b.labels.names; states = closed_in b } in m) else Err Count) e
 
 pub too_few : (b : Inside) (v : Draft) (s : ℕ) → draft_in b ≡ v → IsDraft b → s ≡ length b.labels.of_state → s ≢ b.announced → finished v ≡ Err Count
 too_few b v s is ok e f = ap finished (sym is) ∙ finish_by b false ok (ne_eqb (length b.labels.of_state) b.announced (λ h. f (e ∙ h)))
 
 abbrev pub parts_of : Inside → ModelInside
-parts_of b = record { rows = b.rows; starts = b.starts; labels = b.labels }
+parts_of b = record { choices = b.choices; starts = b.starts; labels = b.labels }
 
 pub is_finished : (b : Inside) (v : Draft) (s : ℕ) → draft_in b ≡ v → IsDraft b → s ≡ length b.labels.of_state → s ≡ b.announced → finished v ≡ Ok (mdp_in (parts_of b))
 unfolding mdp_in
@@ -172,7 +194,7 @@ is_flat b v s is ok closed e f =
       few = omega (arith, ok.labels, ok.few);
       choice = ok.choice;
       labels = omega (arith, ok.labels);
-      in_range = subst (λ (k : ℕ). All (λ row. All (λ x. x.target < k) row) b.rows) (sym n) ok.in_range;
+      in_range = subst (λ (k : ℕ). All (λ c. All (λ x. x.target < k) c.row) b.choices.choices) (sym n) ok.in_range;
     }
 
 -- ---- what finishing answers

@@ -1,7 +1,8 @@
 -- Least common denominators.
-use Rattle.std.proofs.Common.{◌≡◌, ◌≢◌, ℕ, ◌+◌, ◌*◌, ◌/◌, ◌<◌, ◌≤◌, ◌^◌, Bool, true, false, if◌then◌else◌, ltb, lt-ltb, le-ltb, List, [], ◌∷◌, length, drop, get_or, add-one, drop-cons, Option, Some, None, ℤ, pos, to_z, of_z, to_z-of_z, unsigned_abs, refl, sym, ap, subst, ◌∙◌, arith, mul-pos}
+use Rattle.std.proofs.Common.{◌≡◌, ◌≢◌, ℕ, zero, suc, ◌+◌, ◌*◌, ◌/◌, ◌<◌, ◌≤◌, ◌^◌, Bool, true, false, if◌then◌else◌, ltb, lt-ltb, le-ltb, List, [], ◌∷◌, length, drop, get_or, add-one, drop-cons, Option, Some, None, ℤ, pos, to_z, of_z, to_z-of_z, unsigned_abs, refl, sym, ap, ap₂, subst, ◌∙◌, arith, mul-pos}
 use Rattle.std.specs.Int.{◌∣◌}
 use Rattle.std.specs.List.{AllByRecursion}
+use Rattle.std.specs.Option.{is_some}
 use Rattle.mdp_math.specs.Gcd.{gcd, gcd_is, gcd_comm}
 use Rattle.mdp_math.specs.Rational.{ℚ, ratio, quotient-pos}
 use Rattle.mdp_math.specs.Written.{narrow_ℚ}
@@ -11,8 +12,7 @@ use Rattle.mdp_spec.specs.Mdp.{Entry}
 use Rattle.mdp_num.specs.Numeral.{limit}
 use Rattle.mdp_rows.specs.Given.{row_of}
 use Rattle.mdp_rows.specs.declared.given.Given.{Given}
-use Rattle.mdp_spec.specs.Unit.{lcm}
-use Rattle.mdp_rows.specs.Draft.{den_with, row_den}
+use Rattle.mdp_spec.specs.Unit.{lcm, row_den}
 use Rattle.std.proofs.Math.Nat.{div-le_self}
 use Rattle.std.proofs.Math.Seq.{drop-length}
 use borrow.Author.Tests.{ltb-false, ltb-true}
@@ -56,6 +56,21 @@ within-none m e = none_by (ltb limit m) m (λ t. ltb-true limit m t) e
 
 pub within-some : (m n : ℕ) → Some n ≡ within_limit m → (n ≡ m) × (m ≤ limit)
 within-some m n e = some_by (ltb limit m) m n (λ t. ltb-false limit m t) e
+
+-- the same by the test alone
+some_limit : (b : Bool) (m : ℕ) (o : Option ℕ) → (b ≡ false → m ≤ limit) → o ≡ (if b then None else Some m) → is_some o ≡ true → m ≤ limit
+some_limit true m o h e s = absurd (let x = sym (ap is_some e) ∙ s in cc)
+some_limit false m o h e s = h refl
+
+none_limit : (b : Bool) (m : ℕ) (o : Option ℕ) → (b ≡ true → limit < m) → o ≡ (if b then None else Some m) → is_some o ≡ false → limit < m
+none_limit true m o h e s = h refl
+none_limit false m o h e s = absurd (let x = sym (ap is_some e) ∙ s in cc)
+
+pub some_within : (m : ℕ) (o : Option ℕ) → o ≡ within_limit m → is_some o ≡ true → m ≤ limit
+some_within m o e s = some_limit (ltb limit m) m o (λ t. ltb-false limit m t) e s
+
+pub none_within : (m : ℕ) (o : Option ℕ) → o ≡ within_limit m → is_some o ≡ false → limit < m
+none_within m o e s = none_limit (ltb limit m) m o (λ t. ltb-true limit m t) e s
 
 -- a number in width comes back from its bits
 pub read_back : (z : ℤ) → unsigned_abs z < 2 ^ 127 → to_z w128 (of_z w128 z) ≡ z
@@ -101,62 +116,66 @@ lcm-left a b =
 
 -- ---- the least common denominator of a row
 
-pub den_with-divides : (d : ℕ) (row : List Entry) → d ∣ den_with d row
-den_with-divides d [] = dvd_refl d
-den_with-divides d (x ∷ row) = dvd_trans d (lcm-left d x.prob.den) (den_with-divides (lcm d x.prob.den) row)
+pub row_den-pos : (row : List Entry) → 0 < row_den row
+row_den-pos [] = omega arith
+row_den-pos (x ∷ row) = lcm-pos (row_den row) x.prob.den (row_den-pos row) (den-pos x.prob)
 
-pub den_with-pos : (d : ℕ) (row : List Entry) → 0 < d → 0 < den_with d row
-den_with-pos d [] h = h
-den_with-pos d (x ∷ row) h = den_with-pos (lcm d x.prob.den) row (lcm-pos d x.prob.den h (den-pos x.prob))
+-- each value's denominator divides it
+all_wider : (d e : ℕ) (row : List Entry) → d ∣ e → AllByRecursion (λ x. x.prob.den ∣ d) row → AllByRecursion (λ x. x.prob.den ∣ e) row
+all_wider d e [] h all = tt
+all_wider d e (x ∷ row) h all = (dvd_trans x.prob.den all.0 h, all_wider d e row h all.1)
 
-pub den_with-le : (d : ℕ) (row : List Entry) → 0 < d → d ≤ den_with d row
-den_with-le d row h = le_of_dvd (den_with-pos d row h) (den_with-divides d row)
+pub row_den-all : (row : List Entry) → AllByRecursion (λ x. x.prob.den ∣ row_den row) row
+row_den-all [] = tt
+row_den-all (x ∷ row) = (lcm-right (row_den row) x.prob.den, all_wider (row_den row) (lcm (row_den row) x.prob.den) row (lcm-left (row_den row) x.prob.den) (row_den-all row))
 
-pub den_with-all : (d : ℕ) (row : List Entry) → AllByRecursion (λ x. x.prob.den ∣ den_with d row) row
-den_with-all d [] = tt
-den_with-all d (x ∷ row) =
-    (dvd_trans x.prob.den (lcm-right d x.prob.den) (den_with-divides (lcm d x.prob.den) row), den_with-all (lcm d x.prob.den) row)
+-- what is left of a row has a denominator that divides the whole row's
+rest-divides : (row : List Given) (i : ℕ) → row_den (row_of (drop i row)) ∣ row_den (row_of row)
+rest-divides row zero = dvd_refl (row_den (row_of row))
+rest-divides [] (suc i) = dvd_refl 1
+rest-divides (g ∷ row) (suc i) = dvd_trans (row_den (row_of (drop i row))) (rest-divides row i) (lcm-left (row_den (row_of row)) g.value.den)
 
--- ---- the denominator so far
+-- ---- the denominator of what stands from place i on
 
-pub record IsDenSoFar (row : List Given) (i d : ℕ) : Type 0 where
+pub record IsDenFrom (row : List Given) (i d : ℕ) : Type 0 where
+  pub is : d ≡ row_den (row_of (drop i row))
   pub some : 0 < d
   pub within : d ≤ limit
-  pub rest : den_with d (row_of (drop i row)) ≡ row_den (row_of row)
-
-pub den_start : (row : List Given) → IsDenSoFar row 0 1
-den_start row = record { some = omega arith; within = omega arith; rest = refl }
-
-drop_at : (row : List Given) (i : ℕ) (g : Given) → i < length row → drop i row ≡ get_or row i g ∷ drop (i + 1) row
-drop_at row i g h = rw add-one (drop-cons row i g h)
-
-den_step : (row : List Given) (i d : ℕ) (g : Given) → i < length row → g ≡ get_or row i g → IsDenSoFar row i d → den_with (lcm d g.value.den) (row_of (drop (i + 1) row)) ≡ row_den (row_of row)
-den_step row i d g h e so =
-    ap (λ (x : Given). den_with (lcm d x.value.den) (row_of (drop (i + 1) row))) e
-    ∙ ap (λ (r : List Given). den_with d (row_of r)) (sym (drop_at row i g h)) ∙ so.rest
-
-pub den_more : (row : List Given) (i d m : ℕ) (g : Given) → i < length row → g ≡ get_or row i g → IsDenSoFar row i d → Some m ≡ within_limit (lcm d g.value.den) → IsDenSoFar row (i + 1) m
-den_more row i d m g h e so w =
-    let f = within-some (lcm d g.value.den) m w in
-    record {
-      some = rw f.0 (lcm-pos d g.value.den so.some (den-pos g.value));
-      within = rw f.0 f.1;
-      rest = rw f.0 (den_step row i d g h e so);
-    }
-
-pub den_wide : (row : List Given) (i d : ℕ) (g : Given) → i < length row → g ≡ get_or row i g → IsDenSoFar row i d → None ≡ within_limit (lcm d g.value.den) → None ≡ within_limit (row_den (row_of row))
-den_wide row i d g h e so w =
-    past_limit (row_den (row_of row))
-    (let k : limit < lcm d g.value.den = within-none (lcm d g.value.den) w in
-    let l : lcm d g.value.den ≤ den_with (lcm d g.value.den) (row_of (drop (i + 1) row)) = den_with-le (lcm d g.value.den) (row_of (drop (i + 1) row)) (lcm-pos d g.value.den so.some (den-pos g.value)) in
-    let s = den_step row i d g h e so in omega arith)
 
 drop_all : (row : List Given) (i : ℕ) → i ≡ length row → drop i row ≡ []
 drop_all row i e = rw e (drop-length row)
 
-pub den_end : (row : List Given) (i d : ℕ) → i ≡ length row → IsDenSoFar row i d → Some d ≡ within_limit (row_den (row_of row))
+pub den_start : (row : List Given) (i : ℕ) → i ≡ length row → IsDenFrom row i 1
+den_start row i e = record { is = ap (λ (r : List Given). row_den (row_of r)) (sym (drop_all row i e)); some = omega arith; within = omega arith }
+
+drop_at : (row : List Given) (i : ℕ) (g : Given) → i < length row → drop i row ≡ get_or row i g ∷ drop (i + 1) row
+drop_at row i g h = rw add-one (drop-cons row i g h)
+
+den_step : (row : List Given) (i d : ℕ) (g : Given) → i < length row → g ≡ get_or row i g → IsDenFrom row (i + 1) d → lcm d g.value.den ≡ row_den (row_of (drop i row))
+den_step row i d g h e so =
+    ap₂ (λ (x : ℕ) (y : Given). lcm x y.value.den) so.is e
+    ∙ ap (λ (r : List Given). row_den (row_of r)) (sym (drop_at row i g h))
+
+pub den_more : (row : List Given) (i d m : ℕ) (g : Given) → i < length row → g ≡ get_or row i g → IsDenFrom row (i + 1) d → Some m ≡ within_limit (lcm d g.value.den) → IsDenFrom row i m
+den_more row i d m g h e so w =
+    let f = within-some (lcm d g.value.den) m w in
+    record {
+      is = f.0 ∙ den_step row i d g h e so;
+      some = rw f.0 (lcm-pos d g.value.den so.some (den-pos g.value));
+      within = rw f.0 f.1;
+    }
+
+pub den_wide : (row : List Given) (i d : ℕ) (g : Given) → i < length row → g ≡ get_or row i g → IsDenFrom row (i + 1) d → None ≡ within_limit (lcm d g.value.den) → None ≡ within_limit (row_den (row_of row))
+den_wide row i d g h e so w =
+    past_limit (row_den (row_of row))
+    (let k : limit < lcm d g.value.den = within-none (lcm d g.value.den) w in
+    let s = den_step row i d g h e so in
+    let l : row_den (row_of (drop i row)) ≤ row_den (row_of row) = le_of_dvd (row_den-pos (row_of row)) (rest-divides row i) in
+    omega arith)
+
+pub den_end : (row : List Given) (i d : ℕ) → i ≡ 0 → IsDenFrom row i d → Some d ≡ within_limit (row_den (row_of row))
 den_end row i d e so =
-    let s : d ≡ row_den (row_of row) = ap (λ (r : List Given). den_with d (row_of r)) (sym (drop_all row i e)) ∙ so.rest in
+    let s : d ≡ row_den (row_of row) = so.is ∙ ap (λ (k : ℕ). row_den (row_of (drop k row))) e in
     rw (← s) (in_limit d so.within)
 
 -- ---- the terms that are read of an entry

@@ -1,31 +1,20 @@
 -- What is kept of a row that closes is a distribution.
-use Rattle.std.proofs.Common.{◌≡◌, ℕ, ◌+◌, ◌≤◌, Bool, true, false, cond, not, ◌&&◌, IsTrue, leb, le-leb, List, [], ◌∷◌, pos, unsigned_abs, eqb→eq, T, refl, sym, ap, subst, ◌∙◌, arith, if◌then◌else◌}
+use Rattle.std.proofs.Common.{◌≡◌, ℕ, ◌+◌, ◌≤◌, Bool, true, false, cond, not, ◌&&◌, IsTrue, leb, le-leb, List, [], ◌∷◌, pos, unsigned_abs, eqb→eq, T, refl, sym, ap, subst, ◌∙◌, arith}
 use Rattle.std.proofs.lemmas.Int.{ints}
-use Rattle.std.specs.Prelude.{Ok, Err}
 use Rattle.std.specs.List.{AllByRecursion}
 use Rattle.std.proofs.lemmas.List.Elements.{All-from_recursion}
 use Rattle.mdp_math.specs.Rational.{ℚ, ◌+ℚ◌, ◌<ℚ◌, ◌≤ℚ◌}
 use Rattle.mdp_math.specs.Sum.{sum_of}
 use Rattle.mdp_math.proofs.Laws.{is_self, is_of_int, zero-+ℚ}
-use Rattle.mdp_math.proofs.Order.{0ℚ, nonneg, is_positive, ≤ℚ_antisymm, is_nonneg, le_of_is}
+use Rattle.mdp_math.proofs.Order.{0ℚ, 1ℚ, nonneg, is_positive, ≤ℚ_antisymm, is_nonneg, le_of_is}
 use Rattle.mdp_spec.specs.Mdp.{Entry}
 use Rattle.mdp_spec.specs.Row.{ascends_from, IsDistribution}
-use Rattle.mdp_rows.specs.Draft.{kept, is_zero, is_one, closed_row}
+use Rattle.mdp_rows.specs.Draft.{kept, is_zero}
 use Rattle.mdp_rows.specs.Given.{row_of, entry_of}
 use Rattle.mdp_rows.specs.declared.given.Given.{Given}
-use Rattle.mdp_rows.specs.declared.error.RowsError.{RowsError}
-use Rattle.mdp_rows.proofs.Parts.{one_by}
 use borrow.Author.Tests.{leb-true, eqb-false}
 
 -- ---- the values add to 1
-
-ok_by : (a b : Bool) (r s : List Entry) (e f : RowsError) → (if a then Err e else (if b then Ok r else Err f)) ≡ Ok s → b ≡ true
-ok_by true b r s e f h = absurd cc
-ok_by false true r s e f h = refl
-ok_by false false r s e f h = absurd cc
-
-pub closed-one : (s c : ℕ) (row r : List Entry) → closed_row s c row ≡ Ok r → is_one (sum_of (λ x. x.prob) row) ≡ true
-closed-one s c row r h = ok_by _ _ (kept row) r _ _ h
 
 le_zero : (x : ℚ) → x.num ≡ pos 0 → x ≤ℚ 0ℚ
 le_zero x z = le_of_is x 0ℚ x.num (pos 0) x.den 1 (is_self x) (is_of_int (pos 0)) (rw z (omega (arith, ints)))
@@ -89,9 +78,10 @@ positive_kept : (row : List Given) → AllByRecursion (λ y. 0ℚ <ℚ y.prob) (
 positive_kept [] = tt
 positive_kept (g ∷ row) = positive_head (is_zero g.value) (entry_of g) (kept (row_of row)) (λ z. value_positive g.value g.term.nonnegative z) (positive_kept row)
 
-pub distribution_kept : (s c : ℕ) (row : List Given) (r : List Entry) → IsTrue (ascends_from 0 (row_of row)) → closed_row s c (row_of row) ≡ Ok r → IsDistribution (kept (row_of row))
-distribution_kept s c row r a h = record {
+-- what is kept of a row whose targets ascend, where it adds to 1
+pub distribution_kept : (row : List Given) → IsTrue (ascends_from 0 (row_of row)) → sum_of (λ x. x.prob) (kept (row_of row)) ≡ 1ℚ → IsDistribution (kept (row_of row))
+distribution_kept row a h = record {
   ascending = ascends_kept 0 (row_of row) a;
   positive = All-from_recursion (λ y. 0ℚ <ℚ y.prob) (kept (row_of row)) (positive_kept row);
-  total = sum_kept (row_of row) ∙ one_by (sum_of (λ x. x.prob) (row_of row)) (closed-one s c (row_of row) r h);
+  total = h;
 }

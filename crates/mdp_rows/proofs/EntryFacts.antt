@@ -1,20 +1,18 @@
 -- What an entry, and a choice, make of a draft.
-use Rattle.std.proofs.Common.{◌≡◌, ◌≢◌, ℕ, ◌+◌, ◌<◌, ◌≤◌, ◌^◌, ◌==◌, Bool, true, false, List, [], ◌∷◌, ◌++◌, length, map, take, drop, sum_by, Some, refl, sym, ap, ap₂, subst, ◌∙◌, arith, leb, le-leb, ltb, lt-ltb, le-ltb, length-append, if◌then◌else◌}
+use Rattle.std.proofs.Common.{◌≡◌, ◌≢◌, ℕ, ◌+◌, ◌<◌, ◌≤◌, ◌^◌, ◌==◌, Bool, true, false, List, [], ◌∷◌, ◌++◌, length, take, drop, Some, None, refl, sym, ap, ap₂, subst, ◌∙◌, arith, leb, le-leb, ltb, lt-ltb, le-ltb, length-append, if◌then◌else◌}
 use Rattle.std.specs.Prelude.{Result, Ok, Err}
 use Rattle.std.specs.List.{list_any}
 use Rattle.std.specs.Global.{Vec}
 use Rattle.std.proofs.lemmas.List.{length-map, length-take-le, length-drop}
-use Rattle.std.proofs.lemmas.List.Sums.{sum_by-cons}
 use Rattle.std.proofs.lemmas.List.Elements.{All-from_recursion, recursion_from_All}
 use borrow.Author.Tests.{lt-leb}
 use Rattle.mdp_math.specs.Rational.{ℚ}
-use Rattle.mdp_spec.specs.Mdp.{Entry, Choice, State}
+use Rattle.mdp_spec.specs.Mdp.{Entry}
 use Rattle.mdp_rows.specs.Pieces.{pieces}
-use Rattle.mdp_rows.specs.FlatModel.{states_from, choice_of}
 use Rattle.mdp_rows.specs.Given.{row_of, entry_of}
 use Rattle.mdp_rows.specs.Place.{IsPlace}
-use Rattle.mdp_rows.specs.Draft.{Draft, after_entry, entry_in, with_entry, choice_opened, choice_opened_in, closed_choices, IsRowClosed}
-use Rattle.mdp_rows.specs.FlatDraft.{draft_in, open_in, open_choices, IsDraft}
+use Rattle.mdp_rows.specs.Draft.{Draft, OpenState, OpenChoice, after_entry, entry_in, with_choice_entry, with_entry, choice_opened, choice_opened_in, closed_choices, summed_rewards, IsChoiceClosed, ◌>>=◌}
+use Rattle.mdp_rows.specs.FlatDraft.{draft_in, open_in, state_in, choice_in, open_choices, IsDraft}
 use Rattle.mdp_rows.specs.declared.given.Given.{Given}
 use Rattle.mdp_rows.specs.declared.error.RowsError.{RowsError}
 use Rattle.mdp_rows.specs.declared.error.RowsError.TheVariants.{TooMany, Target, Twice}
@@ -24,28 +22,29 @@ use Rattle.mdp_rows.specs.declared.builder.Builder.TheInside.{Inside}
 use Rattle.mdp_rows.proofs.DraftFacts.{same_draft, state_of, open_len}
 use Rattle.mdp_rows.proofs.Growth.{pieces-sum-to}
 use Rattle.mdp_rows.proofs.Pieces.{length-pieces}
+use Rattle.mdp_rows.proofs.ModelFacts.{choices-total}
 use Rattle.mdp_rows.proofs.Places.{inserted, ascends_with, all_with, above_here}
 
 -- ---- an entry
 
-no_entry : (st : Stage) (d : Draft) (t : ℕ) (x : ℚ) (labels : List ℕ) (n : ℕ) (choices : List Choice) (row : List Entry) → st ≢ InRow → entry_in d t x (open_in st labels n choices row) ≡ Ok d
-no_entry Between d t x labels n choices row h = refl
-no_entry InState d t x labels n choices row h = refl
-no_entry InRow d t x labels n choices row h = absurd (h refl)
+no_entry : (st : Stage) (d : Draft) (t : ℕ) (x : ℚ) (o : OpenState) (c : OpenChoice) → o.choice ≡ None → st ≢ InRow → entry_in d t x (open_in st o c) ≡ Ok d
+no_entry Between d t x o c n h = refl
+no_entry InState d t x o c n h = ap (with_choice_entry d t x o) n
+no_entry InRow d t x o c n h = absurd (h refl)
 
 pub no_row_for_entry : (b : Inside) (v : Draft) (t : ℕ) (x : ℚ) → draft_in b ≡ v → b.stage ≢ InRow → after_entry v t x ≡ Ok v
 unfolding draft_in
-no_row_for_entry b v t x is h = ap (λ (d : Draft). after_entry d t x) (sym is) ∙ no_entry b.stage (draft_in b) t x b.places.items b.label_calls (open_choices b) (row_of b.row.items) h ∙ ap Ok is
+no_row_for_entry b v t x is h = ap (λ (d : Draft). after_entry d t x) (sym is) ∙ no_entry b.stage (draft_in b) t x (state_in b) (choice_in b) refl h ∙ ap Ok is
 
 abbrev pub entry_draft : Inside → ℕ → ℚ → Draft
-entry_draft b t x = record (draft_in b) { entries = b.entries + 1; state = Some (state_of b (open_choices b) (Some (with_entry (record { target = t; prob = x }) (row_of b.row.items)))) }
+entry_draft b t x = record (draft_in b) { entries = b.entries + 1; state = Some (state_of b (open_choices b) (Some (record (choice_in b) { row = with_entry (record { target = t; prob = x }) (row_of b.row.items) }))) }
 
 abbrev pub entry_result : Inside → ℕ → ℚ → Bool → Bool → Bool → Result Draft RowsError
 entry_result b t x past twice full = if past then Err Target else (if twice then Err Twice else (if full then Err TooMany else Ok (entry_draft b t x)))
 
 entry_by : (b : Inside) (t : ℕ) (x : ℚ) → b.stage ≡ InRow → after_entry (draft_in b) t x ≡ entry_result b t x (leb b.announced t) (list_any (λ y. y.target == t) (row_of b.row.items)) (leb (2 ^ 24) b.entries)
 unfolding draft_in
-entry_by b t x e = ap (λ (st : Stage). entry_in (draft_in b) t x (open_in st b.places.items b.label_calls (open_choices b) (row_of b.row.items))) e
+entry_by b t x e = ap (λ (st : Stage). entry_in (draft_in b) t x (open_in st (state_in b) (choice_in b))) e
 
 module _ (b : Inside) (v : Draft) (t : ℕ) (x : ℚ) (is : draft_in b ≡ v) (stage : b.stage ≡ InRow) where
   entry_here : after_entry v t x ≡ entry_result b t x (leb b.announced t) (list_any (λ y. y.target == t) (row_of b.row.items)) (leb (2 ^ 24) b.entries)
@@ -82,7 +81,7 @@ module _ (b : Inside) (row : Vec Given) (g : Given) (place : ℕ) (ok : IsDraft 
 
   pub entry_is_in : draft_in (with_new_entry b row) ≡ entry_draft b g.target g.value
   unfolding draft_in
-  entry_is_in = same_draft _ _ refl refl refl (ap₂ (λ (st : Stage) (r : List Entry). open_in st b.places.items b.label_calls (open_choices b) r) stage row_grown) refl refl
+  entry_is_in = same_draft _ _ refl refl refl refl refl (ap₂ (λ (st : Stage) (r : List Entry). open_in st (state_in b) (let c : OpenChoice = record { rewards = b.sums.items; row = r } in c)) stage row_grown) refl refl
 
   row_longer : length row.items ≡ length b.row.items + 1
   row_longer =
@@ -103,6 +102,8 @@ module _ (b : Inside) (row : Vec Given) (g : Given) (place : ℕ) (ok : IsDraft 
     label_total = ok.label_total;
     few_places = ok.few_places;
     few_calls = ok.few_calls;
+    own = ok.own;
+    summed = ok.summed;
     inside = ok.inside;
     closed_up = ok.closed_up;
     idle = λ h. absurd (h stage);
@@ -116,81 +117,106 @@ module _ (b : Inside) (row : Vec Given) (g : Given) (place : ℕ) (ok : IsDraft 
 
 -- ---- a choice
 
-no_choice_for : (st : Stage) (d : Draft) (labels : List ℕ) (n : ℕ) (choices : List Choice) (row : List Entry) → st ≢ InState → IsRowClosed (open_in st labels n choices row) → choice_opened_in d (open_in st labels n choices row) ≡ Ok d
-no_choice_for Between d labels n choices row h k = refl
-no_choice_for InState d labels n choices row h k = absurd (h refl)
-no_choice_for InRow d labels n choices row h k = absurd cc
+no_choice_for : (st : Stage) (d : Draft) (rewards : List ℚ) (o : OpenState) (c : OpenChoice) → st ≢ InState → IsChoiceClosed (open_in st o c) → choice_opened_in d rewards (open_in st o c) ≡ Ok d
+no_choice_for Between d rewards o c h k = refl
+no_choice_for InState d rewards o c h k = absurd (h refl)
+no_choice_for InRow d rewards o c h k = absurd cc
 
-pub no_state_for_choice : (b : Inside) (v : Draft) → draft_in b ≡ v → b.stage ≢ InState → IsRowClosed v.state → choice_opened v ≡ Ok v
+pub no_state_for_choice : (b : Inside) (v : Draft) (rewards : List ℚ) → draft_in b ≡ v → b.stage ≢ InState → IsChoiceClosed v.state → choice_opened v rewards ≡ Ok v
 unfolding draft_in
-no_state_for_choice b v is h k =
-    ap choice_opened (sym is)
-    ∙ no_choice_for b.stage (draft_in b) b.places.items b.label_calls (open_choices b) (row_of b.row.items) h (subst (λ (d : Draft). IsRowClosed d.state) (sym is) k)
+no_state_for_choice b v rewards is h k =
+    ap (λ (d : Draft). choice_opened d rewards) (sym is)
+    ∙ no_choice_for b.stage (draft_in b) rewards (state_in b) (choice_in b) h (subst (λ (d : Draft). IsChoiceClosed d.state) (sym is) k)
     ∙ ap Ok is
 
--- how many choices there are
-choices-total : (rows : List (List (List Entry))) (labels : List (List ℕ)) → length rows ≡ length labels → sum_by (λ (x : State). length x.choices) (states_from rows labels) ≡ sum_by length rows
-choices-total [] labels e = refl
-choices-total (r ∷ rows) [] e = absurd (omega arith)
-choices-total (r ∷ rows) (l ∷ labels) e =
-    sum_by-cons (λ (x : State). length x.choices) (record { labels = l; choices = map choice_of r }) (states_from rows labels)
-    ∙ ap₂ ◌+◌ (length-map r choice_of) (choices-total rows labels (omega arith))
-    ∙ sym (sum_by-cons length r rows)
-
-choice_count : (b : Inside) → IsDraft b → closed_choices (draft_in b) + length (open_choices b) ≡ length b.rows
+choice_count : (b : Inside) → IsDraft b → closed_choices (draft_in b) + length (open_choices b) ≡ length b.choices.choices
 unfolding draft_in
 choice_count b ok =
-    let n : length (pieces b.rows b.starts.items) ≡ length b.labels.of_state = (let p = length-pieces b.rows b.starts.items in omega (arith, ok.labels)) in
-    let t = choices-total (pieces b.rows b.starts.items) b.labels.of_state n in
-    let s = pieces-sum-to b.rows b.starts.items b.first_row ok.starts ok.inside in
+    let n : length (pieces b.choices.choices b.starts.items) ≡ length b.labels.of_state = (let p = length-pieces b.choices.choices b.starts.items in omega (arith, ok.labels)) in
+    let t = choices-total (pieces b.choices.choices b.starts.items) b.labels.of_state n in
+    let s = pieces-sum-to b.choices.choices b.starts.items b.first_choice ok.starts ok.inside in
     let l = open_len b in
     omega (arith, ok.inside)
 
-abbrev pub choice_result : Inside → Bool → Result Draft RowsError
-choice_result b full = if full then Err TooMany else Ok (record (draft_in b) { state = Some (state_of b (open_choices b) (Some [])) })
+abbrev pub sums_result : Inside → Result (List ℚ) RowsError → Result Draft RowsError
+sums_result b r = r >>= λ sums. Ok (record (draft_in b) { state = Some (state_of b (open_choices b) (Some (record { rewards = sums; row = [] }))) })
 
-choice_by : (b : Inside) (full : Bool) → IsDraft b → b.stage ≡ InState → ltb (2 ^ 22) (length b.rows + 1) ≡ full → choice_opened (draft_in b) ≡ choice_result b full
+abbrev pub choice_result : Inside → List ℚ → Bool → Result Draft RowsError
+choice_result b rewards full = if full then Err TooMany else sums_result b (summed_rewards b.rewards.items rewards)
+
+choice_by : (b : Inside) (rewards : List ℚ) (full : Bool) → IsDraft b → b.stage ≡ InState → ltb (2 ^ 22) (length b.choices.choices + 1) ≡ full → choice_opened (draft_in b) rewards ≡ choice_result b rewards full
 unfolding draft_in
-choice_by b full ok e f =
-    ap (λ (st : Stage). choice_opened_in (draft_in b) (open_in st b.places.items b.label_calls (open_choices b) (row_of b.row.items))) e
-    ∙ ap (λ (n : ℕ). choice_result b (ltb (2 ^ 22) (n + 1))) (choice_count b ok)
-    ∙ ap (choice_result b) f
+choice_by b rewards full ok e f =
+    ap (λ (st : Stage). choice_opened_in (draft_in b) rewards (open_in st (state_in b) (choice_in b))) e
+    ∙ ap (λ (n : ℕ). choice_result b rewards (ltb (2 ^ 22) (n + 1))) (choice_count b ok)
+    ∙ ap (choice_result b rewards) f
 
-pub past_choices : (b : Inside) (v : Draft) → draft_in b ≡ v → IsDraft b → b.stage ≡ InState → 2 ^ 22 ≤ length b.rows → choice_opened v ≡ Err TooMany
-past_choices b v is ok e h = ap choice_opened (sym is) ∙ choice_by b true ok e (lt-ltb (2 ^ 22) (length b.rows + 1) (omega arith))
+pub past_choices : (b : Inside) (v : Draft) (rewards : List ℚ) → draft_in b ≡ v → IsDraft b → b.stage ≡ InState → 2 ^ 22 ≤ length b.choices.choices → choice_opened v rewards ≡ Err TooMany
+past_choices b v rewards is ok e h = ap (λ (d : Draft). choice_opened d rewards) (sym is) ∙ choice_by b rewards true ok e (lt-ltb (2 ^ 22) (length b.choices.choices + 1) (omega arith))
 
-abbrev pub with_choice : Inside → Inside
-with_choice b = record b { stage = InRow }
+module _ (b : Inside) (v : Draft) (given : List ℚ) (is : draft_in b ≡ v) (ok : IsDraft b) (stage : b.stage ≡ InState) (room : length b.choices.choices < 2 ^ 22) where
+  choice_here : choice_opened v given ≡ sums_result b (summed_rewards b.rewards.items given)
+  choice_here = ap (λ (d : Draft). choice_opened d given) (sym is) ∙ choice_by b given false ok stage (le-ltb (2 ^ 22) (length b.choices.choices + 1) (omega arith))
 
-module _ (b : Inside) (v : Draft) (is : draft_in b ≡ v) (ok : IsDraft b) (stage : b.stage ≡ InState) (room : length b.rows < 2 ^ 22) where
+  pub sums_refused : (e : RowsError) → summed_rewards b.rewards.items given ≡ Err e → choice_opened v given ≡ Err e
+  sums_refused e h = choice_here ∙ ap (sums_result b) h
+
   no_entries : b.row.items ≡ []
   no_entries = ok.idle (λ e. absurd (let x = sym stage ∙ e in cc))
 
-  choice_is_in : draft_in (with_choice b) ≡ record (draft_in b) { state = Some (state_of b (open_choices b) (Some [])) }
-  unfolding draft_in
-  choice_is_in = same_draft _ _ refl refl refl (ap (λ (r : List Given). Some (state_of b (open_choices b) (Some (row_of r)))) no_entries) refl refl
-
-  pub choice_is_opened : choice_opened v ≡ Ok (draft_in (with_choice b))
-  choice_is_opened = ap choice_opened (sym is) ∙ choice_by b false ok stage (le-ltb (2 ^ 22) (length b.rows + 1) (omega arith)) ∙ ap Ok (sym choice_is_in)
-
-  pub is_with_choice : IsDraft (with_choice b)
-  is_with_choice = record {
+  -- the builder with other sums of no open choice
+  pub is_with_sums : (sums : Vec ℚ) → IsDraft (record b { sums = sums })
+  is_with_sums sums = record {
     some = ok.some;
     few = ok.few;
     starts = ok.starts;
     choice = ok.choice;
-    states = let g : length b.starts.items + 1 ≤ b.announced + 1 = rw stage at ok.states in g;
+    states = ok.states;
     labels = ok.labels;
     label_total = ok.label_total;
     few_places = ok.few_places;
     few_calls = ok.few_calls;
+    own = ok.own;
+    summed = λ e. absurd (let x = sym stage ∙ e in cc);
     inside = ok.inside;
-    closed_up = λ e. absurd cc;
-    idle = λ h. no_entries;
-    few_rows = omega arith;
+    closed_up = ok.closed_up;
+    idle = ok.idle;
+    few_rows = ok.few_rows;
     in_range = ok.in_range;
     ascending = ok.ascending;
     row_in_range = ok.row_in_range;
     total = ok.total;
     few_entries = ok.few_entries;
   }
+
+  module _ (sums : Vec ℚ) (added : summed_rewards b.rewards.items given ≡ Ok sums.items) where
+    choice_is_in : draft_in (record b { sums = sums; stage = InRow }) ≡ record (draft_in b) { state = Some (state_of b (open_choices b) (Some (record { rewards = sums.items; row = [] }))) }
+    unfolding draft_in
+    choice_is_in = same_draft _ _ refl refl refl refl refl (ap (λ (r : List Given). Some (state_of b (open_choices b) (Some (record { rewards = sums.items; row = row_of r })))) no_entries) refl refl
+
+    pub choice_is_opened : choice_opened v given ≡ Ok (draft_in (record b { sums = sums; stage = InRow }))
+    choice_is_opened = choice_here ∙ ap (sums_result b) added ∙ ap Ok (sym choice_is_in)
+
+    pub is_with_choice : length sums.items ≡ length b.choices.names → IsDraft (record b { sums = sums; stage = InRow })
+    is_with_choice as_many = record {
+      some = ok.some;
+      few = ok.few;
+      starts = ok.starts;
+      choice = ok.choice;
+      states = let g : length b.starts.items + 1 ≤ b.announced + 1 = rw stage at ok.states in g;
+      labels = ok.labels;
+      label_total = ok.label_total;
+      few_places = ok.few_places;
+      few_calls = ok.few_calls;
+      own = λ h. ok.own (λ e. absurd (let x = sym stage ∙ e in cc));
+      summed = λ e. as_many;
+      inside = ok.inside;
+      closed_up = λ e. absurd cc;
+      idle = λ h. no_entries;
+      few_rows = omega arith;
+      in_range = ok.in_range;
+      ascending = ok.ascending;
+      row_in_range = ok.row_in_range;
+      total = ok.total;
+      few_entries = ok.few_entries;
+    }

@@ -1,9 +1,12 @@
 mod CallFacts
+mod ChoiceFacts
+mod Closings
 mod Denominators
 mod Distributions
 mod DraftFacts
 mod EntryFacts
 mod Growth
+mod HeadFacts
 mod KeptFacts
 mod LabelCalls
 mod LabelFacts
@@ -16,8 +19,11 @@ mod Outcomes
 mod Parts
 mod Pieces
 mod Places
+mod RewardSums
 mod RowFacts
 mod RowsGrow
 mod RowsOfPolicy
+mod Scaling
 mod StageFacts
 mod Tally
+mod Targets

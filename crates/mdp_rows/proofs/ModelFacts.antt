@@ -1,29 +1,32 @@
 -- What the flat vectors say of the model.
-use Rattle.std.proofs.Common.{◌≡◌, ℕ, zero, suc, ◌+◌, ◌-◌, ◌<◌, List, [], ◌∷◌, ◌++◌, length, map, drop, get_or, refl, sym, ap, ◌∙◌, arith}
+use Rattle.std.proofs.Common.{◌≡◌, ℕ, zero, suc, ◌+◌, ◌-◌, ◌<◌, List, [], ◌∷◌, ◌++◌, length, drop, get_or, sum_by, refl, sym, ap, subst, ◌∙◌, arith}
 use Rattle.std.specs.List.{All}
-use Rattle.std.proofs.lemmas.List.{get_or-take, get_or-drop, get_or_default, length-map}
+use Rattle.std.proofs.lemmas.List.{get_or-take, get_or-drop, get_or_default}
 use Rattle.mdp_math.specs.Rational.{ℚ}
-use Rattle.mdp_spec.specs.Mdp.{Entry, Choice, State, Mdp, no_choice, no_state, states_of, state_at, choices_at, row_at}
+use Rattle.mdp_spec.specs.Mdp.{Choice, State, Mdp, no_choice, no_state, states_of, state_at, choices_at}
 use Rattle.mdp_spec.specs.Row.{entries, IsDistribution, IsMdp}
+use Rattle.mdp_rows.specs.ChoiceTable.{IsChoice}
 use Rattle.mdp_rows.specs.Pieces.{piece, pieces}
-use Rattle.mdp_rows.specs.FlatModel.{mdp_in, IsFlat, states_from, choice_of}
+use Rattle.mdp_rows.specs.FlatModel.{mdp_in, IsFlat, states_from}
+use Rattle.std.proofs.lemmas.List.Sums.{sum_by-cons}
+use Rattle.mdp_rows.proofs.Growth.{pieces-sum}
 use Rattle.mdp_rows.proofs.Pieces.{AreNext, next_places, piece_is, length-pieces, piece_len}
 use Rattle.mdp_rows.specs.declared.model.Model.TheInside.{Inside}
 
-pub length-states_from : (rows : List (List (List Entry))) (labels : List (List ℕ)) → length rows ≡ length labels → length (states_from rows labels) ≡ length rows
+pub length-states_from : (rows : List (List Choice)) (labels : List (List ℕ)) → length rows ≡ length labels → length (states_from rows labels) ≡ length rows
 length-states_from [] labels e = refl
 length-states_from (r ∷ rows) [] e = absurd (omega arith)
 length-states_from (r ∷ rows) (l ∷ labels) e = let h = length-states_from rows labels (omega arith) in omega (arith, h)
 
-pub states_from-more : (rows : List (List (List Entry))) (labels : List (List ℕ)) (row : List (List Entry)) (label : List ℕ) → length rows ≡ length labels
-    → states_from (rows ++ row ∷ []) (labels ++ label ∷ []) ≡ states_from rows labels ++ record { labels = label; choices = map choice_of row } ∷ []
+pub states_from-more : (rows : List (List Choice)) (labels : List (List ℕ)) (row : List Choice) (label : List ℕ) → length rows ≡ length labels
+    → states_from (rows ++ row ∷ []) (labels ++ label ∷ []) ≡ states_from rows labels ++ record { labels = label; choices = row } ∷ []
 states_from-more [] [] row label e = refl
 states_from-more [] (l ∷ labels) row label e = absurd (omega arith)
 states_from-more (r ∷ rows) [] row label e = absurd (omega arith)
-states_from-more (r ∷ rows) (l ∷ labels) row label e = ap (λ (s : List State). record { labels = l; choices = map choice_of r } ∷ s) (states_from-more rows labels row label (omega arith))
+states_from-more (r ∷ rows) (l ∷ labels) row label e = ap (λ (s : List State). record { labels = l; choices = r } ∷ s) (states_from-more rows labels row label (omega arith))
 
-get_or-states_from : (rows : List (List (List Entry))) (labels : List (List ℕ)) (s : ℕ) → length rows ≡ length labels
-    → get_or (states_from rows labels) s no_state ≡ record { labels = get_or labels s []; choices = map choice_of (get_or rows s []) }
+get_or-states_from : (rows : List (List Choice)) (labels : List (List ℕ)) (s : ℕ) → length rows ≡ length labels
+    → get_or (states_from rows labels) s no_state ≡ record { labels = get_or labels s []; choices = get_or rows s [] }
 get_or-states_from [] [] s e = refl
 get_or-states_from [] (l ∷ labels) s e = absurd (omega arith)
 get_or-states_from (r ∷ rows) [] s e = absurd (omega arith)
@@ -31,21 +34,21 @@ get_or-states_from (r ∷ rows) (l ∷ labels) zero e = refl
 get_or-states_from (r ∷ rows) (l ∷ labels) (suc s) e = get_or-states_from rows labels s (omega arith)
 
 -- the rows of a state, and its labels
-abbrev rows_of : Inside → ℕ → List (List Entry)
-rows_of m s = get_or (pieces m.rows m.starts.items) s []
+abbrev rows_of : Inside → ℕ → List Choice
+rows_of m s = get_or (pieces m.choices.choices m.starts.items) s []
 
-as_many : (m : Inside) → IsFlat m → length (pieces m.rows m.starts.items) ≡ length m.labels.of_state
-as_many m ok = length-pieces m.rows m.starts.items ∙ sym ok.labels
+as_many : (m : Inside) → IsFlat m → length (pieces m.choices.choices m.starts.items) ≡ length m.labels.of_state
+as_many m ok = length-pieces m.choices.choices m.starts.items ∙ sym ok.labels
 
-state_is : (m : Inside) (v : Mdp) (s : ℕ) → IsFlat m → mdp_in m ≡ v → state_at v s ≡ record { labels = get_or m.labels.of_state s []; choices = map choice_of (rows_of m s) }
+state_is : (m : Inside) (v : Mdp) (s : ℕ) → IsFlat m → mdp_in m ≡ v → state_at v s ≡ record { labels = get_or m.labels.of_state s []; choices = rows_of m s }
 unfolding mdp_in
 state_is m v s ok is =
-    ap (λ (x : Mdp). state_at x s) (sym is) ∙ get_or-states_from (pieces m.rows m.starts.items) m.labels.of_state s (as_many m ok)
+    ap (λ (x : Mdp). state_at x s) (sym is) ∙ get_or-states_from (pieces m.choices.choices m.starts.items) m.labels.of_state s (as_many m ok)
 
 pub states_are : (m : Inside) (v : Mdp) → IsFlat m → mdp_in m ≡ v → states_of v ≡ length m.starts.items - 1
 unfolding mdp_in
 states_are m v ok is =
-    ap states_of (sym is) ∙ length-states_from (pieces m.rows m.starts.items) m.labels.of_state (as_many m ok) ∙ length-pieces m.rows m.starts.items
+    ap states_of (sym is) ∙ length-states_from (pieces m.choices.choices m.starts.items) m.labels.of_state (as_many m ok) ∙ length-pieces m.choices.choices m.starts.items
 
 pub label_names_are : (m : Inside) (v : Mdp) → mdp_in m ≡ v → m.labels.names ≡ v.labels
 unfolding mdp_in
@@ -54,35 +57,30 @@ label_names_are m v is = ap (λ (x : Mdp). x.labels) is
 pub labels_are : (m : Inside) (v : Mdp) (s : ℕ) → IsFlat m → mdp_in m ≡ v → get_or m.labels.of_state s [] ≡ (state_at v s).labels
 labels_are m v s ok is = sym (ap (λ (x : State). x.labels) (state_is m v s ok is))
 
-choices_are : (m : Inside) (v : Mdp) (s : ℕ) → IsFlat m → mdp_in m ≡ v → choices_at v s ≡ map choice_of (rows_of m s)
+choices_are : (m : Inside) (v : Mdp) (s : ℕ) → IsFlat m → mdp_in m ≡ v → choices_at v s ≡ rows_of m s
 choices_are m v s ok is = ap (λ (x : State). x.choices) (state_is m v s ok is)
-
-row-choice_of : (rows : List (List Entry)) (c : ℕ) → (get_or (map choice_of rows) c no_choice).row ≡ get_or rows c []
-row-choice_of [] c = refl
-row-choice_of (r ∷ rows) zero = refl
-row-choice_of (r ∷ rows) (suc c) = row-choice_of rows c
 
 -- where a state's choices stand
 pub record AreChoices (m : Inside) (v : Mdp) (s a b : ℕ) : Type 0 where
-  pub next : AreNext m.starts.items (length m.rows) s a b
+  pub next : AreNext m.starts.items (length m.choices.choices) s a b
   pub some : a < b
   pub count : b - a ≡ length (choices_at v s)
-  pub row : (c : ℕ) → c < length (choices_at v s) → row_at v s c ≡ get_or m.rows (a + c) []
+  pub choice : (c : ℕ) → c < length (choices_at v s) → get_or (choices_at v s) c no_choice ≡ get_or m.choices.choices (a + c) no_choice
 
 pub choices_stand : (m : Inside) (v : Mdp) (s a b : ℕ) → IsFlat m → mdp_in m ≡ v → s < states_of v → a ≡ get_or m.starts.items s a → b ≡ get_or m.starts.items (s + 1) b → AreChoices m v s a b
 choices_stand m v s a b ok is h ea eb =
     let n = states_are m v ok is in
-    let next = next_places m.starts.items (length m.rows) s a b ok.places (omega (arith, n)) ea eb in
-    let here : piece m.rows a b ≡ rows_of m s = piece_is m.rows m.starts.items (length m.rows) s a b (pieces m.rows m.starts.items) next refl in
+    let next = next_places m.starts.items (length m.choices.choices) s a b ok.places (omega (arith, n)) ea eb in
+    let here : piece m.choices.choices a b ≡ rows_of m s = piece_is m.choices.choices m.starts.items (length m.choices.choices) s a b (pieces m.choices.choices m.starts.items) next refl in
     let count : b - a ≡ length (choices_at v s) =
-    sym (piece_len m.rows a b next.within) ∙ ap length here ∙ sym (length-map (rows_of m s) choice_of) ∙ ap length (sym (choices_are m v s ok is)) in
+    sym (piece_len m.choices.choices a b next.within) ∙ ap length here ∙ ap length (sym (choices_are m v s ok is)) in
     record {
       next = next;
       some = omega (arith, ok.choice s next.place, next.first, next.second);
       count = count;
-      row = λ c k.
-          ap (λ (x : List Choice). (get_or x c no_choice).row) (choices_are m v s ok is) ∙ row-choice_of (rows_of m s) c ∙ ap (λ (x : List (List Entry)). get_or x c []) (sym here)
-          ∙ get_or-take (b - a) (drop a m.rows) c [] (omega (arith, count)) ∙ get_or-drop a m.rows c [];
+      choice = λ c k.
+          ap (λ (x : List Choice). get_or x c no_choice) (choices_are m v s ok is ∙ sym here)
+          ∙ get_or-take (b - a) (drop a m.choices.choices) c no_choice (omega (arith, count)) ∙ get_or-drop a m.choices.choices c no_choice;
     }
 
 -- the same from the first place alone, and from the state alone
@@ -96,7 +94,7 @@ choices_of_state m v s ok is h =
     let n = states_are m v ok is in
     choices_after m v s (get_or m.starts.items s 0) ok is h (get_or_default m.starts.items s 0 (get_or m.starts.items s 0) (omega (arith, n)))
 
-pub is_mdp : (m : Inside) (v : Mdp) → IsFlat m → All IsDistribution m.rows → mdp_in m ≡ v → IsMdp v
+pub is_mdp : (m : Inside) (v : Mdp) → IsFlat m → All (IsChoice (length m.choices.names)) m.choices.choices → mdp_in m ≡ v → IsMdp v
 is_mdp m v ok all is =
     let n = states_are m v ok is in
     record {
@@ -106,10 +104,10 @@ is_mdp m v ok all is =
       row = λ s c h k.
           (let f = choices_of_state m v s ok is h in
           let a = get_or m.starts.items s 0 in
-          let inside : a + c < length m.rows = omega (arith, f.next.within, f.count) in
+          let inside : a + c < length m.choices.choices = omega (arith, f.next.within, f.count) in
           record {
-            distribution = rw (f.row c k) (all (a + c) [] inside);
-            in_range = rw (f.row c k, n) (ok.in_range (a + c) [] inside);
+            distribution = subst (λ (x : Choice). IsDistribution x.row) (sym (f.choice c k)) (let h = all (a + c) no_choice inside in h.distribution);
+            in_range = subst (λ (x : Choice). All (λ y. y.target < states_of v) x.row) (sym (f.choice c k)) (rw n (ok.in_range (a + c) no_choice inside));
           });
     }
 
@@ -122,6 +120,25 @@ targets_of (t ∷ ts) (p ∷ ps) n e h = λ k d l. elim k as (λ k. k < suc (len
 ] l
 
 -- a lent row's targets are states
-pub targets_in_range : (m : Inside) (v : Mdp) (i : ℕ) (ts : List ℕ) (ps : List ℚ) → IsFlat m → mdp_in m ≡ v → i < length m.rows → length ts ≡ length ps → entries ts ps ≡ get_or m.rows i [] → All (λ t. t < states_of v) ts
+pub targets_in_range : (m : Inside) (v : Mdp) (i : ℕ) (ts : List ℕ) (ps : List ℚ) → IsFlat m → mdp_in m ≡ v → i < length m.choices.choices → length ts ≡ length ps → entries ts ps ≡ (get_or m.choices.choices i no_choice).row → All (λ t. t < states_of v) ts
 targets_in_range m v i ts ps ok is h same e =
-    targets_of ts ps (states_of v) same (rw (e, states_are m v ok is) (ok.in_range i [] h))
+    targets_of ts ps (states_of v) same (rw (e, states_are m v ok is) (ok.in_range i no_choice h))
+
+pub names_are : (m : Inside) (v : Mdp) → mdp_in m ≡ v → m.choices.names ≡ v.names
+unfolding mdp_in
+names_are m v is = ap (λ (x : Mdp). x.names) is
+
+-- how many choices there are
+pub choices-total : (choices : List (List Choice)) (labels : List (List ℕ)) → length choices ≡ length labels → sum_by (λ (x : State). length x.choices) (states_from choices labels) ≡ sum_by length choices
+choices-total [] labels e = refl
+choices-total (r ∷ choices) [] e = absurd (omega arith)
+choices-total (r ∷ choices) (l ∷ labels) e =
+    sum_by-cons (λ (x : State). length x.choices) (record { labels = l; choices = r }) (states_from choices labels)
+    ∙ ap (λ (n : ℕ). length r + n) (choices-total choices labels (omega arith))
+    ∙ sym (sum_by-cons length r choices)
+
+pub all_choices_are : (m : Inside) (v : Mdp) → IsFlat m → mdp_in m ≡ v → length m.choices.choices ≡ sum_by (λ (x : State). length x.choices) v.states
+unfolding mdp_in
+all_choices_are m v ok is =
+    sym (choices-total (pieces m.choices.choices m.starts.items) m.labels.of_state (as_many m ok) ∙ pieces-sum m.choices.choices m.starts.items ok.places)
+    ∙ ap (λ (x : Mdp). sum_by (λ (y : State). length y.choices) x.states) is

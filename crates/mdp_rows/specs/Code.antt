@@ -3,6 +3,7 @@ use Rattle.std.specs.Prelude.{ℕ, List, refl}
 use Rattle.std.specs.Coded.{Coded, code_by, coded×, coded_ℕ, coded_list}
 use Rattle.mdp_math.specs.Rational.{ℚ}
 use Rattle.mdp_num.specs.Code.{rational_code}
+use Rattle.mdp_rows.specs.ChoiceTable.{ChoiceTable}
 use Rattle.mdp_rows.specs.Labelling.{Labelling}
 use Rattle.mdp_spec.specs.Mdp.{Entry, Choice, State, Mdp}
 
@@ -30,3 +31,8 @@ abbrev pub labels_code : Coded Labelling
 labels_code =
     code_by (List (List ℕ) × List (List ℕ)) (coded× names_code names_code)
     (λ a. (a.names, a.of_state)) (λ p. record { names = p.0; of_state = p.1 }) (λ _. refl)
+
+abbrev pub table_code : Coded ChoiceTable
+table_code =
+    code_by (List (List ℕ) × List Choice) (coded× names_code (coded_list choice_code))
+    (λ t. (t.names, t.choices)) (λ p. record { names = p.0; choices = p.1 }) (λ _. refl)

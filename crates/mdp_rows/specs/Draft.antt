@@ -1,30 +1,34 @@
 -- A model while it is made, and what each call of a builder makes of it.
-use Rattle.std.specs.Prelude.{false, ◌≡◌, ◌⊎◌, ℕ, ◌+◌, ◌^◌, Bool, not, ◌||◌, ◌&&◌, List, [], ◌∷◌, ◌++◌, length, sum_by, filter, unsigned_abs, pos, Option, Some, None, Result, Ok, Err, OnOk, IfErr, ◌==◌, nat_lt, nat_le, if◌then◌else◌}
+use Rattle.std.specs.Prelude.{false, ◌≡◌, ◌⊎◌, ℕ, ◌+◌, ◌^◌, Bool, not, ◌||◌, ◌&&◌, List, [], ◌∷◌, ◌++◌, length, sum_by, filter, map, unsigned_abs, pos, Option, Some, None, Result, Ok, Err, OnOk, IfErr, ◌==◌, nat_lt, nat_le, if◌then◌else◌}
 use Rattle.std.specs.List.{list_any, position_or_len}
 use Rattle.std.specs.Option.{is_some}
 use Rattle.std.specs.Result.{MatchResult}
 use Rattle.std.specs.Str.{bytes_eq}
-use Rattle.mdp_math.specs.Rational.{ℚ, of_int, le_ℚ}
+use Rattle.mdp_math.specs.Rational.{ℚ, of_int, ratio, le_ℚ, ◌*ℚ◌, inv_ℚ}
+use Rattle.mdp_math.specs.Written.{written_add}
 use Rattle.mdp_math.specs.Sum.{sum_of}
 use Rattle.mdp_spec.specs.Mdp.{Entry, Choice, State, Mdp}
-use Rattle.mdp_spec.specs.Unit.{lcm}
-use Rattle.mdp_rows.specs.FlatModel.{choice_of}
+use Rattle.mdp_spec.specs.Unit.{row_den}
 use Rattle.mdp_num.specs.Numeral.{limit}
 use Rattle.mdp_rows.specs.declared.error.RowsError.{RowsError}
-use Rattle.mdp_rows.specs.declared.error.RowsError.TheVariants.{RowSum, RowWide, Twice, NoChoice, TooMany, Target, Count, Memory}
+use Rattle.mdp_rows.specs.declared.error.RowsError.TheVariants.{RowSum, RowWide, Twice, NoChoice, TooMany, Target, Large, Count, Memory}
+use Rattle.mdp_rows.specs.declared.rule.RowRule.{RowRule}
+use Rattle.mdp_rows.specs.declared.rule.RowRule.TheVariants.{Exact, Scaled}
+
+-- a refusal ends the call
+infixl 10 ◌>>=◌
+abbrev pub ◌>>=◌ : {A B : Type 0} → Result A RowsError → (A → Result B RowsError) → Result B RowsError
+Ok x >>= f = f x
+Err e >>= f = Err e
 
 -- ---- rows
 
--- the least common denominator of the values of a row, and of d
-abbrev pub den_with : ℕ → List Entry → ℕ
-den_with d [] = d
-den_with d (x ∷ row) = den_with (lcm d x.prob.den) row
-
-abbrev pub row_den : List Entry → ℕ
-row_den row = den_with 1 row
-
 abbrev pub is_one : ℚ → Bool
 is_one x = le_ℚ x (of_int (pos 1)) && le_ℚ (of_int (pos 1)) x
+
+-- it differs from 1 by at most 1/1000
+abbrev pub is_near_one : ℚ → Bool
+is_near_one x = le_ℚ (ratio (pos 999) 1000) x && le_ℚ x (ratio (pos 1001) 1000)
 
 abbrev pub is_zero : ℚ → Bool
 is_zero x = unsigned_abs x.num == 0
@@ -33,11 +37,25 @@ is_zero x = unsigned_abs x.num == 0
 abbrev pub kept : List Entry → List Entry
 kept row = filter (λ x. not (is_zero x.prob)) row
 
+abbrev pub row_total : List Entry → ℚ
+row_total row = sum_of (λ x. x.prob) row
+
+-- each value divided by the sum of the row
+abbrev pub scaled_row : List Entry → List Entry
+scaled_row row = map (λ x. record { target = x.target; prob = x.prob *ℚ inv_ℚ (row_total row) }) row
+
+-- the row, where its least common denominator is within the limit
+abbrev pub within_limit : ℕ → ℕ → List Entry → Result (List Entry) RowsError
+within_limit s c row = if nat_lt limit (row_den row) then Err (RowWide s c) else Ok row
+
+-- the values that a row of the values given has: under `Exact` they add to 1; under `Scaled` they add to 1 but for 1/1000, and each is divided by their sum
+abbrev pub ruled_row : RowRule → ℕ → ℕ → List Entry → Result (List Entry) RowsError
+ruled_row Exact s c row = if is_one (row_total row) then Ok row else Err (RowSum s c)
+ruled_row Scaled s c row = if is_near_one (row_total row) then within_limit s c (scaled_row row) else Err (RowSum s c)
+
 -- what a row of the values given closes as
-abbrev pub closed_row : ℕ → ℕ → List Entry → Result (List Entry) RowsError
-closed_row s c row =
-    if nat_lt limit (row_den row) then Err (RowWide s c)
-    else (if is_one (sum_of (λ x. x.prob) row) then Ok (kept row) else Err (RowSum s c))
+abbrev pub closed_row : RowRule → ℕ → ℕ → List Entry → Result (List Entry) RowsError
+closed_row rule s c row = within_limit s c row >>= λ given. ruled_row rule s c given >>= λ values. Ok (kept values)
 
 -- with one entry more, targets ascending
 abbrev pub with_entry : Entry → List Entry → List Entry
@@ -46,32 +64,35 @@ with_entry x (y ∷ row) = if nat_lt x.target y.target then x ∷ y ∷ row else
 
 -- ---- the draft
 
--- the state that is open: its labels' places ascending, how often it was given one, its closed choices, and the open row with
--- all values given, targets ascending
+-- the choice that is open: its rewards, those of the state added, and its row with all values given, targets ascending
+pub record OpenChoice : Type 0 where
+  pub rewards : List ℚ
+  pub row : List Entry
+
+-- the state that is open: its own rewards, its labels' places ascending, how often it was given one, its closed choices, and the choice
+-- that is open
 pub record OpenState : Type 0 where
+  pub rewards : List ℚ
   pub labels : List ℕ
   pub label_calls : ℕ
   pub choices : List Choice
-  pub row : Option (List Entry)
+  pub choice : Option OpenChoice
 
 pub record Draft : Type 0 where
   pub announced : ℕ
+  pub rule : RowRule
+  pub names : List (List ℕ)
   pub labels : List (List ℕ)
   pub closed : List State
   pub state : Option OpenState
   pub entries : ℕ
   pub refused : Option RowsError
 
-abbrev pub new_state : OpenState
-new_state = record { labels = []; label_calls = 0; choices = []; row = None }
+abbrev pub new_state : List ℚ → OpenState
+new_state rewards = record { rewards = rewards; labels = []; label_calls = 0; choices = []; choice = None }
 
-abbrev pub new_draft : ℕ → Draft
-new_draft states = record { announced = states; labels = []; closed = []; state = None; entries = 0; refused = None }
-
-infixl 10 ◌>>=◌
-abbrev pub ◌>>=◌ : {A B : Type 0} → Result A RowsError → (A → Result B RowsError) → Result B RowsError
-Ok x >>= f = f x
-Err e >>= f = Err e
+abbrev pub new_draft : ℕ → RowRule → List (List ℕ) → Draft
+new_draft states rule names = record { announced = states; rule = rule; names = names; labels = []; closed = []; state = None; entries = 0; refused = None }
 
 -- how many choices a state that is open has, its open row not counted
 abbrev pub choices_of : Option OpenState → List Choice
@@ -81,19 +102,19 @@ choices_of (Some o) = o.choices
 abbrev pub closed_choices : Draft → ℕ
 closed_choices d = sum_by (λ x. length x.choices) d.closed
 
--- the open row of the open state is closed, where there is one
-abbrev pub with_row_closed : Draft → OpenState → Option (List Entry) → Result Draft RowsError
-with_row_closed d o None = Ok d
-with_row_closed d o (Some row) =
-    closed_row (length d.closed) (length o.choices) row
-    >>= λ kept. Ok (record d { state = Some (record o { choices = o.choices ++ choice_of kept ∷ []; row = None }) })
+-- the open choice of the open state is closed, where there is one
+abbrev pub with_choice_closed : Draft → OpenState → Option OpenChoice → Result Draft RowsError
+with_choice_closed d o None = Ok d
+with_choice_closed d o (Some c) =
+    closed_row d.rule (length d.closed) (length o.choices) c.row
+    >>= λ row. Ok (record d { state = Some (record o { choices = o.choices ++ record { row = row; rewards = c.rewards } ∷ []; choice = None }) })
 
-abbrev pub row_closed_in : Draft → Option OpenState → Result Draft RowsError
-row_closed_in d None = Ok d
-row_closed_in d (Some o) = with_row_closed d o o.row
+abbrev pub choice_closed_in : Draft → Option OpenState → Result Draft RowsError
+choice_closed_in d None = Ok d
+choice_closed_in d (Some o) = with_choice_closed d o o.choice
 
-abbrev pub row_closed : Draft → Result Draft RowsError
-row_closed d = row_closed_in d d.state
+abbrev pub choice_closed : Draft → Result Draft RowsError
+choice_closed d = choice_closed_in d d.state
 
 -- the open state is closed, where there is one
 abbrev pub state_closed_in : Draft → Option OpenState → Result Draft RowsError
@@ -106,38 +127,56 @@ abbrev pub state_closed : Draft → Result Draft RowsError
 state_closed d = state_closed_in d d.state
 
 abbrev pub all_closed : Draft → Result Draft RowsError
-all_closed d = row_closed d >>= state_closed
+all_closed d = choice_closed d >>= state_closed
 
 -- ---- the calls, of a draft that wasn't refused. Where nothing is open that a call needs, the draft stays: such calls don't come
 
-abbrev pub state_opened : Draft → Result Draft RowsError
-state_opened d = if length d.closed == d.announced then Err Count else Ok (record d { state = Some new_state })
+abbrev pub state_opened : Draft → List ℚ → Result Draft RowsError
+state_opened d rewards = if length d.closed == d.announced then Err Count else Ok (record d { state = Some (new_state rewards) })
 
-abbrev pub after_state : Draft → Result Draft RowsError
-after_state d = all_closed d >>= state_opened
+abbrev pub after_state : Draft → List ℚ → Result Draft RowsError
+after_state d rewards = all_closed d >>= λ closed. state_opened closed rewards
 
-abbrev pub choice_opened_in : Draft → Option OpenState → Result Draft RowsError
-choice_opened_in d None = Ok d
-choice_opened_in d (Some o) =
-    if nat_lt (2 ^ 22) (closed_choices d + length o.choices + 1) then Err TooMany else Ok (record d { state = Some (record o { row = Some [] }) })
+-- a sum of rewards: no written term past width, and terms of at most 10^36
+abbrev pub is_within_limit : ℚ → Bool
+is_within_limit x = nat_le (unsigned_abs x.num) limit && nat_le x.den limit
 
-abbrev pub choice_opened : Draft → Result Draft RowsError
-choice_opened d = choice_opened_in d d.state
+abbrev pub kept_sum : Option ℚ → Result ℚ RowsError
+kept_sum None = Err Large
+kept_sum (Some x) = if is_within_limit x then Ok x else Err Large
 
-abbrev pub after_choice : Draft → Result Draft RowsError
-after_choice d = row_closed d >>= choice_opened
+-- the rewards of a state and of a choice, added name by name
+abbrev pub summed_rewards : List ℚ → List ℚ → Result (List ℚ) RowsError
+summed_rewards [] ys = Ok []
+summed_rewards (x ∷ xs) [] = Ok []
+summed_rewards (x ∷ xs) (y ∷ ys) = kept_sum (written_add x y) >>= λ sum. summed_rewards xs ys >>= λ sums. Ok (sum ∷ sums)
 
-abbrev pub with_row_entry : Draft → ℕ → ℚ → OpenState → Option (List Entry) → Result Draft RowsError
-with_row_entry d target value o None = Ok d
-with_row_entry d target value o (Some row) =
+abbrev pub choice_opened_in : Draft → List ℚ → Option OpenState → Result Draft RowsError
+choice_opened_in d rewards None = Ok d
+choice_opened_in d rewards (Some o) =
+    if nat_lt (2 ^ 22) (closed_choices d + length o.choices + 1) then Err TooMany
+    else (summed_rewards o.rewards rewards >>= λ sums. Ok (record d { state = Some (record o { choice = Some (record { rewards = sums; row = [] }) }) }))
+
+abbrev pub choice_opened : Draft → List ℚ → Result Draft RowsError
+choice_opened d rewards = choice_opened_in d rewards d.state
+
+abbrev pub after_choice : Draft → List ℚ → Result Draft RowsError
+after_choice d rewards = choice_closed d >>= λ closed. choice_opened closed rewards
+
+abbrev pub has_target : List Entry → ℕ → Bool
+has_target row target = list_any (λ x. x.target == target) row
+
+abbrev pub with_choice_entry : Draft → ℕ → ℚ → OpenState → Option OpenChoice → Result Draft RowsError
+with_choice_entry d target value o None = Ok d
+with_choice_entry d target value o (Some c) =
     if nat_le d.announced target then Err Target
-    else (if list_any (λ x. x.target == target) row then Err Twice
+    else (if has_target c.row target then Err Twice
     else (if nat_le (2 ^ 24) d.entries then Err TooMany
-    else Ok (record d { entries = d.entries + 1; state = Some (record o { row = Some (with_entry (record { target = target; prob = value }) row) }) })))
+    else Ok (record d { entries = d.entries + 1; state = Some (record o { choice = Some (record c { row = with_entry (record { target = target; prob = value }) c.row }) }) })))
 
 abbrev pub entry_in : Draft → ℕ → ℚ → Option OpenState → Result Draft RowsError
 entry_in d target value None = Ok d
-entry_in d target value (Some o) = with_row_entry d target value o o.row
+entry_in d target value (Some o) = with_choice_entry d target value o o.choice
 
 abbrev pub after_entry : Draft → ℕ → ℚ → Result Draft RowsError
 after_entry d target value = entry_in d target value d.state
@@ -160,15 +199,15 @@ abbrev pub after_label : Draft → List ℕ → Result Draft RowsError
 after_label d name = label_in d name d.state
 
 abbrev pub finished : Draft → Result Mdp RowsError
-finished d = if length d.closed == d.announced then Ok (record { names = (45 ∷ []) ∷ []; labels = d.labels; states = d.closed }) else Err Count
+finished d = if length d.closed == d.announced then Ok (record { names = d.names; labels = d.labels; states = d.closed }) else Err Count
 
 abbrev pub after_finish : Draft → Result Mdp RowsError
 after_finish d = all_closed d >>= finished
 
--- no row is open
-abbrev pub IsRowClosed : Option OpenState → Type 0
-IsRowClosed None = Unit {0}
-IsRowClosed (Some o) = o.row ≡ None
+-- no choice is open
+abbrev pub IsChoiceClosed : Option OpenState → Type 0
+IsChoiceClosed None = Unit {0}
+IsChoiceClosed (Some o) = o.choice ≡ None
 
 -- what the calls need, of a builder that hasn't refused
 abbrev pub IsUnrefused : Draft → Type 0
@@ -177,8 +216,16 @@ IsUnrefused d = d.refused ≡ None
 abbrev pub has_state : Draft → Bool
 has_state d = is_some d.state
 
-abbrev pub has_row : Draft → Bool
-has_row d = elim d.state [ None ↦ false | Some o ↦ is_some o.row ]
+abbrev pub has_choice : Draft → Bool
+has_choice d = elim d.state [ None ↦ false | Some o ↦ is_some o.choice ]
+
+-- how many states were opened
+abbrev pub states_opened : Draft → ℕ
+states_opened d = elim d.state [ None ↦ length d.closed | Some o ↦ length d.closed + 1 ]
+
+-- the open row has an entry to this target, of value 0 or not
+abbrev pub has_open_target : Draft → ℕ → Bool
+has_open_target d target = elim d.state [ None ↦ false | Some o ↦ elim o.choice [ None ↦ false | Some c ↦ has_target c.row target ] ]
 
 -- ---- what a call answers
 

@@ -1,5 +1,11 @@
 ghost use Rattle.std.specs.Prelude.{◌≡◌, ◌⊎◌, ◌<◌, ◌≤◌, ◌^◌, None, Some, IsTrue, IsSome, IfOk, IfErr, OnOk, MatchResult};
-ghost use Rattle.mdp_rows.specs.Draft.{new_draft, row_closed, state_closed, all_closed, state_opened, choice_opened, after_state, after_choice, after_entry, after_finish, finished, due_after, Follows, IsCall, IsUnrefused, has_state, has_row};
+ghost use Rattle.std.specs.Prelude.{length, map};
+ghost use Rattle.std.specs.List.{All};
+ghost use Rattle.mdp_math.specs.Rational.{of_int, ◌≤ℚ◌};
+ghost use Rattle.std.specs.Prelude.{pos};
+ghost use Rattle.mdp_rows.specs.Draft.{new_draft, choice_closed, state_closed, all_closed, state_opened, choice_opened, after_state, after_choice, after_entry, after_finish, finished, due_after, Follows, IsCall, IsUnrefused, has_state, has_choice, has_open_target, states_opened};
+ghost use Rattle.mdp_rows.specs.Head.{IsSameHead};
+ghost use Rattle.mdp_rows.specs.Name.{AreRewardNames};
 ghost use Rattle.mdp_num.specs.Meaning.{IsWithinLimit};
 ghost use Rattle.std.specs.Prelude.{◌==◌};
 ghost use Rattle.std.specs.List.{list_any, position, position_or_len};
@@ -9,13 +15,15 @@ ghost use Rattle.mdp_rows.specs.Draft.{after_label, with_place};
 ghost use Rattle.mdp_spec.specs.Row.{ascends_from};
 ghost use Rattle.mdp_rows.specs.Given.{row_of};
 ghost use Rattle.mdp_rows.specs.Place.{IsPlace};
-ghost use Rattle.mdp_rows.specs.Draft.{IsRowClosed};
+ghost use Rattle.mdp_rows.specs.Draft.{IsChoiceClosed};
 
-use crate::closing::check_row;
+use crate::choices::Choices;
+use crate::closing::close_row;
 use crate::error::RowsError;
 use crate::given::Given;
 use crate::labels::Labels;
-use crate::rows::Rows;
+use crate::rewards::add_rewards;
+use crate::rule::RowRule;
 use mdp_num::{Frac, Memory};
 use std::alloc::{AllocError, Global};
 use std::marker::Model;
@@ -44,15 +52,20 @@ enum Stage {
 #[derive(Drop)]
 pub struct Builder {
     announced: u32,
-    rows: Rows,
-    /// Where each closed state's rows start, and where the next one's do.
+    rule: RowRule,
+    choices: Choices,
+    /// Where each closed state's choices start, and where the next one's do.
     starts: Vec<u32>,
-    first_row: u32,
+    first_choice: u32,
     labels: Labels,
     stage: Stage,
+    /// The open state's own rewards.
+    rewards: Vec<Frac>,
     /// The open state's labels, ascending.
     places: Vec<u32>,
     label_calls: u32,
+    /// The open choice's rewards, those of its state added.
+    sums: Vec<Frac>,
     /// The open row, targets ascending.
     row: Vec<Given>,
     entries: u32,
@@ -68,7 +81,7 @@ fn place_of_target(row: &[Given], target: u32) -> usize
 }
 
 /// Whether the target stands at its place.
-fn has_target(row: &[Given], place: usize, target: u32) -> bool
+fn stands_at(row: &[Given], place: usize, target: u32) -> bool
     requires { IsPlace (row_of row.now) target place }
     ensures { result ≡ list_any (λ x. x.target == target) (row_of row.now) }
 {
@@ -121,16 +134,16 @@ impl Model for Builder {
 
 impl Builder {
     /// Closes the open row, where there is one.
-    fn close_row(&mut self) -> Result<(), RowsError>
-        ensures follows { Follows (row_closed self.old) result self.new }
+    fn end_row(&mut self) -> Result<(), RowsError>
+        ensures follows { Follows (choice_closed self.old) result self.new }
     {
         let Stage::InRow = self.stage else {
             return Ok(());
         };
         let state = self.labels.states();
-        let choice = self.rows.len() - self.first_row;
-        check_row(&self.row, state, choice)?;
-        if self.rows.push_row(&self.row).is_err() {
+        let choice = self.choices.len() - self.first_choice;
+        close_row(&mut self.row, self.rule, state, choice)?;
+        if self.choices.push(&self.row, &self.sums).is_err() {
             return Err(RowsError::Memory);
         }
         self.row.clear();
@@ -139,15 +152,15 @@ impl Builder {
     }
 
     /// Closes the open state, where there is one.
-    fn close_state(&mut self) -> Result<(), RowsError>
-        requires { IsRowClosed self.old.state }
+    fn end_state(&mut self) -> Result<(), RowsError>
+        requires { IsChoiceClosed self.old.state }
         ensures follows { Follows (state_closed self.old) result self.new }
     {
         let Stage::InState = self.stage else {
             return Ok(());
         };
-        let end = self.rows.len();
-        if end == self.first_row {
+        let end = self.choices.len();
+        if end == self.first_choice {
             let state = self.labels.states();
             return Err(RowsError::NoChoice { state });
         }
@@ -157,18 +170,23 @@ impl Builder {
         if self.starts.push(end).is_err() {
             return Err(RowsError::Memory);
         }
-        self.first_row = end;
+        self.first_choice = end;
         self.stage = Stage::Between;
         Ok(())
     }
 
     /// Opens the next state.
-    fn open_state(&mut self) -> Result<(), RowsError>
-        requires { self.old.state ≡ None }
-        ensures follows { Follows (state_opened self.old) result self.new }
+    fn open_state(&mut self, rewards: &[Frac]) -> Result<(), RowsError>
+        requires closed { self.old.state ≡ None }
+        requires one_each { length rewards.now ≡ length self.old.names }
+        ensures follows { Follows (state_opened self.old rewards.now) result self.new }
     {
         if self.labels.states() == self.announced {
             return Err(RowsError::Count);
+        }
+        self.rewards.clear();
+        if self.rewards.extend_from_slice(rewards).is_err() {
+            return Err(RowsError::Memory);
         }
         self.places.clear();
         self.label_calls = 0;
@@ -177,16 +195,18 @@ impl Builder {
     }
 
     /// Opens the next choice of the open state.
-    fn open_choice(&mut self) -> Result<(), RowsError>
-        requires { IsRowClosed self.old.state }
-        ensures follows { Follows (choice_opened self.old) result self.new }
+    fn open_choice(&mut self, rewards: &[Frac]) -> Result<(), RowsError>
+        requires closed { IsChoiceClosed self.old.state }
+        requires one_each { length rewards.now ≡ length self.old.names }
+        ensures follows { Follows (choice_opened self.old rewards.now) result self.new }
     {
         let Stage::InState = self.stage else {
             return Ok(());
         };
-        if self.rows.len() >= MAX_CHOICES {
+        if self.choices.len() >= MAX_CHOICES {
             return Err(RowsError::TooMany);
         }
+        add_rewards(&mut self.sums, &self.rewards, rewards)?;
         self.stage = Stage::InRow;
         Ok(())
     }
@@ -203,7 +223,7 @@ impl Builder {
             return Err(RowsError::Target);
         }
         let place = place_of_target(&self.row, target);
-        if has_target(&self.row, place, target) {
+        if stands_at(&self.row, place, target) {
             return Err(RowsError::Twice);
         }
         if self.entries >= MAX_ENTRIES {
@@ -228,19 +248,28 @@ impl Builder {
         outcome
     }
 
-    fn try_state(&mut self) -> Result<(), RowsError>
-        ensures follows { Follows (after_state self.old) result self.new }
+    fn try_close_state(&mut self) -> Result<(), RowsError>
+        ensures follows { Follows (all_closed self.old) result self.new }
     {
-        self.close_row()?;
-        self.close_state()?;
-        self.open_state()
+        self.end_row()?;
+        self.end_state()
     }
 
-    fn try_choice(&mut self) -> Result<(), RowsError>
-        ensures follows { Follows (after_choice self.old) result self.new }
+    fn try_state(&mut self, rewards: &[Frac]) -> Result<(), RowsError>
+        requires { length rewards.now ≡ length self.old.names }
+        ensures follows { Follows (after_state self.old rewards.now) result self.new }
     {
-        self.close_row()?;
-        self.open_choice()
+        self.end_row()?;
+        self.end_state()?;
+        self.open_state(rewards)
+    }
+
+    fn try_choice(&mut self, rewards: &[Frac]) -> Result<(), RowsError>
+        requires { length rewards.now ≡ length self.old.names }
+        ensures follows { Follows (after_choice self.old rewards.now) result self.new }
+    {
+        self.end_row()?;
+        self.open_choice(rewards)
     }
 
     fn try_label(&mut self, name: &[u8]) -> Result<(), RowsError>
@@ -265,20 +294,29 @@ impl Builder {
         Ok(())
     }
 
-    fn empty(alloc: Global, states: u32) -> Result<Builder, AllocError>
+    fn empty(
+        alloc: Global,
+        states: u32,
+        rule: RowRule,
+        names: Vec<Vec<u8>>,
+    ) -> Result<Builder, AllocError>
         requires some { 1 ≤ states }
         requires few { states ≤ 2 ^ 20 }
-        ensures { IfOk result (λ builder. builder ≡ new_draft states) }
+        requires names { AreRewardNames (map (λ n. n.items) names.items) }
+        ensures { IfOk result (λ builder. builder ≡ new_draft states rule (map (λ n. n.items) names.items)) }
     {
         Ok(Builder {
             announced: states,
-            rows: Rows::new(alloc)?,
+            rule,
+            choices: Choices::new(alloc, names)?,
             starts: vec![in alloc; 0]?,
-            first_row: 0,
+            first_choice: 0,
             labels: Labels::new(alloc)?,
             stage: Stage::Between,
+            rewards: Vec::new(alloc),
             places: Vec::new(alloc),
             label_calls: 0,
+            sums: Vec::new(alloc),
             row: Vec::new(alloc),
             entries: 0,
             refused: None,
@@ -295,27 +333,37 @@ impl Builder {
         }
         let Builder {
             announced: _,
-            rows,
+            rule: _,
+            choices,
             starts,
-            first_row: _,
+            first_choice: _,
             labels,
             stage: _,
+            rewards: _,
             places: _,
             label_calls: _,
+            sums: _,
             row: _,
             entries: _,
             refused: _,
         } = self;
-        Ok(crate::model::Model::from_parts(rows, starts, labels))
+        Ok(crate::model::Model::from_parts(choices, starts, labels))
     }
 
-    /// A builder of a model of so many states, 1 to 2^20.
-    pub fn new(alloc: Global, states: u32) -> Result<Builder, Memory>
+    /// A builder of a model of so many states, 1 to 2^20, with these reward names: 1 to 16 different ones of 1 to 255 bytes without blank,
+    /// tab, CR, `"` and LF, the first of which begins neither with `@` nor with `//`.
+    pub fn new(
+        alloc: Global,
+        states: u32,
+        rule: RowRule,
+        names: Vec<Vec<u8>>,
+    ) -> Result<Builder, Memory>
         requires some { 1 ≤ states }
         requires few { states ≤ 2 ^ 20 }
-        ensures { IfOk result (λ builder. builder ≡ new_draft states) }
+        requires names { AreRewardNames (map (λ n. n.items) names.items) }
+        ensures { IfOk result (λ builder. builder ≡ new_draft states rule (map (λ n. n.items) names.items)) }
     {
-        Ok(Builder::empty(alloc, states)?)
+        Ok(Builder::empty(alloc, states, rule, names)?)
     }
 
     /// Whether a state is open, so that a label or a choice may come.
@@ -331,7 +379,7 @@ impl Builder {
 
     /// Whether a choice is open, so that an entry may come.
     pub fn is_choice_open(&self) -> bool
-        ensures { result ≡ has_row self.now }
+        ensures { result ≡ has_choice self.now }
     {
         match self.stage {
             Stage::Between => false,
@@ -340,15 +388,39 @@ impl Builder {
         }
     }
 
-    /// Opens the next state, and closes the open row and the open state before.
-    pub fn state(&mut self) -> Result<(), RowsError>
-        ensures call { IsCall self.old self.new (after_state self.old) result }
+    /// How many states were opened.
+    pub fn opened(&self) -> u32
+        ensures { result ≡ states_opened self.now }
+    {
+        match self.stage {
+            Stage::Between => self.labels.states(),
+            Stage::InState => self.labels.states() + 1,
+            Stage::InRow => self.labels.states() + 1,
+        }
+    }
+
+    /// Whether the open row has an entry to the target, of value 0 or not. `false` where no choice is open.
+    pub fn has_target(&self, target: u32) -> bool
+        ensures { result ≡ has_open_target self.now target }
+    {
+        let Stage::InRow = self.stage else {
+            return false;
+        };
+        stands_at(&self.row, place_of_target(&self.row, target), target)
+    }
+
+    /// Opens the next state, with its own reward for each name, at least 0, and closes the open row and the open state before.
+    pub fn state(&mut self, rewards: &[Frac]) -> Result<(), RowsError>
+        requires one_each { IsUnrefused self.old → length rewards.now ≡ length self.old.names }
+        requires at_least_0 { All (λ x. of_int (pos 0) ≤ℚ x) rewards.now }
+        ensures call { IsCall self.old self.new (after_state self.old rewards.now) result }
+        ensures same { OnOk result (IsSameHead self.old self.new) }
         ensures state_open { OnOk result (IsTrue (has_state self.new)) }
     {
         if let Some(refusal) = self.refused {
             return Err(refusal);
         }
-        let outcome = self.try_state();
+        let outcome = self.try_state(rewards);
         self.keep_refusal(outcome)
     }
 
@@ -357,6 +429,7 @@ impl Builder {
         requires open { IsUnrefused self.old → IsTrue (has_state self.old) }
         requires name { IsName name.now }
         ensures call { IsCall self.old self.new (after_label self.old name.now) result }
+        ensures same { OnOk result (IsSameHead self.old self.new) }
         ensures state_open { OnOk result (IsTrue (has_state self.new)) }
     {
         if let Some(refusal) = self.refused {
@@ -366,32 +439,62 @@ impl Builder {
         self.keep_refusal(outcome)
     }
 
-    /// Opens the next choice of the open state, and closes the open row before.
-    pub fn choice(&mut self) -> Result<(), RowsError>
+    /// Opens the next choice of the open state, with its own reward for each name, at least 0, and closes the open row before.
+    pub fn choice(&mut self, rewards: &[Frac]) -> Result<(), RowsError>
         requires open { IsUnrefused self.old → IsTrue (has_state self.old) }
-        ensures call { IsCall self.old self.new (after_choice self.old) result }
+        requires one_each { IsUnrefused self.old → length rewards.now ≡ length self.old.names }
+        requires at_least_0 { All (λ x. of_int (pos 0) ≤ℚ x) rewards.now }
+        ensures call { IsCall self.old self.new (after_choice self.old rewards.now) result }
+        ensures same { OnOk result (IsSameHead self.old self.new) }
         ensures state_open { OnOk result (IsTrue (has_state self.new)) }
-        ensures row_open { OnOk result (IsTrue (has_row self.new)) }
+        ensures choice_open { OnOk result (IsTrue (has_choice self.new)) }
     {
         if let Some(refusal) = self.refused {
             return Err(refusal);
         }
-        let outcome = self.try_choice();
+        let outcome = self.try_choice(rewards);
         self.keep_refusal(outcome)
     }
 
     /// Adds an entry to the open row. An entry of value 0 counts, and goes when the row closes.
     pub fn entry(&mut self, target: u32, value: Frac) -> Result<(), RowsError>
-        requires open { IsUnrefused self.old → IsTrue (has_row self.old) }
+        requires open { IsUnrefused self.old → IsTrue (has_choice self.old) }
         requires term { IsWithinLimit value }
         ensures call { IsCall self.old self.new (after_entry self.old target value) result }
+        ensures same { OnOk result (IsSameHead self.old self.new) }
         ensures state_open { OnOk result (IsTrue (has_state self.new)) }
-        ensures row_open { OnOk result (IsTrue (has_row self.new)) }
+        ensures choice_open { OnOk result (IsTrue (has_choice self.new)) }
     {
         if let Some(refusal) = self.refused {
             return Err(refusal);
         }
         let outcome = self.add_entry(target, value);
+        self.keep_refusal(outcome)
+    }
+
+    /// Closes the open choice, where there is one, before a call that would.
+    pub fn close_choice(&mut self) -> Result<(), RowsError>
+        ensures call { IsCall self.old self.new (choice_closed self.old) result }
+        ensures same { OnOk result (IsSameHead self.old self.new) }
+        ensures closed { OnOk result (IsChoiceClosed self.new.state) }
+    {
+        if let Some(refusal) = self.refused {
+            return Err(refusal);
+        }
+        let outcome = self.end_row();
+        self.keep_refusal(outcome)
+    }
+
+    /// Closes the open choice and the open state, where there are such, before a call that would.
+    pub fn close_state(&mut self) -> Result<(), RowsError>
+        ensures call { IsCall self.old self.new (all_closed self.old) result }
+        ensures same { OnOk result (IsSameHead self.old self.new) }
+        ensures closed { OnOk result (self.new.state ≡ None) }
+    {
+        if let Some(refusal) = self.refused {
+            return Err(refusal);
+        }
+        let outcome = self.try_close_state();
         self.keep_refusal(outcome)
     }
 
@@ -404,8 +507,8 @@ impl Builder {
         if let Some(refusal) = builder.refused {
             return Err(refusal);
         }
-        builder.close_row()?;
-        builder.close_state()?;
+        builder.end_row()?;
+        builder.end_state()?;
         builder.into_model()
     }
 }

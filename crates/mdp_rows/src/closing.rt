@@ -1,12 +1,16 @@
-ghost use Rattle.std.specs.Prelude.{◌≡◌, ◌<◌, ◌≤◌, ◌+◌, ◌*◌, Some, None, nat_lt, if◌then◌else◌, MatchResult};
-ghost use Rattle.mdp_math.specs.Sum.{sum_of};
+ghost use Rattle.std.specs.Prelude.{◌≡◌, ◌<◌, ◌≤◌, ◌*◌, ◌/◌, Some, None, IsTrue, nat_lt, if◌then◌else◌, map, unsigned_abs, MatchOption, OnOk, IfErr, false};
+ghost use Rattle.mdp_math.specs.Rational.{ratio, inv_ℚ, ◌*ℚ◌};
+ghost use Rattle.std.specs.Prelude.{pos};
+ghost use Rattle.mdp_num.specs.Meaning.{IsWithinLimit};
 ghost use Rattle.mdp_num.specs.Numeral.{limit};
 ghost use Rattle.mdp_rows.specs.Given.{row_of};
-ghost use Rattle.mdp_spec.specs.Unit.{lcm};
-ghost use Rattle.mdp_rows.specs.Draft.{row_den, is_one, kept, closed_row};
+ghost use Rattle.mdp_rows.specs.Parts.{part, parts as row_parts};
+ghost use Rattle.mdp_spec.specs.Unit.{lcm, row_den};
+ghost use Rattle.mdp_rows.specs.Draft.{kept, closed_row, scaled_row};
 
 use crate::error::RowsError;
 use crate::given::Given;
+use crate::rule::RowRule;
 use mdp_num::Frac;
 
 /// The greatest common denominator of a row: 10^36.
@@ -32,43 +36,103 @@ fn common_den(row: &[Given]) -> Option<u128>
     ensures { result ≡ (if nat_lt limit (row_den (row_of row.now)) then None else Some (row_den (row_of row.now))) }
 {
     let mut den = 1;
-    for given in row {
-        den = common_multiple(den, given.value.den().unsigned_abs())?;
+    for i in (0..row.len()).rev() {
+        den = common_multiple(den, row[i].value.den().unsigned_abs())?;
     }
     Some(den)
 }
 
-/// Whether the values add to 1, summed in parts of their least common denominator.
-fn adds_to_one(row: &[Given], den: u128) -> bool
+/// The sum of the values in parts of their least common denominator, where it is at most 2.
+fn sum_in_parts(row: &[Given], den: u128) -> Option<u128>
     requires common { den ≡ row_den (row_of row.now) }
     requires within { den ≤ limit }
-    ensures { result ≡ is_one (sum_of (λ x. x.prob) (row_of row.now)) }
+    ensures { result ≡ (if nat_lt (2 * den) (row_parts den row.now) then None else Some (row_parts den row.now)) }
 {
     let mut parts = 0;
     for given in row {
         let num = given.value.num().unsigned_abs();
         let own_den = given.value.den().unsigned_abs();
-        if num > own_den {
-            return false;
+        if num > 2 * own_den {
+            return None;
         }
         parts += den / own_den * num;
-        if parts > den {
-            return false;
+        if parts > 2 * den {
+            return None;
         }
     }
-    parts == den
+    Some(parts)
 }
 
-/// Whether a row may be closed: the least common denominator of its values is at most 10^36, and they add to 1.
-pub fn check_row(row: &[Given], state: u32, choice: u32) -> Result<(), RowsError>
-    ensures { MatchResult result (λ _. closed_row state choice (row_of row.now) ≡ Ok (kept (row_of row.now))) (λ e. closed_row state choice (row_of row.now) ≡ Err e) }
+/// The value divided by so many parts of 1/den, where its denominator is then at most 10^36.
+fn scaled_value(given: &Given, den: u128, parts: u128) -> Option<Frac>
+    requires some { 0 < den }
+    requires divides { den / given.now.value.den * given.now.value.den ≡ den }
+    requires within { part den given.now ≤ parts }
+    requires positive { 0 < parts }
+    requires few { parts ≤ 2 * limit }
+    ensures value { MatchOption result (limit < ((given.now.value *ℚ inv_ℚ (ratio (pos parts) den)).den)) (λ x. x ≡ given.now.value *ℚ inv_ℚ (ratio (pos parts) den)) }
+    ensures term { MatchOption result Unit (λ x. IsWithinLimit x) }
+{
+    let own_den = given.value.den().unsigned_abs();
+    let part = den / own_den * given.value.num().unsigned_abs();
+    let scaled = Frac::try_new(part as i128, parts as i128).ok()?;
+    if scaled.den().unsigned_abs() > DEN_LIMIT {
+        None
+    } else {
+        Some(scaled)
+    }
+}
+
+/// Divides each value by the sum of all, which is so many parts of 1/den. `false` where a denominator would be above 10^36.
+fn scale(row: &mut [Given], den: u128, parts: u128) -> bool
+    requires common { den ≡ row_den (row_of row.old) }
+    requires within { den ≤ limit }
+    requires sum { parts ≡ row_parts den row.old }
+    requires positive { 0 < parts }
+    requires few { parts ≤ 2 * den }
+    ensures scaled { IsTrue result → row_of row.new ≡ scaled_row (row_of row.old) }
+    ensures wide { result ≡ false → limit < row_den (scaled_row (row_of row.old)) }
+    ensures targets { map (λ g. g.target) row.new ≡ map (λ g. g.target) row.old }
+{
+    for i in 0..row.len() {
+        let target = row[i].target;
+        let Some(value) = scaled_value(&row[i], den, parts) else {
+            return false;
+        };
+        row[i] = Given { target, value };
+    }
+    true
+}
+
+/// Closes a row by the rule: under `Exact` its values stay, under `Scaled` each is divided by their sum.
+pub fn close_row(row: &mut [Given], rule: RowRule, state: u32, choice: u32) -> Result<(), RowsError>
+    ensures closed { OnOk result (closed_row rule state choice (row_of row.old) ≡ Ok (kept (row_of row.new))) }
+    ensures refused { IfErr result (λ e. closed_row rule state choice (row_of row.old) ≡ Err e) }
+    ensures targets { map (λ g. g.target) row.new ≡ map (λ g. g.target) row.old }
 {
     let Some(den) = common_den(row) else {
         return Err(RowsError::RowWide { state, choice });
     };
-    if adds_to_one(row, den) {
-        Ok(())
-    } else {
-        Err(RowsError::RowSum { state, choice })
+    let Some(parts) = sum_in_parts(row, den) else {
+        return Err(RowsError::RowSum { state, choice });
+    };
+    match rule {
+        RowRule::Exact => {
+            if parts == den {
+                Ok(())
+            } else {
+                Err(RowsError::RowSum { state, choice })
+            }
+        }
+        RowRule::Scaled => {
+            if parts.abs_diff(den) > den / 1000 {
+                return Err(RowsError::RowSum { state, choice });
+            }
+            if scale(row, den, parts) && common_den(row).is_some() {
+                Ok(())
+            } else {
+                Err(RowsError::RowWide { state, choice })
+            }
+        }
     }
 }

@@ -90,6 +90,21 @@ impl Labels {
         (self.starts.len() - 1) as u32
     }
 
+    /// How many names there are.
+    pub fn names(&self) -> u32
+        ensures { result ≡ length self.now.names }
+    {
+        self.names.len() as u32
+    }
+
+    /// The name of place `l`.
+    pub fn name(&self, l: u32) -> &[u8]
+        requires { l < length self.now.names }
+        ensures { result.now ≡ slice_index_or self.now.names l [] }
+    {
+        &self.names[l as usize]
+    }
+
     /// The place of a name.
     pub fn place(&self, name: &[u8]) -> Option<u32>
         ensures { result ≡ place_of name.now self.now.names }

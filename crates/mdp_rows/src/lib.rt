@@ -2,6 +2,7 @@
 #![tactic(auto)]
 
 mod builder;
+mod choices;
 mod closing;
 mod dir;
 mod error;
@@ -10,9 +11,11 @@ mod labels;
 mod marks;
 mod model;
 mod policy_rows;
+mod rewards;
 mod row;
 mod rows;
 mod rows_of;
+mod rule;
 #[cfg(test)]
 mod tests;
 
@@ -24,3 +27,4 @@ pub use model::Model;
 pub use policy_rows::PolicyRows;
 pub use row::Row;
 pub use rows_of::RowsOf;
+pub use rule::RowRule;

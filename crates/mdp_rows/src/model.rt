@@ -1,20 +1,21 @@
-ghost use Rattle.std.specs.Prelude.{◌≡◌, ◌<◌, length, IfOk, codes};
+ghost use Rattle.std.specs.Prelude.{◌≡◌, ◌<◌, [], length, sum_by, slice_index_or, IfOk, codes};
 ghost use Rattle.std.specs.List.{All};
-ghost use Rattle.mdp_spec.specs.Mdp.{states_of, choices_at, row_at, has_label};
+ghost use Rattle.mdp_spec.specs.Mdp.{states_of, choices_at, row_at, has_label, no_choice};
+ghost use Rattle.mdp_spec.specs.Unit.{reward_of};
 ghost use Rattle.mdp_spec.specs.Row.{entries, IsMdp};
 ghost use Rattle.mdp_spec.specs.Labels.{place_of, marks_of, initial_of};
 
+use crate::choices::Choices;
 use crate::labels::Labels;
 use crate::marks::Marks;
 use crate::row::Row;
-use crate::rows::Rows;
-use mdp_num::Memory;
+use mdp_num::{Frac, Memory};
 use std::alloc::{AllocError, Global};
 
 /// A Markov decision process. States are numbered from 0, and so are the choices of each state.
 #[derive(Drop)]
 pub struct Model {
-    rows: Rows,
+    choices: Choices,
     starts: Vec<u32>,
     labels: Labels,
 }
@@ -38,12 +39,12 @@ impl Model {
     ghost use Rattle.mdp_rows.specs.FlatModel.{mdp_in, IsFlat};
 
     /// The model that these parts hold.
-    pub(crate) fn from_parts(rows: Rows, starts: Vec<u32>, labels: Labels) -> Model
-        requires { IsFlat (record { rows = rows; starts = starts; labels = labels }) }
-        ensures { result ≡ mdp_in (record { rows = rows; starts = starts; labels = labels }) }
+    pub(crate) fn from_parts(choices: Choices, starts: Vec<u32>, labels: Labels) -> Model
+        requires { IsFlat (record { choices = choices; starts = starts; labels = labels }) }
+        ensures { result ≡ mdp_in (record { choices = choices; starts = starts; labels = labels }) }
     {
         Model {
-            rows,
+            choices,
             starts,
             labels,
         }
@@ -53,7 +54,7 @@ impl Model {
     pub fn known(&self)
         ensures { IsMdp self.now }
     {
-        self.rows.known();
+        self.choices.known();
     }
 
     /// How many states there are.
@@ -71,6 +72,13 @@ impl Model {
         self.starts[s as usize + 1] - self.starts[s as usize]
     }
 
+    /// How many choices all states have together.
+    pub fn all_choices(&self) -> u32
+        ensures { result ≡ sum_by (λ x. length x.choices) self.now.states }
+    {
+        self.choices.len()
+    }
+
     /// The row of choice `c` at state `s`.
     pub fn row(&self, s: u32, c: u32) -> Row<'_>
         requires state { s < states_of self.now }
@@ -78,7 +86,54 @@ impl Model {
         ensures row { entries result.targets.now result.probs.now ≡ row_at self.now s c }
         ensures in_range { All (λ t. t < states_of self.now) result.targets.now }
     {
-        self.rows.row(self.starts[s as usize] + c)
+        self.choices.row(self.starts[s as usize] + c)
+    }
+
+    /// How many reward names there are.
+    pub fn names(&self) -> u32
+        ensures { result ≡ length self.now.names }
+    {
+        self.choices.names()
+    }
+
+    /// The reward name of place `m`.
+    pub fn name(&self, m: u32) -> &[u8]
+        requires { m < length self.now.names }
+        ensures { result.now ≡ slice_index_or self.now.names m [] }
+    {
+        self.choices.name(m)
+    }
+
+    /// The place of a reward name, by its bytes.
+    pub fn reward_named(&self, name: &[u8]) -> Option<u32>
+        ensures { result ≡ place_of name.now self.now.names }
+    {
+        self.choices.place(name)
+    }
+
+    /// The reward of state `s` and its choice `c` together, under the reward name of place `m`.
+    pub fn reward(&self, m: u32, s: u32, c: u32) -> Frac
+        requires name { m < length self.now.names }
+        requires state { s < states_of self.now }
+        requires choice { c < length (choices_at self.now s) }
+        ensures { result ≡ reward_of (slice_index_or (choices_at self.now s) c no_choice) m }
+    {
+        self.choices.reward(m, self.starts[s as usize] + c)
+    }
+
+    /// How many labels there are.
+    pub fn labels(&self) -> u32
+        ensures { result ≡ length self.now.labels }
+    {
+        self.labels.names()
+    }
+
+    /// The label of place `l`, in the order of first sight.
+    pub fn label_name(&self, l: u32) -> &[u8]
+        requires { l < length self.now.labels }
+        ensures { result.now ≡ slice_index_or self.now.labels l [] }
+    {
+        self.labels.name(l)
     }
 
     /// The place of a label in the order of first sight, by the bytes of its name.

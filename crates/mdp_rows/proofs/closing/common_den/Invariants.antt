@@ -1,5 +1,5 @@
-use Rattle.mdp_rows.proofs.Denominators.{IsDenSoFar}
+use Rattle.mdp_rows.proofs.Denominators.{IsDenFrom}
 use Rattle.mdp_rows.proofs.closing.common_den.Given as goal
 
-abbrev pub invariant-loop-given : goal.invariant-loop-given
-invariant-loop-given l = IsDenSoFar l.row l.given-index l.den
+abbrev pub invariant-loop-i : goal.invariant-loop-i
+invariant-loop-i l = IsDenFrom l.row l.i l.den

@@ -1,27 +1,26 @@
-use Rattle.std.proofs.Common.{inr, List, ℕ, [], ◌∷◌, ◌++◌, ap, ◌∙◌}
-use Rattle.mdp_rows.proofs.DraftFacts.{no_state_to_close, state_refused, state_kept, is_with_state}
-use Rattle.mdp_rows.proofs.Outcomes.{at_ok}
+use Rattle.std.proofs.Common.{sym, ◌∙◌}
+use Rattle.mdp_rows.specs.Draft.{IsCall, all_closed}
+use Rattle.mdp_rows.proofs.CallFacts.{refused_is, call_refused, call_kept, all_are_closed}
+use Rattle.mdp_rows.proofs.HeadFacts.{all_same}
+use Rattle.mdp_rows.proofs.OpenFacts.{when_ok}
 use Rattle.mdp_rows.proofs.builder.Builder.close_state.Goals as goal
 
-pub returns-in_default : goal.returns-in_default
-returns-in_default c = record { follows = no_state_to_close c.self.inside _ c.self.view_is c.in_default.not-InState c.requires }
+pub returns-in-Some-clause-call : goal.returns-in-Some-clause-call
+returns-in-Some-clause-call c = call_refused _ _ _ (sym (refused_is c.self.inside _ c.self.view_is) ∙ c.in-Some.is)
 
-pub returns-then-end-self : goal.returns-then-end-self
-returns-then-end-self c =
-    record { follows = inr (state_refused c.self.inside _ c.states-state.result c.len-end.result c.self.view_is c.self.invariant c.in-InState.is c.states-state.ensures c.len-end.ensures c.if-end-self.true) }
+pub returns-clause-call : goal.returns-clause-call
+returns-clause-call c =
+    rw c.keep_refusal.ensures.same
+    (call_kept _ c.try_close_state-outcome.new.self c.keep_refusal.new.self _ c.try_close_state-outcome.result (sym (refused_is c.self.inside _ c.self.view_is) ∙ c.in_default.is) c.try_close_state-outcome.ensures.follows c.keep_refusal.ensures.unchanged c.keep_refusal.ensures.refused)
 
-pub invariant_of-self-2 : goal.invariant_of-self-2
-invariant_of-self-2 c =
-    let g = rw c.deref.ensures.value at (at_ok c.push_state.result c.if-is_err-2.ensures.negation c.push_state.ensures.appended) in
-    let p = rw c.if-is_err-3.ensures.negation at c.push.ensures.items in
-    is_with_state c.self.inside _ _ c.len-end.result c.self.invariant c.in-InState.is c.len-end.ensures c.if-end-self.false g
-    (p ∙ ap (λ (xs : List ℕ). xs ++ c.len-end.result ∷ []) c.reserve.ensures.items)
+pub returns-clause-same : goal.returns-clause-same
+returns-clause-same c =
+    let k : IsCall c.args.self.now c.keep_refusal.new.self (all_closed c.args.self.now) c.try_close_state-outcome.result =
+    call_kept _ c.try_close_state-outcome.new.self c.keep_refusal.new.self _ c.try_close_state-outcome.result (sym (refused_is c.self.inside _ c.self.view_is) ∙ c.in_default.is) c.try_close_state-outcome.ensures.follows c.keep_refusal.ensures.unchanged c.keep_refusal.ensures.refused in
+    rw c.keep_refusal.ensures.same (when_ok c.args.self.now c.keep_refusal.new.self (all_closed c.args.self.now) c.try_close_state-outcome.result k (λ u e. all_same c.args.self.now _ e))
 
-pub returns : goal.returns
-returns c =
-    let g = rw c.deref.ensures.value at (at_ok c.push_state.result c.if-is_err-2.ensures.negation c.push_state.ensures.appended) in
-    let p = rw c.if-is_err-3.ensures.negation at c.push.ensures.items in
-    record {
-      follows = state_kept c.self.inside _ _ c.len-end.result c.self.invariant c.in-InState.is c.len-end.ensures c.if-end-self.false g
-          (p ∙ ap (λ (xs : List ℕ). xs ++ c.len-end.result ∷ []) c.reserve.ensures.items) _ c.self.view_is;
-    }
+pub returns-clause-closed : goal.returns-clause-closed
+returns-clause-closed c =
+    let k : IsCall c.args.self.now c.keep_refusal.new.self (all_closed c.args.self.now) c.try_close_state-outcome.result =
+    call_kept _ c.try_close_state-outcome.new.self c.keep_refusal.new.self _ c.try_close_state-outcome.result (sym (refused_is c.self.inside _ c.self.view_is) ∙ c.in_default.is) c.try_close_state-outcome.ensures.follows c.keep_refusal.ensures.unchanged c.keep_refusal.ensures.refused in
+    rw c.keep_refusal.ensures.same (when_ok c.args.self.now c.keep_refusal.new.self (all_closed c.args.self.now) c.try_close_state-outcome.result k (λ u e. all_are_closed c.args.self.now _ e))

@@ -7,26 +7,26 @@ use Rattle.mdp_rows.proofs.builder.Builder.finish.Goals as goal
 pub returns-in-Some-clause-refusal : goal.returns-in-Some-clause-refusal
 returns-in-Some-clause-refusal c = inr (ap (due_after c.args.self (after_finish c.args.self)) (sym (refused_is c.builder.inside _ c.builder.view_is) ∙ c.in-Some.is))
 
-pub returns-in_err-close_row-clause-refusal : goal.returns-in_err-close_row-clause-refusal
-returns-in_err-close_row-clause-refusal c =
+pub returns-in_err-end_row-clause-refusal : goal.returns-in_err-end_row-clause-refusal
+returns-in_err-end_row-clause-refusal c =
     let p = err_from_is_err_and c.from_residual.result c.from_residual.ensures.1 in
     rw (p.1, p.2)
-    (finish_stops c.args.self (after_finish c.args.self) c.in_err-close_row.field-0.0 (sym (refused_is c.builder.inside _ c.builder.view_is) ∙ c.in_default.is)
-    (row_stops c.args.self finished c.in_err-close_row.field-0.0 (c.in_err-close_row.ensures {u = tt}).follows))
+    (finish_stops c.args.self (after_finish c.args.self) c.in_err-end_row.field-0.0 (sym (refused_is c.builder.inside _ c.builder.view_is) ∙ c.in_default.is)
+    (row_stops c.args.self finished c.in_err-end_row.field-0.0 (c.in_err-end_row.ensures {u = tt}).follows))
 
-pub returns-in_err-close_state-clause-refusal : goal.returns-in_err-close_state-clause-refusal
-returns-in_err-close_state-clause-refusal c =
-    let p = err_from_is_err_and c.from_residual-in_err-close_state.result c.from_residual-in_err-close_state.ensures.1 in
+pub returns-in_err-end_state-clause-refusal : goal.returns-in_err-end_state-clause-refusal
+returns-in_err-end_state-clause-refusal c =
+    let p = err_from_is_err_and c.from_residual-in_err-end_state.result c.from_residual-in_err-end_state.ensures.1 in
     rw (p.1, p.2)
-    (finish_stops c.args.self (after_finish c.args.self) c.in_err-close_state.field-0.0 (sym (refused_is c.builder.inside _ c.builder.view_is) ∙ c.in_default.is)
-    (state_stops c.args.self finished _ c.in_err-close_state.field-0.0 (c.in_ok-close_row.ensures {u = tt}).follows (c.in_err-close_state.ensures {u = tt}).follows))
+    (finish_stops c.args.self (after_finish c.args.self) c.in_err-end_state.field-0.0 (sym (refused_is c.builder.inside _ c.builder.view_is) ∙ c.in_default.is)
+    (state_stops c.args.self finished _ c.in_err-end_state.field-0.0 (c.in_ok-end_row.ensures {u = tt}).follows (c.in_err-end_state.ensures {u = tt}).follows))
 
 pub returns-clause-model : goal.returns-clause-model
 returns-clause-model c =
     finish_model c.args.self (after_finish c.args.self) c.into_model.result (sym (refused_is c.builder.inside _ c.builder.view_is) ∙ c.in_default.is)
-    (all_go c.args.self finished _ _ (c.in_ok-close_row.ensures {u = tt}).follows (c.in_ok-close_state.ensures {u = tt}).follows ∙ c.into_model.ensures)
+    (all_go c.args.self finished _ _ (c.in_ok-end_row.ensures {u = tt}).follows (c.in_ok-end_state.ensures {u = tt}).follows ∙ c.into_model.ensures)
 
 pub returns-clause-refusal : goal.returns-clause-refusal
 returns-clause-refusal c =
     finish_refusal c.args.self (after_finish c.args.self) c.into_model.result (sym (refused_is c.builder.inside _ c.builder.view_is) ∙ c.in_default.is)
-    (all_go c.args.self finished _ _ (c.in_ok-close_row.ensures {u = tt}).follows (c.in_ok-close_state.ensures {u = tt}).follows ∙ c.into_model.ensures)
+    (all_go c.args.self finished _ _ (c.in_ok-end_row.ensures {u = tt}).follows (c.in_ok-end_state.ensures {u = tt}).follows ∙ c.into_model.ensures)

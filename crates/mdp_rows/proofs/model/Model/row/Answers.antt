@@ -1,4 +1,5 @@
-use Rattle.std.proofs.Common.{arith, sym, ◌∙◌}
+use Rattle.std.proofs.Common.{arith, sym, ap, ◌∙◌}
+use Rattle.mdp_spec.specs.Mdp.{Choice}
 use Rattle.mdp_rows.proofs.ModelFacts.{states_are, choices_after, targets_in_range}
 use Rattle.mdp_rows.proofs.model.Model.row.Goals as goal
 
@@ -18,7 +19,7 @@ row-requires c =
 pub returns-clause-row : goal.returns-clause-row
 returns-clause-row c =
     let f = choices_after _ _ c.args.s _ c.self.invariant c.self.view_is c.requires.state c.index.ensures in
-    c.row.ensures ∙ sym (f.row c.args.c c.requires.choice)
+    c.row.ensures ∙ ap (λ (x : Choice). x.row) (sym (f.choice c.args.c c.requires.choice))
 
 pub returns-clause-in_range : goal.returns-clause-in_range
 returns-clause-in_range c =

@@ -1,6 +1,6 @@
 use Rattle.std.proofs.Common.{refl}
 use Rattle.mdp_rows.proofs.Places.{target_here, past_target}
-use Rattle.mdp_rows.proofs.builder.has_target.Goals as goal
+use Rattle.mdp_rows.proofs.builder.stands_at.Goals as goal
 
 pub returns-then-place-row : goal.returns-then-place-row
 returns-then-place-row c = target_here c.args.target _ c.args.row.now c.args.place _ c.requires c.if-place-row.true refl
