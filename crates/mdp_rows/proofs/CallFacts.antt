@@ -10,13 +10,14 @@ use Rattle.mdp_rows.specs.declared.rule.RowRule.{RowRule}
 use Rattle.mdp_rows.specs.Pieces.{pieces, ArePlaces}
 use Rattle.mdp_rows.specs.Labelling.{Labelling}
 use Rattle.mdp_rows.specs.FlatModel.{states_from, mdp_in, IsFlat}
+use Rattle.mdp_rows.specs.Sound.{FinishesModel}
 use Rattle.mdp_rows.specs.Draft.{Draft, OpenState, OpenChoice, closed_row, new_draft, choice_closed, choice_closed_in, with_choice_closed, state_closed, state_closed_in, all_closed, finished, due_after, Follows, IsCall, IsChoiceClosed, ◌>>=◌}
 use Rattle.mdp_rows.specs.FlatDraft.{draft_in, open_in, state_in, choice_in, IsDraft}
 use Rattle.mdp_rows.specs.declared.error.RowsError.{RowsError}
 use Rattle.mdp_rows.specs.declared.error.RowsError.TheVariants.{Count, Memory, NoChoice}
-use Rattle.mdp_rows.specs.declared.builder.Stage.{Stage}
-use Rattle.mdp_rows.specs.declared.builder.Stage.TheVariants.{Between}
-use Rattle.mdp_rows.specs.declared.builder.Builder.TheInside.{Inside}
+use Rattle.mdp_rows.specs.declared.assembly.Stage.{Stage}
+use Rattle.mdp_rows.specs.declared.assembly.Stage.TheVariants.{Between}
+use Rattle.mdp_rows.specs.declared.assembly.Assembly.TheInside.{Inside}
 use Rattle.mdp_rows.specs.declared.model.Model.TheInside.{Inside as ModelInside}
 use Rattle.mdp_rows.proofs.DraftFacts.{same_draft, closed_in, closed_len, closed_is}
 use Rattle.mdp_rows.proofs.Growth.{one_place}
@@ -184,8 +185,8 @@ pub is_finished : (b : Inside) (v : Draft) (s : ℕ) → draft_in b ≡ v → Is
 unfolding mdp_in
 is_finished b v s is ok e f = ap finished (sym is) ∙ finish_by b true ok (eq-eqb (length b.labels.of_state) b.announced (sym e ∙ f))
 
-pub is_flat : (b : Inside) (v : Draft) (s : ℕ) → draft_in b ≡ v → IsDraft b → v.state ≡ None → s ≡ length b.labels.of_state → s ≡ b.announced → IsFlat (parts_of b)
-is_flat b v s is ok closed e f =
+pub is_flat : (b : Inside) (v : Draft) (s : ℕ) → draft_in b ≡ v → IsDraft b → v.state ≡ None → s ≡ length b.labels.of_state → s ≡ b.announced → FinishesModel (finished v) → IsFlat (parts_of b)
+is_flat b v s is ok closed e f whole =
     let n : length b.starts.items - 1 ≡ b.announced = omega (arith, ok.labels) in
     record {
       few_rows = omega (arith, ok.few_rows);
@@ -195,6 +196,7 @@ is_flat b v s is ok closed e f =
       choice = ok.choice;
       labels = omega (arith, ok.labels);
       in_range = subst (λ (k : ℕ). All (λ c. All (λ x. x.target < k) c.row) b.choices.choices) (sym n) ok.in_range;
+      model = whole (mdp_in (parts_of b)) (is_finished b v s is ok e f);
     }
 
 -- ---- what finishing answers

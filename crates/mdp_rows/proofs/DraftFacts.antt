@@ -22,9 +22,9 @@ use Rattle.mdp_rows.specs.declared.error.RowsError.TheVariants.{NoChoice, Count}
 use Rattle.mdp_rows.specs.Labelling.{Labelling}
 use Rattle.std.proofs.lemmas.Bool.{ne_eqb}
 use Rattle.std.proofs.Math.Seq.{drop-length}
-use Rattle.mdp_rows.specs.declared.builder.Stage.{Stage}
-use Rattle.mdp_rows.specs.declared.builder.Stage.TheVariants.{Between, InState, InRow}
-use Rattle.mdp_rows.specs.declared.builder.Builder.TheInside.{Inside}
+use Rattle.mdp_rows.specs.declared.assembly.Stage.{Stage}
+use Rattle.mdp_rows.specs.declared.assembly.Stage.TheVariants.{Between, InState, InRow}
+use Rattle.mdp_rows.specs.declared.assembly.Assembly.TheInside.{Inside}
 use Rattle.mdp_rows.proofs.Growth.{pieces-kept, pieces-last, places-more, choice-more, sum_by-one}
 use Rattle.mdp_rows.proofs.KeptFacts.{filter_le}
 use Rattle.mdp_rows.proofs.RowsGrow.{all_one}

@@ -16,9 +16,9 @@ use Rattle.mdp_rows.specs.FlatDraft.{draft_in, open_in, state_in, choice_in, ope
 use Rattle.mdp_rows.specs.declared.given.Given.{Given}
 use Rattle.mdp_rows.specs.declared.error.RowsError.{RowsError}
 use Rattle.mdp_rows.specs.declared.error.RowsError.TheVariants.{TooMany, Target, Twice}
-use Rattle.mdp_rows.specs.declared.builder.Stage.{Stage}
-use Rattle.mdp_rows.specs.declared.builder.Stage.TheVariants.{Between, InState, InRow}
-use Rattle.mdp_rows.specs.declared.builder.Builder.TheInside.{Inside}
+use Rattle.mdp_rows.specs.declared.assembly.Stage.{Stage}
+use Rattle.mdp_rows.specs.declared.assembly.Stage.TheVariants.{Between, InState, InRow}
+use Rattle.mdp_rows.specs.declared.assembly.Assembly.TheInside.{Inside}
 use Rattle.mdp_rows.proofs.DraftFacts.{same_draft, state_of, open_len}
 use Rattle.mdp_rows.proofs.Growth.{pieces-sum-to}
 use Rattle.mdp_rows.proofs.Pieces.{length-pieces}

@@ -5,6 +5,7 @@ mod Denominators
 mod Distributions
 mod DraftFacts
 mod EntryFacts
+mod Examples
 mod Growth
 mod HeadFacts
 mod KeptFacts
@@ -19,11 +20,24 @@ mod Outcomes
 mod Parts
 mod Pieces
 mod Places
+mod ReplayLabels
+mod ReplayRewards
+mod ReplayRows
+pub mod ReplayStates
 mod RewardSums
 mod RowFacts
 mod RowsGrow
 mod RowsOfPolicy
 mod Scaling
+mod SoundBuilder
+pub mod SoundCalls
+mod SoundEntries
+pub mod SoundKept
+mod SoundLabels
+mod SoundNames
+mod SoundRewards
+mod SoundRows
+mod SoundSteps
 mod StageFacts
 mod Tally
 mod Targets

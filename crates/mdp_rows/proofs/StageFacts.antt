@@ -3,9 +3,9 @@ use Rattle.std.proofs.Common.{◌≡◌, ◌≢◌, ℕ, ◌+◌, false, length,
 use Rattle.mdp_rows.specs.Draft.{Draft, OpenState, OpenChoice, has_state, has_choice, has_target, has_open_target, states_opened}
 use Rattle.mdp_rows.specs.Given.{row_of}
 use Rattle.mdp_rows.specs.FlatDraft.{draft_in, open_in, state_in, choice_in, IsDraft}
-use Rattle.mdp_rows.specs.declared.builder.Builder.TheInside.{Inside}
-use Rattle.mdp_rows.specs.declared.builder.Stage.{Stage}
-use Rattle.mdp_rows.specs.declared.builder.Stage.TheVariants.{Between, InState, InRow}
+use Rattle.mdp_rows.specs.declared.assembly.Assembly.TheInside.{Inside}
+use Rattle.mdp_rows.specs.declared.assembly.Stage.{Stage}
+use Rattle.mdp_rows.specs.declared.assembly.Stage.TheVariants.{Between, InState, InRow}
 use Rattle.mdp_rows.proofs.DraftFacts.{closed_len}
 use Rattle.mdp_rows.specs.declared.rule.RowRule.TheVariants.{Exact}
 

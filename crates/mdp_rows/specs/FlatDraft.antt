@@ -6,9 +6,9 @@ use Rattle.mdp_rows.specs.Pieces.{pieces, ArePlaces}
 use Rattle.mdp_rows.specs.FlatModel.{states_from}
 use Rattle.mdp_rows.specs.Given.{row_of}
 use Rattle.mdp_rows.specs.Draft.{Draft, OpenState, OpenChoice}
-use Rattle.mdp_rows.specs.declared.builder.Stage.{Stage}
-use Rattle.mdp_rows.specs.declared.builder.Stage.TheVariants.{Between, InState, InRow}
-use Rattle.mdp_rows.specs.declared.builder.Builder.TheInside.{Inside}
+use Rattle.mdp_rows.specs.declared.assembly.Stage.{Stage}
+use Rattle.mdp_rows.specs.declared.assembly.Stage.TheVariants.{Between, InState, InRow}
+use Rattle.mdp_rows.specs.declared.assembly.Assembly.TheInside.{Inside}
 
 -- the open state, where there is one, with its open choice, where there is one
 abbrev pub open_in : Stage → OpenState → OpenChoice → Option OpenState

@@ -1,6 +1,7 @@
 -- The model that flat vectors hold.
 use Rattle.std.specs.Prelude.{◌≡◌, ℕ, ◌+◌, ◌-◌, ◌<◌, ◌≤◌, ◌^◌, List, [], ◌∷◌, length, slice_index, All}
 use Rattle.mdp_spec.specs.Mdp.{Choice, State, Mdp}
+use Rattle.mdp_rows.specs.Limits.{IsModel}
 use Rattle.mdp_rows.specs.Pieces.{pieces, ArePlaces}
 use Rattle.mdp_rows.specs.declared.model.Model.TheInside.{Inside}
 
@@ -25,3 +26,4 @@ pub record IsFlat (m : Inside) : Type 0 where
   pub choice : (s : ℕ) → s + 1 < length m.starts.items → slice_index m.starts.items s < slice_index m.starts.items (s + 1)
   pub labels : length m.labels.of_state ≡ length m.starts.items - 1
   pub in_range : All (λ c. All (λ x. x.target < length m.starts.items - 1) c.row) m.choices.choices
+  pub model : IsModel (mdp_in m)

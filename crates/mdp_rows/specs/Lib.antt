@@ -16,3 +16,4 @@ pub mod Place
 pub mod Name
 pub mod Limits
 pub mod Replay
+pub mod Sound

@@ -1,123 +1,26 @@
-ghost use Rattle.std.specs.Prelude.{◌≡◌, ◌⊎◌, ◌<◌, ◌≤◌, ◌^◌, None, Some, IsTrue, IsSome, IfOk, IfErr, OnOk, MatchResult};
-ghost use Rattle.std.specs.Prelude.{length, map};
+ghost use Rattle.std.specs.Prelude.{◌≡◌, ◌⊎◌, ◌≤◌, ◌^◌, None, IsTrue, IfOk, IfErr, OnOk, Ok, Err, length, map, pos};
 ghost use Rattle.std.specs.List.{All};
 ghost use Rattle.mdp_math.specs.Rational.{of_int, ◌≤ℚ◌};
-ghost use Rattle.std.specs.Prelude.{pos};
-ghost use Rattle.mdp_rows.specs.Draft.{new_draft, choice_closed, state_closed, all_closed, state_opened, choice_opened, after_state, after_choice, after_entry, after_finish, finished, due_after, Follows, IsCall, IsUnrefused, has_state, has_choice, has_open_target, states_opened};
-ghost use Rattle.mdp_rows.specs.Head.{IsSameHead};
-ghost use Rattle.mdp_rows.specs.Name.{AreRewardNames};
 ghost use Rattle.mdp_num.specs.Meaning.{IsWithinLimit};
-ghost use Rattle.std.specs.Prelude.{◌==◌};
-ghost use Rattle.std.specs.List.{list_any, position, position_or_len};
-ghost use Rattle.std.specs.Prelude.{OnErr, nat_le};
-ghost use Rattle.mdp_rows.specs.Name.{IsName};
-ghost use Rattle.mdp_rows.specs.Draft.{after_label, with_place};
-ghost use Rattle.mdp_spec.specs.Row.{ascends_from};
-ghost use Rattle.mdp_rows.specs.Given.{row_of};
-ghost use Rattle.mdp_rows.specs.Place.{IsPlace};
-ghost use Rattle.mdp_rows.specs.Draft.{IsChoiceClosed};
+ghost use Rattle.mdp_rows.specs.Draft.{new_draft, choice_closed, all_closed, after_state, after_label, after_choice, after_entry, after_finish, due_after, IsCall, IsUnrefused, IsChoiceClosed, has_state, has_choice, has_open_target, states_opened};
+ghost use Rattle.mdp_rows.specs.Head.{IsSameHead};
+ghost use Rattle.mdp_rows.specs.Name.{IsName, AreRewardNames};
 
-use crate::choices::Choices;
-use crate::closing::close_row;
+use crate::assembly::Assembly;
 use crate::error::RowsError;
-use crate::given::Given;
-use crate::labels::Labels;
-use crate::rewards::add_rewards;
+use crate::model::Model;
 use crate::rule::RowRule;
 use mdp_num::{Frac, Memory};
-use std::alloc::{AllocError, Global};
-use std::marker::Model;
+use std::alloc::Global;
 
-/// The most calls of `label` for one state.
-const MAX_LABEL_CALLS: u32 = 64;
-
-/// The most label names.
-const MAX_NAMES: u32 = 1024;
-
-/// The most choices, 2^22.
-const MAX_CHOICES: u32 = 4_194_304;
-
-/// The most entries, 2^24, those of value 0 among them.
-const MAX_ENTRIES: u32 = 16_777_216;
-
-/// What is open.
-#[derive(Clone, Copy)]
-enum Stage {
-    Between,
-    InState,
-    InRow,
-}
-
-/// A model while it is made, state by state, choice by choice, entry by entry. One that has refused answers the same refusal from then on.
+/// A model while it is made, state by state, choice by choice, entry by entry. One that has refused answers the same refusal from then on. What it
+/// finishes keeps all that a model keeps.
 #[derive(Drop)]
 pub struct Builder {
-    announced: u32,
-    rule: RowRule,
-    choices: Choices,
-    /// Where each closed state's choices start, and where the next one's do.
-    starts: Vec<u32>,
-    first_choice: u32,
-    labels: Labels,
-    stage: Stage,
-    /// The open state's own rewards.
-    rewards: Vec<Frac>,
-    /// The open state's labels, ascending.
-    places: Vec<u32>,
-    label_calls: u32,
-    /// The open choice's rewards, those of its state added.
-    sums: Vec<Frac>,
-    /// The open row, targets ascending.
-    row: Vec<Given>,
-    entries: u32,
-    refused: Option<RowsError>,
+    assembly: Assembly,
 }
 
-/// How many entries go before the target: where it stands, or would stand.
-fn place_of_target(row: &[Given], target: u32) -> usize
-    requires { IsTrue (ascends_from 0 (row_of row.now)) }
-    ensures { IsPlace (row_of row.now) target result }
-{
-    row.partition_point(|given| given.target < target)
-}
-
-/// Whether the target stands at its place.
-fn stands_at(row: &[Given], place: usize, target: u32) -> bool
-    requires { IsPlace (row_of row.now) target place }
-    ensures { result ≡ list_any (λ x. x.target == target) (row_of row.now) }
-{
-    place < row.len() && row[place].target == target
-}
-
-fn first_from(places: &[u32], label: u32) -> Option<usize>
-    ensures { result ≡ position (λ k. nat_le label k) places.now }
-{
-    places.iter().position(|place| *place >= label)
-}
-
-/// Where a label's place stands among ascending ones, or would stand.
-fn place_of_label(places: &[u32], label: u32) -> usize
-    ensures { result ≡ position_or_len (λ k. nat_le label k) places.now }
-{
-    match first_from(places, label) {
-        Some(place) => place,
-        None => places.len(),
-    }
-}
-
-/// Adds the label's place, where it isn't there. On `Err` the places are as before.
-fn add_place(places: &mut Vec<u32>, label: u32) -> Result<(), AllocError>
-    ensures added { OnOk result (places.new.items ≡ with_place label places.old.items) }
-    ensures unchanged { OnErr result (places.new.items ≡ places.old.items) }
-{
-    let place = place_of_label(places, label);
-    if place < places.len() && places[place] == label {
-        return Ok(());
-    }
-    places.insert(place, label)?;
-    Ok(())
-}
-
-impl Model for Builder {
+impl std::marker::Model for Builder {
     ghost use Rattle.mdp_rows.specs.Draft.{Draft};
     ghost use Rattle.mdp_rows.specs.DraftCode.{draft_code};
 
@@ -125,231 +28,14 @@ impl Model for Builder {
 
     ghost coded = { draft_code };
 
-    ghost use Rattle.mdp_rows.specs.FlatDraft.{draft_in, IsDraft};
+    ghost use Rattle.mdp_rows.specs.Sound.{IsGood};
 
-    ghost view = { draft_in };
+    ghost view = { λ b. b.assembly };
 
-    ghost invariant = { IsDraft };
+    ghost invariant = { λ b. IsGood b.assembly };
 }
 
 impl Builder {
-    /// Closes the open row, where there is one.
-    fn end_row(&mut self) -> Result<(), RowsError>
-        ensures follows { Follows (choice_closed self.old) result self.new }
-    {
-        let Stage::InRow = self.stage else {
-            return Ok(());
-        };
-        let state = self.labels.states();
-        let choice = self.choices.len() - self.first_choice;
-        close_row(&mut self.row, self.rule, state, choice)?;
-        if self.choices.push(&self.row, &self.sums).is_err() {
-            return Err(RowsError::Memory);
-        }
-        self.row.clear();
-        self.stage = Stage::InState;
-        Ok(())
-    }
-
-    /// Closes the open state, where there is one.
-    fn end_state(&mut self) -> Result<(), RowsError>
-        requires { IsChoiceClosed self.old.state }
-        ensures follows { Follows (state_closed self.old) result self.new }
-    {
-        let Stage::InState = self.stage else {
-            return Ok(());
-        };
-        let end = self.choices.len();
-        if end == self.first_choice {
-            let state = self.labels.states();
-            return Err(RowsError::NoChoice { state });
-        }
-        if self.starts.reserve(1).is_err() || self.labels.push_state(&self.places).is_err() {
-            return Err(RowsError::Memory);
-        }
-        if self.starts.push(end).is_err() {
-            return Err(RowsError::Memory);
-        }
-        self.first_choice = end;
-        self.stage = Stage::Between;
-        Ok(())
-    }
-
-    /// Opens the next state.
-    fn open_state(&mut self, rewards: &[Frac]) -> Result<(), RowsError>
-        requires closed { self.old.state ≡ None }
-        requires one_each { length rewards.now ≡ length self.old.names }
-        ensures follows { Follows (state_opened self.old rewards.now) result self.new }
-    {
-        if self.labels.states() == self.announced {
-            return Err(RowsError::Count);
-        }
-        self.rewards.clear();
-        if self.rewards.extend_from_slice(rewards).is_err() {
-            return Err(RowsError::Memory);
-        }
-        self.places.clear();
-        self.label_calls = 0;
-        self.stage = Stage::InState;
-        Ok(())
-    }
-
-    /// Opens the next choice of the open state.
-    fn open_choice(&mut self, rewards: &[Frac]) -> Result<(), RowsError>
-        requires closed { IsChoiceClosed self.old.state }
-        requires one_each { length rewards.now ≡ length self.old.names }
-        ensures follows { Follows (choice_opened self.old rewards.now) result self.new }
-    {
-        let Stage::InState = self.stage else {
-            return Ok(());
-        };
-        if self.choices.len() >= MAX_CHOICES {
-            return Err(RowsError::TooMany);
-        }
-        add_rewards(&mut self.sums, &self.rewards, rewards)?;
-        self.stage = Stage::InRow;
-        Ok(())
-    }
-
-    /// Adds an entry to the open row.
-    fn add_entry(&mut self, target: u32, value: Frac) -> Result<(), RowsError>
-        requires { IsWithinLimit value }
-        ensures follows { Follows (after_entry self.old target value) result self.new }
-    {
-        let Stage::InRow = self.stage else {
-            return Ok(());
-        };
-        if target >= self.announced {
-            return Err(RowsError::Target);
-        }
-        let place = place_of_target(&self.row, target);
-        if stands_at(&self.row, place, target) {
-            return Err(RowsError::Twice);
-        }
-        if self.entries >= MAX_ENTRIES {
-            return Err(RowsError::TooMany);
-        }
-        if self.row.insert(place, Given { target, value }).is_err() {
-            return Err(RowsError::Memory);
-        }
-        self.entries += 1;
-        Ok(())
-    }
-
-    /// Keeps the refusal, where the outcome is one.
-    fn keep_refusal(&mut self, outcome: Result<(), RowsError>) -> Result<(), RowsError>
-        ensures same { result ≡ outcome }
-        ensures unchanged { OnOk outcome (self.new ≡ self.old) }
-        ensures refused { IfErr outcome (λ e. self.new.refused ≡ Some e) }
-    {
-        if let Err(refusal) = outcome {
-            self.refused = Some(refusal);
-        }
-        outcome
-    }
-
-    fn try_close_state(&mut self) -> Result<(), RowsError>
-        ensures follows { Follows (all_closed self.old) result self.new }
-    {
-        self.end_row()?;
-        self.end_state()
-    }
-
-    fn try_state(&mut self, rewards: &[Frac]) -> Result<(), RowsError>
-        requires { length rewards.now ≡ length self.old.names }
-        ensures follows { Follows (after_state self.old rewards.now) result self.new }
-    {
-        self.end_row()?;
-        self.end_state()?;
-        self.open_state(rewards)
-    }
-
-    fn try_choice(&mut self, rewards: &[Frac]) -> Result<(), RowsError>
-        requires { length rewards.now ≡ length self.old.names }
-        ensures follows { Follows (after_choice self.old rewards.now) result self.new }
-    {
-        self.end_row()?;
-        self.open_choice(rewards)
-    }
-
-    fn try_label(&mut self, name: &[u8]) -> Result<(), RowsError>
-        ensures follows { Follows (after_label self.old name.now) result self.new }
-    {
-        if let Stage::Between = self.stage {
-            return Ok(());
-        }
-        if self.label_calls >= MAX_LABEL_CALLS {
-            return Err(RowsError::TooMany);
-        }
-        if self.labels.names_with(name) > MAX_NAMES {
-            return Err(RowsError::TooMany);
-        }
-        let Ok(label) = self.labels.see_name(name) else {
-            return Err(RowsError::Memory);
-        };
-        if add_place(&mut self.places, label).is_err() {
-            return Err(RowsError::Memory);
-        }
-        self.label_calls += 1;
-        Ok(())
-    }
-
-    fn empty(
-        alloc: Global,
-        states: u32,
-        rule: RowRule,
-        names: Vec<Vec<u8>>,
-    ) -> Result<Builder, AllocError>
-        requires some { 1 ≤ states }
-        requires few { states ≤ 2 ^ 20 }
-        requires names { AreRewardNames (map (λ n. n.items) names.items) }
-        ensures { IfOk result (λ builder. builder ≡ new_draft states rule (map (λ n. n.items) names.items)) }
-    {
-        Ok(Builder {
-            announced: states,
-            rule,
-            choices: Choices::new(alloc, names)?,
-            starts: vec![in alloc; 0]?,
-            first_choice: 0,
-            labels: Labels::new(alloc)?,
-            stage: Stage::Between,
-            rewards: Vec::new(alloc),
-            places: Vec::new(alloc),
-            label_calls: 0,
-            sums: Vec::new(alloc),
-            row: Vec::new(alloc),
-            entries: 0,
-            refused: None,
-        })
-    }
-
-    /// The model of the states that are closed.
-    fn into_model(self) -> Result<crate::model::Model, RowsError>
-        requires { self.state ≡ None }
-        ensures { finished self ≡ result }
-    {
-        if self.labels.states() != self.announced {
-            return Err(RowsError::Count);
-        }
-        let Builder {
-            announced: _,
-            rule: _,
-            choices,
-            starts,
-            first_choice: _,
-            labels,
-            stage: _,
-            rewards: _,
-            places: _,
-            label_calls: _,
-            sums: _,
-            row: _,
-            entries: _,
-            refused: _,
-        } = self;
-        Ok(crate::model::Model::from_parts(choices, starts, labels))
-    }
-
     /// A builder of a model of so many states, 1 to 2^20, with these reward names: 1 to 16 different ones of 1 to 255 bytes without blank,
     /// tab, CR, `"` and LF, the first of which begins neither with `@` nor with `//`.
     pub fn new(
@@ -363,50 +49,37 @@ impl Builder {
         requires names { AreRewardNames (map (λ n. n.items) names.items) }
         ensures { IfOk result (λ builder. builder ≡ new_draft states rule (map (λ n. n.items) names.items)) }
     {
-        Ok(Builder::empty(alloc, states, rule, names)?)
+        Ok(Builder {
+            assembly: Assembly::new(alloc, states, rule, names)?,
+        })
     }
 
     /// Whether a state is open, so that a label or a choice may come.
     pub fn is_state_open(&self) -> bool
         ensures { result ≡ has_state self.now }
     {
-        match self.stage {
-            Stage::Between => false,
-            Stage::InState => true,
-            Stage::InRow => true,
-        }
+        self.assembly.is_state_open()
     }
 
     /// Whether a choice is open, so that an entry may come.
     pub fn is_choice_open(&self) -> bool
         ensures { result ≡ has_choice self.now }
     {
-        match self.stage {
-            Stage::Between => false,
-            Stage::InState => false,
-            Stage::InRow => true,
-        }
+        self.assembly.is_choice_open()
     }
 
     /// How many states were opened.
     pub fn opened(&self) -> u32
         ensures { result ≡ states_opened self.now }
     {
-        match self.stage {
-            Stage::Between => self.labels.states(),
-            Stage::InState => self.labels.states() + 1,
-            Stage::InRow => self.labels.states() + 1,
-        }
+        self.assembly.opened()
     }
 
     /// Whether the open row has an entry to the target, of value 0 or not. `false` where no choice is open.
     pub fn has_target(&self, target: u32) -> bool
         ensures { result ≡ has_open_target self.now target }
     {
-        let Stage::InRow = self.stage else {
-            return false;
-        };
-        stands_at(&self.row, place_of_target(&self.row, target), target)
+        self.assembly.has_target(target)
     }
 
     /// Opens the next state, with its own reward for each name, at least 0, and closes the open row and the open state before.
@@ -417,11 +90,7 @@ impl Builder {
         ensures same { OnOk result (IsSameHead self.old self.new) }
         ensures state_open { OnOk result (IsTrue (has_state self.new)) }
     {
-        if let Some(refusal) = self.refused {
-            return Err(refusal);
-        }
-        let outcome = self.try_state(rewards);
-        self.keep_refusal(outcome)
+        self.assembly.state(rewards)
     }
 
     /// Gives the open state a label: 1 to 255 bytes without `"` and LF. A label that the state has already is taken once.
@@ -432,11 +101,7 @@ impl Builder {
         ensures same { OnOk result (IsSameHead self.old self.new) }
         ensures state_open { OnOk result (IsTrue (has_state self.new)) }
     {
-        if let Some(refusal) = self.refused {
-            return Err(refusal);
-        }
-        let outcome = self.try_label(name);
-        self.keep_refusal(outcome)
+        self.assembly.label(name)
     }
 
     /// Opens the next choice of the open state, with its own reward for each name, at least 0, and closes the open row before.
@@ -449,11 +114,7 @@ impl Builder {
         ensures state_open { OnOk result (IsTrue (has_state self.new)) }
         ensures choice_open { OnOk result (IsTrue (has_choice self.new)) }
     {
-        if let Some(refusal) = self.refused {
-            return Err(refusal);
-        }
-        let outcome = self.try_choice(rewards);
-        self.keep_refusal(outcome)
+        self.assembly.choice(rewards)
     }
 
     /// Adds an entry to the open row. An entry of value 0 counts, and goes when the row closes.
@@ -465,11 +126,7 @@ impl Builder {
         ensures state_open { OnOk result (IsTrue (has_state self.new)) }
         ensures choice_open { OnOk result (IsTrue (has_choice self.new)) }
     {
-        if let Some(refusal) = self.refused {
-            return Err(refusal);
-        }
-        let outcome = self.add_entry(target, value);
-        self.keep_refusal(outcome)
+        self.assembly.entry(target, value)
     }
 
     /// Closes the open choice, where there is one, before a call that would.
@@ -478,11 +135,7 @@ impl Builder {
         ensures same { OnOk result (IsSameHead self.old self.new) }
         ensures closed { OnOk result (IsChoiceClosed self.new.state) }
     {
-        if let Some(refusal) = self.refused {
-            return Err(refusal);
-        }
-        let outcome = self.end_row();
-        self.keep_refusal(outcome)
+        self.assembly.close_choice()
     }
 
     /// Closes the open choice and the open state, where there are such, before a call that would.
@@ -491,24 +144,14 @@ impl Builder {
         ensures same { OnOk result (IsSameHead self.old self.new) }
         ensures closed { OnOk result (self.new.state ≡ None) }
     {
-        if let Some(refusal) = self.refused {
-            return Err(refusal);
-        }
-        let outcome = self.try_close_state();
-        self.keep_refusal(outcome)
+        self.assembly.close_state()
     }
 
     /// Closes what is open, and gives the model.
-    pub fn finish(self) -> Result<crate::model::Model, RowsError>
+    pub fn finish(self) -> Result<Model, RowsError>
         ensures model { IfOk result (λ model. due_after self (after_finish self) self.refused ≡ Ok model) }
         ensures refusal { IfErr result (λ e. (e ≡ RowsError.Memory) ⊎ (due_after self (after_finish self) self.refused ≡ Err e)) }
     {
-        let mut builder = self;
-        if let Some(refusal) = builder.refused {
-            return Err(refusal);
-        }
-        builder.end_row()?;
-        builder.end_state()?;
-        builder.into_model()
+        self.assembly.finish()
     }
 }

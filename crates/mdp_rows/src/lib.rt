@@ -1,6 +1,7 @@
 //! The model: rows in flat vectors, lent as slices; one truth value per state.
 #![tactic(auto)]
 
+mod assembly;
 mod builder;
 mod choices;
 mod closing;
@@ -8,6 +9,7 @@ mod dir;
 mod error;
 mod given;
 mod labels;
+mod laws;
 mod marks;
 mod model;
 mod policy_rows;
@@ -22,6 +24,7 @@ mod tests;
 pub use builder::Builder;
 pub use dir::Dir;
 pub use error::RowsError;
+pub use laws::replay_law;
 pub use marks::Marks;
 pub use model::Model;
 pub use policy_rows::PolicyRows;

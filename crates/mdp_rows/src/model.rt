@@ -3,6 +3,7 @@ ghost use Rattle.std.specs.List.{All};
 ghost use Rattle.mdp_spec.specs.Mdp.{states_of, choices_at, row_at, has_label, no_choice};
 ghost use Rattle.mdp_spec.specs.Unit.{reward_of};
 ghost use Rattle.mdp_spec.specs.Row.{entries, IsMdp};
+ghost use Rattle.mdp_rows.specs.Limits.{IsModel};
 ghost use Rattle.mdp_spec.specs.Labels.{place_of, marks_of, initial_of};
 
 use crate::choices::Choices;
@@ -52,7 +53,8 @@ impl Model {
 
     /// What each model keeps.
     pub fn known(&self)
-        ensures { IsMdp self.now }
+        ensures mdp { IsMdp self.now }
+        ensures model { IsModel self.now }
     {
         self.choices.known();
     }

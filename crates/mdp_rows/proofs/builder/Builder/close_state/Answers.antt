@@ -1,26 +1,5 @@
-use Rattle.std.proofs.Common.{sym, ◌∙◌}
-use Rattle.mdp_rows.specs.Draft.{IsCall, all_closed}
-use Rattle.mdp_rows.proofs.CallFacts.{refused_is, call_refused, call_kept, all_are_closed}
-use Rattle.mdp_rows.proofs.HeadFacts.{all_same}
-use Rattle.mdp_rows.proofs.OpenFacts.{when_ok}
+use Rattle.mdp_rows.proofs.SoundBuilder.{all_closed-good}
 use Rattle.mdp_rows.proofs.builder.Builder.close_state.Goals as goal
 
-pub returns-in-Some-clause-call : goal.returns-in-Some-clause-call
-returns-in-Some-clause-call c = call_refused _ _ _ (sym (refused_is c.self.inside _ c.self.view_is) ∙ c.in-Some.is)
-
-pub returns-clause-call : goal.returns-clause-call
-returns-clause-call c =
-    rw c.keep_refusal.ensures.same
-    (call_kept _ c.try_close_state-outcome.new.self c.keep_refusal.new.self _ c.try_close_state-outcome.result (sym (refused_is c.self.inside _ c.self.view_is) ∙ c.in_default.is) c.try_close_state-outcome.ensures.follows c.keep_refusal.ensures.unchanged c.keep_refusal.ensures.refused)
-
-pub returns-clause-same : goal.returns-clause-same
-returns-clause-same c =
-    let k : IsCall c.args.self.now c.keep_refusal.new.self (all_closed c.args.self.now) c.try_close_state-outcome.result =
-    call_kept _ c.try_close_state-outcome.new.self c.keep_refusal.new.self _ c.try_close_state-outcome.result (sym (refused_is c.self.inside _ c.self.view_is) ∙ c.in_default.is) c.try_close_state-outcome.ensures.follows c.keep_refusal.ensures.unchanged c.keep_refusal.ensures.refused in
-    rw c.keep_refusal.ensures.same (when_ok c.args.self.now c.keep_refusal.new.self (all_closed c.args.self.now) c.try_close_state-outcome.result k (λ u e. all_same c.args.self.now _ e))
-
-pub returns-clause-closed : goal.returns-clause-closed
-returns-clause-closed c =
-    let k : IsCall c.args.self.now c.keep_refusal.new.self (all_closed c.args.self.now) c.try_close_state-outcome.result =
-    call_kept _ c.try_close_state-outcome.new.self c.keep_refusal.new.self _ c.try_close_state-outcome.result (sym (refused_is c.self.inside _ c.self.view_is) ∙ c.in_default.is) c.try_close_state-outcome.ensures.follows c.keep_refusal.ensures.unchanged c.keep_refusal.ensures.refused in
-    rw c.keep_refusal.ensures.same (when_ok c.args.self.now c.keep_refusal.new.self (all_closed c.args.self.now) c.try_close_state-outcome.result k (λ u e. all_are_closed c.args.self.now _ e))
+pub invariant_of-self : goal.invariant_of-self
+invariant_of-self c = all_closed-good c.self.inside.assembly c.close_state.new.self c.close_state.result c.self.invariant c.close_state.ensures.call

@@ -1,0 +1,277 @@
+-- Drafts made call by call, and what is refused, computed.
+use Rattle.std.proofs.Common.{◌≡◌, ℕ, zero, suc, ◌<◌, arith, length, false, List, [], ◌∷◌, Some, None, refl, pos}
+use Rattle.std.specs.Prelude.{Result, Ok, Err}
+use Rattle.std.specs.List.{All, concat}
+use Rattle.std.proofs.lemmas.List.Elements.{All-from_recursion}
+use borrow.Author.Tests.{leb-true}
+use Rattle.mdp_math.specs.Gcd.{gcd, gcd_with_fuel}
+use Rattle.mdp_math.specs.Rational.{ℚ, of_int, ratio, inv_ℚ, le_ℚ, lt_ℚ, ◌<ℚ◌, ◌+ℚ◌, ◌*ℚ◌}
+use Rattle.mdp_math.specs.Written.{narrow, narrow_ℚ, written_add}
+use Rattle.mdp_math.proofs.Order.{0ℚ}
+use Rattle.mdp_num.specs.Numeral.{limit}
+use Rattle.mdp_spec.specs.Mdp.{Entry, Choice, Mdp, choices_at, row_at}
+use Rattle.mdp_spec.specs.Row.{IsRow, IsMdp}
+use Rattle.mdp_num.specs.Meaning.{IsWithinLimit}
+use Rattle.mdp_rows.specs.Name.{IsName, IsRewardName}
+use Rattle.mdp_rows.specs.Limits.{in_order_of_sight, IsChoiceWithin, IsStateWithin, IsModel}
+use Rattle.mdp_rows.proofs.SoundRewards.{within_by}
+use Rattle.mdp_rows.specs.Draft.{Draft, new_draft, ◌>>=◌, closed_row, after_state, after_label, after_choice, after_entry, after_finish}
+use Rattle.mdp_rows.specs.Replay.{replayed}
+use Rattle.mdp_rows.specs.declared.error.RowsError.{RowsError}
+use Rattle.mdp_rows.specs.declared.error.RowsError.TheVariants.{RowSum, RowWide, Twice, NoChoice, TooMany, Target, Large, Count}
+use Rattle.mdp_rows.specs.declared.rule.RowRule.{RowRule}
+use Rattle.mdp_rows.specs.declared.rule.RowRule.TheVariants.{Exact, Scaled}
+
+-- ---- the calls, and numbers
+
+abbrev state : ℚ → Draft → Result Draft RowsError
+state reward d = after_state d (reward ∷ [])
+
+abbrev label : List ℕ → Draft → Result Draft RowsError
+label name d = after_label d name
+
+abbrev choice : ℚ → Draft → Result Draft RowsError
+choice reward d = after_choice d (reward ∷ [])
+
+abbrev entry : ℕ → ℚ → Draft → Result Draft RowsError
+entry target value d = after_entry d target value
+
+abbrev one : ℚ
+one = of_int (pos 1)
+
+abbrev third : ℚ
+third = ratio (pos 1) 3
+
+abbrev two_thirds : ℚ
+two_thirds = ratio (pos 2) 3
+
+abbrev half : ℚ
+half = ratio (pos 1) 2
+
+-- one reward model, `cost`; labels `init` and `goal`
+abbrev cost : List ℕ
+cost = 99 ∷ 111 ∷ 115 ∷ 116 ∷ []
+
+abbrev init : List ℕ
+init = 105 ∷ 110 ∷ 105 ∷ 116 ∷ []
+
+abbrev goal : List ℕ
+goal = 103 ∷ 111 ∷ 97 ∷ 108 ∷ []
+
+abbrev draft : ℕ → RowRule → Result Draft RowsError
+draft states rule = Ok (new_draft states rule (cost ∷ []))
+
+-- ---- a model of two states
+
+abbrev made : Result Mdp RowsError
+made =
+    draft 2 Exact >>= state half >>= label init >>= choice one >>= entry 1 two_thirds >>= entry 0 third >>= choice 0ℚ >>= entry 1 one
+    >>= state 0ℚ >>= label goal >>= label init >>= choice (of_int (pos 2)) >>= entry 0 0ℚ >>= entry 1 one >>= after_finish
+
+abbrev mixed : List Entry
+mixed = record { target = 0; prob = third } ∷ record { target = 1; prob = two_thirds } ∷ []
+
+abbrev sure : List Entry
+sure = record { target = 1; prob = one } ∷ []
+
+abbrev first_choices : List Choice
+first_choices = record { row = mixed; rewards = ratio (pos 3) 2 ∷ [] } ∷ record { row = sure; rewards = half ∷ [] } ∷ []
+
+abbrev last_choices : List Choice
+last_choices = record { row = sure; rewards = of_int (pos 2) ∷ [] } ∷ []
+
+abbrev two : Mdp
+two = record {
+  names = cost ∷ [];
+  labels = init ∷ goal ∷ [];
+  states = record { labels = 0 ∷ []; choices = first_choices } ∷ record { labels = 0 ∷ 1 ∷ []; choices = last_choices } ∷ [];
+}
+
+-- the rewards of state 0 are added to those of its choices; the label `goal` is given first in state 1, and has the second place; the entry
+-- of value 0 goes
+two-made : made ≡ Ok two
+unfolding gcd gcd_with_fuel ratio of_int ◌+ℚ◌ le_ℚ narrow narrow_ℚ written_add
+two-made = refl
+
+two-replayed : replayed two ≡ Ok two
+unfolding gcd gcd_with_fuel ratio of_int ◌+ℚ◌ le_ℚ narrow narrow_ℚ written_add
+two-replayed = refl
+
+-- it is a model: its rows are distributions over its two states
+mixed_row : IsRow 2 mixed
+unfolding gcd gcd_with_fuel ratio of_int ◌+ℚ◌ lt_ℚ
+mixed_row = record {
+  distribution = record {
+    ascending = refl;
+    positive = All-from_recursion (λ x. of_int (pos 0) <ℚ x.prob) mixed (record { lt = tt }, (record { lt = tt }, tt));
+    total = refl;
+  };
+  in_range = All-from_recursion (λ x. x.target < 2) mixed (omega arith, (omega arith, tt));
+}
+
+sure_row : IsRow 2 sure
+unfolding gcd gcd_with_fuel ratio of_int ◌+ℚ◌ lt_ℚ
+sure_row = record {
+  distribution = record {
+    ascending = refl;
+    positive = All-from_recursion (λ x. of_int (pos 0) <ℚ x.prob) sure (record { lt = tt }, tt);
+    total = refl;
+  };
+  in_range = All-from_recursion (λ x. x.target < 2) sure (omega arith, tt);
+}
+
+two-states : All (IsStateWithin 1) two.states
+unfolding gcd gcd_with_fuel ratio of_int le_ℚ
+two-states =
+    All-from_recursion (IsStateWithin 1) two.states (
+      record {
+        ascending = refl;
+        few_labels = omega arith;
+        choices =
+            All-from_recursion (IsChoiceWithin 1) first_choices (
+              record { den = leb-true 3 limit refl; rewards = refl; terms = All-from_recursion IsWithinLimit (ratio (pos 3) 2 ∷ []) (within_by (ratio (pos 3) 2) (record { le = tt }) refl, tt) },
+              (record { den = leb-true 1 limit refl; rewards = refl; terms = All-from_recursion IsWithinLimit (half ∷ []) (within_by half (record { le = tt }) refl, tt) }, tt),
+            );
+      },
+      (
+        record {
+          ascending = refl;
+          few_labels = omega arith;
+          choices =
+              All-from_recursion (IsChoiceWithin 1) last_choices
+              (record { den = leb-true 1 limit refl; rewards = refl; terms = All-from_recursion IsWithinLimit (of_int (pos 2) ∷ []) (within_by (of_int (pos 2)) (record { le = tt }) refl, tt) }, tt);
+        },
+        tt,
+      ),
+    )
+
+two-mdp : IsMdp two
+two-mdp = record { some = omega arith; few = omega arith; choice = choices; row = rows }
+  where
+    choices : (s : ℕ) → s < 2 → 0 < length (choices_at two s)
+    choices zero h = omega arith
+    choices (suc zero) h = omega arith
+    choices (suc (suc s)) h = absurd (omega arith)
+
+    rows : (s c : ℕ) → s < 2 → c < length (choices_at two s) → IsRow 2 (row_at two s c)
+    rows zero zero h l = mixed_row
+    rows zero (suc zero) h l = sure_row
+    rows zero (suc (suc c)) h l = absurd (omega arith)
+    rows (suc zero) zero h l = sure_row
+    rows (suc zero) (suc c) h l = absurd (omega arith)
+    rows (suc (suc s)) c h l = absurd (omega arith)
+
+two-model : IsModel two
+two-model = record {
+  mdp = two-mdp;
+  names = record { some = omega arith; few = omega arith; each = All-from_recursion IsRewardName (cost ∷ []) (refl, tt); different = refl; first = refl };
+  labels = All-from_recursion IsName (init ∷ goal ∷ []) (refl, (refl, tt));
+  different = refl;
+  few_labels = omega arith;
+  sight = refl;
+  states = two-states;
+  few_choices = omega arith;
+  few_entries = omega arith;
+}
+
+-- labels in another order than that of their first sight
+other-order : in_order_of_sight 0 (record { labels = 1 ∷ []; choices = [] } ∷ record { labels = 0 ∷ []; choices = [] } ∷ []) 2 ≡ false
+other-order = refl
+
+-- ---- rows
+
+abbrev near_third : ℚ
+near_third = ratio (pos 333333) 1000000
+
+abbrev three_of : ℚ → List Entry
+three_of x = record { target = 0; prob = x } ∷ record { target = 1; prob = x } ∷ record { target = 2; prob = x } ∷ []
+
+-- 0.333333 three times adds to 0.999999
+thirds-refused : closed_row Exact 0 0 (three_of near_third) ≡ Err (RowSum 0 0)
+unfolding gcd gcd_with_fuel ratio of_int ◌+ℚ◌ le_ℚ
+thirds-refused = refl
+
+thirds-scaled : closed_row Scaled 0 0 (three_of near_third) ≡ Ok (three_of third)
+unfolding gcd gcd_with_fuel ratio of_int inv_ℚ ◌+ℚ◌ ◌*ℚ◌ le_ℚ
+thirds-scaled = refl
+
+-- 0.333 three times adds to 0.999, which is near enough, and 0.334 three times to 1.002, which isn't
+thirds-at_bound : closed_row Scaled 0 0 (three_of (ratio (pos 333) 1000)) ≡ Ok (three_of third)
+unfolding gcd gcd_with_fuel ratio of_int inv_ℚ ◌+ℚ◌ ◌*ℚ◌ le_ℚ
+thirds-at_bound = refl
+
+thirds-past_bound : closed_row Scaled 0 0 (three_of (ratio (pos 334) 1000)) ≡ Err (RowSum 0 0)
+unfolding gcd gcd_with_fuel ratio of_int inv_ℚ ◌+ℚ◌ ◌*ℚ◌ le_ℚ
+thirds-past_bound = refl
+
+-- no entry at all adds to 0
+none-refused : closed_row Exact 3 1 [] ≡ Err (RowSum 3 1)
+unfolding of_int le_ℚ
+none-refused = refl
+
+-- 1/10^36 and 1/(10^36 - 1) have no common denominator within the limit, and don't add to 1
+wide-first : closed_row Exact 0 0 (record { target = 0; prob = ratio (pos 1) limit } ∷ record { target = 1; prob = ratio (pos 1) 999999999999999999999999999999999999 } ∷ []) ≡ Err (RowWide 0 0)
+unfolding gcd gcd_with_fuel ratio of_int ◌+ℚ◌ le_ℚ
+wide-first = refl
+
+-- 1/10^36 and 1 have one, but not 1/(10^36 + 1) and 10^36/(10^36 + 1)
+wide-scaled : closed_row Scaled 0 0 (record { target = 0; prob = ratio (pos 1) limit } ∷ record { target = 1; prob = one } ∷ []) ≡ Err (RowWide 0 0)
+unfolding gcd gcd_with_fuel ratio of_int inv_ℚ ◌+ℚ◌ ◌*ℚ◌ le_ℚ
+wide-scaled = refl
+
+-- ---- what the calls refuse
+
+-- the second choice of state 1 ends the first, whose row adds to 2/3
+row-refused : (draft 2 Exact >>= state 0ℚ >>= choice 0ℚ >>= entry 1 one >>= state 0ℚ >>= choice 0ℚ >>= entry 0 two_thirds >>= choice 0ℚ) ≡ Err (RowSum 1 0)
+unfolding gcd gcd_with_fuel ratio of_int ◌+ℚ◌ le_ℚ narrow narrow_ℚ written_add
+row-refused = refl
+
+-- an entry of value 0 stands until its row ends
+zero-twice : (draft 2 Exact >>= state 0ℚ >>= choice 0ℚ >>= entry 1 0ℚ >>= entry 0 third >>= entry 1 two_thirds) ≡ Err Twice
+unfolding gcd gcd_with_fuel ratio of_int ◌+ℚ◌ narrow narrow_ℚ written_add
+zero-twice = refl
+
+past-target : (draft 2 Exact >>= state 0ℚ >>= choice 0ℚ >>= entry 2 one) ≡ Err Target
+unfolding gcd gcd_with_fuel ratio of_int ◌+ℚ◌ narrow narrow_ℚ written_add
+past-target = refl
+
+-- 10^36 and 1 add to more than 10^36
+large-sum : (draft 1 Exact >>= state (of_int (pos limit)) >>= choice one) ≡ Err Large
+unfolding gcd gcd_with_fuel ratio of_int ◌+ℚ◌ narrow narrow_ℚ written_add
+large-sum = refl
+
+-- the common denominator of 1/10^36 and 1/(10^36 - 1) is past width
+wide-sum : (draft 1 Exact >>= state (ratio (pos 1) limit) >>= choice (ratio (pos 1) 999999999999999999999999999999999999)) ≡ Err Large
+unfolding gcd gcd_with_fuel ratio of_int ◌+ℚ◌ narrow narrow_ℚ written_add
+wide-sum = refl
+
+no-choice : (draft 2 Exact >>= state 0ℚ >>= label init >>= state 0ℚ) ≡ Err (NoChoice 0)
+no-choice = refl
+
+no-choice_at_end : (draft 1 Exact >>= state 0ℚ >>= after_finish) ≡ Err (NoChoice 0)
+no-choice_at_end = refl
+
+too-few : (draft 2 Exact >>= state 0ℚ >>= choice 0ℚ >>= entry 0 one >>= after_finish) ≡ Err Count
+unfolding gcd gcd_with_fuel ratio of_int ◌+ℚ◌ le_ℚ narrow narrow_ℚ written_add
+too-few = refl
+
+too-many : (draft 1 Exact >>= state 0ℚ >>= choice 0ℚ >>= entry 0 one >>= state 0ℚ) ≡ Err Count
+unfolding gcd gcd_with_fuel ratio of_int ◌+ℚ◌ le_ℚ narrow narrow_ℚ written_add
+too-many = refl
+
+-- the same label 64 times is one place, and once more is too often
+abbrev label_often : List ℕ → Draft → Result Draft RowsError
+label_often [] d = Ok d
+label_often (n ∷ times) d = label init d >>= label_often times
+
+abbrev eight : List ℕ
+eight = 1 ∷ 2 ∷ 3 ∷ 4 ∷ 5 ∷ 6 ∷ 7 ∷ 8 ∷ []
+
+abbrev times_64 : List ℕ
+times_64 = concat (eight ∷ eight ∷ eight ∷ eight ∷ eight ∷ eight ∷ eight ∷ eight ∷ [])
+
+often-label : (draft 1 Exact >>= state 0ℚ >>= label_often times_64) ≡ Ok (record (new_draft 1 Exact (cost ∷ [])) { labels = init ∷ []; state = Some (record { rewards = 0ℚ ∷ []; labels = 0 ∷ []; label_calls = 64; choices = []; choice = None }) })
+often-label = refl
+
+too-often : (draft 1 Exact >>= state 0ℚ >>= label_often times_64 >>= label init) ≡ Err TooMany
+too-often = refl

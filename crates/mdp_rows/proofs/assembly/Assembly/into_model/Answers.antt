@@ -1,0 +1,13 @@
+use Rattle.std.proofs.Common.{sym, ap, ◌∙◌}
+use Rattle.std.specs.Prelude.{Ok}
+use Rattle.mdp_rows.proofs.CallFacts.{too_few, is_finished, is_flat}
+use Rattle.mdp_rows.proofs.assembly.Assembly.into_model.Goals as goal
+
+pub returns-then-states-self : goal.returns-then-states-self
+returns-then-states-self c = too_few c.self.inside _ c.states.result c.self.view_is c.self.invariant c.states.ensures c.if-states-self.true
+
+pub returns : goal.returns
+returns c = is_finished c.self.inside _ c.states.result c.self.view_is c.self.invariant c.states.ensures c.if-states-self.false ∙ ap Ok (sym c.from_parts.ensures)
+
+pub from_parts-requires : goal.from_parts-requires
+from_parts-requires c = is_flat c.self.inside _ c.states.result c.self.view_is c.self.invariant c.requires.closed c.states.ensures c.if-states-self.false c.requires.whole

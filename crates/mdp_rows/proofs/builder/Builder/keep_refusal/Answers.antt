@@ -1,6 +1,0 @@
-use Rattle.std.proofs.Common.{refl}
-use Rattle.mdp_rows.proofs.CallFacts.{refused_now}
-use Rattle.mdp_rows.proofs.builder.Builder.keep_refusal.Goals as goal
-
-pub returns-in-Err-clause-refused : goal.returns-in-Err-clause-refused
-returns-in-Err-clause-refused c = rw c.in-Err.is (refused_now _ c.in-Err.refusal refl)
