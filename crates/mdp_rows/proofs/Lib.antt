@@ -16,6 +16,7 @@ mod Outcomes
 mod Parts
 mod Pieces
 mod Places
+mod PredFacts
 mod RowFacts
 mod RowsGrow
 mod RowsOfPolicy

@@ -10,3 +10,5 @@ pub mod FlatDraft
 pub mod DraftCode
 pub mod Place
 pub mod Name
+pub mod PredCode
+pub mod Preds
