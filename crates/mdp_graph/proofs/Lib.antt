@@ -1,0 +1,9 @@
+mod Among
+mod EdgeFacts
+mod Falls
+mod Given
+mod MayReach
+mod Passes
+mod RankFacts
+mod Reached
+mod Steps
