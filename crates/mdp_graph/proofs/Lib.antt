@@ -1,9 +1,12 @@
 mod Among
 mod EdgeFacts
+mod Examples
 mod Falls
 mod Given
 mod MayReach
 mod Passes
 mod RankFacts
 mod Reached
+mod Settling
 mod Steps
+mod SureSome

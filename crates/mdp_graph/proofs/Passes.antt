@@ -1,5 +1,5 @@
 -- What a pass answers, from the ranks that were found.
-use Rattle.std.proofs.Common.{◌≡◌, inl, inr, ℕ, suc, ◌<◌, Bool, true, false, ◌||◌, ◌&&◌, nat_lt, lt-ltb, le-ltb, List, [], ◌∷◌, length, map, get_or, replicate, refl, sym, ap, ◌∙◌, arith, Option, Some, None, is_some}
+use Rattle.std.proofs.Common.{◌≡◌, inl, inr, ℕ, zero, suc, ◌<◌, Bool, true, false, ◌||◌, ◌&&◌, nat_lt, lt-ltb, le-ltb, List, [], ◌∷◌, length, map, get_or, refl, sym, ap, ◌∙◌, arith, Option, Some, None, is_some}
 use Rattle.std.specs.List.{All}
 use Rattle.std.proofs.lemmas.Bool.{false≢true}
 use Rattle.std.proofs.lemmas.List.{get_or-map, length-map}
@@ -7,13 +7,13 @@ use Rattle.mdp_spec.specs.Mdp.{Entry, Mdp, states_of, choices_at, row_at}
 use Rattle.mdp_spec.specs.Row.{IsMdp}
 use Rattle.mdp_graph.specs.Sets.{marked, can_enter, stays_in}
 use Rattle.mdp_graph.specs.Layers.{reached, rank_at, AreRanks, AreReached, AreLeastRanks}
-use Rattle.mdp_graph.specs.Edges.{has_edge, has_way, leads}
-use Rattle.mdp_graph.specs.Ranking.{AreRankedBy}
 use Rattle.mdp_graph.specs.Choices.{plain_rank, is_before, may_fall, IsFirst, AreLeast}
 use Rattle.mdp_graph.specs.Reach.{falls}
+use Rattle.mdp_graph.proofs.Among.{case-bool}
 use Rattle.mdp_graph.proofs.Falls.{case-any}
+use Rattle.mdp_graph.proofs.RankFacts.{some-same}
 use Rattle.mdp_graph.proofs.Reached.{rank_of, at_most-some}
-use Rattle.mdp_graph.proofs.Steps.{all-inside, enters-by, way-choice, and-right}
+use Rattle.mdp_graph.proofs.Steps.{enters-at, enters-by}
 
 -- the marks and the plain ranks, state by state
 pub mark-is : (ranks : List (Option ℕ)) (s : ℕ) → s < length ranks → marked (map is_some ranks) s ≡ is_some (rank_at ranks s)
@@ -22,11 +22,11 @@ mark-is ranks s h = get_or-map is_some ranks s None false h
 pub plain-is : (ranks : List (Option ℕ)) (s : ℕ) → s < length ranks → get_or (map plain_rank ranks) s 0 ≡ plain_rank (rank_at ranks s)
 plain-is ranks s h = get_or-map plain_rank ranks s None 0 h
 
-has_rank : (o : Option ℕ) → is_some o ≡ true → (r : ℕ) × (o ≡ Some r)
+pub has_rank : (o : Option ℕ) → is_some o ≡ true → (r : ℕ) × (o ≡ Some r)
 has_rank None e = absurd (false≢true e)
 has_rank (Some r) e = (r, refl)
 
-no_rank : (o : Option ℕ) → is_some o ≡ false → o ≡ None
+pub no_rank : (o : Option ℕ) → is_some o ≡ false → o ≡ None
 no_rank None e = refl
 no_rank (Some r) e = absurd (false≢true (sym e))
 
@@ -77,56 +77,75 @@ before-zero : (o : Option ℕ) → is_before 0 o ≡ false
 before-zero None = refl
 before-zero (Some q) = le-ltb q 0 (omega arith)
 
-module _ (m : Mdp) (ok : IsMdp m) (blocked targets : List Bool) (edges : List (List ℕ)) (are : (s t : ℕ) → s < states_of m → t < states_of m → has_edge edges s t ≡ leads m (replicate (states_of m) true) blocked s t)
-    (ranks : List (Option ℕ)) (a : AreRankedBy edges (marked targets) (states_of m) ranks) where
+-- a successor of smaller rank, by the ranks that were found and by the marks and ranks that are answered
+pub falls-is : (m : Mdp) (ok : IsMdp m) (ranks : List (Option ℕ)) → length ranks ≡ states_of m → (s c : ℕ) → s < states_of m → c < length (choices_at m s)
+    → can_enter (λ t. is_before (plain_rank (rank_at ranks s)) (rank_at ranks t)) (row_at m s c) ≡ falls m (map is_some ranks) (map plain_rank ranks) s c
+falls-is m ok ranks count s c h k =
+    let row = ok.row s c h k in
+    same-enters (λ t. is_before (plain_rank (rank_at ranks s)) (rank_at ranks t)) (λ t. marked (map is_some ranks) t && nat_lt (get_or (map plain_rank ranks) t 0) (get_or (map plain_rank ranks) s 0)) (row_at m s c) (states_of m) row.in_range
+    (λ t l.
+    before-is (plain_rank (rank_at ranks s)) (rank_at ranks t) ∙ rw (mark-is ranks t (omega (arith, l, count)), plain-is ranks t (omega (arith, l, count)), plain-is ranks s (omega (arith, h, count))) refl)
+
+-- where each step is a choice that stays inside, the least choices are found by the ranks
+module _ (m : Mdp) (ok : IsMdp m) (inside targets : List Bool) (step : (ℕ → Bool) → ℕ → Bool) (ranks : List (Option ℕ)) (a : AreRanks step (marked targets) (states_of m) ranks)
+    (way : (set : ℕ → Bool) (s : ℕ) → s < states_of m → step set s ≡ true → (c : ℕ) × (c < length (choices_at m s)) × (stays_in (marked inside) (row_at m s c) ≡ true) × (can_enter set (row_at m s c) ≡ true))
+    (test : ℕ → ℕ → Bool) (same : (s c : ℕ) → s < states_of m → c < length (choices_at m s) → may_fall m inside ranks s c ≡ test s c) where
   here : (s : ℕ) → s < states_of m → s < length ranks
   here s h = omega (arith, a.count)
 
-  -- the test of a choice
-  falls-is : (s c : ℕ) → s < states_of m → c < length (choices_at m s) → may_fall m (replicate (states_of m) true) ranks s c ≡ falls m (map is_some ranks) (map plain_rank ranks) s c
-  falls-is s c h k =
-      let row = ok.row s c h k in
-      ap (λ b. b && can_enter (λ t. is_before (plain_rank (rank_at ranks s)) (rank_at ranks t)) (row_at m s c)) (all-inside (states_of m) (row_at m s c) row.in_range)
-      ∙ same-enters (λ t. is_before (plain_rank (rank_at ranks s)) (rank_at ranks t)) (λ t. marked (map is_some ranks) t && nat_lt (get_or (map plain_rank ranks) t 0) (get_or (map plain_rank ranks) s 0)) (row_at m s c) (states_of m) row.in_range
-      (λ t l. before-is (plain_rank (rank_at ranks s)) (rank_at ranks t) ∙ rw (mark-is ranks t (here t l), plain-is ranks t (here t l), plain-is ranks s (here s h)) refl)
+  -- a step from the ranks below q leads below q + 1
+  by-step : (s q : ℕ) → s < states_of m → rank_at ranks s ≡ Some (suc q) → step (reached step (marked targets) q) s ≡ true → (c : ℕ) × (c < length (choices_at m s)) × (may_fall m inside ranks s c ≡ true)
+  by-step s q h e stepped =
+      let w = way (reached step (marked targets) q) s h stepped in
+      let row = ok.row s w.0 h w.1 in
+      let z = enters-at (reached step (marked targets) q) (row_at m s w.0) (states_of m) row.in_range w.3 in
+      let r = rank_of q (rank_at ranks z.0) (a.least q z.0 z.1 ∙ z.3) in (
+        w.0,
+        w.1,
+        ap (λ b. b && can_enter (λ t. is_before (plain_rank (rank_at ranks s)) (rank_at ranks t)) (row_at m s w.0)) w.2
+            ∙ enters-by (λ t. is_before (plain_rank (rank_at ranks s)) (rank_at ranks t)) (row_at m s w.0) z.0 z.2 (rw (e, r.1) (lt-ltb r.0 (suc q) (omega (arith, r.2)))),
+      )
 
-  -- a state of rank above 0 has such a choice
-  some-falls : (s r : ℕ) → s < states_of m → rank_at ranks s ≡ Some r → marked targets s ≡ false → (c : ℕ) × (c < length (choices_at m s)) × (may_fall m (replicate (states_of m) true) ranks s c ≡ true)
-  some-falls s r h e not_target = elim (a.from s r h e) [
-    | inl z ↦ absurd (false≢true (sym not_target ∙ z.1))
-    | inr z ↦
-        (let w = way-choice m (replicate (states_of m) true) s z.0 (and-right _ (has_way m (replicate (states_of m) true) s z.0) (sym (are s z.0 h z.2) ∙ z.3)) in (
-          w.0,
-          w.1,
-          ap (λ b. b && can_enter (λ t. is_before (plain_rank (rank_at ranks s)) (rank_at ranks t)) (row_at m s w.0)) w.2
-              ∙ enters-by (λ t. is_before (plain_rank (rank_at ranks s)) (rank_at ranks t)) (row_at m s w.0) z.0 w.3 (rw (e, z.4) (lt-ltb z.1 r (omega (arith, z.5)))),
-        ))
+  -- a marked state that is no target has such a choice
+  some-falls : (s r : ℕ) → s < states_of m → rank_at ranks s ≡ Some r → marked targets s ≡ false → (c : ℕ) × (c < length (choices_at m s)) × (may_fall m inside ranks s c ≡ true)
+  unfolding reached
+  some-falls s zero h e not_target = absurd (false≢true (sym not_target ∙ sym (a.least 0 s h) ∙ at_most-some 0 0 (rank_at ranks s) e (omega arith)))
+  some-falls s (suc q) h e not_target = elim (case-bool (reached step (marked targets) q s)) [
+    | inl before ↦
+        (let w = rank_of q (rank_at ranks s) (a.least q s h ∙ before) in
+        let k : suc q ≡ w.0 = some-same (suc q) w.0 (rank_at ranks s) e w.1 in absurd (omega (arith, k, w.2)))
+    | inr new ↦
+        by-step s q h e
+        (sym (ap (λ b. b || step (reached step (marked targets) q) s) new) ∙ sym (a.least (suc q) s h) ∙ at_most-some (suc q) (suc q) (rank_at ranks s) e (omega arith))
   ]
 
   -- a state of rank 0 has none
-  none-falls : (s c : ℕ) → plain_rank (rank_at ranks s) ≡ 0 → may_fall m (replicate (states_of m) true) ranks s c ≡ false
+  none-falls : (s c : ℕ) → plain_rank (rank_at ranks s) ≡ 0 → may_fall m inside ranks s c ≡ false
   none-falls s c e =
-      ap (λ b. stays_in (marked (replicate (states_of m) true)) (row_at m s c) && b) (never-enters (row_at m s c) (λ t. is_before (plain_rank (rank_at ranks s)) (rank_at ranks t)) (λ t. ap (λ r. is_before r (rank_at ranks t)) e ∙ before-zero (rank_at ranks t)))
-      ∙ and-none (stays_in (marked (replicate (states_of m) true)) (row_at m s c))
+      ap (λ b. stays_in (marked inside) (row_at m s c) && b) (never-enters (row_at m s c) (λ t. is_before (plain_rank (rank_at ranks s)) (rank_at ranks t)) (λ t. ap (λ r. is_before r (rank_at ranks t)) e ∙ before-zero (rank_at ranks t)))
+      ∙ and-none (stays_in (marked inside) (row_at m s c))
 
-  pub least_choices : (choices : List ℕ) → length choices ≡ states_of m → ((s : ℕ) → s < states_of m → IsFirst (may_fall m (replicate (states_of m) true) ranks s) (length (choices_at m s)) (get_or choices s 0))
-      → AreLeast m targets (map is_some ranks) (falls m (map is_some ranks) (map plain_rank ranks)) choices
+  target-zero : (s : ℕ) → s < states_of m → marked targets s ≡ true → plain_rank (rank_at ranks s) ≡ 0
+  unfolding reached
+  target-zero s h e = let w = rank_of 0 (rank_at ranks s) (a.least 0 s h ∙ e) in ap plain_rank w.1 ∙ omega (arith, w.2)
+
+  pub least_choices : (choices : List ℕ) → length choices ≡ states_of m → ((s : ℕ) → s < states_of m → IsFirst (may_fall m inside ranks s) (length (choices_at m s)) (get_or choices s 0)) → AreLeast m targets (map is_some ranks) test choices
   least_choices choices count first =
-      let inside : (s : ℕ) → s < states_of m → get_or choices s 0 < length (choices_at m s) = λ s h. elim (case-any (may_fall m (replicate (states_of m) true) ranks s) (length (choices_at m s))) [
+      let in_range : (s : ℕ) → s < states_of m → get_or choices s 0 < length (choices_at m s) = λ s h. elim (case-any (may_fall m inside ranks s) (length (choices_at m s))) [
         | inl w ↦ (let l = IsFirst.least (first s h) w.0 w.1 w.2 in omega (arith, l.1, w.1))
         | inr none ↦ (let z = IsFirst.none (first s h) none in let k = ok.choice s h in omega (arith, z, k))
       ] in
       record {
         count = count;
-        in_range = inside;
+        in_range = in_range;
         passes = λ s h e not_target.
             (let r = has_rank (rank_at ranks s) (sym (mark-is ranks s (here s h)) ∙ e) in
             let w = some-falls s r.0 h r.1 not_target in
             let l = IsFirst.least (first s h) w.0 w.1 w.2 in
-            sym (falls-is s (get_or choices s 0) h (inside s h)) ∙ l.0);
-        least = λ s c h e k. (let l = IsFirst.least (first s h) c k (falls-is s c h k ∙ e) in l.1);
+            sym (same s (get_or choices s 0) h (in_range s h)) ∙ l.0);
+        least = λ s c h e k. (let l = IsFirst.least (first s h) c k (same s c h k ∙ e) in l.1);
         zero = λ s h e. IsFirst.none (first s h) (λ d k. none-falls s d (elim e [
           | inl unmarked ↦ ap plain_rank (no_rank (rank_at ranks s) (sym (mark-is ranks s (here s h)) ∙ unmarked))
-          | inr target ↦ ap plain_rank (a.first_ranked s h target)
+          | inr target ↦ target-zero s h target
         ]));
       }

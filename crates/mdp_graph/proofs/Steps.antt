@@ -46,7 +46,7 @@ all-inside n [] range = refl
 all-inside n (x ∷ row) range =
     ap (λ b. b && stays_in (marked (replicate n true)) row) (get_or-replicate n x.target true false (range 0 x (omega arith))) ∙ all-inside n row (λ k d l. range (suc k) d (omega arith))
 
-and-left : (a b : Bool) → (a && b) ≡ true → a ≡ true
+pub and-left : (a b : Bool) → (a && b) ≡ true → a ≡ true
 and-left true b e = refl
 and-left false b e = absurd (false≢true e)
 
@@ -54,7 +54,7 @@ pub and-right : (a b : Bool) → (a && b) ≡ true → b ≡ true
 and-right true b e = e
 and-right false b e = absurd (false≢true e)
 
-both : (a b : Bool) → a ≡ true → b ≡ true → (a && b) ≡ true
+pub both : (a b : Bool) → a ≡ true → b ≡ true → (a && b) ≡ true
 both a b e f = rw (e, f) refl
 
 -- a way to t is a choice

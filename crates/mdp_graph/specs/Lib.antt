@@ -5,3 +5,5 @@ pub mod ListCode
 pub mod Ranking
 pub mod Choices
 pub mod Reach
+pub mod Sure
+pub mod Settled

@@ -5,6 +5,10 @@ mod edges;
 mod pass;
 mod ranking;
 mod reach;
+mod sure;
+#[cfg(test)]
+mod tests;
 
 pub use pass::Pass;
 pub use reach::{along, may_reach};
+pub use sure::sure_some;

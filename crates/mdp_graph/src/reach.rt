@@ -13,7 +13,7 @@ use mdp_rows::{Marks, Model, RowsOf};
 use std::alloc::{AllocError, Global};
 
 /// All of so many states.
-fn all_states(alloc: Global, states: u32) -> Result<Marks, AllocError>
+pub(crate) fn all_states(alloc: Global, states: u32) -> Result<Marks, AllocError>
     ensures { IfOk result (λ marks. marks ≡ replicate states true) }
 {
     Ok(Marks::from_values(vec![in alloc; true; states as usize]?))
