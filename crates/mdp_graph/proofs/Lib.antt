@@ -7,6 +7,7 @@ mod MayReach
 mod Passes
 mod RankFacts
 mod Reached
+mod Rounding
 mod Settling
 mod Steps
 mod SureSome

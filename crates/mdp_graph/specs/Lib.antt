@@ -7,3 +7,5 @@ pub mod Choices
 pub mod Reach
 pub mod Sure
 pub mod Settled
+pub mod Rounds
+pub mod Noted

@@ -16,7 +16,7 @@ use mdp_rows::{Marks, Model};
 use std::alloc::Global;
 
 /// The least ranks by which states reach a goal by choices all of whose successors are inside.
-fn ranks_inside(
+pub(crate) fn ranks_inside(
     alloc: Global,
     model: &Model,
     inside: &Marks,
@@ -33,7 +33,7 @@ fn ranks_inside(
 }
 
 /// How many states have a rank.
-fn count_ranked(ranks: &[Option<u32>]) -> usize
+pub(crate) fn count_ranked(ranks: &[Option<u32>]) -> usize
     ensures { result ≡ count_by is_some ranks.now }
 {
     let mut count = 0;

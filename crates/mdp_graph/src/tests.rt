@@ -2,7 +2,7 @@ ghost use Rattle.std.specs.Prelude.{◌≡◌, length, IfOk};
 ghost use Rattle.mdp_spec.specs.Mdp.{states_of};
 
 use crate::ranking::marked_states;
-use crate::{may_reach, sure_some};
+use crate::{may_reach, rounds_outside, sure_some};
 use mdp_num::{Memory, read_numeral};
 use mdp_rows::{Builder, Marks, Model};
 use std::alloc::Global;
@@ -97,5 +97,17 @@ fn sure_some_avoids_the_trap(rt: HostRuntime) -> Result<(), Fail> {
     assert_eq!(rt; marked.as_slice(), [0, 2].as_slice());
     assert_eq!(rt; pass.ranks.as_slice(), [1, 0, 0].as_slice());
     assert_eq!(rt; pass.choices.as_slice(), [1, 0, 0].as_slice());
+    Ok(())
+}
+
+#[test]
+fn rounds_count_from_one(rt: HostRuntime) -> Result<(), Fail> {
+    let model = trap(rt.alloc())?;
+    let goal = marks_of(rt.alloc(), &model, &[2])?;
+    let rounds = rounds_outside(rt.alloc(), &model, &goal)?;
+    assert_eq!(rt; rounds.as_slice(), [0, 1, 0].as_slice());
+    let none = marks_of(rt.alloc(), &model, &[])?;
+    let rounds = rounds_outside(rt.alloc(), &model, &none)?;
+    assert_eq!(rt; rounds.as_slice(), [1, 1, 1].as_slice());
     Ok(())
 }
