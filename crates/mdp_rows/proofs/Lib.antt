@@ -20,19 +20,17 @@ mod Outcomes
 mod Parts
 mod Pieces
 mod Places
+mod PredFacts
 mod ReplayLabels
 mod ReplayRewards
 mod ReplayRows
-pub mod ReplayStates
 mod RewardSums
 mod RowFacts
 mod RowsGrow
 mod RowsOfPolicy
 mod Scaling
 mod SoundBuilder
-pub mod SoundCalls
 mod SoundEntries
-pub mod SoundKept
 mod SoundLabels
 mod SoundNames
 mod SoundRewards
@@ -41,3 +39,6 @@ mod SoundSteps
 mod StageFacts
 mod Tally
 mod Targets
+pub mod ReplayStates
+pub mod SoundCalls
+pub mod SoundKept

@@ -17,3 +17,5 @@ pub mod Name
 pub mod Limits
 pub mod Replay
 pub mod Sound
+pub mod PredCode
+pub mod Preds

@@ -13,6 +13,8 @@ mod laws;
 mod marks;
 mod model;
 mod policy_rows;
+
+mod preds;
 mod rewards;
 mod row;
 mod rows;
@@ -28,6 +30,7 @@ pub use laws::replay_law;
 pub use marks::Marks;
 pub use model::Model;
 pub use policy_rows::PolicyRows;
+pub use preds::{Pred, Preds, preds_of};
 pub use row::Row;
 pub use rows_of::RowsOf;
 pub use rule::RowRule;

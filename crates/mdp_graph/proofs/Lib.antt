@@ -1,0 +1,13 @@
+mod Among
+mod EdgeFacts
+mod Examples
+mod Falls
+mod Given
+mod MayReach
+mod Passes
+mod RankFacts
+mod Reached
+mod Rounding
+mod Settling
+mod Steps
+mod SureSome

@@ -1,0 +1,11 @@
+pub mod Sets
+pub mod Layers
+pub mod Edges
+pub mod ListCode
+pub mod Ranking
+pub mod Choices
+pub mod Reach
+pub mod Sure
+pub mod Settled
+pub mod Rounds
+pub mod Noted

@@ -1,0 +1,16 @@
+//! Passes over the graph of a model: which states reach a set, with least ranks.
+#![tactic(auto)]
+
+mod edges;
+mod pass;
+mod ranking;
+mod reach;
+mod rounds;
+mod sure;
+#[cfg(test)]
+mod tests;
+
+pub use pass::Pass;
+pub use reach::{along, may_reach};
+pub use rounds::rounds_outside;
+pub use sure::sure_some;

@@ -1,0 +1,62 @@
+ghost use Rattle.std.specs.Prelude.{◌≡◌, [], length, true, replicate, IfOk};
+ghost use Rattle.mdp_spec.specs.Mdp.{states_of};
+ghost use Rattle.mdp_graph.specs.Sets.{marked};
+ghost use Rattle.mdp_graph.specs.Layers.{AreReached, AreLeastRanks};
+ghost use Rattle.mdp_graph.specs.Choices.{AreLeast};
+ghost use Rattle.mdp_graph.specs.Reach.{may_step, row_step, falls};
+
+use crate::edges::Edges;
+use crate::pass::{Pass, least_choices, marks_by, no_choices, plain_ranks};
+use crate::ranking::ranks_by;
+use mdp_num::Memory;
+use mdp_rows::{Marks, Model, RowsOf};
+use std::alloc::{AllocError, Global};
+
+/// All of so many states.
+pub(crate) fn all_states(alloc: Global, states: u32) -> Result<Marks, AllocError>
+    ensures { IfOk result (λ marks. marks ≡ replicate states true) }
+{
+    Ok(Marks::from_values(vec![in alloc; true; states as usize]?))
+}
+
+/// The states from which a target can be reached without taking a choice of a blocked state. Targets have rank 0, also where they are blocked.
+/// The choice of any other marked state is the least one with a marked successor of smaller rank.
+pub fn may_reach(
+    alloc: Global,
+    model: &Model,
+    target: &Marks,
+    blocked: &Marks,
+) -> Result<Pass, Memory>
+    requires target { length target.now ≡ states_of model.now }
+    requires blocked { length blocked.now ≡ states_of model.now }
+    ensures marks { IfOk result (λ pass. AreReached (may_step model.now blocked.now) (marked target.now) (states_of model.now) pass.marks) }
+    ensures ranks { IfOk result (λ pass. AreLeastRanks (may_step model.now blocked.now) (marked target.now) (states_of model.now) pass.marks pass.ranks.items) }
+    ensures choices { IfOk result (λ pass. AreLeast model.now target.now pass.marks (falls model.now pass.marks pass.ranks.items) pass.choices.items) }
+{
+    model.known();
+    let inside = all_states(alloc, model.states())?;
+    let edges = Edges::of_model(alloc, model, &inside, blocked)?;
+    let ranks = ranks_by(alloc, &edges, target, model.states())?;
+    Ok(Pass {
+        marks: marks_by(alloc, &ranks)?,
+        ranks: plain_ranks(alloc, &ranks)?,
+        choices: least_choices(alloc, model, &inside, &ranks)?,
+    })
+}
+
+/// The states from which a target can be reached by the rows, one per state. Targets have rank 0. Choices are 0.
+pub fn along<R: RowsOf>(alloc: Global, rows: &R, target: &Marks) -> Result<Pass, Memory>
+    requires target { length target.now ≡ length (R.rows rows.now) }
+    ensures marks { IfOk result (λ pass. AreReached (row_step (R.rows rows.now)) (marked target.now) (length (R.rows rows.now)) pass.marks) }
+    ensures ranks { IfOk result (λ pass. AreLeastRanks (row_step (R.rows rows.now)) (marked target.now) (length (R.rows rows.now)) pass.marks pass.ranks.items) }
+    ensures choices { IfOk result (λ pass. pass.choices.items ≡ replicate (length (R.rows rows.now)) 0) }
+{
+    rows.known();
+    let edges = Edges::of_rows(alloc, rows)?;
+    let ranks = ranks_by(alloc, &edges, target, rows.count())?;
+    Ok(Pass {
+        marks: marks_by(alloc, &ranks)?,
+        ranks: plain_ranks(alloc, &ranks)?,
+        choices: no_choices(alloc, rows.count() as usize)?,
+    })
+}

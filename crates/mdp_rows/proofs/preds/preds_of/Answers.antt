@@ -1,0 +1,12 @@
+use Rattle.std.proofs.Common.{arith}
+use Rattle.mdp_rows.proofs.PredFacts.{more_led, states_more, all_led}
+use Rattle.mdp_rows.specs.Preds.{choices_of}
+use Rattle.mdp_rows.proofs.preds.preds_of.Goals as goal
+
+pub loop-s-preserved : goal.loop-s-preserved
+loop-s-preserved c =
+    rw (states_more c.args.model.now c.loop-s.s)
+    (more_led _ _ c.loop-s.lists.items _ _ (choices_of c.args.model.now c.loop-s.s) c.loop-s.invariant c.in_ok-push_state.ensures.length c.in_ok-push_state.ensures.appended)
+
+pub returns : goal.returns
+returns c = all_led _ _ c.loop-s.s c.loop-s.invariant (omega arith)
