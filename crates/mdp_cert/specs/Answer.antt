@@ -1,0 +1,10 @@
+-- How an answer of the program stands to the definition.
+use Rattle.std.specs.Prelude.{◌≡◌, ℕ, List, Result, Ok, Err}
+use Rattle.mdp_cert.specs.declared.error.CertError.{CertError}
+use Rattle.mdp_cert.specs.declared.error.CertError.TheVariants.{At, Memory}
+use Rattle.mdp_cert.specs.declared.error.Refusal.{Refusal}
+
+-- the refusal is the definition's, and want of memory is free
+abbrev pub Refuses : {A : Type 0} → CertError → Result A Refusal → Type 0
+Refuses (At line kind) defined = defined ≡ Err (record { kind = kind; line = line })
+Refuses Memory defined = Unit {0}

@@ -1,0 +1,13 @@
+-- Certificates and their texts.
+use Rattle.std.specs.Prelude.{◌≡◌, ◌↔◌, ℕ, List, Ok, Err}
+use Rattle.mdp_cert.specs.Cert.{Certificate, Fits}
+use Rattle.mdp_cert.specs.Spelling.{text_of}
+use Rattle.mdp_cert.specs.Reading.{outcome}
+
+-- what is read is the certificate of which the bytes are the text
+abbrev pub IsReadFromText : Type 0
+IsReadFromText = (bytes : List ℕ) (c : Certificate) → (outcome bytes ≡ Ok c) ↔ (Fits c × (bytes ≡ text_of c))
+
+-- two certificates never share a text
+abbrev pub IsOneText : Type 0
+IsOneText = (c d : Certificate) → Fits c → Fits d → text_of c ≡ text_of d → c ≡ d

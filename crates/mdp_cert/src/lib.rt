@@ -1,0 +1,14 @@
+//! The text of certificates: written, and read exactly, with the first line that breaks a rule.
+#![tactic(auto)]
+
+mod body;
+mod cert;
+mod claim;
+mod error;
+mod init;
+
+pub use body::Body;
+pub use cert::Cert;
+pub use claim::Claim;
+pub use error::{CertError, CertKind};
+pub use init::Init;
