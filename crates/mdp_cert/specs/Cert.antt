@@ -1,8 +1,8 @@
 -- What a certificate says, as a plain record.
-use Rattle.std.specs.Prelude.{◌≡◌, ℕ, ◌<◌, ◌≤◌, ◌^◌, Bool, true, false, not, ◌&&◌, ◌||◌, IsTrue, List, length, nat_lt, nat_le, ◌==◌, All}
-use Rattle.std.specs.List.{list_any}
+use Rattle.std.specs.Prelude.{◌≡◌, ℕ, ◌<◌, ◌≤◌, ◌^◌, Bool, true, false, ◌&&◌, IsTrue, List, length, nat_lt, ◌==◌, All}
 use Rattle.mdp_math.specs.Rational.{ℚ}
 use Rattle.mdp_num.specs.Value.{IsNarrow}
+use Rattle.mdp_rows.specs.Name.{is_name}
 use Rattle.mdp_rows.specs.declared.dir.Dir.{Dir}
 use Rattle.mdp_cert.specs.declared.claim.Claim.{Claim}
 use Rattle.mdp_cert.specs.declared.claim.Claim.TheVariants.{Upper, Reach}
@@ -42,10 +42,6 @@ plain_body (body.Upper c) = bounds c.values.items
 plain_body (body.Reach c) = policy c.values.items c.choices.items c.ranks.items
 
 -- ---- which certificates have a text
-
--- 1 to 255 bytes without `"` and line feed
-abbrev pub is_name : List ℕ → Bool
-is_name name = nat_lt 0 (length name) && nat_le (length name) 255 && not (list_any (λ c. (c == 34) || (c == 10)) name)
 
 -- the initial state is one of the states
 abbrev pub is_inside : ℕ → Init → Bool

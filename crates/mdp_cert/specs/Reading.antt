@@ -1,18 +1,20 @@
 -- Reading a certificate's text line by line: the certificate, or the first line that breaks a rule. Each line is judged by its shape first, then
 -- by its numbers from left to right, then by what they count.
 use Rattle.std.specs.Prelude.{ℕ, zero, suc, ◌+◌, ◌-◌, ◌^◌, ℤ, pos, negsuc, Bool, not, ◌||◌, ◌&&◌, List, [], ◌∷◌, ◌++◌, length, take, drop, Option, Some, None, option_and_then, Result, Ok, Err, nat_lt, nat_le, ◌==◌, if◌then◌else◌, codes}
-use Rattle.std.specs.List.{prefix_len, slice_split}
+use Rattle.std.specs.List.{position_or_len, before_first, after_first, slice_split}
+use Rattle.std.specs.Option.{ok_or}
 use Rattle.std.specs.Str.{bytes_eq}
 use Rattle.mdp_math.specs.Rational.{ℚ}
 use Rattle.mdp_num.specs.Canonical.{canonical_of}
 use Rattle.mdp_rows.specs.declared.dir.Dir.{Dir}
 use Rattle.mdp_rows.specs.declared.dir.Dir.TheVariants.{Max, Min}
+use Rattle.mdp_rows.specs.Name.{is_name}
 use Rattle.mdp_cert.specs.declared.error.CertKind.{CertKind}
 use Rattle.mdp_cert.specs.declared.error.CertKind.TheVariants.{Version, Claim, Number, Shape, Count, End}
 use Rattle.mdp_cert.specs.declared.error.Refusal.{Refusal}
 use Rattle.mdp_cert.specs.declared.init.Init.{Init}
 use Rattle.mdp_cert.specs.declared.init.Init.TheVariants.{Missing, Finite}
-use Rattle.mdp_cert.specs.Cert.{PlainClaim, upper, reach, PlainBody, bounds, policy, Certificate, is_name}
+use Rattle.mdp_cert.specs.Cert.{PlainClaim, upper, reach, PlainBody, bounds, policy, Certificate}
 use Rattle.mdp_cert.specs.Spelling.{version_text}
 
 infixl 10 ◌>>=◌
@@ -28,17 +30,16 @@ refuse_if kind n broken = if broken then refused kind n else Ok tt
 
 -- what was found, or this refusal of line n
 abbrev pub or_refused : {A : Type 0} → CertKind → ℕ → Option A → Result A Refusal
-or_refused kind n (Some x) = Ok x
-or_refused kind n None = refused kind n
+or_refused kind n found = ok_or found (record { kind = kind; line = n })
 
 -- ---- lines
 
-abbrev pub before_line_feed : List ℕ → ℕ
-before_line_feed bytes = prefix_len (λ c. not (c == 10)) bytes
+abbrev pub is_line_feed : ℕ → Bool
+is_line_feed c = c == 10
 
 -- the line n, with which the bytes begin, and the bytes behind its line feed
 unfoldable pub line_at : ℕ → List ℕ → Result (List ℕ × List ℕ) Refusal
-line_at n bytes = if nat_lt (before_line_feed bytes) (length bytes) then Ok (take (before_line_feed bytes) bytes, drop (before_line_feed bytes + 1) bytes) else refused End n
+line_at n bytes = if nat_lt (position_or_len is_line_feed bytes) (length bytes) then Ok (before_first is_line_feed bytes, after_first is_line_feed bytes) else refused End n
 
 -- line n is this one
 abbrev pub is_line : CertKind → ℕ → List ℕ → List ℕ → Result (Unit {0}) Refusal
@@ -46,8 +47,11 @@ is_line kind n text due = refuse_if kind n (not (bytes_eq text due))
 
 -- ---- words
 
+abbrev pub is_blank : ℕ → Bool
+is_blank c = c == 32
+
 abbrev pub words : List ℕ → List (List ℕ)
-words text = slice_split (λ c. c == 32) text
+words text = slice_split is_blank text
 
 -- a whole number: a fraction without `-` and `/`, below 2^32
 abbrev pub whole_part : ℤ → Option ℕ
@@ -65,17 +69,15 @@ frac_at n word = or_refused Number n (canonical_of word)
 
 -- ---- the claim
 
--- what stands behind a text's front
+-- what stands behind this front of a text
 abbrev pub behind : List ℕ → List ℕ → Option (List ℕ)
-behind [] text = Some text
-behind (c ∷ front) [] = None
-behind (c ∷ front) (d ∷ text) = if c == d then behind front text else None
+behind front text = if bytes_eq (take (length front) text) front then Some (drop (length front) text) else None
 
 -- a name, and `"` at the end
 abbrev pub closed_name : List ℕ → Option (List ℕ)
 closed_name text =
     let name = take (length text - 1) text in
-    if bytes_eq text (name ++ 34 ∷ []) && is_name name then Some name else None
+    if bytes_eq (drop (length text - 1) text) (34 ∷ []) && is_name name then Some name else None
 
 abbrev pub name_behind : List ℕ → List ℕ → Option (List ℕ)
 name_behind front text = option_and_then closed_name (behind front text)

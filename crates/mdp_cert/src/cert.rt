@@ -1,5 +1,6 @@
 ghost use Rattle.std.specs.Prelude.{◌<◌, ◌≤◌, ◌^◌, IsTrue};
-ghost use Rattle.mdp_cert.specs.Cert.{plain_claim, plain_body, is_name, label_of, is_inside, is_body_of};
+ghost use Rattle.mdp_rows.specs.Name.{is_name};
+ghost use Rattle.mdp_cert.specs.Cert.{plain_claim, plain_body, label_of, is_inside, is_body_of};
 
 use crate::body::Body;
 use crate::claim::Claim;

@@ -4,8 +4,13 @@
 mod body;
 mod cert;
 mod claim;
+mod claim_line;
 mod error;
 mod init;
+mod lines;
+mod numbers;
+mod state_lines;
+mod words;
 
 pub use body::Body;
 pub use cert::Cert;
