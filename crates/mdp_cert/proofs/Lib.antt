@@ -1,2 +1,4 @@
 pub mod Cuts
+pub mod Pieces
+pub mod Feeds
 mod Examples

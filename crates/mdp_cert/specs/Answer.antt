@@ -1,5 +1,5 @@
 -- How an answer of the program stands to the definition.
-use Rattle.std.specs.Prelude.{◌≡◌, ℕ, List, Result, Ok, Err}
+use Rattle.std.specs.Prelude.{◌≡◌, ℕ, List, length, take, Result, Ok, Err}
 use Rattle.mdp_cert.specs.declared.error.CertError.{CertError}
 use Rattle.mdp_cert.specs.declared.error.CertError.TheVariants.{At, Memory}
 use Rattle.mdp_cert.specs.declared.error.Refusal.{Refusal}
@@ -8,3 +8,7 @@ use Rattle.mdp_cert.specs.declared.error.Refusal.{Refusal}
 abbrev pub Refuses : {A : Type 0} → CertError → Result A Refusal → Type 0
 Refuses (At line kind) defined = defined ≡ Err (record { kind = kind; line = line })
 Refuses Memory defined = Unit {0}
+
+-- what was there stands at the front
+abbrev pub Keeps : List ℕ → List ℕ → Type 0
+Keeps old new = take (length old) new ≡ old

@@ -11,6 +11,7 @@ mod lines;
 mod numbers;
 mod state_lines;
 mod words;
+mod push;
 
 pub use body::Body;
 pub use cert::Cert;
