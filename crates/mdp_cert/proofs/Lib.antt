@@ -1,4 +1,6 @@
 pub mod Cuts
 pub mod Pieces
 pub mod Feeds
+pub mod Claims
+pub mod Numbered
 mod Examples

@@ -78,3 +78,6 @@ words-last a p = slice_split_none is_blank a (free-all 32 a p)
 
 pub words-joined : (text : List ℕ) (ws : List (List ℕ)) → words text ≡ ws → text ≡ join_with_byte 32 ws
 words-joined text ws e = sym (join_with_byte-slice_split 32 text) ∙ ap (join_with_byte 32) e
+
+pub decimal-some : (n : ℕ) → n < 2 ^ 32 → 0 < length (decimal n)
+decimal-some n h = (decimal-plain n (width-small n (whole-small n h))).some
