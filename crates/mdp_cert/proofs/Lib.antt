@@ -3,4 +3,5 @@ pub mod Pieces
 pub mod Feeds
 pub mod Claims
 pub mod Numbered
+pub mod Parts
 mod Examples

@@ -214,7 +214,7 @@ free-bound due value small narrow =
 
 -- ---- the line of a state with value, choice and rank
 
-abbrev Entry : Type 0
+abbrev pub Entry : Type 0
 Entry = ℚ × ℕ × ℕ
 
 abbrev entry-order : ℕ → ℕ → ℕ → ℚ → ℕ → ℕ → Result Entry Refusal

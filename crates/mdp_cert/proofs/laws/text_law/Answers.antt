@@ -1,10 +1,8 @@
-use Rattle.mdp_cert.proofs.Numbered.{states-found}
-use Rattle.mdp_cert.proofs.Claims.{claim-found, claim-again, free-claim}
-use Rattle.mdp_cert.proofs.Feeds.{line-found, whole-found}
+use Rattle.mdp_cert.proofs.Parts.{read-from-text, one-text}
 use Rattle.mdp_cert.proofs.laws.text_law.Goals as goal
 
 pub returns-clause-read : goal.returns-clause-read
-returns-clause-read c = ?
+returns-clause-read c = read-from-text
 
 pub returns-clause-one : goal.returns-clause-one
-returns-clause-one c = ?
+returns-clause-one c = one-text
