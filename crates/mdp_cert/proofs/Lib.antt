@@ -4,4 +4,5 @@ pub mod Feeds
 pub mod Claims
 pub mod Numbered
 pub mod Parts
+pub mod Steps
 mod Examples

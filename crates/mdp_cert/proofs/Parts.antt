@@ -224,9 +224,9 @@ policies-again left due n zs cs rs rest limit ok = absurd (omega (arith, ok.valu
 
 -- ---- the body
 
-record FitsBody (claim : PlainClaim) (states : ℕ) (b : PlainBody) : Type 0 where
-  entries : is_body_of claim states b ≡ true
-  width : IsBodyInWidth b
+pub record FitsBody (claim : PlainClaim) (states : ℕ) (b : PlainBody) : Type 0 where
+  pub entries : is_body_of claim states b ≡ true
+  pub width : IsBodyInWidth b
 
 same-number : (a n : ℕ) → a ≡ n → eqb a n ≡ true
 same-number a n e = grind (arith, nat_tests)
@@ -237,7 +237,7 @@ number-same a n e = grind (arith, nat_tests)
 three-same : (a b c n : ℕ) → a ≡ n → b ≡ n → c ≡ n → ((eqb a n && eqb b n) && eqb c n) ≡ true
 three-same a b c n p q r = rw (same-number a n p, same-number b n q, same-number c n r) refl
 
-body-found : (claim : PlainClaim) (states n : ℕ) (bytes : List ℕ) (b : PlainBody) (rest : List ℕ) → body_from claim states n bytes ≡ Ok (b, rest) → (bytes ≡ body_text b ++ rest) × FitsBody claim states b
+pub body-found : (claim : PlainClaim) (states n : ℕ) (bytes : List ℕ) (b : PlainBody) (rest : List ℕ) → body_from claim states n bytes ≡ Ok (b, rest) → (bytes ≡ body_text b ++ rest) × FitsBody claim states b
 unfolding body_from
 body-found (upper label) states n bytes b rest e =
     let all = bind_ok (bounds_from states 0 n bytes) (λ p. Ok (bounds p.0, p.1)) (b, rest) e in

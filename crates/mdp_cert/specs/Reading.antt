@@ -15,7 +15,7 @@ use Rattle.mdp_cert.specs.declared.error.Refusal.{Refusal}
 use Rattle.mdp_cert.specs.declared.init.Init.{Init}
 use Rattle.mdp_cert.specs.declared.init.Init.TheVariants.{Missing, Finite}
 use Rattle.mdp_cert.specs.Cert.{PlainClaim, upper, reach, PlainBody, bounds, policy, Certificate}
-use Rattle.mdp_cert.specs.Spelling.{version_text}
+use Rattle.mdp_cert.specs.Spelling.{version_text, end_text}
 
 infixl 10 ◌>>=◌
 abbrev pub ◌>>=◌ : {A B : Type 0} → Result A Refusal → (A → Result B Refusal) → Result B Refusal
@@ -196,7 +196,7 @@ body_from (reach dir label) states n bytes = policy_from states 0 n bytes >>= λ
 unfoldable pub end_from : ℕ → List ℕ → Result (Unit {0}) Refusal
 end_from n bytes = do
   last ← line_at n bytes
-  closed ← is_line Shape n last.0 (codes "end")
+  closed ← is_line Shape n last.0 end_text
   refuse_if End (n + 1) (nat_lt 0 (length last.1))
 
 -- the certificate of which the bytes are the text, or the first line that breaks a rule

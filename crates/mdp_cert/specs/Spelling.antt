@@ -55,6 +55,9 @@ policy_lines state values choices ranks = []
 abbrev pub version_text : List ℕ
 version_text = codes "mdp-certificate 1"
 
+abbrev pub end_text : List ℕ
+end_text = codes "end"
+
 abbrev pub head_text : Certificate → List ℕ
 head_text c = line (claim_text c.claim) ++ (line (states_text c.states) ++ line (init_text c.init))
 
@@ -63,4 +66,4 @@ body_text (bounds values) = bound_lines 0 values
 body_text (policy values choices ranks) = policy_lines 0 values choices ranks
 
 unfoldable pub text_of : Certificate → List ℕ
-text_of c = line version_text ++ (head_text c ++ (body_text c.body ++ line (codes "end")))
+text_of c = line version_text ++ (head_text c ++ (body_text c.body ++ line end_text))
