@@ -5,4 +5,5 @@ pub mod Claims
 pub mod Numbered
 pub mod Parts
 pub mod Steps
+pub mod Growth
 mod Examples

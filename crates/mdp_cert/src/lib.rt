@@ -24,3 +24,4 @@ pub use error::{CertError, CertKind};
 pub use init::Init;
 pub use laws::text_law;
 pub use read::read_cert;
+pub use write::write_cert;

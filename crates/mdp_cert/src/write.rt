@@ -52,3 +52,48 @@ fn push_policies(out: &mut Vec<u8>, states: u32, cert: &ReachCert) -> Result<(),
     }
     Ok(())
 }
+
+/// Appends the lines of the states.
+fn push_body(out: &mut Vec<u8>, cert: &Cert) -> Result<(), Memory>
+    ensures text { OnOk result (out.new.items ≡ out.old.items ++ body_text (plain_body cert.now.body)) }
+    ensures front { Keeps out.old.items out.new.items }
+{
+    match &cert.body {
+        Body::Upper(bounds) => push_bounds(out, cert.states, bounds),
+        Body::Reach(policy) => push_policies(out, cert.states, policy),
+    }
+}
+
+/// Appends the lines of the states and the last line.
+fn push_end(out: &mut Vec<u8>, cert: &Cert) -> Result<(), Memory>
+    ensures text { OnOk result (out.new.items ≡ out.old.items ++ (body_text (plain_body cert.now.body) ++ line end_text)) }
+    ensures front { Keeps out.old.items out.new.items }
+{
+    push_body(out, cert)?;
+    out.extend_from_slice(b"end\n")?;
+    Ok(())
+}
+
+/// Appends all lines; after `Memory` the text begins as before.
+#[tactic(auto, unfolding(crate::specs::Spelling::text_of))]
+fn push_lines(out: &mut Vec<u8>, cert: &Cert) -> Result<(), Memory>
+    ensures text { OnOk result (out.new.items ≡ out.old.items ++ text_of (plain cert.now)) }
+    ensures front { Keeps out.old.items out.new.items }
+{
+    out.extend_from_slice(b"mdp-certificate 1\n")?;
+    push_head(out, cert)?;
+    push_end(out, cert)
+}
+
+/// Appends the certificate's text. After `Memory` the text is as before.
+pub fn write_cert(cert: &Cert, out: &mut Vec<u8>) -> Result<(), Memory>
+    ensures text { OnOk result (out.new.items ≡ out.old.items ++ text_of (plain cert.now)) }
+    ensures unchanged { OnErr result (out.new.items ≡ out.old.items) }
+{
+    let start = out.len();
+    let answer = push_lines(out, cert);
+    if answer.is_err() {
+        out.truncate(start);
+    }
+    answer
+}
