@@ -137,9 +137,9 @@ whole-again n m lt =
     let num : x.num ≡ pos m = num-ratio (pos m) 1 (omega arith) (gcd-one_right m) in
     let den : x.den ≡ 1 = den-ratio (pos m) 1 (omega arith) (gcd-one_right m) in
     let narrow : IsNarrow x = record {
-          top = subst (λ (z : ℤ). unsigned_abs z < 2 ^ 127) (sym num) (whole-small m lt);
-          bottom = subst (λ (k : ℕ). k < 2 ^ 127) (sym den) (lit< tt);
-        } in
+      top = subst (λ (z : ℤ). unsigned_abs z < 2 ^ 127) (sym num) (whole-small m lt);
+      bottom = subst (λ (k : ℕ). k < 2 ^ 127) (sym den) (lit< tt);
+    } in
     let read : canonical_of (decimal m) ≡ Some x = ap canonical_of (sym (spelled-whole x m den num)) ∙ complete x narrow in
     let below : ltb m (2 ^ 32) ≡ true = grind (arith, nat_tests) in
     rw (read, den, num, below) refl

@@ -261,7 +261,7 @@ pub policy-again : (due n : ℕ) (value : ℚ) (choice rank : ℕ) → due < 2 ^
 unfolding policy_at
 policy-again due n value choice rank small narrow p q =
     let ws : words (policy_text due value choice rank) ≡ codes "state" ∷ decimal due ∷ spelling value ∷ decimal choice ∷ decimal rank ∷ [] =
-          four-words (codes "state") (decimal due) (spelling value) (decimal choice) (decimal rank) refl (free-whole 32 due (omega arith) small) (free-spelling 32 value (omega arith) narrow) (free-whole 32 choice (omega arith) p) (free-whole 32 rank (omega arith) q) in
+    four-words (codes "state") (decimal due) (spelling value) (decimal choice) (decimal rank) refl (free-whole 32 due (omega arith) small) (free-spelling 32 value (omega arith) narrow) (free-whole 32 choice (omega arith) p) (free-whole 32 rank (omega arith) q) in
     let same : eqb due due ≡ true = grind (arith, nat_tests) in
     rw (ws, whole-again n due small, frac-again n value narrow, whole-again n choice p, whole-again n rank q, same) refl
 

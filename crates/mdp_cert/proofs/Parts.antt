@@ -1,5 +1,5 @@
 -- The parts of a text are read exactly where they are written so.
-use Rattle.std.proofs.Common.{◌≡◌, ℕ, zero, suc, ◌+◌, ◌-◌, ◌<◌, ◌≤◌, ◌^◌, Bool, true, false, not, cond, eqb, ltb, ◌&&◌, List, [], ◌∷◌, ◌++◌, length, get_or, Result, Ok, Err, refl, sym, ap, ap₂, subst, ◌∙◌, append_assoc, arith}
+use Rattle.std.proofs.Common.{◌≡◌, ℕ, zero, suc, ◌+◌, ◌-◌, ◌<◌, ◌≤◌, ◌^◌, Bool, true, false, not, cond, eqb, ltb, ◌&&◌, List, [], ◌∷◌, ◌++◌, length, get_or, Result, Ok, Err, refl, sym, ap, ap₂, subst, ◌∙◌, append_assoc, arith, ◌⊎◌, inl, inr}
 use Rattle.std.specs.Prelude.{codes, ◌↔◌}
 use Rattle.std.specs.List.{All}
 use Rattle.std.proofs.lemmas.Bool.{and_parts, both_ways, lt-ltb}
@@ -80,7 +80,7 @@ pub head-again : (n : ℕ) (h : Head) (rest : List ℕ) → IsHead h → head_fr
 unfolding head_from
 head-again n h rest ok =
     let apart : lines-of-head h ++ rest ≡ line (claim_text h.claim) ++ (line (states_text h.states) ++ (line (init_text h.init) ++ rest)) =
-          append_assoc (line (claim_text h.claim)) (line (states_text h.states) ++ line (init_text h.init)) rest ∙ ap (λ (x : List ℕ). line (claim_text h.claim) ++ x) (append_assoc (line (states_text h.states)) (line (init_text h.init)) rest) in
+    append_assoc (line (claim_text h.claim)) (line (states_text h.states) ++ line (init_text h.init)) rest ∙ ap (λ (x : List ℕ). line (claim_text h.claim) ++ x) (append_assoc (line (states_text h.states)) (line (init_text h.init)) rest) in
     rw (
       apart,
       line-again n (claim_text h.claim) (line (states_text h.states) ++ (line (init_text h.init) ++ rest)) (free-claim h.claim ok.name),
@@ -207,13 +207,13 @@ policies-again (suc left) due n (z ∷ zs) (c ∷ cs) (r ∷ rs) rest limit ok =
     let s : r < 2 ^ 32 = all-first (λ r. r < 2 ^ 32) r rs ok.small_ranks in
     let small : due < 2 ^ 32 = omega arith in
     let others : InWidth (record { values = zs; choices = cs; ranks = rs }) left = record {
-          values = omega (arith, ok.values);
-          choices = omega (arith, ok.choices);
-          ranks = omega (arith, ok.ranks);
-          narrow = all-rest IsNarrow z zs ok.narrow;
-          small_choices = all-rest (λ c. c < 2 ^ 32) c cs ok.small_choices;
-          small_ranks = all-rest (λ r. r < 2 ^ 32) r rs ok.small_ranks;
-        } in
+      values = omega (arith, ok.values);
+      choices = omega (arith, ok.choices);
+      ranks = omega (arith, ok.ranks);
+      narrow = all-rest IsNarrow z zs ok.narrow;
+      small_choices = all-rest (λ c. c < 2 ^ 32) c cs ok.small_choices;
+      small_ranks = all-rest (λ r. r < 2 ^ 32) r rs ok.small_ranks;
+    } in
     rw (
       append_assoc (line (policy_text due z c r)) (policy_lines (due + 1) zs cs rs) rest,
       line-again n (policy_text due z c r) (policy_lines (due + 1) zs cs rs ++ rest) (free-policy due z c r small p q s),
@@ -262,13 +262,13 @@ body-again (reach dir label) states n (policy zs cs rs) rest limit ok =
     let t = and_parts (eqb (length zs) states && eqb (length cs) states) (eqb (length rs) states) ok.entries in
     let u = and_parts (eqb (length zs) states) (eqb (length cs) states) t.0 in
     let inside : InWidth (record { values = zs; choices = cs; ranks = rs }) states = record {
-          values = number-same _ states u.0;
-          choices = number-same _ states u.1;
-          ranks = number-same _ states t.1;
-          narrow = ok.width.0;
-          small_choices = ok.width.1;
-          small_ranks = ok.width.2;
-        } in
+      values = number-same _ states u.0;
+      choices = number-same _ states u.1;
+      ranks = number-same _ states t.1;
+      narrow = ok.width.0;
+      small_choices = ok.width.1;
+      small_ranks = ok.width.2;
+    } in
     rw (policies-again states 0 n zs cs rs rest (omega arith) inside) refl
 
 -- ---- the end
@@ -351,3 +351,16 @@ read-from-text bytes c = (text-found bytes c, λ p. ap outcome p.1 ∙ text-agai
 
 pub one-text : (c d : Certificate) → Fits c → Fits d → text_of c ≡ text_of d → c ≡ d
 one-text c d p q e = ok-is c d (sym (text-again c p) ∙ ap outcome e ∙ text-again d q)
+
+pub read-or-refused : (bytes : List ℕ) → ((c : Certificate) × Fits c × (bytes ≡ text_of c)) ⊎ ((r : Refusal) × (outcome bytes ≡ Err r))
+read-or-refused bytes = by (outcome bytes) refl
+  where
+    by : (o : Result Certificate Refusal) → outcome bytes ≡ o → ((c : Certificate) × Fits c × (bytes ≡ text_of c)) ⊎ ((r : Refusal) × (outcome bytes ≡ Err r))
+    by (Ok c) e = let f = text-found bytes c e in inl (c, f.0, f.1)
+    by (Err r) e = inr (r, e)
+
+pub not-both : (bytes : List ℕ) (c : Certificate) (r : Refusal) → Fits c → bytes ≡ text_of c → outcome bytes ≡ Err r → ⊥
+not-both bytes c r fits is e = apart c r (sym (ap outcome is ∙ text-again c fits) ∙ e)
+  where
+    apart : (c : Certificate) (r : Refusal) → Ok c ≡ Err r → ⊥
+    apart c r e = absurd cc

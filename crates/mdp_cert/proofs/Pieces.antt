@@ -39,8 +39,8 @@ pub free-decimal : (c n : ℕ) → c < 48 → n < 2 ^ 127 → Free c (decimal n)
 free-decimal c n lt h =
     let p = decimal-plain n (width-small n h) in
     list_any_none (λ x. eqb x c) (decimal n) (λ k d l.
-      let same : get_or (decimal n) k d ≡ get_or (decimal n) k 0 = get_or_default (decimal n) k d 0 l in
-      rw same (other (get_or (decimal n) k 0) (digit-bounds (get_or (decimal n) k 0) (digit-at (decimal n) k p.digits l)).0))
+    let same : get_or (decimal n) k d ≡ get_or (decimal n) k 0 = get_or_default (decimal n) k d 0 l in
+    rw same (other (get_or (decimal n) k 0) (digit-bounds (get_or (decimal n) k 0) (digit-at (decimal n) k p.digits l)).0))
   where
     other : (x : ℕ) → 48 ≤ x → eqb x c ≡ false
     other x le = grind (arith, nat_tests)

@@ -11,11 +11,13 @@ mod init;
 mod laws;
 mod lines;
 mod numbers;
+mod push;
 mod read;
 mod state_lines;
+#[cfg(test)]
+mod tests;
 mod words;
 mod write;
-mod push;
 
 pub use body::Body;
 pub use cert::Cert;

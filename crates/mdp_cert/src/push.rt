@@ -72,7 +72,13 @@ pub(crate) fn push_bound(out: &mut Vec<u8>, state: u32, value: &Frac) -> Result<
 }
 
 /// Appends the line of a state, its value, its choice and its rank.
-pub(crate) fn push_policy(out: &mut Vec<u8>, state: u32, value: &Frac, choice: u32, rank: u32) -> Result<(), Memory>
+pub(crate) fn push_policy(
+    out: &mut Vec<u8>,
+    state: u32,
+    value: &Frac,
+    choice: u32,
+    rank: u32,
+) -> Result<(), Memory>
     ensures text { OnOk result (out.new.items ≡ out.old.items ++ line (policy_text state value.now choice rank)) }
     ensures front { Keeps out.old.items out.new.items }
 {

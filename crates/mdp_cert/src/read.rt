@@ -1,4 +1,4 @@
-ghost use Rattle.std.specs.Prelude.{◌≡◌, ◌+◌, ◌<◌, ◌^◌, Ok, Err, MatchResult};
+ghost use Rattle.std.specs.Prelude.{◌≡◌, ◌+◌, ◌<◌, ◌^◌, Ok, Err, IfOk, IfErr, MatchResult};
 ghost use Rattle.mdp_cert.specs.Cert.{plain_claim, plain_body};
 ghost use Rattle.mdp_cert.specs.Plain.{plain};
 ghost use Rattle.mdp_cert.specs.Reading.{head_from, bounds_from, policy_from, body_from, end_from, outcome};
@@ -90,7 +90,12 @@ fn policy_from(alloc: Global, states: u32, bytes: &[u8]) -> Result<(ReachCert, &
 
 /// Reads the lines of the states, from line 5 on, and gives the bytes behind them.
 #[tactic(auto, unfolding(crate::specs::Reading::body_from))]
-fn body_from<'a>(alloc: Global, claim: &Claim, states: u32, bytes: &'a [u8]) -> Result<(Body, &'a [u8]), CertError>
+fn body_from<'a>(
+    alloc: Global,
+    claim: &Claim,
+    states: u32,
+    bytes: &'a [u8],
+) -> Result<(Body, &'a [u8]), CertError>
     ensures { MatchResult result (λ p. body_from (plain_claim claim.now) states 5 bytes.now ≡ Ok (plain_body p.0, p.1.now)) (λ e. Refuses e (body_from (plain_claim claim.now) states 5 bytes.now)) }
 {
     match claim {
@@ -108,7 +113,8 @@ fn body_from<'a>(alloc: Global, claim: &Claim, states: u32, bytes: &'a [u8]) -> 
 /// Reads a certificate: the bytes are its text, or the refusal names the first line that breaks a rule.
 #[tactic(auto, unfolding(crate::specs::Reading::outcome))]
 pub fn read_cert(alloc: Global, bytes: &[u8]) -> Result<Cert, CertError>
-    ensures { MatchResult result (λ c. outcome bytes.now ≡ Ok (plain c)) (λ e. Refuses e (outcome bytes.now)) }
+    ensures read { IfOk result (λ c. outcome bytes.now ≡ Ok (plain c)) }
+    ensures refused { IfErr result (λ e. Refuses e (outcome bytes.now)) }
 {
     let (text, rest) = line_at(1, bytes)?;
     is_line(CertKind::Version, 1, text, b"mdp-certificate 1")?;

@@ -1,5 +1,6 @@
-ghost use Rattle.std.specs.Prelude.{◌≡◌};
-ghost use Rattle.mdp_cert.specs.Reading.{states_at, finite_at, init_at, bound_at, policy_at};
+ghost use Rattle.std.specs.Prelude.{◌≡◌, ◌==◌, not};
+ghost use Rattle.mdp_cert.specs.declared.error.CertKind.TheVariants.{Count};
+ghost use Rattle.mdp_cert.specs.Reading.{refuse_if, states_at, finite_at, init_at, bound_at, policy_at};
 
 use crate::error::{CertKind, Refusal};
 use crate::init::Init;
@@ -42,6 +43,13 @@ pub(crate) fn init_at(states: u32, line: u64, text: &[u8]) -> Result<Init, Refus
     finite_at(states, line, text)
 }
 
+/// The state is the one that is due.
+fn in_order(due: u32, line: u64, state: u32) -> Result<(), Refusal>
+    ensures { result ≡ refuse_if Count line (not (state == due)) }
+{
+    refuse_if(CertKind::Count, line, state != due)
+}
+
 /// The upper bound of the line `state S Z`, where S is the state that is due.
 #[tactic(auto, unfolding(crate::specs::Reading::bound_at))]
 pub(crate) fn bound_at(due: u32, line: u64, text: &[u8]) -> Result<Frac, Refusal>
@@ -50,7 +58,7 @@ pub(crate) fn bound_at(due: u32, line: u64, text: &[u8]) -> Result<Frac, Refusal
     let (word, value) = two_behind(line, text, b"state")?;
     let state = whole_at(line, word)?;
     let value = frac_at(line, value)?;
-    refuse_if(CertKind::Count, line, state != due)?;
+    in_order(due, line, state)?;
     Ok(value)
 }
 
@@ -64,6 +72,6 @@ pub(crate) fn policy_at(due: u32, line: u64, text: &[u8]) -> Result<(Frac, u32, 
     let value = frac_at(line, value)?;
     let choice = whole_at(line, choice)?;
     let rank = whole_at(line, rank)?;
-    refuse_if(CertKind::Count, line, state != due)?;
+    in_order(due, line, state)?;
     Ok((value, choice, rank))
 }

@@ -75,7 +75,11 @@ pub(crate) fn one_behind<'a>(line: u64, text: &'a [u8], due: &[u8]) -> Result<&'
 }
 
 /// The two words behind the first one, in a line of three words that begins with this one.
-pub(crate) fn two_behind<'a>(line: u64, text: &'a [u8], due: &[u8]) -> Result<(&'a [u8], &'a [u8]), Refusal>
+pub(crate) fn two_behind<'a>(
+    line: u64,
+    text: &'a [u8],
+    due: &[u8],
+) -> Result<(&'a [u8], &'a [u8]), Refusal>
     ensures { MatchResult result (λ p. two_behind (words text.now) due.now line ≡ Ok (p.0.now, p.1.now)) (λ e. two_behind (words text.now) due.now line ≡ Err e) }
 {
     match three_words(text) {
@@ -85,7 +89,11 @@ pub(crate) fn two_behind<'a>(line: u64, text: &'a [u8], due: &[u8]) -> Result<(&
 }
 
 /// The four words behind the first one, in a line of five words that begins with this one.
-pub(crate) fn four_behind<'a>(line: u64, text: &'a [u8], due: &[u8]) -> Result<(&'a [u8], &'a [u8], &'a [u8], &'a [u8]), Refusal>
+pub(crate) fn four_behind<'a>(
+    line: u64,
+    text: &'a [u8],
+    due: &[u8],
+) -> Result<(&'a [u8], &'a [u8], &'a [u8], &'a [u8]), Refusal>
     ensures { MatchResult result (λ p. four_behind (words text.now) due.now line ≡ Ok (p.0.now, p.1.now, p.2.now, p.3.now)) (λ e. four_behind (words text.now) due.now line ≡ Err e) }
 {
     match five_words(text) {
