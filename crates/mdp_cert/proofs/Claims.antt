@@ -30,8 +30,8 @@ closed-found text name e = by (bytes_eq (drop (length text - 1) text) (34 ∷ []
   where
     by : (b : Bool) → (bytes_eq (drop (length text - 1) text) (34 ∷ []) && is_name (take (length text - 1) text)) ≡ b → cond b (Some (take (length text - 1) text)) None ≡ Some name → (text ≡ name ++ 34 ∷ []) × (is_name name ≡ true)
     by true t e =
-        let p = and_parts _ _ t in
         let front : take (length text - 1) text ≡ name = cc in
+        let p = and_parts _ _ t in
         (sym (take-append-drop (length text - 1) text) ∙ ap₂ (λ (xs ys : List ℕ). xs ++ ys) front (bytes_same _ (34 ∷ []) p.0), sym (ap is_name front) ∙ p.1)
     by false t e = absurd cc
 

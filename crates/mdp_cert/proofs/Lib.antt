@@ -6,4 +6,5 @@ pub mod Numbered
 pub mod Parts
 pub mod Steps
 pub mod Growth
+pub mod FirstBroken
 mod Examples

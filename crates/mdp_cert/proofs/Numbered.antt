@@ -35,7 +35,7 @@ two-found (x ∷ y ∷ z ∷ []) due n p e =
     rw (bytes_same x due g.0, ← g.1) refl
 two-found (x ∷ y ∷ z ∷ w ∷ ws) due n p e = absurd cc
 
-abbrev Four : Type 0
+abbrev pub Four : Type 0
 Four = List ℕ × List ℕ × List ℕ × List ℕ
 
 four-found : (ws : List (List ℕ)) (due : List ℕ) (n : ℕ) (p : Four) → four_behind ws due n ≡ Ok p → ws ≡ due ∷ p.0 ∷ p.1 ∷ p.2 ∷ p.3 ∷ []
@@ -66,10 +66,10 @@ free-whole c n h lt = free-decimal c n h (whole-small n lt)
 
 -- ---- the number of states
 
-abbrev states-range : ℕ → ℕ → Result ℕ Refusal
+abbrev pub states-range : ℕ → ℕ → Result ℕ Refusal
 states-range n states = refuse_if Count n ((eqb states 0) || ltb (2 ^ 20) states) >>= λ range. Ok states
 
-abbrev states-number : ℕ → List ℕ → Result ℕ Refusal
+abbrev pub states-number : ℕ → List ℕ → Result ℕ Refusal
 states-number n word = whole_at n word >>= states-range n
 
 pub states-found : (n : ℕ) (text : List ℕ) (states : ℕ) → states_at n text ≡ Ok states → (text ≡ states_text states) × (0 < states) × (states ≤ 2 ^ 20)
@@ -104,13 +104,13 @@ free-states states h = blank-free 10 (codes "states") (decimal states) refl refl
 
 -- ---- the initial state
 
-abbrev init-inside : ℕ → ℕ → ℕ → ℚ → Result Init Refusal
+abbrev pub init-inside : ℕ → ℕ → ℕ → ℚ → Result Init Refusal
 init-inside states n state value = refuse_if Count n (not (ltb state states)) >>= λ inside. Ok (Finite state value)
 
-abbrev init-value : ℕ → ℕ → List ℕ → ℕ → Result Init Refusal
+abbrev pub init-value : ℕ → ℕ → List ℕ → ℕ → Result Init Refusal
 init-value states n word state = frac_at n word >>= init-inside states n state
 
-abbrev init-state : ℕ → ℕ → List ℕ × List ℕ → Result Init Refusal
+abbrev pub init-state : ℕ → ℕ → List ℕ × List ℕ → Result Init Refusal
 init-state states n two = whole_at n two.0 >>= init-value states n two.1
 
 finite-found : (states n : ℕ) (text : List ℕ) (init : Init) → finite_at states n text ≡ Ok init → (text ≡ init_text init) × (is_inside states init ≡ true) × IsInitInWidth init
@@ -174,13 +174,13 @@ free-init states (Finite state value) inside limit narrow =
 
 -- ---- the line of a state with its upper bound
 
-abbrev bound-order : ℕ → ℕ → ℕ → ℚ → Result ℚ Refusal
+abbrev pub bound-order : ℕ → ℕ → ℕ → ℚ → Result ℚ Refusal
 bound-order due n state value = refuse_if Count n (not (eqb state due)) >>= λ order. Ok value
 
-abbrev bound-value : ℕ → ℕ → List ℕ → ℕ → Result ℚ Refusal
+abbrev pub bound-value : ℕ → ℕ → List ℕ → ℕ → Result ℚ Refusal
 bound-value due n word state = frac_at n word >>= bound-order due n state
 
-abbrev bound-state : ℕ → ℕ → List ℕ × List ℕ → Result ℚ Refusal
+abbrev pub bound-state : ℕ → ℕ → List ℕ × List ℕ → Result ℚ Refusal
 bound-state due n two = whole_at n two.0 >>= bound-value due n two.1
 
 due-is : (state due n : ℕ) (u : Unit {0}) → refuse_if Count n (not (eqb state due)) ≡ Ok u → state ≡ due
@@ -217,19 +217,19 @@ free-bound due value small narrow =
 abbrev pub Entry : Type 0
 Entry = ℚ × ℕ × ℕ
 
-abbrev entry-order : ℕ → ℕ → ℕ → ℚ → ℕ → ℕ → Result Entry Refusal
+abbrev pub entry-order : ℕ → ℕ → ℕ → ℚ → ℕ → ℕ → Result Entry Refusal
 entry-order due n state value choice rank = refuse_if Count n (not (eqb state due)) >>= λ order. Ok (value, choice, rank)
 
-abbrev entry-rank : ℕ → ℕ → List ℕ → ℕ → ℚ → ℕ → Result Entry Refusal
+abbrev pub entry-rank : ℕ → ℕ → List ℕ → ℕ → ℚ → ℕ → Result Entry Refusal
 entry-rank due n word state value choice = whole_at n word >>= entry-order due n state value choice
 
-abbrev entry-choice : ℕ → ℕ → Four → ℕ → ℚ → Result Entry Refusal
+abbrev pub entry-choice : ℕ → ℕ → Four → ℕ → ℚ → Result Entry Refusal
 entry-choice due n four state value = whole_at n four.2 >>= entry-rank due n four.3 state value
 
-abbrev entry-value : ℕ → ℕ → Four → ℕ → Result Entry Refusal
+abbrev pub entry-value : ℕ → ℕ → Four → ℕ → Result Entry Refusal
 entry-value due n four state = frac_at n four.1 >>= entry-choice due n four state
 
-abbrev entry-state : ℕ → ℕ → Four → Result Entry Refusal
+abbrev pub entry-state : ℕ → ℕ → Four → Result Entry Refusal
 entry-state due n four = whole_at n four.0 >>= entry-value due n four
 
 pub policy-found : (due n : ℕ) (text : List ℕ) (p : Entry) → policy_at due n text ≡ Ok p → (text ≡ policy_text due p.0 p.1 p.2) × IsNarrow p.0 × (p.1 < 2 ^ 32) × (p.2 < 2 ^ 32)

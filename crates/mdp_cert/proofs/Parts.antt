@@ -20,7 +20,7 @@ use Rattle.mdp_cert.proofs.Feeds.{bind_ok, refuse_ok, line-again, line-found, du
 use Rattle.mdp_cert.proofs.Claims.{claim-found, claim-again, free-claim}
 use Rattle.mdp_cert.proofs.Numbered.{Entry, states-found, states-again, free-states, init-found, init-again, free-init, bound-found, bound-again, free-bound, policy-found, policy-again, free-policy}
 
-abbrev Split : Type 0
+abbrev pub Split : Type 0
 Split = List ℕ × List ℕ
 
 ok-is : {A : Type 0} (x y : A) → (let r : Result A Refusal = Ok x in r) ≡ Ok y → x ≡ y
@@ -38,19 +38,19 @@ pub record IsHead (h : Head) : Type 0 where
 abbrev pub lines-of-head : Head → List ℕ
 lines-of-head h = line (claim_text h.claim) ++ (line (states_text h.states) ++ line (init_text h.init))
 
-abbrev head-init : PlainClaim → ℕ → ℕ → Split → Result (Head × List ℕ) Refusal
+abbrev pub head-init : PlainClaim → ℕ → ℕ → Split → Result (Head × List ℕ) Refusal
 head-init claim states n three = init_at states (n + 2) three.0 >>= λ init. Ok (record { claim = claim; states = states; init = init }, three.1)
 
-abbrev head-three : PlainClaim → ℕ → Split → ℕ → Result (Head × List ℕ) Refusal
+abbrev pub head-three : PlainClaim → ℕ → Split → ℕ → Result (Head × List ℕ) Refusal
 head-three claim n two states = line_at (n + 2) two.1 >>= head-init claim states n
 
-abbrev head-states : PlainClaim → ℕ → Split → Result (Head × List ℕ) Refusal
+abbrev pub head-states : PlainClaim → ℕ → Split → Result (Head × List ℕ) Refusal
 head-states claim n two = states_at (n + 1) two.0 >>= head-three claim n two
 
-abbrev head-two : ℕ → Split → PlainClaim → Result (Head × List ℕ) Refusal
+abbrev pub head-two : ℕ → Split → PlainClaim → Result (Head × List ℕ) Refusal
 head-two n one claim = line_at (n + 1) one.1 >>= head-states claim n
 
-abbrev head-claim : ℕ → Split → Result (Head × List ℕ) Refusal
+abbrev pub head-claim : ℕ → Split → Result (Head × List ℕ) Refusal
 head-claim n one = claim_at n one.0 >>= head-two n one
 
 pub head-found : (n : ℕ) (bytes : List ℕ) (h : Head) (rest : List ℕ) → head_from n bytes ≡ Ok (h, rest) → (bytes ≡ lines-of-head h ++ rest) × IsHead h
@@ -104,10 +104,10 @@ all-none P = λ k d lt. absurd (omega arith)
 
 -- ---- upper bounds
 
-abbrev bounds-others : ℕ → ℕ → ℕ → Split → ℚ → Result (List ℚ × List ℕ) Refusal
+abbrev pub bounds-others : ℕ → ℕ → ℕ → Split → ℚ → Result (List ℚ × List ℕ) Refusal
 bounds-others left due n next value = bounds_from left (due + 1) (n + 1) next.1 >>= λ others. Ok (value ∷ others.0, others.1)
 
-abbrev bounds-value : ℕ → ℕ → ℕ → Split → Result (List ℚ × List ℕ) Refusal
+abbrev pub bounds-value : ℕ → ℕ → ℕ → Split → Result (List ℚ × List ℕ) Refusal
 bounds-value left due n next = bound_at due n next.0 >>= bounds-others left due n next
 
 pub bounds-found : (left due n : ℕ) (bytes : List ℕ) (zs : List ℚ) (rest : List ℕ) → bounds_from left due n bytes ≡ Ok (zs, rest) → (bytes ≡ bound_lines due zs ++ rest) × (length zs ≡ left) × All IsNarrow zs
@@ -159,13 +159,13 @@ pub record InWidth (p : Policy) (n : ℕ) : Type 0 where
 abbrev pub lines-of-policy : ℕ → Policy → List ℕ
 lines-of-policy due p = policy_lines due p.values p.choices p.ranks
 
-abbrev cons-entry : Entry → Policy → Policy
+abbrev pub cons-entry : Entry → Policy → Policy
 cons-entry here p = record { values = here.0 ∷ p.values; choices = here.1 ∷ p.choices; ranks = here.2 ∷ p.ranks }
 
-abbrev policy-others : ℕ → ℕ → ℕ → Split → Entry → Result (Policy × List ℕ) Refusal
+abbrev pub policy-others : ℕ → ℕ → ℕ → Split → Entry → Result (Policy × List ℕ) Refusal
 policy-others left due n next here = policy_from left (due + 1) (n + 1) next.1 >>= λ others. Ok (cons-entry here others.0, others.1)
 
-abbrev policy-entry : ℕ → ℕ → ℕ → Split → Result (Policy × List ℕ) Refusal
+abbrev pub policy-entry : ℕ → ℕ → ℕ → Split → Result (Policy × List ℕ) Refusal
 policy-entry left due n next = policy_at due n next.0 >>= policy-others left due n next
 
 pub policies-found : (left due n : ℕ) (bytes : List ℕ) (p : Policy) (rest : List ℕ) → policy_from left due n bytes ≡ Ok (p, rest) → (bytes ≡ lines-of-policy due p ++ rest) × InWidth p left
@@ -273,7 +273,7 @@ body-again (reach dir label) states n (policy zs cs rs) rest limit ok =
 
 -- ---- the end
 
-abbrev end-due : ℕ → Split → Result (Unit {0}) Refusal
+abbrev pub end-due : ℕ → Split → Result (Unit {0}) Refusal
 end-due n last = is_line Shape n last.0 (codes "end") >>= λ closed. refuse_if End (n + 1) (ltb 0 (length last.1))
 
 nothing : (xs : List ℕ) → ltb 0 (length xs) ≡ false → xs ≡ []
@@ -290,19 +290,19 @@ end-found n bytes u e =
 
 -- ---- the whole text
 
-abbrev whole-certificate : Head → PlainBody → Certificate
+abbrev pub whole-certificate : Head → PlainBody → Certificate
 whole-certificate h b = record { claim = h.claim; states = h.states; init = h.init; body = b }
 
-abbrev whole-end : Head → PlainBody × List ℕ → Result Certificate Refusal
+abbrev pub whole-end : Head → PlainBody × List ℕ → Result Certificate Refusal
 whole-end h body = end_from (5 + h.states) body.1 >>= λ end. Ok (whole-certificate h body.0)
 
-abbrev whole-body : Head × List ℕ → Result Certificate Refusal
+abbrev pub whole-body : Head × List ℕ → Result Certificate Refusal
 whole-body head = body_from head.0.claim head.0.states 5 head.1 >>= whole-end head.0
 
-abbrev whole-head : Split → Unit {0} → Result Certificate Refusal
+abbrev pub whole-head : Split → Unit {0} → Result Certificate Refusal
 whole-head one version = head_from 2 one.1 >>= whole-body
 
-abbrev whole-version : Split → Result Certificate Refusal
+abbrev pub whole-version : Split → Result Certificate Refusal
 whole-version one = is_line Version 1 one.0 version_text >>= whole-head one
 
 pub text-found : (bytes : List ℕ) (c : Certificate) → outcome bytes ≡ Ok c → Fits c × (bytes ≡ text_of c)

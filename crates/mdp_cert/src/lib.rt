@@ -24,6 +24,6 @@ pub use cert::Cert;
 pub use claim::Claim;
 pub use error::{CertError, CertKind};
 pub use init::Init;
-pub use laws::text_law;
+pub use laws::{refusal_law, text_law};
 pub use read::read_cert;
 pub use write::write_cert;

@@ -1,4 +1,4 @@
-use Rattle.mdp_cert.proofs.Parts.{read-from-text, one-text, read-or-refused, not-both}
+use Rattle.mdp_cert.proofs.Parts.{read-from-text, one-text}
 use Rattle.mdp_cert.proofs.laws.text_law.Goals as goal
 
 pub returns-clause-read : goal.returns-clause-read
@@ -6,9 +6,3 @@ returns-clause-read c = read-from-text
 
 pub returns-clause-one : goal.returns-clause-one
 returns-clause-one c = one-text
-
-pub returns-clause-covered : goal.returns-clause-covered
-returns-clause-covered c = read-or-refused
-
-pub returns-clause-apart : goal.returns-clause-apart
-returns-clause-apart c = not-both
