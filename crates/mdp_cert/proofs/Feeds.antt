@@ -1,34 +1,26 @@
 -- Each line is read exactly where it is its text.
-use Rattle.std.proofs.Common.{◌≡◌, ℕ, zero, suc, ◌+◌, ◌-◌, ◌<◌, ◌≤◌, ◌^◌, Bool, true, false, not, cond, eqb, ltb, leb, ◌&&◌, ◌||◌, List, [], ◌∷◌, ◌++◌, length, take, drop, get_or, decimal, Option, Some, None, Result, Ok, Err, refl, sym, ap, ap₂, subst, ◌∙◌, append_assoc, arith, lit<, ℤ, pos, negsuc, unsigned_abs}
-use Rattle.std.specs.Prelude.{codes, IsTrue}
-use Rattle.std.specs.Fmt.{signed_decimal}
-use Rattle.std.specs.List.{position_or_len, before_first, after_first, join_with_byte}
-use Rattle.std.specs.Option.{ok_or, option_and_then}
+use Rattle.std.proofs.Common.{◌≡◌, ℕ, ◌+◌, ◌<◌, ◌^◌, Bool, true, false, not, cond, eqb, ltb, ◌||◌, List, [], ◌∷◌, ◌++◌, length, take, drop, get_or, decimal, Option, Some, None, Result, Ok, Err, refl, sym, ap, subst, ◌∙◌, append_assoc, arith, lit<, ℤ, pos, negsuc, unsigned_abs}
+use Rattle.std.specs.List.{position_or_len, before_first, after_first}
+use Rattle.std.specs.Option.{option_and_then}
 use Rattle.std.specs.Str.{bytes_eq}
 use Rattle.std.specs.Cmp.Lexicographic.{bytes_decides}
-use Rattle.std.proofs.lemmas.Bool.{and_parts, both_ways, not-false}
+use Rattle.std.proofs.lemmas.Bool.{not-false}
 use Rattle.std.proofs.lemmas.Bool.Decides.{nat_tests}
-use Rattle.std.proofs.lemmas.List.{take-append-drop, length-append}
+use Rattle.std.proofs.lemmas.List.{length-append}
 use Rattle.std.proofs.lemmas.List.Sums.{split_at_first, passes_at_first}
-use Rattle.std.proofs.Math.Seq.{take-append_seam, drop-append_seam, drop-append-add}
+use Rattle.std.proofs.Math.Seq.{take-append_seam, drop-append-add}
 use Rattle.mdp_math.specs.Gcd.{gcd-one_right}
 use Rattle.mdp_math.specs.Rational.{ℚ, ratio}
 use Rattle.mdp_math.proofs.Laws.{num-ratio, den-ratio}
 use Rattle.mdp_num.specs.Value.{spelling, IsNarrow}
 use Rattle.mdp_num.specs.Canonical.{canonical_of}
 use Rattle.mdp_num.proofs.Spellings.{sound, complete}
-use Rattle.mdp_rows.specs.Name.{is_name}
-use Rattle.mdp_rows.specs.declared.dir.Dir.{Dir}
-use Rattle.mdp_rows.specs.declared.dir.Dir.TheVariants.{Max, Min}
 use Rattle.mdp_cert.specs.declared.error.CertKind.{CertKind}
-use Rattle.mdp_cert.specs.declared.error.CertKind.TheVariants.{Version, Claim, Number, Shape, Count, End}
+use Rattle.mdp_cert.specs.declared.error.CertKind.TheVariants.{Number, End}
 use Rattle.mdp_cert.specs.declared.error.Refusal.{Refusal}
-use Rattle.mdp_cert.specs.declared.init.Init.{Init}
-use Rattle.mdp_cert.specs.declared.init.Init.TheVariants.{Missing, Finite}
-use Rattle.mdp_cert.specs.Cert.{PlainClaim, upper, reach, label_of, is_inside, IsInitInWidth}
-use Rattle.mdp_cert.specs.Spelling.{line, ◌␣◌, quoted, claim_text, states_text, init_text, bound_text, policy_text, dir_text}
-use Rattle.mdp_cert.specs.Reading.{◌>>=◌, refuse_if, or_refused, line_at, is_line, is_line_feed, words, whole_part, whole_of, whole_at, frac_at, behind, closed_name, name_behind, first_claim, claim_of, claim_at, one_behind, two_behind, four_behind, states_at, finite_at, init_at, bound_at, policy_at}
-use Rattle.mdp_cert.proofs.Pieces.{Free, free-append, free-decimal, free-spelling, words-more, words-last, words-joined, whole-small}
+use Rattle.mdp_cert.specs.Spelling.{line}
+use Rattle.mdp_cert.specs.Reading.{◌>>=◌, refuse_if, or_refused, line_at, is_line, is_line_feed, whole_part, whole_of, whole_at, frac_at}
+use Rattle.mdp_cert.proofs.Pieces.{Free, whole-small}
 
 pub bind_ok : {A B : Type 0} (r : Result A Refusal) (f : A → Result B Refusal) (y : B) → (r >>= f) ≡ Ok y → (x : A) × (r ≡ Ok x) × (f x ≡ Ok y)
 bind_ok (Ok x) f y e = (x, refl, e)

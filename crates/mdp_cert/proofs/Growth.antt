@@ -1,12 +1,12 @@
 -- A text that grows line by line.
-use Rattle.std.proofs.Common.{◌≡◌, ℕ, zero, suc, ◌+◌, ◌<◌, ◌≤◌, List, [], ◌∷◌, ◌++◌, length, take, drop, get_or, refl, sym, ap, subst, ◌∙◌, append_assoc, arith, true, false, eqb, ◌&&◌}
+use Rattle.std.proofs.Common.{◌≡◌, ℕ, suc, ◌+◌, ◌<◌, ◌≤◌, List, [], ◌∷◌, ◌++◌, length, take, drop, get_or, refl, sym, ap, ◌∙◌, append_assoc, arith, true, eqb, ◌&&◌}
 use Rattle.std.proofs.Math.Seq.{drop-cons}
 use Rattle.std.proofs.lemmas.List.{take-append-drop, drop_all}
 use Rattle.std.proofs.Math.Seq.{take-append_seam}
 use Rattle.std.proofs.lemmas.Bool.{and_parts}
 use Rattle.std.proofs.lemmas.Bool.Decides.{nat_tests}
 use Rattle.mdp_math.specs.Rational.{ℚ}
-use Rattle.mdp_cert.specs.Cert.{PlainClaim, upper, reach, PlainBody, bounds, policy, is_body_of}
+use Rattle.mdp_cert.specs.Cert.{PlainClaim, upper, reach, bounds, policy, is_body_of}
 use Rattle.mdp_cert.specs.Spelling.{line, bound_text, policy_text, bound_lines, policy_lines}
 use Rattle.mdp_cert.specs.Answer.{Keeps}
 

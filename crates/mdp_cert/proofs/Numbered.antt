@@ -1,5 +1,5 @@
 -- The lines of numbers are read exactly where they are their texts.
-use Rattle.std.proofs.Common.{◌≡◌, ℕ, ◌+◌, ◌-◌, ◌<◌, ◌≤◌, ◌^◌, Bool, true, false, not, cond, eqb, ltb, ◌&&◌, ◌||◌, List, [], ◌∷◌, ◌++◌, length, decimal, Option, Some, None, Result, Ok, Err, refl, sym, ap, ap₂, subst, ◌∙◌, arith}
+use Rattle.std.proofs.Common.{◌≡◌, ℕ, ◌<◌, ◌≤◌, ◌^◌, Bool, true, false, not, cond, eqb, ltb, ◌||◌, List, [], ◌∷◌, length, decimal, Result, Ok, refl, ap, ap₂, subst, ◌∙◌, arith}
 use Rattle.std.specs.Prelude.{codes}
 use Rattle.std.specs.Str.{bytes_eq}
 use Rattle.std.proofs.lemmas.Bool.{not-false}
@@ -12,9 +12,9 @@ use Rattle.mdp_cert.specs.declared.init.Init.{Init}
 use Rattle.mdp_cert.specs.declared.init.Init.TheVariants.{Missing, Finite}
 use Rattle.mdp_cert.specs.Cert.{is_inside, IsInitInWidth}
 use Rattle.mdp_cert.specs.Spelling.{◌␣◌, states_text, init_text, bound_text, policy_text}
-use Rattle.mdp_cert.specs.Reading.{◌>>=◌, refuse_if, refused, words, whole_at, frac_at, one_behind, two_behind, four_behind, states_at, finite_at, init_at, bound_at, policy_at}
+use Rattle.mdp_cert.specs.Reading.{◌>>=◌, refuse_if, words, whole_at, frac_at, one_behind, two_behind, four_behind, states_at, finite_at, init_at, bound_at, policy_at}
 use Rattle.mdp_cert.proofs.Pieces.{Free, free-append, free-decimal, free-spelling, words-more, words-last, words-joined, whole-small, decimal-some}
-use Rattle.mdp_cert.proofs.Feeds.{bind_ok, guard_ok, refuse_ok, bytes_same, bytes_self, whole-found, whole-again, frac-found, frac-again}
+use Rattle.mdp_cert.proofs.Feeds.{bind_ok, guard_ok, refuse_ok, bytes_same, whole-found, whole-again, frac-found, frac-again}
 
 -- ---- words
 

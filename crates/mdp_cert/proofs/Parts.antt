@@ -1,5 +1,5 @@
 -- The parts of a text are read exactly where they are written so.
-use Rattle.std.proofs.Common.{◌≡◌, ℕ, zero, suc, ◌+◌, ◌-◌, ◌<◌, ◌≤◌, ◌^◌, Bool, true, false, not, cond, eqb, ltb, ◌&&◌, List, [], ◌∷◌, ◌++◌, length, get_or, Result, Ok, Err, refl, sym, ap, ap₂, subst, ◌∙◌, append_assoc, arith, ◌⊎◌, inl, inr}
+use Rattle.std.proofs.Common.{◌≡◌, ℕ, zero, suc, ◌+◌, ◌<◌, ◌≤◌, ◌^◌, true, false, eqb, ltb, ◌&&◌, List, [], ◌∷◌, ◌++◌, length, Result, Ok, Err, refl, sym, ap, ap₂, subst, ◌∙◌, append_assoc, arith, ◌⊎◌, inl, inr}
 use Rattle.std.specs.Prelude.{codes, ◌↔◌}
 use Rattle.std.specs.List.{All}
 use Rattle.std.proofs.lemmas.Bool.{and_parts, both_ways, lt-ltb}
@@ -8,14 +8,11 @@ use Rattle.std.proofs.lemmas.List.Elements.{All-cons}
 use Rattle.mdp_math.specs.Rational.{ℚ}
 use Rattle.mdp_num.specs.Value.{IsNarrow}
 use Rattle.mdp_rows.specs.Name.{is_name}
-use Rattle.mdp_rows.specs.declared.dir.Dir.{Dir}
 use Rattle.mdp_cert.specs.declared.error.CertKind.TheVariants.{Version, Shape, End}
 use Rattle.mdp_cert.specs.declared.error.Refusal.{Refusal}
-use Rattle.mdp_cert.specs.declared.init.Init.{Init}
 use Rattle.mdp_cert.specs.Cert.{PlainClaim, upper, reach, PlainBody, bounds, policy, Certificate, label_of, is_inside, is_body_of, IsInitInWidth, IsBodyInWidth, Fits}
-use Rattle.mdp_cert.specs.Spelling.{line, claim_text, states_text, init_text, bound_text, policy_text, bound_lines, policy_lines, version_text, head_text, body_text, text_of}
+use Rattle.mdp_cert.specs.Spelling.{line, claim_text, states_text, init_text, bound_text, policy_text, bound_lines, policy_lines, version_text, body_text, text_of}
 use Rattle.mdp_cert.specs.Reading.{◌>>=◌, refuse_if, line_at, is_line, claim_at, states_at, init_at, bound_at, policy_at, Head, head_from, bounds_from, Policy, policy_from, body_from, end_from, outcome}
-use Rattle.mdp_cert.proofs.Pieces.{Free}
 use Rattle.mdp_cert.proofs.Feeds.{bind_ok, refuse_ok, line-again, line-found, due-line, due-again}
 use Rattle.mdp_cert.proofs.Claims.{claim-found, claim-again, free-claim}
 use Rattle.mdp_cert.proofs.Numbered.{Entry, states-found, states-again, free-states, init-found, init-again, free-init, bound-found, bound-again, free-bound, policy-found, policy-again, free-policy}

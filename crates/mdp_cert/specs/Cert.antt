@@ -1,5 +1,5 @@
 -- What a certificate says, as a plain record.
-use Rattle.std.specs.Prelude.{◌≡◌, ℕ, ◌<◌, ◌≤◌, ◌^◌, Bool, true, false, ◌&&◌, IsTrue, List, length, nat_lt, ◌==◌, All}
+use Rattle.std.specs.Prelude.{ℕ, ◌<◌, ◌≤◌, ◌^◌, Bool, true, false, ◌&&◌, IsTrue, List, length, nat_lt, ◌==◌, All}
 use Rattle.mdp_math.specs.Rational.{ℚ}
 use Rattle.mdp_num.specs.Value.{IsNarrow}
 use Rattle.mdp_rows.specs.Name.{is_name}

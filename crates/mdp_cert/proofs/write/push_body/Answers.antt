@@ -1,4 +1,4 @@
-use Rattle.std.proofs.Common.{◌≡◌, sym, ap, ◌∙◌}
+use Rattle.std.proofs.Common.{sym, ap, ◌∙◌}
 use Rattle.mdp_cert.specs.declared.body.Body.{Body}
 use Rattle.mdp_cert.specs.Cert.{plain_claim, plain_body, is_body_of}
 use Rattle.mdp_cert.proofs.Growth.{bounds-entries, policy-entries}
