@@ -1,0 +1,38 @@
+-- Certificates and their texts.
+use Rattle.std.specs.Prelude.{◌≡◌, ◌↔◌, ◌⊎◌, ℕ, zero, suc, ◌-◌, ◌<◌, List, [], ◌++◌, length, Result, Ok, Err, nat_lt, if◌then◌else◌}
+use Rattle.std.specs.List.{position_or_len, before_first, after_first}
+use Rattle.mdp_cert.specs.declared.error.CertKind.TheVariants.{End}
+use Rattle.mdp_cert.specs.declared.error.Refusal.{Refusal}
+use Rattle.mdp_cert.specs.Cert.{Certificate, Fits}
+use Rattle.mdp_cert.specs.Spelling.{line, text_of}
+use Rattle.mdp_cert.specs.Reading.{is_line_feed, outcome}
+
+-- what is read is the certificate of which the bytes are the text
+abbrev pub IsReadFromText : Type 0
+IsReadFromText = (bytes : List ℕ) (c : Certificate) → (outcome bytes ≡ Ok c) ↔ (Fits c × (bytes ≡ text_of c))
+
+-- two certificates never share a text
+abbrev pub IsOneText : Type 0
+IsOneText = (c d : Certificate) → Fits c → Fits d → text_of c ≡ text_of d → c ≡ d
+
+-- bytes are the text of a certificate, or they are refused
+abbrev pub IsReadOrRefused : Type 0
+IsReadOrRefused = (bytes : List ℕ) → ((c : Certificate) × Fits c × (bytes ≡ text_of c)) ⊎ ((r : Refusal) × (outcome bytes ≡ Err r))
+
+-- and not both
+abbrev pub IsNotBoth : Type 0
+IsNotBoth = (bytes : List ℕ) (c : Certificate) (r : Refusal) → Fits c → bytes ≡ text_of c → outcome bytes ≡ Err r → ⊥
+
+-- the first n lines, each with its line feed; all bytes where there are fewer
+unfoldable pub first_lines : ℕ → List ℕ → List ℕ
+first_lines zero bytes = []
+first_lines (suc n) bytes = if nat_lt (position_or_len is_line_feed bytes) (length bytes) then line (before_first is_line_feed bytes) ++ first_lines n (after_first is_line_feed bytes) else bytes
+
+-- nothing is refused but that line n is missing
+abbrev pub LacksAtMost : ℕ → Result Certificate Refusal → Type 0
+LacksAtMost n (Ok c) = Unit {0}
+LacksAtMost n (Err r) = r ≡ record { kind = End; line = n }
+
+-- a refusal names the first line that breaks a rule: the lines before it break none, and the bytes behind it change nothing
+abbrev pub IsFirstBroken : Type 0
+IsFirstBroken = (bytes : List ℕ) (r : Refusal) → outcome bytes ≡ Err r → (0 < r.line) × LacksAtMost r.line (outcome (first_lines (r.line - 1) bytes)) × (outcome (first_lines r.line bytes) ≡ Err r)

@@ -1,0 +1,10 @@
+use mdp_farkas::{ReachCert, UpperCert};
+
+/// What a certificate says of each state.
+#[derive(Debug, Drop)]
+pub enum Body {
+    /// An upper bound.
+    Upper(UpperCert),
+    /// A value, the policy's choice and a rank.
+    Reach(ReachCert),
+}

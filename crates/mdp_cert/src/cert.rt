@@ -1,0 +1,21 @@
+ghost use Rattle.std.specs.Prelude.{◌<◌, ◌≤◌, ◌^◌, IsTrue};
+ghost use Rattle.mdp_rows.specs.Name.{is_name};
+ghost use Rattle.mdp_cert.specs.Cert.{plain_claim, plain_body, label_of, is_inside, is_body_of};
+
+use crate::body::Body;
+use crate::claim::Claim;
+use crate::init::Init;
+
+/// A certificate: its claim, the number of states, from 1 to 2^20, the initial state with its value, and a body of the claim's kind with an entry per state.
+#[derive(Debug, Drop)]
+pub struct Cert {
+    pub claim: Claim,
+    pub states: u32,
+    pub init: Init,
+    pub body: Body,
+    ghost some: { 0 < states },
+    ghost limit: { states ≤ 2 ^ 20 },
+    ghost name: { IsTrue (is_name (label_of (plain_claim claim))) },
+    ghost inside: { IsTrue (is_inside states init) },
+    ghost entries: { IsTrue (is_body_of (plain_claim claim) states (plain_body body)) },
+}

@@ -1,0 +1,10 @@
+use mdp_rows::Dir;
+
+/// What a certificate says of a model. A label is a name: 1 to 255 bytes without `"` and line feed.
+#[derive(Debug, Drop)]
+pub enum Claim {
+    /// The values bound the probability of reaching the label from above, under each policy.
+    Upper { label: Vec<u8> },
+    /// The values are the greatest or the least probabilities of reaching the label.
+    Reach { dir: Dir, label: Vec<u8> },
+}

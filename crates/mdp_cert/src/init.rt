@@ -1,0 +1,10 @@
+use mdp_num::Frac;
+
+/// What the line `init` says.
+#[derive(Clone, Copy, Debug)]
+pub enum Init {
+    /// The model has no initial state, or more than one.
+    Missing,
+    /// The initial state, and its value.
+    Finite(u32, Frac),
+}

@@ -1,0 +1,36 @@
+ghost use Rattle.std.specs.Prelude.{◌≡◌};
+ghost use Rattle.mdp_cert.specs.Reading.{whole_of, whole_at, frac_at};
+
+use crate::error::{CertKind, Refusal};
+use mdp_num::{Frac, read_canonical};
+
+/// The whole number below 2^32 that a word spells, without leading zeros.
+fn whole_of(word: &[u8]) -> Option<u32>
+    ensures { result ≡ whole_of word.now }
+{
+    let number = read_canonical(word)?;
+    if number.den() != 1 {
+        return None;
+    }
+    u32::try_from(number.num()).ok()
+}
+
+/// The whole number of a word in this line.
+pub(crate) fn whole_at(line: u64, word: &[u8]) -> Result<u32, Refusal>
+    ensures { result ≡ whole_at line word.now }
+{
+    whole_of(word).ok_or(Refusal {
+        kind: CertKind::Number,
+        line,
+    })
+}
+
+/// The fraction of a word in this line.
+pub(crate) fn frac_at(line: u64, word: &[u8]) -> Result<Frac, Refusal>
+    ensures { result ≡ frac_at line word.now }
+{
+    read_canonical(word).ok_or(Refusal {
+        kind: CertKind::Number,
+        line,
+    })
+}

@@ -1,0 +1,152 @@
+ghost use Rattle.std.specs.Prelude.{◌≡◌, ◌++◌, ◌∷◌, [], decimal, codes, length, take, OnOk, OnErr, Ok, Err};
+ghost use Rattle.mdp_num.specs.Value.{spelling};
+ghost use Rattle.mdp_cert.specs.Cert.{plain_claim, plain_body};
+ghost use Rattle.mdp_cert.specs.Spelling.{line, claim_text, states_text, init_text, bound_text, policy_text};
+ghost use Rattle.mdp_cert.specs.Answer.{Keeps};
+
+use crate::claim::Claim;
+use crate::init::Init;
+use itoa::Buffer;
+use mdp_num::{Frac, Memory};
+use mdp_rows::Dir;
+
+/// Appends a whole number in decimal.
+fn push_whole(out: &mut Vec<u8>, number: u32) -> Result<(), Memory>
+    ensures text { OnOk result (out.new.items ≡ out.old.items ++ decimal number) }
+    ensures front { Keeps out.old.items out.new.items }
+{
+    let mut buffer = Buffer::new();
+    out.extend_from_slice(buffer.format(number).as_bytes())?;
+    Ok(())
+}
+
+/// Appends a blank, the value and the line's end.
+fn push_value_end(out: &mut Vec<u8>, value: &Frac) -> Result<(), Memory>
+    ensures text { OnOk result (out.new.items ≡ out.old.items ++ (32 ∷ (spelling value.now ++ 10 ∷ []))) }
+    ensures front { Keeps out.old.items out.new.items }
+{
+    out.extend_from_slice(b" ")?;
+    value.push_text(out)?;
+    out.extend_from_slice(b"\n")?;
+    Ok(())
+}
+
+/// Appends a blank and the whole number.
+fn push_word(out: &mut Vec<u8>, number: u32) -> Result<(), Memory>
+    ensures text { OnOk result (out.new.items ≡ out.old.items ++ (32 ∷ decimal number)) }
+    ensures front { Keeps out.old.items out.new.items }
+{
+    out.extend_from_slice(b" ")?;
+    push_whole(out, number)
+}
+
+/// Appends a choice and a rank, each behind a blank, and the line's end.
+fn push_choice_end(out: &mut Vec<u8>, choice: u32, rank: u32) -> Result<(), Memory>
+    ensures text { OnOk result (out.new.items ≡ out.old.items ++ (32 ∷ (decimal choice ++ 32 ∷ (decimal rank ++ 10 ∷ [])))) }
+    ensures front { Keeps out.old.items out.new.items }
+{
+    push_word(out, choice)?;
+    push_word(out, rank)?;
+    out.extend_from_slice(b"\n")?;
+    Ok(())
+}
+
+/// Appends a value, a choice and a rank, each behind a blank, and the line's end.
+fn push_policy_end(out: &mut Vec<u8>, value: &Frac, choice: u32, rank: u32) -> Result<(), Memory>
+    ensures text { OnOk result (out.new.items ≡ out.old.items ++ (32 ∷ (spelling value.now ++ 32 ∷ (decimal choice ++ 32 ∷ (decimal rank ++ 10 ∷ []))))) }
+    ensures front { Keeps out.old.items out.new.items }
+{
+    out.extend_from_slice(b" ")?;
+    value.push_text(out)?;
+    push_choice_end(out, choice, rank)
+}
+
+/// Appends the line of a state and its upper bound.
+pub(crate) fn push_bound(out: &mut Vec<u8>, state: u32, value: &Frac) -> Result<(), Memory>
+    ensures text { OnOk result (out.new.items ≡ out.old.items ++ line (bound_text state value.now)) }
+    ensures front { Keeps out.old.items out.new.items }
+{
+    out.extend_from_slice(b"state ")?;
+    push_whole(out, state)?;
+    push_value_end(out, value)
+}
+
+/// Appends the line of a state, its value, its choice and its rank.
+pub(crate) fn push_policy(
+    out: &mut Vec<u8>,
+    state: u32,
+    value: &Frac,
+    choice: u32,
+    rank: u32,
+) -> Result<(), Memory>
+    ensures text { OnOk result (out.new.items ≡ out.old.items ++ line (policy_text state value.now choice rank)) }
+    ensures front { Keeps out.old.items out.new.items }
+{
+    out.extend_from_slice(b"state ")?;
+    push_whole(out, state)?;
+    push_policy_end(out, value, choice, rank)
+}
+
+/// Appends a line of this front and a name in quotes; the front ends with the first quote.
+fn push_quoted(out: &mut Vec<u8>, front: &[u8], name: &[u8]) -> Result<(), Memory>
+    ensures text { OnOk result (out.new.items ≡ out.old.items ++ line (front.now ++ (name.now ++ 34 ∷ []))) }
+    ensures front { Keeps out.old.items out.new.items }
+{
+    out.extend_from_slice(front)?;
+    out.extend_from_slice(name)?;
+    out.extend_from_slice(b"\"\n")?;
+    Ok(())
+}
+
+/// Appends the line of the claim.
+pub(crate) fn push_claim(out: &mut Vec<u8>, claim: &Claim) -> Result<(), Memory>
+    ensures text { OnOk result (out.new.items ≡ out.old.items ++ line (claim_text (plain_claim claim.now))) }
+    ensures front { Keeps out.old.items out.new.items }
+{
+    match claim {
+        Claim::Upper { label } => push_quoted(out, b"claim upper reach \"", label),
+        Claim::Reach {
+            dir: Dir::Max,
+            label,
+        } => push_quoted(out, b"claim max reach \"", label),
+        Claim::Reach {
+            dir: Dir::Min,
+            label,
+        } => push_quoted(out, b"claim min reach \"", label),
+    }
+}
+
+/// Appends the line of the number of states.
+pub(crate) fn push_states(out: &mut Vec<u8>, states: u32) -> Result<(), Memory>
+    ensures text { OnOk result (out.new.items ≡ out.old.items ++ line (states_text states)) }
+    ensures front { Keeps out.old.items out.new.items }
+{
+    out.extend_from_slice(b"states ")?;
+    push_whole(out, states)?;
+    out.extend_from_slice(b"\n")?;
+    Ok(())
+}
+
+/// Appends the line of a given initial state and its value.
+fn push_finite(out: &mut Vec<u8>, state: u32, value: &Frac) -> Result<(), Memory>
+    ensures text { OnOk result (out.new.items ≡ out.old.items ++ line (init_text (Init.Finite state value.now))) }
+    ensures front { Keeps out.old.items out.new.items }
+{
+    out.extend_from_slice(b"init ")?;
+    push_whole(out, state)?;
+    push_value_end(out, value)
+}
+
+/// Appends the line of the initial state.
+pub(crate) fn push_init(out: &mut Vec<u8>, init: &Init) -> Result<(), Memory>
+    ensures text { OnOk result (out.new.items ≡ out.old.items ++ line (init_text init.now)) }
+    ensures front { Keeps out.old.items out.new.items }
+{
+    match init {
+        Init::Missing => {
+            out.extend_from_slice(b"init -\n")?;
+            Ok(())
+        }
+        Init::Finite(state, value) => push_finite(out, *state, value),
+    }
+}
