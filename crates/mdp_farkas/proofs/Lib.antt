@@ -2,7 +2,7 @@ mod Walk
 mod Holds
 mod Comparing
 mod Summing
-mod UpperRules
+pub mod UpperRules
 mod Entries
-mod ReachRules
+pub mod ReachRules
 mod Examples

@@ -1,26 +1,29 @@
 use crate::{Dir, Fault, ReachCert, UpperCert, Verdict, holds_reach, holds_upper};
 use mdp_num::{Frac, read_canonical, read_numeral};
-use mdp_rows::{Builder, Model};
+use mdp_rows::{Builder, Model, RowRule};
 use std::alloc::Global;
 use std::test::Fail;
 
 /// 0 init: [0 1] [1 1/3, 2 2/3]; 1 goal: [1 1]; 2: [2 1]
 fn coin(alloc: Global) -> Result<Model, Fail> {
-    let mut builder = Builder::new(alloc, 3)?;
+    let mut names = Vec::new(alloc);
+    names.push(Vec::from_slice(alloc, b"-")?)?;
+    let mut builder = Builder::new(alloc, 3, RowRule::Exact, names)?;
     let one = read_numeral(b"1")?;
-    builder.state()?;
+    let nothing = [read_numeral(b"0")?];
+    builder.state(&nothing)?;
     builder.label(b"init")?;
-    builder.choice()?;
+    builder.choice(&nothing)?;
     builder.entry(0, one)?;
-    builder.choice()?;
+    builder.choice(&nothing)?;
     builder.entry(1, read_numeral(b"1/3")?)?;
     builder.entry(2, read_numeral(b"2/3")?)?;
-    builder.state()?;
+    builder.state(&nothing)?;
     builder.label(b"goal")?;
-    builder.choice()?;
+    builder.choice(&nothing)?;
     builder.entry(1, one)?;
-    builder.state()?;
-    builder.choice()?;
+    builder.state(&nothing)?;
+    builder.choice(&nothing)?;
     builder.entry(2, one)?;
     Ok(builder.finish()?)
 }

@@ -1,0 +1,67 @@
+-- Answers, computed, on a model of three states: state 0, with the label `init`, has a loop, and a choice that goes on to 1 with 1/3 and to 2 with
+-- 2/3; 1 has the label `goal`, and 2 is left nowhere.
+use Rattle.std.proofs.Common.{◌≡◌, ℕ, List, [], ◌∷◌, refl, pos, Some, None}
+use Rattle.std.specs.Prelude.{codes}
+use Rattle.mdp_math.specs.Gcd.{gcd, gcd_with_fuel}
+use Rattle.mdp_math.specs.Rational.{ℚ, of_int, ratio, lt_ℚ, ◌+ℚ◌, ◌*ℚ◌}
+use Rattle.mdp_math.specs.Written.{narrow, narrow_ℚ, written_add, written_mul, written_compare}
+use Rattle.mdp_spec.specs.Mdp.{Entry, Choice, Mdp}
+use Rattle.mdp_rows.specs.declared.dir.Dir.TheVariants.{Max}
+use Rattle.mdp_cert.specs.declared.init.Init.{Init}
+use Rattle.mdp_cert.specs.declared.init.Init.TheVariants.{Missing, Finite}
+use Rattle.mdp_cert.specs.Cert.{upper, reach, bounds, policy, Certificate}
+use Rattle.mdp_check.specs.Check.{answer_to}
+use Rattle.mdp_check.specs.declared.answer.Answer.TheVariants.{Yes, No, NoLabel, Size}
+
+abbrev row : List Entry → Choice
+row entries = record { row = entries; rewards = [] }
+
+abbrev entry : ℕ → ℚ → Entry
+entry t p = record { target = t; prob = p }
+
+abbrev zero_ : ℚ
+zero_ = of_int (pos 0)
+
+abbrev one : ℚ
+one = of_int (pos 1)
+
+abbrev three : Mdp
+three = record {
+  names = [];
+  labels = codes "init" ∷ codes "goal" ∷ [];
+  states =
+      record { labels = 0 ∷ []; choices = row (entry 0 one ∷ []) ∷ row (entry 1 (ratio (pos 1) 3) ∷ entry 2 (ratio (pos 2) 3) ∷ []) ∷ [] }
+      ∷ record { labels = 1 ∷ []; choices = row (entry 1 one ∷ []) ∷ [] }
+      ∷ record { labels = []; choices = row (entry 2 one ∷ []) ∷ [] }
+      ∷ [];
+}
+
+abbrev upper_of : List ℕ → Init → List ℚ → Certificate
+upper_of label init values = record { claim = upper label; states = 3; init = init; body = bounds values }
+
+-- 1 bounds state 0
+bounded : answer_to three (upper_of (codes "goal") (Finite 0 one) (one ∷ one ∷ zero_ ∷ [])) ≡ Yes
+unfolding gcd gcd_with_fuel ratio of_int ◌+ℚ◌ ◌*ℚ◌ narrow narrow_ℚ written_add written_mul written_compare
+bounded = refl
+
+-- the loop alone carries the value 1 at state 0, so its rank doesn't fall
+loop_alone :
+    answer_to three (record { claim = reach Max (codes "goal"); states = 3; init = Finite 0 one; body = policy (one ∷ one ∷ zero_ ∷ []) (0 ∷ 0 ∷ 0 ∷ []) (1 ∷ 0 ∷ 0 ∷ []) })
+    ≡ No (record { rule = 8; state = Some 0; choice = Some 0 })
+unfolding gcd gcd_with_fuel ratio of_int lt_ℚ ◌+ℚ◌ ◌*ℚ◌ narrow narrow_ℚ written_add written_mul written_compare
+loop_alone = refl
+
+-- rule 1 comes before the others
+no_init : answer_to three (upper_of (codes "goal") Missing (zero_ ∷ zero_ ∷ zero_ ∷ [])) ≡ No (record { rule = 1; state = None; choice = None })
+no_init = refl
+
+other_value : answer_to three (upper_of (codes "goal") (Finite 0 zero_) (one ∷ one ∷ zero_ ∷ [])) ≡ No (record { rule = 1; state = Some 0; choice = None })
+unfolding of_int
+other_value = refl
+
+no_label : answer_to three (upper_of (codes "done") (Finite 0 one) (one ∷ one ∷ zero_ ∷ [])) ≡ NoLabel
+no_label = refl
+
+-- the numbers of states come before the label
+two_states : answer_to three (record { claim = upper (codes "done"); states = 2; init = Missing; body = bounds (one ∷ one ∷ []) }) ≡ Size
+two_states = refl

@@ -1,0 +1,2 @@
+pub mod Accepting
+mod Examples

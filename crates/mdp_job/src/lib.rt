@@ -1,0 +1,14 @@
+//! The words of the command line, the statuses, and the texts of refusals.
+#![tactic(auto)]
+
+mod job;
+mod refusal;
+mod status;
+#[cfg(test)]
+mod tests;
+mod words_error;
+
+pub use job::{Job, job_of};
+pub use refusal::{MEMORY_TEXT, Refusal, push_refusal};
+pub use status::Status;
+pub use words_error::WordsError;

@@ -1,0 +1,241 @@
+ghost use Rattle.std.specs.Prelude.{◌≡◌, ◌≤◌, ◌++◌, length, take, OnOk, OnErr};
+ghost use Rattle.mdp_job.specs.Refusal.{text_of, status_of, words_text, drn_text, cert_text, at_text, place_text, number_text, rule_text, denied_text, too_wide_text};
+
+use crate::status::Status;
+use crate::words_error::WordsError;
+use itoa::Buffer;
+use mdp_cert::CertKind;
+use mdp_drn::DrnKind;
+use mdp_farkas::Fault;
+use mdp_num::Memory;
+use std::alloc::AllocError;
+
+/// An answer other than that the work was done, but for a fault of the sink.
+#[derive(Clone, Copy, Debug, PartialEq, Eq)]
+pub enum Refusal {
+    /// The words are no job.
+    Words(WordsError),
+    /// The model's text breaks a rule, first at this line; the end of the text has the number of lines plus 1.
+    Model {
+        line: u64,
+        kind: DrnKind,
+    },
+    /// The certificate has another number of states than the model.
+    QuerySize,
+    /// The label isn't in the model.
+    QueryLabel,
+    /// A written term of the check is past width, at this place.
+    CheckWide {
+        state: Option<u32>,
+        choice: Option<u32>,
+    },
+    /// A rule of the certificate is false.
+    Denied(Fault),
+    /// The model's source failed.
+    ReadModel,
+    /// The certificate's source failed.
+    ReadCertificate,
+    /// The model's source gave more than 2^30 bytes.
+    LongModel,
+    /// The certificate's source gave more than 2^30 bytes.
+    LongCertificate,
+    /// The certificate's text breaks a rule, first at this line.
+    CertText {
+        line: u64,
+        kind: CertKind,
+    },
+    /// Memory was refused.
+    Memory,
+}
+
+/// The text of want of memory.
+pub const MEMORY_TEXT: &[u8] = b"memory\n";
+
+impl Refusal {
+    /// The status with which a run ends that gives this refusal.
+    pub fn status(&self) -> Status
+        ensures { result ≡ status_of self.now }
+    {
+        match self {
+            Refusal::Words(_) => Status::Words,
+            Refusal::Model { .. } => Status::Model,
+            Refusal::QuerySize | Refusal::QueryLabel => Status::Query,
+            Refusal::CheckWide { .. } => Status::TooWide,
+            Refusal::Denied(_) => Status::Denied,
+            Refusal::ReadModel | Refusal::ReadCertificate => Status::ReadFault,
+            Refusal::LongModel | Refusal::LongCertificate => Status::Long,
+            Refusal::CertText { .. } => Status::CertText,
+            Refusal::Memory => Status::Memory,
+        }
+    }
+}
+
+/// The word for why words are no job.
+fn words_word(error: WordsError) -> &'static str
+    ensures { result.now ≡ words_text error }
+{
+    match error {
+        WordsError::Command => "command",
+        WordsError::Number => "number",
+        WordsError::Rows => "rows",
+    }
+}
+
+/// The word for why a text is no model.
+#[tactic(auto, unfolding(crate::specs::Refusal::drn_text))]
+fn drn_word(kind: DrnKind) -> &'static str
+    ensures { result.now ≡ drn_text kind }
+{
+    match kind {
+        DrnKind::Header => "header",
+        DrnKind::Type => "type",
+        DrnKind::Parametric => "parametric",
+        DrnKind::Number => "number",
+        DrnKind::Large => "large",
+        DrnKind::Order => "order",
+        DrnKind::Count => "count",
+        DrnKind::Reward => "reward",
+        DrnKind::Target => "target",
+        DrnKind::Twice => "twice",
+        DrnKind::RowSum => "row-sum",
+        DrnKind::RowWide => "row-wide",
+        DrnKind::NoChoice => "no-choice",
+        DrnKind::Label => "label",
+        DrnKind::TooMany => "too-many",
+        DrnKind::Shape => "shape",
+        DrnKind::Negative => "negative",
+        DrnKind::LongLine => "long-line",
+        DrnKind::End => "end",
+    }
+}
+
+/// The word for why a text is no certificate.
+fn cert_word(kind: CertKind) -> &'static str
+    ensures { result.now ≡ cert_text kind }
+{
+    match kind {
+        CertKind::Version => "version",
+        CertKind::Claim => "claim",
+        CertKind::Number => "number",
+        CertKind::Shape => "shape",
+        CertKind::Count => "count",
+        CertKind::End => "end",
+    }
+}
+
+/// Appends a number, or `-` where there is none.
+fn push_number(number: Option<u32>, out: &mut Vec<u8>) -> Result<(), AllocError>
+    ensures text { OnOk result (out.new.items ≡ out.old.items ++ number_text number) }
+    ensures front { take (length out.old.items) out.new.items ≡ out.old.items }
+{
+    match number {
+        Some(number) => {
+            let mut buffer = Buffer::new();
+            out.extend_from_slice(buffer.format(number).as_bytes())
+        }
+        None => out.extend_from_slice(b"-"),
+    }
+}
+
+/// Appends ` state S choice C`, with `-` for a state or a choice that isn't there, and ends the line.
+fn push_place(state: Option<u32>, choice: Option<u32>, out: &mut Vec<u8>) -> Result<(), AllocError>
+    ensures text { OnOk result (out.new.items ≡ out.old.items ++ place_text state choice) }
+    ensures front { take (length out.old.items) out.new.items ≡ out.old.items }
+{
+    out.extend_from_slice(b" state ")?;
+    push_number(state, out)?;
+    out.extend_from_slice(b" choice ")?;
+    push_number(choice, out)?;
+    out.extend_from_slice(b"\n")
+}
+
+/// Appends the line of words that are no job.
+fn push_words(error: WordsError, out: &mut Vec<u8>) -> Result<(), AllocError>
+    ensures text { OnOk result (out.new.items ≡ out.old.items ++ text_of (Refusal.Words error)) }
+    ensures front { take (length out.old.items) out.new.items ≡ out.old.items }
+{
+    out.extend_from_slice(b"words ")?;
+    out.extend_from_slice(words_word(error).as_bytes())?;
+    out.extend_from_slice(b"\n")
+}
+
+/// Appends `WHAT line L WHY`, and ends the line.
+fn push_at(what: &str, line: u64, why: &str, out: &mut Vec<u8>) -> Result<(), AllocError>
+    ensures text { OnOk result (out.new.items ≡ out.old.items ++ at_text what.now line why.now) }
+    ensures front { take (length out.old.items) out.new.items ≡ out.old.items }
+{
+    let mut buffer = Buffer::new();
+    out.extend_from_slice(what.as_bytes())?;
+    out.extend_from_slice(b" line ")?;
+    out.extend_from_slice(buffer.format(line).as_bytes())?;
+    out.extend_from_slice(b" ")?;
+    out.extend_from_slice(why.as_bytes())?;
+    out.extend_from_slice(b"\n")
+}
+
+/// Appends `denied rule R`.
+fn push_rule(rule: u8, out: &mut Vec<u8>) -> Result<(), AllocError>
+    ensures text { OnOk result (out.new.items ≡ out.old.items ++ rule_text rule) }
+    ensures front { take (length out.old.items) out.new.items ≡ out.old.items }
+{
+    out.extend_from_slice(b"denied rule ")?;
+    push_number(Some(u32::from(rule)), out)
+}
+
+/// Appends the line of a rule that is false.
+fn push_denied(fault: &Fault, out: &mut Vec<u8>) -> Result<(), AllocError>
+    ensures text { OnOk result (out.new.items ≡ out.old.items ++ denied_text fault.now) }
+    ensures front { take (length out.old.items) out.new.items ≡ out.old.items }
+{
+    push_rule(fault.rule, out)?;
+    push_place(fault.state, fault.choice, out)
+}
+
+/// Appends the line of a term past width.
+fn push_too_wide(
+    state: Option<u32>,
+    choice: Option<u32>,
+    out: &mut Vec<u8>,
+) -> Result<(), AllocError>
+    ensures text { OnOk result (out.new.items ≡ out.old.items ++ too_wide_text state choice) }
+    ensures front { take (length out.old.items) out.new.items ≡ out.old.items }
+{
+    out.extend_from_slice(b"too-wide check")?;
+    push_place(state, choice, out)
+}
+
+/// Appends the refusal's line, where what stands before it may have grown by a part of it on `Err`.
+fn push_parts(refusal: &Refusal, out: &mut Vec<u8>) -> Result<(), AllocError>
+    ensures text { OnOk result (out.new.items ≡ out.old.items ++ text_of refusal.now) }
+    ensures front { take (length out.old.items) out.new.items ≡ out.old.items }
+{
+    match refusal {
+        Refusal::Words(error) => push_words(*error, out),
+        Refusal::Model { line, kind } => push_at("model", *line, drn_word(*kind), out),
+        Refusal::QuerySize => out.extend_from_slice(b"query size\n"),
+        Refusal::QueryLabel => out.extend_from_slice(b"query label\n"),
+        Refusal::CheckWide { state, choice } => push_too_wide(*state, *choice, out),
+        Refusal::Denied(fault) => push_denied(fault, out),
+        Refusal::ReadModel => out.extend_from_slice(b"read-fault model\n"),
+        Refusal::ReadCertificate => out.extend_from_slice(b"read-fault certificate\n"),
+        Refusal::LongModel => out.extend_from_slice(b"long model\n"),
+        Refusal::LongCertificate => out.extend_from_slice(b"long certificate\n"),
+        Refusal::CertText { line, kind } => push_at("cert", *line, cert_word(*kind), out),
+        Refusal::Memory => out.extend_from_slice(MEMORY_TEXT),
+    }
+}
+
+/// Appends the refusal's line of text, its line feed included. After `Memory` the text is as before.
+pub fn push_refusal(refusal: &Refusal, out: &mut Vec<u8>) -> Result<(), Memory>
+    ensures appended { OnOk result (out.new.items ≡ out.old.items ++ text_of refusal.now) }
+    ensures unchanged { OnErr result (out.new.items ≡ out.old.items) }
+{
+    let start = out.len();
+    match push_parts(refusal, out) {
+        Ok(()) => Ok(()),
+        Err(AllocError) => {
+            out.truncate(start);
+            Err(Memory)
+        }
+    }
+}

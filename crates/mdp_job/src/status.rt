@@ -1,0 +1,50 @@
+ghost use Rattle.std.specs.Prelude.{◌≡◌};
+ghost use Rattle.mdp_job.specs.Status.{code_of};
+
+/// How a run ended. Its number is the exit status of the program.
+#[derive(Clone, Copy, Debug, PartialEq, Eq)]
+pub enum Status {
+    /// The work was done.
+    Done,
+    /// A rule of the certificate is false.
+    Denied,
+    /// The words are no job.
+    Words,
+    /// The model's text was refused.
+    Model,
+    /// The certificate doesn't belong to the model, or names a label that the model hasn't.
+    Query,
+    /// A written term of the check is past width.
+    TooWide,
+    /// A source failed.
+    ReadFault,
+    /// The sink failed.
+    WriteFault,
+    /// Memory was refused.
+    Memory,
+    /// The certificate's text was refused.
+    CertText,
+    /// A source gave more bytes than the limit.
+    Long,
+}
+
+impl Status {
+    /// The status's number.
+    pub fn code(&self) -> u8
+        ensures { result ≡ code_of self.now }
+    {
+        match self {
+            Status::Done => 0,
+            Status::Denied => 1,
+            Status::Words => 2,
+            Status::Model => 3,
+            Status::Query => 4,
+            Status::TooWide => 5,
+            Status::ReadFault => 6,
+            Status::WriteFault => 7,
+            Status::Memory => 8,
+            Status::CertText => 9,
+            Status::Long => 10,
+        }
+    }
+}

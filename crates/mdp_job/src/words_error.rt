@@ -1,0 +1,10 @@
+/// Why words are no job. The first of these whose condition holds is answered.
+#[derive(Clone, Copy, Debug, PartialEq, Eq)]
+pub enum WordsError {
+    /// There is no word, or the first one is no command.
+    Command = 1,
+    /// The command has another number of words.
+    Number = 2,
+    /// The row rule is neither `exact` nor `scaled`.
+    Rows = 3,
+}
