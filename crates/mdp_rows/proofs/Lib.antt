@@ -1,12 +1,15 @@
 mod CallFacts
 mod ChoiceFacts
 mod Closings
+mod CutFacts
 mod Denominators
 mod Distributions
 mod DraftFacts
 mod EntryFacts
 mod Examples
+mod ExamplesCut
 mod Growth
+mod Handing
 mod HeadFacts
 mod KeptFacts
 mod LabelCalls
@@ -28,6 +31,7 @@ mod RewardSums
 mod RowFacts
 mod RowsGrow
 mod RowsOfPolicy
+mod RowsWithin
 mod Scaling
 mod SoundBuilder
 mod SoundEntries

@@ -29,7 +29,7 @@ record IsChoiceOf (announced names : ℕ) (c : Choice) : Type 0 where
   row : IsRow announced c.row
   within : IsChoiceWithin names c
 
-abbrev row_count : List Choice → ℕ
+abbrev pub row_count : List Choice → ℕ
 row_count choices = sum_by (λ c. length c.row) choices
 
 -- ---- the choices of a state
@@ -157,7 +157,7 @@ module _ (announced : ℕ) (names labels : List (List ℕ)) (different : IsTrue 
 
 -- ---- the model
 
-closed_at : (m : Mdp) → IsModel m → (k : ℕ) (d : State) → k < length m.states → IsClosedState (states_of m) (length m.names) (get_or m.states k d)
+pub closed_at : (m : Mdp) → IsModel m → (k : ℕ) (d : State) → k < length m.states → IsClosedState (states_of m) (length m.names) (get_or m.states k d)
 closed_at m ok k d l =
     let e : get_or m.states k no_state ≡ get_or m.states k d = get_or_default m.states k no_state d l in
     record {

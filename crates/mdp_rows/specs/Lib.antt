@@ -19,3 +19,4 @@ pub mod Replay
 pub mod Sound
 pub mod PredCode
 pub mod Preds
+pub mod Cut

@@ -13,13 +13,13 @@ mod laws;
 mod marks;
 mod model;
 mod policy_rows;
-
 mod preds;
 mod rewards;
 mod row;
 mod rows;
 mod rows_of;
 mod rule;
+mod subsystem;
 #[cfg(test)]
 mod tests;
 
@@ -34,3 +34,4 @@ pub use preds::{Pred, Preds, preds_of};
 pub use row::Row;
 pub use rows_of::RowsOf;
 pub use rule::RowRule;
+pub use subsystem::cut;

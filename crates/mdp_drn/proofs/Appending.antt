@@ -1,0 +1,27 @@
+-- What a loop keeps that appends a text piece by piece.
+use Rattle.std.proofs.Common.{◌≡◌, ℕ, ◌≤◌, min, List, [], ◌++◌, length, take, refl, sym, ap, ◌∙◌, append_assoc, append-nil, arith}
+use Rattle.std.proofs.Math.Seq.{take-length}
+use Rattle.std.proofs.lemmas.List.{take-take, length-take}
+
+-- what is written and what is left are the whole text, behind what was there
+pub record Appending (old now rest whole : List ℕ) : Type 0 where
+  pub left : now ++ rest ≡ old ++ whole
+  pub front : take (length old) now ≡ old
+
+pub appending-start : (old whole : List ℕ) → Appending old old whole whole
+appending-start old whole = record { left = refl; front = take-length old }
+
+pub front-more : (old now later : List ℕ) → take (length old) now ≡ old → take (length now) later ≡ now → take (length old) later ≡ old
+front-more old now later h k =
+    let n : min (length old) (length now) ≡ length old = sym (length-take (length old) now) ∙ ap (λ xs. length xs) h in
+    let le : length old ≤ length now = omega (arith, n) in
+    sym (take-take (length old) (length now) later le) ∙ ap (λ xs. take (length old) xs) k ∙ h
+
+pub appending-more : (old now later piece rest more whole : List ℕ) → Appending old now rest whole → rest ≡ piece ++ more → later ≡ now ++ piece → take (length now) later ≡ now → Appending old later more whole
+appending-more old now later piece rest more whole a r l f = record {
+  left = ap (λ xs. xs ++ more) l ∙ append_assoc now piece more ∙ ap (λ xs. now ++ xs) (sym r) ∙ a.left;
+  front = front-more old now later a.front f;
+}
+
+pub appending-done : (old now rest whole : List ℕ) → Appending old now rest whole → rest ≡ [] → now ≡ old ++ whole
+appending-done old now rest whole a r = sym (append-nil now) ∙ ap (λ xs. now ++ xs) (sym r) ∙ a.left

@@ -1,0 +1,42 @@
+-- Values, and the rewards of a bracket.
+use Rattle.std.specs.Prelude.{ℕ, List, [], ◌∷◌, length, map, replicate, pos, Result, Ok, Err, ◌==◌, if◌then◌else◌}
+use Rattle.std.specs.List.{slice_split}
+use Rattle.mdp_math.specs.Rational.{ℚ, of_int}
+use Rattle.mdp_num.specs.Numeral.{numeral_of}
+use Rattle.mdp_num.specs.declared.errors.NumeralError.{NumeralError}
+use Rattle.mdp_num.specs.declared.errors.NumeralError.TheVariants as numeral
+use Rattle.mdp_drn.specs.declared.error.DrnKind.{DrnKind}
+use Rattle.mdp_drn.specs.declared.error.DrnKind.TheVariants.{Number, Large, Negative, Reward}
+use Rattle.mdp_drn.specs.Lines.{begins_with, without_blanks_before, without_blanks_behind}
+use Rattle.mdp_drn.specs.Outcome.{◌>>=◌}
+
+abbrev pub kind_of : NumeralError → DrnKind
+kind_of numeral.Shape = Number
+kind_of numeral.ZeroDen = Number
+kind_of numeral.Large = Large
+
+abbrev pub from_numeral : Result ℚ NumeralError → Result ℚ DrnKind
+from_numeral (Ok x) = Ok x
+from_numeral (Err e) = Err (kind_of e)
+
+-- a value, which isn't negative
+unfoldable pub value_of : List ℕ → Result ℚ DrnKind
+value_of text = if begins_with (45 ∷ []) text then Err Negative else from_numeral (numeral_of text)
+
+-- each value, judged from left to right
+abbrev pub each_value : List (List ℕ) → Result (List ℚ) DrnKind
+each_value [] = Ok []
+each_value (text ∷ texts) = do
+  first ← value_of text
+  others ← each_value texts
+  Ok (first ∷ others)
+
+abbrev pub trimmed : List ℕ → List ℕ
+trimmed text = without_blanks_behind (without_blanks_before text)
+
+-- the rewards in a bracket, one for each reward model; none stand for zeros
+unfoldable pub rewards_in : ℕ → List ℕ → Result (List ℚ) DrnKind
+rewards_in models inside =
+    let texts = map trimmed (slice_split (λ c. c == 44) inside) in
+    if length (trimmed inside) == 0 then Ok (replicate models (of_int (pos 0)))
+    else (if length texts == models then each_value texts else Err Reward)

@@ -1,0 +1,87 @@
+ghost use Rattle.std.specs.Prelude.{◌≡◌, ◌<◌, ◌++◌, ◌&&◌, ◌==◌, [], ◌∷◌, length, take, slice_index_or, OnOk};
+ghost use Rattle.std.specs.Str.{bytes_eq};
+ghost use Rattle.mdp_drn.specs.Writing.{joined, names_text, header_text};
+ghost use Rattle.mdp_drn.specs.Pieces.{separator_text, count_text, first_lines, count_lines};
+
+use crate::push::{push_number, push_separator};
+use mdp_rows::Model;
+use std::alloc::AllocError;
+
+/// Whether the one reward name is `-`, which isn't written.
+fn is_unnamed(model: &Model) -> bool
+    ensures { result ≡ ((length model.now.names == 1) && bytes_eq (slice_index_or model.now.names 0 []) (45 ∷ [])) }
+{
+    model.names() == 1 && model.name(0) == b"-".as_slice()
+}
+
+/// Appends the reward name of place `m`, behind a blank unless it is the first.
+fn push_name(model: &Model, m: u32, out: &mut Vec<u8>) -> Result<(), AllocError>
+    requires { m < length model.now.names }
+    ensures text { OnOk result (out.new.items ≡ out.old.items ++ (separator_text (32 ∷ []) m ++ slice_index_or model.now.names m [])) }
+    ensures front { take (length out.old.items) out.new.items ≡ out.old.items }
+{
+    push_separator(m, b" ", out)?;
+    out.extend_from_slice(model.name(m))
+}
+
+/// Appends the reward names with a blank between two.
+fn push_all_names(model: &Model, out: &mut Vec<u8>) -> Result<(), AllocError>
+    ensures text { OnOk result (out.new.items ≡ out.old.items ++ joined (32 ∷ []) model.now.names) }
+    ensures front { take (length out.old.items) out.new.items ≡ out.old.items }
+{
+    for m in 0..model.names() {
+        push_name(model, m, out)?;
+    }
+    Ok(())
+}
+
+/// Appends the line of reward names without its line feed.
+fn push_names(model: &Model, out: &mut Vec<u8>) -> Result<(), AllocError>
+    ensures text { OnOk result (out.new.items ≡ out.old.items ++ names_text model.now.names) }
+    ensures front { take (length out.old.items) out.new.items ≡ out.old.items }
+{
+    if is_unnamed(model) {
+        return Ok(());
+    }
+    push_all_names(model, out)
+}
+
+/// Appends the header's lines down to that of the reward names.
+fn push_first_lines(model: &Model, out: &mut Vec<u8>) -> Result<(), AllocError>
+    ensures text { OnOk result (out.new.items ≡ out.old.items ++ first_lines model.now) }
+    ensures front { take (length out.old.items) out.new.items ≡ out.old.items }
+{
+    out.extend_from_slice(b"@type: MDP\n@parameters\n\n@reward_models\n")?;
+    push_names(model, out)?;
+    out.extend_from_slice(b"\n")
+}
+
+/// Appends an entry of the header and its number, each on a line.
+fn push_count(entry: &[u8], count: u32, out: &mut Vec<u8>) -> Result<(), AllocError>
+    ensures text { OnOk result (out.new.items ≡ out.old.items ++ count_text entry.now count) }
+    ensures front { take (length out.old.items) out.new.items ≡ out.old.items }
+{
+    out.extend_from_slice(entry)?;
+    out.extend_from_slice(b"\n")?;
+    push_number(count, out)?;
+    out.extend_from_slice(b"\n")
+}
+
+/// Appends the numbers of states and of choices, and `@model`.
+fn push_counts(model: &Model, out: &mut Vec<u8>) -> Result<(), AllocError>
+    ensures text { OnOk result (out.new.items ≡ out.old.items ++ count_lines model.now) }
+    ensures front { take (length out.old.items) out.new.items ≡ out.old.items }
+{
+    push_count(b"@nr_states", model.states(), out)?;
+    push_count(b"@nr_choices", model.all_choices(), out)?;
+    out.extend_from_slice(b"@model\n")
+}
+
+/// Appends the header.
+pub(crate) fn push_header(model: &Model, out: &mut Vec<u8>) -> Result<(), AllocError>
+    ensures text { OnOk result (out.new.items ≡ out.old.items ++ header_text model.now) }
+    ensures front { take (length out.old.items) out.new.items ≡ out.old.items }
+{
+    push_first_lines(model, out)?;
+    push_counts(model, out)
+}

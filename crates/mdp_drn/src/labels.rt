@@ -1,0 +1,91 @@
+ghost use Rattle.std.specs.Prelude.{◌≡◌, IfOk, map};
+ghost use Rattle.std.specs.List.{All, list_any, prefix_len};
+ghost use Rattle.mdp_drn.specs.Lines.{is_line_feed, is_blank};
+ghost use Rattle.mdp_drn.specs.Labels.{is_quote, is_sized, quoted, bare, label_at, labels_in, before_first, from_first};
+ghost use Rattle.mdp_drn.specs.Parsing.{Says, told, both_now, first_label};
+ghost use Rattle.mdp_rows.specs.Name.{IsName};
+ghost use Rattle.std.specs.Prelude.{◌∷◌, ◌≤◌, ◌<◌, length, not, false};
+
+use crate::error::DrnKind;
+use crate::line::{begins_blank, is_blank, trim_start};
+use crate::line_error::LineError;
+use std::alloc::Global;
+
+fn is_sized(name: &[u8]) -> bool
+    ensures { result ≡ is_sized name.now }
+{
+    !name.is_empty() && name.len() <= 255
+}
+
+fn has_quote(text: &[u8]) -> bool
+    ensures { result ≡ list_any is_quote text.now }
+{
+    text.iter().any(|b| *b == b'"')
+}
+
+fn quote_place(bytes: &[u8]) -> usize
+    ensures place { result ≡ prefix_len (λ c. not (is_quote c)) bytes.now }
+    ensures within { result ≤ length bytes.now }
+{
+    bytes.iter().take_while(|b| **b != b'"').count()
+}
+
+fn blank_place(bytes: &[u8]) -> usize
+    ensures place { result ≡ prefix_len (λ c. not (is_blank c)) bytes.now }
+    ensures within { result ≤ length bytes.now }
+{
+    bytes.iter().take_while(|b| !is_blank(**b)).count()
+}
+
+/// A label behind its opening quote, and the bytes behind the closing one.
+fn quoted(bytes: &[u8]) -> Result<(&[u8], &[u8]), DrnKind>
+    ensures { told both_now result ≡ quoted bytes.now }
+{
+    let (name, behind) = bytes.split_at(quote_place(bytes));
+    match behind {
+        [] => Err(DrnKind::Label),
+        [_, rest @ ..] => {
+            if is_sized(name) && (rest.is_empty() || begins_blank(rest)) {
+                Ok((name, rest))
+            } else {
+                Err(DrnKind::Label)
+            }
+        }
+    }
+}
+
+/// A label without quotes, and the bytes behind it.
+fn bare(bytes: &[u8]) -> Result<(&[u8], &[u8]), DrnKind>
+    ensures { told both_now result ≡ bare bytes.now }
+{
+    let (name, behind) = bytes.split_at(blank_place(bytes));
+    if is_sized(name) && !has_quote(name) {
+        Ok((name, behind))
+    } else {
+        Err(DrnKind::Label)
+    }
+}
+
+fn next_label(bytes: &[u8]) -> Result<(&[u8], &[u8]), DrnKind>
+    requires { 0 < length bytes.now }
+    ensures { told both_now result ≡ first_label bytes.now }
+{
+    match bytes {
+        [b'"', rest @ ..] => quoted(rest),
+        _ => bare(bytes),
+    }
+}
+
+/// The labels that the bytes spell, in their order.
+pub(crate) fn read_labels(alloc: Global, bytes: &[u8]) -> Result<Vec<&[u8]>, LineError>
+    ensures labels { Says (λ labels. map (λ label. label.now) labels.items) result (labels_in bytes.now) }
+{
+    let mut labels = Vec::new(alloc);
+    let mut rest = trim_start(bytes);
+    while !rest.is_empty() {
+        let (label, behind) = next_label(rest)?;
+        labels.push(label)?;
+        rest = trim_start(behind);
+    }
+    Ok(labels)
+}

@@ -1,0 +1,35 @@
+//! Models in Storm's explicit text format DRN, in the profile that docs/profile.md states: read, read in pieces, and written.
+#![tactic(auto)]
+
+mod body;
+mod brackets;
+mod choice_text;
+mod digits;
+mod document;
+mod error;
+mod feed;
+mod header;
+mod header_text;
+mod labels;
+mod laws;
+mod laws_of_writing;
+mod line;
+mod line_error;
+mod model_line;
+mod names;
+mod push;
+mod reading;
+mod reading_from;
+mod state_text;
+#[cfg(test)]
+mod tests;
+mod values;
+mod writing;
+
+pub use error::{DrnError, DrnKind};
+pub use feed::Feed;
+pub use laws::reading_law;
+pub use laws_of_writing::written_law;
+pub use reading::read;
+pub use reading_from::{FromError, read_from};
+pub use writing::write;

@@ -1,0 +1,85 @@
+ghost use Rattle.std.specs.Prelude.{◌≡◌, ◌<◌, ◌==◌, ◌||◌, not, length, filter, map, nat_lt, nat_le, IfOk};
+ghost use Rattle.std.specs.List.{list_any};
+ghost use Rattle.std.specs.Str.{bytes_eq};
+ghost use Rattle.mdp_rows.specs.Name.{are_different};
+ghost use Rattle.mdp_drn.specs.Header.{is_bad_name, names_in, words_of};
+ghost use Rattle.mdp_drn.specs.Parsing.{Says, is_bad_byte};
+
+use crate::error::DrnKind;
+use crate::line::is_blank;
+use crate::line_error::LineError;
+use std::alloc::{AllocError, Global};
+
+/// The most reward models.
+const MAX_NAMES: usize = 16;
+
+fn has_bad_byte(name: &[u8]) -> bool
+    ensures { result ≡ list_any is_bad_byte name.now }
+{
+    name.iter().any(|b| *b == b'"' || *b == b'\r')
+}
+
+/// Whether no reward model can have this name.
+fn is_bad_name(name: &[u8]) -> bool
+    ensures { result ≡ is_bad_name name.now }
+{
+    name.len() > 255 || has_bad_byte(name)
+}
+
+fn has_bad_name(names: &[&[u8]]) -> bool
+    ensures { result ≡ list_any is_bad_name (map (λ name. name.now) names.now) }
+{
+    names.iter().any(|name| is_bad_name(name))
+}
+
+fn contains(names: &[&[u8]], name: &[u8]) -> bool
+    ensures { result ≡ list_any (bytes_eq name.now) (map (λ other. other.now) names.now) }
+{
+    names.iter().any(|other| name == *other)
+}
+
+fn are_different(names: &[&[u8]]) -> bool
+    ensures { result ≡ are_different (map (λ name. name.now) names.now) }
+{
+    let mut rest = names;
+    while let [name, others @ ..] = rest {
+        if contains(others, name) {
+            return false;
+        }
+        rest = others;
+    }
+    true
+}
+
+fn split_words(alloc: Global, text: &[u8]) -> Result<Vec<&[u8]>, AllocError>
+    ensures { IfOk result (λ words. map (λ word. word.now) words.items ≡ words_of text.now) }
+{
+    text.split(|b| is_blank(*b))
+        .filter(|word| !word.is_empty())
+        .collect(alloc)
+}
+
+fn copy_names(alloc: Global, words: &[&[u8]]) -> Result<Vec<Vec<u8>>, AllocError>
+    ensures { IfOk result (λ names. map (λ name. name.items) names.items ≡ map (λ word. word.now) words.now) }
+{
+    let mut names = Vec::new(alloc);
+    for word in words {
+        names.push(Vec::from_slice(alloc, word)?)?;
+    }
+    Ok(names)
+}
+
+/// The names of reward models in a line.
+#[tactic(auto, unfolding(crate::specs::Header::names_in))]
+pub(crate) fn read_names(alloc: Global, text: &[u8]) -> Result<Vec<Vec<u8>>, LineError>
+    ensures { Says (λ names. map (λ name. name.items) names.items) result (names_in (words_of text.now)) }
+{
+    let words = split_words(alloc, text)?;
+    if has_bad_name(&words) || !are_different(&words) {
+        return Err(LineError::Kind(DrnKind::Header));
+    }
+    if words.len() > MAX_NAMES {
+        return Err(LineError::Kind(DrnKind::TooMany));
+    }
+    Ok(copy_names(alloc, &words)?)
+}

@@ -1,0 +1,42 @@
+ghost use Rattle.std.specs.Prelude.{◌≡◌, ◌++◌, length, take, decimal, OnOk};
+ghost use Rattle.mdp_num.specs.Value.{spelling};
+ghost use Rattle.mdp_drn.specs.Pieces.{separator_text};
+
+use itoa::Buffer;
+use mdp_num::{Frac, Memory};
+use std::alloc::AllocError;
+
+/// Appends a number in decimal. After `Err` a part of it may stand behind what was there; so with each function of this file.
+pub(crate) fn push_number(number: u32, out: &mut Vec<u8>) -> Result<(), AllocError>
+    ensures text { OnOk result (out.new.items ≡ out.old.items ++ decimal number) }
+    ensures front { take (length out.old.items) out.new.items ≡ out.old.items }
+{
+    let mut buffer = Buffer::new();
+    out.extend_from_slice(buffer.format(number).as_bytes())
+}
+
+/// Appends the canonical spelling of a fraction.
+pub(crate) fn push_fraction(value: &Frac, out: &mut Vec<u8>) -> Result<(), AllocError>
+    ensures text { OnOk result (out.new.items ≡ out.old.items ++ spelling value.now) }
+    ensures front { take (length out.old.items) out.new.items ≡ out.old.items }
+{
+    match value.push_text(out) {
+        Ok(()) => Ok(()),
+        Err(Memory) => Err(AllocError),
+    }
+}
+
+/// Appends what stands before the text of this place in a list of texts: nothing before the first.
+pub(crate) fn push_separator(
+    place: u32,
+    separator: &[u8],
+    out: &mut Vec<u8>,
+) -> Result<(), AllocError>
+    ensures text { OnOk result (out.new.items ≡ out.old.items ++ separator_text separator.now place) }
+    ensures front { take (length out.old.items) out.new.items ≡ out.old.items }
+{
+    if place == 0 {
+        return Ok(());
+    }
+    out.extend_from_slice(separator)
+}

@@ -1,0 +1,109 @@
+ghost use Rattle.std.specs.Prelude.{◌≡◌, ◌<◌, ◌++◌, [], ◌∷◌, length, take, codes, slice_index_or, if◌then◌else◌, OnOk};
+ghost use Rattle.mdp_spec.specs.Mdp.{states_of, state_at, has_label};
+ghost use Rattle.mdp_drn.specs.Writing.{joined, bracket_text, label_text, labels_text, states_text};
+ghost use Rattle.mdp_drn.specs.Pieces.{separator_text, zeros_of, state_line_text, state_text};
+
+use crate::choice_text::push_choices;
+use crate::push::{push_number, push_separator};
+use mdp_rows::Model;
+use std::alloc::AllocError;
+
+/// Appends the reward 0 of place `m`, behind a comma and a blank unless it is the first.
+fn push_zero(m: u32, out: &mut Vec<u8>) -> Result<(), AllocError>
+    ensures text { OnOk result (out.new.items ≡ out.old.items ++ (separator_text (codes ", ") m ++ 48 ∷ [])) }
+    ensures front { take (length out.old.items) out.new.items ≡ out.old.items }
+{
+    push_separator(m, b", ", out)?;
+    out.extend_from_slice(b"0")
+}
+
+/// Appends a reward 0 for each reward name, with a comma and a blank between two.
+fn push_zeros(model: &Model, out: &mut Vec<u8>) -> Result<(), AllocError>
+    ensures text { OnOk result (out.new.items ≡ out.old.items ++ joined (codes ", ") (zeros_of model.now)) }
+    ensures front { take (length out.old.items) out.new.items ≡ out.old.items }
+{
+    for m in 0..model.names() {
+        push_zero(m, out)?;
+    }
+    Ok(())
+}
+
+/// Appends a blank and a state's own rewards in brackets.
+fn push_bracket(model: &Model, out: &mut Vec<u8>) -> Result<(), AllocError>
+    ensures text { OnOk result (out.new.items ≡ out.old.items ++ bracket_text (zeros_of model.now)) }
+    ensures front { take (length out.old.items) out.new.items ≡ out.old.items }
+{
+    out.extend_from_slice(b" [")?;
+    push_zeros(model, out)?;
+    out.extend_from_slice(b"]")
+}
+
+/// Appends a blank and a label in quotes.
+fn push_quoted(name: &[u8], out: &mut Vec<u8>) -> Result<(), AllocError>
+    ensures text { OnOk result (out.new.items ≡ out.old.items ++ label_text name.now) }
+    ensures front { take (length out.old.items) out.new.items ≡ out.old.items }
+{
+    out.extend_from_slice(b" \"")?;
+    out.extend_from_slice(name)?;
+    out.extend_from_slice(b"\"")
+}
+
+/// Appends the label of place `l` where state `s` has it.
+fn push_label(model: &Model, l: u32, s: u32, out: &mut Vec<u8>) -> Result<(), AllocError>
+    requires label { l < length model.now.labels }
+    requires state { s < states_of model.now }
+    ensures text { OnOk result (out.new.items ≡ out.old.items ++ (if has_label model.now l s then label_text (slice_index_or model.now.labels l []) else [])) }
+    ensures front { take (length out.old.items) out.new.items ≡ out.old.items }
+{
+    if !model.has(l, s) {
+        return Ok(());
+    }
+    push_quoted(model.label_name(l), out)
+}
+
+/// Appends the labels of state `s`, in the model's order.
+fn push_labels(model: &Model, s: u32, out: &mut Vec<u8>) -> Result<(), AllocError>
+    requires { s < states_of model.now }
+    ensures text { OnOk result (out.new.items ≡ out.old.items ++ labels_text model.now.labels (state_at model.now s).labels) }
+    ensures front { take (length out.old.items) out.new.items ≡ out.old.items }
+{
+    model.known();
+    for l in 0..model.labels() {
+        push_label(model, l, s, out)?;
+    }
+    Ok(())
+}
+
+/// Appends the line of state `s`.
+fn push_state_line(model: &Model, s: u32, out: &mut Vec<u8>) -> Result<(), AllocError>
+    requires { s < states_of model.now }
+    ensures text { OnOk result (out.new.items ≡ out.old.items ++ state_line_text model.now s (state_at model.now s)) }
+    ensures front { take (length out.old.items) out.new.items ≡ out.old.items }
+{
+    out.extend_from_slice(b"state ")?;
+    push_number(s, out)?;
+    push_bracket(model, out)?;
+    push_labels(model, s, out)?;
+    out.extend_from_slice(b"\n")
+}
+
+/// Appends the lines of state `s` and of its choices.
+fn push_state(model: &Model, s: u32, out: &mut Vec<u8>) -> Result<(), AllocError>
+    requires { s < states_of model.now }
+    ensures text { OnOk result (out.new.items ≡ out.old.items ++ state_text model.now s (state_at model.now s)) }
+    ensures front { take (length out.old.items) out.new.items ≡ out.old.items }
+{
+    push_state_line(model, s, out)?;
+    push_choices(model, s, out)
+}
+
+/// Appends the lines of all states.
+pub(crate) fn push_states(model: &Model, out: &mut Vec<u8>) -> Result<(), AllocError>
+    ensures text { OnOk result (out.new.items ≡ out.old.items ++ states_text model.now 0 model.now.states) }
+    ensures front { take (length out.old.items) out.new.items ≡ out.old.items }
+{
+    for s in 0..model.states() {
+        push_state(model, s, out)?;
+    }
+    Ok(())
+}
