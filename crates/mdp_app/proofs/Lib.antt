@@ -1,1 +1,4 @@
 mod Causes
+mod Endings
+mod Long
+mod Showing

@@ -1,4 +1,4 @@
-pub mod Answer
-pub mod Check
+pub mod Accepted
+pub mod Answered
+pub mod Files
 pub mod Run
-pub mod Status

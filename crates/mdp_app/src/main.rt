@@ -1,19 +1,12 @@
-//! The program: `check MODEL exact CERT` holds a certificate of upper bounds against a model.
+//! The program: `check MODEL ROWS CERT` holds a certificate against a model.
 #![tactic(auto)]
 
-mod answer;
-mod certificate_text;
-mod check;
-mod lines;
-mod model_text;
+mod files;
 mod run;
-mod status;
-#[cfg(test)]
-mod tests;
 
 use crate::run::run;
-use crate::status::Status;
 use mdp_edge::{StdSink, StdSource, SureSource};
+use mdp_job::Status;
 use std::alloc::Global;
 use std::env;
 use std::fs::File;

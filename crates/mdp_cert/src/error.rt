@@ -40,7 +40,7 @@ pub enum CertError {
 
 /// The first line that breaks a rule, numbered from 1, and the rule.
 #[derive(Clone, Copy, Debug, PartialEq, Eq)]
-pub(crate) struct Refusal {
+pub struct Refusal {
     pub kind: CertKind,
     pub line: u64,
 }

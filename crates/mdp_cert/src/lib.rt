@@ -22,7 +22,7 @@ mod write;
 pub use body::Body;
 pub use cert::Cert;
 pub use claim::Claim;
-pub use error::{CertError, CertKind};
+pub use error::{CertError, CertKind, Refusal};
 pub use init::Init;
 pub use laws::{refusal_law, text_law};
 pub use read::read_cert;

@@ -1,6 +1,5 @@
 mod Appending
 mod PlacesLeft
-mod SourcesExamples
 mod TextsLeft
 mod TwoChoicesText
 mod WrittenExamples
@@ -15,7 +14,6 @@ pub mod HeaderKeeps
 pub mod LabelNames
 pub mod LabelsFrom
 pub mod Listing
-pub mod Sources
 pub mod Stands
 pub mod Steps
 pub mod Written

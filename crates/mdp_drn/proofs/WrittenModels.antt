@@ -125,7 +125,7 @@ choice-fit n names c w r = record {
 
 -- ---- labels
 
-abbrev AreBelow : ℕ → List ℕ → Type 0
+abbrev pub AreBelow : ℕ → List ℕ → Type 0
 AreBelow n places = Each (λ l. l < n) places
 
 below-parts : (n k : ℕ) (places : List ℕ) → n ≤ k → all_below n places ≡ true → AreBelow k places
@@ -143,10 +143,10 @@ known-le n (l ∷ places) = by (eqb l n) (known-le (n + 1) places) (known-le n p
     by true p q = omega (arith, p)
     by false p q = q
 
-abbrev AreLabelsBelow : ℕ → State → Type 0
+abbrev pub AreLabelsBelow : ℕ → State → Type 0
 AreLabelsBelow n x = AreBelow n x.labels
 
-sight-below : (n total : ℕ) (states : List State) → in_order_of_sight n states total ≡ true → (n ≤ total) × Each (AreLabelsBelow total) states
+pub sight-below : (n total : ℕ) (states : List State) → in_order_of_sight n states total ≡ true → (n ≤ total) × Each (AreLabelsBelow total) states
 sight-below n total [] h = (same n total h, tt)
   where
     same : (n k : ℕ) → eqb n k ≡ true → n ≤ k

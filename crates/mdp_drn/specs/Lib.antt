@@ -3,6 +3,7 @@ pub mod BodyView
 pub mod DocumentView
 pub mod FeedView
 pub mod Feeding
+pub mod FromSource
 pub mod Header
 pub mod HeaderView
 pub mod HeldCode
@@ -13,6 +14,5 @@ pub mod Outcome
 pub mod Parsing
 pub mod Pieces
 pub mod Reading
-pub mod Sources
 pub mod Values
 pub mod Writing

@@ -1,10 +1,9 @@
 -- The one text of a model that is written.
-use Rattle.std.specs.Prelude.{◌≡◌, ℕ, suc, ◌&&◌, List, [], ◌∷◌, ◌++◌, length, map, sum_by, slice_index_or, Ok, decimal, codes, ◌==◌, if◌then◌else◌}
+use Rattle.std.specs.Prelude.{ℕ, suc, ◌&&◌, List, [], ◌∷◌, ◌++◌, length, map, sum_by, slice_index_or, decimal, codes, ◌==◌, if◌then◌else◌}
 use Rattle.std.specs.Str.{bytes_eq}
 use Rattle.mdp_num.specs.Value.{spelling}
 use Rattle.mdp_spec.specs.Mdp.{Entry, Choice, State, Mdp, states_of}
 use Rattle.mdp_rows.specs.Limits.{IsModel}
-use Rattle.mdp_rows.specs.Replay.{replayed}
 use Rattle.mdp_rows.specs.declared.rule.RowRule.TheVariants.{Exact}
 use Rattle.mdp_drn.specs.Reading.{Reads}
 
@@ -62,7 +61,3 @@ text_of m = header_text m ++ states_text m 0 m.states
 -- the text of a model reads as that model
 abbrev pub ReadsBack : Type 0
 ReadsBack = (m : Mdp) → IsModel m → Reads (text_of m) Exact m
-
--- the same, where the calls that hand a model to a builder give it back
-abbrev pub ReadsBackWhereReplayed : Type 0
-ReadsBackWhereReplayed = (m : Mdp) → IsModel m → replayed m ≡ Ok m → Reads (text_of m) Exact m

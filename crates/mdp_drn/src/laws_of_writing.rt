@@ -1,6 +1,6 @@
-ghost use Rattle.mdp_drn.specs.Writing.{ReadsBackWhereReplayed};
+ghost use Rattle.mdp_drn.specs.Writing.{ReadsBack};
 
-/// The text of a model reads as that model, wherever handing its parts to a builder, call by call, gives it back.
+/// The text of a model reads as that model.
 pub fn written_law()
-    ensures reads_back { ReadsBackWhereReplayed }
+    ensures reads_back { ReadsBack }
 {}

@@ -8,6 +8,7 @@ mod digits;
 mod document;
 mod error;
 mod feed;
+mod from_source;
 mod header;
 mod header_text;
 mod labels;
@@ -19,7 +20,6 @@ mod model_line;
 mod names;
 mod push;
 mod reading;
-mod reading_from;
 mod state_text;
 #[cfg(test)]
 mod tests;
@@ -28,8 +28,8 @@ mod writing;
 
 pub use error::{DrnError, DrnKind};
 pub use feed::Feed;
+pub use from_source::{FromError, read_from};
 pub use laws::reading_law;
 pub use laws_of_writing::written_law;
 pub use reading::read;
-pub use reading_from::{FromError, read_from};
 pub use writing::write;

@@ -20,6 +20,6 @@ returns c =
     record {
       verdict = e;
       rules = reach_rules m goals z policy ranks c.args.dir c.reach_at_states.result e;
-      max = λ is. reach_max m goals z policy ranks c.args.dir c.reach_at_states.result c.known.ensures e is;
-      min = λ is. reach_min m goals z policy ranks c.args.dir c.reach_at_states.result c.known.ensures e is;
+      max = λ is. reach_max m goals z policy ranks c.args.dir c.reach_at_states.result c.known.ensures.mdp e is;
+      min = λ is. reach_min m goals z policy ranks c.args.dir c.reach_at_states.result c.known.ensures.mdp e is;
     }

@@ -15,5 +15,5 @@ returns c =
     record {
       verdict = e;
       rules = upper_rules m goals z c.upper_at_states.result e;
-      bound = upper_bound m goals z c.upper_at_states.result c.known.ensures e;
+      bound = upper_bound m goals z c.upper_at_states.result c.known.ensures.mdp e;
     }

@@ -5,7 +5,7 @@ use Rattle.mdp_graph.proofs.reach.may_reach.Goals as goal
 pub returns-clause-marks : goal.returns-clause-marks
 returns-clause-marks c =
     let f : IsFound c.args.model.now c.args.target.now c.args.blocked.now c.in_ok-inside.inside c.in_ok-edges.edges c.states-2.result c.in_ok-ranks.ranks.items = record {
-      known = c.known.ensures;
+      known = c.known.ensures.mdp;
       all_inside = c.in_ok-inside.ensures ∙ ap (λ (n : ℕ). replicate n true) c.states.ensures;
       leading = c.in_ok-edges.ensures.leads;
       states = c.states-2.ensures;
@@ -16,7 +16,7 @@ returns-clause-marks c =
 pub returns-clause-ranks : goal.returns-clause-ranks
 returns-clause-ranks c =
     let f : IsFound c.args.model.now c.args.target.now c.args.blocked.now c.in_ok-inside.inside c.in_ok-edges.edges c.states-2.result c.in_ok-ranks.ranks.items = record {
-      known = c.known.ensures;
+      known = c.known.ensures.mdp;
       all_inside = c.in_ok-inside.ensures ∙ ap (λ (n : ℕ). replicate n true) c.states.ensures;
       leading = c.in_ok-edges.ensures.leads;
       states = c.states-2.ensures;
@@ -27,7 +27,7 @@ returns-clause-ranks c =
 pub returns-clause-choices : goal.returns-clause-choices
 returns-clause-choices c =
     let f : IsFound c.args.model.now c.args.target.now c.args.blocked.now c.in_ok-inside.inside c.in_ok-edges.edges c.states-2.result c.in_ok-ranks.ranks.items = record {
-      known = c.known.ensures;
+      known = c.known.ensures.mdp;
       all_inside = c.in_ok-inside.ensures ∙ ap (λ (n : ℕ). replicate n true) c.states.ensures;
       leading = c.in_ok-edges.ensures.leads;
       states = c.states-2.ensures;

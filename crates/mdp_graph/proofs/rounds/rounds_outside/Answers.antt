@@ -10,7 +10,7 @@ pub loop-left-init : goal.loop-left-init
 loop-left-init c =
     let inside : c.in_ok-inside.inside ≡ replicate c.states-left.result true = c.in_ok-inside.ensures ∙ ap (λ (n : ℕ). replicate n true) (c.states-2.ensures ∙ sym c.states-left.ensures) in
     let zeros : c.in_ok-rounds.rounds.items ≡ replicate c.states-left.result 0 = c.in_ok-rounds.ensures ∙ ap (λ (n : ℕ). replicate n 0) (c.states.ensures ∙ sym c.states-left.ensures) in
-    rounding _ _ _ _ c.states-left.result _ (settling _ _ _ _ c.states-left.result c.known.ensures c.states-left.ensures inside c.in_ok-ranks.ensures) c.states-left.ensures inside zeros
+    rounding _ _ _ _ c.states-left.result _ (settling _ _ _ _ c.states-left.result c.known.ensures.mdp c.states-left.ensures inside c.in_ok-ranks.ensures) c.states-left.ensures inside zeros
 
 pub loop-left-preserved : goal.loop-left-preserved
 loop-left-preserved c =

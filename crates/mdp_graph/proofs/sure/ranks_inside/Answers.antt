@@ -19,4 +19,4 @@ returns c =
     ∙ ap (λ b. not b && has_way m inside s t) (ap (λ (x : List Bool). marked x s) c.in_ok-none.ensures ∙ get_or-replicate c.states.result s false false (omega (arith, c.states.ensures))) in
     ranked (inside_step m (marked inside)) (marked c.args.goals.now) (states_of m) edges c.in_ok-ranks_by.field-0.items
     (subst (λ (n : ℕ). AreRankedBy edges (marked c.args.goals.now) n c.in_ok-ranks_by.field-0.items) c.states-2.ensures c.in_ok-ranks_by.ensures)
-    (inside_leads m c.known.ensures inside edges are) (inside_follows m c.known.ensures inside edges are)
+    (inside_leads m c.known.ensures.mdp inside edges are) (inside_follows m c.known.ensures.mdp inside edges are)

@@ -1,0 +1,22 @@
+-- What reading from a source answers.
+use Rattle.std.specs.Prelude.{◌≡◌, Result, Ok, Err}
+use Rattle.mdp_spec.specs.Mdp.{Mdp}
+use Rattle.mdp_drn.specs.declared.from_source.FromError.{FromError}
+use Rattle.mdp_drn.specs.declared.from_source.FromError.TheVariants.{ReadFault, Long, At, Memory}
+use Rattle.mdp_drn.specs.Outcome.{Refusal}
+
+-- a model or a refusal is what the definition says
+abbrev pub ReadsAs : Result Mdp FromError → Result Mdp Refusal → Type 0
+ReadsAs (Ok model) said = said ≡ Ok model
+ReadsAs (Err ReadFault) said = Unit {0}
+ReadsAs (Err Long) said = Unit {0}
+ReadsAs (Err (At line kind)) said = said ≡ Err (record { kind = kind; line = line })
+ReadsAs (Err Memory) said = Unit {0}
+
+-- the answer is a model or a refusal
+abbrev pub IsRead : Result Mdp FromError → Type 0
+IsRead (Ok model) = Unit {0}
+IsRead (Err ReadFault) = ⊥
+IsRead (Err Long) = ⊥
+IsRead (Err (At line kind)) = Unit {0}
+IsRead (Err Memory) = ⊥

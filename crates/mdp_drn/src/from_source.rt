@@ -1,0 +1,85 @@
+ghost use Rattle.std.specs.Prelude.{◌≡◌, ◌<◌, ◌≤◌, ◌^◌, ℕ, List, length, OnOk, IsErr, IsErrOf, IfSome, Some};
+ghost use Rattle.std.specs.Io.KnownBytes.{IsAtEnd};
+ghost use Rattle.mdp_edge.specs.Rose.{Rose};
+ghost use Rattle.mdp_edge.specs.Bytes.{GaveSome};
+ghost use Rattle.mdp_drn.specs.Reading.{outcome};
+ghost use Rattle.mdp_drn.specs.FromSource.{ReadsAs, IsRead};
+ghost use Rattle.mdp_drn.specs.Feeding.{HasRead};
+
+use crate::error::{DrnError, DrnKind};
+use crate::feed::Feed;
+use mdp_edge::Source;
+use mdp_rows::{Model, RowRule};
+use std::alloc::Global;
+use thiserror::Error;
+
+/// How many bytes a call of a source is asked for at most.
+const PIECE: usize = 4096;
+
+/// Why a source gave no model.
+#[derive(Clone, Copy, Debug, PartialEq, Eq, Error)]
+pub enum FromError {
+    /// The source failed.
+    #[error("read-fault")]
+    ReadFault,
+    /// It gave more bytes than the limit.
+    #[error("long")]
+    Long,
+    /// The first broken rule and the line that it names.
+    #[error("line {line}: {kind}")]
+    At { line: u64, kind: DrnKind },
+    /// Memory was refused.
+    #[error("memory was refused")]
+    Memory,
+}
+
+/// What the feed comes to at the end of the source.
+fn finish_feed(feed: Feed) -> Result<Model, FromError>
+    ensures read { (bytes : List ℕ) → HasRead feed bytes → ReadsAs result (outcome feed.rule bytes) }
+    ensures no_fault { IsErrOf result FromError.ReadFault → ⊥ }
+    ensures not_long { IsErrOf result FromError.Long → ⊥ }
+{
+    match feed.finish() {
+        Ok(model) => Ok(model),
+        Err(DrnError::At { line, kind }) => Err(FromError::At { line, kind }),
+        Err(DrnError::Memory) => Err(FromError::Memory),
+    }
+}
+
+/// Reads the bytes that the source has left, of which there may be at most `limit`, in pieces and to their end, also behind a broken rule.
+/// It stops at the first fault, and once more than `limit` bytes came.
+pub fn read_from<S: Source>(
+    alloc: Global,
+    source: &mut S,
+    rule: RowRule,
+    limit: usize,
+) -> Result<Model, FromError>
+    requires { limit ≤ 2 ^ 32 }
+    // What it reads are all the bytes that were left.
+    ensures read { (bytes : List ℕ) → S.left source.old ≡ Some bytes → ReadsAs result (outcome rule bytes) }
+    ensures end { IsRead result → IsAtEnd (S.left source.new) }
+    ensures fits { IsRead result → IfSome (S.left source.old) (λ left. length left ≤ limit) }
+
+    // An error leaves the bytes behind those that came.
+    ensures rest { GaveSome (S.left source.old) (S.left source.new) }
+    ensures long { IsErrOf result FromError.Long → IfSome (S.left source.old) (λ left. limit < length left) }
+    ensures fault { IsErrOf result FromError.ReadFault → Rose (S.faults source.old) (S.faults source.new) }
+    ensures later { S.faults source.old ≤ S.faults source.new }
+{
+    let Ok(mut feed) = Feed::new(alloc, rule) else {
+        return Err(FromError::Memory);
+    };
+    let mut piece = [0u8; PIECE];
+    let mut total = 0;
+    'reading: while total <= limit {
+        let Ok(count) = source.read(&mut piece) else {
+            return Err(FromError::ReadFault);
+        };
+        if count == 0 {
+            return finish_feed(feed);
+        }
+        let _ = feed.push(&piece[..count]);
+        total += count;
+    }
+    Err(FromError::Long)
+}
