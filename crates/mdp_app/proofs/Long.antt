@@ -14,9 +14,6 @@ unfolding longer_than
 longer n = subst (λ (k : ℕ). n < k) (sym (length-replicate (n + 1) 0)) (omega arith)
 
 module _ {A : Type 0} (refusal : Refusal) (else_due : List ℕ → Result A Refusal) where
-
-
-
   due_long : (n : ℕ) (bytes : List ℕ) → n < length bytes → Err refusal ≡ cond (nat_lt n (length bytes)) (Err refusal) (else_due bytes)
   due_long n bytes h = sym (ap (λ (b : Bool). cond b (Err refusal) (else_due bytes)) (lt-ltb n (length bytes) h))
 

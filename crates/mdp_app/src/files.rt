@@ -15,11 +15,7 @@ use std::alloc::Global;
 const MOST_BYTES: usize = 1 << 30;
 
 /// The model that a source's bytes read as. The source is read to its end, also where the text is refused.
-pub fn read_model<S: Source>(
-    alloc: Global,
-    source: &mut S,
-    rule: RowRule,
-) -> Result<Model, Refusal>
+pub fn read_model<S: Source>(alloc: Global, source: &mut S, rule: RowRule) -> Result<Model, Refusal>
     ensures cause { Came (S.left source.old) (model_due rule) result ⊎ ((result ≡ Err Refusal.Memory) ⊎ ((result ≡ Err Refusal.ReadModel) × Rose (S.faults source.old) (S.faults source.new))) }
     ensures end { OnOk result (IsAtEnd (S.left source.new)) }
 {

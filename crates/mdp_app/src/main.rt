@@ -3,6 +3,8 @@
 
 mod files;
 mod run;
+#[cfg(test)]
+mod tests;
 
 use crate::run::run;
 use mdp_edge::{StdSink, StdSource, SureSource};

@@ -1,0 +1,244 @@
+use crate::opened;
+use crate::run::run;
+use mdp_edge::{ListSink, ListSource, read_all};
+use mdp_job::Status;
+use std::alloc::{AllocError, Global};
+use std::fs;
+use std::test::Fail;
+
+/// 0 init: [0 1] [1 1/3, 2 2/3]; 1 goal: [1 1]; 2: [2 1]
+const COIN: &str =
+    "@type: MDP\n@parameters\n\n@reward_models\n\n@nr_states\n3\n@nr_choices\n4\n@model\nstate 0 init\naction a\n0 : 1\naction b\n1 : 1/3\n2 : 2/3\nstate 1 goal\naction a\n1 : 1\nstate 2\naction a\n2 : 1\n";
+
+/// 0 init: [1 1/2, 2 1/2] [0 1/2, 1 1/4, 2 1/4]; 1 goal: [1 1]; 2: [2 1], with comments, tabs, a CR, rewards and other layouts.
+const FORK: &str =
+    "// by hand\n@nr_states\n\n3\n@type:MDP\r\n@reward_models\nsteps time\n@model\nstate 0[1, 2]init \"is done\"\n\taction x [1e-1, 1/2]\n\t\t1 : 0.5\n\t\t2:5e-1\n\n// another\n\taction\n\t\t2 : 1/4\n\t\t0 : 1/2\n\t\t1 : 0.25\nstate 1 [] goal\naction [3,4]\n1 : 1\nstate 2\naction\n0 : 0\n2 : 1";
+
+/// State 0 goes to 1, 2 and 3 with 0.333333 each; 1 is the goal.
+const THIRDS: &str =
+    "@type: MDP\n@parameters\n\n@reward_models\n\n@nr_states\n4\n@model\nstate 0 init\naction a\n1 : 0.333333\n2 : 0.333333\n3 : 0.333333\nstate 1 goal\naction a\n1 : 1\nstate 2\naction a\n2 : 1\nstate 3\naction a\n3 : 1\n";
+
+/// That 1 bounds state 0 of the first model.
+const UPPER: &str =
+    "mdp-certificate 1\nclaim upper reach \"goal\"\nstates 3\ninit 0 1\nstate 0 1\nstate 1 1\nstate 2 0\nend\n";
+
+/// The greatest probabilities of the second model.
+const GREATEST: &str =
+    "mdp-certificate 1\nclaim max reach \"goal\"\nstates 3\ninit 0 1/2\nstate 0 1/2 0 1\nstate 1 1 0 0\nstate 2 0 0 0\nend\n";
+
+fn source(
+    alloc: Global,
+    text: &str,
+    chunk: usize,
+    fails: &[u64],
+) -> Result<ListSource, AllocError> {
+    let bytes = text.as_bytes().to_vec(alloc)?;
+    Ok(ListSource::new(bytes, chunk.max(1), fails.to_vec(alloc)?))
+}
+
+fn sink(alloc: Global, room: usize, chunk: usize, fails: &[u64]) -> Result<ListSink, AllocError> {
+    let mut store = Vec::new(alloc);
+    for _ in 0..room {
+        store.push(0)?;
+    }
+    Ok(ListSink::new(store, chunk.max(1), fails.to_vec(alloc)?))
+}
+
+fn words(alloc: Global, texts: &[&str]) -> Result<Vec<String>, AllocError> {
+    let mut words = Vec::new(alloc);
+    for text in texts {
+        words.push(String::from_str(alloc, text)?)?;
+    }
+    Ok(words)
+}
+
+/// How `check` ends on two texts under a row rule, and what it writes into the sink.
+fn checked(
+    alloc: Global,
+    rows: &str,
+    model: &str,
+    cert: &str,
+    out: &mut ListSink,
+) -> Result<Status, AllocError> {
+    let words = words(alloc, &["check", "MODEL", rows, "CERT"])?;
+    let mut model = source(alloc, model, 7, &[])?;
+    let mut cert = source(alloc, cert, 7, &[])?;
+    Ok(run(alloc, &words, &mut model, &mut cert, out))
+}
+
+/// Models and certificates, the line that `check` writes, and its status.
+#[test]
+fn judges_certificates(rt: HostRuntime) -> Result<(), Fail> {
+    let thirds =
+        "mdp-certificate 1\nclaim max reach \"goal\"\nstates 4\ninit 0 1/3\nstate 0 1/3 0 1\nstate 1 1 0 0\nstate 2 0 0 0\nstate 3 0 0 0\nend\n";
+    let loop_alone =
+        "mdp-certificate 1\nclaim max reach \"goal\"\nstates 3\ninit 0 1\nstate 0 1 0 1\nstate 1 1 0 0\nstate 2 0 0 0\nend\n";
+    let too_small =
+        "mdp-certificate 1\nclaim max reach \"goal\"\nstates 3\ninit 0 0\nstate 0 0 0 0\nstate 1 1 0 0\nstate 2 0 0 0\nend\n";
+    let least =
+        "mdp-certificate 1\nclaim min reach \"goal\"\nstates 3\ninit 0 0\nstate 0 0 0 0\nstate 1 1 0 0\nstate 2 0 0 0\nend\n";
+    let wide =
+        "mdp-certificate 1\nclaim upper reach \"goal\"\nstates 3\ninit 0 170141183460469231731687303715884105726/170141183460469231731687303715884105727\nstate 0 170141183460469231731687303715884105726/170141183460469231731687303715884105727\nstate 1 1\nstate 2 0\nend\n";
+    let quarter =
+        "mdp-certificate 1\nclaim upper reach \"goal\"\nstates 3\ninit 0 1/4\nstate 0 1/4\nstate 1 1\nstate 2 0\nend\n";
+    let no_init =
+        "mdp-certificate 1\nclaim upper reach \"goal\"\nstates 3\ninit -\nstate 0 1\nstate 1 1\nstate 2 0\nend\n";
+    let blank_label =
+        "mdp-certificate 1\nclaim upper reach \"is done\"\nstates 3\ninit 0 1\nstate 0 1\nstate 1 1\nstate 2 1\nend\n";
+    for (rows, model, cert, text, status) in [
+        ("exact", COIN, UPPER, "yes\n", Status::Done),
+        ("scaled", COIN, UPPER, "yes\n", Status::Done),
+        ("exact", FORK, GREATEST, "yes\n", Status::Done),
+        ("scaled", THIRDS, thirds, "yes\n", Status::Done),
+        ("exact", COIN, least, "yes\n", Status::Done),
+        ("exact", FORK, blank_label, "yes\n", Status::Done),
+        (
+            "exact",
+            COIN,
+            quarter,
+            "denied rule 5 state 0 choice 1\n",
+            Status::Denied,
+        ),
+        (
+            "exact",
+            COIN,
+            loop_alone,
+            "denied rule 8 state 0 choice 0\n",
+            Status::Denied,
+        ),
+        (
+            "exact",
+            COIN,
+            too_small,
+            "denied rule 5 state 0 choice 1\n",
+            Status::Denied,
+        ),
+        (
+            "exact",
+            COIN,
+            no_init,
+            "denied rule 1 state - choice -\n",
+            Status::Denied,
+        ),
+        (
+            "exact",
+            COIN,
+            wide,
+            "too-wide check state 0 choice 1\n",
+            Status::TooWide,
+        ),
+        ("exact", COIN, blank_label, "query label\n", Status::Query),
+        (
+            "exact",
+            THIRDS,
+            GREATEST,
+            "model line 10 row-sum\n",
+            Status::Model,
+        ),
+        ("scaled", THIRDS, GREATEST, "query size\n", Status::Query),
+    ] {
+        let mut out = sink(rt.alloc(), 100, 16, &[])?;
+        let end = checked(rt.alloc(), rows, model, cert, &mut out)?;
+        assert_eq!(rt; out.bytes(), text.as_bytes(), "{text}");
+        assert_eq!(rt; end, status, "{text}");
+    }
+    Ok(())
+}
+
+/// Model files cut behind so many bytes, or with a byte changed at a place, and certificates that are refused.
+#[test]
+fn refuses_texts(rt: HostRuntime) -> Result<(), Fail> {
+    for (length, text) in [
+        (0, "model line 1 end\n"),
+        (117, "model line 15 number\n"),
+        (112, "model line 15 shape\n"),
+        (102, "model line 14 count\n"),
+        (119, "model line 14 row-sum\n"),
+    ] {
+        let mut out = sink(rt.alloc(), 100, 16, &[])?;
+        let model = COIN.get(..length).unwrap_or(COIN);
+        let end = checked(rt.alloc(), "exact", model, UPPER, &mut out)?;
+        assert_eq!(rt; end, Status::Model);
+        assert_eq!(rt; out.bytes(), text.as_bytes(), "{length}");
+    }
+    for (cert, text) in [
+        ("mdp-certificate 9\n", "cert line 1 version\n"),
+        (
+            "mdp-certificate 1\nclaim max reward \"-\" \"goal\"\n",
+            "cert line 2 claim\n",
+        ),
+        (
+            "mdp-certificate 1\nclaim max reach \"goal\"\nstates 3\ninit 0 1/2\nstate 0 2/4 0 1\n",
+            "cert line 5 number\n",
+        ),
+        (
+            "mdp-certificate 1\nclaim max reach \"goal\"\nstates 3\ninit 0 1/2\nstate 0 1/2 0 1\nstate 1 1 0 0\nstate 2 0 0 0\n",
+            "cert line 8 end\n",
+        ),
+        (
+            "mdp-certificate 1\nclaim max reach \"goal\"\nstates 3\ninit 0 1/2\nstate 0 1/2 0 1\nstate 0 1 0 0\n",
+            "cert line 6 count\n",
+        ),
+    ] {
+        let mut out = sink(rt.alloc(), 100, 16, &[])?;
+        let end = checked(rt.alloc(), "exact", FORK, cert, &mut out)?;
+        assert_eq!(rt; end, Status::CertText);
+        assert_eq!(rt; out.bytes(), text.as_bytes());
+    }
+    Ok(())
+}
+
+/// Words that are no job; each source failing, and the sink at a write or for want of room.
+#[test]
+fn answers_words_and_faults(rt: HostRuntime) -> Result<(), Fail> {
+    for (given, text) in [
+        ([].as_slice(), "words command\n"),
+        (&["solve", "MODEL", "exact", "CERT"], "words command\n"),
+        (&["check", "MODEL", "EXACT"], "words number\n"),
+        (&["check", "MODEL", "EXACT", "CERT"], "words rows\n"),
+    ] {
+        let given = words(rt.alloc(), given)?;
+        let mut model = source(rt.alloc(), COIN, 7, &[0])?;
+        let mut cert = source(rt.alloc(), UPPER, 7, &[0])?;
+        let mut out = sink(rt.alloc(), 100, 16, &[])?;
+        let end = run(rt.alloc(), &given, &mut model, &mut cert, &mut out);
+        assert_eq!(rt; end, Status::Words);
+        assert_eq!(rt; out.bytes(), text.as_bytes());
+    }
+    let job = words(rt.alloc(), &["check", "MODEL", "exact", "CERT"])?;
+    for (model_fails, cert_fails, text) in [
+        ([0].as_slice(), [].as_slice(), "read-fault model\n"),
+        (&[2], &[], "read-fault model\n"),
+        (&[], &[0], "read-fault certificate\n"),
+        (&[], &[5], "read-fault certificate\n"),
+    ] {
+        let mut model = source(rt.alloc(), COIN, 7, model_fails)?;
+        let mut cert = source(rt.alloc(), UPPER, 7, cert_fails)?;
+        let mut out = sink(rt.alloc(), 100, 16, &[])?;
+        let end = run(rt.alloc(), &job, &mut model, &mut cert, &mut out);
+        assert_eq!(rt; end, Status::ReadFault);
+        assert_eq!(rt; out.bytes(), text.as_bytes());
+    }
+    for (room, chunk, fails, taken) in [
+        (100, 2, [1].as_slice(), "ye"),
+        (100, 2, &[2], "yes\n"),
+        (3, 16, &[], "yes"),
+    ] {
+        let mut out = sink(rt.alloc(), room, chunk, fails)?;
+        let end = checked(rt.alloc(), "exact", COIN, UPPER, &mut out)?;
+        assert_eq!(rt; end, Status::WriteFault);
+        assert_eq!(rt; out.bytes(), taken.as_bytes());
+    }
+    Ok(())
+}
+
+/// The files that the program opens, read through the adapters over std.
+#[test]
+fn opens_files(rt: HostRuntime) -> Result<(), Fail> {
+    fs::write(&rt, "coin.drn", COIN.as_bytes())?;
+    let bytes = read_all(rt.alloc(), &mut opened(&rt, "coin.drn"), 1000)?;
+    assert_eq!(rt; bytes.as_slice(), COIN.as_bytes());
+    let missing = read_all(rt.alloc(), &mut opened(&rt, "missing.drn"), 1000);
+    assert!(rt; missing.is_err());
+    Ok(())
+}
