@@ -2,6 +2,8 @@
 #![tactic(auto)]
 
 mod files;
+#[cfg(test)]
+mod library_tests;
 mod run;
 #[cfg(test)]
 mod tests;

@@ -11,7 +11,7 @@ const COIN: &str =
     "@type: MDP\n@parameters\n\n@reward_models\n\n@nr_states\n3\n@nr_choices\n4\n@model\nstate 0 init\naction a\n0 : 1\naction b\n1 : 1/3\n2 : 2/3\nstate 1 goal\naction a\n1 : 1\nstate 2\naction a\n2 : 1\n";
 
 /// 0 init: [1 1/2, 2 1/2] [0 1/2, 1 1/4, 2 1/4]; 1 goal: [1 1]; 2: [2 1], with comments, tabs, a CR, rewards and other layouts.
-const FORK: &str =
+pub(crate) const FORK: &str =
     "// by hand\n@nr_states\n\n3\n@type:MDP\r\n@reward_models\nsteps time\n@model\nstate 0[1, 2]init \"is done\"\n\taction x [1e-1, 1/2]\n\t\t1 : 0.5\n\t\t2:5e-1\n\n// another\n\taction\n\t\t2 : 1/4\n\t\t0 : 1/2\n\t\t1 : 0.25\nstate 1 [] goal\naction [3,4]\n1 : 1\nstate 2\naction\n0 : 0\n2 : 1";
 
 /// State 0 goes to 1, 2 and 3 with 0.333333 each; 1 is the goal.

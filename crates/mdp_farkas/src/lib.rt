@@ -5,8 +5,6 @@
 mod compare;
 mod ranks;
 mod reach;
-#[cfg(test)]
-mod tests;
 mod upper;
 mod verdict;
 

@@ -7,8 +7,6 @@ mod ranking;
 mod reach;
 mod rounds;
 mod sure;
-#[cfg(test)]
-mod tests;
 
 pub use pass::Pass;
 pub use reach::{along, may_reach};

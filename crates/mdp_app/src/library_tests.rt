@@ -1,0 +1,71 @@
+ghost use Rattle.std.specs.Prelude.{◌≡◌, length, IfOk};
+ghost use Rattle.mdp_spec.specs.Mdp.{states_of};
+
+use crate::tests::FORK;
+use mdp_drn::{DrnError, read, write};
+use mdp_graph::{may_reach, rounds_outside, sure_some};
+use mdp_num::Memory;
+use mdp_rows::{Marks, Model, RowRule, cut};
+use std::alloc::Global;
+use std::test::Fail;
+
+/// The model of `FORK`: 0 init: [1 1/2, 2 1/2] [0 1/2, 1 1/4, 2 1/4]; 1 goal: [1 1]; 2: [2 1]
+fn fork(alloc: Global) -> Result<Model, DrnError> {
+    read(alloc, FORK.as_bytes(), RowRule::Exact)
+}
+
+/// The states with the label `goal`.
+fn goals_of(alloc: Global, model: &Model) -> Result<Marks, Memory>
+    ensures { IfOk result (λ marks. length marks ≡ states_of model.now) }
+{
+    match model.label(b"goal") {
+        Some(goal) => model.marks_of(alloc, goal),
+        None => Err(Memory),
+    }
+}
+
+/// A model is written, read and written again.
+#[test]
+fn writes_what_it_reads(rt: HostRuntime) -> Result<(), Fail> {
+    let text =
+        "@type: MDP\n@parameters\n\n@reward_models\nsteps time\n@nr_states\n3\n@nr_choices\n4\n@model\nstate 0 [0, 0] \"init\" \"is done\"\n\taction 0 [11/10, 5/2]\n\t\t1 : 1/2\n\t\t2 : 1/2\n\taction 1 [1, 2]\n\t\t0 : 1/2\n\t\t1 : 1/4\n\t\t2 : 1/4\nstate 1 [0, 0] \"goal\"\n\taction 0 [3, 4]\n\t\t1 : 1\nstate 2 [0, 0]\n\taction 0 [0, 0]\n\t\t2 : 1\n";
+    let mut first = b"> ".to_vec(rt.alloc())?;
+    write(&fork(rt.alloc())?, &mut first)?;
+    assert_eq!(rt; first.get(2..), Some(text.as_bytes()));
+    let mut second = Vec::new(rt.alloc());
+    let again = read(rt.alloc(), text.as_bytes(), RowRule::Exact)?;
+    write(&again, &mut second)?;
+    assert_eq!(rt; second.as_slice(), text.as_bytes());
+    Ok(())
+}
+
+/// Which states may reach the goal, which can be sure to, and in which round the others fall out.
+#[test]
+fn passes_over_the_graph(rt: HostRuntime) -> Result<(), Fail> {
+    let model = fork(rt.alloc())?;
+    let goals = goals_of(rt.alloc(), &model)?;
+    let none = Marks::empty(rt.alloc(), model.states())?;
+    let may = may_reach(rt.alloc(), &model, &goals, &none)?;
+    assert_eq!(rt; may.ranks.as_slice(), [1, 0, 0].as_slice());
+    assert_eq!(rt; may.choices.as_slice(), [0, 0, 0].as_slice());
+    let sure = sure_some(rt.alloc(), &model, &goals)?;
+    assert_eq!(rt; sure.ranks.as_slice(), [0, 0, 0].as_slice());
+    let rounds = rounds_outside(rt.alloc(), &model, &goals)?;
+    assert_eq!(rt; rounds.as_slice(), [2, 0, 1].as_slice());
+    Ok(())
+}
+
+/// The subsystem of the goal alone: a loop at each other state.
+#[test]
+fn cuts_states(rt: HostRuntime) -> Result<(), Fail> {
+    let model = fork(rt.alloc())?;
+    let goals = goals_of(rt.alloc(), &model)?;
+    let none = Marks::empty(rt.alloc(), model.states())?;
+    let left = cut(rt.alloc(), &model, &none, &goals)?;
+    let mut text = Vec::new(rt.alloc());
+    write(&left, &mut text)?;
+    let loops =
+        "@type: MDP\n@parameters\n\n@reward_models\nsteps time\n@nr_states\n3\n@nr_choices\n3\n@model\nstate 0 [0, 0] \"init\" \"is done\"\n\taction 0 [0, 0]\n\t\t0 : 1\nstate 1 [0, 0] \"goal\"\n\taction 0 [3, 4]\n\t\t1 : 1\nstate 2 [0, 0]\n\taction 0 [0, 0]\n\t\t2 : 1\n";
+    assert_eq!(rt; text.as_slice(), loops.as_bytes());
+    Ok(())
+}
