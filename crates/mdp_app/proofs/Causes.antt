@@ -10,7 +10,8 @@ use Rattle.mdp_check.specs.declared.answer.Answer.{Answer}
 use Rattle.mdp_check.specs.declared.answer.Answer.TheVariants as check
 use Rattle.mdp_job.specs.declared.refusal.Refusal.{Refusal}
 use Rattle.mdp_job.specs.declared.refusal.Refusal.TheVariants.{Words, Model, QuerySize, QueryLabel, CheckWide, Denied, ReadModel, ReadCertificate, LongModel, LongCertificate, CertText, Memory}
-use Rattle.mdp_app.specs.Run.{Said, HadLeft, Came, most_bytes, model_due, certificate_or_refusal, certificate_due, said_of, said_to_certificate, said_to_model, check_due, IsDue, CertificateFailed, CertificateCause, CheckCause, LeavesCertificate}
+use Rattle.mdp_drn.specs.FromSource.{HadLeft}
+use Rattle.mdp_app.specs.Run.{Said, Came, most_bytes, model_due, certificate_or_refusal, certificate_due, said_of, said_to_certificate, said_to_model, check_due, IsDue, CertificateFailed, CertificateCause, CheckCause, LeavesCertificate}
 
 -- the bytes that a source tells
 abbrev or_nothing : Option (List ℕ) → List ℕ

@@ -2,3 +2,4 @@ mod Causes
 mod Endings
 mod Long
 mod Showing
+mod Came

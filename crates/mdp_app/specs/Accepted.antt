@@ -4,6 +4,7 @@ use Rattle.std.specs.declared.string.String.{String}
 use Rattle.std.specs.Global.{Global}
 use Rattle.mdp_spec.specs.Mdp.{Mdp}
 use Rattle.mdp_rows.specs.declared.rule.RowRule.{RowRule}
+use Rattle.mdp_drn.specs.FromSource.{HadLeft}
 use Rattle.mdp_drn.specs.Reading.{Reads}
 use Rattle.mdp_cert.specs.Cert.{Certificate}
 use Rattle.mdp_cert.specs.Reading.{outcome}
@@ -14,7 +15,7 @@ use Rattle.mdp_job.specs.declared.job.Job.TheVariants.{Check}
 use Rattle.mdp_job.specs.declared.status.Status.{Status}
 use Rattle.mdp_job.specs.declared.status.Status.TheVariants.{Done, ReadFault, WriteFault, Memory}
 use Rattle.mdp_job.specs.declared.words_error.WordsError.{WordsError}
-use Rattle.mdp_app.specs.Run.{most_bytes, HadLeft}
+use Rattle.mdp_app.specs.Run.{most_bytes}
 
 -- ---- what is shown
 

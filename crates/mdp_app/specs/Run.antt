@@ -6,6 +6,7 @@ use Rattle.mdp_edge.specs.Bytes.{TookAll, TookPrefix}
 use Rattle.mdp_edge.specs.Rose.{Rose}
 use Rattle.mdp_spec.specs.Mdp.{Mdp}
 use Rattle.mdp_rows.specs.declared.rule.RowRule.{RowRule}
+use Rattle.mdp_drn.specs.FromSource.{HadLeft}
 use Rattle.mdp_drn.specs.Outcome as drn
 use Rattle.mdp_drn.specs.Reading.{outcome, Reads}
 use Rattle.mdp_cert.specs.Cert.{Certificate}
@@ -83,10 +84,6 @@ abbrev pub check_due : RowRule → List ℕ → List ℕ → Said
 check_due rule model cert = said_to_model (model_due rule model) cert
 
 -- ---- why an answer may come
-
--- these are the bytes that a source had left, where it tells them
-abbrev pub HadLeft : Option (List ℕ) → List ℕ → Type 0
-HadLeft told bytes = IfSome told (λ left. bytes ≡ left)
 
 -- what came of the bytes of a source is what is due to them
 pub record Came {A : Type 0} (told : Option (List ℕ)) (due_to : List ℕ → Result A Refusal) (result : Result A Refusal) : Type 0 where

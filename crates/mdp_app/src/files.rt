@@ -5,7 +5,7 @@ ghost use Rattle.mdp_app.specs.Run.{Came, model_due, certificate_due};
 ghost use Rattle.mdp_app.specs.Files.{plain_result};
 
 use mdp_cert::{Cert, CertError, read_cert};
-use mdp_drn::{DrnError, read};
+use mdp_drn::{FromError, read_from};
 use mdp_edge::{InError, Source, read_all};
 use mdp_job::Refusal;
 use mdp_rows::{Model, RowRule};
@@ -14,21 +14,17 @@ use std::alloc::Global;
 /// The most bytes that a source may give, 2^30.
 const MOST_BYTES: usize = 1 << 30;
 
-/// The model that a source's bytes read as. The source is read to its end, also where the text is refused.
+/// The model that a source's bytes read as. The source is read in pieces and to its end, also where the text is refused.
 pub fn read_model<S: Source>(alloc: Global, source: &mut S, rule: RowRule) -> Result<Model, Refusal>
     ensures cause { Came (S.left source.old) (model_due rule) result ⊎ ((result ≡ Err Refusal.Memory) ⊎ ((result ≡ Err Refusal.ReadModel) × Rose (S.faults source.old) (S.faults source.new))) }
     ensures end { OnOk result (IsAtEnd (S.left source.new)) }
 {
-    let bytes = match read_all(alloc, source, MOST_BYTES) {
-        Ok(bytes) => bytes,
-        Err(InError::ReadFault) => return Err(Refusal::ReadModel),
-        Err(InError::Long) => return Err(Refusal::LongModel),
-        Err(InError::Memory) => return Err(Refusal::Memory),
-    };
-    match read(alloc, &bytes, rule) {
+    match read_from(alloc, source, rule, MOST_BYTES) {
         Ok(model) => Ok(model),
-        Err(DrnError::At { line, kind }) => Err(Refusal::Model { line, kind }),
-        Err(DrnError::Memory) => Err(Refusal::Memory),
+        Err(FromError::ReadFault) => Err(Refusal::ReadModel),
+        Err(FromError::Long) => Err(Refusal::LongModel),
+        Err(FromError::At { line, kind }) => Err(Refusal::Model { line, kind }),
+        Err(FromError::Memory) => Err(Refusal::Memory),
     }
 }
 

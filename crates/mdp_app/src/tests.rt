@@ -188,6 +188,149 @@ fn refuses_texts(rt: HostRuntime) -> Result<(), Fail> {
     Ok(())
 }
 
+/// How many bytes the first lines have.
+fn end_of_lines(text: &str, count: u32) -> usize {
+    let mut lines = 0;
+    let mut end = 0;
+    for (i, byte) in text.as_bytes().iter().enumerate() {
+        if lines < count && *byte == b'\n' {
+            lines += 1;
+            end = i + 1;
+        }
+    }
+    end
+}
+
+/// The model file of 22 lines, cut behind so many of them.
+#[test]
+fn refuses_cut_models(rt: HostRuntime) -> Result<(), Fail> {
+    for (lines, text) in [
+        (0, "model line 1 end\n"),
+        (5, "model line 6 end\n"),
+        (9, "model line 10 end\n"),
+        (10, "model line 11 count\n"),
+        (11, "model line 11 no-choice\n"),
+        (12, "model line 12 row-sum\n"),
+        (13, "model line 14 count\n"),
+        (14, "model line 14 row-sum\n"),
+        (15, "model line 14 row-sum\n"),
+        (16, "model line 17 count\n"),
+        (17, "model line 17 no-choice\n"),
+        (18, "model line 18 row-sum\n"),
+        (19, "model line 20 count\n"),
+        (20, "model line 20 no-choice\n"),
+        (21, "model line 21 row-sum\n"),
+        (22, "yes\n"),
+    ] {
+        let mut out = sink(rt.alloc(), 100, 16, &[])?;
+        let model = COIN.get(..end_of_lines(COIN, lines)).unwrap_or("");
+        checked(rt.alloc(), "exact", model, UPPER, &mut out)?;
+        assert_eq!(rt; out.bytes(), text.as_bytes(), "{lines}");
+    }
+    Ok(())
+}
+
+/// The certificate of 8 lines, cut behind whole lines, and behind the first byte of a line.
+#[test]
+fn refuses_cut_certificates(rt: HostRuntime) -> Result<(), Fail> {
+    for (lines, text) in [
+        (0, "cert line 1 end\n"),
+        (1, "cert line 2 end\n"),
+        (2, "cert line 3 end\n"),
+        (3, "cert line 4 end\n"),
+        (4, "cert line 5 end\n"),
+        (5, "cert line 6 end\n"),
+        (6, "cert line 7 end\n"),
+        (7, "cert line 8 end\n"),
+    ] {
+        let whole = end_of_lines(GREATEST, lines);
+        for end in [whole, whole + 1] {
+            let mut out = sink(rt.alloc(), 100, 16, &[])?;
+            let cert = GREATEST.get(..end).unwrap_or("");
+            checked(rt.alloc(), "exact", FORK, cert, &mut out)?;
+            assert_eq!(rt; out.bytes(), text.as_bytes(), "{end}");
+        }
+    }
+    Ok(())
+}
+
+/// Certificates with a change that breaks one rule: model, the lines behind the claim for the greatest probability, and what is said.
+#[test]
+fn denies_forged_certificates(rt: HostRuntime) -> Result<(), Fail> {
+    let goal = "@type: MDP\n@nr_states\n1\n@model\nstate 0 init goal\naction\n0 : 1\n";
+    for (model, body, text) in [
+        (
+            FORK,
+            "states 3\ninit 0 1/3\nstate 0 1/2 0 1\nstate 1 1 0 0\nstate 2 0 0 0\n",
+            "denied rule 1 state 0 choice -\n",
+        ),
+        (
+            FORK,
+            "states 3\ninit 0 1/2\nstate 0 1/2 2 1\nstate 1 1 0 0\nstate 2 0 0 0\n",
+            "denied rule 2 state 0 choice 2\n",
+        ),
+        (
+            FORK,
+            "states 3\ninit 0 2\nstate 0 2 0 1\nstate 1 1 0 0\nstate 2 0 0 0\n",
+            "denied rule 3 state 0 choice -\n",
+        ),
+        (
+            goal,
+            "states 1\ninit 0 1/2\nstate 0 1/2 0 0\n",
+            "denied rule 4 state 0 choice -\n",
+        ),
+        (
+            FORK,
+            "states 3\ninit 0 3/4\nstate 0 3/4 0 1\nstate 1 1 0 0\nstate 2 0 0 0\n",
+            "denied rule 6 state 0 choice 0\n",
+        ),
+        (
+            FORK,
+            "states 3\ninit 0 1/2\nstate 0 1/2 0 1\nstate 1 1 0 0\nstate 2 0 0 5\n",
+            "denied rule 7 state 2 choice -\n",
+        ),
+        (goal, "states 1\ninit 0 1\nstate 0 1 0 0\n", "yes\n"),
+    ] {
+        let mut cert = String::from_str(
+            rt.alloc(),
+            "mdp-certificate 1\nclaim max reach \"goal\"\n",
+        )?;
+        cert.push_str(body)?;
+        cert.push_str("end\n")?;
+        let mut out = sink(rt.alloc(), 100, 16, &[])?;
+        checked(rt.alloc(), "exact", model, cert.as_str(), &mut out)?;
+        assert_eq!(rt; out.bytes(), text.as_bytes(), "{body}");
+    }
+    Ok(())
+}
+
+/// Each one call of a source that fails.
+#[test]
+fn answers_each_read_fault(rt: HostRuntime) -> Result<(), Fail> {
+    let job = words(rt.alloc(), &["check", "MODEL", "exact", "CERT"])?;
+    let model_calls = (COIN.len() as u64).div_ceil(7) + 1;
+    let cert_calls = (UPPER.len() as u64).div_ceil(7) + 1;
+    for call in 0..model_calls {
+        let mut model = source(rt.alloc(), COIN, 7, &[call])?;
+        let mut cert = source(rt.alloc(), UPPER, 7, &[])?;
+        let mut out = sink(rt.alloc(), 100, 16, &[])?;
+        run(rt.alloc(), &job, &mut model, &mut cert, &mut out);
+        assert_eq!(rt; out.bytes(), b"read-fault model\n".as_slice(), "{call}");
+    }
+    for call in 0..cert_calls {
+        let mut model = source(rt.alloc(), COIN, 7, &[model_calls])?;
+        let mut cert = source(rt.alloc(), UPPER, 7, &[call])?;
+        let mut out = sink(rt.alloc(), 100, 16, &[])?;
+        run(rt.alloc(), &job, &mut model, &mut cert, &mut out);
+        assert_eq!(rt;
+            out.bytes(),
+            b"read-fault certificate\n".as_slice(),
+            "{call}"
+        );
+    }
+    Ok(())
+}
+
 /// Words that are no job; each source failing, and the sink at a write or for want of room.
 #[test]
 fn answers_words_and_faults(rt: HostRuntime) -> Result<(), Fail> {
@@ -208,9 +351,7 @@ fn answers_words_and_faults(rt: HostRuntime) -> Result<(), Fail> {
     let job = words(rt.alloc(), &["check", "MODEL", "exact", "CERT"])?;
     for (model_fails, cert_fails, text) in [
         ([0].as_slice(), [].as_slice(), "read-fault model\n"),
-        (&[2], &[], "read-fault model\n"),
         (&[], &[0], "read-fault certificate\n"),
-        (&[], &[5], "read-fault certificate\n"),
     ] {
         let mut model = source(rt.alloc(), COIN, 7, model_fails)?;
         let mut cert = source(rt.alloc(), UPPER, 7, cert_fails)?;
@@ -222,6 +363,8 @@ fn answers_words_and_faults(rt: HostRuntime) -> Result<(), Fail> {
     for (room, chunk, fails, taken) in [
         (100, 2, [1].as_slice(), "ye"),
         (100, 2, &[2], "yes\n"),
+        (100, 16, &[0], ""),
+        (100, 16, &[1], "yes\n"),
         (3, 16, &[], "yes"),
     ] {
         let mut out = sink(rt.alloc(), room, chunk, fails)?;

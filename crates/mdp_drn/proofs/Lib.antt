@@ -30,3 +30,4 @@ pub mod WrittenNames
 pub mod WrittenNumbers
 pub mod WrittenReading
 pub mod WrittenStates
+mod Came

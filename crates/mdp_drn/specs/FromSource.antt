@@ -1,9 +1,13 @@
 -- What reading from a source answers.
-use Rattle.std.specs.Prelude.{◌≡◌, Result, Ok, Err}
+use Rattle.std.specs.Prelude.{◌≡◌, ℕ, List, Option, Result, Ok, Err, IfSome}
 use Rattle.mdp_spec.specs.Mdp.{Mdp}
 use Rattle.mdp_drn.specs.declared.from_source.FromError.{FromError}
 use Rattle.mdp_drn.specs.declared.from_source.FromError.TheVariants.{ReadFault, Long, At, Memory}
 use Rattle.mdp_drn.specs.Outcome.{Refusal}
+
+-- these are the bytes that a source had left, where it tells them
+abbrev pub HadLeft : Option (List ℕ) → List ℕ → Type 0
+HadLeft told bytes = IfSome told (λ left. bytes ≡ left)
 
 -- a model or a refusal is what the definition says
 abbrev pub ReadsAs : Result Mdp FromError → Result Mdp Refusal → Type 0

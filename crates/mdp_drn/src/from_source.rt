@@ -1,9 +1,9 @@
-ghost use Rattle.std.specs.Prelude.{◌≡◌, ◌<◌, ◌≤◌, ◌^◌, ℕ, List, length, OnOk, IsErr, IsErrOf, IfSome, Some};
+ghost use Rattle.std.specs.Prelude.{◌≡◌, ◌<◌, ◌≤◌, ◌^◌, ℕ, List, length, IsErrOf};
 ghost use Rattle.std.specs.Io.KnownBytes.{IsAtEnd};
 ghost use Rattle.mdp_edge.specs.Rose.{Rose};
 ghost use Rattle.mdp_edge.specs.Bytes.{GaveSome};
 ghost use Rattle.mdp_drn.specs.Reading.{outcome};
-ghost use Rattle.mdp_drn.specs.FromSource.{ReadsAs, IsRead};
+ghost use Rattle.mdp_drn.specs.FromSource.{HadLeft, ReadsAs, IsRead};
 ghost use Rattle.mdp_drn.specs.Feeding.{HasRead};
 
 use crate::error::{DrnError, DrnKind};
@@ -55,14 +55,13 @@ pub fn read_from<S: Source>(
     limit: usize,
 ) -> Result<Model, FromError>
     requires { limit ≤ 2 ^ 32 }
-    // What it reads are all the bytes that were left.
-    ensures read { (bytes : List ℕ) → S.left source.old ≡ Some bytes → ReadsAs result (outcome rule bytes) }
+    // What it reads are all the bytes that were left, at most `limit`; where the source doesn't tell them, some bytes.
+    ensures read { IsRead result → (bytes : List ℕ) × HadLeft (S.left source.old) bytes × (length bytes ≤ limit) × ReadsAs result (outcome rule bytes) }
     ensures end { IsRead result → IsAtEnd (S.left source.new) }
-    ensures fits { IsRead result → IfSome (S.left source.old) (λ left. length left ≤ limit) }
 
     // An error leaves the bytes behind those that came.
     ensures rest { GaveSome (S.left source.old) (S.left source.new) }
-    ensures long { IsErrOf result FromError.Long → IfSome (S.left source.old) (λ left. limit < length left) }
+    ensures long { IsErrOf result FromError.Long → (bytes : List ℕ) × HadLeft (S.left source.old) bytes × (limit < length bytes) }
     ensures fault { IsErrOf result FromError.ReadFault → Rose (S.faults source.old) (S.faults source.new) }
     ensures later { S.faults source.old ≤ S.faults source.new }
 {

@@ -1,9 +1,6 @@
-use Rattle.std.proofs.Common.{Err, ap, inl}
-use Rattle.mdp_drn.specs.Reading.{outcome}
-use Rattle.mdp_job.specs.declared.refusal.Refusal.TheVariants.{LongModel}
-use Rattle.mdp_app.specs.Run.{model_or_refusal}
-use Rattle.mdp_app.proofs.Long.{long_came}
+use Rattle.std.proofs.Common.{Ok, Err, refl, ap, inl}
+use Rattle.mdp_app.proofs.Came.{came_short, came_long}
 use Rattle.mdp_app.proofs.files.read_model.Goals as goal
 
-pub returns-in-Err-Long-clause-cause : goal.returns-in-Err-Long-clause-cause
-returns-in-Err-Long-clause-cause g c = inl (long_came LongModel (λ bytes. model_or_refusal (outcome c.args.rule bytes)) _ (c.in-Err-Long.ensures.long (ap Err c.in-Err-Long.field-0-is)))
+pub returns-in-Ok-clause-cause : goal.returns-in-Ok-clause-cause
+returns-in-Ok-clause-cause g c = inl (came_short c.args.rule _ (Ok c.in-Ok.model) (c.in-Ok.ensures.read tt))

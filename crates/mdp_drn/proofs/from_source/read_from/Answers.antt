@@ -1,5 +1,9 @@
-use Rattle.std.proofs.Common.{◌≡◌, ◌+◌, ◌≤◌, ◌++◌, ℕ, List, length, take, ◌∙◌, arith, length-append, length-take}
+use Rattle.std.proofs.Common.{◌≡◌, ◌+◌, ◌≤◌, ◌++◌, ℕ, List, length, take, ◌∙◌, subst, arith, length-append, length-take}
 use Rattle.mdp_edge.proofs.Pieces.{gave_both}
+use Rattle.mdp_rows.specs.declared.rule.RowRule.{RowRule}
+use Rattle.mdp_drn.specs.Reading.{outcome}
+use Rattle.mdp_drn.specs.FromSource.{ReadsAs}
+use Rattle.mdp_drn.proofs.Came.{had_all, had_more}
 use Rattle.mdp_drn.proofs.from_source.read_from.Goals as goal
 
 pub returns-then-count-eq0-clause-rest : goal.returns-then-count-eq0-clause-rest
@@ -22,3 +26,12 @@ reading-preserved g c =
       rule = c.push.ensures.rule ∙ c.reading.invariant.rule;
       later = omega (arith, c.in-Ok-read.ensures.later, c.reading.invariant.later);
     }
+
+pub returns-then-count-eq0-clause-read : goal.returns-then-count-eq0-clause-read
+returns-then-count-eq0-clause-read g c is =
+    let w = c.reading.invariant.read in
+    (w.0, had_all _ _ w.0 c.in-Ok-read.count w.1 c.in-Ok-read.ensures.end c.if-count-eq0.true, omega (arith, w.2, c.reading-test.true), subst (λ (rule : RowRule). ReadsAs c.finish_feed.result (outcome rule w.0)) c.reading.invariant.rule (c.finish_feed.ensures.read w.0 w.3))
+
+pub returns-clause-long : goal.returns-clause-long
+returns-clause-long g c is =
+    let w = c.reading.invariant.read in had_more _ _ w.0 c.args.limit w.1 (omega (arith, w.2, c.reading-test.false))
