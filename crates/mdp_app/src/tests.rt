@@ -244,7 +244,7 @@ fn refuses_cut_certificates(rt: HostRuntime) -> Result<(), Fail> {
         (7, "cert line 8 end\n"),
     ] {
         let whole = end_of_lines(GREATEST, lines);
-        for end in [whole, whole + 1] {
+        for end in [whole, whole.saturating_add(1)] {
             let mut out = sink(rt.alloc(), 100, 16, &[])?;
             let cert = GREATEST.get(..end).unwrap_or("");
             checked(rt.alloc(), "exact", FORK, cert, &mut out)?;

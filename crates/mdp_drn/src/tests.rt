@@ -139,7 +139,7 @@ fn refuses_at_its_limits(rt: HostRuntime) -> Result<(), Fail> {
 fn reads_in_pieces(rt: HostRuntime) -> Result<(), Fail> {
     for size in [1, 7, 65_536] {
         let mut feed = Feed::new(rt.alloc(), RowRule::Exact)?;
-        for piece in FILE.chunks(size) {
+        for piece in FILE.chunks(size.max(1)) {
             assert_eq!(rt; feed.push(piece), Ok(()));
         }
         let model = feed.finish()?;

@@ -1,5 +1,5 @@
-use Rattle.std.proofs.Common.{Ok, Err, refl, ap, inl}
-use Rattle.mdp_app.proofs.Came.{came_short, came_long}
+use Rattle.std.proofs.Common.{Ok, inl}
+use Rattle.mdp_app.proofs.Came.{came_short}
 use Rattle.mdp_app.proofs.files.read_model.Goals as goal
 
 pub returns-in-Ok-clause-cause : goal.returns-in-Ok-clause-cause
