@@ -4,6 +4,7 @@ mod Examples
 mod Falls
 mod Given
 mod MayReach
+mod Meeting
 mod Passes
 mod RankFacts
 mod Reached

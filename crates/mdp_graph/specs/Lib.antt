@@ -9,3 +9,4 @@ pub mod Sure
 pub mod Settled
 pub mod Rounds
 pub mod Noted
+pub mod Meet

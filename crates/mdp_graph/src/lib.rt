@@ -2,12 +2,14 @@
 #![tactic(auto)]
 
 mod edges;
+mod meet;
 mod pass;
 mod ranking;
 mod reach;
 mod rounds;
 mod sure;
 
+pub use meet::must_meet;
 pub use pass::Pass;
 pub use reach::{along, may_reach};
 pub use rounds::rounds_outside;
