@@ -1,4 +1,6 @@
 mod Among
+mod Avoiding
+mod Dropping
 mod EdgeFacts
 mod Examples
 mod Falls

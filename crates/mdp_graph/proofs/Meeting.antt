@@ -125,7 +125,7 @@ top_given k true None top = le-leb (suc k) (suc k) (omega arith)
 top_given k false None top = refl
 top_given k st (Some r) top = let h = top r refl in le-leb r (suc k) (omega (arith, h))
 
-some_at_most : (k : ℕ) (o : Option ℕ) → ((r : ℕ) → o ≡ Some r → r ≤ k) → at_most k o ≡ is_some o
+pub some_at_most : (k : ℕ) (o : Option ℕ) → ((r : ℕ) → o ≡ Some r → r ≤ k) → at_most k o ≡ is_some o
 some_at_most k None top = refl
 some_at_most k (Some r) top = le-leb r k (top r refl)
 

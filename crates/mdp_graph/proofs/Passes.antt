@@ -69,7 +69,7 @@ never-enters : (row : List Entry) (p : ℕ → Bool) → ((t : ℕ) → p t ≡ 
 never-enters [] p none = refl
 never-enters (x ∷ row) p none = ap (λ b. b || can_enter p row) (none x.target) ∙ never-enters row p none
 
-and-none : (b : Bool) → (b && false) ≡ false
+pub and-none : (b : Bool) → (b && false) ≡ false
 and-none true = refl
 and-none false = refl
 

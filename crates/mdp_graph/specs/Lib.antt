@@ -10,3 +10,5 @@ pub mod Settled
 pub mod Rounds
 pub mod Noted
 pub mod Meet
+pub mod Avoid
+pub mod SureAll

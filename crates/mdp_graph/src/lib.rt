@@ -1,6 +1,8 @@
 //! Passes over the graph of a model: which states reach a set, with least ranks.
 #![tactic(auto)]
 
+mod always;
+mod avoid;
 mod edges;
 mod meet;
 mod pass;
@@ -9,6 +11,8 @@ mod reach;
 mod rounds;
 mod sure;
 
+pub use always::sure_all;
+pub use avoid::may_avoid;
 pub use meet::must_meet;
 pub use pass::Pass;
 pub use reach::{along, may_reach};
