@@ -73,13 +73,13 @@ or-right-is-false : (a b : Bool) → (a || b) ≡ false → b ≡ false
 or-right-is-false true b e = absurd (false≢true (sym e))
 or-right-is-false false b e = e
 
-stays-outside : (p q : ℕ → Bool) (row : List Entry) (n : ℕ) → All (λ x. x.target < n) row → ((t : ℕ) → t < n → p t ≡ false → q t ≡ true) → can_enter p row ≡ false → stays_in q row ≡ true
+pub stays-outside : (p q : ℕ → Bool) (row : List Entry) (n : ℕ) → All (λ x. x.target < n) row → ((t : ℕ) → t < n → p t ≡ false → q t ≡ true) → can_enter p row ≡ false → stays_in q row ≡ true
 stays-outside p q [] n range out e = refl
 stays-outside p q (x ∷ row) n range out e =
     both (q x.target) (stays_in q row) (out x.target (range 0 x (omega arith)) (or-left-false (p x.target) (can_enter p row) e))
     (stays-outside p q row n (λ k d l. range (suc k) d (omega arith)) out (or-right-is-false (p x.target) (can_enter p row) e))
 
-stays-at : (q : ℕ → Bool) (row : List Entry) (t : ℕ) → stays_in q row ≡ true → leads_to t row ≡ true → q t ≡ true
+pub stays-at : (q : ℕ → Bool) (row : List Entry) (t : ℕ) → stays_in q row ≡ true → leads_to t row ≡ true → q t ≡ true
 stays-at q [] t e l = absurd (false≢true l)
 stays-at q (x ∷ row) t e l = elim (case-eq x.target t) [
   | inl same ↦ ap q (sym same) ∙ and-left (q x.target) (stays_in q row) e

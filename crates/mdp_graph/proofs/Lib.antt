@@ -10,6 +10,8 @@ mod Meeting
 mod Passes
 mod RankFacts
 mod Reached
+mod PassLaws
+mod RoundLaws
 mod Rounding
 mod Settling
 mod Steps

@@ -12,3 +12,4 @@ pub mod Noted
 pub mod Meet
 pub mod Avoid
 pub mod SureAll
+pub mod Laws

@@ -4,6 +4,7 @@
 mod always;
 mod avoid;
 mod edges;
+mod laws;
 mod meet;
 mod pass;
 mod ranking;
@@ -13,6 +14,7 @@ mod sure;
 
 pub use always::sure_all;
 pub use avoid::may_avoid;
+pub use laws::{avoid_law, rounds_law, sure_all_law};
 pub use meet::must_meet;
 pub use pass::Pass;
 pub use reach::{along, may_reach};
