@@ -2,9 +2,12 @@
 use Rattle.std.proofs.Common.{◌≡◌, ℕ, Bool, true, false, List, [], ◌∷◌, refl, pos}
 use Rattle.mdp_math.specs.Rational.{of_int, ratio}
 use Rattle.mdp_spec.specs.Mdp.{Entry, State, Mdp}
-use Rattle.mdp_graph.specs.Sets.{marked}
+use Rattle.mdp_graph.specs.Sets.{marked, can_enter}
 use Rattle.mdp_graph.specs.Layers.{reached}
 use Rattle.mdp_graph.specs.Reach.{may_step, row_step, falls}
+use Rattle.mdp_graph.specs.Meet.{must_step}
+use Rattle.mdp_graph.specs.Avoid.{keeps}
+use Rattle.mdp_graph.specs.Laws.{earlier}
 use Rattle.mdp_graph.specs.Sure.{inside_step, stays_and_falls}
 
 abbrev both : List Entry
@@ -80,3 +83,48 @@ stays_with_second = refl
 pub left_out : reached (inside_step splits (marked (true ∷ false ∷ true ∷ []))) (marked goal) 3 0 ≡ false
 unfolding reached
 left_out = refl
+
+-- whatever is chosen state 0 meets the goal after one step with some probability, and state 1 doesn't
+pub must_rank : reached (must_step splits) (marked goal) 1 0 ≡ true
+unfolding reached
+must_rank = refl
+
+pub must_not : reached (must_step splits) (marked goal) 3 1 ≡ false
+unfolding reached
+must_not = refl
+
+-- in the other model a choice of state 0 avoids it
+pub not_each_choice : reached (must_step trap) (marked goal) 3 0 ≡ false
+unfolding reached
+not_each_choice = refl
+
+pub may_here : reached (may_step trap []) (marked goal) 1 0 ≡ true
+unfolding reached
+may_here = refl
+
+-- state 1 avoids the goal, and state 0 can't
+pub avoids_goal : keeps splits (false ∷ true ∷ false ∷ []) 1 0 ≡ true
+avoids_goal = refl
+
+pub one_leaves : keeps splits (true ∷ true ∷ false ∷ []) 0 0 ≡ false
+one_leaves = refl
+
+-- without a goal all states avoid it
+pub all_avoid : keeps splits (true ∷ true ∷ true ∷ []) 0 0 ≡ true
+all_avoid = refl
+
+-- not every policy reaches the goal from state 0: it reaches state 1
+pub may_end_there : reached (may_step splits goal) (marked (false ∷ true ∷ false ∷ [])) 1 0 ≡ true
+unfolding reached
+may_end_there = refl
+
+pub goal_is_sure : reached (may_step splits goal) (marked (false ∷ true ∷ false ∷ [])) 3 2 ≡ false
+unfolding reached
+goal_is_sure = refl
+
+-- the rounds 2, 1, 0: the successor of state 0 with the smaller round is state 1, and that of state 1 is itself
+pub falls_to_first : can_enter (earlier (2 ∷ 1 ∷ 0 ∷ []) 0) both ≡ true
+falls_to_first = refl
+
+pub no_earlier : can_enter (earlier (2 ∷ 1 ∷ 0 ∷ []) 1) (only 1) ≡ false
+no_earlier = refl

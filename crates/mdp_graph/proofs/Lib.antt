@@ -1,12 +1,17 @@
 mod Among
+mod Avoiding
+mod Dropping
 mod EdgeFacts
 mod Examples
 mod Falls
 mod Given
 mod MayReach
+mod Meeting
 mod Passes
 mod RankFacts
 mod Reached
+mod PassLaws
+mod RoundLaws
 mod Rounding
 mod Settling
 mod Steps

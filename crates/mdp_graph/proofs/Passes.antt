@@ -60,7 +60,7 @@ before-is : (r : ℕ) (o : Option ℕ) → is_before r o ≡ (is_some o && nat_l
 before-is r None = refl
 before-is r (Some q) = refl
 
-same-enters : (p q : ℕ → Bool) (row : List Entry) (n : ℕ) → All (λ x. x.target < n) row → ((t : ℕ) → t < n → p t ≡ q t) → can_enter p row ≡ can_enter q row
+pub same-enters : (p q : ℕ → Bool) (row : List Entry) (n : ℕ) → All (λ x. x.target < n) row → ((t : ℕ) → t < n → p t ≡ q t) → can_enter p row ≡ can_enter q row
 same-enters p q [] n range same = refl
 same-enters p q (x ∷ row) n range same =
     ap (λ b. b || can_enter p row) (same x.target (range 0 x (omega arith))) ∙ ap (λ b. q x.target || b) (same-enters p q row n (λ k d l. range (suc k) d (omega arith)) same)
@@ -69,7 +69,7 @@ never-enters : (row : List Entry) (p : ℕ → Bool) → ((t : ℕ) → p t ≡ 
 never-enters [] p none = refl
 never-enters (x ∷ row) p none = ap (λ b. b || can_enter p row) (none x.target) ∙ never-enters row p none
 
-and-none : (b : Bool) → (b && false) ≡ false
+pub and-none : (b : Bool) → (b && false) ≡ false
 and-none true = refl
 and-none false = refl
 

@@ -19,11 +19,11 @@ pub record AreMarked (marks : List Bool) (n : ℕ) (list : List ℕ) : Type 0 wh
 pub none_marked : (marks : List Bool) → AreMarked marks 0 []
 none_marked marks = record { at = λ s h. absurd (omega arith); below = λ s e. absurd (false≢true e) }
 
-or-false : (b : Bool) → (b || false) ≡ b
+pub or-false : (b : Bool) → (b || false) ≡ b
 or-false true = refl
 or-false false = refl
 
-among-last : (s n : ℕ) (list : List ℕ) → s ≢ n → is_among s (list ++ n ∷ []) ≡ is_among s list
+pub among-last : (s n : ℕ) (list : List ℕ) → s ≢ n → is_among s (list ++ n ∷ []) ≡ is_among s list
 among-last s n list other = among-append s list (n ∷ []) ∙ ap (λ b. is_among s list || (b || false)) (ne_eqb n s (λ q. other (sym q))) ∙ or-false (is_among s list)
 
 pub marked_more : (marks : List Bool) (n : ℕ) (list : List ℕ) → AreMarked marks n list → marked marks n ≡ true → AreMarked marks (n + 1) (list ++ n ∷ [])
@@ -89,7 +89,7 @@ some-same r q o e f = ap value (sym e ∙ f)
 pub none-some : (r : ℕ) (o : Option ℕ) → o ≡ None → o ≡ Some r → ⊥
 none-some r o e f = false≢true (sym (ap is_none f) ∙ ap is_none e)
 
-cond_some : (b : Bool) (k r : ℕ) (o : Option ℕ) → o ≡ cond b (Some k) None → o ≡ Some r → (r ≡ k) × (b ≡ true)
+pub cond_some : (b : Bool) (k r : ℕ) (o : Option ℕ) → o ≡ cond b (Some k) None → o ≡ Some r → (r ≡ k) × (b ≡ true)
 cond_some true k r o e f = (some-same r k o f e, refl)
 cond_some false k r o e f = absurd (none-some r o e f)
 

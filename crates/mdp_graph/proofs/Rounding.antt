@@ -28,7 +28,7 @@ rank-stays m goals inside ranks left f s h = (
 )
 
 -- equal sets can be stayed in alike
-stays-alike : (m : Mdp) (ok : IsMdp m) (goals : List Bool) (p q : ℕ → Bool) → ((t : ℕ) → t < states_of m → p t ≡ q t) → (s : ℕ) → s < states_of m → CanStay m goals p s → CanStay m goals q s
+pub stays-alike : (m : Mdp) (ok : IsMdp m) (goals : List Bool) (p q : ℕ → Bool) → ((t : ℕ) → t < states_of m → p t ≡ q t) → (s : ℕ) → s < states_of m → CanStay m goals p s → CanStay m goals q s
 stays-alike m ok goals p q same s h w = (w.0, reached-more m ok p q (marked goals) (λ t l e. sym (same t l) ∙ e) w.0 s h w.1)
 
 pub record IsRounding (m : Mdp) (goals inside : List Bool) (ranks : List (Option ℕ)) (left : ℕ) (rounds : List ℕ) (k : ℕ) : Type 0 where
@@ -44,7 +44,7 @@ or-false true = refl
 or-false false = refl
 
 -- after the last round no more states are removed
-left-top : (r i : ℕ) → r ≤ i → ((r == 0) || nat_lt i r) ≡ (r == 0)
+pub left-top : (r i : ℕ) → r ≤ i → ((r == 0) || nat_lt i r) ≡ (r == 0)
 left-top r i h = rw (le-ltb i r h) (or-false (r == 0))
 
 pub rounding : (m : Mdp) (goals inside : List Bool) (ranks : List (Option ℕ)) (n : ℕ) (rounds : List ℕ) → IsSettling m goals inside ranks n → n ≡ states_of m → inside ≡ replicate n true → rounds ≡ replicate n 0 → IsRounding m goals inside ranks n rounds 0

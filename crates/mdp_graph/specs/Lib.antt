@@ -9,3 +9,7 @@ pub mod Sure
 pub mod Settled
 pub mod Rounds
 pub mod Noted
+pub mod Meet
+pub mod Avoid
+pub mod SureAll
+pub mod Laws

@@ -1,13 +1,21 @@
 //! Passes over the graph of a model: which states reach a set, with least ranks.
 #![tactic(auto)]
 
+mod always;
+mod avoid;
 mod edges;
+mod laws;
+mod meet;
 mod pass;
 mod ranking;
 mod reach;
 mod rounds;
 mod sure;
 
+pub use always::sure_all;
+pub use avoid::may_avoid;
+pub use laws::{avoid_law, rounds_law, sure_all_law};
+pub use meet::must_meet;
 pub use pass::Pass;
 pub use reach::{along, may_reach};
 pub use rounds::rounds_outside;

@@ -67,7 +67,7 @@ pub(crate) fn marked_states(
 }
 
 /// So many states without a rank.
-fn no_ranks(alloc: Global, states: u32) -> Result<Vec<Option<u32>>, AllocError>
+pub(crate) fn no_ranks(alloc: Global, states: u32) -> Result<Vec<Option<u32>>, AllocError>
     ensures { IfOk result (λ ranks. ranks.items ≡ replicate states None) }
 {
     let mut ranks = Vec::with_capacity(alloc, states as usize)?;

@@ -1,0 +1,48 @@
+ghost use Rattle.std.specs.Prelude.{◌≡◌, ◌<◌, ℕ, None, length, cond, replicate, IfOk};
+ghost use Rattle.mdp_spec.specs.Mdp.{states_of};
+ghost use Rattle.mdp_graph.specs.Sets.{marked};
+ghost use Rattle.mdp_graph.specs.Layers.{rank_at, AreLeastRanks};
+ghost use Rattle.mdp_graph.specs.Meet.{must_step};
+ghost use Rattle.mdp_graph.specs.SureAll.{IsSureAll};
+
+use crate::avoid::marks_without;
+use crate::meet::meeting_ranks;
+use crate::pass::{Pass, marks_by, no_choices, plain_ranks};
+use crate::reach::may_reach;
+use mdp_num::Memory;
+use mdp_rows::{Marks, Model};
+use std::alloc::{AllocError, Global};
+
+/// Takes the ranks of the marked states away.
+fn drop_ranks(ranks: &mut Vec<Option<u32>>, marks: &Marks, states: u32)
+    requires ranks { length ranks.old.items ≡ states }
+    requires marks { length marks.now ≡ states }
+    ensures count { length ranks.new.items ≡ states }
+    ensures left { (s : ℕ) → s < states → rank_at ranks.new.items s ≡ cond (marked marks.now s) None (rank_at ranks.old.items s) }
+{
+    for s in 0..states {
+        if marks.at(s) {
+            ranks[s as usize] = None;
+        }
+    }
+}
+
+/// The states from which every policy reaches a goal with certainty: those that can't reach a state of `may_avoid` without passing a goal.
+/// The ranks are those of `must_meet`. Choices are 0.
+pub fn sure_all(alloc: Global, model: &Model, goals: &Marks) -> Result<Pass, Memory>
+    requires goals { length goals.now ≡ states_of model.now }
+    ensures marks { IfOk result (λ pass. IsSureAll model.now goals.now pass.marks) }
+    ensures ranks { IfOk result (λ pass. AreLeastRanks (must_step model.now) (marked goals.now) (states_of model.now) pass.marks pass.ranks.items) }
+    ensures choices { IfOk result (λ pass. pass.choices.items ≡ replicate (states_of model.now) 0) }
+{
+    model.known();
+    let mut ranks = meeting_ranks(alloc, model, goals)?;
+    let avoiding = marks_without(alloc, &ranks)?;
+    let reaching = may_reach(alloc, model, &avoiding, goals)?;
+    drop_ranks(&mut ranks, &reaching.marks, model.states());
+    Ok(Pass {
+        marks: marks_by(alloc, &ranks)?,
+        ranks: plain_ranks(alloc, &ranks)?,
+        choices: no_choices(alloc, model.states() as usize)?,
+    })
+}
