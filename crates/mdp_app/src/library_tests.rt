@@ -3,7 +3,7 @@ ghost use Rattle.mdp_spec.specs.Mdp.{states_of};
 
 use crate::tests::FORK;
 use mdp_drn::{DrnError, read, write};
-use mdp_graph::{may_reach, rounds_outside, sure_some};
+use mdp_graph::{may_avoid, may_reach, must_meet, rounds_outside, sure_all, sure_some};
 use mdp_num::Memory;
 use mdp_rows::{Marks, Model, RowRule, cut};
 use std::alloc::Global;
@@ -39,7 +39,7 @@ fn writes_what_it_reads(rt: HostRuntime) -> Result<(), Fail> {
     Ok(())
 }
 
-/// Which states may reach the goal, which can be sure to, and in which round the others fall out.
+/// Which states may reach the goal, must meet it, can be sure to, and in which round the others fall out.
 #[test]
 fn passes_over_the_graph(rt: HostRuntime) -> Result<(), Fail> {
     let model = fork(rt.alloc())?;
@@ -50,6 +50,12 @@ fn passes_over_the_graph(rt: HostRuntime) -> Result<(), Fail> {
     assert_eq!(rt; may.choices.as_slice(), [0, 0, 0].as_slice());
     let sure = sure_some(rt.alloc(), &model, &goals)?;
     assert_eq!(rt; sure.ranks.as_slice(), [0, 0, 0].as_slice());
+    let must = must_meet(rt.alloc(), &model, &goals)?;
+    assert_eq!(rt; must.ranks.as_slice(), [1, 0, 0].as_slice());
+    let avoid = may_avoid(rt.alloc(), &model, &goals)?;
+    assert_eq!(rt; avoid.choices.as_slice(), [0, 0, 0].as_slice());
+    let always = sure_all(rt.alloc(), &model, &goals)?;
+    assert_eq!(rt; always.ranks.as_slice(), [0, 0, 0].as_slice());
     let rounds = rounds_outside(rt.alloc(), &model, &goals)?;
     assert_eq!(rt; rounds.as_slice(), [2, 0, 1].as_slice());
     Ok(())
