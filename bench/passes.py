@@ -1,0 +1,95 @@
+#!/usr/bin/env python3
+"""Measures how long the passes over the graph take on a chain of states.
+
+State s of the chain stays with one half and goes on to state s + 1 with one half; the last state is the goal. So the greatest rank is the number of
+states less 1. Copies the crates into a folder that it removes again, adds a small program to them that makes the chain and times `may_reach`,
+`must_meet` and `sure_some`, and runs that program there, once it is proved. Usage: bench/passes.py [STATES ..] (10000 and 100000 if nothing is said).
+"""
+import os
+import shutil
+import subprocess
+import sys
+import tempfile
+
+TOP = os.path.join(os.path.dirname(os.path.abspath(__file__)), "..")
+
+LINE = "chain_timer: mdp_math mdp_num mdp_edge mdp_spec mdp_rows mdp_drn mdp_graph\n"
+
+PROGRAM = """//! Times passes over the graph of each model that its words name.
+#![tactic(auto)]
+
+use mdp_drn::read;
+use mdp_graph::{Pass, may_reach, must_meet, sure_some};
+use mdp_rows::{Marks, RowRule};
+use std::env;
+use std::fs;
+use std::process::ExitCode;
+use std::time::{Duration, Instant};
+
+fn say(rt: &HostRuntime, name: &str, pass: &Pass, time: Duration) -> Option<()> {
+    let rank = pass.ranks.first().copied()?;
+    println!(rt; "{name}: {} us, rank {rank} at state 0", time.as_micros()).ok()
+}
+
+fn timed(rt: &HostRuntime, path: &str) -> Option<()> {
+    let alloc = rt.alloc();
+    let bytes = fs::read(rt, path).ok()?;
+    let model = read(alloc, &bytes, RowRule::Exact).ok()?;
+    let goals = model.marks_of(alloc, model.label(b"goal")?).ok()?;
+    let none = Marks::empty(alloc, model.states()).ok()?;
+    println!(rt; "{} states", model.states()).ok()?;
+    let start = Instant::now(rt).ok()?;
+    let may = may_reach(alloc, &model, &goals, &none).ok()?;
+    say(rt, "may_reach", &may, start.elapsed(rt).ok()?)?;
+    let start = Instant::now(rt).ok()?;
+    let must = must_meet(alloc, &model, &goals).ok()?;
+    say(rt, "must_meet", &must, start.elapsed(rt).ok()?)?;
+    let start = Instant::now(rt).ok()?;
+    let some = sure_some(alloc, &model, &goals).ok()?;
+    say(rt, "sure_some", &some, start.elapsed(rt).ok()?)
+}
+
+fn main(rt: HostRuntime) -> ExitCode {
+    let Ok(words) = env::args(&rt) else {
+        return ExitCode::from(1);
+    };
+    for word in words.skip(1) {
+        if timed(&rt, &word).is_none() {
+            return ExitCode::from(1);
+        }
+    }
+    ExitCode::from(0)
+}
+"""
+
+
+def write_chain(path, states):
+    with open(path, "w") as file:
+        file.write("@type: MDP\n@nr_states\n%d\n@model\n" % states)
+        for s in range(states - 1):
+            file.write("state %d\naction\n%d : 1/2\n%d : 1/2\n" % (s, s, s + 1))
+        file.write("state %d goal\naction\n%d : 1\n" % (states - 1, states - 1))
+
+
+def main():
+    sizes = [int(size) for size in sys.argv[1:]] or [10000, 100000]
+    with tempfile.TemporaryDirectory() as folder:
+        shutil.copytree(os.path.join(TOP, "crates"), os.path.join(folder, "crates"), ignore=shutil.ignore_patterns("out"))
+        shutil.copy(os.path.join(TOP, "HANDLES"), folder)
+        with open(os.path.join(TOP, "crates.txt")) as file:
+            lines = file.read()
+        with open(os.path.join(folder, "crates.txt"), "w") as file:
+            file.write(lines + LINE)
+        source = os.path.join(folder, "crates", "chain_timer", "src")
+        os.makedirs(source)
+        with open(os.path.join(source, "main.rt"), "w") as file:
+            file.write(PROGRAM)
+        models = []
+        for size in sizes:
+            models.append(os.path.join(folder, "chain%d.drn" % size))
+            write_chain(models[-1], size)
+        subprocess.run(["rt", "run", "--"] + models, cwd=os.path.dirname(source), check=True)
+
+
+if __name__ == "__main__":
+    main()
