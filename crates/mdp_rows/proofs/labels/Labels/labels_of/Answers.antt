@@ -1,9 +1,8 @@
-use Rattle.std.proofs.Common.{arith, ◌==◌, ap, ◌∙◌}
-use Rattle.std.specs.List.{list_any}
+use Rattle.std.proofs.Common.{arith, ap, ◌∙◌}
 use Rattle.mdp_rows.specs.Pieces.{piece}
 use Rattle.mdp_rows.proofs.Pieces.{next_places, piece_is}
 use Rattle.mdp_rows.proofs.LabelFacts.{states_are, of_state_is}
-use Rattle.mdp_rows.proofs.labels.Labels.has.Goals as goal
+use Rattle.mdp_rows.proofs.labels.Labels.labels_of.Goals as goal
 
 pub index-requires : goal.index-requires
 index-requires c = omega (arith, states_are _ _ c.self.view_is)
@@ -11,20 +10,20 @@ index-requires c = omega (arith, states_are _ _ c.self.view_is)
 pub index-requires-2 : goal.index-requires-2
 index-requires-2 c = omega (arith, states_are _ _ c.self.view_is)
 
-pub slice_bounds-contains-count : goal.slice_bounds-contains-count
-slice_bounds-contains-count c =
+pub slice_bounds-result-count : goal.slice_bounds-result-count
+slice_bounds-result-count c =
     let f = next_places _ _ c.args.s _ _ c.self.invariant.places (omega (arith, states_are _ _ c.self.view_is)) c.index.ensures c.index-2.ensures in f.ordered
 
-pub slice_bounds-contains-start : goal.slice_bounds-contains-start
-slice_bounds-contains-start c =
+pub slice_bounds-result-start : goal.slice_bounds-result-start
+slice_bounds-result-start c =
     let f = next_places _ _ c.args.s _ _ c.self.invariant.places (omega (arith, states_are _ _ c.self.view_is)) c.index.ensures c.index-2.ensures in omega (arith, f.ordered)
 
-pub slice_bounds-contains-end : goal.slice_bounds-contains-end
-slice_bounds-contains-end c =
-    let f = next_places _ _ c.args.s _ _ c.self.invariant.places (omega (arith, states_are _ _ c.self.view_is)) c.index.ensures c.index-2.ensures in omega (arith, f.within, c.deref.ensures.len)
+pub slice_bounds-result-end : goal.slice_bounds-result-end
+slice_bounds-result-end c =
+    let f = next_places _ _ c.args.s _ _ c.self.invariant.places (omega (arith, states_are _ _ c.self.view_is)) c.index.ensures c.index-2.ensures in omega (arith, f.within, c.as_slice-places.ensures.len)
 
 pub returns : goal.returns
 returns c =
     let f = next_places _ _ c.args.s _ _ c.self.invariant.places (omega (arith, states_are _ _ c.self.view_is)) c.index.ensures c.index-2.ensures in
     let e = piece_is _ _ _ c.args.s _ _ _ f (of_state_is _ _ c.self.view_is) in
-    c.contains.ensures.value ∙ ap (list_any (λ k. k == c.args.l)) (ap (λ xs. piece xs c.index.result.now c.index-2.result.now) c.deref.ensures.value ∙ e)
+    ap (λ xs. piece xs c.index.result.now c.index-2.result.now) c.as_slice-places.ensures.value ∙ e
