@@ -1,5 +1,6 @@
 mod CallFacts
 mod ChoiceFacts
+mod ClosingRow
 mod Closings
 mod CutFacts
 mod Denominators
@@ -8,9 +9,11 @@ mod DraftFacts
 mod EntryFacts
 mod Examples
 mod ExamplesCut
+mod GivenRows
 mod Growth
 mod Handing
 mod HeadFacts
+mod InOrder
 mod KeptFacts
 mod LabelCalls
 mod LabelFacts
@@ -22,7 +25,6 @@ mod OpenFacts
 mod Outcomes
 mod Parts
 mod Pieces
-mod Places
 mod PredFacts
 mod ReplayLabels
 mod ReplayRewards
