@@ -14,7 +14,9 @@ mod sure;
 
 pub use always::sure_all;
 pub use avoid::may_avoid;
-pub use laws::{avoid_law, rounds_law, sure_all_law};
+pub use laws::{
+    along_law, avoid_law, meet_law, reach_law, rounds_law, sure_all_law, sure_some_law,
+};
 pub use meet::must_meet;
 pub use pass::Pass;
 pub use reach::{along, may_reach};
