@@ -11,6 +11,7 @@ mod ranking;
 mod reach;
 mod rounds;
 mod sure;
+mod waiting;
 
 pub use always::sure_all;
 pub use avoid::may_avoid;
