@@ -58,7 +58,7 @@ greatest_rank (o ∷ ranks) = let w = greatest_rank ranks in elim (case-rank o) 
 ]
 
 -- a choice that doesn't enter a set
-all-some-false : {X : Type 0} (p : X → Bool) (xs : List X) (d : X) → list_all p xs ≡ false → (i : ℕ) × (i < length xs) × (p (get_or xs i d) ≡ false)
+pub all-some-false : {X : Type 0} (p : X → Bool) (xs : List X) (d : X) → list_all p xs ≡ false → (i : ℕ) × (i < length xs) × (p (get_or xs i d) ≡ false)
 all-some-false p [] d e = absurd (false≢true (sym e))
 all-some-false p (x ∷ xs) d e = elim (case-bool (p x)) [
   | inl here ↦ (let w = all-some-false p xs d (sym (ap (λ b. b && list_all p xs) here) ∙ e) in (suc w.0, omega (arith, w.1), w.2))

@@ -7,10 +7,14 @@ mod Falls
 mod Given
 mod MayReach
 mod Meeting
+mod NextMet
+mod PassLaws
 mod Passes
+mod PolicyLaws
+mod PredLists
 mod RankFacts
 mod Reached
-mod PassLaws
+mod Releasing
 mod RoundLaws
 mod Rounding
 mod Settling

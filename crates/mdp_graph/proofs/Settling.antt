@@ -48,7 +48,7 @@ module _ (m : Mdp) (ok : IsMdp m) (inside : List Bool) (edges : List (List ℕ))
       choice-inside m (marked inside) set s w.0 w.1 w.2 (enters-by set (row_at m s w.0) t w.3 h)
 
 -- a greater set is reached from more states
-stays-more : (p q : ℕ → Bool) (row : List Entry) (n : ℕ) → All (λ x. x.target < n) row → ((t : ℕ) → t < n → p t ≡ true → q t ≡ true) → stays_in p row ≡ true → stays_in q row ≡ true
+pub stays-more : (p q : ℕ → Bool) (row : List Entry) (n : ℕ) → All (λ x. x.target < n) row → ((t : ℕ) → t < n → p t ≡ true → q t ≡ true) → stays_in p row ≡ true → stays_in q row ≡ true
 stays-more p q [] n range more e = refl
 stays-more p q (x ∷ row) n range more e =
     both (q x.target) (stays_in q row) (more x.target (range 0 x (omega arith)) (and-left (p x.target) (stays_in p row) e))

@@ -12,11 +12,11 @@ use mdp_num::Memory;
 use mdp_rows::{Marks, Model, RowsOf};
 use std::alloc::{AllocError, Global};
 
-/// All of so many states.
-pub(crate) fn all_states(alloc: Global, states: u32) -> Result<Marks, AllocError>
-    ensures { IfOk result (λ marks. marks ≡ replicate states true) }
+/// One `true` for each of so many.
+pub(crate) fn all_true(alloc: Global, count: u32) -> Result<Marks, AllocError>
+    ensures { IfOk result (λ marks. marks ≡ replicate count true) }
 {
-    Ok(Marks::from_values(vec![in alloc; true; states as usize]?))
+    Ok(Marks::from_values(vec![in alloc; true; count as usize]?))
 }
 
 /// The states from which a target can be reached without taking a choice of a blocked state. Targets have rank 0, also where they are blocked.
@@ -34,7 +34,7 @@ pub fn may_reach(
     ensures choices { IfOk result (λ pass. AreLeast model.now target.now pass.marks (falls model.now pass.marks pass.ranks.items) pass.choices.items) }
 {
     model.known();
-    let inside = all_states(alloc, model.states())?;
+    let inside = all_true(alloc, model.states())?;
     let edges = Edges::of_model(alloc, model, &inside, blocked)?;
     let ranks = ranks_by(alloc, &edges, target, model.states())?;
     Ok(Pass {

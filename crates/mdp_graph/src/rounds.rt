@@ -5,7 +5,7 @@ ghost use Rattle.mdp_graph.specs.Noted.{noted};
 ghost use Rattle.mdp_graph.specs.Rounds.{AreRounds};
 
 use crate::pass::{marks_by, no_choices};
-use crate::reach::all_states;
+use crate::reach::all_true;
 use crate::sure::{count_ranked, ranks_inside};
 use mdp_num::Memory;
 use mdp_rows::{Marks, Model};
@@ -32,7 +32,7 @@ pub fn rounds_outside(alloc: Global, model: &Model, goals: &Marks) -> Result<Vec
 {
     model.known();
     let mut rounds = no_choices(alloc, model.states() as usize)?;
-    let mut inside = all_states(alloc, model.states())?;
+    let mut inside = all_true(alloc, model.states())?;
     let mut left = model.states() as usize;
     let mut ranks = ranks_inside(alloc, model, &inside, goals)?;
     let mut round = 0;
