@@ -22,6 +22,7 @@ use Rattle.mdp_rows.specs.declared.model.Model.TheInside.{Inside as ModelInside}
 use Rattle.mdp_rows.proofs.DraftFacts.{same_draft, closed_in, closed_len, closed_is}
 use Rattle.mdp_rows.proofs.GivenRows.{none_marked}
 use Rattle.mdp_rows.proofs.Growth.{one_place}
+use Rattle.mdp_rows.proofs.SoundSteps.{ok_same}
 
 -- ---- what is closed after a step
 
@@ -29,12 +30,6 @@ after_row : (d n : Draft) (o : OpenState) (c : OpenChoice) (r : Result (List Ent
 after_row d n o c (Ok k) e =
     subst (λ (x : Draft). IsChoiceClosed x.state) (let s : (let x : Draft = record d { state = Some (record o { choices = o.choices ++ record { row = k; rewards = c.rewards } ∷ []; choice = None }) } in x) ≡ n = cc in s) refl
 after_row d n o c (Err x) e = absurd cc
-
-abbrev pub done : {A : Type 0} → A → Result A RowsError
-done x = Ok x
-
-pub ok_same : {A : Type 0} → (d n : A) → done d ≡ Ok n → d ≡ n
-ok_same d n e = cc
 
 closed_cases : (d n : Draft) (o : OpenState) (r : Option OpenChoice) → d.state ≡ Some o → o.choice ≡ r → with_choice_closed d o r ≡ Ok n → IsChoiceClosed n.state
 closed_cases d n o None s e h = subst (λ (x : Draft). IsChoiceClosed x.state) (ok_same d n h) (rw s e)

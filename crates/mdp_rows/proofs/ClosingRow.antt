@@ -1,13 +1,16 @@
 -- The open row while it closes: sorted, and then with the values that it closes with.
-use Rattle.std.proofs.Common.{◌≡◌, ℕ, ◌<◌, Bool, false, not, ◌&&◌, IsTrue, List, [], get_or, length, sym, ap, subst, ◌∙◌}
-use Rattle.std.specs.Prelude.{Result}
+use Rattle.std.proofs.Common.{◌≡◌, ℕ, ◌<◌, Bool, false, not, ◌&&◌, IsTrue, List, [], ◌∷◌, get_or, length, sym, ap, subst, ◌∙◌}
+use Rattle.std.specs.Prelude.{Result, Ok}
 use Rattle.std.specs.Global.{Vec}
 use Rattle.std.specs.Vec.{with_items}
-use Rattle.std.specs.List.{All}
+use Rattle.std.specs.List.{All, AllByRecursion}
 use Rattle.std.proofs.lemmas.List.{length-map}
+use Rattle.std.proofs.lemmas.List.Elements.{All-from_recursion}
 use Rattle.std.proofs.lemmas.List.Sorted.{All-permutation, length_permutation}
+use Rattle.mdp_math.specs.Rational.{◌≤ℚ◌}
+use Rattle.mdp_math.proofs.Order.{0ℚ}
 use Rattle.mdp_spec.specs.Mdp.{Entry}
-use Rattle.mdp_spec.specs.Row.{ascends_from}
+use Rattle.mdp_spec.specs.Row.{ascends_from, IsDistribution}
 use Rattle.mdp_rows.specs.Draft.{has_target, closed_row}
 use Rattle.mdp_rows.specs.FlatDraft.{IsDraft}
 use Rattle.mdp_rows.specs.Given.{row_of, entry_of}
@@ -20,6 +23,7 @@ use Rattle.mdp_rows.specs.declared.rule.RowRule.{RowRule}
 use Rattle.mdp_rows.proofs.DraftFacts.{items_are, is_with_values}
 use Rattle.mdp_rows.proofs.GivenRows.{in_its_place, cleared}
 use Rattle.mdp_rows.proofs.InOrder.{in_order-permutes, in_order-has}
+use Rattle.mdp_rows.proofs.SoundRows.{AreValues, closed_row-sound}
 use Rattle.mdp_rows.proofs.Targets.{targets, same_length, same_ascending, same_range, same_has}
 
 -- the open row was sorted, and then its values may have changed
@@ -75,3 +79,20 @@ pub unmarked : (b : Inside) (sorted row there : List Given) (marks : List Bool) 
 unmarked b sorted row there marks ok h is as_many each =
     cleared b.announced (row_of b.row.items) b.targets ok.row (row_of row) marks (closing_has b sorted row ok h)
     (record { as_many = as_many; unmarked = λ t. each t ∙ ap (λ (r : List Given). get_or b.targets t false && not (has_target (row_of r) t)) is })
+
+-- what it closes as is a distribution
+values_nonnegative : (row : List Given) → AllByRecursion (λ x. 0ℚ ≤ℚ x.prob) (row_of row)
+values_nonnegative [] = tt
+values_nonnegative (g ∷ row) = (g.term.nonnegative, values_nonnegative row)
+
+are_values : (b : Inside) → IsDraft b → AreValues b.announced (in_order (row_of b.row.items))
+are_values b ok =
+    let p = in_order-permutes (row_of b.row.items) in
+    record {
+      ascending = ok.row.ascending;
+      in_range = All-permutation (λ x. x.target < b.announced) (row_of b.row.items) (in_order (row_of b.row.items)) p ok.row.in_range;
+      nonnegative = All-permutation (λ x. 0ℚ ≤ℚ x.prob) (row_of b.row.items) (in_order (row_of b.row.items)) p (All-from_recursion (λ x. 0ℚ ≤ℚ x.prob) (row_of b.row.items) (values_nonnegative b.row.items));
+    }
+
+pub closing_distribution : (b : Inside) (rule : RowRule) (s c : ℕ) (k : List Entry) → IsDraft b → closed_row rule s c (in_order (row_of b.row.items)) ≡ Ok k → IsDistribution k
+closing_distribution b rule s c k ok e = let f = closed_row-sound rule s c b.announced (in_order (row_of b.row.items)) k (are_values b ok) e in f.is_row.distribution

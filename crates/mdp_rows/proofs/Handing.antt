@@ -75,11 +75,6 @@ entry_at (t' ∷ ts) (p' ∷ ps) (suc i) t p e h =
     entry_at ts ps i t p (omega arith) (omega arith)
     ∙ ap (λ (k : ℕ). let x : Entry = record { target = get_or ts i t; prob = get_or ps i p } in x ∷ drop k (entries (t' ∷ ts) (p' ∷ ps))) (let n : suc (i + 1) ≡ suc i + 1 = omega arith in n)
 
-pub length-entries : (ts : List ℕ) (ps : List ℚ) → length ts ≡ length ps → length (entries ts ps) ≡ length ts
-length-entries [] ps e = refl
-length-entries (t ∷ ts) [] e = absurd (omega arith)
-length-entries (t ∷ ts) (p ∷ ps) e = let h = length-entries ts ps (omega arith) in omega (arith, h)
-
 pub prob_at : (ts : List ℕ) (ps : List ℚ) (i : ℕ) (p : ℚ) → length ts ≡ length ps → i < length ts → AllByRecursion (λ x. IsWithinLimit x.prob) (entries ts ps) → IsWithinLimit (get_or ps i p)
 prob_at [] ps i p e h all = absurd (omega arith)
 prob_at (t' ∷ ts) [] i p e h all = absurd (omega arith)

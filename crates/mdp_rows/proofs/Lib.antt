@@ -4,7 +4,6 @@ mod ClosingRow
 mod Closings
 mod CutFacts
 mod Denominators
-mod Distributions
 mod DraftFacts
 mod EntryFacts
 mod Examples

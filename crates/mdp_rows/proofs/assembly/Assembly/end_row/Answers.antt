@@ -5,10 +5,7 @@ use Rattle.mdp_rows.specs.ChoiceTable.{ChoiceTable}
 use Rattle.mdp_rows.specs.FlatDraft.{IsDraft}
 use Rattle.mdp_rows.specs.Draft.{kept}
 use Rattle.mdp_rows.specs.Given.{row_of}
-use Rattle.mdp_rows.specs.GivenRow.{in_order}
-use Rattle.mdp_rows.proofs.Closings.{closed_total}
-use Rattle.mdp_rows.proofs.ClosingRow.{is_closing, closes_as, closing_len, closing_items, closing_ascends, closing_row, is_with_closing, unmarked}
-use Rattle.mdp_rows.proofs.Distributions.{distribution_kept}
+use Rattle.mdp_rows.proofs.ClosingRow.{is_closing, closes_as, closing_len, closing_items, closing_distribution, closing_row, is_with_closing, unmarked}
 use Rattle.mdp_rows.proofs.DraftFacts.{nothing_to_close, row_refused, row_kept, is_with_row}
 use Rattle.mdp_rows.proofs.Outcomes.{at_ok, at_err}
 use Rattle.mdp_rows.proofs.assembly.Assembly.end_row.Goals as goal
@@ -34,9 +31,8 @@ pub push-requires-clause-distribution : goal.push-requires-clause-distribution
 push-requires-clause-distribution c =
     let h = is_closing c.self.inside c.sort_row.new.row c.close_row.new.row _ _ c.deref_mut.ensures.value c.sort_row.ensures c.deref_mut-2.ensures.value c.close_row.ensures.targets in
     rw (c.deref.ensures.value ∙ closing_items c.self.inside _ _ c.self.invariant h)
-    (distribution_kept c.close_row.new.row (closing_ascends c.self.inside _ _ c.self.invariant h)
-    (closed_total c.self.inside.rule _ _ (in_order (row_of c.self.inside.row.items)) (kept (row_of c.close_row.new.row))
-    (closes_as c.self.inside c.sort_row.new.row c.close_row.new.row _ _ c.deref_mut.ensures.value c.sort_row.ensures c.deref_mut-2.ensures.value c.self.inside.rule _ _ _ (c.in_ok-close_row.ensures {u = tt}).closed)))
+    (closing_distribution c.self.inside c.self.inside.rule _ _ (kept (row_of c.close_row.new.row)) c.self.invariant
+    (closes_as c.self.inside c.sort_row.new.row c.close_row.new.row _ _ c.deref_mut.ensures.value c.sort_row.ensures c.deref_mut-2.ensures.value c.self.inside.rule _ _ _ (c.in_ok-close_row.ensures {u = tt}).closed))
 
 pub invariant_of-self-then-is_err : goal.invariant_of-self-then-is_err
 invariant_of-self-then-is_err c =
