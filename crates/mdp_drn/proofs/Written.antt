@@ -1,11 +1,10 @@
 -- The text of a model reads as that model, where handing the model to a builder gives it back.
-use Rattle.std.proofs.Common.{◌≡◌, ℕ, ◌≤◌, Bool, true, false, cond, eqb, eq-eqb, List, ◌++◌, length, sum_by, refl, sym, ap, ap₂, ◌∙◌, arith, Some, Ok, Err}
+use Rattle.std.proofs.Common.{◌≡◌, ℕ, ◌≤◌, true, eqb, eq-eqb, List, ◌++◌, length, sum_by, refl, sym, ap, ap₂, ◌∙◌, arith, Some, Ok}
 use Rattle.mdp_num.specs.Numeral.{limit}
 use Rattle.mdp_spec.specs.Mdp.{State, Mdp, states_of}
 use Rattle.mdp_rows.specs.Draft.{Draft, new_draft, all_closed, finished, after_finish}
 use Rattle.mdp_rows.specs.Limits.{IsModel}
 use Rattle.mdp_rows.specs.Replay.{with_states, replayed, IsReplayed}
-use Rattle.mdp_rows.specs.declared.error.RowsError.TheVariants.{Count}
 use Rattle.mdp_rows.specs.declared.rule.RowRule.TheVariants.{Exact}
 use Rattle.mdp_drn.specs.Lines.{lines_of}
 use Rattle.mdp_drn.specs.Outcome.{◌>>=◌}

@@ -1,5 +1,5 @@
 use crate::DrnKind::{Large, Number};
-use crate::tests::is_refused;
+use crate::tests::first_other;
 use crate::{read, write};
 use mdp_rows::RowRule;
 use std::alloc::Global;
@@ -30,7 +30,10 @@ fn reads_layouts(rt: HostRuntime) -> Result<(), Fail> {
         "@type:MDP\r\n@value_type: rational\r\n@parameters\r\n\r\n@reward_models\r\n\r\n@nr_states\r\n3\r\n@nr_choices\r\n4\r\n@model\r\nstate 0 init\r\naction a\r\n0 : 1\r\naction b\r\n1 : 1/3\r\n2 : 2/3\r\nstate 1 goal\r\naction a\r\n1 : 1\r\nstate 2\r\naction a\r\n2 : 1\r\n",
         "// by hand\n\n@nr_choices\n\n4\n\n@reward_models\n@parameters\n@nr_states\n// three\n3\n\n@type:\tMDP\n@model\n\n// the coin\nstate 0 init\n// stay\n\n\taction a b\n\t\t0\t:\t1\n  action [0]\n2:2/3\n1:1/3\nstate\t1\tgoal goal\naction\n0 : 0\n1 : 1\nstate 2\naction []\n2 : 1.0\n//",
     ] {
-        assert_eq!(rt; rewritten(rt.alloc(), text, RowRule::Exact)?.as_slice(), COIN.as_bytes());
+        assert_eq!(rt;
+            rewritten(rt.alloc(), text, RowRule::Exact)?.as_slice(),
+            COIN.as_bytes()
+        );
     }
     Ok(())
 }
@@ -44,7 +47,10 @@ fn reads_rewards_and_labels(rt: HostRuntime) -> Result<(), Fail> {
         "@type: MDP\n@reward_models\n steps\ttime \n@nr_states\n2\n@model\nstate 0[1,1/2]init \"is done\"\naction [1/2,0]\n0:1/2\n1:1/2\naction []\n1:1\nstate 1[]\naction x[]\n1:1\n",
         "@type: MDP\n@reward_models\nsteps time\n@nr_states\n2\n@model\nstate 0 [ 1\t, 5e-1 ] \"init\"  \"is done\" init\naction [x] [ 0.50 , 0 ]\n1 : 0.5\n0 : 2/4\naction [ ]\n1 : 1\nstate 1 [0, 0]\naction [0,0]\n1 : 1\n",
     ] {
-        assert_eq!(rt; rewritten(rt.alloc(), text, RowRule::Exact)?.as_slice(), STEPS.as_bytes());
+        assert_eq!(rt;
+            rewritten(rt.alloc(), text, RowRule::Exact)?.as_slice(),
+            STEPS.as_bytes()
+        );
     }
     Ok(())
 }
@@ -54,7 +60,10 @@ fn reads_rewards_and_labels(rt: HostRuntime) -> Result<(), Fail> {
 fn scales_rows(rt: HostRuntime) -> Result<(), Fail> {
     let text =
         "@type: MDP\n@nr_states\n3\n@model\nstate 0 init\naction\n0 : 1\naction\n1 : 0.3333\n2 : 0.6666\nstate 1 goal\naction\n1 : 1.001\nstate 2\naction\n2 : 0.999\n";
-    assert_eq!(rt; rewritten(rt.alloc(), text, RowRule::Scaled)?.as_slice(), COIN.as_bytes());
+    assert_eq!(rt;
+        rewritten(rt.alloc(), text, RowRule::Scaled)?.as_slice(),
+        COIN.as_bytes()
+    );
     Ok(())
 }
 
@@ -68,19 +77,36 @@ fn reads_numerals(rt: HostRuntime) -> Result<(), Fail> {
         ("12E+1", "120"),
         ("007/14", "1/2"),
         ("0.333333", "333333/1000000"),
-        ("1000000000000000000000000000000000000", "1000000000000000000000000000000000000"),
+        (
+            "1000000000000000000000000000000000000",
+            "1000000000000000000000000000000000000",
+        ),
         ("1e36", "1000000000000000000000000000000000000"),
-        ("1/1000000000000000000000000000000000000", "1/1000000000000000000000000000000000000"),
-        ("1000000000000000000000000000000000000/1000000000000000000000000000000000000", "1"),
-        ("0.000000000000000000000000000000000001", "1/1000000000000000000000000000000000000"),
-        ("0.0000000000000000000000000000000000010", "1/1000000000000000000000000000000000000"),
+        (
+            "1/1000000000000000000000000000000000000",
+            "1/1000000000000000000000000000000000000",
+        ),
+        (
+            "1000000000000000000000000000000000000/1000000000000000000000000000000000000",
+            "1",
+        ),
+        (
+            "0.000000000000000000000000000000000001",
+            "1/1000000000000000000000000000000000000",
+        ),
+        (
+            "0.0000000000000000000000000000000000010",
+            "1/1000000000000000000000000000000000000",
+        ),
         ("1e-36", "1/1000000000000000000000000000000000000"),
         ("0e37", "0"),
     ] {
-        let text =
-            format!(in rt.alloc(); "@type: MDP\n@nr_states\n1\n@model\nstate 0\naction [{numeral}]\n0 : 1\n")?;
-        let wanted =
-            format!(in rt.alloc(); "@type: MDP\n@parameters\n\n@reward_models\n\n@nr_states\n1\n@nr_choices\n1\n@model\nstate 0 [0]\n\taction 0 [{value}]\n\t\t0 : 1\n")?;
+        let text = format!(in rt.alloc();
+            "@type: MDP\n@nr_states\n1\n@model\nstate 0\naction [{numeral}]\n0 : 1\n"
+        )?;
+        let wanted = format!(in rt.alloc();
+            "@type: MDP\n@parameters\n\n@reward_models\n\n@nr_states\n1\n@nr_choices\n1\n@model\nstate 0 [0]\n\taction 0 [{value}]\n\t\t0 : 1\n"
+        )?;
         assert_eq!(rt;
             rewritten(rt.alloc(), &text, RowRule::Exact)?.as_slice(),
             wanted.as_bytes(),
@@ -92,27 +118,29 @@ fn reads_numerals(rt: HostRuntime) -> Result<(), Fail> {
 
 #[test]
 fn refuses_numerals(rt: HostRuntime) -> Result<(), Fail> {
-    for (numeral, kind) in [
-        (".5", Number),
-        ("5.", Number),
-        ("1 /2", Number),
-        ("1e", Number),
-        ("+1", Number),
-        ("1/0", Number),
-        ("1000000000000000000000000000000000001", Large),
-        ("1e37", Large),
-        ("10e36", Large),
-        ("1/1000000000000000000000000000000000001", Large),
-        ("1000000000000000000000000000000000001/1000000000000000000000000000000000001", Large),
-        ("0.0000000000000000000000000000000000001", Large),
-        ("1e-37", Large),
-    ] {
-        let text =
-            format!(in rt.alloc(); "@type: MDP\n@nr_states\n1\n@model\nstate 0\naction [{numeral}]\n")?;
-        assert!(rt;
-            is_refused(rt.alloc(), text.as_bytes(), RowRule::Exact, 6, kind),
-            "{numeral}"
-        );
-    }
+    let front = "@type: MDP\n@nr_states\n1\n@model\nstate 0\naction [";
+    let rows = [
+        (".5]\n", 6, Number),
+        ("5.]\n", 6, Number),
+        ("1 /2]\n", 6, Number),
+        ("1e]\n", 6, Number),
+        ("+1]\n", 6, Number),
+        ("1/0]\n", 6, Number),
+        ("1000000000000000000000000000000000001]\n", 6, Large),
+        ("1e37]\n", 6, Large),
+        ("10e36]\n", 6, Large),
+        ("1/1000000000000000000000000000000000001]\n", 6, Large),
+        (
+            "1000000000000000000000000000000000001/1000000000000000000000000000000000001]\n",
+            6,
+            Large,
+        ),
+        ("0.0000000000000000000000000000000000001]\n", 6, Large),
+        ("1e-37]\n", 6, Large),
+    ];
+    assert_eq!(rt;
+        first_other(rt.alloc(), RowRule::Exact, front, &rows)?,
+        None
+    );
     Ok(())
 }

@@ -1,7 +1,7 @@
 use crate::DrnKind::{Count, End, Header, Label, LongLine, NoChoice, TooMany};
 use crate::push::push_number;
 use crate::read;
-use crate::tests::is_refused;
+use crate::tests::{first_other, is_refused};
 use mdp_rows::RowRule;
 use std::alloc::{AllocError, Global};
 use std::test::Fail;
@@ -33,28 +33,35 @@ fn refuses_past_its_limits(rt: HostRuntime) -> Result<(), Fail> {
         (state, " a", 65, 5, TooMany),
     ] {
         let whole = repeated(alloc, front, text, times)?;
-        assert!(rt; is_refused(alloc, &whole, RowRule::Exact, line, kind), "{line} {kind} {times}");
+        assert!(rt;
+            is_refused(alloc, &whole, RowRule::Exact, line, kind),
+            "{line} {kind} {times}"
+        );
     }
     Ok(())
 }
 
 #[test]
 fn refuses_too_many(rt: HostRuntime) -> Result<(), Fail> {
-    for (text, line, kind) in [
+    let rows = [
         ("@reward_models\na b c d e f g h i j k l m n o p\n", 3, End),
-        ("@reward_models\na b c d e f g h i j k l m n o p q\n", 2, TooMany),
+        (
+            "@reward_models\na b c d e f g h i j k l m n o p q\n",
+            2,
+            TooMany,
+        ),
         ("@nr_states\n1048576\n", 3, End),
         ("@nr_states\n1048577\n", 2, TooMany),
         ("@nr_states\n4294967297\n", 2, TooMany),
         ("@nr_choices\n4194304\n", 3, End),
         ("@nr_choices\n4194305\n", 2, TooMany),
-        ("@type: MDP\n@nr_states\n1\n@nr_choices\n2\n@model\nstate 0\naction\n0 : 1\n", 10, Count),
-    ] {
-        assert!(rt;
-            is_refused(rt.alloc(), text.as_bytes(), RowRule::Exact, line, kind),
-            "{text}"
-        );
-    }
+        (
+            "@type: MDP\n@nr_states\n1\n@nr_choices\n2\n@model\nstate 0\naction\n0 : 1\n",
+            10,
+            Count,
+        ),
+    ];
+    assert_eq!(rt; first_other(rt.alloc(), RowRule::Exact, "", &rows)?, None);
     Ok(())
 }
 

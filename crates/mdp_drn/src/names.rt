@@ -2,8 +2,8 @@ ghost use Rattle.std.specs.Prelude.{◌≡◌, ◌<◌, ◌==◌, ◌||◌, not,
 ghost use Rattle.std.specs.List.{list_any};
 ghost use Rattle.std.specs.Str.{bytes_eq};
 ghost use Rattle.mdp_rows.specs.Name.{are_different};
-ghost use Rattle.mdp_drn.specs.Header.{is_bad_name, names_in, words_of};
-ghost use Rattle.mdp_drn.specs.Parsing.{Says, is_bad_byte};
+ghost use Rattle.mdp_drn.specs.Header.{is_bad_byte, is_bad_name, names_in, words_of};
+ghost use Rattle.mdp_drn.specs.Parsing.{Says};
 
 use crate::error::DrnKind;
 use crate::line::is_blank;

@@ -1,4 +1,4 @@
-ghost use Rattle.std.specs.Prelude.{◌≡◌, ◌<◌, ◌++◌, [], ◌∷◌, length, take, codes, OnOk};
+ghost use Rattle.std.specs.Prelude.{◌≡◌, ◌<◌, ◌++◌, length, take, codes, OnOk};
 ghost use Rattle.mdp_spec.specs.Mdp.{states_of, state_at};
 ghost use Rattle.mdp_drn.specs.Writing.{joined, bracket_text, label_text, labels_text, states_text};
 ghost use Rattle.mdp_drn.specs.Pieces.{separator_text, zeros_of, state_line_text, state_text};
@@ -10,7 +10,7 @@ use std::alloc::AllocError;
 
 /// Appends the reward 0 of place `m`, behind a comma and a blank unless it is the first.
 fn push_zero(m: u32, out: &mut Vec<u8>) -> Result<(), AllocError>
-    ensures text { OnOk result (out.new.items ≡ out.old.items ++ (separator_text (codes ", ") m ++ 48 ∷ [])) }
+    ensures text { OnOk result (out.new.items ≡ out.old.items ++ (separator_text (codes ", ") m ++ codes "0")) }
     ensures front { take (length out.old.items) out.new.items ≡ out.old.items }
 {
     push_separator(m, b", ", out)?;

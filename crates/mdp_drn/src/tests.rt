@@ -20,6 +20,9 @@ const TOO_MANY_STATES: &str =
 /// A header of two states, in 4 lines.
 const TWO_STATES: &str = "@type: MDP\n@nr_states\n2\n@model\n";
 
+/// The same, and a state with a choice behind it, in 6 lines.
+const FIRST_CHOICE: &str = "@type: MDP\n@nr_states\n2\n@model\nstate 0\naction\n";
+
 /// Whether the text is refused with this kind at this line.
 pub(crate) fn is_refused(
     alloc: Global,
@@ -34,22 +37,26 @@ pub(crate) fn is_refused(
     }
 }
 
-/// Whether the text behind the header of two states is refused with this kind at this line.
-fn is_refused_behind(
+/// The first of these texts that, behind the front, isn't refused with its kind at its line.
+pub(crate) fn first_other<'a>(
     alloc: Global,
-    text: &str,
     rule: RowRule,
-    line: u64,
-    kind: DrnKind,
-) -> Result<bool, AllocError> {
-    let mut whole = Vec::from_slice(alloc, TWO_STATES.as_bytes())?;
-    whole.extend_from_slice(text.as_bytes())?;
-    Ok(is_refused(alloc, &whole, rule, line, kind))
+    front: &str,
+    rows: &[(&'a str, u64, DrnKind)],
+) -> Result<Option<&'a str>, AllocError> {
+    for (text, line, kind) in rows {
+        let mut whole = Vec::from_slice(alloc, front.as_bytes())?;
+        whole.extend_from_slice(text.as_bytes())?;
+        if !is_refused(alloc, &whole, rule, *line, *kind) {
+            return Ok(Some(*text));
+        }
+    }
+    Ok(None)
 }
 
 #[test]
 fn refuses_headers(rt: HostRuntime) -> Result<(), Fail> {
-    for (text, line, kind) in [
+    let rows = [
         ("", 1, End),
         ("@type: MDP\n", 2, End),
         ("@type: MDP\n@nr_states\n1", 4, End),
@@ -68,23 +75,23 @@ fn refuses_headers(rt: HostRuntime) -> Result<(), Fail> {
         ("@nr_states\nx\n", 2, Number),
         ("@nr_states\n3x\n", 2, Number),
         ("@nr_states\n0\n", 2, Count),
-    ] {
-        assert!(rt;
-            is_refused(rt.alloc(), text.as_bytes(), RowRule::Exact, line, kind),
-            "{text}"
-        );
-    }
+    ];
+    assert_eq!(rt; first_other(rt.alloc(), RowRule::Exact, "", &rows)?, None);
     Ok(())
 }
 
 #[test]
 fn refuses_states(rt: HostRuntime) -> Result<(), Fail> {
-    for (text, line, kind) in [
+    let rows = [
         ("state 0x\n", 5, Shape),
         ("state 1\n", 5, Order),
         ("state 0\naction\n0 : 1\nstate 0\n", 8, Order),
         ("state 4294967296\n", 5, Order),
-        ("state 0\naction\n0:1\nstate 1\naction\n1:1\nstate 2\n", 11, Count),
+        (
+            "state 0\naction\n0:1\nstate 1\naction\n1:1\nstate 2\n",
+            11,
+            Count,
+        ),
         ("state 0\naction\n0 : 1\n", 8, Count),
         ("state 0 !1\n", 5, Type),
         ("state 0{1}\n", 5, Type),
@@ -97,19 +104,18 @@ fn refuses_states(rt: HostRuntime) -> Result<(), Fail> {
         ("state 0 \"\"\n", 5, Label),
         ("state 0\nstate 0\n", 5, NoChoice),
         ("state 0\n// last\n", 5, NoChoice),
-    ] {
-        assert!(rt;
-            is_refused_behind(rt.alloc(), text, RowRule::Exact, line, kind)?,
-            "{text}"
-        );
-    }
+    ];
+    assert_eq!(rt;
+        first_other(rt.alloc(), RowRule::Exact, TWO_STATES, &rows)?,
+        None
+    );
     Ok(())
 }
 
 /// A target, a value or a row that is taken shows by the state that is missing at the end.
 #[test]
 fn refuses_choices(rt: HostRuntime) -> Result<(), Fail> {
-    for (text, line, kind) in [
+    let rows = [
         ("action\n", 5, Shape),
         ("0 : 1\n", 5, Shape),
         ("state 0\naction 1]\n", 6, Shape),
@@ -130,48 +136,60 @@ fn refuses_choices(rt: HostRuntime) -> Result<(), Fail> {
         ("state 0\naction\n0 : 0\n0 : 1\n", 8, Twice),
         ("state 0\naction\n0 : 1\n0 : x\n", 8, Twice),
         ("state 0\naction\n0 : 1\naction\n0 : 1\n", 10, Count),
-    ] {
-        assert!(rt;
-            is_refused_behind(rt.alloc(), text, RowRule::Exact, line, kind)?,
-            "{text}"
-        );
-    }
+    ];
+    assert_eq!(rt;
+        first_other(rt.alloc(), RowRule::Exact, TWO_STATES, &rows)?,
+        None
+    );
     Ok(())
 }
 
 #[test]
 fn refuses_rows(rt: HostRuntime) -> Result<(), Fail> {
-    let (exact, scaled) = (RowRule::Exact, RowRule::Scaled);
-    for (text, rule, line, kind) in [
-        ("0 : 1/2\nstate 1x\n", exact, 6, RowSum),
-        ("action\n", exact, 6, RowSum),
-        ("0 : 0.999999999999999999999999999999999999\n", exact, 6, RowSum),
-        ("0 : 0.9989\n", scaled, 6, RowSum),
-        ("0 : 0.999\n", scaled, 8, Count),
-        ("0 : 1.001\n", scaled, 8, Count),
-        ("0 : 1.0011\n", scaled, 6, RowSum),
+    let rows = [
+        ("0 : 1/2\nstate 1x\n", 6, RowSum),
+        ("action\n", 6, RowSum),
+        ("0 : 0.999999999999999999999999999999999999\n", 6, RowSum),
         (
             "0 : 1/1000000000000000000000000000000000000\n1 : 1/3\naction\n",
-            exact,
             6,
             RowWide,
         ),
         (
             "0 : 1/999999999999999999999999999999999999\n1 : 1/1000000000000000000000000000000000000\n",
-            scaled,
             6,
             RowWide,
         ),
         (
             "0 : 999999999999999999999999999999999999/1000000000000000000000000000000000000\n1 : 1e-36\n",
-            exact,
             9,
             Count,
         ),
-    ] {
-        let row = format!(in rt.alloc(); "state 0\naction\n{text}")?;
-        assert!(rt; is_refused_behind(rt.alloc(), &row, rule, line, kind)?, "{text}");
-    }
+    ];
+    assert_eq!(rt;
+        first_other(rt.alloc(), RowRule::Exact, FIRST_CHOICE, &rows)?,
+        None
+    );
+    Ok(())
+}
+
+#[test]
+fn refuses_rows_to_be_scaled(rt: HostRuntime) -> Result<(), Fail> {
+    let rows = [
+        ("0 : 0.9989\n", 6, RowSum),
+        ("0 : 0.999\n", 8, Count),
+        ("0 : 1.001\n", 8, Count),
+        ("0 : 1.0011\n", 6, RowSum),
+        (
+            "0 : 1/999999999999999999999999999999999999\n1 : 1/1000000000000000000000000000000000000\n",
+            6,
+            RowWide,
+        ),
+    ];
+    assert_eq!(rt;
+        first_other(rt.alloc(), RowRule::Scaled, FIRST_CHOICE, &rows)?,
+        None
+    );
     Ok(())
 }
 
@@ -235,6 +253,9 @@ fn states_from(alloc: Global, fails: &[u64], limit: u32) -> Result<u32, FromErro
 fn reads_from_a_source(rt: HostRuntime) -> Result<(), Fail> {
     assert_eq!(rt; states_from(rt.alloc(), &[], 178), Ok(3));
     assert_eq!(rt; states_from(rt.alloc(), &[], 177), Err(FromError::Long));
-    assert_eq!(rt; states_from(rt.alloc(), &[5], 178), Err(FromError::ReadFault));
+    assert_eq!(rt;
+        states_from(rt.alloc(), &[5], 178),
+        Err(FromError::ReadFault)
+    );
     Ok(())
 }
