@@ -11,6 +11,7 @@ mod NextMet
 mod PassLaws
 mod Passes
 mod PolicyLaws
+mod PolicyMeets
 mod PredLists
 mod RankFacts
 mod Reached

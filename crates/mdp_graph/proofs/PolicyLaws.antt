@@ -19,18 +19,18 @@ use Rattle.mdp_graph.proofs.Steps.{any-some, some-any, enters-at, enters-by, and
 
 -- ---- states that are reached
 
-step-reaches : (step : (ℕ → Bool) → ℕ → Bool) (first : ℕ → Bool) (k s : ℕ) → step (reached step first k) s ≡ true → reached step first (suc k) s ≡ true
+pub step-reaches : (step : (ℕ → Bool) → ℕ → Bool) (first : ℕ → Bool) (k s : ℕ) → step (reached step first k) s ≡ true → reached step first (suc k) s ≡ true
 unfolding reached
 step-reaches step first k s e = ap (λ b. reached step first k s || b) e ∙ or-right (reached step first k s)
 
-stays-reached : (step : (ℕ → Bool) → ℕ → Bool) (first : ℕ → Bool) (d k s : ℕ) → reached step first k s ≡ true → reached step first (d + k) s ≡ true
+pub stays-reached : (step : (ℕ → Bool) → ℕ → Bool) (first : ℕ → Bool) (d k s : ℕ) → reached step first k s ≡ true → reached step first (d + k) s ≡ true
 unfolding reached
 stays-reached step first zero k s e = let z : 0 + k ≡ k = omega arith in ap (λ i. reached step first i s) z ∙ e
 stays-reached step first (suc d) k s e =
     let z : suc d + k ≡ suc (d + k) = omega arith in
     ap (λ i. reached step first i s) z ∙ ap (λ b. b || step (reached step first (d + k)) s) (stays-reached step first d k s e)
 
-first-reached : (step : (ℕ → Bool) → ℕ → Bool) (first : ℕ → Bool) (k s : ℕ) → first s ≡ true → reached step first k s ≡ true
+pub first-reached : (step : (ℕ → Bool) → ℕ → Bool) (first : ℕ → Bool) (k s : ℕ) → first s ≡ true → reached step first k s ≡ true
 unfolding reached
 first-reached step first k s e = let z : k ≡ k + 0 = omega arith in ap (λ i. reached step first i s) z ∙ stays-reached step first k 0 s e
 
