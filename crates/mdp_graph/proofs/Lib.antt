@@ -15,9 +15,11 @@ mod PolicyMeets
 mod PredLists
 mod RankFacts
 mod Reached
+mod Reaching
 mod Releasing
 mod RoundLaws
 mod Rounding
 mod Settling
 mod Steps
 mod SureSome
+mod Truths

@@ -12,20 +12,17 @@ use Rattle.mdp_graph.specs.Layers.{reached, rank_at, at_most, AreRanks}
 use Rattle.mdp_graph.specs.Choices.{plain_rank, is_before}
 use Rattle.mdp_graph.specs.Ranking.{given, unranked, IsGiven}
 use Rattle.mdp_graph.specs.Meet.{must_step, is_ranked, AllFall}
-use Rattle.mdp_graph.proofs.Among.{case-bool, case-rank}
+use Rattle.mdp_graph.proofs.Among.{case-rank}
 use Rattle.mdp_graph.proofs.RankFacts.{started, some-same, cond_some}
-use Rattle.mdp_graph.proofs.Reached.{same-truth, rank_of, at_most-some}
+use Rattle.mdp_graph.proofs.Reached.{rank_of, at_most-some}
 use Rattle.mdp_graph.proofs.Passes.{same-enters, has_rank, mark-is, falls-is}
-use Rattle.mdp_graph.proofs.Steps.{and-left, and-right, enters-at, enters-by}
+use Rattle.mdp_graph.proofs.Steps.{enters-at, enters-by}
+use Rattle.mdp_graph.proofs.Truths.{case-bool, and-false, and-left, and-right, same-truth}
 
 -- tests that hold of each element
 pub all-true : {X : Type 0} (p : X → Bool) (xs : List X) (d : X) → ((i : ℕ) → i < length xs → p (get_or xs i d) ≡ true) → list_all p xs ≡ true
 all-true p [] d e = refl
 all-true p (x ∷ xs) d e = ap (λ b. b && list_all p xs) (e 0 (omega arith)) ∙ all-true p xs d (λ i h. e (suc i) (omega (arith, h)))
-
-and-false : (b : Bool) → (b && false) ≡ false
-and-false true = refl
-and-false false = refl
 
 pub all-false : {X : Type 0} (p : X → Bool) (xs : List X) (d : X) (i : ℕ) → i < length xs → p (get_or xs i d) ≡ false → list_all p xs ≡ false
 all-false p [] d i h e = absurd (omega arith)

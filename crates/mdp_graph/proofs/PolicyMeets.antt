@@ -1,5 +1,5 @@
 -- From a state outside the greatest avoiding set each policy can come to a goal.
-use Rattle.std.proofs.Common.{◌≡◌, inl, inr, ℕ, suc, zero, ◌+◌, ◌<◌, ◌≤◌, Bool, true, false, not, cond, List, length, get_or, refl, sym, ap, ◌∙◌, arith}
+use Rattle.std.proofs.Common.{◌≡◌, inl, inr, ℕ, suc, zero, ◌+◌, ◌<◌, ◌≤◌, Bool, true, false, not, cond, List, get_or, refl, sym, ap, ◌∙◌, arith}
 use Rattle.std.proofs.lemmas.Bool.{false≢true, cases_lt}
 use Rattle.mdp_spec.specs.Mdp.{Mdp, Choice, no_choice, states_of, choices_at, row_at}
 use Rattle.mdp_spec.specs.Row.{IsMdp}
@@ -8,10 +8,11 @@ use Rattle.mdp_graph.specs.Sets.{marked, can_enter, stays_in}
 use Rattle.mdp_graph.specs.Layers.{reached}
 use Rattle.mdp_graph.specs.Avoid.{IsAvoiding}
 use Rattle.mdp_graph.specs.Laws.{policy_step, RestMeets}
-use Rattle.mdp_graph.proofs.Among.{case-eq, case-bool}
+use Rattle.mdp_graph.proofs.Among.{case-eq}
 use Rattle.mdp_graph.proofs.Avoiding.{stays-outside}
-use Rattle.mdp_graph.proofs.PolicyLaws.{step-reaches, stays-reached, first-reached}
+use Rattle.mdp_graph.proofs.Reaching.{step-reaches, one-later, first-reached}
 use Rattle.mdp_graph.proofs.Steps.{some-any}
+use Rattle.mdp_graph.proofs.Truths.{case-bool, not-true}
 
 -- how many numbers below n are in a set
 count_below : (ℕ → Bool) → ℕ → ℕ
@@ -60,9 +61,6 @@ count-all p q (suc n) more low t h e =
           count-all p q n rest (omega (arith, low, k)) t (omega (arith, h, other)) e)
     ]
 
-one-later : (step : (ℕ → Bool) → ℕ → Bool) (first : ℕ → Bool) (k t : ℕ) → reached step first k t ≡ true → reached step first (suc k) t ≡ true
-one-later step first k t e = let z : suc k ≡ 1 + k = omega arith in ap (λ i. reached step first i t) z ∙ stays-reached step first 1 k t e
-
 -- after some number of steps no further state below n is reached
 ends : (step : (ℕ → Bool) → ℕ → Bool) (first : ℕ → Bool) (n d k : ℕ) → n ≤ count_below (reached step first k) n + d → (j : ℕ) × ((t : ℕ) → t < n → reached step first (suc j) t ≡ true → reached step first j t ≡ true)
 ends step first n zero k low =
@@ -72,10 +70,6 @@ ends step first n (suc d) k low = elim (cases_lt (count_below (reached step firs
   | inl more ↦ ends step first n d (suc k) (omega (arith, low, more))
   | inr same ↦ (k, count-all (reached step first k) (reached step first (suc k)) n (λ t h. one-later step first k t) (omega (arith, same)))
 ]
-
-not-true : (b : Bool) → not b ≡ true → b ≡ false
-not-true true e = absurd (false≢true e)
-not-true false e = refl
 
 -- the states that are not reached avoid the goals
 unreached_avoids : (m : Mdp) (goals : List Bool) (policy : List ℕ) → IsMdp m → IsPolicy m policy → (j : ℕ) → ((t : ℕ) → t < states_of m → reached (policy_step m policy) (marked goals) (suc j) t ≡ true → reached (policy_step m policy) (marked goals) j t ≡ true)

@@ -13,11 +13,9 @@ use Rattle.mdp_rows.specs.declared.preds.Pred.{Pred}
 use Rattle.mdp_graph.specs.Sets.{can_enter}
 use Rattle.mdp_graph.specs.Layers.{rank_at}
 use Rattle.mdp_graph.specs.Waiting.{waits, some_waits, count_waiting, all_wait, AreWaiting, is_one_of, AreWithin, AreReleased, AreMet, leading_to}
-use Rattle.mdp_graph.proofs.Among.{case-eq, or-right, among-append}
-use Rattle.mdp_graph.proofs.Passes.{and-none}
-use Rattle.mdp_graph.proofs.RankFacts.{or-false}
-use Rattle.mdp_graph.proofs.Reached.{same-truth}
-use Rattle.mdp_graph.proofs.Steps.{any-some, some-any, and-left, both}
+use Rattle.mdp_graph.proofs.Among.{case-eq, among-append}
+use Rattle.mdp_graph.proofs.Steps.{any-some, some-any}
+use Rattle.mdp_graph.proofs.Truths.{or-right, or-false, and-false, and-true, and-left, both, same-truth}
 
 -- ---- before the first release
 
@@ -137,10 +135,6 @@ module _ (lists : List (List Bool)) (counts : List ℕ) (s c : ℕ) (seen row : 
 
 -- ---- releases one after the other
 
-and-true : (b : Bool) → (b && true) ≡ b
-and-true true = refl
-and-true false = refl
-
 no-pairs : (b : Bool) → (b && not false) ≡ b
 no-pairs true = refl
 no-pairs false = refl
@@ -227,7 +221,7 @@ met_push old new x c ranks list more r last none e =
 
 pub met_skip : (old new : List (List Bool)) (x c : ℕ) (ranks : List (Option ℕ)) (list : List ℕ) → AreReleased old new (pair x c ∷ []) → (is_none (rank_at ranks x) && (some_waits old x && not (some_waits new x))) ≡ false → AreMet old new (pair x c ∷ []) ranks list list
 met_skip old new x c ranks list r not_met =
-    met_one old new x c ranks list list r (λ s. sym (ap (λ b. is_among s list || ((x == s) && b)) not_met ∙ ap (λ b. is_among s list || b) (and-none (x == s)) ∙ or-false (is_among s list)))
+    met_one old new x c ranks list list r (λ s. sym (ap (λ b. is_among s list || ((x == s) && b)) not_met ∙ ap (λ b. is_among s list || b) (and-false (x == s)) ∙ or-false (is_among s list)))
 
 -- ---- where the choices stand
 

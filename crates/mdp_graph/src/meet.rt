@@ -4,7 +4,7 @@ ghost use Rattle.mdp_graph.specs.Sets.{marked};
 ghost use Rattle.mdp_graph.specs.Layers.{AreRanks, AreReached, AreLeastRanks};
 ghost use Rattle.mdp_graph.specs.Meet.{must_step, AllFall};
 
-use crate::pass::{Pass, marks_by, no_choices, plain_ranks};
+use crate::pass::{Pass, marks_by, plain_ranks, zeros};
 use crate::ranking::{give_rank, marked_states, no_ranks};
 use crate::waiting::Waiting;
 use mdp_num::Memory;
@@ -53,6 +53,6 @@ pub fn must_meet(alloc: Global, model: &Model, target: &Marks) -> Result<Pass, M
     Ok(Pass {
         marks: marks_by(alloc, &ranks)?,
         ranks: plain_ranks(alloc, &ranks)?,
-        choices: no_choices(alloc, model.states() as usize)?,
+        choices: zeros(alloc, model.states() as usize)?,
     })
 }
