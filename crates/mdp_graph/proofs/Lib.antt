@@ -1,5 +1,6 @@
 mod Among
 mod Avoiding
+mod ByTest
 mod Dropping
 mod EdgeFacts
 mod Examples
