@@ -10,7 +10,7 @@ use Rattle.mdp_rows.specs.Preds.{leads_to}
 use Rattle.mdp_graph.specs.Sets.{marked, can_enter, stays_in}
 use Rattle.mdp_graph.specs.Layers.{reached, rank_at, at_most, AreRanks}
 use Rattle.mdp_graph.specs.Choices.{IsFirst, AreLeast}
-use Rattle.mdp_graph.specs.Meet.{must_step, is_ranked}
+use Rattle.mdp_graph.specs.Meet.{must_step}
 use Rattle.mdp_graph.specs.Avoid.{IsAvoiding, IsGreatestAvoiding, keeps}
 use Rattle.mdp_graph.proofs.Among.{case-eq, case-rank}
 use Rattle.mdp_graph.proofs.EdgeFacts.{all-as-stays}
@@ -18,7 +18,7 @@ use Rattle.mdp_graph.proofs.Falls.{case-any}
 use Rattle.mdp_graph.proofs.RankFacts.{some-same}
 use Rattle.mdp_graph.proofs.Reached.{at_most-some}
 use Rattle.mdp_graph.proofs.Steps.{any-some, some-any, enters-at}
-use Rattle.mdp_graph.proofs.Meeting.{each-true, must_respects, some_at_most}
+use Rattle.mdp_graph.proofs.Meeting.{is_ranked, each-true, must_respects, some_at_most}
 use Rattle.mdp_graph.proofs.Truths.{case-bool, and-false, and-left, and-right, both, or-left-false, or-right-is-false}
 
 -- the choice as the code tests it

@@ -9,10 +9,9 @@ use Rattle.mdp_graph.specs.Sets.{marked, can_enter, stays_in}
 use Rattle.mdp_graph.specs.Reach.{may_step}
 use Rattle.mdp_graph.specs.Sure.{inside_step}
 use Rattle.mdp_graph.specs.Layers.{reached, rank_at, at_most, AreRanks}
-use Rattle.mdp_graph.specs.Meet.{is_ranked}
 use Rattle.mdp_graph.specs.Ranking.{unranked}
 use Rattle.mdp_graph.proofs.Among.{case-eq}
-use Rattle.mdp_graph.proofs.Meeting.{Respects, IsMeeting, met_all}
+use Rattle.mdp_graph.proofs.Meeting.{is_ranked, Respects, IsMeeting, met_all}
 use Rattle.mdp_graph.proofs.Passes.{same-enters}
 use Rattle.mdp_graph.proofs.Truths.{and-left, and-right}
 

@@ -11,13 +11,17 @@ use Rattle.mdp_graph.specs.Sets.{marked, can_enter}
 use Rattle.mdp_graph.specs.Layers.{reached, rank_at, at_most, AreRanks}
 use Rattle.mdp_graph.specs.Choices.{plain_rank, is_before}
 use Rattle.mdp_graph.specs.Ranking.{given, unranked, IsGiven}
-use Rattle.mdp_graph.specs.Meet.{must_step, is_ranked, AllFall}
+use Rattle.mdp_graph.specs.Meet.{must_step, AllFall}
 use Rattle.mdp_graph.proofs.Among.{case-rank}
 use Rattle.mdp_graph.proofs.RankFacts.{started, some-same, cond_some}
 use Rattle.mdp_graph.proofs.Reached.{rank_of, at_most-some}
 use Rattle.mdp_graph.proofs.Passes.{same-enters, has_rank, mark-is, falls-is}
 use Rattle.mdp_graph.proofs.Steps.{enters-at, enters-by}
 use Rattle.mdp_graph.proofs.Truths.{case-bool, and-false, and-left, and-right, same-truth}
+
+-- the states that have a rank
+abbrev pub is_ranked : List (Option ℕ) → ℕ → Bool
+is_ranked ranks s = is_some (rank_at ranks s)
 
 -- tests that hold of each element
 pub all-true : {X : Type 0} (p : X → Bool) (xs : List X) (d : X) → ((i : ℕ) → i < length xs → p (get_or xs i d) ≡ true) → list_all p xs ≡ true

@@ -11,10 +11,10 @@ use Rattle.mdp_rows.specs.declared.preds.Pred.{Pred}
 use Rattle.mdp_graph.specs.Sets.{can_enter}
 use Rattle.mdp_graph.specs.Layers.{rank_at}
 use Rattle.mdp_graph.specs.Ranking.{given, IsGiven}
-use Rattle.mdp_graph.specs.Meet.{must_step, is_ranked}
+use Rattle.mdp_graph.specs.Meet.{must_step}
 use Rattle.mdp_graph.specs.Waiting.{some_waits, is_one_of, AreWaiting, AreWithin, AreMet, leading_to}
 use Rattle.mdp_graph.proofs.Avoiding.{all-some-false}
-use Rattle.mdp_graph.proofs.Meeting.{all-false, IsMeeting}
+use Rattle.mdp_graph.proofs.Meeting.{is_ranked, all-false, IsMeeting}
 use Rattle.mdp_graph.proofs.Passes.{same-enters}
 use Rattle.mdp_graph.proofs.PredLists.{leading-in, leading-back}
 use Rattle.mdp_graph.proofs.Releasing.{true-some, none-enters, some-in-range}

@@ -3,9 +3,9 @@ use Rattle.std.proofs.lemmas.List.{length-replicate}
 use Rattle.mdp_spec.specs.Mdp.{states_of}
 use Rattle.mdp_rows.specs.Preds.{is_among}
 use Rattle.mdp_graph.specs.Sets.{marked}
-use Rattle.mdp_graph.specs.Meet.{must_step, is_ranked}
+use Rattle.mdp_graph.specs.Meet.{must_step}
 use Rattle.mdp_graph.proofs.Among.{below-all}
-use Rattle.mdp_graph.proofs.Meeting.{meeting, meeting_seen, fewer_seen, met_all, must_respects}
+use Rattle.mdp_graph.proofs.Meeting.{is_ranked, meeting, meeting_seen, fewer_seen, met_all, must_respects}
 use Rattle.mdp_graph.proofs.NextMet.{given_below, ranked_more, ranked_first, none_met_yet, unmet, is_zero, above_zero, AreNext, layer_within, next_met, in_preds}
 use Rattle.mdp_graph.proofs.meet.meeting_ranks.Goals as goal
 
