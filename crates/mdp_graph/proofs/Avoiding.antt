@@ -18,7 +18,7 @@ use Rattle.mdp_graph.proofs.Falls.{case-any}
 use Rattle.mdp_graph.proofs.RankFacts.{some-same}
 use Rattle.mdp_graph.proofs.Reached.{at_most-some}
 use Rattle.mdp_graph.proofs.Steps.{any-some, some-any, enters-at}
-use Rattle.mdp_graph.proofs.Meeting.{is_ranked, each-true, must_respects, some_at_most}
+use Rattle.mdp_graph.proofs.Meeting.{none_is, is_ranked, each-true, must_respects, some_at_most}
 use Rattle.mdp_graph.proofs.Truths.{case-bool, and-false, and-left, and-right, both, or-left-false, or-right-is-false}
 
 -- the choice as the code tests it
@@ -36,10 +36,6 @@ keeps_none m marks s c ts ps same e out = keeps_is m marks s c ts ps same e ∙ 
 
 pub without-is : (ranks : List (Option ℕ)) (s : ℕ) → s < length ranks → marked (map is_none ranks) s ≡ is_none (rank_at ranks s)
 without-is ranks s h = get_or-map is_none ranks s None false h
-
-is_no_rank : (o : Option ℕ) → is_none o ≡ true → o ≡ None
-is_no_rank None e = refl
-is_no_rank (Some r) e = absurd (false≢true e)
 
 not_some : (o : Option ℕ) → is_some o ≡ false → is_none o ≡ true
 not_some None e = refl
@@ -83,7 +79,7 @@ module _ (m : Mdp) (ok : IsMdp m) (goals : List Bool) (ranks : List (Option ℕ)
   here s h = omega (arith, h, a.count)
 
   unranked_at : (s : ℕ) → s < states_of m → marked (map is_none ranks) s ≡ true → rank_at ranks s ≡ None
-  unranked_at s h e = is_no_rank (rank_at ranks s) (sym (without-is ranks s (here s h)) ∙ e)
+  unranked_at s h e = none_is (rank_at ranks s) (sym (without-is ranks s (here s h)) ∙ e)
 
   never_reached : (s k : ℕ) → s < states_of m → rank_at ranks s ≡ None → reached (must_step m) (marked goals) k s ≡ false
   never_reached s k h e = sym (a.least k s h) ∙ ap (at_most k) e

@@ -13,7 +13,7 @@ use Rattle.mdp_graph.specs.Choices.{plain_rank, is_before}
 use Rattle.mdp_graph.specs.Ranking.{given, unranked, IsGiven}
 use Rattle.mdp_graph.specs.Meet.{must_step, AllFall}
 use Rattle.mdp_graph.proofs.Among.{case-rank}
-use Rattle.mdp_graph.proofs.RankFacts.{started, some-same, cond_some}
+use Rattle.mdp_graph.proofs.RankFacts.{none_among, started, some-same, cond_some}
 use Rattle.mdp_graph.proofs.Reached.{rank_of, at_most-some}
 use Rattle.mdp_graph.proofs.Passes.{same-enters, has_rank, mark-is, falls-is}
 use Rattle.mdp_graph.proofs.Steps.{enters-at, enters-by}
@@ -103,7 +103,7 @@ among_some : (x : ℕ) (layer : List ℕ) → is_among x layer ≡ true → 0 < 
 among_some x [] e = absurd (false≢true e)
 among_some x (y ∷ layer) e = omega arith
 
-none_is : (o : Option ℕ) → is_none o ≡ true → o ≡ None
+pub none_is : (o : Option ℕ) → is_none o ≡ true → o ≡ None
 none_is None e = refl
 none_is (Some r) e = absurd (false≢true e)
 
@@ -117,10 +117,6 @@ left_some (o ∷ ranks) (suc t) h e =
     let a = sum_by-cons (λ (x : Option ℕ). cond (is_none x) 1 0) o ranks in
     let b = left_some ranks t (omega arith) e in
     omega (arith, a, b)
-
-nothing : (t : ℕ) (layer : List ℕ) → length layer ≡ 0 → is_among t layer ≡ false
-nothing t [] e = refl
-nothing t (x ∷ layer) e = absurd (omega arith)
 
 absorbs : (a b : Bool) (o : Option ℕ) → is_some o ≡ a → (is_none o && b) ≡ false → (a || b) ≡ a
 absorbs a b None e f = rw (sym e, f) refl
@@ -182,7 +178,7 @@ module _ (step : (ℕ → Bool) → ℕ → Bool) (first : ℕ → Bool) (n : �
   module _ (none : length layer ≡ 0) where
     closed : (s : ℕ) → s < n → (reached step first k s || step (reached step first k) s) ≡ reached step first k s
     closed s h = absorbs (reached step first k s) (step (reached step first k) s) (rank_at ranks s) (ranked-is s h)
-        (ap (λ b. is_none (rank_at ranks s) && b) (sym (step-is s h)) ∙ sym (l.met s h) ∙ nothing s layer none)
+        (ap (λ b. is_none (rank_at ranks s) && b) (sym (step-is s h)) ∙ sym (l.met s h) ∙ none_among s layer none)
 
     settles : (d s : ℕ) → s < n → reached step first (d + k) s ≡ reached step first k s
     unfolding reached

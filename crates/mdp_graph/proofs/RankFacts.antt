@@ -177,7 +177,7 @@ layered edges first n ranks layer k new next l g some =
       left = (let u = g.left in let v = l.left in omega (arith, u, v, some));
     }
 
-none_among : (t : ℕ) (layer : List ℕ) → length layer ≡ 0 → is_among t layer ≡ false
+pub none_among : (t : ℕ) (layer : List ℕ) → length layer ≡ 0 → is_among t layer ≡ false
 none_among t [] e = refl
 none_among t (x ∷ layer) e = absurd (omega arith)
 

@@ -56,7 +56,7 @@ some-in-range [] s e = absurd (false≢true e)
 some-in-range (row ∷ lists) zero e = omega arith
 some-in-range (row ∷ lists) (suc s) e = let l = some-in-range lists s e in omega (arith, l)
 
--- some choice of a state waits where one did that did before
+-- where each choice that waits in one list waits in another, some choice waits there too
 some-fewer : (row more : List Bool) → ((c : ℕ) → get_or row c false ≡ true → get_or more c false ≡ true) → list_any (λ b. b) row ≡ true → list_any (λ b. b) more ≡ true
 some-fewer row more f e = let w = any-some (λ (b : Bool). b) row false e in true-some more w.0 (f w.0 w.2)
 
@@ -76,6 +76,7 @@ in-row [] c e = absurd (false≢true e)
 in-row (b ∷ row) zero e = omega arith
 in-row (b ∷ row) (suc c) e = let l = in-row row c e in omega (arith, l)
 
+-- the count is 0 where no choice waits
 count-zero : (row : List Bool) → (count_waiting row == 0) ≡ not (list_any (λ b. b) row)
 count-zero [] = refl
 count-zero (true ∷ row) =

@@ -11,8 +11,8 @@ use mdp_num::Memory;
 use mdp_rows::{Marks, Model, preds_of};
 use std::alloc::Global;
 
-/// The least ranks by which states meet a target whatever is chosen; none where they don't. Each choice is looked at once for each of its
-/// entries, so the time is that of the entries.
+/// The least ranks by which states meet a target whatever is chosen; none where they don't. Each entry is looked at once, so the time grows
+/// with their number.
 pub(crate) fn meeting_ranks(
     alloc: Global,
     model: &Model,
