@@ -9,8 +9,9 @@ use Rattle.mdp_spec.specs.Row.{entries}
 use Rattle.mdp_graph.specs.Sets.{marked, can_enter}
 use Rattle.mdp_graph.specs.Layers.{rank_at}
 use Rattle.mdp_graph.specs.Choices.{plain_rank, is_before, may_fall, IsFirst}
-use Rattle.mdp_graph.proofs.Among.{case-eq, case-bool}
+use Rattle.mdp_graph.proofs.Among.{case-eq}
 use Rattle.mdp_graph.proofs.EdgeFacts.{all-as-stays}
+use Rattle.mdp_graph.proofs.Truths.{case-bool}
 
 any-as-enters : (set : ℕ → Bool) (ts : List ℕ) (ps : List ℚ) → length ts ≡ length ps → can_enter set (entries ts ps) ≡ list_any set ts
 any-as-enters set [] ps e = refl

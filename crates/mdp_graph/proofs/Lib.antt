@@ -1,5 +1,6 @@
 mod Among
 mod Avoiding
+mod ByTest
 mod Dropping
 mod EdgeFacts
 mod Examples
@@ -11,12 +12,15 @@ mod NextMet
 mod PassLaws
 mod Passes
 mod PolicyLaws
+mod PolicyMeets
 mod PredLists
 mod RankFacts
 mod Reached
+mod Reaching
 mod Releasing
 mod RoundLaws
 mod Rounding
 mod Settling
 mod Steps
 mod SureSome
+mod Truths

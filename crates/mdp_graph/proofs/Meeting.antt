@@ -11,21 +11,22 @@ use Rattle.mdp_graph.specs.Sets.{marked, can_enter}
 use Rattle.mdp_graph.specs.Layers.{reached, rank_at, at_most, AreRanks}
 use Rattle.mdp_graph.specs.Choices.{plain_rank, is_before}
 use Rattle.mdp_graph.specs.Ranking.{given, unranked, IsGiven}
-use Rattle.mdp_graph.specs.Meet.{must_step, is_ranked, AllFall}
-use Rattle.mdp_graph.proofs.Among.{case-bool, case-rank}
-use Rattle.mdp_graph.proofs.RankFacts.{started, some-same, cond_some}
-use Rattle.mdp_graph.proofs.Reached.{same-truth, rank_of, at_most-some}
+use Rattle.mdp_graph.specs.Meet.{must_step, AllFall}
+use Rattle.mdp_graph.proofs.Among.{case-rank}
+use Rattle.mdp_graph.proofs.RankFacts.{none_among, started, some-same, cond_some}
+use Rattle.mdp_graph.proofs.Reached.{rank_of, at_most-some}
 use Rattle.mdp_graph.proofs.Passes.{same-enters, has_rank, mark-is, falls-is}
-use Rattle.mdp_graph.proofs.Steps.{and-left, and-right, enters-at, enters-by}
+use Rattle.mdp_graph.proofs.Steps.{enters-at, enters-by}
+use Rattle.mdp_graph.proofs.Truths.{case-bool, and-false, and-left, and-right, same-truth}
+
+-- the states that have a rank
+abbrev pub is_ranked : List (Option ℕ) → ℕ → Bool
+is_ranked ranks s = is_some (rank_at ranks s)
 
 -- tests that hold of each element
 pub all-true : {X : Type 0} (p : X → Bool) (xs : List X) (d : X) → ((i : ℕ) → i < length xs → p (get_or xs i d) ≡ true) → list_all p xs ≡ true
 all-true p [] d e = refl
 all-true p (x ∷ xs) d e = ap (λ b. b && list_all p xs) (e 0 (omega arith)) ∙ all-true p xs d (λ i h. e (suc i) (omega (arith, h)))
-
-and-false : (b : Bool) → (b && false) ≡ false
-and-false true = refl
-and-false false = refl
 
 pub all-false : {X : Type 0} (p : X → Bool) (xs : List X) (d : X) (i : ℕ) → i < length xs → p (get_or xs i d) ≡ false → list_all p xs ≡ false
 all-false p [] d i h e = absurd (omega arith)
@@ -102,7 +103,7 @@ among_some : (x : ℕ) (layer : List ℕ) → is_among x layer ≡ true → 0 < 
 among_some x [] e = absurd (false≢true e)
 among_some x (y ∷ layer) e = omega arith
 
-none_is : (o : Option ℕ) → is_none o ≡ true → o ≡ None
+pub none_is : (o : Option ℕ) → is_none o ≡ true → o ≡ None
 none_is None e = refl
 none_is (Some r) e = absurd (false≢true e)
 
@@ -116,10 +117,6 @@ left_some (o ∷ ranks) (suc t) h e =
     let a = sum_by-cons (λ (x : Option ℕ). cond (is_none x) 1 0) o ranks in
     let b = left_some ranks t (omega arith) e in
     omega (arith, a, b)
-
-nothing : (t : ℕ) (layer : List ℕ) → length layer ≡ 0 → is_among t layer ≡ false
-nothing t [] e = refl
-nothing t (x ∷ layer) e = absurd (omega arith)
 
 absorbs : (a b : Bool) (o : Option ℕ) → is_some o ≡ a → (is_none o && b) ≡ false → (a || b) ≡ a
 absorbs a b None e f = rw (sym e, f) refl
@@ -181,7 +178,7 @@ module _ (step : (ℕ → Bool) → ℕ → Bool) (first : ℕ → Bool) (n : �
   module _ (none : length layer ≡ 0) where
     closed : (s : ℕ) → s < n → (reached step first k s || step (reached step first k) s) ≡ reached step first k s
     closed s h = absorbs (reached step first k s) (step (reached step first k) s) (rank_at ranks s) (ranked-is s h)
-        (ap (λ b. is_none (rank_at ranks s) && b) (sym (step-is s h)) ∙ sym (l.met s h) ∙ nothing s layer none)
+        (ap (λ b. is_none (rank_at ranks s) && b) (sym (step-is s h)) ∙ sym (l.met s h) ∙ none_among s layer none)
 
     settles : (d s : ℕ) → s < n → reached step first (d + k) s ≡ reached step first k s
     unfolding reached

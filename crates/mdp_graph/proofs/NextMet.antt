@@ -11,16 +11,15 @@ use Rattle.mdp_rows.specs.declared.preds.Pred.{Pred}
 use Rattle.mdp_graph.specs.Sets.{can_enter}
 use Rattle.mdp_graph.specs.Layers.{rank_at}
 use Rattle.mdp_graph.specs.Ranking.{given, IsGiven}
-use Rattle.mdp_graph.specs.Meet.{must_step, is_ranked}
+use Rattle.mdp_graph.specs.Meet.{must_step}
 use Rattle.mdp_graph.specs.Waiting.{some_waits, is_one_of, AreWaiting, AreWithin, AreMet, leading_to}
-use Rattle.mdp_graph.proofs.Among.{or-right}
 use Rattle.mdp_graph.proofs.Avoiding.{all-some-false}
-use Rattle.mdp_graph.proofs.Meeting.{all-false, IsMeeting}
+use Rattle.mdp_graph.proofs.Meeting.{is_ranked, all-false, IsMeeting}
 use Rattle.mdp_graph.proofs.Passes.{same-enters}
 use Rattle.mdp_graph.proofs.PredLists.{leading-in, leading-back}
-use Rattle.mdp_graph.proofs.Reached.{same-truth}
 use Rattle.mdp_graph.proofs.Releasing.{true-some, none-enters, some-in-range}
-use Rattle.mdp_graph.proofs.Steps.{any-some, and-left, and-right}
+use Rattle.mdp_graph.proofs.Steps.{any-some}
+use Rattle.mdp_graph.proofs.Truths.{or-right, not-true, not-not, and-left, and-right, same-truth}
 
 -- ---- the ranks that were given
 
@@ -57,14 +56,6 @@ unmet step first n ranks new met seen none_yet layer k j l g e s h none =
     sym (ap (λ b. b && step (is_ranked ranks) s) w.0) ∙ sym (l.met s h) ∙ sym (ap (is_among s) e) ∙ w.1
 
 -- ---- the choices that wait
-
-not-true : (b : Bool) → not b ≡ true → b ≡ false
-not-true true e = absurd (false≢true e)
-not-true false e = refl
-
-not-not : (b : Bool) → not (not b) ≡ b
-not-not true = refl
-not-not false = refl
 
 or-or : (a b c d : Bool) → ((a || b) || (c || d)) ≡ ((a || c) || (b || d))
 or-or true b c d = refl

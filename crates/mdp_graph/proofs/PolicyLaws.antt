@@ -11,32 +11,13 @@ use Rattle.mdp_graph.specs.Reach.{may_step, row_step, falls}
 use Rattle.mdp_graph.specs.Meet.{must_step}
 use Rattle.mdp_graph.specs.Sure.{inside_step, IsSure, IsGreatestSure}
 use Rattle.mdp_graph.specs.Laws.{policy_step, ChoicesReach, RestStays, RowsFall, RowsStay, EachPolicyMeets, RestAvoids, IsSurePolicy, ChoicesAreSure, SureAreMarked}
-use Rattle.mdp_graph.proofs.Among.{case-eq, case-bool, or-right}
+use Rattle.mdp_graph.proofs.Among.{case-eq}
 use Rattle.mdp_graph.proofs.Avoiding.{all-some-false, stays-at, stays-outside}
 use Rattle.mdp_graph.proofs.Meeting.{all-true, each-true}
+use Rattle.mdp_graph.proofs.Reaching.{step-reaches, stays-reached, first-reached, never-reached}
 use Rattle.mdp_graph.proofs.Settling.{choice-inside, stays-more}
-use Rattle.mdp_graph.proofs.Steps.{any-some, some-any, enters-at, enters-by, and-left, and-right, both}
-
--- ---- states that are reached
-
-step-reaches : (step : (ℕ → Bool) → ℕ → Bool) (first : ℕ → Bool) (k s : ℕ) → step (reached step first k) s ≡ true → reached step first (suc k) s ≡ true
-unfolding reached
-step-reaches step first k s e = ap (λ b. reached step first k s || b) e ∙ or-right (reached step first k s)
-
-stays-reached : (step : (ℕ → Bool) → ℕ → Bool) (first : ℕ → Bool) (d k s : ℕ) → reached step first k s ≡ true → reached step first (d + k) s ≡ true
-unfolding reached
-stays-reached step first zero k s e = let z : 0 + k ≡ k = omega arith in ap (λ i. reached step first i s) z ∙ e
-stays-reached step first (suc d) k s e =
-    let z : suc d + k ≡ suc (d + k) = omega arith in
-    ap (λ i. reached step first i s) z ∙ ap (λ b. b || step (reached step first (d + k)) s) (stays-reached step first d k s e)
-
-first-reached : (step : (ℕ → Bool) → ℕ → Bool) (first : ℕ → Bool) (k s : ℕ) → first s ≡ true → reached step first k s ≡ true
-unfolding reached
-first-reached step first k s e = let z : k ≡ k + 0 = omega arith in ap (λ i. reached step first i s) z ∙ stays-reached step first k 0 s e
-
--- a state that isn't marked is never reached
-never : (step : (ℕ → Bool) → ℕ → Bool) (first : ℕ → Bool) (n : ℕ) (marks : List Bool) → AreReached step first n marks → (k s : ℕ) → s < n → marked marks s ≡ false → reached step first k s ≡ true → false ≡ true
-never step first n marks a k s h out e = let w = a.marks_reached s h in sym out ∙ w.1 (k, e)
+use Rattle.mdp_graph.proofs.Steps.{any-some, some-any, enters-at, enters-by}
+use Rattle.mdp_graph.proofs.Truths.{case-bool, or-right, and-left, and-right, both}
 
 -- ---- policies by which ranks fall
 
@@ -81,7 +62,7 @@ rest_stays m targets blocked marks ok a s h out free = elim (case-bool (some_cho
       let set = reached (may_step m blocked) (marked targets) k.0 in
       let stepped : may_step m blocked set s ≡ true =
       both (not (marked blocked s)) (some_choice (can_enter set) m s) (ap not free) (some-any (λ (x : Choice). can_enter set x.row) (choices_at m s) no_choice w.0 w.1 (enters-by set (row_at m s w.0) z.0 z.2 k.1)) in
-      absurd (false≢true (never (may_step m blocked) (marked targets) (states_of m) marks a (suc k.0) s h out (step-reaches (may_step m blocked) (marked targets) k.0 s stepped))))
+      absurd (false≢true (never-reached (may_step m blocked) (marked targets) (states_of m) marks a (suc k.0) s h out (step-reaches (may_step m blocked) (marked targets) k.0 s stepped))))
   | inr not ↦ not
 ]
 
@@ -93,7 +74,7 @@ rows_stay rows targets marks ok a s h out = elim (case-bool (can_enter (marked m
       let there = a.marks_reached z.0 z.1 in
       let k = there.0 z.3 in
       let set = reached (row_step rows) (marked targets) k.0 in
-      absurd (false≢true (never (row_step rows) (marked targets) (length rows) marks a (suc k.0) s h out (step-reaches (row_step rows) (marked targets) k.0 s (enters-by set (get_or rows s []) z.0 z.2 k.1)))))
+      absurd (false≢true (never-reached (row_step rows) (marked targets) (length rows) marks a (suc k.0) s h out (step-reaches (row_step rows) (marked targets) k.0 s (enters-by set (get_or rows s []) z.0 z.2 k.1)))))
   | inr not ↦ not
 ]
 
@@ -169,7 +150,7 @@ rest_avoids m targets marks ok a s h out = elim (case-bool (must_step m (marked 
       (let row = ok.row s c h k in
       let z = enters-at (marked marks) (row_at m s c) (states_of m) row.in_range (each-true (λ (x : Choice). can_enter (marked marks) x.row) (choices_at m s) no_choice is c k) in
       enters-by set (row_at m s c) z.0 z.2 (w.1 z.0 z.1 z.3))) in
-      absurd (false≢true (never (must_step m) first (states_of m) marks a (suc w.0) s h out (step-reaches (must_step m) first w.0 s stepped))))
+      absurd (false≢true (never-reached (must_step m) first (states_of m) marks a (suc w.0) s h out (step-reaches (must_step m) first w.0 s stepped))))
   | inr not_met ↦
       (let w = all-some-false (λ (x : Choice). can_enter (marked marks) x.row) (choices_at m s) no_choice not_met in
       let row = ok.row s w.0 h w.1 in

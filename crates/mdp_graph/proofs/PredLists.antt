@@ -9,15 +9,13 @@ use Rattle.mdp_rows.specs.Preds.{is_among, leads_to, pair, choices_of, choices_b
 use Rattle.mdp_rows.specs.declared.preds.Pred.{Pred}
 use Rattle.mdp_graph.specs.Sets.{can_enter}
 use Rattle.mdp_graph.specs.Waiting.{is_one_of, leading_to}
-use Rattle.mdp_graph.proofs.Among.{case-eq, case-bool, or-right}
+use Rattle.mdp_graph.proofs.Among.{case-eq}
 use Rattle.mdp_graph.proofs.Releasing.{one-of-append}
-use Rattle.mdp_graph.proofs.Steps.{enters-at, enters-by, and-left, and-right, both}
+use Rattle.mdp_graph.proofs.Steps.{enters-at, enters-by}
+use Rattle.mdp_graph.proofs.Truths.{case-bool, or-right, and-left, and-right, both}
 
 is-pair : (x : Pred) (s c : ℕ) → ((x.state == s) && (x.choice == c)) ≡ true → x ≡ pair s c
 is-pair x s c e = ap (λ k. pair k x.choice) (eqb-true x.state s (and-left (x.state == s) (x.choice == c) e)) ∙ ap (pair s) (eqb-true x.choice c (and-right (x.state == s) (x.choice == c) e))
-
-pair-is : (s c : ℕ) → ((s == s) && (c == c)) ≡ true
-pair-is s c = both (s == s) (c == c) (eq-eqb s s refl) (eq-eqb c c refl)
 
 -- the elements of a list that pass a test
 filter-in : (p : Pred → Bool) (xs : List Pred) (s c : ℕ) → is_one_of (filter p xs) s c ≡ true → (is_one_of xs s c ≡ true) × (p (pair s c) ≡ true)

@@ -13,11 +13,9 @@ use Rattle.mdp_rows.specs.declared.preds.Pred.{Pred}
 use Rattle.mdp_graph.specs.Sets.{can_enter}
 use Rattle.mdp_graph.specs.Layers.{rank_at}
 use Rattle.mdp_graph.specs.Waiting.{waits, some_waits, count_waiting, all_wait, AreWaiting, is_one_of, AreWithin, AreReleased, AreMet, leading_to}
-use Rattle.mdp_graph.proofs.Among.{case-eq, or-right, among-append}
-use Rattle.mdp_graph.proofs.Passes.{and-none}
-use Rattle.mdp_graph.proofs.RankFacts.{or-false}
-use Rattle.mdp_graph.proofs.Reached.{same-truth}
-use Rattle.mdp_graph.proofs.Steps.{any-some, some-any, and-left, both}
+use Rattle.mdp_graph.proofs.Among.{case-eq, among-append}
+use Rattle.mdp_graph.proofs.Steps.{any-some, some-any}
+use Rattle.mdp_graph.proofs.Truths.{or-right, or-false, and-false, and-true, and-left, both, same-truth}
 
 -- ---- before the first release
 
@@ -58,7 +56,7 @@ some-in-range [] s e = absurd (false≢true e)
 some-in-range (row ∷ lists) zero e = omega arith
 some-in-range (row ∷ lists) (suc s) e = let l = some-in-range lists s e in omega (arith, l)
 
--- some choice of a state waits where one did that did before
+-- where each choice that waits in one list waits in another, some choice waits there too
 some-fewer : (row more : List Bool) → ((c : ℕ) → get_or row c false ≡ true → get_or more c false ≡ true) → list_any (λ b. b) row ≡ true → list_any (λ b. b) more ≡ true
 some-fewer row more f e = let w = any-some (λ (b : Bool). b) row false e in true-some more w.0 (f w.0 w.2)
 
@@ -78,6 +76,7 @@ in-row [] c e = absurd (false≢true e)
 in-row (b ∷ row) zero e = omega arith
 in-row (b ∷ row) (suc c) e = let l = in-row row c e in omega (arith, l)
 
+-- the count is 0 where no choice waits
 count-zero : (row : List Bool) → (count_waiting row == 0) ≡ not (list_any (λ b. b) row)
 count-zero [] = refl
 count-zero (true ∷ row) =
@@ -136,10 +135,6 @@ module _ (lists : List (List Bool)) (counts : List ℕ) (s c : ℕ) (seen row : 
       ap (λ k. k == 0) (left_is ∙ less) ∙ count-zero (set row c false) ∙ sym (ap (λ b. b && not (some_waits (set lists s after) s)) some ∙ ap (λ (x : List Bool). not (list_any (λ b. b) x)) now)
 
 -- ---- releases one after the other
-
-and-true : (b : Bool) → (b && true) ≡ b
-and-true true = refl
-and-true false = refl
 
 no-pairs : (b : Bool) → (b && not false) ≡ b
 no-pairs true = refl
@@ -227,7 +222,7 @@ met_push old new x c ranks list more r last none e =
 
 pub met_skip : (old new : List (List Bool)) (x c : ℕ) (ranks : List (Option ℕ)) (list : List ℕ) → AreReleased old new (pair x c ∷ []) → (is_none (rank_at ranks x) && (some_waits old x && not (some_waits new x))) ≡ false → AreMet old new (pair x c ∷ []) ranks list list
 met_skip old new x c ranks list r not_met =
-    met_one old new x c ranks list list r (λ s. sym (ap (λ b. is_among s list || ((x == s) && b)) not_met ∙ ap (λ b. is_among s list || b) (and-none (x == s)) ∙ or-false (is_among s list)))
+    met_one old new x c ranks list list r (λ s. sym (ap (λ b. is_among s list || ((x == s) && b)) not_met ∙ ap (λ b. is_among s list || b) (and-false (x == s)) ∙ or-false (is_among s list)))
 
 -- ---- where the choices stand
 

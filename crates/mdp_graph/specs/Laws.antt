@@ -13,13 +13,13 @@ use Rattle.mdp_graph.specs.Rounds.{AreRounds}
 use Rattle.mdp_graph.specs.Avoid.{IsGreatestAvoiding, keeps}
 use Rattle.mdp_graph.specs.SureAll.{IsSureAll}
 
--- the choice that a policy takes at a state leads into the set
+-- the choice that a policy takes at a state has a successor in the set
 abbrev pub policy_step : Mdp → List ℕ → (ℕ → Bool) → ℕ → Bool
 policy_step m policy set s = can_enter set (row_at m s (slice_index policy s))
 
 -- ---- may_reach
 
--- by the choices of the pass each marked state comes to a target within as many steps as its rank
+-- by the choices of the pass each marked state can come to a target within as many steps as its rank
 abbrev pub ChoicesReach : Type 0
 ChoicesReach =
     (m : Mdp) (targets blocked marks : List Bool) (ranks policy : List ℕ) → IsMdp m
@@ -50,7 +50,7 @@ RowsStay =
 
 -- ---- must_meet
 
--- whatever policy is taken, each marked state comes to a target within as many steps as its rank
+-- whatever policy is taken, each marked state can come to a target within as many steps as its rank
 abbrev pub EachPolicyMeets : Type 0
 EachPolicyMeets =
     (m : Mdp) (targets marks : List Bool) (ranks policy : List ℕ) → IsMdp m
@@ -65,7 +65,7 @@ RestAvoids =
 
 -- ---- sure_some
 
--- a policy that keeps a set and by which each state of the set comes to a goal
+-- a policy that keeps a set and by which each state of the set can come to a goal
 pub record IsSurePolicy (m : Mdp) (goals : List Bool) (policy : List ℕ) (set : ℕ → Bool) : Type 0 where
   pub stays : (s : ℕ) → s < states_of m → set s ≡ true → marked goals s ≡ false → stays_in set (row_at m s (slice_index policy s)) ≡ true
   pub reaches : (s : ℕ) → s < states_of m → set s ≡ true → (k : ℕ) × (reached (policy_step m policy) (marked goals) k s ≡ true)
@@ -107,6 +107,12 @@ abbrev pub PolicyAvoids : Type 0
 PolicyAvoids =
     (m : Mdp) (goals marks : List Bool) (policy : List ℕ) → IsMdp m → IsGreatestAvoiding m goals marks → AreLeast m goals marks (keeps m marks) policy → (k s : ℕ) → s < states_of m → marked marks s ≡ true
     → reached (policy_step m policy) (marked goals) k s ≡ false
+
+-- from any other state each policy can come to a goal after some number of steps
+abbrev pub RestMeets : Type 0
+RestMeets =
+    (m : Mdp) (goals marks : List Bool) (policy : List ℕ) → IsMdp m → IsGreatestAvoiding m goals marks → IsPolicy m policy → (s : ℕ) → s < states_of m → marked marks s ≡ false
+    → (k : ℕ) × (reached (policy_step m policy) (marked goals) k s ≡ true)
 
 -- ---- sure_all
 

@@ -4,15 +4,15 @@ ghost use Rattle.mdp_graph.specs.Sets.{marked};
 ghost use Rattle.mdp_graph.specs.Layers.{AreRanks, AreReached, AreLeastRanks};
 ghost use Rattle.mdp_graph.specs.Meet.{must_step, AllFall};
 
-use crate::pass::{Pass, marks_by, no_choices, plain_ranks};
+use crate::pass::{Pass, marks_by, plain_ranks, zeros};
 use crate::ranking::{give_rank, marked_states, no_ranks};
 use crate::waiting::Waiting;
 use mdp_num::Memory;
 use mdp_rows::{Marks, Model, preds_of};
 use std::alloc::Global;
 
-/// The least ranks by which states meet a target whatever is chosen; none where they don't. Each choice is looked at once for each of its
-/// entries, so the time is that of the entries.
+/// The least ranks by which states meet a target whatever is chosen; none where they don't. Each entry is looked at once, so the time grows
+/// with their number.
 pub(crate) fn meeting_ranks(
     alloc: Global,
     model: &Model,
@@ -53,6 +53,6 @@ pub fn must_meet(alloc: Global, model: &Model, target: &Marks) -> Result<Pass, M
     Ok(Pass {
         marks: marks_by(alloc, &ranks)?,
         ranks: plain_ranks(alloc, &ranks)?,
-        choices: no_choices(alloc, model.states() as usize)?,
+        choices: zeros(alloc, model.states() as usize)?,
     })
 }

@@ -6,7 +6,7 @@ ghost use Rattle.mdp_graph.specs.Choices.{AreLeast};
 ghost use Rattle.mdp_graph.specs.Reach.{may_step, row_step, falls};
 
 use crate::edges::Edges;
-use crate::pass::{Pass, least_choices, marks_by, no_choices, plain_ranks};
+use crate::pass::{Pass, least_choices, marks_by, plain_ranks, zeros};
 use crate::ranking::ranks_by;
 use mdp_num::Memory;
 use mdp_rows::{Marks, Model, RowsOf};
@@ -57,6 +57,6 @@ pub fn along<R: RowsOf>(alloc: Global, rows: &R, target: &Marks) -> Result<Pass,
     Ok(Pass {
         marks: marks_by(alloc, &ranks)?,
         ranks: plain_ranks(alloc, &ranks)?,
-        choices: no_choices(alloc, rows.count() as usize)?,
+        choices: zeros(alloc, rows.count() as usize)?,
     })
 }

@@ -1,11 +1,11 @@
-use Rattle.std.proofs.Common.{◌≡◌, ◌+◌, ℕ, false, Option, length, replicate, None, sym, ap, ◌∙◌, arith}
+use Rattle.std.proofs.Common.{◌≡◌, ℕ, false, Option, length, replicate, None, sym, ap, ◌∙◌, arith}
 use Rattle.std.proofs.lemmas.List.{length-replicate}
 use Rattle.mdp_spec.specs.Mdp.{states_of}
 use Rattle.mdp_rows.specs.Preds.{is_among}
 use Rattle.mdp_graph.specs.Sets.{marked}
-use Rattle.mdp_graph.specs.Meet.{must_step, is_ranked}
+use Rattle.mdp_graph.specs.Meet.{must_step}
 use Rattle.mdp_graph.proofs.Among.{below-all}
-use Rattle.mdp_graph.proofs.Meeting.{meeting, meeting_seen, fewer_seen, met_all, must_respects}
+use Rattle.mdp_graph.proofs.Meeting.{is_ranked, meeting, meeting_seen, fewer_seen, met_all, must_respects}
 use Rattle.mdp_graph.proofs.NextMet.{given_below, ranked_more, ranked_first, none_met_yet, unmet, is_zero, above_zero, AreNext, layer_within, next_met, in_preds}
 use Rattle.mdp_graph.proofs.meet.meeting_ranks.Goals as goal
 
@@ -58,14 +58,14 @@ met_by-requires-in-loop-alloc-clause-layer c =
     let m = c.args.model.now in
     let l = c.loop-alloc.invariant.0 in
     let all = in_preds m c.in_ok-preds.preds c.in_ok-preds.ensures in
-    below-all _ _ (λ t e. (let h = given_below _ _ _ c.give_rank-in-loop-alloc.new.list.items _ (c.loop-alloc.rank + 1) (states_of m) c.in_ok-give_rank-2.ensures c.new-layer-in-loop-alloc.ensures.items l.count t (ap (is_among t) (sym c.deref-in-loop-alloc-3.ensures.value) ∙ e) in omega (arith, h, all)))
+    below-all _ _ (λ t e. (let h = given_below _ _ _ c.give_rank-in-loop-alloc.new.list.items _ _ (states_of m) c.in_ok-give_rank-2.ensures c.new-layer-in-loop-alloc.ensures.items l.count t (ap (is_among t) (sym c.deref-in-loop-alloc-3.ensures.value) ∙ e) in omega (arith, h, all)))
 
 pub met_by-requires-in-loop-alloc-clause-within : goal.met_by-requires-in-loop-alloc-clause-within
 met_by-requires-in-loop-alloc-clause-within c =
     let m = c.args.model.now in
     let l = c.loop-alloc.invariant.0 in
     layer_within m c.known.ensures.mdp c.in_ok-preds.preds c.in_ok-preds.ensures (is_ranked c.loop-alloc.ranks.items) c.loop-alloc.waiting c.loop-alloc.invariant.1 c.give_rank-in-loop-alloc.new.list.items c.deref-in-loop-alloc-3.result.now
-    c.deref-in-loop-alloc-3.ensures.value (given_below _ _ _ c.give_rank-in-loop-alloc.new.list.items _ (c.loop-alloc.rank + 1) (states_of m) c.in_ok-give_rank-2.ensures c.new-layer-in-loop-alloc.ensures.items l.count)
+    c.deref-in-loop-alloc-3.ensures.value (given_below _ _ _ c.give_rank-in-loop-alloc.new.list.items _ _ (states_of m) c.in_ok-give_rank-2.ensures c.new-layer-in-loop-alloc.ensures.items l.count)
 
 pub loop-alloc-smaller : goal.loop-alloc-smaller
 loop-alloc-smaller c =
@@ -81,9 +81,9 @@ loop-alloc-preserved c =
     let none = c.new-layer-in-loop-alloc.ensures.items in
     let next : AreNext m c.give_rank-in-loop-alloc.new.ranks.items c.in_ok-met-2.met.items c.met_by-in-loop-alloc.new.self =
     next_met m c.known.ensures.mdp c.in_ok-preds.preds c.in_ok-preds.ensures (is_ranked c.loop-alloc.ranks.items) c.loop-alloc.waiting c.loop-alloc.invariant.1 c.give_rank-in-loop-alloc.new.list.items c.deref-in-loop-alloc-3.result.now
-    c.deref-in-loop-alloc-3.ensures.value (given_below _ _ _ c.give_rank-in-loop-alloc.new.list.items _ (c.loop-alloc.rank + 1) (states_of m) given none l.count) c.met_by-in-loop-alloc.new.self c.give_rank-in-loop-alloc.new.ranks.items
-    c.deref-in-loop-alloc-2.result.now c.in_ok-met-2.met.items c.deref-in-loop-alloc-2.ensures.value (ranked_more _ _ _ c.give_rank-in-loop-alloc.new.list.items _ (c.loop-alloc.rank + 1) (states_of m) given none l.count)
-    (unmet (must_step m) (marked c.args.target.now) (states_of m) c.loop-alloc.ranks.items _ c.loop-alloc.met.items _ _ _ c.loop-alloc.rank (c.loop-alloc.rank + 1) l given c.deref-in-loop-alloc.ensures.value) c.in_ok-met-2.ensures in (
+    c.deref-in-loop-alloc-3.ensures.value (given_below _ _ _ c.give_rank-in-loop-alloc.new.list.items _ _ (states_of m) given none l.count) c.met_by-in-loop-alloc.new.self c.give_rank-in-loop-alloc.new.ranks.items
+    c.deref-in-loop-alloc-2.result.now c.in_ok-met-2.met.items c.deref-in-loop-alloc-2.ensures.value (ranked_more _ _ _ c.give_rank-in-loop-alloc.new.list.items _ _ (states_of m) given none l.count)
+    (unmet (must_step m) (marked c.args.target.now) (states_of m) c.loop-alloc.ranks.items _ c.loop-alloc.met.items _ _ _ c.loop-alloc.rank _ l given c.deref-in-loop-alloc.ensures.value) c.in_ok-met-2.ensures in (
       meeting_seen (must_step m) (marked c.args.target.now) (states_of m) (must_respects m c.known.ensures.mdp) c.loop-alloc.ranks.items c.loop-alloc.met.items c.loop-alloc.rank l _ _ _ _ given none c.deref-in-loop-alloc.ensures.value
           (omega (arith, above_zero _ c.loop-alloc-test.ensures)) _ next.listed next.below,
       next.waiting,

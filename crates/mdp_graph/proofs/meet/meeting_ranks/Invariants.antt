@@ -1,9 +1,9 @@
 use Rattle.mdp_spec.specs.Mdp.{states_of}
 use Rattle.mdp_graph.specs.Sets.{marked}
-use Rattle.mdp_graph.specs.Meet.{must_step, is_ranked}
+use Rattle.mdp_graph.specs.Meet.{must_step}
 use Rattle.mdp_graph.specs.Ranking.{unranked}
 use Rattle.mdp_graph.specs.Waiting.{AreWaiting}
-use Rattle.mdp_graph.proofs.Meeting.{IsMeeting}
+use Rattle.mdp_graph.proofs.Meeting.{is_ranked, IsMeeting}
 use Rattle.mdp_graph.proofs.meet.meeting_ranks.Given as goal
 
 abbrev pub invariant-loop-alloc : goal.invariant-loop-alloc

@@ -4,9 +4,9 @@ use Rattle.mdp_rows.specs.Preds.{pair}
 use Rattle.mdp_rows.specs.declared.preds.Pred.{Pred}
 use Rattle.mdp_graph.specs.Waiting.{some_waits}
 use Rattle.mdp_graph.specs.Layers.{rank_at}
-use Rattle.mdp_graph.proofs.Passes.{and-none}
 use Rattle.mdp_graph.proofs.Releasing.{within_now, within_at, met_more, met_push, met_skip}
 use Rattle.mdp_graph.proofs.waiting.Waiting.release_all.Goals.{then-release+then-is_none+in_ok-push, else-release, else-release-via-then-release+else-is_none, else-release-via-else-release}
+use Rattle.mdp_graph.proofs.Truths.{and-false}
 use Rattle.mdp_graph.proofs.waiting.Waiting.release_all.Goals as goal
 
 pub release-requires-clause-state : goal.release-requires-clause-state
@@ -34,7 +34,7 @@ loop-pred-preserved c =
         | else-release-via-else-release v ↦
             rw (w.met-is)
             (met_skip c.loop-pred.self c.release.new.self pred.state pred.choice c.args.ranks.now c.loop-pred.met.items c.release.ensures.released
-            (ap (λ b. is_none (rank_at c.args.ranks.now pred.state) && b) (sym v.if-release.ensures.last) ∙ and-none (is_none (rank_at c.args.ranks.now pred.state))))
+            (ap (λ b. is_none (rank_at c.args.ranks.now pred.state) && b) (sym v.if-release.ensures.last) ∙ and-false (is_none (rank_at c.args.ranks.now pred.state))))
       ])
     ])
     (take_more c.args.preds.now c.loop-pred.pred-index (pair 0 0) c.loop-pred-test.true)
