@@ -1,4 +1,4 @@
-ghost use Rattle.std.specs.Prelude.{◌≡◌, length, IfOk};
+ghost use Rattle.std.specs.Prelude.{◌≡◌, ◌<◌, length, IfOk};
 ghost use Rattle.mdp_spec.specs.Mdp.{states_of};
 
 use mdp_drn::read;
@@ -6,7 +6,7 @@ use mdp_graph::{
     Pass, along, may_avoid, may_reach, must_meet, rounds_outside, sure_all, sure_some,
 };
 use mdp_num::Memory;
-use mdp_rows::{Marks, Model, PolicyRows, Pred, RowRule, preds_of};
+use mdp_rows::{Marks, Model, PolicyRows, Pred, Preds, RowRule, preds_of};
 use std::alloc::{AllocError, Global};
 use std::test::Fail;
 
@@ -223,16 +223,31 @@ fn goes_along_rows(rt: HostRuntime) -> Result<(), Fail> {
     Ok(())
 }
 
-/// The choices that lead to each state.
+/// The choices that lead to each state: one list for each.
+#[tactic(auto, using(crate::proofs::PredCounts::one_each))]
+fn predecessors(alloc: Global, model: &Model) -> Result<Preds, Memory>
+    ensures { IfOk result (λ preds. length preds ≡ states_of model.now) }
+{
+    preds_of(alloc, model)
+}
+
+/// The choices that lead to state `t`.
+fn push_leading(preds: &Preds, t: u32, out: &mut String) -> Result<(), AllocError>
+    requires { t < length preds.now }
+{
+    for Pred { state, choice } in preds.of(t) {
+        write!(out, "{state}/{choice} to {t}, ")?;
+    }
+    Ok(())
+}
+
 #[test]
 fn lists_predecessors(rt: HostRuntime) -> Result<(), Fail> {
     let model = model_of(rt.alloc(), SPLITS)?;
-    let preds = preds_of(rt.alloc(), &model)?;
+    let preds = predecessors(rt.alloc(), &model)?;
     let mut found = String::new(rt.alloc());
     for t in 0..model.states() {
-        for Pred { state, choice } in preds.of(t) {
-            write!(found, "{state}/{choice} to {t}, ")?;
-        }
+        push_leading(&preds, t, &mut found)?;
     }
     assert_eq!(rt; found.as_str(), "0/0 to 1, 1/0 to 1, 0/0 to 2, 2/0 to 2, ");
     Ok(())
