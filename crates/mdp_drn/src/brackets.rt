@@ -5,6 +5,7 @@ ghost use Rattle.mdp_drn.specs.Parsing.{told, both_now};
 
 use crate::error::DrnKind;
 
+/// How many bytes stand before the first `]`.
 fn close_place(bytes: &[u8]) -> usize
     ensures place { result ≡ prefix_len (λ c. not (is_close_bracket c)) bytes.now }
     ensures within { result ≤ length bytes.now }

@@ -67,6 +67,13 @@ fn scales_rows(rt: HostRuntime) -> Result<(), Fail> {
     Ok(())
 }
 
+/// The text that is written of a state with a loop of this reward.
+fn loop_text(alloc: Global, reward: &str) -> Result<String, Fail> {
+    Ok(format!(in alloc;
+        "@type: MDP\n@parameters\n\n@reward_models\n\n@nr_states\n1\n@nr_choices\n1\n@model\nstate 0 [0]\n\taction 0 [{reward}]\n\t\t0 : 1\n"
+    )?)
+}
+
 /// Each numeral is taken exactly, as a reward.
 #[test]
 fn reads_numerals(rt: HostRuntime) -> Result<(), Fail> {
@@ -101,12 +108,8 @@ fn reads_numerals(rt: HostRuntime) -> Result<(), Fail> {
         ("1e-36", "1/1000000000000000000000000000000000000"),
         ("0e37", "0"),
     ] {
-        let text = format!(in rt.alloc();
-            "@type: MDP\n@nr_states\n1\n@model\nstate 0\naction [{numeral}]\n0 : 1\n"
-        )?;
-        let wanted = format!(in rt.alloc();
-            "@type: MDP\n@parameters\n\n@reward_models\n\n@nr_states\n1\n@nr_choices\n1\n@model\nstate 0 [0]\n\taction 0 [{value}]\n\t\t0 : 1\n"
-        )?;
+        let text = loop_text(rt.alloc(), numeral)?;
+        let wanted = loop_text(rt.alloc(), value)?;
         assert_eq!(rt;
             rewritten(rt.alloc(), &text, RowRule::Exact)?.as_slice(),
             wanted.as_bytes(),

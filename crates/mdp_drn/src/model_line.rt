@@ -40,6 +40,7 @@ fn is_action_line(text: &[u8]) -> bool
     text.starts_with(b"action") && (text.len() == 6 || begins_blank(&text[6..]))
 }
 
+/// Whether this may stand behind a state's number.
 fn is_rest_of_state(rest: &[u8]) -> bool
     ensures { result ≡ is_rest_of_state rest.now }
 {

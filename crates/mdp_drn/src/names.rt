@@ -38,6 +38,7 @@ fn contains(names: &[&[u8]], name: &[u8]) -> bool
     names.iter().any(|other| name == *other)
 }
 
+/// Whether no name comes twice.
 fn are_different(names: &[&[u8]]) -> bool
     ensures { result ≡ are_different (map (λ name. name.now) names.now) }
 {
@@ -51,6 +52,7 @@ fn are_different(names: &[&[u8]]) -> bool
     true
 }
 
+/// The words between blanks.
 fn split_words(alloc: Global, text: &[u8]) -> Result<Vec<&[u8]>, AllocError>
     ensures { IfOk result (λ words. map (λ word. word.now) words.items ≡ words_of text.now) }
 {

@@ -29,6 +29,7 @@ pub(crate) fn read_value(text: &[u8]) -> Result<Frac, DrnKind>
     }
 }
 
+/// The texts between the commas.
 fn split_at_commas(alloc: Global, inside: &[u8]) -> Result<Vec<&[u8]>, AllocError>
     ensures { IfOk result (λ texts. map (λ text. text.now) texts.items ≡ slice_split is_comma inside.now) }
 {
