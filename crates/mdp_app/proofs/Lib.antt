@@ -3,3 +3,4 @@ mod Endings
 mod Long
 mod Showing
 mod Came
+mod PredCounts

@@ -3,6 +3,8 @@
 
 mod files;
 #[cfg(test)]
+mod graph_tests;
+#[cfg(test)]
 mod library_tests;
 mod run;
 #[cfg(test)]

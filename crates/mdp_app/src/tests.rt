@@ -18,6 +18,16 @@ pub(crate) const FORK: &str =
 const THIRDS: &str =
     "@type: MDP\n@parameters\n\n@reward_models\n\n@nr_states\n4\n@model\nstate 0 init\naction a\n1 : 0.333333\n2 : 0.333333\n3 : 0.333333\nstate 1 goal\naction a\n1 : 1\nstate 2\naction a\n2 : 1\nstate 3\naction a\n3 : 1\n";
 
+/// The same model, but for state 0, which goes to 1 with 0.3.
+const NO_THIRDS: &str =
+    "@type: MDP\n@parameters\n\n@reward_models\n\n@nr_states\n4\n@model\nstate 0 init\naction a\n1 : 0.3\n2 : 0.333333\n3 : 0.333333\nstate 1 goal\naction a\n1 : 1\nstate 2\naction a\n2 : 1\nstate 3\naction a\n3 : 1\n";
+
+/// The first model, behind its line `@nr_states`, with a number of states that the next line gives.
+const COIN_FRONT: &str = "@type: MDP\n@parameters\n\n@reward_models\n\n@nr_states\n";
+
+const COIN_BACK: &str =
+    "\n@nr_choices\n4\n@model\nstate 0 init\naction a\n0 : 1\naction b\n1 : 1/3\n2 : 2/3\nstate 1 goal\naction a\n1 : 1\nstate 2\naction a\n2 : 1\n";
+
 /// That 1 bounds state 0 of the first model.
 const UPPER: &str =
     "mdp-certificate 1\nclaim upper reach \"goal\"\nstates 3\ninit 0 1\nstate 0 1\nstate 1 1\nstate 2 0\nend\n";
@@ -52,7 +62,22 @@ fn words(alloc: Global, texts: &[&str]) -> Result<Vec<String>, AllocError> {
     Ok(words)
 }
 
-/// How `check` ends on two texts under a row rule, and what it writes into the sink.
+/// How `check` ends on two texts under a row rule, of sources that give so many bytes a call, and what it writes into the sink.
+fn checked_in(
+    alloc: Global,
+    chunk: usize,
+    rows: &str,
+    model: &str,
+    cert: &str,
+    out: &mut ListSink,
+) -> Result<Status, AllocError> {
+    let words = words(alloc, &["check", "MODEL", rows, "CERT"])?;
+    let mut model = source(alloc, model, chunk, &[])?;
+    let mut cert = source(alloc, cert, chunk, &[])?;
+    Ok(run(alloc, &words, &mut model, &mut cert, out))
+}
+
+/// The same, 7 bytes a call.
 fn checked(
     alloc: Global,
     rows: &str,
@@ -60,10 +85,7 @@ fn checked(
     cert: &str,
     out: &mut ListSink,
 ) -> Result<Status, AllocError> {
-    let words = words(alloc, &["check", "MODEL", rows, "CERT"])?;
-    let mut model = source(alloc, model, 7, &[])?;
-    let mut cert = source(alloc, cert, 7, &[])?;
-    Ok(run(alloc, &words, &mut model, &mut cert, out))
+    checked_in(alloc, 7, rows, model, cert, out)
 }
 
 /// Models and certificates, the line that `check` writes, and its status.
@@ -141,6 +163,30 @@ fn judges_certificates(rt: HostRuntime) -> Result<(), Fail> {
         let end = checked(rt.alloc(), rows, model, cert, &mut out)?;
         assert_eq!(rt; out.bytes(), text.as_bytes(), "{text}");
         assert_eq!(rt; end, status, "{text}");
+    }
+    Ok(())
+}
+
+/// Models that are read or refused alike in whatever pieces their sources give them.
+#[test]
+fn reads_in_pieces(rt: HostRuntime) -> Result<(), Fail> {
+    let alloc = rt.alloc();
+    let four = format!(in alloc; "{COIN_FRONT}4{COIN_BACK}")?;
+    let most = format!(in alloc; "{COIN_FRONT}1048577{COIN_BACK}")?;
+    for (rows, model, text) in [
+        ("exact", COIN, "yes\n"),
+        ("exact", four.as_str(), "model line 23 count\n"),
+        ("exact", most.as_str(), "model line 7 too-many\n"),
+        ("exact", THIRDS, "model line 10 row-sum\n"),
+        ("scaled", THIRDS, "query size\n"),
+        ("exact", NO_THIRDS, "model line 10 row-sum\n"),
+        ("scaled", NO_THIRDS, "model line 10 row-sum\n"),
+    ] {
+        for chunk in [1, 7, 65_536] {
+            let mut out = sink(alloc, 100, 16, &[])?;
+            checked_in(alloc, chunk, rows, model, UPPER, &mut out)?;
+            assert_eq!(rt; out.bytes(), text.as_bytes(), "{text}");
+        }
     }
     Ok(())
 }
@@ -304,24 +350,37 @@ fn denies_forged_certificates(rt: HostRuntime) -> Result<(), Fail> {
     Ok(())
 }
 
+/// How the program ends on these words and on sources of the first model and its bound that fail at these calls, and what it writes.
+fn ended(
+    alloc: Global,
+    given: &[&str],
+    model_fails: &[u64],
+    cert_fails: &[u64],
+    out: &mut ListSink,
+) -> Result<Status, AllocError> {
+    let given = words(alloc, given)?;
+    let mut model = source(alloc, COIN, 7, model_fails)?;
+    let mut cert = source(alloc, UPPER, 7, cert_fails)?;
+    Ok(run(alloc, &given, &mut model, &mut cert, out))
+}
+
+const CHECK: &[&str] = &["check", "MODEL", "exact", "CERT"];
+
 /// Each one call of a source that fails.
 #[test]
 fn answers_each_read_fault(rt: HostRuntime) -> Result<(), Fail> {
-    let job = words(rt.alloc(), &["check", "MODEL", "exact", "CERT"])?;
     let model_calls = (COIN.len() as u64).div_ceil(7) + 1;
     let cert_calls = (UPPER.len() as u64).div_ceil(7) + 1;
     for call in 0..model_calls {
-        let mut model = source(rt.alloc(), COIN, 7, &[call])?;
-        let mut cert = source(rt.alloc(), UPPER, 7, &[])?;
         let mut out = sink(rt.alloc(), 100, 16, &[])?;
-        run(rt.alloc(), &job, &mut model, &mut cert, &mut out);
+        let end = ended(rt.alloc(), CHECK, &[call], &[], &mut out)?;
+        assert_eq!(rt; end, Status::ReadFault);
         assert_eq!(rt; out.bytes(), b"read-fault model\n".as_slice(), "{call}");
     }
     for call in 0..cert_calls {
-        let mut model = source(rt.alloc(), COIN, 7, &[model_calls])?;
-        let mut cert = source(rt.alloc(), UPPER, 7, &[call])?;
         let mut out = sink(rt.alloc(), 100, 16, &[])?;
-        run(rt.alloc(), &job, &mut model, &mut cert, &mut out);
+        let end = ended(rt.alloc(), CHECK, &[model_calls], &[call], &mut out)?;
+        assert_eq!(rt; end, Status::ReadFault);
         assert_eq!(rt;
             out.bytes(),
             b"read-fault certificate\n".as_slice(),
@@ -331,35 +390,26 @@ fn answers_each_read_fault(rt: HostRuntime) -> Result<(), Fail> {
     Ok(())
 }
 
-/// Words that are no job; each source failing, and the sink at a write or for want of room.
+/// Words that are no job, of which no source is read.
 #[test]
-fn answers_words_and_faults(rt: HostRuntime) -> Result<(), Fail> {
+fn answers_words(rt: HostRuntime) -> Result<(), Fail> {
     for (given, text) in [
         ([].as_slice(), "words command\n"),
         (&["solve", "MODEL", "exact", "CERT"], "words command\n"),
         (&["check", "MODEL", "EXACT"], "words number\n"),
         (&["check", "MODEL", "EXACT", "CERT"], "words rows\n"),
     ] {
-        let given = words(rt.alloc(), given)?;
-        let mut model = source(rt.alloc(), COIN, 7, &[0])?;
-        let mut cert = source(rt.alloc(), UPPER, 7, &[0])?;
         let mut out = sink(rt.alloc(), 100, 16, &[])?;
-        let end = run(rt.alloc(), &given, &mut model, &mut cert, &mut out);
+        let end = ended(rt.alloc(), given, &[0], &[0], &mut out)?;
         assert_eq!(rt; end, Status::Words);
         assert_eq!(rt; out.bytes(), text.as_bytes());
     }
-    let job = words(rt.alloc(), &["check", "MODEL", "exact", "CERT"])?;
-    for (model_fails, cert_fails, text) in [
-        ([0].as_slice(), [].as_slice(), "read-fault model\n"),
-        (&[], &[0], "read-fault certificate\n"),
-    ] {
-        let mut model = source(rt.alloc(), COIN, 7, model_fails)?;
-        let mut cert = source(rt.alloc(), UPPER, 7, cert_fails)?;
-        let mut out = sink(rt.alloc(), 100, 16, &[])?;
-        let end = run(rt.alloc(), &job, &mut model, &mut cert, &mut out);
-        assert_eq!(rt; end, Status::ReadFault);
-        assert_eq!(rt; out.bytes(), text.as_bytes());
-    }
+    Ok(())
+}
+
+/// A sink that fails at a write or a flush, or has no room left.
+#[test]
+fn answers_write_faults(rt: HostRuntime) -> Result<(), Fail> {
     for (room, chunk, fails, taken) in [
         (100, 2, [1].as_slice(), "ye"),
         (100, 2, &[2], "yes\n"),
@@ -368,7 +418,7 @@ fn answers_words_and_faults(rt: HostRuntime) -> Result<(), Fail> {
         (3, 16, &[], "yes"),
     ] {
         let mut out = sink(rt.alloc(), room, chunk, fails)?;
-        let end = checked(rt.alloc(), "exact", COIN, UPPER, &mut out)?;
+        let end = ended(rt.alloc(), CHECK, &[], &[], &mut out)?;
         assert_eq!(rt; end, Status::WriteFault);
         assert_eq!(rt; out.bytes(), taken.as_bytes());
     }

@@ -1,5 +1,5 @@
 -- The bytes that came from a source, and those that it had left.
-use Rattle.std.proofs.Common.{◌≡◌, ℕ, ◌+◌, ◌<◌, List, [], ◌++◌, length, Option, Some, None, IfSome, ◌↔◌, sym, ◌∙◌, ap, arith, length-append}
+use Rattle.std.proofs.Common.{◌≡◌, ℕ, ◌<◌, List, [], ◌++◌, length, Option, Some, None, IfSome, ◌↔◌, sym, ◌∙◌, ap, arith, length-append}
 use Rattle.std.proofs.lemmas.List.{append-nil}
 use Rattle.mdp_edge.specs.Bytes.{Gave}
 use Rattle.mdp_drn.specs.FromSource.{HadLeft}

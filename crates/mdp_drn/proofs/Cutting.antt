@@ -49,12 +49,12 @@ cut-append (x ∷ xs) ys =
     let step = subst (λ (ps : List (List ℕ)). cond (is_line_feed x) ([] ∷ joined ps (cut ys)) (onto_first x (joined ps (cut ys))) ≡ joined (cond (is_line_feed x) ([] ∷ ps) (onto_first x ps)) (cut ys)) (sym c.2) (joined-step (is_line_feed x) x c.0 c.1 (cut ys)) in
     ap (λ (ps : List (List ℕ)). cond (is_line_feed x) ([] ∷ ps) (onto_first x ps)) (cut-append xs ys) ∙ step
 
-all_but_last-push : (ps : List (List ℕ)) (p : List ℕ) → all_but_last (ps ++ p ∷ []) ≡ ps
+pub all_but_last-push : (ps : List (List ℕ)) (p : List ℕ) → all_but_last (ps ++ p ∷ []) ≡ ps
 all_but_last-push [] p = refl
 all_but_last-push (q ∷ []) p = refl
 all_but_last-push (q ∷ r ∷ ps) p = ap (λ (rest : List (List ℕ)). q ∷ rest) (all_but_last-push (r ∷ ps) p)
 
-last_part-push : (ps : List (List ℕ)) (p : List ℕ) → last_part (ps ++ p ∷ []) ≡ p
+pub last_part-push : (ps : List (List ℕ)) (p : List ℕ) → last_part (ps ++ p ∷ []) ≡ p
 last_part-push [] p = refl
 last_part-push (q ∷ []) p = refl
 last_part-push (q ∷ r ∷ ps) p = last_part-push (r ∷ ps) p

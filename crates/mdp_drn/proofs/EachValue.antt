@@ -1,8 +1,9 @@
 -- Values, judged one after the other.
-use Rattle.std.proofs.Common.{◌≡◌, ℕ, zero, suc, ◌+◌, ◌<◌, ◌≤◌, List, [], ◌∷◌, ◌++◌, drop, get_or, length, map, Result, Ok, Err, refl, sym, ap, ◌∙◌, append_assoc, arith, add-one}
+use Rattle.std.proofs.Common.{◌≡◌, ℕ, zero, suc, ◌+◌, ◌<◌, ◌≤◌, List, [], ◌∷◌, ◌++◌, drop, get_or, length, map, Result, Ok, Err, refl, sym, ap, ◌∙◌, append_assoc, arith}
 use Rattle.std.proofs.Common.{pos, replicate, lit≤, IfOk}
 use Rattle.std.specs.List.{All}
-use Rattle.std.proofs.lemmas.List.{append-nil}
+use Rattle.std.proofs.Math.ListN.{get_or-map}
+use Rattle.std.proofs.lemmas.List.{append-nil, length-map}
 use Rattle.std.proofs.lemmas.List.Elements.{All-replicate}
 use Rattle.mdp_math.proofs.Order.{≤ℚ_refl}
 use Rattle.mdp_math.specs.Rational.{of_int, le_ℚ}
@@ -14,6 +15,7 @@ use Rattle.mdp_drn.specs.declared.error.DrnKind.{DrnKind}
 use Rattle.mdp_drn.specs.Outcome.{◌>>=◌}
 use Rattle.std.specs.Borrow.{Bor}
 use Rattle.mdp_drn.specs.Values.{value_of, each_value, trimmed}
+use Rattle.mdp_drn.proofs.Listing.{map-at}
 
 -- the values of these texts, where those of all texts begin with the values so far
 abbrev pub ValuesFrom : List (List ℕ) → List (List ℕ) → List ℚ → Type 0
@@ -45,13 +47,10 @@ all_done all done so_far = so_far ∙ ap (λ (ys : List ℚ). Ok ys) (append-nil
 abbrev pub texts_of : List (Bor (List ℕ)) → List (List ℕ)
 texts_of texts = map trimmed (map (λ text. text.now) texts)
 
-at-suc : (texts : List (Bor (List ℕ))) (i : ℕ) (d : Bor (List ℕ)) → i < length texts → drop i (texts_of texts) ≡ trimmed (get_or texts i d).now ∷ drop (suc i) (texts_of texts)
-at-suc [] i d lt = absurd (omega arith)
-at-suc (x ∷ xs) zero d lt = refl
-at-suc (x ∷ xs) (suc i) d lt = at-suc xs i d (omega arith)
-
 pub texts-at : (texts : List (Bor (List ℕ))) (i : ℕ) (d : Bor (List ℕ)) → i < length texts → drop i (texts_of texts) ≡ trimmed (get_or texts i d).now ∷ drop (i + 1) (texts_of texts)
-texts-at texts i d lt = rw add-one (at-suc texts i d lt)
+texts-at texts i d lt =
+    let now : Bor (List ℕ) → List ℕ = λ text. text.now in
+    map-at trimmed (map now texts) i d.now (rw (length-map texts now) lt) ∙ ap (λ (text : List ℕ). trimmed text ∷ drop (i + 1) (texts_of texts)) (get_or-map now texts i d)
 
 pub texts-none : (texts : List (Bor (List ℕ))) (i : ℕ) → length texts ≤ i → drop i (texts_of texts) ≡ []
 texts-none [] zero le = refl

@@ -1,5 +1,5 @@
 -- Labels, given one after the other.
-use Rattle.std.proofs.Common.{◌≡◌, ℕ, zero, suc, ◌+◌, ◌<◌, List, [], ◌∷◌, drop, get_or, length, map, Result, Ok, Err, refl, sym, ap, subst, ◌∙◌, arith, add-one}
+use Rattle.std.proofs.Common.{◌≡◌, ℕ, zero, suc, ◌+◌, ◌<◌, List, [], ◌∷◌, drop, get_or, length, map, Result, Ok, Err, refl, sym, ap, subst, ◌∙◌, arith}
 use Rattle.std.specs.Borrow.{Bor}
 use Rattle.std.specs.List.{All}
 use Rattle.mdp_rows.specs.Draft.{Draft, after_label, ◌>>=◌}
@@ -11,17 +11,13 @@ use Rattle.mdp_drn.specs.declared.error.DrnError.TheVariants as error
 use Rattle.mdp_drn.specs.Body.{judged, with_labels}
 use Rattle.mdp_drn.specs.Body as spec
 use Rattle.mdp_drn.specs.Feeding.{Fails}
+use Rattle.mdp_drn.proofs.Listing.{map-at}
 
 abbrev pub names : List (Bor (List ℕ)) → List (List ℕ)
 names labels = map (λ label. label.now) labels
 
-at-suc : (labels : List (Bor (List ℕ))) (i : ℕ) (d : Bor (List ℕ)) → i < length labels → drop i (names labels) ≡ (get_or labels i d).now ∷ drop (suc i) (names labels)
-at-suc [] i d lt = absurd (omega arith)
-at-suc (x ∷ xs) zero d lt = refl
-at-suc (x ∷ xs) (suc i) d lt = at-suc xs i d (omega arith)
-
 pub names-at : (labels : List (Bor (List ℕ))) (i : ℕ) (d : Bor (List ℕ)) → i < length labels → drop i (names labels) ≡ (get_or labels i d).now ∷ drop (i + 1) (names labels)
-names-at labels i d lt = rw add-one (at-suc labels i d lt)
+names-at labels i d lt = map-at (λ label. label.now) labels i d lt
 
 pub name-at : (labels : List (Bor (List ℕ))) (i : ℕ) (d : Bor (List ℕ)) → i < length labels → All IsName (names labels) → IsName (get_or labels i d).now
 name-at [] i d lt all = absurd (omega arith)

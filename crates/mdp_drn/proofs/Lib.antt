@@ -1,5 +1,4 @@
 mod Appending
-mod PlacesLeft
 mod TextsLeft
 mod TwoChoicesText
 mod WrittenExamples

@@ -22,7 +22,7 @@ bind-assoc : {A B C E : Type 0} (r : Result A E) (f : A → Result B E) (g : B �
 bind-assoc (Ok x) f g = refl
 bind-assoc (Err e) f g = refl
 
-after_lines-append : (rule : RowRule) (d : Document) (xs ys : List (List ℕ)) → after_lines rule d (xs ++ ys) ≡ (after_lines rule d xs >>= λ e. after_lines rule e ys)
+pub after_lines-append : (rule : RowRule) (d : Document) (xs ys : List (List ℕ)) → after_lines rule d (xs ++ ys) ≡ (after_lines rule d xs >>= λ e. after_lines rule e ys)
 after_lines-append rule d [] ys = refl
 after_lines-append rule d (x ∷ xs) ys = by (at_line rule d x) (λ e. after_lines-append rule e xs ys)
   where

@@ -1,13 +1,14 @@
 -- What is left of a text from one place of a list on, one place more and at the end.
-use Rattle.std.proofs.Common.{rules, ◌≡◌, ℕ, suc, ◌+◌, ◌<◌, List, [], ◌∷◌, ◌++◌, length, get_or, drop, refl, sym, ap, ◌∙◌, append_assoc, append-nil, add-one, drop-cons, map, codes, pos}
+use Rattle.std.proofs.Common.{rules, ◌≡◌, ℕ, zero, suc, ◌+◌, ◌<◌, List, [], ◌∷◌, ◌++◌, length, get_or, drop, refl, sym, ap, subst, arith, ◌∙◌, append_assoc, append-nil, add-one, drop-cons, map, codes, pos}
 use Rattle.std.proofs.Math.ListN.{get_or-map}
 use Rattle.std.proofs.lemmas.List.{length-map}
 use Rattle.mdp_math.specs.Rational.{ℚ, of_int}
 use Rattle.mdp_num.specs.Value.{spelling}
-use Rattle.mdp_spec.specs.Mdp.{Mdp, states_of, choices_at, no_choice, no_state}
+use Rattle.mdp_spec.specs.Mdp.{Mdp, states_of, state_at, choices_at, no_choice, no_state}
 use Rattle.mdp_rows.specs.Limits.{IsStateWithin, IsModel}
-use Rattle.mdp_drn.specs.Writing.{joined}
+use Rattle.mdp_drn.specs.Writing.{joined, label_text, labels_text}
 use Rattle.mdp_drn.specs.Pieces.{separator_text, separated, zeros_of}
+use Rattle.mdp_drn.proofs.WrittenModels.{Each, AreBelow, AreLabelsBelow, sight-below}
 
 -- ---- texts with a separator
 
@@ -49,3 +50,20 @@ zeros-more m i h =
     let zero : List ℕ → List ℕ = λ name. 48 ∷ [] in
     separated-more (codes ", ") (zeros_of m) i (48 ∷ []) (rw (length-map m.names zero) h)
     ∙ ap (λ text. (separator_text (codes ", ") i ++ text) ++ separated (codes ", ") (i + 1) (drop (i + 1) (zeros_of m))) (get_or-map zero m.names i [])
+
+-- ---- labels
+
+pub labels-more : (labels : List (List ℕ)) (places given : List ℕ) (name : List ℕ) (i : ℕ) → given ≡ places → i < length given → name ≡ get_or labels (get_or given i 0) []
+    → labels_text labels (drop i places) ≡ label_text name ++ labels_text labels (drop (i + 1) places)
+labels-more labels places given name i same h is = rw (is, ← same, add-one, drop-cons given i 0 h) refl
+
+each-at : {A : Type 0} (P : A → Type 0) (xs : List A) (d : A) (i : ℕ) → i < length xs → Each P xs → P (get_or xs i d)
+each-at P [] d i lt h = absurd (omega (arith, lt))
+each-at P (x ∷ xs) d zero lt h = h.0
+each-at P (x ∷ xs) d (suc i) lt h = each-at P xs d i (omega (arith, lt)) h.1
+
+-- a label of a state is one of the model's
+pub label-known : (m : Mdp) → IsModel m → (s : ℕ) → s < states_of m → (places : List ℕ) → places ≡ (state_at m s).labels → (i : ℕ) → i < length places → get_or places i 0 < length m.labels
+label-known m h s lt places same i l =
+    let below : AreBelow (length m.labels) (state_at m s).labels = each-at (AreLabelsBelow (length m.labels)) m.states no_state s lt (sight-below 0 (length m.labels) m.states h.sight).1 in
+    each-at (λ k. k < length m.labels) places 0 i l (subst (AreBelow (length m.labels)) (sym same) below)

@@ -1,11 +1,10 @@
 -- The text of a model reads as that model, where handing the model to a builder gives it back.
-use Rattle.std.proofs.Common.{◌≡◌, ℕ, ◌≤◌, Bool, true, false, cond, eqb, eq-eqb, List, ◌++◌, length, sum_by, refl, sym, ap, ap₂, ◌∙◌, arith, Some, Ok, Err}
+use Rattle.std.proofs.Common.{◌≡◌, ℕ, ◌≤◌, true, eqb, eq-eqb, List, ◌++◌, length, sum_by, refl, sym, ap, ap₂, ◌∙◌, arith, Some, Ok}
 use Rattle.mdp_num.specs.Numeral.{limit}
 use Rattle.mdp_spec.specs.Mdp.{State, Mdp, states_of}
 use Rattle.mdp_rows.specs.Draft.{Draft, new_draft, all_closed, finished, after_finish}
 use Rattle.mdp_rows.specs.Limits.{IsModel}
 use Rattle.mdp_rows.specs.Replay.{with_states, replayed, IsReplayed}
-use Rattle.mdp_rows.specs.declared.error.RowsError.TheVariants.{Count}
 use Rattle.mdp_rows.specs.declared.rule.RowRule.TheVariants.{Exact}
 use Rattle.mdp_drn.specs.Lines.{lines_of}
 use Rattle.mdp_drn.specs.Outcome.{◌>>=◌}
@@ -13,7 +12,9 @@ use Rattle.mdp_drn.specs.Reading.{InModel, nothing_read, after_lines, at_end, Re
 use Rattle.mdp_drn.specs.Writing.{text_of, ReadsBack}
 use Rattle.mdp_drn.proofs.WrittenLines.{flat, flat-append, are-append, lines-flat}
 use Rattle.mdp_drn.proofs.WrittenDrafts.{bound}
-use Rattle.mdp_drn.proofs.WrittenReading.{doc, body, lines-append}
+use Rattle.mdp_drn.proofs.Counted.{finished_states}
+use Rattle.mdp_drn.proofs.Stands.{after_lines-append}
+use Rattle.mdp_drn.proofs.WrittenReading.{doc, body}
 use Rattle.mdp_drn.proofs.WrittenHeader.{choices_of, header_lines, IsHeaderFit, header-reaches, header-are_lines, header_text-flat, small-limit}
 use Rattle.mdp_drn.proofs.WrittenModels.{states-fit}
 use Rattle.mdp_drn.proofs.WrittenBody.{states_lines, states-flat, states-written}
@@ -24,21 +25,10 @@ text-flat m = ap₂ (λ (t u : List ℕ). t ++ u) (header_text-flat m) (states-f
 header-fit : (m : Mdp) → IsModel m → IsHeaderFit m
 header-fit m h = record { names = h.names; some = h.mdp.some; few_states = h.mdp.few; few_choices = h.few_choices }
 
--- what a finished draft has become
-finished-is : (d : Draft) (m : Mdp) → finished d ≡ Ok m → d.closed ≡ m.states
-finished-is d m h = by (eqb (length d.closed) d.announced) h
-  where
-    made : Mdp
-    made = record { names = d.names; labels = d.labels; states = d.closed }
-
-    by : (b : Bool) → cond b (Ok (record { names = d.names; labels = d.labels; states = d.closed })) (Err Count) ≡ Ok m → d.closed ≡ m.states
-    by true e = cc
-    by false e = absurd cc
-
 end-read : (m : Mdp) (d e : Draft) (n s a : ℕ) → all_closed d ≡ Ok e → finished e ≡ Ok m → at_end (doc n (InModel (Some (choices_of m)) (body d s a))) ≡ Ok m
 unfolding at_end
 end-read m d e n s a h k =
-    let counted : eqb (all_choices e) (choices_of m) ≡ true = eq-eqb (all_choices e) (choices_of m) (ap (λ (xs : List State). sum_by (λ x. length x.choices) xs) (finished-is e m k)) in
+    let counted : eqb (all_choices e) (choices_of m) ≡ true = eq-eqb (all_choices e) (choices_of m) (ap (λ (xs : List State). sum_by (λ x. length x.choices) xs) (sym (finished_states e m k))) in
     rw (h, counted, k) refl
 
 pub reads-where_replayed : (m : Mdp) → IsModel m → replayed m ≡ Ok m → Reads (text_of m) Exact m
@@ -54,7 +44,7 @@ reads-where_replayed m h replay =
     let head = top.from 0 in
     let tail = w.makes.from head.0 0 0 in
     ap (λ (ls : List (List ℕ)). after_lines Exact nothing_read ls >>= at_end) lines
-    ∙ ap (λ r. r >>= at_end) (lines-append nothing_read (header_lines m) (states_lines m 0 m.states) ∙ ap (λ r. r >>= λ e. after_lines Exact e (states_lines m 0 m.states)) head.1 ∙ tail.3)
+    ∙ ap (λ r. r >>= at_end) (after_lines-append Exact nothing_read (header_lines m) (states_lines m 0 m.states) ∙ ap (λ r. r >>= λ e. after_lines Exact e (states_lines m 0 m.states)) head.1 ∙ tail.3)
     ∙ end-read m b.0 f.0 tail.0 tail.1 tail.2 f.1 f.2
 
 pub reads_back : IsReplayed → ReadsBack

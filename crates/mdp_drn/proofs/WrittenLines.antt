@@ -5,6 +5,7 @@ use Rattle.std.specs.Io.BufRead.{strip_last}
 use Rattle.std.proofs.lemmas.List.{append-nil, take_all}
 use Rattle.mdp_drn.specs.Lines.{is_line_feed, is_blank, all_but_last, last_part, whole_lines, open_line, lines_of, without_blanks_behind, without_blanks_before, content}
 use Rattle.mdp_drn.specs.Writing.{line}
+use Rattle.mdp_drn.proofs.Cutting.{all_but_last-push, last_part-push}
 use Rattle.mdp_drn.proofs.WrittenBytes.{Pass, Fail, and-parts, not-true, split-at, suffix-stop, strip-other}
 
 -- ---- lines
@@ -32,16 +33,6 @@ split-flat (t ∷ ts) h =
     ap (slice_split is_line_feed) (append_assoc t (10 ∷ []) (flat ts))
     ∙ split-at is_line_feed t 10 (flat ts) h.0 refl
     ∙ ap (λ (parts : List (List ℕ)). t ∷ parts) (split-flat ts h.1)
-
-all_but_last-push : (ps : List (List ℕ)) (p : List ℕ) → all_but_last (ps ++ p ∷ []) ≡ ps
-all_but_last-push [] p = refl
-all_but_last-push (q ∷ []) p = refl
-all_but_last-push (q ∷ r ∷ ps) p = ap (λ (rest : List (List ℕ)). q ∷ rest) (all_but_last-push (r ∷ ps) p)
-
-last_part-push : (ps : List (List ℕ)) (p : List ℕ) → last_part (ps ++ p ∷ []) ≡ p
-last_part-push [] p = refl
-last_part-push (q ∷ []) p = refl
-last_part-push (q ∷ r ∷ ps) p = last_part-push (r ∷ ps) p
 
 pub lines-flat : (ts : List (List ℕ)) → AreLines ts → lines_of (flat ts) ≡ ts
 lines-flat ts h =

@@ -1,12 +1,13 @@
 -- Lines that are read one after another, whatever their numbers are.
-use Rattle.std.proofs.Common.{◌≡◌, ℕ, ◌+◌, ◌≤◌, Bool, false, cond, ltb, eqb, List, [], ◌∷◌, ◌++◌, length, refl, ap, ◌∙◌, arith, Option, Result, Ok, Err}
+use Rattle.std.proofs.Common.{◌≡◌, ℕ, ◌+◌, ◌≤◌, Bool, false, cond, ltb, eqb, List, [], ◌∷◌, ◌++◌, length, refl, ap, ◌∙◌, arith, Option, Ok}
 use Rattle.std.proofs.lemmas.Bool.Decides.{nat_tests}
 use Rattle.mdp_rows.specs.Draft.{Draft}
 use Rattle.mdp_rows.specs.declared.rule.RowRule.TheVariants.{Exact}
 use Rattle.mdp_drn.specs.Lines.{content, is_comment}
-use Rattle.mdp_drn.specs.Outcome.{◌>>=◌, Refusal}
+use Rattle.mdp_drn.specs.Outcome.{◌>>=◌}
 use Rattle.mdp_drn.specs.Body.{Body, model_line}
 use Rattle.mdp_drn.specs.Reading.{Part, InModel, Document, named, longest_line, kept_line, at_line, after_lines}
+use Rattle.mdp_drn.proofs.Stands.{after_lines-append}
 
 abbrev pub doc : ℕ → Part → Document
 doc n part = record { lines = n; part = part }
@@ -17,15 +18,6 @@ unfolding at_line
 at-line n bytes text part next short is kept e =
     let few : ltb longest_line (length bytes) ≡ false = grind (arith, nat_tests) in
     rw (few, is, kept, e) refl
-
-pub lines-append : (d : Document) (xs ys : List (List ℕ)) → after_lines Exact d (xs ++ ys) ≡ (after_lines Exact d xs >>= λ e. after_lines Exact e ys)
-lines-append d [] ys = refl
-lines-append d (x ∷ xs) ys = by (at_line Exact d x) (λ e. lines-append e xs ys)
-  where
-    by : (r : Result Document Refusal) → ((e : Document) → after_lines Exact e (xs ++ ys) ≡ (after_lines Exact e xs >>= λ f. after_lines Exact f ys))
-        → (r >>= λ next. after_lines Exact next (xs ++ ys)) ≡ ((r >>= λ next. after_lines Exact next xs) >>= λ e. after_lines Exact e ys)
-    by (Ok e) h = h e
-    by (Err k) h = refl
 
 -- ---- in the header
 
@@ -59,7 +51,7 @@ makes-then choices d e f xs ys h k = record {
   from = λ n s a.
       (let p = h.from n s a in
       let q = k.from p.0 p.1 p.2 in
-      (q.0, q.1, q.2, lines-append (doc n (InModel choices (body d s a))) xs ys ∙ ap (λ x. x >>= λ e. after_lines Exact e ys) p.3 ∙ q.3));
+      (q.0, q.1, q.2, after_lines-append Exact (doc n (InModel choices (body d s a))) xs ys ∙ ap (λ x. x >>= λ e. after_lines Exact e ys) p.3 ∙ q.3));
 }
 
 -- one line, which isn't blank

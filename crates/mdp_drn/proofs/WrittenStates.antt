@@ -75,7 +75,7 @@ state-short s inside names h k l few =
 list-no_close : (c : ℕ) → is_list_byte c ≡ true → not (eqb c 93) ≡ true
 list-no_close c h = grind (arith, nat_tests)
 
-any-or : (a : Bool) → (a || true || false || false || false) ≡ true
+any-or : (a : Bool) → (a || true || false || (false || false)) ≡ true
 any-or true = refl
 any-or false = refl
 

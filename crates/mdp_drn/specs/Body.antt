@@ -54,6 +54,24 @@ judged body line (Err e) = Err (record { kind = kind_of e; line = line_of body l
 abbrev pub with_draft : Body → Result Draft Refusal → Result Body Refusal
 with_draft body made = made >>= λ draft. Ok (record body { draft = draft })
 
+-- ---- bytes by name
+
+abbrev pub is_open_bracket : ℕ → Bool
+is_open_bracket c = c == 91
+
+abbrev pub close_bracket : ℕ
+close_bracket = 93
+
+abbrev pub is_close_bracket : ℕ → Bool
+is_close_bracket c = c == close_bracket
+
+abbrev pub is_colon : ℕ → Bool
+is_colon c = c == 58
+
+-- what rates or an observation begin with: `!` or `{`
+abbrev pub is_other_mark : ℕ → Bool
+is_other_mark c = (c == 33) || (c == 123)
+
 -- ---- the kinds of lines
 
 abbrev pub has_digits : List ℕ → Bool
@@ -69,13 +87,14 @@ is_action_line text = begins_with (codes "action") text && ((length text == 6) |
 
 -- ---- states
 
-abbrev pub begins_with_byte : ℕ → List ℕ → Bool
-begins_with_byte c [] = false
-begins_with_byte c (b ∷ bytes) = b == c
+-- the first byte passes the test
+abbrev pub begins_as : (ℕ → Bool) → List ℕ → Bool
+begins_as test [] = false
+begins_as test (b ∷ bytes) = test b
 
 -- what may stand behind a state's number: nothing, or a blank, a tab, `[`, `!` or `{` first
 abbrev pub is_rest_of_state : List ℕ → Bool
-is_rest_of_state rest = (length rest == 0) || begins_blank rest || begins_with_byte 91 rest || begins_with_byte 33 rest || begins_with_byte 123 rest
+is_rest_of_state rest = (length rest == 0) || begins_blank rest || begins_as is_open_bracket rest || begins_as is_other_mark rest
 
 -- the text in a bracket, which ends at its first `]`, and the bytes behind it
 abbrev pub bracket_to : List ℕ → List ℕ → Result (List ℕ × List ℕ) DrnKind
@@ -84,7 +103,7 @@ bracket_to inside (close ∷ behind) = Ok (inside, behind)
 
 abbrev pub bracket_at : List ℕ → Result (List ℕ × List ℕ) DrnKind
 bracket_at [] = Ok ([], [])
-bracket_at (c ∷ bytes) = if c == 91 then bracket_to (before_first (λ b. b == 93) bytes) (from_first (λ b. b == 93) bytes) else Ok ([], c ∷ bytes)
+bracket_at (c ∷ bytes) = if is_open_bracket c then bracket_to (before_first is_close_bracket bytes) (from_first is_close_bracket bytes) else Ok ([], c ∷ bytes)
 
 -- a state's rewards and labels
 pub record StateRead : Type 0 where
@@ -97,7 +116,7 @@ state_read draft digits rest = do
   shape ← refuse_if kind.Shape (not (is_rest_of_state rest))
   order ← refuse_if kind.Order (not (number digits == length draft.closed))
   count ← refuse_if kind.Count (nat_le draft.announced (length draft.closed))
-  plain ← refuse_if kind.Type (begins_with_byte 33 (without_blanks_before rest) || begins_with_byte 123 (without_blanks_before rest))
+  plain ← refuse_if kind.Type (begins_as is_other_mark (without_blanks_before rest))
   bracket ← bracket_at (without_blanks_before rest)
   rewards ← rewards_in (length draft.names) bracket.0
   labels ← labels_in bracket.1
@@ -122,8 +141,8 @@ state_line body line behind = do
 -- the text in the bracket at the end of a line, from its last `[`, if there is one
 abbrev pub bracket_behind : List ℕ → Result (List ℕ) DrnKind
 bracket_behind rest =
-    if ends_with_byte 93 rest then
-    (if list_any (λ c. c == 91) rest then Ok (take (length (after_last (λ c. c == 91) rest) - 1) (after_last (λ c. c == 91) rest)) else Err kind.Shape)
+    if ends_with_byte close_bracket rest then
+    (if list_any is_open_bracket rest then Ok (take (length (after_last is_open_bracket rest) - 1) (after_last is_open_bracket rest)) else Err kind.Shape)
     else Ok []
 
 -- the rewards of a choice of the open state
@@ -145,7 +164,7 @@ action_line body line rest = do
 -- blanks, a colon, blanks, and a value that isn't empty
 abbrev pub value_text : List ℕ → Result (List ℕ) DrnKind
 value_text [] = Err kind.Shape
-value_text (c ∷ bytes) = if (c == 58) && nat_lt 0 (length (without_blanks_before bytes)) then Ok (without_blanks_before bytes) else Err kind.Shape
+value_text (c ∷ bytes) = if is_colon c && nat_lt 0 (length (without_blanks_before bytes)) then Ok (without_blanks_before bytes) else Err kind.Shape
 
 -- a target and its value
 pub record EntryRead : Type 0 where

@@ -92,9 +92,13 @@ entry_line header text =
     else (if bytes_eq text (codes "@model") then model_entry header
     else Err kind.Header)))))))
 
--- a name of a reward model that can't be: more than 255 bytes, a quote or a CR
+-- a quote or a CR
+abbrev pub is_bad_byte : ℕ → Bool
+is_bad_byte c = (c == 34) || (c == 13)
+
+-- a name that no reward model can have: it has more than 255 bytes, a quote or a CR
 abbrev pub is_bad_name : List ℕ → Bool
-is_bad_name word = nat_lt 255 (length word) || list_any (λ c. (c == 34) || (c == 13)) word
+is_bad_name word = nat_lt 255 (length word) || list_any is_bad_byte word
 
 -- the names of reward models: all are proper and different, and there are at most 16
 unfoldable pub names_in : List (List ℕ) → Result (List (List ℕ)) DrnKind
@@ -116,7 +120,7 @@ with_states header n = do
   read (record header { states = Some n }) AnyEntry
 
 abbrev pub is_entry : List ℕ → Bool
-is_entry text = begins_with (64 ∷ []) text
+is_entry text = begins_with (codes "@") text
 
 -- the lines behind `@reward_models`, `@nr_states` and `@nr_choices`
 abbrev pub names_line : Header → List ℕ → Result (Header × Next) DrnKind
@@ -151,7 +155,7 @@ abbrev pub announced : Header → ℕ
 announced header = or_else 0 header.states
 
 abbrev pub names_or_one : List (List ℕ) → List (List ℕ)
-names_or_one [] = (45 ∷ []) ∷ []
+names_or_one [] = codes "-" ∷ []
 names_or_one (n ∷ ns) = n ∷ ns
 
 -- the names of the reward models: one, called `-`, where none is given

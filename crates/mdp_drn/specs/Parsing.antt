@@ -1,5 +1,5 @@
 -- What a call that reads a part of a line answers: what the definition says, unless memory ran out.
-use Rattle.std.specs.Prelude.{◌≡◌, List, [], ◌∷◌, ℕ, Bool, ◌==◌, ◌||◌, Result, Ok, Err}
+use Rattle.std.specs.Prelude.{◌≡◌, List, [], ◌∷◌, ℕ, Result, Ok, Err}
 use Rattle.std.specs.Borrow.{Bor}
 use Rattle.mdp_drn.specs.declared.error.DrnKind.{DrnKind}
 use Rattle.mdp_drn.specs.declared.error.DrnError.{DrnError}
@@ -30,10 +30,6 @@ both_now p = (p.0.now, p.1.now)
 abbrev pub first_label : List ℕ → Result (List ℕ × List ℕ) DrnKind
 first_label [] = Ok ([], [])
 first_label (c ∷ bytes) = label_at c bytes
-
--- a quote or a CR
-abbrev pub is_bad_byte : ℕ → Bool
-is_bad_byte c = (c == 34) || (c == 13)
 
 abbrev pub error_at : ℕ → LineError → DrnError
 error_at line (Kind kind) = error.At line kind

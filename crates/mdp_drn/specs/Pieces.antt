@@ -25,7 +25,7 @@ separated separator place (text ∷ texts) = (separator_text separator place ++ 
 
 -- a state's own rewards
 abbrev pub zeros_of : Mdp → List (List ℕ)
-zeros_of m = map (λ name. 48 ∷ []) m.names
+zeros_of m = map (λ name. codes "0") m.names
 
 abbrev pub state_line_text : Mdp → ℕ → State → List ℕ
 state_line_text m s x = line (codes "state " ++ decimal s ++ bracket_text (zeros_of m) ++ labels_text m.labels x.labels)

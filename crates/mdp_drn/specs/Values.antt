@@ -1,5 +1,5 @@
 -- Values, and the rewards of a bracket.
-use Rattle.std.specs.Prelude.{ℕ, List, [], ◌∷◌, length, map, replicate, pos, Result, Ok, Err, ◌==◌, if◌then◌else◌}
+use Rattle.std.specs.Prelude.{ℕ, Bool, List, [], ◌∷◌, length, map, replicate, pos, Result, Ok, Err, ◌==◌, if◌then◌else◌, codes}
 use Rattle.std.specs.List.{slice_split}
 use Rattle.mdp_math.specs.Rational.{ℚ, of_int}
 use Rattle.mdp_num.specs.Numeral.{numeral_of}
@@ -21,7 +21,7 @@ from_numeral (Err e) = Err (kind_of e)
 
 -- a value, which isn't negative
 unfoldable pub value_of : List ℕ → Result ℚ DrnKind
-value_of text = if begins_with (45 ∷ []) text then Err Negative else from_numeral (numeral_of text)
+value_of text = if begins_with (codes "-") text then Err Negative else from_numeral (numeral_of text)
 
 -- each value, judged from left to right
 abbrev pub each_value : List (List ℕ) → Result (List ℚ) DrnKind
@@ -34,9 +34,12 @@ each_value (text ∷ texts) = do
 abbrev pub trimmed : List ℕ → List ℕ
 trimmed text = without_blanks_behind (without_blanks_before text)
 
+abbrev pub is_comma : ℕ → Bool
+is_comma c = c == 44
+
 -- the rewards in a bracket, one for each reward model; none stand for zeros
 unfoldable pub rewards_in : ℕ → List ℕ → Result (List ℚ) DrnKind
 rewards_in models inside =
-    let texts = map trimmed (slice_split (λ c. c == 44) inside) in
+    let texts = map trimmed (slice_split is_comma inside) in
     if length (trimmed inside) == 0 then Ok (replicate models (of_int (pos 0)))
     else (if length texts == models then each_value texts else Err Reward)

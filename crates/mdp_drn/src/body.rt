@@ -67,6 +67,7 @@ impl Body {
         }
     }
 
+    /// Closes the open choice and state, where there are such.
     pub(crate) fn close_state(&mut self, line: u64) -> Result<(), DrnError>
         requires { IsBody self.old }
         ensures closed { Answers result self.new.builder (judged (view self.old) line (all_closed self.old.builder)) }
@@ -80,6 +81,7 @@ impl Body {
         }
     }
 
+    /// Closes the open choice, where there is one.
     pub(crate) fn close_choice(&mut self, line: u64) -> Result<(), DrnError>
         requires { IsBody self.old }
         ensures closed { Answers result self.new.builder (judged (view self.old) line (choice_closed self.old.builder)) }
@@ -93,6 +95,7 @@ impl Body {
         }
     }
 
+    /// Opens the next state, with its own rewards.
     pub(crate) fn open_state(&mut self, line: u64, rewards: &[Frac]) -> Result<(), DrnError>
         requires body { IsBody self.old }
         requires none { self.old.builder.state ≡ None }
@@ -109,6 +112,7 @@ impl Body {
         }
     }
 
+    /// Opens a choice of the open state, with its own rewards.
     pub(crate) fn open_choice(&mut self, line: u64, rewards: &[Frac]) -> Result<(), DrnError>
         requires body { IsBody self.old }
         requires none { IsChoiceClosed self.old.builder.state }
@@ -125,6 +129,7 @@ impl Body {
         }
     }
 
+    /// Gives the open choice a target and its value.
     pub(crate) fn add_entry(&mut self, line: u64, target: u32, value: Frac) -> Result<(), DrnError>
         requires body { IsBody self.old }
         requires choice { IsTrue (has_choice self.old.builder) }
@@ -179,6 +184,7 @@ impl Body {
         body.count_choices(line, choices)
     }
 
+    /// The model, where it has as many states and choices as were announced.
     fn count_choices(self, line: u64, choices: Option<u32>) -> Result<Model, DrnError>
         requires body { IsBody self }
         requires none { self.builder.state ≡ None }

@@ -1,12 +1,13 @@
 ghost use Rattle.std.specs.Prelude.{◌≡◌, ◌≤◌, ◌==◌, length, not};
 ghost use Rattle.std.specs.List.{list_any, prefix_len, suffix_len};
-ghost use Rattle.mdp_drn.specs.Body.{bracket_at, bracket_behind};
+ghost use Rattle.mdp_drn.specs.Body.{bracket_at, bracket_behind, is_close_bracket, is_open_bracket};
 ghost use Rattle.mdp_drn.specs.Parsing.{told, both_now};
 
 use crate::error::DrnKind;
 
+/// How many bytes stand before the first `]`.
 fn close_place(bytes: &[u8]) -> usize
-    ensures place { result ≡ prefix_len (λ c. not (c == 93)) bytes.now }
+    ensures place { result ≡ prefix_len (λ c. not (is_close_bracket c)) bytes.now }
     ensures within { result ≤ length bytes.now }
 {
     bytes.iter().take_while(|b| **b != b']').count()
@@ -14,14 +15,14 @@ fn close_place(bytes: &[u8]) -> usize
 
 /// How many bytes stand behind the last `[`.
 fn behind_open(bytes: &[u8]) -> usize
-    ensures count { result ≡ suffix_len (λ c. not (c == 91)) bytes.now }
+    ensures count { result ≡ suffix_len (λ c. not (is_open_bracket c)) bytes.now }
     ensures within { result ≤ length bytes.now }
 {
     bytes.iter().rev().take_while(|b| **b != b'[').count()
 }
 
 fn has_open(bytes: &[u8]) -> bool
-    ensures { result ≡ list_any (λ c. c == 91) bytes.now }
+    ensures { result ≡ list_any is_open_bracket bytes.now }
 {
     bytes.iter().any(|b| *b == b'[')
 }

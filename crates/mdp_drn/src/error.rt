@@ -3,7 +3,8 @@ use thiserror::Error;
 /// Why a text is no model.
 #[derive(Clone, Copy, Debug, PartialEq, Eq, Error)]
 pub enum DrnKind {
-    /// An entry of the header twice, an unknown one, a line that is none, or `@model` too early.
+    /// An entry of the header twice, an unknown one, one with a word too few or too many, a line that is none, a reward name that is
+    /// badly spelled or comes twice, or `@model` before the type and the number of states.
     #[error("header")]
     Header = 1,
     /// Another model type, a rate or an observation.
@@ -12,16 +13,16 @@ pub enum DrnKind {
     /// Parameters or placeholders.
     #[error("parametric")]
     Parametric = 3,
-    /// No numeral, or one with the denominator 0.
+    /// A value that is no numeral or has the denominator 0, or a number of states or choices that isn't written in digits.
     #[error("number")]
     Number = 4,
-    /// A number above 10^36, or a sum of rewards past width.
+    /// A value with a term above 10^36, or a sum of a state's and a choice's reward that has one or is past width.
     #[error("large")]
     Large = 5,
     /// Another state's number than that of the next state.
     #[error("order")]
     Order = 6,
-    /// Another number of states or choices than announced.
+    /// Another number of states or choices than announced, or no state announced.
     #[error("count")]
     Count = 7,
     /// A reward bracket that isn't closed, or with another number of values than there are reward models.
@@ -36,19 +37,19 @@ pub enum DrnKind {
     /// A row that doesn't add to 1, or under `Scaled` differs from it by more than 1/1000.
     #[error("row-sum")]
     RowSum = 11,
-    /// A row with a common denominator above 10^36.
+    /// A row with a least common denominator above 10^36.
     #[error("row-wide")]
     RowWide = 12,
     /// A state without a choice.
     #[error("no-choice")]
     NoChoice = 13,
-    /// A label that isn't well spelled, or has more than 255 bytes.
+    /// A label that is badly spelled, empty or of more than 255 bytes.
     #[error("label")]
     Label = 14,
     /// Past a limit of states, choices, transitions, labels or reward models.
     #[error("too-many")]
     TooMany = 15,
-    /// A line of the model that is none of the three kinds.
+    /// A line of the model that is none of the three kinds, a choice outside a state, or a transition outside a choice.
     #[error("shape")]
     Shape = 16,
     /// A value below 0.

@@ -48,7 +48,7 @@ impl Feed {
         })
     }
 
-    /// Bytes of the open line.
+    /// Takes bytes of the open line.
     fn extend(&mut self, bytes: &[u8])
         requires { IsOneLine bytes.now }
         ensures rule { self.new.rule ≡ self.old.rule }
@@ -71,7 +71,7 @@ impl Feed {
         }
     }
 
-    /// A line feed.
+    /// Takes a line feed.
     fn close_line(&mut self)
         ensures rule { self.new.rule ≡ self.old.rule }
         ensures stays { Stays self.old.stand self.new.stand }

@@ -1,4 +1,4 @@
-ghost use Rattle.std.specs.Prelude.{◌≡◌, ◌<◌, ◌++◌, ◌&&◌, ◌==◌, [], ◌∷◌, length, take, slice_index_or, OnOk};
+ghost use Rattle.std.specs.Prelude.{◌≡◌, ◌<◌, ◌++◌, ◌&&◌, ◌==◌, [], length, take, codes, slice_index_or, OnOk};
 ghost use Rattle.std.specs.Str.{bytes_eq};
 ghost use Rattle.mdp_drn.specs.Writing.{joined, names_text, header_text};
 ghost use Rattle.mdp_drn.specs.Pieces.{separator_text, count_text, first_lines, count_lines};
@@ -9,7 +9,7 @@ use std::alloc::AllocError;
 
 /// Whether the one reward name is `-`, which isn't written.
 fn is_unnamed(model: &Model) -> bool
-    ensures { result ≡ ((length model.now.names == 1) && bytes_eq (slice_index_or model.now.names 0 []) (45 ∷ [])) }
+    ensures { result ≡ ((length model.now.names == 1) && bytes_eq (slice_index_or model.now.names 0 []) (codes "-")) }
 {
     model.names() == 1 && model.name(0) == b"-".as_slice()
 }
@@ -17,7 +17,7 @@ fn is_unnamed(model: &Model) -> bool
 /// Appends the reward name of place `m`, behind a blank unless it is the first.
 fn push_name(model: &Model, m: u32, out: &mut Vec<u8>) -> Result<(), AllocError>
     requires { m < length model.now.names }
-    ensures text { OnOk result (out.new.items ≡ out.old.items ++ (separator_text (32 ∷ []) m ++ slice_index_or model.now.names m [])) }
+    ensures text { OnOk result (out.new.items ≡ out.old.items ++ (separator_text (codes " ") m ++ slice_index_or model.now.names m [])) }
     ensures front { take (length out.old.items) out.new.items ≡ out.old.items }
 {
     push_separator(m, b" ", out)?;
@@ -26,7 +26,7 @@ fn push_name(model: &Model, m: u32, out: &mut Vec<u8>) -> Result<(), AllocError>
 
 /// Appends the reward names with a blank between two.
 fn push_all_names(model: &Model, out: &mut Vec<u8>) -> Result<(), AllocError>
-    ensures text { OnOk result (out.new.items ≡ out.old.items ++ joined (32 ∷ []) model.now.names) }
+    ensures text { OnOk result (out.new.items ≡ out.old.items ++ joined (codes " ") model.now.names) }
     ensures front { take (length out.old.items) out.new.items ≡ out.old.items }
 {
     for m in 0..model.names() {

@@ -11,6 +11,7 @@ use crate::line::{begins_blank, is_blank, trim_start};
 use crate::line_error::LineError;
 use std::alloc::Global;
 
+/// Whether a label can have this length.
 fn is_sized(name: &[u8]) -> bool
     ensures { result ≡ is_sized name.now }
 {
@@ -23,6 +24,7 @@ fn has_quote(text: &[u8]) -> bool
     text.iter().any(|b| *b == b'"')
 }
 
+/// How many bytes stand before the first quote.
 fn quote_place(bytes: &[u8]) -> usize
     ensures place { result ≡ prefix_len (λ c. not (is_quote c)) bytes.now }
     ensures within { result ≤ length bytes.now }
@@ -30,6 +32,7 @@ fn quote_place(bytes: &[u8]) -> usize
     bytes.iter().take_while(|b| **b != b'"').count()
 }
 
+/// How many bytes stand before the first blank.
 fn blank_place(bytes: &[u8]) -> usize
     ensures place { result ≡ prefix_len (λ c. not (is_blank c)) bytes.now }
     ensures within { result ≤ length bytes.now }
@@ -66,6 +69,7 @@ fn bare(bytes: &[u8]) -> Result<(&[u8], &[u8]), DrnKind>
     }
 }
 
+/// The label that comes first, and the bytes behind it.
 fn next_label(bytes: &[u8]) -> Result<(&[u8], &[u8]), DrnKind>
     requires { 0 < length bytes.now }
     ensures { told both_now result ≡ first_label bytes.now }

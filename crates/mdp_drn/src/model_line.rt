@@ -3,7 +3,7 @@ ghost use Rattle.std.specs.List.{All};
 ghost use Rattle.mdp_num.specs.Meaning.{IsWithinLimit};
 ghost use Rattle.mdp_rows.specs.Draft.{has_choice, has_state};
 ghost use Rattle.mdp_rows.specs.Name.{IsName};
-ghost use Rattle.mdp_drn.specs.Body.{state_read, action_read, entry_read, state_line, action_line, entry_line, model_line, is_state_line, is_action_line, is_rest_of_state, value_text, begins_with_byte};
+ghost use Rattle.mdp_drn.specs.Body.{state_read, action_read, entry_read, state_line, action_line, entry_line, model_line, is_state_line, is_action_line, is_rest_of_state, value_text, begins_as, is_other_mark};
 ghost use Rattle.mdp_drn.specs.BodyView.{view, IsBody, IsOneLine, state_in, entry_in};
 ghost use Rattle.mdp_drn.specs.Parsing.{Says, told};
 ghost use Rattle.mdp_drn.specs.Feeding.{Answers};
@@ -40,6 +40,7 @@ fn is_action_line(text: &[u8]) -> bool
     text.starts_with(b"action") && (text.len() == 6 || begins_blank(&text[6..]))
 }
 
+/// Whether this may stand behind a state's number.
 fn is_rest_of_state(rest: &[u8]) -> bool
     ensures { result ≡ is_rest_of_state rest.now }
 {
@@ -69,7 +70,7 @@ fn value_text(behind: &[u8]) -> Result<&[u8], DrnKind>
 
 /// Whether rates or an observation come first.
 fn begins_other_type(bytes: &[u8]) -> bool
-    ensures { result ≡ (begins_with_byte 33 bytes.now || begins_with_byte 123 bytes.now) }
+    ensures { result ≡ begins_as is_other_mark bytes.now }
 {
     match bytes {
         [b'!' | b'{', ..] => true,

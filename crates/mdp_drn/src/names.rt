@@ -2,8 +2,8 @@ ghost use Rattle.std.specs.Prelude.{◌≡◌, ◌<◌, ◌==◌, ◌||◌, not,
 ghost use Rattle.std.specs.List.{list_any};
 ghost use Rattle.std.specs.Str.{bytes_eq};
 ghost use Rattle.mdp_rows.specs.Name.{are_different};
-ghost use Rattle.mdp_drn.specs.Header.{is_bad_name, names_in, words_of};
-ghost use Rattle.mdp_drn.specs.Parsing.{Says, is_bad_byte};
+ghost use Rattle.mdp_drn.specs.Header.{is_bad_byte, is_bad_name, names_in, words_of};
+ghost use Rattle.mdp_drn.specs.Parsing.{Says};
 
 use crate::error::DrnKind;
 use crate::line::is_blank;
@@ -38,6 +38,7 @@ fn contains(names: &[&[u8]], name: &[u8]) -> bool
     names.iter().any(|other| name == *other)
 }
 
+/// Whether no name comes twice.
 fn are_different(names: &[&[u8]]) -> bool
     ensures { result ≡ are_different (map (λ name. name.now) names.now) }
 {
@@ -51,6 +52,7 @@ fn are_different(names: &[&[u8]]) -> bool
     true
 }
 
+/// The words between blanks.
 fn split_words(alloc: Global, text: &[u8]) -> Result<Vec<&[u8]>, AllocError>
     ensures { IfOk result (λ words. map (λ word. word.now) words.items ≡ words_of text.now) }
 {

@@ -1,5 +1,5 @@
-ghost use Rattle.std.specs.Prelude.{◌≡◌, ◌<◌, ◌++◌, [], ◌∷◌, length, take, codes, slice_index_or, if◌then◌else◌, OnOk};
-ghost use Rattle.mdp_spec.specs.Mdp.{states_of, state_at, has_label};
+ghost use Rattle.std.specs.Prelude.{◌≡◌, ◌<◌, ◌++◌, length, take, codes, OnOk};
+ghost use Rattle.mdp_spec.specs.Mdp.{states_of, state_at};
 ghost use Rattle.mdp_drn.specs.Writing.{joined, bracket_text, label_text, labels_text, states_text};
 ghost use Rattle.mdp_drn.specs.Pieces.{separator_text, zeros_of, state_line_text, state_text};
 
@@ -10,7 +10,7 @@ use std::alloc::AllocError;
 
 /// Appends the reward 0 of place `m`, behind a comma and a blank unless it is the first.
 fn push_zero(m: u32, out: &mut Vec<u8>) -> Result<(), AllocError>
-    ensures text { OnOk result (out.new.items ≡ out.old.items ++ (separator_text (codes ", ") m ++ 48 ∷ [])) }
+    ensures text { OnOk result (out.new.items ≡ out.old.items ++ (separator_text (codes ", ") m ++ codes "0")) }
     ensures front { take (length out.old.items) out.new.items ≡ out.old.items }
 {
     push_separator(m, b", ", out)?;
@@ -48,19 +48,6 @@ fn push_quoted(name: &[u8], out: &mut Vec<u8>) -> Result<(), AllocError>
     out.extend_from_slice(b"\"")
 }
 
-/// Appends the label of place `l` where state `s` has it.
-fn push_label(model: &Model, l: u32, s: u32, out: &mut Vec<u8>) -> Result<(), AllocError>
-    requires label { l < length model.now.labels }
-    requires state { s < states_of model.now }
-    ensures text { OnOk result (out.new.items ≡ out.old.items ++ (if has_label model.now l s then label_text (slice_index_or model.now.labels l []) else [])) }
-    ensures front { take (length out.old.items) out.new.items ≡ out.old.items }
-{
-    if !model.has(l, s) {
-        return Ok(());
-    }
-    push_quoted(model.label_name(l), out)
-}
-
 /// Appends the labels of state `s`, in the model's order.
 fn push_labels(model: &Model, s: u32, out: &mut Vec<u8>) -> Result<(), AllocError>
     requires { s < states_of model.now }
@@ -68,8 +55,9 @@ fn push_labels(model: &Model, s: u32, out: &mut Vec<u8>) -> Result<(), AllocErro
     ensures front { take (length out.old.items) out.new.items ≡ out.old.items }
 {
     model.known();
-    for l in 0..model.labels() {
-        push_label(model, l, s, out)?;
+    let places = model.labels_of(s);
+    for i in 0..places.len() {
+        push_quoted(model.label_name(places[i]), out)?;
     }
     Ok(())
 }

@@ -1,137 +1,195 @@
-use crate::{DrnError, DrnKind, Feed, read};
+use crate::DrnKind::{
+    Count, End, Header, Label, Large, Negative, NoChoice, Number, Order, Parametric, Reward,
+    RowSum, RowWide, Shape, Target, TooMany, Twice, Type,
+};
+use crate::{DrnError, DrnKind, Feed, FromError, read, read_from};
+use mdp_edge::ListSource;
+use mdp_num::Memory;
 use mdp_rows::RowRule;
 use std::alloc::{AllocError, Global};
 use std::test::Fail;
 
-/// The text of model C, in 22 lines.
-const FILE: &[u8] =
-    b"@type: MDP\n@parameters\n\n@reward_models\n\n@nr_states\n3\n@nr_choices\n4\n@model\nstate 0 init\naction a\n0 : 1\naction b\n1 : 1/3\n2 : 2/3\nstate 1 goal\naction a\n1 : 1\nstate 2\naction a\n2 : 1\n";
+/// The text of a model of three states, in 22 lines.
+const COIN: &str =
+    "@type: MDP\n@parameters\n\n@reward_models\n\n@nr_states\n3\n@nr_choices\n4\n@model\nstate 0 init\naction a\n0 : 1\naction b\n1 : 1/3\n2 : 2/3\nstate 1 goal\naction a\n1 : 1\nstate 2\naction a\n2 : 1\n";
+
+/// The same text with too many states announced in line 7, which ends with the byte of number 59.
+const TOO_MANY_STATES: &str =
+    "@type: MDP\n@parameters\n\n@reward_models\n\n@nr_states\n1048577\n@nr_choices\n4\n@model\nstate 0 init\naction a\n0 : 1\naction b\n1 : 1/3\n2 : 2/3\nstate 1 goal\naction a\n1 : 1\nstate 2\naction a\n2 : 1\n";
 
 /// A header of two states, in 4 lines.
-const TWO: &[u8] = b"@type: MDP\n@nr_states\n2\n@model\n";
+const TWO_STATES: &str = "@type: MDP\n@nr_states\n2\n@model\n";
 
-fn is_refused(alloc: Global, text: &[u8], rule: RowRule, line: u64, kind: DrnKind) -> bool {
+/// The same, and a state with a choice behind it, in 6 lines.
+const FIRST_CHOICE: &str = "@type: MDP\n@nr_states\n2\n@model\nstate 0\naction\n";
+
+/// Whether the text is refused with this kind at this line.
+pub(crate) fn is_refused(
+    alloc: Global,
+    text: &[u8],
+    rule: RowRule,
+    line: u64,
+    kind: DrnKind,
+) -> bool {
     match read(alloc, text, rule) {
         Ok(_) => false,
         Err(refusal) => refusal == DrnError::At { line, kind },
     }
 }
 
-/// The text, which follows the header of two states, is refused.
-fn is_refused_behind(
+/// The first of these texts that, behind the front, isn't refused with its kind at its line.
+pub(crate) fn first_other<'a>(
     alloc: Global,
-    text: &[u8],
-    line: u64,
-    kind: DrnKind,
-) -> Result<bool, AllocError> {
-    let mut whole = Vec::from_slice(alloc, TWO)?;
-    whole.extend_from_slice(text)?;
-    Ok(is_refused(alloc, &whole, RowRule::Exact, line, kind))
+    rule: RowRule,
+    front: &str,
+    rows: &[(&'a str, u64, DrnKind)],
+) -> Result<Option<&'a str>, AllocError> {
+    for (text, line, kind) in rows {
+        let mut whole = Vec::from_slice(alloc, front.as_bytes())?;
+        whole.extend_from_slice(text.as_bytes())?;
+        if !is_refused(alloc, &whole, rule, *line, *kind) {
+            return Ok(Some(*text));
+        }
+    }
+    Ok(None)
 }
 
 #[test]
 fn refuses_headers(rt: HostRuntime) -> Result<(), Fail> {
-    let rows: [(&[u8], u64, DrnKind); 13] = [
-        (b"", 1, DrnKind::End),
-        (b"@type: MDP\n", 2, DrnKind::End),
-        (b"@type: MDP\n@type: MDP\n", 2, DrnKind::Header),
-        (b"// none\n\n@types\n", 3, DrnKind::Header),
-        (b"@type: DTMC\n", 1, DrnKind::Type),
-        (b"@type:\n", 1, DrnKind::Header),
-        (b"@placeholders\n", 1, DrnKind::Parametric),
-        (b"@parameters\np\n", 2, DrnKind::Parametric),
-        (b"@nr_states\nx\n", 2, DrnKind::Number),
-        (b"@nr_states\n0\n", 2, DrnKind::Count),
-        (b"@nr_states\n1048577\n", 2, DrnKind::TooMany),
-        (b"@nr_choices\n\n4194305\n", 3, DrnKind::TooMany),
-        (b"@reward_models\na b a\n", 2, DrnKind::Header),
+    let rows = [
+        ("", 1, End),
+        ("@type: MDP\n", 2, End),
+        ("@type: MDP\n@nr_states\n1", 4, End),
+        ("@type: MDP\n@nr_states\n1\n@model", 5, Count),
+        ("@type: MDP\n@model\n", 2, Header),
+        ("@nr_states\n1\n@model\n", 3, Header),
+        ("@type: MDP\n@type: MDP\n", 2, Header),
+        ("// none\n\n@types\n", 3, Header),
+        ("@type:\n", 1, Header),
+        ("@nr_states 3\n", 1, Header),
+        ("@reward_models\na b a\n", 2, Header),
+        ("@type: DTMC\n", 1, Type),
+        ("@type: MDPs\n", 1, Type),
+        ("@placeholders\n", 1, Parametric),
+        ("@parameters\np\n", 2, Parametric),
+        ("@nr_states\nx\n", 2, Number),
+        ("@nr_states\n3x\n", 2, Number),
+        ("@nr_states\n0\n", 2, Count),
     ];
-    for (text, line, kind) in rows {
-        assert!(rt;
-            is_refused(rt.alloc(), text, RowRule::Exact, line, kind),
-            "{line}"
-        );
-    }
+    assert_eq!(rt; first_other(rt.alloc(), RowRule::Exact, "", &rows)?, None);
     Ok(())
 }
 
 #[test]
-fn refuses_models(rt: HostRuntime) -> Result<(), Fail> {
-    let rows: [(&[u8], u64, DrnKind); 25] = [
-        (b"state 1\n", 5, DrnKind::Order),
-        (b"state 0x\n", 5, DrnKind::Shape),
-        (b"state 0 !1\n", 5, DrnKind::Type),
-        (b"state 0 [1\n", 5, DrnKind::Reward),
-        (b"state 0 [1,2]\n", 5, DrnKind::Reward),
-        (b"state 0 \"a\n", 5, DrnKind::Label),
-        (b"state 0 a\"b\n", 5, DrnKind::Label),
-        (b"action\n", 5, DrnKind::Shape),
-        (b"state 0\naction 1]\n", 6, DrnKind::Shape),
-        (b"state 0\naction [1]]\n", 6, DrnKind::Number),
-        (b"state 0 [1e36]\naction [1e36]\n", 6, DrnKind::Large),
-        (b"state 0\naction\n0 : 1e37\n", 7, DrnKind::Large),
-        (b"state 0\naction\n0 : 1/0\n", 7, DrnKind::Number),
-        (b"state 0\naction\n0 : -1\n", 7, DrnKind::Negative),
-        (b"state 0 [-1]\n", 5, DrnKind::Negative),
-        (b"state 0\naction\n2 : 1\n", 7, DrnKind::Target),
-        (b"state 0\naction\n99 : abc\n", 7, DrnKind::Target),
-        (b"state 0\naction\n0 : 0\n0 : 1\n", 8, DrnKind::Twice),
-        (b"state 0\naction\n0 : 1\n0 : x\n", 8, DrnKind::Twice),
-        (b"state 0\naction\n0 : 1/2\nstate 1x\n", 6, DrnKind::RowSum),
+fn refuses_states(rt: HostRuntime) -> Result<(), Fail> {
+    let rows = [
+        ("state 0x\n", 5, Shape),
+        ("state 1\n", 5, Order),
+        ("state 0\naction\n0 : 1\nstate 0\n", 8, Order),
+        ("state 4294967296\n", 5, Order),
         (
-            b"state 0\naction\n0 : 1/1000000000000000000000000000000000000\n1 : 1/3\naction\n",
-            6,
-            DrnKind::RowWide,
-        ),
-        (b"state 0\nstate 0\n", 5, DrnKind::NoChoice),
-        (b"state 0\n// last\n", 5, DrnKind::NoChoice),
-        (b"state 0\naction\n0 : 1\n", 8, DrnKind::Count),
-        (
-            b"state 0\naction\n0:1\nstate 1\naction\n1:1\nstate 2\n",
+            "state 0\naction\n0:1\nstate 1\naction\n1:1\nstate 2\n",
             11,
-            DrnKind::Count,
+            Count,
         ),
+        ("state 0\naction\n0 : 1\n", 8, Count),
+        ("state 0 !1\n", 5, Type),
+        ("state 0{1}\n", 5, Type),
+        ("state 0 [1\n", 5, Reward),
+        ("state 0 [1,2]\n", 5, Reward),
+        ("state 0 [1,]\n", 5, Reward),
+        ("state 0 [-1]\n", 5, Negative),
+        ("state 0 \"a\n", 5, Label),
+        ("state 0 a\"b\n", 5, Label),
+        ("state 0 \"\"\n", 5, Label),
+        ("state 0\nstate 0\n", 5, NoChoice),
+        ("state 0\n// last\n", 5, NoChoice),
     ];
-    for (text, line, kind) in rows {
-        assert!(rt; is_refused_behind(rt.alloc(), text, line, kind)?, "{line}");
-    }
+    assert_eq!(rt;
+        first_other(rt.alloc(), RowRule::Exact, TWO_STATES, &rows)?,
+        None
+    );
     Ok(())
 }
 
-/// The front, and a text again and again behind it.
-fn repeated(alloc: Global, front: &[u8], text: &[u8], times: u32) -> Result<Vec<u8>, AllocError> {
-    let mut whole = Vec::from_slice(alloc, front)?;
-    for _ in 0..times {
-        whole.extend_from_slice(text)?;
-    }
-    Ok(whole)
+/// A target, a value or a row that is taken shows by the state that is missing at the end.
+#[test]
+fn refuses_choices(rt: HostRuntime) -> Result<(), Fail> {
+    let rows = [
+        ("action\n", 5, Shape),
+        ("0 : 1\n", 5, Shape),
+        ("state 0\naction 1]\n", 6, Shape),
+        ("state 0\naction [1]]\n", 6, Number),
+        ("state 0\naction [1,2]\n", 6, Reward),
+        ("state 0 [1e36]\naction [0]\n0 : 1\n", 8, Count),
+        ("state 0 [1e36]\naction [1]\n", 6, Large),
+        ("state 0\naction\n2 1\n", 7, Shape),
+        ("state 0\naction\n0 :\n", 7, Shape),
+        ("state 0\naction\n0 : 1/0\n", 7, Number),
+        ("state 0\naction\n0 : 1e37\n", 7, Large),
+        ("state 0\naction\n0 : -1\n", 7, Negative),
+        ("state 0\naction\n0 : -0\n", 7, Negative),
+        ("state 0\naction\n1 : 1\n", 8, Count),
+        ("state 0\naction\n2 : 1\n", 7, Target),
+        ("state 0\naction\n99 : abc\n", 7, Target),
+        ("state 0\naction\n4294967296 : 1\n", 7, Target),
+        ("state 0\naction\n0 : 0\n0 : 1\n", 8, Twice),
+        ("state 0\naction\n0 : 1\n0 : x\n", 8, Twice),
+        ("state 0\naction\n0 : 1\naction\n0 : 1\n", 10, Count),
+    ];
+    assert_eq!(rt;
+        first_other(rt.alloc(), RowRule::Exact, TWO_STATES, &rows)?,
+        None
+    );
+    Ok(())
 }
 
 #[test]
-fn refuses_at_its_limits(rt: HostRuntime) -> Result<(), Fail> {
-    let alloc = rt.alloc();
-    let longest = repeated(alloc, b"//", b"/", 65_534)?;
-    let longer = repeated(alloc, b"//", b"/", 65_535)?;
-    assert!(rt; is_refused(alloc, &longest, RowRule::Exact, 2, DrnKind::End));
-    assert!(rt; is_refused(alloc, &longer, RowRule::Exact, 1, DrnKind::LongLine));
-    let labels = repeated(
-        alloc,
-        b"@type: MDP\n@nr_states\n1\n@model\nstate 0",
-        b" a",
-        64,
-    )?;
-    let more_labels = repeated(
-        alloc,
-        b"@type: MDP\n@nr_states\n1\n@model\nstate 0",
-        b" a",
-        65,
-    )?;
-    assert!(rt; is_refused(alloc, &labels, RowRule::Exact, 5, DrnKind::NoChoice));
-    assert!(rt; is_refused(alloc, &more_labels, RowRule::Exact, 5, DrnKind::TooMany));
-    let names: &[u8] = b"@reward_models\na b c d e f g h i j k l m n o p\n";
-    let more_names: &[u8] = b"@reward_models\na b c d e f g h i j k l m n o p q\n";
-    assert!(rt; is_refused(alloc, names, RowRule::Exact, 3, DrnKind::End));
-    assert!(rt; is_refused(alloc, more_names, RowRule::Exact, 2, DrnKind::TooMany));
+fn refuses_rows(rt: HostRuntime) -> Result<(), Fail> {
+    let rows = [
+        ("0 : 1/2\nstate 1x\n", 6, RowSum),
+        ("action\n", 6, RowSum),
+        ("0 : 0.999999999999999999999999999999999999\n", 6, RowSum),
+        (
+            "0 : 1/1000000000000000000000000000000000000\n1 : 1/3\naction\n",
+            6,
+            RowWide,
+        ),
+        (
+            "0 : 1/999999999999999999999999999999999999\n1 : 1/1000000000000000000000000000000000000\n",
+            6,
+            RowWide,
+        ),
+        (
+            "0 : 999999999999999999999999999999999999/1000000000000000000000000000000000000\n1 : 1e-36\n",
+            9,
+            Count,
+        ),
+    ];
+    assert_eq!(rt;
+        first_other(rt.alloc(), RowRule::Exact, FIRST_CHOICE, &rows)?,
+        None
+    );
+    Ok(())
+}
+
+#[test]
+fn refuses_rows_to_be_scaled(rt: HostRuntime) -> Result<(), Fail> {
+    let rows = [
+        ("0 : 0.9989\n", 6, RowSum),
+        ("0 : 0.999\n", 8, Count),
+        ("0 : 1.001\n", 8, Count),
+        ("0 : 1.0011\n", 6, RowSum),
+        (
+            "0 : 1/999999999999999999999999999999999999\n1 : 1/1000000000000000000000000000000000000\n",
+            6,
+            RowWide,
+        ),
+    ];
+    assert_eq!(rt;
+        first_other(rt.alloc(), RowRule::Scaled, FIRST_CHOICE, &rows)?,
+        None
+    );
     Ok(())
 }
 
@@ -139,7 +197,7 @@ fn refuses_at_its_limits(rt: HostRuntime) -> Result<(), Fail> {
 fn reads_in_pieces(rt: HostRuntime) -> Result<(), Fail> {
     for size in [1, 7, 65_536] {
         let mut feed = Feed::new(rt.alloc(), RowRule::Exact)?;
-        for piece in FILE.chunks(size.max(1)) {
+        for piece in COIN.as_bytes().chunks(size.max(1)) {
             assert_eq!(rt; feed.push(piece), Ok(()));
         }
         let model = feed.finish()?;
@@ -150,23 +208,54 @@ fn reads_in_pieces(rt: HostRuntime) -> Result<(), Fail> {
     Ok(())
 }
 
+/// Whether a feed in pieces of this size refuses from the end of line 7 on, and not before.
+fn is_refused_in_pieces(alloc: Global, size: usize) -> Result<bool, Memory> {
+    let refusal = DrnError::At {
+        line: 7,
+        kind: TooMany,
+    };
+    let mut feed = Feed::new(alloc, RowRule::Exact)?;
+    let mut given = 0usize;
+    let mut is_right = true;
+    for piece in TOO_MANY_STATES.as_bytes().chunks(size.max(1)) {
+        given = given.saturating_add(piece.len());
+        let wanted = if given < 59 { Ok(()) } else { Err(refusal) };
+        is_right = is_right && feed.push(piece) == wanted;
+    }
+    match feed.finish() {
+        Ok(_) => Ok(false),
+        Err(error) => Ok(is_right && error == refusal),
+    }
+}
+
 #[test]
 fn stays_refused(rt: HostRuntime) -> Result<(), Fail> {
-    let mut feed = Feed::new(rt.alloc(), RowRule::Scaled)?;
-    let refusal = DrnError::At {
-        line: 1,
-        kind: DrnKind::Header,
+    for size in [1, 7, 65_536] {
+        assert!(rt; is_refused_in_pieces(rt.alloc(), size)?, "{size}");
+    }
+    Ok(())
+}
+
+/// How many states are read from a source that gives 7 bytes a call, and fails at the calls of these numbers.
+fn states_from(alloc: Global, fails: &[u64], limit: u32) -> Result<u32, FromError> {
+    let Ok(text) = Vec::from_slice(alloc, COIN.as_bytes()) else {
+        return Err(FromError::Memory);
     };
-    assert_eq!(rt; feed.push(b"no header\n@type"), Err(refusal));
-    assert_eq!(rt; feed.push(b": MDP\n"), Err(refusal));
-    assert!(rt;
-        matches!(
-            feed.finish(),
-            Err(DrnError::At {
-                line: 1,
-                kind: DrnKind::Header
-            })
-        )
+    let Ok(fails) = Vec::from_slice(alloc, fails) else {
+        return Err(FromError::Memory);
+    };
+    let mut source = ListSource::new(text, 7, fails);
+    let model = read_from(alloc, &mut source, RowRule::Exact, limit as usize)?;
+    Ok(model.states())
+}
+
+#[test]
+fn reads_from_a_source(rt: HostRuntime) -> Result<(), Fail> {
+    assert_eq!(rt; states_from(rt.alloc(), &[], 178), Ok(3));
+    assert_eq!(rt; states_from(rt.alloc(), &[], 177), Err(FromError::Long));
+    assert_eq!(rt;
+        states_from(rt.alloc(), &[5], 178),
+        Err(FromError::ReadFault)
     );
     Ok(())
 }

@@ -3,7 +3,7 @@ ghost use Rattle.mdp_math.specs.Rational.{of_int};
 ghost use Rattle.std.specs.List.{All, slice_split};
 ghost use Rattle.std.specs.Prelude.{◌==◌};
 ghost use Rattle.mdp_num.specs.Meaning.{IsWithinLimit};
-ghost use Rattle.mdp_drn.specs.Values.{value_of, rewards_in, each_value, trimmed};
+ghost use Rattle.mdp_drn.specs.Values.{value_of, rewards_in, each_value, is_comma, trimmed};
 ghost use Rattle.mdp_drn.specs.Parsing.{Says};
 
 use crate::error::DrnKind;
@@ -29,8 +29,9 @@ pub(crate) fn read_value(text: &[u8]) -> Result<Frac, DrnKind>
     }
 }
 
+/// The texts between the commas.
 fn split_at_commas(alloc: Global, inside: &[u8]) -> Result<Vec<&[u8]>, AllocError>
-    ensures { IfOk result (λ texts. map (λ text. text.now) texts.items ≡ slice_split (λ c. c == 44) inside.now) }
+    ensures { IfOk result (λ texts. map (λ text. text.now) texts.items ≡ slice_split is_comma inside.now) }
 {
     inside.split(|c| *c == b',').collect(alloc)
 }

@@ -1,20 +1,17 @@
 -- Which states a list holds.
-use Rattle.std.proofs.Common.{◌≡◌, ◌≢◌, ◌⊎◌, inl, inr, ℕ, suc, zero, ◌+◌, ◌<◌, Bool, true, false, ◌||◌, ◌==◌, List, [], ◌∷◌, ◌++◌, length, take, get_or, refl, sym, ap, ◌∙◌, arith, Option, Some, None, eq-eqb}
+use Rattle.std.proofs.Common.{◌≡◌, ◌≢◌, ◌⊎◌, inl, inr, ℕ, suc, zero, ◌+◌, ◌<◌, true, false, ◌||◌, ◌==◌, List, [], ◌∷◌, ◌++◌, length, take, get_or, refl, sym, ap, ◌∙◌, arith, Option, Some, None, eq-eqb}
 use Rattle.std.specs.List.{All}
 use Rattle.std.proofs.lemmas.Bool.{cases_lt, eqb-true, false≢true}
 use Rattle.std.proofs.lemmas.List.{take_more}
 use Rattle.std.proofs.lemmas.List.Folds.{list_any-append}
 use Rattle.mdp_rows.specs.Preds.{is_among}
+use Rattle.mdp_graph.proofs.Truths.{case-bool, or-right}
 
 pub case-eq : (t x : ℕ) → (t ≡ x) ⊎ (t ≢ x)
 case-eq t x = elim (cases_lt t x) [
   | inl l ↦ inr (omega arith)
   | inr g ↦ elim (cases_lt x t) [ inl l ↦ inr (omega arith) | inr k ↦ inl (omega arith) ]
 ]
-
-pub case-bool : (b : Bool) → (b ≡ true) ⊎ (b ≡ false)
-case-bool true = inl refl
-case-bool false = inr refl
 
 pub case-rank : (o : Option ℕ) → (o ≡ None) ⊎ ((r : ℕ) × (o ≡ Some r))
 case-rank None = inl refl
@@ -25,10 +22,6 @@ among-append t xs ys = list_any-append (λ x. x == t) xs ys
 
 pub among-more : (t : ℕ) (xs : List ℕ) (i : ℕ) → i < length xs → is_among t (take (i + 1) xs) ≡ (is_among t (take i xs) || ((get_or xs i 0 == t) || false))
 among-more t xs i h = ap (is_among t) (take_more xs i 0 h) ∙ among-append t (take i xs) (get_or xs i 0 ∷ [])
-
-pub or-right : (b : Bool) → (b || true) ≡ true
-or-right true = refl
-or-right false = refl
 
 -- what holds of each element holds of those that are among them
 pub among-below : (t n : ℕ) (xs : List ℕ) → All (λ x. x < n) xs → is_among t xs ≡ true → t < n

@@ -10,16 +10,16 @@ use Rattle.mdp_rows.specs.Preds.{leads_to}
 use Rattle.mdp_graph.specs.Sets.{marked, can_enter, stays_in}
 use Rattle.mdp_graph.specs.Layers.{reached, rank_at, at_most, AreRanks}
 use Rattle.mdp_graph.specs.Choices.{IsFirst, AreLeast}
-use Rattle.mdp_graph.specs.Meet.{must_step, is_ranked}
+use Rattle.mdp_graph.specs.Meet.{must_step}
 use Rattle.mdp_graph.specs.Avoid.{IsAvoiding, IsGreatestAvoiding, keeps}
-use Rattle.mdp_graph.proofs.Among.{case-eq, case-bool, case-rank}
+use Rattle.mdp_graph.proofs.Among.{case-eq, case-rank}
 use Rattle.mdp_graph.proofs.EdgeFacts.{all-as-stays}
 use Rattle.mdp_graph.proofs.Falls.{case-any}
-use Rattle.mdp_graph.proofs.Passes.{and-none}
 use Rattle.mdp_graph.proofs.RankFacts.{some-same}
 use Rattle.mdp_graph.proofs.Reached.{at_most-some}
-use Rattle.mdp_graph.proofs.Steps.{any-some, some-any, enters-at, and-left, and-right, both}
-use Rattle.mdp_graph.proofs.Meeting.{each-true, must_respects, some_at_most}
+use Rattle.mdp_graph.proofs.Steps.{any-some, some-any, enters-at}
+use Rattle.mdp_graph.proofs.Meeting.{none_is, is_ranked, each-true, must_respects, some_at_most}
+use Rattle.mdp_graph.proofs.Truths.{case-bool, and-false, and-left, and-right, both, or-left-false, or-right-is-false}
 
 -- the choice as the code tests it
 pub keeps_is : (m : Mdp) (marks : List Bool) (s c : ℕ) (ts : List ℕ) (ps : List ℚ) → length ts ≡ length ps → entries ts ps ≡ row_at m s c → keeps m marks s c ≡ (marked marks s && list_all (marked marks) ts)
@@ -32,14 +32,10 @@ pub keeps_all : (m : Mdp) (marks : List Bool) (s c : ℕ) (ts : List ℕ) (ps : 
 keeps_all m marks s c ts ps same e is all = keeps_is m marks s c ts ps same e ∙ both (marked marks s) (list_all (marked marks) ts) is all
 
 pub keeps_none : (m : Mdp) (marks : List Bool) (s c : ℕ) (ts : List ℕ) (ps : List ℚ) → length ts ≡ length ps → entries ts ps ≡ row_at m s c → list_all (marked marks) ts ≡ false → keeps m marks s c ≡ false
-keeps_none m marks s c ts ps same e out = keeps_is m marks s c ts ps same e ∙ ap (λ b. marked marks s && b) out ∙ and-none (marked marks s)
+keeps_none m marks s c ts ps same e out = keeps_is m marks s c ts ps same e ∙ ap (λ b. marked marks s && b) out ∙ and-false (marked marks s)
 
 pub without-is : (ranks : List (Option ℕ)) (s : ℕ) → s < length ranks → marked (map is_none ranks) s ≡ is_none (rank_at ranks s)
 without-is ranks s h = get_or-map is_none ranks s None false h
-
-is_no_rank : (o : Option ℕ) → is_none o ≡ true → o ≡ None
-is_no_rank None e = refl
-is_no_rank (Some r) e = absurd (false≢true e)
 
 not_some : (o : Option ℕ) → is_some o ≡ false → is_none o ≡ true
 not_some None e = refl
@@ -58,20 +54,12 @@ greatest_rank (o ∷ ranks) = let w = greatest_rank ranks in elim (case-rank o) 
 ]
 
 -- a choice that doesn't enter a set
-all-some-false : {X : Type 0} (p : X → Bool) (xs : List X) (d : X) → list_all p xs ≡ false → (i : ℕ) × (i < length xs) × (p (get_or xs i d) ≡ false)
+pub all-some-false : {X : Type 0} (p : X → Bool) (xs : List X) (d : X) → list_all p xs ≡ false → (i : ℕ) × (i < length xs) × (p (get_or xs i d) ≡ false)
 all-some-false p [] d e = absurd (false≢true (sym e))
 all-some-false p (x ∷ xs) d e = elim (case-bool (p x)) [
   | inl here ↦ (let w = all-some-false p xs d (sym (ap (λ b. b && list_all p xs) here) ∙ e) in (suc w.0, omega (arith, w.1), w.2))
   | inr not_here ↦ (0, omega arith, not_here)
 ]
-
-or-left-false : (a b : Bool) → (a || b) ≡ false → a ≡ false
-or-left-false true b e = e
-or-left-false false b e = refl
-
-or-right-is-false : (a b : Bool) → (a || b) ≡ false → b ≡ false
-or-right-is-false true b e = absurd (false≢true (sym e))
-or-right-is-false false b e = e
 
 pub stays-outside : (p q : ℕ → Bool) (row : List Entry) (n : ℕ) → All (λ x. x.target < n) row → ((t : ℕ) → t < n → p t ≡ false → q t ≡ true) → can_enter p row ≡ false → stays_in q row ≡ true
 stays-outside p q [] n range out e = refl
@@ -91,7 +79,7 @@ module _ (m : Mdp) (ok : IsMdp m) (goals : List Bool) (ranks : List (Option ℕ)
   here s h = omega (arith, h, a.count)
 
   unranked_at : (s : ℕ) → s < states_of m → marked (map is_none ranks) s ≡ true → rank_at ranks s ≡ None
-  unranked_at s h e = is_no_rank (rank_at ranks s) (sym (without-is ranks s (here s h)) ∙ e)
+  unranked_at s h e = none_is (rank_at ranks s) (sym (without-is ranks s (here s h)) ∙ e)
 
   never_reached : (s k : ℕ) → s < states_of m → rank_at ranks s ≡ None → reached (must_step m) (marked goals) k s ≡ false
   never_reached s k h e = sym (a.least k s h) ∙ ap (at_most k) e

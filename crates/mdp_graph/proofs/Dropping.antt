@@ -10,10 +10,11 @@ use Rattle.mdp_graph.specs.Choices.{plain_rank}
 use Rattle.mdp_graph.specs.Reach.{may_step}
 use Rattle.mdp_graph.specs.Meet.{must_step}
 use Rattle.mdp_graph.specs.SureAll.{AreSure}
-use Rattle.mdp_graph.proofs.Among.{case-eq, case-bool}
+use Rattle.mdp_graph.proofs.Among.{case-eq}
 use Rattle.mdp_graph.proofs.Reached.{rank_of, at_most-some}
 use Rattle.mdp_graph.proofs.Passes.{mark-is, plain-is, has_rank, no_rank}
 use Rattle.mdp_graph.proofs.Avoiding.{without-is}
+use Rattle.mdp_graph.proofs.Truths.{case-bool}
 
 -- the ranks of the marked states below i were taken away
 pub record AreDropped (old : List (Option ℕ)) (marks : List Bool) (i : ℕ) (new : List (Option ℕ)) : Type 0 where

@@ -4,21 +4,19 @@ use Rattle.std.specs.List.{list_any, list_all}
 use Rattle.std.proofs.lemmas.Bool.{cases_lt, false≢true}
 use Rattle.std.proofs.lemmas.List.{get_or_push, get_or_append_left}
 use Rattle.mdp_math.specs.Rational.{ℚ}
-use Rattle.mdp_spec.specs.Mdp.{Entry, Mdp, row_at}
+use Rattle.mdp_spec.specs.Mdp.{Mdp, row_at}
 use Rattle.mdp_spec.specs.Row.{entries}
 use Rattle.mdp_graph.specs.Sets.{marked, can_enter}
 use Rattle.mdp_graph.specs.Layers.{rank_at}
 use Rattle.mdp_graph.specs.Choices.{plain_rank, is_before, may_fall, IsFirst}
-use Rattle.mdp_graph.proofs.Among.{case-eq, case-bool}
+use Rattle.mdp_graph.proofs.Among.{case-eq}
 use Rattle.mdp_graph.proofs.EdgeFacts.{all-as-stays}
+use Rattle.mdp_graph.proofs.Truths.{case-bool}
 
 any-as-enters : (set : ℕ → Bool) (ts : List ℕ) (ps : List ℚ) → length ts ≡ length ps → can_enter set (entries ts ps) ≡ list_any set ts
 any-as-enters set [] ps e = refl
 any-as-enters set (t ∷ ts) [] e = absurd (omega arith)
 any-as-enters set (t ∷ ts) (p ∷ ps) e = ap (λ b. set t || b) (any-as-enters set ts ps (omega arith))
-
-pub enters-targets : (set : ℕ → Bool) (row : List Entry) (ts : List ℕ) (ps : List ℚ) → length ts ≡ length ps → entries ts ps ≡ row → can_enter set row ≡ list_any set ts
-enters-targets set row ts ps same e = ap (can_enter set) (sym e) ∙ any-as-enters set ts ps same
 
 pub fall_is : (m : Mdp) (inside : List Bool) (ranks : List (Option ℕ)) (s c r : ℕ) (ts : List ℕ) (ps : List ℚ) → length ts ≡ length ps → entries ts ps ≡ row_at m s c → r ≡ plain_rank (rank_at ranks s)
     → may_fall m inside ranks s c ≡ (list_all (marked inside) ts && list_any (λ t. is_before r (rank_at ranks t)) ts)

@@ -8,6 +8,7 @@ use Rattle.mdp_rows.specs.Preds.{is_among}
 use Rattle.mdp_graph.specs.Layers.{rank_at}
 use Rattle.mdp_graph.specs.Ranking.{given, unranked, IsGiven}
 use Rattle.mdp_graph.proofs.Among.{case-eq, among-append}
+use Rattle.mdp_graph.proofs.Truths.{or-false, and-false, or-and-false}
 
 given-false : (k : ℕ) (o : Option ℕ) → o ≡ given k false o
 given-false k None = refl
@@ -17,11 +18,6 @@ given-given : (k : ℕ) (b c : Bool) (o : Option ℕ) → given k c (given k b o
 given-given k b c (Some r) = refl
 given-given k true c None = refl
 given-given k false c None = refl
-
-or-and-false : (l n : Bool) → l ≡ (l || (n && false))
-or-and-false true n = refl
-or-and-false false true = refl
-or-and-false false false = refl
 
 listed-listed : (k : ℕ) (l b c : Bool) (o : Option ℕ) → ((l || (is_none o && b)) || (is_none (given k b o) && c)) ≡ (l || (is_none o && (b || c)))
 listed-listed k true b c o = refl
@@ -64,14 +60,6 @@ kept-listed true n w h = refl
 kept-listed false true true h = sym h
 kept-listed false true false h = refl
 kept-listed false false w h = refl
-
-or-false : (b : Bool) → (b || false) ≡ b
-or-false true = refl
-or-false false = refl
-
-and-false : (b : Bool) → (b && false) ≡ false
-and-false true = refl
-and-false false = refl
 
 -- a state without a rank takes it
 pub given_one : (old new : List (Option ℕ)) (list more : List ℕ) (x k : ℕ) → x < length old → rank_at old x ≡ None → new ≡ set old x (Some k) → more ≡ list ++ x ∷ [] → IsGiven old list new more (x ∷ []) k

@@ -1,5 +1,6 @@
 mod Among
 mod Avoiding
+mod ByTest
 mod Dropping
 mod EdgeFacts
 mod Examples
@@ -7,12 +8,19 @@ mod Falls
 mod Given
 mod MayReach
 mod Meeting
+mod NextMet
+mod PassLaws
 mod Passes
+mod PolicyLaws
+mod PolicyMeets
+mod PredLists
 mod RankFacts
 mod Reached
-mod PassLaws
+mod Reaching
+mod Releasing
 mod RoundLaws
 mod Rounding
 mod Settling
 mod Steps
 mod SureSome
+mod Truths

@@ -9,8 +9,9 @@ use Rattle.mdp_graph.specs.Ranking.{AreRankedBy}
 use Rattle.mdp_graph.specs.Choices.{plain_rank, is_before, may_fall, IsFirst, AreLeast}
 use Rattle.mdp_graph.specs.Reach.{may_step, falls}
 use Rattle.mdp_graph.proofs.Reached.{ranked}
-use Rattle.mdp_graph.proofs.Steps.{may_leads, may_follows, any-some, and-right, all-inside}
+use Rattle.mdp_graph.proofs.Steps.{may_leads, may_follows, any-some, all-inside}
 use Rattle.mdp_graph.proofs.Passes.{reached_marks, least_ranks, least_choices, falls-is}
+use Rattle.mdp_graph.proofs.Truths.{and-right}
 
 -- the edges and the ranks that were found
 pub record IsFound (m : Mdp) (target blocked inside : List Bool) (edges : List (List ℕ)) (n : ℕ) (ranks : List (Option ℕ)) : Type 0 where

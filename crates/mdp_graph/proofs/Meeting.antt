@@ -1,5 +1,5 @@
 -- The layers of a search for the states that meet a set whatever is chosen.
-use Rattle.std.proofs.Common.{◌≡◌, inl, inr, ℕ, suc, zero, ◌+◌, ◌-◌, ◌<◌, ◌≤◌, Bool, true, false, ◌||◌, ◌&&◌, nat_le, le-leb, lt-ltb, map, cond, List, [], ◌∷◌, ◌++◌, length, get_or, replicate, refl, sym, ap, subst, ◌∙◌, arith, eq-eqb, Option, Some, None, is_some, is_none}
+use Rattle.std.proofs.Common.{◌≡◌, inl, inr, ℕ, suc, zero, ◌+◌, ◌-◌, ◌<◌, ◌≤◌, Bool, true, false, ◌||◌, ◌&&◌, nat_le, le-leb, lt-ltb, map, cond, List, [], ◌∷◌, length, get_or, replicate, refl, sym, ap, subst, ◌∙◌, arith, eq-eqb, Option, Some, None, is_some, is_none}
 use Rattle.std.specs.List.{list_all}
 use Rattle.std.proofs.lemmas.Bool.{false≢true, cases_lt}
 use Rattle.std.proofs.lemmas.List.Sums.{sum_by-cons}
@@ -11,56 +11,22 @@ use Rattle.mdp_graph.specs.Sets.{marked, can_enter}
 use Rattle.mdp_graph.specs.Layers.{reached, rank_at, at_most, AreRanks}
 use Rattle.mdp_graph.specs.Choices.{plain_rank, is_before}
 use Rattle.mdp_graph.specs.Ranking.{given, unranked, IsGiven}
-use Rattle.mdp_graph.specs.Meet.{must_step, is_ranked, AllFall}
-use Rattle.mdp_graph.proofs.Among.{case-eq, case-bool, case-rank, among-append, or-right}
-use Rattle.mdp_graph.proofs.RankFacts.{started, some-same, cond_some, among-last}
-use Rattle.mdp_graph.proofs.Reached.{same-truth, rank_of, at_most-some}
+use Rattle.mdp_graph.specs.Meet.{must_step, AllFall}
+use Rattle.mdp_graph.proofs.Among.{case-rank}
+use Rattle.mdp_graph.proofs.RankFacts.{none_among, started, some-same, cond_some}
+use Rattle.mdp_graph.proofs.Reached.{rank_of, at_most-some}
 use Rattle.mdp_graph.proofs.Passes.{same-enters, has_rank, mark-is, falls-is}
-use Rattle.mdp_graph.proofs.Steps.{and-left, and-right, enters-at, enters-by}
+use Rattle.mdp_graph.proofs.Steps.{enters-at, enters-by}
+use Rattle.mdp_graph.proofs.Truths.{case-bool, and-false, and-left, and-right, same-truth}
 
--- the states below n that pass a test
-pub record AreListed (test : ℕ → Bool) (n : ℕ) (list : List ℕ) : Type 0 where
-  pub at : (s : ℕ) → s < n → is_among s list ≡ test s
-  pub below : (s : ℕ) → is_among s list ≡ true → s < n
-
-abbrev pub meets_now : Mdp → List (Option ℕ) → ℕ → Bool
-meets_now m ranks s = is_none (rank_at ranks s) && must_step m (is_ranked ranks) s
-
-pub none_listed : (test : ℕ → Bool) → AreListed test 0 []
-none_listed test = record { at = λ s h. absurd (omega arith); below = λ s e. absurd (false≢true e) }
-
-pub listed_more : (test : ℕ → Bool) (n : ℕ) (list : List ℕ) → AreListed test n list → test n ≡ true → AreListed test (n + 1) (list ++ n ∷ [])
-listed_more test n list was is = record {
-  at = λ s h. elim (case-eq s n) [
-    | inl same ↦ among-append s list (n ∷ []) ∙ ap (λ b. is_among s list || (b || false)) (eq-eqb n s (sym same)) ∙ or-right (is_among s list) ∙ sym (ap test same ∙ is)
-    | inr other ↦ among-last s n list other ∙ was.at s (omega arith)
-  ];
-  below = λ s e. elim (case-eq s n) [
-    | inl same ↦ omega arith
-    | inr other ↦ (let l = was.below s (sym (among-last s n list other) ∙ e) in omega (arith, l))
-  ];
-}
-
-pub listed_skip : (test : ℕ → Bool) (n : ℕ) (list : List ℕ) → AreListed test n list → test n ≡ false → AreListed test (n + 1) list
-listed_skip test n list was is = record {
-  at = λ s h. elim (case-eq s n) [
-    | inl same ↦ (elim (case-bool (is_among s list)) [
-      | inl e ↦ (let l = was.below s e in absurd (omega (arith, l, same)))
-      | inr e ↦ e ∙ sym (ap test same ∙ is)
-    ])
-    | inr other ↦ was.at s (omega arith)
-  ];
-  below = λ s e. (let l = was.below s e in omega (arith, l));
-}
+-- the states that have a rank
+abbrev pub is_ranked : List (Option ℕ) → ℕ → Bool
+is_ranked ranks s = is_some (rank_at ranks s)
 
 -- tests that hold of each element
 pub all-true : {X : Type 0} (p : X → Bool) (xs : List X) (d : X) → ((i : ℕ) → i < length xs → p (get_or xs i d) ≡ true) → list_all p xs ≡ true
 all-true p [] d e = refl
 all-true p (x ∷ xs) d e = ap (λ b. b && list_all p xs) (e 0 (omega arith)) ∙ all-true p xs d (λ i h. e (suc i) (omega (arith, h)))
-
-and-false : (b : Bool) → (b && false) ≡ false
-and-false true = refl
-and-false false = refl
 
 pub all-false : {X : Type 0} (p : X → Bool) (xs : List X) (d : X) (i : ℕ) → i < length xs → p (get_or xs i d) ≡ false → list_all p xs ≡ false
 all-false p [] d i h e = absurd (omega arith)
@@ -137,7 +103,7 @@ among_some : (x : ℕ) (layer : List ℕ) → is_among x layer ≡ true → 0 < 
 among_some x [] e = absurd (false≢true e)
 among_some x (y ∷ layer) e = omega arith
 
-none_is : (o : Option ℕ) → is_none o ≡ true → o ≡ None
+pub none_is : (o : Option ℕ) → is_none o ≡ true → o ≡ None
 none_is None e = refl
 none_is (Some r) e = absurd (false≢true e)
 
@@ -151,10 +117,6 @@ left_some (o ∷ ranks) (suc t) h e =
     let a = sum_by-cons (λ (x : Option ℕ). cond (is_none x) 1 0) o ranks in
     let b = left_some ranks t (omega arith) e in
     omega (arith, a, b)
-
-nothing : (t : ℕ) (layer : List ℕ) → length layer ≡ 0 → is_among t layer ≡ false
-nothing t [] e = refl
-nothing t (x ∷ layer) e = absurd (omega arith)
 
 absorbs : (a b : Bool) (o : Option ℕ) → is_some o ≡ a → (is_none o && b) ≡ false → (a || b) ≡ a
 absorbs a b None e f = rw (sym e, f) refl
@@ -172,9 +134,6 @@ module _ (step : (ℕ → Bool) → ℕ → Bool) (first : ℕ → Bool) (n : �
   unranked_one some =
       let w = head_among layer some in
       (w.0, l.below w.0 w.1, w.1, none_is (rank_at ranks w.0) (and-left (is_none (rank_at ranks w.0)) (step (is_ranked ranks) w.0) (sym (l.met w.0 (l.below w.0 w.1)) ∙ w.1)))
-
-  pub some_left : 0 < length layer → k < n
-  some_left some = let w = unranked_one some in let u = left_some ranks w.0 (omega (arith, w.1, l.count)) w.3 in let v = l.left in omega (arith, u, v)
 
   module _ (new : List (Option ℕ)) (given_now : List ℕ) (g : IsGiven ranks [] new given_now layer (suc k)) where
     new-is : (s : ℕ) → s < n → rank_at new s ≡ given (suc k) (is_none (rank_at ranks s) && step (is_ranked ranks) s) (rank_at ranks s)
@@ -219,7 +178,7 @@ module _ (step : (ℕ → Bool) → ℕ → Bool) (first : ℕ → Bool) (n : �
   module _ (none : length layer ≡ 0) where
     closed : (s : ℕ) → s < n → (reached step first k s || step (reached step first k) s) ≡ reached step first k s
     closed s h = absorbs (reached step first k s) (step (reached step first k) s) (rank_at ranks s) (ranked-is s h)
-        (ap (λ b. is_none (rank_at ranks s) && b) (sym (step-is s h)) ∙ sym (l.met s h) ∙ nothing s layer none)
+        (ap (λ b. is_none (rank_at ranks s) && b) (sym (step-is s h)) ∙ sym (l.met s h) ∙ none_among s layer none)
 
     settles : (d s : ℕ) → s < n → reached step first (d + k) s ≡ reached step first k s
     unfolding reached
@@ -254,13 +213,6 @@ meeting_seen step first n respects ranks layer k l new given_now none_yet seen g
     let more : IsMeeting step first n new next (suc k) = meeting_more step first n respects ranks layer k l new given_now (seen_as ranks layer k new given_now none_yet seen g e1 e2) next met below some in
     let e : suc k ≡ k + 1 = omega arith in
     subst (λ (j : ℕ). IsMeeting step first n new next j) e more
-
-pub meeting_listed : (m : Mdp) (new seen : List (Option ℕ)) (next : List ℕ) → seen ≡ new → ((s : ℕ) → s < states_of m → is_among s next ≡ (is_none (rank_at seen s) && must_step m (is_ranked seen) s))
-    → (s : ℕ) → s < states_of m → is_among s next ≡ (is_none (rank_at new s) && must_step m (is_ranked new) s)
-meeting_listed m new seen next e met s h = met s h ∙ ap (λ (x : List (Option ℕ)). is_none (rank_at x s) && must_step m (is_ranked x) s) e
-
-pub each_more : (test : ℕ → Bool) (c : ℕ) → ((d : ℕ) → d < c → test d ≡ true) → test c ≡ true → (d : ℕ) → d < c + 1 → test d ≡ true
-each_more test c before here d h = elim (case-eq d c) [ inl same ↦ ap test same ∙ here | inr other ↦ before d (omega arith) ]
 
 -- where a marked state has its rank from
 pub step_below : (step : (ℕ → Bool) → ℕ → Bool) (first : ℕ → Bool) (n : ℕ) (ranks : List (Option ℕ)) → AreRanks step first n ranks → (s r : ℕ) → s < n → rank_at ranks s ≡ Some r → first s ≡ false

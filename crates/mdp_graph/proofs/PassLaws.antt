@@ -9,10 +9,11 @@ use Rattle.mdp_graph.specs.Choices.{AreLeast}
 use Rattle.mdp_graph.specs.Reach.{may_step}
 use Rattle.mdp_graph.specs.Avoid.{IsGreatestAvoiding, keeps}
 use Rattle.mdp_graph.specs.Laws.{policy_step, PolicyAvoids, StaysSure}
-use Rattle.mdp_graph.proofs.Among.{case-bool, or-right}
-use Rattle.mdp_graph.proofs.Steps.{enters-by, enters-at, some-any, and-right, both}
+use Rattle.mdp_graph.proofs.Reaching.{step-reaches}
+use Rattle.mdp_graph.proofs.Steps.{enters-by, enters-at, some-any}
 use Rattle.mdp_graph.proofs.Avoiding.{stays-at}
 use Rattle.mdp_graph.proofs.RoundLaws.{stays-fails}
+use Rattle.mdp_graph.proofs.Truths.{case-bool, and-right, both}
 
 meets_none : (m : Mdp) (goals marks : List Bool) (policy : List ℕ) → IsMdp m → IsGreatestAvoiding m goals marks → AreLeast m goals marks (keeps m marks) policy → (k s : ℕ) → s < states_of m → marked marks s ≡ true
     → reached (policy_step m policy) (marked goals) k s ≡ true → false ≡ true
@@ -37,10 +38,6 @@ policy_avoids m goals marks policy ok g l k s h e = elim (case-bool (reached (po
   | inr not ↦ not
 ]
 
-reach-more : (m : Mdp) (goals : List Bool) (first : ℕ → Bool) (s k : ℕ) → may_step m goals (reached (may_step m goals) first k) s ≡ true → reached (may_step m goals) first (suc k) s ≡ true
-unfolding reached
-reach-more m goals first s k e = ap (λ b. reached (may_step m goals) first k s || b) e ∙ or-right (reached (may_step m goals) first k s)
-
 pub stays_sure : StaysSure
 stays_sure m goals marks ok w s c h e not_goal k =
     let first = marked w.0 in
@@ -57,7 +54,7 @@ stays_sure m goals marks ok w s c h e not_goal k =
                 (let set = reached (may_step m goals) first j in
                 let stepped : may_step m goals set s ≡ true =
                 both (not (marked goals s)) (some_choice (can_enter set) m s) (ap not not_goal) (some-any (λ (x : Choice). can_enter set x.row) (choices_at m s) no_choice c k (enters-by set (row_at m s c) z.0 z.2 is)) in
-                absurd (false≢true (sym (here.0 e (suc j)) ∙ reach-more m goals first s j stepped)))
+                absurd (false≢true (sym (here.0 e (suc j)) ∙ step-reaches (may_step m goals) first j s stepped)))
             | inr never ↦ never
           ]))))
     ]

@@ -9,11 +9,11 @@ use Rattle.mdp_graph.specs.Sets.{marked, can_enter, stays_in}
 use Rattle.mdp_graph.specs.Layers.{reached, rank_at, AreRanks, AreReached, AreLeastRanks}
 use Rattle.mdp_graph.specs.Choices.{plain_rank, is_before, may_fall, IsFirst, AreLeast}
 use Rattle.mdp_graph.specs.Reach.{falls}
-use Rattle.mdp_graph.proofs.Among.{case-bool}
 use Rattle.mdp_graph.proofs.Falls.{case-any}
 use Rattle.mdp_graph.proofs.RankFacts.{some-same}
 use Rattle.mdp_graph.proofs.Reached.{rank_of, at_most-some}
 use Rattle.mdp_graph.proofs.Steps.{enters-at, enters-by}
+use Rattle.mdp_graph.proofs.Truths.{case-bool, and-false}
 
 -- the marks and the plain ranks, state by state
 pub mark-is : (ranks : List (Option ℕ)) (s : ℕ) → s < length ranks → marked (map is_some ranks) s ≡ is_some (rank_at ranks s)
@@ -69,10 +69,6 @@ never-enters : (row : List Entry) (p : ℕ → Bool) → ((t : ℕ) → p t ≡ 
 never-enters [] p none = refl
 never-enters (x ∷ row) p none = ap (λ b. b || can_enter p row) (none x.target) ∙ never-enters row p none
 
-pub and-none : (b : Bool) → (b && false) ≡ false
-and-none true = refl
-and-none false = refl
-
 before-zero : (o : Option ℕ) → is_before 0 o ≡ false
 before-zero None = refl
 before-zero (Some q) = le-ltb q 0 (omega arith)
@@ -123,7 +119,7 @@ module _ (m : Mdp) (ok : IsMdp m) (inside targets : List Bool) (step : (ℕ → 
   none-falls : (s c : ℕ) → plain_rank (rank_at ranks s) ≡ 0 → may_fall m inside ranks s c ≡ false
   none-falls s c e =
       ap (λ b. stays_in (marked inside) (row_at m s c) && b) (never-enters (row_at m s c) (λ t. is_before (plain_rank (rank_at ranks s)) (rank_at ranks t)) (λ t. ap (λ r. is_before r (rank_at ranks t)) e ∙ before-zero (rank_at ranks t)))
-      ∙ and-none (stays_in (marked inside) (row_at m s c))
+      ∙ and-false (stays_in (marked inside) (row_at m s c))
 
   target-zero : (s : ℕ) → s < states_of m → marked targets s ≡ true → plain_rank (rank_at ranks s) ≡ 0
   unfolding reached

@@ -9,7 +9,8 @@ use Rattle.mdp_graph.specs.Sets.{marked}
 use Rattle.mdp_graph.specs.Edges.{has_edge, entering}
 use Rattle.mdp_graph.specs.Layers.{rank_at, at_most}
 use Rattle.mdp_graph.specs.Ranking.{given, unranked, IsGiven, AreRankedBy}
-use Rattle.mdp_graph.proofs.Among.{case-eq, case-bool, case-rank, among-append, or-right}
+use Rattle.mdp_graph.proofs.Among.{case-eq, case-rank, among-append}
+use Rattle.mdp_graph.proofs.Truths.{case-bool, or-right, or-false}
 
 -- the marked states below n
 pub record AreMarked (marks : List Bool) (n : ℕ) (list : List ℕ) : Type 0 where
@@ -18,10 +19,6 @@ pub record AreMarked (marks : List Bool) (n : ℕ) (list : List ℕ) : Type 0 wh
 
 pub none_marked : (marks : List Bool) → AreMarked marks 0 []
 none_marked marks = record { at = λ s h. absurd (omega arith); below = λ s e. absurd (false≢true e) }
-
-pub or-false : (b : Bool) → (b || false) ≡ b
-or-false true = refl
-or-false false = refl
 
 pub among-last : (s n : ℕ) (list : List ℕ) → s ≢ n → is_among s (list ++ n ∷ []) ≡ is_among s list
 among-last s n list other = among-append s list (n ∷ []) ∙ ap (λ b. is_among s list || (b || false)) (ne_eqb n s (λ q. other (sym q))) ∙ or-false (is_among s list)
@@ -180,7 +177,7 @@ layered edges first n ranks layer k new next l g some =
       left = (let u = g.left in let v = l.left in omega (arith, u, v, some));
     }
 
-none_among : (t : ℕ) (layer : List ℕ) → length layer ≡ 0 → is_among t layer ≡ false
+pub none_among : (t : ℕ) (layer : List ℕ) → length layer ≡ 0 → is_among t layer ≡ false
 none_among t [] e = refl
 none_among t (x ∷ layer) e = absurd (omega arith)
 

@@ -1,16 +1,11 @@
 -- Ranks by edges are the ranks of a step, where a step leads along an edge.
-use Rattle.std.proofs.Common.{◌≡◌, inl, inr, ℕ, suc, zero, ◌+◌, ◌<◌, ◌≤◌, Bool, true, false, ◌||◌, le-leb, List, refl, sym, ap, ◌∙◌, arith, Option, Some, None}
+use Rattle.std.proofs.Common.{◌≡◌, inl, inr, ℕ, suc, zero, ◌+◌, ◌<◌, ◌≤◌, Bool, true, ◌||◌, le-leb, List, refl, sym, ap, ◌∙◌, arith, Option, Some, None}
 use Rattle.std.proofs.lemmas.Bool.{false≢true}
 use borrow.Author.Tests.{leb-true}
 use Rattle.mdp_graph.specs.Edges.{has_edge}
 use Rattle.mdp_graph.specs.Layers.{reached, rank_at, at_most, AreRanks}
 use Rattle.mdp_graph.specs.Ranking.{AreRankedBy}
-use Rattle.mdp_graph.proofs.Among.{case-bool, or-right}
-
-pub same-truth : (a b : Bool) → (a ≡ true → b ≡ true) → (b ≡ true → a ≡ true) → a ≡ b
-same-truth true b f g = sym (f refl)
-same-truth false true f g = g refl
-same-truth false false f g = refl
+use Rattle.mdp_graph.proofs.Truths.{case-bool, or-right, same-truth}
 
 -- a rank of at most k
 pub rank_of : (k : ℕ) (o : Option ℕ) → at_most k o ≡ true → (r : ℕ) × (o ≡ Some r) × (r ≤ k)

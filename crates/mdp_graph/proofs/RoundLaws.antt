@@ -10,12 +10,13 @@ use Rattle.mdp_graph.specs.Layers.{reached}
 use Rattle.mdp_graph.specs.Sure.{inside_step, IsSure}
 use Rattle.mdp_graph.specs.Rounds.{left_after, AreRounds}
 use Rattle.mdp_graph.specs.Laws.{earlier, RoundsFall, ZeroIsSure}
-use Rattle.mdp_graph.proofs.Among.{case-eq, case-bool, or-right}
-use Rattle.mdp_graph.proofs.Steps.{enters-by, both}
+use Rattle.mdp_graph.proofs.Among.{case-eq}
+use Rattle.mdp_graph.proofs.Reaching.{step-reaches}
+use Rattle.mdp_graph.proofs.Steps.{enters-by}
 use Rattle.mdp_graph.proofs.Settling.{choice-inside, reached-more}
 use Rattle.mdp_graph.proofs.Avoiding.{stays-outside}
-use Rattle.mdp_graph.proofs.Reached.{same-truth}
 use Rattle.mdp_graph.proofs.Rounding.{left-top, stays-alike}
+use Rattle.mdp_graph.proofs.Truths.{case-bool, or-right, both, same-truth}
 
 pub stays-fails : (q : ℕ → Bool) (row : List Entry) (n : ℕ) → All (λ x. x.target < n) row → stays_in q row ≡ false → (t : ℕ) × (t < n) × (leads_to t row ≡ true) × (q t ≡ false)
 stays-fails q [] n range e = absurd (false≢true (sym e))
@@ -47,11 +48,6 @@ other-left i (suc r) e f = elim (cases_lt (suc r) (suc i)) [
 gone : (i r : ℕ) → r ≡ suc i → ((r == 0) || nat_lt (i + 1) r) ≡ false
 gone i r e = ap (λ b. b || nat_lt (i + 1) r) (ne_eqb r 0 (λ z. absurd (omega (arith, e, z)))) ∙ le-ltb (i + 1) r (omega (arith, e))
 
--- a step to a state that can stay
-stay-more : (m : Mdp) (goals : List Bool) (set : ℕ → Bool) (s k : ℕ) → inside_step m set (reached (inside_step m set) (marked goals) k) s ≡ true → reached (inside_step m set) (marked goals) (suc k) s ≡ true
-unfolding reached
-stay-more m goals set s k e = ap (λ b. reached (inside_step m set) (marked goals) k s || b) e ∙ or-right (reached (inside_step m set) (marked goals) k s)
-
 fall_at : (m : Mdp) (goals : List Bool) (rounds : List ℕ) → IsMdp m → AreRounds m goals rounds → (s c i : ℕ) → s < states_of m → get_or rounds s 0 ≡ suc i → c < length (choices_at m s)
     → (can_enter (earlier rounds s) (row_at m s c) ≡ true) ⊎ (stays_in (λ t. get_or rounds t 0 == get_or rounds s 0) (row_at m s c) ≡ true)
 fall_at m goals rounds ok a s c i h e k =
@@ -74,7 +70,7 @@ fall_at m goals rounds ok a s c i h e k =
             let set = reached (inside_step m (left_after rounds i)) (marked goals) stay.0 in
             let stepped = choice-inside m (left_after rounds i) set s c k inside (enters-by set (row_at m s c) w.0 w.2 stay.1) in
             let back = a.next i s h in
-            absurd (false≢true (sym (gone i (get_or rounds s 0) e) ∙ back.1 (suc stay.0, stay-more m goals (left_after rounds i) s stay.0 stepped))))
+            absurd (false≢true (sym (gone i (get_or rounds s 0) e) ∙ back.1 (suc stay.0, step-reaches (inside_step m (left_after rounds i)) (marked goals) stay.0 s stepped))))
       ])
     ]
 

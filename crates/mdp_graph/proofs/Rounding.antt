@@ -9,10 +9,10 @@ use Rattle.mdp_graph.specs.Sets.{marked}
 use Rattle.mdp_graph.specs.Layers.{rank_at}
 use Rattle.mdp_graph.specs.Rounds.{left_after, CanStay, AreRounds}
 use Rattle.mdp_graph.specs.Noted.{noted}
-use Rattle.mdp_graph.proofs.Among.{or-right}
 use Rattle.mdp_graph.proofs.Reached.{at_most-some}
 use Rattle.mdp_graph.proofs.Passes.{mark-is, has_rank}
 use Rattle.mdp_graph.proofs.Settling.{IsSettling, all_among, reached-more, rank-reached}
+use Rattle.mdp_graph.proofs.Truths.{or-right, or-false}
 
 -- the rounds of the first k states are noted
 pub record IsNoted (old new : List ℕ) (ranks : List (Option ℕ)) (round k : ℕ) : Type 0 where
@@ -38,10 +38,6 @@ pub record IsRounding (m : Mdp) (goals inside : List Bool) (ranks : List (Option
   pub top : (s : ℕ) → s < states_of m → get_or rounds s 0 ≤ k
   pub each : (i s : ℕ) → i < k → s < states_of m → (left_after rounds (i + 1) s ≡ true) ↔ CanStay m goals (left_after rounds i) s
   pub small : k + left ≤ states_of m
-
-or-false : (b : Bool) → (b || false) ≡ b
-or-false true = refl
-or-false false = refl
 
 -- after the last round no more states are removed
 pub left-top : (r i : ℕ) → r ≤ i → ((r == 0) || nat_lt i r) ≡ (r == 0)

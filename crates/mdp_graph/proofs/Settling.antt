@@ -14,10 +14,10 @@ use Rattle.mdp_graph.specs.Edges.{has_edge, has_way}
 use Rattle.mdp_graph.specs.Layers.{reached, rank_at, AreRanks}
 use Rattle.mdp_graph.specs.Sure.{inside_step, IsSure}
 use Rattle.mdp_graph.specs.Settled.{IsSettled}
-use Rattle.mdp_graph.proofs.Among.{case-bool, or-right}
 use Rattle.mdp_graph.proofs.Reached.{LeadsAlong, Follows, rank_of, at_most-some}
-use Rattle.mdp_graph.proofs.Steps.{any-some, some-any, enters-at, enters-by, way-choice, and-left, and-right, both}
+use Rattle.mdp_graph.proofs.Steps.{any-some, some-any, enters-at, enters-by, way-choice}
 use Rattle.mdp_graph.proofs.Passes.{mark-is, has_rank}
+use Rattle.mdp_graph.proofs.Truths.{case-bool, or-right, and-left, and-right, both}
 
 -- a step inside is a choice
 pub inside-choice : (m : Mdp) (inside set : ℕ → Bool) (s : ℕ) → inside_step m inside set s ≡ true → (c : ℕ) × (c < length (choices_at m s)) × (stays_in inside (row_at m s c) ≡ true) × (can_enter set (row_at m s c) ≡ true)
@@ -48,7 +48,7 @@ module _ (m : Mdp) (ok : IsMdp m) (inside : List Bool) (edges : List (List ℕ))
       choice-inside m (marked inside) set s w.0 w.1 w.2 (enters-by set (row_at m s w.0) t w.3 h)
 
 -- a greater set is reached from more states
-stays-more : (p q : ℕ → Bool) (row : List Entry) (n : ℕ) → All (λ x. x.target < n) row → ((t : ℕ) → t < n → p t ≡ true → q t ≡ true) → stays_in p row ≡ true → stays_in q row ≡ true
+pub stays-more : (p q : ℕ → Bool) (row : List Entry) (n : ℕ) → All (λ x. x.target < n) row → ((t : ℕ) → t < n → p t ≡ true → q t ≡ true) → stays_in p row ≡ true → stays_in q row ≡ true
 stays-more p q [] n range more e = refl
 stays-more p q (x ∷ row) n range more e =
     both (q x.target) (stays_in q row) (more x.target (range 0 x (omega arith)) (and-left (p x.target) (stays_in p row) e))

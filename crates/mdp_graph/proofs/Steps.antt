@@ -10,8 +10,8 @@ use Rattle.mdp_rows.specs.Preds.{leads_to}
 use Rattle.mdp_graph.specs.Sets.{marked, can_enter, stays_in, some_choice}
 use Rattle.mdp_graph.specs.Edges.{has_edge, has_way, leads}
 use Rattle.mdp_graph.specs.Reach.{may_step, row_step}
-use Rattle.mdp_graph.proofs.Among.{case-bool, or-right}
 use Rattle.mdp_graph.proofs.Reached.{LeadsAlong, Follows}
+use Rattle.mdp_graph.proofs.Truths.{case-bool, or-right, and-left, and-right, both}
 
 pub any-some : {X : Type 0} (p : X → Bool) (xs : List X) (d : X) → list_any p xs ≡ true → (i : ℕ) × (i < length xs) × (p (get_or xs i d) ≡ true)
 any-some p [] d e = absurd (false≢true e)
@@ -45,17 +45,6 @@ pub all-inside : (n : ℕ) (row : List Entry) → All (λ x. x.target < n) row �
 all-inside n [] range = refl
 all-inside n (x ∷ row) range =
     ap (λ b. b && stays_in (marked (replicate n true)) row) (get_or-replicate n x.target true false (range 0 x (omega arith))) ∙ all-inside n row (λ k d l. range (suc k) d (omega arith))
-
-pub and-left : (a b : Bool) → (a && b) ≡ true → a ≡ true
-and-left true b e = refl
-and-left false b e = absurd (false≢true e)
-
-pub and-right : (a b : Bool) → (a && b) ≡ true → b ≡ true
-and-right true b e = e
-and-right false b e = absurd (false≢true e)
-
-pub both : (a b : Bool) → a ≡ true → b ≡ true → (a && b) ≡ true
-both a b e f = rw (e, f) refl
 
 -- a way to t is a choice
 pub way-choice : (m : Mdp) (inside : List Bool) (s t : ℕ) → has_way m inside s t ≡ true → (c : ℕ) × (c < length (choices_at m s)) × (stays_in (marked inside) (row_at m s c) ≡ true) × (leads_to t (row_at m s c) ≡ true)

@@ -1,14 +1,89 @@
 -- What the passes are for, in terms of policies and of the rules of a certificate.
-use Rattle.std.specs.Prelude.{◌≡◌, ℕ, ◌<◌, ◌⊎◌, Bool, true, false, ◌&&◌, ◌==◌, nat_lt, List, length, slice_index}
-use Rattle.mdp_spec.specs.Mdp.{Mdp, states_of, choices_at, row_at}
-use Rattle.mdp_spec.specs.Row.{IsMdp}
-use Rattle.mdp_graph.specs.Sets.{marked, can_enter, stays_in}
-use Rattle.mdp_graph.specs.Layers.{reached}
+use Rattle.std.specs.Prelude.{◌≡◌, ℕ, ◌<◌, ◌⊎◌, Bool, true, false, not, ◌&&◌, ◌==◌, nat_lt, List, [], length, slice_index, slice_index_or}
+use Rattle.mdp_spec.specs.Mdp.{Entry, Mdp, states_of, choices_at, row_at}
+use Rattle.mdp_spec.specs.Row.{IsMdp, AreRows}
+use Rattle.mdp_spec.specs.Rules.{IsPolicy}
+use Rattle.mdp_graph.specs.Sets.{marked, can_enter, stays_in, some_choice}
+use Rattle.mdp_graph.specs.Layers.{reached, AreReached, AreLeastRanks}
 use Rattle.mdp_graph.specs.Choices.{AreLeast}
-use Rattle.mdp_graph.specs.Sure.{IsGreatestSure}
+use Rattle.mdp_graph.specs.Reach.{may_step, row_step, falls}
+use Rattle.mdp_graph.specs.Meet.{must_step}
+use Rattle.mdp_graph.specs.Sure.{inside_step, IsGreatestSure, stays_and_falls}
 use Rattle.mdp_graph.specs.Rounds.{AreRounds}
 use Rattle.mdp_graph.specs.Avoid.{IsGreatestAvoiding, keeps}
 use Rattle.mdp_graph.specs.SureAll.{IsSureAll}
+
+-- the choice that a policy takes at a state has a successor in the set
+abbrev pub policy_step : Mdp → List ℕ → (ℕ → Bool) → ℕ → Bool
+policy_step m policy set s = can_enter set (row_at m s (slice_index policy s))
+
+-- ---- may_reach
+
+-- by the choices of the pass each marked state can come to a target within as many steps as its rank
+abbrev pub ChoicesReach : Type 0
+ChoicesReach =
+    (m : Mdp) (targets blocked marks : List Bool) (ranks policy : List ℕ) → IsMdp m
+    → AreReached (may_step m blocked) (marked targets) (states_of m) marks → AreLeastRanks (may_step m blocked) (marked targets) (states_of m) marks ranks → AreLeast m targets marks (falls m marks ranks) policy
+    → (s : ℕ) → s < states_of m → marked marks s ≡ true → reached (policy_step m policy) (marked targets) (slice_index ranks s) s ≡ true
+
+-- a state that is neither marked nor blocked has no choice that leads to a marked one
+abbrev pub RestStays : Type 0
+RestStays =
+    (m : Mdp) (targets blocked marks : List Bool) → IsMdp m → AreReached (may_step m blocked) (marked targets) (states_of m) marks
+    → (s : ℕ) → s < states_of m → marked marks s ≡ false → marked blocked s ≡ false → some_choice (can_enter (marked marks)) m s ≡ false
+
+-- ---- along
+
+-- the row of a marked state that is no target leads to a marked state of smaller rank
+abbrev pub RowsFall : Type 0
+RowsFall =
+    (rows : List (List Entry)) (targets marks : List Bool) (ranks : List ℕ) → AreRows rows
+    → AreReached (row_step rows) (marked targets) (length rows) marks → AreLeastRanks (row_step rows) (marked targets) (length rows) marks ranks
+    → (s : ℕ) → s < length rows → marked marks s ≡ true → marked targets s ≡ false
+    → can_enter (λ t. marked marks t && nat_lt (slice_index ranks t) (slice_index ranks s)) (slice_index_or rows s []) ≡ true
+
+-- the row of a state that isn't marked leads to no marked one
+abbrev pub RowsStay : Type 0
+RowsStay =
+    (rows : List (List Entry)) (targets marks : List Bool) → AreRows rows → AreReached (row_step rows) (marked targets) (length rows) marks
+    → (s : ℕ) → s < length rows → marked marks s ≡ false → can_enter (marked marks) (slice_index_or rows s []) ≡ false
+
+-- ---- must_meet
+
+-- whatever policy is taken, each marked state can come to a target within as many steps as its rank
+abbrev pub EachPolicyMeets : Type 0
+EachPolicyMeets =
+    (m : Mdp) (targets marks : List Bool) (ranks policy : List ℕ) → IsMdp m
+    → AreReached (must_step m) (marked targets) (states_of m) marks → AreLeastRanks (must_step m) (marked targets) (states_of m) marks ranks → IsPolicy m policy
+    → (s : ℕ) → s < states_of m → marked marks s ≡ true → reached (policy_step m policy) (marked targets) (slice_index ranks s) s ≡ true
+
+-- a state that isn't marked has a choice that leads to no marked one
+abbrev pub RestAvoids : Type 0
+RestAvoids =
+    (m : Mdp) (targets marks : List Bool) → IsMdp m → AreReached (must_step m) (marked targets) (states_of m) marks
+    → (s : ℕ) → s < states_of m → marked marks s ≡ false → some_choice (stays_in (λ t. not (marked marks t))) m s ≡ true
+
+-- ---- sure_some
+
+-- a policy that keeps a set and by which each state of the set can come to a goal
+pub record IsSurePolicy (m : Mdp) (goals : List Bool) (policy : List ℕ) (set : ℕ → Bool) : Type 0 where
+  pub stays : (s : ℕ) → s < states_of m → set s ≡ true → marked goals s ≡ false → stays_in set (row_at m s (slice_index policy s)) ≡ true
+  pub reaches : (s : ℕ) → s < states_of m → set s ≡ true → (k : ℕ) × (reached (policy_step m policy) (marked goals) k s ≡ true)
+
+-- the choices of the pass are such a policy of the marked states
+abbrev pub ChoicesAreSure : Type 0
+ChoicesAreSure =
+    (m : Mdp) (goals marks : List Bool) (ranks policy : List ℕ) → IsMdp m → IsGreatestSure m goals marks
+    → AreLeastRanks (inside_step m (marked marks)) (marked goals) (states_of m) marks ranks → AreLeast m goals marks (stays_and_falls m marks ranks) policy
+    → IsSurePolicy m goals policy (marked marks)
+
+-- each set with such a policy is marked
+abbrev pub SureAreMarked : Type 0
+SureAreMarked =
+    (m : Mdp) (goals marks : List Bool) (policy : List ℕ) (set : ℕ → Bool) → IsMdp m → IsGreatestSure m goals marks → IsPolicy m policy → IsSurePolicy m goals policy set
+    → (s : ℕ) → s < states_of m → set s ≡ true → marked marks s ≡ true
+
+-- ---- rounds_outside
 
 -- state t is outside, with a smaller round than state s
 abbrev pub earlier : List ℕ → ℕ → ℕ → Bool
@@ -25,15 +100,21 @@ abbrev pub ZeroIsSure : Type 0
 ZeroIsSure =
     (m : Mdp) (goals : List Bool) (rounds : List ℕ) (marks : List Bool) → IsMdp m → AreRounds m goals rounds → IsGreatestSure m goals marks → (s : ℕ) → s < states_of m → (slice_index rounds s == 0) ≡ marked marks s
 
--- the choice that a policy takes at a state leads into the set
-abbrev pub policy_step : Mdp → List ℕ → (ℕ → Bool) → ℕ → Bool
-policy_step m policy set s = can_enter set (row_at m s (slice_index policy s))
+-- ---- may_avoid
 
 -- the policy of an avoiding set meets no goal from a state of the set, after whatever number of steps
 abbrev pub PolicyAvoids : Type 0
 PolicyAvoids =
     (m : Mdp) (goals marks : List Bool) (policy : List ℕ) → IsMdp m → IsGreatestAvoiding m goals marks → AreLeast m goals marks (keeps m marks) policy → (k s : ℕ) → s < states_of m → marked marks s ≡ true
     → reached (policy_step m policy) (marked goals) k s ≡ false
+
+-- from any other state each policy can come to a goal after some number of steps
+abbrev pub RestMeets : Type 0
+RestMeets =
+    (m : Mdp) (goals marks : List Bool) (policy : List ℕ) → IsMdp m → IsGreatestAvoiding m goals marks → IsPolicy m policy → (s : ℕ) → s < states_of m → marked marks s ≡ false
+    → (k : ℕ) × (reached (policy_step m policy) (marked goals) k s ≡ true)
+
+-- ---- sure_all
 
 -- whatever is chosen at a state that surely reaches a goal, the successors surely do
 abbrev pub StaysSure : Type 0

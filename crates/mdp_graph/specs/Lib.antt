@@ -10,6 +10,7 @@ pub mod Settled
 pub mod Rounds
 pub mod Noted
 pub mod Meet
+pub mod Waiting
 pub mod Avoid
 pub mod SureAll
 pub mod Laws

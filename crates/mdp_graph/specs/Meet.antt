@@ -1,17 +1,12 @@
 -- States that meet a set whatever is chosen.
-use Rattle.std.specs.Prelude.{◌≡◌, ℕ, ◌<◌, Bool, true, false, List, length, Option, is_some}
+use Rattle.std.specs.Prelude.{◌≡◌, ℕ, ◌<◌, Bool, true, false, List, length}
 use Rattle.mdp_spec.specs.Mdp.{Mdp, states_of, choices_at}
 use Rattle.mdp_graph.specs.Sets.{marked, can_enter, each_choice}
-use Rattle.mdp_graph.specs.Layers.{rank_at}
 use Rattle.mdp_graph.specs.Reach.{falls}
 
 -- a state each choice of which has a successor in the set
 abbrev pub must_step : Mdp → (ℕ → Bool) → ℕ → Bool
 must_step m set s = each_choice (can_enter set) m s
-
--- the states that have a rank
-abbrev pub is_ranked : List (Option ℕ) → ℕ → Bool
-is_ranked ranks s = is_some (rank_at ranks s)
 
 -- each choice of a marked state that is no target has a marked successor of smaller rank
 abbrev pub AllFall : Mdp → List Bool → List Bool → List ℕ → Type 0

@@ -7,7 +7,7 @@ ghost use Rattle.mdp_graph.specs.SureAll.{IsSureAll};
 
 use crate::avoid::marks_without;
 use crate::meet::meeting_ranks;
-use crate::pass::{Pass, marks_by, no_choices, plain_ranks};
+use crate::pass::{Pass, marks_by, plain_ranks, zeros};
 use crate::reach::may_reach;
 use mdp_num::Memory;
 use mdp_rows::{Marks, Model};
@@ -43,6 +43,6 @@ pub fn sure_all(alloc: Global, model: &Model, goals: &Marks) -> Result<Pass, Mem
     Ok(Pass {
         marks: marks_by(alloc, &ranks)?,
         ranks: plain_ranks(alloc, &ranks)?,
-        choices: no_choices(alloc, model.states() as usize)?,
+        choices: zeros(alloc, model.states() as usize)?,
     })
 }

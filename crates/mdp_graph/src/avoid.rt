@@ -7,7 +7,7 @@ ghost use Rattle.mdp_graph.specs.Avoid.{IsGreatestAvoiding, keeps};
 
 use crate::edges::all_marked;
 use crate::meet::meeting_ranks;
-use crate::pass::{Pass, no_choices};
+use crate::pass::{Pass, zeros};
 use mdp_num::Memory;
 use mdp_rows::{Marks, Model};
 use std::alloc::{AllocError, Global};
@@ -64,7 +64,7 @@ pub fn may_avoid(alloc: Global, model: &Model, goals: &Marks) -> Result<Pass, Me
     let choices = keeping_choices(alloc, model, &marks)?;
     Ok(Pass {
         marks,
-        ranks: no_choices(alloc, model.states() as usize)?,
+        ranks: zeros(alloc, model.states() as usize)?,
         choices,
     })
 }

@@ -1,4 +1,33 @@
-ghost use Rattle.mdp_graph.specs.Laws.{RoundsFall, ZeroIsSure, PolicyAvoids, StaysSure};
+ghost use Rattle.mdp_graph.specs.Laws.{ChoicesReach, RestStays, RowsFall, RowsStay, EachPolicyMeets, RestAvoids, ChoicesAreSure, SureAreMarked};
+ghost use Rattle.mdp_graph.specs.Laws.{RoundsFall, ZeroIsSure, PolicyAvoids, RestMeets, StaysSure};
+
+/// By the choices of `may_reach` each marked state can come to a target within as many steps as its rank. No choice of a state that is neither
+/// marked nor blocked leads to a marked state.
+pub fn reach_law()
+    ensures reaches { ChoicesReach }
+    ensures rest { RestStays }
+{}
+
+/// Of the rows given to `along`, that of a marked state that is no target leads to a marked state of smaller rank, and that of any other
+/// state to no marked one.
+pub fn along_law()
+    ensures falls { RowsFall }
+    ensures rest { RowsStay }
+{}
+
+/// Under each policy a marked state of `must_meet` can come to a target within as many steps as its rank. A state that isn't marked has a choice
+/// that leads to no marked one.
+pub fn meet_law()
+    ensures meets { EachPolicyMeets }
+    ensures rest { RestAvoids }
+{}
+
+/// The choices of `sure_some` keep to the marked states and can come from each of them to a goal. Each set of states with a policy that does
+/// so is marked.
+pub fn sure_some_law()
+    ensures policy { ChoicesAreSure }
+    ensures greatest { SureAreMarked }
+{}
 
 /// Outside the greatest sure set each choice has a successor outside of smaller round, or all its successors are outside with the same round.
 /// The states of round 0 are those of `sure_some`.
@@ -7,9 +36,10 @@ pub fn rounds_law()
     ensures zero { ZeroIsSure }
 {}
 
-/// The policy of `may_avoid` meets no goal from a marked state.
+/// The policy of `may_avoid` meets no goal from a marked state. From any other state each policy can come to a goal.
 pub fn avoid_law()
     ensures avoids { PolicyAvoids }
+    ensures rest { RestMeets }
 {}
 
 /// From a state of `sure_all` that is no goal each choice leads to such states alone.

@@ -11,10 +11,13 @@ mod ranking;
 mod reach;
 mod rounds;
 mod sure;
+mod waiting;
 
 pub use always::sure_all;
 pub use avoid::may_avoid;
-pub use laws::{avoid_law, rounds_law, sure_all_law};
+pub use laws::{
+    along_law, avoid_law, meet_law, reach_law, rounds_law, sure_all_law, sure_some_law,
+};
 pub use meet::must_meet;
 pub use pass::Pass;
 pub use reach::{along, may_reach};

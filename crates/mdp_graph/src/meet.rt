@@ -1,61 +1,18 @@
-ghost use Rattle.std.specs.Prelude.{◌≡◌, ◌<◌, ◌&&◌, ℕ, true, length, is_none, replicate, IfOk};
-ghost use Rattle.std.specs.List.{All, list_any};
+ghost use Rattle.std.specs.Prelude.{◌≡◌, length, replicate, IfOk};
 ghost use Rattle.mdp_spec.specs.Mdp.{states_of};
-ghost use Rattle.mdp_rows.specs.Preds.{is_among};
 ghost use Rattle.mdp_graph.specs.Sets.{marked};
-ghost use Rattle.mdp_graph.specs.Layers.{rank_at, AreRanks, AreReached, AreLeastRanks};
-ghost use Rattle.mdp_graph.specs.Meet.{must_step, is_ranked, AllFall};
+ghost use Rattle.mdp_graph.specs.Layers.{AreRanks, AreReached, AreLeastRanks};
+ghost use Rattle.mdp_graph.specs.Meet.{must_step, AllFall};
 
-use crate::pass::{Pass, marks_by, no_choices, plain_ranks};
+use crate::pass::{Pass, marks_by, plain_ranks, zeros};
 use crate::ranking::{give_rank, marked_states, no_ranks};
+use crate::waiting::Waiting;
 use mdp_num::Memory;
-use mdp_rows::{Marks, Model};
-use std::alloc::{AllocError, Global};
+use mdp_rows::{Marks, Model, preds_of};
+use std::alloc::Global;
 
-/// Whether a target has a rank.
-fn some_ranked(targets: &[u32], ranks: &[Option<u32>]) -> bool
-    requires { All (λ t. t < length ranks.now) targets.now }
-    ensures { result ≡ list_any (is_ranked ranks.now) targets.now }
-{
-    for t in targets {
-        if ranks[*t as usize].is_some() {
-            return true;
-        }
-    }
-    false
-}
-
-/// Whether each choice of state `s` has a successor with a rank.
-fn meets(model: &Model, ranks: &[Option<u32>], s: u32) -> bool
-    requires state { s < states_of model.now }
-    requires ranks { length ranks.now ≡ states_of model.now }
-    ensures { result ≡ must_step model.now (is_ranked ranks.now) s }
-{
-    for c in 0..model.choices(s) {
-        if !some_ranked(model.row(s, c).targets, ranks) {
-            return false;
-        }
-    }
-    true
-}
-
-/// The states without a rank each choice of which has a successor with a rank, ascending.
-fn next_met(alloc: Global, model: &Model, ranks: &[Option<u32>]) -> Result<Vec<u32>, AllocError>
-    requires ranks { length ranks.now ≡ states_of model.now }
-    ensures met { IfOk result (λ list. (s : ℕ) → s < states_of model.now → is_among s list.items ≡ (is_none (rank_at ranks.now s) && must_step model.now (is_ranked ranks.now) s)) }
-    ensures below { IfOk result (λ list. (s : ℕ) → is_among s list.items ≡ true → s < states_of model.now) }
-{
-    let mut list = Vec::new(alloc);
-    for s in 0..model.states() {
-        if ranks[s as usize].is_none() && meets(model, ranks, s) {
-            list.push(s)?;
-        }
-    }
-    Ok(list)
-}
-
-/// The least ranks by which states meet a target whatever is chosen; none where they don't. Each round looks at the states that have no rank
-/// yet, so the time is that of the entries times the greatest rank.
+/// The least ranks by which states meet a target whatever is chosen; none where they don't. Each entry is looked at once, so the time grows
+/// with their number.
 pub(crate) fn meeting_ranks(
     alloc: Global,
     model: &Model,
@@ -65,17 +22,19 @@ pub(crate) fn meeting_ranks(
     ensures { IfOk result (λ ranks. AreRanks (must_step model.now) (marked target.now) (states_of model.now) ranks.items) }
 {
     model.known();
+    let preds = preds_of(alloc, model)?;
+    let mut waiting = Waiting::all(alloc, model)?;
     let mut ranks = no_ranks(alloc, model.states())?;
     let first = marked_states(alloc, target, model.states())?;
-    let mut met = Vec::new(alloc);
-    give_rank(&mut ranks, &mut met, &first, 0)?;
-    let mut layer = next_met(alloc, model, &ranks)?;
+    let mut layer = Vec::new(alloc);
+    give_rank(&mut ranks, &mut layer, &first, 0)?;
+    let mut met = waiting.met_by(alloc, &preds, &ranks, &layer)?;
     let mut rank = 0;
-    while !layer.is_empty() {
+    while !met.is_empty() {
         rank += 1;
-        let mut met = Vec::new(alloc);
-        give_rank(&mut ranks, &mut met, &layer, rank)?;
-        layer = next_met(alloc, model, &ranks)?;
+        let mut layer = Vec::new(alloc);
+        give_rank(&mut ranks, &mut layer, &met, rank)?;
+        met = waiting.met_by(alloc, &preds, &ranks, &layer)?;
     }
     Ok(ranks)
 }
@@ -94,6 +53,6 @@ pub fn must_meet(alloc: Global, model: &Model, target: &Marks) -> Result<Pass, M
     Ok(Pass {
         marks: marks_by(alloc, &ranks)?,
         ranks: plain_ranks(alloc, &ranks)?,
-        choices: no_choices(alloc, model.states() as usize)?,
+        choices: zeros(alloc, model.states() as usize)?,
     })
 }

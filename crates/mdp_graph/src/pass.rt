@@ -39,11 +39,11 @@ pub(crate) fn plain_ranks(alloc: Global, ranks: &[Option<u32>]) -> Result<Vec<u3
     Ok(plain)
 }
 
-/// Choice 0 for each of so many states.
-pub(crate) fn no_choices(alloc: Global, states: usize) -> Result<Vec<u32>, AllocError>
-    ensures { IfOk result (λ choices. choices.items ≡ replicate states 0) }
+/// So many zeros.
+pub(crate) fn zeros(alloc: Global, count: usize) -> Result<Vec<u32>, AllocError>
+    ensures { IfOk result (λ zeros. zeros.items ≡ replicate count 0) }
 {
-    Ok(vec![in alloc; 0; states]?)
+    Ok(vec![in alloc; 0; count]?)
 }
 
 /// Whether a target has a rank below `rank`.

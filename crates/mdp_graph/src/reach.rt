@@ -6,17 +6,17 @@ ghost use Rattle.mdp_graph.specs.Choices.{AreLeast};
 ghost use Rattle.mdp_graph.specs.Reach.{may_step, row_step, falls};
 
 use crate::edges::Edges;
-use crate::pass::{Pass, least_choices, marks_by, no_choices, plain_ranks};
+use crate::pass::{Pass, least_choices, marks_by, plain_ranks, zeros};
 use crate::ranking::ranks_by;
 use mdp_num::Memory;
 use mdp_rows::{Marks, Model, RowsOf};
 use std::alloc::{AllocError, Global};
 
-/// All of so many states.
-pub(crate) fn all_states(alloc: Global, states: u32) -> Result<Marks, AllocError>
-    ensures { IfOk result (λ marks. marks ≡ replicate states true) }
+/// One `true` for each of so many.
+pub(crate) fn all_true(alloc: Global, count: u32) -> Result<Marks, AllocError>
+    ensures { IfOk result (λ marks. marks ≡ replicate count true) }
 {
-    Ok(Marks::from_values(vec![in alloc; true; states as usize]?))
+    Ok(Marks::from_values(vec![in alloc; true; count as usize]?))
 }
 
 /// The states from which a target can be reached without taking a choice of a blocked state. Targets have rank 0, also where they are blocked.
@@ -34,7 +34,7 @@ pub fn may_reach(
     ensures choices { IfOk result (λ pass. AreLeast model.now target.now pass.marks (falls model.now pass.marks pass.ranks.items) pass.choices.items) }
 {
     model.known();
-    let inside = all_states(alloc, model.states())?;
+    let inside = all_true(alloc, model.states())?;
     let edges = Edges::of_model(alloc, model, &inside, blocked)?;
     let ranks = ranks_by(alloc, &edges, target, model.states())?;
     Ok(Pass {
@@ -57,6 +57,6 @@ pub fn along<R: RowsOf>(alloc: Global, rows: &R, target: &Marks) -> Result<Pass,
     Ok(Pass {
         marks: marks_by(alloc, &ranks)?,
         ranks: plain_ranks(alloc, &ranks)?,
-        choices: no_choices(alloc, rows.count() as usize)?,
+        choices: zeros(alloc, rows.count() as usize)?,
     })
 }

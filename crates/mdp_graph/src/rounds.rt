@@ -4,8 +4,8 @@ ghost use Rattle.mdp_graph.specs.Layers.{rank_at};
 ghost use Rattle.mdp_graph.specs.Noted.{noted};
 ghost use Rattle.mdp_graph.specs.Rounds.{AreRounds};
 
-use crate::pass::{marks_by, no_choices};
-use crate::reach::all_states;
+use crate::pass::{marks_by, zeros};
+use crate::reach::all_true;
 use crate::sure::{count_ranked, ranks_inside};
 use mdp_num::Memory;
 use mdp_rows::{Marks, Model};
@@ -31,8 +31,8 @@ pub fn rounds_outside(alloc: Global, model: &Model, goals: &Marks) -> Result<Vec
     ensures { IfOk result (λ rounds. AreRounds model.now goals.now rounds.items) }
 {
     model.known();
-    let mut rounds = no_choices(alloc, model.states() as usize)?;
-    let mut inside = all_states(alloc, model.states())?;
+    let mut rounds = zeros(alloc, model.states() as usize)?;
+    let mut inside = all_true(alloc, model.states())?;
     let mut left = model.states() as usize;
     let mut ranks = ranks_inside(alloc, model, &inside, goals)?;
     let mut round = 0;

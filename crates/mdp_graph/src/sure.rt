@@ -10,7 +10,7 @@ ghost use Rattle.mdp_graph.specs.Settled.{IsSettled};
 use crate::edges::Edges;
 use crate::pass::{Pass, least_choices, marks_by, plain_ranks};
 use crate::ranking::ranks_by;
-use crate::reach::all_states;
+use crate::reach::all_true;
 use mdp_num::Memory;
 use mdp_rows::{Marks, Model};
 use std::alloc::Global;
@@ -51,7 +51,7 @@ fn settled_ranks(alloc: Global, model: &Model, goals: &Marks) -> Result<Vec<Opti
     ensures { IfOk result (λ ranks. IsSettled model.now goals.now ranks.items) }
 {
     model.known();
-    let mut inside = all_states(alloc, model.states())?;
+    let mut inside = all_true(alloc, model.states())?;
     let mut left = model.states() as usize;
     let mut ranks = ranks_inside(alloc, model, &inside, goals)?;
     while count_ranked(&ranks) < left {

@@ -1,6 +1,6 @@
 -- How a builder's steps join to its calls.
 use Rattle.std.proofs.Common.{◌≡◌, ◌≢◌, ℕ, ◌-◌, ◌<◌, ◌≤◌, ◌^◌, Bool, true, false, List, [], ◌∷◌, ◌++◌, length, Option, Some, None, refl, sym, ap, ap₂, subst, ◌∙◌, arith, ◌⊎◌, inl, inr, eqb, eq-eqb, if◌then◌else◌}
-use Rattle.std.specs.Prelude.{Result, Ok, Err, OnOk, IfOk, IfErr}
+use Rattle.std.specs.Prelude.{replicate, Result, Ok, Err, OnOk, IfOk, IfErr}
 use Rattle.std.specs.List.{All}
 use Rattle.std.proofs.lemmas.Bool.{ne_eqb}
 use Rattle.std.proofs.lemmas.List.Elements.{All-nil}
@@ -20,7 +20,9 @@ use Rattle.mdp_rows.specs.declared.assembly.Stage.TheVariants.{Between}
 use Rattle.mdp_rows.specs.declared.assembly.Assembly.TheInside.{Inside}
 use Rattle.mdp_rows.specs.declared.model.Model.TheInside.{Inside as ModelInside}
 use Rattle.mdp_rows.proofs.DraftFacts.{same_draft, closed_in, closed_len, closed_is}
+use Rattle.mdp_rows.proofs.GivenRows.{none_marked}
 use Rattle.mdp_rows.proofs.Growth.{one_place}
+use Rattle.mdp_rows.proofs.SoundSteps.{ok_same}
 
 -- ---- what is closed after a step
 
@@ -28,12 +30,6 @@ after_row : (d n : Draft) (o : OpenState) (c : OpenChoice) (r : Result (List Ent
 after_row d n o c (Ok k) e =
     subst (λ (x : Draft). IsChoiceClosed x.state) (let s : (let x : Draft = record d { state = Some (record o { choices = o.choices ++ record { row = k; rewards = c.rewards } ∷ []; choice = None }) } in x) ≡ n = cc in s) refl
 after_row d n o c (Err x) e = absurd cc
-
-abbrev pub done : {A : Type 0} → A → Result A RowsError
-done x = Ok x
-
-pub ok_same : {A : Type 0} → (d n : A) → done d ≡ Ok n → d ≡ n
-ok_same d n e = cc
 
 closed_cases : (d n : Draft) (o : OpenState) (r : Option OpenChoice) → d.state ≡ Some o → o.choice ≡ r → with_choice_closed d o r ≡ Ok n → IsChoiceClosed n.state
 closed_cases d n o None s e h = subst (λ (x : Draft). IsChoiceClosed x.state) (ok_same d n h) (rw s e)
@@ -130,7 +126,7 @@ call_kept old mid new due (Err e) n f k s = record { ok = tt; err = by_cases f; 
 
 module _ (b : Inside) (states : ℕ) (rule : RowRule) (names : List (List ℕ)) (some : 1 ≤ states) (few : states ≤ 2 ^ 20) (announced : b.announced ≡ states) (ruled : b.rule ≡ rule)
     (choices : b.choices ≡ record { names = names; choices = [] }) (starts : b.starts.items ≡ 0 ∷ []) (first : b.first_choice ≡ 0)
-    (labels : b.labels ≡ record { names = []; of_state = [] }) (stage : b.stage ≡ Between) (places : b.places.items ≡ []) (calls : b.label_calls ≡ 0) (row : b.row.items ≡ []) (entries : b.entries ≡ 0) (refused : b.refused ≡ None) where
+    (labels : b.labels ≡ record { names = []; of_state = [] }) (stage : b.stage ≡ Between) (places : b.places.items ≡ []) (calls : b.label_calls ≡ 0) (row : b.row.items ≡ []) (marks : b.targets ≡ replicate states false) (entries : b.entries ≡ 0) (refused : b.refused ≡ None) where
   of_state_none : b.labels.of_state ≡ []
   of_state_none = ap (λ (l : Labelling). l.of_state) labels
 
@@ -161,8 +157,7 @@ module _ (b : Inside) (states : ℕ) (rule : RowRule) (names : List (List ℕ)) 
     idle = λ h. row;
     few_rows = rw (no_choices, stage) (omega arith);
     in_range = rw no_choices (All-nil (λ (c : Choice). All (λ x. x.target < b.announced) c.row));
-    ascending = rw row refl;
-    row_in_range = rw row (All-nil (λ x. x.target < b.announced));
+    row = rw (row, marks, announced) (none_marked states);
     total = rw (no_choices, row) (omega arith);
     few_entries = omega arith;
   }

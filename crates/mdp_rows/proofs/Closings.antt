@@ -1,12 +1,8 @@
 -- What a row closes as.
-use Rattle.std.proofs.Common.{◌≡◌, ◌≢◌, ℕ, ◌+◌, ◌*◌, ◌/◌, ◌<◌, ◌≤◌, Bool, true, false, ◌&&◌, T, ltb, lt-ltb, le-ltb, eqb, eq-eqb, List, pos, refl, sym, ap, subst, ◌∙◌, arith, if◌then◌else◌}
+use Rattle.std.proofs.Common.{◌≡◌, ◌≢◌, ℕ, ◌+◌, ◌*◌, ◌/◌, ◌<◌, ◌≤◌, Bool, true, false, ◌&&◌, T, lt-ltb, le-ltb, eqb, eq-eqb, List, pos, refl, sym, ap, subst, ◌∙◌, arith, if◌then◌else◌}
 use Rattle.std.specs.Prelude.{Result, Ok, Err}
-use Rattle.mdp_math.specs.Rational.{ℚ, ratio, le_ℚ, inv_ℚ, ◌≤ℚ◌, ◌<ℚ◌}
-use Rattle.mdp_math.specs.Sum.{sum_of}
-use Rattle.mdp_math.proofs.Order.{0ℚ, 1ℚ, ratio-le, le-ratio, mul-inv, ne-zero_of_pos, <ℚ-≤ℚ_trans, is_positive, strict_of}
-use Rattle.mdp_math.proofs.Laws.{is_ratio}
-use Rattle.std.proofs.lemmas.Int.{ints}
-use Rattle.mdp_math.proofs.Sums.{sum_of-map, sum_of-scale_right}
+use Rattle.mdp_math.specs.Rational.{ℚ, ratio, le_ℚ, ◌≤ℚ◌}
+use Rattle.mdp_math.proofs.Order.{ratio-le, le-ratio}
 use Rattle.mdp_num.specs.Numeral.{limit}
 use Rattle.mdp_spec.specs.Mdp.{Entry}
 use Rattle.mdp_spec.specs.Unit.{row_den}
@@ -18,13 +14,12 @@ use Rattle.mdp_rows.specs.declared.error.RowsError.{RowsError}
 use Rattle.mdp_rows.specs.declared.error.RowsError.TheVariants.{RowSum, RowWide}
 use Rattle.mdp_rows.specs.declared.rule.RowRule.{RowRule}
 use Rattle.mdp_rows.specs.declared.rule.RowRule.TheVariants.{Exact, Scaled}
-use Rattle.mdp_rows.proofs.Distributions.{sum_kept}
-use Rattle.mdp_rows.proofs.Parts.{one_by, is_one-parts}
+use Rattle.mdp_rows.proofs.Parts.{is_one-parts}
 use Rattle.mdp_rows.proofs.Denominators.{row_den-pos}
 use Rattle.std.proofs.lemmas.Bool.{ne_eqb}
 use Rattle.std.proofs.Math.Nat.{div-mul-le_self, lt-div-mul-add}
 use Rattle.std.specs.Int.{abs_diff}
-use Rattle.mdp_rows.proofs.Scaling.{over, total_is}
+use Rattle.mdp_rows.proofs.Scaling.{total_is}
 
 -- ---- a row that is too wide, or not
 
@@ -95,46 +90,6 @@ pub not_near : (n d : ℕ) → 0 < d → ((999 * d ≤ n * 1000) × (n * 1000 �
 not_near n d h f =
     false_of (is_near_one (ratio (pos n) d))
     (λ e. f (le-ratio 999 n 1000 d (omega arith) h (near_low (ratio (pos n) d) e), le-ratio n 1001 d 1000 h (omega arith) (near_high (ratio (pos n) d) e)))
-
--- ---- what closes adds to 1
-
-positive_near : (x : ℚ) → is_near_one x ≡ true → 0ℚ <ℚ x
-positive_near x e = <ℚ-≤ℚ_trans 0ℚ (ratio (pos 999) 1000) x (is_positive (ratio (pos 999) 1000) (strict_of (ratio (pos 999) 1000) (pos 999) 1000 (is_ratio (pos 999) 1000 (omega arith)) (omega (arith, ints)))) (near_low x e)
-
-pub total-scaled : (row : List Entry) → is_near_one (row_total row) ≡ true → sum_of (λ x. x.prob) (scaled_row row) ≡ 1ℚ
-total-scaled row e =
-    sum_of-map (over (row_total row)) (λ x. x.prob) row
-    ∙ sum_of-scale_right (inv_ℚ (row_total row)) (λ x. x.prob) row
-    ∙ mul-inv (row_total row) (ne-zero_of_pos (row_total row) (positive_near (row_total row) e))
-
-bound : (r : Result (List Entry) RowsError) (f : List Entry → Result (List Entry) RowsError) (k : List Entry) → (r >>= f) ≡ Ok k → (x : List Entry) × (r ≡ Ok x) × (f x ≡ Ok k)
-bound (Ok x) f k e = (x, refl, e)
-bound (Err e) f k h = absurd cc
-
-same_ok : (x y : List Entry) → (let r : Result (List Entry) RowsError = Ok x in r) ≡ Ok y → x ≡ y
-same_ok x y e = cc
-
-passed : (b : Bool) (e : RowsError) (r : Result (List Entry) RowsError) (x : List Entry) → (if b then r else Err e) ≡ Ok x → (b ≡ true) × (r ≡ Ok x)
-passed true e r x h = (refl, h)
-passed false e r x h = absurd cc
-
-kept_within : (b : Bool) (e : RowsError) (row x : List Entry) → (if b then Err e else Ok row) ≡ Ok x → x ≡ row
-kept_within true e row x h = absurd cc
-kept_within false e row x h = sym (same_ok row x h)
-
-ruled_total : (rule : RowRule) (s c : ℕ) (row values : List Entry) → ruled_row rule s c row ≡ Ok values → sum_of (λ x. x.prob) values ≡ 1ℚ
-ruled_total Exact s c row values e =
-    let p = passed (is_one (row_total row)) (RowSum s c) (Ok row) values e in
-    ap (sum_of (λ x. x.prob)) (sym (same_ok row values p.1)) ∙ one_by (row_total row) p.0
-ruled_total Scaled s c row values e =
-    let p = passed (is_near_one (row_total row)) (RowSum s c) (within_limit s c (scaled_row row)) values e in
-    ap (sum_of (λ x. x.prob)) (kept_within (ltb limit (row_den (scaled_row row))) (RowWide s c) (scaled_row row) values p.1) ∙ total-scaled row p.0
-
-pub closed_total : (rule : RowRule) (s c : ℕ) (row k : List Entry) → closed_row rule s c row ≡ Ok k → sum_of (λ x. x.prob) k ≡ 1ℚ
-closed_total rule s c row k e =
-    let a = bound (within_limit s c row) (λ given. ruled_row rule s c given >>= λ values. Ok (kept values)) k e in
-    let b = bound (ruled_row rule s c a.0) (λ values. Ok (kept values)) k a.2 in
-    ap (sum_of (λ x. x.prob)) (sym (same_ok (kept b.0) k b.2)) ∙ sum_kept b.0 ∙ ruled_total rule s c a.0 b.0 b.1
 
 -- ---- a row with its least common denominator, and its sum in parts of it
 

@@ -14,6 +14,7 @@ use Rattle.mdp_rows.specs.ChoiceTable.{ChoiceTable}
 use Rattle.mdp_rows.specs.Pieces.{pieces}
 use Rattle.mdp_rows.specs.FlatModel.{states_from}
 use Rattle.mdp_rows.specs.Given.{row_of, entry_of}
+use Rattle.mdp_rows.specs.GivenRow.{in_order, IsGivenRow}
 use Rattle.mdp_rows.specs.Draft.{Draft, OpenState, OpenChoice, closed_row, kept, is_zero, choice_closed, choice_closed_in, with_choice_closed, state_closed, state_closed_in, state_opened, new_state, IsChoiceClosed, ◌>>=◌}
 use Rattle.mdp_rows.specs.FlatDraft.{draft_in, open_in, state_in, choice_in, open_choices, IsDraft}
 use Rattle.mdp_rows.specs.declared.given.Given.{Given}
@@ -30,7 +31,6 @@ use Rattle.mdp_rows.proofs.KeptFacts.{filter_le}
 use Rattle.mdp_rows.proofs.RowsGrow.{all_one}
 use Rattle.mdp_rows.proofs.ModelFacts.{length-states_from, states_from-more}
 use Rattle.mdp_rows.proofs.Pieces.{length-pieces}
-use Rattle.mdp_rows.proofs.Targets.{targets, same_length, same_ascending, same_range}
 
 pub same_draft : (x y : Draft) → x.announced ≡ y.announced → x.rule ≡ y.rule → x.names ≡ y.names → x.labels ≡ y.labels → x.closed ≡ y.closed → x.state ≡ y.state → x.entries ≡ y.entries → x.refused ≡ y.refused → x ≡ y
 same_draft x y a u m l c s e r = λ i. record { announced = a i; rule = u i; names = m i; labels = l i; closed = c i; state = s i; entries = e i; refused = r i }
@@ -80,18 +80,18 @@ choice_with b k = record { row = k; rewards = b.sums.items }
 abbrev pub row_result : Inside → Result (List Entry) RowsError → Result Draft RowsError
 row_result b r = r >>= λ k. Ok (record (draft_in b) { state = Some (state_of b (open_choices b ++ choice_with b k ∷ []) None) })
 
-closing_by : (b : Inside) (s c : ℕ) → IsDraft b → IsOpenRow b s c → choice_closed (draft_in b) ≡ row_result b (closed_row b.rule s c (row_of b.row.items))
+closing_by : (b : Inside) (s c : ℕ) → IsDraft b → IsOpenRow b s c → choice_closed (draft_in b) ≡ row_result b (closed_row b.rule s c (in_order (row_of b.row.items)))
 unfolding draft_in
 closing_by b s c ok at =
     closing_is b at.stage
-    ∙ ap₂ (λ (x y : ℕ). row_result b (closed_row b.rule x y (row_of b.row.items))) (closed_len b ok ∙ sym at.state) (open_len b ∙ sym at.choice)
+    ∙ ap₂ (λ (x y : ℕ). row_result b (closed_row b.rule x y (in_order (row_of b.row.items)))) (closed_len b ok ∙ sym at.state) (open_len b ∙ sym at.choice)
 
-pub row_refused : (b : Inside) (v : Draft) (s c : ℕ) (e : RowsError) → draft_in b ≡ v → IsDraft b → IsOpenRow b s c → closed_row b.rule s c (row_of b.row.items) ≡ Err e → choice_closed v ≡ Err e
+pub row_refused : (b : Inside) (v : Draft) (s c : ℕ) (e : RowsError) → draft_in b ≡ v → IsDraft b → IsOpenRow b s c → closed_row b.rule s c (in_order (row_of b.row.items)) ≡ Err e → choice_closed v ≡ Err e
 row_refused b v s c e is ok at h = ap choice_closed (sym is) ∙ closing_by b s c ok at ∙ ap (row_result b) h
 
 -- the builder with other values in its open row
-pub is_with_values : (b : Inside) (row : Vec Given) → IsDraft b → targets row.items ≡ targets b.row.items → b.stage ≡ InRow → IsDraft (record b { row = row })
-is_with_values b row ok same stage = record {
+pub is_with_values : (b : Inside) (row : Vec Given) → IsDraft b → IsGivenRow b.announced (row_of row.items) b.targets → length row.items ≡ length b.row.items → b.stage ≡ InRow → IsDraft (record b { row = row })
+is_with_values b row ok given long stage = record {
   some = ok.some;
   few = ok.few;
   starts = ok.starts;
@@ -108,9 +108,8 @@ is_with_values b row ok same stage = record {
   idle = λ h. absurd (h stage);
   few_rows = ok.few_rows;
   in_range = ok.in_range;
-  ascending = same_ascending row.items b.row.items same 0 ok.ascending;
-  row_in_range = same_range row.items b.row.items same b.announced ok.row_in_range;
-  total = let l = same_length row.items b.row.items same in omega (arith, ok.total);
+  row = given;
+  total = omega (arith, ok.total);
   few_entries = ok.few_entries;
 }
 
@@ -119,10 +118,10 @@ pub items_are : (v : Vec Given) (row : List Given) → length row ≡ length v.i
 items_are v row e = with_items_is v row (e ∙ sym v.ok.0)
 
 -- the builder with the row closed
-abbrev pub with_row : Inside → ChoiceTable → Vec Given → Inside
-with_row b choices row = record b { choices = choices; row = row; stage = InState }
+abbrev pub with_row : Inside → ChoiceTable → Vec Given → List Bool → Inside
+with_row b choices row marks = record b { choices = choices; row = row; targets = marks; stage = InState }
 
-module _ (b : Inside) (choices : ChoiceTable) (row : Vec Given) (r : List Given) (s c : ℕ) (ok : IsDraft b) (at : IsOpenRow b s c) (same : targets r ≡ targets b.row.items)
+module _ (b : Inside) (choices : ChoiceTable) (row : Vec Given) (r : List Given) (s c : ℕ) (ok : IsDraft b) (at : IsOpenRow b s c) (marks : List Bool) (given : IsGivenRow b.announced (row_of r) b.targets) (long : length r ≡ length b.row.items) (unmarked : IsGivenRow b.announced [] marks)
     (grown : choices ≡ record { names = b.choices.names; choices = b.choices.choices ++ choice_with b (kept (row_of r)) ∷ [] }) (cleared : row.items ≡ []) where
   choices_are : choices.choices ≡ b.choices.choices ++ choice_with b (kept (row_of r)) ∷ []
   choices_are = ap (λ (x : ChoiceTable). x.choices) grown
@@ -130,21 +129,21 @@ module _ (b : Inside) (choices : ChoiceTable) (row : Vec Given) (r : List Given)
   names_are : choices.names ≡ b.choices.names
   names_are = ap (λ (x : ChoiceTable). x.names) grown
 
-  open_grown : open_choices (with_row b choices row) ≡ open_choices b ++ choice_with b (kept (row_of r)) ∷ []
+  open_grown : open_choices (with_row b choices row marks) ≡ open_choices b ++ choice_with b (kept (row_of r)) ∷ []
   open_grown =
       ap (λ (x : List Choice). drop b.first_choice x) choices_are
       ∙ drop-append-le b.first_choice b.choices.choices (choice_with b (kept (row_of r)) ∷ []) ok.inside
 
-  closed_same : closed_in (with_row b choices row) ≡ closed_in b
+  closed_same : closed_in (with_row b choices row marks) ≡ closed_in b
   closed_same =
       ap (λ (x : List (List Choice)). states_from x b.labels.of_state)
       (ap (λ (x : List Choice). pieces x b.starts.items) choices_are ∙ pieces-kept b.choices.choices (choice_with b (kept (row_of r)) ∷ []) b.starts.items b.first_choice ok.starts ok.inside)
 
-  pub draft_with_row : draft_in (with_row b choices row) ≡ record (draft_in b) { state = Some (state_of b (open_choices b ++ choice_with b (kept (row_of r)) ∷ []) None) }
+  pub draft_with_row : draft_in (with_row b choices row marks) ≡ record (draft_in b) { state = Some (state_of b (open_choices b ++ choice_with b (kept (row_of r)) ∷ []) None) }
   unfolding draft_in
   draft_with_row = same_draft _ _ refl refl names_are refl closed_same (ap (λ (x : List Choice). Some (state_of b x None)) open_grown) refl refl
 
-  pub row_kept : (v : Draft) → draft_in b ≡ v → closed_row b.rule s c (row_of b.row.items) ≡ Ok (kept (row_of r)) → choice_closed v ≡ Ok (draft_in (with_row b choices row))
+  pub row_kept : (v : Draft) → draft_in b ≡ v → closed_row b.rule s c (in_order (row_of b.row.items)) ≡ Ok (kept (row_of r)) → choice_closed v ≡ Ok (draft_in (with_row b choices row marks))
   row_kept v is h = ap choice_closed (sym is) ∙ closing_by b s c ok at ∙ ap (row_result b) h ∙ ap Ok (sym draft_with_row)
 
   rows_len : length choices.choices ≡ length b.choices.choices + 1
@@ -156,11 +155,10 @@ module _ (b : Inside) (choices : ChoiceTable) (row : Vec Given) (r : List Given)
       let a : sum_by f choices.choices ≡ sum_by f b.choices.choices + sum_by f (choice_with b (kept (row_of r)) ∷ []) = ap (sum_by f) choices_are ∙ sum_by-append f b.choices.choices (choice_with b (kept (row_of r)) ∷ []) in
       let k : length (kept (row_of r)) ≤ length (row_of r) = filter_le (λ x. not (is_zero x.prob)) (row_of r) in
       let m : length (row_of r) ≡ length r = length-map r entry_of in
-      let l : length r ≡ length b.row.items = same_length r b.row.items same in
       let n : sum_by f (choice_with b (kept (row_of r)) ∷ []) ≡ length (kept (row_of r)) + 0 = sum_by-cons f (choice_with b (kept (row_of r))) [] in
       omega arith
 
-  pub is_with_row : IsDraft (with_row b choices row)
+  pub is_with_row : IsDraft (with_row b choices row marks)
   is_with_row = record {
     some = ok.some;
     few = ok.few;
@@ -181,9 +179,8 @@ module _ (b : Inside) (choices : ChoiceTable) (row : Vec Given) (r : List Given)
         rw choices_are
         (All-append (λ (x : Choice). All (λ y. y.target < b.announced) x.row) b.choices.choices (choice_with b (kept (row_of r)) ∷ []) ok.in_range
         (all_one (λ (x : Choice). All (λ y. y.target < b.announced) x.row) (choice_with b (kept (row_of r)))
-        (All-filter (λ x. not (is_zero x.prob)) (λ x. x.target < b.announced) (row_of r) (same_range r b.row.items same b.announced ok.row_in_range))));
-    ascending = rw cleared refl;
-    row_in_range = rw cleared (λ i d l. absurd (omega arith));
+        (All-filter (λ x. not (is_zero x.prob)) (λ x. x.target < b.announced) (row_of r) given.in_range)));
+    row = rw cleared unmarked;
     total = let t = row_total in let z = ap length cleared in omega (arith, ok.total);
     few_entries = ok.few_entries;
   }
@@ -277,8 +274,7 @@ module _ (b : Inside) (starts : Vec ℕ) (labels : Labelling) (end : ℕ) (ok : 
     idle = λ h. ok.idle (λ e. absurd (let x = sym stage ∙ e in cc));
     few_rows = let f : length b.choices.choices + 0 ≤ 2 ^ 22 = rw stage at ok.few_rows in f;
     in_range = ok.in_range;
-    ascending = ok.ascending;
-    row_in_range = ok.row_in_range;
+    row = ok.row;
     total = ok.total;
     few_entries = ok.few_entries;
   }
@@ -324,8 +320,7 @@ is_with_rewards b v rewards is ok closed = record {
   idle = ok.idle;
   few_rows = ok.few_rows;
   in_range = ok.in_range;
-  ascending = ok.ascending;
-  row_in_range = ok.row_in_range;
+  row = ok.row;
   total = ok.total;
   few_entries = ok.few_entries;
 }
@@ -369,8 +364,7 @@ module _ (b : Inside) (v : Draft) (given : List ℚ) (rewards : Vec ℚ) (places
     idle = λ h. ok.idle (λ e. absurd (let x = sym between ∙ e in cc));
     few_rows = let g : length b.choices.choices + 0 ≤ 2 ^ 22 = rw between at ok.few_rows in g;
     in_range = ok.in_range;
-    ascending = ok.ascending;
-    row_in_range = ok.row_in_range;
+    row = ok.row;
     total = ok.total;
     few_entries = ok.few_entries;
   }

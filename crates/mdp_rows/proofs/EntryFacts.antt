@@ -1,16 +1,16 @@
 -- What an entry, and a choice, make of a draft.
-use Rattle.std.proofs.Common.{◌≡◌, ◌≢◌, ℕ, ◌+◌, ◌<◌, ◌≤◌, ◌^◌, ◌==◌, Bool, true, false, List, [], ◌∷◌, ◌++◌, length, take, drop, Some, None, refl, sym, ap, ap₂, subst, ◌∙◌, arith, leb, le-leb, ltb, lt-ltb, le-ltb, length-append, if◌then◌else◌}
+use Rattle.std.proofs.Common.{◌≡◌, ◌≢◌, ℕ, ◌+◌, ◌<◌, ◌≤◌, ◌^◌, ◌==◌, Bool, true, false, List, [], ◌∷◌, ◌++◌, length, get_or, Some, None, refl, sym, ap, ap₂, subst, ◌∙◌, arith, leb, le-leb, ltb, lt-ltb, le-ltb, length-append, if◌then◌else◌}
 use Rattle.std.specs.Prelude.{Result, Ok, Err}
 use Rattle.std.specs.List.{list_any}
 use Rattle.std.specs.Global.{Vec}
-use Rattle.std.proofs.lemmas.List.{length-map, length-take-le, length-drop}
-use Rattle.std.proofs.lemmas.List.Elements.{All-from_recursion, recursion_from_All}
+use Rattle.std.specs.Prelude.{slice_set}
+use Rattle.std.proofs.lemmas.List.{map-append}
 use borrow.Author.Tests.{lt-leb}
 use Rattle.mdp_math.specs.Rational.{ℚ}
 use Rattle.mdp_spec.specs.Mdp.{Entry}
 use Rattle.mdp_rows.specs.Pieces.{pieces}
 use Rattle.mdp_rows.specs.Given.{row_of, entry_of}
-use Rattle.mdp_rows.specs.Place.{IsPlace}
+use Rattle.mdp_rows.specs.GivenRow.{in_order}
 use Rattle.mdp_rows.specs.Draft.{Draft, OpenState, OpenChoice, after_entry, entry_in, with_choice_entry, with_entry, choice_opened, choice_opened_in, closed_choices, summed_rewards, IsChoiceClosed, ◌>>=◌}
 use Rattle.mdp_rows.specs.FlatDraft.{draft_in, open_in, state_in, choice_in, open_choices, IsDraft}
 use Rattle.mdp_rows.specs.declared.given.Given.{Given}
@@ -23,7 +23,8 @@ use Rattle.mdp_rows.proofs.DraftFacts.{same_draft, state_of, open_len}
 use Rattle.mdp_rows.proofs.Growth.{pieces-sum-to}
 use Rattle.mdp_rows.proofs.Pieces.{length-pieces}
 use Rattle.mdp_rows.proofs.ModelFacts.{choices-total}
-use Rattle.mdp_rows.proofs.Places.{inserted, ascends_with, all_with, above_here}
+use Rattle.mdp_rows.proofs.GivenRows.{with_one, is_there}
+use Rattle.mdp_rows.proofs.InOrder.{in_order-push}
 
 -- ---- an entry
 
@@ -37,61 +38,61 @@ unfolding draft_in
 no_row_for_entry b v t x is h = ap (λ (d : Draft). after_entry d t x) (sym is) ∙ no_entry b.stage (draft_in b) t x (state_in b) (choice_in b) refl h ∙ ap Ok is
 
 abbrev pub entry_draft : Inside → ℕ → ℚ → Draft
-entry_draft b t x = record (draft_in b) { entries = b.entries + 1; state = Some (state_of b (open_choices b) (Some (record (choice_in b) { row = with_entry (record { target = t; prob = x }) (row_of b.row.items) }))) }
+entry_draft b t x = record (draft_in b) { entries = b.entries + 1; state = Some (state_of b (open_choices b) (Some (record (choice_in b) { row = with_entry (record { target = t; prob = x }) (in_order (row_of b.row.items)) }))) }
 
 abbrev pub entry_result : Inside → ℕ → ℚ → Bool → Bool → Bool → Result Draft RowsError
 entry_result b t x past twice full = if past then Err Target else (if twice then Err Twice else (if full then Err TooMany else Ok (entry_draft b t x)))
 
-entry_by : (b : Inside) (t : ℕ) (x : ℚ) → b.stage ≡ InRow → after_entry (draft_in b) t x ≡ entry_result b t x (leb b.announced t) (list_any (λ y. y.target == t) (row_of b.row.items)) (leb (2 ^ 24) b.entries)
+entry_by : (b : Inside) (t : ℕ) (x : ℚ) → b.stage ≡ InRow → after_entry (draft_in b) t x ≡ entry_result b t x (leb b.announced t) (list_any (λ y. y.target == t) (in_order (row_of b.row.items))) (leb (2 ^ 24) b.entries)
 unfolding draft_in
 entry_by b t x e = ap (λ (st : Stage). entry_in (draft_in b) t x (open_in st (state_in b) (choice_in b))) e
 
 module _ (b : Inside) (v : Draft) (t : ℕ) (x : ℚ) (is : draft_in b ≡ v) (stage : b.stage ≡ InRow) where
-  entry_here : after_entry v t x ≡ entry_result b t x (leb b.announced t) (list_any (λ y. y.target == t) (row_of b.row.items)) (leb (2 ^ 24) b.entries)
+  entry_here : after_entry v t x ≡ entry_result b t x (leb b.announced t) (list_any (λ y. y.target == t) (in_order (row_of b.row.items))) (leb (2 ^ 24) b.entries)
   entry_here = ap (λ (d : Draft). after_entry d t x) (sym is) ∙ entry_by b t x stage
 
   pub past_states : b.announced ≤ t → after_entry v t x ≡ Err Target
-  past_states h = entry_here ∙ ap (λ (z : Bool). entry_result b t x z (list_any (λ y. y.target == t) (row_of b.row.items)) (leb (2 ^ 24) b.entries)) (le-leb b.announced t h)
+  past_states h = entry_here ∙ ap (λ (z : Bool). entry_result b t x z (list_any (λ y. y.target == t) (in_order (row_of b.row.items))) (leb (2 ^ 24) b.entries)) (le-leb b.announced t h)
 
-  within_states : t < b.announced → after_entry v t x ≡ entry_result b t x false (list_any (λ y. y.target == t) (row_of b.row.items)) (leb (2 ^ 24) b.entries)
-  within_states h = entry_here ∙ ap (λ (z : Bool). entry_result b t x z (list_any (λ y. y.target == t) (row_of b.row.items)) (leb (2 ^ 24) b.entries)) (lt-leb b.announced t h)
+  within_states : t < b.announced → after_entry v t x ≡ entry_result b t x false (list_any (λ y. y.target == t) (in_order (row_of b.row.items))) (leb (2 ^ 24) b.entries)
+  within_states h = entry_here ∙ ap (λ (z : Bool). entry_result b t x z (list_any (λ y. y.target == t) (in_order (row_of b.row.items))) (leb (2 ^ 24) b.entries)) (lt-leb b.announced t h)
 
-  pub there_already : t < b.announced → list_any (λ y. y.target == t) (row_of b.row.items) ≡ true → after_entry v t x ≡ Err Twice
+  pub there_already : t < b.announced → list_any (λ y. y.target == t) (in_order (row_of b.row.items)) ≡ true → after_entry v t x ≡ Err Twice
   there_already h n = within_states h ∙ ap (λ (z : Bool). entry_result b t x false z (leb (2 ^ 24) b.entries)) n
 
-  new_there : t < b.announced → list_any (λ y. y.target == t) (row_of b.row.items) ≡ false → after_entry v t x ≡ entry_result b t x false false (leb (2 ^ 24) b.entries)
+  new_there : t < b.announced → list_any (λ y. y.target == t) (in_order (row_of b.row.items)) ≡ false → after_entry v t x ≡ entry_result b t x false false (leb (2 ^ 24) b.entries)
   new_there h n = within_states h ∙ ap (λ (z : Bool). entry_result b t x false z (leb (2 ^ 24) b.entries)) n
 
-  pub past_entries : t < b.announced → list_any (λ y. y.target == t) (row_of b.row.items) ≡ false → 2 ^ 24 ≤ b.entries → after_entry v t x ≡ Err TooMany
+  pub past_entries : t < b.announced → list_any (λ y. y.target == t) (in_order (row_of b.row.items)) ≡ false → 2 ^ 24 ≤ b.entries → after_entry v t x ≡ Err TooMany
   past_entries h n k = new_there h n ∙ ap (entry_result b t x false false) (le-leb (2 ^ 24) b.entries k)
 
-  pub entry_taken : t < b.announced → list_any (λ y. y.target == t) (row_of b.row.items) ≡ false → b.entries < 2 ^ 24 → after_entry v t x ≡ Ok (entry_draft b t x)
+  pub entry_taken : t < b.announced → list_any (λ y. y.target == t) (in_order (row_of b.row.items)) ≡ false → b.entries < 2 ^ 24 → after_entry v t x ≡ Ok (entry_draft b t x)
   entry_taken h n k = new_there h n ∙ ap (entry_result b t x false false) (lt-leb (2 ^ 24) b.entries k)
 
+-- whether the target stands in the open row, by its mark
+pub is_marked : (b : Inside) (t : ℕ) (a : Bool) → IsDraft b → t < b.announced → a ≡ get_or b.targets t false → list_any (λ y. y.target == t) (in_order (row_of b.row.items)) ≡ a
+is_marked b t a ok h e = sym (is_there b.announced (row_of b.row.items) b.targets ok.row t h) ∙ sym e
+
 -- the builder with one entry more
-abbrev pub with_new_entry : Inside → Vec Given → Inside
-with_new_entry b row = record b { row = row; entries = b.entries + 1 }
+abbrev pub with_new_entry : Inside → Vec Given → List Bool → Inside
+with_new_entry b row marks = record b { row = row; targets = marks; entries = b.entries + 1 }
 
-module _ (b : Inside) (row : Vec Given) (g : Given) (place : ℕ) (ok : IsDraft b) (stage : b.stage ≡ InRow) (at : IsPlace (row_of b.row.items) g.target place) (new : list_any (λ y. y.target == g.target) (row_of b.row.items) ≡ false)
-    (in_range : g.target < b.announced) (room : b.entries < 2 ^ 24) (grown : row.items ≡ take place b.row.items ++ g ∷ drop place b.row.items) where
-  row_grown : row_of row.items ≡ with_entry (entry_of g) (row_of b.row.items)
-  row_grown =
-      ap row_of grown
-      ∙ inserted b.row.items place g (let m : length (row_of b.row.items) ≡ length b.row.items = length-map b.row.items entry_of in omega (arith, at.within)) at.below (λ d l. above_here g.target b.row.items place d at new l)
+module _ (b : Inside) (row : Vec Given) (marks : List Bool) (g : Given) (ok : IsDraft b) (stage : b.stage ≡ InRow) (new : list_any (λ y. y.target == g.target) (in_order (row_of b.row.items)) ≡ false)
+    (in_range : g.target < b.announced) (room : b.entries < 2 ^ 24) (grown : row.items ≡ b.row.items ++ g ∷ []) (marked : marks ≡ slice_set b.targets g.target true) where
+  entries_are : row_of row.items ≡ row_of b.row.items ++ entry_of g ∷ []
+  entries_are = ap row_of grown ∙ map-append entry_of b.row.items (g ∷ [])
 
-  pub entry_is_in : draft_in (with_new_entry b row) ≡ entry_draft b g.target g.value
+  row_grown : in_order (row_of row.items) ≡ with_entry (entry_of g) (in_order (row_of b.row.items))
+  row_grown = ap in_order entries_are ∙ in_order-push (row_of b.row.items) (entry_of g)
+
+  pub entry_is_in : draft_in (with_new_entry b row marks) ≡ entry_draft b g.target g.value
   unfolding draft_in
   entry_is_in = same_draft _ _ refl refl refl refl refl (ap₂ (λ (st : Stage) (r : List Entry). open_in st (state_in b) (let c : OpenChoice = record { rewards = b.sums.items; row = r } in c)) stage row_grown) refl refl
 
   row_longer : length row.items ≡ length b.row.items + 1
-  row_longer =
-      let m : length (row_of b.row.items) ≡ length b.row.items = length-map b.row.items entry_of in
-      let l = ap length grown ∙ length-append (take place b.row.items) (g ∷ drop place b.row.items) in
-      let t = length-take-le place b.row.items (omega (arith, at.within)) in
-      let d = length-drop place b.row.items in
-      omega (arith, at.within)
+  row_longer = ap length grown ∙ length-append b.row.items (g ∷ [])
 
-  pub is_with_entry : IsDraft (with_new_entry b row)
+  pub is_with_entry : IsDraft (with_new_entry b row marks)
   is_with_entry = record {
     some = ok.some;
     few = ok.few;
@@ -109,8 +110,7 @@ module _ (b : Inside) (row : Vec Given) (g : Given) (place : ℕ) (ok : IsDraft 
     idle = λ h. absurd (h stage);
     few_rows = ok.few_rows;
     in_range = ok.in_range;
-    ascending = rw row_grown (ascends_with 0 (entry_of g) (row_of b.row.items) (omega arith) ok.ascending new);
-    row_in_range = rw row_grown (All-from_recursion (λ x. x.target < b.announced) (with_entry (entry_of g) (row_of b.row.items)) (all_with (λ x. x.target < b.announced) (entry_of g) (row_of b.row.items) in_range (recursion_from_All (λ x. x.target < b.announced) (row_of b.row.items) ok.row_in_range)));
+    row = rw (entries_are, marked) (with_one b.announced (row_of b.row.items) b.targets ok.row (entry_of g) in_range new);
     total = let l = row_longer in omega (arith, ok.total);
     few_entries = omega (arith, room);
   }
@@ -183,8 +183,7 @@ module _ (b : Inside) (v : Draft) (given : List ℚ) (is : draft_in b ≡ v) (ok
     idle = ok.idle;
     few_rows = ok.few_rows;
     in_range = ok.in_range;
-    ascending = ok.ascending;
-    row_in_range = ok.row_in_range;
+    row = ok.row;
     total = ok.total;
     few_entries = ok.few_entries;
   }
@@ -192,7 +191,7 @@ module _ (b : Inside) (v : Draft) (given : List ℚ) (is : draft_in b ≡ v) (ok
   module _ (sums : Vec ℚ) (added : summed_rewards b.rewards.items given ≡ Ok sums.items) where
     choice_is_in : draft_in (record b { sums = sums; stage = InRow }) ≡ record (draft_in b) { state = Some (state_of b (open_choices b) (Some (record { rewards = sums.items; row = [] }))) }
     unfolding draft_in
-    choice_is_in = same_draft _ _ refl refl refl refl refl (ap (λ (r : List Given). Some (state_of b (open_choices b) (Some (record { rewards = sums.items; row = row_of r })))) no_entries) refl refl
+    choice_is_in = same_draft _ _ refl refl refl refl refl (ap (λ (r : List Given). Some (state_of b (open_choices b) (Some (record { rewards = sums.items; row = in_order (row_of r) })))) no_entries) refl refl
 
     pub choice_is_opened : choice_opened v given ≡ Ok (draft_in (record b { sums = sums; stage = InRow }))
     choice_is_opened = choice_here ∙ ap (sums_result b) added ∙ ap Ok (sym choice_is_in)
@@ -215,8 +214,7 @@ module _ (b : Inside) (v : Draft) (given : List ℚ) (is : draft_in b ≡ v) (ok
       idle = λ h. no_entries;
       few_rows = omega arith;
       in_range = ok.in_range;
-      ascending = ok.ascending;
-      row_in_range = ok.row_in_range;
+      row = ok.row;
       total = ok.total;
       few_entries = ok.few_entries;
     }

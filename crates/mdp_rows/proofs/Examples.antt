@@ -16,6 +16,7 @@ use Rattle.mdp_rows.specs.Name.{IsName, IsRewardName}
 use Rattle.mdp_rows.specs.Limits.{in_order_of_sight, IsChoiceWithin, IsStateWithin, IsModel}
 use Rattle.mdp_rows.proofs.SoundRewards.{within_by}
 use Rattle.mdp_rows.specs.Draft.{Draft, new_draft, ◌>>=◌, closed_row, after_state, after_label, after_choice, after_entry, after_finish}
+use Rattle.mdp_rows.specs.GivenRow.{in_order}
 use Rattle.mdp_rows.specs.Replay.{replayed}
 use Rattle.mdp_rows.specs.declared.error.RowsError.{RowsError}
 use Rattle.mdp_rows.specs.declared.error.RowsError.TheVariants.{RowSum, RowWide, Twice, NoChoice, TooMany, Target, Large, Count}
@@ -275,3 +276,14 @@ often-label = refl
 
 too-often : (draft 1 Exact >>= state 0ℚ >>= label_often times_64 >>= label init) ≡ Err TooMany
 too-often = refl
+
+-- ---- entries given in other orders
+
+abbrev to : ℕ → ℚ → Entry
+to target value = record { target = target; prob = value }
+
+descending : in_order (to 2 third ∷ to 1 half ∷ to 0 one ∷ []) ≡ to 0 one ∷ to 1 half ∷ to 2 third ∷ []
+descending = refl
+
+first_last : in_order (to 1 half ∷ to 2 third ∷ to 0 one ∷ []) ≡ to 0 one ∷ to 1 half ∷ to 2 third ∷ []
+first_last = refl

@@ -1,19 +1,18 @@
 -- A model handed over step by step: what is still to come makes of the draft now what all makes of the draft before.
-use Rattle.std.proofs.Common.{◌≡◌, ℕ, zero, suc, ◌+◌, ◌≤◌, ◌<◌, Bool, true, false, IsTrue, eqb, ltb, lt-ltb, le-ltb, List, [], ◌∷◌, length, drop, get_or, Option, Some, None, refl, sym, ap, ap₂, ◌∙◌, arith, if◌then◌else◌, inl, inr}
+use Rattle.std.proofs.Common.{◌≡◌, ℕ, zero, suc, ◌+◌, ◌<◌, IsTrue, List, [], ◌∷◌, length, drop, get_or, Option, Some, None, refl, sym, ap, subst, ◌∙◌, arith}
 use Rattle.std.specs.Prelude.{Result, Ok}
-use Rattle.std.specs.List.{AllByRecursion, list_any}
-use Rattle.std.proofs.lemmas.Bool.{eqb-true, eqb-false, or_cases, or_parts, cases_order}
+use Rattle.std.specs.List.{AllByRecursion}
 use Rattle.mdp_math.specs.Rational.{ℚ}
 use Rattle.mdp_num.specs.Meaning.{IsWithinLimit}
-use Rattle.mdp_spec.specs.Mdp.{Entry, Choice, State}
+use Rattle.mdp_spec.specs.Mdp.{Entry, Choice, State, Mdp, states_of, state_at, no_state}
 use Rattle.mdp_spec.specs.Row.{entries}
 use Rattle.mdp_rows.specs.Head.{IsSameHead}
-use Rattle.mdp_rows.specs.Limits.{places_ascend, known_after, all_below, in_order_of_sight}
+use Rattle.mdp_rows.specs.Limits.{known_after, all_below, in_order_of_sight, IsModel}
 use Rattle.mdp_rows.specs.Draft.{Draft, due_after, after_state, after_label, after_choice, after_entry, ◌>>=◌}
 use Rattle.mdp_rows.specs.Replay.{no_rewards, with_labels, with_entries, with_choices, with_states}
 use Rattle.mdp_rows.specs.declared.error.RowsError.{RowsError}
 use Rattle.mdp_rows.proofs.SoundSteps.{ok_same, then_ok, left_of, right_of}
-use Rattle.mdp_rows.proofs.SoundLabels.{ascend_head, ascend_tail, below_head, below_tail, known_by, known_by-le, known_by-total}
+use Rattle.mdp_rows.proofs.SoundLabels.{below_head, below_tail, known_by-le, known_by-total}
 
 -- a call that went well made of the draft what it is to make
 pub made : {A : Type 0} → (old : Draft) (due : Result A RowsError) (refused : Option RowsError) (new : A) → due_after old due refused ≡ Ok new → due ≡ Ok new
@@ -76,83 +75,31 @@ entry_at (t' ∷ ts) (p' ∷ ps) (suc i) t p e h =
     entry_at ts ps i t p (omega arith) (omega arith)
     ∙ ap (λ (k : ℕ). let x : Entry = record { target = get_or ts i t; prob = get_or ps i p } in x ∷ drop k (entries (t' ∷ ts) (p' ∷ ps))) (let n : suc (i + 1) ≡ suc i + 1 = omega arith in n)
 
-pub length-entries : (ts : List ℕ) (ps : List ℚ) → length ts ≡ length ps → length (entries ts ps) ≡ length ts
-length-entries [] ps e = refl
-length-entries (t ∷ ts) [] e = absurd (omega arith)
-length-entries (t ∷ ts) (p ∷ ps) e = let h = length-entries ts ps (omega arith) in omega (arith, h)
-
 pub prob_at : (ts : List ℕ) (ps : List ℚ) (i : ℕ) (p : ℚ) → length ts ≡ length ps → i < length ts → AllByRecursion (λ x. IsWithinLimit x.prob) (entries ts ps) → IsWithinLimit (get_or ps i p)
 prob_at [] ps i p e h all = absurd (omega arith)
 prob_at (t' ∷ ts) [] i p e h all = absurd (omega arith)
 prob_at (t' ∷ ts) (p' ∷ ps) zero p e h all = all.0
 prob_at (t' ∷ ts) (p' ∷ ps) (suc i) p e h all = prob_at ts ps i p (omega arith) (omega arith) all.1
 
--- ---- the places of labels from one on
+-- ---- the labels of a state are known
 
-abbrev pub places_from : ℕ → List ℕ → List ℕ
-places_from l [] = []
-places_from l (k ∷ places) = if ltb k l then places_from l places else k ∷ places
+place_below : (n : ℕ) (places : List ℕ) (i d : ℕ) → IsTrue (all_below n places) → i < length places → get_or places i d < n
+place_below n [] i d a h = absurd (omega arith)
+place_below n (k ∷ places) zero d a h = below_head n k places a
+place_below n (k ∷ places) (suc i) d a h = place_below n places i d (below_tail n k places a) (omega arith)
 
-passed : (l k : ℕ) (places : List ℕ) → k < l → places_from l (k ∷ places) ≡ places_from l places
-passed l k places h = ap (λ (b : Bool). if b then places_from l places else k ∷ places) (lt-ltb k l h)
+label_below : (n total s i e : ℕ) (states : List State) (d : State) → IsTrue (in_order_of_sight n states total) → s < length states → i < length (State.labels (get_or states s d)) → get_or (State.labels (get_or states s d)) i e < total
+label_below n total s i e [] d sight h l = absurd (omega arith)
+label_below n total zero i e (x ∷ states) d sight h l =
+    let k : ℕ = known_after n x.labels in
+    let f = place_below k x.labels i e (left_of (all_below k x.labels) (in_order_of_sight k states total) sight) l in
+    let a = known_by-le k states in
+    let b = known_by-total k total states (right_of (all_below k x.labels) (in_order_of_sight k states total) sight) in
+    omega (arith, f, a, b)
+label_below n total (suc s) i e (x ∷ states) d sight h l =
+    label_below (known_after n x.labels) total s i e states d (right_of (all_below (known_after n x.labels) x.labels) (in_order_of_sight (known_after n x.labels) states total) sight) (omega arith) l
 
-to_come : (l k : ℕ) (places : List ℕ) → l ≤ k → places_from l (k ∷ places) ≡ k ∷ places
-to_come l k places h = ap (λ (b : Bool). if b then places_from l places else k ∷ places) (le-ltb k l h)
-
-pub from_start : (places : List ℕ) → places_from 0 places ≡ places
-from_start [] = refl
-from_start (k ∷ places) = to_come 0 k places (omega arith)
-
-from_low : (l low : ℕ) (places : List ℕ) → l ≤ low → IsTrue (places_ascend low places) → places_from l places ≡ places
-from_low l low [] h a = refl
-from_low l low (k ∷ places) h a = let f = ascend_head low k places a in to_come l k places (omega arith)
-
-pub none_left : (n m : ℕ) (places : List ℕ) → m ≤ n → IsTrue (all_below m places) → places_from n places ≡ []
-none_left n m [] h a = refl
-none_left n m (k ∷ places) h a = passed n k places (let f = below_head m k places a in omega arith) ∙ none_left n m places h (below_tail m k places a)
-
-reached : (l low : ℕ) (places : List ℕ) → IsTrue (places_ascend low places) → list_any (λ k. eqb k l) places ≡ true → low ≤ l
-reached l low [] a e = absurd cc
-reached l low (k ∷ places) a e =
-    let f = ascend_head low k places a in
-    elim (or_cases (eqb k l) (list_any (λ j. eqb j l) places) e) [
-      | inl here ↦ (let s = eqb-true k l here in omega arith)
-      | inr later ↦ (let g = reached l (k + 1) places (ascend_tail low k places a) later in omega arith)
-    ]
-
--- a place that is there comes next
-pub next_place : (l low : ℕ) (places : List ℕ) → IsTrue (places_ascend low places) → list_any (λ k. eqb k l) places ≡ true → places_from l places ≡ l ∷ places_from (l + 1) places
-next_place l low [] a e = absurd cc
-next_place l low (k ∷ places) a e =
-    let t = ascend_tail low k places a in
-    elim (or_cases (eqb k l) (list_any (λ j. eqb j l) places) e) [
-      | inl here ↦
-          (let s : k ≡ l = eqb-true k l here in
-          to_come l k places (omega arith)
-          ∙ ap₂ (λ (i : ℕ) (r : List ℕ). i ∷ r) s (sym (from_low (l + 1) (k + 1) places (omega arith) t) ∙ sym (passed (l + 1) k places (omega arith))))
-      | inr later ↦
-          (let g : k + 1 ≤ l = reached l (k + 1) places t later in
-          passed l k places (omega arith) ∙ next_place l (k + 1) places t later ∙ ap (λ (r : List ℕ). l ∷ r) (sym (passed (l + 1) k places (omega arith))))
-    ]
-
--- one that isn't there is skipped
-pub no_place : (l low : ℕ) (places : List ℕ) → IsTrue (places_ascend low places) → list_any (λ k. eqb k l) places ≡ false → places_from l places ≡ places_from (l + 1) places
-no_place l low [] a e = refl
-no_place l low (k ∷ places) a e =
-    let p = or_parts (eqb k l) (list_any (λ j. eqb j l) places) e in
-    elim (cases_order k l) [
-      | inl same ↦ absurd (eqb-false k l p.0 same)
-      | inr (inl less) ↦ passed l k places less ∙ no_place l (k + 1) places (ascend_tail low k places a) p.1 ∙ sym (passed (l + 1) k places (omega arith))
-      | inr (inr more) ↦ to_come l k places (omega arith) ∙ sym (to_come (l + 1) k places (omega arith))
-    ]
-
--- a state of a model has no place past the labels
-pub none_past : (n total l s : ℕ) (states : List State) (d : State) → IsTrue (in_order_of_sight n states total) → s < length states → total ≤ l → places_from l (State.labels (get_or states s d)) ≡ []
-none_past n total l s [] d sight h past = absurd (omega arith)
-none_past n total l zero (x ∷ states) d sight h past =
-    let later = right_of (all_below (known_after n x.labels) x.labels) (in_order_of_sight (known_after n x.labels) states total) sight in
-    let a : known_after n x.labels ≤ known_by (known_after n x.labels) states = known_by-le (known_after n x.labels) states in
-    let b : known_by (known_after n x.labels) states ≡ total = known_by-total (known_after n x.labels) total states later in
-    none_left l (known_after n x.labels) x.labels (omega (arith, a, b, past)) (left_of (all_below (known_after n x.labels) x.labels) (in_order_of_sight (known_after n x.labels) states total) sight)
-none_past n total l (suc s) (x ∷ states) d sight h past =
-    none_past (known_after n x.labels) total l s states d (right_of (all_below (known_after n x.labels) x.labels) (in_order_of_sight (known_after n x.labels) states total) sight) (omega arith) past
+pub label_known : (m : Mdp) (s i e : ℕ) (places : List ℕ) → IsModel m → s < states_of m → places ≡ State.labels (state_at m s) → i < length places → get_or places i e < length m.labels
+label_known m s i e places ok h is l =
+    subst (λ (xs : List ℕ). get_or xs i e < length m.labels) (sym is)
+    (label_below 0 (length m.labels) s i e m.states no_state ok.sight h (subst (λ (xs : List ℕ). i < length xs) is l))

@@ -8,7 +8,7 @@ use Rattle.mdp_rows.specs.Head.{IsSameHead}
 use Rattle.mdp_rows.specs.Draft.{Draft, OpenState, OpenChoice, summed_rewards, closed_row, choice_closed, choice_closed_in, with_choice_closed, state_closed, state_closed_in, all_closed, state_opened, choice_opened, choice_opened_in, closed_choices, after_state, after_choice, after_entry, after_label, entry_in, with_choice_entry, label_in, with_name, ◌>>=◌}
 use Rattle.mdp_rows.specs.declared.error.RowsError.{RowsError}
 use Rattle.mdp_rows.specs.declared.error.RowsError.TheVariants.{Count, NoChoice, TooMany, Target, Twice}
-use Rattle.mdp_rows.proofs.CallFacts.{ok_same, done}
+use Rattle.mdp_rows.proofs.SoundSteps.{ok_same, done}
 use Rattle.mdp_rows.proofs.OpenFacts.{passed_test}
 
 pub same_self : (d : Draft) → IsSameHead d d

@@ -91,8 +91,7 @@ module _ (b : Inside) (v : Draft) (name : List ℕ) (is : draft_in b ≡ v) (ope
       idle = ok.idle;
       few_rows = ok.few_rows;
       in_range = ok.in_range;
-      ascending = ok.ascending;
-      row_in_range = ok.row_in_range;
+      row = ok.row;
       total = ok.total;
       few_entries = ok.few_entries;
     }

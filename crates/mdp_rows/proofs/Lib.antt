@@ -1,16 +1,18 @@
 mod CallFacts
 mod ChoiceFacts
+mod ClosingRow
 mod Closings
 mod CutFacts
 mod Denominators
-mod Distributions
 mod DraftFacts
 mod EntryFacts
 mod Examples
 mod ExamplesCut
+mod GivenRows
 mod Growth
 mod Handing
 mod HeadFacts
+mod InOrder
 mod KeptFacts
 mod LabelCalls
 mod LabelFacts
@@ -22,7 +24,6 @@ mod OpenFacts
 mod Outcomes
 mod Parts
 mod Pieces
-mod Places
 mod PredFacts
 mod ReplayLabels
 mod ReplayRewards

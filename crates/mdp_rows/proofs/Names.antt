@@ -1,11 +1,12 @@
 -- Looking up by the bytes of a key is looking up in the list of names.
-use Rattle.std.proofs.Common.{◌≡◌, ℕ, suc, ◌+◌, ◌<◌, ◌≤◌, Bool, true, false, cond, not, ◌||◌, if◌then◌else◌, ltb, List, [], ◌∷◌, ◌++◌, length, map, Some, None, refl, sym, ap, ◌∙◌, arith}
+use Rattle.std.proofs.Common.{◌≡◌, ℕ, ◌+◌, Bool, true, false, cond, not, ◌||◌, ltb, List, [], ◌∷◌, ◌++◌, length, map, Some, None, refl, sym, ap, ◌∙◌}
 use borrow.Author.Tests.{ltb-true, ltb-false}
 use Rattle.std.specs.List.{list_any, position_or_len, position}
 use Rattle.std.specs.Str.{bytes_eq}
 use Rattle.std.specs.Global.{Vec}
 use Rattle.mdp_rows.specs.Draft.{with_name}
 use Rattle.std.proofs.lemmas.List.{length-map, map_push}
+use Rattle.mdp_rows.proofs.SoundNames.{some_passes, none_passes, known_name, new_name}
 
 module _ {X Y : Type 0} (p : Y → Bool) (f : X → Y) where
   pub position_or_len-map : (xs : List X) → position_or_len p (map f xs) ≡ position_or_len (λ x. p (f x)) xs
@@ -27,38 +28,15 @@ none_cases : (b : Bool) (n : ℕ) → cond b (Some n) None ≡ None → b ≡ fa
 none_cases true n e = absurd cc
 none_cases false n e = refl
 
-passes_by : (b rest : Bool) (n m : ℕ) → cond (not b) (1 + n) 0 < suc m → (n < m → rest ≡ true) → (b || rest) ≡ true
-passes_by true rest n m h k = refl
-passes_by false rest n m h k = k (omega arith)
-
-fails_by : (b rest : Bool) (n m : ℕ) → suc m ≤ cond (not b) (1 + n) 0 → (m ≤ n → rest ≡ false) → (b || rest) ≡ false
-fails_by true rest n m h k = absurd (omega arith)
-fails_by false rest n m h k = k (omega arith)
-
 module _ {X : Type 0} (p : X → Bool) where
-  some_passes : (xs : List X) → position_or_len p xs < length xs → list_any p xs ≡ true
-  some_passes [] h = absurd (omega arith)
-  some_passes (x ∷ xs) h = passes_by (p x) (list_any p xs) (position_or_len p xs) (length xs) h (some_passes xs)
-
-  none_passes : (xs : List X) → length xs ≤ position_or_len p xs → list_any p xs ≡ false
-  none_passes [] h = refl
-  none_passes (x ∷ xs) h = fails_by (p x) (list_any p xs) (position_or_len p xs) (length xs) h (none_passes xs)
-
   -- where a place is found, it is the first place, and some element passes
   pub found_place : (xs : List X) (i : ℕ) → position p xs ≡ Some i → (i ≡ position_or_len p xs) × (list_any p xs ≡ true)
   found_place xs i e =
       let s = some_cases (ltb (position_or_len p xs) (length xs)) (position_or_len p xs) i e in
-      (sym s.1, some_passes xs (ltb-true _ _ s.0))
+      (sym s.1, some_passes p xs (ltb-true _ _ s.0))
 
   pub no_place : (xs : List X) → position p xs ≡ None → list_any p xs ≡ false
-  no_place xs e = none_passes xs (ltb-false _ _ (none_cases (ltb (position_or_len p xs) (length xs)) (position_or_len p xs) e))
-
--- how many names there are with one
-pub known_name : (names : List (List ℕ)) (name : List ℕ) → list_any (bytes_eq name) names ≡ true → with_name names name ≡ names
-known_name names name e = ap (λ (b : Bool). if b then names else names ++ name ∷ []) e
-
-pub new_name : (names : List (List ℕ)) (name : List ℕ) → list_any (bytes_eq name) names ≡ false → with_name names name ≡ names ++ name ∷ []
-new_name names name e = ap (λ (b : Bool). if b then names else names ++ name ∷ []) e
+  no_place xs e = none_passes p xs (ltb-false _ _ (none_cases (ltb (position_or_len p xs) (length xs)) (position_or_len p xs) e))
 
 keys_by : (b : Bool) (ks : List (Vec ℕ)) (k : Vec ℕ) → map (λ v. v.items) (cond b ks (ks ++ k ∷ [])) ≡ cond b (map (λ v. v.items) ks) (map (λ v. v.items) ks ++ k.items ∷ [])
 keys_by true ks k = refl

@@ -6,14 +6,9 @@ use Rattle.std.specs.Option.{is_some}
 use Rattle.mdp_math.specs.Rational.{ℚ}
 use Rattle.mdp_spec.specs.Mdp.{Entry}
 use Rattle.mdp_rows.specs.Draft.{Draft, OpenState, OpenChoice, summed_rewards, closed_row, choice_closed, choice_closed_in, with_choice_closed, all_closed, state_opened, choice_opened, choice_opened_in, closed_choices, after_state, after_choice, after_entry, after_label, entry_in, with_choice_entry, label_in, with_name, due_after, IsCall, has_state, has_choice, ◌>>=◌}
+use Rattle.mdp_rows.proofs.SoundSteps.{done, ok_same}
 use Rattle.mdp_rows.specs.declared.error.RowsError.{RowsError}
 use Rattle.mdp_rows.specs.declared.error.RowsError.TheVariants.{Count, TooMany, Target, Twice}
-
-abbrev done : {A : Type 0} → A → Result A RowsError
-done x = Ok x
-
-done_same : {A : Type 0} → (d n : A) → done d ≡ Ok n → d ≡ n
-done_same d n e = cc
 
 -- where a call's result is Ok, nothing was refused before, and the draft followed
 due_ok : (old new : Draft) (due : Result Draft RowsError) (o : Option RowsError) → due_after old due o ≡ Ok new → (o ≡ None) × (due ≡ Ok new)
@@ -30,10 +25,10 @@ passed_test true e r n h = absurd cc
 passed_test false e r n h = h
 
 state_of_done : (m n : Draft) → done m ≡ Ok n → IsTrue (has_state m) → IsTrue (has_state n)
-state_of_done m n e h = subst (λ (x : Draft). IsTrue (has_state x)) (done_same m n e) h
+state_of_done m n e h = subst (λ (x : Draft). IsTrue (has_state x)) (ok_same m n e) h
 
 row_of_done : (m n : Draft) → done m ≡ Ok n → IsTrue (has_choice m) → IsTrue (has_choice n)
-row_of_done m n e h = subst (λ (x : Draft). IsTrue (has_choice x)) (done_same m n e) h
+row_of_done m n e h = subst (λ (x : Draft). IsTrue (has_choice x)) (ok_same m n e) h
 
 after_closing : (r : Result Draft RowsError) (rewards : List ℚ) (n : Draft) → (r >>= λ closed. state_opened closed rewards) ≡ Ok n → IsTrue (has_state n)
 after_closing (Ok m) rewards n e = state_of_done _ n (passed_test (length m.closed == m.announced) Count _ n e) refl

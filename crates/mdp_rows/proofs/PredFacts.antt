@@ -13,7 +13,7 @@ use Rattle.mdp_math.specs.Rational.{ℚ}
 use Rattle.mdp_spec.specs.Mdp.{Mdp, states_of, row_at}
 use Rattle.mdp_spec.specs.Row.{entries, ascends_from}
 use Rattle.mdp_rows.specs.Preds.{is_among, leads_to, pair, first_choices, choices_of, choices_below, leading, preds_to}
-use Rattle.mdp_rows.proofs.Distributions.{left_of, right_of}
+use Rattle.mdp_rows.proofs.SoundSteps.{left_of, right_of}
 use Rattle.mdp_rows.specs.declared.preds.Pred.{Pred}
 
 -- pred was appended to the list of each of these targets

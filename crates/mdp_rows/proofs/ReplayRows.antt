@@ -1,11 +1,10 @@
 -- The entries of a row, given in the order of its targets, make that row; and it closes as it is.
-use Rattle.std.proofs.Common.{◌≡◌, ℕ, ◌+◌, ◌≤◌, ◌<◌, ◌^◌, Bool, true, false, cond, not, ◌||◌, IsTrue, leb, le-ltb, List, [], ◌∷◌, ◌++◌, length, Option, Some, None, unsigned_abs, refl, sym, ap, ap₂, ◌∙◌, subst, arith, if◌then◌else◌, append_assoc, append-nil}
+use Rattle.std.proofs.Common.{◌≡◌, ℕ, ◌+◌, ◌≤◌, ◌<◌, ◌^◌, Bool, true, false, cond, not, IsTrue, leb, le-ltb, List, [], ◌∷◌, ◌++◌, length, Option, Some, None, unsigned_abs, refl, sym, ap, ap₂, ◌∙◌, subst, arith, if◌then◌else◌, append_assoc, append-nil}
 use Rattle.std.proofs.lemmas.Int.{ints}
 use Rattle.std.specs.Prelude.{Result, Ok, Err}
 use Rattle.std.specs.List.{AllByRecursion}
 use Rattle.std.proofs.lemmas.Bool.{ne_eqb, lt-leb}
 use Rattle.std.proofs.lemmas.List.Elements.{recursion_from_All}
-use borrow.Author.Tests.{leb-true}
 use Rattle.mdp_math.specs.Rational.{ℚ, of_int, le_ℚ, ◌<ℚ◌}
 use Rattle.mdp_math.proofs.Order.{0ℚ, 1ℚ, positive}
 use Rattle.mdp_num.specs.Numeral.{limit}
@@ -17,39 +16,12 @@ use Rattle.mdp_rows.specs.Replay.{with_entries}
 use Rattle.mdp_rows.specs.declared.error.RowsError.{RowsError}
 use Rattle.mdp_rows.specs.declared.error.RowsError.TheVariants.{RowSum, RowWide, Target, Twice, TooMany}
 use Rattle.mdp_rows.specs.declared.rule.RowRule.TheVariants.{Exact}
-use Rattle.mdp_rows.proofs.SoundSteps.{left_of, right_of}
+use Rattle.mdp_rows.proofs.InOrder.{all_before, not_there, goes_last}
 
 -- a draft that has refused nothing
 abbrev pub draft_of : ℕ → List (List ℕ) → List (List ℕ) → List State → Option OpenState → ℕ → Draft
 draft_of announced names labels closed state entries =
     record { announced = announced; rule = Exact; names = names; labels = labels; closed = closed; state = state; entries = entries; refused = None }
-
--- ---- targets that ascend
-
-reaches : (low : ℕ) (row : List Entry) (x : Entry) (rest : List Entry) → IsTrue (ascends_from low (row ++ x ∷ rest)) → low ≤ x.target
-reaches low [] x rest a = leb-true low x.target (left_of (leb low x.target) (ascends_from (x.target + 1) rest) a)
-reaches low (y ∷ row) x rest a =
-    let l : low ≤ y.target = leb-true low y.target (left_of (leb low y.target) (ascends_from (y.target + 1) (row ++ x ∷ rest)) a) in
-    let k = reaches (y.target + 1) row x rest (right_of (leb low y.target) (ascends_from (y.target + 1) (row ++ x ∷ rest)) a) in
-    omega arith
-
-all_before : (low : ℕ) (row : List Entry) (x : Entry) (rest : List Entry) → IsTrue (ascends_from low (row ++ x ∷ rest)) → AllByRecursion (λ y. y.target < x.target) row
-all_before low [] x rest a = tt
-all_before low (y ∷ row) x rest a =
-    let t = right_of (leb low y.target) (ascends_from (y.target + 1) (row ++ x ∷ rest)) a in
-    (let k = reaches (y.target + 1) row x rest t in omega arith, all_before (y.target + 1) row x rest t)
-
-not_there : (t : ℕ) (row : List Entry) → AllByRecursion (λ y. y.target < t) row → has_target row t ≡ false
-not_there t [] all = refl
-not_there t (y ∷ row) all =
-    let k : y.target < t = all.0 in
-    ap₂ (λ (a b : Bool). a || b) (ne_eqb y.target t (λ e. omega arith)) (not_there t row all.1)
-
-goes_last : (x : Entry) (row : List Entry) → AllByRecursion (λ y. y.target < x.target) row → with_entry x row ≡ row ++ x ∷ []
-goes_last x [] all = refl
-goes_last x (y ∷ row) all =
-    let k : y.target < x.target = all.0 in
-    ap (λ (b : Bool). if b then x ∷ y ∷ row else y ∷ with_entry x row) (le-ltb x.target y.target (omega arith)) ∙ ap (λ (r : List Entry). y ∷ r) (goes_last x row all.1)
 
 -- ---- the entries
 

@@ -1,5 +1,5 @@
 -- A builder's draft stays sound, call by call, as long as nothing is refused.
-use Rattle.std.proofs.Common.{◌≡◌, ℕ, ◌⊎◌, List, length, Option, Some, None, refl, sym, ◌∙◌}
+use Rattle.std.proofs.Common.{◌≡◌, ℕ, List, length, Option, Some, None, refl}
 use Rattle.std.specs.Prelude.{Result, Ok, Err, pos}
 use Rattle.std.specs.List.{All}
 use Rattle.mdp_math.specs.Rational.{ℚ, of_int, ◌≤ℚ◌}

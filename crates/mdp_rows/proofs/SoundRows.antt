@@ -21,6 +21,7 @@ use Rattle.mdp_rows.specs.Draft.{kept, is_zero, is_one, is_near_one, row_total, 
 use Rattle.mdp_rows.specs.declared.error.RowsError.TheVariants.{RowSum, RowWide}
 use Rattle.mdp_rows.specs.declared.rule.RowRule.{RowRule}
 use Rattle.mdp_rows.specs.declared.rule.RowRule.TheVariants.{Exact, Scaled}
+use Rattle.mdp_rows.proofs.KeptFacts.{filter_le}
 use Rattle.mdp_rows.proofs.SoundSteps.{done, ok_same, then_ok, else_ok, if_ok, both, left_of, right_of}
 
 -- each value times q
@@ -111,13 +112,8 @@ range-scaled q n (x ∷ row) all = (all.0, range-scaled q n row all.1)
 
 -- ---- how many are kept
 
-cond_le : {X : Type 0} → (b : Bool) (g : X) (rest : List X) (n m : ℕ) → length rest ≤ n → m ≡ n + 1 → length (cond b (g ∷ rest) rest) ≤ m
-cond_le true g rest n m h e = omega arith
-cond_le false g rest n m h e = omega arith
-
 pub length-kept : (row : List Entry) → length (kept row) ≤ length row
-length-kept [] = omega arith
-length-kept (x ∷ row) = cond_le (not (is_zero x.prob)) x (kept row) (length row) (length (x ∷ row)) (length-kept row) (omega arith)
+length-kept row = filter_le (λ x. not (is_zero x.prob)) row
 
 pub length-scaled : (q : ℚ) (row : List Entry) → length (divided q row) ≡ length row
 length-scaled q [] = refl

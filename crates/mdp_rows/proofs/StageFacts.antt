@@ -1,12 +1,14 @@
 -- What of a draft is open, from the stage of its builder.
-use Rattle.std.proofs.Common.{◌≡◌, ◌≢◌, ℕ, ◌+◌, false, length, [], None, refl, sym, ap, ap₂, ◌∙◌}
+use Rattle.std.proofs.Common.{◌≡◌, ◌≢◌, ℕ, ◌+◌, ◌<◌, ◌≤◌, false, ltb, le-ltb, get_or, length, [], None, refl, sym, ap, ap₂, ◌∙◌}
 use Rattle.mdp_rows.specs.Draft.{Draft, OpenState, OpenChoice, has_state, has_choice, has_target, has_open_target, states_opened}
 use Rattle.mdp_rows.specs.Given.{row_of}
+use Rattle.mdp_rows.specs.GivenRow.{in_order}
 use Rattle.mdp_rows.specs.FlatDraft.{draft_in, open_in, state_in, choice_in, IsDraft}
 use Rattle.mdp_rows.specs.declared.assembly.Assembly.TheInside.{Inside}
 use Rattle.mdp_rows.specs.declared.assembly.Stage.{Stage}
 use Rattle.mdp_rows.specs.declared.assembly.Stage.TheVariants.{Between, InState, InRow}
 use Rattle.mdp_rows.proofs.DraftFacts.{closed_len}
+use Rattle.mdp_rows.proofs.GivenRows.{is_there, none_there}
 use Rattle.mdp_rows.specs.declared.rule.RowRule.TheVariants.{Exact}
 
 abbrev pub draft_at : Inside → Stage → Draft
@@ -60,6 +62,13 @@ row_target Between d t o c h e = absurd cc
 row_target InState d t o c h e = absurd cc
 row_target InRow d t o c h e = rw e refl
 
-pub target_is : (b : Inside) (v : Draft) (t : ℕ) → draft_in b ≡ v → b.stage ≡ InRow → has_target (row_of b.row.items) t ≡ has_open_target v t
+pub target_is : (b : Inside) (v : Draft) (t : ℕ) → draft_in b ≡ v → b.stage ≡ InRow → has_target (in_order (row_of b.row.items)) t ≡ has_open_target v t
 unfolding draft_in
 target_is b v t is h = sym (row_target b.stage (draft_in b) t (state_in b) (choice_in b) h refl) ∙ ap (λ (d : Draft). has_open_target d t) is
+
+pub marked_is : (b : Inside) (v : Draft) (t : ℕ) → draft_in b ≡ v → IsDraft b → b.stage ≡ InRow → t < b.announced → get_or b.targets t false ≡ has_open_target v t
+marked_is b v t is ok e h = is_there b.announced (row_of b.row.items) b.targets ok.row t h ∙ target_is b v t is e
+
+-- no target is past the states
+pub none_past : (b : Inside) (v : Draft) (t : ℕ) → draft_in b ≡ v → IsDraft b → b.stage ≡ InRow → b.announced ≤ t → ltb t b.announced ≡ has_open_target v t
+none_past b v t is ok e h = le-ltb t b.announced h ∙ sym (none_there b.announced (row_of b.row.items) b.targets ok.row t h) ∙ target_is b v t is e

@@ -1,10 +1,11 @@
 -- Rows with the same targets.
-use Rattle.std.proofs.Common.{◌≡◌, ℕ, ◌+◌, ◌<◌, Bool, true, ◌&&◌, IsTrue, leb, List, [], ◌∷◌, length, map, refl, sym, ap, subst, ◌∙◌}
-use Rattle.std.specs.List.{All, AllByRecursion}
+use Rattle.std.proofs.Common.{◌≡◌, ℕ, ◌+◌, ◌<◌, Bool, true, ◌&&◌, ◌||◌, ◌==◌, IsTrue, leb, List, [], ◌∷◌, length, map, refl, sym, ap, subst, ◌∙◌}
+use Rattle.std.specs.List.{All, AllByRecursion, list_any}
 use Rattle.std.proofs.lemmas.List.{length-map}
 use Rattle.std.proofs.lemmas.List.Elements.{All-from_recursion, recursion_from_All}
 use Rattle.mdp_spec.specs.Mdp.{Entry}
 use Rattle.mdp_spec.specs.Row.{ascends_from}
+use Rattle.mdp_rows.specs.Draft.{has_target}
 use Rattle.mdp_rows.specs.Given.{row_of}
 use Rattle.mdp_rows.specs.declared.given.Given.{Given}
 
@@ -28,6 +29,10 @@ all_to : (n : ℕ) (row : List Given) → AllByRecursion (λ (x : Entry). x.targ
 all_to n [] h = tt
 all_to n (g ∷ row) h = (h.0, all_to n row h.1)
 
+has_by : (row : List Given) (t : ℕ) → has_target (row_of row) t ≡ list_any (λ k. k == t) (targets row)
+has_by [] t = refl
+has_by (g ∷ row) t = ap (λ (b : Bool). (g.target == t) || b) (has_by row t)
+
 module _ (xs ys : List Given) (e : targets xs ≡ targets ys) where
   pub same_length : length xs ≡ length ys
   same_length = sym (length-map xs (λ g. g.target)) ∙ ap length e ∙ length-map ys (λ g. g.target)
@@ -39,3 +44,6 @@ module _ (xs ys : List Given) (e : targets xs ≡ targets ys) where
   same_range n h =
       All-from_recursion (λ (x : Entry). x.target < n) (row_of xs)
       (all_from n xs (subst (AllByRecursion (λ t. t < n)) (sym e) (all_to n ys (recursion_from_All (λ (x : Entry). x.target < n) (row_of ys) h))))
+
+  pub same_has : (t : ℕ) → has_target (row_of xs) t ≡ has_target (row_of ys) t
+  same_has t = has_by xs t ∙ ap (list_any (λ k. k == t)) e ∙ sym (has_by ys t)

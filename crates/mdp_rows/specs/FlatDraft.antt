@@ -1,10 +1,10 @@
 -- The draft that a builder's vectors hold.
-use Rattle.std.specs.Prelude.{◌≡◌, ◌≢◌, ℕ, ◌+◌, ◌*◌, ◌<◌, ◌≤◌, ◌^◌, IsTrue, List, [], length, drop, sum_by, slice_index, All, Option, Some, None}
+use Rattle.std.specs.Prelude.{◌≡◌, ◌≢◌, ℕ, ◌+◌, ◌*◌, ◌<◌, ◌≤◌, ◌^◌, List, [], length, drop, sum_by, slice_index, All, Option, Some, None}
 use Rattle.mdp_spec.specs.Mdp.{Choice}
-use Rattle.mdp_spec.specs.Row.{ascends_from}
 use Rattle.mdp_rows.specs.Pieces.{pieces, ArePlaces}
 use Rattle.mdp_rows.specs.FlatModel.{states_from}
 use Rattle.mdp_rows.specs.Given.{row_of}
+use Rattle.mdp_rows.specs.GivenRow.{in_order, IsGivenRow}
 use Rattle.mdp_rows.specs.Draft.{Draft, OpenState, OpenChoice}
 use Rattle.mdp_rows.specs.declared.assembly.Stage.{Stage}
 use Rattle.mdp_rows.specs.declared.assembly.Stage.TheVariants.{Between, InState, InRow}
@@ -25,7 +25,7 @@ abbrev pub state_in : Inside → OpenState
 state_in b = record { rewards = b.rewards.items; labels = b.places.items; label_calls = b.label_calls; choices = open_choices b; choice = None }
 
 abbrev pub choice_in : Inside → OpenChoice
-choice_in b = record { rewards = b.sums.items; row = row_of b.row.items }
+choice_in b = record { rewards = b.sums.items; row = in_order (row_of b.row.items) }
 
 unfoldable pub draft_in : Inside → Draft
 draft_in b = record {
@@ -68,7 +68,6 @@ pub record IsDraft (b : Inside) : Type 0 where
   pub idle : b.stage ≢ InRow → b.row.items ≡ []
   pub few_rows : length b.choices.choices + open_rows b.stage ≤ 2 ^ 22
   pub in_range : All (λ c. All (λ x. x.target < b.announced) c.row) b.choices.choices
-  pub ascending : IsTrue (ascends_from 0 (row_of b.row.items))
-  pub row_in_range : All (λ x. x.target < b.announced) (row_of b.row.items)
+  pub row : IsGivenRow b.announced (row_of b.row.items) b.targets
   pub total : sum_by (λ c. length c.row) b.choices.choices + length b.row.items ≤ b.entries
   pub few_entries : b.entries ≤ 2 ^ 24

@@ -8,11 +8,11 @@ pub mod FlatRows
 pub mod Labelling
 pub mod Draft
 pub mod Given
+pub mod GivenRow
 pub mod Parts
 pub mod FlatDraft
 pub mod DraftCode
 pub mod Head
-pub mod Place
 pub mod Name
 pub mod Limits
 pub mod Replay

@@ -13,9 +13,6 @@ ghost use Rattle.std.specs.List.{list_any, position, position_or_len};
 ghost use Rattle.std.specs.Prelude.{OnErr, nat_le};
 ghost use Rattle.mdp_rows.specs.Name.{IsName};
 ghost use Rattle.mdp_rows.specs.Draft.{after_label, with_place};
-ghost use Rattle.mdp_spec.specs.Row.{ascends_from};
-ghost use Rattle.mdp_rows.specs.Given.{row_of};
-ghost use Rattle.mdp_rows.specs.Place.{IsPlace};
 ghost use Rattle.mdp_rows.specs.Draft.{IsChoiceClosed};
 
 use crate::choices::Choices;
@@ -23,6 +20,8 @@ use crate::closing::close_row;
 use crate::error::RowsError;
 use crate::given::Given;
 use crate::labels::Labels;
+use crate::marks::Marks;
+use crate::open_row::{sort_row, unmark};
 use crate::rewards::add_rewards;
 use crate::rule::RowRule;
 use mdp_num::{Frac, Memory};
@@ -67,26 +66,12 @@ pub struct Assembly {
     label_calls: u32,
     /// The open choice's rewards, those of its state added.
     sums: Vec<Frac>,
-    /// The open row, targets ascending.
+    /// The open row, in the order in which its entries were given.
     row: Vec<Given>,
+    /// Which states are targets of the open row.
+    targets: Marks,
     entries: u32,
     refused: Option<RowsError>,
-}
-
-/// How many entries go before the target: where it stands, or would stand.
-fn place_of_target(row: &[Given], target: u32) -> usize
-    requires { IsTrue (ascends_from 0 (row_of row.now)) }
-    ensures { IsPlace (row_of row.now) target result }
-{
-    row.partition_point(|given| given.target < target)
-}
-
-/// Whether the target stands at its place.
-fn stands_at(row: &[Given], place: usize, target: u32) -> bool
-    requires { IsPlace (row_of row.now) target place }
-    ensures { result ≡ list_any (λ x. x.target == target) (row_of row.now) }
-{
-    place < row.len() && row[place].target == target
 }
 
 fn first_from(places: &[u32], label: u32) -> Option<usize>
@@ -143,10 +128,12 @@ impl Assembly {
         };
         let state = self.labels.states();
         let choice = self.choices.len() - self.first_choice;
+        sort_row(&mut self.row);
         close_row(&mut self.row, self.rule, state, choice)?;
         if self.choices.push(&self.row, &self.sums).is_err() {
             return Err(RowsError::Memory);
         }
+        unmark(&mut self.targets, &self.row);
         self.row.clear();
         self.stage = Stage::InState;
         Ok(())
@@ -223,16 +210,16 @@ impl Assembly {
         if target >= self.announced {
             return Err(RowsError::Target);
         }
-        let place = place_of_target(&self.row, target);
-        if stands_at(&self.row, place, target) {
+        if self.targets.at(target) {
             return Err(RowsError::Twice);
         }
         if self.entries >= MAX_ENTRIES {
             return Err(RowsError::TooMany);
         }
-        if self.row.insert(place, Given { target, value }).is_err() {
+        if self.row.push(Given { target, value }).is_err() {
             return Err(RowsError::Memory);
         }
+        self.targets.set(target, true);
         self.entries += 1;
         Ok(())
     }
@@ -319,6 +306,7 @@ impl Assembly {
             label_calls: 0,
             sums: Vec::new(alloc),
             row: Vec::new(alloc),
+            targets: Marks::from_values(vec![in alloc; false; states as usize]?),
             entries: 0,
             refused: None,
         })
@@ -346,6 +334,7 @@ impl Assembly {
             label_calls: _,
             sums: _,
             row: _,
+            targets: _,
             entries: _,
             refused: _,
         } = self;
@@ -408,7 +397,7 @@ impl Assembly {
         let Stage::InRow = self.stage else {
             return false;
         };
-        stands_at(&self.row, place_of_target(&self.row, target), target)
+        target < self.announced && self.targets.at(target)
     }
 
     /// Opens the next state, with its own reward for each name, at least 0, and closes the open row and the open state before.

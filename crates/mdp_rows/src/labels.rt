@@ -1,5 +1,5 @@
-ghost use Rattle.std.specs.Prelude.{◌≡◌, ◌+◌, ◌-◌, ◌<◌, ◌≤◌, ◌^◌, length, sum_by, slice_index_or, [], ◌∷◌, ◌++◌, ◌==◌, IfOk, OnOk, OnErr};
-ghost use Rattle.std.specs.List.{list_any, position_or_len};
+ghost use Rattle.std.specs.Prelude.{◌≡◌, ◌+◌, ◌-◌, ◌<◌, ◌≤◌, ◌^◌, length, sum_by, slice_index_or, [], ◌∷◌, ◌++◌, IfOk, OnOk, OnErr};
+ghost use Rattle.std.specs.List.{position_or_len};
 ghost use Rattle.std.specs.Str.{bytes_eq};
 ghost use Rattle.mdp_rows.specs.Draft.{with_name};
 ghost use Rattle.mdp_spec.specs.Labels.{place_of};
@@ -113,13 +113,14 @@ impl Labels {
         Some(place as u32)
     }
 
-    /// Whether state `s` has the label of place `l`.
-    pub fn has(&self, l: u32, s: u32) -> bool
+    /// The places of the labels of state `s`, ascending.
+    pub fn labels_of(&self, s: u32) -> &[u32]
         requires { s < length self.now.of_state }
-        ensures { result ≡ list_any (λ k. k == l) (slice_index_or self.now.of_state s []) }
+        ensures { result.now ≡ slice_index_or self.now.of_state s [] }
     {
         let start = self.starts[s as usize] as usize;
         let end = self.starts[s as usize + 1] as usize;
-        self.places[start..end].contains(&l)
+        let places = self.places.as_slice();
+        &places[start..end]
     }
 }

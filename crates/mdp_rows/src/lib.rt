@@ -12,6 +12,7 @@ mod labels;
 mod laws;
 mod marks;
 mod model;
+mod open_row;
 mod policy_rows;
 mod preds;
 mod rewards;

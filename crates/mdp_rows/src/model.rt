@@ -1,6 +1,6 @@
 ghost use Rattle.std.specs.Prelude.{◌≡◌, ◌<◌, [], length, sum_by, slice_index_or, IfOk, codes};
 ghost use Rattle.std.specs.List.{All};
-ghost use Rattle.mdp_spec.specs.Mdp.{states_of, choices_at, row_at, has_label, no_choice};
+ghost use Rattle.mdp_spec.specs.Mdp.{states_of, state_at, choices_at, row_at, has_label, no_choice};
 ghost use Rattle.mdp_spec.specs.Unit.{reward_of};
 ghost use Rattle.mdp_spec.specs.Row.{entries, IsMdp};
 ghost use Rattle.mdp_rows.specs.Limits.{IsModel};
@@ -145,12 +145,20 @@ impl Model {
         self.labels.place(name)
     }
 
+    /// The places of the labels of state `s`, ascending.
+    pub fn labels_of(&self, s: u32) -> &[u32]
+        requires { s < states_of self.now }
+        ensures { result.now ≡ (state_at self.now s).labels }
+    {
+        self.labels.labels_of(s)
+    }
+
     /// Whether state `s` has the label of place `l`.
     pub fn has(&self, l: u32, s: u32) -> bool
         requires { s < states_of self.now }
         ensures { result ≡ has_label self.now l s }
     {
-        self.labels.has(l, s)
+        self.labels_of(s).contains(&l)
     }
 
     /// The one state with the label `init`; none where there isn't exactly one.

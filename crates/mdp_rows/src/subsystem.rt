@@ -58,12 +58,11 @@ fn give_labels(builder: &mut Builder, model: &Model, s: u32) -> Result<(), Memor
     ensures state_open { OnOk result (IsTrue (has_state builder.new)) }
 {
     model.known();
-    for l in 0..model.labels() {
-        if model.has(l, s) {
-            let Ok(()) = builder.label(model.label_name(l)) else {
-                return Err(Memory);
-            };
-        }
+    let places = model.labels_of(s);
+    for i in 0..places.len() {
+        let Ok(()) = builder.label(model.label_name(places[i])) else {
+            return Err(Memory);
+        };
     }
     Ok(())
 }

@@ -1,5 +1,9 @@
 use Rattle.mdp_graph.proofs.PassLaws.{policy_avoids}
+use Rattle.mdp_graph.proofs.PolicyMeets.{rest_meets}
 use Rattle.mdp_graph.proofs.laws.avoid_law.Goals as goal
 
-pub returns : goal.returns
-returns c = record { avoids = policy_avoids }
+pub returns-clause-avoids : goal.returns-clause-avoids
+returns-clause-avoids c = policy_avoids
+
+pub returns-clause-rest : goal.returns-clause-rest
+returns-clause-rest c = rest_meets

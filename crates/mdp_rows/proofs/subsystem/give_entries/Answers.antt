@@ -7,7 +7,8 @@ use Rattle.mdp_spec.specs.Row.{entries}
 use Rattle.mdp_rows.specs.Draft.{after_entry}
 use Rattle.mdp_rows.specs.Replay.{with_entries}
 use Rattle.mdp_rows.proofs.CutFacts.{row_within}
-use Rattle.mdp_rows.proofs.Handing.{made, both_same, entry_first, entry_at, prob_at, length-entries}
+use Rattle.mdp_rows.proofs.Handing.{made, both_same, entry_first, entry_at, prob_at}
+use Rattle.mdp_rows.proofs.Pieces.{length-entries}
 use Rattle.mdp_rows.proofs.subsystem.give_entries.Goals as goal
 
 pub entry-requires-clause-term : goal.entry-requires-clause-term

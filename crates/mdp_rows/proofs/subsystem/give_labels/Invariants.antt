@@ -1,14 +1,13 @@
-use Rattle.std.proofs.Common.{◌≡◌, IsTrue}
+use Rattle.std.proofs.Common.{◌≡◌, IsTrue, drop}
 use Rattle.mdp_spec.specs.Mdp.{state_at}
 use Rattle.mdp_rows.specs.Draft.{has_state}
 use Rattle.mdp_rows.specs.Head.{IsSameHead}
 use Rattle.mdp_rows.specs.Replay.{with_labels}
-use Rattle.mdp_rows.proofs.Handing.{places_from}
 use Rattle.mdp_rows.proofs.subsystem.give_labels.Given as goal
 
-abbrev pub invariant-loop-l : goal.invariant-loop-l
-invariant-loop-l l = record {
-  given : with_labels l.model.labels (places_from l.l (state_at l.model l.s).labels) l.builder ≡ with_labels l.model.labels (state_at l.model l.s).labels l.fn.builder;
+abbrev pub invariant-loop-i : goal.invariant-loop-i
+invariant-loop-i l = record {
+  given : with_labels l.model.labels (drop l.i (state_at l.model l.s).labels) l.builder ≡ with_labels l.model.labels (state_at l.model l.s).labels l.fn.builder;
   same : IsSameHead l.fn.builder l.builder;
   state_open : IsTrue (has_state l.builder);
 }

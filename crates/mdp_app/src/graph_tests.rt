@@ -1,0 +1,254 @@
+ghost use Rattle.std.specs.Prelude.{◌≡◌, ◌<◌, length, IfOk};
+ghost use Rattle.mdp_spec.specs.Mdp.{states_of};
+
+use mdp_drn::read;
+use mdp_graph::{
+    Pass, along, may_avoid, may_reach, must_meet, rounds_outside, sure_all, sure_some,
+};
+use mdp_num::Memory;
+use mdp_rows::{Marks, Model, PolicyRows, Pred, Preds, RowRule, preds_of};
+use std::alloc::{AllocError, Global};
+use std::test::Fail;
+
+/// State 0 goes to 1 and 2, which stay; 2 is the goal.
+const SPLITS: &str =
+    "3\n@model\nstate 0\naction\n1:1/2\n2:1/2\nstate 1\naction\n1:1\nstate 2 goal\naction\n2:1\n";
+
+/// The model of a text, which follows the type.
+fn model_of(alloc: Global, text: &str) -> Result<Model, Fail> {
+    let mut whole = String::from_str(alloc, "@type: MDP\n@nr_states\n")?;
+    whole.push_str(text)?;
+    Ok(read(alloc, whole.as_bytes(), RowRule::Exact)?)
+}
+
+/// The states with this label.
+fn marked(alloc: Global, model: &Model, label: &str) -> Result<Marks, Memory>
+    ensures { IfOk result (λ marks. length marks ≡ states_of model.now) }
+{
+    match model.label(label.as_bytes()) {
+        Some(place) => model.marks_of(alloc, place),
+        None => Marks::empty(alloc, model.states()),
+    }
+}
+
+/// Appends the rank and the choice of each state, or `-` where the state isn't marked and both are 0.
+fn push_pass(name: &str, pass: &Pass, states: u32, out: &mut String) -> Result<(), AllocError>
+    requires { length pass.now.marks ≡ states }
+{
+    out.push_str(name)?;
+    for s in 0..states {
+        let rank = pass.ranks.get(s as usize).copied();
+        let choice = pass.choices.get(s as usize).copied();
+        match (pass.marks.at(s), rank, choice) {
+            (false, Some(0), Some(0)) => out.push_str(" -")?,
+            (true, Some(rank), Some(choice)) => write!(out, " {rank}/{choice}")?,
+            _ => out.push_str(" ?")?,
+        }
+    }
+    Ok(())
+}
+
+/// What `may_reach` finds.
+fn push_may(
+    alloc: Global,
+    model: &Model,
+    goals: &Marks,
+    blocked: &Marks,
+    out: &mut String,
+) -> Result<(), Fail>
+    requires goals { length goals.now ≡ states_of model.now }
+    requires blocked { length blocked.now ≡ states_of model.now }
+{
+    let pass = may_reach(alloc, model, goals, blocked)?;
+    push_pass("may", &pass, model.states(), out)?;
+    Ok(())
+}
+
+/// What `must_meet` finds.
+fn push_must(alloc: Global, model: &Model, goals: &Marks, out: &mut String) -> Result<(), Fail>
+    requires { length goals.now ≡ states_of model.now }
+{
+    let pass = must_meet(alloc, model, goals)?;
+    push_pass(", must", &pass, model.states(), out)?;
+    Ok(())
+}
+
+/// What `may_avoid` finds.
+fn push_avoid(alloc: Global, model: &Model, goals: &Marks, out: &mut String) -> Result<(), Fail>
+    requires { length goals.now ≡ states_of model.now }
+{
+    let pass = may_avoid(alloc, model, goals)?;
+    push_pass(", avoid", &pass, model.states(), out)?;
+    Ok(())
+}
+
+/// What `sure_some` finds.
+fn push_some(alloc: Global, model: &Model, goals: &Marks, out: &mut String) -> Result<(), Fail>
+    requires { length goals.now ≡ states_of model.now }
+{
+    let pass = sure_some(alloc, model, goals)?;
+    push_pass(", some", &pass, model.states(), out)?;
+    Ok(())
+}
+
+/// What `sure_all` finds.
+fn push_all(alloc: Global, model: &Model, goals: &Marks, out: &mut String) -> Result<(), Fail>
+    requires { length goals.now ≡ states_of model.now }
+{
+    let pass = sure_all(alloc, model, goals)?;
+    push_pass(", all", &pass, model.states(), out)?;
+    Ok(())
+}
+
+/// The rounds of `rounds_outside`.
+fn push_rounds(alloc: Global, model: &Model, goals: &Marks, out: &mut String) -> Result<(), Fail>
+    requires { length goals.now ≡ states_of model.now }
+{
+    out.push_str(", rounds")?;
+    for round in &rounds_outside(alloc, model, goals)? {
+        write!(out, " {round}")?;
+    }
+    Ok(())
+}
+
+/// What each pass finds on a model.
+fn found_in(alloc: Global, text: &str) -> Result<String, Fail> {
+    let model = model_of(alloc, text)?;
+    let goals = marked(alloc, &model, "goal")?;
+    let blocked = marked(alloc, &model, "blocked")?;
+    let mut found = String::new(alloc);
+    push_may(alloc, &model, &goals, &blocked, &mut found)?;
+    push_must(alloc, &model, &goals, &mut found)?;
+    push_avoid(alloc, &model, &goals, &mut found)?;
+    push_some(alloc, &model, &goals, &mut found)?;
+    push_all(alloc, &model, &goals, &mut found)?;
+    push_rounds(alloc, &model, &goals, &mut found)?;
+    Ok(found)
+}
+
+/// Models of few states, and what each pass finds on them by hand.
+#[test]
+fn finds_sets_of_states(rt: HostRuntime) -> Result<(), Fail> {
+    for (model, found) in [
+        (
+            SPLITS,
+            "may 1/0 - 0/0, must 1/0 - 0/0, avoid - 0/0 -, some - - 0/0, all - - 0/0, rounds 2 1 0",
+        ),
+        // the first choice misses the goal, the second leads to it
+        (
+            "3\n@model\nstate 0\naction\n1:1\naction\n2:1\nstate 1\naction\n1:1\nstate 2 goal\naction\n2:1\n",
+            "may 1/1 - 0/0, must - - 0/0, avoid 0/0 0/0 -, some 1/1 - 0/0, all - - 0/0, rounds 0 1 0",
+        ),
+        // no goal
+        (
+            "2\n@model\nstate 0\naction\n1:1\nstate 1\naction\n1:1\n",
+            "may - -, must - -, avoid 0/0 0/0, some - -, all - -, rounds 1 1",
+        ),
+        // goals alone
+        (
+            "2\n@model\nstate 0 goal\naction\n1:1\nstate 1 goal\naction\n0:1\n",
+            "may 0/0 0/0, must 0/0 0/0, avoid - -, some 0/0 0/0, all 0/0 0/0, rounds 0 0",
+        ),
+        // a row that stays with one half
+        (
+            "2\n@model\nstate 0\naction\n0:1/2\n1:1/2\nstate 1 goal\naction\n1:1\n",
+            "may 1/0 0/0, must 1/0 0/0, avoid - -, some 1/0 0/0, all 1/0 0/0, rounds 0 0",
+        ),
+        // a choice that stays
+        (
+            "2\n@model\nstate 0\naction\n0:1\naction\n1:1\nstate 1 goal\naction\n1:1\n",
+            "may 1/1 0/0, must - 0/0, avoid 0/0 -, some 1/1 0/0, all - 0/0, rounds 0 0",
+        ),
+        // a goal to which nothing leads
+        (
+            "3\n@model\nstate 0\naction\n1:1\nstate 1\naction\n0:1\nstate 2 goal\naction\n2:1\n",
+            "may - - 0/0, must - - 0/0, avoid 0/0 0/0 -, some - - 0/0, all - - 0/0, rounds 1 1 0",
+        ),
+        // a goal that is left again
+        (
+            "3\n@model\nstate 0\naction\n1:1\nstate 1 goal\naction\n2:1\nstate 2\naction\n2:1\n",
+            "may 1/0 0/0 -, must 1/0 0/0 -, avoid - - 0/0, some 1/0 0/0 -, all 1/0 0/0 -, rounds 0 0 1",
+        ),
+        // two choices to states of one rank
+        (
+            "4\n@model\nstate 0\naction\n1:1\naction\n2:1\nstate 1\naction\n3:1\nstate 2\naction\n3:1\nstate 3 goal\naction\n3:1\n",
+            "may 2/0 1/0 1/0 0/0, must 2/0 1/0 1/0 0/0, avoid - - - -, some 2/0 1/0 1/0 0/0, all 2/0 1/0 1/0 0/0, rounds 0 0 0 0",
+        ),
+        // the second choice may lead there at once
+        (
+            "3\n@model\nstate 0\naction\n1:1\naction\n0:1/2\n2:1/2\nstate 1\naction\n2:1\nstate 2 goal\naction\n2:1\n",
+            "may 1/1 1/0 0/0, must 2/0 1/0 0/0, avoid - - -, some 1/1 1/0 0/0, all 2/0 1/0 0/0, rounds 0 0 0",
+        ),
+        // a second choice that may come back, and a trap
+        (
+            "3\n@model\nstate 0\naction\n1:1/2\n2:1/2\naction\n0:1/2\n1:1/4\n2:1/4\nstate 1 goal\naction\n1:1\nstate 2\naction\n2:1\n",
+            "may 1/0 0/0 -, must 1/0 0/0 -, avoid - - 0/0, some - 0/0 -, all - 0/0 -, rounds 2 0 1",
+        ),
+        // three rounds
+        (
+            "4\n@model\nstate 0\naction\n1:1/2\n3:1/2\nstate 1\naction\n2:1/2\n3:1/2\nstate 2\naction\n2:1\nstate 3 goal\naction\n3:1\n",
+            "may 1/0 1/0 - 0/0, must 1/0 1/0 - 0/0, avoid - - 0/0 -, some - - - 0/0, all - - - 0/0, rounds 3 2 1 0",
+        ),
+        // the way over state 1 is blocked, and so is the goal, which is one all the same
+        (
+            "4\n@model\nstate 0\naction\n1:1\naction\n2:1\nstate 1 blocked\naction\n3:1\nstate 2\naction\n3:1\nstate 3 goal blocked\naction\n3:1\n",
+            "may 2/1 - 1/0 0/0, must 2/0 1/0 1/0 0/0, avoid - - - -, some 2/0 1/0 1/0 0/0, all 2/0 1/0 1/0 0/0, rounds 0 0 0 0",
+        ),
+    ] {
+        assert_eq!(rt; found_in(rt.alloc(), model)?.as_str(), found, "{model}");
+    }
+    Ok(())
+}
+
+/// The policy that `may_reach` finds, and the states that it leads to the goal.
+#[test]
+fn goes_along_rows(rt: HostRuntime) -> Result<(), Fail> {
+    let model = model_of(rt.alloc(), SPLITS)?;
+    let goals = marked(rt.alloc(), &model, "goal")?;
+    let none = marked(rt.alloc(), &model, "none")?;
+    let may = may_reach(rt.alloc(), &model, &goals, &none)?;
+    assert_eq!(rt; may.choices.as_slice(), [0, 0, 0].as_slice());
+    let rows = PolicyRows {
+        model: &model,
+        policy: &may.choices,
+    };
+    let mut found = String::new(rt.alloc());
+    push_pass(
+        "along",
+        &along(rt.alloc(), &rows, &goals)?,
+        model.states(),
+        &mut found,
+    )?;
+    assert_eq!(rt; found.as_str(), "along 1/0 - 0/0");
+    Ok(())
+}
+
+/// The choices that lead to each state: one list for each.
+#[tactic(auto, using(crate::proofs::PredCounts::one_each))]
+fn predecessors(alloc: Global, model: &Model) -> Result<Preds, Memory>
+    ensures { IfOk result (λ preds. length preds ≡ states_of model.now) }
+{
+    preds_of(alloc, model)
+}
+
+/// The choices that lead to state `t`.
+fn push_leading(preds: &Preds, t: u32, out: &mut String) -> Result<(), AllocError>
+    requires { t < length preds.now }
+{
+    for Pred { state, choice } in preds.of(t) {
+        write!(out, "{state}/{choice} to {t}, ")?;
+    }
+    Ok(())
+}
+
+#[test]
+fn lists_predecessors(rt: HostRuntime) -> Result<(), Fail> {
+    let model = model_of(rt.alloc(), SPLITS)?;
+    let preds = predecessors(rt.alloc(), &model)?;
+    let mut found = String::new(rt.alloc());
+    for t in 0..model.states() {
+        push_leading(&preds, t, &mut found)?;
+    }
+    assert_eq!(rt; found.as_str(), "0/0 to 1, 1/0 to 1, 0/0 to 2, 2/0 to 2, ");
+    Ok(())
+}
