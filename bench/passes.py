@@ -17,10 +17,12 @@ LINE = "chain_timer: mdp_math mdp_num mdp_edge mdp_spec mdp_rows mdp_drn mdp_gra
 
 PROGRAM = """//! Times passes over the graph of each model that its words name.
 #![tactic(auto)]
+ghost use Rattle.std.specs.Prelude.{◌≡◌, length, IfSome};
+ghost use Rattle.mdp_spec.specs.Mdp.{states_of};
 
 use mdp_drn::read;
 use mdp_graph::{Pass, may_reach, must_meet, sure_some};
-use mdp_rows::{Marks, RowRule};
+use mdp_rows::{Marks, Model, RowRule};
 use std::env;
 use std::fs;
 use std::process::ExitCode;
@@ -31,22 +33,57 @@ fn say(rt: &HostRuntime, name: &str, pass: &Pass, time: Duration) -> Option<()> 
     println!(rt; "{name}: {} us, rank {rank} at state 0", time.as_micros()).ok()
 }
 
-fn timed(rt: &HostRuntime, path: &str) -> Option<()> {
-    let alloc = rt.alloc();
+fn model_in(rt: &HostRuntime, path: &str) -> Option<Model> {
     let bytes = fs::read(rt, path).ok()?;
-    let model = read(alloc, &bytes, RowRule::Exact).ok()?;
-    let goals = model.marks_of(alloc, model.label(b"goal")?).ok()?;
-    let none = Marks::empty(alloc, model.states()).ok()?;
+    read(rt.alloc(), &bytes, RowRule::Exact).ok()
+}
+
+fn goals_of(rt: &HostRuntime, model: &Model) -> Option<Marks>
+    ensures { IfSome result (λ marks. length marks ≡ states_of model.now) }
+{
+    let goal = model.label(b"goal")?;
+    model.marks_of(rt.alloc(), goal).ok()
+}
+
+fn none_of(rt: &HostRuntime, model: &Model) -> Option<Marks>
+    ensures { IfSome result (λ marks. length marks ≡ states_of model.now) }
+{
+    Marks::empty(rt.alloc(), model.states()).ok()
+}
+
+fn time_may_reach(rt: &HostRuntime, model: &Model, goals: &Marks, none: &Marks) -> Option<()>
+    requires goals { length goals.now ≡ states_of model.now }
+    requires none { length none.now ≡ states_of model.now }
+{
+    let start = Instant::now(rt).ok()?;
+    let pass = may_reach(rt.alloc(), model, goals, none).ok()?;
+    say(rt, "may_reach", &pass, start.elapsed(rt).ok()?)
+}
+
+fn time_must_meet(rt: &HostRuntime, model: &Model, goals: &Marks) -> Option<()>
+    requires { length goals.now ≡ states_of model.now }
+{
+    let start = Instant::now(rt).ok()?;
+    let pass = must_meet(rt.alloc(), model, goals).ok()?;
+    say(rt, "must_meet", &pass, start.elapsed(rt).ok()?)
+}
+
+fn time_sure_some(rt: &HostRuntime, model: &Model, goals: &Marks) -> Option<()>
+    requires { length goals.now ≡ states_of model.now }
+{
+    let start = Instant::now(rt).ok()?;
+    let pass = sure_some(rt.alloc(), model, goals).ok()?;
+    say(rt, "sure_some", &pass, start.elapsed(rt).ok()?)
+}
+
+fn time_passes(rt: &HostRuntime, path: &str) -> Option<()> {
+    let model = model_in(rt, path)?;
+    let goals = goals_of(rt, &model)?;
+    let none = none_of(rt, &model)?;
     println!(rt; "{} states", model.states()).ok()?;
-    let start = Instant::now(rt).ok()?;
-    let may = may_reach(alloc, &model, &goals, &none).ok()?;
-    say(rt, "may_reach", &may, start.elapsed(rt).ok()?)?;
-    let start = Instant::now(rt).ok()?;
-    let must = must_meet(alloc, &model, &goals).ok()?;
-    say(rt, "must_meet", &must, start.elapsed(rt).ok()?)?;
-    let start = Instant::now(rt).ok()?;
-    let some = sure_some(alloc, &model, &goals).ok()?;
-    say(rt, "sure_some", &some, start.elapsed(rt).ok()?)
+    time_may_reach(rt, &model, &goals, &none)?;
+    time_must_meet(rt, &model, &goals)?;
+    time_sure_some(rt, &model, &goals)
 }
 
 fn main(rt: HostRuntime) -> ExitCode {
@@ -54,7 +91,7 @@ fn main(rt: HostRuntime) -> ExitCode {
         return ExitCode::from(1);
     };
     for word in words.skip(1) {
-        if timed(&rt, &word).is_none() {
+        if time_passes(&rt, &word).is_none() {
             return ExitCode::from(1);
         }
     }
