@@ -1,12 +1,12 @@
 #!/usr/bin/env python3
-"""Measures how fast the program reads a large model file, and its peak memory.
+"""Measures how fast the program reads large model files, and its peak memory.
 
-Writes a model of so many transitions (a million if nothing is said) into a folder that it removes again, runs `check` on it with a certificate
-that has another number of states, so that the whole file is read and no rule is judged, and prints the megabytes read in a second and the peak
-memory for each transition. Usage: bench/reading.py [TRANSITIONS]. The program has to be built (bin/mdp builds it).
+Writes two models of so many transitions (a million if nothing is said) into a folder that it removes again: a ring of states with four targets each, and
+one in which a single row holds half of the transitions, with descending targets. Runs `check` on each with a certificate that has another number of
+states, so that the whole file is read and no rule is judged, and prints the megabytes read in a second and the peak memory for each transition.
+Usage: bench/reading.py [TRANSITIONS], up to 2,000,000. The program has to be built (bin/mdp builds it).
 """
 import os
-import resource
 import subprocess
 import sys
 import tempfile
@@ -16,7 +16,7 @@ TOP = os.path.join(os.path.dirname(os.path.abspath(__file__)), "..")
 PROGRAM = os.path.join(TOP, "crates", "mdp_app", "out", "mdp_app")
 
 
-def write_model(path, transitions):
+def write_ring(path, transitions):
     """States in a ring; each has one choice with four targets, of 1/4 each."""
     states = max(5, transitions // 4)
     with open(path, "w") as file:
@@ -27,22 +27,41 @@ def write_model(path, transitions):
                 file.write("\t\t%d : 0.25\n" % ((s + step) % states))
 
 
+def write_long_row(path, transitions):
+    """State 0 goes to each state with the same probability, the greatest target first; the others stay."""
+    states = max(5, transitions // 2)
+    with open(path, "w") as file:
+        file.write("@type: MDP\n@parameters\n\n@reward_models\n\n@nr_states\n%d\n@nr_choices\n%d\n@model\n" % (states, states))
+        file.write("state 0 init\n\taction 0\n")
+        for t in reversed(range(states)):
+            file.write("\t\t%d : 1/%d\n" % (t, states))
+        for s in range(1, states):
+            file.write("state %d%s\n\taction 0\n\t\t%d : 1\n" % (s, " goal" if s == 1 else "", s))
+
+
+def measure(name, model, cert, transitions):
+    size = os.path.getsize(model)
+    start = time.monotonic()
+    child = subprocess.Popen([PROGRAM, "check", model, "exact", cert], stdout=subprocess.PIPE, text=True)
+    text = child.stdout.read().strip()
+    _, status, usage = os.wait4(child.pid, 0)
+    seconds = time.monotonic() - start
+    peak = usage.ru_maxrss * 1024
+    print("%s: %s (status %d)" % (name, text, os.waitstatus_to_exitcode(status)))
+    print("%d transitions, %.1f MB: %.2f s, %.1f MB/s, peak %.1f MB, %.0f bytes a transition" % (
+        transitions, size / 1e6, seconds, size / 1e6 / seconds, peak / 1e6, peak / transitions))
+
+
 def main():
     transitions = int(sys.argv[1]) if len(sys.argv) > 1 else 1_000_000
     with tempfile.TemporaryDirectory() as folder:
-        model = os.path.join(folder, "ring.drn")
+        model = os.path.join(folder, "large.drn")
         cert = os.path.join(folder, "small.cert")
-        write_model(model, transitions)
         with open(cert, "w") as file:
             file.write('mdp-certificate 1\nclaim upper reach "goal"\nstates 1\ninit 0 1\nstate 0 1\nend\n')
-        size = os.path.getsize(model)
-        start = time.monotonic()
-        done = subprocess.run([PROGRAM, "check", model, "exact", cert], capture_output=True, text=True)
-        seconds = time.monotonic() - start
-        peak = resource.getrusage(resource.RUSAGE_CHILDREN).ru_maxrss * 1024
-        print("answer: %s (status %d)" % (done.stdout.strip(), done.returncode))
-        print("%d transitions, %.1f MB: %.2f s, %.1f MB/s, peak %.1f MB, %.0f bytes a transition" % (
-            transitions, size / 1e6, seconds, size / 1e6 / seconds, peak / 1e6, peak / transitions))
+        for name, write in (("ring", write_ring), ("long row", write_long_row)):
+            write(model, transitions)
+            measure(name, model, cert, transitions)
 
 
 if __name__ == "__main__":
