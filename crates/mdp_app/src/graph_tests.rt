@@ -14,6 +14,10 @@ use std::test::Fail;
 const SPLITS: &str =
     "3\n@model\nstate 0\naction\n1:1/2\n2:1/2\nstate 1\naction\n1:1\nstate 2 goal\naction\n2:1\n";
 
+/// State 0 goes to 1 and 2, or may also come back; 1 is the goal.
+const FORK: &str =
+    "3\n@model\nstate 0\naction\n1:1/2\n2:1/2\naction\n0:1/2\n1:1/4\n2:1/4\nstate 1 goal\naction\n1:1\nstate 2\naction\n2:1\n";
+
 /// The model of a text, which follows the type.
 fn model_of(alloc: Global, text: &str) -> Result<Model, Fail> {
     let mut whole = String::from_str(alloc, "@type: MDP\n@nr_states\n")?;
@@ -181,7 +185,7 @@ fn finds_sets_of_states(rt: HostRuntime) -> Result<(), Fail> {
         ),
         // a second choice that may come back, and a trap
         (
-            "3\n@model\nstate 0\naction\n1:1/2\n2:1/2\naction\n0:1/2\n1:1/4\n2:1/4\nstate 1 goal\naction\n1:1\nstate 2\naction\n2:1\n",
+            FORK,
             "may 1/0 0/0 -, must 1/0 0/0 -, avoid - - 0/0, some - 0/0 -, all - 0/0 -, rounds 2 0 1",
         ),
         // three rounds
@@ -203,7 +207,7 @@ fn finds_sets_of_states(rt: HostRuntime) -> Result<(), Fail> {
 /// The policy that `may_reach` finds, and the states that it leads to the goal.
 #[test]
 fn goes_along_rows(rt: HostRuntime) -> Result<(), Fail> {
-    let model = model_of(rt.alloc(), SPLITS)?;
+    let model = model_of(rt.alloc(), FORK)?;
     let goals = marked(rt.alloc(), &model, "goal")?;
     let none = marked(rt.alloc(), &model, "none")?;
     let may = may_reach(rt.alloc(), &model, &goals, &none)?;
@@ -219,7 +223,7 @@ fn goes_along_rows(rt: HostRuntime) -> Result<(), Fail> {
         model.states(),
         &mut found,
     )?;
-    assert_eq!(rt; found.as_str(), "along 1/0 - 0/0");
+    assert_eq!(rt; found.as_str(), "along 1/0 0/0 -");
     Ok(())
 }
 
@@ -241,14 +245,18 @@ fn push_leading(preds: &Preds, t: u32, out: &mut String) -> Result<(), AllocErro
     Ok(())
 }
 
+/// The predecessors of each state, ascending.
 #[test]
 fn lists_predecessors(rt: HostRuntime) -> Result<(), Fail> {
-    let model = model_of(rt.alloc(), SPLITS)?;
+    let model = model_of(rt.alloc(), FORK)?;
     let preds = predecessors(rt.alloc(), &model)?;
     let mut found = String::new(rt.alloc());
     for t in 0..model.states() {
         push_leading(&preds, t, &mut found)?;
     }
-    assert_eq!(rt; found.as_str(), "0/0 to 1, 1/0 to 1, 0/0 to 2, 2/0 to 2, ");
+    assert_eq!(rt;
+        found.as_str(),
+        "0/1 to 0, 0/0 to 1, 0/1 to 1, 1/0 to 1, 0/0 to 2, 0/1 to 2, 2/0 to 2, "
+    );
     Ok(())
 }
