@@ -1,6 +1,7 @@
 mod Among
 mod Avoiding
 mod ByTest
+mod Certainty
 mod Dropping
 mod EdgeFacts
 mod Examples
@@ -8,6 +9,7 @@ mod Falls
 mod Given
 mod MayReach
 mod Meeting
+mod Missing
 mod NextMet
 mod PassLaws
 mod Passes

@@ -80,7 +80,7 @@ rows_stay rows targets marks ok a s h out = elim (case-bool (can_enter (marked m
 
 -- ---- the step that gives a marked state its least rank
 
-least_step : (step : (ℕ → Bool) → ℕ → Bool) (first : ℕ → Bool) (n : ℕ) (marks : List Bool) (ranks : List ℕ) → AreLeastRanks step first n marks ranks → (s r : ℕ) → s < n → get_or ranks s 0 ≡ r → marked marks s ≡ true → first s ≡ false
+pub least_step : (step : (ℕ → Bool) → ℕ → Bool) (first : ℕ → Bool) (n : ℕ) (marks : List Bool) (ranks : List ℕ) → AreLeastRanks step first n marks ranks → (s r : ℕ) → s < n → get_or ranks s 0 ≡ r → marked marks s ≡ true → first s ≡ false
     → (q : ℕ) × (r ≡ suc q) × (step (reached step first q) s ≡ true)
 unfolding reached
 least_step step first n marks ranks l s zero h e is not_first = absurd (false≢true (sym not_first ∙ sym (ap (λ k. reached step first k s) e) ∙ l.reaches s h is))

@@ -1,7 +1,11 @@
 -- What the passes are for, in terms of policies and of the rules of a certificate.
-use Rattle.std.specs.Prelude.{◌≡◌, ℕ, ◌<◌, ◌⊎◌, Bool, true, false, not, ◌&&◌, ◌==◌, nat_lt, List, [], length, slice_index, slice_index_or}
+use Rattle.std.specs.Prelude.{◌≡◌, ℕ, ◌<◌, ◌≤◌, pos, ◌⊎◌, Bool, true, false, not, ◌&&◌, ◌==◌, nat_lt, List, [], length, slice_index, slice_index_or}
 use Rattle.mdp_spec.specs.Mdp.{Entry, Mdp, states_of, choices_at, row_at}
 use Rattle.mdp_spec.specs.Row.{IsMdp, AreRows}
+use Rattle.mdp_math.specs.Rational.{of_int, ◌+ℚ◌, ◌≤ℚ◌}
+use Rattle.mdp_spec.specs.Bounds.{part}
+use Rattle.mdp_spec.specs.Hit.{hit}
+use Rattle.mdp_spec.specs.Tree.{Tree, Fits, unfolded}
 use Rattle.mdp_spec.specs.Rules.{IsPolicy}
 use Rattle.mdp_graph.specs.Sets.{marked, can_enter, stays_in, some_choice}
 use Rattle.mdp_graph.specs.Layers.{reached, AreReached, AreLeastRanks}
@@ -77,6 +81,13 @@ ChoicesAreSure =
     → AreLeastRanks (inside_step m (marked marks)) (marked goals) (states_of m) marks ranks → AreLeast m goals marks (stays_and_falls m marks ranks) policy
     → IsSurePolicy m goals policy (marked marks)
 
+-- they come to a goal with probability 1: for each k, in some number of steps with at least 1 - 1/k
+abbrev pub ChoicesArrive : Type 0
+ChoicesArrive =
+    (m : Mdp) (goals marks : List Bool) (ranks policy : List ℕ) → IsMdp m → IsGreatestSure m goals marks
+    → AreLeastRanks (inside_step m (marked marks)) (marked goals) (states_of m) marks ranks → AreLeast m goals marks (stays_and_falls m marks ranks) policy
+    → (s k : ℕ) → s < states_of m → marked marks s ≡ true → 1 ≤ k → (n : ℕ) × (of_int (pos 1) ≤ℚ hit m goals 1 n (unfolded m policy n s) s +ℚ part k)
+
 -- each set with such a policy is marked
 abbrev pub SureAreMarked : Type 0
 SureAreMarked =
@@ -100,6 +111,13 @@ abbrev pub ZeroIsSure : Type 0
 ZeroIsSure =
     (m : Mdp) (goals : List Bool) (rounds : List ℕ) (marks : List Bool) → IsMdp m → AreRounds m goals rounds → IsGreatestSure m goals marks → (s : ℕ) → s < states_of m → (slice_index rounds s == 0) ≡ marked marks s
 
+-- under each policy with history and rational mixing a state outside misses the goals with some chance: there is a q so that each strategy
+-- tree, whatever its depth, meets a goal with at most 1 - 1/q
+abbrev pub TreesMiss : Type 0
+TreesMiss =
+    (m : Mdp) (goals : List Bool) (rounds : List ℕ) → IsMdp m → AreRounds m goals rounds → (s : ℕ) → s < states_of m → 0 < slice_index rounds s
+    → (q : ℕ) × (1 ≤ q) × ((n u : ℕ) (t : Tree) → 1 ≤ u → Fits m u n t s → hit m goals u n t s +ℚ part q ≤ℚ of_int (pos 1))
+
 -- ---- may_avoid
 
 -- the policy of an avoiding set meets no goal from a state of the set, after whatever number of steps
@@ -107,6 +125,12 @@ abbrev pub PolicyAvoids : Type 0
 PolicyAvoids =
     (m : Mdp) (goals marks : List Bool) (policy : List ℕ) → IsMdp m → IsGreatestAvoiding m goals marks → AreLeast m goals marks (keeps m marks) policy → (k s : ℕ) → s < states_of m → marked marks s ≡ true
     → reached (policy_step m policy) (marked goals) k s ≡ false
+
+-- so its probability of coming to a goal is 0, within whatever number of steps
+abbrev pub ChoicesMiss : Type 0
+ChoicesMiss =
+    (m : Mdp) (goals marks : List Bool) (policy : List ℕ) → IsMdp m → IsGreatestAvoiding m goals marks → AreLeast m goals marks (keeps m marks) policy → (n s : ℕ) → s < states_of m → marked marks s ≡ true
+    → hit m goals 1 n (unfolded m policy n s) s ≡ of_int (pos 0)
 
 -- from any other state each policy can come to a goal after some number of steps
 abbrev pub RestMeets : Type 0
@@ -121,3 +145,11 @@ abbrev pub StaysSure : Type 0
 StaysSure =
     (m : Mdp) (goals marks : List Bool) → IsMdp m → IsSureAll m goals marks → (s c : ℕ) → s < states_of m → marked marks s ≡ true → marked goals s ≡ false → c < length (choices_at m s)
     → stays_in (marked marks) (row_at m s c) ≡ true
+
+-- under each policy with history and rational mixing such a state comes to a goal with probability 1: for each k, each strategy tree of some
+-- depth or a greater one meets a goal with at least 1 - 1/k
+abbrev pub TreesArrive : Type 0
+TreesArrive =
+    (m : Mdp) (goals marks : List Bool) (ranks : List ℕ) → IsMdp m → IsSureAll m goals marks → AreLeastRanks (must_step m) (marked goals) (states_of m) marks ranks
+    → (s k : ℕ) → s < states_of m → marked marks s ≡ true → 1 ≤ k
+    → (n : ℕ) × ((d u : ℕ) (t : Tree) → n ≤ d → 1 ≤ u → Fits m u d t s → of_int (pos 1) ≤ℚ hit m goals u d t s +ℚ part k)

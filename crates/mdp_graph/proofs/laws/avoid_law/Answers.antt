@@ -1,3 +1,4 @@
+use Rattle.mdp_graph.proofs.Certainty.{choices_miss}
 use Rattle.mdp_graph.proofs.PassLaws.{policy_avoids}
 use Rattle.mdp_graph.proofs.PolicyMeets.{rest_meets}
 use Rattle.mdp_graph.proofs.laws.avoid_law.Goals as goal
@@ -7,3 +8,6 @@ returns-clause-avoids c = policy_avoids
 
 pub returns-clause-rest : goal.returns-clause-rest
 returns-clause-rest c = rest_meets
+
+pub returns-clause-misses : goal.returns-clause-misses
+returns-clause-misses c = choices_miss

@@ -1,5 +1,9 @@
+use Rattle.mdp_graph.proofs.Certainty.{trees_arrive}
 use Rattle.mdp_graph.proofs.PassLaws.{stays_sure}
 use Rattle.mdp_graph.proofs.laws.sure_all_law.Goals as goal
 
-pub returns : goal.returns
-returns c = record { stays = stays_sure }
+pub returns-clause-stays : goal.returns-clause-stays
+returns-clause-stays c = stays_sure
+
+pub returns-clause-arrives : goal.returns-clause-arrives
+returns-clause-arrives c = trees_arrive
