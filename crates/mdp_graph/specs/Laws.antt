@@ -1,5 +1,6 @@
 -- What the passes are for, in terms of policies and of the rules of a certificate.
-use Rattle.std.specs.Prelude.{◌≡◌, ℕ, ◌<◌, ◌≤◌, pos, ◌⊎◌, Bool, true, false, not, ◌&&◌, ◌==◌, nat_lt, List, [], length, slice_index, slice_index_or}
+use Rattle.std.specs.Prelude.{◌≡◌, ℕ, ◌<◌, ◌≤◌, pos, ◌⊎◌, Bool, true, false, not, ◌&&◌, ◌==◌, nat_lt, List, [], length, map, cond, slice_index, slice_index_or}
+use Rattle.std.specs.List.{range_with_len}
 use Rattle.mdp_spec.specs.Mdp.{Entry, Mdp, states_of, choices_at, row_at}
 use Rattle.mdp_spec.specs.Row.{IsMdp, AreRows}
 use Rattle.mdp_math.specs.Rational.{of_int, ◌+ℚ◌, ◌≤ℚ◌}
@@ -153,3 +154,16 @@ TreesArrive =
     (m : Mdp) (goals marks : List Bool) (ranks : List ℕ) → IsMdp m → IsSureAll m goals marks → AreLeastRanks (must_step m) (marked goals) (states_of m) marks ranks
     → (s k : ℕ) → s < states_of m → marked marks s ≡ true → 1 ≤ k
     → (n : ℕ) × ((d u : ℕ) (t : Tree) → n ≤ d → 1 ≤ u → Fits m u d t s → of_int (pos 1) ≤ℚ hit m goals u d t s +ℚ part k)
+
+-- the choices of `may_avoid` at the avoiding states, and at the others those of `may_reach` to these states with the goals blocked
+abbrev pub joined : Mdp → List Bool → List ℕ → List ℕ → List ℕ
+joined m avoiding keep go = map (λ s. cond (marked avoiding s) (slice_index keep s) (slice_index go s)) (range_with_len 0 (states_of m))
+
+-- from a state outside `sure_all` this policy misses the goals with some chance: there is a q so that it meets one with at most 1 - 1/q within
+-- whatever number of steps
+abbrev pub JoinedMisses : Type 0
+JoinedMisses =
+    (m : Mdp) (goals sure avoiding marks : List Bool) (keep ranks go : List ℕ) → IsMdp m → IsSureAll m goals sure
+    → IsGreatestAvoiding m goals avoiding → AreLeast m goals avoiding (keeps m avoiding) keep
+    → AreReached (may_step m goals) (marked avoiding) (states_of m) marks → AreLeastRanks (may_step m goals) (marked avoiding) (states_of m) marks ranks → AreLeast m avoiding marks (falls m marks ranks) go
+    → (s : ℕ) → s < states_of m → marked sure s ≡ false → (q : ℕ) × (1 ≤ q) × ((n : ℕ) → hit m goals 1 n (unfolded m (joined m avoiding keep go) n s) s +ℚ part q ≤ℚ of_int (pos 1))

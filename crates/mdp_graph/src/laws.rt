@@ -1,5 +1,5 @@
 ghost use Rattle.mdp_graph.specs.Laws.{ChoicesReach, RestStays, RowsFall, RowsStay, EachPolicyMeets, RestAvoids, ChoicesAreSure, ChoicesArrive, SureAreMarked};
-ghost use Rattle.mdp_graph.specs.Laws.{RoundsFall, ZeroIsSure, TreesMiss, PolicyAvoids, ChoicesMiss, RestMeets, StaysSure, TreesArrive};
+ghost use Rattle.mdp_graph.specs.Laws.{RoundsFall, ZeroIsSure, TreesMiss, PolicyAvoids, ChoicesMiss, RestMeets, StaysSure, TreesArrive, JoinedMisses};
 
 /// By the choices of `may_reach` each marked state can come to a target within as many steps as its rank. No choice of a state that is neither
 /// marked nor blocked leads to a marked state.
@@ -48,8 +48,10 @@ pub fn avoid_law()
 {}
 
 /// From a state of `sure_all` that is no goal each choice leads to such states alone. Under each policy with history and rational mixing such a
-/// state comes to a goal with probability 1.
+/// state comes to a goal with probability 1. From any other state the policy that goes to the states of `may_avoid` and stays there misses the
+/// goals with some chance.
 pub fn sure_all_law()
     ensures stays { StaysSure }
     ensures arrives { TreesArrive }
+    ensures misses { JoinedMisses }
 {}

@@ -1,4 +1,5 @@
 use Rattle.mdp_graph.proofs.Certainty.{trees_arrive}
+use Rattle.mdp_graph.proofs.Missing.{joined_misses}
 use Rattle.mdp_graph.proofs.PassLaws.{stays_sure}
 use Rattle.mdp_graph.proofs.laws.sure_all_law.Goals as goal
 
@@ -7,3 +8,6 @@ returns-clause-stays c = stays_sure
 
 pub returns-clause-arrives : goal.returns-clause-arrives
 returns-clause-arrives c = trees_arrive
+
+pub returns-clause-misses : goal.returns-clause-misses
+returns-clause-misses c = joined_misses
