@@ -34,7 +34,7 @@ use Rattle.mdp_graph.proofs.Truths.{case-bool, and-left, and-right, both}
 abbrev sure_value : List Bool → ℕ → ℚ
 sure_value marks s = cond (marked marks s) 1ℚ 0ℚ
 
-times_one : (x : ℚ) → x *ℚ 1ℚ ≡ x
+pub times_one : (x : ℚ) → x *ℚ 1ℚ ≡ x
 times_one = ring rat_ring 1 (λ x. x ⊗ lit (pos 1)) (λ x. x) refl
 
 -- a row that stays inside weighs as much as its probabilities

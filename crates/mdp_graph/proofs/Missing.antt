@@ -12,7 +12,7 @@ use Rattle.mdp_math.proofs.Laws.{rat_ring, den-pos}
 use Rattle.mdp_math.proofs.Linear.{linear, known}
 use Rattle.mdp_math.proofs.Order.{0ℚ, 1ℚ, ≤ℚ_refl, ≤ℚ_of_eq, ≤ℚ_of_lt, ≤ℚ_trans}
 use Rattle.mdp_math.proofs.Powers.{pow_ℚ-nonneg, pow_ℚ-pos, pow_ℚ-le_one, pow_ℚ-antitone, unit_fraction-le}
-use Rattle.mdp_math.proofs.Ring.{◌⊕◌, ◌⊗◌, ⊖, lit, ring}
+use Rattle.mdp_math.proofs.Ring.{◌⊕◌, ⊖, lit, ring}
 use Rattle.mdp_math.proofs.Whole.{of_nat-nonneg}
 use Rattle.mdp_spec.specs.Bounds.{part}
 use Rattle.mdp_spec.specs.Hit.{hit}
@@ -32,6 +32,7 @@ use Rattle.mdp_graph.specs.Sure.{inside_step}
 use Rattle.mdp_graph.specs.Rounds.{left_after, AreRounds}
 use Rattle.mdp_graph.specs.Avoid.{IsGreatestAvoiding, keeps}
 use Rattle.mdp_graph.specs.Laws.{TreesMiss, joined, JoinedMisses}
+use Rattle.mdp_graph.proofs.Certainty.{times_one}
 use Rattle.mdp_graph.proofs.Meeting.{each-true}
 use Rattle.mdp_graph.proofs.Reaching.{first-reached, step-reaches}
 use Rattle.mdp_graph.proofs.RoundLaws.{rounds_fall}
@@ -68,9 +69,6 @@ weight-earlier e q (suc v) p l h k = pow_ℚ-antitone e v q p l (omega (arith, k
 
 minus_zero : (x : ℚ) → x -ℚ 0ℚ ≡ x
 minus_zero = ring rat_ring 1 (λ x. x ⊕ ⊖ (lit (pos 0))) (λ x. x) refl
-
-times_one : (x : ℚ) → x *ℚ 1ℚ ≡ x
-times_one = ring rat_ring 1 (λ x. x ⊗ lit (pos 1)) (λ x. x) refl
 
 -- Goals have the number 0. At another state with a number above 0 each choice that meets a rule has a successor of a smaller number above 0, or
 -- all its successors have the same number.
