@@ -8,29 +8,30 @@ use Rattle.mdp_spec.specs.Tree.{Tree, paths, is_marked}
 use Rattle.mdp_spec.specs.Tree.Tree.{leaf, node}
 
 -- what a choice earns in one step and behind it, in parts of the scale and of all paths: its reward on all paths below it, and what each
--- entry's tree earns
+-- entry's tree earns, by the entry's weight
 abbrev pub earned : Mdp → ℕ → ℕ → ℕ → Choice → (ℕ → ℕ → ℤ) → ℤ
-earned m k u n x behind = whole_reward m k x *ℤ pos (unit_of m * paths m u n) +ℤ total_at x.row (λ e y. pos (weight_of m y) *ℤ behind e y.target)
+earned m r u n x behind = whole_reward m r x *ℤ pos (unit_of m * paths m u n) +ℤ total_at x.row (λ e y. pos (weight_of m y) *ℤ behind e y.target)
 
--- the reward of name k until a goal within n steps: nothing from a goal on
+-- the reward of name r until a goal within n steps: nothing at a goal or at a leaf; else the sum over the choices of the choice's weight times
+-- what it earns, its own reward and what the trees behind its entries earn
 abbrev pub pays : Mdp → ℕ → List Bool → ℕ → ℕ → Tree → ℕ → ℤ
-pays m k goals u zero t s = pos 0
-pays m k goals u (suc n) leaf s = pos 0
-pays m k goals u (suc n) (node weights kids) s =
+pays m r goals u zero t s = pos 0
+pays m r goals u (suc n) leaf s = pos 0
+pays m r goals u (suc n) (node weights kids) s =
     if is_marked goals s then pos 0
-    else total_at (choices_at m s) (λ c x. pos (weights c) *ℤ earned m k u n x (λ e t. pays m k goals u n (kids c e) t))
+    else total_at (choices_at m s) (λ c x. pos (weights c) *ℤ earned m r u n x (λ e t. pays m r goals u n (kids c e) t))
 
 unfoldable pub pay : Mdp → ℕ → List Bool → ℕ → ℕ → Tree → ℕ → ℚ
-pay m k goals u n t s = ratio (pays m k goals u n t s) (scale_of m k * paths m u n)
+pay m r goals u n t s = ratio (pays m r goals u n t s) (scale_of m r * paths m u n)
 
--- the reward of name k in all n steps, goals or not
+-- the reward of name r in all n steps, goals or not: nothing at a leaf; else the same sum over the choices
 abbrev pub totals : Mdp → ℕ → ℕ → ℕ → Tree → ℕ → ℤ
-totals m k u zero t s = pos 0
-totals m k u (suc n) leaf s = pos 0
-totals m k u (suc n) (node weights kids) s = total_at (choices_at m s) (λ c x. pos (weights c) *ℤ earned m k u n x (λ e t. totals m k u n (kids c e) t))
+totals m r u zero t s = pos 0
+totals m r u (suc n) leaf s = pos 0
+totals m r u (suc n) (node weights kids) s = total_at (choices_at m s) (λ c x. pos (weights c) *ℤ earned m r u n x (λ e t. totals m r u n (kids c e) t))
 
 unfoldable pub total : Mdp → ℕ → ℕ → ℕ → Tree → ℕ → ℚ
-total m k u n t s = ratio (totals m k u n t s) (scale_of m k * paths m u n)
+total m r u n t s = ratio (totals m r u n t s) (scale_of m r * paths m u n)
 
 -- a tree enters the marked states before a goal: s is marked, or s is no goal and the child at some entry of a choice of positive weight enters
 abbrev pub Enters : Mdp → List Bool → List Bool → ℕ → Tree → ℕ → Type 0

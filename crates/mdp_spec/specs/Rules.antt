@@ -7,11 +7,7 @@ use Rattle.std.specs.List.{Any}
 use Rattle.mdp_math.specs.Rational.{ℚ, of_int, ◌≤ℚ◌, ◌<ℚ◌}
 use Rattle.mdp_spec.specs.Mdp.{Mdp, states_of, choices_at, row_at, value_at}
 use Rattle.mdp_spec.specs.Row.{row_sum}
-use Rattle.mdp_spec.specs.Tree.{is_marked}
-
--- the policy takes a choice that the state has
-abbrev pub IsPolicy : Mdp → List ℕ → Type 0
-IsPolicy m policy = (s : ℕ) → s < states_of m → slice_index policy s < length (choices_at m s)
+use Rattle.mdp_spec.specs.Tree.{IsPolicy, is_marked}
 
 -- each value is a probability, and 1 at a goal
 pub record AreProbabilities (m : Mdp) (goals : List Bool) (z : List ℚ) : Type 0 where

@@ -15,3 +15,11 @@ cut_from names s (x ∷ states) stays = (if stays s then x else record x { choic
 
 unfoldable pub sub_of : Mdp → List Bool → List Bool → Mdp
 sub_of m goals kept = record m { states = cut_from m.names 0 m.states (λ s. is_marked goals s || is_marked kept s) }
+
+-- a policy of the model, read on its subsystem: its own choice at each state that stays as it is, and choice 0, the loop, at any other
+abbrev pub policy_from : ℕ → List ℕ → (ℕ → Bool) → List ℕ
+policy_from s [] stays = []
+policy_from s (c ∷ policy) stays = (if stays s then c else 0) ∷ policy_from (suc s) policy stays
+
+abbrev pub policy_on : List Bool → List Bool → List ℕ → List ℕ
+policy_on goals kept policy = policy_from 0 policy (λ s. is_marked goals s || is_marked kept s)

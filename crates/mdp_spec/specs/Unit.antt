@@ -28,26 +28,26 @@ unit_of m = unit_of_states m.states
 abbrev pub weight_of : Mdp → Entry → ℕ
 weight_of m x = unsigned_abs x.prob.num * (unit_of m / x.prob.den)
 
--- ---- rewards, of the reward name of place k
+-- ---- rewards, of the reward name of place r
 
 abbrev pub reward_of : Choice → ℕ → ℚ
-reward_of x k = slice_index_or x.rewards k (of_int (pos 0))
+reward_of x r = slice_index_or x.rewards r (of_int (pos 0))
 
 abbrev pub scale_of_choices : List Choice → ℕ → ℕ
-scale_of_choices [] k = 1
-scale_of_choices (x ∷ choices) k = (reward_of x k).den * scale_of_choices choices k
+scale_of_choices [] r = 1
+scale_of_choices (x ∷ choices) r = (reward_of x r).den * scale_of_choices choices r
 
 abbrev pub scale_of_states : List State → ℕ → ℕ
-scale_of_states [] k = 1
-scale_of_states (x ∷ states) k = scale_of_choices x.choices k * scale_of_states states k
+scale_of_states [] r = 1
+scale_of_states (x ∷ states) r = scale_of_choices x.choices r * scale_of_states states r
 
 -- the rewards' common scale: the product of the denominators of all rewards
 unfoldable pub scale_of : Mdp → ℕ → ℕ
-scale_of m k = scale_of_states m.states k
+scale_of m r = scale_of_states m.states r
 
 -- a choice's reward times the scale
 abbrev pub whole_reward : Mdp → ℕ → Choice → ℤ
-whole_reward m k x = (reward_of x k).num *ℤ pos (scale_of m k / (reward_of x k).den)
+whole_reward m r x = (reward_of x r).num *ℤ pos (scale_of m r / (reward_of x r).den)
 
 -- ---- sums over a list by place
 
