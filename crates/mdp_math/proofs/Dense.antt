@@ -20,7 +20,8 @@ use Rattle.mdp_math.proofs.Pivots.{RowsShrink, SolvesOn}
 -- ---- the active numbers below n
 
 module _ (active : ℕ → Bool) where
-  all_active_by : (n : ℕ) (b : Bool) → active n ≡ b → All (λ s. (active s ≡ true) × (s < n)) (active_below active n) → All (λ s. (active s ≡ true) × (s < suc n)) (if b then n ∷ active_below active n else active_below active n)
+  all_active_by : (n : ℕ) (b : Bool) → active n ≡ b → All (λ s. (active s ≡ true) × (s < n)) (active_below active n)
+      → All (λ s. (active s ≡ true) × (s < suc n)) (if b then n ∷ active_below active n else active_below active n)
   all_active_by n true a h = All-cons (λ s. (active s ≡ true) × (s < suc n)) n (active_below active n) (a, omega arith) (λ k d l. ((h k d l).0, omega (arith, (h k d l).1)))
   all_active_by n false a h = λ k d l. ((h k d l).0, omega (arith, (h k d l).1))
 
@@ -85,7 +86,8 @@ module _ (active : ℕ → Bool) (k : ℕ) (a : ℚ) (f : ℕ → ℚ) where
   picked_here n false e same out =
       missed n (omega arith) ∙ ring rat_ring 1 (λ a. lit (pos 0)) (λ a. a ⊗ lit (pos 0)) refl a ∙ ap (λ (u : ℚ). a *ℚ u) (sym (out e) ∙ ap f (sym same))
 
-  picked_later : (n : ℕ) (b : Bool) → k < n → sum_of (one_term k a f) (active_below active n) ≡ a *ℚ f k → sum_of (one_term k a f) (if b then n ∷ active_below active n else active_below active n) ≡ a *ℚ f k
+  picked_later : (n : ℕ) (b : Bool) → k < n → sum_of (one_term k a f) (active_below active n) ≡ a *ℚ f k
+      → sum_of (one_term k a f) (if b then n ∷ active_below active n else active_below active n) ≡ a *ℚ f k
   picked_later n true h e = zero_plus _ _ _ (one_term-other k a f n (eqb-smaller k n h)) e
   picked_later n false h e = e
 
@@ -127,11 +129,13 @@ module _ {A : Type 0} (index : A → ℕ) (entry : A → ℚ) (active : ℕ → 
       p.inside (get_or (active_below active n) k d) a
       ∙ ap (λ (u : ℚ). c (get_or (active_below active n) k d) +ℚ u) (sym (weigh_dense x (row_of (get_or (active_below active n) k d)) p.outside))
 
-  pub solves_from_dense : (row_of : ℕ → List A) (c x : ℕ → ℚ) → ((s : ℕ) → active s ≡ false → x s ≡ 0ℚ) → SolvesOn (active_below active n) (λ s. entry_at index entry (row_of s)) c x → Solves index entry active row_of c x
+  pub solves_from_dense : (row_of : ℕ → List A) (c x : ℕ → ℚ) → ((s : ℕ) → active s ≡ false → x s ≡ 0ℚ) → SolvesOn (active_below active n) (λ s. entry_at index entry (row_of s)) c x
+      → Solves index entry active row_of c x
   solves_from_dense row_of c x out p = record {
     outside = out;
     inside = λ s a.
-        All-contains (λ t. x t ≡ c t +ℚ sum_of (λ v. entry_at index entry (row_of t) v *ℚ x v) (active_below active n)) (active_below active n) s p (active_below-contains active n s a (bound s a))
+        All-contains (λ t. x t ≡ c t +ℚ sum_of (λ v. entry_at index entry (row_of t) v *ℚ x v) (active_below active n)) (active_below active n) s p
+        (active_below-contains active n s a (bound s a))
         ∙ ap (λ (u : ℚ). c s +ℚ u) (weigh_dense x (row_of s) out);
   }
 
@@ -142,7 +146,8 @@ module _ {A : Type 0} (index : A → ℕ) (entry : A → ℚ) (active : ℕ → 
     positive = λ k d l. weight-pos K (get_or (active_below active n) k d) (active_below-all active n k d l).0;
     entries = λ k d l j e m.
         let a : active (get_or (active_below active n) k d) ≡ true = (active_below-all active n k d l).0 in
-        entry_at-nonneg (row_of (get_or (active_below active n) k d)) (get_or (active_below active n) j e) (K.entries (get_or (active_below active n) k d) (row_of (get_or (active_below active n) k d)) a (allowed (get_or (active_below active n) k d) a));
+        entry_at-nonneg (row_of (get_or (active_below active n) k d)) (get_or (active_below active n) j e)
+        (K.entries (get_or (active_below active n) k d) (row_of (get_or (active_below active n) k d)) a (allowed (get_or (active_below active n) k d) a));
     sums = λ k d l.
         let a : active (get_or (active_below active n) k d) ≡ true = (active_below-all active n k d l).0 in
         shrinks_lt (get_or (active_below active n) k d) a;

@@ -33,7 +33,8 @@ mul-inv_pos y h = mul-inv y (ne-zero_of_pos y h)
 
 pub inv-pos : (y : ℚ) → 0ℚ <ℚ y → 0ℚ <ℚ inv_ℚ y
 inv-pos y h = elim (≤ℚ_or_gt (inv_ℚ y) 0ℚ) as (λ _. 0ℚ <ℚ inv_ℚ y) [
-  | inl l ↦ absurd (clash_ℚ 0ℚ 1ℚ one-pos (linear 2 (λ y i. lit (pos 1)) (λ y i. lit (pos 0)) (λ y i. equal (lit (pos 1)) (lit (pos 1)) (y ⊗ i) ∷ at_most y i (lit (pos 0)) ∷ []) refl y (inv_ℚ y) (sym (mul-inv_pos y h)) (≤ℚ_of_lt 0ℚ y h) l))
+  | inl l ↦ absurd (clash_ℚ 0ℚ 1ℚ one-pos (linear 2 (λ y i. lit (pos 1)) (λ y i. lit (pos 0)) (λ y i. equal (lit (pos 1)) (lit (pos 1)) (y ⊗ i) ∷ at_most y i (lit (pos 0)) ∷ []) refl y
+      (inv_ℚ y) (sym (mul-inv_pos y h)) (≤ℚ_of_lt 0ℚ y h) l))
   | inr l ↦ l
 ]
 
@@ -49,7 +50,8 @@ div-le x y z h k =
 
 pub le-div : (x y z : ℚ) → 0ℚ <ℚ y → z *ℚ y ≤ℚ x → z ≤ℚ x /ℚ y
 le-div x y z h k =
-    linear 4 (λ x y z i. z) (λ x y z i. x ⊗ i) (λ x y z i. at_most i (z ⊗ y) x ∷ equal z (lit (pos 1)) (y ⊗ i) ∷ []) refl x y z (inv_ℚ y) (≤ℚ_of_lt 0ℚ (inv_ℚ y) (inv-pos y h)) k (sym (mul-inv_pos y h))
+    linear 4 (λ x y z i. z) (λ x y z i. x ⊗ i) (λ x y z i. at_most i (z ⊗ y) x ∷ equal z (lit (pos 1)) (y ⊗ i) ∷ []) refl x y z (inv_ℚ y)
+    (≤ℚ_of_lt 0ℚ (inv_ℚ y) (inv-pos y h)) k (sym (mul-inv_pos y h))
 
 -- ---- one half
 
@@ -71,5 +73,6 @@ le_of_bounds x y h = elim (≤ℚ_or_gt x y) as (λ _. x ≤ℚ y) [
   | inl l ↦ l
   | inr l ↦
       let d : 0ℚ <ℚ x -ℚ y = sub-pos y x l in
-      absurd (clash_ℚ ((x -ℚ y) *ℚ half) (x -ℚ y) (half-lt (x -ℚ y) d) (linear 3 (λ x y h. x ⊕ ⊖ y) (λ x y h. (x ⊕ ⊖ y) ⊗ h) (λ x y h. known x (y ⊕ (x ⊕ ⊖ y) ⊗ h) ∷ []) refl x y half (h ((x -ℚ y) *ℚ half) (mul-pos_ℚ (x -ℚ y) half d half_pos))))
+      absurd (clash_ℚ ((x -ℚ y) *ℚ half) (x -ℚ y) (half-lt (x -ℚ y) d)
+      (linear 3 (λ x y h. x ⊕ ⊖ y) (λ x y h. (x ⊕ ⊖ y) ⊗ h) (λ x y h. known x (y ⊕ (x ⊕ ⊖ y) ⊗ h) ∷ []) refl x y half (h ((x -ℚ y) *ℚ half) (mul-pos_ℚ (x -ℚ y) half d half_pos))))
 ]

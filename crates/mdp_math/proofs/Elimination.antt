@@ -36,7 +36,8 @@ solutions_same (s ∷ rest) q c x y p h k =
     let v = pivot-solves q c y s rest (pivot-nonzero q s p.0) k in
     let same : All (λ t. x t ≡ y t) rest = solutions_same rest (pivoted q s) (pivoted_constant q c s) x y p.1 u.1 v.1 in
     All-cons (λ t. x t ≡ y t) s rest
-    (u.0 ∙ ap (λ (w : ℚ). divided_constant q c s +ℚ w) (sum_of-same_all (λ t. divided q s t *ℚ x t) (λ t. divided q s t *ℚ y t) rest (λ j d l. ap (λ (w : ℚ). divided q s (get_or rest j d) *ℚ w) (same j d l))) ∙ sym v.0)
+    (u.0 ∙ ap (λ (w : ℚ). divided_constant q c s +ℚ w)
+    (sum_of-same_all (λ t. divided q s t *ℚ x t) (λ t. divided q s t *ℚ y t) rest (λ j d l. ap (λ (w : ℚ). divided q s (get_or rest j d) *ℚ w) (same j d l))) ∙ sym v.0)
     same
 
 -- ---- the solution that elimination gives
@@ -50,17 +51,22 @@ Apart (s ∷ rest) = All (λ v. eqb v s ≡ false) rest × Apart rest
 solves_same : (left : List ℕ) (q : ℕ → ℕ → ℚ) (c x y : ℕ → ℚ) → All (λ t. x t ≡ y t) left → SolvesOn left q c y → SolvesOn left q c x
 solves_same left q c x y same h = λ j d l.
     same j d l ∙ h j d l
-    ∙ ap (λ (w : ℚ). c (get_or left j d) +ℚ w) (sym (sum_of-same_all (λ t. q (get_or left j d) t *ℚ x t) (λ t. q (get_or left j d) t *ℚ y t) left (λ i e m. ap (λ (w : ℚ). q (get_or left j d) (get_or left i e) *ℚ w) (same i e m))))
+    ∙ ap (λ (w : ℚ). c (get_or left j d) +ℚ w)
+    (sym (sum_of-same_all (λ t. q (get_or left j d) t *ℚ x t) (λ t. q (get_or left j d) t *ℚ y t) left (λ i e m. ap (λ (w : ℚ). q (get_or left j d) (get_or left i e) *ℚ w) (same i e m))))
 
 pub solution-solves : (left : List ℕ) (q : ℕ → ℕ → ℚ) (c : ℕ → ℚ) → Apart left → HasPivots left q → SolvesOn left q c (solution left q c)
 solution-solves [] q c a p = All-nil (λ t. solution [] q c t ≡ c t +ℚ sum_of (λ v. q t v *ℚ solution [] q c v) [])
 solution-solves (s ∷ rest) q c a p =
     let same : All (λ t. solution (s ∷ rest) q c t ≡ solution rest (pivoted q s) (pivoted_constant q c s) t) rest = λ j d l.
-    ap (λ (b : Bool). if b then divided_constant q c s +ℚ sum_of (λ u. divided q s u *ℚ solution rest (pivoted q s) (pivoted_constant q c s) u) rest else solution rest (pivoted q s) (pivoted_constant q c s) (get_or rest j d)) (a.0 j d l)
+    ap (λ (b : Bool). if b then divided_constant q c s +ℚ sum_of (λ u. divided q s u *ℚ solution rest (pivoted q s) (pivoted_constant q c s) u) rest
+    else solution rest (pivoted q s) (pivoted_constant q c s) (get_or rest j d)) (a.0 j d l)
     in
     solves-pivot q c (solution (s ∷ rest) q c) s rest (pivot-nonzero q s p.0)
-    (ap (λ (b : Bool). if b then divided_constant q c s +ℚ sum_of (λ u. divided q s u *ℚ solution rest (pivoted q s) (pivoted_constant q c s) u) rest else solution rest (pivoted q s) (pivoted_constant q c s) s) (eqb-same s)
-    ∙ ap (λ (w : ℚ). divided_constant q c s +ℚ w) (sym (sum_of-same_all (λ t. divided q s t *ℚ solution (s ∷ rest) q c t) (λ t. divided q s t *ℚ solution rest (pivoted q s) (pivoted_constant q c s) t) rest (λ j d l. ap (λ (w : ℚ). divided q s (get_or rest j d) *ℚ w) (same j d l)))))
+    (ap (λ (b : Bool). if b then divided_constant q c s +ℚ sum_of (λ u. divided q s u *ℚ solution rest (pivoted q s) (pivoted_constant q c s) u) rest
+    else solution rest (pivoted q s) (pivoted_constant q c s) s) (eqb-same s)
+    ∙ ap (λ (w : ℚ). divided_constant q c s +ℚ w)
+    (sym (sum_of-same_all (λ t. divided q s t *ℚ solution (s ∷ rest) q c t) (λ t. divided q s t *ℚ solution rest (pivoted q s) (pivoted_constant q c s) t) rest
+    (λ j d l. ap (λ (w : ℚ). divided q s (get_or rest j d) *ℚ w) (same j d l)))))
     (solves_same rest (pivoted q s) (pivoted_constant q c s) (solution (s ∷ rest) q c) (solution rest (pivoted q s) (pivoted_constant q c s)) same
     (solution-solves rest (pivoted q s) (pivoted_constant q c s) a.1 p.1))
 
@@ -68,7 +74,8 @@ solution-solves (s ∷ rest) q c a p =
 pub solution-outside : (left : List ℕ) (q : ℕ → ℕ → ℚ) (c : ℕ → ℚ) (v : ℕ) → All (λ s. eqb v s ≡ false) left → solution left q c v ≡ 0ℚ
 solution-outside [] q c v h = refl
 solution-outside (s ∷ rest) q c v h =
-    ap (λ (b : Bool). if b then divided_constant q c s +ℚ sum_of (λ u. divided q s u *ℚ solution rest (pivoted q s) (pivoted_constant q c s) u) rest else solution rest (pivoted q s) (pivoted_constant q c s) v) (All-head (λ t. eqb v t ≡ false) s rest h)
+    ap (λ (b : Bool). if b then divided_constant q c s +ℚ sum_of (λ u. divided q s u *ℚ solution rest (pivoted q s) (pivoted_constant q c s) u) rest
+    else solution rest (pivoted q s) (pivoted_constant q c s) v) (All-head (λ t. eqb v t ≡ false) s rest h)
     ∙ solution-outside rest (pivoted q s) (pivoted_constant q c s) v (All-tail (λ t. eqb v t ≡ false) s rest h)
 
 -- ---- of a kernel with a weight
@@ -85,7 +92,8 @@ other_number : (active : ℕ → Bool) (v s : ℕ) (b : Bool) → eqb v s ≡ b 
 other_number active v s true e a h = let same : v ≡ s = grind arith in cc
 other_number active v s false e a h = refl
 
-module _ {A : Type 0} {index : A → ℕ} {entry : A → ℚ} {active : ℕ → Bool} {Allowed : ℕ → List A → Type 0} (K : Shrinks index entry active Allowed) (n : ℕ) (bound : (s : ℕ) → active s ≡ true → s < n) (row_of : ℕ → List A)
+module _ {A : Type 0} {index : A → ℕ} {entry : A → ℚ} {active : ℕ → Bool} {Allowed : ℕ → List A → Type 0} (K : Shrinks index entry active Allowed) (n : ℕ)
+    (bound : (s : ℕ) → active s ≡ true → s < n) (row_of : ℕ → List A)
     (allowed : (s : ℕ) → active s ≡ true → Allowed s (row_of s)) where
   -- each pivot of the kernel's rows is above 0
   pub kernel_pivots : HasPivots (active_below active n) (λ s. entry_at index entry (row_of s))
@@ -99,5 +107,6 @@ module _ {A : Type 0} {index : A → ℕ} {entry : A → ℚ} {active : ℕ → 
   pub kernel_solution : (c : ℕ → ℚ) → Solves index entry active row_of c (solution (active_below active n) (λ s. entry_at index entry (row_of s)) c)
   kernel_solution c =
       solves_from_dense index entry active n bound row_of c (solution (active_below active n) (λ s. entry_at index entry (row_of s)) c)
-      (λ s a. solution-outside (active_below active n) (λ t. entry_at index entry (row_of t)) c s (λ j d l. other_number active s (get_or (active_below active n) j d) (eqb s (get_or (active_below active n) j d)) refl a (active_below-all active n j d l).0))
+      (λ s a. solution-outside (active_below active n) (λ t. entry_at index entry (row_of t)) c s
+      (λ j d l. other_number active s (get_or (active_below active n) j d) (eqb s (get_or (active_below active n) j d)) refl a (active_below-all active n j d l).0))
       (solution-solves (active_below active n) (λ s. entry_at index entry (row_of s)) c (active_below-apart active n) kernel_pivots)

@@ -124,7 +124,8 @@ eliminated = refl
 
 only_solution : (x : ℕ → ℚ) → Solves {A = ℕ × ℚ} (λ x. x.0) (λ x. x.1) (λ v. eqb v 0) (λ s. half_row) (λ s. ratio (pos 1) 2) x → x 0 ≡ 1ℚ
 only_solution x h =
-    one_solution (shrinks_by_ranks ranks) 1 only_zero (λ s. half_row) (λ s a. refl) (λ s. ratio (pos 1) 2) x _ h (kernel_solution (shrinks_by_ranks ranks) 1 only_zero (λ s. half_row) (λ s a. refl) (λ s. ratio (pos 1) 2)) 0
+    one_solution (shrinks_by_ranks ranks) 1 only_zero (λ s. half_row) (λ s a. refl) (λ s. ratio (pos 1) 2) x _ h
+    (kernel_solution (shrinks_by_ranks ranks) 1 only_zero (λ s. half_row) (λ s a. refl) (λ s. ratio (pos 1) 2)) 0
     ∙ eliminated
 
 -- ---- recipes

@@ -1,12 +1,13 @@
 -- The laws of the least and the greatest number of a list.
-use Rattle.std.proofs.Common.{◌≡◌, suc, List, [], ◌∷◌, map, Bool, true, false, if◌then◌else◌, T, inl, inr, refl, sym, subst, arith}
+use Rattle.std.proofs.Common.{◌≡◌, suc, List, [], ◌∷◌, map, Bool, true, false, if◌then◌else◌, T, inl, inr, ⊎_elim, refl, sym, subst, arith}
 use Rattle.std.specs.List.{All, AllByRecursion, Any, Contains}
 use Rattle.std.proofs.lemmas.List.Elements.{recursion_from_All, All-from_recursion, All-contains}
-use Rattle.mdp_math.specs.Rational.{ℚ, le_ℚ, ◌≤ℚ◌, ◌<ℚ◌}
+use Rattle.mdp_math.specs.Rational.{ℚ, le_ℚ, lt_ℚ, ◌≤ℚ◌, ◌<ℚ◌}
 use Rattle.mdp_math.specs.Extremes.{pick, best, least, greatest}
-use Rattle.mdp_math.proofs.Order.{≤ℚ_refl, ≤ℚ_trans, ≤ℚ_of_lt, ≤ℚ_or_gt}
+use Rattle.mdp_math.proofs.Order.{≤ℚ_refl, ≤ℚ_trans, ≤ℚ_of_lt, ≤ℚ_or_gt, clash_ℚ}
+use Rattle.mdp_math.proofs.Booleans.{true_of_T, false_of_not}
 
--- ---- the test of an order
+-- ---- the tests of an order
 
 pub le_of_test : (x y : ℚ) → le_ℚ x y ≡ true → x ≤ℚ y
 le_of_test x y e = record { le = subst T (sym e) tt }
@@ -14,12 +15,20 @@ le_of_test x y e = record { le = subst T (sym e) tt }
 pub gt_of_test : (x y : ℚ) → le_ℚ x y ≡ false → y <ℚ x
 gt_of_test x y e = elim (≤ℚ_or_gt x y) as (λ _. y <ℚ x) [ inl q ↦ absurd (subst T e q.le) | inr q ↦ q ]
 
-T-true : (b : Bool) → T b → b ≡ true
-T-true true h = refl
-T-true false h = absurd h
-
 pub test_of_le : (x y : ℚ) → x ≤ℚ y → le_ℚ x y ≡ true
-test_of_le x y h = T-true (le_ℚ x y) h.le
+test_of_le x y h = true_of_T (le_ℚ x y) h.le
+
+pub lt_of_test : (x y : ℚ) → lt_ℚ x y ≡ true → x <ℚ y
+lt_of_test x y e = record { lt = subst T (sym e) tt }
+
+pub test_of_lt : (x y : ℚ) → x <ℚ y → lt_ℚ x y ≡ true
+test_of_lt x y h = true_of_T (lt_ℚ x y) h.lt
+
+pub le_of_no_test : (x y : ℚ) → lt_ℚ x y ≡ false → y ≤ℚ x
+le_of_no_test x y e = ⊎_elim (λ l. l) (λ l. absurd (subst T e l.lt)) (≤ℚ_or_gt y x)
+
+pub no_test_of_le : (x y : ℚ) → y ≤ℚ x → lt_ℚ x y ≡ false
+no_test_of_le x y h = false_of_not (lt_ℚ x y) (λ e. clash_ℚ x y (lt_of_test x y e) h)
 
 -- ---- claims on each element
 
@@ -96,7 +105,8 @@ pub least-ge : (c x : ℚ) (xs : List ℚ) → All (λ y. c ≤ℚ y) (x ∷ xs)
 least-ge c x xs h = All-contains (λ y. c ≤ℚ y) (x ∷ xs) (least (x ∷ xs)) h (least-in x xs)
 
 pub least_map-le : {A : Type 0} → (f : A → ℚ) (xs : List A) → All (λ x. least (map f xs) ≤ℚ f x) xs
-least_map-le f xs = All-from_recursion (λ x. least (map f xs) ≤ℚ f x) xs (each_of_map f (λ y. least (map f xs) ≤ℚ y) xs (recursion_from_All (λ y. least (map f xs) ≤ℚ y) (map f xs) (least-le (map f xs))))
+least_map-le f xs = All-from_recursion (λ x. least (map f xs) ≤ℚ f x) xs
+    (each_of_map f (λ y. least (map f xs) ≤ℚ y) xs (recursion_from_All (λ y. least (map f xs) ≤ℚ y) (map f xs) (least-le (map f xs))))
 
 pub least_map-reached : {A : Type 0} → (f : A → ℚ) (x : A) (xs : List A) → Any (λ y. f y ≡ least (map f (x ∷ xs))) (x ∷ xs)
 least_map-reached f x xs = best-reached le_ℚ f x xs
@@ -111,7 +121,8 @@ ge_order = record {
 }
 
 pub greatest-ge : (xs : List ℚ) → All (λ x. x ≤ℚ greatest xs) xs
-greatest-ge xs = All-from_recursion (λ x. x ≤ℚ greatest xs) xs (each_mono (λ x. le_ℚ x (greatest xs) ≡ true) (λ x. x ≤ℚ greatest xs) xs (λ x h. le_of_test x (greatest xs) h) (best-each (λ x y. le_ℚ y x) ge_order xs))
+greatest-ge xs = All-from_recursion (λ x. x ≤ℚ greatest xs) xs
+    (each_mono (λ x. le_ℚ x (greatest xs) ≡ true) (λ x. x ≤ℚ greatest xs) xs (λ x h. le_of_test x (greatest xs) h) (best-each (λ x y. le_ℚ y x) ge_order xs))
 
 pub greatest-in : (x : ℚ) (xs : List ℚ) → Contains (x ∷ xs) (greatest (x ∷ xs))
 greatest-in x xs = best-in (λ x y. le_ℚ y x) x xs
@@ -120,7 +131,8 @@ pub greatest-le : (c x : ℚ) (xs : List ℚ) → All (λ y. y ≤ℚ c) (x ∷ 
 greatest-le c x xs h = All-contains (λ y. y ≤ℚ c) (x ∷ xs) (greatest (x ∷ xs)) h (greatest-in x xs)
 
 pub greatest_map-ge : {A : Type 0} → (f : A → ℚ) (xs : List A) → All (λ x. f x ≤ℚ greatest (map f xs)) xs
-greatest_map-ge f xs = All-from_recursion (λ x. f x ≤ℚ greatest (map f xs)) xs (each_of_map f (λ y. y ≤ℚ greatest (map f xs)) xs (recursion_from_All (λ y. y ≤ℚ greatest (map f xs)) (map f xs) (greatest-ge (map f xs))))
+greatest_map-ge f xs = All-from_recursion (λ x. f x ≤ℚ greatest (map f xs)) xs
+    (each_of_map f (λ y. y ≤ℚ greatest (map f xs)) xs (recursion_from_All (λ y. y ≤ℚ greatest (map f xs)) (map f xs) (greatest-ge (map f xs))))
 
 pub greatest_map-reached : {A : Type 0} → (f : A → ℚ) (x : A) (xs : List A) → Any (λ y. f y ≡ greatest (map f (x ∷ xs))) (x ∷ xs)
 greatest_map-reached f x xs = best-reached (λ x y. le_ℚ y x) f x xs

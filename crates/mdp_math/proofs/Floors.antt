@@ -78,13 +78,27 @@ NoneOrGreatest f test n = ((s : ℕ) → s < n → test s ≡ false) ⊎ ((s : �
 
 greatest_skip : (f : ℕ → ℚ) (test : ℕ → Bool) (n : ℕ) → test n ≡ false → NoneOrGreatest f test n → NoneOrGreatest f test (suc n)
 greatest_skip f test n e (inl h) = inl (λ s l. elim (last_or n s l) as (λ _. test s ≡ false) [ inl q ↦ ap test q ∙ e | inr k ↦ h s k ])
-greatest_skip f test n e (inr h) = inr (h.0, (omega (arith, h.1.0), h.1.1, λ t l p. elim (last_or n t l) as (λ _. f t ≤ℚ f h.0) [ inl q ↦ absurd (true≢false (sym p ∙ ap test q ∙ e)) | inr k ↦ h.1.2 t k p ]))
+greatest_skip f test n e (inr h) = inr (
+  h.0,
+  (omega (arith, h.1.0), h.1.1, λ t l p. elim (last_or n t l) as (λ _. f t ≤ℚ f h.0) [ inl q ↦ absurd (true≢false (sym p ∙ ap test q ∙ e)) | inr k ↦ h.1.2 t k p ]),
+)
 
 greatest_take : (f : ℕ → ℚ) (test : ℕ → Bool) (n : ℕ) → test n ≡ true → NoneOrGreatest f test n → NoneOrGreatest f test (suc n)
 greatest_take f test n e (inl h) = inr (n, (omega arith, e, λ t l p. elim (last_or n t l) as (λ _. f t ≤ℚ f n) [ inl q ↦ ≤ℚ_of_eq _ _ (ap f q) | inr k ↦ absurd (true≢false (sym p ∙ h t k)) ]))
 greatest_take f test n e (inr h) = elim (≤ℚ_or_gt (f n) (f h.0)) as (λ _. NoneOrGreatest f test (suc n)) [
   | inl l ↦ inr (h.0, (omega (arith, h.1.0), h.1.1, λ t m p. elim (last_or n t m) as (λ _. f t ≤ℚ f h.0) [ inl q ↦ ≤ℚ_trans (f t) (f n) (f h.0) (≤ℚ_of_eq _ _ (ap f q)) l | inr k ↦ h.1.2 t k p ]))
-  | inr l ↦ inr (n, (omega arith, e, λ t m p. elim (last_or n t m) as (λ _. f t ≤ℚ f n) [ inl q ↦ ≤ℚ_of_eq _ _ (ap f q) | inr k ↦ ≤ℚ_trans (f t) (f h.0) (f n) (h.1.2 t k p) (≤ℚ_of_lt (f h.0) (f n) l) ]))
+  | inr l ↦ inr (
+    n,
+    (
+      omega arith,
+      e,
+      λ t m p. elim (last_or n t m) as (λ _. f t ≤ℚ f n) [
+        | inl q ↦ ≤ℚ_of_eq _ _ (ap f q)
+        | inr k ↦ ≤ℚ_trans (f t) (f h.0) (f n) (h.1.2 t k p)
+            (≤ℚ_of_lt (f h.0) (f n) l)
+      ],
+    ),
+  )
 ]
 
 greatest_next : (f : ℕ → ℚ) (test : ℕ → Bool) (n : ℕ) (b : Bool) → test n ≡ b → NoneOrGreatest f test n → NoneOrGreatest f test (suc n)

@@ -7,7 +7,8 @@ use Rattle.mdp_math.specs.Sum.{sum_of}
 use Rattle.mdp_math.specs.Kernel.{weigh}
 use Rattle.mdp_math.proofs.Ring.{◌⊕◌, ◌⊗◌, ⊖, lit, ring}
 use Rattle.mdp_math.proofs.Laws.{rat_ring, zero-*ℚ}
-use Rattle.mdp_math.proofs.Order.{≤ℚ_antisymm, ≤ℚ_or_gt, ≤ℚ_of_eq, clash_ℚ, <ℚ_irrefl, lt_or_eq_ℚ, le_of_mul_left_ℚ, sub-pos, 0ℚ, 1ℚ, ≤ℚ_refl, add-le-add_ℚ, mul-le-mul_left_ℚ, mul-nonneg, mul-pos_ℚ, add-nonneg, add-pos-nonneg}
+use Rattle.mdp_math.proofs.Order.{≤ℚ_antisymm, ≤ℚ_or_gt, ≤ℚ_of_eq, clash_ℚ, <ℚ_irrefl, lt_or_eq_ℚ, le_of_mul_left_ℚ, sub-pos, 0ℚ, 1ℚ, ≤ℚ_refl, add-le-add_ℚ}
+use Rattle.mdp_math.proofs.Order.{mul-le-mul_left_ℚ, mul-nonneg, mul-pos_ℚ, add-nonneg, add-pos-nonneg}
 use Rattle.mdp_math.proofs.Linear.{linear, linear_lt, at_most, known}
 
 -- ---- claims on the elements of a list
@@ -52,13 +53,15 @@ module _ {A : Type 0} (index : A → ℕ) (entry : A → ℚ) where
   weigh-add f g [] = ring rat_ring 0 (lit (pos 0)) (lit (pos 0) ⊕ lit (pos 0)) refl
   weigh-add f g (x ∷ row) =
       ap (λ (u : ℚ). entry x *ℚ (f (index x) +ℚ g (index x)) +ℚ u) (weigh-add f g row)
-      ∙ ring rat_ring 5 (λ a u v s t. a ⊗ (u ⊕ v) ⊕ (s ⊕ t)) (λ a u v s t. (a ⊗ u ⊕ s) ⊕ (a ⊗ v ⊕ t)) refl (entry x) (f (index x)) (g (index x)) (weigh index entry f row) (weigh index entry g row)
+      ∙ ring rat_ring 5 (λ a u v s t. a ⊗ (u ⊕ v) ⊕ (s ⊕ t)) (λ a u v s t. (a ⊗ u ⊕ s) ⊕ (a ⊗ v ⊕ t)) refl (entry x) (f (index x)) (g (index x))
+      (weigh index entry f row) (weigh index entry g row)
 
   pub weigh-sub : (f g : ℕ → ℚ) (row : List A) → weigh index entry (λ v. f v -ℚ g v) row ≡ weigh index entry f row -ℚ weigh index entry g row
   weigh-sub f g [] = ring rat_ring 0 (lit (pos 0)) (lit (pos 0) ⊕ ⊖ (lit (pos 0))) refl
   weigh-sub f g (x ∷ row) =
       ap (λ (u : ℚ). entry x *ℚ (f (index x) -ℚ g (index x)) +ℚ u) (weigh-sub f g row)
-      ∙ ring rat_ring 5 (λ a u v s t. a ⊗ (u ⊕ ⊖ v) ⊕ (s ⊕ ⊖ t)) (λ a u v s t. (a ⊗ u ⊕ s) ⊕ ⊖ (a ⊗ v ⊕ t)) refl (entry x) (f (index x)) (g (index x)) (weigh index entry f row) (weigh index entry g row)
+      ∙ ring rat_ring 5 (λ a u v s t. a ⊗ (u ⊕ ⊖ v) ⊕ (s ⊕ ⊖ t)) (λ a u v s t. (a ⊗ u ⊕ s) ⊕ ⊖ (a ⊗ v ⊕ t)) refl (entry x) (f (index x)) (g (index x))
+      (weigh index entry f row) (weigh index entry g row)
 
   pub weigh-scale : (c : ℚ) (f : ℕ → ℚ) (row : List A) → weigh index entry (λ v. c *ℚ f v) row ≡ c *ℚ weigh index entry f row
   weigh-scale c f [] = ring rat_ring 1 (λ c. lit (pos 0)) (λ c. c ⊗ lit (pos 0)) refl c

@@ -1,5 +1,6 @@
 -- The laws of ℚ.
-use Rattle.std.proofs.Common.{◌≡◌, ℕ, zero, suc, ◌*◌, ◌/◌, ◌<◌, T, eqb, ltb, eqb→eq, ltb→lt, lt→ltb, refl, sym, ◌∙◌, ap, ap₂, subst, arith, ℤ, pos, negsuc, ◌+ℤ◌, ◌*ℤ◌, neg_ℤ, unsigned_abs, int_div, mul-pos, mul_comm}
+use Rattle.std.proofs.Common.{◌≡◌, ℕ, zero, suc, ◌*◌, ◌/◌, ◌<◌, T, eqb, ltb, eqb→eq, ltb→lt, lt→ltb, refl, sym, ◌∙◌, ap, ap₂, subst, arith, ℤ, pos, negsuc, ◌+ℤ◌}
+use Rattle.std.proofs.Common.{◌*ℤ◌, neg_ℤ, unsigned_abs, int_div, mul-pos, mul_comm}
 use Rattle.std.proofs.lemmas.Int.{unsigned_abs-mul}
 use mathlib.Core.HLevel.{is_prop→PathP}
 use lib.Dec.{T_prop}
@@ -117,7 +118,8 @@ pub +ℚ_assoc : (x y z : ℚ) → (x +ℚ y) +ℚ z ≡ x +ℚ (y +ℚ z)
 +ℚ_assoc x y z = same_is ((x +ℚ y) +ℚ z) (x +ℚ (y +ℚ z)) _ _ _ _
     (is_add _ _ _ _ _ _ (is_add _ _ _ _ _ _ (is_self x) (is_self y)) (is_self z))
     (is_add _ _ _ _ _ _ (is_self x) (is_add _ _ _ _ _ _ (is_self y) (is_self z)))
-    (ring₆ int_ring (λ a c e b d f. ((a ⊗ d ⊕ c ⊗ b) ⊗ f ⊕ e ⊗ (b ⊗ d)) ⊗ (b ⊗ (d ⊗ f))) (λ a c e b d f. (a ⊗ (d ⊗ f) ⊕ (c ⊗ f ⊕ e ⊗ d) ⊗ b) ⊗ ((b ⊗ d) ⊗ f)) refl x.num y.num z.num (pos x.den) (pos y.den) (pos z.den))
+    (ring₆ int_ring (λ a c e b d f. ((a ⊗ d ⊕ c ⊗ b) ⊗ f ⊕ e ⊗ (b ⊗ d)) ⊗ (b ⊗ (d ⊗ f))) (λ a c e b d f. (a ⊗ (d ⊗ f) ⊕ (c ⊗ f ⊕ e ⊗ d) ⊗ b) ⊗ ((b ⊗ d) ⊗ f)) refl x.num y.num z.num
+    (pos x.den) (pos y.den) (pos z.den))
 
 pub +ℚ_comm : (x y : ℚ) → x +ℚ y ≡ y +ℚ x
 +ℚ_comm x y = same_is (x +ℚ y) (y +ℚ x) _ _ _ _ (is_add _ _ _ _ _ _ (is_self x) (is_self y)) (is_add _ _ _ _ _ _ (is_self y) (is_self x))
@@ -137,7 +139,8 @@ pub *ℚ-+ℚ : (x y z : ℚ) → x *ℚ (y +ℚ z) ≡ x *ℚ y +ℚ x *ℚ z
 *ℚ-+ℚ x y z = same_is (x *ℚ (y +ℚ z)) (x *ℚ y +ℚ x *ℚ z) _ _ _ _
     (is_mul _ _ _ _ _ _ (is_self x) (is_add _ _ _ _ _ _ (is_self y) (is_self z)))
     (is_add _ _ _ _ _ _ (is_mul _ _ _ _ _ _ (is_self x) (is_self y)) (is_mul _ _ _ _ _ _ (is_self x) (is_self z)))
-    (ring₆ int_ring (λ a c e b d f. (a ⊗ (c ⊗ f ⊕ e ⊗ d)) ⊗ ((b ⊗ d) ⊗ (b ⊗ f))) (λ a c e b d f. ((a ⊗ c) ⊗ (b ⊗ f) ⊕ (a ⊗ e) ⊗ (b ⊗ d)) ⊗ (b ⊗ (d ⊗ f))) refl x.num y.num z.num (pos x.den) (pos y.den) (pos z.den))
+    (ring₆ int_ring (λ a c e b d f. (a ⊗ (c ⊗ f ⊕ e ⊗ d)) ⊗ ((b ⊗ d) ⊗ (b ⊗ f))) (λ a c e b d f. ((a ⊗ c) ⊗ (b ⊗ f) ⊕ (a ⊗ e) ⊗ (b ⊗ d)) ⊗ (b ⊗ (d ⊗ f))) refl x.num y.num z.num
+    (pos x.den) (pos y.den) (pos z.den))
 
 pub zero-+ℚ : (x : ℚ) → of_int (pos 0) +ℚ x ≡ x
 zero-+ℚ x = same_is (of_int (pos 0) +ℚ x) x _ _ _ _ (is_add _ _ _ _ _ _ (is_of_int (pos 0)) (is_self x)) (is_self x)

@@ -43,7 +43,8 @@ module _ {A : Type 0} {index : A → ℕ} {entry : A → ℚ} {active : ℕ → 
       ≤ℚ_trans _ _ _
       (subst (λ (u : ℚ). sum_at row (λ k x. entry x *ℚ g k x) ≤ℚ u) (sum_at-sum_of row (λ x. entry x *ℚ (c *ℚ K.weight (index x))))
       (sum_at-le row (λ k x. entry x *ℚ g k x) (λ k x. entry x *ℚ (c *ℚ K.weight (index x)))
-      (EachAt_mono row (λ k x. (0ℚ ≤ℚ entry x) × (g k x ≤ℚ c *ℚ K.weight (index x))) (λ k x. entry x *ℚ g k x ≤ℚ entry x *ℚ (c *ℚ K.weight (index x))) (λ k x p. mul-le-mul_left_ℚ (entry x) (g k x) (c *ℚ K.weight (index x)) p.0 p.1)
+      (EachAt_mono row (λ k x. (0ℚ ≤ℚ entry x) × (g k x ≤ℚ c *ℚ K.weight (index x))) (λ k x. entry x *ℚ g k x ≤ℚ entry x *ℚ (c *ℚ K.weight (index x)))
+      (λ k x p. mul-le-mul_left_ℚ (entry x) (g k x) (c *ℚ K.weight (index x)) p.0 p.1)
       (EachAt_both row (λ k x. 0ℚ ≤ℚ entry x) (λ k x. g k x ≤ℚ c *ℚ K.weight (index x)) (EachAt-from_All row (λ x. 0ℚ ≤ℚ entry x) (K.entries s row a ok)) h))))
       (shrinks-step (λ v. c *ℚ K.weight v) c s row hc (λ v. ≤ℚ_refl (c *ℚ K.weight v)) a ok)
 
@@ -74,7 +75,8 @@ module _ {A : Type 0} {index : A → ℕ} {entry : A → ℚ} {active : ℕ → 
   shrinks-steps f c hc start out step (suc n) s =
       linear 5 (λ x l p c w. x) (λ x l p c w. ((l ⊗ p) ⊗ c) ⊗ w) (λ x l p c w. known x ((l ⊗ (p ⊗ c)) ⊗ w) ∷ []) refl
       (f (suc n) s) K.rate (pow_ℚ K.rate n) c (K.weight s)
-      (next_by (f n) (f (suc n)) (pow_ℚ K.rate n *ℚ c) s (active s) refl (mul-nonneg _ _ (pow_ℚ-nonneg K.rate n K.rate_nonneg) hc) (shrinks-steps f c hc start out step n) (out (suc n) s) (step n s))
+      (next_by (f n) (f (suc n)) (pow_ℚ K.rate n *ℚ c) s (active s) refl (mul-nonneg _ _ (pow_ℚ-nonneg K.rate n K.rate_nonneg) hc)
+      (shrinks-steps f c hc start out step n) (out (suc n) s) (step n s))
 
   -- the n-th power of the rate, times c, times the weight, comes below each positive bound
   pub shrinks-fades : (c q : ℚ) → 0ℚ ≤ℚ c → 0ℚ <ℚ q → (n : ℕ) × ((m s : ℕ) → n ≤ m → (pow_ℚ K.rate m *ℚ c) *ℚ K.weight s ≤ℚ q)
@@ -94,11 +96,13 @@ module _ {A : Type 0} {index : A → ℕ} {entry : A → ℚ} {active : ℕ → 
       )
 
   one_by : (x w : ℚ) → x ≤ℚ 1ℚ → half ≤ℚ w → x ≤ℚ of_int (pos 2) *ℚ w
-  one_by x w h k = linear 3 (λ x w h. x) (λ x w h. lit (pos 2) ⊗ w) (λ x w h. known x (lit (pos 1)) ∷ equal (lit (pos 1)) (lit (pos 1)) (lit (pos 2) ⊗ h) ∷ at_most (lit (pos 2)) h w ∷ []) refl x w half h (sym half_twice) two-nonneg k
+  one_by x w h k = linear 3 (λ x w h. x) (λ x w h. lit (pos 2) ⊗ w)
+      (λ x w h. known x (lit (pos 1)) ∷ equal (lit (pos 1)) (lit (pos 1)) (lit (pos 2) ⊗ h) ∷ at_most (lit (pos 2)) h w ∷ []) refl x w half h (sym half_twice) two-nonneg k
 
   starts_by : (f : ℕ → ℚ) → ((s : ℕ) → f s ≤ℚ 1ℚ) → ((s : ℕ) → active s ≡ false → f s ≤ℚ 0ℚ) → (s : ℕ) (b : Bool) → active s ≡ b → f s ≤ℚ of_int (pos 2) *ℚ K.weight s
   starts_by f h out s true a = one_by (f s) (K.weight s) (h s) (K.at_least_half s a)
-  starts_by f h out s false a = linear 2 (λ x w. x) (λ x w. lit (pos 2) ⊗ w) (λ x w. known x (lit (pos 0)) ∷ equal (lit (pos 2)) (lit (pos 0)) w ∷ []) refl (f s) (K.weight s) (out s a) (sym (K.outside s a))
+  starts_by f h out s false a = linear 2 (λ x w. x) (λ x w. lit (pos 2) ⊗ w) (λ x w. known x (lit (pos 0)) ∷ equal (lit (pos 2)) (lit (pos 0)) w ∷ []) refl (f s) (K.weight s)
+      (out s a) (sym (K.outside s a))
 
   -- a family that starts at most 1 is after n steps at most 2 rate^n weight
   pub leaves : (f : ℕ → ℕ → ℚ) → ((s : ℕ) → f 0 s ≤ℚ 1ℚ) → ((n s : ℕ) → active s ≡ false → f n s ≤ℚ 0ℚ)

@@ -1,3 +1,7 @@
+pub mod Lcm
+pub mod Lists
+pub mod Options
+pub mod Booleans
 pub mod Ring
 pub mod IntegerRing
 pub mod Laws

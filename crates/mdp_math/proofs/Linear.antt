@@ -39,7 +39,8 @@ times_zero k l r e = ap (λ (u : ℚ). k *ℚ (r -ℚ u)) e ∙ ring rat_ring 2 
 
 total-nonneg : (xs : List ℚ) (s : List Step) (C : Type 0) → (0ℚ ≤ℚ val xs (total s) → C) → Given xs s C
 total-nonneg xs [] C f = f (≤ℚ_refl 0ℚ)
-total-nonneg xs (equal k l r ∷ s) C f = λ e. total-nonneg xs s C (λ h. f (add-nonneg (val xs k *ℚ (val xs r -ℚ val xs l)) (val xs (total s)) (≤ℚ_of_eq _ _ (sym (times_zero (val xs k) (val xs l) (val xs r) e))) h))
+total-nonneg xs (equal k l r ∷ s) C f = λ e. total-nonneg xs s C
+    (λ h. f (add-nonneg (val xs k *ℚ (val xs r -ℚ val xs l)) (val xs (total s)) (≤ℚ_of_eq _ _ (sym (times_zero (val xs k) (val xs l) (val xs r) e))) h))
 total-nonneg xs (at_most k l r ∷ s) C f = λ p e. total-nonneg xs s C (λ h. f (add-nonneg (val xs k *ℚ (val xs r -ℚ val xs l)) (val xs (total s)) (mul-nonneg _ _ p (sub-nonneg _ _ e)) h))
 total-nonneg xs (known l r ∷ s) C f = λ e. total-nonneg xs s C (λ h. f (add-nonneg (val xs r -ℚ val xs l) (val xs (total s)) (sub-nonneg _ _ e) h))
 
@@ -78,4 +79,5 @@ pub linear_lt : (n : ℕ) (f g e : Curried Expr n) (s : Curried (List Step) n) �
     → ForAll ℚ n (λ xs. 0ℚ <ℚ val xs (at_variables n 0 e) → Given xs (at_variables n 0 s) (val xs (at_variables n 0 f) <ℚ val xs (at_variables n 0 g)))
 linear_lt n f g e s q = for_all ℚ n (λ xs. 0ℚ <ℚ val xs (at_variables n 0 e) → Given xs (at_variables n 0 s) (val xs (at_variables n 0 f) <ℚ val xs (at_variables n 0 g)))
     (λ xs p. total-nonneg xs (at_variables n 0 s) (val xs (at_variables n 0 f) <ℚ val xs (at_variables n 0 g))
-    (λ h. lt_by _ _ (val xs (at_variables n 0 e) +ℚ val xs (total (at_variables n 0 s))) (add-pos-nonneg _ _ p h) (ring_by rat_ring xs (at_variables n 0 g ⊕ ⊖ (at_variables n 0 f)) (at_variables n 0 e ⊕ total (at_variables n 0 s)) q)))
+    (λ h. lt_by _ _ (val xs (at_variables n 0 e) +ℚ val xs (total (at_variables n 0 s))) (add-pos-nonneg _ _ p h)
+    (ring_by rat_ring xs (at_variables n 0 g ⊕ ⊖ (at_variables n 0 f)) (at_variables n 0 e ⊕ total (at_variables n 0 s)) q)))

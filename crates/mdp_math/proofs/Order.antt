@@ -98,10 +98,6 @@ abbrev pub 0ℚ : ℚ
 abbrev pub 1ℚ : ℚ
 1ℚ = of_int (pos 1)
 
-num_of_int : (n : ℤ) → ℚ.num (of_int n) ≡ n
-unfolding of_int
-num_of_int n = refl
-
 minus_zero : (x : ℚ) → x -ℚ 0ℚ ≡ x
 minus_zero = ring₁ rat_ring (λ x. x ⊕ ⊖ (lit (pos 0))) (λ x. x) refl
 
@@ -209,7 +205,8 @@ lt_or_eq_ℚ x y h = elim (≤ℚ_or_gt y x) as (λ _. (x <ℚ y) ⊎ (x ≡ y))
 -- ---- monotone
 
 pub add-le-add_ℚ : (a b c d : ℚ) → a ≤ℚ b → c ≤ℚ d → (a +ℚ c) ≤ℚ (b +ℚ d)
-add-le-add_ℚ a b c d h k = le_by (a +ℚ c) (b +ℚ d) ((b -ℚ a) +ℚ (d -ℚ c)) (add-nonneg _ _ (sub-nonneg a b h) (sub-nonneg c d k)) (ring₄ rat_ring (λ a b c d. (b ⊕ d) ⊕ ⊖ (a ⊕ c)) (λ a b c d. (b ⊕ ⊖ a) ⊕ (d ⊕ ⊖ c)) refl a b c d)
+add-le-add_ℚ a b c d h k = le_by (a +ℚ c) (b +ℚ d) ((b -ℚ a) +ℚ (d -ℚ c)) (add-nonneg _ _ (sub-nonneg a b h) (sub-nonneg c d k))
+    (ring₄ rat_ring (λ a b c d. (b ⊕ d) ⊕ ⊖ (a ⊕ c)) (λ a b c d. (b ⊕ ⊖ a) ⊕ (d ⊕ ⊖ c)) refl a b c d)
 
 pub mul-le-mul_left_ℚ : (p a b : ℚ) → 0ℚ ≤ℚ p → a ≤ℚ b → (p *ℚ a) ≤ℚ (p *ℚ b)
 mul-le-mul_left_ℚ p a b h k = le_by (p *ℚ a) (p *ℚ b) (p *ℚ (b -ℚ a)) (mul-nonneg _ _ h (sub-nonneg a b k)) (ring₃ rat_ring (λ p a b. p ⊗ b ⊕ ⊖ (p ⊗ a)) (λ p a b. p ⊗ (b ⊕ ⊖ a)) refl p a b)
@@ -259,7 +256,8 @@ across_shape : (a c : ℤ) (b d : ℕ) → pos 0 ≤ℤ (c *ℤ pos b +ℤ neg_�
 across_shape a c b d h = difference _ _ (subst (λ (k : ℤ). pos 0 ≤ℤ k) (minus_out a d (c *ℤ pos b)) h)
 
 pub le_of_is : (x y : ℚ) (a c : ℤ) (b d : ℕ) → Is x a b → Is y c d → (a *ℤ pos d) ≤ℤ (c *ℤ pos b) → x ≤ℚ y
-le_of_is x y a c b d p q h = le_of_sign x y (sign_of (y -ℚ x) _ _ (is_add _ _ _ _ _ _ q (is_neg _ _ _ p)) (subst (λ (k : ℤ). pos 0 ≤ℤ k) (sym (minus_out a d (c *ℤ pos b))) (difference_back _ _ h)))
+le_of_is x y a c b d p q h = le_of_sign x y
+    (sign_of (y -ℚ x) _ _ (is_add _ _ _ _ _ _ q (is_neg _ _ _ p)) (subst (λ (k : ℤ). pos 0 ≤ℤ k) (sym (minus_out a d (c *ℤ pos b))) (difference_back _ _ h)))
 
 pub is_le : (x y : ℚ) (a c : ℤ) (b d : ℕ) → Is x a b → Is y c d → x ≤ℚ y → (a *ℤ pos d) ≤ℤ (c *ℤ pos b)
 is_le x y a c b d p q h = across_shape a c b d (sign_to (y -ℚ x) _ _ (is_add _ _ _ _ _ _ q (is_neg _ _ _ p)) (sign_of_le x y h))
@@ -286,7 +284,8 @@ ratio-mul m n b d h k = same_is _ _ _ _ _ _ (is_mul _ _ _ _ _ _ (is_ratio (pos m
 
 -- x / y in ℚ, by terms
 pub div-of_int : (a : ℤ) (b : ℕ) → 0 < b → ratio a b *ℚ of_int (pos b) ≡ of_int a
-div-of_int a b h = same_is _ _ _ _ _ _ (is_mul _ _ _ _ _ _ (is_ratio a b h) (is_of_int (pos b))) (is_of_int a) (ring₂ int_ring (λ a b. (a ⊗ b) ⊗ lit (pos 1)) (λ a b. a ⊗ (b ⊗ lit (pos 1))) refl a (pos b))
+div-of_int a b h = same_is _ _ _ _ _ _ (is_mul _ _ _ _ _ _ (is_ratio a b h) (is_of_int (pos b))) (is_of_int a)
+    (ring₂ int_ring (λ a b. (a ⊗ b) ⊗ lit (pos 1)) (λ a b. a ⊗ (b ⊗ lit (pos 1))) refl a (pos b))
 
 -- ---- what a comparison answers
 

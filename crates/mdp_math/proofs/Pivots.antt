@@ -51,7 +51,8 @@ weighted-nonneg f w vs h k = sum_of-nonneg (λ v. f v *ℚ w v) vs (λ j d l. mu
 pivoted_below : (p a i r o x y : ℚ) → 0ℚ ≤ℚ a → 0ℚ ≤ℚ i → (1ℚ -ℚ p) *ℚ i ≡ 1ℚ → p *ℚ x +ℚ r <ℚ x → a *ℚ x +ℚ o <ℚ y → o +ℚ (a *ℚ i) *ℚ r <ℚ y
 pivoted_below p a i r o x y ha hi e h k =
     ≤ℚ-<ℚ_trans _ (a *ℚ x +ℚ o) y
-    (linear 7 (λ p a i r o x y. o ⊕ (a ⊗ i) ⊗ r) (λ p a i r o x y. a ⊗ x ⊕ o) (λ p a i r o x y. at_most (a ⊗ i) (p ⊗ x ⊕ r) x ∷ equal (a ⊗ x) ((lit (pos 1) ⊕ ⊖ p) ⊗ i) (lit (pos 1)) ∷ []) refl p a i r o x y
+    (linear 7 (λ p a i r o x y. o ⊕ (a ⊗ i) ⊗ r) (λ p a i r o x y. a ⊗ x ⊕ o)
+    (λ p a i r o x y. at_most (a ⊗ i) (p ⊗ x ⊕ r) x ∷ equal (a ⊗ x) ((lit (pos 1) ⊕ ⊖ p) ⊗ i) (lit (pos 1)) ∷ []) refl p a i r o x y
     (mul-nonneg a i ha hi) (≤ℚ_of_lt _ _ h) e)
     k
 
@@ -67,7 +68,8 @@ module _ (weight : ℕ → ℚ) (q : ℕ → ℕ → ℚ) (s : ℕ) (rest : List
 
   -- the pivot 1 - q(s, s) is above 0
   pub diagonal-below : q s s <ℚ 1ℚ
-  diagonal-below = below_one (q s s) (weight s) (sum_of (λ v. q s v *ℚ weight v) rest) (weighted-nonneg (q s) weight rest row_s-nonneg weights) (All-head (λ v. 0ℚ <ℚ weight v) s rest R.positive) row_s-sum
+  diagonal-below = below_one (q s s) (weight s) (sum_of (λ v. q s v *ℚ weight v) rest) (weighted-nonneg (q s) weight rest row_s-nonneg weights)
+      (All-head (λ v. 0ℚ <ℚ weight v) s rest R.positive) row_s-sum
 
   pub pivot-pos : 0ℚ <ℚ 1ℚ -ℚ q s s
   pivot-pos = sub-pos (q s s) 1ℚ diagonal-below
@@ -86,7 +88,8 @@ module _ (weight : ℕ → ℚ) (q : ℕ → ℕ → ℚ) (s : ℕ) (rest : List
         add-nonneg _ _ (R.entries (suc k) d (omega arith) (suc j) e (omega arith)) (mul-nonneg _ _ (R.entries (suc k) d (omega arith) 0 e (omega arith)) (divided-nonneg j e m));
     sums = λ k d l.
         subst (λ (u : ℚ). u <ℚ weight (get_or rest k d)) (sym (pivoted_sum (q (get_or rest k d)) (q s) weight (q (get_or rest k d) s) (inv_ℚ (1ℚ -ℚ q s s)) rest))
-        (pivoted_below (q s s) (q (get_or rest k d) s) (inv_ℚ (1ℚ -ℚ q s s)) (sum_of (λ v. q s v *ℚ weight v) rest) (sum_of (λ v. q (get_or rest k d) v *ℚ weight v) rest) (weight s) (weight (get_or rest k d))
+        (pivoted_below (q s s) (q (get_or rest k d) s) (inv_ℚ (1ℚ -ℚ q s s)) (sum_of (λ v. q s v *ℚ weight v) rest) (sum_of (λ v. q (get_or rest k d) v *ℚ weight v) rest)
+        (weight s) (weight (get_or rest k d))
         (R.entries (suc k) d (omega arith) 0 d (omega arith)) inverse-nonneg (mul-inv_pos (1ℚ -ℚ q s s) pivot-pos) row_s-sum (R.sums (suc k) d (omega arith)));
   }
 
@@ -114,16 +117,19 @@ solved_for x p c r i e h =
 
 solved_back : (x p c r i : ℚ) → (1ℚ -ℚ p) *ℚ i ≡ 1ℚ → x ≡ c *ℚ i +ℚ i *ℚ r → x ≡ c +ℚ (p *ℚ x +ℚ r)
 solved_back x p c r i e h =
-    combine 5 (λ x p c r i. x) (λ x p c r i. c ⊕ (p ⊗ x ⊕ r)) (λ x p c r i. equal (lit (pos 1) ⊕ ⊖ p) x (c ⊗ i ⊕ i ⊗ r) ∷ equal (c ⊕ r) ((lit (pos 1) ⊕ ⊖ p) ⊗ i) (lit (pos 1)) ∷ []) refl x p c r i h e
+    combine 5 (λ x p c r i. x) (λ x p c r i. c ⊕ (p ⊗ x ⊕ r))
+    (λ x p c r i. equal (lit (pos 1) ⊕ ⊖ p) x (c ⊗ i ⊕ i ⊗ r) ∷ equal (c ⊕ r) ((lit (pos 1) ⊕ ⊖ p) ⊗ i) (lit (pos 1)) ∷ []) refl x p c r i h e
 
 -- row t: a at s, o the rest
 row_on : (y x a o d c r i : ℚ) → x ≡ c *ℚ i +ℚ i *ℚ r → y ≡ d +ℚ (a *ℚ x +ℚ o) → y ≡ (d +ℚ a *ℚ (c *ℚ i)) +ℚ (o +ℚ (a *ℚ i) *ℚ r)
 row_on y x a o d c r i h k =
-    combine 8 (λ y x a o d c r i. y) (λ y x a o d c r i. (d ⊕ a ⊗ (c ⊗ i)) ⊕ (o ⊕ (a ⊗ i) ⊗ r)) (λ y x a o d c r i. equal a x (c ⊗ i ⊕ i ⊗ r) ∷ equal (lit (pos 1)) y (d ⊕ (a ⊗ x ⊕ o)) ∷ []) refl y x a o d c r i h k
+    combine 8 (λ y x a o d c r i. y) (λ y x a o d c r i. (d ⊕ a ⊗ (c ⊗ i)) ⊕ (o ⊕ (a ⊗ i) ⊗ r))
+    (λ y x a o d c r i. equal a x (c ⊗ i ⊕ i ⊗ r) ∷ equal (lit (pos 1)) y (d ⊕ (a ⊗ x ⊕ o)) ∷ []) refl y x a o d c r i h k
 
 row_back : (y x a o d c r i : ℚ) → x ≡ c *ℚ i +ℚ i *ℚ r → y ≡ (d +ℚ a *ℚ (c *ℚ i)) +ℚ (o +ℚ (a *ℚ i) *ℚ r) → y ≡ d +ℚ (a *ℚ x +ℚ o)
 row_back y x a o d c r i h k =
-    combine 8 (λ y x a o d c r i. y) (λ y x a o d c r i. d ⊕ (a ⊗ x ⊕ o)) (λ y x a o d c r i. equal (⊖ a) x (c ⊗ i ⊕ i ⊗ r) ∷ equal (lit (pos 1)) y ((d ⊕ a ⊗ (c ⊗ i)) ⊕ (o ⊕ (a ⊗ i) ⊗ r)) ∷ []) refl y x a o d c r i h k
+    combine 8 (λ y x a o d c r i. y) (λ y x a o d c r i. d ⊕ (a ⊗ x ⊕ o))
+    (λ y x a o d c r i. equal (⊖ a) x (c ⊗ i ⊕ i ⊗ r) ∷ equal (lit (pos 1)) y ((d ⊕ a ⊗ (c ⊗ i)) ⊕ (o ⊕ (a ⊗ i) ⊗ r)) ∷ []) refl y x a o d c r i h k
 
 module _ (q : ℕ → ℕ → ℚ) (c x : ℕ → ℚ) (s : ℕ) (rest : List ℕ) (pivot : 1ℚ -ℚ q s s ≢ 0ℚ) where
   with_sum : SolvedBy rest q c x s → x s ≡ c s *ℚ inv_ℚ (1ℚ -ℚ q s s) +ℚ inv_ℚ (1ℚ -ℚ q s s) *ℚ sum_of (λ v. q s v *ℚ x v) rest
@@ -135,7 +141,8 @@ module _ (q : ℕ → ℕ → ℚ) (c x : ℕ → ℚ) (s : ℕ) (rest : List �
       let solved = solved_for (x s) (q s s) (c s) (sum_of (λ v. q s v *ℚ x v) rest) (inv_ℚ (1ℚ -ℚ q s s)) (mul-inv (1ℚ -ℚ q s s) pivot) (h 0 s (omega arith)) in (
         solved ∙ ap (λ (u : ℚ). divided_constant q c s +ℚ u) (sym (divided_sum (q s) x (inv_ℚ (1ℚ -ℚ q s s)) rest)),
         λ k d l.
-            row_on (x (get_or rest k d)) (x s) (q (get_or rest k d) s) (sum_of (λ v. q (get_or rest k d) v *ℚ x v) rest) (c (get_or rest k d)) (c s) (sum_of (λ v. q s v *ℚ x v) rest) (inv_ℚ (1ℚ -ℚ q s s))
+            row_on (x (get_or rest k d)) (x s) (q (get_or rest k d) s) (sum_of (λ v. q (get_or rest k d) v *ℚ x v) rest) (c (get_or rest k d)) (c s)
+            (sum_of (λ v. q s v *ℚ x v) rest) (inv_ℚ (1ℚ -ℚ q s s))
             solved (h (suc k) d (omega arith))
             ∙ ap (λ (u : ℚ). pivoted_constant q c s (get_or rest k d) +ℚ u) (sym (pivoted_sum (q (get_or rest k d)) (q s) x (q (get_or rest k d) s) (inv_ℚ (1ℚ -ℚ q s s)) rest)),
       )
@@ -144,7 +151,8 @@ module _ (q : ℕ → ℕ → ℚ) (c x : ℕ → ℚ) (s : ℕ) (rest : List �
       → x (get_or (s ∷ rest) k d) ≡ c (get_or (s ∷ rest) k d) +ℚ sum_of (λ v. q (get_or (s ∷ rest) k d) v *ℚ x v) (s ∷ rest)
   back_at h e zero d l = solved_back (x s) (q s s) (c s) (sum_of (λ v. q s v *ℚ x v) rest) (inv_ℚ (1ℚ -ℚ q s s)) (mul-inv (1ℚ -ℚ q s s) pivot) (with_sum h)
   back_at h e (suc k) d l =
-      row_back (x (get_or rest k d)) (x s) (q (get_or rest k d) s) (sum_of (λ v. q (get_or rest k d) v *ℚ x v) rest) (c (get_or rest k d)) (c s) (sum_of (λ v. q s v *ℚ x v) rest) (inv_ℚ (1ℚ -ℚ q s s))
+      row_back (x (get_or rest k d)) (x s) (q (get_or rest k d) s) (sum_of (λ v. q (get_or rest k d) v *ℚ x v) rest) (c (get_or rest k d)) (c s)
+      (sum_of (λ v. q s v *ℚ x v) rest) (inv_ℚ (1ℚ -ℚ q s s))
       (with_sum h)
       (e k d (omega arith) ∙ ap (λ (u : ℚ). pivoted_constant q c s (get_or rest k d) +ℚ u) (pivoted_sum (q (get_or rest k d)) (q s) x (q (get_or rest k d) s) (inv_ℚ (1ℚ -ℚ q s s)) rest))
 

@@ -109,15 +109,19 @@ small_at e b k hb hk le he =
 pub pow_ℚ-small : (e : ℚ) (b k n : ℕ) → 0 < b → 0 < k → ratio (pos 1) b ≤ℚ e → e ≤ℚ 1ℚ → k * b ≤ n → pow_ℚ (1ℚ -ℚ e) n ≤ℚ ratio (pos 1) k
 pow_ℚ-small e b k n hb hk le he hn =
     let h : 0ℚ ≤ℚ e = ≤ℚ_trans 0ℚ (ratio (pos 1) b) e (ratio-nonneg 1 b hb) le in
-    ≤ℚ_trans _ _ _ (pow_ℚ-antitone (1ℚ -ℚ e) (k * b) n (sub-nonneg e 1ℚ he) (linear 1 (λ e. lit (pos 1) ⊕ ⊖ e) (λ e. lit (pos 1)) (λ e. known (lit (pos 0)) e ∷ []) refl e h) hn) (small_at e b k hb hk le he)
+    ≤ℚ_trans _ _ _ (pow_ℚ-antitone (1ℚ -ℚ e) (k * b) n (sub-nonneg e 1ℚ he)
+    (linear 1 (λ e. lit (pos 1) ⊕ ⊖ e) (λ e. lit (pos 1)) (λ e. known (lit (pos 0)) e ∷ []) refl e h) hn) (small_at e b k hb hk le he)
 
 -- from some exponent on, the powers of a fraction below 1 are at most 1/k
 pub pow_ℚ-fades : (x : ℚ) (k : ℕ) → 0ℚ ≤ℚ x → x <ℚ 1ℚ → 0 < k → (n : ℕ) × ((m : ℕ) → n ≤ m → pow_ℚ x m ≤ℚ ratio (pos 1) k)
 pow_ℚ-fades x k h l hk =
     let e : ℚ = 1ℚ -ℚ x in
     let he : e ≤ℚ 1ℚ = linear 1 (λ x. lit (pos 1) ⊕ ⊖ x) (λ x. lit (pos 1)) (λ x. known (lit (pos 0)) x ∷ []) refl x h in
-    let back : 1ℚ -ℚ (1ℚ -ℚ x) ≡ x = ring rat_ring 1 (λ x. lit (pos 1) ⊕ ⊖ (lit (pos 1) ⊕ ⊖ x)) (λ x. x) refl x in
-    (k * e.den, λ m hm. subst (λ (y : ℚ). pow_ℚ y m ≤ℚ ratio (pos 1) k) back (pow_ℚ-small (1ℚ -ℚ x) (ℚ.den (1ℚ -ℚ x)) k m (den-pos (1ℚ -ℚ x)) hk (unit_fraction-le (1ℚ -ℚ x) (sub-pos x 1ℚ l)) he hm))
+    let back : 1ℚ -ℚ (1ℚ -ℚ x) ≡ x = ring rat_ring 1 (λ x. lit (pos 1) ⊕ ⊖ (lit (pos 1) ⊕ ⊖ x)) (λ x. x) refl x in (
+      k * e.den,
+      λ m hm. subst (λ (y : ℚ). pow_ℚ y m ≤ℚ ratio (pos 1) k) back
+          (pow_ℚ-small (1ℚ -ℚ x) (ℚ.den (1ℚ -ℚ x)) k m (den-pos (1ℚ -ℚ x)) hk (unit_fraction-le (1ℚ -ℚ x) (sub-pos x 1ℚ l)) he hm),
+    )
 
 -- and at most any positive bound
 pub pow_ℚ-below : (x q : ℚ) → 0ℚ ≤ℚ x → x <ℚ 1ℚ → 0ℚ <ℚ q → (n : ℕ) × ((m : ℕ) → n ≤ m → pow_ℚ x m ≤ℚ q)

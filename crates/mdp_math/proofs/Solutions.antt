@@ -23,7 +23,8 @@ module _ {A : Type 0} {index : A → ℕ} {entry : A → ℚ} {active : ℕ → 
   -- the difference of two solutions solves the difference
   pub Solves-sub : (c d x y : ℕ → ℚ) → Solves index entry active row_of c x → Solves index entry active row_of d y → Solves index entry active row_of (λ s. c s -ℚ d s) (λ s. x s -ℚ y s)
   Solves-sub c d x y p q = record {
-    outside = λ s a. combine 2 (λ x y. x ⊕ ⊖ y) (λ x y. lit (pos 0)) (λ x y. equal (lit (pos 1)) x (lit (pos 0)) ∷ equal (lit (pos 1)) (lit (pos 0)) y ∷ []) refl (x s) (y s) (p.outside s a) (sym (q.outside s a));
+    outside = λ s a. combine 2 (λ x y. x ⊕ ⊖ y) (λ x y. lit (pos 0)) (λ x y. equal (lit (pos 1)) x (lit (pos 0)) ∷ equal (lit (pos 1)) (lit (pos 0)) y ∷ []) refl (x s) (y s)
+        (p.outside s a) (sym (q.outside s a));
     inside = λ s a.
         combine 7 (λ x y c d u v w. x ⊕ ⊖ y) (λ x y c d u v w. (c ⊕ ⊖ d) ⊕ w)
         (λ x y c d u v w. equal (lit (pos 1)) x (c ⊕ u) ∷ equal (lit (pos 1)) (d ⊕ v) y ∷ equal (lit (pos 1)) (u ⊕ ⊖ v) w ∷ []) refl
@@ -33,7 +34,8 @@ module _ {A : Type 0} {index : A → ℕ} {entry : A → ℚ} {active : ℕ → 
 
   pub Solves-add : (c d x y : ℕ → ℚ) → Solves index entry active row_of c x → Solves index entry active row_of d y → Solves index entry active row_of (λ s. c s +ℚ d s) (λ s. x s +ℚ y s)
   Solves-add c d x y p q = record {
-    outside = λ s a. combine 2 (λ x y. x ⊕ y) (λ x y. lit (pos 0)) (λ x y. equal (lit (pos 1)) x (lit (pos 0)) ∷ equal (lit (pos 1)) y (lit (pos 0)) ∷ []) refl (x s) (y s) (p.outside s a) (q.outside s a);
+    outside = λ s a. combine 2 (λ x y. x ⊕ y) (λ x y. lit (pos 0)) (λ x y. equal (lit (pos 1)) x (lit (pos 0)) ∷ equal (lit (pos 1)) y (lit (pos 0)) ∷ []) refl (x s) (y s)
+        (p.outside s a) (q.outside s a);
     inside = λ s a.
         combine 7 (λ x y c d u v w. x ⊕ y) (λ x y c d u v w. (c ⊕ d) ⊕ w)
         (λ x y c d u v w. equal (lit (pos 1)) x (c ⊕ u) ∷ equal (lit (pos 1)) y (d ⊕ v) ∷ equal (lit (pos 1)) (u ⊕ v) w ∷ []) refl
@@ -51,10 +53,12 @@ module _ {A : Type 0} {index : A → ℕ} {entry : A → ℚ} {active : ℕ → 
   }
 
   -- where y misses its sum by e, x - y solves the system for e
-  pub Solves-excess : (c e x y : ℕ → ℚ) → Solves index entry active row_of c x → ((s : ℕ) → active s ≡ false → y s ≡ 0ℚ) → ((s : ℕ) → active s ≡ true → c s +ℚ weigh index entry y (row_of s) ≡ y s +ℚ e s)
+  pub Solves-excess : (c e x y : ℕ → ℚ) → Solves index entry active row_of c x → ((s : ℕ) → active s ≡ false → y s ≡ 0ℚ)
+      → ((s : ℕ) → active s ≡ true → c s +ℚ weigh index entry y (row_of s) ≡ y s +ℚ e s)
       → Solves index entry active row_of e (λ s. x s -ℚ y s)
   Solves-excess c e x y p out excess = record {
-    outside = λ s a. combine 2 (λ x y. x ⊕ ⊖ y) (λ x y. lit (pos 0)) (λ x y. equal (lit (pos 1)) x (lit (pos 0)) ∷ equal (lit (pos 1)) (lit (pos 0)) y ∷ []) refl (x s) (y s) (p.outside s a) (sym (out s a));
+    outside = λ s a. combine 2 (λ x y. x ⊕ ⊖ y) (λ x y. lit (pos 0)) (λ x y. equal (lit (pos 1)) x (lit (pos 0)) ∷ equal (lit (pos 1)) (lit (pos 0)) y ∷ []) refl (x s) (y s)
+        (p.outside s a) (sym (out s a));
     inside = λ s a.
         combine 7 (λ x y c e u v w. x ⊕ ⊖ y) (λ x y c e u v w. e ⊕ w)
         (λ x y c e u v w. equal (lit (pos 1)) x (c ⊕ u) ∷ equal (lit (pos 1)) (c ⊕ v) (y ⊕ e) ∷ equal (lit (pos 1)) (u ⊕ ⊖ v) w ∷ []) refl
@@ -93,7 +97,8 @@ floor_below x (suc n) = floor_step x n (floor_below x n) (≤ℚ_or_gt 0ℚ (x n
 -- ---- the sign of a solution
 
 module _ {A : Type 0} {index : A → ℕ} {entry : A → ℚ} {active : ℕ → Bool} {Allowed : ℕ → List A → Type 0} (K : Shrinks index entry active Allowed) where
-  start_by : (x : ℕ → ℚ) (c : ℚ) (s : ℕ) (b : Bool) → active s ≡ b → 0ℚ ≤ℚ c → (active s ≡ true → neg_ℚ c ≤ℚ x s) → (active s ≡ false → 0ℚ ≤ℚ x s) → neg_ℚ (x s) ≤ℚ (of_int (pos 2) *ℚ c) *ℚ K.weight s
+  start_by : (x : ℕ → ℚ) (c : ℚ) (s : ℕ) (b : Bool) → active s ≡ b → 0ℚ ≤ℚ c → (active s ≡ true → neg_ℚ c ≤ℚ x s) → (active s ≡ false → 0ℚ ≤ℚ x s)
+      → neg_ℚ (x s) ≤ℚ (of_int (pos 2) *ℚ c) *ℚ K.weight s
   start_by x c s true a hc h k =
       linear 4 (λ x c w h. ⊖ x) (λ x c w h. (lit (pos 2) ⊗ c) ⊗ w) (λ x c w h. known (⊖ c) x ∷ equal c (lit (pos 1)) (lit (pos 2) ⊗ h) ∷ at_most (lit (pos 2) ⊗ c) h w ∷ []) refl
       (x s) c (K.weight s) half (h a) (sym half_twice) (mul-nonneg (of_int (pos 2)) c (of_nat-nonneg 2) hc) (K.at_least_half s a)
@@ -118,7 +123,8 @@ module _ {A : Type 0} {index : A → ℕ} {entry : A → ℚ} {active : ℕ → 
       )) in
       let small : neg_ℚ (x s) ≤ℚ 0ℚ = le_of_bounds (neg_ℚ (x s)) 0ℚ (λ q hq.
       let fades = shrinks-fades K (of_int (pos 2) *ℚ f.0) q hc hq in
-      linear 3 (λ x b q. x) (λ x b q. lit (pos 0) ⊕ q) (λ x b q. known x b ∷ known b q ∷ []) refl (neg_ℚ (x s)) ((pow_ℚ K.rate fades.0 *ℚ (of_int (pos 2) *ℚ f.0)) *ℚ K.weight s) q (bounds fades.0 s) (fades.1 fades.0 s (omega arith))) in
+      linear 3 (λ x b q. x) (λ x b q. lit (pos 0) ⊕ q) (λ x b q. known x b ∷ known b q ∷ []) refl (neg_ℚ (x s)) ((pow_ℚ K.rate fades.0 *ℚ (of_int (pos 2) *ℚ f.0)) *ℚ K.weight s) q
+      (bounds fades.0 s) (fades.1 fades.0 s (omega arith))) in
       linear 1 (λ x. lit (pos 0)) (λ x. x) (λ x. known (⊖ x) (lit (pos 0)) ∷ []) refl (x s) small
 
   module _ (n : ℕ) (bound : (s : ℕ) → active s ≡ true → s < n) (row_of : ℕ → List A) (allowed : (s : ℕ) → active s ≡ true → Allowed s (row_of s)) where
@@ -153,7 +159,8 @@ module _ {A : Type 0} {index : A → ℕ} {entry : A → ℚ} {active : ℕ → 
           (λ s a. (
             row_of s,
             allowed s a,
-            linear 3 (λ x e u. u) (λ x e u. x) (λ x e u. equal (lit (pos 1)) (e ⊕ u) x ∷ known (lit (pos 0)) e ∷ []) refl (x s) (e s) (weigh index entry x (row_of s)) (sym (solves.inside s a)) (nonneg s a),
+            linear 3 (λ x e u. u) (λ x e u. x) (λ x e u. equal (lit (pos 1)) (e ⊕ u) x ∷ known (lit (pos 0)) e ∷ []) refl (x s) (e s) (weigh index entry x (row_of s))
+                (sym (solves.inside s a)) (nonneg s a),
           ))
 
       pub solution-ge : (s : ℕ) → active s ≡ true → e s ≤ℚ x s

@@ -23,7 +23,8 @@ sum_of-append f (x ∷ xs) ys = ap (λ (s : ℚ). f x +ℚ s) (sum_of-append f x
 
 pub sum_of-add : {A : Type 0} → (f g : A → ℚ) (xs : List A) → sum_of (λ x. f x +ℚ g x) xs ≡ sum_of f xs +ℚ sum_of g xs
 sum_of-add f g [] = sym (zero-+ℚ 0ℚ)
-sum_of-add f g (x ∷ xs) = ap (λ (s : ℚ). (f x +ℚ g x) +ℚ s) (sum_of-add f g xs) ∙ ring₄ rat_ring (λ a b s t. (a ⊕ b) ⊕ (s ⊕ t)) (λ a b s t. (a ⊕ s) ⊕ (b ⊕ t)) refl (f x) (g x) (sum_of f xs) (sum_of g xs)
+sum_of-add f g (x ∷ xs) = ap (λ (s : ℚ). (f x +ℚ g x) +ℚ s) (sum_of-add f g xs)
+    ∙ ring₄ rat_ring (λ a b s t. (a ⊕ b) ⊕ (s ⊕ t)) (λ a b s t. (a ⊕ s) ⊕ (b ⊕ t)) refl (f x) (g x) (sum_of f xs) (sum_of g xs)
 
 pub sum_of-scale : {A : Type 0} → (c : ℚ) (f : A → ℚ) (xs : List A) → sum_of (λ x. c *ℚ f x) xs ≡ c *ℚ sum_of f xs
 sum_of-scale c f [] = ring₁ rat_ring (λ c. lit (pos 0)) (λ c. c ⊗ lit (pos 0)) refl c

@@ -60,7 +60,8 @@ sum_at-append [] ys f =
     ∙ sym (zero-+ℚ (sum_at ys (λ k y. f (0 + k) y)))
 sum_at-append (x ∷ xs) ys f =
     let step : sum_at ys (λ k y. f (suc (length xs + k)) y) ≡ sum_at ys (λ k y. f (length (x ∷ xs) + k) y) =
-    sum_at-same ys (λ k y. f (suc (length xs + k)) y) (λ k y. f (length (x ∷ xs) + k) y) (EachAt_all ys (λ k y. f (suc (length xs + k)) y ≡ f (length (x ∷ xs) + k) y) (λ k y. ap (λ (j : ℕ). f j y) (omega arith)))
+    sum_at-same ys (λ k y. f (suc (length xs + k)) y) (λ k y. f (length (x ∷ xs) + k) y)
+    (EachAt_all ys (λ k y. f (suc (length xs + k)) y ≡ f (length (x ∷ xs) + k) y) (λ k y. ap (λ (j : ℕ). f j y) (omega arith)))
     in
     ap (λ (s : ℚ). f 0 x +ℚ s) (sum_at-append xs ys (λ k y. f (suc k) y) ∙ ap (λ (s : ℚ). sum_at xs (λ k y. f (suc k) y) +ℚ s) step)
     ∙ sym (+ℚ_assoc (f 0 x) (sum_at xs (λ k y. f (suc k) y)) (sum_at ys (λ k y. f (length (x ∷ xs) + k) y)))

@@ -30,7 +30,8 @@ pub record Shrinks {A : Type 0} (index : A → ℕ) (entry : A → ℚ) (active 
   pub shrinks : (s : ℕ) (row : List A) → active s ≡ true → Allowed s row → weigh index entry weight row ≤ℚ rate *ℚ weight s
 
 -- fewer allowed rows shrink as well
-pub shrinks_fewer : {A : Type 0} {index : A → ℕ} {entry : A → ℚ} {active : ℕ → Bool} (More Fewer : ℕ → List A → Type 0) → ((s : ℕ) (row : List A) → Fewer s row → More s row) → Shrinks index entry active More → Shrinks index entry active Fewer
+pub shrinks_fewer : {A : Type 0} {index : A → ℕ} {entry : A → ℚ} {active : ℕ → Bool} (More Fewer : ℕ → List A → Type 0) → ((s : ℕ) (row : List A) → Fewer s row → More s row)
+    → Shrinks index entry active More → Shrinks index entry active Fewer
 shrinks_fewer More Fewer inside K = record {
   weight = K.weight;
   rate = K.rate;
@@ -113,7 +114,8 @@ fall_to c m r n e (inr h) = inr (omega arith)
 abbrev pub ranked_weight : ℚ → (ℕ → Bool) → (ℕ → ℕ) → ℕ → ℚ
 ranked_weight d active rank s = weight_of d (active s) (rank s)
 
-module _ {A : Type 0} {index : A → ℕ} {entry : A → ℚ} {active : ℕ → Bool} {Allowed : ℕ → List A → Type 0} {eps : ℚ} {rank : ℕ → ℕ} {most : ℕ} (R : RanksFall index entry active Allowed eps rank most) where
+module _ {A : Type 0} {index : A → ℕ} {entry : A → ℚ} {active : ℕ → Bool} {Allowed : ℕ → List A → Type 0} {eps : ℚ} {rank : ℕ → ℕ} {most : ℕ}
+    (R : RanksFall index entry active Allowed eps rank most) where
   -- at a number of rank n
   shrinks_at : (s : ℕ) (row : List A) (n : ℕ) → rank s ≡ n → active s ≡ true → Allowed s row
       → weigh index entry (ranked_weight (eps *ℚ half) active rank) row ≤ℚ (1ℚ -ℚ pow_ℚ (eps *ℚ half) most) *ℚ (1ℚ -ℚ pow_ℚ (eps *ℚ half) n)
@@ -127,8 +129,17 @@ module _ {A : Type 0} {index : A → ℕ} {entry : A → ℚ} {active : ℕ → 
       (half_of eps)
       (weigh-below_mass index entry (ranked_weight (eps *ℚ half) active rank) eps (pow_ℚ (eps *ℚ half) n) row (R.entries s row a ok)
       (λ v. weight_of-le_one (eps *ℚ half) (active v) (rank v) hd)
-      (pow_ℚ-nonneg (eps *ℚ half) n hd)
-      (any.0, any.1, any.2, any.3, (any.4.0, weight_of-below (eps *ℚ half) (active (index any.1)) (rank (index any.1)) n hd hd1 (fall_to (active (index any.1) ≡ false) (rank (index any.1)) (rank s) n e any.4.1))))
+      (pow_ℚ-nonneg (eps *ℚ half) n hd) (
+        any.0,
+        any.1,
+        any.2,
+        any.3,
+        (
+          any.4.0,
+          weight_of-below (eps *ℚ half) (active (index any.1)) (rank (index any.1)) n hd hd1
+              (fall_to (active (index any.1) ≡ false) (rank (index any.1)) (rank s) n e any.4.1),
+        ),
+      ))
       (R.mass s row a ok)
       (pow_ℚ-antitone (eps *ℚ half) (suc n) most hd hd1 bound)
       (pow_ℚ-nonneg (eps *ℚ half) most hd)
@@ -150,7 +161,8 @@ module _ {A : Type 0} {index : A → ℕ} {entry : A → ℚ} {active : ℕ → 
         at_least_half = λ s a. subst (λ (b : Bool). half ≤ℚ weight_of (eps *ℚ half) b (rank s)) (sym a) (weight_of-half (eps *ℚ half) (rank s) hd0 hdh (R.rank_positive s a));
         at_most_one = λ s. weight_of-le_one (eps *ℚ half) (active s) (rank s) hd0;
         entries = R.entries;
-        shrinks = λ s row a ok. subst (λ (b : Bool). weigh index entry (ranked_weight (eps *ℚ half) active rank) row ≤ℚ (1ℚ -ℚ pow_ℚ (eps *ℚ half) most) *ℚ weight_of (eps *ℚ half) b (rank s)) (sym a) (shrinks_at s row (rank s) refl a ok);
+        shrinks = λ s row a ok. subst (λ (b : Bool). weigh index entry (ranked_weight (eps *ℚ half) active rank) row ≤ℚ (1ℚ -ℚ pow_ℚ (eps *ℚ half) most) *ℚ weight_of (eps *ℚ half) b
+            (rank s)) (sym a) (shrinks_at s row (rank s) refl a ok);
       }
 
   pub weight_by_ranks : (s : ℕ) → Shrinks.weight shrinks_by_ranks s ≡ weight_of (eps *ℚ half) (active s) (rank s)

@@ -1,5 +1,7 @@
 -- What written terms are.
-use Rattle.std.proofs.Common.{◌≡◌, ℕ, zero, suc, ◌+◌, ◌*◌, ◌/◌, ◌<◌, ◌≤◌, ◌^◌, Bool, true, false, ◌&&◌, T, ltb→lt, lt-ltb, le-ltb, refl, sym, ◌∙◌, ap, ap₂, subst, arith, ℤ, pos, negsuc, ◌+ℤ◌, ◌*ℤ◌, neg_ℤ, unsigned_abs, int_div, int_lt, int_cmp, mul-pos, Option, Some, None, if◌then◌else◌}
+use Rattle.std.proofs.Common.{◌≡◌, ℕ, zero, suc, ◌+◌, ◌*◌, ◌/◌, ◌<◌, ◌≤◌, ◌^◌, Bool, true, false, ◌&&◌, T, ltb→lt, lt-ltb, le-ltb, refl, sym, ◌∙◌, ap, ap₂, subst}
+use Rattle.std.proofs.Common.{arith, ℤ, pos, negsuc, ◌+ℤ◌, ◌*ℤ◌, neg_ℤ, unsigned_abs, int_div, int_lt, int_cmp, mul-pos, Option, Some, None, if◌then◌else◌}
+use Rattle.mdp_math.proofs.Booleans.{and-false}
 use Rattle.mdp_math.specs.Gcd.{gcd, gcd_is, gcd_comm, gcd-pos, gcd-reduced, coprime-mul, coprime_divisors, div_divides}
 use Rattle.mdp_math.specs.Integers.{exact_div, abs_div}
 use Rattle.mdp_math.proofs.IntegerRing.{int_ring}
@@ -53,17 +55,13 @@ pub narrow_ℚ-kept : (x : ℚ) → unsigned_abs x.num < 2 ^ 127 → x.den < 2 ^
 unfolding narrow_ℚ
 narrow_ℚ-kept x h k = ap₂ (λ (a b : Bool). if a && b then Some x else None) (in_width-true x.num h) (in_width-true (pos x.den) k)
 
-and_false : (b : Bool) → (b && false) ≡ false
-and_false true = refl
-and_false false = refl
-
 pub narrow_ℚ-past_num : (x : ℚ) → 2 ^ 127 ≤ unsigned_abs x.num → narrow_ℚ x ≡ None
 unfolding narrow_ℚ
 narrow_ℚ-past_num x h = ap (λ (a : Bool). if a && in_width (pos x.den) then Some x else None) (in_width-false x.num h)
 
 pub narrow_ℚ-past_den : (x : ℚ) → 2 ^ 127 ≤ x.den → narrow_ℚ x ≡ None
 unfolding narrow_ℚ
-narrow_ℚ-past_den x h = ap (λ (b : Bool). if in_width x.num && b then Some x else None) (in_width-false (pos x.den) h) ∙ ap (λ (c : Bool). if c then Some x else None) (and_false (in_width x.num))
+narrow_ℚ-past_den x h = ap (λ (b : Bool). if in_width x.num && b then Some x else None) (in_width-false (pos x.den) h) ∙ ap (λ (c : Bool). if c then Some x else None) (and-false (in_width x.num))
 
 -- what stands in width
 some_if : {P : Type 0} → (b : Bool) → (b ≡ true → P) → (z w : ℤ) → Some w ≡ (if b then Some z else None) → (w ≡ z) × P
@@ -161,8 +159,10 @@ lt_scale a b g h =
     let p = product_is_parts a (pos g) in
     let q = product_is_parts b (pos g) in
     by_lt_z a b
-    (λ l. let m : (up a + down b) * g < (up b + down a) * g = mul-lt-mul_of_pos_right (lt_out a b l) h in sym (true_is_lt (a *ℤ pos g) (b *ℤ pos g) (omega (arith, p, q, m))) ∙ true_is_lt a b (lt_out a b l))
-    (λ l. let m : (up b + down a) * g ≤ (up a + down b) * g = mul-le-mul_right g (le_out b a l) in sym (false_is_lt (a *ℤ pos g) (b *ℤ pos g) (omega (arith, p, q, m))) ∙ false_is_lt a b (le_out b a l))
+    (λ l. let m : (up a + down b) * g < (up b + down a) * g = mul-lt-mul_of_pos_right (lt_out a b l) h in sym (true_is_lt (a *ℤ pos g) (b *ℤ pos g) (omega (arith, p, q, m)))
+    ∙ true_is_lt a b (lt_out a b l))
+    (λ l. let m : (up b + down a) * g ≤ (up a + down b) * g = mul-le-mul_right g (le_out b a l) in sym (false_is_lt (a *ℤ pos g) (b *ℤ pos g) (omega (arith, p, q, m)))
+    ∙ false_is_lt a b (le_out b a l))
 
 cmp_scale : (a b : ℤ) (g : ℕ) → 0 < g → int_cmp (a *ℤ pos g) (b *ℤ pos g) ≡ int_cmp a b
 cmp_scale a b g h = ap₂ (λ (u v : Bool). cond u Less (cond v Greater Equal)) (lt_scale a b g h) (lt_scale b a g h)
@@ -193,7 +193,8 @@ pub written_compare-by : (x y : ℚ) (l r : ℤ) → Some l ≡ narrow (across x
 unfolding written_compare
 written_compare-by x y l r a b = ap Some (ap₂ int_cmp (narrow-some (across x y) l a).0 (narrow-some (across y x) r b).0 ∙ cmp_across x y) ∙ rw (← a, ← b) refl
 
-pub written_mul-kept : (x y : ℚ) (n d : ℤ) → Some n ≡ narrow (reduced_num x y *ℤ reduced_num y x) → Some d ≡ narrow (pos (reduced_den x y) *ℤ pos (reduced_den y x)) → Some (x *ℚ y) ≡ written_mul x y
+pub written_mul-kept : (x y : ℚ) (n d : ℤ) → Some n ≡ narrow (reduced_num x y *ℤ reduced_num y x) → Some d ≡ narrow (pos (reduced_den x y) *ℤ pos (reduced_den y x))
+    → Some (x *ℚ y) ≡ written_mul x y
 unfolding written_mul
 written_mul-kept x y n d a b =
     let p = narrow-some (reduced_num x y *ℤ reduced_num y x) n a in

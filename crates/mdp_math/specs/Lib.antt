@@ -7,3 +7,4 @@ pub mod Extremes
 pub mod Kernel
 pub mod Pivot
 pub mod Written
+pub mod Result

@@ -35,4 +35,5 @@ HasPivots (s ∷ rest) q = (q s s <ℚ of_int (pos 1)) × HasPivots rest (pivote
 abbrev pub solution : List ℕ → (ℕ → ℕ → ℚ) → (ℕ → ℚ) → ℕ → ℚ
 solution [] q c v = of_int (pos 0)
 solution (s ∷ rest) q c v =
-    if eqb v s then divided_constant q c s +ℚ sum_of (λ u. divided q s u *ℚ solution rest (pivoted q s) (pivoted_constant q c s) u) rest else solution rest (pivoted q s) (pivoted_constant q c s) v
+    if eqb v s then divided_constant q c s +ℚ sum_of (λ u. divided q s u *ℚ solution rest (pivoted q s) (pivoted_constant q c s) u) rest
+    else solution rest (pivoted q s) (pivoted_constant q c s) v

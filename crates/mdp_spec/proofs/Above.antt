@@ -60,7 +60,8 @@ module _ (m : Mdp) (goals : List Bool) (u : ℕ) (known : IsMdp m) (hu : 1 ≤ u
       (λ e y r. hit-le_by n (kids c e) y.target r.0 r.1)
       (EachAt_both x.row (λ e y. y.target < states_of m) (λ e y. Keeps m P u n (kids c e) y.target) (targets_at (states_of m) x.row q.0.1) q.1.1)))
       (subst (λ (row : List Entry). row_weigh z row ≤ℚ z s) q.0.0.1 (at_choice s c h g (q.1.0 above) q.0.0.0)))
-      (EachAt_both (choices_at m s) (λ c x. ((c < length (choices_at m s)) × (row_at m s c ≡ x.row)) × IsRow (states_of m) x.row) (λ c x. (0 < weights c → P s c) × EachAt x.row (λ e y. Keeps m P u n (kids c e) y.target))
+      (EachAt_both (choices_at m s) (λ c x. ((c < length (choices_at m s)) × (row_at m s c ≡ x.row)) × IsRow (states_of m) x.row)
+      (λ c x. (0 < weights c → P s c) × EachAt x.row (λ e y. Keeps m P u n (kids c e) y.target))
       (EachAt_both (choices_at m s) (λ c x. (c < length (choices_at m s)) × (row_at m s c ≡ x.row)) (λ c x. IsRow (states_of m) x.row) (placed m s) (rows_known m s known)) keeps.1))))
       (cases_Bool (is_marked goals s))
 

@@ -86,27 +86,34 @@ module _ (m : Mdp) (goals : List Bool) (u : ℕ) (known_ : IsMdp m) (hu : 1 ≤ 
       EachAt_mono (choices_at m s) (λ c x. ((c < length (choices_at m s)) × (row_at m s c ≡ x.row)) × ((0 < weights c → P s c) × EachAt x.row (λ e y. Keeps m P u n (kids c e) y.target)))
       (λ c x. 0 < weights c → P s c × (c < length (choices_at m s)) × (row_at m s c ≡ x.row))
       (λ c x q above. (q.1.0 above, q.0.0, q.0.1))
-      (EachAt_both (choices_at m s) (λ c x. (c < length (choices_at m s)) × (row_at m s c ≡ x.row)) (λ c x. (0 < weights c → P s c) × EachAt x.row (λ e y. Keeps m P u n (kids c e) y.target)) (placed m s) keeps.1)
+      (EachAt_both (choices_at m s) (λ c x. (c < length (choices_at m s)) × (row_at m s c ≡ x.row))
+      (λ c x. (0 < weights c → P s c) × EachAt x.row (λ e y. Keeps m P u n (kids c e) y.target)) (placed m s) keeps.1)
       in
       let less : z s ≤ℚ mixed m u weights (λ c e y. z y.target) s =
       mixed-ge m u weights (λ c e y. z y.target) s (z s) hu keeps.0
-      (EachAt_mono (choices_at m s) (λ c x. 0 < weights c → P s c × (c < length (choices_at m s)) × (row_at m s c ≡ x.row)) (λ c x. 0 < weights c → z s ≤ℚ sum_at x.row (λ e y. y.prob *ℚ z y.target))
+      (EachAt_mono (choices_at m s) (λ c x. 0 < weights c → P s c × (c < length (choices_at m s)) × (row_at m s c ≡ x.row))
+      (λ c x. 0 < weights c → z s ≤ℚ sum_at x.row (λ e y. y.prob *ℚ z y.target))
       (λ c x q above.
       let r = q above in
       subst (λ (w : ℚ). z s ≤ℚ w) (ap (λ (row : List Entry). row_weigh z row) r.2 ∙ sym (sum_at-sum_of x.row (λ y. y.prob *ℚ z y.target))) (at_choice s c h a r.0 r.1))
       uses)
       in
-      let shrunk : mixed m u weights (λ c e y. z y.target -ℚ hit m goals u n (kids c e) y.target) s ≤ℚ sum_at (choices_at m s) (λ c x. share u weights c) *ℚ ((K.rate *ℚ (pow_ℚ K.rate n *ℚ of_int (pos 2))) *ℚ K.weight s) =
-      shrinks-mixed K (choices_at m s) (λ c x. share u weights c) (λ c x. x.row) (λ c x e y. z y.target -ℚ hit m goals u n (kids c e) y.target) (pow_ℚ K.rate n *ℚ of_int (pos 2)) s (power-nonneg n) a
+      let shrunk : mixed m u weights (λ c e y. z y.target -ℚ hit m goals u n (kids c e) y.target) s ≤ℚ sum_at (choices_at m s) (λ c x. share u weights c) *ℚ
+      ((K.rate *ℚ (pow_ℚ K.rate n *ℚ of_int (pos 2))) *ℚ K.weight s) =
+      shrinks-mixed K (choices_at m s) (λ c x. share u weights c) (λ c x. x.row) (λ c x e y. z y.target -ℚ hit m goals u n (kids c e) y.target)
+      (pow_ℚ K.rate n *ℚ of_int (pos 2)) s (power-nonneg n) a
       (EachAt_all (choices_at m s) (λ c x. 0ℚ ≤ℚ share u weights c) (λ c x. share-nonneg u weights c hu))
       (EachAt_mono (choices_at m s)
-      (λ c x. (0 < weights c → P s c × (c < length (choices_at m s)) × (row_at m s c ≡ x.row)) × EachAt x.row (λ e y. z y.target -ℚ hit m goals u n (kids c e) y.target ≤ℚ (pow_ℚ K.rate n *ℚ of_int (pos 2)) *ℚ K.weight y.target))
+      (λ c x. (0 < weights c → P s c × (c < length (choices_at m s)) × (row_at m s c ≡ x.row))
+      × EachAt x.row (λ e y. z y.target -ℚ hit m goals u n (kids c e) y.target ≤ℚ (pow_ℚ K.rate n *ℚ of_int (pos 2)) *ℚ K.weight y.target))
       (λ c x. 0ℚ <ℚ share u weights c → Allowed m P s x.row × EachAt x.row (λ e y. z y.target -ℚ hit m goals u n (kids c e) y.target ≤ℚ (pow_ℚ K.rate n *ℚ of_int (pos 2)) *ℚ K.weight y.target))
       (λ c x q above. let r = q.0 (share-pos u weights c hu above) in ((c, r.0, r.1, r.2), q.1))
-      (EachAt_both (choices_at m s) (λ c x. 0 < weights c → P s c × (c < length (choices_at m s)) × (row_at m s c ≡ x.row)) (λ c x. EachAt x.row (λ e y. z y.target -ℚ hit m goals u n (kids c e) y.target ≤ℚ (pow_ℚ K.rate n *ℚ of_int (pos 2)) *ℚ K.weight y.target)) uses below))
+      (EachAt_both (choices_at m s) (λ c x. 0 < weights c → P s c × (c < length (choices_at m s)) × (row_at m s c ≡ x.row))
+      (λ c x. EachAt x.row (λ e y. z y.target -ℚ hit m goals u n (kids c e) y.target ≤ℚ (pow_ℚ K.rate n *ℚ of_int (pos 2)) *ℚ K.weight y.target)) uses below))
       in
       subst (λ (x : ℚ). z s -ℚ x ≤ℚ (pow_ℚ K.rate (suc n) *ℚ of_int (pos 2)) *ℚ K.weight s) (sym (hit-node m goals u n weights kids s known_ hu g))
-      (deficit_node (z s) (mixed m u weights (λ c e y. z y.target) s) (mixed m u weights f s) (mixed m u weights (λ c e y. z y.target -ℚ hit m goals u n (kids c e) y.target) s) (sum_at (choices_at m s) (λ c x. share u weights c)) K.rate (pow_ℚ K.rate n) (K.weight s)
+      (deficit_node (z s) (mixed m u weights (λ c e y. z y.target) s) (mixed m u weights f s) (mixed m u weights (λ c e y. z y.target -ℚ hit m goals u n (kids c e) y.target) s)
+      (sum_at (choices_at m s) (λ c x. share u weights c)) K.rate (pow_ℚ K.rate n) (K.weight s)
       less (mixed-sub m u weights (λ c e y. z y.target) f s) shrunk (shares-total (choices_at m s) u weights hu keeps.0))
 
   pub deficit-le : (n : ℕ) (t : Tree) (s : ℕ) → s < states_of m → Keeps m P u n t s → z s -ℚ hit m goals u n t s ≤ℚ (pow_ℚ K.rate n *ℚ of_int (pos 2)) *ℚ K.weight s
@@ -123,10 +130,12 @@ module _ (m : Mdp) (goals : List Bool) (u : ℕ) (known_ : IsMdp m) (hu : 1 ≤ 
       (λ a. at_node n s weights kids h g a keeps
       (EachAt_mono (choices_at m s) (λ c x. IsRow (states_of m) x.row × ((0 < weights c → P s c) × EachAt x.row (λ e y. Keeps m P u n (kids c e) y.target)))
       (λ c x. EachAt x.row (λ e y. z y.target -ℚ hit m goals u n (kids c e) y.target ≤ℚ (pow_ℚ K.rate n *ℚ of_int (pos 2)) *ℚ K.weight y.target))
-      (λ c x q. EachAt_mono x.row (λ e y. (y.target < states_of m) × Keeps m P u n (kids c e) y.target) (λ e y. z y.target -ℚ hit m goals u n (kids c e) y.target ≤ℚ (pow_ℚ K.rate n *ℚ of_int (pos 2)) *ℚ K.weight y.target)
+      (λ c x q. EachAt_mono x.row (λ e y. (y.target < states_of m) × Keeps m P u n (kids c e) y.target)
+      (λ e y. z y.target -ℚ hit m goals u n (kids c e) y.target ≤ℚ (pow_ℚ K.rate n *ℚ of_int (pos 2)) *ℚ K.weight y.target)
       (λ e y r. deficit-le n (kids c e) y.target r.0 r.1)
       (EachAt_both x.row (λ e y. y.target < states_of m) (λ e y. Keeps m P u n (kids c e) y.target) (targets_at (states_of m) x.row q.0) q.1.1))
-      (EachAt_both (choices_at m s) (λ c x. IsRow (states_of m) x.row) (λ c x. (0 < weights c → P s c) × EachAt x.row (λ e y. Keeps m P u n (kids c e) y.target)) (rows_known m s known_) keeps.1)))
+      (EachAt_both (choices_at m s) (λ c x. IsRow (states_of m) x.row) (λ c x. (0 < weights c → P s c) × EachAt x.row (λ e y. Keeps m P u n (kids c e) y.target))
+      (rows_known m s known_) keeps.1)))
       (λ a. at_none (suc n) (node weights kids) s h g a) (cases_Bool (active s)))
       (cases_Bool (is_marked goals s))
 
@@ -136,5 +145,6 @@ pub deficit-fades : (m : Mdp) (active : ℕ → Bool) (P : ℕ → ℕ → Type 
 deficit-fades m active P K k h =
     let f = shrinks-fades K (of_int (pos 2)) (ratio (pos 1) k) two-nonneg (ratio-pos 1 k (omega arith) h) in (
       f.0,
-      λ d s x y l le. linear 4 (λ x y b q. x) (λ x y b q. y ⊕ q) (λ x y b q. known (x ⊕ ⊖ y) b ∷ known b q ∷ []) refl x y ((pow_ℚ (Shrinks.rate K) d *ℚ of_int (pos 2)) *ℚ Shrinks.weight K s) (ratio (pos 1) k) le (f.1 d s l),
+      λ d s x y l le. linear 4 (λ x y b q. x) (λ x y b q. y ⊕ q) (λ x y b q. known (x ⊕ ⊖ y) b ∷ known b q ∷ []) refl x y
+          ((pow_ℚ (Shrinks.rate K) d *ℚ of_int (pos 2)) *ℚ Shrinks.weight K s) (ratio (pos 1) k) le (f.1 d s l),
     )

@@ -76,7 +76,7 @@ of_int-total_at (x ∷ xs) f = of_int-+ℤ (f 0 x) (total_at xs (λ k y. f (suc 
 abbrev pub earning : Mdp → ℕ → ℕ → (ℕ → ℕ) → (ℕ → ℕ → Entry → ℚ) → ℕ → ℚ
 earning m k u weights f s = sum_at (choices_at m s) (λ c x. share u weights c *ℚ (reward_of x k +ℚ sum_at x.row (λ e y. y.prob *ℚ f c e y)))
 
-row_earned : (m : Mdp) (k n : ℕ) (d : ℚ) (row : List Entry) (behind : ℕ → Entry → ℤ) (f : ℕ → Entry → ℚ) → IsRow n row → EachAt row (λ e y. y.prob.den ∣ unit_of m)
+pub row_earned : (m : Mdp) (k n : ℕ) (d : ℚ) (row : List Entry) (behind : ℕ → Entry → ℤ) (f : ℕ → Entry → ℚ) → IsRow n row → EachAt row (λ e y. y.prob.den ∣ unit_of m)
     → ((e : ℕ) (y : Entry) → of_int (behind e y) ≡ f e y *ℚ d)
     → of_int (total_at row (λ e y. pos (weight_of m y) *ℤ behind e y)) ≡ sum_at row (λ e y. y.prob *ℚ f e y) *ℚ (of_int (pos (unit_of m)) *ℚ d)
 row_earned m k n d row behind f known divides is =
@@ -92,7 +92,8 @@ row_earned m k n d row behind f known divides is =
     ∙ sum_at-scale_right (of_int (pos (unit_of m)) *ℚ d) row (λ e y. y.prob *ℚ f e y)
 
 -- one choice: its reward on all paths below it, and what is earned behind it
-choice_earned : (m : Mdp) (k u n : ℕ) (x : Choice) (behind : ℕ → ℕ → ℤ) (f : ℕ → Entry → ℚ) → IsRow (states_of m) x.row → EachAt x.row (λ e y. y.prob.den ∣ unit_of m) → (reward_of x k).den ∣ scale_of m k
+pub choice_earned : (m : Mdp) (k u n : ℕ) (x : Choice) (behind : ℕ → ℕ → ℤ) (f : ℕ → Entry → ℚ) → IsRow (states_of m) x.row → EachAt x.row (λ e y. y.prob.den ∣ unit_of m)
+    → (reward_of x k).den ∣ scale_of m k
     → ((e : ℕ) (y : Entry) → of_int (behind e y.target) ≡ f e y *ℚ (of_int (pos (scale_of m k)) *ℚ of_int (pos (paths m u n))))
     → of_int (earned m k u n x behind) ≡ (reward_of x k +ℚ sum_at x.row (λ e y. y.prob *ℚ f e y)) *ℚ (of_int (pos (scale_of m k)) *ℚ (of_int (pos (unit_of m)) *ℚ of_int (pos (paths m u n))))
 choice_earned m k u n x behind f known divides scale is =
@@ -108,7 +109,7 @@ choice_earned m k u n x behind f known divides scale is =
     (row_earned m k (states_of m) (of_int (pos (scale_of m k)) *ℚ of_int (pos (paths m u n))) x.row (λ e y. behind e y.target) f known divides is)
     ∙ ring rat_ring 5 (λ w r l d s. (w ⊗ r) ⊗ (l ⊗ d) ⊕ s ⊗ (l ⊗ (r ⊗ d))) (λ w r l d s. (w ⊕ s) ⊗ (r ⊗ (l ⊗ d))) refl (reward_of x k) r l d (sum_at x.row (λ e y. y.prob *ℚ f e y))
 
-node_earned : (m : Mdp) (k u n s : ℕ) (weights : ℕ → ℕ) (behind : ℕ → ℕ → ℕ → ℤ) (f : ℕ → ℕ → Entry → ℚ) → IsMdp m → 1 ≤ u
+pub node_earned : (m : Mdp) (k u n s : ℕ) (weights : ℕ → ℕ) (behind : ℕ → ℕ → ℕ → ℤ) (f : ℕ → ℕ → Entry → ℚ) → IsMdp m → 1 ≤ u
     → ((c e : ℕ) (y : Entry) → of_int (behind c e y.target) ≡ f c e y *ℚ (of_int (pos (scale_of m k)) *ℚ of_int (pos (paths m u n))))
     → of_int (total_at (choices_at m s) (λ c x. pos (weights c) *ℤ earned m k u n x (behind c))) ≡ earning m k u weights f s *ℚ of_int (pos (scale_of m k * paths m u (suc n)))
 node_earned m k u n s weights behind f known hu is =
@@ -122,9 +123,11 @@ node_earned m k u n s weights behind f known hu is =
     of_int-*ℤ (pos (weights c)) (earned m k u n x (behind c))
     ∙ ap (λ (w : ℚ). w *ℚ of_int (earned m k u n x (behind c))) (sym (div-of_int (pos (weights c)) u hu))
     ∙ ap (λ (w : ℚ). (share u weights c *ℚ of_int (pos u)) *ℚ w) (choice_earned m k u n x (behind c) (f c) q.0.0 q.0.1 q.1 (is c))
-    ∙ ring rat_ring 4 (λ a u e d. (a ⊗ u) ⊗ (e ⊗ d)) (λ a u e d. (a ⊗ e) ⊗ (u ⊗ d)) refl (share u weights c) (of_int (pos u)) (reward_of x k +ℚ sum_at x.row (λ e y. y.prob *ℚ f c e y)) (of_int (pos (scale_of m k)) *ℚ (of_int (pos (unit_of m)) *ℚ of_int (pos (paths m u n)))))
+    ∙ ring rat_ring 4 (λ a u e d. (a ⊗ u) ⊗ (e ⊗ d)) (λ a u e d. (a ⊗ e) ⊗ (u ⊗ d)) refl (share u weights c) (of_int (pos u)) (reward_of x k +ℚ sum_at x.row (λ e y. y.prob *ℚ f c e y))
+    (of_int (pos (scale_of m k)) *ℚ (of_int (pos (unit_of m)) *ℚ of_int (pos (paths m u n)))))
     (EachAt_both (choices_at m s) (λ c x. IsRow (states_of m) x.row × EachAt x.row (λ e y. y.prob.den ∣ unit_of m)) (λ c x. (reward_of x k).den ∣ scale_of m k)
-    (EachAt_both (choices_at m s) (λ c x. IsRow (states_of m) x.row) (λ c x. EachAt x.row (λ e y. y.prob.den ∣ unit_of m)) (rows_known m s known) (den-divides_unit m s)) (den-divides_scale m k s)))
+    (EachAt_both (choices_at m s) (λ c x. IsRow (states_of m) x.row) (λ c x. EachAt x.row (λ e y. y.prob.den ∣ unit_of m)) (rows_known m s known)
+    (den-divides_unit m s)) (den-divides_scale m k s)))
     ∙ sum_at-scale_right all (choices_at m s) (λ c x. share u weights c *ℚ (reward_of x k +ℚ sum_at x.row (λ e y. y.prob *ℚ f c e y)))
     ∙ ap (λ (w : ℚ). earning m k u weights f s *ℚ w)
     (ring rat_ring 4 (λ u r l d. u ⊗ (r ⊗ (l ⊗ d))) (λ u r l d. r ⊗ (u ⊗ (l ⊗ d))) refl (of_int (pos u)) (of_int (pos (scale_of m k))) (of_int (pos (unit_of m))) (of_int (pos (paths m u n)))
@@ -160,7 +163,8 @@ pub pay-end : (m : Mdp) (k : ℕ) (goals : List Bool) (u : ℕ) (t : Tree) (s : 
 unfolding pay
 pay-end m k goals u t s h = ratio-none (scale_of m k * paths m u 0) (parts-pos m k u 0 h)
 
-of_int-pays : (m : Mdp) (k : ℕ) (goals : List Bool) (u n : ℕ) (t : Tree) (s : ℕ) → 1 ≤ u → of_int (pays m k goals u n t s) ≡ pay m k goals u n t s *ℚ (of_int (pos (scale_of m k)) *ℚ of_int (pos (paths m u n)))
+of_int-pays : (m : Mdp) (k : ℕ) (goals : List Bool) (u n : ℕ) (t : Tree) (s : ℕ) → 1 ≤ u → of_int (pays m k goals u n t s)
+    ≡ pay m k goals u n t s *ℚ (of_int (pos (scale_of m k)) *ℚ of_int (pos (paths m u n)))
 unfolding pay
 of_int-pays m k goals u n t s h = of_parts m k u n (pays m k goals u n t s) h
 

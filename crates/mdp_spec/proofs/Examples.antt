@@ -11,28 +11,28 @@ use Rattle.mdp_spec.specs.Tree.{Tree, Fits, unfolded}
 use Rattle.mdp_spec.specs.Tree.Tree.{leaf, node}
 use Rattle.mdp_spec.specs.Hit.{hit}
 use Rattle.mdp_spec.specs.Pay.{pay, total, Enters}
-use Rattle.mdp_spec.specs.Sub.{sub_of}
+use Rattle.mdp_spec.specs.Sub.{sub_of, policy_on}
 use Rattle.mdp_spec.specs.Written.{written_sum}
 
 -- ---- a model of three states: state 0 has a loop, and a choice that goes on to 1 with 1/3 and to 2 with 2/3; 1 and 2 are left nowhere
 
-abbrev entry : ℕ → ℚ → Entry
+abbrev pub entry : ℕ → ℚ → Entry
 entry t p = record { target = t; prob = p }
 
-abbrev choice : List Entry → List ℚ → Choice
+abbrev pub choice : List Entry → List ℚ → Choice
 choice row rewards = record { row = row; rewards = rewards }
 
-abbrev third : ℚ
+abbrev pub third : ℚ
 third = ratio (pos 1) 3
 
-abbrev two_thirds : ℚ
+abbrev pub two_thirds : ℚ
 two_thirds = ratio (pos 2) 3
 
-abbrev one : ℚ
+abbrev pub one : ℚ
 one = of_int (pos 1)
 
 -- the label of place 0 is `init`, that of place 1 is `goal`
-abbrev three : Mdp
+abbrev pub three : Mdp
 three = record {
   names = (99 ∷ []) ∷ [];
   labels = (105 ∷ 110 ∷ 105 ∷ 116 ∷ []) ∷ (103 ∷ 111 ∷ 97 ∷ 108 ∷ []) ∷ [];
@@ -43,7 +43,7 @@ three = record {
       ∷ [];
 }
 
-abbrev goals : List Bool
+abbrev pub goals : List Bool
 goals = false ∷ true ∷ false ∷ []
 
 -- the unit is 3, and the weights of the mixed row are 1 and 2
@@ -155,6 +155,13 @@ sub_of-three = refl
 hit-none_kept : hit (sub_of three goals []) goals 1 2 (unfolded (sub_of three goals []) (0 ∷ 0 ∷ 0 ∷ []) 2 0) 0 ≡ of_int (pos 0)
 unfolding gcd gcd_with_fuel ratio of_int unit_of hit sub_of
 hit-none_kept = refl
+
+-- the policy that goes on at state 0, read where state 0 isn't kept: choice 0, the loop, is the one that is left
+policy_on-three : policy_on goals [] (1 ∷ 0 ∷ 0 ∷ []) ≡ 0 ∷ 0 ∷ 0 ∷ []
+policy_on-three = refl
+
+policy_on-kept : policy_on goals (true ∷ false ∷ false ∷ []) (1 ∷ 0 ∷ 0 ∷ []) ≡ 1 ∷ 0 ∷ 0 ∷ []
+policy_on-kept = refl
 
 -- ---- written sums
 

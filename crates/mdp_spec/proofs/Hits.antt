@@ -22,7 +22,7 @@ use Rattle.mdp_spec.proofs.Rows.{rows_known, nonneg_at}
 
 -- ---- all paths
 
-pow_by-pos : (k n : ℕ) → 0 < k → 0 < k ^ n
+pub pow_by-pos : (k n : ℕ) → 0 < k → 0 < k ^ n
 pow_by-pos k zero h = omega (arith, pow-zero k)
 pow_by-pos k (suc n) h = let e = pow-suc k n in let p = one-le-mul (pow_by-pos k n h) h in omega (arith, e, p)
 
@@ -41,7 +41,7 @@ of_nat-paths_suc m u n =
 pub ratio-is : (a : ℤ) (b : ℕ) (x : ℚ) → 0 < b → of_int a ≡ x *ℚ of_int (pos b) → ratio a b ≡ x
 ratio-is a b x h e = ratio-div a b h ∙ sym (div-unique (of_int a) (of_int (pos b)) x (ne-zero_of_pos (of_int (pos b)) (of_nat-pos b h)) (sym e))
 
-ratio-self : (b : ℕ) → 0 < b → ratio (pos b) b ≡ 1ℚ
+pub ratio-self : (b : ℕ) → 0 < b → ratio (pos b) b ≡ 1ℚ
 ratio-self b h = ratio-is (pos b) b 1ℚ h (ring rat_ring 1 (λ x. x) (λ x. lit (pos 1) ⊗ x) refl (of_int (pos b)))
 
 pub ratio-none : (b : ℕ) → 0 < b → ratio (pos 0) b ≡ 0ℚ
@@ -78,12 +78,12 @@ share u weights c = ratio (pos (weights c)) u
 abbrev pub mixed : Mdp → ℕ → (ℕ → ℕ) → (ℕ → ℕ → Entry → ℚ) → ℕ → ℚ
 mixed m u weights f s = sum_at (choices_at m s) (λ c x. share u weights c *ℚ sum_at x.row (λ e y. y.prob *ℚ f c e y))
 
-of_nat-hits : (m : Mdp) (goals : List Bool) (u n : ℕ) (t : Tree) (s : ℕ) → 1 ≤ u → of_int (pos (hits m goals u n t s)) ≡ hit m goals u n t s *ℚ of_int (pos (paths m u n))
+pub of_nat-hits : (m : Mdp) (goals : List Bool) (u n : ℕ) (t : Tree) (s : ℕ) → 1 ≤ u → of_int (pos (hits m goals u n t s)) ≡ hit m goals u n t s *ℚ of_int (pos (paths m u n))
 unfolding hit
 of_nat-hits m goals u n t s h = sym (div-of_int (pos (hits m goals u n t s)) (paths m u n) (paths-pos m u n h))
 
 -- the counts of a row, where f e y parts of d are counted at each entry
-row_counts : (m : Mdp) (k d : ℕ) (row : List Entry) (count : ℕ → Entry → ℕ) (f : ℕ → Entry → ℚ) → IsRow k row → EachAt row (λ e y. y.prob.den ∣ unit_of m)
+pub row_counts : (m : Mdp) (k d : ℕ) (row : List Entry) (count : ℕ → Entry → ℕ) (f : ℕ → Entry → ℚ) → IsRow k row → EachAt row (λ e y. y.prob.den ∣ unit_of m)
     → ((e : ℕ) (y : Entry) → of_int (pos (count e y)) ≡ f e y *ℚ of_int (pos d))
     → of_int (pos (count_at row (λ e y. weight_of m y * count e y))) ≡ sum_at row (λ e y. y.prob *ℚ f e y) *ℚ (of_int (pos (unit_of m)) *ℚ of_int (pos d))
 row_counts m k d row count f known divides is =
@@ -99,7 +99,7 @@ row_counts m k d row count f known divides is =
     ∙ sum_at-scale_right (of_int (pos (unit_of m)) *ℚ of_int (pos d)) row (λ e y. y.prob *ℚ f e y)
 
 -- the counts of a node
-node_counts : (m : Mdp) (u d s : ℕ) (weights : ℕ → ℕ) (count : ℕ → ℕ → Entry → ℕ) (f : ℕ → ℕ → Entry → ℚ) → IsMdp m → 1 ≤ u
+pub node_counts : (m : Mdp) (u d s : ℕ) (weights : ℕ → ℕ) (count : ℕ → ℕ → Entry → ℕ) (f : ℕ → ℕ → Entry → ℚ) → IsMdp m → 1 ≤ u
     → ((c e : ℕ) (y : Entry) → of_int (pos (count c e y)) ≡ f c e y *ℚ of_int (pos d))
     → of_int (pos (count_at (choices_at m s) (λ c x. weights c * count_at x.row (λ e y. weight_of m y * count c e y))))
     ≡ mixed m u weights f s *ℚ (of_int (pos u) *ℚ (of_int (pos (unit_of m)) *ℚ of_int (pos d)))
@@ -108,12 +108,14 @@ node_counts m u d s weights count f known hu is =
     ∙ sum_at-same (choices_at m s) (λ c x. of_int (pos (weights c * count_at x.row (λ e y. weight_of m y * count c e y))))
     (λ c x. (share u weights c *ℚ sum_at x.row (λ e y. y.prob *ℚ f c e y)) *ℚ (of_int (pos u) *ℚ (of_int (pos (unit_of m)) *ℚ of_int (pos d))))
     (EachAt_mono (choices_at m s) (λ c x. IsRow (states_of m) x.row × EachAt x.row (λ e y. y.prob.den ∣ unit_of m))
-    (λ c x. of_int (pos (weights c * count_at x.row (λ e y. weight_of m y * count c e y))) ≡ (share u weights c *ℚ sum_at x.row (λ e y. y.prob *ℚ f c e y)) *ℚ (of_int (pos u) *ℚ (of_int (pos (unit_of m)) *ℚ of_int (pos d))))
+    (λ c x. of_int (pos (weights c * count_at x.row (λ e y. weight_of m y * count c e y)))
+    ≡ (share u weights c *ℚ sum_at x.row (λ e y. y.prob *ℚ f c e y)) *ℚ (of_int (pos u) *ℚ (of_int (pos (unit_of m)) *ℚ of_int (pos d))))
     (λ c x q.
     of_nat-mul (weights c) (count_at x.row (λ e y. weight_of m y * count c e y))
     ∙ ap (λ (w : ℚ). w *ℚ of_int (pos (count_at x.row (λ e y. weight_of m y * count c e y)))) (sym (div-of_int (pos (weights c)) u hu))
     ∙ ap (λ (w : ℚ). (share u weights c *ℚ of_int (pos u)) *ℚ w) (row_counts m (states_of m) d x.row (count c) (f c) q.0 q.1 (is c))
-    ∙ ring rat_ring 4 (λ a u r l. (a ⊗ u) ⊗ (r ⊗ l)) (λ a u r l. (a ⊗ r) ⊗ (u ⊗ l)) refl (share u weights c) (of_int (pos u)) (sum_at x.row (λ e y. y.prob *ℚ f c e y)) (of_int (pos (unit_of m)) *ℚ of_int (pos d)))
+    ∙ ring rat_ring 4 (λ a u r l. (a ⊗ u) ⊗ (r ⊗ l)) (λ a u r l. (a ⊗ r) ⊗ (u ⊗ l)) refl (share u weights c) (of_int (pos u)) (sum_at x.row (λ e y. y.prob *ℚ f c e y))
+    (of_int (pos (unit_of m)) *ℚ of_int (pos d)))
     (EachAt_both (choices_at m s) (λ c x. IsRow (states_of m) x.row) (λ c x. EachAt x.row (λ e y. y.prob.den ∣ unit_of m)) (rows_known m s known) (den-divides_unit m s)))
     ∙ sum_at-scale_right (of_int (pos u) *ℚ (of_int (pos (unit_of m)) *ℚ of_int (pos d))) (choices_at m s) (λ c x. share u weights c *ℚ sum_at x.row (λ e y. y.prob *ℚ f c e y))
 

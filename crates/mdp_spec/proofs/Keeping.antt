@@ -13,9 +13,8 @@ use Rattle.mdp_math.proofs.Division.{ratio-div, mul-inv_pos}
 use Rattle.mdp_math.proofs.SumsAt.{sum_at-same, sum_at-sub, sum_at-scale_right, sum_at-weighted_le, sum_at-weighted_ge, EachAt_all, EachAt_mono, EachAt_both, EachAt-from_places}
 use Rattle.mdp_spec.specs.Mdp.{Entry, Choice, Mdp, states_of, choices_at, row_at}
 use Rattle.mdp_spec.specs.Row.{IsRow, IsMdp}
-use Rattle.mdp_spec.specs.Rules.{IsPolicy}
 use Rattle.mdp_spec.specs.Unit.{count_at}
-use Rattle.mdp_spec.specs.Tree.{Tree, Fits, unfolded, target_at}
+use Rattle.mdp_spec.specs.Tree.{Tree, Fits, IsStrategy, IsPolicy, unfolded, target_at}
 use Rattle.mdp_spec.specs.Tree.Tree.{leaf, node}
 use Rattle.mdp_spec.proofs.Units.{of_nat-count_at}
 use Rattle.mdp_spec.proofs.Rows.{rows_known, placed, targets_at}
@@ -42,7 +41,11 @@ keeps_of_Fits m u (suc n) (node weights kids) s fits = (
   EachAt_mono (choices_at m s)
       (λ c x. ((c < length (choices_at m s)) × (row_at m s c ≡ x.row)) × EachAt x.row (λ e y. Fits m u n (kids c e) y.target))
       (λ c x. (0 < weights c → HasChoice m s c) × EachAt x.row (λ e y. Keeps m (HasChoice m) u n (kids c e) y.target))
-      (λ c x q. (λ above. q.0.0, EachAt_mono x.row (λ e y. Fits m u n (kids c e) y.target) (λ e y. Keeps m (HasChoice m) u n (kids c e) y.target) (λ e y f. keeps_of_Fits m u n (kids c e) y.target f) q.1))
+      (λ c x q. (
+        λ above. q.0.0,
+        EachAt_mono x.row (λ e y. Fits m u n (kids c e) y.target) (λ e y. Keeps m (HasChoice m) u n (kids c e) y.target)
+            (λ e y f. keeps_of_Fits m u n (kids c e) y.target f) q.1,
+      ))
       (EachAt_both (choices_at m s) (λ c x. (c < length (choices_at m s)) × (row_at m s c ≡ x.row)) (λ c x. EachAt x.row (λ e y. Fits m u n (kids c e) y.target)) (placed m s) fits.1),
 )
 
@@ -57,11 +60,11 @@ eqb-suc p c =
     (λ n. ne_eqb (suc p) (suc c) (λ e. n (omega arith)) ∙ sym (ne_eqb p c n)) (cases_eq p c)
 
 -- no place of a list that begins later is 0
-count_at-none : {A : Type 0} (xs : List A) (f : ℕ → A → ℕ) → ((i : ℕ) (a : A) → f i a ≡ 0) → count_at xs f ≡ 0
+pub count_at-none : {A : Type 0} (xs : List A) (f : ℕ → A → ℕ) → ((i : ℕ) (a : A) → f i a ≡ 0) → count_at xs f ≡ 0
 count_at-none [] f none = refl
 count_at-none (x ∷ xs) f none = omega (arith, none 0 x, count_at-none xs (λ i a. f (suc i) a) (λ i a. none (suc i) a))
 
-count_at-one : {A : Type 0} (xs : List A) (p : ℕ) → p < length xs → count_at xs (λ c a. cond (eqb p c) 1 0) ≡ 1
+pub count_at-one : {A : Type 0} (xs : List A) (p : ℕ) → p < length xs → count_at xs (λ c a. cond (eqb p c) 1 0) ≡ 1
 count_at-one [] p less = absurd (omega arith)
 count_at-one (x ∷ xs) zero less = omega (arith, count_at-none xs (λ c a. cond (eqb 0 (suc c)) 1 0) (λ i a. rw (ne_eqb 0 (suc i) (λ e. omega arith)) refl))
 count_at-one (x ∷ xs) (suc p) less = rw (ne_eqb (suc p) 0 (λ e. omega arith)) (simp eqb-suc (omega (arith, count_at-one xs p (omega arith))))
@@ -70,19 +73,20 @@ chosen_by : (b : Bool) → 0 < cond b 1 0 → b ≡ true
 chosen_by true h = refl
 chosen_by false h = absurd (omega arith)
 
-chosen : (p c : ℕ) → 0 < cond (eqb p c) 1 0 → c ≡ p
+pub chosen : (p c : ℕ) → 0 < cond (eqb p c) 1 0 → c ≡ p
 chosen p c h = sym (eqb-true p c (chosen_by (eqb p c) h))
 
 -- where each entry of a row leads, by its place
-target_placed : (m : Mdp) (s c : ℕ) (row : List Entry) → row_at m s c ≡ row → EachAt row (λ e y. target_at m s c e ≡ y.target)
+pub target_placed : (m : Mdp) (s c : ℕ) (row : List Entry) → row_at m s c ≡ row → EachAt row (λ e y. target_at m s c e ≡ y.target)
 target_placed m s c row same =
     EachAt-from_places row (λ e y. target_at m s c e ≡ y.target)
-    (λ e d l. ap (λ (r : List Entry). (get_or r e (record { target = 0; prob = of_int (pos 0) })).target) same ∙ ap (λ (y : Entry). y.target) (get_or_default row e (record { target = 0; prob = of_int (pos 0) }) d l))
+    (λ e d l. ap (λ (r : List Entry). (get_or r e (record { target = 0; prob = of_int (pos 0) })).target) same
+    ∙ ap (λ (y : Entry). y.target) (get_or_default row e (record { target = 0; prob = of_int (pos 0) }) d l))
 
 pub keeps_unfolded : (m : Mdp) (policy : List ℕ) (n s : ℕ) → IsMdp m → IsPolicy m policy → s < states_of m → Keeps m (Follows policy) 1 n (unfolded m policy n s) s
 keeps_unfolded m policy zero s known choice h = tt
 keeps_unfolded m policy (suc n) s known choice h = (
-  count_at-one (choices_at m s) (get_or policy s 0) (choice s h),
+  count_at-one (choices_at m s) (get_or policy s 0) (choice.in_range s h),
   EachAt_mono (choices_at m s)
       (λ c x. ((c < length (choices_at m s)) × (row_at m s c ≡ x.row)) × IsRow (states_of m) x.row)
       (λ c x. (0 < cond (eqb (get_or policy s 0) c) 1 0 → Follows policy s c) × EachAt x.row (λ e y. Keeps m (Follows policy) 1 n (unfolded m policy n (target_at m s c e)) y.target))
@@ -99,7 +103,7 @@ keeps_unfolded m policy (suc n) s known choice h = (
 pub unfolded_fits : (m : Mdp) (policy : List ℕ) (n s : ℕ) → IsMdp m → IsPolicy m policy → s < states_of m → Fits m 1 n (unfolded m policy n s) s
 unfolded_fits m policy zero s known choice h = tt
 unfolded_fits m policy (suc n) s known choice h = (
-  count_at-one (choices_at m s) (get_or policy s 0) (choice s h),
+  count_at-one (choices_at m s) (get_or policy s 0) (choice.in_range s h),
   EachAt_mono (choices_at m s)
       (λ c x. ((c < length (choices_at m s)) × (row_at m s c ≡ x.row)) × IsRow (states_of m) x.row)
       (λ c x. EachAt x.row (λ e y. Fits m 1 n (unfolded m policy n (target_at m s c e)) y.target))
@@ -109,6 +113,10 @@ unfolded_fits m policy (suc n) s known choice h = (
       (EachAt_both x.row (λ e y. target_at m s c e ≡ y.target) (λ e y. y.target < states_of m) (target_placed m s c x.row q.0.1) (targets_at (states_of m) x.row q.1)))
       (EachAt_both (choices_at m s) (λ c x. (c < length (choices_at m s)) × (row_at m s c ≡ x.row)) (λ c x. IsRow (states_of m) x.row) (placed m s) (rows_known m s known)),
 )
+
+-- so it is a strategy tree
+pub unfolded_is_strategy : (m : Mdp) (policy : List ℕ) (n s : ℕ) → IsMdp m → IsPolicy m policy → s < states_of m → IsStrategy m 1 n (unfolded m policy n s) s
+unfolded_is_strategy m policy n s known choice h = record { mixes = omega arith; fits = unfolded_fits m policy n s known choice h }
 
 -- ---- averages over the choices
 
@@ -124,7 +132,8 @@ share-pos u weights c h p = share_by-pos u (weights c) h p
 
 pub shares-total : (cs : List Choice) (u : ℕ) (weights : ℕ → ℕ) → 1 ≤ u → count_at cs (λ c x. weights c) ≡ u → sum_at cs (λ c x. share u weights c) ≡ 1ℚ
 shares-total cs u weights h e =
-    sum_at-same cs (λ c x. share u weights c) (λ c x. of_int (pos (weights c)) *ℚ inv_ℚ (of_int (pos u))) (EachAt_all cs (λ c x. share u weights c ≡ of_int (pos (weights c)) *ℚ inv_ℚ (of_int (pos u))) (λ c x. ratio-div (pos (weights c)) u h))
+    sum_at-same cs (λ c x. share u weights c) (λ c x. of_int (pos (weights c)) *ℚ inv_ℚ (of_int (pos u)))
+    (EachAt_all cs (λ c x. share u weights c ≡ of_int (pos (weights c)) *ℚ inv_ℚ (of_int (pos u))) (λ c x. ratio-div (pos (weights c)) u h))
     ∙ sum_at-scale_right (inv_ℚ (of_int (pos u))) cs (λ c x. of_int (pos (weights c)))
     ∙ ap (λ (x : ℚ). x *ℚ inv_ℚ (of_int (pos u))) (sym (of_nat-count_at cs (λ c x. weights c)) ∙ ap (λ (k : ℕ). of_int (pos k)) e)
     ∙ mul-inv_pos (of_int (pos u)) (of_nat-pos u h)
@@ -136,7 +145,8 @@ mixed-le m u weights f s y h total each =
     subst (λ (w : ℚ). mixed m u weights f s ≤ℚ w) (ap (λ (w : ℚ). w *ℚ y) (shares-total (choices_at m s) u weights h total) ∙ one-*ℚ y)
     (sum_at-weighted_le (choices_at m s) (λ c x. share u weights c) (λ c x. sum_at x.row (λ e t. t.prob *ℚ f c e t)) y
     (EachAt_all (choices_at m s) (λ c x. 0ℚ ≤ℚ share u weights c) (λ c x. share-nonneg u weights c h))
-    (EachAt_mono (choices_at m s) (λ c x. 0 < weights c → sum_at x.row (λ e t. t.prob *ℚ f c e t) ≤ℚ y) (λ c x. 0ℚ <ℚ share u weights c → sum_at x.row (λ e t. t.prob *ℚ f c e t) ≤ℚ y) (λ c x k p. k (share-pos u weights c h p)) each))
+    (EachAt_mono (choices_at m s) (λ c x. 0 < weights c → sum_at x.row (λ e t. t.prob *ℚ f c e t) ≤ℚ y) (λ c x. 0ℚ <ℚ share u weights c → sum_at x.row (λ e t. t.prob *ℚ f c e t) ≤ℚ y)
+    (λ c x k p. k (share-pos u weights c h p)) each))
 
 pub mixed-ge : (m : Mdp) (u : ℕ) (weights : ℕ → ℕ) (f : ℕ → ℕ → Entry → ℚ) (s : ℕ) (y : ℚ) → 1 ≤ u → count_at (choices_at m s) (λ c x. weights c) ≡ u
     → EachAt (choices_at m s) (λ c x. 0 < weights c → y ≤ℚ sum_at x.row (λ e t. t.prob *ℚ f c e t)) → y ≤ℚ mixed m u weights f s
@@ -144,18 +154,22 @@ mixed-ge m u weights f s y h total each =
     subst (λ (w : ℚ). w ≤ℚ mixed m u weights f s) (ap (λ (w : ℚ). w *ℚ y) (shares-total (choices_at m s) u weights h total) ∙ one-*ℚ y)
     (sum_at-weighted_ge (choices_at m s) (λ c x. share u weights c) (λ c x. sum_at x.row (λ e t. t.prob *ℚ f c e t)) y
     (EachAt_all (choices_at m s) (λ c x. 0ℚ ≤ℚ share u weights c) (λ c x. share-nonneg u weights c h))
-    (EachAt_mono (choices_at m s) (λ c x. 0 < weights c → y ≤ℚ sum_at x.row (λ e t. t.prob *ℚ f c e t)) (λ c x. 0ℚ <ℚ share u weights c → y ≤ℚ sum_at x.row (λ e t. t.prob *ℚ f c e t)) (λ c x k p. k (share-pos u weights c h p)) each))
+    (EachAt_mono (choices_at m s) (λ c x. 0 < weights c → y ≤ℚ sum_at x.row (λ e t. t.prob *ℚ f c e t)) (λ c x. 0ℚ <ℚ share u weights c → y ≤ℚ sum_at x.row (λ e t. t.prob *ℚ f c e t))
+    (λ c x k p. k (share-pos u weights c h p)) each))
 
 row-sub : (row : List Entry) (f g : ℕ → Entry → ℚ) → sum_at row (λ e t. t.prob *ℚ (f e t -ℚ g e t)) ≡ sum_at row (λ e t. t.prob *ℚ f e t) -ℚ sum_at row (λ e t. t.prob *ℚ g e t)
 row-sub row f g =
     sum_at-same row (λ e t. t.prob *ℚ (f e t -ℚ g e t)) (λ e t. t.prob *ℚ f e t -ℚ t.prob *ℚ g e t)
-    (EachAt_all row (λ e t. t.prob *ℚ (f e t -ℚ g e t) ≡ t.prob *ℚ f e t -ℚ t.prob *ℚ g e t) (λ e t. ring rat_ring 3 (λ p x y. p ⊗ (x ⊕ ⊖ y)) (λ p x y. p ⊗ x ⊕ ⊖ (p ⊗ y)) refl t.prob (f e t) (g e t)))
+    (EachAt_all row (λ e t. t.prob *ℚ (f e t -ℚ g e t) ≡ t.prob *ℚ f e t -ℚ t.prob *ℚ g e t)
+    (λ e t. ring rat_ring 3 (λ p x y. p ⊗ (x ⊕ ⊖ y)) (λ p x y. p ⊗ x ⊕ ⊖ (p ⊗ y)) refl t.prob (f e t) (g e t)))
     ∙ sum_at-sub row (λ e t. t.prob *ℚ f e t) (λ e t. t.prob *ℚ g e t)
 
 pub mixed-sub : (m : Mdp) (u : ℕ) (weights : ℕ → ℕ) (f g : ℕ → ℕ → Entry → ℚ) (s : ℕ) → mixed m u weights (λ c e t. f c e t -ℚ g c e t) s ≡ mixed m u weights f s -ℚ mixed m u weights g s
 mixed-sub m u weights f g s =
-    sum_at-same (choices_at m s) (λ c x. share u weights c *ℚ sum_at x.row (λ e t. t.prob *ℚ (f c e t -ℚ g c e t))) (λ c x. share u weights c *ℚ sum_at x.row (λ e t. t.prob *ℚ f c e t) -ℚ share u weights c *ℚ sum_at x.row (λ e t. t.prob *ℚ g c e t))
-    (EachAt_all (choices_at m s) (λ c x. share u weights c *ℚ sum_at x.row (λ e t. t.prob *ℚ (f c e t -ℚ g c e t)) ≡ share u weights c *ℚ sum_at x.row (λ e t. t.prob *ℚ f c e t) -ℚ share u weights c *ℚ sum_at x.row (λ e t. t.prob *ℚ g c e t))
+    sum_at-same (choices_at m s) (λ c x. share u weights c *ℚ sum_at x.row (λ e t. t.prob *ℚ (f c e t -ℚ g c e t)))
+    (λ c x. share u weights c *ℚ sum_at x.row (λ e t. t.prob *ℚ f c e t) -ℚ share u weights c *ℚ sum_at x.row (λ e t. t.prob *ℚ g c e t))
+    (EachAt_all (choices_at m s) (λ c x. share u weights c *ℚ sum_at x.row (λ e t. t.prob *ℚ (f c e t -ℚ g c e t))
+    ≡ share u weights c *ℚ sum_at x.row (λ e t. t.prob *ℚ f c e t) -ℚ share u weights c *ℚ sum_at x.row (λ e t. t.prob *ℚ g c e t))
     (λ c x.
     ap (λ (w : ℚ). share u weights c *ℚ w) (row-sub x.row (f c) (g c))
     ∙ ring rat_ring 3 (λ p x y. p ⊗ (x ⊕ ⊖ y)) (λ p x y. p ⊗ x ⊕ ⊖ (p ⊗ y)) refl (share u weights c) (sum_at x.row (λ e t. t.prob *ℚ f c e t)) (sum_at x.row (λ e t. t.prob *ℚ g c e t))))

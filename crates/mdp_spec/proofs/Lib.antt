@@ -7,4 +7,6 @@ pub mod Above
 pub mod Close
 pub mod Ranks
 pub mod Reach
+pub mod Subsystem
 mod Examples
+mod ExamplesBounds

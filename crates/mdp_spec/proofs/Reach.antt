@@ -1,8 +1,9 @@
 -- What the rules of a reachability certificate say of trees, and that such values are the only ones.
-use Rattle.std.proofs.Common.{◌≡◌, ℕ, ◌<◌, ◌≤◌, ⊎_elim, Bool, true, false, true≢false, cond, ltb, lt-ltb, ltb-true, List, [], ◌∷◌, get_or, T, refl, sym, subst, arith, pos}
+use Rattle.std.proofs.Common.{◌≡◌, ℕ, ◌<◌, ◌≤◌, Bool, true, false, true≢false, cond, ltb, lt-ltb, ltb-true, List, [], ◌∷◌, get_or, refl, sym, subst, arith, pos}
 use Rattle.std.specs.List.{Any}
 use Rattle.mdp_math.specs.Rational.{ℚ, ratio, lt_ℚ, ◌+ℚ◌, ◌≤ℚ◌, ◌<ℚ◌}
-use Rattle.mdp_math.proofs.Order.{0ℚ, ≤ℚ_or_gt, ≤ℚ_of_eq, ≤ℚ_antisymm}
+use Rattle.mdp_math.proofs.Order.{0ℚ, ≤ℚ_of_eq, ≤ℚ_antisymm}
+use Rattle.mdp_math.proofs.Extremes.{lt_of_test, le_of_no_test}
 use Rattle.mdp_math.proofs.Division.{le_of_bounds}
 use Rattle.mdp_math.proofs.Powers.{unit_fraction-le}
 use Rattle.mdp_math.proofs.Laws.{den-pos}
@@ -12,9 +13,9 @@ use Rattle.mdp_spec.specs.Mdp.{Mdp, states_of, row_at, value_at}
 use Rattle.mdp_spec.specs.Row.{IsMdp}
 use Rattle.mdp_spec.specs.Tree.{is_marked, unfolded}
 use Rattle.mdp_spec.specs.Hit.{hit}
-use Rattle.mdp_spec.specs.Rules.{IsPolicy, AreProbabilities, Covers, MeetsReachMax, MeetsReachMin}
+use Rattle.mdp_spec.specs.Rules.{AreProbabilities, Covers, MeetsReachMax, MeetsReachMin}
 use Rattle.mdp_spec.specs.Bounds.{Above, ReachMax, ReachMin, part}
-use Rattle.mdp_spec.proofs.Keeping.{HasChoice, Follows, keeps_of_Fits, keeps_unfolded, unfolded_fits}
+use Rattle.mdp_spec.proofs.Keeping.{HasChoice, Follows, keeps_of_Fits, keeps_unfolded, unfolded_is_strategy}
 use Rattle.mdp_spec.proofs.Above.{row_weigh, hit-le_by}
 use Rattle.mdp_spec.proofs.Close.{RowsShrink, deficit-le, deficit-fades}
 use Rattle.mdp_spec.proofs.Ranks.{shrinks_of_ranks}
@@ -24,21 +25,15 @@ use Rattle.mdp_spec.proofs.Ranks.{shrinks_of_ranks}
 abbrev pub is_active : Mdp → List Bool → List ℚ → ℕ → Bool
 is_active m goals z s = cond (ltb s (states_of m)) (cond (is_marked goals s) false (lt_ℚ 0ℚ (value_at z s))) false
 
-all_three : (a b c : Bool) → cond a (cond b false c) false ≡ true → (a ≡ true) × (b ≡ false) × (c ≡ true)
+pub all_three : (a b c : Bool) → cond a (cond b false c) false ≡ true → (a ≡ true) × (b ≡ false) × (c ≡ true)
 all_three true true c e = absurd (true≢false (sym e))
 all_three true false c e = (refl, refl, e)
 all_three false b c e = absurd (true≢false (sym e))
 
-third : (a b c : Bool) → a ≡ true → b ≡ false → cond a (cond b false c) false ≡ false → c ≡ false
+pub third : (a b c : Bool) → a ≡ true → b ≡ false → cond a (cond b false c) false ≡ false → c ≡ false
 third true true c e f g = absurd (true≢false f)
 third true false c e f g = g
 third false b c e f g = absurd (true≢false (sym e))
-
-lt_of_test : (x y : ℚ) → lt_ℚ x y ≡ true → x <ℚ y
-lt_of_test x y e = record { lt = subst T (sym e) tt }
-
-le_of_no_test : (x y : ℚ) → lt_ℚ x y ≡ false → y ≤ℚ x
-le_of_no_test x y e = ⊎_elim (λ l. l) (λ l. absurd (subst T e l.lt)) (≤ℚ_or_gt y x)
 
 pub active_parts : (m : Mdp) (goals : List Bool) (z : List ℚ) (s : ℕ) → is_active m goals z s ≡ true → (s < states_of m) × (is_marked goals s ≡ false) × (0ℚ <ℚ value_at z s)
 active_parts m goals z s a =
@@ -52,8 +47,9 @@ inactive_value m goals z s h g a = le_of_no_test 0ℚ (value_at z s) (third (ltb
 
 pub above_of_rules : (m : Mdp) (goals : List Bool) (z : List ℚ) → IsMdp m → AreProbabilities m goals z → Covers m goals z → Above m goals z
 above_of_rules m goals z known_ p covers = record {
-  above = λ n u t s hu h fits.
-      hit-le_by m goals u known_ hu (HasChoice m) (value_at z) p.at_least_zero (λ s h g. ≤ℚ_of_eq _ _ (sym (p.at_goal s h g))) (λ s c h g k i. covers s c h g i) n t s h (keeps_of_Fits m u n t s fits);
+  above = λ n u t s h tree.
+      hit-le_by m goals u known_ tree.mixes (HasChoice m) (value_at z) p.at_least_zero (λ s h g. ≤ℚ_of_eq _ _ (sym (p.at_goal s h g))) (λ s c h g k i. covers s c h g i) n t s h
+      (keeps_of_Fits m u n t s tree.fits);
 }
 
 -- ---- the greatest probability
@@ -69,6 +65,7 @@ module _ (m : Mdp) (goals : List Bool) (z : List ℚ) (policy ranks : List ℕ) 
       subst (λ (d : ℕ). Any (λ y. get_or ranks y.target 0 < get_or ranks s 0) (row_at m s d)) (sym is) (f.0, f.1, f.2, f.3, f.4.1))
       in
       record {
+        takes = r.choices;
         above = above_of_rules m goals z known_ r.probabilities r.covers;
         close = λ s k h hk.
             let fades = deficit-fades m (is_active m goals z) (Follows policy) K k hk in (
@@ -89,51 +86,53 @@ module _ (m : Mdp) (goals : List Bool) (z : List ℚ) (policy ranks : List ℕ) 
       (λ s c a is i. let p = active_parts m goals z s a in r.falls s c p.0 p.1 p.2 i)
       in
       record {
+        takes = r.choices;
         below = λ n s h.
-            hit-le_by m goals 1 known_ (omega arith) (Follows policy) (value_at z) (AreProbabilities.at_least_zero r.probabilities) (λ v l g. ≤ℚ_of_eq _ _ (sym (AreProbabilities.at_goal r.probabilities v l g)))
+            hit-le_by m goals 1 known_ (omega arith) (Follows policy) (value_at z) (AreProbabilities.at_least_zero r.probabilities)
+            (λ v l g. ≤ℚ_of_eq _ _ (sym (AreProbabilities.at_goal r.probabilities v l g)))
             (λ v c l g is i. subst (λ (d : ℕ). row_weigh (value_at z) (row_at m v d) ≤ℚ value_at z v) (sym is) (r.reached v l g))
             n (unfolded m policy n s) s h (keeps_unfolded m policy n s known_ r.choices h);
         close = λ s k h hk.
             let fades = deficit-fades m (is_active m goals z) (HasChoice m) K k hk in (
               fades.0,
-              λ d u t l hu fits.
+              λ d u t l tree.
                   fades.1 d s (value_at z s) (hit m goals u d t s) l
-                  (deficit-le m goals u known_ hu (HasChoice m) (is_active m goals z) K (value_at z) (AreProbabilities.at_most_one r.probabilities) (inactive_value m goals z)
+                  (deficit-le m goals u known_ tree.mixes (HasChoice m) (is_active m goals z) K (value_at z) (AreProbabilities.at_most_one r.probabilities) (inactive_value m goals z)
                   (λ v c l a is i. r.covered v c l (active_parts m goals z v a).1 i)
-                  d t s h (keeps_of_Fits m u d t s fits)),
+                  d t s h (keeps_of_Fits m u d t s tree.fits)),
             );
       }
 
 -- ---- there are no other values
 
 -- x is at most y, where it is at most y + 1/k for each k
-le_of_parts : (x y : ℚ) → ((k : ℕ) → 1 ≤ k → x ≤ℚ y +ℚ part k) → x ≤ℚ y
+pub le_of_parts : (x y : ℚ) → ((k : ℕ) → 1 ≤ k → x ≤ℚ y +ℚ part k) → x ≤ℚ y
 le_of_parts x y h =
     le_of_bounds x y
     (λ q p. linear 4 (λ x y q r. x) (λ x y q r. y ⊕ q) (λ x y q r. known x (y ⊕ r) ∷ known r q ∷ []) refl x y q (ratio (pos 1) q.den) (h q.den (den-pos q)) (unit_fraction-le q p))
 
 module _ (m : Mdp) (goals : List Bool) (known_ : IsMdp m) where
-  max_at_most : (z w : List ℚ) (policy : List ℕ) (s : ℕ) → IsPolicy m policy → ReachMax m goals z policy → Above m goals w → s < states_of m → value_at z s ≤ℚ value_at w s
-  max_at_most z w policy s choice r above h =
+  max_at_most : (z w : List ℚ) (policy : List ℕ) (s : ℕ) → ReachMax m goals z policy → Above m goals w → s < states_of m → value_at z s ≤ℚ value_at w s
+  max_at_most z w policy s r above h =
       le_of_parts (value_at z s) (value_at w s)
       (λ k hk.
       let c = r.close s k h hk in
-      let a = above.above c.0 1 (unfolded m policy c.0 s) s (omega arith) h (unfolded_fits m policy c.0 s known_ choice h) in
+      let a = above.above c.0 1 (unfolded m policy c.0 s) s h (unfolded_is_strategy m policy c.0 s known_ r.takes h) in
       linear 4 (λ z w x q. z) (λ z w x q. w ⊕ q) (λ z w x q. known z (x ⊕ q) ∷ known x w ∷ []) refl (value_at z s) (value_at w s) (hit m goals 1 c.0 (unfolded m policy c.0 s) s) (part k) c.1 a)
 
   -- the greatest probabilities are unique
-  pub reach_max_unique : (z w : List ℚ) (policy other : List ℕ) (s : ℕ) → IsPolicy m policy → IsPolicy m other → ReachMax m goals z policy → ReachMax m goals w other → s < states_of m → value_at z s ≡ value_at w s
-  reach_max_unique z w policy other s p q r t h = ≤ℚ_antisymm _ _ (max_at_most z w policy s p r t.above h) (max_at_most w z other s q t r.above h)
+  pub reach_max_unique : (z w : List ℚ) (policy other : List ℕ) (s : ℕ) → ReachMax m goals z policy → ReachMax m goals w other → s < states_of m → value_at z s ≡ value_at w s
+  reach_max_unique z w policy other s r t h = ≤ℚ_antisymm _ _ (max_at_most z w policy s r t.above h) (max_at_most w z other s t r.above h)
 
-  min_at_most : (z w : List ℚ) (policy other : List ℕ) (s : ℕ) → IsPolicy m other → ReachMin m goals z policy → ReachMin m goals w other → s < states_of m → value_at z s ≤ℚ value_at w s
-  min_at_most z w policy other s choice r t h =
+  min_at_most : (z w : List ℚ) (policy other : List ℕ) (s : ℕ) → ReachMin m goals z policy → ReachMin m goals w other → s < states_of m → value_at z s ≤ℚ value_at w s
+  min_at_most z w policy other s r t h =
       le_of_parts (value_at z s) (value_at w s)
       (λ k hk.
       let c = r.close s k h hk in
       let b = t.below c.0 s h in
-      let a = c.1 c.0 1 (unfolded m other c.0 s) (omega arith) (omega arith) (unfolded_fits m other c.0 s known_ choice h) in
+      let a = c.1 c.0 1 (unfolded m other c.0 s) (omega arith) (unfolded_is_strategy m other c.0 s known_ t.takes h) in
       linear 4 (λ z w x q. z) (λ z w x q. w ⊕ q) (λ z w x q. known z (x ⊕ q) ∷ known x w ∷ []) refl (value_at z s) (value_at w s) (hit m goals 1 c.0 (unfolded m other c.0 s) s) (part k) a b)
 
   -- and so are the least
-  pub reach_min_unique : (z w : List ℚ) (policy other : List ℕ) (s : ℕ) → IsPolicy m policy → IsPolicy m other → ReachMin m goals z policy → ReachMin m goals w other → s < states_of m → value_at z s ≡ value_at w s
-  reach_min_unique z w policy other s p q r t h = ≤ℚ_antisymm _ _ (min_at_most z w policy other s q r t h) (min_at_most w z other policy s p t r h)
+  pub reach_min_unique : (z w : List ℚ) (policy other : List ℕ) (s : ℕ) → ReachMin m goals z policy → ReachMin m goals w other → s < states_of m → value_at z s ≡ value_at w s
+  reach_min_unique z w policy other s r t h = ≤ℚ_antisymm _ _ (min_at_most z w policy other s r t h) (min_at_most w z other policy s t r h)

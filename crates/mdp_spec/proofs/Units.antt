@@ -1,36 +1,18 @@
 -- The common unit is above 0, and each denominator of the model divides it; so a weight is a probability times the unit.
-use Rattle.std.proofs.Common.{◌≡◌, ℕ, zero, suc, ◌*◌, ◌/◌, ◌<◌, List, [], ◌∷◌, get_or, refl, ◌∙◌, ap, subst, arith, ℤ, pos, negsuc, ◌*ℤ◌, ◌≤ℤ◌, unsigned_abs}
+use Rattle.std.proofs.Common.{◌≡◌, ℕ, zero, suc, ◌*◌, ◌/◌, ◌<◌, List, [], ◌∷◌, get_or, refl, ◌∙◌, ap, arith, ℤ, pos, negsuc, ◌*ℤ◌, ◌≤ℤ◌, unsigned_abs}
 use Rattle.std.proofs.lemmas.Int.{ints}
 use Rattle.std.specs.Int.{◌∣◌}
-use Rattle.std.proofs.Math.Nat.{dvd_refl, dvd_trans, dvd-mul_left, dvd-mul_right, mul-div_cancel', div-mul_cancel, one-le-mul}
-use Rattle.mdp_math.specs.Gcd.{gcd, gcd_is}
-use Rattle.mdp_math.specs.Rational.{ℚ, of_int, ◌+ℚ◌, ◌*ℚ◌, ◌≤ℚ◌, quotient-pos}
+use Rattle.std.proofs.Math.Nat.{dvd_refl, dvd_trans, dvd-mul_left, dvd-mul_right, mul-div_cancel', one-le-mul}
+use Rattle.mdp_math.specs.Rational.{ℚ, of_int, ◌+ℚ◌, ◌*ℚ◌, ◌≤ℚ◌}
 use Rattle.mdp_math.specs.Sum.{sum_at, EachAt}
+use Rattle.mdp_math.proofs.Lcm.{lcm-left, lcm-right, lcm-pos}
 use Rattle.mdp_math.proofs.Laws.{den-pos, is_self, is_of_int, is_mul, same_is}
 use Rattle.mdp_math.proofs.Order.{0ℚ, nonneg}
 use Rattle.mdp_math.proofs.Whole.{of_nat-add}
 use Rattle.mdp_spec.specs.Mdp.{Entry, Choice, State, Mdp, choices_at, no_state}
-use Rattle.mdp_spec.specs.Unit.{lcm, row_den, unit_of_choices, unit_of_states, unit_of, weight_of, count_at}
+use Rattle.mdp_spec.specs.Unit.{row_den, unit_of_choices, unit_of_states, unit_of, weight_of, count_at}
 
-lcm-left : (a b : ℕ) → a ∣ lcm a b
-lcm-left a b =
-    let g = gcd_is a b in
-    let e : a * (b / gcd a b) ≡ lcm a b =
-    let x = div-mul_cancel (gcd a b) g.0 in
-    let y = mul-div_cancel' (gcd a b) g.1 in
-    let p = ap (λ k. k * (b / gcd a b)) x in
-    let q = ap (λ k. (a / gcd a b) * k) y in
-    omega (arith, p, q)
-    in
-    subst (λ (k : ℕ). a ∣ k) e (dvd-mul_right a (b / gcd a b))
-
-lcm-right : (a b : ℕ) → b ∣ lcm a b
-lcm-right a b = dvd-mul_left b (a / gcd a b)
-
-lcm-pos : (a b : ℕ) → 0 < a → 0 < b → 0 < lcm a b
-lcm-pos a b p q = one-le-mul (quotient-pos a (gcd a b) p (gcd_is a b).0) q
-
-row_den-pos : (row : List Entry) → 0 < row_den row
+pub row_den-pos : (row : List Entry) → 0 < row_den row
 row_den-pos [] = omega arith
 row_den-pos (x ∷ row) = lcm-pos (row_den row) x.prob.den (row_den-pos row) (den-pos x.prob)
 
@@ -47,7 +29,7 @@ unfolding unit_of
 unit_of-pos m = states-pos m.states
 
 -- each denominator divides what the row's least common denominator divides
-row-divides : (row : List Entry) (k : ℕ) → row_den row ∣ k → EachAt row (λ e y. y.prob.den ∣ k)
+pub row-divides : (row : List Entry) (k : ℕ) → row_den row ∣ k → EachAt row (λ e y. y.prob.den ∣ k)
 row-divides [] k d = tt
 row-divides (x ∷ row) k d =
     (dvd_trans _ (lcm-right (row_den row) x.prob.den) d, row-divides row k (dvd_trans _ (lcm-left (row_den row) x.prob.den) d))

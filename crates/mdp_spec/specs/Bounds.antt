@@ -48,7 +48,7 @@ reward_at v s = slice_index_or v s (Some (of_int (pos 0)))
 abbrev pub finite_part : List (Option ℚ) → List ℚ
 finite_part v = map (λ x. unwrap_or x (of_int (pos 0))) v
 
--- the greatest finite value, 0 where there is none
+-- the greatest finite value, 0 where there is none (no value of a list that meets a bound is below 0)
 abbrev pub greatest_finite : List (Option ℚ) → ℚ
 greatest_finite v = greatest (of_int (pos 0) ∷ finite_part v)
 
@@ -71,10 +71,11 @@ module _ (m : Mdp) (r : ℕ) (goals : List Bool) (policy : List ℕ) where
   MaxValue s (Some x) = MaxFinite s x
   MaxValue s None = MaxInfinite s
 
-  -- the greatest rewards, of a reward name that the model has
+  -- the greatest rewards, one for each state, of a reward name that the model has
   pub record RewardMax (v : List (Option ℚ)) : Type 0 where
     pub takes : IsPolicy m policy
     pub named : r < length m.names
+    pub one_each : length v ≡ states_of m
     pub value : (s : ℕ) → s < states_of m → MaxValue s (reward_at v s)
 
   -- at a state with the finite value x: the policy earns no more and arrives, and each tree that enters no state of infinite value falls short
@@ -92,10 +93,11 @@ module _ (m : Mdp) (r : ℕ) (goals : List Bool) (policy : List ℕ) where
   MinValue v s (Some x) = MinFinite v s x
   MinValue v s None = MinInfinite s
 
-  -- the least rewards, of a reward name that the model has
+  -- the least rewards, one for each state, of a reward name that the model has. (A value past the last state would raise the greatest one.)
   pub record RewardMin (v : List (Option ℚ)) : Type 0 where
     pub takes : IsPolicy m policy
     pub named : r < length m.names
+    pub one_each : length v ≡ states_of m
     pub value : (s : ℕ) → s < states_of m → MinValue v s (reward_at v s)
 
 -- ---- mean payoff: trees don't beat, and the policy doesn't miss, n times the gain by more than the spread

@@ -1,11 +1,8 @@
 -- A model in whole numbers: each probability as a weight, in parts of one common unit.
 use Rattle.std.specs.Prelude.{ℕ, suc, ◌+◌, ◌*◌, ◌/◌, List, [], ◌∷◌, ℤ, pos, ◌+ℤ◌, ◌*ℤ◌, unsigned_abs, slice_index_or}
-use Rattle.mdp_math.specs.Gcd.{gcd}
+pub use Rattle.mdp_math.specs.Gcd.{lcm}
 use Rattle.mdp_math.specs.Rational.{ℚ, of_int}
 use Rattle.mdp_spec.specs.Mdp.{Entry, Choice, State, Mdp}
-
-abbrev pub lcm : ℕ → ℕ → ℕ
-lcm a b = a / gcd a b * b
 
 -- the least common denominator of a row
 abbrev pub row_den : List Entry → ℕ
