@@ -1,5 +1,6 @@
 -- Worked rows, by computation.
-use Rattle.std.proofs.Common.{◌≡◌, ℕ, ◌<◌, ◌-◌, ◌^◌, ◌/◌, false, not, ◌||◌, cond, eqb, List, [], ◌∷◌, Option, Some, None, Ok, Err, refl, sym, ap, subst, ◌∙◌, arith, lit<, ℤ, pos, negsuc, ◌+ℤ◌, ◌*ℤ◌, unsigned_abs}
+use Rattle.std.proofs.Common.{◌≡◌, ℕ, ◌<◌, ◌-◌, ◌^◌, ◌/◌, false, not, ◌||◌, cond, eqb, List, [], ◌∷◌, Option, Some, None, Ok, Err, refl, sym, ap, subst, ◌∙◌, arith, lit<}
+use Rattle.std.proofs.Common.{ℤ, pos, negsuc, ◌+ℤ◌, ◌*ℤ◌, unsigned_abs}
 use Rattle.std.specs.Prelude.{codes}
 use Rattle.std.proofs.lemmas.Fmt.{decimal_digit}
 use Rattle.mdp_math.specs.Gcd.{gcd, gcd-mod, gcd-zero, gcd-one_right}
@@ -92,6 +93,32 @@ blank = refl
 empty : IsRefused [] Shape
 unfolding numeral_of parts_of
 empty = refl
+
+-- a great E and a plus
+hundred : Gives (codes "1E+2") (pos 100) 1
+unfolding numeral_of parts_of
+hundred = refl
+
+-- 12.5e-3 is 1/80
+both_powers : Gives (codes "12.5e-3") (pos 1) 80
+unfolding numeral_of parts_of
+both_powers = ap Ok (ratio_same 125 10000 1 80 (lit< tt) (lit< tt) refl)
+
+minus : IsRefused (codes "-1") Shape
+unfolding numeral_of parts_of
+minus = refl
+
+no_exponent : IsRefused (codes "1e") Shape
+unfolding numeral_of parts_of
+no_exponent = refl
+
+two_signs : IsRefused (codes "1e+-1") Shape
+unfolding numeral_of parts_of
+two_signs = refl
+
+point_and_slash : IsRefused (codes "1.5/2") Shape
+unfolding numeral_of parts_of
+point_and_slash = refl
 
 -- ---- making a fraction
 

@@ -71,8 +71,13 @@ signed-sound (c ∷ bytes) n ds e =
           (45 ∷ [], subst (λ (b : Bool). IsSign b (45 ∷ [])) g.1 refl, subst (λ (xs : List ℕ). IsDigits xs) g.2 g.0, ap (λ (x : ℕ). x ∷ bytes) (eqb-is c 45 m.0) ∙ ap (λ (xs : List ℕ). 45 ∷ xs) g.2)
       | inr m ↦ elim (chosen (eqb c 43) (digits_or_none false bytes) (digits_or_none false (c ∷ bytes)) (Some (n, ds)) m.1) [
         | inl k ↦
-            let g = digits-given false n bytes ds k.1 in
-            (43 ∷ [], subst (λ (b : Bool). IsSign b (43 ∷ [])) g.1 (inr refl), subst (λ (xs : List ℕ). IsDigits xs) g.2 g.0, ap (λ (x : ℕ). x ∷ bytes) (eqb-is c 43 k.0) ∙ ap (λ (xs : List ℕ). 43 ∷ xs) g.2)
+            let g = digits-given false n bytes ds k.1 in (
+              43 ∷ [],
+              subst (λ (b : Bool). IsSign b (43 ∷ [])) g.1 (inr refl),
+              subst (λ (xs : List ℕ). IsDigits xs) g.2 g.0,
+              ap (λ (x : ℕ). x ∷ bytes) (eqb-is c 43 k.0)
+                  ∙ ap (λ (xs : List ℕ). 43 ∷ xs) g.2,
+            )
         | inr k ↦
             let g = digits-given false n (c ∷ bytes) ds k.1 in
             ([], subst (λ (b : Bool). IsSign b []) g.1 (inl refl), subst (λ (xs : List ℕ). IsDigits xs) g.2 g.0, g.2)
@@ -95,7 +100,8 @@ exponent-sound (c ∷ bytes) n ds e =
       | inr m ↦ absurd cc
     ]
 
-decimal-sound : (whole places : List ℕ) (o : Option (Bool × List ℕ)) (parts : Parts) → decimal_parts whole places o ≡ Some parts → (x : Bool × List ℕ) × (o ≡ Some x) × (Decimal whole places x.0 x.1 ≡ parts)
+decimal-sound : (whole places : List ℕ) (o : Option (Bool × List ℕ)) (parts : Parts) → decimal_parts whole places o ≡ Some parts
+    → (x : Bool × List ℕ) × (o ≡ Some x) × (Decimal whole places x.0 x.1 ≡ parts)
 decimal-sound whole places None parts e = absurd cc
 decimal-sound whole places (Some x) parts e = (x, refl, cc)
 
@@ -105,35 +111,38 @@ behind-sound whole [] parts d e =
     subst (λ (q : Parts). Spells q (whole ++ [])) p ([], [], d, inl (refl, refl), inl (refl, refl, refl), refl)
 behind-sound whole (c ∷ bytes) parts d e =
     elim (chosen (eqb c 47) (cond (is_digits bytes) (Some (Quotient whole bytes)) None)
-    (cond (eqb c 46) (cond (ltb 0 (length (front_digits bytes))) (decimal_parts whole (front_digits bytes) (exponent_of (behind_digits bytes))) None) (decimal_parts whole [] (exponent_of (c ∷ bytes)))) (Some parts) e) [
+    (cond (eqb c 46) (cond (ltb 0 (length (front_digits bytes))) (decimal_parts whole (front_digits bytes) (exponent_of (behind_digits bytes))) None)
+    (decimal_parts whole [] (exponent_of (c ∷ bytes)))) (Some parts) e) [
       | inl m ↦
           let g = cond-some (is_digits bytes) (Quotient whole bytes) parts m.1 in
           subst (λ (q : Parts). Spells q (whole ++ c ∷ bytes)) g.1 (d, g.0, ap (λ (x : ℕ). whole ++ x ∷ bytes) (eqb-is c 47 m.0))
-      | inr m ↦ elim (chosen (eqb c 46) (cond (ltb 0 (length (front_digits bytes))) (decimal_parts whole (front_digits bytes) (exponent_of (behind_digits bytes))) None) (decimal_parts whole [] (exponent_of (c ∷ bytes))) (Some parts) m.1) [
-        | inl k ↦ elim (chosen (ltb 0 (length (front_digits bytes))) (decimal_parts whole (front_digits bytes) (exponent_of (behind_digits bytes))) None (Some parts) k.1) [
-          | inl j ↦
-              let g = decimal-sound whole (front_digits bytes) (exponent_of (behind_digits bytes)) parts j.1 in
-              subst (λ (q : Parts). Spells q (whole ++ c ∷ bytes)) g.2 (
-                46 ∷ front_digits bytes,
-                behind_digits bytes,
-                d,
-                inr (front-digits bytes j.0, refl),
-                exponent-sound (behind_digits bytes) g.0.0 g.0.1 g.1,
-                ap (λ (x : ℕ). whole ++ x ∷ bytes) (eqb-is c 46 k.0) ∙ ap (λ (xs : List ℕ). whole ++ 46 ∷ xs) (sym (take-append-drop (prefix_len is_ascii_digit bytes) bytes)),
-              )
-          | inr j ↦ absurd cc
-        ]
-        | inr k ↦
-            let g = decimal-sound whole [] (exponent_of (c ∷ bytes)) parts k.1 in
-            subst (λ (q : Parts). Spells q (whole ++ c ∷ bytes)) g.2 ([], c ∷ bytes, d, inl (refl, refl), exponent-sound (c ∷ bytes) g.0.0 g.0.1 g.1, refl)
-      ]
+      | inr m ↦ elim (chosen (eqb c 46) (cond (ltb 0 (length (front_digits bytes))) (decimal_parts whole (front_digits bytes) (exponent_of (behind_digits bytes))) None)
+          (decimal_parts whole [] (exponent_of (c ∷ bytes))) (Some parts) m.1) [
+            | inl k ↦ elim (chosen (ltb 0 (length (front_digits bytes))) (decimal_parts whole (front_digits bytes) (exponent_of (behind_digits bytes))) None (Some parts) k.1) [
+              | inl j ↦
+                  let g = decimal-sound whole (front_digits bytes) (exponent_of (behind_digits bytes)) parts j.1 in
+                  subst (λ (q : Parts). Spells q (whole ++ c ∷ bytes)) g.2 (
+                    46 ∷ front_digits bytes,
+                    behind_digits bytes,
+                    d,
+                    inr (front-digits bytes j.0, refl),
+                    exponent-sound (behind_digits bytes) g.0.0 g.0.1 g.1,
+                    ap (λ (x : ℕ). whole ++ x ∷ bytes) (eqb-is c 46 k.0) ∙ ap (λ (xs : List ℕ). whole ++ 46 ∷ xs) (sym (take-append-drop (prefix_len is_ascii_digit bytes) bytes)),
+                  )
+              | inr j ↦ absurd cc
+            ]
+            | inr k ↦
+                let g = decimal-sound whole [] (exponent_of (c ∷ bytes)) parts k.1 in
+                subst (λ (q : Parts). Spells q (whole ++ c ∷ bytes)) g.2 ([], c ∷ bytes, d, inl (refl, refl), exponent-sound (c ∷ bytes) g.0.0 g.0.1 g.1, refl)
+          ]
     ]
 
 pub sound : IsSound
 unfolding parts_of
 sound text parts e =
     elim (chosen (ltb 0 (length (front_digits text))) (parts_behind (front_digits text) (behind_digits text)) None (Some parts) e) [
-      | inl m ↦ subst (λ (xs : List ℕ). Spells parts xs) (take-append-drop (prefix_len is_ascii_digit text) text) (behind-sound (front_digits text) (behind_digits text) parts (front-digits text m.0) m.1)
+      | inl m ↦ subst (λ (xs : List ℕ). Spells parts xs) (take-append-drop (prefix_len is_ascii_digit text) text)
+          (behind-sound (front_digits text) (behind_digits text) parts (front-digits text m.0) m.1)
       | inr m ↦ absurd cc
     ]
 

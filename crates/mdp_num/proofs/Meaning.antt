@@ -1,5 +1,6 @@
 -- The value of a numeral is what its parts mean.
-use Rattle.std.proofs.Common.{◌≡◌, ◌≢◌, ℕ, zero, suc, ◌+◌, ◌-◌, ◌*◌, ◌/◌, ◌%◌, ◌^◌, ◌<◌, ◌≤◌, inl, inr, Bool, true, false, cond, eqb, ltb, ◌||◌, List, [], ◌∷◌, ◌++◌, length, take, get_or, Option, Some, None, Result, Ok, Err, refl, sym, ap, ap₂, subst, ◌∙◌, arith, lit<, pos, unsigned_abs, mul-one}
+use Rattle.std.proofs.Common.{◌≡◌, ◌≢◌, ℕ, zero, suc, ◌+◌, ◌-◌, ◌*◌, ◌/◌, ◌%◌, ◌^◌, ◌<◌, ◌≤◌, inl, inr, Bool, true, false, cond, eqb, ltb, ◌||◌, List, [], ◌∷◌, ◌++◌}
+use Rattle.std.proofs.Common.{length, take, get_or, Option, Some, None, Result, Ok, Err, refl, sym, ap, ap₂, subst, ◌∙◌, arith, lit<, pos, unsigned_abs, mul-one}
 use Rattle.std.specs.Char.{is_ascii_digit}
 use Rattle.std.specs.Result.{IfOk}
 use Rattle.std.proofs.Math.Nat.{one-le-pow, div-le_self}
@@ -107,7 +108,8 @@ no-zero-more xs c digit h =
     by_other xs c digit other = λ some divides.
         (let b = digit-bounds c digit in
         let n : number (xs ++ c ∷ []) ≡ number xs * 10 + (c - 48) = number_after-append 0 xs (c ∷ []) in
-        let rest : number (significant (xs ++ c ∷ [])) % 10 ≡ c - 48 = ap (λ (ds : List ℕ). number ds % 10) (significant-other xs c other) ∙ ap (λ (k : ℕ). k % 10) n ∙ mod-mul-add (number xs) 10 (c - 48) (omega arith) in
+        let rest : number (significant (xs ++ c ∷ [])) % 10 ≡ c - 48 = ap (λ (ds : List ℕ). number ds % 10) (significant-other xs c other)
+        ∙ ap (λ (k : ℕ). k % 10) n ∙ mod-mul-add (number xs) 10 (c - 48) (omega arith) in
         other (let z : c - 48 ≡ 0 = sym rest ∙ divides in omega arith))
 
 no-zero-by : (k : ℕ) (ds : List ℕ) → length ds ≡ k → DigitsOnly ds → EndsInNoZero ds
@@ -144,18 +146,21 @@ data Scaled (d up down : ℕ) (p : ℕ × ℕ) : Type 0 where
 
 scaled-case : (d up down : ℕ) (p : ℕ × ℕ) → scaled d up down ≡ Ok p → Scaled d up down p
 scaled-case d up down p e =
-    elim (chosen (eqb d 0) (Ok (0, 1)) (cond (ltb limit d || ltb (up + 36) down) (Err Large) (cond (ltb up down) (Ok (d, 10 ^ (down - up))) (cond (ltb limit (d * 10 ^ (up - down))) (Err Large) (Ok (d * 10 ^ (up - down), 1))))) (Ok p) e) as (λ _. Scaled d up down p) [
+    elim (chosen (eqb d 0) (Ok (0, 1)) (cond (ltb limit d || ltb (up + 36) down) (Err Large)
+    (cond (ltb up down) (Ok (d, 10 ^ (down - up))) (cond (ltb limit (d * 10 ^ (up - down))) (Err Large) (Ok (d * 10 ^ (up - down), 1))))) (Ok p) e) as (λ _. Scaled d up down p) [
       | inl m ↦ is_zero (eqb-is d 0 m.0) (ok-is (0, 1) p m.1)
-      | inr m ↦ elim (chosen (ltb limit d || ltb (up + 36) down) (Err Large) (cond (ltb up down) (Ok (d, 10 ^ (down - up))) (cond (ltb limit (d * 10 ^ (up - down))) (Err Large) (Ok (d * 10 ^ (up - down), 1)))) (Ok p) m.1) as (λ _. Scaled d up down p) [
-        | inl k ↦ absurd (not_ok p k.1)
-        | inr k ↦ elim (chosen (ltb up down) (Ok (d, 10 ^ (down - up))) (cond (ltb limit (d * 10 ^ (up - down))) (Err Large) (Ok (d * 10 ^ (up - down), 1))) (Ok p) k.1) as (λ _. Scaled d up down p) [
-          | inl j ↦ is_below (fits d up down k.0) (near d up down k.0) (less up down j.0) (ok-is (d, 10 ^ (down - up)) p j.1)
-          | inr j ↦ elim (chosen (ltb limit (d * 10 ^ (up - down))) (Err Large) (Ok (d * 10 ^ (up - down), 1)) (Ok p) j.1) as (λ _. Scaled d up down p) [
-            | inl i ↦ absurd (not_ok p i.1)
-            | inr i ↦ is_whole (not_less up down j.0) (not_less limit (d * 10 ^ (up - down)) i.0) (ok-is (d * 10 ^ (up - down), 1) p i.1)
+      | inr m ↦ elim (chosen (ltb limit d || ltb (up + 36) down) (Err Large)
+          (cond (ltb up down) (Ok (d, 10 ^ (down - up))) (cond (ltb limit (d * 10 ^ (up - down))) (Err Large) (Ok (d * 10 ^ (up - down), 1)))) (Ok p) m.1)
+          as (λ _. Scaled d up down p) [
+            | inl k ↦ absurd (not_ok p k.1)
+            | inr k ↦ elim (chosen (ltb up down) (Ok (d, 10 ^ (down - up))) (cond (ltb limit (d * 10 ^ (up - down))) (Err Large) (Ok (d * 10 ^ (up - down), 1))) (Ok p) k.1) as (λ _. Scaled d up down p) [
+              | inl j ↦ is_below (fits d up down k.0) (near d up down k.0) (less up down j.0) (ok-is (d, 10 ^ (down - up)) p j.1)
+              | inr j ↦ elim (chosen (ltb limit (d * 10 ^ (up - down))) (Err Large) (Ok (d * 10 ^ (up - down), 1)) (Ok p) j.1) as (λ _. Scaled d up down p) [
+                | inl i ↦ absurd (not_ok p i.1)
+                | inr i ↦ is_whole (not_less up down j.0) (not_less limit (d * 10 ^ (up - down)) i.0) (ok-is (d * 10 ^ (up - down), 1) p i.1)
+              ]
+            ]
           ]
-        ]
-      ]
     ]
   where
     fits : (d up down : ℕ) → (ltb limit d || ltb (up + 36) down) ≡ false → d ≤ limit
@@ -186,7 +191,8 @@ scaled-value d up down p e = by (scaled-case d up down p e)
         ap (λ (q : ℕ × ℕ). ratio (pos q.0) q.1) (sym is)
         ∙ ratio_same (d * 10 ^ (up - down)) 1 (d * 10 ^ up) (10 ^ down) (lit< tt) (ten-pos down) (omega arith ∙ ap (λ (k : ℕ). d * k * 1) (sym f))
 
-decimal-is : (whole places : List ℕ) (negative : Bool) (exponent : List ℕ) (p : ℕ × ℕ) → decimal_terms whole places negative exponent ≡ Ok p → ratio (pos p.0) p.1 ≡ decimal_value whole places negative exponent
+decimal-is : (whole places : List ℕ) (negative : Bool) (exponent : List ℕ) (p : ℕ × ℕ) → decimal_terms whole places negative exponent ≡ Ok p
+    → ratio (pos p.0) p.1 ≡ decimal_value whole places negative exponent
 decimal-is whole places false exponent p e =
     let digits = whole ++ places in
     let m = split (whole ++ places) in
@@ -239,18 +245,20 @@ meant text parts x s e =
 -- parts that were read are never refused for their shape
 scaled-no_shape : (d up down : ℕ) → scaled d up down ≡ Err Shape → ⊥
 scaled-no_shape d up down e =
-    elim (chosen (eqb d 0) (Ok (0, 1)) (cond (ltb limit d || ltb (up + 36) down) (Err Large) (cond (ltb up down) (Ok (d, 10 ^ (down - up))) (cond (ltb limit (d * 10 ^ (up - down))) (Err Large) (Ok (d * 10 ^ (up - down), 1))))) (Err Shape) e) [
+    elim (chosen (eqb d 0) (Ok (0, 1)) (cond (ltb limit d || ltb (up + 36) down) (Err Large)
+    (cond (ltb up down) (Ok (d, 10 ^ (down - up))) (cond (ltb limit (d * 10 ^ (up - down))) (Err Large) (Ok (d * 10 ^ (up - down), 1))))) (Err Shape) e) [
       | inl m ↦ absurd cc
-      | inr m ↦ elim (chosen (ltb limit d || ltb (up + 36) down) (Err Large) (cond (ltb up down) (Ok (d, 10 ^ (down - up))) (cond (ltb limit (d * 10 ^ (up - down))) (Err Large) (Ok (d * 10 ^ (up - down), 1)))) (Err Shape) m.1) [
-        | inl k ↦ absurd (other k.1)
-        | inr k ↦ elim (chosen (ltb up down) (Ok (d, 10 ^ (down - up))) (cond (ltb limit (d * 10 ^ (up - down))) (Err Large) (Ok (d * 10 ^ (up - down), 1))) (Err Shape) k.1) [
-          | inl j ↦ absurd cc
-          | inr j ↦ elim (chosen (ltb limit (d * 10 ^ (up - down))) (Err Large) (Ok (d * 10 ^ (up - down), 1)) (Err Shape) j.1) [
-            | inl i ↦ absurd (other i.1)
-            | inr i ↦ absurd cc
+      | inr m ↦ elim (chosen (ltb limit d || ltb (up + 36) down) (Err Large)
+          (cond (ltb up down) (Ok (d, 10 ^ (down - up))) (cond (ltb limit (d * 10 ^ (up - down))) (Err Large) (Ok (d * 10 ^ (up - down), 1)))) (Err Shape) m.1) [
+            | inl k ↦ absurd (other k.1)
+            | inr k ↦ elim (chosen (ltb up down) (Ok (d, 10 ^ (down - up))) (cond (ltb limit (d * 10 ^ (up - down))) (Err Large) (Ok (d * 10 ^ (up - down), 1))) (Err Shape) k.1) [
+              | inl j ↦ absurd cc
+              | inr j ↦ elim (chosen (ltb limit (d * 10 ^ (up - down))) (Err Large) (Ok (d * 10 ^ (up - down), 1)) (Err Shape) j.1) [
+                | inl i ↦ absurd (other i.1)
+                | inr i ↦ absurd cc
+              ]
+            ]
           ]
-        ]
-      ]
     ]
   where
     other : (let a : Result (ℕ × ℕ) NumeralError = Err Large in a) ≡ Err Shape → ⊥

@@ -1,5 +1,6 @@
 -- Plain digits are decimal texts.
-use Rattle.std.proofs.Common.{◌≡◌, ℕ, zero, suc, ◌+◌, ◌-◌, ◌*◌, ◌/◌, ◌%◌, ◌^◌, ◌<◌, ◌≤◌, ◌⊎◌, inl, inr, true, not, ltb, eqb, ◌&&◌, ◌||◌, List, [], ◌∷◌, ◌++◌, length, take, get_or, decimal, refl, sym, ap, subst, ◌∙◌, arith}
+use Rattle.std.proofs.Common.{◌≡◌, ℕ, zero, suc, ◌+◌, ◌-◌, ◌*◌, ◌/◌, ◌%◌, ◌^◌, ◌<◌, ◌≤◌, ◌⊎◌, inl, inr, true, not, ltb, eqb, ◌&&◌, ◌||◌, List, [], ◌∷◌, ◌++◌, length}
+use Rattle.std.proofs.Common.{take, get_or, decimal, refl, sym, ap, subst, ◌∙◌, arith}
 use Rattle.std.specs.Char.{is_ascii_digit, digit_value}
 use Rattle.std.specs.List.{prefix_len}
 use Rattle.std.specs.Str.Parse.{AllDigits, digits_value_after}
@@ -90,7 +91,8 @@ front-plain ds m h len pos =
     let l = length-take-le m ds (omega arith) in
     record {
       some = omega arith;
-      digits = prefix_len_is is_ascii_digit (take m ds) (length (take m ds)) 0 (omega arith) (λ k lt. rw (get_or-take m ds k 0 (omega arith)) (digit-at ds k h.digits (omega arith))) (λ lt. absurd (omega arith));
+      digits = prefix_len_is is_ascii_digit (take m ds) (length (take m ds)) 0 (omega arith)
+          (λ k lt. rw (get_or-take m ds k 0 (omega arith)) (digit-at ds k h.digits (omega arith))) (λ lt. absurd (omega arith));
       first = elim h.first [ inl one ↦ absurd (omega arith) | inr differ ↦ inr (λ e. differ (sym (get_or-take m ds 0 0 pos) ∙ e)) ];
     }
 
@@ -125,7 +127,8 @@ text-is (suc k) ds len h lt =
     let rest : number ds % 10 ≡ c - 48 = ap (λ (x : ℕ). x % 10) n-is ∙ mod-mul-add (number front) 10 (c - 48) (omega arith) in
     let ih : front ≡ decimal (number front) = text-is k front flen p (omega arith) in
     let last : 48 + number ds % 10 ≡ c = omega arith in
-    ds-is ∙ ap (λ (xs : List ℕ). xs ++ c ∷ []) ih ∙ sym (decimal_step_wide (number ds) (omega arith) lt ∙ ap (λ (q : ℕ). decimal q ++ (48 + number ds % 10) ∷ []) quotient ∙ ap (λ (x : ℕ). decimal (number front) ++ x ∷ []) last)
+    ds-is ∙ ap (λ (xs : List ℕ). xs ++ c ∷ []) ih ∙ sym (decimal_step_wide (number ds) (omega arith) lt ∙ ap (λ (q : ℕ). decimal q ++ (48 + number ds % 10) ∷ []) quotient
+    ∙ ap (λ (x : ℕ). decimal (number front) ++ x ∷ []) last)
   where
     first-not : (ds : List ℕ) (m : ℕ) → IsPlain ds → length ds ≡ m + 1 → 0 < m → 48 ≤ get_or (take m ds) 0 0 → 48 < get_or (take m ds) 0 0
     first-not ds m h len pos ge =

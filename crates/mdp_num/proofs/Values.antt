@@ -10,16 +10,10 @@ use Rattle.mdp_math.specs.Written.{narrow, narrow_ℚ, signed, reduced_num, redu
 use Rattle.mdp_math.proofs.Laws.{ratio_self, num-ratio, den-ratio, den-pos, coprime, same_terms}
 use Rattle.mdp_math.proofs.Written.{narrow-some, num-product, den-product, narrow_ℚ-kept, narrow_ℚ-past_num, narrow_ℚ-past_den, num-ratio_signed, den-ratio_signed, abs-signed}
 use Rattle.mdp_num.specs.declared.frac.Frac.TheInside.{Inside}
-use Rattle.mdp_num.specs.Inside.{value_of, IsFrac}
+use Rattle.mdp_num.specs.Inside.{value_of, IsFrac, abs-pos, pos-abs}
 use Rattle.mdp_num.specs.Value.{spelling, IsNarrow}
 use Rattle.std.specs.Fmt.{signed_decimal}
 use Rattle.std.proofs.Common.{append_assoc, decimal, ◌++◌, eqb, eq-eqb, ne_eqb, if◌then◌else◌}
-
-abs-pos : (z : ℤ) → pos 0 <ℤ z → 0 < unsigned_abs z
-abs-pos z h = omega (arith, ints)
-
-pos-abs : (z : ℤ) → pos 0 <ℤ z → pos (unsigned_abs z) ≡ z
-pos-abs z h = omega (arith, ints)
 
 pub num-value : (f : Inside) (i : IsFrac f) → ℚ.num (value_of f) ≡ f.num
 unfolding value_of
@@ -60,7 +54,8 @@ value_of_terms f n d p q = ap₂ (λ (x y : ℤ). ratio x (unsigned_abs y)) p q
 -- ---- n/d with its sign, divided by the greatest common divisor g
 
 pub quotient-pos : (n d g : ℕ) → 0 < d → g ≡ gcd n d → 0 < d / g
-quotient-pos n d g h e = let p : 0 < ℚ.den (ratio (signed false n) d) = den-pos (ratio (signed false n) d) in let q : ℚ.den (ratio (signed false n) d) ≡ d / g = den-ratio_signed false n d h ∙ ap (λ (k : ℕ). d / k) (sym e) in omega arith
+quotient-pos n d g h e = let p : 0 < ℚ.den (ratio (signed false n) d) = den-pos (ratio (signed false n) d) in let q : ℚ.den (ratio (signed false n) d) ≡ d / g =
+    den-ratio_signed false n d h ∙ ap (λ (k : ℕ). d / k) (sym e) in omega arith
 
 pub quotients-lowest : (n d g : ℕ) → 0 < d → g ≡ gcd n d → gcd (n / g) (d / g) ≡ 1
 quotients-lowest n d g h e = ap (λ (k : ℕ). gcd (n / k) (d / k)) e ∙ gcd-reduced n d h
@@ -89,7 +84,11 @@ pub reduced-past : (b : Bool) (n d g : ℕ) → 0 < d → g ≡ gcd n d → (2 ^
 reduced-past b n d g h e k =
     let top : unsigned_abs (ℚ.num (ratio (signed b n) d)) ≡ n / g = ap unsigned_abs (num-reduced b n d g h e) ∙ abs-signed b (n / g) in
     let bottom = den-reduced b n d g h e in
-    elim k as (λ _. None ≡ narrow_ℚ (ratio (signed b n) d)) [ inl u ↦ sym (narrow_ℚ-past_num (ratio (signed b n) d) (omega (arith, top))) | inr u ↦ sym (narrow_ℚ-past_den (ratio (signed b n) d) (omega (arith, bottom))) ]
+    elim k as (λ _. None ≡ narrow_ℚ (ratio (signed b n) d)) [
+      | inl u ↦ sym (narrow_ℚ-past_num (ratio (signed b n) d) (omega (arith, top)))
+      | inr u ↦ sym
+          (narrow_ℚ-past_den (ratio (signed b n) d) (omega (arith, bottom)))
+    ]
 
 pub num-bits : (f : Inside) (x : ℚ) → value_of f ≡ x → IsFrac f → to_z w128 (of_z w128 f.num) ≡ x.num
 num-bits f x e i = back-num f i ∙ sym (num-value f i) ∙ ap (λ (z : ℚ). z.num) e
@@ -106,7 +105,8 @@ pub divisor-positive : (a b : ℕ) (z : ℤ) → 0 < b → z ≡ pos (gcd a b) �
 divisor-positive a b z h e = subst (λ (k : ℤ). pos 0 <ℤ k) (sym e) (let p : 0 < gcd a b = gcd-pos a b h in omega (arith, ints))
 
 -- a quotient by a common divisor, from bits
-pub divisor-bits : (a b : ℤ) (m n : ℤ) (r : ℤ) → a ≡ m → b ≡ n → mag r < 2 ^ 127 → r ≡ pos (gcd (unsigned_abs a) (unsigned_abs b)) → to_z w128 (of_z w128 r) ≡ pos (gcd (unsigned_abs m) (unsigned_abs n))
+pub divisor-bits : (a b : ℤ) (m n : ℤ) (r : ℤ) → a ≡ m → b ≡ n → mag r < 2 ^ 127 → r ≡ pos (gcd (unsigned_abs a) (unsigned_abs b))
+    → to_z w128 (of_z w128 r) ≡ pos (gcd (unsigned_abs m) (unsigned_abs n))
 divisor-bits a b m n r p q h e = result-bits r h ∙ e ∙ ap₂ (λ (x y : ℤ). pos (gcd (unsigned_abs x) (unsigned_abs y))) p q
 
 pub quotient-bits : (a m d k r : ℤ) → a ≡ m → d ≡ k → mag r < 2 ^ 127 → r ≡ int_div a d → to_z w128 (of_z w128 r) ≡ int_div m k
@@ -133,7 +133,8 @@ pub terms-lowest : (x : ℚ) (N D : ℤ) → AreTerms x N D → gcd (unsigned_ab
 terms-lowest x N D h = ap₂ gcd (ap unsigned_abs h.top) (ap unsigned_abs h.bottom) ∙ coprime x
 
 -- a product's terms, from the code's
-pub product-terms : (x y : ℚ) (n d a b r s : ℤ) → Some n ≡ narrow (a *ℤ b) → Some d ≡ narrow (r *ℤ s) → a ≡ reduced_num x y → b ≡ reduced_num y x → r ≡ pos (reduced_den x y) → s ≡ pos (reduced_den y x)
+pub product-terms : (x y : ℚ) (n d a b r s : ℤ) → Some n ≡ narrow (a *ℤ b) → Some d ≡ narrow (r *ℤ s) → a ≡ reduced_num x y → b ≡ reduced_num y x
+    → r ≡ pos (reduced_den x y) → s ≡ pos (reduced_den y x)
     → AreTerms (x *ℚ y) (to_z w128 (of_z w128 n)) (to_z w128 (of_z w128 d))
 product-terms x y n d a b r s e f pa pb pr ps =
     let p = narrow-some (a *ℤ b) n e in
@@ -159,11 +160,13 @@ spelling_whole f x v i e =
     ap signed_decimal (num-bits f x v i)
     ∙ sym (ap (λ (b : Bool). if b then signed_decimal x.num else (signed_decimal x.num ++ 47 ∷ decimal x.den)) (eq-eqb x.den 1 d))
 
-pub spelling_fraction : (f : Inside) (x : ℚ) → value_of f ≡ x → IsFrac f → (of_z w128 f.den ≡ 1 → ⊥) → signed_decimal (to_z w128 (of_z w128 f.num)) ++ 47 ∷ signed_decimal (to_z w128 (of_z w128 f.den)) ≡ spelling x
+pub spelling_fraction : (f : Inside) (x : ℚ) → value_of f ≡ x → IsFrac f → (of_z w128 f.den ≡ 1 → ⊥)
+    → signed_decimal (to_z w128 (of_z w128 f.num)) ++ 47 ∷ signed_decimal (to_z w128 (of_z w128 f.den)) ≡ spelling x
 unfolding spelling
 spelling_fraction f x v i ne =
     ap₂ (λ (n d : ℤ). signed_decimal n ++ 47 ∷ signed_decimal d) (num-bits f x v i) (den-bits f x v i)
-    ∙ sym (ap (λ (b : Bool). if b then signed_decimal x.num else (signed_decimal x.num ++ 47 ∷ decimal x.den)) (eqb_false x.den (λ d. ne (ap (of_z w128) (sym (pos-den-value f i) ∙ ap (λ (z : ℚ). pos z.den) v ∙ ap pos d)))))
+    ∙ sym (ap (λ (b : Bool). if b then signed_decimal x.num else (signed_decimal x.num ++ 47 ∷ decimal x.den))
+    (eqb_false x.den (λ d. ne (ap (of_z w128) (sym (pos-den-value f i) ∙ ap (λ (z : ℚ). pos z.den) v ∙ ap pos d)))))
 
 pub joined : (a n d n' d' t : List ℕ) → n ≡ n' → d ≡ d' → n' ++ 47 ∷ d' ≡ t → ((a ++ n) ++ 47 ∷ []) ++ d ≡ a ++ t
 joined a n d n' d' t p q e = ap₂ (λ (x y : List ℕ). ((a ++ x) ++ 47 ∷ []) ++ y) p q ∙ simp append_assoc (ap (λ (x : List ℕ). a ++ x) e)

@@ -9,7 +9,8 @@ use Rattle.mdp_num.specs.Digits.{number_after}
 use Rattle.mdp_num.specs.Numeral.{zeros_behind, significant}
 
 suffix_len-append : (p : ℕ → Bool) (xs ys : List ℕ) → suffix_len p (xs ++ ys) ≡ cond (eqb (suffix_len p ys) (length ys)) (length ys + suffix_len p xs) (suffix_len p ys)
-suffix_len-append p xs ys = ap (prefix_len p) (reverse-append xs ys) ∙ prefix_len-append p (reverse ys) (reverse xs) ∙ ap (λ (n : ℕ). cond (eqb (suffix_len p ys) n) (n + suffix_len p xs) (suffix_len p ys)) (length-reverse ys)
+suffix_len-append p xs ys = ap (prefix_len p) (reverse-append xs ys) ∙ prefix_len-append p (reverse ys) (reverse xs)
+    ∙ ap (λ (n : ℕ). cond (eqb (suffix_len p ys) n) (n + suffix_len p xs) (suffix_len p ys)) (length-reverse ys)
 
 take-past : (xs ys : List ℕ) (k : ℕ) → take (length xs + k) (xs ++ ys) ≡ xs ++ take k ys
 take-past [] ys k = ap (λ (n : ℕ). take n ys) (omega arith)

@@ -15,10 +15,10 @@ pub record IsFrac (a : Inside) : Type 0 where
   pub narrow_num : unsigned_abs a.num < 2 ^ 127
   pub narrow_den : unsigned_abs a.den < 2 ^ 127
 
-abs-pos : (z : ℤ) → pos 0 <ℤ z → 0 < unsigned_abs z
+pub abs-pos : (z : ℤ) → pos 0 <ℤ z → 0 < unsigned_abs z
 abs-pos z h = omega (arith, ints)
 
-pos-abs : (z : ℤ) → pos 0 <ℤ z → pos (unsigned_abs z) ≡ z
+pub pos-abs : (z : ℤ) → pos 0 <ℤ z → pos (unsigned_abs z) ≡ z
 pos-abs z h = omega (arith, ints)
 
 same_fields : (a : Inside) (n d : ℤ) → n ≡ a.num → d ≡ a.den → (let x : Inside = record { num = n; den = d } in x) ≡ a

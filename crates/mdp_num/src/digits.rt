@@ -3,6 +3,9 @@ ghost use Rattle.std.specs.List.{prefix_len};
 ghost use Rattle.std.specs.Char.{is_ascii_digit};
 ghost use Rattle.mdp_num.specs.Digits.{number_after, front_digits, behind_digits, is_digits, is_plain};
 
+/// 10 ^ 18. A number up to this has room in 64 bits for one more digit.
+const SHORT: u128 = 1_000_000_000_000_000_000;
+
 /// How many digits the bytes begin with.
 fn digits_len(bytes: &[u8]) -> usize
     ensures { result ≡ prefix_len is_ascii_digit bytes.now }
@@ -36,7 +39,7 @@ pub fn split_digits(bytes: &[u8]) -> (&[u8], &[u8])
 }
 
 /// The number that the digits write behind those of n, or the cap where it is greater.
-pub fn capped_after(n: u128, digits: &[u8], cap: u128) -> u128
+fn long_after(n: u128, digits: &[u8], cap: u128) -> u128
     requires { n ≤ cap }
     ensures { result ≡ min (number_after n digits.now) cap }
 {
@@ -46,4 +49,22 @@ pub fn capped_after(n: u128, digits: &[u8], cap: u128) -> u128
         number = number.saturating_mul(10).saturating_add(value).min(cap);
     }
     number
+}
+
+/// The same, gathered in 64 bits as far as the number fits them.
+pub fn capped_after(n: u128, digits: &[u8], cap: u128) -> u128
+    requires { n ≤ cap }
+    ensures { result ≡ min (number_after n digits.now) cap }
+{
+    if n > SHORT {
+        return long_after(n, digits, cap);
+    }
+    let mut number = n as u64;
+    for (i, digit) in digits.iter().enumerate() {
+        if u128::from(number) > SHORT {
+            return long_after(u128::from(number).min(cap), &digits[i..], cap);
+        }
+        number = number * 10 + u64::from(digit.saturating_sub(b'0'));
+    }
+    u128::from(number).min(cap)
 }

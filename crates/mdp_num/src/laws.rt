@@ -8,7 +8,8 @@ pub fn grammar_law()
     ensures complete { IsComplete }
 {}
 
-/// A numeral that is read has the value that its parts mean, and `Shape` comes exactly where a text spells no parts. The digits of a decimal are a number without a zero at its end, times a power of ten.
+/// A numeral that is read has the value that its parts mean, and `Shape` comes exactly where a text spells no parts. The digits of a decimal are a
+/// number without a zero at its end, times a power of ten.
 pub fn value_law()
     ensures meant { IsMeant }
     ensures shape { IsRefusedByShape }

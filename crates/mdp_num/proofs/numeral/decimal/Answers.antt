@@ -36,4 +36,5 @@ returns c =
       | then-negative w ↦ rw w.if-negative.true (ap (λ (p : ℕ × ℕ). p.1) w.up-is ∙ c.capped_after-tens.ensures)
       | else-negative w ↦ rw w.if-negative.false (ap (λ (p : ℕ × ℕ). p.1) w.up-is)
     ] in
-    rw (c.scale.ensures, d-is, zeros-is, up-is, down-is) (scaled-capped (number (significant (whole ++ places))) x (zeros_behind (whole ++ places)) (length places) negative (omega (arith, suffix_len-le-length (λ d. d == 48) (whole ++ places), length-append whole places)) (omega arith))
+    rw (c.scale.ensures, d-is, zeros-is, up-is, down-is) (scaled-capped (number (significant (whole ++ places))) x (zeros_behind (whole ++ places))
+    (length places) negative (omega (arith, suffix_len-le-length (λ d. d == 48) (whole ++ places), length-append whole places)) (omega arith))

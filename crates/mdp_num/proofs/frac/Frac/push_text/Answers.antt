@@ -12,5 +12,6 @@ returns c =
     let num = c.as_bytes-num.ensures.value ∙ c.format.ensures.text in
     let den = c.as_bytes-den.ensures.value ∙ c.format-2.ensures.text in
     c.in_ok-extend_from_slice-4.ensures.items
-    ∙ ap (λ (t : List ℕ). t ++ c.as_bytes-den.result.now) (c.in_ok-extend_from_slice-3.ensures.items ∙ ap (λ (t : List ℕ). t ++ 47 ∷ []) (c.in_ok-extend_from_slice-2.ensures.items ∙ ap (λ (t : List ℕ). t ++ c.as_bytes-num.result.now) c.in_ok-reserve.ensures.items))
+    ∙ ap (λ (t : List ℕ). t ++ c.as_bytes-den.result.now) (c.in_ok-extend_from_slice-3.ensures.items
+    ∙ ap (λ (t : List ℕ). t ++ 47 ∷ []) (c.in_ok-extend_from_slice-2.ensures.items ∙ ap (λ (t : List ℕ). t ++ c.as_bytes-num.result.now) c.in_ok-reserve.ensures.items))
     ∙ joined c.args.out.now.items c.as_bytes-num.result.now c.as_bytes-den.result.now _ _ _ num den (spelling_fraction _ _ c.self.view_is c.self.invariant c.if-self-eq1.false)

@@ -13,7 +13,8 @@ from_lowest-requires-clause-some c =
 
 pub from_lowest-requires-clause-lowest : goal.from_lowest-requires-clause-lowest
 from_lowest-requires-clause-lowest c =
-    ap₂ gcd (c.unsigned_abs.ensures.value ∙ ap unsigned_abs (den-bits _ _ c.self.view_is c.self.invariant)) (c.unsigned_abs-2.ensures.value ∙ ap unsigned_abs (num-bits _ _ c.self.view_is c.self.invariant))
+    ap₂ gcd (c.unsigned_abs.ensures.value ∙ ap unsigned_abs (den-bits _ _ c.self.view_is c.self.invariant))
+    (c.unsigned_abs-2.ensures.value ∙ ap unsigned_abs (num-bits _ _ c.self.view_is c.self.invariant))
     ∙ gcd_comm (ℚ.den c.args.self.now) (unsigned_abs (ℚ.num c.args.self.now)) ∙ coprime c.args.self.now
 
 pub returns : goal.returns
