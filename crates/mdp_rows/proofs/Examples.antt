@@ -11,10 +11,9 @@ use Rattle.mdp_math.proofs.Order.{0ℚ}
 use Rattle.mdp_num.specs.Numeral.{limit}
 use Rattle.mdp_spec.specs.Mdp.{Entry, Choice, Mdp, choices_at, row_at}
 use Rattle.mdp_spec.specs.Row.{IsRow, IsMdp}
-use Rattle.mdp_num.specs.Meaning.{IsWithinLimit}
 use Rattle.mdp_rows.specs.Name.{IsName, IsRewardName}
-use Rattle.mdp_rows.specs.Limits.{in_order_of_sight, IsChoiceWithin, IsStateWithin, IsModel}
-use Rattle.mdp_rows.proofs.SoundRewards.{within_by}
+use Rattle.mdp_rows.specs.Limits.{in_order_of_sight, HasSmallTerms, IsChoiceWithin, IsStateWithin, IsModel}
+use Rattle.mdp_rows.proofs.SoundRewards.{small_by}
 use Rattle.mdp_rows.specs.Draft.{Draft, new_draft, ◌>>=◌, closed_row, after_state, after_label, after_choice, after_entry, after_finish}
 use Rattle.mdp_rows.specs.GivenRow.{in_order}
 use Rattle.mdp_rows.specs.Replay.{replayed}
@@ -130,8 +129,8 @@ two-states =
         few_labels = omega arith;
         choices =
             All-from_recursion (IsChoiceWithin 1) first_choices (
-              record { den = leb-true 3 limit refl; rewards = refl; terms = All-from_recursion IsWithinLimit (ratio (pos 3) 2 ∷ []) (within_by (ratio (pos 3) 2) (record { le = tt }) refl, tt) },
-              (record { den = leb-true 1 limit refl; rewards = refl; terms = All-from_recursion IsWithinLimit (half ∷ []) (within_by half (record { le = tt }) refl, tt) }, tt),
+              record { den = leb-true 3 limit refl; rewards = refl; terms = All-from_recursion HasSmallTerms (ratio (pos 3) 2 ∷ []) (small_by (ratio (pos 3) 2) refl, tt) },
+              (record { den = leb-true 1 limit refl; rewards = refl; terms = All-from_recursion HasSmallTerms (half ∷ []) (small_by half refl, tt) }, tt),
             );
       },
       (
@@ -140,7 +139,7 @@ two-states =
           few_labels = omega arith;
           choices =
               All-from_recursion (IsChoiceWithin 1) last_choices
-              (record { den = leb-true 1 limit refl; rewards = refl; terms = All-from_recursion IsWithinLimit (of_int (pos 2) ∷ []) (within_by (of_int (pos 2)) (record { le = tt }) refl, tt) }, tt);
+              (record { den = leb-true 1 limit refl; rewards = refl; terms = All-from_recursion HasSmallTerms (of_int (pos 2) ∷ []) (small_by (of_int (pos 2)) refl, tt) }, tt);
         },
         tt,
       ),

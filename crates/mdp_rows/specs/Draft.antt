@@ -137,13 +137,13 @@ state_opened d rewards = if length d.closed == d.announced then Err Count else O
 abbrev pub after_state : Draft → List ℚ → Result Draft RowsError
 after_state d rewards = all_closed d >>= λ closed. state_opened closed rewards
 
--- a sum of rewards: no written term past width, and terms of at most 10^36
-abbrev pub is_within_limit : ℚ → Bool
-is_within_limit x = nat_le (unsigned_abs x.num) limit && nat_le x.den limit
+-- a sum of rewards: no written term past width, and lowest terms of magnitude at most 10^36
+abbrev pub has_small_terms : ℚ → Bool
+has_small_terms x = nat_le (unsigned_abs x.num) limit && nat_le x.den limit
 
 abbrev pub kept_sum : Option ℚ → Result ℚ RowsError
 kept_sum None = Err Large
-kept_sum (Some x) = if is_within_limit x then Ok x else Err Large
+kept_sum (Some x) = if has_small_terms x then Ok x else Err Large
 
 -- the rewards of a state and of a choice, added name by name
 abbrev pub summed_rewards : List ℚ → List ℚ → Result (List ℚ) RowsError

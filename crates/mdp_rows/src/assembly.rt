@@ -1,8 +1,5 @@
 ghost use Rattle.std.specs.Prelude.{◌≡◌, ◌⊎◌, ◌<◌, ◌≤◌, ◌^◌, None, Some, IsTrue, IsSome, IfOk, IfErr, OnOk, MatchResult};
 ghost use Rattle.std.specs.Prelude.{length, map};
-ghost use Rattle.std.specs.List.{All};
-ghost use Rattle.mdp_math.specs.Rational.{of_int, ◌≤ℚ◌};
-ghost use Rattle.std.specs.Prelude.{pos};
 ghost use Rattle.mdp_rows.specs.Draft.{new_draft, choice_closed, state_closed, all_closed, state_opened, choice_opened, after_state, after_choice, after_entry, after_finish, finished, due_after, Follows, IsCall, IsUnrefused, has_state, has_choice, has_open_target, states_opened};
 ghost use Rattle.mdp_rows.specs.Head.{IsSameHead};
 ghost use Rattle.mdp_rows.specs.Sound.{FinishesModel};
@@ -400,10 +397,9 @@ impl Assembly {
         target < self.announced && self.targets.at(target)
     }
 
-    /// Opens the next state, with its own reward for each name, at least 0, and closes the open row and the open state before.
+    /// Opens the next state, with its own reward for each name, of either sign, and closes the open row and the open state before.
     pub fn state(&mut self, rewards: &[Frac]) -> Result<(), RowsError>
         requires one_each { IsUnrefused self.old → length rewards.now ≡ length self.old.names }
-        requires at_least_0 { All (λ x. of_int (pos 0) ≤ℚ x) rewards.now }
         ensures call { IsCall self.old self.new (after_state self.old rewards.now) result }
         ensures same { OnOk result (IsSameHead self.old self.new) }
         ensures state_open { OnOk result (IsTrue (has_state self.new)) }
@@ -430,11 +426,10 @@ impl Assembly {
         self.keep_refusal(outcome)
     }
 
-    /// Opens the next choice of the open state, with its own reward for each name, at least 0, and closes the open row before.
+    /// Opens the next choice of the open state, with its own reward for each name, of either sign, and closes the open row before.
     pub fn choice(&mut self, rewards: &[Frac]) -> Result<(), RowsError>
         requires open { IsUnrefused self.old → IsTrue (has_state self.old) }
         requires one_each { IsUnrefused self.old → length rewards.now ≡ length self.old.names }
-        requires at_least_0 { All (λ x. of_int (pos 0) ≤ℚ x) rewards.now }
         ensures call { IsCall self.old self.new (after_choice self.old rewards.now) result }
         ensures same { OnOk result (IsSameHead self.old self.new) }
         ensures state_open { OnOk result (IsTrue (has_state self.new)) }

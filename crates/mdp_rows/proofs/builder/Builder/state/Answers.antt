@@ -4,4 +4,4 @@ use Rattle.mdp_rows.proofs.SoundBuilder.{after_state-good}
 use Rattle.mdp_rows.proofs.builder.Builder.state.Goals as goal
 
 pub invariant_of-self : goal.invariant_of-self
-invariant_of-self c = after_state-good c.self.inside.assembly c.state.new.self c.args.rewards.now c.state.result c.self.invariant (subst (λ (d : Draft). d.refused ≡ None → length c.args.rewards.now ≡ length d.names) (sym c.self.view_is) c.requires.one_each) c.requires.at_least_0 c.state.ensures.call
+invariant_of-self c = after_state-good c.self.inside.assembly c.state.new.self c.args.rewards.now c.state.result c.self.invariant (subst (λ (d : Draft). d.refused ≡ None → length c.args.rewards.now ≡ length d.names) (sym c.self.view_is) c.requires.one_each) c.state.ensures.call
