@@ -22,7 +22,7 @@ use Rattle.mdp_spec.specs.Unit.{row_den}
 use Rattle.mdp_rows.specs.Limits.{known_after, all_below, in_order_of_sight, HasSmallTerms, IsChoiceWithin, IsModel}
 use Rattle.mdp_rows.specs.Cut.{cut_state}
 use Rattle.mdp_rows.specs.Draft.{Draft, new_draft, after_finish, ◌>>=◌}
-use Rattle.mdp_rows.specs.Replay.{no_rewards, with_states, replayed}
+use Rattle.mdp_rows.specs.Replay.{with_states, replayed}
 use Rattle.mdp_rows.specs.declared.error.RowsError.{RowsError}
 use Rattle.mdp_rows.specs.declared.rule.RowRule.TheVariants.{Exact}
 use Rattle.mdp_rows.specs.Sound.{IsClosedState, choice_count, entry_count}

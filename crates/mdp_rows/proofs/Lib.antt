@@ -44,6 +44,7 @@ mod SoundSteps
 mod StageFacts
 mod Tally
 mod Targets
+pub mod NegativeRewards
 pub mod ReplayStates
 pub mod SoundCalls
 pub mod SoundKept
