@@ -14,6 +14,7 @@ use Rattle.mdp_spec.specs.Mdp.{Entry, Choice, State, Mdp, no_state, no_choice}
 use Rattle.mdp_spec.specs.Row.{IsRow, IsMdp}
 use Rattle.mdp_rows.specs.Name.{IsName, AreRewardNames, are_different}
 use Rattle.mdp_rows.specs.Limits.{places_ascend, in_order_of_sight, IsChoiceWithin, IsStateWithin, IsModel}
+use Rattle.mdp_rows.specs.Head.{IsSameHead}
 use Rattle.mdp_rows.specs.Draft.{Draft, OpenState, OpenChoice, new_draft, new_state, closed_row, closed_choices, with_choice_closed, choice_closed_in, choice_closed, state_closed_in, state_closed, all_closed, state_opened, after_state, summed_rewards, choice_opened_in, choice_opened, after_choice, has_target, with_entry, with_choice_entry, entry_in, after_entry, with_name, with_place, label_in, after_label, finished, after_finish, ◌>>=◌}
 use Rattle.mdp_rows.specs.Sound.{IsOpenChoice, IsOpenState, IsClosedState, IsSound, choice_count, entry_count, opened_choices, opened_entries}
 use Rattle.mdp_rows.specs.declared.error.RowsError.{RowsError}
@@ -280,7 +281,7 @@ state_opened-sound d n rewards e s r h = open_state_in d n rewards d.state e s r
 pub after_state-sound : (d n : Draft) (rewards : List ℚ) → IsSound d → AreRewards d.names rewards → after_state d rewards ≡ Ok n → IsSound n
 after_state-sound d n rewards s r e =
     let f = then_ok (all_closed d) (λ closed. state_opened closed rewards) n e in
-    state_opened-sound f.0 n rewards (all_closed-none d f.0 f.1) (all_closed-sound d f.0 s f.1) (subst (λ (ns : List (List ℕ)). AreRewards ns rewards) (IsKept.names (all_closed-kept d f.0 f.1)) r) f.2
+    state_opened-sound f.0 n rewards (all_closed-none d f.0 f.1) (all_closed-sound d f.0 s f.1) (subst (λ (ns : List (List ℕ)). AreRewards ns rewards) (sym (IsSameHead.names (IsKept.head (all_closed-kept d f.0 f.1)))) r) f.2
 
 -- ---- a choice
 
@@ -323,7 +324,7 @@ choice_opened-sound d n rewards s r e = open_choice_in d n rewards d.state s r e
 pub after_choice-sound : (d n : Draft) (rewards : List ℚ) → IsSound d → AreRewards d.names rewards → after_choice d rewards ≡ Ok n → IsSound n
 after_choice-sound d n rewards s r e =
     let f = then_ok (choice_closed d) (λ closed. choice_opened closed rewards) n e in
-    choice_opened-sound f.0 n rewards (choice_closed-sound d f.0 s f.1) (subst (λ (ns : List (List ℕ)). AreRewards ns rewards) (IsKept.names (choice_closed-kept d f.0 f.1)) r) f.2
+    choice_opened-sound f.0 n rewards (choice_closed-sound d f.0 s f.1) (subst (λ (ns : List (List ℕ)). AreRewards ns rewards) (sym (IsSameHead.names (IsKept.head (choice_closed-kept d f.0 f.1)))) r) f.2
 
 -- ---- an entry
 
