@@ -2,6 +2,7 @@
 use Rattle.std.proofs.Common.{◌≡◌, ◌≢◌, ℕ, ◌-◌, ◌<◌, ◌≤◌, ◌^◌, Bool, true, false, List, [], ◌∷◌, ◌++◌, length, Option, Some, None, refl, sym, ap, ap₂, subst, ◌∙◌, arith, ◌⊎◌, inl, inr, eqb, eq-eqb, if◌then◌else◌}
 use Rattle.std.specs.Prelude.{replicate, Result, Ok, Err, OnOk, IfOk, IfErr}
 use Rattle.std.specs.List.{All}
+use Rattle.std.specs.Option.{IfSome}
 use Rattle.std.proofs.lemmas.Bool.{ne_eqb}
 use Rattle.std.proofs.lemmas.List.Elements.{All-nil}
 use Rattle.mdp_spec.specs.Mdp.{Entry, Choice, Mdp}
@@ -11,7 +12,7 @@ use Rattle.mdp_rows.specs.Pieces.{pieces, ArePlaces}
 use Rattle.mdp_rows.specs.Labelling.{Labelling}
 use Rattle.mdp_rows.specs.FlatModel.{states_from, mdp_in, IsFlat}
 use Rattle.mdp_rows.specs.Sound.{FinishesModel}
-use Rattle.mdp_rows.specs.Draft.{Draft, OpenState, OpenChoice, closed_row, new_draft, choice_closed, choice_closed_in, with_choice_closed, state_closed, state_closed_in, all_closed, finished, due_after, Follows, IsCall, IsChoiceClosed, ◌>>=◌}
+use Rattle.mdp_rows.specs.Draft.{Draft, OpenState, OpenChoice, closed_row, new_draft, choice_closed, choice_closed_in, with_choice_closed, state_closed, state_closed_in, all_closed, finished, Follows, IsCall, IsUnrefused, IsChoiceClosed, ◌>>=◌}
 use Rattle.mdp_rows.specs.FlatDraft.{draft_in, open_in, state_in, choice_in, IsDraft}
 use Rattle.mdp_rows.specs.declared.error.RowsError.{RowsError}
 use Rattle.mdp_rows.specs.declared.error.RowsError.TheVariants.{Count, Memory, NoChoice}
@@ -22,6 +23,7 @@ use Rattle.mdp_rows.specs.declared.model.Model.TheInside.{Inside as ModelInside}
 use Rattle.mdp_rows.proofs.DraftFacts.{same_draft, closed_in, closed_len, closed_is}
 use Rattle.mdp_rows.proofs.GivenRows.{none_marked}
 use Rattle.mdp_rows.proofs.Growth.{one_place}
+use Rattle.mdp_rows.proofs.SoundKept.{IsKept}
 use Rattle.mdp_rows.proofs.SoundSteps.{ok_same}
 
 -- ---- what is closed after a step
@@ -69,32 +71,12 @@ stop : {A B : Type 0} → (r : Result A RowsError) (f : A → Result B RowsError
 stop r f e h = ap (λ (y : Result _ RowsError). y >>= f) h
 
 module _ {B : Type 0} (d : Draft) (f : Draft → Result B RowsError) where
-  pub first_stops : (e : RowsError) → (e ≡ Memory) ⊎ (choice_closed d ≡ Err e) → (e ≡ Memory) ⊎ ((choice_closed d >>= f) ≡ Err e)
-  first_stops e (inl m) = inl m
-  first_stops e (inr h) = inr (stop (choice_closed d) f e h)
-
-  pub first_goes : (n : Draft) → choice_closed d ≡ Ok n → (choice_closed d >>= f) ≡ f n
-  first_goes n h = goes (choice_closed d) f n h
-
-  all_stop : (e : RowsError) → (e ≡ Memory) ⊎ (all_closed d ≡ Err e) → (e ≡ Memory) ⊎ ((all_closed d >>= f) ≡ Err e)
+  pub all_stop : (e : RowsError) → (e ≡ Memory) ⊎ (all_closed d ≡ Err e) → (e ≡ Memory) ⊎ ((all_closed d >>= f) ≡ Err e)
   all_stop e (inl m) = inl m
   all_stop e (inr h) = inr (stop (all_closed d) f e h)
 
-  pub row_stops : (e : RowsError) → (e ≡ Memory) ⊎ (choice_closed d ≡ Err e) → (e ≡ Memory) ⊎ ((all_closed d >>= f) ≡ Err e)
-  row_stops e (inl m) = inl m
-  row_stops e (inr h) = inr (stop (all_closed d) f e (stop (choice_closed d) state_closed e h))
-
-  pub state_stops : (n : Draft) (e : RowsError) → choice_closed d ≡ Ok n → (e ≡ Memory) ⊎ (state_closed n ≡ Err e) → (e ≡ Memory) ⊎ ((all_closed d >>= f) ≡ Err e)
-  state_stops n e h (inl m) = inl m
-  state_stops n e h (inr k) = inr (stop (all_closed d) f e (goes (choice_closed d) state_closed n h ∙ k))
-
-  pub all_go : (n m : Draft) → choice_closed d ≡ Ok n → state_closed n ≡ Ok m → (all_closed d >>= f) ≡ f m
-  all_go n m h k = goes (all_closed d) f m (goes (choice_closed d) state_closed n h ∙ k)
-
-pub follows_same : {A : Type 0} → (due now : Result A RowsError) (r : Result (Unit {0}) RowsError) (n : A) → due ≡ now → Follows now r n → Follows due r n
-follows_same due now (Ok u) n e h = e ∙ h
-follows_same due now (Err x) n e (inl m) = inl m
-follows_same due now (Err x) n e (inr h) = inr (e ∙ h)
+  pub all_go : (n : Draft) → all_closed d ≡ Ok n → (all_closed d >>= f) ≡ f n
+  all_go n h = goes (all_closed d) f n h
 
 -- a refusal that comes from another, or want of memory
 pub or_memory : {P Q : Type 0} → (e : RowsError) → (P → Q) → (e ≡ Memory) ⊎ P → (e ≡ Memory) ⊎ Q
@@ -102,6 +84,9 @@ or_memory e f (inl m) = inl m
 or_memory e f (inr p) = inr (f p)
 
 -- ---- the calls
+
+abbrev answer : Result (Unit {0}) RowsError → Result (Unit {0}) RowsError
+answer r = r
 
 pub refused_now : (b : Inside) (e : RowsError) → b.refused ≡ Some e → (draft_in b).refused ≡ Some e
 unfolding draft_in
@@ -111,16 +96,35 @@ pub refused_is : (b : Inside) (v : Draft) → draft_in b ≡ v → b.refused ≡
 unfolding draft_in
 refused_is b v is = ap (λ (d : Draft). d.refused) is
 
-pub call_refused : (old : Draft) (due : Result Draft RowsError) (e : RowsError) → old.refused ≡ Some e → IsCall old old due (Err e)
-call_refused old due e h = record { ok = tt; err = inr (ap (due_after old due) h); stays = h }
+module _ (b : Inside) (old : Draft) (is : draft_in b ≡ old) where
+  -- the refusal that a builder has
+  pub refused_once : (P : RowsError → Type 0) (e : RowsError) → b.refused ≡ Some e → P e → IfSome old.refused P
+  refused_once P e h p = subst (λ (r : Option RowsError). IfSome r P) (sym h ∙ refused_is b old is) p
 
-pub call_kept : (old mid new : Draft) (due : Result Draft RowsError) (r : Result (Unit {0}) RowsError) → old.refused ≡ None → Follows due r mid → OnOk r (new ≡ mid) → IfErr r (λ e. new.refused ≡ Some e) → IsCall old new due r
-call_kept old mid new due (Ok u) n f k s = record { ok = ap (due_after old due) n ∙ f ∙ ap Ok (sym k); err = tt; stays = tt }
-call_kept old mid new due (Err e) n f k s = record { ok = tt; err = by_cases f; stays = s }
-  where
-    by_cases : (e ≡ Memory) ⊎ (due ≡ Err e) → (e ≡ Memory) ⊎ (due_after old due old.refused ≡ Err e)
-    by_cases (inl m) = inl m
-    by_cases (inr h) = inr (ap (due_after old due) n ∙ h)
+  -- and none where it has none
+  pub never_refused : (P : RowsError → Type 0) → b.refused ≡ None → IfSome old.refused P
+  never_refused P none = subst (λ (r : Option RowsError). IfSome r P) (sym none ∙ refused_is b old is) tt
+
+-- one law for all calls: what a call answers, from what its step does and from what is kept of a refusal
+module _ (b : Inside) (old : Draft) (due : Result Draft RowsError) (is : draft_in b ≡ old) where
+  -- after a refusal
+  pub call_again : (e : RowsError) → b.refused ≡ Some e → IsCall old old due (Err e)
+  call_again e h =
+      let k : old.refused ≡ Some e = sym (refused_is b old is) ∙ h in
+      record { again = refused_once b old is (λ x. (answer (Err e) ≡ Err x) × (old ≡ old)) e h (refl, refl); ok = tt; err = λ u. absurd (let n = sym k ∙ u in cc); kept = k }
+
+  -- the first time that something is refused, or nothing
+  pub call_made : (step new : Draft) (result : Result (Unit {0}) RowsError) → b.refused ≡ None → Follows due result step → OnOk result (new ≡ step) → IfErr result (λ e. new.refused ≡ Some e)
+      → ((n : Draft) → due ≡ Ok n → IsKept old n)
+      → IsCall old new due result
+  call_made step new result none follows goes stops keeps = by result follows goes stops
+    where
+      unrefused : old.refused ≡ None
+      unrefused = sym (refused_is b old is) ∙ none
+
+      by : (r : Result (Unit {0}) RowsError) → Follows due r step → OnOk r (new ≡ step) → IfErr r (λ e. new.refused ≡ Some e) → IsCall old new due r
+      by (Ok u) f g h = let k = f ∙ ap Ok (sym g) in record { again = never_refused b old is (λ e. (answer (Ok u) ≡ Err e) × (new ≡ old)) none; ok = k; err = tt; kept = IsKept.refused (keeps new k) ∙ unrefused }
+      by (Err e) f g h = record { again = never_refused b old is (λ x. (answer (Err e) ≡ Err x) × (new ≡ old)) none; ok = tt; err = λ u. f; kept = h }
 
 -- ---- a new builder
 
@@ -196,14 +200,10 @@ is_flat b v s is ok closed e f whole =
 
 -- ---- what finishing answers
 
-pub finish_stops : {A : Type 0} → (old : Draft) (due : Result A RowsError) (e : RowsError) → old.refused ≡ None → (e ≡ Memory) ⊎ (due ≡ Err e) → (e ≡ Memory) ⊎ (due_after old due old.refused ≡ Err e)
-finish_stops old due e n (inl m) = inl m
-finish_stops old due e n (inr h) = inr (ap (due_after old due) n ∙ h)
+pub finish_model : {A : Type 0} → (due r : Result A RowsError) → due ≡ r → IfOk r (λ m. due ≡ Ok m)
+finish_model due (Ok m) h = h
+finish_model due (Err e) h = tt
 
-pub finish_model : {A : Type 0} → (old : Draft) (due r : Result A RowsError) → old.refused ≡ None → due ≡ r → IfOk r (λ m. due_after old due old.refused ≡ Ok m)
-finish_model old due (Ok m) n h = ap (due_after old due) n ∙ h
-finish_model old due (Err e) n h = tt
-
-pub finish_refusal : {A : Type 0} → (old : Draft) (due r : Result A RowsError) → old.refused ≡ None → due ≡ r → IfErr r (λ e. (e ≡ Memory) ⊎ (due_after old due old.refused ≡ Err e))
-finish_refusal old due (Ok m) n h = tt
-finish_refusal old due (Err e) n h = inr (ap (due_after old due) n ∙ h)
+pub finish_refusal : {A : Type 0} → (old : Draft) (due r : Result A RowsError) → due ≡ r → IfErr r (λ e. IsUnrefused old → (e ≡ Memory) ⊎ (due ≡ Err e))
+finish_refusal old due (Ok m) h = tt
+finish_refusal old due (Err e) h = λ u. inr h

@@ -4,47 +4,46 @@ use Rattle.std.specs.List.{All, AllByRecursion}
 use Rattle.std.proofs.lemmas.Int.{ints}
 use Rattle.std.specs.Prelude.{Result, Ok}
 use Rattle.std.proofs.lemmas.List.{length-map, drop_more, drop_all}
-use Rattle.std.proofs.lemmas.List.Elements.{All-from_recursion, recursion_from_All, All-get_or, All-map}
+use Rattle.std.proofs.lemmas.List.Elements.{All-from_recursion, recursion_from_All, All-get_or}
 use Rattle.std.proofs.lemmas.List.Sums.{sum_by-cons}
 use Rattle.mdp_math.specs.Gcd.{gcd, gcd_with_fuel}
-use Rattle.mdp_math.specs.Rational.{ℚ, of_int, ratio, lt_ℚ, le_ℚ, ◌+ℚ◌, ◌<ℚ◌, ◌≤ℚ◌}
+use Rattle.mdp_math.specs.Rational.{ℚ, of_int, ratio, lt_ℚ, le_ℚ, ◌+ℚ◌, ◌<ℚ◌}
 use Rattle.mdp_math.specs.Sum.{sum_of}
 use Rattle.mdp_math.proofs.Laws.{num-of_int}
-use Rattle.mdp_math.proofs.Order.{0ℚ, ≤ℚ_refl}
+use Rattle.mdp_math.proofs.Order.{0ℚ}
 use Rattle.mdp_num.specs.Meaning.{IsWithinLimit}
+use Rattle.mdp_num.specs.Numeral.{limit}
+use borrow.Author.Tests.{leb-true}
 use Rattle.mdp_spec.specs.Mdp.{Entry, Choice, State, Mdp, no_state, no_choice, states_of, state_at, choices_at, row_at}
 use Rattle.mdp_spec.specs.Row.{IsDistribution, IsRow, IsMdp}
 use Rattle.mdp_spec.specs.Sub.{loop_at, cut_from, sub_of}
 use Rattle.mdp_spec.specs.Tree.{is_marked}
 use Rattle.mdp_spec.specs.Unit.{row_den}
-use Rattle.mdp_rows.specs.Limits.{known_after, all_below, in_order_of_sight, IsChoiceWithin, IsModel}
+use Rattle.mdp_rows.specs.Limits.{known_after, all_below, in_order_of_sight, HasSmallTerms, IsChoiceWithin, IsModel}
 use Rattle.mdp_rows.specs.Cut.{cut_state}
 use Rattle.mdp_rows.specs.Draft.{Draft, new_draft, after_finish, ◌>>=◌}
-use Rattle.mdp_rows.specs.Replay.{no_rewards, with_states, replayed}
+use Rattle.mdp_rows.specs.Replay.{with_states, replayed}
 use Rattle.mdp_rows.specs.declared.error.RowsError.{RowsError}
 use Rattle.mdp_rows.specs.declared.rule.RowRule.TheVariants.{Exact}
 use Rattle.mdp_rows.specs.Sound.{IsClosedState, choice_count, entry_count}
-use Rattle.mdp_rows.proofs.SoundRewards.{within_by}
+use Rattle.mdp_rows.proofs.SoundRewards.{small_by}
 use Rattle.mdp_rows.proofs.ReplayStates.{closed_at, row_count, is_replayed}
 use Rattle.mdp_rows.proofs.RowsWithin.{probs_within}
 use Rattle.mdp_rows.proofs.SoundSteps.{ok_same}
 
 -- ---- a loop
 
-pub zero_within : IsWithinLimit 0ℚ
-unfolding gcd gcd_with_fuel ratio of_int le_ℚ
-zero_within = within_by 0ℚ (record { le = tt }) refl
+zero_small : HasSmallTerms 0ℚ
+unfolding gcd gcd_with_fuel ratio of_int
+zero_small = small_by 0ℚ refl
 
 pub one_within : IsWithinLimit (of_int (pos 1))
 unfolding gcd gcd_with_fuel ratio of_int le_ℚ
-one_within = within_by (of_int (pos 1)) (record { le = tt }) refl
+one_within = record { nonnegative = record { le = tt }; num = leb-true 1 limit refl; den = leb-true 1 limit refl }
 
-zeros_within : (names : List (List ℕ)) → AllByRecursion IsWithinLimit (map (λ name. 0ℚ) names)
-zeros_within [] = tt
-zeros_within (name ∷ names) = (zero_within, zeros_within names)
-
-pub zeros_nonneg : (names : List (List ℕ)) → All (λ x. 0ℚ ≤ℚ x) (no_rewards names)
-zeros_nonneg names = All-map (λ x. 0ℚ ≤ℚ x) (λ name. 0ℚ) names (λ k d l. ≤ℚ_refl 0ℚ)
+zeros_small : (names : List (List ℕ)) → AllByRecursion HasSmallTerms (map (λ name. 0ℚ) names)
+zeros_small [] = tt
+zeros_small (name ∷ names) = (zero_small, zeros_small names)
 
 abbrev loop_row : ℕ → List Entry
 loop_row s = record { target = s; prob = of_int (pos 1) } ∷ []
@@ -75,7 +74,7 @@ loop_within : (names : List (List ℕ)) (s : ℕ) → IsChoiceWithin (length nam
 loop_within names s = record {
   den = let e = loop_den s in omega (arith, e);
   rewards = length-map names (λ name. 0ℚ);
-  terms = All-from_recursion IsWithinLimit (map (λ name. 0ℚ) names) (zeros_within names);
+  terms = All-from_recursion HasSmallTerms (map (λ name. 0ℚ) names) (zeros_small names);
 }
 
 -- ---- one state

@@ -1,5 +1,5 @@
 -- Drafts made call by call, and what is refused, computed.
-use Rattle.std.proofs.Common.{◌≡◌, ℕ, zero, suc, ◌<◌, arith, length, false, List, [], ◌∷◌, Some, None, refl, pos}
+use Rattle.std.proofs.Common.{◌≡◌, ℕ, zero, suc, ◌<◌, arith, length, true, false, List, [], ◌∷◌, Some, None, refl, pos, neg_ℤ}
 use Rattle.std.specs.Prelude.{Result, Ok, Err}
 use Rattle.std.specs.List.{All, concat}
 use Rattle.std.proofs.lemmas.List.Elements.{All-from_recursion}
@@ -11,12 +11,12 @@ use Rattle.mdp_math.proofs.Order.{0ℚ}
 use Rattle.mdp_num.specs.Numeral.{limit}
 use Rattle.mdp_spec.specs.Mdp.{Entry, Choice, Mdp, choices_at, row_at}
 use Rattle.mdp_spec.specs.Row.{IsRow, IsMdp}
-use Rattle.mdp_num.specs.Meaning.{IsWithinLimit}
 use Rattle.mdp_rows.specs.Name.{IsName, IsRewardName}
-use Rattle.mdp_rows.specs.Limits.{in_order_of_sight, IsChoiceWithin, IsStateWithin, IsModel}
-use Rattle.mdp_rows.proofs.SoundRewards.{within_by}
-use Rattle.mdp_rows.specs.Draft.{Draft, new_draft, ◌>>=◌, closed_row, after_state, after_label, after_choice, after_entry, after_finish}
+use Rattle.mdp_rows.specs.Limits.{in_order_of_sight, HasSmallTerms, IsChoiceWithin, IsStateWithin, IsModel}
+use Rattle.mdp_rows.proofs.SoundRewards.{small_by}
+use Rattle.mdp_rows.specs.Draft.{Draft, new_draft, ◌>>=◌, closed_row, kept_sum, after_state, after_label, after_choice, after_entry, after_finish}
 use Rattle.mdp_rows.specs.GivenRow.{in_order}
+use Rattle.mdp_rows.specs.Negative.{has_negative}
 use Rattle.mdp_rows.specs.Replay.{replayed}
 use Rattle.mdp_rows.specs.declared.error.RowsError.{RowsError}
 use Rattle.mdp_rows.specs.declared.error.RowsError.TheVariants.{RowSum, RowWide, Twice, NoChoice, TooMany, Target, Large, Count}
@@ -48,6 +48,9 @@ two_thirds = ratio (pos 2) 3
 
 abbrev half : ℚ
 half = ratio (pos 1) 2
+
+abbrev minus_half : ℚ
+minus_half = ratio (neg_ℤ (pos 1)) 2
 
 -- one reward model, `cost`; labels `init` and `goal`
 abbrev cost : List ℕ
@@ -98,6 +101,38 @@ two-replayed : replayed two ≡ Ok two
 unfolding gcd gcd_with_fuel ratio of_int ◌+ℚ◌ le_ℚ narrow narrow_ℚ written_add
 two-replayed = refl
 
+-- a cost of -1/2 behind one of 1/2 is 0, and behind none it is below 0
+abbrev paid : ℚ → Result Mdp RowsError
+paid own = draft 1 Exact >>= state own >>= choice minus_half >>= entry 0 one >>= after_finish
+
+abbrev earns : ℚ → Mdp
+earns reward = record { names = cost ∷ []; labels = []; states = record { labels = []; choices = record { row = record { target = 0; prob = one } ∷ []; rewards = reward ∷ [] } ∷ [] } ∷ [] }
+
+half-cancels : paid half ≡ Ok (earns 0ℚ)
+unfolding gcd gcd_with_fuel ratio of_int ◌+ℚ◌ le_ℚ narrow narrow_ℚ written_add
+half-cancels = refl
+
+half-below_0 : paid 0ℚ ≡ Ok (earns minus_half)
+unfolding gcd gcd_with_fuel ratio of_int ◌+ℚ◌ le_ℚ narrow narrow_ℚ written_add
+half-below_0 = refl
+
+half-replayed : replayed (earns minus_half) ≡ Ok (earns minus_half)
+unfolding gcd gcd_with_fuel ratio of_int ◌+ℚ◌ le_ℚ narrow narrow_ℚ written_add
+half-replayed = refl
+
+below-0 : has_negative (earns minus_half) 0 ≡ true
+unfolding gcd gcd_with_fuel ratio of_int lt_ℚ
+below-0 = refl
+
+none-below_0 : has_negative two 0 ≡ false
+unfolding gcd gcd_with_fuel ratio of_int lt_ℚ
+none-below_0 = refl
+
+-- 0 isn't below 0
+zero-not_below : has_negative (earns 0ℚ) 0 ≡ false
+unfolding of_int lt_ℚ
+zero-not_below = refl
+
 -- it is a model: its rows are distributions over its two states
 mixed_row : IsRow 2 mixed
 unfolding gcd gcd_with_fuel ratio of_int ◌+ℚ◌ lt_ℚ
@@ -130,8 +165,8 @@ two-states =
         few_labels = omega arith;
         choices =
             All-from_recursion (IsChoiceWithin 1) first_choices (
-              record { den = leb-true 3 limit refl; rewards = refl; terms = All-from_recursion IsWithinLimit (ratio (pos 3) 2 ∷ []) (within_by (ratio (pos 3) 2) (record { le = tt }) refl, tt) },
-              (record { den = leb-true 1 limit refl; rewards = refl; terms = All-from_recursion IsWithinLimit (half ∷ []) (within_by half (record { le = tt }) refl, tt) }, tt),
+              record { den = leb-true 3 limit refl; rewards = refl; terms = All-from_recursion HasSmallTerms (ratio (pos 3) 2 ∷ []) (small_by (ratio (pos 3) 2) refl, tt) },
+              (record { den = leb-true 1 limit refl; rewards = refl; terms = All-from_recursion HasSmallTerms (half ∷ []) (small_by half refl, tt) }, tt),
             );
       },
       (
@@ -140,7 +175,7 @@ two-states =
           few_labels = omega arith;
           choices =
               All-from_recursion (IsChoiceWithin 1) last_choices
-              (record { den = leb-true 1 limit refl; rewards = refl; terms = All-from_recursion IsWithinLimit (of_int (pos 2) ∷ []) (within_by (of_int (pos 2)) (record { le = tt }) refl, tt) }, tt);
+              (record { den = leb-true 1 limit refl; rewards = refl; terms = All-from_recursion HasSmallTerms (of_int (pos 2) ∷ []) (small_by (of_int (pos 2)) refl, tt) }, tt);
         },
         tt,
       ),
@@ -245,6 +280,15 @@ large-sum = refl
 wide-sum : (draft 1 Exact >>= state (ratio (pos 1) limit) >>= choice (ratio (pos 1) 999999999999999999999999999999999999)) ≡ Err Large
 unfolding gcd gcd_with_fuel ratio of_int ◌+ℚ◌ narrow narrow_ℚ written_add
 wide-sum = refl
+
+-- and so do -10^36 and -1 in magnitude, while -10^36 and 0 stay
+large-below : (draft 1 Exact >>= state (of_int (neg_ℤ (pos limit))) >>= choice (of_int (neg_ℤ (pos 1)))) ≡ Err Large
+unfolding gcd gcd_with_fuel ratio of_int ◌+ℚ◌ narrow narrow_ℚ written_add
+large-below = refl
+
+least_kept : kept_sum (written_add (of_int (neg_ℤ (pos limit))) 0ℚ) ≡ Ok (of_int (neg_ℤ (pos limit)))
+unfolding gcd gcd_with_fuel ratio of_int ◌+ℚ◌ narrow narrow_ℚ written_add
+least_kept = refl
 
 no-choice : (draft 2 Exact >>= state 0ℚ >>= label init >>= state 0ℚ) ≡ Err (NoChoice 0)
 no-choice = refl

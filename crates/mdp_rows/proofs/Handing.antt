@@ -1,31 +1,17 @@
 -- A model handed over step by step: what is still to come makes of the draft now what all makes of the draft before.
-use Rattle.std.proofs.Common.{◌≡◌, ℕ, zero, suc, ◌+◌, ◌<◌, IsTrue, List, [], ◌∷◌, length, drop, get_or, Option, Some, None, refl, sym, ap, subst, ◌∙◌, arith}
+use Rattle.std.proofs.Common.{◌≡◌, ℕ, zero, suc, ◌+◌, ◌<◌, IsTrue, List, [], ◌∷◌, length, drop, get_or, refl, sym, ap, subst, ◌∙◌, arith}
 use Rattle.std.specs.Prelude.{Result, Ok}
 use Rattle.std.specs.List.{AllByRecursion}
 use Rattle.mdp_math.specs.Rational.{ℚ}
 use Rattle.mdp_num.specs.Meaning.{IsWithinLimit}
 use Rattle.mdp_spec.specs.Mdp.{Entry, Choice, State, Mdp, states_of, state_at, no_state}
 use Rattle.mdp_spec.specs.Row.{entries}
-use Rattle.mdp_rows.specs.Head.{IsSameHead}
 use Rattle.mdp_rows.specs.Limits.{known_after, all_below, in_order_of_sight, IsModel}
-use Rattle.mdp_rows.specs.Draft.{Draft, due_after, after_state, after_label, after_choice, after_entry, ◌>>=◌}
+use Rattle.mdp_rows.specs.Draft.{Draft, after_state, after_label, after_choice, after_entry, ◌>>=◌}
 use Rattle.mdp_rows.specs.Replay.{no_rewards, with_labels, with_entries, with_choices, with_states}
 use Rattle.mdp_rows.specs.declared.error.RowsError.{RowsError}
 use Rattle.mdp_rows.proofs.SoundSteps.{ok_same, then_ok, left_of, right_of}
 use Rattle.mdp_rows.proofs.SoundLabels.{below_head, below_tail, known_by-le, known_by-total}
-
--- a call that went well made of the draft what it is to make
-pub made : {A : Type 0} → (old : Draft) (due : Result A RowsError) (refused : Option RowsError) (new : A) → due_after old due refused ≡ Ok new → due ≡ Ok new
-made old due None new e = e
-made old due (Some r) new e = absurd cc
-
--- ---- the head
-
-pub same_head : (d : Draft) → IsSameHead d d
-same_head d = record { announced = refl; rule = refl; names = refl }
-
-pub both_same : (d m n : Draft) → IsSameHead d m → IsSameHead m n → IsSameHead d n
-both_same d m n p q = record { announced = q.announced ∙ p.announced; rule = q.rule ∙ p.rule; names = q.names ∙ p.names }
 
 -- ---- one step, and the others after it
 

@@ -1,3 +1,4 @@
+mod BuilderCalls
 mod CallFacts
 mod ChoiceFacts
 mod ClosingRow
@@ -11,7 +12,6 @@ mod ExamplesCut
 mod GivenRows
 mod Growth
 mod Handing
-mod HeadFacts
 mod InOrder
 mod KeptFacts
 mod LabelCalls
@@ -34,7 +34,6 @@ mod RowsGrow
 mod RowsOfPolicy
 mod RowsWithin
 mod Scaling
-mod SoundBuilder
 mod SoundEntries
 mod SoundLabels
 mod SoundNames
@@ -44,6 +43,7 @@ mod SoundSteps
 mod StageFacts
 mod Tally
 mod Targets
+pub mod NegativeRewards
 pub mod ReplayStates
 pub mod SoundCalls
 pub mod SoundKept

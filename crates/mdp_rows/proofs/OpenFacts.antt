@@ -1,23 +1,14 @@
 -- What stays open after a call.
 use Rattle.std.proofs.Common.{◌≡◌, ℕ, ◌+◌, ◌^◌, ◌==◌, Bool, true, false, ◌||◌, IsTrue, List, [], ◌∷◌, ◌++◌, length, Option, Some, None, refl, sym, subst, ◌∙◌, leb, ltb, if◌then◌else◌}
-use Rattle.std.specs.Prelude.{Result, Ok, Err, OnOk}
+use Rattle.std.specs.Prelude.{Result, Ok, Err}
 use Rattle.std.specs.List.{list_any}
 use Rattle.std.specs.Option.{is_some}
 use Rattle.mdp_math.specs.Rational.{ℚ}
 use Rattle.mdp_spec.specs.Mdp.{Entry}
-use Rattle.mdp_rows.specs.Draft.{Draft, OpenState, OpenChoice, summed_rewards, closed_row, choice_closed, choice_closed_in, with_choice_closed, all_closed, state_opened, choice_opened, choice_opened_in, closed_choices, after_state, after_choice, after_entry, after_label, entry_in, with_choice_entry, label_in, with_name, due_after, IsCall, has_state, has_choice, ◌>>=◌}
+use Rattle.mdp_rows.specs.Draft.{Draft, OpenState, OpenChoice, summed_rewards, closed_row, choice_closed, choice_closed_in, with_choice_closed, all_closed, state_opened, choice_opened, choice_opened_in, closed_choices, after_state, after_choice, after_entry, after_label, entry_in, with_choice_entry, label_in, with_name, has_state, has_choice, ◌>>=◌}
 use Rattle.mdp_rows.proofs.SoundSteps.{done, ok_same}
 use Rattle.mdp_rows.specs.declared.error.RowsError.{RowsError}
 use Rattle.mdp_rows.specs.declared.error.RowsError.TheVariants.{Count, TooMany, Target, Twice}
-
--- where a call's result is Ok, nothing was refused before, and the draft followed
-due_ok : (old new : Draft) (due : Result Draft RowsError) (o : Option RowsError) → due_after old due o ≡ Ok new → (o ≡ None) × (due ≡ Ok new)
-due_ok old new due None e = (refl, e)
-due_ok old new due (Some x) e = absurd cc
-
-pub when_ok : {P : Type 0} → (old new : Draft) (due : Result Draft RowsError) (r : Result (Unit {0}) RowsError) → IsCall old new due r → (old.refused ≡ None → due ≡ Ok new → P) → OnOk r P
-when_ok old new due (Ok u) c f = let h = due_ok old new due old.refused c.ok in f h.0 h.1
-when_ok old new due (Err e) c f = tt
 
 -- a test that was passed
 pub passed_test : (b : Bool) (e : RowsError) (r : Result Draft RowsError) (n : Draft) → (if b then Err e else r) ≡ Ok n → r ≡ Ok n

@@ -10,9 +10,9 @@ use Rattle.mdp_math.specs.Written.{narrow, narrow_ℚ, across, common_den, writt
 use Rattle.mdp_math.proofs.Laws.{num-of_int, den-of_int, zero-+ℚ}
 use Rattle.mdp_math.proofs.Written.{narrow-kept, narrow_ℚ-kept}
 use Rattle.mdp_math.proofs.Order.{0ℚ}
-use Rattle.mdp_num.specs.Meaning.{IsWithinLimit}
 use Rattle.mdp_num.specs.Numeral.{limit}
-use Rattle.mdp_rows.specs.Draft.{is_within_limit, kept_sum, summed_rewards, ◌>>=◌}
+use Rattle.mdp_rows.specs.Limits.{HasSmallTerms}
+use Rattle.mdp_rows.specs.Draft.{has_small_terms, kept_sum, summed_rewards, ◌>>=◌}
 use Rattle.mdp_rows.specs.Replay.{no_rewards}
 use Rattle.mdp_rows.specs.declared.error.RowsError.{RowsError}
 use Rattle.mdp_rows.specs.declared.error.RowsError.TheVariants.{Large}
@@ -48,15 +48,15 @@ written_add-zero r n d =
     let f : narrow_ℚ (0ℚ +ℚ r) ≡ Some r = ap narrow_ℚ (zero-+ℚ r) ∙ narrow_ℚ-kept r n d in
     rw (a, b, c, e) f
 
-within_is : (r : ℚ) → IsWithinLimit r → is_within_limit r ≡ true
-within_is r w = and_from (leb (unsigned_abs r.num) limit) (leb r.den limit) (le-leb (unsigned_abs r.num) limit w.num) (le-leb r.den limit w.den)
+small_is : (r : ℚ) → HasSmallTerms r → has_small_terms r ≡ true
+small_is r w = and_from (leb (unsigned_abs r.num) limit) (leb r.den limit) (le-leb (unsigned_abs r.num) limit w.num) (le-leb r.den limit w.den)
 
-kept_is : (r : ℚ) → IsWithinLimit r → kept_sum (written_add 0ℚ r) ≡ Ok r
+kept_is : (r : ℚ) → HasSmallTerms r → kept_sum (written_add 0ℚ r) ≡ Ok r
 kept_is r w =
     ap kept_sum (written_add-zero r (let h = w.num in omega (arith, h)) (let h = w.den in omega (arith, h)))
-    ∙ ap (λ (b : Bool). if b then Ok r else Err Large) (within_is r w)
+    ∙ ap (λ (b : Bool). if b then Ok r else Err Large) (small_is r w)
 
-pub summed-zeros : (names : List (List ℕ)) (rewards : List ℚ) → length rewards ≡ length names → AllByRecursion IsWithinLimit rewards → summed_rewards (no_rewards names) rewards ≡ Ok rewards
+pub summed-zeros : (names : List (List ℕ)) (rewards : List ℚ) → length rewards ≡ length names → AllByRecursion HasSmallTerms rewards → summed_rewards (no_rewards names) rewards ≡ Ok rewards
 summed-zeros [] [] e all = refl
 summed-zeros [] (r ∷ rewards) e all = absurd (omega arith)
 summed-zeros (name ∷ names) [] e all = absurd (omega arith)

@@ -8,11 +8,10 @@ use Rattle.std.proofs.lemmas.List.Elements.{recursion_from_All}
 use Rattle.std.proofs.lemmas.List.Sums.{sum_by-cons, sum_by_push}
 use Rattle.std.proofs.Math.Seq.{take-length}
 use Rattle.mdp_math.specs.Rational.{ℚ}
-use Rattle.mdp_num.specs.Meaning.{IsWithinLimit}
 use Rattle.mdp_spec.specs.Mdp.{Entry, Choice, State, Mdp, no_state, no_choice, states_of}
 use Rattle.mdp_spec.specs.Row.{IsRow}
 use Rattle.mdp_rows.specs.Name.{are_different}
-use Rattle.mdp_rows.specs.Limits.{known_after, all_below, in_order_of_sight, IsChoiceWithin, IsStateWithin, IsModel}
+use Rattle.mdp_rows.specs.Limits.{known_after, all_below, in_order_of_sight, HasSmallTerms, IsChoiceWithin, IsStateWithin, IsModel}
 use Rattle.mdp_rows.specs.Draft.{Draft, choice_closed, state_closed, all_closed, state_opened, after_state, summed_rewards, choice_opened, after_choice, finished, after_finish, ◌>>=◌}
 use Rattle.mdp_rows.specs.Sound.{IsClosedState, choice_count, entry_count}
 use Rattle.mdp_rows.specs.Replay.{no_rewards, with_labels, with_entries, with_choices, with_states, IsReplayed}
@@ -49,7 +48,7 @@ module _ (announced : ℕ) (names labels : List (List ℕ)) (closed : List State
   open_one done c entries few ok =
       ap (λ (b : Bool). if b then Err TooMany else (summed_rewards (no_rewards names) c.rewards >>= λ sums. Ok (opened done sums [] entries))) (le-ltb (2 ^ 22) (choice_count closed + length done + 1) few)
       ∙ ap (λ (r : Result (List ℚ) RowsError). r >>= λ sums. Ok (opened done sums [] entries))
-      (summed-zeros names c.rewards ok.within.rewards (recursion_from_All IsWithinLimit c.rewards ok.within.terms))
+      (summed-zeros names c.rewards ok.within.rewards (recursion_from_All HasSmallTerms c.rewards ok.within.terms))
 
   fill_one : (done : List Choice) (c : Choice) (entries : ℕ) → entries + length c.row ≤ 2 ^ 24 → IsChoiceOf announced (length names) c
       → with_entries c.row (opened done c.rewards [] entries) ≡ Ok (opened done c.rewards c.row (entries + length c.row))

@@ -1,19 +1,20 @@
 -- What each call makes of a sound draft is sound.
 use Rattle.std.proofs.Common.{◌≡◌, ℕ, ◌+◌, ◌≤◌, ◌<◌, ◌^◌, Bool, true, false, ◌||◌, IsTrue, leb, ltb, eqb, eqb→eq, T, List, [], ◌∷◌, ◌++◌, length, sum_by, Option, Some, None, refl, sym, ap, subst, arith, if◌then◌else◌, length-append, append-nil}
-use Rattle.std.specs.Prelude.{Result, Ok, Err, pos, slice_index_or}
+use Rattle.std.specs.Prelude.{Result, Ok, Err, slice_index_or}
 use Rattle.std.specs.List.{All, list_any, position_or_len}
 use Rattle.std.specs.Str.{bytes_eq}
 use Rattle.std.proofs.lemmas.Bool.{or_parts}
 use Rattle.std.proofs.lemmas.List.Elements.{All-nil, All-push, All-weaker}
 use Rattle.std.proofs.lemmas.List.Sums.{sum_by_push}
 use borrow.Author.Tests.{leb-false, ltb-false, eqb-false}
-use Rattle.mdp_math.specs.Rational.{ℚ, of_int, ◌≤ℚ◌}
+use Rattle.mdp_math.specs.Rational.{ℚ, ◌≤ℚ◌}
 use Rattle.mdp_math.proofs.Order.{0ℚ}
 use Rattle.mdp_num.specs.Meaning.{IsWithinLimit}
 use Rattle.mdp_spec.specs.Mdp.{Entry, Choice, State, Mdp, no_state, no_choice}
 use Rattle.mdp_spec.specs.Row.{IsRow, IsMdp}
 use Rattle.mdp_rows.specs.Name.{IsName, AreRewardNames, are_different}
 use Rattle.mdp_rows.specs.Limits.{places_ascend, in_order_of_sight, IsChoiceWithin, IsStateWithin, IsModel}
+use Rattle.mdp_rows.specs.Head.{IsSameHead}
 use Rattle.mdp_rows.specs.Draft.{Draft, OpenState, OpenChoice, new_draft, new_state, closed_row, closed_choices, with_choice_closed, choice_closed_in, choice_closed, state_closed_in, state_closed, all_closed, state_opened, after_state, summed_rewards, choice_opened_in, choice_opened, after_choice, has_target, with_entry, with_choice_entry, entry_in, after_entry, with_name, with_place, label_in, after_label, finished, after_finish, ◌>>=◌}
 use Rattle.mdp_rows.specs.Sound.{IsOpenChoice, IsOpenState, IsClosedState, IsSound, choice_count, entry_count, opened_choices, opened_entries}
 use Rattle.mdp_rows.specs.declared.error.RowsError.{RowsError}
@@ -137,7 +138,6 @@ with_closed o c row = record o { choices = o.choices ++ record { row = row; rewa
 closed_open : (announced names : ℕ) (o : OpenState) (c : OpenChoice) (row : List Entry) → IsOpenState announced names (record o { choice = Some c }) → IsClosedRow announced (length c.row) row → IsOpenState announced names (with_closed o c row)
 closed_open announced names o c row ok closed = record {
   rewards = ok.rewards;
-  nonnegative = ok.nonnegative;
   ascending = ok.ascending;
   few_labels = ok.few_labels;
   few_calls = ok.few_calls;
@@ -230,17 +230,15 @@ all_closed-sound d n s e =
 pub all_closed-none : (d n : Draft) → all_closed d ≡ Ok n → n.state ≡ None
 all_closed-none d n e = let f = then_ok (choice_closed d) state_closed n e in state_closed-none f.0 n f.2
 
--- what a call is given: one reward for each name, each at least 0
-pub record AreRewards (names : List (List ℕ)) (rewards : List ℚ) : Type 0 where
-  pub length : length rewards ≡ length names
-  pub nonnegative : All (λ x. of_int (pos 0) ≤ℚ x) rewards
+-- what a call is given: one reward for each name
+abbrev pub AreRewards : List (List ℕ) → List ℚ → Type 0
+AreRewards names rewards = length rewards ≡ length names
 
 -- ---- a state
 
-opened_state : (announced names : ℕ) (rewards : List ℚ) → length rewards ≡ names → All (λ x. 0ℚ ≤ℚ x) rewards → IsOpenState announced names (new_state rewards)
-opened_state announced names rewards l h = record {
+opened_state : (announced names : ℕ) (rewards : List ℚ) → length rewards ≡ names → IsOpenState announced names (new_state rewards)
+opened_state announced names rewards l = record {
   rewards = l;
-  nonnegative = h;
   ascending = refl;
   few_labels = omega arith;
   few_calls = omega arith;
@@ -271,7 +269,7 @@ open_state_in d n rewards None e s r h =
       few_labels = s.few_labels;
       sight = sight_changed 0 (length d.labels) (length d.labels) d.closed [] (as_state o ∷ []) s.sight total;
       closed = s.closed;
-      state = opened_state d.announced (length d.names) rewards r.length r.nonnegative;
+      state = opened_state d.announced (length d.names) rewards r;
       few_choices = let a = choices_counted d.closed o in omega (arith, a, choices);
       counted = let a = entries_counted d.closed o in omega (arith, a, entries);
       few_entries = s.few_entries;
@@ -283,7 +281,7 @@ state_opened-sound d n rewards e s r h = open_state_in d n rewards d.state e s r
 pub after_state-sound : (d n : Draft) (rewards : List ℚ) → IsSound d → AreRewards d.names rewards → after_state d rewards ≡ Ok n → IsSound n
 after_state-sound d n rewards s r e =
     let f = then_ok (all_closed d) (λ closed. state_opened closed rewards) n e in
-    state_opened-sound f.0 n rewards (all_closed-none d f.0 f.1) (all_closed-sound d f.0 s f.1) (subst (λ (ns : List (List ℕ)). AreRewards ns rewards) (IsKept.names (all_closed-kept d f.0 f.1)) r) f.2
+    state_opened-sound f.0 n rewards (all_closed-none d f.0 f.1) (all_closed-sound d f.0 s f.1) (subst (λ (ns : List (List ℕ)). AreRewards ns rewards) (sym (IsSameHead.names (IsKept.head (all_closed-kept d f.0 f.1)))) r) f.2
 
 -- ---- a choice
 
@@ -294,14 +292,13 @@ open_choice_in d n rewards (Some o) s r e =
     let few : closed_choices d + length o.choices + 1 ≤ 2 ^ 22 = ltb-false (2 ^ 22) (closed_choices d + length o.choices + 1) f.0 in
     let g = then_ok (summed_rewards o.rewards rewards) (λ sums. Ok (record d { state = Some (record o { choice = Some (record { rewards = sums; row = [] }) }) })) n f.1 in
     let ok = s.state in
-    let a = summed-sound o.rewards rewards g.0 (length d.names) ok.rewards r.length ok.nonnegative r.nonnegative g.1 in
+    let a = summed-sound o.rewards rewards g.0 (length d.names) ok.rewards r g.1 in
     let m : OpenState = record o { choice = Some (record { rewards = g.0; row = [] }) } in
     let count = are_counted d o s in
     subst IsSound (ok_same (record d { state = Some m }) n g.2)
     (with_open d o m d.labels d.entries s (same_names (record d { state = Some o }) s) (λ k t. t)
     (record {
       rewards = ok.rewards;
-      nonnegative = ok.nonnegative;
       ascending = ok.ascending;
       few_labels = ok.few_labels;
       few_calls = ok.few_calls;
@@ -327,7 +324,7 @@ choice_opened-sound d n rewards s r e = open_choice_in d n rewards d.state s r e
 pub after_choice-sound : (d n : Draft) (rewards : List ℚ) → IsSound d → AreRewards d.names rewards → after_choice d rewards ≡ Ok n → IsSound n
 after_choice-sound d n rewards s r e =
     let f = then_ok (choice_closed d) (λ closed. choice_opened closed rewards) n e in
-    choice_opened-sound f.0 n rewards (choice_closed-sound d f.0 s f.1) (subst (λ (ns : List (List ℕ)). AreRewards ns rewards) (IsKept.names (choice_closed-kept d f.0 f.1)) r) f.2
+    choice_opened-sound f.0 n rewards (choice_closed-sound d f.0 s f.1) (subst (λ (ns : List (List ℕ)). AreRewards ns rewards) (sym (IsSameHead.names (IsKept.head (choice_closed-kept d f.0 f.1)))) r) f.2
 
 -- ---- an entry
 
@@ -352,7 +349,6 @@ entry_choice d n target value o (Some c) s w e =
     (with_open d (record o { choice = Some c }) m d.labels (d.entries + 1) s (same_names (record d { state = Some (record o { choice = Some c }) }) s) (λ k t. t)
     (record {
       rewards = ok.rewards;
-      nonnegative = ok.nonnegative;
       ascending = ok.ascending;
       few_labels = ok.few_labels;
       few_calls = ok.few_calls;
@@ -407,7 +403,6 @@ label_state d n name (Some o) s i e =
     (λ k t. last_with k d.labels name o.labels (list_any (bytes_eq name) d.labels) refl ok.ascending t)
     (record {
       rewards = ok.rewards;
-      nonnegative = ok.nonnegative;
       ascending = ascend-with 0 l o.labels (omega arith) ok.ascending;
       few_labels = let a = length-with_place l o.labels in let b = ok.few_labels in omega (arith, a, b);
       few_calls = omega (arith, few);

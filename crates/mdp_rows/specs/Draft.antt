@@ -1,8 +1,8 @@
 -- A model while it is made, and what each call of a builder makes of it.
 use Rattle.std.specs.Prelude.{false, ◌≡◌, ◌⊎◌, ℕ, ◌+◌, ◌^◌, Bool, not, ◌||◌, ◌&&◌, List, [], ◌∷◌, ◌++◌, length, sum_by, filter, map, unsigned_abs, pos, Option, Some, None, Result, Ok, Err, OnOk, IfErr, ◌==◌, nat_lt, nat_le, if◌then◌else◌}
 use Rattle.std.specs.List.{list_any, position_or_len}
-use Rattle.std.specs.Option.{is_some}
-use Rattle.std.specs.Result.{MatchResult}
+use Rattle.std.specs.Option.{IfSome, is_some}
+use Rattle.std.specs.Result.{MatchResult, result_err}
 use Rattle.std.specs.Str.{bytes_eq}
 use Rattle.mdp_math.specs.Rational.{ℚ, of_int, ratio, le_ℚ, ◌*ℚ◌, inv_ℚ}
 use Rattle.mdp_math.specs.Written.{written_add}
@@ -137,13 +137,13 @@ state_opened d rewards = if length d.closed == d.announced then Err Count else O
 abbrev pub after_state : Draft → List ℚ → Result Draft RowsError
 after_state d rewards = all_closed d >>= λ closed. state_opened closed rewards
 
--- a sum of rewards: no written term past width, and terms of at most 10^36
-abbrev pub is_within_limit : ℚ → Bool
-is_within_limit x = nat_le (unsigned_abs x.num) limit && nat_le x.den limit
+-- a sum of rewards: no written term past width, and lowest terms of magnitude at most 10^36
+abbrev pub has_small_terms : ℚ → Bool
+has_small_terms x = nat_le (unsigned_abs x.num) limit && nat_le x.den limit
 
 abbrev pub kept_sum : Option ℚ → Result ℚ RowsError
 kept_sum None = Err Large
-kept_sum (Some x) = if is_within_limit x then Ok x else Err Large
+kept_sum (Some x) = if has_small_terms x then Ok x else Err Large
 
 -- the rewards of a state and of a choice, added name by name
 abbrev pub summed_rewards : List ℚ → List ℚ → Result (List ℚ) RowsError
@@ -209,7 +209,7 @@ abbrev pub IsChoiceClosed : Option OpenState → Type 0
 IsChoiceClosed None = Unit {0}
 IsChoiceClosed (Some o) = o.choice ≡ None
 
--- what the calls need, of a builder that hasn't refused
+-- nothing was refused
 abbrev pub IsUnrefused : Draft → Type 0
 IsUnrefused d = d.refused ≡ None
 
@@ -229,16 +229,17 @@ has_open_target d target = elim d.state [ None ↦ false | Some o ↦ elim o.cho
 
 -- ---- what a call answers
 
--- as the draft says, or what was refused before; want of memory may come instead; a refusal stays
-abbrev pub due_after : {A : Type 0} → Draft → Result A RowsError → Option RowsError → Result A RowsError
-due_after d due None = due
-due_after d due (Some e) = Err e
-
--- what a builder does: its draft follows on Ok; a refusal is the draft's or want of memory
+-- what a step does: its draft follows on Ok; a refusal is the one that is due, or want of memory
 abbrev pub Follows : {A : Type 0} → Result A RowsError → Result (Unit {0}) RowsError → A → Type 0
 Follows due result new = MatchResult result (λ _. due ≡ Ok new) (λ e. (e ≡ Memory) ⊎ (due ≡ Err e))
 
+-- what a call of a builder does.
+--     again   a builder that has refused answers the same refusal, and its draft is as before
+--     ok      the draft is the one that is due
+--     err     the first refusal is the one that is due, or want of memory
+--     kept    what the call refuses is kept; after Ok nothing was refused
 pub record IsCall (old new : Draft) (due : Result Draft RowsError) (result : Result (Unit {0}) RowsError) : Type 0 where
-  pub ok : OnOk result (due_after old due old.refused ≡ Ok new)
-  pub err : IfErr result (λ e. (e ≡ Memory) ⊎ (due_after old due old.refused ≡ Err e))
-  pub stays : IfErr result (λ e. new.refused ≡ Some e)
+  pub again : IfSome old.refused (λ e. (result ≡ Err e) × (new ≡ old))
+  pub ok : OnOk result (due ≡ Ok new)
+  pub err : IfErr result (λ e. IsUnrefused old → (e ≡ Memory) ⊎ (due ≡ Err e))
+  pub kept : new.refused ≡ result_err result

@@ -14,6 +14,7 @@ pub mod FlatDraft
 pub mod DraftCode
 pub mod Head
 pub mod Name
+pub mod Negative
 pub mod Limits
 pub mod Replay
 pub mod Sound

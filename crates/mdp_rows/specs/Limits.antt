@@ -1,7 +1,7 @@
 -- What each model keeps beside what each model is: its names, the order of its labels, and the limits of its numbers.
-use Rattle.std.specs.Prelude.{◌≡◌, ℕ, ◌+◌, ◌≤◌, ◌^◌, Bool, true, ◌&&◌, ◌==◌, IsTrue, nat_lt, List, [], ◌∷◌, length, sum_by, if◌then◌else◌}
+use Rattle.std.specs.Prelude.{◌≡◌, ℕ, ◌+◌, ◌≤◌, ◌^◌, Bool, true, ◌&&◌, ◌==◌, IsTrue, nat_lt, List, [], ◌∷◌, length, sum_by, unsigned_abs, if◌then◌else◌}
 use Rattle.std.specs.List.{All}
-use Rattle.mdp_num.specs.Meaning.{IsWithinLimit}
+use Rattle.mdp_math.specs.Rational.{ℚ}
 use Rattle.mdp_num.specs.Numeral.{limit}
 use Rattle.mdp_spec.specs.Mdp.{Choice, State, Mdp}
 use Rattle.mdp_spec.specs.Row.{IsMdp}
@@ -31,18 +31,23 @@ abbrev pub in_order_of_sight : ℕ → List State → ℕ → Bool
 in_order_of_sight n [] total = n == total
 in_order_of_sight n (x ∷ states) total = all_below (known_after n x.labels) x.labels && in_order_of_sight (known_after n x.labels) states total
 
+-- the lowest terms of a reward, of either sign, have magnitude at most 10^36
+pub record HasSmallTerms (x : ℚ) : Type 0 where
+  pub num : unsigned_abs x.num ≤ limit
+  pub den : x.den ≤ limit
+
 -- a choice under so many reward names
 pub record IsChoiceWithin (names : ℕ) (c : Choice) : Type 0 where
   pub den : row_den c.row ≤ limit
   pub rewards : length c.rewards ≡ names
-  pub terms : All IsWithinLimit c.rewards
+  pub terms : All HasSmallTerms c.rewards
 
 pub record IsStateWithin (names : ℕ) (x : State) : Type 0 where
   pub ascending : IsTrue (places_ascend 0 x.labels)
   pub few_labels : length x.labels ≤ 64
   pub choices : All (IsChoiceWithin names) x.choices
 
--- rewards are at least 0, with terms of at most 10^36, and so is the common denominator of each row
+-- rewards have lowest terms of magnitude at most 10^36, and the common denominator of each row is at most 10^36
 pub record IsModel (m : Mdp) : Type 0 where
   pub mdp : IsMdp m
   pub names : AreRewardNames m.names

@@ -1,20 +1,19 @@
 -- What each draft keeps, so that the model it ends as is an `IsModel`.
-use Rattle.std.specs.Prelude.{◌≡◌, ℕ, ◌+◌, ◌<◌, ◌≤◌, ◌^◌, IsTrue, List, [], ◌∷◌, ◌++◌, length, sum_by, Option, Some, None, Result, Ok, pos}
+use Rattle.std.specs.Prelude.{◌≡◌, ℕ, ◌+◌, ◌<◌, ◌≤◌, ◌^◌, IsTrue, List, [], ◌∷◌, ◌++◌, length, sum_by, Option, Some, None, Result, Ok}
 use Rattle.std.specs.List.{All}
 use Rattle.std.specs.Option.{IfSome}
-use Rattle.mdp_math.specs.Rational.{of_int, ◌≤ℚ◌}
 use Rattle.mdp_num.specs.Meaning.{IsWithinLimit}
 use Rattle.mdp_spec.specs.Mdp.{State, Mdp}
 use Rattle.mdp_spec.specs.Row.{ascends_from, IsRow}
 use Rattle.mdp_rows.specs.Name.{IsName, AreRewardNames, are_different}
-use Rattle.mdp_rows.specs.Limits.{places_ascend, in_order_of_sight, IsChoiceWithin, IsStateWithin, IsModel}
+use Rattle.mdp_rows.specs.Limits.{places_ascend, in_order_of_sight, HasSmallTerms, IsChoiceWithin, IsStateWithin, IsModel}
 use Rattle.mdp_rows.specs.Draft.{Draft, OpenState, OpenChoice}
 use Rattle.mdp_rows.specs.declared.error.RowsError.{RowsError}
 
 -- the open choice: its rewards, and its row with all values given
 pub record IsOpenChoice (announced names : ℕ) (c : OpenChoice) : Type 0 where
   pub rewards : length c.rewards ≡ names
-  pub terms : All IsWithinLimit c.rewards
+  pub terms : All HasSmallTerms c.rewards
   pub ascending : IsTrue (ascends_from 0 c.row)
   pub in_range : All (λ x. x.target < announced) c.row
   pub values : All (λ x. IsWithinLimit x.prob) c.row
@@ -22,7 +21,6 @@ pub record IsOpenChoice (announced names : ℕ) (c : OpenChoice) : Type 0 where
 -- the open state, which may have no choice as yet
 pub record IsOpenState (announced names : ℕ) (o : OpenState) : Type 0 where
   pub rewards : length o.rewards ≡ names
-  pub nonnegative : All (λ x. of_int (pos 0) ≤ℚ x) o.rewards
   pub ascending : IsTrue (places_ascend 0 o.labels)
   pub few_labels : length o.labels ≤ o.label_calls
   pub few_calls : o.label_calls ≤ 64

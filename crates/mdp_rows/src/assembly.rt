@@ -1,17 +1,13 @@
 ghost use Rattle.std.specs.Prelude.{◌≡◌, ◌⊎◌, ◌<◌, ◌≤◌, ◌^◌, None, Some, IsTrue, IsSome, IfOk, IfErr, OnOk, MatchResult};
 ghost use Rattle.std.specs.Prelude.{length, map};
-ghost use Rattle.std.specs.List.{All};
-ghost use Rattle.mdp_math.specs.Rational.{of_int, ◌≤ℚ◌};
-ghost use Rattle.std.specs.Prelude.{pos};
-ghost use Rattle.mdp_rows.specs.Draft.{new_draft, choice_closed, state_closed, all_closed, state_opened, choice_opened, after_state, after_choice, after_entry, after_finish, finished, due_after, Follows, IsCall, IsUnrefused, has_state, has_choice, has_open_target, states_opened};
-ghost use Rattle.mdp_rows.specs.Head.{IsSameHead};
+ghost use Rattle.std.specs.Option.{IfSome};
+ghost use Rattle.mdp_rows.specs.Draft.{new_draft, choice_closed, state_closed, all_closed, state_opened, choice_opened, after_state, after_choice, after_entry, after_finish, finished, Follows, IsCall, IsUnrefused, has_state, has_choice, has_open_target, states_opened};
 ghost use Rattle.mdp_rows.specs.Sound.{FinishesModel};
 ghost use Rattle.mdp_rows.specs.Name.{AreRewardNames};
 ghost use Rattle.mdp_num.specs.Meaning.{IsWithinLimit};
 ghost use Rattle.std.specs.Prelude.{◌==◌};
 ghost use Rattle.std.specs.List.{list_any, position, position_or_len};
 ghost use Rattle.std.specs.Prelude.{OnErr, nat_le};
-ghost use Rattle.mdp_rows.specs.Name.{IsName};
 ghost use Rattle.mdp_rows.specs.Draft.{after_label, with_place};
 ghost use Rattle.mdp_rows.specs.Draft.{IsChoiceClosed};
 
@@ -400,13 +396,10 @@ impl Assembly {
         target < self.announced && self.targets.at(target)
     }
 
-    /// Opens the next state, with its own reward for each name, at least 0, and closes the open row and the open state before.
+    /// Opens the next state, with its own reward for each name, of either sign, and closes the open row and the open state before.
     pub fn state(&mut self, rewards: &[Frac]) -> Result<(), RowsError>
-        requires one_each { IsUnrefused self.old → length rewards.now ≡ length self.old.names }
-        requires at_least_0 { All (λ x. of_int (pos 0) ≤ℚ x) rewards.now }
-        ensures call { IsCall self.old self.new (after_state self.old rewards.now) result }
-        ensures same { OnOk result (IsSameHead self.old self.new) }
-        ensures state_open { OnOk result (IsTrue (has_state self.new)) }
+        requires { IsUnrefused self.old → length rewards.now ≡ length self.old.names }
+        ensures { IsCall self.old self.new (after_state self.old rewards.now) result }
     {
         if let Some(refusal) = self.refused {
             return Err(refusal);
@@ -417,11 +410,7 @@ impl Assembly {
 
     /// Gives the open state a label: 1 to 255 bytes without `"` and LF. A label that the state has already is taken once.
     pub fn label(&mut self, name: &[u8]) -> Result<(), RowsError>
-        requires open { IsUnrefused self.old → IsTrue (has_state self.old) }
-        requires name { IsName name.now }
-        ensures call { IsCall self.old self.new (after_label self.old name.now) result }
-        ensures same { OnOk result (IsSameHead self.old self.new) }
-        ensures state_open { OnOk result (IsTrue (has_state self.new)) }
+        ensures { IsCall self.old self.new (after_label self.old name.now) result }
     {
         if let Some(refusal) = self.refused {
             return Err(refusal);
@@ -430,15 +419,10 @@ impl Assembly {
         self.keep_refusal(outcome)
     }
 
-    /// Opens the next choice of the open state, with its own reward for each name, at least 0, and closes the open row before.
+    /// Opens the next choice of the open state, with its own reward for each name, of either sign, and closes the open row before.
     pub fn choice(&mut self, rewards: &[Frac]) -> Result<(), RowsError>
-        requires open { IsUnrefused self.old → IsTrue (has_state self.old) }
-        requires one_each { IsUnrefused self.old → length rewards.now ≡ length self.old.names }
-        requires at_least_0 { All (λ x. of_int (pos 0) ≤ℚ x) rewards.now }
-        ensures call { IsCall self.old self.new (after_choice self.old rewards.now) result }
-        ensures same { OnOk result (IsSameHead self.old self.new) }
-        ensures state_open { OnOk result (IsTrue (has_state self.new)) }
-        ensures choice_open { OnOk result (IsTrue (has_choice self.new)) }
+        requires { IsUnrefused self.old → length rewards.now ≡ length self.old.names }
+        ensures { IsCall self.old self.new (after_choice self.old rewards.now) result }
     {
         if let Some(refusal) = self.refused {
             return Err(refusal);
@@ -449,12 +433,8 @@ impl Assembly {
 
     /// Adds an entry to the open row. An entry of value 0 counts, and goes when the row closes.
     pub fn entry(&mut self, target: u32, value: Frac) -> Result<(), RowsError>
-        requires open { IsUnrefused self.old → IsTrue (has_choice self.old) }
-        requires term { IsWithinLimit value }
-        ensures call { IsCall self.old self.new (after_entry self.old target value) result }
-        ensures same { OnOk result (IsSameHead self.old self.new) }
-        ensures state_open { OnOk result (IsTrue (has_state self.new)) }
-        ensures choice_open { OnOk result (IsTrue (has_choice self.new)) }
+        requires { IsWithinLimit value }
+        ensures { IsCall self.old self.new (after_entry self.old target value) result }
     {
         if let Some(refusal) = self.refused {
             return Err(refusal);
@@ -465,9 +445,7 @@ impl Assembly {
 
     /// Closes the open choice, where there is one, before a call that would.
     pub fn close_choice(&mut self) -> Result<(), RowsError>
-        ensures call { IsCall self.old self.new (choice_closed self.old) result }
-        ensures same { OnOk result (IsSameHead self.old self.new) }
-        ensures closed { OnOk result (IsChoiceClosed self.new.state) }
+        ensures { IsCall self.old self.new (choice_closed self.old) result }
     {
         if let Some(refusal) = self.refused {
             return Err(refusal);
@@ -478,9 +456,7 @@ impl Assembly {
 
     /// Closes the open choice and the open state, where there are such, before a call that would.
     pub fn close_state(&mut self) -> Result<(), RowsError>
-        ensures call { IsCall self.old self.new (all_closed self.old) result }
-        ensures same { OnOk result (IsSameHead self.old self.new) }
-        ensures closed { OnOk result (self.new.state ≡ None) }
+        ensures { IsCall self.old self.new (all_closed self.old) result }
     {
         if let Some(refusal) = self.refused {
             return Err(refusal);
@@ -492,15 +468,15 @@ impl Assembly {
     /// Closes what is open, and gives the model.
     pub fn finish(self) -> Result<crate::model::Model, RowsError>
         requires whole { IsUnrefused self → FinishesModel (after_finish self) }
-        ensures model { IfOk result (λ model. due_after self (after_finish self) self.refused ≡ Ok model) }
-        ensures refusal { IfErr result (λ e. (e ≡ RowsError.Memory) ⊎ (due_after self (after_finish self) self.refused ≡ Err e)) }
+        ensures again { IfSome self.refused (λ e. result ≡ Err e) }
+        ensures model { IfOk result (λ model. after_finish self ≡ Ok model) }
+        ensures refusal { IfErr result (λ e. IsUnrefused self → (e ≡ RowsError.Memory) ⊎ (after_finish self ≡ Err e)) }
     {
         let mut builder = self;
         if let Some(refusal) = builder.refused {
             return Err(refusal);
         }
-        builder.end_row()?;
-        builder.end_state()?;
+        builder.try_close_state()?;
         builder.into_model()
     }
 }

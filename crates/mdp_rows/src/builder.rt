@@ -1,8 +1,7 @@
-ghost use Rattle.std.specs.Prelude.{◌≡◌, ◌⊎◌, ◌≤◌, ◌^◌, None, IsTrue, IfOk, IfErr, OnOk, Ok, Err, length, map, pos};
-ghost use Rattle.std.specs.List.{All};
-ghost use Rattle.mdp_math.specs.Rational.{of_int, ◌≤ℚ◌};
+ghost use Rattle.std.specs.Prelude.{◌≡◌, ◌⊎◌, ◌≤◌, ◌^◌, None, IsTrue, IfOk, IfErr, OnOk, Ok, Err, length, map};
 ghost use Rattle.mdp_num.specs.Meaning.{IsWithinLimit};
-ghost use Rattle.mdp_rows.specs.Draft.{new_draft, choice_closed, all_closed, after_state, after_label, after_choice, after_entry, after_finish, due_after, IsCall, IsUnrefused, IsChoiceClosed, has_state, has_choice, has_open_target, states_opened};
+ghost use Rattle.std.specs.Option.{IfSome};
+ghost use Rattle.mdp_rows.specs.Draft.{new_draft, choice_closed, all_closed, after_state, after_label, after_choice, after_entry, after_finish, IsCall, IsUnrefused, IsChoiceClosed, has_state, has_choice, has_open_target, states_opened};
 ghost use Rattle.mdp_rows.specs.Head.{IsSameHead};
 ghost use Rattle.mdp_rows.specs.Name.{IsName, AreRewardNames};
 
@@ -54,8 +53,9 @@ impl Builder {
         })
     }
 
-    /// Whether a state is open, so that a label or a choice may come.
+    /// Whether a state is open, so that a label or a choice may come. Asked only of a builder that hasn't refused, as each query is.
     pub fn is_state_open(&self) -> bool
+        requires { IsUnrefused self.now }
         ensures { result ≡ has_state self.now }
     {
         self.assembly.is_state_open()
@@ -63,6 +63,7 @@ impl Builder {
 
     /// Whether a choice is open, so that an entry may come.
     pub fn is_choice_open(&self) -> bool
+        requires { IsUnrefused self.now }
         ensures { result ≡ has_choice self.now }
     {
         self.assembly.is_choice_open()
@@ -70,6 +71,7 @@ impl Builder {
 
     /// How many states were opened.
     pub fn opened(&self) -> u32
+        requires { IsUnrefused self.now }
         ensures { result ≡ states_opened self.now }
     {
         self.assembly.opened()
@@ -77,15 +79,15 @@ impl Builder {
 
     /// Whether the open row has an entry to the target, of value 0 or not. `false` where no choice is open.
     pub fn has_target(&self, target: u32) -> bool
+        requires { IsUnrefused self.now }
         ensures { result ≡ has_open_target self.now target }
     {
         self.assembly.has_target(target)
     }
 
-    /// Opens the next state, with its own reward for each name, at least 0, and closes the open row and the open state before.
+    /// Opens the next state, with its own reward for each name, of either sign, and closes the open row and the open state before.
     pub fn state(&mut self, rewards: &[Frac]) -> Result<(), RowsError>
         requires one_each { IsUnrefused self.old → length rewards.now ≡ length self.old.names }
-        requires at_least_0 { All (λ x. of_int (pos 0) ≤ℚ x) rewards.now }
         ensures call { IsCall self.old self.new (after_state self.old rewards.now) result }
         ensures same { OnOk result (IsSameHead self.old self.new) }
         ensures state_open { OnOk result (IsTrue (has_state self.new)) }
@@ -104,11 +106,10 @@ impl Builder {
         self.assembly.label(name)
     }
 
-    /// Opens the next choice of the open state, with its own reward for each name, at least 0, and closes the open row before.
+    /// Opens the next choice of the open state, with its own reward for each name, of either sign, and closes the open row before.
     pub fn choice(&mut self, rewards: &[Frac]) -> Result<(), RowsError>
         requires open { IsUnrefused self.old → IsTrue (has_state self.old) }
         requires one_each { IsUnrefused self.old → length rewards.now ≡ length self.old.names }
-        requires at_least_0 { All (λ x. of_int (pos 0) ≤ℚ x) rewards.now }
         ensures call { IsCall self.old self.new (after_choice self.old rewards.now) result }
         ensures same { OnOk result (IsSameHead self.old self.new) }
         ensures state_open { OnOk result (IsTrue (has_state self.new)) }
@@ -149,8 +150,9 @@ impl Builder {
 
     /// Closes what is open, and gives the model.
     pub fn finish(self) -> Result<Model, RowsError>
-        ensures model { IfOk result (λ model. due_after self (after_finish self) self.refused ≡ Ok model) }
-        ensures refusal { IfErr result (λ e. (e ≡ RowsError.Memory) ⊎ (due_after self (after_finish self) self.refused ≡ Err e)) }
+        ensures again { IfSome self.refused (λ e. result ≡ Err e) }
+        ensures model { IfOk result (λ model. after_finish self ≡ Ok model) }
+        ensures refusal { IfErr result (λ e. IsUnrefused self → (e ≡ RowsError.Memory) ⊎ (after_finish self ≡ Err e)) }
     {
         self.assembly.finish()
     }

@@ -4,6 +4,7 @@ ghost use Rattle.mdp_spec.specs.Mdp.{states_of, state_at, choices_at, row_at, ha
 ghost use Rattle.mdp_spec.specs.Unit.{reward_of};
 ghost use Rattle.mdp_spec.specs.Row.{entries, IsMdp};
 ghost use Rattle.mdp_rows.specs.Limits.{IsModel};
+ghost use Rattle.mdp_rows.specs.Negative.{any_negative, has_negative};
 ghost use Rattle.mdp_spec.specs.Labels.{place_of, marks_of, initial_of};
 
 use crate::choices::Choices;
@@ -121,6 +122,33 @@ impl Model {
         ensures { result ≡ reward_of (slice_index_or (choices_at self.now s) c no_choice) m }
     {
         self.choices.reward(m, self.starts[s as usize] + c)
+    }
+
+    /// Whether a choice of state `s` has a reward below 0 under the name of place `m`.
+    fn is_negative_at(&self, m: u32, s: u32) -> bool
+        requires name { m < length self.now.names }
+        requires state { s < states_of self.now }
+        ensures { result ≡ any_negative m (choices_at self.now s) }
+    {
+        for c in 0..self.choices(s) {
+            if self.reward(m, s, c).sign() < 0 {
+                return true;
+            }
+        }
+        false
+    }
+
+    /// Whether some choice has a reward below 0 under the reward name of place `m`. It looks at each choice once at most.
+    pub fn negative(&self, m: u32) -> bool
+        requires { m < length self.now.names }
+        ensures { result ≡ has_negative self.now m }
+    {
+        for s in 0..self.states() {
+            if self.is_negative_at(m, s) {
+                return true;
+            }
+        }
+        false
     }
 
     /// How many labels there are.

@@ -1,16 +1,16 @@
 ghost use Rattle.std.specs.Prelude.{◌≡◌, ◌⊎◌, length, OnOk, IfErr};
 ghost use Rattle.mdp_math.specs.Written.{written_add};
-ghost use Rattle.mdp_rows.specs.Draft.{is_within_limit, kept_sum, summed_rewards};
+ghost use Rattle.mdp_rows.specs.Draft.{has_small_terms, kept_sum, summed_rewards};
 
 use crate::error::RowsError;
 use mdp_num::Frac;
 
-/// The greatest term of a summed reward, 10^36.
+/// The greatest magnitude of a term of a summed reward, 10^36.
 const TERM_LIMIT: u128 = 1_000_000_000_000_000_000_000_000_000_000_000_000;
 
-/// Whether both terms are at most 10^36.
+/// Whether both lowest terms have magnitude at most 10^36.
 fn has_small_terms(reward: &Frac) -> bool
-    ensures { result ≡ is_within_limit reward.now }
+    ensures { result ≡ has_small_terms reward.now }
 {
     reward.num().unsigned_abs() <= TERM_LIMIT && reward.den().unsigned_abs() <= TERM_LIMIT
 }

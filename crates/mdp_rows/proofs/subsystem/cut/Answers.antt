@@ -1,11 +1,10 @@
 use Rattle.std.proofs.Common.{ℕ, List, sym, ap, ap₂, ◌∙◌}
 use Rattle.mdp_spec.specs.Mdp.{Mdp}
 use Rattle.mdp_spec.specs.Sub.{sub_of}
-use Rattle.mdp_rows.specs.Draft.{Draft, new_draft, after_finish}
+use Rattle.mdp_rows.specs.Draft.{Draft, new_draft}
 use Rattle.mdp_rows.specs.Replay.{with_states}
 use Rattle.mdp_rows.specs.declared.rule.RowRule.TheVariants.{Exact}
 use Rattle.mdp_rows.proofs.CutFacts.{sub_comes_out}
-use Rattle.mdp_rows.proofs.Handing.{made}
 use Rattle.mdp_rows.proofs.subsystem.cut.Goals as goal
 
 pub returns : goal.returns
@@ -16,4 +15,4 @@ returns c =
     (ap (λ (start : Draft). with_states m.names m.labels (Mdp.states (sub_of m c.args.goals.now c.args.kept.now)) start)
     (sym (c.in_ok-builder.ensures ∙ ap₂ (λ (n : ℕ) (names : List (List ℕ)). new_draft n Exact names) c.states.ensures c.in_ok-names.ensures))
     ∙ c.in_ok-give_states.ensures.given)
-    (made d (after_finish d) d.refused c.in-Ok.cut c.in-Ok.ensures.model)
+    c.in-Ok.ensures.model

@@ -4,10 +4,10 @@ use Rattle.std.proofs.lemmas.List.{drop_all}
 use Rattle.mdp_num.specs.Meaning.{IsWithinLimit}
 use Rattle.mdp_spec.specs.Mdp.{Entry, row_at}
 use Rattle.mdp_spec.specs.Row.{entries}
-use Rattle.mdp_rows.specs.Draft.{after_entry}
 use Rattle.mdp_rows.specs.Replay.{with_entries}
 use Rattle.mdp_rows.proofs.CutFacts.{row_within}
-use Rattle.mdp_rows.proofs.Handing.{made, both_same, entry_first, entry_at, prob_at}
+use Rattle.mdp_rows.proofs.Handing.{entry_first, entry_at, prob_at}
+use Rattle.mdp_rows.proofs.SoundKept.{both_same}
 use Rattle.mdp_rows.proofs.Pieces.{length-entries}
 use Rattle.mdp_rows.proofs.subsystem.give_entries.Goals as goal
 
@@ -26,7 +26,7 @@ loop-i-preserved c =
     in
     record {
       given =
-          sym (entry_first x (drop (c.loop-i.i + 1) row) c.loop-i.builder c.entry.new.self (made c.loop-i.builder (after_entry c.loop-i.builder x.target x.prob) c.loop-i.builder.refused c.entry.new.self c.in-Ok.ensures.call.ok))
+          sym (entry_first x (drop (c.loop-i.i + 1) row) c.loop-i.builder c.entry.new.self c.in-Ok.ensures.call.ok)
           ∙ ap (λ (r : List Entry). with_entries r c.loop-i.builder) (sym next)
           ∙ c.loop-i.invariant.given;
       same = both_same c.args.builder.now c.loop-i.builder c.entry.new.self c.loop-i.invariant.same c.in-Ok.ensures.same;

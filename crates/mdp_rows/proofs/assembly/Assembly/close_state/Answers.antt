@@ -1,26 +1,13 @@
-use Rattle.std.proofs.Common.{sym, ◌∙◌}
-use Rattle.mdp_rows.specs.Draft.{IsCall, all_closed}
-use Rattle.mdp_rows.proofs.CallFacts.{refused_is, call_refused, call_kept, all_are_closed}
-use Rattle.mdp_rows.proofs.HeadFacts.{all_same}
-use Rattle.mdp_rows.proofs.OpenFacts.{when_ok}
+use Rattle.mdp_rows.specs.Draft.{all_closed}
+use Rattle.mdp_rows.proofs.CallFacts.{call_again, call_made}
+use Rattle.mdp_rows.proofs.SoundKept.{all_closed-kept}
 use Rattle.mdp_rows.proofs.assembly.Assembly.close_state.Goals as goal
 
-pub returns-in-Some-clause-call : goal.returns-in-Some-clause-call
-returns-in-Some-clause-call c = call_refused _ _ _ (sym (refused_is c.self.inside _ c.self.view_is) ∙ c.in-Some.is)
+pub returns-in-Some : goal.returns-in-Some
+returns-in-Some c = call_again c.self.inside c.args.self.now (all_closed c.args.self.now) c.self.view_is c.in-Some.refusal c.in-Some.is
 
-pub returns-clause-call : goal.returns-clause-call
-returns-clause-call c =
+pub returns : goal.returns
+returns c =
     rw c.keep_refusal.ensures.same
-    (call_kept _ c.try_close_state-outcome.new.self c.keep_refusal.new.self _ c.try_close_state-outcome.result (sym (refused_is c.self.inside _ c.self.view_is) ∙ c.in_default.is) c.try_close_state-outcome.ensures.follows c.keep_refusal.ensures.unchanged c.keep_refusal.ensures.refused)
-
-pub returns-clause-same : goal.returns-clause-same
-returns-clause-same c =
-    let k : IsCall c.args.self.now c.keep_refusal.new.self (all_closed c.args.self.now) c.try_close_state-outcome.result =
-    call_kept _ c.try_close_state-outcome.new.self c.keep_refusal.new.self _ c.try_close_state-outcome.result (sym (refused_is c.self.inside _ c.self.view_is) ∙ c.in_default.is) c.try_close_state-outcome.ensures.follows c.keep_refusal.ensures.unchanged c.keep_refusal.ensures.refused in
-    rw c.keep_refusal.ensures.same (when_ok c.args.self.now c.keep_refusal.new.self (all_closed c.args.self.now) c.try_close_state-outcome.result k (λ u e. all_same c.args.self.now _ e))
-
-pub returns-clause-closed : goal.returns-clause-closed
-returns-clause-closed c =
-    let k : IsCall c.args.self.now c.keep_refusal.new.self (all_closed c.args.self.now) c.try_close_state-outcome.result =
-    call_kept _ c.try_close_state-outcome.new.self c.keep_refusal.new.self _ c.try_close_state-outcome.result (sym (refused_is c.self.inside _ c.self.view_is) ∙ c.in_default.is) c.try_close_state-outcome.ensures.follows c.keep_refusal.ensures.unchanged c.keep_refusal.ensures.refused in
-    rw c.keep_refusal.ensures.same (when_ok c.args.self.now c.keep_refusal.new.self (all_closed c.args.self.now) c.try_close_state-outcome.result k (λ u e. all_are_closed c.args.self.now _ e))
+    (call_made c.self.inside c.args.self.now (all_closed c.args.self.now) c.self.view_is c.try_close_state-outcome.new.self c.keep_refusal.new.self c.try_close_state-outcome.result
+    c.in_default.is c.try_close_state-outcome.ensures.follows c.keep_refusal.ensures.unchanged c.keep_refusal.ensures.refused (λ n e. all_closed-kept c.args.self.now n e))
