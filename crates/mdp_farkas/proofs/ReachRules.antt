@@ -8,9 +8,9 @@ use Rattle.mdp_math.specs.Rational.{ℚ, of_int, lt_ℚ, ◌≤ℚ◌, ◌<ℚ�
 use Rattle.mdp_math.proofs.Order.{≤ℚ_of_eq, ≤ℚ_or_gt, ≤ℚ_antisymm, clash_ℚ}
 use Rattle.mdp_spec.specs.Mdp.{Entry, Mdp, states_of, choices_at, row_at, value_at}
 use Rattle.mdp_spec.specs.Row.{IsMdp, row_sum}
-use Rattle.mdp_spec.specs.Rules.{IsPolicy, AreProbabilities, RanksEnd}
+use Rattle.mdp_spec.specs.Rules.{AreProbabilities, RanksEnd}
 use Rattle.mdp_spec.specs.Bounds.{ReachMax, ReachMin}
-use Rattle.mdp_spec.specs.Tree.{is_marked}
+use Rattle.mdp_spec.specs.Tree.{IsPolicy, is_marked}
 use Rattle.mdp_spec.proofs.Reach.{reach_max_of_rules, reach_min_of_rules}
 use Rattle.mdp_farkas.specs.Verdict.{Check, verdict_of, InWidth, IsYes, IfYes}
 use Rattle.mdp_farkas.specs.Upper.{0ℚ, 1ℚ, is_goal, goal_check}
@@ -134,9 +134,9 @@ module _ (dir : Dir) (m : Mdp) (goals : List Bool) (z : List ℚ) (policy ranks 
 
   -- ---- what holds, in exact numbers
 
-  module _ (h : Each Holds (reach_checks dir m goals z policy ranks)) where
+  module _ (each : length policy ≡ states_of m) (h : Each Holds (reach_checks dir m goals z policy ranks)) where
     choices_of : IsPolicy m policy
-    choices_of s l = ltb-true (slice_index policy s) (length (choices_at m s)) (some_same _ _ (at Holds s h l).0)
+    choices_of = record { one_each = each; in_range = λ s l. ltb-true (slice_index policy s) (length (choices_at m s)) (some_same _ _ (at Holds s h l).0) }
 
     probabilities_of : AreProbabilities m goals z
     probabilities_of = record {
@@ -209,49 +209,49 @@ module _ (m : Mdp) (goals : List Bool) (z : List ℚ) (policy ranks : List ℕ) 
   falls_min : (s c : ℕ) → Any (λ y. slice_index ranks y.target < slice_index ranks s) (row_at m s c) → list_any (λ (y : Entry). leads_down Min z ranks s y.target) (row_at m s c) ≡ true
   falls_min s c a = list_any-from_Any (λ (y : Entry). leads_down Min z ranks s y.target) (row_at m s c) (a.0, a.1, a.2, a.3, lt-ltb _ _ a.4)
 
-  meets_of_holds : (dir : Dir) → Each Holds (reach_checks dir m goals z policy ranks) → MeetsReach dir m goals z policy ranks
-  meets_of_holds Max h = record {
-    choices = choices_of Max m goals z policy ranks h;
-    probabilities = probabilities_of Max m goals z policy ranks h;
-    covers = bounds_of Max m goals z policy ranks h;
-    reached = meets_of Max m goals z policy ranks h;
-    ends = ends_of Max m goals z policy ranks h;
-    falls = λ s l g p. max_falls s (slice_index policy s) (some_same _ _ (falls_of Max m goals z policy ranks h s l g p).0);
+  meets_of_holds : (dir : Dir) → length policy ≡ states_of m → Each Holds (reach_checks dir m goals z policy ranks) → MeetsReach dir m goals z policy ranks
+  meets_of_holds Max each h = record {
+    choices = choices_of Max m goals z policy ranks each h;
+    probabilities = probabilities_of Max m goals z policy ranks each h;
+    covers = bounds_of Max m goals z policy ranks each h;
+    reached = meets_of Max m goals z policy ranks each h;
+    ends = ends_of Max m goals z policy ranks each h;
+    falls = λ s l g p. max_falls s (slice_index policy s) (some_same _ _ (falls_of Max m goals z policy ranks each h s l g p).0);
   }
-  meets_of_holds Min h = record {
-    choices = choices_of Min m goals z policy ranks h;
-    probabilities = probabilities_of Min m goals z policy ranks h;
-    covered = bounds_of Min m goals z policy ranks h;
-    reached = meets_of Min m goals z policy ranks h;
-    ends = ends_of Min m goals z policy ranks h;
-    falls = λ s c l g p i. min_falls s c (some_same _ _ (each_map_at Holds (fall_check Min m z ranks s) (length (choices_at m s)) c (falls_of Min m goals z policy ranks h s l g p) i));
+  meets_of_holds Min each h = record {
+    choices = choices_of Min m goals z policy ranks each h;
+    probabilities = probabilities_of Min m goals z policy ranks each h;
+    covered = bounds_of Min m goals z policy ranks each h;
+    reached = meets_of Min m goals z policy ranks each h;
+    ends = ends_of Min m goals z policy ranks each h;
+    falls = λ s c l g p i. min_falls s c (some_same _ _ (each_map_at Holds (fall_check Min m z ranks s) (length (choices_at m s)) c (falls_of Min m goals z policy ranks each h s l g p) i));
   }
 
   holds_of_meets : (dir : Dir) (s : ℕ) → s < states_of m → MeetsReach dir m goals z policy ranks → Each InWidth (reach_at dir m goals z ranks s (slice_index policy s)) → Each Holds (reach_at dir m goals z ranks s (slice_index policy s))
   holds_of_meets Max s l r w =
-      state_holds Max m goals z policy ranks s l w (r.choices s l) r.probabilities (λ c g i. r.covers s c l g i) (λ g. r.reached s l g) r.ends
+      state_holds Max m goals z policy ranks s l w (r.choices.in_range s l) r.probabilities (λ c g i. r.covers s c l g i) (λ g. r.reached s l g) r.ends
       (λ g p. (ap Some (falls_max s (slice_index policy s) (r.falls s l g p)), tt))
   holds_of_meets Min s l r w =
-      state_holds Min m goals z policy ranks s l w (r.choices s l) r.probabilities (λ c g i. r.covered s c l g i) (λ g. r.reached s l g) r.ends
+      state_holds Min m goals z policy ranks s l w (r.choices.in_range s l) r.probabilities (λ c g i. r.covered s c l g i) (λ g. r.reached s l g) r.ends
       (λ g p. each_map Holds (fall_check Min m z ranks s) (length (choices_at m s)) (λ c i. ap Some (falls_min s c (r.falls s c l g p i))))
 
-  pub reach_rules : (dir : Dir) (v : Verdict) → v ≡ verdict_of (reach_checks dir m goals z policy ranks) → IsYes v ↔ IsReach dir m goals z policy ranks
-  reach_rules dir v e = (
+  pub reach_rules : (dir : Dir) (v : Verdict) → length policy ≡ states_of m → v ≡ verdict_of (reach_checks dir m goals z policy ranks) → IsYes v ↔ IsReach dir m goals z policy ranks
+  reach_rules dir v each e = (
     (λ yes_.
         let h = each_of_yes (reach_checks dir m goals z policy ranks) (sym e ∙ yes_) in
-        record { rules = meets_of_holds dir h; in_width = All-from_recursion InWidth (reach_checks dir m goals z policy ranks) (told_of_each (reach_checks dir m goals z policy ranks) h) }),
+        record { rules = meets_of_holds dir each h; in_width = All-from_recursion InWidth (reach_checks dir m goals z policy ranks) (told_of_each (reach_checks dir m goals z policy ranks) h) }),
     (λ is.
         let w = recursion_from_All InWidth (reach_checks dir m goals z policy ranks) is.in_width in
         e ∙ yes_of_each (reach_checks dir m goals z policy ranks)
         (each_flat Holds (λ s. reach_at dir m goals z ranks s (slice_index policy s)) (states_of m) (λ s l. holds_of_meets dir s l is.rules (at dir m goals z policy ranks InWidth s w l)))),
   )
 
-  pub reach_max : (dir : Dir) (v : Verdict) → IsMdp m → v ≡ verdict_of (reach_checks dir m goals z policy ranks) → dir ≡ Max → IfYes v (ReachMax m goals z policy)
-  reach_max dir v known e is =
+  pub reach_max : (dir : Dir) (v : Verdict) → IsMdp m → length policy ≡ states_of m → v ≡ verdict_of (reach_checks dir m goals z policy ranks) → dir ≡ Max → IfYes v (ReachMax m goals z policy)
+  reach_max dir v known each e is =
       if_yes v (ReachMax m goals z policy)
-      (λ yes_. reach_max_of_rules m goals z policy ranks known (subst (λ (d : Dir). MeetsReach d m goals z policy ranks) is (IsReach.rules ((reach_rules dir v e).0 yes_))))
+      (λ yes_. reach_max_of_rules m goals z policy ranks known (subst (λ (d : Dir). MeetsReach d m goals z policy ranks) is (IsReach.rules ((reach_rules dir v each e).0 yes_))))
 
-  pub reach_min : (dir : Dir) (v : Verdict) → IsMdp m → v ≡ verdict_of (reach_checks dir m goals z policy ranks) → dir ≡ Min → IfYes v (ReachMin m goals z policy)
-  reach_min dir v known e is =
+  pub reach_min : (dir : Dir) (v : Verdict) → IsMdp m → length policy ≡ states_of m → v ≡ verdict_of (reach_checks dir m goals z policy ranks) → dir ≡ Min → IfYes v (ReachMin m goals z policy)
+  reach_min dir v known each e is =
       if_yes v (ReachMin m goals z policy)
-      (λ yes_. reach_min_of_rules m goals z policy ranks known (subst (λ (d : Dir). MeetsReach d m goals z policy ranks) is (IsReach.rules ((reach_rules dir v e).0 yes_))))
+      (λ yes_. reach_min_of_rules m goals z policy ranks known (subst (λ (d : Dir). MeetsReach d m goals z policy ranks) is (IsReach.rules ((reach_rules dir v each e).0 yes_))))

@@ -19,7 +19,7 @@ returns c =
     in
     record {
       verdict = e;
-      rules = reach_rules m goals z policy ranks c.args.dir c.reach_at_states.result e;
-      max = λ is. reach_max m goals z policy ranks c.args.dir c.reach_at_states.result c.known.ensures.mdp e is;
-      min = λ is. reach_min m goals z policy ranks c.args.dir c.reach_at_states.result c.known.ensures.mdp e is;
+      rules = reach_rules m goals z policy ranks c.args.dir c.reach_at_states.result c.requires.choices e;
+      max = λ is. reach_max m goals z policy ranks c.args.dir c.reach_at_states.result c.known.ensures.mdp c.requires.choices e is;
+      min = λ is. reach_min m goals z policy ranks c.args.dir c.reach_at_states.result c.known.ensures.mdp c.requires.choices e is;
     }
