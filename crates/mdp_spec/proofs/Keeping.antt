@@ -3,14 +3,13 @@
 use Rattle.std.proofs.Common.{◌≡◌, ℕ, zero, suc, ◌<◌, ◌≤◌, ⊎_elim, Bool, true, false, cond, eqb, List, [], ◌∷◌, length, get_or, refl, sym, ◌∙◌, ap, subst, arith, pos}
 use Rattle.std.proofs.lemmas.List.{get_or_default}
 use Rattle.std.proofs.lemmas.Bool.{cases_eq, eqb-true, eq-eqb, ne_eqb}
-use Rattle.mdp_math.specs.Rational.{ℚ, of_int, ratio, ◌*ℚ◌, ◌-ℚ◌, inv_ℚ, ◌≤ℚ◌, ◌<ℚ◌}
+use Rattle.mdp_math.specs.Rational.{ℚ, of_int, ratio, ◌*ℚ◌, inv_ℚ, ◌≤ℚ◌, ◌<ℚ◌}
 use Rattle.mdp_math.specs.Sum.{sum_at, EachAt}
-use Rattle.mdp_math.proofs.Ring.{◌⊕◌, ◌⊗◌, ⊖, ring}
-use Rattle.mdp_math.proofs.Laws.{rat_ring, one-*ℚ}
+use Rattle.mdp_math.proofs.Laws.{one-*ℚ}
 use Rattle.mdp_math.proofs.Order.{0ℚ, 1ℚ, <ℚ_irrefl, ratio-nonneg}
 use Rattle.mdp_math.proofs.Whole.{of_nat-pos}
 use Rattle.mdp_math.proofs.Division.{ratio-div, mul-inv_pos}
-use Rattle.mdp_math.proofs.SumsAt.{sum_at-same, sum_at-sub, sum_at-scale_right, sum_at-weighted_le, sum_at-weighted_ge, EachAt_all, EachAt_mono, EachAt_both, EachAt-from_places}
+use Rattle.mdp_math.proofs.SumsAt.{sum_at-same, sum_at-scale_right, sum_at-weighted_le, EachAt_all, EachAt_mono, EachAt_both, EachAt-from_places}
 use Rattle.mdp_spec.specs.Mdp.{Entry, Choice, Mdp, states_of, choices_at, row_at}
 use Rattle.mdp_spec.specs.Row.{IsRow, IsMdp}
 use Rattle.mdp_spec.specs.Unit.{count_at}
@@ -147,30 +146,3 @@ mixed-le m u weights f s y h total each =
     (EachAt_all (choices_at m s) (λ c x. 0ℚ ≤ℚ share u weights c) (λ c x. share-nonneg u weights c h))
     (EachAt_mono (choices_at m s) (λ c x. 0 < weights c → sum_at x.row (λ e t. t.prob *ℚ f c e t) ≤ℚ y) (λ c x. 0ℚ <ℚ share u weights c → sum_at x.row (λ e t. t.prob *ℚ f c e t) ≤ℚ y)
     (λ c x k p. k (share-pos u weights c h p)) each))
-
-pub mixed-ge : (m : Mdp) (u : ℕ) (weights : ℕ → ℕ) (f : ℕ → ℕ → Entry → ℚ) (s : ℕ) (y : ℚ) → 1 ≤ u → count_at (choices_at m s) (λ c x. weights c) ≡ u
-    → EachAt (choices_at m s) (λ c x. 0 < weights c → y ≤ℚ sum_at x.row (λ e t. t.prob *ℚ f c e t)) → y ≤ℚ mixed m u weights f s
-mixed-ge m u weights f s y h total each =
-    subst (λ (w : ℚ). w ≤ℚ mixed m u weights f s) (ap (λ (w : ℚ). w *ℚ y) (shares-total (choices_at m s) u weights h total) ∙ one-*ℚ y)
-    (sum_at-weighted_ge (choices_at m s) (λ c x. share u weights c) (λ c x. sum_at x.row (λ e t. t.prob *ℚ f c e t)) y
-    (EachAt_all (choices_at m s) (λ c x. 0ℚ ≤ℚ share u weights c) (λ c x. share-nonneg u weights c h))
-    (EachAt_mono (choices_at m s) (λ c x. 0 < weights c → y ≤ℚ sum_at x.row (λ e t. t.prob *ℚ f c e t)) (λ c x. 0ℚ <ℚ share u weights c → y ≤ℚ sum_at x.row (λ e t. t.prob *ℚ f c e t))
-    (λ c x k p. k (share-pos u weights c h p)) each))
-
-row-sub : (row : List Entry) (f g : ℕ → Entry → ℚ) → sum_at row (λ e t. t.prob *ℚ (f e t -ℚ g e t)) ≡ sum_at row (λ e t. t.prob *ℚ f e t) -ℚ sum_at row (λ e t. t.prob *ℚ g e t)
-row-sub row f g =
-    sum_at-same row (λ e t. t.prob *ℚ (f e t -ℚ g e t)) (λ e t. t.prob *ℚ f e t -ℚ t.prob *ℚ g e t)
-    (EachAt_all row (λ e t. t.prob *ℚ (f e t -ℚ g e t) ≡ t.prob *ℚ f e t -ℚ t.prob *ℚ g e t)
-    (λ e t. ring rat_ring 3 (λ p x y. p ⊗ (x ⊕ ⊖ y)) (λ p x y. p ⊗ x ⊕ ⊖ (p ⊗ y)) refl t.prob (f e t) (g e t)))
-    ∙ sum_at-sub row (λ e t. t.prob *ℚ f e t) (λ e t. t.prob *ℚ g e t)
-
-pub mixed-sub : (m : Mdp) (u : ℕ) (weights : ℕ → ℕ) (f g : ℕ → ℕ → Entry → ℚ) (s : ℕ) → mixed m u weights (λ c e t. f c e t -ℚ g c e t) s ≡ mixed m u weights f s -ℚ mixed m u weights g s
-mixed-sub m u weights f g s =
-    sum_at-same (choices_at m s) (λ c x. share u weights c *ℚ sum_at x.row (λ e t. t.prob *ℚ (f c e t -ℚ g c e t)))
-    (λ c x. share u weights c *ℚ sum_at x.row (λ e t. t.prob *ℚ f c e t) -ℚ share u weights c *ℚ sum_at x.row (λ e t. t.prob *ℚ g c e t))
-    (EachAt_all (choices_at m s) (λ c x. share u weights c *ℚ sum_at x.row (λ e t. t.prob *ℚ (f c e t -ℚ g c e t))
-    ≡ share u weights c *ℚ sum_at x.row (λ e t. t.prob *ℚ f c e t) -ℚ share u weights c *ℚ sum_at x.row (λ e t. t.prob *ℚ g c e t))
-    (λ c x.
-    ap (λ (w : ℚ). share u weights c *ℚ w) (row-sub x.row (f c) (g c))
-    ∙ ring rat_ring 3 (λ p x y. p ⊗ (x ⊕ ⊖ y)) (λ p x y. p ⊗ x ⊕ ⊖ (p ⊗ y)) refl (share u weights c) (sum_at x.row (λ e t. t.prob *ℚ f c e t)) (sum_at x.row (λ e t. t.prob *ℚ g c e t))))
-    ∙ sum_at-sub (choices_at m s) (λ c x. share u weights c *ℚ sum_at x.row (λ e t. t.prob *ℚ f c e t)) (λ c x. share u weights c *ℚ sum_at x.row (λ e t. t.prob *ℚ g c e t))

@@ -8,5 +8,16 @@ pub mod Close
 pub mod Ranks
 pub mod Reach
 pub mod Subsystem
+pub mod Steps
+pub mod Mean
+pub mod Arrives
+pub mod Misses
+pub mod Values
+pub mod Pays
+pub mod Enters
+pub mod Reward
+pub mod Trapped
+pub mod Unique
 mod Examples
 mod ExamplesBounds
+mod ExamplesRules

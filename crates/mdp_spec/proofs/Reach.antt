@@ -16,7 +16,8 @@ use Rattle.mdp_spec.specs.Hit.{hit}
 use Rattle.mdp_spec.specs.Rules.{AreProbabilities, Covers, MeetsReachMax, MeetsReachMin}
 use Rattle.mdp_spec.specs.Bounds.{Above, ReachMax, ReachMin, part}
 use Rattle.mdp_spec.proofs.Keeping.{HasChoice, Follows, keeps_of_Fits, keeps_unfolded, unfolded_is_strategy}
-use Rattle.mdp_spec.proofs.Above.{row_weigh, hit-le_by}
+use Rattle.mdp_spec.proofs.Above.{hit-le_by}
+use Rattle.mdp_spec.proofs.Rows.{row_weigh}
 use Rattle.mdp_spec.proofs.Close.{RowsShrink, deficit-le, deficit-fades}
 use Rattle.mdp_spec.proofs.Ranks.{shrinks_of_ranks}
 

@@ -9,3 +9,5 @@ pub mod Sub
 pub mod Tree
 pub mod Unit
 pub mod Written
+pub mod RewardRules
+pub mod MeanRules

@@ -42,9 +42,12 @@ state_at m s = slice_index_or m.states s no_state
 abbrev pub choices_at : Mdp → ℕ → List Choice
 choices_at m s = (state_at m s).choices
 
--- the row of choice c at state s
+-- choice c at state s, and its row
+abbrev pub choice_at : Mdp → ℕ → ℕ → Choice
+choice_at m s c = slice_index_or (choices_at m s) c no_choice
+
 abbrev pub row_at : Mdp → ℕ → ℕ → List Entry
-row_at m s c = (slice_index_or (choices_at m s) c no_choice).row
+row_at m s c = (choice_at m s c).row
 
 -- whether state s has the label of place l
 abbrev pub has_label : Mdp → ℕ → ℕ → Bool
