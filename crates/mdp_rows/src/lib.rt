@@ -35,4 +35,3 @@ pub use preds::{Pred, Preds, preds_of};
 pub use row::Row;
 pub use rows_of::RowsOf;
 pub use rule::RowRule;
-pub use subsystem::cut;

@@ -188,19 +188,21 @@ fn give_states(
     Ok(())
 }
 
-/// The subsystem of the states that are kept: each state that is neither kept nor a goal has one choice, a loop of probability 1 with
-/// reward 0 under each name. States, labels and names stay. One mark per state in both.
-pub fn cut(alloc: Global, model: &Model, kept: &Marks, goals: &Marks) -> Result<Model, Memory>
-    requires kept { length kept.now ≡ states_of model.now }
-    requires goals { length goals.now ≡ states_of model.now }
-    ensures { IfOk result (λ cut. cut ≡ sub_of model.now goals.now kept.now) }
-{
-    model.known();
-    let names = names_of(alloc, model)?;
-    let mut builder = Builder::new(alloc, model.states(), RowRule::Exact, names)?;
-    give_states(alloc, &mut builder, model, kept, goals)?;
-    let Ok(cut) = builder.finish() else {
-        return Err(Memory);
-    };
-    Ok(cut)
+impl Model {
+    /// The subsystem of the states that are kept: each state that is neither kept nor a goal has one choice, a loop of probability 1 with
+    /// reward 0 under each name. States, labels and names stay. One mark per state in both.
+    pub fn cut(&self, alloc: Global, kept: &Marks, goals: &Marks) -> Result<Model, Memory>
+        requires kept { length kept.now ≡ states_of self.now }
+        requires goals { length goals.now ≡ states_of self.now }
+        ensures { IfOk result (λ cut. cut ≡ sub_of self.now goals.now kept.now) }
+    {
+        self.known();
+        let names = names_of(alloc, self)?;
+        let mut builder = Builder::new(alloc, self.states(), RowRule::Exact, names)?;
+        give_states(alloc, &mut builder, self, kept, goals)?;
+        let Ok(cut) = builder.finish() else {
+            return Err(Memory);
+        };
+        Ok(cut)
+    }
 }

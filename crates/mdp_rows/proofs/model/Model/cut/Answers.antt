@@ -5,11 +5,11 @@ use Rattle.mdp_rows.specs.Draft.{Draft, new_draft}
 use Rattle.mdp_rows.specs.Replay.{with_states}
 use Rattle.mdp_rows.specs.declared.rule.RowRule.TheVariants.{Exact}
 use Rattle.mdp_rows.proofs.CutFacts.{sub_comes_out}
-use Rattle.mdp_rows.proofs.subsystem.cut.Goals as goal
+use Rattle.mdp_rows.proofs.model.Model.cut.Goals as goal
 
 pub returns : goal.returns
 returns c =
-    let m : Mdp = c.args.model.now in
+    let m : Mdp = c.args.self.now in
     let d : Draft = c.give_states.new.builder in
     sub_comes_out m c.args.goals.now c.args.kept.now d c.in-Ok.cut c.known.ensures.model
     (ap (λ (start : Draft). with_states m.names m.labels (Mdp.states (sub_of m c.args.goals.now c.args.kept.now)) start)
