@@ -1,10 +1,11 @@
 #!/usr/bin/env python3
 """Measures sums, products and comparisons of fractions beside those of GMP's rational numbers.
 
-For terms of 8, 30, 60 and 120 bits both programs draw the same thousand fractions twice, and take each with each: a million sums, a million products and
-a million comparisons. Prints the nanoseconds of one operation in each, and how many of ours were refused as past width (`Wide`); where none was, the
-results of both have to be the same. One program is written in a folder that is removed again, to a copy of the crates, and run once it is proved; the
-other is a C program over libgmp, compiled there. Where libgmp-dev or gcc is missing, it is installed by apt-get. Usage: bench/fractions.py
+For terms of 8, 30, 60 and 120 bits both programs draw the same thousand fractions twice, and take each with each: a million sums,
+a million products and a million comparisons. Runs both by turns, nine times, and prints the least nanoseconds of one operation in each,
+and how many of ours were refused as past width (`Wide`); where none was, the results of both have to be the same. One program is written
+in a folder that is removed again, to a copy of the crates, and run once it is proved; the other is a C program over libgmp, compiled there.
+Where libgmp-dev or gcc is missing, it is installed by apt-get. Usage: bench/fractions.py
 """
 import os
 import shutil
@@ -13,11 +14,13 @@ import tempfile
 
 TOP = os.path.join(os.path.dirname(os.path.abspath(__file__)), "..")
 
+RUNS = 9
+
 LINES = "mdp_math:\nmdp_num: mdp_math itoa\nfraction_timer: mdp_math mdp_num\n"
 
 RATTLE = """//! Times sums, products and comparisons of random fractions.
 #![tactic(auto)]
-ghost use Rattle.std.specs.Prelude.{◌≤◌};
+ghost use Rattle.std.specs.Prelude.{◌<◌, ◌≤◌, ◌^◌};
 
 use mdp_num::Frac;
 use std::alloc::{AllocError, Global};
@@ -32,26 +35,28 @@ fn drawn(state: u64) -> u64 {
     second ^ (second << 17)
 }
 
-/// A term from 1 on, of at most so many bits, and the state behind it.
-fn drawn_term(state: u64, bits: u32) -> (i128, u64)
-    requires { bits ≤ 126 }
+/// A term from 1 on and below the limit, and the state behind it.
+fn drawn_term(state: u64, limit: u128) -> (i128, u64)
+    requires some { 1 < limit }
+    requires narrow { limit ≤ 2 ^ 126 }
 {
     let high = drawn(state);
     let low = drawn(high);
     let whole = (u128::from(high) << 64) | u128::from(low);
-    let term = whole % (1 << bits);
-    (term.max(1) as i128, low)
+    let term = (whole % limit).max(1);
+    (term as i128, low)
 }
 
 /// A thousand fractions with such terms, by turns negative and positive.
-fn drawn_fractions(alloc: Global, seed: u64, bits: u32) -> Result<Vec<Frac>, AllocError>
-    requires { bits ≤ 126 }
+fn drawn_fractions(alloc: Global, seed: u64, limit: u128) -> Result<Vec<Frac>, AllocError>
+    requires some { 1 < limit }
+    requires narrow { limit ≤ 2 ^ 126 }
 {
     let mut fractions = Vec::new(alloc);
     let mut state = seed;
     for turn in 0..1000 {
-        let (num, behind) = drawn_term(state, bits);
-        let (den, last) = drawn_term(behind, bits);
+        let (num, behind) = drawn_term(state, limit);
+        let (den, last) = drawn_term(behind, limit);
         state = last;
         let fraction = Frac::try_new(num, den).unwrap_or(Frac::whole(0));
         fractions.push(if turn % 2 == 0 { fraction.negate() } else { fraction })?;
@@ -130,11 +135,13 @@ fn say(rt: &HostRuntime, name: &str, bits: u32, total: Total, time: Duration) ->
     println!(rt; "{name} {bits} {} {} {}", time.as_micros(), total.sum, total.wide).ok()
 }
 
-fn time_size(rt: &HostRuntime, bits: u32) -> Option<()>
-    requires { bits ≤ 126 }
+/// Times all with terms of so many bits, which are those below the limit.
+fn time_size(rt: &HostRuntime, bits: u32, limit: u128) -> Option<()>
+    requires some { 1 < limit }
+    requires narrow { limit ≤ 2 ^ 126 }
 {
-    let xs = drawn_fractions(rt.alloc(), 88_172_645_463_325_252, bits).ok()?;
-    let ys = drawn_fractions(rt.alloc(), 1_181_783_497_276_652_981, bits).ok()?;
+    let xs = drawn_fractions(rt.alloc(), 88_172_645_463_325_252, limit).ok()?;
+    let ys = drawn_fractions(rt.alloc(), 1_181_783_497_276_652_981, limit).ok()?;
     let start = Instant::now(rt).ok()?;
     let total = add_all(&xs, &ys);
     say(rt, "add", bits, total, start.elapsed(rt).ok()?)?;
@@ -146,13 +153,15 @@ fn time_size(rt: &HostRuntime, bits: u32) -> Option<()>
     say(rt, "compare", bits, total, start.elapsed(rt).ok()?)
 }
 
+fn time_sizes(rt: &HostRuntime) -> Option<()> {
+    time_size(rt, 8, 256)?;
+    time_size(rt, 30, 1_073_741_824)?;
+    time_size(rt, 60, 1_152_921_504_606_846_976)?;
+    time_size(rt, 120, 1_329_227_995_784_915_872_903_807_060_280_344_576)
+}
+
 fn main(rt: HostRuntime) -> ExitCode {
-    for bits in [8, 30, 60, 120] {
-        if time_size(&rt, bits).is_none() {
-            return ExitCode::from(1);
-        }
-    }
-    ExitCode::from(0)
+    ExitCode::from(if time_sizes(&rt).is_some() { 0 } else { 1 })
 }
 """
 
@@ -268,18 +277,24 @@ def build_theirs(folder):
     return os.path.join(folder, "timer")
 
 
-def run(program):
-    """What a program says: for each operation and size its microseconds, its sum over the results, and how many were past width."""
+def run(program, least):
+    """Runs a program, and keeps for each operation and size its least microseconds, its sum over the results, and how many were past width."""
     text = subprocess.run([program], check=True, capture_output=True, text=True).stdout
-    rows = [line.split() for line in text.splitlines()]
-    return {(name, int(bits)): (int(time), total, int(wide)) for name, bits, time, total, wide in rows}
+    for line in text.splitlines():
+        name, bits, time, total, wide = line.split()
+        key = (name, int(bits))
+        row = (int(time), total, int(wide))
+        least[key] = min(row, least.get(key, row))
 
 
 def main():
     with tempfile.TemporaryDirectory() as folder:
         theirs = build_theirs(folder)
         ours = build_ours(folder)
-        mine, other = run(ours), run(theirs)
+        mine, other = {}, {}
+        for _ in range(RUNS):
+            run(ours, mine)
+            run(theirs, other)
     print("load %.1f" % os.getloadavg()[0])
     print("%-8s %5s %9s %9s %6s %9s" % ("", "bits", "ours ns", "GMP ns", "ratio", "Wide"))
     for key, (time, total, wide) in mine.items():

@@ -153,13 +153,14 @@ scaled-case d up down p e =
           (cond (ltb up down) (Ok (d, 10 ^ (down - up))) (cond (ltb limit (d * 10 ^ (up - down))) (Err Large) (Ok (d * 10 ^ (up - down), 1)))) (Ok p) m.1)
           as (λ _. Scaled d up down p) [
             | inl k ↦ absurd (not_ok p k.1)
-            | inr k ↦ elim (chosen (ltb up down) (Ok (d, 10 ^ (down - up))) (cond (ltb limit (d * 10 ^ (up - down))) (Err Large) (Ok (d * 10 ^ (up - down), 1))) (Ok p) k.1) as (λ _. Scaled d up down p) [
-              | inl j ↦ is_below (fits d up down k.0) (near d up down k.0) (less up down j.0) (ok-is (d, 10 ^ (down - up)) p j.1)
-              | inr j ↦ elim (chosen (ltb limit (d * 10 ^ (up - down))) (Err Large) (Ok (d * 10 ^ (up - down), 1)) (Ok p) j.1) as (λ _. Scaled d up down p) [
-                | inl i ↦ absurd (not_ok p i.1)
-                | inr i ↦ is_whole (not_less up down j.0) (not_less limit (d * 10 ^ (up - down)) i.0) (ok-is (d * 10 ^ (up - down), 1) p i.1)
-              ]
-            ]
+            | inr k ↦ elim (chosen (ltb up down) (Ok (d, 10 ^ (down - up))) (cond (ltb limit (d * 10 ^ (up - down))) (Err Large) (Ok (d * 10 ^ (up - down), 1))) (Ok p) k.1)
+                as (λ _. Scaled d up down p) [
+                  | inl j ↦ is_below (fits d up down k.0) (near d up down k.0) (less up down j.0) (ok-is (d, 10 ^ (down - up)) p j.1)
+                  | inr j ↦ elim (chosen (ltb limit (d * 10 ^ (up - down))) (Err Large) (Ok (d * 10 ^ (up - down), 1)) (Ok p) j.1) as (λ _. Scaled d up down p) [
+                    | inl i ↦ absurd (not_ok p i.1)
+                    | inr i ↦ is_whole (not_less up down j.0) (not_less limit (d * 10 ^ (up - down)) i.0) (ok-is (d * 10 ^ (up - down), 1) p i.1)
+                  ]
+                ]
           ]
     ]
   where
