@@ -145,25 +145,23 @@ module _ (b : Inside) (states : ℕ) (rule : RowRule) (names : List (List ℕ)) 
 
   pub is_new : IsDraft b
   is_new = record {
-    some = omega arith;
-    few = omega arith;
-    starts = rw (starts, first) one_place;
-    choice = rw starts (λ s h. absurd (omega arith));
-    states = rw (starts, stage) (omega arith);
-    labels = rw (of_state_none, starts) refl;
-    label_total = rw of_state_none (omega arith);
-    few_places = rw places (omega arith);
-    few_calls = omega arith;
-    own = λ h. absurd (h stage);
-    summed = λ e. absurd (let x = sym stage ∙ e in cc);
-    inside = omega arith;
-    closed_up = λ e. first ∙ ap length (sym no_choices);
-    idle = λ h. row;
-    few_rows = rw (no_choices, stage) (omega arith);
-    in_range = rw no_choices (All-nil (λ (c : Choice). All (λ x. x.target < b.announced) c.row));
-    row = rw (row, marks, announced) (none_marked states);
-    total = rw (no_choices, row) (omega arith);
-    few_entries = omega arith;
+    states = record {
+      some = omega arith;
+      few = omega arith;
+      places = rw (starts, first) one_place;
+      choice = rw starts (λ s h. absurd (omega arith));
+      labelled = rw (of_state_none, starts) refl;
+      label_total = rw of_state_none (omega arith);
+    };
+    room = rw (starts, stage) (omega arith);
+    head = record { few_places = rw places (omega arith); few_calls = omega arith; own = λ h. absurd (h stage); summed = λ e. absurd (let x = sym stage ∙ e in cc) };
+    choices = record {
+      inside = omega arith;
+      closed_up = λ e. first ∙ ap length (sym no_choices);
+      few_rows = rw (no_choices, stage) (omega arith);
+      in_range = rw no_choices (All-nil (λ (c : Choice). All (λ x. x.target < b.announced) c.row));
+    };
+    row = record { idle = λ h. row; given = rw (row, marks, announced) (none_marked states); total = rw (no_choices, row) (omega arith); few_entries = omega arith };
   }
 
 -- ---- the model
@@ -186,15 +184,15 @@ is_finished b v s is ok e f = ap finished (sym is) ∙ finish_by b true ok (eq-e
 
 pub is_flat : (b : Inside) (v : Draft) (s : ℕ) → draft_in b ≡ v → IsDraft b → v.state ≡ None → s ≡ length b.labels.of_state → s ≡ b.announced → FinishesModel (finished v) → IsFlat (parts_of b)
 is_flat b v s is ok closed e f whole =
-    let n : length b.starts.items - 1 ≡ b.announced = omega (arith, ok.labels) in
+    let n : length b.starts.items - 1 ≡ b.announced = omega (arith, ok.states.labelled) in
     record {
-      few_rows = omega (arith, ok.few_rows);
-      places = subst (ArePlaces b.starts.items) (ok.closed_up (closed_is b v is closed)) ok.starts;
-      some = omega (arith, ok.labels, ok.some);
-      few = omega (arith, ok.labels, ok.few);
-      choice = ok.choice;
-      labels = omega (arith, ok.labels);
-      in_range = subst (λ (k : ℕ). All (λ c. All (λ x. x.target < k) c.row) b.choices.choices) (sym n) ok.in_range;
+      few_rows = omega (arith, ok.choices.few_rows);
+      places = subst (ArePlaces b.starts.items) (ok.choices.closed_up (closed_is b v is closed)) ok.states.places;
+      some = omega (arith, ok.states.labelled, ok.states.some);
+      few = omega (arith, ok.states.labelled, ok.states.few);
+      choice = ok.states.choice;
+      labels = omega (arith, ok.states.labelled);
+      in_range = subst (λ (k : ℕ). All (λ c. All (λ x. x.target < k) c.row) b.choices.choices) (sym n) ok.choices.in_range;
       model = whole (mdp_in (parts_of b)) (is_finished b v s is ok e f);
     }
 

@@ -56,17 +56,17 @@ module _ (b : Inside) (sorted row : List Given) (ok : IsDraft b) (h : IsClosing 
   closing_items = items_are (with_items b.row sorted) row (same_length row sorted h.same ∙ ap length (sym (items_are b.row sorted (sorted_len b sorted h.sorted_is))))
 
   pub closing_ascends : IsTrue (ascends_from 0 (row_of row))
-  closing_ascends = same_ascending row sorted h.same 0 (subst (λ (r : List Entry). IsTrue (ascends_from 0 r)) (sym h.sorted_is) ok.row.ascending)
+  closing_ascends = same_ascending row sorted h.same 0 (subst (λ (r : List Entry). IsTrue (ascends_from 0 r)) (sym h.sorted_is) ok.row.given.ascending)
 
   pub closing_has : (t : ℕ) → has_target (row_of row) t ≡ has_target (row_of b.row.items) t
   closing_has t = same_has row sorted h.same t ∙ ap (λ (r : List Entry). has_target r t) h.sorted_is ∙ in_order-has (row_of b.row.items) t
 
   pub closing_row : IsGivenRow b.announced (row_of row) b.targets
   closing_row =
-      in_its_place b.announced (row_of b.row.items) b.targets ok.row (row_of row) closing_ascends
+      in_its_place b.announced (row_of b.row.items) b.targets ok.row.given (row_of row) closing_ascends
       (same_range row sorted h.same b.announced
       (subst (All (λ x. x.target < b.announced)) (sym h.sorted_is)
-      (All-permutation (λ x. x.target < b.announced) (row_of b.row.items) (in_order (row_of b.row.items)) (in_order-permutes (row_of b.row.items)) ok.row.in_range)))
+      (All-permutation (λ x. x.target < b.announced) (row_of b.row.items) (in_order (row_of b.row.items)) (in_order-permutes (row_of b.row.items)) ok.row.given.in_range)))
       closing_has
 
   pub is_with_closing : b.stage ≡ InRow → IsDraft (record b { row = with_items (with_items b.row sorted) row })
@@ -77,7 +77,7 @@ module _ (b : Inside) (sorted row : List Given) (ok : IsDraft b) (h : IsClosing 
 pub unmarked : (b : Inside) (sorted row there : List Given) (marks : List Bool) → IsDraft b → IsClosing b sorted row → there ≡ row → length marks ≡ length b.targets
     → ((t : ℕ) → get_or marks t false ≡ (get_or b.targets t false && not (has_target (row_of there) t))) → IsGivenRow b.announced [] marks
 unmarked b sorted row there marks ok h is as_many each =
-    cleared b.announced (row_of b.row.items) b.targets ok.row (row_of row) marks (closing_has b sorted row ok h)
+    cleared b.announced (row_of b.row.items) b.targets ok.row.given (row_of row) marks (closing_has b sorted row ok h)
     (record { as_many = as_many; unmarked = λ t. each t ∙ ap (λ (r : List Given). get_or b.targets t false && not (has_target (row_of r) t)) is })
 
 -- what it closes as is a distribution
@@ -89,8 +89,8 @@ are_values : (b : Inside) → IsDraft b → AreValues b.announced (in_order (row
 are_values b ok =
     let p = in_order-permutes (row_of b.row.items) in
     record {
-      ascending = ok.row.ascending;
-      in_range = All-permutation (λ x. x.target < b.announced) (row_of b.row.items) (in_order (row_of b.row.items)) p ok.row.in_range;
+      ascending = ok.row.given.ascending;
+      in_range = All-permutation (λ x. x.target < b.announced) (row_of b.row.items) (in_order (row_of b.row.items)) p ok.row.given.in_range;
       nonnegative = All-permutation (λ x. 0ℚ ≤ℚ x.prob) (row_of b.row.items) (in_order (row_of b.row.items)) p (All-from_recursion (λ x. 0ℚ ≤ℚ x.prob) (row_of b.row.items) (values_nonnegative b.row.items));
     }
 

@@ -42,7 +42,7 @@ closed_in b = states_from (pieces b.choices.choices b.starts.items) b.labels.of_
 pub closed_len : (b : Inside) → IsDraft b → length (closed_in b) ≡ length b.labels.of_state
 closed_len b ok =
     let p = length-pieces b.choices.choices b.starts.items in
-    let n : length (pieces b.choices.choices b.starts.items) ≡ length b.labels.of_state = omega (arith, ok.labels) in
+    let n : length (pieces b.choices.choices b.starts.items) ≡ length b.labels.of_state = omega (arith, ok.states.labelled) in
     length-states_from (pieces b.choices.choices b.starts.items) b.labels.of_state n ∙ n
 
 pub open_len : (b : Inside) → length (open_choices b) ≡ length b.choices.choices - b.first_choice
@@ -92,25 +92,11 @@ row_refused b v s c e is ok at h = ap choice_closed (sym is) ∙ closing_by b s 
 -- the builder with other values in its open row
 pub is_with_values : (b : Inside) (row : Vec Given) → IsDraft b → IsGivenRow b.announced (row_of row.items) b.targets → length row.items ≡ length b.row.items → b.stage ≡ InRow → IsDraft (record b { row = row })
 is_with_values b row ok given long stage = record {
-  some = ok.some;
-  few = ok.few;
-  starts = ok.starts;
-  choice = ok.choice;
   states = ok.states;
-  labels = ok.labels;
-  label_total = ok.label_total;
-  few_places = ok.few_places;
-  few_calls = ok.few_calls;
-  own = ok.own;
-  summed = ok.summed;
-  inside = ok.inside;
-  closed_up = ok.closed_up;
-  idle = λ h. absurd (h stage);
-  few_rows = ok.few_rows;
-  in_range = ok.in_range;
-  row = given;
-  total = omega (arith, ok.total);
-  few_entries = ok.few_entries;
+  room = ok.room;
+  head = ok.head;
+  choices = ok.choices;
+  row = record { idle = λ h. absurd (h stage); given = given; total = omega (arith, ok.row.total); few_entries = ok.row.few_entries };
 }
 
 -- a vector with other items, as many
@@ -132,12 +118,12 @@ module _ (b : Inside) (choices : ChoiceTable) (row : Vec Given) (r : List Given)
   open_grown : open_choices (with_row b choices row marks) ≡ open_choices b ++ choice_with b (kept (row_of r)) ∷ []
   open_grown =
       ap (λ (x : List Choice). drop b.first_choice x) choices_are
-      ∙ drop-append-le b.first_choice b.choices.choices (choice_with b (kept (row_of r)) ∷ []) ok.inside
+      ∙ drop-append-le b.first_choice b.choices.choices (choice_with b (kept (row_of r)) ∷ []) ok.choices.inside
 
   closed_same : closed_in (with_row b choices row marks) ≡ closed_in b
   closed_same =
       ap (λ (x : List (List Choice)). states_from x b.labels.of_state)
-      (ap (λ (x : List Choice). pieces x b.starts.items) choices_are ∙ pieces-kept b.choices.choices (choice_with b (kept (row_of r)) ∷ []) b.starts.items b.first_choice ok.starts ok.inside)
+      (ap (λ (x : List Choice). pieces x b.starts.items) choices_are ∙ pieces-kept b.choices.choices (choice_with b (kept (row_of r)) ∷ []) b.starts.items b.first_choice ok.states.places ok.choices.inside)
 
   pub draft_with_row : draft_in (with_row b choices row marks) ≡ record (draft_in b) { state = Some (state_of b (open_choices b ++ choice_with b (kept (row_of r)) ∷ []) None) }
   unfolding draft_in
@@ -160,29 +146,30 @@ module _ (b : Inside) (choices : ChoiceTable) (row : Vec Given) (r : List Given)
 
   pub is_with_row : IsDraft (with_row b choices row marks)
   is_with_row = record {
-    some = ok.some;
-    few = ok.few;
-    starts = ok.starts;
-    choice = ok.choice;
-    states = rw at.stage at ok.states;
-    labels = ok.labels;
-    label_total = ok.label_total;
-    few_places = ok.few_places;
-    few_calls = ok.few_calls;
-    own = λ h. ok.own (λ e. absurd (let x = sym at.stage ∙ e in cc)) ∙ ap length (sym names_are);
-    summed = λ e. absurd cc;
-    inside = let l = rows_len in omega (arith, ok.inside);
-    closed_up = λ e. absurd cc;
-    idle = λ h. cleared;
-    few_rows = let l = rows_len in let f : length b.choices.choices + 1 ≤ 2 ^ 22 = rw at.stage at ok.few_rows in omega arith;
-    in_range =
-        rw choices_are
-        (All-append (λ (x : Choice). All (λ y. y.target < b.announced) x.row) b.choices.choices (choice_with b (kept (row_of r)) ∷ []) ok.in_range
-        (all_one (λ (x : Choice). All (λ y. y.target < b.announced) x.row) (choice_with b (kept (row_of r)))
-        (All-filter (λ x. not (is_zero x.prob)) (λ x. x.target < b.announced) (row_of r) given.in_range)));
-    row = rw cleared unmarked;
-    total = let t = row_total in let z = ap length cleared in omega (arith, ok.total);
-    few_entries = ok.few_entries;
+    states = ok.states;
+    room = rw at.stage at ok.room;
+    head = record {
+      few_places = ok.head.few_places;
+      few_calls = ok.head.few_calls;
+      own = λ h. ok.head.own (λ e. absurd (let x = sym at.stage ∙ e in cc)) ∙ ap length (sym names_are);
+      summed = λ e. absurd cc;
+    };
+    choices = record {
+      inside = let l = rows_len in omega (arith, ok.choices.inside);
+      closed_up = λ e. absurd cc;
+      few_rows = let l = rows_len in let f : length b.choices.choices + 1 ≤ 2 ^ 22 = rw at.stage at ok.choices.few_rows in omega arith;
+      in_range =
+          rw choices_are
+          (All-append (λ (x : Choice). All (λ y. y.target < b.announced) x.row) b.choices.choices (choice_with b (kept (row_of r)) ∷ []) ok.choices.in_range
+          (all_one (λ (x : Choice). All (λ y. y.target < b.announced) x.row) (choice_with b (kept (row_of r)))
+          (All-filter (λ x. not (is_zero x.prob)) (λ x. x.target < b.announced) (row_of r) given.in_range)));
+    };
+    row = record {
+      idle = λ h. cleared;
+      given = rw cleared unmarked;
+      total = let t = row_total in let z = ap length cleared in omega (arith, ok.row.total);
+      few_entries = ok.row.few_entries;
+    };
   }
 
 -- ---- the open state is closed
@@ -223,16 +210,16 @@ with_state b starts labels end = record b { starts = starts; labels = labels; fi
 module _ (b : Inside) (starts : Vec ℕ) (labels : Labelling) (end : ℕ) (ok : IsDraft b) (stage : b.stage ≡ InState) (ends : end ≡ length b.choices.choices) (some : end ≢ b.first_choice)
     (grown : labels ≡ record { names = b.labels.names; of_state = b.labels.of_state ++ b.places.items ∷ [] }) (placed : starts.items ≡ b.starts.items ++ end ∷ []) where
   before_end : b.first_choice < end
-  before_end = omega (arith, ok.inside)
+  before_end = omega (arith, ok.choices.inside)
 
   of_state_is : labels.of_state ≡ b.labels.of_state ++ b.places.items ∷ []
   of_state_is = ap (λ (x : Labelling). x.of_state) grown
 
   pieces_closed : pieces b.choices.choices starts.items ≡ pieces b.choices.choices b.starts.items ++ drop b.first_choice b.choices.choices ∷ []
-  pieces_closed = ap (pieces b.choices.choices) placed ∙ pieces-last b.choices.choices b.starts.items b.first_choice end ok.starts ends
+  pieces_closed = ap (pieces b.choices.choices) placed ∙ pieces-last b.choices.choices b.starts.items b.first_choice end ok.states.places ends
 
   as_many : length (pieces b.choices.choices b.starts.items) ≡ length b.labels.of_state
-  as_many = let p = length-pieces b.choices.choices b.starts.items in omega (arith, ok.labels)
+  as_many = let p = length-pieces b.choices.choices b.starts.items in omega (arith, ok.states.labelled)
 
   closed_more : closed_in (with_state b starts labels end) ≡ closed_in b ++ record { labels = b.places.items; choices = open_choices b } ∷ []
   closed_more = ap₂ states_from pieces_closed of_state_is ∙ states_from-more (pieces b.choices.choices b.starts.items) b.labels.of_state (drop b.first_choice b.choices.choices) b.places.items as_many
@@ -258,25 +245,23 @@ module _ (b : Inside) (starts : Vec ℕ) (labels : Labelling) (end : ℕ) (ok : 
 
   pub is_with_state : IsDraft (with_state b starts labels end)
   is_with_state = record {
-    some = ok.some;
-    few = ok.few;
-    starts = let k = before_end in rw placed (places-more b.starts.items b.first_choice end ok.starts (omega arith));
-    choice = rw placed (choice-more b.starts.items b.first_choice end ok.starts ok.choice before_end);
-    states = let l = starts_len in let f : length b.starts.items + 1 ≤ b.announced + 1 = rw stage at ok.states in omega arith;
-    labels = let l = starts_len in let m = labels_len in omega (arith, ok.labels);
-    label_total = let l = label_sum in let m = labels_len in omega (arith, ok.label_total, ok.few_places, ok.few_calls);
-    few_places = ok.few_places;
-    few_calls = ok.few_calls;
-    own = λ h. absurd (h refl);
-    summed = λ e. absurd cc;
-    inside = omega arith;
-    closed_up = λ e. ends;
-    idle = λ h. ok.idle (λ e. absurd (let x = sym stage ∙ e in cc));
-    few_rows = let f : length b.choices.choices + 0 ≤ 2 ^ 22 = rw stage at ok.few_rows in f;
-    in_range = ok.in_range;
-    row = ok.row;
-    total = ok.total;
-    few_entries = ok.few_entries;
+    states = record {
+      some = ok.states.some;
+      few = ok.states.few;
+      places = let k = before_end in rw placed (places-more b.starts.items b.first_choice end ok.states.places (omega arith));
+      choice = rw placed (choice-more b.starts.items b.first_choice end ok.states.places ok.states.choice before_end);
+      labelled = let l = starts_len in let m = labels_len in omega (arith, ok.states.labelled);
+      label_total = let l = label_sum in let m = labels_len in omega (arith, ok.states.label_total, ok.head.few_places, ok.head.few_calls);
+    };
+    room = let l = starts_len in let f : length b.starts.items + 1 ≤ b.announced + 1 = rw stage at ok.room in omega arith;
+    head = record { few_places = ok.head.few_places; few_calls = ok.head.few_calls; own = λ h. absurd (h refl); summed = λ e. absurd cc };
+    choices = record {
+      inside = omega arith;
+      closed_up = λ e. ends;
+      few_rows = let f : length b.choices.choices + 0 ≤ 2 ^ 22 = rw stage at ok.choices.few_rows in f;
+      in_range = ok.choices.in_range;
+    };
+    row = record { idle = λ h. ok.row.idle (λ e. absurd (let x = sym stage ∙ e in cc)); given = ok.row.given; total = ok.row.total; few_entries = ok.row.few_entries };
   }
 
 -- ---- the next state is opened
@@ -304,25 +289,11 @@ names_in b v is = ap (λ (d : Draft). d.names) is
 -- the builder with other rewards of no open state
 pub is_with_rewards : (b : Inside) (v : Draft) (rewards : Vec ℚ) → draft_in b ≡ v → IsDraft b → v.state ≡ None → IsDraft (record b { rewards = rewards })
 is_with_rewards b v rewards is ok closed = record {
-  some = ok.some;
-  few = ok.few;
-  starts = ok.starts;
-  choice = ok.choice;
   states = ok.states;
-  labels = ok.labels;
-  label_total = ok.label_total;
-  few_places = ok.few_places;
-  few_calls = ok.few_calls;
-  own = λ h. absurd (h (closed_is b v is closed));
-  summed = ok.summed;
-  inside = ok.inside;
-  closed_up = ok.closed_up;
-  idle = ok.idle;
-  few_rows = ok.few_rows;
-  in_range = ok.in_range;
+  room = ok.room;
+  head = record { few_places = ok.head.few_places; few_calls = ok.head.few_calls; own = λ h. absurd (h (closed_is b v is closed)); summed = ok.head.summed };
+  choices = ok.choices;
   row = ok.row;
-  total = ok.total;
-  few_entries = ok.few_entries;
 }
 
 abbrev pub with_new_state : Inside → Vec ℚ → Vec ℕ → Inside
@@ -334,7 +305,7 @@ module _ (b : Inside) (v : Draft) (given : List ℚ) (rewards : Vec ℚ) (places
   between = closed_is b v is closed
 
   no_choices : open_choices b ≡ []
-  no_choices = ap (λ (n : ℕ). drop n b.choices.choices) (ok.closed_up between) ∙ drop-length b.choices.choices
+  no_choices = ap (λ (n : ℕ). drop n b.choices.choices) (ok.choices.closed_up between) ∙ drop-length b.choices.choices
 
   opened : draft_in (with_new_state b rewards places) ≡ record (draft_in b) { state = Some (new_state given) }
   unfolding draft_in
@@ -348,23 +319,14 @@ module _ (b : Inside) (v : Draft) (given : List ℚ) (rewards : Vec ℚ) (places
 
   pub is_with_new_state : IsDraft (with_new_state b rewards places)
   is_with_new_state = record {
-    some = ok.some;
-    few = ok.few;
-    starts = ok.starts;
-    choice = ok.choice;
-    states = let g : length b.starts.items + 0 ≤ b.announced + 1 = rw between at ok.states in omega (arith, ok.labels);
-    labels = ok.labels;
-    label_total = ok.label_total;
-    few_places = rw empty (omega arith);
-    few_calls = omega arith;
-    own = λ h. ap length filled ∙ as_many ∙ ap length (sym (names_in b v is));
-    summed = λ e. absurd cc;
-    inside = ok.inside;
-    closed_up = λ e. absurd cc;
-    idle = λ h. ok.idle (λ e. absurd (let x = sym between ∙ e in cc));
-    few_rows = let g : length b.choices.choices + 0 ≤ 2 ^ 22 = rw between at ok.few_rows in g;
-    in_range = ok.in_range;
-    row = ok.row;
-    total = ok.total;
-    few_entries = ok.few_entries;
+    states = ok.states;
+    room = let g : length b.starts.items + 0 ≤ b.announced + 1 = rw between at ok.room in omega (arith, ok.states.labelled);
+    head = record { few_places = rw empty (omega arith); few_calls = omega arith; own = λ h. ap length filled ∙ as_many ∙ ap length (sym (names_in b v is)); summed = λ e. absurd cc };
+    choices = record {
+      inside = ok.choices.inside;
+      closed_up = λ e. absurd cc;
+      few_rows = let g : length b.choices.choices + 0 ≤ 2 ^ 22 = rw between at ok.choices.few_rows in g;
+      in_range = ok.choices.in_range;
+    };
+    row = record { idle = λ h. ok.row.idle (λ e. absurd (let x = sym between ∙ e in cc)); given = ok.row.given; total = ok.row.total; few_entries = ok.row.few_entries };
   }

@@ -71,7 +71,7 @@ module _ (b : Inside) (v : Draft) (t : ℕ) (x : ℚ) (is : draft_in b ≡ v) (s
 
 -- whether the target stands in the open row, by its mark
 pub is_marked : (b : Inside) (t : ℕ) (a : Bool) → IsDraft b → t < b.announced → a ≡ get_or b.targets t false → list_any (λ y. y.target == t) (in_order (row_of b.row.items)) ≡ a
-is_marked b t a ok h e = sym (is_there b.announced (row_of b.row.items) b.targets ok.row t h) ∙ sym e
+is_marked b t a ok h e = sym (is_there b.announced (row_of b.row.items) b.targets ok.row.given t h) ∙ sym e
 
 -- the builder with one entry more
 abbrev pub with_new_entry : Inside → Vec Given → List Bool → Inside
@@ -94,25 +94,16 @@ module _ (b : Inside) (row : Vec Given) (marks : List Bool) (g : Given) (ok : Is
 
   pub is_with_entry : IsDraft (with_new_entry b row marks)
   is_with_entry = record {
-    some = ok.some;
-    few = ok.few;
-    starts = ok.starts;
-    choice = ok.choice;
     states = ok.states;
-    labels = ok.labels;
-    label_total = ok.label_total;
-    few_places = ok.few_places;
-    few_calls = ok.few_calls;
-    own = ok.own;
-    summed = ok.summed;
-    inside = ok.inside;
-    closed_up = ok.closed_up;
-    idle = λ h. absurd (h stage);
-    few_rows = ok.few_rows;
-    in_range = ok.in_range;
-    row = rw (entries_are, marked) (with_one b.announced (row_of b.row.items) b.targets ok.row (entry_of g) in_range new);
-    total = let l = row_longer in omega (arith, ok.total);
-    few_entries = omega (arith, room);
+    room = ok.room;
+    head = ok.head;
+    choices = ok.choices;
+    row = record {
+      idle = λ h. absurd (h stage);
+      given = rw (entries_are, marked) (with_one b.announced (row_of b.row.items) b.targets ok.row.given (entry_of g) in_range new);
+      total = let l = row_longer in omega (arith, ok.row.total);
+      few_entries = omega (arith, room);
+    };
   }
 
 -- ---- a choice
@@ -132,11 +123,11 @@ no_state_for_choice b v rewards is h k =
 choice_count : (b : Inside) → IsDraft b → closed_choices (draft_in b) + length (open_choices b) ≡ length b.choices.choices
 unfolding draft_in
 choice_count b ok =
-    let n : length (pieces b.choices.choices b.starts.items) ≡ length b.labels.of_state = (let p = length-pieces b.choices.choices b.starts.items in omega (arith, ok.labels)) in
+    let n : length (pieces b.choices.choices b.starts.items) ≡ length b.labels.of_state = (let p = length-pieces b.choices.choices b.starts.items in omega (arith, ok.states.labelled)) in
     let t = choices-total (pieces b.choices.choices b.starts.items) b.labels.of_state n in
-    let s = pieces-sum-to b.choices.choices b.starts.items b.first_choice ok.starts ok.inside in
+    let s = pieces-sum-to b.choices.choices b.starts.items b.first_choice ok.states.places ok.choices.inside in
     let l = open_len b in
-    omega (arith, ok.inside)
+    omega (arith, ok.choices.inside)
 
 abbrev pub sums_result : Inside → Result (List ℚ) RowsError → Result Draft RowsError
 sums_result b r = r >>= λ sums. Ok (record (draft_in b) { state = Some (state_of b (open_choices b) (Some (record { rewards = sums; row = [] }))) })
@@ -162,30 +153,16 @@ module _ (b : Inside) (v : Draft) (given : List ℚ) (is : draft_in b ≡ v) (ok
   sums_refused e h = choice_here ∙ ap (sums_result b) h
 
   no_entries : b.row.items ≡ []
-  no_entries = ok.idle (λ e. absurd (let x = sym stage ∙ e in cc))
+  no_entries = ok.row.idle (λ e. absurd (let x = sym stage ∙ e in cc))
 
   -- the builder with other sums of no open choice
   pub is_with_sums : (sums : Vec ℚ) → IsDraft (record b { sums = sums })
   is_with_sums sums = record {
-    some = ok.some;
-    few = ok.few;
-    starts = ok.starts;
-    choice = ok.choice;
     states = ok.states;
-    labels = ok.labels;
-    label_total = ok.label_total;
-    few_places = ok.few_places;
-    few_calls = ok.few_calls;
-    own = ok.own;
-    summed = λ e. absurd (let x = sym stage ∙ e in cc);
-    inside = ok.inside;
-    closed_up = ok.closed_up;
-    idle = ok.idle;
-    few_rows = ok.few_rows;
-    in_range = ok.in_range;
+    room = ok.room;
+    head = record { few_places = ok.head.few_places; few_calls = ok.head.few_calls; own = ok.head.own; summed = λ e. absurd (let x = sym stage ∙ e in cc) };
+    choices = ok.choices;
     row = ok.row;
-    total = ok.total;
-    few_entries = ok.few_entries;
   }
 
   module _ (sums : Vec ℚ) (added : summed_rewards b.rewards.items given ≡ Ok sums.items) where
@@ -198,23 +175,9 @@ module _ (b : Inside) (v : Draft) (given : List ℚ) (is : draft_in b ≡ v) (ok
 
     pub is_with_choice : length sums.items ≡ length b.choices.names → IsDraft (record b { sums = sums; stage = InRow })
     is_with_choice as_many = record {
-      some = ok.some;
-      few = ok.few;
-      starts = ok.starts;
-      choice = ok.choice;
-      states = let g : length b.starts.items + 1 ≤ b.announced + 1 = rw stage at ok.states in g;
-      labels = ok.labels;
-      label_total = ok.label_total;
-      few_places = ok.few_places;
-      few_calls = ok.few_calls;
-      own = λ h. ok.own (λ e. absurd (let x = sym stage ∙ e in cc));
-      summed = λ e. as_many;
-      inside = ok.inside;
-      closed_up = λ e. absurd cc;
-      idle = λ h. no_entries;
-      few_rows = omega arith;
-      in_range = ok.in_range;
-      row = ok.row;
-      total = ok.total;
-      few_entries = ok.few_entries;
+      states = ok.states;
+      room = let g : length b.starts.items + 1 ≤ b.announced + 1 = rw stage at ok.room in g;
+      head = record { few_places = ok.head.few_places; few_calls = ok.head.few_calls; own = λ h. ok.head.own (λ e. absurd (let x = sym stage ∙ e in cc)); summed = λ e. as_many };
+      choices = record { inside = ok.choices.inside; closed_up = λ e. absurd cc; few_rows = omega arith; in_range = ok.choices.in_range };
+      row = record { idle = λ h. no_entries; given = ok.row.given; total = ok.row.total; few_entries = ok.row.few_entries };
     }

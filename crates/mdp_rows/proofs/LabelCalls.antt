@@ -75,23 +75,14 @@ module _ (b : Inside) (v : Draft) (name : List ℕ) (is : draft_in b ≡ v) (ope
 
     pub is_labelled : IsDraft (record b { labels = labels; places = places; label_calls = b.label_calls + 1 })
     is_labelled = record {
-      some = ok.some;
-      few = ok.few;
-      starts = ok.starts;
-      choice = ok.choice;
-      states = ok.states;
-      labels = rw of_state_same ok.labels;
-      label_total = rw of_state_same ok.label_total;
-      few_places = let l = length-with_place (position_or_len (bytes_eq name) b.labels.names) b.places.items in let m = ap length added in omega (arith, ok.few_places);
-      few_calls = omega arith;
-      own = ok.own;
-      summed = ok.summed;
-      inside = ok.inside;
-      closed_up = ok.closed_up;
-      idle = ok.idle;
-      few_rows = ok.few_rows;
-      in_range = ok.in_range;
+      states = rw of_state_same ok.states;
+      room = ok.room;
+      head = record {
+        few_places = let l = length-with_place (position_or_len (bytes_eq name) b.labels.names) b.places.items in let m = ap length added in omega (arith, ok.head.few_places);
+        few_calls = omega arith;
+        own = ok.head.own;
+        summed = ok.head.summed;
+      };
+      choices = ok.choices;
       row = ok.row;
-      total = ok.total;
-      few_entries = ok.few_entries;
     }

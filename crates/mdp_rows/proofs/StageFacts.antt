@@ -67,8 +67,8 @@ unfolding draft_in
 target_is b v t is h = sym (row_target b.stage (draft_in b) t (state_in b) (choice_in b) h refl) ∙ ap (λ (d : Draft). has_open_target d t) is
 
 pub marked_is : (b : Inside) (v : Draft) (t : ℕ) → draft_in b ≡ v → IsDraft b → b.stage ≡ InRow → t < b.announced → get_or b.targets t false ≡ has_open_target v t
-marked_is b v t is ok e h = is_there b.announced (row_of b.row.items) b.targets ok.row t h ∙ target_is b v t is e
+marked_is b v t is ok e h = is_there b.announced (row_of b.row.items) b.targets ok.row.given t h ∙ target_is b v t is e
 
 -- no target is past the states
 pub none_past : (b : Inside) (v : Draft) (t : ℕ) → draft_in b ≡ v → IsDraft b → b.stage ≡ InRow → b.announced ≤ t → ltb t b.announced ≡ has_open_target v t
-none_past b v t is ok e h = le-ltb t b.announced h ∙ sym (none_there b.announced (row_of b.row.items) b.targets ok.row t h) ∙ target_is b v t is e
+none_past b v t is ok e h = le-ltb t b.announced h ∙ sym (none_there b.announced (row_of b.row.items) b.targets ok.row.given t h) ∙ target_is b v t is e

@@ -1,5 +1,5 @@
 -- A model while it is made, and what each call of a builder makes of it.
-use Rattle.std.specs.Prelude.{false, ◌≡◌, ◌⊎◌, ℕ, ◌+◌, ◌^◌, Bool, not, ◌||◌, ◌&&◌, List, [], ◌∷◌, ◌++◌, length, sum_by, filter, map, unsigned_abs, pos, Option, Some, None, Result, Ok, Err, OnOk, IfErr, ◌==◌, nat_lt, nat_le, if◌then◌else◌}
+use Rattle.std.specs.Prelude.{false, ◌≡◌, ◌⊎◌, ℕ, ◌+◌, Bool, not, ◌||◌, ◌&&◌, List, [], ◌∷◌, ◌++◌, length, sum_by, filter, map, unsigned_abs, pos, Option, Some, None, Result, Ok, Err, OnOk, IfErr, ◌==◌, nat_lt, nat_le, if◌then◌else◌}
 use Rattle.std.specs.List.{list_any, position_or_len}
 use Rattle.std.specs.Option.{IfSome, is_some}
 use Rattle.std.specs.Result.{MatchResult, result_err}
@@ -10,6 +10,7 @@ use Rattle.mdp_math.specs.Sum.{sum_of}
 use Rattle.mdp_spec.specs.Mdp.{Entry, Choice, State, Mdp}
 use Rattle.mdp_spec.specs.Unit.{row_den}
 use Rattle.mdp_num.specs.Numeral.{limit}
+use Rattle.mdp_rows.specs.Limits.{max_choices, max_entries, max_labels, max_labels_of_state}
 use Rattle.mdp_rows.specs.declared.error.RowsError.{RowsError}
 use Rattle.mdp_rows.specs.declared.error.RowsError.TheVariants.{RowSum, RowWide, Twice, NoChoice, TooMany, Target, Large, Count, Memory}
 use Rattle.mdp_rows.specs.declared.rule.RowRule.{RowRule}
@@ -154,7 +155,7 @@ summed_rewards (x ∷ xs) (y ∷ ys) = kept_sum (written_add x y) >>= λ sum. su
 abbrev pub choice_opened_in : Draft → List ℚ → Option OpenState → Result Draft RowsError
 choice_opened_in d rewards None = Ok d
 choice_opened_in d rewards (Some o) =
-    if nat_lt (2 ^ 22) (closed_choices d + length o.choices + 1) then Err TooMany
+    if nat_lt max_choices (closed_choices d + length o.choices + 1) then Err TooMany
     else (summed_rewards o.rewards rewards >>= λ sums. Ok (record d { state = Some (record o { choice = Some (record { rewards = sums; row = [] }) }) }))
 
 abbrev pub choice_opened : Draft → List ℚ → Result Draft RowsError
@@ -171,7 +172,7 @@ with_choice_entry d target value o None = Ok d
 with_choice_entry d target value o (Some c) =
     if nat_le d.announced target then Err Target
     else (if has_target c.row target then Err Twice
-    else (if nat_le (2 ^ 24) d.entries then Err TooMany
+    else (if nat_le max_entries d.entries then Err TooMany
     else Ok (record d { entries = d.entries + 1; state = Some (record o { choice = Some (record c { row = with_entry (record { target = target; prob = value }) c.row }) }) })))
 
 abbrev pub entry_in : Draft → ℕ → ℚ → Option OpenState → Result Draft RowsError
@@ -192,7 +193,7 @@ with_place l (k ∷ places) = if l == k then k ∷ places else (if nat_lt l k th
 abbrev pub label_in : Draft → List ℕ → Option OpenState → Result Draft RowsError
 label_in d name None = Ok d
 label_in d name (Some o) =
-    if nat_le 64 o.label_calls || nat_lt 1024 (length (with_name d.labels name)) then Err TooMany
+    if nat_le max_labels_of_state o.label_calls || nat_lt max_labels (length (with_name d.labels name)) then Err TooMany
     else Ok (record d { labels = with_name d.labels name; state = Some (record o { labels = with_place (position_or_len (bytes_eq name) d.labels) o.labels; label_calls = o.label_calls + 1 }) })
 
 abbrev pub after_label : Draft → List ℕ → Result Draft RowsError

@@ -1,11 +1,14 @@
 -- The draft that a builder's vectors hold.
-use Rattle.std.specs.Prelude.{◌≡◌, ◌≢◌, ℕ, ◌+◌, ◌*◌, ◌<◌, ◌≤◌, ◌^◌, List, [], length, drop, sum_by, slice_index, All, Option, Some, None}
+use Rattle.std.specs.Prelude.{◌≡◌, ◌≢◌, ℕ, ◌+◌, ◌*◌, ◌<◌, ◌≤◌, Bool, List, [], length, drop, sum_by, slice_index, All, Option, Some, None}
+use Rattle.mdp_math.specs.Rational.{ℚ}
 use Rattle.mdp_spec.specs.Mdp.{Choice}
+use Rattle.mdp_rows.specs.Limits.{max_states, max_choices, max_entries, max_labels_of_state}
 use Rattle.mdp_rows.specs.Pieces.{pieces, ArePlaces}
 use Rattle.mdp_rows.specs.FlatModel.{states_from}
 use Rattle.mdp_rows.specs.Given.{row_of}
 use Rattle.mdp_rows.specs.GivenRow.{in_order, IsGivenRow}
 use Rattle.mdp_rows.specs.Draft.{Draft, OpenState, OpenChoice}
+use Rattle.mdp_rows.specs.declared.given.Given.{Given}
 use Rattle.mdp_rows.specs.declared.assembly.Stage.{Stage}
 use Rattle.mdp_rows.specs.declared.assembly.Stage.TheVariants.{Between, InState, InRow}
 use Rattle.mdp_rows.specs.declared.assembly.Assembly.TheInside.{Inside}
@@ -51,23 +54,40 @@ open_states Between = 0
 open_states InState = 1
 open_states InRow = 1
 
+-- the closed states: where the choices of each start, and its labels
+pub record AreStatesIn (announced : ℕ) (starts : List ℕ) (end : ℕ) (labels : List (List ℕ)) : Type 0 where
+  pub some : 0 < announced
+  pub few : announced ≤ max_states
+  pub places : ArePlaces starts end
+  pub choice : (s : ℕ) → s + 1 < length starts → slice_index starts s < slice_index starts (s + 1)
+  pub labelled : length labels + 1 ≡ length starts
+  pub label_total : sum_by length labels ≤ max_labels_of_state * length labels
+
+-- the labels and the rewards of the open state, and the rewards of its open choice
+pub record IsHeadIn (stage : Stage) (names : ℕ) (places : List ℕ) (label_calls : ℕ) (rewards sums : List ℚ) : Type 0 where
+  pub few_places : length places ≤ label_calls
+  pub few_calls : label_calls ≤ max_labels_of_state
+  pub own : stage ≢ Between → length rewards ≡ names
+  pub summed : stage ≡ InRow → length sums ≡ names
+
+-- the closed choices, of which those from the first one on are the open state's
+pub record AreChoicesIn (announced : ℕ) (stage : Stage) (first : ℕ) (choices : List Choice) : Type 0 where
+  pub inside : first ≤ length choices
+  pub closed_up : stage ≡ Between → first ≡ length choices
+  pub few_rows : length choices + open_rows stage ≤ max_choices
+  pub in_range : All (λ c. All (λ x. x.target < announced) c.row) choices
+
+-- the open row, with a mark at each of its targets, and how many entries were given
+pub record IsRowIn (announced : ℕ) (stage : Stage) (choices : List Choice) (row : List Given) (marks : List Bool) (entries : ℕ) : Type 0 where
+  pub idle : stage ≢ InRow → row ≡ []
+  pub given : IsGivenRow announced (row_of row) marks
+  pub total : sum_by (λ c. length c.row) choices + length row ≤ entries
+  pub few_entries : entries ≤ max_entries
+
+-- with the state that is open the states aren't more than were announced
 pub record IsDraft (b : Inside) : Type 0 where
-  pub some : 0 < b.announced
-  pub few : b.announced ≤ 2 ^ 20
-  pub starts : ArePlaces b.starts.items b.first_choice
-  pub choice : (s : ℕ) → s + 1 < length b.starts.items → slice_index b.starts.items s < slice_index b.starts.items (s + 1)
-  pub states : length b.starts.items + open_states b.stage ≤ b.announced + 1
-  pub labels : length b.labels.of_state + 1 ≡ length b.starts.items
-  pub label_total : sum_by length b.labels.of_state ≤ 64 * length b.labels.of_state
-  pub few_places : length b.places.items ≤ b.label_calls
-  pub few_calls : b.label_calls ≤ 64
-  pub own : b.stage ≢ Between → length b.rewards.items ≡ length b.choices.names
-  pub summed : b.stage ≡ InRow → length b.sums.items ≡ length b.choices.names
-  pub inside : b.first_choice ≤ length b.choices.choices
-  pub closed_up : b.stage ≡ Between → b.first_choice ≡ length b.choices.choices
-  pub idle : b.stage ≢ InRow → b.row.items ≡ []
-  pub few_rows : length b.choices.choices + open_rows b.stage ≤ 2 ^ 22
-  pub in_range : All (λ c. All (λ x. x.target < b.announced) c.row) b.choices.choices
-  pub row : IsGivenRow b.announced (row_of b.row.items) b.targets
-  pub total : sum_by (λ c. length c.row) b.choices.choices + length b.row.items ≤ b.entries
-  pub few_entries : b.entries ≤ 2 ^ 24
+  pub states : AreStatesIn b.announced b.starts.items b.first_choice b.labels.of_state
+  pub room : length b.starts.items + open_states b.stage ≤ b.announced + 1
+  pub head : IsHeadIn b.stage (length b.choices.names) b.places.items b.label_calls b.rewards.items b.sums.items
+  pub choices : AreChoicesIn b.announced b.stage b.first_choice b.choices.choices
+  pub row : IsRowIn b.announced b.stage b.choices.choices b.row.items b.targets b.entries

@@ -1,7 +1,7 @@
 -- The model that flat vectors hold.
-use Rattle.std.specs.Prelude.{◌≡◌, ℕ, ◌+◌, ◌-◌, ◌<◌, ◌≤◌, ◌^◌, List, [], ◌∷◌, length, slice_index, All}
+use Rattle.std.specs.Prelude.{◌≡◌, ℕ, ◌+◌, ◌-◌, ◌<◌, ◌≤◌, List, [], ◌∷◌, length, slice_index, All}
 use Rattle.mdp_spec.specs.Mdp.{Choice, State, Mdp}
-use Rattle.mdp_rows.specs.Limits.{IsModel}
+use Rattle.mdp_rows.specs.Limits.{max_states, max_choices, IsModel}
 use Rattle.mdp_rows.specs.Pieces.{pieces, ArePlaces}
 use Rattle.mdp_rows.specs.declared.model.Model.TheInside.{Inside}
 
@@ -19,10 +19,10 @@ mdp_in m = record {
 }
 
 pub record IsFlat (m : Inside) : Type 0 where
-  pub few_rows : length m.choices.choices ≤ 2 ^ 22
+  pub few_rows : length m.choices.choices ≤ max_choices
   pub places : ArePlaces m.starts.items (length m.choices.choices)
   pub some : 1 < length m.starts.items
-  pub few : length m.starts.items ≤ 2 ^ 20 + 1
+  pub few : length m.starts.items ≤ max_states + 1
   pub choice : (s : ℕ) → s + 1 < length m.starts.items → slice_index m.starts.items s < slice_index m.starts.items (s + 1)
   pub labels : length m.labels.of_state ≡ length m.starts.items - 1
   pub in_range : All (λ c. All (λ x. x.target < length m.starts.items - 1) c.row) m.choices.choices

@@ -8,6 +8,22 @@ use Rattle.mdp_spec.specs.Row.{IsMdp}
 use Rattle.mdp_spec.specs.Unit.{row_den}
 use Rattle.mdp_rows.specs.Name.{IsName, AreRewardNames, are_different}
 
+-- the most states, choices, entries (those of value 0 that were given among them), label names, and labels of a state
+abbrev pub max_states : ℕ
+max_states = 2 ^ 20
+
+abbrev pub max_choices : ℕ
+max_choices = 2 ^ 22
+
+abbrev pub max_entries : ℕ
+max_entries = 2 ^ 24
+
+abbrev pub max_labels : ℕ
+max_labels = 1024
+
+abbrev pub max_labels_of_state : ℕ
+max_labels_of_state = 64
+
 -- places that ascend strictly, all from this one on
 abbrev pub places_ascend : ℕ → List ℕ → Bool
 places_ascend low [] = true
@@ -44,7 +60,7 @@ pub record IsChoiceWithin (names : ℕ) (c : Choice) : Type 0 where
 
 pub record IsStateWithin (names : ℕ) (x : State) : Type 0 where
   pub ascending : IsTrue (places_ascend 0 x.labels)
-  pub few_labels : length x.labels ≤ 64
+  pub few_labels : length x.labels ≤ max_labels_of_state
   pub choices : All (IsChoiceWithin names) x.choices
 
 -- rewards have lowest terms of magnitude at most 10^36, and the common denominator of each row is at most 10^36
@@ -53,8 +69,8 @@ pub record IsModel (m : Mdp) : Type 0 where
   pub names : AreRewardNames m.names
   pub labels : All IsName m.labels
   pub different : IsTrue (are_different m.labels)
-  pub few_labels : length m.labels ≤ 1024
+  pub few_labels : length m.labels ≤ max_labels
   pub sight : IsTrue (in_order_of_sight 0 m.states (length m.labels))
   pub states : All (IsStateWithin (length m.names)) m.states
-  pub few_choices : sum_by (λ x. length x.choices) m.states ≤ 2 ^ 22
-  pub few_entries : sum_by (λ x. sum_by (λ c. length c.row) x.choices) m.states ≤ 2 ^ 24
+  pub few_choices : sum_by (λ x. length x.choices) m.states ≤ max_choices
+  pub few_entries : sum_by (λ x. sum_by (λ c. length c.row) x.choices) m.states ≤ max_entries

@@ -1,12 +1,12 @@
 -- What each draft keeps, so that the model it ends as is an `IsModel`.
-use Rattle.std.specs.Prelude.{◌≡◌, ℕ, ◌+◌, ◌<◌, ◌≤◌, ◌^◌, IsTrue, List, [], ◌∷◌, ◌++◌, length, sum_by, Option, Some, None, Result, Ok}
+use Rattle.std.specs.Prelude.{◌≡◌, ℕ, ◌+◌, ◌<◌, ◌≤◌, IsTrue, List, [], ◌∷◌, ◌++◌, length, sum_by, Option, Some, None, Result, Ok}
 use Rattle.std.specs.List.{All}
 use Rattle.std.specs.Option.{IfSome}
 use Rattle.mdp_num.specs.Meaning.{IsWithinLimit}
 use Rattle.mdp_spec.specs.Mdp.{State, Mdp}
 use Rattle.mdp_spec.specs.Row.{ascends_from, IsRow}
 use Rattle.mdp_rows.specs.Name.{IsName, AreRewardNames, are_different}
-use Rattle.mdp_rows.specs.Limits.{places_ascend, in_order_of_sight, HasSmallTerms, IsChoiceWithin, IsStateWithin, IsModel}
+use Rattle.mdp_rows.specs.Limits.{max_states, max_choices, max_entries, max_labels, max_labels_of_state, places_ascend, in_order_of_sight, HasSmallTerms, IsChoiceWithin, IsStateWithin, IsModel}
 use Rattle.mdp_rows.specs.Draft.{Draft, OpenState, OpenChoice}
 use Rattle.mdp_rows.specs.declared.error.RowsError.{RowsError}
 
@@ -23,7 +23,7 @@ pub record IsOpenState (announced names : ℕ) (o : OpenState) : Type 0 where
   pub rewards : length o.rewards ≡ names
   pub ascending : IsTrue (places_ascend 0 o.labels)
   pub few_labels : length o.labels ≤ o.label_calls
-  pub few_calls : o.label_calls ≤ 64
+  pub few_calls : o.label_calls ≤ max_labels_of_state
   pub choices : All (IsChoiceWithin names) o.choices
   pub rows : All (λ c. IsRow announced c.row) o.choices
   pub choice : IfSome o.choice (IsOpenChoice announced names)
@@ -68,17 +68,17 @@ open_entries (Some o) = opened_entries o.choice
 pub record IsSound (d : Draft) : Type 0 where
   pub names : AreRewardNames d.names
   pub some : 1 ≤ d.announced
-  pub few : d.announced ≤ 2 ^ 20
+  pub few : d.announced ≤ max_states
   pub few_states : length (states_so_far d) ≤ d.announced
   pub labels : All IsName d.labels
   pub different : IsTrue (are_different d.labels)
-  pub few_labels : length d.labels ≤ 1024
+  pub few_labels : length d.labels ≤ max_labels
   pub sight : IsTrue (in_order_of_sight 0 (states_so_far d) (length d.labels))
   pub closed : All (IsClosedState d.announced (length d.names)) d.closed
   pub state : IfSome d.state (IsOpenState d.announced (length d.names))
-  pub few_choices : choice_count (states_so_far d) + open_choices d.state ≤ 2 ^ 22
+  pub few_choices : choice_count (states_so_far d) + open_choices d.state ≤ max_choices
   pub counted : entry_count (states_so_far d) + open_entries d.state ≤ d.entries
-  pub few_entries : d.entries ≤ 2 ^ 24
+  pub few_entries : d.entries ≤ max_entries
 
 -- a builder's draft is sound as long as nothing was refused
 abbrev pub IsGood : Draft → Type 0

@@ -2,6 +2,7 @@ ghost use Rattle.std.specs.Prelude.{◌≡◌, ◌⊎◌, ◌<◌, ◌≤◌, �
 ghost use Rattle.std.specs.Prelude.{length, map};
 ghost use Rattle.std.specs.Option.{IfSome};
 ghost use Rattle.mdp_rows.specs.Draft.{new_draft, choice_closed, state_closed, all_closed, state_opened, choice_opened, after_state, after_choice, after_entry, after_finish, finished, Follows, IsCall, IsUnrefused, has_state, has_choice, has_open_target, states_opened};
+ghost use Rattle.mdp_rows.specs.Limits.{max_states};
 ghost use Rattle.mdp_rows.specs.Sound.{FinishesModel};
 ghost use Rattle.mdp_rows.specs.Name.{AreRewardNames};
 ghost use Rattle.mdp_num.specs.Meaning.{IsWithinLimit};
@@ -285,7 +286,7 @@ impl Assembly {
         names: Vec<Vec<u8>>,
     ) -> Result<Assembly, AllocError>
         requires some { 1 ≤ states }
-        requires few { states ≤ 2 ^ 20 }
+        requires few { states ≤ max_states }
         requires names { AreRewardNames (map (λ n. n.items) names.items) }
         ensures { IfOk result (λ builder. builder ≡ new_draft states rule (map (λ n. n.items) names.items)) }
     {
@@ -346,7 +347,7 @@ impl Assembly {
         names: Vec<Vec<u8>>,
     ) -> Result<Assembly, Memory>
         requires some { 1 ≤ states }
-        requires few { states ≤ 2 ^ 20 }
+        requires few { states ≤ max_states }
         requires names { AreRewardNames (map (λ n. n.items) names.items) }
         ensures { IfOk result (λ builder. builder ≡ new_draft states rule (map (λ n. n.items) names.items)) }
     {

@@ -3,6 +3,7 @@ ghost use Rattle.mdp_num.specs.Meaning.{IsWithinLimit};
 ghost use Rattle.std.specs.Option.{IfSome};
 ghost use Rattle.mdp_rows.specs.Draft.{new_draft, choice_closed, all_closed, after_state, after_label, after_choice, after_entry, after_finish, IsCall, IsUnrefused, IsChoiceClosed, has_state, has_choice, has_open_target, states_opened};
 ghost use Rattle.mdp_rows.specs.Head.{IsSameHead};
+ghost use Rattle.mdp_rows.specs.Limits.{max_states};
 ghost use Rattle.mdp_rows.specs.Name.{IsName, AreRewardNames};
 
 use crate::assembly::Assembly;
@@ -44,7 +45,7 @@ impl Builder {
         names: Vec<Vec<u8>>,
     ) -> Result<Builder, Memory>
         requires some { 1 ≤ states }
-        requires few { states ≤ 2 ^ 20 }
+        requires few { states ≤ max_states }
         requires names { AreRewardNames (map (λ n. n.items) names.items) }
         ensures { IfOk result (λ builder. builder ≡ new_draft states rule (map (λ n. n.items) names.items)) }
     {

@@ -14,7 +14,7 @@ returns-then-len-ge-MAX_CHOICES c = record { follows = inr (past_choices c.self.
 
 pub add_rewards-requires : goal.add_rewards-requires
 add_rewards-requires c =
-    ap length c.deref.ensures.value ∙ c.self.invariant.own (λ e. absurd (let x = sym c.in-InState.is ∙ e in cc)) ∙ ap length (names_in c.self.inside _ c.self.view_is) ∙ sym c.requires.one_each
+    ap length c.deref.ensures.value ∙ c.self.invariant.head.own (λ e. absurd (let x = sym c.in-InState.is ∙ e in cc)) ∙ ap length (names_in c.self.inside _ c.self.view_is) ∙ sym c.requires.one_each
 
 pub returns-in_err-add_rewards : goal.returns-in_err-add_rewards
 returns-in_err-add_rewards c =
@@ -27,7 +27,7 @@ returns-in_err-add_rewards c =
 pub invariant_of-self-2 : goal.invariant_of-self-2
 invariant_of-self-2 c =
     let a = rw c.deref.ensures.value at (c.in_ok-add_rewards.ensures {u = tt}).added in
-    let own = c.self.invariant.own (λ e. absurd (let x = sym c.in-InState.is ∙ e in cc)) in
+    let own = c.self.invariant.head.own (λ e. absurd (let x = sym c.in-InState.is ∙ e in cc)) in
     let n = ap length (names_in c.self.inside _ c.self.view_is) in
     is_with_choice c.self.inside _ c.args.rewards.now c.self.view_is c.self.invariant c.in-InState.is (omega (arith, c.len.ensures)) _ a
     (sums_len c.self.inside.rewards.items c.args.rewards.now _ (own ∙ n ∙ sym c.requires.one_each) a ∙ c.requires.one_each ∙ sym n)
