@@ -3,10 +3,13 @@ use Rattle.std.proofs.Common.{◌≡◌, ℕ, zero, suc, ◌+◌, ◌<◌, Bool,
 use Rattle.std.specs.List.{flat_map, range_with_len, AllByRecursion}
 use Rattle.std.specs.Option.{IsSome}
 use Rattle.mdp_math.proofs.Numbers.{last_or}
-use Rattle.mdp_farkas.specs.Verdict.{Check, decide, verdict_of, InWidth, IfYes}
+use Rattle.mdp_farkas.specs.Verdict.{Check, objection, objection_to, verdict, verdict_of, InWidth, IfYes}
 use Rattle.mdp_farkas.specs.declared.verdict.Verdict.{Verdict}
 use Rattle.mdp_farkas.specs.declared.verdict.Verdict.TheVariants.{Yes, No, Wide}
-use Rattle.mdp_farkas.proofs.Walk.{flat_more, map_more}
+use Rattle.mdp_farkas.specs.declared.verdict.Objection.{Objection}
+use Rattle.mdp_math.specs.Result.{◌>>=◌}
+use Rattle.mdp_math.proofs.Lists.{flat_more, map_more}
+use Rattle.std.specs.Prelude.{Result}
 
 abbrev pub Each : (Check → Type 0) → List Check → Type 0
 Each P cs = AllByRecursion P cs
@@ -14,18 +17,18 @@ Each P cs = AllByRecursion P cs
 abbrev pub Holds : Check → Type 0
 Holds c = c.holds ≡ Some true
 
-decide_yes : (c : Check) (h : Option Bool) (rest : Verdict) → decide c h rest ≡ Yes → (h ≡ Some true) × (rest ≡ Yes)
-decide_yes c None rest e = cc
-decide_yes c (Some false) rest e = cc
-decide_yes c (Some true) rest e = (refl, e)
+none_against : (c : Check) (h : Option Bool) (rest : Result (Unit {0}) Objection) → Yes ≡ verdict (objection c h >>= (λ ok. rest)) → (h ≡ Some true) × (Yes ≡ verdict rest)
+none_against c None rest e = cc
+none_against c (Some false) rest e = cc
+none_against c (Some true) rest e = (refl, e)
 
 pub each_of_yes : (cs : List Check) → verdict_of cs ≡ Yes → Each Holds cs
 each_of_yes [] e = tt
-each_of_yes (c ∷ cs) e = let d = decide_yes c c.holds (verdict_of cs) e in (d.0, each_of_yes cs d.1)
+each_of_yes (c ∷ cs) e = let d = none_against c c.holds (objection_to cs) (sym e) in (d.0, each_of_yes cs (sym d.1))
 
 pub yes_of_each : (cs : List Check) → Each Holds cs → verdict_of cs ≡ Yes
 yes_of_each [] h = refl
-yes_of_each (c ∷ cs) h = ap (λ (x : Option Bool). decide c x (verdict_of cs)) h.0 ∙ yes_of_each cs h.1
+yes_of_each (c ∷ cs) h = ap (λ (x : Option Bool). verdict (objection c x >>= (λ ok. objection_to cs))) h.0 ∙ yes_of_each cs h.1
 
 pub told_of_each : (cs : List Check) → Each Holds cs → Each InWidth cs
 told_of_each [] h = tt

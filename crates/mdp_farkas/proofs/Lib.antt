@@ -1,4 +1,4 @@
-mod Walk
+mod Objections
 mod Holds
 mod Comparing
 mod Summing

@@ -5,7 +5,10 @@ use Rattle.std.specs.Option.{IsSome}
 use Rattle.std.proofs.lemmas.List.Elements.{All-from_recursion, recursion_from_All}
 use Rattle.std.proofs.lemmas.List.Folds.{Any-from_list_any, list_any-from_Any}
 use Rattle.mdp_math.specs.Rational.{ℚ, of_int, lt_ℚ, ◌≤ℚ◌, ◌<ℚ◌}
-use Rattle.mdp_math.proofs.Order.{≤ℚ_of_eq, ≤ℚ_or_gt, ≤ℚ_antisymm, clash_ℚ}
+use Rattle.mdp_math.proofs.Booleans.{and-parts, and-both}
+use Rattle.mdp_math.proofs.Options.{Some_same}
+use Rattle.mdp_math.proofs.Extremes.{lt_of_test, test_of_lt, le_of_no_test, no_test_of_le}
+use Rattle.mdp_math.proofs.Order.{≤ℚ_of_eq, ≤ℚ_antisymm}
 use Rattle.mdp_spec.specs.Mdp.{Entry, Mdp, states_of, choices_at, row_at, value_at}
 use Rattle.mdp_spec.specs.Row.{IsMdp, row_sum}
 use Rattle.mdp_spec.specs.Rules.{AreProbabilities, RanksEnd}
@@ -13,7 +16,7 @@ use Rattle.mdp_spec.specs.Bounds.{ReachMax, ReachMin}
 use Rattle.mdp_spec.specs.Tree.{IsPolicy, is_marked}
 use Rattle.mdp_spec.proofs.Reach.{reach_max_of_rules, reach_min_of_rules}
 use Rattle.mdp_farkas.specs.Verdict.{Check, verdict_of, InWidth, IsYes, IfYes}
-use Rattle.mdp_farkas.specs.Upper.{0ℚ, 1ℚ, is_goal, goal_check}
+use Rattle.mdp_farkas.specs.Upper.{0ℚ, 1ℚ, goal_check}
 use Rattle.mdp_farkas.specs.Reach.{stands, other, stands_at, bound_check, bound_checks, policy_check, value_checks, ends, rank_check, leads_down, fall_check, fall_checks, rank_checks, reach_at, reach_checks, MeetsReach, IsReach}
 use Rattle.mdp_rows.specs.declared.dir.Dir.{Dir}
 use Rattle.mdp_rows.specs.declared.dir.Dir.TheVariants.{Max, Min}
@@ -23,37 +26,6 @@ use Rattle.mdp_farkas.proofs.Comparing.{le_of_at_least, at_least_of_le, le_of_at
 use Rattle.mdp_farkas.proofs.Summing.{summed, told_of_holds}
 
 -- ---- tests
-
-some_same : (a b : Bool) → Some a ≡ Some b → a ≡ b
-some_same a b e = cc
-
-true_of_T : (b : Bool) → T b → b ≡ true
-true_of_T true h = refl
-true_of_T false h = absurd h
-
-test_of_lt : (x y : ℚ) → x <ℚ y → lt_ℚ x y ≡ true
-test_of_lt x y h = true_of_T (lt_ℚ x y) h.lt
-
-lt_of_test : (x y : ℚ) → lt_ℚ x y ≡ true → x <ℚ y
-lt_of_test x y e = record { lt = subst T (sym e) tt }
-
-not_true : (b : Bool) → (b ≡ true → ⊥) → b ≡ false
-not_true true h = absurd (h refl)
-not_true false h = refl
-
-no_test_of_le : (x y : ℚ) → y ≤ℚ x → lt_ℚ x y ≡ false
-no_test_of_le x y h = not_true (lt_ℚ x y) (λ e. clash_ℚ x y (lt_of_test x y e) h)
-
-le_of_no_test : (x y : ℚ) → lt_ℚ x y ≡ false → y ≤ℚ x
-le_of_no_test x y e = ⊎_elim (λ l. l) (λ l. absurd (true≢false (sym (test_of_lt x y l) ∙ e))) (≤ℚ_or_gt y x)
-
-both_of_and : (a b : Bool) → a && b ≡ true → (a ≡ true) × (b ≡ true)
-both_of_and true b e = (refl, e)
-both_of_and false b e = absurd (true≢false (sym e))
-
-and_of_both : (a b : Bool) → a ≡ true → b ≡ true → a && b ≡ true
-and_of_both true b e f = f
-and_of_both false b e f = e
 
 end_of : (g l : Bool) → (g ≡ true) ⊎ (l ≡ false) → (g || not l) ≡ true
 end_of true l h = refl
@@ -108,16 +80,16 @@ module _ (dir : Dir) (m : Mdp) (goals : List Bool) (z : List ℚ) (policy ranks 
   ranks_at : (P : Check → Type 0) (s : ℕ) → Each P (reach_at dir m goals z ranks s (slice_index policy s)) → Each P (rank_checks dir m goals z ranks s (slice_index policy s))
   ranks_at P s h = each_right P (value_checks dir m goals z s (slice_index policy s)) (rank_checks dir m goals z ranks s (slice_index policy s)) h.1.1.1
 
-  goal_at : (P : Check → Type 0) (s : ℕ) → is_goal goals s ≡ true → Each P (reach_at dir m goals z ranks s (slice_index policy s)) → P (goal_check z s)
-  goal_at P s g h = (each_if_true P (is_goal goals s) (goal_check z s ∷ []) (bound_checks dir m z s ++ policy_check dir m z s (slice_index policy s) ∷ []) g (values_at P s h)).0
+  goal_at : (P : Check → Type 0) (s : ℕ) → is_marked goals s ≡ true → Each P (reach_at dir m goals z ranks s (slice_index policy s)) → P (goal_check z s)
+  goal_at P s g h = (each_if_true P (is_marked goals s) (goal_check z s ∷ []) (bound_checks dir m z s ++ policy_check dir m z s (slice_index policy s) ∷ []) g (values_at P s h)).0
 
-  sums_at : (P : Check → Type 0) (s : ℕ) → is_goal goals s ≡ false → Each P (reach_at dir m goals z ranks s (slice_index policy s)) → Each P (bound_checks dir m z s ++ policy_check dir m z s (slice_index policy s) ∷ [])
-  sums_at P s g h = each_if_false P (is_goal goals s) (goal_check z s ∷ []) (bound_checks dir m z s ++ policy_check dir m z s (slice_index policy s) ∷ []) g (values_at P s h)
+  sums_at : (P : Check → Type 0) (s : ℕ) → is_marked goals s ≡ false → Each P (reach_at dir m goals z ranks s (slice_index policy s)) → Each P (bound_checks dir m z s ++ policy_check dir m z s (slice_index policy s) ∷ [])
+  sums_at P s g h = each_if_false P (is_marked goals s) (goal_check z s ∷ []) (bound_checks dir m z s ++ policy_check dir m z s (slice_index policy s) ∷ []) g (values_at P s h)
 
-  bound_at : (P : Check → Type 0) (s c : ℕ) → is_goal goals s ≡ false → c < length (choices_at m s) → Each P (reach_at dir m goals z ranks s (slice_index policy s)) → P (bound_check dir m z s c)
+  bound_at : (P : Check → Type 0) (s c : ℕ) → is_marked goals s ≡ false → c < length (choices_at m s) → Each P (reach_at dir m goals z ranks s (slice_index policy s)) → P (bound_check dir m z s c)
   bound_at P s c g i h = each_map_at P (bound_check dir m z s) (length (choices_at m s)) c (each_left P (bound_checks dir m z s) (policy_check dir m z s (slice_index policy s) ∷ []) (sums_at P s g h)) i
 
-  policy_at : (P : Check → Type 0) (s : ℕ) → is_goal goals s ≡ false → Each P (reach_at dir m goals z ranks s (slice_index policy s)) → P (policy_check dir m z s (slice_index policy s))
+  policy_at : (P : Check → Type 0) (s : ℕ) → is_marked goals s ≡ false → Each P (reach_at dir m goals z ranks s (slice_index policy s)) → P (policy_check dir m z s (slice_index policy s))
   policy_at P s g h = (each_right P (bound_checks dir m z s) (policy_check dir m z s (slice_index policy s) ∷ []) (sums_at P s g h)).0
 
   end_at : (P : Check → Type 0) (s : ℕ) → ends goals z s ≡ true → Each P (reach_at dir m goals z ranks s (slice_index policy s)) → P (rank_check ranks s)
@@ -127,16 +99,16 @@ module _ (dir : Dir) (m : Mdp) (goals : List Bool) (z : List ℚ) (policy ranks 
   falls_at P s e h = each_if_false P (ends goals z s) (rank_check ranks s ∷ []) (fall_checks dir m z ranks s (slice_index policy s)) e (ranks_at P s h)
 
   is_end : (s : ℕ) → (is_marked goals s ≡ true) ⊎ (value_at z s ≡ of_int (pos 0)) → ends goals z s ≡ true
-  is_end s h = end_of (is_goal goals s) (lt_ℚ 0ℚ (value_at z s)) (⊎_elim (λ g. inl g) (λ e. inr (no_test_of_le 0ℚ (value_at z s) (≤ℚ_of_eq (value_at z s) 0ℚ e))) h)
+  is_end s h = end_of (is_marked goals s) (lt_ℚ 0ℚ (value_at z s)) (⊎_elim (λ g. inl g) (λ e. inr (no_test_of_le 0ℚ (value_at z s) (≤ℚ_of_eq (value_at z s) 0ℚ e))) h)
 
   is_no_end : (s : ℕ) → is_marked goals s ≡ false → 0ℚ <ℚ value_at z s → ends goals z s ≡ false
-  is_no_end s g l = no_end_of (is_goal goals s) (lt_ℚ 0ℚ (value_at z s)) g (test_of_lt 0ℚ (value_at z s) l)
+  is_no_end s g l = no_end_of (is_marked goals s) (lt_ℚ 0ℚ (value_at z s)) g (test_of_lt 0ℚ (value_at z s) l)
 
   -- ---- what holds, in exact numbers
 
   module _ (each : length policy ≡ states_of m) (h : Each Holds (reach_checks dir m goals z policy ranks)) where
     choices_of : IsPolicy m policy
-    choices_of = record { one_each = each; in_range = λ s l. ltb-true (slice_index policy s) (length (choices_at m s)) (some_same _ _ (at Holds s h l).0) }
+    choices_of = record { one_each = each; in_range = λ s l. ltb-true (slice_index policy s) (length (choices_at m s)) (Some_same _ _ (at Holds s h l).0) }
 
     probabilities_of : AreProbabilities m goals z
     probabilities_of = record {
@@ -152,7 +124,7 @@ module _ (dir : Dir) (m : Mdp) (goals : List Bool) (z : List ℚ) (policy ranks 
     meets_of s l g = stands_at_of m z (other dir) s (slice_index policy s) (policy_at Holds s g (at Holds s h l))
 
     ends_of : RanksEnd m goals z ranks
-    ends_of s l e = eqb-true (slice_index ranks s) 0 (some_same _ _ (end_at Holds s (is_end s e) (at Holds s h l)))
+    ends_of s l e = eqb-true (slice_index ranks s) 0 (Some_same _ _ (end_at Holds s (is_end s e) (at Holds s h l)))
 
     falls_of : (s : ℕ) → s < states_of m → is_marked goals s ≡ false → 0ℚ <ℚ value_at z s → Each Holds (fall_checks dir m z ranks s (slice_index policy s))
     falls_of s l g p = falls_at Holds s (is_no_end s g p) (at Holds s h l)
@@ -167,7 +139,7 @@ module _ (dir : Dir) (m : Mdp) (goals : List Bool) (z : List ℚ) (policy ranks 
       (falls : is_marked goals s ≡ false → 0ℚ <ℚ value_at z s → Each Holds (fall_checks dir m z ranks s (slice_index policy s))) where
     values_hold : Each Holds (value_checks dir m goals z s (slice_index policy s))
     values_hold =
-        each_if Holds (is_goal goals s) (goal_check z s ∷ []) (bound_checks dir m z s ++ policy_check dir m z s (slice_index policy s) ∷ [])
+        each_if Holds (is_marked goals s) (goal_check z s ∷ []) (bound_checks dir m z s ++ policy_check dir m z s (slice_index policy s) ∷ [])
         (λ g. (equal_of_same (value_at z s) 1ℚ (AreProbabilities.at_goal p s l g) (goal_at InWidth s g w), tt))
         (λ g.
         each_append Holds (bound_checks dir m z s) (policy_check dir m z s (slice_index policy s) ∷ [])
@@ -178,9 +150,9 @@ module _ (dir : Dir) (m : Mdp) (goals : List Bool) (z : List ℚ) (policy ranks 
     ranks_hold =
         each_if Holds (ends goals z s) (rank_check ranks s ∷ []) (fall_checks dir m z ranks s (slice_index policy s))
         (λ e.
-        let zero_at = end s l (⊎_elim (λ g. inl g) (λ n. inr (≤ℚ_antisymm _ _ (le_of_no_test 0ℚ (value_at z s) n) (AreProbabilities.at_least_zero p s l))) (of_end (is_goal goals s) (lt_ℚ 0ℚ (value_at z s)) e)) in
+        let zero_at = end s l (⊎_elim (λ g. inl g) (λ n. inr (≤ℚ_antisymm _ _ (le_of_no_test 0ℚ (value_at z s) n) (AreProbabilities.at_least_zero p s l))) (of_end (is_marked goals s) (lt_ℚ 0ℚ (value_at z s)) e)) in
         (ap Some (eq-eqb (slice_index ranks s) 0 zero_at), tt))
-        (λ e. let n = of_no_end (is_goal goals s) (lt_ℚ 0ℚ (value_at z s)) e in falls n.0 (lt_of_test 0ℚ (value_at z s) n.1))
+        (λ e. let n = of_no_end (is_marked goals s) (lt_ℚ 0ℚ (value_at z s)) e in falls n.0 (lt_of_test 0ℚ (value_at z s) n.1))
 
     state_holds : Each Holds (reach_at dir m goals z ranks s (slice_index policy s))
     state_holds = (
@@ -197,11 +169,11 @@ module _ (m : Mdp) (goals : List Bool) (z : List ℚ) (policy ranks : List ℕ) 
   max_falls : (s c : ℕ) → list_any (λ (y : Entry). leads_down Max z ranks s y.target) (row_at m s c) ≡ true → Any (λ y. (0ℚ <ℚ value_at z y.target) × (slice_index ranks y.target < slice_index ranks s)) (row_at m s c)
   max_falls s c e =
       let a = Any-from_list_any (λ (y : Entry). leads_down Max z ranks s y.target) (row_at m s c) e in
-      let b = both_of_and (ltb (slice_index ranks (Entry.target a.1)) (slice_index ranks s)) (lt_ℚ 0ℚ (value_at z (Entry.target a.1))) a.4 in
+      let b = and-parts (ltb (slice_index ranks (Entry.target a.1)) (slice_index ranks s)) (lt_ℚ 0ℚ (value_at z (Entry.target a.1))) a.4 in
       (a.0, a.1, a.2, a.3, (lt_of_test 0ℚ _ b.1, ltb-true _ _ b.0))
 
   falls_max : (s c : ℕ) → Any (λ y. (0ℚ <ℚ value_at z y.target) × (slice_index ranks y.target < slice_index ranks s)) (row_at m s c) → list_any (λ (y : Entry). leads_down Max z ranks s y.target) (row_at m s c) ≡ true
-  falls_max s c a = list_any-from_Any (λ (y : Entry). leads_down Max z ranks s y.target) (row_at m s c) (a.0, a.1, a.2, a.3, and_of_both _ _ (lt-ltb _ _ a.4.1) (test_of_lt 0ℚ _ a.4.0))
+  falls_max s c a = list_any-from_Any (λ (y : Entry). leads_down Max z ranks s y.target) (row_at m s c) (a.0, a.1, a.2, a.3, and-both _ _ (lt-ltb _ _ a.4.1) (test_of_lt 0ℚ _ a.4.0))
 
   min_falls : (s c : ℕ) → list_any (λ (y : Entry). leads_down Min z ranks s y.target) (row_at m s c) ≡ true → Any (λ y. slice_index ranks y.target < slice_index ranks s) (row_at m s c)
   min_falls s c e = let a = Any-from_list_any (λ (y : Entry). leads_down Min z ranks s y.target) (row_at m s c) e in (a.0, a.1, a.2, a.3, ltb-true _ _ a.4)
@@ -216,7 +188,7 @@ module _ (m : Mdp) (goals : List Bool) (z : List ℚ) (policy ranks : List ℕ) 
     covers = bounds_of Max m goals z policy ranks each h;
     reached = meets_of Max m goals z policy ranks each h;
     ends = ends_of Max m goals z policy ranks each h;
-    falls = λ s l g p. max_falls s (slice_index policy s) (some_same _ _ (falls_of Max m goals z policy ranks each h s l g p).0);
+    falls = λ s l g p. max_falls s (slice_index policy s) (Some_same _ _ (falls_of Max m goals z policy ranks each h s l g p).0);
   }
   meets_of_holds Min each h = record {
     choices = choices_of Min m goals z policy ranks each h;
@@ -224,7 +196,7 @@ module _ (m : Mdp) (goals : List Bool) (z : List ℚ) (policy ranks : List ℕ) 
     covered = bounds_of Min m goals z policy ranks each h;
     reached = meets_of Min m goals z policy ranks each h;
     ends = ends_of Min m goals z policy ranks each h;
-    falls = λ s c l g p i. min_falls s c (some_same _ _ (each_map_at Holds (fall_check Min m z ranks s) (length (choices_at m s)) c (falls_of Min m goals z policy ranks each h s l g p) i));
+    falls = λ s c l g p i. min_falls s c (Some_same _ _ (each_map_at Holds (fall_check Min m z ranks s) (length (choices_at m s)) c (falls_of Min m goals z policy ranks each h s l g p) i));
   }
 
   holds_of_meets : (dir : Dir) (s : ℕ) → s < states_of m → MeetsReach dir m goals z policy ranks → Each InWidth (reach_at dir m goals z ranks s (slice_index policy s)) → Each Holds (reach_at dir m goals z ranks s (slice_index policy s))

@@ -3,6 +3,7 @@ use Rattle.std.proofs.Common.{◌≡◌, Bool, true, true≢false, List, [], ◌
 use Rattle.std.specs.Option.{IsSome, option_and_then}
 use Rattle.mdp_math.specs.Rational.{ℚ, of_int, ◌+ℚ◌, ◌*ℚ◌}
 use Rattle.mdp_math.specs.Written.{written_add, written_mul}
+use Rattle.mdp_math.proofs.Options.{step_told}
 use Rattle.mdp_math.proofs.Written.{written_mul-some, written_add-some}
 use Rattle.mdp_math.proofs.Ring.{◌⊕◌, lit, ring}
 use Rattle.mdp_math.proofs.Laws.{rat_ring, zero-+ℚ, +ℚ_assoc}
@@ -10,18 +11,13 @@ use Rattle.mdp_spec.specs.Mdp.{Entry, value_at}
 use Rattle.mdp_spec.specs.Row.{row_sum}
 use Rattle.mdp_spec.specs.Written.{written_sum}
 
--- the first step that is told
-told : {A B : Type 0} (o : Option A) (f : A → Option B) (v : B) → Some v ≡ option_and_then f o → (a : A) × (Some a ≡ o) × (Some v ≡ f a)
-told None f v e = cc
-told (Some a) f v e = (a, refl, e)
-
 pub written_sum-some : (z : List ℚ) (acc : ℚ) (row : List Entry) (v : ℚ) → Some v ≡ written_sum z acc row → v ≡ acc +ℚ row_sum row z
 written_sum-some z acc [] v e =
     let same : v ≡ acc = cc in
     same ∙ ring rat_ring 1 (λ a. a) (λ a. a ⊕ lit (pos 0)) refl acc
 written_sum-some z acc (x ∷ row) v e =
-    let p = told (written_mul x.prob (value_at z x.target)) (λ term. option_and_then (λ sum. written_sum z sum row) (written_add acc term)) v e in
-    let q = told (written_add acc p.0) (λ sum. written_sum z sum row) v p.2 in
+    let p = step_told (written_mul x.prob (value_at z x.target)) (λ term. option_and_then (λ sum. written_sum z sum row) (written_add acc term)) v e in
+    let q = step_told (written_add acc p.0) (λ sum. written_sum z sum row) v p.2 in
     let product = written_mul-some x.prob (value_at z x.target) p.0 p.1 in
     let sum = written_add-some acc p.0 q.0 q.1 in
     written_sum-some z q.0 row v q.2

@@ -1,4 +1,5 @@
--- The rules for values and a policy of reachability (Funke, Jantsch and Baier 2020).
+-- The rules for values and a policy of reachability: a Farkas certificate, and a policy that comes close to it (Funke, Jantsch and Baier
+-- 2020). Rules 5 and 6 are Bellman's equation in two inequalities.
 --     rule 2   the policy takes a choice that the state has
 --     rule 3   the value is from 0 to 1
 --     rule 4   at a goal it is 1
@@ -13,10 +14,11 @@ use Rattle.mdp_math.specs.Rational.{ℚ, lt_ℚ}
 use Rattle.mdp_math.specs.Written.{◌>>=◌}
 use Rattle.mdp_spec.specs.Mdp.{Mdp, states_of, choices_at, row_at, value_at}
 use Rattle.mdp_spec.specs.Written.{written_sum}
+use Rattle.mdp_spec.specs.Tree.{is_marked}
 use Rattle.mdp_spec.specs.Rules.{MeetsReachMax, MeetsReachMin}
 use Rattle.mdp_farkas.specs.Compare.{is_at_least, is_at_most}
 use Rattle.mdp_farkas.specs.Verdict.{Check, InWidth}
-use Rattle.mdp_farkas.specs.Upper.{0ℚ, is_goal, at_state, at_choice, probability_checks, goal_check}
+use Rattle.mdp_farkas.specs.Upper.{0ℚ, at_state, at_choice, probability_checks, goal_check}
 use Rattle.mdp_rows.specs.declared.dir.Dir.{Dir}
 use Rattle.mdp_rows.specs.declared.dir.Dir.TheVariants.{Max, Min}
 
@@ -48,11 +50,11 @@ abbrev pub policy_check : Dir → Mdp → List ℚ → ℕ → ℕ → Check
 policy_check dir m z s choice = at_choice 6 s choice (stands_at (other dir) m z s choice)
 
 abbrev pub value_checks : Dir → Mdp → List Bool → List ℚ → ℕ → ℕ → List Check
-value_checks dir m goals z s choice = if is_goal goals s then goal_check z s ∷ [] else bound_checks dir m z s ++ policy_check dir m z s choice ∷ []
+value_checks dir m goals z s choice = if is_marked goals s then goal_check z s ∷ [] else bound_checks dir m z s ++ policy_check dir m z s choice ∷ []
 
 -- a goal, or a state of value 0 (rule 3 has turned away those below)
 abbrev pub ends : List Bool → List ℚ → ℕ → Bool
-ends goals z s = is_goal goals s || not (lt_ℚ 0ℚ (value_at z s))
+ends goals z s = is_marked goals s || not (lt_ℚ 0ℚ (value_at z s))
 
 -- rule 7
 abbrev pub rank_check : List ℕ → ℕ → Check

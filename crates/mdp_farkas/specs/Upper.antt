@@ -1,13 +1,14 @@
--- The rules for upper bounds of the probability to reach a goal (Funke, Jantsch and Baier 2020).
+-- The rules for upper bounds of the probability to reach a goal: the values are a Farkas certificate (Funke, Jantsch and Baier 2020).
 --     rule 3   the value is from 0 to 1
 --     rule 4   at a goal it is 1
---     rule 5   at any other state it is at least the sum over each choice's row
-use Rattle.std.specs.Prelude.{ℕ, Bool, false, List, [], ◌∷◌, ◌++◌, length, map, slice_index_or, Option, Some, None, pos, if◌then◌else◌}
+--     rule 5   at any other state it is at least the sum over each choice's row (Bellman's inequality)
+use Rattle.std.specs.Prelude.{ℕ, Bool, List, [], ◌∷◌, ◌++◌, length, map, Option, Some, None, pos, if◌then◌else◌}
 use Rattle.std.specs.List.{All, flat_map, range_with_len}
 use Rattle.mdp_math.specs.Rational.{ℚ, of_int}
 use Rattle.mdp_math.specs.Written.{◌>>=◌}
 use Rattle.mdp_spec.specs.Mdp.{Mdp, states_of, choices_at, row_at, value_at}
 use Rattle.mdp_spec.specs.Written.{written_sum}
+use Rattle.mdp_spec.specs.Tree.{is_marked}
 use Rattle.mdp_spec.specs.Rules.{MeetsUpper}
 use Rattle.mdp_farkas.specs.Compare.{is_at_least, is_at_most, is_equal}
 use Rattle.mdp_farkas.specs.Verdict.{Check, InWidth}
@@ -17,9 +18,6 @@ abbrev pub 0ℚ : ℚ
 
 abbrev pub 1ℚ : ℚ
 1ℚ = of_int (pos 1)
-
-abbrev pub is_goal : List Bool → ℕ → Bool
-is_goal goals s = slice_index_or goals s false
 
 -- a check at a state, and one at a choice of a state
 abbrev pub at_state : ℕ → ℕ → Option Bool → Check
@@ -47,7 +45,7 @@ abbrev pub choice_checks : Mdp → List ℚ → ℕ → List Check
 choice_checks m z s = map (choice_check m z s) (range_with_len 0 (length (choices_at m s)))
 
 abbrev pub upper_at : Mdp → List Bool → List ℚ → ℕ → List Check
-upper_at m goals z s = probability_checks z s ++ (if is_goal goals s then goal_check z s ∷ [] else choice_checks m z s)
+upper_at m goals z s = probability_checks z s ++ (if is_marked goals s then goal_check z s ∷ [] else choice_checks m z s)
 
 -- the states ascend, at a state the rules, in a rule the choices
 abbrev pub upper_checks : Mdp → List Bool → List ℚ → List Check

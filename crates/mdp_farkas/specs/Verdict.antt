@@ -1,8 +1,11 @@
 -- A verdict: what a list of checks, walked in order, says.
-use Rattle.std.specs.Prelude.{◌≡◌, ℕ, Bool, true, false, List, [], ◌∷◌, Option, Some, None}
+use Rattle.std.specs.Prelude.{◌≡◌, ℕ, Bool, true, false, List, [], ◌∷◌, Option, Some, None, Result, Ok, Err}
 use Rattle.std.specs.Option.{IsSome}
+use Rattle.mdp_math.specs.Result.{◌>>=◌}
 use Rattle.mdp_farkas.specs.declared.verdict.Verdict.{Verdict}
 use Rattle.mdp_farkas.specs.declared.verdict.Verdict.TheVariants.{Yes, No, Wide}
+use Rattle.mdp_farkas.specs.declared.verdict.Objection.{Objection}
+use Rattle.mdp_farkas.specs.declared.verdict.Objection.TheVariants.{Broken, PastWidth}
 
 -- a check of a rule at a place: whether it holds, or nothing where one of its written terms is past width
 pub record Check : Type 0 where
@@ -11,16 +14,26 @@ pub record Check : Type 0 where
   pub choice : Option ℕ
   pub holds : Option Bool
 
--- what a check says, where all before it hold; `rest` is what those behind it say
-abbrev pub decide : Check → Option Bool → Verdict → Verdict
-decide c None rest = Wide c.state c.choice
-decide c (Some false) rest = No (record { rule = c.rule; state = c.state; choice = c.choice })
-decide c (Some true) rest = rest
+-- what stands against a check
+abbrev pub objection : Check → Option Bool → Result (Unit {0}) Objection
+objection c None = Err (PastWidth c.state c.choice)
+objection c (Some false) = Err (Broken (record { rule = c.rule; state = c.state; choice = c.choice }))
+objection c (Some true) = Ok tt
 
--- yes where all hold; else the first that is false or has a term past width
+-- the first that stands against one of these checks
+abbrev pub objection_to : List Check → Result (Unit {0}) Objection
+objection_to [] = Ok tt
+objection_to (c ∷ cs) = objection c c.holds >>= λ ok. objection_to cs
+
+-- yes where nothing stands against them
+abbrev pub verdict : Result (Unit {0}) Objection → Verdict
+verdict (Ok ok) = Yes
+verdict (Err (Broken fault)) = No fault
+verdict (Err (PastWidth state choice)) = Wide state choice
+
+-- yes where all checks hold; else the first that is false or has a term past width
 abbrev pub verdict_of : List Check → Verdict
-verdict_of [] = Yes
-verdict_of (c ∷ cs) = decide c c.holds (verdict_of cs)
+verdict_of cs = verdict (objection_to cs)
 
 -- no written term of the check is past width
 abbrev pub InWidth : Check → Type 0

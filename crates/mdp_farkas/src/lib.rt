@@ -7,6 +7,7 @@ mod ranks;
 mod reach;
 mod upper;
 mod verdict;
+mod walk;
 
 pub use mdp_rows::Dir;
 pub use reach::{ReachCert, holds_reach};

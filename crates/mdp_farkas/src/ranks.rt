@@ -5,10 +5,11 @@ ghost use Rattle.mdp_spec.specs.Mdp.{states_of, choices_at, row_at};
 ghost use Rattle.mdp_spec.specs.Row.{entries};
 ghost use Rattle.mdp_farkas.specs.Upper.{0ℚ};
 ghost use Rattle.mdp_farkas.specs.Reach.{ends, leads_down, rank_check, fall_check, fall_checks, rank_checks};
-ghost use Rattle.mdp_farkas.specs.Verdict.{verdict_of};
+ghost use Rattle.mdp_farkas.specs.Verdict.{objection_to};
 ghost use Rattle.mdp_rows.specs.declared.dir.Dir.TheVariants.{Min};
 
-use crate::verdict::{Verdict, judged};
+use crate::verdict::{Objection, judged};
+use crate::walk::each_below;
 use mdp_num::Frac;
 use mdp_rows::{Dir, Marks, Model, Row};
 
@@ -58,12 +59,12 @@ fn row_leads_on(row: Row<'_>, dir: Dir, values: &[Frac], ranks: &[u32], s: u32) 
 }
 
 /// An entry of the row of choice `c` leads on from state `s`.
-fn fall_at(model: &Model, dir: Dir, values: &[Frac], ranks: &[u32], s: u32, c: u32) -> Verdict
+fn fall_at(model: &Model, dir: Dir, values: &[Frac], ranks: &[u32], s: u32, c: u32) -> Result<(), Objection>
     requires values { length values.now ≡ states_of model.now }
     requires ranks { length ranks.now ≡ states_of model.now }
     requires state { s < states_of model.now }
     requires choice { c < length (choices_at model.now s) }
-    ensures { result ≡ verdict_of (fall_check dir model.now values.now ranks.now s c ∷ []) }
+    ensures { result ≡ objection_to (fall_check dir model.now values.now ranks.now s c ∷ []) }
 {
     judged(
         Ok(row_leads_on(model.row(s, c), dir, values, ranks, s)),
@@ -74,19 +75,15 @@ fn fall_at(model: &Model, dir: Dir, values: &[Frac], ranks: &[u32], s: u32, c: u
 }
 
 /// An entry of the row of each choice leads on from state `s`.
-fn falls_at_choices(model: &Model, values: &[Frac], ranks: &[u32], s: u32) -> Verdict
+fn falls_at_choices(model: &Model, values: &[Frac], ranks: &[u32], s: u32) -> Result<(), Objection>
     requires values { length values.now ≡ states_of model.now }
     requires ranks { length ranks.now ≡ states_of model.now }
     requires state { s < states_of model.now }
-    ensures { result ≡ verdict_of (fall_checks Min model.now values.now ranks.now s 0) }
+    ensures { result ≡ objection_to (fall_checks Min model.now values.now ranks.now s 0) }
 {
-    for c in 0..model.choices(s) {
-        match fall_at(model, Dir::Min, values, ranks, s, c) {
-            Verdict::Yes => {}
-            other => return other,
-        }
-    }
-    Verdict::Yes
+    each_below(model.choices(s), |c| {
+        fall_at(model, Dir::Min, values, ranks, s, c)
+    })
 }
 
 /// State `s` has rank 0 where it is a goal or has value 0; else its row, or for the least probability each row, leads on from it.
@@ -98,13 +95,13 @@ pub(crate) fn rank_at_state(
     ranks: &[u32],
     s: u32,
     choice: u32,
-) -> Verdict
+) -> Result<(), Objection>
     requires goals { length goals.now ≡ states_of model.now }
     requires values { length values.now ≡ states_of model.now }
     requires ranks { length ranks.now ≡ states_of model.now }
     requires state { s < states_of model.now }
     requires choice { choice < length (choices_at model.now s) }
-    ensures { result ≡ verdict_of (rank_checks dir model.now goals.now values.now ranks.now s choice) }
+    ensures { result ≡ objection_to (rank_checks dir model.now goals.now values.now ranks.now s choice) }
 {
     if ends_at(goals, values, s) {
         return judged(Ok(ranks[s as usize] == 0), 7, s, None);

@@ -1,15 +1,16 @@
 ghost use Rattle.std.specs.Prelude.{◌≡◌, ◌<◌, ◌↔◌, length, [], ◌∷◌, slice_index};
 ghost use Rattle.std.specs.Result.{result_ok};
 ghost use Rattle.mdp_spec.specs.Mdp.{states_of, choices_at};
-ghost use Rattle.mdp_farkas.specs.Reach.{choice_exists, other, stands_at, bound_checks, value_checks, reach_at, reach_checks, IsReach};
-ghost use Rattle.mdp_farkas.specs.Verdict.{verdict_of, IsYes, IfYes};
+ghost use Rattle.mdp_farkas.specs.Reach.{choice_exists, other, stands_at, bound_check, bound_checks, policy_check, value_checks, reach_at, reach_checks, IsReach};
+ghost use Rattle.mdp_farkas.specs.Verdict.{objection_to, verdict_of, IsYes, IfYes};
 ghost use Rattle.mdp_rows.specs.declared.dir.Dir.TheVariants.{Max, Min};
 ghost use Rattle.mdp_spec.specs.Bounds.{ReachMax, ReachMin};
 
 use crate::compare::{at_least, at_most};
 use crate::ranks::rank_at_state;
 use crate::upper::{goal_at, probability_at};
-use crate::verdict::{Verdict, judged};
+use crate::verdict::{Objection, Verdict, judged, verdict_after};
+use crate::walk::each_below;
 use mdp_num::{Frac, Wide};
 use mdp_rows::{Dir, Marks, Model};
 
@@ -32,9 +33,9 @@ fn reversed(dir: Dir) -> Dir
 }
 
 /// State `s` has the choice.
-fn choice_at(model: &Model, s: u32, choice: u32) -> Verdict
+fn choice_at(model: &Model, s: u32, choice: u32) -> Result<(), Objection>
     requires { s < states_of model.now }
-    ensures { result ≡ verdict_of (choice_exists model.now s choice ∷ []) }
+    ensures { result ≡ objection_to (choice_exists model.now s choice ∷ []) }
 {
     judged(Ok(choice < model.choices(s)), 2, s, Some(choice))
 }
@@ -53,22 +54,41 @@ fn row_stands(model: &Model, dir: Dir, values: &[Frac], s: u32, c: u32) -> Resul
     }
 }
 
-/// The value of state `s` stands so to the sum over the row of each choice.
-fn bounds_at_state(model: &Model, dir: Dir, values: &[Frac], s: u32) -> Verdict
+/// Bellman's inequality at state `s` and its choice `c`: the value is at least, or for the least probability at most, the sum over the row.
+fn bound_at(model: &Model, dir: Dir, values: &[Frac], s: u32, c: u32) -> Result<(), Objection>
     requires values { length values.now ≡ states_of model.now }
     requires state { s < states_of model.now }
-    ensures { result ≡ verdict_of (bound_checks dir model.now values.now s) }
+    requires choice { c < length (choices_at model.now s) }
+    ensures { result ≡ objection_to (bound_check dir model.now values.now s c ∷ []) }
 {
-    for c in 0..model.choices(s) {
-        match judged(row_stands(model, dir, values, s, c), 5, s, Some(c)) {
-            Verdict::Yes => {}
-            other => return other,
-        }
-    }
-    Verdict::Yes
+    judged(row_stands(model, dir, values, s, c), 5, s, Some(c))
 }
 
-/// The value of state `s` is 1 at a goal; else it bounds the sums, and meets that of the policy's choice.
+/// The inequality the other way round, for the choice of the policy.
+fn policy_meets(model: &Model, dir: Dir, values: &[Frac], s: u32, choice: u32) -> Result<(), Objection>
+    requires values { length values.now ≡ states_of model.now }
+    requires state { s < states_of model.now }
+    requires choice { choice < length (choices_at model.now s) }
+    ensures { result ≡ objection_to (policy_check dir model.now values.now s choice ∷ []) }
+{
+    judged(
+        row_stands(model, reversed(dir), values, s, choice),
+        6,
+        s,
+        Some(choice),
+    )
+}
+
+/// The inequality at each choice of state `s`.
+fn bounds_at_state(model: &Model, dir: Dir, values: &[Frac], s: u32) -> Result<(), Objection>
+    requires values { length values.now ≡ states_of model.now }
+    requires state { s < states_of model.now }
+    ensures { result ≡ objection_to (bound_checks dir model.now values.now s) }
+{
+    each_below(model.choices(s), |c| bound_at(model, dir, values, s, c))
+}
+
+/// The value of state `s` is 1 at a goal; else Bellman's inequality holds, and for the policy's choice the other way round too.
 fn value_at_state(
     model: &Model,
     goals: &Marks,
@@ -76,26 +96,18 @@ fn value_at_state(
     values: &[Frac],
     s: u32,
     choice: u32,
-) -> Verdict
+) -> Result<(), Objection>
     requires goals { length goals.now ≡ states_of model.now }
     requires values { length values.now ≡ states_of model.now }
     requires state { s < states_of model.now }
     requires choice { choice < length (choices_at model.now s) }
-    ensures { result ≡ verdict_of (value_checks dir model.now goals.now values.now s choice) }
+    ensures { result ≡ objection_to (value_checks dir model.now goals.now values.now s choice) }
 {
     if goals.at(s) {
         return goal_at(values, s);
     }
-    match bounds_at_state(model, dir, values, s) {
-        Verdict::Yes => {}
-        other => return other,
-    }
-    judged(
-        row_stands(model, reversed(dir), values, s, choice),
-        6,
-        s,
-        Some(choice),
-    )
+    bounds_at_state(model, dir, values, s)?;
+    policy_meets(model, dir, values, s, choice)
 }
 
 /// The rules at state `s`, where the policy takes this choice.
@@ -107,25 +119,16 @@ fn reach_at_state(
     ranks: &[u32],
     s: u32,
     choice: u32,
-) -> Verdict
+) -> Result<(), Objection>
     requires goals { length goals.now ≡ states_of model.now }
     requires values { length values.now ≡ states_of model.now }
     requires ranks { length ranks.now ≡ states_of model.now }
     requires state { s < states_of model.now }
-    ensures { result ≡ verdict_of (reach_at dir model.now goals.now values.now ranks.now s choice) }
+    ensures { result ≡ objection_to (reach_at dir model.now goals.now values.now ranks.now s choice) }
 {
-    match choice_at(model, s, choice) {
-        Verdict::Yes => {}
-        other => return other,
-    }
-    match probability_at(values, s) {
-        Verdict::Yes => {}
-        other => return other,
-    }
-    match value_at_state(model, goals, dir, values, s, choice) {
-        Verdict::Yes => {}
-        other => return other,
-    }
+    choice_at(model, s, choice)?;
+    probability_at(values, s)?;
+    value_at_state(model, goals, dir, values, s, choice)?;
     rank_at_state(model, goals, dir, values, ranks, s, choice)
 }
 
@@ -137,25 +140,21 @@ fn reach_at_states(
     values: &[Frac],
     choices: &[u32],
     ranks: &[u32],
-) -> Verdict
+) -> Result<(), Objection>
     requires goals { length goals.now ≡ states_of model.now }
     requires values { length values.now ≡ states_of model.now }
     requires choices { length choices.now ≡ states_of model.now }
     requires ranks { length ranks.now ≡ states_of model.now }
-    ensures { result ≡ verdict_of (reach_checks dir model.now goals.now values.now choices.now ranks.now) }
+    ensures { result ≡ objection_to (reach_checks dir model.now goals.now values.now choices.now ranks.now) }
 {
-    for s in 0..model.states() {
-        match reach_at_state(model, goals, dir, values, ranks, s, choices[s as usize]) {
-            Verdict::Yes => {}
-            other => return other,
-        }
-    }
-    Verdict::Yes
+    each_below(model.states(), |s| {
+        reach_at_state(model, goals, dir, values, ranks, s, choices[s as usize])
+    })
 }
 
-/// What rules 2 to 8 say of the values, the policy and the ranks: yes, the first rule that is false with its place, or the place of the
-/// first written term past width where that comes before. After yes the values are the greatest, or the least, probabilities of reaching a
-/// goal, and the policy comes close to them. It takes no memory.
+/// Whether the values are a Farkas certificate of the greatest, or the least, probabilities, and the policy one that comes close to them:
+/// what rules 2 to 8 say of the values, the policy and the ranks. Yes, the first rule that is false with its place, or the place of the
+/// first written term past width where that comes before. It takes no memory.
 pub fn holds_reach(model: &Model, goals: &Marks, dir: Dir, cert: &ReachCert) -> Verdict
     requires goals { length goals.now ≡ states_of model.now }
     requires values { length cert.now.values.items ≡ states_of model.now }
@@ -167,12 +166,13 @@ pub fn holds_reach(model: &Model, goals: &Marks, dir: Dir, cert: &ReachCert) -> 
     ensures min { dir ≡ Min → IfYes result (ReachMin model.now goals.now cert.now.values.items cert.now.choices.items) }
 {
     model.known();
-    reach_at_states(
+    let walk = reach_at_states(
         model,
         goals,
         dir,
         cert.values.as_slice(),
         cert.choices.as_slice(),
         cert.ranks.as_slice(),
-    )
+    );
+    verdict_after(walk)
 }

@@ -1,12 +1,13 @@
 ghost use Rattle.std.specs.Prelude.{◌≡◌, ◌<◌, ◌↔◌, length, [], ◌∷◌};
 ghost use Rattle.std.specs.Result.{result_ok};
 ghost use Rattle.mdp_spec.specs.Mdp.{states_of, choices_at};
-ghost use Rattle.mdp_farkas.specs.Upper.{covers, probability_checks, goal_check, choice_checks, upper_at, upper_checks, IsUpper};
-ghost use Rattle.mdp_farkas.specs.Verdict.{verdict_of, IsYes, IfYes};
+ghost use Rattle.mdp_farkas.specs.Upper.{covers, probability_checks, goal_check, choice_check, choice_checks, upper_at, upper_checks, IsUpper};
+ghost use Rattle.mdp_farkas.specs.Verdict.{objection_to, verdict_of, IsYes, IfYes};
 ghost use Rattle.mdp_spec.specs.Bounds.{Above};
 
 use crate::compare::{at_least, at_most, equal};
-use crate::verdict::{Verdict, judged};
+use crate::verdict::{Objection, Verdict, judged, verdict_after};
+use crate::walk::each_below;
 use mdp_num::{Frac, Wide};
 use mdp_rows::{Marks, Model};
 
@@ -17,21 +18,19 @@ pub struct UpperCert {
 }
 
 /// The value of state `s` is from 0 to 1.
-pub(crate) fn probability_at(values: &[Frac], s: u32) -> Verdict
+pub(crate) fn probability_at(values: &[Frac], s: u32) -> Result<(), Objection>
     requires { s < length values.now }
-    ensures { result ≡ verdict_of (probability_checks values.now s) }
+    ensures { result ≡ objection_to (probability_checks values.now s) }
 {
     let value = values[s as usize];
-    match judged(at_least(&value, &Frac::whole(0)), 3, s, None) {
-        Verdict::Yes => judged(at_most(&value, &Frac::whole(1)), 3, s, None),
-        other => other,
-    }
+    judged(at_least(&value, &Frac::whole(0)), 3, s, None)?;
+    judged(at_most(&value, &Frac::whole(1)), 3, s, None)
 }
 
 /// The value of the goal `s` is 1.
-pub(crate) fn goal_at(values: &[Frac], s: u32) -> Verdict
+pub(crate) fn goal_at(values: &[Frac], s: u32) -> Result<(), Objection>
     requires { s < length values.now }
-    ensures { result ≡ verdict_of (goal_check values.now s ∷ []) }
+    ensures { result ≡ objection_to (goal_check values.now s ∷ []) }
 {
     judged(equal(&values[s as usize], &Frac::whole(1)), 4, s, None)
 }
@@ -47,32 +46,33 @@ fn row_is_covered(model: &Model, values: &[Frac], s: u32, c: u32) -> Result<bool
     at_least(&values[s as usize], &sum)
 }
 
-/// The value of state `s` is at least the sum over the row of each choice.
-fn choices_at_state(model: &Model, values: &[Frac], s: u32) -> Verdict
+/// Bellman's inequality at state `s` and its choice `c`: the value is at least the sum over the row.
+fn choice_is_covered(model: &Model, values: &[Frac], s: u32, c: u32) -> Result<(), Objection>
     requires values { length values.now ≡ states_of model.now }
     requires state { s < states_of model.now }
-    ensures { result ≡ verdict_of (choice_checks model.now values.now s) }
+    requires choice { c < length (choices_at model.now s) }
+    ensures { result ≡ objection_to (choice_check model.now values.now s c ∷ []) }
 {
-    for c in 0..model.choices(s) {
-        match judged(row_is_covered(model, values, s, c), 5, s, Some(c)) {
-            Verdict::Yes => {}
-            other => return other,
-        }
-    }
-    Verdict::Yes
+    judged(row_is_covered(model, values, s, c), 5, s, Some(c))
+}
+
+/// The same at each choice of state `s`.
+fn choices_at_state(model: &Model, values: &[Frac], s: u32) -> Result<(), Objection>
+    requires values { length values.now ≡ states_of model.now }
+    requires state { s < states_of model.now }
+    ensures { result ≡ objection_to (choice_checks model.now values.now s) }
+{
+    each_below(model.choices(s), |c| choice_is_covered(model, values, s, c))
 }
 
 /// The rules at state `s`.
-fn upper_at_state(model: &Model, goals: &Marks, values: &[Frac], s: u32) -> Verdict
+fn upper_at_state(model: &Model, goals: &Marks, values: &[Frac], s: u32) -> Result<(), Objection>
     requires goals { length goals.now ≡ states_of model.now }
     requires values { length values.now ≡ states_of model.now }
     requires state { s < states_of model.now }
-    ensures { result ≡ verdict_of (upper_at model.now goals.now values.now s) }
+    ensures { result ≡ objection_to (upper_at model.now goals.now values.now s) }
 {
-    match probability_at(values, s) {
-        Verdict::Yes => {}
-        other => return other,
-    }
+    probability_at(values, s)?;
     if goals.at(s) {
         goal_at(values, s)
     } else {
@@ -81,22 +81,17 @@ fn upper_at_state(model: &Model, goals: &Marks, values: &[Frac], s: u32) -> Verd
 }
 
 /// The rules at each state, from 0 on.
-fn upper_at_states(model: &Model, goals: &Marks, values: &[Frac]) -> Verdict
+fn upper_at_states(model: &Model, goals: &Marks, values: &[Frac]) -> Result<(), Objection>
     requires goals { length goals.now ≡ states_of model.now }
     requires values { length values.now ≡ states_of model.now }
-    ensures { result ≡ verdict_of (upper_checks model.now goals.now values.now) }
+    ensures { result ≡ objection_to (upper_checks model.now goals.now values.now) }
 {
-    for s in 0..model.states() {
-        match upper_at_state(model, goals, values, s) {
-            Verdict::Yes => {}
-            other => return other,
-        }
-    }
-    Verdict::Yes
+    each_below(model.states(), |s| upper_at_state(model, goals, values, s))
 }
 
-/// What rules 3, 4 and 5 say of the values: yes, the first rule that is false with its place, or the place of the first written term past
-/// width where that comes before. After yes no tree passes the values. It takes no memory.
+/// Whether the values are a Farkas certificate of upper bounds: what rules 3, 4 and 5 say of them. Yes, the first rule that is false with
+/// its place, or the place of the first written term past width where that comes before. After yes no tree passes the values. It takes no
+/// memory.
 pub fn holds_upper(model: &Model, goals: &Marks, cert: &UpperCert) -> Verdict
     requires goals { length goals.now ≡ states_of model.now }
     requires values { length cert.now.values.items ≡ states_of model.now }
@@ -105,5 +100,5 @@ pub fn holds_upper(model: &Model, goals: &Marks, cert: &UpperCert) -> Verdict
     ensures bound { IfYes result (Above model.now goals.now cert.now.values.items) }
 {
     model.known();
-    upper_at_states(model, goals, cert.values.as_slice())
+    verdict_after(upper_at_states(model, goals, cert.values.as_slice()))
 }

@@ -1,6 +1,6 @@
 ghost use Rattle.std.specs.Prelude.{◌≡◌, [], ◌∷◌};
 ghost use Rattle.std.specs.Result.{result_ok};
-ghost use Rattle.mdp_farkas.specs.Verdict.{verdict_of};
+ghost use Rattle.mdp_farkas.specs.Verdict.{objection_to, verdict};
 
 use mdp_num::Wide;
 
@@ -26,18 +26,46 @@ pub enum Verdict {
     },
 }
 
-/// The verdict of one check of a rule at a place.
-pub fn judged(holds: Result<bool, Wide>, rule: u8, state: u32, choice: Option<u32>) -> Verdict
-    ensures { result ≡ verdict_of (record { rule = rule; state = Some state; choice = choice; holds = result_ok holds } ∷ []) }
+/// What stands against a certificate: it ends the walk over its rules.
+#[derive(Clone, Copy, Debug, PartialEq, Eq)]
+pub enum Objection {
+    /// A rule is false.
+    Broken(Fault),
+    /// A written term is past width.
+    PastWidth {
+        state: Option<u32>,
+        choice: Option<u32>,
+    },
+}
+
+/// Whether one check of a rule holds at a place.
+pub(crate) fn judged(
+    holds: Result<bool, Wide>,
+    rule: u8,
+    state: u32,
+    choice: Option<u32>,
+) -> Result<(), Objection>
+    ensures { result ≡ objection_to (record { rule = rule; state = Some state; choice = choice; holds = result_ok holds } ∷ []) }
 {
     let state = Some(state);
     match holds {
-        Ok(true) => Verdict::Yes,
-        Ok(false) => Verdict::No(Fault {
+        Ok(true) => Ok(()),
+        Ok(false) => Err(Objection::Broken(Fault {
             rule,
             state,
             choice,
-        }),
-        Err(Wide) => Verdict::Wide { state, choice },
+        })),
+        Err(Wide) => Err(Objection::PastWidth { state, choice }),
+    }
+}
+
+/// The verdict after a walk over all rules.
+pub(crate) fn verdict_after(walk: Result<(), Objection>) -> Verdict
+    ensures { result ≡ verdict walk }
+{
+    match walk {
+        Ok(()) => Verdict::Yes,
+        Err(Objection::Broken(fault)) => Verdict::No(fault),
+        Err(Objection::PastWidth { state, choice }) => Verdict::Wide { state, choice },
     }
 }

@@ -1,6 +1,6 @@
 use Rattle.std.proofs.Common.{◌≡◌, ap, ◌∙◌}
 use Rattle.mdp_farkas.specs.Reach.{reach_checks}
-use Rattle.mdp_farkas.specs.Verdict.{verdict_of}
+use Rattle.mdp_farkas.specs.Verdict.{verdict, verdict_of}
 use Rattle.mdp_farkas.proofs.ReachRules.{reach_rules, reach_max, reach_min}
 use Rattle.mdp_farkas.proofs.reach.holds_reach.Goals as goal
 
@@ -11,15 +11,16 @@ returns c =
     let z = c.args.cert.now.values.items in
     let policy = c.args.cert.now.choices.items in
     let ranks = c.args.cert.now.ranks.items in
-    let e : c.reach_at_states.result ≡ verdict_of (reach_checks c.args.dir c.args.model.now c.args.goals.now c.args.cert.now.values.items c.args.cert.now.choices.items c.args.cert.now.ranks.items) =
-    c.reach_at_states.ensures
+    let e : c.verdict_after.result ≡ verdict_of (reach_checks c.args.dir c.args.model.now c.args.goals.now c.args.cert.now.values.items c.args.cert.now.choices.items c.args.cert.now.ranks.items) =
+    c.verdict_after.ensures
+    ∙ ap verdict c.reach_at_states-walk.ensures
     ∙ ap (λ z. verdict_of (reach_checks c.args.dir c.args.model.now c.args.goals.now z c.as_slice-2.result.now c.as_slice-3.result.now)) c.as_slice.ensures.value
     ∙ ap (λ p. verdict_of (reach_checks c.args.dir c.args.model.now c.args.goals.now c.args.cert.now.values.items p c.as_slice-3.result.now)) c.as_slice-2.ensures.value
     ∙ ap (λ r. verdict_of (reach_checks c.args.dir c.args.model.now c.args.goals.now c.args.cert.now.values.items c.args.cert.now.choices.items r)) c.as_slice-3.ensures.value
     in
     record {
       verdict = e;
-      rules = reach_rules m goals z policy ranks c.args.dir c.reach_at_states.result c.requires.choices e;
-      max = λ is. reach_max m goals z policy ranks c.args.dir c.reach_at_states.result c.known.ensures.mdp c.requires.choices e is;
-      min = λ is. reach_min m goals z policy ranks c.args.dir c.reach_at_states.result c.known.ensures.mdp c.requires.choices e is;
+      rules = reach_rules m goals z policy ranks c.args.dir c.verdict_after.result c.requires.choices e;
+      max = λ is. reach_max m goals z policy ranks c.args.dir c.verdict_after.result c.known.ensures.mdp c.requires.choices e is;
+      min = λ is. reach_min m goals z policy ranks c.args.dir c.verdict_after.result c.known.ensures.mdp c.requires.choices e is;
     }
