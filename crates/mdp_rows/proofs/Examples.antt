@@ -1,4 +1,6 @@
 -- Drafts made call by call, and what is refused, computed.
+pub mod Cut
+
 use Rattle.std.proofs.Common.{◌≡◌, ℕ, zero, suc, ◌<◌, arith, length, true, false, List, [], ◌∷◌, Some, None, refl, pos, neg_ℤ}
 use Rattle.std.specs.Prelude.{Result, Ok, Err}
 use Rattle.std.specs.List.{All, concat}
@@ -13,7 +15,7 @@ use Rattle.mdp_spec.specs.Mdp.{Entry, Choice, Mdp, choices_at, row_at}
 use Rattle.mdp_spec.specs.Row.{IsRow, IsMdp}
 use Rattle.mdp_rows.specs.Name.{IsName, IsRewardName}
 use Rattle.mdp_rows.specs.Limits.{in_order_of_sight, HasSmallTerms, IsChoiceWithin, IsStateWithin, IsModel}
-use Rattle.mdp_rows.proofs.SoundRewards.{small_by}
+use Rattle.mdp_rows.proofs.SoundCalls.Rewards.{small_by}
 use Rattle.mdp_rows.specs.Draft.{Draft, new_draft, ◌>>=◌, closed_row, kept_sum, after_state, after_label, after_choice, after_entry, after_finish}
 use Rattle.mdp_rows.specs.GivenRow.{in_order}
 use Rattle.mdp_rows.specs.Negative.{has_negative}

@@ -1,7 +1,7 @@
 use Rattle.std.proofs.Common.{◌≡◌, ◌≤◌, ◌*◌, ◌∙◌, arith}
 use Rattle.mdp_spec.specs.Unit.{lcm}
 use Rattle.mdp_num.specs.Numeral.{limit}
-use Rattle.mdp_rows.proofs.Denominators.{quotient_read, multiple_read, past_limit, in_limit}
+use Rattle.mdp_rows.proofs.ClosedRows.Denominators.{quotient_read, multiple_read, past_limit, in_limit}
 use Rattle.mdp_rows.proofs.closing.common_multiple.Goals as goal
 
 pub returns-in_err-quotient : goal.returns-in_err-quotient

@@ -1,8 +1,8 @@
 use Rattle.std.proofs.Common.{◌≡◌, ℕ, ◌*◌, ◌/◌, arith, ap, ap₂, sym, ◌∙◌, pos, Some}
 use Rattle.mdp_math.specs.Rational.{ℚ, ratio}
 use Rattle.mdp_rows.specs.Parts.{part}
-use Rattle.mdp_rows.proofs.Denominators.{den_read, num_read, read_abs}
-use Rattle.mdp_rows.proofs.Scaling.{scaled_read, divided_by, within_terms, some_same}
+use Rattle.mdp_rows.proofs.ClosedRows.Denominators.{den_read, num_read, read_abs}
+use Rattle.mdp_rows.proofs.ClosedRows.Scaling.{scaled_read, divided_by, within_terms, some_same}
 use Rattle.mdp_rows.proofs.closing.scaled_value.Goals as goal
 
 pub returns-in_err-scaled-clause-value : goal.returns-in_err-scaled-clause-value

@@ -1,7 +1,7 @@
 use Rattle.std.proofs.Common.{ℕ, ap, inr, ◌∙◌, arith}
 use Rattle.mdp_rows.specs.Draft.{with_place}
-use Rattle.mdp_rows.proofs.LabelCalls.{no_state_for_label, past_calls, past_names, label_taken, is_labelled}
-use Rattle.mdp_rows.proofs.Outcomes.{at_ok}
+use Rattle.mdp_rows.proofs.Assembled.Labels.{no_state_for_label, past_calls, past_names, label_taken, is_labelled}
+use Rattle.mdp_rows.proofs.Assembled.Outcomes.{at_ok}
 use Rattle.mdp_rows.proofs.assembly.Assembly.try_label.Goals as goal
 
 pub returns-in-Between : goal.returns-in-Between
