@@ -8,46 +8,22 @@ use Rattle.mdp_math.proofs.Order.{0ℚ}
 use Rattle.mdp_spec.specs.Mdp.{Entry, Choice, State, Mdp}
 use Rattle.mdp_spec.specs.Sub.{sub_of}
 use Rattle.mdp_rows.specs.Replay.{replayed}
-
-abbrev entry : ℕ → ℚ → Entry
-entry target prob = record { target = target; prob = prob }
-
-abbrev one : ℚ
-one = of_int (pos 1)
-
-abbrev half : ℚ
-half = ratio (pos 1) 2
-
-abbrev quarter : ℚ
-quarter = ratio (pos 1) 4
-
--- one reward model, `cost`; labels `init` and `goal`
-abbrev cost : List ℕ
-cost = 99 ∷ 111 ∷ 115 ∷ 116 ∷ []
-
-abbrev init : List ℕ
-init = 105 ∷ 110 ∷ 105 ∷ 116 ∷ []
-
-abbrev goal : List ℕ
-goal = 103 ∷ 111 ∷ 97 ∷ 108 ∷ []
+use Rattle.mdp_rows.proofs.Examples.Words.{one, half, quarter, to, of_states}
 
 abbrev choice : List Entry → Choice
 choice row = record { row = row; rewards = one ∷ [] }
 
 abbrev loop : ℕ → Choice
-loop s = record { row = entry s one ∷ []; rewards = 0ℚ ∷ [] }
-
-abbrev of_states : List State → Mdp
-of_states states = record { names = cost ∷ []; labels = init ∷ goal ∷ []; states = states }
+loop s = record { row = to s one ∷ []; rewards = 0ℚ ∷ [] }
 
 abbrev first : State
-first = record { labels = 0 ∷ []; choices = choice (entry 1 half ∷ entry 2 half ∷ []) ∷ choice (entry 0 half ∷ entry 1 quarter ∷ entry 2 quarter ∷ []) ∷ [] }
+first = record { labels = 0 ∷ []; choices = choice (to 1 half ∷ to 2 half ∷ []) ∷ choice (to 0 half ∷ to 1 quarter ∷ to 2 quarter ∷ []) ∷ [] }
 
 abbrev reached : State
-reached = record { labels = 1 ∷ []; choices = choice (entry 1 one ∷ []) ∷ [] }
+reached = record { labels = 1 ∷ []; choices = choice (to 1 one ∷ []) ∷ [] }
 
 abbrev away : State
-away = record { labels = []; choices = choice (entry 2 one ∷ []) ∷ [] }
+away = record { labels = []; choices = choice (to 2 one ∷ []) ∷ [] }
 
 abbrev three : Mdp
 three = of_states (first ∷ reached ∷ away ∷ [])
