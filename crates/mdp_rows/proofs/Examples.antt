@@ -1,4 +1,7 @@
 -- Drafts made call by call, and what is refused, computed.
+pub mod Cut
+pub mod Words
+
 use Rattle.std.proofs.Common.{◌≡◌, ℕ, zero, suc, ◌<◌, arith, length, true, false, List, [], ◌∷◌, Some, None, refl, pos, neg_ℤ}
 use Rattle.std.specs.Prelude.{Result, Ok, Err}
 use Rattle.std.specs.List.{All, concat}
@@ -13,10 +16,11 @@ use Rattle.mdp_spec.specs.Mdp.{Entry, Choice, Mdp, choices_at, row_at}
 use Rattle.mdp_spec.specs.Row.{IsRow, IsMdp}
 use Rattle.mdp_rows.specs.Name.{IsName, IsRewardName}
 use Rattle.mdp_rows.specs.Limits.{in_order_of_sight, HasSmallTerms, IsChoiceWithin, IsStateWithin, IsModel}
-use Rattle.mdp_rows.proofs.SoundRewards.{small_by}
+use Rattle.mdp_rows.proofs.SoundCalls.Rewards.{small_by}
 use Rattle.mdp_rows.specs.Draft.{Draft, new_draft, ◌>>=◌, closed_row, kept_sum, after_state, after_label, after_choice, after_entry, after_finish}
 use Rattle.mdp_rows.specs.GivenRow.{in_order}
 use Rattle.mdp_rows.specs.Negative.{has_negative}
+use Rattle.mdp_rows.proofs.Examples.Words.{one, third, two_thirds, half, minus_half, cost, init, goal, to, of_states}
 use Rattle.mdp_rows.specs.Replay.{replayed}
 use Rattle.mdp_rows.specs.declared.error.RowsError.{RowsError}
 use Rattle.mdp_rows.specs.declared.error.RowsError.TheVariants.{RowSum, RowWide, Twice, NoChoice, TooMany, Target, Large, Count}
@@ -37,31 +41,6 @@ choice reward d = after_choice d (reward ∷ [])
 abbrev entry : ℕ → ℚ → Draft → Result Draft RowsError
 entry target value d = after_entry d target value
 
-abbrev one : ℚ
-one = of_int (pos 1)
-
-abbrev third : ℚ
-third = ratio (pos 1) 3
-
-abbrev two_thirds : ℚ
-two_thirds = ratio (pos 2) 3
-
-abbrev half : ℚ
-half = ratio (pos 1) 2
-
-abbrev minus_half : ℚ
-minus_half = ratio (neg_ℤ (pos 1)) 2
-
--- one reward model, `cost`; labels `init` and `goal`
-abbrev cost : List ℕ
-cost = 99 ∷ 111 ∷ 115 ∷ 116 ∷ []
-
-abbrev init : List ℕ
-init = 105 ∷ 110 ∷ 105 ∷ 116 ∷ []
-
-abbrev goal : List ℕ
-goal = 103 ∷ 111 ∷ 97 ∷ 108 ∷ []
-
 abbrev draft : ℕ → RowRule → Result Draft RowsError
 draft states rule = Ok (new_draft states rule (cost ∷ []))
 
@@ -73,10 +52,10 @@ made =
     >>= state 0ℚ >>= label goal >>= label init >>= choice (of_int (pos 2)) >>= entry 0 0ℚ >>= entry 1 one >>= after_finish
 
 abbrev mixed : List Entry
-mixed = record { target = 0; prob = third } ∷ record { target = 1; prob = two_thirds } ∷ []
+mixed = to 0 third ∷ to 1 two_thirds ∷ []
 
 abbrev sure : List Entry
-sure = record { target = 1; prob = one } ∷ []
+sure = to 1 one ∷ []
 
 abbrev first_choices : List Choice
 first_choices = record { row = mixed; rewards = ratio (pos 3) 2 ∷ [] } ∷ record { row = sure; rewards = half ∷ [] } ∷ []
@@ -85,11 +64,7 @@ abbrev last_choices : List Choice
 last_choices = record { row = sure; rewards = of_int (pos 2) ∷ [] } ∷ []
 
 abbrev two : Mdp
-two = record {
-  names = cost ∷ [];
-  labels = init ∷ goal ∷ [];
-  states = record { labels = 0 ∷ []; choices = first_choices } ∷ record { labels = 0 ∷ 1 ∷ []; choices = last_choices } ∷ [];
-}
+two = of_states (record { labels = 0 ∷ []; choices = first_choices } ∷ record { labels = 0 ∷ 1 ∷ []; choices = last_choices } ∷ [])
 
 -- the rewards of state 0 are added to those of its choices; the label `goal` is given first in state 1, and has the second place; the entry
 -- of value 0 goes
@@ -106,7 +81,7 @@ abbrev paid : ℚ → Result Mdp RowsError
 paid own = draft 1 Exact >>= state own >>= choice minus_half >>= entry 0 one >>= after_finish
 
 abbrev earns : ℚ → Mdp
-earns reward = record { names = cost ∷ []; labels = []; states = record { labels = []; choices = record { row = record { target = 0; prob = one } ∷ []; rewards = reward ∷ [] } ∷ [] } ∷ [] }
+earns reward = record { names = cost ∷ []; labels = []; states = record { labels = []; choices = record { row = to 0 one ∷ []; rewards = reward ∷ [] } ∷ [] } ∷ [] }
 
 half-cancels : paid half ≡ Ok (earns 0ℚ)
 unfolding gcd gcd_with_fuel ratio of_int ◌+ℚ◌ le_ℚ narrow narrow_ℚ written_add
@@ -220,7 +195,7 @@ abbrev near_third : ℚ
 near_third = ratio (pos 333333) 1000000
 
 abbrev three_of : ℚ → List Entry
-three_of x = record { target = 0; prob = x } ∷ record { target = 1; prob = x } ∷ record { target = 2; prob = x } ∷ []
+three_of x = to 0 x ∷ to 1 x ∷ to 2 x ∷ []
 
 -- 0.333333 three times adds to 0.999999
 thirds-refused : closed_row Exact 0 0 (three_of near_third) ≡ Err (RowSum 0 0)
@@ -246,12 +221,12 @@ unfolding of_int le_ℚ
 none-refused = refl
 
 -- 1/10^36 and 1/(10^36 - 1) have no common denominator within the limit, and don't add to 1
-wide-first : closed_row Exact 0 0 (record { target = 0; prob = ratio (pos 1) limit } ∷ record { target = 1; prob = ratio (pos 1) 999999999999999999999999999999999999 } ∷ []) ≡ Err (RowWide 0 0)
+wide-first : closed_row Exact 0 0 (to 0 (ratio (pos 1) limit) ∷ to 1 (ratio (pos 1) 999999999999999999999999999999999999) ∷ []) ≡ Err (RowWide 0 0)
 unfolding gcd gcd_with_fuel ratio of_int ◌+ℚ◌ le_ℚ
 wide-first = refl
 
 -- 1/10^36 and 1 have one, but not 1/(10^36 + 1) and 10^36/(10^36 + 1)
-wide-scaled : closed_row Scaled 0 0 (record { target = 0; prob = ratio (pos 1) limit } ∷ record { target = 1; prob = one } ∷ []) ≡ Err (RowWide 0 0)
+wide-scaled : closed_row Scaled 0 0 (to 0 (ratio (pos 1) limit) ∷ to 1 one ∷ []) ≡ Err (RowWide 0 0)
 unfolding gcd gcd_with_fuel ratio of_int inv_ℚ ◌+ℚ◌ ◌*ℚ◌ le_ℚ
 wide-scaled = refl
 
@@ -322,9 +297,6 @@ too-often : (draft 1 Exact >>= state 0ℚ >>= label_often times_64 >>= label ini
 too-often = refl
 
 -- ---- entries given in other orders
-
-abbrev to : ℕ → ℚ → Entry
-to target value = record { target = target; prob = value }
 
 descending : in_order (to 2 third ∷ to 1 half ∷ to 0 one ∷ []) ≡ to 0 one ∷ to 1 half ∷ to 2 third ∷ []
 descending = refl

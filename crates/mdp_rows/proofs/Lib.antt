@@ -1,49 +1,10 @@
-mod BuilderCalls
-mod CallFacts
-mod ChoiceFacts
-mod ClosingRow
-mod Closings
-mod CutFacts
-mod Denominators
-mod DraftFacts
-mod EntryFacts
+mod Assembled
+mod Calls
+mod ClosedRows
+mod CutModels
 mod Examples
-mod ExamplesCut
-mod GivenRows
-mod Growth
-mod Handing
-mod InOrder
-mod KeptFacts
-mod LabelCalls
-mod LabelFacts
-mod LabelSets
-mod LabelsGrow
-mod ModelFacts
-mod Names
-mod OpenFacts
-mod Outcomes
-mod Parts
-mod Pieces
-mod PredFacts
-mod ReplayLabels
-mod ReplayRewards
-mod ReplayRows
-mod RewardSums
-mod RowFacts
-mod RowsGrow
-mod RowsOfPolicy
-mod RowsWithin
-mod Scaling
-mod SoundEntries
-mod SoundLabels
-mod SoundNames
-mod SoundRewards
-mod SoundRows
-mod SoundSteps
-mod StageFacts
-mod Tally
-mod Targets
+mod Flat
+mod Queries
 pub mod NegativeRewards
 pub mod ReplayStates
 pub mod SoundCalls
-pub mod SoundKept

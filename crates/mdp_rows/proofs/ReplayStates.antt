@@ -1,4 +1,8 @@
 -- A model that is handed to a builder, state by state, comes out as it is.
+pub mod Labels
+pub mod Rewards
+pub mod Rows
+
 use Rattle.std.proofs.Common.{◌≡◌, ℕ, ◌+◌, ◌≤◌, ◌<◌, ◌^◌, Bool, IsTrue, le-ltb, eq-eqb, List, [], ◌∷◌, ◌++◌, length, take, sum_by, get_or, Some, None, refl, sym, ap, ap₂, ◌∙◌, subst, arith, if◌then◌else◌, append_assoc, append-nil, length-append}
 use Rattle.std.specs.Prelude.{Result, Ok, Err}
 use Rattle.std.specs.List.{All, AllByRecursion}
@@ -7,6 +11,7 @@ use Rattle.std.proofs.lemmas.List.{get_or_default}
 use Rattle.std.proofs.lemmas.List.Elements.{recursion_from_All}
 use Rattle.std.proofs.lemmas.List.Sums.{sum_by-cons, sum_by_push}
 use Rattle.std.proofs.Math.Seq.{take-length}
+use Rattle.mdp_math.proofs.Booleans.{and-left, and-right}
 use Rattle.mdp_math.specs.Rational.{ℚ}
 use Rattle.mdp_spec.specs.Mdp.{Entry, Choice, State, Mdp, no_state, no_choice, states_of}
 use Rattle.mdp_spec.specs.Row.{IsRow}
@@ -17,11 +22,10 @@ use Rattle.mdp_rows.specs.Sound.{IsClosedState, choice_count, entry_count}
 use Rattle.mdp_rows.specs.Replay.{no_rewards, with_labels, with_entries, with_choices, with_states, IsReplayed}
 use Rattle.mdp_rows.specs.declared.error.RowsError.{RowsError}
 use Rattle.mdp_rows.specs.declared.error.RowsError.TheVariants.{TooMany, NoChoice, Count}
-use Rattle.mdp_rows.proofs.SoundSteps.{left_of, right_of}
-use Rattle.mdp_rows.proofs.SoundLabels.{known_by, known_by-le, known_by-total}
-use Rattle.mdp_rows.proofs.ReplayRewards.{summed-zeros}
-use Rattle.mdp_rows.proofs.ReplayRows.{draft_of, all_entries, closed_row-same}
-use Rattle.mdp_rows.proofs.ReplayLabels.{all_labels}
+use Rattle.mdp_rows.proofs.SoundCalls.Labels.{known_by, known_by-le, known_by-total}
+use Rattle.mdp_rows.proofs.ReplayStates.Rewards.{summed-zeros}
+use Rattle.mdp_rows.proofs.ReplayStates.Rows.{draft_of, all_entries, closed_row-same}
+use Rattle.mdp_rows.proofs.ReplayStates.Labels.{all_labels}
 
 -- what is known of a choice of a model
 record IsChoiceOf (announced names : ℕ) (c : Choice) : Type 0 where
@@ -144,8 +148,8 @@ module _ (announced : ℕ) (names labels : List (List ℕ)) (different : IsTrue 
       let r : entry_count (x ∷ rest) ≡ row_count x.choices + entry_count rest = sum_by-cons (λ (y : State). row_count y.choices) x rest in
       let d : choice_count (closed ++ x ∷ []) ≡ choice_count closed + length x.choices = sum_by_push (λ (y : State). length y.choices) closed x in
       let l : length (closed ++ x ∷ []) ≡ length closed + 1 = length-append closed (x ∷ []) in
-      let below = left_of (all_below (known_after n x.labels) x.labels) (in_order_of_sight (known_after n x.labels) rest (length labels)) sight in
-      let later = right_of (all_below (known_after n x.labels) x.labels) (in_order_of_sight (known_after n x.labels) rest (length labels)) sight in
+      let below = and-left (all_below (known_after n x.labels) x.labels) (in_order_of_sight (known_after n x.labels) rest (length labels)) sight in
+      let later = and-right (all_below (known_after n x.labels) x.labels) (in_order_of_sight (known_after n x.labels) rest (length labels)) sight in
       let k : known_after n x.labels ≤ length labels =
       (let a = known_by-le (known_after n x.labels) rest in let b = known_by-total (known_after n x.labels) (length labels) rest later in omega arith)
       in

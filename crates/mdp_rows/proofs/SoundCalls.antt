@@ -1,4 +1,10 @@
 -- What each call makes of a sound draft is sound.
+pub mod Entries
+pub mod Labels
+pub mod Names
+pub mod Rewards
+pub mod Rows
+
 use Rattle.std.proofs.Common.{◌≡◌, ℕ, ◌+◌, ◌≤◌, ◌<◌, ◌^◌, Bool, true, false, ◌||◌, IsTrue, leb, ltb, eqb, eqb→eq, T, List, [], ◌∷◌, ◌++◌, length, sum_by, Option, Some, None, refl, sym, ap, subst, arith, if◌then◌else◌, length-append, append-nil}
 use Rattle.std.specs.Prelude.{Result, Ok, Err, slice_index_or}
 use Rattle.std.specs.List.{All, list_any, position_or_len}
@@ -20,13 +26,14 @@ use Rattle.mdp_rows.specs.Sound.{IsOpenChoice, IsOpenState, IsClosedState, IsSou
 use Rattle.mdp_rows.specs.declared.error.RowsError.{RowsError}
 use Rattle.mdp_rows.specs.declared.error.RowsError.TheVariants.{NoChoice, Count, TooMany, Target, Twice}
 use Rattle.mdp_rows.specs.declared.rule.RowRule.{RowRule}
-use Rattle.mdp_rows.proofs.SoundSteps.{done, ok_same, then_ok, else_ok, if_ok}
-use Rattle.mdp_rows.proofs.SoundKept.{IsKept, choice_closed-kept, all_closed-kept}
-use Rattle.mdp_rows.proofs.SoundRows.{AreValues, IsClosedRow, closed_row-sound}
-use Rattle.mdp_rows.proofs.SoundRewards.{summed-sound}
-use Rattle.mdp_rows.proofs.SoundEntries.{ascends-with, all_with, length-with_entry}
-use Rattle.mdp_rows.proofs.SoundLabels.{ascend-with, length-with_place, sight_changed, IsLast, is_last, last_is, last_old, last_new}
-use Rattle.mdp_rows.proofs.SoundNames.{place_found, place_missed, known_name, length-new_name, names_with, different-with}
+use Rattle.mdp_rows.proofs.Calls.Closes.{all_are_closed}
+use Rattle.mdp_rows.proofs.Calls.Steps.{done, ok_same, then_ok, else_ok, if_ok}
+use Rattle.mdp_rows.proofs.Calls.Kept.{IsKept, choice_closed-kept, all_closed-kept}
+use Rattle.mdp_rows.proofs.SoundCalls.Rows.{AreValues, IsClosedRow, closed_row-sound}
+use Rattle.mdp_rows.proofs.SoundCalls.Rewards.{summed-sound}
+use Rattle.mdp_rows.proofs.SoundCalls.Entries.{ascends-with, all_with, length-with_entry}
+use Rattle.mdp_rows.proofs.SoundCalls.Labels.{ascend-with, length-with_place, sight_changed, IsLast, is_last, last_is, last_old, last_new}
+use Rattle.mdp_rows.proofs.SoundCalls.Names.{place_found, place_missed, known_name, length-new_name, names_with, different-with}
 
 pub new_draft-sound : (states : ℕ) (rule : RowRule) (names : List (List ℕ)) → 1 ≤ states → states ≤ 2 ^ 20 → AreRewardNames names → IsSound (new_draft states rule names)
 new_draft-sound states rule names some few ok = record {
@@ -43,24 +50,6 @@ new_draft-sound states rule names some few ok = record {
   few_choices = omega arith;
   counted = omega arith;
   few_entries = omega arith;
-}
-
--- a refusal changes nothing of it
-pub refused-sound : (d : Draft) (refused : Option RowsError) → IsSound d → IsSound (record d { refused = refused })
-refused-sound d refused s = record {
-  names = s.names;
-  some = s.some;
-  few = s.few;
-  few_states = s.few_states;
-  labels = s.labels;
-  different = s.different;
-  few_labels = s.few_labels;
-  sight = s.sight;
-  closed = s.closed;
-  state = s.state;
-  few_choices = s.few_choices;
-  counted = s.counted;
-  few_entries = s.few_entries;
 }
 
 -- ---- another open state
@@ -212,23 +201,10 @@ close_state_in d n (Some o) s e = close_state d n o s e
 pub state_closed-sound : (d n : Draft) → IsSound d → state_closed d ≡ Ok n → IsSound n
 state_closed-sound d n s e = close_state_in d n d.state s e
 
--- no state is open then
-none_open : (d n : Draft) (st : Option OpenState) → state_closed_in (record d { state = st }) st ≡ Ok n → n.state ≡ None
-none_open d n None e = ap (λ (x : Draft). x.state) (sym (ok_same (record d { state = None }) n e))
-none_open d n (Some o) e =
-    let v : Draft = record d { closed = d.closed ++ as_state o ∷ []; state = None } in
-    ap (λ (x : Draft). x.state) (sym (ok_same v n (else_ok (eqb (length o.choices) 0) (NoChoice (length d.closed)) (done v) n e).1))
-
-pub state_closed-none : (d n : Draft) → state_closed d ≡ Ok n → n.state ≡ None
-state_closed-none d n e = none_open d n d.state e
-
 pub all_closed-sound : (d n : Draft) → IsSound d → all_closed d ≡ Ok n → IsSound n
 all_closed-sound d n s e =
     let f = then_ok (choice_closed d) state_closed n e in
     state_closed-sound f.0 n (choice_closed-sound d f.0 s f.1) f.2
-
-pub all_closed-none : (d n : Draft) → all_closed d ≡ Ok n → n.state ≡ None
-all_closed-none d n e = let f = then_ok (choice_closed d) state_closed n e in state_closed-none f.0 n f.2
 
 -- what a call is given: one reward for each name
 abbrev pub AreRewards : List (List ℕ) → List ℚ → Type 0
@@ -281,9 +257,21 @@ state_opened-sound d n rewards e s r h = open_state_in d n rewards d.state e s r
 pub after_state-sound : (d n : Draft) (rewards : List ℚ) → IsSound d → AreRewards d.names rewards → after_state d rewards ≡ Ok n → IsSound n
 after_state-sound d n rewards s r e =
     let f = then_ok (all_closed d) (λ closed. state_opened closed rewards) n e in
-    state_opened-sound f.0 n rewards (all_closed-none d f.0 f.1) (all_closed-sound d f.0 s f.1) (subst (λ (ns : List (List ℕ)). AreRewards ns rewards) (sym (IsSameHead.names (IsKept.head (all_closed-kept d f.0 f.1)))) r) f.2
+    state_opened-sound f.0 n rewards (all_are_closed d f.0 f.1) (all_closed-sound d f.0 s f.1) (subst (λ (ns : List (List ℕ)). AreRewards ns rewards) (sym (IsSameHead.names (IsKept.head (all_closed-kept d f.0 f.1)))) r) f.2
 
 -- ---- a choice
+
+-- the open state with this choice open
+with_choice : (announced names : ℕ) (o : OpenState) (c : OpenChoice) → IsOpenState announced names o → IsOpenChoice announced names c → IsOpenState announced names (record o { choice = Some c })
+with_choice announced names o c ok is = record {
+  rewards = ok.rewards;
+  ascending = ok.ascending;
+  few_labels = ok.few_labels;
+  few_calls = ok.few_calls;
+  choices = ok.choices;
+  rows = ok.rows;
+  choice = is;
+}
 
 open_choice_in : (d n : Draft) (rewards : List ℚ) (st : Option OpenState) → IsSound (record d { state = st }) → AreRewards d.names rewards → choice_opened_in (record d { state = st }) rewards st ≡ Ok n → IsSound n
 open_choice_in d n rewards None s r e = subst IsSound (ok_same (record d { state = None }) n e) s
@@ -297,21 +285,13 @@ open_choice_in d n rewards (Some o) s r e =
     let count = are_counted d o s in
     subst IsSound (ok_same (record d { state = Some m }) n g.2)
     (with_open d o m d.labels d.entries s (same_names (record d { state = Some o }) s) (λ k t. t)
-    (record {
-      rewards = ok.rewards;
-      ascending = ok.ascending;
-      few_labels = ok.few_labels;
-      few_calls = ok.few_calls;
-      choices = ok.choices;
-      rows = ok.rows;
-      choice = record {
-        rewards = a.length;
-        terms = a.terms;
-        ascending = refl;
-        in_range = All-nil (λ (x : Entry). x.target < d.announced);
-        values = All-nil (λ (x : Entry). IsWithinLimit x.prob);
-      };
-    })
+    (with_choice d.announced (length d.names) o (record { rewards = g.0; row = [] }) ok (record {
+      rewards = a.length;
+      terms = a.terms;
+      ascending = refl;
+      in_range = All-nil (λ (x : Entry). x.target < d.announced);
+      values = All-nil (λ (x : Entry). IsWithinLimit x.prob);
+    }))
     (record {
       few_choices = omega (arith, few);
       counted = let h = count.counted in omega (arith, h);
@@ -347,21 +327,13 @@ entry_choice d n target value o (Some c) s w e =
     let count = are_counted d (record o { choice = Some c }) s in
     subst IsSound (ok_same v n h.1)
     (with_open d (record o { choice = Some c }) m d.labels (d.entries + 1) s (same_names (record d { state = Some (record o { choice = Some c }) }) s) (λ k t. t)
-    (record {
-      rewards = ok.rewards;
-      ascending = ok.ascending;
-      few_labels = ok.few_labels;
-      few_calls = ok.few_calls;
-      choices = ok.choices;
-      rows = ok.rows;
-      choice = record {
-        rewards = ch.rewards;
-        terms = ch.terms;
-        ascending = ascends-with 0 x c.row (omega arith) ch.ascending g.0;
-        in_range = all_with (λ (y : Entry). y.target < d.announced) x c.row below ch.in_range;
-        values = all_with (λ (y : Entry). IsWithinLimit y.prob) x c.row w ch.values;
-      };
-    })
+    (with_choice d.announced (length d.names) (record o { choice = Some c }) (record c { row = with_entry x c.row }) ok (record {
+      rewards = ch.rewards;
+      terms = ch.terms;
+      ascending = ascends-with 0 x c.row (omega arith) ch.ascending g.0;
+      in_range = all_with (λ (y : Entry). y.target < d.announced) x c.row below ch.in_range;
+      values = all_with (λ (y : Entry). IsWithinLimit y.prob) x c.row w ch.values;
+    }))
     (record {
       few_choices = count.few_choices;
       counted = let k = count.counted in let l = length-with_entry x c.row in omega (arith, k, l);
@@ -453,4 +425,4 @@ finished-sound d m e s h = finished_by d m d.state e s h
 pub after_finish-sound : (d : Draft) (m : Mdp) → IsSound d → after_finish d ≡ Ok m → IsModel m
 after_finish-sound d m s e =
     let f = then_ok (all_closed d) finished m e in
-    finished-sound f.0 m (all_closed-none d f.0 f.1) (all_closed-sound d f.0 s f.1) f.2
+    finished-sound f.0 m (all_are_closed d f.0 f.1) (all_closed-sound d f.0 s f.1) f.2

@@ -5,6 +5,7 @@ use Rattle.std.specs.Option.{IfSome, is_some}
 use Rattle.std.specs.Result.{MatchResult, result_err}
 use Rattle.std.specs.Str.{bytes_eq}
 use Rattle.mdp_math.specs.Rational.{ℚ, of_int, ratio, le_ℚ, ◌*ℚ◌, inv_ℚ}
+pub use Rattle.mdp_math.specs.Result.{◌>>=◌}
 use Rattle.mdp_math.specs.Written.{written_add}
 use Rattle.mdp_math.specs.Sum.{sum_of}
 use Rattle.mdp_spec.specs.Mdp.{Entry, Choice, State, Mdp}
@@ -15,12 +16,6 @@ use Rattle.mdp_rows.specs.declared.error.RowsError.{RowsError}
 use Rattle.mdp_rows.specs.declared.error.RowsError.TheVariants.{RowSum, RowWide, Twice, NoChoice, TooMany, Target, Large, Count, Memory}
 use Rattle.mdp_rows.specs.declared.rule.RowRule.{RowRule}
 use Rattle.mdp_rows.specs.declared.rule.RowRule.TheVariants.{Exact, Scaled}
-
--- a refusal ends the call
-infixl 10 ◌>>=◌
-abbrev pub ◌>>=◌ : {A B : Type 0} → Result A RowsError → (A → Result B RowsError) → Result B RowsError
-Ok x >>= f = f x
-Err e >>= f = Err e
 
 -- ---- rows
 

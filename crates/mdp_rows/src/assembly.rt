@@ -17,6 +17,7 @@ use crate::closing::close_row;
 use crate::error::RowsError;
 use crate::given::Given;
 use crate::labels::Labels;
+use crate::limits::{MAX_CHOICES, MAX_ENTRIES, MAX_LABEL_CALLS, MAX_LABELS};
 use crate::marks::Marks;
 use crate::open_row::{sort_row, unmark};
 use crate::rewards::add_rewards;
@@ -24,18 +25,6 @@ use crate::rule::RowRule;
 use mdp_num::{Frac, Memory};
 use std::alloc::{AllocError, Global};
 use std::marker::Model;
-
-/// The most calls of `label` for one state.
-const MAX_LABEL_CALLS: u32 = 64;
-
-/// The most label names.
-const MAX_NAMES: u32 = 1024;
-
-/// The most choices, 2^22.
-const MAX_CHOICES: u32 = 4_194_304;
-
-/// The most entries, 2^24, those of value 0 among them.
-const MAX_ENTRIES: u32 = 16_777_216;
 
 /// What is open.
 #[derive(Clone, Copy)]
@@ -266,7 +255,7 @@ impl Assembly {
         if self.label_calls >= MAX_LABEL_CALLS {
             return Err(RowsError::TooMany);
         }
-        if self.labels.names_with(name) > MAX_NAMES {
+        if self.labels.names_with(name) > MAX_LABELS {
             return Err(RowsError::TooMany);
         }
         let Ok(label) = self.labels.see_name(name) else {

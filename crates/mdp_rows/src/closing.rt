@@ -10,11 +10,9 @@ ghost use Rattle.mdp_rows.specs.Draft.{kept, closed_row, scaled_row};
 
 use crate::error::RowsError;
 use crate::given::Given;
+use crate::limits::MAX_TERM;
 use crate::rule::RowRule;
 use mdp_num::Frac;
-
-/// The greatest common denominator of a row: 10^36.
-const DEN_LIMIT: u128 = 1_000_000_000_000_000_000_000_000_000_000_000_000;
 
 /// The least common multiple, where it is at most 10^36.
 fn common_multiple(a: u128, b: u128) -> Option<u128>
@@ -24,7 +22,7 @@ fn common_multiple(a: u128, b: u128) -> Option<u128>
 {
     let quotient = Frac::try_new(b as i128, a as i128).ok()?;
     let multiple = quotient.den().unsigned_abs().checked_mul(b)?;
-    if multiple > DEN_LIMIT {
+    if multiple > MAX_TERM {
         None
     } else {
         Some(multiple)
@@ -76,7 +74,7 @@ fn scaled_value(given: &Given, den: u128, parts: u128) -> Option<Frac>
     let own_den = given.value.den().unsigned_abs();
     let part = den / own_den * given.value.num().unsigned_abs();
     let scaled = Frac::try_new(part as i128, parts as i128).ok()?;
-    if scaled.den().unsigned_abs() > DEN_LIMIT {
+    if scaled.den().unsigned_abs() > MAX_TERM {
         None
     } else {
         Some(scaled)

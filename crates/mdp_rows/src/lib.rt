@@ -10,6 +10,7 @@ mod error;
 mod given;
 mod labels;
 mod laws;
+mod limits;
 mod marks;
 mod model;
 mod open_row;

@@ -3,16 +3,14 @@ ghost use Rattle.mdp_math.specs.Written.{written_add};
 ghost use Rattle.mdp_rows.specs.Draft.{has_small_terms, kept_sum, summed_rewards};
 
 use crate::error::RowsError;
+use crate::limits::MAX_TERM;
 use mdp_num::Frac;
-
-/// The greatest magnitude of a term of a summed reward, 10^36.
-const TERM_LIMIT: u128 = 1_000_000_000_000_000_000_000_000_000_000_000_000;
 
 /// Whether both lowest terms have magnitude at most 10^36.
 fn has_small_terms(reward: &Frac) -> bool
     ensures { result ≡ has_small_terms reward.now }
 {
-    reward.num().unsigned_abs() <= TERM_LIMIT && reward.den().unsigned_abs() <= TERM_LIMIT
+    reward.num().unsigned_abs() <= MAX_TERM && reward.den().unsigned_abs() <= MAX_TERM
 }
 
 /// The reward of a state and of its choice together.

@@ -1,6 +1,6 @@
 use Rattle.std.proofs.Common.{◌≡◌, sym, ap, ◌∙◌, arith, get_or}
 use Rattle.mdp_rows.specs.Draft.{with_place}
-use Rattle.mdp_rows.proofs.LabelSets.{place_in, put, with_present, with_absent, place-le}
+use Rattle.mdp_rows.proofs.Assembled.Places.{place_in, put, with_present, with_absent, place-le}
 use Rattle.mdp_rows.proofs.assembly.add_place.Goals.{else-place-len-via-then-place-len+else-index-label, else-place-len-via-else-place-len}
 use Rattle.mdp_rows.proofs.assembly.add_place.Goals as goal
 

@@ -1,5 +1,5 @@
 use Rattle.std.proofs.Common.{sym, ◌∙◌}
-use Rattle.mdp_rows.proofs.LabelSets.{first_found, none_found}
+use Rattle.mdp_rows.proofs.Assembled.Places.{first_found, none_found}
 use Rattle.mdp_rows.proofs.assembly.place_of_label.Goals as goal
 
 pub returns-in-Some : goal.returns-in-Some

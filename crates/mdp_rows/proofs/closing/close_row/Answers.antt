@@ -1,9 +1,9 @@
 use Rattle.std.proofs.Common.{sym, ap, ◌∙◌, arith}
 use Rattle.mdp_spec.specs.Unit.{row_den}
 use Rattle.mdp_rows.specs.Given.{row_of}
-use Rattle.mdp_rows.proofs.Closings.{IsSummed, closed-wide, refused_past, refused_diff, some_parts, closes_exact, refused_exact, closes_scaled, refused_wide}
-use Rattle.mdp_rows.proofs.Denominators.{within-none, within-some, some_within, none_within}
-use Rattle.mdp_rows.proofs.Parts as parts
+use Rattle.mdp_rows.proofs.ClosedRows.{IsSummed, closed-wide, refused_past, refused_diff, some_parts, closes_exact, refused_exact, closes_scaled, refused_wide}
+use Rattle.mdp_rows.proofs.ClosedRows.Denominators.{within-none, within-some, some_within, none_within}
+use Rattle.mdp_rows.proofs.ClosedRows.Parts as parts
 use Rattle.mdp_rows.proofs.closing.close_row.Goals.{else-scale-via-then-scale+else-is_some, else-scale-via-else-scale}
 use Rattle.mdp_rows.proofs.closing.close_row.Goals as goal
 

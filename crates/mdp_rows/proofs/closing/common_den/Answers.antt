@@ -1,6 +1,6 @@
 use Rattle.std.proofs.Common.{◌≡◌, ℕ, ◌+◌, ◌-◌, arith, ap, sym, subst, ◌∙◌, pos}
 use Rattle.mdp_rows.specs.declared.given.Given.{Given}
-use Rattle.mdp_rows.proofs.Denominators.{IsDenFrom, den_more, den_wide, den_read, within_limit}
+use Rattle.mdp_rows.proofs.ClosedRows.Denominators.{IsDenFrom, den_more, den_wide, den_read, within_limit}
 use Rattle.mdp_spec.specs.Unit.{lcm}
 use Rattle.mdp_rows.proofs.closing.common_den.Goals as goal
 

@@ -1,7 +1,7 @@
 use Rattle.std.proofs.Common.{◌≡◌, ◌≤◌, ◌*◌, ◌∙◌, arith}
 use Rattle.mdp_spec.specs.Unit.{lcm}
 use Rattle.mdp_num.specs.Numeral.{limit}
-use Rattle.mdp_rows.proofs.Denominators.{quotient_read, multiple_read, past_limit, in_limit}
+use Rattle.mdp_rows.proofs.ClosedRows.Denominators.{quotient_read, multiple_read, past_limit, in_limit}
 use Rattle.mdp_rows.proofs.closing.common_multiple.Goals as goal
 
 pub returns-in_err-quotient : goal.returns-in_err-quotient
@@ -18,16 +18,16 @@ returns-in_err-multiple c =
     let h = c.in_err-multiple.ensures {u = tt} in
     rw c.from_residual-in_err-multiple.ensures (past_limit (lcm c.args.a c.args.b) (omega (arith, h)))
 
-pub returns-then-multiple-gt-DEN_LIMIT : goal.returns-then-multiple-gt-DEN_LIMIT
-returns-then-multiple-gt-DEN_LIMIT c =
+pub returns-then-multiple-gt-MAX_TERM : goal.returns-then-multiple-gt-MAX_TERM
+returns-then-multiple-gt-MAX_TERM c =
     let q = quotient_read c.args.a c.args.b _ c.requires.positive.0 c.requires.within.0 c.requires.within.1 c.try_new.ensures.value in
     let m : c.unsigned_abs.result * c.args.b ≡ lcm c.args.a c.args.b =
     multiple_read c.args.a c.args.b c.unsigned_abs.result _ c.in_ok-quotient.quotient c.den.result c.requires.positive.0 c.requires.within.0 q (c.in_ok-quotient.ensures {u = tt}).value c.den.ensures.value c.unsigned_abs.ensures.value in
     let h = c.in_ok-multiple.ensures {u = tt} in
     past_limit (lcm c.args.a c.args.b) (omega (arith, h))
 
-pub returns-else-multiple-gt-DEN_LIMIT : goal.returns-else-multiple-gt-DEN_LIMIT
-returns-else-multiple-gt-DEN_LIMIT c =
+pub returns-else-multiple-gt-MAX_TERM : goal.returns-else-multiple-gt-MAX_TERM
+returns-else-multiple-gt-MAX_TERM c =
     let q = quotient_read c.args.a c.args.b _ c.requires.positive.0 c.requires.within.0 c.requires.within.1 c.try_new.ensures.value in
     let m : c.unsigned_abs.result * c.args.b ≡ lcm c.args.a c.args.b =
     multiple_read c.args.a c.args.b c.unsigned_abs.result _ c.in_ok-quotient.quotient c.den.result c.requires.positive.0 c.requires.within.0 q (c.in_ok-quotient.ensures {u = tt}).value c.den.ensures.value c.unsigned_abs.ensures.value in

@@ -1,5 +1,5 @@
 use Rattle.std.proofs.Common.{arith, add-one, refl}
-use Rattle.mdp_rows.proofs.Scaling.{divides_there, within_there, wide_there, one_there, targets_there, scaled_all}
+use Rattle.mdp_rows.proofs.ClosedRows.Scaling.{divides_there, within_there, wide_there, one_there, targets_there, scaled_all}
 use Rattle.mdp_rows.proofs.closing.scale.Goals as goal
 
 pub scaled_value-requires-clause-divides : goal.scaled_value-requires-clause-divides

@@ -1,7 +1,7 @@
 use Rattle.std.proofs.Common.{◌≤◌, ℕ, ◌*◌, ◌/◌, arith, ap₂}
 use Rattle.mdp_rows.specs.Parts.{part}
-use Rattle.mdp_rows.proofs.Denominators.{den_read, num_read}
-use Rattle.mdp_rows.proofs.Parts.{value_past, value_within, so_far_past}
+use Rattle.mdp_rows.proofs.ClosedRows.Denominators.{den_read, num_read}
+use Rattle.mdp_rows.proofs.ClosedRows.Parts.{value_past, value_within, so_far_past}
 use Rattle.mdp_rows.proofs.closing.sum_in_parts.Goals as goal
 
 pub returns-then-num-own_den : goal.returns-then-num-own_den

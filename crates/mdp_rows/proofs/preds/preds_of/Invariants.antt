@@ -1,7 +1,7 @@
 use Rattle.std.proofs.Common.{[], replicate}
 use Rattle.mdp_spec.specs.Mdp.{states_of}
 use Rattle.mdp_rows.specs.Preds.{choices_below}
-use Rattle.mdp_rows.proofs.PredFacts.{IsLed}
+use Rattle.mdp_rows.proofs.Queries.Preds.{IsLed}
 use Rattle.mdp_rows.proofs.preds.preds_of.Given as goal
 
 abbrev pub invariant-loop-s : goal.invariant-loop-s

@@ -1,5 +1,5 @@
 use Rattle.std.proofs.Common.{take}
-use Rattle.mdp_rows.proofs.PredFacts.{IsPushed}
+use Rattle.mdp_rows.proofs.Queries.Preds.{IsPushed}
 use Rattle.mdp_rows.proofs.preds.push_row.Given as goal
 
 abbrev pub invariant-loop-t : goal.invariant-loop-t

@@ -1,7 +1,7 @@
 use Rattle.std.proofs.Common.{◌++◌, ◌∷◌, [], get_or, ap, ◌∙◌, List}
 use Rattle.mdp_rows.specs.Preds.{pair}
 use Rattle.mdp_rows.specs.declared.preds.Pred.{Pred}
-use Rattle.mdp_rows.proofs.PredFacts.{different, more_led, pushed_leads, choices_more}
+use Rattle.mdp_rows.proofs.Queries.Preds.{different, more_led, pushed_leads, choices_more}
 use Rattle.mdp_rows.proofs.preds.push_state.Goals as goal
 
 pub push_row-requires-clause-different : goal.push_row-requires-clause-different

@@ -1,5 +1,5 @@
 use Rattle.mdp_rows.specs.Preds.{first_choices}
-use Rattle.mdp_rows.proofs.PredFacts.{IsLed}
+use Rattle.mdp_rows.proofs.Queries.Preds.{IsLed}
 use Rattle.mdp_rows.proofs.preds.push_state.Given as goal
 
 abbrev pub invariant-loop-c : goal.invariant-loop-c

@@ -1,6 +1,6 @@
 use Rattle.std.proofs.Common.{◌≡◌, drop}
 use Rattle.mdp_rows.specs.Draft.{summed_rewards}
-use Rattle.mdp_rows.proofs.RewardSums.{sums_then}
+use Rattle.mdp_rows.proofs.Assembled.Sums.{sums_then}
 use Rattle.mdp_rows.proofs.rewards.add_rewards.Given as goal
 
 abbrev pub invariant-loop-i : goal.invariant-loop-i

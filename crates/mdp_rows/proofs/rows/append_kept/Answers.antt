@@ -1,6 +1,6 @@
 use Rattle.std.proofs.Common.{arith}
-use Rattle.mdp_rows.proofs.Denominators.{zero_num, nonzero_num}
-use Rattle.mdp_rows.proofs.KeptFacts.{appended_one, appended_skip}
+use Rattle.mdp_rows.proofs.ClosedRows.Denominators.{zero_num, nonzero_num}
+use Rattle.mdp_rows.proofs.Flat.Kept.{appended_one, appended_skip}
 use Rattle.mdp_rows.proofs.rows.append_kept.Goals.{then-num-ne0+in_ok-push+in_ok-push-2, else-num-ne0}
 use Rattle.mdp_rows.proofs.rows.append_kept.Goals as goal
 

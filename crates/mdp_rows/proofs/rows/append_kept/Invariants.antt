@@ -1,4 +1,4 @@
-use Rattle.mdp_rows.proofs.KeptFacts.{IsAppended}
+use Rattle.mdp_rows.proofs.Flat.Kept.{IsAppended}
 use Rattle.mdp_rows.proofs.rows.append_kept.Given as goal
 
 abbrev pub invariant-loop-given : goal.invariant-loop-given

@@ -5,10 +5,10 @@ use Rattle.mdp_num.specs.Meaning.{IsWithinLimit}
 use Rattle.mdp_spec.specs.Mdp.{Entry, row_at}
 use Rattle.mdp_spec.specs.Row.{entries}
 use Rattle.mdp_rows.specs.Replay.{with_entries}
-use Rattle.mdp_rows.proofs.CutFacts.{row_within}
-use Rattle.mdp_rows.proofs.Handing.{entry_first, entry_at, prob_at}
-use Rattle.mdp_rows.proofs.SoundKept.{both_same}
-use Rattle.mdp_rows.proofs.Pieces.{length-entries}
+use Rattle.mdp_rows.proofs.CutModels.{row_within}
+use Rattle.mdp_rows.proofs.CutModels.Handing.{entry_first, entry_at, prob_at}
+use Rattle.mdp_rows.proofs.Calls.Kept.{both_same}
+use Rattle.mdp_rows.proofs.Flat.Pieces.{length-entries}
 use Rattle.mdp_rows.proofs.subsystem.give_entries.Goals as goal
 
 pub entry-requires-clause-term : goal.entry-requires-clause-term

@@ -1,6 +1,6 @@
 use Rattle.std.proofs.Common.{sym, subst}
 use Rattle.mdp_num.specs.Meaning.{IsWithinLimit}
-use Rattle.mdp_rows.proofs.CutFacts.{one_within}
+use Rattle.mdp_rows.proofs.CutModels.{one_within}
 use Rattle.mdp_rows.proofs.subsystem.give_loop.Goals as goal
 
 pub entry-requires-clause-term : goal.entry-requires-clause-term

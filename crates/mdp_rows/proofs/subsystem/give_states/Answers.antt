@@ -4,9 +4,9 @@ use Rattle.mdp_spec.specs.Sub.{sub_of}
 use Rattle.mdp_spec.specs.Tree.{is_marked}
 use Rattle.mdp_rows.specs.Replay.{with_states}
 use Rattle.mdp_rows.specs.Cut.{cut_state}
-use Rattle.mdp_rows.proofs.CutFacts.{sub_at, sub_end}
-use Rattle.mdp_rows.proofs.Handing.{state_first}
-use Rattle.mdp_rows.proofs.SoundKept.{both_same}
+use Rattle.mdp_rows.proofs.CutModels.{sub_at, sub_end}
+use Rattle.mdp_rows.proofs.CutModels.Handing.{state_first}
+use Rattle.mdp_rows.proofs.Calls.Kept.{both_same}
 use Rattle.mdp_rows.proofs.subsystem.give_states.Goals as goal
 use Rattle.mdp_rows.proofs.subsystem.give_states.Goals.{then-at, else-at}
 

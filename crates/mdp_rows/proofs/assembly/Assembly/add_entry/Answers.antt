@@ -1,6 +1,6 @@
 use Rattle.std.proofs.Common.{◌<◌, ◌^◌, inr, sym, ◌∙◌, ap, arith}
 use Rattle.std.specs.Prelude.{Ok}
-use Rattle.mdp_rows.proofs.EntryFacts.{no_row_for_entry, past_states, there_already, past_entries, entry_taken, entry_is_in, is_with_entry, is_marked}
+use Rattle.mdp_rows.proofs.Assembled.Entries.{no_row_for_entry, past_states, there_already, past_entries, entry_taken, entry_is_in, is_with_entry, is_marked}
 use Rattle.mdp_rows.proofs.assembly.Assembly.add_entry.Goals as goal
 
 pub returns-in_default : goal.returns-in_default

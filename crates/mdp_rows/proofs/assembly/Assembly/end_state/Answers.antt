@@ -1,6 +1,6 @@
 use Rattle.std.proofs.Common.{inr, List, ℕ, [], ◌∷◌, ◌++◌, ap, ◌∙◌}
-use Rattle.mdp_rows.proofs.DraftFacts.{no_state_to_close, state_refused, state_kept, is_with_state}
-use Rattle.mdp_rows.proofs.Outcomes.{at_ok}
+use Rattle.mdp_rows.proofs.Assembled.Drafts.{no_state_to_close, state_refused, state_kept, is_with_state}
+use Rattle.mdp_rows.proofs.Assembled.Outcomes.{at_ok}
 use Rattle.mdp_rows.proofs.assembly.Assembly.end_state.Goals as goal
 
 pub returns-in_default : goal.returns-in_default

@@ -1,7 +1,9 @@
 use Rattle.std.proofs.Common.{sym, ◌∙◌, refl}
 use Rattle.std.proofs.lemmas.Result.{err_from_is_err_and}
 use Rattle.mdp_rows.specs.Draft.{after_finish, finished}
-use Rattle.mdp_rows.proofs.CallFacts.{refused_is, refused_once, never_refused, all_stop, all_go, all_are_closed, finish_model, finish_refusal}
+use Rattle.mdp_rows.proofs.Assembled.Refusals.{refused_is, refused_once, never_refused}
+use Rattle.mdp_rows.proofs.Assembled.Finished.{all_stop, all_go, finish_model, finish_refusal}
+use Rattle.mdp_rows.proofs.Calls.Closes.{all_are_closed}
 use Rattle.mdp_rows.proofs.assembly.Assembly.finish.Goals as goal
 
 pub returns-in-Some-clause-again : goal.returns-in-Some-clause-again

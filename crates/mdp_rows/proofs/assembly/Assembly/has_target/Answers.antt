@@ -1,5 +1,5 @@
 use Rattle.std.proofs.Common.{◌∙◌}
-use Rattle.mdp_rows.proofs.StageFacts.{no_target, marked_is, none_past}
+use Rattle.mdp_rows.proofs.Assembled.Stages.{no_target, marked_is, none_past}
 use Rattle.mdp_rows.proofs.assembly.Assembly.has_target.Goals as goal
 
 pub returns-in_default : goal.returns-in_default

@@ -1,6 +1,6 @@
 use Rattle.std.proofs.Common.{sym, ap, ◌∙◌}
 use Rattle.std.specs.Prelude.{Ok}
-use Rattle.mdp_rows.proofs.CallFacts.{too_few, is_finished, is_flat}
+use Rattle.mdp_rows.proofs.Assembled.Finished.{too_few, is_finished, is_flat}
 use Rattle.mdp_rows.proofs.assembly.Assembly.into_model.Goals as goal
 
 pub returns-then-states-self : goal.returns-then-states-self

@@ -1,4 +1,4 @@
-use Rattle.mdp_rows.proofs.StageFacts.{state_is}
+use Rattle.mdp_rows.proofs.Assembled.Stages.{state_is}
 use Rattle.mdp_rows.proofs.assembly.Assembly.is_state_open.Goals as goal
 
 pub returns-in-Between : goal.returns-in-Between

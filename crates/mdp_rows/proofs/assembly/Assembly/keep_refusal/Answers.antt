@@ -1,5 +1,5 @@
 use Rattle.std.proofs.Common.{refl}
-use Rattle.mdp_rows.proofs.CallFacts.{refused_now}
+use Rattle.mdp_rows.proofs.Assembled.Refusals.{refused_now}
 use Rattle.mdp_rows.proofs.assembly.Assembly.keep_refusal.Goals as goal
 
 pub returns-in-Err-clause-refused : goal.returns-in-Err-clause-refused

@@ -1,6 +1,6 @@
 use Rattle.std.proofs.Common.{inr, List, ◌++◌, ap, ◌∙◌}
 use Rattle.mdp_math.specs.Rational.{ℚ}
-use Rattle.mdp_rows.proofs.DraftFacts.{too_many_states, state_is_opened, is_with_new_state, is_with_rewards}
+use Rattle.mdp_rows.proofs.Assembled.Drafts.{too_many_states, state_is_opened, is_with_new_state, is_with_rewards}
 use Rattle.mdp_rows.proofs.assembly.Assembly.open_state.Goals as goal
 
 pub returns-then-states-self : goal.returns-then-states-self

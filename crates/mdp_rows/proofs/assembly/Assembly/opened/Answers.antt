@@ -1,5 +1,5 @@
 use Rattle.std.proofs.Common.{◌+◌, ap, ◌∙◌}
-use Rattle.mdp_rows.proofs.StageFacts.{opened_is}
+use Rattle.mdp_rows.proofs.Assembled.Stages.{opened_is}
 use Rattle.mdp_rows.proofs.assembly.Assembly.opened.Goals as goal
 
 pub returns-in-Between : goal.returns-in-Between

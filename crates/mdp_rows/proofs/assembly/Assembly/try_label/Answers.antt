@@ -1,7 +1,7 @@
 use Rattle.std.proofs.Common.{ℕ, ap, inr, ◌∙◌, arith}
 use Rattle.mdp_rows.specs.Draft.{with_place}
-use Rattle.mdp_rows.proofs.LabelCalls.{no_state_for_label, past_calls, past_names, label_taken, is_labelled}
-use Rattle.mdp_rows.proofs.Outcomes.{at_ok}
+use Rattle.mdp_rows.proofs.Assembled.Labels.{no_state_for_label, past_calls, past_names, label_taken, is_labelled}
+use Rattle.mdp_rows.proofs.Assembled.Outcomes.{at_ok}
 use Rattle.mdp_rows.proofs.assembly.Assembly.try_label.Goals as goal
 
 pub returns-in-Between : goal.returns-in-Between
@@ -10,15 +10,15 @@ returns-in-Between c = record { follows = no_state_for_label c.self.inside _ c.a
 pub returns-then-self-ge-MAX_LABEL_CALLS : goal.returns-then-self-ge-MAX_LABEL_CALLS
 returns-then-self-ge-MAX_LABEL_CALLS c = record { follows = inr (past_calls c.self.inside _ c.args.name.now c.self.view_is c.in_default.not-Between (omega (arith, c.if-self-ge-MAX_LABEL_CALLS.true))) }
 
-pub returns-then-names_with-gt-MAX_NAMES : goal.returns-then-names_with-gt-MAX_NAMES
-returns-then-names_with-gt-MAX_NAMES c =
-    record { follows = inr (past_names c.self.inside _ c.args.name.now c.self.view_is c.in_default.not-Between (omega (arith, c.if-self-ge-MAX_LABEL_CALLS.false)) (omega (arith, c.names_with.ensures, c.if-names_with-gt-MAX_NAMES.true))) }
+pub returns-then-names_with-gt-MAX_LABELS : goal.returns-then-names_with-gt-MAX_LABELS
+returns-then-names_with-gt-MAX_LABELS c =
+    record { follows = inr (past_names c.self.inside _ c.args.name.now c.self.view_is c.in_default.not-Between (omega (arith, c.if-self-ge-MAX_LABEL_CALLS.false)) (omega (arith, c.names_with.ensures, c.if-names_with-gt-MAX_LABELS.true))) }
 
 pub invariant_of-self-2 : goal.invariant_of-self-2
 invariant_of-self-2 c =
     let s = c.in-Ok.ensures {u = tt} in
     let a = at_ok c.add_place.result c.if-is_err.ensures.negation c.add_place.ensures.added in
-    is_labelled c.self.inside _ c.args.name.now c.self.view_is c.in_default.not-Between _ _ c.self.invariant (omega (arith, c.if-self-ge-MAX_LABEL_CALLS.false)) (omega (arith, c.names_with.ensures, c.if-names_with-gt-MAX_NAMES.false))
+    is_labelled c.self.inside _ c.args.name.now c.self.view_is c.in_default.not-Between _ _ c.self.invariant (omega (arith, c.if-self-ge-MAX_LABEL_CALLS.false)) (omega (arith, c.names_with.ensures, c.if-names_with-gt-MAX_LABELS.false))
     s.seen (a ∙ ap (λ (l : ℕ). with_place l c.self.inside.places.items) s.place)
 
 pub returns : goal.returns
@@ -26,6 +26,6 @@ returns c =
     let s = c.in-Ok.ensures {u = tt} in
     let a = at_ok c.add_place.result c.if-is_err.ensures.negation c.add_place.ensures.added in
     record {
-      follows = label_taken c.self.inside _ c.args.name.now c.self.view_is c.in_default.not-Between _ _ c.self.invariant (omega (arith, c.if-self-ge-MAX_LABEL_CALLS.false)) (omega (arith, c.names_with.ensures, c.if-names_with-gt-MAX_NAMES.false))
+      follows = label_taken c.self.inside _ c.args.name.now c.self.view_is c.in_default.not-Between _ _ c.self.invariant (omega (arith, c.if-self-ge-MAX_LABEL_CALLS.false)) (omega (arith, c.names_with.ensures, c.if-names_with-gt-MAX_LABELS.false))
           s.seen (a ∙ ap (λ (l : ℕ). with_place l c.self.inside.places.items) s.place);
     }

@@ -1,8 +1,8 @@
 use Rattle.mdp_rows.specs.Draft.{all_closed}
-use Rattle.mdp_rows.proofs.BuilderCalls.{after, stays_good}
-use Rattle.mdp_rows.proofs.CallFacts.{all_are_closed}
+use Rattle.mdp_rows.proofs.Calls.{after, stays_good}
+use Rattle.mdp_rows.proofs.Calls.Closes.{all_are_closed}
 use Rattle.mdp_rows.proofs.SoundCalls.{all_closed-sound}
-use Rattle.mdp_rows.proofs.SoundKept.{IsKept, all_closed-kept}
+use Rattle.mdp_rows.proofs.Calls.Kept.{IsKept, all_closed-kept}
 use Rattle.mdp_rows.proofs.builder.Builder.close_state.Goals as goal
 
 pub invariant_of-self : goal.invariant_of-self

@@ -1,8 +1,8 @@
 use Rattle.mdp_rows.specs.Draft.{after_entry}
-use Rattle.mdp_rows.proofs.BuilderCalls.{after, stays_good}
-use Rattle.mdp_rows.proofs.OpenFacts.{entry_keeps}
+use Rattle.mdp_rows.proofs.Calls.{after, stays_good}
+use Rattle.mdp_rows.proofs.Calls.Opens.{entry_keeps}
 use Rattle.mdp_rows.proofs.SoundCalls.{after_entry-sound}
-use Rattle.mdp_rows.proofs.SoundKept.{IsKept, after_entry-kept}
+use Rattle.mdp_rows.proofs.Calls.Kept.{IsKept, after_entry-kept}
 use Rattle.mdp_rows.proofs.builder.Builder.entry.Goals as goal
 
 pub invariant_of-self : goal.invariant_of-self

@@ -1,8 +1,8 @@
 use Rattle.mdp_rows.specs.Draft.{after_state}
-use Rattle.mdp_rows.proofs.BuilderCalls.{after, stays_good}
-use Rattle.mdp_rows.proofs.OpenFacts.{state_opens}
+use Rattle.mdp_rows.proofs.Calls.{after, stays_good}
+use Rattle.mdp_rows.proofs.Calls.Opens.{state_opens}
 use Rattle.mdp_rows.proofs.SoundCalls.{after_state-sound}
-use Rattle.mdp_rows.proofs.SoundKept.{IsKept, after_state-kept}
+use Rattle.mdp_rows.proofs.Calls.Kept.{IsKept, after_state-kept}
 use Rattle.mdp_rows.proofs.builder.Builder.state.Goals as goal
 
 pub invariant_of-self : goal.invariant_of-self

@@ -1,4 +1,4 @@
-use Rattle.mdp_rows.proofs.ChoiceFacts.{all_known, reward_names}
+use Rattle.mdp_rows.proofs.Flat.Choices.{all_known, reward_names}
 use Rattle.mdp_rows.proofs.choices.Choices.known.Goals as goal
 
 pub returns-clause-names : goal.returns-clause-names

@@ -1,5 +1,5 @@
 use Rattle.std.proofs.Common.{◌∙◌}
-use Rattle.mdp_rows.proofs.ChoiceFacts.{choices_len}
+use Rattle.mdp_rows.proofs.Flat.Choices.{choices_len}
 use Rattle.mdp_rows.proofs.choices.Choices.len.Goals as goal
 
 pub returns : goal.returns

@@ -1,6 +1,6 @@
 use Rattle.std.proofs.Common.{ℕ, List, [], get_or, arith, ap, ◌∙◌}
 use Rattle.std.specs.Global.{Vec}
-use Rattle.mdp_rows.proofs.ChoiceFacts.{names_len, names_are, name_at}
+use Rattle.mdp_rows.proofs.Flat.Choices.{names_len, names_are, name_at}
 use Rattle.mdp_rows.proofs.choices.Choices.name.Goals as goal
 
 pub index-requires : goal.index-requires

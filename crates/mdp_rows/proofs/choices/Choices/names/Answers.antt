@@ -1,5 +1,5 @@
 use Rattle.std.proofs.Common.{arith}
-use Rattle.mdp_rows.proofs.ChoiceFacts.{names_len}
+use Rattle.mdp_rows.proofs.Flat.Choices.{names_len}
 use Rattle.mdp_rows.proofs.choices.Choices.names.Goals as goal
 
 pub returns : goal.returns

@@ -1,4 +1,4 @@
-use Rattle.mdp_rows.proofs.ChoiceFacts.{no_choices}
+use Rattle.mdp_rows.proofs.Flat.Choices.{no_choices}
 use Rattle.mdp_rows.proofs.choices.Choices.new.Goals as goal
 
 pub returns : goal.returns

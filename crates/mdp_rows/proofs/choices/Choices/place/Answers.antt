@@ -6,8 +6,8 @@ use Rattle.mdp_spec.specs.Labels.{place_of}
 use Rattle.mdp_rows.specs.ChoiceTable.{ChoiceTable}
 use Rattle.mdp_rows.specs.FlatChoices.{table_in}
 use Rattle.mdp_rows.specs.declared.choices.Choices.TheInside.{Inside}
-use Rattle.mdp_rows.proofs.ChoiceFacts.{names_are}
-use Rattle.mdp_rows.proofs.Names.{position-map}
+use Rattle.mdp_rows.proofs.Flat.Choices.{names_are}
+use Rattle.mdp_rows.proofs.Flat.Names.{position-map}
 use Rattle.mdp_rows.proofs.choices.Choices.place.Goals as goal
 
 found : (a : Inside) (v : ChoiceTable) (name : List ℕ) (names : List (Vec ℕ)) (o : Option ℕ) → table_in a ≡ v → names ≡ a.names.items → o ≡ position (λ (k : Vec ℕ). bytes_eq name k.items) names → o ≡ place_of name v.names

@@ -1,5 +1,5 @@
 use Rattle.std.proofs.Common.{arith, ◌∙◌}
-use Rattle.mdp_rows.proofs.ChoiceFacts.{choices_len, row_is}
+use Rattle.mdp_rows.proofs.Flat.Choices.{choices_len, row_is}
 use Rattle.mdp_rows.proofs.choices.Choices.row.Goals as goal
 
 pub row-requires : goal.row-requires

@@ -1,6 +1,6 @@
 use Rattle.std.proofs.Common.{map, ap, List, ℕ}
 use Rattle.std.specs.Global.{Vec}
-use Rattle.mdp_rows.proofs.LabelsGrow.{no_labels}
+use Rattle.mdp_rows.proofs.Flat.LabelsGrown.{no_labels}
 use Rattle.mdp_rows.proofs.labels.Labels.new.Goals as goal
 
 pub returns : goal.returns

@@ -4,10 +4,10 @@ use Rattle.std.specs.List.{position_or_len}
 use Rattle.std.specs.Str.{bytes_eq}
 use Rattle.std.proofs.lemmas.List.{length-map}
 use Rattle.mdp_rows.specs.Draft.{with_name}
-use Rattle.mdp_rows.proofs.LabelFacts.{names_are}
-use Rattle.mdp_rows.proofs.LabelsGrow.{names_grown, are_labels_named, same_names, names_unchanged}
-use Rattle.mdp_rows.proofs.Names.{seen_before, place_is, with_name-keys}
-use Rattle.mdp_rows.proofs.RowsGrow.{on_err_of}
+use Rattle.mdp_rows.proofs.Flat.Labels.{names_are}
+use Rattle.mdp_rows.proofs.Flat.LabelsGrown.{names_grown, are_labels_named, same_names, names_unchanged}
+use Rattle.mdp_rows.proofs.Flat.Names.{seen_before, place_is, with_name-keys}
+use Rattle.mdp_rows.proofs.Flat.RowsGrown.{on_err_of}
 use Rattle.mdp_rows.proofs.labels.Labels.see_name.Goals as goal
 
 pub returns-in-Some-clause-place : goal.returns-in-Some-clause-place

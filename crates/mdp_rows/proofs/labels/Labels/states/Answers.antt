@@ -1,5 +1,5 @@
 use Rattle.std.proofs.Common.{arith}
-use Rattle.mdp_rows.proofs.LabelFacts.{states_are}
+use Rattle.mdp_rows.proofs.Flat.Labels.{states_are}
 use Rattle.mdp_rows.proofs.labels.Labels.states.Goals as goal
 
 pub returns : goal.returns

@@ -1,5 +1,5 @@
 use Rattle.std.proofs.Common.{◌∙◌}
-use Rattle.mdp_rows.proofs.ModelFacts.{all_choices_are}
+use Rattle.mdp_rows.proofs.Flat.Models.{all_choices_are}
 use Rattle.mdp_rows.proofs.model.Model.all_choices.Goals as goal
 
 pub returns : goal.returns

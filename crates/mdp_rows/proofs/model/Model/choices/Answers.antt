@@ -1,5 +1,5 @@
 use Rattle.std.proofs.Common.{arith}
-use Rattle.mdp_rows.proofs.ModelFacts.{states_are, choices_stand}
+use Rattle.mdp_rows.proofs.Flat.Models.{states_are, choices_stand}
 use Rattle.mdp_rows.proofs.model.Model.choices.Goals as goal
 
 pub index-requires : goal.index-requires

@@ -4,7 +4,7 @@ use Rattle.mdp_spec.specs.Sub.{sub_of}
 use Rattle.mdp_rows.specs.Draft.{Draft, new_draft}
 use Rattle.mdp_rows.specs.Replay.{with_states}
 use Rattle.mdp_rows.specs.declared.rule.RowRule.TheVariants.{Exact}
-use Rattle.mdp_rows.proofs.CutFacts.{sub_comes_out}
+use Rattle.mdp_rows.proofs.CutModels.{sub_comes_out}
 use Rattle.mdp_rows.proofs.model.Model.cut.Goals as goal
 
 pub returns : goal.returns

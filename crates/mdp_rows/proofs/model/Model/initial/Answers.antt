@@ -1,6 +1,6 @@
 use Rattle.std.proofs.Common.{sym, ◌∙◌}
 use Rattle.mdp_spec.specs.Mdp.{has_label}
-use Rattle.mdp_rows.proofs.Tally.{skip, first_found, more_found, none_of, no_label}
+use Rattle.mdp_rows.proofs.Queries.Tally.{skip, first_found, more_found, none_of, no_label}
 use Rattle.mdp_rows.proofs.model.Model.initial.Goals.{then-has+then-is_some, then-has+else-is_some, else-has}
 use Rattle.mdp_rows.proofs.model.Model.initial.Goals as goal
 

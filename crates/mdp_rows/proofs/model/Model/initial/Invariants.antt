@@ -1,6 +1,6 @@
 use Rattle.std.specs.List.{filter, range_with_len}
 use Rattle.mdp_spec.specs.Mdp.{has_label}
-use Rattle.mdp_rows.proofs.Tally.{IsTally}
+use Rattle.mdp_rows.proofs.Queries.Tally.{IsTally}
 use Rattle.mdp_rows.proofs.model.Model.initial.Given as goal
 
 abbrev pub invariant-loop-s : goal.invariant-loop-s

@@ -1,7 +1,7 @@
 use Rattle.std.proofs.Common.{subst}
 use Rattle.mdp_spec.specs.Mdp.{Mdp}
 use Rattle.mdp_rows.specs.Limits.{IsModel}
-use Rattle.mdp_rows.proofs.ModelFacts.{is_mdp}
+use Rattle.mdp_rows.proofs.Flat.Models.{is_mdp}
 use Rattle.mdp_rows.proofs.model.Model.known.Goals as goal
 
 pub returns : goal.returns

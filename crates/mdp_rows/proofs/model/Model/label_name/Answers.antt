@@ -1,5 +1,5 @@
 use Rattle.std.proofs.Common.{List, ℕ, [], length, get_or, ap, ◌∙◌, arith}
-use Rattle.mdp_rows.proofs.ModelFacts.{label_names_are}
+use Rattle.mdp_rows.proofs.Flat.Models.{label_names_are}
 use Rattle.mdp_rows.proofs.model.Model.label_name.Goals as goal
 
 pub name-requires : goal.name-requires

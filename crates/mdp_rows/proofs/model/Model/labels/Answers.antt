@@ -1,5 +1,5 @@
 use Rattle.std.proofs.Common.{length, ap, ◌∙◌}
-use Rattle.mdp_rows.proofs.ModelFacts.{label_names_are}
+use Rattle.mdp_rows.proofs.Flat.Models.{label_names_are}
 use Rattle.mdp_rows.proofs.model.Model.labels.Goals as goal
 
 pub returns : goal.returns

@@ -1,5 +1,5 @@
 use Rattle.std.proofs.Common.{arith, ◌∙◌}
-use Rattle.mdp_rows.proofs.ModelFacts.{states_are, labels_are}
+use Rattle.mdp_rows.proofs.Flat.Models.{states_are, labels_are}
 use Rattle.mdp_rows.proofs.model.Model.labels_of.Goals as goal
 
 pub labels_of-requires : goal.labels_of-requires

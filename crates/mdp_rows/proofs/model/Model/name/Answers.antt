@@ -1,5 +1,5 @@
 use Rattle.std.proofs.Common.{List, ℕ, [], length, get_or, ap, ◌∙◌, arith}
-use Rattle.mdp_rows.proofs.ModelFacts.{names_are}
+use Rattle.mdp_rows.proofs.Flat.Models.{names_are}
 use Rattle.mdp_rows.proofs.model.Model.name.Goals as goal
 
 pub name-requires : goal.name-requires

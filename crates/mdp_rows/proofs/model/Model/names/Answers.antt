@@ -1,5 +1,5 @@
 use Rattle.std.proofs.Common.{length, ap, ◌∙◌}
-use Rattle.mdp_rows.proofs.ModelFacts.{names_are}
+use Rattle.mdp_rows.proofs.Flat.Models.{names_are}
 use Rattle.mdp_rows.proofs.model.Model.names.Goals as goal
 
 pub returns : goal.returns

@@ -1,7 +1,7 @@
 use Rattle.std.proofs.Common.{length, arith, sym, ap, ◌∙◌}
 use Rattle.mdp_spec.specs.Mdp.{Choice}
 use Rattle.mdp_spec.specs.Unit.{reward_of}
-use Rattle.mdp_rows.proofs.ModelFacts.{states_are, names_are, choices_after}
+use Rattle.mdp_rows.proofs.Flat.Models.{states_are, names_are, choices_after}
 use Rattle.mdp_rows.proofs.model.Model.reward.Goals as goal
 
 pub index-requires : goal.index-requires

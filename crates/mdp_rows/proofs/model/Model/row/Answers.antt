@@ -1,6 +1,6 @@
 use Rattle.std.proofs.Common.{arith, sym, ap, ◌∙◌}
 use Rattle.mdp_spec.specs.Mdp.{Choice}
-use Rattle.mdp_rows.proofs.ModelFacts.{states_are, choices_after, targets_in_range}
+use Rattle.mdp_rows.proofs.Flat.Models.{states_are, choices_after, targets_in_range}
 use Rattle.mdp_rows.proofs.model.Model.row.Goals as goal
 
 pub index-requires : goal.index-requires

@@ -1,5 +1,5 @@
 use Rattle.std.proofs.Common.{arith}
-use Rattle.mdp_rows.proofs.ModelFacts.{states_are}
+use Rattle.mdp_rows.proofs.Flat.Models.{states_are}
 use Rattle.mdp_rows.proofs.model.Model.states.Goals as goal
 
 pub returns : goal.returns

@@ -1,5 +1,5 @@
 use Rattle.std.proofs.Common.{slice_index}
-use Rattle.mdp_rows.proofs.RowsOfPolicy.{rows_known}
+use Rattle.mdp_rows.proofs.Queries.Policies.{rows_known}
 use Rattle.mdp_rows.proofs.policy_rows.PolicyRowsRowsOf.known.Goals as goal
 
 pub returns : goal.returns

@@ -1,5 +1,5 @@
 use Rattle.std.proofs.Common.{arith}
-use Rattle.mdp_rows.proofs.RowFacts.{rows_len}
+use Rattle.mdp_rows.proofs.Flat.Rows.{rows_len}
 use Rattle.mdp_rows.proofs.rows.Rows.len.Goals as goal
 
 pub returns : goal.returns

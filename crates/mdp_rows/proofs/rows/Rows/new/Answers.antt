@@ -1,4 +1,4 @@
-use Rattle.mdp_rows.proofs.RowsGrow.{no_rows, are_no_rows}
+use Rattle.mdp_rows.proofs.Flat.RowsGrown.{no_rows, are_no_rows}
 use Rattle.mdp_rows.proofs.rows.Rows.new.Goals as goal
 
 pub invariant_of-result : goal.invariant_of-result
