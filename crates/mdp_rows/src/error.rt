@@ -13,7 +13,7 @@ pub enum RowsError {
     TooMany,
     /// The target isn't below the number of states.
     Target,
-    /// The sum of a state's and a choice's reward has a written term past width, or a lowest term above 10^36.
+    /// The sum of a state's and a choice's reward has a written term past width, or a lowest term of magnitude above 10^36.
     Large,
     /// Another number of states than announced.
     Count,

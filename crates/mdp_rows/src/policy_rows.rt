@@ -1,6 +1,7 @@
-ghost use Rattle.std.specs.Prelude.{◌≡◌, ◌<◌, ℕ, length, map, slice_index};
+ghost use Rattle.std.specs.Prelude.{map, slice_index};
 ghost use Rattle.std.specs.List.{range_with_len};
-ghost use Rattle.mdp_spec.specs.Mdp.{states_of, choices_at, row_at};
+ghost use Rattle.mdp_spec.specs.Mdp.{states_of, row_at};
+ghost use Rattle.mdp_spec.specs.Tree.{IsPolicy};
 
 use crate::model::Model;
 use crate::row::Row;
@@ -11,8 +12,7 @@ use crate::rows_of::RowsOf;
 pub struct PolicyRows<'a> {
     pub model: &'a Model,
     pub policy: &'a [u32],
-    ghost one_each: { length policy.now ≡ states_of model.now },
-    ghost in_range: { (s : ℕ) → s < states_of model.now → slice_index policy.now s < length (choices_at model.now s) },
+    ghost chosen: { IsPolicy model.now policy.now },
 }
 
 impl RowsOf for PolicyRows<'_> {

@@ -5,14 +5,14 @@ use Rattle.mdp_rows.proofs.policy_rows.PolicyRowsRowsOf.row.Goals as goal
 pub bounds-self-s : goal.bounds-self-s
 bounds-self-s c =
     let h = rw length-map-range_with_len at c.requires in
-    let e = c.args.self.now.one_each in
+    let e = c.args.self.now.chosen.one_each in
     omega arith
 
 pub row-requires-clause-state : goal.row-requires-clause-state
 row-requires-clause-state c = rw length-map-range_with_len at c.requires
 
 pub row-requires-clause-choice : goal.row-requires-clause-choice
-row-requires-clause-choice c = c.args.self.now.in_range c.args.s (rw length-map-range_with_len at c.requires)
+row-requires-clause-choice c = c.args.self.now.chosen.in_range c.args.s (rw length-map-range_with_len at c.requires)
 
 pub returns-clause-row : goal.returns-clause-row
 returns-clause-row c =
