@@ -9,13 +9,13 @@ mod errors;
 mod laws;
 #[cfg(test)]
 mod listed;
-mod shared;
 #[cfg(test)]
 mod tests;
+mod too_wide;
 mod transposed;
 
 pub use chain::{Chain, solve};
 pub use errors::ElimError;
 pub use laws::{solution_law, visits_law};
-pub use shared::{Kind, Part, SolveError, TooWide};
+pub use too_wide::{Kind, Part, SolveError, TooWide};
 pub use transposed::visits;

@@ -1,0 +1,21 @@
+pub mod Iterations
+pub mod Counting
+pub mod LeavesAgain
+pub mod Turned
+pub mod Results
+pub mod Compares
+pub mod Chain
+pub mod Exact
+pub mod Improving
+pub mod Products
+pub mod Ordered
+pub mod Stepping
+pub mod Ending
+pub mod Optimal
+pub mod Answering
+pub mod OuterSums
+pub mod RanksFound
+pub mod Solving
+pub mod RoundFacts
+pub mod Walking
+mod Examples

@@ -1,0 +1,9 @@
+pub mod Iteration
+pub mod Problem
+pub mod Values
+pub mod Places
+pub mod Path
+pub mod Laws
+pub mod Code
+pub mod Faults
+pub mod Ends
