@@ -115,7 +115,7 @@ choices_arrive m goals marks ranks policy ok g r l s k h is hk =
     subst (λ (d : ℕ). can_enter (λ t. nat_lt (get_or ranks t 0) (get_or ranks s 0)) (row_at m s d) ≡ true) (sym p)
     (enters-by (λ t. nat_lt (get_or ranks t 0) (get_or ranks s 0)) (row_at m s d) z.0 z.2 (and-right (marked marks z.0) (nat_lt (get_or ranks z.0 0) (get_or ranks s 0)) z.3))) in
     let a = arrives m goals marks ok (Follows policy) (λ t. get_or ranks t 0) kept fall k hk in
-    (a.0, a.1 a.0 1 (unfolded m policy a.0 s) s (omega arith) (omega arith) h is (keeps_unfolded m policy a.0 s ok l.in_range h))
+    (a.0, a.1 a.0 1 (unfolded m policy a.0 s) s (omega arith) (omega arith) h is (keeps_unfolded m policy a.0 s ok (record { one_each = l.count; in_range = l.in_range }) h))
 
 -- ---- sure_all
 
@@ -179,5 +179,5 @@ choices_miss m goals marks policy ok g l n s h is =
           ≤ℚ_trans _ _ _ (weigh-le_mass (λ (y : Entry). y.target) (λ (y : Entry). y.prob) (missed_value marks) (row_at m s c) (probs_nonneg (states_of m) (row_at m s c) (ok.row s c h i)) (missed-at-most-one marks))
           (≤ℚ_of_eq _ _ ((ok.row s c h i).distribution.total ∙ sym (ap (λ b. cond b 0ℚ 1ℚ) not)))
     ] in
-    let below = hit-le_by m goals 1 ok (omega arith) (Follows policy) (missed_value marks) (λ v k. missed-nonneg marks v) at_goal at_choice n (unfolded m policy n s) s h (keeps_unfolded m policy n s ok l.in_range h) in
+    let below = hit-le_by m goals 1 ok (omega arith) (Follows policy) (missed_value marks) (λ v k. missed-nonneg marks v) at_goal at_choice n (unfolded m policy n s) s h (keeps_unfolded m policy n s ok (record { one_each = l.count; in_range = l.in_range }) h) in
     ≤ℚ_antisymm _ _ (≤ℚ_trans _ _ _ below (≤ℚ_of_eq _ _ (ap (λ b. cond b 0ℚ 1ℚ) is))) (hit-nonneg m goals 1 n (unfolded m policy n s) s (omega arith))

@@ -3,7 +3,7 @@ use Rattle.std.proofs.Common.{◌≡◌, ◌⊎◌, inl, inr, ℕ, zero, suc, �
 use Rattle.std.specs.List.{All, Any}
 use Rattle.std.proofs.lemmas.Bool.{false≢true, eqb-true}
 use Rattle.std.proofs.lemmas.List.Folds.{Any-from_list_any}
-use Rattle.std.proofs.lemmas.List.FromFn.{get_or-map-range_with_len}
+use Rattle.std.proofs.lemmas.List.FromFn.{get_or-map-range_with_len, length-map-range_with_len}
 use Rattle.mdp_math.specs.Power.{pow_ℚ}
 use Rattle.mdp_math.specs.Rational.{ℚ, ◌+ℚ◌, ◌*ℚ◌, ◌-ℚ◌, ◌≤ℚ◌, ◌<ℚ◌}
 use Rattle.mdp_math.specs.Sum.{sum_of}
@@ -18,7 +18,7 @@ use Rattle.mdp_spec.specs.Bounds.{part}
 use Rattle.mdp_spec.specs.Hit.{hit}
 use Rattle.mdp_spec.specs.Mdp.{Entry, Choice, Mdp, no_choice, states_of, choices_at, row_at}
 use Rattle.mdp_spec.specs.Row.{IsMdp}
-use Rattle.mdp_spec.specs.Rules.{IsPolicy}
+use Rattle.mdp_spec.specs.Tree.{IsPolicy}
 use Rattle.mdp_spec.specs.Tree.{Tree, unfolded}
 use Rattle.mdp_spec.proofs.Above.{row_weigh, hit-le_by}
 use Rattle.mdp_spec.proofs.Keeping.{HasChoice, Follows, Keeps, keeps_of_Fits, keeps_unfolded}
@@ -250,11 +250,17 @@ module _ (m : Mdp) (goals avoiding marks : List Bool) (keep ranks go : List ℕ)
   policy-at : (s : ℕ) → s < states_of m → get_or (joined m avoiding keep go) s 0 ≡ cond (marked avoiding s) (get_or keep s 0) (get_or go s 0)
   policy-at s h = get_or-map-range_with_len (λ t. cond (marked avoiding t) (get_or keep t 0) (get_or go t 0)) 0 (states_of m) s s 0 h (omega arith)
 
-  is_policy : IsPolicy m (joined m avoiding keep go)
-  is_policy s h = elim (case-bool (marked avoiding s)) [
+  joined-in_range : (s : ℕ) → s < states_of m → get_or (joined m avoiding keep go) s 0 < length (choices_at m s)
+  joined-in_range s h = elim (case-bool (marked avoiding s)) [
     | inl is ↦ subst (λ (c : ℕ). c < length (choices_at m s)) (sym (policy-at s h ∙ ap (λ b. cond b (get_or keep s 0) (get_or go s 0)) is)) (l.in_range s h)
     | inr not ↦ subst (λ (c : ℕ). c < length (choices_at m s)) (sym (policy-at s h ∙ ap (λ b. cond b (get_or keep s 0) (get_or go s 0)) not)) (w.in_range s h)
   ]
+
+  is_policy : IsPolicy m (joined m avoiding keep go)
+  is_policy = record {
+    one_each = length-map-range_with_len (λ s. cond (marked avoiding s) (get_or keep s 0) (get_or go s 0)) 0 (states_of m);
+    in_range = joined-in_range;
+  }
 
   stays-one : (row : List Entry) → All (λ x. x.target < states_of m) row → stays_in (marked avoiding) row ≡ true → stays_in (λ t. number t == 1) row ≡ true
   stays-one row range kept = stays-more (marked avoiding) (λ t. number t == 1) row (states_of m) range (λ t h e. eq-eqb (number t) 1 (avoiding-number t h e)) kept

@@ -3,7 +3,7 @@ use Rattle.std.proofs.Common.{◌≡◌, inl, inr, ℕ, suc, zero, ◌+◌, ◌<
 use Rattle.std.proofs.lemmas.Bool.{false≢true}
 use Rattle.mdp_spec.specs.Mdp.{Mdp, Choice, no_choice, states_of, choices_at, row_at}
 use Rattle.mdp_spec.specs.Row.{IsMdp}
-use Rattle.mdp_spec.specs.Rules.{IsPolicy}
+use Rattle.mdp_spec.specs.Tree.{IsPolicy}
 use Rattle.mdp_graph.specs.Sets.{marked, can_enter, stays_in, some_choice}
 use Rattle.mdp_graph.specs.Layers.{reached, AreReached, AreLeastRanks}
 use Rattle.mdp_graph.specs.Reach.{may_step, row_step, falls}
@@ -21,7 +21,7 @@ use Rattle.mdp_graph.proofs.Truths.{case-bool, or-right, and-left, and-right, bo
 -- ---- policies by which ranks fall
 
 -- where the policy's row leads to a marked state of smaller rank, a state is reached within as many steps as its rank
-module _ (m : Mdp) (first : ℕ → Bool) (marks : List Bool) (ranks policy : List ℕ) (ok : IsMdp m) (in_range : IsPolicy m policy)
+module _ (m : Mdp) (first : ℕ → Bool) (marks : List Bool) (ranks policy : List ℕ) (ok : IsMdp m) (in_range : (s : ℕ) → s < states_of m → get_or policy s 0 < length (choices_at m s))
     (fall : (s : ℕ) → s < states_of m → marked marks s ≡ true → first s ≡ false → falls m marks ranks s (get_or policy s 0) ≡ true) where
   lower : (s : ℕ) → s < states_of m → marked marks s ≡ true → first s ≡ false
       → (t : ℕ) × (t < states_of m) × (marked marks t ≡ true) × (get_or ranks t 0 < get_or ranks s 0) × ((set : ℕ → Bool) → set t ≡ true → policy_step m policy set s ≡ true)
@@ -112,8 +112,8 @@ met_by_policy m first policy ok p (suc k) s h e = elim (case-bool (reached (must
       (let set = reached (must_step m) first k in
       let c : ℕ = get_or policy s 0 in
       let stepped : must_step m set s ≡ true = sym (ap (λ b. b || must_step m set s) new) ∙ e in
-      let enters = each-true (λ (x : Choice). can_enter set x.row) (choices_at m s) no_choice stepped c (p s h) in
-      let row = ok.row s c h (p s h) in
+      let enters = each-true (λ (x : Choice). can_enter set x.row) (choices_at m s) no_choice stepped c (p.in_range s h) in
+      let row = ok.row s c h (p.in_range s h) in
       let z = enters-at set (row_at m s c) (states_of m) row.in_range enters in
       step-reaches (policy_step m policy) first k s (enters-by (reached (policy_step m policy) first k) (row_at m s c) z.0 z.2 (met_by_policy m first policy ok p k z.0 z.1 z.3)))
 ]
@@ -199,12 +199,12 @@ module _ (m : Mdp) (goals : List Bool) (policy : List ℕ) (set : ℕ → Bool) 
       | inr new ↦
           (let there = reached (policy_step m policy) (marked goals) k in
           let c : ℕ = get_or policy s 0 in
-          let row = ok.row s c h (p s h) in
+          let row = ok.row s c h (p.in_range s h) in
           let stepped : can_enter there (row_at m s c) ≡ true = sym (ap (λ b. b || policy_step m policy there s) new) ∙ e in
           let kept = v.stays s h is not_goal in
           let z = enters-at there (row_at m s c) (states_of m) row.in_range stepped in
           step-reaches (inside_step m larger) (marked goals) k s
-          (choice-inside m larger (reached (inside_step m larger) (marked goals) k) s c (p s h) (stays-more set larger (row_at m s c) (states_of m) row.in_range (λ t l i. set-larger t i) kept)
+          (choice-inside m larger (reached (inside_step m larger) (marked goals) k) s c (p.in_range s h) (stays-more set larger (row_at m s c) (states_of m) row.in_range (λ t l i. set-larger t i) kept)
           (enters-by (reached (inside_step m larger) (marked goals) k) (row_at m s c) z.0 z.2 (reaches_inside k z.0 z.1 (stays-at set (row_at m s c) z.0 kept z.2) z.3))))
     ])
   ]

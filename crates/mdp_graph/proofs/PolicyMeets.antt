@@ -3,7 +3,7 @@ use Rattle.std.proofs.Common.{◌≡◌, inl, inr, ℕ, suc, zero, ◌+◌, ◌<
 use Rattle.std.proofs.lemmas.Bool.{false≢true, cases_lt}
 use Rattle.mdp_spec.specs.Mdp.{Mdp, Choice, no_choice, states_of, choices_at, row_at}
 use Rattle.mdp_spec.specs.Row.{IsMdp}
-use Rattle.mdp_spec.specs.Rules.{IsPolicy}
+use Rattle.mdp_spec.specs.Tree.{IsPolicy}
 use Rattle.mdp_graph.specs.Sets.{marked, can_enter, stays_in}
 use Rattle.mdp_graph.specs.Layers.{reached}
 use Rattle.mdp_graph.specs.Avoid.{IsAvoiding}
@@ -84,12 +84,12 @@ unreached_avoids m goals policy ok p j last =
       ];
       stays = λ s h e.
           (let c : ℕ = get_or policy s 0 in
-          let row = ok.row s c h (p s h) in
+          let row = ok.row s c h (p.in_range s h) in
           let never_enters : can_enter set (row_at m s c) ≡ false = elim (case-bool (can_enter set (row_at m s c))) [
             | inl enters ↦ absurd (false≢true (sym (not-true (set s) e) ∙ last s h (step-reaches step (marked goals) j s enters)))
             | inr never ↦ never
           ] in
-          some-any (λ (x : Choice). stays_in (λ t. not (set t)) x.row) (choices_at m s) no_choice c (p s h) (stays-outside set (λ t. not (set t)) (row_at m s c) (states_of m) row.in_range (λ t l f. ap not f) never_enters));
+          some-any (λ (x : Choice). stays_in (λ t. not (set t)) x.row) (choices_at m s) no_choice c (p.in_range s h) (stays-outside set (λ t. not (set t)) (row_at m s c) (states_of m) row.in_range (λ t l f. ap not f) never_enters));
     }
 
 pub rest_meets : RestMeets

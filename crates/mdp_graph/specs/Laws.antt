@@ -7,7 +7,7 @@ use Rattle.mdp_math.specs.Rational.{of_int, ◌+ℚ◌, ◌≤ℚ◌}
 use Rattle.mdp_spec.specs.Bounds.{part}
 use Rattle.mdp_spec.specs.Hit.{hit}
 use Rattle.mdp_spec.specs.Tree.{Tree, Fits, unfolded}
-use Rattle.mdp_spec.specs.Rules.{IsPolicy}
+use Rattle.mdp_spec.specs.Tree.{IsPolicy}
 use Rattle.mdp_graph.specs.Sets.{marked, can_enter, stays_in, some_choice}
 use Rattle.mdp_graph.specs.Layers.{reached, AreReached, AreLeastRanks}
 use Rattle.mdp_graph.specs.Choices.{AreLeast}
