@@ -2,6 +2,7 @@ pub mod Iteration
 pub mod Problem
 pub mod Values
 pub mod Places
+pub mod Candidates
 pub mod Path
 pub mod Laws
 pub mod Code
