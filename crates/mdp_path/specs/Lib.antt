@@ -8,3 +8,4 @@ pub mod Laws
 pub mod Code
 pub mod Faults
 pub mod Ends
+pub mod Queries
