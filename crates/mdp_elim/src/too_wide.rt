@@ -1,3 +1,6 @@
+use mdp_num::Memory;
+use std::alloc::AllocError;
+
 /// The part of a computation whose policies are evaluated.
 #[derive(Clone, Copy, Debug, PartialEq, Eq)]
 pub enum Part {
@@ -47,4 +50,26 @@ pub enum SolveError {
     TooWide(TooWide),
     /// Memory was refused.
     Memory,
+}
+
+impl From<AllocError> for SolveError {
+    ghost use Rattle.std.specs.Prelude.{◌≡◌};
+    ghost use Rattle.mdp_elim.specs.declared.too_wide.SolveError.TheVariants as variant;
+
+    ghost from_gives = { λ _ e. e ≡ variant.Memory };
+
+    fn from(_error: AllocError) -> SolveError {
+        SolveError::Memory
+    }
+}
+
+impl From<Memory> for SolveError {
+    ghost use Rattle.std.specs.Prelude.{◌≡◌};
+    ghost use Rattle.mdp_elim.specs.declared.too_wide.SolveError.TheVariants as variant;
+
+    ghost from_gives = { λ _ e. e ≡ variant.Memory };
+
+    fn from(_error: Memory) -> SolveError {
+        SolveError::Memory
+    }
 }

@@ -21,7 +21,8 @@ use Rattle.mdp_spec.specs.Mdp.{Entry, value_at}
 use Rattle.mdp_spec.specs.Row.{IsRow, AreRows, row_sum}
 use Rattle.mdp_elim.specs.System.{is_active, row_of}
 use Rattle.mdp_elim.specs.Laws.{LeavingChain}
-use Rattle.mdp_path.specs.Problem.{Problem, Node, given, decision, Move, stop, go, no_choice, count, node_at, choices_at, choices_of, goes_on, amount, row_from, move_by, taken, active_of, rows_of, LeadsWithin, IsProblem, IsCandidate, IsPolicy, worth}
+use Rattle.mdp_path.specs.Problem.{Problem, Node, given, decision, Move, stop, go, no_choice, count, node_at, choices_at, choices_of}
+use Rattle.mdp_path.specs.Problem.{goes_on, amount, row_from, move_by, taken, active_of, rows_of, LeadsWithin, IsProblem, IsCandidate, IsPolicy, worth}
 use Rattle.mdp_path.specs.Values.{CanLeave}
 use Rattle.mdp_path.specs.Code.{CanTake}
 use Rattle.mdp_path.proofs.Turned.{turn, turn-add, turn-row}
@@ -48,7 +49,8 @@ module _ (p : Problem) (policy : List ℕ) where
 
   -- past the last node nothing is active
   active_past : (s : ℕ) → (count p ≤ s) ⊎ (s < count p) → is_active (active_of p policy) s ≡ true → s < count p
-  active_past s (inl l) a = let n = active-len in let m : length (active_of p policy) ≤ s = omega arith in let e = get_or-eq_default (active_of p policy) false m in absurd (let k : true ≡ false = sym a ∙ e in cc)
+  active_past s (inl l) a =
+      let n = active-len in let m : length (active_of p policy) ≤ s = omega arith in let e = get_or-eq_default (active_of p policy) false m in absurd (let k : true ≡ false = sym a ∙ e in cc)
   active_past s (inr l) a = l
 
   pub active-below : (s : ℕ) → is_active (active_of p policy) s ≡ true → s < count p
@@ -96,7 +98,8 @@ row_by n s (go r row) l h = h
 leads_by : (p : Problem) (s c : ℕ) (node : Node) → IsProblem p → s < count p → node_at p s ≡ node → IsCandidate node c → LeadsWithin (count p) (move_by node c)
 leads_by p s c (given v) known l e h = tt
 leads_by p s c (decision choices) known l e h =
-    subst (λ (k : Node). LeadsWithin (count p) (slice_index_or (choices_of k) c no_choice).move) e (known.rows s c l (let q : length (choices_at p s) ≡ length choices = ap (λ (k : Node). length (choices_of k)) e in omega (arith, h.0)))
+    subst (λ (k : Node). LeadsWithin (count p) (slice_index_or (choices_of k) c no_choice).move) e
+    (known.rows s c l (let q : length (choices_at p s) ≡ length choices = ap (λ (k : Node). length (choices_of k)) e in omega (arith, h.0)))
 
 module _ (p : Problem) (policy : List ℕ) (known : IsProblem p) (is : IsPolicy p policy) where
   pub row-is : (s : ℕ) → s < count p → IsRow (count p) (row_from s (taken p policy s))
@@ -172,4 +175,5 @@ module _ (p : Problem) (policy : List ℕ) (z : List ℚ) where
       → turn p.dir (worth z (taken p policy s)) ≡ turn p.dir (amount (taken p policy s)) +ℚ weigh target prob (λ s. turn p.dir (value_at z s)) (row_of (rows_of p policy) s)
   sum-at s a =
       let l = active-below p policy s a in
-      turned_sum s (taken p policy s) (sym (active-at p policy s l) ∙ a) ∙ ap (λ (r : List Entry). turn p.dir (amount (taken p policy s)) +ℚ weigh target prob (λ s. turn p.dir (value_at z s)) r) (sym (row-at p policy s l))
+      turned_sum s (taken p policy s) (sym (active-at p policy s l) ∙ a)
+      ∙ ap (λ (r : List Entry). turn p.dir (amount (taken p policy s)) +ℚ weigh target prob (λ s. turn p.dir (value_at z s)) r) (sym (row-at p policy s l))

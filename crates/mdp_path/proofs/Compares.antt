@@ -12,14 +12,17 @@ use Rattle.mdp_math.proofs.Numbers.{last_or}
 use Rattle.mdp_spec.specs.Mdp.{Entry, value_at}
 use Rattle.mdp_spec.specs.Row.{row_sum}
 use Rattle.mdp_spec.specs.Written.{written_sum}
-use Rattle.mdp_elim.specs.declared.too_wide.Kind.TheVariants.{Compare}
 use Rattle.mdp_path.specs.Problem.{Problem, Move, stop, go, Choice, count, choices_at, choice_at, worth, written_worth, IsProblem}
-use Rattle.mdp_path.specs.Places.{Place, at_place}
-use Rattle.mdp_path.specs.Path.{is_better, Best, compared, best_of, improvement, improvements}
+use Rattle.mdp_path.specs.Candidates.{is_better, Best, judged, compared}
+use Rattle.mdp_path.specs.Path.{comparing, then_compared, best_of, improvement, improvements}
 use Rattle.mdp_path.proofs.Turned.{turn, better_of_test, worse_of_test}
-use Rattle.mdp_path.proofs.Results.{ok_same, some_part, ok_part, place_part, IsUpTo, up_to-is}
+use Rattle.mdp_path.proofs.Results.{ok_same, ok_part, place_part, IsUpTo, up_to-is}
 
 -- ---- a sum that is told is exact
+
+some_part : {A B : Type 0} (o : Option A) (g : A → Option B) (y : B) → (o >>= g) ≡ Some y → (x : A) × (o ≡ Some x) × (g x ≡ Some y)
+some_part None g y h = cc
+some_part (Some x) g y h = (x, refl, h)
 
 pub written_sum-is : (z : List ℚ) (acc r : ℚ) (row : List Entry) → written_sum z acc row ≡ Some r → r ≡ acc +ℚ row_sum row z
 written_sum-is z acc r [] h = let e : acc ≡ r = cc in sym e ∙ ring rat_ring 1 (λ a. a) (λ a. a ⊕ lit (pos 0)) refl acc
@@ -79,10 +82,6 @@ module _ (p : Problem) (x : List ℚ) (s : ℕ) where
     ];
   }
 
-  -- the comparison of what a candidate is worth
-  abbrev judged : ℕ → Best → ℚ → Option Best
-  judged c best sum = written_compare sum best.value >>= (λ order. Some (if is_better p.dir order then record { value = sum; choice = Some c } else best))
-
   judged_by : (c : ℕ) (best after : Best) (v : ℚ) (b : Bool) → IsBestSoFar c best → (choice_at p s c).candidate ≡ true → v ≡ worth x (choice_at p s c).move → is_better p.dir (cmp_ℚ v best.value) ≡ b
       → (let o : Option Best = Some (if b then record { value = v; choice = Some c } else best) in o) ≡ Some after → IsBestSoFar (suc c) after
   judged_by c best after v true h cand e test made =
@@ -91,13 +90,14 @@ module _ (p : Problem) (x : List ℚ) (s : ℕ) where
       let same : best ≡ after = cc in
       subst (IsBestSoFar (suc c)) same (stays c best h (λ _. subst (λ (u : ℚ). turn p.dir u ≤ℚ turn p.dir best.value) e (worse_of_test p.dir v best.value test)))
 
-  compared_by : (c : ℕ) (best after : Best) (choice : Choice) (b : Bool) → choice_at p s c ≡ choice → choice.candidate ≡ b → ((v : ℚ) → choice.written x ≡ Some v → v ≡ worth x choice.move) → IsBestSoFar c best
-      → (if b then (choice.written x >>= judged c best) else Some best) ≡ Some after
+  compared_by : (c : ℕ) (best after : Best) (choice : Choice) (b : Bool) → choice_at p s c ≡ choice → choice.candidate ≡ b → ((v : ℚ) → choice.written x ≡ Some v → v ≡ worth x choice.move)
+      → IsBestSoFar c best
+      → (if b then (choice.written x >>= judged p.dir c best) else Some best) ≡ Some after
       → IsBestSoFar (suc c) after
   compared_by c best after choice false is cand exact h made =
       let same : best ≡ after = cc in subst (IsBestSoFar (suc c)) same (stays c best h (λ e. absurd (let q : true ≡ false = sym e ∙ ap Choice.candidate is ∙ cand in cc)))
   compared_by c best after choice true is cand exact h made =
-      let a = some_part (choice.written x) (judged c best) after made in
+      let a = some_part (choice.written x) (judged p.dir c best) after made in
       let b = some_part (written_compare a.0 best.value) (λ order. (let o : Option Best = Some (if is_better p.dir order then record { value = a.0; choice = Some c } else best) in o)) after a.2 in
       let order : b.0 ≡ cmp_ℚ a.0 best.value = written_compare-some a.0 best.value b.0 (sym b.1) in
       judged_by c best after a.0 (is_better p.dir b.0) h (ap Choice.candidate is ∙ cand) (subst (λ (k : Choice). a.0 ≡ worth x k.move) (sym is) (exact a.0 a.1))
@@ -108,9 +108,9 @@ module _ (p : Problem) (x : List ℚ) (s : ℕ) where
       let same : (let r : Best = record { value = value_at x s; choice = None } in r) ≡ best = ok_same _ best h in
       subst (IsBestSoFar 0) same (record { is = refl; most = λ d l. absurd (omega arith) })
   best_of-is known below (suc c) best l h =
-      let place : Place = record { kind = Compare; node = s; choice = c } in
-      let a = ok_part (best_of p x s c) (λ b. at_place place (compared p.dir x c (choice_at p s c) b)) best h in
-      compared_by c a.0 best (choice_at p s c) (choice_at p s c).candidate refl refl (λ v e. known.exact s c x v below (omega arith) e) (best_of-is known below c a.0 (omega arith) a.1) (place_part place (compared p.dir x c (choice_at p s c) a.0) best a.2)
+      let a = ok_part (best_of p x s c) (then_compared p x s c) best h in
+      compared_by c a.0 best (choice_at p s c) (choice_at p s c).candidate refl refl (λ v e. known.exact s c x v below (omega arith) e) (best_of-is known below c a.0 (omega arith) a.1)
+      (place_part (comparing s c) (compared p.dir x c (choice_at p s c) a.0) best a.2)
 
 -- what the choice that is taken at a node says, or that none is
 abbrev pub IsImprovement : Problem → List ℚ → ℕ → Option ℕ → Type 0

@@ -1,6 +1,6 @@
 -- Policy iteration ends, and ends at a best policy. With each next policy the number of policies that are better than the present one falls: those
 -- whose values by exact elimination are at least as good everywhere, and better somewhere.
-use Rattle.std.proofs.Common.{◌≡◌, ℕ, suc, ◌+◌, ◌<◌, inl, inr, true, List, length, get_or, Option, None, Result, refl, sym, ◌∙◌, ap, subst, arith}
+use Rattle.std.proofs.Common.{◌≡◌, ℕ, suc, ◌+◌, ◌<◌, inl, inr, true, List, length, get_or, Option, None, refl, sym, ◌∙◌, ap, subst, arith}
 use Rattle.std.specs.Option.{is_some}
 use Rattle.std.specs.Prelude.{slice_index}
 use Rattle.std.proofs.lemmas.List.Folds.{Any-from_list_any}
@@ -9,10 +9,10 @@ use Rattle.mdp_math.specs.Rational.{ℚ, ◌≤ℚ◌, ◌<ℚ◌}
 use Rattle.mdp_math.proofs.Order.{≤ℚ_trans, ≤ℚ_of_eq}
 use Rattle.mdp_spec.specs.Mdp.{value_at}
 use Rattle.mdp_elim.specs.Laws.{GivesSolutions}
-use Rattle.mdp_path.specs.Iteration.{next, done, EndsWith}
-use Rattle.mdp_path.specs.Problem.{Problem, Node, given, decision, count, node_at, choices_at, choice_at, worth, IsProblem, IsCandidate, IsPolicy}
+use Rattle.mdp_path.specs.Iteration.{next, done}
+use Rattle.mdp_path.specs.Problem.{Problem, Node, given, decision, count, node_at, choice_at, worth, IsProblem, IsCandidate, IsPolicy}
 use Rattle.mdp_path.specs.Values.{IsValue, CanLeave, KeepsLeaving}
-use Rattle.mdp_path.specs.Path.{Round, Found, Refusal, improved, path_step}
+use Rattle.mdp_path.specs.Path.{Round, Found, improved, path_step}
 use Rattle.mdp_path.specs.Laws.{IsSolvable, Improves, IsBestFrom, first, HasOneValue, EvaluatesExactly, StepsImprove, HasOneEnd, EndsAtBest}
 use Rattle.mdp_path.proofs.Iterations.{one_end, has_end, holds_at_end}
 use Rattle.mdp_path.proofs.Products.{number, number-lt, within_from}
@@ -21,7 +21,7 @@ use Rattle.mdp_path.proofs.Turned.{turn, as_good_turned, better_turned}
 use Rattle.mdp_path.proofs.Compares.{IsImprovement, AreImprovements, improvements-are}
 use Rattle.mdp_path.proofs.Exact.{exact, exact-is, one_value, written-exact}
 use Rattle.mdp_path.proofs.Improving.{after-is, given-kept, leaves_again, not_worse, better_at}
-use Rattle.mdp_path.proofs.Stepping.{GoesOn, goes_on, IsDone, is_done, some_at, none_taken}
+use Rattle.mdp_path.proofs.Stepping.{GoesOn, goes_on, is_done, some_at, none_taken}
 
 module _ (p : Problem) (start : List ℕ) where
   -- ---- the number of policies that are better
@@ -152,7 +152,7 @@ module _ (p : Problem) (start : List ℕ) where
               s,
               changed.1,
               better_turned p.dir (value_at z s) (value_at x s)
-              (subst (λ (x : List ℚ). turn p.dir (value_at x s) <ℚ turn p.dir (value_at z s)) (one_value p a.policy known k.is step.x x k.leaves value vx) (changed.2 z vz)),
+                  (subst (λ (x : List ℚ). turn p.dir (value_at x s) <ℚ turn p.dir (value_at z s)) (one_value p a.policy known k.is step.x x k.leaves value vx) (changed.2 z vz)),
             );
       }
 

@@ -1,5 +1,6 @@
 -- The exact values of a policy: where it leaves its active nodes they exist, there is only one list of them, and written evaluation gives it.
-use Rattle.std.proofs.Common.{◌≡◌, ℕ, ◌<◌, ◌≤◌, ◌⊎◌, inl, inr, Bool, true, false, not, if◌then◌else◌, List, [], ◌∷◌, length, map, Some, Result, Ok, Err, refl, sym, ◌∙◌, ap, ap₂, subst, arith, pos, negsuc, zero-add}
+use Rattle.std.proofs.Common.{◌≡◌, ℕ, ◌<◌, ◌≤◌, ◌⊎◌, inl, inr, Bool, true, false, not, if◌then◌else◌, List, [], ◌∷◌}
+use Rattle.std.proofs.Common.{length, map, Some, Result, Ok, Err, refl, sym, ◌∙◌, ap, ap₂, subst, arith, pos, negsuc, zero-add}
 use Rattle.std.specs.List.{range_with_len}
 use Rattle.std.specs.Prelude.{slice_index_or}
 use Rattle.std.proofs.Math.ListN.{get_or-eq_default}
@@ -22,18 +23,20 @@ use Rattle.mdp_elim.specs.Solve.{written_solution}
 use Rattle.mdp_elim.specs.Laws.{GivesSolutions}
 use Rattle.mdp_path.specs.Problem.{Problem, Move, stop, go, count, goes_on, amount, row_from, taken, active_of, rows_of, IsProblem, IsPolicy, worth}
 use Rattle.mdp_path.specs.Values.{IsValue, CanLeave}
-use Rattle.mdp_path.specs.Places.{◌and_then◌, up_to, all_pass}
-use Rattle.mdp_path.specs.Path.{fits, values_of_rows, stop_value, boundary, outer, constant_by, evaluating, constant, placed, filled_by, filled, written_values}
+use Rattle.mdp_path.specs.Places.{up_to, all_pass}
+use Rattle.mdp_path.specs.Path.{fits, solved, values_of_rows, stop_value, boundary, outer, constant_by, evaluating, constant, placed, filled_by, filled, written_values}
 use Rattle.mdp_path.proofs.Results.{ok_same, ok_part, place_part, IsUpTo, up_to-is}
 use Rattle.mdp_path.proofs.Compares.{written_sum-is}
 use Rattle.mdp_path.proofs.Chain.{target, prob, row-at, active-at, active-below, goes_by, stops_by, row_active, chain-shrinks, leaving_chain}
 
 -- the entries to nodes that aren't active weigh as much as all, where the values are 0 at active nodes
 module _ (active : List Bool) (z : List ℚ) (zero_at : (s : ℕ) → is_active active s ≡ true → value_at z s ≡ 0ℚ) where
-  outer_by : (y : Entry) (row : List Entry) (b : Bool) → is_active active y.target ≡ b → row_sum (outer active row) z ≡ row_sum row z → row_sum (if not b then y ∷ outer active row else outer active row) z ≡ row_sum (y ∷ row) z
+  outer_by : (y : Entry) (row : List Entry) (b : Bool) → is_active active y.target ≡ b → row_sum (outer active row) z ≡ row_sum row z
+      → row_sum (if not b then y ∷ outer active row else outer active row) z ≡ row_sum (y ∷ row) z
   outer_by y row false e h = ap (λ (o : ℚ). y.prob *ℚ value_at z y.target +ℚ o) h
   outer_by y row true e h =
-      combine 4 (λ i o p k. i) (λ i o p k. p ⊗ k ⊕ o) (λ i o p k. equal (lit (pos 1)) i o ∷ equal (⊖ p) k (lit (pos 0)) ∷ []) refl (row_sum (outer active row) z) (row_sum row z) y.prob (value_at z y.target) h (zero_at y.target e)
+      combine 4 (λ i o p k. i) (λ i o p k. p ⊗ k ⊕ o) (λ i o p k. equal (lit (pos 1)) i o ∷ equal (⊖ p) k (lit (pos 0)) ∷ []) refl (row_sum (outer active row) z) (row_sum row z) y.prob
+      (value_at z y.target) h (zero_at y.target e)
 
   outer-same : (row : List Entry) → row_sum (outer active row) z ≡ row_sum row z
   outer-same [] = refl
@@ -89,8 +92,10 @@ module _ (p : Problem) (policy : List ℕ) (known : IsProblem p) (is : IsPolicy 
         let q : worth x (taken p policy s) ≡ g.earned +ℚ row_sum g.row x = ap (worth x) g.is in
         let same : row_sum ((row p policy) s) x ≡ row_sum g.row x = ap (λ (r : List Entry). row_sum r x) (row-goes s a g.earned g.row g.is) in
         combine 9 (λ x h s w k b c e m. x) (λ x h s w k b c e m. w)
-        (λ x h s w k b c e m. equal (lit (pos 1)) x (h ⊕ s) ∷ equal (lit (pos 1)) h (lit (pos 0)) ∷ equal (lit (pos 1)) s ((m ⊕ b) ⊕ c) ∷ equal (lit (negsuc 0)) k (b ⊕ c) ∷ equal (lit (pos 1)) m e ∷ equal (lit (negsuc 0)) w (e ⊕ k) ∷ []) refl
-        (value_at x s) ((held p policy) s) (sol s) (worth x (taken p policy s)) (row_sum ((row p policy) s) x) (weigh target prob (held p policy) ((row p policy) s)) (weigh target prob sol ((row p policy) s)) g.earned (amount (taken p policy s))
+        (λ x h s w k b c e m. equal (lit (pos 1)) x (h ⊕ s) ∷ equal (lit (pos 1)) h (lit (pos 0)) ∷ equal (lit (pos 1)) s ((m ⊕ b) ⊕ c) ∷ equal (lit (negsuc 0)) k (b ⊕ c) ∷ equal
+        (lit (pos 1)) m e ∷ equal (lit (negsuc 0)) w (e ⊕ k) ∷ []) refl
+        (value_at x s) ((held p policy) s) (sol s) (worth x (taken p policy s)) (row_sum ((row p policy) s) x) (weigh target prob (held p policy) ((row p policy) s))
+        (weigh target prob sol ((row p policy) s)) g.earned (amount (taken p policy s))
         (parts s l) (held-active s a) (part.inside s a) (row_parts s a) (ap amount g.is) (q ∙ ap (λ (o : ℚ). g.earned +ℚ o) (sym same))
     at_by s false l a =
         let g = stops_by (taken p policy s) (sym (active-at p policy s l) ∙ a) in
@@ -106,7 +111,8 @@ module _ (p : Problem) (policy : List ℕ) (known : IsProblem p) (is : IsPolicy 
   unfolding exact exact_solution
   exact-is leaves =
       let K = chain-shrinks p policy known is leaves in
-      let solves : Solves target prob (active p policy) (row p policy) (constants p policy) (exact_solution p policy) = kernel_solution K (count p) (active-below p policy) (row p policy) (λ s a. refl) (constants p policy) in
+      let solves : Solves target prob (active p policy) (row p policy) (constants p policy) (exact_solution p policy) = kernel_solution K (count p) (active-below p policy) (row p policy)
+      (λ s a. refl) (constants p policy) in
       value-of_parts (exact p policy) (exact_solution p policy) (record { inside = solves.inside; outside = solves.outside })
       (λ s l. get_or-map-range_with_len (λ s. (held p policy) s +ℚ (exact_solution p policy) s) 0 (count p) s s 0ℚ l (zero-add s))
       (length-map-range_with_len (λ s. (held p policy) s +ℚ (exact_solution p policy) s) 0 (count p))
@@ -144,9 +150,11 @@ module _ (p : Problem) (policy : List ℕ) (known : IsProblem p) (is : IsPolicy 
 
   -- ---- written evaluation gives them
 
-  constant_is : (m : Move) (e : ℚ) → goes_on m ≡ true → constant_by (active_of p policy) (boundary p policy) m ≡ Some e → (r : ℚ) × (es : List Entry) × (m ≡ go r es) × (e ≡ r +ℚ row_sum es (boundary p policy))
+  constant_is : (m : Move) (e : ℚ) → goes_on m ≡ true → constant_by (active_of p policy) (boundary p policy) m ≡ Some e
+      → (r : ℚ) × (es : List Entry) × (m ≡ go r es) × (e ≡ r +ℚ row_sum es (boundary p policy))
   constant_is (stop v) e a h = cc
-  constant_is (go r es) e a h = (r, es, refl, written_sum-is (boundary p policy) r e (outer (active_of p policy) es) h ∙ ap (λ (o : ℚ). r +ℚ o) (outer-same (active_of p policy) (boundary p policy) held-active es))
+  constant_is (go r es) e a h =
+      (r, es, refl, written_sum-is (boundary p policy) r e (outer (active_of p policy) es) h ∙ ap (λ (o : ℚ). r +ℚ o) (outer-same (active_of p policy) (boundary p policy) held-active es))
 
   filled_is : (m : Move) (z : List ℚ) (s : ℕ) (b : Bool) → goes_on m ≡ b → (b ≡ false → value_at z s ≡ 0ℚ) → filled_by z s m ≡ stop_value m +ℚ value_at z s
   filled_is (stop v) z s true e h = cc
@@ -159,7 +167,8 @@ module _ (p : Problem) (policy : List ℕ) (known : IsProblem p) (is : IsPolicy 
       (record {
         inside = λ s a.
             let l = active-below p policy s a in
-            let e = constant_is (taken p policy s) (value_at c s) (sym (active-at p policy s l) ∙ a) (place_part (evaluating policy s) (constant_by (active_of p policy) (boundary p policy) (taken p policy s)) (value_at c s) (IsUpTo.at made s 0ℚ l)) in
+            let e = constant_is (taken p policy s) (value_at c s) (sym (active-at p policy s l) ∙ a)
+            (place_part (evaluating policy s) (constant_by (active_of p policy) (boundary p policy) (taken p policy s)) (value_at c s) (IsUpTo.at made s 0ℚ l)) in
             let q : value_at c s ≡ amount (taken p policy s) +ℚ weigh target prob (held p policy) ((row p policy) s) =
             e.3 ∙ ap₂ (λ (r : ℚ) (es : List Entry). r +ℚ row_sum es (boundary p policy)) (sym (ap amount e.2)) (sym (row-goes s a e.0 e.1 e.2)) in
             sol.inside s a ∙ ap (λ (o : ℚ). o +ℚ row_sum ((row p policy) s) z) q;
@@ -178,8 +187,10 @@ module _ (p : Problem) (policy : List ℕ) (known : IsProblem p) (is : IsPolicy 
   pub written-exact : GivesSolutions → CanLeave p policy → (x : List ℚ) → written_values p policy ≡ Ok x → IsValue p policy x
   written-exact gives leaves x h =
       let made = ok_part (all_pass (fits p policy) (evaluating policy) (count p)) (λ made. values_of_rows p policy) x h in
-      let a = ok_part (up_to (constant p policy) (count p)) (λ c. placed policy (written_solution (rows_of p policy) (active_of p policy) (c ∷ [])) and_then (λ xs. Ok (filled p policy (slice_index_or xs 0 [])))) x made.2 in
+      let a = ok_part (up_to (constant p policy) (count p)) (solved p policy) x made.2 in
       let b = ok_part (placed policy (written_solution (rows_of p policy) (active_of p policy) (a.0 ∷ []))) (λ xs. Ok (filled p policy (slice_index_or xs 0 []))) x a.2 in
       let solved : SolveEach (rows_of p policy) (active_of p policy) (a.0 ∷ []) b.0 =
-      gives (rows_of p policy) (active_of p policy) leaves.0 (a.0 ∷ []) b.0 (leaving_chain p policy known is leaves) (inl refl) (placed_part (written_solution (rows_of p policy) (active_of p policy) (a.0 ∷ [])) b.0 b.1) in
-      subst (IsValue p policy) (ok_same (filled p policy (slice_index_or b.0 0 [])) x b.2) (filled-values a.0 (slice_index_or b.0 0 []) (up_to-is (constant p policy) (count p) a.0 a.1) (solved.1 0 (omega arith)))
+      gives (rows_of p policy) (active_of p policy) leaves.0 (a.0 ∷ []) b.0 (leaving_chain p policy known is leaves) (inl refl)
+      (placed_part (written_solution (rows_of p policy) (active_of p policy) (a.0 ∷ [])) b.0 b.1) in
+      subst (IsValue p policy) (ok_same (filled p policy (slice_index_or b.0 0 [])) x b.2)
+      (filled-values a.0 (slice_index_or b.0 0 []) (up_to-is (constant p policy) (count p) a.0 a.1) (solved.1 0 (omega arith)))

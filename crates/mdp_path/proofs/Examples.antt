@@ -30,7 +30,8 @@ stop_or_go = record {
 }
 
 -- it goes in round 1, and that is the end
-goes : iterated (path_step stop_or_go) 2 (first (0 ∷ 0 ∷ 0 ∷ [])) ≡ Some (let r : Result Found Refusal = Ok (record { number = 1; policy = 1 ∷ 0 ∷ 0 ∷ []; values = ratio (pos 3) 4 ∷ whole 1 ∷ whole 0 ∷ [] }) in r)
+goes : iterated (path_step stop_or_go) 2 (first (0 ∷ 0 ∷ 0 ∷ [])) ≡ Some
+    (let r : Result Found Refusal = Ok (record { number = 1; policy = 1 ∷ 0 ∷ 0 ∷ []; values = ratio (pos 3) 4 ∷ whole 1 ∷ whole 0 ∷ [] }) in r)
 unfolding equation_of eliminated divided_rest plus_equation evaluated written_add written_mul written_compare narrow narrow_ℚ ◌+ℚ◌ ◌*ℚ◌ neg_ℚ inv_ℚ ratio of_int gcd gcd_with_fuel
 goes = refl
 
@@ -50,6 +51,7 @@ waits = refl
 abbrev too_much : Problem
 too_much = record { dir = Max; nodes = decision (may (go (whole (2 ^ 126)) (to 1 (whole 1) ∷ [])) ∷ []) ∷ given (whole (2 ^ 126)) ∷ [] }
 
-refuses : iterated (path_step too_much) 1 (first (0 ∷ 0 ∷ [])) ≡ Some (let r : Result Found Refusal = Err (record { number = 0; policy = 0 ∷ 0 ∷ []; place = record { kind = Evaluate; node = 0; choice = 0 } }) in r)
+refuses : iterated (path_step too_much) 1 (first (0 ∷ 0 ∷ [])) ≡ Some
+    (let r : Result Found Refusal = Err (record { number = 0; policy = 0 ∷ 0 ∷ []; place = record { kind = Evaluate; node = 0; choice = 0 } }) in r)
 unfolding equation_of eliminated divided_rest plus_equation evaluated written_add written_mul written_compare narrow narrow_ℚ ◌+ℚ◌ ◌*ℚ◌ neg_ℚ inv_ℚ ratio of_int gcd gcd_with_fuel
 refuses = refl

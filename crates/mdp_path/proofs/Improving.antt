@@ -15,7 +15,8 @@ use Rattle.mdp_math.proofs.Solutions.{le_of_rows}
 use Rattle.mdp_spec.specs.Mdp.{Entry, value_at}
 use Rattle.mdp_spec.specs.Row.{IsRow, row_sum}
 use Rattle.mdp_elim.specs.System.{is_active, row_of}
-use Rattle.mdp_path.specs.Problem.{Problem, Node, given, decision, Move, go, no_choice, count, node_at, choices_of, choices_at, choice_at, goes_on, amount, row_from, move_by, taken, active_of, rows_of, IsProblem, IsCandidate, IsPolicy, worth}
+use Rattle.mdp_path.specs.Problem.{Problem, Node, given, decision, Move, go, no_choice, count, node_at, choices_of, choices_at}
+use Rattle.mdp_path.specs.Problem.{choice_at, goes_on, amount, row_from, move_by, taken, active_of, rows_of, IsProblem, IsCandidate, IsPolicy, worth}
 use Rattle.mdp_path.specs.Values.{IsValue, CanLeave, EarnsNoGood, NoneHelps}
 use Rattle.mdp_path.specs.Path.{or_kept, improved}
 use Rattle.mdp_path.proofs.Turned.{turn, turn-zero, turn-add, turn-row, turn_as_good}
@@ -99,7 +100,8 @@ module _ (p : Problem) (policy : List ℕ) (known : IsProblem p) (is : IsPolicy 
     earns_by s c (decision choices) r es none l e h m =
         subst (EarnsNoGood p.dir) m
         (subst (λ (k : Node). EarnsNoGood p.dir (slice_index_or (choices_of k) c no_choice).move) e
-        (none s c l (let q : length (choices_at p s) ≡ length choices = ap (λ (k : Node). length (choices_of k)) e in omega (arith, h.0)) (ap (λ (k : Node). (slice_index_or (choices_of k) c no_choice).candidate) e ∙ h.1)))
+        (none s c l (let q : length (choices_at p s) ≡ length choices = ap (λ (k : Node). length (choices_of k)) e in omega (arith, h.0))
+        (ap (λ (k : Node). (slice_index_or (choices_of k) c no_choice).candidate) e ∙ h.1)))
 
     module _ (none : NoneHelps p) (leaves : CanLeave p policy) where
       abbrev active : ℕ → Bool
@@ -146,7 +148,8 @@ module _ (p : Problem) (policy : List ℕ) (known : IsProblem p) (is : IsPolicy 
 
       falls_go : (s : ℕ) (r : ℚ) (es : List Entry) → s < count p → taken p after s ≡ go r es → IsRow (count p) es → Any (λ y. rank_after y.target < rank_after s) es
       falls_go s r es l e row =
-          falls_again v (count p) rank most target prob s (turn p.dir r) es row.distribution.positive row.in_range (λ k d j. (greatest_rank rank (count p)).1 _ (row.in_range k d j)) row.distribution.total
+          falls_again v (count p) rank most target prob s (turn p.dir r) es row.distribution.positive row.in_range
+          (λ k d j. (greatest_rank rank (count p)).1 _ (row.in_range k d j)) row.distribution.total
           (subst (λ (u : ℚ). turn p.dir r ≤ℚ u) (turn-zero p.dir) (turn_as_good p.dir 0ℚ r (earns_by s (slice_index after s) (node_at p s) r es none l refl (after-is.candidate s l) e)))
           (change_by s r es l e (either s l))
 
@@ -210,7 +213,9 @@ module _ (p : Problem) (policy : List ℕ) (known : IsProblem p) (is : IsPolicy 
       worth_by s false l a = let g = stops_by (taken p after s) (sym (active-at p after s l) ∙ a) in ≤ℚ_of_eq _ _ (ap (turn p.dir) (ap (worth x) g.is ∙ sym (ap (worth y) g.is)))
       worth_by s true l a =
           ≤ℚ_trans _ _ _ (≤ℚ_of_eq _ _ (sum-at p after x s a))
-          (≤ℚ_trans _ _ _ (add-le-add_ℚ _ _ _ _ (≤ℚ_refl (c s)) (weigh-le target prob old new (row_of (rows_of p after) s) (λ k d i. ≤ℚ_of_lt 0ℚ _ ((row_active p after known after-is s a).distribution.positive k d i)) not_worse))
+          (≤ℚ_trans _ _ _
+          (add-le-add_ℚ _ _ _ _ (≤ℚ_refl (c s))
+          (weigh-le target prob old new (row_of (rows_of p after) s) (λ k d i. ≤ℚ_of_lt 0ℚ _ ((row_active p after known after-is s a).distribution.positive k d i)) not_worse))
           (≤ℚ_of_eq _ _ (sym (sum-at p after y s a))))
 
       -- and a node that is changed has a better value

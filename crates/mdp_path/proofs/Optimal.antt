@@ -8,7 +8,8 @@ use Rattle.mdp_math.proofs.Numbers.{le_or}
 use Rattle.mdp_math.proofs.Solutions.{le_of_rows}
 use Rattle.mdp_spec.specs.Mdp.{value_at}
 use Rattle.mdp_elim.specs.System.{is_active, row_of}
-use Rattle.mdp_path.specs.Problem.{Problem, Node, given, decision, no_choice, count, node_at, choices_of, choices_at, choice_at, amount, move_by, taken, active_of, rows_of, IsProblem, IsCandidate, IsPolicy, worth}
+use Rattle.mdp_path.specs.Problem.{Problem, Node, given, decision, no_choice, count, node_at, choices_of, choices_at}
+use Rattle.mdp_path.specs.Problem.{choice_at, amount, move_by, taken, active_of, rows_of, IsProblem, IsCandidate, IsPolicy, worth}
 use Rattle.mdp_path.specs.Values.{IsValue, CanLeave}
 use Rattle.mdp_path.specs.Laws.{IsBest, BestOfAll}
 use Rattle.mdp_path.proofs.Turned.{turn, turn_as_good, as_good_turned}
@@ -27,7 +28,8 @@ module _ (p : Problem) (policy other : List ℕ) (x y : List ℚ) (known : IsPro
   worth_by s c (decision choices) l e h =
       subst (λ (n : Node). turn p.dir (worth x (slice_index_or (choices_of n) c no_choice).move) ≤ℚ good s) e
       (turn_as_good p.dir (value_at x s) (worth x (choice_at p s c).move)
-      (best.none_better s c l (let q : length (choices_at p s) ≡ length choices = ap (λ (n : Node). length (choices_of n)) e in omega (arith, h.0)) (ap (λ (n : Node). (slice_index_or (choices_of n) c no_choice).candidate) e ∙ h.1)))
+      (best.none_better s c l (let q : length (choices_at p s) ≡ length choices = ap (λ (n : Node). length (choices_of n)) e in omega (arith, h.0))
+      (ap (λ (n : Node). (slice_index_or (choices_of n) c no_choice).candidate) e ∙ h.1)))
 
   worth_at : (s : ℕ) → s < count p → turn p.dir (worth x (taken p other s)) ≤ℚ good s
   worth_at s l = worth_by s (slice_index other s) (node_at p s) l refl (is.candidate s l)

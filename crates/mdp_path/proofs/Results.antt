@@ -1,19 +1,16 @@
 -- Computations that end at the first refusal: the parts of one that is made, and what it says of each number.
-use Rattle.std.proofs.Common.{◌≡◌, ℕ, zero, suc, ◌<◌, inl, inr, Bool, true, false, if◌then◌else◌, List, [], ◌∷◌, ◌++◌, length, get_or, Option, Some, None, Result, Ok, Err, refl, sym, ◌∙◌, ap, subst, arith, length-append}
+use Rattle.std.proofs.Common.{◌≡◌, ℕ, zero, suc, ◌<◌, inl, inr, Bool, true, false, if◌then◌else◌, List, [], ◌∷◌, ◌++◌}
+use Rattle.std.proofs.Common.{length, get_or, Option, Some, None, Result, Ok, Err, refl, sym, ◌∙◌, ap, subst, arith, length-append}
 use Rattle.std.proofs.lemmas.List.{get_or_append_left}
 use Rattle.std.proofs.Math.Seq.{get_or-append_seam}
-use Rattle.mdp_math.specs.Written.{◌>>=◌}
+use Rattle.mdp_math.specs.Result.{◌>>=◌}
 use Rattle.mdp_math.proofs.Numbers.{last_or}
-use Rattle.mdp_path.specs.Places.{◌and_then◌, at_place, up_to, all_pass}
+use Rattle.mdp_path.specs.Places.{at_place, up_to, all_pass}
 
 pub ok_same : {A R : Type 0} (x y : A) → (let r : Result A R = Ok x in r) ≡ Ok y → x ≡ y
 ok_same x y h = cc
 
-pub some_part : {A B : Type 0} (o : Option A) (g : A → Option B) (y : B) → (o >>= g) ≡ Some y → (x : A) × (o ≡ Some x) × (g x ≡ Some y)
-some_part None g y h = cc
-some_part (Some x) g y h = (x, refl, h)
-
-pub ok_part : {A B R : Type 0} (r : Result A R) (g : A → Result B R) (y : B) → (r and_then g) ≡ Ok y → (x : A) × (r ≡ Ok x) × (g x ≡ Ok y)
+pub ok_part : {A B R : Type 0} (r : Result A R) (g : A → Result B R) (y : B) → (r >>= g) ≡ Ok y → (x : A) × (r ≡ Ok x) × (g x ≡ Ok y)
 ok_part (Err s) g y h = cc
 ok_part (Ok x) g y h = (x, refl, h)
 
@@ -41,7 +38,7 @@ module _ {A R : Type 0} (f : ℕ → Result A R) where
   pub up_to-is : (n : ℕ) (xs : List A) → up_to f n ≡ Ok xs → IsUpTo n xs
   up_to-is zero xs h = subst (IsUpTo 0) (ok_same [] xs h) (record { len = refl; at = λ s d l. absurd (omega arith) })
   up_to-is (suc n) xs h =
-      let a = ok_part (up_to f n) (λ ys. f n and_then (λ x. Ok (ys ++ x ∷ []))) xs h in
+      let a = ok_part (up_to f n) (λ ys. f n >>= (λ x. Ok (ys ++ x ∷ []))) xs h in
       let b = ok_part (f n) (λ x. Ok (a.0 ++ x ∷ [])) xs a.2 in
       subst (IsUpTo (suc n)) (ok_same (a.0 ++ b.0 ∷ []) xs b.2) (pushed n a.0 b.0 (up_to-is n a.0 a.1) b.1)
 
@@ -68,17 +65,17 @@ module _ {R : Type 0} (test : ℕ → Bool) (place : ℕ → R) where
   pub all_pass-more : (n m : ℕ) → all_pass test place n ≡ Ok true → test n ≡ true → m ≡ suc n → all_pass test place m ≡ Ok true
   all_pass-more n m h e q =
       ap (all_pass test place) q
-      ∙ ap (λ (r : Result Bool R). r and_then (after_one n)) h
+      ∙ ap (λ (r : Result Bool R). r >>= (after_one n)) h
       ∙ ap (λ (b : Bool). let r : Result Bool R = if b then Ok true else Err (place n) in r) e
 
   refused_here : (n : ℕ) → all_pass test place n ≡ Ok true → test n ≡ false → all_pass test place (suc n) ≡ Err (place n)
   refused_here n h e =
-      ap (λ (r : Result Bool R). r and_then (after_one n)) h ∙ ap (λ (b : Bool). let r : Result Bool R = if b then Ok true else Err (place n) in r) e
+      ap (λ (r : Result Bool R). r >>= (after_one n)) h ∙ ap (λ (b : Bool). let r : Result Bool R = if b then Ok true else Err (place n) in r) e
 
   -- the first number that doesn't pass decides
   pub all_pass-refused : (n m : ℕ) → all_pass test place n ≡ Ok true → test n ≡ false → n < m → all_pass test place m ≡ Err (place n)
   all_pass-refused n zero h e l = absurd (omega arith)
   all_pass-refused n (suc m) h e l = elim (last_or m n l) as (λ _. all_pass test place (suc m) ≡ Err (place n)) [
     | inl q ↦ ap (λ k. all_pass test place (suc k)) (sym q) ∙ refused_here n h e
-    | inr k ↦ ap (λ (r : Result Bool R). r and_then (after_one m)) (all_pass-refused n m h e k)
+    | inr k ↦ ap (λ (r : Result Bool R). r >>= (after_one m)) (all_pass-refused n m h e k)
   ]

@@ -8,8 +8,9 @@ use Rattle.mdp_math.specs.Rational.{ℚ}
 use Rattle.mdp_elim.specs.Solve.{written_solution}
 use Rattle.mdp_path.specs.Iteration.{Step, next, done}
 use Rattle.mdp_path.specs.Problem.{Problem, count, taken, rows_of, active_of}
-use Rattle.mdp_path.specs.Places.{◌and_then◌, up_to, all_pass}
-use Rattle.mdp_path.specs.Path.{Round, Found, Refusal, evaluating, fits, values_of_rows, constant, placed, filled_by, filled, written_values, improvements, improved, after_comparison, after_evaluation, path_step}
+use Rattle.mdp_path.specs.Places.{up_to, all_pass}
+use Rattle.mdp_path.specs.Path.{Round, Found, Refusal, evaluating, fits, solved, values_of_rows, constant}
+use Rattle.mdp_path.specs.Path.{placed, filled_by, filled, written_values, improvements, improved, after_comparison, after_evaluation, path_step}
 use Rattle.mdp_path.specs.Faults.{Says}
 use Rattle.mdp_path.specs.Ends.{Makes}
 use Rattle.mdp_path.specs.declared.errors.RoundError.{RoundError}
@@ -21,7 +22,7 @@ module _ (p : Problem) (policy : List ℕ) where
   pub values-len : (x : List ℚ) → written_values p policy ≡ Ok x → length x ≡ count p
   values-len x h =
       let made = ok_part (all_pass (fits p policy) (evaluating policy) (count p)) (λ made. values_of_rows p policy) x h in
-      let a = ok_part (up_to (constant p policy) (count p)) (λ c. placed policy (written_solution (rows_of p policy) (active_of p policy) (c ∷ [])) and_then (λ xs. Ok (filled p policy (slice_index_or xs 0 [])))) x made.2 in
+      let a = ok_part (up_to (constant p policy) (count p)) (solved p policy) x made.2 in
       let b = ok_part (placed policy (written_solution (rows_of p policy) (active_of p policy) (a.0 ∷ []))) (λ xs. Ok (filled p policy (slice_index_or xs 0 []))) x a.2 in
       ap length (sym (ok_same (filled p policy (slice_index_or b.0 0 [])) x b.2)) ∙ length-map-range_with_len (λ s. filled_by (slice_index_or b.0 0 []) s (taken p policy s)) 0 (count p)
 
@@ -46,13 +47,17 @@ module _ (p : Problem) (policy : List ℕ) where
         → path_step p (round n) ≡ next (record { number = n + 1; policy = after })
     step-next n choices after h e q =
         stepped n ∙ ap (after_comparison (round n) x) h
-        ∙ ap (λ (b : Bool). let s : Step Round Found Refusal = if b then next (record { number = n + 1; policy = improved policy choices }) else done (record { number = n; policy = policy; values = x }) in s) e
+        ∙ ap (λ (b : Bool). let s : Step Round Found Refusal = if b then next (record { number = n + 1; policy = improved policy choices }) else done
+        (record { number = n; policy = policy; values = x }) in s) e
         ∙ ap (λ (after : List ℕ). let s : Step Round Found Refusal = next (record { number = n + 1; policy = after }) in s) (sym q)
 
-    pub step-done : (n : ℕ) (choices : List (Option ℕ)) → improvements p x ≡ Ok choices → list_any is_some choices ≡ false → path_step p (round n) ≡ done (record { number = n; policy = policy; values = x })
+    pub step-done : (n : ℕ) (choices : List (Option ℕ)) → improvements p x ≡ Ok choices → list_any is_some choices ≡ false
+        → path_step p (round n) ≡ done (record { number = n; policy = policy; values = x })
     step-done n choices h e =
         stepped n ∙ ap (after_comparison (round n) x) h
-        ∙ ap (λ (b : Bool). let s : Step Round Found Refusal = if b then next (record { number = n + 1; policy = improved policy choices }) else done (record { number = n; policy = policy; values = x }) in s) e
+        ∙ ap (λ (b : Bool). let s : Step Round Found Refusal = if b then next (record { number = n + 1; policy = improved policy choices }) else done
+        (record { number = n; policy = policy; values = x }) in s) e
 
-pub makes_err : (n : ℕ) (policy : List ℕ) (result : Result RoundEnd RoundError) (e : RoundError) (step : Step Round Found Refusal) → result ≡ Err e → Makes n policy (Err e) step → Makes n policy result step
+pub makes_err : (n : ℕ) (policy : List ℕ) (result : Result RoundEnd RoundError) (e : RoundError) (step : Step Round Found Refusal) → result ≡ Err e → Makes n policy (Err e) step
+    → Makes n policy result step
 makes_err n policy result e step q h = subst (λ (r : Result RoundEnd RoundError). Makes n policy r step) (sym q) h

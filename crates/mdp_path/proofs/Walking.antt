@@ -15,9 +15,12 @@ use Rattle.mdp_path.specs.declared.round.RoundEnd.TheVariants as end
 
 module _ (p : Problem) (n : ℕ) (now policy : List ℕ) (result : Result RoundEnd RoundError) (same : now ≡ policy) (made : Makes n now result (path_step p (record { number = n; policy = now }))) where
   made_at : (r : Result RoundEnd RoundError) → result ≡ r → Makes n policy r (path_step p (record { number = n; policy = policy }))
-  made_at r e = subst (λ (policy : List ℕ). Makes n policy r (path_step p (record { number = n; policy = policy }))) same (subst (λ (r : Result RoundEnd RoundError). Makes n now r (path_step p (record { number = n; policy = now }))) e made)
+  made_at r e =
+      subst (λ (policy : List ℕ). Makes n policy r (path_step p (record { number = n; policy = policy }))) same
+      (subst (λ (r : Result RoundEnd RoundError). Makes n now r (path_step p (record { number = n; policy = now }))) e made)
 
-  pub done_at : (values : Vec Frac Global) → result ≡ Ok (end.Done values) → path_step p (record { number = n; policy = policy }) ≡ done (record { number = n; policy = policy; values = values.items })
+  pub done_at : (values : Vec Frac Global) → result ≡ Ok (end.Done values)
+      → path_step p (record { number = n; policy = policy }) ≡ done (record { number = n; policy = policy; values = values.items })
   done_at values e = made_at (Ok (end.Done values)) e
 
   pub next_at : (after : Vec ℕ Global) → result ≡ Ok (end.Next after) → path_step p (record { number = n; policy = policy }) ≡ next (record { number = n + 1; policy = after.items })
@@ -25,12 +28,14 @@ module _ (p : Problem) (n : ℕ) (now policy : List ℕ) (result : Result RoundE
 
   -- an error is the path's end, where the path goes on with this round
   pub ends_by : (start : List ℕ) (round : ℕ) (held : Vec ℕ Global) (e : RoundError) → held.items ≡ policy → round ≡ min n (2 ^ 64 - 1)
-      → ((r : Result Found Refusal) → EndsWith (path_step p) (record { number = n; policy = policy }) r → EndsWith (path_step p) (first start) r) → result ≡ Err e → Ends p start (Err (path_error e round held))
+      → ((r : Result Found Refusal) → EndsWith (path_step p) (record { number = n; policy = policy }) r → EndsWith (path_step p) (first start) r) → result ≡ Err e
+      → Ends p start (Err (path_error e round held))
   ends_by start round held (fault.Wide kind s c) q m rest h =
       let place : Place = record { kind = kind; node = s; choice = c } in (
         n,
         m,
         subst (λ (policy : List ℕ). EndsWith (path_step p) (first start) (let e : Result Found Refusal = Err (record { number = n; policy = policy; place = place }) in e)) (sym q)
-            (rest (Err (record { number = n; policy = policy; place = place })) (ends-refused (path_step p) (record { number = n; policy = policy }) (record { number = n; policy = policy; place = place }) (made_at (Err (fault.Wide kind s c)) h))),
+            (rest (Err (record { number = n; policy = policy; place = place }))
+            (ends-refused (path_step p) (record { number = n; policy = policy }) (record { number = n; policy = policy; place = place }) (made_at (Err (fault.Wide kind s c)) h))),
       )
   ends_by start round held fault.Memory q m rest h = tt

@@ -7,7 +7,8 @@ use Rattle.mdp_elim.specs.System.{is_active}
 use Rattle.std.specs.Coded.{Unit-prop}
 use Rattle.std.proofs.Props.{props}
 use Rattle.mdp_path.specs.Problem.{Problem, Node, given, decision, Move, count, move_by, fits_by, node_at, IsCandidate, IsPolicy}
-use Rattle.mdp_path.specs.Path.{Best, fits}
+use Rattle.mdp_path.specs.Candidates.{Best}
+use Rattle.mdp_path.specs.Path.{fits}
 use Rattle.mdp_path.specs.declared.comparison.Leader.{Leader}
 
 -- the node has choice c, or its value is given

@@ -1,5 +1,5 @@
 -- What the code answers to a path.
-use Rattle.std.specs.Prelude.{◌≡◌, ℕ, ◌+◌, ◌-◌, ◌^◌, min, List, Option, Some, Result, Ok, Err, Vec}
+use Rattle.std.specs.Prelude.{◌≡◌, ℕ, ◌+◌, ◌-◌, ◌^◌, min, List, Some, Result, Ok, Err, Vec}
 use Rattle.std.specs.Global.{Global}
 use Rattle.mdp_elim.specs.declared.too_wide.Part.{Part}
 use Rattle.mdp_elim.specs.declared.too_wide.TooWide.{TooWide}

@@ -2,8 +2,10 @@ pub mod Iteration
 pub mod Problem
 pub mod Values
 pub mod Places
+pub mod Candidates
 pub mod Path
 pub mod Laws
 pub mod Code
 pub mod Faults
 pub mod Ends
+pub mod Queries

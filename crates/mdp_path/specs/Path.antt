@@ -1,22 +1,19 @@
 -- Policy iteration in written arithmetic (Howard 1960). A round evaluates its policy, and then looks at each node for a choice whose sum is
 -- better than the node's value. Where none is, the path ends; else the next policy takes these choices and keeps all others.
-use Rattle.std.specs.Prelude.{ℕ, zero, suc, ◌+◌, Bool, true, false, not, List, [], ◌∷◌, length, map, slice_index, slice_index_or, Option, Some, None, Result, Ok, Err, if◌then◌else◌, pos}
+use Rattle.std.specs.Prelude.{ℕ, zero, suc, ◌+◌, Bool, not, List, [], ◌∷◌, length, map, slice_index, slice_index_or, Option, Some, None, Result, Ok, Err, if◌then◌else◌, pos}
 use Rattle.std.specs.List.{filter, list_any, range_with_len}
 use Rattle.std.specs.Option.{is_some}
-use Rattle.std.specs.declared.cmp.Ordering.{Ordering}
-use Rattle.std.specs.declared.cmp.Ordering.TheVariants.{Less, Equal, Greater}
 use Rattle.mdp_math.specs.Rational.{ℚ, of_int}
-use Rattle.mdp_math.specs.Written.{written_compare, ◌>>=◌}
+use Rattle.mdp_math.specs.Result.{◌>>=◌}
 use Rattle.mdp_spec.specs.Mdp.{Entry, value_at}
 use Rattle.mdp_spec.specs.Written.{written_sum}
-use Rattle.mdp_rows.specs.declared.dir.Dir.{Dir}
-use Rattle.mdp_rows.specs.declared.dir.Dir.TheVariants.{Max, Min}
 use Rattle.mdp_elim.specs.System.{is_active}
 use Rattle.mdp_elim.specs.Solve.{written_solution}
 use Rattle.mdp_elim.specs.declared.too_wide.Kind.TheVariants.{Evaluate, Compare}
 use Rattle.mdp_path.specs.Iteration.{Step, next, done, refused}
-use Rattle.mdp_path.specs.Problem.{Problem, Move, stop, go, Choice, count, node_at, choices_at, choice_at, fits_by, taken, active_of, rows_of}
-use Rattle.mdp_path.specs.Places.{Place, ◌and_then◌, at_place, up_to, all_pass}
+use Rattle.mdp_path.specs.Problem.{Problem, Move, stop, go, count, node_at, choices_at, choice_at, fits_by, taken, active_of, rows_of}
+use Rattle.mdp_path.specs.Places.{Place, at_place, up_to, all_pass}
+use Rattle.mdp_path.specs.Candidates.{Best, compared}
 
 -- ---- evaluation
 
@@ -60,48 +57,37 @@ filled_by x s (go r row) = value_at x s
 abbrev pub filled : Problem → List ℕ → List ℚ → List ℚ
 filled p policy x = map (λ s. filled_by x s (taken p policy s)) (range_with_len 0 (count p))
 
+-- from the constants by elimination
+abbrev pub eliminated : Problem → List ℕ → List ℚ → Result (List (List ℚ)) Place
+eliminated p policy constants = placed policy (written_solution (rows_of p policy) (active_of p policy) (constants ∷ []))
+
+abbrev pub solved : Problem → List ℕ → List ℚ → Result (List ℚ) Place
+solved p policy constants = eliminated p policy constants >>= (λ xs. Ok (filled p policy (slice_index_or xs 0 [])))
+
 -- the values of a policy whose rows are made: the constants in the order of the nodes, then elimination
 abbrev pub values_of_rows : Problem → List ℕ → Result (List ℚ) Place
-values_of_rows p policy =
-    up_to (constant p policy) (count p)
-    and_then (λ constants. placed policy (written_solution (rows_of p policy) (active_of p policy) (constants ∷ []))
-    and_then (λ xs. Ok (filled p policy (slice_index_or xs 0 []))))
+values_of_rows p policy = up_to (constant p policy) (count p) >>= solved p policy
 
 -- the values of a policy: its rows first
 abbrev pub written_values : Problem → List ℕ → Result (List ℚ) Place
-written_values p policy = all_pass (fits p policy) (evaluating policy) (count p) and_then (λ made. values_of_rows p policy)
+written_values p policy = all_pass (fits p policy) (evaluating policy) (count p) >>= (λ made. values_of_rows p policy)
 
 -- ---- comparison
 
--- greater for Max, less for Min
-abbrev pub is_better : Dir → Ordering → Bool
-is_better Max Less = false
-is_better Max Equal = false
-is_better Max Greater = true
-is_better Min Less = true
-is_better Min Equal = false
-is_better Min Greater = false
+-- after one more choice, and after the first ones of a node
+abbrev pub comparing : ℕ → ℕ → Place
+comparing s c = record { kind = Compare; node = s; choice = c }
 
--- the best value at a node so far, and the choice that has it where it isn't the node's own
-pub record Best : Type 0 where
-  pub value : ℚ
-  pub choice : Option ℕ
+abbrev pub then_compared : Problem → List ℚ → ℕ → ℕ → Best → Result Best Place
+then_compared p x s c best = at_place (comparing s c) (compared p.dir x c (choice_at p s c) best)
 
--- a candidate is taken where its sum is strictly better
-abbrev pub compared : Dir → List ℚ → ℕ → Choice → Best → Option Best
-compared dir x c choice best =
-    if choice.candidate
-    then (choice.written x >>= (λ sum. written_compare sum best.value >>= (λ order. Some (if is_better dir order then record { value = sum; choice = Some c } else best))))
-    else Some best
-
--- after the first choices of a node
 abbrev pub best_of : Problem → List ℚ → ℕ → ℕ → Result Best Place
 best_of p x s zero = Ok (record { value = value_at x s; choice = None })
-best_of p x s (suc c) = best_of p x s c and_then (λ best. at_place (record { kind = Compare; node = s; choice = c }) (compared p.dir x c (choice_at p s c) best))
+best_of p x s (suc c) = best_of p x s c >>= then_compared p x s c
 
 -- the choice that improves a node, where there is one
 abbrev pub improvement : Problem → List ℚ → ℕ → Result (Option ℕ) Place
-improvement p x s = best_of p x s (length (choices_at p s)) and_then (λ best. Ok best.choice)
+improvement p x s = best_of p x s (length (choices_at p s)) >>= (λ best. Ok best.choice)
 
 abbrev pub improvements : Problem → List ℚ → Result (List (Option ℕ)) Place
 improvements p x = up_to (improvement p x) (count p)

@@ -5,7 +5,8 @@ ghost use Rattle.mdp_path.specs.Problem.{count, choices_at, choice_at};
 ghost use Rattle.mdp_path.specs.Faults.{placed_at, Answers};
 ghost use Rattle.mdp_elim.specs.declared.too_wide.Kind.TheVariants.{Compare};
 ghost use Rattle.mdp_path.specs.Code.{shown};
-ghost use Rattle.mdp_path.specs.Path.{is_better, compared, improvement, improvements, or_kept, improved};
+ghost use Rattle.mdp_path.specs.Candidates.{is_better, compared};
+ghost use Rattle.mdp_path.specs.Path.{improvement, improvements, or_kept, improved};
 
 use crate::errors::RoundError;
 use crate::shortest_path::ShortestPath;

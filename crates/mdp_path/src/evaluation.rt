@@ -4,9 +4,8 @@ ghost use Rattle.mdp_elim.specs.System.{is_active, Leaves};
 ghost use Rattle.mdp_elim.specs.declared.too_wide.Kind.TheVariants.{Evaluate};
 ghost use Rattle.mdp_path.specs.Problem.{IsPolicy, count, taken, active_of, rows_of};
 ghost use Rattle.mdp_path.specs.Values.{CanLeave};
-ghost use Rattle.mdp_path.specs.Path.{evaluating, fits, placed, stop_value, boundary, outer, constant_by, constant, filled_by, filled, values_of_rows, written_values};
+ghost use Rattle.mdp_path.specs.Path.{evaluating, fits, stop_value, boundary, outer, constant_by, constant, eliminated, filled_by, filled, values_of_rows, written_values};
 ghost use Rattle.mdp_path.specs.Places.{up_to, all_pass};
-ghost use Rattle.mdp_elim.specs.Solve.{written_solution};
 ghost use Rattle.mdp_path.specs.Faults.{placed_at, Answers};
 ghost use Rattle.mdp_spec.specs.Written.{written_sum};
 ghost use Rattle.mdp_spec.specs.Row.{entries};
@@ -234,7 +233,7 @@ fn solution_of<P: ShortestPath>(
     requires loops { length loops.now.nodes.items ≡ count (P.problem problem.now) }
     requires active { active.now ≡ active_of (P.problem problem.now) policy.now }
     requires constants { length constants.items ≡ count (P.problem problem.now) }
-    ensures value { Answers (λ x. x.items ∷ []) result (placed policy.now (written_solution (rows_of (P.problem problem.now) policy.now) (active_of (P.problem problem.now) policy.now) (constants.items ∷ []))) }
+    ensures value { Answers (λ x. x.items ∷ []) result (eliminated (P.problem problem.now) policy.now constants.items) }
     ensures count { IfOk result (λ x. length x.items ≡ count (P.problem problem.now)) }
 {
     let rows = PolicyChain {

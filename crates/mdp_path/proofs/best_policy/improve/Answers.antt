@@ -58,4 +58,5 @@ returns-in-Err-clause-path g c =
     let n = c.rounds.invariant.path.0 in
     let was : c.round_of.result ≡ Err c.in-Err.error = search rules in
     subst (λ (e : PathError). Ends p c.args.start.items (Err e)) (sym c.path_error.ensures)
-    (ends_by p n c.deref.result.now c.rounds.policy.items c.round_of.result c.deref.ensures.value (c.round_of.ensures n) c.args.start.items c.rounds.round c.rounds.policy c.in-Err.error refl c.rounds.invariant.path.1 c.rounds.invariant.path.2 was)
+    (ends_by p n c.deref.result.now c.rounds.policy.items c.round_of.result c.deref.ensures.value
+    (c.round_of.ensures n) c.args.start.items c.rounds.round c.rounds.policy c.in-Err.error refl c.rounds.invariant.path.1 c.rounds.invariant.path.2 was)

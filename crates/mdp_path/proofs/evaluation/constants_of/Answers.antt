@@ -19,7 +19,8 @@ loop-s-preserved g c =
     let p = g.P.ShortestPath.problem c.args.problem.now in
     let step = placed-ok Evaluate c.loop-s.s (slice_index c.args.policy.now c.loop-s.s) c.constant_at.result c.in_ok-constant.constant (sym c.at_node.ensures ∙ c.in_ok-constant.was {u = tt}) in
     up_to-more (constant p c.args.policy.now) c.loop-s.s (c.loop-s.s + 1) c.loop-s.constants.items c.in_ok-constant.constant c.loop-s.invariant
-    (constant-ok p c.args.policy.now c.loop-s.s c.args.active.now c.deref.result.now c.requires.active (c.deref.ensures.value ∙ c.in_ok-values.ensures {u = tt}) c.constant_at.result c.constant_at.ensures c.in_ok-constant.constant step) (omega arith)
+    (constant-ok p c.args.policy.now c.loop-s.s c.args.active.now c.deref.result.now c.requires.active
+    (c.deref.ensures.value ∙ c.in_ok-values.ensures {u = tt}) c.constant_at.result c.constant_at.ensures c.in_ok-constant.constant step) (omega arith)
     ∙ ap Ok (sym (c.in_ok-push.ensures {u = tt}).items)
 
 pub returns-in_err-constant : goal.returns-in_err-constant
@@ -27,7 +28,8 @@ returns-in_err-constant g c =
     let p = g.P.ShortestPath.problem c.args.problem.now in
     let e = err_from_is_err_and c.from_residual-in_err-constant.result c.from_residual-in_err-constant.ensures.1 in
     let placed = placed-err Evaluate c.loop-s.s (slice_index c.args.policy.now c.loop-s.s) c.constant_at.result c.in_err-constant.field-0.0 (sym c.at_node.ensures ∙ c.in_err-constant.was) in
-    let here = constant-err p c.args.policy.now c.loop-s.s c.args.active.now c.deref.result.now c.requires.active (c.deref.ensures.value ∙ c.in_ok-values.ensures {u = tt}) c.constant_at.result c.constant_at.ensures placed.cause placed.step_is in
+    let here = constant-err p c.args.policy.now c.loop-s.s c.args.active.now c.deref.result.now c.requires.active
+    (c.deref.ensures.value ∙ c.in_ok-values.ensures {u = tt}) c.constant_at.result c.constant_at.ensures placed.cause placed.step_is in
     answers_err _ c.from_residual-in_err-constant.result e.0 _ e.1
     (says Evaluate c.loop-s.s (slice_index c.args.policy.now c.loop-s.s) e.0 _ (e.2 ∙ placed.error_is)
     (up_to-refused (constant p c.args.policy.now) c.loop-s.s (count p) c.loop-s.constants.items (evaluating c.args.policy.now c.loop-s.s) c.loop-s.invariant here (omega arith)))

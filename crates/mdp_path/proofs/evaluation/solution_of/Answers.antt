@@ -6,7 +6,8 @@ use Rattle.mdp_path.proofs.evaluation.solution_of.Goals as goal
 
 pub solve-requires-clause-columns : goal.solve-requires-clause-columns
 solve-requires-clause-columns g c =
-    one_column (λ x. x.items) c.deref-2.result.now c.args.constants _ (c.deref-2.ensures.value ∙ (c.in_ok-push.ensures {u = tt}).items ∙ search rules) (c.requires.constants ∙ sym (rows-len (g.P.ShortestPath.problem c.args.problem.now) c.args.policy.now))
+    one_column (λ x. x.items) c.deref-2.result.now c.args.constants _ (c.deref-2.ensures.value ∙ (c.in_ok-push.ensures {u = tt}).items ∙ search rules)
+    (c.requires.constants ∙ sym (rows-len (g.P.ShortestPath.problem c.args.problem.now) c.args.policy.now))
 
 pub returns-in-Ok-clause-count : goal.returns-in-Ok-clause-count
 returns-in-Ok-clause-count g c =

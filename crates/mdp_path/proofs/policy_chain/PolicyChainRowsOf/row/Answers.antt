@@ -28,15 +28,18 @@ row-requires-else-goes_on g c =
 pub returns-then-goes_on-clause-row : goal.returns-then-goes_on-clause-row
 returns-then-goes_on-clause-row g c =
     c.row.ensures.row
-    ∙ sym (row-at (g.P.ShortestPath.problem c.args.self.now.problem.now) c.args.self.now.policy.now c.args.s (subst (λ n. c.args.s < n) (rows-len (g.P.ShortestPath.problem c.args.self.now.problem.now) c.args.self.now.policy.now) c.requires))
+    ∙ sym (row-at (g.P.ShortestPath.problem c.args.self.now.problem.now) c.args.self.now.policy.now c.args.s
+    (subst (λ n. c.args.s < n) (rows-len (g.P.ShortestPath.problem c.args.self.now.problem.now) c.args.self.now.policy.now) c.requires))
 
 pub returns-then-goes_on-clause-in_range : goal.returns-then-goes_on-clause-in_range
-returns-then-goes_on-clause-in_range g c = subst (λ n. All (λ t. t < n) c.row.result.targets.now) (sym (rows-len (g.P.ShortestPath.problem c.args.self.now.problem.now) c.args.self.now.policy.now)) c.row.ensures.in_range
+returns-then-goes_on-clause-in_range g c =
+    subst (λ n. All (λ t. t < n) c.row.result.targets.now) (sym (rows-len (g.P.ShortestPath.problem c.args.self.now.problem.now) c.args.self.now.policy.now)) c.row.ensures.in_range
 
 pub returns-else-goes_on-clause-row : goal.returns-else-goes_on-clause-row
 returns-else-goes_on-clause-row g c =
     c.row-else-goes_on.ensures.row
-    ∙ sym (row-at (g.P.ShortestPath.problem c.args.self.now.problem.now) c.args.self.now.policy.now c.args.s (subst (λ n. c.args.s < n) (rows-len (g.P.ShortestPath.problem c.args.self.now.problem.now) c.args.self.now.policy.now) c.requires)
+    ∙ sym (row-at (g.P.ShortestPath.problem c.args.self.now.problem.now) c.args.self.now.policy.now c.args.s
+    (subst (λ n. c.args.s < n) (rows-len (g.P.ShortestPath.problem c.args.self.now.problem.now) c.args.self.now.policy.now) c.requires)
     ∙ row-stops c.args.s _ (sym c.goes_on.ensures ∙ c.if-goes_on.false))
 
 below_one : (n s : ℕ) (ts : List ℕ) → ts ≡ s ∷ [] → s < n → All (λ t. t < n) ts
@@ -44,4 +47,5 @@ below_one n s ts e l = subst (λ (xs : List ℕ). All (λ t. t < n) xs) (sym e) 
 
 pub returns-else-goes_on-clause-in_range : goal.returns-else-goes_on-clause-in_range
 returns-else-goes_on-clause-in_range g c =
-    below_one (length (rows_of (g.P.ShortestPath.problem c.args.self.now.problem.now) c.args.self.now.policy.now)) c.args.s c.row-else-goes_on.result.targets.now c.row-else-goes_on.ensures.targets c.requires
+    below_one (length
+    (rows_of (g.P.ShortestPath.problem c.args.self.now.problem.now) c.args.self.now.policy.now)) c.args.s c.row-else-goes_on.result.targets.now c.row-else-goes_on.ensures.targets c.requires
