@@ -3,7 +3,7 @@ use Rattle.std.proofs.Common.{◌≡◌, ℕ, ◌≤◌, ◌⊎◌, inl, inr, �
 use Rattle.std.proofs.lemmas.Bool.{le-ltb}
 use Rattle.std.specs.declared.string.String.{String}
 use Rattle.std.specs.Global.{Global}
-use Rattle.mdp_edge.specs.Rose.{Rose}
+use Rattle.mdp_edge.specs.Faults.{FaultCounted}
 use Rattle.mdp_spec.specs.Mdp.{Mdp}
 use Rattle.mdp_rows.specs.declared.rule.RowRule.{RowRule}
 use Rattle.mdp_drn.specs.Reading.{outcome}
@@ -54,7 +54,7 @@ module _ (ended : Status) (before now : Option (List ℕ)) (settled : Option ℕ
   Written = Wrote ended before now settled faults_before faults_after
 
   abbrev Ended : Type 0
-  Ended = IsDone ended source_rose (Rose faults_before faults_after)
+  Ended = IsDone ended source_rose (FaultCounted faults_before faults_after)
 
   -- with the status of what is said, which is one of those, or with a fault of the sink
   by_status : (said : Said) → Written said → (ended ≡ said_status said → Ended) → Ended
@@ -65,7 +65,7 @@ module _ (ended : Status) (before now : Option (List ℕ)) (settled : Option ℕ
 
 module _ (ended : Status) (before now : Option (List ℕ)) (settled : Option ℕ) (faults_before faults_after : ℕ) (model_rose cert_rose : Type 0) (rule : RowRule) (model cert : List ℕ) (a : Accepted rule model cert) where
   abbrev DoneHere : Type 0
-  DoneHere = IsDone ended (model_rose ⊎ cert_rose) (Rose faults_before faults_after)
+  DoneHere = IsDone ended (model_rose ⊎ cert_rose) (FaultCounted faults_before faults_after)
 
   by_cause : (said : Said) → Wrote ended before now settled faults_before faults_after said → CheckCause rule (Some model) (Some cert) model_rose cert_rose said → DoneHere
   by_cause said w (inl d) =
@@ -79,7 +79,7 @@ pub complete :
     (words : List (String Global)) (model_told cert_told : Option (List ℕ)) (model_rose cert_rose : Type 0) (leaves : Said → Type 0)
     (ended : Status) (before now : Option (List ℕ)) (settled : Option ℕ) (faults_before faults_after : ℕ)
     → Answers (HasCause words model_told cert_told model_rose cert_rose) leaves (Wrote ended before now settled faults_before faults_after)
-    → IfTold model_told cert_told (DoneWhereAccepted words ended (model_rose ⊎ cert_rose) (Rose faults_before faults_after))
+    → IfTold model_told cert_told (DoneWhereAccepted words ended (model_rose ⊎ cert_rose) (FaultCounted faults_before faults_after))
 complete words None cert_told model_rose cert_rose leaves ended before now settled faults_before faults_after h = tt
 complete words (Some model) None model_rose cert_rose leaves ended before now settled faults_before faults_after h = tt
 complete words (Some model) (Some cert) model_rose cert_rose leaves ended before now settled faults_before faults_after h =

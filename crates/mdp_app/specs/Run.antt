@@ -3,7 +3,7 @@ use Rattle.std.specs.Prelude.{◌≡◌, ◌≢◌, ◌⊎◌, ℕ, ◌≤◌, �
 use Rattle.std.specs.declared.string.String.{String}
 use Rattle.std.specs.Global.{Global}
 use Rattle.mdp_edge.specs.Bytes.{TookAll, TookPrefix}
-use Rattle.mdp_edge.specs.Rose.{Rose}
+use Rattle.mdp_edge.specs.Faults.{FaultCounted}
 use Rattle.mdp_spec.specs.Mdp.{Mdp}
 use Rattle.mdp_rows.specs.declared.rule.RowRule.{RowRule}
 use Rattle.mdp_drn.specs.FromSource.{HadLeft}
@@ -158,7 +158,7 @@ pub record WroteText (ended : Status) (before now : Option (List ℕ)) (settled 
   -- after a fault a prefix of it
   pub prefix : ended ≡ status.WriteFault → TookPrefix before now text
   -- and the count rose
-  pub fault : ended ≡ status.WriteFault → Rose faults_before faults_after
+  pub fault : ended ≡ status.WriteFault → FaultCounted faults_before faults_after
 
 -- how a run that says this ends
 abbrev pub Wrote : Status → Option (List ℕ) → Option (List ℕ) → Option ℕ → ℕ → ℕ → Said → Type 0

@@ -1,6 +1,6 @@
 ghost use Rattle.std.specs.Prelude.{◌≡◌, ◌⊎◌, Err, OnOk};
 ghost use Rattle.std.specs.Io.KnownBytes.{IsAtEnd};
-ghost use Rattle.mdp_edge.specs.Rose.{Rose};
+ghost use Rattle.mdp_edge.specs.Faults.{FaultCounted};
 ghost use Rattle.mdp_app.specs.Run.{Came, model_due, certificate_due};
 ghost use Rattle.mdp_app.specs.Files.{plain_result};
 
@@ -16,7 +16,7 @@ const MOST_BYTES: usize = 1 << 30;
 
 /// The model that a source's bytes read as. The source is read in pieces and to its end, also where the text is refused.
 pub fn read_model<S: Source>(alloc: Global, source: &mut S, rule: RowRule) -> Result<Model, Refusal>
-    ensures cause { Came (S.left source.old) (model_due rule) result ⊎ ((result ≡ Err Refusal.Memory) ⊎ ((result ≡ Err Refusal.ReadModel) × Rose (S.faults source.old) (S.faults source.new))) }
+    ensures cause { Came (S.left source.old) (model_due rule) result ⊎ ((result ≡ Err Refusal.Memory) ⊎ ((result ≡ Err Refusal.ReadModel) × FaultCounted (S.faults source.old) (S.faults source.new))) }
     ensures end { OnOk result (IsAtEnd (S.left source.new)) }
 {
     match read_from(alloc, source, rule, MOST_BYTES) {
@@ -30,7 +30,7 @@ pub fn read_model<S: Source>(alloc: Global, source: &mut S, rule: RowRule) -> Re
 
 /// The certificate of which a source's bytes are the text.
 pub fn read_certificate<S: Source>(alloc: Global, source: &mut S) -> Result<Cert, Refusal>
-    ensures cause { Came (S.left source.old) certificate_due (plain_result result) ⊎ ((result ≡ Err Refusal.Memory) ⊎ ((result ≡ Err Refusal.ReadCertificate) × Rose (S.faults source.old) (S.faults source.new))) }
+    ensures cause { Came (S.left source.old) certificate_due (plain_result result) ⊎ ((result ≡ Err Refusal.Memory) ⊎ ((result ≡ Err Refusal.ReadCertificate) × FaultCounted (S.faults source.old) (S.faults source.new))) }
     ensures end { OnOk result (IsAtEnd (S.left source.new)) }
 {
     let bytes = match read_all(alloc, source, MOST_BYTES) {

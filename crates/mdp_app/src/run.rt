@@ -1,5 +1,5 @@
 ghost use Rattle.std.specs.Prelude.{◌≡◌, ◌≢◌, ◌⊎◌, Ok, Err, IsOk, OnOk};
-ghost use Rattle.mdp_edge.specs.Rose.{Rose};
+ghost use Rattle.mdp_edge.specs.Faults.{FaultCounted};
 ghost use Rattle.mdp_cert.specs.Plain.{plain};
 ghost use Rattle.mdp_check.specs.Check.{answer_to, IsAccepted, IsBound};
 ghost use Rattle.mdp_app.specs.Run.{Said, said_of, yes_text, CertificateCause, CheckCause, HasCause, LeavesCertificate, Unread, Wrote, WroteText, Ends, Answers, said_status};
@@ -47,7 +47,7 @@ fn check_certificate<C: Source>(
     model: &Model,
     cert: &mut C,
 ) -> Result<Vec<u8>, Refusal>
-    ensures cause { CertificateCause model.now (C.left cert.old) (Rose (C.faults cert.old) (C.faults cert.new)) (said result) }
+    ensures cause { CertificateCause model.now (C.left cert.old) (FaultCounted (C.faults cert.old) (C.faults cert.new)) (said result) }
     ensures read { LeavesCertificate (said result) (cert.new ≡ cert.old) }
     ensures shown { OnOk result (ShownCertificate model.now (C.left cert.old)) }
 {
@@ -64,7 +64,7 @@ fn check_files<S: Source, C: Source>(
     model: &mut S,
     cert: &mut C,
 ) -> Result<Vec<u8>, Refusal>
-    ensures cause { CheckCause rule (S.left model.old) (C.left cert.old) (Rose (S.faults model.old) (S.faults model.new)) (Rose (C.faults cert.old) (C.faults cert.new)) (said result) }
+    ensures cause { CheckCause rule (S.left model.old) (C.left cert.old) (FaultCounted (S.faults model.old) (S.faults model.new)) (FaultCounted (C.faults cert.old) (C.faults cert.new)) (said result) }
     ensures unread { LeavesCertificate (said result) (cert.new ≡ cert.old) }
     ensures shown { OnOk result (ShownModel rule (S.left model.old) (C.left cert.old)) }
 {
@@ -81,7 +81,7 @@ fn decided<S: Source, C: Source>(
     model: &mut S,
     cert: &mut C,
 ) -> Result<Vec<u8>, Refusal>
-    ensures cause { HasCause words.now (S.left model.old) (C.left cert.old) (Rose (S.faults model.old) (S.faults model.new)) (Rose (C.faults cert.old) (C.faults cert.new)) (said result) }
+    ensures cause { HasCause words.now (S.left model.old) (C.left cert.old) (FaultCounted (S.faults model.old) (S.faults model.new)) (FaultCounted (C.faults cert.old) (C.faults cert.new)) (said result) }
     ensures unread { Unread (said result) (model.new ≡ model.old) (cert.new ≡ cert.old) }
     ensures shown { OnOk result (Shown words.now (S.left model.old) (C.left cert.old)) }
 {
@@ -101,13 +101,13 @@ pub fn run<S: Source, C: Source, K: Sink>(
     out: &mut K,
 ) -> Status
     // The answer has its cause, sources that aren't read are as before, and the answer's text is written.
-    ensures answer { Answers (HasCause words.now (S.left model.old) (C.left cert.old) (Rose (S.faults model.old) (S.faults model.new)) (Rose (C.faults cert.old) (C.faults cert.new))) (λ said. Unread said (model.new ≡ model.old) (cert.new ≡ cert.old)) (Wrote result (K.taken out.old) (K.taken out.new) (K.settled out.new) (K.faults out.old) (K.faults out.new)) }
+    ensures answer { Answers (HasCause words.now (S.left model.old) (C.left cert.old) (FaultCounted (S.faults model.old) (S.faults model.new)) (FaultCounted (C.faults cert.old) (C.faults cert.new))) (λ said. Unread said (model.new ≡ model.old) (cert.new ≡ cert.old)) (Wrote result (K.taken out.old) (K.taken out.new) (K.settled out.new) (K.faults out.old) (K.faults out.new)) }
 
     // Where the work was done, the bytes read as a model and as a certificate whose claim is true of it, whoever made the certificate.
     ensures done { result ≡ Status.Done → Shown words.now (S.left model.old) (C.left cert.old) }
 
     // The work is done exactly where the bytes are accepted, but for faults that were counted and want of memory.
-    ensures complete { IfTold (S.left model.old) (C.left cert.old) (DoneWhereAccepted words.now result (Rose (S.faults model.old) (S.faults model.new) ⊎ Rose (C.faults cert.old) (C.faults cert.new)) (Rose (K.faults out.old) (K.faults out.new))) }
+    ensures complete { IfTold (S.left model.old) (C.left cert.old) (DoneWhereAccepted words.now result (FaultCounted (S.faults model.old) (S.faults model.new) ⊎ FaultCounted (C.faults cert.old) (C.faults cert.new)) (FaultCounted (K.faults out.old) (K.faults out.new))) }
 {
     let answer = decided(alloc, words, model, cert);
     written(alloc, answer, out)

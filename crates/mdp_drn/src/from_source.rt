@@ -1,6 +1,6 @@
 ghost use Rattle.std.specs.Prelude.{◌≡◌, ◌<◌, ◌≤◌, ◌^◌, ℕ, List, length, IsErrOf};
 ghost use Rattle.std.specs.Io.KnownBytes.{IsAtEnd};
-ghost use Rattle.mdp_edge.specs.Rose.{Rose};
+ghost use Rattle.mdp_edge.specs.Faults.{FaultCounted};
 ghost use Rattle.mdp_edge.specs.Bytes.{GaveSome};
 ghost use Rattle.mdp_drn.specs.Reading.{outcome};
 ghost use Rattle.mdp_drn.specs.FromSource.{HadLeft, ReadsAs, IsRead};
@@ -62,7 +62,7 @@ pub fn read_from<S: Source>(
     // An error leaves the bytes behind those that came.
     ensures rest { GaveSome (S.left source.old) (S.left source.new) }
     ensures long { IsErrOf result FromError.Long → (bytes : List ℕ) × HadLeft (S.left source.old) bytes × (limit < length bytes) }
-    ensures fault { IsErrOf result FromError.ReadFault → Rose (S.faults source.old) (S.faults source.new) }
+    ensures fault { IsErrOf result FromError.ReadFault → FaultCounted (S.faults source.old) (S.faults source.new) }
     ensures later { S.faults source.old ≤ S.faults source.new }
 {
     let Ok(mut feed) = Feed::new(alloc, rule) else {

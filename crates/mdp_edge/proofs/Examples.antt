@@ -1,22 +1,31 @@
 -- The definitions, computed on small values.
 use Rattle.std.proofs.Common.{◌≡◌, zero, suc, [], ◌∷◌, Some, None, refl, arith, lit≤, lit<}
-use Rattle.mdp_edge.specs.Rose.{Rose, last_count}
-use Rattle.mdp_edge.specs.Bytes.{Gave, TookPrefix, TookAll}
+use Rattle.mdp_edge.specs.Faults.{FaultCounted, last_count}
+use Rattle.mdp_edge.specs.Bytes.{Gave, GaveAtMost, TookPrefix, TookAll}
 use Rattle.mdp_edge.specs.Plan.{plan_of, FailsNext, after_call}
 use Rattle.mdp_edge.specs.Kinds.{Listed, Stored, after_read, after_failed_read, after_write, after_flush, after_failed_call}
 
-rose_by_one : Rose 0 1
-rose_by_one = lit≤ tt
+counted_one : FaultCounted 0 1
+counted_one = lit≤ tt
 
-stayed : Rose 1 1 → ⊥
-stayed rose = omega arith
+stayed : FaultCounted 1 1 → ⊥
+stayed counted = omega arith
 
-at_the_end : Rose last_count last_count
+at_the_end : FaultCounted last_count last_count
 at_the_end = lit≤ tt
 
 -- of the bytes 1, 2, 3 a source gave 1 and 2
 gave_two : Gave (Some (1 ∷ 2 ∷ 3 ∷ [])) (Some (3 ∷ [])) (1 ∷ 2 ∷ [])
 gave_two = refl
+
+-- it gave at most two, and not at most one
+gave_at_most_two : GaveAtMost (Some (1 ∷ 2 ∷ 3 ∷ [])) (Some (3 ∷ [])) 2
+gave_at_most_two = (1 ∷ 2 ∷ [], lit≤ tt, refl)
+
+gave_more_than_one : GaveAtMost (Some (1 ∷ 2 ∷ [])) (Some []) 1 → ⊥
+gave_more_than_one ([], within, gave) = cc
+gave_more_than_one (x ∷ [], within, gave) = cc
+gave_more_than_one (x ∷ y ∷ more, within, gave) = omega arith
 
 gave_untold : Gave None None (1 ∷ [])
 gave_untold = refl

@@ -1,3 +1,3 @@
 mod Examples
 pub mod Pieces
-pub mod Rose
+pub mod FaultCounted

@@ -11,6 +11,10 @@ Gave before now piece = before ≡ prepend_known piece now
 abbrev pub GaveSome : Option (List ℕ) → Option (List ℕ) → Type 0
 GaveSome before now = (piece : List ℕ) × Gave before now piece
 
+-- it gave at most so many bytes from the front, and the others are left
+abbrev pub GaveAtMost : Option (List ℕ) → Option (List ℕ) → ℕ → Type 0
+GaveAtMost before now most = (piece : List ℕ) × (length piece ≤ most) × Gave before now piece
+
 -- a sink took this piece, behind the bytes that it had taken
 abbrev pub Took : Option (List ℕ) → Option (List ℕ) → List ℕ → Type 0
 Took before now piece = now ≡ append_known before piece

@@ -1,4 +1,4 @@
-pub mod Rose
+pub mod Faults
 pub mod Bytes
 pub mod Plan
 pub mod Kinds

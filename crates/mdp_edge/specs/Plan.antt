@@ -1,6 +1,6 @@
 -- Calls that are to fail, by their numbers.
 use Rattle.std.specs.Prelude.{ℕ, ◌<◌, ◌≤◌, List, Contains}
-use Rattle.mdp_edge.specs.Rose.{last_count, one_more}
+use Rattle.mdp_edge.specs.Faults.{last_count, one_more}
 
 pub record Plan : Type 0 where
   -- the numbers of the calls that are to fail. The first call has number 0

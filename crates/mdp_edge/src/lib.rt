@@ -18,7 +18,7 @@ mod writing;
 
 pub use list_sink::ListSink;
 pub use list_source::ListSource;
-pub use reading::{InError, read_all};
+pub use reading::{InError, MOST_PIECE, read_all};
 pub use sink::Sink;
 pub use source::{Failed, Source};
 pub use std_sink::StdSink;

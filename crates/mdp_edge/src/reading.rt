@@ -1,13 +1,13 @@
-ghost use Rattle.std.specs.Prelude.{◌≡◌, ◌<◌, ◌≤◌, length, vec_len, IfOk, OnOk, IsErr, IsErrOf, IfSome};
+ghost use Rattle.std.specs.Prelude.{◌≡◌, ◌+◌, ◌<◌, ◌≤◌, ◌⊎◌, length, vec_len, IfOk, OnOk, IsErr, IsErrOf, IfSome};
 ghost use Rattle.std.specs.Io.KnownBytes.{IsAtEnd};
-ghost use Rattle.mdp_edge.specs.Rose.{Rose};
-ghost use Rattle.mdp_edge.specs.Bytes.{GaveSome};
+ghost use Rattle.mdp_edge.specs.Faults.{FaultCounted};
+ghost use Rattle.mdp_edge.specs.Bytes.{GaveAtMost};
 
 use crate::source::Source;
 use std::alloc::Global;
 
 /// How many bytes a call of a source is asked for at most.
-const PIECE: usize = 4096;
+pub const MOST_PIECE: usize = 4096;
 
 /// Why the bytes of a source could not be read to their end.
 #[derive(Clone, Copy, Debug, PartialEq, Eq)]
@@ -28,14 +28,15 @@ pub fn read_all<S: Source>(alloc: Global, source: &mut S, limit: usize) -> Resul
     ensures fits { IfOk result (λ bytes. vec_len bytes ≤ limit) }
     ensures too_long { IfSome (S.left source.old) (λ left. limit < length left → IsErr result) }
 
-    // An error leaves the bytes behind those that came.
-    ensures rest { GaveSome (S.left source.old) (S.left source.new) }
+    // An error leaves the bytes behind those that came, which are at most one piece more than the limit.
+    ensures rest { GaveAtMost (S.left source.old) (S.left source.new) (limit + MOST_PIECE) }
     ensures long { IsErrOf result InError.Long → IfSome (S.left source.old) (λ left. limit < length left) }
-    ensures fault { IsErrOf result InError.ReadFault → Rose (S.faults source.old) (S.faults source.new) }
+    ensures fault { IsErrOf result InError.ReadFault → FaultCounted (S.faults source.old) (S.faults source.new) }
+    ensures still { IsErrOf result InError.ReadFault ⊎ (S.faults source.new ≡ S.faults source.old) }
     ensures later { S.faults source.old ≤ S.faults source.new }
 {
     let mut bytes = Vec::new(alloc);
-    let mut piece = [0u8; PIECE];
+    let mut piece = [0u8; MOST_PIECE];
     'reading: while bytes.len() <= limit {
         let Ok(count) = source.read(&mut piece) else {
             return Err(InError::ReadFault);

@@ -1,5 +1,5 @@
 ghost use Rattle.std.specs.Prelude.{◌≡◌, ◌≤◌, ◌<◌, ℕ, List, length, take, Option, IfOk, OnOk, OnErr, is_some};
-ghost use Rattle.mdp_edge.specs.Rose.{Rose};
+ghost use Rattle.mdp_edge.specs.Faults.{FaultCounted};
 ghost use Rattle.mdp_edge.specs.Bytes.{Took, IsSettled};
 
 use crate::source::Failed;
@@ -25,7 +25,8 @@ pub trait Sink {
         ensures settled { settled self.new ≡ settled self.old }
 
         ensures later { faults self.old ≤ faults self.new }
-        ensures rose { OnErr result (Rose (faults self.old) (faults self.new)) };
+        ensures still { IfOk result (λ n. faults self.new ≡ faults self.old) }
+        ensures rose { OnErr result (FaultCounted (faults self.old) (faults self.new)) };
 
     /// Settles all the bytes that it has taken.
     fn flush(&mut self) -> Result<(), Failed>
@@ -34,7 +35,8 @@ pub trait Sink {
         ensures unsettled { OnErr result (settled self.new ≡ settled self.old) }
 
         ensures later { faults self.old ≤ faults self.new }
-        ensures rose { OnErr result (Rose (faults self.old) (faults self.new)) };
+        ensures still { OnOk result (faults self.new ≡ faults self.old) }
+        ensures rose { OnErr result (FaultCounted (faults self.old) (faults self.new)) };
 
     // What is settled is told exactly where the bytes are.
     ghost told_together: { (sink : Self) → is_some (settled sink) ≡ is_some (taken sink) };

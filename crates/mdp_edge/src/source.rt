@@ -1,5 +1,5 @@
 ghost use Rattle.std.specs.Prelude.{◌≡◌, ◌≤◌, ◌<◌, ◌↔◌, ℕ, List, [], length, take, Option, IfOk, OnErr, IfSome};
-ghost use Rattle.mdp_edge.specs.Rose.{Rose};
+ghost use Rattle.mdp_edge.specs.Faults.{FaultCounted};
 ghost use Rattle.mdp_edge.specs.Bytes.{Gave};
 
 /// A call of a source or a sink that failed.
@@ -23,5 +23,6 @@ pub trait Source {
         ensures kept { OnErr result (left self.new ≡ left self.old) }
 
         ensures later { faults self.old ≤ faults self.new }
-        ensures rose { OnErr result (Rose (faults self.old) (faults self.new)) };
+        ensures still { IfOk result (λ n. faults self.new ≡ faults self.old) }
+        ensures rose { OnErr result (FaultCounted (faults self.old) (faults self.new)) };
 }

@@ -1,6 +1,6 @@
 ghost use Rattle.std.specs.Prelude.{◌≡◌, ◌≤◌, ◌<◌, length, IfOk, OnOk, OnErr, None};
 ghost use Rattle.std.specs.Io.KnownBytes.{Keeps, WriteAppends};
-ghost use Rattle.mdp_edge.specs.Rose.{one_more, last_count};
+ghost use Rattle.mdp_edge.specs.Faults.{one_more, last_count};
 
 use crate::retrying::{flush_retrying, write_retrying};
 use crate::sink::Sink;
@@ -17,7 +17,7 @@ pub struct StdSink<W> {
 
 impl<W> Model for StdSink<W> {
     ghost use Rattle.std.specs.Prelude.{◌≤◌};
-    ghost use Rattle.mdp_edge.specs.Rose.{last_count};
+    ghost use Rattle.mdp_edge.specs.Faults.{last_count};
     ghost use Rattle.mdp_edge.specs.Kinds.{Outside};
 
     ghost Value = { Outside W };

@@ -1,6 +1,6 @@
 ghost use Rattle.std.specs.Prelude.{◌≡◌, ◌≤◌, ◌<◌, length, is_some, IsNone, option_and_then, IfOk, IsErr, OnOk, OnErr, None};
 ghost use Rattle.std.specs.Io.KnownBytes.{ReadConsumes};
-ghost use Rattle.mdp_edge.specs.Rose.{one_more, last_count};
+ghost use Rattle.mdp_edge.specs.Faults.{one_more, last_count};
 
 use crate::retrying::read_retrying;
 use crate::source::{Failed, Source};
@@ -16,7 +16,7 @@ pub struct StdSource<R> {
 
 impl<R> Model for StdSource<R> {
     ghost use Rattle.std.specs.Prelude.{◌≤◌};
-    ghost use Rattle.mdp_edge.specs.Rose.{last_count};
+    ghost use Rattle.mdp_edge.specs.Faults.{last_count};
     ghost use Rattle.mdp_edge.specs.Kinds.{Opened};
 
     ghost Value = { Opened R };

@@ -1,5 +1,5 @@
 ghost use Rattle.std.specs.Prelude.{◌≡◌, ◌+◌, ◌<◌, min, length, IsOk, Ok, None};
-ghost use Rattle.mdp_edge.specs.Rose.{last_count};
+ghost use Rattle.mdp_edge.specs.Faults.{last_count};
 
 use crate::sink::Sink;
 use crate::source::Failed;

@@ -1,5 +1,5 @@
 ghost use Rattle.std.specs.Prelude.{◌≡◌, ◌≤◌, OnOk, OnErr};
-ghost use Rattle.mdp_edge.specs.Rose.{Rose};
+ghost use Rattle.mdp_edge.specs.Faults.{FaultCounted};
 ghost use Rattle.mdp_edge.specs.Bytes.{TookAll, TookPrefix};
 
 use crate::sink::Sink;
@@ -12,8 +12,11 @@ pub struct WriteFault;
 pub fn write_all<K: Sink>(sink: &mut K, bytes: &[u8]) -> Result<(), WriteFault>
     ensures all { OnOk result (TookAll (K.taken sink.old) (K.taken sink.new) (K.settled sink.new) bytes.now) }
     ensures prefix { TookPrefix (K.taken sink.old) (K.taken sink.new) bytes.now }
+
+    // After a fault no flush followed.
     ensures unsettled { OnErr result (K.settled sink.new ≡ K.settled sink.old) }
-    ensures fault { OnErr result (Rose (K.faults sink.old) (K.faults sink.new)) }
+    ensures fault { OnErr result (FaultCounted (K.faults sink.old) (K.faults sink.new)) }
+    ensures still { OnOk result (K.faults sink.new ≡ K.faults sink.old) }
     ensures later { K.faults sink.old ≤ K.faults sink.new }
 {
     let mut done = 0;

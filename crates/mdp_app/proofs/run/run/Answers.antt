@@ -1,13 +1,13 @@
 use Rattle.std.proofs.Common.{◌≡◌}
-use Rattle.mdp_edge.specs.Rose.{Rose}
+use Rattle.mdp_edge.specs.Faults.{FaultCounted}
 use Rattle.mdp_app.proofs.Endings.{answered, complete}
 use Rattle.mdp_app.proofs.run.run.Goals as goal
 
 pub returns-clause-answer : goal.returns-clause-answer
 returns-clause-answer g c =
     answered c.args.words.now (g.S.Source.left c.args.model.now) (g.C.Source.left c.args.cert.now)
-    (Rose (g.S.Source.faults c.args.model.now) (g.S.Source.faults c.decided-answer.new.model))
-    (Rose (g.C.Source.faults c.args.cert.now) (g.C.Source.faults c.decided-answer.new.cert))
+    (FaultCounted (g.S.Source.faults c.args.model.now) (g.S.Source.faults c.decided-answer.new.model))
+    (FaultCounted (g.C.Source.faults c.args.cert.now) (g.C.Source.faults c.decided-answer.new.cert))
     (c.decided-answer.new.model ≡ c.args.model.now)
     (c.decided-answer.new.cert ≡ c.args.cert.now)
     _
@@ -19,8 +19,8 @@ returns-clause-answer g c =
 pub returns-clause-complete : goal.returns-clause-complete
 returns-clause-complete g c =
     complete c.args.words.now (g.S.Source.left c.args.model.now) (g.C.Source.left c.args.cert.now)
-    (Rose (g.S.Source.faults c.args.model.now) (g.S.Source.faults c.decided-answer.new.model))
-    (Rose (g.C.Source.faults c.args.cert.now) (g.C.Source.faults c.decided-answer.new.cert))
+    (FaultCounted (g.S.Source.faults c.args.model.now) (g.S.Source.faults c.decided-answer.new.model))
+    (FaultCounted (g.C.Source.faults c.args.cert.now) (g.C.Source.faults c.decided-answer.new.cert))
     _
     _
     _

@@ -9,5 +9,5 @@ writing-preserved g c =
       within = grind (arith, common_steps, room);
       took = took_next _ _ _ _ _ _ c.writing.invariant.took c.in-Ok.ensures.bytes;
       unsettled = c.in-Ok.ensures.settled ∙ c.writing.invariant.unsettled;
-      later = omega (arith, c.writing.invariant.later, c.in-Ok.ensures.later);
+      still = c.in-Ok.ensures.still ∙ c.writing.invariant.still;
     }

@@ -7,7 +7,7 @@ invariant-writing g l = record {
   within : l.done ≤ length l.bytes;
   took : Took (g.K.Sink.taken l.initial.sink) (g.K.Sink.taken l.sink) (take l.done l.bytes);
   unsettled : g.K.Sink.settled l.sink ≡ g.K.Sink.settled l.initial.sink;
-  later : g.K.Sink.faults l.initial.sink ≤ g.K.Sink.faults l.sink;
+  still : g.K.Sink.faults l.sink ≡ g.K.Sink.faults l.initial.sink;
 }
 
 abbrev pub decreases-writing : goal.decreases-writing

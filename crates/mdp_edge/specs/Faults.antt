@@ -1,4 +1,4 @@
--- When a call may say that it failed.
+-- Counts of faults.
 use Rattle.std.specs.Prelude.{ℕ, ◌+◌, ◌-◌, ◌^◌, ◌≤◌, min}
 
 -- the greatest number that a count of 64 bits can hold
@@ -9,6 +9,6 @@ last_count = 2 ^ 64 - 1
 abbrev pub one_more : ℕ → ℕ
 one_more count = min (count + 1) last_count
 
--- a count of faults is greater than before, or stands at its type's end
-abbrev pub Rose : ℕ → ℕ → Type 0
-Rose before now = one_more before ≤ now
+-- a fault was counted: the count is greater than before, or stands at its type's end
+abbrev pub FaultCounted : ℕ → ℕ → Type 0
+FaultCounted before now = one_more before ≤ now
