@@ -5,7 +5,7 @@ use Rattle.std.specs.Option.{is_some}
 use Rattle.std.specs.Io.BufRead.{ends_with_byte}
 use Rattle.mdp_math.specs.Rational.{ℚ}
 use Rattle.mdp_num.specs.Digits.{front_digits, behind_digits, number}
-use Rattle.mdp_rows.specs.Draft.{Draft, all_closed, choice_closed, state_opened, choice_opened, after_label, after_entry, has_choice, has_open_target}
+use Rattle.mdp_rows.specs.Draft.{Draft, all_closed, choice_closed, state_opened, choice_opened, choices_of, after_label, after_entry, has_choice, has_open_target}
 use Rattle.mdp_rows.specs.declared.error.RowsError.{RowsError}
 use Rattle.mdp_rows.specs.declared.error.RowsError.TheVariants as rows
 use Rattle.mdp_drn.specs.declared.error.DrnKind.{DrnKind}
@@ -15,9 +15,10 @@ use Rattle.mdp_drn.specs.Outcome.{◌>>=◌, refuse_if, Refusal, at_line_of}
 use Rattle.mdp_drn.specs.Values.{value_of, rewards_in}
 use Rattle.mdp_drn.specs.Labels.{begins_blank, before_first, from_first, labels_in}
 
--- the model so far, and the lines of its last `state` and `action`
+-- the model so far, whether it is a Markov chain, and the lines of its last `state` and `action`
 pub record Body : Type 0 where
   pub draft : Draft
+  pub is_chain : Bool
   pub state_line : ℕ
   pub action_line : ℕ
 
@@ -134,7 +135,7 @@ state_line body line behind = do
   read ← at_line_of line (state_read closed (front_digits behind) (behind_digits behind))
   opened ← judged body line (state_opened closed read.rewards)
   labelled ← judged body line (with_labels read.labels opened)
-  Ok (record { draft = labelled; state_line = line; action_line = body.action_line })
+  Ok (record body { draft = labelled; state_line = line })
 
 -- ---- choices
 
@@ -145,19 +146,25 @@ bracket_behind rest =
     (if list_any is_open_bracket rest then Ok (take (length (after_last is_open_bracket rest) - 1) (after_last is_open_bracket rest)) else Err kind.Shape)
     else Ok []
 
--- the rewards of a choice of the open state
-unfoldable pub action_read : Draft → List ℕ → Result (List ℚ) DrnKind
-action_read draft rest = do
+-- the open state has a choice already
+abbrev pub has_action : Draft → Bool
+has_action draft = nat_lt 0 (length (choices_of draft.state))
+
+-- the rewards of a choice of the open state, whose choices are closed; a state of a Markov chain has one choice
+unfoldable pub action_read : Bool → Draft → List ℕ → Result (List ℚ) DrnKind
+action_read is_chain draft rest = do
   under ← refuse_if kind.Shape (not (is_some draft.state))
   inside ← bracket_behind rest
-  rewards_in (length draft.names) inside
+  rewards ← rewards_in (length draft.names) inside
+  one ← refuse_if kind.Choices (is_chain && has_action draft)
+  Ok rewards
 
 abbrev pub action_line : Body → ℕ → List ℕ → Result Body Refusal
 action_line body line rest = do
   closed ← judged body line (choice_closed body.draft)
-  rewards ← at_line_of line (action_read closed rest)
+  rewards ← at_line_of line (action_read body.is_chain closed rest)
   opened ← judged body line (choice_opened closed rewards)
-  Ok (record { draft = opened; state_line = body.state_line; action_line = line })
+  Ok (record body { draft = opened; action_line = line })
 
 -- ---- transitions
 

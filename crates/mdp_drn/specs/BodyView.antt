@@ -1,5 +1,4 @@
 -- The model so far in the code, as the lines have spelled it.
-use Rattle.std.specs.Prelude.{◌≡◌, ℕ, length, map, None}
 use Rattle.std.specs.List.{All}
 use Rattle.mdp_math.specs.Rational.{ℚ}
 use Rattle.mdp_rows.specs.declared.error.RowsError.{RowsError}
@@ -11,26 +10,37 @@ use Rattle.mdp_drn.specs.declared.error.DrnError.TheVariants as error
 use Rattle.mdp_drn.specs.Lines.{is_line_feed}
 use Rattle.mdp_drn.specs.Body.{EntryRead, StateRead, kind_of, line_of}
 use Rattle.mdp_drn.specs.Body as spec
-use Rattle.std.specs.Prelude.{List, false, Option, Result, Ok, Err, ◌&&◌, ◌==◌, if◌then◌else◌}
+use Rattle.std.specs.Prelude.{◌≡◌, ℕ, List, length, map, Bool, false, ◌&&◌, ◌||◌, Option, Some, None, Result, Ok, Err, nat_lt, ◌==◌, if◌then◌else◌}
+use Rattle.std.specs.Option.{is_some}
 use Rattle.mdp_spec.specs.Mdp.{Mdp}
-use Rattle.mdp_rows.specs.Draft.{Draft}
+use Rattle.mdp_rows.specs.Draft.{Draft, OpenState}
 use Rattle.mdp_drn.specs.declared.error.DrnKind.TheVariants.{Count}
 use Rattle.mdp_drn.specs.Outcome.{Refusal}
 use Rattle.mdp_drn.specs.Reading.{has_choices}
 
 abbrev pub view : Body → spec.Body
-view b = record { draft = b.builder; state_line = b.state_line; action_line = b.action_line }
+view b = record { draft = b.builder; is_chain = b.is_chain; state_line = b.state_line; action_line = b.action_line }
 
--- it keeps how many states and reward models there are, and its builder hasn't refused
+-- the open state has a choice, closed or open
+abbrev pub has_any_choice : OpenState → Bool
+has_any_choice o = nat_lt 0 (length o.choices) || is_some o.choice
+
+-- it is known whether the open state has a choice
+abbrev pub Knows : Bool → Draft → Type 0
+Knows known d = (o : OpenState) → d.state ≡ Some o → known ≡ has_any_choice o
+
+-- it keeps how many states and reward models there are and whether the open state has a choice, and its builder hasn't refused
 pub record IsBody (b : Body) : Type 0 where
   pub announced : b.announced ≡ b.builder.announced
   pub models : b.models ≡ length b.builder.names
+  pub action : Knows b.has_action b.builder
   pub unrefused : b.builder.refused ≡ None
 
--- all but the builder is as it was
+-- all but the builder is as it was, and what is known of the open state
 pub record IsSameBeside (old new : Body) : Type 0 where
   pub announced : new.announced ≡ old.announced
   pub models : new.models ≡ old.models
+  pub is_chain : new.is_chain ≡ old.is_chain
   pub state_line : new.state_line ≡ old.state_line
   pub action_line : new.action_line ≡ old.action_line
 

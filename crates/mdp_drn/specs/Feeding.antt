@@ -55,6 +55,12 @@ abbrev pub Gives : {X Y : Type 0} → (X → Y → Type 0) → Result X DrnError
 Gives {X} {Y} P (Ok x) said = (y : Y) × (said ≡ Ok y) × P x y
 Gives P (Err e) said = Fails e said
 
+-- a feed that refused answers that refusal again, and one that ran out of memory answers that again
+abbrev pub Repeats : {X : Type 0} → Option Stand → Result X DrnError → Type 0
+Repeats None result = result ≡ Err error.Memory
+Repeats (Some (Refusing refusal)) result = result ≡ Err (error.At refusal.line refusal.kind)
+Repeats (Some (Reading document tail)) result = Unit {0}
+
 -- a feed that refused, or ran out of memory, stays where it is
 abbrev pub Stays : Option Stand → Option Stand → Type 0
 Stays None new = new ≡ None

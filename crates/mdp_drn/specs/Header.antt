@@ -6,12 +6,14 @@ use Rattle.mdp_num.specs.Digits.{is_digits, number}
 use Rattle.mdp_rows.specs.Name.{are_different}
 use Rattle.mdp_drn.specs.declared.error.DrnKind.{DrnKind}
 use Rattle.mdp_drn.specs.declared.error.DrnKind.TheVariants as kind
+use Rattle.mdp_drn.specs.declared.header.ModelType.{ModelType}
+use Rattle.mdp_drn.specs.declared.header.ModelType.TheVariants.{Mdp, Dtmc}
 use Rattle.mdp_drn.specs.Lines.{is_blank, begins_with, without_blanks_before}
-use Rattle.mdp_drn.specs.Outcome.{◌>>=◌, refuse_if}
+use Rattle.mdp_drn.specs.Outcome.{◌>>=◌, refuse_if, given_or}
 
 -- the entries, each given or not; a number that is still to come is 0
 pub record Header : Type 0 where
-  pub is_typed : Bool
+  pub model_type : Option ModelType
   pub has_value_type : Bool
   pub has_parameters : Bool
   pub names : Option (List (List ℕ))
@@ -28,7 +30,7 @@ pub data Next : Type 0 where
   Model : Next
 
 abbrev pub no_entries : Header
-no_entries = record { is_typed = false; has_value_type = false; has_parameters = false; names = None; states = None; choices = None }
+no_entries = record { model_type = None; has_value_type = false; has_parameters = false; names = None; states = None; choices = None }
 
 -- one word and nothing behind it
 abbrev pub is_word : List ℕ → Bool
@@ -40,12 +42,16 @@ words_of text = filter (λ word. nat_lt 0 (length word)) (slice_split is_blank t
 abbrev pub read : Header → Next → Result (Header × Next) DrnKind
 read header next = Ok (header, next)
 
--- `@type:` and a word, which has to be `MDP`
+-- the types of models that are read: Markov decision processes and Markov chains
+abbrev pub type_named : List ℕ → Option ModelType
+type_named word = if bytes_eq word (codes "MDP") then Some Mdp else (if bytes_eq word (codes "DTMC") then Some Dtmc else None)
+
+-- `@type:` and a word, which has to name a type that is read
 abbrev pub type_entry : Header → List ℕ → Result (Header × Next) DrnKind
 type_entry header word = do
-  once ← refuse_if kind.Header (not (is_word word) || header.is_typed)
-  mdp ← refuse_if kind.Type (not (bytes_eq word (codes "MDP")))
-  read (record header { is_typed = true }) AnyEntry
+  once ← refuse_if kind.Header (not (is_word word) || is_some header.model_type)
+  named ← given_or kind.Type (type_named word)
+  read (record header { model_type = Some named }) AnyEntry
 
 -- `@value_type:` and a word, which is ignored
 abbrev pub value_type_entry : Header → List ℕ → Result (Header × Next) DrnKind
@@ -76,7 +82,7 @@ nr_choices_entry header = do
 -- the header ends only where the type and the number of states were given
 abbrev pub model_entry : Header → Result (Header × Next) DrnKind
 model_entry header = do
-  complete ← refuse_if kind.Header (not (header.is_typed && is_some header.states))
+  complete ← refuse_if kind.Header (not (is_some header.model_type && is_some header.states))
   read header Model
 
 -- an entry's line
@@ -150,6 +156,12 @@ header_line Model header text = read header Model
 abbrev pub or_else : {X : Type 0} → X → Option X → X
 or_else x None = x
 or_else x (Some y) = y
+
+-- the file is of type DTMC
+abbrev pub is_chain : Option ModelType → Bool
+is_chain None = false
+is_chain (Some Mdp) = false
+is_chain (Some Dtmc) = true
 
 abbrev pub announced : Header → ℕ
 announced header = or_else 0 header.states

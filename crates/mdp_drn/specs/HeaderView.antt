@@ -8,7 +8,7 @@ use Rattle.mdp_drn.specs.Header as spec
 
 abbrev pub view : Header → spec.Header
 view h = record {
-  is_typed = h.is_typed;
+  model_type = h.model_type;
   has_value_type = h.has_value_type;
   has_parameters = h.has_parameters;
   names = option_map (λ names. map (λ name. name.items) names.items) h.names;

@@ -8,6 +8,8 @@ use Rattle.mdp_rows.specs.DraftCode.{draft_code, rule_code}
 use Rattle.mdp_rows.specs.declared.rule.RowRule.{RowRule}
 use Rattle.mdp_drn.specs.declared.error.DrnKind.{DrnKind}
 use Rattle.mdp_drn.specs.declared.error.DrnKind.TheVariants as kind
+use Rattle.mdp_drn.specs.declared.header.ModelType.{ModelType}
+use Rattle.mdp_drn.specs.declared.header.ModelType.TheVariants.{Mdp, Dtmc}
 use Rattle.mdp_drn.specs.Outcome.{Refusal}
 use Rattle.mdp_drn.specs.Header.{Header, Next, AnyEntry, BlankLine, RewardNames, StateCount, ChoiceCount, Model}
 use Rattle.mdp_drn.specs.Body.{Body}
@@ -35,6 +37,7 @@ number_of kind.Shape = 16
 number_of kind.Negative = 17
 number_of kind.LongLine = 18
 number_of kind.End = 19
+number_of kind.Choices = 20
 
 abbrev pub low_kind : ℕ → DrnKind
 low_kind n =
@@ -42,7 +45,7 @@ low_kind n =
     else (if n == 5 then kind.Large else (if n == 6 then kind.Order else (if n == 7 then kind.Count else (if n == 8 then kind.Reward
     else (if n == 9 then kind.Target else (if n == 10 then kind.Twice else (if n == 11 then kind.RowSum else (if n == 12 then kind.RowWide
     else (if n == 13 then kind.NoChoice else (if n == 14 then kind.Label else (if n == 15 then kind.TooMany else (if n == 16 then kind.Shape
-    else (if n == 17 then kind.Negative else (if n == 18 then kind.LongLine else kind.End)))))))))))))))))
+    else (if n == 17 then kind.Negative else (if n == 18 then kind.LongLine else (if n == 19 then kind.End else kind.Choices))))))))))))))))))
 
 pub kind_back : (k : DrnKind) → low_kind (number_of k) ≡ k
 kind_back kind.Header = refl
@@ -64,6 +67,7 @@ kind_back kind.Shape = refl
 kind_back kind.Negative = refl
 kind_back kind.LongLine = refl
 kind_back kind.End = refl
+kind_back kind.Choices = refl
 
 abbrev pub kind_code : Coded DrnKind
 kind_code = code_by ℕ coded_ℕ number_of low_kind kind_back
@@ -93,15 +97,32 @@ next_back Model = refl
 abbrev pub next_code : Coded Next
 next_code = code_by ℕ coded_ℕ next_number next_from next_back
 
+abbrev pub type_number : ModelType → ℕ
+type_number Mdp = 0
+type_number Dtmc = 1
+
+abbrev pub type_from : ℕ → ModelType
+type_from n = if n == 0 then Mdp else Dtmc
+
+pub type_back : (t : ModelType) → type_from (type_number t) ≡ t
+type_back Mdp = refl
+type_back Dtmc = refl
+
+abbrev pub type_code : Coded ModelType
+type_code = code_by ℕ coded_ℕ type_number type_from type_back
+
 abbrev pub header_code : Coded Header
 header_code =
-    code_by (Bool × (Bool × (Bool × (Option (List (List ℕ)) × (Option ℕ × Option ℕ)))))
-    (coded× coded_bool (coded× coded_bool (coded× coded_bool (coded× (coded_option names_code) (coded× (coded_option coded_ℕ) (coded_option coded_ℕ))))))
-    (λ h. (h.is_typed, (h.has_value_type, (h.has_parameters, (h.names, (h.states, h.choices))))))
-    (λ p. record { is_typed = p.0; has_value_type = p.1.0; has_parameters = p.1.1.0; names = p.1.1.1.0; states = p.1.1.1.1.0; choices = p.1.1.1.1.1 }) (λ _. refl)
+    code_by (Option ModelType × (Bool × (Bool × (Option (List (List ℕ)) × (Option ℕ × Option ℕ)))))
+    (coded× (coded_option type_code) (coded× coded_bool (coded× coded_bool (coded× (coded_option names_code) (coded× (coded_option coded_ℕ) (coded_option coded_ℕ))))))
+    (λ h. (h.model_type, (h.has_value_type, (h.has_parameters, (h.names, (h.states, h.choices))))))
+    (λ p. record { model_type = p.0; has_value_type = p.1.0; has_parameters = p.1.1.0; names = p.1.1.1.0; states = p.1.1.1.1.0; choices = p.1.1.1.1.1 }) (λ _. refl)
 
 abbrev pub body_code : Coded Body
-body_code = code_by (Draft × (ℕ × ℕ)) (coded× draft_code (coded× coded_ℕ coded_ℕ)) (λ b. (b.draft, (b.state_line, b.action_line))) (λ p. record { draft = p.0; state_line = p.1.0; action_line = p.1.1 }) (λ _. refl)
+body_code =
+    code_by (Draft × (Bool × (ℕ × ℕ))) (coded× draft_code (coded× coded_bool (coded× coded_ℕ coded_ℕ)))
+    (λ b. (b.draft, (b.is_chain, (b.state_line, b.action_line))))
+    (λ p. record { draft = p.0; is_chain = p.1.0; state_line = p.1.1.0; action_line = p.1.1.1 }) (λ _. refl)
 
 abbrev pub part_to : Part → (Header × Next) ⊎ (Option ℕ × Body)
 part_to (InHeader header next) = inl (header, next)

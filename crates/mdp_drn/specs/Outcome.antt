@@ -1,5 +1,5 @@
 -- A value, or why there is none.
-use Rattle.std.specs.Prelude.{ℕ, Bool, Result, Ok, Err, if◌then◌else◌}
+use Rattle.std.specs.Prelude.{ℕ, Bool, Option, Some, None, Result, Ok, Err, if◌then◌else◌}
 use Rattle.mdp_drn.specs.declared.error.DrnKind.{DrnKind}
 
 infixl 10 ◌>>=◌
@@ -10,6 +10,11 @@ abbrev pub ◌>>=◌ : {A B E : Type 0} → Result A E → (A → Result B E) �
 -- the rule of this kind is broken where the test holds
 abbrev pub refuse_if : {E : Type 0} → E → Bool → Result (Unit {0}) E
 refuse_if e broken = if broken then Err e else Ok tt
+
+-- the rule of this kind is broken where nothing is given
+abbrev pub given_or : {A E : Type 0} → E → Option A → Result A E
+given_or e None = Err e
+given_or e (Some x) = Ok x
 
 -- a kind, and the line that is named
 pub record Refusal : Type 0 where

@@ -7,7 +7,7 @@ use Rattle.mdp_drn.specs.declared.error.DrnKind.{DrnKind}
 use Rattle.mdp_drn.specs.declared.error.DrnKind.TheVariants as kind
 use Rattle.mdp_drn.specs.Lines.{lines_of, content, is_comment}
 use Rattle.mdp_drn.specs.Outcome.{◌>>=◌, refuse_if, Refusal, at_line_of}
-use Rattle.mdp_drn.specs.Header.{Header, Next, AnyEntry, BlankLine, RewardNames, StateCount, ChoiceCount, Model, no_entries, header_line, announced, names_of}
+use Rattle.mdp_drn.specs.Header.{Header, Next, AnyEntry, BlankLine, RewardNames, StateCount, ChoiceCount, Model, no_entries, header_line, is_chain, announced, names_of}
 use Rattle.mdp_drn.specs.Body.{Body, judged, model_line}
 
 -- what the lines so far have spelled: entries of the header and what may come next, or the number of choices that was announced and the model so far
@@ -33,7 +33,9 @@ longest_line = 65536
 
 -- the model begins behind `@model`
 abbrev pub begun : RowRule → Header → Next → Part
-begun rule header Model = InModel header.choices (record { draft = new_draft (announced header) rule (names_of header); state_line = 0; action_line = 0 })
+begun rule header Model =
+    let draft = new_draft (announced header) rule (names_of header) in
+    InModel header.choices (record { draft = draft; is_chain = is_chain header.model_type; state_line = 0; action_line = 0 })
 begun rule header AnyEntry = InHeader header AnyEntry
 begun rule header BlankLine = InHeader header BlankLine
 begun rule header RewardNames = InHeader header RewardNames

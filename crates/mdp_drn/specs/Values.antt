@@ -1,7 +1,7 @@
--- Values, and the rewards of a bracket.
-use Rattle.std.specs.Prelude.{ℕ, Bool, List, [], ◌∷◌, length, map, replicate, pos, Result, Ok, Err, ◌==◌, if◌then◌else◌, codes}
+-- Probabilities, rewards, and the rewards of a bracket.
+use Rattle.std.specs.Prelude.{ℕ, Bool, List, [], ◌∷◌, length, map, drop, replicate, pos, Result, Ok, Err, ◌==◌, if◌then◌else◌, codes}
 use Rattle.std.specs.List.{slice_split}
-use Rattle.mdp_math.specs.Rational.{ℚ, of_int}
+use Rattle.mdp_math.specs.Rational.{ℚ, of_int, neg_ℚ}
 use Rattle.mdp_num.specs.Numeral.{numeral_of}
 use Rattle.mdp_num.specs.declared.errors.NumeralError.{NumeralError}
 use Rattle.mdp_num.specs.declared.errors.NumeralError.TheVariants as numeral
@@ -19,16 +19,22 @@ abbrev pub from_numeral : Result ℚ NumeralError → Result ℚ DrnKind
 from_numeral (Ok x) = Ok x
 from_numeral (Err e) = Err (kind_of e)
 
--- a value, which isn't negative
+-- the value of a transition, which has no sign
 unfoldable pub value_of : List ℕ → Result ℚ DrnKind
 value_of text = if begins_with (codes "-") text then Err Negative else from_numeral (numeral_of text)
 
--- each value, judged from left to right
-abbrev pub each_value : List (List ℕ) → Result (List ℚ) DrnKind
-each_value [] = Ok []
-each_value (text ∷ texts) = do
-  first ← value_of text
-  others ← each_value texts
+-- a reward: a numeral, or `-` and a numeral, whose value is negated
+unfoldable pub reward_of : List ℕ → Result ℚ DrnKind
+reward_of text =
+    if begins_with (codes "-") text then (from_numeral (numeral_of (drop 1 text)) >>= λ x. Ok (neg_ℚ x))
+    else from_numeral (numeral_of text)
+
+-- each reward, judged from left to right
+abbrev pub each_reward : List (List ℕ) → Result (List ℚ) DrnKind
+each_reward [] = Ok []
+each_reward (text ∷ texts) = do
+  first ← reward_of text
+  others ← each_reward texts
   Ok (first ∷ others)
 
 abbrev pub trimmed : List ℕ → List ℕ
@@ -42,4 +48,4 @@ unfoldable pub rewards_in : ℕ → List ℕ → Result (List ℚ) DrnKind
 rewards_in models inside =
     let texts = map trimmed (slice_split is_comma inside) in
     if length (trimmed inside) == 0 then Ok (replicate models (of_int (pos 0)))
-    else (if length texts == models then each_value texts else Err Reward)
+    else (if length texts == models then each_reward texts else Err Reward)

@@ -20,6 +20,9 @@ pub(crate) struct Body {
     /// How many states are announced, and how many reward models there are.
     pub(crate) announced: u32,
     pub(crate) models: usize,
+    /// Whether the file is of type DTMC, and whether the open state has a choice.
+    pub(crate) is_chain: bool,
+    pub(crate) has_action: bool,
     /// The lines of the last `state` and `action`.
     pub(crate) state_line: u64,
     pub(crate) action_line: u64,
@@ -100,14 +103,16 @@ impl Body {
         requires body { IsBody self.old }
         requires none { self.old.builder.state ≡ None }
         requires count { length rewards.now ≡ self.old.models }
-        requires within { All IsWithinLimit rewards.now }
         ensures opened { Answers result self.new.builder (judged (view self.old) line (state_opened self.old.builder rewards.now)) }
         ensures beside { IsSameBeside self.old self.new }
         ensures body { OnOk result (IsBody self.new) }
         ensures state { OnOk result (IsTrue (has_state self.new.builder)) }
     {
         match self.builder.state(rewards) {
-            Ok(()) => Ok(()),
+            Ok(()) => {
+                self.has_action = false;
+                Ok(())
+            }
             Err(error) => Err(self.refusal(line, error)),
         }
     }
@@ -118,13 +123,15 @@ impl Body {
         requires none { IsChoiceClosed self.old.builder.state }
         requires state { IsTrue (has_state self.old.builder) }
         requires count { length rewards.now ≡ self.old.models }
-        requires within { All IsWithinLimit rewards.now }
         ensures opened { Answers result self.new.builder (judged (view self.old) line (choice_opened self.old.builder rewards.now)) }
         ensures beside { IsSameBeside self.old self.new }
         ensures body { OnOk result (IsBody self.new) }
     {
         match self.builder.choice(rewards) {
-            Ok(()) => Ok(()),
+            Ok(()) => {
+                self.has_action = true;
+                Ok(())
+            }
             Err(error) => Err(self.refusal(line, error)),
         }
     }

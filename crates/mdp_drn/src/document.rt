@@ -57,6 +57,7 @@ fn begin(alloc: Global, rule: RowRule, header: &mut Header) -> Result<Part, DrnE
 {
     let states = header.states.unwrap_or(0);
     let choices = header.choices;
+    let is_chain = header.is_chain();
     let Ok(names) = names_or_one(alloc, header.names.take()) else {
         return Err(DrnError::Memory);
     };
@@ -68,6 +69,8 @@ fn begin(alloc: Global, rule: RowRule, header: &mut Header) -> Result<Part, DrnE
         builder,
         announced: states,
         models,
+        is_chain,
+        has_action: false,
         state_line: 0,
         action_line: 0,
     };

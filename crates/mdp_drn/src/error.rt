@@ -52,7 +52,7 @@ pub enum DrnKind {
     /// A line of the model that is none of the three kinds, a choice outside a state, or a transition outside a choice.
     #[error("shape")]
     Shape = 16,
-    /// A value below 0.
+    /// A value of a transition with a sign.
     #[error("negative")]
     Negative = 17,
     /// A line of more than 65,536 bytes.
@@ -61,6 +61,9 @@ pub enum DrnKind {
     /// The end of the text before `@model`.
     #[error("end")]
     End = 19,
+    /// A second choice of a state in a file of type DTMC.
+    #[error("choices")]
+    Choices = 20,
 }
 
 /// The first broken rule of a text and the line that it names, or want of memory.

@@ -1,7 +1,7 @@
 ghost use Rattle.std.specs.Prelude.{◌≡◌, ℕ, List, [], ◌∷◌, ◌++◌, IfOk};
 ghost use Rattle.mdp_drn.specs.BodyView.{IsOneLine};
 ghost use Rattle.mdp_drn.specs.Reading.{outcome};
-ghost use Rattle.mdp_drn.specs.Feeding.{HasRead, Stays, answer, Gives};
+ghost use Rattle.mdp_drn.specs.Feeding.{HasRead, Stays, Repeats, answer, Gives};
 
 use crate::document::{Document, LONGEST_LINE};
 use crate::error::{DrnError, DrnKind};
@@ -86,12 +86,13 @@ impl Feed {
         }
     }
 
-    /// Takes the next piece of the text. A feed that refused, or ran out of memory, answers the same from then on.
+    /// Takes the next piece of the text. A feed that refused, or ran out of memory, answers the same again from then on.
     pub fn push(&mut self, piece: &[u8]) -> Result<(), DrnError>
         ensures rule { self.new.rule ≡ self.old.rule }
         ensures stays { Stays self.old.stand self.new.stand }
         ensures fed { (before : List ℕ) → HasRead self.old before → HasRead self.new (before ++ piece.now) }
         ensures answer { result ≡ answer self.new.stand }
+        ensures repeats { Repeats self.old.stand result }
     {
         let mut rest = piece;
         'lines: while let Some(at) = rest.iter().position(|b| *b == b'\n') {
@@ -107,9 +108,10 @@ impl Feed {
     }
 
     /// Judges a last line without a line feed, and then the end: the model that all the bytes read as, or the first broken rule and its line.
-    /// A feed that refused answers that refusal.
+    /// A feed that refused answers that refusal, and not want of memory.
     pub fn finish(self) -> Result<Model, DrnError>
-        ensures { (bytes : List ℕ) → HasRead self bytes → Gives (λ model said. model ≡ said) result (outcome self.rule bytes) }
+        ensures repeats { Repeats self.stand result }
+        ensures read { (bytes : List ℕ) → HasRead self bytes → Gives (λ model said. model ≡ said) result (outcome self.rule bytes) }
     {
         let Feed {
             alloc,

@@ -1,20 +1,17 @@
-ghost use Rattle.std.specs.Prelude.{◌≡◌, ◌<◌, ◌≤◌, ◌^◌, ℕ, List, length, IsErrOf};
+ghost use Rattle.std.specs.Prelude.{◌≡◌, ◌⊎◌, ◌+◌, ◌<◌, ◌≤◌, ◌^◌, ℕ, List, length, IsErrOf};
 ghost use Rattle.std.specs.Io.KnownBytes.{IsAtEnd};
 ghost use Rattle.mdp_edge.specs.Faults.{FaultCounted};
-ghost use Rattle.mdp_edge.specs.Bytes.{GaveSome};
+ghost use Rattle.mdp_edge.specs.Bytes.{GaveAtMost};
 ghost use Rattle.mdp_drn.specs.Reading.{outcome};
 ghost use Rattle.mdp_drn.specs.FromSource.{HadLeft, ReadsAs, IsRead};
 ghost use Rattle.mdp_drn.specs.Feeding.{HasRead};
 
 use crate::error::{DrnError, DrnKind};
 use crate::feed::Feed;
-use mdp_edge::Source;
+use mdp_edge::{MOST_PIECE, Source};
 use mdp_rows::{Model, RowRule};
 use std::alloc::Global;
 use thiserror::Error;
-
-/// How many bytes a call of a source is asked for at most.
-const PIECE: usize = 4096;
 
 /// Why a source gave no model.
 #[derive(Clone, Copy, Debug, PartialEq, Eq, Error)]
@@ -59,16 +56,17 @@ pub fn read_from<S: Source>(
     ensures read { IsRead result → (bytes : List ℕ) × HadLeft (S.left source.old) bytes × (length bytes ≤ limit) × ReadsAs result (outcome rule bytes) }
     ensures end { IsRead result → IsAtEnd (S.left source.new) }
 
-    // An error leaves the bytes behind those that came.
-    ensures rest { GaveSome (S.left source.old) (S.left source.new) }
+    // An error leaves the bytes behind those that came, which are at most one piece more than the limit.
+    ensures rest { GaveAtMost (S.left source.old) (S.left source.new) (limit + MOST_PIECE) }
     ensures long { IsErrOf result FromError.Long → (bytes : List ℕ) × HadLeft (S.left source.old) bytes × (limit < length bytes) }
     ensures fault { IsErrOf result FromError.ReadFault → FaultCounted (S.faults source.old) (S.faults source.new) }
+    ensures still { IsErrOf result FromError.ReadFault ⊎ (S.faults source.new ≡ S.faults source.old) }
     ensures later { S.faults source.old ≤ S.faults source.new }
 {
     let Ok(mut feed) = Feed::new(alloc, rule) else {
         return Err(FromError::Memory);
     };
-    let mut piece = [0u8; PIECE];
+    let mut piece = [0u8; MOST_PIECE];
     let mut total = 0;
     'reading: while total <= limit {
         let Ok(count) = source.read(&mut piece) else {

@@ -1,7 +1,7 @@
 ghost use Rattle.std.specs.Prelude.{◌≡◌, ◌≤◌, ◌^◌, ◌<◌, IfOk, OnOk, map, ◌==◌, ◌||◌};
 ghost use Rattle.std.specs.List.{All, list_any};
 ghost use Rattle.mdp_rows.specs.Name.{are_different};
-ghost use Rattle.mdp_drn.specs.Header.{no_entries, names_line, states_line, choices_line, entry_line, header_line, is_word, is_entry, is_bad_name, names_in, words_of, count_in, type_entry, value_type_entry, parameters_entry, reward_models_entry, nr_states_entry, nr_choices_entry, model_entry, with_states};
+ghost use Rattle.mdp_drn.specs.Header.{no_entries, names_line, states_line, choices_line, entry_line, header_line, is_word, is_entry, is_bad_name, names_in, words_of, count_in, is_chain, type_named, type_entry, value_type_entry, parameters_entry, reward_models_entry, nr_states_entry, nr_choices_entry, model_entry, with_states};
 ghost use Rattle.mdp_drn.specs.Lines.{is_blank};
 ghost use Rattle.mdp_drn.specs.HeaderView.{view, view_next, pair, is_model};
 ghost use Rattle.mdp_drn.specs.Parsing.{Says, told};
@@ -18,6 +18,13 @@ const MAX_STATES: u32 = 1_048_576;
 
 /// The most choices.
 const MAX_CHOICES: u32 = 4_194_304;
+
+/// What a file is of: Markov decision processes and Markov chains are read.
+#[derive(Clone, Copy, Debug, PartialEq, Eq)]
+pub(crate) enum ModelType {
+    Mdp,
+    Dtmc,
+}
 
 /// What the next line may be.
 #[derive(Clone, Copy, Debug, PartialEq, Eq)]
@@ -49,7 +56,7 @@ impl NextLine {
 /// The entries of the header so far; a number that is still to come is 0.
 #[derive(Debug, Drop)]
 pub(crate) struct Header {
-    pub(crate) is_typed: bool,
+    pub(crate) model_type: Option<ModelType>,
     pub(crate) has_value_type: bool,
     pub(crate) has_parameters: bool,
     pub(crate) names: Option<Vec<Vec<u8>>>,
@@ -67,6 +74,19 @@ fn is_word(text: &[u8]) -> bool
     ensures { result ≡ is_word text.now }
 {
     !text.is_empty() && !has_blank(text)
+}
+
+/// The type that the word names.
+fn type_named(word: &[u8]) -> Option<ModelType>
+    ensures { result ≡ type_named word.now }
+{
+    if word == b"MDP".as_slice() {
+        Some(ModelType::Mdp)
+    } else if word == b"DTMC".as_slice() {
+        Some(ModelType::Dtmc)
+    } else {
+        None
+    }
 }
 
 /// A number of states or choices.
@@ -90,7 +110,7 @@ impl Header {
         ensures { view result ≡ no_entries }
     {
         Header {
-            is_typed: false,
+            model_type: None,
             has_value_type: false,
             has_parameters: false,
             names: None,
@@ -99,16 +119,27 @@ impl Header {
         }
     }
 
+    /// Whether the file is of type DTMC.
+    pub(crate) fn is_chain(&self) -> bool
+        ensures { result ≡ is_chain (view self.now).model_type }
+    {
+        match self.model_type {
+            Some(ModelType::Dtmc) => true,
+            Some(ModelType::Mdp) => false,
+            None => false,
+        }
+    }
+
     fn take_type(&mut self, word: &[u8]) -> Result<NextLine, DrnKind>
         ensures { told (pair self.new) result ≡ type_entry (view self.old) word.now }
     {
-        if !is_word(word) || self.is_typed {
+        if !is_word(word) || self.model_type.is_some() {
             return Err(DrnKind::Header);
         }
-        if word != b"MDP".as_slice() {
+        let Some(named) = type_named(word) else {
             return Err(DrnKind::Type);
-        }
-        self.is_typed = true;
+        };
+        self.model_type = Some(named);
         Ok(NextLine::AnyEntry)
     }
 
@@ -165,7 +196,7 @@ impl Header {
     fn take_model(&self) -> Result<NextLine, DrnKind>
         ensures { told (pair self.now) result ≡ model_entry (view self.now) }
     {
-        if self.is_typed && self.states.is_some() {
+        if self.model_type.is_some() && self.states.is_some() {
             Ok(NextLine::Model)
         } else {
             Err(DrnKind::Header)

@@ -14,10 +14,6 @@ mod header_text;
 mod labels;
 mod laws;
 mod laws_of_writing;
-#[cfg(test)]
-mod layout_tests;
-#[cfg(test)]
-mod limit_tests;
 mod line;
 mod line_error;
 mod model_line;

@@ -1,7 +1,7 @@
 ghost use Rattle.std.specs.Prelude.{◌≡◌, length, map, None, OnOk, IfOk, IsTrue, ◌||◌};
 ghost use Rattle.std.specs.List.{All};
 ghost use Rattle.mdp_num.specs.Meaning.{IsWithinLimit};
-ghost use Rattle.mdp_rows.specs.Draft.{has_choice, has_state};
+ghost use Rattle.mdp_rows.specs.Draft.{has_choice, has_state, IsChoiceClosed};
 ghost use Rattle.mdp_rows.specs.Name.{IsName};
 ghost use Rattle.mdp_drn.specs.Body.{state_read, action_read, entry_read, state_line, action_line, entry_line, model_line, is_state_line, is_action_line, is_rest_of_state, value_text, begins_as, is_other_mark};
 ghost use Rattle.mdp_drn.specs.BodyView.{view, IsBody, IsOneLine, state_in, entry_in};
@@ -92,7 +92,6 @@ impl Body {
         requires plain { IsOneLine rest.now }
         ensures read { Says state_in result (state_read self.now.builder digits.now rest.now) }
         ensures count { IfOk result (λ s. length s.rewards.items ≡ self.now.models) }
-        ensures within { IfOk result (λ s. All IsWithinLimit s.rewards.items) }
         ensures names { IfOk result (λ s. All IsName (map (λ label. label.now) s.labels.items)) }
     {
         if !is_rest_of_state(rest) {
@@ -118,10 +117,10 @@ impl Body {
     /// Reads the rewards behind `action`.
     #[tactic(auto, unfolding(crate::specs::Body::action_read))]
     fn read_action(&self, alloc: Global, rest: &[u8]) -> Result<Vec<Frac>, LineError>
-        requires { IsBody self.now }
-        ensures read { Says (λ rewards. rewards.items) result (action_read self.now.builder rest.now) }
+        requires body { IsBody self.now }
+        requires closed { IsChoiceClosed self.now.builder.state }
+        ensures read { Says (λ rewards. rewards.items) result (action_read self.now.is_chain self.now.builder rest.now) }
         ensures count { IfOk result (λ rewards. length rewards.items ≡ self.now.models) }
-        ensures within { IfOk result (λ rewards. All IsWithinLimit rewards.items) }
         ensures state { IfOk result (λ _. IsTrue (has_state self.now.builder)) }
     {
         if !self.builder.is_state_open() {
@@ -130,6 +129,9 @@ impl Body {
         let inside = last_bracket(rest)?;
         let mut rewards = Vec::new(alloc);
         read_rewards(alloc, self.models, inside, &mut rewards)?;
+        if self.is_chain && self.has_action {
+            return Err(LineError::Kind(DrnKind::Choices));
+        }
         Ok(rewards)
     }
 

@@ -1,9 +1,9 @@
-ghost use Rattle.std.specs.Prelude.{◌≡◌, IfOk, map, length, [], replicate, pos};
+ghost use Rattle.std.specs.Prelude.{◌≡◌, ◌==◌, IfOk, map, length, [], replicate, pos};
 ghost use Rattle.mdp_math.specs.Rational.{of_int};
-ghost use Rattle.std.specs.List.{All, slice_split};
-ghost use Rattle.std.specs.Prelude.{◌==◌};
+ghost use Rattle.std.specs.List.{slice_split};
 ghost use Rattle.mdp_num.specs.Meaning.{IsWithinLimit};
-ghost use Rattle.mdp_drn.specs.Values.{value_of, rewards_in, each_value, is_comma, trimmed};
+ghost use Rattle.mdp_num.specs.Numeral.{numeral_of};
+ghost use Rattle.mdp_drn.specs.Values.{from_numeral, value_of, reward_of, rewards_in, each_reward, is_comma, trimmed};
 ghost use Rattle.mdp_drn.specs.Parsing.{Says};
 
 use crate::error::DrnKind;
@@ -12,7 +12,20 @@ use crate::line_error::LineError;
 use mdp_num::{Frac, NumeralError, read_numeral};
 use std::alloc::{AllocError, Global};
 
-/// A value, which isn't negative.
+/// The value that a numeral spells.
+fn read_unsigned(text: &[u8]) -> Result<Frac, DrnKind>
+    ensures value { result ≡ from_numeral (numeral_of text.now) }
+    ensures within { IfOk result IsWithinLimit }
+{
+    match read_numeral(text) {
+        Ok(value) => Ok(value),
+        Err(NumeralError::Shape) => Err(DrnKind::Number),
+        Err(NumeralError::ZeroDen) => Err(DrnKind::Number),
+        Err(NumeralError::Large) => Err(DrnKind::Large),
+    }
+}
+
+/// The value of a transition, which has no sign.
 #[tactic(auto, unfolding(crate::specs::Values::value_of))]
 pub(crate) fn read_value(text: &[u8]) -> Result<Frac, DrnKind>
     ensures value { result ≡ value_of text.now }
@@ -21,12 +34,21 @@ pub(crate) fn read_value(text: &[u8]) -> Result<Frac, DrnKind>
     if text.starts_with(b"-") {
         return Err(DrnKind::Negative);
     }
-    match read_numeral(text) {
-        Ok(value) => Ok(value),
-        Err(NumeralError::Shape) => Err(DrnKind::Number),
-        Err(NumeralError::ZeroDen) => Err(DrnKind::Number),
-        Err(NumeralError::Large) => Err(DrnKind::Large),
+    read_unsigned(text)
+}
+
+/// A reward: a numeral, or `-` and a numeral.
+#[tactic(auto, unfolding(crate::specs::Values::reward_of))]
+fn read_reward(text: &[u8]) -> Result<Frac, DrnKind>
+    ensures { result ≡ reward_of text.now }
+{
+    if text.starts_with(b"-") {
+        return match read_unsigned(&text[1..]) {
+            Ok(value) => Ok(value.negate()),
+            Err(kind) => Err(kind),
+        };
     }
+    read_unsigned(text)
 }
 
 /// The texts between the commas.
@@ -36,15 +58,14 @@ fn split_at_commas(alloc: Global, inside: &[u8]) -> Result<Vec<&[u8]>, AllocErro
     inside.split(|c| *c == b',').collect(alloc)
 }
 
-/// Puts the value of each text behind `rewards`.
-fn push_values(texts: &[&[u8]], rewards: &mut Vec<Frac>) -> Result<(), LineError>
+/// Puts the reward that each text spells behind `rewards`.
+fn push_rewards(texts: &[&[u8]], rewards: &mut Vec<Frac>) -> Result<(), LineError>
     requires { rewards.old.items ≡ [] }
-    ensures values { Says (λ _. rewards.new.items) result (each_value (map trimmed (map (λ text. text.now) texts.now))) }
-    ensures within { IfOk result (λ _. All IsWithinLimit rewards.new.items) }
+    ensures { Says (λ _. rewards.new.items) result (each_reward (map trimmed (map (λ text. text.now) texts.now))) }
 {
     for text in texts {
-        let value = read_value(trim(text))?;
-        rewards.push(value)?;
+        let reward = read_reward(trim(text))?;
+        rewards.push(reward)?;
     }
     Ok(())
 }
@@ -59,7 +80,6 @@ pub(crate) fn read_rewards(
 ) -> Result<(), LineError>
     ensures rewards { Says (λ _. rewards.new.items) result (rewards_in models inside.now) }
     ensures count { IfOk result (λ _. length rewards.new.items ≡ models) }
-    ensures within { IfOk result (λ _. All IsWithinLimit rewards.new.items) }
 {
     rewards.clear();
     if trim(inside).is_empty() {
@@ -70,5 +90,5 @@ pub(crate) fn read_rewards(
     if texts.len() != models {
         return Err(LineError::Kind(DrnKind::Reward));
     }
-    push_values(&texts, rewards)
+    push_rewards(&texts, rewards)
 }

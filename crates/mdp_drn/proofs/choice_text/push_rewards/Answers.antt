@@ -1,8 +1,8 @@
 use Rattle.std.proofs.Common.{arith, map, codes, get_or, ◌<◌, length}
 use Rattle.mdp_num.specs.Value.{spelling}
 use Rattle.mdp_spec.specs.Mdp.{choices_at, no_choice}
-use Rattle.mdp_drn.proofs.Appending.{appending-more, appending-start}
-use Rattle.mdp_drn.proofs.TextsLeft.{separated-all, rewards-as_many, rewards-more}
+use Rattle.mdp_drn.proofs.TextWritten.Appending.{appending-more, appending-start}
+use Rattle.mdp_drn.proofs.TextWritten.TextsLeft.{separated-all, rewards-as_many, rewards-more}
 use Rattle.mdp_drn.proofs.choice_text.push_rewards.Goals as goal
 
 pub loop-m-init : goal.loop-m-init

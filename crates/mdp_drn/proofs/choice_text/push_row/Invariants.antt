@@ -1,7 +1,7 @@
 use Rattle.std.proofs.Common.{drop}
 use Rattle.mdp_spec.specs.Row.{entries}
 use Rattle.mdp_drn.specs.Writing.{row_text}
-use Rattle.mdp_drn.proofs.Appending.{Appending}
+use Rattle.mdp_drn.proofs.TextWritten.Appending.{Appending}
 use Rattle.mdp_drn.proofs.choice_text.push_row.Given as goal
 
 abbrev pub invariant-loop-i : goal.invariant-loop-i

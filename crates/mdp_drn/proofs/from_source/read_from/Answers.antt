@@ -3,11 +3,15 @@ use Rattle.mdp_edge.proofs.Pieces.{gave_both}
 use Rattle.mdp_rows.specs.declared.rule.RowRule.{RowRule}
 use Rattle.mdp_drn.specs.Reading.{outcome}
 use Rattle.mdp_drn.specs.FromSource.{ReadsAs}
-use Rattle.mdp_drn.proofs.Came.{had_all, had_more}
+use Rattle.mdp_drn.proofs.PiecesFed.SourceBytes.{had_all, had_more}
 use Rattle.mdp_drn.proofs.from_source.read_from.Goals as goal
 
 pub returns-then-count-eq0-clause-rest : goal.returns-then-count-eq0-clause-rest
-returns-then-count-eq0-clause-rest g c = let w = c.reading.invariant.read in (_, gave_both _ _ _ _ _ w.1 c.in-Ok-read.ensures.bytes)
+returns-then-count-eq0-clause-rest g c =
+    let w = c.reading.invariant.read in
+    let n = c.in-Ok-read.count in
+    let bytes = take n c.read.new.buf in
+    (w.0 ++ bytes, omega (arith, length-append w.0 bytes, length-take n c.read.new.buf, w.2, c.in-Ok-read.ensures.room, c.if-count-eq0.true, c.reading.invariant.most), gave_both _ _ _ _ _ w.1 c.in-Ok-read.ensures.bytes)
 
 pub returns-then-count-eq0-clause-long : goal.returns-then-count-eq0-clause-long
 returns-then-count-eq0-clause-long g c h = absurd (c.finish_feed.ensures.not_long h)
@@ -24,7 +28,8 @@ reading-preserved g c =
     record {
       read = (w.0 ++ bytes, gave_both _ _ _ _ _ w.1 c.in-Ok-read.ensures.bytes, size, c.push.ensures.fed w.0 w.3);
       rule = c.push.ensures.rule ∙ c.reading.invariant.rule;
-      later = omega (arith, c.in-Ok-read.ensures.later, c.reading.invariant.later);
+      most = omega (arith, c.reading-test.true, c.in-Ok-read.ensures.room);
+      still = c.in-Ok-read.ensures.still ∙ c.reading.invariant.still;
     }
 
 pub returns-then-count-eq0-clause-read : goal.returns-then-count-eq0-clause-read

@@ -1,6 +1,6 @@
 use Rattle.std.proofs.Common.{[], ◌∷◌}
-use Rattle.mdp_drn.proofs.Appending.{appending-start}
-use Rattle.mdp_drn.proofs.TextsLeft.{separated-all}
+use Rattle.mdp_drn.proofs.TextWritten.Appending.{appending-start}
+use Rattle.mdp_drn.proofs.TextWritten.TextsLeft.{separated-all}
 use Rattle.mdp_drn.proofs.header_text.push_all_names.Goals as goal
 
 pub loop-m-init : goal.loop-m-init

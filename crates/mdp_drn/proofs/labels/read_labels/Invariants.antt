@@ -1,6 +1,6 @@
 use Rattle.std.proofs.Common.{map, length}
 use Rattle.mdp_drn.specs.Lines.{without_blanks_before}
-use Rattle.mdp_drn.proofs.LabelsFrom.{LabelsFrom}
+use Rattle.mdp_drn.proofs.LinesRead.LabelsFrom.{LabelsFrom}
 use Rattle.mdp_drn.proofs.labels.read_labels.Given as goal
 
 abbrev pub invariant-loop-rest : goal.invariant-loop-rest

@@ -1,4 +1,4 @@
-use Rattle.mdp_drn.proofs.First.{refused-at_first, read-or-refused, read-once, not-both}
+use Rattle.mdp_drn.proofs.ReadingLaws.FirstRefusal.{refused-at_first, read-or-refused, read-once, not-both}
 use Rattle.mdp_drn.proofs.laws.reading_law.Goals as goal
 
 pub returns : goal.returns

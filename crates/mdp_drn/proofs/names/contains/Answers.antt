@@ -3,7 +3,7 @@ use Rattle.std.specs.Borrow.{Bor}
 use Rattle.std.proofs.lemmas.Iterator.{YieldsList-from_slice}
 use Rattle.std.proofs.lemmas.Iterator.Search.{any_from_yields_List}
 use Rattle.std.specs.Str.{bytes_eq}
-use Rattle.mdp_drn.proofs.Listing.{list_any-map}
+use Rattle.mdp_drn.proofs.LinesRead.Listing.{list_any-map}
 use Rattle.mdp_drn.proofs.names.contains.Goals as goal
 
 pub returns : goal.returns

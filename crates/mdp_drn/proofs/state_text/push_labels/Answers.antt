@@ -1,6 +1,6 @@
 use Rattle.mdp_spec.specs.Mdp.{state_at}
-use Rattle.mdp_drn.proofs.Appending.{appending-more}
-use Rattle.mdp_drn.proofs.TextsLeft.{label-known, labels-more}
+use Rattle.mdp_drn.proofs.TextWritten.Appending.{appending-more}
+use Rattle.mdp_drn.proofs.TextWritten.TextsLeft.{label-known, labels-more}
 use Rattle.mdp_drn.proofs.state_text.push_labels.Goals as goal
 
 pub label_name-requires : goal.label_name-requires

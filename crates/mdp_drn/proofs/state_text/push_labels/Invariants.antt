@@ -1,7 +1,7 @@
 use Rattle.std.proofs.Common.{drop}
 use Rattle.mdp_spec.specs.Mdp.{state_at}
 use Rattle.mdp_drn.specs.Writing.{labels_text}
-use Rattle.mdp_drn.proofs.Appending.{Appending}
+use Rattle.mdp_drn.proofs.TextWritten.Appending.{Appending}
 use Rattle.mdp_drn.proofs.state_text.push_labels.Given as goal
 
 abbrev pub invariant-loop-i : goal.invariant-loop-i

@@ -1,6 +1,6 @@
 use Rattle.std.proofs.Common.{drop}
 use Rattle.mdp_drn.specs.Writing.{states_text}
-use Rattle.mdp_drn.proofs.Appending.{Appending}
+use Rattle.mdp_drn.proofs.TextWritten.Appending.{Appending}
 use Rattle.mdp_drn.proofs.state_text.push_states.Given as goal
 
 abbrev pub invariant-loop-s : goal.invariant-loop-s

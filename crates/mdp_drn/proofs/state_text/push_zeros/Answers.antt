@@ -1,7 +1,7 @@
 use Rattle.std.proofs.Common.{arith, codes}
 use Rattle.mdp_drn.specs.Pieces.{zeros_of}
-use Rattle.mdp_drn.proofs.Appending.{appending-more, appending-start}
-use Rattle.mdp_drn.proofs.TextsLeft.{separated-all, zeros-more}
+use Rattle.mdp_drn.proofs.TextWritten.Appending.{appending-more, appending-start}
+use Rattle.mdp_drn.proofs.TextWritten.TextsLeft.{separated-all, zeros-more}
 use Rattle.mdp_drn.proofs.state_text.push_zeros.Goals as goal
 
 pub loop-m-init : goal.loop-m-init

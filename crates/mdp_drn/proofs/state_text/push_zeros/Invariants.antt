@@ -1,7 +1,7 @@
 use Rattle.std.proofs.Common.{drop, codes}
 use Rattle.mdp_drn.specs.Writing.{joined}
 use Rattle.mdp_drn.specs.Pieces.{separated, zeros_of}
-use Rattle.mdp_drn.proofs.Appending.{Appending}
+use Rattle.mdp_drn.proofs.TextWritten.Appending.{Appending}
 use Rattle.mdp_drn.proofs.state_text.push_zeros.Given as goal
 
 abbrev pub invariant-loop-m : goal.invariant-loop-m

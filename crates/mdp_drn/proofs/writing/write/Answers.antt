@@ -1,5 +1,5 @@
 use Rattle.mdp_rows.proofs.ReplayStates.{is_replayed}
-use Rattle.mdp_drn.proofs.Written.{reads_back}
+use Rattle.mdp_drn.proofs.TextWritten.ReadsBack.{reads_back}
 use Rattle.mdp_drn.proofs.writing.write.Goals as goal
 
 pub returns-in-Ok-clause-reads_back : goal.returns-in-Ok-clause-reads_back

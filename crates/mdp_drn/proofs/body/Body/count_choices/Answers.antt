@@ -1,7 +1,7 @@
 use Rattle.std.proofs.Common.{◌≡◌, sym, ◌∙◌, ap, refl, true, sum_by, length, List}
 use Rattle.mdp_spec.specs.Mdp.{State}
 use Rattle.mdp_drn.specs.Reading.{has_choices}
-use Rattle.mdp_drn.proofs.Counted.{finish_due, counted_all, finished_states, not_announced, as_announced}
+use Rattle.mdp_drn.proofs.LinesRead.CountsAtEnd.{finish_due, counted_all, finished_states, not_announced, as_announced}
 use Rattle.mdp_drn.proofs.body.Body.count_choices.Goals as goal
 use Rattle.mdp_drn.proofs.body.Body.count_choices.Goals.{in_default-via-in-Some+else-announced-all_choices, in_default-via-in_default}
 

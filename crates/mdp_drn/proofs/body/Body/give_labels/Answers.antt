@@ -5,7 +5,7 @@ use Rattle.mdp_drn.specs.Outcome.{Refusal}
 use Rattle.mdp_drn.specs.Body.{with_labels}
 use Rattle.mdp_drn.specs.BodyView.{view}
 use Rattle.mdp_drn.specs.Feeding.{Fails}
-use Rattle.mdp_drn.proofs.GivenLabels.{names, name-at, one_given, one_refused, judged-same, judged-ok}
+use Rattle.mdp_drn.proofs.LinesRead.LabelsOneByOne.{names, name-at, one_given, one_refused, judged-same, judged-ok}
 use Rattle.mdp_drn.proofs.body.Body.give_labels.Goals as goal
 
 pub give_label-requires-clause-name : goal.give_label-requires-clause-name
@@ -26,7 +26,7 @@ loop-label-preserved c =
     record {
       given = one_given c.args.labels.now c.loop-label.label-index _ c.loop-label-test.true (with_labels (names c.args.labels.now) c.args.self.now.builder) c.loop-label.self.builder c.give_label.new.self.builder c.loop-label.invariant.given
           (judged-ok (view c.loop-label.self) c.args.line _ c.give_label.new.self.builder c.in_ok-give_label.ensures.given);
-      beside = record { announced = b.announced ∙ was.announced; models = b.models ∙ was.models; state_line = b.state_line ∙ was.state_line; action_line = b.action_line ∙ was.action_line };
+      beside = record { announced = b.announced ∙ was.announced; models = b.models ∙ was.models; is_chain = b.is_chain ∙ was.is_chain; state_line = b.state_line ∙ was.state_line; action_line = b.action_line ∙ was.action_line };
       body = c.in_ok-give_label.ensures.body;
       state = c.in_ok-give_label.ensures.state;
     }

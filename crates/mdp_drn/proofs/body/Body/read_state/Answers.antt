@@ -3,7 +3,7 @@ use Rattle.std.specs.List.{prefix_len}
 use Rattle.std.proofs.lemmas.List.Elements.{All-drop}
 use Rattle.mdp_drn.specs.Lines.{is_blank, is_line_feed, without_blanks_before}
 use Rattle.mdp_drn.specs.Body.{bracket_at}
-use Rattle.mdp_drn.proofs.LabelNames.{label_names, behind_plain}
+use Rattle.mdp_drn.proofs.LinesRead.LabelNames.{label_names, behind_plain}
 use Rattle.mdp_drn.proofs.body.Body.read_state.Goals as goal
 
 pub returns-clause-names : goal.returns-clause-names

@@ -1,4 +1,4 @@
-use Rattle.mdp_drn.proofs.Contents.{content_front, content_plain}
+use Rattle.mdp_drn.proofs.LinesRead.Contents.{content_front, content_plain}
 use Rattle.mdp_drn.proofs.document.Document.take_line.Goals as goal
 
 pub take_line-requires-clause-plain : goal.take_line-requires-clause-plain

@@ -1,7 +1,7 @@
 use Rattle.std.proofs.Common.{sym, ◌∙◌, subst}
 use Rattle.mdp_drn.specs.HeaderView.{view, view_next}
 use Rattle.mdp_drn.specs.DocumentView.{IsPart}
-use Rattle.mdp_drn.proofs.HeaderKeeps.{header_keeps, at_model}
+use Rattle.mdp_drn.proofs.LinesRead.HeaderKeeps.{header_keeps, at_model}
 use Rattle.mdp_drn.proofs.document.Part.take_line.Goals as goal
 
 pub begin-requires : goal.begin-requires

@@ -2,7 +2,7 @@ use Rattle.std.proofs.Common.{List, ℕ, [], ◌∷◌, ◌++◌, sym, ap, ◌�
 use Rattle.mdp_drn.specs.Reading.{at_line}
 use Rattle.mdp_drn.specs.Feeding.{Held, HasRead, Fails}
 use Rattle.mdp_drn.specs.DocumentView.{document_in}
-use Rattle.mdp_drn.proofs.Steps.{refused-stays, line-taken, line-refused}
+use Rattle.mdp_drn.proofs.PiecesFed.FeedSteps.{refused-stays, line-taken, line-refused}
 use Rattle.mdp_drn.proofs.feed.Feed.close_line.Goals as goal
 
 pub returns-then-is_some-clause-fed : goal.returns-then-is_some-clause-fed

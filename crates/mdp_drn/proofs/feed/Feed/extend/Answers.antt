@@ -2,7 +2,7 @@ use Rattle.std.proofs.Common.{◌≡◌, List, ℕ, ◌++◌, false, cond, Resul
 use Rattle.std.specs.Result.{is_ok, is_err}
 use Rattle.mdp_drn.specs.Feeding.{Held, HasRead}
 use Rattle.mdp_drn.specs.DocumentView.{document_in}
-use Rattle.mdp_drn.proofs.Steps.{refused-stays, long-tail, more-tail}
+use Rattle.mdp_drn.proofs.PiecesFed.FeedSteps.{refused-stays, long-tail, more-tail}
 use Rattle.mdp_drn.proofs.feed.Feed.extend.Goals as goal
 
 pub returns-then-is_some-clause-fed : goal.returns-then-is_some-clause-fed

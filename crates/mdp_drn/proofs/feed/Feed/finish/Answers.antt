@@ -6,12 +6,12 @@ use Rattle.mdp_drn.specs.Outcome.{◌>>=◌, Refusal}
 use Rattle.mdp_drn.specs.Reading.{Document, at_line, at_end, outcome}
 use Rattle.mdp_drn.specs.DocumentView.{document_in}
 use Rattle.mdp_drn.specs.Feeding.{Held, HasRead, Fails, Gives}
-use Rattle.mdp_drn.proofs.Steps.{Stood, end-refused, fails-line, end-line, end-bare}
+use Rattle.mdp_drn.proofs.PiecesFed.FeedSteps.{Stood, end-refused, fails-line, end-line, end-bare}
 use Rattle.mdp_drn.proofs.feed.Feed.finish.Goals as goal
 use Rattle.mdp_drn.proofs.feed.Feed.finish.Goals.{then-not-is_empty+in_ok-take_line, else-not-is_empty}
 
-pub returns-in-Some : goal.returns-in-Some
-returns-in-Some c =
+pub returns-in-Some-clause-read : goal.returns-in-Some-clause-read
+returns-in-Some-clause-read c =
     let f = c.self.inside in
     subst (λ (held : Held). (bytes : List ℕ) → HasRead held bytes → Fails c.in-Some.refused (outcome held.rule bytes)) c.self.view_is
     (λ bytes at. end-refused f.document.rule (document_in f.document) f.tail.items f.refused bytes c.in-Some.refused c.in-Some.is at)
@@ -22,8 +22,8 @@ some-left n m b is none same = grind (arith, nat_tests)
 none-left : (n m : ℕ) (b : Bool) → b ≡ (n == 0) → b ≡ true → n ≡ m → m ≡ 0
 none-left n m b is some same = grind (arith, nat_tests)
 
-pub returns-in_err-take_line : goal.returns-in_err-take_line
-returns-in_err-take_line c =
+pub returns-in_err-take_line-clause-read : goal.returns-in_err-take_line-clause-read
+returns-in_err-take_line-clause-read c =
     let f = c.self.inside in
     let rule = f.document.rule in
     let document = document_in f.document in
@@ -32,8 +32,8 @@ returns-in_err-take_line c =
     rw (p.1, p.2) (subst (λ (held : Held). (bytes : List ℕ) → HasRead held bytes → Fails c.in_err-take_line.field-0.0 (outcome held.rule bytes)) c.self.view_is
     (λ bytes at. fails-line rule document f.tail.items f.refused bytes c.in_err-take_line.field-0.0 c.in_default.not-Some at (some-left f.tail.len (length f.tail.items) c.is_empty.result c.is_empty.ensures c.if-not-is_empty.true f.tail.ok.0) said))
 
-pub returns : goal.returns
-returns c =
+pub returns-clause-read : goal.returns-clause-read
+returns-clause-read c =
     let f = c.self.inside in
     let rule = f.document.rule in
     let document = document_in f.document in

@@ -1,0 +1,10 @@
+-- What lines spell, and what the reader keeps from line to line.
+pub mod Contents
+pub mod CountsAtEnd
+pub mod DraftCalls
+pub mod HeaderKeeps
+pub mod LabelNames
+pub mod LabelsFrom
+pub mod LabelsOneByOne
+pub mod Listing
+pub mod RewardsFrom
