@@ -10,11 +10,13 @@ use Rattle.mdp_math.proofs.Order.{≤ℚ_of_eq, ≤ℚ_of_lt, clash_ℚ, lt_of_c
 use Rattle.mdp_farkas.specs.Compare.{not_less, not_greater, no_order, is_at_least, is_at_most, is_equal}
 
 -- a test of the order, and what it means
-decided_by : (test : Ordering → Bool) (P : Type 0) (x y : ℚ) (o : Option Ordering) → o ≡ written_compare x y → ((r : Ordering) → r ≡ cmp_ℚ x y → test r ≡ true → P) → option_map test o ≡ Some true → P
+decided_by : (test : Ordering → Bool) (P : Type 0) (x y : ℚ) (o : Option Ordering) → o ≡ written_compare x y → ((r : Ordering) → r ≡ cmp_ℚ x y → test r ≡ true → P)
+    → option_map test o ≡ Some true → P
 decided_by test P x y None e means h = cc
 decided_by test P x y (Some r) e means h = means r (written_compare-some x y r e) cc
 
-holds_by : (test : Ordering → Bool) (x y : ℚ) (o : Option Ordering) → o ≡ written_compare x y → ((r : Ordering) → r ≡ cmp_ℚ x y → test r ≡ true) → IsSome (option_map test o) → option_map test o ≡ Some true
+holds_by : (test : Ordering → Bool) (x y : ℚ) (o : Option Ordering) → o ≡ written_compare x y → ((r : Ordering) → r ≡ cmp_ℚ x y → test r ≡ true) → IsSome (option_map test o)
+    → option_map test o ≡ Some true
 holds_by test x y None e means h = absurd (true≢false (sym h))
 holds_by test x y (Some r) e means h = ap Some (means r (written_compare-some x y r e))
 

@@ -2,6 +2,7 @@ mod Objections
 mod Holds
 mod Comparing
 mod Summing
+mod Inequalities
 pub mod UpperRules
 mod Entries
 pub mod ReachRules

@@ -1,10 +1,10 @@
 -- The verdict on values and a policy is yes exactly where the rules hold in exact numbers and no written term is past width.
-use Rattle.std.proofs.Common.{◌≡◌, ℕ, ◌<◌, ◌⊎◌, inl, inr, ⊎_elim, Bool, true, false, true≢false, not, ◌&&◌, ◌||◌, ltb, lt-ltb, ltb-true, eqb-true, eq-eqb, T, List, [], ◌∷◌, ◌++◌, length, slice_index, Option, Some, ◌↔◌, refl, sym, ap, subst, ◌∙◌, pos}
+use Rattle.std.proofs.Common.{◌≡◌, ℕ, ◌<◌, ◌⊎◌, inl, inr, ⊎_elim, Bool, true, false, true≢false, not, ◌||◌, ltb, lt-ltb, ltb-true, eqb-true, eq-eqb, List, []}
+use Rattle.std.proofs.Common.{◌∷◌, ◌++◌, length, slice_index, Some, ◌↔◌, refl, sym, ap, subst, ◌∙◌, pos}
 use Rattle.std.specs.List.{Any, list_any}
-use Rattle.std.specs.Option.{IsSome}
 use Rattle.std.proofs.lemmas.List.Elements.{All-from_recursion, recursion_from_All}
 use Rattle.std.proofs.lemmas.List.Folds.{Any-from_list_any, list_any-from_Any}
-use Rattle.mdp_math.specs.Rational.{ℚ, of_int, lt_ℚ, ◌≤ℚ◌, ◌<ℚ◌}
+use Rattle.mdp_math.specs.Rational.{ℚ, of_int, lt_ℚ, ◌<ℚ◌}
 use Rattle.mdp_math.proofs.Booleans.{and-parts, and-both}
 use Rattle.mdp_math.proofs.Options.{Some_same}
 use Rattle.mdp_math.proofs.Extremes.{lt_of_test, test_of_lt, le_of_no_test, no_test_of_le}
@@ -16,14 +16,17 @@ use Rattle.mdp_spec.specs.Bounds.{ReachMax, ReachMin}
 use Rattle.mdp_spec.specs.Tree.{IsPolicy, is_marked}
 use Rattle.mdp_spec.proofs.Reach.{reach_max_of_rules, reach_min_of_rules}
 use Rattle.mdp_farkas.specs.Verdict.{Check, verdict_of, InWidth, IsYes, IfYes}
-use Rattle.mdp_farkas.specs.Upper.{0ℚ, 1ℚ, goal_check}
-use Rattle.mdp_farkas.specs.Reach.{stands, other, stands_at, bound_check, bound_checks, policy_check, value_checks, ends, rank_check, leads_down, fall_check, fall_checks, rank_checks, reach_at, reach_checks, MeetsReach, IsReach}
+use Rattle.mdp_farkas.specs.Compare.{0ℚ, 1ℚ}
+use Rattle.mdp_farkas.specs.Upper.{goal_check}
+use Rattle.mdp_farkas.specs.Bellman.{bound_check, bound_checks}
+use Rattle.mdp_farkas.specs.Reach.{other, policy_check, value_checks, ends, rank_check, leads_down, fall_check, fall_checks, rank_checks, reach_at, reach_checks, MeetsReach, IsReach}
 use Rattle.mdp_rows.specs.declared.dir.Dir.{Dir}
 use Rattle.mdp_rows.specs.declared.dir.Dir.TheVariants.{Max, Min}
 use Rattle.mdp_farkas.specs.declared.verdict.Verdict.{Verdict}
-use Rattle.mdp_farkas.proofs.Holds.{Each, Holds, each_of_yes, yes_of_each, told_of_each, if_yes, each_append, each_left, each_right, each_flat, each_flat_at, each_map, each_map_at, each_if, each_if_true, each_if_false}
+use Rattle.mdp_farkas.proofs.Holds.{Each, Holds, each_of_yes, yes_of_each, told_of_each, if_yes, each_append, each_left, each_right, each_flat, each_flat_at}
+use Rattle.mdp_farkas.proofs.Holds.{each_map, each_map_at, each_if, each_if_true, each_if_false}
 use Rattle.mdp_farkas.proofs.Comparing.{le_of_at_least, at_least_of_le, le_of_at_most, at_most_of_le, same_of_equal, equal_of_same}
-use Rattle.mdp_farkas.proofs.Summing.{summed, told_of_holds}
+use Rattle.mdp_farkas.proofs.Inequalities.{Stands, stands_at_of, of_stands_at}
 
 -- ---- tests
 
@@ -47,28 +50,7 @@ of_no_end true l e = absurd (true≢false e)
 of_no_end false true e = (refl, refl)
 of_no_end false false e = absurd (true≢false e)
 
--- ---- how a value stands to a sum
-
-abbrev pub Stands : Dir → ℚ → ℚ → Type 0
-Stands Max value sum = sum ≤ℚ value
-Stands Min value sum = value ≤ℚ sum
-
-stands_of : (dir : Dir) (x y : ℚ) → stands dir x y ≡ Some true → Stands dir x y
-stands_of Max x y h = le_of_at_least x y h
-stands_of Min x y h = le_of_at_most x y h
-
-of_stands : (dir : Dir) (x y : ℚ) → Stands dir x y → IsSome (stands dir x y) → stands dir x y ≡ Some true
-of_stands Max x y h w = at_least_of_le x y h w
-of_stands Min x y h w = at_most_of_le x y h w
-
-module _ (m : Mdp) (z : List ℚ) where
-  stands_at_of : (dir : Dir) (s c : ℕ) → stands_at dir m z s c ≡ Some true → Stands dir (value_at z s) (row_sum (row_at m s c) z)
-  stands_at_of dir s c h = stands_of dir (value_at z s) (row_sum (row_at m s c) z) (sym (summed (stands dir (value_at z s)) z (row_at m s c) (told_of_holds _ h)) ∙ h)
-
-  of_stands_at : (dir : Dir) (s c : ℕ) → Stands dir (value_at z s) (row_sum (row_at m s c) z) → IsSome (stands_at dir m z s c) → stands_at dir m z s c ≡ Some true
-  of_stands_at dir s c le w =
-      let e = summed (stands dir (value_at z s)) z (row_at m s c) w in
-      e ∙ of_stands dir (value_at z s) (row_sum (row_at m s c) z) le (subst (λ (o : Option Bool). IsSome o) e w)
+-- ---- the checks at a state
 
 module _ (dir : Dir) (m : Mdp) (goals : List Bool) (z : List ℚ) (policy ranks : List ℕ) where
   at : (P : Check → Type 0) (s : ℕ) → Each P (reach_checks dir m goals z policy ranks) → s < states_of m → Each P (reach_at dir m goals z ranks s (slice_index policy s))
@@ -83,11 +65,14 @@ module _ (dir : Dir) (m : Mdp) (goals : List Bool) (z : List ℚ) (policy ranks 
   goal_at : (P : Check → Type 0) (s : ℕ) → is_marked goals s ≡ true → Each P (reach_at dir m goals z ranks s (slice_index policy s)) → P (goal_check z s)
   goal_at P s g h = (each_if_true P (is_marked goals s) (goal_check z s ∷ []) (bound_checks dir m z s ++ policy_check dir m z s (slice_index policy s) ∷ []) g (values_at P s h)).0
 
-  sums_at : (P : Check → Type 0) (s : ℕ) → is_marked goals s ≡ false → Each P (reach_at dir m goals z ranks s (slice_index policy s)) → Each P (bound_checks dir m z s ++ policy_check dir m z s (slice_index policy s) ∷ [])
+  sums_at : (P : Check → Type 0) (s : ℕ) → is_marked goals s ≡ false → Each P (reach_at dir m goals z ranks s (slice_index policy s))
+      → Each P (bound_checks dir m z s ++ policy_check dir m z s (slice_index policy s) ∷ [])
   sums_at P s g h = each_if_false P (is_marked goals s) (goal_check z s ∷ []) (bound_checks dir m z s ++ policy_check dir m z s (slice_index policy s) ∷ []) g (values_at P s h)
 
-  bound_at : (P : Check → Type 0) (s c : ℕ) → is_marked goals s ≡ false → c < length (choices_at m s) → Each P (reach_at dir m goals z ranks s (slice_index policy s)) → P (bound_check dir m z s c)
-  bound_at P s c g i h = each_map_at P (bound_check dir m z s) (length (choices_at m s)) c (each_left P (bound_checks dir m z s) (policy_check dir m z s (slice_index policy s) ∷ []) (sums_at P s g h)) i
+  bound_at : (P : Check → Type 0) (s c : ℕ) → is_marked goals s ≡ false → c < length (choices_at m s) → Each P (reach_at dir m goals z ranks s (slice_index policy s))
+      → P (bound_check dir m z s c)
+  bound_at P s c g i h = each_map_at P (bound_check dir m z s) (length (choices_at m s)) c
+      (each_left P (bound_checks dir m z s) (policy_check dir m z s (slice_index policy s) ∷ []) (sums_at P s g h)) i
 
   policy_at : (P : Check → Type 0) (s : ℕ) → is_marked goals s ≡ false → Each P (reach_at dir m goals z ranks s (slice_index policy s)) → P (policy_check dir m z s (slice_index policy s))
   policy_at P s g h = (each_right P (bound_checks dir m z s) (policy_check dir m z s (slice_index policy s) ∷ []) (sums_at P s g h)).0
@@ -95,7 +80,8 @@ module _ (dir : Dir) (m : Mdp) (goals : List Bool) (z : List ℚ) (policy ranks 
   end_at : (P : Check → Type 0) (s : ℕ) → ends goals z s ≡ true → Each P (reach_at dir m goals z ranks s (slice_index policy s)) → P (rank_check ranks s)
   end_at P s e h = (each_if_true P (ends goals z s) (rank_check ranks s ∷ []) (fall_checks dir m z ranks s (slice_index policy s)) e (ranks_at P s h)).0
 
-  falls_at : (P : Check → Type 0) (s : ℕ) → ends goals z s ≡ false → Each P (reach_at dir m goals z ranks s (slice_index policy s)) → Each P (fall_checks dir m z ranks s (slice_index policy s))
+  falls_at : (P : Check → Type 0) (s : ℕ) → ends goals z s ≡ false → Each P (reach_at dir m goals z ranks s (slice_index policy s))
+      → Each P (fall_checks dir m z ranks s (slice_index policy s))
   falls_at P s e h = each_if_false P (ends goals z s) (rank_check ranks s ∷ []) (fall_checks dir m z ranks s (slice_index policy s)) e (ranks_at P s h)
 
   is_end : (s : ℕ) → (is_marked goals s ≡ true) ⊎ (value_at z s ≡ of_int (pos 0)) → ends goals z s ≡ true
@@ -150,7 +136,8 @@ module _ (dir : Dir) (m : Mdp) (goals : List Bool) (z : List ℚ) (policy ranks 
     ranks_hold =
         each_if Holds (ends goals z s) (rank_check ranks s ∷ []) (fall_checks dir m z ranks s (slice_index policy s))
         (λ e.
-        let zero_at = end s l (⊎_elim (λ g. inl g) (λ n. inr (≤ℚ_antisymm _ _ (le_of_no_test 0ℚ (value_at z s) n) (AreProbabilities.at_least_zero p s l))) (of_end (is_marked goals s) (lt_ℚ 0ℚ (value_at z s)) e)) in
+        let zero_at = end s l (⊎_elim (λ g. inl g) (λ n. inr (≤ℚ_antisymm _ _ (le_of_no_test 0ℚ (value_at z s) n) (AreProbabilities.at_least_zero p s l)))
+        (of_end (is_marked goals s) (lt_ℚ 0ℚ (value_at z s)) e)) in
         (ap Some (eq-eqb (slice_index ranks s) 0 zero_at), tt))
         (λ e. let n = of_no_end (is_marked goals s) (lt_ℚ 0ℚ (value_at z s)) e in falls n.0 (lt_of_test 0ℚ (value_at z s) n.1))
 
@@ -159,20 +146,26 @@ module _ (dir : Dir) (m : Mdp) (goals : List Bool) (z : List ℚ) (policy ranks 
       ap Some (lt-ltb (slice_index policy s) (length (choices_at m s)) choice),
       (
         at_least_of_le (value_at z s) 0ℚ (AreProbabilities.at_least_zero p s l) w.1.0,
-        (at_most_of_le (value_at z s) 1ℚ (AreProbabilities.at_most_one p s l) w.1.1.0, each_append Holds (value_checks dir m goals z s (slice_index policy s)) (rank_checks dir m goals z ranks s (slice_index policy s)) values_hold ranks_hold),
+        (
+          at_most_of_le (value_at z s) 1ℚ (AreProbabilities.at_most_one p s l) w.1.1.0,
+          each_append Holds (value_checks dir m goals z s (slice_index policy s))
+              (rank_checks dir m goals z ranks s (slice_index policy s)) values_hold ranks_hold,
+        ),
       ),
     )
 
 -- ---- each direction
 
 module _ (m : Mdp) (goals : List Bool) (z : List ℚ) (policy ranks : List ℕ) where
-  max_falls : (s c : ℕ) → list_any (λ (y : Entry). leads_down Max z ranks s y.target) (row_at m s c) ≡ true → Any (λ y. (0ℚ <ℚ value_at z y.target) × (slice_index ranks y.target < slice_index ranks s)) (row_at m s c)
+  max_falls : (s c : ℕ) → list_any (λ (y : Entry). leads_down Max z ranks s y.target) (row_at m s c) ≡ true
+      → Any (λ y. (0ℚ <ℚ value_at z y.target) × (slice_index ranks y.target < slice_index ranks s)) (row_at m s c)
   max_falls s c e =
       let a = Any-from_list_any (λ (y : Entry). leads_down Max z ranks s y.target) (row_at m s c) e in
       let b = and-parts (ltb (slice_index ranks (Entry.target a.1)) (slice_index ranks s)) (lt_ℚ 0ℚ (value_at z (Entry.target a.1))) a.4 in
       (a.0, a.1, a.2, a.3, (lt_of_test 0ℚ _ b.1, ltb-true _ _ b.0))
 
-  falls_max : (s c : ℕ) → Any (λ y. (0ℚ <ℚ value_at z y.target) × (slice_index ranks y.target < slice_index ranks s)) (row_at m s c) → list_any (λ (y : Entry). leads_down Max z ranks s y.target) (row_at m s c) ≡ true
+  falls_max : (s c : ℕ) → Any (λ y. (0ℚ <ℚ value_at z y.target) × (slice_index ranks y.target < slice_index ranks s)) (row_at m s c)
+      → list_any (λ (y : Entry). leads_down Max z ranks s y.target) (row_at m s c) ≡ true
   falls_max s c a = list_any-from_Any (λ (y : Entry). leads_down Max z ranks s y.target) (row_at m s c) (a.0, a.1, a.2, a.3, and-both _ _ (lt-ltb _ _ a.4.1) (test_of_lt 0ℚ _ a.4.0))
 
   min_falls : (s c : ℕ) → list_any (λ (y : Entry). leads_down Min z ranks s y.target) (row_at m s c) ≡ true → Any (λ y. slice_index ranks y.target < slice_index ranks s) (row_at m s c)
@@ -199,7 +192,8 @@ module _ (m : Mdp) (goals : List Bool) (z : List ℚ) (policy ranks : List ℕ) 
     falls = λ s c l g p i. min_falls s c (Some_same _ _ (each_map_at Holds (fall_check Min m z ranks s) (length (choices_at m s)) c (falls_of Min m goals z policy ranks each h s l g p) i));
   }
 
-  holds_of_meets : (dir : Dir) (s : ℕ) → s < states_of m → MeetsReach dir m goals z policy ranks → Each InWidth (reach_at dir m goals z ranks s (slice_index policy s)) → Each Holds (reach_at dir m goals z ranks s (slice_index policy s))
+  holds_of_meets : (dir : Dir) (s : ℕ) → s < states_of m → MeetsReach dir m goals z policy ranks → Each InWidth (reach_at dir m goals z ranks s (slice_index policy s))
+      → Each Holds (reach_at dir m goals z ranks s (slice_index policy s))
   holds_of_meets Max s l r w =
       state_holds Max m goals z policy ranks s l w (r.choices.in_range s l) r.probabilities (λ c g i. r.covers s c l g i) (λ g. r.reached s l g) r.ends
       (λ g p. (ap Some (falls_max s (slice_index policy s) (r.falls s l g p)), tt))
@@ -211,19 +205,25 @@ module _ (m : Mdp) (goals : List Bool) (z : List ℚ) (policy ranks : List ℕ) 
   reach_rules dir v each e = (
     (λ yes_.
         let h = each_of_yes (reach_checks dir m goals z policy ranks) (sym e ∙ yes_) in
-        record { rules = meets_of_holds dir each h; in_width = All-from_recursion InWidth (reach_checks dir m goals z policy ranks) (told_of_each (reach_checks dir m goals z policy ranks) h) }),
+        record {
+          rules = meets_of_holds dir each h;
+          in_width = All-from_recursion InWidth (reach_checks dir m goals z policy ranks)
+              (told_of_each (reach_checks dir m goals z policy ranks) h);
+        }),
     (λ is.
         let w = recursion_from_All InWidth (reach_checks dir m goals z policy ranks) is.in_width in
         e ∙ yes_of_each (reach_checks dir m goals z policy ranks)
         (each_flat Holds (λ s. reach_at dir m goals z ranks s (slice_index policy s)) (states_of m) (λ s l. holds_of_meets dir s l is.rules (at dir m goals z policy ranks InWidth s w l)))),
   )
 
-  pub reach_max : (dir : Dir) (v : Verdict) → IsMdp m → length policy ≡ states_of m → v ≡ verdict_of (reach_checks dir m goals z policy ranks) → dir ≡ Max → IfYes v (ReachMax m goals z policy)
+  pub reach_max : (dir : Dir) (v : Verdict) → IsMdp m → length policy ≡ states_of m → v ≡ verdict_of (reach_checks dir m goals z policy ranks) → dir ≡ Max
+      → IfYes v (ReachMax m goals z policy)
   reach_max dir v known each e is =
       if_yes v (ReachMax m goals z policy)
       (λ yes_. reach_max_of_rules m goals z policy ranks known (subst (λ (d : Dir). MeetsReach d m goals z policy ranks) is (IsReach.rules ((reach_rules dir v each e).0 yes_))))
 
-  pub reach_min : (dir : Dir) (v : Verdict) → IsMdp m → length policy ≡ states_of m → v ≡ verdict_of (reach_checks dir m goals z policy ranks) → dir ≡ Min → IfYes v (ReachMin m goals z policy)
+  pub reach_min : (dir : Dir) (v : Verdict) → IsMdp m → length policy ≡ states_of m → v ≡ verdict_of (reach_checks dir m goals z policy ranks) → dir ≡ Min
+      → IfYes v (ReachMin m goals z policy)
   reach_min dir v known each e is =
       if_yes v (ReachMin m goals z policy)
       (λ yes_. reach_min_of_rules m goals z policy ranks known (subst (λ (d : Dir). MeetsReach d m goals z policy ranks) is (IsReach.rules ((reach_rules dir v each e).0 yes_))))

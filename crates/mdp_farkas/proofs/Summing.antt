@@ -24,12 +24,14 @@ written_sum-some z acc (x ∷ row) v e =
     ∙ ap (λ (s : ℚ). s +ℚ row_sum row z) (sum ∙ ap (λ (t : ℚ). acc +ℚ t) product)
     ∙ +ℚ_assoc acc (x.prob *ℚ value_at z x.target) (row_sum row z)
 
-summed_by : (f : ℚ → Option Bool) (z : List ℚ) (row : List Entry) (o : Option ℚ) → o ≡ written_sum z (of_int (pos 0)) row → IsSome (option_and_then f o) → option_and_then f o ≡ f (row_sum row z)
+summed_by : (f : ℚ → Option Bool) (z : List ℚ) (row : List Entry) (o : Option ℚ) → o ≡ written_sum z (of_int (pos 0)) row → IsSome (option_and_then f o)
+    → option_and_then f o ≡ f (row_sum row z)
 summed_by f z row None e h = absurd (true≢false (sym h))
 summed_by f z row (Some v) e h = ap f (written_sum-some z (of_int (pos 0)) row v e ∙ zero-+ℚ (row_sum row z))
 
 -- what is asked of a written sum is asked of the sum
-pub summed : (f : ℚ → Option Bool) (z : List ℚ) (row : List Entry) → IsSome (option_and_then f (written_sum z (of_int (pos 0)) row)) → option_and_then f (written_sum z (of_int (pos 0)) row) ≡ f (row_sum row z)
+pub summed : (f : ℚ → Option Bool) (z : List ℚ) (row : List Entry) → IsSome (option_and_then f (written_sum z (of_int (pos 0)) row))
+    → option_and_then f (written_sum z (of_int (pos 0)) row) ≡ f (row_sum row z)
 summed f z row h = summed_by f z row (written_sum z (of_int (pos 0)) row) refl h
 
 pub told_of_holds : (o : Option Bool) → o ≡ Some true → IsSome o

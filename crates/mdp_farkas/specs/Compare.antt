@@ -1,9 +1,15 @@
 -- Comparisons by written terms: an answer, or nothing where a term is past width.
-use Rattle.std.specs.Prelude.{Bool, true, false, Option, option_map}
+use Rattle.std.specs.Prelude.{Bool, true, false, Option, option_map, pos}
 use Rattle.std.specs.declared.cmp.Ordering.{Ordering}
 use Rattle.std.specs.declared.cmp.Ordering.TheVariants.{Less, Equal, Greater}
-use Rattle.mdp_math.specs.Rational.{ℚ}
+use Rattle.mdp_math.specs.Rational.{ℚ, of_int}
 use Rattle.mdp_math.specs.Written.{written_compare}
+
+abbrev pub 0ℚ : ℚ
+0ℚ = of_int (pos 0)
+
+abbrev pub 1ℚ : ℚ
+1ℚ = of_int (pos 1)
 
 abbrev pub not_less : Ordering → Bool
 not_less Less = false

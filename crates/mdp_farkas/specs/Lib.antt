@@ -1,3 +1,4 @@
+pub mod Bellman
 pub mod Compare
 pub mod Reach
 pub mod Upper

@@ -8,17 +8,16 @@
 --     rule 7   goals and states of value 0 have rank 0
 --     rule 8   at any other state an entry of the policy's row leads to a value above 0 and a smaller rank; for the least probability an
 --              entry of each row leads to a smaller rank
-use Rattle.std.specs.Prelude.{ℕ, Bool, ◌==◌, ◌&&◌, ◌||◌, not, nat_lt, List, [], ◌∷◌, ◌++◌, length, map, slice_index, Option, Some, if◌then◌else◌}
+use Rattle.std.specs.Prelude.{ℕ, Bool, ◌==◌, ◌&&◌, ◌||◌, not, nat_lt, List, [], ◌∷◌, ◌++◌, length, map, slice_index, Some, if◌then◌else◌}
 use Rattle.std.specs.List.{All, flat_map, list_any, range_with_len}
 use Rattle.mdp_math.specs.Rational.{ℚ, lt_ℚ}
-use Rattle.mdp_math.specs.Written.{◌>>=◌}
 use Rattle.mdp_spec.specs.Mdp.{Mdp, states_of, choices_at, row_at, value_at}
-use Rattle.mdp_spec.specs.Written.{written_sum}
 use Rattle.mdp_spec.specs.Tree.{is_marked}
 use Rattle.mdp_spec.specs.Rules.{MeetsReachMax, MeetsReachMin}
-use Rattle.mdp_farkas.specs.Compare.{is_at_least, is_at_most}
-use Rattle.mdp_farkas.specs.Verdict.{Check, InWidth}
-use Rattle.mdp_farkas.specs.Upper.{0ℚ, at_state, at_choice, probability_checks, goal_check}
+use Rattle.mdp_farkas.specs.Compare.{0ℚ}
+use Rattle.mdp_farkas.specs.Verdict.{Check, InWidth, at_state, at_choice}
+use Rattle.mdp_farkas.specs.Bellman.{stands_at, bound_checks}
+use Rattle.mdp_farkas.specs.Upper.{probability_checks, goal_check}
 use Rattle.mdp_rows.specs.declared.dir.Dir.{Dir}
 use Rattle.mdp_rows.specs.declared.dir.Dir.TheVariants.{Max, Min}
 
@@ -26,24 +25,10 @@ use Rattle.mdp_rows.specs.declared.dir.Dir.TheVariants.{Max, Min}
 abbrev pub choice_exists : Mdp → ℕ → ℕ → Check
 choice_exists m s choice = at_choice 2 s choice (Some (nat_lt choice (length (choices_at m s))))
 
--- how a value stands to a sum: at least for Max, at most for Min
-abbrev pub stands : Dir → ℚ → ℚ → Option Bool
-stands Max value sum = is_at_least value sum
-stands Min value sum = is_at_most value sum
-
+-- the other direction
 abbrev pub other : Dir → Dir
 other Max = Min
 other Min = Max
-
-abbrev pub stands_at : Dir → Mdp → List ℚ → ℕ → ℕ → Option Bool
-stands_at dir m z s c = written_sum z 0ℚ (row_at m s c) >>= stands dir (value_at z s)
-
--- rule 5
-abbrev pub bound_check : Dir → Mdp → List ℚ → ℕ → ℕ → Check
-bound_check dir m z s c = at_choice 5 s c (stands_at dir m z s c)
-
-abbrev pub bound_checks : Dir → Mdp → List ℚ → ℕ → List Check
-bound_checks dir m z s = map (bound_check dir m z s) (range_with_len 0 (length (choices_at m s)))
 
 -- rule 6
 abbrev pub policy_check : Dir → Mdp → List ℚ → ℕ → ℕ → Check

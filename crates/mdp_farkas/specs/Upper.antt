@@ -2,29 +2,16 @@
 --     rule 3   the value is from 0 to 1
 --     rule 4   at a goal it is 1
 --     rule 5   at any other state it is at least the sum over each choice's row (Bellman's inequality)
-use Rattle.std.specs.Prelude.{ℕ, Bool, List, [], ◌∷◌, ◌++◌, length, map, Option, Some, None, pos, if◌then◌else◌}
+use Rattle.std.specs.Prelude.{ℕ, Bool, List, [], ◌∷◌, ◌++◌, if◌then◌else◌}
 use Rattle.std.specs.List.{All, flat_map, range_with_len}
-use Rattle.mdp_math.specs.Rational.{ℚ, of_int}
-use Rattle.mdp_math.specs.Written.{◌>>=◌}
-use Rattle.mdp_spec.specs.Mdp.{Mdp, states_of, choices_at, row_at, value_at}
-use Rattle.mdp_spec.specs.Written.{written_sum}
+use Rattle.mdp_math.specs.Rational.{ℚ}
+use Rattle.mdp_spec.specs.Mdp.{Mdp, states_of, value_at}
 use Rattle.mdp_spec.specs.Tree.{is_marked}
 use Rattle.mdp_spec.specs.Rules.{MeetsUpper}
-use Rattle.mdp_farkas.specs.Compare.{is_at_least, is_at_most, is_equal}
-use Rattle.mdp_farkas.specs.Verdict.{Check, InWidth}
-
-abbrev pub 0ℚ : ℚ
-0ℚ = of_int (pos 0)
-
-abbrev pub 1ℚ : ℚ
-1ℚ = of_int (pos 1)
-
--- a check at a state, and one at a choice of a state
-abbrev pub at_state : ℕ → ℕ → Option Bool → Check
-at_state rule s holds = record { rule = rule; state = Some s; choice = None; holds = holds }
-
-abbrev pub at_choice : ℕ → ℕ → ℕ → Option Bool → Check
-at_choice rule s c holds = record { rule = rule; state = Some s; choice = Some c; holds = holds }
+use Rattle.mdp_farkas.specs.Compare.{0ℚ, 1ℚ, is_at_least, is_at_most, is_equal}
+use Rattle.mdp_farkas.specs.Verdict.{Check, InWidth, at_state}
+use Rattle.mdp_farkas.specs.Bellman.{bound_checks}
+use Rattle.mdp_rows.specs.declared.dir.Dir.TheVariants.{Max}
 
 -- rule 3
 abbrev pub probability_checks : List ℚ → ℕ → List Check
@@ -34,18 +21,9 @@ probability_checks z s = at_state 3 s (is_at_least (value_at z s) 0ℚ) ∷ at_s
 abbrev pub goal_check : List ℚ → ℕ → Check
 goal_check z s = at_state 4 s (is_equal (value_at z s) 1ℚ)
 
--- rule 5
-abbrev pub covers : Mdp → List ℚ → ℕ → ℕ → Option Bool
-covers m z s c = written_sum z 0ℚ (row_at m s c) >>= is_at_least (value_at z s)
-
-abbrev pub choice_check : Mdp → List ℚ → ℕ → ℕ → Check
-choice_check m z s c = at_choice 5 s c (covers m z s c)
-
-abbrev pub choice_checks : Mdp → List ℚ → ℕ → List Check
-choice_checks m z s = map (choice_check m z s) (range_with_len 0 (length (choices_at m s)))
-
+-- and rule 5
 abbrev pub upper_at : Mdp → List Bool → List ℚ → ℕ → List Check
-upper_at m goals z s = probability_checks z s ++ (if is_marked goals s then goal_check z s ∷ [] else choice_checks m z s)
+upper_at m goals z s = probability_checks z s ++ (if is_marked goals s then goal_check z s ∷ [] else bound_checks Max m z s)
 
 -- the states ascend, at a state the rules, in a rule the choices
 abbrev pub upper_checks : Mdp → List Bool → List ℚ → List Check

@@ -14,6 +14,13 @@ pub record Check : Type 0 where
   pub choice : Option ℕ
   pub holds : Option Bool
 
+-- a check at a state, and one at a choice of a state
+abbrev pub at_state : ℕ → ℕ → Option Bool → Check
+at_state rule s holds = record { rule = rule; state = Some s; choice = None; holds = holds }
+
+abbrev pub at_choice : ℕ → ℕ → ℕ → Option Bool → Check
+at_choice rule s c holds = record { rule = rule; state = Some s; choice = Some c; holds = holds }
+
 -- what stands against a check
 abbrev pub objection : Check → Option Bool → Result (Unit {0}) Objection
 objection c None = Err (PastWidth c.state c.choice)

@@ -2,6 +2,7 @@
 //! first written term past width.
 #![tactic(auto)]
 
+mod bellman;
 mod compare;
 mod ranks;
 mod reach;

@@ -3,7 +3,7 @@ ghost use Rattle.std.specs.List.{list_any};
 ghost use Rattle.mdp_math.specs.Rational.{lt_ℚ};
 ghost use Rattle.mdp_spec.specs.Mdp.{states_of, choices_at, row_at};
 ghost use Rattle.mdp_spec.specs.Row.{entries};
-ghost use Rattle.mdp_farkas.specs.Upper.{0ℚ};
+ghost use Rattle.mdp_farkas.specs.Compare.{0ℚ};
 ghost use Rattle.mdp_farkas.specs.Reach.{ends, leads_down, rank_check, fall_check, fall_checks, rank_checks};
 ghost use Rattle.mdp_farkas.specs.Verdict.{objection_to};
 ghost use Rattle.mdp_rows.specs.declared.dir.Dir.TheVariants.{Min};
@@ -59,7 +59,14 @@ fn row_leads_on(row: Row<'_>, dir: Dir, values: &[Frac], ranks: &[u32], s: u32) 
 }
 
 /// An entry of the row of choice `c` leads on from state `s`.
-fn fall_at(model: &Model, dir: Dir, values: &[Frac], ranks: &[u32], s: u32, c: u32) -> Result<(), Objection>
+fn fall_at(
+    model: &Model,
+    dir: Dir,
+    values: &[Frac],
+    ranks: &[u32],
+    s: u32,
+    c: u32,
+) -> Result<(), Objection>
     requires values { length values.now ≡ states_of model.now }
     requires ranks { length ranks.now ≡ states_of model.now }
     requires state { s < states_of model.now }

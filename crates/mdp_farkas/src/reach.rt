@@ -1,17 +1,16 @@
 ghost use Rattle.std.specs.Prelude.{◌≡◌, ◌<◌, ◌↔◌, length, [], ◌∷◌, slice_index};
-ghost use Rattle.std.specs.Result.{result_ok};
 ghost use Rattle.mdp_spec.specs.Mdp.{states_of, choices_at};
-ghost use Rattle.mdp_farkas.specs.Reach.{choice_exists, other, stands_at, bound_check, bound_checks, policy_check, value_checks, reach_at, reach_checks, IsReach};
+ghost use Rattle.mdp_farkas.specs.Reach.{choice_exists, other, policy_check, value_checks, reach_at, reach_checks, IsReach};
 ghost use Rattle.mdp_farkas.specs.Verdict.{objection_to, verdict_of, IsYes, IfYes};
 ghost use Rattle.mdp_rows.specs.declared.dir.Dir.TheVariants.{Max, Min};
 ghost use Rattle.mdp_spec.specs.Bounds.{ReachMax, ReachMin};
 
-use crate::compare::{at_least, at_most};
+use crate::bellman::{bounds_at_state, row_stands};
 use crate::ranks::rank_at_state;
 use crate::upper::{goal_at, probability_at};
 use crate::verdict::{Objection, Verdict, judged, verdict_after};
 use crate::walk::each_below;
-use mdp_num::{Frac, Wide};
+use mdp_num::Frac;
 use mdp_rows::{Dir, Marks, Model};
 
 /// Values, a memoryless policy and ranks that are said to be the greatest or the least probabilities of reaching a goal: one per state.
@@ -40,32 +39,14 @@ fn choice_at(model: &Model, s: u32, choice: u32) -> Result<(), Objection>
     judged(Ok(choice < model.choices(s)), 2, s, Some(choice))
 }
 
-/// Whether the value of state `s` is at least, or for the least probability at most, the sum over the row of its choice `c`.
-fn row_stands(model: &Model, dir: Dir, values: &[Frac], s: u32, c: u32) -> Result<bool, Wide>
-    requires values { length values.now ≡ states_of model.now }
-    requires state { s < states_of model.now }
-    requires choice { c < length (choices_at model.now s) }
-    ensures { result_ok result ≡ stands_at dir model.now values.now s c }
-{
-    let sum = model.row(s, c).sum(&Frac::whole(0), values)?;
-    match dir {
-        Dir::Max => at_least(&values[s as usize], &sum),
-        Dir::Min => at_most(&values[s as usize], &sum),
-    }
-}
-
-/// Bellman's inequality at state `s` and its choice `c`: the value is at least, or for the least probability at most, the sum over the row.
-fn bound_at(model: &Model, dir: Dir, values: &[Frac], s: u32, c: u32) -> Result<(), Objection>
-    requires values { length values.now ≡ states_of model.now }
-    requires state { s < states_of model.now }
-    requires choice { c < length (choices_at model.now s) }
-    ensures { result ≡ objection_to (bound_check dir model.now values.now s c ∷ []) }
-{
-    judged(row_stands(model, dir, values, s, c), 5, s, Some(c))
-}
-
-/// The inequality the other way round, for the choice of the policy.
-fn policy_meets(model: &Model, dir: Dir, values: &[Frac], s: u32, choice: u32) -> Result<(), Objection>
+/// Bellman's inequality the other way round, for the choice of the policy.
+fn policy_meets(
+    model: &Model,
+    dir: Dir,
+    values: &[Frac],
+    s: u32,
+    choice: u32,
+) -> Result<(), Objection>
     requires values { length values.now ≡ states_of model.now }
     requires state { s < states_of model.now }
     requires choice { choice < length (choices_at model.now s) }
@@ -77,15 +58,6 @@ fn policy_meets(model: &Model, dir: Dir, values: &[Frac], s: u32, choice: u32) -
         s,
         Some(choice),
     )
-}
-
-/// The inequality at each choice of state `s`.
-fn bounds_at_state(model: &Model, dir: Dir, values: &[Frac], s: u32) -> Result<(), Objection>
-    requires values { length values.now ≡ states_of model.now }
-    requires state { s < states_of model.now }
-    ensures { result ≡ objection_to (bound_checks dir model.now values.now s) }
-{
-    each_below(model.choices(s), |c| bound_at(model, dir, values, s, c))
 }
 
 /// The value of state `s` is 1 at a goal; else Bellman's inequality holds, and for the policy's choice the other way round too.

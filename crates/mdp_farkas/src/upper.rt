@@ -1,15 +1,15 @@
 ghost use Rattle.std.specs.Prelude.{◌≡◌, ◌<◌, ◌↔◌, length, [], ◌∷◌};
-ghost use Rattle.std.specs.Result.{result_ok};
-ghost use Rattle.mdp_spec.specs.Mdp.{states_of, choices_at};
-ghost use Rattle.mdp_farkas.specs.Upper.{covers, probability_checks, goal_check, choice_check, choice_checks, upper_at, upper_checks, IsUpper};
+ghost use Rattle.mdp_spec.specs.Mdp.{states_of};
+ghost use Rattle.mdp_farkas.specs.Upper.{probability_checks, goal_check, upper_at, upper_checks, IsUpper};
 ghost use Rattle.mdp_farkas.specs.Verdict.{objection_to, verdict_of, IsYes, IfYes};
 ghost use Rattle.mdp_spec.specs.Bounds.{Above};
 
+use crate::bellman::bounds_at_state;
 use crate::compare::{at_least, at_most, equal};
 use crate::verdict::{Objection, Verdict, judged, verdict_after};
 use crate::walk::each_below;
-use mdp_num::{Frac, Wide};
-use mdp_rows::{Marks, Model};
+use mdp_num::Frac;
+use mdp_rows::{Dir, Marks, Model};
 
 /// Values that are said to bound the probability of reaching a goal from above: one per state.
 #[derive(Debug, Drop)]
@@ -35,36 +35,6 @@ pub(crate) fn goal_at(values: &[Frac], s: u32) -> Result<(), Objection>
     judged(equal(&values[s as usize], &Frac::whole(1)), 4, s, None)
 }
 
-/// Whether the value of state `s` is at least the sum over the row of its choice `c`.
-fn row_is_covered(model: &Model, values: &[Frac], s: u32, c: u32) -> Result<bool, Wide>
-    requires values { length values.now ≡ states_of model.now }
-    requires state { s < states_of model.now }
-    requires choice { c < length (choices_at model.now s) }
-    ensures { result_ok result ≡ covers model.now values.now s c }
-{
-    let sum = model.row(s, c).sum(&Frac::whole(0), values)?;
-    at_least(&values[s as usize], &sum)
-}
-
-/// Bellman's inequality at state `s` and its choice `c`: the value is at least the sum over the row.
-fn choice_is_covered(model: &Model, values: &[Frac], s: u32, c: u32) -> Result<(), Objection>
-    requires values { length values.now ≡ states_of model.now }
-    requires state { s < states_of model.now }
-    requires choice { c < length (choices_at model.now s) }
-    ensures { result ≡ objection_to (choice_check model.now values.now s c ∷ []) }
-{
-    judged(row_is_covered(model, values, s, c), 5, s, Some(c))
-}
-
-/// The same at each choice of state `s`.
-fn choices_at_state(model: &Model, values: &[Frac], s: u32) -> Result<(), Objection>
-    requires values { length values.now ≡ states_of model.now }
-    requires state { s < states_of model.now }
-    ensures { result ≡ objection_to (choice_checks model.now values.now s) }
-{
-    each_below(model.choices(s), |c| choice_is_covered(model, values, s, c))
-}
-
 /// The rules at state `s`.
 fn upper_at_state(model: &Model, goals: &Marks, values: &[Frac], s: u32) -> Result<(), Objection>
     requires goals { length goals.now ≡ states_of model.now }
@@ -76,7 +46,7 @@ fn upper_at_state(model: &Model, goals: &Marks, values: &[Frac], s: u32) -> Resu
     if goals.at(s) {
         goal_at(values, s)
     } else {
-        choices_at_state(model, values, s)
+        bounds_at_state(model, Dir::Max, values, s)
     }
 }
 

@@ -27,8 +27,8 @@ pub enum Verdict {
 }
 
 /// What stands against a certificate: it ends the walk over its rules.
-#[derive(Clone, Copy, Debug, PartialEq, Eq)]
-pub enum Objection {
+#[derive(Clone, Copy)]
+pub(crate) enum Objection {
     /// A rule is false.
     Broken(Fault),
     /// A written term is past width.

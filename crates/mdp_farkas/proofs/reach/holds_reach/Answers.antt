@@ -11,7 +11,8 @@ returns c =
     let z = c.args.cert.now.values.items in
     let policy = c.args.cert.now.choices.items in
     let ranks = c.args.cert.now.ranks.items in
-    let e : c.verdict_after.result ≡ verdict_of (reach_checks c.args.dir c.args.model.now c.args.goals.now c.args.cert.now.values.items c.args.cert.now.choices.items c.args.cert.now.ranks.items) =
+    let e : c.verdict_after.result ≡ verdict_of
+    (reach_checks c.args.dir c.args.model.now c.args.goals.now c.args.cert.now.values.items c.args.cert.now.choices.items c.args.cert.now.ranks.items) =
     c.verdict_after.ensures
     ∙ ap verdict c.reach_at_states-walk.ensures
     ∙ ap (λ z. verdict_of (reach_checks c.args.dir c.args.model.now c.args.goals.now z c.as_slice-2.result.now c.as_slice-3.result.now)) c.as_slice.ensures.value

@@ -1,7 +1,8 @@
 use Rattle.std.proofs.Common.{[], ◌∷◌, ◌++◌, List, sym, ◌∙◌}
 use Rattle.std.proofs.lemmas.Result.{err_from_is_err_and}
 use Rattle.mdp_farkas.specs.Upper.{goal_check}
-use Rattle.mdp_farkas.specs.Reach.{bound_checks, policy_check}
+use Rattle.mdp_farkas.specs.Bellman.{bound_checks}
+use Rattle.mdp_farkas.specs.Reach.{policy_check}
 use Rattle.mdp_farkas.specs.Verdict.{Check}
 use Rattle.mdp_farkas.proofs.Objections.{halts, goes_on, by_test}
 use Rattle.mdp_farkas.proofs.reach.value_at_state.Goals as goal

@@ -1,0 +1,32 @@
+-- What Bellman's inequality by written operations says of the numbers.
+use Rattle.std.proofs.Common.{◌≡◌, ℕ, Bool, true, List, Option, Some, sym, subst, ◌∙◌}
+use Rattle.std.specs.Option.{IsSome}
+use Rattle.mdp_math.specs.Rational.{ℚ, ◌≤ℚ◌}
+use Rattle.mdp_spec.specs.Mdp.{Mdp, row_at, value_at}
+use Rattle.mdp_spec.specs.Row.{row_sum}
+use Rattle.mdp_farkas.specs.Bellman.{stands, stands_at}
+use Rattle.mdp_rows.specs.declared.dir.Dir.{Dir}
+use Rattle.mdp_rows.specs.declared.dir.Dir.TheVariants.{Max, Min}
+use Rattle.mdp_farkas.proofs.Comparing.{le_of_at_least, at_least_of_le, le_of_at_most, at_most_of_le}
+use Rattle.mdp_farkas.proofs.Summing.{summed, told_of_holds}
+
+abbrev pub Stands : Dir → ℚ → ℚ → Type 0
+Stands Max value sum = sum ≤ℚ value
+Stands Min value sum = value ≤ℚ sum
+
+stands_of : (dir : Dir) (x y : ℚ) → stands dir x y ≡ Some true → Stands dir x y
+stands_of Max x y h = le_of_at_least x y h
+stands_of Min x y h = le_of_at_most x y h
+
+of_stands : (dir : Dir) (x y : ℚ) → Stands dir x y → IsSome (stands dir x y) → stands dir x y ≡ Some true
+of_stands Max x y h w = at_least_of_le x y h w
+of_stands Min x y h w = at_most_of_le x y h w
+
+module _ (m : Mdp) (z : List ℚ) where
+  pub stands_at_of : (dir : Dir) (s c : ℕ) → stands_at dir m z s c ≡ Some true → Stands dir (value_at z s) (row_sum (row_at m s c) z)
+  stands_at_of dir s c h = stands_of dir (value_at z s) (row_sum (row_at m s c) z) (sym (summed (stands dir (value_at z s)) z (row_at m s c) (told_of_holds _ h)) ∙ h)
+
+  pub of_stands_at : (dir : Dir) (s c : ℕ) → Stands dir (value_at z s) (row_sum (row_at m s c) z) → IsSome (stands_at dir m z s c) → stands_at dir m z s c ≡ Some true
+  of_stands_at dir s c le w =
+      let e = summed (stands dir (value_at z s)) z (row_at m s c) w in
+      e ∙ of_stands dir (value_at z s) (row_sum (row_at m s c) z) le (subst (λ (o : Option Bool). IsSome o) e w)
