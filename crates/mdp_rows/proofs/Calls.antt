@@ -4,7 +4,6 @@ pub mod Closes
 pub mod Kept
 pub mod Opens
 pub mod Steps
-
 use Rattle.std.proofs.Common.{◌≡◌, Option, Some, None, refl, sym, subst, ◌∙◌}
 use Rattle.std.specs.Prelude.{Result, Ok, Err, OnOk}
 use Rattle.std.specs.Option.{IfSome}
@@ -13,7 +12,8 @@ use Rattle.mdp_rows.specs.Sound.{IsSound, IsGood}
 use Rattle.mdp_rows.specs.declared.error.RowsError.{RowsError}
 
 -- a builder that answers Ok hasn't refused before
-unrefused_before : (u : Unit {0}) (old new : Draft) (o : Option RowsError) → old.refused ≡ o → IfSome o (λ e. ((let r : Result (Unit {0}) RowsError = Ok u in r) ≡ Err e) × (new ≡ old)) → IsUnrefused old
+unrefused_before : (u : Unit {0}) (old new : Draft) (o : Option RowsError) → old.refused ≡ o → IfSome o (λ e. ((let r : Result (Unit {0}) RowsError = Ok u in r) ≡ Err e) × (new ≡ old))
+    → IsUnrefused old
 unrefused_before u old new None is again = is
 unrefused_before u old new (Some e) is again = absurd (let k = again.0 in cc)
 

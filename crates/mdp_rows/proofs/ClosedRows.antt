@@ -3,7 +3,6 @@ pub mod Denominators
 pub mod Parts
 pub mod Scaling
 pub mod Within
-
 use Rattle.std.proofs.Common.{◌≡◌, ◌≢◌, ℕ, ◌+◌, ◌*◌, ◌/◌, ◌<◌, ◌≤◌, Bool, true, false, ◌&&◌, T, lt-ltb, le-ltb, eqb, eq-eqb, List, pos, refl, sym, ap, subst, ◌∙◌, arith, if◌then◌else◌}
 use Rattle.std.specs.Prelude.{Result, Ok, Err}
 use Rattle.mdp_math.specs.Rational.{ℚ, ratio, le_ℚ, ◌≤ℚ◌}
@@ -144,7 +143,8 @@ module _ (s c : ℕ) (row : List Given) (d n : ℕ) (is : IsSummed row d n) wher
   refused_wide h w = scaled-near s c (row_of row) (Err (RowWide s c)) is.within (is_near h) (too_wide s c (scaled_row (row_of row)) w)
 
 -- a sum above 2
-pub refused_past : (rule : RowRule) (s c : ℕ) (row : List Given) (d : ℕ) → d ≡ row_den (row_of row) → row_den (row_of row) ≤ limit → 2 * d < parts d row → closed_row rule s c (row_of row) ≡ Err (RowSum s c)
+pub refused_past : (rule : RowRule) (s c : ℕ) (row : List Given) (d : ℕ) → d ≡ row_den (row_of row) → row_den (row_of row) ≤ limit → 2 * d < parts d row
+    → closed_row rule s c (row_of row) ≡ Err (RowSum s c)
 refused_past Exact s c row d e w h = refused_exact s c row d (parts d row) (record { common = e; within = w; sum = refl }) (λ z. omega arith)
 refused_past Scaled s c row d e w h =
     let k : 0 < d = rw e (row_den-pos (row_of row)) in

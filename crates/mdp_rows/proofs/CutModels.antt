@@ -1,6 +1,5 @@
 -- A subsystem of a model is a model.
 pub mod Handing
-
 use Rattle.std.proofs.Common.{◌≡◌, ℕ, zero, suc, ◌+◌, ◌≤◌, ◌<◌, ◌^◌, Bool, true, false, ◌||◌, ◌&&◌, le-leb, List, [], ◌∷◌, length, map, drop, get_or, pos, refl, sym, ap, subst, ◌∙◌, arith}
 use Rattle.std.specs.List.{All, AllByRecursion}
 use Rattle.std.proofs.lemmas.Int.{ints}
@@ -141,7 +140,8 @@ module _ (names : List (List ℕ)) (stays : ℕ → Bool) where
       ap (λ (ls : List ℕ). all_below (known_after n ls) ls && in_order_of_sight (known_after n ls) (cut_from names (suc s) states stays) total) (same_labels names s x (stays s))
       ∙ ap (λ (b : Bool). all_below (known_after n x.labels) x.labels && b) (sight-cut (suc s) (known_after n x.labels) total states)
 
-  closed-cut : (n s : ℕ) (states : List State) → s + length states ≤ n → AllByRecursion (IsClosedState n (length names)) states → AllByRecursion (IsClosedState n (length names)) (cut_from names s states stays)
+  closed-cut : (n s : ℕ) (states : List State) → s + length states ≤ n → AllByRecursion (IsClosedState n (length names)) states
+      → AllByRecursion (IsClosedState n (length names)) (cut_from names s states stays)
   closed-cut n s [] h all = tt
   closed-cut n s (x ∷ states) h all = (closed_state n names s x (stays s) (omega arith) all.0, closed-cut n (suc s) states (omega arith) all.1)
 
@@ -221,7 +221,8 @@ sub_at m goals kept s h =
     let stays : ℕ → Bool = λ i. is_marked goals i || is_marked kept i in
     let n : length (cut_from m.names 0 m.states stays) ≡ length m.states = length-cut m.names stays 0 m.states in
     drop_more (cut_from m.names 0 m.states stays) s no_state (omega (arith, n, h))
-    ∙ ap (λ (x : State). x ∷ drop (s + 1) (cut_from m.names 0 m.states stays)) (cut_at m.names stays 0 s m.states no_state h ∙ ap (λ (i : ℕ). cut_state m.names i (state_at m s) (stays i)) (let e : 0 + s ≡ s = omega arith in e))
+    ∙ ap (λ (x : State). x ∷ drop (s + 1) (cut_from m.names 0 m.states stays))
+    (cut_at m.names stays 0 s m.states no_state h ∙ ap (λ (i : ℕ). cut_state m.names i (state_at m s) (stays i)) (let e : 0 + s ≡ s = omega arith in e))
 
 pub sub_end : (m : Mdp) (goals kept : List Bool) (s : ℕ) → states_of m ≤ s → drop s (Mdp.states (sub_of m goals kept)) ≡ []
 unfolding sub_of
@@ -231,7 +232,8 @@ sub_end m goals kept s h =
     drop_all s (cut_from m.names 0 m.states stays) (omega (arith, n, h))
 
 -- what a builder ends as that was given all of the subsystem's states
-pub sub_comes_out : (m : Mdp) (goals kept : List Bool) (d : Draft) (cut : Mdp) → IsModel m → with_states m.names m.labels (Mdp.states (sub_of m goals kept)) (new_draft (states_of m) Exact m.names) ≡ Ok d
+pub sub_comes_out : (m : Mdp) (goals kept : List Bool) (d : Draft) (cut : Mdp) → IsModel m
+    → with_states m.names m.labels (Mdp.states (sub_of m goals kept)) (new_draft (states_of m) Exact m.names) ≡ Ok d
     → after_finish d ≡ Ok cut → cut ≡ sub_of m goals kept
 unfolding sub_of
 sub_comes_out m goals kept d cut ok given ends =

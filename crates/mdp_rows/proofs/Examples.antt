@@ -1,7 +1,6 @@
 -- Drafts made call by call, and what is refused, computed.
 pub mod Cut
 pub mod Words
-
 use Rattle.std.proofs.Common.{◌≡◌, ℕ, zero, suc, ◌<◌, arith, length, true, false, List, [], ◌∷◌, Some, None, refl, pos, neg_ℤ}
 use Rattle.std.specs.Prelude.{Result, Ok, Err}
 use Rattle.std.specs.List.{All, concat}
@@ -290,7 +289,8 @@ eight = 1 ∷ 2 ∷ 3 ∷ 4 ∷ 5 ∷ 6 ∷ 7 ∷ 8 ∷ []
 abbrev times_64 : List ℕ
 times_64 = concat (eight ∷ eight ∷ eight ∷ eight ∷ eight ∷ eight ∷ eight ∷ eight ∷ [])
 
-often-label : (draft 1 Exact >>= state 0ℚ >>= label_often times_64) ≡ Ok (record (new_draft 1 Exact (cost ∷ [])) { labels = init ∷ []; state = Some (record { rewards = 0ℚ ∷ []; labels = 0 ∷ []; label_calls = 64; choices = []; choice = None }) })
+often-label : (draft 1 Exact >>= state 0ℚ >>= label_often times_64) ≡ Ok
+    (record (new_draft 1 Exact (cost ∷ [])) { labels = init ∷ []; state = Some (record { rewards = 0ℚ ∷ []; labels = 0 ∷ []; label_calls = 64; choices = []; choice = None }) })
 often-label = refl
 
 too-often : (draft 1 Exact >>= state 0ℚ >>= label_often times_64 >>= label init) ≡ Err TooMany

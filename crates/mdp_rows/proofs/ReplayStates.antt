@@ -2,8 +2,8 @@
 pub mod Labels
 pub mod Rewards
 pub mod Rows
-
-use Rattle.std.proofs.Common.{◌≡◌, ℕ, ◌+◌, ◌≤◌, ◌<◌, ◌^◌, Bool, IsTrue, le-ltb, eq-eqb, List, [], ◌∷◌, ◌++◌, length, take, sum_by, get_or, Some, None, refl, sym, ap, ap₂, ◌∙◌, subst, arith, if◌then◌else◌, append_assoc, append-nil, length-append}
+use Rattle.std.proofs.Common.{◌≡◌, ℕ, ◌+◌, ◌≤◌, ◌<◌, ◌^◌, Bool, IsTrue, le-ltb, eq-eqb, List, [], ◌∷◌, ◌++◌, length, take, sum_by, get_or, Some, None, refl, sym, ap, ap₂}
+use Rattle.std.proofs.Common.{◌∙◌, subst, arith, if◌then◌else◌, append_assoc, append-nil, length-append}
 use Rattle.std.specs.Prelude.{Result, Ok, Err}
 use Rattle.std.specs.List.{All, AllByRecursion}
 use Rattle.std.proofs.lemmas.Bool.{ne_eqb}
@@ -45,12 +45,14 @@ module _ (announced : ℕ) (names labels : List (List ℕ)) (closed : List State
 
   abbrev opened : List Choice → List ℚ → List Entry → ℕ → Draft
   opened choices rewards row entries =
-      draft_of announced names labels closed (Some (record { rewards = no_rewards names; labels = places; label_calls = calls; choices = choices; choice = Some (record { rewards = rewards; row = row }) })) entries
+      draft_of announced names labels closed (Some (record
+      { rewards = no_rewards names; labels = places; label_calls = calls; choices = choices; choice = Some (record { rewards = rewards; row = row }) })) entries
 
   open_one : (done : List Choice) (c : Choice) (entries : ℕ) → choice_count closed + length done + 1 ≤ 2 ^ 22 → IsChoiceOf announced (length names) c
       → choice_opened (between done entries) c.rewards ≡ Ok (opened done c.rewards [] entries)
   open_one done c entries few ok =
-      ap (λ (b : Bool). if b then Err TooMany else (summed_rewards (no_rewards names) c.rewards >>= λ sums. Ok (opened done sums [] entries))) (le-ltb (2 ^ 22) (choice_count closed + length done + 1) few)
+      ap (λ (b : Bool). if b then Err TooMany else (summed_rewards (no_rewards names) c.rewards >>= λ sums. Ok (opened done sums [] entries)))
+      (le-ltb (2 ^ 22) (choice_count closed + length done + 1) few)
       ∙ ap (λ (r : Result (List ℚ) RowsError). r >>= λ sums. Ok (opened done sums [] entries))
       (summed-zeros names c.rewards ok.within.rewards (recursion_from_All HasSmallTerms c.rewards ok.within.terms))
 
@@ -101,13 +103,15 @@ module _ (announced : ℕ) (names labels : List (List ℕ)) (different : IsTrue 
   open_state closed n entries h =
       ap (λ (b : Bool). if b then Err Count else Ok (labelled closed n [] 0 entries)) (ne_eqb (length closed) announced (λ e. omega arith))
 
-  label_state : (closed : List State) (n entries : ℕ) (x : State) → IsStateWithin (length names) x → IsTrue (all_below (known_after n x.labels) x.labels) → n ≤ length labels → known_after n x.labels ≤ length labels
+  label_state : (closed : List State) (n entries : ℕ) (x : State) → IsStateWithin (length names) x → IsTrue (all_below (known_after n x.labels) x.labels) → n ≤ length labels
+      → known_after n x.labels ≤ length labels
       → with_labels labels x.labels (labelled closed n [] 0 entries) ≡ Ok (labelled closed (known_after n x.labels) x.labels (0 + length x.labels) entries)
   label_state closed n entries x ok below h k =
       all_labels announced names labels closed (record { rewards = no_rewards names; labels = []; label_calls = 0; choices = []; choice = None }) entries different few_labels n [] x.labels 0
       ok.ascending below h k (let f = ok.few_labels in omega (arith, f))
 
-  close_state : (closed : List State) (n calls entries : ℕ) (x : State) → 0 < length x.choices → state_closed (between announced names (take n labels) closed x.labels calls x.choices entries) ≡ Ok (so_far (closed ++ x ∷ []) n entries)
+  close_state : (closed : List State) (n calls entries : ℕ) (x : State) → 0 < length x.choices
+      → state_closed (between announced names (take n labels) closed x.labels calls x.choices entries) ≡ Ok (so_far (closed ++ x ∷ []) n entries)
   close_state closed n calls entries x h =
       ap (λ (b : Bool). if b then Err (NoChoice (length closed)) else Ok (so_far (closed ++ x ∷ []) n entries)) (ne_eqb (length x.choices) 0 (λ e. omega arith))
 
@@ -116,8 +120,10 @@ module _ (announced : ℕ) (names labels : List (List ℕ)) (different : IsTrue 
 
   -- one state, and its closing
   one_state : (now : Draft) (closed : List State) (n entries : ℕ) (x : State) → all_closed now ≡ Ok (so_far closed n entries) → IsClosedState announced (length names) x → length closed < announced
-      → IsTrue (all_below (known_after n x.labels) x.labels) → n ≤ length labels → known_after n x.labels ≤ length labels → choice_count closed + length x.choices ≤ 2 ^ 22 → entries + row_count x.choices ≤ 2 ^ 24
-      → (last : Draft) × ((states : List State) → with_states names labels (x ∷ states) now ≡ with_states names labels states last) × (all_closed last ≡ Ok (so_far (closed ++ x ∷ []) (known_after n x.labels) (entries + row_count x.choices)))
+      → IsTrue (all_below (known_after n x.labels) x.labels) → n ≤ length labels → known_after n x.labels ≤ length labels → choice_count closed + length x.choices ≤ 2 ^ 22
+      → entries + row_count x.choices ≤ 2 ^ 24
+      → (last : Draft) × ((states : List State) → with_states names labels (x ∷ states) now ≡ with_states names labels states last) × (all_closed last ≡ Ok
+      (so_far (closed ++ x ∷ []) (known_after n x.labels) (entries + row_count x.choices)))
   one_state now closed n entries x e ok room below h k few fits =
       let opens : after_state now (no_rewards names) ≡ Ok (labelled closed n [] 0 entries) =
       ap (λ (r : Result Draft RowsError). r >>= λ closed. state_opened closed (no_rewards names)) e ∙ open_state closed n entries room
@@ -135,10 +141,12 @@ module _ (announced : ℕ) (names labels : List (List ℕ)) (different : IsTrue 
 
   -- one state, and the others after it
   joined : (now mid : Draft) (x : State) (rest : List State) (to same : Draft) → with_states names labels (x ∷ rest) now ≡ with_states names labels rest mid
-      → (last : Draft) × (with_states names labels rest mid ≡ Ok last) × (all_closed last ≡ Ok to) → to ≡ same → (last : Draft) × (with_states names labels (x ∷ rest) now ≡ Ok last) × (all_closed last ≡ Ok same)
+      → (last : Draft) × (with_states names labels rest mid ≡ Ok last) × (all_closed last ≡ Ok to) → to ≡ same
+      → (last : Draft) × (with_states names labels (x ∷ rest) now ≡ Ok last) × (all_closed last ≡ Ok same)
   joined now mid x rest to same first next e = (next.0, first ∙ next.1, next.2 ∙ ap (λ (d : Draft). Ok d) e)
 
-  all_states : (now : Draft) (closed rest : List State) (n entries : ℕ) → all_closed now ≡ Ok (so_far closed n entries) → AllByRecursion (IsClosedState announced (length names)) rest → length closed + length rest ≤ announced
+  all_states : (now : Draft) (closed rest : List State) (n entries : ℕ) → all_closed now ≡ Ok (so_far closed n entries) → AllByRecursion (IsClosedState announced (length names)) rest
+      → length closed + length rest ≤ announced
       → IsTrue (in_order_of_sight n rest (length labels)) → n ≤ length labels → choice_count closed + choice_count rest ≤ 2 ^ 22 → entries + entry_count rest ≤ 2 ^ 24
       → (last : Draft) × (with_states names labels rest now ≡ Ok last) × (all_closed last ≡ Ok (so_far (closed ++ rest) (known_by n rest) (entries + entry_count rest)))
   all_states now closed [] n entries e all room sight h few fits =
@@ -155,7 +163,8 @@ module _ (announced : ℕ) (names labels : List (List ℕ)) (different : IsTrue 
       in
       let one = one_state now closed n entries x e all.0 (omega arith) below h k (omega arith) (omega arith) in
       let next = all_states one.0 (closed ++ x ∷ []) rest (known_after n x.labels) (entries + row_count x.choices) one.2 all.1 (omega arith) later k (omega arith) (omega arith) in
-      joined now one.0 x rest (so_far ((closed ++ x ∷ []) ++ rest) (known_by n (x ∷ rest)) (entries + row_count x.choices + entry_count rest)) (so_far (closed ++ x ∷ rest) (known_by n (x ∷ rest)) (entries + entry_count (x ∷ rest))) (one.1 rest) next
+      joined now one.0 x rest (so_far ((closed ++ x ∷ []) ++ rest) (known_by n (x ∷ rest)) (entries + row_count x.choices + entry_count rest))
+      (so_far (closed ++ x ∷ rest) (known_by n (x ∷ rest)) (entries + entry_count (x ∷ rest))) (one.1 rest) next
       (ap₂ (λ (xs : List State) (i : ℕ). so_far xs (known_by n (x ∷ rest)) i) (append_assoc closed (x ∷ []) rest) (omega arith))
 
 -- ---- the model
@@ -183,5 +192,6 @@ is_replayed m ok =
     in
     ap (λ (r : Result Draft RowsError). r >>= after_finish) s.1
     ∙ ap (λ (r : Result Draft RowsError). r >>= finished) s.2
-    ∙ ap (λ (b : Bool). if b then Ok (let v : Mdp = record { names = m.names; labels = take (known_by 0 m.states) m.labels; states = m.states } in v) else Err Count) (eq-eqb (length m.states) (states_of m) refl)
+    ∙ ap (λ (b : Bool). if b then Ok (let v : Mdp = record { names = m.names; labels = take (known_by 0 m.states) m.labels; states = m.states } in v) else Err Count)
+    (eq-eqb (length m.states) (states_of m) refl)
     ∙ ap (λ (ls : List (List ℕ)). Ok (let v : Mdp = record { names = m.names; labels = ls; states = m.states } in v)) (ap (λ (k : ℕ). take k m.labels) known ∙ take-length m.labels)

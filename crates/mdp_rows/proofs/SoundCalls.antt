@@ -4,8 +4,8 @@ pub mod Labels
 pub mod Names
 pub mod Rewards
 pub mod Rows
-
-use Rattle.std.proofs.Common.{◌≡◌, ℕ, ◌+◌, ◌≤◌, ◌<◌, ◌^◌, Bool, true, false, ◌||◌, IsTrue, leb, ltb, eqb, eqb→eq, T, List, [], ◌∷◌, ◌++◌, length, sum_by, Option, Some, None, refl, sym, ap, subst, arith, if◌then◌else◌, length-append, append-nil}
+use Rattle.std.proofs.Common.{◌≡◌, ℕ, ◌+◌, ◌≤◌, ◌<◌, ◌^◌, Bool, true, false, ◌||◌, IsTrue, leb, ltb, eqb, eqb→eq, T, List, [], ◌∷◌, ◌++◌, length, sum_by, Option, Some}
+use Rattle.std.proofs.Common.{None, refl, sym, ap, subst, arith, if◌then◌else◌, length-append, append-nil}
 use Rattle.std.specs.Prelude.{Result, Ok, Err, slice_index_or}
 use Rattle.std.specs.List.{All, list_any, position_or_len}
 use Rattle.std.specs.Str.{bytes_eq}
@@ -21,7 +21,10 @@ use Rattle.mdp_spec.specs.Row.{IsRow, IsMdp}
 use Rattle.mdp_rows.specs.Name.{IsName, AreRewardNames, are_different}
 use Rattle.mdp_rows.specs.Limits.{places_ascend, in_order_of_sight, IsChoiceWithin, IsStateWithin, IsModel}
 use Rattle.mdp_rows.specs.Head.{IsSameHead}
-use Rattle.mdp_rows.specs.Draft.{Draft, OpenState, OpenChoice, new_draft, new_state, closed_row, closed_choices, with_choice_closed, choice_closed_in, choice_closed, state_closed_in, state_closed, all_closed, state_opened, after_state, summed_rewards, choice_opened_in, choice_opened, after_choice, has_target, with_entry, with_choice_entry, entry_in, after_entry, with_name, with_place, label_in, after_label, finished, after_finish, ◌>>=◌}
+use Rattle.mdp_rows.specs.Draft.{Draft, OpenState, OpenChoice, new_draft, new_state, closed_row, closed_choices, with_choice_closed, choice_closed_in, choice_closed}
+use Rattle.mdp_rows.specs.Draft.{state_closed_in, state_closed, all_closed, state_opened, after_state, summed_rewards, choice_opened_in, choice_opened, after_choice}
+use Rattle.mdp_rows.specs.Draft.{has_target, with_entry, with_choice_entry, entry_in, after_entry, with_name, with_place, label_in, after_label, finished, after_finish}
+use Rattle.mdp_rows.specs.Draft.{◌>>=◌}
 use Rattle.mdp_rows.specs.Sound.{IsOpenChoice, IsOpenState, IsClosedState, IsSound, choice_count, entry_count, opened_choices, opened_entries}
 use Rattle.mdp_rows.specs.declared.error.RowsError.{RowsError}
 use Rattle.mdp_rows.specs.declared.error.RowsError.TheVariants.{NoChoice, Count, TooMany, Target, Twice}
@@ -124,7 +127,8 @@ values_of announced names c ok = record {
 abbrev with_closed : OpenState → OpenChoice → List Entry → OpenState
 with_closed o c row = record o { choices = o.choices ++ record { row = row; rewards = c.rewards } ∷ []; choice = None }
 
-closed_open : (announced names : ℕ) (o : OpenState) (c : OpenChoice) (row : List Entry) → IsOpenState announced names (record o { choice = Some c }) → IsClosedRow announced (length c.row) row → IsOpenState announced names (with_closed o c row)
+closed_open : (announced names : ℕ) (o : OpenState) (c : OpenChoice) (row : List Entry) → IsOpenState announced names (record o { choice = Some c })
+    → IsClosedRow announced (length c.row) row → IsOpenState announced names (with_closed o c row)
 closed_open announced names o c row ok closed = record {
   rewards = ok.rewards;
   ascending = ok.ascending;
@@ -135,7 +139,8 @@ closed_open announced names o c row ok closed = record {
   choice = tt;
 }
 
-closed_counted : (closed : List State) (o : OpenState) (c : OpenChoice) (row : List Entry) (entries : ℕ) → length row ≤ length c.row → AreCounted closed (record o { choice = Some c }) entries → AreCounted closed (with_closed o c row) entries
+closed_counted : (closed : List State) (o : OpenState) (c : OpenChoice) (row : List Entry) (entries : ℕ) → length row ≤ length c.row
+    → AreCounted closed (record o { choice = Some c }) entries → AreCounted closed (with_closed o c row) entries
 closed_counted closed o c row entries h count =
     let x : Choice = record { row = row; rewards = c.rewards } in
     record {
@@ -223,7 +228,8 @@ opened_state announced names rewards l = record {
   choice = tt;
 }
 
-open_state_in : (d n : Draft) (rewards : List ℚ) (st : Option OpenState) → st ≡ None → IsSound (record d { state = st }) → AreRewards d.names rewards → state_opened (record d { state = st }) rewards ≡ Ok n → IsSound n
+open_state_in : (d n : Draft) (rewards : List ℚ) (st : Option OpenState) → st ≡ None → IsSound (record d { state = st }) → AreRewards d.names rewards
+    → state_opened (record d { state = st }) rewards ≡ Ok n → IsSound n
 open_state_in d n rewards (Some o) e s r h = absurd cc
 open_state_in d n rewards None e s r h =
     let o : OpenState = new_state rewards in
@@ -257,7 +263,8 @@ state_opened-sound d n rewards e s r h = open_state_in d n rewards d.state e s r
 pub after_state-sound : (d n : Draft) (rewards : List ℚ) → IsSound d → AreRewards d.names rewards → after_state d rewards ≡ Ok n → IsSound n
 after_state-sound d n rewards s r e =
     let f = then_ok (all_closed d) (λ closed. state_opened closed rewards) n e in
-    state_opened-sound f.0 n rewards (all_are_closed d f.0 f.1) (all_closed-sound d f.0 s f.1) (subst (λ (ns : List (List ℕ)). AreRewards ns rewards) (sym (IsSameHead.names (IsKept.head (all_closed-kept d f.0 f.1)))) r) f.2
+    state_opened-sound f.0 n rewards (all_are_closed d f.0 f.1) (all_closed-sound d f.0 s f.1)
+    (subst (λ (ns : List (List ℕ)). AreRewards ns rewards) (sym (IsSameHead.names (IsKept.head (all_closed-kept d f.0 f.1)))) r) f.2
 
 -- ---- a choice
 
@@ -273,10 +280,12 @@ with_choice announced names o c ok is = record {
   choice = is;
 }
 
-open_choice_in : (d n : Draft) (rewards : List ℚ) (st : Option OpenState) → IsSound (record d { state = st }) → AreRewards d.names rewards → choice_opened_in (record d { state = st }) rewards st ≡ Ok n → IsSound n
+open_choice_in : (d n : Draft) (rewards : List ℚ) (st : Option OpenState) → IsSound (record d { state = st }) → AreRewards d.names rewards
+    → choice_opened_in (record d { state = st }) rewards st ≡ Ok n → IsSound n
 open_choice_in d n rewards None s r e = subst IsSound (ok_same (record d { state = None }) n e) s
 open_choice_in d n rewards (Some o) s r e =
-    let f = else_ok (ltb (2 ^ 22) (closed_choices d + length o.choices + 1)) TooMany (summed_rewards o.rewards rewards >>= λ sums. Ok (record d { state = Some (record o { choice = Some (record { rewards = sums; row = [] }) }) })) n e in
+    let f = else_ok (ltb (2 ^ 22) (closed_choices d + length o.choices + 1)) TooMany
+    (summed_rewards o.rewards rewards >>= λ sums. Ok (record d { state = Some (record o { choice = Some (record { rewards = sums; row = [] }) }) })) n e in
     let few : closed_choices d + length o.choices + 1 ≤ 2 ^ 22 = ltb-false (2 ^ 22) (closed_choices d + length o.choices + 1) f.0 in
     let g = then_ok (summed_rewards o.rewards rewards) (λ sums. Ok (record d { state = Some (record o { choice = Some (record { rewards = sums; row = [] }) }) })) n f.1 in
     let ok = s.state in
@@ -304,7 +313,8 @@ choice_opened-sound d n rewards s r e = open_choice_in d n rewards d.state s r e
 pub after_choice-sound : (d n : Draft) (rewards : List ℚ) → IsSound d → AreRewards d.names rewards → after_choice d rewards ≡ Ok n → IsSound n
 after_choice-sound d n rewards s r e =
     let f = then_ok (choice_closed d) (λ closed. choice_opened closed rewards) n e in
-    choice_opened-sound f.0 n rewards (choice_closed-sound d f.0 s f.1) (subst (λ (ns : List (List ℕ)). AreRewards ns rewards) (sym (IsSameHead.names (IsKept.head (choice_closed-kept d f.0 f.1)))) r) f.2
+    choice_opened-sound f.0 n rewards (choice_closed-sound d f.0 s f.1)
+    (subst (λ (ns : List (List ℕ)). AreRewards ns rewards) (sym (IsSameHead.names (IsKept.head (choice_closed-kept d f.0 f.1)))) r) f.2
 
 -- ---- an entry
 
@@ -340,7 +350,8 @@ entry_choice d n target value o (Some c) s w e =
       few_entries = omega (arith, room);
     }))
 
-entry_state : (d n : Draft) (target : ℕ) (value : ℚ) (st : Option OpenState) → IsSound (record d { state = st }) → IsWithinLimit value → entry_in (record d { state = st }) target value st ≡ Ok n → IsSound n
+entry_state : (d n : Draft) (target : ℕ) (value : ℚ) (st : Option OpenState) → IsSound (record d { state = st }) → IsWithinLimit value
+    → entry_in (record d { state = st }) target value st ≡ Ok n → IsSound n
 entry_state d n target value None s w e = subst IsSound (ok_same (record d { state = None }) n e) s
 entry_state d n target value (Some o) s w e = entry_choice d n target value o o.choice s w e
 
@@ -394,7 +405,8 @@ closed_mdp d s e = record {
   some = let h = s.some in omega (arith, e, h);
   few = let h = s.few in omega (arith, e, h);
   choice = λ i l. IsClosedState.some (s.closed i no_state l);
-  row = λ i c l k. subst (λ (n : ℕ). IsRow n (Choice.row (slice_index_or (State.choices (slice_index_or d.closed i no_state)) c no_choice))) (sym e) (IsClosedState.rows (s.closed i no_state l) c no_choice k);
+  row = λ i c l k. subst (λ (n : ℕ). IsRow n (Choice.row (slice_index_or (State.choices (slice_index_or d.closed i no_state)) c no_choice))) (sym e)
+      (IsClosedState.rows (s.closed i no_state l) c no_choice k);
 }
 
 closed_model : (d : Draft) → IsSound (record d { state = None }) → length d.closed ≡ d.announced → IsModel (record { names = d.names; labels = d.labels; states = d.closed })

@@ -1,16 +1,13 @@
-ghost use Rattle.std.specs.Prelude.{◌≡◌, ◌⊎◌, ◌<◌, ◌≤◌, ◌^◌, None, Some, IsTrue, IsSome, IfOk, IfErr, OnOk, MatchResult};
-ghost use Rattle.std.specs.Prelude.{length, map};
+ghost use Rattle.std.specs.Prelude.{◌≡◌, ◌⊎◌, ◌≤◌, None, Some, IfOk, IfErr, OnOk, OnErr, length, map, nat_le};
+ghost use Rattle.std.specs.List.{position, position_or_len};
 ghost use Rattle.std.specs.Option.{IfSome};
-ghost use Rattle.mdp_rows.specs.Draft.{new_draft, choice_closed, state_closed, all_closed, state_opened, choice_opened, after_state, after_choice, after_entry, after_finish, finished, Follows, IsCall, IsUnrefused, has_state, has_choice, has_open_target, states_opened};
-ghost use Rattle.mdp_rows.specs.Limits.{max_states};
-ghost use Rattle.mdp_rows.specs.Sound.{FinishesModel};
-ghost use Rattle.mdp_rows.specs.Name.{AreRewardNames};
 ghost use Rattle.mdp_num.specs.Meaning.{IsWithinLimit};
-ghost use Rattle.std.specs.Prelude.{◌==◌};
-ghost use Rattle.std.specs.List.{list_any, position, position_or_len};
-ghost use Rattle.std.specs.Prelude.{OnErr, nat_le};
-ghost use Rattle.mdp_rows.specs.Draft.{after_label, with_place};
-ghost use Rattle.mdp_rows.specs.Draft.{IsChoiceClosed};
+ghost use Rattle.mdp_rows.specs.Draft.{new_draft, choice_closed, state_closed, all_closed, state_opened, choice_opened, finished};
+ghost use Rattle.mdp_rows.specs.Draft.{after_state, after_label, after_choice, after_entry, after_finish, with_place};
+ghost use Rattle.mdp_rows.specs.Draft.{Follows, IsCall, IsUnrefused, IsChoiceClosed, has_state, has_choice, has_open_target, states_opened};
+ghost use Rattle.mdp_rows.specs.Limits.{max_states};
+ghost use Rattle.mdp_rows.specs.Name.{AreRewardNames};
+ghost use Rattle.mdp_rows.specs.Sound.{FinishesModel};
 
 use crate::choices::Choices;
 use crate::closing::close_row;

@@ -35,7 +35,8 @@ sorted_len : (b : Inside) (sorted : List Given) → row_of sorted ≡ in_order (
 sorted_len b sorted e =
     sym (length-map sorted entry_of) ∙ ap length e ∙ length_permutation (row_of b.row.items) (in_order (row_of b.row.items)) (in_order-permutes (row_of b.row.items)) ∙ length-map b.row.items entry_of
 
-module _ (b : Inside) (sorted row before after : List Given) (is_before : before ≡ b.row.items) (order : row_of sorted ≡ in_order (row_of before)) (is_after : after ≡ (let w : Vec Given = with_items b.row sorted in w.items)) where
+module _ (b : Inside) (sorted row before after : List Given) (is_before : before ≡ b.row.items) (order : row_of sorted ≡ in_order (row_of before))
+    (is_after : after ≡ (let w : Vec Given = with_items b.row sorted in w.items)) where
   sorted_here : row_of sorted ≡ in_order (row_of b.row.items)
   sorted_here = order ∙ ap (λ (r : List Given). in_order (row_of r)) is_before
 
@@ -71,7 +72,8 @@ module _ (b : Inside) (sorted row : List Given) (ok : IsDraft b) (h : IsClosing 
 
   pub is_with_closing : b.stage ≡ InRow → IsDraft (record b { row = with_items (with_items b.row sorted) row })
   is_with_closing stage =
-      is_with_values b (with_items (with_items b.row sorted) row) ok (subst (λ (r : List Given). IsGivenRow b.announced (row_of r) b.targets) (sym closing_items) closing_row) (ap length closing_items ∙ closing_len) stage
+      is_with_values b (with_items (with_items b.row sorted) row) ok (subst (λ (r : List Given). IsGivenRow b.announced (row_of r) b.targets) (sym closing_items) closing_row)
+      (ap length closing_items ∙ closing_len) stage
 
 -- the marks are taken away of the row that closed
 pub unmarked : (b : Inside) (sorted row there : List Given) (marks : List Bool) → IsDraft b → IsClosing b sorted row → there ≡ row → length marks ≡ length b.targets
@@ -91,7 +93,8 @@ are_values b ok =
     record {
       ascending = ok.row.given.ascending;
       in_range = All-permutation (λ x. x.target < b.announced) (row_of b.row.items) (in_order (row_of b.row.items)) p ok.row.given.in_range;
-      nonnegative = All-permutation (λ x. 0ℚ ≤ℚ x.prob) (row_of b.row.items) (in_order (row_of b.row.items)) p (All-from_recursion (λ x. 0ℚ ≤ℚ x.prob) (row_of b.row.items) (values_nonnegative b.row.items));
+      nonnegative = All-permutation (λ x. 0ℚ ≤ℚ x.prob) (row_of b.row.items) (in_order (row_of b.row.items)) p
+          (All-from_recursion (λ x. 0ℚ ≤ℚ x.prob) (row_of b.row.items) (values_nonnegative b.row.items));
     }
 
 pub closing_distribution : (b : Inside) (rule : RowRule) (s c : ℕ) (k : List Entry) → IsDraft b → closed_row rule s c (in_order (row_of b.row.items)) ≡ Ok k → IsDistribution k

@@ -1,5 +1,6 @@
 -- What a builder's vectors say of its draft.
-use Rattle.std.proofs.Common.{◌≡◌, ◌≢◌, ℕ, ◌+◌, ◌-◌, ◌<◌, ◌≤◌, ◌^◌, Bool, true, false, not, List, [], ◌∷◌, ◌++◌, length, drop, sum_by, Option, Some, None, refl, sym, ap, ap₂, subst, ◌∙◌, arith, length-append, eqb, eq-eqb, if◌then◌else◌}
+use Rattle.std.proofs.Common.{◌≡◌, ◌≢◌, ℕ, ◌+◌, ◌-◌, ◌<◌, ◌≤◌, ◌^◌, Bool, true, false, not, List, [], ◌∷◌, ◌++◌, length, drop, sum_by, Option, Some, None, refl, sym, ap}
+use Rattle.std.proofs.Common.{ap₂, subst, ◌∙◌, arith, length-append, eqb, eq-eqb, if◌then◌else◌}
 use Rattle.std.specs.Prelude.{Result, Ok, Err}
 use Rattle.std.specs.List.{All}
 use Rattle.std.specs.Global.{Vec}
@@ -15,7 +16,8 @@ use Rattle.mdp_rows.specs.Pieces.{pieces}
 use Rattle.mdp_rows.specs.FlatModel.{states_from}
 use Rattle.mdp_rows.specs.Given.{row_of, entry_of}
 use Rattle.mdp_rows.specs.GivenRow.{in_order, IsGivenRow}
-use Rattle.mdp_rows.specs.Draft.{Draft, OpenState, OpenChoice, closed_row, kept, is_zero, choice_closed, choice_closed_in, with_choice_closed, state_closed, state_closed_in, state_opened, new_state, IsChoiceClosed, ◌>>=◌}
+use Rattle.mdp_rows.specs.Draft.{Draft, OpenState, OpenChoice, closed_row, kept, is_zero, choice_closed, choice_closed_in, with_choice_closed, state_closed}
+use Rattle.mdp_rows.specs.Draft.{state_closed_in, state_opened, new_state, IsChoiceClosed, ◌>>=◌}
 use Rattle.mdp_rows.specs.FlatDraft.{draft_in, open_in, state_in, choice_in, open_choices, IsDraft}
 use Rattle.mdp_rows.specs.declared.given.Given.{Given}
 use Rattle.mdp_rows.specs.declared.error.RowsError.{RowsError}
@@ -32,7 +34,8 @@ use Rattle.mdp_rows.proofs.Flat.RowsGrown.{all_one}
 use Rattle.mdp_rows.proofs.Flat.Models.{length-states_from, states_from-more}
 use Rattle.mdp_rows.proofs.Flat.Pieces.{length-pieces}
 
-pub same_draft : (x y : Draft) → x.announced ≡ y.announced → x.rule ≡ y.rule → x.names ≡ y.names → x.labels ≡ y.labels → x.closed ≡ y.closed → x.state ≡ y.state → x.entries ≡ y.entries → x.refused ≡ y.refused → x ≡ y
+pub same_draft : (x y : Draft) → x.announced ≡ y.announced → x.rule ≡ y.rule → x.names ≡ y.names → x.labels ≡ y.labels → x.closed ≡ y.closed → x.state ≡ y.state → x.entries ≡ y.entries
+    → x.refused ≡ y.refused → x ≡ y
 same_draft x y a u m l c s e r = λ i. record { announced = a i; rule = u i; names = m i; labels = l i; closed = c i; state = s i; entries = e i; refused = r i }
 
 -- the closed states, and how many they are
@@ -86,11 +89,13 @@ closing_by b s c ok at =
     closing_is b at.stage
     ∙ ap₂ (λ (x y : ℕ). row_result b (closed_row b.rule x y (in_order (row_of b.row.items)))) (closed_len b ok ∙ sym at.state) (open_len b ∙ sym at.choice)
 
-pub row_refused : (b : Inside) (v : Draft) (s c : ℕ) (e : RowsError) → draft_in b ≡ v → IsDraft b → IsOpenRow b s c → closed_row b.rule s c (in_order (row_of b.row.items)) ≡ Err e → choice_closed v ≡ Err e
+pub row_refused : (b : Inside) (v : Draft) (s c : ℕ) (e : RowsError) → draft_in b ≡ v → IsDraft b → IsOpenRow b s c → closed_row b.rule s c (in_order (row_of b.row.items)) ≡ Err e
+    → choice_closed v ≡ Err e
 row_refused b v s c e is ok at h = ap choice_closed (sym is) ∙ closing_by b s c ok at ∙ ap (row_result b) h
 
 -- the builder with other values in its open row
-pub is_with_values : (b : Inside) (row : Vec Given) → IsDraft b → IsGivenRow b.announced (row_of row.items) b.targets → length row.items ≡ length b.row.items → b.stage ≡ InRow → IsDraft (record b { row = row })
+pub is_with_values : (b : Inside) (row : Vec Given) → IsDraft b → IsGivenRow b.announced (row_of row.items) b.targets → length row.items ≡ length b.row.items → b.stage ≡ InRow
+    → IsDraft (record b { row = row })
 is_with_values b row ok given long stage = record {
   states = ok.states;
   room = ok.room;
@@ -107,7 +112,8 @@ items_are v row e = with_items_is v row (e ∙ sym v.ok.0)
 abbrev pub with_row : Inside → ChoiceTable → Vec Given → List Bool → Inside
 with_row b choices row marks = record b { choices = choices; row = row; targets = marks; stage = InState }
 
-module _ (b : Inside) (choices : ChoiceTable) (row : Vec Given) (r : List Given) (s c : ℕ) (ok : IsDraft b) (at : IsOpenRow b s c) (marks : List Bool) (given : IsGivenRow b.announced (row_of r) b.targets) (long : length r ≡ length b.row.items) (unmarked : IsGivenRow b.announced [] marks)
+module _ (b : Inside) (choices : ChoiceTable) (row : Vec Given) (r : List Given) (s c : ℕ) (ok : IsDraft b) (at : IsOpenRow b s c) (marks : List Bool)
+    (given : IsGivenRow b.announced (row_of r) b.targets) (long : length r ≡ length b.row.items) (unmarked : IsGivenRow b.announced [] marks)
     (grown : choices ≡ record { names = b.choices.names; choices = b.choices.choices ++ choice_with b (kept (row_of r)) ∷ [] }) (cleared : row.items ≡ []) where
   choices_are : choices.choices ≡ b.choices.choices ++ choice_with b (kept (row_of r)) ∷ []
   choices_are = ap (λ (x : ChoiceTable). x.choices) grown
@@ -123,7 +129,8 @@ module _ (b : Inside) (choices : ChoiceTable) (row : Vec Given) (r : List Given)
   closed_same : closed_in (with_row b choices row marks) ≡ closed_in b
   closed_same =
       ap (λ (x : List (List Choice)). states_from x b.labels.of_state)
-      (ap (λ (x : List Choice). pieces x b.starts.items) choices_are ∙ pieces-kept b.choices.choices (choice_with b (kept (row_of r)) ∷ []) b.starts.items b.first_choice ok.states.places ok.choices.inside)
+      (ap (λ (x : List Choice). pieces x b.starts.items) choices_are
+      ∙ pieces-kept b.choices.choices (choice_with b (kept (row_of r)) ∷ []) b.starts.items b.first_choice ok.states.places ok.choices.inside)
 
   pub draft_with_row : draft_in (with_row b choices row marks) ≡ record (draft_in b) { state = Some (state_of b (open_choices b ++ choice_with b (kept (row_of r)) ∷ []) None) }
   unfolding draft_in
@@ -138,7 +145,8 @@ module _ (b : Inside) (choices : ChoiceTable) (row : Vec Given) (r : List Given)
   row_total : sum_by (λ (x : Choice). length x.row) choices.choices ≤ sum_by (λ (x : Choice). length x.row) b.choices.choices + length b.row.items
   row_total =
       let f : Choice → ℕ = λ (x : Choice). length x.row in
-      let a : sum_by f choices.choices ≡ sum_by f b.choices.choices + sum_by f (choice_with b (kept (row_of r)) ∷ []) = ap (sum_by f) choices_are ∙ sum_by-append f b.choices.choices (choice_with b (kept (row_of r)) ∷ []) in
+      let a : sum_by f choices.choices ≡ sum_by f b.choices.choices + sum_by f (choice_with b (kept (row_of r)) ∷ []) = ap (sum_by f) choices_are
+      ∙ sum_by-append f b.choices.choices (choice_with b (kept (row_of r)) ∷ []) in
       let k : length (kept (row_of r)) ≤ length (row_of r) = filter_le (λ x. not (is_zero x.prob)) (row_of r) in
       let m : length (row_of r) ≡ length r = length-map r entry_of in
       let n : sum_by f (choice_with b (kept (row_of r)) ∷ []) ≡ length (kept (row_of r)) + 0 = sum_by-cons f (choice_with b (kept (row_of r))) [] in
@@ -195,11 +203,13 @@ state_result b none s =
     if none then Err (NoChoice s)
     else Ok (record (draft_in b) { closed = closed_in b ++ record { labels = b.places.items; choices = open_choices b } ∷ []; state = None })
 
-closing_state_by : (b : Inside) (s : ℕ) (none : Bool) → IsDraft b → b.stage ≡ InState → s ≡ length b.labels.of_state → eqb (length (open_choices b)) 0 ≡ none → state_closed (draft_in b) ≡ state_result b none s
+closing_state_by : (b : Inside) (s : ℕ) (none : Bool) → IsDraft b → b.stage ≡ InState → s ≡ length b.labels.of_state → eqb (length (open_choices b)) 0 ≡ none
+    → state_closed (draft_in b) ≡ state_result b none s
 unfolding draft_in
 closing_state_by b s none ok e f g = closing_state b e ∙ ap₂ (state_result b) g (closed_len b ok ∙ sym f)
 
-pub state_refused : (b : Inside) (v : Draft) (s n : ℕ) → draft_in b ≡ v → IsDraft b → b.stage ≡ InState → s ≡ length b.labels.of_state → n ≡ length b.choices.choices → n ≡ b.first_choice → state_closed v ≡ Err (NoChoice s)
+pub state_refused : (b : Inside) (v : Draft) (s n : ℕ) → draft_in b ≡ v → IsDraft b → b.stage ≡ InState → s ≡ length b.labels.of_state → n ≡ length b.choices.choices → n ≡ b.first_choice
+    → state_closed v ≡ Err (NoChoice s)
 state_refused b v s n is ok e f g h =
     ap state_closed (sym is) ∙ closing_state_by b s true ok e f (let l = open_len b in eq-eqb (length (open_choices b)) 0 (omega arith))
 
@@ -275,7 +285,8 @@ pub closed_is : (b : Inside) (v : Draft) → draft_in b ≡ v → v.state ≡ No
 unfolding draft_in
 closed_is b v is h = none_is b.stage (state_in b) (choice_in b) (ap (λ (d : Draft). d.state) is ∙ h)
 
-opened_by : (b : Inside) (rewards : List ℚ) (e : Bool) → IsDraft b → eqb (length b.labels.of_state) b.announced ≡ e → state_opened (draft_in b) rewards ≡ (if e then Err Count else Ok (record (draft_in b) { state = Some (new_state rewards) }))
+opened_by : (b : Inside) (rewards : List ℚ) (e : Bool) → IsDraft b → eqb (length b.labels.of_state) b.announced ≡ e
+    → state_opened (draft_in b) rewards ≡ (if e then Err Count else Ok (record (draft_in b) { state = Some (new_state rewards) }))
 unfolding draft_in
 opened_by b rewards e ok f = ap (λ (t : Bool). if t then Err Count else Ok (record (draft_in b) { state = Some (new_state rewards) })) (ap (λ (n : ℕ). eqb n b.announced) (closed_len b ok) ∙ f)
 

@@ -1,5 +1,6 @@
 -- What an entry, and a choice, make of a draft.
-use Rattle.std.proofs.Common.{◌≡◌, ◌≢◌, ℕ, ◌+◌, ◌<◌, ◌≤◌, ◌^◌, ◌==◌, Bool, true, false, List, [], ◌∷◌, ◌++◌, length, get_or, Some, None, refl, sym, ap, ap₂, subst, ◌∙◌, arith, leb, le-leb, ltb, lt-ltb, le-ltb, length-append, if◌then◌else◌}
+use Rattle.std.proofs.Common.{◌≡◌, ◌≢◌, ℕ, ◌+◌, ◌<◌, ◌≤◌, ◌^◌, ◌==◌, Bool, true, false, List, [], ◌∷◌, ◌++◌, length, get_or, Some, None, refl, sym, ap, ap₂, subst, ◌∙◌}
+use Rattle.std.proofs.Common.{arith, leb, le-leb, ltb, lt-ltb, le-ltb, length-append, if◌then◌else◌}
 use Rattle.std.specs.Prelude.{Result, Ok, Err}
 use Rattle.std.specs.List.{list_any}
 use Rattle.std.specs.Global.{Vec}
@@ -11,7 +12,8 @@ use Rattle.mdp_spec.specs.Mdp.{Entry}
 use Rattle.mdp_rows.specs.Pieces.{pieces}
 use Rattle.mdp_rows.specs.Given.{row_of, entry_of}
 use Rattle.mdp_rows.specs.GivenRow.{in_order}
-use Rattle.mdp_rows.specs.Draft.{Draft, OpenState, OpenChoice, after_entry, entry_in, with_choice_entry, with_entry, choice_opened, choice_opened_in, closed_choices, summed_rewards, IsChoiceClosed, ◌>>=◌}
+use Rattle.mdp_rows.specs.Draft.{Draft, OpenState, OpenChoice, after_entry, entry_in, with_choice_entry, with_entry, choice_opened, choice_opened_in, closed_choices}
+use Rattle.mdp_rows.specs.Draft.{summed_rewards, IsChoiceClosed, ◌>>=◌}
 use Rattle.mdp_rows.specs.FlatDraft.{draft_in, open_in, state_in, choice_in, open_choices, IsDraft}
 use Rattle.mdp_rows.specs.declared.given.Given.{Given}
 use Rattle.mdp_rows.specs.declared.error.RowsError.{RowsError}
@@ -38,12 +40,17 @@ unfolding draft_in
 no_row_for_entry b v t x is h = ap (λ (d : Draft). after_entry d t x) (sym is) ∙ no_entry b.stage (draft_in b) t x (state_in b) (choice_in b) refl h ∙ ap Ok is
 
 abbrev pub entry_draft : Inside → ℕ → ℚ → Draft
-entry_draft b t x = record (draft_in b) { entries = b.entries + 1; state = Some (state_of b (open_choices b) (Some (record (choice_in b) { row = with_entry (record { target = t; prob = x }) (in_order (row_of b.row.items)) }))) }
+entry_draft b t x = record (draft_in b) {
+  entries = b.entries + 1;
+  state =
+      Some (state_of b (open_choices b) (Some (record (choice_in b) { row = with_entry (record { target = t; prob = x }) (in_order (row_of b.row.items)) })));
+}
 
 abbrev pub entry_result : Inside → ℕ → ℚ → Bool → Bool → Bool → Result Draft RowsError
 entry_result b t x past twice full = if past then Err Target else (if twice then Err Twice else (if full then Err TooMany else Ok (entry_draft b t x)))
 
-entry_by : (b : Inside) (t : ℕ) (x : ℚ) → b.stage ≡ InRow → after_entry (draft_in b) t x ≡ entry_result b t x (leb b.announced t) (list_any (λ y. y.target == t) (in_order (row_of b.row.items))) (leb (2 ^ 24) b.entries)
+entry_by : (b : Inside) (t : ℕ) (x : ℚ) → b.stage ≡ InRow
+    → after_entry (draft_in b) t x ≡ entry_result b t x (leb b.announced t) (list_any (λ y. y.target == t) (in_order (row_of b.row.items))) (leb (2 ^ 24) b.entries)
 unfolding draft_in
 entry_by b t x e = ap (λ (st : Stage). entry_in (draft_in b) t x (open_in st (state_in b) (choice_in b))) e
 
@@ -87,7 +94,8 @@ module _ (b : Inside) (row : Vec Given) (marks : List Bool) (g : Given) (ok : Is
 
   pub entry_is_in : draft_in (with_new_entry b row marks) ≡ entry_draft b g.target g.value
   unfolding draft_in
-  entry_is_in = same_draft _ _ refl refl refl refl refl (ap₂ (λ (st : Stage) (r : List Entry). open_in st (state_in b) (let c : OpenChoice = record { rewards = b.sums.items; row = r } in c)) stage row_grown) refl refl
+  entry_is_in = same_draft _ _ refl refl refl refl refl
+      (ap₂ (λ (st : Stage) (r : List Entry). open_in st (state_in b) (let c : OpenChoice = record { rewards = b.sums.items; row = r } in c)) stage row_grown) refl refl
 
   row_longer : length row.items ≡ length b.row.items + 1
   row_longer = ap length grown ∙ length-append b.row.items (g ∷ [])
@@ -135,7 +143,8 @@ sums_result b r = r >>= λ sums. Ok (record (draft_in b) { state = Some (state_o
 abbrev pub choice_result : Inside → List ℚ → Bool → Result Draft RowsError
 choice_result b rewards full = if full then Err TooMany else sums_result b (summed_rewards b.rewards.items rewards)
 
-choice_by : (b : Inside) (rewards : List ℚ) (full : Bool) → IsDraft b → b.stage ≡ InState → ltb (2 ^ 22) (length b.choices.choices + 1) ≡ full → choice_opened (draft_in b) rewards ≡ choice_result b rewards full
+choice_by : (b : Inside) (rewards : List ℚ) (full : Bool) → IsDraft b → b.stage ≡ InState → ltb (2 ^ 22) (length b.choices.choices + 1) ≡ full
+    → choice_opened (draft_in b) rewards ≡ choice_result b rewards full
 unfolding draft_in
 choice_by b rewards full ok e f =
     ap (λ (st : Stage). choice_opened_in (draft_in b) rewards (open_in st (state_in b) (choice_in b))) e
@@ -168,7 +177,8 @@ module _ (b : Inside) (v : Draft) (given : List ℚ) (is : draft_in b ≡ v) (ok
   module _ (sums : Vec ℚ) (added : summed_rewards b.rewards.items given ≡ Ok sums.items) where
     choice_is_in : draft_in (record b { sums = sums; stage = InRow }) ≡ record (draft_in b) { state = Some (state_of b (open_choices b) (Some (record { rewards = sums.items; row = [] }))) }
     unfolding draft_in
-    choice_is_in = same_draft _ _ refl refl refl refl refl (ap (λ (r : List Given). Some (state_of b (open_choices b) (Some (record { rewards = sums.items; row = in_order (row_of r) })))) no_entries) refl refl
+    choice_is_in = same_draft _ _ refl refl refl refl refl
+        (ap (λ (r : List Given). Some (state_of b (open_choices b) (Some (record { rewards = sums.items; row = in_order (row_of r) })))) no_entries) refl refl
 
     pub choice_is_opened : choice_opened v given ≡ Ok (draft_in (record b { sums = sums; stage = InRow }))
     choice_is_opened = choice_here ∙ ap (sums_result b) added ∙ ap Ok (sym choice_is_in)

@@ -38,7 +38,8 @@ or_memory e f (inr p) = inr (f p)
 
 -- ---- the model
 
-finish_by : (b : Inside) (t : Bool) → IsDraft b → eqb (length b.labels.of_state) b.announced ≡ t → finished (draft_in b) ≡ (if t then Ok (record { names = b.choices.names; labels = b.labels.names; states = closed_in b }) else Err Count)
+finish_by : (b : Inside) (t : Bool) → IsDraft b → eqb (length b.labels.of_state) b.announced ≡ t
+    → finished (draft_in b) ≡ (if t then Ok (record { names = b.choices.names; labels = b.labels.names; states = closed_in b }) else Err Count)
 unfolding draft_in
 finish_by b t ok e =
     ap (λ (n : ℕ). if eqb n b.announced then Ok (let m : Mdp = record { names = b.choices.names; labels = b.labels.names; states = closed_in b } in m) else Err Count) (closed_len b ok)

@@ -35,7 +35,11 @@ label_result b name calls names =
 
 label_cases : (d : Draft) (name : List ℕ) (st : Stage) (o : OpenState) (c : OpenChoice) → st ≢ Between
     → label_in d name (open_in st o c) ≡ (if leb 64 o.label_calls || ltb 1024 (length (with_name d.labels name)) then Err TooMany
-    else Ok (record d { labels = with_name d.labels name; state = open_in st (record o { labels = with_place (position_or_len (bytes_eq name) d.labels) o.labels; label_calls = o.label_calls + 1 }) c }))
+    else Ok (record d {
+      labels = with_name d.labels name;
+      state =
+          open_in st (record o { labels = with_place (position_or_len (bytes_eq name) d.labels) o.labels; label_calls = o.label_calls + 1 }) c;
+    }))
 label_cases d name Between o c h = absurd (h refl)
 label_cases d name InState o c h = refl
 label_cases d name InRow o c h = refl
@@ -60,7 +64,8 @@ module _ (b : Inside) (v : Draft) (name : List ℕ) (is : draft_in b ≡ v) (ope
   label_goes h k = fewer_calls h ∙ ap (label_result b name false) (le-ltb 1024 (length (with_name b.labels.names name)) k)
 
   module _ (labels : Labelling) (places : Vec ℕ) (ok : IsDraft b) (calls : b.label_calls < 64) (names : length (with_name b.labels.names name) ≤ 1024)
-      (seen : labels ≡ record { names = with_name b.labels.names name; of_state = b.labels.of_state }) (added : places.items ≡ with_place (position_or_len (bytes_eq name) b.labels.names) b.places.items) where
+      (seen : labels ≡ record { names = with_name b.labels.names name; of_state = b.labels.of_state })
+      (added : places.items ≡ with_place (position_or_len (bytes_eq name) b.labels.names) b.places.items) where
     of_state_same : labels.of_state ≡ b.labels.of_state
     of_state_same = ap (λ (x : Labelling). x.of_state) seen
 
@@ -68,7 +73,8 @@ module _ (b : Inside) (v : Draft) (name : List ℕ) (is : draft_in b ≡ v) (ope
     unfolding draft_in
     labelled_is =
         same_draft _ _ refl refl refl (ap (λ (x : Labelling). x.names) seen) (ap (states_from (pieces b.choices.choices b.starts.items)) of_state_same)
-        (ap (λ (x : List ℕ). open_in b.stage (let o : OpenState = record { rewards = b.rewards.items; labels = x; label_calls = b.label_calls + 1; choices = open_choices b; choice = None } in o) (choice_in b)) added) refl refl
+        (ap (λ (x : List ℕ). open_in b.stage (let o : OpenState =
+        record { rewards = b.rewards.items; labels = x; label_calls = b.label_calls + 1; choices = open_choices b; choice = None } in o) (choice_in b)) added) refl refl
 
     pub label_taken : after_label v name ≡ Ok (draft_in (record b { labels = labels; places = places; label_calls = b.label_calls + 1 }))
     label_taken = label_goes calls names ∙ ap Ok (sym labelled_is)

@@ -20,7 +20,8 @@ use Rattle.mdp_rows.proofs.Flat.Growth.{one_place}
 
 module _ (b : Inside) (states : ℕ) (rule : RowRule) (names : List (List ℕ)) (some : 1 ≤ states) (few : states ≤ 2 ^ 20) (announced : b.announced ≡ states) (ruled : b.rule ≡ rule)
     (choices : b.choices ≡ record { names = names; choices = [] }) (starts : b.starts.items ≡ 0 ∷ []) (first : b.first_choice ≡ 0)
-    (labels : b.labels ≡ record { names = []; of_state = [] }) (stage : b.stage ≡ Between) (places : b.places.items ≡ []) (calls : b.label_calls ≡ 0) (row : b.row.items ≡ []) (marks : b.targets ≡ replicate states false) (entries : b.entries ≡ 0) (refused : b.refused ≡ None) where
+    (labels : b.labels ≡ record { names = []; of_state = [] }) (stage : b.stage ≡ Between) (places : b.places.items ≡ []) (calls : b.label_calls ≡ 0) (row : b.row.items ≡ [])
+    (marks : b.targets ≡ replicate states false) (entries : b.entries ≡ 0) (refused : b.refused ≡ None) where
   of_state_none : b.labels.of_state ≡ []
   of_state_none = ap (λ (l : Labelling). l.of_state) labels
 
@@ -53,4 +54,3 @@ module _ (b : Inside) (states : ℕ) (rule : RowRule) (names : List (List ℕ)) 
     };
     row = record { idle = λ h. row; given = rw (row, marks, announced) (none_marked states); total = rw (no_choices, row) (omega arith); few_entries = omega arith };
   }
-

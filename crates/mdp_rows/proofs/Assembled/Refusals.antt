@@ -46,6 +46,6 @@ module _ (b : Inside) (old : Draft) (due : Result Draft RowsError) (is : draft_i
       unrefused = sym (refused_is b old is) ∙ none
 
       by : (r : Result (Unit {0}) RowsError) → Follows due r step → OnOk r (new ≡ step) → IfErr r (λ e. new.refused ≡ Some e) → IsCall old new due r
-      by (Ok u) f g h = let k = f ∙ ap Ok (sym g) in record { again = never_refused b old is (λ e. (answer (Ok u) ≡ Err e) × (new ≡ old)) none; ok = k; err = tt; kept = IsKept.refused (keeps new k) ∙ unrefused }
+      by (Ok u) f g h = let k = f ∙ ap Ok (sym g) in
+          record { again = never_refused b old is (λ e. (answer (Ok u) ≡ Err e) × (new ≡ old)) none; ok = k; err = tt; kept = IsKept.refused (keeps new k) ∙ unrefused }
       by (Err e) f g h = record { again = never_refused b old is (λ x. (answer (Err e) ≡ Err x) × (new ≡ old)) none; ok = tt; err = λ u. f; kept = h }
-

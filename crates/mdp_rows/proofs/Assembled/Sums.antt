@@ -22,7 +22,8 @@ one_first : (sums : List ℚ) (x : ℚ) (r : Result (List ℚ) RowsError) → su
 one_first sums x (Ok ys) = ap (λ (l : List ℚ). Ok l) (sym (append_assoc sums (x ∷ []) ys))
 one_first sums x (Err e) = refl
 
-step_ok : (sums xs ys : List ℚ) (x y s : ℚ) (k : Result ℚ RowsError) → k ≡ kept_sum (written_add x y) → k ≡ Ok s → sums_then sums (summed_rewards (x ∷ xs) (y ∷ ys)) ≡ sums_then (sums ++ s ∷ []) (summed_rewards xs ys)
+step_ok : (sums xs ys : List ℚ) (x y s : ℚ) (k : Result ℚ RowsError) → k ≡ kept_sum (written_add x y) → k ≡ Ok s
+    → sums_then sums (summed_rewards (x ∷ xs) (y ∷ ys)) ≡ sums_then (sums ++ s ∷ []) (summed_rewards xs ys)
 step_ok sums xs ys x y s k e f =
     ap (λ (r : Result ℚ RowsError). sums_then sums (r >>= λ sum. summed_rewards xs ys >>= λ sums. Ok (sum ∷ sums))) (sym e ∙ f) ∙ one_first sums s (summed_rewards xs ys)
 
@@ -43,7 +44,8 @@ module _ (own given sums : List ℚ) (i : ℕ) (x y : ℚ) (k : Result ℚ RowsE
   pub sums_stop : (w : RowsError) → k ≡ Err w → summed_rewards own given ≡ Err w
   sums_stop w f = here ∙ step_err sums (drop (i + 1) own) (drop (i + 1) given) (get_or own i x) (get_or given i y) w k e f
 
-pub sums_end : (own given sums : List ℚ) (i : ℕ) → i ≡ length own → length own ≡ length given → summed_rewards own given ≡ sums_then sums (summed_rewards (drop i own) (drop i given)) → summed_rewards own given ≡ Ok sums
+pub sums_end : (own given sums : List ℚ) (i : ℕ) → i ≡ length own → length own ≡ length given → summed_rewards own given ≡ sums_then sums (summed_rewards (drop i own) (drop i given))
+    → summed_rewards own given ≡ Ok sums
 sums_end own given sums i e l so =
     so ∙ ap₂ (λ (xs ys : List ℚ). sums_then sums (summed_rewards xs ys)) (ap (λ (n : ℕ). drop n own) e ∙ drop-length own) (ap (λ (n : ℕ). drop n given) (e ∙ l) ∙ drop-length given)
     ∙ ap (λ (l : List ℚ). Ok l) (append-nil sums)
@@ -56,7 +58,8 @@ len_then xs ys sums x n (Ok zs) h e = ap length (sym (ok_list (x ∷ zs) sums e)
     ok_list us vs e = cc
 len_then xs ys sums x n (Err w) h e = absurd cc
 
-len_first : (xs ys sums : List ℚ) (n : ℕ) (k : Result ℚ RowsError) (r : Result (List ℚ) RowsError) → ((zs : List ℚ) → r ≡ Ok zs → length zs ≡ n) → (k >>= λ sum. r >>= λ zs. Ok (sum ∷ zs)) ≡ Ok sums → length sums ≡ suc n
+len_first : (xs ys sums : List ℚ) (n : ℕ) (k : Result ℚ RowsError) (r : Result (List ℚ) RowsError) → ((zs : List ℚ) → r ≡ Ok zs → length zs ≡ n)
+    → (k >>= λ sum. r >>= λ zs. Ok (sum ∷ zs)) ≡ Ok sums → length sums ≡ suc n
 len_first xs ys sums n (Ok x) r h e = len_then xs ys sums x n r h e
 len_first xs ys sums n (Err w) r h e = absurd cc
 

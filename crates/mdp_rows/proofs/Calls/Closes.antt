@@ -8,7 +8,8 @@ use Rattle.mdp_rows.proofs.Calls.Steps.{done, ok_same, then_ok, else_ok}
 in_state : (d n : Draft) (o : OpenState) (c : Option OpenChoice) → d.state ≡ Some o → o.choice ≡ c → with_choice_closed d o c ≡ Ok n → IsChoiceClosed n.state
 in_state d n o None s e h = subst (λ (x : Draft). IsChoiceClosed x.state) (ok_same d n h) (rw s e)
 in_state d n o (Some c) s e h =
-    let f = then_ok (closed_row d.rule (length d.closed) (length o.choices) c.row) (λ row. Ok (record d { state = Some (record o { choices = o.choices ++ record { row = row; rewards = c.rewards } ∷ []; choice = None }) })) n h in
+    let f = then_ok (closed_row d.rule (length d.closed) (length o.choices) c.row)
+    (λ row. Ok (record d { state = Some (record o { choices = o.choices ++ record { row = row; rewards = c.rewards } ∷ []; choice = None }) })) n h in
     subst (λ (x : Draft). IsChoiceClosed x.state) (ok_same (record d { state = Some (record o { choices = o.choices ++ record { row = f.0; rewards = c.rewards } ∷ []; choice = None }) }) n f.2) refl
 
 in_draft : (d n : Draft) (s : Option OpenState) → d.state ≡ s → choice_closed_in d s ≡ Ok n → IsChoiceClosed n.state

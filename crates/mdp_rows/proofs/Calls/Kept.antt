@@ -5,7 +5,9 @@ use Rattle.std.specs.List.{position_or_len}
 use Rattle.std.specs.Str.{bytes_eq}
 use Rattle.mdp_math.specs.Rational.{ℚ}
 use Rattle.mdp_rows.specs.Head.{IsSameHead}
-use Rattle.mdp_rows.specs.Draft.{Draft, OpenState, OpenChoice, new_state, closed_row, closed_choices, with_choice_closed, choice_closed_in, choice_closed, state_closed_in, state_closed, all_closed, state_opened, after_state, summed_rewards, choice_opened_in, choice_opened, after_choice, has_target, with_entry, with_choice_entry, entry_in, after_entry, with_name, with_place, label_in, after_label, ◌>>=◌}
+use Rattle.mdp_rows.specs.Draft.{Draft, OpenState, OpenChoice, new_state, closed_row, closed_choices, with_choice_closed, choice_closed_in, choice_closed}
+use Rattle.mdp_rows.specs.Draft.{state_closed_in, state_closed, all_closed, state_opened, after_state, summed_rewards, choice_opened_in, choice_opened, after_choice}
+use Rattle.mdp_rows.specs.Draft.{has_target, with_entry, with_choice_entry, entry_in, after_entry, with_name, with_place, label_in, after_label, ◌>>=◌}
 use Rattle.mdp_rows.specs.declared.error.RowsError.{RowsError}
 use Rattle.mdp_rows.specs.declared.error.RowsError.TheVariants.{NoChoice, Count, TooMany, Target, Twice}
 use Rattle.mdp_rows.proofs.Calls.Steps.{done, ok_same, then_ok, else_ok}
@@ -33,8 +35,10 @@ by_step d v n k e = subst (IsKept d) (ok_same v n e) k
 close_choice : (d n : Draft) (o : OpenState) (c : Option OpenChoice) → with_choice_closed d o c ≡ Ok n → IsKept d n
 close_choice d n o None e = by_step d d n (same d) e
 close_choice d n o (Some c) e =
-    let f = then_ok (closed_row d.rule (length d.closed) (length o.choices) c.row) (λ row. Ok (record d { state = Some (record o { choices = o.choices ++ record { row = row; rewards = c.rewards } ∷ []; choice = None }) })) n e in
-    by_step d (record d { state = Some (record o { choices = o.choices ++ record { row = f.0; rewards = c.rewards } ∷ []; choice = None }) }) n (record { head = record { announced = refl; rule = refl; names = refl }; refused = refl }) f.2
+    let f = then_ok (closed_row d.rule (length d.closed) (length o.choices) c.row)
+    (λ row. Ok (record d { state = Some (record o { choices = o.choices ++ record { row = row; rewards = c.rewards } ∷ []; choice = None }) })) n e in
+    by_step d (record d { state = Some (record o { choices = o.choices ++ record { row = f.0; rewards = c.rewards } ∷ []; choice = None }) }) n
+    (record { head = record { announced = refl; rule = refl; names = refl }; refused = refl }) f.2
 
 close_choice_in : (d n : Draft) (st : Option OpenState) → choice_closed_in d st ≡ Ok n → IsKept d n
 close_choice_in d n None e = by_step d d n (same d) e
@@ -67,9 +71,11 @@ after_state-kept d n rewards e =
 open_choice_in : (d n : Draft) (rewards : List ℚ) (st : Option OpenState) → choice_opened_in d rewards st ≡ Ok n → IsKept d n
 open_choice_in d n rewards None e = by_step d d n (same d) e
 open_choice_in d n rewards (Some o) e =
-    let f = else_ok (ltb (2 ^ 22) (closed_choices d + length o.choices + 1)) TooMany (summed_rewards o.rewards rewards >>= λ sums. Ok (record d { state = Some (record o { choice = Some (record { rewards = sums; row = [] }) }) })) n e in
+    let f = else_ok (ltb (2 ^ 22) (closed_choices d + length o.choices + 1)) TooMany
+    (summed_rewards o.rewards rewards >>= λ sums. Ok (record d { state = Some (record o { choice = Some (record { rewards = sums; row = [] }) }) })) n e in
     let g = then_ok (summed_rewards o.rewards rewards) (λ sums. Ok (record d { state = Some (record o { choice = Some (record { rewards = sums; row = [] }) }) })) n f.1 in
-    by_step d (record d { state = Some (record o { choice = Some (record { rewards = g.0; row = [] }) }) }) n (record { head = record { announced = refl; rule = refl; names = refl }; refused = refl }) g.2
+    by_step d (record d { state = Some (record o { choice = Some (record { rewards = g.0; row = [] }) }) }) n
+    (record { head = record { announced = refl; rule = refl; names = refl }; refused = refl }) g.2
 
 pub choice_opened-kept : (d n : Draft) (rewards : List ℚ) → choice_opened d rewards ≡ Ok n → IsKept d n
 choice_opened-kept d n rewards e = open_choice_in d n rewards d.state e
@@ -97,8 +103,13 @@ after_entry-kept d n target value e = entry_state d n target value d.state e
 label_state : (d n : Draft) (name : List ℕ) (st : Option OpenState) → label_in d name st ≡ Ok n → IsKept d n
 label_state d n name None e = by_step d d n (same d) e
 label_state d n name (Some o) e =
-    let v : Draft = record d { labels = with_name d.labels name; state = Some (record o { labels = with_place (position_or_len (bytes_eq name) d.labels) o.labels; label_calls = o.label_calls + 1 }) } in
-    by_step d v n (record { head = record { announced = refl; rule = refl; names = refl }; refused = refl }) (else_ok (leb 64 o.label_calls || ltb 1024 (length (with_name d.labels name))) TooMany (done v) n e).1
+    let v : Draft = record d {
+      labels = with_name d.labels name;
+      state =
+          Some (record o { labels = with_place (position_or_len (bytes_eq name) d.labels) o.labels; label_calls = o.label_calls + 1 });
+    } in
+    by_step d v n (record { head = record { announced = refl; rule = refl; names = refl }; refused = refl })
+    (else_ok (leb 64 o.label_calls || ltb 1024 (length (with_name d.labels name))) TooMany (done v) n e).1
 
 pub after_label-kept : (d n : Draft) (name : List ℕ) → after_label d name ≡ Ok n → IsKept d n
 after_label-kept d n name e = label_state d n name d.state e

@@ -5,7 +5,9 @@ use Rattle.std.specs.List.{list_any}
 use Rattle.std.specs.Option.{is_some}
 use Rattle.mdp_math.specs.Rational.{ℚ}
 use Rattle.mdp_spec.specs.Mdp.{Entry}
-use Rattle.mdp_rows.specs.Draft.{Draft, OpenState, OpenChoice, summed_rewards, closed_row, choice_closed, choice_closed_in, with_choice_closed, all_closed, state_opened, choice_opened, choice_opened_in, closed_choices, after_state, after_choice, after_entry, after_label, entry_in, with_choice_entry, label_in, with_name, has_state, has_choice, ◌>>=◌}
+use Rattle.mdp_rows.specs.Draft.{Draft, OpenState, OpenChoice, summed_rewards, closed_row, choice_closed, choice_closed_in, with_choice_closed, all_closed, state_opened}
+use Rattle.mdp_rows.specs.Draft.{choice_opened, choice_opened_in, closed_choices, after_state, after_choice, after_entry, after_label, entry_in, with_choice_entry}
+use Rattle.mdp_rows.specs.Draft.{label_in, with_name, has_state, has_choice, ◌>>=◌}
 use Rattle.mdp_rows.proofs.Calls.Steps.{done, ok_same}
 use Rattle.mdp_rows.specs.declared.error.RowsError.{RowsError}
 use Rattle.mdp_rows.specs.declared.error.RowsError.TheVariants.{Count, TooMany, Target, Twice}
@@ -30,7 +32,8 @@ state_opens d n rewards e = after_closing (all_closed d) rewards n e
 
 -- ---- a choice
 
-closed_keeps : (d n : Draft) (o : OpenState) (c : OpenChoice) (r : Result (List Entry) RowsError) → (r >>= λ k. Ok (record d { state = Some (record o { choices = o.choices ++ record { row = k; rewards = c.rewards } ∷ []; choice = None }) })) ≡ Ok n → IsTrue (has_state n)
+closed_keeps : (d n : Draft) (o : OpenState) (c : OpenChoice) (r : Result (List Entry) RowsError)
+    → (r >>= λ k. Ok (record d { state = Some (record o { choices = o.choices ++ record { row = k; rewards = c.rewards } ∷ []; choice = None }) })) ≡ Ok n → IsTrue (has_state n)
 closed_keeps d n o c (Ok k) e = state_of_done _ n e refl
 closed_keeps d n o c (Err x) e = absurd cc
 
@@ -42,7 +45,8 @@ keeps_state : (d n : Draft) (s : Option OpenState) → IsTrue (has_state d) → 
 keeps_state d n None h e = state_of_done d n e h
 keeps_state d n (Some o) h e = row_keeps d n o o.choice h e
 
-sums_open : (m n : Draft) (o : OpenState) (r : Result (List ℚ) RowsError) → (r >>= λ sums. Ok (record m { state = Some (record o { choice = Some (record { rewards = sums; row = [] }) }) })) ≡ Ok n → IsTrue (has_state n) × IsTrue (has_choice n)
+sums_open : (m n : Draft) (o : OpenState) (r : Result (List ℚ) RowsError)
+    → (r >>= λ sums. Ok (record m { state = Some (record o { choice = Some (record { rewards = sums; row = [] }) }) })) ≡ Ok n → IsTrue (has_state n) × IsTrue (has_choice n)
 sums_open m n o (Ok sums) e = (state_of_done _ n e refl, row_of_done _ n e refl)
 sums_open m n o (Err x) e = absurd cc
 
@@ -51,7 +55,8 @@ choice_row m n rewards None h e = absurd cc
 choice_row m n rewards (Some o) h e =
     sums_open m n o (summed_rewards o.rewards rewards) (passed_test (ltb (2 ^ 22) (closed_choices m + length o.choices + 1)) TooMany _ n e)
 
-choice_after : (d n : Draft) (rewards : List ℚ) (r : Result Draft RowsError) → r ≡ choice_closed d → IsTrue (has_state d) → (r >>= λ closed. choice_opened closed rewards) ≡ Ok n → IsTrue (has_state n) × IsTrue (has_choice n)
+choice_after : (d n : Draft) (rewards : List ℚ) (r : Result Draft RowsError) → r ≡ choice_closed d → IsTrue (has_state d) → (r >>= λ closed. choice_opened closed rewards) ≡ Ok n
+    → IsTrue (has_state n) × IsTrue (has_choice n)
 choice_after d n rewards (Ok m) f h e = choice_row m n rewards m.state (keeps_state d m d.state h (sym f)) e
 choice_after d n rewards (Err x) f h e = absurd cc
 

@@ -1,5 +1,6 @@
 -- Least common denominators.
-use Rattle.std.proofs.Common.{◌≡◌, ◌≢◌, ℕ, zero, suc, ◌+◌, ◌*◌, ◌/◌, ◌<◌, ◌≤◌, ◌^◌, Bool, true, false, if◌then◌else◌, ltb, lt-ltb, le-ltb, List, [], ◌∷◌, length, drop, get_or, add-one, drop-cons, Option, Some, None, ℤ, pos, to_z, of_z, to_z-of_z, unsigned_abs, refl, sym, ap, ap₂, ◌∙◌, arith}
+use Rattle.std.proofs.Common.{◌≡◌, ◌≢◌, ℕ, zero, suc, ◌+◌, ◌*◌, ◌/◌, ◌<◌, ◌≤◌, ◌^◌, Bool, true, false, if◌then◌else◌, ltb, lt-ltb, le-ltb, List, [], ◌∷◌, length, drop}
+use Rattle.std.proofs.Common.{get_or, add-one, drop-cons, Option, Some, None, ℤ, pos, to_z, of_z, to_z-of_z, unsigned_abs, refl, sym, ap, ap₂, ◌∙◌, arith}
 use Rattle.std.specs.Int.{◌∣◌}
 use Rattle.std.specs.List.{AllByRecursion}
 use Rattle.std.specs.Option.{is_some}
@@ -90,7 +91,8 @@ quotient_read a b o h k l e =
     ∙ ap (λ (z : ℤ). narrow_ℚ (quotient z (to_z w128 a))) zb ∙ ap (λ (z : ℤ). narrow_ℚ (quotient (pos b) z)) za ∙ quotient_kept a b h k l
 
 -- the multiple that is read from the quotient's denominator
-pub multiple_read : (a b q : ℕ) (o : Option ℚ) (x : ℚ) (d : ℤ) → 0 < a → a ≤ limit → o ≡ Some (ratio (pos b) a) → Some x ≡ o → d ≡ pos x.den → q ≡ unsigned_abs (to_z w128 (of_z w128 d)) → q * b ≡ lcm a b
+pub multiple_read : (a b q : ℕ) (o : Option ℚ) (x : ℚ) (d : ℤ) → 0 < a → a ≤ limit → o ≡ Some (ratio (pos b) a) → Some x ≡ o → d ≡ pos x.den → q ≡ unsigned_abs (to_z w128 (of_z w128 d))
+    → q * b ≡ lcm a b
 multiple_read a b q o x d h k e f g r =
     let is : x ≡ ratio (pos b) a = (let s : Some x ≡ Some (ratio (pos b) a) = f ∙ e in cc) in
     let den : x.den ≡ a / gcd a b = ap (λ (y : ℚ). ℚ.den y) is ∙ quotient_den a b h in
@@ -142,7 +144,8 @@ den_more row i d m g h e so w =
       within = rw f.0 f.1;
     }
 
-pub den_wide : (row : List Given) (i d : ℕ) (g : Given) → i < length row → g ≡ get_or row i g → IsDenFrom row (i + 1) d → None ≡ within_limit (lcm d g.value.den) → None ≡ within_limit (row_den (row_of row))
+pub den_wide : (row : List Given) (i d : ℕ) (g : Given) → i < length row → g ≡ get_or row i g → IsDenFrom row (i + 1) d → None ≡ within_limit (lcm d g.value.den)
+    → None ≡ within_limit (row_den (row_of row))
 den_wide row i d g h e so w =
     past_limit (row_den (row_of row))
     (let k : limit < lcm d g.value.den = within-none (lcm d g.value.den) w in

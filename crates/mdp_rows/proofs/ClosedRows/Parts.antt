@@ -1,5 +1,6 @@
 -- A row's values in parts of a common denominator.
-use Rattle.std.proofs.Common.{◌≡◌, ℕ, zero, suc, ◌+◌, ◌*◌, ◌/◌, ◌<◌, ◌≤◌, ltb, lt-ltb, le-ltb, Option, Some, None, if◌then◌else◌, Bool, true, false, ◌&&◌, T, eqb, eq-eqb, eqb→eq, zero-mul, List, [], ◌∷◌, length, take, get_or, ℤ, pos, ◌*ℤ◌, ◌≤ℤ◌, unsigned_abs, refl, sym, ap, ap₂, subst, ◌∙◌, arith}
+use Rattle.std.proofs.Common.{◌≡◌, ℕ, zero, suc, ◌+◌, ◌*◌, ◌/◌, ◌<◌, ◌≤◌, ltb, lt-ltb, le-ltb, Option, Some, None, if◌then◌else◌, Bool, true, false, ◌&&◌, T, eqb, eq-eqb}
+use Rattle.std.proofs.Common.{eqb→eq, zero-mul, List, [], ◌∷◌, length, take, get_or, ℤ, pos, ◌*ℤ◌, ◌≤ℤ◌, unsigned_abs, refl, sym, ap, ap₂, subst, ◌∙◌, arith}
 use Rattle.std.proofs.lemmas.Int.{ints}
 use Rattle.std.specs.Int.{◌∣◌}
 use Rattle.std.specs.List.{AllByRecursion}
@@ -126,10 +127,12 @@ part_past d (suc q) b n h e l = let m : suc q * b < suc q * n = mul-lt-mul_of_po
 twice : (q b d : ℕ) → q * b ≡ d → q * (2 * b) ≡ 2 * d
 twice q b d e = let f : q * (2 * b) ≡ 2 * (q * b) = omega arith in f ∙ ap (λ (n : ℕ). 2 * n) e
 
-pub value_past : (row : List Given) (d i : ℕ) (g : Given) → d ≡ row_den (row_of row) → i < length row → g ≡ get_or row i g → 2 * g.value.den < unsigned_abs g.value.num → None ≡ sum_within d (parts d row)
+pub value_past : (row : List Given) (d i : ℕ) (g : Given) → d ≡ row_den (row_of row) → i < length row → g ≡ get_or row i g → 2 * g.value.den < unsigned_abs g.value.num
+    → None ≡ sum_within d (parts d row)
 value_past row d i g e h is past =
     let pos : 0 < d = rw e (row_den-pos (row_of row)) in
-    let m : 2 * d < part d g = part_past (2 * d) (d / g.value.den) (2 * g.value.den) (unsigned_abs g.value.num) (omega arith) (twice (d / g.value.den) g.value.den d (den_of_value row d i g e h is)) past in
+    let m : 2 * d < part d g = part_past (2 * d) (d / g.value.den) (2 * g.value.den) (unsigned_abs g.value.num) (omega arith)
+    (twice (d / g.value.den) g.value.den d (den_of_value row d i g e h is)) past in
     let l = part_le row d i g h is in
     sum_past d (parts d row) (omega arith)
 

@@ -1,5 +1,6 @@
 -- A row's values divided by their sum.
-use Rattle.std.proofs.Common.{◌≡◌, ◌≢◌, ℕ, zero, suc, ◌*◌, ◌/◌, ◌<◌, ◌≤◌, ◌^◌, false, Option, Some, to_z, mul-pos, List, [], ◌∷◌, length, map, get_or, slice_set, ℤ, pos, unsigned_abs, refl, sym, ap, ap₂, subst, ◌∙◌, arith, mul_comm}
+use Rattle.std.proofs.Common.{◌≡◌, ◌≢◌, ℕ, zero, suc, ◌*◌, ◌/◌, ◌<◌, ◌≤◌, ◌^◌, false, Option, Some, to_z, mul-pos, List, [], ◌∷◌, length, map, get_or, slice_set, ℤ, pos}
+use Rattle.std.proofs.Common.{unsigned_abs, refl, sym, ap, ap₂, subst, ◌∙◌, arith, mul_comm}
 use Rattle.std.proofs.lemmas.Int.{ints, to_z_pos}
 use Rattle.std.proofs.Math.Nat.{div-le_self}
 use mir.Syntax.{w128}
@@ -32,7 +33,8 @@ use native.Mathlib.Nat.{le_of_dvd, dvd_trans, dvd-mul_left}
 
 not_zero : (p d : ℕ) → 0 < p → 0 < d → ratio (pos p) d ≢ 0ℚ
 not_zero p d h k e =
-    let a = is_le (ratio (pos p) d) 0ℚ (pos p) (pos 0) d 1 (is_ratio (pos p) d k) (is_of_int (pos 0)) (subst (λ (x : ℚ). ratio (pos p) d ≤ℚ x) e (le_of_is _ _ _ _ _ _ (is_self (ratio (pos p) d)) (is_self (ratio (pos p) d)) (omega (arith, ints)))) in
+    let a = is_le (ratio (pos p) d) 0ℚ (pos p) (pos 0) d 1 (is_ratio (pos p) d k) (is_of_int (pos 0))
+    (subst (λ (x : ℚ). ratio (pos p) d ≤ℚ x) e (le_of_is _ _ _ _ _ _ (is_self (ratio (pos p) d)) (is_self (ratio (pos p) d)) (omega (arith, ints)))) in
     omega (arith, ints, a)
 
 -- p/d times d/p
@@ -107,14 +109,16 @@ tail_of x y xs ys e = cc
 head_of : (x y : Entry) (xs ys : List Entry) → x ∷ xs ≡ y ∷ ys → x ≡ y
 head_of x y xs ys e = cc
 
-pub still_there : (f : Entry → Entry) (i : ℕ) (rows : List Given) (row : List Entry) (g : Given) (d : Entry) → i < length rows → row_of rows ≡ scaled_to f i row → entry_of (get_or rows i g) ≡ get_or row i d
+pub still_there : (f : Entry → Entry) (i : ℕ) (rows : List Given) (row : List Entry) (g : Given) (d : Entry) → i < length rows → row_of rows ≡ scaled_to f i row
+    → entry_of (get_or rows i g) ≡ get_or row i d
 still_there f i [] row g d h e = absurd (omega arith)
 still_there f zero (x ∷ rows) [] g d h e = absurd cc
 still_there f zero (x ∷ rows) (y ∷ row) g d h e = head_of (entry_of x) y (row_of rows) row e
 still_there f (suc i) (x ∷ rows) [] g d h e = absurd cc
 still_there f (suc i) (x ∷ rows) (y ∷ row) g d h e = still_there f i rows row g d (omega arith) (tail_of (entry_of x) (f y) (row_of rows) (scaled_to f i row) e)
 
-pub one_more : (f : Entry → Entry) (i : ℕ) (rows : List Given) (row : List Entry) (g : Given) (d : Entry) → i < length rows → row_of rows ≡ scaled_to f i row → entry_of g ≡ f (get_or row i d) → row_of (slice_set rows i g) ≡ scaled_to f (suc i) row
+pub one_more : (f : Entry → Entry) (i : ℕ) (rows : List Given) (row : List Entry) (g : Given) (d : Entry) → i < length rows → row_of rows ≡ scaled_to f i row
+    → entry_of g ≡ f (get_or row i d) → row_of (slice_set rows i g) ≡ scaled_to f (suc i) row
 one_more f i [] row g d h e k = absurd (omega arith)
 one_more f zero (x ∷ rows) [] g d h e k = absurd cc
 one_more f zero (x ∷ rows) (y ∷ row) g d h e k = ap₂ (λ (u : Entry) (v : List Entry). u ∷ v) k (tail_of (entry_of x) y (row_of rows) row e)
@@ -213,7 +217,8 @@ module _ (row rows : List Given) (i d n : ℕ) (common : d ≡ row_den (row_of r
       (ap entry_of (same_default g) ∙ sym (get_or-row_of row i (get_or row i g))) (total_is row d n common sum)
       (subst (λ (v : ℚ). limit < ℚ.den (v *ℚ inv_ℚ (ratio (pos n) d))) (value_there g) h)
 
-  pub one_there : (g h new : Given) → new.target ≡ Given.target (get_or rows i g) → new.value ≡ Given.value (get_or rows i h) *ℚ inv_ℚ (ratio (pos n) d) → row_of (slice_set rows i new) ≡ scaled_to (over (row_total (row_of row))) (suc i) (row_of row)
+  pub one_there : (g h new : Given) → new.target ≡ Given.target (get_or rows i g) → new.value ≡ Given.value (get_or rows i h) *ℚ inv_ℚ (ratio (pos n) d)
+      → row_of (slice_set rows i new) ≡ scaled_to (over (row_total (row_of row))) (suc i) (row_of row)
   one_there g h new t v =
       one_more (over (row_total (row_of row))) i rows (row_of row) new (entry_of g) here so
       (same_entry _ _ (t ∙ ap (λ (x : Entry). x.target) (still_there (over (row_total (row_of row))) i rows (row_of row) g (entry_of g) here so))

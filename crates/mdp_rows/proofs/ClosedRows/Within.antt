@@ -48,7 +48,8 @@ part_within x n h l d p e =
     let m = num-le_den x h l in
     record { nonnegative = h; num = omega (arith, k, m, e); den = omega (arith, k, e) }
 
-each_within : (row : List Entry) (n : ℕ) → AllByRecursion (λ x. 0ℚ ≤ℚ x.prob) row → AllByRecursion (λ x. x.prob ≤ℚ 1ℚ) row → AllByRecursion (λ x. x.prob.den ∣ n) row → 0 < n → n ≤ limit → AllByRecursion (λ x. IsWithinLimit x.prob) row
+each_within : (row : List Entry) (n : ℕ) → AllByRecursion (λ x. 0ℚ ≤ℚ x.prob) row → AllByRecursion (λ x. x.prob ≤ℚ 1ℚ) row → AllByRecursion (λ x. x.prob.den ∣ n) row → 0 < n → n ≤ limit
+    → AllByRecursion (λ x. IsWithinLimit x.prob) row
 each_within [] n h l d p e = tt
 each_within (x ∷ row) n h l d p e = (part_within x.prob n h.0 l.0 d.0 p e, each_within row n h.1 l.1 d.1 p e)
 

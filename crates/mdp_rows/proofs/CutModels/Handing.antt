@@ -35,7 +35,8 @@ choice_first c rest d n e =
     ∙ ap (λ (k : Draft). with_choices rest k) (ok_same b.0 n b.2)
 
 module _ (names labels : List (List ℕ)) where
-  pub one_state : (x : State) (d o l n : Draft) → after_state d (no_rewards names) ≡ Ok o → with_labels labels x.labels o ≡ Ok l → with_choices x.choices l ≡ Ok n → with_states names labels (x ∷ []) d ≡ Ok n
+  pub one_state : (x : State) (d o l n : Draft) → after_state d (no_rewards names) ≡ Ok o → with_labels labels x.labels o ≡ Ok l → with_choices x.choices l ≡ Ok n
+      → with_states names labels (x ∷ []) d ≡ Ok n
   one_state x d o l n e f g =
       ap (λ (r : Result Draft RowsError). r >>= λ opened. with_labels labels x.labels opened >>= λ labelled. with_choices x.choices labelled >>= with_states names labels []) e
       ∙ ap (λ (r : Result Draft RowsError). r >>= λ labelled. with_choices x.choices labelled >>= with_states names labels []) f
@@ -75,7 +76,8 @@ place_below n [] i d a h = absurd (omega arith)
 place_below n (k ∷ places) zero d a h = below_head n k places a
 place_below n (k ∷ places) (suc i) d a h = place_below n places i d (below_tail n k places a) (omega arith)
 
-label_below : (n total s i e : ℕ) (states : List State) (d : State) → IsTrue (in_order_of_sight n states total) → s < length states → i < length (State.labels (get_or states s d)) → get_or (State.labels (get_or states s d)) i e < total
+label_below : (n total s i e : ℕ) (states : List State) (d : State) → IsTrue (in_order_of_sight n states total) → s < length states → i < length (State.labels (get_or states s d))
+    → get_or (State.labels (get_or states s d)) i e < total
 label_below n total s i e [] d sight h l = absurd (omega arith)
 label_below n total zero i e (x ∷ states) d sight h l =
     let k : ℕ = known_after n x.labels in

@@ -30,7 +30,8 @@ row-with_rewards n (r ∷ rows) xs (suc i) = row-with_rewards n rows (drop n xs)
 next_place : (n i m : ℕ) → n + (i * n + m) ≡ suc i * n + m
 next_place n i m = omega arith
 
-reward-with_rewards : (n : ℕ) (rows : List (List Entry)) (xs : List ℚ) (i m : ℕ) → i < length rows → m < n → reward_of (get_or (with_rewards n rows xs) i no_choice) m ≡ get_or xs (i * n + m) (of_int (pos 0))
+reward-with_rewards : (n : ℕ) (rows : List (List Entry)) (xs : List ℚ) (i m : ℕ) → i < length rows → m < n
+    → reward_of (get_or (with_rewards n rows xs) i no_choice) m ≡ get_or xs (i * n + m) (of_int (pos 0))
 reward-with_rewards n [] xs i m h k = absurd (omega arith)
 reward-with_rewards n (r ∷ rows) xs zero m h k = get_or-take n xs m (of_int (pos 0)) k ∙ ap (λ (j : ℕ). get_or xs j (of_int (pos 0))) (let e : m ≡ 0 * n + m = omega arith in e)
 reward-with_rewards n (r ∷ rows) xs (suc i) m h k =
@@ -94,7 +95,8 @@ pub row_is : (c : Inside) (v : ChoiceTable) (i : ℕ) → table_in c ≡ v → g
 row_is c v i is =
     sym (row-with_rewards (length c.names.items) c.rows c.rewards.items i) ∙ ap (λ (l : List Choice). (get_or l i no_choice).row) (choices_are c v is)
 
-pub reward_is : (c : Inside) (v : ChoiceTable) (i m : ℕ) → table_in c ≡ v → i < length v.choices → m < length v.names → get_or c.rewards.items (i * length c.names.items + m) (of_int (pos 0)) ≡ reward_of (get_or v.choices i no_choice) m
+pub reward_is : (c : Inside) (v : ChoiceTable) (i m : ℕ) → table_in c ≡ v → i < length v.choices → m < length v.names
+    → get_or c.rewards.items (i * length c.names.items + m) (of_int (pos 0)) ≡ reward_of (get_or v.choices i no_choice) m
 reward_is c v i m is h k =
     let l = choices_len c v is in let n = names_len c v is in
     sym (reward-with_rewards (length c.names.items) c.rows c.rewards.items i m (omega arith) (omega arith)) ∙ ap (λ (l : List Choice). reward_of (get_or l i no_choice) m) (choices_are c v is)
@@ -125,15 +127,18 @@ reward_names c v ok is = subst AreRewardNames (names_are c v is) ok.names
 
 -- ---- one choice more
 
-pub same_choices : (c : Inside) (rows : List (List Entry)) (rewards : Vec ℚ) (v : ChoiceTable) → rows ≡ c.rows → rewards.items ≡ c.rewards.items → table_in c ≡ v → table_in (record c { rows = rows; rewards = rewards }) ≡ v
+pub same_choices : (c : Inside) (rows : List (List Entry)) (rewards : Vec ℚ) (v : ChoiceTable) → rows ≡ c.rows → rewards.items ≡ c.rewards.items → table_in c ≡ v
+    → table_in (record c { rows = rows; rewards = rewards }) ≡ v
 unfolding table_in
 same_choices c rows rewards v r x is =
     same_table _ _ refl (ap₂ (λ (a : List (List Entry)) (b : List ℚ). with_rewards (length c.names.items) a b) r x) ∙ is
 
-pub same_are_choices : (c : Inside) (rows : List (List Entry)) (rewards : Vec ℚ) → rows ≡ c.rows → rewards.items ≡ c.rewards.items → AreChoices c → AreChoices (record c { rows = rows; rewards = rewards })
+pub same_are_choices : (c : Inside) (rows : List (List Entry)) (rewards : Vec ℚ) → rows ≡ c.rows → rewards.items ≡ c.rewards.items → AreChoices c
+    → AreChoices (record c { rows = rows; rewards = rewards })
 same_are_choices c rows rewards r x ok = record { names = ok.names; rewards = rw (r, x) ok.rewards }
 
-module _ (c : Inside) (v : ChoiceTable) (rows : List (List Entry)) (rewards : Vec ℚ) (row : List Entry) (given : List ℚ) (ok : AreChoices c) (is : table_in c ≡ v) (as_many : length given ≡ length v.names)
+module _ (c : Inside) (v : ChoiceTable) (rows : List (List Entry)) (rewards : Vec ℚ) (row : List Entry) (given : List ℚ) (ok : AreChoices c) (is : table_in c ≡ v)
+    (as_many : length given ≡ length v.names)
     (more : rows ≡ c.rows ++ row ∷ []) (added : rewards.items ≡ c.rewards.items ++ given) where
   given_len : length given ≡ length c.names.items
   given_len = as_many ∙ sym (names_len c v is)

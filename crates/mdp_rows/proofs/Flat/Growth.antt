@@ -41,7 +41,8 @@ pub last-le : (a : ℕ) (places : List ℕ) (end : ℕ) → Ascend a places end 
 last-le a [] end h = h
 last-le a (b ∷ places) end h = last-le b places end h.1
 
-pub ascend_from : (a : ℕ) (places : List ℕ) (end : ℕ) → ((i : ℕ) → suc i < length (a ∷ places) → get_or (a ∷ places) i 0 ≤ get_or (a ∷ places) (suc i) 0) → get_or (a ∷ places) (length places) 0 ≤ end → Ascend a places end
+pub ascend_from : (a : ℕ) (places : List ℕ) (end : ℕ) → ((i : ℕ) → suc i < length (a ∷ places) → get_or (a ∷ places) i 0 ≤ get_or (a ∷ places) (suc i) 0)
+    → get_or (a ∷ places) (length places) 0 ≤ end → Ascend a places end
 ascend_from a [] end h k = k
 ascend_from a (b ∷ places) end h k = (h 0 (omega arith), ascend_from b places end (λ i l. h (suc i) (omega arith)) k)
 
@@ -179,7 +180,8 @@ pub choice-more : (places : List ℕ) (m n : ℕ) → ArePlaces places m → ((i
     → (i : ℕ) → i + 1 < length (places ++ n ∷ []) → get_or (places ++ n ∷ []) i 0 < get_or (places ++ n ∷ []) (i + 1) 0
 choice-more places m n ok strict h i l = elim (cases_lt (i + 1) (length places)) [
   | inl k ↦ (let a = old_place places n i (omega arith) in let b = old_place places n (i + 1) k in let o = strict i k in omega arith)
-  | inr k ↦ (let e = length-append places (n ∷ []) in let a = old_place places n i (omega arith) in let b = new_place places n (i + 1) (omega arith) in let o = ok.within i (omega arith) in omega arith)
+  | inr k ↦ (let e = length-append places (n ∷ []) in let a = old_place places n i (omega arith) in let b = new_place places n (i + 1) (omega arith) in let o = ok.within i (omega arith) in
+      omega arith)
 ]
 
 pub pieces-sum-to : {A : Type 0} → (xs : List A) (places : List ℕ) (m : ℕ) → ArePlaces places m → m ≤ length xs → sum_by length (pieces xs places) ≡ m

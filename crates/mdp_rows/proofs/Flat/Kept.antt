@@ -1,5 +1,6 @@
 -- Entries whose values aren't 0.
-use Rattle.std.proofs.Common.{◌≡◌, ℕ, suc, ◌+◌, ◌≤◌, ◌<◌, Bool, true, false, cond, not, List, [], ◌∷◌, ◌++◌, map, take, length, get_or, add-one, refl, sym, ap, ◌∙◌, arith, ℤ, pos, unsigned_abs, append_assoc, append-nil, eqb}
+use Rattle.std.proofs.Common.{◌≡◌, ℕ, suc, ◌+◌, ◌≤◌, ◌<◌, Bool, true, false, cond, not, List, [], ◌∷◌, ◌++◌, map, take, length, get_or, add-one, refl, sym, ap, ◌∙◌}
+use Rattle.std.proofs.Common.{arith, ℤ, pos, unsigned_abs, append_assoc, append-nil, eqb}
 use Rattle.std.specs.Global.{Vec}
 use Rattle.std.proofs.lemmas.List.{map-append}
 use Rattle.std.proofs.lemmas.Int.{ints}
@@ -36,7 +37,8 @@ kept_head : (b : Bool) (g : Given) (rest : List Given) (row : List Entry) → ro
 kept_head true g rest row e = e
 kept_head false g rest row e = ap (λ (r : List Entry). entry_of g ∷ r) e
 
-kept_more : (row : List Given) (i : ℕ) (g : Given) → i < length row → kept_given (take (i + 1) row) ≡ kept_given (take i row) ++ cond (not (is_zero (Given.value (get_or row i g)))) (get_or row i g ∷ []) []
+kept_more : (row : List Given) (i : ℕ) (g : Given) → i < length row
+    → kept_given (take (i + 1) row) ≡ kept_given (take i row) ++ cond (not (is_zero (Given.value (get_or row i g)))) (get_or row i g ∷ []) []
 kept_more row i g h = ap kept_given (take_more row i g h) ∙ filter-append (λ x. not (is_zero x.value)) (take i row) (get_or row i g ∷ [])
 
 zero_is : (x : ℚ) → x.num ≡ pos 0 → is_zero x ≡ true

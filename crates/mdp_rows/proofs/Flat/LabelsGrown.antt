@@ -28,7 +28,8 @@ few_label_places a ps us ok e h =
     let l = ap length e ∙ length-append a.places.items ps in
     omega arith
 
-module _ (a : Inside) (starts places : Vec ℕ) (ps : List ℕ) (n : ℕ) (ok : AreLabels a) (grown : places.items ≡ a.places.items ++ ps) (end : n ≡ length places.items) (placed : starts.items ≡ a.starts.items ++ n ∷ []) where
+module _ (a : Inside) (starts places : Vec ℕ) (ps : List ℕ) (n : ℕ) (ok : AreLabels a) (grown : places.items ≡ a.places.items ++ ps) (end : n ≡ length places.items)
+    (placed : starts.items ≡ a.starts.items ++ n ∷ []) where
   ends : n ≡ length (a.places.items ++ ps)
   ends = end ∙ ap length grown
 

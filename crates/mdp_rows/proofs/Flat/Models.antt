@@ -120,7 +120,8 @@ targets_of (t ∷ ts) (p ∷ ps) n e h = λ k d l. elim k as (λ k. k < suc (len
 ] l
 
 -- a lent row's targets are states
-pub targets_in_range : (m : Inside) (v : Mdp) (i : ℕ) (ts : List ℕ) (ps : List ℚ) → IsFlat m → mdp_in m ≡ v → i < length m.choices.choices → length ts ≡ length ps → entries ts ps ≡ (get_or m.choices.choices i no_choice).row → All (λ t. t < states_of v) ts
+pub targets_in_range : (m : Inside) (v : Mdp) (i : ℕ) (ts : List ℕ) (ps : List ℚ) → IsFlat m → mdp_in m ≡ v → i < length m.choices.choices → length ts ≡ length ps
+    → entries ts ps ≡ (get_or m.choices.choices i no_choice).row → All (λ t. t < states_of v) ts
 targets_in_range m v i ts ps ok is h same e =
     targets_of ts ps (states_of v) same (rw (e, states_are m v ok is) (ok.in_range i no_choice h))
 
@@ -129,7 +130,8 @@ unfolding mdp_in
 names_are m v is = ap (λ (x : Mdp). x.names) is
 
 -- how many choices there are
-pub choices-total : (choices : List (List Choice)) (labels : List (List ℕ)) → length choices ≡ length labels → sum_by (λ (x : State). length x.choices) (states_from choices labels) ≡ sum_by length choices
+pub choices-total : (choices : List (List Choice)) (labels : List (List ℕ)) → length choices ≡ length labels
+    → sum_by (λ (x : State). length x.choices) (states_from choices labels) ≡ sum_by length choices
 choices-total [] labels e = refl
 choices-total (r ∷ choices) [] e = absurd (omega arith)
 choices-total (r ∷ choices) (l ∷ labels) e =

@@ -56,7 +56,8 @@ module _ (r : Inside) (ok : AreRows r) where
 targets_grown : (ts us : List ℕ) (row : List Given) → us ≡ ts ++ map (λ g. g.target) (kept_given row) → length us ≡ length ts + length (kept_given row)
 targets_grown ts us row e = ap length e ∙ length-append ts (map (λ x. x.target) (kept_given row)) ∙ ap (λ (n : ℕ). length ts + n) (length-map (kept_given row) (λ x. x.target))
 
-pub few_targets : (r : Inside) (us : List ℕ) (row : List Given) → AreRows r → us ≡ r.targets.items ++ map (λ g. g.target) (kept_given row) → sum_by length (rows_in r) + length row < 2 ^ 32 → length us < 2 ^ 32
+pub few_targets : (r : Inside) (us : List ℕ) (row : List Given) → AreRows r → us ≡ r.targets.items ++ map (λ g. g.target) (kept_given row) → sum_by length (rows_in r) + length row < 2 ^ 32
+    → length us < 2 ^ 32
 few_targets r us row ok e h = let a = total_entries r ok in let b = targets_grown r.targets.items us row e in let k = kept-le row in omega arith
 
 module _ (r s : Inside) (row : List Given) (g : IsGrown r s row) (ok : AreRows r) where

@@ -1,5 +1,6 @@
 -- What stands in the lists of predecessors while they are filled.
-use Rattle.std.proofs.Common.{◌≡◌, ◌≢◌, ℕ, zero, suc, ◌+◌, ◌<◌, ◌≤◌, Bool, true, false, ◌||◌, ◌==◌, IsTrue, cond, List, [], ◌∷◌, ◌++◌, length, map, take, get_or, set, replicate, refl, sym, ap, ◌∙◌, arith}
+use Rattle.std.proofs.Common.{◌≡◌, ◌≢◌, ℕ, zero, suc, ◌+◌, ◌<◌, ◌≤◌, Bool, true, false, ◌||◌, ◌==◌, IsTrue, cond, List, [], ◌∷◌, ◌++◌, length, map, take, get_or, set}
+use Rattle.std.proofs.Common.{replicate, refl, sym, ap, ◌∙◌, arith}
 use Rattle.std.specs.List.{flat_map, range_with_len}
 use Rattle.std.proofs.Common.{inl, inr, ◌⊎◌, append_assoc, leb, eq-eqb}
 use Rattle.std.proofs.lemmas.List.{append-nil, take_more, length-set, get_or-set_other, get_or-replicate, length-replicate}
@@ -117,7 +118,8 @@ states_more m n =
     ap (flat_map (choices_of m)) (range_more n) ∙ flat_map-append (choices_of m) (range_with_len 0 n) (n ∷ []) ∙ ap (λ (x : List Pred). choices_below m n ++ x) (append-nil (choices_of m n))
 
 -- a pushed choice is one that leads to the targets of its row
-pub pushed_leads : (m : Mdp) (s c : ℕ) (ts : List ℕ) (ps : List ℚ) (t : ℕ) → length ts ≡ length ps → entries ts ps ≡ row_at m s c → cond (is_among t ts) (pair s c ∷ []) [] ≡ leading m t (pair s c ∷ [])
+pub pushed_leads : (m : Mdp) (s c : ℕ) (ts : List ℕ) (ps : List ℚ) (t : ℕ) → length ts ≡ length ps → entries ts ps ≡ row_at m s c
+    → cond (is_among t ts) (pair s c ∷ []) [] ≡ leading m t (pair s c ∷ [])
 pushed_leads m s c ts ps t same e = rw (sym e, leads_as_among ts ps t same) refl
 
 pub all_led : (m : Mdp) (new : List (List Pred)) (n : ℕ) → IsLed m (replicate (states_of m) []) new (choices_below m n) → n ≡ states_of m → new ≡ map (preds_to m) (range_with_len 0 (states_of m))

@@ -44,7 +44,8 @@ map-same (x ∷ xs) = ap (λ ys. x ∷ ys) (map-same xs)
 -- the test's answer at one more number
 filter-range_more : (p : ℕ → Bool) (n : ℕ) → filter p (range_with_len 0 (n + 1)) ≡ filter p (range_with_len 0 n) ++ cond (p n) (n ∷ []) []
 filter-range_more p n =
-    ap (filter p) (sym (map-same (range_with_len 0 (n + 1)))) ∙ filter_of_map_range_with_len_more p (λ x. x) 0 n n (zero-add n) ∙ ap (λ xs. filter p xs ++ cond (p n) (n ∷ []) []) (map-same (range_with_len 0 n))
+    ap (filter p) (sym (map-same (range_with_len 0 (n + 1)))) ∙ filter_of_map_range_with_len_more p (λ x. x) 0 n n (zero-add n)
+    ∙ ap (λ xs. filter p xs ++ cond (p n) (n ∷ []) []) (map-same (range_with_len 0 n))
 
 module _ (p : ℕ → Bool) (n : ℕ) (more : Bool) where
   pub skip : (first : Option ℕ) → p n ≡ false → IsTally (filter p (range_with_len 0 n)) first more → IsTally (filter p (range_with_len 0 (n + 1))) first more
@@ -70,5 +71,6 @@ filter-none (x ∷ xs) = filter-none xs
 pub no_label : (m : Mdp) → None ≡ place_of (codes "init") m.labels → None ≡ initial_of m
 no_label m e = rw (← e) (sym (ap only (filter-none (range_with_len 0 (states_of m)))))
 
-pub one_label : (m : Mdp) (l n : ℕ) (first : Option ℕ) (more : Bool) → Some l ≡ place_of (codes "init") m.labels → n ≡ states_of m → IsTally (filter (has_label m l) (range_with_len 0 n)) first more → cond more None first ≡ initial_of m
+pub one_label : (m : Mdp) (l n : ℕ) (first : Option ℕ) (more : Bool) → Some l ≡ place_of (codes "init") m.labels → n ≡ states_of m
+    → IsTally (filter (has_label m l) (range_with_len 0 n)) first more → cond more None first ≡ initial_of m
 one_label m l n first more e is h = only-tally _ first more h ∙ rw (← e, is) refl

@@ -1,5 +1,6 @@
 -- The labels of a state, given in the order of their places, make these places, and the names so far are the first of the model's.
-use Rattle.std.proofs.Common.{◌≡◌, ℕ, zero, suc, ◌+◌, ◌≤◌, ◌<◌, Bool, true, false, not, ◌||◌, IsTrue, leb, ltb, le-ltb, eqb, List, [], ◌∷◌, ◌++◌, length, take, get_or, Some, refl, sym, ap, ap₂, ◌∙◌, subst, arith, if◌then◌else◌, append_assoc, append-nil, inl, inr}
+use Rattle.std.proofs.Common.{◌≡◌, ℕ, zero, suc, ◌+◌, ◌≤◌, ◌<◌, Bool, true, false, not, ◌||◌, IsTrue, leb, ltb, le-ltb, eqb, List, [], ◌∷◌, ◌++◌, length, take, get_or}
+use Rattle.std.proofs.Common.{Some, refl, sym, ap, ap₂, ◌∙◌, subst, arith, if◌then◌else◌, append_assoc, append-nil, inl, inr}
 use Rattle.std.specs.Prelude.{Result, Ok, Err}
 use Rattle.std.specs.List.{AllByRecursion, list_any, position_or_len}
 use Rattle.std.specs.Str.{bytes_eq}
@@ -121,7 +122,8 @@ module _ (announced : ℕ) (names labels : List (List ℕ)) (closed : List State
       take_le : (i : ℕ) (xs : List (List ℕ)) → length xs ≤ 1024 → length (take i xs) ≤ 1024
       take_le i xs h = simp length-take (omega arith)
 
-  pub all_labels : (n : ℕ) (places rest : List ℕ) (calls : ℕ) → IsTrue (places_ascend 0 (places ++ rest)) → IsTrue (all_below (known_after n rest) rest) → n ≤ length labels → known_after n rest ≤ length labels → calls + length rest ≤ 64
+  pub all_labels : (n : ℕ) (places rest : List ℕ) (calls : ℕ) → IsTrue (places_ascend 0 (places ++ rest)) → IsTrue (all_below (known_after n rest) rest) → n ≤ length labels
+      → known_after n rest ≤ length labels → calls + length rest ≤ 64
       → with_labels labels rest (labelled n places calls) ≡ Ok (labelled (known_after n rest) (places ++ rest) (calls + length rest))
   all_labels n places [] calls a b h k room = ap₂ (λ (ps : List ℕ) (c : ℕ). Ok (labelled n ps c)) (sym (append-nil places)) (omega arith)
   all_labels n places (l ∷ rest) calls a b h k room =
@@ -130,7 +132,8 @@ module _ (announced : ℕ) (names labels : List (List ℕ)) (closed : List State
       let same : (places ++ l ∷ []) ++ rest ≡ places ++ l ∷ rest = append_assoc places (l ∷ []) rest in
       let next : (if eqb l n then n + 1 else n) ≤ length labels = next_le l n (length labels) (omega arith) h in
       ap (λ (r : Result Draft RowsError). r >>= with_labels labels rest) (one_label n l calls places h (omega arith) known (all_before 0 places l rest a) (omega arith))
-      ∙ all_labels (if eqb l n then n + 1 else n) (places ++ l ∷ []) rest (calls + 1) (subst (λ (ps : List ℕ). IsTrue (places_ascend 0 ps)) (sym same) a) (below_tail (known_after n (l ∷ rest)) l rest b) next k (omega arith)
+      ∙ all_labels (if eqb l n then n + 1 else n) (places ++ l ∷ []) rest (calls + 1) (subst (λ (ps : List ℕ). IsTrue (places_ascend 0 ps)) (sym same) a)
+      (below_tail (known_after n (l ∷ rest)) l rest b) next k (omega arith)
       ∙ ap₂ (λ (ps : List ℕ) (c : ℕ). Ok (labelled (known_after n (l ∷ rest)) ps c)) same (omega arith)
     where
       next_by : (b : Bool) (l n m : ℕ) → eqb l n ≡ b → l < m → n ≤ m → (if b then n + 1 else n) ≤ m

@@ -1,5 +1,6 @@
 -- The entries of a row, given in the order of its targets, make that row; and it closes as it is.
-use Rattle.std.proofs.Common.{◌≡◌, ℕ, ◌+◌, ◌≤◌, ◌<◌, ◌^◌, Bool, true, false, cond, not, IsTrue, leb, le-ltb, List, [], ◌∷◌, ◌++◌, length, Option, Some, None, unsigned_abs, refl, sym, ap, ap₂, ◌∙◌, subst, arith, if◌then◌else◌, append_assoc, append-nil}
+use Rattle.std.proofs.Common.{◌≡◌, ℕ, ◌+◌, ◌≤◌, ◌<◌, ◌^◌, Bool, true, false, cond, not, IsTrue, leb, le-ltb, List, [], ◌∷◌, ◌++◌, length, Option, Some, None}
+use Rattle.std.proofs.Common.{unsigned_abs, refl, sym, ap, ap₂, ◌∙◌, subst, arith, if◌then◌else◌, append_assoc, append-nil}
 use Rattle.std.proofs.lemmas.Int.{ints}
 use Rattle.std.specs.Prelude.{Result, Ok, Err}
 use Rattle.std.specs.List.{AllByRecursion}
@@ -34,7 +35,8 @@ module _ (announced : ℕ) (names labels : List (List ℕ)) (closed : List State
   one_entry row x rest entries a l h =
       let all = all_before 0 row x rest a in
       let v : List Entry → Draft = λ r. in_row r (entries + 1) in
-      ap (λ (b : Bool). if b then Err Target else (if has_target row x.target then Err Twice else (if leb (2 ^ 24) entries then Err TooMany else Ok (v (with_entry x row))))) (lt-leb announced x.target l)
+      ap (λ (b : Bool). if b then Err Target else (if has_target row x.target then Err Twice else (if leb (2 ^ 24) entries then Err TooMany else Ok (v (with_entry x row)))))
+      (lt-leb announced x.target l)
       ∙ ap (λ (b : Bool). if b then Err Twice else (if leb (2 ^ 24) entries then Err TooMany else Ok (v (with_entry x row)))) (not_there x.target row all)
       ∙ ap (λ (b : Bool). if b then Err TooMany else Ok (v (with_entry x row))) (lt-leb (2 ^ 24) entries h)
       ∙ ap (λ (r : List Entry). Ok (v r)) (goes_last x row all)

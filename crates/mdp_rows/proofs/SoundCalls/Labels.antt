@@ -1,5 +1,6 @@
 -- The places of labels, in order of first sight, when a state is given one more.
-use Rattle.std.proofs.Common.{◌≡◌, ℕ, ◌+◌, ◌≤◌, ◌<◌, Bool, true, false, IsTrue, ltb, lt-ltb, eqb, eqb→eq, eq-eqb, T, List, [], ◌∷◌, ◌++◌, length, refl, sym, ap, subst, ◌∙◌, arith, if◌then◌else◌, inl, inr}
+use Rattle.std.proofs.Common.{◌≡◌, ℕ, ◌+◌, ◌≤◌, ◌<◌, Bool, true, false, IsTrue, ltb, lt-ltb, eqb, eqb→eq, eq-eqb, T, List, [], ◌∷◌, ◌++◌, length, refl, sym, ap, subst}
+use Rattle.std.proofs.Common.{◌∙◌, arith, if◌then◌else◌, inl, inr}
 use Rattle.std.proofs.lemmas.Bool.{ne_eqb, cases_eq}
 use borrow.Author.Tests.{ltb-true, ltb-false, eqb-false}
 use Rattle.mdp_math.proofs.Booleans.{and-both, and-left, and-right}
@@ -92,7 +93,8 @@ known-with_old : (n low l : ℕ) (places : List ℕ) → IsTrue (places_ascend l
 known-with_old n low l [] a h = known_skip n l [] (λ e. omega arith)
 known-with_old n low l (k ∷ places) a h =
     place_cases (λ r. known_after n r ≡ known_after n (k ∷ places)) l k places (λ e. refl)
-    (λ lt. known_skip n l (k ∷ places) (λ e. (let s : known_after n (k ∷ places) ≡ n = known_above n (n + 1) (k ∷ places) (omega arith) (ascend_cons (n + 1) k places (omega arith) (ascend_tail low k places a)) in omega arith)))
+    (λ lt. known_skip n l (k ∷ places) (λ e. (let s : known_after n (k ∷ places) ≡ n =
+    known_above n (n + 1) (k ∷ places) (omega arith) (ascend_cons (n + 1) k places (omega arith) (ascend_tail low k places a)) in omega arith)))
     (λ gt. known-with_old (if eqb k n then n + 1 else n) (k + 1) l places (ascend_tail low k places a) h)
 
 -- the next label adds one
@@ -122,15 +124,18 @@ sight_last n total [] ys s = s
 sight_last n total (x ∷ xs) ys s =
     sight_last (known_after n x.labels) total xs ys (and-right (all_below (known_after n x.labels) x.labels) (in_order_of_sight (known_after n x.labels) (xs ++ ys) total) s)
 
-pub sight_both : (n total : ℕ) (xs ys : List State) → IsTrue (in_order_of_sight n xs (known_by n xs)) → IsTrue (in_order_of_sight (known_by n xs) ys total) → IsTrue (in_order_of_sight n (xs ++ ys) total)
+pub sight_both : (n total : ℕ) (xs ys : List State) → IsTrue (in_order_of_sight n xs (known_by n xs)) → IsTrue (in_order_of_sight (known_by n xs) ys total)
+    → IsTrue (in_order_of_sight n (xs ++ ys) total)
 sight_both n total [] ys s t = t
 sight_both n total (x ∷ xs) ys s t =
     and-both (all_below (known_after n x.labels) x.labels) (in_order_of_sight (known_after n x.labels) (xs ++ ys) total)
     (and-left (all_below (known_after n x.labels) x.labels) (in_order_of_sight (known_after n x.labels) xs (known_by (known_after n x.labels) xs)) s)
-    (sight_both (known_after n x.labels) total xs ys (and-right (all_below (known_after n x.labels) x.labels) (in_order_of_sight (known_after n x.labels) xs (known_by (known_after n x.labels) xs)) s) t)
+    (sight_both (known_after n x.labels) total xs ys
+    (and-right (all_below (known_after n x.labels) x.labels) (in_order_of_sight (known_after n x.labels) xs (known_by (known_after n x.labels) xs)) s) t)
 
 -- the last states may be exchanged
-pub sight_changed : (n total more : ℕ) (xs ys zs : List State) → IsTrue (in_order_of_sight n (xs ++ ys) total) → ((k : ℕ) → IsTrue (in_order_of_sight k ys total) → IsTrue (in_order_of_sight k zs more)) → IsTrue (in_order_of_sight n (xs ++ zs) more)
+pub sight_changed : (n total more : ℕ) (xs ys zs : List State) → IsTrue (in_order_of_sight n (xs ++ ys) total)
+    → ((k : ℕ) → IsTrue (in_order_of_sight k ys total) → IsTrue (in_order_of_sight k zs more)) → IsTrue (in_order_of_sight n (xs ++ zs) more)
 sight_changed n total more xs ys zs s f = sight_both n more xs zs (sight_first n total xs ys s) (f (known_by n xs) (sight_last n total xs ys s))
 
 -- one state alone

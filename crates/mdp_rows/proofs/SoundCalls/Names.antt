@@ -74,7 +74,8 @@ different-push (name ∷ names) new d e =
     (not_from_false (list_any (bytes_eq name) (names ++ new ∷ [])) (none_more name new names first (other_way new name p.0)))
     (different-push names new (and-right (not (list_any (bytes_eq name) names)) (are_different names) d) p.1)
 
-by_new : (P : List (List ℕ) → Type 0) (names : List (List ℕ)) (name : List ℕ) (b : Bool) → list_any (bytes_eq name) names ≡ b → P names → (list_any (bytes_eq name) names ≡ false → P (names ++ name ∷ [])) → P (if b then names else names ++ name ∷ [])
+by_new : (P : List (List ℕ) → Type 0) (names : List (List ℕ)) (name : List ℕ) (b : Bool) → list_any (bytes_eq name) names ≡ b → P names
+    → (list_any (bytes_eq name) names ≡ false → P (names ++ name ∷ [])) → P (if b then names else names ++ name ∷ [])
 by_new P names name true e old new = old
 by_new P names name false e old new = new e
 

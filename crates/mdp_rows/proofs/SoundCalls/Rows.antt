@@ -1,5 +1,6 @@
 -- What a row of values that are given closes as: a distribution over the states.
-use Rattle.std.proofs.Common.{◌≡◌, ℕ, ◌+◌, ◌*◌, ◌/◌, ◌≤◌, ◌<◌, Bool, true, false, cond, not, ◌&&◌, IsTrue, leb, le-leb, ltb, eqb→eq, T, List, [], ◌∷◌, length, map, pos, unsigned_abs, refl, sym, ap, subst, ◌∙◌, arith}
+use Rattle.std.proofs.Common.{◌≡◌, ℕ, ◌+◌, ◌*◌, ◌/◌, ◌≤◌, ◌<◌, Bool, true, false, cond, not, ◌&&◌, IsTrue, leb, le-leb, ltb, eqb→eq, T, List, [], ◌∷◌, length, map, pos}
+use Rattle.std.proofs.Common.{unsigned_abs, refl, sym, ap, subst, ◌∙◌, arith}
 use Rattle.std.proofs.lemmas.Int.{ints}
 use Rattle.std.specs.Prelude.{Ok}
 use Rattle.std.specs.List.{All, AllByRecursion}

@@ -8,7 +8,8 @@ pub returns-then-index-label-clause-added : goal.returns-then-index-label-clause
 returns-then-index-label-clause-added c =
     let p = rw c.deref.ensures.value at c.place_of_label-place.ensures in
     let h = c.if-place-len.true in
-    sym (with_present c.args.label c.args.places.now.items c.index.result.now (omega (arith, p, c.len.ensures, h)) (ap (λ i. get_or c.args.places.now.items i c.index.result.now) (sym p) ∙ sym c.index.ensures ∙ c.if-index-label.true))
+    sym (with_present c.args.label c.args.places.now.items c.index.result.now (omega (arith, p, c.len.ensures, h))
+    (ap (λ i. get_or c.args.places.now.items i c.index.result.now) (sym p) ∙ sym c.index.ensures ∙ c.if-index-label.true))
 
 pub insert-requires : goal.insert-requires
 insert-requires c =
@@ -21,7 +22,8 @@ returns-clause-added c =
     let p = rw c.deref.ensures.value at c.place_of_label-place.ensures in
     let a : with_place c.args.label c.args.places.now.items ≡ put (place_in c.args.label c.args.places.now.items) c.args.label c.args.places.now.items =
     elim c.else-place-len.branch [
-      | else-place-len-via-then-place-len+else-index-label w ↦ with_absent c.args.label c.args.places.now.items w.index.result.now (λ h s. w.if-index-label.false (w.index.ensures ∙ ap (λ i. get_or c.args.places.now.items i w.index.result.now) p ∙ s))
+      | else-place-len-via-then-place-len+else-index-label w ↦ with_absent c.args.label c.args.places.now.items w.index.result.now
+          (λ h s. w.if-index-label.false (w.index.ensures ∙ ap (λ i. get_or c.args.places.now.items i w.index.result.now) p ∙ s))
       | else-place-len-via-else-place-len w ↦ with_absent c.args.label c.args.places.now.items 0 (λ h s. absurd (omega (arith, p, c.len.ensures, w.if-place-len.false)))
     ] in
     (c.in_ok-insert.ensures {u = tt}).items ∙ ap (λ i. put i c.args.label c.args.places.now.items) p ∙ sym a

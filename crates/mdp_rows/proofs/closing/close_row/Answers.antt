@@ -49,7 +49,8 @@ returns-then-is_some-clause-closed c =
     let n = parts.within-some c.in-Some.den _ c.in-Some-sum_in_parts.parts (c.in-Some-sum_in_parts.ensures {u = tt}) in
     let is : IsSummed c.args.row.now c.in-Some.den c.in-Some-sum_in_parts.parts = record { common = d.0; within = d.1; sum = n.0 } in
     let e = c.scale.ensures.scaled c.if-scale.true in
-    rw c.in-Scaled.is (closes_scaled c.args.state c.args.choice c.args.row.now c.in-Some.den c.in-Some-sum_in_parts.parts is (row_of c.scale.new.row) (omega (arith, c.abs_diff.ensures, c.if-abs_diff-den.false)) e
+    rw c.in-Scaled.is (closes_scaled c.args.state c.args.choice c.args.row.now c.in-Some.den c.in-Some-sum_in_parts.parts is (row_of c.scale.new.row)
+    (omega (arith, c.abs_diff.ensures, c.if-abs_diff-den.false)) e
     (some_within (row_den (row_of c.scale.new.row)) c.common_den-then-scale.result c.common_den-then-scale.ensures (sym c.is_some.ensures ∙ c.if-is_some.true)))
 
 pub returns-else-scale-clause-refused : goal.returns-else-scale-clause-refused

@@ -14,7 +14,8 @@ use Rattle.mdp_rows.proofs.subsystem.give_entries.Goals as goal
 pub entry-requires-clause-term : goal.entry-requires-clause-term
 entry-requires-clause-term c =
     prob_at c.row-row.result.targets.now c.row-row.result.probs.now c.loop-i.i c.index-row-i.result c.row-row.result.same_length c.loop-i-test.true
-    (subst (λ (row : List Entry). AllByRecursion (λ x. IsWithinLimit x.prob) row) (sym c.row-row.ensures.row) (row_within c.args.model.now c.args.s c.args.c c.known.ensures.model c.requires.state c.requires.choice))
+    (subst (λ (row : List Entry). AllByRecursion (λ x. IsWithinLimit x.prob) row) (sym c.row-row.ensures.row)
+    (row_within c.args.model.now c.args.s c.args.c c.known.ensures.model c.requires.state c.requires.choice))
 
 pub loop-i-preserved : goal.loop-i-preserved
 loop-i-preserved c =

@@ -24,7 +24,8 @@ loop-s-preserved c =
       given =
           sym (state_first m.names m.labels (cut_state m.names c.loop-s.s (state_at m c.loop-s.s) c.if-at.stays) rest c.loop-s.builder c.give_state.new.builder c.in_ok-give_state.ensures.given)
           ∙ ap (λ (b : Bool). with_states m.names m.labels (cut_state m.names c.loop-s.s (state_at m c.loop-s.s) b ∷ rest) c.loop-s.builder) stays
-          ∙ ap (λ (xs : List State). with_states m.names m.labels xs c.loop-s.builder) (sym (sub_at m c.args.goals.now c.args.kept.now c.loop-s.s (subst (λ (n : ℕ). c.loop-s.s < n) c.states-s-end.ensures c.loop-s-test.true)))
+          ∙ ap (λ (xs : List State). with_states m.names m.labels xs c.loop-s.builder)
+          (sym (sub_at m c.args.goals.now c.args.kept.now c.loop-s.s (subst (λ (n : ℕ). c.loop-s.s < n) c.states-s-end.ensures c.loop-s-test.true)))
           ∙ c.loop-s.invariant.given;
       same = both_same c.args.builder.now c.loop-s.builder c.give_state.new.builder c.loop-s.invariant.same c.in_ok-give_state.ensures.same;
     }

@@ -24,7 +24,8 @@ returns-in_err-close_row c =
     record {
       follows = rw (p.1, p.2) (inr (row_refused c.self.inside _ c.states-state.result _ c.in_err-close_row.field-0.0 c.self.view_is c.self.invariant
           (record { stage = c.in-InRow.is; state = c.states-state.ensures; choice = ap (λ n. n - c.self.inside.first_choice) c.len.ensures })
-          (closes_as c.self.inside c.sort_row.new.row c.close_row.new.row _ _ c.deref_mut.ensures.value c.sort_row.ensures c.deref_mut-2.ensures.value c.self.inside.rule _ _ _ (c.in_err-close_row.ensures {u = tt}).refused)));
+          (closes_as c.self.inside c.sort_row.new.row c.close_row.new.row _ _ c.deref_mut.ensures.value c.sort_row.ensures c.deref_mut-2.ensures.value c.self.inside.rule _ _ _
+          (c.in_err-close_row.ensures {u = tt}).refused)));
     }
 
 pub push-requires-clause-distribution : goal.push-requires-clause-distribution
@@ -32,7 +33,8 @@ push-requires-clause-distribution c =
     let h = is_closing c.self.inside c.sort_row.new.row c.close_row.new.row _ _ c.deref_mut.ensures.value c.sort_row.ensures c.deref_mut-2.ensures.value c.close_row.ensures.targets in
     rw (c.deref.ensures.value ∙ closing_items c.self.inside _ _ c.self.invariant h)
     (closing_distribution c.self.inside c.self.inside.rule _ _ (kept (row_of c.close_row.new.row)) c.self.invariant
-    (closes_as c.self.inside c.sort_row.new.row c.close_row.new.row _ _ c.deref_mut.ensures.value c.sort_row.ensures c.deref_mut-2.ensures.value c.self.inside.rule _ _ _ (c.in_ok-close_row.ensures {u = tt}).closed))
+    (closes_as c.self.inside c.sort_row.new.row c.close_row.new.row _ _ c.deref_mut.ensures.value c.sort_row.ensures c.deref_mut-2.ensures.value c.self.inside.rule _ _ _
+    (c.in_ok-close_row.ensures {u = tt}).closed))
 
 pub invariant_of-self-then-is_err : goal.invariant_of-self-then-is_err
 invariant_of-self-then-is_err c =
@@ -67,5 +69,6 @@ returns c =
           (record { stage = c.in-InRow.is; state = c.states-state.ensures; choice = ap (λ n. n - c.self.inside.first_choice) c.len.ensures })
           _ (closing_row c.self.inside _ _ c.self.invariant h) (closing_len c.self.inside _ _ c.self.invariant h)
           (unmarked c.self.inside _ _ _ _ c.self.invariant h (c.deref-3.ensures.value ∙ i) c.unmark.ensures.as_many c.unmark.ensures.unmarked) g c.clear.ensures.items _ c.self.view_is
-          (closes_as c.self.inside c.sort_row.new.row c.close_row.new.row _ _ c.deref_mut.ensures.value c.sort_row.ensures c.deref_mut-2.ensures.value c.self.inside.rule _ _ _ (c.in_ok-close_row.ensures {u = tt}).closed);
+          (closes_as c.self.inside c.sort_row.new.row c.close_row.new.row _ _ c.deref_mut.ensures.value c.sort_row.ensures c.deref_mut-2.ensures.value c.self.inside.rule _ _ _
+          (c.in_ok-close_row.ensures {u = tt}).closed);
     }

@@ -8,7 +8,10 @@ returns-in_default c = record { follows = no_state_to_close c.self.inside _ c.se
 
 pub returns-then-end-self : goal.returns-then-end-self
 returns-then-end-self c =
-    record { follows = inr (state_refused c.self.inside _ c.states-state.result c.len-end.result c.self.view_is c.self.invariant c.in-InState.is c.states-state.ensures c.len-end.ensures c.if-end-self.true) }
+    record {
+      follows = inr (state_refused c.self.inside _ c.states-state.result c.len-end.result c.self.view_is c.self.invariant c.in-InState.is c.states-state.ensures c.len-end.ensures
+          c.if-end-self.true);
+    }
 
 pub invariant_of-self-2 : goal.invariant_of-self-2
 invariant_of-self-2 c =

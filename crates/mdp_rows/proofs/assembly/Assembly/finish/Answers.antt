@@ -27,7 +27,8 @@ pub returns-clause-model : goal.returns-clause-model
 returns-clause-model c = finish_model (after_finish c.args.self) c.into_model.result (all_go c.args.self finished _ (c.in_ok-try_close_state.ensures {u = tt}).follows ∙ c.into_model.ensures)
 
 pub returns-clause-refusal : goal.returns-clause-refusal
-returns-clause-refusal c = finish_refusal c.args.self (after_finish c.args.self) c.into_model.result (all_go c.args.self finished _ (c.in_ok-try_close_state.ensures {u = tt}).follows ∙ c.into_model.ensures)
+returns-clause-refusal c = finish_refusal c.args.self (after_finish c.args.self) c.into_model.result
+    (all_go c.args.self finished _ (c.in_ok-try_close_state.ensures {u = tt}).follows ∙ c.into_model.ensures)
 
 pub into_model-requires-clause-closed : goal.into_model-requires-clause-closed
 into_model-requires-clause-closed c = all_are_closed c.args.self _ (c.in_ok-try_close_state.ensures {u = tt}).follows

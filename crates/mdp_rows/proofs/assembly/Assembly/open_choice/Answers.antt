@@ -20,7 +20,8 @@ pub returns-in_err-add_rewards : goal.returns-in_err-add_rewards
 returns-in_err-add_rewards c =
     let p = err_from_is_err_and c.from_residual.result c.from_residual.ensures.1 in
     record {
-      follows = rw (p.1, p.2) (or_memory c.in_err-add_rewards.field-0.0 (sums_refused c.self.inside _ c.args.rewards.now c.self.view_is c.self.invariant c.in-InState.is (omega (arith, c.len.ensures)) c.in_err-add_rewards.field-0.0)
+      follows = rw (p.1, p.2) (or_memory c.in_err-add_rewards.field-0.0
+          (sums_refused c.self.inside _ c.args.rewards.now c.self.view_is c.self.invariant c.in-InState.is (omega (arith, c.len.ensures)) c.in_err-add_rewards.field-0.0)
           (rw c.deref.ensures.value at (c.in_err-add_rewards.ensures {u = tt}).refused));
     }
 

@@ -10,7 +10,8 @@ use Rattle.mdp_rows.proofs.Flat.Choices.{names_are}
 use Rattle.mdp_rows.proofs.Flat.Names.{position-map}
 use Rattle.mdp_rows.proofs.choices.Choices.place.Goals as goal
 
-found : (a : Inside) (v : ChoiceTable) (name : List ℕ) (names : List (Vec ℕ)) (o : Option ℕ) → table_in a ≡ v → names ≡ a.names.items → o ≡ position (λ (k : Vec ℕ). bytes_eq name k.items) names → o ≡ place_of name v.names
+found : (a : Inside) (v : ChoiceTable) (name : List ℕ) (names : List (Vec ℕ)) (o : Option ℕ) → table_in a ≡ v → names ≡ a.names.items
+    → o ≡ position (λ (k : Vec ℕ). bytes_eq name k.items) names → o ≡ place_of name v.names
 found a v name names o is e f =
     f ∙ ap (position (λ (k : Vec ℕ). bytes_eq name k.items)) e ∙ sym (position-map (bytes_eq name) (λ (k : Vec ℕ). k.items) a.names.items) ∙ ap (place_of name) (names_are a v is)
 

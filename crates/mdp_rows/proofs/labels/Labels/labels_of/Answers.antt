@@ -20,7 +20,8 @@ slice_bounds-result-start c =
 
 pub slice_bounds-result-end : goal.slice_bounds-result-end
 slice_bounds-result-end c =
-    let f = next_places _ _ c.args.s _ _ c.self.invariant.places (omega (arith, states_are _ _ c.self.view_is)) c.index.ensures c.index-2.ensures in omega (arith, f.within, c.as_slice-places.ensures.len)
+    let f = next_places _ _ c.args.s _ _ c.self.invariant.places (omega (arith, states_are _ _ c.self.view_is)) c.index.ensures c.index-2.ensures in
+    omega (arith, f.within, c.as_slice-places.ensures.len)
 
 pub returns : goal.returns
 returns c =

@@ -14,7 +14,8 @@ pub returns-in-Some-clause-place : goal.returns-in-Some-clause-place
 returns-in-Some-clause-place c = (seen_before c.self.inside.names.keys _ c.args.name.now (names_are _ _ c.self.view_is) _ (sym c.get_index_of.ensures.index ∙ c.in-Some.is)).0
 
 pub returns-in-Some-clause-seen : goal.returns-in-Some-clause-seen
-returns-in-Some-clause-seen c = same_names c.args.self.now _ (seen_before c.self.inside.names.keys _ c.args.name.now (names_are _ _ c.self.view_is) _ (sym c.get_index_of.ensures.index ∙ c.in-Some.is)).1
+returns-in-Some-clause-seen c = same_names c.args.self.now _
+    (seen_before c.self.inside.names.keys _ c.args.name.now (names_are _ _ c.self.view_is) _ (sym c.get_index_of.ensures.index ∙ c.in-Some.is)).1
 
 pub returns-in_err-place-clause-unchanged : goal.returns-in_err-place-clause-unchanged
 returns-in_err-place-clause-unchanged c = on_err_of c.from_residual-in_err-place.result (names_unchanged c.self.inside _ refl refl (c.in_err-place.ensures {u = tt}).err ∙ c.self.view_is)
@@ -25,7 +26,8 @@ invariant_of-self-2 c =
     let k = c.in_ok-from_slice.field-0 in
     let f = (c.in_ok-from_slice.ensures {u = tt}).items in
     let e : map (λ v. v.items) c.insert_full.new.self.keys ≡ with_name c.args.self.now.names c.args.name.now =
-    ap (λ (ks : List (Vec ℕ)). map (λ v. v.items) ks) (c.in_ok-place.ensures {u = tt}).keys ∙ with_name-keys c.self.inside.names.keys k ∙ ap (with_name (map (λ v. v.items) c.self.inside.names.keys)) f ∙ ap (λ (x : List (List ℕ)). with_name x c.args.name.now) n in
+    ap (λ (ks : List (Vec ℕ)). map (λ v. v.items) ks) (c.in_ok-place.ensures {u = tt}).keys ∙ with_name-keys c.self.inside.names.keys k
+    ∙ ap (with_name (map (λ v. v.items) c.self.inside.names.keys)) f ∙ ap (λ (x : List (List ℕ)). with_name x c.args.name.now) n in
     let l = length-map c.insert_full.new.self.keys (λ (v : Vec ℕ). v.items) in
     let m = ap length e in
     are_labels_named c.self.inside _ refl refl c.self.invariant (omega (arith, c.requires, l, m))
@@ -42,4 +44,5 @@ returns-clause-seen c =
     let k = c.in_ok-from_slice.field-0 in
     let f = (c.in_ok-from_slice.ensures {u = tt}).items in
     names_grown c.self.inside _ refl refl c.args.self.now _ c.self.view_is
-    (ap (λ (ks : List (Vec ℕ)). map (λ v. v.items) ks) (c.in_ok-place.ensures {u = tt}).keys ∙ with_name-keys c.self.inside.names.keys k ∙ ap (with_name (map (λ v. v.items) c.self.inside.names.keys)) f ∙ ap (λ (x : List (List ℕ)). with_name x c.args.name.now) n)
+    (ap (λ (ks : List (Vec ℕ)). map (λ v. v.items) ks) (c.in_ok-place.ensures {u = tt}).keys ∙ with_name-keys c.self.inside.names.keys k
+    ∙ ap (with_name (map (λ v. v.items) c.self.inside.names.keys)) f ∙ ap (λ (x : List (List ℕ)). with_name x c.args.name.now) n)
