@@ -1,5 +1,5 @@
 -- The jobs, as contracts see them, and the words that name the files of each.
-use Rattle.std.specs.Prelude.{ℕ, Bool, Option, Some, None, is_some, Result, Ok, Err}
+use Rattle.std.specs.Prelude.{Bool, Some, None, is_some, Result, Ok, Err}
 use Rattle.mdp_rows.specs.declared.rule.RowRule.{RowRule}
 use Rattle.mdp_job.specs.declared.job.Job.{Job}
 use Rattle.mdp_job.specs.declared.job.Job.TheVariants.{Check}

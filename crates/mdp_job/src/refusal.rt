@@ -13,7 +13,7 @@ use mdp_num::Memory;
 use std::alloc::AllocError;
 
 /// An answer other than that the work was done, but for a fault of the sink.
-#[derive(Clone, Copy, Debug, PartialEq, Eq)]
+#[derive(Debug, Drop, PartialEq, Eq)]
 pub enum Refusal {
     /// The words are no job.
     Words(WordsError),
