@@ -1,6 +1,5 @@
-mod Causes
-mod Endings
-mod Long
-mod Showing
-mod Came
+mod Accepting
+mod FileBytes
+mod Deciding
+mod Answering
 mod PredCounts

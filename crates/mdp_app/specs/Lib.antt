@@ -1,4 +1,8 @@
+pub mod Said
+pub mod Due
+pub mod Streams
+pub mod Written
 pub mod Accepted
-pub mod Answered
-pub mod Files
 pub mod Run
+pub mod Decided
+pub mod Laws

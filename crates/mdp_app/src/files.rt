@@ -1,8 +1,11 @@
-ghost use Rattle.std.specs.Prelude.{◌≡◌, ◌⊎◌, Err, OnOk};
+ghost use Rattle.std.specs.Prelude.{◌≡◌, ◌⊎◌, Err, OnOk, IfOk};
 ghost use Rattle.std.specs.Io.KnownBytes.{IsAtEnd};
-ghost use Rattle.mdp_edge.specs.Faults.{FaultCounted};
-ghost use Rattle.mdp_app.specs.Run.{Came, model_due, certificate_due};
-ghost use Rattle.mdp_app.specs.Files.{plain_result};
+ghost use Rattle.mdp_spec.specs.Row.{IsMdp};
+ghost use Rattle.mdp_job.specs.Refusal.{read_model, read_certificate};
+ghost use Rattle.mdp_app.specs.Due.{model_due, certificate_due};
+ghost use Rattle.mdp_app.specs.Said.{plain_error};
+ghost use Rattle.mdp_app.specs.Streams.{input};
+ghost use Rattle.mdp_app.specs.Decided.{IsRead, plain_certificate};
 
 use mdp_cert::{Cert, CertError, read_cert};
 use mdp_drn::{FromError, read_from};
@@ -16,11 +19,15 @@ const MOST_BYTES: usize = 1 << 30;
 
 /// The model that a source's bytes read as. The source is read in pieces and to its end, also where the text is refused.
 pub fn read_model<S: Source>(alloc: Global, source: &mut S, rule: RowRule) -> Result<Model, Refusal>
-    ensures cause { Came (S.left source.old) (model_due rule) result ⊎ ((result ≡ Err Refusal.Memory) ⊎ ((result ≡ Err Refusal.ReadModel) × FaultCounted (S.faults source.old) (S.faults source.new))) }
+    ensures read { IsRead (input S.left S.faults source.old source.new) (model_due rule) read_model (plain_error result) }
     ensures end { OnOk result (IsAtEnd (S.left source.new)) }
+    ensures mdp { IfOk result IsMdp }
 {
     match read_from(alloc, source, rule, MOST_BYTES) {
-        Ok(model) => Ok(model),
+        Ok(model) => {
+            model.known();
+            Ok(model)
+        }
         Err(FromError::ReadFault) => Err(Refusal::ReadModel),
         Err(FromError::Long) => Err(Refusal::LongModel),
         Err(FromError::At { line, kind }) => Err(Refusal::Model { line, kind }),
@@ -30,7 +37,7 @@ pub fn read_model<S: Source>(alloc: Global, source: &mut S, rule: RowRule) -> Re
 
 /// The certificate of which a source's bytes are the text.
 pub fn read_certificate<S: Source>(alloc: Global, source: &mut S) -> Result<Cert, Refusal>
-    ensures cause { Came (S.left source.old) certificate_due (plain_result result) ⊎ ((result ≡ Err Refusal.Memory) ⊎ ((result ≡ Err Refusal.ReadCertificate) × FaultCounted (S.faults source.old) (S.faults source.new))) }
+    ensures read { IsRead (input S.left S.faults source.old source.new) certificate_due read_certificate (plain_certificate result) }
     ensures end { OnOk result (IsAtEnd (S.left source.new)) }
 {
     let bytes = match read_all(alloc, source, MOST_BYTES) {

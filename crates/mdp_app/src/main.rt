@@ -4,6 +4,7 @@
 mod files;
 #[cfg(test)]
 mod graph_tests;
+mod laws;
 #[cfg(test)]
 mod library_tests;
 mod run;
@@ -12,35 +13,48 @@ mod tests;
 
 use crate::run::run;
 use mdp_edge::{StdSink, StdSource, SureSource};
-use mdp_job::Status;
+use mdp_job::{Files, Status, files_of};
 use std::alloc::Global;
 use std::env;
 use std::fs::File;
 use std::process::ExitCode;
 
-/// The file of this name as a source; one that fails at its first read where the file can't be opened.
-fn opened(rt: &HostRuntime, path: &str) -> StdSource<File> {
-    StdSource::new(File::open(rt, path).ok())
+/// The file that the word at this place names, as a source; one that fails at its first read where it can't be opened.
+fn opened(rt: &HostRuntime, words: &[String], place: usize) -> StdSource<File> {
+    let file = words.get(place).map(|word| File::open(rt, word.as_str()));
+    StdSource::new(file.and_then(Result::ok))
+}
+
+/// A source that has ended.
+fn ended(rt: &HostRuntime) -> SureSource {
+    SureSource::new(Vec::new(rt.alloc()))
 }
 
 /// Runs the program on its words. The files that they name are opened here.
 fn run_on_files(rt: &HostRuntime, words: &[String]) -> Status {
+    let alloc = rt.alloc();
     let mut out = StdSink::new(rt.stdout());
-    match words {
-        [command, model, _rows, certificate] if command.as_str() == "check" => run(
-            rt.alloc(),
+    match files_of(words) {
+        Files {
+            model: Some(model),
+            second: Some(second),
+        } => run(
+            alloc,
             words,
-            &mut opened(rt, model.as_str()),
-            &mut opened(rt, certificate.as_str()),
+            &mut opened(rt, words, model),
+            &mut opened(rt, words, second),
             &mut out,
         ),
-        _ => run(
-            rt.alloc(),
+        Files {
+            model: Some(model), ..
+        } => run(
+            alloc,
             words,
-            &mut SureSource::new(Vec::new(rt.alloc())),
-            &mut SureSource::new(Vec::new(rt.alloc())),
+            &mut opened(rt, words, model),
+            &mut ended(rt),
             &mut out,
         ),
+        _ => run(alloc, words, &mut ended(rt), &mut ended(rt), &mut out),
     }
 }
 

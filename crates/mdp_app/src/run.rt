@@ -1,10 +1,16 @@
-ghost use Rattle.std.specs.Prelude.{◌≡◌, ◌≢◌, ◌⊎◌, Ok, Err, IsOk, OnOk};
-ghost use Rattle.mdp_edge.specs.Faults.{FaultCounted};
+ghost use Rattle.std.specs.Prelude.{◌≡◌, ◌⊎◌, false, Ok, Err, OnOk};
+ghost use Rattle.std.specs.Io.KnownBytes.{IsAtEnd};
 ghost use Rattle.mdp_cert.specs.Plain.{plain};
-ghost use Rattle.mdp_check.specs.Check.{answer_to, IsAccepted, IsBound};
-ghost use Rattle.mdp_app.specs.Run.{Said, said_of, yes_text, CertificateCause, CheckCause, HasCause, LeavesCertificate, Unread, Wrote, WroteText, Ends, Answers, said_status};
-ghost use Rattle.mdp_app.specs.Answered.{said};
-ghost use Rattle.mdp_app.specs.Accepted.{ShownCertificate, ShownModel, Shown, IfTold, DoneWhereAccepted};
+ghost use Rattle.mdp_check.specs.Check.{answer_to};
+ghost use Rattle.mdp_job.specs.Job.{check};
+ghost use Rattle.mdp_job.specs.Refusal.{plain_refusal, no_memory, read_certificate};
+ghost use Rattle.mdp_job.specs.Words.{job_of};
+ghost use Rattle.mdp_app.specs.Due.{said_of, yes_text, certificate_due, said_to_certificate};
+ghost use Rattle.mdp_app.specs.Said.{said};
+ghost use Rattle.mdp_app.specs.Streams.{input, output};
+ghost use Rattle.mdp_app.specs.Written.{WroteText};
+ghost use Rattle.mdp_app.specs.Run.{IsAnswered, IsWorkDone, IsComplete, is_of_model};
+ghost use Rattle.mdp_app.specs.Decided.{IsRead, IsDecided, EndsWith};
 
 use crate::files::{read_certificate, read_model};
 use mdp_cert::Cert;
@@ -17,7 +23,7 @@ use std::alloc::Global;
 
 /// The text of a certificate that holds.
 fn yes(alloc: Global) -> Result<Vec<u8>, Refusal>
-    ensures { (result ≡ Err Refusal.Memory) ⊎ (said result ≡ Ok yes_text) }
+    ensures { (said result ≡ Err no_memory) ⊎ (said result ≡ Ok yes_text) }
 {
     match b"yes\n".to_vec(alloc) {
         Ok(text) => Ok(text),
@@ -27,9 +33,7 @@ fn yes(alloc: Global) -> Result<Vec<u8>, Refusal>
 
 /// What the checker says, as the text of a run or its refusal.
 fn checked(alloc: Global, model: &Model, cert: &Cert) -> Result<Vec<u8>, Refusal>
-    ensures answer { (result ≡ Err Refusal.Memory) ⊎ (said result ≡ said_of (answer_to model.now (plain cert.now))) }
-    ensures accepted { OnOk result (IsAccepted model.now (plain cert.now)) }
-    ensures bound { OnOk result (IsBound model.now (plain cert.now)) }
+    ensures { (said result ≡ Err no_memory) ⊎ (said result ≡ said_of (answer_to model.now (plain cert.now))) }
 {
     match check(alloc, model, cert) {
         Answer::Yes => yes(alloc),
@@ -47,9 +51,9 @@ fn check_certificate<C: Source>(
     model: &Model,
     cert: &mut C,
 ) -> Result<Vec<u8>, Refusal>
-    ensures cause { CertificateCause model.now (C.left cert.old) (FaultCounted (C.faults cert.old) (C.faults cert.new)) (said result) }
-    ensures read { LeavesCertificate (said result) (cert.new ≡ cert.old) }
-    ensures shown { OnOk result (ShownCertificate model.now (C.left cert.old)) }
+    ensures read { IsRead (input C.left C.faults cert.old cert.new) (λ bytes. said_to_certificate model.now (certificate_due bytes)) read_certificate (said result) }
+    ensures not_of_model { is_of_model (said result) ≡ false }
+    ensures end { OnOk (said result) (IsAtEnd (C.left cert.new)) }
 {
     match read_certificate(alloc, cert) {
         Ok(cert) => checked(alloc, model, &cert),
@@ -64,9 +68,7 @@ fn check_files<S: Source, C: Source>(
     model: &mut S,
     cert: &mut C,
 ) -> Result<Vec<u8>, Refusal>
-    ensures cause { CheckCause rule (S.left model.old) (C.left cert.old) (FaultCounted (S.faults model.old) (S.faults model.new)) (FaultCounted (C.faults cert.old) (C.faults cert.new)) (said result) }
-    ensures unread { LeavesCertificate (said result) (cert.new ≡ cert.old) }
-    ensures shown { OnOk result (ShownModel rule (S.left model.old) (C.left cert.old)) }
+    ensures { IsDecided (Ok (check rule)) (input S.left S.faults model.old model.new) (input C.left C.faults cert.old cert.new) (said result) }
 {
     match read_model(alloc, model, rule) {
         Ok(model) => check_certificate(alloc, &model, cert),
@@ -79,44 +81,44 @@ fn decided<S: Source, C: Source>(
     alloc: Global,
     words: &[String],
     model: &mut S,
-    cert: &mut C,
+    second: &mut C,
 ) -> Result<Vec<u8>, Refusal>
-    ensures cause { HasCause words.now (S.left model.old) (C.left cert.old) (FaultCounted (S.faults model.old) (S.faults model.new)) (FaultCounted (C.faults cert.old) (C.faults cert.new)) (said result) }
-    ensures unread { Unread (said result) (model.new ≡ model.old) (cert.new ≡ cert.old) }
-    ensures shown { OnOk result (Shown words.now (S.left model.old) (C.left cert.old)) }
+    ensures { IsDecided (job_of words.now) (input S.left S.faults model.old model.new) (input C.left C.faults second.old second.new) (said result) }
 {
     match job_of(words) {
-        Ok(Job::Check { rule }) => check_files(alloc, rule, model, cert),
+        Ok(Job::Check { rule }) => check_files(alloc, rule, model, second),
         Err(error) => Err(Refusal::Words(error)),
     }
 }
 
-/// Does all that the program does: judges the words, reads the model and then the certificate to their ends, holds the certificate against
-/// the model, and writes one line. A source that isn't read keeps what it has left.
+/// Does all that the program does: judges the words, reads the model and then the second file, does the work, and writes its text or the line of a
+/// refusal. A source that the job doesn't read keeps what it has left. All of the text is in memory before the first write.
 pub fn run<S: Source, C: Source, K: Sink>(
     alloc: Global,
     words: &[String],
     model: &mut S,
-    cert: &mut C,
+    second: &mut C,
     out: &mut K,
 ) -> Status
-    // The answer has its cause, sources that aren't read are as before, and the answer's text is written.
-    ensures answer { Answers (HasCause words.now (S.left model.old) (C.left cert.old) (FaultCounted (S.faults model.old) (S.faults model.new)) (FaultCounted (C.faults cert.old) (C.faults cert.new))) (λ said. Unread said (model.new ≡ model.old) (cert.new ≡ cert.old)) (Wrote result (K.taken out.old) (K.taken out.new) (K.settled out.new) (K.faults out.old) (K.faults out.new)) }
+    // The answer is due to the bytes of the sources, or one of them failed, or memory is wanting; and it was written.
+    ensures answer { IsAnswered (job_of words.now) (input S.left S.faults model.old model.new) (input C.left C.faults second.old second.new)
+                     (output K.taken K.settled K.faults out.old out.new) result }
 
-    // Where the work was done, the bytes read as a model and as a certificate whose claim is true of it, whoever made the certificate.
-    ensures done { result ≡ Status.Done → Shown words.now (S.left model.old) (C.left cert.old) }
+    // Where the work was done, the text that the sink took is due to the job, and what it says is true.
+    ensures done { result ≡ Status.Done → IsWorkDone (job_of words.now) (input S.left S.faults model.old model.new) (input C.left C.faults second.old second.new)
+                   (output K.taken K.settled K.faults out.old out.new) }
 
-    // The work is done exactly where the bytes are accepted, but for faults that were counted and want of memory.
-    ensures complete { IfTold (S.left model.old) (C.left cert.old) (DoneWhereAccepted words.now result (FaultCounted (S.faults model.old) (S.faults model.new) ⊎ FaultCounted (C.faults cert.old) (C.faults cert.new)) (FaultCounted (K.faults out.old) (K.faults out.new))) }
+    // Where a text is due, the work is done, but for faults that were counted and want of memory.
+    ensures complete { IsComplete (job_of words.now) (input S.left S.faults model.old model.new) (input C.left C.faults second.old second.new)
+                       (output K.taken K.settled K.faults out.old out.new) result }
 {
-    let answer = decided(alloc, words, model, cert);
+    let answer = decided(alloc, words, model, second);
     written(alloc, answer, out)
 }
 
 /// Writes a text to end with a status.
 fn write_text<K: Sink>(out: &mut K, text: &[u8], status: Status) -> Status
-    requires { status ≢ Status.WriteFault }
-    ensures { WroteText result (K.taken out.old) (K.taken out.new) (K.settled out.new) (K.faults out.old) (K.faults out.new) status text.now }
+    ensures { WroteText result (output K.taken K.settled K.faults out.old out.new) status text.now }
 {
     match write_all(out, text) {
         Ok(()) => status,
@@ -126,22 +128,20 @@ fn write_text<K: Sink>(out: &mut K, text: &[u8], status: Status) -> Status
 
 /// Writes the answer's text, which is in memory before the first write.
 fn written<K: Sink>(alloc: Global, answer: Result<Vec<u8>, Refusal>, out: &mut K) -> Status
-    ensures ends { Ends (said answer) (Wrote result (K.taken out.old) (K.taken out.new) (K.settled out.new) (K.faults out.old) (K.faults out.new)) }
-    ensures done { result ≡ Status.Done → IsOk answer }
+    ensures { EndsWith result (output K.taken K.settled K.faults out.old out.new) (said answer) }
 {
     match answer {
         Ok(text) => write_text(out, &text, Status::Done),
-        Err(refusal) => write_refusal(alloc, refusal, out),
+        Err(refusal) => write_refusal(alloc, &refusal, out),
     }
 }
 
 /// Writes a refusal's line, or that of want of memory, which takes none.
-fn write_refusal<K: Sink>(alloc: Global, refusal: Refusal, out: &mut K) -> Status
-    ensures ends { Ends (Err refusal) (Wrote result (K.taken out.old) (K.taken out.new) (K.settled out.new) (K.faults out.old) (K.faults out.new)) }
-    ensures refused { result ≢ Status.Done }
+fn write_refusal<K: Sink>(alloc: Global, refusal: &Refusal, out: &mut K) -> Status
+    ensures { EndsWith result (output K.taken K.settled K.faults out.old out.new) (Err (plain_refusal refusal.now)) }
 {
     let mut text = Vec::new(alloc);
-    match push_refusal(&refusal, &mut text) {
+    match push_refusal(refusal, &mut text) {
         Ok(()) => write_text(out, &text, refusal.status()),
         Err(Memory) => write_text(out, MEMORY_TEXT, Status::Memory),
     }

@@ -2,8 +2,8 @@
 use Rattle.std.proofs.Common.{◌≡◌, [], ◌∷◌, Ok, Err, refl}
 use Rattle.std.specs.Prelude.{codes}
 use Rattle.mdp_rows.specs.declared.rule.RowRule.TheVariants.{Scaled}
+use Rattle.mdp_job.specs.Job.{check}
 use Rattle.mdp_job.specs.Words.{job_of_texts}
-use Rattle.mdp_job.specs.declared.job.Job.TheVariants.{Check}
 use Rattle.mdp_job.specs.declared.words_error.WordsError.TheVariants.{Command, Number, Rows}
 
 no_words : job_of_texts [] ≡ Err Command
@@ -19,5 +19,5 @@ three_words = refl
 other_rule : job_of_texts (codes "check" ∷ codes "m" ∷ codes "EXACT" ∷ codes "c" ∷ []) ≡ Err Rows
 other_rule = refl
 
-a_check : job_of_texts (codes "check" ∷ codes "m" ∷ codes "scaled" ∷ codes "c" ∷ []) ≡ Ok (Check Scaled)
+a_check : job_of_texts (codes "check" ∷ codes "m" ∷ codes "scaled" ∷ codes "c" ∷ []) ≡ Ok (check Scaled)
 a_check = refl

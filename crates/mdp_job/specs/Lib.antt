@@ -1,3 +1,5 @@
-pub mod Refusal
-pub mod Status
+pub mod Job
 pub mod Words
+pub mod Refusal
+pub mod Text
+pub mod Status

@@ -1,8 +1,25 @@
--- The exit status of each ending.
+-- The status with which a run ends, and its number.
 use Rattle.std.specs.Prelude.{ℕ}
+use Rattle.mdp_job.specs.Refusal.{PlainRefusal, no_job, model_text, query_size, query_label, check_wide, denied, read_model, read_certificate, long_model, long_certificate, cert_text, no_memory}
 use Rattle.mdp_job.specs.declared.status.Status.{Status}
 use Rattle.mdp_job.specs.declared.status.Status.TheVariants.{Done, Denied, Words, Model, Query, TooWide, ReadFault, WriteFault, Memory, CertText, Long}
 
+-- of a run that gives a refusal
+abbrev pub status_of : PlainRefusal → Status
+status_of (no_job e) = Words
+status_of (model_text n kind) = Model
+status_of query_size = Query
+status_of query_label = Query
+status_of (check_wide state choice) = TooWide
+status_of (denied f) = Denied
+status_of read_model = ReadFault
+status_of read_certificate = ReadFault
+status_of long_model = Long
+status_of long_certificate = Long
+status_of (cert_text n kind) = CertText
+status_of no_memory = Memory
+
+-- the exit status of the program
 abbrev pub code_of : Status → ℕ
 code_of Done = 0
 code_of Denied = 1

@@ -1,10 +1,11 @@
 ghost use Rattle.std.specs.Prelude.{◌≡◌};
+ghost use Rattle.mdp_job.specs.Job.{asked};
 ghost use Rattle.mdp_job.specs.Words.{job_of, rule_of};
 
 use crate::words_error::WordsError;
 use mdp_rows::RowRule;
 
-/// What the words ask for. The second word of each job names the model's file.
+/// What the words ask for.
 #[derive(Clone, Copy, Debug, PartialEq, Eq)]
 pub enum Job {
     /// `check MODEL ROWS CERT`: whether the certificate holds of the model, read under the row rule.
@@ -24,7 +25,7 @@ fn rule_of(word: &str) -> Result<RowRule, WordsError>
 
 /// The job that the words are, or the first refusal: `Command`, then `Number`, then `Rows`. It takes no memory.
 pub fn job_of(words: &[String]) -> Result<Job, WordsError>
-    ensures { result ≡ job_of words.now }
+    ensures { asked result ≡ job_of words.now }
 {
     let Some(command) = words.first() else {
         return Err(WordsError::Command);

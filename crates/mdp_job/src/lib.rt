@@ -1,6 +1,7 @@
 //! The words of the command line, the statuses, and the texts of refusals.
 #![tactic(auto)]
 
+mod files;
 mod job;
 mod refusal;
 mod status;
@@ -8,6 +9,7 @@ mod status;
 mod tests;
 mod words_error;
 
+pub use files::{Files, files_of};
 pub use job::{Job, job_of};
 pub use refusal::{MEMORY_TEXT, Refusal, push_refusal};
 pub use status::Status;

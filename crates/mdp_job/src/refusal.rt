@@ -1,5 +1,7 @@
 ghost use Rattle.std.specs.Prelude.{◌≡◌, ◌≤◌, ◌++◌, length, take, OnOk, OnErr};
-ghost use Rattle.mdp_job.specs.Refusal.{text_of, status_of, words_text, drn_text, cert_text, at_text, place_text, number_text, rule_text, denied_text, too_wide_text};
+ghost use Rattle.mdp_job.specs.Refusal.{plain_refusal, no_job};
+ghost use Rattle.mdp_job.specs.Status.{status_of};
+ghost use Rattle.mdp_job.specs.Text.{text_of, words_word, drn_word, cert_word, at_line, place_text, number_or_dash, rule_text, denied_text, wide_text};
 
 use crate::status::Status;
 use crate::words_error::WordsError;
@@ -11,7 +13,7 @@ use mdp_num::Memory;
 use std::alloc::AllocError;
 
 /// An answer other than that the work was done, but for a fault of the sink.
-#[derive(Clone, Copy, Debug, PartialEq, Eq)]
+#[derive(Debug, Drop, PartialEq, Eq)]
 pub enum Refusal {
     /// The words are no job.
     Words(WordsError),
@@ -54,7 +56,7 @@ pub const MEMORY_TEXT: &[u8] = b"memory\n";
 impl Refusal {
     /// The status with which a run ends that gives this refusal.
     pub fn status(&self) -> Status
-        ensures { result ≡ status_of self.now }
+        ensures { result ≡ status_of (plain_refusal self.now) }
     {
         match self {
             Refusal::Words(_) => Status::Words,
@@ -72,7 +74,7 @@ impl Refusal {
 
 /// The word for why words are no job.
 fn words_word(error: WordsError) -> &'static str
-    ensures { result.now ≡ words_text error }
+    ensures { result.now ≡ words_word error }
 {
     match error {
         WordsError::Command => "command",
@@ -82,9 +84,9 @@ fn words_word(error: WordsError) -> &'static str
 }
 
 /// The word for why a text is no model.
-#[tactic(auto, unfolding(crate::specs::Refusal::drn_text))]
+#[tactic(auto, unfolding(crate::specs::Text::drn_word))]
 fn drn_word(kind: DrnKind) -> &'static str
-    ensures { result.now ≡ drn_text kind }
+    ensures { result.now ≡ drn_word kind }
 {
     match kind {
         DrnKind::Header => "header",
@@ -111,7 +113,7 @@ fn drn_word(kind: DrnKind) -> &'static str
 
 /// The word for why a text is no certificate.
 fn cert_word(kind: CertKind) -> &'static str
-    ensures { result.now ≡ cert_text kind }
+    ensures { result.now ≡ cert_word kind }
 {
     match kind {
         CertKind::Version => "version",
@@ -125,7 +127,7 @@ fn cert_word(kind: CertKind) -> &'static str
 
 /// Appends a number, or `-` where there is none.
 fn push_number(number: Option<u32>, out: &mut Vec<u8>) -> Result<(), AllocError>
-    ensures text { OnOk result (out.new.items ≡ out.old.items ++ number_text number) }
+    ensures text { OnOk result (out.new.items ≡ out.old.items ++ number_or_dash number) }
     ensures front { take (length out.old.items) out.new.items ≡ out.old.items }
 {
     match number {
@@ -151,7 +153,7 @@ fn push_place(state: Option<u32>, choice: Option<u32>, out: &mut Vec<u8>) -> Res
 
 /// Appends the line of words that are no job.
 fn push_words(error: WordsError, out: &mut Vec<u8>) -> Result<(), AllocError>
-    ensures text { OnOk result (out.new.items ≡ out.old.items ++ text_of (Refusal.Words error)) }
+    ensures text { OnOk result (out.new.items ≡ out.old.items ++ text_of (no_job error)) }
     ensures front { take (length out.old.items) out.new.items ≡ out.old.items }
 {
     out.extend_from_slice(b"words ")?;
@@ -161,7 +163,7 @@ fn push_words(error: WordsError, out: &mut Vec<u8>) -> Result<(), AllocError>
 
 /// Appends `WHAT line L WHY`, and ends the line.
 fn push_at(what: &str, line: u64, why: &str, out: &mut Vec<u8>) -> Result<(), AllocError>
-    ensures text { OnOk result (out.new.items ≡ out.old.items ++ at_text what.now line why.now) }
+    ensures text { OnOk result (out.new.items ≡ out.old.items ++ at_line what.now line why.now) }
     ensures front { take (length out.old.items) out.new.items ≡ out.old.items }
 {
     let mut buffer = Buffer::new();
@@ -197,7 +199,7 @@ fn push_too_wide(
     choice: Option<u32>,
     out: &mut Vec<u8>,
 ) -> Result<(), AllocError>
-    ensures text { OnOk result (out.new.items ≡ out.old.items ++ too_wide_text state choice) }
+    ensures text { OnOk result (out.new.items ≡ out.old.items ++ wide_text state choice) }
     ensures front { take (length out.old.items) out.new.items ≡ out.old.items }
 {
     out.extend_from_slice(b"too-wide check")?;
@@ -206,7 +208,7 @@ fn push_too_wide(
 
 /// Appends the refusal's line, where what stands before it may have grown by a part of it on `Err`.
 fn push_parts(refusal: &Refusal, out: &mut Vec<u8>) -> Result<(), AllocError>
-    ensures text { OnOk result (out.new.items ≡ out.old.items ++ text_of refusal.now) }
+    ensures text { OnOk result (out.new.items ≡ out.old.items ++ text_of (plain_refusal refusal.now)) }
     ensures front { take (length out.old.items) out.new.items ≡ out.old.items }
 {
     match refusal {
@@ -227,7 +229,7 @@ fn push_parts(refusal: &Refusal, out: &mut Vec<u8>) -> Result<(), AllocError>
 
 /// Appends the refusal's line of text, its line feed included. After `Memory` the text is as before.
 pub fn push_refusal(refusal: &Refusal, out: &mut Vec<u8>) -> Result<(), Memory>
-    ensures appended { OnOk result (out.new.items ≡ out.old.items ++ text_of refusal.now) }
+    ensures appended { OnOk result (out.new.items ≡ out.old.items ++ text_of (plain_refusal refusal.now)) }
     ensures unchanged { OnErr result (out.new.items ≡ out.old.items) }
 {
     let start = out.len();

@@ -1,0 +1,76 @@
+-- What a run answers, from what was decided and what was written.
+use Rattle.std.proofs.Common.{◌≡◌, ℕ, ◌⊎◌, inl, inr, Bool, true, false, List, Option, Some, None, Result, Ok, Err, IfOk, IsTrue, refl, sym, ap, subst, ◌∙◌}
+use Rattle.mdp_drn.specs.FromSource.{HadLeft}
+use Rattle.mdp_job.specs.Job.{PlainJob, check, Asked, reads_model, reads_second}
+use Rattle.mdp_job.specs.Refusal.{PlainRefusal, no_job, model_text, query_size, query_label, check_wide, denied, read_model, read_certificate, long_model, long_certificate, cert_text, no_memory}
+use Rattle.mdp_job.specs.Status.{status_of}
+use Rattle.mdp_job.specs.declared.status.Status.{Status}
+use Rattle.mdp_job.specs.declared.status.Status.TheVariants as status
+use Rattle.mdp_job.specs.declared.words_error.WordsError.{WordsError}
+use Rattle.mdp_app.specs.Due.{check_due, IsDue}
+use Rattle.mdp_app.specs.Decided.{IsTextDecided, IsDecided, EndsWith}
+use Rattle.mdp_app.specs.Run.{IsFromBytes, ModelFailed, SecondFailed, HasCause, LeavesUnread, IsAnswered, IsWorkDone, IsDoneUnless, IsComplete}
+use Rattle.mdp_app.specs.Said.{Said, said_status}
+use Rattle.mdp_app.specs.Streams.{Input, Told, Output}
+use Rattle.mdp_app.specs.Written.{WroteAll, Wrote}
+
+-- no refusal ends a run with the work done
+refusal_status : (r : PlainRefusal) → status.Done ≡ status_of r → ⊥
+refusal_status (no_job e) h = cc
+refusal_status (model_text n kind) h = cc
+refusal_status query_size h = cc
+refusal_status query_label h = cc
+refusal_status (check_wide state choice) h = cc
+refusal_status (denied f) h = cc
+refusal_status read_model h = cc
+refusal_status read_certificate h = cc
+refusal_status long_model h = cc
+refusal_status long_certificate h = cc
+refusal_status (cert_text n kind) h = cc
+refusal_status no_memory h = cc
+
+-- what is due doesn't depend on bytes that the job doesn't read
+had_told : (reads : Bool) (x : Input) (told had : List ℕ) → Told reads x told → HadLeft x.before had → (reads ≡ true) → had ≡ told
+had_told true x told had t h is = subst (λ (left : Option (List ℕ)). HadLeft left had) t h
+had_told false x told had t h is = cc
+
+-- what is due is due once
+due_once :
+    (asked : Asked) (model second : Input) (m s n t text : List ℕ) (said : Said) → HadLeft model.before n → HadLeft second.before t → IsDue asked n t said
+    → Told (reads_model asked) model m → Told (reads_second asked) second s → IsDue asked m s (Ok text)
+    → said ≡ Ok text
+due_once (Ok (check rule)) model second m s n t text said hn ht due tm ts due_text =
+    due ∙ ap (λ (x : List ℕ). check_due rule x t) (had_told true model m n tm hn refl) ∙ ap (λ (x : List ℕ). check_due rule m x) (had_told true second s t ts ht refl) ∙ sym due_text
+due_once (Err e) model second m s n t text said hn ht due tm ts due_text = cc
+
+module _ (asked : Asked) (model second : Input) (out : Output) (ended : Status) where
+  memory_unread : (said : Said) → LeavesUnread asked model second said → LeavesUnread asked model second (Err no_memory)
+  memory_unread said unread = record { no_model = unread.no_model; no_second = unread.no_second; model_first = λ h. cc }
+
+  pub answered : (said : Said) → IsDecided asked model second said → EndsWith ended out said → IsAnswered asked model second out ended
+  answered said d (inl w) = record { said = said; cause = d.cause; unread = d.unread; written = w }
+  answered said d (inr w) = record { said = Err no_memory; cause = inr (inr (inr refl)); unread = memory_unread said d.unread; written = w }
+
+  pub work_done : (said : Said) → IfOk said (IsTextDecided asked model second) → EndsWith ended out said → ended ≡ status.Done → IsWorkDone asked model second out
+  work_done (Ok text) d (inl (inl w)) is = record { text = text; due = d.due; shown = d.shown; ends = d.ends; written = w.1 }
+  work_done (Ok text) d (inl (inr w)) is = cc (is, w.0)
+  work_done (Err r) d (inl (inl w)) is = absurd (refusal_status r (sym is ∙ w.0))
+  work_done (Err r) d (inl (inr w)) is = cc (is, w.0)
+  work_done said d (inr (inl w)) is = cc (is, w.0)
+  work_done said d (inr (inr w)) is = cc (is, w.0)
+
+  abbrev Unless : Type 0
+  Unless = IsDoneUnless asked model second out ended
+
+  ends : (said due : Said) → said ≡ due → Wrote ended out said → (ended ≡ said_status due → Unless) → Unless
+  ends said due is (inl w) by = by (w.0 ∙ ap said_status is)
+  ends said due is (inr w) by = inr (inr (inr (w.0, w.1.fault)))
+
+  by_cause : (said : Said) (text : List ℕ) → Wrote ended out said → (IsFromBytes asked model second said → said ≡ Ok text) → HasCause asked model second said → Unless
+  by_cause said text w once (inl from) = ends said (Ok text) (once from) w inl
+  by_cause said text w once (inr (inl failed)) = ends said (Err read_model) failed.says w (λ e. inr (inr (inl (e, inl (failed.reads, failed.fault)))))
+  by_cause said text w once (inr (inr (inl failed))) = ends said (Err read_certificate) failed.says w (λ e. inr (inr (inl (e, inr (failed.reads, failed.fault)))))
+  by_cause said text w once (inr (inr (inr memory))) = ends said (Err no_memory) memory w (λ e. inr (inl e))
+
+  pub complete : IsAnswered asked model second out ended → IsComplete asked model second out ended
+  complete a m s text tm ts due = by_cause a.said text a.written (λ from. due_once asked model second m s from.model_bytes from.second_bytes text a.said from.had_model from.had_second from.is_due tm ts due) a.cause

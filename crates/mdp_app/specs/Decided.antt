@@ -1,0 +1,44 @@
+-- What was decided before anything is written.
+use Rattle.std.specs.Prelude.{◌≡◌, ◌⊎◌, ℕ, List, Option, Result, Ok, Err, IfOk}
+use Rattle.mdp_drn.specs.FromSource.{HadLeft}
+use Rattle.mdp_cert.specs.Cert.{Certificate}
+use Rattle.mdp_cert.specs.Plain.{plain}
+use Rattle.mdp_cert.specs.declared.cert.Cert.{Cert}
+use Rattle.mdp_job.specs.Job.{Asked}
+use Rattle.mdp_job.specs.Refusal.{PlainRefusal, plain_refusal, no_memory}
+use Rattle.mdp_job.specs.declared.refusal.Refusal.{Refusal}
+use Rattle.mdp_job.specs.declared.status.Status.{Status}
+use Rattle.mdp_app.specs.Accepted.{IsShown}
+use Rattle.mdp_app.specs.Run.{HasCause, LeavesUnread, IsFromBytes, AreAtEnd}
+use Rattle.mdp_app.specs.Said.{Said}
+use Rattle.mdp_app.specs.Streams.{Input, HasFailed, IsStill, Output}
+use Rattle.mdp_app.specs.Written.{Wrote}
+
+-- what was made of a source is what is due to the bytes that it had left
+pub record IsDueToBytes {A : Type 0} (told : Option (List ℕ)) (due_to : List ℕ → Result A PlainRefusal) (result : Result A PlainRefusal) : Type 0 where
+  pub bytes : List ℕ
+  pub had : HadLeft told bytes
+  pub is_due : result ≡ due_to bytes
+
+-- a file: what is due to its bytes, or a fault that was counted, or want of memory
+abbrev pub IsRead : {A : Type 0} → Input → (List ℕ → Result A PlainRefusal) → PlainRefusal → Result A PlainRefusal → Type 0
+IsRead file due_to fault result = (IsDueToBytes file.before due_to result × IsStill file) ⊎ (((result ≡ Err fault) × HasFailed file) ⊎ (result ≡ Err no_memory))
+
+abbrev pub plain_certificate : Result Cert Refusal → Result Certificate PlainRefusal
+plain_certificate (Ok c) = Ok (plain c)
+plain_certificate (Err refusal) = Err (plain_refusal refusal)
+
+-- what was decided has its cause and leaves what it doesn't read; a text is due to bytes of which that is shown which is due, and the sources are at their ends
+pub record IsTextDecided (asked : Asked) (model second : Input) (text : List ℕ) : Type 0 where
+  pub due : IsFromBytes asked model second (Ok text)
+  pub shown : IsShown asked due.model_bytes due.second_bytes
+  pub ends : AreAtEnd asked model second
+
+pub record IsDecided (asked : Asked) (model second : Input) (said : Said) : Type 0 where
+  pub cause : HasCause asked model second said
+  pub unread : LeavesUnread asked model second said
+  pub done : IfOk said (IsTextDecided asked model second)
+
+-- what was decided is written, or want of memory in its place
+abbrev pub EndsWith : Status → Output → Said → Type 0
+EndsWith ended out said = Wrote ended out said ⊎ Wrote ended out (Err no_memory)

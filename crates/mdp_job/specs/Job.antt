@@ -1,0 +1,36 @@
+-- The jobs, as contracts see them, and the words that name the files of each.
+use Rattle.std.specs.Prelude.{Bool, Some, None, is_some, Result, Ok, Err}
+use Rattle.mdp_rows.specs.declared.rule.RowRule.{RowRule}
+use Rattle.mdp_job.specs.declared.job.Job.{Job}
+use Rattle.mdp_job.specs.declared.job.Job.TheVariants.{Check}
+use Rattle.mdp_job.specs.declared.files.Files.{Files}
+use Rattle.mdp_job.specs.declared.words_error.WordsError.{WordsError}
+
+pub data PlainJob : Type 0 where
+  check : RowRule → PlainJob
+
+-- what words ask for: a job, or why they are none
+abbrev pub Asked : Type 0
+Asked = Result PlainJob WordsError
+
+-- ---- the values of the program's types
+
+abbrev pub plain_job : Job → PlainJob
+plain_job (Check rule) = check rule
+
+abbrev pub asked : Result Job WordsError → Asked
+asked (Ok job) = Ok (plain_job job)
+asked (Err e) = Err e
+
+-- ---- the files of a job
+
+-- the places of the words that name the model's file and the second one
+abbrev pub files_of : Asked → Files
+files_of (Ok (check rule)) = record { model = Some 1; second = Some 3 }
+files_of (Err e) = record { model = None; second = None }
+
+abbrev pub reads_model : Asked → Bool
+reads_model job = is_some (files_of job).model
+
+abbrev pub reads_second : Asked → Bool
+reads_second job = is_some (files_of job).second

@@ -1,0 +1,82 @@
+-- The one line of text of each refusal.
+use Rattle.std.specs.Prelude.{ℕ, List, [], ◌∷◌, ◌++◌, Option, Some, None, decimal, codes}
+use Rattle.mdp_cert.specs.declared.error.CertKind.{CertKind}
+use Rattle.mdp_cert.specs.declared.error.CertKind.TheVariants as cert
+use Rattle.mdp_drn.specs.declared.error.DrnKind.{DrnKind}
+use Rattle.mdp_drn.specs.declared.error.DrnKind.TheVariants as drn
+use Rattle.mdp_farkas.specs.declared.verdict.Fault.{Fault}
+use Rattle.mdp_job.specs.Refusal.{PlainRefusal, no_job, model_text, query_size, query_label, check_wide, denied, read_model, read_certificate, long_model, long_certificate, cert_text, no_memory}
+use Rattle.mdp_job.specs.declared.words_error.WordsError.{WordsError}
+use Rattle.mdp_job.specs.declared.words_error.WordsError.TheVariants as words
+
+abbrev pub line : List ℕ → List ℕ
+line text = text ++ 10 ∷ []
+
+abbrev pub words_word : WordsError → List ℕ
+words_word words.Command = codes "command"
+words_word words.Number = codes "number"
+words_word words.Rows = codes "rows"
+
+unfoldable pub drn_word : DrnKind → List ℕ
+drn_word drn.Header = codes "header"
+drn_word drn.Type = codes "type"
+drn_word drn.Parametric = codes "parametric"
+drn_word drn.Number = codes "number"
+drn_word drn.Large = codes "large"
+drn_word drn.Order = codes "order"
+drn_word drn.Count = codes "count"
+drn_word drn.Reward = codes "reward"
+drn_word drn.Target = codes "target"
+drn_word drn.Twice = codes "twice"
+drn_word drn.RowSum = codes "row-sum"
+drn_word drn.RowWide = codes "row-wide"
+drn_word drn.NoChoice = codes "no-choice"
+drn_word drn.Label = codes "label"
+drn_word drn.TooMany = codes "too-many"
+drn_word drn.Shape = codes "shape"
+drn_word drn.Negative = codes "negative"
+drn_word drn.LongLine = codes "long-line"
+drn_word drn.End = codes "end"
+
+abbrev pub cert_word : CertKind → List ℕ
+cert_word cert.Version = codes "version"
+cert_word cert.Claim = codes "claim"
+cert_word cert.Number = codes "number"
+cert_word cert.Shape = codes "shape"
+cert_word cert.Count = codes "count"
+cert_word cert.End = codes "end"
+
+-- a number, or `-`
+abbrev pub number_or_dash : Option ℕ → List ℕ
+number_or_dash None = codes "-"
+number_or_dash (Some n) = decimal n
+
+abbrev pub place_text : Option ℕ → Option ℕ → List ℕ
+place_text state choice = codes " state " ++ number_or_dash state ++ codes " choice " ++ number_or_dash choice ++ 10 ∷ []
+
+-- which text is refused, at which line, and why
+abbrev pub at_line : List ℕ → ℕ → List ℕ → List ℕ
+at_line what n why = what ++ codes " line " ++ decimal n ++ 32 ∷ why ++ 10 ∷ []
+
+abbrev pub rule_text : ℕ → List ℕ
+rule_text rule = codes "denied rule " ++ decimal rule
+
+abbrev pub denied_text : Fault → List ℕ
+denied_text f = rule_text f.rule ++ place_text f.state f.choice
+
+abbrev pub wide_text : Option ℕ → Option ℕ → List ℕ
+wide_text state choice = codes "too-wide check" ++ place_text state choice
+
+abbrev pub text_of : PlainRefusal → List ℕ
+text_of (no_job e) = line (codes "words " ++ words_word e)
+text_of (model_text n kind) = at_line (codes "model") n (drn_word kind)
+text_of query_size = line (codes "query size")
+text_of query_label = line (codes "query label")
+text_of (check_wide state choice) = wide_text state choice
+text_of (denied f) = denied_text f
+text_of read_model = line (codes "read-fault model")
+text_of read_certificate = line (codes "read-fault certificate")
+text_of long_model = line (codes "long model")
+text_of long_certificate = line (codes "long certificate")
+text_of (cert_text n kind) = at_line (codes "cert") n (cert_word kind)
+text_of no_memory = line (codes "memory")
