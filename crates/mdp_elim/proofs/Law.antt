@@ -15,10 +15,11 @@ use Rattle.mdp_math.specs.Written.{written_add, written_mul, ◌>>=◌}
 use Rattle.mdp_spec.specs.Mdp.{Entry, value_at}
 use Rattle.mdp_spec.specs.Written.{written_sum}
 use Rattle.mdp_elim.specs.Equation.{Equation, Values}
-use Rattle.mdp_elim.specs.Entries.{without}
+use Rattle.mdp_elim.specs.Entries.{Between, without}
+use Rattle.mdp_elim.specs.Predecessors.{at, LeadBelow}
 use Rattle.mdp_elim.specs.Elimination.{eliminated, Eliminated, evaluated, solution, at_state, ◌and_then◌, no_values, CanEliminate, DividesByPositive}
-use Rattle.mdp_elim.proofs.RowSums.{over, or_zero, over-split, over-same, some_part, Between, between-without, between-below}
-use Rattle.mdp_elim.proofs.Step.{factor, at, IsEliminated, eliminated-is}
+use Rattle.mdp_elim.proofs.RowSums.{over, or_zero, over-split, over-same, some_part, between-without, between-below}
+use Rattle.mdp_elim.proofs.Step.{factor, IsEliminated, eliminated-is}
 
 -- 1 at v, 0 elsewhere
 abbrev pub unit : ℕ → ℕ → ℚ
@@ -31,10 +32,6 @@ matrix equations t v = over (unit v) (at equations t).entries
 -- all numbers below n, from the greatest
 abbrev pub all_below : ℕ → List ℕ
 all_below n = active_below (λ _. true) n
-
--- the entries of each state below n lead to states below m
-abbrev pub LeadBelow : ℕ → ℕ → List Equation → Type 0
-LeadBelow n m equations = (t : ℕ) → t < n → Between 0 m (at equations t).entries
 
 -- ---- pivots depend on the entries below n alone
 

@@ -24,9 +24,10 @@ use Rattle.mdp_elim.specs.Equation.{Equation, Values, no_equation}
 use Rattle.mdp_elim.specs.System.{is_active, row_of, inner, column_at, equation_of, system, Leaves, IsSolution, SolveEach}
 use Rattle.mdp_elim.specs.Solve.{columns_of}
 use Rattle.mdp_elim.specs.Elimination.{solution, CanEliminate, DividesByPositive}
-use Rattle.mdp_elim.proofs.RowSums.{over, Between, between-lower}
-use Rattle.mdp_elim.proofs.Step.{at}
-use Rattle.mdp_elim.proofs.Law.{unit, matrix, all_below, LeadBelow, Solved, can_eliminate, divides_by_positive, solution_solves}
+use Rattle.mdp_elim.proofs.RowSums.{over, between-lower}
+use Rattle.mdp_elim.specs.Entries.{Between}
+use Rattle.mdp_elim.specs.Predecessors.{at, LeadBelow}
+use Rattle.mdp_elim.proofs.Law.{unit, matrix, all_below, Solved, can_eliminate, divides_by_positive, solution_solves}
 
 -- ---- pivots over all numbers, from those over the active ones
 
@@ -254,6 +255,10 @@ module _ (rows : List (List Entry)) (active : List Bool) (ranks : List ℕ) (kno
 
       system-down : LeadBelow (length rows) (length rows) (system rows active columns)
       system-down = down-system rows active size columns row_between
+
+      -- its entries lie below its length
+      pub system-leads : LeadBelow (length (system rows active columns)) (length (system rows active columns)) (system rows active columns)
+      system-leads = subst (λ n. LeadBelow n n (system rows active columns)) (sym system-len) system-down
 
       system-pivots : HasPivots (all_below (length rows)) (matrix (system rows active columns))
       system-pivots =

@@ -1,11 +1,15 @@
-mod Places
+mod Merge
 mod Steps
 mod Equations
+mod Lists
+mod Targets
+mod Putting
 mod Finish
 mod RowSums
 mod Step
 mod Law
 mod Leaving
+mod Active
 mod Chains
 mod RowsInto
 mod Expected

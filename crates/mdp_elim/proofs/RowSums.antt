@@ -15,7 +15,7 @@ use Rattle.mdp_math.proofs.Order.{0ℚ}
 use Rattle.mdp_math.proofs.Written.{written_add-some, written_mul-some}
 use Rattle.mdp_num.specs.Written.{written_div}
 use Rattle.mdp_spec.specs.Mdp.{Entry}
-use Rattle.mdp_elim.specs.Entries.{entry_to, without, each, divided_entry, plus_entry, plus_row}
+use Rattle.mdp_elim.specs.Entries.{Between, entry_to, without, each, divided_entry, plus_entry, plus_row}
 
 -- the sum of f over a row
 abbrev pub over : (ℕ → ℚ) → List Entry → ℚ
@@ -120,10 +120,6 @@ over-divided f u (x ∷ row) new h =
     q.0 x.prob (f x.target) (inv_ℚ u) (over f r.0) (over f row) (written_mul-some x.prob (inv_ℚ u) q.0 (sym q.1)) (over-divided f u row r.0 r.1)
 
 -- ---- targets that ascend, from low on and below high
-
-abbrev pub Between : ℕ → ℕ → List Entry → Type 0
-Between low high [] = Unit {0}
-Between low high (x ∷ row) = (low ≤ x.target) × (x.target < high) × Between (suc x.target) high row
 
 pub between-lower : (low lower high : ℕ) (row : List Entry) → lower ≤ low → Between low high row → Between lower high row
 between-lower low lower high [] l h = tt

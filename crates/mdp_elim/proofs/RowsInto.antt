@@ -16,7 +16,8 @@ use Rattle.mdp_math.proofs.Sums.{sum_of-append}
 use Rattle.mdp_spec.specs.Mdp.{Entry}
 use Rattle.mdp_elim.specs.System.{row_of}
 use Rattle.mdp_elim.specs.Visits.{entries_into, row_into, transposed, step}
-use Rattle.mdp_elim.proofs.RowSums.{over, Between, between-lower}
+use Rattle.mdp_elim.specs.Entries.{Between}
+use Rattle.mdp_elim.proofs.RowSums.{over, between-lower}
 
 -- ---- lists over a range
 

@@ -11,9 +11,10 @@ use Rattle.mdp_math.proofs.Whole.{one-pos}
 use Rattle.mdp_math.proofs.Written.{written_add-some, written_mul-some}
 use Rattle.mdp_num.specs.Written.{written_sub, written_div}
 use Rattle.mdp_elim.specs.Equation.{Equation, no_equation}
-use Rattle.mdp_elim.specs.Entries.{entry_to, without, each, divided_entry, plus_row}
+use Rattle.mdp_elim.specs.Entries.{Between, entry_to, without, each, divided_entry, plus_row}
+use Rattle.mdp_elim.specs.Predecessors.{at}
 use Rattle.mdp_elim.specs.Elimination.{divided, divided_rest, divided_where, rest_of, substituted, substituted_where, plus_equation, eliminated, Eliminated}
-use Rattle.mdp_elim.proofs.RowSums.{over, or_zero, over-plus_row, over-divided, some_part, Between, between-plus_row, between-divided}
+use Rattle.mdp_elim.proofs.RowSums.{over, or_zero, over-plus_row, over-divided, some_part, between-plus_row, between-divided}
 
 -- the factor at s in an equation
 abbrev pub factor : ℕ → Equation → ℚ
@@ -118,24 +119,20 @@ module _ {A : Type 0} (f : A → Option A) (d : A) where
   each_next x xs zero y ys l p q = p
   each_next x xs (suc t) y ys l p q = q t (omega arith)
 
-  each_at : (xs ys : List A) (t : ℕ) → each f xs ≡ Some ys → t < length xs → f (get_or xs t d) ≡ Some (get_or ys t d)
+  pub each_at : (xs ys : List A) (t : ℕ) → each f xs ≡ Some ys → t < length xs → f (get_or xs t d) ≡ Some (get_or ys t d)
   each_at [] ys t h l = absurd (omega arith)
   each_at (x ∷ xs) ys t h l =
       let a = some_part (f x) (λ y. each f xs >>= (λ zs. Some (y ∷ zs))) ys h in
       let b = some_part (each f xs) (λ zs. Some (a.0 ∷ zs)) ys a.2 in
       subst (λ (zs : List A). f (get_or (x ∷ xs) t d) ≡ Some (get_or zs t d)) (some_same _ _ b.2) (each_next x xs t a.0 b.0 l a.1 (λ k m. each_at xs b.0 k b.1 m))
 
-each_len : {A : Type 0} (f : A → Option A) (xs ys : List A) → each f xs ≡ Some ys → length ys ≡ length xs
+pub each_len : {A : Type 0} (f : A → Option A) (xs ys : List A) → each f xs ≡ Some ys → length ys ≡ length xs
 each_len f [] ys h = ap length (sym (some_same _ _ h))
 each_len f (x ∷ xs) ys h =
     let a = some_part (f x) _ ys h in
     let b = some_part (each f xs) _ ys a.2 in
     let n = each_len f xs b.0 b.1 in
     ap length (sym (some_same _ _ b.2)) ∙ ap suc n
-
--- the equation of state t
-abbrev pub at : List Equation → ℕ → Equation
-at equations t = get_or equations t no_equation
 
 pub record IsEliminated (s : ℕ) (equations : List Equation) (e : Eliminated) : Type 0 where
   pub pivot : IsDivided s (inv_ℚ (1ℚ -ℚ factor s (at equations s))) (at equations s) e.pivot

@@ -1,5 +1,5 @@
 -- Written arithmetic on the entries of an equation, whose targets ascend.
-use Rattle.std.specs.Prelude.{◌≡◌, ◌≢◌, ◌<◌, ◌≤◌, length, slice_index_or, ℕ, suc, List, [], ◌∷◌, Option, Some, None, ◌==◌, nat_le, if◌then◌else◌, pos}
+use Rattle.std.specs.Prelude.{◌<◌, ◌≤◌, ℕ, suc, List, [], ◌∷◌, Option, Some, None, ◌==◌, nat_le, if◌then◌else◌, pos}
 use Rattle.mdp_math.specs.Rational.{ℚ, of_int}
 use Rattle.mdp_math.specs.Written.{written_add, written_mul, ◌>>=◌}
 use Rattle.mdp_num.specs.Written.{written_div}
@@ -20,21 +20,10 @@ abbrev pub without : ℕ → List Entry → List Entry
 without s [] = []
 without s (x ∷ row) = if nat_le s x.target then (if x.target == s then row else x ∷ row) else x ∷ without s row
 
--- what stands past the end of a row
-abbrev pub no_entry : Entry
-no_entry = record { target = 0; prob = of_int (pos 0) }
-
--- i is the place of an entry to s
-pub record IsAt (s : ℕ) (row : List Entry) (i : ℕ) : Type 0 where
-  pub place : i ≡ place s row
-  pub within : i < length row
-  pub target : (slice_index_or row i no_entry).target ≡ s
-
--- there is none, and i is where it would stand
-pub record IsBetween (s : ℕ) (row : List Entry) (i : ℕ) : Type 0 where
-  pub place : i ≡ place s row
-  pub within : i ≤ length row
-  pub other : i < length row → (slice_index_or row i no_entry).target ≢ s
+-- the targets ascend, from low on and below high
+abbrev pub Between : ℕ → ℕ → List Entry → Type 0
+Between low high [] = Unit {0}
+Between low high (x ∷ row) = (low ≤ x.target) × (x.target < high) × Between (suc x.target) high row
 
 -- a step for each element, where each of them can be made
 abbrev pub each : {A : Type 0} → (A → Option A) → List A → Option (List A)

@@ -2,6 +2,7 @@ pub mod Equation
 pub mod Entries
 pub mod Elimination
 pub mod Code
+pub mod Predecessors
 pub mod Finish
 pub mod System
 pub mod Solve

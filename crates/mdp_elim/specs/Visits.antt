@@ -1,13 +1,13 @@
 -- Expected visits: the system of the transposed rows, where the equation of a state has an entry for each active state that leads to it.
-use Rattle.std.specs.Prelude.{◌≡◌, ℕ, Bool, true, false, List, [], ◌∷◌, length, map, ◌==◌, if◌then◌else◌, Result, pos}
+use Rattle.std.specs.Prelude.{◌≡◌, ℕ, Bool, true, false, List, [], ◌∷◌, ◌++◌, length, map, ◌==◌, if◌then◌else◌, Result, pos}
 use Rattle.std.specs.List.{flat_map, range_with_len}
 use Rattle.mdp_math.specs.Rational.{ℚ, of_int, ◌+ℚ◌, ◌*ℚ◌}
 use Rattle.mdp_math.specs.Sum.{sum_of}
 use Rattle.mdp_math.specs.Pivot.{entry_at}
 use Rattle.mdp_spec.specs.Mdp.{Entry, value_at}
-use Rattle.mdp_elim.specs.Equation.{Values}
+use Rattle.mdp_elim.specs.Equation.{Equation, Values, no_equation}
 use Rattle.mdp_elim.specs.Elimination.{solution}
-use Rattle.mdp_elim.specs.System.{is_active, row_of, system}
+use Rattle.mdp_elim.specs.System.{is_active, row_of, inner, system}
 use Rattle.mdp_elim.specs.Solve.{kept}
 
 -- the entry of state t's row to s, as an entry to t
@@ -28,6 +28,18 @@ one_at start s = if s == start then of_int (pos 1) else of_int (pos 0)
 -- 1 at the start, 0 at any other state
 abbrev pub unit_column : ℕ → ℕ → List ℚ
 unit_column n start = map (one_at start) (range_with_len 0 n)
+
+-- the equation of state s, with the entry of state t's row to it if s is active
+abbrev pub with_row : List Bool → ℕ → List Entry → ℕ → Equation → Equation
+with_row active t row s e = if is_active active s then record { entries = e.entries ++ entries_into s t row; first = e.first; second = e.second } else e
+
+-- the equation of state s before any row is put in: its visits at the start
+abbrev pub start_equation : ℕ → ℕ → Equation
+start_equation start s = record { entries = []; first = one_at start s; second = of_int (pos 0) }
+
+-- the equation of state s by the rows of the active states below t
+abbrev pub visits_below : List (List Entry) → List Bool → ℕ → ℕ → ℕ → Equation
+visits_below rows active start t s = if is_active active s then record { entries = inner active (flat_map (λ u. entries_into s u (row_of rows u)) (range_with_len 0 t)); first = one_at start s; second = of_int (pos 0) } else no_equation
 
 -- the values of the written elimination, or the first state with a term past width
 abbrev pub written_visits : List (List Entry) → List Bool → ℕ → Result (List ℚ) ℕ

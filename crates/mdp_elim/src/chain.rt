@@ -1,7 +1,7 @@
-ghost use Rattle.std.specs.Prelude.{ℕ, ◌≡◌, ◌<◌, ◌≤◌, ◌⊎◌, ◌^◌, length, map, Ok, Err, IfOk, slice_index_or};
+ghost use Rattle.std.specs.Prelude.{ℕ, ◌≡◌, ◌<◌, ◌≤◌, ◌⊎◌, ◌^◌, length, map, true, Ok, Err, IfOk, slice_index_or};
 ghost use Rattle.std.specs.List.{All};
 ghost use Rattle.mdp_spec.specs.Row.{entries};
-ghost use Rattle.mdp_elim.specs.System.{inner, column_at, equation_of, system, Leaves, SolveEach};
+ghost use Rattle.mdp_elim.specs.System.{is_active, inner, column_at, equation_of, system, Leaves, SolveEach};
 ghost use Rattle.mdp_elim.specs.Solve.{columns_of, written_solution};
 
 use crate::elimination::{Values, solve_system};
@@ -113,6 +113,7 @@ pub fn solve<R: RowsOf>(
     requires columns { All (λ c. length c.items ≡ length (R.rows chain.now.rows.now)) columns.now }
     ensures value { IfOk result (λ xs. written_solution (R.rows chain.now.rows.now) chain.now.active.now (map (λ c. c.items) columns.now) ≡ Ok (map (λ x. x.items) xs.items)) }
     ensures wide { (s : ℕ) → result ≡ Err (ElimError.Wide s) → written_solution (R.rows chain.now.rows.now) chain.now.active.now (map (λ c. c.items) columns.now) ≡ Err s }
+    ensures place { (s : ℕ) → result ≡ Err (ElimError.Wide s) → (s < length (R.rows chain.now.rows.now)) × (is_active chain.now.active.now s ≡ true) }
     ensures solves { IfOk result (λ xs. SolveEach (R.rows chain.now.rows.now) chain.now.active.now (map (λ c. c.items) columns.now) (map (λ x. x.items) xs.items)) }
 {
     chain.rows.known();

@@ -1,16 +1,17 @@
-ghost use Rattle.std.specs.Prelude.{◌≡◌, ◌≢◌, ◌<◌, ◌==◌, length, nat_le, Some, None, Ok, OnOk, OnErr, IfOk, IfErr, pos};
+ghost use Rattle.std.specs.Prelude.{ℕ, ◌≡◌, ◌≢◌, ◌<◌, ◌+◌, length, take, drop, Some, None, OnOk, OnErr, IfOk, pos};
 ghost use Rattle.std.specs.List.{All};
 ghost use Rattle.std.specs.Result.{result_ok};
 ghost use Rattle.mdp_spec.specs.Written.{written_sum};
 ghost use Rattle.mdp_math.specs.Rational.{of_int};
-ghost use Rattle.mdp_elim.specs.Entries.{IsAt, IsBetween, place, entry_to, without, each, divided_entry, plus_entry, plus_row};
+ghost use Rattle.mdp_elim.specs.Entries.{Between, place, entry_to, without, each, divided_entry, plus_row};
 
 use crate::errors::StepError;
 use mdp_num::{Frac, Wide};
+use std::alloc::Global;
 use std::marker::Model;
 
 /// An entry of an equation: a factor of the value of its target.
-#[derive(Drop, Debug)]
+#[derive(Clone, Copy, Debug)]
 pub(crate) struct Term {
     target: u32,
     factor: Frac,
@@ -25,6 +26,8 @@ impl Model for Term {
     ghost coded = { entry_code };
 
     ghost view = { λ t. record { target = t.target; prob = t.factor } };
+
+    ghost inverse = { λ x. record { target = x.target; factor = x.prob } };
 }
 
 impl Term {
@@ -60,27 +63,30 @@ fn place(row: &[Term], target: u32) -> usize
     row.len()
 }
 
-/// The place of the entry to `target`, or as an error the place where it would stand.
-fn find(row: &[Term], target: u32) -> Result<usize, usize>
-    ensures at { IfOk result (IsAt target row.now) }
-    ensures between { IfErr result (IsBetween target row.now) }
+/// The entry to `s` of a row without entries to greater states: it can only be the last one.
+#[tactic(auto, using(crate::proofs::Merge::last_found, crate::proofs::Merge::last_other, crate::proofs::Merge::none_empty))]
+fn last_entry(row: &[Term], s: u32) -> Option<Frac>
+    requires { Between 0 (s + 1) row.now }
+    ensures { result ≡ entry_to s row.now }
 {
-    let place = place(row, target);
-    if place < row.len() && row[place].target() == target {
-        Ok(place)
-    } else {
-        Err(place)
+    match row.split_last() {
+        Some((x, _)) if x.target() == s => Some(x.factor()),
+        _ => None,
     }
 }
 
-/// Takes the entry to `s` out of the row, where there is one.
+/// Takes out the entry to `s` of a row without entries to greater states, where there is one.
 pub(crate) fn take_entry(row: &mut Vec<Term>, s: u32) -> Option<Frac>
+    requires { Between 0 (s + 1) row.old.items }
     ensures entry { result ≡ entry_to s row.old.items }
     ensures rest { row.new.items ≡ without s row.old.items }
 {
-    match find(row, s) {
-        Ok(place) => Some(row.remove(place).factor()),
-        Err(_) => None,
+    match last_entry(row, s) {
+        Some(own) => {
+            row.pop();
+            Some(own)
+        }
+        None => None,
     }
 }
 
@@ -98,34 +104,66 @@ pub(crate) fn divide_row(row: &mut [Term], divisor: &Frac) -> Result<(), Wide>
     Ok(())
 }
 
-/// Adds to the entry to `target`, or to 0 where there is none.
-fn plus_entry(row: &mut Vec<Term>, target: u32, more: &Frac) -> Result<(), StepError>
-    ensures ok { OnOk result (plus_entry target more.now row.old.items ≡ Some row.new.items) }
-    ensures wide { result ≡ Err StepError.Wide → plus_entry target more.now row.old.items ≡ None }
+/// The factor of the entry to `target`, which can only be the first one, and the entries behind it.
+fn split_entry(row: &[Term], target: u32) -> (Option<Frac>, &[Term])
+    requires { place target row.now ≡ 0 }
+    ensures entry { result.0 ≡ entry_to target row.now }
+    ensures rest { result.1.now ≡ without target row.now }
 {
-    match find(row, target) {
-        Ok(place) => {
-            let sum = row[place].factor().add(more)?;
-            row[place] = Term::new(target, sum);
-        }
-        Err(place) => {
-            let sum = Frac::whole(0).add(more)?;
-            row.insert(place, Term::new(target, sum))?;
-        }
+    match row.split_first() {
+        Some((x, rest)) if x.target() == target => (Some(x.factor()), rest),
+        _ => (None, row),
     }
-    Ok(())
 }
 
-/// Adds so many times each entry of another row.
-pub(crate) fn plus_row(row: &mut Vec<Term>, times: &Frac, source: &[Term]) -> Result<(), StepError>
-    ensures ok { OnOk result (plus_row times.now source.now row.old.items ≡ Some row.new.items) }
-    ensures wide { result ≡ Err StepError.Wide → plus_row times.now source.now row.old.items ≡ None }
+/// A row at a target: the entries to smaller states, the factor of the entry to the target where there is one, and the entries behind it.
+#[derive(Drop)]
+pub(crate) struct Split<'r> {
+    pub(crate) before: &'r [Term],
+    pub(crate) entry: Option<Frac>,
+    pub(crate) behind: &'r [Term],
+}
+
+/// Splits a row at a target.
+#[tactic(auto, using(crate::proofs::Merge::place_le, crate::proofs::Merge::place_rest))]
+pub(crate) fn split_row(row: &[Term], target: u32) -> Split<'_>
+    ensures before { result.before.now ≡ take (place target row.now) row.now }
+    ensures entry { result.entry ≡ entry_to target (drop (place target row.now) row.now) }
+    ensures behind { result.behind.now ≡ without target (drop (place target row.now) row.now) }
 {
-    for x in source {
-        let term = times.mul(&x.factor())?;
-        plus_entry(row, x.target(), &term)?;
+    let (before, here) = row.split_at(place(row, target));
+    let (entry, behind) = split_entry(here, target);
+    Split {
+        before,
+        entry,
+        behind,
     }
-    Ok(())
+}
+
+/// A row and so many times each entry of another, merged.
+pub(crate) fn plus_row(
+    alloc: Global,
+    row: &[Term],
+    times: &Frac,
+    source: &[Term],
+) -> Result<Vec<Term>, StepError>
+    requires { (high : ℕ) × Between 0 high source.now }
+    ensures ok { IfOk result (λ sums. plus_row times.now source.now row.now ≡ Some sums.items) }
+    ensures wide { result ≡ Err StepError.Wide → plus_row times.now source.now row.now ≡ None }
+{
+    let mut sums = Vec::new(alloc);
+    sums.reserve(row.len() + source.len())?;
+    let mut rest = row;
+    for x in source {
+        let split = split_row(rest, x.target());
+        sums.extend_from_slice(split.before)?;
+        let more = times.mul(&x.factor())?;
+        let sum = split.entry.unwrap_or(Frac::whole(0)).add(&more)?;
+        sums.push(Term::new(x.target(), sum))?;
+        rest = split.behind;
+    }
+    sums.extend_from_slice(rest)?;
+    Ok(sums)
 }
 
 /// `start`, and for each entry its factor times the value of its target, added in the order of the entries.

@@ -1,13 +1,14 @@
-ghost use Rattle.std.specs.Prelude.{◌≡◌, ◌≢◌, ◌<◌, ◌+◌, length, Some, None, OnOk, OnErr, IfOk, pos, slice_index_or};
+ghost use Rattle.std.specs.Prelude.{ℕ, ◌≡◌, ◌≢◌, ◌<◌, ◌+◌, ◌++◌, ◌∷◌, [], length, Some, None, OnOk, OnErr, IfOk, pos};
 ghost use Rattle.std.specs.List.{All};
 ghost use Rattle.mdp_math.specs.Rational.{of_int};
-ghost use Rattle.mdp_elim.specs.Entries.{entry_to, each};
+ghost use Rattle.mdp_elim.specs.Entries.{Between, entry_to};
 ghost use Rattle.mdp_elim.specs.Elimination.{divided, divided_rest, plus_equation, substituted, evaluated};
-ghost use Rattle.mdp_elim.specs.Equation.{no_equation};
 
 use crate::entries::{Term, divide_row, plus_row, row_sum, take_entry};
 use crate::errors::StepError;
+use bumpalo::Bump;
 use mdp_num::{Frac, Wide};
+use std::alloc::{AllocError, AllocFailed, Global};
 use std::marker::Model;
 
 /// The value of a state is a constant, and the sum of the entries' factors times the values of their targets. There are two constants, for two
@@ -30,6 +31,34 @@ impl Model for Equation {
     ghost view = { λ e. record { entries = e.entries.items; first = e.first; second = e.second } };
 }
 
+/// The equation of an eliminated state, with its final entries in an arena.
+#[derive(Drop, Debug)]
+pub(crate) struct Solved<'a> {
+    entries: &'a [Term],
+    first: Frac,
+    second: Frac,
+}
+
+impl<'a> Model for Solved<'a> {
+    ghost use Rattle.mdp_elim.specs.Equation as spec;
+    ghost use Rattle.mdp_elim.specs.Code.{equation_code};
+
+    ghost Value = { spec.Equation };
+
+    ghost coded = { equation_code };
+
+    ghost view = { λ e. record { entries = e.entries.now; first = e.first; second = e.second } };
+}
+
+impl Solved<'_> {
+    /// The entries, which lead to smaller states.
+    pub(crate) fn entries(&self) -> &[Term]
+        ensures { result.now ≡ self.now.entries }
+    {
+        self.entries
+    }
+}
+
 impl Equation {
     /// An equation of these entries and constants.
     pub(crate) fn new(entries: Vec<Term>, first: Frac, second: Frac) -> Equation
@@ -40,6 +69,20 @@ impl Equation {
             first,
             second,
         }
+    }
+
+    /// The entries.
+    pub(crate) fn entries(&self) -> &[Term]
+        ensures { result.now ≡ self.now.entries }
+    {
+        &self.entries
+    }
+
+    /// One more entry, behind the others.
+    pub(crate) fn push(&mut self, term: Term) -> Result<(), AllocFailed<Term>>
+        ensures { OnOk result (self.new ≡ record { entries = self.old.entries ++ term ∷ []; first = self.old.first; second = self.old.second }) }
+    {
+        self.entries.push(term)
     }
 
     /// Divides by 1 less the entry `own`, which was taken out.
@@ -59,7 +102,8 @@ impl Equation {
 
     /// Solves the equation of state `s` for its value.
     pub(crate) fn divide(&mut self, s: u32) -> Result<(), Wide>
-        requires { entry_to s self.old.entries ≢ Some (of_int (pos 1)) }
+        requires below { Between 0 (s + 1) self.old.entries }
+        requires other { entry_to s self.old.entries ≢ Some (of_int (pos 1)) }
         ensures ok { OnOk result (divided s self.old ≡ Some self.new) }
         ensures wide { OnErr result (divided s self.old ≡ None) }
     {
@@ -69,51 +113,57 @@ impl Equation {
         }
     }
 
+    /// The same equation, with its entries as a slice of the arena.
+    pub(crate) fn settle<'a>(&self, arena: &'a Bump) -> Result<Solved<'a>, AllocError>
+        ensures { IfOk result (λ e. e ≡ self.now) }
+    {
+        let entries = arena.try_alloc_slice_copy(&self.entries)?;
+        Ok(Solved {
+            entries,
+            first: self.first,
+            second: self.second,
+        })
+    }
+
     /// Adds so many times another equation.
-    fn plus(&mut self, times: &Frac, other: &Equation) -> Result<(), StepError>
+    fn plus(&mut self, alloc: Global, times: &Frac, other: &Solved<'_>) -> Result<(), StepError>
+        requires { (high : ℕ) × Between 0 high other.now.entries }
         ensures ok { OnOk result (plus_equation times.now other.now self.old ≡ Some self.new) }
         ensures wide { result ≡ Err StepError.Wide → plus_equation times.now other.now self.old ≡ None }
     {
-        plus_row(&mut self.entries, times, &other.entries)?;
+        let entries = plus_row(alloc, &self.entries, times, other.entries)?;
         let more = times.mul(&other.first)?;
         let first = self.first.add(&more)?;
         let also = times.mul(&other.second)?;
         let second = self.second.add(&also)?;
+        self.entries = entries;
         self.first = first;
         self.second = second;
         Ok(())
     }
 
     /// Puts the equation of state `s` in the place of the entry to `s`.
-    fn substitute(&mut self, pivot: &Equation, s: u32) -> Result<(), StepError>
+    pub(crate) fn substitute(
+        &mut self,
+        alloc: Global,
+        pivot: &Solved<'_>,
+        s: u32,
+    ) -> Result<(), StepError>
+        requires below { Between 0 (s + 1) self.old.entries }
+        requires pivot { Between 0 s pivot.now.entries }
         ensures ok { OnOk result (substituted s pivot.now self.old ≡ Some self.new) }
         ensures wide { result ≡ Err StepError.Wide → substituted s pivot.now self.old ≡ None }
     {
         match take_entry(&mut self.entries, s) {
-            Some(times) => self.plus(&times, pivot),
+            Some(times) => self.plus(alloc, &times, pivot),
             None => Ok(()),
         }
     }
 }
 
-/// Puts the equation of state `s` in the place of the entry to `s` in each of the equations.
-pub(crate) fn substitute_in_each(
-    equations: &mut [Equation],
-    pivot: &Equation,
-    s: u32,
-) -> Result<(), StepError>
-    ensures ok { OnOk result (each (substituted s pivot.now) equations.old ≡ Some equations.new) }
-    ensures wide { result ≡ Err StepError.Wide → each (substituted s pivot.now) equations.old ≡ None }
-{
-    for i in 0..equations.len() {
-        equations[i].substitute(pivot, s)?;
-    }
-    Ok(())
-}
-
 /// Appends the value of the next state to the values of the states before it, in both systems.
 pub(crate) fn evaluate(
-    equation: &Equation,
+    equation: &Solved<'_>,
     first: &mut Vec<Frac>,
     second: &mut Vec<Frac>,
 ) -> Result<(), StepError>
@@ -122,8 +172,8 @@ pub(crate) fn evaluate(
     ensures ok { OnOk result (evaluated equation.now (record { first = first.old.items; second = second.old.items }) ≡ Some (record { first = first.new.items; second = second.new.items })) }
     ensures wide { result ≡ Err StepError.Wide → evaluated equation.now (record { first = first.old.items; second = second.old.items }) ≡ None }
 {
-    let x = row_sum(&equation.entries, &equation.first, first)?;
-    let y = row_sum(&equation.entries, &equation.second, second)?;
+    let x = row_sum(equation.entries, &equation.first, first)?;
+    let y = row_sum(equation.entries, &equation.second, second)?;
     first.push(x)?;
     second.push(y)?;
     Ok(())

@@ -9,6 +9,7 @@ mod errors;
 mod laws;
 #[cfg(test)]
 mod listed;
+mod predecessors;
 #[cfg(test)]
 mod tests;
 mod too_wide;

@@ -1,7 +1,9 @@
-ghost use Rattle.std.specs.Prelude.{ℕ, ◌≡◌, ◌<◌, ◌++◌, ◌∷◌, [], true, ◌^◌, length, Ok, Err, IfOk, OnOk};
+ghost use Rattle.std.specs.Prelude.{ℕ, ◌≡◌, ◌<◌, ◌∷◌, [], true, ◌^◌, length, map, Ok, Err, IfOk, OnOk};
+ghost use Rattle.std.specs.List.{All, range_with_len};
 ghost use Rattle.mdp_spec.specs.Row.{entries};
-ghost use Rattle.mdp_elim.specs.System.{is_active, inner, equation_of, system, Leaves};
-ghost use Rattle.mdp_elim.specs.Visits.{entries_into, row_into, transposed, unit_column, written_visits, AreVisits};
+ghost use Rattle.mdp_elim.specs.System.{is_active, system, Leaves};
+ghost use Rattle.mdp_elim.specs.Predecessors.{at};
+ghost use Rattle.mdp_elim.specs.Visits.{transposed, unit_column, one_at, start_equation, with_row, written_visits, AreVisits};
 
 use crate::chain::Chain;
 use crate::elimination::{Values, solve_system};
@@ -9,72 +11,69 @@ use crate::entries::Term;
 use crate::equation::Equation;
 use crate::errors::ElimError;
 use mdp_num::Frac;
-use mdp_rows::{Row, RowsOf};
+use mdp_rows::{Marks, Row, RowsOf};
 use std::alloc::{AllocError, Global};
 
-/// Appends the entry of state t's row to `s`, as an entry to `t`.
-fn push_entries_into(terms: &mut Vec<Term>, row: Row<'_>, s: u32, t: u32) -> Result<(), AllocError>
-    ensures { OnOk result (terms.new.items ≡ terms.old.items ++ entries_into s t (entries row.entry.targets.now row.entry.probs.now)) }
+/// 1 at the start, 0 at any other state.
+fn one_at(start: u32, s: u32) -> Frac
+    ensures { result ≡ one_at start s }
+{
+    if s == start {
+        Frac::whole(1)
+    } else {
+        Frac::whole(0)
+    }
+}
+
+/// The equations of all states, without their entries: the visits at the start.
+fn visits_start(alloc: Global, states: u32, start: u32) -> Result<Vec<Equation>, AllocError>
+    ensures { IfOk result (λ es. es.items ≡ map (start_equation start) (range_with_len 0 states)) }
+{
+    let mut equations = Vec::with_capacity(alloc, states as usize)?;
+    for s in 0..states {
+        let equation = Equation::new(Vec::new(alloc), one_at(start, s), Frac::whole(0));
+        equations.push(equation)?;
+    }
+    Ok(equations)
+}
+
+/// Puts each entry of state t's row to an active state into the equation of its target, as an entry to `t`.
+fn push_row(
+    equations: &mut [Equation],
+    active: &Marks,
+    row: Row<'_>,
+    t: u32,
+) -> Result<(), AllocError>
+    requires targets { All (λ v. v < length active.now) row.targets.now }
+    requires states { length equations.old ≡ length active.now }
+    ensures row { OnOk result ((s : ℕ) → at equations.new s ≡ with_row active.now t (entries row.entry.targets.now row.entry.probs.now) s (at equations.old s)) }
+    ensures count { OnOk result (length equations.new ≡ length equations.old) }
 {
     for i in 0..row.targets.len() {
-        if row.targets[i] == s {
-            terms.push(Term::new(t, row.probs[i]))?;
+        let target = row.targets[i];
+        if active.at(target) {
+            equations[target as usize].push(Term::new(t, row.probs[i]))?;
         }
     }
     Ok(())
 }
 
-/// The entries of active states to `s`.
-fn terms_into<R: RowsOf>(
-    alloc: Global,
-    chain: &Chain<'_, R>,
-    s: u32,
-) -> Result<Vec<Term>, AllocError>
-    requires { length chain.now.active.now ≡ length (R.rows chain.now.rows.now) }
-    ensures { IfOk result (λ terms. terms.items ≡ inner chain.now.active.now (row_into (R.rows chain.now.rows.now) s)) }
-{
-    let mut terms = Vec::new(alloc);
-    for t in 0..chain.rows.count() {
-        if chain.active.at(t) {
-            push_entries_into(&mut terms, chain.rows.row(t), s, t)?;
-        }
-    }
-    Ok(terms)
-}
-
-/// The equation of a state: its visits are those at the start, and those by the states that lead to it.
-fn visits_at<R: RowsOf>(
-    alloc: Global,
-    chain: &Chain<'_, R>,
-    start: u32,
-    s: u32,
-) -> Result<Equation, AllocError>
-    requires state { s < length (R.rows chain.now.rows.now) }
-    requires active { length chain.now.active.now ≡ length (R.rows chain.now.rows.now) }
-    ensures { IfOk result (λ e. e ≡ equation_of (transposed (R.rows chain.now.rows.now)) chain.now.active.now (unit_column (length (R.rows chain.now.rows.now)) start ∷ []) s) }
-{
-    let zero = Frac::whole(0);
-    if !chain.active.at(s) {
-        return Ok(Equation::new(Vec::new(alloc), zero, zero));
-    }
-    let terms = terms_into(alloc, chain, s)?;
-    let at_start = if s == start { Frac::whole(1) } else { zero };
-    Ok(Equation::new(terms, at_start, zero))
-}
-
-/// The equations of all states.
+/// The equations of all states: the visits of a state are those at the start, and those by the states that lead to it.
 fn visits_system<R: RowsOf>(
     alloc: Global,
     chain: &Chain<'_, R>,
     start: u32,
 ) -> Result<Vec<Equation>, AllocError>
-    requires { length chain.now.active.now ≡ length (R.rows chain.now.rows.now) }
+    requires active { length chain.now.active.now ≡ length (R.rows chain.now.rows.now) }
+    requires start { is_active chain.now.active.now start ≡ true }
     ensures value { IfOk result (λ es. es.items ≡ system (transposed (R.rows chain.now.rows.now)) chain.now.active.now (unit_column (length (R.rows chain.now.rows.now)) start ∷ [])) }
     ensures few { IfOk result (λ es. length es.items < 2 ^ 32) }
 {
-    let mut equations = Vec::new(alloc);
-    for s in 0..chain.rows.count() {
-        equations.push(visits_at(alloc, chain, start, s)?)?;
+    let mut equations = visits_start(alloc, chain.rows.count(), start)?;
+    for t in 0..chain.rows.count() {
+        if chain.active.at(t) {
+            push_row(&mut equations, chain.active, chain.rows.row(t), t)?;
+        }
     }
     Ok(equations)
 }
@@ -92,6 +91,7 @@ pub fn visits<R: RowsOf>(
     requires start { is_active chain.now.active.now start ≡ true }
     ensures value { IfOk result (λ y. written_visits (R.rows chain.now.rows.now) chain.now.active.now start ≡ Ok y.items) }
     ensures wide { (s : ℕ) → result ≡ Err (ElimError.Wide s) → written_visits (R.rows chain.now.rows.now) chain.now.active.now start ≡ Err s }
+    ensures place { (s : ℕ) → result ≡ Err (ElimError.Wide s) → (s < length (R.rows chain.now.rows.now)) × (is_active chain.now.active.now s ≡ true) }
     ensures solves { IfOk result (λ y. AreVisits (R.rows chain.now.rows.now) chain.now.active.now start y.items) }
 {
     chain.rows.known();

@@ -6,7 +6,9 @@ use Rattle.mdp_elim.specs.declared.errors.ElimError.TheVariants as whole_error
 use Rattle.mdp_elim.specs.Elimination.{CanEliminate}
 use Rattle.mdp_elim.specs.System.{SolveEach}
 use Rattle.mdp_elim.specs.Solve.{columns_of}
-use Rattle.mdp_elim.proofs.Leaving.{system-can, system-len, solve_each}
+use Rattle.mdp_elim.specs.Predecessors.{LeadBelow}
+use Rattle.mdp_elim.proofs.Active.{wide_active}
+use Rattle.mdp_elim.proofs.Leaving.{system-can, system-leads, system-len, solve_each}
 use Rattle.mdp_elim.proofs.Chains.{solution-of, written_solution-ok, written_solution-err}
 use Rattle.mdp_elim.proofs.chain.solve.Goals as goal
 
@@ -21,6 +23,18 @@ returns-in_err-values-clause-wide g c = λ s h.
     let len = ap length is ∙ system-len (g.R.RowsOf.rows c.args.chain.now.rows.now) c.args.chain.now.active.now c.args.chain.now.ranks.now c.known.ensures c.requires.active c.requires.leaves _ in
     let p : c.solve_system.result ≡ Err (whole_error.Wide s) = search rules in
     written_solution-err (g.R.RowsOf.rows c.args.chain.now.rows.now) c.args.chain.now.active.now _ c.in_ok-system.system.items _ is len refl s (c.solve_system.ensures.wide s p)
+
+pub returns-in_err-values-clause-place : goal.returns-in_err-values-clause-place
+returns-in_err-values-clause-place g c = λ s h.
+    let is = (c.in_ok-system.ensures {u = tt}).value in
+    let len = ap length is ∙ system-len (g.R.RowsOf.rows c.args.chain.now.rows.now) c.args.chain.now.active.now c.args.chain.now.ranks.now c.known.ensures c.requires.active c.requires.leaves _ in
+    let p : c.solve_system.result ≡ Err (whole_error.Wide s) = search rules in
+    wide_active c.args.chain.now.active.now (g.R.RowsOf.rows c.args.chain.now.rows.now) _ c.requires.active s (solution-of (g.R.RowsOf.rows c.args.chain.now.rows.now) c.args.chain.now.active.now _ c.in_ok-system.system.items _ is len refl _ (c.solve_system.ensures.wide s p))
+
+pub solve_system-requires-clause-down : goal.solve_system-requires-clause-down
+solve_system-requires-clause-down g c =
+    subst (λ (es : List spec.Equation). LeadBelow (length es) (length es) es) (sym (c.in_ok-system.ensures {u = tt}).value)
+    (system-leads (g.R.RowsOf.rows c.args.chain.now.rows.now) c.args.chain.now.active.now c.args.chain.now.ranks.now c.known.ensures c.requires.active c.requires.leaves _)
 
 pub returns-clause-value : goal.returns-clause-value
 returns-clause-value g c =

@@ -5,6 +5,7 @@ use Rattle.mdp_elim.specs.Equation as spec
 use Rattle.mdp_elim.specs.declared.errors.ElimError.TheVariants as whole_error
 use Rattle.mdp_elim.specs.Elimination.{Eliminated, eliminated, solution}
 use Rattle.mdp_elim.specs.Finish.{finish, LeadDown}
+use Rattle.mdp_elim.specs.Predecessors.{IsLinked}
 use Rattle.mdp_elim.proofs.Finish.{all_stop, all_step, can_step, down_step, placed-wide, placed-ok}
 use Rattle.mdp_elim.proofs.elimination.eliminate_all.Goals as goal
 
@@ -13,21 +14,21 @@ returns-in_err-pivot-clause-wide c = λ s h.
     let p : c.placed.result ≡ Err (whole_error.Wide s) = search rules in
     let w = placed-wide (c.loop-s.s - 1) s c.eliminate.result (sym c.placed.ensures ∙ p) in
     let n : c.loop-s.s ≡ suc (c.loop-s.s - 1) = omega arith in
-    c.loop-s.invariant.same ∙ all_stop c.loop-s.s (c.loop-s.s - 1) n c.loop-s.left.items c.loop-s.done.items (c.eliminate.ensures.wide w.0) ∙ ap Err w.1
+    c.loop-s.invariant.same ∙ all_stop c.loop-s.s (c.loop-s.s - 1) n c.loop-s.left.equations.items c.loop-s.done.items (c.eliminate.ensures.wide w.0) ∙ ap Err w.1
 
 pub loop-s-preserved : goal.loop-s-preserved
 loop-s-preserved c =
     let n : c.loop-s.s ≡ suc (c.loop-s.s - 1) = omega arith in
-    let e : Eliminated = record { pivot = c.in_ok-pivot.pivot; rest = c.eliminate.new.equations.items } in
+    let e : Eliminated = record { pivot = c.in_ok-pivot.pivot; rest = c.eliminate.new.self.equations.items } in
     let k = placed-ok (c.loop-s.s - 1) c.in_ok-pivot.pivot c.eliminate.result (sym c.placed.ensures ∙ c.in_ok-pivot.was {u = tt}) in
-    let h : eliminated (c.loop-s.s - 1) c.loop-s.left.items ≡ Some (record { pivot = c.in_ok-pivot.pivot; rest = c.eliminate.new.equations.items }) = MatchResult-at_ok _ _ _ k c.eliminate.ensures.ok in
-    let l : length c.eliminate.new.equations.items ≡ c.loop-s.s - 1 = MatchResult-at_ok _ _ _ k c.eliminate.ensures.count in
-    let more = can_step c.loop-s.s (c.loop-s.s - 1) n c.loop-s.left.items c.loop-s.done.items e c.loop-s.invariant.can h in
+    let h : eliminated (c.loop-s.s - 1) c.loop-s.left.equations.items ≡ Some (record { pivot = c.in_ok-pivot.pivot; rest = c.eliminate.new.self.equations.items }) = MatchResult-at_ok _ _ _ k c.eliminate.ensures.ok in
+    let l : IsLinked (c.loop-s.s - 1) (c.loop-s.s - 1) c.eliminate.new.self.lists.items c.eliminate.new.self.equations.items = MatchResult-at_ok _ _ _ k c.eliminate.ensures.linked in
+    let more = can_step c.loop-s.s (c.loop-s.s - 1) n c.loop-s.left.equations.items c.loop-s.done.items e c.loop-s.invariant.can h in
     let push = (c.in_ok-push.ensures {u = tt}).items in
     record {
-      same = c.loop-s.invariant.same ∙ all_step c.loop-s.s (c.loop-s.s - 1) n c.loop-s.left.items c.loop-s.done.items e h ∙ ap (λ (es : List spec.Equation). finish (c.loop-s.s - 1) es (solution (c.loop-s.s - 1) c.eliminate.new.equations.items)) (sym push);
+      same = c.loop-s.invariant.same ∙ all_step c.loop-s.s (c.loop-s.s - 1) n c.loop-s.left.equations.items c.loop-s.done.items e h ∙ ap (λ (es : List spec.Equation). finish (c.loop-s.s - 1) es (solution (c.loop-s.s - 1) c.eliminate.new.self.equations.items)) (sym push);
       can = more.1;
-      left = l;
-      down = subst (λ (es : List spec.Equation). LeadDown (c.loop-s.s - 1) es) (sym push) (down_step c.loop-s.s (c.loop-s.s - 1) n c.loop-s.left.items c.loop-s.done.items c.in_ok-pivot.pivot more.0 c.loop-s.invariant.down);
+      linked = l;
+      down = subst (λ (es : List spec.Equation). LeadDown (c.loop-s.s - 1) es) (sym push) (down_step c.loop-s.s (c.loop-s.s - 1) n c.loop-s.left.equations.items c.loop-s.done.items c.in_ok-pivot.pivot more.0 c.loop-s.invariant.down);
       count = omega (arith, ap length push, length-append c.loop-s.done.items (c.in_ok-pivot.pivot ∷ []), c.loop-s.invariant.count);
     }

@@ -1,13 +1,14 @@
 use Rattle.std.proofs.Common.{◌≡◌, ◌+◌, length}
 use Rattle.mdp_elim.specs.Elimination.{solution, CanEliminate}
 use Rattle.mdp_elim.specs.Finish.{finish, LeadDown}
+use Rattle.mdp_elim.specs.Predecessors.{IsLinked}
 use Rattle.mdp_elim.proofs.elimination.eliminate_all.Given as goal
 
 abbrev pub invariant-loop-s : goal.invariant-loop-s
 invariant-loop-s l = record {
-  same : solution (length l.fn.equations.items) l.fn.equations.items ≡ finish l.s l.done.items (solution l.s l.left.items);
-  can : CanEliminate l.s l.left.items;
-  left : length l.left.items ≡ l.s;
+  same : solution (length l.fn.equations.items) l.fn.equations.items ≡ finish l.s l.done.items (solution l.s l.left.equations.items);
+  can : CanEliminate l.s l.left.equations.items;
+  linked : IsLinked l.s l.s l.left.lists.items l.left.equations.items;
   down : LeadDown l.s l.done.items;
   count : length l.done.items + l.s ≡ length l.fn.equations.items;
 }

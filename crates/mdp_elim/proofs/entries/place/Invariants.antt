@@ -1,5 +1,5 @@
 use Rattle.std.proofs.Common.{◌≡◌, ℕ, ◌<◌, false, nat_le, get_or}
-use Rattle.mdp_elim.specs.Entries.{no_entry}
+use Rattle.mdp_elim.proofs.Merge.{no_entry}
 use Rattle.mdp_elim.proofs.entries.place.Given as goal
 
 abbrev pub invariant-loop-i : goal.invariant-loop-i

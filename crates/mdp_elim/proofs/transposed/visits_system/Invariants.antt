@@ -1,8 +1,10 @@
-use Rattle.std.proofs.Common.{◌≡◌, ◌∷◌, [], map, length}
-use Rattle.std.specs.List.{range_with_len}
-use Rattle.mdp_elim.specs.System.{equation_of}
-use Rattle.mdp_elim.specs.Visits.{transposed, unit_column}
+use Rattle.std.proofs.Common.{◌≡◌, ℕ, ◌<◌, length}
+use Rattle.mdp_elim.specs.Predecessors.{at}
+use Rattle.mdp_elim.specs.Visits.{visits_below}
 use Rattle.mdp_elim.proofs.transposed.visits_system.Given as goal
 
-abbrev pub invariant-loop-s : goal.invariant-loop-s
-invariant-loop-s g l = l.equations.items ≡ map (equation_of (transposed (g.R.RowsOf.rows l.chain.rows.now)) l.chain.active.now (unit_column (length (g.R.RowsOf.rows l.chain.rows.now)) l.start ∷ [])) (range_with_len 0 l.s)
+abbrev pub invariant-loop-t : goal.invariant-loop-t
+invariant-loop-t g l = record {
+  count : length l.equations.items ≡ length (g.R.RowsOf.rows l.chain.rows.now);
+  rows : (s : ℕ) → s < length (g.R.RowsOf.rows l.chain.rows.now) → at l.equations.items s ≡ visits_below (g.R.RowsOf.rows l.chain.rows.now) l.chain.active.now l.start l.t s;
+}
