@@ -13,7 +13,8 @@ use Rattle.mdp_cert.specs.Cert.{PlainClaim, upper, reach, label_of}
 use Rattle.mdp_cert.specs.Spelling.{claim_text}
 use Rattle.mdp_cert.specs.Reading.{behind, closed_name, name_behind, first_claim, claim_of, claim_at}
 use Rattle.mdp_cert.proofs.Pieces.{Free, free-append, free-name}
-use Rattle.mdp_cert.proofs.Feeds.{found_ok, bytes_same, bytes_self}
+use Rattle.mdp_cert.proofs.Cuts.{bytes_same, bytes_self}
+use Rattle.mdp_cert.proofs.Feeds.{found_ok}
 
 behind-found : (front text rest : List ℕ) → behind front text ≡ Some rest → text ≡ front ++ rest
 behind-found front text rest e = by (bytes_eq (take (length front) text) front) refl e

@@ -3,104 +3,204 @@ use Rattle.std.proofs.Common.{◌≡◌, ℕ, List, [], ◌∷◌, ◌++◌, Ok,
 use Rattle.std.specs.Prelude.{codes}
 use Rattle.std.specs.Fmt.{digits}
 use Rattle.mdp_math.specs.Gcd.{gcd, gcd_with_fuel}
-use Rattle.mdp_math.specs.Rational.{ratio}
+use Rattle.mdp_math.specs.Rational.{ℚ, ratio}
 use Rattle.mdp_rows.specs.declared.dir.Dir.TheVariants.{Max}
 use Rattle.mdp_num.specs.Value.{spelling}
 use Rattle.mdp_num.specs.Canonical.{canonical_of}
-use Rattle.mdp_cert.specs.declared.init.Init.TheVariants.{Finite}
-use Rattle.mdp_cert.specs.declared.error.CertKind.TheVariants.{Version, Claim, Number, Shape, Count, End}
+use Rattle.mdp_cert.specs.declared.init.Init.{Init}
+use Rattle.mdp_cert.specs.declared.init.Init.TheVariants.{Missing, Finite}
+use Rattle.mdp_cert.specs.declared.error.CertKind.TheVariants.{Version, Claim, Number, Shape, Count, End, Run}
 use Rattle.mdp_cert.specs.Cert.{Certificate, upper, reach, bounds, policy}
-use Rattle.mdp_cert.specs.Spelling.{text_of, line}
-use Rattle.mdp_cert.specs.Reading.{outcome, refused, line_at, whole_at, frac_at, claim_of, claim_at, states_at, finite_at, init_at, bound_at, policy_at, head_from, bounds_from, policy_from, body_from, end_from}
+use Rattle.mdp_cert.specs.Lines.{refused, next_line}
+use Rattle.mdp_cert.specs.Words.{words_behind, whole_of, whole_at, frac_at}
+use Rattle.mdp_cert.specs.Runs.{longest_runs}
+use Rattle.mdp_cert.specs.Spelling.{text_of, old_text_of, text_in, run_text, run_lines, line}
+use Rattle.mdp_cert.specs.Reading.{outcome, version_at, claim_of, claim_at, states_at, finite_at, init_at, head_from, entry_at, state_at, run_at, longest_at, runs_from, entries_from, body_from, end_from}
 
--- an upper bound of 1 at the states 0 and 1, of 0 at state 2
+-- ---- an upper bound of 1 at the states 0 and 1, of 0 at state 2
+
+abbrev one : ℚ
+one = ratio (pos 1) 1
+
+abbrev none : ℚ
+none = ratio (pos 0) 1
+
+abbrev upper_of : Init → ℕ → List ℚ → Certificate
+upper_of init states values = record { claim = upper (codes "goal"); states = states; init = init; body = bounds values }
+
 abbrev bounds-of-three : Certificate
-bounds-of-three = record {
-  claim = upper (codes "goal");
-  states = 3;
-  init = Finite 0 (ratio (pos 1) 1);
-  body = bounds (ratio (pos 1) 1 ∷ ratio (pos 1) 1 ∷ ratio (pos 0) 1 ∷ []);
-}
+bounds-of-three = upper_of (Finite 0 one) 3 (one ∷ one ∷ none ∷ [])
 
-abbrev text-of-bounds : List ℕ
-text-of-bounds = line (codes "mdp-certificate 1") ++ line (codes "claim upper reach \"goal\"") ++ line (codes "states 3") ++ line (codes "init 0 1") ++ line (codes "state 0 1") ++ line (codes "state 1 1") ++ line (codes "state 2 0") ++ line (codes "end")
+-- its text, with these first line and lines of states
+abbrev bounds-with : List ℕ → List ℕ → List ℕ
+bounds-with version states = line version ++ line (codes "claim upper reach \"goal\"") ++ line (codes "states 3") ++ line (codes "init 0 1") ++ states ++ line (codes "end")
 
-bounds-written : text_of bounds-of-three ≡ text-of-bounds
-unfolding text_of spelling ratio gcd gcd_with_fuel digits
+abbrev in-two : List ℕ → List ℕ
+in-two states = bounds-with (codes "mdp-certificate 2") states
+
+abbrev in-one : List ℕ → List ℕ
+in-one states = bounds-with (codes "mdp-certificate 1") states
+
+abbrev one-by-one : List ℕ
+one-by-one = line (codes "state 0 1") ++ line (codes "state 1 1") ++ line (codes "state 2 0")
+
+abbrev with-run : List ℕ
+with-run = line (codes "run 0 1 1") ++ line (codes "state 2 0")
+
+bounds-written : text_of bounds-of-three ≡ in-two with-run
+unfolding text_in run_text run_lines longest_runs spelling ratio gcd gcd_with_fuel digits
 bounds-written = refl
 
-bounds-read : outcome text-of-bounds ≡ Ok bounds-of-three
-unfolding outcome line_at whole_at frac_at claim_of claim_at states_at finite_at init_at bound_at head_from bounds_from body_from end_from canonical_of ratio gcd gcd_with_fuel
+bounds-written_old : old_text_of bounds-of-three ≡ in-one one-by-one
+unfolding text_in run_text run_lines longest_runs spelling ratio gcd gcd_with_fuel digits
+bounds-written_old = refl
+
+bounds-read : outcome (in-two with-run) ≡ Ok bounds-of-three
+unfolding outcome next_line version_at whole_of whole_at frac_at claim_of claim_at words_behind states_at finite_at init_at head_from entry_at state_at run_at longest_at runs_from entries_from body_from end_from canonical_of ratio gcd gcd_with_fuel
 bounds-read = refl
 
--- the greatest probabilities of reaching the goal, and a policy
-abbrev half-of-three : Certificate
-half-of-three = record {
+bounds-read_old : outcome (in-one one-by-one) ≡ Ok bounds-of-three
+unfolding outcome next_line version_at whole_of whole_at frac_at claim_of claim_at words_behind states_at finite_at init_at head_from entry_at state_at run_at longest_at runs_from entries_from body_from end_from canonical_of ratio gcd gcd_with_fuel
+bounds-read_old = refl
+
+-- the lines of the states 0 and 1 could be one
+shorter-runs : outcome (in-two one-by-one) ≡ refused Run 6
+unfolding outcome next_line version_at whole_of whole_at frac_at claim_of claim_at words_behind states_at finite_at init_at head_from entry_at state_at run_at longest_at runs_from entries_from body_from end_from canonical_of ratio gcd gcd_with_fuel
+shorter-runs = refl
+
+run-too-short : outcome (in-two (line (codes "run 0 1 1") ++ line (codes "state 2 1"))) ≡ refused Run 6
+unfolding outcome next_line version_at whole_of whole_at frac_at claim_of claim_at words_behind states_at finite_at init_at head_from entry_at state_at run_at longest_at runs_from entries_from body_from end_from canonical_of ratio gcd gcd_with_fuel
+run-too-short = refl
+
+run-of-one : outcome (in-two (line (codes "run 0 0 1") ++ line (codes "state 1 1") ++ line (codes "state 2 0"))) ≡ refused Count 5
+unfolding outcome next_line version_at whole_of whole_at frac_at claim_of claim_at words_behind states_at finite_at init_at head_from entry_at state_at run_at longest_at runs_from entries_from body_from end_from canonical_of ratio gcd gcd_with_fuel
+run-of-one = refl
+
+run-backwards : outcome (in-two (line (codes "state 0 1") ++ line (codes "run 1 0 0"))) ≡ refused Count 6
+unfolding outcome next_line version_at whole_of whole_at frac_at claim_of claim_at words_behind states_at finite_at init_at head_from entry_at state_at run_at longest_at runs_from entries_from body_from end_from canonical_of ratio gcd gcd_with_fuel
+run-backwards = refl
+
+run-past-end : outcome (in-two (line (codes "run 0 3 1"))) ≡ refused Count 5
+unfolding outcome next_line version_at whole_of whole_at frac_at claim_of claim_at words_behind states_at finite_at init_at head_from entry_at state_at run_at longest_at runs_from entries_from body_from end_from canonical_of ratio gcd gcd_with_fuel
+run-past-end = refl
+
+run-of-other_state : outcome (in-two (line (codes "run 1 2 1"))) ≡ refused Count 5
+unfolding outcome next_line version_at whole_of whole_at frac_at claim_of claim_at words_behind states_at finite_at init_at head_from entry_at state_at run_at longest_at runs_from entries_from body_from end_from canonical_of ratio gcd gcd_with_fuel
+run-of-other_state = refl
+
+-- in one line a count comes before a run
+count-before-run : outcome (in-two (line (codes "run 0 1 1") ++ line (codes "run 2 2 1"))) ≡ refused Count 6
+unfolding outcome next_line version_at whole_of whole_at frac_at claim_of claim_at words_behind states_at finite_at init_at head_from entry_at state_at run_at longest_at runs_from entries_from body_from end_from canonical_of ratio gcd gcd_with_fuel
+count-before-run = refl
+
+number-before-count : outcome (in-two (line (codes "run 0 0 01"))) ≡ refused Number 5
+unfolding outcome next_line version_at whole_of whole_at frac_at claim_of claim_at words_behind states_at finite_at init_at head_from entry_at state_at run_at longest_at runs_from entries_from body_from end_from canonical_of ratio gcd gcd_with_fuel
+number-before-count = refl
+
+shape-before-number : outcome (in-two (line (codes "run 0 01"))) ≡ refused Shape 5
+unfolding outcome next_line version_at whole_of whole_at frac_at claim_of claim_at words_behind states_at finite_at init_at head_from entry_at state_at run_at longest_at runs_from entries_from body_from end_from canonical_of ratio gcd gcd_with_fuel
+shape-before-number = refl
+
+-- version 1 has no runs
+run-in-one : outcome (in-one with-run) ≡ refused Shape 5
+unfolding outcome next_line version_at whole_of whole_at frac_at claim_of claim_at words_behind states_at finite_at init_at head_from entry_at state_at run_at longest_at runs_from entries_from body_from end_from canonical_of ratio gcd gcd_with_fuel
+run-in-one = refl
+
+run-at-end : outcome (in-two (with-run ++ line (codes "run 3 4 0"))) ≡ refused Shape 7
+unfolding outcome next_line version_at whole_of whole_at frac_at claim_of claim_at words_behind states_at finite_at init_at head_from entry_at state_at run_at longest_at runs_from entries_from body_from end_from canonical_of ratio gcd gcd_with_fuel
+run-at-end = refl
+
+-- all states in one line
+run-of-all : outcome (in-two (line (codes "run 0 2 1"))) ≡ Ok (upper_of (Finite 0 one) 3 (one ∷ one ∷ one ∷ []))
+unfolding outcome next_line version_at whole_of whole_at frac_at claim_of claim_at words_behind states_at finite_at init_at head_from entry_at state_at run_at longest_at runs_from entries_from body_from end_from canonical_of ratio gcd gcd_with_fuel
+run-of-all = refl
+
+-- ---- one state only
+
+abbrev one-state : List ℕ → List ℕ
+one-state version = line version ++ line (codes "claim upper reach \"goal\"") ++ line (codes "states 1") ++ line (codes "init -") ++ line (codes "state 0 1") ++ line (codes "end")
+
+one-written : text_of (upper_of Missing 1 (one ∷ [])) ≡ one-state (codes "mdp-certificate 2")
+unfolding text_in run_text run_lines longest_runs spelling ratio gcd gcd_with_fuel digits
+one-written = refl
+
+one-read : outcome (one-state (codes "mdp-certificate 2")) ≡ Ok (upper_of Missing 1 (one ∷ []))
+unfolding outcome next_line version_at whole_of whole_at frac_at claim_of claim_at words_behind states_at finite_at init_at head_from entry_at state_at run_at longest_at runs_from entries_from body_from end_from canonical_of ratio gcd gcd_with_fuel
+one-read = refl
+
+-- ---- the greatest probabilities of reaching the goal, and a policy
+
+abbrev half : ℚ
+half = ratio (pos 1) 2
+
+abbrev half-of-four : Certificate
+half-of-four = record {
   claim = reach Max (codes "goal");
-  states = 3;
-  init = Finite 0 (ratio (pos 1) 2);
-  body = policy (ratio (pos 1) 2 ∷ ratio (pos 1) 1 ∷ ratio (pos 0) 1 ∷ []) (0 ∷ 0 ∷ 0 ∷ []) (1 ∷ 0 ∷ 0 ∷ []);
+  states = 4;
+  init = Finite 0 half;
+  body = policy (half ∷ one ∷ none ∷ none ∷ []) (0 ∷ 0 ∷ 0 ∷ 0 ∷ []) (1 ∷ 0 ∷ 0 ∷ 0 ∷ []);
 }
 
--- its text, with these words for the first line and the line of state 0, and these bytes at its end
+-- its text in version 2, with these first line, line of state 0 and end
 abbrev half-with : List ℕ → List ℕ → List ℕ → List ℕ
-half-with version state-0 end = line version ++ line (codes "claim max reach \"goal\"") ++ line (codes "states 3") ++ line (codes "init 0 1/2") ++ line state-0 ++ line (codes "state 1 1 0 0") ++ line (codes "state 2 0 0 0") ++ end
+half-with version state-0 end = line version ++ line (codes "claim max reach \"goal\"") ++ line (codes "states 4") ++ line (codes "init 0 1/2") ++ line state-0 ++ line (codes "state 1 1 0 0") ++ line (codes "run 2 3 0 0 0") ++ end
 
-abbrev text-of-half : List ℕ
-text-of-half = half-with (codes "mdp-certificate 1") (codes "state 0 1/2 0 1") (line (codes "end"))
+abbrev half-two : List ℕ → List ℕ → List ℕ
+half-two state-0 end = half-with (codes "mdp-certificate 2") state-0 end
 
-half-written : text_of half-of-three ≡ text-of-half
-unfolding text_of spelling ratio gcd gcd_with_fuel digits
+half-written : text_of half-of-four ≡ half-two (codes "state 0 1/2 0 1") (line (codes "end"))
+unfolding text_in run_text run_lines longest_runs spelling ratio gcd gcd_with_fuel digits
 half-written = refl
 
-half-read : outcome text-of-half ≡ Ok half-of-three
-unfolding outcome line_at whole_at frac_at claim_of claim_at states_at finite_at init_at policy_at head_from policy_from body_from end_from canonical_of ratio gcd gcd_with_fuel
+half-read : outcome (half-two (codes "state 0 1/2 0 1") (line (codes "end"))) ≡ Ok half-of-four
+unfolding outcome next_line version_at whole_of whole_at frac_at claim_of claim_at words_behind states_at finite_at init_at head_from entry_at state_at run_at longest_at runs_from entries_from body_from end_from canonical_of ratio gcd gcd_with_fuel
 half-read = refl
 
-not-lowest : outcome (half-with (codes "mdp-certificate 1") (codes "state 0 2/4 0 1") (line (codes "end"))) ≡ refused Number 5
-unfolding outcome line_at whole_at frac_at claim_of claim_at states_at finite_at init_at policy_at head_from policy_from body_from end_from canonical_of ratio gcd gcd_with_fuel
+not-lowest : outcome (half-two (codes "state 0 2/4 0 1") (line (codes "end"))) ≡ refused Number 5
+unfolding outcome next_line version_at whole_of whole_at frac_at claim_of claim_at words_behind states_at finite_at init_at head_from entry_at state_at run_at longest_at runs_from entries_from body_from end_from canonical_of ratio gcd gcd_with_fuel
 not-lowest = refl
 
-without-end : outcome (half-with (codes "mdp-certificate 1") (codes "state 0 1/2 0 1") []) ≡ refused End 8
-unfolding outcome line_at whole_at frac_at claim_of claim_at states_at finite_at init_at policy_at head_from policy_from body_from end_from canonical_of ratio gcd gcd_with_fuel
+without-end : outcome (half-two (codes "state 0 1/2 0 1") []) ≡ refused End 8
+unfolding outcome next_line version_at whole_of whole_at frac_at claim_of claim_at words_behind states_at finite_at init_at head_from entry_at state_at run_at longest_at runs_from entries_from body_from end_from canonical_of ratio gcd gcd_with_fuel
 without-end = refl
 
-without-line-feed : outcome (half-with (codes "mdp-certificate 1") (codes "state 0 1/2 0 1") (codes "ended")) ≡ refused End 8
-unfolding outcome line_at whole_at frac_at claim_of claim_at states_at finite_at init_at policy_at head_from policy_from body_from end_from canonical_of ratio gcd gcd_with_fuel
+without-line-feed : outcome (half-two (codes "state 0 1/2 0 1") (codes "ended")) ≡ refused End 8
+unfolding outcome next_line version_at whole_of whole_at frac_at claim_of claim_at words_behind states_at finite_at init_at head_from entry_at state_at run_at longest_at runs_from entries_from body_from end_from canonical_of ratio gcd gcd_with_fuel
 without-line-feed = refl
 
-another-end : outcome (half-with (codes "mdp-certificate 1") (codes "state 0 1/2 0 1") (line (codes "ended"))) ≡ refused Shape 8
-unfolding outcome line_at whole_at frac_at claim_of claim_at states_at finite_at init_at policy_at head_from policy_from body_from end_from canonical_of ratio gcd gcd_with_fuel
+another-end : outcome (half-two (codes "state 0 1/2 0 1") (line (codes "ended"))) ≡ refused Shape 8
+unfolding outcome next_line version_at whole_of whole_at frac_at claim_of claim_at words_behind states_at finite_at init_at head_from entry_at state_at run_at longest_at runs_from entries_from body_from end_from canonical_of ratio gcd gcd_with_fuel
 another-end = refl
 
-bytes-behind : outcome (half-with (codes "mdp-certificate 1") (codes "state 0 1/2 0 1") (line (codes "end") ++ 32 ∷ [])) ≡ refused End 9
-unfolding outcome line_at whole_at frac_at claim_of claim_at states_at finite_at init_at policy_at head_from policy_from body_from end_from canonical_of ratio gcd gcd_with_fuel
+bytes-behind : outcome (half-two (codes "state 0 1/2 0 1") (line (codes "end") ++ 32 ∷ [])) ≡ refused End 9
+unfolding outcome next_line version_at whole_of whole_at frac_at claim_of claim_at words_behind states_at finite_at init_at head_from entry_at state_at run_at longest_at runs_from entries_from body_from end_from canonical_of ratio gcd gcd_with_fuel
 bytes-behind = refl
 
 another-version : outcome (half-with (codes "mdp-certificate 9") (codes "state 0 1/2 0 1") (line (codes "end"))) ≡ refused Version 1
-unfolding outcome line_at
+unfolding outcome next_line version_at whole_of whole_at frac_at claim_of claim_at words_behind states_at finite_at init_at head_from entry_at state_at run_at longest_at runs_from entries_from body_from end_from canonical_of ratio gcd gcd_with_fuel
 another-version = refl
 
-another-state : outcome (half-with (codes "mdp-certificate 1") (codes "state 1 1/2 0 1") (line (codes "end"))) ≡ refused Count 5
-unfolding outcome line_at whole_at frac_at claim_of claim_at states_at finite_at init_at policy_at head_from policy_from body_from end_from canonical_of ratio gcd gcd_with_fuel
+another-state : outcome (half-two (codes "state 1 1/2 0 1") (line (codes "end"))) ≡ refused Count 5
+unfolding outcome next_line version_at whole_of whole_at frac_at claim_of claim_at words_behind states_at finite_at init_at head_from entry_at state_at run_at longest_at runs_from entries_from body_from end_from canonical_of ratio gcd gcd_with_fuel
 another-state = refl
 
--- numbers come before counts
-number-first : outcome (half-with (codes "mdp-certificate 1") (codes "state 1 1/2 0 01") (line (codes "end"))) ≡ refused Number 5
-unfolding outcome line_at whole_at frac_at claim_of claim_at states_at finite_at init_at policy_at head_from policy_from body_from end_from canonical_of ratio gcd gcd_with_fuel
-number-first = refl
+-- equal values alone are not equal words
+other-rank : outcome (line (codes "mdp-certificate 2") ++ line (codes "claim max reach \"goal\"") ++ line (codes "states 2") ++ line (codes "init -") ++ line (codes "state 0 0 0 1") ++ line (codes "state 1 0 0 0") ++ (line (codes "end"))) ≡ Ok (record { claim = reach Max (codes "goal"); states = 2; init = Missing; body = policy (none ∷ none ∷ []) (0 ∷ 0 ∷ []) (1 ∷ 0 ∷ []) })
+unfolding outcome next_line version_at whole_of whole_at frac_at claim_of claim_at words_behind states_at finite_at init_at head_from entry_at state_at run_at longest_at runs_from entries_from body_from end_from canonical_of ratio gcd gcd_with_fuel
+other-rank = refl
 
--- the line `init`, for 3 states
+-- ---- the line `init`, for 3 states
+
 init-alone : init_at 3 4 (codes "init 0") ≡ refused Shape 4
-unfolding init_at finite_at
+unfolding init_at finite_at words_behind
 init-alone = refl
 
 init-unnamed : init_at 3 4 (codes "init - 1/2") ≡ refused Number 4
-unfolding init_at finite_at whole_at canonical_of ratio gcd gcd_with_fuel
+unfolding init_at finite_at words_behind whole_at whole_of canonical_of ratio gcd gcd_with_fuel
 init-unnamed = refl
 
 init-outside : init_at 3 4 (codes "init 3 1/2") ≡ refused Count 4
-unfolding init_at finite_at whole_at frac_at canonical_of ratio gcd gcd_with_fuel
+unfolding init_at finite_at words_behind whole_at whole_of frac_at canonical_of ratio gcd gcd_with_fuel
 init-outside = refl
 
 -- a claim that isn't known

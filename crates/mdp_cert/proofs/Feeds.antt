@@ -3,11 +3,11 @@ use Rattle.std.proofs.Common.{◌≡◌, ℕ, ◌+◌, ◌<◌, ◌^◌, Bool, t
 use Rattle.std.specs.List.{position_or_len, before_first, after_first}
 use Rattle.std.specs.Option.{option_and_then}
 use Rattle.std.specs.Str.{bytes_eq}
-use Rattle.std.specs.Cmp.Lexicographic.{bytes_decides}
 use Rattle.std.proofs.lemmas.Bool.{not-false}
 use Rattle.std.proofs.lemmas.Bool.Decides.{nat_tests}
-use Rattle.std.proofs.lemmas.List.{length-append}
-use Rattle.std.proofs.lemmas.List.Sums.{split_at_first, passes_at_first}
+use Rattle.std.proofs.lemmas.List.{length-append, get_or-take}
+use Rattle.std.proofs.lemmas.List.Folds.{list_any_none, length-prefix_len}
+use Rattle.std.proofs.lemmas.List.Sums.{split_at_first, passes_at_first, fails_before_first}
 use Rattle.std.proofs.Math.Seq.{take-append_seam, drop-append-add}
 use Rattle.mdp_math.specs.Gcd.{gcd-one_right}
 use Rattle.mdp_math.specs.Rational.{ℚ, ratio}
@@ -18,17 +18,18 @@ use Rattle.mdp_num.proofs.Spellings.{sound, complete}
 use Rattle.mdp_cert.specs.declared.error.CertKind.{CertKind}
 use Rattle.mdp_cert.specs.declared.error.CertKind.TheVariants.{Number, End}
 use Rattle.mdp_cert.specs.declared.error.Refusal.{Refusal}
+use Rattle.mdp_cert.specs.Lines.{◌>>=◌, refuse_if, or_refused, Place, place, next_line, line_by, is_line, is_line_feed}
 use Rattle.mdp_cert.specs.Spelling.{line}
-use Rattle.mdp_cert.specs.Reading.{◌>>=◌, refuse_if, or_refused, line_at, is_line, is_line_feed, whole_part, whole_of, whole_at, frac_at}
+use Rattle.mdp_cert.specs.Words.{whole_part, whole_of, whole_at, frac_at}
+use Rattle.mdp_cert.proofs.Cuts.{guard_ok, bytes_same, bytes_self}
 use Rattle.mdp_cert.proofs.Pieces.{Free, whole-small}
+
+pub ok-is : {A : Type 0} (x y : A) → (let r : Result A Refusal = Ok x in r) ≡ Ok y → x ≡ y
+ok-is x y e = cc
 
 pub bind_ok : {A B : Type 0} (r : Result A Refusal) (f : A → Result B Refusal) (y : B) → (r >>= f) ≡ Ok y → (x : A) × (r ≡ Ok x) × (f x ≡ Ok y)
 bind_ok (Ok x) f y e = (x, refl, e)
 bind_ok (Err d) f y e = absurd cc
-
-pub guard_ok : {A : Type 0} (b : Bool) (x y : A) (r : Refusal) → cond b (Ok x) (Err r) ≡ Ok y → (b ≡ true) × (x ≡ y)
-guard_ok true x y r e = (refl, cc)
-guard_ok false x y r e = absurd cc
 
 pub refuse_ok : (b : Bool) (kind : CertKind) (n : ℕ) (u : Unit {0}) → refuse_if kind n b ≡ Ok u → b ≡ false
 refuse_ok true kind n u e = absurd cc
@@ -37,12 +38,6 @@ refuse_ok false kind n u e = refl
 pub found_ok : {A : Type 0} (o : Option A) (kind : CertKind) (n : ℕ) (x : A) → or_refused kind n o ≡ Ok x → o ≡ Some x
 found_ok None kind n x e = absurd cc
 found_ok (Some y) kind n x e = cc
-
-pub bytes_same : (xs ys : List ℕ) → bytes_eq xs ys ≡ true → xs ≡ ys
-bytes_same xs ys e = (bytes_decides xs ys).0 e
-
-pub bytes_self : (xs : List ℕ) → bytes_eq xs xs ≡ true
-bytes_self xs = (bytes_decides xs xs).1 refl
 
 -- ---- a line and its line feed
 
@@ -65,8 +60,8 @@ feed-after (x ∷ text) rest h = by (eqb x 10) refl (λ free. feed-after text re
     by true e more = absurd (let t : true ≡ false = first-true (eqb x 10) _ e h in cc)
     by false e more = rw (e, more (second (eqb x 10) _ e h)) (omega arith)
 
-pub line-again : (n : ℕ) (text rest : List ℕ) → Free 10 text → line_at n (line text ++ rest) ≡ Ok (text, rest)
-unfolding line_at
+pub line-again : (n : ℕ) (text rest : List ℕ) → Free 10 text → next_line (place n (line text ++ rest)) ≡ Ok (text, place (n + 1) rest)
+unfolding next_line
 line-again n text rest h =
     let at = feed-after text rest h in
     let more : ltb (length text) (length (text ++ 10 ∷ rest)) ≡ true = (let e = length-append text (10 ∷ rest) in let lt : length text < length (text ++ 10 ∷ rest) = omega arith in grind (arith, nat_tests)) in
@@ -74,23 +69,60 @@ line-again n text rest h =
     let back : drop (length text + 1) (text ++ 10 ∷ rest) ≡ rest = drop-append-add text (10 ∷ rest) 1 in
     rw (line-rest text rest, at, more, front, back) refl
 
-pub line-found : (n : ℕ) (bytes text rest : List ℕ) → line_at n bytes ≡ Ok (text, rest) → bytes ≡ line text ++ rest
-unfolding line_at
-line-found n bytes text rest e =
-    let g = guard_ok (ltb (position_or_len is_line_feed bytes) (length bytes)) (before_first is_line_feed bytes, after_first is_line_feed bytes) (text, rest) (record { kind = End; line = n }) e in
+-- the next line of a text, and what stands behind it
+pub record Line (p : Place) (text : List ℕ) (q : Place) : Type 0 where
+  pub front : p.rest ≡ line text ++ q.rest
+  pub free : Free 10 text
+  pub number : q.line ≡ p.line + 1
+
+pub line-found : (p : Place) (text : List ℕ) (q : Place) → next_line p ≡ Ok (text, q) → Line p text q
+unfolding next_line
+line-found p text q e =
+    let bytes = p.rest in
+    let g = guard_ok (ltb (position_or_len is_line_feed bytes) (length bytes)) (before_first is_line_feed bytes, place (p.line + 1) (after_first is_line_feed bytes)) (text, q) (record { kind = End; line = p.line }) e in
     let lt : position_or_len is_line_feed bytes < length bytes = (let t = g.0 in grind (arith, nat_tests)) in
     let feed : get_or bytes (position_or_len is_line_feed bytes) 0 ≡ 10 = (let t = passes_at_first is_line_feed bytes 0 lt in grind (arith, nat_tests)) in
-    let front : before_first is_line_feed bytes ≡ text = ap (λ (p : List ℕ × List ℕ). p.0) g.1 in
-    let back : after_first is_line_feed bytes ≡ rest = ap (λ (p : List ℕ × List ℕ). p.1) g.1 in
-    split_at_first is_line_feed bytes 0 lt ∙ parts _ text _ 10 _ rest front feed back ∙ sym (line-rest text rest)
+    let front : before_first is_line_feed bytes ≡ text = ap (λ (r : List ℕ × Place). r.0) g.1 in
+    let back : after_first is_line_feed bytes ≡ q.rest = ap (λ (r : List ℕ × Place). r.1.rest) g.1 in
+    let count = length-prefix_len (λ c. not (is_line_feed c)) bytes in
+    record {
+      front = split_at_first is_line_feed bytes 0 lt ∙ parts _ text _ 10 _ q.rest front feed back ∙ sym (line-rest text q.rest);
+      free = subst (λ (x : List ℕ). Free 10 x) front (list_any_none (λ c. eqb c 10) (before_first is_line_feed bytes) (λ k d lt.
+          let below : k < position_or_len is_line_feed bytes = omega arith in
+          let same = get_or-take (position_or_len is_line_feed bytes) bytes k d below in
+          rw same (fails_before_first is_line_feed bytes k d below)));
+      number = ap (λ (r : List ℕ × Place). r.1.line) (sym g.1);
+    }
   where
     parts : (a b : List ℕ) (x y : ℕ) (c d : List ℕ) → a ≡ b → x ≡ y → c ≡ d → a ++ (x ∷ c) ≡ b ++ (y ∷ d)
     parts a b x y c d p q r = rw (p, q, r) refl
 
-pub due-line : (kind : CertKind) (n : ℕ) (text due : List ℕ) (u : Unit {0}) → is_line kind n text due ≡ Ok u → text ≡ due
+-- what the next line says
+pub record Judged {A : Type 0} (judge : ℕ → List ℕ → Result A Refusal) (p : Place) (x : A) (q : Place) : Type 0 where
+  pub text : List ℕ
+  pub is : Line p text q
+  pub said : judge p.line text ≡ Ok x
+
+pub judged-found : {A : Type 0} (judge : ℕ → List ℕ → Result A Refusal) (p : Place) (x : A) (q : Place) → line_by judge p ≡ Ok (x, q) → Judged judge p x q
+judged-found {A} judge p x q e =
+    let one = bind_ok (next_line p) (λ next. judge p.line next.0 >>= λ said. Ok (said, next.1)) (x, q) e in
+    let two = bind_ok (judge p.line one.0.0) (λ said. Ok (said, one.0.1)) (x, q) one.2 in
+    let is = ok-is (two.0, one.0.1) (x, q) two.2 in
+    let y : two.0 ≡ x = ap (λ (r : A × Place). r.0) is in
+    let b : one.0.1 ≡ q = ap (λ (r : A × Place). r.1) is in
+    record {
+      text = one.0.0;
+      is = subst (λ (r : Place). Line p one.0.0 r) b (line-found p one.0.0 one.0.1 one.1);
+      said = two.1 ∙ ap (λ (z : A). let r : Result A Refusal = Ok z in r) y;
+    }
+
+pub judged-again : {A : Type 0} (judge : ℕ → List ℕ → Result A Refusal) (n : ℕ) (text rest : List ℕ) (x : A) → Free 10 text → judge n text ≡ Ok x → line_by judge (place n (line text ++ rest)) ≡ Ok (x, place (n + 1) rest)
+judged-again judge n text rest x free e = rw (line-again n text rest free, e) refl
+
+pub due-line : (kind : CertKind) (n : ℕ) (text due : List ℕ) (u : Unit {0}) → is_line kind due n text ≡ Ok u → text ≡ due
 due-line kind n text due u e = bytes_same text due (not-false _ (refuse_ok (not (bytes_eq text due)) kind n u e))
 
-pub due-again : (kind : CertKind) (n : ℕ) (due : List ℕ) → is_line kind n due due ≡ Ok tt
+pub due-again : (kind : CertKind) (n : ℕ) (due : List ℕ) → is_line kind due n due ≡ Ok tt
 due-again kind n due = rw (bytes_self due) refl
 
 -- ---- numbers
@@ -115,7 +147,7 @@ unfolding spelling
 spelled-whole x m d n = rw (d, n) refl
 
 pub whole-found : (n : ℕ) (word : List ℕ) (m : ℕ) → whole_at n word ≡ Ok m → (word ≡ decimal m) × (m < 2 ^ 32)
-unfolding whole_at
+unfolding whole_at whole_of
 whole-found n word m e = by (canonical_of word) refl (found_ok (whole_of word) Number n m e)
   where
     by : (o : Option ℚ) → canonical_of word ≡ o → (let part : ℚ → Option ℕ = λ x. cond (eqb x.den 1) (whole_part x.num) None in option_and_then part o) ≡ Some m → (word ≡ decimal m) × (m < 2 ^ 32)
@@ -123,7 +155,7 @@ whole-found n word m e = by (canonical_of word) refl (found_ok (whole_of word) N
     by (Some x) o e = let w = whole-is x m e in ((sound word x o).0 ∙ spelled-whole x m w.0 w.1, w.2)
 
 pub whole-again : (n m : ℕ) → m < 2 ^ 32 → whole_at n (decimal m) ≡ Ok m
-unfolding whole_at
+unfolding whole_at whole_of
 whole-again n m lt =
     let x : ℚ = ratio (pos m) 1 in
     let num : x.num ≡ pos m = num-ratio (pos m) 1 (omega arith) (gcd-one_right m) in

@@ -1,14 +1,19 @@
 -- A text that grows line by line.
-use Rattle.std.proofs.Common.{◌≡◌, ℕ, suc, ◌+◌, ◌<◌, ◌≤◌, List, [], ◌∷◌, ◌++◌, length, take, drop, get_or, refl, sym, ap, ◌∙◌, append_assoc, arith, true, eqb, ◌&&◌}
-use Rattle.std.proofs.Math.Seq.{drop-cons}
-use Rattle.std.proofs.lemmas.List.{take-append-drop, drop_all}
-use Rattle.std.proofs.Math.Seq.{take-append_seam}
+use Rattle.std.proofs.Common.{◌≡◌, ℕ, suc, ◌+◌, ◌-◌, ◌<◌, ◌≤◌, List, [], ◌∷◌, ◌++◌, length, take, drop, get_or, refl, sym, ap, ◌∙◌, append_assoc, arith, true, eqb, ◌&&◌}
+use Rattle.std.proofs.Math.Seq.{drop-cons, take-append_seam}
+use Rattle.std.proofs.lemmas.List.{take-append-drop, drop_all, drop-drop, length-drop}
 use Rattle.std.proofs.lemmas.Bool.{and_parts}
-use Rattle.std.proofs.lemmas.Bool.Decides.{nat_tests}
 use Rattle.mdp_math.specs.Rational.{ℚ}
+use Rattle.mdp_cert.specs.declared.version.Version.{Version}
+use Rattle.mdp_cert.specs.declared.version.Version.TheVariants.{One, Two}
+use Rattle.mdp_cert.specs.declared.reach_entry.ReachEntry.{ReachEntry}
 use Rattle.mdp_cert.specs.Cert.{PlainClaim, upper, reach, bounds, policy, is_body_of}
-use Rattle.mdp_cert.specs.Spelling.{line, bound_text, policy_text, bound_lines, policy_lines}
-use Rattle.mdp_cert.specs.Answer.{Keeps}
+use Rattle.mdp_cert.specs.Claims.{policies}
+use Rattle.mdp_cert.specs.Runs.{Columns, Run, run, longest_runs, runs_in}
+use Rattle.mdp_cert.specs.Spelling.{line, run_text, run_lines}
+use Rattle.mdp_cert.specs.Answer.{Keeps, more_in}
+use Rattle.mdp_cert.proofs.Cuts.{number-same}
+use Rattle.mdp_cert.proofs.Runs.{runs-first, more-inside}
 
 -- ---- what stands at the front
 
@@ -29,41 +34,49 @@ pub keeps_more : (a b c : List ℕ) → Keeps a b → Keeps b c → Keeps a c
 keeps_more a b c p q =
     keeps-split a c (drop (length a) b ++ drop (length b) c) (split-keeps b c q ∙ ap (λ (x : List ℕ). x ++ drop (length b) c) (split-keeps a b p) ∙ append_assoc a (drop (length a) b) (drop (length b) c))
 
--- ---- the lines of upper bounds
+-- ---- one line more
 
-bound-next : (zs : List ℚ) (k : ℕ) (z : ℚ) → k < length zs → z ≡ get_or zs k z → bound_lines k (drop k zs) ≡ line (bound_text k z) ++ bound_lines (k + 1) (drop (k + 1) zs)
-bound-next zs k z lt is =
-    let one : k + 1 ≡ suc k = omega arith in
-    let e : drop k zs ≡ z ∷ drop (k + 1) zs = rw (one, drop-cons zs k z lt, ← is) refl in
-    ap (bound_lines k) e
+module _ {A : Type 0} (k : Columns A) (v : Version) where
+  next-line : (xs ys : List A) (first last : ℕ) (x : A) → drop first xs ≡ x ∷ ys → last ≡ first + more_in v k (x ∷ ys) → run_lines k first (runs_in v k (drop first xs)) ≡ line (run_text k first (run x (last - first))) ++ run_lines k (last + 1) (runs_in v k (drop (last + 1) xs))
+  unfolding run_lines
+  next-line xs ys first last x e l =
+      let more : more_in v k (x ∷ ys) ≡ last - first = omega arith in
+      let next : first + (last - first) + 1 ≡ last + 1 = omega arith in
+      let steps : suc first + (last - first) ≡ last + 1 = omega arith in
+      let tail : drop (suc first) xs ≡ ys = behind xs first e in
+      let rest : drop (last - first) ys ≡ drop (last + 1) xs = ap (drop (last - first)) (sym tail) ∙ drop-drop (last - first) (suc first) xs ∙ ap (λ (n : ℕ). drop n xs) steps in
+      rw (e, runs-first k v x ys, more, rest, next) refl
+    where
+      behind : (zs : List A) (n : ℕ) → drop n zs ≡ x ∷ ys → drop (suc n) zs ≡ ys
+      behind zs n e = let one : suc n ≡ n + 1 = omega arith in ap (λ (m : ℕ). drop m zs) one ∙ sym (drop-drop 1 n zs) ∙ ap (drop 1) e
 
-pub bound-written : (out new total : List ℕ) (zs : List ℚ) (k : ℕ) (z : ℚ) → k < length zs → z ≡ get_or zs k z → out ++ bound_lines k (drop k zs) ≡ total → new ≡ out ++ line (bound_text k z) → new ++ bound_lines (k + 1) (drop (k + 1) zs) ≡ total
-bound-written out new total zs k z lt is e n =
-    ap (λ (x : List ℕ). x ++ bound_lines (k + 1) (drop (k + 1) zs)) n ∙ append_assoc out (line (bound_text k z)) (bound_lines (k + 1) (drop (k + 1) zs)) ∙ ap (λ (x : List ℕ). out ++ x) (sym (bound-next zs k z lt is)) ∙ e
+  at-first : (xs : List A) (first : ℕ) (x : A) → first < length xs → x ≡ get_or xs first x → drop first xs ≡ x ∷ drop (suc first) xs
+  at-first xs first x lt is = drop-cons xs first x lt ∙ ap (λ (y : A). y ∷ drop (suc first) xs) (sym is)
 
--- ---- the lines of values, choices and ranks
+  pub lines-written : (out new total : List ℕ) (xs : List A) (first last : ℕ) (x : A) → first < length xs → x ≡ get_or xs first x → last ≡ first + more_in v k (drop first xs) → out ++ run_lines k first (runs_in v k (drop first xs)) ≡ total → new ≡ out ++ line (run_text k first (run x (last - first))) → new ++ run_lines k (last + 1) (runs_in v k (drop (last + 1) xs)) ≡ total
+  lines-written out new total xs first last x lt is l e made =
+      let f = at-first xs first x lt is in
+      let m : last ≡ first + more_in v k (x ∷ drop (suc first) xs) = l ∙ ap (λ (zs : List A). first + more_in v k zs) f in
+      ap (λ (t : List ℕ). t ++ run_lines k (last + 1) (runs_in v k (drop (last + 1) xs))) made
+      ∙ append_assoc out (line (run_text k first (run x (last - first)))) (run_lines k (last + 1) (runs_in v k (drop (last + 1) xs)))
+      ∙ ap (λ (t : List ℕ). out ++ t) (sym (next-line xs (drop (suc first) xs) first last x f m)) ∙ e
 
-policy-next : (zs : List ℚ) (cs rs : List ℕ) (k : ℕ) (z : ℚ) (c r : ℕ) → k < length zs → k < length cs → k < length rs → z ≡ get_or zs k z → c ≡ get_or cs k c → r ≡ get_or rs k r → policy_lines k (drop k zs) (drop k cs) (drop k rs) ≡ line (policy_text k z c r) ++ policy_lines (k + 1) (drop (k + 1) zs) (drop (k + 1) cs) (drop (k + 1) rs)
-policy-next zs cs rs k z c r l m n p q s =
-    let one : k + 1 ≡ suc k = omega arith in
-    let e : drop k zs ≡ z ∷ drop (k + 1) zs = rw (one, drop-cons zs k z l, ← p) refl in
-    let f : drop k cs ≡ c ∷ drop (k + 1) cs = rw (one, drop-cons cs k c m, ← q) refl in
-    let g : drop k rs ≡ r ∷ drop (k + 1) rs = rw (one, drop-cons rs k r n, ← s) refl in
-    rw (e, f, g) refl
+  pub last-inside : (xs : List A) (first last : ℕ) → first < length xs → last ≡ first + more_in v k (drop first xs) → last < length xs
+  last-inside xs first last lt l = by (drop first xs) refl
+    where
+      by : (ys : List A) → drop first xs ≡ ys → last < length xs
+      by [] e = absurd (omega (arith, length-drop first xs, ap (λ (zs : List A). length zs) e))
+      by (y ∷ ys) e = omega (arith, more-inside k v y ys, length-drop first xs, ap (λ (zs : List A). length zs) e, ap (λ (zs : List A). more_in v k zs) e)
 
-pub policy-written : (out new total : List ℕ) (zs : List ℚ) (cs rs : List ℕ) (k : ℕ) (z : ℚ) (c r : ℕ) → k < length zs → k < length cs → k < length rs → z ≡ get_or zs k z → c ≡ get_or cs k c → r ≡ get_or rs k r → out ++ policy_lines k (drop k zs) (drop k cs) (drop k rs) ≡ total → new ≡ out ++ line (policy_text k z c r) → new ++ policy_lines (k + 1) (drop (k + 1) zs) (drop (k + 1) cs) (drop (k + 1) rs) ≡ total
-policy-written out new total zs cs rs k z c r l m n p q s e made =
-    ap (λ (x : List ℕ). x ++ policy_lines (k + 1) (drop (k + 1) zs) (drop (k + 1) cs) (drop (k + 1) rs)) made
-    ∙ append_assoc out (line (policy_text k z c r)) (policy_lines (k + 1) (drop (k + 1) zs) (drop (k + 1) cs) (drop (k + 1) rs))
-    ∙ ap (λ (x : List ℕ). out ++ x) (sym (policy-next zs cs rs k z c r l m n p q s)) ∙ e
-
-pub policy-written_all : (zs : List ℚ) (cs rs : List ℕ) (k : ℕ) → length zs ≤ k → policy_lines k (drop k zs) (drop k cs) (drop k rs) ≡ []
-policy-written_all zs cs rs k le = let e : drop k zs ≡ [] = drop_all k zs le in rw e refl
+  pub written-all : (xs : List A) (first : ℕ) → length xs ≤ first → run_lines k first (runs_in v k (drop first xs)) ≡ []
+  unfolding run_lines longest_runs
+  written-all xs first le = rw drop_all (by v)
+    where
+      by : (w : Version) → run_lines k first (runs_in w k []) ≡ []
+      by One = refl
+      by Two = refl
 
 -- ---- a body has an entry per state
-
-number-same : (a n : ℕ) → eqb a n ≡ true → a ≡ n
-number-same a n e = grind (arith, nat_tests)
 
 pub bounds-entries : (claim : PlainClaim) (states : ℕ) (zs : List ℚ) → is_body_of claim states (bounds zs) ≡ true → length zs ≡ states
 bounds-entries (upper label) states zs e = number-same _ states e

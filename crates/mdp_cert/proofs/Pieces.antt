@@ -12,7 +12,7 @@ use Rattle.mdp_num.specs.Value.{spelling, IsNarrow}
 use Rattle.mdp_num.proofs.Plain.{decimal-plain, digit-at, digit-bounds}
 use Rattle.mdp_rows.specs.Name.{is_name}
 use Rattle.mdp_cert.specs.Spelling.{◌␣◌}
-use Rattle.mdp_cert.specs.Reading.{is_blank, words}
+use Rattle.mdp_cert.specs.Words.{is_blank, words}
 
 -- ---- texts without the byte c
 

@@ -1,12 +1,13 @@
 -- How an answer of the program stands to the definition.
-use Rattle.std.specs.Prelude.{◌≡◌, ℕ, List, length, take, Result, Err}
+use Rattle.std.specs.Prelude.{◌≡◌, ℕ, zero, suc, Bool, true, false, List, [], ◌∷◌, length, take, Result, Err, if◌then◌else◌}
 use Rattle.mdp_cert.specs.declared.error.CertError.{CertError}
 use Rattle.mdp_cert.specs.declared.error.CertError.TheVariants.{At, Memory}
 use Rattle.mdp_cert.specs.declared.error.Refusal.{Refusal}
-use Rattle.mdp_farkas.specs.declared.reach.ReachCert.{ReachCert}
 use Rattle.mdp_cert.specs.declared.head.Head.{Head}
+use Rattle.mdp_cert.specs.declared.version.Version.{Version}
+use Rattle.mdp_cert.specs.declared.version.Version.TheVariants.{One, Two}
 use Rattle.mdp_cert.specs.Cert.{plain_claim}
-use Rattle.mdp_cert.specs.Reading.{Policy}
+use Rattle.mdp_cert.specs.Runs.{Columns}
 use Rattle.mdp_cert.specs.Reading as read
 
 -- the refusal is the definition's, and want of memory is free
@@ -18,10 +19,22 @@ Refuses Memory defined = Unit {0}
 abbrev pub Keeps : List ℕ → List ℕ → Type 0
 Keeps old new = take (length old) new ≡ old
 
--- ---- parts of a text, as the program holds them
-
 abbrev pub plain_head : Head → read.Head
 plain_head h = record { claim = plain_claim h.claim; states = h.states; init = h.init }
 
-abbrev pub plain_policy : ReachCert → Policy
-plain_policy c = record { values = c.values.items; choices = c.choices.items; ranks = c.ranks.items }
+-- ---- the first run of a list
+
+-- whether the first two entries say the same
+abbrev pub same_next : {A : Type 0} → Columns A → List A → Bool
+same_next k (x ∷ y ∷ xs) = k.same x y
+same_next k xs = false
+
+-- how many entries behind the first one belong to its longest run
+unfoldable pub more_same : {A : Type 0} → Columns A → List A → ℕ
+more_same k [] = 0
+more_same k (x ∷ xs) = if same_next k (x ∷ xs) then suc (more_same k xs) else 0
+
+-- and to its line in this version
+abbrev pub more_in : {A : Type 0} → Version → Columns A → List A → ℕ
+more_in One k xs = 0
+more_in Two k xs = more_same k xs

@@ -3,25 +3,31 @@ use Rattle.std.specs.Prelude.{◌≡◌, ◌↔◌, ◌⊎◌, ℕ, zero, suc, �
 use Rattle.std.specs.List.{position_or_len, before_first, after_first}
 use Rattle.mdp_cert.specs.declared.error.CertKind.TheVariants.{End}
 use Rattle.mdp_cert.specs.declared.error.Refusal.{Refusal}
+use Rattle.mdp_cert.specs.declared.version.Version.{Version}
 use Rattle.mdp_cert.specs.Cert.{Certificate, Fits}
-use Rattle.mdp_cert.specs.Spelling.{line, text_of}
-use Rattle.mdp_cert.specs.Reading.{is_line_feed, outcome}
+use Rattle.mdp_cert.specs.Lines.{is_line_feed}
+use Rattle.mdp_cert.specs.Spelling.{line, text_in, text_of, old_text_of}
+use Rattle.mdp_cert.specs.Reading.{outcome}
 
--- what is read is the certificate of which the bytes are the text
+-- what is read is the certificate of which the bytes are one of the two texts
 abbrev pub IsReadFromText : Type 0
-IsReadFromText = (bytes : List ℕ) (c : Certificate) → (outcome bytes ≡ Ok c) ↔ (Fits c × (bytes ≡ text_of c))
+IsReadFromText = (bytes : List ℕ) (c : Certificate) → (outcome bytes ≡ Ok c) ↔ (Fits c × ((bytes ≡ text_of c) ⊎ (bytes ≡ old_text_of c)))
 
--- two certificates never share a text
+-- both texts of a certificate are read as that certificate
+abbrev pub IsReadBack : Type 0
+IsReadBack = (c : Certificate) → Fits c → (outcome (text_of c) ≡ Ok c) × (outcome (old_text_of c) ≡ Ok c)
+
+-- no two texts are the same: not those of two certificates, and not the two of one
 abbrev pub IsOneText : Type 0
-IsOneText = (c d : Certificate) → Fits c → Fits d → text_of c ≡ text_of d → c ≡ d
+IsOneText = (v w : Version) (c d : Certificate) → Fits c → Fits d → text_in v c ≡ text_in w d → (v ≡ w) × (c ≡ d)
 
--- bytes are the text of a certificate, or they are refused
+-- bytes are a text of a certificate, or they are refused
 abbrev pub IsReadOrRefused : Type 0
-IsReadOrRefused = (bytes : List ℕ) → ((c : Certificate) × Fits c × (bytes ≡ text_of c)) ⊎ ((r : Refusal) × (outcome bytes ≡ Err r))
+IsReadOrRefused = (bytes : List ℕ) → ((c : Certificate) × Fits c × ((bytes ≡ text_of c) ⊎ (bytes ≡ old_text_of c))) ⊎ ((r : Refusal) × (outcome bytes ≡ Err r))
 
 -- and not both
 abbrev pub IsNotBoth : Type 0
-IsNotBoth = (bytes : List ℕ) (c : Certificate) (r : Refusal) → Fits c → bytes ≡ text_of c → outcome bytes ≡ Err r → ⊥
+IsNotBoth = (bytes : List ℕ) (c : Certificate) (r : Refusal) → Fits c → (bytes ≡ text_of c) ⊎ (bytes ≡ old_text_of c) → outcome bytes ≡ Err r → ⊥
 
 -- the first n lines, each with its line feed; all bytes where there are fewer
 unfoldable pub first_lines : ℕ → List ℕ → List ℕ

@@ -1,5 +1,9 @@
 pub mod Cert
 pub mod Plain
+pub mod Lines
+pub mod Words
+pub mod Runs
+pub mod Claims
 pub mod Spelling
 pub mod Reading
 pub mod Answer

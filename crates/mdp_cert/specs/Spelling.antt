@@ -1,12 +1,17 @@
--- The one text of a certificate.
-use Rattle.std.specs.Prelude.{ℕ, ◌+◌, List, [], ◌∷◌, ◌++◌, decimal, codes}
+-- The texts of a certificate: one in each version.
+use Rattle.std.specs.Prelude.{ℕ, ◌+◌, List, [], ◌∷◌, ◌++◌, ◌==◌, decimal, codes, if◌then◌else◌}
+use Rattle.std.specs.List.{join_with_byte}
 use Rattle.mdp_math.specs.Rational.{ℚ}
 use Rattle.mdp_num.specs.Value.{spelling}
 use Rattle.mdp_rows.specs.declared.dir.Dir.{Dir}
 use Rattle.mdp_rows.specs.declared.dir.Dir.TheVariants.{Max, Min}
 use Rattle.mdp_cert.specs.declared.init.Init.{Init}
 use Rattle.mdp_cert.specs.declared.init.Init.TheVariants.{Missing, Finite}
+use Rattle.mdp_cert.specs.declared.version.Version.{Version}
+use Rattle.mdp_cert.specs.declared.version.Version.TheVariants.{One, Two}
 use Rattle.mdp_cert.specs.Cert.{PlainClaim, upper, reach, PlainBody, bounds, policy, Certificate}
+use Rattle.mdp_cert.specs.Runs.{Columns, Run, runs_in}
+use Rattle.mdp_cert.specs.Claims.{bound_columns, policy_columns, policies}
 
 -- a text with its line feed
 abbrev pub line : List ℕ → List ℕ
@@ -24,6 +29,12 @@ abbrev pub dir_text : Dir → List ℕ
 dir_text Max = codes "max"
 dir_text Min = codes "min"
 
+-- ---- the lines before those of the states
+
+abbrev pub version_text : Version → List ℕ
+version_text One = codes "mdp-certificate 1"
+version_text Two = codes "mdp-certificate 2"
+
 abbrev pub claim_text : PlainClaim → List ℕ
 claim_text (upper label) = codes "claim" ␣ codes "upper" ␣ codes "reach" ␣ quoted label
 claim_text (reach dir label) = codes "claim" ␣ dir_text dir ␣ codes "reach" ␣ quoted label
@@ -35,35 +46,42 @@ abbrev pub init_text : Init → List ℕ
 init_text Missing = codes "init -"
 init_text (Finite state value) = codes "init" ␣ decimal state ␣ spelling value
 
--- the line of a state and its upper bound
-abbrev pub bound_text : ℕ → ℚ → List ℕ
-bound_text state value = codes "state" ␣ decimal state ␣ spelling value
+abbrev pub head_text : Certificate → List ℕ
+head_text c = line (claim_text c.claim) ++ (line (states_text c.states) ++ line (init_text c.init))
 
--- the line of a state, its value, its choice and its rank
-abbrev pub policy_text : ℕ → ℚ → ℕ → ℕ → List ℕ
-policy_text state value choice rank = codes "state" ␣ decimal state ␣ spelling value ␣ decimal choice ␣ decimal rank
+-- ---- the lines of the states
 
--- a line for each state from this one on
-abbrev pub bound_lines : ℕ → List ℚ → List ℕ
-bound_lines state [] = []
-bound_lines state (value ∷ values) = line (bound_text state value) ++ bound_lines (state + 1) values
+-- the words behind the numbers, with one blank between each two
+abbrev pub entry_text : {A : Type 0} → Columns A → A → List ℕ
+entry_text k x = join_with_byte 32 (k.words x)
 
-abbrev pub policy_lines : ℕ → List ℚ → List ℕ → List ℕ → List ℕ
-policy_lines state (value ∷ values) (choice ∷ choices) (rank ∷ ranks) = line (policy_text state value choice rank) ++ policy_lines (state + 1) values choices ranks
-policy_lines state values choices ranks = []
+-- a run from this state on; one of one state is a line `state`
+unfoldable pub run_text : {A : Type 0} → Columns A → ℕ → Run A → List ℕ
+run_text k state r = if r.more == 0 then codes "state" ␣ decimal state ␣ entry_text k r.entry else codes "run" ␣ decimal state ␣ decimal (state + r.more) ␣ entry_text k r.entry
 
-abbrev pub version_text : List ℕ
-version_text = codes "mdp-certificate 1"
+unfoldable pub run_lines : {A : Type 0} → Columns A → ℕ → List (Run A) → List ℕ
+run_lines k state [] = []
+run_lines k state (r ∷ rs) = line (run_text k state r) ++ run_lines k (state + r.more + 1) rs
+
+abbrev pub state_lines : {A : Type 0} → Version → Columns A → List A → List ℕ
+state_lines v k xs = run_lines k 0 (runs_in v k xs)
+
+abbrev pub body_text : Version → PlainBody → List ℕ
+body_text v (bounds values) = state_lines v bound_columns values
+body_text v (policy values choices ranks) = state_lines v policy_columns (policies values choices ranks)
+
+-- ---- the whole
 
 abbrev pub end_text : List ℕ
 end_text = codes "end"
 
-abbrev pub head_text : Certificate → List ℕ
-head_text c = line (claim_text c.claim) ++ (line (states_text c.states) ++ line (init_text c.init))
+unfoldable pub text_in : Version → Certificate → List ℕ
+text_in v c = line (version_text v) ++ (head_text c ++ (body_text v c.body ++ line end_text))
 
-abbrev pub body_text : PlainBody → List ℕ
-body_text (bounds values) = bound_lines 0 values
-body_text (policy values choices ranks) = policy_lines 0 values choices ranks
+-- the text of version 2
+abbrev pub text_of : Certificate → List ℕ
+text_of c = text_in Two c
 
-unfoldable pub text_of : Certificate → List ℕ
-text_of c = line version_text ++ (head_text c ++ (body_text c.body ++ line end_text))
+-- the text of version 1
+abbrev pub old_text_of : Certificate → List ℕ
+old_text_of c = text_in One c

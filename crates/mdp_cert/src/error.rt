@@ -7,24 +7,27 @@ use thiserror::Error;
 /// Which rule a line breaks.
 #[derive(Clone, Copy, Debug, PartialEq, Eq, Error)]
 pub enum CertKind {
-    /// The first line is another than `mdp-certificate 1`.
+    /// The first line is none of the versions.
     #[error("version")]
-    Version,
+    Version = 1,
     /// The second line is none of the claims.
     #[error("claim")]
-    Claim,
+    Claim = 2,
     /// A word isn't the number that is due.
     #[error("number")]
-    Number,
-    /// Another first word or number of words, or another line where `end` is due.
+    Number = 3,
+    /// Another first word or number of words, or another line where `end` is due; `run` in version 1.
     #[error("shape")]
-    Shape,
-    /// The number of states is out of range, or a state isn't below it or isn't the one in order.
+    Shape = 4,
+    /// The number of states is out of range, a state isn't below it or isn't the one in order, or a run doesn't end above its first state.
     #[error("count")]
-    Count,
+    Count = 5,
     /// No line where one is due, a last line without a line feed, or bytes after the line `end`.
     #[error("end")]
-    End,
+    End = 6,
+    /// In version 2, a line of states that has the same words as the line of states before it.
+    #[error("run")]
+    Run = 7,
 }
 
 /// Why bytes aren't the text of a certificate.

@@ -1,6 +1,6 @@
-ghost use Rattle.std.specs.Prelude.{◌≡◌, Ok, Err, MatchResult, MatchOption, length};
+ghost use Rattle.std.specs.Prelude.{◌≡◌, ◌+◌, Ok, Err, MatchResult, length};
 ghost use Rattle.std.specs.List.{position_or_len};
-ghost use Rattle.mdp_cert.specs.Reading.{is_line_feed, line_at, is_line, refuse_if};
+ghost use Rattle.mdp_cert.specs.Lines.{is_line_feed, place, next_line, is_line, refuse_if};
 
 use crate::error::{CertKind, Refusal};
 
@@ -11,9 +11,9 @@ fn before_line_feed(bytes: &[u8]) -> usize
     bytes.iter().take_while(|byte| **byte != b'\n').count()
 }
 
-/// The line of this number, with which the bytes begin, and the bytes behind its line feed.
-pub(crate) fn line_at(line: u64, bytes: &[u8]) -> Result<(&[u8], &[u8]), Refusal>
-    ensures { MatchResult result (λ p. line_at line bytes.now ≡ Ok (p.0.now, p.1.now)) (λ e. line_at line bytes.now ≡ Err e) }
+/// The next line, which has this number, and the bytes behind its line feed.
+pub(crate) fn next_line(line: u64, bytes: &[u8]) -> Result<(&[u8], &[u8]), Refusal>
+    ensures { MatchResult result (λ p. next_line (place line bytes.now) ≡ Ok (p.0.now, place (line + 1) p.1.now)) (λ e. next_line (place line bytes.now) ≡ Err e) }
 {
     let end = before_line_feed(bytes);
     if end < bytes.len() {
@@ -37,8 +37,8 @@ pub(crate) fn refuse_if(kind: CertKind, line: u64, is_broken: bool) -> Result<()
 }
 
 /// The line has this text.
-pub(crate) fn is_line(kind: CertKind, line: u64, text: &[u8], due: &[u8]) -> Result<(), Refusal>
-    ensures { result ≡ is_line kind line text.now due.now }
+pub(crate) fn is_line(kind: CertKind, due: &[u8], line: u64, text: &[u8]) -> Result<(), Refusal>
+    ensures { result ≡ is_line kind due.now line text.now }
 {
     refuse_if(kind, line, text != due)
 }

@@ -1,11 +1,12 @@
 ghost use Rattle.std.specs.Prelude.{◌≡◌};
-ghost use Rattle.mdp_cert.specs.Reading.{whole_of, whole_at, frac_at};
+ghost use Rattle.mdp_cert.specs.Words.{whole_of, whole_at, frac_at};
 
 use crate::error::{CertKind, Refusal};
 use mdp_num::{Frac, read_canonical};
 
 /// The whole number below 2^32 that a word spells, without leading zeros.
-fn whole_of(word: &[u8]) -> Option<u32>
+#[tactic(auto, unfolding(crate::specs::Words::whole_of))]
+pub(crate) fn whole_of(word: &[u8]) -> Option<u32>
     ensures { result ≡ whole_of word.now }
 {
     let number = read_canonical(word)?;

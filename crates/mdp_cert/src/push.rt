@@ -1,10 +1,12 @@
-ghost use Rattle.std.specs.Prelude.{◌≡◌, ◌++◌, ◌∷◌, [], decimal, codes, length, take, OnOk, OnErr, Ok, Err};
+ghost use Rattle.std.specs.Prelude.{◌≡◌, ◌<◌, ◌≤◌, ◌-◌, ◌++◌, ◌∷◌, [], decimal, OnOk};
 ghost use Rattle.mdp_num.specs.Value.{spelling};
-ghost use Rattle.mdp_cert.specs.Cert.{plain_claim, plain_body};
-ghost use Rattle.mdp_cert.specs.Spelling.{line, claim_text, states_text, init_text, bound_text, policy_text};
+ghost use Rattle.mdp_cert.specs.Cert.{plain_claim};
+ghost use Rattle.mdp_cert.specs.Runs.{run};
+ghost use Rattle.mdp_cert.specs.Spelling.{line, claim_text, states_text, init_text, entry_text, run_text};
 ghost use Rattle.mdp_cert.specs.Answer.{Keeps};
 
 use crate::claim::Claim;
+use crate::entries::Entry;
 use crate::init::Init;
 use itoa::Buffer;
 use mdp_num::{Frac, Memory};
@@ -32,7 +34,7 @@ fn push_value_end(out: &mut Vec<u8>, value: &Frac) -> Result<(), Memory>
 }
 
 /// Appends a blank and the whole number.
-fn push_word(out: &mut Vec<u8>, number: u32) -> Result<(), Memory>
+pub(crate) fn push_word(out: &mut Vec<u8>, number: u32) -> Result<(), Memory>
     ensures text { OnOk result (out.new.items ≡ out.old.items ++ (32 ∷ decimal number)) }
     ensures front { Keeps out.old.items out.new.items }
 {
@@ -40,51 +42,57 @@ fn push_word(out: &mut Vec<u8>, number: u32) -> Result<(), Memory>
     push_whole(out, number)
 }
 
-/// Appends a choice and a rank, each behind a blank, and the line's end.
-fn push_choice_end(out: &mut Vec<u8>, choice: u32, rank: u32) -> Result<(), Memory>
-    ensures text { OnOk result (out.new.items ≡ out.old.items ++ (32 ∷ (decimal choice ++ 32 ∷ (decimal rank ++ 10 ∷ [])))) }
+/// Appends a blank, the words of an entry and the line's end.
+fn push_entry_end<E: Entry>(out: &mut Vec<u8>, entry: &E) -> Result<(), Memory>
+    ensures text { OnOk result (out.new.items ≡ out.old.items ++ (32 ∷ (entry_text E.columns entry.now ++ 10 ∷ []))) }
     ensures front { Keeps out.old.items out.new.items }
 {
-    push_word(out, choice)?;
-    push_word(out, rank)?;
+    out.extend_from_slice(b" ")?;
+    entry.push_words(out)?;
     out.extend_from_slice(b"\n")?;
     Ok(())
 }
 
-/// Appends a value, a choice and a rank, each behind a blank, and the line's end.
-fn push_policy_end(out: &mut Vec<u8>, value: &Frac, choice: u32, rank: u32) -> Result<(), Memory>
-    ensures text { OnOk result (out.new.items ≡ out.old.items ++ (32 ∷ (spelling value.now ++ 32 ∷ (decimal choice ++ 32 ∷ (decimal rank ++ 10 ∷ []))))) }
-    ensures front { Keeps out.old.items out.new.items }
-{
-    out.extend_from_slice(b" ")?;
-    value.push_text(out)?;
-    push_choice_end(out, choice, rank)
-}
-
-/// Appends the line of a state and its upper bound.
-pub(crate) fn push_bound(out: &mut Vec<u8>, state: u32, value: &Frac) -> Result<(), Memory>
-    ensures text { OnOk result (out.new.items ≡ out.old.items ++ line (bound_text state value.now)) }
+/// Appends the line of a state.
+#[tactic(auto, unfolding(crate::specs::Spelling::run_text))]
+fn push_state<E: Entry>(out: &mut Vec<u8>, state: u32, entry: &E) -> Result<(), Memory>
+    ensures text { OnOk result (out.new.items ≡ out.old.items ++ line (run_text E.columns state (run entry.now 0))) }
     ensures front { Keeps out.old.items out.new.items }
 {
     out.extend_from_slice(b"state ")?;
     push_whole(out, state)?;
-    push_value_end(out, value)
+    push_entry_end(out, entry)
 }
 
-/// Appends the line of a state, its value, its choice and its rank.
-pub(crate) fn push_policy(
+/// Appends the line of the states from the first to the last, which are two or more.
+#[tactic(auto, unfolding(crate::specs::Spelling::run_text))]
+fn push_states<E: Entry>(out: &mut Vec<u8>, first: u32, last: u32, entry: &E) -> Result<(), Memory>
+    requires { first < last }
+    ensures text { OnOk result (out.new.items ≡ out.old.items ++ line (run_text E.columns first (run entry.now (last - first)))) }
+    ensures front { Keeps out.old.items out.new.items }
+{
+    out.extend_from_slice(b"run ")?;
+    push_whole(out, first)?;
+    push_word(out, last)?;
+    push_entry_end(out, entry)
+}
+
+/// Appends the line of the states from the first to the last.
+pub(crate) fn push_run<E: Entry>(
     out: &mut Vec<u8>,
-    state: u32,
-    value: &Frac,
-    choice: u32,
-    rank: u32,
+    first: u32,
+    last: u32,
+    entry: &E,
 ) -> Result<(), Memory>
-    ensures text { OnOk result (out.new.items ≡ out.old.items ++ line (policy_text state value.now choice rank)) }
+    requires { first ≤ last }
+    ensures text { OnOk result (out.new.items ≡ out.old.items ++ line (run_text E.columns first (run entry.now (last - first)))) }
     ensures front { Keeps out.old.items out.new.items }
 {
-    out.extend_from_slice(b"state ")?;
-    push_whole(out, state)?;
-    push_policy_end(out, value, choice, rank)
+    if first == last {
+        push_state(out, first, entry)
+    } else {
+        push_states(out, first, last, entry)
+    }
 }
 
 /// Appends a line of this front and a name in quotes; the front ends with the first quote.
@@ -117,7 +125,7 @@ pub(crate) fn push_claim(out: &mut Vec<u8>, claim: &Claim) -> Result<(), Memory>
 }
 
 /// Appends the line of the number of states.
-pub(crate) fn push_states(out: &mut Vec<u8>, states: u32) -> Result<(), Memory>
+pub(crate) fn push_number(out: &mut Vec<u8>, states: u32) -> Result<(), Memory>
     ensures text { OnOk result (out.new.items ≡ out.old.items ++ line (states_text states)) }
     ensures front { Keeps out.old.items out.new.items }
 {

@@ -1,77 +1,166 @@
-ghost use Rattle.std.specs.Prelude.{◌≡◌, ◌==◌, not};
-ghost use Rattle.mdp_cert.specs.declared.error.CertKind.TheVariants.{Count};
-ghost use Rattle.mdp_cert.specs.Reading.{refuse_if, states_at, finite_at, init_at, bound_at, policy_at};
+ghost use Rattle.std.specs.Prelude.{◌≡◌, ◌+◌, ◌<◌, ◌≤◌, ◌^◌, ◌++◌, Ok, Err, OnOk, IfOk, MatchResult, length};
+ghost use Rattle.std.proofs.Math.ListN.{replicate};
+ghost use Rattle.mdp_cert.specs.Answer.{Refuses};
+ghost use Rattle.mdp_cert.specs.Lines.{place};
+ghost use Rattle.mdp_cert.specs.Words.{words};
+ghost use Rattle.mdp_cert.specs.Runs.{run};
+ghost use Rattle.mdp_cert.specs.Reading.{entry_at, state_at, run_at, is_same, line_of_states, longest_at, run_in, entries_from};
 
-use crate::error::{CertKind, Refusal};
-use crate::init::Init;
-use crate::lines::refuse_if;
-use crate::numbers::{frac_at, whole_at};
-use crate::words::{four_behind, one_behind, two_behind};
-use mdp_num::Frac;
+use crate::entries::Entry;
+use crate::error::{CertError, CertKind, Refusal};
+use crate::lines::{next_line, refuse_if};
+use crate::numbers::whole_at;
+use crate::version::Version;
+use crate::words::{begins_with, cut_word, words_behind};
+use std::alloc::{AllocError, Global};
 
-/// The number of states, from 1 to 2^20, of the line `states N`.
-#[tactic(auto, unfolding(crate::specs::Reading::states_at))]
-pub(crate) fn states_at(line: u64, text: &[u8]) -> Result<u32, Refusal>
-    ensures { result ≡ states_at line text.now }
+/// What the words behind the numbers say.
+#[tactic(auto, unfolding(crate::specs::Reading::entry_at))]
+fn entry_at<E: Entry>(line: u64, text: &[u8]) -> Result<E, Refusal>
+    requires { length (words text.now) ≡ E.columns.width }
+    ensures { result ≡ entry_at E.columns line (words text.now) }
 {
-    let word = one_behind(line, text, b"states")?;
-    let states = whole_at(line, word)?;
-    refuse_if(CertKind::Count, line, states == 0 || states > 1 << 20)?;
-    Ok(states)
+    E::read(text).ok_or(Refusal {
+        kind: CertKind::Number,
+        line,
+    })
 }
 
-/// The initial state and its value, of the line `init S V`.
-#[tactic(auto, unfolding(crate::specs::Reading::finite_at))]
-fn finite_at(states: u32, line: u64, text: &[u8]) -> Result<Init, Refusal>
-    ensures { result ≡ finite_at states line text.now }
+/// The entry of the line `state S WORDS`, where S is the state that is due, and that no more states follow in it.
+#[tactic(auto, unfolding(crate::specs::Reading::state_at))]
+fn state_at<E: Entry>(due: u32, line: u64, text: &[u8]) -> Result<(E, u32), Refusal>
+    ensures said { MatchResult result (λ r. state_at E.columns due line text.now ≡ Ok (run r.0 r.1)) (λ e. state_at E.columns due line text.now ≡ Err e) }
+    ensures alone { IfOk result (λ r. r.1 ≡ 0) }
 {
-    let (word, value) = two_behind(line, text, b"init")?;
+    let behind = words_behind(line, text, b"state", 1 + usize::from(E::width()))?;
+    let (word, behind) = cut_word(behind);
     let state = whole_at(line, word)?;
-    let value = frac_at(line, value)?;
-    refuse_if(CertKind::Count, line, state >= states)?;
-    Ok(Init::Finite(state, value))
+    let entry = entry_at(line, behind)?;
+    refuse_if(CertKind::Count, line, state != due)?;
+    Ok((entry, 0))
 }
 
-/// What the line `init S V` or `init -` says.
-#[tactic(auto, unfolding(crate::specs::Reading::init_at))]
-pub(crate) fn init_at(states: u32, line: u64, text: &[u8]) -> Result<Init, Refusal>
-    ensures { result ≡ init_at states line text.now }
+/// The entry of the line `run A B WORDS`, where A is the state that is due, and how many states follow A.
+#[tactic(auto, unfolding(crate::specs::Reading::run_at))]
+fn run_at<E: Entry>(states: u32, due: u32, line: u64, text: &[u8]) -> Result<(E, u32), Refusal>
+    ensures said { MatchResult result (λ r. run_at E.columns states due line text.now ≡ Ok (run r.0 r.1)) (λ e. run_at E.columns states due line text.now ≡ Err e) }
+    ensures inside { IfOk result (λ r. due + r.1 < states) }
 {
-    if text == b"init -".as_slice() {
-        return Ok(Init::Missing);
+    let behind = words_behind(line, text, b"run", 2 + usize::from(E::width()))?;
+    let (word, behind) = cut_word(behind);
+    let first = whole_at(line, word)?;
+    let (word, behind) = cut_word(behind);
+    let last = whole_at(line, word)?;
+    let entry = entry_at(line, behind)?;
+    refuse_if(
+        CertKind::Count,
+        line,
+        first != due || first >= last || last >= states,
+    )?;
+    Ok((entry, last - first))
+}
+
+/// The entry of a line of one state or of a run, and how many states follow its first one.
+fn line_of_states<E: Entry>(
+    states: u32,
+    due: u32,
+    line: u64,
+    text: &[u8],
+) -> Result<(E, u32), Refusal>
+    requires { due < states }
+    ensures said { MatchResult result (λ r. line_of_states E.columns states due line text.now ≡ Ok (run r.0 r.1)) (λ e. line_of_states E.columns states due line text.now ≡ Err e) }
+    ensures inside { IfOk result (λ r. due + r.1 < states) }
+{
+    if begins_with(text, b"run") {
+        run_at(states, due, line, text)
+    } else {
+        state_at(due, line, text)
     }
-    finite_at(states, line, text)
 }
 
-/// The state is the one that is due.
-fn in_order(due: u32, line: u64, state: u32) -> Result<(), Refusal>
-    ensures { result ≡ refuse_if Count line (not (state == due)) }
+/// Whether the line before, if there was one, says the same.
+fn is_same<E: Entry>(before: &Option<E>, entry: &E) -> bool
+    ensures { result ≡ is_same E.columns before.now entry.now }
 {
-    refuse_if(CertKind::Count, line, state != due)
+    match before {
+        Some(before) => before.is_same(entry),
+        None => false,
+    }
 }
 
-/// The upper bound of the line `state S Z`, where S is the state that is due.
-#[tactic(auto, unfolding(crate::specs::Reading::bound_at))]
-pub(crate) fn bound_at(due: u32, line: u64, text: &[u8]) -> Result<Frac, Refusal>
-    ensures { result ≡ bound_at due line text.now }
+/// The same in version 2, where the line couldn't be one with the line before it.
+#[tactic(auto, unfolding(crate::specs::Reading::longest_at))]
+fn longest_at<E: Entry>(
+    states: u32,
+    due: u32,
+    before: &Option<E>,
+    line: u64,
+    text: &[u8],
+) -> Result<(E, u32), Refusal>
+    requires { due < states }
+    ensures said { MatchResult result (λ r. longest_at E.columns states due before.now line text.now ≡ Ok (run r.0 r.1)) (λ e. longest_at E.columns states due before.now line text.now ≡ Err e) }
+    ensures inside { IfOk result (λ r. due + r.1 < states) }
 {
-    let (word, value) = two_behind(line, text, b"state")?;
-    let state = whole_at(line, word)?;
-    let value = frac_at(line, value)?;
-    in_order(due, line, state)?;
-    Ok(value)
+    let (entry, more) = line_of_states(states, due, line, text)?;
+    refuse_if(CertKind::Run, line, is_same(before, &entry))?;
+    Ok((entry, more))
 }
 
-/// Value, choice and rank of the line `state S Z C R`, where S is the state that is due.
-#[tactic(auto, unfolding(crate::specs::Reading::policy_at))]
-pub(crate) fn policy_at(due: u32, line: u64, text: &[u8]) -> Result<(Frac, u32, u32), Refusal>
-    ensures { result ≡ policy_at due line text.now }
+/// The same in either version.
+fn run_in<E: Entry>(
+    version: Version,
+    states: u32,
+    due: u32,
+    before: &Option<E>,
+    line: u64,
+    text: &[u8],
+) -> Result<(E, u32), Refusal>
+    requires { due < states }
+    ensures said { MatchResult result (λ r. run_in version E.columns states due before.now line text.now ≡ Ok (run r.0 r.1)) (λ e. run_in version E.columns states due before.now line text.now ≡ Err e) }
+    ensures inside { IfOk result (λ r. due + r.1 < states) }
 {
-    let (word, value, choice, rank) = four_behind(line, text, b"state")?;
-    let state = whole_at(line, word)?;
-    let value = frac_at(line, value)?;
-    let choice = whole_at(line, choice)?;
-    let rank = whole_at(line, rank)?;
-    in_order(due, line, state)?;
-    Ok((value, choice, rank))
+    match version {
+        Version::One => state_at(due, line, text),
+        Version::Two => longest_at(states, due, before, line, text),
+    }
+}
+
+/// Appends an entry so many times.
+fn push_times<E: Entry>(entries: &mut Vec<E>, entry: E, times: u32) -> Result<(), AllocError>
+    ensures { OnOk result (entries.new.items ≡ entries.old.items ++ replicate times entry) }
+{
+    for _ in 0..times {
+        entries.push(entry)?;
+    }
+    Ok(())
+}
+
+/// Reads the lines of the states, the first of which has this number, and gives their entries, the number of the line behind them and the
+/// bytes from there on.
+pub(crate) fn entries_from<E: Entry>(
+    alloc: Global,
+    version: Version,
+    states: u32,
+    line: u64,
+    bytes: &[u8],
+) -> Result<(Vec<E>, u64, &[u8]), CertError>
+    requires { line < 2 ^ 32 }
+    ensures said { MatchResult result (λ p. entries_from version E.columns states (place line bytes.now) ≡ Ok (p.0.items, place p.1 p.2.now)) (λ e. Refuses e (entries_from version E.columns states (place line bytes.now))) }
+    ensures lines { IfOk result (λ p. p.1 ≤ line + states) }
+{
+    let mut entries = Vec::new(alloc);
+    let mut before = None;
+    let mut due = 0;
+    let mut next = line;
+    let mut rest = bytes;
+    while due < states {
+        let (text, behind) = next_line(next, rest)?;
+        let (entry, more) = run_in(version, states, due, &before, next, text)?;
+        push_times(&mut entries, entry, more + 1)?;
+        before = Some(entry);
+        due += more + 1;
+        next += 1;
+        rest = behind;
+    }
+    Ok((entries, next, rest))
 }

@@ -1,7 +1,8 @@
-ghost use Rattle.std.specs.Prelude.{◌≡◌, ◌≢◌, ◌∷◌, [], Ok, Err, MatchResult, MatchOption, length};
-ghost use Rattle.std.specs.List.{position_or_len};
+ghost use Rattle.std.specs.Prelude.{◌≡◌, ◌<◌, ◌≤◌, ◌==◌, ◌&&◌, ◌∷◌, [], Ok, Err, IfOk, MatchResult, MatchOption, length, drop};
+ghost use Rattle.std.specs.List.{position_or_len, count_by};
+ghost use Rattle.std.specs.Str.{bytes_eq};
 ghost use Rattle.mdp_cert.specs.declared.error.CertKind.TheVariants.{Shape};
-ghost use Rattle.mdp_cert.specs.Reading.{is_blank, words, one_behind, two_behind, four_behind};
+ghost use Rattle.mdp_cert.specs.Words.{is_blank, words, first_of, begins_with, words_behind};
 
 use crate::error::{CertKind, Refusal};
 
@@ -24,34 +25,36 @@ fn first_word(text: &[u8]) -> Option<(&[u8], &[u8])>
     }
 }
 
-/// The words of a text of two words.
-fn two_words(text: &[u8]) -> Option<(&[u8], &[u8])>
-    ensures { MatchOption result (length (words text.now) ≢ 2) (λ p. words text.now ≡ p.0.now ∷ p.1.now ∷ []) }
+/// How many blanks a text has.
+fn blank_count(text: &[u8]) -> usize
+    ensures blanks { result ≡ count_by is_blank text.now }
+    ensures within { result ≤ length text.now }
 {
-    let (first, second) = first_word(text)?;
-    match first_word(second) {
-        None => Some((first, second)),
-        Some(_) => None,
+    text.iter().filter(|byte| **byte == b' ').count()
+}
+
+/// How many words a text has.
+fn word_count(text: &[u8]) -> usize
+    ensures { result ≡ length (words text.now) }
+{
+    blank_count(text) + 1
+}
+
+/// Whether the first word of a text is this one.
+pub(crate) fn begins_with(text: &[u8], due: &[u8]) -> bool
+    ensures { result ≡ begins_with due.now (words text.now) }
+{
+    match first_word(text) {
+        Some((first, _)) => first == due,
+        None => text == due,
     }
 }
 
-/// The words of a text of three words.
-fn three_words(text: &[u8]) -> Option<(&[u8], &[u8], &[u8])>
-    ensures { MatchOption result (length (words text.now) ≢ 3) (λ p. words text.now ≡ p.0.now ∷ p.1.now ∷ p.2.now ∷ []) }
+/// Whether the first word of a line is this one, and so many follow.
+fn has_shape(first: &[u8], others: &[u8], due: &[u8], count: usize) -> bool
+    ensures { result ≡ (bytes_eq first.now due.now && (length (words others.now) == count)) }
 {
-    let (first, others) = first_word(text)?;
-    let (second, third) = two_words(others)?;
-    Some((first, second, third))
-}
-
-/// The words of a text of five words.
-fn five_words(text: &[u8]) -> Option<(&[u8], &[u8], &[u8], &[u8], &[u8])>
-    ensures { MatchOption result (length (words text.now) ≢ 5) (λ p. words text.now ≡ p.0.now ∷ p.1.now ∷ p.2.now ∷ p.3.now ∷ p.4.now ∷ []) }
-{
-    let (first, others) = first_word(text)?;
-    let (second, others) = first_word(others)?;
-    let (third, fourth, fifth) = three_words(others)?;
-    Some((first, second, third, fourth, fifth))
+    first == due && word_count(others) == count
 }
 
 /// A line of another shape.
@@ -64,40 +67,45 @@ fn shape(line: u64) -> Refusal
     }
 }
 
-/// The word behind the first one, in a line of two words that begins with this one.
-pub(crate) fn one_behind<'a>(line: u64, text: &'a [u8], due: &[u8]) -> Result<&'a [u8], Refusal>
-    ensures { MatchResult result (λ a. one_behind (words text.now) due.now line ≡ Ok a.now) (λ e. one_behind (words text.now) due.now line ≡ Err e) }
-{
-    match two_words(text) {
-        Some((first, a)) if first == due => Ok(a),
-        _ => Err(shape(line)),
-    }
-}
-
-/// The two words behind the first one, in a line of three words that begins with this one.
-pub(crate) fn two_behind<'a>(
+/// The text of the words behind the first one, where it is this one and so many follow.
+pub(crate) fn words_behind<'a>(
     line: u64,
     text: &'a [u8],
     due: &[u8],
-) -> Result<(&'a [u8], &'a [u8]), Refusal>
-    ensures { MatchResult result (λ p. two_behind (words text.now) due.now line ≡ Ok (p.0.now, p.1.now)) (λ e. two_behind (words text.now) due.now line ≡ Err e) }
+    count: usize,
+) -> Result<&'a [u8], Refusal>
+    requires { 0 < count }
+    ensures words { MatchResult result (λ a. words_behind due.now count line text.now ≡ Ok (words a.now)) (λ e. words_behind due.now count line text.now ≡ Err e) }
+    ensures count { IfOk result (λ a. length (words a.now) ≡ count) }
 {
-    match three_words(text) {
-        Some((first, a, b)) if first == due => Ok((a, b)),
-        _ => Err(shape(line)),
+    match first_word(text) {
+        Some((first, others)) => {
+            if has_shape(first, others, due, count) {
+                Ok(others)
+            } else {
+                Err(shape(line))
+            }
+        }
+        None => Err(shape(line)),
     }
 }
 
-/// The four words behind the first one, in a line of five words that begins with this one.
-pub(crate) fn four_behind<'a>(
-    line: u64,
-    text: &'a [u8],
-    due: &[u8],
-) -> Result<(&'a [u8], &'a [u8], &'a [u8], &'a [u8]), Refusal>
-    ensures { MatchResult result (λ p. four_behind (words text.now) due.now line ≡ Ok (p.0.now, p.1.now, p.2.now, p.3.now)) (λ e. four_behind (words text.now) due.now line ≡ Err e) }
+/// The first word, and the text of the others.
+pub(crate) fn cut_word(text: &[u8]) -> (&[u8], &[u8])
+    requires { 1 < length (words text.now) }
+    ensures first { result.0.now ≡ first_of (words text.now) }
+    ensures others { words result.1.now ≡ drop 1 (words text.now) }
 {
-    match five_words(text) {
-        Some((first, a, b, c, d)) if first == due => Ok((a, b, c, d)),
-        _ => Err(shape(line)),
+    match first_word(text) {
+        Some(cut) => cut,
+        None => unreachable!(),
     }
+}
+
+/// The word of a text of one word.
+pub(crate) fn only_word(text: &[u8]) -> &[u8]
+    requires { length (words text.now) ≡ 1 }
+    ensures { result.now ≡ first_of (words text.now) }
+{
+    text
 }

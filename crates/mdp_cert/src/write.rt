@@ -1,14 +1,27 @@
-ghost use Rattle.std.specs.Prelude.{◌≡◌, ◌++◌, ◌∷◌, ◌+◌, [], OnOk, OnErr, length};
+ghost use Rattle.std.specs.Prelude.{◌≡◌, ◌++◌, ◌+◌, ◌<◌, OnOk, OnErr, length, drop};
 ghost use Rattle.mdp_cert.specs.Cert.{plain_body};
 ghost use Rattle.mdp_cert.specs.Plain.{plain};
-ghost use Rattle.mdp_cert.specs.Spelling.{line, bound_lines, policy_lines, head_text, body_text, version_text, end_text, text_of};
-ghost use Rattle.mdp_cert.specs.Answer.{Keeps};
+ghost use Rattle.mdp_cert.specs.Spelling.{line, state_lines, head_text, body_text, version_text, end_text, text_in, text_of, old_text_of};
+ghost use Rattle.mdp_cert.specs.Answer.{Keeps, same_next, more_same, more_in};
 
 use crate::body::Body;
 use crate::cert::Cert;
-use crate::push::{push_bound, push_claim, push_init, push_policy, push_states};
-use mdp_farkas::{ReachCert, UpperCert};
+use crate::entries::{Entry, Lists};
+use crate::push::{push_claim, push_init, push_number, push_run};
+use crate::version::Version;
 use mdp_num::Memory;
+
+/// Appends the line of the version.
+fn push_version(out: &mut Vec<u8>, version: Version) -> Result<(), Memory>
+    ensures text { OnOk result (out.new.items ≡ out.old.items ++ line (version_text version)) }
+    ensures front { Keeps out.old.items out.new.items }
+{
+    match version {
+        Version::One => out.extend_from_slice(b"mdp-certificate 1\n")?,
+        Version::Two => out.extend_from_slice(b"mdp-certificate 2\n")?,
+    }
+    Ok(())
+}
 
 /// Appends the lines of claim, states and init.
 fn push_head(out: &mut Vec<u8>, cert: &Cert) -> Result<(), Memory>
@@ -16,84 +29,122 @@ fn push_head(out: &mut Vec<u8>, cert: &Cert) -> Result<(), Memory>
     ensures front { Keeps out.old.items out.new.items }
 {
     push_claim(out, &cert.claim)?;
-    push_states(out, cert.states)?;
+    push_number(out, cert.states)?;
     push_init(out, &cert.init)
 }
 
-/// Appends a line with its upper bound for each state.
-fn push_bounds(out: &mut Vec<u8>, states: u32, cert: &UpperCert) -> Result<(), Memory>
-    requires { length cert.now.values.items ≡ states }
-    ensures text { OnOk result (out.new.items ≡ out.old.items ++ bound_lines 0 cert.now.values.items) }
-    ensures front { Keeps out.old.items out.new.items }
+/// Whether there is a next state, and it says the same.
+fn is_joined<L: Lists>(entries: &L, states: u32, state: u32) -> bool
+    requires states { length (L.entries entries.now) ≡ states }
+    requires state { state < states }
+    ensures { result ≡ same_next L.Item.columns (drop state (L.entries entries.now)) }
 {
-    for state in 0..states {
-        push_bound(out, state, &cert.values[state as usize])?;
-    }
-    Ok(())
+    state + 1 < states && entries.entry(state).is_same(&entries.entry(state + 1))
 }
 
-/// Appends a line with value, choice and rank for each state.
-fn push_policies(out: &mut Vec<u8>, states: u32, cert: &ReachCert) -> Result<(), Memory>
-    requires values { length cert.now.values.items ≡ states }
-    requires choices { length cert.now.choices.items ≡ states }
-    requires ranks { length cert.now.ranks.items ≡ states }
-    ensures text { OnOk result (out.new.items ≡ out.old.items ++ policy_lines 0 cert.now.values.items cert.now.choices.items cert.now.ranks.items) }
-    ensures front { Keeps out.old.items out.new.items }
+/// The last state of the longest run that begins with this one: each state is compared with the next one.
+fn longest_end<L: Lists>(entries: &L, states: u32, first: u32) -> u32
+    requires states { length (L.entries entries.now) ≡ states }
+    requires first { first < states }
+    ensures { result ≡ first + more_same L.Item.columns (drop first (L.entries entries.now)) }
 {
-    for state in 0..states {
-        let place = state as usize;
-        push_policy(
-            out,
-            state,
-            &cert.values[place],
-            cert.choices[place],
-            cert.ranks[place],
-        )?;
+    let mut last = first;
+    while is_joined(entries, states, last) {
+        last += 1;
     }
-    Ok(())
+    last
+}
+
+/// The last state of the line that begins with this one.
+fn line_end<L: Lists>(version: Version, entries: &L, states: u32, first: u32) -> u32
+    requires states { length (L.entries entries.now) ≡ states }
+    requires first { first < states }
+    ensures { result ≡ first + more_in version L.Item.columns (drop first (L.entries entries.now)) }
+{
+    match version {
+        Version::One => first,
+        Version::Two => longest_end(entries, states, first),
+    }
 }
 
 /// Appends the lines of the states.
-fn push_body(out: &mut Vec<u8>, cert: &Cert) -> Result<(), Memory>
-    ensures text { OnOk result (out.new.items ≡ out.old.items ++ body_text (plain_body cert.now.body)) }
+fn push_entries<L: Lists>(
+    out: &mut Vec<u8>,
+    version: Version,
+    states: u32,
+    entries: &L,
+) -> Result<(), Memory>
+    requires { length (L.entries entries.now) ≡ states }
+    ensures text { OnOk result (out.new.items ≡ out.old.items ++ state_lines version L.Item.columns (L.entries entries.now)) }
+    ensures front { Keeps out.old.items out.new.items }
+{
+    let mut first = 0;
+    while first < states {
+        let last = line_end(version, entries, states, first);
+        push_run(out, first, last, &entries.entry(first))?;
+        first = last + 1;
+    }
+    Ok(())
+}
+
+/// Appends the lines of the states, by the claim.
+fn push_body(out: &mut Vec<u8>, version: Version, cert: &Cert) -> Result<(), Memory>
+    ensures text { OnOk result (out.new.items ≡ out.old.items ++ body_text version (plain_body cert.now.body)) }
     ensures front { Keeps out.old.items out.new.items }
 {
     match &cert.body {
-        Body::Upper(bounds) => push_bounds(out, cert.states, bounds),
-        Body::Reach(policy) => push_policies(out, cert.states, policy),
+        Body::Upper(bounds) => push_entries(out, version, cert.states, bounds),
+        Body::Reach(policy) => push_entries(out, version, cert.states, policy),
     }
 }
 
 /// Appends the lines of the states and the last line.
-fn push_end(out: &mut Vec<u8>, cert: &Cert) -> Result<(), Memory>
-    ensures text { OnOk result (out.new.items ≡ out.old.items ++ (body_text (plain_body cert.now.body) ++ line end_text)) }
+fn push_end(out: &mut Vec<u8>, version: Version, cert: &Cert) -> Result<(), Memory>
+    ensures text { OnOk result (out.new.items ≡ out.old.items ++ (body_text version (plain_body cert.now.body) ++ line end_text)) }
     ensures front { Keeps out.old.items out.new.items }
 {
-    push_body(out, cert)?;
+    push_body(out, version, cert)?;
     out.extend_from_slice(b"end\n")?;
     Ok(())
 }
 
 /// Appends all lines; after `Memory` the text begins as before.
-#[tactic(auto, unfolding(crate::specs::Spelling::text_of))]
-fn push_lines(out: &mut Vec<u8>, cert: &Cert) -> Result<(), Memory>
-    ensures text { OnOk result (out.new.items ≡ out.old.items ++ text_of (plain cert.now)) }
+#[tactic(auto, unfolding(crate::specs::Spelling::text_in))]
+fn push_lines(out: &mut Vec<u8>, version: Version, cert: &Cert) -> Result<(), Memory>
+    ensures text { OnOk result (out.new.items ≡ out.old.items ++ text_in version (plain cert.now)) }
     ensures front { Keeps out.old.items out.new.items }
 {
-    out.extend_from_slice(b"mdp-certificate 1\n")?;
+    push_version(out, version)?;
     push_head(out, cert)?;
-    push_end(out, cert)
+    push_end(out, version, cert)
 }
 
-/// Appends the certificate's text. After `Memory` the text is as before.
-pub fn write_cert(cert: &Cert, out: &mut Vec<u8>) -> Result<(), Memory>
-    ensures text { OnOk result (out.new.items ≡ out.old.items ++ text_of (plain cert.now)) }
+/// Appends the text of this version; after `Memory` the text is as before.
+fn write_in(version: Version, cert: &Cert, out: &mut Vec<u8>) -> Result<(), Memory>
+    ensures text { OnOk result (out.new.items ≡ out.old.items ++ text_in version (plain cert.now)) }
     ensures unchanged { OnErr result (out.new.items ≡ out.old.items) }
 {
     let start = out.len();
-    let answer = push_lines(out, cert);
+    let answer = push_lines(out, version, cert);
     if answer.is_err() {
         out.truncate(start);
     }
     answer
+}
+
+/// Appends the certificate's text in version 2, with a line for each longest run of states with the same words. After `Memory` the text is as
+/// before.
+pub fn write_cert(cert: &Cert, out: &mut Vec<u8>) -> Result<(), Memory>
+    ensures text { OnOk result (out.new.items ≡ out.old.items ++ text_of (plain cert.now)) }
+    ensures unchanged { OnErr result (out.new.items ≡ out.old.items) }
+{
+    write_in(Version::Two, cert, out)
+}
+
+/// Appends the certificate's text in version 1, with a line for each state. After `Memory` the text is as before.
+pub fn write_old(cert: &Cert, out: &mut Vec<u8>) -> Result<(), Memory>
+    ensures text { OnOk result (out.new.items ≡ out.old.items ++ old_text_of (plain cert.now)) }
+    ensures unchanged { OnErr result (out.new.items ≡ out.old.items) }
+{
+    write_in(Version::One, cert, out)
 }

@@ -1,8 +1,11 @@
-use Rattle.mdp_cert.proofs.Parts.{read-from-text, one-text}
+use Rattle.mdp_cert.proofs.Parts.{read-from-text, read-back, one-text}
 use Rattle.mdp_cert.proofs.laws.text_law.Goals as goal
 
 pub returns-clause-read : goal.returns-clause-read
 returns-clause-read c = read-from-text
+
+pub returns-clause-back : goal.returns-clause-back
+returns-clause-back c = read-back
 
 pub returns-clause-one : goal.returns-clause-one
 returns-clause-one c = one-text

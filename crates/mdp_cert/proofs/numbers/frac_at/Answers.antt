@@ -1,5 +1,5 @@
 use Rattle.std.proofs.Common.{rules}
-use Rattle.mdp_cert.specs.Reading.{frac_at}
+use Rattle.mdp_cert.specs.Words.{frac_at}
 use Rattle.mdp_cert.proofs.numbers.frac_at.Goals as goal
 
 pub returns : goal.returns

@@ -1,5 +1,5 @@
 use Rattle.std.proofs.Common.{rules}
-use Rattle.mdp_cert.specs.Reading.{whole_at}
+use Rattle.mdp_cert.specs.Words.{whole_at}
 use Rattle.mdp_cert.proofs.numbers.whole_at.Goals as goal
 
 pub returns : goal.returns

@@ -1,0 +1,44 @@
+ghost use Rattle.std.specs.Prelude.{◌≡◌, ◌<◌, ◌++◌, List, length, slice_index_or, OnOk};
+ghost use Rattle.mdp_cert.specs.Answer.{Keeps};
+ghost use Rattle.mdp_cert.specs.Runs.{Columns};
+ghost use Rattle.mdp_cert.specs.Spelling.{entry_text};
+ghost use Rattle.mdp_cert.specs.Words.{words};
+
+use mdp_num::Memory;
+
+/// What the words behind a state's number say. A claim with a line for each state gives one: how many words there are, how they are read and
+/// how they are spelled.
+pub(crate) trait Entry: Copy + Drop {
+    ghost columns: { Columns Self };
+
+    /// How many words stand behind the numbers of states.
+    fn width() -> u8
+        ensures width { result ≡ columns.width }
+        ensures some { 0 < result };
+
+    /// What these words say, where each is the number due.
+    fn read(text: &[u8]) -> Option<Self>
+        requires { length (words text.now) ≡ columns.width }
+        ensures { result ≡ columns.parse (words text.now) };
+
+    /// Appends the words, with a blank between each two.
+    fn push_words(&self, out: &mut Vec<u8>) -> Result<(), Memory>
+        ensures text { OnOk result (out.new.items ≡ out.old.items ++ entry_text columns self.now) }
+        ensures front { Keeps out.old.items out.new.items };
+
+    /// Whether two states say the same.
+    fn is_same(&self, other: &Self) -> bool
+        ensures { result ≡ columns.same self.now other.now };
+}
+
+/// The lists in which the body of a claim keeps the entries of its states.
+pub(crate) trait Lists {
+    type Item: Entry;
+
+    ghost entries: { Self → List Self.Item };
+
+    /// The entry of a state.
+    fn entry(&self, state: u32) -> Self::Item
+        requires { state < length (entries self.now) }
+        ensures { result ≡ slice_index_or (entries self.now) state result };
+}

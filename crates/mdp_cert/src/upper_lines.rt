@@ -1,0 +1,38 @@
+ghost use Rattle.std.specs.Prelude.{◌≡◌, ◌++◌, OnOk};
+ghost use Rattle.mdp_cert.specs.Claims.{bound_columns};
+
+use crate::entries::{Entry, Lists};
+use crate::words::only_word;
+use mdp_farkas::UpperCert;
+use mdp_num::{Frac, Memory, read_canonical};
+
+/// The line of a state for the claim `upper reach`: its upper bound.
+impl Entry for Frac {
+    ghost columns = { bound_columns };
+
+    fn width() -> u8 {
+        1
+    }
+
+    fn read(text: &[u8]) -> Option<Frac> {
+        read_canonical(only_word(text))
+    }
+
+    fn push_words(&self, out: &mut Vec<u8>) -> Result<(), Memory> {
+        self.push_text(out)
+    }
+
+    fn is_same(&self, other: &Frac) -> bool {
+        self == other
+    }
+}
+
+impl Lists for UpperCert {
+    type Item = Frac;
+
+    ghost entries = { λ c. c.values.items };
+
+    fn entry(&self, state: u32) -> Frac {
+        self.values[state as usize]
+    }
+}
