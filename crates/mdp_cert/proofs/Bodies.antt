@@ -5,14 +5,15 @@ use Rattle.std.proofs.Math.ListN.{replicate}
 use Rattle.std.proofs.lemmas.Bool.{lt-ltb}
 use Rattle.std.proofs.lemmas.Bool.Decides.{nat_tests}
 use Rattle.std.proofs.lemmas.List.{length-append, length-replicate}
+use Rattle.mdp_cert.specs.declared.error.CertKind.TheVariants.{Shape}
 use Rattle.mdp_cert.specs.declared.error.Refusal.{Refusal}
 use Rattle.mdp_cert.specs.declared.version.Version.{Version}
 use Rattle.mdp_cert.specs.declared.version.Version.TheVariants.{One, Two}
-use Rattle.mdp_cert.specs.Lines.{◌>>=◌, Place, place, line_by}
+use Rattle.mdp_cert.specs.Lines.{◌>>=◌, Place, place, is_line, line_by}
 use Rattle.mdp_cert.specs.Runs.{Columns, Run, run, single, entries_of, before_runs, longest_runs, runs_in}
-use Rattle.mdp_cert.specs.Spelling.{line, run_text, run_lines, state_lines}
-use Rattle.mdp_cert.specs.Reading.{is_same, run_in, onto_run, runs_from, entries_from}
-use Rattle.mdp_cert.proofs.Feeds.{bind_ok, ok-is, Judged, judged-found, judged-again}
+use Rattle.mdp_cert.specs.Spelling.{line, run_text, run_lines, state_lines, end_text, closed_lines}
+use Rattle.mdp_cert.specs.Reading.{is_same, run_in, onto_run, runs_from, entries_from, entries_to_end}
+use Rattle.mdp_cert.proofs.Feeds.{bind_ok, ok-is, Line, Judged, judged-found, judged-again, due-line, due-again}
 use Rattle.mdp_cert.proofs.Columns.{IsColumns}
 use Rattle.mdp_cert.proofs.Sections.{IsLongest, line-found, line-again, free-run}
 
@@ -208,12 +209,12 @@ module _ {A : Type 0} (k : Columns A) (IsInWidth : A → Type 0) (is : IsColumns
 
   -- ---- the lines of all states
 
-  pub record FoundAll (v : Version) (p : Place) (xs : List A) (q : Place) : Type 0 where
-    pub text : p.rest ≡ state_lines v k xs ++ q.rest
-    pub count : length xs ≡ states
-    pub width : Each IsInWidth xs
+  record FoundAll (v : Version) (p : Place) (xs : List A) (q : Place) : Type 0 where
+    text : p.rest ≡ state_lines v k xs ++ q.rest
+    count : length xs ≡ states
+    width : Each IsInWidth xs
 
-  pub entries-found : (v : Version) (p : Place) (xs : List A) (q : Place) → entries_from v k states p ≡ Ok (xs, q) → FoundAll v p xs q
+  entries-found : (v : Version) (p : Place) (xs : List A) (q : Place) → entries_from v k states p ≡ Ok (xs, q) → FoundAll v p xs q
   unfolding entries_from
   entries-found v p xs q e =
       let one = bind_ok (runs_from states v k states 0 None p) (λ rs. Ok (entries_of rs.0, rs.1)) (xs, q) e in
@@ -225,11 +226,47 @@ module _ {A : Type 0} (k : Columns A) (IsInWidth : A → Type 0) (is : IsColumns
         width = width-entries one.0.0 f.lines.width;
       })
 
-  pub entries-again : (v : Version) (n : ℕ) (xs : List A) (rest : List ℕ) → length xs ≡ states → Each IsInWidth xs → (m : ℕ) × (entries_from v k states (place n (state_lines v k xs ++ rest)) ≡ Ok (xs, place m rest))
+  entries-again : (v : Version) (n : ℕ) (xs : List A) (rest : List ℕ) → length xs ≡ states → Each IsInWidth xs → (m : ℕ) × (entries_from v k states (place n (state_lines v k xs ++ rest)) ≡ Ok (xs, place m rest))
   unfolding entries_from
   entries-again v n xs rest count width =
       let all : 0 + total (runs_in v k xs) ≡ states = (let t = length-entries (runs_in v k xs) in let u = ap (λ (ys : List A). length ys) (runs-entries v xs) in omega arith) in
       let r = runs-again states v 0 None n (runs_in v k xs) rest (omega arith) (record { all = all; longest = runs-longest v xs; width = runs-width v xs width }) in (
         r.0,
         ap (λ (q : Result (List (Run A) × Place) Refusal). q >>= λ rs. Ok (entries_of rs.0, rs.1)) r.1 ∙ ap (λ (ys : List A). let q : Result (List A × Place) Refusal = Ok (ys, place r.0 rest) in q) (runs-entries v xs),
+      )
+
+  -- with the line `end`
+  pub record FoundClosed (v : Version) (p : Place) (xs : List A) (q : Place) : Type 0 where
+    pub text : p.rest ≡ closed_lines v k xs ++ q.rest
+    pub count : length xs ≡ states
+    pub width : Each IsInWidth xs
+
+  abbrev ended : List A × Place → Result (List A × Place) Refusal
+  ended xs = line_by (is_line Shape end_text) xs.1 >>= λ end. Ok (xs.0, end.1)
+
+  pub closed-found : (v : Version) (p : Place) (xs : List A) (q : Place) → entries_to_end v k states p ≡ Ok (xs, q) → FoundClosed v p xs q
+  unfolding entries_to_end
+  closed-found v p xs q e =
+      let one = bind_ok (entries_from v k states p) ended (xs, q) e in
+      let two = bind_ok (line_by (is_line Shape end_text) one.0.1) (λ end. Ok (one.0.0, end.1)) (xs, q) one.2 in
+      let same : (let r : List A × Place = (one.0.0, two.0.1) in r) ≡ (xs, q) = ok-is _ _ two.2 in
+      let f = entries-found v p one.0.0 one.0.1 one.1 in
+      let j = judged-found (is_line Shape end_text) one.0.1 two.0.0 two.0.1 two.1 in
+      subst (λ (r : List A × Place). FoundClosed v p r.0 r.1) same (record {
+        text = joined p.rest (state_lines v k one.0.0) one.0.1.rest j.text end_text two.0.1.rest f.text j.is.front (due-line Shape one.0.1.line j.text end_text two.0.0 j.said);
+        count = f.count;
+        width = f.width;
+      })
+    where
+      joined : (a b c t u d : List ℕ) → a ≡ b ++ c → c ≡ line t ++ d → t ≡ u → a ≡ (b ++ line u) ++ d
+      joined a b c t u d p q r = rw (p, q, r) (sym (append_assoc b (line u) d))
+
+  pub closed-again : (v : Version) (n : ℕ) (xs : List A) (rest : List ℕ) → length xs ≡ states → Each IsInWidth xs → (m : ℕ) × (entries_to_end v k states (place n (closed_lines v k xs ++ rest)) ≡ Ok (xs, place m rest))
+  unfolding entries_to_end
+  closed-again v n xs rest count width =
+      let r = entries-again v n xs (line end_text ++ rest) count width in (
+        r.0 + 1,
+        ap (λ (t : List ℕ). entries_from v k states (place n t) >>= ended) (append_assoc (state_lines v k xs) (line end_text) rest)
+            ∙ ap (λ (q : Result (List A × Place) Refusal). q >>= ended) r.1
+            ∙ ap (λ (q : Result (Unit {0} × Place) Refusal). q >>= λ end. let x : Result (List A × Place) Refusal = Ok (xs, end.1) in x) (judged-again (is_line Shape end_text) r.0 end_text rest tt refl (due-again Shape r.0 end_text)),
       )

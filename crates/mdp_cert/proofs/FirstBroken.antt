@@ -21,12 +21,12 @@ use Rattle.mdp_cert.specs.Words.{words, first_of, begins_with, words_behind, who
 use Rattle.mdp_cert.specs.Runs.{Columns, Run, run, single, entries_of}
 use Rattle.mdp_cert.specs.Claims.{bound_columns, policy_columns}
 use Rattle.mdp_cert.specs.Spelling.{line, version_text, end_text}
-use Rattle.mdp_cert.specs.Reading.{version_at, claim_of, claim_at, states_at, finite_at, init_at, Head, head_from, entry_at, state_at, run_at, is_same, line_of_states, longest_at, run_in, onto_run, runs_from, entries_from, policy_body, body_from, end_from, outcome}
+use Rattle.mdp_cert.specs.Reading.{version_at, claim_of, claim_at, states_at, finite_at, valued_at, init_at, Head, head_from, entry_at, state_at, run_at, is_same, line_of_states, longest_at, run_in, onto_run, runs_from, entries_from, entries_to_end, policy_body, body_from, nothing_behind, outcome}
 use Rattle.mdp_cert.specs.Laws.{first_lines, LacksAtMost}
 use Rattle.mdp_cert.proofs.Cuts.{guard_ok}
 use Rattle.mdp_cert.proofs.Feeds.{bind_ok, ok-is, Line, line-found, line-again}
 use Rattle.mdp_cert.proofs.Numbered.{states-number, states-range, init-state, init-value, init-inside}
-use Rattle.mdp_cert.proofs.Parts.{head-states, head-init, end-due, whole, whole-end, whole-body, whole-head}
+use Rattle.mdp_cert.proofs.Parts.{head-states, head-init, whole, whole-end, whole-body, whole-head}
 
 abbrev pub missing : ℕ → Refusal
 missing n = record { kind = kind.End; line = n }
@@ -264,13 +264,17 @@ finite-judges states n text =
     then-judges n (frac_at n (first_of (drop 1 behind))) (init-inside states n state) (frac-judges n (first_of (drop 1 behind))) (λ value.
     then-judges n (refuse_if kind.Count n (not (ltb state states))) (λ inside. Ok (Finite state value)) (refuse-judges kind.Count n _) (λ inside. ok-judges n (Finite state value)))))
 
-init-judges : (states n : ℕ) (text : List ℕ) → Judges n (init_at states n text)
-unfolding init_at
-init-judges states n text = by (bytes_eq text (codes "init -"))
+valued-judges : (states n : ℕ) (text : List ℕ) → Judges n (valued_at states n text)
+unfolding valued_at
+valued-judges states n text = by (bytes_eq text (codes "init -"))
   where
     by : (b : Bool) → Judges n (let q : Result Init Refusal = cond b (Ok Missing) (finite_at states n text) in q)
     by true = ok-judges n Missing
     by false = finite-judges states n text
+
+init-judges : (claim : PlainClaim) (states n : ℕ) (text : List ℕ) → Judges n (init_at claim states n text)
+init-judges (upper label) states n text = valued-judges states n text
+init-judges (reach dir label) states n text = valued-judges states n text
 
 -- ---- the lines of states
 
@@ -318,9 +322,15 @@ module _ {A : Type 0} (k : Columns A) (states : ℕ) where
       (next (line_by (run_in v k states due before)) (λ said p. onto_run said (runs_from most v k states (due + said.more + 1) (Some said.entry) p)) (lined (run_in v k states due before) (run-in-judges v due before)) (λ said.
       mapped (runs_from most v k states (due + said.more + 1) (Some said.entry)) (λ rs. said ∷ rs) (runs-cuts most v (due + said.more + 1) (Some said.entry))))
 
-  pub entries-cuts : (v : Version) → Cuts (entries_from v k states)
+  entries-cuts : (v : Version) → Cuts (entries_from v k states)
   unfolding entries_from
   entries-cuts v = mapped (runs_from states v k states 0 None) entries_of (runs-cuts states v 0 None)
+
+  pub closed-cuts : (v : Version) → Cuts (entries_to_end v k states)
+  unfolding entries_to_end
+  closed-cuts v =
+      next (entries_from v k states) (λ xs p. line_by (is_line kind.Shape end_text) p >>= λ end. Ok (xs, end.1)) (entries-cuts v) (λ xs.
+      mapped (line_by (is_line kind.Shape end_text)) (λ end. xs) (lined (is_line kind.Shape end_text) (λ n text. refuse-judges kind.Shape n _)))
 
 -- ---- the parts
 
@@ -328,15 +338,15 @@ head-cuts : Cuts head_from
 unfolding head_from
 head-cuts =
     next (line_by claim_at) (λ claim p. head-states (claim, p)) (lined claim_at claim-judges) (λ claim.
-    next (line_by states_at) (λ states p. line_by (init_at states) p >>= λ init. Ok (record { claim = claim; states = states; init = init.0 }, init.1)) (lined states_at states-judges) (λ states.
-    mapped (line_by (init_at states)) (λ init. let h : Head = record { claim = claim; states = states; init = init } in h) (lined (init_at states) (init-judges states))))
+    next (line_by states_at) (λ states p. line_by (init_at claim states) p >>= λ init. Ok (record { claim = claim; states = states; init = init.0 }, init.1)) (lined states_at states-judges) (λ states.
+    mapped (line_by (init_at claim states)) (λ init. let h : Head = record { claim = claim; states = states; init = init } in h) (lined (init_at claim states) (init-judges claim states))))
 
 body-cuts : (v : Version) (claim : PlainClaim) (states : ℕ) → Cuts (body_from v claim states)
 unfolding body_from
-body-cuts v (upper label) states = mapped (entries_from v bound_columns states) bounds (entries-cuts bound_columns states v)
-body-cuts v (reach dir label) states = mapped (entries_from v policy_columns states) policy_body (entries-cuts policy_columns states v)
+body-cuts v (upper label) states = mapped (entries_to_end v bound_columns states) bounds (closed-cuts bound_columns states v)
+body-cuts v (reach dir label) states = mapped (entries_to_end v policy_columns states) policy_body (closed-cuts policy_columns states v)
 
--- all but the end
+-- all lines
 abbrev top-body : Version → Head × Place → Result (Certificate × Place) Refusal
 top-body v head = body_from v head.0.claim head.0.states head.1 >>= λ body. Ok (whole head.0 body.0, body.1)
 
@@ -347,7 +357,7 @@ abbrev top : Reader Certificate
 top p = line_by version_at p >>= top-head
 
 abbrev top-end : Certificate × Place → Result Certificate Refusal
-top-end c = end_from c.1 >>= λ end. Ok c.0
+top-end c = nothing_behind c.1 >>= λ nothing. Ok c.0
 
 top-cuts : Cuts top
 top-cuts =
@@ -391,7 +401,7 @@ concluded bytes r at number before behind =
       ap (λ (n : ℕ). outcome (first_lines n bytes)) all ∙ behind,
     )
 
--- the refusal stands before the end
+-- the refusal is of a line
 in-top : (bytes : List ℕ) (r : Refusal) → top (place 1 bytes) ≡ Err r → IsFirst bytes r
 in-top bytes r e =
     let b = top-cuts.broken (place 1 bytes) r e in
@@ -412,91 +422,38 @@ no-lines : (xs : List ℕ) → first_lines 0 xs ≡ []
 unfolding first_lines
 no-lines xs = refl
 
+-- bytes stand behind the last line
 module _ (bytes : List ℕ) (r : Refusal) (c : Certificate) (q : Place) (e : top (place 1 bytes) ≡ Ok (c, q)) where
   taken : Taken top (place 1 bytes) c q
   taken = top-cuts.read (place 1 bytes) c q e
 
-  -- the text up to some lines behind its body
+  -- the text up to some lines behind it
   outcome-end : (j : ℕ) → outcome (first_lines (taken.lines + j) bytes) ≡ top-end (c, cut j q)
   outcome-end j = outcome-is (first_lines (taken.lines + j) bytes) ∙ ap (λ (x : Result (Certificate × Place) Refusal). x >>= top-end) (taken.again j)
 
-  -- the line `end` is refused, or it isn't there
-  at-end : r.line ≡ q.line → top-end (c, cut 0 q) ≡ Err (missing q.line) → top-end (c, cut 1 q) ≡ Err r → IsFirst bytes r
-  at-end number before behind =
-      let line-is : q.line ≡ 1 + (taken.lines + 0) = omega (arith, taken.number) in
-      let more : suc (taken.lines + 0) ≡ taken.lines + 1 = omega arith in
-      concluded bytes r (taken.lines + 0) (number ∙ line-is)
-      (lacks _ _ (outcome-end 0 ∙ before ∙ ap (λ (n : ℕ). let x : Result Certificate Refusal = Err (missing n) in x) line-is))
-      (rw more (outcome-end 1 ∙ behind))
-
-  -- bytes stand behind it
-  past-end : r.line ≡ q.line + 1 → top-end (c, cut 1 q) ≡ Ok c → top-end (c, cut 2 q) ≡ Err r → IsFirst bytes r
-  past-end number before behind =
-      let line-is : q.line + 1 ≡ 1 + (taken.lines + 1) = omega (arith, taken.number) in
-      let more : suc (taken.lines + 1) ≡ taken.lines + 2 = omega arith in
-      concluded bytes r (taken.lines + 1) (number ∙ line-is)
-      (lacks-none _ _ c (outcome-end 1 ∙ before))
-      (rw more (outcome-end 2 ∙ behind))
-
-  no-end : top-end (c, cut 0 q) ≡ Err (missing q.line)
-  unfolding end_from
-  no-end = rw (none-cut q) refl
-
-  lineless : next_line q ≡ Err r → IsFirst bytes r
-  unfolding end_from
-  lineless lost =
-      let m = line-missing q r lost in
-      at-end (ap (λ (x : Refusal). x.line) (sym m.0)) no-end (ap (λ (p : Place). top-end (c, p)) (m.1 0) ∙ rw lost refl)
-
-  unclosed : (text : List ℕ) (s : Place) → next_line q ≡ Ok (text, s) → is_line kind.Shape end_text q.line text ≡ Err r → IsFirst bytes r
-  unfolding end_from
-  unclosed text s got lost = at-end ((refuse-judges kind.Shape q.line _) r lost) no-end (rw (line-cut q text s got 0, lost) refl)
-
-  closed : (text : List ℕ) (s : Place) → next_line q ≡ Ok (text, s) → (u : Unit {0}) → is_line kind.Shape end_text q.line text ≡ Ok u → refuse_if kind.End s.line (ltb 0 (length s.rest)) ≡ Err r → IsFirst bytes r
-  unfolding end_from
-  closed text s got u same lost =
-      let l = line-found q text s got in
-      let some : ltb 0 (length s.rest) ≡ true = refused-is _ lost in
-      let none : first_lines 0 s.rest ≡ [] = no-lines s.rest in
-      past-end ((refuse-judges kind.End s.line _) r lost ∙ l.number)
-      (rw (line-cut q text s got 0, same, none) refl)
-      (rw (line-cut q text s got 1, same, nonempty s.rest some) (as-refused _ lost))
+  past-end : nothing_behind q ≡ Err r → IsFirst bytes r
+  unfolding nothing_behind
+  past-end lost =
+      let some : ltb 0 (length q.rest) ≡ true = refused-is _ lost in
+      let none : first_lines 0 q.rest ≡ [] = no-lines q.rest in
+      let all : taken.lines + 0 ≡ taken.lines = omega arith in
+      let more : taken.lines + 1 ≡ suc taken.lines = omega arith in
+      concluded bytes r taken.lines ((refuse-judges kind.End q.line _) r lost ∙ taken.number)
+      (lacks-none _ _ c (ap (λ (n : ℕ). outcome (first_lines n bytes)) (sym all) ∙ outcome-end 0 ∙ rw none refl))
+      (ap (λ (n : ℕ). outcome (first_lines n bytes)) (sym more) ∙ outcome-end 1 ∙ rw (nonempty q.rest some) (as-refused _ lost))
     where
-      refused-is : (b : Bool) → refuse_if kind.End s.line b ≡ Err r → b ≡ true
+      refused-is : (b : Bool) → refuse_if kind.End q.line b ≡ Err r → b ≡ true
       refused-is true e = refl
       refused-is false e = absurd cc
 
-      as-refused : (b : Bool) → refuse_if kind.End s.line b ≡ Err r → (let x : Result Certificate Refusal = Err (missing s.line) in x) ≡ Err r
-      as-refused true e = let p : missing s.line ≡ r = cc in rw p refl
+      as-refused : (b : Bool) → refuse_if kind.End q.line b ≡ Err r → (let x : Result Certificate Refusal = Err (missing q.line) in x) ≡ Err r
+      as-refused true e = let p : missing q.line ≡ r = cc in rw p refl
       as-refused false e = absurd cc
-
-  abbrev closing : List ℕ × Place → Result (Unit {0} × Place) Refusal
-  closing got = is_line kind.Shape end_text q.line got.0 >>= λ said. Ok (said, got.1)
-
-  in-line : line_by (is_line kind.Shape end_text) q ≡ Err r → IsFirst bytes r
-  in-line lost = elim (bind_err (next_line q) closing r lost) [
-    | inl none ↦ lineless none
-    | inr got ↦ (elim (bind_err (is_line kind.Shape end_text q.line got.0.0) (said-at got.0.1) r got.2) [ inl other ↦ unclosed got.0.0 got.0.1 got.1 other | inr shut ↦ absurd (apart _ r shut.2) ])
-  ]
-    where
-      apart : (x : Unit {0} × Place) (d : Refusal) → (let y : Result (Unit {0} × Place) Refusal = Ok x in y) ≡ Err d → ⊥
-      apart x d e = absurd cc
-
-  behind-line : (end : Unit {0} × Place) → line_by (is_line kind.Shape end_text) q ≡ Ok end → end-due end ≡ Err r → IsFirst bytes r
-  behind-line end got lost =
-      let one = bind_ok (next_line q) closing end got in
-      let two = bind_ok (is_line kind.Shape end_text q.line one.0.0) (said-at one.0.1) end one.2 in
-      let at : one.0.1 ≡ end.1 = ap (λ (x : Unit {0} × Place). x.1) (ok-is _ _ two.2) in
-      closed one.0.0 one.0.1 one.1 two.0 two.1 (ap (λ (s : Place). refuse_if kind.End s.line (ltb 0 (length s.rest))) at ∙ lost)
-
-  in-end : end_from q ≡ Err r → IsFirst bytes r
-  unfolding end_from
-  in-end lost = elim (bind_err (line_by (is_line kind.Shape end_text) q) end-due r lost) [ inl none ↦ in-line none | inr got ↦ behind-line got.0 got.1 got.2 ]
 
 pub first-broken : (bytes : List ℕ) (r : Refusal) → outcome bytes ≡ Err r → IsFirst bytes r
 first-broken bytes r e = elim (bind_err (top (place 1 bytes)) top-end r (sym (outcome-is bytes) ∙ e)) [
   | inl lost ↦ in-top bytes r lost
-  | inr got ↦ (elim (bind_err (end_from got.0.1) (λ end. Ok got.0.0) r got.2) [ inl lost ↦ in-end bytes r got.0.0 got.0.1 got.1 lost | inr end ↦ absurd (apart _ r end.2) ])
+  | inr got ↦ (elim (bind_err (nothing_behind got.0.1) (λ nothing. Ok got.0.0) r got.2) [ inl lost ↦ past-end bytes r got.0.0 got.0.1 got.1 lost | inr end ↦ absurd (apart _ r end.2) ])
 ]
   where
     apart : (c : Certificate) (r : Refusal) → Ok c ≡ Err r → ⊥

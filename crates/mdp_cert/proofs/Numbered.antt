@@ -13,11 +13,11 @@ use Rattle.mdp_cert.specs.declared.init.Init.{Init}
 use Rattle.mdp_cert.specs.declared.init.Init.TheVariants.{Missing, Finite}
 use Rattle.mdp_cert.specs.declared.version.Version as version
 use Rattle.mdp_cert.specs.declared.version.Version.TheVariants.{One, Two}
-use Rattle.mdp_cert.specs.Cert.{is_inside, IsInitInWidth}
+use Rattle.mdp_cert.specs.Cert.{PlainClaim, upper, reach, is_inside, IsInitInWidth}
 use Rattle.mdp_cert.specs.Lines.{◌>>=◌, refuse_if}
 use Rattle.mdp_cert.specs.Words.{words, first_of, words_behind, whole_at, frac_at}
 use Rattle.mdp_cert.specs.Spelling.{◌␣◌, version_text, states_text, init_text}
-use Rattle.mdp_cert.specs.Reading.{version_at, states_at, finite_at, init_at}
+use Rattle.mdp_cert.specs.Reading.{version_at, states_at, finite_at, valued_at, init_at}
 use Rattle.mdp_cert.proofs.Pieces.{Free, free-spelling, decimal-some}
 use Rattle.mdp_cert.proofs.Cuts.{bytes_same, bytes_self}
 use Rattle.mdp_cert.proofs.Feeds.{bind_ok, ok-is, refuse_ok, whole-found, whole-again, frac-found, frac-again}
@@ -129,9 +129,9 @@ finite-again states n state value lt limit narrow =
     let inside : ltb state states ≡ true = grind (arith, nat_tests) in
     rw (ws, whole-again n state small, frac-again n value narrow, inside) refl
 
-pub init-found : (states n : ℕ) (text : List ℕ) (init : Init) → init_at states n text ≡ Ok init → (text ≡ init_text init) × (is_inside states init ≡ true) × IsInitInWidth init
-unfolding init_at
-init-found states n text init e = by (bytes_eq text (codes "init -")) refl e
+valued-found : (states n : ℕ) (text : List ℕ) (init : Init) → valued_at states n text ≡ Ok init → (text ≡ init_text init) × (is_inside states init ≡ true) × IsInitInWidth init
+unfolding valued_at
+valued-found states n text init e = by (bytes_eq text (codes "init -")) refl e
   where
     by : (b : Bool) → bytes_eq text (codes "init -") ≡ b → cond b (Ok Missing) (finite_at states n text) ≡ Ok init → (text ≡ init_text init) × (is_inside states init ≡ true) × IsInitInWidth init
     by true t e =
@@ -139,10 +139,10 @@ init-found states n text init e = by (bytes_eq text (codes "init -")) refl e
         subst (λ (i : Init). (text ≡ init_text i) × (is_inside states i ≡ true) × IsInitInWidth i) is (bytes_same text (codes "init -") t, refl, tt)
     by false t e = finite-found states n text init e
 
-pub init-again : (states n : ℕ) (init : Init) → is_inside states init ≡ true → states ≤ 2 ^ 20 → IsInitInWidth init → init_at states n (init_text init) ≡ Ok init
-unfolding init_at
-init-again states n Missing inside limit narrow = refl
-init-again states n (Finite state value) inside limit narrow =
+valued-again : (states n : ℕ) (init : Init) → is_inside states init ≡ true → states ≤ 2 ^ 20 → IsInitInWidth init → valued_at states n (init_text init) ≡ Ok init
+unfolding valued_at
+valued-again states n Missing inside limit narrow = refl
+valued-again states n (Finite state value) inside limit narrow =
     let lt : state < states = grind (arith, nat_tests) in
     let small : state < 2 ^ 32 = omega arith in
     let digit : bytes_eq (init_text (Finite state value)) (codes "init -") ≡ false = other (decimal state) (spelling value) (free-whole 45 state (omega arith) small) (decimal-some state small) in
@@ -155,6 +155,15 @@ init-again states n (Finite state value) inside limit narrow =
         or-first : (a b : Bool) → (a || b) ≡ false → a ≡ false
         or-first false b e = refl
         or-first true b e = absurd cc
+
+-- the form of each claim
+pub init-found : (claim : PlainClaim) (states n : ℕ) (text : List ℕ) (init : Init) → init_at claim states n text ≡ Ok init → (text ≡ init_text init) × (is_inside states init ≡ true) × IsInitInWidth init
+init-found (upper label) states n text init e = valued-found states n text init e
+init-found (reach dir label) states n text init e = valued-found states n text init e
+
+pub init-again : (claim : PlainClaim) (states n : ℕ) (init : Init) → is_inside states init ≡ true → states ≤ 2 ^ 20 → IsInitInWidth init → init_at claim states n (init_text init) ≡ Ok init
+init-again (upper label) states n init inside limit narrow = valued-again states n init inside limit narrow
+init-again (reach dir label) states n init inside limit narrow = valued-again states n init inside limit narrow
 
 pub free-init : (states : ℕ) (init : Init) → is_inside states init ≡ true → states ≤ 2 ^ 20 → IsInitInWidth init → Free 10 (init_text init)
 free-init states Missing inside limit narrow = refl

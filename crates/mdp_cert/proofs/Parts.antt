@@ -3,29 +3,29 @@ use Rattle.std.proofs.Common.{◌≡◌, ◌↔◌, ◌⊎◌, inl, inr, ℕ, su
 use Rattle.std.specs.Prelude.{codes}
 use Rattle.std.specs.List.{All}
 use Rattle.std.proofs.lemmas.Bool.{both_ways, lt-ltb, and_parts}
-use Rattle.std.proofs.lemmas.List.{length-map}
+use Rattle.std.proofs.lemmas.List.{length-map, append-nil}
 use Rattle.std.proofs.lemmas.List.Elements.{All-cons}
 use Rattle.mdp_math.specs.Rational.{ℚ}
 use Rattle.mdp_num.specs.Value.{IsNarrow}
 use Rattle.mdp_rows.specs.Name.{is_name}
-use Rattle.mdp_cert.specs.declared.error.CertKind.TheVariants.{Shape, End}
+use Rattle.mdp_cert.specs.declared.error.CertKind.TheVariants.{End}
 use Rattle.mdp_cert.specs.declared.error.Refusal.{Refusal}
 use Rattle.mdp_cert.specs.declared.init.Init.{Init}
 use Rattle.mdp_cert.specs.declared.reach_entry.ReachEntry.{ReachEntry}
 use Rattle.mdp_cert.specs.declared.version.Version.{Version}
 use Rattle.mdp_cert.specs.declared.version.Version.TheVariants.{One, Two}
 use Rattle.mdp_cert.specs.Cert.{PlainClaim, upper, reach, PlainBody, bounds, policy, Certificate, label_of, is_inside, is_body_of, IsInitInWidth, IsBodyInWidth, Fits}
-use Rattle.mdp_cert.specs.Lines.{◌>>=◌, refuse_if, is_line, Place, place, line_by}
+use Rattle.mdp_cert.specs.Lines.{◌>>=◌, Place, place, line_by}
 use Rattle.mdp_cert.specs.Claims.{bound_columns, policy_columns, policies}
-use Rattle.mdp_cert.specs.Spelling.{line, version_text, claim_text, states_text, init_text, state_lines, body_text, end_text, text_in, text_of, old_text_of}
-use Rattle.mdp_cert.specs.Reading.{version_at, claim_at, states_at, init_at, Head, head_from, entries_from, policy_body, body_from, end_from, outcome}
+use Rattle.mdp_cert.specs.Spelling.{line, version_text, claim_text, states_text, init_text, closed_lines, body_text, text_in, text_of, old_text_of}
+use Rattle.mdp_cert.specs.Reading.{version_at, claim_at, states_at, init_at, Head, head_from, entries_to_end, policy_body, body_from, nothing_behind, outcome}
 use Rattle.mdp_cert.proofs.Pieces.{Free}
 use Rattle.mdp_cert.proofs.Cuts.{same-number, number-same}
-use Rattle.mdp_cert.proofs.Feeds.{ok-is, bind_ok, refuse_ok, Line, Judged, judged-found, judged-again, due-line, due-again}
+use Rattle.mdp_cert.proofs.Feeds.{ok-is, bind_ok, refuse_ok, Line, Judged, judged-found, judged-again}
 use Rattle.mdp_cert.proofs.Claims.{claim-found, claim-again, free-claim}
 use Rattle.mdp_cert.proofs.Numbered.{version-found, version-again, free-version, states-found, states-again, free-states, init-found, init-again, free-init}
 use Rattle.mdp_cert.proofs.Columns.{bound-is_columns, policy-is_columns, IsPolicyInWidth}
-use Rattle.mdp_cert.proofs.Bodies.{Each, FoundAll, entries-found, entries-again}
+use Rattle.mdp_cert.proofs.Bodies.{Each, FoundClosed, closed-found, closed-again}
 use Rattle.mdp_cert.proofs.Policies.{length-policies, values-policies, choices-policies, ranks-policies, policies-of}
 
 -- ---- the head
@@ -41,7 +41,7 @@ abbrev pub lines-of-head : Head → List ℕ
 lines-of-head h = line (claim_text h.claim) ++ (line (states_text h.states) ++ line (init_text h.init))
 
 abbrev pub head-init : PlainClaim × Place → ℕ × Place → Result (Head × Place) Refusal
-head-init claim states = line_by (init_at states.0) states.1 >>= λ init. Ok (record { claim = claim.0; states = states.0; init = init.0 }, init.1)
+head-init claim states = line_by (init_at claim.0 states.0) states.1 >>= λ init. Ok (record { claim = claim.0; states = states.0; init = init.0 }, init.1)
 
 abbrev pub head-states : PlainClaim × Place → Result (Head × Place) Refusal
 head-states claim = line_by states_at claim.1 >>= head-init claim
@@ -55,14 +55,14 @@ unfolding head_from
 head-found p h q e =
     let one = bind_ok (line_by claim_at p) head-states (h, q) e in
     let two = bind_ok (line_by states_at one.0.1) (head-init one.0) (h, q) one.2 in
-    let three = bind_ok (line_by (init_at two.0.0) two.0.1) (λ init. Ok (record { claim = one.0.0; states = two.0.0; init = init.0 }, init.1)) (h, q) two.2 in
+    let three = bind_ok (line_by (init_at one.0.0 two.0.0) two.0.1) (λ init. Ok (record { claim = one.0.0; states = two.0.0; init = init.0 }, init.1)) (h, q) two.2 in
     let same : (let r : Head × Place = (record { claim = one.0.0; states = two.0.0; init = three.0.0 }, three.0.1) in r) ≡ (h, q) = ok-is _ _ three.2 in
     let c = judged-found claim_at p one.0.0 one.0.1 one.1 in
     let s = judged-found states_at one.0.1 two.0.0 two.0.1 two.1 in
-    let i = judged-found (init_at two.0.0) two.0.1 three.0.0 three.0.1 three.1 in
+    let i = judged-found (init_at one.0.0 two.0.0) two.0.1 three.0.0 three.0.1 three.1 in
     let claim = claim-found p.line c.text one.0.0 c.said in
     let states = states-found one.0.1.line s.text two.0.0 s.said in
-    let init = init-found two.0.0 two.0.1.line i.text three.0.0 i.said in
+    let init = init-found one.0.0 two.0.0 two.0.1.line i.text three.0.0 i.said in
     subst (λ (r : Head × Place). FoundHead p r.0 r.1) same (record {
       text = joined _ _ _ _ _ _ _ _ _ _ c.is.front s.is.front i.is.front claim.0 states.0 init.0;
       is = record { some = states.1; limit = states.2; name = claim.1; inside = init.1; width = init.2 };
@@ -80,7 +80,7 @@ head-again n h rest ok =
     ) (
     ap (λ (r : Result (PlainClaim × Place) Refusal). r >>= head-states) (judged-again claim_at n (claim_text h.claim) (line (states_text h.states) ++ (line (init_text h.init) ++ rest)) h.claim (free-claim h.claim ok.name) (claim-again n h.claim ok.name))
     ∙ ap (λ (r : Result (ℕ × Place) Refusal). r >>= head-init (h.claim, place (n + 1) (line (states_text h.states) ++ (line (init_text h.init) ++ rest)))) (judged-again states_at (n + 1) (states_text h.states) (line (init_text h.init) ++ rest) h.states (free-states h.states ok.limit) (states-again (n + 1) h.states ok.some ok.limit))
-    ∙ ap (λ (r : Result (Init × Place) Refusal). r >>= λ init. let q : Result (Head × Place) Refusal = Ok (record { claim = h.claim; states = h.states; init = init.0 }, init.1) in q) (judged-again (init_at h.states) (n + 1 + 1) (init_text h.init) rest h.init (free-init h.states h.init ok.inside ok.limit ok.width) (init-again h.states (n + 1 + 1) h.init ok.inside ok.limit ok.width))
+    ∙ ap (λ (r : Result (Init × Place) Refusal). r >>= λ init. let q : Result (Head × Place) Refusal = Ok (record { claim = h.claim; states = h.states; init = init.0 }, init.1) in q) (judged-again (init_at h.claim h.states) (n + 1 + 1) (init_text h.init) rest h.init (free-init h.states h.init ok.inside ok.limit ok.width) (init-again h.claim h.states (n + 1 + 1) h.init ok.inside ok.limit ok.width))
     )
 
 -- ---- the body
@@ -135,18 +135,18 @@ three-lengths states zs cs rs e =
 pub body-found : (v : Version) (claim : PlainClaim) (states : ℕ) (p : Place) (b : PlainBody) (q : Place) → states ≤ 2 ^ 20 → body_from v claim states p ≡ Ok (b, q) → FoundBody v claim states p b q
 unfolding body_from
 body-found v (upper label) states p b q limit e =
-    let all = bind_ok (entries_from v bound_columns states p) (λ xs. Ok (bounds xs.0, xs.1)) (b, q) e in
+    let all = bind_ok (entries_to_end v bound_columns states p) (λ xs. Ok (bounds xs.0, xs.1)) (b, q) e in
     let same : (let r : PlainBody × Place = (bounds all.0.0, all.0.1) in r) ≡ (b, q) = ok-is _ _ all.2 in
-    let f = entries-found bound_columns IsNarrow bound-is_columns states limit v p all.0.0 all.0.1 all.1 in
+    let f = closed-found bound_columns IsNarrow bound-is_columns states limit v p all.0.0 all.0.1 all.1 in
     subst (λ (r : PlainBody × Place). FoundBody v (upper label) states p r.0 r.1) same (record { text = f.text; fits = record { entries = same-number _ states f.count; width = each-all IsNarrow all.0.0 f.width } })
 body-found v (reach dir label) states p b q limit e =
-    let all = bind_ok (entries_from v policy_columns states p) (λ xs. Ok (policy_body xs.0, xs.1)) (b, q) e in
+    let all = bind_ok (entries_to_end v policy_columns states p) (λ xs. Ok (policy_body xs.0, xs.1)) (b, q) e in
     let same : (let r : PlainBody × Place = (policy_body all.0.0, all.0.1) in r) ≡ (b, q) = ok-is _ _ all.2 in
-    let f = entries-found policy_columns IsPolicyInWidth policy-is_columns states limit v p all.0.0 all.0.1 all.1 in
+    let f = closed-found policy_columns IsPolicyInWidth policy-is_columns states limit v p all.0.0 all.0.1 all.1 in
     let xs = all.0.0 in
     let lengths : Lengths states (map (λ x. x.value) xs) (map (λ x. x.choice) xs) (map (λ x. x.rank) xs) = record { values = length-map xs _ ∙ f.count; choices = length-map xs _ ∙ f.count; ranks = length-map xs _ ∙ f.count } in
     subst (λ (r : PlainBody × Place). FoundBody v (reach dir label) states p r.0 r.1) same (record {
-      text = f.text ∙ ap (λ (ys : List ReachEntry). state_lines v policy_columns ys ++ all.0.1.rest) (sym (policies-of xs));
+      text = f.text ∙ ap (λ (ys : List ReachEntry). closed_lines v policy_columns ys ++ all.0.1.rest) (sym (policies-of xs));
       fits = record {
         entries = three-same states _ _ _ lengths;
         width = (each-all IsNarrow _ (values-width xs f.width), each-all (λ c. c < 2 ^ 32) _ (choices-width xs f.width), each-all (λ r. r < 2 ^ 32) _ (ranks-width xs f.width));
@@ -162,7 +162,7 @@ policy-of xs = Ok (policy_body xs.0, xs.1)
 pub body-again : (v : Version) (claim : PlainClaim) (states n : ℕ) (b : PlainBody) (rest : List ℕ) → states ≤ 2 ^ 20 → FitsBody claim states b → (m : ℕ) × (body_from v claim states (place n (body_text v b ++ rest)) ≡ Ok (b, place m rest))
 unfolding body_from
 body-again v (upper label) states n (bounds zs) rest limit ok =
-    let r = entries-again bound_columns IsNarrow bound-is_columns states limit v n zs rest (number-same _ states ok.entries) (all-each IsNarrow zs ok.width) in
+    let r = closed-again bound_columns IsNarrow bound-is_columns states limit v n zs rest (number-same _ states ok.entries) (all-each IsNarrow zs ok.width) in
     (r.0, ap (λ (q : Result (List ℚ × Place) Refusal). q >>= bounds-of) r.1)
 body-again v (upper label) states n (policy zs cs rs) rest limit ok = absurd (let t = ok.entries in cc)
 body-again v (reach dir label) states n (bounds zs) rest limit ok = absurd (let t = ok.entries in cc)
@@ -170,7 +170,7 @@ body-again v (reach dir label) states n (policy zs cs rs) rest limit ok =
     let l = three-lengths states zs cs rs ok.entries in
     let a : length zs ≡ length cs = omega (arith, l.values, l.choices) in
     let b : length zs ≡ length rs = omega (arith, l.values, l.ranks) in
-    let r = entries-again policy_columns IsPolicyInWidth policy-is_columns states limit v n (policies zs cs rs) rest (length-policies zs cs rs a b ∙ l.values) (policies-width zs cs rs (all-each IsNarrow zs ok.width.0) (all-each (λ c. c < 2 ^ 32) cs ok.width.1) (all-each (λ r. r < 2 ^ 32) rs ok.width.2)) in
+    let r = closed-again policy_columns IsPolicyInWidth policy-is_columns states limit v n (policies zs cs rs) rest (length-policies zs cs rs a b ∙ l.values) (policies-width zs cs rs (all-each IsNarrow zs ok.width.0) (all-each (λ c. c < 2 ^ 32) cs ok.width.1) (all-each (λ r. r < 2 ^ 32) rs ok.width.2)) in
     let back : policy_body (policies zs cs rs) ≡ policy zs cs rs = parts _ _ _ _ _ _ (values-policies zs cs rs a b) (choices-policies zs cs rs a b) (ranks-policies zs cs rs a b) in
     (r.0, ap (λ (q : Result (List ReachEntry × Place) Refusal). q >>= policy-of) r.1 ∙ ap (λ (c : PlainBody). let q : Result (PlainBody × Place) Refusal = Ok (c, place r.0 rest) in q) back)
   where
@@ -179,24 +179,13 @@ body-again v (reach dir label) states n (policy zs cs rs) rest limit ok =
 
 -- ---- the end
 
-abbrev pub end-due : Unit {0} × Place → Result (Unit {0}) Refusal
-end-due end = refuse_if End end.1.line (ltb 0 (length end.1.rest))
+none-is : (xs : List ℕ) → ltb 0 (length xs) ≡ false → xs ≡ []
+none-is [] h = refl
+none-is (x ∷ xs) h = absurd (both_ways _ h (lt-ltb 0 (length (x ∷ xs)) (omega arith)))
 
-nothing : (xs : List ℕ) → ltb 0 (length xs) ≡ false → xs ≡ []
-nothing [] h = refl
-nothing (x ∷ xs) h = absurd (both_ways _ h (lt-ltb 0 (length (x ∷ xs)) (omega arith)))
-
-end-found : (p : Place) (u : Unit {0}) → end_from p ≡ Ok u → p.rest ≡ line end_text
-unfolding end_from
-end-found p u e =
-    let one = bind_ok (line_by (is_line Shape end_text) p) end-due u e in
-    let j = judged-found (is_line Shape end_text) p one.0.0 one.0.1 one.1 in
-    let rest : one.0.1.rest ≡ [] = nothing one.0.1.rest (refuse_ok _ End one.0.1.line u one.2) in
-    j.is.front ∙ ap₂ (λ (xs ys : List ℕ). line xs ++ ys) (due-line Shape p.line j.text end_text one.0.0 j.said) rest
-
-end-again : (n : ℕ) → end_from (place n (line end_text)) ≡ Ok tt
-unfolding end_from
-end-again n = ap (λ (r : Result (Unit {0} × Place) Refusal). r >>= end-due) (judged-again (is_line Shape end_text) n end_text [] tt refl (due-again Shape n end_text))
+nothing-found : (p : Place) (u : Unit {0}) → nothing_behind p ≡ Ok u → p.rest ≡ []
+unfolding nothing_behind
+nothing-found p u e = none-is p.rest (refuse_ok _ End p.line u e)
 
 -- ---- the whole text
 
@@ -204,7 +193,7 @@ abbrev pub whole : Head → PlainBody → Certificate
 whole h b = record { claim = h.claim; states = h.states; init = h.init; body = b }
 
 abbrev pub whole-end : Head → PlainBody × Place → Result Certificate Refusal
-whole-end h body = end_from body.1 >>= λ end. Ok (whole h body.0)
+whole-end h body = nothing_behind body.1 >>= λ nothing. Ok (whole h body.0)
 
 abbrev pub whole-body : Version → Head × Place → Result Certificate Refusal
 whole-body v head = body_from v head.0.claim head.0.states head.1 >>= whole-end head.0
@@ -223,15 +212,15 @@ text-found bytes c e =
     let one = bind_ok (line_by version_at (place 1 bytes)) whole-head c e in
     let head = bind_ok (head_from one.0.1) (whole-body one.0.0) c one.2 in
     let body = bind_ok (body_from one.0.0 head.0.0.claim head.0.0.states head.0.1) (whole-end head.0.0) c head.2 in
-    let end = bind_ok (end_from body.0.1) (λ end. Ok (whole head.0.0 body.0.0)) c body.2 in
+    let end = bind_ok (nothing_behind body.0.1) (λ nothing. Ok (whole head.0.0 body.0.0)) c body.2 in
     let same : whole head.0.0 body.0.0 ≡ c = ok-is _ _ end.2 in
     let j = judged-found version_at (place 1 bytes) one.0.0 one.0.1 one.1 in
     let h = head-found one.0.1 head.0.0 head.0.1 head.1 in
     let b = body-found one.0.0 head.0.0.claim head.0.0.states head.0.1 body.0.0 body.0.1 h.is.limit body.1 in
-    let z = end-found body.0.1 end.0 end.1 in
+    let z = nothing-found body.0.1 end.0 end.1 in
     subst (λ (d : Certificate). FoundText bytes d) same (record {
       version = one.0.0;
-      text = j.is.front ∙ joined j.text (version_text one.0.0) one.0.1.rest (lines-of-head head.0.0) head.0.1.rest (body_text one.0.0 body.0.0) body.0.1.rest _ (version-found 1 j.text one.0.0 j.said) h.text b.text z;
+      text = j.is.front ∙ joined j.text (version_text one.0.0) one.0.1.rest (lines-of-head head.0.0) head.0.1.rest (body_text one.0.0 body.0.0) body.0.1.rest (version-found 1 j.text one.0.0 j.said) h.text b.text z;
       fits = record {
         some = h.is.some;
         limit = h.is.limit;
@@ -243,20 +232,20 @@ text-found bytes c e =
       };
     })
   where
-    joined : (a a' r h s b t z : List ℕ) → a ≡ a' → r ≡ h ++ s → s ≡ b ++ t → t ≡ z → line a ++ r ≡ line a' ++ (h ++ (b ++ z))
-    joined a a' r h s b t z p q u v = rw (q, u, v, p) refl
+    joined : (a a' r h s b t : List ℕ) → a ≡ a' → r ≡ h ++ s → s ≡ b ++ t → t ≡ [] → line a ++ r ≡ line a' ++ (h ++ b)
+    joined a a' r h s b t p q u v = rw (q, u, v, p, append-nil b) refl
 
 pub text-again : (v : Version) (c : Certificate) → Fits c → outcome (text_in v c) ≡ Ok c
-unfolding outcome text_in
+unfolding outcome text_in nothing_behind
 text-again v c ok =
     let h : Head = record { claim = c.claim; states = c.states; init = c.init } in
     let head : IsHead h = record { some = ok.some; limit = ok.limit; name = ok.name; inside = ok.inside; width = ok.init_width } in
     let body : FitsBody c.claim c.states c.body = record { entries = ok.entries; width = ok.body_width } in
-    let b = body-again v c.claim c.states (1 + 1 + 1 + 1 + 1) c.body (line end_text) ok.limit body in
-    ap (λ (r : Result (Version × Place) Refusal). r >>= whole-head) (judged-again version_at 1 (version_text v) (lines-of-head h ++ (body_text v c.body ++ line end_text)) v (free-version v) (version-again 1 v))
-    ∙ ap (λ (r : Result (Head × Place) Refusal). r >>= whole-body v) (head-again (1 + 1) h (body_text v c.body ++ line end_text) head)
+    let b = body-again v c.claim c.states (1 + 1 + 1 + 1 + 1) c.body [] ok.limit body in
+    ap (λ (r : Result (Version × Place) Refusal). r >>= whole-head) (judged-again version_at 1 (version_text v) (lines-of-head h ++ body_text v c.body) v (free-version v) (version-again 1 v))
+    ∙ ap (λ (r : Result (Head × Place) Refusal). r >>= whole-body v) (head-again (1 + 1) h (body_text v c.body) head)
+    ∙ ap (λ (t : List ℕ). body_from v c.claim c.states (place (1 + 1 + 1 + 1 + 1) t) >>= whole-end h) (sym (append-nil (body_text v c.body)))
     ∙ ap (λ (r : Result (PlainBody × Place) Refusal). r >>= whole-end h) b.1
-    ∙ ap (λ (r : Result (Unit {0}) Refusal). r >>= λ end. let q : Result Certificate Refusal = Ok c in q) (end-again b.0)
 
 -- ---- the laws
 
@@ -278,9 +267,9 @@ pub read-back : (c : Certificate) → Fits c → (outcome (text_of c) ≡ Ok c) 
 read-back c fits = (text-again Two c fits, text-again One c fits)
 
 -- the version of a text
-version-read : (v : Version) (c : Certificate) → line_by version_at (place 1 (text_in v c)) ≡ Ok (v, place (1 + 1) (lines-of-head (record { claim = c.claim; states = c.states; init = c.init }) ++ (body_text v c.body ++ line end_text)))
+version-read : (v : Version) (c : Certificate) → line_by version_at (place 1 (text_in v c)) ≡ Ok (v, place (1 + 1) (lines-of-head (record { claim = c.claim; states = c.states; init = c.init }) ++ body_text v c.body))
 unfolding text_in
-version-read v c = judged-again version_at 1 (version_text v) (lines-of-head (record { claim = c.claim; states = c.states; init = c.init }) ++ (body_text v c.body ++ line end_text)) v (free-version v) (version-again 1 v)
+version-read v c = judged-again version_at 1 (version_text v) (lines-of-head (record { claim = c.claim; states = c.states; init = c.init }) ++ body_text v c.body) v (free-version v) (version-again 1 v)
 
 pub one-text : (v w : Version) (c d : Certificate) → Fits c → Fits d → text_in v c ≡ text_in w d → (v ≡ w) × (c ≡ d)
 one-text v w c d p q e =

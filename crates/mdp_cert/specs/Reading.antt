@@ -68,8 +68,14 @@ finite_at states n text = do
   inside ← refuse_if kind.Count n (not (nat_lt state states))
   Ok (Finite state value)
 
-unfoldable pub init_at : ℕ → ℕ → List ℕ → Result Init Refusal
-init_at states n text = if bytes_eq text (codes "init -") then Ok Missing else finite_at states n text
+-- a state with its value, or `-`
+unfoldable pub valued_at : ℕ → ℕ → List ℕ → Result Init Refusal
+valued_at states n text = if bytes_eq text (codes "init -") then Ok Missing else finite_at states n text
+
+-- the form of the line is the claim's
+abbrev pub init_at : PlainClaim → ℕ → ℕ → List ℕ → Result Init Refusal
+init_at (upper label) states n text = valued_at states n text
+init_at (reach dir label) states n text = valued_at states n text
 
 pub record Head : Type 0 where
   pub claim : PlainClaim
@@ -81,7 +87,7 @@ unfoldable pub head_from : Place → Result (Head × Place) Refusal
 head_from p = do
   claim ← line_by claim_at p
   states ← line_by states_at claim.1
-  init ← line_by (init_at states.0) states.1
+  init ← line_by (init_at claim.0 states.0) states.1
   Ok (record { claim = claim.0; states = states.0; init = init.0 }, init.1)
 
 -- ---- the lines of the states
@@ -145,20 +151,25 @@ entries_from v k states p = do
   runs ← runs_from states v k states 0 None p
   Ok (entries_of runs.0, runs.1)
 
+-- and the line `end` behind them
+unfoldable pub entries_to_end : {A : Type 0} → Version → Columns A → ℕ → Place → Result (List A × Place) Refusal
+entries_to_end v k states p = do
+  entries ← entries_from v k states p
+  end ← line_by (is_line kind.Shape end_text) entries.1
+  Ok (entries.0, end.1)
+
 abbrev pub policy_body : List ReachEntry → PlainBody
 policy_body xs = policy (map (λ x. x.value) xs) (map (λ x. x.choice) xs) (map (λ x. x.rank) xs)
 
+-- the lines behind the head, by the claim, with the line `end`
 unfoldable pub body_from : Version → PlainClaim → ℕ → Place → Result (PlainBody × Place) Refusal
-body_from v (upper label) states p = entries_from v bound_columns states p >>= λ xs. Ok (bounds xs.0, xs.1)
-body_from v (reach dir label) states p = entries_from v policy_columns states p >>= λ xs. Ok (policy_body xs.0, xs.1)
+body_from v (upper label) states p = entries_to_end v bound_columns states p >>= λ xs. Ok (bounds xs.0, xs.1)
+body_from v (reach dir label) states p = entries_to_end v policy_columns states p >>= λ xs. Ok (policy_body xs.0, xs.1)
 
 -- ---- the whole
 
--- the line `end`, and nothing behind it
-unfoldable pub end_from : Place → Result (Unit {0}) Refusal
-end_from p = do
-  end ← line_by (is_line kind.Shape end_text) p
-  refuse_if kind.End end.1.line (nat_lt 0 (length end.1.rest))
+unfoldable pub nothing_behind : Place → Result (Unit {0}) Refusal
+nothing_behind p = refuse_if kind.End p.line (nat_lt 0 (length p.rest))
 
 -- the certificate of which the bytes are one of the two texts, or the first line that breaks a rule
 unfoldable pub outcome : List ℕ → Result Certificate Refusal
@@ -166,5 +177,5 @@ outcome bytes = do
   version ← line_by version_at (place 1 bytes)
   head ← head_from version.1
   body ← body_from version.0 head.0.claim head.0.states head.1
-  end ← end_from body.1
+  nothing ← nothing_behind body.1
   Ok (record { claim = head.0.claim; states = head.0.states; init = head.0.init; body = body.0 })

@@ -66,17 +66,22 @@ run_lines k state (r ∷ rs) = line (run_text k state r) ++ run_lines k (state +
 abbrev pub state_lines : {A : Type 0} → Version → Columns A → List A → List ℕ
 state_lines v k xs = run_lines k 0 (runs_in v k xs)
 
-abbrev pub body_text : Version → PlainBody → List ℕ
-body_text v (bounds values) = state_lines v bound_columns values
-body_text v (policy values choices ranks) = state_lines v policy_columns (policies values choices ranks)
-
--- ---- the whole
-
 abbrev pub end_text : List ℕ
 end_text = codes "end"
 
+-- the lines of all states, and the line `end`
+abbrev pub closed_lines : {A : Type 0} → Version → Columns A → List A → List ℕ
+closed_lines v k xs = state_lines v k xs ++ line end_text
+
+-- a body ends with the line `end`
+abbrev pub body_text : Version → PlainBody → List ℕ
+body_text v (bounds values) = closed_lines v bound_columns values
+body_text v (policy values choices ranks) = closed_lines v policy_columns (policies values choices ranks)
+
+-- ---- the whole
+
 unfoldable pub text_in : Version → Certificate → List ℕ
-text_in v c = line (version_text v) ++ (head_text c ++ (body_text v c.body ++ line end_text))
+text_in v c = line (version_text v) ++ (head_text c ++ body_text v c.body)
 
 -- the text of version 2
 abbrev pub text_of : Certificate → List ℕ

@@ -1,8 +1,10 @@
 ghost use Rattle.std.specs.Prelude.{◌≡◌, Ok, MatchResult};
 ghost use Rattle.mdp_cert.specs.Answer.{Refuses, plain_head};
+ghost use Rattle.mdp_cert.specs.Cert.{plain_claim};
 ghost use Rattle.mdp_cert.specs.Lines.{place};
-ghost use Rattle.mdp_cert.specs.Reading.{version_at, states_at, finite_at, init_at, head_from};
+ghost use Rattle.mdp_cert.specs.Reading.{version_at, states_at, finite_at, valued_at, init_at, head_from};
 
+use crate::claim::Claim;
 use crate::claim_line::claim_at;
 use crate::error::{CertError, CertKind, Refusal};
 use crate::head::Head;
@@ -55,14 +57,23 @@ fn finite_at(states: u32, line: u64, text: &[u8]) -> Result<Init, Refusal>
 }
 
 /// What the line `init S V` or `init -` says.
-#[tactic(auto, unfolding(crate::specs::Reading::init_at))]
-fn init_at(states: u32, line: u64, text: &[u8]) -> Result<Init, Refusal>
-    ensures { result ≡ init_at states line text.now }
+#[tactic(auto, unfolding(crate::specs::Reading::valued_at))]
+fn valued_at(states: u32, line: u64, text: &[u8]) -> Result<Init, Refusal>
+    ensures { result ≡ valued_at states line text.now }
 {
     if text == b"init -".as_slice() {
         return Ok(Init::Missing);
     }
     finite_at(states, line, text)
+}
+
+/// What the line `init` says, in the form of the claim.
+fn init_at(claim: &Claim, states: u32, line: u64, text: &[u8]) -> Result<Init, Refusal>
+    ensures { result ≡ init_at (plain_claim claim.now) states line text.now }
+{
+    match claim {
+        Claim::Upper { .. } | Claim::Reach { .. } => valued_at(states, line, text),
+    }
 }
 
 /// Reads the lines 2 to 4, of claim, states and init, and gives the bytes behind them.
@@ -75,7 +86,7 @@ pub(crate) fn head_from(alloc: Global, bytes: &[u8]) -> Result<(Head, &[u8]), Ce
     let (text, rest) = next_line(3, rest)?;
     let states = states_at(3, text)?;
     let (text, rest) = next_line(4, rest)?;
-    let init = init_at(states, 4, text)?;
+    let init = init_at(&claim, states, 4, text)?;
     Ok((
         Head {
             claim,

@@ -1,8 +1,8 @@
-ghost use Rattle.std.specs.Prelude.{◌≡◌, ◌+◌, ◌<◌, ◌≤◌, ◌^◌, Ok, Err, IfOk, IfErr, MatchResult};
+ghost use Rattle.std.specs.Prelude.{◌≡◌, Ok, IfOk, IfErr, MatchResult};
 ghost use Rattle.mdp_cert.specs.Cert.{plain_claim, plain_body};
 ghost use Rattle.mdp_cert.specs.Plain.{plain};
 ghost use Rattle.mdp_cert.specs.Lines.{place};
-ghost use Rattle.mdp_cert.specs.Reading.{body_from, end_from, outcome};
+ghost use Rattle.mdp_cert.specs.Reading.{body_from, nothing_behind, outcome};
 ghost use Rattle.mdp_cert.specs.Answer.{Refuses};
 
 use crate::body::Body;
@@ -10,14 +10,14 @@ use crate::cert::Cert;
 use crate::claim::Claim;
 use crate::error::{CertError, CertKind, Refusal};
 use crate::head_lines::{head_from, version_at};
-use crate::lines::{is_line, next_line, refuse_if};
+use crate::lines::{next_line, refuse_if};
 use crate::reach_lines::reach_cert;
-use crate::state_lines::entries_from;
+use crate::state_lines::entries_to_end;
 use crate::version::Version;
 use mdp_farkas::UpperCert;
 use std::alloc::Global;
 
-/// Reads the lines of the states, from line 5 on, and gives the number of the line behind them and the bytes from there on.
+/// Reads the lines from line 5 on, by the claim, with the line `end`, and gives the number of the line behind it and the bytes from there on.
 #[tactic(auto, unfolding(crate::specs::Reading::body_from))]
 fn body_from<'a>(
     alloc: Global,
@@ -26,30 +26,26 @@ fn body_from<'a>(
     states: u32,
     bytes: &'a [u8],
 ) -> Result<(Body, u64, &'a [u8]), CertError>
-    ensures said { MatchResult result (λ p. body_from version (plain_claim claim.now) states (place 5 bytes.now) ≡ Ok (plain_body p.0, place p.1 p.2.now)) (λ e. Refuses e (body_from version (plain_claim claim.now) states (place 5 bytes.now))) }
-    ensures lines { IfOk result (λ p. p.1 ≤ 5 + states) }
+    ensures { MatchResult result (λ p. body_from version (plain_claim claim.now) states (place 5 bytes.now) ≡ Ok (plain_body p.0, place p.1 p.2.now)) (λ e. Refuses e (body_from version (plain_claim claim.now) states (place 5 bytes.now))) }
 {
     match claim {
         Claim::Upper { .. } => {
-            let (values, line, rest) = entries_from(alloc, version, states, 5, bytes)?;
+            let (values, line, rest) = entries_to_end(alloc, version, states, 5, bytes)?;
             Ok((Body::Upper(UpperCert { values }), line, rest))
         }
         Claim::Reach { .. } => {
-            let (entries, line, rest) = entries_from(alloc, version, states, 5, bytes)?;
+            let (entries, line, rest) = entries_to_end(alloc, version, states, 5, bytes)?;
             Ok((Body::Reach(reach_cert(alloc, &entries)?), line, rest))
         }
     }
 }
 
-/// Reads the line `end`, which has this number, and behind which nothing stands.
-#[tactic(auto, unfolding(crate::specs::Reading::end_from))]
-fn end_from(line: u64, bytes: &[u8]) -> Result<(), Refusal>
-    requires { line < 2 ^ 33 }
-    ensures { result ≡ end_from (place line bytes.now) }
+/// Nothing stands behind the line before this one.
+#[tactic(auto, unfolding(crate::specs::Reading::nothing_behind))]
+fn nothing_behind(line: u64, bytes: &[u8]) -> Result<(), Refusal>
+    ensures { result ≡ nothing_behind (place line bytes.now) }
 {
-    let (text, rest) = next_line(line, bytes)?;
-    is_line(CertKind::Shape, b"end", line, text)?;
-    refuse_if(CertKind::End, line + 1, !rest.is_empty())
+    refuse_if(CertKind::End, line, !bytes.is_empty())
 }
 
 /// Reads a certificate: the bytes are its text in one of the versions, or the refusal names the first line that breaks a rule.
@@ -62,7 +58,7 @@ pub fn read_cert(alloc: Global, bytes: &[u8]) -> Result<Cert, CertError>
     let version = version_at(1, text)?;
     let (head, rest) = head_from(alloc, rest)?;
     let (body, line, rest) = body_from(alloc, version, &head.claim, head.states, rest)?;
-    end_from(line, rest)?;
+    nothing_behind(line, rest)?;
     Ok(Cert {
         claim: head.claim,
         states: head.states,

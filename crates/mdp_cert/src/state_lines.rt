@@ -4,11 +4,11 @@ ghost use Rattle.mdp_cert.specs.Answer.{Refuses};
 ghost use Rattle.mdp_cert.specs.Lines.{place};
 ghost use Rattle.mdp_cert.specs.Words.{words};
 ghost use Rattle.mdp_cert.specs.Runs.{run};
-ghost use Rattle.mdp_cert.specs.Reading.{entry_at, state_at, run_at, is_same, line_of_states, longest_at, run_in, entries_from};
+ghost use Rattle.mdp_cert.specs.Reading.{entry_at, state_at, run_at, is_same, line_of_states, longest_at, run_in, entries_from, entries_to_end};
 
 use crate::entries::Entry;
 use crate::error::{CertError, CertKind, Refusal};
-use crate::lines::{next_line, refuse_if};
+use crate::lines::{is_line, next_line, refuse_if};
 use crate::numbers::whole_at;
 use crate::version::Version;
 use crate::words::{begins_with, cut_word, words_behind};
@@ -137,7 +137,7 @@ fn push_times<E: Entry>(entries: &mut Vec<E>, entry: E, times: u32) -> Result<()
 
 /// Reads the lines of the states, the first of which has this number, and gives their entries, the number of the line behind them and the
 /// bytes from there on.
-pub(crate) fn entries_from<E: Entry>(
+fn entries_from<E: Entry>(
     alloc: Global,
     version: Version,
     states: u32,
@@ -163,4 +163,22 @@ pub(crate) fn entries_from<E: Entry>(
         rest = behind;
     }
     Ok((entries, next, rest))
+}
+
+/// Reads the lines of the states and the line `end`, and gives the entries, the number of the line behind it and the bytes from there on.
+#[tactic(auto, unfolding(crate::specs::Reading::entries_to_end))]
+pub(crate) fn entries_to_end<E: Entry>(
+    alloc: Global,
+    version: Version,
+    states: u32,
+    line: u64,
+    bytes: &[u8],
+) -> Result<(Vec<E>, u64, &[u8]), CertError>
+    requires { line < 2 ^ 32 }
+    ensures { MatchResult result (λ p. entries_to_end version E.columns states (place line bytes.now) ≡ Ok (p.0.items, place p.1 p.2.now)) (λ e. Refuses e (entries_to_end version E.columns states (place line bytes.now))) }
+{
+    let (entries, next, rest) = entries_from(alloc, version, states, line, bytes)?;
+    let (text, rest) = next_line(next, rest)?;
+    is_line(CertKind::Shape, b"end", next, text)?;
+    Ok((entries, next + 1, rest))
 }

@@ -1,7 +1,7 @@
 ghost use Rattle.std.specs.Prelude.{◌≡◌, ◌++◌, ◌+◌, ◌<◌, OnOk, OnErr, length, drop};
 ghost use Rattle.mdp_cert.specs.Cert.{plain_body};
 ghost use Rattle.mdp_cert.specs.Plain.{plain};
-ghost use Rattle.mdp_cert.specs.Spelling.{line, state_lines, head_text, body_text, version_text, end_text, text_in, text_of, old_text_of};
+ghost use Rattle.mdp_cert.specs.Spelling.{line, state_lines, closed_lines, head_text, body_text, version_text, text_in, text_of, old_text_of};
 ghost use Rattle.mdp_cert.specs.Answer.{Keeps, same_next, more_same, more_in};
 
 use crate::body::Body;
@@ -87,25 +87,31 @@ fn push_entries<L: Lists>(
     Ok(())
 }
 
-/// Appends the lines of the states, by the claim.
+/// Appends the lines of the states and the line `end`.
+fn push_to_end<L: Lists>(
+    out: &mut Vec<u8>,
+    version: Version,
+    states: u32,
+    entries: &L,
+) -> Result<(), Memory>
+    requires { length (L.entries entries.now) ≡ states }
+    ensures text { OnOk result (out.new.items ≡ out.old.items ++ closed_lines version L.Item.columns (L.entries entries.now)) }
+    ensures front { Keeps out.old.items out.new.items }
+{
+    push_entries(out, version, states, entries)?;
+    out.extend_from_slice(b"end\n")?;
+    Ok(())
+}
+
+/// Appends the lines behind the head, by the claim, with the line `end`.
 fn push_body(out: &mut Vec<u8>, version: Version, cert: &Cert) -> Result<(), Memory>
     ensures text { OnOk result (out.new.items ≡ out.old.items ++ body_text version (plain_body cert.now.body)) }
     ensures front { Keeps out.old.items out.new.items }
 {
     match &cert.body {
-        Body::Upper(bounds) => push_entries(out, version, cert.states, bounds),
-        Body::Reach(policy) => push_entries(out, version, cert.states, policy),
+        Body::Upper(bounds) => push_to_end(out, version, cert.states, bounds),
+        Body::Reach(policy) => push_to_end(out, version, cert.states, policy),
     }
-}
-
-/// Appends the lines of the states and the last line.
-fn push_end(out: &mut Vec<u8>, version: Version, cert: &Cert) -> Result<(), Memory>
-    ensures text { OnOk result (out.new.items ≡ out.old.items ++ (body_text version (plain_body cert.now.body) ++ line end_text)) }
-    ensures front { Keeps out.old.items out.new.items }
-{
-    push_body(out, version, cert)?;
-    out.extend_from_slice(b"end\n")?;
-    Ok(())
 }
 
 /// Appends all lines; after `Memory` the text begins as before.
@@ -116,7 +122,7 @@ fn push_lines(out: &mut Vec<u8>, version: Version, cert: &Cert) -> Result<(), Me
 {
     push_version(out, version)?;
     push_head(out, cert)?;
-    push_end(out, version, cert)
+    push_body(out, version, cert)
 }
 
 /// Appends the text of this version; after `Memory` the text is as before.
