@@ -1,6 +1,7 @@
 -- What a row closes as.
 pub mod Denominators
 pub mod Parts
+pub mod Quotients
 pub mod Scaling
 pub mod Within
 use Rattle.std.proofs.Common.{◌≡◌, ◌≢◌, ℕ, ◌+◌, ◌*◌, ◌/◌, ◌<◌, ◌≤◌, Bool, true, false, ◌&&◌, T, lt-ltb, le-ltb, eqb, eq-eqb, List, pos, refl, sym, ap, subst, ◌∙◌, arith, if◌then◌else◌}

@@ -12,6 +12,7 @@ use crate::error::RowsError;
 use crate::given::Given;
 use crate::limits::MAX_TERM;
 use crate::rule::RowRule;
+use crate::terms::{den_of, num_of, ratio_of};
 use mdp_num::Frac;
 
 /// The least common multiple, where it is at most 10^36.
@@ -20,8 +21,8 @@ fn common_multiple(a: u128, b: u128) -> Option<u128>
     requires within { (a ≤ limit) × (b ≤ limit) }
     ensures { result ≡ (if nat_lt limit (lcm a b) then None else Some (lcm a b)) }
 {
-    let quotient = Frac::try_new(b as i128, a as i128).ok()?;
-    let multiple = quotient.den().unsigned_abs().checked_mul(b)?;
+    let quotient = ratio_of(b, a)?;
+    let multiple = den_of(&quotient).checked_mul(b)?;
     if multiple > MAX_TERM {
         None
     } else {
@@ -35,7 +36,7 @@ fn common_den(row: &[Given]) -> Option<u128>
 {
     let mut den = 1;
     for i in (0..row.len()).rev() {
-        den = common_multiple(den, row[i].value.den().unsigned_abs())?;
+        den = common_multiple(den, den_of(&row[i].value))?;
     }
     Some(den)
 }
@@ -48,8 +49,8 @@ fn sum_in_parts(row: &[Given], den: u128) -> Option<u128>
 {
     let mut parts = 0;
     for given in row {
-        let num = given.value.num().unsigned_abs();
-        let own_den = given.value.den().unsigned_abs();
+        let num = num_of(&given.value);
+        let own_den = den_of(&given.value);
         if num > 2 * own_den {
             return None;
         }
@@ -71,10 +72,9 @@ fn scaled_value(given: &Given, den: u128, parts: u128) -> Option<Frac>
     ensures value { MatchOption result (limit < ((given.now.value *ℚ inv_ℚ (ratio (pos parts) den)).den)) (λ x. x ≡ given.now.value *ℚ inv_ℚ (ratio (pos parts) den)) }
     ensures term { MatchOption result Unit (λ x. IsWithinLimit x) }
 {
-    let own_den = given.value.den().unsigned_abs();
-    let part = den / own_den * given.value.num().unsigned_abs();
-    let scaled = Frac::try_new(part as i128, parts as i128).ok()?;
-    if scaled.den().unsigned_abs() > MAX_TERM {
+    let part = den / den_of(&given.value) * num_of(&given.value);
+    let scaled = ratio_of(part, parts)?;
+    if den_of(&scaled) > MAX_TERM {
         None
     } else {
         Some(scaled)

@@ -22,6 +22,7 @@ mod rows;
 mod rows_of;
 mod rule;
 mod subsystem;
+mod terms;
 #[cfg(test)]
 mod tests;
 

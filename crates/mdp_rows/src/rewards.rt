@@ -4,13 +4,14 @@ ghost use Rattle.mdp_rows.specs.Draft.{has_small_terms, kept_sum, summed_rewards
 
 use crate::error::RowsError;
 use crate::limits::MAX_TERM;
+use crate::terms::{den_of, num_of};
 use mdp_num::Frac;
 
 /// Whether both lowest terms have magnitude at most 10^36.
 fn has_small_terms(reward: &Frac) -> bool
     ensures { result ≡ has_small_terms reward.now }
 {
-    reward.num().unsigned_abs() <= MAX_TERM && reward.den().unsigned_abs() <= MAX_TERM
+    num_of(reward) <= MAX_TERM && den_of(reward) <= MAX_TERM
 }
 
 /// The reward of a state and of its choice together.

@@ -6,6 +6,7 @@ ghost use Rattle.std.specs.List.{All};
 
 use crate::given::Given;
 use crate::row::Row;
+use crate::terms::num_of;
 use mdp_num::Frac;
 use std::alloc::{AllocError, Global};
 use std::marker::Model;
@@ -23,7 +24,7 @@ fn append_kept(
     targets.reserve(row.len())?;
     probs.reserve(row.len())?;
     for given in row {
-        if given.value.num() != 0 {
+        if num_of(&given.value) != 0 {
             targets.push(given.target)?;
             probs.push(given.value)?;
         }

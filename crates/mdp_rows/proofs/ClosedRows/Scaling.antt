@@ -1,13 +1,7 @@
 -- A row's values divided by their sum.
-use Rattle.std.proofs.Common.{◌≡◌, ◌≢◌, ℕ, zero, suc, ◌*◌, ◌/◌, ◌<◌, ◌≤◌, ◌^◌, false, Option, Some, to_z, mul-pos, List, [], ◌∷◌, length, map, get_or, slice_set, ℤ, pos}
+use Rattle.std.proofs.Common.{◌≡◌, ◌≢◌, ℕ, zero, suc, ◌*◌, ◌/◌, ◌<◌, ◌≤◌, Some, mul-pos, List, [], ◌∷◌, length, map, get_or, slice_set, pos}
 use Rattle.std.proofs.Common.{unsigned_abs, refl, sym, ap, ap₂, subst, ◌∙◌, arith, mul_comm}
-use Rattle.std.proofs.lemmas.Int.{ints, to_z_pos}
-use Rattle.std.proofs.Math.Nat.{div-le_self}
-use mir.Syntax.{w128}
-use Rattle.mdp_math.specs.Gcd.{gcd}
-use Rattle.mdp_math.specs.Written.{narrow_ℚ}
-use Rattle.mdp_math.proofs.Written.{narrow_ℚ-kept, num-ratio_signed, den-ratio_signed}
-use Rattle.mdp_num.specs.Value.{quotient}
+use Rattle.std.proofs.lemmas.Int.{ints}
 use Rattle.std.specs.Int.{◌∣◌}
 use Rattle.mdp_math.specs.Rational.{ℚ, ratio, inv_ℚ, ◌*ℚ◌, ◌≤ℚ◌}
 use Rattle.mdp_math.proofs.Laws.{is_self, is_ratio, is_of_int, same_is}
@@ -58,24 +52,6 @@ divided d p g h k l =
     ap₂ ◌*ℚ◌ (part_is d g h l) (inverse_is p d k h)
     ∙ ratio-mul (part d g) d d p h k
     ∙ same_is _ _ _ _ _ _ (is_ratio (pos (part d g * d)) (d * p) n) (is_ratio (pos (part d g)) p k) (ap (λ (m : ℕ). pos m) (shuffle (part d g) d p))
-
--- the same, as it is read
-quotient_wide : (a b : ℕ) → 0 < a → a < 2 ^ 127 → b < 2 ^ 127 → narrow_ℚ (ratio (pos b) a) ≡ Some (ratio (pos b) a)
-quotient_wide a b h k l =
-    let n : ℚ.num (ratio (pos b) a) ≡ pos (b / gcd b a) = num-ratio_signed false b a h in
-    let d : ℚ.den (ratio (pos b) a) ≡ a / gcd b a = den-ratio_signed false b a h in
-    let nb : b / gcd b a ≤ b = div-le_self b (gcd b a) in
-    let db : a / gcd b a ≤ a = div-le_self a (gcd b a) in
-    narrow_ℚ-kept (ratio (pos b) a) (let e : unsigned_abs (ℚ.num (ratio (pos b) a)) ≡ b / gcd b a = ap unsigned_abs n in omega arith) (omega arith)
-
-pub scaled_read : (d p q : ℕ) (g : Given) (o : Option ℚ) → 0 < d → 0 < p → d / g.value.den * g.value.den ≡ d → part d g ≤ p → p ≤ 2 * limit → q ≡ part d g
-    → (to_z w128 p ≢ pos 0 → o ≡ narrow_ℚ (quotient (to_z w128 q) (to_z w128 p))) → o ≡ Some (ratio (pos (part d g)) p)
-scaled_read d p q g o h k l m n e f =
-    let zp : to_z w128 p ≡ pos p = to_z_pos w128 p (omega arith) in
-    let zq : to_z w128 q ≡ pos q = to_z_pos w128 q (omega arith) in
-    f (λ z. let x : pos p ≡ pos 0 = sym zp ∙ z in absurd (omega (arith, ints)))
-    ∙ ap (λ (z : ℤ). narrow_ℚ (quotient (to_z w128 q) z)) zp ∙ ap (λ (z : ℤ). narrow_ℚ (quotient z (pos p))) zq ∙ ap (λ (x : ℕ). narrow_ℚ (ratio (pos x) p)) e
-    ∙ quotient_wide p (part d g) k (omega arith) (omega arith)
 
 pub some_same : (x y : ℚ) → Some x ≡ Some y → x ≡ y
 some_same x y e = cc

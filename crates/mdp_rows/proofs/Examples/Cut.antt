@@ -1,8 +1,8 @@
 -- A subsystem, computed.
-use Rattle.std.proofs.Common.{◌≡◌, ℕ, List, [], ◌∷◌, true, false, Bool, refl, pos}
+use Rattle.std.proofs.Common.{◌≡◌, ℕ, List, [], ◌∷◌, true, false, Bool, refl}
 use Rattle.std.specs.Prelude.{Ok}
 use Rattle.mdp_math.specs.Gcd.{gcd, gcd_with_fuel}
-use Rattle.mdp_math.specs.Rational.{ℚ, of_int, ratio, le_ℚ, ◌+ℚ◌}
+use Rattle.mdp_math.specs.Rational.{of_int, ratio, le_ℚ, ◌+ℚ◌}
 use Rattle.mdp_math.specs.Written.{narrow, narrow_ℚ, written_add}
 use Rattle.mdp_math.proofs.Order.{0ℚ}
 use Rattle.mdp_spec.specs.Mdp.{Entry, Choice, State, Mdp}

@@ -29,6 +29,9 @@ take_more row i g h = rw add-one (take-suc row i g h)
 abs_zero : (z : ℤ) → unsigned_abs z ≡ 0 → z ≡ pos 0
 abs_zero z e = omega (arith, ints)
 
+pub num_zero : (x : ℚ) → unsigned_abs x.num ≡ 0 → x.num ≡ pos 0
+num_zero x e = abs_zero x.num e
+
 cond_le : {X : Type 0} → (b : Bool) (g : X) (rest : List X) (n : ℕ) → length rest ≤ n → length (cond b (g ∷ rest) rest) ≤ suc n
 cond_le true g rest n h = omega arith
 cond_le false g rest n h = omega arith
