@@ -118,7 +118,7 @@ none-any p (x ∷ xs) h = by (p x) refl h (none-any p xs)
 
 -- ---- from the end
 
-pass-reverse : (p : ℕ → Bool) (xs : List ℕ) → Pass p xs → Pass p (reverse xs)
+pub pass-reverse : (p : ℕ → Bool) (xs : List ℕ) → Pass p xs → Pass p (reverse xs)
 pass-reverse p [] h = refl
 pass-reverse p (x ∷ xs) h =
     let a = and-parts (p x) (list_all p xs) h in

@@ -8,7 +8,7 @@ use Rattle.mdp_drn.proofs.body.Body.count_choices.Goals.{in_default-via-in-Some+
 pub returns-in_default : goal.returns-in_default
 returns-in_default c =
     let d = c.args.self.builder in
-    let made = sym (finish_due d c.requires.body.unrefused c.requires.none) ∙ c.in-Ok.ensures.model in
+    let made = sym (finish_due d c.requires.none) ∙ c.in-Ok.ensures.model in
     let all : has_choices d c.args.choices ≡ true =
     elim c.in_default.branch [
       | in_default-via-in-Some+else-announced-all_choices w ↦
