@@ -42,7 +42,8 @@ by_contents rule (line ∷ lines) d short = by (is_comment (content line)) refl 
     fits : length line ≤ longest_line
     fits = short 0 line (omega arith)
 
-    kept : (n : ℕ) (r : Result Part Refusal) → ByContents rule lines → part_in ((r >>= λ p. Ok (doc n p)) >>= λ e. after_lines rule e lines) ≡ (result-at none (part-at none) r >>= after_contents rule (contents_of lines))
+    kept : (n : ℕ) (r : Result Part Refusal) → ByContents rule lines
+        → part_in ((r >>= λ p. Ok (doc n p)) >>= λ e. after_lines rule e lines) ≡ (result-at none (part-at none) r >>= after_contents rule (contents_of lines))
     kept n (Ok p) rest = rest (doc n p)
     kept n (Err e) rest = refl
 

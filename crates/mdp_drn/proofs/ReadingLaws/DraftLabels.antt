@@ -29,7 +29,8 @@ choice_closed-labels d e h = by d.state h
     of-choice : (o : OpenState) (c : Option OpenChoice) → with_choice_closed d o c ≡ Ok e → SameLabels d e
     of-choice o None h = same-where d d e refl h
     of-choice o (Some c) h =
-        let r = bound (closed_row d.rule (length d.closed) (length o.choices) c.row) (λ row. Ok (record d { state = Some (record o { choices = o.choices ++ record { row = row; rewards = c.rewards } ∷ []; choice = None }) })) e h in
+        let r = bound (closed_row d.rule (length d.closed) (length o.choices) c.row)
+        (λ row. Ok (record d { state = Some (record o { choices = o.choices ++ record { row = row; rewards = c.rewards } ∷ []; choice = None }) })) e h in
         same-where d (record d { state = Some (record o { choices = o.choices ++ record { row = r.0; rewards = c.rewards } ∷ []; choice = None }) }) e refl r.2
 
     by : (s : Option OpenState) → choice_closed_in d s ≡ Ok e → SameLabels d e
@@ -61,7 +62,8 @@ choice_opened-labels d e rewards h = by d.state h
     by : (s : Option OpenState) → choice_opened_in d rewards s ≡ Ok e → SameLabels d e
     by None h = same-where d d e refl h
     by (Some o) h =
-        let p = passed (ltb (2 ^ 22) (closed_choices d + length o.choices + 1)) TooMany (summed_rewards o.rewards rewards >>= λ sums. Ok (record d { state = Some (record o { choice = Some (record { rewards = sums; row = [] }) }) })) e h in
+        let p = passed (ltb (2 ^ 22) (closed_choices d + length o.choices + 1)) TooMany
+        (summed_rewards o.rewards rewards >>= λ sums. Ok (record d { state = Some (record o { choice = Some (record { rewards = sums; row = [] }) }) })) e h in
         let b = bound (summed_rewards o.rewards rewards) (λ sums. Ok (record d { state = Some (record o { choice = Some (record { rewards = sums; row = [] }) }) })) e p.1 in
         same-where d (record d { state = Some (record o { choice = Some (record { rewards = b.0; row = [] }) }) }) e refl b.2
 

@@ -6,8 +6,10 @@ use Rattle.mdp_drn.specs.declared.error.DrnKind.{DrnKind}
 use Rattle.mdp_drn.specs.declared.error.DrnKind.TheVariants as kind
 use Rattle.mdp_drn.specs.Lines.{begins_with, without_blanks_before}
 use Rattle.mdp_drn.specs.Outcome.{◌>>=◌, refuse_if, given_or}
-use Rattle.mdp_drn.specs.Header.{Header, Next, AnyEntry, BlankLine, RewardNames, StateCount, ChoiceCount, Model, read, is_word, type_named, type_entry, value_type_entry, parameters_entry, reward_models_entry}
-use Rattle.mdp_drn.specs.Header.{nr_states_entry, nr_choices_entry, model_entry, entry_line, is_entry, names_in, words_of, count_in, with_states, names_line, states_line, choices_line, header_line}
+use Rattle.mdp_drn.specs.Header.{Header, Next, AnyEntry, BlankLine, RewardNames, StateCount, ChoiceCount, Model, read, is_word, type_named}
+use Rattle.mdp_drn.specs.Header.{type_entry, value_type_entry, parameters_entry, reward_models_entry}
+use Rattle.mdp_drn.specs.Header.{nr_states_entry, nr_choices_entry, model_entry, entry_line, is_entry, names_in, words_of, count_in, with_states}
+use Rattle.mdp_drn.specs.Header.{names_line, states_line, choices_line, header_line}
 use Rattle.mdp_drn.specs.HeaderView.{is_model}
 
 -- what is read goes on in this way, if it is read
@@ -73,7 +75,8 @@ line-goes RewardNames header text unended other =
     (goes-bind false (names_in (words_of text)) (λ names. read (record header { names = Some names }) AnyEntry) (λ names. goes-read false (record header { names = Some names }) AnyEntry refl))
 line-goes StateCount header text unended other =
     goes-cond false (length text == 0) _ _ (goes-read false header StateCount refl)
-    (goes-bind false (count_in (2 ^ 20) text) (with_states header) (λ n. goes-bind false (refuse_if kind.Count (n == 0)) (λ u. read (record header { states = Some n }) AnyEntry) (λ u. goes-read false (record header { states = Some n }) AnyEntry refl)))
+    (goes-bind false (count_in (2 ^ 20) text) (with_states header)
+    (λ n. goes-bind false (refuse_if kind.Count (n == 0)) (λ u. read (record header { states = Some n }) AnyEntry) (λ u. goes-read false (record header { states = Some n }) AnyEntry refl)))
 line-goes ChoiceCount header text unended other =
     goes-cond false (length text == 0) _ _ (goes-read false header ChoiceCount refl)
     (goes-bind false (count_in (2 ^ 22) text) (λ n. read (record header { choices = Some n }) AnyEntry) (λ n. goes-read false (record header { choices = Some n }) AnyEntry refl))

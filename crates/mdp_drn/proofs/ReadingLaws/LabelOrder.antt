@@ -17,7 +17,8 @@ use Rattle.mdp_drn.specs.Labels.{labels_in}
 use Rattle.mdp_drn.specs.Values.{rewards_in}
 use Rattle.mdp_drn.specs.Header.{Header, Next, AnyEntry, Model, no_entries, header_line}
 use Rattle.mdp_drn.specs.HeaderView.{is_model}
-use Rattle.mdp_drn.specs.Body.{Body, StateRead, EntryRead, judged, with_labels, begins_as, is_other_mark, is_rest_of_state, bracket_at, state_read, action_read, entry_read, state_line, action_line, entry_line, model_line}
+use Rattle.mdp_drn.specs.Body.{Body, StateRead, EntryRead, judged, with_labels, begins_as, is_other_mark, is_rest_of_state, bracket_at, state_read}
+use Rattle.mdp_drn.specs.Body.{action_read, entry_read, state_line, action_line, entry_line, model_line}
 use Rattle.mdp_drn.specs.Body.{is_state_line, is_action_line}
 use Rattle.mdp_drn.specs.Reading.{Part, InHeader, InModel, Document, nothing_read, named, longest_line, begun, kept_line, judged_line, at_line, at_end_of, at_end, after_lines, has_choices}
 use Rattle.mdp_drn.specs.Laws.{contents_of, or_none, labels_on, model_part, seen, ListsLabelsBySight}
@@ -100,7 +101,8 @@ module _ (b e : Body) (line : ℕ) where
       spelled = or_none (bracket_at (without_blanks_before (behind_digits (without_blanks_before (drop 5 text)))) >>= λ bracket. labels_in bracket.1)
 
       by : (s a : Bool) → cond s (state_line b line (without_blanks_before (drop 5 text))) (cond a (action_line b line (drop 6 text)) (entry_line b line text)) ≡ Ok e
-          → e.draft.labels ≡ seen b.draft.labels (cond s (or_none (bracket_at (without_blanks_before (behind_digits (without_blanks_before (drop 5 text)))) >>= λ bracket. labels_in bracket.1)) [])
+          → e.draft.labels ≡ seen b.draft.labels
+          (cond s (or_none (bracket_at (without_blanks_before (behind_digits (without_blanks_before (drop 5 text)))) >>= λ bracket. labels_in bracket.1)) [])
       by true a h = state-labels (without_blanks_before (drop 5 text)) h
       by false true h = choice-labels (drop 6 text) h
       by false false h = transition-labels text h
@@ -152,13 +154,15 @@ none-on : (text : List ℕ) → eqb (length text) 0 ≡ true → labels_on text 
 none-on [] h = refl
 none-on (x ∷ xs) h = let e : eqb (length (x ∷ xs)) 0 ≡ false = not_empty (length xs) in absurd cc
 
-model-goes : (rule : RowRule) (line : ℕ) (text : List ℕ) (choices : Option ℕ) (b : Body) (after : Part) → kept_line rule line text (InModel choices b) ≡ Ok after → Goes (InModel choices b) text after
+model-goes : (rule : RowRule) (line : ℕ) (text : List ℕ) (choices : Option ℕ) (b : Body) (after : Part)
+    → kept_line rule line text (InModel choices b) ≡ Ok after → Goes (InModel choices b) text after
 model-goes rule line text choices b after h = by (eqb (length text) 0) refl h
   where
     more : (known : List (List ℕ)) (texts : List (List ℕ)) → seen known (labels_of (text ∷ texts)) ≡ seen (seen known (labels_on text)) (labels_of texts)
     more known texts = ap (seen known) (flat_map-cons labels_on text texts) ∙ seen-append known (labels_on text) (labels_of texts)
 
-    by : (empty : Bool) → eqb (length text) 0 ≡ empty → cond empty (Ok (InModel choices b)) (model_line b line text >>= λ read. Ok (InModel choices read)) ≡ Ok after → Goes (InModel choices b) text after
+    by : (empty : Bool) → eqb (length text) 0 ≡ empty
+        → cond empty (Ok (InModel choices b)) (model_line b line text >>= λ read. Ok (InModel choices read)) ≡ Ok after → Goes (InModel choices b) text after
     by true is h =
         subst (Goes (InModel choices b) text) (same-part (InModel choices b) after h)
         (record { is_open = tt; labels = λ texts. more b.draft.labels texts ∙ ap (λ (names : List (List ℕ)). seen (seen b.draft.labels names) (labels_of texts)) (none-on text is) })

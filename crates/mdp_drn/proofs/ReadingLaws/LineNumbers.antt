@@ -1,5 +1,6 @@
 -- Which lines a refusal can name, and what a comment does to their numbers.
-use Rattle.std.proofs.Common.{◌≡◌, ℕ, suc, ◌+◌, ◌-◌, ◌^◌, ◌<◌, ◌≤◌, min, Bool, true, false, cond, ltb, List, [], ◌∷◌, ◌++◌, length, Result, Ok, Err, refl, ap, ap₂, subst, sym, ◌∙◌, arith, length-append}
+use Rattle.std.proofs.Common.{◌≡◌, ℕ, suc, ◌+◌, ◌-◌, ◌^◌, ◌<◌, ◌≤◌, min, Bool, true, false, cond, ltb, List, [], ◌∷◌, ◌++◌, length, Result, Ok, Err}
+use Rattle.std.proofs.Common.{refl, ap, ap₂, subst, sym, ◌∙◌, arith, length-append}
 use Rattle.std.proofs.lemmas.Bool.Decides.{nat_tests}
 use Rattle.mdp_spec.specs.Mdp.{Mdp}
 use Rattle.mdp_rows.specs.declared.rule.RowRule.{RowRule}
@@ -142,7 +143,8 @@ moved-is : (n : ℕ) (x : Result Mdp Refusal) → result-at (moved n) (λ m. m) 
 moved-is n (Ok m) = refl
 moved-is n (Err r) = refl
 
-pub comment-read : (rule : RowRule) (d : Document) (comment : List ℕ) → is_comment (content comment) ≡ true → length comment ≤ longest_line → at_line rule d comment ≡ Ok (doc (named (d.lines + 1)) d.part)
+pub comment-read : (rule : RowRule) (d : Document) (comment : List ℕ) → is_comment (content comment) ≡ true
+    → length comment ≤ longest_line → at_line rule d comment ≡ Ok (doc (named (d.lines + 1)) d.part)
 unfolding at_line
 comment-read rule d comment is short =
     let fits : ltb longest_line (length comment) ≡ false = grind (arith, nat_tests) in
@@ -155,7 +157,8 @@ moved-by_comment bytes others rule before behind comment p q is short few =
     from_others ∙ by (after_lines rule nothing_read before) refl ∙ ap (with_moved (length before)) (sym from_bytes)
   where
     from_bytes : outcome rule bytes ≡ ((after_lines rule nothing_read before >>= λ d. after_lines rule d behind) >>= at_end)
-    from_bytes = ap (λ (ls : List (List ℕ)). after_lines rule nothing_read ls >>= at_end) p ∙ ap (λ (x : Result Document Refusal). x >>= at_end) (after_lines-append rule nothing_read before behind)
+    from_bytes = ap (λ (ls : List (List ℕ)). after_lines rule nothing_read ls >>= at_end) p
+        ∙ ap (λ (x : Result Document Refusal). x >>= at_end) (after_lines-append rule nothing_read before behind)
 
     from_others : outcome rule others ≡ ((after_lines rule nothing_read before >>= λ d. after_lines rule d (comment ∷ behind)) >>= at_end)
     from_others =

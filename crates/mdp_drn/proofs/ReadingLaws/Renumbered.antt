@@ -10,7 +10,8 @@ use Rattle.mdp_drn.specs.declared.error.DrnKind.TheVariants as kind
 use Rattle.mdp_drn.specs.Lines.{content, is_comment, without_blanks_before}
 use Rattle.mdp_drn.specs.Outcome.{◌>>=◌, refuse_if, Refusal, at_line_of}
 use Rattle.mdp_drn.specs.Header.{Header, Next, AnyEntry, BlankLine, RewardNames, StateCount, ChoiceCount, Model, header_line, is_chain, announced, names_of}
-use Rattle.mdp_drn.specs.Body.{Body, line_of, kind_of, judged, with_draft, with_labels, state_read, action_read, entry_read, state_line, action_line, entry_line, model_line, is_state_line, is_action_line}
+use Rattle.mdp_drn.specs.Body.{Body, line_of, kind_of, judged, with_draft, with_labels, state_read, action_read, entry_read, state_line, action_line}
+use Rattle.mdp_drn.specs.Body.{entry_line, model_line, is_state_line, is_action_line}
 use Rattle.mdp_drn.specs.Reading.{Part, InHeader, InModel, Document, named, longest_line, begun, kept_line, judged_line, at_line, after_lines, at_end_of, at_end, has_choices}
 
 -- refused or not, under other numbers
@@ -25,7 +26,8 @@ abbrev same : {A : Type 0} → A → A
 same x = x
 
 module _ {A B C : Type 0} (f : ℕ → ℕ) where
-  pub bind-at : (r s : Result A Refusal) (k : A → Result B Refusal) (l : A → Result C Refusal) (g : B → C) → s ≡ result-at f same r → ((x : A) → l x ≡ result-at f g (k x)) → (s >>= l) ≡ result-at f g (r >>= k)
+  pub bind-at : (r s : Result A Refusal) (k : A → Result B Refusal) (l : A → Result C Refusal) (g : B → C)
+      → s ≡ result-at f same r → ((x : A) → l x ≡ result-at f g (k x)) → (s >>= l) ≡ result-at f g (r >>= k)
   bind-at r s k l g h rest = ap (λ (t : Result A Refusal). t >>= l) h ∙ by r
     where
       by : (r : Result A Refusal) → (result-at f same r >>= l) ≡ result-at f g (r >>= k)
@@ -69,21 +71,27 @@ module _ (f : ℕ → ℕ) where
     state-at : (behind : List ℕ) → state_line (body-at b) (f line) behind ≡ result-at f body-at (state_line b line behind)
     state-at behind =
         bind-at f (judged b line (all_closed b.draft)) (judged (body-at b) (f line) (all_closed b.draft)) _ _ body-at (judged-at b line (all_closed b.draft)) (λ closed.
-        bind-at f (at_line_of line (state_read closed (front_digits behind) (behind_digits behind))) (at_line_of (f line) (state_read closed (front_digits behind) (behind_digits behind))) _ _ body-at
+        bind-at f (at_line_of line (state_read closed (front_digits behind) (behind_digits behind)))
+        (at_line_of (f line) (state_read closed (front_digits behind) (behind_digits behind))) _ _ body-at
         (at_line-at f line (state_read closed (front_digits behind) (behind_digits behind))) (λ x.
-        bind-at f (judged b line (state_opened closed x.rewards)) (judged (body-at b) (f line) (state_opened closed x.rewards)) _ _ body-at (judged-at b line (state_opened closed x.rewards)) (λ opened.
-        bind-at f (judged b line (with_labels x.labels opened)) (judged (body-at b) (f line) (with_labels x.labels opened)) _ _ body-at (judged-at b line (with_labels x.labels opened)) (λ labelled. refl))))
+        bind-at f (judged b line (state_opened closed x.rewards)) (judged (body-at b) (f line) (state_opened closed x.rewards)) _ _ body-at
+        (judged-at b line (state_opened closed x.rewards)) (λ opened.
+        bind-at f (judged b line (with_labels x.labels opened)) (judged (body-at b) (f line) (with_labels x.labels opened)) _ _ body-at
+        (judged-at b line (with_labels x.labels opened)) (λ labelled. refl))))
 
     action-at : (rest : List ℕ) → action_line (body-at b) (f line) rest ≡ result-at f body-at (action_line b line rest)
     action-at rest =
         bind-at f (judged b line (choice_closed b.draft)) (judged (body-at b) (f line) (choice_closed b.draft)) _ _ body-at (judged-at b line (choice_closed b.draft)) (λ closed.
-        bind-at f (at_line_of line (action_read b.is_chain closed rest)) (at_line_of (f line) (action_read b.is_chain closed rest)) _ _ body-at (at_line-at f line (action_read b.is_chain closed rest)) (λ rewards.
-        bind-at f (judged b line (choice_opened closed rewards)) (judged (body-at b) (f line) (choice_opened closed rewards)) _ _ body-at (judged-at b line (choice_opened closed rewards)) (λ opened. refl)))
+        bind-at f (at_line_of line (action_read b.is_chain closed rest)) (at_line_of (f line) (action_read b.is_chain closed rest)) _ _ body-at
+        (at_line-at f line (action_read b.is_chain closed rest)) (λ rewards.
+        bind-at f (judged b line (choice_opened closed rewards)) (judged (body-at b) (f line) (choice_opened closed rewards)) _ _ body-at
+        (judged-at b line (choice_opened closed rewards)) (λ opened. refl)))
 
     entry-at : (text : List ℕ) → entry_line (body-at b) (f line) text ≡ result-at f body-at (entry_line b line text)
     entry-at text =
         bind-at f (at_line_of line (entry_read b.draft text)) (at_line_of (f line) (entry_read b.draft text)) _ _ body-at (at_line-at f line (entry_read b.draft text)) (λ x.
-        bind-at f (judged b line (after_entry b.draft x.target x.value)) (judged (body-at b) (f line) (after_entry b.draft x.target x.value)) _ _ body-at (judged-at b line (after_entry b.draft x.target x.value)) (λ draft. refl))
+        bind-at f (judged b line (after_entry b.draft x.target x.value)) (judged (body-at b) (f line) (after_entry b.draft x.target x.value)) _ _ body-at
+        (judged-at b line (after_entry b.draft x.target x.value)) (λ draft. refl))
 
     model_line-at : (text : List ℕ) → model_line (body-at b) (f line) text ≡ result-at f body-at (model_line b line text)
     unfolding model_line
@@ -159,7 +167,8 @@ module _ (f : ℕ → ℕ) (R : ℕ → ℕ → ℕ → Type 0) (h : Renumbers f
           kept (Ok p) = (more, refl)
           kept (Err e) = refl
 
-  pub lines-match : (m k l : ℕ) (part : Part) (lines : List (List ℕ)) → R (length lines + m) k l → Matches f (R m) (after_lines rule (doc k part) lines) (after_lines rule (doc l (part-at f part)) lines)
+  pub lines-match : (m k l : ℕ) (part : Part) (lines : List (List ℕ)) → R (length lines + m) k l
+      → Matches f (R m) (after_lines rule (doc k part) lines) (after_lines rule (doc l (part-at f part)) lines)
   lines-match m k l part [] r = (subst (λ (n : ℕ). R n k l) (zero-add m) r, refl)
   lines-match m k l part (line ∷ lines) r =
       let more : suc (length lines) + m ≡ suc (length lines + m) = omega arith in
