@@ -68,4 +68,8 @@ IsOneLine text = All (λ b. is_line_feed b ≡ false) text
 
 -- the model of a draft with nothing open, where as many states and choices are there as were announced
 abbrev pub counted : ℕ → Option ℕ → Draft → Result Mdp Refusal
-counted line choices closed = if has_choices closed choices && (length closed.closed == closed.announced) then Ok (record { names = closed.names; labels = closed.labels; states = closed.closed }) else Err (record { kind = Count; line = line })
+counted line choices closed = if has_choices closed choices && (length closed.closed == closed.announced) then Ok (record {
+  names = closed.names;
+  labels = closed.labels;
+  states = closed.closed;
+}) else Err (record { kind = Count; line = line })

@@ -1,7 +1,9 @@
 ghost use Rattle.std.specs.Prelude.{◌≡◌, ◌≤◌, ◌^◌, ◌<◌, IfOk, OnOk, map, ◌==◌, ◌||◌};
 ghost use Rattle.std.specs.List.{All, list_any};
 ghost use Rattle.mdp_rows.specs.Name.{are_different};
-ghost use Rattle.mdp_drn.specs.Header.{no_entries, names_line, states_line, choices_line, entry_line, header_line, is_word, is_entry, is_bad_name, names_in, words_of, count_in, is_chain, type_named, type_entry, value_type_entry, parameters_entry, reward_models_entry, nr_states_entry, nr_choices_entry, model_entry, with_states};
+ghost use Rattle.mdp_drn.specs.Header.{no_entries, names_line, states_line, choices_line, entry_line, header_line, is_word, is_entry, is_bad_name};
+ghost use Rattle.mdp_drn.specs.Header.{names_in, words_of, count_in, is_chain, type_named, type_entry, value_type_entry, parameters_entry};
+ghost use Rattle.mdp_drn.specs.Header.{reward_models_entry, nr_states_entry, nr_choices_entry, model_entry, with_states};
 ghost use Rattle.mdp_drn.specs.Lines.{is_blank};
 ghost use Rattle.mdp_drn.specs.HeaderView.{view, view_next, pair, is_model};
 ghost use Rattle.mdp_drn.specs.Parsing.{Says, told};

@@ -1,9 +1,15 @@
-ghost use Rattle.mdp_drn.specs.Laws.{RefusedAtFirst, IsReadOrRefused, IsReadOnce, IsNotBoth};
+ghost use Rattle.mdp_drn.specs.Laws.{RefusedAtFirst, DependsOnNothingBehind, NamesNoLaterLine, NamesLineOfText, DropsBlanks, IsReadByContents, IsMovedByComment, ListsLabelsBySight};
 
-/// Each text reads as one model or is refused in one way, at the first line that breaks a rule or at the end.
+/// What a reader of the profile may rely on, of any text. A refusal is that of the first line that breaks a rule, or of the end; nothing behind that
+/// line counts, and the line that is named isn't behind it. Comments, blanks and tabs at the ends of lines and a CR change no model and no kind.
+/// Labels come in the order of first sight.
 pub fn reading_law()
     ensures first { RefusedAtFirst }
-    ensures either { IsReadOrRefused }
-    ensures once { IsReadOnce }
-    ensures not_both { IsNotBoth }
+    ensures behind { DependsOnNothingBehind }
+    ensures found { NamesNoLaterLine }
+    ensures within { NamesLineOfText }
+    ensures blanks { DropsBlanks }
+    ensures contents { IsReadByContents }
+    ensures comment { IsMovedByComment }
+    ensures sight { ListsLabelsBySight }
 {}

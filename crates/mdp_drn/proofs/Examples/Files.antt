@@ -56,7 +56,9 @@ dash = codes "-" ∷ []
 -- ---- three times 0.333333
 
 abbrev thirds : List ℕ → List ℕ
-thirds value = codes "@type: MDP\n@parameters\n\n@reward_models\n\n@nr_states\n4\n@model\nstate 0 init\naction a\n1 : " ++ value ++ codes "\n2 : 0.333333\n3 : 0.333333\nstate 1 goal\naction a\n1 : 1\nstate 2\naction a\n2 : 1\nstate 3\naction a\n3 : 1\n"
+thirds value =
+    codes "@type: MDP\n@parameters\n\n@reward_models\n\n@nr_states\n4\n@model\nstate 0 init\naction a\n1 : " ++ value
+    ++ codes "\n2 : 0.333333\n3 : 0.333333\nstate 1 goal\naction a\n1 : 1\nstate 2\naction a\n2 : 1\nstate 3\naction a\n3 : 1\n"
 
 -- they don't add to 1
 exact_sum : Refused (thirds (codes "0.333333")) Exact kind.RowSum 10
@@ -140,7 +142,13 @@ empty = refl
 -- ---- layouts
 
 -- two reward models; a comment, CR, tabs, brackets, labels with and without quotes; a label twice; a value of 0, which is dropped
-rich : Reads (codes "// made by hand\r\n@type:MDP\r\n@value_type: double\n@reward_models\nfirst  second\n\n@nr_states\n\n2\n@model\nstate 0 [1/2, 2]\"is done\" init init\r\n//[s=0]\n\taction left [0.5,1]\n\t\t1:5e-1\n\t\t0 : 0.5\nstate 1[ ]\n\n\taction [name] []\n1 : 1.0\n0\t:\t0") Exact (record {
+abbrev rich_text : List ℕ
+rich_text =
+    codes "// made by hand\r\n@type:MDP\r\n@value_type: double\n@reward_models\nfirst  second\n\n@nr_states\n\n2\n@model\n"
+    ++ codes "state 0 [1/2, 2]\"is done\" init init\r\n//[s=0]\n\taction left [0.5,1]\n\t\t1:5e-1\n\t\t0 : 0.5\n"
+    ++ codes "state 1[ ]\n\n\taction [name] []\n1 : 1.0\n0\t:\t0"
+
+rich : Reads rich_text Exact (record {
   names = codes "first" ∷ codes "second" ∷ [];
   labels = codes "is done" ∷ codes "init" ∷ [];
   states =

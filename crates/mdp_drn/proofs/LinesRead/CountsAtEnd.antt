@@ -1,7 +1,7 @@
 -- The end of a model: as many states and choices as were announced.
 use Rattle.std.proofs.Common.{◌≡◌, ℕ, Bool, true, false, cond, ◌&&◌, ◌==◌, length, Option, Some, None, Result, Ok, Err, refl, sym, ap, ◌∙◌, eq-eqb}
 use Rattle.mdp_spec.specs.Mdp.{Mdp}
-use Rattle.mdp_rows.specs.Draft.{Draft, finished, after_finish, due_after, choice_closed_in, state_closed, state_closed_in, ◌>>=◌}
+use Rattle.mdp_rows.specs.Draft.{Draft, finished, after_finish, choice_closed_in, state_closed, state_closed_in, ◌>>=◌}
 use Rattle.mdp_rows.specs.declared.error.RowsError.{RowsError}
 use Rattle.mdp_rows.specs.declared.error.RowsError.TheVariants as rows
 use Rattle.mdp_drn.specs.declared.error.DrnKind.TheVariants as kind
@@ -17,10 +17,9 @@ or_model m (Ok x) = x
 or_model m (Err e) = m
 
 -- nothing is left to close
-pub finish_due : (d : Draft) → d.refused ≡ None → d.state ≡ None → due_after d (after_finish d) d.refused ≡ finished d
-finish_due d none closed =
-    ap (due_after d (after_finish d)) none
-    ∙ ap (λ (r : Result Draft RowsError). (r >>= state_closed) >>= finished) (ap (choice_closed_in d) closed)
+pub finish_due : (d : Draft) → d.state ≡ None → after_finish d ≡ finished d
+finish_due d closed =
+    ap (λ (r : Result Draft RowsError). (r >>= state_closed) >>= finished) (ap (choice_closed_in d) closed)
     ∙ ap (λ (r : Result Draft RowsError). r >>= finished) (ap (state_closed_in d) closed)
 
 abbrev short : ℕ → Result Mdp Refusal

@@ -1,12 +1,16 @@
 -- What the calls keep of a draft, and what follows where a call is let through.
-use Rattle.std.proofs.Common.{◌≡◌, ℕ, suc, ◌+◌, ◌^◌, ◌<◌, Bool, true, false, cond, eqb, ltb, leb, ◌||◌, List, [], ◌∷◌, ◌++◌, length, refl, sym, ap, subst, ◌∙◌, arith, Option, Some, None, Result, Ok, Err}
+use Rattle.std.proofs.Common.{◌≡◌, ℕ, suc, ◌+◌, ◌^◌, ◌<◌, Bool, true, false, cond, eqb, ltb, leb, ◌||◌, List, [], ◌∷◌, ◌++◌, length, refl, sym, ap}
+use Rattle.std.proofs.Common.{subst, ◌∙◌, arith, Option, Some, None, Result, Ok, Err}
 use Rattle.std.specs.List.{position_or_len}
 use Rattle.std.specs.Str.{bytes_eq}
 use Rattle.std.proofs.lemmas.Bool.Decides.{nat_tests}
 use Rattle.std.proofs.lemmas.List.{length-append}
 use Rattle.mdp_math.specs.Rational.{ℚ}
 use Rattle.mdp_spec.specs.Mdp.{Entry, State}
-use Rattle.mdp_rows.specs.Draft.{Draft, OpenState, OpenChoice, ◌>>=◌, choice_closed, choice_closed_in, with_choice_closed, closed_row, state_closed, state_closed_in, all_closed, state_opened, new_state, choice_opened, choice_opened_in, summed_rewards, closed_choices, after_label, label_in, with_name, with_place, after_entry, entry_in, with_choice_entry, has_target, with_entry, has_open_target, has_choice}
+use Rattle.mdp_rows.specs.Draft.{Draft, OpenState, OpenChoice, ◌>>=◌, choice_closed, choice_closed_in, with_choice_closed, closed_row, state_closed}
+use Rattle.mdp_rows.specs.Draft.{state_closed_in, all_closed, state_opened, new_state, choice_opened, choice_opened_in, summed_rewards}
+use Rattle.mdp_rows.specs.Draft.{closed_choices, after_label, label_in, with_name, with_place, after_entry, entry_in, with_choice_entry, has_target}
+use Rattle.mdp_rows.specs.Draft.{with_entry, has_open_target, has_choice}
 use Rattle.mdp_rows.specs.declared.error.RowsError.{RowsError}
 use Rattle.mdp_rows.specs.declared.error.RowsError.TheVariants.{NoChoice, TooMany, Target, Twice, Count}
 
@@ -72,7 +76,8 @@ choice-closed d e h = by d.state refl h
     of-choice : (o : OpenState) (c : Option OpenChoice) → d.state ≡ Some o → with_choice_closed d o c ≡ Ok e → Closes d e
     of-choice o None is h = subst (Closes d) (ok-is d e h) (stays-same d, λ k. k)
     of-choice o (Some c) is h =
-        let r = bound (closed_row d.rule (length d.closed) (length o.choices) c.row) (λ row. Ok (record d { state = Some (record o { choices = o.choices ++ record { row = row; rewards = c.rewards } ∷ []; choice = None }) })) e h in
+        let r = bound (closed_row d.rule (length d.closed) (length o.choices) c.row)
+        (λ row. Ok (record d { state = Some (record o { choices = o.choices ++ record { row = row; rewards = c.rewards } ∷ []; choice = None }) })) e h in
         let o2 : OpenState = record o { choices = o.choices ++ record { row = r.0; rewards = c.rewards } ∷ []; choice = None } in
         subst (Closes d) (ok-is (with_state d o2) e r.2) (record { names = refl; announced = refl; count = count-open d o is }, λ k. (o2, refl))
 
@@ -146,7 +151,8 @@ choice-opened d e rewards s h = by s.0 s.1 (ap (choice_opened_in d rewards) (sym
   where
     by : (o : OpenState) → d.state ≡ Some o → choice_opened_in d rewards (Some o) ≡ Ok e → Stays d e × HasChoice e
     by o is h =
-        let p = passed (ltb (2 ^ 22) (closed_choices d + length o.choices + 1)) TooMany (summed_rewards o.rewards rewards >>= λ sums. Ok (record d { state = Some (record o { choice = Some (record { rewards = sums; row = [] }) }) })) e h in
+        let p = passed (ltb (2 ^ 22) (closed_choices d + length o.choices + 1)) TooMany
+        (summed_rewards o.rewards rewards >>= λ sums. Ok (record d { state = Some (record o { choice = Some (record { rewards = sums; row = [] }) }) })) e h in
         let b = bound (summed_rewards o.rewards rewards) (λ sums. Ok (record d { state = Some (record o { choice = Some (record { rewards = sums; row = [] }) }) })) e p.1 in
         let c : OpenChoice = record { rewards = b.0; row = [] } in
         let o2 : OpenState = record o { choice = Some c } in
@@ -182,4 +188,11 @@ entry-given d e target value s h = by s.0 s.1 s.2 s.3 (ap (with_choice_entry d t
         let q = passed (has_target c.row target) Twice (cond (leb (2 ^ 24) d.entries) (Err TooMany) (Ok d2)) e p.1 in
         let r = passed (leb (2 ^ 24) d.entries) TooMany (Ok d2) e q.1 in
         subst (λ (x : Draft). Enters d x target) (ok-is d2 e r.1)
-        (record { stays = record { names = refl; announced = refl; count = count-open d o is }; choice = (o2, c2, refl, refl); inside = inside d.announced target p.0; once = open-target d target o c is chosen ∙ q.0 })
+        (record {
+          stays = record { names = refl; announced = refl; count = count-open d o is };
+          choice =
+              (o2, c2, refl, refl);
+          inside = inside d.announced target p.0;
+          once = open-target d target o c is chosen
+              ∙ q.0;
+        })

@@ -1,5 +1,6 @@
 -- What a header keeps from line to line.
-use Rattle.std.proofs.Common.{◌≡◌, ℕ, suc, ◌^◌, ◌≤◌, Bool, true, false, not, cond, ◌&&◌, ◌||◌, ◌==◌, eqb, nat_lt, nat_le, List, [], ◌∷◌, filter, drop, length, Option, Some, None, Result, Ok, Err, IsTrue, refl, sym, ap, subst, ◌∙◌, arith, is_some}
+use Rattle.std.proofs.Common.{◌≡◌, ℕ, suc, ◌^◌, ◌≤◌, Bool, true, false, not, cond, ◌&&◌, ◌||◌, ◌==◌, eqb, nat_lt, nat_le, List, [], ◌∷◌, filter, drop}
+use Rattle.std.proofs.Common.{length, Option, Some, None, Result, Ok, Err, IsTrue, refl, sym, ap, subst, ◌∙◌, arith, is_some}
 use Rattle.std.specs.Prelude.{codes}
 use Rattle.std.specs.List.{All, list_any, slice_split, onto_first}
 use Rattle.std.specs.Str.{bytes_eq}
@@ -12,7 +13,10 @@ use Rattle.mdp_drn.specs.declared.header.ModelType.{ModelType}
 use Rattle.mdp_drn.specs.Lines.{is_blank, is_line_feed, is_comment, begins_with, without_blanks_before}
 use Rattle.mdp_drn.specs.Labels.{begins_blank}
 use Rattle.mdp_drn.specs.Outcome.{◌>>=◌, refuse_if, given_or, at_line_of}
-use Rattle.mdp_drn.specs.Header.{Header, Next, AnyEntry, BlankLine, RewardNames, StateCount, ChoiceCount, Model, read, type_named, type_entry, value_type_entry, parameters_entry, reward_models_entry, nr_states_entry, nr_choices_entry, model_entry, entry_line, is_bad_name, names_in, words_of, count_in, with_states, is_entry, header_line, names_line, states_line, choices_line, is_word}
+use Rattle.mdp_drn.specs.Header.{Header, Next, AnyEntry, BlankLine, RewardNames, StateCount, ChoiceCount, Model, read, type_named, type_entry}
+use Rattle.mdp_drn.specs.Header.{value_type_entry, parameters_entry, reward_models_entry, nr_states_entry, nr_choices_entry, model_entry, entry_line}
+use Rattle.mdp_drn.specs.Header.{is_bad_name, names_in, words_of, count_in, with_states, is_entry, header_line, names_line, states_line, choices_line}
+use Rattle.mdp_drn.specs.Header.{is_word}
 use Rattle.mdp_num.specs.Digits.{is_digits, number}
 use Rattle.mdp_drn.specs.BodyView.{IsOneLine}
 use Rattle.mdp_drn.specs.DocumentView.{IsHeader, AreGiven, IsCount, IsCounted}
@@ -53,14 +57,16 @@ no_bad (x ∷ xs) all none = by (eqb x 32) (eqb x 9) (eqb x 10) (eqb x 13) (eqb 
     by false false false false false p h rest = rest h
 
 reward_name : (word : List ℕ) → nat_lt 0 (length word) ≡ true → All Plain word → is_bad_name word ≡ false → IsRewardName word
-reward_name word some all good = by (length word) (list_any (λ c. (c == 34) || (c == 13)) word) (list_any (λ b. b == 32 || b == 9 || b == 13 || b == 34 || b == 10) word) some good (no_bad word all)
+reward_name word some all good =
+    by (length word) (list_any (λ c. (c == 34) || (c == 13)) word) (list_any (λ b. b == 32 || b == 9 || b == 13 || b == 34 || b == 10) word) some good (no_bad word all)
   where
     by : (n : ℕ) (p q : Bool) → nat_lt 0 n ≡ true → (nat_lt 255 n || p) ≡ false → (p ≡ false → q ≡ false) → IsTrue ((nat_le 1 n && nat_le n 255) && not q)
     by n p q some good none = grind (arith, nat_tests)
 
 reward_names : (words : List (List ℕ)) → All (λ word. nat_lt 0 (length word) ≡ true) words → All (All Plain) words → list_any is_bad_name words ≡ false → All IsRewardName words
 reward_names [] some all good = All-nil IsRewardName
-reward_names (w ∷ ws) some all good = by (is_bad_name w) good (λ e. reward_name w (All-head (λ word. nat_lt 0 (length word) ≡ true) w ws some) (All-head (All Plain) w ws all) e) (λ rest. reward_names ws (All-tail (λ word. nat_lt 0 (length word) ≡ true) w ws some) (All-tail (All Plain) w ws all) rest)
+reward_names (w ∷ ws) some all good = by (is_bad_name w) good (λ e. reward_name w (All-head (λ word. nat_lt 0 (length word) ≡ true) w ws some) (All-head (All Plain) w ws all) e)
+    (λ rest. reward_names ws (All-tail (λ word. nat_lt 0 (length word) ≡ true) w ws some) (All-tail (All Plain) w ws all) rest)
   where
     by : (b : Bool) → (b || list_any is_bad_name ws) ≡ false → (b ≡ false → IsRewardName w) → (list_any is_bad_name ws ≡ false → All IsRewardName ws) → All IsRewardName (w ∷ ws)
     by true h first rest = absurd cc
@@ -124,12 +130,17 @@ not_reserved t ts (c ∷ rest) begins entry comment =
     let w = begins c rest refl in
     neither (eqb t 64) (eqb t 47 && eqb c 47) (at_sign t entry) (slashes t c (subst (λ (xs : List ℕ). is_comment (t ∷ xs) ≡ false) w.1 comment))
 
-words_first : (text : List ℕ) → begins_blank text ≡ false → is_entry text ≡ false → is_comment text ≡ false → (w : List ℕ) (ws : List (List ℕ)) → words_of text ≡ w ∷ ws → IsTrue (not (first_is_reserved (w ∷ ws)))
+words_first : (text : List ℕ) → begins_blank text ≡ false → is_entry text ≡ false → is_comment text ≡ false
+    → (w : List ℕ) (ws : List (List ℕ)) → words_of text ≡ w ∷ ws → IsTrue (not (first_is_reserved (w ∷ ws)))
 words_first [] blank entry comment w ws is = absurd cc
 words_first (t ∷ ts) blank entry comment w ws is =
     let f = first_part ts in
-    let split : slice_split is_blank (t ∷ ts) ≡ (t ∷ f.0) ∷ f.1 = ap (λ (b : Bool). cond b ([] ∷ slice_split is_blank ts) (onto_first t (slice_split is_blank ts))) blank ∙ ap (onto_first t) f.2 in
-    let words : (t ∷ f.0) ∷ filter (λ word. nat_lt 0 (length word)) f.1 ≡ w ∷ ws = sym (ap (filter (λ (word : List ℕ). nat_lt 0 (length word))) split ∙ ap (λ (b : Bool). cond b ((t ∷ f.0) ∷ filter (λ (word : List ℕ). nat_lt 0 (length word)) f.1) (filter (λ (word : List ℕ). nat_lt 0 (length word)) f.1)) (some (length f.0))) ∙ is in
+    let split : slice_split is_blank (t ∷ ts) ≡ (t ∷ f.0) ∷ f.1 =
+    ap (λ (b : Bool). cond b ([] ∷ slice_split is_blank ts) (onto_first t (slice_split is_blank ts))) blank ∙ ap (onto_first t) f.2 in
+    let words : (t ∷ f.0) ∷ filter (λ word. nat_lt 0 (length word)) f.1 ≡ w ∷ ws = sym
+    (ap (filter (λ (word : List ℕ). nat_lt 0 (length word))) split
+    ∙ ap (λ (b : Bool). cond b ((t ∷ f.0) ∷ filter (λ (word : List ℕ). nat_lt 0 (length word)) f.1) (filter (λ (word : List ℕ). nat_lt 0 (length word)) f.1)) (some (length f.0)))
+    ∙ is in
     subst (λ (xs : List (List ℕ)). IsTrue (not (first_is_reserved xs))) words (not_reserved t ts f.0 f.3 entry comment)
   where
     some : (n : ℕ) → nat_lt 0 (suc n) ≡ true
@@ -153,7 +164,8 @@ names_given text one blank entry comment good few =
     count : (n : ℕ) → nat_lt 16 n ≡ false → n ≤ 16
     count n h = grind (arith, nat_tests)
 
-    by : (words : List (List ℕ)) → ((w : List ℕ) (ws : List (List ℕ)) → words ≡ w ∷ ws → IsTrue (not (first_is_reserved (w ∷ ws)))) → All (λ word. nat_lt 0 (length word) ≡ true) words → All (All Plain) words
+    by : (words : List (List ℕ)) → ((w : List ℕ) (ws : List (List ℕ)) → words ≡ w ∷ ws → IsTrue (not (first_is_reserved (w ∷ ws))))
+        → All (λ word. nat_lt 0 (length word) ≡ true) words → All (All Plain) words
         → (list_any is_bad_name words || not (are_different words)) ≡ false → nat_lt 16 (length words) ≡ false → AreGiven (Some words)
     by [] first some all good few = tt
     by (w ∷ ws) first some all good few = record {
@@ -216,16 +228,20 @@ module _ (header : Header) (given : AreGiven header.names) (count : IsCount head
       (λ _. keeps_read (record header { has_value_type = true }) AnyEntry (record { names = given; states = count }))
 
   parameters_keeps : Keeps (parameters_entry header)
-  parameters_keeps = keeps_if kind.Header header.has_parameters (read (record header { has_parameters = true }) BlankLine) (λ _. keeps_read (record header { has_parameters = true }) BlankLine (record { names = given; states = count }))
+  parameters_keeps = keeps_if kind.Header header.has_parameters (read (record header { has_parameters = true }) BlankLine)
+      (λ _. keeps_read (record header { has_parameters = true }) BlankLine (record { names = given; states = count }))
 
   reward_models_keeps : Keeps (reward_models_entry header)
-  reward_models_keeps = keeps_if kind.Header (is_some header.names) (read (record header { names = Some [] }) RewardNames) (λ _. keeps_read (record header { names = Some [] }) RewardNames (record { names = tt; states = count }))
+  reward_models_keeps = keeps_if kind.Header (is_some header.names) (read (record header { names = Some [] }) RewardNames)
+      (λ _. keeps_read (record header { names = Some [] }) RewardNames (record { names = tt; states = count }))
 
   nr_states_keeps : Keeps (nr_states_entry header)
-  nr_states_keeps = keeps_if kind.Header (is_some header.states) (read (record header { states = Some 0 }) StateCount) (λ _. keeps_read (record header { states = Some 0 }) StateCount (record { names = given; states = tt }))
+  nr_states_keeps = keeps_if kind.Header (is_some header.states) (read (record header { states = Some 0 }) StateCount)
+      (λ _. keeps_read (record header { states = Some 0 }) StateCount (record { names = given; states = tt }))
 
   nr_choices_keeps : Keeps (nr_choices_entry header)
-  nr_choices_keeps = keeps_if kind.Header (is_some header.choices) (read (record header { choices = Some 0 }) ChoiceCount) (λ _. keeps_read (record header { choices = Some 0 }) ChoiceCount (record { names = given; states = count }))
+  nr_choices_keeps = keeps_if kind.Header (is_some header.choices) (read (record header { choices = Some 0 }) ChoiceCount)
+      (λ _. keeps_read (record header { choices = Some 0 }) ChoiceCount (record { names = given; states = count }))
 
   model_keeps : Keeps (model_entry header)
   model_keeps =
@@ -257,7 +273,8 @@ module _ (header : Header) (given : AreGiven header.names) (count : IsCount head
   unfolding entry_line
   entry_keeps text =
       keeps_cond (begins_with (codes "@type:") text) (type_entry header (without_blanks_before (drop 6 text))) (from_value_type text) (type_keeps (without_blanks_before (drop 6 text))) (λ _.
-      keeps_cond (begins_with (codes "@value_type:") text) (value_type_entry header (without_blanks_before (drop 12 text))) (from_parameters text) (value_type_keeps (without_blanks_before (drop 12 text))) (λ _.
+      keeps_cond (begins_with (codes "@value_type:") text) (value_type_entry header (without_blanks_before (drop 12 text))) (from_parameters text)
+      (value_type_keeps (without_blanks_before (drop 12 text))) (λ _.
       keeps_cond (bytes_eq text (codes "@parameters")) (parameters_entry header) (from_rewards text) parameters_keeps (λ _.
       keeps_cond (bytes_eq text (codes "@reward_models")) (reward_models_entry header) (from_states text) reward_models_keeps (λ _.
       keeps_cond (bytes_eq text (codes "@nr_states")) (nr_states_entry header) (from_choices text) nr_states_keeps (λ _.
@@ -265,7 +282,8 @@ module _ (header : Header) (given : AreGiven header.names) (count : IsCount head
       keeps_cond (bytes_eq text (codes "@placeholders")) (Err kind.Parametric) (from_model text) (keeps_err kind.Parametric) (λ _.
       keeps_cond (bytes_eq text (codes "@model")) (model_entry header) (Err kind.Header) model_keeps (λ _. keeps_err kind.Header))))))))
 
-names_keeps : (header : Header) (text : List ℕ) → IsCount header.states → IsOneLine text → begins_blank text ≡ false → is_entry text ≡ false → is_comment text ≡ false → Keeps (names_line header text)
+names_keeps : (header : Header) (text : List ℕ) → IsCount header.states → IsOneLine text
+    → begins_blank text ≡ false → is_entry text ≡ false → is_comment text ≡ false → Keeps (names_line header text)
 unfolding names_in
 names_keeps header text count one blank entry comment =
     by (list_any is_bad_name (words_of text) || not (are_different (words_of text))) (nat_lt 16 (length (words_of text))) (names_given text one blank entry comment)
@@ -288,23 +306,30 @@ count_keeps most text f keeps = by (not (is_digits text)) (nat_lt most (number t
     by false false k = k refl
 
 states_keeps : (header : Header) (text : List ℕ) → AreGiven header.names → Keeps (states_line header text)
-states_keeps header text given = count_keeps (2 ^ 20) text (with_states header) (λ n le. keeps_if kind.Count (n == 0) (read (record header { states = Some n }) AnyEntry) (λ some. keeps_read (record header { states = Some n }) AnyEntry (record { names = given; states = (above n some, le) })))
+states_keeps header text given = count_keeps (2 ^ 20) text (with_states header)
+    (λ n le. keeps_if kind.Count (n == 0) (read (record header { states = Some n }) AnyEntry)
+    (λ some. keeps_read (record header { states = Some n }) AnyEntry (record { names = given; states = (above n some, le) })))
   where
     above : (n : ℕ) → (n == 0) ≡ false → 1 ≤ n
     above n h = grind (arith, nat_tests)
 
 -- a line that is no comment, without blanks before it
-pub header_keeps : (next : Next) (header : Header) (text : List ℕ) → IsHeader header next → IsOneLine text → begins_blank text ≡ false → is_comment text ≡ false → Keeps (header_line next header text)
-header_keeps AnyEntry header text is one blank comment = keeps_cond (length text == 0) (read header AnyEntry) (entry_line header text) (keeps_read header AnyEntry is) (λ _. entry_keeps header is.names is.states text)
+pub header_keeps : (next : Next) (header : Header) (text : List ℕ) → IsHeader header next → IsOneLine text
+    → begins_blank text ≡ false → is_comment text ≡ false → Keeps (header_line next header text)
+header_keeps AnyEntry header text is one blank comment =
+    keeps_cond (length text == 0) (read header AnyEntry) (entry_line header text) (keeps_read header AnyEntry is) (λ _. entry_keeps header is.names is.states text)
 header_keeps BlankLine header text is one blank comment =
-    keeps_cond (length text == 0) (read header AnyEntry) (cond (is_entry text) (entry_line header text) (Err kind.Parametric)) (keeps_read header AnyEntry (record { names = is.names; states = is.states }))
+    keeps_cond (length text == 0) (read header AnyEntry) (cond (is_entry text) (entry_line header text) (Err kind.Parametric))
+    (keeps_read header AnyEntry (record { names = is.names; states = is.states }))
     (λ _. keeps_cond (is_entry text) (entry_line header text) (Err kind.Parametric) (entry_keeps header is.names is.states text) (λ _. keeps_err kind.Parametric))
 header_keeps RewardNames header text is one blank comment =
     keeps_cond (is_entry text) (entry_line header text) (names_line header text) (entry_keeps header is.names is.states text) (λ plain. names_keeps header text is.states one blank plain comment)
-header_keeps StateCount header text is one blank comment = keeps_cond (length text == 0) (read header StateCount) (states_line header text) (keeps_read header StateCount is) (λ _. states_keeps header text is.names)
+header_keeps StateCount header text is one blank comment =
+    keeps_cond (length text == 0) (read header StateCount) (states_line header text) (keeps_read header StateCount is) (λ _. states_keeps header text is.names)
 header_keeps ChoiceCount header text is one blank comment =
     keeps_cond (length text == 0) (read header ChoiceCount) (choices_line header text) (keeps_read header ChoiceCount is)
-    (λ _. count_keeps (2 ^ 22) text (λ n. read (record header { choices = Some n }) AnyEntry) (λ n le. keeps_read (record header { choices = Some n }) AnyEntry (record { names = is.names; states = is.states })))
+    (λ _. count_keeps (2 ^ 22) text (λ n. read (record header { choices = Some n }) AnyEntry)
+    (λ n le. keeps_read (record header { choices = Some n }) AnyEntry (record { names = is.names; states = is.states })))
 header_keeps Model header text is one blank comment = keeps_read header Model is
 
 -- ---- where the model begins

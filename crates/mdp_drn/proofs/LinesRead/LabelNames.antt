@@ -1,5 +1,6 @@
 -- Labels that are read are names: 1 to 255 bytes without `"` and LF.
-use Rattle.std.proofs.Common.{◌≡◌, ℕ, zero, suc, Bool, true, false, not, cond, ◌&&◌, ◌||◌, ◌==◌, ◌+◌, eqb, nat_lt, nat_le, List, [], ◌∷◌, take, length, Result, Ok, Err, IsTrue, refl, ap, subst, ◌∙◌, arith}
+use Rattle.std.proofs.Common.{◌≡◌, ℕ, zero, suc, Bool, true, false, not, cond, ◌&&◌, ◌||◌, ◌==◌, ◌+◌, eqb, nat_lt, nat_le, List, [], ◌∷◌, take}
+use Rattle.std.proofs.Common.{length, Result, Ok, Err, IsTrue, refl, ap, subst, ◌∙◌, arith}
 use Rattle.std.specs.List.{All, list_any, prefix_len}
 use Rattle.std.proofs.lemmas.Bool.Decides.{nat_tests}
 use Rattle.std.proofs.lemmas.List.Elements.{All-take, All-drop, All-cons, All-nil, All-head, All-tail}
@@ -16,7 +17,8 @@ no_quote : (bytes : List ℕ) → list_any is_quote (before_first is_quote bytes
 no_quote [] = refl
 no_quote (x ∷ xs) = by (is_quote x) refl (no_quote xs)
   where
-    by : (b : Bool) → is_quote x ≡ b → list_any is_quote (before_first is_quote xs) ≡ false → list_any is_quote (take (cond (not b) (1 + prefix_len (λ c. not (is_quote c)) xs) 0) (x ∷ xs)) ≡ false
+    by : (b : Bool) → is_quote x ≡ b → list_any is_quote (before_first is_quote xs) ≡ false
+        → list_any is_quote (take (cond (not b) (1 + prefix_len (λ c. not (is_quote c)) xs) 0) (x ∷ xs)) ≡ false
     by true e rest = refl
     by false e rest =
         let more : suc (prefix_len (λ c. not (is_quote c)) xs) ≡ 1 + prefix_len (λ c. not (is_quote c)) xs = omega arith in
@@ -26,7 +28,8 @@ plain : (name : List ℕ) → list_any is_quote name ≡ false → IsOneLine nam
 plain [] none one = refl
 plain (x ∷ xs) none one = by (eqb x 34) (eqb x 10) none (All-head (λ b. is_line_feed b ≡ false) x xs one) (λ rest. plain xs rest (All-tail (λ b. is_line_feed b ≡ false) x xs one))
   where
-    by : (p q : Bool) → (p || list_any is_quote xs) ≡ false → q ≡ false → (list_any is_quote xs ≡ false → list_any (λ b. b == 34 || b == 10) xs ≡ false) → ((p || q) || list_any (λ b. b == 34 || b == 10) xs) ≡ false
+    by : (p q : Bool) → (p || list_any is_quote xs) ≡ false → q ≡ false
+        → (list_any is_quote xs ≡ false → list_any (λ b. b == 34 || b == 10) xs ≡ false) → ((p || q) || list_any (λ b. b == 34 || b == 10) xs) ≡ false
     by true q h k rest = absurd cc
     by false true h k rest = absurd cc
     by false false h k rest = rest h
@@ -74,7 +77,8 @@ quoted_good bytes one = by (from_first is_quote bytes) (All-drop NoFeed (prefix_
     by [] plain x y h = absurd cc
     by (quote ∷ rest) plain x y h =
         good_if (is_sized (before_first is_quote bytes) && ((length rest == 0) || begins_blank rest)) (before_first is_quote bytes) rest
-        (λ test. sized_name (before_first is_quote bytes) (and_left (is_sized (before_first is_quote bytes)) _ test) (no_quote bytes) (All-take NoFeed (prefix_len (λ c. not (is_quote c)) bytes) bytes one))
+        (λ test. sized_name (before_first is_quote bytes) (and_left (is_sized (before_first is_quote bytes)) _ test)
+        (no_quote bytes) (All-take NoFeed (prefix_len (λ c. not (is_quote c)) bytes) bytes one))
         (All-tail NoFeed quote rest plain) x y h
 
 and_right_not : (a b : Bool) → (a && not b) ≡ true → b ≡ false
@@ -85,7 +89,8 @@ and_right_not false b h = absurd cc
 bare_good : (bytes : List ℕ) → IsOneLine bytes → Good (bare bytes)
 bare_good bytes one =
     good_if (is_sized (before_first is_blank bytes) && not (list_any is_quote (before_first is_blank bytes))) (before_first is_blank bytes) (from_first is_blank bytes)
-    (λ test. sized_name (before_first is_blank bytes) (and_left (is_sized (before_first is_blank bytes)) _ test) (and_right_not (is_sized (before_first is_blank bytes)) _ test) (All-take NoFeed (prefix_len (λ c. not (is_blank c)) bytes) bytes one))
+    (λ test. sized_name (before_first is_blank bytes) (and_left (is_sized (before_first is_blank bytes)) _ test)
+    (and_right_not (is_sized (before_first is_blank bytes)) _ test) (All-take NoFeed (prefix_len (λ c. not (is_blank c)) bytes) bytes one))
     (All-drop NoFeed (prefix_len (λ c. not (is_blank c)) bytes) bytes one)
 
 label_good : (c : ℕ) (bytes : List ℕ) → IsOneLine (c ∷ bytes) → Good (label_at c bytes)
@@ -114,8 +119,10 @@ within_good (suc count) (c ∷ bytes) one = by (label_at c bytes) (label_good c 
     inner name (Ok others) is all x h = are (name ∷ others) (All-cons IsName name others is (all others refl)) x h
     inner name (Err e) is all x h = absurd cc
 
-    by : (r : Result (List ℕ × List ℕ) DrnKind) → Good r → ((rest : List ℕ) → IsOneLine rest → AreNames (labels_within count rest)) → AreNames (r >>= λ label. labels_within count (without_blanks_before label.1) >>= λ others. Ok (label.0 ∷ others))
-    by (Ok l) is more x h = let w = is l.0 l.1 refl in inner l.0 (labels_within count (without_blanks_before l.1)) w.0 (more (without_blanks_before l.1) (All-drop NoFeed (prefix_len is_blank l.1) l.1 w.1)) x h
+    by : (r : Result (List ℕ × List ℕ) DrnKind) → Good r → ((rest : List ℕ) → IsOneLine rest → AreNames (labels_within count rest))
+        → AreNames (r >>= λ label. labels_within count (without_blanks_before label.1) >>= λ others. Ok (label.0 ∷ others))
+    by (Ok l) is more x h =
+        let w = is l.0 l.1 refl in inner l.0 (labels_within count (without_blanks_before l.1)) w.0 (more (without_blanks_before l.1) (All-drop NoFeed (prefix_len is_blank l.1) l.1 w.1)) x h
     by (Err e) is more x h = absurd cc
 
 pub label_names : (bytes : List ℕ) (names : List (List ℕ)) → IsOneLine bytes → labels_in bytes ≡ Ok names → All IsName names
@@ -135,5 +142,6 @@ behind_plain [] one x y h = subst IsOneLine (ap rest_of h) one
 behind_plain (c ∷ bytes) one x y h = by (c == 91) x y h
   where
     by : (b : Bool) → IsBehind (cond b (bracket_to (before_first (λ b. b == 93) bytes) (from_first (λ b. b == 93) bytes)) (Ok ([], c ∷ bytes)))
-    by true x y h = closing_plain bytes (before_first (λ b. b == 93) bytes) (from_first (λ b. b == 93) bytes) (All-drop NoFeed (prefix_len (λ b. not (b == 93)) bytes) bytes (All-tail NoFeed c bytes one)) x y h
+    by true x y h = closing_plain bytes (before_first (λ b. b == 93) bytes) (from_first (λ b. b == 93) bytes)
+        (All-drop NoFeed (prefix_len (λ b. not (b == 93)) bytes) bytes (All-tail NoFeed c bytes one)) x y h
     by false x y h = subst IsOneLine (ap rest_of h) one

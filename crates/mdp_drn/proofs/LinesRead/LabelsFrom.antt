@@ -1,5 +1,6 @@
 -- Labels, read one after the other.
-use Rattle.std.proofs.Common.{◌≡◌, ℕ, zero, suc, ◌-◌, ◌<◌, ◌≤◌, Bool, true, false, cond, ltb, leb, not, min, ◌==◌, ◌||◌, ◌&&◌, length-take, List, [], ◌∷◌, ◌++◌, length, Result, Ok, Err, refl, sym, ap, ◌∙◌, append_assoc, arith, length-drop}
+use Rattle.std.proofs.Common.{◌≡◌, ℕ, zero, suc, ◌-◌, ◌<◌, ◌≤◌, Bool, true, false, cond, ltb, leb, not, min, ◌==◌, ◌||◌, ◌&&◌, length-take, List, []}
+use Rattle.std.proofs.Common.{◌∷◌, ◌++◌, length, Result, Ok, Err, refl, sym, ap, ◌∙◌, append_assoc, arith, length-drop}
 use Rattle.std.specs.List.{prefix_len}
 use Rattle.std.proofs.lemmas.List.{append-nil}
 use Rattle.std.proofs.lemmas.List.Sums.{prefix_len-le-length}
@@ -29,11 +30,13 @@ cond-leaves n true name rest e le x y is = let k : rest ≡ y = ap behind_of is 
 cond-leaves n false name rest e le x y is = absurd cc
 
 quoted-leaves : (bytes : List ℕ) → Leaves (length bytes) (quoted bytes)
-quoted-leaves bytes = by (from_first is_quote bytes) (let e : length (from_first is_quote bytes) ≡ length bytes - prefix_len (λ c. not (is_quote c)) bytes = length-drop (prefix_len (λ c. not (is_quote c)) bytes) bytes in omega arith)
+quoted-leaves bytes = by (from_first is_quote bytes)
+    (let e : length (from_first is_quote bytes) ≡ length bytes - prefix_len (λ c. not (is_quote c)) bytes = length-drop (prefix_len (λ c. not (is_quote c)) bytes) bytes in omega arith)
   where
     by : (behind : List ℕ) → length behind ≤ length bytes → Leaves (length bytes) (quoted_at (before_first is_quote bytes) behind)
     by [] le x y is = absurd cc
-    by (quote ∷ rest) le x y is = cond-leaves (length bytes) (is_sized (before_first is_quote bytes) && ((length rest == 0) || begins_blank rest)) (before_first is_quote bytes) rest Label (omega arith) x y is
+    by (quote ∷ rest) le x y is =
+        cond-leaves (length bytes) (is_sized (before_first is_quote bytes) && ((length rest == 0) || begins_blank rest)) (before_first is_quote bytes) rest Label (omega arith) x y is
 
 abbrev bare_len : List ℕ → ℕ
 bare_len bytes = prefix_len (λ c. not (is_blank c)) bytes
@@ -43,11 +46,13 @@ bare-leaves : (bytes : List ℕ) (n : ℕ) → length bytes ≤ suc n → Leaves
 bare-leaves bytes n le = by (length (before_first is_blank bytes)) _ (length-before)
   where
     length-before : length (before_first is_blank bytes) ≡ bare_len bytes
-    length-before = let e : length (before_first is_blank bytes) ≡ min (bare_len bytes) (length bytes) = length-take (bare_len bytes) bytes in omega (arith, prefix_len-le-length (λ c. not (is_blank c)) bytes)
+    length-before = let e : length (before_first is_blank bytes) ≡ min (bare_len bytes) (length bytes) = length-take
+        (bare_len bytes) bytes in omega (arith, prefix_len-le-length (λ c. not (is_blank c)) bytes)
 
     by : (k : ℕ) (plain : Bool) → k ≡ bare_len bytes → Leaves n (cond ((ltb 0 k && leb k 255) && plain) (Ok (before_first is_blank bytes, from_first is_blank bytes)) (Err Label))
     by zero plain is x y h = absurd cc
-    by (suc k) plain is x y h = cond-leaves n _ (before_first is_blank bytes) (from_first is_blank bytes) Label (let e : length (from_first is_blank bytes) ≡ length bytes - bare_len bytes = length-drop (bare_len bytes) bytes in omega arith) x y h
+    by (suc k) plain is x y h = cond-leaves n _ (before_first is_blank bytes) (from_first is_blank bytes) Label
+        (let e : length (from_first is_blank bytes) ≡ length bytes - bare_len bytes = length-drop (bare_len bytes) bytes in omega arith) x y h
 
 label-leaves : (c : ℕ) (bytes : List ℕ) → Leaves (length bytes) (label_at c bytes)
 label-leaves c bytes = by (is_quote c)
@@ -67,8 +72,10 @@ enough (suc m) (suc n) [] lt more = refl
 enough (suc m) (suc n) (c ∷ bytes) lt more = by (label_at c bytes) (label-leaves c bytes) (λ rest le. enough m n rest (omega arith) (omega arith))
   where
     by : (r : Result (List ℕ × List ℕ) DrnKind) → Leaves (length bytes) r → ((rest : List ℕ) → length rest ≤ length bytes → labels_within m rest ≡ labels_within n rest)
-        → (r >>= λ label. labels_within m (without_blanks_before label.1) >>= λ others. Ok (label.0 ∷ others)) ≡ (r >>= λ label. labels_within n (without_blanks_before label.1) >>= λ others. Ok (label.0 ∷ others))
-    by (Ok l) leaves rest = ap (λ (r : Result (List (List ℕ)) DrnKind). r >>= λ others. Ok (l.0 ∷ others)) (rest (without_blanks_before l.1) (omega (arith, leaves l.0 l.1 refl, length-trimmed l.1)))
+        → (r >>= λ label. labels_within m (without_blanks_before label.1) >>= λ others. Ok (label.0 ∷ others)) ≡
+        (r >>= λ label. labels_within n (without_blanks_before label.1) >>= λ others. Ok (label.0 ∷ others))
+    by (Ok l) leaves rest =
+        ap (λ (r : Result (List (List ℕ)) DrnKind). r >>= λ others. Ok (l.0 ∷ others)) (rest (without_blanks_before l.1) (omega (arith, leaves l.0 l.1 refl, length-trimmed l.1)))
     by (Err e) leaves rest = refl
 
 -- the first label, and those of the bytes behind it
@@ -76,8 +83,10 @@ from-step : (c : ℕ) (bytes : List ℕ) → labels_from (c ∷ bytes) ≡ (labe
 from-step c bytes = by (label_at c bytes) (label-leaves c bytes)
   where
     by : (r : Result (List ℕ × List ℕ) DrnKind) → Leaves (length bytes) r
-        → (r >>= λ label. labels_within (suc (length bytes)) (without_blanks_before label.1) >>= λ others. Ok (label.0 ∷ others)) ≡ (r >>= λ label. labels_from (without_blanks_before label.1) >>= λ others. Ok (label.0 ∷ others))
-    by (Ok l) leaves = ap (λ (r : Result (List (List ℕ)) DrnKind). r >>= λ others. Ok (l.0 ∷ others)) (enough (suc (length bytes)) (suc (length (without_blanks_before l.1))) (without_blanks_before l.1) (omega (arith, leaves l.0 l.1 refl, length-trimmed l.1)) (omega arith))
+        → (r >>= λ label. labels_within (suc (length bytes)) (without_blanks_before label.1) >>= λ others. Ok (label.0 ∷ others)) ≡
+        (r >>= λ label. labels_from (without_blanks_before label.1) >>= λ others. Ok (label.0 ∷ others))
+    by (Ok l) leaves = ap (λ (r : Result (List (List ℕ)) DrnKind). r >>= λ others. Ok (l.0 ∷ others))
+        (enough (suc (length bytes)) (suc (length (without_blanks_before l.1))) (without_blanks_before l.1) (omega (arith, leaves l.0 l.1 refl, length-trimmed l.1)) (omega arith))
     by (Err e) leaves = refl
 
 -- ---- with the labels so far
@@ -92,9 +101,13 @@ no_label_done all = by (labels_from all)
     by (Ok x) = refl
     by (Err e) = refl
 
-pub label_done : (all rest name behind : List ℕ) (done : List (List ℕ)) → 0 < length rest → first_label rest ≡ Ok (name, behind) → LabelsFrom all rest done → LabelsFrom all (without_blanks_before behind) (done ++ name ∷ [])
+pub label_done : (all rest name behind : List ℕ) (done : List (List ℕ)) → 0 < length rest → first_label rest ≡ Ok (name, behind)
+    → LabelsFrom all rest done → LabelsFrom all (without_blanks_before behind) (done ++ name ∷ [])
 label_done all [] name behind done some is so_far = absurd (omega arith)
-label_done all (c ∷ bytes) name behind done some is so_far = so_far ∙ ap (λ (r : Result (List (List ℕ)) DrnKind). r >>= λ others. Ok (done ++ others)) (from-step c bytes ∙ ap (λ (r : Result (List ℕ × List ℕ) DrnKind). r >>= λ label. labels_from (without_blanks_before label.1) >>= λ others. Ok (label.0 ∷ others)) is) ∙ by (labels_from (without_blanks_before behind))
+label_done all (c ∷ bytes) name behind done some is so_far = so_far
+    ∙ ap (λ (r : Result (List (List ℕ)) DrnKind). r >>= λ others. Ok (done ++ others))
+    (from-step c bytes ∙ ap (λ (r : Result (List ℕ × List ℕ) DrnKind). r >>= λ label. labels_from (without_blanks_before label.1) >>= λ others. Ok (label.0 ∷ others)) is)
+    ∙ by (labels_from (without_blanks_before behind))
   where
     by : (r : Result (List (List ℕ)) DrnKind) → ((r >>= λ others. Ok (name ∷ others)) >>= λ others. Ok (done ++ others)) ≡ (r >>= λ others. Ok ((done ++ name ∷ []) ++ others))
     by (Ok xs) = ap (λ (ys : List (List ℕ)). Ok ys) (sym (append_assoc done (name ∷ []) xs))
@@ -102,7 +115,9 @@ label_done all (c ∷ bytes) name behind done some is so_far = so_far ∙ ap (λ
 
 pub label_fails : (all rest : List ℕ) (done : List (List ℕ)) (e : DrnKind) → 0 < length rest → first_label rest ≡ Err e → LabelsFrom all rest done → labels_from all ≡ Err e
 label_fails all [] done e some is so_far = absurd (omega arith)
-label_fails all (c ∷ bytes) done e some is so_far = so_far ∙ ap (λ (r : Result (List (List ℕ)) DrnKind). r >>= λ others. Ok (done ++ others)) (from-step c bytes ∙ ap (λ (r : Result (List ℕ × List ℕ) DrnKind). r >>= λ label. labels_from (without_blanks_before label.1) >>= λ others. Ok (label.0 ∷ others)) is)
+label_fails all (c ∷ bytes) done e some is so_far = so_far
+    ∙ ap (λ (r : Result (List (List ℕ)) DrnKind). r >>= λ others. Ok (done ++ others))
+    (from-step c bytes ∙ ap (λ (r : Result (List ℕ × List ℕ) DrnKind). r >>= λ label. labels_from (without_blanks_before label.1) >>= λ others. Ok (label.0 ∷ others)) is)
 
 pub labels_done : (all : List ℕ) (done : List (List ℕ)) → LabelsFrom all [] done → labels_from all ≡ Ok done
 labels_done all done so_far = so_far ∙ ap (λ (ys : List (List ℕ)). Ok ys) (append-nil done)
@@ -116,7 +131,8 @@ label-takes (c ∷ bytes) name behind some is = omega (arith, label-leaves c byt
 pub some-left : (n : ℕ) (b : Bool) → b ≡ (n == 0) → b ≡ false → 0 < n
 some-left n b is none = grind (arith, nat_tests)
 
-pub told-ok : (r : Result (Bor (List ℕ) × Bor (List ℕ)) DrnKind) (x : Bor (List ℕ) × Bor (List ℕ)) (said : Result (List ℕ × List ℕ) DrnKind) → r ≡ Ok x → told both_now r ≡ said → said ≡ Ok (x.0.now, x.1.now)
+pub told-ok : (r : Result (Bor (List ℕ) × Bor (List ℕ)) DrnKind) (x : Bor (List ℕ) × Bor (List ℕ)) (said : Result (List ℕ × List ℕ) DrnKind)
+    → r ≡ Ok x → told both_now r ≡ said → said ≡ Ok (x.0.now, x.1.now)
 told-ok r x said is h = sym h ∙ ap (λ (s : Result (Bor (List ℕ) × Bor (List ℕ)) DrnKind). told both_now s) is
 
 pub labels_in-from : (bytes : List ℕ) → labels_in bytes ≡ labels_from (without_blanks_before bytes)

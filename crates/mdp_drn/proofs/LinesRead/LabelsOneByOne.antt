@@ -57,7 +57,8 @@ module _ (labels : List (Bor (List ℕ))) (i : ℕ) (d : Bor (List ℕ)) (lt : i
   one_given e so_far is =
       so_far ∙ ap (λ (ns : List (List ℕ)). with_labels ns draft) (names-at labels i d lt) ∙ ap (λ (r : Result Draft RowsError). r >>= with_labels (drop (i + 1) (names labels))) is
 
-  pub one_refused : (a : spec.Body) (line : ℕ) (said : DrnError) → x ≡ with_labels (drop i (names labels)) draft → Fails said (judged a line (after_label draft (get_or labels i d).now)) → Fails said (judged a line x)
+  pub one_refused : (a : spec.Body) (line : ℕ) (said : DrnError) → x ≡ with_labels (drop i (names labels)) draft
+      → Fails said (judged a line (after_label draft (get_or labels i d).now)) → Fails said (judged a line x)
   one_refused a line said so_far h =
       subst (λ (r : Result Draft RowsError). Fails said (judged a line r)) (sym (so_far ∙ ap (λ (ns : List (List ℕ)). with_labels ns draft) (names-at labels i d lt)))
       (fails-more a line (after_label draft (get_or labels i d).now) (with_labels (drop (i + 1) (names labels))) said h)

@@ -24,7 +24,8 @@ none_done all = by (each_reward all)
     by (Err e) = refl
 
 pub one_done : (all texts : List (List ℕ)) (text : List ℕ) (done : List ℚ) (v : ℚ) → reward_of text ≡ Ok v → RewardsFrom all (text ∷ texts) done → RewardsFrom all texts (done ++ v ∷ [])
-one_done all texts text done v is so_far = so_far ∙ ap (λ (r : Result ℚ DrnKind). (r >>= λ first. each_reward texts >>= λ others. Ok (first ∷ others)) >>= λ others. Ok (done ++ others)) is ∙ by (each_reward texts)
+one_done all texts text done v is so_far =
+    so_far ∙ ap (λ (r : Result ℚ DrnKind). (r >>= λ first. each_reward texts >>= λ others. Ok (first ∷ others)) >>= λ others. Ok (done ++ others)) is ∙ by (each_reward texts)
   where
     by : (r : Result (List ℚ) DrnKind) → ((r >>= λ others. Ok (v ∷ others)) >>= λ others. Ok (done ++ others)) ≡ (r >>= λ others. Ok ((done ++ v ∷ []) ++ others))
     by (Ok xs) = ap (λ (ys : List ℚ). Ok ys) (sym (append_assoc done (v ∷ []) xs))
@@ -59,7 +60,8 @@ pub count-rewards : (all : List (List ℕ)) (values : List ℚ) → each_reward 
 count-rewards [] values is = let e : [] ≡ values = cc in rw (← e) refl
 count-rewards (text ∷ texts) values is = by (reward_of text) (each_reward texts) (count-rewards texts) is
   where
-    by : (first : Result ℚ DrnKind) (others : Result (List ℚ) DrnKind) → ((xs : List ℚ) → others ≡ Ok xs → length xs ≡ length texts) → (first >>= λ x. others >>= λ xs. Ok (x ∷ xs)) ≡ Ok values → length values ≡ length (text ∷ texts)
+    by : (first : Result ℚ DrnKind) (others : Result (List ℚ) DrnKind) → ((xs : List ℚ) → others ≡ Ok xs → length xs ≡ length texts)
+        → (first >>= λ x. others >>= λ xs. Ok (x ∷ xs)) ≡ Ok values → length values ≡ length (text ∷ texts)
     by (Ok x) (Ok xs) rest h = let e : x ∷ xs ≡ values = cc in rw (← e) (ap (λ (n : ℕ). suc n) (rest xs refl))
     by (Ok x) (Err e) rest h = absurd cc
     by (Err e) others rest h = absurd cc
@@ -69,6 +71,7 @@ length-texts [] = refl
 length-texts (x ∷ xs) = ap (λ (n : ℕ). suc n) (length-texts xs)
 
 -- those that are read are as many as the texts
-pub count-read : (texts : List (Bor (List ℕ))) (n : ℕ) (r : Result (Unit {0}) LineError) (values : List ℚ) → length texts ≡ n → Says (λ _. values) r (each_reward (texts_of texts)) → IfOk r (λ _. length values ≡ n)
+pub count-read : (texts : List (Bor (List ℕ))) (n : ℕ) (r : Result (Unit {0}) LineError) (values : List ℚ)
+    → length texts ≡ n → Says (λ _. values) r (each_reward (texts_of texts)) → IfOk r (λ _. length values ≡ n)
 count-read texts n (Ok x) values is said = count-rewards (texts_of texts) values said ∙ length-texts texts ∙ is
 count-read texts n (Err e) values is said = tt

@@ -46,7 +46,9 @@ cut-append : (xs ys : List ℕ) → cut (xs ++ ys) ≡ joined (cut xs) (cut ys)
 cut-append [] ys = sym (onto-cut ys)
 cut-append (x ∷ xs) ys =
     let c = cut-cons xs in
-    let step = subst (λ (ps : List (List ℕ)). cond (is_line_feed x) ([] ∷ joined ps (cut ys)) (onto_first x (joined ps (cut ys))) ≡ joined (cond (is_line_feed x) ([] ∷ ps) (onto_first x ps)) (cut ys)) (sym c.2) (joined-step (is_line_feed x) x c.0 c.1 (cut ys)) in
+    let step = subst
+    (λ (ps : List (List ℕ)). cond (is_line_feed x) ([] ∷ joined ps (cut ys)) (onto_first x (joined ps (cut ys))) ≡ joined (cond (is_line_feed x) ([] ∷ ps) (onto_first x ps)) (cut ys))
+    (sym c.2) (joined-step (is_line_feed x) x c.0 c.1 (cut ys)) in
     ap (λ (ps : List (List ℕ)). cond (is_line_feed x) ([] ∷ ps) (onto_first x ps)) (cut-append xs ys) ∙ step
 
 pub all_but_last-push : (ps : List (List ℕ)) (p : List ℕ) → all_but_last (ps ++ p ∷ []) ≡ ps
@@ -72,7 +74,8 @@ open-more xs ys none =
 
 -- a line feed
 cut-line : (xs : List ℕ) → cut (xs ++ 10 ∷ []) ≡ (whole_lines xs ++ open_line xs ∷ []) ++ [] ∷ []
-cut-line xs = cut-append xs (10 ∷ []) ∙ sym (append_assoc (whole_lines xs) ((open_line xs ++ []) ∷ []) ([] ∷ [])) ∙ ap (λ (line : List ℕ). (whole_lines xs ++ line ∷ []) ++ [] ∷ []) (append-nil (open_line xs))
+cut-line xs = cut-append xs (10 ∷ []) ∙ sym (append_assoc (whole_lines xs) ((open_line xs ++ []) ∷ []) ([] ∷ []))
+    ∙ ap (λ (line : List ℕ). (whole_lines xs ++ line ∷ []) ++ [] ∷ []) (append-nil (open_line xs))
 
 pub whole-more : (xs : List ℕ) → whole_lines (xs ++ 10 ∷ []) ≡ whole_lines xs ++ open_line xs ∷ []
 whole-more xs = ap all_but_last (cut-line xs) ∙ all_but_last-push (whole_lines xs ++ open_line xs ∷ []) []

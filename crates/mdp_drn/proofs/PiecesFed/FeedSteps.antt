@@ -30,22 +30,26 @@ module _ (rule : RowRule) (d : Document) (tail : List ℕ) where
   long-tail (Some e) xs ys line none at plain fits lt is = absurd cc
   long-tail None xs ys line none at plain fits lt is =
       let test : ltb longest_line (length (tail ++ ys)) ≡ true = (let l : longest_line < length (tail ++ ys) = omega (arith, length-append tail ys) in grind (arith, nat_tests)) in
-      ap (λ (n : ℕ). Refusing (record { kind = LongLine; line = n })) is ∙ sym (stand-tail rule xs ys d tail plain at ∙ ap (λ (b : Bool). cond b (Refusing (record { kind = LongLine; line = named (d.lines + 1) })) (Reading d (tail ++ ys))) test)
+      ap (λ (n : ℕ). Refusing (record { kind = LongLine; line = n })) is
+      ∙ sym (stand-tail rule xs ys d tail plain at ∙ ap (λ (b : Bool). cond b (Refusing (record { kind = LongLine; line = named (d.lines + 1) })) (Reading d (tail ++ ys))) test)
 
   pub more-tail : (refused : Option DrnError) (xs ys now : List ℕ) → is_some refused ≡ false → Stood refused xs → All (λ b. is_line_feed b ≡ false) ys
       → length tail ≤ 65536 → length ys ≤ 65536 - length tail → now ≡ tail ++ ys → IfSome (stand_with refused d now) (λ s. s ≡ stand_of rule (xs ++ ys))
   more-tail (Some e) xs ys now none at plain fits le is = absurd cc
   more-tail None xs ys now none at plain fits le is =
       let test : ltb longest_line (length (tail ++ ys)) ≡ false = (let l : length (tail ++ ys) ≤ longest_line = omega (arith, length-append tail ys) in grind (arith, nat_tests)) in
-      ap (λ (o : List ℕ). Reading d o) is ∙ sym (stand-tail rule xs ys d tail plain at ∙ ap (λ (b : Bool). cond b (Refusing (record { kind = LongLine; line = named (d.lines + 1) })) (Reading d (tail ++ ys))) test)
+      ap (λ (o : List ℕ). Reading d o) is
+      ∙ sym (stand-tail rule xs ys d tail plain at ∙ ap (λ (b : Bool). cond b (Refusing (record { kind = LongLine; line = named (d.lines + 1) })) (Reading d (tail ++ ys))) test)
 
   -- the line was taken
-  pub line-taken : (refused : Option DrnError) (xs : List ℕ) (e : Document) → is_some refused ≡ false → Stood refused xs → at_line rule d tail ≡ Ok e → IfSome (stand_with refused e []) (λ s. s ≡ stand_of rule (xs ++ 10 ∷ []))
+  pub line-taken : (refused : Option DrnError) (xs : List ℕ) (e : Document) → is_some refused ≡ false → Stood refused xs
+      → at_line rule d tail ≡ Ok e → IfSome (stand_with refused e []) (λ s. s ≡ stand_of rule (xs ++ 10 ∷ []))
   line-taken (Some e) xs f none at said = absurd cc
   line-taken None xs e none at said = sym (stand-closed rule xs d tail at ∙ ap (λ (r : Result Document Refusal). stand_from r []) said)
 
   -- the line was refused
-  pub line-refused : (refused : Option DrnError) (xs : List ℕ) (e : DrnError) (after : Document) (now : List ℕ) → is_some refused ≡ false → Stood refused xs → Fails e (at_line rule d tail) → IfSome (stand_with (Some e) after now) (λ s. s ≡ stand_of rule (xs ++ 10 ∷ []))
+  pub line-refused : (refused : Option DrnError) (xs : List ℕ) (e : DrnError) (after : Document) (now : List ℕ) → is_some refused ≡ false
+      → Stood refused xs → Fails e (at_line rule d tail) → IfSome (stand_with (Some e) after now) (λ s. s ≡ stand_of rule (xs ++ 10 ∷ []))
   line-refused (Some f) xs e after now none at said = absurd cc
   line-refused None xs error.Memory after now none at said = tt
   line-refused None xs (error.At line kind) after now none at said = sym (stand-closed rule xs d tail at ∙ ap (λ (r : Result Document Refusal). stand_from r []) said)

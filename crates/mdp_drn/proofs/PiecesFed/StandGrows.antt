@@ -1,5 +1,6 @@
 -- Where a feed stands, as its text grows.
-use Rattle.std.proofs.Common.{◌≡◌, ℕ, zero, suc, ◌+◌, ◌<◌, ◌⊎◌, inl, inr, Bool, true, false, cond, ltb, List, [], ◌∷◌, ◌++◌, length, Result, Ok, Err, refl, sym, ap, subst, ◌∙◌, append_assoc, arith}
+use Rattle.std.proofs.Common.{◌≡◌, ℕ, zero, suc, ◌+◌, ◌<◌, ◌⊎◌, inl, inr, Bool, true, false, cond, ltb, List, [], ◌∷◌, ◌++◌, length, Result, Ok, Err}
+use Rattle.std.proofs.Common.{refl, sym, ap, subst, ◌∙◌, append_assoc, arith}
 use Rattle.std.specs.List.{All}
 use Rattle.std.proofs.lemmas.List.{append-nil, length-append}
 use Rattle.std.proofs.lemmas.Bool.Decides.{nat_tests}
@@ -95,14 +96,16 @@ module _ (rule : RowRule) (xs : List ℕ) where
   keeps-tail ys s none at =
       stand-same ys none ∙ elim (refusing so_far (open_line xs) s (sym at)) [
         | inl e ↦ ap (λ (r : Result Document Refusal). stand_from r (open_line xs ++ ys)) e
-        | inr w ↦ ap (λ (r : Result Document Refusal). stand_from r (open_line xs ++ ys)) w.1 ∙ stand_at-long w.0 (open_line xs ++ ys) (omega (arith, w.2, length-append (open_line xs) ys)) ∙ ap (λ (r : Refusal). Refusing r) w.3
+        | inr w ↦ ap (λ (r : Result Document Refusal). stand_from r (open_line xs ++ ys)) w.1
+            ∙ stand_at-long w.0 (open_line xs ++ ys) (omega (arith, w.2, length-append (open_line xs) ys)) ∙ ap (λ (r : Refusal). Refusing r) w.3
       ]
 
   keeps-line : (s : Refusal) → Refusing s ≡ stand_of rule xs → stand_of rule (xs ++ 10 ∷ []) ≡ Refusing s
   keeps-line s at =
       stand-line ∙ elim (refusing so_far (open_line xs) s (sym at)) [
         | inl e ↦ ap (λ (r : Result Document Refusal). stand_from (r >>= λ d. at_line rule d (open_line xs)) []) e
-        | inr w ↦ ap (λ (r : Result Document Refusal). stand_from (r >>= λ d. at_line rule d (open_line xs)) []) w.1 ∙ ap (λ (r : Result Document Refusal). stand_from r []) (at_long rule w.0 (open_line xs) w.2) ∙ ap (λ (r : Refusal). Refusing r) w.3
+        | inr w ↦ ap (λ (r : Result Document Refusal). stand_from (r >>= λ d. at_line rule d (open_line xs)) []) w.1
+            ∙ ap (λ (r : Result Document Refusal). stand_from r []) (at_long rule w.0 (open_line xs) w.2) ∙ ap (λ (r : Refusal). Refusing r) w.3
       ]
 
   -- the end
@@ -119,12 +122,16 @@ module _ (rule : RowRule) (xs : List ℕ) where
   pub end-refusing : (s : Refusal) → Refusing s ≡ stand_of rule xs → outcome rule xs ≡ Err s
   end-refusing s at =
       elim (refusing so_far (open_line xs) s (sym at)) [
-        | inl e ↦ ap (λ (r : Result Document Refusal). r >>= at_end) (after_lines-append rule nothing_read (whole_lines xs) (cond (ltb 0 (length (open_line xs))) (open_line xs ∷ []) []) ∙ ap (λ (r : Result Document Refusal). r >>= λ d. after_lines rule d (cond (ltb 0 (length (open_line xs))) (open_line xs ∷ []) [])) e)
+        | inl e ↦ ap (λ (r : Result Document Refusal). r >>= at_end)
+            (after_lines-append rule nothing_read (whole_lines xs) (cond (ltb 0 (length (open_line xs))) (open_line xs ∷ []) [])
+            ∙ ap (λ (r : Result Document Refusal). r >>= λ d. after_lines rule d (cond (ltb 0 (length (open_line xs))) (open_line xs ∷ []) [])) e)
         | inr w ↦
             let some : ltb 0 (length (open_line xs)) ≡ true = (let l : longest_line < length (open_line xs) = w.2 in grind (arith, nat_tests)) in
             let e : lines_of xs ≡ whole_lines xs ++ open_line xs ∷ [] = ap (λ (b : Bool). whole_lines xs ++ cond b (open_line xs ∷ []) []) some in
             ap (λ (ls : List (List ℕ)). after_lines rule nothing_read ls >>= at_end) e
-            ∙ ap (λ (r : Result Document Refusal). r >>= at_end) (after_one rule nothing_read (whole_lines xs) (open_line xs) ∙ ap (λ (r : Result Document Refusal). r >>= λ d. at_line rule d (open_line xs)) w.1 ∙ at_long rule w.0 (open_line xs) w.2)
+            ∙ ap (λ (r : Result Document Refusal). r >>= at_end)
+            (after_one rule nothing_read (whole_lines xs) (open_line xs)
+            ∙ ap (λ (r : Result Document Refusal). r >>= λ d. at_line rule d (open_line xs)) w.1 ∙ at_long rule w.0 (open_line xs) w.2)
             ∙ ap (λ (r : Refusal). Err r) w.3
       ]
 

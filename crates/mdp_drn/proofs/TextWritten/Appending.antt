@@ -17,7 +17,8 @@ front-more old now later h k =
     let le : length old ≤ length now = omega (arith, n) in
     sym (take-take (length old) (length now) later le) ∙ ap (λ xs. take (length old) xs) k ∙ h
 
-pub appending-more : (old now later piece rest more whole : List ℕ) → Appending old now rest whole → rest ≡ piece ++ more → later ≡ now ++ piece → take (length now) later ≡ now → Appending old later more whole
+pub appending-more : (old now later piece rest more whole : List ℕ) → Appending old now rest whole
+    → rest ≡ piece ++ more → later ≡ now ++ piece → take (length now) later ≡ now → Appending old later more whole
 appending-more old now later piece rest more whole a r l f = record {
   left = ap (λ xs. xs ++ more) l ∙ append_assoc now piece more ∙ ap (λ xs. now ++ xs) (sym r) ∙ a.left;
   front = front-more old now later a.front f;

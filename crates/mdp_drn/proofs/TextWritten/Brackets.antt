@@ -1,5 +1,6 @@
 -- The rewards in a bracket, as they are read.
-use Rattle.std.proofs.Common.{◌≡◌, ℕ, suc, ◌*◌, ◌<◌, ◌≤◌, Bool, true, false, not, eqb, eq-eqb, ◌||◌, List, [], ◌∷◌, ◌++◌, length, map, append_assoc, refl, sym, ap, ap₂, subst, ◌∙◌, arith, lit<, pos, Ok}
+use Rattle.std.proofs.Common.{◌≡◌, ℕ, suc, ◌*◌, ◌<◌, ◌≤◌, Bool, true, false, not, eqb, eq-eqb, ◌||◌, List, [], ◌∷◌, ◌++◌, length, map, append_assoc}
+use Rattle.std.proofs.Common.{refl, sym, ap, ap₂, subst, ◌∙◌, arith, lit<, pos, Ok}
 use Rattle.std.specs.Char.{is_ascii_digit}
 use Rattle.std.specs.List.{All, list_all, prefix_len, slice_split}
 use Rattle.std.proofs.lemmas.Bool.Decides.{nat_tests}
@@ -169,7 +170,8 @@ rewards-read models [] xs some is h = absurd (omega arith)
 rewards-read models (t ∷ ts) [] some is h = absurd h
 rewards-read models (t ∷ ts) (x ∷ xs) some is h =
     let inside : List ℕ = joined commas (t ∷ ts) in
-    let same : trimmed (joined commas (t ∷ ts)) ≡ joined commas (t ∷ ts) = ap without_blanks_behind (before-well inside (joined-begins t ts x xs h.0 h.1)) ∙ behind-well inside (joined-ends t ts x xs h.0 h.1) in
+    let same : trimmed (joined commas (t ∷ ts)) ≡ joined commas (t ∷ ts) =
+    ap without_blanks_behind (before-well inside (joined-begins t ts x xs h.0 h.1)) ∙ behind-well inside (joined-ends t ts x xs h.0 h.1) in
     let filled : eqb (length (trimmed (joined commas (t ∷ ts)))) 0 ≡ false = ap (λ (s : List ℕ). eqb (length s) 0) same ∙ some-not (length (joined commas (t ∷ ts))) (joined-some t ts x h.0) in
     let texts : map trimmed (slice_split is_comma (joined commas (t ∷ ts))) ≡ t ∷ ts = texts-is t ts x xs h.0 h.1 in
     let counted : eqb (length (t ∷ ts)) models ≡ true = eq-eqb (length (t ∷ ts)) models is in

@@ -1,5 +1,6 @@
 -- Bytes that pass a test, in texts that are put together.
-use Rattle.std.proofs.Common.{◌≡◌, ℕ, suc, ◌+◌, ◌-◌, Bool, true, false, not, cond, eqb, ltb, ◌&&◌, ◌||◌, List, [], ◌∷◌, ◌++◌, length, take, drop, reverse, append_assoc, get_or, refl, sym, ap, ap₂, ◌∙◌, arith}
+use Rattle.std.proofs.Common.{◌≡◌, ℕ, suc, ◌+◌, ◌-◌, Bool, true, false, not, cond, eqb, ltb, ◌&&◌, ◌||◌, List, [], ◌∷◌, ◌++◌, length, take, drop}
+use Rattle.std.proofs.Common.{reverse, append_assoc, get_or, refl, sym, ap, ap₂, ◌∙◌, arith}
 use Rattle.std.specs.List.{list_all, list_any, prefix_len, suffix_len, after_last, slice_split, onto_first}
 use Rattle.std.specs.Io.BufRead.{ends_with_byte, strip_last}
 use Rattle.std.proofs.lemmas.List.{take_at, drop_at, reverse-append, length-append}
@@ -118,7 +119,7 @@ none-any p (x ∷ xs) h = by (p x) refl h (none-any p xs)
 
 -- ---- from the end
 
-pass-reverse : (p : ℕ → Bool) (xs : List ℕ) → Pass p xs → Pass p (reverse xs)
+pub pass-reverse : (p : ℕ → Bool) (xs : List ℕ) → Pass p xs → Pass p (reverse xs)
 pass-reverse p [] h = refl
 pass-reverse p (x ∷ xs) h =
     let a = and-parts (p x) (list_all p xs) h in
@@ -128,11 +129,13 @@ pass-reverse p (x ∷ xs) h =
 
 pub length-reversed : (xs : List ℕ) → length (reverse xs) ≡ length xs
 length-reversed [] = refl
-length-reversed (x ∷ xs) = let e : reverse (x ∷ xs) ≡ reverse xs ++ x ∷ [] = reverse-append (x ∷ []) xs in ap length e ∙ length-append (reverse xs) (x ∷ []) ∙ (let r = length-reversed xs in omega arith)
+length-reversed (x ∷ xs) =
+    let e : reverse (x ∷ xs) ≡ reverse xs ++ x ∷ [] = reverse-append (x ∷ []) xs in ap length e ∙ length-append (reverse xs) (x ∷ []) ∙ (let r = length-reversed xs in omega arith)
 
 pub suffix-stop : (p : ℕ → Bool) (xs : List ℕ) (y : ℕ) (ys : List ℕ) → p y ≡ false → Pass p ys → suffix_len p (xs ++ y ∷ ys) ≡ length ys
 suffix-stop p xs y ys e h =
-    let r : reverse (xs ++ y ∷ ys) ≡ reverse ys ++ y ∷ reverse xs = reverse-append xs (y ∷ ys) ∙ ap (λ (zs : List ℕ). zs ++ reverse xs) (reverse-append (y ∷ []) ys) ∙ append_assoc (reverse ys) (y ∷ []) (reverse xs) in
+    let r : reverse (xs ++ y ∷ ys) ≡ reverse ys ++ y ∷ reverse xs =
+    reverse-append xs (y ∷ ys) ∙ ap (λ (zs : List ℕ). zs ++ reverse xs) (reverse-append (y ∷ []) ys) ∙ append_assoc (reverse ys) (y ∷ []) (reverse xs) in
     ap (prefix_len p) r ∙ prefix-stop p (reverse ys) y (reverse xs) (pass-reverse p ys h) e ∙ length-reversed ys
 
 -- behind the last byte that passes

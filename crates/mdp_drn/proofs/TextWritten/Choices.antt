@@ -1,5 +1,6 @@
 -- The lines of choices and entries, as they are read.
-use Rattle.std.proofs.Common.{◌≡◌, ℕ, ◌-◌, ◌<◌, ◌≤◌, Bool, true, false, not, cond, eqb, ltb, leb, ◌&&◌, ◌||◌, List, [], ◌∷◌, ◌++◌, length, decimal, codes, append_assoc, take, drop, refl, sym, ap, ap₂, ◌∙◌, arith, Ok, Err}
+use Rattle.std.proofs.Common.{◌≡◌, ℕ, ◌-◌, ◌<◌, ◌≤◌, Bool, true, false, not, cond, eqb, ltb, leb, ◌&&◌, ◌||◌, List, [], ◌∷◌, ◌++◌, length, decimal}
+use Rattle.std.proofs.Common.{codes, append_assoc, take, drop, refl, sym, ap, ap₂, ◌∙◌, arith, Ok, Err}
 use Rattle.std.specs.Char.{is_ascii_digit}
 use Rattle.std.specs.List.{list_any, prefix_len, after_last}
 use Rattle.std.specs.Option.{is_some}
@@ -69,9 +70,11 @@ bracket-behind c inside h =
     let closed : ends_with_byte 93 (behind_action c inside) ≡ true = ap (ends_with_byte 93) by_close ∙ ends-with 93 (32 ∷ (decimal c ++ 32 ∷ 91 ∷ inside)) 93 in
     let open_there : list_any (λ c. eqb c 91) (behind_action c inside) ≡ true = ap (list_any (λ c. eqb c 91)) by_open ∙ any-middle (λ c. eqb c 91) front 91 (inside ++ 93 ∷ []) refl in
     let none : Fail (λ c. eqb c 91) (inside ++ 93 ∷ []) = pass-append (λ c. not (eqb c 91)) inside (93 ∷ []) (pass-weaken is_list_byte (λ c. not (eqb c 91)) list-no_open inside h) refl in
-    let last : after_last (λ c. eqb c 91) (behind_action c inside) ≡ inside ++ 93 ∷ [] = ap (after_last (λ c. eqb c 91)) by_open ∙ behind-last (λ c. eqb c 91) front 91 (inside ++ 93 ∷ []) refl none in
+    let last : after_last (λ c. eqb c 91) (behind_action c inside) ≡ inside ++ 93 ∷ [] =
+    ap (after_last (λ c. eqb c 91)) by_open ∙ behind-last (λ c. eqb c 91) front 91 (inside ++ 93 ∷ []) refl none in
     let n : length (inside ++ 93 ∷ []) - 1 ≡ length inside = omega (arith, length-append inside (93 ∷ [])) in
-    ap₂ (λ (a b : Bool). cond a (cond b (Ok (take (length (after_last (λ c. eqb c 91) (behind_action c inside)) - 1) (after_last (λ c. eqb c 91) (behind_action c inside)))) (Err kind.Shape)) (Ok [])) closed open_there
+    ap₂ (λ (a b : Bool). cond a
+    (cond b (Ok (take (length (after_last (λ c. eqb c 91) (behind_action c inside)) - 1) (after_last (λ c. eqb c 91) (behind_action c inside)))) (Err kind.Shape)) (Ok [])) closed open_there
     ∙ ap (λ (t : List ℕ). Ok (take (length t - 1) t)) last
     ∙ ap Ok (ap (λ (k : ℕ). take k (inside ++ 93 ∷ [])) n ∙ take_at inside (93 ∷ []) (length inside) refl)
 
@@ -128,7 +131,8 @@ module _ (target : ℕ) (value : List ℕ) (x : ℚ) (small : target ≤ limit) 
 
   pub transition-no_feed : Fail is_line_feed (9 ∷ 9 ∷ transition_text target value)
   transition-no_feed =
-      pass-append (λ c. not (is_line_feed c)) (decimal target) (behind_target value) (decimal-no_feed target small) (pass-weaken is_spelling_byte (λ c. not (is_line_feed c)) no-feed value (IsSpelling.bytes v.spelling))
+      pass-append (λ c. not (is_line_feed c)) (decimal target) (behind_target value) (decimal-no_feed target small)
+      (pass-weaken is_spelling_byte (λ c. not (is_line_feed c)) no-feed value (IsSpelling.bytes v.spelling))
     where
       no-feed : (c : ℕ) → is_spelling_byte c ≡ true → not (is_line_feed c) ≡ true
       no-feed c h = grind (arith, nat_tests)
@@ -139,7 +143,8 @@ module _ (target : ℕ) (value : List ℕ) (x : ℚ) (small : target ≤ limit) 
   not-state : is_state_line (transition_text target value) ≡ false
   not-state =
       ap is_state_line text-first
-      ∙ ap (λ (b : Bool). b && begins_blank (drop 5 (d-is.first ∷ (d-is.rest ++ behind_target value))) && has_digits (without_blanks_before (drop 5 (d-is.first ∷ (d-is.rest ++ behind_target value)))))
+      ∙ ap (λ (b : Bool). b && begins_blank (drop 5 (d-is.first ∷ (d-is.rest ++ behind_target value))) && has_digits
+      (without_blanks_before (drop 5 (d-is.first ∷ (d-is.rest ++ behind_target value)))))
       (begins-other 115 (116 ∷ 97 ∷ 116 ∷ 101 ∷ []) d-is.first (d-is.rest ++ behind_target value) (no-s d-is.first d-is.digit))
     where
       no-s : (c : ℕ) → is_ascii_digit c ≡ true → eqb 115 c ≡ false
@@ -157,7 +162,8 @@ module _ (target : ℕ) (value : List ℕ) (x : ℚ) (small : target ≤ limit) 
   value-behind : value_text (58 ∷ 32 ∷ value) ≡ Ok value
   value-behind =
       let e : without_blanks_before (32 ∷ value) ≡ value = before-space value ∙ before-well value (sym (ap (prefix_len is_blank) (append-nil value)) ∙ spelling-begins value [] v.spelling) in
-      let some : ltb 0 (length (without_blanks_before (32 ∷ value))) ≡ true = ap (λ (t : List ℕ). ltb 0 (length t)) (e ∙ IsSpelling.is v.spelling) ∙ filled (length (IsSpelling.rest v.spelling)) in
+      let some : ltb 0 (length (without_blanks_before (32 ∷ value))) ≡ true =
+      ap (λ (t : List ℕ). ltb 0 (length t)) (e ∙ IsSpelling.is v.spelling) ∙ filled (length (IsSpelling.rest v.spelling)) in
       ap (λ (b : Bool). cond b (Ok (without_blanks_before (32 ∷ value))) (Err kind.Shape)) some ∙ ap Ok e
 
   entry-read : (d : Draft) → HasChoice d → target < d.announced → has_open_target d target ≡ false → entry_read d (transition_text target value) ≡ Ok (record { target = target; value = x })
@@ -171,7 +177,8 @@ module _ (target : ℕ) (value : List ℕ) (x : ℚ) (small : target ≤ limit) 
       let inside : leb d.announced target ≡ false = lt-leb d.announced target lt in
       rw (some, behind, value-behind, has-choice d c, n, inside, once, v.value) refl
 
-  pub transition-line : (body : Body) (number : ℕ) (after : Draft) → HasChoice body.draft → target < body.draft.announced → has_open_target body.draft target ≡ false → after_entry body.draft target x ≡ Ok after
+  pub transition-line : (body : Body) (number : ℕ) (after : Draft) → HasChoice body.draft → target < body.draft.announced
+      → has_open_target body.draft target ≡ false → after_entry body.draft target x ≡ Ok after
       → model_line body number (transition_text target value) ≡ Ok (record body { draft = after })
   unfolding model_line
   transition-line body number after c lt once e = rw (not-state, not-action, entry-read body.draft c lt once, e) refl

@@ -1,5 +1,6 @@
 -- The header, as it is read.
-use Rattle.std.proofs.Common.{◌≡◌, ℕ, ◌^◌, ◌<◌, ◌≤◌, Bool, true, false, not, eqb, ltb, List, [], ◌∷◌, ◌++◌, length, sum_by, decimal, codes, append_assoc, refl, sym, ap, ap₂, subst, ◌∙◌, arith, lit<, Option, Some, None, Ok}
+use Rattle.std.proofs.Common.{◌≡◌, ℕ, ◌^◌, ◌<◌, ◌≤◌, Bool, true, false, not, eqb, ltb, List, [], ◌∷◌, ◌++◌, length, sum_by, decimal, codes}
+use Rattle.std.proofs.Common.{append_assoc, refl, sym, ap, ap₂, subst, ◌∙◌, arith, lit<, Option, Some, None, Ok}
 use Rattle.std.specs.Char.{is_ascii_digit}
 use Rattle.std.specs.List.{prefix_len}
 use Rattle.std.proofs.lemmas.Bool.{le-ltb}
@@ -33,7 +34,8 @@ choices_of m = sum_by (λ x. length x.choices) m.states
 
 abbrev pub header_lines : Mdp → List (List ℕ)
 header_lines m =
-    codes "@type: MDP" ∷ codes "@parameters" ∷ [] ∷ codes "@reward_models" ∷ names_text m.names ∷ codes "@nr_states" ∷ decimal (states_of m) ∷ codes "@nr_choices" ∷ decimal (choices_of m) ∷ codes "@model" ∷ []
+    codes "@type: MDP" ∷ codes "@parameters" ∷ [] ∷ codes "@reward_models" ∷ names_text m.names
+    ∷ codes "@nr_states" ∷ decimal (states_of m) ∷ codes "@nr_choices" ∷ decimal (choices_of m) ∷ codes "@model" ∷ []
 
 -- ---- a number alone on its line
 
@@ -85,27 +87,33 @@ rewards-kept : (line : ℕ) → kept_line Exact line (codes "@reward_models") (I
 unfolding entry_line
 rewards-kept line = refl
 
-names-kept : (names : List (List ℕ)) (text : List ℕ) (h : IsNamesLine names text) (line : ℕ) → kept_line Exact line text (InHeader (header true (Some []) None None) RewardNames) ≡ Ok (InHeader (header true (Some h.given) None None) AnyEntry)
+names-kept : (names : List (List ℕ)) (text : List ℕ) (h : IsNamesLine names text) (line : ℕ)
+    → kept_line Exact line text (InHeader (header true (Some []) None None) RewardNames) ≡ Ok (InHeader (header true (Some h.given) None None) AnyEntry)
 names-kept names text h line = rw (h.entry, h.read) refl
 
-states-kept : (names : List (List ℕ)) (line : ℕ) → kept_line Exact line (codes "@nr_states") (InHeader (header true (Some names) None None) AnyEntry) ≡ Ok (InHeader (header true (Some names) (Some 0) None) StateCount)
+states-kept : (names : List (List ℕ)) (line : ℕ)
+    → kept_line Exact line (codes "@nr_states") (InHeader (header true (Some names) None None) AnyEntry) ≡ Ok (InHeader (header true (Some names) (Some 0) None) StateCount)
 unfolding entry_line
 states-kept names line = refl
 
-state-count-kept : (names : List (List ℕ)) (n line : ℕ) → 0 < n → n ≤ 2 ^ 20 → n ≤ limit → kept_line Exact line (decimal n) (InHeader (header true (Some names) (Some 0) None) StateCount) ≡ Ok (InHeader (header true (Some names) (Some n) None) AnyEntry)
+state-count-kept : (names : List (List ℕ)) (n line : ℕ) → 0 < n → n ≤ 2 ^ 20 → n ≤ limit
+    → kept_line Exact line (decimal n) (InHeader (header true (Some names) (Some 0) None) StateCount) ≡ Ok (InHeader (header true (Some names) (Some n) None) AnyEntry)
 state-count-kept names n line some le small = rw (number-some n small, count-read n small (2 ^ 20) le, above n some) refl
   where
     above : (n : ℕ) → 0 < n → eqb n 0 ≡ false
     above n h = grind (arith, nat_tests)
 
-choices-kept : (names : List (List ℕ)) (n line : ℕ) → kept_line Exact line (codes "@nr_choices") (InHeader (header true (Some names) (Some n) None) AnyEntry) ≡ Ok (InHeader (header true (Some names) (Some n) (Some 0)) ChoiceCount)
+choices-kept : (names : List (List ℕ)) (n line : ℕ)
+    → kept_line Exact line (codes "@nr_choices") (InHeader (header true (Some names) (Some n) None) AnyEntry) ≡ Ok (InHeader (header true (Some names) (Some n) (Some 0)) ChoiceCount)
 unfolding entry_line
 choices-kept names n line = refl
 
-choice-count-kept : (names : List (List ℕ)) (n k line : ℕ) → k ≤ 2 ^ 22 → k ≤ limit → kept_line Exact line (decimal k) (InHeader (header true (Some names) (Some n) (Some 0)) ChoiceCount) ≡ Ok (InHeader (header true (Some names) (Some n) (Some k)) AnyEntry)
+choice-count-kept : (names : List (List ℕ)) (n k line : ℕ) → k ≤ 2 ^ 22 → k ≤ limit
+    → kept_line Exact line (decimal k) (InHeader (header true (Some names) (Some n) (Some 0)) ChoiceCount) ≡ Ok (InHeader (header true (Some names) (Some n) (Some k)) AnyEntry)
 choice-count-kept names n k line le small = rw (number-some k small, count-read k small (2 ^ 22) le) refl
 
-model-kept : (names : List (List ℕ)) (n k line : ℕ) → kept_line Exact line (codes "@model") (InHeader (header true (Some names) (Some n) (Some k)) AnyEntry) ≡ Ok (InModel (Some k) (body (new_draft n Exact (names_or_one names)) 0 0))
+model-kept : (names : List (List ℕ)) (n k line : ℕ)
+    → kept_line Exact line (codes "@model") (InHeader (header true (Some names) (Some n) (Some k)) AnyEntry) ≡ Ok (InModel (Some k) (body (new_draft n Exact (names_or_one names)) 0 0))
 unfolding entry_line
 model-kept names n k line = refl
 
@@ -130,19 +138,25 @@ header-reaches m h =
     let few_k : choices_of m ≤ limit = small-limit (choices_of m) h.few_choices in
     let last : Part = InModel (Some k) (body (new_draft n Exact m.names) 0 0) in
     let end : Reaches (InModel (Some k) (body (new_draft n Exact (names_or_one line.given)) 0 0)) [] last =
-    subst (λ (names : List (List ℕ)). Reaches (InModel (Some k) (body (new_draft n Exact (names_or_one line.given)) 0 0)) [] (InModel (Some k) (body (new_draft n Exact names) 0 0))) line.known (reaches-none (InModel (Some k) (body (new_draft n Exact (names_or_one line.given)) 0 0))) in
+    subst (λ (names : List (List ℕ)). Reaches (InModel (Some k) (body (new_draft n Exact (names_or_one line.given)) 0 0)) [] (InModel (Some k) (body (new_draft n Exact names) 0 0))) line.known
+    (reaches-none (InModel (Some k) (body (new_draft n Exact (names_or_one line.given)) 0 0))) in
     reaches-line (codes "@type: MDP") (codes "@type: MDP") _ _ (InHeader (header false None None None) AnyEntry) _ (omega arith) refl refl type-kept
     (reaches-line (codes "@parameters") (codes "@parameters") _ _ (InHeader (header true None None None) BlankLine) _ (omega arith) refl refl parameters-kept
     (reaches-line [] [] _ _ (InHeader (header true None None None) AnyEntry) _ (omega arith) refl refl blank-kept
     (reaches-line (codes "@reward_models") (codes "@reward_models") _ _ (InHeader (header true (Some []) None None) RewardNames) _ (omega arith) refl refl rewards-kept
-    (reaches-line (names_text m.names) (names_text m.names) _ _ (InHeader (header true (Some line.given) None None) AnyEntry) _ line.short line.content line.comment (names-kept m.names (names_text m.names) line)
+    (reaches-line (names_text m.names) (names_text m.names) _ _
+    (InHeader (header true (Some line.given) None None) AnyEntry) _ line.short line.content line.comment (names-kept m.names (names_text m.names) line)
     (reaches-line (codes "@nr_states") (codes "@nr_states") _ _ (InHeader (header true (Some line.given) (Some 0) None) StateCount) _ (omega arith) refl refl (states-kept line.given)
-    (reaches-line (decimal (states_of m)) (decimal (states_of m)) _ _ (InHeader (header true (Some line.given) (Some (states_of m)) None) AnyEntry) _ (omega (arith, decimal-short (states_of m) few_n)) (number-content (states_of m) few_n) (number-no_comment (states_of m) few_n)
+    (reaches-line (decimal (states_of m)) (decimal (states_of m)) _ _ (InHeader (header true (Some line.given) (Some (states_of m)) None) AnyEntry) _
+    (omega (arith, decimal-short (states_of m) few_n)) (number-content (states_of m) few_n) (number-no_comment (states_of m) few_n)
     (λ l. state-count-kept line.given (states_of m) l h.some h.few_states few_n)
-    (reaches-line (codes "@nr_choices") (codes "@nr_choices") _ _ (InHeader (header true (Some line.given) (Some (states_of m)) (Some 0)) ChoiceCount) _ (omega arith) refl refl (choices-kept line.given (states_of m))
-    (reaches-line (decimal (choices_of m)) (decimal (choices_of m)) _ _ (InHeader (header true (Some line.given) (Some (states_of m)) (Some (choices_of m))) AnyEntry) _ (omega (arith, decimal-short (choices_of m) few_k)) (number-content (choices_of m) few_k) (number-no_comment (choices_of m) few_k)
+    (reaches-line (codes "@nr_choices") (codes "@nr_choices") _ _ (InHeader (header true (Some line.given) (Some (states_of m)) (Some 0)) ChoiceCount) _ (omega arith) refl refl
+    (choices-kept line.given (states_of m))
+    (reaches-line (decimal (choices_of m)) (decimal (choices_of m)) _ _ (InHeader (header true (Some line.given) (Some (states_of m)) (Some (choices_of m))) AnyEntry) _
+    (omega (arith, decimal-short (choices_of m) few_k)) (number-content (choices_of m) few_k) (number-no_comment (choices_of m) few_k)
     (λ l. choice-count-kept line.given (states_of m) (choices_of m) l h.few_choices few_k)
-    (reaches-line (codes "@model") (codes "@model") _ _ (InModel (Some k) (body (new_draft n Exact (names_or_one line.given)) 0 0)) _ (omega arith) refl refl (model-kept line.given (states_of m) (choices_of m)) end)))))))))
+    (reaches-line (codes "@model") (codes "@model") _ _ (InModel (Some k) (body (new_draft n Exact (names_or_one line.given)) 0 0)) _ (omega arith) refl refl
+    (model-kept line.given (states_of m) (choices_of m)) end)))))))))
 
 pub header-are_lines : (m : Mdp) → IsHeaderFit m → AreLines (header_lines m)
 header-are_lines m h =

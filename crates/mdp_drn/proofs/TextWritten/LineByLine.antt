@@ -28,7 +28,8 @@ pub record Reaches (p : Part) (lines : List (List ℕ)) (q : Part) : Type 0 wher
 pub reaches-none : (p : Part) → Reaches p [] p
 reaches-none p = record { from = λ n. (n, refl) }
 
-pub reaches-line : (bytes text : List ℕ) (lines : List (List ℕ)) (p q r : Part) → length bytes ≤ 65536 → content bytes ≡ text → is_comment text ≡ false → ((line : ℕ) → kept_line Exact line text p ≡ Ok q)
+pub reaches-line : (bytes text : List ℕ) (lines : List (List ℕ)) (p q r : Part) → length bytes ≤ 65536
+    → content bytes ≡ text → is_comment text ≡ false → ((line : ℕ) → kept_line Exact line text p ≡ Ok q)
     → Reaches q lines r → Reaches p (bytes ∷ lines) r
 reaches-line bytes text lines p q r short is kept e rest = record {
   from = λ n. (let next = rest.from (named (n + 1)) in (next.0, ap (λ x. x >>= λ d. after_lines Exact d lines) (at-line n bytes text p q short is kept (e (named (n + 1)))) ∙ next.1));

@@ -1,5 +1,6 @@
 -- The lines of a model's states, read one after another, make what the calls of a builder make.
-use Rattle.std.proofs.Common.{◌≡◌, ℕ, suc, ◌+◌, ◌<◌, ◌≤◌, false, eqb, List, [], ◌∷◌, ◌++◌, length, map, sum_by, get_or, decimal, codes, append_assoc, refl, sym, ap, ap₂, subst, ◌∙◌, arith, Option, Ok}
+use Rattle.std.proofs.Common.{◌≡◌, ℕ, suc, ◌+◌, ◌<◌, ◌≤◌, false, eqb, List, [], ◌∷◌, ◌++◌, length, map, sum_by, get_or, decimal, codes, append_assoc}
+use Rattle.std.proofs.Common.{refl, sym, ap, ap₂, subst, ◌∙◌, arith, Option, Ok}
 use Rattle.std.proofs.lemmas.List.{length-map}
 use Rattle.std.proofs.lemmas.List.Sums.{sum_by-cons}
 use Rattle.mdp_num.specs.Numeral.{limit}
@@ -16,9 +17,12 @@ use Rattle.mdp_drn.proofs.TextWritten.Lines.{flat, flat-append, AreLines, are-ap
 use Rattle.mdp_drn.proofs.TextWritten.Numbers.{is-decimal, limit-wide, spelling-value}
 use Rattle.mdp_drn.proofs.TextWritten.Brackets.{spellings, zeros, lengths, commas, joined-bytes, joined-short}
 use Rattle.mdp_drn.proofs.TextWritten.Labels.{names_at}
-use Rattle.mdp_drn.proofs.LinesRead.DraftCalls.{ok-is, bound, count, Stays, stays-same, stays-then, HasState, HasChoice, choice-closed, all-closed, state-opened, label-given, choice-opened, Enters, entry-given}
+use Rattle.mdp_drn.proofs.LinesRead.DraftCalls.{ok-is, bound, count, Stays, stays-same, stays-then, HasState, HasChoice, choice-closed, all-closed}
+use Rattle.mdp_drn.proofs.LinesRead.DraftCalls.{state-opened, label-given, choice-opened, Enters, entry-given}
 use Rattle.mdp_drn.proofs.TextWritten.States.{state_text, state_text-is, state-content, state-no_comment, state-no_feed, state-short, state-line}
-use Rattle.mdp_drn.proofs.TextWritten.Choices.{action_text, action-content, action-no_comment, action-no_feed, action-short, action-line, transition_text, transition_text-is, transition-content, transition-no_comment, transition-no_feed, transition-short, transition-line, behind_target}
+use Rattle.mdp_drn.proofs.TextWritten.Choices.{action_text, action-content, action-no_comment, action-no_feed, action-short, action-line}
+use Rattle.mdp_drn.proofs.TextWritten.Choices.{transition_text, transition_text-is, transition-content, transition-no_comment, transition-no_feed}
+use Rattle.mdp_drn.proofs.TextWritten.Choices.{transition-short, transition-line, behind_target}
 use Rattle.mdp_drn.proofs.TextWritten.LineByLine.{Makes, makes-none, makes-then, makes-line, body}
 use Rattle.mdp_drn.proofs.TextWritten.Models.{Each, IsEntryFit, IsChoiceFit, IsStateFit}
 
@@ -78,7 +82,8 @@ module _ (choices : Option ℕ) where
 
   -- ---- entries
 
-  entry-written : (x : Entry) (d e : Draft) → IsEntryFit x → HasChoice d → d.announced ≤ limit → after_entry d x.target x.prob ≡ Ok e → Writes choices d (entry_text x ∷ []) e × Enters d e x.target
+  entry-written : (x : Entry) (d e : Draft) → IsEntryFit x → HasChoice d → d.announced ≤ limit
+      → after_entry d x.target x.prob ≡ Ok e → Writes choices d (entry_text x ∷ []) e × Enters d e x.target
   entry-written x d e fit c few h =
       let g = entry-given d e x.target x.prob c h in
       let v = spelling-value x.prob fit in
@@ -86,18 +91,21 @@ module _ (choices : Option ℕ) where
       let t : ℕ = x.target in
       let value : List ℕ = spelling x.prob in
       let d_is = is-decimal x.target (limit-wide x.target small) in
-      let some : eqb (length (transition_text x.target (spelling x.prob))) 0 ≡ false = ap (λ (s : List ℕ). eqb (length (s ++ behind_target (spelling x.prob))) 0) d_is.is ∙ not_empty (length (d_is.rest ++ behind_target (spelling x.prob))) in
+      let some : eqb (length (transition_text x.target (spelling x.prob))) 0 ≡ false =
+      ap (λ (s : List ℕ). eqb (length (s ++ behind_target (spelling x.prob))) 0) d_is.is ∙ not_empty (length (d_is.rest ++ behind_target (spelling x.prob))) in
       let w : Writes choices d ((9 ∷ 9 ∷ transition_text x.target (spelling x.prob)) ∷ []) e =
       record {
         makes =
-            makes-line choices (9 ∷ 9 ∷ transition_text x.target (spelling x.prob)) (transition_text x.target (spelling x.prob)) d e (transition-short x.target (spelling x.prob) x.prob small v) (transition-content x.target (spelling x.prob) x.prob small v)
+            makes-line choices (9 ∷ 9 ∷ transition_text x.target (spelling x.prob)) (transition_text x.target (spelling x.prob)) d e
+            (transition-short x.target (spelling x.prob) x.prob small v) (transition-content x.target (spelling x.prob) x.prob small v)
             (transition-no_comment x.target (spelling x.prob) x.prob small v) some
             (λ number s a. (s, a, transition-line x.target (spelling x.prob) x.prob small v (body d s a) number e c g.inside g.once h));
         are = (transition-no_feed x.target (spelling x.prob) x.prob small v, tt);
       } in
       (subst (λ (t : List ℕ). Writes choices d (t ∷ []) e) (sym (transition_text-is x.target (spelling x.prob))) w, g)
 
-  row-written : (row : List Entry) (d e : Draft) → Each IsEntryFit row → HasChoice d → d.announced ≤ limit → with_entries row d ≡ Ok e → Writes choices d (row_lines row) e × Stays d e × HasChoice e
+  row-written : (row : List Entry) (d e : Draft) → Each IsEntryFit row → HasChoice d → d.announced ≤ limit
+      → with_entries row d ≡ Ok e → Writes choices d (row_lines row) e × Stays d e × HasChoice e
   row-written [] d e fit c few h = subst (λ (x : Draft). Writes choices d [] x × Stays d x × HasChoice x) (ok-is d e h) (writes-none d, stays-same d, c)
   row-written (x ∷ row) d e fit c few h =
       let b = bound (after_entry d x.target x.prob) (with_entries row) e h in
@@ -126,7 +134,8 @@ module _ (choices : Option ℕ) where
         are = (action-no_feed c inside small (joined-bytes (map spelling x.rewards) x.rewards v), tt);
       }
 
-  choices-written : (names c : ℕ) (xs : List Choice) (d e : Draft) → Each (IsChoiceFit names) xs → c + length xs ≤ limit → HasState d → length d.names ≡ names → 0 < names → names ≤ 16 → d.announced ≤ limit
+  choices-written : (names c : ℕ) (xs : List Choice) (d e : Draft) → Each (IsChoiceFit names) xs
+      → c + length xs ≤ limit → HasState d → length d.names ≡ names → 0 < names → names ≤ 16 → d.announced ≤ limit
       → with_choices xs d ≡ Ok e → Writes choices d (choices_lines c xs) e × Stays d e × HasState e
   choices-written names c [] d e fit small s is some few announced h = subst (λ (x : Draft). Writes choices d [] x × Stays d x × HasState x) (ok-is d e h) (writes-none d, stays-same d, s)
   choices-written names c (x ∷ xs) d e fit small s is some few announced h =
@@ -148,7 +157,8 @@ module _ (choices : Option ℕ) where
 
   -- ---- states
 
-  labels-given : (labels : List (List ℕ)) (places : List ℕ) (d e : Draft) → replay.with_labels labels places d ≡ Ok e → (with_labels (names_at labels places) d ≡ Ok e) × Stays d e × (HasState d → HasState e)
+  labels-given : (labels : List (List ℕ)) (places : List ℕ) (d e : Draft) → replay.with_labels labels places d ≡ Ok e
+      → (with_labels (names_at labels places) d ≡ Ok e) × Stays d e × (HasState d → HasState e)
   labels-given labels [] d e h = (h, subst (Stays d) (ok-is d e h) (stays-same d), λ s. subst HasState (ok-is d e h) s)
   labels-given labels (l ∷ places) d e h =
       let b = bound (after_label d (get_or labels l [])) (replay.with_labels labels places) e h in
@@ -170,17 +180,25 @@ module _ (choices : Option ℕ) where
       let w : Writes choices d (state_text s (joined commas (zero_texts m)) (names_at m.labels x.labels) ∷ []) labelled =
       record {
         makes =
-            makes-line choices (state_text s inside labels) (state_text s inside labels) d labelled (state-short s inside labels small short fit.labels (omega (arith, as_many, fit.few_labels))) (state-content s inside labels) (state-no_comment s inside labels) (not_empty _)
-            (λ number t a. (number, a, state-line (body d t a) number s closed opened labelled (zero_texts m) labels (no_rewards m.names) e1 e2 e3 small is lt (omega (arith, n)) (n ∙ sym (ap length names)) v fit.labels));
+            makes-line choices (state_text s inside labels) (state_text s inside labels) d labelled
+            (state-short s inside labels small short fit.labels (omega (arith, as_many, fit.few_labels))) (state-content s inside labels) (state-no_comment s inside labels) (not_empty _)
+            (λ number t a. (
+              number,
+              a,
+              state-line (body d t a) number s closed opened labelled (zero_texts m) labels
+                  (no_rewards m.names) e1 e2 e3 small is lt (omega (arith, n)) (n ∙ sym (ap length names)) v fit.labels,
+            ));
         are = (state-no_feed s inside labels small (joined-bytes (zero_texts m) (no_rewards m.names) v) fit.labels, tt);
       } in
       subst (λ (t : List ℕ). Writes choices d (t ∷ []) labelled) (sym (state_text-is s (zero_texts m) m.labels x.labels)) w
 
   pub states-written : (m : Mdp) (s : ℕ) (xs : List State) (d e : Draft) → Each (IsStateFit m) xs → count d ≡ s → s + length xs ≡ d.announced → d.announced ≤ limit
-      → sum_by (λ x. length x.choices) xs ≤ limit → d.names ≡ m.names → 0 < length m.names → length m.names ≤ 16 → with_states m.names m.labels xs d ≡ Ok e → Writes choices d (states_lines m s xs) e
+      → sum_by (λ x. length x.choices) xs ≤ limit → d.names ≡ m.names → 0 < length m.names → length m.names ≤ 16
+      → with_states m.names m.labels xs d ≡ Ok e → Writes choices d (states_lines m s xs) e
   states-written m s [] d e fit is left small choices_fit names some few h = subst (λ (x : Draft). Writes choices d [] x) (ok-is d e h) (writes-none d)
   states-written m s (x ∷ xs) d e fit is left small choices_fit names some few h =
-      let b = bound (after_state d (no_rewards m.names)) (λ opened. replay.with_labels m.labels x.labels opened >>= λ labelled. with_choices x.choices labelled >>= with_states m.names m.labels xs) e h in
+      let b = bound (after_state d (no_rewards m.names))
+      (λ opened. replay.with_labels m.labels x.labels opened >>= λ labelled. with_choices x.choices labelled >>= with_states m.names m.labels xs) e h in
       let q = bound (all_closed d) (λ closed. state_opened closed (no_rewards m.names)) b.0 b.1 in
       let r = bound (replay.with_labels m.labels x.labels b.0) (λ labelled. with_choices x.choices labelled >>= with_states m.names m.labels xs) e b.2 in
       let t = bound (with_choices x.choices r.0) (with_states m.names m.labels xs) e r.2 in
@@ -192,8 +210,10 @@ module _ (choices : Option ℕ) where
       let names_labelled : Draft.names r.0 ≡ m.names = l.1.names ∙ o.names ∙ names_closed in
       let announced_labelled : Draft.announced r.0 ≡ d.announced = l.1.announced ∙ o.announced ∙ shut.announced in
       let state = state-written m s x d q.0 b.0 r.0 fit.0 (omega arith) (sym (shut.closed ∙ is)) (omega (arith, shut.closed, shut.announced, is, left)) names_closed some few q.1 q.2 l.0 in
-      let cs = choices-written (length m.names) 0 x.choices r.0 t.0 (IsStateFit.choices fit.0) (omega (arith, total)) (l.2 o.state) (ap length names_labelled) some few (omega (arith, announced_labelled)) t.1 in
+      let cs = choices-written (length m.names) 0 x.choices r.0 t.0 (IsStateFit.choices fit.0) (omega (arith, total))
+      (l.2 o.state) (ap length names_labelled) some few (omega (arith, announced_labelled)) t.1 in
       let counted : count t.0 ≡ suc s = cs.1.count ∙ l.1.count ∙ o.count ∙ ap suc (shut.closed ∙ is) in
       let announced : Draft.announced t.0 ≡ d.announced = cs.1.announced ∙ announced_labelled in
       let rest = states-written m (suc s) xs t.0 e fit.1 counted (omega (arith, announced, left)) (omega (arith, announced)) (omega (arith, total)) (cs.1.names ∙ names_labelled) some few t.2 in
-      writes-then d r.0 e (state_line_of m s x ∷ []) (choices_lines 0 x.choices ++ states_lines m (suc s) xs) state (writes-then r.0 t.0 e (choices_lines 0 x.choices) (states_lines m (suc s) xs) cs.0 rest)
+      writes-then d r.0 e (state_line_of m s x ∷ []) (choices_lines 0 x.choices ++ states_lines m (suc s) xs) state
+      (writes-then r.0 t.0 e (choices_lines 0 x.choices) (states_lines m (suc s) xs) cs.0 rest)

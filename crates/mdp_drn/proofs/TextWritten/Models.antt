@@ -97,7 +97,8 @@ prob-within : (x : Entry) → IsProb x → IsDenWithin limit x → IsWithinLimit
 prob-within x p d =
     let e = le_across x.prob 1ℚ p.1 in
     let f : (ℚ.num x.prob *ℤ pos 1) ≤ℤ (pos 1 *ℤ pos (ℚ.den x.prob)) =
-    subst (λ (n : ℤ). (ℚ.num x.prob *ℤ pos 1) ≤ℤ (n *ℤ pos (ℚ.den x.prob))) (num-of_int (pos 1)) (subst (λ (k : ℕ). (ℚ.num x.prob *ℤ pos k) ≤ℤ (ℚ.num 1ℚ *ℤ pos (ℚ.den x.prob))) (den-of_int (pos 1)) e) in
+    subst (λ (n : ℤ). (ℚ.num x.prob *ℤ pos 1) ≤ℤ (n *ℤ pos (ℚ.den x.prob))) (num-of_int (pos 1))
+    (subst (λ (k : ℕ). (ℚ.num x.prob *ℤ pos k) ≤ℤ (ℚ.num 1ℚ *ℤ pos (ℚ.den x.prob))) (den-of_int (pos 1)) e) in
     let n = num-le (ℚ.num x.prob) (ℚ.den x.prob) (nonneg x.prob p.0) f in
     record { nonnegative = p.0; num = omega (arith, n, d); den = d }
 
@@ -120,7 +121,8 @@ choice-fit : (n names : ℕ) (c : Choice) → IsChoiceWithin names c → IsRow n
 choice-fit n names c w r = record {
   as_many = w.rewards;
   rewards = w.terms;
-  row = each-both IsProb (IsDenWithin limit) IsEntryFit prob-within c.row (probs c.row (probs_nonneg n c.row r) (≤ℚ_of_eq (sum_of (λ x. x.prob) c.row) 1ℚ r.distribution.total)) (dens c.row limit w.den);
+  row = each-both IsProb (IsDenWithin limit) IsEntryFit prob-within c.row
+      (probs c.row (probs_nonneg n c.row r) (≤ℚ_of_eq (sum_of (λ x. x.prob) c.row) 1ℚ r.distribution.total)) (dens c.row limit w.den);
 }
 
 -- ---- labels
@@ -167,12 +169,16 @@ IsWithin m x = IsStateWithin (length m.names) x × Each (IsChoiceFit (length m.n
 
 within-at : (m : Mdp) → IsModel m → (s : ℕ) → s < length m.states → IsWithin m (get_or m.states s no_state)
 within-at m h s lt =
-    let w : IsStateWithin (length m.names) (get_or m.states s no_state) = h.states s no_state lt in
-    (w, each-by (IsChoiceFit (length m.names)) (choices_at m s) no_choice (λ c l. choice-fit (states_of m) (length m.names) (get_or (choices_at m s) c no_choice) (w.choices c no_choice l) (h.mdp.row s c lt l)))
+    let w : IsStateWithin (length m.names) (get_or m.states s no_state) = h.states s no_state lt in (
+      w,
+      each-by (IsChoiceFit (length m.names)) (choices_at m s) no_choice
+          (λ c l. choice-fit (states_of m) (length m.names) (get_or (choices_at m s) c no_choice) (w.choices c no_choice l) (h.mdp.row s c lt l)),
+    )
 
 state-fit : (m : Mdp) → All IsName m.labels → (x : State) → IsWithin m x → AreLabelsBelow (length m.labels) x → IsStateFit m x
 state-fit m names x w b = record { labels = labels-at m.labels x.labels names b; few_labels = w.0.few_labels; choices = w.1 }
 
 pub states-fit : (m : Mdp) → IsModel m → Each (IsStateFit m) m.states
 states-fit m h =
-    each-both (IsWithin m) (AreLabelsBelow (length m.labels)) (IsStateFit m) (state-fit m h.labels) m.states (each-by (IsWithin m) m.states no_state (within-at m h)) (sight-below 0 (length m.labels) m.states h.sight).1
+    each-both (IsWithin m) (AreLabelsBelow (length m.labels)) (IsStateFit m) (state-fit m h.labels) m.states
+    (each-by (IsWithin m) m.states no_state (within-at m h)) (sight-below 0 (length m.labels) m.states h.sight).1

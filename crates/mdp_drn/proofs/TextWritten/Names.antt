@@ -1,5 +1,6 @@
 -- The line of reward names, as it is read.
-use Rattle.std.proofs.Common.{◌≡◌, ℕ, suc, ◌*◌, ◌<◌, ◌≤◌, Bool, true, false, not, cond, eqb, ltb, leb, ◌&&◌, ◌||◌, List, [], ◌∷◌, ◌++◌, length, get_or, append_assoc, refl, sym, ap, subst, ◌∙◌, arith, Ok}
+use Rattle.std.proofs.Common.{◌≡◌, ℕ, suc, ◌*◌, ◌<◌, ◌≤◌, Bool, true, false, not, cond, eqb, ltb, leb, ◌&&◌, ◌||◌, List, [], ◌∷◌, ◌++◌, length}
+use Rattle.std.proofs.Common.{get_or, append_assoc, refl, sym, ap, subst, ◌∙◌, arith, Ok}
 use Rattle.std.specs.List.{All, list_all, list_any, prefix_len, slice_split, filter}
 use Rattle.std.specs.Bool.{IsTrue}
 use Rattle.std.specs.Str.{bytes_eq}
@@ -188,7 +189,8 @@ line-joined (t ∷ ts) h =
       no_feed = joined-feed t ts w.0 w.1;
       entry = ap is_entry first ∙ f.entry;
       comment = ap is_comment first ∙ f.comment;
-      read = ap (λ (parts : List (List ℕ)). names_in (filter (λ word. ltb 0 (length word)) parts)) (cells t ts w.0 w.1) ∙ ap names_in (some-kept (t ∷ ts) w) ∙ names-read (t ∷ ts) w h.different h.few;
+      read = ap (λ (parts : List (List ℕ)). names_in (filter (λ word. ltb 0 (length word)) parts)) (cells t ts w.0 w.1)
+          ∙ ap names_in (some-kept (t ∷ ts) w) ∙ names-read (t ∷ ts) w h.different h.few;
       known = refl;
     }
 

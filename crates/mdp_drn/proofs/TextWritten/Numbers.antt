@@ -1,5 +1,7 @@
 -- Decimal texts and spellings of fractions, as they are read.
-use Rattle.std.proofs.Common.{◌≡◌, ℕ, ◌+◌, ◌-◌, ◌*◌, ◌^◌, ◌<◌, ◌≤◌, zero, suc, Bool, true, false, cond, eqb, ltb, lt-ltb, ◌&&◌, List, [], ◌∷◌, ◌++◌, length, decimal, refl, sym, ap, ap₂, subst, ◌∙◌, arith, lit<, inl, inr, ℤ, pos, negsuc, neg_ℤ, unsigned_abs, ◌≤ℤ◌, Ok, Some}
+use Rattle.std.proofs.Common.{◌≡◌, ℕ, ◌+◌, ◌-◌, ◌*◌, ◌^◌, ◌<◌, ◌≤◌, zero, suc, Bool, true, false, cond, eqb, ltb, lt-ltb, ◌&&◌, List, [], ◌∷◌, ◌++◌}
+use Rattle.std.proofs.Common.{length, decimal, refl, sym, ap, ap₂, subst, ◌∙◌, arith, lit<, inl, inr, ℤ, pos, negsuc, neg_ℤ, unsigned_abs, ◌≤ℤ◌, Ok}
+use Rattle.std.proofs.Common.{Some}
 use Rattle.std.specs.Char.{is_ascii_digit}
 use Rattle.std.specs.Fmt.{signed_decimal}
 use Rattle.std.specs.List.{list_all, prefix_len}
@@ -84,7 +86,8 @@ numeral-whole : (n : ℕ) → n ≤ limit → numeral_of (decimal n) ≡ Ok (rat
 unfolding numeral_of
 numeral-whole n h =
     let d = decimal-digits n (limit-wide n h) in
-    let s : parts_of (decimal n) ≡ Some (Decimal (decimal n) [] false []) = complete (decimal n) (Decimal (decimal n) [] false []) ([], [], d, inl (refl, refl), inl (refl, refl, refl), sym (append-nil (decimal n))) in
+    let s : parts_of (decimal n) ≡ Some (Decimal (decimal n) [] false []) =
+    complete (decimal n) (Decimal (decimal n) [] false []) ([], [], d, inl (refl, refl), inl (refl, refl, refl), sym (append-nil (decimal n))) in
     ap (λ o. numeral.value_of (terms_of o)) s ∙ ap numeral.value_of (whole-terms n h)
 
 quotient-kept : (a b : ℕ) → 0 < b → a ≤ limit → b ≤ limit → quotient_terms a b ≡ Ok (a, b)
@@ -93,7 +96,8 @@ quotient-kept a b p q r = grind (arith, nat_tests)
 numeral-quotient : (n d : ℕ) → n ≤ limit → 0 < d → d ≤ limit → numeral_of (decimal n ++ 47 ∷ decimal d) ≡ Ok (ratio (pos n) d)
 unfolding numeral_of
 numeral-quotient n d h p k =
-    let s : parts_of (decimal n ++ 47 ∷ decimal d) ≡ Some (Quotient (decimal n) (decimal d)) = complete (decimal n ++ 47 ∷ decimal d) (Quotient (decimal n) (decimal d)) (decimal-digits n (limit-wide n h), decimal-digits d (limit-wide d k), refl) in
+    let s : parts_of (decimal n ++ 47 ∷ decimal d) ≡ Some (Quotient (decimal n) (decimal d)) =
+    complete (decimal n ++ 47 ∷ decimal d) (Quotient (decimal n) (decimal d)) (decimal-digits n (limit-wide n h), decimal-digits d (limit-wide d k), refl) in
     ap (λ o. numeral.value_of (terms_of o)) s
     ∙ ap₂ (λ (a b : ℕ). numeral.value_of (quotient_terms a b)) (number-decimal n (limit-wide n h)) (number-decimal d (limit-wide d k))
     ∙ ap numeral.value_of (quotient-kept n d p h k)

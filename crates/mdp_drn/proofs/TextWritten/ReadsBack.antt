@@ -39,12 +39,15 @@ reads-where_replayed m h replay =
     let fit = header-fit m h in
     let top = header-reaches m fit in
     let few : states_of m ≤ limit = small-limit (states_of m) (omega (arith, h.mdp.few)) in
-    let w = states-written (Some (choices_of m)) m 0 m.states start b.0 (states-fit m h) refl (omega arith) few (small-limit (choices_of m) h.few_choices) refl (omega (arith, h.names.some)) h.names.few b.1 in
-    let lines : lines_of (text_of m) ≡ header_lines m ++ states_lines m 0 m.states = ap lines_of (text-flat m) ∙ lines-flat (header_lines m ++ states_lines m 0 m.states) (are-append (header_lines m) (states_lines m 0 m.states) (header-are_lines m fit) w.are) in
+    let w = states-written (Some (choices_of m)) m 0 m.states start b.0 (states-fit m h) refl (omega arith) few
+    (small-limit (choices_of m) h.few_choices) refl (omega (arith, h.names.some)) h.names.few b.1 in
+    let lines : lines_of (text_of m) ≡ header_lines m ++ states_lines m 0 m.states =
+    ap lines_of (text-flat m) ∙ lines-flat (header_lines m ++ states_lines m 0 m.states) (are-append (header_lines m) (states_lines m 0 m.states) (header-are_lines m fit) w.are) in
     let head = top.from 0 in
     let tail = w.makes.from head.0 0 0 in
     ap (λ (ls : List (List ℕ)). after_lines Exact nothing_read ls >>= at_end) lines
-    ∙ ap (λ r. r >>= at_end) (after_lines-append Exact nothing_read (header_lines m) (states_lines m 0 m.states) ∙ ap (λ r. r >>= λ e. after_lines Exact e (states_lines m 0 m.states)) head.1 ∙ tail.3)
+    ∙ ap (λ r. r >>= at_end)
+    (after_lines-append Exact nothing_read (header_lines m) (states_lines m 0 m.states) ∙ ap (λ r. r >>= λ e. after_lines Exact e (states_lines m 0 m.states)) head.1 ∙ tail.3)
     ∙ end-read m b.0 f.0 tail.0 tail.1 tail.2 f.1 f.2
 
 pub reads_back : IsReplayed → ReadsBack

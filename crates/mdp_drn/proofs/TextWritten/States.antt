@@ -1,5 +1,6 @@
 -- The line of a state, as it is read.
-use Rattle.std.proofs.Common.{◌≡◌, ℕ, ◌<◌, ◌≤◌, Bool, true, false, not, eqb, ltb, leb, eq-eqb, ◌||◌, List, [], ◌∷◌, ◌++◌, length, decimal, codes, append_assoc, refl, sym, ap, ap₂, subst, ◌∙◌, arith, Ok}
+use Rattle.std.proofs.Common.{◌≡◌, ℕ, ◌<◌, ◌≤◌, Bool, true, false, not, eqb, ltb, leb, eq-eqb, ◌||◌, List, [], ◌∷◌, ◌++◌, length, decimal, codes}
+use Rattle.std.proofs.Common.{append_assoc, refl, sym, ap, ap₂, subst, ◌∙◌, arith, Ok}
 use Rattle.std.specs.Char.{is_ascii_digit}
 use Rattle.std.specs.List.{prefix_len}
 use Rattle.std.proofs.lemmas.Bool.{lt-leb}

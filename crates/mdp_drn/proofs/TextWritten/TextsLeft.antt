@@ -1,5 +1,6 @@
 -- What is left of a text from one place of a list on, one place more and at the end.
-use Rattle.std.proofs.Common.{rules, ◌≡◌, ℕ, zero, suc, ◌+◌, ◌<◌, List, [], ◌∷◌, ◌++◌, length, get_or, drop, refl, sym, ap, subst, arith, ◌∙◌, append_assoc, append-nil, add-one, drop-cons, map, codes, pos}
+use Rattle.std.proofs.Common.{rules, ◌≡◌, ℕ, zero, suc, ◌+◌, ◌<◌, List, [], ◌∷◌, ◌++◌, length, get_or, drop, refl, sym, ap, subst, arith, ◌∙◌}
+use Rattle.std.proofs.Common.{append_assoc, append-nil, add-one, drop-cons, map, codes, pos}
 use Rattle.std.proofs.Math.ListN.{get_or-map}
 use Rattle.std.proofs.lemmas.List.{length-map}
 use Rattle.mdp_math.specs.Rational.{ℚ, of_int}
@@ -39,7 +40,8 @@ pub rewards-as_many : (m : Mdp) → IsModel m → (s c : ℕ) → s < states_of 
 rewards-as_many m h s c lt l = let w : IsStateWithin (length m.names) (get_or m.states s no_state) = h.states s no_state lt in (w.choices c no_choice l).rewards
 
 pub rewards-more : (rewards : List ℚ) (i : ℕ) → i < length rewards
-    → separated (codes ", ") i (drop i (map spelling rewards)) ≡ (separator_text (codes ", ") i ++ spelling (get_or rewards i (of_int (pos 0)))) ++ separated (codes ", ") (i + 1) (drop (i + 1) (map spelling rewards))
+    → separated (codes ", ") i (drop i (map spelling rewards)) ≡ (separator_text (codes ", ") i ++ spelling (get_or rewards i (of_int (pos 0))))
+    ++ separated (codes ", ") (i + 1) (drop (i + 1) (map spelling rewards))
 rewards-more rewards i h =
     separated-more (codes ", ") (map spelling rewards) i (spelling (of_int (pos 0))) (rw (length-map rewards spelling) h)
     ∙ ap (λ text. (separator_text (codes ", ") i ++ text) ++ separated (codes ", ") (i + 1) (drop (i + 1) (map spelling rewards))) (get_or-map spelling rewards i (of_int (pos 0)))

@@ -10,8 +10,12 @@ pub returns-then-count-eq0-clause-rest : goal.returns-then-count-eq0-clause-rest
 returns-then-count-eq0-clause-rest g c =
     let w = c.reading.invariant.read in
     let n = c.in-Ok-read.count in
-    let bytes = take n c.read.new.buf in
-    (w.0 ++ bytes, omega (arith, length-append w.0 bytes, length-take n c.read.new.buf, w.2, c.in-Ok-read.ensures.room, c.if-count-eq0.true, c.reading.invariant.most), gave_both _ _ _ _ _ w.1 c.in-Ok-read.ensures.bytes)
+    let bytes = take n c.read.new.buf in (
+      w.0 ++ bytes,
+      omega
+          (arith, length-append w.0 bytes, length-take n c.read.new.buf, w.2, c.in-Ok-read.ensures.room, c.if-count-eq0.true, c.reading.invariant.most),
+      gave_both _ _ _ _ _ w.1 c.in-Ok-read.ensures.bytes,
+    )
 
 pub returns-then-count-eq0-clause-long : goal.returns-then-count-eq0-clause-long
 returns-then-count-eq0-clause-long g c h = absurd (c.finish_feed.ensures.not_long h)
@@ -34,8 +38,13 @@ reading-preserved g c =
 
 pub returns-then-count-eq0-clause-read : goal.returns-then-count-eq0-clause-read
 returns-then-count-eq0-clause-read g c is =
-    let w = c.reading.invariant.read in
-    (w.0, had_all _ _ w.0 c.in-Ok-read.count w.1 c.in-Ok-read.ensures.end c.if-count-eq0.true, omega (arith, w.2, c.reading-test.true), subst (λ (rule : RowRule). ReadsAs c.finish_feed.result (outcome rule w.0)) c.reading.invariant.rule (c.finish_feed.ensures.read w.0 w.3))
+    let w = c.reading.invariant.read in (
+      w.0,
+      had_all _ _ w.0 c.in-Ok-read.count w.1 c.in-Ok-read.ensures.end c.if-count-eq0.true,
+      omega (arith, w.2, c.reading-test.true),
+      subst
+          (λ (rule : RowRule). ReadsAs c.finish_feed.result (outcome rule w.0)) c.reading.invariant.rule (c.finish_feed.ensures.read w.0 w.3),
+    )
 
 pub returns-clause-long : goal.returns-clause-long
 returns-clause-long g c is =

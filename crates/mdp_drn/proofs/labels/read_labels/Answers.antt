@@ -27,18 +27,22 @@ returns-in_err-label c =
 pub loop-rest-smaller : goal.loop-rest-smaller
 loop-rest-smaller c =
     subst (λ (rest : List ℕ). length rest < length c.loop-rest.rest.now) (sym c.trim_start-rest-in-loop-rest.ensures)
-    (label-takes c.loop-rest.rest.now c.in_ok-label.label.now c.in_ok-label.behind.now (some-left (length c.loop-rest.rest.now) _ c.is_empty.ensures c.loop-rest-test.true) (sym c.in_ok-label.ensures))
+    (label-takes c.loop-rest.rest.now c.in_ok-label.label.now c.in_ok-label.behind.now
+    (some-left (length c.loop-rest.rest.now) _ c.is_empty.ensures c.loop-rest-test.true) (sym c.in_ok-label.ensures))
 
 pub loop-rest-preserved : goal.loop-rest-preserved
 loop-rest-preserved c =
     let all = without_blanks_before c.args.bytes.now in
     subst (λ (labels : List (Bor (List ℕ))). LabelsFrom all c.trim_start-rest-in-loop-rest.result.now (texts labels)) (sym c.in_ok-push.ensures.items)
-    (subst (λ (names : List (List ℕ)). LabelsFrom all c.trim_start-rest-in-loop-rest.result.now names) (sym (map-append (λ (label : Bor (List ℕ)). label.now) c.loop-rest.labels.items (c.in_ok-label.label ∷ [])))
+    (subst (λ (names : List (List ℕ)). LabelsFrom all c.trim_start-rest-in-loop-rest.result.now names)
+    (sym (map-append (λ (label : Bor (List ℕ)). label.now) c.loop-rest.labels.items (c.in_ok-label.label ∷ [])))
     (subst (λ (rest : List ℕ). LabelsFrom all rest (texts c.loop-rest.labels.items ++ c.in_ok-label.label.now ∷ [])) (sym c.trim_start-rest-in-loop-rest.ensures)
-    (label_done all c.loop-rest.rest.now c.in_ok-label.label.now c.in_ok-label.behind.now (texts c.loop-rest.labels.items) (some-left (length c.loop-rest.rest.now) _ c.is_empty.ensures c.loop-rest-test.true) (sym c.in_ok-label.ensures) c.loop-rest.invariant)))
+    (label_done all c.loop-rest.rest.now c.in_ok-label.label.now c.in_ok-label.behind.now (texts c.loop-rest.labels.items)
+    (some-left (length c.loop-rest.rest.now) _ c.is_empty.ensures c.loop-rest-test.true) (sym c.in_ok-label.ensures) c.loop-rest.invariant)))
 
 pub returns : goal.returns
 returns c = record {
   labels = labels_in-from c.args.bytes.now ∙ labels_done (without_blanks_before c.args.bytes.now) (texts c.loop-rest.labels.items)
-      (subst (λ (rest : List ℕ). LabelsFrom (without_blanks_before c.args.bytes.now) rest (texts c.loop-rest.labels.items)) (none-left c.loop-rest.rest.now _ c.is_empty.ensures c.loop-rest-test.false) c.loop-rest.invariant);
+      (subst (λ (rest : List ℕ). LabelsFrom (without_blanks_before c.args.bytes.now) rest (texts c.loop-rest.labels.items))
+      (none-left c.loop-rest.rest.now _ c.is_empty.ensures c.loop-rest-test.false) c.loop-rest.invariant);
 }

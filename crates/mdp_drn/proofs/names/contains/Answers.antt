@@ -8,5 +8,6 @@ use Rattle.mdp_drn.proofs.names.contains.Goals as goal
 
 pub returns : goal.returns
 returns c =
-    any_from_yields_List (λ (other : Bor (List ℕ)). bytes_eq c.args.name.now other.now) _ _ c.any.result c.any.ensures.ran (YieldsList-from_slice c.args.names.now c.iter.ensures.rest) (λ x b q k. search (rules, tests))
+    any_from_yields_List (λ (other : Bor (List ℕ)). bytes_eq c.args.name.now other.now) _ _ c.any.result c.any.ensures.ran
+    (YieldsList-from_slice c.args.names.now c.iter.ensures.rest) (λ x b q k. search (rules, tests))
     ∙ sym (list_any-map (bytes_eq c.args.name.now) (λ (other : Bor (List ℕ)). other.now) c.args.names.now)

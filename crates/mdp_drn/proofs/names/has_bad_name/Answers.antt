@@ -8,5 +8,6 @@ use Rattle.mdp_drn.proofs.names.has_bad_name.Goals as goal
 
 pub returns : goal.returns
 returns c =
-    any_from_yields_List (λ (name : Bor (List ℕ)). is_bad_name name.now) _ _ c.any.result c.any.ensures.ran (YieldsList-from_slice c.args.names.now c.iter.ensures.rest) (λ x b q k. search (rules, tests))
+    any_from_yields_List (λ (name : Bor (List ℕ)). is_bad_name name.now) _ _ c.any.result c.any.ensures.ran
+    (YieldsList-from_slice c.args.names.now c.iter.ensures.rest) (λ x b q k. search (rules, tests))
     ∙ sym (list_any-map is_bad_name (λ (name : Bor (List ℕ)). name.now) c.args.names.now)

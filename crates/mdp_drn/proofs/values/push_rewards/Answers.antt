@@ -21,4 +21,5 @@ loop-text-preserved c =
 pub returns : goal.returns
 returns c =
     all_done (texts_of c.args.texts.now) c.loop-text.rewards.items
-    (subst (λ (texts : List (List ℕ)). RewardsFrom (texts_of c.args.texts.now) texts c.loop-text.rewards.items) (texts-none c.args.texts.now c.loop-text.text-index c.loop-text-test.false) c.loop-text.invariant)
+    (subst (λ (texts : List (List ℕ)). RewardsFrom (texts_of c.args.texts.now) texts c.loop-text.rewards.items)
+    (texts-none c.args.texts.now c.loop-text.text-index c.loop-text-test.false) c.loop-text.invariant)

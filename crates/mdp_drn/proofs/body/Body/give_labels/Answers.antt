@@ -17,16 +17,25 @@ returns-in_err-give_label-clause-given c =
     let due = with_labels (names c.args.labels.now) c.args.self.now.builder in
     rw (p.1, p.2) (subst (λ (said : Result Draft Refusal). Fails c.in_err-give_label.field-0.0 said)
     (judged-same (view c.loop-label.self) (view c.args.self.now) c.args.line due c.loop-label.invariant.beside.state_line c.loop-label.invariant.beside.action_line)
-    (one_refused c.args.labels.now c.loop-label.label-index _ c.loop-label-test.true due c.loop-label.self.builder (view c.loop-label.self) c.args.line c.in_err-give_label.field-0.0 c.loop-label.invariant.given c.in_err-give_label.ensures.given))
+    (one_refused c.args.labels.now c.loop-label.label-index _ c.loop-label-test.true due c.loop-label.self.builder
+    (view c.loop-label.self) c.args.line c.in_err-give_label.field-0.0 c.loop-label.invariant.given c.in_err-give_label.ensures.given))
 
 pub loop-label-preserved : goal.loop-label-preserved
 loop-label-preserved c =
     let b = c.in_ok-give_label.ensures.beside in
     let was = c.loop-label.invariant.beside in
     record {
-      given = one_given c.args.labels.now c.loop-label.label-index _ c.loop-label-test.true (with_labels (names c.args.labels.now) c.args.self.now.builder) c.loop-label.self.builder c.give_label.new.self.builder c.loop-label.invariant.given
+      given = one_given c.args.labels.now c.loop-label.label-index _ c.loop-label-test.true
+          (with_labels (names c.args.labels.now) c.args.self.now.builder) c.loop-label.self.builder c.give_label.new.self.builder c.loop-label.invariant.given
           (judged-ok (view c.loop-label.self) c.args.line _ c.give_label.new.self.builder c.in_ok-give_label.ensures.given);
-      beside = record { announced = b.announced ∙ was.announced; models = b.models ∙ was.models; is_chain = b.is_chain ∙ was.is_chain; state_line = b.state_line ∙ was.state_line; action_line = b.action_line ∙ was.action_line };
+      beside = record {
+        announced = b.announced ∙ was.announced;
+        models = b.models ∙ was.models;
+        is_chain = b.is_chain
+            ∙ was.is_chain;
+        state_line = b.state_line ∙ was.state_line;
+        action_line = b.action_line ∙ was.action_line;
+      };
       body = c.in_ok-give_label.ensures.body;
       state = c.in_ok-give_label.ensures.state;
     }

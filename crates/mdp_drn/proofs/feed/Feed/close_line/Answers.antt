@@ -27,4 +27,5 @@ returns-in-Err-clause-fed c =
     let document = document_in f.document in
     λ before at. rw c.take_line.ensures.rule
     (line-refused rule document f.tail.items f.refused before c.in-Err.refused (document_in c.take_line.new.self) f.tail.items (sym c.is_some.ensures ∙ c.if-is_some.false)
-    (subst (λ (held : Held). HasRead held before) (sym c.self.view_is) at) (subst (λ (line : List ℕ). Fails c.in-Err.refused (at_line rule document line)) c.deref.ensures.value c.in-Err.ensures.taken))
+    (subst (λ (held : Held). HasRead held before) (sym c.self.view_is) at)
+    (subst (λ (line : List ℕ). Fails c.in-Err.refused (at_line rule document line)) c.deref.ensures.value c.in-Err.ensures.taken))

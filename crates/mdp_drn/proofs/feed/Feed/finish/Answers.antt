@@ -30,7 +30,8 @@ returns-in_err-take_line-clause-read c =
     let p = err_from_is_err_and c.from_residual.result c.from_residual.ensures.1 in
     let said = subst (λ (line : List ℕ). Fails c.in_err-take_line.field-0.0 (at_line rule document line)) c.deref.ensures.value c.in_err-take_line.ensures.taken in
     rw (p.1, p.2) (subst (λ (held : Held). (bytes : List ℕ) → HasRead held bytes → Fails c.in_err-take_line.field-0.0 (outcome held.rule bytes)) c.self.view_is
-    (λ bytes at. fails-line rule document f.tail.items f.refused bytes c.in_err-take_line.field-0.0 c.in_default.not-Some at (some-left f.tail.len (length f.tail.items) c.is_empty.result c.is_empty.ensures c.if-not-is_empty.true f.tail.ok.0) said))
+    (λ bytes at. fails-line rule document f.tail.items f.refused bytes c.in_err-take_line.field-0.0 c.in_default.not-Some at
+    (some-left f.tail.len (length f.tail.items) c.is_empty.result c.is_empty.ensures c.if-not-is_empty.true f.tail.ok.0) said))
 
 pub returns-clause-read : goal.returns-clause-read
 returns-clause-read c =
@@ -41,11 +42,13 @@ returns-clause-read c =
     let ended : (bytes : List ℕ) → Stood rule document f.tail.items f.refused bytes → outcome rule bytes ≡ at_end (document_in after) =
     λ bytes at. elim c.if-not-is_empty.branch [
       | then-not-is_empty+in_ok-take_line w ↦
-          end-line rule document f.tail.items f.refused bytes c.in_default.not-Some at (some-left f.tail.len (length f.tail.items) c.is_empty.result c.is_empty.ensures w.if-not-is_empty.true f.tail.ok.0)
+          end-line rule document f.tail.items f.refused bytes c.in_default.not-Some at
+          (some-left f.tail.len (length f.tail.items) c.is_empty.result c.is_empty.ensures w.if-not-is_empty.true f.tail.ok.0)
           ∙ ap (λ (r : Result Document Refusal). r >>= at_end) (ap (at_line rule document) (sym w.deref.ensures.value) ∙ w.in_ok-take_line.ensures.taken)
           ∙ rw w.document-is refl
       | else-not-is_empty w ↦
-          end-bare rule document f.tail.items f.refused bytes c.in_default.not-Some at (none-left f.tail.len (length f.tail.items) c.is_empty.result c.is_empty.ensures w.if-not-is_empty.false f.tail.ok.0)
+          end-bare rule document f.tail.items f.refused bytes c.in_default.not-Some at
+          (none-left f.tail.len (length f.tail.items) c.is_empty.result c.is_empty.ensures w.if-not-is_empty.false f.tail.ok.0)
           ∙ rw w.document-is refl
     ] in
     subst (λ (held : Held). (bytes : List ℕ) → HasRead held bytes → Gives (λ (x : Mdp) (y : Mdp). x ≡ y) c.finish.result (outcome held.rule bytes)) c.self.view_is
