@@ -1,6 +1,5 @@
 -- The lines of all states are read exactly where they are the lines of the entries, in each version.
-use Rattle.std.proofs.Common.{◌≡◌, ℕ, zero, suc, ◌+◌, ◌-◌, ◌<◌, ◌≤◌, ◌^◌, Bool, true, false, cond, ltb, List, [], ◌∷◌, ◌++◌, length, map, Option, Some, None, Result, Ok, Err, refl, sym, ap, ap₂, subst, ◌∙◌, append_assoc, arith}
-use Rattle.std.specs.List.{All}
+use Rattle.std.proofs.Common.{◌≡◌, ℕ, zero, suc, ◌+◌, ◌<◌, ◌≤◌, ◌^◌, Bool, true, false, cond, ltb, List, [], ◌∷◌, ◌++◌, length, map, Option, Some, None, Result, Ok, refl, sym, ap, ap₂, subst, ◌∙◌, append_assoc, arith}
 use Rattle.std.proofs.Math.ListN.{replicate}
 use Rattle.std.proofs.lemmas.Bool.{lt-ltb}
 use Rattle.std.proofs.lemmas.Bool.Decides.{nat_tests}
@@ -12,8 +11,8 @@ use Rattle.mdp_cert.specs.declared.version.Version.TheVariants.{One, Two}
 use Rattle.mdp_cert.specs.Lines.{◌>>=◌, Place, place, is_line, line_by}
 use Rattle.mdp_cert.specs.Runs.{Columns, Run, run, single, entries_of, before_runs, longest_runs, runs_in}
 use Rattle.mdp_cert.specs.Spelling.{line, run_text, run_lines, state_lines, end_text, closed_lines}
-use Rattle.mdp_cert.specs.Reading.{is_same, run_in, onto_run, runs_from, entries_from, entries_to_end}
-use Rattle.mdp_cert.proofs.Feeds.{bind_ok, ok-is, Line, Judged, judged-found, judged-again, due-line, due-again}
+use Rattle.mdp_cert.specs.Reading.{run_in, onto_run, runs_from, entries_from, entries_to_end}
+use Rattle.mdp_cert.proofs.Feeds.{bind_ok, ok-is, judged-found, judged-again, due-line, due-again}
 use Rattle.mdp_cert.proofs.Columns.{IsColumns}
 use Rattle.mdp_cert.proofs.Sections.{IsLongest, line-found, line-again, free-run}
 

@@ -1,5 +1,5 @@
 -- What a claim shows of its words, and the words of each claim.
-use Rattle.std.proofs.Common.{◌≡◌, ℕ, ◌<◌, ◌^◌, Bool, true, eqb, ◌&&◌, List, [], ◌∷◌, length, decimal, Option, Some, None, refl, ap, subst, arith}
+use Rattle.std.proofs.Common.{◌≡◌, ℕ, ◌<◌, ◌^◌, true, eqb, ◌&&◌, List, [], ◌∷◌, length, decimal, Option, Some, None, refl, sym, ap, subst, ◌∙◌, arith}
 use Rattle.std.specs.Option.{option_and_then}
 use Rattle.std.proofs.lemmas.Bool.{and_parts}
 use Rattle.std.proofs.lemmas.Bool.Decides.{nat_tests}
@@ -13,8 +13,9 @@ use Rattle.mdp_cert.specs.declared.error.CertKind.TheVariants.{Number}
 use Rattle.mdp_cert.specs.declared.reach_entry.ReachEntry.{ReachEntry}
 use Rattle.mdp_cert.specs.Words.{whole_of, whole_at}
 use Rattle.mdp_cert.specs.Runs.{Columns}
-use Rattle.mdp_cert.specs.Claims.{bound_columns, policy_columns, policy_parse, bound_parse}
-use Rattle.mdp_cert.proofs.Pieces.{Free, free-spelling}
+use Rattle.mdp_cert.specs.Claims.{bound_columns, policy_columns, policy_parse, bound_parse, IsPolicyInWidth}
+use Rattle.mdp_cert.specs.Laws.{IsSameWords}
+use Rattle.mdp_cert.proofs.Pieces.{free-spelling}
 use Rattle.mdp_cert.proofs.Feeds.{found_ok, whole-found, whole-again}
 use Rattle.mdp_cert.proofs.Joined.{AllFree, free-whole}
 
@@ -29,6 +30,13 @@ pub record IsColumns {A : Type 0} (k : Columns A) (IsInWidth : A → Type 0) : T
   pub feeds : (x : A) → IsInWidth x → AllFree 10 (k.words x)
   pub same : (x y : A) → k.same x y ≡ true → x ≡ y
   pub itself : (x : A) → k.same x x ≡ true
+
+-- so they say the same exactly where their words are the same
+pub same-words : {A : Type 0} (k : Columns A) (IsInWidth : A → Type 0) → IsColumns k IsInWidth → IsSameWords k IsInWidth
+same-words k IsInWidth is x y p q = (λ e. ap k.words (is.same x y e), λ e. (let same : x ≡ y = some-is (sym (is.again x p) ∙ ap k.parse e ∙ is.again y q) in subst (λ z. k.same x z ≡ true) same (is.itself x)))
+  where
+    some-is : Some x ≡ Some y → x ≡ y
+    some-is e = cc
 
 -- ---- numbers
 
@@ -70,11 +78,6 @@ bound-is_columns = record {
 }
 
 -- ---- a value, a choice and a rank
-
-pub record IsPolicyInWidth (p : ReachEntry) : Type 0 where
-  pub value : IsNarrow p.value
-  pub choice : p.choice < 2 ^ 32
-  pub rank : p.rank < 2 ^ 32
 
 abbrev policy-rank : ℚ → ℕ → ℕ → Option ReachEntry
 policy-rank value choice rank = Some (record { value = value; choice = choice; rank = rank })

@@ -1,32 +1,30 @@
 -- A refusal names the first line that breaks a rule.
-use Rattle.std.proofs.Common.{◌≡◌, ℕ, zero, suc, ◌+◌, ◌-◌, ◌<◌, ◌^◌, ◌⊎◌, inl, inr, Bool, true, false, not, cond, eqb, ltb, ◌||◌, List, [], ◌∷◌, ◌++◌, length, map, drop, Option, Some, None, Result, Ok, Err, refl, sym, ap, ap₂, subst, ◌∙◌, arith}
+use Rattle.std.proofs.Common.{◌≡◌, ℕ, zero, suc, ◌+◌, ◌-◌, ◌<◌, ◌^◌, ◌⊎◌, inl, inr, Bool, true, false, not, cond, eqb, ltb, ◌||◌, List, [], ◌∷◌, ◌++◌, length, drop, Option, Some, None, Result, Ok, Err, refl, sym, ap, ap₂, subst, ◌∙◌, arith}
 use Rattle.std.specs.Prelude.{codes}
 use Rattle.std.specs.List.{position_or_len, before_first, after_first}
 use Rattle.std.specs.Str.{bytes_eq}
 use Rattle.std.proofs.lemmas.Bool.{lt-ltb}
 use Rattle.std.proofs.lemmas.List.{length-append}
-use Rattle.mdp_math.specs.Rational.{ℚ}
 use Rattle.mdp_num.specs.Canonical.{canonical_of}
 use Rattle.mdp_cert.specs.declared.error.CertKind.{CertKind}
 use Rattle.mdp_cert.specs.declared.error.CertKind.TheVariants as kind
 use Rattle.mdp_cert.specs.declared.error.Refusal.{Refusal}
 use Rattle.mdp_cert.specs.declared.init.Init.{Init}
 use Rattle.mdp_cert.specs.declared.init.Init.TheVariants.{Missing, Finite}
-use Rattle.mdp_cert.specs.declared.reach_entry.ReachEntry.{ReachEntry}
 use Rattle.mdp_cert.specs.declared.version.Version.{Version}
 use Rattle.mdp_cert.specs.declared.version.Version.TheVariants.{One, Two}
-use Rattle.mdp_cert.specs.Cert.{PlainClaim, upper, reach, PlainBody, bounds, policy, Certificate}
-use Rattle.mdp_cert.specs.Lines.{◌>>=◌, refused, refuse_if, or_refused, is_line, is_line_feed, Place, place, next_line, line_by}
+use Rattle.mdp_cert.specs.Cert.{PlainClaim, upper, reach, PlainBody, bounds, Certificate}
+use Rattle.mdp_cert.specs.Lines.{◌>>=◌, refuse_if, or_refused, is_line, is_line_feed, Place, place, next_line, line_by}
 use Rattle.mdp_cert.specs.Words.{words, first_of, begins_with, words_behind, whole_of, whole_at, frac_at}
-use Rattle.mdp_cert.specs.Runs.{Columns, Run, run, single, entries_of}
+use Rattle.mdp_cert.specs.Runs.{Columns, run, single, entries_of}
 use Rattle.mdp_cert.specs.Claims.{bound_columns, policy_columns}
 use Rattle.mdp_cert.specs.Spelling.{line, version_text, end_text}
 use Rattle.mdp_cert.specs.Reading.{version_at, claim_of, claim_at, states_at, finite_at, valued_at, init_at, Head, head_from, entry_at, state_at, run_at, is_same, line_of_states, longest_at, run_in, onto_run, runs_from, entries_from, entries_to_end, policy_body, body_from, nothing_behind, outcome}
 use Rattle.mdp_cert.specs.Laws.{first_lines, LacksAtMost}
 use Rattle.mdp_cert.proofs.Cuts.{guard_ok}
-use Rattle.mdp_cert.proofs.Feeds.{bind_ok, ok-is, Line, line-found, line-again}
+use Rattle.mdp_cert.proofs.Feeds.{bind_ok, ok-is, line-found, line-again}
 use Rattle.mdp_cert.proofs.Numbered.{states-number, states-range, init-state, init-value, init-inside}
-use Rattle.mdp_cert.proofs.Parts.{head-states, head-init, whole, whole-end, whole-body, whole-head}
+use Rattle.mdp_cert.proofs.Parts.{head-states, whole, whole-end, whole-body, whole-head}
 
 abbrev pub missing : ℕ → Refusal
 missing n = record { kind = kind.End; line = n }

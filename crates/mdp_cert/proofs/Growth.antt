@@ -6,10 +6,8 @@ use Rattle.std.proofs.lemmas.Bool.{and_parts}
 use Rattle.mdp_math.specs.Rational.{ℚ}
 use Rattle.mdp_cert.specs.declared.version.Version.{Version}
 use Rattle.mdp_cert.specs.declared.version.Version.TheVariants.{One, Two}
-use Rattle.mdp_cert.specs.declared.reach_entry.ReachEntry.{ReachEntry}
 use Rattle.mdp_cert.specs.Cert.{PlainClaim, upper, reach, bounds, policy, is_body_of}
-use Rattle.mdp_cert.specs.Claims.{policies}
-use Rattle.mdp_cert.specs.Runs.{Columns, Run, run, longest_runs, runs_in}
+use Rattle.mdp_cert.specs.Runs.{Columns, run, longest_runs, runs_in}
 use Rattle.mdp_cert.specs.Spelling.{line, run_text, run_lines}
 use Rattle.mdp_cert.specs.Answer.{Keeps, more_in}
 use Rattle.mdp_cert.proofs.Cuts.{number-same}

@@ -1,12 +1,9 @@
 -- Lines as words: what stands behind the first word, and texts made of words.
-use Rattle.std.proofs.Common.{◌≡◌, ℕ, suc, ◌+◌, ◌<◌, ◌^◌, Bool, true, false, eqb, ◌&&◌, List, [], ◌∷◌, ◌++◌, length, drop, decimal, Ok, refl, sym, ap, ◌∙◌, arith}
+use Rattle.std.proofs.Common.{◌≡◌, ℕ, ◌<◌, ◌^◌, false, eqb, List, [], ◌∷◌, length, drop, decimal, Ok, refl, ap, ◌∙◌, arith}
 use Rattle.std.specs.List.{join_with_byte}
-use Rattle.std.specs.Str.{bytes_eq}
-use Rattle.std.proofs.lemmas.Bool.Decides.{nat_tests}
 use Rattle.mdp_cert.specs.Spelling.{◌␣◌}
-use Rattle.mdp_cert.specs.Lines.{refused}
 use Rattle.mdp_cert.specs.Words.{words, first_of, words_behind}
-use Rattle.mdp_cert.proofs.Cuts.{bytes_self, same-number, Behind, behind_found, behind_shaped}
+use Rattle.mdp_cert.proofs.Cuts.{bytes_self, same-number, behind_found, behind_shaped}
 use Rattle.mdp_cert.proofs.Pieces.{Free, free-append, free-decimal, words-more, words-last, words-joined, whole-small}
 
 -- no word has the byte

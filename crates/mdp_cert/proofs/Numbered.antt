@@ -1,5 +1,5 @@
 -- The lines of the version, of the number of states and of the initial state are read exactly where they are their texts.
-use Rattle.std.proofs.Common.{◌≡◌, ℕ, suc, ◌<◌, ◌≤◌, ◌^◌, Bool, true, false, not, cond, eqb, ltb, ◌||◌, List, [], ◌∷◌, length, drop, decimal, Result, Ok, Err, refl, ap, ap₂, subst, ◌∙◌, arith}
+use Rattle.std.proofs.Common.{◌≡◌, ℕ, ◌<◌, ◌≤◌, ◌^◌, Bool, true, false, not, cond, eqb, ltb, ◌||◌, List, [], ◌∷◌, length, drop, decimal, Result, Ok, Err, refl, ap, ap₂, subst, ◌∙◌, arith}
 use Rattle.std.specs.Prelude.{codes}
 use Rattle.std.specs.List.{join_with_byte}
 use Rattle.std.specs.Str.{bytes_eq}
@@ -15,13 +15,13 @@ use Rattle.mdp_cert.specs.declared.version.Version as version
 use Rattle.mdp_cert.specs.declared.version.Version.TheVariants.{One, Two}
 use Rattle.mdp_cert.specs.Cert.{PlainClaim, upper, reach, is_inside, IsInitInWidth}
 use Rattle.mdp_cert.specs.Lines.{◌>>=◌, refuse_if}
-use Rattle.mdp_cert.specs.Words.{words, first_of, words_behind, whole_at, frac_at}
+use Rattle.mdp_cert.specs.Words.{first_of, words_behind, whole_at, frac_at}
 use Rattle.mdp_cert.specs.Spelling.{◌␣◌, version_text, states_text, init_text}
 use Rattle.mdp_cert.specs.Reading.{version_at, states_at, finite_at, valued_at, init_at}
 use Rattle.mdp_cert.proofs.Pieces.{Free, free-spelling, decimal-some}
-use Rattle.mdp_cert.proofs.Cuts.{bytes_same, bytes_self}
+use Rattle.mdp_cert.proofs.Cuts.{bytes_same}
 use Rattle.mdp_cert.proofs.Feeds.{bind_ok, ok-is, refuse_ok, whole-found, whole-again, frac-found, frac-again}
-use Rattle.mdp_cert.proofs.Joined.{AllFree, free-join, free-whole, behind-again, behind-text, first-rest}
+use Rattle.mdp_cert.proofs.Joined.{free-join, free-whole, behind-again, behind-text}
 
 -- ---- the version
 

@@ -1,6 +1,5 @@
 -- The parts of a text are read exactly where they are the texts of what is read.
-use Rattle.std.proofs.Common.{◌≡◌, ◌↔◌, ◌⊎◌, inl, inr, ℕ, suc, ◌+◌, ◌<◌, ◌≤◌, ◌^◌, Bool, true, false, eqb, ltb, ◌&&◌, List, [], ◌∷◌, ◌++◌, length, map, get_or, Result, Ok, Err, refl, sym, ap, ap₂, subst, ◌∙◌, append_assoc, arith}
-use Rattle.std.specs.Prelude.{codes}
+use Rattle.std.proofs.Common.{◌≡◌, ◌↔◌, ◌⊎◌, inl, inr, ℕ, suc, ◌+◌, ◌<◌, ◌≤◌, ◌^◌, true, false, eqb, ltb, ◌&&◌, List, [], ◌∷◌, ◌++◌, length, map, Result, Ok, Err, refl, sym, ap, subst, ◌∙◌, append_assoc, arith}
 use Rattle.std.specs.List.{All}
 use Rattle.std.proofs.lemmas.Bool.{both_ways, lt-ltb, and_parts}
 use Rattle.std.proofs.lemmas.List.{length-map, append-nil}
@@ -16,16 +15,16 @@ use Rattle.mdp_cert.specs.declared.version.Version.{Version}
 use Rattle.mdp_cert.specs.declared.version.Version.TheVariants.{One, Two}
 use Rattle.mdp_cert.specs.Cert.{PlainClaim, upper, reach, PlainBody, bounds, policy, Certificate, label_of, is_inside, is_body_of, IsInitInWidth, IsBodyInWidth, Fits}
 use Rattle.mdp_cert.specs.Lines.{◌>>=◌, Place, place, line_by}
-use Rattle.mdp_cert.specs.Claims.{bound_columns, policy_columns, policies}
+use Rattle.mdp_cert.specs.Claims.{bound_columns, policy_columns, policies, IsPolicyInWidth}
 use Rattle.mdp_cert.specs.Spelling.{line, version_text, claim_text, states_text, init_text, closed_lines, body_text, text_in, text_of, old_text_of}
+use Rattle.mdp_cert.specs.Laws.{AreSameWords}
 use Rattle.mdp_cert.specs.Reading.{version_at, claim_at, states_at, init_at, Head, head_from, entries_to_end, policy_body, body_from, nothing_behind, outcome}
-use Rattle.mdp_cert.proofs.Pieces.{Free}
 use Rattle.mdp_cert.proofs.Cuts.{same-number, number-same}
-use Rattle.mdp_cert.proofs.Feeds.{ok-is, bind_ok, refuse_ok, Line, Judged, judged-found, judged-again}
+use Rattle.mdp_cert.proofs.Feeds.{ok-is, bind_ok, refuse_ok, judged-found, judged-again}
 use Rattle.mdp_cert.proofs.Claims.{claim-found, claim-again, free-claim}
 use Rattle.mdp_cert.proofs.Numbered.{version-found, version-again, free-version, states-found, states-again, free-states, init-found, init-again, free-init}
-use Rattle.mdp_cert.proofs.Columns.{bound-is_columns, policy-is_columns, IsPolicyInWidth}
-use Rattle.mdp_cert.proofs.Bodies.{Each, FoundClosed, closed-found, closed-again}
+use Rattle.mdp_cert.proofs.Columns.{bound-is_columns, policy-is_columns, same-words}
+use Rattle.mdp_cert.proofs.Bodies.{Each, closed-found, closed-again}
 use Rattle.mdp_cert.proofs.Policies.{length-policies, values-policies, choices-policies, ranks-policies, policies-of}
 
 -- ---- the head
@@ -288,3 +287,6 @@ not-both bytes c r fits is e = apart c r (sym (from-text bytes c fits is) ∙ e)
   where
     apart : (c : Certificate) (r : Refusal) → Ok c ≡ Err r → ⊥
     apart c r e = absurd cc
+
+pub are-same-words : AreSameWords
+are-same-words = record { bounds = same-words bound_columns IsNarrow bound-is_columns; policies = same-words policy_columns IsPolicyInWidth policy-is_columns }

@@ -1,24 +1,22 @@
 -- The lines of states are read exactly where they are the lines of their runs.
-use Rattle.std.proofs.Common.{◌≡◌, ℕ, zero, suc, ◌+◌, ◌-◌, ◌<◌, ◌≤◌, ◌^◌, Bool, true, false, not, cond, eqb, ltb, ◌||◌, List, [], ◌∷◌, ◌++◌, length, map, drop, decimal, Option, Some, None, Result, Ok, Err, refl, sym, ap, ap₂, subst, ◌∙◌, append_assoc, arith}
+use Rattle.std.proofs.Common.{◌≡◌, ℕ, zero, suc, ◌+◌, ◌-◌, ◌<◌, ◌≤◌, ◌^◌, Bool, true, false, not, cond, eqb, ltb, ◌||◌, List, [], ◌∷◌, length, drop, decimal, Option, Result, Ok, refl, sym, ap, ap₂, subst, ◌∙◌, arith}
 use Rattle.std.specs.Prelude.{codes}
 use Rattle.std.specs.List.{join_with_byte}
-use Rattle.std.proofs.Math.ListN.{replicate}
-use Rattle.std.proofs.lemmas.Bool.{not-false, lt-ltb}
+use Rattle.std.proofs.lemmas.Bool.{not-false}
 use Rattle.std.proofs.lemmas.Bool.Decides.{nat_tests}
-use Rattle.std.proofs.lemmas.List.{length-append, length-replicate}
 use Rattle.mdp_cert.specs.declared.error.CertKind.TheVariants as kind
 use Rattle.mdp_cert.specs.declared.error.Refusal.{Refusal}
 use Rattle.mdp_cert.specs.declared.version.Version.{Version}
 use Rattle.mdp_cert.specs.declared.version.Version.TheVariants.{One, Two}
-use Rattle.mdp_cert.specs.Lines.{◌>>=◌, refuse_if, Place, place, next_line, line_by}
+use Rattle.mdp_cert.specs.Lines.{◌>>=◌, refuse_if}
 use Rattle.mdp_cert.specs.Words.{words, first_of, begins_with, words_behind, whole_at}
-use Rattle.mdp_cert.specs.Runs.{Columns, Run, run, single, entries_of, before_runs, longest_runs, runs_in}
-use Rattle.mdp_cert.specs.Spelling.{◌␣◌, line, entry_text, run_text, run_lines, state_lines}
-use Rattle.mdp_cert.specs.Reading.{entry_at, state_at, run_at, is_same, line_of_states, longest_at, run_in, onto_run, runs_from, entries_from}
+use Rattle.mdp_cert.specs.Runs.{Columns, Run, run, single}
+use Rattle.mdp_cert.specs.Spelling.{◌␣◌, entry_text, run_text}
+use Rattle.mdp_cert.specs.Reading.{entry_at, state_at, run_at, is_same, line_of_states, longest_at, run_in}
 use Rattle.mdp_cert.proofs.Pieces.{Free}
-use Rattle.mdp_cert.proofs.Cuts.{same-number, number-same, Behind, behind_found}
-use Rattle.mdp_cert.proofs.Feeds.{bind_ok, ok-is, refuse_ok, found_ok, whole-found, whole-again, Line, Judged, judged-found, judged-again}
-use Rattle.mdp_cert.proofs.Joined.{AllFree, join-front, words-join, free-join, free-whole, behind-again, behind-text, first-rest}
+use Rattle.mdp_cert.proofs.Cuts.{same-number, number-same}
+use Rattle.mdp_cert.proofs.Feeds.{bind_ok, ok-is, refuse_ok, found_ok, whole-found, whole-again}
+use Rattle.mdp_cert.proofs.Joined.{join-front, free-join, free-whole, behind-again, behind-text, first-rest}
 use Rattle.mdp_cert.proofs.Columns.{IsColumns}
 
 module _ {A : Type 0} (k : Columns A) (IsInWidth : A → Type 0) (is : IsColumns k IsInWidth) (states : ℕ) (limit : states ≤ 2 ^ 20) where

@@ -1,5 +1,5 @@
 -- How an answer of the program stands to the definition.
-use Rattle.std.specs.Prelude.{◌≡◌, ℕ, zero, suc, Bool, true, false, List, [], ◌∷◌, length, take, Result, Err, if◌then◌else◌}
+use Rattle.std.specs.Prelude.{◌≡◌, ℕ, suc, Bool, false, List, [], ◌∷◌, length, take, Result, Err, if◌then◌else◌}
 use Rattle.mdp_cert.specs.declared.error.CertError.{CertError}
 use Rattle.mdp_cert.specs.declared.error.CertError.TheVariants.{At, Memory}
 use Rattle.mdp_cert.specs.declared.error.Refusal.{Refusal}

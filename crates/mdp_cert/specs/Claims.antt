@@ -1,7 +1,7 @@
 -- The words of each claim behind the number of a state.
-use Rattle.std.specs.Prelude.{ℕ, Bool, ◌&&◌, ◌==◌, List, [], ◌∷◌, map, decimal, Option, Some, None, option_and_then}
+use Rattle.std.specs.Prelude.{ℕ, ◌<◌, ◌^◌, ◌&&◌, ◌==◌, List, [], ◌∷◌, decimal, Option, Some, None, option_and_then}
 use Rattle.mdp_math.specs.Rational.{ℚ}
-use Rattle.mdp_num.specs.Value.{spelling}
+use Rattle.mdp_num.specs.Value.{spelling, IsNarrow}
 use Rattle.mdp_num.specs.Canonical.{canonical_of}
 use Rattle.mdp_num.specs.Equal.{eq_ℚ}
 use Rattle.mdp_cert.specs.declared.reach_entry.ReachEntry.{ReachEntry}
@@ -30,6 +30,11 @@ policy_columns = record {
   words = λ p. spelling p.value ∷ decimal p.choice ∷ decimal p.rank ∷ [];
   same = λ p q. eq_ℚ p.value q.value && (p.choice == q.choice) && (p.rank == q.rank);
 }
+
+pub record IsPolicyInWidth (p : ReachEntry) : Type 0 where
+  pub value : IsNarrow p.value
+  pub choice : p.choice < 2 ^ 32
+  pub rank : p.rank < 2 ^ 32
 
 -- the entries of three lists
 abbrev pub policies : List ℚ → List ℕ → List ℕ → List ReachEntry

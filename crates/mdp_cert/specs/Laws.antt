@@ -1,11 +1,14 @@
 -- Certificates and their texts.
-use Rattle.std.specs.Prelude.{◌≡◌, ◌↔◌, ◌⊎◌, ℕ, zero, suc, ◌-◌, ◌<◌, List, [], ◌++◌, length, Result, Ok, Err, nat_lt, if◌then◌else◌}
+use Rattle.std.specs.Prelude.{◌≡◌, ◌↔◌, ◌⊎◌, ℕ, zero, suc, ◌-◌, ◌<◌, true, List, [], ◌++◌, length, Result, Ok, Err, nat_lt, if◌then◌else◌}
 use Rattle.std.specs.List.{position_or_len, before_first, after_first}
 use Rattle.mdp_cert.specs.declared.error.CertKind.TheVariants.{End}
 use Rattle.mdp_cert.specs.declared.error.Refusal.{Refusal}
 use Rattle.mdp_cert.specs.declared.version.Version.{Version}
 use Rattle.mdp_cert.specs.Cert.{Certificate, Fits}
+use Rattle.mdp_num.specs.Value.{IsNarrow}
 use Rattle.mdp_cert.specs.Lines.{is_line_feed}
+use Rattle.mdp_cert.specs.Runs.{Columns}
+use Rattle.mdp_cert.specs.Claims.{bound_columns, policy_columns, IsPolicyInWidth}
 use Rattle.mdp_cert.specs.Spelling.{line, text_in, text_of, old_text_of}
 use Rattle.mdp_cert.specs.Reading.{outcome}
 
@@ -20,6 +23,15 @@ IsReadBack = (c : Certificate) → Fits c → (outcome (text_of c) ≡ Ok c) × 
 -- no two texts are the same: not those of two certificates, and not the two of one
 abbrev pub IsOneText : Type 0
 IsOneText = (v w : Version) (c d : Certificate) → Fits c → Fits d → text_in v c ≡ text_in w d → (v ≡ w) × (c ≡ d)
+
+-- states say the same exactly where their words are the same
+abbrev pub IsSameWords : {A : Type 0} → Columns A → (A → Type 0) → Type 0
+IsSameWords {A} k IsInWidth = (x y : A) → IsInWidth x → IsInWidth y → (k.same x y ≡ true) ↔ (k.words x ≡ k.words y)
+
+-- and so for each claim
+pub record AreSameWords : Type 0 where
+  pub bounds : IsSameWords bound_columns IsNarrow
+  pub policies : IsSameWords policy_columns IsPolicyInWidth
 
 -- bytes are a text of a certificate, or they are refused
 abbrev pub IsReadOrRefused : Type 0

@@ -1,12 +1,12 @@
 -- The words of a line, and the numbers that they are.
-use Rattle.std.specs.Prelude.{ℕ, suc, ◌^◌, ℤ, pos, negsuc, Bool, true, false, ◌&&◌, List, [], ◌∷◌, length, drop, Option, Some, None, option_and_then, Result, Ok, nat_lt, ◌==◌, if◌then◌else◌}
+use Rattle.std.specs.Prelude.{ℕ, suc, ◌^◌, ℤ, pos, negsuc, Bool, ◌&&◌, List, [], ◌∷◌, length, drop, Option, Some, None, option_and_then, Result, Ok, nat_lt, ◌==◌, if◌then◌else◌}
 use Rattle.std.specs.List.{slice_split}
 use Rattle.std.specs.Str.{bytes_eq}
 use Rattle.mdp_math.specs.Rational.{ℚ}
 use Rattle.mdp_num.specs.Canonical.{canonical_of}
 use Rattle.mdp_cert.specs.declared.error.CertKind.TheVariants as kind
 use Rattle.mdp_cert.specs.declared.error.Refusal.{Refusal}
-use Rattle.mdp_cert.specs.Lines.{◌>>=◌, refused, or_refused}
+use Rattle.mdp_cert.specs.Lines.{refused, or_refused}
 
 abbrev pub is_blank : ℕ → Bool
 is_blank c = c == 32

@@ -11,8 +11,9 @@ use Rattle.mdp_farkas.proofs.ReachRules.{reach_rules, reach_max, reach_min}
 use Rattle.mdp_farkas.specs.declared.verdict.Verdict.{Verdict}
 use Rattle.mdp_farkas.specs.declared.verdict.Verdict.TheVariants as verdict
 use Rattle.mdp_rows.specs.declared.dir.Dir.TheVariants.{Max, Min}
-use Rattle.mdp_cert.specs.Cert.{PlainClaim, upper, reach, PlainBody, bounds, policy, Certificate, label_of}
-use Rattle.mdp_check.specs.Initial.{init_check, values_of}
+use Rattle.mdp_cert.specs.Cert.{PlainClaim, upper, reach, PlainBody, bounds, policy, Certificate, label_of, is_body_of}
+use Rattle.mdp_cert.proofs.Growth.{policy-entries}
+use Rattle.mdp_check.specs.Initial.{init_check, init_fault, values_of}
 use Rattle.mdp_check.specs.Check.{answer_of, verdict_by, body_verdict, after_init, at_label, answer_to, valid_by, IsAccepted, bound_by, IsBound}
 use Rattle.mdp_check.specs.declared.answer.Answer.{Answer}
 use Rattle.mdp_check.specs.declared.answer.Answer.TheVariants.{Yes, No, Wide, NoLabel, Size}
@@ -35,29 +36,35 @@ both_yes (verdict.Wide s c) v e = cc
 
 -- ---- the body
 
-body_valid : (m : Mdp) (goals : List Bool) (claim : PlainClaim) (body : PlainBody) → verdict_by m goals claim body ≡ verdict.Yes → valid_by m goals claim body
-body_valid m goals (upper label) (bounds z) e = (upper_rules m goals z (verdict_of (upper_checks m goals z)) refl).0 e
-body_valid m goals (upper label) (policy z choices ranks) e = cc
-body_valid m goals (reach dir label) (bounds z) e = cc
-body_valid m goals (reach dir label) (policy z choices ranks) e = (reach_rules m goals z choices ranks dir (verdict_of (reach_checks dir m goals z choices ranks)) refl).0 e
-
-valid_body : (m : Mdp) (goals : List Bool) (claim : PlainClaim) (body : PlainBody) → valid_by m goals claim body → verdict_by m goals claim body ≡ verdict.Yes
-valid_body m goals (upper label) (bounds z) h = (upper_rules m goals z (verdict_of (upper_checks m goals z)) refl).1 h
-valid_body m goals (upper label) (policy z choices ranks) h = absurd h
-valid_body m goals (reach dir label) (bounds z) h = absurd h
-valid_body m goals (reach dir label) (policy z choices ranks) h = (reach_rules m goals z choices ranks dir (verdict_of (reach_checks dir m goals z choices ranks)) refl).1 h
-
 of_if_yes : (v : Verdict) (P : Type 0) → IfYes v P → v ≡ verdict.Yes → P
 of_if_yes verdict.Yes P h e = h
 of_if_yes (verdict.No f) P h e = cc
 of_if_yes (verdict.Wide s c) P h e = cc
 
-body_bound : (m : Mdp) (goals : List Bool) (claim : PlainClaim) (body : PlainBody) → IsMdp m → verdict_by m goals claim body ≡ verdict.Yes → bound_by m goals claim body
-body_bound m goals (upper label) (bounds z) is e = of_if_yes _ _ (upper_bound m goals z (verdict_of (upper_checks m goals z)) is refl) e
-body_bound m goals (upper label) (policy z choices ranks) is e = cc
-body_bound m goals (reach dir label) (bounds z) is e = cc
-body_bound m goals (reach Max label) (policy z choices ranks) is e = of_if_yes _ _ (reach_max m goals z choices ranks Max (verdict_of (reach_checks Max m goals z choices ranks)) is refl refl) e
-body_bound m goals (reach Min label) (policy z choices ranks) is e = of_if_yes _ _ (reach_min m goals z choices ranks Min (verdict_of (reach_checks Min m goals z choices ranks)) is refl refl) e
+module _ (m : Mdp) (goals : List Bool) (states : ℕ) (size : states ≡ states_of m) where
+  body_valid : (claim : PlainClaim) (body : PlainBody) → is_body_of claim states body ≡ true → verdict_by m goals claim body ≡ verdict.Yes → valid_by m goals claim body
+  body_valid (upper label) (bounds z) fits e = (upper_rules m goals z (verdict_of (upper_checks m goals z)) refl).0 e
+  body_valid (upper label) (policy z choices ranks) fits e = cc
+  body_valid (reach dir label) (bounds z) fits e = cc
+  body_valid (reach dir label) (policy z choices ranks) fits e = (reach_rules m goals z choices ranks dir (verdict_of (reach_checks dir m goals z choices ranks)) ((policy-entries (reach dir label) states z choices ranks fits).choices ∙ size) refl).0 e
+
+  valid_body : (claim : PlainClaim) (body : PlainBody) → is_body_of claim states body ≡ true → valid_by m goals claim body → verdict_by m goals claim body ≡ verdict.Yes
+  valid_body (upper label) (bounds z) fits h = (upper_rules m goals z (verdict_of (upper_checks m goals z)) refl).1 h
+  valid_body (upper label) (policy z choices ranks) fits h = absurd h
+  valid_body (reach dir label) (bounds z) fits h = absurd h
+  valid_body (reach dir label) (policy z choices ranks) fits h = (reach_rules m goals z choices ranks dir (verdict_of (reach_checks dir m goals z choices ranks)) ((policy-entries (reach dir label) states z choices ranks fits).choices ∙ size) refl).1 h
+
+  body_bound : (claim : PlainClaim) (body : PlainBody) → IsMdp m → is_body_of claim states body ≡ true → verdict_by m goals claim body ≡ verdict.Yes → bound_by m goals claim body
+  body_bound (upper label) (bounds z) is fits e = of_if_yes _ _ (upper_bound m goals z (verdict_of (upper_checks m goals z)) is refl) e
+  body_bound (upper label) (policy z choices ranks) is fits e = cc
+  body_bound (reach dir label) (bounds z) is fits e = cc
+  body_bound (reach Max label) (policy z choices ranks) is fits e = of_if_yes _ _ (reach_max m goals z choices ranks Max (verdict_of (reach_checks Max m goals z choices ranks)) is ((policy-entries (reach Max label) states z choices ranks fits).choices ∙ size) refl refl) e
+  body_bound (reach Min label) (policy z choices ranks) is fits e = of_if_yes _ _ (reach_min m goals z choices ranks Min (verdict_of (reach_checks Min m goals z choices ranks)) is ((policy-entries (reach Min label) states z choices ranks fits).choices ∙ size) refl refl) e
+
+-- a verdict of yes is one on a body that fits
+by_body : (fits : Bool) (v : Verdict) → cond fits v (init_fault None) ≡ verdict.Yes → (fits ≡ true) × (v ≡ verdict.Yes)
+by_body true v e = (refl, e)
+by_body false v e = cc
 
 -- ---- the whole
 
@@ -65,7 +72,8 @@ accepted_at : (m : Mdp) (c : Certificate) (found : Option ℕ) → place_of (lab
 accepted_at m c None f size e = cc
 accepted_at m c (Some l) f size e =
     let both = both_yes (init_check c.init (initial_of m) (values_of c.body)) (body_verdict m (marks_of m l) c) (yes_verdict _ e) in
-    record { states = size; label = l; found = f; init = both.0; body = body_valid m (marks_of m l) c.claim c.body both.1 }
+    let body = by_body (is_body_of c.claim c.states c.body) (verdict_by m (marks_of m l) c.claim c.body) both.1 in
+    record { states = size; entries = body.0; label = l; found = f; init = both.0; body = body_valid m (marks_of m l) c.states size c.claim c.body body.0 body.1 }
 
 accepted_of : (m : Mdp) (c : Certificate) → answer_to m c ≡ Yes → IsAccepted m c
 accepted_of m c e =
@@ -77,10 +85,11 @@ answer_accepted m c h =
     ap (λ (same : Bool). cond same (at_label m c (place_of (label_of c.claim) m.labels)) Size) (eq-eqb c.states (states_of m) h.states)
     ∙ ap (λ (found : Option ℕ). at_label m c found) h.found
     ∙ ap (λ (i : Verdict). answer_of (after_init i (body_verdict m (marks_of m h.label) c))) h.init
-    ∙ ap answer_of (valid_body m (marks_of m h.label) c.claim c.body h.body)
+    ∙ ap (λ (fits : Bool). answer_of (cond fits (verdict_by m (marks_of m h.label) c.claim c.body) (init_fault None))) h.entries
+    ∙ ap answer_of (valid_body m (marks_of m h.label) c.states h.states c.claim c.body h.entries h.body)
 
 pub yes_is_accepted : (m : Mdp) (c : Certificate) → (answer_to m c ≡ Yes) ↔ IsAccepted m c
 yes_is_accepted m c = (accepted_of m c, answer_accepted m c)
 
 pub accepted_is_bound : (m : Mdp) (c : Certificate) → IsMdp m → IsAccepted m c → IsBound m c
-accepted_is_bound m c is h = (h.label, h.found, body_bound m (marks_of m h.label) c.claim c.body is (valid_body m (marks_of m h.label) c.claim c.body h.body))
+accepted_is_bound m c is h = (h.label, h.found, body_bound m (marks_of m h.label) c.states h.states c.claim c.body is h.entries (valid_body m (marks_of m h.label) c.states h.states c.claim c.body h.entries h.body))

@@ -65,3 +65,8 @@ no_label = refl
 -- the numbers of states come before the label
 two_states : answer_to three (record { claim = upper (codes "done"); states = 2; init = Missing; body = bounds (one ∷ one ∷ []) }) ≡ Size
 two_states = refl
+
+-- a body without an entry per state stands in no certificate
+two_entries : answer_to three (upper_of (codes "goal") (Finite 0 one) (one ∷ one ∷ [])) ≡ No (record { rule = 1; state = None; choice = None })
+unfolding of_int
+two_entries = refl

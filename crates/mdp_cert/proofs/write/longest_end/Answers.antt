@@ -1,6 +1,5 @@
-use Rattle.std.proofs.Common.{◌≡◌, ◌+◌, drop, suc, ◌∙◌, sym, ap, arith}
-use Rattle.mdp_cert.specs.Answer.{more_same, same_next}
-use Rattle.mdp_cert.proofs.Runs.{Next, more-next, more-none}
+use Rattle.std.proofs.Common.{drop, ◌∙◌, sym, arith}
+use Rattle.mdp_cert.proofs.Runs.{more-next, more-none}
 use Rattle.mdp_cert.proofs.write.longest_end.Goals as goal
 
 pub loop-last-preserved : goal.loop-last-preserved
