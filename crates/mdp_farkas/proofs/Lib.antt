@@ -1,7 +1,7 @@
 mod Objections
-mod Holds
-mod Comparing
-mod Summing
+pub mod Holds
+pub mod Comparing
+pub mod Summing
 pub mod UpperRules
 mod Entries
 pub mod ReachRules
