@@ -1,7 +1,7 @@
 mod Objections
-mod Holds
-mod Comparing
-mod Summing
+pub mod Holds
+pub mod Comparing
+pub mod Summing
 mod Inequalities
 pub mod UpperRules
 mod Entries

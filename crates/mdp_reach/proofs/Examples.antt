@@ -1,0 +1,69 @@
+-- Paths of reachability, computed.
+use Rattle.std.proofs.Common.{◌≡◌, ℕ, [], ◌∷◌, List, Bool, true, false, Some, Result, Ok, refl, pos}
+use Rattle.mdp_math.specs.Gcd.{gcd, gcd_with_fuel}
+use Rattle.mdp_math.specs.Rational.{ℚ, of_int, ratio, ◌+ℚ◌, ◌*ℚ◌, neg_ℚ, inv_ℚ}
+use Rattle.mdp_math.specs.Written.{written_add, written_mul, written_compare, narrow, narrow_ℚ}
+use Rattle.mdp_spec.specs.Mdp.{Mdp, State, Choice, Entry}
+use Rattle.mdp_elim.specs.Elimination.{divided_rest, plus_equation, eliminated, evaluated}
+use Rattle.mdp_elim.specs.System.{equation_of}
+use Rattle.mdp_rows.specs.declared.dir.Dir.TheVariants.{Max, Min}
+use Rattle.mdp_path.specs.Iteration.{iterated}
+use Rattle.mdp_path.specs.Path.{Found, Refusal, path_step}
+use Rattle.mdp_path.specs.Laws.{first}
+use Rattle.mdp_reach.specs.Problem.{reach_problem}
+
+abbrev to : ℕ → ℚ → Entry
+to t p = record { target = t; prob = p }
+
+abbrev by : List Entry → Choice
+by row = record { row = row; rewards = [] }
+
+abbrev with : List Choice → State
+with choices = record { labels = []; choices = choices }
+
+abbrev model_of : List State → Mdp
+model_of states = record { names = []; labels = []; states = states }
+
+abbrev stays : ℕ → State
+stays s = with (by (to s (of_int (pos 1)) ∷ []) ∷ [])
+
+-- state 0 stays, or goes to the goal 1 with 1/3 and to 2 with 2/3, where it stays
+abbrev waits : Mdp
+waits = model_of (with (by (to 0 (of_int (pos 1)) ∷ []) ∷ by (to 1 (ratio (pos 1) 3) ∷ to 2 (ratio (pos 2) 3) ∷ []) ∷ []) ∷ stays 1 ∷ stays 2 ∷ [])
+
+abbrev goal_1 : List Bool
+goal_1 = false ∷ true ∷ false ∷ []
+
+-- to stay is worth no more than the 1/3 that it leaves
+goes : iterated (path_step (reach_problem Max waits goal_1 (true ∷ true ∷ false ∷ []))) 1 (first (1 ∷ 0 ∷ 0 ∷ [])) ≡
+    Some (let r : Result Found Refusal = Ok (record { number = 0; policy = 1 ∷ 0 ∷ 0 ∷ []; values = ratio (pos 1) 3 ∷ of_int (pos 1) ∷ of_int (pos 0) ∷ [] }) in r)
+unfolding equation_of eliminated divided_rest plus_equation evaluated written_add written_mul written_compare narrow narrow_ℚ ◌+ℚ◌ ◌*ℚ◌ neg_ℚ inv_ℚ ratio of_int gcd gcd_with_fuel
+goes = refl
+
+-- the goal can be avoided from 0
+avoids : iterated (path_step (reach_problem Min waits goal_1 (true ∷ false ∷ true ∷ []))) 1 (first (0 ∷ 0 ∷ 0 ∷ [])) ≡
+    Some (let r : Result Found Refusal = Ok (record { number = 0; policy = 0 ∷ 0 ∷ 0 ∷ []; values = of_int (pos 0) ∷ of_int (pos 1) ∷ of_int (pos 0) ∷ [] }) in r)
+unfolding equation_of eliminated divided_rest plus_equation evaluated written_add written_mul written_compare narrow narrow_ℚ ◌+ℚ◌ ◌*ℚ◌ neg_ℚ inv_ℚ ratio of_int gcd gcd_with_fuel
+avoids = refl
+
+-- the goal 3 with probability n/d, and else 4, where it stays
+abbrev tries : ℕ → ℕ → ℕ → Choice
+tries n k d = by (to 3 (ratio (pos n) d) ∷ to 4 (ratio (pos k) d) ∷ [])
+
+abbrev goes_to : ℕ → Choice
+goes_to t = by (to t (of_int (pos 1)) ∷ [])
+
+-- state 2 tries with 1/2 or with 3/4; state 1 tries with 5/8 or goes to 2; state 0 tries with 11/16 or goes to 1
+abbrev late : Mdp
+late = model_of (with (tries 11 5 16 ∷ goes_to 1 ∷ []) ∷ with (tries 5 3 8 ∷ goes_to 2 ∷ []) ∷ with (tries 1 1 2 ∷ tries 3 1 4 ∷ []) ∷ stays 3 ∷ stays 4 ∷ [])
+
+-- each round changes one choice, from 2 back to 0
+four_rounds :
+    iterated (path_step (reach_problem Max late (false ∷ false ∷ false ∷ true ∷ false ∷ []) (true ∷ true ∷ true ∷ true ∷ false ∷ []))) 4 (first (0 ∷ 0 ∷ 0 ∷ 0 ∷ 0 ∷ [])) ≡
+    Some (let r : Result Found Refusal = Ok (record {
+      number = 3;
+      policy = 1 ∷ 1 ∷ 1 ∷ 0 ∷ 0 ∷ [];
+      values = ratio (pos 3) 4 ∷ ratio (pos 3) 4 ∷ ratio (pos 3) 4 ∷ of_int (pos 1) ∷ of_int (pos 0) ∷ [];
+    }) in r)
+unfolding equation_of eliminated divided_rest plus_equation evaluated written_add written_mul written_compare narrow narrow_ℚ ◌+ℚ◌ ◌*ℚ◌ neg_ℚ inv_ℚ ratio of_int gcd gcd_with_fuel
+four_rounds = refl

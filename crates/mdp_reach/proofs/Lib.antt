@@ -1,0 +1,12 @@
+pub mod Nodes
+pub mod Policies
+pub mod Starts
+pub mod Chances
+pub mod Kept
+pub mod Rows
+pub mod MaxRules
+pub mod MinRules
+pub mod NeverNo
+pub mod OneEnd
+pub mod Answering
+mod Examples

@@ -1,0 +1,126 @@
+-- A query has one end at most: marks, ranks and choices of its passes are determined, and so are its path and the verdict.
+use Rattle.std.proofs.Common.{◌≡◌, ℕ, ◌<◌, inl, inr, Bool, true, false, List, length, Result, Ok, Err, refl, sym, ◌∙◌, subst, arith}
+use Rattle.std.specs.Prelude.{slice_index, slice_index_or}
+use Rattle.std.proofs.lemmas.List.FromFn.{fill_by_all}
+use Rattle.mdp_math.proofs.Booleans.{same_truth}
+use Rattle.mdp_spec.specs.Mdp.{Mdp, states_of}
+use Rattle.mdp_spec.specs.Tree.{is_marked}
+use Rattle.mdp_rows.specs.declared.dir.Dir.{Dir}
+use Rattle.mdp_rows.specs.declared.dir.Dir.TheVariants.{Max, Min}
+use Rattle.mdp_graph.specs.Sets.{marked}
+use Rattle.mdp_graph.specs.Layers.{AreReached, AreLeastRanks}
+use Rattle.mdp_graph.specs.Choices.{AreLeast}
+use Rattle.mdp_graph.specs.Reach.{may_step, row_step, falls}
+use Rattle.mdp_graph.specs.Meet.{must_step}
+use Rattle.mdp_graph.specs.Avoid.{keeps}
+use Rattle.mdp_path.specs.Path.{Found, Refusal, path_step}
+use Rattle.mdp_path.specs.Laws.{first}
+use Rattle.mdp_path.specs.Iteration.{EndsWith}
+use Rattle.mdp_path.specs.Queries.{WideTerm}
+use Rattle.mdp_path.proofs.Iterations.{one_end}
+use Rattle.mdp_farkas.specs.Verdict.{verdict_of}
+use Rattle.mdp_farkas.specs.Reach.{reach_checks}
+use Rattle.mdp_farkas.specs.declared.verdict.Verdict.{Verdict}
+use Rattle.mdp_farkas.specs.declared.verdict.Verdict.TheVariants.{Yes, No, Wide}
+use Rattle.mdp_reach.specs.Problem.{reach_problem}
+use Rattle.mdp_reach.specs.Query.{Answer, none_blocked, policy_rows, ending, IsMaxStart, IsMinStart, IsStart, AreRanks, Held, AfterPath, EndsSo}
+
+-- ---- lists that are the same at each state
+
+same_list : {A : Type 0} (n : ℕ) (xs ys : List A) (d : A) → length xs ≡ n → length ys ≡ n → ((s : ℕ) → s < n → slice_index_or xs s d ≡ slice_index_or ys s d) → xs ≡ ys
+same_list n xs ys d e f h = fill_by_all (λ s. slice_index_or ys s d) xs n d e h ∙ sym (fill_by_all (λ s. slice_index_or ys s d) ys n d f (λ s l. refl))
+
+module _ (step : (ℕ → Bool) → ℕ → Bool) (set : ℕ → Bool) (n : ℕ) where
+  one_reached : (xs ys : List Bool) → AreReached step set n xs → AreReached step set n ys → xs ≡ ys
+  one_reached xs ys a b =
+      same_list n xs ys false a.count b.count
+      (λ s l. same_truth (marked xs s) (marked ys s) (λ e. (b.marks_reached s l).1 ((a.marks_reached s l).0 e)) (λ e. (a.marks_reached s l).1 ((b.marks_reached s l).0 e)))
+
+  rank_by : (marks : List Bool) (xs ys : List ℕ) (s : ℕ) (e : Bool) → AreLeastRanks step set n marks xs → AreLeastRanks step set n marks ys → s < n → marked marks s ≡ e
+      → slice_index xs s ≡ slice_index ys s
+  rank_by marks xs ys s true a b l e =
+      let i = a.least s (slice_index ys s) l (b.reaches s l e) in let k = b.least s (slice_index xs s) l (a.reaches s l e) in omega arith
+  rank_by marks xs ys s false a b l e = a.zero s l e ∙ sym (b.zero s l e)
+
+  one_ranks : (marks : List Bool) (xs ys : List ℕ) → AreLeastRanks step set n marks xs → AreLeastRanks step set n marks ys → xs ≡ ys
+  one_ranks marks xs ys a b = same_list n xs ys 0 a.count b.count (λ s l. rank_by marks xs ys s (marked marks s) a b l refl)
+
+  -- marks and ranks together
+  both_ranks : (marks others : List Bool) (xs ys : List ℕ) → AreReached step set n marks → AreLeastRanks step set n marks xs → AreReached step set n others
+      → AreLeastRanks step set n others ys → xs ≡ ys
+  both_ranks marks others xs ys a i b k = one_ranks marks xs ys i (subst (λ (e : List Bool). AreLeastRanks step set n e ys) (one_reached others marks b a) k)
+
+module _ (m : Mdp) (targets marks : List Bool) (test : ℕ → ℕ → Bool) where
+  choice_by : (xs ys : List ℕ) (s : ℕ) (e g : Bool) → AreLeast m targets marks test xs → AreLeast m targets marks test ys → s < states_of m → marked marks s ≡ e → marked targets s ≡ g
+      → slice_index xs s ≡ slice_index ys s
+  choice_by xs ys s false g a b l e f = a.zero s l (inl e) ∙ sym (b.zero s l (inl e))
+  choice_by xs ys s true true a b l e f = a.zero s l (inr f) ∙ sym (b.zero s l (inr f))
+  choice_by xs ys s true false a b l e f =
+      let i = a.least s (slice_index ys s) l (b.passes s l e f) (b.in_range s l) in
+      let k = b.least s (slice_index xs s) l (a.passes s l e f) (a.in_range s l) in
+      omega arith
+
+  one_choices : (xs ys : List ℕ) → AreLeast m targets marks test xs → AreLeast m targets marks test ys → xs ≡ ys
+  one_choices xs ys a b = same_list (states_of m) xs ys 0 a.count b.count (λ s l. choice_by xs ys s (marked marks s) (marked targets s) a b l refl refl)
+
+-- ---- the start
+
+module _ (m : Mdp) (goals : List Bool) where
+  max_marks : (marks others : List Bool) (xs ys : List ℕ) → IsMaxStart m goals marks xs → IsMaxStart m goals others ys → marks ≡ others
+  max_marks marks others xs ys a b = one_reached (may_step m (none_blocked m)) (is_marked goals) (states_of m) marks others a.reached b.reached
+
+  max_starts : (marks : List Bool) (xs ys : List ℕ) → IsMaxStart m goals marks xs → IsMaxStart m goals marks ys → xs ≡ ys
+  max_starts marks xs ys a b =
+      let r = one_ranks (may_step m (none_blocked m)) (is_marked goals) (states_of m) marks b.ranks a.ranks b.least a.least in
+      one_choices m goals marks (falls m marks a.ranks) xs ys a.choices (subst (λ (ranks : List ℕ). AreLeast m goals marks (falls m marks ranks) ys) r b.choices)
+
+  min_marks : (marks others : List Bool) (xs ys : List ℕ) → IsMinStart m goals marks xs → IsMinStart m goals others ys → marks ≡ others
+  min_marks marks others xs ys a b =
+      same_list (states_of m) marks others false a.avoids.count b.avoids.count
+      (λ s l. same_truth (marked marks s) (marked others s) (λ e. b.avoids.greatest (marked marks) a.avoids.avoiding s l e) (λ e. a.avoids.greatest (marked others) b.avoids.avoiding s l e))
+
+  min_starts : (marks : List Bool) (xs ys : List ℕ) → IsMinStart m goals marks xs → IsMinStart m goals marks ys → xs ≡ ys
+  min_starts marks xs ys a b = one_choices m goals marks (keeps m marks) xs ys a.choices b.choices
+
+  one_marks : (dir : Dir) (marks others : List Bool) (xs ys : List ℕ) → IsStart dir m goals marks xs → IsStart dir m goals others ys → marks ≡ others
+  one_marks Max = max_marks
+  one_marks Min = min_marks
+
+  one_start : (dir : Dir) (marks : List Bool) (xs ys : List ℕ) → IsStart dir m goals marks xs → IsStart dir m goals marks ys → xs ≡ ys
+  one_start Max = max_starts
+  one_start Min = min_starts
+
+-- ---- the end
+
+one_are_ranks : (dir : Dir) (m : Mdp) (goals : List Bool) (f : Found) (xs ys : List ℕ) → AreRanks dir m goals f.values f.policy xs → AreRanks dir m goals f.values f.policy ys → xs ≡ ys
+one_are_ranks Max m goals f xs ys a b =
+    both_ranks (row_step (policy_rows m f.policy)) (is_marked goals) (states_of m) a.marks b.marks xs ys a.reached a.least b.reached b.least
+one_are_ranks Min m goals f xs ys a b = both_ranks (must_step m) (is_marked (ending m goals f.values)) (states_of m) a.marks b.marks xs ys a.reached a.least b.reached b.least
+
+one_held : (f : Found) (ranks : List ℕ) (v : Verdict) (r q : Result Answer WideTerm) → Held f ranks v r → Held f ranks v q → q ≡ r
+one_held f ranks Yes r q a b = b ∙ sym a
+one_held f ranks (No fault) r q a b = absurd a
+one_held f ranks (Wide state choice) r q a b = b ∙ sym a
+
+one_after : (dir : Dir) (m : Mdp) (goals : List Bool) (e : Result Found Refusal) (r q : Result Answer WideTerm) → AfterPath dir m goals e r → AfterPath dir m goals e q → q ≡ r
+one_after dir m goals (Err w) r q a b = b ∙ sym a
+one_after dir m goals (Ok f) r q a b =
+    let same : b.0 ≡ a.0 = one_are_ranks dir m goals f b.0 a.0 b.1 a.1 in
+    one_held f a.0 (verdict_of (reach_checks dir m goals f.values f.policy a.0)) r q a.2
+    (subst (λ (ranks : List ℕ). Held f ranks (verdict_of (reach_checks dir m goals f.values f.policy ranks)) q) same b.2)
+
+module _ (dir : Dir) (m : Mdp) (goals : List Bool) (r q : Result Answer WideTerm) where
+  one_path : (marks : List Bool) (start : List ℕ) (e f : Result Found Refusal) → EndsWith (path_step (reach_problem dir m goals marks)) (first start) e
+      → EndsWith (path_step (reach_problem dir m goals marks)) (first start) f → AfterPath dir m goals e r → AfterPath dir m goals f q → q ≡ r
+  one_path marks start e f h k a b =
+      let same : f ≡ e = one_end (path_step (reach_problem dir m goals marks)) (first start) f e k h in
+      one_after dir m goals e r q a (subst (λ (e : Result Found Refusal). AfterPath dir m goals e q) same b)
+
+  pub one_query_end : EndsSo dir m goals r → EndsSo dir m goals q → q ≡ r
+  one_query_end a b =
+      let marks : b.marks ≡ a.marks = one_marks m goals dir b.marks a.marks b.start a.start b.is_start a.is_start in
+      let is_start : IsStart dir m goals a.marks b.start = subst (λ (marks : List Bool). IsStart dir m goals marks b.start) marks b.is_start in
+      let start : b.start ≡ a.start = one_start m goals dir a.marks b.start a.start is_start a.is_start in
+      let path : EndsWith (path_step (reach_problem dir m goals a.marks)) (first b.start) b.end =
+      subst (λ (marks : List Bool). EndsWith (path_step (reach_problem dir m goals marks)) (first b.start) b.end) marks b.path in
+      one_path a.marks a.start a.end b.end a.path (subst (λ (start : List ℕ). EndsWith (path_step (reach_problem dir m goals a.marks)) (first start) b.end) start path) a.after b.after

@@ -1,0 +1,20 @@
+use Rattle.mdp_reach.proofs.OneEnd.{one_query_end}
+use Rattle.mdp_reach.proofs.Answering.{answer-meets, answers_are_greatest, answers_are_least}
+use Rattle.mdp_reach.proofs.laws.query_law.Goals as goal
+
+pub returns-clause-one_end : goal.returns-clause-one_end
+returns-clause-one_end c dir m goals r q a b = one_query_end dir m goals r q a b
+
+pub returns-clause-rules : goal.returns-clause-rules
+returns-clause-rules c dir m goals a model end =
+    answer-meets dir m goals a model c.path_law.ensures.best c.reach_law.ensures.rest c.along_law.ensures.falls c.along_law.ensures.rest c.meet_law.ensures.rest c.avoid_law.ensures.rest end
+
+pub returns-clause-max : goal.returns-clause-max
+returns-clause-max c =
+    answers_are_greatest (λ dir m goals a model end.
+    answer-meets dir m goals a model c.path_law.ensures.best c.reach_law.ensures.rest c.along_law.ensures.falls c.along_law.ensures.rest c.meet_law.ensures.rest c.avoid_law.ensures.rest end)
+
+pub returns-clause-min : goal.returns-clause-min
+returns-clause-min c =
+    answers_are_least (λ dir m goals a model end.
+    answer-meets dir m goals a model c.path_law.ensures.best c.reach_law.ensures.rest c.along_law.ensures.falls c.along_law.ensures.rest c.meet_law.ensures.rest c.avoid_law.ensures.rest end)

@@ -1,0 +1,25 @@
+-- What a query of reachability ends with.
+use Rattle.std.specs.Prelude.{◌≡◌, Bool, List, Result, Ok}
+use Rattle.mdp_spec.specs.Mdp.{Mdp}
+use Rattle.mdp_spec.specs.Bounds.{ReachMax, ReachMin}
+use Rattle.mdp_spec.specs.Row.{IsMdp}
+use Rattle.mdp_rows.specs.declared.dir.Dir.{Dir}
+use Rattle.mdp_rows.specs.declared.dir.Dir.TheVariants.{Max, Min}
+use Rattle.mdp_path.specs.Queries.{WideTerm}
+use Rattle.mdp_farkas.specs.Reach.{IsReach}
+use Rattle.mdp_reach.specs.Query.{Answer, EndsSo}
+
+-- it has one end at most
+abbrev pub HasOneEnd : Type 0
+HasOneEnd = (dir : Dir) (m : Mdp) (goals : List Bool) (r q : Result Answer WideTerm) → EndsSo dir m goals r → EndsSo dir m goals q → q ≡ r
+
+-- an answer meets the rules of certificates, and no term of its check is past width
+abbrev pub AnswersMeetRules : Type 0
+AnswersMeetRules = (dir : Dir) (m : Mdp) (goals : List Bool) (a : Answer) → IsMdp m → EndsSo dir m goals (Ok a) → IsReach dir m goals a.values a.choices a.ranks
+
+-- so its values are the greatest probabilities of reaching a goal, or the least ones
+abbrev pub AnswersAreGreatest : Type 0
+AnswersAreGreatest = (m : Mdp) (goals : List Bool) (a : Answer) → IsMdp m → EndsSo Max m goals (Ok a) → ReachMax m goals a.values a.choices
+
+abbrev pub AnswersAreLeast : Type 0
+AnswersAreLeast = (m : Mdp) (goals : List Bool) (a : Answer) → IsMdp m → EndsSo Min m goals (Ok a) → ReachMin m goals a.values a.choices

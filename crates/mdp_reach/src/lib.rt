@@ -1,0 +1,11 @@
+//! The greatest and the least probability of reaching a goal, with a policy and a certificate.
+#![tactic(auto)]
+
+mod laws;
+mod problem;
+mod ranks;
+mod solve;
+mod start;
+
+pub use laws::query_law;
+pub use solve::solve_reach;
