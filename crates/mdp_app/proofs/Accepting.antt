@@ -14,7 +14,6 @@ use Rattle.mdp_check.specs.declared.answer.Answer.{Answer}
 use Rattle.mdp_check.specs.declared.answer.Answer.TheVariants.{Yes, No, Wide, NoLabel, Size, Memory}
 use Rattle.mdp_check.proofs.Accepting.{yes_is_accepted, accepted_is_bound}
 use Rattle.mdp_job.specs.Refusal.{PlainRefusal, long_model, long_certificate}
-use Rattle.mdp_app.specs.Said.{Said}
 use Rattle.mdp_app.specs.Due.{most_bytes, model_or_refusal, model_due, certificate_or_refusal, certificate_due, yes_text, said_of, said_to_certificate, said_to_model, check_due}
 use Rattle.mdp_app.specs.Accepted.{Accepted, IsTrueClaim}
 

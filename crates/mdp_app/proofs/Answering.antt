@@ -1,18 +1,18 @@
 -- What a run answers, from what was decided and what was written.
-use Rattle.std.proofs.Common.{◌≡◌, ℕ, ◌⊎◌, inl, inr, Bool, true, false, List, Option, Some, None, Result, Ok, Err, IfOk, IsTrue, refl, sym, ap, subst, ◌∙◌}
+use Rattle.std.proofs.Common.{◌≡◌, ℕ, inl, inr, Bool, true, false, List, Option, Ok, Err, IfOk, refl, sym, ap, subst, ◌∙◌}
 use Rattle.mdp_drn.specs.FromSource.{HadLeft}
-use Rattle.mdp_job.specs.Job.{PlainJob, check, Asked, reads_model, reads_second}
-use Rattle.mdp_job.specs.Refusal.{PlainRefusal, no_job, model_text, query_size, query_label, check_wide, denied, read_model, read_certificate, long_model, long_certificate, cert_text, no_memory}
+use Rattle.mdp_job.specs.Job.{solve, check, Asked, reads_model, reads_second}
+use Rattle.mdp_job.specs.Refusal.{PlainRefusal, no_job, model_text, query_size, query_label, too_wide, check_wide, denied, read_model, read_certificate, long_model, long_certificate, cert_text, no_memory}
 use Rattle.mdp_job.specs.Status.{status_of}
 use Rattle.mdp_job.specs.declared.status.Status.{Status}
 use Rattle.mdp_job.specs.declared.status.Status.TheVariants as status
-use Rattle.mdp_job.specs.declared.words_error.WordsError.{WordsError}
-use Rattle.mdp_app.specs.Due.{check_due, IsDue}
+use Rattle.mdp_app.proofs.Solved.{solve_once}
+use Rattle.mdp_app.specs.Due.{model_due, check_due, IsSolveDue, IsDue}
 use Rattle.mdp_app.specs.Decided.{IsTextDecided, IsDecided, EndsWith}
-use Rattle.mdp_app.specs.Run.{IsFromBytes, ModelFailed, SecondFailed, HasCause, LeavesUnread, IsAnswered, IsWorkDone, IsDoneUnless, IsComplete}
+use Rattle.mdp_app.specs.Run.{IsFromBytes, HasCause, LeavesUnread, IsAnswered, IsWorkDone, IsDoneUnless, IsComplete}
 use Rattle.mdp_app.specs.Said.{Said, said_status}
 use Rattle.mdp_app.specs.Streams.{Input, Told, Output}
-use Rattle.mdp_app.specs.Written.{WroteAll, Wrote}
+use Rattle.mdp_app.specs.Written.{Wrote}
 
 -- no refusal ends a run with the work done
 refusal_status : (r : PlainRefusal) → status.Done ≡ status_of r → ⊥
@@ -20,6 +20,7 @@ refusal_status (no_job e) h = cc
 refusal_status (model_text n kind) h = cc
 refusal_status query_size h = cc
 refusal_status query_label h = cc
+refusal_status (too_wide w) h = cc
 refusal_status (check_wide state choice) h = cc
 refusal_status (denied f) h = cc
 refusal_status read_model h = cc
@@ -39,6 +40,8 @@ due_once :
     (asked : Asked) (model second : Input) (m s n t text : List ℕ) (said : Said) → HadLeft model.before n → HadLeft second.before t → IsDue asked n t said
     → Told (reads_model asked) model m → Told (reads_second asked) second s → IsDue asked m s (Ok text)
     → said ≡ Ok text
+due_once (Ok (solve rule dir query)) model second m s n t text said hn ht due tm ts due_text =
+    solve_once dir query (model_due rule m) said (Ok text) (subst (λ (x : List ℕ). IsSolveDue dir query (model_due rule x) said) (had_told true model m n tm hn refl) due) due_text
 due_once (Ok (check rule)) model second m s n t text said hn ht due tm ts due_text =
     due ∙ ap (λ (x : List ℕ). check_due rule x t) (had_told true model m n tm hn refl) ∙ ap (λ (x : List ℕ). check_due rule m x) (had_told true second s t ts ht refl) ∙ sym due_text
 due_once (Err e) model second m s n t text said hn ht due tm ts due_text = cc

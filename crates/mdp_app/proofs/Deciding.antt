@@ -1,28 +1,19 @@
 -- What is decided, from what was read.
-use Rattle.std.proofs.Common.{◌≡◌, ℕ, ◌⊎◌, inl, inr, Bool, true, false, List, [], Option, Some, None, Result, Ok, Err, IfSome, OnOk, IfOk, IsOk, refl, sym, ap, subst, ◌∙◌}
+use Rattle.std.proofs.Common.{◌≡◌, inl, inr, false, Result, Ok, Err, OnOk, IfOk, IsOk, refl, sym, ap, subst, ◌∙◌}
 use Rattle.std.specs.Io.KnownBytes.{IsAtEnd}
 use Rattle.mdp_spec.specs.Mdp.{Mdp}
 use Rattle.mdp_spec.specs.Row.{IsMdp}
 use Rattle.mdp_rows.specs.declared.rule.RowRule.{RowRule}
-use Rattle.mdp_drn.specs.FromSource.{HadLeft}
-use Rattle.mdp_job.specs.Job.{PlainJob, check, Asked}
-use Rattle.mdp_job.specs.Refusal.{PlainRefusal, no_job, read_model, read_certificate, no_memory}
+use Rattle.mdp_job.specs.Job.{check, Asked}
+use Rattle.mdp_job.specs.Refusal.{PlainRefusal, no_job, read_model, read_certificate}
 use Rattle.mdp_job.specs.declared.words_error.WordsError.{WordsError}
 use Rattle.mdp_app.proofs.Accepting.{true_claim}
+use Rattle.mdp_app.proofs.FileBytes.{or_nothing, had_nothing}
 use Rattle.mdp_app.specs.Due.{model_due, certificate_due, said_to_certificate, said_to_model}
 use Rattle.mdp_app.specs.Decided.{IsDueToBytes, IsRead, IsTextDecided, IsDecided}
-use Rattle.mdp_app.specs.Run.{IsFromBytes, HasCause, LeavesUnread, is_of_model, AreAtEnd}
+use Rattle.mdp_app.specs.Run.{IsFromBytes, HasCause, is_of_model}
 use Rattle.mdp_app.specs.Said.{Said}
-use Rattle.mdp_app.specs.Streams.{Input, HasFailed, IsStill}
-
--- the bytes that a source tells
-abbrev or_nothing : Option (List ℕ) → List ℕ
-or_nothing None = []
-or_nothing (Some bytes) = bytes
-
-had_nothing : (told : Option (List ℕ)) → HadLeft told (or_nothing told)
-had_nothing None = tt
-had_nothing (Some bytes) = refl
+use Rattle.mdp_app.specs.Streams.{Input, IsStill}
 
 -- ---- words that are no job
 

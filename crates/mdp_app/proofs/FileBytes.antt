@@ -1,5 +1,5 @@
 -- What was made of a file is what is due to the bytes that its source had.
-use Rattle.std.proofs.Common.{◌≡◌, ℕ, ◌+◌, ◌<◌, ◌≤◌, ◌⊎◌, inl, inr, Bool, true, false, cond, List, length, Option, Some, None, Result, Ok, Err, IfSome, refl, sym, ap, subst, ◌∙◌, lt-ltb, arith, nat_lt}
+use Rattle.std.proofs.Common.{◌≡◌, ℕ, ◌+◌, ◌<◌, ◌≤◌, ◌⊎◌, inl, inr, Bool, cond, List, [], length, Option, Some, None, Result, Err, IfSome, refl, sym, ap, subst, ◌∙◌, lt-ltb, arith, nat_lt}
 use Rattle.std.specs.Prelude.{replicate}
 use Rattle.std.proofs.lemmas.Bool.{le-ltb}
 use Rattle.std.proofs.lemmas.List.{length-replicate}
@@ -11,6 +11,15 @@ use Rattle.mdp_drn.specs.Reading.{outcome}
 use Rattle.mdp_job.specs.Refusal.{PlainRefusal, long_model}
 use Rattle.mdp_app.specs.Due.{most_bytes, model_or_refusal, model_due}
 use Rattle.mdp_app.specs.Decided.{IsDueToBytes}
+
+-- the bytes that a source tells, or none
+abbrev pub or_nothing : Option (List ℕ) → List ℕ
+or_nothing None = []
+or_nothing (Some bytes) = bytes
+
+pub had_nothing : (told : Option (List ℕ)) → HadLeft told (or_nothing told)
+had_nothing None = tt
+had_nothing (Some bytes) = refl
 
 -- at most 2^30 bytes came, which read as this
 pub short_is_due :

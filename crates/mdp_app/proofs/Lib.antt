@@ -3,3 +3,6 @@ mod FileBytes
 mod Deciding
 mod Answering
 mod PredCounts
+mod Printing
+mod Solved
+mod TextLength

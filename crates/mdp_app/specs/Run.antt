@@ -1,10 +1,10 @@
 -- What a run answers and why, which sources it leaves as they are, and when the work is done.
-use Rattle.std.specs.Prelude.{◌≡◌, ◌⊎◌, ℕ, Bool, true, false, List, Result, Ok, Err, IsTrue, IsFalse}
+use Rattle.std.specs.Prelude.{◌≡◌, ◌⊎◌, ℕ, Bool, true, false, List, Ok, Err, IsTrue, IsFalse}
 use Rattle.std.specs.Io.KnownBytes.{IsAtEnd}
 use Rattle.mdp_drn.specs.FromSource.{HadLeft}
 use Rattle.mdp_edge.specs.Faults.{FaultCounted}
 use Rattle.mdp_job.specs.Job.{Asked, reads_model, reads_second}
-use Rattle.mdp_job.specs.Refusal.{PlainRefusal, model_text, read_model, read_certificate, long_model, no_memory}
+use Rattle.mdp_job.specs.Refusal.{model_text, read_model, read_certificate, long_model, no_memory}
 use Rattle.mdp_job.specs.declared.status.Status.{Status}
 use Rattle.mdp_job.specs.declared.status.Status.TheVariants.{Done, ReadFault, WriteFault, Memory}
 use Rattle.mdp_app.specs.Accepted.{IsShown}
@@ -81,7 +81,7 @@ pub record AreAtEnd (asked : Asked) (model second : Input) : Type 0 where
 pub record IsWorkDone (asked : Asked) (model second : Input) (out : Output) : Type 0 where
   pub text : List ℕ
   pub due : IsFromBytes asked model second (Ok text)
-  pub shown : IsShown asked due.model_bytes due.second_bytes
+  pub shown : IsShown asked due.model_bytes due.second_bytes text
   pub ends : AreAtEnd asked model second
   pub written : WroteAll out text
 

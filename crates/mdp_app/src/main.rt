@@ -8,6 +8,7 @@ mod laws;
 #[cfg(test)]
 mod library_tests;
 mod run;
+mod solving;
 #[cfg(test)]
 mod tests;
 

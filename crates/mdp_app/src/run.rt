@@ -13,6 +13,7 @@ ghost use Rattle.mdp_app.specs.Run.{IsAnswered, IsWorkDone, IsComplete, is_of_mo
 ghost use Rattle.mdp_app.specs.Decided.{IsRead, IsDecided, EndsWith};
 
 use crate::files::{read_certificate, read_model};
+use crate::solving::solve_file;
 use mdp_cert::Cert;
 use mdp_check::{Answer, check};
 use mdp_edge::{Sink, Source, WriteFault, write_all};
@@ -86,6 +87,7 @@ fn decided<S: Source, C: Source>(
     ensures { IsDecided (job_of words.now) (input S.left S.faults model.old model.new) (input C.left C.faults second.old second.new) (said result) }
 {
     match job_of(words) {
+        Ok(Job::Solve { rule, dir, query }) => solve_file(alloc, rule, dir, query, model),
         Ok(Job::Check { rule }) => check_files(alloc, rule, model, second),
         Err(error) => Err(Refusal::Words(error)),
     }

@@ -1,12 +1,22 @@
 -- The jobs, as contracts see them, and the words that name the files of each.
-use Rattle.std.specs.Prelude.{Bool, Some, None, is_some, Result, Ok, Err}
+use Rattle.std.specs.Prelude.{ℕ, Bool, List, Some, None, is_some, Result, Ok, Err}
+use Rattle.mdp_rows.specs.declared.dir.Dir.{Dir}
 use Rattle.mdp_rows.specs.declared.rule.RowRule.{RowRule}
+use Rattle.mdp_job.specs.declared.job.Query.{Query}
+use Rattle.mdp_job.specs.declared.job.Query.TheVariants as query
 use Rattle.mdp_job.specs.declared.job.Job.{Job}
-use Rattle.mdp_job.specs.declared.job.Job.TheVariants.{Check}
+use Rattle.mdp_job.specs.declared.job.Job.TheVariants.{Check, Solve}
 use Rattle.mdp_job.specs.declared.files.Files.{Files}
 use Rattle.mdp_job.specs.declared.words_error.WordsError.{WordsError}
 
+-- what is to be solved: the probability of reaching a label
+pub data PlainQuery : Type 0 where
+  reach : List ℕ → PlainQuery
+
 pub data PlainJob : Type 0 where
+  -- the best values, in the direction, and a policy
+  solve : RowRule → Dir → PlainQuery → PlainJob
+  -- whether a certificate holds
   check : RowRule → PlainJob
 
 -- what words ask for: a job, or why they are none
@@ -15,7 +25,11 @@ Asked = Result PlainJob WordsError
 
 -- ---- the values of the program's types
 
+abbrev pub plain_query : Query → PlainQuery
+plain_query (query.Reach label) = reach label.now
+
 abbrev pub plain_job : Job → PlainJob
+plain_job (Solve rule dir query) = solve rule dir (plain_query query)
 plain_job (Check rule) = check rule
 
 abbrev pub asked : Result Job WordsError → Asked
@@ -26,6 +40,7 @@ asked (Err e) = Err e
 
 -- the places of the words that name the model's file and the second one
 abbrev pub files_of : Asked → Files
+files_of (Ok (solve rule dir query)) = record { model = Some 1; second = None }
 files_of (Ok (check rule)) = record { model = Some 1; second = Some 3 }
 files_of (Err e) = record { model = None; second = None }
 

@@ -3,8 +3,9 @@ use Rattle.std.specs.Prelude.{ℕ, Option}
 use Rattle.mdp_cert.specs.declared.error.CertKind.{CertKind}
 use Rattle.mdp_drn.specs.declared.error.DrnKind.{DrnKind}
 use Rattle.mdp_farkas.specs.declared.verdict.Fault.{Fault}
+use Rattle.mdp_path.specs.Queries.{WideTerm, shown}
 use Rattle.mdp_job.specs.declared.refusal.Refusal.{Refusal}
-use Rattle.mdp_job.specs.declared.refusal.Refusal.TheVariants.{Words, Model, QuerySize, QueryLabel, CheckWide, Denied, ReadModel, ReadCertificate, LongModel, LongCertificate, CertText, Memory}
+use Rattle.mdp_job.specs.declared.refusal.Refusal.TheVariants.{Words, Model, QuerySize, QueryLabel, TooWide, CheckWide, Denied, ReadModel, ReadCertificate, LongModel, LongCertificate, CertText, Memory}
 use Rattle.mdp_job.specs.declared.words_error.WordsError.{WordsError}
 
 pub data PlainRefusal : Type 0 where
@@ -14,6 +15,8 @@ pub data PlainRefusal : Type 0 where
   model_text : ℕ → DrnKind → PlainRefusal
   query_size : PlainRefusal
   query_label : PlainRefusal
+  -- the first term past width in what was to be solved
+  too_wide : WideTerm → PlainRefusal
   -- the state and the choice at which a term of the check is past width
   check_wide : Option ℕ → Option ℕ → PlainRefusal
   denied : Fault → PlainRefusal
@@ -30,6 +33,7 @@ plain_refusal (Words e) = no_job e
 plain_refusal (Model n kind) = model_text n kind
 plain_refusal QuerySize = query_size
 plain_refusal QueryLabel = query_label
+plain_refusal (TooWide w) = too_wide (shown w w.round)
 plain_refusal (CheckWide state choice) = check_wide state choice
 plain_refusal (Denied f) = denied f
 plain_refusal ReadModel = read_model

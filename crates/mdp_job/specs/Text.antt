@@ -1,11 +1,17 @@
--- The one line of text of each refusal.
+-- The text of each refusal: one line, but for a term past width in what was to be solved, which has two.
 use Rattle.std.specs.Prelude.{ℕ, List, [], ◌∷◌, ◌++◌, Option, Some, None, decimal, codes}
+use Rattle.std.specs.List.{flat_map}
 use Rattle.mdp_cert.specs.declared.error.CertKind.{CertKind}
 use Rattle.mdp_cert.specs.declared.error.CertKind.TheVariants as cert
 use Rattle.mdp_drn.specs.declared.error.DrnKind.{DrnKind}
 use Rattle.mdp_drn.specs.declared.error.DrnKind.TheVariants as drn
+use Rattle.mdp_elim.specs.declared.too_wide.Kind.{Kind}
+use Rattle.mdp_elim.specs.declared.too_wide.Kind.TheVariants.{Evaluate, Compare, Check}
+use Rattle.mdp_elim.specs.declared.too_wide.Part.{Part}
+use Rattle.mdp_elim.specs.declared.too_wide.Part.TheVariants.{Whole, Inner, Outer, Steps, Join, Flow, Floor}
 use Rattle.mdp_farkas.specs.declared.verdict.Fault.{Fault}
-use Rattle.mdp_job.specs.Refusal.{PlainRefusal, no_job, model_text, query_size, query_label, check_wide, denied, read_model, read_certificate, long_model, long_certificate, cert_text, no_memory}
+use Rattle.mdp_path.specs.Queries.{WideTerm}
+use Rattle.mdp_job.specs.Refusal.{PlainRefusal, no_job, model_text, query_size, query_label, too_wide, check_wide, denied, read_model, read_certificate, long_model, long_certificate, cert_text, no_memory}
 use Rattle.mdp_job.specs.declared.words_error.WordsError.{WordsError}
 use Rattle.mdp_job.specs.declared.words_error.WordsError.TheVariants as words
 
@@ -16,6 +22,8 @@ abbrev pub words_word : WordsError → List ℕ
 words_word words.Command = codes "command"
 words_word words.Number = codes "number"
 words_word words.Rows = codes "rows"
+words_word words.Direction = codes "direction"
+words_word words.Objective = codes "objective"
 
 unfoldable pub drn_word : DrnKind → List ℕ
 drn_word drn.Header = codes "header"
@@ -37,6 +45,7 @@ drn_word drn.Shape = codes "shape"
 drn_word drn.Negative = codes "negative"
 drn_word drn.LongLine = codes "long-line"
 drn_word drn.End = codes "end"
+drn_word drn.Choices = codes "choices"
 
 abbrev pub cert_word : CertKind → List ℕ
 cert_word cert.Version = codes "version"
@@ -45,6 +54,7 @@ cert_word cert.Number = codes "number"
 cert_word cert.Shape = codes "shape"
 cert_word cert.Count = codes "count"
 cert_word cert.End = codes "end"
+cert_word cert.Run = codes "run"
 
 -- a number, or `-`
 abbrev pub number_or_dash : Option ℕ → List ℕ
@@ -67,11 +77,38 @@ denied_text f = rule_text f.rule ++ place_text f.state f.choice
 abbrev pub wide_text : Option ℕ → Option ℕ → List ℕ
 wide_text state choice = codes "too-wide check" ++ place_text state choice
 
+-- ---- a term past width in what was to be solved
+
+abbrev pub part_word : Part → List ℕ
+part_word Whole = codes "whole"
+part_word (Inner i) = codes "inner-" ++ decimal i
+part_word Outer = codes "outer"
+part_word Steps = codes "steps"
+part_word Join = codes "join"
+part_word Flow = codes "flow"
+part_word Floor = codes "floor"
+
+abbrev pub kind_word : Kind → List ℕ
+kind_word Evaluate = codes "evaluate"
+kind_word Compare = codes "compare"
+kind_word Check = codes "check"
+
+-- each choice of a policy behind one blank
+abbrev pub policy_words : List ℕ → List ℕ
+policy_words policy = flat_map (λ c. 32 ∷ decimal c) policy
+
+-- where it is, and in a second line the policy of that round
+abbrev pub too_wide_text : WideTerm → List ℕ
+too_wide_text w =
+    codes "too-wide part " ++ part_word w.part ++ codes " round " ++ decimal w.number ++ codes " kind " ++ kind_word w.kind ++ place_text w.state w.choice
+    ++ codes "policy" ++ policy_words w.policy ++ 10 ∷ []
+
 abbrev pub text_of : PlainRefusal → List ℕ
 text_of (no_job e) = line (codes "words " ++ words_word e)
 text_of (model_text n kind) = at_line (codes "model") n (drn_word kind)
 text_of query_size = line (codes "query size")
 text_of query_label = line (codes "query label")
+text_of (too_wide w) = too_wide_text w
 text_of (check_wide state choice) = wide_text state choice
 text_of (denied f) = denied_text f
 text_of read_model = line (codes "read-fault model")

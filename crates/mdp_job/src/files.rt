@@ -16,6 +16,10 @@ pub fn files_of(words: &[String]) -> Files
     ensures { result ≡ files_of (job_of words.now) }
 {
     match job_of(words) {
+        Ok(Job::Solve { .. }) => Files {
+            model: Some(1),
+            second: None,
+        },
         Ok(Job::Check { .. }) => Files {
             model: Some(1),
             second: Some(3),

@@ -10,7 +10,7 @@ mod tests;
 mod words_error;
 
 pub use files::{Files, files_of};
-pub use job::{Job, job_of};
+pub use job::{Job, Query, job_of};
 pub use refusal::{MEMORY_TEXT, Refusal, push_refusal};
 pub use status::Status;
 pub use words_error::WordsError;

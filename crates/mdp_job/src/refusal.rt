@@ -1,19 +1,21 @@
-ghost use Rattle.std.specs.Prelude.{◌≡◌, ◌≤◌, ◌++◌, length, take, OnOk, OnErr};
+ghost use Rattle.std.specs.Prelude.{◌≡◌, ◌≤◌, ◌++◌, length, take, decimal, codes, OnOk, OnErr};
 ghost use Rattle.mdp_job.specs.Refusal.{plain_refusal, no_job};
 ghost use Rattle.mdp_job.specs.Status.{status_of};
-ghost use Rattle.mdp_job.specs.Text.{text_of, words_word, drn_word, cert_word, at_line, place_text, number_or_dash, rule_text, denied_text, wide_text};
+ghost use Rattle.mdp_job.specs.Text.{text_of, words_word, drn_word, cert_word, at_line, place_text, number_or_dash, rule_text, denied_text, wide_text, part_word, kind_word, policy_words, too_wide_text};
+ghost use Rattle.mdp_path.specs.Queries.{shown};
 
 use crate::status::Status;
 use crate::words_error::WordsError;
 use itoa::Buffer;
 use mdp_cert::CertKind;
 use mdp_drn::DrnKind;
+use mdp_elim::{Kind, Part, TooWide};
 use mdp_farkas::Fault;
 use mdp_num::Memory;
 use std::alloc::AllocError;
 
 /// An answer other than that the work was done, but for a fault of the sink.
-#[derive(Debug, Drop, PartialEq, Eq)]
+#[derive(Debug, Drop)]
 pub enum Refusal {
     /// The words are no job.
     Words(WordsError),
@@ -26,6 +28,8 @@ pub enum Refusal {
     QuerySize,
     /// The label isn't in the model.
     QueryLabel,
+    /// A written term of what was to be solved is past width, at this place.
+    TooWide(TooWide),
     /// A written term of the check is past width, at this place.
     CheckWide {
         state: Option<u32>,
@@ -62,7 +66,7 @@ impl Refusal {
             Refusal::Words(_) => Status::Words,
             Refusal::Model { .. } => Status::Model,
             Refusal::QuerySize | Refusal::QueryLabel => Status::Query,
-            Refusal::CheckWide { .. } => Status::TooWide,
+            Refusal::TooWide(_) | Refusal::CheckWide { .. } => Status::TooWide,
             Refusal::Denied(_) => Status::Denied,
             Refusal::ReadModel | Refusal::ReadCertificate => Status::ReadFault,
             Refusal::LongModel | Refusal::LongCertificate => Status::Long,
@@ -80,6 +84,8 @@ fn words_word(error: WordsError) -> &'static str
         WordsError::Command => "command",
         WordsError::Number => "number",
         WordsError::Rows => "rows",
+        WordsError::Direction => "direction",
+        WordsError::Objective => "objective",
     }
 }
 
@@ -108,6 +114,7 @@ fn drn_word(kind: DrnKind) -> &'static str
         DrnKind::Negative => "negative",
         DrnKind::LongLine => "long-line",
         DrnKind::End => "end",
+        DrnKind::Choices => "choices",
     }
 }
 
@@ -122,6 +129,7 @@ fn cert_word(kind: CertKind) -> &'static str
         CertKind::Shape => "shape",
         CertKind::Count => "count",
         CertKind::End => "end",
+        CertKind::Run => "run",
     }
 }
 
@@ -193,8 +201,76 @@ fn push_denied(fault: &Fault, out: &mut Vec<u8>) -> Result<(), AllocError>
     push_place(fault.state, fault.choice, out)
 }
 
-/// Appends the line of a term past width.
-fn push_too_wide(
+/// Appends the word for a part of what is solved.
+fn push_part(part: Part, out: &mut Vec<u8>) -> Result<(), AllocError>
+    ensures text { OnOk result (out.new.items ≡ out.old.items ++ part_word part) }
+    ensures front { take (length out.old.items) out.new.items ≡ out.old.items }
+{
+    match part {
+        Part::Whole => out.extend_from_slice(b"whole"),
+        Part::Inner(number) => {
+            out.extend_from_slice(b"inner-")?;
+            push_number(Some(number), out)
+        }
+        Part::Outer => out.extend_from_slice(b"outer"),
+        Part::Steps => out.extend_from_slice(b"steps"),
+        Part::Join => out.extend_from_slice(b"join"),
+        Part::Flow => out.extend_from_slice(b"flow"),
+        Part::Floor => out.extend_from_slice(b"floor"),
+    }
+}
+
+/// The word for what was computed.
+fn kind_word(kind: Kind) -> &'static str
+    ensures { result.now ≡ kind_word kind }
+{
+    match kind {
+        Kind::Evaluate => "evaluate",
+        Kind::Compare => "compare",
+        Kind::Check => "check",
+    }
+}
+
+/// Appends the choices of a policy, each behind one blank.
+fn push_policy(policy: &[u32], out: &mut Vec<u8>) -> Result<(), AllocError>
+    ensures text { OnOk result (out.new.items ≡ out.old.items ++ policy_words policy.now) }
+    ensures front { take (length out.old.items) out.new.items ≡ out.old.items }
+{
+    for choice in policy {
+        out.extend_from_slice(b" ")?;
+        push_number(Some(*choice), out)?;
+    }
+    Ok(())
+}
+
+/// Appends the number of a round and what was computed in it.
+fn push_round(round: u64, kind: Kind, out: &mut Vec<u8>) -> Result<(), AllocError>
+    ensures text { OnOk result (out.new.items ≡ out.old.items ++ (codes " round " ++ decimal round ++ codes " kind " ++ kind_word kind)) }
+    ensures front { take (length out.old.items) out.new.items ≡ out.old.items }
+{
+    let mut buffer = Buffer::new();
+    out.extend_from_slice(b" round ")?;
+    out.extend_from_slice(buffer.format(round).as_bytes())?;
+    out.extend_from_slice(b" kind ")?;
+    out.extend_from_slice(kind_word(kind).as_bytes())
+}
+
+/// Appends the two lines of a term past width in what was to be solved.
+fn push_too_wide(wide: &TooWide, out: &mut Vec<u8>) -> Result<(), AllocError>
+    ensures text { OnOk result (out.new.items ≡ out.old.items ++ too_wide_text (shown wide.now wide.now.round)) }
+    ensures front { take (length out.old.items) out.new.items ≡ out.old.items }
+{
+    out.extend_from_slice(b"too-wide part ")?;
+    push_part(wide.part, out)?;
+    push_round(wide.round, wide.kind, out)?;
+    push_place(wide.state, wide.choice, out)?;
+    out.extend_from_slice(b"policy")?;
+    push_policy(&wide.policy, out)?;
+    out.extend_from_slice(b"\n")
+}
+
+/// Appends the line of a term of the check past width.
+fn push_check_wide(
     state: Option<u32>,
     choice: Option<u32>,
     out: &mut Vec<u8>,
@@ -216,7 +292,8 @@ fn push_parts(refusal: &Refusal, out: &mut Vec<u8>) -> Result<(), AllocError>
         Refusal::Model { line, kind } => push_at("model", *line, drn_word(*kind), out),
         Refusal::QuerySize => out.extend_from_slice(b"query size\n"),
         Refusal::QueryLabel => out.extend_from_slice(b"query label\n"),
-        Refusal::CheckWide { state, choice } => push_too_wide(*state, *choice, out),
+        Refusal::TooWide(wide) => push_too_wide(wide, out),
+        Refusal::CheckWide { state, choice } => push_check_wide(*state, *choice, out),
         Refusal::Denied(fault) => push_denied(fault, out),
         Refusal::ReadModel => out.extend_from_slice(b"read-fault model\n"),
         Refusal::ReadCertificate => out.extend_from_slice(b"read-fault certificate\n"),

@@ -7,4 +7,8 @@ pub enum WordsError {
     Number = 2,
     /// The row rule is neither `exact` nor `scaled`.
     Rows = 3,
+    /// The direction is neither `max` nor `min`.
+    Direction = 4,
+    /// `solve` has another objective than `reach`.
+    Objective = 5,
 }

@@ -1,4 +1,4 @@
-use Rattle.std.proofs.Common.{Ok, inl, inr}
+use Rattle.std.proofs.Common.{Ok, inl}
 use Rattle.mdp_app.proofs.FileBytes.{short_is_due, not_failed}
 use Rattle.mdp_app.proofs.files.read_model.Goals as goal
 

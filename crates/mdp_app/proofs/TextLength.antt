@@ -1,0 +1,240 @@
+-- The text of a certificate of reachability has at most 2^30 bytes.
+use Rattle.std.proofs.Common.{◌≡◌, ℕ, suc, ◌+◌, ◌*◌, ◌<◌, ◌≤◌, ◌^◌, Bool, true, false, cond, eqb, List, [], ◌∷◌, ◌++◌, length, codes, decimal, refl, arith, lit<, ℤ, pos, negsuc, unsigned_abs, ltb→lt, T, sym, subst}
+use Rattle.std.specs.Fmt.{signed_decimal}
+use Rattle.std.specs.List.{AllByRecursion as Each}
+use Rattle.std.proofs.lemmas.Bool.{and_parts, leb-true}
+use Rattle.std.proofs.lemmas.Fmt.{length-decimal-le, length-decimal-le_wide}
+use Rattle.std.proofs.lemmas.List.{length-append}
+use Rattle.std.proofs.lemmas.List.Elements.{recursion_from_All}
+use Rattle.mdp_math.specs.Rational.{ℚ}
+use Rattle.mdp_num.specs.Value.{spelling, IsNarrow}
+use Rattle.mdp_rows.specs.Name.{is_name}
+use Rattle.mdp_rows.specs.declared.dir.Dir.{Dir}
+use Rattle.mdp_rows.specs.declared.dir.Dir.TheVariants.{Max, Min}
+use Rattle.mdp_cert.specs.declared.init.Init.{Init}
+use Rattle.mdp_cert.specs.declared.init.Init.TheVariants.{Missing, Finite}
+use Rattle.mdp_cert.specs.Cert.{reach, policy, is_inside, IsInitInWidth, Certificate, Fits}
+use Rattle.mdp_cert.specs.Claims.{policy_columns, IsPolicyInWidth, policies}
+use Rattle.mdp_cert.specs.Runs.{Columns, Run, run, single, before_runs, longest_runs}
+use Rattle.mdp_cert.specs.Spelling.{line, ◌␣◌, quoted, dir_text, claim_text, states_text, init_text, head_text, entry_text, run_text, run_lines, end_text, text_in, text_of}
+use Rattle.mdp_cert.proofs.Growth.{policy-entries}
+use Rattle.mdp_cert.proofs.Policies.{length-policies}
+
+-- ---- words
+
+number_short : (n : ℕ) → n < 2 ^ 32 → length (decimal n) ≤ 10
+number_short n h = let p : 2 ^ 32 < 10 ^ 10 = lit< tt in let q : 2 ^ 32 < 2 ^ 64 = lit< tt in length-decimal-le 10 n (omega arith) (omega (arith, p, h)) (omega (arith, q, h))
+
+term_short : (n : ℕ) → n < 2 ^ 127 → length (decimal n) ≤ 39
+term_short n h = let p : 2 ^ 127 < 10 ^ 39 = lit< tt in let q : 2 ^ 127 < 10 ^ 64 = lit< tt in length-decimal-le_wide 39 n (omega arith) (omega (arith, p, h)) (omega (arith, q, h))
+
+signed_short : (z : ℤ) → unsigned_abs z < 2 ^ 127 → length (signed_decimal z) ≤ 40
+signed_short (pos n) h = let l = term_short n h in omega (arith, l)
+signed_short (negsuc n) h = let l = term_short (suc n) h in omega (arith, l)
+
+spelling_short : (x : ℚ) → IsNarrow x → length (spelling x) ≤ 80
+unfolding spelling
+spelling_short x h = by (eqb x.den 1)
+  where
+    by : (b : Bool) → length (cond b (signed_decimal x.num) (signed_decimal x.num ++ 47 ∷ decimal x.den)) ≤ 80
+    by true = let l = signed_short x.num h.top in omega (arith, l)
+    by false = let l = signed_short x.num h.top in let k = term_short x.den h.bottom in let e = length-append (signed_decimal x.num) (47 ∷ decimal x.den) in omega (arith, l, k, e)
+
+blank_length : (a b : List ℕ) → length (a ␣ b) ≡ length a + (1 + length b)
+blank_length a b = let e = length-append a (32 ∷ b) in omega (arith, e)
+
+line_length : (a : List ℕ) → length (line a) ≡ length a + 1
+line_length a = length-append a (10 ∷ [])
+
+-- ---- the lines before those of the states
+
+name_short : (name : List ℕ) → is_name name ≡ true → length name ≤ 255
+name_short name h = leb-true (length name) 255 (and_parts _ _ (and_parts _ _ h).0).1
+
+dir_length : (dir : Dir) → length (dir_text dir) ≡ 3
+dir_length Max = refl
+dir_length Min = refl
+
+claim_short : (dir : Dir) (label : List ℕ) → length label ≤ 255 → length (claim_text (reach dir label)) ≤ 300
+claim_short dir label h =
+    let a = blank_length (codes "claim") (dir_text dir ␣ codes "reach" ␣ quoted label) in
+    let b = blank_length (dir_text dir) (codes "reach" ␣ quoted label) in
+    let c = blank_length (codes "reach") (quoted label) in
+    let d = length-append label (34 ∷ []) in
+    let n = dir_length dir in
+    omega (arith, a, b, c, d, n, h)
+
+states_short : (n : ℕ) → n < 2 ^ 32 → length (states_text n) ≤ 30
+states_short n h = let a = blank_length (codes "states") (decimal n) in let l = number_short n h in omega (arith, a, l)
+
+-- the number of the initial state is short
+abbrev IsShortInit : Init → Type 0
+IsShortInit Missing = Unit {0}
+IsShortInit (Finite state value) = state < 2 ^ 32
+
+init_short : (init : Init) → IsShortInit init → IsInitInWidth init → length (init_text init) ≤ 150
+init_short Missing h w = omega arith
+init_short (Finite state value) h w =
+    let a = blank_length (codes "init") (decimal state ␣ spelling value) in
+    let b = blank_length (decimal state) (spelling value) in
+    let l = number_short state h in
+    let v = spelling_short value w in
+    omega (arith, a, b, l, v)
+
+-- ---- the lines of the states
+
+entry_short : (v : ℚ) (c r : ℕ) → IsNarrow v → c < 2 ^ 32 → r < 2 ^ 32 → length (spelling v ␣ (decimal c ␣ decimal r)) ≤ 110
+entry_short v c r hv hc hr =
+    let a = blank_length (spelling v) (decimal c ␣ decimal r) in
+    let b = blank_length (decimal c) (decimal r) in
+    let x = spelling_short v hv in
+    let y = number_short c hc in
+    let z = number_short r hr in
+    omega (arith, a, b, x, y, z)
+
+entries_width : (zs : List ℚ) (cs rs : List ℕ) → Each IsNarrow zs → Each (λ c. c < 2 ^ 32) cs → Each (λ r. r < 2 ^ 32) rs → Each IsPolicyInWidth (policies zs cs rs)
+entries_width (z ∷ zs) (c ∷ cs) (r ∷ rs) p q o = (record { value = p.0; choice = q.0; rank = o.0 }, entries_width zs cs rs p.1 q.1 o.1)
+entries_width [] cs rs p q o = tt
+entries_width (z ∷ zs) [] rs p q o = tt
+entries_width (z ∷ zs) (c ∷ cs) [] p q o = tt
+
+-- of entries whose words have at most 110 bytes
+module _ {A : Type 0} (k : Columns A) (P : A → Type 0) (short : (x : A) → P x → length (entry_text k x) ≤ 110) where
+  abbrev state_text : ℕ → A → List ℕ
+  state_text state x = codes "state" ␣ decimal state ␣ entry_text k x
+
+  abbrev states_from : ℕ → ℕ → A → List ℕ
+  states_from state more x = codes "run" ␣ decimal state ␣ decimal (state + more) ␣ entry_text k x
+
+  one_short : (state : ℕ) (x : A) → state < 2 ^ 32 → P x → length (state_text state x) ≤ 149
+  one_short state x lt h =
+      let a = blank_length (codes "state") (decimal state ␣ entry_text k x) in
+      let b = blank_length (decimal state) (entry_text k x) in
+      let n = number_short state lt in
+      let e = short x h in
+      omega (arith, a, b, n, e)
+
+  many_short : (state more : ℕ) (x : A) → state + more < 2 ^ 32 → P x → length (states_from state more x) ≤ 149
+  many_short state more x lt h =
+      let a = blank_length (codes "run") (decimal state ␣ decimal (state + more) ␣ entry_text k x) in
+      let b = blank_length (decimal state) (decimal (state + more) ␣ entry_text k x) in
+      let c = blank_length (decimal (state + more)) (entry_text k x) in
+      let n = number_short state (omega (arith, lt)) in
+      let m = number_short (state + more) lt in
+      let e = short x h in
+      omega (arith, a, b, c, n, m, e)
+
+  either_short : (b : Bool) (x y : List ℕ) → length x ≤ 149 → length y ≤ 149 → length (line (cond b x y)) ≤ 150
+  either_short true x y h l = let n = line_length x in omega (arith, n, h)
+  either_short false x y h l = let n = line_length y in omega (arith, n, l)
+
+  run_short : (state : ℕ) (r : Run A) → state + r.more < 2 ^ 32 → P r.entry → length (line (run_text k state r)) ≤ 150
+  unfolding run_text
+  run_short state r lt h =
+      either_short (eqb r.more 0) (state_text state r.entry) (states_from state r.more r.entry) (one_short state r.entry (omega (arith, lt)) h) (many_short state r.more r.entry lt h)
+
+  -- the states that the lines stand for
+  abbrev size : List (Run A) → ℕ
+  size [] = 0
+  size (r ∷ rs) = r.more + 1 + size rs
+
+  abbrev AreInWidth : List (Run A) → Type 0
+  AreInWidth [] = Unit {0}
+  AreInWidth (r ∷ rs) = P r.entry × AreInWidth rs
+
+  lines_short : (state : ℕ) (rs : List (Run A)) → state + size rs ≤ 2 ^ 20 → AreInWidth rs → length (run_lines k state rs) ≤ 150 * size rs
+  unfolding run_lines
+  lines_short state [] h w = omega arith
+  lines_short state (r ∷ rs) h w =
+      let p : 2 ^ 20 < 2 ^ 32 = lit< tt in
+      let a = run_short state r (omega (arith, h, p)) w.0 in
+      let b = lines_short (state + r.more + 1) rs (omega (arith, h)) w.1 in
+      let e = length-append (line (run_text k state r)) (run_lines k (state + r.more + 1) rs) in
+      omega (arith, a, b, e)
+
+  -- ---- the longest runs
+
+  before_size : (x : A) (rs : List (Run A)) → size (before_runs k x rs) ≡ size rs + 1
+  before_size x [] = refl
+  before_size x (r ∷ rs) = by (k.same x r.entry)
+    where
+      by : (b : Bool) → size (cond b (run x (suc r.more) ∷ rs) (single x ∷ r ∷ rs)) ≡ r.more + 1 + size rs + 1
+      by true = omega arith
+      by false = omega arith
+
+  before_width : (x : A) (rs : List (Run A)) → P x → AreInWidth rs → AreInWidth (before_runs k x rs)
+  before_width x [] h w = (h, tt)
+  before_width x (r ∷ rs) h w = by (k.same x r.entry)
+    where
+      by : (b : Bool) → AreInWidth (cond b (run x (suc r.more) ∷ rs) (single x ∷ r ∷ rs))
+      by true = (h, w.1)
+      by false = (h, w)
+
+  runs_size : (xs : List A) → size (longest_runs k xs) ≡ length xs
+  unfolding longest_runs
+  runs_size [] = refl
+  runs_size (x ∷ xs) = let a = before_size x (longest_runs k xs) in let b = runs_size xs in omega (arith, a, b)
+
+  runs_width : (xs : List A) → Each P xs → AreInWidth (longest_runs k xs)
+  unfolding longest_runs
+  runs_width [] h = tt
+  runs_width (x ∷ xs) h = before_width x (longest_runs k xs) h.0 (runs_width xs h.1)
+
+  states_lines_short : (xs : List A) → length xs ≤ 2 ^ 20 → Each P xs → length (run_lines k 0 (longest_runs k xs)) ≤ 150 * length xs
+  states_lines_short xs limit h = let n = runs_size xs in let l = lines_short 0 (longest_runs k xs) (omega (arith, n, limit)) (runs_width xs h) in omega (arith, n, l)
+
+-- ---- the whole
+
+inside_short : (n : ℕ) (init : Init) → n ≤ 2 ^ 20 → is_inside n init ≡ true → IsShortInit init
+inside_short n Missing limit h = tt
+inside_short n (Finite state value) limit h = let p : 2 ^ 20 < 2 ^ 32 = lit< tt in let l = ltb→lt state n (subst T (sym h) tt) in omega (arith, limit, p, l)
+
+module _ (dir : Dir) (label : List ℕ) (states : ℕ) (init : Init) (zs : List ℚ) (cs rs : List ℕ) where
+  abbrev certificate : Certificate
+  certificate = record { claim = reach dir label; states = states; init = init; body = policy zs cs rs }
+
+  -- the lines of the states, and the line `end`
+  abbrev body : List ℕ
+  body = run_lines policy_columns 0 (longest_runs policy_columns (policies zs cs rs)) ++ line end_text
+
+  module _ (fits : Fits certificate) where
+    head_short : length (head_text certificate) ≤ 500
+    head_short =
+        let p : 2 ^ 20 < 2 ^ 32 = lit< tt in
+        let a = length-append (line (claim_text (reach dir label))) (line (states_text states) ++ line (init_text init)) in
+        let b = length-append (line (states_text states)) (line (init_text init)) in
+        let c = line_length (claim_text (reach dir label)) in
+        let d = line_length (states_text states) in
+        let e = line_length (init_text init) in
+        let f = claim_short dir label (name_short label fits.name) in
+        let g = states_short states (let l = fits.limit in omega (arith, p, l)) in
+        let h = init_short init (inside_short states init fits.limit fits.inside) fits.init_width in
+        omega (arith, a, b, c, d, e, f, g, h)
+
+    body_short : length body ≤ 150 * states + 4
+    body_short =
+        let sizes = policy-entries (reach dir label) states zs cs rs fits.entries in
+        let x = sizes.values in
+        let y = sizes.choices in
+        let z = sizes.ranks in
+        let k = length-policies zs cs rs (omega (arith, x, y)) (omega (arith, x, z)) in
+        let limit = fits.limit in
+        let width =
+        entries_width zs cs rs (recursion_from_All IsNarrow zs fits.body_width.0) (recursion_from_All (λ c. c < 2 ^ 32) cs fits.body_width.1) (recursion_from_All (λ r. r < 2 ^ 32) rs fits.body_width.2) in
+        let l = states_lines_short policy_columns IsPolicyInWidth (λ p h. entry_short p.value p.choice p.rank h.value h.choice h.rank) (policies zs cs rs) (omega (arith, x, k, limit)) width in
+        let a = length-append (run_lines policy_columns 0 (longest_runs policy_columns (policies zs cs rs))) (line end_text) in
+        omega (arith, x, k, l, a)
+
+    whole_short : length (line (codes "mdp-certificate 2") ++ (head_text certificate ++ body)) ≤ 2 ^ 30
+    whole_short =
+        let a = length-append (line (codes "mdp-certificate 2")) (head_text certificate ++ body) in
+        let b = length-append (head_text certificate) body in
+        let h = head_short in
+        let k = body_short in
+        let limit = fits.limit in
+        let p : 150 * 2 ^ 20 + 1000 < 2 ^ 30 = lit< tt in
+        omega (arith, a, b, h, k, limit, p)
+
+    pub text_short : length (text_of certificate) ≤ 2 ^ 30
+    unfolding text_in
+    text_short = whole_short
