@@ -37,6 +37,7 @@ drn_word drn.Shape = codes "shape"
 drn_word drn.Negative = codes "negative"
 drn_word drn.LongLine = codes "long-line"
 drn_word drn.End = codes "end"
+drn_word drn.Choices = codes "choices"
 
 abbrev pub cert_word : CertKind → List ℕ
 cert_word cert.Version = codes "version"
@@ -45,6 +46,7 @@ cert_word cert.Number = codes "number"
 cert_word cert.Shape = codes "shape"
 cert_word cert.Count = codes "count"
 cert_word cert.End = codes "end"
+cert_word cert.Run = codes "run"
 
 -- a number, or `-`
 abbrev pub number_or_dash : Option ℕ → List ℕ

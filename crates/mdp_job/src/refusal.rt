@@ -108,6 +108,7 @@ fn drn_word(kind: DrnKind) -> &'static str
         DrnKind::Negative => "negative",
         DrnKind::LongLine => "long-line",
         DrnKind::End => "end",
+        DrnKind::Choices => "choices",
     }
 }
 
@@ -122,6 +123,7 @@ fn cert_word(kind: CertKind) -> &'static str
         CertKind::Shape => "shape",
         CertKind::Count => "count",
         CertKind::End => "end",
+        CertKind::Run => "run",
     }
 }
 
