@@ -3,7 +3,6 @@ use Rattle.std.proofs.Common.{◌≡◌, inl, inr, ℕ, ◌<◌, ◌≤◌, Bool
 use Rattle.std.proofs.lemmas.Bool.{false≢true, cases_Bool}
 use Rattle.std.proofs.lemmas.List.Folds.{Any-from_list_any}
 use Rattle.mdp_math.specs.Rational.{ℚ, ◌+ℚ◌, ◌*ℚ◌, ◌≤ℚ◌}
-use Rattle.mdp_math.specs.Sum.{sum_of}
 use Rattle.mdp_math.proofs.Kernel.{weigh-le_mass}
 use Rattle.mdp_math.proofs.Order.{0ℚ, 1ℚ, ≤ℚ_of_eq, ≤ℚ_trans, ≤ℚ_antisymm}
 use Rattle.mdp_math.proofs.Ring.{◌⊕◌, ◌⊗◌, lit, ring}
@@ -25,7 +24,7 @@ use Rattle.mdp_graph.specs.Meet.{must_step}
 use Rattle.mdp_graph.specs.Laws.{ChoicesArrive, ChoicesMiss, TreesArrive}
 use Rattle.mdp_graph.proofs.PassLaws.{stays_sure}
 use Rattle.mdp_graph.proofs.PolicyLaws.{least_step}
-use Rattle.mdp_math.proofs.Booleans.{and-left, and-right, and-both}
+use Rattle.mdp_math.proofs.Booleans.{and-left, and-right}
 use Rattle.mdp_graph.proofs.RowSets.{list_all-at, enters-at, enters-by}
 
 -- where choices that meet a rule keep to the marked states, and lead to a smaller rank, deep trees meet a goal with nearly all their paths

@@ -1,5 +1,5 @@
 -- What may_reach answers, from the edges and the ranks that it finds.
-use Rattle.std.proofs.Common.{◌≡◌, ℕ, ◌<◌, Bool, true, not, ◌&&◌, List, length, map, get_or, replicate, ap, subst, ◌∙◌, Option, is_some}
+use Rattle.std.proofs.Common.{◌≡◌, ℕ, ◌<◌, Bool, true, not, ◌&&◌, List, length, map, replicate, ap, subst, ◌∙◌, Option, is_some}
 use Rattle.mdp_spec.specs.Mdp.{Choice, Mdp, no_choice, states_of, choices_at, row_at}
 use Rattle.mdp_spec.specs.Row.{IsMdp}
 use Rattle.mdp_graph.specs.Sets.{marked, can_enter, stays_in, some_choice}

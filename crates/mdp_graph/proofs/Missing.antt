@@ -1,30 +1,20 @@
 -- States from which trees miss the goals with some chance: those with a number above 0 that falls, or stays the same at all successors.
-use Rattle.std.proofs.Common.{◌≡◌, ◌⊎◌, inl, inr, ℕ, zero, suc, ◌+◌, ◌<◌, ◌≤◌, Bool, true, false, cond, not, ◌||◌, ◌&&◌, ◌==◌, nat_lt, lt-ltb, ltb-true, eq-eqb, List, []}
-use Rattle.std.proofs.Common.{◌∷◌, length, get_or, refl, sym, ap, ◌∙◌, subst, arith, pos}
+use Rattle.std.proofs.Common.{◌≡◌, ◌⊎◌, inl, inr, ℕ, zero, suc, ◌+◌, ◌<◌, ◌≤◌, Bool, true, false, cond, not, ◌||◌, ◌&&◌, ◌==◌, nat_lt, lt-ltb, ltb-true, eq-eqb, List}
+use Rattle.std.proofs.Common.{length, get_or, sym, ap, ◌∙◌, subst, arith}
 use Rattle.std.specs.List.{All, Any}
 use Rattle.std.proofs.lemmas.Bool.{false≢true, eqb-true, cases_Bool}
 use Rattle.std.proofs.lemmas.List.Folds.{Any-from_list_any}
 use Rattle.std.proofs.lemmas.List.FromFn.{get_or-map-range_with_len, length-map-range_with_len}
-use Rattle.mdp_math.specs.Power.{pow_ℚ}
-use Rattle.mdp_math.specs.Rational.{ℚ, ◌+ℚ◌, ◌*ℚ◌, ◌-ℚ◌, ◌≤ℚ◌, ◌<ℚ◌}
-use Rattle.mdp_math.specs.Sum.{sum_of}
-use Rattle.mdp_math.proofs.Kernel.{Any-and, weigh-le_mass, weigh-below_mass, weigh-le_const}
-use Rattle.mdp_math.proofs.Laws.{rat_ring, den-pos}
-use Rattle.mdp_math.proofs.Linear.{linear, known}
-use Rattle.mdp_math.proofs.Order.{0ℚ, 1ℚ, ≤ℚ_refl, ≤ℚ_of_eq, ≤ℚ_of_lt, ≤ℚ_trans}
-use Rattle.mdp_math.proofs.Powers.{pow_ℚ-nonneg, pow_ℚ-pos, pow_ℚ-le_one, pow_ℚ-antitone, unit_fraction-le}
-use Rattle.mdp_math.proofs.Ring.{◌⊕◌, ⊖, lit, ring}
-use Rattle.mdp_math.proofs.Whole.{of_nat-nonneg}
+use Rattle.mdp_math.specs.Rational.{◌+ℚ◌, ◌≤ℚ◌}
+use Rattle.mdp_math.proofs.Order.{1ℚ}
 use Rattle.mdp_spec.specs.Bounds.{part}
 use Rattle.mdp_spec.specs.Hit.{hit}
 use Rattle.mdp_spec.specs.Mdp.{Entry, Choice, Mdp, no_choice, states_of, choices_at, row_at}
 use Rattle.mdp_spec.specs.Row.{IsMdp}
 use Rattle.mdp_spec.specs.Tree.{IsPolicy}
 use Rattle.mdp_spec.specs.Tree.{Tree, unfolded}
-use Rattle.mdp_spec.proofs.Above.{row_weigh, hit-le_by}
 use Rattle.mdp_spec.proofs.Keeping.{HasChoice, Follows, Keeps, keeps_of_Fits, keeps_unfolded}
 use Rattle.mdp_spec.proofs.Misses.{misses_by_ranks}
-use Rattle.mdp_spec.proofs.Rows.{probs_nonneg}
 use Rattle.mdp_graph.specs.Sets.{marked, can_enter, stays_in, some_choice}
 use Rattle.mdp_graph.specs.Layers.{reached, AreReached, AreLeastRanks}
 use Rattle.mdp_graph.specs.Choices.{AreLeast}

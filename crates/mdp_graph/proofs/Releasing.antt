@@ -8,10 +8,9 @@ use Rattle.std.proofs.lemmas.List.Folds.{sum_by-replicate, list_any-append}
 use Rattle.std.proofs.lemmas.List.FromFn.{length-map-range_with_len, get_or-map-range_with_len}
 use Rattle.std.proofs.lemmas.List.Sums.{sum_by-cons, sum_by-set}
 use Rattle.std.proofs.lemmas.Grind.{get_or-set_at, flat_map-append}
-use Rattle.mdp_spec.specs.Mdp.{Mdp, Entry, states_of, choices_at, row_at}
+use Rattle.mdp_spec.specs.Mdp.{Mdp, states_of, choices_at, row_at}
 use Rattle.mdp_rows.specs.Preds.{is_among, pair}
 use Rattle.mdp_rows.specs.declared.preds.Pred.{Pred}
-use Rattle.mdp_graph.specs.Sets.{can_enter}
 use Rattle.mdp_graph.specs.Layers.{rank_at}
 use Rattle.mdp_graph.specs.Waiting.{waits, some_waits, count_waiting, all_wait, AreWaiting, is_one_of, AreWithin, AreReleased, AreMet, leading_to}
 use Rattle.mdp_graph.proofs.Among.{among-append}

@@ -1,13 +1,13 @@
 -- The rounds by which sets of states shrink to the greatest sure set.
 use Rattle.std.proofs.Common.{◌≡◌, inl, inr, ℕ, suc, zero, ◌+◌, ◌<◌, ◌≤◌, Bool, true, false, ◌||◌, ◌&&◌, cond, List, [], ◌∷◌, length, map, replicate, refl, sym, ap}
 use Rattle.std.proofs.Common.{subst, ◌∙◌, arith, Option, Some, None, is_some}
-use Rattle.std.specs.List.{count_by, range_with_len, All}
+use Rattle.std.specs.List.{count_by, range_with_len}
 use Rattle.std.proofs.lemmas.Bool.{false≢true, cases_Bool}
 use Rattle.std.proofs.lemmas.List.{get_or-replicate, length-replicate, length-map}
 use Rattle.std.proofs.lemmas.List.FromFn.{fill_by_all}
 use Rattle.std.proofs.lemmas.List.Sums.{sum_by-cons}
 use Rattle.std.proofs.lemmas.List.Folds.{sum_by-replicate}
-use Rattle.mdp_spec.specs.Mdp.{Entry, Choice, Mdp, no_choice, states_of, choices_at, row_at}
+use Rattle.mdp_spec.specs.Mdp.{Choice, Mdp, no_choice, states_of, choices_at, row_at}
 use Rattle.mdp_spec.specs.Row.{IsMdp}
 use Rattle.mdp_rows.specs.Preds.{leads_to}
 use Rattle.mdp_graph.specs.Sets.{marked, can_enter, stays_in}

@@ -1,9 +1,5 @@
 -- Edges lead where steps lead.
-use Rattle.std.proofs.Common.{◌≡◌, inl, inr, ℕ, suc, zero, ◌<◌, Bool, true, false, ◌||◌, ◌&&◌, ◌==◌, not, List, [], ◌∷◌, length, get_or, replicate, refl, sym, ap, ◌∙◌, arith, eq-eqb, pos}
-use Rattle.std.specs.List.{list_any, All}
-use Rattle.std.proofs.lemmas.Bool.{false≢true, eqb-true, cases_Bool}
-use Rattle.std.proofs.lemmas.List.{get_or-replicate}
-use Rattle.mdp_math.specs.Rational.{of_int}
+use Rattle.std.proofs.Common.{◌≡◌, ℕ, ◌<◌, Bool, true, ◌&&◌, not, List, [], length, get_or, replicate, sym, ◌∙◌}
 use Rattle.mdp_spec.specs.Mdp.{Entry, Choice, Mdp, no_choice, states_of, choices_at, row_at}
 use Rattle.mdp_spec.specs.Row.{IsMdp, AreRows}
 use Rattle.mdp_rows.specs.Preds.{leads_to}
@@ -11,7 +7,7 @@ use Rattle.mdp_graph.specs.Sets.{marked, can_enter, stays_in, some_choice}
 use Rattle.mdp_graph.specs.Edges.{has_edge, has_choice_to, leads}
 use Rattle.mdp_graph.specs.Reach.{may_step, row_step}
 use Rattle.mdp_graph.proofs.Reached.{LeadsAlong, Follows}
-use Rattle.mdp_math.proofs.Booleans.{or-true, and-left, and-right, and-both}
+use Rattle.mdp_math.proofs.Booleans.{and-left, and-right, and-both}
 use Rattle.mdp_graph.proofs.RowSets.{list_any-at, list_any-by, enters-at, enters-by, stays-everywhere}
 
 -- a way to t is a choice

@@ -1,7 +1,7 @@
 -- What sure_some answers, from the settled ranks.
-use Rattle.std.proofs.Common.{◌≡◌, ℕ, ◌<◌, Bool, true, ◌&&◌, List, length, map, get_or, sym, ap, ap₂, subst, ◌∙◌, arith, Option, is_some}
+use Rattle.std.proofs.Common.{◌≡◌, ℕ, ◌<◌, Bool, true, ◌&&◌, List, map, sym, ap, ap₂, ◌∙◌, arith, Option, is_some}
 use Rattle.std.proofs.lemmas.List.{length-map}
-use Rattle.mdp_spec.specs.Mdp.{Mdp, states_of, choices_at, row_at}
+use Rattle.mdp_spec.specs.Mdp.{Mdp, states_of, row_at}
 use Rattle.mdp_spec.specs.Row.{IsMdp}
 use Rattle.mdp_graph.specs.Sets.{marked, stays_in}
 use Rattle.mdp_graph.specs.Layers.{reached, rank_at, AreLeastRanks}
