@@ -3,7 +3,7 @@ ghost use Rattle.mdp_spec.specs.Mdp.{states_of};
 
 use mdp_drn::{DrnError, read, write};
 use mdp_num::Memory;
-use mdp_rows::{Marks, Model, RowRule, cut};
+use mdp_rows::{Marks, Model, RowRule};
 use std::alloc::Global;
 use std::test::Fail;
 
@@ -47,7 +47,7 @@ fn cuts_states(rt: HostRuntime) -> Result<(), Fail> {
     let model = fork(rt.alloc())?;
     let goals = goals_of(rt.alloc(), &model)?;
     let none = Marks::empty(rt.alloc(), model.states())?;
-    let left = cut(rt.alloc(), &model, &none, &goals)?;
+    let left = model.cut(rt.alloc(), &none, &goals)?;
     let mut text = Vec::new(rt.alloc());
     write(&left, &mut text)?;
     let loops =
