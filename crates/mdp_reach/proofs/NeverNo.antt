@@ -17,14 +17,14 @@ use Rattle.mdp_rows.specs.declared.dir.Dir.{Dir}
 use Rattle.mdp_rows.specs.declared.dir.Dir.TheVariants.{Max, Min}
 use Rattle.mdp_farkas.specs.Verdict.{Check, objection, objection_to, verdict, verdict_of}
 use Rattle.mdp_farkas.specs.Upper.{goal_check}
-use Rattle.mdp_farkas.specs.Reach.{stands, other, stands_at, bound_check, bound_checks, policy_check, value_checks, ends, rank_check, leads_down, fall_check, fall_checks}
+use Rattle.mdp_farkas.specs.Bellman.{stands, stands_at, bound_check, bound_checks}
+use Rattle.mdp_farkas.specs.Reach.{other, policy_check, value_checks, ends, rank_check, leads_down, fall_check, fall_checks}
 use Rattle.mdp_farkas.specs.Reach.{rank_checks, reach_at, reach_checks, MeetsReach}
 use Rattle.mdp_farkas.specs.declared.verdict.Fault.{Fault}
 use Rattle.mdp_farkas.specs.declared.verdict.Verdict.TheVariants.{No}
 use Rattle.mdp_farkas.proofs.Holds.{Each, each_append, each_flat, each_map, each_if}
 use Rattle.mdp_farkas.proofs.Comparing.{at_least_of_le, at_most_of_le, equal_of_same}
 use Rattle.mdp_farkas.proofs.Summing.{summed}
-use Rattle.mdp_farkas.proofs.ReachRules.{Stands}
 use Rattle.mdp_path.proofs.LeavesAgain.{lt_of_test, test_of_lt}
 
 -- a check that holds where none of its terms is past width
@@ -42,6 +42,11 @@ never_no [] s f e = cc
 never_no (c ∷ cs) s f e = no_by c c.holds cs f s.0 (never_no cs s.1) e
 
 -- ---- the checks of reachability
+
+-- Bellman's inequality in exact numbers
+abbrev Stands : Dir → ℚ → ℚ → Type 0
+Stands Max v w = w ≤ℚ v
+Stands Min v w = v ≤ℚ w
 
 stands_told : (dir : Dir) (v w : ℚ) → Stands dir v w → IsSome (stands dir v w) → stands dir v w ≡ Some true
 stands_told Max v w h i = at_least_of_le v w h i
