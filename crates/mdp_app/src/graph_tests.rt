@@ -143,55 +143,20 @@ fn finds_sets_of_states(rt: HostRuntime) -> Result<(), Fail> {
             "3\n@model\nstate 0\naction\n1:1\naction\n2:1\nstate 1\naction\n1:1\nstate 2 goal\naction\n2:1\n",
             "may 1/1 - 0/0, must - - 0/0, avoid 0/0 0/0 -, some 1/1 - 0/0, all - - 0/0, rounds 0 1 0",
         ),
-        // no goal
-        (
-            "2\n@model\nstate 0\naction\n1:1\nstate 1\naction\n1:1\n",
-            "may - -, must - -, avoid 0/0 0/0, some - -, all - -, rounds 1 1",
-        ),
-        // goals alone
-        (
-            "2\n@model\nstate 0 goal\naction\n1:1\nstate 1 goal\naction\n0:1\n",
-            "may 0/0 0/0, must 0/0 0/0, avoid - -, some 0/0 0/0, all 0/0 0/0, rounds 0 0",
-        ),
-        // a row that stays with one half
-        (
-            "2\n@model\nstate 0\naction\n0:1/2\n1:1/2\nstate 1 goal\naction\n1:1\n",
-            "may 1/0 0/0, must 1/0 0/0, avoid - -, some 1/0 0/0, all 1/0 0/0, rounds 0 0",
-        ),
         // a choice that stays
         (
             "2\n@model\nstate 0\naction\n0:1\naction\n1:1\nstate 1 goal\naction\n1:1\n",
             "may 1/1 0/0, must - 0/0, avoid 0/0 -, some 1/1 0/0, all - 0/0, rounds 0 0",
-        ),
-        // a goal to which nothing leads
-        (
-            "3\n@model\nstate 0\naction\n1:1\nstate 1\naction\n0:1\nstate 2 goal\naction\n2:1\n",
-            "may - - 0/0, must - - 0/0, avoid 0/0 0/0 -, some - - 0/0, all - - 0/0, rounds 1 1 0",
         ),
         // a goal that is left again
         (
             "3\n@model\nstate 0\naction\n1:1\nstate 1 goal\naction\n2:1\nstate 2\naction\n2:1\n",
             "may 1/0 0/0 -, must 1/0 0/0 -, avoid - - 0/0, some 1/0 0/0 -, all 1/0 0/0 -, rounds 0 0 1",
         ),
-        // two choices to states of one rank
-        (
-            "4\n@model\nstate 0\naction\n1:1\naction\n2:1\nstate 1\naction\n3:1\nstate 2\naction\n3:1\nstate 3 goal\naction\n3:1\n",
-            "may 2/0 1/0 1/0 0/0, must 2/0 1/0 1/0 0/0, avoid - - - -, some 2/0 1/0 1/0 0/0, all 2/0 1/0 1/0 0/0, rounds 0 0 0 0",
-        ),
-        // the second choice may lead there at once
-        (
-            "3\n@model\nstate 0\naction\n1:1\naction\n0:1/2\n2:1/2\nstate 1\naction\n2:1\nstate 2 goal\naction\n2:1\n",
-            "may 1/1 1/0 0/0, must 2/0 1/0 0/0, avoid - - -, some 1/1 1/0 0/0, all 2/0 1/0 0/0, rounds 0 0 0",
-        ),
         // a second choice that may come back, and a trap
         (
             FORK,
             "may 1/0 0/0 -, must 1/0 0/0 -, avoid - - 0/0, some - 0/0 -, all - 0/0 -, rounds 2 0 1",
-        ),
-        // three rounds
-        (
-            "4\n@model\nstate 0\naction\n1:1/2\n3:1/2\nstate 1\naction\n2:1/2\n3:1/2\nstate 2\naction\n2:1\nstate 3 goal\naction\n3:1\n",
-            "may 1/0 1/0 - 0/0, must 1/0 1/0 - 0/0, avoid - - 0/0 -, some - - - 0/0, all - - - 0/0, rounds 3 2 1 0",
         ),
         // the way over state 1 is blocked, and so is the goal, which is one all the same
         (

@@ -20,10 +20,14 @@ use std::env;
 use std::fs::File;
 use std::process::ExitCode;
 
-/// The file that the word at this place names, as a source; one that fails at its first read where it can't be opened.
-fn opened(rt: &HostRuntime, words: &[String], place: usize) -> StdSource<File> {
-    let file = words.get(place).map(|word| File::open(rt, word.as_str()));
-    StdSource::new(file.and_then(Result::ok))
+/// The file of this name as a source; one that fails at its first read where the file can't be opened.
+fn opened(rt: &HostRuntime, path: &str) -> StdSource<File> {
+    StdSource::new(File::open(rt, path).ok())
+}
+
+/// The word at a place, or none where there is no such place.
+fn word_at(words: &[String], place: usize) -> &str {
+    words.get(place).map_or("", String::as_str)
 }
 
 /// A source that has ended.
@@ -42,16 +46,17 @@ fn run_on_files(rt: &HostRuntime, words: &[String]) -> Status {
         } => run(
             alloc,
             words,
-            &mut opened(rt, words, model),
-            &mut opened(rt, words, second),
+            &mut opened(rt, word_at(words, model)),
+            &mut opened(rt, word_at(words, second)),
             &mut out,
         ),
         Files {
-            model: Some(model), ..
+            model: Some(model),
+            ..
         } => run(
             alloc,
             words,
-            &mut opened(rt, words, model),
+            &mut opened(rt, word_at(words, model)),
             &mut ended(rt),
             &mut out,
         ),

@@ -104,15 +104,15 @@ pub fn run<S: Source, C: Source, K: Sink>(
 ) -> Status
     // The answer is due to the bytes of the sources, or one of them failed, or memory is wanting; and it was written.
     ensures answer { IsAnswered (job_of words.now) (input S.left S.faults model.old model.new) (input C.left C.faults second.old second.new)
-                     (output K.taken K.settled K.faults out.old out.new) result }
+        (output K.taken K.settled K.faults out.old out.new) result }
 
     // Where the work was done, the text that the sink took is due to the job, and what it says is true.
     ensures done { result ≡ Status.Done → IsWorkDone (job_of words.now) (input S.left S.faults model.old model.new) (input C.left C.faults second.old second.new)
-                   (output K.taken K.settled K.faults out.old out.new) }
+        (output K.taken K.settled K.faults out.old out.new) }
 
     // Where a text is due, the work is done, but for faults that were counted and want of memory.
     ensures complete { IsComplete (job_of words.now) (input S.left S.faults model.old model.new) (input C.left C.faults second.old second.new)
-                       (output K.taken K.settled K.faults out.old out.new) result }
+        (output K.taken K.settled K.faults out.old out.new) result }
 {
     let answer = decided(alloc, words, model, second);
     written(alloc, answer, out)

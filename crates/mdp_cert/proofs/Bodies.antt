@@ -1,5 +1,6 @@
 -- The lines of all states are read exactly where they are the lines of the entries, in each version.
-use Rattle.std.proofs.Common.{◌≡◌, ℕ, zero, suc, ◌+◌, ◌<◌, ◌≤◌, ◌^◌, Bool, true, false, cond, ltb, List, [], ◌∷◌, ◌++◌, length, map, Option, Some, None, Result, Ok, refl, sym, ap, ap₂, subst, ◌∙◌, append_assoc, arith}
+use Rattle.std.proofs.Common.{◌≡◌, ℕ, zero, suc, ◌+◌, ◌<◌, ◌≤◌, ◌^◌, Bool, true, false, cond, ltb, List, [], ◌∷◌}
+use Rattle.std.proofs.Common.{◌++◌, length, map, Option, Some, None, Result, Ok, refl, sym, ap, ap₂, subst, ◌∙◌, append_assoc, arith}
 use Rattle.std.proofs.Math.ListN.{replicate}
 use Rattle.std.proofs.lemmas.Bool.{lt-ltb}
 use Rattle.std.proofs.lemmas.Bool.Decides.{nat_tests}
@@ -50,7 +51,8 @@ module _ {A : Type 0} (k : Columns A) (IsInWidth : A → Type 0) (is : IsColumns
   abbrev more_runs : ℕ → Version → ℕ → Run A × Place → Result (List (Run A) × Place) Refusal
   more_runs most v due said = onto_run said.0 (runs_from most v k states (due + said.0.more + 1) (Some said.0.entry) said.1)
 
-  pub runs-found : (most : ℕ) (v : Version) (due : ℕ) (before : Option A) (p : Place) (rs : List (Run A)) (q : Place) → due ≤ states → states ≤ due + most → runs_from most v k states due before p ≡ Ok (rs, q) → Found v due before p rs q
+  pub runs-found : (most : ℕ) (v : Version) (due : ℕ) (before : Option A) (p : Place) (rs : List (Run A)) (q : Place) → due ≤ states → states ≤ due + most
+      → runs_from most v k states due before p ≡ Ok (rs, q) → Found v due before p rs q
   unfolding runs_from run_lines
   runs-found zero v due before p rs q le enough e =
       let same : (let r : List (Run A) × Place = ([], p) in r) ≡ (rs, q) = ok-is _ _ e in
@@ -62,7 +64,8 @@ module _ {A : Type 0} (k : Columns A) (IsInWidth : A → Type 0) (is : IsColumns
       joined a b c d e f rest = rw (e, f) (sym (append_assoc (line b) d rest))
 
       by : (b : Bool) → ltb due states ≡ b → cond b (line_by (run_in v k states due before) p >>= more_runs most v due) (Ok ([], p)) ≡ Ok (rs, q)
-          → ((said : Run A × Place) (behind : List (Run A) × Place) → due + said.0.more < states → runs_from most v k states (due + said.0.more + 1) (Some said.0.entry) said.1 ≡ Ok (behind.0, behind.1) → Found v (due + said.0.more + 1) (Some said.0.entry) said.1 behind.0 behind.1)
+          → ((said : Run A × Place) (behind : List (Run A) × Place) → due + said.0.more < states → runs_from most v k states (due + said.0.more + 1) (Some said.0.entry)
+          said.1 ≡ Ok (behind.0, behind.1) → Found v (due + said.0.more + 1) (Some said.0.entry) said.1 behind.0 behind.1)
           → Found v due before p rs q
       by false t e more =
           let same : (let r : List (Run A) × Place = ([], p) in r) ≡ (rs, q) = ok-is _ _ e in
@@ -77,12 +80,14 @@ module _ {A : Type 0} (k : Columns A) (IsInWidth : A → Type 0) (is : IsColumns
           let l = line-found k IsInWidth is states limit v due before p.line j.text one.0.0 lt j.said in
           let m = more one.0 two.0 l.0.inside two.1 in
           subst (λ (r : List (Run A) × Place). Found v due before p r.0 r.1) same (record {
-            text = j.is.front ∙ ap (λ (t : List ℕ). line j.text ++ t) m.text ∙ joined j.text (run_text k due one.0.0) (run_lines k (due + one.0.0.more + 1) two.0.0) _ l.0.spelled refl two.0.1.rest;
+            text =
+                j.is.front ∙ ap (λ (t : List ℕ). line j.text ++ t) m.text ∙ joined j.text (run_text k due one.0.0) (run_lines k (due + one.0.0.more + 1) two.0.0) _ l.0.spelled refl two.0.1.rest;
             lines = record { all = omega (arith, m.lines.all); longest = (l.1, m.lines.longest); width = (l.0.width, m.lines.width) };
           })
 
   -- and back
-  pub runs-again : (most : ℕ) (v : Version) (due : ℕ) (before : Option A) (n : ℕ) (rs : List (Run A)) (rest : List ℕ) → states ≤ due + most → AreLines v due before rs → (m : ℕ) × (runs_from most v k states due before (place n (run_lines k due rs ++ rest)) ≡ Ok (rs, place m rest))
+  pub runs-again : (most : ℕ) (v : Version) (due : ℕ) (before : Option A) (n : ℕ) (rs : List (Run A)) (rest : List ℕ) → states ≤ due + most → AreLines v due before rs
+      → (m : ℕ) × (runs_from most v k states due before (place n (run_lines k due rs ++ rest)) ≡ Ok (rs, place m rest))
   unfolding runs_from run_lines
   runs-again zero v due before n [] rest enough h = (n, refl)
   runs-again zero v due before n (r ∷ rs) rest enough h = absurd (omega (arith, h.all))
@@ -94,8 +99,13 @@ module _ {A : Type 0} (k : Columns A) (IsInWidth : A → Type 0) (is : IsColumns
       let some : ltb due states ≡ true = lt-ltb due states (omega arith) in
       let others : AreLines v (due + r.more + 1) (Some r.entry) rs = record { all = omega (arith, h.all); longest = h.longest.1; width = h.width.1 } in
       let more = runs-again most v (due + r.more + 1) (Some r.entry) (n + 1) rs rest (omega arith) others in
-      let first = judged-again (run_in v k states due before) n (run_text k due r) (run_lines k (due + r.more + 1) rs ++ rest) r (free-run k IsInWidth is states limit due r below h.width.0) (line-again k IsInWidth is states limit v due before n r below h.width.0 h.longest.0) in
-      (more.0, rw (some, append_assoc (line (run_text k due r)) (run_lines k (due + r.more + 1) rs) rest) (ap (λ (x : Result (Run A × Place) Refusal). x >>= more_runs most v due) first ∙ ap (onto_run r) more.1))
+      let first =
+      judged-again (run_in v k states due before) n (run_text k due r) (run_lines k (due + r.more + 1) rs ++ rest) r
+      (free-run k IsInWidth is states limit due r below h.width.0) (line-again k IsInWidth is states limit v due before n r below h.width.0 h.longest.0) in (
+        more.0,
+        rw (some, append_assoc (line (run_text k due r)) (run_lines k (due + r.more + 1) rs) rest)
+            (ap (λ (x : Result (Run A × Place) Refusal). x >>= more_runs most v due) first ∙ ap (onto_run r) more.1),
+      )
 
   -- ---- entries and runs
 
@@ -225,13 +235,15 @@ module _ {A : Type 0} (k : Columns A) (IsInWidth : A → Type 0) (is : IsColumns
         width = width-entries one.0.0 f.lines.width;
       })
 
-  entries-again : (v : Version) (n : ℕ) (xs : List A) (rest : List ℕ) → length xs ≡ states → Each IsInWidth xs → (m : ℕ) × (entries_from v k states (place n (state_lines v k xs ++ rest)) ≡ Ok (xs, place m rest))
+  entries-again : (v : Version) (n : ℕ) (xs : List A) (rest : List ℕ) → length xs ≡ states → Each IsInWidth xs
+      → (m : ℕ) × (entries_from v k states (place n (state_lines v k xs ++ rest)) ≡ Ok (xs, place m rest))
   unfolding entries_from
   entries-again v n xs rest count width =
       let all : 0 + total (runs_in v k xs) ≡ states = (let t = length-entries (runs_in v k xs) in let u = ap (λ (ys : List A). length ys) (runs-entries v xs) in omega arith) in
       let r = runs-again states v 0 None n (runs_in v k xs) rest (omega arith) (record { all = all; longest = runs-longest v xs; width = runs-width v xs width }) in (
         r.0,
-        ap (λ (q : Result (List (Run A) × Place) Refusal). q >>= λ rs. Ok (entries_of rs.0, rs.1)) r.1 ∙ ap (λ (ys : List A). let q : Result (List A × Place) Refusal = Ok (ys, place r.0 rest) in q) (runs-entries v xs),
+        ap (λ (q : Result (List (Run A) × Place) Refusal). q >>= λ rs. Ok (entries_of rs.0, rs.1)) r.1
+            ∙ ap (λ (ys : List A). let q : Result (List A × Place) Refusal = Ok (ys, place r.0 rest) in q) (runs-entries v xs),
       )
 
   -- with the line `end`
@@ -260,12 +272,14 @@ module _ {A : Type 0} (k : Columns A) (IsInWidth : A → Type 0) (is : IsColumns
       joined : (a b c t u d : List ℕ) → a ≡ b ++ c → c ≡ line t ++ d → t ≡ u → a ≡ (b ++ line u) ++ d
       joined a b c t u d p q r = rw (p, q, r) (sym (append_assoc b (line u) d))
 
-  pub closed-again : (v : Version) (n : ℕ) (xs : List A) (rest : List ℕ) → length xs ≡ states → Each IsInWidth xs → (m : ℕ) × (entries_to_end v k states (place n (closed_lines v k xs ++ rest)) ≡ Ok (xs, place m rest))
+  pub closed-again : (v : Version) (n : ℕ) (xs : List A) (rest : List ℕ) → length xs ≡ states → Each IsInWidth xs
+      → (m : ℕ) × (entries_to_end v k states (place n (closed_lines v k xs ++ rest)) ≡ Ok (xs, place m rest))
   unfolding entries_to_end
   closed-again v n xs rest count width =
       let r = entries-again v n xs (line end_text ++ rest) count width in (
         r.0 + 1,
         ap (λ (t : List ℕ). entries_from v k states (place n t) >>= ended) (append_assoc (state_lines v k xs) (line end_text) rest)
             ∙ ap (λ (q : Result (List A × Place) Refusal). q >>= ended) r.1
-            ∙ ap (λ (q : Result (Unit {0} × Place) Refusal). q >>= λ end. let x : Result (List A × Place) Refusal = Ok (xs, end.1) in x) (judged-again (is_line Shape end_text) r.0 end_text rest tt refl (due-again Shape r.0 end_text)),
+            ∙ ap (λ (q : Result (Unit {0} × Place) Refusal). q >>= λ end. let x : Result (List A × Place) Refusal = Ok (xs, end.1) in x)
+            (judged-again (is_line Shape end_text) r.0 end_text rest tt refl (due-again Shape r.0 end_text)),
       )

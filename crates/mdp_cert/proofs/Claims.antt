@@ -29,7 +29,8 @@ behind-again front rest = rw (take-append_seam front rest, drop-append_seam fron
 closed-found : (text name : List ℕ) → closed_name text ≡ Some name → (text ≡ name ++ 34 ∷ []) × (is_name name ≡ true)
 closed-found text name e = by (bytes_eq (drop (length text - 1) text) (34 ∷ []) && is_name (take (length text - 1) text)) refl e
   where
-    by : (b : Bool) → (bytes_eq (drop (length text - 1) text) (34 ∷ []) && is_name (take (length text - 1) text)) ≡ b → cond b (Some (take (length text - 1) text)) None ≡ Some name → (text ≡ name ++ 34 ∷ []) × (is_name name ≡ true)
+    by : (b : Bool) → (bytes_eq (drop (length text - 1) text) (34 ∷ []) && is_name (take (length text - 1) text)) ≡ b
+        → cond b (Some (take (length text - 1) text)) None ≡ Some name → (text ≡ name ++ 34 ∷ []) × (is_name name ≡ true)
     by true t e =
         let front : take (length text - 1) text ≡ name = cc in
         let p = and_parts _ _ t in
@@ -56,7 +57,8 @@ unfolding claim_at claim_of
 claim-found n text c e =
     by (name_behind (codes "claim upper reach \"") text) (name_behind (codes "claim max reach \"") text) (name_behind (codes "claim min reach \"") text) refl refl refl (found_ok _ Claim n c e)
   where
-    by : (a b d : Option (List ℕ)) → name_behind (codes "claim upper reach \"") text ≡ a → name_behind (codes "claim max reach \"") text ≡ b → name_behind (codes "claim min reach \"") text ≡ d → first_claim a b d ≡ Some c → (text ≡ claim_text c) × (is_name (label_of c) ≡ true)
+    by : (a b d : Option (List ℕ)) → name_behind (codes "claim upper reach \"") text ≡ a → name_behind (codes "claim max reach \"") text ≡ b
+        → name_behind (codes "claim min reach \"") text ≡ d → first_claim a b d ≡ Some c → (text ≡ claim_text c) × (is_name (label_of c) ≡ true)
     by (Some name) b d p q r e = let is : upper name ≡ c = cc in let f = name-found (codes "claim upper reach \"") text name p in rw (← is) (f.0, f.1)
     by None (Some name) d p q r e = let is : reach Max name ≡ c = cc in let f = name-found (codes "claim max reach \"") text name q in rw (← is) (f.0, f.1)
     by None None (Some name) p q r e = let is : reach Min name ≡ c = cc in let f = name-found (codes "claim min reach \"") text name r in rw (← is) (f.0, f.1)

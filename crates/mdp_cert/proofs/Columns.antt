@@ -33,7 +33,8 @@ pub record IsColumns {A : Type 0} (k : Columns A) (IsInWidth : A → Type 0) : T
 
 -- so they say the same exactly where their words are the same
 pub same-words : {A : Type 0} (k : Columns A) (IsInWidth : A → Type 0) → IsColumns k IsInWidth → IsSameWords k IsInWidth
-same-words k IsInWidth is x y p q = (λ e. ap k.words (is.same x y e), λ e. (let same : x ≡ y = some-is (sym (is.again x p) ∙ ap k.parse e ∙ is.again y q) in subst (λ z. k.same x z ≡ true) same (is.itself x)))
+same-words k IsInWidth is x y p q =
+    (λ e. ap k.words (is.same x y e), λ e. (let same : x ≡ y = some-is (sym (is.again x p) ∙ ap k.parse e ∙ is.again y q) in subst (λ z. k.same x z ≡ true) same (is.itself x)))
   where
     some-is : Some x ≡ Some y → x ≡ y
     some-is e = cc

@@ -31,7 +31,8 @@ suc-same a b = grind (arith, nat_tests)
 rest_is : (k : ℕ) (xs : List ℕ) → take (length xs - k) (drop k xs) ≡ drop k xs
 rest_is k xs = take_all (length xs - k) (drop k xs) (omega (arith, length-drop k xs))
 
-pub line_found : (n k : ℕ) (bytes : List ℕ) → k ≡ position_or_len is_line_feed bytes → k < length bytes → next_line (place n bytes) ≡ Ok (take k bytes, place (n + 1) (take (length bytes - (k + 1)) (drop (k + 1) bytes)))
+pub line_found : (n k : ℕ) (bytes : List ℕ) → k ≡ position_or_len is_line_feed bytes → k < length bytes
+    → next_line (place n bytes) ≡ Ok (take k bytes, place (n + 1) (take (length bytes - (k + 1)) (drop (k + 1) bytes)))
 unfolding next_line
 line_found n k bytes e lt =
     let p : ltb (position_or_len is_line_feed bytes) (length bytes) ≡ true = grind (arith, nat_tests) in
@@ -67,11 +68,13 @@ words_alone text one = sym (join_with_byte-slice_split 32 text) ∙ by (words te
 
 -- ---- the words behind the first one
 
-pub behind_shaped : (due : List ℕ) (count n : ℕ) (text first : List ℕ) (others : List (List ℕ)) → words text ≡ first ∷ others → (bytes_eq first due && eqb (length others) count) ≡ true → words_behind due count n text ≡ Ok others
+pub behind_shaped : (due : List ℕ) (count n : ℕ) (text first : List ℕ) (others : List (List ℕ)) → words text ≡ first ∷ others
+    → (bytes_eq first due && eqb (length others) count) ≡ true → words_behind due count n text ≡ Ok others
 unfolding words_behind
 behind_shaped due count n text first others e shape = let same : eqb (suc (length others)) (suc count) ≡ eqb (length others) count = suc-same (length others) count in rw (e, same, shape) refl
 
-pub behind_other : (due : List ℕ) (count n : ℕ) (text first : List ℕ) (others : List (List ℕ)) → words text ≡ first ∷ others → (bytes_eq first due && eqb (length others) count) ≡ false → words_behind due count n text ≡ refused Shape n
+pub behind_other : (due : List ℕ) (count n : ℕ) (text first : List ℕ) (others : List (List ℕ)) → words text ≡ first ∷ others
+    → (bytes_eq first due && eqb (length others) count) ≡ false → words_behind due count n text ≡ refused Shape n
 unfolding words_behind
 behind_other due count n text first others e shape = let same : eqb (suc (length others)) (suc count) ≡ eqb (length others) count = suc-same (length others) count in rw (e, same, shape) refl
 

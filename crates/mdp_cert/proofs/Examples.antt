@@ -15,7 +15,8 @@ use Rattle.mdp_cert.specs.Lines.{refused, next_line}
 use Rattle.mdp_cert.specs.Words.{words_behind, whole_of, whole_at, frac_at}
 use Rattle.mdp_cert.specs.Runs.{longest_runs}
 use Rattle.mdp_cert.specs.Spelling.{text_of, old_text_of, text_in, run_text, run_lines, line}
-use Rattle.mdp_cert.specs.Reading.{outcome, version_at, claim_of, claim_at, states_at, finite_at, valued_at, init_at, head_from, entry_at, state_at, run_at, longest_at, runs_from, entries_from, entries_to_end, body_from, nothing_behind}
+use Rattle.mdp_cert.specs.Reading.{outcome, version_at, claim_of, claim_at, states_at, finite_at, valued_at, init_at, head_from}
+use Rattle.mdp_cert.specs.Reading.{entry_at, state_at, run_at, longest_at, runs_from, entries_from, entries_to_end, body_from, nothing_behind}
 
 -- ---- an upper bound of 1 at the states 0 and 1, of 0 at state 2
 
@@ -55,66 +56,6 @@ bounds-written_old : old_text_of bounds-of-three ≡ in-one one-by-one
 unfolding text_in run_text run_lines longest_runs spelling ratio gcd gcd_with_fuel digits
 bounds-written_old = refl
 
-bounds-read : outcome (in-two with-run) ≡ Ok bounds-of-three
-unfolding outcome next_line version_at whole_of whole_at frac_at claim_of claim_at words_behind states_at finite_at valued_at head_from entry_at state_at run_at longest_at runs_from entries_from entries_to_end body_from nothing_behind canonical_of ratio gcd gcd_with_fuel
-bounds-read = refl
-
-bounds-read_old : outcome (in-one one-by-one) ≡ Ok bounds-of-three
-unfolding outcome next_line version_at whole_of whole_at frac_at claim_of claim_at words_behind states_at finite_at valued_at head_from entry_at state_at run_at longest_at runs_from entries_from entries_to_end body_from nothing_behind canonical_of ratio gcd gcd_with_fuel
-bounds-read_old = refl
-
--- the lines of the states 0 and 1 could be one
-shorter-runs : outcome (in-two one-by-one) ≡ refused Run 6
-unfolding outcome next_line version_at whole_of whole_at frac_at claim_of claim_at words_behind states_at finite_at valued_at head_from entry_at state_at run_at longest_at runs_from entries_from entries_to_end body_from nothing_behind canonical_of ratio gcd gcd_with_fuel
-shorter-runs = refl
-
-run-too-short : outcome (in-two (line (codes "run 0 1 1") ++ line (codes "state 2 1"))) ≡ refused Run 6
-unfolding outcome next_line version_at whole_of whole_at frac_at claim_of claim_at words_behind states_at finite_at valued_at head_from entry_at state_at run_at longest_at runs_from entries_from entries_to_end body_from nothing_behind canonical_of ratio gcd gcd_with_fuel
-run-too-short = refl
-
-run-of-one : outcome (in-two (line (codes "run 0 0 1") ++ line (codes "state 1 1") ++ line (codes "state 2 0"))) ≡ refused Count 5
-unfolding outcome next_line version_at whole_of whole_at frac_at claim_of claim_at words_behind states_at finite_at valued_at head_from entry_at state_at run_at longest_at runs_from entries_from entries_to_end body_from nothing_behind canonical_of ratio gcd gcd_with_fuel
-run-of-one = refl
-
-run-backwards : outcome (in-two (line (codes "state 0 1") ++ line (codes "run 1 0 0"))) ≡ refused Count 6
-unfolding outcome next_line version_at whole_of whole_at frac_at claim_of claim_at words_behind states_at finite_at valued_at head_from entry_at state_at run_at longest_at runs_from entries_from entries_to_end body_from nothing_behind canonical_of ratio gcd gcd_with_fuel
-run-backwards = refl
-
-run-past-end : outcome (in-two (line (codes "run 0 3 1"))) ≡ refused Count 5
-unfolding outcome next_line version_at whole_of whole_at frac_at claim_of claim_at words_behind states_at finite_at valued_at head_from entry_at state_at run_at longest_at runs_from entries_from entries_to_end body_from nothing_behind canonical_of ratio gcd gcd_with_fuel
-run-past-end = refl
-
-run-of-other_state : outcome (in-two (line (codes "run 1 2 1"))) ≡ refused Count 5
-unfolding outcome next_line version_at whole_of whole_at frac_at claim_of claim_at words_behind states_at finite_at valued_at head_from entry_at state_at run_at longest_at runs_from entries_from entries_to_end body_from nothing_behind canonical_of ratio gcd gcd_with_fuel
-run-of-other_state = refl
-
--- in one line a count comes before a run
-count-before-run : outcome (in-two (line (codes "run 0 1 1") ++ line (codes "run 2 2 1"))) ≡ refused Count 6
-unfolding outcome next_line version_at whole_of whole_at frac_at claim_of claim_at words_behind states_at finite_at valued_at head_from entry_at state_at run_at longest_at runs_from entries_from entries_to_end body_from nothing_behind canonical_of ratio gcd gcd_with_fuel
-count-before-run = refl
-
-number-before-count : outcome (in-two (line (codes "run 0 0 01"))) ≡ refused Number 5
-unfolding outcome next_line version_at whole_of whole_at frac_at claim_of claim_at words_behind states_at finite_at valued_at head_from entry_at state_at run_at longest_at runs_from entries_from entries_to_end body_from nothing_behind canonical_of ratio gcd gcd_with_fuel
-number-before-count = refl
-
-shape-before-number : outcome (in-two (line (codes "run 0 01"))) ≡ refused Shape 5
-unfolding outcome next_line version_at whole_of whole_at frac_at claim_of claim_at words_behind states_at finite_at valued_at head_from entry_at state_at run_at longest_at runs_from entries_from entries_to_end body_from nothing_behind canonical_of ratio gcd gcd_with_fuel
-shape-before-number = refl
-
--- version 1 has no runs
-run-in-one : outcome (in-one with-run) ≡ refused Shape 5
-unfolding outcome next_line version_at whole_of whole_at frac_at claim_of claim_at words_behind states_at finite_at valued_at head_from entry_at state_at run_at longest_at runs_from entries_from entries_to_end body_from nothing_behind canonical_of ratio gcd gcd_with_fuel
-run-in-one = refl
-
-run-at-end : outcome (in-two (with-run ++ line (codes "run 3 4 0"))) ≡ refused Shape 7
-unfolding outcome next_line version_at whole_of whole_at frac_at claim_of claim_at words_behind states_at finite_at valued_at head_from entry_at state_at run_at longest_at runs_from entries_from entries_to_end body_from nothing_behind canonical_of ratio gcd gcd_with_fuel
-run-at-end = refl
-
--- all states in one line
-run-of-all : outcome (in-two (line (codes "run 0 2 1"))) ≡ Ok (upper_of (Finite 0 one) 3 (one ∷ one ∷ one ∷ []))
-unfolding outcome next_line version_at whole_of whole_at frac_at claim_of claim_at words_behind states_at finite_at valued_at head_from entry_at state_at run_at longest_at runs_from entries_from entries_to_end body_from nothing_behind canonical_of ratio gcd gcd_with_fuel
-run-of-all = refl
-
 -- ---- one state only
 
 abbrev one-state : List ℕ → List ℕ
@@ -123,10 +64,6 @@ one-state version = line version ++ line (codes "claim upper reach \"goal\"") ++
 one-written : text_of (upper_of Missing 1 (one ∷ [])) ≡ one-state (codes "mdp-certificate 2")
 unfolding text_in run_text run_lines longest_runs spelling ratio gcd gcd_with_fuel digits
 one-written = refl
-
-one-read : outcome (one-state (codes "mdp-certificate 2")) ≡ Ok (upper_of Missing 1 (one ∷ []))
-unfolding outcome next_line version_at whole_of whole_at frac_at claim_of claim_at words_behind states_at finite_at valued_at head_from entry_at state_at run_at longest_at runs_from entries_from entries_to_end body_from nothing_behind canonical_of ratio gcd gcd_with_fuel
-one-read = refl
 
 -- ---- the greatest probabilities of reaching the goal, and a policy
 
@@ -143,7 +80,9 @@ half-of-four = record {
 
 -- its text in version 2, with these first line, line of state 0 and end
 abbrev half-with : List ℕ → List ℕ → List ℕ → List ℕ
-half-with version state-0 end = line version ++ line (codes "claim max reach \"goal\"") ++ line (codes "states 4") ++ line (codes "init 0 1/2") ++ line state-0 ++ line (codes "state 1 1 0 0") ++ line (codes "run 2 3 0 0 0") ++ end
+half-with version state-0 end =
+    line version ++ line (codes "claim max reach \"goal\"") ++ line (codes "states 4") ++ line (codes "init 0 1/2") ++ line state-0 ++ line (codes "state 1 1 0 0") ++ line
+    (codes "run 2 3 0 0 0") ++ end
 
 abbrev half-two : List ℕ → List ℕ → List ℕ
 half-two state-0 end = half-with (codes "mdp-certificate 2") state-0 end
@@ -152,42 +91,80 @@ half-written : text_of half-of-four ≡ half-two (codes "state 0 1/2 0 1") (line
 unfolding text_in run_text run_lines longest_runs spelling ratio gcd gcd_with_fuel digits
 half-written = refl
 
-half-read : outcome (half-two (codes "state 0 1/2 0 1") (line (codes "end"))) ≡ Ok half-of-four
-unfolding outcome next_line version_at whole_of whole_at frac_at claim_of claim_at words_behind states_at finite_at valued_at head_from entry_at state_at run_at longest_at runs_from entries_from entries_to_end body_from nothing_behind canonical_of ratio gcd gcd_with_fuel
-half-read = refl
+-- ---- what the texts are read as
 
-not-lowest : outcome (half-two (codes "state 0 2/4 0 1") (line (codes "end"))) ≡ refused Number 5
-unfolding outcome next_line version_at whole_of whole_at frac_at claim_of claim_at words_behind states_at finite_at valued_at head_from entry_at state_at run_at longest_at runs_from entries_from entries_to_end body_from nothing_behind canonical_of ratio gcd gcd_with_fuel
-not-lowest = refl
+-- read as these certificates
+record Read : Type 0 where
+  bounds-read : outcome (in-two with-run) ≡ Ok bounds-of-three
+  bounds-read_old : outcome (in-one one-by-one) ≡ Ok bounds-of-three
+  -- all states in one line
+  run-of-all : outcome (in-two (line (codes "run 0 2 1"))) ≡ Ok (upper_of (Finite 0 one) 3 (one ∷ one ∷ one ∷ []))
+  one-read : outcome (one-state (codes "mdp-certificate 2")) ≡ Ok (upper_of Missing 1 (one ∷ []))
+  half-read : outcome (half-two (codes "state 0 1/2 0 1") (line (codes "end"))) ≡ Ok half-of-four
+  -- equal values alone are not equal words
+  other-rank : outcome (line (codes "mdp-certificate 2") ++ line (codes "claim max reach \"goal\"") ++ line (codes "states 2") ++ line (codes "init -") ++ line
+      (codes "state 0 0 0 1") ++ line (codes "state 1 0 0 0") ++ (line (codes "end"))) ≡ Ok
+      (record { claim = reach Max (codes "goal"); states = 2; init = Missing; body = policy (none ∷ none ∷ []) (0 ∷ 0 ∷ []) (1 ∷ 0 ∷ []) })
 
-without-end : outcome (half-two (codes "state 0 1/2 0 1") []) ≡ refused End 8
-unfolding outcome next_line version_at whole_of whole_at frac_at claim_of claim_at words_behind states_at finite_at valued_at head_from entry_at state_at run_at longest_at runs_from entries_from entries_to_end body_from nothing_behind canonical_of ratio gcd gcd_with_fuel
-without-end = refl
+texts-read : Read
+unfolding outcome next_line version_at whole_of whole_at frac_at claim_of claim_at words_behind states_at finite_at valued_at head_from entry_at state_at run_at longest_at
+    runs_from entries_from entries_to_end body_from nothing_behind canonical_of ratio gcd gcd_with_fuel
+texts-read = record {
+  bounds-read = refl;
+  bounds-read_old = refl;
+  run-of-all = refl;
+  one-read = refl;
+  half-read = refl;
+  other-rank = refl;
+}
 
-without-line-feed : outcome (half-two (codes "state 0 1/2 0 1") (codes "ended")) ≡ refused End 8
-unfolding outcome next_line version_at whole_of whole_at frac_at claim_of claim_at words_behind states_at finite_at valued_at head_from entry_at state_at run_at longest_at runs_from entries_from entries_to_end body_from nothing_behind canonical_of ratio gcd gcd_with_fuel
-without-line-feed = refl
+-- refused
+record Refused : Type 0 where
+  -- the lines of the states 0 and 1 could be one
+  shorter-runs : outcome (in-two one-by-one) ≡ refused Run 6
+  run-too-short : outcome (in-two (line (codes "run 0 1 1") ++ line (codes "state 2 1"))) ≡ refused Run 6
+  run-of-one : outcome (in-two (line (codes "run 0 0 1") ++ line (codes "state 1 1") ++ line (codes "state 2 0"))) ≡ refused Count 5
+  run-backwards : outcome (in-two (line (codes "state 0 1") ++ line (codes "run 1 0 0"))) ≡ refused Count 6
+  run-past-end : outcome (in-two (line (codes "run 0 3 1"))) ≡ refused Count 5
+  run-of-other_state : outcome (in-two (line (codes "run 1 2 1"))) ≡ refused Count 5
+  -- in one line a count comes before a run
+  count-before-run : outcome (in-two (line (codes "run 0 1 1") ++ line (codes "run 2 2 1"))) ≡ refused Count 6
+  number-before-count : outcome (in-two (line (codes "run 0 0 01"))) ≡ refused Number 5
+  shape-before-number : outcome (in-two (line (codes "run 0 01"))) ≡ refused Shape 5
+  -- version 1 has no runs
+  run-in-one : outcome (in-one with-run) ≡ refused Shape 5
+  run-at-end : outcome (in-two (with-run ++ line (codes "run 3 4 0"))) ≡ refused Shape 7
+  not-lowest : outcome (half-two (codes "state 0 2/4 0 1") (line (codes "end"))) ≡ refused Number 5
+  without-end : outcome (half-two (codes "state 0 1/2 0 1") []) ≡ refused End 8
+  without-line-feed : outcome (half-two (codes "state 0 1/2 0 1") (codes "ended")) ≡ refused End 8
+  another-end : outcome (half-two (codes "state 0 1/2 0 1") (line (codes "ended"))) ≡ refused Shape 8
+  bytes-behind : outcome (half-two (codes "state 0 1/2 0 1") (line (codes "end") ++ 32 ∷ [])) ≡ refused End 9
+  another-version : outcome (half-with (codes "mdp-certificate 9") (codes "state 0 1/2 0 1") (line (codes "end"))) ≡ refused Version 1
+  another-state : outcome (half-two (codes "state 1 1/2 0 1") (line (codes "end"))) ≡ refused Count 5
 
-another-end : outcome (half-two (codes "state 0 1/2 0 1") (line (codes "ended"))) ≡ refused Shape 8
-unfolding outcome next_line version_at whole_of whole_at frac_at claim_of claim_at words_behind states_at finite_at valued_at head_from entry_at state_at run_at longest_at runs_from entries_from entries_to_end body_from nothing_behind canonical_of ratio gcd gcd_with_fuel
-another-end = refl
-
-bytes-behind : outcome (half-two (codes "state 0 1/2 0 1") (line (codes "end") ++ 32 ∷ [])) ≡ refused End 9
-unfolding outcome next_line version_at whole_of whole_at frac_at claim_of claim_at words_behind states_at finite_at valued_at head_from entry_at state_at run_at longest_at runs_from entries_from entries_to_end body_from nothing_behind canonical_of ratio gcd gcd_with_fuel
-bytes-behind = refl
-
-another-version : outcome (half-with (codes "mdp-certificate 9") (codes "state 0 1/2 0 1") (line (codes "end"))) ≡ refused Version 1
-unfolding outcome next_line version_at whole_of whole_at frac_at claim_of claim_at words_behind states_at finite_at valued_at head_from entry_at state_at run_at longest_at runs_from entries_from entries_to_end body_from nothing_behind canonical_of ratio gcd gcd_with_fuel
-another-version = refl
-
-another-state : outcome (half-two (codes "state 1 1/2 0 1") (line (codes "end"))) ≡ refused Count 5
-unfolding outcome next_line version_at whole_of whole_at frac_at claim_of claim_at words_behind states_at finite_at valued_at head_from entry_at state_at run_at longest_at runs_from entries_from entries_to_end body_from nothing_behind canonical_of ratio gcd gcd_with_fuel
-another-state = refl
-
--- equal values alone are not equal words
-other-rank : outcome (line (codes "mdp-certificate 2") ++ line (codes "claim max reach \"goal\"") ++ line (codes "states 2") ++ line (codes "init -") ++ line (codes "state 0 0 0 1") ++ line (codes "state 1 0 0 0") ++ (line (codes "end"))) ≡ Ok (record { claim = reach Max (codes "goal"); states = 2; init = Missing; body = policy (none ∷ none ∷ []) (0 ∷ 0 ∷ []) (1 ∷ 0 ∷ []) })
-unfolding outcome next_line version_at whole_of whole_at frac_at claim_of claim_at words_behind states_at finite_at valued_at head_from entry_at state_at run_at longest_at runs_from entries_from entries_to_end body_from nothing_behind canonical_of ratio gcd gcd_with_fuel
-other-rank = refl
+texts-refused : Refused
+unfolding outcome next_line version_at whole_of whole_at frac_at claim_of claim_at words_behind states_at finite_at valued_at head_from entry_at state_at run_at longest_at
+    runs_from entries_from entries_to_end body_from nothing_behind canonical_of ratio gcd gcd_with_fuel
+texts-refused = record {
+  shorter-runs = refl;
+  run-too-short = refl;
+  run-of-one = refl;
+  run-backwards = refl;
+  run-past-end = refl;
+  run-of-other_state = refl;
+  count-before-run = refl;
+  number-before-count = refl;
+  shape-before-number = refl;
+  run-in-one = refl;
+  run-at-end = refl;
+  not-lowest = refl;
+  without-end = refl;
+  without-line-feed = refl;
+  another-end = refl;
+  bytes-behind = refl;
+  another-version = refl;
+  another-state = refl;
+}
 
 -- ---- the line `init`, for 3 states
 

@@ -1,5 +1,6 @@
 -- Each line is read exactly where it is its text.
-use Rattle.std.proofs.Common.{◌≡◌, ℕ, ◌+◌, ◌<◌, ◌^◌, Bool, true, false, not, cond, eqb, ltb, ◌||◌, List, [], ◌∷◌, ◌++◌, length, take, drop, get_or, decimal, Option, Some, None, Result, Ok, Err, refl, sym, ap, subst, ◌∙◌, append_assoc, arith, lit<, ℤ, pos, negsuc, unsigned_abs}
+use Rattle.std.proofs.Common.{◌≡◌, ℕ, ◌+◌, ◌<◌, ◌^◌, Bool, true, false, not, cond, eqb, ltb, ◌||◌, List, [], ◌∷◌, ◌++◌, length, take, drop}
+use Rattle.std.proofs.Common.{get_or, decimal, Option, Some, None, Result, Ok, Err, refl, sym, ap, subst, ◌∙◌, append_assoc, arith, lit<, ℤ, pos, negsuc, unsigned_abs}
 use Rattle.std.specs.List.{position_or_len, before_first, after_first}
 use Rattle.std.specs.Option.{option_and_then}
 use Rattle.std.specs.Str.{bytes_eq}
@@ -56,7 +57,8 @@ feed-after (x ∷ text) rest h = by (eqb x 10) refl (λ free. feed-after text re
     second false c p q = q
     second true c p q = absurd cc
 
-    by : (b : Bool) → eqb x 10 ≡ b → (Free 10 text → position_or_len is_line_feed (text ++ 10 ∷ rest) ≡ length text) → cond (not (eqb x 10)) (1 + position_or_len is_line_feed (text ++ 10 ∷ rest)) 0 ≡ length (x ∷ text)
+    by : (b : Bool) → eqb x 10 ≡ b → (Free 10 text → position_or_len is_line_feed (text ++ 10 ∷ rest) ≡ length text)
+        → cond (not (eqb x 10)) (1 + position_or_len is_line_feed (text ++ 10 ∷ rest)) 0 ≡ length (x ∷ text)
     by true e more = absurd (let t : true ≡ false = first-true (eqb x 10) _ e h in cc)
     by false e more = rw (e, more (second (eqb x 10) _ e h)) (omega arith)
 
@@ -64,7 +66,8 @@ pub line-again : (n : ℕ) (text rest : List ℕ) → Free 10 text → next_line
 unfolding next_line
 line-again n text rest h =
     let at = feed-after text rest h in
-    let more : ltb (length text) (length (text ++ 10 ∷ rest)) ≡ true = (let e = length-append text (10 ∷ rest) in let lt : length text < length (text ++ 10 ∷ rest) = omega arith in grind (arith, nat_tests)) in
+    let more : ltb (length text) (length (text ++ 10 ∷ rest)) ≡ true =
+    (let e = length-append text (10 ∷ rest) in let lt : length text < length (text ++ 10 ∷ rest) = omega arith in grind (arith, nat_tests)) in
     let front : take (length text) (text ++ 10 ∷ rest) ≡ text = take-append_seam text (10 ∷ rest) in
     let back : drop (length text + 1) (text ++ 10 ∷ rest) ≡ rest = drop-append-add text (10 ∷ rest) 1 in
     rw (line-rest text rest, at, more, front, back) refl
@@ -79,7 +82,9 @@ pub line-found : (p : Place) (text : List ℕ) (q : Place) → next_line p ≡ O
 unfolding next_line
 line-found p text q e =
     let bytes = p.rest in
-    let g = guard_ok (ltb (position_or_len is_line_feed bytes) (length bytes)) (before_first is_line_feed bytes, place (p.line + 1) (after_first is_line_feed bytes)) (text, q) (record { kind = End; line = p.line }) e in
+    let g =
+    guard_ok (ltb (position_or_len is_line_feed bytes) (length bytes)) (before_first is_line_feed bytes, place (p.line + 1) (after_first is_line_feed bytes)) (text, q)
+    (record { kind = End; line = p.line }) e in
     let lt : position_or_len is_line_feed bytes < length bytes = (let t = g.0 in grind (arith, nat_tests)) in
     let feed : get_or bytes (position_or_len is_line_feed bytes) 0 ≡ 10 = (let t = passes_at_first is_line_feed bytes 0 lt in grind (arith, nat_tests)) in
     let front : before_first is_line_feed bytes ≡ text = ap (λ (r : List ℕ × Place). r.0) g.1 in
@@ -116,7 +121,8 @@ judged-found {A} judge p x q e =
       said = two.1 ∙ ap (λ (z : A). let r : Result A Refusal = Ok z in r) y;
     }
 
-pub judged-again : {A : Type 0} (judge : ℕ → List ℕ → Result A Refusal) (n : ℕ) (text rest : List ℕ) (x : A) → Free 10 text → judge n text ≡ Ok x → line_by judge (place n (line text ++ rest)) ≡ Ok (x, place (n + 1) rest)
+pub judged-again : {A : Type 0} (judge : ℕ → List ℕ → Result A Refusal) (n : ℕ) (text rest : List ℕ) (x : A) → Free 10 text → judge n text ≡ Ok x
+    → line_by judge (place n (line text ++ rest)) ≡ Ok (x, place (n + 1) rest)
 judged-again judge n text rest x free e = rw (line-again n text rest free, e) refl
 
 pub due-line : (kind : CertKind) (n : ℕ) (text due : List ℕ) (u : Unit {0}) → is_line kind due n text ≡ Ok u → text ≡ due
@@ -150,7 +156,8 @@ pub whole-found : (n : ℕ) (word : List ℕ) (m : ℕ) → whole_at n word ≡ 
 unfolding whole_at whole_of
 whole-found n word m e = by (canonical_of word) refl (found_ok (whole_of word) Number n m e)
   where
-    by : (o : Option ℚ) → canonical_of word ≡ o → (let part : ℚ → Option ℕ = λ x. cond (eqb x.den 1) (whole_part x.num) None in option_and_then part o) ≡ Some m → (word ≡ decimal m) × (m < 2 ^ 32)
+    by : (o : Option ℚ) → canonical_of word ≡ o → (let part : ℚ → Option ℕ = λ x. cond (eqb x.den 1) (whole_part x.num) None in option_and_then part o) ≡ Some m
+        → (word ≡ decimal m) × (m < 2 ^ 32)
     by None o e = absurd cc
     by (Some x) o e = let w = whole-is x m e in ((sound word x o).0 ∙ spelled-whole x m w.0 w.1, w.2)
 

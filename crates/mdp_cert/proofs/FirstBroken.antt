@@ -1,5 +1,6 @@
 -- A refusal names the first line that breaks a rule.
-use Rattle.std.proofs.Common.{◌≡◌, ℕ, zero, suc, ◌+◌, ◌-◌, ◌<◌, ◌^◌, ◌⊎◌, inl, inr, Bool, true, false, not, cond, eqb, ltb, ◌||◌, List, [], ◌∷◌, ◌++◌, length, drop, Option, Some, None, Result, Ok, Err, refl, sym, ap, ap₂, subst, ◌∙◌, arith}
+use Rattle.std.proofs.Common.{◌≡◌, ℕ, zero, suc, ◌+◌, ◌-◌, ◌<◌, ◌^◌, ◌⊎◌, inl, inr, Bool, true, false, not, cond, eqb, ltb, ◌||◌}
+use Rattle.std.proofs.Common.{List, [], ◌∷◌, ◌++◌, length, drop, Option, Some, None, Result, Ok, Err, refl, sym, ap, ap₂, subst, ◌∙◌, arith}
 use Rattle.std.specs.Prelude.{codes}
 use Rattle.std.specs.List.{position_or_len, before_first, after_first}
 use Rattle.std.specs.Str.{bytes_eq}
@@ -19,7 +20,8 @@ use Rattle.mdp_cert.specs.Words.{words, first_of, begins_with, words_behind, who
 use Rattle.mdp_cert.specs.Runs.{Columns, run, single, entries_of}
 use Rattle.mdp_cert.specs.Claims.{bound_columns, policy_columns}
 use Rattle.mdp_cert.specs.Spelling.{line, version_text, end_text}
-use Rattle.mdp_cert.specs.Reading.{version_at, claim_of, claim_at, states_at, finite_at, valued_at, init_at, Head, head_from, entry_at, state_at, run_at, is_same, line_of_states, longest_at, run_in, onto_run, runs_from, entries_from, entries_to_end, policy_body, body_from, nothing_behind, outcome}
+use Rattle.mdp_cert.specs.Reading.{version_at, claim_of, claim_at, states_at, finite_at, valued_at, init_at, Head, head_from, entry_at, state_at, run_at}
+use Rattle.mdp_cert.specs.Reading.{is_same, line_of_states, longest_at, run_in, onto_run, runs_from, entries_from, entries_to_end, policy_body, body_from, nothing_behind, outcome}
 use Rattle.mdp_cert.specs.Laws.{first_lines, LacksAtMost}
 use Rattle.mdp_cert.proofs.Cuts.{guard_ok}
 use Rattle.mdp_cert.proofs.Feeds.{bind_ok, ok-is, line-found, line-again}
@@ -55,7 +57,8 @@ cut-line p t q e i =
 pub line-cut : (p : Place) (t : List ℕ) (q : Place) → next_line p ≡ Ok (t, q) → (i : ℕ) → next_line (cut (suc i) p) ≡ Ok (t, cut i q)
 line-cut p t q e i =
     let l = line-found p t q e in
-    ap (λ (bytes : List ℕ). next_line (place p.line bytes)) (cut-line p t q e i) ∙ line-again p.line t (first_lines i q.rest) l.free ∙ ap (λ (n : ℕ). let r : Result (List ℕ × Place) Refusal = Ok (t, place n (first_lines i q.rest)) in r) (sym l.number)
+    ap (λ (bytes : List ℕ). next_line (place p.line bytes)) (cut-line p t q e i) ∙ line-again p.line t (first_lines i q.rest) l.free
+    ∙ ap (λ (n : ℕ). let r : Result (List ℕ × Place) Refusal = Ok (t, place n (first_lines i q.rest)) in r) (sym l.number)
 
 pub line-missing : (p : Place) (r : Refusal) → next_line p ≡ Err r → (missing p.line ≡ r) × ((i : ℕ) → cut (suc i) p ≡ p)
 unfolding next_line first_lines
@@ -100,7 +103,8 @@ done {A} x = record {
       record {
         lines = 0;
         number = ap (λ (r : Place). r.line) (sym at) ∙ z;
-        again = λ j. (let none : 0 + j ≡ j = omega arith in rw none (ap₂ (λ (u : A) (v : Place). let r : Result (A × Place) Refusal = Ok (u, cut j v) in r) (ap (λ (r : A × Place). r.0) same) at));
+        again =
+            λ j. (let none : 0 + j ≡ j = omega arith in rw none (ap₂ (λ (u : A) (v : Place). let r : Result (A × Place) Refusal = Ok (u, cut j v) in r) (ap (λ (r : A × Place). r.0) same) at));
       });
   broken = λ p r e. absurd cc;
 }
@@ -144,7 +148,9 @@ lined {A} judge judges = record {
           at = 0;
           number = ap (λ (x : Refusal). x.line) (sym m.0) ∙ z;
           before = none p;
-          behind = λ j. (let one : suc 0 + j ≡ suc j = omega arith in rw one (ap (line_by judge) (m.1 j) ∙ ap (λ (x : Result (List ℕ × Place) Refusal). x >>= λ next. judge p.line next.0 >>= λ said. Ok (said, next.1)) lost));
+          behind =
+              λ j. (let one : suc 0 + j ≡ suc j = omega arith in rw one
+              (ap (line_by judge) (m.1 j) ∙ ap (λ (x : Result (List ℕ × Place) Refusal). x >>= λ next. judge p.line next.0 >>= λ said. Ok (said, next.1)) lost));
         }
 
     refused_by : (p : Place) (r : Refusal) (t : List ℕ) (q : Place) → next_line p ≡ Ok (t, q) → (judge p.line t >>= said-at q) ≡ Err r → Broken (line_by judge) p r
@@ -296,7 +302,8 @@ module _ {A : Type 0} (k : Columns A) (states : ℕ) where
       then-judges n (whole_at n (first_of behind)) _ (whole-judges n (first_of behind)) (λ first.
       then-judges n (whole_at n (first_of (drop 1 behind))) _ (whole-judges n (first_of (drop 1 behind))) (λ last.
       then-judges n (entry_at k n (drop 1 (drop 1 behind))) _ (entry-judges n (drop 1 (drop 1 behind))) (λ x.
-      then-judges n (refuse_if kind.Count n (not (eqb first due) || not (ltb first last) || not (ltb last states))) _ (refuse-judges kind.Count n _) (λ order. ok-judges n (run x (last - first)))))))
+      then-judges n (refuse_if kind.Count n (not (eqb first due) || not (ltb first last) || not (ltb last states))) _ (refuse-judges kind.Count n _)
+      (λ order. ok-judges n (run x (last - first)))))))
 
   line-judges : (due n : ℕ) (text : List ℕ) → Judges n (line_of_states k states due n text)
   line-judges due n text = by (begins_with (codes "run") (words text))
@@ -317,7 +324,8 @@ module _ {A : Type 0} (k : Columns A) (states : ℕ) where
   runs-cuts zero v due before = done []
   runs-cuts (suc most) v due before =
       where-due (ltb due states) (λ p. line_by (run_in v k states due before) p >>= λ said. onto_run said.0 (runs_from most v k states (due + said.0.more + 1) (Some said.0.entry) said.1)) []
-      (next (line_by (run_in v k states due before)) (λ said p. onto_run said (runs_from most v k states (due + said.more + 1) (Some said.entry) p)) (lined (run_in v k states due before) (run-in-judges v due before)) (λ said.
+      (next (line_by (run_in v k states due before)) (λ said p. onto_run said (runs_from most v k states (due + said.more + 1) (Some said.entry) p))
+      (lined (run_in v k states due before) (run-in-judges v due before)) (λ said.
       mapped (runs_from most v k states (due + said.more + 1) (Some said.entry)) (λ rs. said ∷ rs) (runs-cuts most v (due + said.more + 1) (Some said.entry))))
 
   entries-cuts : (v : Version) → Cuts (entries_from v k states)
@@ -336,7 +344,8 @@ head-cuts : Cuts head_from
 unfolding head_from
 head-cuts =
     next (line_by claim_at) (λ claim p. head-states (claim, p)) (lined claim_at claim-judges) (λ claim.
-    next (line_by states_at) (λ states p. line_by (init_at claim states) p >>= λ init. Ok (record { claim = claim; states = states; init = init.0 }, init.1)) (lined states_at states-judges) (λ states.
+    next (line_by states_at) (λ states p. line_by (init_at claim states) p >>= λ init. Ok (record { claim = claim; states = states; init = init.0 }, init.1))
+    (lined states_at states-judges) (λ states.
     mapped (line_by (init_at claim states)) (λ init. let h : Head = record { claim = claim; states = states; init = init } in h) (lined (init_at claim states) (init-judges claim states))))
 
 body-cuts : (v : Version) (claim : PlainClaim) (states : ℕ) → Cuts (body_from v claim states)

@@ -30,12 +30,14 @@ keeps_self a = keeps-split a a [] (sym (append-none a))
 
 pub keeps_more : (a b c : List ℕ) → Keeps a b → Keeps b c → Keeps a c
 keeps_more a b c p q =
-    keeps-split a c (drop (length a) b ++ drop (length b) c) (split-keeps b c q ∙ ap (λ (x : List ℕ). x ++ drop (length b) c) (split-keeps a b p) ∙ append_assoc a (drop (length a) b) (drop (length b) c))
+    keeps-split a c (drop (length a) b ++ drop (length b) c) (split-keeps b c q ∙ ap (λ (x : List ℕ). x ++ drop (length b) c) (split-keeps a b p) ∙ append_assoc a
+    (drop (length a) b) (drop (length b) c))
 
 -- ---- one line more
 
 module _ {A : Type 0} (k : Columns A) (v : Version) where
-  next-line : (xs ys : List A) (first last : ℕ) (x : A) → drop first xs ≡ x ∷ ys → last ≡ first + more_in v k (x ∷ ys) → run_lines k first (runs_in v k (drop first xs)) ≡ line (run_text k first (run x (last - first))) ++ run_lines k (last + 1) (runs_in v k (drop (last + 1) xs))
+  next-line : (xs ys : List A) (first last : ℕ) (x : A) → drop first xs ≡ x ∷ ys → last ≡ first + more_in v k (x ∷ ys)
+      → run_lines k first (runs_in v k (drop first xs)) ≡ line (run_text k first (run x (last - first))) ++ run_lines k (last + 1) (runs_in v k (drop (last + 1) xs))
   unfolding run_lines
   next-line xs ys first last x e l =
       let more : more_in v k (x ∷ ys) ≡ last - first = omega arith in
@@ -51,7 +53,9 @@ module _ {A : Type 0} (k : Columns A) (v : Version) where
   at-first : (xs : List A) (first : ℕ) (x : A) → first < length xs → x ≡ get_or xs first x → drop first xs ≡ x ∷ drop (suc first) xs
   at-first xs first x lt is = drop-cons xs first x lt ∙ ap (λ (y : A). y ∷ drop (suc first) xs) (sym is)
 
-  pub lines-written : (out new total : List ℕ) (xs : List A) (first last : ℕ) (x : A) → first < length xs → x ≡ get_or xs first x → last ≡ first + more_in v k (drop first xs) → out ++ run_lines k first (runs_in v k (drop first xs)) ≡ total → new ≡ out ++ line (run_text k first (run x (last - first))) → new ++ run_lines k (last + 1) (runs_in v k (drop (last + 1) xs)) ≡ total
+  pub lines-written : (out new total : List ℕ) (xs : List A) (first last : ℕ) (x : A) → first < length xs → x ≡ get_or xs first x
+      → last ≡ first + more_in v k (drop first xs) → out ++ run_lines k first (runs_in v k (drop first xs)) ≡ total
+      → new ≡ out ++ line (run_text k first (run x (last - first))) → new ++ run_lines k (last + 1) (runs_in v k (drop (last + 1) xs)) ≡ total
   lines-written out new total xs first last x lt is l e made =
       let f = at-first xs first x lt is in
       let m : last ≡ first + more_in v k (x ∷ drop (suc first) xs) = l ∙ ap (λ (zs : List A). first + more_in v k zs) f in

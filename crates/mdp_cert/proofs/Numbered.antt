@@ -29,7 +29,8 @@ pub version-found : (n : ℕ) (text : List ℕ) (v : version.Version) → versio
 unfolding version_at
 version-found n text v e = by (bytes_eq text (version_text One)) refl (bytes_eq text (version_text Two)) refl e
   where
-    by : (b : Bool) → bytes_eq text (version_text One) ≡ b → (c : Bool) → bytes_eq text (version_text Two) ≡ c → (let r : Result version.Version Refusal = cond b (Ok One) (cond c (Ok Two) (Err (record { kind = Version; line = n }))) in r) ≡ Ok v → text ≡ version_text v
+    by : (b : Bool) → bytes_eq text (version_text One) ≡ b → (c : Bool) → bytes_eq text (version_text Two) ≡ c
+        → (let r : Result version.Version Refusal = cond b (Ok One) (cond c (Ok Two) (Err (record { kind = Version; line = n }))) in r) ≡ Ok v → text ≡ version_text v
     by true t c u e = let is : One ≡ v = cc in bytes_same text (version_text One) t ∙ ap version_text is
     by false t true u e = let is : Two ≡ v = cc in bytes_same text (version_text Two) u ∙ ap version_text is
     by false t false u e = absurd cc
@@ -79,7 +80,8 @@ pub states-again : (n states : ℕ) → 0 < states → states ≤ 2 ^ 20 → sta
 unfolding states_at
 states-again n states some limit =
     let small : states < 2 ^ 32 = omega arith in
-    let ws : words_behind (codes "states") 1 n (states_text states) ≡ Ok (decimal states ∷ []) = behind-again (codes "states") 1 n (decimal states ∷ []) refl refl (free-whole 32 states (omega arith) small, tt) in
+    let ws : words_behind (codes "states") 1 n (states_text states) ≡ Ok (decimal states ∷ []) =
+    behind-again (codes "states") 1 n (decimal states ∷ []) refl refl (free-whole 32 states (omega arith) small, tt) in
     let range : (eqb states 0 || ltb (2 ^ 20) states) ≡ false = grind (arith, nat_tests) in
     rw (ws, whole-again n states small, range) refl
 
@@ -125,7 +127,8 @@ finite-again : (states n state : ℕ) (value : ℚ) → state < states → state
 unfolding finite_at
 finite-again states n state value lt limit narrow =
     let small : state < 2 ^ 32 = omega arith in
-    let ws : words_behind (codes "init") 2 n (init_text (Finite state value)) ≡ Ok (decimal state ∷ spelling value ∷ []) = behind-again (codes "init") 2 n (decimal state ∷ spelling value ∷ []) refl refl (free-whole 32 state (omega arith) small, (free-spelling 32 value (omega arith) narrow, tt)) in
+    let ws : words_behind (codes "init") 2 n (init_text (Finite state value)) ≡ Ok (decimal state ∷ spelling value ∷ []) =
+    behind-again (codes "init") 2 n (decimal state ∷ spelling value ∷ []) refl refl (free-whole 32 state (omega arith) small, (free-spelling 32 value (omega arith) narrow, tt)) in
     let inside : ltb state states ≡ true = grind (arith, nat_tests) in
     rw (ws, whole-again n state small, frac-again n value narrow, inside) refl
 
@@ -157,7 +160,8 @@ valued-again states n (Finite state value) inside limit narrow =
         or-first true b e = absurd cc
 
 -- the form of each claim
-pub init-found : (claim : PlainClaim) (states n : ℕ) (text : List ℕ) (init : Init) → init_at claim states n text ≡ Ok init → (text ≡ init_text init) × (is_inside states init ≡ true) × IsInitInWidth init
+pub init-found : (claim : PlainClaim) (states n : ℕ) (text : List ℕ) (init : Init) → init_at claim states n text ≡ Ok init
+    → (text ≡ init_text init) × (is_inside states init ≡ true) × IsInitInWidth init
 init-found (upper label) states n text init e = valued-found states n text init e
 init-found (reach dir label) states n text init e = valued-found states n text init e
 

@@ -1,5 +1,6 @@
 -- The parts of a text are read exactly where they are the texts of what is read.
-use Rattle.std.proofs.Common.{◌≡◌, ◌↔◌, ◌⊎◌, inl, inr, ℕ, suc, ◌+◌, ◌<◌, ◌≤◌, ◌^◌, true, false, eqb, ltb, ◌&&◌, List, [], ◌∷◌, ◌++◌, length, map, Result, Ok, Err, refl, sym, ap, subst, ◌∙◌, append_assoc, arith}
+use Rattle.std.proofs.Common.{◌≡◌, ◌↔◌, ◌⊎◌, inl, inr, ℕ, suc, ◌+◌, ◌<◌, ◌≤◌, ◌^◌, true, false, eqb, ltb, ◌&&◌}
+use Rattle.std.proofs.Common.{List, [], ◌∷◌, ◌++◌, length, map, Result, Ok, Err, refl, sym, ap, subst, ◌∙◌, append_assoc, arith}
 use Rattle.std.specs.List.{All}
 use Rattle.std.proofs.lemmas.Bool.{both_ways, lt-ltb, and_parts}
 use Rattle.std.proofs.lemmas.List.{length-map, append-nil}
@@ -68,7 +69,8 @@ head-found p h q e =
     })
   where
     joined : (a b c d t u v a' t' v' : List ℕ) → a ≡ line t ++ b → b ≡ line u ++ c → c ≡ line v ++ d → t ≡ a' → u ≡ t' → v ≡ v' → a ≡ (line a' ++ (line t' ++ line v')) ++ d
-    joined a b c d t u v a' t' v' p q r x y z = rw (p, q, r, x, y, z) (sym (append_assoc (line a') (line t' ++ line v') d ∙ ap (λ (w : List ℕ). line a' ++ w) (append_assoc (line t') (line v') d)))
+    joined a b c d t u v a' t' v' p q r x y z =
+        rw (p, q, r, x, y, z) (sym (append_assoc (line a') (line t' ++ line v') d ∙ ap (λ (w : List ℕ). line a' ++ w) (append_assoc (line t') (line v') d)))
 
 pub head-again : (n : ℕ) (h : Head) (rest : List ℕ) → IsHead h → head_from (place n (lines-of-head h ++ rest)) ≡ Ok (h, place (n + 1 + 1 + 1) rest)
 unfolding head_from
@@ -77,9 +79,14 @@ head-again n h rest ok =
       append_assoc (line (claim_text h.claim)) (line (states_text h.states) ++ line (init_text h.init)) rest,
       append_assoc (line (states_text h.states)) (line (init_text h.init)) rest,
     ) (
-    ap (λ (r : Result (PlainClaim × Place) Refusal). r >>= head-states) (judged-again claim_at n (claim_text h.claim) (line (states_text h.states) ++ (line (init_text h.init) ++ rest)) h.claim (free-claim h.claim ok.name) (claim-again n h.claim ok.name))
-    ∙ ap (λ (r : Result (ℕ × Place) Refusal). r >>= head-init (h.claim, place (n + 1) (line (states_text h.states) ++ (line (init_text h.init) ++ rest)))) (judged-again states_at (n + 1) (states_text h.states) (line (init_text h.init) ++ rest) h.states (free-states h.states ok.limit) (states-again (n + 1) h.states ok.some ok.limit))
-    ∙ ap (λ (r : Result (Init × Place) Refusal). r >>= λ init. let q : Result (Head × Place) Refusal = Ok (record { claim = h.claim; states = h.states; init = init.0 }, init.1) in q) (judged-again (init_at h.claim h.states) (n + 1 + 1) (init_text h.init) rest h.init (free-init h.states h.init ok.inside ok.limit ok.width) (init-again h.claim h.states (n + 1 + 1) h.init ok.inside ok.limit ok.width))
+    ap (λ (r : Result (PlainClaim × Place) Refusal). r >>= head-states)
+    (judged-again claim_at n (claim_text h.claim) (line (states_text h.states) ++ (line (init_text h.init) ++ rest)) h.claim (free-claim h.claim ok.name) (claim-again n h.claim ok.name))
+    ∙ ap (λ (r : Result (ℕ × Place) Refusal). r >>= head-init (h.claim, place (n + 1) (line (states_text h.states) ++ (line (init_text h.init) ++ rest))))
+    (judged-again states_at (n + 1) (states_text h.states) (line (init_text h.init) ++ rest) h.states (free-states h.states ok.limit) (states-again (n + 1) h.states ok.some ok.limit))
+    ∙ ap (λ (r : Result (Init × Place) Refusal). r >>= λ init. let q : Result (Head × Place) Refusal = Ok
+    (record { claim = h.claim; states = h.states; init = init.0 }, init.1) in q)
+    (judged-again (init_at h.claim h.states) (n + 1 + 1) (init_text h.init) rest h.init (free-init h.states h.init ok.inside ok.limit ok.width)
+    (init-again h.claim h.states (n + 1 + 1) h.init ok.inside ok.limit ok.width))
     )
 
 -- ---- the body
@@ -131,19 +138,22 @@ three-lengths states zs cs rs e =
     let u = and_parts (eqb (length zs) states) (eqb (length cs) states) t.0 in
     record { values = number-same _ states u.0; choices = number-same _ states u.1; ranks = number-same _ states t.1 }
 
-pub body-found : (v : Version) (claim : PlainClaim) (states : ℕ) (p : Place) (b : PlainBody) (q : Place) → states ≤ 2 ^ 20 → body_from v claim states p ≡ Ok (b, q) → FoundBody v claim states p b q
+pub body-found : (v : Version) (claim : PlainClaim) (states : ℕ) (p : Place) (b : PlainBody) (q : Place) → states ≤ 2 ^ 20 → body_from v claim states p ≡ Ok (b, q)
+    → FoundBody v claim states p b q
 unfolding body_from
 body-found v (upper label) states p b q limit e =
     let all = bind_ok (entries_to_end v bound_columns states p) (λ xs. Ok (bounds xs.0, xs.1)) (b, q) e in
     let same : (let r : PlainBody × Place = (bounds all.0.0, all.0.1) in r) ≡ (b, q) = ok-is _ _ all.2 in
     let f = closed-found bound_columns IsNarrow bound-is_columns states limit v p all.0.0 all.0.1 all.1 in
-    subst (λ (r : PlainBody × Place). FoundBody v (upper label) states p r.0 r.1) same (record { text = f.text; fits = record { entries = same-number _ states f.count; width = each-all IsNarrow all.0.0 f.width } })
+    subst (λ (r : PlainBody × Place). FoundBody v (upper label) states p r.0 r.1) same
+    (record { text = f.text; fits = record { entries = same-number _ states f.count; width = each-all IsNarrow all.0.0 f.width } })
 body-found v (reach dir label) states p b q limit e =
     let all = bind_ok (entries_to_end v policy_columns states p) (λ xs. Ok (policy_body xs.0, xs.1)) (b, q) e in
     let same : (let r : PlainBody × Place = (policy_body all.0.0, all.0.1) in r) ≡ (b, q) = ok-is _ _ all.2 in
     let f = closed-found policy_columns IsPolicyInWidth policy-is_columns states limit v p all.0.0 all.0.1 all.1 in
     let xs = all.0.0 in
-    let lengths : Lengths states (map (λ x. x.value) xs) (map (λ x. x.choice) xs) (map (λ x. x.rank) xs) = record { values = length-map xs _ ∙ f.count; choices = length-map xs _ ∙ f.count; ranks = length-map xs _ ∙ f.count } in
+    let lengths : Lengths states (map (λ x. x.value) xs) (map (λ x. x.choice) xs) (map (λ x. x.rank) xs) =
+    record { values = length-map xs _ ∙ f.count; choices = length-map xs _ ∙ f.count; ranks = length-map xs _ ∙ f.count } in
     subst (λ (r : PlainBody × Place). FoundBody v (reach dir label) states p r.0 r.1) same (record {
       text = f.text ∙ ap (λ (ys : List ReachEntry). closed_lines v policy_columns ys ++ all.0.1.rest) (sym (policies-of xs));
       fits = record {
@@ -158,7 +168,8 @@ bounds-of xs = Ok (bounds xs.0, xs.1)
 abbrev policy-of : List ReachEntry × Place → Result (PlainBody × Place) Refusal
 policy-of xs = Ok (policy_body xs.0, xs.1)
 
-pub body-again : (v : Version) (claim : PlainClaim) (states n : ℕ) (b : PlainBody) (rest : List ℕ) → states ≤ 2 ^ 20 → FitsBody claim states b → (m : ℕ) × (body_from v claim states (place n (body_text v b ++ rest)) ≡ Ok (b, place m rest))
+pub body-again : (v : Version) (claim : PlainClaim) (states n : ℕ) (b : PlainBody) (rest : List ℕ) → states ≤ 2 ^ 20 → FitsBody claim states b
+    → (m : ℕ) × (body_from v claim states (place n (body_text v b ++ rest)) ≡ Ok (b, place m rest))
 unfolding body_from
 body-again v (upper label) states n (bounds zs) rest limit ok =
     let r = closed-again bound_columns IsNarrow bound-is_columns states limit v n zs rest (number-same _ states ok.entries) (all-each IsNarrow zs ok.width) in
@@ -169,7 +180,9 @@ body-again v (reach dir label) states n (policy zs cs rs) rest limit ok =
     let l = three-lengths states zs cs rs ok.entries in
     let a : length zs ≡ length cs = omega (arith, l.values, l.choices) in
     let b : length zs ≡ length rs = omega (arith, l.values, l.ranks) in
-    let r = closed-again policy_columns IsPolicyInWidth policy-is_columns states limit v n (policies zs cs rs) rest (length-policies zs cs rs a b ∙ l.values) (policies-width zs cs rs (all-each IsNarrow zs ok.width.0) (all-each (λ c. c < 2 ^ 32) cs ok.width.1) (all-each (λ r. r < 2 ^ 32) rs ok.width.2)) in
+    let r =
+    closed-again policy_columns IsPolicyInWidth policy-is_columns states limit v n (policies zs cs rs) rest (length-policies zs cs rs a b ∙ l.values)
+    (policies-width zs cs rs (all-each IsNarrow zs ok.width.0) (all-each (λ c. c < 2 ^ 32) cs ok.width.1) (all-each (λ r. r < 2 ^ 32) rs ok.width.2)) in
     let back : policy_body (policies zs cs rs) ≡ policy zs cs rs = parts _ _ _ _ _ _ (values-policies zs cs rs a b) (choices-policies zs cs rs a b) (ranks-policies zs cs rs a b) in
     (r.0, ap (λ (q : Result (List ReachEntry × Place) Refusal). q >>= policy-of) r.1 ∙ ap (λ (c : PlainBody). let q : Result (PlainBody × Place) Refusal = Ok (c, place r.0 rest) in q) back)
   where
@@ -219,7 +232,10 @@ text-found bytes c e =
     let z = nothing-found body.0.1 end.0 end.1 in
     subst (λ (d : Certificate). FoundText bytes d) same (record {
       version = one.0.0;
-      text = j.is.front ∙ joined j.text (version_text one.0.0) one.0.1.rest (lines-of-head head.0.0) head.0.1.rest (body_text one.0.0 body.0.0) body.0.1.rest (version-found 1 j.text one.0.0 j.said) h.text b.text z;
+      text =
+          j.is.front
+          ∙ joined j.text (version_text one.0.0) one.0.1.rest (lines-of-head head.0.0) head.0.1.rest (body_text one.0.0 body.0.0) body.0.1.rest
+          (version-found 1 j.text one.0.0 j.said) h.text b.text z;
       fits = record {
         some = h.is.some;
         limit = h.is.limit;
@@ -266,9 +282,11 @@ pub read-back : (c : Certificate) → Fits c → (outcome (text_of c) ≡ Ok c) 
 read-back c fits = (text-again Two c fits, text-again One c fits)
 
 -- the version of a text
-version-read : (v : Version) (c : Certificate) → line_by version_at (place 1 (text_in v c)) ≡ Ok (v, place (1 + 1) (lines-of-head (record { claim = c.claim; states = c.states; init = c.init }) ++ body_text v c.body))
+version-read : (v : Version) (c : Certificate)
+    → line_by version_at (place 1 (text_in v c)) ≡ Ok (v, place (1 + 1) (lines-of-head (record { claim = c.claim; states = c.states; init = c.init }) ++ body_text v c.body))
 unfolding text_in
-version-read v c = judged-again version_at 1 (version_text v) (lines-of-head (record { claim = c.claim; states = c.states; init = c.init }) ++ body_text v c.body) v (free-version v) (version-again 1 v)
+version-read v c =
+    judged-again version_at 1 (version_text v) (lines-of-head (record { claim = c.claim; states = c.states; init = c.init }) ++ body_text v c.body) v (free-version v) (version-again 1 v)
 
 pub one-text : (v w : Version) (c d : Certificate) → Fits c → Fits d → text_in v c ≡ text_in w d → (v ≡ w) × (c ≡ d)
 one-text v w c d p q e =

@@ -1,5 +1,6 @@
 -- Texts without a byte, and words behind blanks.
-use Rattle.std.proofs.Common.{◌≡◌, ℕ, suc, ◌<◌, ◌≤◌, ◌^◌, Bool, true, false, cond, eqb, ◌||◌, List, [], ◌∷◌, ◌++◌, length, get_or, decimal, refl, sym, ap, ◌∙◌, arith, lit<, ℤ, pos, negsuc, unsigned_abs}
+use Rattle.std.proofs.Common.{◌≡◌, ℕ, suc, ◌<◌, ◌≤◌, ◌^◌, Bool, true, false, cond, eqb, ◌||◌, List, []}
+use Rattle.std.proofs.Common.{◌∷◌, ◌++◌, length, get_or, decimal, refl, sym, ap, ◌∙◌, arith, lit<, ℤ, pos, negsuc, unsigned_abs}
 use Rattle.std.specs.Fmt.{signed_decimal}
 use Rattle.std.specs.List.{All, list_any, join_with_byte}
 use Rattle.std.proofs.lemmas.Bool.{both_ways, false_from_ne_true, and_parts, not-true}
@@ -58,7 +59,9 @@ free-spelling c x lt h = by (eqb x.den 1)
         (or-false (eqb 47 c) (list_any (λ y. eqb y c) (decimal x.den)) (grind (arith, nat_tests)) (free-decimal c x.den (omega arith) h.bottom))
 
 no-line-feed : (xs : List ℕ) → list_any (λ b. eqb b 34 || eqb b 10) xs ≡ false → Free 10 xs
-no-line-feed xs h = list_any_none (λ x. eqb x 10) xs (λ k d lt. false_from_ne_true _ (λ t. both_ways _ h (list_any_at (λ b. eqb b 34 || eqb b 10) xs k d lt (or-second (eqb (get_or xs k d) 34) (eqb (get_or xs k d) 10) t))))
+no-line-feed xs h =
+    list_any_none (λ x. eqb x 10) xs (λ k d lt. false_from_ne_true _
+    (λ t. both_ways _ h (list_any_at (λ b. eqb b 34 || eqb b 10) xs k d lt (or-second (eqb (get_or xs k d) 34) (eqb (get_or xs k d) 10) t))))
   where
     or-second : (a b : Bool) → b ≡ true → (a || b) ≡ true
     or-second true b e = refl

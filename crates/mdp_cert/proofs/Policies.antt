@@ -14,10 +14,12 @@ pub record Inside (zs : List ℚ) (cs rs : List ℕ) (i : ℕ) : Type 0 where
 
 pub inside : (zs : List ℚ) (cs rs : List ℕ) (i : ℕ) → i < length (policies zs cs rs) → Inside zs cs rs i
 inside (z ∷ zs) (c ∷ cs) (r ∷ rs) zero h = record { values = omega arith; choices = omega arith; ranks = omega arith }
-inside (z ∷ zs) (c ∷ cs) (r ∷ rs) (suc i) h = let p = inside zs cs rs i (omega arith) in record { values = omega (arith, p.values); choices = omega (arith, p.choices); ranks = omega (arith, p.ranks) }
+inside (z ∷ zs) (c ∷ cs) (r ∷ rs) (suc i) h =
+    let p = inside zs cs rs i (omega arith) in record { values = omega (arith, p.values); choices = omega (arith, p.choices); ranks = omega (arith, p.ranks) }
 inside zs cs rs i h = absurd (omega arith)
 
-pub entry-at : (zs : List ℚ) (cs rs : List ℕ) (i : ℕ) (z : ℚ) (c r : ℕ) (d : ReachEntry) → i < length (policies zs cs rs) → z ≡ get_or zs i z → c ≡ get_or cs i c → r ≡ get_or rs i r → entry z c r ≡ get_or (policies zs cs rs) i d
+pub entry-at : (zs : List ℚ) (cs rs : List ℕ) (i : ℕ) (z : ℚ) (c r : ℕ) (d : ReachEntry) → i < length (policies zs cs rs) → z ≡ get_or zs i z → c ≡ get_or cs i c
+    → r ≡ get_or rs i r → entry z c r ≡ get_or (policies zs cs rs) i d
 entry-at (x ∷ zs) (b ∷ cs) (s ∷ rs) zero z c r d h p q o = rw (p, q, o) refl
 entry-at (x ∷ zs) (b ∷ cs) (s ∷ rs) (suc i) z c r d h p q o = entry-at zs cs rs i z c r d (omega arith) p q o
 entry-at zs cs rs i z c r d h p q o = absurd (omega arith)

@@ -13,7 +13,10 @@ module _ {A : Type 0} (k : Columns A) where
   longest-first x [] = refl
   longest-first x (y ∷ ys) = ap (before_runs k x) (longest-first y ys) ∙ by (k.same x y) (longest-first y ys)
     where
-      by : (b : Bool) → longest_runs k (y ∷ ys) ≡ run y (more_same k (y ∷ ys)) ∷ longest_runs k (drop (more_same k (y ∷ ys)) ys) → cond b (run x (suc (more_same k (y ∷ ys))) ∷ longest_runs k (drop (more_same k (y ∷ ys)) ys)) (single x ∷ run y (more_same k (y ∷ ys)) ∷ longest_runs k (drop (more_same k (y ∷ ys)) ys)) ≡ run x (cond b (suc (more_same k (y ∷ ys))) 0) ∷ longest_runs k (drop (cond b (suc (more_same k (y ∷ ys))) 0) (y ∷ ys))
+      by : (b : Bool) → longest_runs k (y ∷ ys) ≡ run y (more_same k (y ∷ ys)) ∷ longest_runs k (drop (more_same k (y ∷ ys)) ys)
+          → cond b (run x (suc (more_same k (y ∷ ys))) ∷ longest_runs k (drop (more_same k (y ∷ ys)) ys))
+          (single x ∷ run y (more_same k (y ∷ ys)) ∷ longest_runs k (drop (more_same k (y ∷ ys)) ys)) ≡ run x (cond b (suc (more_same k (y ∷ ys))) 0) ∷ longest_runs k
+          (drop (cond b (suc (more_same k (y ∷ ys))) 0) (y ∷ ys))
       by true e = refl
       by false e = ap (λ (rs : List (Run A)). single x ∷ rs) (sym e)
 

@@ -1,5 +1,6 @@
 -- The lines of states are read exactly where they are the lines of their runs.
-use Rattle.std.proofs.Common.{◌≡◌, ℕ, zero, suc, ◌+◌, ◌-◌, ◌<◌, ◌≤◌, ◌^◌, Bool, true, false, not, cond, eqb, ltb, ◌||◌, List, [], ◌∷◌, length, drop, decimal, Option, Result, Ok, refl, sym, ap, ap₂, subst, ◌∙◌, arith}
+use Rattle.std.proofs.Common.{◌≡◌, ℕ, zero, suc, ◌+◌, ◌-◌, ◌<◌, ◌≤◌, ◌^◌, Bool, true, false, not, cond, eqb, ltb}
+use Rattle.std.proofs.Common.{◌||◌, List, [], ◌∷◌, length, drop, decimal, Option, Result, Ok, refl, sym, ap, ap₂, subst, ◌∙◌, arith}
 use Rattle.std.specs.Prelude.{codes}
 use Rattle.std.specs.List.{join_with_byte}
 use Rattle.std.proofs.lemmas.Bool.{not-false}
@@ -143,16 +144,22 @@ module _ {A : Type 0} (k : Columns A) (IsInWidth : A → Type 0) (is : IsColumns
   unfolding state_at run_text
   state-again due n x lt h =
       let small : due < 2 ^ 32 = omega arith in
-      let ws : words_behind (codes "state") (1 + k.width) n (codes "state" ␣ decimal due ␣ entry_text k x) ≡ Ok (state-words due x) = ap (words_behind (codes "state") (1 + k.width) n) (sym (state-joined due x)) ∙ behind-again (codes "state") (1 + k.width) n (state-words due x) (omega (arith, is.count x)) refl (free-whole 32 due (omega arith) small, is.blanks x h) in
+      let ws : words_behind (codes "state") (1 + k.width) n (codes "state" ␣ decimal due ␣ entry_text k x) ≡ Ok (state-words due x) =
+      ap (words_behind (codes "state") (1 + k.width) n) (sym (state-joined due x))
+      ∙ behind-again (codes "state") (1 + k.width) n (state-words due x) (omega (arith, is.count x)) refl (free-whole 32 due (omega arith) small, is.blanks x h) in
       let order : eqb due due ≡ true = same-number due due refl in
       rw (ws, whole-again n due small, entry-again n x h, order) refl
 
-  run-again-text : (due last n : ℕ) (x : A) → due < last → last < states → IsInWidth x → run_at k states due n (codes "run" ␣ decimal due ␣ decimal last ␣ entry_text k x) ≡ Ok (run x (last - due))
+  run-again-text : (due last n : ℕ) (x : A) → due < last → last < states → IsInWidth x
+      → run_at k states due n (codes "run" ␣ decimal due ␣ decimal last ␣ entry_text k x) ≡ Ok (run x (last - due))
   unfolding run_at
   run-again-text due last n x lt below h =
       let small : due < 2 ^ 32 = omega arith in
       let last-small : last < 2 ^ 32 = omega arith in
-      let ws : words_behind (codes "run") (2 + k.width) n (codes "run" ␣ decimal due ␣ decimal last ␣ entry_text k x) ≡ Ok (run-words due last x) = ap (words_behind (codes "run") (2 + k.width) n) (sym (run-joined due last x)) ∙ behind-again (codes "run") (2 + k.width) n (run-words due last x) (omega (arith, is.count x)) refl (free-whole 32 due (omega arith) small, (free-whole 32 last (omega arith) last-small, is.blanks x h)) in
+      let ws : words_behind (codes "run") (2 + k.width) n (codes "run" ␣ decimal due ␣ decimal last ␣ entry_text k x) ≡ Ok (run-words due last x) =
+      ap (words_behind (codes "run") (2 + k.width) n) (sym (run-joined due last x))
+      ∙ behind-again (codes "run") (2 + k.width) n (run-words due last x) (omega (arith, is.count x)) refl
+      (free-whole 32 due (omega arith) small, (free-whole 32 last (omega arith) last-small, is.blanks x h)) in
       let order : in-order due due last ≡ false = grind (arith, nat_tests) in
       rw (ws, whole-again n due small, whole-again n last last-small, entry-again n x h, order) refl
 
@@ -167,8 +174,13 @@ module _ {A : Type 0} (k : Columns A) (IsInWidth : A → Type 0) (is : IsColumns
   free-run due r lt h = by (eqb r.more 0)
     where
       by : (b : Bool) → Free 10 (cond b (codes "state" ␣ decimal due ␣ entry_text k r.entry) (codes "run" ␣ decimal due ␣ decimal (due + r.more) ␣ entry_text k r.entry))
-      by true = subst (λ (t : List ℕ). Free 10 t) (state-joined due r.entry) (free-join 10 (codes "state" ∷ state-words due r.entry) refl (refl, (free-whole 10 due (omega arith) (omega arith), is.feeds r.entry h)))
-      by false = subst (λ (t : List ℕ). Free 10 t) (run-joined due (due + r.more) r.entry) (free-join 10 (codes "run" ∷ run-words due (due + r.more) r.entry) refl (refl, (free-whole 10 due (omega arith) (omega arith), (free-whole 10 (due + r.more) (omega arith) (omega arith), is.feeds r.entry h))))
+      by true =
+          subst (λ (t : List ℕ). Free 10 t) (state-joined due r.entry)
+          (free-join 10 (codes "state" ∷ state-words due r.entry) refl (refl, (free-whole 10 due (omega arith) (omega arith), is.feeds r.entry h)))
+      by false =
+          subst (λ (t : List ℕ). Free 10 t) (run-joined due (due + r.more) r.entry)
+          (free-join 10 (codes "run" ∷ run-words due (due + r.more) r.entry) refl
+          (refl, (free-whole 10 due (omega arith) (omega arith), (free-whole 10 (due + r.more) (omega arith) (omega arith), is.feeds r.entry h))))
 
   -- ---- a line in its version
 
@@ -187,7 +199,8 @@ module _ {A : Type 0} (k : Columns A) (IsInWidth : A → Type 0) (is : IsColumns
   abbrev longest-of : Option A → ℕ → Run A → Result (Run A) Refusal
   longest-of before n said = refuse_if kind.Run n (is_same k before said.entry) >>= λ longest. Ok said
 
-  pub line-found : (v : Version) (due : ℕ) (before : Option A) (n : ℕ) (text : List ℕ) (r : Run A) → due < states → run_in v k states due before n text ≡ Ok r → Said due text r × IsLongest v before r
+  pub line-found : (v : Version) (due : ℕ) (before : Option A) (n : ℕ) (text : List ℕ) (r : Run A) → due < states → run_in v k states due before n text ≡ Ok r
+      → Said due text r × IsLongest v before r
   unfolding longest_at
   line-found One due before n text r lt e = state-found due n text r lt e
   line-found Two due before n text r lt e =
@@ -211,11 +224,14 @@ module _ {A : Type 0} (k : Columns A) (IsInWidth : A → Type 0) (is : IsColumns
       by zero e =
           let same : single r.entry ≡ r = ap (run r.entry) (sym e) in
           subst (λ (q : Run A). line_of_states k states due n (run_text k due q) ≡ Ok q) same
-          (ap (λ (b : Bool). cond b (run_at k states due n (run_text k due (single r.entry))) (state_at k due n (run_text k due (single r.entry)))) (state-begins due r.entry) ∙ state-again due n r.entry (omega arith) h)
+          (ap (λ (b : Bool). cond b (run_at k states due n (run_text k due (single r.entry))) (state_at k due n (run_text k due (single r.entry)))) (state-begins due r.entry)
+          ∙ state-again due n r.entry (omega arith) h)
       by (suc m) e =
-          ap (λ (b : Bool). cond b (run_at k states due n (run_text k due r)) (state_at k due n (run_text k due r))) (run-begins due r (omega arith)) ∙ run-again due r.more n r.entry (omega arith) lt h
+          ap (λ (b : Bool). cond b (run_at k states due n (run_text k due r)) (state_at k due n (run_text k due r))) (run-begins due r (omega arith))
+          ∙ run-again due r.more n r.entry (omega arith) lt h
 
-  pub line-again : (v : Version) (due : ℕ) (before : Option A) (n : ℕ) (r : Run A) → due + r.more < states → IsInWidth r.entry → IsLongest v before r → run_in v k states due before n (run_text k due r) ≡ Ok r
+  pub line-again : (v : Version) (due : ℕ) (before : Option A) (n : ℕ) (r : Run A) → due + r.more < states → IsInWidth r.entry → IsLongest v before r
+      → run_in v k states due before n (run_text k due r) ≡ Ok r
   unfolding longest_at
   line-again One due before n r lt h l =
       let same : single r.entry ≡ r = ap (run r.entry) (sym l) in

@@ -20,7 +20,8 @@ bound_columns = record { width = 1; parse = bound_parse; words = λ z. spelling 
 -- ---- a value, a choice and a rank: V CHOICE RANK
 
 abbrev pub policy_parse : List (List ℕ) → Option ReachEntry
-policy_parse (v ∷ c ∷ r ∷ []) = option_and_then (λ value. option_and_then (λ choice. option_and_then (λ rank. Some (record { value = value; choice = choice; rank = rank })) (whole_of r)) (whole_of c)) (canonical_of v)
+policy_parse (v ∷ c ∷ r ∷ []) = option_and_then (λ value. option_and_then
+    (λ choice. option_and_then (λ rank. Some (record { value = value; choice = choice; rank = rank })) (whole_of r)) (whole_of c)) (canonical_of v)
 policy_parse ws = None
 
 abbrev pub policy_columns : Columns ReachEntry

@@ -53,4 +53,5 @@ LacksAtMost n (Err r) = r ≡ record { kind = End; line = n }
 
 -- a refusal names the first line that breaks a rule: the lines before it break none, and the bytes behind it change nothing
 abbrev pub IsFirstBroken : Type 0
-IsFirstBroken = (bytes : List ℕ) (r : Refusal) → outcome bytes ≡ Err r → (0 < r.line) × LacksAtMost r.line (outcome (first_lines (r.line - 1) bytes)) × (outcome (first_lines r.line bytes) ≡ Err r)
+IsFirstBroken = (bytes : List ℕ) (r : Refusal) → outcome bytes ≡ Err r → (0 < r.line) × LacksAtMost r.line (outcome (first_lines (r.line - 1) bytes)) ×
+    (outcome (first_lines r.line bytes) ≡ Err r)

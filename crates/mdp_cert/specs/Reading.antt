@@ -1,6 +1,7 @@
 -- Reading a certificate's text line by line: the certificate, or the first line that breaks a rule. Each line is judged by its shape first, then
 -- by its numbers from left to right, then by what they count, and in version 2 by whether it could be one line with the line before it.
-use Rattle.std.specs.Prelude.{ℕ, zero, suc, ◌+◌, ◌-◌, ◌^◌, Bool, false, not, ◌||◌, ◌&&◌, List, [], ◌∷◌, length, map, take, drop, Option, Some, None, option_and_then, Result, Ok, nat_lt, ◌==◌, if◌then◌else◌, codes}
+use Rattle.std.specs.Prelude.{ℕ, zero, suc, ◌+◌, ◌-◌, ◌^◌, Bool, false, not, ◌||◌, ◌&&◌, List, [], ◌∷◌}
+use Rattle.std.specs.Prelude.{length, map, take, drop, Option, Some, None, option_and_then, Result, Ok, nat_lt, ◌==◌, if◌then◌else◌, codes}
 use Rattle.std.specs.Str.{bytes_eq}
 use Rattle.mdp_rows.specs.declared.dir.Dir.TheVariants.{Max, Min}
 use Rattle.mdp_rows.specs.Name.{is_name}

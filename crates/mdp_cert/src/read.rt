@@ -26,7 +26,7 @@ fn body_from<'a>(
     states: u32,
     bytes: &'a [u8],
 ) -> Result<(Body, u64, &'a [u8]), CertError>
-    ensures { MatchResult result (λ p. body_from version (plain_claim claim.now) states (place 5 bytes.now) ≡ Ok (plain_body p.0, place p.1 p.2.now)) (λ e. Refuses e (body_from version (plain_claim claim.now) states (place 5 bytes.now))) }
+    ensures { let read = body_from version (plain_claim claim.now) states (place 5 bytes.now) in MatchResult result (λ p. read ≡ Ok (plain_body p.0, place p.1 p.2.now)) (λ e. Refuses e read) }
 {
     match claim {
         Claim::Upper { .. } => {

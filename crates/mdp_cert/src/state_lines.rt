@@ -29,7 +29,7 @@ fn entry_at<E: Entry>(line: u64, text: &[u8]) -> Result<E, Refusal>
 /// The entry of the line `state S WORDS`, where S is the state that is due, and that no more states follow in it.
 #[tactic(auto, unfolding(crate::specs::Reading::state_at))]
 fn state_at<E: Entry>(due: u32, line: u64, text: &[u8]) -> Result<(E, u32), Refusal>
-    ensures said { MatchResult result (λ r. state_at E.columns due line text.now ≡ Ok (run r.0 r.1)) (λ e. state_at E.columns due line text.now ≡ Err e) }
+    ensures said { let due_run = state_at E.columns due line text.now in MatchResult result (λ r. due_run ≡ Ok (run r.0 r.1)) (λ e. due_run ≡ Err e) }
     ensures alone { IfOk result (λ r. r.1 ≡ 0) }
 {
     let behind = words_behind(line, text, b"state", 1 + usize::from(E::width()))?;
@@ -43,7 +43,7 @@ fn state_at<E: Entry>(due: u32, line: u64, text: &[u8]) -> Result<(E, u32), Refu
 /// The entry of the line `run A B WORDS`, where A is the state that is due, and how many states follow A.
 #[tactic(auto, unfolding(crate::specs::Reading::run_at))]
 fn run_at<E: Entry>(states: u32, due: u32, line: u64, text: &[u8]) -> Result<(E, u32), Refusal>
-    ensures said { MatchResult result (λ r. run_at E.columns states due line text.now ≡ Ok (run r.0 r.1)) (λ e. run_at E.columns states due line text.now ≡ Err e) }
+    ensures said { let due_run = run_at E.columns states due line text.now in MatchResult result (λ r. due_run ≡ Ok (run r.0 r.1)) (λ e. due_run ≡ Err e) }
     ensures inside { IfOk result (λ r. due + r.1 < states) }
 {
     let behind = words_behind(line, text, b"run", 2 + usize::from(E::width()))?;
@@ -68,7 +68,7 @@ fn line_of_states<E: Entry>(
     text: &[u8],
 ) -> Result<(E, u32), Refusal>
     requires { due < states }
-    ensures said { MatchResult result (λ r. line_of_states E.columns states due line text.now ≡ Ok (run r.0 r.1)) (λ e. line_of_states E.columns states due line text.now ≡ Err e) }
+    ensures said { let due_run = line_of_states E.columns states due line text.now in MatchResult result (λ r. due_run ≡ Ok (run r.0 r.1)) (λ e. due_run ≡ Err e) }
     ensures inside { IfOk result (λ r. due + r.1 < states) }
 {
     if begins_with(text, b"run") {
@@ -98,7 +98,7 @@ fn longest_at<E: Entry>(
     text: &[u8],
 ) -> Result<(E, u32), Refusal>
     requires { due < states }
-    ensures said { MatchResult result (λ r. longest_at E.columns states due before.now line text.now ≡ Ok (run r.0 r.1)) (λ e. longest_at E.columns states due before.now line text.now ≡ Err e) }
+    ensures said { let due_run = longest_at E.columns states due before.now line text.now in MatchResult result (λ r. due_run ≡ Ok (run r.0 r.1)) (λ e. due_run ≡ Err e) }
     ensures inside { IfOk result (λ r. due + r.1 < states) }
 {
     let (entry, more) = line_of_states(states, due, line, text)?;
@@ -116,7 +116,7 @@ fn run_in<E: Entry>(
     text: &[u8],
 ) -> Result<(E, u32), Refusal>
     requires { due < states }
-    ensures said { MatchResult result (λ r. run_in version E.columns states due before.now line text.now ≡ Ok (run r.0 r.1)) (λ e. run_in version E.columns states due before.now line text.now ≡ Err e) }
+    ensures said { let due_run = run_in version E.columns states due before.now line text.now in MatchResult result (λ r. due_run ≡ Ok (run r.0 r.1)) (λ e. due_run ≡ Err e) }
     ensures inside { IfOk result (λ r. due + r.1 < states) }
 {
     match version {
@@ -145,7 +145,7 @@ fn entries_from<E: Entry>(
     bytes: &[u8],
 ) -> Result<(Vec<E>, u64, &[u8]), CertError>
     requires { line < 2 ^ 32 }
-    ensures said { MatchResult result (λ p. entries_from version E.columns states (place line bytes.now) ≡ Ok (p.0.items, place p.1 p.2.now)) (λ e. Refuses e (entries_from version E.columns states (place line bytes.now))) }
+    ensures said { let read = entries_from version E.columns states (place line bytes.now) in MatchResult result (λ p. read ≡ Ok (p.0.items, place p.1 p.2.now)) (λ e. Refuses e read) }
     ensures lines { IfOk result (λ p. p.1 ≤ line + states) }
 {
     let mut entries = Vec::new(alloc);
@@ -175,7 +175,7 @@ pub(crate) fn entries_to_end<E: Entry>(
     bytes: &[u8],
 ) -> Result<(Vec<E>, u64, &[u8]), CertError>
     requires { line < 2 ^ 32 }
-    ensures { MatchResult result (λ p. entries_to_end version E.columns states (place line bytes.now) ≡ Ok (p.0.items, place p.1 p.2.now)) (λ e. Refuses e (entries_to_end version E.columns states (place line bytes.now))) }
+    ensures { let read = entries_to_end version E.columns states (place line bytes.now) in MatchResult result (λ p. read ≡ Ok (p.0.items, place p.1 p.2.now)) (λ e. Refuses e read) }
 {
     let (entries, next, rest) = entries_from(alloc, version, states, line, bytes)?;
     let (text, rest) = next_line(next, rest)?;

@@ -14,8 +14,7 @@ const CHAIN: &str =
 
 /// The text that is written of it.
 const WRITTEN: &str =
-    "@type: MDP\n@parameters\n\n@reward_models\ncost\n@nr_states\n2\n@nr_choices\n2\n@model\n\
-     state 0 [0] \"init\"\n\taction 0 [-1/2]\n\t\t0 : 1/2\n\t\t1 : 1/2\nstate 1 [0] \"goal\"\n\taction 0 [0]\n\t\t1 : 1\n";
+    "@type: MDP\n@parameters\n\n@reward_models\ncost\n@nr_states\n2\n@nr_choices\n2\n@model\nstate 0 [0] \"init\"\n\taction 0 [-1/2]\n\t\t0 : 1/2\n\t\t1 : 1/2\nstate 1 [0] \"goal\"\n\taction 0 [0]\n\t\t1 : 1\n";
 
 #[test]
 fn writes_what_it_reads(rt: HostRuntime) -> Result<(), Fail> {

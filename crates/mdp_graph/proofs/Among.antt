@@ -1,21 +1,19 @@
 -- Which states a list holds.
-use Rattle.std.proofs.Common.{◌≡◌, ◌≢◌, ◌⊎◌, inl, inr, ℕ, suc, zero, ◌+◌, ◌<◌, true, false, ◌||◌, ◌==◌, List, [], ◌∷◌, ◌++◌, length, take, get_or, refl, sym, ap, ◌∙◌, arith, Option, Some, None, eq-eqb}
+use Rattle.std.proofs.Common.{◌≡◌, ◌⊎◌, inl, inr, ℕ, suc, zero, Bool, ◌&&◌, ◌+◌, ◌<◌, true, false, ◌||◌, ◌==◌, List, [], ◌∷◌, ◌++◌, length, take, get_or, refl, sym, ap}
+use Rattle.std.proofs.Common.{◌∙◌, arith, Option, Some, None, eq-eqb}
 use Rattle.std.specs.List.{All}
-use Rattle.std.proofs.lemmas.Bool.{cases_lt, eqb-true, false≢true}
+use Rattle.std.proofs.lemmas.Bool.{eqb-true, false≢true, cases_Bool}
 use Rattle.std.proofs.lemmas.List.{take_more}
 use Rattle.std.proofs.lemmas.List.Folds.{list_any-append}
 use Rattle.mdp_rows.specs.Preds.{is_among}
-use Rattle.mdp_graph.proofs.Truths.{case-bool, or-right}
+use Rattle.mdp_math.proofs.Booleans.{and-false, or-false, or-true}
 
-pub case-eq : (t x : ℕ) → (t ≡ x) ⊎ (t ≢ x)
-case-eq t x = elim (cases_lt t x) [
-  | inl l ↦ inr (omega arith)
-  | inr g ↦ elim (cases_lt x t) [ inl l ↦ inr (omega arith) | inr k ↦ inl (omega arith) ]
-]
+pub cases_rank : (o : Option ℕ) → (o ≡ None) ⊎ ((r : ℕ) × (o ≡ Some r))
+cases_rank None = inl refl
+cases_rank (Some r) = inr (r, refl)
 
-pub case-rank : (o : Option ℕ) → (o ≡ None) ⊎ ((r : ℕ) × (o ≡ Some r))
-case-rank None = inl refl
-case-rank (Some r) = inr (r, refl)
+pub or-and_false : (a b : Bool) → a ≡ (a || (b && false))
+or-and_false a b = sym (ap (λ c. a || c) (and-false b) ∙ or-false a)
 
 pub among-append : (t : ℕ) (xs ys : List ℕ) → is_among t (xs ++ ys) ≡ (is_among t xs || is_among t ys)
 among-append t xs ys = list_any-append (λ x. x == t) xs ys
@@ -26,7 +24,7 @@ among-more t xs i h = ap (is_among t) (take_more xs i 0 h) ∙ among-append t (t
 -- what holds of each element holds of those that are among them
 pub among-below : (t n : ℕ) (xs : List ℕ) → All (λ x. x < n) xs → is_among t xs ≡ true → t < n
 among-below t n [] all e = absurd (false≢true e)
-among-below t n (x ∷ xs) all e = elim (case-bool (x == t)) [
+among-below t n (x ∷ xs) all e = elim (cases_Bool (x == t)) [
   | inl same ↦ (let s = eqb-true x t same in let h = all 0 0 (omega arith) in omega (arith, s, h))
   | inr other ↦ among-below t n xs (λ k d l. all (suc k) d (omega arith)) (let u : ((x == t) || is_among t xs) ≡ is_among t xs = rw other refl in sym u ∙ e)
 ]
@@ -35,5 +33,5 @@ pub below-all : (n : ℕ) (xs : List ℕ) → ((t : ℕ) → is_among t xs ≡ t
 below-all n [] h = λ k d l. absurd (omega arith)
 below-all n (x ∷ xs) h = λ k d l. elim k as (λ k. k < suc (length xs) → get_or (x ∷ xs) k d < n) [
   | zero ↦ λ l. h x (rw (eq-eqb x x refl) refl)
-  | suc k ↦ λ l. below-all n xs (λ t e. h t (rw e (or-right (x == t)))) k d (omega arith)
+  | suc k ↦ λ l. below-all n xs (λ t e. h t (rw e (or-true (x == t)))) k d (omega arith)
 ] l

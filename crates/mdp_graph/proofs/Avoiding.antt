@@ -1,38 +1,37 @@
 -- The states without a rank are the greatest avoiding set.
-use Rattle.std.proofs.Common.{◌≡◌, inl, inr, ℕ, suc, zero, ◌+◌, ◌<◌, ◌≤◌, Bool, true, false, ◌||◌, ◌&&◌, List, [], ◌∷◌, length, map, get_or, refl, sym, ap, subst, ◌∙◌, arith, Option, Some, None, is_some, is_none}
-use Rattle.std.specs.List.{list_all, All}
-use Rattle.std.proofs.lemmas.Bool.{false≢true, ne_eqb}
+use Rattle.std.proofs.Common.{◌≡◌, inl, inr, ℕ, suc, zero, ◌+◌, ◌<◌, ◌≤◌, Bool, true, false, ◌||◌, ◌&&◌, List, [], ◌∷◌, length, map, get_or, refl, sym, ap, ◌∙◌, arith}
+use Rattle.std.proofs.Common.{Option, Some, None, is_some, is_none}
+use Rattle.std.specs.List.{list_all}
+use Rattle.std.proofs.lemmas.Bool.{false≢true, cases_Bool}
 use Rattle.std.proofs.lemmas.List.{get_or-map, length-map}
 use Rattle.mdp_math.specs.Rational.{ℚ}
 use Rattle.mdp_spec.specs.Mdp.{Entry, Mdp, Choice, no_choice, states_of, choices_at, row_at}
 use Rattle.mdp_spec.specs.Row.{entries, IsMdp}
-use Rattle.mdp_rows.specs.Preds.{leads_to}
 use Rattle.mdp_graph.specs.Sets.{marked, can_enter, stays_in}
 use Rattle.mdp_graph.specs.Layers.{reached, rank_at, at_most, AreRanks}
-use Rattle.mdp_graph.specs.Choices.{IsFirst, AreLeast}
+use Rattle.mdp_graph.specs.Choices.{first_passing, AreLeast}
 use Rattle.mdp_graph.specs.Meet.{must_step}
 use Rattle.mdp_graph.specs.Avoid.{IsAvoiding, IsGreatestAvoiding, keeps}
-use Rattle.mdp_graph.proofs.Among.{case-eq, case-rank}
+use Rattle.mdp_graph.proofs.Among.{cases_rank}
 use Rattle.mdp_graph.proofs.EdgeFacts.{all-as-stays}
-use Rattle.mdp_graph.proofs.Falls.{case-any}
+use Rattle.mdp_graph.proofs.Falls.{IsFirst, case-any, firsts, firsts_count}
 use Rattle.mdp_graph.proofs.RankFacts.{some-same}
 use Rattle.mdp_graph.proofs.Reached.{at_most-some}
-use Rattle.mdp_graph.proofs.Steps.{any-some, some-any, enters-at}
-use Rattle.mdp_graph.proofs.Meeting.{none_is, is_ranked, each-true, must_respects, some_at_most}
-use Rattle.mdp_graph.proofs.Truths.{case-bool, and-false, and-left, and-right, both, or-left-false, or-right-is-false}
+use Rattle.mdp_graph.proofs.Meeting.{none_is, is_ranked, must_respects, some_at_most}
+use Rattle.mdp_math.proofs.Booleans.{and-both, or-right_false}
+use Rattle.mdp_graph.proofs.RowSets.{list_any-at, list_any-by, list_all-at, list_all-fails, enters-at, stays-at, stays-outside}
 
 -- the choice as the code tests it
-pub keeps_is : (m : Mdp) (marks : List Bool) (s c : ℕ) (ts : List ℕ) (ps : List ℚ) → length ts ≡ length ps → entries ts ps ≡ row_at m s c → keeps m marks s c ≡ (marked marks s && list_all (marked marks) ts)
+pub keeps_is : (m : Mdp) (marks : List Bool) (s c : ℕ) (ts : List ℕ) (ps : List ℚ) → length ts ≡ length ps → entries ts ps ≡ row_at m s c
+    → keeps m marks s c ≡ (marked marks s && list_all (marked marks) ts)
 keeps_is m marks s c ts ps same e = ap (λ (row : List Entry). marked marks s && stays_in (marked marks) row) (sym e) ∙ ap (λ b. marked marks s && b) (all-as-stays (marked marks) ts ps same)
 
 pub keeps_unmarked : (m : Mdp) (marks : List Bool) (s c : ℕ) → marked marks s ≡ false → keeps m marks s c ≡ false
 keeps_unmarked m marks s c e = ap (λ b. b && stays_in (marked marks) (row_at m s c)) e
 
-pub keeps_all : (m : Mdp) (marks : List Bool) (s c : ℕ) (ts : List ℕ) (ps : List ℚ) → length ts ≡ length ps → entries ts ps ≡ row_at m s c → marked marks s ≡ true → list_all (marked marks) ts ≡ true → keeps m marks s c ≡ true
-keeps_all m marks s c ts ps same e is all = keeps_is m marks s c ts ps same e ∙ both (marked marks s) (list_all (marked marks) ts) is all
-
-pub keeps_none : (m : Mdp) (marks : List Bool) (s c : ℕ) (ts : List ℕ) (ps : List ℚ) → length ts ≡ length ps → entries ts ps ≡ row_at m s c → list_all (marked marks) ts ≡ false → keeps m marks s c ≡ false
-keeps_none m marks s c ts ps same e out = keeps_is m marks s c ts ps same e ∙ ap (λ b. marked marks s && b) out ∙ and-false (marked marks s)
+pub keeps_all : (m : Mdp) (marks : List Bool) (s c : ℕ) (ts : List ℕ) (ps : List ℚ) → length ts ≡ length ps → entries ts ps ≡ row_at m s c → marked marks s ≡ true
+    → keeps m marks s c ≡ list_all (marked marks) ts
+keeps_all m marks s c ts ps same e is = keeps_is m marks s c ts ps same e ∙ ap (λ b. b && list_all (marked marks) ts) is
 
 pub without-is : (ranks : List (Option ℕ)) (s : ℕ) → s < length ranks → marked (map is_none ranks) s ≡ is_none (rank_at ranks s)
 without-is ranks s h = get_or-map is_none ranks s None false h
@@ -41,37 +40,17 @@ not_some : (o : Option ℕ) → is_some o ≡ false → is_none o ≡ true
 not_some None e = refl
 not_some (Some r) e = absurd (false≢true (sym e))
 
-top_of : (o : Option ℕ) (ranks : List (Option ℕ)) (k j : ℕ) → ((r : ℕ) → o ≡ Some r → r ≤ j) → ((t r : ℕ) → t < length ranks → rank_at ranks t ≡ Some r → r ≤ k) → k ≤ j → (t r : ℕ) → t < length (o ∷ ranks) → rank_at (o ∷ ranks) t ≡ Some r → r ≤ j
+top_of : (o : Option ℕ) (ranks : List (Option ℕ)) (k j : ℕ) → ((r : ℕ) → o ≡ Some r → r ≤ j) → ((t r : ℕ) → t < length ranks → rank_at ranks t ≡ Some r → r ≤ k)
+    → k ≤ j → (t r : ℕ) → t < length (o ∷ ranks) → rank_at (o ∷ ranks) t ≡ Some r → r ≤ j
 top_of o ranks k j at rest less zero r h e = at r e
 top_of o ranks k j at rest less (suc t) r h e = let l = rest t r (omega arith) e in omega (arith, l, less)
 
 -- all ranks of a list are at most a number
 pub greatest_rank : (ranks : List (Option ℕ)) → (k : ℕ) × ((t r : ℕ) → t < length ranks → rank_at ranks t ≡ Some r → r ≤ k)
 greatest_rank [] = (0, λ t r h e. absurd (omega arith))
-greatest_rank (o ∷ ranks) = let w = greatest_rank ranks in elim (case-rank o) [
+greatest_rank (o ∷ ranks) = let w = greatest_rank ranks in elim (cases_rank o) [
   | inl none ↦ (w.0, top_of o ranks w.0 w.0 (λ r e. absurd (false≢true (sym (ap is_some none) ∙ ap is_some e))) w.1 (omega arith))
   | inr has ↦ (w.0 + has.0, top_of o ranks w.0 (w.0 + has.0) (λ r e. (let same : r ≡ has.0 = some-same r has.0 o e has.1 in omega (arith, same))) w.1 (omega arith))
-]
-
--- a choice that doesn't enter a set
-pub all-some-false : {X : Type 0} (p : X → Bool) (xs : List X) (d : X) → list_all p xs ≡ false → (i : ℕ) × (i < length xs) × (p (get_or xs i d) ≡ false)
-all-some-false p [] d e = absurd (false≢true (sym e))
-all-some-false p (x ∷ xs) d e = elim (case-bool (p x)) [
-  | inl here ↦ (let w = all-some-false p xs d (sym (ap (λ b. b && list_all p xs) here) ∙ e) in (suc w.0, omega (arith, w.1), w.2))
-  | inr not_here ↦ (0, omega arith, not_here)
-]
-
-pub stays-outside : (p q : ℕ → Bool) (row : List Entry) (n : ℕ) → All (λ x. x.target < n) row → ((t : ℕ) → t < n → p t ≡ false → q t ≡ true) → can_enter p row ≡ false → stays_in q row ≡ true
-stays-outside p q [] n range out e = refl
-stays-outside p q (x ∷ row) n range out e =
-    both (q x.target) (stays_in q row) (out x.target (range 0 x (omega arith)) (or-left-false (p x.target) (can_enter p row) e))
-    (stays-outside p q row n (λ k d l. range (suc k) d (omega arith)) out (or-right-is-false (p x.target) (can_enter p row) e))
-
-pub stays-at : (q : ℕ → Bool) (row : List Entry) (t : ℕ) → stays_in q row ≡ true → leads_to t row ≡ true → q t ≡ true
-stays-at q [] t e l = absurd (false≢true l)
-stays-at q (x ∷ row) t e l = elim (case-eq x.target t) [
-  | inl same ↦ ap q (sym same) ∙ and-left (q x.target) (stays_in q row) e
-  | inr other ↦ stays-at q row t (and-right (q x.target) (stays_in q row) e) (sym (ap (λ b. b || leads_to t row) (ne_eqb x.target t other)) ∙ l)
 ]
 
 module _ (m : Mdp) (ok : IsMdp m) (goals : List Bool) (ranks : List (Option ℕ)) (a : AreRanks (must_step m) (marked goals) (states_of m) ranks) where
@@ -91,11 +70,11 @@ module _ (m : Mdp) (ok : IsMdp m) (goals : List Bool) (ranks : List (Option ℕ)
       let w = greatest_rank ranks in
       let top = w.1 in
       must_respects m ok (is_ranked ranks) (reached (must_step m) (marked goals) w.0) (λ t l. sym (some_at_most w.0 (rank_at ranks t) (λ r x. top t r (here t l) x)) ∙ a.least w.0 t l) s h
-      ∙ or-right-is-false (reached (must_step m) (marked goals) w.0 s) (must_step m (reached (must_step m) (marked goals) w.0) s) (never_reached s (suc w.0) h e)
+      ∙ or-right_false (reached (must_step m) (marked goals) w.0 s) (must_step m (reached (must_step m) (marked goals) w.0) s) (never_reached s (suc w.0) h e)
 
   way_out : (s : ℕ) → s < states_of m → marked (map is_none ranks) s ≡ true → (c : ℕ) × (c < length (choices_at m s)) × (stays_in (marked (map is_none ranks)) (row_at m s c) ≡ true)
   way_out s h e =
-      let w = all-some-false (λ (x : Choice). can_enter (is_ranked ranks) x.row) (choices_at m s) no_choice (no_step s h (unranked_at s h e)) in
+      let w = list_all-fails (λ (x : Choice). can_enter (is_ranked ranks) x.row) (choices_at m s) no_choice (no_step s h (unranked_at s h e)) in
       let row = ok.row s w.0 h w.1 in (
         w.0,
         w.1,
@@ -110,13 +89,13 @@ module _ (m : Mdp) (ok : IsMdp m) (goals : List Bool) (ranks : List (Option ℕ)
   kept_out : (set : ℕ → Bool) → IsAvoiding m goals set → (k s : ℕ) → s < states_of m → reached (must_step m) (marked goals) k s ≡ true → set s ≡ true → false ≡ true
   unfolding reached
   kept_out set v zero s h e is = sym (v.outside s h is) ∙ e
-  kept_out set v (suc k) s h e is = elim (case-bool (reached (must_step m) (marked goals) k s)) [
+  kept_out set v (suc k) s h e is = elim (cases_Bool (reached (must_step m) (marked goals) k s)) [
     | inl before ↦ kept_out set v k s h before is
     | inr new ↦
-        (let w = any-some (λ (x : Choice). stays_in set x.row) (choices_at m s) no_choice (v.stays s h is) in
+        (let w = list_any-at (λ (x : Choice). stays_in set x.row) (choices_at m s) no_choice (v.stays s h is) in
         let row = ok.row s w.0 h w.1 in
         let stepped : must_step m (reached (must_step m) (marked goals) k) s ≡ true = sym (ap (λ b. b || must_step m (reached (must_step m) (marked goals) k) s) new) ∙ e in
-        let enters = each-true (λ (x : Choice). can_enter (reached (must_step m) (marked goals) k) x.row) (choices_at m s) no_choice stepped w.0 w.1 in
+        let enters = list_all-at (λ (x : Choice). can_enter (reached (must_step m) (marked goals) k) x.row) (choices_at m s) no_choice stepped w.0 w.1 in
         let z = enters-at (reached (must_step m) (marked goals) k) (row_at m s w.0) (states_of m) row.in_range enters in
         kept_out set v k z.0 z.1 z.3 (stays-at set (row_at m s w.0) z.0 w.2 z.2))
   ]
@@ -126,17 +105,17 @@ module _ (m : Mdp) (ok : IsMdp m) (goals : List Bool) (ranks : List (Option ℕ)
     count = length-map ranks is_none ∙ a.count;
     avoiding = record {
       outside = outside;
-      stays = λ s h e. (let w = way_out s h e in some-any (λ (x : Choice). stays_in (marked (map is_none ranks)) x.row) (choices_at m s) no_choice w.0 w.1 w.2);
+      stays = λ s h e. (let w = way_out s h e in list_any-by (λ (x : Choice). stays_in (marked (map is_none ranks)) x.row) (choices_at m s) no_choice w.0 w.1 w.2);
     };
-    greatest = λ set v s h is. without-is ranks s (here s h) ∙ (elim (case-rank (rank_at ranks s)) [
+    greatest = λ set v s h is. without-is ranks s (here s h) ∙ (elim (cases_rank (rank_at ranks s)) [
       | inl none ↦ ap is_none none
       | inr has ↦ absurd (false≢true (kept_out set v has.0 s h (sym (a.least has.0 s h) ∙ at_most-some has.0 has.0 (rank_at ranks s) has.1 (omega arith)) is))
     ]);
   }
 
-  pub avoid_choices : (choices : List ℕ) → length choices ≡ states_of m → ((s : ℕ) → s < states_of m → IsFirst (keeps m (map is_none ranks) s) (length (choices_at m s)) (get_or choices s 0))
+  avoid_firsts : (choices : List ℕ) → length choices ≡ states_of m → ((s : ℕ) → s < states_of m → IsFirst (keeps m (map is_none ranks) s) (length (choices_at m s)) (get_or choices s 0))
       → AreLeast m goals (map is_none ranks) (keeps m (map is_none ranks)) choices
-  avoid_choices choices count first = record {
+  avoid_firsts choices count first = record {
     count = count;
     in_range = λ s h. elim (case-any (keeps m (map is_none ranks) s) (length (choices_at m s))) [
       | inl w ↦ (let l = IsFirst.least (first s h) w.0 w.1 w.2 in omega (arith, l.1, w.1))
@@ -144,17 +123,19 @@ module _ (m : Mdp) (ok : IsMdp m) (goals : List Bool) (ranks : List (Option ℕ)
     ];
     passes = λ s h e not_goal.
         (let w = way_out s h e in
-        let l = IsFirst.least (first s h) w.0 w.1 (both (marked (map is_none ranks) s) (stays_in (marked (map is_none ranks)) (row_at m s w.0)) e w.2) in l.0);
+        let l = IsFirst.least (first s h) w.0 w.1 (and-both (marked (map is_none ranks) s) (stays_in (marked (map is_none ranks)) (row_at m s w.0)) e w.2) in l.0);
     least = λ s c h e k. (let l = IsFirst.least (first s h) c k e in l.1);
     zero = λ s h e. IsFirst.none (first s h) (λ d k. keeps_unmarked m (map is_none ranks) s d (elim e [
       | inl unmarked ↦ unmarked
-      | inr goal ↦ (elim (case-bool (marked (map is_none ranks) s)) [
+      | inr goal ↦ (elim (cases_Bool (marked (map is_none ranks) s)) [
         | inl is ↦ absurd (false≢true (sym (outside s h is) ∙ goal))
         | inr unmarked ↦ unmarked
       ])
     ]));
   }
 
-  pub avoid_choices_seen : (marks : List Bool) → marks ≡ map is_none ranks → (choices : List ℕ) → length choices ≡ states_of m → ((s : ℕ) → s < states_of m → IsFirst (keeps m marks s) (length (choices_at m s)) (get_or choices s 0))
+  pub avoid_choices : (marks : List Bool) → marks ≡ map is_none ranks → (choices : List ℕ) → choices ≡ first_passing m (keeps m marks)
       → AreLeast m goals (map is_none ranks) (keeps m (map is_none ranks)) choices
-  avoid_choices_seen marks e choices count first = avoid_choices choices count (λ s h. subst (λ (x : List Bool). IsFirst (keeps m x s) (length (choices_at m s)) (get_or choices s 0)) e (first s h))
+  avoid_choices marks e choices seen =
+      let is : choices ≡ first_passing m (keeps m (map is_none ranks)) = seen ∙ ap (λ (x : List Bool). first_passing m (keeps m x)) e in
+      avoid_firsts choices (firsts_count m (keeps m (map is_none ranks)) choices is) (firsts m (keeps m (map is_none ranks)) choices is)

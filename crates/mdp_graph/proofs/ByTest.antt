@@ -1,7 +1,8 @@
 -- Ranks of a given model, tested by computation.
-use Rattle.std.proofs.Common.{◌≡◌, inl, inr, ℕ, suc, zero, ◌+◌, ◌<◌, ◌≤◌, Bool, true, false, not, ◌||◌, ◌&&◌, nat_le, cond, List, [], ◌∷◌, length, get_or, refl, sym, ap, ◌∙◌, arith, Option, Some, is_some, is_none}
+use Rattle.std.proofs.Common.{◌≡◌, inl, inr, ℕ, suc, zero, ◌+◌, ◌<◌, ◌≤◌, Bool, true, false, not, ◌||◌, ◌&&◌, nat_le, cond, List, [], ◌∷◌, length, get_or, refl, sym, ap}
+use Rattle.std.proofs.Common.{◌∙◌, arith, Option, Some, is_some, is_none}
 use Rattle.std.specs.List.{list_any}
-use Rattle.std.proofs.lemmas.Bool.{false≢true}
+use Rattle.std.proofs.lemmas.Bool.{false≢true, cases_eq}
 use borrow.Author.Tests.{leb-true}
 use Rattle.mdp_spec.specs.Mdp.{Choice, Mdp, no_choice, states_of, choices_at, row_at}
 use Rattle.mdp_spec.specs.Row.{IsMdp}
@@ -10,10 +11,9 @@ use Rattle.mdp_graph.specs.Reach.{may_step}
 use Rattle.mdp_graph.specs.Sure.{inside_step}
 use Rattle.mdp_graph.specs.Layers.{reached, rank_at, at_most, AreRanks}
 use Rattle.mdp_graph.specs.Ranking.{unranked}
-use Rattle.mdp_graph.proofs.Among.{case-eq}
 use Rattle.mdp_graph.proofs.Meeting.{is_ranked, Respects, IsMeeting, met_all}
-use Rattle.mdp_graph.proofs.Passes.{same-enters}
-use Rattle.mdp_graph.proofs.Truths.{and-left, and-right}
+use Rattle.mdp_math.proofs.Booleans.{and-left, and-right}
+use Rattle.mdp_graph.proofs.RowSets.{enters-same}
 
 unfoldable pub agree : Bool → Bool → Bool
 agree a b = cond a b (not b)
@@ -32,7 +32,7 @@ same_below p q (suc n) = agree (p n) (q n) && same_below p q n
 same-at : (p q : ℕ → Bool) (n : ℕ) → same_below p q n ≡ true → (s : ℕ) → s < n → p s ≡ q s
 unfolding same_below
 same-at p q zero e s h = absurd (omega (arith, h))
-same-at p q (suc n) e s h = elim (case-eq s n) [
+same-at p q (suc n) e s h = elim (cases_eq s n) [
   | inl same ↦ ap p same ∙ agreed (p n) (q n) (and-left (agree (p n) (q n)) (same_below p q n) e) ∙ sym (ap q same)
   | inr other ↦ same-at p q n (and-right (agree (p n) (q n)) (same_below p q n) e) s (omega (arith, h, other))
 ]
@@ -46,15 +46,18 @@ module _ (step : (ℕ → Bool) → ℕ → Bool) (first : ℕ → Bool) (n : �
   -- and no step leads from another state to one with a rank
   unfoldable pub ranks_test : ℕ → Bool
   ranks_test k =
-      ranks_to k && (same_below (λ s. is_none (rank_at ranks s) && step (is_ranked ranks) s) (λ _. false) n && (same_below (λ s. at_most k (rank_at ranks s)) (is_ranked ranks) n && nat_le (k + unranked ranks) n))
+      ranks_to k && (same_below (λ s. is_none (rank_at ranks s) && step (is_ranked ranks) s) (λ _. false) n &&
+      (same_below (λ s. at_most k (rank_at ranks s)) (is_ranked ranks) n && nat_le (k + unranked ranks) n))
 
   to-at : (k : ℕ) → ranks_to k ≡ true → (j s : ℕ) → j ≤ k → s < n → at_most j (rank_at ranks s) ≡ reached step first j s
   unfolding ranks_to
-  to-at zero e j s low h = let z : j ≡ 0 = omega (arith, low) in ap (λ i. at_most i (rank_at ranks s)) z ∙ same-at (λ t. at_most 0 (rank_at ranks t)) (reached step first 0) n e s h ∙ ap (λ i. reached step first i s) (sym z)
-  to-at (suc k) e j s low h = elim (case-eq j (suc k)) [
+  to-at zero e j s low h = let z : j ≡ 0 = omega (arith, low) in ap (λ i. at_most i (rank_at ranks s)) z
+      ∙ same-at (λ t. at_most 0 (rank_at ranks t)) (reached step first 0) n e s h ∙ ap (λ i. reached step first i s) (sym z)
+  to-at (suc k) e j s low h = elim (cases_eq j (suc k)) [
     | inl same ↦
         ap (λ i. at_most i (rank_at ranks s)) same
-        ∙ same-at (λ t. at_most (suc k) (rank_at ranks t)) (reached step first (suc k)) n (and-left (same_below (λ t. at_most (suc k) (rank_at ranks t)) (reached step first (suc k)) n) (ranks_to k) e) s h
+        ∙ same-at (λ t. at_most (suc k) (rank_at ranks t)) (reached step first (suc k)) n
+        (and-left (same_below (λ t. at_most (suc k) (rank_at ranks t)) (reached step first (suc k)) n) (ranks_to k) e) s h
         ∙ ap (λ i. reached step first i s) (sym same)
     | inr other ↦ to-at k (and-right (same_below (λ t. at_most (suc k) (rank_at ranks t)) (reached step first (suc k)) n) (ranks_to k) e) j s (omega (arith, low, other)) h
   ]
@@ -90,9 +93,10 @@ any-same p q (x ∷ xs) d e = ap (λ b. b || list_any p xs) (e 0 (omega arith)) 
 pub may_respects : (m : Mdp) (blocked : List Bool) → IsMdp m → Respects (may_step m blocked) (states_of m)
 may_respects m blocked ok p q same s h =
     ap (λ b. not (marked blocked s) && b)
-    (any-same (λ (x : Choice). can_enter p x.row) (λ (x : Choice). can_enter q x.row) (choices_at m s) no_choice (λ c k. (let row = ok.row s c h k in same-enters p q (row_at m s c) (states_of m) row.in_range same)))
+    (any-same (λ (x : Choice). can_enter p x.row) (λ (x : Choice). can_enter q x.row) (choices_at m s) no_choice
+    (λ c k. (let row = ok.row s c h k in enters-same p q (row_at m s c) (states_of m) row.in_range same)))
 
 pub inside_respects : (m : Mdp) (inside : ℕ → Bool) → IsMdp m → Respects (inside_step m inside) (states_of m)
 inside_respects m inside ok p q same s h =
     any-same (λ (x : Choice). stays_in inside x.row && can_enter p x.row) (λ (x : Choice). stays_in inside x.row && can_enter q x.row) (choices_at m s) no_choice
-    (λ c k. (let row = ok.row s c h k in ap (λ b. stays_in inside (row_at m s c) && b) (same-enters p q (row_at m s c) (states_of m) row.in_range same)))
+    (λ c k. (let row = ok.row s c h k in ap (λ b. stays_in inside (row_at m s c) && b) (enters-same p q (row_at m s c) (states_of m) row.in_range same)))

@@ -1,6 +1,6 @@
 -- The states that reach none of the avoiding states without passing a goal.
 use Rattle.std.proofs.Common.{◌≡◌, inl, inr, ℕ, ◌+◌, ◌<◌, ◌≤◌, Bool, true, false, cond, List, length, map, get_or, set, refl, sym, ap, ◌∙◌, arith, Option, Some, None, is_some, is_none}
-use Rattle.std.proofs.lemmas.Bool.{false≢true}
+use Rattle.std.proofs.lemmas.Bool.{false≢true, cases_Bool, cases_eq}
 use Rattle.std.proofs.lemmas.List.{length-map, length-set, get_or-set_other}
 use Rattle.std.proofs.lemmas.Grind.{get_or-set_at}
 use Rattle.mdp_spec.specs.Mdp.{Mdp, states_of}
@@ -10,11 +10,9 @@ use Rattle.mdp_graph.specs.Choices.{plain_rank}
 use Rattle.mdp_graph.specs.Reach.{may_step}
 use Rattle.mdp_graph.specs.Meet.{must_step}
 use Rattle.mdp_graph.specs.SureAll.{AreSure}
-use Rattle.mdp_graph.proofs.Among.{case-eq}
 use Rattle.mdp_graph.proofs.Reached.{rank_of, at_most-some}
 use Rattle.mdp_graph.proofs.Passes.{mark-is, plain-is, has_rank, no_rank}
 use Rattle.mdp_graph.proofs.Avoiding.{without-is}
-use Rattle.mdp_graph.proofs.Truths.{case-bool}
 
 -- the ranks of the marked states below i were taken away
 pub record AreDropped (old : List (Option ℕ)) (marks : List Bool) (i : ℕ) (new : List (Option ℕ)) : Type 0 where
@@ -25,10 +23,11 @@ pub record AreDropped (old : List (Option ℕ)) (marks : List Bool) (i : ℕ) (n
 pub none_dropped : (old : List (Option ℕ)) (marks : List Bool) → AreDropped old marks 0 old
 none_dropped old marks = record { count = refl; before = λ s h. absurd (omega arith); after = λ s h. refl }
 
-pub one_dropped : (old : List (Option ℕ)) (marks : List Bool) (i : ℕ) (now new : List (Option ℕ)) → AreDropped old marks i now → i < length old → marked marks i ≡ true → new ≡ set now i None → AreDropped old marks (i + 1) new
+pub one_dropped : (old : List (Option ℕ)) (marks : List Bool) (i : ℕ) (now new : List (Option ℕ)) → AreDropped old marks i now → i < length old
+    → marked marks i ≡ true → new ≡ set now i None → AreDropped old marks (i + 1) new
 one_dropped old marks i now new was h is e = record {
   count = ap length e ∙ length-set now i None ∙ was.count;
-  before = λ s l. ap (λ (x : List (Option ℕ)). rank_at x s) e ∙ (elim (case-eq s i) [
+  before = λ s l. ap (λ (x : List (Option ℕ)). rank_at x s) e ∙ (elim (cases_eq s i) [
     | inl same ↦ get_or-set_at now i s None None same (omega (arith, h, was.count)) ∙ sym (ap (λ b. cond b None (rank_at old s)) (ap (marked marks) same ∙ is))
     | inr other ↦ get_or-set_other now i s None None other ∙ was.before s (omega arith)
   ]);
@@ -38,7 +37,7 @@ one_dropped old marks i now new was h is e = record {
 pub one_kept : (old : List (Option ℕ)) (marks : List Bool) (i : ℕ) (now : List (Option ℕ)) → AreDropped old marks i now → marked marks i ≡ false → AreDropped old marks (i + 1) now
 one_kept old marks i now was is = record {
   count = was.count;
-  before = λ s l. elim (case-eq s i) [
+  before = λ s l. elim (cases_eq s i) [
     | inl same ↦ was.after s (omega (arith, same)) ∙ sym (ap (λ b. cond b None (rank_at old s)) (ap (marked marks) same ∙ is))
     | inr other ↦ was.before s (omega arith)
   ];
@@ -67,14 +66,14 @@ module _ (m : Mdp) (goals : List Bool) (ranks : List (Option ℕ)) (a : AreRanks
   kept_rank s h e = left s h ∙ ap (λ b. cond b None (rank_at ranks s)) (not_reaching s h e)
 
   never : (s : ℕ) → s < states_of m → marked reaching s ≡ false → (k : ℕ) → reached (may_step m goals) (marked (map is_none ranks)) k s ≡ false
-  never s h e k = elim (case-bool (reached (may_step m goals) (marked (map is_none ranks)) k s)) [
+  never s h e k = elim (cases_Bool (reached (may_step m goals) (marked (map is_none ranks)) k s)) [
     | inl is ↦ (let p = r.marks_reached s h in absurd (false≢true (sym e ∙ p.1 (k, is))))
     | inr not ↦ not
   ]
 
   is_sure : (s : ℕ) → s < states_of m → ((k : ℕ) → reached (may_step m goals) (marked (map is_none ranks)) k s ≡ false) → marked (map is_some new) s ≡ true
   unfolding reached
-  is_sure s h none = elim (case-bool (marked reaching s)) [
+  is_sure s h none = elim (cases_Bool (marked reaching s)) [
     | inl is ↦ (let p = r.marks_reached s h in let w = p.0 is in absurd (false≢true (sym (none w.0) ∙ w.1)))
     | inr not ↦
         mark-is new s (here s h) ∙ ap is_some (left s h ∙ ap (λ b. cond b None (rank_at ranks s)) not)
@@ -89,11 +88,12 @@ module _ (m : Mdp) (goals : List Bool) (ranks : List (Option ℕ)) (a : AreRanks
     count = length-map new plain_rank ∙ count;
     reaches = λ s h e.
         (let w = has_rank (rank_at new s) (sym (mark-is new s (here s h)) ∙ e) in
-        ap (λ k. reached (must_step m) (marked goals) k s) (plain-is new s (here s h) ∙ ap plain_rank w.1) ∙ sym (a.least w.0 s h) ∙ at_most-some w.0 w.0 (rank_at ranks s) (sym (kept_rank s h e) ∙ w.1) (omega arith));
+        ap (λ k. reached (must_step m) (marked goals) k s) (plain-is new s (here s h) ∙ ap plain_rank w.1) ∙ sym (a.least w.0 s h)
+        ∙ at_most-some w.0 w.0 (rank_at ranks s) (sym (kept_rank s h e) ∙ w.1) (omega arith));
     least = λ s k h e.
         (let w = rank_of k (rank_at ranks s) (a.least k s h ∙ e) in
         let p : get_or (map plain_rank new) s 0 ≡ plain_rank (rank_at new s) = plain-is new s (here s h) in
-        elim (case-bool (marked reaching s)) [
+        elim (cases_Bool (marked reaching s)) [
           | inl is ↦ (let q : plain_rank (rank_at new s) ≡ 0 = ap plain_rank (left s h ∙ ap (λ b. cond b None (rank_at ranks s)) is) in omega (arith, p, q))
           | inr not ↦ (let q : plain_rank (rank_at new s) ≡ w.0 = ap plain_rank (left s h ∙ ap (λ b. cond b None (rank_at ranks s)) not ∙ w.1) in omega (arith, p, q, w.2))
         ]);

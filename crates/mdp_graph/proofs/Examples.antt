@@ -1,6 +1,7 @@
 -- Worked models: what the passes find on them.
-use Rattle.std.proofs.Common.{◌≡◌, ◌⊎◌, inl, inr, ℕ, zero, suc, ◌+◌, ◌<◌, ◌≤◌, ◌↔◌, Bool, true, false, List, [], ◌∷◌, length, get_or, map, refl, sym, ◌∙◌, arith, pos, Option, Some, None, is_some, cond}
-use Rattle.std.proofs.lemmas.Bool.{false≢true}
+use Rattle.std.proofs.Common.{◌≡◌, ◌⊎◌, inl, inr, ℕ, zero, suc, ◌+◌, ◌<◌, ◌≤◌, ◌↔◌, Bool, true, false, List, [], ◌∷◌, length, get_or, map, refl, sym, ◌∙◌, arith, pos}
+use Rattle.std.proofs.Common.{Option, Some, None, is_some, cond}
+use Rattle.std.proofs.lemmas.Bool.{false≢true, cases_Bool}
 use Rattle.std.proofs.lemmas.List.Elements.{All-from_recursion}
 use Rattle.mdp_math.specs.Gcd.{gcd, gcd_with_fuel}
 use Rattle.mdp_math.specs.Rational.{of_int, ratio, ◌+ℚ◌, ◌<ℚ◌, lt_ℚ}
@@ -22,7 +23,6 @@ use Rattle.mdp_graph.proofs.Dropping.{sure_marks}
 use Rattle.mdp_graph.proofs.Meeting.{must_respects}
 use Rattle.mdp_graph.proofs.Passes.{reached_marks, least_ranks}
 use Rattle.mdp_graph.proofs.Rounding.{left-top, stays-alike}
-use Rattle.mdp_graph.proofs.Truths.{case-bool}
 
 abbrev halves : ℕ → ℕ → List Entry
 halves s t = record { target = s; prob = ratio (pos 1) 2 } ∷ record { target = t; prob = ratio (pos 1) 2 } ∷ []
@@ -197,7 +197,8 @@ all_sure_split = (
     left (suc (suc (suc s))) h = absurd (omega arith)
 
 -- the states that can stay in a set, by the ranks inside it
-can_stay : (m : Mdp) (set : ℕ → Bool) (ranks : List (Option ℕ)) → AreRanks (inside_step m set) (marked goal) (states_of m) ranks → (s : ℕ) → s < states_of m → (marked (map is_some ranks) s ≡ true) ↔ CanStay m goal set s
+can_stay : (m : Mdp) (set : ℕ → Bool) (ranks : List (Option ℕ)) → AreRanks (inside_step m set) (marked goal) (states_of m) ranks → (s : ℕ)
+    → s < states_of m → (marked (map is_some ranks) s ≡ true) ↔ CanStay m goal set s
 can_stay m set ranks a s h = let r = reached_marks (inside_step m set) (marked goal) (states_of m) ranks a in r.marks_reached s h
 
 -- rounds_outside: state 1 is removed in the first round and state 0 in the second, since it may come to state 1
@@ -214,7 +215,8 @@ unfolding reached ranks_to ranks_test same_below agree
 later_round = tested_ranks (inside_step splits (left_after two_rounds 2)) (marked goal) 3 last_rank (inside_respects splits (left_after two_rounds 2) splits_model) refl 0 refl
 
 -- from round k on, which is the last, nothing changes
-ended : (m : Mdp) → IsMdp m → (rounds : List ℕ) (k : ℕ) → ((t : ℕ) → t < states_of m → get_or rounds t 0 ≤ k) → ((s : ℕ) → s < states_of m → (left_after rounds (k + 1) s ≡ true) ↔ CanStay m goal (left_after rounds k) s)
+ended : (m : Mdp) → IsMdp m → (rounds : List ℕ) (k : ℕ) → ((t : ℕ) → t < states_of m → get_or rounds t 0 ≤ k)
+    → ((s : ℕ) → s < states_of m → (left_after rounds (k + 1) s ≡ true) ↔ CanStay m goal (left_after rounds k) s)
     → (i s : ℕ) → k ≤ i → s < states_of m → (left_after rounds (i + 1) s ≡ true) ↔ CanStay m goal (left_after rounds i) s
 ended m ok rounds k low last i s l h =
     let same : (j t : ℕ) → k ≤ j → t < states_of m → left_after rounds j t ≡ left_after rounds k t = λ j t u v.
@@ -267,9 +269,9 @@ trap_inside = tested_ranks (inside_step trap (marked ends)) (marked goal) 3 end_
 never_out : (set : ℕ → Bool) (k : ℕ) → reached (inside_step trap set) (marked goal) k 1 ≡ true → false ≡ true
 unfolding reached
 never_out set zero e = e
-never_out set (suc k) e = elim (case-bool (reached (inside_step trap set) (marked goal) k 1)) [
+never_out set (suc k) e = elim (cases_Bool (reached (inside_step trap set) (marked goal) k 1)) [
   | inl before ↦ never_out set k before
-  | inr not_before ↦ elim (case-bool (set 1)) [ inl is ↦ sym (rw (not_before, is) refl) ∙ e | inr out ↦ sym (rw (not_before, out) refl) ∙ e ]
+  | inr not_before ↦ elim (cases_Bool (set 1)) [ inl is ↦ sym (rw (not_before, is) refl) ∙ e | inr out ↦ sym (rw (not_before, out) refl) ∙ e ]
 ]
 
 -- sure_some marks states 0 and 2, with ranks 1 and 0 and choice 1 at state 0

@@ -1,4 +1,4 @@
-mod Among
+pub mod Among
 mod Avoiding
 mod ByTest
 mod Certainty
@@ -6,7 +6,7 @@ mod Dropping
 mod EdgeFacts
 mod Examples
 mod Falls
-mod Given
+mod GivingRanks
 mod MayReach
 mod Meeting
 mod Missing
@@ -18,11 +18,11 @@ mod PolicyMeets
 mod PredLists
 mod RankFacts
 mod Reached
-mod Reaching
+pub mod Reaching
 mod Releasing
 mod RoundLaws
 mod Rounding
+pub mod RowSets
 mod Settling
 mod Steps
 mod SureSome
-mod Truths

@@ -1,7 +1,7 @@
 -- The layers of a search for the states that meet a set whatever is chosen.
-use Rattle.std.proofs.Common.{◌≡◌, inl, inr, ℕ, suc, zero, ◌+◌, ◌-◌, ◌<◌, ◌≤◌, Bool, true, false, ◌||◌, ◌&&◌, nat_le, le-leb, lt-ltb, map, cond, List, [], ◌∷◌, length, get_or, replicate, refl, sym, ap, subst, ◌∙◌, arith, eq-eqb, Option, Some, None, is_some, is_none}
-use Rattle.std.specs.List.{list_all}
-use Rattle.std.proofs.lemmas.Bool.{false≢true, cases_lt}
+use Rattle.std.proofs.Common.{◌≡◌, inl, inr, ℕ, suc, zero, ◌+◌, ◌-◌, ◌<◌, ◌≤◌, Bool, true, false, ◌||◌, ◌&&◌, nat_le, le-leb, lt-ltb, map, cond, List, [], ◌∷◌, length}
+use Rattle.std.proofs.Common.{replicate, refl, sym, ap, subst, ◌∙◌, arith, eq-eqb, Option, Some, None, is_some, is_none}
+use Rattle.std.proofs.lemmas.Bool.{false≢true, cases_lt, cases_Bool}
 use Rattle.std.proofs.lemmas.List.Sums.{sum_by-cons}
 use borrow.Author.Tests.{leb-true}
 use Rattle.mdp_spec.specs.Mdp.{Mdp, Choice, no_choice, states_of, choices_at, row_at}
@@ -12,30 +12,16 @@ use Rattle.mdp_graph.specs.Layers.{reached, rank_at, at_most, AreRanks}
 use Rattle.mdp_graph.specs.Choices.{plain_rank, is_before}
 use Rattle.mdp_graph.specs.Ranking.{given, unranked, IsGiven}
 use Rattle.mdp_graph.specs.Meet.{must_step, AllFall}
-use Rattle.mdp_graph.proofs.Among.{case-rank}
+use Rattle.mdp_graph.proofs.Among.{cases_rank}
 use Rattle.mdp_graph.proofs.RankFacts.{none_among, started, some-same, cond_some}
 use Rattle.mdp_graph.proofs.Reached.{rank_of, at_most-some}
-use Rattle.mdp_graph.proofs.Passes.{same-enters, has_rank, mark-is, falls-is}
-use Rattle.mdp_graph.proofs.Steps.{enters-at, enters-by}
-use Rattle.mdp_graph.proofs.Truths.{case-bool, and-false, and-left, and-right, same-truth}
+use Rattle.mdp_graph.proofs.Passes.{has_rank, mark-is, falls-is}
+use Rattle.mdp_math.proofs.Booleans.{and-left, same_truth}
+use Rattle.mdp_graph.proofs.RowSets.{list_all-at, list_all-same, enters-at, enters-by, enters-same}
 
 -- the states that have a rank
 abbrev pub is_ranked : List (Option ℕ) → ℕ → Bool
 is_ranked ranks s = is_some (rank_at ranks s)
-
--- tests that hold of each element
-pub all-true : {X : Type 0} (p : X → Bool) (xs : List X) (d : X) → ((i : ℕ) → i < length xs → p (get_or xs i d) ≡ true) → list_all p xs ≡ true
-all-true p [] d e = refl
-all-true p (x ∷ xs) d e = ap (λ b. b && list_all p xs) (e 0 (omega arith)) ∙ all-true p xs d (λ i h. e (suc i) (omega (arith, h)))
-
-pub all-false : {X : Type 0} (p : X → Bool) (xs : List X) (d : X) (i : ℕ) → i < length xs → p (get_or xs i d) ≡ false → list_all p xs ≡ false
-all-false p [] d i h e = absurd (omega arith)
-all-false p (x ∷ xs) d zero h e = ap (λ b. b && list_all p xs) e
-all-false p (x ∷ xs) d (suc i) h e = ap (λ b. p x && b) (all-false p xs d i (omega arith) e) ∙ and-false (p x)
-
-pub all-same : {X : Type 0} (p q : X → Bool) (xs : List X) (d : X) → ((i : ℕ) → i < length xs → p (get_or xs i d) ≡ q (get_or xs i d)) → list_all p xs ≡ list_all q xs
-all-same p q [] d e = refl
-all-same p q (x ∷ xs) d e = ap (λ b. b && list_all p xs) (e 0 (omega arith)) ∙ ap (λ b. q x && b) (all-same p q xs d (λ i h. e (suc i) (omega (arith, h))))
 
 -- a step depends on the states below n alone
 abbrev pub Respects : ((ℕ → Bool) → ℕ → Bool) → ℕ → Type 0
@@ -43,8 +29,8 @@ Respects step n = (p q : ℕ → Bool) → ((t : ℕ) → t < n → p t ≡ q t)
 
 pub must_respects : (m : Mdp) → IsMdp m → Respects (must_step m) (states_of m)
 must_respects m ok p q same s h =
-    all-same (λ (x : Choice). can_enter p x.row) (λ (x : Choice). can_enter q x.row) (choices_at m s) no_choice
-    (λ c k. (let row = ok.row s c h k in same-enters p q (row_at m s c) (states_of m) row.in_range same))
+    list_all-same (λ (x : Choice). can_enter p x.row) (λ (x : Choice). can_enter q x.row) (choices_at m s) no_choice
+    (λ c k. (let row = ok.row s c h k in enters-same p q (row_at m s c) (states_of m) row.in_range same))
 
 -- all states of rank at most k have their ranks, and the layer holds those of rank k + 1
 pub record IsMeeting (step : (ℕ → Bool) → ℕ → Bool) (first : ℕ → Bool) (n : ℕ) (ranks : List (Option ℕ)) (layer : List ℕ) (k : ℕ) : Type 0 where
@@ -55,7 +41,8 @@ pub record IsMeeting (step : (ℕ → Bool) → ℕ → Bool) (first : ℕ → B
   pub below : (s : ℕ) → is_among s layer ≡ true → s < n
   pub left : k + unranked ranks ≤ n
 
-seen_as : (ranks : List (Option ℕ)) (layer : List ℕ) (k : ℕ) (new : List (Option ℕ)) (given_now none_yet seen : List ℕ) → IsGiven ranks none_yet new given_now seen (k + 1) → none_yet ≡ [] → seen ≡ layer → IsGiven ranks [] new given_now layer (suc k)
+seen_as : (ranks : List (Option ℕ)) (layer : List ℕ) (k : ℕ) (new : List (Option ℕ)) (given_now none_yet seen : List ℕ)
+    → IsGiven ranks none_yet new given_now seen (k + 1) → none_yet ≡ [] → seen ≡ layer → IsGiven ranks [] new given_now layer (suc k)
 seen_as ranks layer k new given_now none_yet seen g e1 e2 =
     let e : k + 1 ≡ suc k = omega arith in
     subst (λ (j : ℕ). IsGiven ranks [] new given_now layer j) e
@@ -71,7 +58,7 @@ meeting step first n old none_yet ranks given_now list layer e1 e2 g at met belo
       count = l.count;
       at = λ j s low h. (let z : j ≡ 0 = omega (arith, low) in
           ap (λ i. at_most i (rank_at ranks s)) z
-          ∙ same-truth (at_most 0 (rank_at ranks s)) (first s)
+          ∙ same_truth (at_most 0 (rank_at ranks s)) (first s)
           (λ e. (let w = rank_of 0 (rank_at ranks s) e in elim (l.from s w.0 h w.1) [ inl y ↦ y.1 | inr y ↦ absurd (omega (arith, w.2, y.5)) ]))
           (λ e. at_most-some 0 0 (rank_at ranks s) (l.first_ranked s h e) (omega arith))
           ∙ ap (λ i. reached step first i s) (sym z));
@@ -82,7 +69,7 @@ meeting step first n old none_yet ranks given_now list layer e1 e2 g at met belo
     }
 
 low_given : (k j : ℕ) (b : Bool) (o : Option ℕ) → j < k → at_most j (given k b o) ≡ at_most j o
-low_given k j true None h = elim (case-bool (nat_le k j)) [ inl e ↦ absurd (let l = leb-true k j e in omega (arith, l, h)) | inr e ↦ e ]
+low_given k j true None h = elim (cases_Bool (nat_le k j)) [ inl e ↦ absurd (let l = leb-true k j e in omega (arith, l, h)) | inr e ↦ e ]
 low_given k j false None h = refl
 low_given k j b (Some r) h = refl
 
@@ -146,7 +133,7 @@ module _ (step : (ℕ → Bool) → ℕ → Bool) (first : ℕ → Bool) (n : �
         ∙ ap (λ b. b || step (is_ranked ranks) s) (ranked-is s h) ∙ ap (λ b. reached step first k s || b) (step-is s h)
 
     top_more : (s r : ℕ) → s < n → rank_at new s ≡ Some r → r ≤ suc k
-    top_more s r h e = elim (case-rank (rank_at ranks s)) [
+    top_more s r h e = elim (cases_rank (rank_at ranks s)) [
       | inl none ↦
           (let z = cond_some (is_among s layer) (suc k) r (rank_at new s) (g.at s (omega (arith, h, l.count)) ∙ ap (given (suc k) (is_among s layer)) none) e in omega (arith, z.0))
       | inr has ↦
@@ -166,7 +153,8 @@ module _ (step : (ℕ → Bool) → ℕ → Bool) (first : ℕ → Bool) (n : �
       count = g.count ∙ l.count;
       at = λ j s low h. elim (cases_lt k j) [
         | inl more ↦ (let e : j ≡ suc k = omega (arith, low, more) in rw e (at_more s h))
-        | inr less ↦ ap (at_most j) (new-is s h) ∙ low_given (suc k) j (is_none (rank_at ranks s) && step (is_ranked ranks) s) (rank_at ranks s) (omega (arith, less)) ∙ l.at j s (omega (arith, less)) h
+        | inr less ↦ ap (at_most j) (new-is s h) ∙ low_given (suc k) j (is_none (rank_at ranks s) && step (is_ranked ranks) s) (rank_at ranks s) (omega (arith, less))
+            ∙ l.at j s (omega (arith, less)) h
       ];
       top = top_more;
       met = met;
@@ -185,7 +173,8 @@ module _ (step : (ℕ → Bool) → ℕ → Bool) (first : ℕ → Bool) (n : �
     settles zero s h = let z : 0 + k ≡ k = omega arith in ap (λ i. reached step first i s) z
     settles (suc d) s h =
         let z : suc d + k ≡ suc (d + k) = omega arith in
-        ap (λ i. reached step first i s) z ∙ ap (λ b. b || step (reached step first (d + k)) s) (settles d s h) ∙ ap (λ b. reached step first k s || b) (respects (reached step first (d + k)) (reached step first k) (settles d) s h) ∙ closed s h
+        ap (λ i. reached step first i s) z ∙ ap (λ b. b || step (reached step first (d + k)) s) (settles d s h)
+        ∙ ap (λ b. reached step first k s || b) (respects (reached step first (d + k)) (reached step first k) (settles d) s h) ∙ closed s h
 
     later : (s j : ℕ) → s < n → k < j → reached step first j s ≡ reached step first k s
     later s j h more = let w : (d : ℕ) × (j ≡ d + k) = (j - k, omega (arith, more)) in ap (λ i. reached step first i s) w.1 ∙ settles w.0 s h
@@ -208,9 +197,11 @@ fewer_seen step first n respects ranks layer k l new given_now none_yet seen g e
 
 pub meeting_seen : (step : (ℕ → Bool) → ℕ → Bool) (first : ℕ → Bool) (n : ℕ) (respects : Respects step n) (ranks : List (Option ℕ)) (layer : List ℕ) (k : ℕ) → IsMeeting step first n ranks layer k
     → (new : List (Option ℕ)) (given_now none_yet seen : List ℕ) → IsGiven ranks none_yet new given_now seen (k + 1) → none_yet ≡ [] → seen ≡ layer → 0 < length layer
-    → (next : List ℕ) → ((s : ℕ) → s < n → is_among s next ≡ (is_none (rank_at new s) && step (is_ranked new) s)) → ((s : ℕ) → is_among s next ≡ true → s < n) → IsMeeting step first n new next (k + 1)
+    → (next : List ℕ) → ((s : ℕ) → s < n → is_among s next ≡ (is_none (rank_at new s) && step (is_ranked new) s)) → ((s : ℕ) → is_among s next ≡ true → s < n)
+    → IsMeeting step first n new next (k + 1)
 meeting_seen step first n respects ranks layer k l new given_now none_yet seen g e1 e2 some next met below =
-    let more : IsMeeting step first n new next (suc k) = meeting_more step first n respects ranks layer k l new given_now (seen_as ranks layer k new given_now none_yet seen g e1 e2) next met below some in
+    let more : IsMeeting step first n new next (suc k) = meeting_more step first n respects ranks layer k l new given_now
+    (seen_as ranks layer k new given_now none_yet seen g e1 e2) next met below some in
     let e : suc k ≡ k + 1 = omega arith in
     subst (λ (j : ℕ). IsMeeting step first n new next j) e more
 
@@ -219,25 +210,21 @@ pub step_below : (step : (ℕ → Bool) → ℕ → Bool) (first : ℕ → Bool)
     → (q : ℕ) × (r ≡ suc q) × (step (reached step first q) s ≡ true)
 unfolding reached
 step_below step first n ranks a s zero h e not_first = absurd (false≢true (sym not_first ∙ sym (a.least 0 s h) ∙ at_most-some 0 0 (rank_at ranks s) e (omega arith)))
-step_below step first n ranks a s (suc q) h e not_first = elim (case-bool (reached step first q s)) [
+step_below step first n ranks a s (suc q) h e not_first = elim (cases_Bool (reached step first q s)) [
   | inl before ↦
       (let w = rank_of q (rank_at ranks s) (a.least q s h ∙ before) in
       let k : suc q ≡ w.0 = some-same (suc q) w.0 (rank_at ranks s) e w.1 in absurd (omega (arith, k, w.2)))
   | inr new ↦ (q, refl, sym (ap (λ b. b || step (reached step first q) s) new) ∙ sym (a.least (suc q) s h) ∙ at_most-some (suc q) (suc q) (rank_at ranks s) e (omega arith))
 ]
 
-pub each-true : {X : Type 0} (p : X → Bool) (xs : List X) (d : X) → list_all p xs ≡ true → (i : ℕ) → i < length xs → p (get_or xs i d) ≡ true
-each-true p [] d e i h = absurd (omega arith)
-each-true p (x ∷ xs) d e zero h = and-left (p x) (list_all p xs) e
-each-true p (x ∷ xs) d e (suc i) h = each-true p xs d (and-right (p x) (list_all p xs) e) i (omega arith)
-
-pub all_fall : (m : Mdp) → IsMdp m → (target : List Bool) (ranks : List (Option ℕ)) → AreRanks (must_step m) (marked target) (states_of m) ranks → AllFall m target (map is_some ranks) (map plain_rank ranks)
+pub all_fall : (m : Mdp) → IsMdp m → (target : List Bool) (ranks : List (Option ℕ)) → AreRanks (must_step m) (marked target) (states_of m) ranks
+    → AllFall m target (map is_some ranks) (map plain_rank ranks)
 all_fall m ok target ranks a s c h e not_target k =
     let n = states_of m in
     let r = has_rank (rank_at ranks s) (sym (mark-is ranks s (omega (arith, h, a.count))) ∙ e) in
     let w = step_below (must_step m) (marked target) n ranks a s r.0 h r.1 not_target in
     let row = ok.row s c h k in
-    let enters = each-true (λ (x : Choice). can_enter (reached (must_step m) (marked target) w.0) x.row) (choices_at m s) no_choice w.2 c k in
+    let enters = list_all-at (λ (x : Choice). can_enter (reached (must_step m) (marked target) w.0) x.row) (choices_at m s) no_choice w.2 c k in
     let z = enters-at (reached (must_step m) (marked target) w.0) (row_at m s c) n row.in_range enters in
     let q = rank_of w.0 (rank_at ranks z.0) (a.least w.0 z.0 z.1 ∙ z.3) in
     sym (falls-is m ok ranks a.count s c h k) ∙ enters-by (λ t. is_before (plain_rank (rank_at ranks s)) (rank_at ranks t)) (row_at m s c) z.0 z.2

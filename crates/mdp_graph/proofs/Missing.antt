@@ -1,29 +1,20 @@
 -- States from which trees miss the goals with some chance: those with a number above 0 that falls, or stays the same at all successors.
-use Rattle.std.proofs.Common.{◌≡◌, ◌⊎◌, inl, inr, ℕ, zero, suc, ◌+◌, ◌<◌, ◌≤◌, Bool, true, false, cond, not, ◌||◌, ◌&&◌, ◌==◌, nat_lt, lt-ltb, ltb-true, eq-eqb, List, [], ◌∷◌, length, get_or, refl, sym, ap, ◌∙◌, subst, arith, pos}
+use Rattle.std.proofs.Common.{◌≡◌, ◌⊎◌, inl, inr, ℕ, zero, suc, ◌+◌, ◌<◌, ◌≤◌, Bool, true, false, cond, not, ◌||◌, ◌&&◌, ◌==◌, nat_lt, lt-ltb, ltb-true, eq-eqb, List}
+use Rattle.std.proofs.Common.{length, get_or, sym, ap, ◌∙◌, subst, arith}
 use Rattle.std.specs.List.{All, Any}
-use Rattle.std.proofs.lemmas.Bool.{false≢true, eqb-true}
+use Rattle.std.proofs.lemmas.Bool.{false≢true, eqb-true, cases_Bool}
 use Rattle.std.proofs.lemmas.List.Folds.{Any-from_list_any}
 use Rattle.std.proofs.lemmas.List.FromFn.{get_or-map-range_with_len, length-map-range_with_len}
-use Rattle.mdp_math.specs.Power.{pow_ℚ}
-use Rattle.mdp_math.specs.Rational.{ℚ, ◌+ℚ◌, ◌*ℚ◌, ◌-ℚ◌, ◌≤ℚ◌, ◌<ℚ◌}
-use Rattle.mdp_math.specs.Sum.{sum_of}
-use Rattle.mdp_math.proofs.Kernel.{Any-and, weigh-le_mass, weigh-below_mass, weigh-le_const}
-use Rattle.mdp_math.proofs.Laws.{rat_ring, den-pos}
-use Rattle.mdp_math.proofs.Linear.{linear, known}
-use Rattle.mdp_math.proofs.Order.{0ℚ, 1ℚ, ≤ℚ_refl, ≤ℚ_of_eq, ≤ℚ_of_lt, ≤ℚ_trans}
-use Rattle.mdp_math.proofs.Powers.{pow_ℚ-nonneg, pow_ℚ-pos, pow_ℚ-le_one, pow_ℚ-antitone, unit_fraction-le}
-use Rattle.mdp_math.proofs.Ring.{◌⊕◌, ⊖, lit, ring}
-use Rattle.mdp_math.proofs.Whole.{of_nat-nonneg}
+use Rattle.mdp_math.specs.Rational.{◌+ℚ◌, ◌≤ℚ◌}
+use Rattle.mdp_math.proofs.Order.{1ℚ}
 use Rattle.mdp_spec.specs.Bounds.{part}
 use Rattle.mdp_spec.specs.Hit.{hit}
 use Rattle.mdp_spec.specs.Mdp.{Entry, Choice, Mdp, no_choice, states_of, choices_at, row_at}
 use Rattle.mdp_spec.specs.Row.{IsMdp}
 use Rattle.mdp_spec.specs.Tree.{IsPolicy}
 use Rattle.mdp_spec.specs.Tree.{Tree, unfolded}
-use Rattle.mdp_spec.proofs.Above.{row_weigh, hit-le_by}
 use Rattle.mdp_spec.proofs.Keeping.{HasChoice, Follows, Keeps, keeps_of_Fits, keeps_unfolded}
-use Rattle.mdp_spec.proofs.Ranks.{smallest_prob}
-use Rattle.mdp_spec.proofs.Rows.{probs_nonneg}
+use Rattle.mdp_spec.proofs.Misses.{misses_by_ranks}
 use Rattle.mdp_graph.specs.Sets.{marked, can_enter, stays_in, some_choice}
 use Rattle.mdp_graph.specs.Layers.{reached, AreReached, AreLeastRanks}
 use Rattle.mdp_graph.specs.Choices.{AreLeast}
@@ -32,141 +23,38 @@ use Rattle.mdp_graph.specs.Sure.{inside_step}
 use Rattle.mdp_graph.specs.Rounds.{left_after, AreRounds}
 use Rattle.mdp_graph.specs.Avoid.{IsGreatestAvoiding, keeps}
 use Rattle.mdp_graph.specs.Laws.{TreesMiss, joined, JoinedMisses}
-use Rattle.mdp_graph.proofs.Certainty.{times_one}
-use Rattle.mdp_graph.proofs.Meeting.{each-true}
 use Rattle.mdp_graph.proofs.Reaching.{first-reached, step-reaches}
 use Rattle.mdp_graph.proofs.RoundLaws.{rounds_fall}
-use Rattle.mdp_graph.proofs.Settling.{stays-more}
-use Rattle.mdp_graph.proofs.Steps.{any-some, some-any, enters-at, enters-by}
-use Rattle.mdp_graph.proofs.Truths.{case-bool, and-left, and-right, both}
-
--- ---- the chance of missing that a round leaves: a power of a number that is at most each probability
-
-round_weight : ℚ → ℕ → ℚ
-round_weight e zero = 0ℚ
-round_weight e (suc r) = pow_ℚ e r
-
-weight-nonneg : (e : ℚ) (r : ℕ) → 0ℚ ≤ℚ e → 0ℚ ≤ℚ round_weight e r
-unfolding round_weight
-weight-nonneg e zero p = ≤ℚ_refl 0ℚ
-weight-nonneg e (suc r) p = pow_ℚ-nonneg e r p
-
-weight-at-most-one : (e : ℚ) (r : ℕ) → 0ℚ ≤ℚ e → e ≤ℚ 1ℚ → round_weight e r ≤ℚ 1ℚ
-unfolding round_weight
-weight-at-most-one e zero p l = of_nat-nonneg 1
-weight-at-most-one e (suc r) p l = pow_ℚ-le_one e r p l
-
-weight-pos : (e : ℚ) (r : ℕ) → 0ℚ <ℚ e → 0 < r → 0ℚ <ℚ round_weight e r
-unfolding round_weight
-weight-pos e zero p h = absurd (omega (arith, h))
-weight-pos e (suc r) p h = pow_ℚ-pos e r p
-
--- an earlier round weighs more
-weight-earlier : (e : ℚ) (q v : ℕ) → 0ℚ ≤ℚ e → e ≤ℚ 1ℚ → 0 < v → v < suc (suc q) → pow_ℚ e q ≤ℚ round_weight e v
-unfolding round_weight
-weight-earlier e q zero p l h k = absurd (omega (arith, h))
-weight-earlier e q (suc v) p l h k = pow_ℚ-antitone e v q p l (omega (arith, k))
-
-minus_zero : (x : ℚ) → x -ℚ 0ℚ ≡ x
-minus_zero = ring rat_ring 1 (λ x. x ⊕ ⊖ (lit (pos 0))) (λ x. x) refl
+use Rattle.mdp_math.proofs.Booleans.{and-left, and-right, and-both}
+use Rattle.mdp_graph.proofs.RowSets.{list_any-at, list_any-by, list_all-at, enters-at, enters-by, stays-more}
 
 -- Goals have the number 0. At another state with a number above 0 each choice that meets a rule has a successor of a smaller number above 0, or
--- all its successors have the same number.
-module _ (m : Mdp) (goals : List Bool) (ok : IsMdp m) (P : ℕ → ℕ → Type 0) (round : ℕ → ℕ) (zero_at : (s : ℕ) → s < states_of m → marked goals s ≡ true → round s ≡ 0)
-    (fall : (s c : ℕ) → s < states_of m → marked goals s ≡ false → P s c → 0 < round s → c < length (choices_at m s)
-    → (can_enter (λ t. nat_lt 0 (round t) && nat_lt (round t) (round s)) (row_at m s c) ≡ true) ⊎ (stays_in (λ t. round t == round s) (row_at m s c) ≡ true))
-    (e : ℚ) (positive : 0ℚ <ℚ e) (small : e ≤ℚ 1ℚ) (least : (s : ℕ) → s < states_of m → (c : ℕ) → c < length (choices_at m s) → All (λ y. e ≤ℚ y.prob) (row_at m s c)) where
-  nonneg : 0ℚ ≤ℚ e
-  nonneg = ≤ℚ_of_lt 0ℚ e positive
+-- all its successors have the same number. Such a state misses the goals with a chance that doesn't depend on the depth.
+module _ (m : Mdp) (goals : List Bool) (ok : IsMdp m) (P : ℕ → ℕ → Type 0) (number : ℕ → ℕ) (zero_at : (s : ℕ) → s < states_of m → marked goals s ≡ true → number s ≡ 0)
+    (fall : (s c : ℕ) → s < states_of m → marked goals s ≡ false → P s c → 0 < number s → c < length (choices_at m s)
+    → (can_enter (λ t. nat_lt 0 (number t) && nat_lt (number t) (number s)) (row_at m s c) ≡ true) ⊎ (stays_in (λ t. number t == number s) (row_at m s c) ≡ true)) where
+  no_goal : (s : ℕ) → s < states_of m → nat_lt 0 (number s) ≡ true → marked goals s ≡ false
+  no_goal s h above = elim (cases_Bool (marked goals s)) [
+    | inl is ↦ absurd (false≢true (sym (ap (λ k. nat_lt 0 k) (zero_at s h is)) ∙ above))
+    | inr not ↦ not
+  ]
 
-  value : ℕ → ℚ
-  value s = 1ℚ -ℚ round_weight e (round s)
+  at_choice : (s c : ℕ) → s < states_of m → nat_lt 0 (number s) ≡ true → P s c → c < length (choices_at m s)
+      → Any (λ y. (nat_lt 0 (number y.target) ≡ true) × (number y.target < number s)) (row_at m s c)
+      ⊎ All (λ y. (nat_lt 0 (number y.target) ≡ true) × (number y.target ≡ number s)) (row_at m s c)
+  at_choice s c h above p i = elim (fall s c h (no_goal s h above) p (ltb-true 0 (number s) above) i) [
+    | inl enters ↦
+        (let f = Any-from_list_any (λ (y : Entry). nat_lt 0 (number y.target) && nat_lt (number y.target) (number s)) (row_at m s c) enters in
+        let v : ℕ = number (Entry.target f.1) in
+        inl (f.0, f.1, f.2, f.3, (and-left (nat_lt 0 v) (nat_lt v (number s)) f.4, ltb-true v (number s) (and-right (nat_lt 0 v) (nat_lt v (number s)) f.4))))
+    | inr same ↦ inr (λ k d l.
+        (let e = eqb-true _ (number s) (list_all-at (λ (y : Entry). number y.target == number s) (row_at m s c) d same k l) in
+        (ap (λ v. nat_lt 0 v) e ∙ above, e)))
+  ]
 
-  value-nonneg : (s : ℕ) → 0ℚ ≤ℚ value s
-  unfolding value
-  value-nonneg s = linear 1 (λ w. lit (pos 0)) (λ w. lit (pos 1) ⊕ ⊖ w) (λ w. known w (lit (pos 1)) ∷ []) refl (round_weight e (round s)) (weight-at-most-one e (round s) nonneg small)
-
-  value-at-most-one : (s : ℕ) → value s ≤ℚ 1ℚ
-  unfolding value
-  value-at-most-one s = linear 1 (λ w. lit (pos 1) ⊕ ⊖ w) (λ w. lit (pos 1)) (λ w. known (lit (pos 0)) w ∷ []) refl (round_weight e (round s)) (weight-nonneg e (round s) nonneg)
-
-  at_goal : (s : ℕ) → s < states_of m → marked goals s ≡ true → 1ℚ ≤ℚ value s
-  unfolding value round_weight
-  at_goal s h g = subst (λ (r : ℕ). 1ℚ ≤ℚ 1ℚ -ℚ round_weight e r) (sym (zero_at s h g)) (≤ℚ_of_eq _ _ (sym (minus_zero 1ℚ)))
-
-  module _ (s c : ℕ) (h : s < states_of m) (i : c < length (choices_at m s)) where
-    total : sum_of (λ (y : Entry). y.prob) (row_at m s c) ≡ 1ℚ
-    total = (ok.row s c h i).distribution.total
-
-    probs : All (λ y. 0ℚ ≤ℚ y.prob) (row_at m s c)
-    probs = probs_nonneg (states_of m) (row_at m s c) (ok.row s c h i)
-
-    by_mass : row_weigh value (row_at m s c) ≤ℚ 1ℚ
-    by_mass = ≤ℚ_trans _ _ _ (weigh-le_mass (λ (y : Entry). y.target) (λ (y : Entry). y.prob) value (row_at m s c) probs value-at-most-one) (≤ℚ_of_eq _ _ total)
-
-    -- a successor of a smaller number
-    by_earlier : (q : ℕ) → round s ≡ suc (suc q) → Any (λ y. (nat_lt 0 (round y.target) && nat_lt (round y.target) (round s)) ≡ true) (row_at m s c) → row_weigh value (row_at m s c) ≤ℚ 1ℚ -ℚ pow_ℚ e (suc q)
-    unfolding value
-    by_earlier q is any =
-        let f = Any-and (λ (y : Entry). e ≤ℚ y.prob) (λ (y : Entry). (nat_lt 0 (round y.target) && nat_lt (round y.target) (round s)) ≡ true) (row_at m s c) (least s h c i) any in
-        let v : ℕ = round (Entry.target f.1) in
-        let above = ltb-true 0 v (and-left (nat_lt 0 v) (nat_lt v (round s)) f.4.1) in
-        let low = ltb-true v (round s) (and-right (nat_lt 0 v) (nat_lt v (round s)) f.4.1) in
-        let more = weight-earlier e q v nonneg small above (omega (arith, low, is)) in
-        let near : (1ℚ -ℚ round_weight e v) +ℚ pow_ℚ e q ≤ℚ 1ℚ = linear 2 (λ w p. (lit (pos 1) ⊕ ⊖ w) ⊕ p) (λ w p. lit (pos 1)) (λ w p. known p w ∷ []) refl (round_weight e v) (pow_ℚ e q) more in
-        let below = weigh-below_mass (λ (y : Entry). y.target) (λ (y : Entry). y.prob) value e (pow_ℚ e q) (row_at m s c) probs value-at-most-one (pow_ℚ-nonneg e q nonneg) (f.0, f.1, f.2, f.3, (f.4.0, near)) in
-        linear 3 (λ x p t. x) (λ x p t. lit (pos 1) ⊕ ⊖ p) (λ x p t. known (x ⊕ p) t ∷ known t (lit (pos 1)) ∷ []) refl
-        (row_weigh value (row_at m s c)) (pow_ℚ e (suc q)) (sum_of (λ (y : Entry). y.prob) (row_at m s c)) below (≤ℚ_of_eq _ _ total)
-
-    -- all successors of the same number
-    by_same : (r : ℕ) → round s ≡ r → stays_in (λ t. round t == round s) (row_at m s c) ≡ true → row_weigh value (row_at m s c) ≤ℚ 1ℚ -ℚ round_weight e r
-    unfolding value
-    by_same r is same =
-        ≤ℚ_trans _ _ _
-        (weigh-le_const (λ (y : Entry). y.target) (λ (y : Entry). y.prob) value (1ℚ -ℚ round_weight e r) (row_at m s c) probs
-        (λ k d l. ≤ℚ_of_eq _ _ (ap (λ (v : ℕ). 1ℚ -ℚ round_weight e v) (eqb-true _ (round s) (each-true (λ (y : Entry). round y.target == round s) (row_at m s c) d same k l) ∙ is))))
-        (≤ℚ_of_eq _ _ (ap (λ (t : ℚ). (1ℚ -ℚ round_weight e r) *ℚ t) total ∙ times_one (1ℚ -ℚ round_weight e r)))
-
-    at_round : (r : ℕ) → marked goals s ≡ false → P s c → round s ≡ r → row_weigh value (row_at m s c) ≤ℚ 1ℚ -ℚ round_weight e r
-    unfolding round_weight
-    at_round zero g p is = ≤ℚ_trans _ _ _ by_mass (≤ℚ_of_eq _ _ (sym (minus_zero 1ℚ)))
-    at_round (suc zero) g p is = elim (fall s c h g p (omega (arith, is)) i) [
-      | inl enters ↦
-          (let f = Any-from_list_any (λ (y : Entry). nat_lt 0 (round y.target) && nat_lt (round y.target) (round s)) (row_at m s c) enters in
-          let v : ℕ = round (Entry.target f.1) in
-          let above = ltb-true 0 v (and-left (nat_lt 0 v) (nat_lt v (round s)) f.4) in
-          let low = ltb-true v (round s) (and-right (nat_lt 0 v) (nat_lt v (round s)) f.4) in
-          absurd (omega (arith, above, low, is)))
-      | inr same ↦ by_same 1 is same
-    ]
-    at_round (suc (suc q)) g p is = elim (fall s c h g p (omega (arith, is)) i) [
-      | inl enters ↦ by_earlier q is (Any-from_list_any (λ (y : Entry). nat_lt 0 (round y.target) && nat_lt (round y.target) (round s)) (row_at m s c) enters)
-      | inr same ↦ by_same (suc (suc q)) is same
-    ]
-
-  at_choice : (s c : ℕ) → s < states_of m → marked goals s ≡ false → P s c → c < length (choices_at m s) → row_weigh value (row_at m s c) ≤ℚ value s
-  unfolding value
-  at_choice s c h g p i = at_round s c h i (round s) g p refl
-
-  below : (n u : ℕ) (t : Tree) (s : ℕ) → 1 ≤ u → s < states_of m → Keeps m P u n t s → hit m goals u n t s ≤ℚ 1ℚ -ℚ round_weight e (round s)
-  unfolding value
-  below n u t s hu h keeps = hit-le_by m goals u ok hu P value (λ v l. value-nonneg v) at_goal at_choice n t s h keeps
-
--- such a state misses the goals with a chance that doesn't depend on the depth
-pub misses : (m : Mdp) (goals : List Bool) (ok : IsMdp m) (P : ℕ → ℕ → Type 0) (round : ℕ → ℕ) → ((s : ℕ) → s < states_of m → marked goals s ≡ true → round s ≡ 0)
-    → ((s c : ℕ) → s < states_of m → marked goals s ≡ false → P s c → 0 < round s → c < length (choices_at m s)
-    → (can_enter (λ t. nat_lt 0 (round t) && nat_lt (round t) (round s)) (row_at m s c) ≡ true) ⊎ (stays_in (λ t. round t == round s) (row_at m s c) ≡ true))
-    → (s : ℕ) → s < states_of m → 0 < round s → (q : ℕ) × (1 ≤ q) × ((n u : ℕ) (t : Tree) → 1 ≤ u → Keeps m P u n t s → hit m goals u n t s +ℚ part q ≤ℚ 1ℚ)
-misses m goals ok P round zero_at fall s h out =
-    let small = smallest_prob m ok in
-    let w : ℚ = round_weight small.0 (round s) in
-    let positive = weight-pos small.0 (round s) small.1 out in (
-      w.den,
-      den-pos w,
-      λ n u t hu keeps.
-          linear 3 (λ x w p. x ⊕ p) (λ x w p. lit (pos 1)) (λ x w p. known x (lit (pos 1) ⊕ ⊖ w) ∷ known p w ∷ []) refl (hit m goals u n t s) w (part w.den)
-          (below m goals ok P round zero_at fall small.0 small.1 small.2 small.3 n u t s hu h keeps) (unit_fraction-le w positive),
-    )
+  pub misses : (s : ℕ) → s < states_of m → 0 < number s → (q : ℕ) × (1 ≤ q) × ((n u : ℕ) (t : Tree) → 1 ≤ u → Keeps m P u n t s → hit m goals u n t s +ℚ part q ≤ℚ 1ℚ)
+  misses s h above =
+      misses_by_ranks m goals ok P (λ v. nat_lt 0 (number v)) number (λ v l g. ap (λ k. nat_lt 0 k) (zero_at v l g)) at_choice s h (lt-ltb 0 (number s) above)
 
 -- ---- rounds_outside
 
@@ -175,7 +63,7 @@ goal_round m goals rounds a s h e =
     let r : ℕ = get_or rounds s 0 in
     let there = a.next r s h in
     let left : ((r == 0) || nat_lt (r + 1) r) ≡ true = there.1 (0, first-reached (inside_step m (left_after rounds r)) (marked goals) 0 s e) in
-    elim (case-bool (r == 0)) [
+    elim (cases_Bool (r == 0)) [
       | inl is ↦ eqb-true r 0 is
       | inr not ↦ (let low = ltb-true (r + 1) r (sym (ap (λ b. b || nat_lt (r + 1) r) not) ∙ left) in absurd (omega (arith, low)))
     ]
@@ -183,7 +71,7 @@ goal_round m goals rounds a s h e =
 pub trees_miss : TreesMiss
 trees_miss m goals rounds ok a s h out =
     let w = misses m goals ok (HasChoice m) (λ v. get_or rounds v 0) (goal_round m goals rounds a) (λ v c l g p above i. rounds_fall m goals rounds ok a v c l above i) s h out in
-    (w.0, w.1, λ n u t hu fits. w.2 n u t hu (keeps_of_Fits m u n t s fits))
+    (w.0, w.1, λ n u t strategy. w.2 n u t strategy.mixes (keeps_of_Fits m u n t s strategy.fits))
 
 -- ---- sure_all: the policy that goes to an avoiding state and stays there
 
@@ -192,25 +80,26 @@ reached-larger : (m : Mdp) (goals : List Bool) (ok : IsMdp m) (p q : ℕ → Boo
     → reached (may_step m goals) p k s ≡ true → reached (may_step m goals) q k s ≡ true
 unfolding reached
 reached-larger m goals ok p q larger zero s h e = larger s h e
-reached-larger m goals ok p q larger (suc k) s h e = elim (case-bool (reached (may_step m goals) p k s)) [
+reached-larger m goals ok p q larger (suc k) s h e = elim (cases_Bool (reached (may_step m goals) p k s)) [
   | inl before ↦ ap (λ b. b || may_step m goals (reached (may_step m goals) q k) s) (reached-larger m goals ok p q larger k s h before)
   | inr new ↦
       (let set = reached (may_step m goals) p k in
       let stepped : may_step m goals set s ≡ true = sym (ap (λ b. b || may_step m goals set s) new) ∙ e in
-      let w = any-some (λ (x : Choice). can_enter set x.row) (choices_at m s) no_choice (and-right (not (marked goals s)) (some_choice (can_enter set) m s) stepped) in
+      let w = list_any-at (λ (x : Choice). can_enter set x.row) (choices_at m s) no_choice (and-right (not (marked goals s)) (some_choice (can_enter set) m s) stepped) in
       let row = ok.row s w.0 h w.1 in
       let z = enters-at set (row_at m s w.0) (states_of m) row.in_range w.2 in
       let more = reached (may_step m goals) q k in
       step-reaches (may_step m goals) q k s
-      (both (not (marked goals s)) (some_choice (can_enter more) m s) (and-left (not (marked goals s)) (some_choice (can_enter set) m s) stepped)
-      (some-any (λ (x : Choice). can_enter more x.row) (choices_at m s) no_choice w.0 w.1 (enters-by more (row_at m s w.0) z.0 z.2 (reached-larger m goals ok p q larger k z.0 z.1 z.3)))))
+      (and-both (not (marked goals s)) (some_choice (can_enter more) m s) (and-left (not (marked goals s)) (some_choice (can_enter set) m s) stepped)
+      (list_any-by (λ (x : Choice). can_enter more x.row) (choices_at m s) no_choice w.0 w.1 (enters-by more (row_at m s w.0) z.0 z.2 (reached-larger m goals ok p q larger k z.0 z.1 z.3)))))
 ]
 
 -- a goal doesn't reach an avoiding state without passing a goal
-goal-reaches-none : (m : Mdp) (goals avoiding : List Bool) → IsGreatestAvoiding m goals avoiding → (k s : ℕ) → s < states_of m → marked goals s ≡ true → reached (may_step m goals) (marked avoiding) k s ≡ true → false ≡ true
+goal-reaches-none : (m : Mdp) (goals avoiding : List Bool) → IsGreatestAvoiding m goals avoiding → (k s : ℕ) → s < states_of m → marked goals s ≡ true
+    → reached (may_step m goals) (marked avoiding) k s ≡ true → false ≡ true
 unfolding reached
 goal-reaches-none m goals avoiding g zero s h e is = sym (g.avoiding.outside s h is) ∙ e
-goal-reaches-none m goals avoiding g (suc k) s h e is = elim (case-bool (reached (may_step m goals) (marked avoiding) k s)) [
+goal-reaches-none m goals avoiding g (suc k) s h e is = elim (cases_Bool (reached (may_step m goals) (marked avoiding) k s)) [
   | inl before ↦ goal-reaches-none m goals avoiding g k s h e before
   | inr new ↦
       (let set = reached (may_step m goals) (marked avoiding) k in
@@ -219,7 +108,8 @@ goal-reaches-none m goals avoiding g (suc k) s h e is = elim (case-bool (reached
 ]
 
 module _ (m : Mdp) (goals avoiding marks : List Bool) (keep ranks go : List ℕ) (ok : IsMdp m) (g : IsGreatestAvoiding m goals avoiding) (l : AreLeast m goals avoiding (keeps m avoiding) keep)
-    (a : AreReached (may_step m goals) (marked avoiding) (states_of m) marks) (r : AreLeastRanks (may_step m goals) (marked avoiding) (states_of m) marks ranks) (w : AreLeast m avoiding marks (falls m marks ranks) go) where
+    (a : AreReached (may_step m goals) (marked avoiding) (states_of m) marks) (r : AreLeastRanks (may_step m goals) (marked avoiding) (states_of m) marks ranks)
+    (w : AreLeast m avoiding marks (falls m marks ranks) go) where
   -- the rank and 1 at a marked state
   number : ℕ → ℕ
   number s = cond (marked marks s) (suc (get_or ranks s 0)) 0
@@ -242,7 +132,7 @@ module _ (m : Mdp) (goals avoiding marks : List Bool) (keep ranks go : List ℕ)
       number-marked s (avoiding-marked s h e) ∙ ap suc is
 
   goal-number : (s : ℕ) → s < states_of m → marked goals s ≡ true → number s ≡ 0
-  goal-number s h e = elim (case-bool (marked marks s)) [
+  goal-number s h e = elim (cases_Bool (marked marks s)) [
     | inl is ↦ (let there = a.marks_reached s h in let k = there.0 is in absurd (false≢true (goal-reaches-none m goals avoiding g k.0 s h e k.1)))
     | inr not ↦ number-other s not
   ]
@@ -251,7 +141,7 @@ module _ (m : Mdp) (goals avoiding marks : List Bool) (keep ranks go : List ℕ)
   policy-at s h = get_or-map-range_with_len (λ t. cond (marked avoiding t) (get_or keep t 0) (get_or go t 0)) 0 (states_of m) s s 0 h (omega arith)
 
   joined-in_range : (s : ℕ) → s < states_of m → get_or (joined m avoiding keep go) s 0 < length (choices_at m s)
-  joined-in_range s h = elim (case-bool (marked avoiding s)) [
+  joined-in_range s h = elim (cases_Bool (marked avoiding s)) [
     | inl is ↦ subst (λ (c : ℕ). c < length (choices_at m s)) (sym (policy-at s h ∙ ap (λ b. cond b (get_or keep s 0) (get_or go s 0)) is)) (l.in_range s h)
     | inr not ↦ subst (λ (c : ℕ). c < length (choices_at m s)) (sym (policy-at s h ∙ ap (λ b. cond b (get_or keep s 0) (get_or go s 0)) not)) (w.in_range s h)
   ]
@@ -267,12 +157,13 @@ module _ (m : Mdp) (goals avoiding marks : List Bool) (keep ranks go : List ℕ)
 
   number-falls : (s c : ℕ) → s < states_of m → marked goals s ≡ false → Follows (joined m avoiding keep go) s c → 0 < number s → c < length (choices_at m s)
       → (can_enter (λ t. nat_lt 0 (number t) && nat_lt (number t) (number s)) (row_at m s c) ≡ true) ⊎ (stays_in (λ t. number t == number s) (row_at m s c) ≡ true)
-  number-falls s c h not_goal p above i = elim (case-bool (marked avoiding s)) [
+  number-falls s c h not_goal p above i = elim (cases_Bool (marked avoiding s)) [
     | inl is ↦
         (let at : get_or keep s 0 ≡ c = sym (p ∙ policy-at s h ∙ ap (λ b. cond b (get_or keep s 0) (get_or go s 0)) is) in
-        let kept = subst (λ (d : ℕ). stays_in (marked avoiding) (row_at m s d) ≡ true) at (and-right (marked avoiding s) (stays_in (marked avoiding) (row_at m s (get_or keep s 0))) (l.passes s h is not_goal)) in
+        let kept = subst (λ (d : ℕ). stays_in (marked avoiding) (row_at m s d) ≡ true) at
+        (and-right (marked avoiding s) (stays_in (marked avoiding) (row_at m s (get_or keep s 0))) (l.passes s h is not_goal)) in
         inr (ap (λ n. stays_in (λ t. number t == n) (row_at m s c)) (avoiding-number s h is) ∙ stays-one (row_at m s c) (ok.row s c h i).in_range kept))
-    | inr not ↦ (elim (case-bool (marked marks s)) [
+    | inr not ↦ (elim (cases_Bool (marked marks s)) [
       | inr out ↦ absurd (omega (arith, above, number-other s out))
       | inl in_marks ↦
           (let at : get_or go s 0 ≡ c = sym (p ∙ policy-at s h ∙ ap (λ b. cond b (get_or keep s 0) (get_or go s 0)) not) in
@@ -283,7 +174,7 @@ module _ (m : Mdp) (goals avoiding marks : List Bool) (keep ranks go : List ℕ)
           let nz = number-marked z.0 z_marked in
           let ns = number-marked s in_marks in
           inl (enters-by (λ t. nat_lt 0 (number t) && nat_lt (number t) (number s)) (row_at m s c) z.0 z.2
-          (both (nat_lt 0 (number z.0)) (nat_lt (number z.0) (number s)) (lt-ltb 0 (number z.0) (omega (arith, nz))) (lt-ltb (number z.0) (number s) (omega (arith, nz, ns, low))))))
+          (and-both (nat_lt 0 (number z.0)) (nat_lt (number z.0) (number s)) (lt-ltb 0 (number z.0) (omega (arith, nz))) (lt-ltb (number z.0) (number s) (omega (arith, nz, ns, low))))))
     ])
   ]
 
@@ -296,11 +187,11 @@ pub joined_misses : JoinedMisses
 joined_misses m goals sure avoiding marks keep ranks go ok all g l a r w s h out =
     let first = all.0 in
     let there = a.marks_reached s h in
-    elim (case-bool (marked marks s)) [
+    elim (cases_Bool (marked marks s)) [
       | inl is ↦ joined-misses m goals avoiding marks keep ranks go ok g l a r w s h is
       | inr not ↦
           (let never = all.2.never s h in
-          absurd (false≢true (sym out ∙ never.1 (λ k. elim (case-bool (reached (may_step m goals) (marked first) k s)) [
+          absurd (false≢true (sym out ∙ never.1 (λ k. elim (cases_Bool (reached (may_step m goals) (marked first) k s)) [
             | inl is ↦ absurd (false≢true (sym not ∙ there.1 (k, reached-larger m goals ok (marked first) (marked avoiding) (λ t i e. g.greatest (marked first) all.1.avoiding t i e) k s h is)))
             | inr none ↦ none
           ]))))

@@ -1,19 +1,19 @@
 -- What a pass answers, from the ranks that were found.
-use Rattle.std.proofs.Common.{◌≡◌, inl, inr, ℕ, zero, suc, ◌<◌, Bool, true, false, ◌||◌, ◌&&◌, nat_lt, lt-ltb, le-ltb, List, [], ◌∷◌, length, map, get_or, refl, sym, ap, ◌∙◌, arith, Option, Some, None, is_some}
-use Rattle.std.specs.List.{All}
-use Rattle.std.proofs.lemmas.Bool.{false≢true}
+use Rattle.std.proofs.Common.{◌≡◌, inl, inr, ℕ, zero, suc, ◌<◌, Bool, true, false, ◌||◌, ◌&&◌, nat_lt, lt-ltb, le-ltb, List, length, map, get_or, refl, sym, ap, ◌∙◌}
+use Rattle.std.proofs.Common.{arith, Option, Some, None, is_some}
+use Rattle.std.proofs.lemmas.Bool.{false≢true, cases_Bool}
 use Rattle.std.proofs.lemmas.List.{get_or-map, length-map}
-use Rattle.mdp_spec.specs.Mdp.{Entry, Mdp, states_of, choices_at, row_at}
+use Rattle.mdp_spec.specs.Mdp.{Mdp, states_of, choices_at, row_at}
 use Rattle.mdp_spec.specs.Row.{IsMdp}
 use Rattle.mdp_graph.specs.Sets.{marked, can_enter, stays_in}
 use Rattle.mdp_graph.specs.Layers.{reached, rank_at, AreRanks, AreReached, AreLeastRanks}
-use Rattle.mdp_graph.specs.Choices.{plain_rank, is_before, may_fall, IsFirst, AreLeast}
+use Rattle.mdp_graph.specs.Choices.{plain_rank, is_before, may_fall, first_passing, AreLeast}
 use Rattle.mdp_graph.specs.Reach.{falls}
-use Rattle.mdp_graph.proofs.Falls.{case-any}
+use Rattle.mdp_graph.proofs.Falls.{IsFirst, case-any, firsts, firsts_count}
 use Rattle.mdp_graph.proofs.RankFacts.{some-same}
 use Rattle.mdp_graph.proofs.Reached.{rank_of, at_most-some}
-use Rattle.mdp_graph.proofs.Steps.{enters-at, enters-by}
-use Rattle.mdp_graph.proofs.Truths.{case-bool, and-false}
+use Rattle.mdp_math.proofs.Booleans.{and-false}
+use Rattle.mdp_graph.proofs.RowSets.{enters-at, enters-by, enters-same, enters-never}
 
 -- the marks and the plain ranks, state by state
 pub mark-is : (ranks : List (Option ℕ)) (s : ℕ) → s < length ranks → marked (map is_some ranks) s ≡ is_some (rank_at ranks s)
@@ -60,15 +60,6 @@ before-is : (r : ℕ) (o : Option ℕ) → is_before r o ≡ (is_some o && nat_l
 before-is r None = refl
 before-is r (Some q) = refl
 
-pub same-enters : (p q : ℕ → Bool) (row : List Entry) (n : ℕ) → All (λ x. x.target < n) row → ((t : ℕ) → t < n → p t ≡ q t) → can_enter p row ≡ can_enter q row
-same-enters p q [] n range same = refl
-same-enters p q (x ∷ row) n range same =
-    ap (λ b. b || can_enter p row) (same x.target (range 0 x (omega arith))) ∙ ap (λ b. q x.target || b) (same-enters p q row n (λ k d l. range (suc k) d (omega arith)) same)
-
-never-enters : (row : List Entry) (p : ℕ → Bool) → ((t : ℕ) → p t ≡ false) → can_enter p row ≡ false
-never-enters [] p none = refl
-never-enters (x ∷ row) p none = ap (λ b. b || can_enter p row) (none x.target) ∙ never-enters row p none
-
 before-zero : (o : Option ℕ) → is_before 0 o ≡ false
 before-zero None = refl
 before-zero (Some q) = le-ltb q 0 (omega arith)
@@ -78,19 +69,27 @@ pub falls-is : (m : Mdp) (ok : IsMdp m) (ranks : List (Option ℕ)) → length r
     → can_enter (λ t. is_before (plain_rank (rank_at ranks s)) (rank_at ranks t)) (row_at m s c) ≡ falls m (map is_some ranks) (map plain_rank ranks) s c
 falls-is m ok ranks count s c h k =
     let row = ok.row s c h k in
-    same-enters (λ t. is_before (plain_rank (rank_at ranks s)) (rank_at ranks t)) (λ t. marked (map is_some ranks) t && nat_lt (get_or (map plain_rank ranks) t 0) (get_or (map plain_rank ranks) s 0)) (row_at m s c) (states_of m) row.in_range
+    enters-same (λ t. is_before (plain_rank (rank_at ranks s)) (rank_at ranks t))
+    (λ t. marked (map is_some ranks) t && nat_lt (get_or (map plain_rank ranks) t 0) (get_or (map plain_rank ranks) s 0)) (row_at m s c) (states_of m) row.in_range
     (λ t l.
-    before-is (plain_rank (rank_at ranks s)) (rank_at ranks t) ∙ rw (mark-is ranks t (omega (arith, l, count)), plain-is ranks t (omega (arith, l, count)), plain-is ranks s (omega (arith, h, count))) refl)
+    before-is (plain_rank (rank_at ranks s)) (rank_at ranks t) ∙ rw (
+      mark-is ranks t (omega (arith, l, count)),
+      plain-is ranks t
+          (omega (arith, l, count)),
+      plain-is ranks s (omega (arith, h, count)),
+    ) refl)
 
 -- where each step is a choice that stays inside, the least choices are found by the ranks
 module _ (m : Mdp) (ok : IsMdp m) (inside targets : List Bool) (step : (ℕ → Bool) → ℕ → Bool) (ranks : List (Option ℕ)) (a : AreRanks step (marked targets) (states_of m) ranks)
-    (way : (set : ℕ → Bool) (s : ℕ) → s < states_of m → step set s ≡ true → (c : ℕ) × (c < length (choices_at m s)) × (stays_in (marked inside) (row_at m s c) ≡ true) × (can_enter set (row_at m s c) ≡ true))
+    (way : (set : ℕ → Bool) (s : ℕ) → s < states_of m → step set s ≡ true
+    → (c : ℕ) × (c < length (choices_at m s)) × (stays_in (marked inside) (row_at m s c) ≡ true) × (can_enter set (row_at m s c) ≡ true))
     (test : ℕ → ℕ → Bool) (same : (s c : ℕ) → s < states_of m → c < length (choices_at m s) → may_fall m inside ranks s c ≡ test s c) where
   here : (s : ℕ) → s < states_of m → s < length ranks
   here s h = omega (arith, a.count)
 
   -- a step from the ranks below q leads below q + 1
-  by-step : (s q : ℕ) → s < states_of m → rank_at ranks s ≡ Some (suc q) → step (reached step (marked targets) q) s ≡ true → (c : ℕ) × (c < length (choices_at m s)) × (may_fall m inside ranks s c ≡ true)
+  by-step : (s q : ℕ) → s < states_of m → rank_at ranks s ≡ Some (suc q) → step (reached step (marked targets) q) s ≡ true
+      → (c : ℕ) × (c < length (choices_at m s)) × (may_fall m inside ranks s c ≡ true)
   by-step s q h e stepped =
       let w = way (reached step (marked targets) q) s h stepped in
       let row = ok.row s w.0 h w.1 in
@@ -106,7 +105,7 @@ module _ (m : Mdp) (ok : IsMdp m) (inside targets : List Bool) (step : (ℕ → 
   some-falls : (s r : ℕ) → s < states_of m → rank_at ranks s ≡ Some r → marked targets s ≡ false → (c : ℕ) × (c < length (choices_at m s)) × (may_fall m inside ranks s c ≡ true)
   unfolding reached
   some-falls s zero h e not_target = absurd (false≢true (sym not_target ∙ sym (a.least 0 s h) ∙ at_most-some 0 0 (rank_at ranks s) e (omega arith)))
-  some-falls s (suc q) h e not_target = elim (case-bool (reached step (marked targets) q s)) [
+  some-falls s (suc q) h e not_target = elim (cases_Bool (reached step (marked targets) q s)) [
     | inl before ↦
         (let w = rank_of q (rank_at ranks s) (a.least q s h ∙ before) in
         let k : suc q ≡ w.0 = some-same (suc q) w.0 (rank_at ranks s) e w.1 in absurd (omega (arith, k, w.2)))
@@ -118,15 +117,18 @@ module _ (m : Mdp) (ok : IsMdp m) (inside targets : List Bool) (step : (ℕ → 
   -- a state of rank 0 has none
   none-falls : (s c : ℕ) → plain_rank (rank_at ranks s) ≡ 0 → may_fall m inside ranks s c ≡ false
   none-falls s c e =
-      ap (λ b. stays_in (marked inside) (row_at m s c) && b) (never-enters (row_at m s c) (λ t. is_before (plain_rank (rank_at ranks s)) (rank_at ranks t)) (λ t. ap (λ r. is_before r (rank_at ranks t)) e ∙ before-zero (rank_at ranks t)))
+      ap (λ b. stays_in (marked inside) (row_at m s c) && b) (enters-never (row_at m s c) (λ t. is_before (plain_rank (rank_at ranks s)) (rank_at ranks t))
+      (λ t. ap (λ r. is_before r (rank_at ranks t)) e ∙ before-zero (rank_at ranks t)))
       ∙ and-false (stays_in (marked inside) (row_at m s c))
 
   target-zero : (s : ℕ) → s < states_of m → marked targets s ≡ true → plain_rank (rank_at ranks s) ≡ 0
   unfolding reached
   target-zero s h e = let w = rank_of 0 (rank_at ranks s) (a.least 0 s h ∙ e) in ap plain_rank w.1 ∙ omega (arith, w.2)
 
-  pub least_choices : (choices : List ℕ) → length choices ≡ states_of m → ((s : ℕ) → s < states_of m → IsFirst (may_fall m inside ranks s) (length (choices_at m s)) (get_or choices s 0)) → AreLeast m targets (map is_some ranks) test choices
-  least_choices choices count first =
+  pub least_choices : (choices : List ℕ) → choices ≡ first_passing m (may_fall m inside ranks) → AreLeast m targets (map is_some ranks) test choices
+  least_choices choices is =
+      let count = firsts_count m (may_fall m inside ranks) choices is in
+      let first = firsts m (may_fall m inside ranks) choices is in
       let in_range : (s : ℕ) → s < states_of m → get_or choices s 0 < length (choices_at m s) = λ s h. elim (case-any (may_fall m inside ranks s) (length (choices_at m s))) [
         | inl w ↦ (let l = IsFirst.least (first s h) w.0 w.1 w.2 in omega (arith, l.1, w.1))
         | inr none ↦ (let z = IsFirst.none (first s h) none in let k = ok.choice s h in omega (arith, z, k))

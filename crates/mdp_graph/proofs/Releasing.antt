@@ -1,21 +1,21 @@
 -- Choices that stop waiting, one after the other.
-use Rattle.std.proofs.Common.{◌≡◌, ◌≢◌, inl, inr, ℕ, zero, suc, ◌+◌, ◌-◌, ◌<◌, Bool, true, false, ◌||◌, ◌&&◌, ◌==◌, not, cond, List, [], ◌∷◌, ◌++◌, length, map, take, get_or, set, refl, sym, ap, ◌∙◌, arith, eq-eqb, Option, is_none}
+use Rattle.std.proofs.Common.{◌≡◌, ◌≢◌, inl, inr, ℕ, zero, suc, ◌+◌, ◌-◌, ◌<◌, Bool, true, false, ◌||◌, ◌&&◌, ◌==◌, not, cond, List, [], ◌∷◌, ◌++◌, length, map, take}
+use Rattle.std.proofs.Common.{get_or, set, refl, sym, ap, ◌∙◌, arith, eq-eqb, Option, is_none}
 use Rattle.std.specs.List.{list_any, range_with_len}
-use Rattle.std.proofs.lemmas.Bool.{ne_eqb, false≢true}
+use Rattle.std.proofs.lemmas.Bool.{ne_eqb, false≢true, cases_eq}
 use Rattle.std.proofs.lemmas.List.{get_or-map, length-map, length-replicate, get_or-replicate, map-set, take_more, append-nil}
 use Rattle.std.proofs.lemmas.List.Folds.{sum_by-replicate, list_any-append}
 use Rattle.std.proofs.lemmas.List.FromFn.{length-map-range_with_len, get_or-map-range_with_len}
 use Rattle.std.proofs.lemmas.List.Sums.{sum_by-cons, sum_by-set}
 use Rattle.std.proofs.lemmas.Grind.{get_or-set_at, flat_map-append}
-use Rattle.mdp_spec.specs.Mdp.{Mdp, Entry, states_of, choices_at, row_at}
+use Rattle.mdp_spec.specs.Mdp.{Mdp, states_of, choices_at, row_at}
 use Rattle.mdp_rows.specs.Preds.{is_among, pair}
 use Rattle.mdp_rows.specs.declared.preds.Pred.{Pred}
-use Rattle.mdp_graph.specs.Sets.{can_enter}
 use Rattle.mdp_graph.specs.Layers.{rank_at}
 use Rattle.mdp_graph.specs.Waiting.{waits, some_waits, count_waiting, all_wait, AreWaiting, is_one_of, AreWithin, AreReleased, AreMet, leading_to}
-use Rattle.mdp_graph.proofs.Among.{case-eq, among-append}
-use Rattle.mdp_graph.proofs.Steps.{any-some, some-any}
-use Rattle.mdp_graph.proofs.Truths.{or-right, or-false, and-false, and-true, and-left, both, same-truth}
+use Rattle.mdp_graph.proofs.Among.{among-append}
+use Rattle.mdp_math.proofs.Booleans.{or-true, or-false, and-false, and-true, and-left, and-both, same_truth}
+use Rattle.mdp_graph.proofs.RowSets.{list_any-at, list_any-by, enters-never}
 
 -- ---- before the first release
 
@@ -27,21 +27,20 @@ counts_all m (x ∷ xs) =
     let here : n ≡ count_waiting (all_wait m x) = omega (arith, c) in
     ap (λ k. k ∷ map (λ s. length (choices_at m s)) xs) here ∙ ap (λ (rest : List ℕ). count_waiting (all_wait m x) ∷ rest) (counts_all m xs)
 
-pub all_counted : (m : Mdp) (counts : List ℕ) (lists : List (List Bool)) (n : ℕ) → counts ≡ map (λ s. length (choices_at m s)) (range_with_len 0 n) → lists ≡ map (all_wait m) (range_with_len 0 n) → counts ≡ map count_waiting lists
+pub all_counted : (m : Mdp) (counts : List ℕ) (lists : List (List Bool)) (n : ℕ) → counts ≡ map (λ s. length (choices_at m s)) (range_with_len 0 n)
+    → lists ≡ map (all_wait m) (range_with_len 0 n) → counts ≡ map count_waiting lists
 all_counted m counts lists n e f = e ∙ counts_all m (range_with_len 0 n) ∙ sym (ap (map count_waiting) f)
-
-pub none-enters : (row : List Entry) → can_enter (λ _. false) row ≡ false
-none-enters [] = refl
-none-enters (x ∷ row) = none-enters row
 
 pub all_waiting : (m : Mdp) (lists : List (List Bool)) → lists ≡ map (all_wait m) (range_with_len 0 (states_of m)) → AreWaiting m (λ _. false) lists
 all_waiting m lists e =
     let none : List Bool = [] in
-    let row : (s : ℕ) → s < states_of m → get_or lists s [] ≡ all_wait m s = λ s h. ap (λ (x : List (List Bool)). get_or x s []) e ∙ get_or-map-range_with_len (all_wait m) 0 (states_of m) s s none h (omega arith) in
+    let row : (s : ℕ) → s < states_of m → get_or lists s [] ≡ all_wait m s = λ s h. ap (λ (x : List (List Bool)). get_or x s []) e
+    ∙ get_or-map-range_with_len (all_wait m) 0 (states_of m) s s none h (omega arith) in
     record {
       count = ap length e ∙ length-map-range_with_len (all_wait m) 0 (states_of m);
       width = λ s h. ap length (row s h) ∙ length-replicate (length (choices_at m s)) true;
-      at = λ s c h k. ap (λ (x : List Bool). get_or x c false) (row s h) ∙ get_or-replicate (length (choices_at m s)) c true false k ∙ sym (ap not (none-enters (row_at m s c)));
+      at = λ s c h k. ap (λ (x : List Bool). get_or x c false) (row s h) ∙ get_or-replicate (length (choices_at m s)) c true false k
+          ∙ sym (ap not (enters-never (row_at m s c) (λ _. false) (λ t. refl)));
     }
 
 -- ---- one release
@@ -49,7 +48,7 @@ all_waiting m lists e =
 pub true-some : (row : List Bool) (c : ℕ) → get_or row c false ≡ true → list_any (λ b. b) row ≡ true
 true-some [] c e = absurd (false≢true e)
 true-some (b ∷ row) zero e = ap (λ x. x || list_any (λ b. b) row) e
-true-some (b ∷ row) (suc c) e = ap (λ x. b || x) (true-some row c e) ∙ or-right b
+true-some (b ∷ row) (suc c) e = ap (λ x. b || x) (true-some row c e) ∙ or-true b
 
 pub some-in-range : (lists : List (List Bool)) (s : ℕ) → some_waits lists s ≡ true → s < length lists
 some-in-range [] s e = absurd (false≢true e)
@@ -58,7 +57,7 @@ some-in-range (row ∷ lists) (suc s) e = let l = some-in-range lists s e in ome
 
 -- where each choice that waits in one list waits in another, some choice waits there too
 some-fewer : (row more : List Bool) → ((c : ℕ) → get_or row c false ≡ true → get_or more c false ≡ true) → list_any (λ b. b) row ≡ true → list_any (λ b. b) more ≡ true
-some-fewer row more f e = let w = any-some (λ (b : Bool). b) row false e in true-some more w.0 (f w.0 w.2)
+some-fewer row more f e = let w = list_any-at (λ (b : Bool). b) row false e in true-some more w.0 (f w.0 w.2)
 
 count-positive : (row : List Bool) (c : ℕ) → get_or row c false ≡ true → 0 < count_waiting row
 count-positive [] c e = absurd (false≢true e)
@@ -100,7 +99,8 @@ same-default (x ∷ xs) zero d e h = refl
 same-default (x ∷ xs) (suc i) d e h = same-default xs i d e (omega arith)
 
 -- row and count are those of state s as the code reads them, and choice c of s waits
-module _ (lists : List (List Bool)) (counts : List ℕ) (s c : ℕ) (seen row : List Bool) (count : ℕ) (counted : counts ≡ map count_waiting lists) (h : s < length lists) (seen_is : seen ≡ get_or lists s seen)
+module _ (lists : List (List Bool)) (counts : List ℕ) (s c : ℕ) (seen row : List Bool) (count : ℕ) (counted : counts ≡ map count_waiting lists)
+    (h : s < length lists) (seen_is : seen ≡ get_or lists s seen)
     (is : true ≡ get_or seen c false) (row_is : row ≡ get_or lists s row) (count_is : count ≡ get_or counts s count) where
   row-here : row ≡ get_or lists s []
   row-here = row_is ∙ same-default lists s row [] h
@@ -126,7 +126,8 @@ module _ (lists : List (List Bool)) (counts : List ℕ) (s c : ℕ) (seen row : 
   counted_less after e =
       ap (λ (x : List ℕ). set x s (count - 1)) counted ∙ ap (λ k. set (map count_waiting lists) s k) (less ∙ sym (ap count_waiting e)) ∙ sym (map-set count_waiting lists s after)
 
-  pub last_waited : (after : List Bool) → after ≡ set row c false → (left : ℕ) → left ≡ get_or (set counts s (count - 1)) s left → (old : List (List Bool)) → lists ≡ old → (left == 0) ≡ (some_waits old s && not (some_waits (set lists s after) s))
+  pub last_waited : (after : List Bool) → after ≡ set row c false → (left : ℕ) → left ≡ get_or (set counts s (count - 1)) s left
+      → (old : List (List Bool)) → lists ≡ old → (left == 0) ≡ (some_waits old s && not (some_waits (set lists s after) s))
   last_waited after e left f old v =
       let none : List Bool = [] in
       let some : some_waits old s ≡ true = ap (λ (x : List (List Bool)). some_waits x s) (sym v) ∙ ap (list_any (λ b. b)) (sym row-here) ∙ true-some row c row-waits in
@@ -182,7 +183,8 @@ met_both false true x false true f g = absurd (false≢true (g refl))
 met_both false true true false false f g = refl
 met_both false true false false false f g = refl
 
-pub met_more : (a b c : List (List Bool)) (xs ys zs : List Pred) (ranks : List (Option ℕ)) (al bl cl : List ℕ) → AreMet a b xs ranks al bl → AreMet b c ys ranks bl cl → zs ≡ xs ++ ys → AreMet a c zs ranks al cl
+pub met_more : (a b c : List (List Bool)) (xs ys zs : List Pred) (ranks : List (Option ℕ)) (al bl cl : List ℕ) → AreMet a b xs ranks al bl
+    → AreMet b c ys ranks bl cl → zs ≡ xs ++ ys → AreMet a c zs ranks al cl
 met_more a b c xs ys zs ranks al bl cl f g e = record {
   released = released_more a b c xs ys zs f.released g.released e;
   listed = λ s.
@@ -193,7 +195,7 @@ met_more a b c xs ys zs ranks al bl cl f g e = record {
 -- a release leaves the other states as they are
 other-waits : (old new : List (List Bool)) (x c s : ℕ) → AreReleased old new (pair x c ∷ []) → s ≢ x → some_waits new s ≡ some_waits old s
 other-waits old new x c s r other =
-    same-truth (some_waits new s) (some_waits old s) (waited-before old new (pair x c ∷ []) r s)
+    same_truth (some_waits new s) (some_waits old s) (waited-before old new (pair x c ∷ []) r s)
     (some-fewer (get_or old s []) (get_or new s []) (λ d w. r.at s d ∙ ap (λ b. waits old s d && not ((b && (c == d)) || false)) (ne_eqb x s (λ q. other (sym q))) ∙ no-pairs (waits old s d) ∙ w))
 
 none_left : (n w : Bool) → false ≡ (n && (w && not w))
@@ -202,12 +204,14 @@ none_left true false = refl
 none_left false w = refl
 
 -- the state of a released choice is added where it has no rank and this was the last choice that waited
-pub met_one : (old new : List (List Bool)) (x c : ℕ) (ranks : List (Option ℕ)) (list more : List ℕ) → AreReleased old new (pair x c ∷ []) → ((s : ℕ) → is_among s more ≡ (is_among s list || ((x == s) && (is_none (rank_at ranks x) && (some_waits old x && not (some_waits new x))))))
+pub met_one : (old new : List (List Bool)) (x c : ℕ) (ranks : List (Option ℕ)) (list more : List ℕ) → AreReleased old new (pair x c ∷ [])
+    → ((s : ℕ) → is_among s more ≡ (is_among s list || ((x == s) && (is_none (rank_at ranks x) && (some_waits old x && not (some_waits new x))))))
     → AreMet old new (pair x c ∷ []) ranks list more
 met_one old new x c ranks list more r added = record {
   released = r;
-  listed = λ s. added s ∙ ap (λ b. is_among s list || b) (elim (case-eq s x) [
-    | inl same ↦ ap (λ b. b && (is_none (rank_at ranks x) && (some_waits old x && not (some_waits new x)))) (eq-eqb x s (sym same)) ∙ ap (λ j. is_none (rank_at ranks j) && (some_waits old j && not (some_waits new j))) (sym same)
+  listed = λ s. added s ∙ ap (λ b. is_among s list || b) (elim (cases_eq s x) [
+    | inl same ↦ ap (λ b. b && (is_none (rank_at ranks x) && (some_waits old x && not (some_waits new x)))) (eq-eqb x s (sym same))
+        ∙ ap (λ j. is_none (rank_at ranks j) && (some_waits old j && not (some_waits new j))) (sym same)
     | inr other ↦
         ap (λ b. b && (is_none (rank_at ranks x) && (some_waits old x && not (some_waits new x)))) (ne_eqb x s (λ q. other (sym q))) ∙ none_left (is_none (rank_at ranks s)) (some_waits old s)
         ∙ ap (λ w. is_none (rank_at ranks s) && (some_waits old s && not w)) (sym (other-waits old new x c s r other))
@@ -215,12 +219,15 @@ met_one old new x c ranks list more r added = record {
 }
 
 -- with the answers of the code
-pub met_push : (old new : List (List Bool)) (x c : ℕ) (ranks : List (Option ℕ)) (list more : List ℕ) → AreReleased old new (pair x c ∷ []) → (some_waits old x && not (some_waits new x)) ≡ true → is_none (rank_at ranks x) ≡ true → more ≡ list ++ x ∷ []
+pub met_push : (old new : List (List Bool)) (x c : ℕ) (ranks : List (Option ℕ)) (list more : List ℕ) → AreReleased old new (pair x c ∷ [])
+    → (some_waits old x && not (some_waits new x)) ≡ true → is_none (rank_at ranks x) ≡ true → more ≡ list ++ x ∷ []
     → AreMet old new (pair x c ∷ []) ranks list more
 met_push old new x c ranks list more r last none e =
-    met_one old new x c ranks list more r (λ s. ap (is_among s) e ∙ among-append s list (x ∷ []) ∙ ap (λ b. is_among s list || b) (or-false (x == s) ∙ sym (ap (λ b. (x == s) && b) (both _ _ none last) ∙ and-true (x == s))))
+    met_one old new x c ranks list more r (λ s. ap (is_among s) e ∙ among-append s list (x ∷ [])
+    ∙ ap (λ b. is_among s list || b) (or-false (x == s) ∙ sym (ap (λ b. (x == s) && b) (and-both _ _ none last) ∙ and-true (x == s))))
 
-pub met_skip : (old new : List (List Bool)) (x c : ℕ) (ranks : List (Option ℕ)) (list : List ℕ) → AreReleased old new (pair x c ∷ []) → (is_none (rank_at ranks x) && (some_waits old x && not (some_waits new x))) ≡ false → AreMet old new (pair x c ∷ []) ranks list list
+pub met_skip : (old new : List (List Bool)) (x c : ℕ) (ranks : List (Option ℕ)) (list : List ℕ) → AreReleased old new (pair x c ∷ [])
+    → (is_none (rank_at ranks x) && (some_waits old x && not (some_waits new x))) ≡ false → AreMet old new (pair x c ∷ []) ranks list list
 met_skip old new x c ranks list r not_met =
     met_one old new x c ranks list list r (λ s. sym (ap (λ b. is_among s list || ((x == s) && b)) not_met ∙ ap (λ b. is_among s list || b) (and-false (x == s)) ∙ or-false (is_among s list)))
 
@@ -229,17 +236,22 @@ met_skip old new x c ranks list r not_met =
 pub within_now : (old now : List (List Bool)) (done pairs : List Pred) → AreReleased old now done → AreWithin old pairs → AreWithin now pairs
 within_now old now done pairs r w s c e = let l = w s c e in let k = r.width s in (omega (arith, l.0, r.count), omega (arith, l.1, k))
 
-pub within_at : (lists : List (List Bool)) (xs : List Pred) (i : ℕ) (d : Pred) → AreWithin lists xs → i < length xs → (Pred.state (get_or xs i d) < length lists) × (Pred.choice (get_or xs i d) < length (get_or lists (Pred.state (get_or xs i d)) []))
-within_at lists xs i d w h = w (Pred.state (get_or xs i d)) (Pred.choice (get_or xs i d)) (some-any (λ (p : Pred). (p.state == Pred.state (get_or xs i d)) && (p.choice == Pred.choice (get_or xs i d))) xs d i h (both _ _ (eq-eqb (Pred.state (get_or xs i d)) (Pred.state (get_or xs i d)) refl) (eq-eqb (Pred.choice (get_or xs i d)) (Pred.choice (get_or xs i d)) refl)))
+pub within_at : (lists : List (List Bool)) (xs : List Pred) (i : ℕ) (d : Pred) → AreWithin lists xs → i < length xs
+    → (Pred.state (get_or xs i d) < length lists) × (Pred.choice (get_or xs i d) < length (get_or lists (Pred.state (get_or xs i d)) []))
+within_at lists xs i d w h = w (Pred.state (get_or xs i d)) (Pred.choice (get_or xs i d))
+    (list_any-by (λ (p : Pred). (p.state == Pred.state (get_or xs i d)) && (p.choice == Pred.choice (get_or xs i d))) xs d i h
+    (and-both _ _ (eq-eqb (Pred.state (get_or xs i d)) (Pred.state (get_or xs i d)) refl) (eq-eqb (Pred.choice (get_or xs i d)) (Pred.choice (get_or xs i d)) refl)))
 
-pub within_part : (lists : List (List Bool)) (preds : List (List Pred)) (layer : List ℕ) (i : ℕ) → i < length layer → AreWithin lists (leading_to preds layer) → AreWithin lists (get_or preds (get_or layer i 0) [])
+pub within_part : (lists : List (List Bool)) (preds : List (List Pred)) (layer : List ℕ) (i : ℕ) → i < length layer → AreWithin lists (leading_to preds layer)
+    → AreWithin lists (get_or preds (get_or layer i 0) [])
 within_part lists preds [] i h w = λ s c e. absurd (omega arith)
 within_part lists preds (t ∷ layer) zero h w = λ s c e. w s c (one-of-append (get_or preds t []) (leading_to preds layer) s c ∙ ap (λ b. b || is_one_of (leading_to preds layer) s c) e)
 within_part lists preds (t ∷ layer) (suc i) h w =
     within_part lists preds layer i (omega arith)
-    (λ s c e. w s c (one-of-append (get_or preds t []) (leading_to preds layer) s c ∙ ap (λ b. is_one_of (get_or preds t []) s c || b) e ∙ or-right (is_one_of (get_or preds t []) s c)))
+    (λ s c e. w s c (one-of-append (get_or preds t []) (leading_to preds layer) s c ∙ ap (λ b. is_one_of (get_or preds t []) s c || b) e ∙ or-true (is_one_of (get_or preds t []) s c)))
 
-pub leading-more : (preds : List (List Pred)) (layer : List ℕ) (i : ℕ) → i < length layer → leading_to preds (take (i + 1) layer) ≡ leading_to preds (take i layer) ++ get_or preds (get_or layer i 0) []
+pub leading-more : (preds : List (List Pred)) (layer : List ℕ) (i : ℕ) → i < length layer
+    → leading_to preds (take (i + 1) layer) ≡ leading_to preds (take i layer) ++ get_or preds (get_or layer i 0) []
 leading-more preds layer i h =
     ap (leading_to preds) (take_more layer i 0 h) ∙ flat_map-append (λ t. get_or preds t []) (take i layer) (get_or layer i 0 ∷ [])
     ∙ ap (λ (x : List Pred). leading_to preds (take i layer) ++ x) (append-nil (get_or preds (get_or layer i 0) []))

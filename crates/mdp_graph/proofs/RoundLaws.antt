@@ -1,47 +1,35 @@
 -- The rounds at the states outside the greatest sure set.
-use Rattle.std.proofs.Common.{◌≡◌, ◌⊎◌, inl, inr, ℕ, suc, zero, ◌+◌, ◌<◌, ◌≤◌, Bool, true, false, ◌||◌, ◌&&◌, ◌==◌, nat_lt, lt-ltb, le-ltb, eq-eqb, List, [], ◌∷◌, length, get_or, refl, sym, ap, ◌∙◌, arith}
-use Rattle.std.specs.List.{All}
-use Rattle.std.proofs.lemmas.Bool.{false≢true, cases_lt, ne_eqb}
-use Rattle.mdp_spec.specs.Mdp.{Entry, Mdp, states_of, choices_at, row_at}
+use Rattle.std.proofs.Common.{◌≡◌, ◌⊎◌, inl, inr, ℕ, suc, zero, ◌+◌, ◌<◌, ◌≤◌, Bool, true, false, ◌||◌, ◌&&◌, ◌==◌, nat_lt, lt-ltb, le-ltb, eq-eqb, List, [], ◌∷◌, length}
+use Rattle.std.proofs.Common.{get_or, refl, sym, ap, ◌∙◌, arith}
+use Rattle.std.proofs.lemmas.Bool.{false≢true, cases_lt, ne_eqb, cases_Bool, cases_eq}
+use Rattle.mdp_spec.specs.Mdp.{Mdp, states_of, choices_at, row_at}
 use Rattle.mdp_spec.specs.Row.{IsMdp}
-use Rattle.mdp_rows.specs.Preds.{leads_to}
 use Rattle.mdp_graph.specs.Sets.{marked, can_enter, stays_in}
 use Rattle.mdp_graph.specs.Layers.{reached}
 use Rattle.mdp_graph.specs.Sure.{inside_step, IsSure}
 use Rattle.mdp_graph.specs.Rounds.{left_after, AreRounds}
 use Rattle.mdp_graph.specs.Laws.{earlier, RoundsFall, ZeroIsSure}
-use Rattle.mdp_graph.proofs.Among.{case-eq}
 use Rattle.mdp_graph.proofs.Reaching.{step-reaches}
-use Rattle.mdp_graph.proofs.Steps.{enters-by}
 use Rattle.mdp_graph.proofs.Settling.{choice-inside, reached-more}
-use Rattle.mdp_graph.proofs.Avoiding.{stays-outside}
 use Rattle.mdp_graph.proofs.Rounding.{left-top, stays-alike}
-use Rattle.mdp_graph.proofs.Truths.{case-bool, or-right, both, same-truth}
-
-pub stays-fails : (q : ℕ → Bool) (row : List Entry) (n : ℕ) → All (λ x. x.target < n) row → stays_in q row ≡ false → (t : ℕ) × (t < n) × (leads_to t row ≡ true) × (q t ≡ false)
-stays-fails q [] n range e = absurd (false≢true (sym e))
-stays-fails q (x ∷ row) n range e = elim (case-bool (q x.target)) [
-  | inl here ↦
-      (let w = stays-fails q row n (λ k d l. range (suc k) d (omega arith)) (sym (ap (λ b. b && stays_in q row) here) ∙ e) in
-      (w.0, w.1, ap (λ b. (x.target == w.0) || b) w.2 ∙ or-right (x.target == w.0), w.3))
-  | inr not_here ↦ (x.target, range 0 x (omega arith), ap (λ b. b || leads_to x.target row) (eq-eqb x.target x.target refl), not_here)
-]
+use Rattle.mdp_math.proofs.Booleans.{or-true, and-both, same_truth}
+use Rattle.mdp_graph.proofs.RowSets.{enters-by, stays-outside, stays-fails}
 
 -- a state that isn't earlier than one of round i + 1 was left after round i; where it has another round, also after round i + 1
 later-left : (i r : ℕ) → (nat_lt 0 r && nat_lt r (suc i)) ≡ false → ((r == 0) || nat_lt i r) ≡ true
 later-left i zero e = refl
 later-left i (suc r) e = elim (cases_lt (suc r) (suc i)) [
-  | inl l ↦ absurd (false≢true (sym e ∙ both (nat_lt 0 (suc r)) (nat_lt (suc r) (suc i)) (lt-ltb 0 (suc r) (omega arith)) (lt-ltb (suc r) (suc i) l)))
-  | inr g ↦ ap (λ b. (suc r == 0) || b) (lt-ltb i (suc r) (omega (arith, g))) ∙ or-right (suc r == 0)
+  | inl l ↦ absurd (false≢true (sym e ∙ and-both (nat_lt 0 (suc r)) (nat_lt (suc r) (suc i)) (lt-ltb 0 (suc r) (omega arith)) (lt-ltb (suc r) (suc i) l)))
+  | inr g ↦ ap (λ b. (suc r == 0) || b) (lt-ltb i (suc r) (omega (arith, g))) ∙ or-true (suc r == 0)
 ]
 
 other-left : (i r : ℕ) → (nat_lt 0 r && nat_lt r (suc i)) ≡ false → (r == suc i) ≡ false → ((r == 0) || nat_lt (i + 1) r) ≡ true
 other-left i zero e f = refl
 other-left i (suc r) e f = elim (cases_lt (suc r) (suc i)) [
-  | inl l ↦ absurd (false≢true (sym e ∙ both (nat_lt 0 (suc r)) (nat_lt (suc r) (suc i)) (lt-ltb 0 (suc r) (omega arith)) (lt-ltb (suc r) (suc i) l)))
-  | inr g ↦ (elim (case-eq (suc r) (suc i)) [
+  | inl l ↦ absurd (false≢true (sym e ∙ and-both (nat_lt 0 (suc r)) (nat_lt (suc r) (suc i)) (lt-ltb 0 (suc r) (omega arith)) (lt-ltb (suc r) (suc i) l)))
+  | inr g ↦ (elim (cases_eq (suc r) (suc i)) [
     | inl same ↦ absurd (false≢true (sym f ∙ eq-eqb (suc r) (suc i) same))
-    | inr other ↦ ap (λ b. (suc r == 0) || b) (lt-ltb (i + 1) (suc r) (omega (arith, g, other))) ∙ or-right (suc r == 0)
+    | inr other ↦ ap (λ b. (suc r == 0) || b) (lt-ltb (i + 1) (suc r) (omega (arith, g, other))) ∙ or-true (suc r == 0)
   ])
 ]
 
@@ -52,14 +40,15 @@ fall_at : (m : Mdp) (goals : List Bool) (rounds : List ℕ) → IsMdp m → AreR
     → (can_enter (earlier rounds s) (row_at m s c) ≡ true) ⊎ (stays_in (λ t. get_or rounds t 0 == get_or rounds s 0) (row_at m s c) ≡ true)
 fall_at m goals rounds ok a s c i h e k =
     let row = ok.row s c h k in
-    elim (case-bool (can_enter (earlier rounds s) (row_at m s c))) [
+    elim (cases_Bool (can_enter (earlier rounds s) (row_at m s c))) [
       | inl is ↦ inl is
-      | inr out ↦ (elim (case-bool (stays_in (λ t. get_or rounds t 0 == get_or rounds s 0) (row_at m s c))) [
+      | inr out ↦ (elim (cases_Bool (stays_in (λ t. get_or rounds t 0 == get_or rounds s 0) (row_at m s c))) [
         | inl all ↦ inr all
         | inr other ↦
             (let w = stays-fails (λ t. get_or rounds t 0 == get_or rounds s 0) (row_at m s c) (states_of m) row.in_range other in
-            let not_earlier : (t : ℕ) → earlier rounds s t ≡ false → (nat_lt 0 (get_or rounds t 0) && nat_lt (get_or rounds t 0) (suc i)) ≡ false = λ t f. ap (λ r. nat_lt 0 (get_or rounds t 0) && nat_lt (get_or rounds t 0) r) (sym e) ∙ f in
-            let here : earlier rounds s w.0 ≡ false = elim (case-bool (earlier rounds s w.0)) [
+            let not_earlier : (t : ℕ) → earlier rounds s t ≡ false → (nat_lt 0 (get_or rounds t 0) && nat_lt (get_or rounds t 0) (suc i)) ≡ false =
+            λ t f. ap (λ r. nat_lt 0 (get_or rounds t 0) && nat_lt (get_or rounds t 0) r) (sym e) ∙ f in
+            let here : earlier rounds s w.0 ≡ false = elim (cases_Bool (earlier rounds s w.0)) [
               | inl is ↦ absurd (false≢true (sym out ∙ enters-by (earlier rounds s) (row_at m s c) w.0 w.2 is))
               | inr not ↦ not
             ] in
@@ -92,10 +81,11 @@ greatest_round (r ∷ rounds) = let w = greatest_round rounds in (w.0 + r, top_r
 
 zero_left : (r : ℕ) → ((r == 0) || nat_lt 0 r) ≡ true
 zero_left zero = refl
-zero_left (suc r) = ap (λ b. (suc r == 0) || b) (lt-ltb 0 (suc r) (omega arith)) ∙ or-right (suc r == 0)
+zero_left (suc r) = ap (λ b. (suc r == 0) || b) (lt-ltb 0 (suc r) (omega arith)) ∙ or-true (suc r == 0)
 
 -- a sure set is left after each round
-sure_left : (m : Mdp) (goals : List Bool) (rounds : List ℕ) (marks : List Bool) → IsMdp m → AreRounds m goals rounds → IsSure m goals (marked marks) → (i s : ℕ) → s < states_of m → marked marks s ≡ true → left_after rounds i s ≡ true
+sure_left : (m : Mdp) (goals : List Bool) (rounds : List ℕ) (marks : List Bool) → IsMdp m → AreRounds m goals rounds → IsSure m goals (marked marks)
+    → (i s : ℕ) → s < states_of m → marked marks s ≡ true → left_after rounds i s ≡ true
 sure_left m goals rounds marks ok a v zero s h e = zero_left (get_or rounds s 0)
 sure_left m goals rounds marks ok a v (suc i) s h e =
     let w = v.reaches s h e in
@@ -121,6 +111,6 @@ zero_sure m goals rounds ok a =
 
 pub zero_is_sure : ZeroIsSure
 zero_is_sure m goals rounds marks ok a v s h =
-    same-truth (get_or rounds s 0 == 0) (marked marks s)
+    same_truth (get_or rounds s 0 == 0) (marked marks s)
     (λ e. v.greatest (λ t. get_or rounds t 0 == 0) (zero_sure m goals rounds ok a) s h e)
     (λ e. sym (left-top (get_or rounds s 0) (get_or rounds s 0) (omega arith)) ∙ sure_left m goals rounds marks ok a v.sure (get_or rounds s 0) s h e)

@@ -1,5 +1,6 @@
 -- The rounds, while states are removed.
-use Rattle.std.proofs.Common.{◌≡◌, inl, inr, ℕ, suc, zero, ◌+◌, ◌<◌, ◌≤◌, ◌↔◌, Bool, true, false, ◌||◌, ◌==◌, nat_lt, lt-ltb, le-ltb, eq-eqb, cond, List, length, map, get_or, replicate, refl, sym, ap, ◌∙◌, arith, Option, Some, None, is_some}
+use Rattle.std.proofs.Common.{◌≡◌, inl, inr, ℕ, suc, zero, ◌+◌, ◌<◌, ◌≤◌, ◌↔◌, Bool, true, false, ◌||◌, ◌==◌, nat_lt, lt-ltb, le-ltb, eq-eqb, cond, List, length, map}
+use Rattle.std.proofs.Common.{get_or, replicate, refl, sym, ap, ◌∙◌, arith, Option, Some, None, is_some}
 use Rattle.std.specs.List.{count_by}
 use Rattle.std.proofs.lemmas.Bool.{cases_lt, eqb-true, ne_eqb}
 use Rattle.std.proofs.lemmas.List.{get_or-replicate, length-replicate}
@@ -8,11 +9,11 @@ use Rattle.mdp_spec.specs.Row.{IsMdp}
 use Rattle.mdp_graph.specs.Sets.{marked}
 use Rattle.mdp_graph.specs.Layers.{rank_at}
 use Rattle.mdp_graph.specs.Rounds.{left_after, CanStay, AreRounds}
-use Rattle.mdp_graph.specs.Noted.{noted}
+use Rattle.mdp_graph.specs.Rounds.{noted}
 use Rattle.mdp_graph.proofs.Reached.{at_most-some}
 use Rattle.mdp_graph.proofs.Passes.{mark-is, has_rank}
 use Rattle.mdp_graph.proofs.Settling.{IsSettling, all_among, reached-more, rank-reached}
-use Rattle.mdp_graph.proofs.Truths.{or-right, or-false}
+use Rattle.mdp_math.proofs.Booleans.{or-true, or-false}
 
 -- the rounds of the first k states are noted
 pub record IsNoted (old new : List ℕ) (ranks : List (Option ℕ)) (round k : ℕ) : Type 0 where
@@ -21,7 +22,8 @@ pub record IsNoted (old new : List ℕ) (ranks : List (Option ℕ)) (round k : �
   pub rest : (s : ℕ) → k ≤ s → get_or new s 0 ≡ get_or old s 0
 
 -- whether a state can stay is whether it has a rank
-rank-stays : (m : Mdp) (goals inside : List Bool) (ranks : List (Option ℕ)) (left : ℕ) → IsSettling m goals inside ranks left → (s : ℕ) → s < states_of m → (is_some (rank_at ranks s) ≡ true) ↔ CanStay m goals (marked inside) s
+rank-stays : (m : Mdp) (goals inside : List Bool) (ranks : List (Option ℕ)) (left : ℕ) → IsSettling m goals inside ranks left → (s : ℕ)
+    → s < states_of m → (is_some (rank_at ranks s) ≡ true) ↔ CanStay m goals (marked inside) s
 rank-stays m goals inside ranks left f s h = (
   (λ e. (let w = has_rank (rank_at ranks s) e in (w.0, sym (f.by_rank.least w.0 s h) ∙ at_most-some w.0 w.0 (rank_at ranks s) w.1 (omega arith)))),
   (λ w. rank-reached m goals inside ranks f.by_rank s w.0 h w.1),
@@ -43,7 +45,8 @@ pub record IsRounding (m : Mdp) (goals inside : List Bool) (ranks : List (Option
 pub left-top : (r i : ℕ) → r ≤ i → ((r == 0) || nat_lt i r) ≡ (r == 0)
 left-top r i h = rw (le-ltb i r h) (or-false (r == 0))
 
-pub rounding : (m : Mdp) (goals inside : List Bool) (ranks : List (Option ℕ)) (n : ℕ) (rounds : List ℕ) → IsSettling m goals inside ranks n → n ≡ states_of m → inside ≡ replicate n true → rounds ≡ replicate n 0 → IsRounding m goals inside ranks n rounds 0
+pub rounding : (m : Mdp) (goals inside : List Bool) (ranks : List (Option ℕ)) (n : ℕ) (rounds : List ℕ) → IsSettling m goals inside ranks n
+    → n ≡ states_of m → inside ≡ replicate n true → rounds ≡ replicate n 0 → IsRounding m goals inside ranks n rounds 0
 rounding m goals inside ranks n rounds f en ei er =
     let zero_at : (s : ℕ) → s < states_of m → get_or rounds s 0 ≡ 0 = λ s h. ap (λ (x : List ℕ). get_or x s 0) er ∙ get_or-replicate n s 0 0 (omega (arith, en)) in
     record {
@@ -61,7 +64,7 @@ keeps k r = ap (λ b. cond b (k + 1) (suc r)) (ne_eqb (suc r) 0 (λ z. absurd (o
 
 noted-left : (k i : ℕ) (o : Option ℕ) (r : ℕ) → i ≤ k → r ≤ k → ((noted (k + 1) o r == 0) || nat_lt i (noted (k + 1) o r)) ≡ ((r == 0) || nat_lt i r)
 noted-left k i (Some q) r h t = refl
-noted-left k i None zero h t = ap (λ b. (k + 1 == 0) || b) (lt-ltb i (k + 1) (omega arith)) ∙ or-right (k + 1 == 0)
+noted-left k i None zero h t = ap (λ b. (k + 1 == 0) || b) (lt-ltb i (k + 1) (omega arith)) ∙ or-true (k + 1 == 0)
 noted-left k i None (suc r) h t = ap (λ x. (x == 0) || nat_lt i x) (keeps k r)
 
 noted-now : (k : ℕ) (o : Option ℕ) (r : ℕ) → (is_some o ≡ true → r ≡ 0) → is_some o ≡ (noted (k + 1) o r == 0)
@@ -85,7 +88,8 @@ rounding_more m goals inside ranks left rounds k fewer new count more f e g down
     let low : (s : ℕ) → s < n → is_some (rank_at ranks s) ≡ true → get_or rounds s 0 ≡ 0 = λ s h i. eqb-true (get_or rounds s 0) 0 (sym (f.now s h) ∙ f.settling.within s h i) in
     let now : (s : ℕ) → s < n → marked fewer s ≡ (get_or more s 0 == 0) = λ s h. mark s h ∙ noted-now k (rank_at ranks s) (get_or rounds s 0) (low s h) ∙ ap (λ r. r == 0) (sym (at s h)) in
     let top : (s : ℕ) → s < n → get_or more s 0 ≤ k + 1 = λ s h. (let t = noted-top k (rank_at ranks s) (get_or rounds s 0) (f.top s h) in let q = at s h in omega (arith, t, q)) in
-    let alike : (i s : ℕ) → i ≤ k → s < n → left_after more i s ≡ left_after rounds i s = λ i s l h. ap (λ r. (r == 0) || nat_lt i r) (at s h) ∙ noted-left k i (rank_at ranks s) (get_or rounds s 0) l (f.top s h) in
+    let alike : (i s : ℕ) → i ≤ k → s < n → left_after more i s ≡ left_after rounds i s = λ i s l h. ap (λ r. (r == 0) || nat_lt i r) (at s h)
+    ∙ noted-left k i (rank_at ranks s) (get_or rounds s 0) l (f.top s h) in
     let here : (s : ℕ) → s < n → left_after more k s ≡ marked inside s = λ s h. alike k s (omega arith) h ∙ left-top (get_or rounds s 0) k (f.top s h) ∙ sym (f.now s h) in
     let after : (s : ℕ) → s < n → left_after more (k + 1) s ≡ is_some (rank_at ranks s) = λ s h. left-top (get_or more s 0) (k + 1) (top s h) ∙ sym (now s h) ∙ mark s h in
     record {
@@ -110,7 +114,8 @@ rounding_more m goals inside ranks left rounds k fewer new count more f e g down
       small = (let l = f.small in omega (arith, l, down));
     }
 
-pub rounded : (m : Mdp) (goals inside : List Bool) (ranks : List (Option ℕ)) (left : ℕ) (rounds : List ℕ) (k : ℕ) → IsRounding m goals inside ranks left rounds k → left ≤ count_by is_some ranks → AreRounds m goals rounds
+pub rounded : (m : Mdp) (goals inside : List Bool) (ranks : List (Option ℕ)) (left : ℕ) (rounds : List ℕ) (k : ℕ) → IsRounding m goals inside ranks left rounds k
+    → left ≤ count_by is_some ranks → AreRounds m goals rounds
 rounded m goals inside ranks left rounds k f stop =
     let n = states_of m in
     let s0 = f.settling in

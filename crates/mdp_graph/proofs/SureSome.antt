@@ -1,11 +1,11 @@
 -- What sure_some answers, from the settled ranks.
-use Rattle.std.proofs.Common.{◌≡◌, ℕ, ◌<◌, Bool, true, ◌&&◌, List, length, map, get_or, sym, ap, subst, ◌∙◌, arith, Option, is_some}
+use Rattle.std.proofs.Common.{◌≡◌, ℕ, ◌<◌, Bool, true, ◌&&◌, List, map, sym, ap, ap₂, ◌∙◌, arith, Option, is_some}
 use Rattle.std.proofs.lemmas.List.{length-map}
-use Rattle.mdp_spec.specs.Mdp.{Mdp, states_of, choices_at, row_at}
+use Rattle.mdp_spec.specs.Mdp.{Mdp, states_of, row_at}
 use Rattle.mdp_spec.specs.Row.{IsMdp}
 use Rattle.mdp_graph.specs.Sets.{marked, stays_in}
 use Rattle.mdp_graph.specs.Layers.{reached, rank_at, AreLeastRanks}
-use Rattle.mdp_graph.specs.Choices.{plain_rank, may_fall, IsFirst, AreLeast}
+use Rattle.mdp_graph.specs.Choices.{plain_rank, may_fall, first_passing, AreLeast}
 use Rattle.mdp_graph.specs.Sure.{inside_step, IsGreatestSure, stays_and_falls}
 use Rattle.mdp_graph.specs.Settled.{IsSettled}
 use Rattle.mdp_graph.proofs.Reached.{rank_of, at_most-some}
@@ -33,10 +33,10 @@ module _ (m : Mdp) (goals : List Bool) (ranks : List (Option ℕ)) (f : IsSettle
   pub sure_ranks : AreLeastRanks (inside_step m (marked (map is_some ranks))) (marked goals) (states_of m) (map is_some ranks) (map plain_rank ranks)
   sure_ranks = least_ranks (inside_step m (marked (map is_some ranks))) (marked goals) (states_of m) ranks f.ranked
 
-  pub sure_choices : (ok : IsMdp m) (choices : List ℕ) (inside : List Bool) (seen : List (Option ℕ)) → inside ≡ map is_some ranks → seen ≡ ranks → length choices ≡ states_of m
-      → ((s : ℕ) → s < states_of m → IsFirst (may_fall m inside seen s) (length (choices_at m s)) (get_or choices s 0)) → AreLeast m goals (map is_some ranks) (stays_and_falls m (map is_some ranks) (map plain_rank ranks)) choices
-  sure_choices ok choices inside seen ei es count first =
+  pub sure_choices : (ok : IsMdp m) (choices : List ℕ) (inside : List Bool) (seen : List (Option ℕ)) → inside ≡ map is_some ranks → seen ≡ ranks
+      → choices ≡ first_passing m (may_fall m inside seen) → AreLeast m goals (map is_some ranks) (stays_and_falls m (map is_some ranks) (map plain_rank ranks)) choices
+  sure_choices ok choices inside seen ei es is =
       least_choices m ok (map is_some ranks) goals (inside_step m (marked (map is_some ranks))) ranks f.ranked (λ set s h e. inside-choice m (marked (map is_some ranks)) set s e)
-      (stays_and_falls m (map is_some ranks) (map plain_rank ranks)) (λ s c h k. ap (λ b. stays_in (marked (map is_some ranks)) (row_at m s c) && b) (falls-is m ok ranks f.ranked.count s c h k)) choices count
-      (λ s h. subst (λ (x : List Bool). IsFirst (may_fall m x ranks s) (length (choices_at m s)) (get_or choices s 0)) ei
-      (subst (λ (x : List (Option ℕ)). IsFirst (may_fall m inside x s) (length (choices_at m s)) (get_or choices s 0)) es (first s h)))
+      (stays_and_falls m (map is_some ranks) (map plain_rank ranks)) (λ s c h k. ap (λ b. stays_in (marked (map is_some ranks)) (row_at m s c) && b)
+      (falls-is m ok ranks f.ranked.count s c h k)) choices
+      (is ∙ ap₂ (λ (x : List Bool) (y : List (Option ℕ)). first_passing m (may_fall m x y)) ei es)

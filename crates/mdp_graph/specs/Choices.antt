@@ -1,5 +1,6 @@
 -- Choices that lead to smaller ranks.
-use Rattle.std.specs.Prelude.{◌≡◌, ℕ, ◌<◌, ◌≤◌, ◌⊎◌, Bool, true, false, ◌&&◌, nat_lt, List, length, Option, Some, None, slice_index}
+use Rattle.std.specs.Prelude.{◌≡◌, ℕ, ◌<◌, ◌≤◌, ◌⊎◌, Bool, true, false, ◌&&◌, nat_lt, List, length, map, Option, Some, None, slice_index}
+use Rattle.std.specs.List.{find, range_with_len}
 use Rattle.std.specs.Option.{unwrap_or}
 use Rattle.mdp_spec.specs.Mdp.{Mdp, states_of, choices_at, row_at}
 use Rattle.mdp_graph.specs.Sets.{marked, can_enter, stays_in}
@@ -19,9 +20,12 @@ abbrev pub may_fall : Mdp → List Bool → List (Option ℕ) → ℕ → ℕ �
 may_fall m inside ranks s c = stays_in (marked inside) (row_at m s c) && can_enter (λ t. is_before (plain_rank (rank_at ranks s)) (rank_at ranks t)) (row_at m s c)
 
 -- the first number below n that passes the test; 0 where none does
-pub record IsFirst (test : ℕ → Bool) (n c : ℕ) : Type 0 where
-  pub least : (d : ℕ) → d < n → test d ≡ true → (test c ≡ true) × (c ≤ d)
-  pub none : ((d : ℕ) → d < n → test d ≡ false) → c ≡ 0
+abbrev pub first_below : (ℕ → Bool) → ℕ → ℕ
+first_below test n = unwrap_or (find test (range_with_len 0 n)) 0
+
+-- for each state the first of its choices that passes the test
+abbrev pub first_passing : Mdp → (ℕ → ℕ → Bool) → List ℕ
+first_passing m test = map (λ s. first_below (test s) (length (choices_at m s))) (range_with_len 0 (states_of m))
 
 -- the choices of a pass: at each marked state that is no target the least that passes the test, 0 elsewhere
 pub record AreLeast (m : Mdp) (targets marks : List Bool) (test : ℕ → ℕ → Bool) (choices : List ℕ) : Type 0 where

@@ -6,8 +6,7 @@ use Rattle.mdp_spec.specs.Row.{IsMdp, AreRows}
 use Rattle.mdp_math.specs.Rational.{of_int, ◌+ℚ◌, ◌≤ℚ◌}
 use Rattle.mdp_spec.specs.Bounds.{part}
 use Rattle.mdp_spec.specs.Hit.{hit}
-use Rattle.mdp_spec.specs.Tree.{Tree, Fits, unfolded}
-use Rattle.mdp_spec.specs.Tree.{IsPolicy}
+use Rattle.mdp_spec.specs.Tree.{Tree, IsStrategy, IsPolicy, unfolded}
 use Rattle.mdp_graph.specs.Sets.{marked, can_enter, stays_in, some_choice}
 use Rattle.mdp_graph.specs.Layers.{reached, AreReached, AreLeastRanks}
 use Rattle.mdp_graph.specs.Choices.{AreLeast}
@@ -28,7 +27,8 @@ policy_step m policy set s = can_enter set (row_at m s (slice_index policy s))
 abbrev pub ChoicesReach : Type 0
 ChoicesReach =
     (m : Mdp) (targets blocked marks : List Bool) (ranks policy : List ℕ) → IsMdp m
-    → AreReached (may_step m blocked) (marked targets) (states_of m) marks → AreLeastRanks (may_step m blocked) (marked targets) (states_of m) marks ranks → AreLeast m targets marks (falls m marks ranks) policy
+    → AreReached (may_step m blocked) (marked targets) (states_of m) marks → AreLeastRanks (may_step m blocked) (marked targets) (states_of m) marks ranks
+    → AreLeast m targets marks (falls m marks ranks) policy
     → (s : ℕ) → s < states_of m → marked marks s ≡ true → reached (policy_step m policy) (marked targets) (slice_index ranks s) s ≡ true
 
 -- a state that is neither marked nor blocked has no choice that leads to a marked one
@@ -110,27 +110,30 @@ RoundsFall =
 -- the states of round 0 are those of the greatest sure set
 abbrev pub ZeroIsSure : Type 0
 ZeroIsSure =
-    (m : Mdp) (goals : List Bool) (rounds : List ℕ) (marks : List Bool) → IsMdp m → AreRounds m goals rounds → IsGreatestSure m goals marks → (s : ℕ) → s < states_of m → (slice_index rounds s == 0) ≡ marked marks s
+    (m : Mdp) (goals : List Bool) (rounds : List ℕ) (marks : List Bool) → IsMdp m → AreRounds m goals rounds → IsGreatestSure m goals marks
+    → (s : ℕ) → s < states_of m → (slice_index rounds s == 0) ≡ marked marks s
 
 -- under each policy with history and rational mixing a state outside misses the goals with some chance: there is a q so that each strategy
 -- tree, whatever its depth, meets a goal with at most 1 - 1/q
 abbrev pub TreesMiss : Type 0
 TreesMiss =
     (m : Mdp) (goals : List Bool) (rounds : List ℕ) → IsMdp m → AreRounds m goals rounds → (s : ℕ) → s < states_of m → 0 < slice_index rounds s
-    → (q : ℕ) × (1 ≤ q) × ((n u : ℕ) (t : Tree) → 1 ≤ u → Fits m u n t s → hit m goals u n t s +ℚ part q ≤ℚ of_int (pos 1))
+    → (q : ℕ) × (1 ≤ q) × ((n u : ℕ) (t : Tree) → IsStrategy m u n t s → hit m goals u n t s +ℚ part q ≤ℚ of_int (pos 1))
 
 -- ---- may_avoid
 
 -- the policy of an avoiding set meets no goal from a state of the set, after whatever number of steps
 abbrev pub PolicyAvoids : Type 0
 PolicyAvoids =
-    (m : Mdp) (goals marks : List Bool) (policy : List ℕ) → IsMdp m → IsGreatestAvoiding m goals marks → AreLeast m goals marks (keeps m marks) policy → (k s : ℕ) → s < states_of m → marked marks s ≡ true
+    (m : Mdp) (goals marks : List Bool) (policy : List ℕ) → IsMdp m → IsGreatestAvoiding m goals marks → AreLeast m goals marks (keeps m marks) policy
+    → (k s : ℕ) → s < states_of m → marked marks s ≡ true
     → reached (policy_step m policy) (marked goals) k s ≡ false
 
 -- so its probability of coming to a goal is 0, within whatever number of steps
 abbrev pub ChoicesMiss : Type 0
 ChoicesMiss =
-    (m : Mdp) (goals marks : List Bool) (policy : List ℕ) → IsMdp m → IsGreatestAvoiding m goals marks → AreLeast m goals marks (keeps m marks) policy → (n s : ℕ) → s < states_of m → marked marks s ≡ true
+    (m : Mdp) (goals marks : List Bool) (policy : List ℕ) → IsMdp m → IsGreatestAvoiding m goals marks → AreLeast m goals marks (keeps m marks) policy
+    → (n s : ℕ) → s < states_of m → marked marks s ≡ true
     → hit m goals 1 n (unfolded m policy n s) s ≡ of_int (pos 0)
 
 -- from any other state each policy can come to a goal after some number of steps
@@ -153,7 +156,7 @@ abbrev pub TreesArrive : Type 0
 TreesArrive =
     (m : Mdp) (goals marks : List Bool) (ranks : List ℕ) → IsMdp m → IsSureAll m goals marks → AreLeastRanks (must_step m) (marked goals) (states_of m) marks ranks
     → (s k : ℕ) → s < states_of m → marked marks s ≡ true → 1 ≤ k
-    → (n : ℕ) × ((d u : ℕ) (t : Tree) → n ≤ d → 1 ≤ u → Fits m u d t s → of_int (pos 1) ≤ℚ hit m goals u d t s +ℚ part k)
+    → (n : ℕ) × ((d u : ℕ) (t : Tree) → n ≤ d → IsStrategy m u d t s → of_int (pos 1) ≤ℚ hit m goals u d t s +ℚ part k)
 
 -- the choices of `may_avoid` at the avoiding states, and at the others those of `may_reach` to these states with the goals blocked
 abbrev pub joined : Mdp → List Bool → List ℕ → List ℕ → List ℕ
@@ -165,5 +168,6 @@ abbrev pub JoinedMisses : Type 0
 JoinedMisses =
     (m : Mdp) (goals sure avoiding marks : List Bool) (keep ranks go : List ℕ) → IsMdp m → IsSureAll m goals sure
     → IsGreatestAvoiding m goals avoiding → AreLeast m goals avoiding (keeps m avoiding) keep
-    → AreReached (may_step m goals) (marked avoiding) (states_of m) marks → AreLeastRanks (may_step m goals) (marked avoiding) (states_of m) marks ranks → AreLeast m avoiding marks (falls m marks ranks) go
+    → AreReached (may_step m goals) (marked avoiding) (states_of m) marks → AreLeastRanks (may_step m goals) (marked avoiding) (states_of m) marks ranks
+    → AreLeast m avoiding marks (falls m marks ranks) go
     → (s : ℕ) → s < states_of m → marked sure s ≡ false → (q : ℕ) × (1 ≤ q) × ((n : ℕ) → hit m goals 1 n (unfolded m (joined m avoiding keep go) n s) s +ℚ part q ≤ℚ of_int (pos 1))

@@ -8,7 +8,6 @@ pub mod Reach
 pub mod Sure
 pub mod Settled
 pub mod Rounds
-pub mod Noted
 pub mod Meet
 pub mod Waiting
 pub mod Avoid

@@ -29,6 +29,8 @@ fn drop_ranks(ranks: &mut Vec<Option<u32>>, marks: &Marks, states: u32)
 
 /// The states from which every policy reaches a goal with certainty: those that can't reach a state of `may_avoid` without passing a goal.
 /// The ranks are those of `must_meet`. Choices are 0.
+///
+/// Model checkers call this set Prob1A: each policy comes to a goal with probability 1 (de Alfaro 1997; Baier and Katoen 2008, section 10.6.1).
 pub fn sure_all(alloc: Global, model: &Model, goals: &Marks) -> Result<Pass, Memory>
     requires goals { length goals.now ≡ states_of model.now }
     ensures marks { IfOk result (λ pass. IsSureAll model.now goals.now pass.marks) }

@@ -1,57 +1,64 @@
 ghost use Rattle.std.specs.Prelude.{◌≡◌, ◌<◌, ◌&&◌, ℕ, length, map, is_none, slice_index, replicate, IfOk};
-ghost use Rattle.std.specs.List.{All, list_all};
+ghost use Rattle.std.specs.List.{All, list_all, find, range_with_len};
 ghost use Rattle.mdp_spec.specs.Mdp.{states_of, choices_at};
 ghost use Rattle.mdp_graph.specs.Sets.{marked};
-ghost use Rattle.mdp_graph.specs.Choices.{IsFirst, AreLeast};
+ghost use Rattle.mdp_graph.specs.Choices.{first_passing, AreLeast};
 ghost use Rattle.mdp_graph.specs.Avoid.{IsGreatestAvoiding, keeps};
 
-use crate::edges::all_marked;
 use crate::meet::meeting_ranks;
 use crate::pass::{Pass, zeros};
+use crate::predecessors::all_marked;
 use mdp_num::Memory;
 use mdp_rows::{Marks, Model};
 use std::alloc::{AllocError, Global};
+
+/// Whether each state has no rank.
+fn lack_rank(alloc: Global, ranks: &[Option<u32>]) -> Result<Vec<bool>, AllocError>
+    ensures { IfOk result (λ lack. lack.items ≡ map is_none ranks.now) }
+{
+    ranks.iter().map(|rank| rank.is_none()).collect(alloc)
+}
 
 /// The states that have no rank.
 pub(crate) fn marks_without(alloc: Global, ranks: &[Option<u32>]) -> Result<Marks, AllocError>
     ensures { IfOk result (λ marks. marks ≡ map is_none ranks.now) }
 {
-    let mut marks = Vec::with_capacity(alloc, ranks.len())?;
-    for rank in ranks {
-        marks.push(rank.is_none())?;
-    }
-    Ok(Marks::from_values(marks))
+    Ok(Marks::from_values(lack_rank(alloc, ranks)?))
 }
 
-/// The least choice of state `s` that keeps all successors marked; 0 where the state isn't marked or has none.
-fn keeping_choice(model: &Model, marks: &Marks, s: u32) -> u32
+/// Whether state `s` is marked and its choice `c` keeps all successors marked.
+fn keeps_marked(model: &Model, marks: &Marks, s: u32, c: u32) -> bool
+    requires state { s < states_of model.now }
+    requires choice { c < length (choices_at model.now s) }
+    requires marks { length marks.now ≡ states_of model.now }
+    ensures { result ≡ keeps model.now marks.now s c }
+{
+    marks.at(s) && all_marked(model.row(s, c).targets, marks)
+}
+
+/// The least choice of state `s` that keeps all successors marked, if the state is marked and has one.
+fn keeping_choice(model: &Model, marks: &Marks, s: u32) -> Option<u32>
     requires state { s < states_of model.now }
     requires marks { length marks.now ≡ states_of model.now }
-    ensures { IsFirst (keeps model.now marks.now s) (length (choices_at model.now s)) result }
+    ensures { result ≡ find (keeps model.now marks.now s) (range_with_len 0 (length (choices_at model.now s))) }
 {
-    for c in 0..model.choices(s) {
-        if marks.at(s) && all_marked(model.row(s, c).targets, marks) {
-            return c;
-        }
-    }
-    0
+    (0..model.choices(s)).find(|c| keeps_marked(model, marks, s, *c))
 }
 
-/// The least such choice of each state.
+/// The least such choice of each state; 0 where there is none.
 fn keeping_choices(alloc: Global, model: &Model, marks: &Marks) -> Result<Vec<u32>, AllocError>
     requires marks { length marks.now ≡ states_of model.now }
-    ensures count { IfOk result (λ choices. length choices.items ≡ states_of model.now) }
-    ensures first { IfOk result (λ choices. (s : ℕ) → s < states_of model.now → IsFirst (keeps model.now marks.now s) (length (choices_at model.now s)) (slice_index choices.items s)) }
+    ensures { IfOk result (λ choices. choices.items ≡ first_passing model.now (keeps model.now marks.now)) }
 {
-    let mut choices = Vec::with_capacity(alloc, model.states() as usize)?;
-    for s in 0..model.states() {
-        choices.push(keeping_choice(model, marks, s))?;
-    }
-    Ok(choices)
+    (0..model.states())
+        .map(|s| keeping_choice(model, marks, s).unwrap_or(0))
+        .collect(alloc)
 }
 
 /// The states from which some policy never meets a goal: the greatest set of states that aren't goals in which each has a choice whose
 /// successors all are in the set. The choice is the least such one. Ranks are 0.
+///
+/// Model checkers call this set Prob0E: some policy comes to a goal with probability 0 (de Alfaro 1997; Baier and Katoen 2008, section 10.6.1).
 pub fn may_avoid(alloc: Global, model: &Model, goals: &Marks) -> Result<Pass, Memory>
     requires goals { length goals.now ≡ states_of model.now }
     ensures marks { IfOk result (λ pass. IsGreatestAvoiding model.now goals.now pass.marks) }

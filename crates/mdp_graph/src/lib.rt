@@ -3,10 +3,10 @@
 
 mod always;
 mod avoid;
-mod edges;
 mod laws;
 mod meet;
 mod pass;
+mod predecessors;
 mod ranking;
 mod reach;
 mod rounds;

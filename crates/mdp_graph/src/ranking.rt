@@ -2,10 +2,10 @@ ghost use Rattle.std.specs.Prelude.{◌≡◌, ◌<◌, ◌+◌, ℕ, true, [], 
 ghost use Rattle.std.specs.List.{All};
 ghost use Rattle.mdp_rows.specs.Preds.{is_among};
 ghost use Rattle.mdp_graph.specs.Sets.{marked};
-ghost use Rattle.mdp_graph.specs.Edges.{AreEdges, entering};
+ghost use Rattle.mdp_graph.specs.Edges.{AreEdges, predecessors_of};
 ghost use Rattle.mdp_graph.specs.Ranking.{AreRankedBy, IsGiven};
 
-use crate::edges::Edges;
+use crate::predecessors::Predecessors;
 use mdp_rows::Marks;
 use std::alloc::{AllocError, Global};
 
@@ -31,18 +31,18 @@ pub(crate) fn give_rank(
 /// Gives `rank` to those states without a rank that have an edge to a state of `layer`. Answers these states.
 fn next_layer(
     alloc: Global,
-    edges: &Edges,
+    preds: &Predecessors,
     ranks: &mut Vec<Option<u32>>,
     layer: &[u32],
     rank: u32,
 ) -> Result<Vec<u32>, AllocError>
-    requires edges { AreEdges (length ranks.old.items) edges.now }
+    requires edges { AreEdges (length ranks.old.items) preds.now }
     requires in_range { All (λ t. t < length ranks.old.items) layer.now }
-    ensures { IfOk result (λ next. IsGiven ranks.old.items [] ranks.new.items next.items (entering edges.now layer.now) rank) }
+    ensures { IfOk result (λ next. IsGiven ranks.old.items [] ranks.new.items next.items (predecessors_of preds.now layer.now) rank) }
 {
     let mut next = Vec::new(alloc);
     for t in layer {
-        give_rank(ranks, &mut next, edges.to(*t), rank)?;
+        give_rank(ranks, &mut next, preds.of(*t), rank)?;
     }
     Ok(next)
 }
@@ -70,23 +70,19 @@ pub(crate) fn marked_states(
 pub(crate) fn no_ranks(alloc: Global, states: u32) -> Result<Vec<Option<u32>>, AllocError>
     ensures { IfOk result (λ ranks. ranks.items ≡ replicate states None) }
 {
-    let mut ranks = Vec::with_capacity(alloc, states as usize)?;
-    for _ in 0..states {
-        ranks.push(None)?;
-    }
-    Ok(ranks)
+    vec![in alloc; None; states as usize]
 }
 
 /// The least ranks by which states reach the marked ones along edges; none where they don't.
 pub(crate) fn ranks_by(
     alloc: Global,
-    edges: &Edges,
+    preds: &Predecessors,
     first: &Marks,
     states: u32,
 ) -> Result<Vec<Option<u32>>, AllocError>
-    requires edges { AreEdges states edges.now }
+    requires edges { AreEdges states preds.now }
     requires first { length first.now ≡ states }
-    ensures { IfOk result (λ ranks. AreRankedBy edges.now (marked first.now) states ranks.items) }
+    ensures { IfOk result (λ ranks. AreRankedBy preds.now (marked first.now) states ranks.items) }
 {
     let mut ranks = no_ranks(alloc, states)?;
     let mut layer = Vec::new(alloc);
@@ -99,7 +95,7 @@ pub(crate) fn ranks_by(
     let mut rank = 0;
     while !layer.is_empty() {
         rank += 1;
-        layer = next_layer(alloc, edges, &mut ranks, &layer, rank)?;
+        layer = next_layer(alloc, preds, &mut ranks, &layer, rank)?;
     }
     Ok(ranks)
 }

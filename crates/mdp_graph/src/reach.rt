@@ -5,8 +5,8 @@ ghost use Rattle.mdp_graph.specs.Layers.{AreReached, AreLeastRanks};
 ghost use Rattle.mdp_graph.specs.Choices.{AreLeast};
 ghost use Rattle.mdp_graph.specs.Reach.{may_step, row_step, falls};
 
-use crate::edges::Edges;
 use crate::pass::{Pass, least_choices, marks_by, plain_ranks, zeros};
+use crate::predecessors::Predecessors;
 use crate::ranking::ranks_by;
 use mdp_num::Memory;
 use mdp_rows::{Marks, Model, RowsOf};
@@ -35,8 +35,8 @@ pub fn may_reach(
 {
     model.known();
     let inside = all_true(alloc, model.states())?;
-    let edges = Edges::of_model(alloc, model, &inside, blocked)?;
-    let ranks = ranks_by(alloc, &edges, target, model.states())?;
+    let preds = Predecessors::of_model(alloc, model, &inside, blocked)?;
+    let ranks = ranks_by(alloc, &preds, target, model.states())?;
     Ok(Pass {
         marks: marks_by(alloc, &ranks)?,
         ranks: plain_ranks(alloc, &ranks)?,
@@ -52,8 +52,8 @@ pub fn along<R: RowsOf>(alloc: Global, rows: &R, target: &Marks) -> Result<Pass,
     ensures choices { IfOk result (λ pass. pass.choices.items ≡ replicate (length (R.rows rows.now)) 0) }
 {
     rows.known();
-    let edges = Edges::of_rows(alloc, rows)?;
-    let ranks = ranks_by(alloc, &edges, target, rows.count())?;
+    let preds = Predecessors::of_rows(alloc, rows)?;
+    let ranks = ranks_by(alloc, &preds, target, rows.count())?;
     Ok(Pass {
         marks: marks_by(alloc, &ranks)?,
         ranks: plain_ranks(alloc, &ranks)?,

@@ -1,7 +1,7 @@
 ghost use Rattle.std.specs.Prelude.{◌≡◌, ◌<◌, ℕ, length, slice_index, IfOk};
 ghost use Rattle.mdp_spec.specs.Mdp.{states_of};
 ghost use Rattle.mdp_graph.specs.Layers.{rank_at};
-ghost use Rattle.mdp_graph.specs.Noted.{noted};
+ghost use Rattle.mdp_graph.specs.Rounds.{noted};
 ghost use Rattle.mdp_graph.specs.Rounds.{AreRounds};
 
 use crate::pass::{marks_by, zeros};

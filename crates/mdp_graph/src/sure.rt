@@ -7,8 +7,8 @@ ghost use Rattle.mdp_graph.specs.Choices.{AreLeast};
 ghost use Rattle.mdp_graph.specs.Sure.{inside_step, IsGreatestSure, stays_and_falls};
 ghost use Rattle.mdp_graph.specs.Settled.{IsSettled};
 
-use crate::edges::Edges;
 use crate::pass::{Pass, least_choices, marks_by, plain_ranks};
+use crate::predecessors::Predecessors;
 use crate::ranking::ranks_by;
 use crate::reach::all_true;
 use mdp_num::Memory;
@@ -28,21 +28,15 @@ pub(crate) fn ranks_inside(
 {
     model.known();
     let none = Marks::empty(alloc, model.states())?;
-    let edges = Edges::of_model(alloc, model, inside, &none)?;
-    Ok(ranks_by(alloc, &edges, goals, model.states())?)
+    let preds = Predecessors::of_model(alloc, model, inside, &none)?;
+    Ok(ranks_by(alloc, &preds, goals, model.states())?)
 }
 
 /// How many states have a rank.
 pub(crate) fn count_ranked(ranks: &[Option<u32>]) -> usize
     ensures { result ≡ count_by is_some ranks.now }
 {
-    let mut count = 0;
-    for rank in ranks {
-        if rank.is_some() {
-            count += 1;
-        }
-    }
-    count
+    ranks.iter().filter(|rank| rank.is_some()).count()
 }
 
 /// The ranks inside the greatest sure set. Each round takes away the states that don't reach a goal inside what is left.
@@ -65,6 +59,8 @@ fn settled_ranks(alloc: Global, model: &Model, goals: &Marks) -> Result<Vec<Opti
 /// The states from which some policy reaches a goal with certainty: the greatest set that holds the goals and from each state of which a goal
 /// can be reached by choices all of whose successors are in the set. Goals have rank 0. The choice of any other marked state is the least one
 /// that keeps all successors marked and has one of smaller rank.
+///
+/// Model checkers call this set Prob1E: some policy comes to a goal with probability 1 (de Alfaro 1997; Baier and Katoen 2008, section 10.6.1).
 pub fn sure_some(alloc: Global, model: &Model, goals: &Marks) -> Result<Pass, Memory>
     requires goals { length goals.now ≡ states_of model.now }
     ensures marks { IfOk result (λ pass. IsGreatestSure model.now goals.now pass.marks) }

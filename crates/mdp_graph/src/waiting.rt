@@ -41,11 +41,7 @@ fn all_choices(alloc: Global, model: &Model) -> Result<Vec<Marks>, AllocError>
 fn choice_counts(alloc: Global, model: &Model) -> Result<Vec<u32>, AllocError>
     ensures { IfOk result (λ counts. counts.items ≡ map (λ s. length (choices_at model.now s)) (range_with_len 0 (states_of model.now))) }
 {
-    let mut counts = Vec::with_capacity(alloc, model.states() as usize)?;
-    for s in 0..model.states() {
-        counts.push(model.choices(s))?;
-    }
-    Ok(counts)
+    (0..model.states()).map(|s| model.choices(s)).collect(alloc)
 }
 
 impl Waiting {

@@ -8,7 +8,8 @@ abbrev pub invariant-loop-due : goal.invariant-loop-due
 invariant-loop-due g l =
     (l.due ≤ l.states)
     × (l.next ≤ l.line + l.due)
-    × (onto l.version g.E.Entry.columns l.states l.entries.items (runs_from (l.states - l.due) l.version g.E.Entry.columns l.states l.due l.before (place l.next l.rest)) ≡ entries_from l.version g.E.Entry.columns l.states (place l.line l.bytes))
+    × (onto l.version g.E.Entry.columns l.states l.entries.items (runs_from (l.states - l.due) l.version g.E.Entry.columns l.states l.due l.before (place l.next l.rest)) ≡
+    entries_from l.version g.E.Entry.columns l.states (place l.line l.bytes))
 
 abbrev pub decreases-loop-due : goal.decreases-loop-due
 decreases-loop-due g l = l.states - l.due

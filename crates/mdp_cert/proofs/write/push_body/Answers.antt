@@ -8,10 +8,13 @@ use Rattle.mdp_cert.proofs.write.push_body.Goals as goal
 pub push_to_end-requires : goal.push_to_end-requires
 push_to_end-requires c =
     let cert = c.args.cert.now in
-    bounds-entries (plain_claim cert.claim) cert.states c.in-Upper.bounds.values.items (ap (λ (b : Body). is_body_of (plain_claim cert.claim) cert.states (plain_body b)) (sym c.in-Upper.is) ∙ cert.entries)
+    bounds-entries (plain_claim cert.claim) cert.states c.in-Upper.bounds.values.items
+    (ap (λ (b : Body). is_body_of (plain_claim cert.claim) cert.states (plain_body b)) (sym c.in-Upper.is) ∙ cert.entries)
 
 pub push_to_end-requires-in-Reach : goal.push_to_end-requires-in-Reach
 push_to_end-requires-in-Reach c =
     let cert = c.args.cert.now in
-    let e = policy-entries (plain_claim cert.claim) cert.states c.in-Reach.policy.values.items c.in-Reach.policy.choices.items c.in-Reach.policy.ranks.items (ap (λ (b : Body). is_body_of (plain_claim cert.claim) cert.states (plain_body b)) (sym c.in-Reach.is) ∙ cert.entries) in
+    let e =
+    policy-entries (plain_claim cert.claim) cert.states c.in-Reach.policy.values.items c.in-Reach.policy.choices.items c.in-Reach.policy.ranks.items
+    (ap (λ (b : Body). is_body_of (plain_claim cert.claim) cert.states (plain_body b)) (sym c.in-Reach.is) ∙ cert.entries) in
     length-policies c.in-Reach.policy.values.items c.in-Reach.policy.choices.items c.in-Reach.policy.ranks.items (omega (arith, e.values, e.choices)) (omega (arith, e.values, e.ranks)) ∙ e.values

@@ -5,14 +5,17 @@ use Rattle.mdp_cert.proofs.write.push_entries.Goals as goal
 
 pub overflow_add-first : goal.overflow_add-first
 overflow_add-first g c =
-    let inside = last-inside g.L.Item.Entry.columns c.args.version (g.L.Lists.entries c.args.entries.now) c.loop-first.first c.line_end-last.result (omega (arith, c.requires)) c.line_end-last.ensures in
+    let inside =
+    last-inside g.L.Item.Entry.columns c.args.version (g.L.Lists.entries c.args.entries.now) c.loop-first.first c.line_end-last.result (omega (arith, c.requires)) c.line_end-last.ensures in
     omega (arith, inside, c.requires)
 
 pub loop-first-preserved : goal.loop-first-preserved
 loop-first-preserved g c =
-    let inside = last-inside g.L.Item.Entry.columns c.args.version (g.L.Lists.entries c.args.entries.now) c.loop-first.first c.line_end-last.result (omega (arith, c.requires)) c.line_end-last.ensures in (
+    let inside =
+    last-inside g.L.Item.Entry.columns c.args.version (g.L.Lists.entries c.args.entries.now) c.loop-first.first c.line_end-last.result (omega (arith, c.requires)) c.line_end-last.ensures in (
       omega (arith, inside, c.requires),
-      lines-written g.L.Item.Entry.columns c.args.version c.loop-first.out.items _ _ (g.L.Lists.entries c.args.entries.now) c.loop-first.first c.line_end-last.result c.entry.result (omega (arith, c.requires)) c.entry.ensures c.line_end-last.ensures
+      lines-written g.L.Item.Entry.columns c.args.version c.loop-first.out.items _ _ (g.L.Lists.entries c.args.entries.now) c.loop-first.first c.line_end-last.result
+          c.entry.result (omega (arith, c.requires)) c.entry.ensures c.line_end-last.ensures
           c.loop-first.invariant.1 c.in_ok-push_run.ensures.text,
       keeps_more _ _ _ c.loop-first.invariant.2 c.in_ok-push_run.ensures.front,
     )

@@ -1,5 +1,5 @@
 use Rattle.std.proofs.Common.{◌≡◌, map, is_none, ap, ◌∙◌}
-use Rattle.mdp_graph.proofs.Avoiding.{avoid_marks, avoid_choices_seen}
+use Rattle.mdp_graph.proofs.Avoiding.{avoid_marks, avoid_choices}
 use Rattle.mdp_graph.proofs.avoid.may_avoid.Goals as goal
 
 pub returns-clause-marks : goal.returns-clause-marks
@@ -11,5 +11,6 @@ pub returns-clause-choices : goal.returns-clause-choices
 returns-clause-choices c =
     let e : c.marks.inside.items.items ≡ map is_none c.in_ok-met.met.items = c.marks.view_is ∙ c.in_ok-marks.ensures ∙ ap (map is_none) c.deref.ensures.value in
     rw e
-    (avoid_choices_seen c.args.model.now c.known.ensures.mdp c.args.goals.now c.in_ok-met.met.items c.in_ok-met.ensures c.in_ok-marks.marks (c.in_ok-marks.ensures ∙ ap (map is_none) c.deref.ensures.value) c.in_ok-choices.choices.items
-    c.in_ok-choices.ensures.count c.in_ok-choices.ensures.first)
+    (avoid_choices c.args.model.now c.known.ensures.mdp c.args.goals.now c.in_ok-met.met.items c.in_ok-met.ensures c.in_ok-marks.marks
+    (c.in_ok-marks.ensures ∙ ap (map is_none) c.deref.ensures.value) c.in_ok-choices.choices.items
+    c.in_ok-choices.ensures)

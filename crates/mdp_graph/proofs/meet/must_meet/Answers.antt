@@ -6,7 +6,8 @@ use Rattle.mdp_graph.proofs.Meeting.{all_fall}
 use Rattle.mdp_graph.proofs.meet.must_meet.Goals as goal
 
 pub returns-clause-marks : goal.returns-clause-marks
-returns-clause-marks c = rw (c.in_ok-marks_by.ensures, c.deref.ensures.value) (reached_marks (must_step c.args.model.now) (marked c.args.target.now) (states_of c.args.model.now) c.in_ok-ranks.ranks.items c.in_ok-ranks.ensures)
+returns-clause-marks c = rw (c.in_ok-marks_by.ensures, c.deref.ensures.value)
+    (reached_marks (must_step c.args.model.now) (marked c.args.target.now) (states_of c.args.model.now) c.in_ok-ranks.ranks.items c.in_ok-ranks.ensures)
 
 pub returns-clause-ranks : goal.returns-clause-ranks
 returns-clause-ranks c =
@@ -15,4 +16,5 @@ returns-clause-ranks c =
 
 pub returns-clause-falls : goal.returns-clause-falls
 returns-clause-falls c =
-    rw (c.in_ok-marks_by.ensures, c.in_ok-plain_ranks.ensures, c.deref.ensures.value, c.deref-2.ensures.value) (all_fall c.args.model.now c.known.ensures.mdp c.args.target.now c.in_ok-ranks.ranks.items c.in_ok-ranks.ensures)
+    rw (c.in_ok-marks_by.ensures, c.in_ok-plain_ranks.ensures, c.deref.ensures.value, c.deref-2.ensures.value)
+    (all_fall c.args.model.now c.known.ensures.mdp c.args.target.now c.in_ok-ranks.ranks.items c.in_ok-ranks.ensures)

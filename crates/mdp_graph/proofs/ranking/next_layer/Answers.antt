@@ -6,6 +6,6 @@ use Rattle.mdp_graph.proofs.ranking.next_layer.Goals as goal
 pub give_rank-requires : goal.give_rank-requires
 give_rank-requires c = record {
   in_range = below-all _ _ (λ s e.
-      (let h = c.requires.edges.below s _ (c.requires.in_range c.loop-t.t-index 0 c.loop-t-test.true) (ap (is_among s) (sym c.to.ensures) ∙ e) in
+      (let h = c.requires.edges.below s _ (c.requires.in_range c.loop-t.t-index 0 c.loop-t-test.true) (ap (is_among s) (sym c.of.ensures) ∙ e) in
       omega (arith, h, c.loop-t.invariant.count)));
 }

@@ -12,18 +12,20 @@ pub returns-clause-marks : goal.returns-clause-marks
 returns-clause-marks g c =
     let rows = g.R.RowsOf.rows c.args.rows.now in
     let ranks = c.in_ok-ranks.ranks.items in
-    let edges = c.in_ok-edges.edges in
+    let edges = c.in_ok-preds.preds in
     let by : AreRankedBy edges (marked c.args.target.now) (length rows) ranks = subst (λ (n : ℕ). AreRankedBy edges (marked c.args.target.now) n ranks) c.count.ensures c.in_ok-ranks.ensures in
     let all : AreRanks (row_step rows) (marked c.args.target.now) (length rows) ranks =
-    ranked (row_step rows) (marked c.args.target.now) (length rows) edges ranks by (row_leads rows c.known.ensures edges c.in_ok-edges.ensures.leads) (row_follows rows c.known.ensures edges c.in_ok-edges.ensures.leads) in
+    ranked (row_step rows) (marked c.args.target.now) (length rows) edges ranks by (row_leads rows c.known.ensures edges c.in_ok-preds.ensures.leads)
+    (row_follows rows c.known.ensures edges c.in_ok-preds.ensures.leads) in
     rw (c.in_ok-marks_by.ensures, c.deref.ensures.value) (reached_marks (row_step rows) (marked c.args.target.now) (length rows) ranks all)
 
 pub returns-clause-ranks : goal.returns-clause-ranks
 returns-clause-ranks g c =
     let rows = g.R.RowsOf.rows c.args.rows.now in
     let ranks = c.in_ok-ranks.ranks.items in
-    let edges = c.in_ok-edges.edges in
+    let edges = c.in_ok-preds.preds in
     let by : AreRankedBy edges (marked c.args.target.now) (length rows) ranks = subst (λ (n : ℕ). AreRankedBy edges (marked c.args.target.now) n ranks) c.count.ensures c.in_ok-ranks.ensures in
     let all : AreRanks (row_step rows) (marked c.args.target.now) (length rows) ranks =
-    ranked (row_step rows) (marked c.args.target.now) (length rows) edges ranks by (row_leads rows c.known.ensures edges c.in_ok-edges.ensures.leads) (row_follows rows c.known.ensures edges c.in_ok-edges.ensures.leads) in
+    ranked (row_step rows) (marked c.args.target.now) (length rows) edges ranks by (row_leads rows c.known.ensures edges c.in_ok-preds.ensures.leads)
+    (row_follows rows c.known.ensures edges c.in_ok-preds.ensures.leads) in
     rw (c.in_ok-marks_by.ensures, c.in_ok-plain_ranks.ensures, c.deref.ensures.value, c.deref-2.ensures.value) (least_ranks (row_step rows) (marked c.args.target.now) (length rows) ranks all)

@@ -1,7 +1,7 @@
 use Rattle.std.proofs.Common.{◌≡◌, ℕ, ◌+◌, true, replicate, map, is_some, sym, ap, ◌∙◌, arith, List, Option, get_or, length}
 use Rattle.std.specs.List.{count_by}
 use Rattle.mdp_graph.specs.Layers.{rank_at}
-use Rattle.mdp_graph.specs.Noted.{noted}
+use Rattle.mdp_graph.specs.Rounds.{noted}
 use Rattle.mdp_graph.proofs.Settling.{settling, settling_more}
 use Rattle.mdp_graph.proofs.Rounding.{rounding, rounding_more, rounded}
 use Rattle.mdp_graph.proofs.rounds.rounds_outside.Goals as goal

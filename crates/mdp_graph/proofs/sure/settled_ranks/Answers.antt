@@ -4,7 +4,8 @@ use Rattle.mdp_graph.proofs.Settling.{settling, settling_more, settled}
 use Rattle.mdp_graph.proofs.sure.settled_ranks.Goals as goal
 
 pub loop-left-init : goal.loop-left-init
-loop-left-init c = settling _ _ _ _ _ c.known.ensures.mdp c.states-left.ensures (c.in_ok-inside.ensures ∙ ap (λ (n : ℕ). replicate n true) (c.states.ensures ∙ sym c.states-left.ensures)) c.in_ok-ranks.ensures
+loop-left-init c = settling _ _ _ _ _ c.known.ensures.mdp c.states-left.ensures
+    (c.in_ok-inside.ensures ∙ ap (λ (n : ℕ). replicate n true) (c.states.ensures ∙ sym c.states-left.ensures)) c.in_ok-ranks.ensures
 
 pub loop-left-preserved : goal.loop-left-preserved
 loop-left-preserved c =

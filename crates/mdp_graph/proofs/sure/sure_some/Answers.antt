@@ -16,5 +16,5 @@ pub returns-clause-choices : goal.returns-clause-choices
 returns-clause-choices c =
     let e : c.marks.inside.items.items ≡ map is_some c.in_ok-ranks.ranks.items = c.marks.view_is ∙ c.in_ok-marks.ensures ∙ ap (map is_some) c.deref.ensures.value in
     rw (e, c.in_ok-plain_ranks.ensures, c.deref-3.ensures.value)
-    (sure_choices _ _ _ c.in_ok-ranks.ensures c.known.ensures.mdp _ c.in_ok-marks.marks _ (c.in_ok-marks.ensures ∙ ap (map is_some) c.deref.ensures.value) c.deref-2.ensures.value c.in_ok-choices.ensures.count
-    c.in_ok-choices.ensures.first)
+    (sure_choices _ _ _ c.in_ok-ranks.ensures c.known.ensures.mdp _ c.in_ok-marks.marks _
+    (c.in_ok-marks.ensures ∙ ap (map is_some) c.deref.ensures.value) c.deref-2.ensures.value c.in_ok-choices.ensures)

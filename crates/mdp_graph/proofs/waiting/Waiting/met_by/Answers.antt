@@ -7,9 +7,12 @@ use Rattle.mdp_graph.proofs.waiting.Waiting.met_by.Goals as goal
 pub release_all-requires-clause-within : goal.release_all-requires-clause-within
 release_all-requires-clause-within c =
     subst (λ (x : List Pred). AreWithin c.loop-t.self x) (sym c.of.ensures)
-    (within_part c.loop-t.self c.args.preds.now c.args.layer.now c.loop-t.t-index c.loop-t-test.true (within_now c.args.self.now c.loop-t.self _ (leading_to c.args.preds.now c.args.layer.now) c.loop-t.invariant.released c.requires.within))
+    (within_part c.loop-t.self c.args.preds.now c.args.layer.now c.loop-t.t-index c.loop-t-test.true
+    (within_now c.args.self.now c.loop-t.self _ (leading_to c.args.preds.now c.args.layer.now) c.loop-t.invariant.released c.requires.within))
 
 pub loop-t-preserved : goal.loop-t-preserved
 loop-t-preserved c =
-    met_more c.args.self.now c.loop-t.self c.release_all.new.self (leading_to c.args.preds.now (take c.loop-t.t-index c.args.layer.now)) c.of.result.now _ c.args.ranks.now [] c.loop-t.met.items c.release_all.new.met.items c.loop-t.invariant c.in_ok-release_all.ensures
-    (leading-more c.args.preds.now c.args.layer.now c.loop-t.t-index c.loop-t-test.true ∙ ap (λ (x : List Pred). leading_to c.args.preds.now (take c.loop-t.t-index c.args.layer.now) ++ x) (sym c.of.ensures))
+    met_more c.args.self.now c.loop-t.self c.release_all.new.self (leading_to c.args.preds.now (take c.loop-t.t-index c.args.layer.now))
+    c.of.result.now _ c.args.ranks.now [] c.loop-t.met.items c.release_all.new.met.items c.loop-t.invariant c.in_ok-release_all.ensures
+    (leading-more c.args.preds.now c.args.layer.now c.loop-t.t-index c.loop-t-test.true
+    ∙ ap (λ (x : List Pred). leading_to c.args.preds.now (take c.loop-t.t-index c.args.layer.now) ++ x) (sym c.of.ensures))

@@ -1,5 +1,0 @@
-use Rattle.std.proofs.Common.{◌≡◌, map, take, is_none}
-use Rattle.mdp_graph.proofs.avoid.marks_without.Given as goal
-
-abbrev pub invariant-loop-rank : goal.invariant-loop-rank
-invariant-loop-rank l = l.marks.items ≡ map is_none (take l.rank-index l.ranks)

@@ -1,8 +1,0 @@
-use Rattle.std.proofs.Common.{◌≡◌, drop}
-use Rattle.std.specs.List.{list_any}
-use Rattle.mdp_graph.specs.Layers.{rank_at}
-use Rattle.mdp_graph.specs.Choices.{is_before}
-use Rattle.mdp_graph.proofs.pass.some_before.Given as goal
-
-abbrev pub invariant-loop-t : goal.invariant-loop-t
-invariant-loop-t l = list_any (λ t. is_before l.rank (rank_at l.ranks t)) (drop l.t-index l.targets) ≡ list_any (λ t. is_before l.rank (rank_at l.ranks t)) l.targets
