@@ -80,12 +80,7 @@ fn certificate_of(model: &Model, dir: Dir, label: Vec<u8>, answer: ReachCert) ->
 }
 
 /// The text of the certificate that solves a query of reachability, or its refusal.
-fn solve_label(
-    alloc: Global,
-    model: &Model,
-    dir: Dir,
-    label: &[u8],
-) -> Result<Vec<u8>, Refusal>
+fn solve_label(alloc: Global, model: &Model, dir: Dir, label: &[u8]) -> Result<Vec<u8>, Refusal>
     ensures due { (said result ≡ Err no_memory) ⊎ IsReachDue dir label.now model.now (place_of label.now model.now.labels) (said result) }
     ensures printed { IfOk (said result) (IsReachPrinted dir label.now model.now) }
 {
@@ -117,12 +112,7 @@ fn solve_label(
 }
 
 /// The text of the certificate that solves a query, or its refusal.
-fn solve_query(
-    alloc: Global,
-    model: &Model,
-    dir: Dir,
-    query: Query<'_>,
-) -> Result<Vec<u8>, Refusal>
+fn solve_query(alloc: Global, model: &Model, dir: Dir, query: Query<'_>) -> Result<Vec<u8>, Refusal>
     ensures due { (said result ≡ Err no_memory) ⊎ IsQueryDue dir (plain_query query.entry) model.now (said result) }
     ensures printed { IfOk (said result) (IsPrinted dir (plain_query query.entry) model.now) }
 {
