@@ -1,0 +1,133 @@
+#!/usr/bin/env python3
+"""Measures `solve .. reach` and `check` on models that the script writes, beside an exact linear program of the same query.
+
+    layered LAYERS WIDTH   a layered MDP: each state but the last two has two choices, each of two draws of a small generator; a choice of a layer
+                           goes to one or two states of the next one, one of the last layer to the goal or to a failing state
+    random STATES          a sparse MDP: two choices a state, each with 1/2 to two states drawn with a fixed seed from the next 50; the last two
+                           states are the goal and a failing one
+
+What is timed is the whole program, reading and writing too. The linear program (least sum of values that cover each choice) goes to `glpsol
+--exact` of Debian's glpk-utils where that is installed, in the same run, for at most LIMIT seconds; only its time is compared, and the value of
+state 0. Usage: bench/solving.py [layered L W | random N ..] (layered of 1,002, 4,002 and 16,002 states and a random one of 4,000 if nothing is said).
+"""
+import os
+import random
+import re
+import shutil
+import subprocess
+import sys
+import tempfile
+import time
+from fractions import Fraction
+
+TOP = os.path.join(os.path.dirname(os.path.abspath(__file__)), "..")
+PROGRAM = os.path.join(TOP, "bin", "mdp")
+LIMIT = 120
+
+
+def layered(layers, width):
+    """The choices of each state, each a list of different targets with equal shares."""
+    number = 7 % 65537
+    goal, failing = layers * width, layers * width + 1
+    states = []
+    for layer in range(layers):
+        for _ in range(width):
+            choices = []
+            for _ in range(2):
+                targets = []
+                for _ in range(2):
+                    number = (75 * number + 74) % 65537
+                    target = (layer + 1) * width + number % width if layer + 1 < layers else (goal if number % 2 == 0 else failing)
+                    targets.append(target)
+                choices.append(sorted(set(targets)))
+            states.append(choices)
+    return states + [[[goal]], [[failing]]]
+
+
+def random_model(size):
+    draws = random.Random(7)
+    goal, failing = size - 2, size - 1
+    states = []
+    for s in range(size - 2):
+        nearest = [t for t in range(s + 1, min(s + 51, size))] + [max(0, s - draws.randrange(1, 20))]
+        states.append([sorted(set(draws.choice(nearest) for _ in range(2))) for _ in range(2)])
+    return states + [[[goal]], [[failing]]]
+
+
+def write_model(path, states):
+    with open(path, "w") as file:
+        file.write("@type: MDP\n@nr_states\n%d\n@model\n" % len(states))
+        for s, choices in enumerate(states):
+            file.write("state %d%s\n" % (s, " init" if s == 0 else " goal" if s == len(states) - 2 else ""))
+            for targets in choices:
+                file.write("action\n")
+                file.writelines("%d : 1/%d\n" % (target, len(targets)) for target in targets)
+
+
+def write_program(path, states):
+    """The linear program in CPLEX's format: every share is 1 or 1/2, so all its numbers are exact."""
+    goal = len(states) - 2
+    with open(path, "w") as file:
+        file.write("Minimize\n total: " + "\n + ".join("z%d" % s for s in range(len(states))) + "\nSubject To\n")
+        for s, choices in enumerate(states):
+            for targets in choices:
+                weights = {s: 1.0}
+                for target in targets:
+                    weights[target] = weights.get(target, 0.0) - 1.0 / len(targets)
+                terms = ["%+g z%d" % (weight, t) for t, weight in weights.items() if weight]
+                if s != goal and terms:
+                    file.write(" " + " ".join(terms) + " >= 0\n")
+        file.write(" z%d = 1\nEnd\n" % goal)
+
+
+def timed(words, **options):
+    start = time.time()
+    ended = subprocess.run(words, stdout=subprocess.PIPE, stderr=subprocess.DEVNULL, check=False, **options)
+    return ended.stdout.decode(), ended.returncode, time.time() - start
+
+
+def peer(folder, states):
+    if shutil.which("glpsol") is None:
+        return "glpsol isn't installed", None
+    path, answer = os.path.join(folder, "query.lp"), os.path.join(folder, "query.txt")
+    write_program(path, states)
+    try:
+        _, _, seconds = timed(["glpsol", "--exact", "--lp", path, "-o", answer], timeout=LIMIT)
+    except subprocess.TimeoutExpired:
+        return "glpsol --exact: more than %d s" % LIMIT, None
+    with open(answer) as file:
+        found = re.search(r"\bz0\s+\S+\s+(\S+)", file.read())
+    return "glpsol --exact: %.2f s, value of state 0 %s" % (seconds, found.group(1) if found else "?"), seconds
+
+
+def measure(folder, name, states):
+    model, cert = os.path.join(folder, "model.drn"), os.path.join(folder, "model.cert")
+    write_model(model, states)
+    text, status, solved = timed([PROGRAM, "solve", model, "exact", "max", "reach", "goal"])
+    print("%s: %d states, %d choices, load %.1f" % (name, len(states), sum(len(c) for c in states), os.getloadavg()[0]))
+    if status != 0:
+        print("  solve: status %d after %.2f s: %s" % (status, solved, text.split("\n")[0]))
+        return
+    with open(cert, "w") as file:
+        file.write(text)
+    said, _, checked = timed([PROGRAM, "check", model, "exact", cert])
+    value = Fraction(re.search(r"^init 0 (\S+)$", text, re.M).group(1))
+    print("  solve: %.2f s, value of state 0 %.6f; check: %.2f s, %s" % (solved, value, checked, said.strip()))
+    line, seconds = peer(folder, states)
+    print("  %s%s" % (line, "" if seconds is None else ", %.0f times as long" % (seconds / solved)))
+
+
+def main():
+    words = sys.argv[1:] or "layered 10 100 layered 40 100 layered 100 160 random 4000".split()
+    with tempfile.TemporaryDirectory() as folder:
+        while words:
+            if words[0] == "layered":
+                measure(folder, " ".join(words[:3]), layered(int(words[1]), int(words[2])))
+                words = words[3:]
+            else:
+                measure(folder, " ".join(words[:2]), random_model(int(words[1])))
+                words = words[2:]
+
+
+if __name__ == "__main__":
+    main()
