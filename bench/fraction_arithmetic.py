@@ -5,7 +5,7 @@ For terms of 8, 30, 60 and 120 bits both programs draw the same thousand fractio
 a million products and a million comparisons. Runs both by turns, nine times, and prints the least nanoseconds of one operation in each,
 and how many of ours were refused as past width (`Wide`); where none was, the results of both have to be the same. One program is written
 in a folder that is removed again, to a copy of the crates, and run once it is proved; the other is a C program over libgmp, compiled there.
-Where libgmp-dev or gcc is missing, it is installed by apt-get. Usage: bench/fractions.py
+Where libgmp-dev or gcc is missing, it is installed by apt-get. Usage: bench/fraction_arithmetic.py
 """
 import os
 import shutil
