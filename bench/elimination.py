@@ -6,82 +6,22 @@
     grid N     N layers of N states; a state goes to two states of the next layer with 1/2 each. Layers are numbered so that those in between
                are eliminated first (by the bits of a layer's number in opposite order), so rows grow up to N entries
 
-Each is a Markov chain whose last state is the goal, so `solve_reach` of mdp_reach takes one round: a pass over the graph, one evaluation, the
-comparison of each state's one choice, and the check of the certificate; what is timed is all of it. Copies the crates into a folder that it
-removes again, adds a small program to them and runs it there, once it is proved. Writes for each chain the time and the greatest memory of the
-process so far, and the machine's load.
+Each is a Markov chain whose last state is the goal, so `solve` takes one round: a pass over the graph, one evaluation, the comparison of each
+state's one choice, and the check of the certificate. What is timed is the whole program, reading and writing too. Writes for each chain the
+least time of RUNS runs, the greatest memory (where that is less than the script itself takes, some 40 MB, the latter), the status, and the
+machine's load. The program has to be built (bin/mdp builds it).
 Usage: bench/elimination.py [CHAIN N ..] (a line and a random chain of 1000, 10000 and 100000 states and a grid of 100 if nothing is said).
 """
 import os
 import random
-import shutil
 import subprocess
 import sys
 import tempfile
+import time
 
 TOP = os.path.join(os.path.dirname(os.path.abspath(__file__)), "..")
-
-LINE = "elimination_timer: mdp_math mdp_num mdp_edge mdp_spec mdp_rows mdp_drn mdp_elim mdp_graph mdp_farkas mdp_path mdp_reach\n"
-
-PROGRAM = """//! Times the probability of reaching the goal in each chain that its words name.
-#![tactic(auto)]
-ghost use Rattle.std.specs.Prelude.{◌≡◌, length, IfSome};
-ghost use Rattle.mdp_spec.specs.Mdp.{states_of};
-
-use mdp_drn::read;
-use mdp_reach::solve_reach;
-use mdp_rows::{Dir, Marks, Model, RowRule};
-use std::env;
-use std::fs;
-use std::process::ExitCode;
-use std::time::Instant;
-
-/// What the system says of the greatest memory of this process.
-fn memory(rt: &HostRuntime) -> Option<String> {
-    let text = fs::read_to_string(rt, "/proc/self/status").ok()?;
-    for line in text.lines() {
-        if line.starts_with("VmHWM") {
-            return String::from_str(rt.alloc(), line).ok();
-        }
-    }
-    None
-}
-
-fn model_in(rt: &HostRuntime, path: &str) -> Option<Model> {
-    let bytes = fs::read(rt, path).ok()?;
-    read(rt.alloc(), &bytes, RowRule::Exact).ok()
-}
-
-fn goals_of(rt: &HostRuntime, model: &Model) -> Option<Marks>
-    ensures { IfSome result (λ marks. length marks ≡ states_of model.now) }
-{
-    let goal = model.label(b"goal")?;
-    model.marks_of(rt.alloc(), goal).ok()
-}
-
-fn time_chain(rt: &HostRuntime, path: &str) -> Option<()> {
-    let model = model_in(rt, path)?;
-    let goals = goals_of(rt, &model)?;
-    let start = Instant::now(rt).ok()?;
-    let answer = solve_reach(rt.alloc(), &model, &goals, Dir::Max);
-    let time = start.elapsed(rt).ok()?;
-    let said = if answer.is_ok() { "solved" } else { "not solved" };
-    let most = memory(rt)?;
-    println!(rt; "{} states: {} us, {said}, {most}", model.states(), time.as_micros()).ok()
-}
-
-fn main(rt: HostRuntime) -> ExitCode {
-    let Ok(words) = env::args(&rt) else {
-        return ExitCode::from(1);
-    };
-    for word in words.skip(1) {
-        if time_chain(&rt, &word).is_none() {
-            return ExitCode::from(1);
-        }
-    }
-    ExitCode::from(0)
-}
-"""
+PROGRAM = os.path.join(TOP, "crates", "mdp_app", "out", "mdp_app")
+RUNS = 3
 
 
 def line(size):
@@ -123,24 +63,22 @@ def write_chain(path, rows):
         file.write("state %d goal\naction\n%d : 1\n" % (len(rows), len(rows)))
 
 
+def solve(model):
+    """Seconds, greatest memory in kilobytes, and status of one run of the program."""
+    start = time.perf_counter()
+    child = subprocess.Popen([PROGRAM, "solve", model, "exact", "max", "reach", "goal"], stdout=subprocess.DEVNULL)
+    _, status, used = os.wait4(child.pid, 0)
+    return time.perf_counter() - start, used.ru_maxrss, os.waitstatus_to_exitcode(status)
+
+
 def main():
     words = sys.argv[1:] or "line 1000 line 10000 line 100000 random 1000 random 10000 random 100000 grid 100".split()
     with tempfile.TemporaryDirectory() as folder:
-        shutil.copytree(os.path.join(TOP, "crates"), os.path.join(folder, "crates"), ignore=shutil.ignore_patterns("out"))
-        shutil.copy(os.path.join(TOP, "HANDLES"), folder)
-        with open(os.path.join(TOP, "crates.txt")) as file:
-            lines = file.read()
-        with open(os.path.join(folder, "crates.txt"), "w") as file:
-            file.write(lines + LINE)
-        source = os.path.join(folder, "crates", "elimination_timer", "src")
-        os.makedirs(source)
-        with open(os.path.join(source, "main.rt"), "w") as file:
-            file.write(PROGRAM)
+        model = os.path.join(folder, "chain.drn")
         for kind, size in zip(words[::2], words[1::2]):
-            model = os.path.join(folder, "%s%s.drn" % (kind, size))
             write_chain(model, KINDS[kind](int(size)))
-            print("%s %s, load %.1f" % (kind, size, os.getloadavg()[0]), flush=True)
-            subprocess.run(["rt", "run", "--", model], cwd=os.path.dirname(source), check=True)
+            seconds, memory, status = min(solve(model) for _ in range(RUNS))
+            print("%s %s: %.3f s, %.1f MB, status %d, load %.1f" % (kind, size, seconds, memory / 1024, status, os.getloadavg()[0]))
 
 
 if __name__ == "__main__":
