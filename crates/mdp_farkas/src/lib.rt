@@ -4,13 +4,17 @@
 
 mod bellman;
 mod compare;
+mod mean;
 mod ranks;
 mod reach;
+mod reward;
 mod upper;
 mod verdict;
 mod walk;
 
 pub use mdp_rows::Dir;
+pub use mean::MeanCert;
 pub use reach::{ReachCert, holds_reach};
+pub use reward::RewardCert;
 pub use upper::{UpperCert, holds_upper};
 pub use verdict::{Fault, Verdict};
