@@ -8,7 +8,8 @@
 
 What is timed is the whole program, reading and writing too. The linear program (least sum of values that cover each choice) goes to `glpsol
 --exact` of Debian's glpk-utils where that is installed, in the same run, for at most LIMIT seconds; only its time is compared, and the value of
-state 0. The rounds of policy iteration are counted by the script itself. Usage: bench/solving.py [layered L W | random N ..] (layered of 1,002, 4,002 and 16,002 states and a random one of 4,000 if nothing is said).
+state 0. The rounds of policy iteration are counted by the script itself.
+Usage: bench/solving.py [layered L W | random N ..] (layered of 1,002, 4,002 and 16,002 states and a random one of 4,000 if nothing is said).
 """
 import os
 import random
