@@ -1,10 +1,9 @@
 -- A text is due to a check exactly where the bytes are accepted.
-use Rattle.std.proofs.Common.{◌≡◌, ◌↔◌, ℕ, ◌≤◌, Bool, true, false, cond, nat_lt, List, length, Result, Ok, Err, refl, sym, ap, ◌∙◌}
+use Rattle.std.proofs.Common.{◌≡◌, ◌↔◌, ℕ, ◌≤◌, Bool, true, false, cond, nat_lt, List, length, Result, Ok, Err, IfOk, refl, sym, ap, ◌∙◌}
 use Rattle.std.proofs.lemmas.Bool.{le-ltb, ltb-false}
 use Rattle.mdp_spec.specs.Mdp.{Mdp}
 use Rattle.mdp_spec.specs.Row.{IsMdp}
 use Rattle.mdp_rows.specs.declared.rule.RowRule.{RowRule}
-use Rattle.mdp_drn.specs.Outcome as drn
 use Rattle.mdp_drn.specs.Reading.{outcome}
 use Rattle.mdp_cert.specs.Cert.{Certificate}
 use Rattle.mdp_cert.specs.Reading as cert_text
@@ -14,15 +13,13 @@ use Rattle.mdp_check.specs.declared.answer.Answer.{Answer}
 use Rattle.mdp_check.specs.declared.answer.Answer.TheVariants.{Yes, No, Wide, NoLabel, Size, Memory}
 use Rattle.mdp_check.proofs.Accepting.{yes_is_accepted, accepted_is_bound}
 use Rattle.mdp_job.specs.Refusal.{PlainRefusal, long_model, long_certificate}
-use Rattle.mdp_app.specs.Due.{most_bytes, model_or_refusal, model_due, certificate_or_refusal, certificate_due, yes_text, said_of, said_to_certificate, said_to_model, check_due}
-use Rattle.mdp_app.specs.Accepted.{Accepted, IsTrueClaim}
+use Rattle.mdp_step.proofs.Working.{model_is_read}
+use Rattle.mdp_step.specs.Accepted.{Accepted, IsTrueClaim}
+use Rattle.mdp_step.specs.Files.{most_bytes, model_or_refusal, model_due, certificate_or_refusal, certificate_due, IsDueToModel}
+use Rattle.mdp_step.specs.Said.{Said}
+use Rattle.mdp_app.specs.Due.{yes_text, said_of, said_to_certificate, said_to_model, check_due}
 
 -- ---- a text is due
-
-pub model_is_read : (long : Bool) (read : Result Mdp drn.Refusal) (m : Mdp) → cond long (Err long_model) (model_or_refusal read) ≡ Ok m → (long ≡ false) × (read ≡ Ok m)
-model_is_read true read m e = cc
-model_is_read false (Ok n) m e = (refl, cc e)
-model_is_read false (Err r) m e = cc
 
 certificate_is_read : (long : Bool) (read : Result Certificate cert_refusal.Refusal) (c : Certificate) → cond long (Err long_certificate) (certificate_or_refusal read) ≡ Ok c → (long ≡ false) × (read ≡ Ok c)
 certificate_is_read true read c e = cc
@@ -90,3 +87,15 @@ unfolding bytes_accepted
 true_claim rule model cert text m mdp is e =
     let holding = certificate_yes m (certificate_due cert) text e in
     record { accepted = bytes_accepted rule model cert text m is holding; bound = accepted_is_bound m holding.cert mdp holding.holds }
+
+-- ---- what is due to a model that was read, and to the bytes behind it
+
+pub check_due_by : (cert : List ℕ) (read : Result Mdp PlainRefusal) (said : Said) → IsDueToModel (λ m said. said ≡ said_to_certificate m (certificate_due cert)) read said → said ≡ said_to_model read cert
+check_due_by cert (Ok m) said due = due
+check_due_by cert (Err r) said due = due
+
+-- what is shown of a text
+pub checked : (rule : RowRule) (m : Mdp) (said : Said) → IsMdp m → (model cert : List ℕ) → model_due rule model ≡ Ok m → said ≡ said_to_certificate m (certificate_due cert)
+    → IfOk said (λ text. IsTrueClaim rule model cert)
+checked rule m (Ok text) mdp model cert is due = true_claim rule model cert text m mdp is (sym due)
+checked rule m (Err r) mdp model cert is due = tt

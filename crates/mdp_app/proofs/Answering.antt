@@ -6,12 +6,14 @@ use Rattle.mdp_job.specs.Refusal.{PlainRefusal, no_job, model_text, query_size, 
 use Rattle.mdp_job.specs.Status.{status_of}
 use Rattle.mdp_job.specs.declared.status.Status.{Status}
 use Rattle.mdp_job.specs.declared.status.Status.TheVariants as status
-use Rattle.mdp_app.proofs.Solved.{solve_once}
-use Rattle.mdp_app.specs.Due.{model_due, check_due, IsSolveDue, IsDue}
+use Rattle.mdp_step.specs.Files.{model_due}
+use Rattle.mdp_step.specs.Said.{Said, said_status}
+use Rattle.mdp_step.specs.Streams.{Input, Told, Output}
+use Rattle.mdp_solve_step.proofs.Solved.{solve_once}
+use Rattle.mdp_solve_step.specs.Due.{IsSolveDue}
+use Rattle.mdp_app.specs.Due.{check_due, IsDue}
 use Rattle.mdp_app.specs.Decided.{IsTextDecided, IsDecided, EndsWith}
 use Rattle.mdp_app.specs.Run.{IsFromBytes, HasCause, LeavesUnread, IsAnswered, IsWorkDone, IsDoneUnless, IsComplete}
-use Rattle.mdp_app.specs.Said.{Said, said_status}
-use Rattle.mdp_app.specs.Streams.{Input, Told, Output}
 use Rattle.mdp_app.specs.Written.{Wrote}
 
 -- no refusal ends a run with the work done

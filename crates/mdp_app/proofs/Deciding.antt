@@ -1,19 +1,20 @@
--- What is decided, from what was read.
-use Rattle.std.proofs.Common.{◌≡◌, inl, inr, false, Result, Ok, Err, OnOk, IfOk, IsOk, refl, sym, ap, subst, ◌∙◌}
+-- What is decided of a command's words, from what its step made of the sources.
+use Rattle.std.proofs.Common.{◌≡◌, ℕ, inl, inr, true, false, List, Ok, Err, OnOk, IfOk, IsOk, IsTrue, refl, subst}
 use Rattle.std.specs.Io.KnownBytes.{IsAtEnd}
 use Rattle.mdp_spec.specs.Mdp.{Mdp}
-use Rattle.mdp_spec.specs.Row.{IsMdp}
 use Rattle.mdp_rows.specs.declared.rule.RowRule.{RowRule}
-use Rattle.mdp_job.specs.Job.{check, Asked}
-use Rattle.mdp_job.specs.Refusal.{PlainRefusal, no_job, read_model, read_certificate}
+use Rattle.mdp_job.specs.Job.{Asked, reads_model, reads_second}
+use Rattle.mdp_job.specs.Refusal.{no_job}
 use Rattle.mdp_job.specs.declared.words_error.WordsError.{WordsError}
-use Rattle.mdp_app.proofs.Accepting.{true_claim}
-use Rattle.mdp_app.proofs.FileBytes.{or_nothing, had_nothing}
-use Rattle.mdp_app.specs.Due.{model_due, certificate_due, said_to_certificate, said_to_model}
-use Rattle.mdp_app.specs.Decided.{IsDueToBytes, IsRead, IsTextDecided, IsDecided}
-use Rattle.mdp_app.specs.Run.{IsFromBytes, HasCause, is_of_model}
-use Rattle.mdp_app.specs.Said.{Said}
-use Rattle.mdp_app.specs.Streams.{Input, IsStill}
+use Rattle.mdp_step.proofs.FileBytes.{or_nothing, had_nothing}
+use Rattle.mdp_step.specs.Files.{model_due, IsDueToModel}
+use Rattle.mdp_step.specs.Read.{IsModelWorked, IsWorkOnModel, IsPairWorked, IsWorkOnPair, is_of_model}
+use Rattle.mdp_step.specs.Said.{Said}
+use Rattle.mdp_step.specs.Streams.{Input, IsStill}
+use Rattle.mdp_app.specs.Decided.{IsTextDecided, IsDecided}
+use Rattle.mdp_app.specs.Due.{IsDue, IsModelRead}
+use Rattle.mdp_app.specs.Run.{IsFromBytes, HasCause}
+use Rattle.mdp_app.specs.Shown.{IsShown}
 
 -- ---- words that are no job
 
@@ -37,86 +38,100 @@ pub refused_words :
 refused_words asked e model second is model_same second_same model_still second_still =
     subst (λ (x : Asked). IsDecided x model second (Err (no_job e))) is (refused e model second model_same second_same model_still second_still)
 
--- ---- `check`
+-- ---- a command that reads the model alone
 
-module _ (rule : RowRule) (model second : Input) where
-  abbrev Decided : Said → Type 0
-  Decided = IsDecided (Ok (check rule)) model second
-
-  -- the model was refused
-  refused_cause : (r : PlainRefusal) → IsStill second → IsRead model (model_due rule) read_model (Err r) → HasCause (Ok (check rule)) model second (Err r)
-  refused_cause r second_still (inl read) = inl (record {
-    model_bytes = read.0.bytes;
+module _ (asked : Asked) (rule : RowRule) (due : Mdp → Said → Type 0) (shows : List ℕ → List ℕ → Type 0) (model second : Input)
+    (reads : reads_model asked ≡ true) (rests : reads_second asked ≡ false)
+    (due_is : (bytes other : List ℕ) (said : Said) → IsDueToModel due (model_due rule bytes) said → IsDue asked bytes other said)
+    (shown_is : (bytes other text : List ℕ) → shows bytes text → IsShown asked bytes other text)
+    (same : second.same) (second_still : IsStill second) where
+  from_model : (said : Said) → IsModelWorked rule due shows model said → IsFromBytes asked model second said
+  from_model said from = record {
+    model_bytes = from.bytes;
     second_bytes = or_nothing second.before;
-    had_model = read.0.had;
+    had_model = from.had;
     had_second = had_nothing second.before;
-    is_due = ap (λ (x : Result Mdp PlainRefusal). said_to_model x (or_nothing second.before)) read.0.is_due;
-    model_still = read.1;
+    is_due = due_is from.bytes (or_nothing second.before) said from.is_due;
+    model_still = from.still;
     second_still = second_still;
-  })
-  refused_cause r second_still (inr (inl failed)) = inr (inl (record { reads = refl; fault = failed.1; says = cc (failed.0) }))
-  refused_cause r second_still (inr (inr memory)) = inr (inr (inr (cc memory)))
-
-  pub refused_model : (r : PlainRefusal) → second.same → IsStill second → IsRead model (model_due rule) read_model (Err r) → Decided (Err r)
-  refused_model r second_same second_still read = record {
-    cause = refused_cause r second_still read;
-    unread = record { no_model = λ h. cc; no_second = λ h. cc; model_first = λ h. second_same };
-    done = tt;
   }
 
-  -- it was read
-  model_read : (m : Mdp) → IsRead model (model_due rule) read_model (Ok m) → IsDueToBytes model.before (model_due rule) (Ok m) × IsStill model
-  model_read m (inl read) = read
-  model_read m (inr (inl failed)) = cc (failed.0)
-  model_read m (inr (inr memory)) = cc memory
+  model_cause : (said : Said) → IsWorkOnModel rule due shows model said → HasCause asked model second said
+  model_cause said (inl from) = inl (from_model said from)
+  model_cause said (inr (inl failed)) = inr (inl (record { reads = reads; fault = failed.1; says = failed.0 }))
+  model_cause said (inr (inr memory)) = inr (inr (inr memory))
 
-  module _ (m : Mdp) (mdp : IsMdp m) (read : IsDueToBytes model.before (model_due rule) (Ok m)) (still : IsStill model) (model_end : IsAtEnd model.after) where
-    from_bytes : (said : Said) → IsDueToBytes second.before (λ bytes. said_to_certificate m (certificate_due bytes)) said → IsStill second → IsFromBytes (Ok (check rule)) model second said
-    from_bytes said due second_still = record {
-      model_bytes = read.bytes;
-      second_bytes = due.bytes;
-      had_model = read.had;
-      had_second = due.had;
-      is_due = due.is_due ∙ ap (λ (x : Result Mdp PlainRefusal). said_to_model x due.bytes) read.is_due;
-      model_still = still;
-      second_still = second_still;
-    }
+  model_text : (said : Said) → IsWorkOnModel rule due shows model said → OnOk said (IsAtEnd model.after) → IfOk said (IsTextDecided asked model second)
+  unfolding from_model
+  model_text (Ok text) (inl from) end = record {
+    due = from_model (Ok text) from;
+    shown = shown_is from.bytes (or_nothing second.before) text from.shown;
+    ends = record { model_end = λ h. end; second_end = λ h. cc (h, rests) };
+  }
+  model_text (Ok text) (inr (inl failed)) end = cc (failed.0)
+  model_text (Ok text) (inr (inr memory)) end = cc memory
+  model_text (Err r) read end = tt
 
-    certificate_cause : (said : Said) → IsRead second (λ bytes. said_to_certificate m (certificate_due bytes)) read_certificate said → HasCause (Ok (check rule)) model second said
-    certificate_cause said (inl due) = inl (from_bytes said due.0 due.1)
-    certificate_cause said (inr (inl failed)) = inr (inr (inl (record {
-      reads = refl;
-      fault = failed.1;
-      says = failed.0;
-      model_bytes = read.bytes;
-      had_model = read.had;
-      model_read = subst (λ (x : Result Mdp PlainRefusal). IsOk x) read.is_due refl;
-      model_still = still;
-    })))
-    certificate_cause said (inr (inr memory)) = inr (inr (inr memory))
+  pub model_decided : (said : Said) → IsWorkOnModel rule due shows model said → OnOk said (IsAtEnd model.after) → IsDecided asked model second said
+  model_decided said read end = record {
+    cause = model_cause said read;
+    unread = record { no_model = λ h. cc (h, reads); no_second = λ h. same; model_first = λ h. same };
+    done = model_text said read end;
+  }
 
-    yes_decided : (said : Said) → IsRead second (λ bytes. said_to_certificate m (certificate_due bytes)) read_certificate said → OnOk said (IsAtEnd second.after) → IfOk said (IsTextDecided (Ok (check rule)) model second)
-    unfolding from_bytes
-    yes_decided (Ok text) (inl due) end = record {
-      due = from_bytes (Ok text) due.0 due.1;
-      shown = true_claim rule read.bytes due.0.bytes text m mdp (sym read.is_due) (sym due.0.is_due);
-      ends = record { model_end = λ h. model_end; second_end = λ h. end };
-    }
-    yes_decided (Ok text) (inr (inl failed)) end = cc (failed.0)
-    yes_decided (Ok text) (inr (inr memory)) end = cc memory
-    yes_decided (Err r) read end = tt
+-- ---- a command that reads both sources
 
-    by_read : (said : Said) → IsRead second (λ bytes. said_to_certificate m (certificate_due bytes)) read_certificate said → is_of_model said ≡ false → OnOk said (IsAtEnd second.after) → Decided said
-    by_read said due not_of_model end = record {
-      cause = certificate_cause said due;
-      unread = record { no_model = λ h. cc; no_second = λ h. cc; model_first = λ h. cc (h, not_of_model) };
-      done = yes_decided said due end;
-    }
+module _ (asked : Asked) (rule : RowRule) (due : Mdp → List ℕ → Said → Type 0) (shows : List ℕ → List ℕ → List ℕ → Type 0) (model second : Input)
+    (reads : reads_model asked ≡ true) (reads_too : reads_second asked ≡ true)
+    (due_is : (bytes other : List ℕ) (said : Said) → IsDueToModel (λ m. due m other) (model_due rule bytes) said → IsDue asked bytes other said)
+    (shown_is : (bytes other text : List ℕ) → shows bytes other text → IsShown asked bytes other text)
+    (read_is : (bytes : List ℕ) → IsOk (model_due rule bytes) → IsModelRead asked bytes) where
+  from_pair : (said : Said) → IsPairWorked rule due shows model second said → IsFromBytes asked model second said
+  from_pair said from = record {
+    model_bytes = from.model_bytes;
+    second_bytes = from.second_bytes;
+    had_model = from.had_model;
+    had_second = from.had_second;
+    is_due = due_is from.model_bytes from.second_bytes said from.is_due;
+    model_still = from.model_still;
+    second_still = from.second_still;
+  }
 
-  pub checked_certificate :
-      (m : Mdp) (said : Said) → IsMdp m → IsRead model (model_due rule) read_model (Ok m) → IsAtEnd model.after
-      → IsRead second (λ bytes. said_to_certificate m (certificate_due bytes)) read_certificate said
-      → is_of_model said ≡ false
-      → OnOk said (IsAtEnd second.after)
-      → Decided said
-  checked_certificate m said mdp model_is model_end due not_of_model end = let read = model_read m model_is in by_read m mdp read.0 read.1 model_end said due not_of_model end
+  pair_cause : (said : Said) → IsWorkOnPair rule due shows model second said → HasCause asked model second said
+  pair_cause said (inl from) = inl (from_pair said from)
+  pair_cause said (inr (inl failed)) = inr (inl (record { reads = reads; fault = failed.1; says = failed.0 }))
+  pair_cause said (inr (inr (inl failed))) = inr (inr (inl (record {
+    reads = reads_too;
+    fault = failed.fault;
+    says = failed.says;
+    model_bytes = failed.model_bytes;
+    had_model = failed.had_model;
+    model_read = read_is failed.model_bytes failed.model_read;
+    model_still = failed.model_still;
+  })))
+  pair_cause said (inr (inr (inr memory))) = inr (inr (inr memory))
+
+  pair_text : (said : Said) → IsWorkOnPair rule due shows model second said → OnOk said (IsAtEnd model.after) → OnOk said (IsAtEnd second.after) → IfOk said (IsTextDecided asked model second)
+  unfolding from_pair
+  pair_text (Ok text) (inl from) end second_end = record {
+    due = from_pair (Ok text) from;
+    shown = shown_is from.model_bytes from.second_bytes text from.shown;
+    ends = record { model_end = λ h. end; second_end = λ h. second_end };
+  }
+  pair_text (Ok text) (inr (inl failed)) end second_end = cc (failed.0)
+  pair_text (Ok text) (inr (inr (inl failed))) end second_end = cc (failed.says)
+  pair_text (Ok text) (inr (inr (inr memory))) end second_end = cc memory
+  pair_text (Err r) read end second_end = tt
+
+  pub pair_decided : (said : Said) → IsWorkOnPair rule due shows model second said → (IsTrue (is_of_model said) → second.same) → OnOk said (IsAtEnd model.after) → OnOk said (IsAtEnd second.after)
+      → IsDecided asked model second said
+  pair_decided said read first end second_end = record {
+    cause = pair_cause said read;
+    unread = record { no_model = λ h. cc (h, reads); no_second = λ h. cc (h, reads_too); model_first = first };
+    done = pair_text said read end second_end;
+  }
+
+-- ---- what the words ask for
+
+pub decided_as : (asked : Asked) (job : Asked) (model second : Input) (said : Said) → job ≡ asked → IsDecided job model second said → IsDecided asked model second said
+decided_as asked job model second said is d = subst (λ (x : Asked). IsDecided x model second said) is d

@@ -1,8 +1,6 @@
-pub mod Said
 pub mod Due
-pub mod Streams
+pub mod Shown
 pub mod Written
-pub mod Accepted
 pub mod Run
 pub mod Decided
 pub mod Laws

@@ -1,16 +1,17 @@
 -- What a run answers and why, which sources it leaves as they are, and when the work is done.
-use Rattle.std.specs.Prelude.{◌≡◌, ◌⊎◌, ℕ, Bool, true, false, List, Ok, Err, IsTrue, IsFalse}
+use Rattle.std.specs.Prelude.{◌≡◌, ◌⊎◌, ℕ, List, Ok, Err, IsTrue, IsFalse}
 use Rattle.std.specs.Io.KnownBytes.{IsAtEnd}
 use Rattle.mdp_drn.specs.FromSource.{HadLeft}
 use Rattle.mdp_edge.specs.Faults.{FaultCounted}
 use Rattle.mdp_job.specs.Job.{Asked, reads_model, reads_second}
-use Rattle.mdp_job.specs.Refusal.{model_text, read_model, read_certificate, long_model, no_memory}
+use Rattle.mdp_job.specs.Refusal.{read_model, read_certificate, no_memory}
 use Rattle.mdp_job.specs.declared.status.Status.{Status}
 use Rattle.mdp_job.specs.declared.status.Status.TheVariants.{Done, ReadFault, WriteFault, Memory}
-use Rattle.mdp_app.specs.Accepted.{IsShown}
+use Rattle.mdp_step.specs.Read.{is_of_model}
+use Rattle.mdp_step.specs.Said.{Said}
+use Rattle.mdp_step.specs.Streams.{Input, HasFailed, IsStill, Told, Output}
 use Rattle.mdp_app.specs.Due.{IsDue, IsModelRead}
-use Rattle.mdp_app.specs.Said.{Said}
-use Rattle.mdp_app.specs.Streams.{Input, HasFailed, IsStill, Told, Output}
+use Rattle.mdp_app.specs.Shown.{IsShown}
 use Rattle.mdp_app.specs.Written.{WroteAll, Wrote}
 
 -- ---- why an answer may come
@@ -47,13 +48,6 @@ HasCause asked model second said =
     IsFromBytes asked model second said ⊎ (ModelFailed asked model said ⊎ (SecondFailed asked model second said ⊎ (said ≡ Err no_memory)))
 
 -- ---- which sources are left as they are
-
--- the answer is that of a model that couldn't be read, which comes before the second source is read
-abbrev pub is_of_model : Said → Bool
-is_of_model (Err read_model) = true
-is_of_model (Err long_model) = true
-is_of_model (Err (model_text n kind)) = true
-is_of_model said = false
 
 -- sources that the job or the answer leaves unread are as before
 pub record LeavesUnread (asked : Asked) (model second : Input) (said : Said) : Type 0 where

@@ -1,14 +1,14 @@
-//! The program: `check MODEL ROWS CERT` holds a certificate against a model.
+//! The program: each command is a step on the files that its words name. `solve` prints a certificate of the best values of a model, `check` holds
+//! a certificate against a model.
 #![tactic(auto)]
 
-mod files;
+mod checking;
 #[cfg(test)]
 mod graph_tests;
 mod laws;
 #[cfg(test)]
 mod library_tests;
 mod run;
-mod solving;
 #[cfg(test)]
 mod tests;
 

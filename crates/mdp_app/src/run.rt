@@ -1,81 +1,18 @@
-ghost use Rattle.std.specs.Prelude.{◌≡◌, ◌⊎◌, false, Ok, Err, OnOk};
-ghost use Rattle.std.specs.Io.KnownBytes.{IsAtEnd};
-ghost use Rattle.mdp_cert.specs.Plain.{plain};
-ghost use Rattle.mdp_check.specs.Check.{answer_to};
-ghost use Rattle.mdp_job.specs.Job.{check};
-ghost use Rattle.mdp_job.specs.Refusal.{plain_refusal, no_memory, read_certificate};
+ghost use Rattle.std.specs.Prelude.{◌≡◌, Err};
+ghost use Rattle.mdp_job.specs.Refusal.{plain_refusal};
 ghost use Rattle.mdp_job.specs.Words.{job_of};
-ghost use Rattle.mdp_app.specs.Due.{said_of, yes_text, certificate_due, said_to_certificate};
-ghost use Rattle.mdp_app.specs.Said.{said};
-ghost use Rattle.mdp_app.specs.Streams.{input, output};
+ghost use Rattle.mdp_step.specs.Said.{said};
+ghost use Rattle.mdp_step.specs.Streams.{input, output};
 ghost use Rattle.mdp_app.specs.Written.{WroteText};
-ghost use Rattle.mdp_app.specs.Run.{IsAnswered, IsWorkDone, IsComplete, is_of_model};
-ghost use Rattle.mdp_app.specs.Decided.{IsRead, IsDecided, EndsWith};
+ghost use Rattle.mdp_app.specs.Run.{IsAnswered, IsWorkDone, IsComplete};
+ghost use Rattle.mdp_app.specs.Decided.{IsDecided, EndsWith};
 
-use crate::files::{read_certificate, read_model};
-use crate::solving::solve_file;
-use mdp_cert::Cert;
-use mdp_check::{Answer, check};
+use crate::checking::check_files;
 use mdp_edge::{Sink, Source, WriteFault, write_all};
 use mdp_job::{Job, MEMORY_TEXT, Refusal, Status, job_of, push_refusal};
 use mdp_num::Memory;
-use mdp_rows::{Model, RowRule};
+use mdp_solve_step::solve_file;
 use std::alloc::Global;
-
-/// The text of a certificate that holds.
-fn yes(alloc: Global) -> Result<Vec<u8>, Refusal>
-    ensures { (said result ≡ Err no_memory) ⊎ (said result ≡ Ok yes_text) }
-{
-    match b"yes\n".to_vec(alloc) {
-        Ok(text) => Ok(text),
-        Err(_) => Err(Refusal::Memory),
-    }
-}
-
-/// What the checker says, as the text of a run or its refusal.
-fn checked(alloc: Global, model: &Model, cert: &Cert) -> Result<Vec<u8>, Refusal>
-    ensures { (said result ≡ Err no_memory) ⊎ (said result ≡ said_of (answer_to model.now (plain cert.now))) }
-{
-    match check(alloc, model, cert) {
-        Answer::Yes => yes(alloc),
-        Answer::No(fault) => Err(Refusal::Denied(fault)),
-        Answer::Wide { state, choice } => Err(Refusal::CheckWide { state, choice }),
-        Answer::NoLabel => Err(Refusal::QueryLabel),
-        Answer::Size => Err(Refusal::QuerySize),
-        Answer::Memory => Err(Refusal::Memory),
-    }
-}
-
-/// Reads the certificate to its end and judges its text, then holds it against the model.
-fn check_certificate<C: Source>(
-    alloc: Global,
-    model: &Model,
-    cert: &mut C,
-) -> Result<Vec<u8>, Refusal>
-    ensures read { IsRead (input C.left C.faults cert.old cert.new) (λ bytes. said_to_certificate model.now (certificate_due bytes)) read_certificate (said result) }
-    ensures not_of_model { is_of_model (said result) ≡ false }
-    ensures end { OnOk (said result) (IsAtEnd (C.left cert.new)) }
-{
-    match read_certificate(alloc, cert) {
-        Ok(cert) => checked(alloc, model, &cert),
-        Err(refusal) => Err(refusal),
-    }
-}
-
-/// Reads the model to its end and judges its text, then the certificate, then holds the one against the other.
-fn check_files<S: Source, C: Source>(
-    alloc: Global,
-    rule: RowRule,
-    model: &mut S,
-    cert: &mut C,
-) -> Result<Vec<u8>, Refusal>
-    ensures { IsDecided (Ok (check rule)) (input S.left S.faults model.old model.new) (input C.left C.faults cert.old cert.new) (said result) }
-{
-    match read_model(alloc, model, rule) {
-        Ok(model) => check_certificate(alloc, &model, cert),
-        Err(refusal) => Err(refusal),
-    }
-}
 
 /// The answer to the words.
 fn decided<S: Source, C: Source>(

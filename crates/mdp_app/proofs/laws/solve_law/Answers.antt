@@ -1,9 +1,0 @@
-use Rattle.mdp_app.specs.Due.{model_due}
-use Rattle.mdp_app.proofs.Solved.{solve_once, text_is_answer}
-use Rattle.mdp_app.proofs.laws.solve_law.Goals as goal
-
-pub returns : goal.returns
-returns c = record {
-  once = λ rule dir query model second other said again due next. solve_once dir query (model_due rule model) said again due next;
-  answer = λ rule dir label model second text m read mdp due. text_is_answer c.query_law.ensures.rules c.query_law.ensures.max c.query_law.ensures.min label m mdp dir text (model_due rule model) read due;
-}

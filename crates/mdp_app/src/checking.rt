@@ -1,0 +1,77 @@
+ghost use Rattle.std.specs.Prelude.{◌≡◌, ◌⊎◌, false, Ok, Err, OnOk, IsTrue};
+ghost use Rattle.std.specs.Io.KnownBytes.{IsAtEnd};
+ghost use Rattle.mdp_cert.specs.Plain.{plain};
+ghost use Rattle.mdp_check.specs.Check.{answer_to};
+ghost use Rattle.mdp_job.specs.Refusal.{no_memory, read_certificate};
+ghost use Rattle.mdp_step.specs.Files.{certificate_due};
+ghost use Rattle.mdp_step.specs.Read.{IsRead, is_of_model};
+ghost use Rattle.mdp_step.specs.Said.{said};
+ghost use Rattle.mdp_step.specs.Streams.{input};
+ghost use Rattle.mdp_app.specs.Decided.{IsCheckRead};
+ghost use Rattle.mdp_app.specs.Due.{said_of, yes_text, said_to_certificate};
+
+use mdp_cert::Cert;
+use mdp_check::{Answer, check};
+use mdp_edge::Source;
+use mdp_job::Refusal;
+use mdp_rows::{Model, RowRule};
+use mdp_step::{read_certificate, read_model};
+use std::alloc::Global;
+
+/// The text of a certificate that holds.
+fn yes(alloc: Global) -> Result<Vec<u8>, Refusal>
+    ensures { (said result ≡ Err no_memory) ⊎ (said result ≡ Ok yes_text) }
+{
+    match b"yes\n".to_vec(alloc) {
+        Ok(text) => Ok(text),
+        Err(_) => Err(Refusal::Memory),
+    }
+}
+
+/// What the checker says, as the text of a run or its refusal.
+fn checked(alloc: Global, model: &Model, cert: &Cert) -> Result<Vec<u8>, Refusal>
+    ensures { (said result ≡ Err no_memory) ⊎ (said result ≡ said_of (answer_to model.now (plain cert.now))) }
+{
+    match check(alloc, model, cert) {
+        Answer::Yes => yes(alloc),
+        Answer::No(fault) => Err(Refusal::Denied(fault)),
+        Answer::Wide { state, choice } => Err(Refusal::CheckWide { state, choice }),
+        Answer::NoLabel => Err(Refusal::QueryLabel),
+        Answer::Size => Err(Refusal::QuerySize),
+        Answer::Memory => Err(Refusal::Memory),
+    }
+}
+
+/// Reads the certificate to its end and judges its text, then holds it against the model.
+fn check_certificate<C: Source>(
+    alloc: Global,
+    model: &Model,
+    cert: &mut C,
+) -> Result<Vec<u8>, Refusal>
+    ensures read { IsRead (input C.left C.faults cert.old cert.new) (λ bytes. said_to_certificate model.now (certificate_due bytes)) read_certificate (said result) }
+    ensures not_of_model { is_of_model (said result) ≡ false }
+    ensures end { OnOk (said result) (IsAtEnd (C.left cert.new)) }
+{
+    match read_certificate(alloc, cert) {
+        Ok(cert) => checked(alloc, model, &cert),
+        Err(refusal) => Err(refusal),
+    }
+}
+
+/// Reads the model to its end and judges its text, then the certificate, then holds the one against the other.
+pub(crate) fn check_files<S: Source, C: Source>(
+    alloc: Global,
+    rule: RowRule,
+    model: &mut S,
+    cert: &mut C,
+) -> Result<Vec<u8>, Refusal>
+    ensures read { IsCheckRead rule (input S.left S.faults model.old model.new) (input C.left C.faults cert.old cert.new) (said result) }
+    ensures model_first { IsTrue (is_of_model (said result)) → cert.new ≡ cert.old }
+    ensures model_end { OnOk (said result) (IsAtEnd (S.left model.new)) }
+    ensures cert_end { OnOk (said result) (IsAtEnd (C.left cert.new)) }
+{
+    match read_model(alloc, model, rule) {
+        Ok(model) => check_certificate(alloc, &model, cert),
+        Err(refusal) => Err(refusal),
+    }
+}

@@ -1,0 +1,3 @@
+pub mod TextLength
+pub mod Printing
+pub mod Solved

@@ -1,0 +1,42 @@
+-- Laws of what is due to a query, over the definitions alone.
+use Rattle.std.specs.Prelude.{◌≡◌, ℕ, Bool, List, Some, Ok}
+use Rattle.mdp_spec.specs.Labels.{place_of, marks_of}
+use Rattle.mdp_spec.specs.Mdp.{Mdp}
+use Rattle.mdp_spec.specs.Bounds.{ReachMax, ReachMin}
+use Rattle.mdp_spec.specs.Row.{IsMdp}
+use Rattle.mdp_rows.specs.declared.dir.Dir.{Dir}
+use Rattle.mdp_rows.specs.declared.dir.Dir.TheVariants.{Max, Min}
+use Rattle.mdp_rows.specs.declared.rule.RowRule.{RowRule}
+use Rattle.mdp_farkas.specs.Reach.{IsReach}
+use Rattle.mdp_reach.specs.Query.{Answer}
+use Rattle.mdp_cert.specs.Spelling.{text_of}
+use Rattle.mdp_job.specs.Job.{PlainQuery, reach}
+use Rattle.mdp_step.specs.Files.{model_due}
+use Rattle.mdp_step.specs.Said.{Said}
+use Rattle.mdp_solve_step.specs.Due.{certificate_of, IsSolveDue}
+
+-- what is due to a query and to the model's bytes is one thing
+abbrev pub IsDueOnce : Type 0
+IsDueOnce =
+    (rule : RowRule) (dir : Dir) (query : PlainQuery) (model : List ℕ) (said again : Said) → IsSolveDue dir query (model_due rule model) said
+    → IsSolveDue dir query (model_due rule model) again → said ≡ again
+
+-- the values are the greatest, or the least, probabilities of reaching a goal
+abbrev pub IsBest : Dir → Mdp → List Bool → Answer → Type 0
+IsBest Max m goals a = ReachMax m goals a.values a.choices
+IsBest Min m goals a = ReachMin m goals a.values a.choices
+
+-- a text that is due spells an answer that meets the rules, and whose values are the best ones
+pub record IsAnswerTo (dir : Dir) (label : List ℕ) (m : Mdp) (text : List ℕ) : Type 0 where
+  pub place : ℕ
+  pub found : place_of label m.labels ≡ Some place
+  pub answer : Answer
+  pub spelled : text ≡ text_of (certificate_of dir label m answer)
+  pub rules : IsReach dir m (marks_of m place) answer.values answer.choices answer.ranks
+  pub best : IsBest dir m (marks_of m place) answer
+
+-- where a text is due to a query, it is such a text
+abbrev pub TextIsAnswer : Type 0
+TextIsAnswer =
+    (rule : RowRule) (dir : Dir) (label model text : List ℕ) (m : Mdp) → model_due rule model ≡ Ok m → IsMdp m → IsSolveDue dir (reach label) (model_due rule model) (Ok text)
+    → IsAnswerTo dir label m text

@@ -1,0 +1,44 @@
+-- What is shown of the text that solves a query.
+use Rattle.std.specs.Prelude.{◌≡◌, ◌≤◌, ℕ, List, length, Ok}
+use Rattle.mdp_spec.specs.Mdp.{Mdp}
+use Rattle.mdp_rows.specs.declared.dir.Dir.{Dir}
+use Rattle.mdp_rows.specs.declared.rule.RowRule.{RowRule}
+use Rattle.mdp_cert.specs.Cert as certificate
+use Rattle.mdp_cert.specs.Cert.{Certificate}
+use Rattle.mdp_cert.specs.Reading.{outcome}
+use Rattle.mdp_cert.specs.Spelling.{text_of}
+use Rattle.mdp_check.specs.Check.{IsAccepted, IsBound}
+use Rattle.mdp_job.specs.Job.{PlainQuery, reach}
+use Rattle.mdp_step.specs.Accepted.{IsTrueClaim}
+use Rattle.mdp_step.specs.Files.{most_bytes}
+use Rattle.mdp_step.specs.Read.{IsWorkOnModel}
+use Rattle.mdp_step.specs.Said.{Said}
+use Rattle.mdp_step.specs.Streams.{Input}
+use Rattle.mdp_solve_step.specs.Due.{IsQueryDue}
+
+-- the text of a certificate for the model, of the claim in this direction on this label, which reads as it; all rules hold, and the claim is true
+pub record IsReachPrinted (dir : Dir) (label : List ℕ) (m : Mdp) (text : List ℕ) : Type 0 where
+  pub cert : Certificate
+  pub claim : cert.claim ≡ certificate.reach dir label
+  pub spelled : text ≡ text_of cert
+  pub short : length text ≤ most_bytes
+  pub reads : outcome text ≡ Ok cert
+  pub holds : IsAccepted m cert
+  pub bound : IsBound m cert
+
+abbrev pub IsPrinted : Dir → PlainQuery → Mdp → List ℕ → Type 0
+IsPrinted dir (reach label) m text = IsReachPrinted dir label m text
+
+-- `check` accepts the text with the model's bytes, and its claim, in this direction on this label, is true: the values are the greatest, or the
+-- least, probabilities of reaching a state with the label, and the policy comes close to them
+pub record IsReachSolved (rule : RowRule) (dir : Dir) (label model_bytes text : List ℕ) : Type 0 where
+  pub true_claim : IsTrueClaim rule model_bytes text
+  pub claim : true_claim.accepted.cert.claim ≡ certificate.reach dir label
+  pub spelled : text ≡ text_of true_claim.accepted.cert
+
+abbrev pub IsSolved : RowRule → Dir → PlainQuery → List ℕ → List ℕ → Type 0
+IsSolved rule dir (reach label) model_bytes text = IsReachSolved rule dir label model_bytes text
+
+-- a query of the model of a source: what is due to the bytes that it had, and what is shown of a text; or a fault, or want of memory
+abbrev pub IsSolveRead : RowRule → Dir → PlainQuery → Input → Said → Type 0
+IsSolveRead rule dir query = IsWorkOnModel rule (IsQueryDue dir query) (IsSolved rule dir query)

@@ -1,0 +1,8 @@
+//! The command `solve`: the best values of a model, with a policy and a certificate.
+#![tactic(auto)]
+
+mod laws;
+mod solving;
+
+pub use laws::solve_law;
+pub use solving::solve_file;

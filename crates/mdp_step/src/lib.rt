@@ -1,0 +1,6 @@
+//! What every command stands on: what a run says, its sources and its sink, and its files, read to their ends.
+#![tactic(auto)]
+
+mod files;
+
+pub use files::{read_certificate, read_model, read_second};
