@@ -1,0 +1,5 @@
+pub mod Rows
+pub mod Modelled
+pub mod Spelled
+pub mod Written
+pub mod Examples
