@@ -55,7 +55,7 @@ labels-is s = by (eqb s 0)
 grouped : (a b c rest : List ℕ) → a ++ (b ++ (c ++ [])) ++ rest ≡ (a ++ b ++ c) ++ rest
 grouped a b c rest = simp (append_assoc, append-nil) refl
 
-states-one : (layers width s x : ℕ) (states : List State)
+pub states-one : (layers width s x : ℕ) (states : List State)
     → states_text (of_states []) s (state_behind layers width s x ∷ states) ≡ state_text layers width s x ++ states_text (of_states []) (suc s) states
 states-one layers width s x states =
     let a = target layers width s (next x) in

@@ -1,5 +1,5 @@
 -- What the text of a layered model is.
-use Rattle.std.specs.Prelude.{◌≡◌, ℕ, ◌+◌, ◌*◌, length, sum_by}
+use Rattle.std.specs.Prelude.{◌≡◌, ℕ, ◌+◌, ◌*◌, ◌^◌, ◌≤◌, length, sum_by}
 use Rattle.mdp_spec.specs.Mdp.{states_of}
 use Rattle.mdp_spec.specs.Row.{IsMdp}
 use Rattle.mdp_rows.specs.Limits.{IsModel}
@@ -11,6 +11,10 @@ use Rattle.mdp_gen.specs.Text.{generated_text}
 -- it reads as the layered model
 abbrev pub TextReads : Type 0
 TextReads = (number layers width : ℕ) → IsShape layers width → Reads (generated_text number layers width) Exact (layered_model number layers width)
+
+-- it is as short as the file of a model may be
+abbrev pub TextIsShort : Type 0
+TextIsShort = (number layers width : ℕ) → IsShape layers width → length (generated_text number layers width) ≤ 2 ^ 30
 
 -- so many states are in it
 abbrev pub HasStates : Type 0

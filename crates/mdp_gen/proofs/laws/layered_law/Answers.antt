@@ -1,4 +1,5 @@
 use Rattle.mdp_gen.proofs.Modelled.{layered-model, layered-mdp, length-layered, layered-choices}
+use Rattle.mdp_gen.proofs.Short.{text-short}
 use Rattle.mdp_gen.specs.Layered.{layered_model}
 use Rattle.mdp_gen.proofs.laws.layered_law.Goals as goal
 
@@ -16,3 +17,6 @@ returns-clause-states c = λ number layers width shape. length-layered number la
 
 pub returns-clause-choices : goal.returns-clause-choices
 returns-clause-choices c = λ number layers width shape. layered-choices number layers width
+
+pub returns-clause-short : goal.returns-clause-short
+returns-clause-short c = text-short
