@@ -10,3 +10,4 @@ mod Tests
 pub mod RewardRules
 mod Examples
 mod ExamplesReward
+mod ExamplesMean
