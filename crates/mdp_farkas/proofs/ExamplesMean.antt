@@ -1,14 +1,13 @@
 -- Verdicts on mean payoffs, computed, on four models: `turns` goes to and fro between 0 and 1 and earns 1 at 0; `gamble` stays at 0 for 1 in
 -- each step, or moves to 1, which earns 4 in each step, or to 2, which earns nothing, with 1/2 each; `leave` earns 1 in each step, and 5 once
 -- on the way from 0 to 1; `pay` loses 1 in each step at 0, or 5 once on the way to 1, which loses 1/2 in each step.
-use Rattle.std.proofs.Common.{◌≡◌, ℕ, ◌+◌, ◌^◌, List, [], ◌∷◌, refl, pos, negsuc, Option, Some, None}
+use Rattle.std.proofs.Common.{◌≡◌, ℕ, ◌+◌, ◌^◌, List, [], ◌∷◌, refl, pos, Option, Some, None}
 use Rattle.mdp_math.specs.Gcd.{gcd, gcd_with_fuel}
 use Rattle.mdp_math.specs.Rational.{ℚ, of_int, ratio, neg_ℚ, ◌+ℚ◌, ◌*ℚ◌}
 use Rattle.mdp_math.specs.Written.{narrow, narrow_ℚ, written_add, written_mul, written_compare}
 use Rattle.mdp_spec.specs.Mdp.{Entry, Choice, State, Mdp}
 use Rattle.mdp_farkas.specs.Verdict.{verdict_of}
 use Rattle.mdp_farkas.specs.Mean.{mean_checks}
-use Rattle.mdp_rows.specs.declared.dir.Dir.{Dir}
 use Rattle.mdp_rows.specs.declared.dir.Dir.TheVariants.{Max, Min}
 use Rattle.mdp_farkas.specs.declared.verdict.Verdict.{Verdict}
 use Rattle.mdp_farkas.specs.declared.verdict.Verdict.TheVariants.{Yes, No, Wide}
@@ -121,8 +120,8 @@ pays = refl
 -- two states that are left nowhere: the bounds' range has the denominator 3(2^126 + 1), which is past width and has no place
 wide :
     verdict_of
-        (mean_checks Max (model (state (to 0 (number 0) ∷ []) ∷ state (to 1 (number 0) ∷ []) ∷ [])) 0 (two (number 0) (number 0)) (two (over 1 3) (over 1 (2 ^ 126 + 1))) (two (number 0) (number 0))
-        (number 0) (0 ∷ 0 ∷ []))
+    (mean_checks Max (model (state (to 0 (number 0) ∷ []) ∷ state (to 1 (number 0) ∷ []) ∷ [])) 0 (two (number 0) (number 0)) (two (over 1 3) (over 1 (2 ^ 126 + 1))) (two (number 0) (number 0))
+    (number 0) (0 ∷ 0 ∷ []))
     ≡ Wide None None
 unfolding gcd gcd_with_fuel ratio of_int neg_ℚ ◌+ℚ◌ ◌*ℚ◌ narrow narrow_ℚ written_add written_mul written_compare
 wide = refl

@@ -62,9 +62,13 @@ mean_checks_at dir m r g a b s choice =
     choice_exists m s choice
     ∷ (at_choices m s (gain_check dir m g s) ++ (at_choices m s (relative_check dir m r g a s) ++ policy_gain_check m g s choice ∷ policy_bias_check m r g b s choice ∷ []))
 
--- the states ascend, at a state the rules, in a rule the choices; the spread comes last
+-- the states ascend, at a state the rules, in a rule the choices
+abbrev pub state_checks : Dir → Mdp → ℕ → List ℚ → List ℚ → List ℚ → List ℕ → List Check
+state_checks dir m r g a b policy = flat_map (λ s. mean_checks_at dir m r g a b s (slice_index policy s)) (range_with_len 0 (states_of m))
+
+-- and the spread comes last
 abbrev pub mean_checks : Dir → Mdp → ℕ → List ℚ → List ℚ → List ℚ → ℚ → List ℕ → List Check
-mean_checks dir m r g a b spread policy = flat_map (λ s. mean_checks_at dir m r g a b s (slice_index policy s)) (range_with_len 0 (states_of m)) ++ spread_check a b spread ∷ []
+mean_checks dir m r g a b spread policy = state_checks dir m r g a b policy ++ spread_check a b spread ∷ []
 
 -- the rules in exact numbers
 abbrev pub MeetsMean : Dir → Mdp → ℕ → List ℚ → List ℚ → List ℚ → ℚ → List ℕ → Type 0
