@@ -1,0 +1,4 @@
+pub mod Nodes
+pub mod Rows
+pub mod Policies
+pub mod Values

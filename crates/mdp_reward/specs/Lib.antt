@@ -1,0 +1,2 @@
+pub mod Problem
+pub mod Query
