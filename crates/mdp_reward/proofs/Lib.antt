@@ -5,3 +5,8 @@ pub mod Values
 pub mod MaxFacts
 pub mod MinFacts
 pub mod Starts
+pub mod Kept
+pub mod Certificate
+pub mod Shared
+pub mod MaxRules
+pub mod MinRules
