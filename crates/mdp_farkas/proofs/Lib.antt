@@ -7,3 +7,4 @@ pub mod UpperRules
 mod Entries
 pub mod ReachRules
 mod Examples
+mod ExamplesReward
