@@ -10,3 +10,6 @@ pub mod Certificate
 pub mod Shared
 pub mod MaxRules
 pub mod MinRules
+pub mod Rounds
+pub mod OneEnd
+pub mod Answering

@@ -13,6 +13,17 @@ use Rattle.mdp_graph.specs.Meet.{must_step}
 use Rattle.mdp_graph.specs.Sure.{inside_step, IsGreatestSure, stays_and_falls}
 use Rattle.mdp_graph.specs.Rounds.{AreRounds}
 use Rattle.mdp_graph.specs.Avoid.{IsGreatestAvoiding, keeps}
+use Rattle.mdp_elim.specs.declared.too_wide.Part.TheVariants.{Whole}
+use Rattle.mdp_path.specs.Iteration.{EndsWith}
+use Rattle.mdp_path.specs.Path.{Found, Refusal, path_step}
+use Rattle.mdp_path.specs.Laws.{first}
+use Rattle.mdp_path.specs.Queries.{WideTerm, term_of, term_of_check}
+use Rattle.mdp_farkas.specs.Verdict.{verdict_of}
+use Rattle.mdp_farkas.specs.Reward.{reward_checks}
+use Rattle.mdp_farkas.specs.declared.verdict.Verdict.{Verdict}
+use Rattle.mdp_farkas.specs.declared.verdict.Verdict.TheVariants.{Yes, No, Wide}
+use Rattle.mdp_farkas.specs.declared.reward.RewardCert.{RewardCert}
+use Rattle.mdp_reward.specs.Problem.{reward_problem}
 
 -- ---- the start
 
@@ -86,3 +97,37 @@ pub record AreMinRanks (m : Mdp) (goals finite : List Bool) (known policy ranks 
 abbrev pub AreRanks : Dir → Mdp → List Bool → List Bool → List ℕ → List ℕ → List ℕ → Type 0
 AreRanks Max m goals finite known policy ranks = ranks ≡ known
 AreRanks Min m goals finite known policy ranks = AreMinRanks m goals finite known policy ranks
+
+-- ---- its end
+
+-- what is printed of a query: values, policy and ranks
+pub record Answer : Type 0 where
+  pub values : List (Option ℚ)
+  pub choices : List ℕ
+  pub ranks : List ℕ
+
+abbrev pub plain : RewardCert → Answer
+plain cert = record { values = cert.values.items; choices = cert.choices.items; ranks = cert.ranks.items }
+
+-- what was found, held against the rules of certificates: it is the answer, or a term of the check is past width
+abbrev pub Held : Found → List (Option ℚ) → List ℕ → Verdict → Result Answer WideTerm → Type 0
+Held found values ranks Yes q = q ≡ Ok (record { values = values; choices = found.policy; ranks = ranks })
+Held found values ranks (Wide state choice) q = q ≡ Err (term_of_check Whole found state choice)
+Held found values ranks (No fault) q = ⊥
+
+-- what follows the path's end
+abbrev pub AfterPath : Dir → Mdp → ℕ → List Bool → List Bool → List ℕ → Result Found Refusal → Result Answer WideTerm → Type 0
+AfterPath dir m r goals finite known (Err refusal) q = q ≡ Err (term_of Whole refusal)
+AfterPath dir m r goals finite known (Ok found) q =
+    (ranks : List ℕ) × AreRanks dir m goals finite known found.policy ranks
+    × Held found (rewards_of m finite found.values) ranks (verdict_of (reward_checks dir m r goals (rewards_of m finite found.values) found.policy ranks)) q
+
+-- the query ends so
+pub record EndsSo (dir : Dir) (m : Mdp) (r : ℕ) (goals : List Bool) (q : Result Answer WideTerm) : Type 0 where
+  pub finite : List Bool
+  pub start : List ℕ
+  pub known : List ℕ
+  pub is_start : IsStart dir m goals finite start known
+  pub end : Result Found Refusal
+  pub path : EndsWith (path_step (reward_problem dir m r goals finite)) (first start) end
+  pub after : AfterPath dir m r goals finite known end q
