@@ -1,13 +1,11 @@
 -- What the parts of a query make together: the end of the query, and that an answer is right.
-use Rattle.std.proofs.Common.{◌≡◌, ℕ, ◌<◌, List, Bool, false, length, Option, Result, Ok, Err, refl, sym, ◌∙◌, ap, subst, if◌then◌else◌}
+use Rattle.std.proofs.Common.{◌≡◌, ℕ, List, Bool, length, Option, Result, Ok, Err, refl, sym, ◌∙◌, ap, subst, if◌then◌else◌}
 use Rattle.std.specs.Prelude.{slice_index}
 use Rattle.std.proofs.lemmas.List.FromFn.{length-map-range_with_len}
 use Rattle.mdp_math.specs.Rational.{ℚ}
 use Rattle.mdp_spec.specs.Mdp.{Mdp, states_of}
-use Rattle.mdp_spec.specs.Row.{IsMdp}
 use Rattle.mdp_spec.specs.Tree.{is_marked}
 use Rattle.mdp_spec.proofs.Reward.{reward_max_of_rules, reward_min_of_rules}
-use Rattle.mdp_rows.specs.Negative.{has_negative}
 use Rattle.mdp_rows.specs.declared.dir.Dir.{Dir}
 use Rattle.mdp_rows.specs.declared.dir.Dir.TheVariants.{Max, Min}
 use Rattle.mdp_graph.specs.Laws.{StaysSure, RestAvoids, RowsFall, RowsStay, RoundsFall, ZeroIsSure}

@@ -1,13 +1,10 @@
 -- The values of a certificate: those of the path at finite states, infinite at the others. As numbers they are those of the path.
-use Rattle.std.proofs.Common.{◌≡◌, ℕ, ◌<◌, ◌≤◌, ◌⊎◌, inl, inr, Bool, true, false, not, ◌&&◌, List, length, map, Option, Some, None, refl, sym, ◌∙◌, ap, subst, arith, zero-add, if◌then◌else◌, pos}
+use Rattle.std.proofs.Common.{◌≡◌, ℕ, ◌<◌, Bool, true, false, not, ◌&&◌, List, length, Option, Some, None, refl, sym, ◌∙◌, ap, arith, zero-add, if◌then◌else◌, pos}
 use Rattle.std.specs.Prelude.{slice_index_or, is_some, unwrap_or}
-use Rattle.std.proofs.Math.ListN.{get_or-eq_default}
 use Rattle.std.proofs.lemmas.List.{get_or-map, length-map}
 use Rattle.std.proofs.lemmas.List.FromFn.{get_or-map-range_with_len, length-map-range_with_len, fill_by_all}
 use Rattle.mdp_math.specs.Rational.{ℚ, of_int}
-use Rattle.mdp_math.proofs.Numbers.{le_or}
 use Rattle.mdp_math.proofs.Order.{0ℚ}
-use Rattle.mdp_math.proofs.Booleans.{and-left, and-right, not_true}
 use Rattle.mdp_spec.specs.Mdp.{Mdp, states_of, value_at}
 use Rattle.mdp_spec.specs.Tree.{is_marked}
 use Rattle.mdp_spec.specs.Bounds.{reward_at, finite_part, infinite}

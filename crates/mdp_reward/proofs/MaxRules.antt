@@ -1,11 +1,11 @@
 -- What the path of the greatest reward finds meets the rules.
-use Rattle.std.proofs.Common.{◌≡◌, ℕ, ◌<◌, ◌⊎◌, inl, inr, Bool, true, false, List, length, Option, refl, sym, ap, subst}
+use Rattle.std.proofs.Common.{◌≡◌, ℕ, ◌<◌, ◌⊎◌, inl, inr, Bool, true, false, List, length, Option, refl, sym, subst}
 use Rattle.std.specs.List.{All, Any}
 use Rattle.std.specs.Prelude.{slice_index}
 use Rattle.mdp_math.specs.Rational.{ℚ}
 use Rattle.mdp_math.proofs.Order.{≤ℚ_of_eq}
-use Rattle.mdp_spec.specs.Mdp.{Mdp, Entry, states_of, row_at, choices_at}
-use Rattle.mdp_spec.specs.Row.{IsMdp, IsRow}
+use Rattle.mdp_spec.specs.Mdp.{Mdp, states_of, row_at, choices_at}
+use Rattle.mdp_spec.specs.Row.{IsMdp}
 use Rattle.mdp_spec.specs.Tree.{is_marked}
 use Rattle.mdp_spec.specs.Tree as tree
 use Rattle.mdp_spec.specs.Bounds.{infinite}

@@ -1,13 +1,12 @@
 -- What the passes of the least reward say: goals are finite, the start keeps to finite states and leads on a shortest way among them, and from any other
 -- state each choice leads to such a state of smaller round, or to states of the same round alone.
-use Rattle.std.proofs.Common.{◌≡◌, ℕ, ◌<◌, ◌⊎◌, inl, inr, Bool, true, false, not, ◌&&◌, ◌==◌, nat_lt, eqb, List, length, refl, sym, ◌∙◌, ap, arith}
+use Rattle.std.proofs.Common.{◌≡◌, ℕ, ◌<◌, ◌⊎◌, inl, inr, Bool, true, false, not, ◌&&◌, ◌==◌, nat_lt, List, length, sym, ◌∙◌, ap, arith}
 use Rattle.std.specs.List.{All, Any}
 use Rattle.std.specs.Prelude.{slice_index}
-use Rattle.std.proofs.lemmas.Bool.{eqb-true, ne_eqb}
+use Rattle.std.proofs.lemmas.Bool.{eqb-true}
 use Rattle.std.proofs.lemmas.List.Folds.{Any-from_list_any}
 use Rattle.mdp_math.proofs.Booleans.{and-left, and-right, false_of_not, not_true}
 use Rattle.mdp_math.proofs.Kernel.{Any-and}
-use Rattle.mdp_math.proofs.Numbers.{eqb-same}
 use Rattle.mdp_spec.specs.Mdp.{Mdp, Entry, states_of, row_at, choices_at}
 use Rattle.mdp_spec.specs.Row.{IsMdp}
 use Rattle.mdp_spec.specs.Tree.{is_marked, IsPolicy}

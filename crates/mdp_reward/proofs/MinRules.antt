@@ -4,25 +4,24 @@ use Rattle.std.proofs.Common.{◌≡◌, ℕ, zero, suc, ◌<◌, ◌⊎◌, inl
 use Rattle.std.specs.List.{All, Any}
 use Rattle.std.specs.Prelude.{slice_index}
 use Rattle.mdp_math.specs.Rational.{ℚ}
-use Rattle.mdp_math.proofs.Booleans.{and-left, not_true}
 use Rattle.mdp_math.proofs.Kernel.{Any-and}
 use Rattle.mdp_math.proofs.Order.{≤ℚ_of_eq}
 use Rattle.mdp_spec.specs.Mdp.{Mdp, Entry, states_of, row_at, choices_at}
-use Rattle.mdp_spec.specs.Row.{IsMdp, IsRow}
+use Rattle.mdp_spec.specs.Row.{IsMdp}
 use Rattle.mdp_spec.specs.Tree.{is_marked}
 use Rattle.mdp_spec.specs.Tree as tree
 use Rattle.mdp_spec.specs.Bounds.{infinite}
-use Rattle.mdp_spec.specs.RewardRules.{IsInfinite, IsTransient, StaysFinite, Falls, FallsInfinite, StaysInfinite, MeetsRewardMin}
+use Rattle.mdp_spec.specs.RewardRules.{IsTransient, StaysFinite, Falls, FallsInfinite, StaysInfinite, MeetsRewardMin}
 use Rattle.mdp_rows.specs.Negative.{has_negative}
 use Rattle.mdp_rows.specs.declared.dir.Dir.TheVariants.{Min}
 use Rattle.mdp_graph.specs.Sets.{stays_in}
 use Rattle.mdp_graph.specs.Laws.{RowsFall, RowsStay, RoundsFall, ZeroIsSure}
-use Rattle.mdp_elim.specs.System.{is_active, row_of}
-use Rattle.mdp_path.specs.Problem.{Problem, active_of, rows_of, count}
+use Rattle.mdp_elim.specs.System.{is_active}
+use Rattle.mdp_path.specs.Problem.{Problem, active_of, rows_of}
 use Rattle.mdp_path.specs.Laws.{IsBestFrom}
 use Rattle.mdp_path.proofs.Chain.{rows-len}
 use Rattle.mdp_reward.specs.Problem.{is_transient, reward_problem}
-use Rattle.mdp_reward.specs.Query.{rewards_of, split, IsMinStart, AreMinRanks}
+use Rattle.mdp_reward.specs.Query.{rewards_of, IsMinStart, AreMinRanks}
 use Rattle.mdp_reward.proofs.Rows.{any_mono, all_in, stays_by_all, split-at, goal-along, goal-along_rank, row-falls, row-stays}
 use Rattle.mdp_reward.proofs.MinFacts.{goal-finite, min_policy, min_misses}
 use Rattle.mdp_reward.proofs.Policies.{is_node, transient-may, transient-active, open-row}

@@ -1,19 +1,18 @@
 -- A query has one end at most: marks, ranks and choices of its passes are determined, and so are its path and the verdict.
-use Rattle.std.proofs.Common.{◌≡◌, ℕ, ◌<◌, ◌≤◌, ◌+◌, zero, suc, inl, inr, Bool, true, false, ◌||◌, ◌==◌, nat_lt, List, length, Option, Result, Ok, Err, refl, sym, ◌∙◌, ap, subst, arith}
-use Rattle.std.specs.Prelude.{slice_index, slice_index_or}
+use Rattle.std.proofs.Common.{◌≡◌, ℕ, ◌<◌, inl, inr, Bool, true, false, List, Option, Result, Ok, Err, refl, sym, ◌∙◌, ap, subst, arith}
+use Rattle.std.specs.Prelude.{slice_index}
 use Rattle.mdp_math.specs.Rational.{ℚ}
 use Rattle.mdp_math.proofs.Booleans.{same_truth}
 use Rattle.mdp_spec.specs.Mdp.{Mdp, states_of}
 use Rattle.mdp_spec.specs.Tree.{is_marked}
 use Rattle.mdp_rows.specs.declared.dir.Dir.{Dir}
 use Rattle.mdp_rows.specs.declared.dir.Dir.TheVariants.{Max, Min}
-use Rattle.mdp_graph.specs.Layers.{reached, AreReached, AreLeastRanks}
+use Rattle.mdp_graph.specs.Layers.{AreReached, AreLeastRanks}
 use Rattle.mdp_graph.specs.Choices.{AreLeast}
 use Rattle.mdp_graph.specs.Reach.{may_step, row_step, falls}
 use Rattle.mdp_graph.specs.Meet.{must_step}
 use Rattle.mdp_graph.specs.Sure.{inside_step, IsGreatestSure, stays_and_falls}
 use Rattle.mdp_graph.specs.Avoid.{IsGreatestAvoiding, keeps}
-use Rattle.mdp_graph.specs.Rounds.{AreRounds, left_after, CanStay}
 use Rattle.mdp_path.specs.Path.{Found, Refusal, path_step}
 use Rattle.mdp_path.specs.Laws.{first}
 use Rattle.mdp_path.specs.Iteration.{EndsWith}

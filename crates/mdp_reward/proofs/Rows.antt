@@ -1,5 +1,5 @@
 -- Sets of states that rows lead into or stay in, and the rows of a policy with the ranks along them.
-use Rattle.std.proofs.Common.{◌≡◌, ℕ, zero, suc, ◌<◌, Bool, true, false, ◌&&◌, nat_lt, List, [], ◌∷◌, get_or, length, refl, sym, ap, subst, zero-add, arith, if◌then◌else◌}
+use Rattle.std.proofs.Common.{◌≡◌, ℕ, ◌<◌, Bool, true, false, ◌&&◌, nat_lt, List, [], ◌∷◌, length, refl, sym, ap, subst, zero-add, arith, if◌then◌else◌}
 use Rattle.std.specs.List.{All, Any, list_all}
 use Rattle.std.specs.Prelude.{slice_index, slice_index_or}
 use Rattle.std.proofs.lemmas.Bool.Decides.{nat_tests}
@@ -7,8 +7,7 @@ use Rattle.std.proofs.lemmas.List.{get_or_default}
 use Rattle.std.proofs.lemmas.List.FromFn.{get_or-map-range_with_len, length-map-range_with_len}
 use Rattle.std.proofs.lemmas.List.Folds.{Any-from_list_any, list_any_at}
 use Rattle.mdp_math.specs.Rational.{ℚ}
-use Rattle.mdp_math.proofs.Booleans.{and-left, and-right, false_of_not}
-use Rattle.mdp_math.proofs.Kernel.{Any-and}
+use Rattle.mdp_math.proofs.Booleans.{and-right, false_of_not}
 use Rattle.mdp_spec.specs.Mdp.{Mdp, Entry, Choice, no_choice, states_of, row_at, choices_at}
 use Rattle.mdp_spec.specs.Row.{IsMdp, IsRow, AreRows, entries}
 use Rattle.mdp_spec.specs.Tree.{IsPolicy, is_marked}

@@ -1,15 +1,15 @@
 -- What the path of either direction finds, in terms of the certificate: its values are at least 0, and at a transient state they are what the policy's choice
 -- earns, and no choice that a policy may take is better.
-use Rattle.std.proofs.Common.{◌≡◌, ℕ, ◌<◌, Bool, true, false, not, ◌&&◌, List, length, Option, Some, refl, sym, ◌∙◌, ap, subst, pos}
+use Rattle.std.proofs.Common.{◌≡◌, ℕ, ◌<◌, Bool, true, false, not, ◌&&◌, List, length, Option, Some, sym, ◌∙◌, ap, subst}
 use Rattle.std.specs.Prelude.{slice_index}
-use Rattle.mdp_math.specs.Rational.{ℚ, of_int, ◌≤ℚ◌}
+use Rattle.mdp_math.specs.Rational.{ℚ, ◌≤ℚ◌}
 use Rattle.mdp_math.proofs.Booleans.{and-false}
 use Rattle.mdp_math.proofs.Order.{0ℚ}
 use Rattle.mdp_spec.specs.Mdp.{Mdp, states_of, row_at, choices_at, value_at}
 use Rattle.mdp_spec.specs.Row.{IsMdp}
 use Rattle.mdp_spec.specs.Tree.{is_marked}
 use Rattle.mdp_spec.specs.Tree as tree
-use Rattle.mdp_spec.specs.Bounds.{reward_at, finite_part}
+use Rattle.mdp_spec.specs.Bounds.{finite_part}
 use Rattle.mdp_spec.specs.RewardRules.{backup, IsTransient, AreRewards}
 use Rattle.mdp_rows.specs.Negative.{has_negative}
 use Rattle.mdp_rows.specs.declared.dir.Dir.{Dir}
@@ -19,7 +19,7 @@ use Rattle.mdp_reward.specs.Problem.{may_take, is_transient, reward_problem}
 use Rattle.mdp_reward.specs.Query.{rewards_of}
 use Rattle.mdp_reward.proofs.Nodes.{reward-count}
 use Rattle.mdp_reward.proofs.Values.{given-value, transient-value, nonneg}
-use Rattle.mdp_reward.proofs.Kept.{found-policy, no-better}
+use Rattle.mdp_reward.proofs.Kept.{no-better}
 use Rattle.mdp_reward.proofs.Certificate.{reward-finite, transient-state, some-value, finite-part}
 
 -- goals and infinite states aren't transient

@@ -1,19 +1,17 @@
 -- The start of a query is a policy of its problem and leaves its transient states: for the greatest reward as each policy does, by the ranks of
 -- `must_meet`; for the least one by the ranks of `sure_some`, and so does each next policy, since what is earned is at least 0.
-use Rattle.std.proofs.Common.{◌≡◌, ℕ, ◌<◌, ◌⊎◌, inl, inr, Bool, true, false, List, length, refl, sym, ◌∙◌, subst, arith}
+use Rattle.std.proofs.Common.{◌≡◌, ℕ, ◌<◌, ◌⊎◌, inl, inr, Bool, false, List, length, refl, sym, ◌∙◌, subst}
 use Rattle.std.specs.Prelude.{slice_index}
 use Rattle.std.specs.List.{Any}
-use Rattle.mdp_math.proofs.Order.{0ℚ}
-use Rattle.mdp_math.specs.Rational.{◌≤ℚ◌}
-use Rattle.mdp_spec.specs.Mdp.{Mdp, Entry, states_of, row_at, choices_at}
+use Rattle.mdp_spec.specs.Mdp.{Mdp, states_of, row_at}
 use Rattle.mdp_spec.specs.Row.{IsMdp}
 use Rattle.mdp_spec.specs.Tree as tree
 use Rattle.mdp_rows.specs.Negative.{has_negative}
 use Rattle.mdp_rows.specs.declared.dir.Dir.{Dir}
 use Rattle.mdp_rows.specs.declared.dir.Dir.TheVariants.{Max, Min}
 use Rattle.mdp_graph.specs.Laws.{StaysSure, RestAvoids}
-use Rattle.mdp_elim.specs.System.{is_active, row_of}
-use Rattle.mdp_path.specs.Problem.{Problem, Choice, active_of, rows_of, IsPolicy}
+use Rattle.mdp_elim.specs.System.{is_active}
+use Rattle.mdp_path.specs.Problem.{Choice, active_of, IsPolicy}
 use Rattle.mdp_path.specs.Values.{CanLeave, EarnsNoGood, AllLeave, NoneHelps}
 use Rattle.mdp_path.specs.Laws.{IsSolvable}
 use Rattle.mdp_reward.specs.Problem.{reward_problem}

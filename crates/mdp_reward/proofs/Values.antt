@@ -5,7 +5,7 @@ use Rattle.std.specs.List.{list_any}
 use Rattle.std.specs.Prelude.{slice_index, slice_index_or}
 use Rattle.std.proofs.Math.ListN.{get_or-eq_default}
 use Rattle.std.proofs.lemmas.List.Folds.{list_any_at}
-use Rattle.mdp_math.specs.Rational.{ℚ, ◌+ℚ◌, ◌≤ℚ◌}
+use Rattle.mdp_math.specs.Rational.{ℚ, ◌≤ℚ◌}
 use Rattle.mdp_math.specs.Sum.{sum_of}
 use Rattle.mdp_math.specs.Kernel.{weigh}
 use Rattle.mdp_math.proofs.Ring.{◌⊕◌, ◌⊗◌, lit}
@@ -16,8 +16,8 @@ use Rattle.mdp_math.proofs.Numbers.{le_or}
 use Rattle.mdp_math.proofs.Order.{0ℚ, ≤ℚ_of_eq}
 use Rattle.mdp_math.proofs.Kernel.{weigh-const}
 use Rattle.mdp_math.proofs.Solutions.{le_of_rows}
-use Rattle.mdp_spec.specs.Mdp.{Mdp, Entry, State, Choice, no_state, no_choice, states_of, state_at, choices_at, choice_at, row_at, value_at}
-use Rattle.mdp_spec.specs.Row.{IsMdp, row_sum}
+use Rattle.mdp_spec.specs.Mdp.{Mdp, Entry, State, Choice, no_state, no_choice, states_of, choices_at, choice_at, value_at}
+use Rattle.mdp_spec.specs.Row.{IsMdp}
 use Rattle.mdp_spec.specs.RewardRules.{backup}
 use Rattle.mdp_spec.specs.Unit.{reward_of}
 use Rattle.mdp_rows.specs.Negative.{any_negative, is_negative, has_negative}

@@ -1,5 +1,5 @@
 use Rattle.mdp_reward.proofs.OneEnd.{one_query_end}
-use Rattle.mdp_reward.proofs.Answering.{PassLaws, answer-meets, answers_are_greatest, answers_are_least}
+use Rattle.mdp_reward.proofs.Answering.{answer-meets, answers_are_greatest, answers_are_least}
 use Rattle.mdp_reward.proofs.laws.query_law.Goals as goal
 
 pub returns-clause-one_end : goal.returns-clause-one_end
