@@ -15,7 +15,8 @@ use Rattle.mdp_cert.specs.declared.error.CertKind.TheVariants.{Claim}
 use Rattle.mdp_cert.specs.Cert.{PlainClaim, upper, reach, reward, mean, are_names}
 use Rattle.mdp_cert.specs.Lines.{or_refused}
 use Rattle.mdp_cert.specs.Spelling.{claim_text}
-use Rattle.mdp_cert.specs.Reading.{behind, closed_name, name_behind, is_quote, two_names, upper_claim, reach_front, reach_claim, reward_front, reward_claim, mean_front, mean_claim, claim_to, claim_of, claim_at}
+use Rattle.mdp_cert.specs.Reading.{behind, closed_name, name_behind, is_quote, two_names, upper_claim, reach_front}
+use Rattle.mdp_cert.specs.Reading.{reach_claim, reward_front, reward_claim, mean_front, mean_claim, claim_to, claim_of, claim_at}
 use Rattle.mdp_cert.proofs.Pieces.{Free, free-append, free-name, quote-free-name}
 use Rattle.mdp_cert.proofs.Cuts.{bytes_same, bytes_self}
 use Rattle.mdp_cert.proofs.Feeds.{found_ok, byte-after}

@@ -17,7 +17,8 @@ use Rattle.mdp_cert.specs.declared.policy_entry.PolicyEntry.{PolicyEntry}
 use Rattle.mdp_cert.specs.Words.{whole_of, whole_at}
 use Rattle.mdp_cert.specs.Runs.{Columns}
 use Rattle.mdp_cert.specs.Cert.{IsValueNarrow}
-use Rattle.mdp_cert.specs.Claims.{Value, fraction_value, reward_value, reward_parse, reward_text, reward_same, bound_columns, policy_columns, policy_parse, bound_parse, IsPolicyInWidth, mean_columns, mean_parse, IsMeanInWidth}
+use Rattle.mdp_cert.specs.Claims.{Value, fraction_value, reward_value, reward_parse, reward_text, reward_same, bound_columns}
+use Rattle.mdp_cert.specs.Claims.{policy_columns, policy_parse, bound_parse, IsPolicyInWidth, mean_columns, mean_parse, IsMeanInWidth}
 use Rattle.mdp_cert.specs.Laws.{IsSameWords}
 use Rattle.mdp_cert.proofs.Pieces.{Free, free-spelling}
 use Rattle.mdp_cert.proofs.Cuts.{bytes_same}

@@ -21,7 +21,8 @@ use Rattle.mdp_cert.specs.Runs.{Columns, run, single, entries_of}
 use Rattle.mdp_cert.specs.Claims.{fraction_value, reward_value, bound_columns, policy_columns, mean_columns}
 use Rattle.mdp_cert.specs.Spelling.{line, version_text, end_text}
 use Rattle.mdp_cert.specs.Reading.{version_at, claim_of, claim_at, states_at, init_parse, init_of, given_at, valued_at, init_at, Head, head_from, entry_at, state_at, run_at}
-use Rattle.mdp_cert.specs.Reading.{is_same, line_of_states, longest_at, run_in, onto_run, runs_from, entries_from, entries_to_end, policy_body, reward_body, mean_body, spread_at, body_from, nothing_behind, outcome}
+use Rattle.mdp_cert.specs.Reading.{is_same, line_of_states, longest_at, run_in, onto_run, runs_from, entries_from}
+use Rattle.mdp_cert.specs.Reading.{entries_to_end, policy_body, reward_body, mean_body, spread_at, body_from, nothing_behind, outcome}
 use Rattle.mdp_cert.specs.Laws.{first_lines, LacksAtMost}
 use Rattle.mdp_cert.proofs.Cuts.{guard_ok}
 use Rattle.mdp_cert.proofs.Feeds.{bind_ok, ok-is, line-found, line-again}

@@ -16,7 +16,8 @@ use Rattle.mdp_cert.specs.declared.mean_entry.MeanEntry.{MeanEntry}
 use Rattle.mdp_cert.specs.declared.policy_entry.PolicyEntry.{PolicyEntry}
 use Rattle.mdp_cert.specs.declared.version.Version.{Version}
 use Rattle.mdp_cert.specs.declared.version.Version.TheVariants.{One, Two}
-use Rattle.mdp_cert.specs.Cert.{PlainClaim, upper, reach, reward, mean, PlainBody, bounds, policy, rewards, gains, Certificate, are_names, is_init_of, is_body_of, IsInitInWidth, IsValueNarrow, IsBodyInWidth, Fits}
+use Rattle.mdp_cert.specs.Cert.{PlainClaim, upper, reach, reward, mean, PlainBody, bounds, policy, rewards}
+use Rattle.mdp_cert.specs.Cert.{gains, Certificate, are_names, is_init_of, is_body_of, IsInitInWidth, IsValueNarrow, IsBodyInWidth, Fits}
 use Rattle.mdp_cert.specs.Lines.{◌>>=◌, Place, place, line_by}
 use Rattle.mdp_cert.specs.Words.{first_of, words_behind, frac_at}
 use Rattle.mdp_cert.specs.Claims.{Value, fraction_value, reward_value, bound_columns, policy_columns, policies, IsPolicyInWidth, mean_columns, means, IsMeanInWidth}

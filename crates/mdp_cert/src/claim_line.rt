@@ -2,7 +2,8 @@ ghost use Rattle.std.specs.Prelude.{◌≡◌, ◌==◌, ◌||◌, Ok, Some, Non
 ghost use Rattle.std.specs.List.{list_any, position_or_len};
 ghost use Rattle.mdp_rows.specs.Name.{is_name};
 ghost use Rattle.mdp_cert.specs.Cert.{plain_claim};
-ghost use Rattle.mdp_cert.specs.Reading.{behind, closed_name, name_behind, is_quote, two_names, upper_claim, reach_front, reach_claim, reward_front, reward_claim, mean_front, mean_claim, claim_to, claim_of, claim_at};
+ghost use Rattle.mdp_cert.specs.Reading.{behind, closed_name, name_behind, is_quote, two_names, upper_claim, reach_front};
+ghost use Rattle.mdp_cert.specs.Reading.{reach_claim, reward_front, reward_claim, mean_front, mean_claim, claim_to, claim_of, claim_at};
 ghost use Rattle.mdp_cert.specs.Answer.{Refuses};
 
 use crate::claim::Claim;
