@@ -12,10 +12,11 @@ use Rattle.mdp_rows.specs.Name.{is_name}
 use Rattle.mdp_rows.specs.declared.dir.Dir.{Dir}
 use Rattle.mdp_rows.specs.declared.dir.Dir.TheVariants.{Max, Min}
 use Rattle.mdp_cert.specs.declared.error.CertKind.TheVariants.{Claim}
-use Rattle.mdp_cert.specs.Cert.{PlainClaim, upper, reach, reward, are_names}
+use Rattle.mdp_cert.specs.Cert.{PlainClaim, upper, reach, reward, mean, are_names}
 use Rattle.mdp_cert.specs.Lines.{or_refused}
 use Rattle.mdp_cert.specs.Spelling.{claim_text}
-use Rattle.mdp_cert.specs.Reading.{behind, closed_name, name_behind, is_quote, two_names, upper_claim, reach_front, reach_claim, reward_front, reward_claim, claim_to, claim_of, claim_at}
+use Rattle.mdp_cert.specs.Reading.{behind, closed_name, name_behind, is_quote, two_names, upper_claim, reach_front}
+use Rattle.mdp_cert.specs.Reading.{reach_claim, reward_front, reward_claim, mean_front, mean_claim, claim_to, claim_of, claim_at}
 use Rattle.mdp_cert.proofs.Pieces.{Free, free-append, free-name, quote-free-name}
 use Rattle.mdp_cert.proofs.Cuts.{bytes_same, bytes_self}
 use Rattle.mdp_cert.proofs.Feeds.{found_ok, byte-after}
@@ -130,9 +131,22 @@ reward-found dir text c e =
           and-true _ _ t.1 t.2,
         )
 
+mean-text : (dir : Dir) (name : List ℕ) → mean_front dir ++ (name ++ 34 ∷ []) ≡ claim_text (mean dir name)
+mean-text Max name = refl
+mean-text Min name = refl
+
+mean-found : (dir : Dir) (text : List ℕ) (c : PlainClaim) → mean_claim dir text ≡ Some c → IsClaim text c
+mean-found dir text c e =
+    let m = map-some (mean dir) (name_behind (mean_front dir) text) c e in
+    let f = name-found (mean_front dir) text m.0 m.1 in
+    subst (IsClaim text) m.2 (f.0 ∙ mean-text dir m.0, f.1)
+
 to-found : (dir : Dir) (text : List ℕ) (c : PlainClaim) → claim_to dir text ≡ Some c → IsClaim text c
 unfolding claim_to
-to-found dir text c e = elim (or-found (reach_claim dir text) (reward_claim dir text) c e) [ inl h ↦ reach-found dir text c h | inr h ↦ reward-found dir text c h ]
+to-found dir text c e = elim (or-found (reach_claim dir text) (option_or (reward_claim dir text) (mean_claim dir text)) c e) [
+  | inl h ↦ reach-found dir text c h
+  | inr h ↦ elim (or-found (reward_claim dir text) (mean_claim dir text) c h) [ inl g ↦ reward-found dir text c g | inr g ↦ mean-found dir text c g ]
+]
 
 of-found : (text : List ℕ) (c : PlainClaim) → claim_of text ≡ Some c → IsClaim text c
 unfolding claim_of
@@ -164,12 +178,19 @@ reward-read dir name label h g =
 
 reward-again : (dir : Dir) (name label : List ℕ) → is_name name ≡ true → is_name label ≡ true → claim_of (claim_text (reward dir name label)) ≡ Some (reward dir name label)
 unfolding claim_of claim_to
-reward-again Max name label h g = ap (λ (o : Option PlainClaim). option_or o (claim_to Min (claim_text (reward Max name label)))) (reward-read Max name label h g)
-reward-again Min name label h g = reward-read Min name label h g
+reward-again Max name label h g =
+    ap (λ (o : Option PlainClaim). option_or (option_or o (mean_claim Max (claim_text (reward Max name label)))) (claim_to Min (claim_text (reward Max name label)))) (reward-read Max name label h g)
+reward-again Min name label h g = ap (λ (o : Option PlainClaim). option_or o (mean_claim Min (claim_text (reward Min name label)))) (reward-read Min name label h g)
+
+mean-again : (dir : Dir) (name : List ℕ) → is_name name ≡ true → claim_of (claim_text (mean dir name)) ≡ Some (mean dir name)
+unfolding claim_of claim_to
+mean-again Max name h = rw (name-again (codes "claim max mean \"") name h) refl
+mean-again Min name h = rw (name-again (codes "claim min mean \"") name h) refl
 
 again : (c : PlainClaim) → are_names c ≡ true → claim_of (claim_text c) ≡ Some c
 again (upper label) h = upper-again label h
 again (reach dir label) h = reach-again dir label h
+again (mean dir name) h = mean-again dir name h
 again (reward dir name label) h = let p = and_parts (is_name name) (is_name label) h in reward-again dir name label p.0 p.1
 
 pub claim-again : (n : ℕ) (c : PlainClaim) → are_names c ≡ true → claim_at n (claim_text c) ≡ Ok c
@@ -194,4 +215,6 @@ pub free-claim : (c : PlainClaim) → are_names c ≡ true → Free 10 (claim_te
 free-claim (upper label) h = free-named (codes "claim upper reach \"") label refl h
 free-claim (reach Max label) h = free-named (codes "claim max reach \"") label refl h
 free-claim (reach Min label) h = free-named (codes "claim min reach \"") label refl h
+free-claim (mean Max name) h = free-named (codes "claim max mean \"") name refl h
+free-claim (mean Min name) h = free-named (codes "claim min mean \"") name refl h
 free-claim (reward dir name label) h = let p = and_parts (is_name name) (is_name label) h in subst (Free 10) (reward-text dir name label) (free-reward dir name label p.0 p.1)

@@ -12,11 +12,13 @@ use Rattle.mdp_num.specs.Equal.{eq_ℚ}
 use Rattle.mdp_num.proofs.Spellings.{sound, complete}
 use Rattle.mdp_num.proofs.Equal.{equal_decides}
 use Rattle.mdp_cert.specs.declared.error.CertKind.TheVariants.{Number}
+use Rattle.mdp_cert.specs.declared.mean_entry.MeanEntry.{MeanEntry}
 use Rattle.mdp_cert.specs.declared.policy_entry.PolicyEntry.{PolicyEntry}
 use Rattle.mdp_cert.specs.Words.{whole_of, whole_at}
 use Rattle.mdp_cert.specs.Runs.{Columns}
 use Rattle.mdp_cert.specs.Cert.{IsValueNarrow}
-use Rattle.mdp_cert.specs.Claims.{Value, fraction_value, reward_value, reward_parse, reward_text, reward_same, bound_columns, policy_columns, policy_parse, bound_parse, IsPolicyInWidth}
+use Rattle.mdp_cert.specs.Claims.{Value, fraction_value, reward_value, reward_parse, reward_text, reward_same, bound_columns}
+use Rattle.mdp_cert.specs.Claims.{policy_columns, policy_parse, bound_parse, IsPolicyInWidth, mean_columns, mean_parse, IsMeanInWidth}
 use Rattle.mdp_cert.specs.Laws.{IsSameWords}
 use Rattle.mdp_cert.proofs.Pieces.{Free, free-spelling}
 use Rattle.mdp_cert.proofs.Cuts.{bytes_same}
@@ -209,3 +211,74 @@ module _ {V : Type 0} (k : Value V) (IsInWidth : V → Type 0) (is : IsValue k I
     same = policy-same;
     itself = policy-itself;
   }
+
+-- ---- a gain, a bound, a bias and a choice
+
+abbrev mean-choice : ℚ → ℚ → ℚ → ℕ → Option MeanEntry
+mean-choice gain bound bias choice = Some (record { gain = gain; bound = bound; bias = bias; choice = choice })
+
+abbrev mean-bias : List ℕ → ℚ → ℚ → ℚ → Option MeanEntry
+mean-bias c gain bound bias = option_and_then (mean-choice gain bound bias) (whole_of c)
+
+abbrev mean-bound : List ℕ → List ℕ → ℚ → ℚ → Option MeanEntry
+mean-bound b c gain bound = option_and_then (mean-bias c gain bound) (canonical_of b)
+
+abbrev mean-gain : List ℕ → List ℕ → List ℕ → ℚ → Option MeanEntry
+mean-gain a b c gain = option_and_then (mean-bound b c gain) (canonical_of a)
+
+abbrev mean-words : MeanEntry → List (List ℕ)
+mean-words x = spelling x.gain ∷ spelling x.bound ∷ spelling x.bias ∷ decimal x.choice ∷ []
+
+mean-found : (ws : List (List ℕ)) (x : MeanEntry) → mean_parse ws ≡ Some x → (ws ≡ mean-words x) × IsMeanInWidth x
+mean-found [] x e = absurd cc
+mean-found (g ∷ []) x e = absurd cc
+mean-found (g ∷ a ∷ []) x e = absurd cc
+mean-found (g ∷ a ∷ b ∷ []) x e = absurd cc
+mean-found (g ∷ a ∷ b ∷ c ∷ w ∷ ws) x e = absurd cc
+mean-found (g ∷ a ∷ b ∷ c ∷ []) x e =
+    let one = and_then-some (mean-gain a b c) (canonical_of g) x e in
+    let two = and_then-some (mean-bound b c one.0) (canonical_of a) x one.2 in
+    let three = and_then-some (mean-bias c one.0 two.0) (canonical_of b) x two.2 in
+    let four = and_then-some (mean-choice one.0 two.0 three.0) (whole_of c) x three.2 in
+    let same : (let y : MeanEntry = record { gain = one.0; bound = two.0; bias = three.0; choice = four.0 } in y) ≡ x = cc in
+    let s = sound g one.0 one.1 in
+    let t = sound a two.0 two.1 in
+    let u = sound b three.0 three.1 in
+    let v = whole-of-found c four.0 four.1 in
+    subst (λ (y : MeanEntry). (g ∷ a ∷ b ∷ c ∷ [] ≡ mean-words y) × IsMeanInWidth y) same (
+      rw (← s.0, ← t.0, ← u.0, ← v.0) refl,
+      record { gain = s.1; bound = t.1; bias = u.1; choice = v.1 },
+    )
+
+mean-again : (x : MeanEntry) → IsMeanInWidth x → mean_parse (mean-words x) ≡ Some x
+mean-again x h = rw (complete x.gain h.gain, complete x.bound h.bound, complete x.bias h.bias, whole-of-again x.choice h.choice) refl
+
+mean-same : (x y : MeanEntry) → (eq_ℚ x.gain y.gain && eq_ℚ x.bound y.bound && eq_ℚ x.bias y.bias && eqb x.choice y.choice) ≡ true → x ≡ y
+mean-same x y e =
+    let p = and_parts (eq_ℚ x.gain y.gain && eq_ℚ x.bound y.bound && eq_ℚ x.bias y.bias) (eqb x.choice y.choice) e in
+    let q = and_parts (eq_ℚ x.gain y.gain && eq_ℚ x.bound y.bound) (eq_ℚ x.bias y.bias) p.0 in
+    let r = and_parts (eq_ℚ x.gain y.gain) (eq_ℚ x.bound y.bound) q.0 in
+    parts x.gain y.gain x.bound y.bound x.bias y.bias x.choice y.choice (same-ℚ _ _ r.0) (same-ℚ _ _ r.1) (same-ℚ _ _ q.1) (number-same _ _ p.1)
+  where
+    parts : (g h a b z w : ℚ) (c d : ℕ) → g ≡ h → a ≡ b → z ≡ w → c ≡ d
+        → (let u : MeanEntry = record { gain = g; bound = a; bias = z; choice = c } in u) ≡ record { gain = h; bound = b; bias = w; choice = d }
+    parts g h a b z w c d p q r t = rw (p, q, r, t) refl
+
+mean-itself : (x : MeanEntry) → (eq_ℚ x.gain x.gain && eq_ℚ x.bound x.bound && eq_ℚ x.bias x.bias && eqb x.choice x.choice) ≡ true
+mean-itself x = rw (itself-ℚ x.gain, itself-ℚ x.bound, itself-ℚ x.bias, number-itself x.choice) refl
+
+mean-free : (c : ℕ) (x : MeanEntry) → c < 45 → IsMeanInWidth x → AllFree c (mean-words x)
+mean-free c x lt h =
+    (free-spelling c x.gain lt h.gain, (free-spelling c x.bound lt h.bound, (free-spelling c x.bias lt h.bias, (free-whole c x.choice (omega arith) h.choice, tt))))
+
+pub mean-is_columns : IsColumns mean_columns IsMeanInWidth
+mean-is_columns = record {
+  some = omega arith;
+  count = λ x. refl;
+  found = mean-found;
+  again = mean-again;
+  blanks = λ x h. mean-free 32 x (omega arith) h;
+  feeds = λ x h. mean-free 10 x (omega arith) h;
+  same = mean-same;
+  itself = mean-itself;
+}

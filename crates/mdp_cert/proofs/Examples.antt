@@ -1,5 +1,5 @@
 -- Worked texts, by computation.
-use Rattle.std.proofs.Common.{◌≡◌, ℕ, List, [], ◌∷◌, ◌++◌, Some, None, Ok, refl, pos}
+use Rattle.std.proofs.Common.{◌≡◌, ℕ, List, [], ◌∷◌, ◌++◌, Some, None, Ok, refl, pos, negsuc}
 use Rattle.std.specs.Prelude.{codes}
 use Rattle.std.specs.Fmt.{digits}
 use Rattle.mdp_math.specs.Gcd.{gcd, gcd_with_fuel}
@@ -13,13 +13,13 @@ use Rattle.mdp_cert.specs.declared.error.CertKind.TheVariants as kind
 use Rattle.mdp_cert.specs.declared.error.CertKind.TheVariants.{Claim, Number, Shape, Count, End, Run}
 use Rattle.mdp_cert.specs.declared.version.Version.{Version}
 use Rattle.mdp_cert.specs.declared.version.Version.TheVariants.{One, Two}
-use Rattle.mdp_cert.specs.Cert.{Certificate, upper, reach, reward, bounds, policy, rewards}
+use Rattle.mdp_cert.specs.Cert.{Certificate, upper, reach, reward, mean, bounds, policy, rewards, gains}
 use Rattle.mdp_cert.specs.Lines.{refused, next_line}
-use Rattle.mdp_cert.specs.Words.{words_behind, whole_of, whole_at}
+use Rattle.mdp_cert.specs.Words.{words_behind, whole_of, whole_at, frac_at}
 use Rattle.mdp_cert.specs.Runs.{longest_runs}
 use Rattle.mdp_cert.specs.Spelling.{version_text, text_of, old_text_of, text_in, run_text, run_lines, line}
 use Rattle.mdp_cert.specs.Reading.{outcome, version_at, claim_to, claim_of, claim_at, states_at, given_at, valued_at, init_at, head_from}
-use Rattle.mdp_cert.specs.Reading.{entry_at, state_at, run_at, longest_at, runs_from, entries_from, entries_to_end, body_from, nothing_behind}
+use Rattle.mdp_cert.specs.Reading.{entry_at, state_at, run_at, longest_at, runs_from, entries_from, entries_to_end, spread_at, body_from, nothing_behind}
 
 -- ---- an upper bound of 1 at the states 0 and 1, of 0 at state 2
 
@@ -336,9 +336,139 @@ rewards-read = record {
   reach-state = refl;
 }
 
+-- ---- mean payoffs of the reward model `-`
+
+abbrev five : ℚ
+five = ratio (pos 5) 1
+
+abbrev below-half : ℚ
+below-half = ratio (negsuc 0) 2
+
+abbrev below-two : ℚ
+below-two = ratio (negsuc 1) 1
+
+abbrev twice : ℚ
+twice = ratio (pos 2) 1
+
+abbrev means-of : ℕ → ℚ → List ℚ → List ℚ → List ℚ → List ℕ → ℚ → Certificate
+means-of states value gain bound bias choices spread =
+    record { claim = mean Max (codes "-"); states = states; init = Finite 0 value; body = gains gain bound bias choices spread }
+
+-- a text of this version, with this number of states, these words of the line `init`, and these lines behind it
+abbrev mean-text : Version → List ℕ → List ℕ → List ℕ → List ℕ
+mean-text v states init rest =
+    line (version_text v) ++ line (codes "claim max mean \"-\"") ++ line (codes "states " ++ states) ++ line (codes "init " ++ init) ++ rest ++ line (codes "end")
+
+-- two states that lead to each other, of which one pays 1
+abbrev turns : Certificate
+turns = means-of 2 half (half ∷ half ∷ []) (none ∷ below-half ∷ []) (none ∷ below-half ∷ []) (0 ∷ 0 ∷ []) half
+
+abbrev turn-lines : Version → List ℕ
+turn-lines v = mean-text v (codes "2") (codes "0 1/2") (line (codes "spread 1/2") ++ line (codes "state 0 1/2 0 0 0") ++ line (codes "state 1 1/2 -1/2 -1/2 0"))
+
+-- three states of different gains
+abbrev ends : Certificate
+ends = means-of 3 twice (twice ∷ four ∷ none ∷ []) (none ∷ none ∷ none ∷ []) (below-two ∷ none ∷ none ∷ []) (1 ∷ 0 ∷ 0 ∷ []) twice
+
+abbrev end-lines : Version → List ℕ
+end-lines v = mean-text v (codes "3") (codes "0 2") (line (codes "spread 2") ++ line (codes "state 0 2 0 -2 1") ++ line (codes "state 1 4 0 0 0") ++ line (codes "state 2 0 0 0 0"))
+
+-- a step that pays more, once
+abbrev once : Certificate
+once = means-of 2 one (one ∷ one ∷ []) (four ∷ none ∷ []) (none ∷ none ∷ []) (0 ∷ 0 ∷ []) four
+
+abbrev once-lines : Version → List ℕ
+once-lines v = mean-text v (codes "2") (codes "0 1") (line (codes "spread 4") ++ line (codes "state 0 1 4 0 0") ++ line (codes "state 1 1 0 0 0"))
+
+-- states that say the same
+abbrev alike : Certificate
+alike = means-of 3 five (five ∷ five ∷ five ∷ []) (none ∷ none ∷ none ∷ []) (none ∷ none ∷ none ∷ []) (0 ∷ 0 ∷ 0 ∷ []) none
+
+abbrev alike-lines : Version → List ℕ → List ℕ
+alike-lines v rest = mean-text v (codes "3") (codes "0 5") (line (codes "spread 0") ++ rest)
+
+abbrev alike-states : List ℕ
+alike-states = line (codes "state 0 5 0 0 0") ++ line (codes "state 1 5 0 0 0") ++ line (codes "state 2 5 0 0 0")
+
+record MeansWritten : Type 0 where
+  turns-two : text_of turns ≡ turn-lines Two
+  turns-one : old_text_of turns ≡ turn-lines One
+  ends-two : text_of ends ≡ end-lines Two
+  ends-one : old_text_of ends ≡ end-lines One
+  once-two : text_of once ≡ once-lines Two
+  once-one : old_text_of once ≡ once-lines One
+  alike-two : text_of alike ≡ alike-lines Two (line (codes "run 0 2 5 0 0 0"))
+  alike-one : old_text_of alike ≡ alike-lines One alike-states
+
+means-written : MeansWritten
+unfolding text_in run_text run_lines longest_runs spelling ratio gcd gcd_with_fuel digits
+means-written = record {
+  turns-two = refl;
+  turns-one = refl;
+  ends-two = refl;
+  ends-one = refl;
+  once-two = refl;
+  once-one = refl;
+  alike-two = refl;
+  alike-one = refl;
+}
+
+-- a text of one state, with these lines behind the line `states`
+abbrev one-mean : List ℕ → List ℕ
+one-mean rest = line (version_text Two) ++ line (codes "claim max mean \"-\"") ++ line (codes "states 1") ++ rest
+
+record MeansRead : Type 0 where
+  turns-two : outcome (turn-lines Two) ≡ Ok turns
+  turns-one : outcome (turn-lines One) ≡ Ok turns
+  ends-two : outcome (end-lines Two) ≡ Ok ends
+  ends-one : outcome (end-lines One) ≡ Ok ends
+  once-two : outcome (once-lines Two) ≡ Ok once
+  once-one : outcome (once-lines One) ≡ Ok once
+  alike-two : outcome (alike-lines Two (line (codes "run 0 2 5 0 0 0"))) ≡ Ok alike
+  alike-one : outcome (alike-lines One alike-states) ≡ Ok alike
+  -- refused
+  equal-states : outcome (alike-lines Two alike-states) ≡ refused Run 7
+  no-spread : outcome (one-mean (line (codes "init 0 1") ++ line (codes "state 0 1 0 0 0") ++ line (codes "end"))) ≡ refused Shape 5
+  spread-alone : outcome (one-mean (line (codes "init 0 1") ++ line (codes "spread") ++ line (codes "state 0 1 0 0 0") ++ line (codes "end"))) ≡ refused Shape 5
+  spread-unreduced : outcome (one-mean (line (codes "init 0 1") ++ line (codes "spread 0/1") ++ line (codes "state 0 1 0 0 0") ++ line (codes "end"))) ≡ refused Number 5
+  spread-infinite : outcome (one-mean (line (codes "init 0 1") ++ line (codes "spread inf") ++ line (codes "state 0 1 0 0 0") ++ line (codes "end"))) ≡ refused Number 5
+  spread-twice : outcome (one-mean (line (codes "init 0 1") ++ line (codes "spread 0") ++ line (codes "spread 0") ++ line (codes "state 0 1 0 0 0") ++ line (codes "end"))) ≡ refused Shape 6
+  spread-last : outcome (one-mean (line (codes "init 0 1") ++ codes "spread 0")) ≡ refused End 5
+  no-bias : outcome (one-mean (line (codes "init 0 1") ++ line (codes "spread 0") ++ line (codes "state 0 1 0 0") ++ line (codes "end"))) ≡ refused Shape 6
+  infinite-gain : outcome (one-mean (line (codes "init 0 1") ++ line (codes "spread 0") ++ line (codes "state 0 inf 0 0 0") ++ line (codes "end"))) ≡ refused Number 6
+  infinite-init : outcome (one-mean (line (codes "init 0 inf") ++ line (codes "spread 0") ++ line (codes "state 0 1 0 0 0") ++ line (codes "end"))) ≡ refused Number 4
+  -- a line that is due to mean payoffs alone
+  spread-of_reward : outcome (reward-text Two (codes "min") (codes "1") (codes "0 0") (line (codes "spread 0") ++ line (codes "state 0 0 0 0"))) ≡ refused Shape 5
+
+means-read : MeansRead
+unfolding outcome next_line version_at whole_of whole_at frac_at claim_to claim_of claim_at words_behind states_at given_at valued_at head_from entry_at state_at run_at longest_at
+    runs_from entries_from entries_to_end spread_at body_from nothing_behind canonical_of ratio gcd gcd_with_fuel
+means-read = record {
+  turns-two = refl;
+  turns-one = refl;
+  ends-two = refl;
+  ends-one = refl;
+  once-two = refl;
+  once-one = refl;
+  alike-two = refl;
+  alike-one = refl;
+  equal-states = refl;
+  no-spread = refl;
+  spread-alone = refl;
+  spread-unreduced = refl;
+  spread-infinite = refl;
+  spread-twice = refl;
+  spread-last = refl;
+  no-bias = refl;
+  infinite-gain = refl;
+  infinite-init = refl;
+  spread-of_reward = refl;
+}
+
 -- ---- the line of a claim
 
 record Claims : Type 0 where
+  one-name : claim_at 2 (codes "claim min mean \"my costs\"") ≡ Ok (mean Min (codes "my costs"))
   both-names : claim_at 2 (codes "claim min reward \"my costs\" \"is done\"") ≡ Ok (reward Min (codes "my costs") (codes "is done"))
   -- refused
   label-missing : claim_at 2 (codes "claim max reward \"-\"") ≡ refused Claim 2
@@ -349,12 +479,15 @@ record Claims : Type 0 where
   three-names : claim_at 2 (codes "claim max reward \"a\" \"b\" \"goal\"") ≡ refused Claim 2
   open-label : claim_at 2 (codes "claim max reward \"-\" \"goal") ≡ refused Claim 2
   upper-reward : claim_at 2 (codes "claim upper reward \"-\" \"goal\"") ≡ refused Claim 2
+  label-of_mean : claim_at 2 (codes "claim max mean \"-\" \"goal\"") ≡ refused Claim 2
+  upper-mean : claim_at 2 (codes "claim upper mean \"-\"") ≡ refused Claim 2
   -- a claim that isn't known
-  unknown : claim_at 2 (codes "claim max mean \"-\"") ≡ refused Claim 2
+  unknown : claim_at 2 (codes "claim max witness \"goal\" 1/2") ≡ refused Claim 2
 
 claims-read : Claims
 unfolding claim_at claim_of claim_to
 claims-read = record {
+  one-name = refl;
   both-names = refl;
   label-missing = refl;
   no-blank = refl;
@@ -364,5 +497,7 @@ claims-read = record {
   three-names = refl;
   open-label = refl;
   upper-reward = refl;
+  label-of_mean = refl;
+  upper-mean = refl;
   unknown = refl;
 }

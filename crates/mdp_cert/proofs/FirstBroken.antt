@@ -14,14 +14,15 @@ use Rattle.mdp_cert.specs.declared.init.Init.{Init}
 use Rattle.mdp_cert.specs.declared.init.Init.TheVariants.{Missing}
 use Rattle.mdp_cert.specs.declared.version.Version.{Version}
 use Rattle.mdp_cert.specs.declared.version.Version.TheVariants.{One, Two}
-use Rattle.mdp_cert.specs.Cert.{PlainClaim, upper, reach, reward, may_be_infinite, PlainBody, bounds, Certificate}
+use Rattle.mdp_cert.specs.Cert.{PlainClaim, upper, reach, reward, mean, may_be_infinite, PlainBody, bounds, Certificate}
 use Rattle.mdp_cert.specs.Lines.{◌>>=◌, refuse_if, or_refused, is_line, is_line_feed, Place, place, next_line, line_by}
-use Rattle.mdp_cert.specs.Words.{words, first_of, begins_with, words_behind, whole_of, whole_at}
+use Rattle.mdp_cert.specs.Words.{words, first_of, begins_with, words_behind, whole_of, whole_at, frac_at}
 use Rattle.mdp_cert.specs.Runs.{Columns, run, single, entries_of}
-use Rattle.mdp_cert.specs.Claims.{fraction_value, reward_value, bound_columns, policy_columns}
+use Rattle.mdp_cert.specs.Claims.{fraction_value, reward_value, bound_columns, policy_columns, mean_columns}
 use Rattle.mdp_cert.specs.Spelling.{line, version_text, end_text}
 use Rattle.mdp_cert.specs.Reading.{version_at, claim_of, claim_at, states_at, init_parse, init_of, given_at, valued_at, init_at, Head, head_from, entry_at, state_at, run_at}
-use Rattle.mdp_cert.specs.Reading.{is_same, line_of_states, longest_at, run_in, onto_run, runs_from, entries_from, entries_to_end, policy_body, reward_body, body_from, nothing_behind, outcome}
+use Rattle.mdp_cert.specs.Reading.{is_same, line_of_states, longest_at, run_in, onto_run, runs_from, entries_from}
+use Rattle.mdp_cert.specs.Reading.{entries_to_end, policy_body, reward_body, mean_body, spread_at, body_from, nothing_behind, outcome}
 use Rattle.mdp_cert.specs.Laws.{first_lines, LacksAtMost}
 use Rattle.mdp_cert.proofs.Cuts.{guard_ok}
 use Rattle.mdp_cert.proofs.Feeds.{bind_ok, ok-is, line-found, line-again}
@@ -237,6 +238,10 @@ whole-judges : (n : ℕ) (word : List ℕ) → Judges n (whole_at n word)
 unfolding whole_at
 whole-judges n word = or-judges kind.Number n (whole_of word)
 
+frac-judges : (n : ℕ) (word : List ℕ) → Judges n (frac_at n word)
+unfolding frac_at
+frac-judges n word = or-judges kind.Number n (canonical_of word)
+
 version-judges : (n : ℕ) (text : List ℕ) → Judges n (version_at n text)
 unfolding version_at
 version-judges n text = by (bytes_eq text (version_text One)) (bytes_eq text (version_text Two))
@@ -340,11 +345,19 @@ head-cuts =
     (lined states_at states-judges) (λ states.
     mapped (line_by (init_at claim states)) (λ init. let h : Head = record { claim = claim; states = states; init = init } in h) (lined (init_at claim states) (init-judges claim states))))
 
+spread-judges : (n : ℕ) (text : List ℕ) → Judges n (spread_at n text)
+unfolding spread_at
+spread-judges n text =
+    then-judges n (words_behind (codes "spread") 1 n text) (λ behind. frac_at n (first_of behind)) (behind-judges (codes "spread") 1 n text) (λ behind. frac-judges n (first_of behind))
+
 body-cuts : (v : Version) (claim : PlainClaim) (states : ℕ) → Cuts (body_from v claim states)
 unfolding body_from
 body-cuts v (upper label) states = mapped (entries_to_end v bound_columns states) bounds (closed-cuts bound_columns states v)
 body-cuts v (reach dir label) states = mapped (entries_to_end v (policy_columns fraction_value) states) policy_body (closed-cuts (policy_columns fraction_value) states v)
 body-cuts v (reward dir name label) states = mapped (entries_to_end v (policy_columns reward_value) states) reward_body (closed-cuts (policy_columns reward_value) states v)
+body-cuts v (mean dir name) states =
+    next (line_by spread_at) (λ spread p. entries_to_end v mean_columns states p >>= λ xs. Ok (mean_body spread xs.0, xs.1)) (lined spread_at spread-judges) (λ spread.
+    mapped (entries_to_end v mean_columns states) (mean_body spread) (closed-cuts mean_columns states v))
 
 -- all lines
 abbrev top-body : Version → Head × Place → Result (Certificate × Place) Refusal

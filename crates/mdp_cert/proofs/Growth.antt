@@ -6,7 +6,7 @@ use Rattle.std.proofs.lemmas.Bool.{and_parts}
 use Rattle.mdp_math.specs.Rational.{ℚ}
 use Rattle.mdp_cert.specs.declared.version.Version.{Version}
 use Rattle.mdp_cert.specs.declared.version.Version.TheVariants.{One, Two}
-use Rattle.mdp_cert.specs.Cert.{PlainClaim, upper, reach, reward, bounds, policy, rewards, is_body_of}
+use Rattle.mdp_cert.specs.Cert.{PlainClaim, upper, reach, reward, mean, bounds, policy, rewards, gains, is_body_of}
 use Rattle.mdp_cert.specs.Runs.{Columns, run, longest_runs, runs_in}
 use Rattle.mdp_cert.specs.Spelling.{line, run_text, run_lines}
 use Rattle.mdp_cert.specs.Answer.{Keeps, more_in}
@@ -84,6 +84,7 @@ pub bounds-entries : (claim : PlainClaim) (states : ℕ) (zs : List ℚ) → is_
 bounds-entries (upper label) states zs e = number-same _ states e
 bounds-entries (reach dir label) states zs e = absurd cc
 bounds-entries (reward dir name label) states zs e = absurd cc
+bounds-entries (mean dir name) states zs e = absurd cc
 
 -- as many values, choices and ranks as states
 pub record Entries {V : Type 0} (states : ℕ) (zs : List V) (cs rs : List ℕ) : Type 0 where
@@ -101,8 +102,31 @@ pub policy-entries : (claim : PlainClaim) (states : ℕ) (zs : List ℚ) (cs rs 
 policy-entries (upper label) states zs cs rs e = absurd cc
 policy-entries (reach dir label) states zs cs rs e = three-entries states zs cs rs e
 policy-entries (reward dir name label) states zs cs rs e = absurd cc
+policy-entries (mean dir name) states zs cs rs e = absurd cc
 
 pub reward-entries : (claim : PlainClaim) (states : ℕ) (vs : List (Option ℚ)) (cs rs : List ℕ) → is_body_of claim states (rewards vs cs rs) ≡ true → Entries states vs cs rs
 reward-entries (upper label) states vs cs rs e = absurd cc
 reward-entries (reach dir label) states vs cs rs e = absurd cc
 reward-entries (reward dir name label) states vs cs rs e = three-entries states vs cs rs e
+reward-entries (mean dir name) states vs cs rs e = absurd cc
+
+-- as many gains, bounds, biases and choices as states
+pub record MeanEntries (states : ℕ) (gs zs bs : List ℚ) (cs : List ℕ) : Type 0 where
+  pub gains : length gs ≡ states
+  pub bounds : length zs ≡ states
+  pub biases : length bs ≡ states
+  pub choices : length cs ≡ states
+
+pub four-entries : (states : ℕ) (gs zs bs : List ℚ) (cs : List ℕ) → (eqb (length gs) states && eqb (length zs) states && eqb (length bs) states && eqb (length cs) states) ≡ true
+    → MeanEntries states gs zs bs cs
+four-entries states gs zs bs cs e =
+    let t = and_parts (eqb (length gs) states && eqb (length zs) states && eqb (length bs) states) (eqb (length cs) states) e in
+    let u = and_parts (eqb (length gs) states && eqb (length zs) states) (eqb (length bs) states) t.0 in
+    let v = and_parts (eqb (length gs) states) (eqb (length zs) states) u.0 in
+    record { gains = number-same _ states v.0; bounds = number-same _ states v.1; biases = number-same _ states u.1; choices = number-same _ states t.1 }
+
+pub gains-entries : (claim : PlainClaim) (states : ℕ) (gs zs bs : List ℚ) (cs : List ℕ) (k : ℚ) → is_body_of claim states (gains gs zs bs cs k) ≡ true → MeanEntries states gs zs bs cs
+gains-entries (upper label) states gs zs bs cs k e = absurd cc
+gains-entries (reach dir label) states gs zs bs cs k e = absurd cc
+gains-entries (reward dir name label) states gs zs bs cs k e = absurd cc
+gains-entries (mean dir name) states gs zs bs cs k e = four-entries states gs zs bs cs e

@@ -1,6 +1,7 @@
 pub mod Pieces
 pub mod Cuts
 pub mod Runs
+pub mod Means
 pub mod Policies
 pub mod Growth
 pub mod Steps

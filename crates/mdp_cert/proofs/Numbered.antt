@@ -57,7 +57,7 @@ states-range n states = refuse_if Count n ((eqb states 0) || ltb (2 ^ 20) states
 abbrev pub states-number : ℕ → List (List ℕ) → Result ℕ Refusal
 states-number n behind = whole_at n (first_of behind) >>= states-range n
 
-one-word : (ws : List (List ℕ)) → length ws ≡ 1 → ws ≡ first_of ws ∷ []
+pub one-word : (ws : List (List ℕ)) → length ws ≡ 1 → ws ≡ first_of ws ∷ []
 one-word [] e = absurd (omega arith)
 one-word (w ∷ []) e = refl
 one-word (w ∷ v ∷ ws) e = absurd (omega arith)

@@ -1,30 +1,38 @@
 -- The parts of a text are read exactly where they are the texts of what is read.
 use Rattle.std.proofs.Common.{◌≡◌, ◌↔◌, ◌⊎◌, inl, inr, ℕ, suc, ◌+◌, ◌<◌, ◌≤◌, ◌^◌, true, false, eqb, ltb, ◌&&◌}
 use Rattle.std.proofs.Common.{List, [], ◌∷◌, ◌++◌, length, map, Option, Result, Ok, Err, refl, sym, ap, subst, ◌∙◌, append_assoc, arith}
-use Rattle.std.specs.List.{All}
+use Rattle.std.specs.Prelude.{codes}
+use Rattle.std.specs.List.{All, join_with_byte}
 use Rattle.std.proofs.lemmas.Bool.{both_ways, lt-ltb}
 use Rattle.std.proofs.lemmas.List.{length-map, append-nil}
 use Rattle.std.proofs.lemmas.List.Elements.{All-cons}
 use Rattle.mdp_math.specs.Rational.{ℚ}
-use Rattle.mdp_num.specs.Value.{IsNarrow}
+use Rattle.mdp_num.specs.Value.{spelling, IsNarrow}
+use Rattle.mdp_rows.specs.declared.dir.Dir.{Dir}
 use Rattle.mdp_cert.specs.declared.error.CertKind.TheVariants.{End}
 use Rattle.mdp_cert.specs.declared.error.Refusal.{Refusal}
 use Rattle.mdp_cert.specs.declared.init.Init.{Init}
+use Rattle.mdp_cert.specs.declared.mean_entry.MeanEntry.{MeanEntry}
 use Rattle.mdp_cert.specs.declared.policy_entry.PolicyEntry.{PolicyEntry}
 use Rattle.mdp_cert.specs.declared.version.Version.{Version}
 use Rattle.mdp_cert.specs.declared.version.Version.TheVariants.{One, Two}
-use Rattle.mdp_cert.specs.Cert.{PlainClaim, upper, reach, reward, PlainBody, bounds, policy, rewards, Certificate, are_names, is_init_of, is_body_of, IsInitInWidth, IsValueNarrow, IsBodyInWidth, Fits}
+use Rattle.mdp_cert.specs.Cert.{PlainClaim, upper, reach, reward, mean, PlainBody, bounds, policy, rewards}
+use Rattle.mdp_cert.specs.Cert.{gains, Certificate, are_names, is_init_of, is_body_of, IsInitInWidth, IsValueNarrow, IsBodyInWidth, Fits}
 use Rattle.mdp_cert.specs.Lines.{◌>>=◌, Place, place, line_by}
-use Rattle.mdp_cert.specs.Claims.{Value, fraction_value, reward_value, bound_columns, policy_columns, policies, IsPolicyInWidth}
-use Rattle.mdp_cert.specs.Spelling.{line, version_text, claim_text, states_text, init_text, closed_lines, body_text, text_in, text_of, old_text_of}
+use Rattle.mdp_cert.specs.Words.{first_of, words_behind, frac_at}
+use Rattle.mdp_cert.specs.Claims.{Value, fraction_value, reward_value, bound_columns, policy_columns, policies, IsPolicyInWidth, mean_columns, means, IsMeanInWidth}
+use Rattle.mdp_cert.specs.Spelling.{◌␣◌, spread_text, line, version_text, claim_text, states_text, init_text, closed_lines, body_text, text_in, text_of, old_text_of}
 use Rattle.mdp_cert.specs.Laws.{AreSameWords}
-use Rattle.mdp_cert.specs.Reading.{version_at, claim_at, states_at, init_at, Head, head_from, entries_to_end, policy_body, reward_body, body_from, nothing_behind, outcome}
+use Rattle.mdp_cert.specs.Reading.{version_at, claim_at, states_at, init_at, Head, head_from, entries_to_end, policy_body, reward_body, mean_body, spread_at, body_from, nothing_behind, outcome}
 use Rattle.mdp_cert.proofs.Cuts.{same-number, number-same}
-use Rattle.mdp_cert.proofs.Feeds.{ok-is, bind_ok, refuse_ok, judged-found, judged-again}
+use Rattle.mdp_cert.proofs.Pieces.{Free, free-spelling}
+use Rattle.mdp_cert.proofs.Joined.{free-join, behind-again, behind-text}
+use Rattle.mdp_cert.proofs.Feeds.{ok-is, bind_ok, refuse_ok, judged-found, judged-again, frac-found, frac-again}
 use Rattle.mdp_cert.proofs.Claims.{claim-found, claim-again, free-claim}
-use Rattle.mdp_cert.proofs.Numbered.{version-found, version-again, free-version, states-found, states-again, free-states, init-found, init-again, free-init}
-use Rattle.mdp_cert.proofs.Columns.{IsValue, fraction-is_value, reward-is_value, bound-is_columns, policy-is_columns, same-words}
-use Rattle.mdp_cert.proofs.Growth.{three-entries}
+use Rattle.mdp_cert.proofs.Numbered.{one-word, version-found, version-again, free-version, states-found, states-again, free-states, init-found, init-again, free-init}
+use Rattle.mdp_cert.proofs.Columns.{IsValue, fraction-is_value, reward-is_value, bound-is_columns, policy-is_columns, mean-is_columns, same-words}
+use Rattle.mdp_cert.proofs.Growth.{three-entries, four-entries}
+use Rattle.mdp_cert.proofs.Means.{back, means-of}
 use Rattle.mdp_cert.proofs.Bodies.{Each, closed-found, closed-again}
 use Rattle.mdp_cert.proofs.Policies.{length-policies, values-policies, choices-policies, ranks-policies, policies-of}
 
@@ -162,6 +170,99 @@ module _ {V : Type 0} (k : Value V) (IsInWidth : V → Type 0) (is : IsValue k I
       (policies-width zs cs rs (all-each IsInWidth zs width.0) (all-each (λ c. c < 2 ^ 32) cs width.1) (all-each (λ r. r < 2 ^ 32) rs width.2)) in
       record { line = r.0; read = r.1; values = values-policies zs cs rs a b; choices = choices-policies zs cs rs a b; ranks = ranks-policies zs cs rs a b }
 
+-- ---- the lines of mean payoffs
+
+free-spread : (k : ℚ) → IsNarrow k → Free 10 (spread_text k)
+free-spread k h = free-join 10 (codes "spread" ∷ spelling k ∷ []) refl (refl, (free-spelling 10 k (omega arith) h, tt))
+
+spread-found : (n : ℕ) (text : List ℕ) (k : ℚ) → spread_at n text ≡ Ok k → (text ≡ spread_text k) × IsNarrow k
+unfolding spread_at
+spread-found n text k e =
+    let one = bind_ok (words_behind (codes "spread") 1 n text) (λ behind. frac_at n (first_of behind)) k e in
+    let f = frac-found n (first_of one.0) k one.2 in
+    let t = behind-text (codes "spread") 1 n text one.0 one.1 in
+    (t.0 ∙ ap (λ (ws : List (List ℕ)). join_with_byte 32 (codes "spread" ∷ ws)) (one-word one.0 t.1) ∙ ap (λ (w : List ℕ). codes "spread" ␣ w) f.0, f.1)
+
+spread-again : (n : ℕ) (k : ℚ) → IsNarrow k → spread_at n (spread_text k) ≡ Ok k
+unfolding spread_at
+spread-again n k h =
+    let ws : words_behind (codes "spread") 1 n (spread_text k) ≡ Ok (spelling k ∷ []) = behind-again (codes "spread") 1 n (spelling k ∷ []) refl refl (free-spelling 32 k (omega arith) h, tt) in
+    rw (ws, frac-again n k h) refl
+
+gains-width : (xs : List MeanEntry) → Each IsMeanInWidth xs → Each IsNarrow (map (λ x. x.gain) xs)
+gains-width [] h = tt
+gains-width (x ∷ xs) h = (h.0.gain, gains-width xs h.1)
+
+bounds-width : (xs : List MeanEntry) → Each IsMeanInWidth xs → Each IsNarrow (map (λ x. x.bound) xs)
+bounds-width [] h = tt
+bounds-width (x ∷ xs) h = (h.0.bound, bounds-width xs h.1)
+
+biases-width : (xs : List MeanEntry) → Each IsMeanInWidth xs → Each IsNarrow (map (λ x. x.bias) xs)
+biases-width [] h = tt
+biases-width (x ∷ xs) h = (h.0.bias, biases-width xs h.1)
+
+mean-choices-width : (xs : List MeanEntry) → Each IsMeanInWidth xs → Each (λ c. c < 2 ^ 32) (map (λ x. x.choice) xs)
+mean-choices-width [] h = tt
+mean-choices-width (x ∷ xs) h = (h.0.choice, mean-choices-width xs h.1)
+
+means-width : (gs zs bs : List ℚ) (cs : List ℕ) → Each IsNarrow gs → Each IsNarrow zs → Each IsNarrow bs → Each (λ c. c < 2 ^ 32) cs → Each IsMeanInWidth (means gs zs bs cs)
+means-width (g ∷ gs) (z ∷ zs) (b ∷ bs) (c ∷ cs) p q o t = (record { gain = p.0; bound = q.0; bias = o.0; choice = t.0 }, means-width gs zs bs cs p.1 q.1 o.1 t.1)
+means-width gs zs bs cs p q o t = tt
+
+abbrev means-behind : Version → ℕ → ℚ × Place → Result (PlainBody × Place) Refusal
+means-behind v states spread = entries_to_end v mean_columns states spread.1 >>= λ xs. Ok (mean_body spread.0 xs.0, xs.1)
+
+mean-found : (v : Version) (dir : Dir) (name : List ℕ) (states : ℕ) (p : Place) (b : PlainBody) (q : Place) → states ≤ 2 ^ 20 → body_from v (mean dir name) states p ≡ Ok (b, q)
+    → FoundBody v (mean dir name) states p b q
+unfolding body_from
+mean-found v dir name states p b q limit e =
+    let spread = bind_ok (line_by spread_at p) (means-behind v states) (b, q) e in
+    let all = bind_ok (entries_to_end v mean_columns states spread.0.1) (λ xs. Ok (mean_body spread.0.0 xs.0, xs.1)) (b, q) spread.2 in
+    let xs = all.0.0 in
+    let same : (let r : PlainBody × Place = (mean_body spread.0.0 xs, all.0.1) in r) ≡ (b, q) = ok-is _ _ all.2 in
+    let j = judged-found spread_at p spread.0.0 spread.0.1 spread.1 in
+    let k = spread-found p.line j.text spread.0.0 j.said in
+    let f = closed-found mean_columns IsMeanInWidth mean-is_columns states limit v spread.0.1 xs all.0.1 all.1 in
+    let each : (X : Type 0) (g : MeanEntry → X) → eqb (length (map g xs)) states ≡ true = λ X g. same-number _ states (length-map xs g ∙ f.count) in
+    subst (λ (r : PlainBody × Place). FoundBody v (mean dir name) states p r.0 r.1) same (record {
+      text = joined p.rest j.text (spread_text spread.0.0) spread.0.1.rest (closed_lines v mean_columns xs) (closed_lines v mean_columns (means _ _ _ _)) all.0.1.rest
+          j.is.front k.0 f.text (ap (λ (ys : List MeanEntry). closed_lines v mean_columns ys) (sym (means-of xs)));
+      fits = record {
+        entries = rw (each ℚ (λ x. x.gain), each ℚ (λ x. x.bound), each ℚ (λ x. x.bias), each ℕ (λ x. x.choice)) refl;
+        width = (
+          each-all IsNarrow _ (gains-width xs f.width),
+          each-all IsNarrow _ (bounds-width xs f.width),
+          each-all IsNarrow _ (biases-width xs f.width),
+          each-all (λ c. c < 2 ^ 32) _ (mean-choices-width xs f.width),
+          k.1,
+        );
+      };
+    })
+  where
+    joined : (a t u r c d z : List ℕ) → a ≡ line t ++ r → t ≡ u → r ≡ c ++ z → c ≡ d → a ≡ (line u ++ d) ++ z
+    joined a t u r c d z p q o e = rw (p, q, o, e) (sym (append_assoc (line u) d z))
+
+mean-again : (v : Version) (dir : Dir) (name : List ℕ) (states n : ℕ) (gs zs bs : List ℚ) (cs : List ℕ) (k : ℚ) (rest : List ℕ) → states ≤ 2 ^ 20
+    → FitsBody (mean dir name) states (gains gs zs bs cs k)
+    → (m : ℕ) × (body_from v (mean dir name) states (place n (body_text v (gains gs zs bs cs k) ++ rest)) ≡ Ok (gains gs zs bs cs k, place m rest))
+unfolding body_from
+mean-again v dir name states n gs zs bs cs k rest limit ok =
+    let l = four-entries states gs zs bs cs ok.entries in
+    let b = back gs zs bs cs (record { bounds = omega (arith, l.gains, l.bounds); biases = omega (arith, l.gains, l.biases); choices = omega (arith, l.gains, l.choices) }) in
+    let r =
+    closed-again mean_columns IsMeanInWidth mean-is_columns states limit v (n + 1) (means gs zs bs cs) rest (b.count ∙ l.gains)
+    (means-width gs zs bs cs (all-each IsNarrow gs ok.width.0) (all-each IsNarrow zs ok.width.1) (all-each IsNarrow bs ok.width.2) (all-each (λ c. c < 2 ^ 32) cs ok.width.3)) in (
+      r.0,
+      ap (λ (t : List ℕ). line_by spread_at (place n t) >>= means-behind v states) (append_assoc (line (spread_text k)) (closed_lines v mean_columns (means gs zs bs cs)) rest)
+          ∙ ap (λ (q : Result (ℚ × Place) Refusal). q >>= means-behind v states)
+          (judged-again spread_at n (spread_text k) (closed_lines v mean_columns (means gs zs bs cs) ++ rest) k (free-spread k ok.width.4) (spread-again n k ok.width.4))
+          ∙ ap (λ (q : Result (List MeanEntry × Place) Refusal). q >>= λ xs. let z : Result (PlainBody × Place) Refusal = Ok (mean_body k xs.0, xs.1) in z) r.1
+          ∙ ap (λ (c : PlainBody). let z : Result (PlainBody × Place) Refusal = Ok (c, place r.0 rest) in z) (parts _ _ _ _ _ _ _ _ b.gains b.bounds b.biases b.choices),
+    )
+  where
+    parts : (a b c d e f : List ℚ) (g h : List ℕ) → a ≡ b → c ≡ d → e ≡ f → g ≡ h → gains a c e g k ≡ gains b d f h k
+    parts a b c d e f g h p q o t = rw (p, q, o, t) refl
+
 -- ---- by the claim
 
 pub body-found : (v : Version) (claim : PlainClaim) (states : ℕ) (p : Place) (b : PlainBody) (q : Place) → states ≤ 2 ^ 20 → body_from v claim states p ≡ Ok (b, q)
@@ -183,6 +284,7 @@ body-found v (reward dir name label) states p b q limit e =
     let same : (let r : PlainBody × Place = (reward_body all.0.0, all.0.1) in r) ≡ (b, q) = ok-is _ _ all.2 in
     let f = policy-found reward_value IsValueNarrow reward-is_value states limit v p all.0.0 all.0.1 all.1 in
     subst (λ (r : PlainBody × Place). FoundBody v (reward dir name label) states p r.0 r.1) same (record { text = f.text; fits = record { entries = f.entries; width = f.width } })
+body-found v (mean dir name) states p b q limit e = mean-found v dir name states p b q limit e
 
 abbrev bounds-of : List ℚ × Place → Result (PlainBody × Place) Refusal
 bounds-of xs = Ok (bounds xs.0, xs.1)
@@ -233,12 +335,19 @@ unfolding body_from
 body-again v (upper label) states n (bounds zs) rest limit ok = bounds-again v states n zs rest limit ok.entries ok.width
 body-again v (upper label) states n (policy zs cs rs) rest limit ok = absurd (let t = ok.entries in cc)
 body-again v (upper label) states n (rewards zs cs rs) rest limit ok = absurd (let t = ok.entries in cc)
+body-again v (upper label) states n (gains gs zs bs cs k) rest limit ok = absurd (let t = ok.entries in cc)
 body-again v (reach dir label) states n (policy zs cs rs) rest limit ok = reach-again v states n zs cs rs rest limit ok.entries ok.width
 body-again v (reach dir label) states n (bounds zs) rest limit ok = absurd (let t = ok.entries in cc)
 body-again v (reach dir label) states n (rewards zs cs rs) rest limit ok = absurd (let t = ok.entries in cc)
+body-again v (reach dir label) states n (gains gs zs bs cs k) rest limit ok = absurd (let t = ok.entries in cc)
 body-again v (reward dir name label) states n (rewards zs cs rs) rest limit ok = reward-again v states n zs cs rs rest limit ok.entries ok.width
 body-again v (reward dir name label) states n (bounds zs) rest limit ok = absurd (let t = ok.entries in cc)
 body-again v (reward dir name label) states n (policy zs cs rs) rest limit ok = absurd (let t = ok.entries in cc)
+body-again v (reward dir name label) states n (gains gs zs bs cs k) rest limit ok = absurd (let t = ok.entries in cc)
+body-again v (mean dir name) states n (bounds zs) rest limit ok = absurd (let t = ok.entries in cc)
+body-again v (mean dir name) states n (policy zs cs rs) rest limit ok = absurd (let t = ok.entries in cc)
+body-again v (mean dir name) states n (rewards zs cs rs) rest limit ok = absurd (let t = ok.entries in cc)
+body-again v (mean dir name) states n (gains gs zs bs cs k) rest limit ok = mean-again v dir name states n gs zs bs cs k rest limit ok
 
 -- ---- the end
 
@@ -362,4 +471,5 @@ are-same-words = record {
   bounds = same-words bound_columns IsNarrow bound-is_columns;
   policies = same-words (policy_columns fraction_value) (IsPolicyInWidth IsNarrow) (policy-is_columns fraction_value IsNarrow fraction-is_value);
   rewards = same-words (policy_columns reward_value) (IsPolicyInWidth IsValueNarrow) (policy-is_columns reward_value IsValueNarrow reward-is_value);
+  means = same-words mean_columns IsMeanInWidth mean-is_columns;
 }

@@ -5,23 +5,26 @@ use Rattle.mdp_num.specs.Value.{IsNarrow}
 use Rattle.mdp_rows.specs.Name.{is_name}
 use Rattle.mdp_rows.specs.declared.dir.Dir.{Dir}
 use Rattle.mdp_cert.specs.declared.claim.Claim.{Claim}
-use Rattle.mdp_cert.specs.declared.claim.Claim.TheVariants.{Upper, Reach, Reward}
+use Rattle.mdp_cert.specs.declared.claim.Claim.TheVariants.{Upper, Reach, Reward, Mean}
 use Rattle.mdp_cert.specs.declared.init.Init.{Init}
 use Rattle.mdp_cert.specs.declared.init.Init.TheVariants.{Missing, Finite, Infinite}
 use Rattle.mdp_cert.specs.declared.body.Body.{Body}
 use Rattle.mdp_cert.specs.declared.body.Body.TheVariants as body
 
--- a claim and the names in it: a label, or a reward model and a label
+-- a claim and the names in it: a label, a reward model and a label, or a reward model
 pub data PlainClaim : Type 0 where
   upper : List ℕ → PlainClaim
   reach : Dir → List ℕ → PlainClaim
   reward : Dir → List ℕ → List ℕ → PlainClaim
+  mean : Dir → List ℕ → PlainClaim
 
--- upper bounds; values, choices and ranks; or values, of which nothing is infinite, choices and ranks: one of each per state
+-- one of each per state: upper bounds; values, choices and ranks; values (nothing is infinite), choices and ranks; or gains, bounds, biases
+-- and choices, with the spread of all states
 pub data PlainBody : Type 0 where
   bounds : List ℚ → PlainBody
   policy : List ℚ → List ℕ → List ℕ → PlainBody
   rewards : List (Option ℚ) → List ℕ → List ℕ → PlainBody
+  gains : List ℚ → List ℚ → List ℚ → List ℕ → ℚ → PlainBody
 
 pub record Certificate : Type 0 where
   pub claim : PlainClaim
@@ -34,12 +37,14 @@ abbrev pub are_names : PlainClaim → Bool
 are_names (upper label) = is_name label
 are_names (reach dir label) = is_name label
 are_names (reward dir name label) = is_name name && is_name label
+are_names (mean dir name) = is_name name
 
 -- whether the values of the claim may be infinite
 abbrev pub may_be_infinite : PlainClaim → Bool
 may_be_infinite (upper label) = false
 may_be_infinite (reach dir label) = false
 may_be_infinite (reward dir name label) = true
+may_be_infinite (mean dir name) = false
 
 -- ---- the values of the program's types
 
@@ -47,11 +52,13 @@ abbrev pub plain_claim : Claim → PlainClaim
 plain_claim (Upper label) = upper label.items
 plain_claim (Reach dir label) = reach dir label.items
 plain_claim (Reward dir name label) = reward dir name.items label.items
+plain_claim (Mean dir name) = mean dir name.items
 
 abbrev pub plain_body : Body → PlainBody
 plain_body (body.Upper c) = bounds c.values.items
 plain_body (body.Reach c) = policy c.values.items c.choices.items c.ranks.items
 plain_body (body.Reward c) = rewards c.values.items c.choices.items c.ranks.items
+plain_body (body.Mean c) = gains c.gains.items c.bound.items c.bias.items c.choices.items c.spread
 
 -- ---- which certificates have a text
 
@@ -66,6 +73,8 @@ abbrev pub is_body_of : PlainClaim → ℕ → PlainBody → Bool
 is_body_of (upper label) states (bounds values) = length values == states
 is_body_of (reach dir label) states (policy values choices ranks) = (length values == states) && (length choices == states) && (length ranks == states)
 is_body_of (reward dir name label) states (rewards values choices ranks) = (length values == states) && (length choices == states) && (length ranks == states)
+is_body_of (mean dir name) states (gains gain bound bias choices spread) =
+    (length gain == states) && (length bound == states) && (length bias == states) && (length choices == states)
 is_body_of claim states body = false
 
 -- the fractions are in width, and choices and ranks below 2^32
@@ -83,6 +92,7 @@ abbrev pub IsBodyInWidth : PlainBody → Type 0
 IsBodyInWidth (bounds values) = All IsNarrow values
 IsBodyInWidth (policy values choices ranks) = All IsNarrow values × All (λ c. c < 2 ^ 32) choices × All (λ r. r < 2 ^ 32) ranks
 IsBodyInWidth (rewards values choices ranks) = All IsValueNarrow values × All (λ c. c < 2 ^ 32) choices × All (λ r. r < 2 ^ 32) ranks
+IsBodyInWidth (gains gain bound bias choices spread) = All IsNarrow gain × All IsNarrow bound × All IsNarrow bias × All (λ c. c < 2 ^ 32) choices × IsNarrow spread
 
 pub record Fits (c : Certificate) : Type 0 where
   pub some : 0 < c.states

@@ -5,6 +5,7 @@ use Rattle.mdp_math.specs.Rational.{ℚ}
 use Rattle.mdp_num.specs.Value.{spelling, IsNarrow}
 use Rattle.mdp_num.specs.Canonical.{canonical_of}
 use Rattle.mdp_num.specs.Equal.{eq_ℚ}
+use Rattle.mdp_cert.specs.declared.mean_entry.MeanEntry.{MeanEntry}
 use Rattle.mdp_cert.specs.declared.policy_entry.PolicyEntry.{PolicyEntry}
 use Rattle.mdp_cert.specs.Words.{whole_of}
 use Rattle.mdp_cert.specs.Runs.{Columns}
@@ -70,3 +71,29 @@ pub record IsPolicyInWidth {V : Type 0} (IsInWidth : V → Type 0) (p : PolicyEn
 abbrev pub policies : {V : Type 0} → List V → List ℕ → List ℕ → List (PolicyEntry V)
 policies (z ∷ zs) (c ∷ cs) (r ∷ rs) = record { value = z; choice = c; rank = r } ∷ policies zs cs rs
 policies zs cs rs = []
+
+-- ---- a gain, a bound, a bias and a choice: GAIN BOUND BIAS CHOICE
+
+abbrev pub mean_parse : List (List ℕ) → Option MeanEntry
+mean_parse (g ∷ a ∷ b ∷ c ∷ []) = option_and_then (λ gain. option_and_then (λ bound. option_and_then
+    (λ bias. option_and_then (λ choice. Some (record { gain = gain; bound = bound; bias = bias; choice = choice })) (whole_of c)) (canonical_of b)) (canonical_of a)) (canonical_of g)
+mean_parse ws = None
+
+abbrev pub mean_columns : Columns MeanEntry
+mean_columns = record {
+  width = 4;
+  parse = mean_parse;
+  words = λ x. spelling x.gain ∷ spelling x.bound ∷ spelling x.bias ∷ decimal x.choice ∷ [];
+  same = λ x y. eq_ℚ x.gain y.gain && eq_ℚ x.bound y.bound && eq_ℚ x.bias y.bias && (x.choice == y.choice);
+}
+
+pub record IsMeanInWidth (x : MeanEntry) : Type 0 where
+  pub gain : IsNarrow x.gain
+  pub bound : IsNarrow x.bound
+  pub bias : IsNarrow x.bias
+  pub choice : x.choice < 2 ^ 32
+
+-- the entries of four lists
+abbrev pub means : List ℚ → List ℚ → List ℚ → List ℕ → List MeanEntry
+means (g ∷ gain) (a ∷ bound) (b ∷ bias) (c ∷ choices) = record { gain = g; bound = a; bias = b; choice = c } ∷ means gain bound bias choices
+means gain bound bias choices = []

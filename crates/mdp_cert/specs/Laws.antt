@@ -8,7 +8,7 @@ use Rattle.mdp_cert.specs.Cert.{Certificate, IsValueNarrow, Fits}
 use Rattle.mdp_num.specs.Value.{IsNarrow}
 use Rattle.mdp_cert.specs.Lines.{is_line_feed}
 use Rattle.mdp_cert.specs.Runs.{Columns}
-use Rattle.mdp_cert.specs.Claims.{fraction_value, reward_value, bound_columns, policy_columns, IsPolicyInWidth}
+use Rattle.mdp_cert.specs.Claims.{fraction_value, reward_value, bound_columns, policy_columns, IsPolicyInWidth, mean_columns, IsMeanInWidth}
 use Rattle.mdp_cert.specs.Spelling.{line, text_in, text_of, old_text_of}
 use Rattle.mdp_cert.specs.Reading.{outcome}
 
@@ -33,6 +33,7 @@ pub record AreSameWords : Type 0 where
   pub bounds : IsSameWords bound_columns IsNarrow
   pub policies : IsSameWords (policy_columns fraction_value) (IsPolicyInWidth IsNarrow)
   pub rewards : IsSameWords (policy_columns reward_value) (IsPolicyInWidth IsValueNarrow)
+  pub means : IsSameWords mean_columns IsMeanInWidth
 
 -- bytes are a text of a certificate, or they are refused
 abbrev pub IsReadOrRefused : Type 0

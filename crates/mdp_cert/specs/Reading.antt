@@ -16,12 +16,13 @@ use Rattle.mdp_cert.specs.declared.init.Init.{Init}
 use Rattle.mdp_cert.specs.declared.init.Init.TheVariants.{Missing, Finite, Infinite}
 use Rattle.mdp_cert.specs.declared.version.Version.{Version}
 use Rattle.mdp_cert.specs.declared.version.Version.TheVariants.{One, Two}
+use Rattle.mdp_cert.specs.declared.mean_entry.MeanEntry.{MeanEntry}
 use Rattle.mdp_cert.specs.declared.policy_entry.PolicyEntry.{PolicyEntry}
-use Rattle.mdp_cert.specs.Cert.{PlainClaim, upper, reach, reward, may_be_infinite, PlainBody, bounds, policy, rewards, Certificate}
+use Rattle.mdp_cert.specs.Cert.{PlainClaim, upper, reach, reward, mean, may_be_infinite, PlainBody, bounds, policy, rewards, gains, Certificate}
 use Rattle.mdp_cert.specs.Lines.{◌>>=◌, refused, refuse_if, or_refused, is_line, Place, place, line_by}
-use Rattle.mdp_cert.specs.Words.{words, first_of, begins_with, words_behind, whole_at}
+use Rattle.mdp_cert.specs.Words.{words, first_of, begins_with, words_behind, whole_at, frac_at}
 use Rattle.mdp_cert.specs.Runs.{Columns, Run, run, single, entries_of}
-use Rattle.mdp_cert.specs.Claims.{reward_parse, fraction_value, reward_value, bound_columns, policy_columns}
+use Rattle.mdp_cert.specs.Claims.{reward_parse, fraction_value, reward_value, bound_columns, policy_columns, mean_columns}
 use Rattle.mdp_cert.specs.Spelling.{version_text, end_text}
 
 -- ---- the version
@@ -71,9 +72,16 @@ reward_front Min = codes "claim min reward \""
 abbrev pub reward_claim : Dir → List ℕ → Option PlainClaim
 reward_claim dir text = option_map (λ names. reward dir names.0 names.1) (option_and_then two_names (behind (reward_front dir) text))
 
+abbrev pub mean_front : Dir → List ℕ
+mean_front Max = codes "claim max mean \""
+mean_front Min = codes "claim min mean \""
+
+abbrev pub mean_claim : Dir → List ℕ → Option PlainClaim
+mean_claim dir text = option_map (mean dir) (name_behind (mean_front dir) text)
+
 -- the claims of a direction
 unfoldable pub claim_to : Dir → List ℕ → Option PlainClaim
-claim_to dir text = option_or (reach_claim dir text) (reward_claim dir text)
+claim_to dir text = option_or (reach_claim dir text) (option_or (reward_claim dir text) (mean_claim dir text))
 
 unfoldable pub claim_of : List ℕ → Option PlainClaim
 claim_of text = option_or (upper_claim text) (option_or (claim_to Max text) (claim_to Min text))
@@ -202,11 +210,22 @@ policy_body xs = policy (map (λ x. x.value) xs) (map (λ x. x.choice) xs) (map 
 abbrev pub reward_body : List (PolicyEntry (Option ℚ)) → PlainBody
 reward_body xs = rewards (map (λ x. x.value) xs) (map (λ x. x.choice) xs) (map (λ x. x.rank) xs)
 
+abbrev pub mean_body : ℚ → List MeanEntry → PlainBody
+mean_body spread xs = gains (map (λ x. x.gain) xs) (map (λ x. x.bound) xs) (map (λ x. x.bias) xs) (map (λ x. x.choice) xs) spread
+
+-- the line `spread K` of a certificate of mean payoffs
+unfoldable pub spread_at : ℕ → List ℕ → Result ℚ Refusal
+spread_at n text = words_behind (codes "spread") 1 n text >>= λ behind. frac_at n (first_of behind)
+
 -- the lines behind the head, by the claim, with the line `end`
 unfoldable pub body_from : Version → PlainClaim → ℕ → Place → Result (PlainBody × Place) Refusal
 body_from v (upper label) states p = entries_to_end v bound_columns states p >>= λ xs. Ok (bounds xs.0, xs.1)
 body_from v (reach dir label) states p = entries_to_end v (policy_columns fraction_value) states p >>= λ xs. Ok (policy_body xs.0, xs.1)
 body_from v (reward dir name label) states p = entries_to_end v (policy_columns reward_value) states p >>= λ xs. Ok (reward_body xs.0, xs.1)
+body_from v (mean dir name) states p = do
+  spread ← line_by spread_at p
+  xs ← entries_to_end v mean_columns states spread.1
+  Ok (mean_body spread.0 xs.0, xs.1)
 
 -- ---- the whole
 

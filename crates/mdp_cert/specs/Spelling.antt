@@ -1,6 +1,7 @@
 -- The texts of a certificate: one in each version.
 use Rattle.std.specs.Prelude.{ℕ, ◌+◌, List, [], ◌∷◌, ◌++◌, ◌==◌, decimal, codes, if◌then◌else◌}
 use Rattle.std.specs.List.{join_with_byte}
+use Rattle.mdp_math.specs.Rational.{ℚ}
 use Rattle.mdp_num.specs.Value.{spelling}
 use Rattle.mdp_rows.specs.declared.dir.Dir.{Dir}
 use Rattle.mdp_rows.specs.declared.dir.Dir.TheVariants.{Max, Min}
@@ -8,9 +9,9 @@ use Rattle.mdp_cert.specs.declared.init.Init.{Init}
 use Rattle.mdp_cert.specs.declared.init.Init.TheVariants.{Missing, Finite, Infinite}
 use Rattle.mdp_cert.specs.declared.version.Version.{Version}
 use Rattle.mdp_cert.specs.declared.version.Version.TheVariants.{One, Two}
-use Rattle.mdp_cert.specs.Cert.{PlainClaim, upper, reach, reward, PlainBody, bounds, policy, rewards, Certificate}
+use Rattle.mdp_cert.specs.Cert.{PlainClaim, upper, reach, reward, mean, PlainBody, bounds, policy, rewards, gains, Certificate}
 use Rattle.mdp_cert.specs.Runs.{Columns, Run, runs_in}
-use Rattle.mdp_cert.specs.Claims.{fraction_value, reward_value, bound_columns, policy_columns, policies}
+use Rattle.mdp_cert.specs.Claims.{fraction_value, reward_value, bound_columns, policy_columns, policies, mean_columns, means}
 
 -- a text with its line feed
 abbrev pub line : List ℕ → List ℕ
@@ -38,6 +39,7 @@ abbrev pub claim_text : PlainClaim → List ℕ
 claim_text (upper label) = codes "claim" ␣ codes "upper" ␣ codes "reach" ␣ quoted label
 claim_text (reach dir label) = codes "claim" ␣ dir_text dir ␣ codes "reach" ␣ quoted label
 claim_text (reward dir name label) = codes "claim" ␣ dir_text dir ␣ codes "reward" ␣ quoted name ␣ quoted label
+claim_text (mean dir name) = codes "claim" ␣ dir_text dir ␣ codes "mean" ␣ quoted name
 
 abbrev pub states_text : ℕ → List ℕ
 states_text states = codes "states" ␣ decimal states
@@ -74,11 +76,16 @@ end_text = codes "end"
 abbrev pub closed_lines : {A : Type 0} → Version → Columns A → List A → List ℕ
 closed_lines v k xs = state_lines v k xs ++ line end_text
 
+-- the spread of a certificate of mean payoffs
+abbrev pub spread_text : ℚ → List ℕ
+spread_text spread = codes "spread" ␣ spelling spread
+
 -- a body ends with the line `end`
 abbrev pub body_text : Version → PlainBody → List ℕ
 body_text v (bounds values) = closed_lines v bound_columns values
 body_text v (policy values choices ranks) = closed_lines v (policy_columns fraction_value) (policies values choices ranks)
 body_text v (rewards values choices ranks) = closed_lines v (policy_columns reward_value) (policies values choices ranks)
+body_text v (gains gain bound bias choices spread) = line (spread_text spread) ++ closed_lines v mean_columns (means gain bound bias choices)
 
 -- ---- the whole
 

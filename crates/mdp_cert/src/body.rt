@@ -1,4 +1,4 @@
-use mdp_farkas::{ReachCert, RewardCert, UpperCert};
+use mdp_farkas::{MeanCert, ReachCert, RewardCert, UpperCert};
 
 /// What a certificate says of each state.
 #[derive(Debug, Drop)]
@@ -9,4 +9,6 @@ pub enum Body {
     Reach(ReachCert),
     /// A value that may be infinite, the policy's choice and a rank.
     Reward(RewardCert),
+    /// A gain, a bound, a bias and the policy's choice; and the spread of bounds and biases.
+    Mean(MeanCert),
 }

@@ -18,4 +18,9 @@ pub enum Claim {
         name: Vec<u8>,
         label: Vec<u8>,
     },
+    /// The gains are the greatest or the least mean payoffs of the reward model `name`.
+    Mean {
+        dir: Dir,
+        name: Vec<u8>,
+    },
 }

@@ -2,7 +2,8 @@ ghost use Rattle.std.specs.Prelude.{◌≡◌, ◌==◌, ◌||◌, Ok, Some, Non
 ghost use Rattle.std.specs.List.{list_any, position_or_len};
 ghost use Rattle.mdp_rows.specs.Name.{is_name};
 ghost use Rattle.mdp_cert.specs.Cert.{plain_claim};
-ghost use Rattle.mdp_cert.specs.Reading.{behind, closed_name, name_behind, is_quote, two_names, upper_claim, reach_front, reach_claim, reward_front, reward_claim, claim_to, claim_of, claim_at};
+ghost use Rattle.mdp_cert.specs.Reading.{behind, closed_name, name_behind, is_quote, two_names, upper_claim, reach_front};
+ghost use Rattle.mdp_cert.specs.Reading.{reach_claim, reward_front, reward_claim, mean_front, mean_claim, claim_to, claim_of, claim_at};
 ghost use Rattle.mdp_cert.specs.Answer.{Refuses};
 
 use crate::claim::Claim;
@@ -123,6 +124,27 @@ fn reward_claim(alloc: Global, dir: Dir, text: &[u8]) -> Result<Option<Claim>, A
     Ok(Some(Claim::Reward { dir, name, label }))
 }
 
+/// What stands before the name in the claim `DIR mean`.
+pub(crate) fn mean_front(dir: Dir) -> &'static [u8]
+    ensures { result.now ≡ mean_front dir }
+{
+    match dir {
+        Dir::Max => b"claim max mean \"",
+        Dir::Min => b"claim min mean \"",
+    }
+}
+
+/// The claim `DIR mean` of this line.
+fn mean_claim(alloc: Global, dir: Dir, text: &[u8]) -> Result<Option<Claim>, AllocError>
+    ensures { IfOk result (λ c. option_map plain_claim c ≡ mean_claim dir text.now) }
+{
+    let Some(name) = name_behind(mean_front(dir), text) else {
+        return Ok(None);
+    };
+    let name = Vec::from_slice(alloc, name)?;
+    Ok(Some(Claim::Mean { dir, name }))
+}
+
 /// The claim of this direction in this line.
 #[tactic(auto, unfolding(crate::specs::Reading::claim_to))]
 fn claim_to(alloc: Global, dir: Dir, text: &[u8]) -> Result<Option<Claim>, AllocError>
@@ -131,7 +153,10 @@ fn claim_to(alloc: Global, dir: Dir, text: &[u8]) -> Result<Option<Claim>, Alloc
     if let Some(claim) = reach_claim(alloc, dir, text)? {
         return Ok(Some(claim));
     }
-    reward_claim(alloc, dir, text)
+    if let Some(claim) = reward_claim(alloc, dir, text)? {
+        return Ok(Some(claim));
+    }
+    mean_claim(alloc, dir, text)
 }
 
 /// The claim of this line, where it has one.

@@ -19,6 +19,8 @@ mod head_lines;
 mod init;
 mod laws;
 mod lines;
+mod mean_entry;
+mod mean_lines;
 mod numbers;
 mod policy_entry;
 mod policy_lines;

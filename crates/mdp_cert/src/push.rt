@@ -2,11 +2,11 @@ ghost use Rattle.std.specs.Prelude.{◌≡◌, ◌<◌, ◌≤◌, ◌-◌, ◌+
 ghost use Rattle.mdp_num.specs.Value.{spelling};
 ghost use Rattle.mdp_cert.specs.Cert.{plain_claim};
 ghost use Rattle.mdp_cert.specs.Runs.{run};
-ghost use Rattle.mdp_cert.specs.Spelling.{line, claim_text, states_text, init_text, entry_text, run_text};
+ghost use Rattle.mdp_cert.specs.Spelling.{line, claim_text, states_text, init_text, entry_text, run_text, spread_text};
 ghost use Rattle.mdp_cert.specs.Answer.{Keeps};
 
 use crate::claim::Claim;
-use crate::claim_line::{reach_front, reward_front};
+use crate::claim_line::{mean_front, reach_front, reward_front};
 use crate::entries::Entry;
 use crate::init::Init;
 use itoa::Buffer;
@@ -22,15 +22,13 @@ fn push_whole(out: &mut Vec<u8>, number: u32) -> Result<(), Memory>
     Ok(())
 }
 
-/// Appends a blank, the value and the line's end.
-fn push_value_end(out: &mut Vec<u8>, value: &Frac) -> Result<(), Memory>
-    ensures text { OnOk result (out.new.items ≡ out.old.items ++ (32 ∷ (spelling value.now ++ 10 ∷ []))) }
+/// Appends a blank and the fraction.
+pub(crate) fn push_fraction(out: &mut Vec<u8>, value: &Frac) -> Result<(), Memory>
+    ensures text { OnOk result (out.new.items ≡ out.old.items ++ (32 ∷ spelling value.now)) }
     ensures front { Keeps out.old.items out.new.items }
 {
     out.extend_from_slice(b" ")?;
-    value.push_text(out)?;
-    out.extend_from_slice(b"\n")?;
-    Ok(())
+    value.push_text(out)
 }
 
 /// Appends a blank and the whole number.
@@ -127,6 +125,7 @@ pub(crate) fn push_claim(out: &mut Vec<u8>, claim: &Claim) -> Result<(), Memory>
         Claim::Reward { dir, name, label } => {
             push_two_quoted(out, reward_front(*dir), name, label)
         }
+        Claim::Mean { dir, name } => push_quoted(out, mean_front(*dir), name),
     }
 }
 
@@ -148,7 +147,9 @@ fn push_finite(out: &mut Vec<u8>, state: u32, value: &Frac) -> Result<(), Memory
 {
     out.extend_from_slice(b"init ")?;
     push_whole(out, state)?;
-    push_value_end(out, value)
+    push_fraction(out, value)?;
+    out.extend_from_slice(b"\n")?;
+    Ok(())
 }
 
 /// Appends the line of a given initial state of infinite value.
@@ -175,4 +176,15 @@ pub(crate) fn push_init(out: &mut Vec<u8>, init: &Init) -> Result<(), Memory>
         Init::Finite(state, value) => push_finite(out, *state, value),
         Init::Infinite(state) => push_infinite(out, *state),
     }
+}
+
+/// Appends the line of the spread.
+pub(crate) fn push_spread(out: &mut Vec<u8>, spread: &Frac) -> Result<(), Memory>
+    ensures text { OnOk result (out.new.items ≡ out.old.items ++ line (spread_text spread.now)) }
+    ensures front { Keeps out.old.items out.new.items }
+{
+    out.extend_from_slice(b"spread")?;
+    push_fraction(out, spread)?;
+    out.extend_from_slice(b"\n")?;
+    Ok(())
 }

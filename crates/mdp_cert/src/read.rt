@@ -11,6 +11,7 @@ use crate::claim::Claim;
 use crate::error::{CertError, CertKind, Refusal};
 use crate::head_lines::{head_from, version_at};
 use crate::lines::{next_line, refuse_if};
+use crate::mean_lines::{mean_cert, spread_at};
 use crate::policy_lines::{reach_cert, reward_cert};
 use crate::state_lines::entries_to_end;
 use crate::version::Version;
@@ -40,6 +41,12 @@ fn body_from<'a>(
         Claim::Reward { .. } => {
             let (entries, line, rest) = entries_to_end(alloc, version, states, 5, bytes)?;
             Ok((Body::Reward(reward_cert(alloc, &entries)?), line, rest))
+        }
+        Claim::Mean { .. } => {
+            let (text, rest) = next_line(5, bytes)?;
+            let spread = spread_at(5, text)?;
+            let (entries, line, rest) = entries_to_end(alloc, version, states, 6, rest)?;
+            Ok((Body::Mean(mean_cert(alloc, spread, &entries)?), line, rest))
         }
     }
 }

@@ -7,7 +7,7 @@ ghost use Rattle.mdp_cert.specs.Answer.{Keeps, same_next, more_same, more_in};
 use crate::body::Body;
 use crate::cert::Cert;
 use crate::entries::{Entry, Lists};
-use crate::push::{push_claim, push_init, push_number, push_run};
+use crate::push::{push_claim, push_init, push_number, push_run, push_spread};
 use crate::version::Version;
 use mdp_num::Memory;
 
@@ -112,6 +112,10 @@ fn push_body(out: &mut Vec<u8>, version: Version, cert: &Cert) -> Result<(), Mem
         Body::Upper(bounds) => push_to_end(out, version, cert.states, bounds),
         Body::Reach(policy) => push_to_end(out, version, cert.states, policy),
         Body::Reward(policy) => push_to_end(out, version, cert.states, policy),
+        Body::Mean(mean) => {
+            push_spread(out, &mean.spread)?;
+            push_to_end(out, version, cert.states, mean)
+        }
     }
 }
 

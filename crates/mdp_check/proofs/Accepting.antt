@@ -10,6 +10,8 @@ use Rattle.mdp_farkas.specs.Verdict.{verdict_of, IfYes}
 use Rattle.mdp_farkas.specs.Upper.{upper_checks, IsUpper}
 use Rattle.mdp_farkas.specs.Reach.{reach_checks, IsReach}
 use Rattle.mdp_farkas.specs.Reward.{reward_checks, IsReward}
+use Rattle.mdp_farkas.specs.Mean.{mean_checks, IsMean}
+use Rattle.mdp_farkas.proofs.MeanRules.{mean_rules, mean_max, mean_min}
 use Rattle.mdp_farkas.proofs.UpperRules.{upper_rules, upper_bound}
 use Rattle.mdp_farkas.proofs.ReachRules.{reach_rules, reach_max, reach_min}
 use Rattle.mdp_farkas.proofs.RewardRules.{reward_rules, reward_max, reward_min}
@@ -17,8 +19,8 @@ use Rattle.mdp_farkas.specs.declared.verdict.Verdict.{Verdict}
 use Rattle.mdp_farkas.specs.declared.verdict.Verdict.TheVariants as verdict
 use Rattle.mdp_rows.specs.declared.dir.Dir.{Dir}
 use Rattle.mdp_rows.specs.declared.dir.Dir.TheVariants.{Max, Min}
-use Rattle.mdp_cert.specs.Cert.{PlainClaim, upper, reach, reward, PlainBody, bounds, policy, rewards, Certificate, is_body_of}
-use Rattle.mdp_cert.proofs.Growth.{policy-entries, reward-entries}
+use Rattle.mdp_cert.specs.Cert.{PlainClaim, upper, reach, reward, mean, PlainBody, bounds, policy, rewards, gains, Certificate, is_body_of}
+use Rattle.mdp_cert.proofs.Growth.{policy-entries, reward-entries, gains-entries}
 use Rattle.mdp_check.specs.Initial.{init_check, init_fault}
 use Rattle.mdp_check.specs.Check.{reward_place, goal_marks, answer_of, verdict_by, body_verdict, after_init, at_goals, at_reward, answer_to, valid_by, IsAccepted, bound_by, IsBound}
 use Rattle.mdp_check.specs.declared.answer.Answer.{Answer}
@@ -56,6 +58,9 @@ module _ (m : Mdp) (r : ℕ) (goals : List Bool) (states : ℕ) (size : states �
   abbrev rewards_verdict : Dir → List (Option ℚ) → List ℕ → List ℕ → Verdict
   rewards_verdict dir v choices ranks = verdict_of (reward_checks dir m r goals v choices ranks)
 
+  abbrev mean_verdict : Dir → List ℚ → List ℚ → List ℚ → List ℕ → ℚ → Verdict
+  mean_verdict dir g bound bias choices k = verdict_of (mean_checks dir m r g bound bias k choices)
+
   abbrev reach_verdict : Dir → List ℚ → List ℕ → List ℕ → Verdict
   reach_verdict dir z choices ranks = verdict_of (reach_checks dir m goals z choices ranks)
 
@@ -73,17 +78,31 @@ module _ (m : Mdp) (r : ℕ) (goals : List Bool) (states : ℕ) (size : states �
       let entries = reward-entries (reward dir name label) states v choices ranks fits in
       reward_rules m r goals v choices ranks dir (rewards_verdict dir v choices ranks) (below_names name m.names r named) (entries.values ∙ size) (entries.choices ∙ size) refl
 
+  mean_rules_of : (dir : Dir) (name : List ℕ) (g bound bias : List ℚ) (choices : List ℕ) (k : ℚ) → place_of name m.names ≡ Some r
+      → is_body_of (mean dir name) states (gains g bound bias choices k) ≡ true → (mean_verdict dir g bound bias choices k ≡ verdict.Yes) ↔ IsMean dir m r g bound bias k choices
+  mean_rules_of dir name g bound bias choices k named fits =
+      let entries = gains-entries (mean dir name) states g bound bias choices k fits in
+      mean_rules m r g bound bias k choices dir (mean_verdict dir g bound bias choices k) (below_names name m.names r named) (entries.bounds ∙ size) (entries.biases ∙ size)
+      (entries.choices ∙ size) refl
+
   body_rules : (claim : PlainClaim) (body : PlainBody) → reward_place m claim ≡ Some r → is_body_of claim states body ≡ true
       → (verdict_by m r goals claim body ≡ verdict.Yes) ↔ valid_by m r goals claim body
   body_rules (upper label) (bounds z) named fits = upper_rules_of z
   body_rules (upper label) (policy z choices ranks) named fits = absurd (let t = fits in cc)
   body_rules (upper label) (rewards v choices ranks) named fits = absurd (let t = fits in cc)
+  body_rules (upper label) (gains g bound bias choices k) named fits = absurd (let t = fits in cc)
   body_rules (reach dir label) (bounds z) named fits = absurd (let t = fits in cc)
   body_rules (reach dir label) (policy z choices ranks) named fits = reach_rules_of dir label z choices ranks fits
   body_rules (reach dir label) (rewards v choices ranks) named fits = absurd (let t = fits in cc)
+  body_rules (reach dir label) (gains g bound bias choices k) named fits = absurd (let t = fits in cc)
   body_rules (reward dir name label) (bounds z) named fits = absurd (let t = fits in cc)
   body_rules (reward dir name label) (policy z choices ranks) named fits = absurd (let t = fits in cc)
   body_rules (reward dir name label) (rewards v choices ranks) named fits = reward_rules_of dir name label v choices ranks named fits
+  body_rules (reward dir name label) (gains g bound bias choices k) named fits = absurd (let t = fits in cc)
+  body_rules (mean dir name) (bounds z) named fits = absurd (let t = fits in cc)
+  body_rules (mean dir name) (policy z choices ranks) named fits = absurd (let t = fits in cc)
+  body_rules (mean dir name) (rewards v choices ranks) named fits = absurd (let t = fits in cc)
+  body_rules (mean dir name) (gains g bound bias choices k) named fits = mean_rules_of dir name g bound bias choices k named fits
 
   reach_bound : (dir : Dir) (label : List ℕ) (z : List ℚ) (choices ranks : List ℕ) → IsMdp m → is_body_of (reach dir label) states (policy z choices ranks) ≡ true
       → reach_verdict dir z choices ranks ≡ verdict.Yes → bound_by m r goals (reach dir label) (policy z choices ranks)
@@ -102,17 +121,38 @@ module _ (m : Mdp) (r : ℕ) (goals : List Bool) (states : ℕ) (size : states �
       let entries = reward-entries (reward Min name label) states v choices ranks fits in
       of_if_yes _ _ (reward_min m r goals v choices ranks Min (rewards_verdict Min v choices ranks) (below_names name m.names r named) (entries.values ∙ size) (entries.choices ∙ size) refl is refl) e
 
+  mean_bound : (dir : Dir) (name : List ℕ) (g bound bias : List ℚ) (choices : List ℕ) (k : ℚ) → IsMdp m → place_of name m.names ≡ Some r
+      → is_body_of (mean dir name) states (gains g bound bias choices k) ≡ true → mean_verdict dir g bound bias choices k ≡ verdict.Yes
+      → bound_by m r goals (mean dir name) (gains g bound bias choices k)
+  mean_bound Max name g bound bias choices k is named fits e =
+      let entries = gains-entries (mean Max name) states g bound bias choices k fits in
+      of_if_yes _ _
+      (mean_max m r g bound bias k choices Max (mean_verdict Max g bound bias choices k) (below_names name m.names r named) (entries.bounds ∙ size) (entries.biases ∙ size)
+      (entries.choices ∙ size) refl is refl) e
+  mean_bound Min name g bound bias choices k is named fits e =
+      let entries = gains-entries (mean Min name) states g bound bias choices k fits in
+      of_if_yes _ _
+      (mean_min m r g bound bias k choices Min (mean_verdict Min g bound bias choices k) (below_names name m.names r named) (entries.bounds ∙ size) (entries.biases ∙ size)
+      (entries.choices ∙ size) refl is refl) e
+
   body_bound : (claim : PlainClaim) (body : PlainBody) → IsMdp m → reward_place m claim ≡ Some r → is_body_of claim states body ≡ true
       → verdict_by m r goals claim body ≡ verdict.Yes → bound_by m r goals claim body
   body_bound (upper label) (bounds z) is named fits e = of_if_yes _ _ (upper_bound m goals z (verdict_of (upper_checks m goals z)) is refl) e
   body_bound (upper label) (policy z choices ranks) is named fits e = absurd (let t = fits in cc)
   body_bound (upper label) (rewards v choices ranks) is named fits e = absurd (let t = fits in cc)
+  body_bound (upper label) (gains g bound bias choices k) is named fits e = absurd (let t = fits in cc)
   body_bound (reach dir label) (bounds z) is named fits e = absurd (let t = fits in cc)
   body_bound (reach dir label) (policy z choices ranks) is named fits e = reach_bound dir label z choices ranks is fits e
   body_bound (reach dir label) (rewards v choices ranks) is named fits e = absurd (let t = fits in cc)
+  body_bound (reach dir label) (gains g bound bias choices k) is named fits e = absurd (let t = fits in cc)
   body_bound (reward dir name label) (bounds z) is named fits e = absurd (let t = fits in cc)
   body_bound (reward dir name label) (policy z choices ranks) is named fits e = absurd (let t = fits in cc)
   body_bound (reward dir name label) (rewards v choices ranks) is named fits e = reward_bound dir name label v choices ranks is named fits e
+  body_bound (reward dir name label) (gains g bound bias choices k) is named fits e = absurd (let t = fits in cc)
+  body_bound (mean dir name) (bounds z) is named fits e = absurd (let t = fits in cc)
+  body_bound (mean dir name) (policy z choices ranks) is named fits e = absurd (let t = fits in cc)
+  body_bound (mean dir name) (rewards v choices ranks) is named fits e = absurd (let t = fits in cc)
+  body_bound (mean dir name) (gains g bound bias choices k) is named fits e = mean_bound dir name g bound bias choices k is named fits e
 
 -- a verdict of yes is one on a body that fits
 by_body : (fits : Bool) (v : Verdict) → cond fits v (init_fault None) ≡ verdict.Yes → (fits ≡ true) × (v ≡ verdict.Yes)

@@ -1,16 +1,16 @@
 -- Answers, computed, on a model of three states: state 0, with the label `init`, has a loop, and a choice that goes on to 1 with 1/3 and to 2 with
 -- 2/3; 1 has the label `goal`, and 2 is left nowhere.
-use Rattle.std.proofs.Common.{◌≡◌, ℕ, List, [], ◌∷◌, refl, pos, Option, Some, None}
+use Rattle.std.proofs.Common.{◌≡◌, ℕ, List, [], ◌∷◌, refl, pos, negsuc, Option, Some, None}
 use Rattle.std.specs.Prelude.{codes}
 use Rattle.mdp_math.specs.Gcd.{gcd, gcd_with_fuel}
-use Rattle.mdp_math.specs.Rational.{ℚ, of_int, ratio, lt_ℚ, ◌+ℚ◌, ◌*ℚ◌}
+use Rattle.mdp_math.specs.Rational.{ℚ, of_int, ratio, lt_ℚ, neg_ℚ, ◌+ℚ◌, ◌*ℚ◌}
 use Rattle.mdp_math.specs.Written.{narrow, narrow_ℚ, written_add, written_mul, written_compare}
 use Rattle.mdp_spec.specs.Mdp.{Entry, Choice, Mdp}
 use Rattle.mdp_rows.specs.declared.dir.Dir.{Dir}
 use Rattle.mdp_rows.specs.declared.dir.Dir.TheVariants.{Max, Min}
 use Rattle.mdp_cert.specs.declared.init.Init.{Init}
 use Rattle.mdp_cert.specs.declared.init.Init.TheVariants.{Missing, Finite, Infinite}
-use Rattle.mdp_cert.specs.Cert.{upper, reach, reward, bounds, policy, rewards, Certificate}
+use Rattle.mdp_cert.specs.Cert.{upper, reach, reward, mean, bounds, policy, rewards, gains, Certificate}
 use Rattle.mdp_check.specs.Check.{answer_to}
 use Rattle.mdp_check.specs.declared.answer.Answer.TheVariants.{Yes, No, NoReward, NoLabel, Size}
 
@@ -135,3 +135,57 @@ other_body : answer_to two (record { claim = reward Min (codes "-") (codes "goal
     ≡ No (record { rule = 1; state = None; choice = None })
 unfolding of_int
 other_body = refl
+
+-- ---- mean payoffs
+
+abbrev half : ℚ
+half = ratio (pos 1) 2
+
+abbrev below_half : ℚ
+below_half = ratio (negsuc 0) 2
+
+-- the states 0 and 1 lead to each other, and only the step from 0 pays: 1
+abbrev turns : Mdp
+turns = record {
+  names = codes "-" ∷ [];
+  labels = codes "init" ∷ [];
+  states = record { labels = 0 ∷ []; choices = paid (entry 1 one ∷ []) one ∷ [] } ∷ record { labels = []; choices = paid (entry 0 one ∷ []) zero_ ∷ [] } ∷ [];
+}
+
+abbrev mean_of_two : List ℕ → Init → List ℚ → List ℚ → List ℚ → List ℕ → ℚ → Certificate
+mean_of_two name init gain bound bias choices spread =
+    record { claim = mean Max name; states = 2; init = init; body = gains gain bound bias choices spread }
+
+-- so the mean payoff is 1/2; no label is asked for
+mean_half : answer_to turns (mean_of_two (codes "-") (Finite 0 half) (half ∷ half ∷ []) (zero_ ∷ below_half ∷ []) (zero_ ∷ below_half ∷ []) (0 ∷ 0 ∷ []) half) ≡ Yes
+unfolding gcd gcd_with_fuel ratio of_int neg_ℚ ◌+ℚ◌ ◌*ℚ◌ narrow narrow_ℚ written_add written_mul written_compare
+mean_half = refl
+
+-- another gain in the line `init`
+mean_init : answer_to turns (mean_of_two (codes "-") (Finite 0 one) (half ∷ half ∷ []) (zero_ ∷ below_half ∷ []) (zero_ ∷ below_half ∷ []) (0 ∷ 0 ∷ []) half)
+    ≡ No (record { rule = 1; state = Some 0; choice = None })
+unfolding ratio of_int gcd gcd_with_fuel
+mean_init = refl
+
+mean_of_none : answer_to turns (mean_of_two (codes "costs") (Finite 0 half) (half ∷ half ∷ []) (zero_ ∷ below_half ∷ []) (zero_ ∷ below_half ∷ []) (0 ∷ 0 ∷ []) half) ≡ NoReward
+mean_of_none = refl
+
+-- a step from 0 to 1 pays 5, and the loops pay 1: without it in the bound, the gain 1 is refused
+abbrev once : Mdp
+once = record {
+  names = codes "-" ∷ [];
+  labels = codes "init" ∷ [];
+  states =
+      record { labels = 0 ∷ []; choices = paid (entry 0 one ∷ []) one ∷ paid (entry 1 one ∷ []) (of_int (pos 5)) ∷ [] }
+      ∷ record { labels = []; choices = paid (entry 1 one ∷ []) one ∷ [] }
+      ∷ [];
+}
+
+mean_once : answer_to once (mean_of_two (codes "-") (Finite 0 one) (one ∷ one ∷ []) (of_int (pos 4) ∷ zero_ ∷ []) (zero_ ∷ zero_ ∷ []) (0 ∷ 0 ∷ []) (of_int (pos 4))) ≡ Yes
+unfolding gcd gcd_with_fuel ratio of_int neg_ℚ ◌+ℚ◌ ◌*ℚ◌ narrow narrow_ℚ written_add written_mul written_compare
+mean_once = refl
+
+mean_without_bound : answer_to once (mean_of_two (codes "-") (Finite 0 one) (one ∷ one ∷ []) (zero_ ∷ zero_ ∷ []) (zero_ ∷ zero_ ∷ []) (0 ∷ 0 ∷ []) zero_)
+    ≡ No (record { rule = 17; state = Some 0; choice = Some 1 })
+unfolding gcd gcd_with_fuel ratio of_int neg_ℚ ◌+ℚ◌ ◌*ℚ◌ narrow narrow_ℚ written_add written_mul written_compare
+mean_without_bound = refl

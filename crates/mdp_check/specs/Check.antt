@@ -1,14 +1,15 @@
 -- What holding a certificate against a model answers, and what a yes means.
-use Rattle.std.specs.Prelude.{◌≡◌, ℕ, Bool, IsTrue, List, Option, Some, None, option_map, ◌==◌, if◌then◌else◌}
-use Rattle.mdp_math.specs.Rational.{ℚ}
+use Rattle.std.specs.Prelude.{◌≡◌, ℕ, Bool, false, IsTrue, List, Option, Some, None, option_map, ◌==◌, if◌then◌else◌}
+use Rattle.std.proofs.Math.ListN.{replicate}
 use Rattle.mdp_spec.specs.Mdp.{Mdp, states_of}
 use Rattle.mdp_spec.specs.Labels.{place_of, marks_of, initial_of}
-use Rattle.mdp_spec.specs.Bounds.{Above, ReachMax, ReachMin, RewardMax, RewardMin}
+use Rattle.mdp_spec.specs.Bounds.{Above, ReachMax, ReachMin, RewardMax, RewardMin, MeanMax, MeanMin}
 use Rattle.mdp_rows.specs.declared.dir.Dir.TheVariants.{Max, Min}
-use Rattle.mdp_cert.specs.Cert.{PlainClaim, upper, reach, reward, PlainBody, bounds, policy, rewards, Certificate, is_body_of}
+use Rattle.mdp_cert.specs.Cert.{PlainClaim, upper, reach, reward, mean, PlainBody, bounds, policy, rewards, gains, Certificate, is_body_of}
 use Rattle.mdp_farkas.specs.Upper.{upper_checks, IsUpper}
 use Rattle.mdp_farkas.specs.Reach.{reach_checks, IsReach}
 use Rattle.mdp_farkas.specs.Reward.{reward_checks, IsReward}
+use Rattle.mdp_farkas.specs.Mean.{mean_checks, IsMean}
 use Rattle.mdp_farkas.specs.Verdict.{verdict_of}
 use Rattle.mdp_farkas.specs.declared.verdict.Verdict.{Verdict}
 use Rattle.mdp_farkas.specs.declared.verdict.Verdict.TheVariants as verdict
@@ -23,16 +24,18 @@ abbrev pub reward_place : Mdp → PlainClaim → Option ℕ
 reward_place m (upper label) = Some 0
 reward_place m (reach dir label) = Some 0
 reward_place m (reward dir name label) = place_of name m.names
+reward_place m (mean dir name) = place_of name m.names
 
 -- which states have this label, where the model has it
 abbrev pub labelled_marks : Mdp → List ℕ → Option (List Bool)
 labelled_marks m label = option_map (marks_of m) (place_of label m.labels)
 
--- the goals: which states have the claim's label
+-- the goals: which states have the claim's label; no state where the claim names none
 abbrev pub goal_marks : Mdp → PlainClaim → Option (List Bool)
 goal_marks m (upper label) = labelled_marks m label
 goal_marks m (reach dir label) = labelled_marks m label
 goal_marks m (reward dir name label) = labelled_marks m label
+goal_marks m (mean dir name) = Some (replicate (states_of m) false)
 
 -- ---- the answer
 
@@ -47,6 +50,7 @@ abbrev pub verdict_by : Mdp → ℕ → List Bool → PlainClaim → PlainBody �
 verdict_by m r goals (upper label) (bounds z) = verdict_of (upper_checks m goals z)
 verdict_by m r goals (reach dir label) (policy z choices ranks) = verdict_of (reach_checks dir m goals z choices ranks)
 verdict_by m r goals (reward dir name label) (rewards v choices ranks) = verdict_of (reward_checks dir m r goals v choices ranks)
+verdict_by m r goals (mean dir name) (gains g bound bias choices spread) = verdict_of (mean_checks dir m r g bound bias spread choices)
 verdict_by m r goals claim body = init_fault None
 
 -- a body that isn't the claim's, or that hasn't an entry per state, stands in no certificate; it would be refused
@@ -77,6 +81,7 @@ abbrev pub valid_by : Mdp → ℕ → List Bool → PlainClaim → PlainBody →
 valid_by m r goals (upper label) (bounds z) = IsUpper m goals z
 valid_by m r goals (reach dir label) (policy z choices ranks) = IsReach dir m goals z choices ranks
 valid_by m r goals (reward dir name label) (rewards v choices ranks) = IsReward dir m r goals v choices ranks
+valid_by m r goals (mean dir name) (gains g bound bias choices spread) = IsMean dir m r g bound bias spread choices
 valid_by m r goals claim body = ⊥
 
 abbrev pub IsValidBody : Mdp → ℕ → List Bool → Certificate → Type 0
@@ -95,13 +100,16 @@ pub record IsAccepted (m : Mdp) (c : Certificate) : Type 0 where
   pub body : IsValidBody m reward goals c
 
 -- the claim, for the reward model of place r and these goals: for upper bounds, that no strategy tree passes them; for a direction, that the
--- values are the greatest, or the least, probabilities of reaching a goal, or rewards until a goal, and the policy comes close to them
+-- values are the greatest, or the least, probabilities of reaching a goal, or rewards until a goal, and the policy comes close to them; or that
+-- the gains are the greatest, or the least, mean payoffs to within the spread
 abbrev pub bound_by : Mdp → ℕ → List Bool → PlainClaim → PlainBody → Type 0
 bound_by m r goals (upper label) (bounds z) = Above m goals z
 bound_by m r goals (reach Max label) (policy z choices ranks) = ReachMax m goals z choices
 bound_by m r goals (reach Min label) (policy z choices ranks) = ReachMin m goals z choices
 bound_by m r goals (reward Max name label) (rewards v choices ranks) = RewardMax m r goals choices v
 bound_by m r goals (reward Min name label) (rewards v choices ranks) = RewardMin m r goals choices v
+bound_by m r goals (mean Max name) (gains g bound bias choices spread) = MeanMax m r g spread choices
+bound_by m r goals (mean Min name) (gains g bound bias choices spread) = MeanMin m r g spread choices
 bound_by m r goals claim body = ⊥
 
 abbrev pub BoundOf : Mdp → ℕ → List Bool → Certificate → Type 0

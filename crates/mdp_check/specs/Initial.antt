@@ -4,7 +4,7 @@ use Rattle.mdp_math.specs.Rational.{ℚ}
 use Rattle.mdp_num.specs.Equal.{eq_ℚ}
 use Rattle.mdp_spec.specs.Mdp.{value_at}
 use Rattle.mdp_spec.specs.Bounds.{reward_at}
-use Rattle.mdp_cert.specs.Cert.{PlainBody, bounds, policy, rewards}
+use Rattle.mdp_cert.specs.Cert.{PlainBody, bounds, policy, rewards, gains}
 use Rattle.mdp_cert.specs.Claims.{reward_same}
 use Rattle.mdp_cert.specs.declared.init.Init.{Init}
 use Rattle.mdp_cert.specs.declared.init.Init.TheVariants.{Missing, Finite, Infinite}
@@ -23,11 +23,12 @@ is_value z s x = nat_lt s (length z) && eq_ℚ (value_at z s) x
 abbrev pub is_reward : List (Option ℚ) → ℕ → Option ℚ → Bool
 is_reward v s x = nat_lt s (length v) && reward_same (reward_at v s) x
 
--- the value of state s in the body is this one, or infinite where there is none
+-- the value of state s in the body is this one, or infinite where there is none; of mean payoffs the gain is the value
 abbrev pub has_value : PlainBody → ℕ → Option ℚ → Bool
 has_value (bounds z) s (Some x) = is_value z s x
 has_value (policy z choices ranks) s (Some x) = is_value z s x
 has_value (rewards v choices ranks) s x = is_reward v s x
+has_value (gains g bound bias choices spread) s (Some x) = is_value g s x
 has_value body s None = false
 
 -- the line names the model's one initial state, and its value

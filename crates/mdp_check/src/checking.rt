@@ -8,7 +8,7 @@ ghost use Rattle.mdp_check.specs.Check.{reward_place, goal_marks, answer_to, bod
 use crate::answer::{Answer, answer_of};
 use crate::initial::{init_denied, init_verdict};
 use mdp_cert::{Body, Cert, Claim};
-use mdp_farkas::{Verdict, holds_reach, holds_reward, holds_upper};
+use mdp_farkas::{Verdict, holds_mean, holds_reach, holds_reward, holds_upper};
 use mdp_num::Memory;
 use mdp_rows::{Marks, Model};
 use std::alloc::Global;
@@ -20,10 +20,11 @@ fn reward_place(model: &Model, claim: &Claim) -> Option<u32>
     match claim {
         Claim::Upper { .. } | Claim::Reach { .. } => Some(0),
         Claim::Reward { name, .. } => model.reward_named(name),
+        Claim::Mean { name, .. } => model.reward_named(name),
     }
 }
 
-/// The goals: which states have the claim's label. None where the model hasn't the label.
+/// The goals: which states have the claim's label; no state where the claim names none. None where the model hasn't the label.
 fn goal_marks(alloc: Global, model: &Model, claim: &Claim) -> Result<Option<Marks>, Memory>
     ensures { IfOk result (λ goals. goals ≡ goal_marks model.now (plain_claim claim.now)) }
 {
@@ -31,6 +32,7 @@ fn goal_marks(alloc: Global, model: &Model, claim: &Claim) -> Result<Option<Mark
         Claim::Upper { label } => label,
         Claim::Reach { label, .. } => label,
         Claim::Reward { label, .. } => label,
+        Claim::Mean { .. } => return Ok(Some(Marks::empty(alloc, model.states())?)),
     };
     match model.label(label) {
         Some(place) => Ok(Some(model.marks_of(alloc, place)?)),
@@ -53,6 +55,7 @@ fn body_verdict(model: &Model, reward: u32, goals: &Marks, cert: &Cert) -> Verdi
         (Claim::Reward { dir, .. }, Body::Reward(rewards)) => {
             holds_reward(model, reward, goals, *dir, rewards)
         }
+        (Claim::Mean { dir, .. }, Body::Mean(mean)) => holds_mean(model, reward, *dir, mean),
         _ => init_denied(None),
     }
 }

@@ -51,7 +51,7 @@ fn is_reward(values: &[Option<Frac>], s: u32, value: &Option<Frac>) -> bool
     }
 }
 
-/// Whether the value of state `s` in a body is this one, or infinite where there is none.
+/// Whether the value of state `s` in a body is this one, or infinite where there is none; of mean payoffs the gain is the value.
 fn has_value(body: &Body, s: u32, value: &Option<Frac>) -> bool
     ensures { result ≡ has_value (plain_body body.now) s value.now }
 {
@@ -59,6 +59,7 @@ fn has_value(body: &Body, s: u32, value: &Option<Frac>) -> bool
         (Body::Upper(cert), Some(value)) => is_value(&cert.values, s, value),
         (Body::Reach(cert), Some(value)) => is_value(&cert.values, s, value),
         (Body::Reward(cert), value) => is_reward(&cert.values, s, value),
+        (Body::Mean(cert), Some(value)) => is_value(&cert.gains, s, value),
         (_, None) => false,
     }
 }

@@ -1,7 +1,8 @@
 use Rattle.std.proofs.Common.{sym, ap, ◌∙◌, arith}
 use Rattle.mdp_cert.specs.declared.body.Body.{Body}
 use Rattle.mdp_cert.specs.Cert.{plain_claim, plain_body, is_body_of}
-use Rattle.mdp_cert.proofs.Growth.{bounds-entries, policy-entries, reward-entries}
+use Rattle.mdp_cert.proofs.Growth.{bounds-entries, policy-entries, reward-entries, gains-entries}
+use Rattle.mdp_cert.proofs.Means.{back}
 use Rattle.mdp_cert.proofs.Policies.{length-policies}
 use Rattle.mdp_cert.proofs.write.push_body.Goals as goal
 
@@ -26,3 +27,15 @@ push_to_end-requires-in-Reward c =
     reward-entries (plain_claim cert.claim) cert.states c.in-Reward.policy.values.items c.in-Reward.policy.choices.items c.in-Reward.policy.ranks.items
     (ap (λ (b : Body). is_body_of (plain_claim cert.claim) cert.states (plain_body b)) (sym c.in-Reward.is) ∙ cert.entries) in
     length-policies c.in-Reward.policy.values.items c.in-Reward.policy.choices.items c.in-Reward.policy.ranks.items (omega (arith, e.values, e.choices)) (omega (arith, e.values, e.ranks)) ∙ e.values
+
+pub push_to_end-requires-in-Mean : goal.push_to_end-requires-in-Mean
+push_to_end-requires-in-Mean c =
+    let cert = c.args.cert.now in
+    let mean = c.in-Mean.mean in
+    let e =
+    gains-entries (plain_claim cert.claim) cert.states mean.gains.items mean.bound.items mean.bias.items mean.choices.items mean.spread
+    (ap (λ (b : Body). is_body_of (plain_claim cert.claim) cert.states (plain_body b)) (sym c.in-Mean.is) ∙ cert.entries) in
+    let b =
+    back mean.gains.items mean.bound.items mean.bias.items mean.choices.items
+    (record { bounds = omega (arith, e.gains, e.bounds); biases = omega (arith, e.gains, e.biases); choices = omega (arith, e.gains, e.choices) }) in
+    b.count ∙ e.gains
