@@ -1,0 +1,12 @@
+mod AllAllowed
+mod ComponentsFound
+mod EdgeFacts
+mod EndsFound
+mod Forbidding
+mod GivingRanks
+mod Grouping
+mod RankFacts
+mod Reached
+mod Renumbering
+mod Searching
+mod Targeting

@@ -1,0 +1,7 @@
+pub mod FoundEnds
+pub mod Allowed
+pub mod Targets
+pub mod Searched
+pub mod Numbered
+pub mod Round
+pub mod Inner

@@ -1,0 +1,16 @@
+//! Strong components and maximal end components of a model.
+#![tactic(auto)]
+
+mod allowed;
+mod depth;
+mod edges;
+mod ends;
+mod numbering;
+mod ranking;
+mod search;
+mod strong;
+
+pub use allowed::Allowed;
+pub use ends::Ends;
+pub use search::end_components;
+pub use strong::components;
