@@ -1,0 +1,6 @@
+//! Strong components and maximal end components of a model.
+#![tactic(auto)]
+
+mod ends;
+
+pub use ends::Ends;
