@@ -1,18 +1,17 @@
 -- The entries of a row to any set of targets add up within width.
-use Rattle.std.proofs.Common.{◌≡◌, inl, inr, ℕ, zero, suc, ◌+◌, ◌*◌, ◌/◌, ◌<◌, ◌≤◌, ◌^◌, Bool, true, false, cond, List, [], ◌∷◌, length, take, get_or, refl, sym, ap, ap₂, ◌∙◌, subst, arith, ℤ, pos, ◌+ℤ◌, ◌*ℤ◌, ◌≤ℤ◌, unsigned_abs, Option, Some, None, is_some}
+use Rattle.std.proofs.Common.{◌≡◌, inl, inr, ℕ, zero, suc, ◌+◌, ◌*◌, ◌/◌, ◌<◌, ◌≤◌, Bool, false, cond, List, [], ◌∷◌, length, take, get_or, refl, sym, ap, ap₂, ◌∙◌, subst, arith, ℤ, pos, ◌+ℤ◌, ◌*ℤ◌, ◌≤ℤ◌, unsigned_abs, Some}
 use Rattle.std.specs.Int.{◌∣◌}
 use Rattle.std.specs.List.{All}
-use Rattle.std.proofs.lemmas.Bool.{cases_Bool, false≢true}
+use Rattle.std.proofs.lemmas.Bool.{cases_Bool}
 use Rattle.std.proofs.lemmas.Int.{ints}
-use Rattle.std.proofs.Math.Nat.{dvd_trans, dvd_refl, one-dvd, dvd-mul_left, dvd-mul_right, mul-div_cancel', div-mul_cancel, le_of_dvd, eq_of_mul-eq-mul_left, mul-le-mul_left, mul-le-mul_right, div-le_self}
-use Rattle.mdp_math.specs.Gcd.{gcd, gcd_is, gcd-pos, gcd_scaled, gcd_comm, lcm}
-use Rattle.mdp_math.specs.Rational.{ℚ, ratio, of_int, ◌+ℚ◌, ◌≤ℚ◌}
+use Rattle.std.proofs.Math.Nat.{dvd_trans, dvd_refl, one-dvd, dvd-mul_left, dvd-mul_right, mul-div_cancel', div-mul_cancel, le_of_dvd, eq_of_mul-eq-mul_left, mul-le-mul_right, div-le_self}
+use Rattle.mdp_math.specs.Gcd.{gcd, gcd_is, gcd-pos, gcd_scaled, lcm}
+use Rattle.mdp_math.specs.Rational.{ℚ, ratio, ◌+ℚ◌, ◌≤ℚ◌}
 use Rattle.mdp_math.specs.Sum.{sum_of, EachAt}
-use Rattle.mdp_math.specs.Written.{across, common_den, written_add, narrow, narrow_ℚ, signed}
+use Rattle.mdp_math.specs.Written.{across, written_add, narrow, narrow_ℚ, signed}
 use Rattle.mdp_math.proofs.Kernel.{All-head, All-tail}
 use Rattle.mdp_math.proofs.Laws.{den-pos, is_ratio, same_is, den-of_int, num-of_int, zero-+ℚ, +ℚ_comm}
-use Rattle.mdp_math.proofs.Lcm.{lcm-pos}
-use Rattle.mdp_math.proofs.Order.{0ℚ, 1ℚ, nonneg, le_across, add-nonneg, add-le-add_ℚ, ≤ℚ_refl, ≤ℚ_trans, ≤ℚ_of_lt}
+use Rattle.mdp_math.proofs.Order.{0ℚ, 1ℚ, nonneg, le_across, add-le-add_ℚ, ≤ℚ_refl, ≤ℚ_trans, ≤ℚ_of_lt}
 use Rattle.mdp_math.proofs.Sums.{sum_of-nonneg}
 use Rattle.mdp_math.proofs.Whole.{one-pos}
 use Rattle.std.proofs.lemmas.List.Elements.{All-take}

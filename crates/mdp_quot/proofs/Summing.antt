@@ -1,5 +1,5 @@
 -- The sums of a row's entries to each node: none yet, one entry more, and the merged row that they make.
-use Rattle.std.proofs.Common.{◌≡◌, ◌≢◌, ◌⊎◌, inl, inr, ℕ, zero, suc, ◌+◌, ◌<◌, ◌≤◌, Bool, true, false, not, ◌==◌, cond, List, [], ◌∷◌, ◌++◌, length, take, get_or, map, filter, replicate, refl, sym, ap, ap₂, ◌∙◌, subst, arith, pos, Option, Some, None, is_some}
+use Rattle.std.proofs.Common.{◌≡◌, ◌≢◌, ◌⊎◌, inl, inr, ℕ, zero, suc, ◌+◌, ◌<◌, ◌≤◌, Bool, true, false, not, ◌==◌, cond, List, [], ◌∷◌, ◌++◌, length, take, get_or, map, filter, refl, sym, ap, ap₂, ◌∙◌, subst, arith, Some, None, is_some}
 use Rattle.std.specs.List.{range_with_len, All}
 use Rattle.std.specs.List.Sorted.{IsNonDecreasing}
 use Rattle.std.specs.Prelude.{slice_set}
@@ -11,8 +11,7 @@ use Rattle.std.proofs.lemmas.List.Elements.{All-push, All-nil, All-take}
 use Rattle.std.proofs.lemmas.List.{get_or-set_same, get_or-set_other, length-set}
 use Rattle.std.proofs.lemmas.List.{take_more, get_or_past}
 use Rattle.std.proofs.lemmas.List.{take_all as take_whole}
-use Rattle.mdp_math.specs.Rational.{ℚ, of_int, ◌+ℚ◌, ◌≤ℚ◌, ◌<ℚ◌, le_ℚ}
-use Rattle.mdp_math.specs.Sum.{sum_of}
+use Rattle.mdp_math.specs.Rational.{ℚ, ◌+ℚ◌, ◌≤ℚ◌, ◌<ℚ◌, le_ℚ}
 use Rattle.mdp_math.proofs.Extremes.{le_of_test, gt_of_test}
 use Rattle.mdp_math.proofs.Kernel.{All-head, All-tail}
 use Rattle.mdp_math.proofs.Laws.{+ℚ_comm, zero-+ℚ}
@@ -27,7 +26,7 @@ use Rattle.mdp_spec.specs.Unit.{row_den}
 use Rattle.mdp_math.specs.Written.{written_add}
 use Rattle.mdp_quot.specs.Sums.{times, mass_at, AreSums, IsClear}
 use Rattle.mdp_quot.proofs.Fitting.{entry_fits}
-use Rattle.mdp_quot.proofs.Ranges.{AreThose, range_is, times_at, place_of_times}
+use Rattle.mdp_quot.proofs.Ranges.{AreThose, range_is, place_of_times}
 
 -- ---- the entries that two lists spell
 

@@ -17,8 +17,8 @@ use std::alloc::{AllocError, Global};
 /// The sum of a row's entries to each node, 0 where there is none, and the nodes whose sum is above 0.
 #[derive(Drop)]
 pub(crate) struct Sums {
-    sums: Vec<Frac>,
-    seen: Vec<u32>,
+    pub(crate) sums: Vec<Frac>,
+    pub(crate) seen: Vec<u32>,
 }
 
 /// The sums at these nodes.

@@ -1,6 +1,5 @@
-use Rattle.std.proofs.Common.{◌≡◌, ℕ, ◌+◌, ◌<◌, List, [], ◌∷◌, ◌++◌, length, take, get_or, slice_index, sym, ap, ap₂, ◌∙◌, subst, arith, pos, Option, None}
+use Rattle.std.proofs.Common.{◌≡◌, ◌<◌, length, slice_index, ap, ◌∙◌, subst, arith, None}
 use Rattle.std.specs.Prelude.{slice_set}
-use Rattle.std.specs.List.{All}
 use Rattle.std.proofs.lemmas.List.{get_or_default}
 use Rattle.mdp_math.specs.Rational.{ℚ, ◌+ℚ◌}
 use Rattle.mdp_math.proofs.Order.{0ℚ}

@@ -1,6 +1,5 @@
-use Rattle.std.proofs.Common.{ℕ, ◌≡◌, ◌+◌, ◌<◌, List, [], length, get_or, map, slice_index, sym, ap, ap₂, ◌∙◌, subst, arith, refl}
+use Rattle.std.proofs.Common.{ℕ, ◌≡◌, ◌<◌, List, length, map, sym, ap₂, ◌∙◌, subst, refl}
 use Rattle.std.specs.List.{All}
-use Rattle.std.specs.List.Sorted.{IsNonDecreasing}
 use Rattle.std.proofs.lemmas.List.Sorted.{IsNonDecreasingBy-from_sort}
 use Rattle.mdp_math.specs.Rational.{ℚ}
 use Rattle.mdp_spec.specs.Mdp.{Entry, value_at}
