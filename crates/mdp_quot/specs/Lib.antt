@@ -1,0 +1,6 @@
+pub mod Sums
+pub mod Numbering
+pub mod Quotient
+pub mod QuotientView
+pub mod ExitLists
+pub mod Laws
