@@ -2,9 +2,11 @@ mod AllAllowed
 mod ComponentsFound
 mod EdgeFacts
 mod EndsFound
+mod Falls
 mod Forbidding
 mod GivingRanks
 mod Grouping
+mod InnerPass
 mod RankFacts
 mod Reached
 mod Renumbering

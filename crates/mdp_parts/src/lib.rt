@@ -5,6 +5,7 @@ mod allowed;
 mod depth;
 mod edges;
 mod ends;
+mod inward;
 mod numbering;
 mod ranking;
 mod search;
@@ -12,5 +13,6 @@ mod strong;
 
 pub use allowed::Allowed;
 pub use ends::Ends;
+pub use inward::toward;
 pub use search::end_components;
 pub use strong::components;
