@@ -1,7 +1,9 @@
 mod AllAllowed
+mod Arriving
 mod ComponentsFound
 mod EdgeFacts
 mod EndsFound
+mod Examples
 mod Falls
 mod Forbidding
 mod GivingRanks
