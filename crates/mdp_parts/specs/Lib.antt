@@ -5,3 +5,4 @@ pub mod Searched
 pub mod Numbered
 pub mod Round
 pub mod Inner
+pub mod Laws

@@ -5,6 +5,8 @@ mod allowed;
 mod depth;
 mod edges;
 mod ends;
+mod inward;
+mod laws;
 mod numbering;
 mod ranking;
 mod search;
@@ -12,5 +14,7 @@ mod strong;
 
 pub use allowed::Allowed;
 pub use ends::Ends;
+pub use inward::toward;
+pub use laws::ends_law;
 pub use search::end_components;
 pub use strong::components;
