@@ -14,7 +14,7 @@ use crate::start::start_of;
 use mdp_elim::{Kind, Part, SolveError, TooWide};
 use mdp_farkas::{RewardCert, Verdict, holds_reward};
 use mdp_graph::{along_law, meet_law, rounds_law, sure_all_law};
-use mdp_path::{Solution, improve};
+use mdp_path::improve;
 use mdp_rows::{Dir, Marks, Model};
 use std::alloc::Global;
 
@@ -51,19 +51,14 @@ pub fn solve_reward(
         goals,
         finite: &finite,
     };
-    let Solution {
-        round,
-        policy,
-        values,
-    } = match improve(alloc, &problem, first) {
+    let found = match improve(alloc, &problem, first) {
         Ok(found) => found,
         Err(error) => return Err(error.in_part(Part::Whole)),
     };
-    let ranks = ranks_of(alloc, model, goals, &finite, dir, known, &policy)?;
-    let rewards = rewards_of(alloc, model, &finite, &values)?;
+    let ranks = ranks_of(alloc, model, goals, &finite, dir, known, &found.policy)?;
     let cert = RewardCert {
-        values: rewards,
-        choices: policy,
+        values: rewards_of(alloc, model, &finite, &found.values)?,
+        choices: found.policy,
         ranks,
     };
     match holds_reward(model, m, goals, dir, &cert) {
@@ -71,7 +66,7 @@ pub fn solve_reward(
         Verdict::No(_) => unreachable!(),
         Verdict::Wide { state, choice } => Err(SolveError::TooWide(TooWide {
             part: Part::Whole,
-            round,
+            round: found.round,
             policy: cert.choices,
             kind: Kind::Check,
             state,

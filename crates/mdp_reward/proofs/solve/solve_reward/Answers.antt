@@ -55,7 +55,7 @@ rewards_of-requires-clause-values c =
 
 pub holds_reward-requires-clause-values : goal.holds_reward-requires-clause-values
 holds_reward-requires-clause-values c =
-    ap length (c.in_ok-rewards.ensures {u = tt}) ∙ rewards-len c.args.model.now c.args.goals.now c.in_ok-start.start.finite c.deref-2.result.now
+    ap length (c.in_ok-rewards_of.ensures {u = tt}) ∙ rewards-len c.args.model.now c.args.goals.now c.in_ok-start.start.finite c.deref-2.result.now
 
 pub holds_reward-requires-clause-choices : goal.holds_reward-requires-clause-choices
 holds_reward-requires-clause-choices c = (c.in-Ok.ensures {u = tt}).best.best.is.one_each ∙ reward-count c.args.dir c.args.model.now c.args.m c.args.goals.now c.in_ok-start.start.finite
@@ -79,7 +79,7 @@ returns-in-Yes-clause-path c =
     let x = c.in-Ok.found.values.items in
     let are : AreRanks dir m goals finite known policy ranks =
     subst (λ (policy : List ℕ). AreRanks dir m goals finite known policy ranks) c.deref.ensures.value (c.in_ok-ranks.ensures {u = tt}) in
-    let values = c.in_ok-rewards.ensures {u = tt} ∙ ap (rewards_of m finite) c.deref-2.ensures.value in
+    let values = c.in_ok-rewards_of.ensures {u = tt} ∙ ap (rewards_of m finite) c.deref-2.ensures.value in
     let end = (c.in-Ok.ensures {u = tt}).path in
     subst (λ (v : List (Option ℚ)). EndsSo dir m c.args.m goals (let a : Result Answer WideTerm = Ok (record { values = v; choices = policy; ranks = ranks }) in a)) (sym values)
     (ends-answered dir m c.args.m goals finite start known (c.in_ok-start.ensures {u = tt}) end.0 policy ranks x end.2 are
@@ -98,7 +98,7 @@ unreachable-requires c =
     let x = c.in-Ok.found.values.items in
     let are : AreRanks dir m goals finite known policy ranks =
     subst (λ (policy : List ℕ). AreRanks dir m goals finite known policy ranks) c.deref.ensures.value (c.in_ok-ranks.ensures {u = tt}) in
-    let values = c.in_ok-rewards.ensures {u = tt} ∙ ap (rewards_of m finite) c.deref-2.ensures.value in
+    let values = c.in_ok-rewards_of.ensures {u = tt} ∙ ap (rewards_of m finite) c.deref-2.ensures.value in
     reward_never_no m c.args.m goals (rewards_of m finite x) policy ranks (λ s k. reward-nonneg m c.args.m c.requires.none_negative s k) dir
     (meets-reward dir m c.args.m goals finite start known policy ranks x
     (record { model = c.known.ensures.mdp; named = c.requires.name; none_negative = c.requires.none_negative })
@@ -120,7 +120,7 @@ returns-clause-path c =
     let x = c.in-Ok.found.values.items in
     let are : AreRanks dir m goals finite known policy ranks =
     subst (λ (policy : List ℕ). AreRanks dir m goals finite known policy ranks) c.deref.ensures.value (c.in_ok-ranks.ensures {u = tt}) in
-    let values = c.in_ok-rewards.ensures {u = tt} ∙ ap (rewards_of m finite) c.deref-2.ensures.value in
+    let values = c.in_ok-rewards_of.ensures {u = tt} ∙ ap (rewards_of m finite) c.deref-2.ensures.value in
     let end = (c.in-Ok.ensures {u = tt}).path in (
       end.0,
       end.1,
