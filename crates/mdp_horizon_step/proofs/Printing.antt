@@ -1,5 +1,5 @@
 -- A text that is due is that of best values; and the states that it speaks of.
-use Rattle.std.proofs.Common.{◌≡◌, ℕ, Bool, true, false, if◌then◌else◌, List, length, Option, Some, None, Result, Ok, Err, IfOk, replicate, refl, sym, ap, subst, ◌∙◌}
+use Rattle.std.proofs.Common.{◌≡◌, ℕ, Bool, true, false, if◌then◌else◌, List, length, Option, Some, None, Result, Ok, Err, IfOk, replicate, refl, sym, ap, ◌∙◌}
 use Rattle.std.proofs.lemmas.List.{length-map, length-replicate}
 use Rattle.mdp_math.specs.Result.{◌>>=◌}
 use Rattle.mdp_spec.specs.Labels.{place_of, marks_of}
@@ -12,7 +12,7 @@ use Rattle.mdp_horizon.specs.Laws.{AnswersAreGreatest, AnswersAreLeast}
 use Rattle.mdp_horizon.specs.Spelling.{until_text}
 use Rattle.mdp_horizon.specs.Written.{Place, Answer, written_until}
 use Rattle.mdp_horizon.proofs.Turns.{ok_same, ok_part}
-use Rattle.mdp_job.specs.Refusal.{PlainRefusal, query_steps}
+use Rattle.mdp_job.specs.Refusal.{query_steps}
 use Rattle.mdp_step.specs.Files.{model_due}
 use Rattle.mdp_step.specs.Said.{Said}
 use Rattle.mdp_step.proofs.Working.{read_of_due}

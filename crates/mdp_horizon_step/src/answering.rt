@@ -4,13 +4,15 @@ ghost use Rattle.mdp_spec.specs.Mdp.{states_of};
 ghost use Rattle.mdp_job.specs.Refusal.{no_memory};
 ghost use Rattle.mdp_step.specs.Said.{said, plain_error};
 ghost use Rattle.mdp_step.specs.Streams.{input};
+ghost use Rattle.mdp_horizon.specs.Answer.{plain};
+ghost use Rattle.mdp_horizon.specs.Spelling.{until_text};
 ghost use Rattle.mdp_horizon_step.specs.Due.{states_with, states_that_stay, stay_word, said_of_marks, IsHorizonDue};
 ghost use Rattle.mdp_horizon_step.specs.Shown.{IsHorizonPrinted, IsHorizonRead};
 ghost use Rattle.mdp_horizon_step.specs.Code.{names_of};
 
 use crate::laws::horizon_law;
 use mdp_edge::Source;
-use mdp_horizon::{HorizonError, until, write_until};
+use mdp_horizon::{Bounded, HorizonError, until, write_until};
 use mdp_job::Refusal;
 use mdp_rows::{Dir, Marks, Model, RowRule};
 use mdp_step::read_model;
@@ -72,6 +74,25 @@ struct Asked<'a> {
 }
 
 impl Asked<'_> {
+    /// The text of an answer.
+    fn text_of(self, alloc: Global, model: &Model, found: &Bounded) -> Result<Vec<u8>, Refusal>
+        requires { length found.now.values.items ≡ states_of model.now }
+        ensures { (said result ≡ Err no_memory) ⊎ (said result ≡ Ok (until_text self.entry.dir (stay_word (names_of self.entry.stay)) self.entry.label.now model.now (plain found.now))) }
+    {
+        let mut text = Vec::new(alloc);
+        match write_until(
+            model,
+            self.dir,
+            stay_word(self.stay),
+            self.label,
+            found,
+            &mut text,
+        ) {
+            Ok(()) => Ok(text),
+            Err(_) => Err(Refusal::Memory),
+        }
+    }
+
     /// The text for these states, or its refusal.
     fn of_marks(
         self,
@@ -104,18 +125,7 @@ impl Asked<'_> {
             }
             Err(HorizonError::Memory) => return Err(Refusal::Memory),
         };
-        let mut text = Vec::new(alloc);
-        match write_until(
-            model,
-            self.dir,
-            stay_word(self.stay),
-            self.label,
-            &found,
-            &mut text,
-        ) {
-            Ok(()) => Ok(text),
-            Err(_) => Err(Refusal::Memory),
-        }
+        self.text_of(alloc, model, &found)
     }
 
     /// The text for a model, or its refusal: the labels are looked up first.
