@@ -2,18 +2,13 @@
 """Measures how long the passes over the graph take on a chain of states.
 
 State s of the chain stays with one half and goes on to state s + 1 with one half; the last state is the goal. So the greatest rank is the number of
-states less 1. Copies the crates into a folder that it removes again, adds a small program to them that makes the chain and times `may_reach`,
-`must_meet` and `sure_some`, and runs that program there, once it is proved. Usage: bench/passes.py [STATES ..] (10000 and 100000 if nothing is said).
+states less 1. A small program beside the crates reads the chain and times `may_reach`, `must_meet` and `sure_some` (timer_program.py). Usage: bench/passes.py [STATES ..] (10000 and 100000 if nothing is said).
 """
-import os
-import shutil
-import subprocess
 import sys
-import tempfile
 
-TOP = os.path.join(os.path.dirname(os.path.abspath(__file__)), "..")
+import timer_program
 
-LINE = "chain_timer: mdp_math mdp_num mdp_edge mdp_spec mdp_rows mdp_drn mdp_graph\n"
+LIBRARIES = "mdp_math mdp_num mdp_edge mdp_spec mdp_rows mdp_drn mdp_graph"
 
 PROGRAM = """//! Times passes over the graph of each model that its words name.
 #![tactic(auto)]
@@ -110,22 +105,7 @@ def write_chain(path, states):
 
 def main():
     sizes = [int(size) for size in sys.argv[1:]] or [10000, 100000]
-    with tempfile.TemporaryDirectory() as folder:
-        shutil.copytree(os.path.join(TOP, "crates"), os.path.join(folder, "crates"), ignore=shutil.ignore_patterns("out"))
-        shutil.copy(os.path.join(TOP, "HANDLES"), folder)
-        with open(os.path.join(TOP, "crates.txt")) as file:
-            lines = file.read()
-        with open(os.path.join(folder, "crates.txt"), "w") as file:
-            file.write(lines + LINE)
-        source = os.path.join(folder, "crates", "chain_timer", "src")
-        os.makedirs(source)
-        with open(os.path.join(source, "main.rt"), "w") as file:
-            file.write(PROGRAM)
-        models = []
-        for size in sizes:
-            models.append(os.path.join(folder, "chain%d.drn" % size))
-            write_chain(models[-1], size)
-        subprocess.run(["rt", "run", "--"] + models, cwd=os.path.dirname(source), check=True)
+    sys.exit(timer_program.run("chain_timer", LIBRARIES, PROGRAM, [(write_chain, size) for size in sizes]))
 
 
 if __name__ == "__main__":

@@ -1,0 +1,92 @@
+#!/usr/bin/env python3
+"""Measures how long strong components and end components take.
+
+    a ring       state s goes on to state s + 1 and back to state 0, with one half each: one component of all states, so `components` goes over all
+                 of it once, and `end_components` has one round
+    a chain      state s goes to the states s - 1 and s + 1 with one half each, and the last state stays: in each round of `end_components` the last
+                 state that is left drops out, so there are as many rounds as states
+
+A small program beside the crates reads the models and times the calls (timer_program.py). Rounds grow with the states in the chain, and each round
+begins anew, so its time grows with the square: that is the stated way of `end_components`. Usage: bench/components.py
+"""
+import sys
+
+import timer_program
+
+LIBRARIES = "mdp_math mdp_num mdp_edge mdp_spec mdp_rows mdp_drn mdp_graph mdp_ends mdp_parts"
+
+PROGRAM = """//! Times strong components and end components of each model that its words name.
+#![tactic(auto)]
+use mdp_drn::read;
+use mdp_parts::{Allowed, components, end_components};
+use mdp_rows::{Model, RowRule};
+use std::env;
+use std::fs;
+use std::process::ExitCode;
+use std::time::Instant;
+
+fn model_in(rt: &HostRuntime, path: &str) -> Option<Model> {
+    let bytes = fs::read(rt, path).ok()?;
+    read(rt.alloc(), &bytes, RowRule::Exact).ok()
+}
+
+fn time_components(rt: &HostRuntime, model: &Model) -> Option<()> {
+    let all = Allowed::all(rt.alloc(), model).ok()?;
+    let start = Instant::now(rt).ok()?;
+    let parts = components(rt.alloc(), model, &all).ok()?;
+    let time = start.elapsed(rt).ok()?;
+    let last = parts.last().copied()?;
+    println!(rt; "components: {} us, the last state is in component {last}", time.as_micros()).ok()
+}
+
+fn time_ends(rt: &HostRuntime, model: &Model) -> Option<()> {
+    let start = Instant::now(rt).ok()?;
+    let ends = end_components(rt.alloc(), model).ok()?;
+    let time = start.elapsed(rt).ok()?;
+    println!(rt; "end_components: {} us, {} of them", time.as_micros(), ends.count()).ok()
+}
+
+fn time_model(rt: &HostRuntime, path: &str) -> Option<()> {
+    let model = model_in(rt, path)?;
+    println!(rt; "{} states", model.states()).ok()?;
+    time_components(rt, &model)?;
+    time_ends(rt, &model)
+}
+
+fn main(rt: HostRuntime) -> ExitCode {
+    let Ok(words) = env::args(&rt) else {
+        return ExitCode::from(1);
+    };
+    for word in words.skip(1) {
+        if time_model(&rt, &word).is_none() {
+            return ExitCode::from(1);
+        }
+    }
+    ExitCode::from(0)
+}
+"""
+
+
+def write_states(path, rows):
+    with open(path, "w") as file:
+        file.write("@type: MDP\n@nr_states\n%d\n@model\n" % len(rows))
+        for s, row in enumerate(rows):
+            file.write("state %d\naction\n" % s)
+            file.writelines("%d : 1/%d\n" % (target, len(row)) for target in sorted(row))
+
+
+def write_ring(path, states):
+    write_states(path, [{s + 1, 0} for s in range(states - 1)] + [{0}])
+
+
+def write_chain(path, states):
+    write_states(path, [{max(s - 1, 0), s + 1} for s in range(states - 1)] + [{states - 1}])
+
+
+def main():
+    models = [(write_ring, 10000), (write_ring, 100000), (write_ring, 1000000), (write_chain, 1000), (write_chain, 2000), (write_chain, 4000)]
+    sys.exit(timer_program.run("component_timer", LIBRARIES, PROGRAM, models))
+
+
+if __name__ == "__main__":
+    main()
