@@ -46,8 +46,8 @@ abbrev pub line_of : ℕ → ℕ → ℕ → Mdp → Answer → List ℕ
 line_of number layers width m a = drill_text number layers width (states_of m) (sum_by (λ x. length x.choices) m.states) (value_at a.values 0)
 
 -- the line of its numbers
-pub line-of : (number layers width : ℕ) (m : Mdp) (a : Answer) (s c : ℕ) (v : ℚ) (text : List ℕ) → text ≡ drill_text number layers width s c v → s ≡ states_of m → c ≡ sum_by (λ x. length x.choices) m.states
-    → v ≡ value_at a.values 0 → text ≡ line_of number layers width m a
+pub line-of : (number layers width : ℕ) (m : Mdp) (a : Answer) (s c : ℕ) (v : ℚ) (text : List ℕ) → text ≡ drill_text number layers width s c v → s ≡ states_of m
+    → c ≡ sum_by (λ x. length x.choices) m.states → v ≡ value_at a.values 0 → text ≡ line_of number layers width m a
 line-of number layers width m a s c v text e p q r =
     e ∙ ap₂ (λ (s c : ℕ). drill_text number layers width s c v) p q ∙ ap (drill_text number layers width (states_of m) (sum_by (λ x. length x.choices) m.states)) r
 

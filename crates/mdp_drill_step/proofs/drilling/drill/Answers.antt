@@ -37,7 +37,8 @@ returns-in-Ok-drill_line-clause-due c =
     line-of c.args.number c.args.layers c.args.width c.in-Ok.model a _ _ _ c.in-Ok-drill_line.text.items c.in-Ok-drill_line.ensures
     (ap (λ (k : Certificate). k.states) c.certificate_of-cert.ensures.certificate) c.all_choices.ensures value
     in
-    inr (line-due c.args.number c.args.layers c.args.width c.in-Ok.model c.in-Ok.ensures c.in-Ok-marks_of.goals a c.in-Ok-drill_line.text.items c.in-Ok-marks_of.ensures c.in-Ok-solve_reach.ensures.path line)
+    inr (line-due c.args.number c.args.layers c.args.width c.in-Ok.model c.in-Ok.ensures c.in-Ok-marks_of.goals a c.in-Ok-drill_line.text.items
+    c.in-Ok-marks_of.ensures c.in-Ok-solve_reach.ensures.path line)
 
 pub returns-in-Ok-drill_line-clause-shown : goal.returns-in-Ok-drill_line-clause-shown
 returns-in-Ok-drill_line-clause-shown c =
