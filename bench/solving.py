@@ -8,7 +8,8 @@
 
 What is timed is the whole program, reading and writing too. The linear program (least sum of values that cover each choice) goes to `glpsol
 --exact` of Debian's glpk-utils where that is installed, in the same run, for at most LIMIT seconds; only its time is compared, and the value of
-state 0. Usage: bench/solving.py [layered L W | random N ..] (layered of 1,002, 4,002 and 16,002 states and a random one of 4,000 if nothing is said).
+state 0. The rounds of policy iteration are counted by the script itself.
+Usage: bench/solving.py [layered L W | random N ..] (layered of 1,002, 4,002 and 16,002 states and a random one of 4,000 if nothing is said).
 """
 import os
 import random
@@ -80,6 +81,56 @@ def write_program(path, states):
         file.write(" z%d = 1\nEnd\n" % goal)
 
 
+def reach_ranks(states):
+    """The least number of steps from each state to the goal, where there is a way."""
+    goal = len(states) - 2
+    before = [[] for _ in states]
+    for s, choices in enumerate(states):
+        for targets in choices:
+            for target in targets:
+                before[target].append(s)
+    ranks, layer = {goal: 0}, [goal]
+    while layer:
+        layer = [s for t in layer for s in before[t] if s not in ranks and ranks.setdefault(s, ranks[t] + 1)]
+    return ranks
+
+
+def worth(values, targets):
+    return sum(values[target] for target in targets) / len(targets)
+
+
+def evaluated(states, ranks, policy):
+    """The values of a policy, by sweeps from the last state on until nothing changes."""
+    goal = len(states) - 2
+    values = [1.0 if s == goal else 0.0 for s in range(len(states))]
+    moved = 1.0
+    while moved > 1e-15:
+        moved = 0.0
+        for s in reversed(range(len(states))):
+            if s in ranks and s != goal:
+                value = worth(values, states[s][policy[s]])
+                moved, values[s] = max(moved, abs(value - values[s])), value
+    return values
+
+
+def rounds_of(states):
+    """How many policies the program's search evaluates, counted in floating point by the same rule: it begins with the first choices on shortest ways,
+    and each next policy takes, at each state, the first of the best choices where that is better than the present value."""
+    ranks = reach_ranks(states)
+    nearer = lambda s, targets: any(t in ranks and ranks[t] < ranks[s] for t in targets)
+    policy = [next(c for c, targets in enumerate(choices) if nearer(s, targets)) if ranks.get(s) else 0 for s, choices in enumerate(states)]
+    rounds, changed = 0, True
+    while changed:
+        values, changed, rounds = evaluated(states, ranks, policy), False, rounds + 1
+        for s, choices in enumerate(states):
+            if ranks.get(s):
+                best = values[s]
+                for c, targets in enumerate(choices):
+                    if worth(values, targets) > best + 1e-12:
+                        best, policy[s], changed = worth(values, targets), c, True
+    return rounds
+
+
 def timed(words, **options):
     start = time.time()
     ended = subprocess.run(words, stdout=subprocess.PIPE, stderr=subprocess.DEVNULL, check=False, **options)
@@ -112,7 +163,7 @@ def measure(folder, name, states):
         file.write(text)
     said, _, checked = timed([PROGRAM, "check", model, "exact", cert])
     value = Fraction(re.search(r"^init 0 (\S+)$", text, re.M).group(1))
-    print("  solve: %.2f s, value of state 0 %.6f; check: %.2f s, %s" % (solved, value, checked, said.strip()))
+    print("  solve: %.2f s, %d rounds, value of state 0 %.6f; check: %.2f s, %s" % (solved, rounds_of(states), value, checked, said.strip()))
     line, seconds = peer(folder, states)
     print("  %s%s" % (line, "" if seconds is None else ", %.0f times as long" % (seconds / solved)))
 

@@ -1,4 +1,4 @@
-ghost use Rattle.std.specs.Prelude.{ℕ, ◌≡◌, ◌<◌, ◌≤◌, ◌⊎◌, ◌^◌, length, map, true, Ok, Err, IfOk, slice_index_or};
+ghost use Rattle.std.specs.Prelude.{ℕ, List, ◌≡◌, ◌<◌, ◌≤◌, ◌⊎◌, ◌^◌, length, map, true, Ok, Err, IfOk, slice_index_or};
 ghost use Rattle.std.specs.List.{All};
 ghost use Rattle.mdp_spec.specs.Row.{entries};
 ghost use Rattle.mdp_elim.specs.System.{is_active, inner, column_at, equation_of, system, Leaves, SolveEach};
@@ -51,36 +51,38 @@ fn constant(columns: &[Vec<Frac>], k: usize, s: u32) -> Frac
 /// The equation of a state.
 fn equation_at<R: RowsOf>(
     alloc: Global,
-    chain: &Chain<'_, R>,
+    rows: &R,
+    active: &Marks,
     columns: &[Vec<Frac>],
     s: u32,
 ) -> Result<Equation, AllocError>
-    requires state { s < length (R.rows chain.now.rows.now) }
-    requires active { length chain.now.active.now ≡ length (R.rows chain.now.rows.now) }
+    requires state { s < length (R.rows rows.now) }
+    requires active { length active.now ≡ length (R.rows rows.now) }
     requires columns { All (λ c. s < length c.items) columns.now }
-    ensures { IfOk result (λ e. e ≡ equation_of (R.rows chain.now.rows.now) chain.now.active.now (map (λ c. c.items) columns.now) s) }
+    ensures { IfOk result (λ e. e ≡ equation_of (R.rows rows.now) active.now (map (λ c. c.items) columns.now) s) }
 {
-    if !chain.active.at(s) {
+    if !active.at(s) {
         return Ok(Equation::new(Vec::new(alloc), Frac::whole(0), Frac::whole(0)));
     }
-    let terms = inner_terms(alloc, chain.rows.row(s), chain.active)?;
+    let terms = inner_terms(alloc, rows.row(s), active)?;
     Ok(Equation::new(terms, constant(columns, 0, s), constant(columns, 1, s)))
 }
 
 /// The equations of all states.
 fn system_of<R: RowsOf>(
     alloc: Global,
-    chain: &Chain<'_, R>,
+    rows: &R,
+    active: &Marks,
     columns: &[Vec<Frac>],
 ) -> Result<Vec<Equation>, AllocError>
-    requires active { length chain.now.active.now ≡ length (R.rows chain.now.rows.now) }
-    requires columns { All (λ c. length c.items ≡ length (R.rows chain.now.rows.now)) columns.now }
-    ensures value { IfOk result (λ es. es.items ≡ system (R.rows chain.now.rows.now) chain.now.active.now (map (λ c. c.items) columns.now)) }
+    requires active { length active.now ≡ length (R.rows rows.now) }
+    requires columns { All (λ c. length c.items ≡ length (R.rows rows.now)) columns.now }
+    ensures value { IfOk result (λ es. es.items ≡ system (R.rows rows.now) active.now (map (λ c. c.items) columns.now)) }
     ensures few { IfOk result (λ es. length es.items < 2 ^ 32) }
 {
     let mut equations = Vec::new(alloc);
-    for s in 0..chain.rows.count() {
-        equations.push(equation_at(alloc, chain, columns, s)?)?;
+    for s in 0..rows.count() {
+        equations.push(equation_at(alloc, rows, active, columns, s)?)?;
     }
     Ok(equations)
 }
@@ -99,8 +101,31 @@ fn answers(alloc: Global, values: Values, columns: usize) -> Result<Vec<Vec<Frac
     Ok(answers)
 }
 
-/// Solves x = c + Q x over the active states, for each column c: one value per state, 0 at states that aren't active. `Wide` names the state at
-/// whose step the written elimination first has a term past width.
+/// Solves x = c + Q x over the active states, for each column c: one value per state, 0 at states that aren't active. Some ranks show that each active
+/// state leaves; what they are doesn't matter to the solution. `Wide` names the state at whose step the written elimination first has a term past
+/// width.
+pub fn solve_leaving<R: RowsOf>(
+    alloc: Global,
+    rows: &R,
+    active: &Marks,
+    columns: &[Vec<Frac>],
+) -> Result<Vec<Vec<Frac>>, ElimError>
+    requires active { length active.now ≡ length (R.rows rows.now) }
+    requires leaves { (ranks : List ℕ) × Leaves (R.rows rows.now) active.now ranks }
+    requires some_columns { (length columns.now ≡ 1) ⊎ (length columns.now ≡ 2) }
+    requires columns { All (λ c. length c.items ≡ length (R.rows rows.now)) columns.now }
+    ensures value { IfOk result (λ xs. written_solution (R.rows rows.now) active.now (map (λ c. c.items) columns.now) ≡ Ok (map (λ x. x.items) xs.items)) }
+    ensures wide { (s : ℕ) → result ≡ Err (ElimError.Wide s) → written_solution (R.rows rows.now) active.now (map (λ c. c.items) columns.now) ≡ Err s }
+    ensures place { (s : ℕ) → result ≡ Err (ElimError.Wide s) → (s < length (R.rows rows.now)) × (is_active active.now s ≡ true) }
+    ensures solves { IfOk result (λ xs. SolveEach (R.rows rows.now) active.now (map (λ c. c.items) columns.now) (map (λ x. x.items) xs.items)) }
+{
+    rows.known();
+    let system = system_of(alloc, rows, active, columns)?;
+    let values = solve_system(alloc, system)?;
+    Ok(answers(alloc, values, columns.len())?)
+}
+
+/// The same of a chain with its ranks.
 pub fn solve<R: RowsOf>(
     alloc: Global,
     chain: &Chain<'_, R>,
@@ -116,8 +141,5 @@ pub fn solve<R: RowsOf>(
     ensures place { (s : ℕ) → result ≡ Err (ElimError.Wide s) → (s < length (R.rows chain.now.rows.now)) × (is_active chain.now.active.now s ≡ true) }
     ensures solves { IfOk result (λ xs. SolveEach (R.rows chain.now.rows.now) chain.now.active.now (map (λ c. c.items) columns.now) (map (λ x. x.items) xs.items)) }
 {
-    chain.rows.known();
-    let system = system_of(alloc, chain, columns)?;
-    let values = solve_system(alloc, system)?;
-    Ok(answers(alloc, values, columns.len())?)
+    solve_leaving(alloc, chain.rows, chain.active, columns)
 }

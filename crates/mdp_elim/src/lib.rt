@@ -15,7 +15,7 @@ mod tests;
 mod too_wide;
 mod transposed;
 
-pub use chain::{Chain, solve};
+pub use chain::{Chain, solve, solve_leaving};
 pub use errors::ElimError;
 pub use laws::{solution_law, visits_law};
 pub use too_wide::{Kind, Part, SolveError, TooWide};

@@ -1,11 +1,11 @@
 -- Worked words, and what they are.
 use Rattle.std.proofs.Common.{◌≡◌, [], ◌∷◌, Ok, Err, refl}
 use Rattle.std.specs.Prelude.{codes}
-use Rattle.mdp_rows.specs.declared.rule.RowRule.TheVariants.{Scaled}
+use Rattle.mdp_rows.specs.declared.rule.RowRule.TheVariants.{Exact, Scaled}
 use Rattle.mdp_rows.specs.declared.dir.Dir.TheVariants.{Max}
-use Rattle.mdp_job.specs.Job.{reach, solve, check}
+use Rattle.mdp_job.specs.Job.{reach, reward, solve, check, drill}
 use Rattle.mdp_job.specs.Words.{job_of_texts}
-use Rattle.mdp_job.specs.declared.words_error.WordsError.TheVariants.{Command, Number, Rows, Direction, Objective}
+use Rattle.mdp_job.specs.declared.words_error.WordsError.TheVariants.{Command, Number, Rows, Direction, Objective, Drill}
 
 no_words : job_of_texts [] ≡ Err Command
 no_words = refl
@@ -41,3 +41,38 @@ no_label = refl
 
 a_query : job_of_texts (codes "solve" ∷ codes "m" ∷ codes "scaled" ∷ codes "max" ∷ codes "reach" ∷ codes "is done" ∷ []) ≡ Ok (solve Scaled Max (reach (codes "is done")))
 a_query = refl
+
+-- a reward has a name and a label
+no_reward_label : job_of_texts (codes "solve" ∷ codes "m" ∷ codes "exact" ∷ codes "max" ∷ codes "reward" ∷ codes "-" ∷ []) ≡ Err Number
+no_reward_label = refl
+
+a_reward : job_of_texts (codes "solve" ∷ codes "m" ∷ codes "exact" ∷ codes "max" ∷ codes "reward" ∷ codes "-" ∷ codes "goal" ∷ []) ≡ Ok (solve Exact Max (reward (codes "-") (codes "goal")))
+a_reward = refl
+
+-- `drill`: numbers of at most 20 digits below 2^64, 1 to 100 layers, at most 2^20 - 2 states in them
+a_drill : job_of_texts (codes "drill" ∷ codes "007" ∷ codes "40" ∷ codes "100" ∷ []) ≡ Ok (drill 7 40 100)
+a_drill = refl
+
+greatest_number : job_of_texts (codes "drill" ∷ codes "18446744073709551615" ∷ codes "1" ∷ codes "1048574" ∷ []) ≡ Ok (drill 18446744073709551615 1 1048574)
+greatest_number = refl
+
+number_past : job_of_texts (codes "drill" ∷ codes "18446744073709551616" ∷ codes "1" ∷ codes "1" ∷ []) ≡ Err Drill
+number_past = refl
+
+number_long : job_of_texts (codes "drill" ∷ codes "000000000000000000001" ∷ codes "1" ∷ codes "1" ∷ []) ≡ Err Drill
+number_long = refl
+
+no_digits : job_of_texts (codes "drill" ∷ codes "+7" ∷ codes "1" ∷ codes "1" ∷ []) ≡ Err Drill
+no_digits = refl
+
+no_layers : job_of_texts (codes "drill" ∷ codes "7" ∷ codes "0" ∷ codes "2" ∷ []) ≡ Err Drill
+no_layers = refl
+
+layers_past : job_of_texts (codes "drill" ∷ codes "7" ∷ codes "101" ∷ codes "1" ∷ []) ≡ Err Drill
+layers_past = refl
+
+width_past : job_of_texts (codes "drill" ∷ codes "7" ∷ codes "2" ∷ codes "524288" ∷ []) ≡ Err Drill
+width_past = refl
+
+drill_words : job_of_texts (codes "drill" ∷ codes "7" ∷ codes "2" ∷ []) ≡ Err Number
+drill_words = refl

@@ -5,19 +5,22 @@ use Rattle.mdp_rows.specs.declared.rule.RowRule.{RowRule}
 use Rattle.mdp_job.specs.declared.job.Query.{Query}
 use Rattle.mdp_job.specs.declared.job.Query.TheVariants as query
 use Rattle.mdp_job.specs.declared.job.Job.{Job}
-use Rattle.mdp_job.specs.declared.job.Job.TheVariants.{Check, Solve}
+use Rattle.mdp_job.specs.declared.job.Job.TheVariants.{Check, Drill, Solve}
 use Rattle.mdp_job.specs.declared.files.Files.{Files}
 use Rattle.mdp_job.specs.declared.words_error.WordsError.{WordsError}
 
--- what is to be solved: the probability of reaching a label
+-- what is to be solved: the probability of reaching a label, or the reward of a name until a label
 pub data PlainQuery : Type 0 where
   reach : List ℕ → PlainQuery
+  reward : List ℕ → List ℕ → PlainQuery
 
 pub data PlainJob : Type 0 where
   -- the best values, in the direction, and a policy
   solve : RowRule → Dir → PlainQuery → PlainJob
   -- whether a certificate holds
   check : RowRule → PlainJob
+  -- the query of a layered model that is drawn from a number: with so many layers of so many states
+  drill : ℕ → ℕ → ℕ → PlainJob
 
 -- what words ask for: a job, or why they are none
 abbrev pub Asked : Type 0
@@ -27,10 +30,12 @@ Asked = Result PlainJob WordsError
 
 abbrev pub plain_query : Query → PlainQuery
 plain_query (query.Reach label) = reach label.now
+plain_query (query.Reward name label) = reward name.now label.now
 
 abbrev pub plain_job : Job → PlainJob
 plain_job (Solve rule dir query) = solve rule dir (plain_query query)
 plain_job (Check rule) = check rule
+plain_job (Drill number layers width) = drill number layers width
 
 abbrev pub asked : Result Job WordsError → Asked
 asked (Ok job) = Ok (plain_job job)
@@ -42,6 +47,7 @@ asked (Err e) = Err e
 abbrev pub files_of : Asked → Files
 files_of (Ok (solve rule dir query)) = record { model = Some 1; second = None }
 files_of (Ok (check rule)) = record { model = Some 1; second = Some 3 }
+files_of (Ok (drill number layers width)) = record { model = None; second = None }
 files_of (Err e) = record { model = None; second = None }
 
 abbrev pub reads_model : Asked → Bool

@@ -5,7 +5,7 @@ use Rattle.mdp_drn.specs.declared.error.DrnKind.{DrnKind}
 use Rattle.mdp_farkas.specs.declared.verdict.Fault.{Fault}
 use Rattle.mdp_path.specs.Queries.{WideTerm, shown}
 use Rattle.mdp_job.specs.declared.refusal.Refusal.{Refusal}
-use Rattle.mdp_job.specs.declared.refusal.Refusal.TheVariants.{Words, Model, QuerySize, QueryLabel, TooWide, CheckWide, Denied, ReadModel, ReadCertificate, LongModel, LongCertificate, CertText, Memory}
+use Rattle.mdp_job.specs.declared.refusal.Refusal.TheVariants.{Words, Model, QuerySize, QueryReward, QueryLabel, QueryNegative, TooWide, CheckWide, Denied, ReadModel, ReadCertificate, LongModel, LongCertificate, CertText, Memory}
 use Rattle.mdp_job.specs.declared.words_error.WordsError.{WordsError}
 
 pub data PlainRefusal : Type 0 where
@@ -14,7 +14,9 @@ pub data PlainRefusal : Type 0 where
   -- a line of the model's text, and the rule that it breaks
   model_text : ℕ → DrnKind → PlainRefusal
   query_size : PlainRefusal
+  query_reward : PlainRefusal
   query_label : PlainRefusal
+  query_negative : PlainRefusal
   -- the first term past width in what was to be solved
   too_wide : WideTerm → PlainRefusal
   -- the state and the choice at which a term of the check is past width
@@ -32,7 +34,9 @@ abbrev pub plain_refusal : Refusal → PlainRefusal
 plain_refusal (Words e) = no_job e
 plain_refusal (Model n kind) = model_text n kind
 plain_refusal QuerySize = query_size
+plain_refusal QueryReward = query_reward
 plain_refusal QueryLabel = query_label
+plain_refusal QueryNegative = query_negative
 plain_refusal (TooWide w) = too_wide (shown w w.round)
 plain_refusal (CheckWide state choice) = check_wide state choice
 plain_refusal (Denied f) = denied f

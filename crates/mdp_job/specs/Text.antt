@@ -11,7 +11,7 @@ use Rattle.mdp_elim.specs.declared.too_wide.Part.{Part}
 use Rattle.mdp_elim.specs.declared.too_wide.Part.TheVariants.{Whole, Inner, Outer, Steps, Join, Flow, Floor}
 use Rattle.mdp_farkas.specs.declared.verdict.Fault.{Fault}
 use Rattle.mdp_path.specs.Queries.{WideTerm}
-use Rattle.mdp_job.specs.Refusal.{PlainRefusal, no_job, model_text, query_size, query_label, too_wide, check_wide, denied, read_model, read_certificate, long_model, long_certificate, cert_text, no_memory}
+use Rattle.mdp_job.specs.Refusal.{PlainRefusal, no_job, model_text, query_size, query_reward, query_label, query_negative, too_wide, check_wide, denied, read_model, read_certificate, long_model, long_certificate, cert_text, no_memory}
 use Rattle.mdp_job.specs.declared.words_error.WordsError.{WordsError}
 use Rattle.mdp_job.specs.declared.words_error.WordsError.TheVariants as words
 
@@ -24,6 +24,7 @@ words_word words.Number = codes "number"
 words_word words.Rows = codes "rows"
 words_word words.Direction = codes "direction"
 words_word words.Objective = codes "objective"
+words_word words.Drill = codes "drill"
 
 unfoldable pub drn_word : DrnKind → List ℕ
 drn_word drn.Header = codes "header"
@@ -107,7 +108,9 @@ abbrev pub text_of : PlainRefusal → List ℕ
 text_of (no_job e) = line (codes "words " ++ words_word e)
 text_of (model_text n kind) = at_line (codes "model") n (drn_word kind)
 text_of query_size = line (codes "query size")
+text_of query_reward = line (codes "query reward")
 text_of query_label = line (codes "query label")
+text_of query_negative = line (codes "query negative")
 text_of (too_wide w) = too_wide_text w
 text_of (check_wide state choice) = wide_text state choice
 text_of (denied f) = denied_text f

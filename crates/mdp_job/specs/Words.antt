@@ -1,20 +1,23 @@
 -- The words of the command line, and the job that they are:
 --     solve MODEL ROWS DIR reach LABEL
+--     solve MODEL ROWS DIR reward NAME LABEL
 --     check MODEL ROWS CERT
+--     drill NUMBER LAYERS WIDTH
 -- ROWS is `exact` or `scaled`, DIR `max` or `min`.
-use Rattle.std.specs.Prelude.{ℕ, List, [], ◌∷◌, length, slice_index_or, map, Result, Ok, Err, ◌==◌, nat_lt, if◌then◌else◌, codes}
+use Rattle.std.specs.Prelude.{ℕ, ◌*◌, ◌-◌, ◌^◌, Bool, ◌&&◌, not, List, [], ◌∷◌, length, slice_index_or, map, Option, Some, None, Result, Ok, Err, ◌==◌, nat_lt, if◌then◌else◌, codes}
 use Rattle.std.specs.declared.string.String.{String}
 use Rattle.std.specs.Str.{bytes_eq}
 use Rattle.std.specs.String.{string_bytes}
 use Rattle.std.specs.Global.{Global}
 use Rattle.mdp_math.specs.Result.{◌>>=◌}
+use Rattle.mdp_num.specs.Digits.{is_digits, number}
 use Rattle.mdp_rows.specs.declared.dir.Dir.{Dir}
 use Rattle.mdp_rows.specs.declared.dir.Dir.TheVariants.{Max, Min}
 use Rattle.mdp_rows.specs.declared.rule.RowRule.{RowRule}
 use Rattle.mdp_rows.specs.declared.rule.RowRule.TheVariants.{Exact, Scaled}
-use Rattle.mdp_job.specs.Job.{PlainQuery, reach, solve, check, Asked}
+use Rattle.mdp_job.specs.Job.{PlainQuery, reach, reward, solve, check, drill, Asked}
 use Rattle.mdp_job.specs.declared.words_error.WordsError.{WordsError}
-use Rattle.mdp_job.specs.declared.words_error.WordsError.TheVariants.{Command, Number, Rows, Direction, Objective}
+use Rattle.mdp_job.specs.declared.words_error.WordsError.TheVariants.{Command, Number, Rows, Direction, Objective, Drill}
 
 abbrev pub word_at : List (List ℕ) → ℕ → List ℕ
 word_at words i = slice_index_or words i []
@@ -32,20 +35,48 @@ abbrev pub check_of : List (List ℕ) → Asked
 check_of words = if length words == 3 then (rule_of (word_at words 1) >>= λ rule. Ok (check rule)) else Err Number
 
 -- the words behind `solve`: how many there are at least, the row rule, the direction, the objective, and how many words that has
+abbrev pub reach_of : List (List ℕ) → Result PlainQuery WordsError
+reach_of words = if length words == 5 then Ok (reach (word_at words 4)) else Err Number
+
+abbrev pub reward_of : List (List ℕ) → Result PlainQuery WordsError
+reward_of words = if length words == 6 then Ok (reward (word_at words 4) (word_at words 5)) else Err Number
+
 abbrev pub query_of : List (List ℕ) → Result PlainQuery WordsError
-query_of words = if bytes_eq (word_at words 3) (codes "reach") then (if length words == 5 then Ok (reach (word_at words 4)) else Err Number) else Err Objective
+query_of words =
+    if bytes_eq (word_at words 3) (codes "reach") then reach_of words
+    else (if bytes_eq (word_at words 3) (codes "reward") then reward_of words else Err Objective)
 
 abbrev pub solve_of : List (List ℕ) → Asked
 solve_of words =
     if nat_lt (length words) 4 then Err Number
     else (rule_of (word_at words 1) >>= (λ rule. dir_of (word_at words 2) >>= (λ dir. query_of words >>= (λ query. Ok (solve rule dir query)))))
 
+-- digits, at least one and at most so many: the number that they write
+abbrev pub whole_word : ℕ → List ℕ → Option ℕ
+whole_word most word = if is_digits word && not (nat_lt most (length word)) then Some (number word) else None
+
+-- the number is below 2^64, there are 1 to 100 layers, and at most 2^20 - 2 states in them
+abbrev pub can_draw : ℕ → ℕ → ℕ → Bool
+can_draw number layers width = nat_lt number (2 ^ 64) && (nat_lt 0 layers && (not (nat_lt 100 layers) && (nat_lt 0 width && not (nat_lt (2 ^ 20 - 2) (layers * width)))))
+
+abbrev pub drill_by : ℕ → ℕ → ℕ → Asked
+drill_by number layers width = if can_draw number layers width then Ok (drill number layers width) else Err Drill
+
+abbrev pub drill_with : Option ℕ → Option ℕ → Option ℕ → Asked
+drill_with (Some number) (Some layers) (Some width) = drill_by number layers width
+drill_with number layers width = Err Drill
+
+-- the words behind `drill`: a number of at most 20 digits, and two of at most 7
+abbrev pub drill_of : List (List ℕ) → Asked
+drill_of words = if length words == 3 then drill_with (whole_word 20 (word_at words 0)) (whole_word 7 (word_at words 1)) (whole_word 7 (word_at words 2)) else Err Number
+
 -- the words, as texts
 abbrev pub job_of_texts : List (List ℕ) → Asked
 job_of_texts [] = Err Command
 job_of_texts (command ∷ words) =
     if bytes_eq command (codes "solve") then solve_of words
-    else (if bytes_eq command (codes "check") then check_of words else Err Command)
+    else (if bytes_eq command (codes "check") then check_of words
+    else (if bytes_eq command (codes "drill") then drill_of words else Err Command))
 
 abbrev pub job_of : List (String Global) → Asked
 job_of words = job_of_texts (map string_bytes words)

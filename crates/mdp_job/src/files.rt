@@ -24,7 +24,7 @@ pub fn files_of(words: &[String]) -> Files
             model: Some(1),
             second: Some(3),
         },
-        Err(_) => Files {
+        Ok(Job::Drill { .. }) | Err(_) => Files {
             model: None,
             second: None,
         },

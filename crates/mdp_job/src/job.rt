@@ -1,9 +1,10 @@
-ghost use Rattle.std.specs.Prelude.{◌≡◌, ◌<◌, length, map, Ok, Err};
+ghost use Rattle.std.specs.Prelude.{◌≡◌, ◌<◌, ◌^◌, length, map, Ok, Err};
 ghost use Rattle.std.specs.Result.{MatchResult};
 ghost use Rattle.std.specs.String.{string_bytes};
 ghost use Rattle.mdp_job.specs.Job.{asked, plain_query};
-ghost use Rattle.mdp_job.specs.Words.{job_of, rule_of, dir_of, query_of, solve_of, check_of};
+ghost use Rattle.mdp_job.specs.Words.{job_of, rule_of, dir_of, reach_of, reward_of, query_of, solve_of, check_of, drill_by, drill_of};
 
+use crate::digits::whole_word;
 use crate::words_error::WordsError;
 use mdp_rows::{Dir, RowRule};
 
@@ -12,12 +13,15 @@ use mdp_rows::{Dir, RowRule};
 pub enum Query<'a> {
     /// The probability of reaching a state with this label.
     Reach { label: &'a [u8] },
+    /// The reward of this name until a state with this label.
+    Reward { name: &'a [u8], label: &'a [u8] },
 }
 
 /// What the words ask for.
 #[derive(Clone, Copy, Debug, PartialEq, Eq)]
 pub enum Job<'a> {
-    /// `solve MODEL ROWS DIR reach LABEL`: the best values in the direction, with a policy and a certificate.
+    /// `solve MODEL ROWS DIR reach LABEL` and `solve MODEL ROWS DIR reward NAME LABEL`: the best values in the direction, with a policy and a
+    /// certificate.
     Solve {
         rule: RowRule,
         dir: Dir,
@@ -26,6 +30,12 @@ pub enum Job<'a> {
     /// `check MODEL ROWS CERT`: whether the certificate holds of the model, read under the row rule.
     Check {
         rule: RowRule,
+    },
+    /// `drill NUMBER LAYERS WIDTH`: the greatest probability of reaching the goal of a layered model that is drawn from the number.
+    Drill {
+        number: u64,
+        layers: u32,
+        width: u32,
     },
 }
 
@@ -51,20 +61,44 @@ fn dir_of(word: &str) -> Result<Dir, WordsError>
     }
 }
 
+/// The query that the words behind `solve` name, where the objective is `reach`.
+fn reach_of<'a>(words: &'a [String]) -> Result<Query<'a>, WordsError>
+    ensures { MatchResult result (λ q. reach_of (map string_bytes words.now) ≡ Ok (plain_query q)) (λ e. reach_of (map string_bytes words.now) ≡ Err e) }
+{
+    let [_, _, _, _, label] = words else {
+        return Err(WordsError::Number);
+    };
+    Ok(Query::Reach {
+        label: label.as_bytes(),
+    })
+}
+
+/// The query that the words behind `solve` name, where the objective is `reward`.
+fn reward_of<'a>(words: &'a [String]) -> Result<Query<'a>, WordsError>
+    ensures { MatchResult result (λ q. reward_of (map string_bytes words.now) ≡ Ok (plain_query q)) (λ e. reward_of (map string_bytes words.now) ≡ Err e) }
+{
+    let [_, _, _, _, name, label] = words else {
+        return Err(WordsError::Number);
+    };
+    Ok(Query::Reward {
+        name: name.as_bytes(),
+        label: label.as_bytes(),
+    })
+}
+
 /// The query that the words behind `solve` name.
 fn query_of<'a>(words: &'a [String]) -> Result<Query<'a>, WordsError>
     requires { 3 < length words.now }
     ensures { MatchResult result (λ q. query_of (map string_bytes words.now) ≡ Ok (plain_query q)) (λ e. query_of (map string_bytes words.now) ≡ Err e) }
 {
-    if words[3].as_str() != "reach" {
-        return Err(WordsError::Objective);
+    let objective = words[3].as_str();
+    if objective == "reach" {
+        return reach_of(words);
     }
-    if words.len() != 5 {
-        return Err(WordsError::Number);
+    if objective == "reward" {
+        return reward_of(words);
     }
-    Ok(Query::Reach {
-        label: words[4].as_bytes(),
-    })
+    Err(WordsError::Objective)
 }
 
 /// The job that the words behind `solve` are.
@@ -93,8 +127,46 @@ fn check_of<'a>(words: &'a [String]) -> Result<Job<'a>, WordsError>
     Ok(Job::Check { rule })
 }
 
+/// The most states in the layers of a model that is drawn.
+const MOST_STATES: u128 = (1 << 20) - 2;
+
+/// The job with these numbers, where they are in range.
+fn drill_by<'a>(number: u128, layers: u128, width: u128) -> Result<Job<'a>, WordsError>
+    requires { width < 10 ^ 7 }
+    ensures { asked result ≡ drill_by number layers width }
+{
+    let has_layers = 1 <= layers && layers <= 100;
+    if number >> 64 == 0 && has_layers && 1 <= width && layers * width <= MOST_STATES {
+        return Ok(Job::Drill {
+            number: number as u64,
+            layers: layers as u32,
+            width: width as u32,
+        });
+    }
+    Err(WordsError::Drill)
+}
+
+/// The job that the words behind `drill` are.
+fn drill_of<'a>(words: &'a [String]) -> Result<Job<'a>, WordsError>
+    ensures { asked result ≡ drill_of (map string_bytes words.now) }
+{
+    let [number, layers, width] = words else {
+        return Err(WordsError::Number);
+    };
+    let Some(number) = whole_word(number.as_bytes(), 20) else {
+        return Err(WordsError::Drill);
+    };
+    let Some(layers) = whole_word(layers.as_bytes(), 7) else {
+        return Err(WordsError::Drill);
+    };
+    let Some(width) = whole_word(width.as_bytes(), 7) else {
+        return Err(WordsError::Drill);
+    };
+    drill_by(number, layers, width)
+}
+
 /// The job that the words are, or the first refusal: `Command`, then `Number`, `Rows`, `Direction` and `Objective`, and `Number` again where an
-/// objective has another number of words. It takes no memory.
+/// objective has another number of words; for `drill` `Drill`. It takes no memory.
 pub fn job_of<'a>(words: &'a [String]) -> Result<Job<'a>, WordsError>
     ensures { asked result ≡ job_of words.now }
 {
@@ -104,6 +176,7 @@ pub fn job_of<'a>(words: &'a [String]) -> Result<Job<'a>, WordsError>
     match command.as_str() {
         "solve" => solve_of(rest),
         "check" => check_of(rest),
+        "drill" => drill_of(rest),
         _ => Err(WordsError::Command),
     }
 }

@@ -1,6 +1,7 @@
 //! The words of the command line, the statuses, and the texts of refusals.
 #![tactic(auto)]
 
+mod digits;
 mod files;
 mod job;
 mod refusal;

@@ -26,8 +26,12 @@ pub enum Refusal {
     },
     /// The certificate has another number of states than the model.
     QuerySize,
+    /// The reward's name isn't in the model.
+    QueryReward,
     /// The label isn't in the model.
     QueryLabel,
+    /// A reward of the name until a goal is below 0.
+    QueryNegative,
     /// A written term of what was to be solved is past width, at this place.
     TooWide(TooWide),
     /// A written term of the check is past width, at this place.
@@ -65,7 +69,10 @@ impl Refusal {
         match self {
             Refusal::Words(_) => Status::Words,
             Refusal::Model { .. } => Status::Model,
-            Refusal::QuerySize | Refusal::QueryLabel => Status::Query,
+            Refusal::QuerySize
+            | Refusal::QueryReward
+            | Refusal::QueryLabel
+            | Refusal::QueryNegative => Status::Query,
             Refusal::TooWide(_) | Refusal::CheckWide { .. } => Status::TooWide,
             Refusal::Denied(_) => Status::Denied,
             Refusal::ReadModel | Refusal::ReadCertificate => Status::ReadFault,
@@ -86,6 +93,7 @@ fn words_word(error: WordsError) -> &'static str
         WordsError::Rows => "rows",
         WordsError::Direction => "direction",
         WordsError::Objective => "objective",
+        WordsError::Drill => "drill",
     }
 }
 
@@ -291,7 +299,9 @@ fn push_parts(refusal: &Refusal, out: &mut Vec<u8>) -> Result<(), AllocError>
         Refusal::Words(error) => push_words(*error, out),
         Refusal::Model { line, kind } => push_at("model", *line, drn_word(*kind), out),
         Refusal::QuerySize => out.extend_from_slice(b"query size\n"),
+        Refusal::QueryReward => out.extend_from_slice(b"query reward\n"),
         Refusal::QueryLabel => out.extend_from_slice(b"query label\n"),
+        Refusal::QueryNegative => out.extend_from_slice(b"query negative\n"),
         Refusal::TooWide(wide) => push_too_wide(wide, out),
         Refusal::CheckWide { state, choice } => push_check_wide(*state, *choice, out),
         Refusal::Denied(fault) => push_denied(fault, out),

@@ -12,7 +12,7 @@ pub enum Status {
     Words,
     /// The model's text was refused.
     Model,
-    /// The certificate doesn't belong to the model, or names a label that the model hasn't.
+    /// The certificate doesn't belong to the model, or a reward name or a label isn't in it, or a reward until a goal is below 0.
     Query,
     /// A written term of the check is past width.
     TooWide,

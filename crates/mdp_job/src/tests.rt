@@ -22,7 +22,9 @@ fn spells_refusals(rt: HostRuntime) -> Result<(), Fail> {
             "> model line 18446744073709551615 row-sum\n",
             3,
         ),
+        (Refusal::QueryReward, "> query reward\n", 4),
         (Refusal::QueryLabel, "> query label\n", 4),
+        (Refusal::QueryNegative, "> query negative\n", 4),
         (
             Refusal::CheckWide {
                 state: Some(0),

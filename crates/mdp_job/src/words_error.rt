@@ -9,6 +9,8 @@ pub enum WordsError {
     Rows = 3,
     /// The direction is neither `max` nor `min`.
     Direction = 4,
-    /// `solve` has another objective than `reach`.
+    /// `solve` has another objective than `reach` and `reward`.
     Objective = 5,
+    /// A number of `drill` isn't in range.
+    Drill = 7,
 }

@@ -14,7 +14,6 @@ pub mod Ending
 pub mod Optimal
 pub mod Answering
 pub mod OuterSums
-pub mod RanksFound
 pub mod Solving
 pub mod RoundFacts
 pub mod Walking

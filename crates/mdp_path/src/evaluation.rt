@@ -16,8 +16,7 @@ use crate::errors::RoundError;
 use crate::loops::Loops;
 use crate::policy_chain::PolicyChain;
 use crate::shortest_path::ShortestPath;
-use mdp_elim::{Chain, ElimError, Kind, solve};
-use mdp_graph::{along, along_law};
+use mdp_elim::{ElimError, Kind, solve_leaving};
 use mdp_num::{Frac, Memory, Wide};
 use mdp_rows::{Marks, Row, RowsOf};
 use std::alloc::{AllocError, Global};
@@ -159,32 +158,6 @@ fn constants_of<P: ShortestPath>(
     Ok(constants)
 }
 
-/// The states that aren't active.
-fn inactive(alloc: Global, active: &Marks, states: u32) -> Result<Marks, AllocError>
-    requires { length active.now ≡ states }
-    ensures { IfOk result (λ marks. marks ≡ map (λ s. not (is_active active.now s)) (range_with_len 0 states)) }
-{
-    let mut marks = Vec::new(alloc);
-    for s in 0..states {
-        marks.push(!active.at(s))?;
-    }
-    Ok(Marks::from_values(marks))
-}
-
-/// Ranks by which a chain leaves its active states.
-fn ranks_of<R: RowsOf>(alloc: Global, rows: &R, active: &Marks) -> Result<Vec<u32>, Memory>
-    requires active { length active.now ≡ length (R.rows rows.now) }
-    requires leaves { (ranks : List ℕ) × Leaves (R.rows rows.now) active.now ranks }
-    ensures count { IfOk result (λ ranks. length ranks.items ≡ length (R.rows rows.now)) }
-    ensures leaves { IfOk result (λ ranks. Leaves (R.rows rows.now) active.now ranks.items) }
-{
-    rows.known();
-    along_law();
-    let stopped = inactive(alloc, active, rows.count())?;
-    let pass = along(alloc, rows, &stopped)?;
-    Ok(pass.ranks)
-}
-
 /// The value of node `s`: that of the solution where it is active, and that with which it stops elsewhere.
 fn filled_value<P: ShortestPath>(problem: &P, policy: &[u32], solution: &[Frac], s: u32) -> Frac
     requires policy { IsPolicy (P.problem problem.now) policy.now }
@@ -241,15 +214,9 @@ fn solution_of<P: ShortestPath>(
         policy,
         loops,
     };
-    let ranks = ranks_of(alloc, &rows, active)?;
     let mut columns = Vec::new(alloc);
     columns.push(constants)?;
-    let chain = Chain {
-        rows: &rows,
-        active,
-        ranks: &ranks,
-    };
-    match solve(alloc, &chain, &columns) {
+    match solve_leaving(alloc, &rows, active, &columns) {
         Ok(solutions) => {
             let mut solutions = solutions;
             Ok(solutions.remove(0))

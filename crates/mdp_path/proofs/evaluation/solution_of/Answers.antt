@@ -4,15 +4,15 @@ use Rattle.mdp_path.proofs.Chain.{rows-len}
 use Rattle.mdp_path.proofs.Solving.{one_column, first_len, written_solution-below}
 use Rattle.mdp_path.proofs.evaluation.solution_of.Goals as goal
 
-pub solve-requires-clause-columns : goal.solve-requires-clause-columns
-solve-requires-clause-columns g c =
-    one_column (λ x. x.items) c.deref-2.result.now c.args.constants _ (c.deref-2.ensures.value ∙ (c.in_ok-push.ensures {u = tt}).items ∙ search rules)
+pub solve_leaving-requires-clause-columns : goal.solve_leaving-requires-clause-columns
+solve_leaving-requires-clause-columns g c =
+    one_column (λ x. x.items) c.deref.result.now c.args.constants _ (c.deref.ensures.value ∙ (c.in_ok-push.ensures {u = tt}).items ∙ search rules)
     (c.requires.constants ∙ sym (rows-len (g.P.ShortestPath.problem c.args.problem.now) c.args.policy.now))
 
 pub returns-in-Ok-clause-count : goal.returns-in-Ok-clause-count
 returns-in-Ok-clause-count g c =
-    first_len (λ x. x.items) (rows_of (g.P.ShortestPath.problem c.args.problem.now) c.args.policy.now) c.args.active.now c.deref-2.result.now c.in-Ok.solutions.items c.args.constants c.remove.result
-    (c.deref-2.ensures.value ∙ (c.in_ok-push.ensures {u = tt}).items ∙ search rules) (c.in-Ok.ensures {u = tt}).solves c.remove.ensures.value
+    first_len (λ x. x.items) (rows_of (g.P.ShortestPath.problem c.args.problem.now) c.args.policy.now) c.args.active.now c.deref.result.now c.in-Ok.solutions.items c.args.constants c.remove.result
+    (c.deref.ensures.value ∙ (c.in_ok-push.ensures {u = tt}).items ∙ search rules) (c.in-Ok.ensures {u = tt}).solves c.remove.ensures.value
     ∙ rows-len (g.P.ShortestPath.problem c.args.problem.now) c.args.policy.now
 
 pub bounds-policy-state : goal.bounds-policy-state
