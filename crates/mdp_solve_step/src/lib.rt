@@ -5,4 +5,4 @@ mod laws;
 mod solving;
 
 pub use laws::solve_law;
-pub use solving::solve_file;
+pub use solving::{certificate_of, solve_file};

@@ -57,7 +57,7 @@ fn all_short(numbers: &[u32])
 }
 
 /// The certificate of an answer, which has a text.
-fn certificate_of(model: &Model, dir: Dir, label: Vec<u8>, answer: ReachCert) -> Cert
+pub fn certificate_of(model: &Model, dir: Dir, label: Vec<u8>, answer: ReachCert) -> Cert
     requires name { IsName label.items }
     requires values { length answer.values.items ≡ states_of model.now }
     requires choices { length answer.choices.items ≡ states_of model.now }
