@@ -1,20 +1,24 @@
 -- The line of the claim is read exactly where it is its text.
-use Rattle.std.proofs.Common.{◌≡◌, ℕ, ◌-◌, Bool, true, false, cond, ◌&&◌, List, [], ◌∷◌, ◌++◌, length, take, drop, Option, Some, None, Ok, refl, sym, ap, ap₂, ◌∙◌, arith}
+use Rattle.std.proofs.Common.{◌≡◌, ◌⊎◌, inl, inr, ℕ, ◌-◌, Bool, true, false, cond, ◌&&◌, List, [], ◌∷◌, ◌++◌, length, take, drop, Option, Some, None, Ok}
+use Rattle.std.proofs.Common.{refl, sym, ap, ap₂, subst, ◌∙◌, append_assoc, arith}
 use Rattle.std.specs.Prelude.{codes}
-use Rattle.std.specs.Option.{option_and_then}
+use Rattle.std.specs.List.{position_or_len, before_first}
+use Rattle.std.specs.Option.{option_and_then, option_map, option_or}
 use Rattle.std.specs.Str.{bytes_eq}
 use Rattle.std.proofs.lemmas.Bool.{and_parts}
 use Rattle.std.proofs.lemmas.List.{take-append-drop, length-append}
 use Rattle.std.proofs.Math.Seq.{take-append_seam, drop-append_seam}
 use Rattle.mdp_rows.specs.Name.{is_name}
+use Rattle.mdp_rows.specs.declared.dir.Dir.{Dir}
 use Rattle.mdp_rows.specs.declared.dir.Dir.TheVariants.{Max, Min}
 use Rattle.mdp_cert.specs.declared.error.CertKind.TheVariants.{Claim}
-use Rattle.mdp_cert.specs.Cert.{PlainClaim, upper, reach, label_of}
+use Rattle.mdp_cert.specs.Cert.{PlainClaim, upper, reach, reward, are_names}
+use Rattle.mdp_cert.specs.Lines.{or_refused}
 use Rattle.mdp_cert.specs.Spelling.{claim_text}
-use Rattle.mdp_cert.specs.Reading.{behind, closed_name, name_behind, first_claim, claim_of, claim_at}
-use Rattle.mdp_cert.proofs.Pieces.{Free, free-append, free-name}
+use Rattle.mdp_cert.specs.Reading.{behind, closed_name, name_behind, is_quote, two_names, upper_claim, reach_front, reach_claim, reward_front, reward_claim, claim_to, claim_of, claim_at}
+use Rattle.mdp_cert.proofs.Pieces.{Free, free-append, free-name, quote-free-name}
 use Rattle.mdp_cert.proofs.Cuts.{bytes_same, bytes_self}
-use Rattle.mdp_cert.proofs.Feeds.{found_ok}
+use Rattle.mdp_cert.proofs.Feeds.{found_ok, byte-after}
 
 behind-found : (front text rest : List ℕ) → behind front text ≡ Some rest → text ≡ front ++ rest
 behind-found front text rest e = by (bytes_eq (take (length front) text) front) refl e
@@ -52,25 +56,142 @@ name-found front text name e = by (behind front text) refl e
 name-again : (front name : List ℕ) → is_name name ≡ true → name_behind front (front ++ (name ++ 34 ∷ [])) ≡ Some name
 name-again front name h = ap (option_and_then closed_name) (behind-again front (name ++ 34 ∷ [])) ∙ closed-again name h
 
-pub claim-found : (n : ℕ) (text : List ℕ) (c : PlainClaim) → claim_at n text ≡ Ok c → (text ≡ claim_text c) × (is_name (label_of c) ≡ true)
-unfolding claim_at claim_of
-claim-found n text c e =
-    by (name_behind (codes "claim upper reach \"") text) (name_behind (codes "claim max reach \"") text) (name_behind (codes "claim min reach \"") text) refl refl refl (found_ok _ Claim n c e)
+-- ---- two names
+
+two-found : (text : List ℕ) (names : List ℕ × List ℕ) → two_names text ≡ Some names
+    → (text ≡ names.0 ++ (34 ∷ 32 ∷ 34 ∷ (names.1 ++ 34 ∷ []))) × (is_name names.0 ≡ true) × (is_name names.1 ≡ true)
+two-found text names e = by (is_name (before_first is_quote text)) refl (name_behind (codes "\" \"") (drop (position_or_len is_quote text) text)) refl e
   where
-    by : (a b d : Option (List ℕ)) → name_behind (codes "claim upper reach \"") text ≡ a → name_behind (codes "claim max reach \"") text ≡ b
-        → name_behind (codes "claim min reach \"") text ≡ d → first_claim a b d ≡ Some c → (text ≡ claim_text c) × (is_name (label_of c) ≡ true)
-    by (Some name) b d p q r e = let is : upper name ≡ c = cc in let f = name-found (codes "claim upper reach \"") text name p in rw (← is) (f.0, f.1)
-    by None (Some name) d p q r e = let is : reach Max name ≡ c = cc in let f = name-found (codes "claim max reach \"") text name q in rw (← is) (f.0, f.1)
-    by None None (Some name) p q r e = let is : reach Min name ≡ c = cc in let f = name-found (codes "claim min reach \"") text name r in rw (← is) (f.0, f.1)
-    by None None None p q r e = absurd cc
+    by : (b : Bool) → is_name (before_first is_quote text) ≡ b → (o : Option (List ℕ)) → name_behind (codes "\" \"") (drop (position_or_len is_quote text) text) ≡ o
+        → cond b (option_map (λ label. (before_first is_quote text, label)) o) None ≡ Some names
+        → (text ≡ names.0 ++ (34 ∷ 32 ∷ 34 ∷ (names.1 ++ 34 ∷ []))) × (is_name names.0 ≡ true) × (is_name names.1 ≡ true)
+    by false t o f e = absurd cc
+    by true t None f e = absurd cc
+    by true t (Some label) f e =
+        let is : (let p : List ℕ × List ℕ = (before_first is_quote text, label) in p) ≡ names = cc in
+        let g = name-found (codes "\" \"") (drop (position_or_len is_quote text) text) label f in
+        subst (λ (p : List ℕ × List ℕ). (text ≡ p.0 ++ (34 ∷ 32 ∷ 34 ∷ (p.1 ++ 34 ∷ []))) × (is_name p.0 ≡ true) × (is_name p.1 ≡ true)) is (
+          sym (take-append-drop (position_or_len is_quote text) text) ∙ ap (λ (ys : List ℕ). before_first is_quote text ++ ys) g.0,
+          t,
+          g.1,
+        )
 
-pub claim-again : (n : ℕ) (c : PlainClaim) → is_name (label_of c) ≡ true → claim_at n (claim_text c) ≡ Ok c
-unfolding claim_at claim_of
-claim-again n (upper name) h = rw (name-again (codes "claim upper reach \"") name h) refl
-claim-again n (reach Max name) h = rw (name-again (codes "claim max reach \"") name h) refl
-claim-again n (reach Min name) h = rw (name-again (codes "claim min reach \"") name h) refl
+two-again : (name label : List ℕ) → is_name name ≡ true → is_name label ≡ true → two_names (name ++ (34 ∷ 32 ∷ 34 ∷ (label ++ 34 ∷ []))) ≡ Some (name, label)
+two-again name label h g =
+    let at : position_or_len is_quote (name ++ (34 ∷ 32 ∷ 34 ∷ (label ++ 34 ∷ []))) ≡ length name = byte-after 34 name (32 ∷ 34 ∷ (label ++ 34 ∷ [])) (quote-free-name name h) in
+    rw (at, take-append_seam name (34 ∷ 32 ∷ 34 ∷ (label ++ 34 ∷ [])), drop-append_seam name (34 ∷ 32 ∷ 34 ∷ (label ++ 34 ∷ [])), h, name-again (codes "\" \"") label g) refl
 
-pub free-claim : (c : PlainClaim) → is_name (label_of c) ≡ true → Free 10 (claim_text c)
-free-claim (upper name) h = free-append 10 (codes "claim upper reach \"") (name ++ 34 ∷ []) refl (free-append 10 name (34 ∷ []) (free-name name h) refl)
-free-claim (reach Max name) h = free-append 10 (codes "claim max reach \"") (name ++ 34 ∷ []) refl (free-append 10 name (34 ∷ []) (free-name name h) refl)
-free-claim (reach Min name) h = free-append 10 (codes "claim min reach \"") (name ++ 34 ∷ []) refl (free-append 10 name (34 ∷ []) (free-name name h) refl)
+-- ---- each claim
+
+abbrev IsClaim : List ℕ → PlainClaim → Type 0
+IsClaim text c = (text ≡ claim_text c) × (are_names c ≡ true)
+
+map-some : {A B : Type 0} (f : A → B) (o : Option A) (y : B) → option_map f o ≡ Some y → (x : A) × (o ≡ Some x) × (f x ≡ y)
+map-some f None y e = absurd cc
+map-some f (Some x) y e = (x, refl, cc)
+
+or-found : {A : Type 0} (a b : Option A) (x : A) → option_or a b ≡ Some x → (a ≡ Some x) ⊎ (b ≡ Some x)
+or-found None b x e = inr e
+or-found (Some y) b x e = inl e
+
+upper-found : (text : List ℕ) (c : PlainClaim) → upper_claim text ≡ Some c → IsClaim text c
+upper-found text c e =
+    let m = map-some upper (name_behind (codes "claim upper reach \"") text) c e in
+    let f = name-found (codes "claim upper reach \"") text m.0 m.1 in
+    subst (IsClaim text) m.2 (f.0, f.1)
+
+reach-text : (dir : Dir) (label : List ℕ) → reach_front dir ++ (label ++ 34 ∷ []) ≡ claim_text (reach dir label)
+reach-text Max label = refl
+reach-text Min label = refl
+
+reach-found : (dir : Dir) (text : List ℕ) (c : PlainClaim) → reach_claim dir text ≡ Some c → IsClaim text c
+reach-found dir text c e =
+    let m = map-some (reach dir) (name_behind (reach_front dir) text) c e in
+    let f = name-found (reach_front dir) text m.0 m.1 in
+    subst (IsClaim text) m.2 (f.0 ∙ reach-text dir m.0, f.1)
+
+reward-text : (dir : Dir) (name label : List ℕ) → reward_front dir ++ (name ++ (34 ∷ 32 ∷ 34 ∷ (label ++ 34 ∷ []))) ≡ claim_text (reward dir name label)
+reward-text Max name label = ap (λ (t : List ℕ). codes "claim max reward \"" ++ t) (sym (append_assoc name (34 ∷ []) (32 ∷ 34 ∷ (label ++ 34 ∷ []))))
+reward-text Min name label = ap (λ (t : List ℕ). codes "claim min reward \"" ++ t) (sym (append_assoc name (34 ∷ []) (32 ∷ 34 ∷ (label ++ 34 ∷ []))))
+
+and-true : (a b : Bool) → a ≡ true → b ≡ true → (a && b) ≡ true
+and-true a b p q = rw (p, q) refl
+
+reward-found : (dir : Dir) (text : List ℕ) (c : PlainClaim) → reward_claim dir text ≡ Some c → IsClaim text c
+reward-found dir text c e =
+    let m = map-some (λ names. reward dir names.0 names.1) (option_and_then two_names (behind (reward_front dir) text)) c e in
+    subst (IsClaim text) m.2 (by (behind (reward_front dir) text) refl m.0 m.1)
+  where
+    by : (o : Option (List ℕ)) → behind (reward_front dir) text ≡ o → (names : List ℕ × List ℕ) → option_and_then two_names o ≡ Some names → IsClaim text (reward dir names.0 names.1)
+    by None b names e = absurd cc
+    by (Some rest) b names e =
+        let t = two-found rest names e in (
+          behind-found (reward_front dir) text rest b ∙ ap (λ (xs : List ℕ). reward_front dir ++ xs) t.0 ∙ reward-text dir names.0 names.1,
+          and-true _ _ t.1 t.2,
+        )
+
+to-found : (dir : Dir) (text : List ℕ) (c : PlainClaim) → claim_to dir text ≡ Some c → IsClaim text c
+unfolding claim_to
+to-found dir text c e = elim (or-found (reach_claim dir text) (reward_claim dir text) c e) [ inl h ↦ reach-found dir text c h | inr h ↦ reward-found dir text c h ]
+
+of-found : (text : List ℕ) (c : PlainClaim) → claim_of text ≡ Some c → IsClaim text c
+unfolding claim_of
+of-found text c e = elim (or-found (upper_claim text) (option_or (claim_to Max text) (claim_to Min text)) c e) [
+  | inl h ↦ upper-found text c h
+  | inr h ↦ elim (or-found (claim_to Max text) (claim_to Min text) c h) [ inl g ↦ to-found Max text c g | inr g ↦ to-found Min text c g ]
+]
+
+pub claim-found : (n : ℕ) (text : List ℕ) (c : PlainClaim) → claim_at n text ≡ Ok c → (text ≡ claim_text c) × (are_names c ≡ true)
+unfolding claim_at
+claim-found n text c e = of-found text c (found_ok (claim_of text) Claim n c e)
+
+-- ---- and back
+
+upper-again : (label : List ℕ) → is_name label ≡ true → claim_of (claim_text (upper label)) ≡ Some (upper label)
+unfolding claim_of
+upper-again label h = rw (name-again (codes "claim upper reach \"") label h) refl
+
+reach-again : (dir : Dir) (label : List ℕ) → is_name label ≡ true → claim_of (claim_text (reach dir label)) ≡ Some (reach dir label)
+unfolding claim_of claim_to
+reach-again Max label h = rw (name-again (codes "claim max reach \"") label h) refl
+reach-again Min label h = rw (name-again (codes "claim min reach \"") label h) refl
+
+reward-read : (dir : Dir) (name label : List ℕ) → is_name name ≡ true → is_name label ≡ true → reward_claim dir (claim_text (reward dir name label)) ≡ Some (reward dir name label)
+reward-read dir name label h g =
+    ap (reward_claim dir) (sym (reward-text dir name label))
+    ∙ ap (λ (o : Option (List ℕ)). option_map (λ names. reward dir names.0 names.1) (option_and_then two_names o)) (behind-again (reward_front dir) (name ++ (34 ∷ 32 ∷ 34 ∷ (label ++ 34 ∷ []))))
+    ∙ ap (option_map (λ names. reward dir names.0 names.1)) (two-again name label h g)
+
+reward-again : (dir : Dir) (name label : List ℕ) → is_name name ≡ true → is_name label ≡ true → claim_of (claim_text (reward dir name label)) ≡ Some (reward dir name label)
+unfolding claim_of claim_to
+reward-again Max name label h g = ap (λ (o : Option PlainClaim). option_or o (claim_to Min (claim_text (reward Max name label)))) (reward-read Max name label h g)
+reward-again Min name label h g = reward-read Min name label h g
+
+again : (c : PlainClaim) → are_names c ≡ true → claim_of (claim_text c) ≡ Some c
+again (upper label) h = upper-again label h
+again (reach dir label) h = reach-again dir label h
+again (reward dir name label) h = let p = and_parts (is_name name) (is_name label) h in reward-again dir name label p.0 p.1
+
+pub claim-again : (n : ℕ) (c : PlainClaim) → are_names c ≡ true → claim_at n (claim_text c) ≡ Ok c
+unfolding claim_at
+claim-again n c h = ap (or_refused Claim n) (again c h)
+
+-- ---- one line
+
+free-named : (front name : List ℕ) → Free 10 front → is_name name ≡ true → Free 10 (front ++ (name ++ 34 ∷ []))
+free-named front name f h = free-append 10 front (name ++ 34 ∷ []) f (free-append 10 name (34 ∷ []) (free-name name h) refl)
+
+free-reward : (dir : Dir) (name label : List ℕ) → is_name name ≡ true → is_name label ≡ true → Free 10 (reward_front dir ++ (name ++ (codes "\" \"" ++ (label ++ 34 ∷ []))))
+free-reward dir name label h g =
+    let rest : Free 10 (codes "\" \"" ++ (label ++ 34 ∷ [])) = free-named (codes "\" \"") label refl g in
+    free-append 10 (reward_front dir) (name ++ (codes "\" \"" ++ (label ++ 34 ∷ []))) (front dir) (free-append 10 name (codes "\" \"" ++ (label ++ 34 ∷ [])) (free-name name h) rest)
+  where
+    front : (d : Dir) → Free 10 (reward_front d)
+    front Max = refl
+    front Min = refl
+
+pub free-claim : (c : PlainClaim) → are_names c ≡ true → Free 10 (claim_text c)
+free-claim (upper label) h = free-named (codes "claim upper reach \"") label refl h
+free-claim (reach Max label) h = free-named (codes "claim max reach \"") label refl h
+free-claim (reach Min label) h = free-named (codes "claim min reach \"") label refl h
+free-claim (reward dir name label) h = let p = and_parts (is_name name) (is_name label) h in subst (Free 10) (reward-text dir name label) (free-reward dir name label p.0 p.1)

@@ -1,6 +1,8 @@
 -- What a claim shows of its words, and the words of each claim.
-use Rattle.std.proofs.Common.{◌≡◌, ℕ, ◌<◌, ◌^◌, true, eqb, ◌&&◌, List, [], ◌∷◌, length, decimal, Option, Some, None, refl, sym, ap, subst, ◌∙◌, arith}
-use Rattle.std.specs.Option.{option_and_then}
+use Rattle.std.proofs.Common.{◌≡◌, ℕ, ◌<◌, ◌≤◌, ◌^◌, Bool, true, false, cond, eqb, ◌&&◌, List, [], ◌∷◌, length, decimal, Option, Some, None, refl, sym, ap, subst, ◌∙◌, arith}
+use Rattle.std.specs.Prelude.{codes}
+use Rattle.std.specs.Str.{bytes_eq}
+use Rattle.std.specs.Option.{option_and_then, option_map}
 use Rattle.std.proofs.lemmas.Bool.{and_parts}
 use Rattle.std.proofs.lemmas.Bool.Decides.{nat_tests}
 use Rattle.mdp_math.specs.Rational.{ℚ}
@@ -10,12 +12,14 @@ use Rattle.mdp_num.specs.Equal.{eq_ℚ}
 use Rattle.mdp_num.proofs.Spellings.{sound, complete}
 use Rattle.mdp_num.proofs.Equal.{equal_decides}
 use Rattle.mdp_cert.specs.declared.error.CertKind.TheVariants.{Number}
-use Rattle.mdp_cert.specs.declared.reach_entry.ReachEntry.{ReachEntry}
+use Rattle.mdp_cert.specs.declared.policy_entry.PolicyEntry.{PolicyEntry}
 use Rattle.mdp_cert.specs.Words.{whole_of, whole_at}
 use Rattle.mdp_cert.specs.Runs.{Columns}
-use Rattle.mdp_cert.specs.Claims.{bound_columns, policy_columns, policy_parse, bound_parse, IsPolicyInWidth}
+use Rattle.mdp_cert.specs.Cert.{IsValueNarrow}
+use Rattle.mdp_cert.specs.Claims.{Value, fraction_value, reward_value, reward_parse, reward_text, reward_same, bound_columns, policy_columns, policy_parse, bound_parse, IsPolicyInWidth}
 use Rattle.mdp_cert.specs.Laws.{IsSameWords}
-use Rattle.mdp_cert.proofs.Pieces.{free-spelling}
+use Rattle.mdp_cert.proofs.Pieces.{Free, free-spelling}
+use Rattle.mdp_cert.proofs.Cuts.{bytes_same}
 use Rattle.mdp_cert.proofs.Feeds.{found_ok, whole-found, whole-again}
 use Rattle.mdp_cert.proofs.Joined.{AllFree, free-whole}
 
@@ -59,6 +63,68 @@ same-ℚ x y e = (equal_decides x y).0 e
 itself-ℚ : (x : ℚ) → eq_ℚ x x ≡ true
 itself-ℚ x = (equal_decides x x).1 refl
 
+-- ---- values of one word
+
+pub record IsValue {V : Type 0} (k : Value V) (IsInWidth : V → Type 0) : Type 0 where
+  pub found : (w : List ℕ) (x : V) → k.parse w ≡ Some x → (w ≡ k.spell x) × IsInWidth x
+  pub again : (x : V) → IsInWidth x → k.parse (k.spell x) ≡ Some x
+  pub free : (c : ℕ) (x : V) → c < 45 → IsInWidth x → Free c (k.spell x)
+  pub same : (x y : V) → k.same x y ≡ true → x ≡ y
+  pub itself : (x : V) → k.same x x ≡ true
+
+pub fraction-is_value : IsValue fraction_value IsNarrow
+fraction-is_value = record { found = sound; again = complete; free = free-spelling; same = same-ℚ; itself = itself-ℚ }
+
+pub reward-found : (w : List ℕ) (x : Option ℚ) → reward_parse w ≡ Some x → (w ≡ reward_text x) × IsValueNarrow x
+reward-found w x e = by (bytes_eq w (codes "inf")) refl (canonical_of w) refl e
+  where
+    by : (b : Bool) → bytes_eq w (codes "inf") ≡ b → (o : Option ℚ) → canonical_of w ≡ o
+        → cond b (let r : Option (Option ℚ) = Some None in r) (option_map Some o) ≡ Some x → (w ≡ reward_text x) × IsValueNarrow x
+    by true t o f e = let is : None ≡ x = cc in subst (λ (y : Option ℚ). (w ≡ reward_text y) × IsValueNarrow y) is (bytes_same w (codes "inf") t, tt)
+    by false t None f e = absurd cc
+    by false t (Some y) f e = let is : Some y ≡ x = cc in subst (λ (y : Option ℚ). (w ≡ reward_text y) × IsValueNarrow y) is (sound w y f)
+
+inf-none : canonical_of (codes "inf") ≡ None
+unfolding canonical_of
+inf-none = refl
+
+-- `inf` spells no fraction
+not-inf : (x : ℚ) → IsNarrow x → bytes_eq (spelling x) (codes "inf") ≡ false
+not-inf x h = by (bytes_eq (spelling x) (codes "inf")) refl
+  where
+    by : (b : Bool) → bytes_eq (spelling x) (codes "inf") ≡ b → b ≡ false
+    by false t = refl
+    by true t =
+        let e : None ≡ Some x = sym inf-none ∙ ap canonical_of (sym (bytes_same (spelling x) (codes "inf") t)) ∙ complete x h in
+        absurd cc
+
+pub reward-again : (x : Option ℚ) → IsValueNarrow x → reward_parse (reward_text x) ≡ Some x
+reward-again None h = refl
+reward-again (Some x) h = rw (not-inf x h, complete x h) refl
+
+pub free-reward : (c : ℕ) (x : Option ℚ) → c < 45 → IsValueNarrow x → Free c (reward_text x)
+free-reward c None lt h = free-inf
+  where
+    other : (d : ℕ) → 45 ≤ d → eqb d c ≡ false
+    other d le = grind (arith, nat_tests)
+
+    free-inf : Free c (codes "inf")
+    free-inf = rw (other 105 (omega arith), other 110 (omega arith), other 102 (omega arith)) refl
+free-reward c (Some x) lt h = free-spelling c x lt h
+
+reward-same : (x y : Option ℚ) → reward_same x y ≡ true → x ≡ y
+reward-same None None e = refl
+reward-same None (Some y) e = absurd cc
+reward-same (Some x) None e = absurd cc
+reward-same (Some x) (Some y) e = ap Some (same-ℚ x y e)
+
+reward-itself : (x : Option ℚ) → reward_same x x ≡ true
+reward-itself None = refl
+reward-itself (Some x) = itself-ℚ x
+
+pub reward-is_value : IsValue reward_value IsValueNarrow
+reward-is_value = record { found = reward-found; again = reward-again; free = free-reward; same = reward-same; itself = reward-itself }
+
 -- ---- an upper bound
 
 bound-found : (ws : List (List ℕ)) (x : ℚ) → bound_parse ws ≡ Some x → (ws ≡ spelling x ∷ []) × IsNarrow x
@@ -80,62 +146,66 @@ bound-is_columns = record {
 
 -- ---- a value, a choice and a rank
 
-abbrev policy-rank : ℚ → ℕ → ℕ → Option ReachEntry
-policy-rank value choice rank = Some (record { value = value; choice = choice; rank = rank })
-
-abbrev policy-choice : List ℕ → ℚ → ℕ → Option ReachEntry
-policy-choice r value choice = option_and_then (policy-rank value choice) (whole_of r)
-
-abbrev policy-value : List ℕ → List ℕ → ℚ → Option ReachEntry
-policy-value c r value = option_and_then (policy-choice r value) (whole_of c)
-
-policy-found : (ws : List (List ℕ)) (p : ReachEntry) → policy_parse ws ≡ Some p → (ws ≡ spelling p.value ∷ decimal p.choice ∷ decimal p.rank ∷ []) × IsPolicyInWidth p
-policy-found [] p e = absurd cc
-policy-found (v ∷ []) p e = absurd cc
-policy-found (v ∷ c ∷ []) p e = absurd cc
-policy-found (v ∷ c ∷ r ∷ w ∷ ws) p e = absurd cc
-policy-found (v ∷ c ∷ r ∷ []) p e =
-    let one = and_then-some (policy-value c r) (canonical_of v) p e in
-    let two = and_then-some (policy-choice r one.0) (whole_of c) p one.2 in
-    let three = and_then-some (policy-rank one.0 two.0) (whole_of r) p two.2 in
-    let is : (let q : ReachEntry = record { value = one.0; choice = two.0; rank = three.0 } in q) ≡ p = cc in
-    let s = sound v one.0 one.1 in
-    let t = whole-of-found c two.0 two.1 in
-    let u = whole-of-found r three.0 three.1 in
-    subst (λ (q : ReachEntry). (v ∷ c ∷ r ∷ [] ≡ spelling q.value ∷ decimal q.choice ∷ decimal q.rank ∷ []) × IsPolicyInWidth q) is (
-      rw (← s.0, ← t.0, ← u.0) refl,
-      record { value = s.1; choice = t.1; rank = u.1 },
-    )
-
-policy-again : (p : ReachEntry) → IsPolicyInWidth p → policy_parse (spelling p.value ∷ decimal p.choice ∷ decimal p.rank ∷ []) ≡ Some p
-policy-again p h = rw (complete p.value h.value, whole-of-again p.choice h.choice, whole-of-again p.rank h.rank) refl
-
 number-same : (a b : ℕ) → eqb a b ≡ true → a ≡ b
 number-same a b e = grind (arith, nat_tests)
 
 number-itself : (a : ℕ) → eqb a a ≡ true
 number-itself a = grind (arith, nat_tests)
 
-policy-same : (p q : ReachEntry) → (eq_ℚ p.value q.value && eqb p.choice q.choice && eqb p.rank q.rank) ≡ true → p ≡ q
-policy-same p q e =
-    let a = and_parts (eq_ℚ p.value q.value && eqb p.choice q.choice) (eqb p.rank q.rank) e in
-    let b = and_parts (eq_ℚ p.value q.value) (eqb p.choice q.choice) a.0 in
-    parts p.value q.value p.choice q.choice p.rank q.rank (same-ℚ _ _ b.0) (number-same _ _ b.1) (number-same _ _ a.1)
-  where
-    parts : (z y : ℚ) (c d r s : ℕ) → z ≡ y → c ≡ d → r ≡ s → (let a : ReachEntry = record { value = z; choice = c; rank = r } in a) ≡ record { value = y; choice = d; rank = s }
-    parts z y c d r s e f g = rw (e, f, g) refl
+module _ {V : Type 0} (k : Value V) (IsInWidth : V → Type 0) (is : IsValue k IsInWidth) where
+  abbrev policy-rank : V → ℕ → ℕ → Option (PolicyEntry V)
+  policy-rank value choice rank = Some (record { value = value; choice = choice; rank = rank })
 
-policy-itself : (p : ReachEntry) → (eq_ℚ p.value p.value && eqb p.choice p.choice && eqb p.rank p.rank) ≡ true
-policy-itself p = rw (itself-ℚ p.value, number-itself p.choice, number-itself p.rank) refl
+  abbrev policy-choice : List ℕ → V → ℕ → Option (PolicyEntry V)
+  policy-choice r value choice = option_and_then (policy-rank value choice) (whole_of r)
 
-pub policy-is_columns : IsColumns policy_columns IsPolicyInWidth
-policy-is_columns = record {
-  some = omega arith;
-  count = λ x. refl;
-  found = policy-found;
-  again = policy-again;
-  blanks = λ p h. (free-spelling 32 p.value (omega arith) h.value, (free-whole 32 p.choice (omega arith) h.choice, (free-whole 32 p.rank (omega arith) h.rank, tt)));
-  feeds = λ p h. (free-spelling 10 p.value (omega arith) h.value, (free-whole 10 p.choice (omega arith) h.choice, (free-whole 10 p.rank (omega arith) h.rank, tt)));
-  same = policy-same;
-  itself = policy-itself;
-}
+  abbrev policy-value : List ℕ → List ℕ → V → Option (PolicyEntry V)
+  policy-value c r value = option_and_then (policy-choice r value) (whole_of c)
+
+  policy-found : (ws : List (List ℕ)) (p : PolicyEntry V) → policy_parse k ws ≡ Some p → (ws ≡ k.spell p.value ∷ decimal p.choice ∷ decimal p.rank ∷ []) × IsPolicyInWidth IsInWidth p
+  policy-found [] p e = absurd cc
+  policy-found (v ∷ []) p e = absurd cc
+  policy-found (v ∷ c ∷ []) p e = absurd cc
+  policy-found (v ∷ c ∷ r ∷ w ∷ ws) p e = absurd cc
+  policy-found (v ∷ c ∷ r ∷ []) p e =
+      let one = and_then-some (policy-value c r) (k.parse v) p e in
+      let two = and_then-some (policy-choice r one.0) (whole_of c) p one.2 in
+      let three = and_then-some (policy-rank one.0 two.0) (whole_of r) p two.2 in
+      let same : (let q : PolicyEntry V = record { value = one.0; choice = two.0; rank = three.0 } in q) ≡ p = cc in
+      let s = is.found v one.0 one.1 in
+      let t = whole-of-found c two.0 two.1 in
+      let u = whole-of-found r three.0 three.1 in
+      subst (λ (q : PolicyEntry V). (v ∷ c ∷ r ∷ [] ≡ k.spell q.value ∷ decimal q.choice ∷ decimal q.rank ∷ []) × IsPolicyInWidth IsInWidth q) same (
+        rw (← s.0, ← t.0, ← u.0) refl,
+        record { value = s.1; choice = t.1; rank = u.1 },
+      )
+
+  policy-again : (p : PolicyEntry V) → IsPolicyInWidth IsInWidth p → policy_parse k (k.spell p.value ∷ decimal p.choice ∷ decimal p.rank ∷ []) ≡ Some p
+  policy-again p h = rw (is.again p.value h.value, whole-of-again p.choice h.choice, whole-of-again p.rank h.rank) refl
+
+  policy-same : (p q : PolicyEntry V) → (k.same p.value q.value && eqb p.choice q.choice && eqb p.rank q.rank) ≡ true → p ≡ q
+  policy-same p q e =
+      let a = and_parts (k.same p.value q.value && eqb p.choice q.choice) (eqb p.rank q.rank) e in
+      let b = and_parts (k.same p.value q.value) (eqb p.choice q.choice) a.0 in
+      parts p.value q.value p.choice q.choice p.rank q.rank (is.same _ _ b.0) (number-same _ _ b.1) (number-same _ _ a.1)
+    where
+      parts : (z y : V) (c d r s : ℕ) → z ≡ y → c ≡ d → r ≡ s → (let a : PolicyEntry V = record { value = z; choice = c; rank = r } in a) ≡ record { value = y; choice = d; rank = s }
+      parts z y c d r s e f g = rw (e, f, g) refl
+
+  policy-itself : (p : PolicyEntry V) → (k.same p.value p.value && eqb p.choice p.choice && eqb p.rank p.rank) ≡ true
+  policy-itself p = rw (is.itself p.value, number-itself p.choice, number-itself p.rank) refl
+
+  policy-free : (c : ℕ) (p : PolicyEntry V) → c < 45 → IsPolicyInWidth IsInWidth p → AllFree c (k.spell p.value ∷ decimal p.choice ∷ decimal p.rank ∷ [])
+  policy-free c p lt h = (is.free c p.value lt h.value, (free-whole c p.choice (omega arith) h.choice, (free-whole c p.rank (omega arith) h.rank, tt)))
+
+  pub policy-is_columns : IsColumns (policy_columns k) (IsPolicyInWidth IsInWidth)
+  policy-is_columns = record {
+    some = omega arith;
+    count = λ x. refl;
+    found = policy-found;
+    again = policy-again;
+    blanks = λ p h. policy-free 32 p (omega arith) h;
+    feeds = λ p h. policy-free 10 p (omega arith) h;
+    same = policy-same;
+    itself = policy-itself;
+  }

@@ -1,21 +1,24 @@
 -- Worked texts, by computation.
-use Rattle.std.proofs.Common.{◌≡◌, ℕ, List, [], ◌∷◌, ◌++◌, Ok, refl, pos}
+use Rattle.std.proofs.Common.{◌≡◌, ℕ, List, [], ◌∷◌, ◌++◌, Some, None, Ok, refl, pos}
 use Rattle.std.specs.Prelude.{codes}
 use Rattle.std.specs.Fmt.{digits}
 use Rattle.mdp_math.specs.Gcd.{gcd, gcd_with_fuel}
 use Rattle.mdp_math.specs.Rational.{ℚ, ratio}
-use Rattle.mdp_rows.specs.declared.dir.Dir.TheVariants.{Max}
+use Rattle.mdp_rows.specs.declared.dir.Dir.TheVariants.{Max, Min}
 use Rattle.mdp_num.specs.Value.{spelling}
 use Rattle.mdp_num.specs.Canonical.{canonical_of}
 use Rattle.mdp_cert.specs.declared.init.Init.{Init}
-use Rattle.mdp_cert.specs.declared.init.Init.TheVariants.{Missing, Finite}
-use Rattle.mdp_cert.specs.declared.error.CertKind.TheVariants.{Version, Claim, Number, Shape, Count, End, Run}
-use Rattle.mdp_cert.specs.Cert.{Certificate, upper, reach, bounds, policy}
+use Rattle.mdp_cert.specs.declared.init.Init.TheVariants.{Missing, Finite, Infinite}
+use Rattle.mdp_cert.specs.declared.error.CertKind.TheVariants as kind
+use Rattle.mdp_cert.specs.declared.error.CertKind.TheVariants.{Claim, Number, Shape, Count, End, Run}
+use Rattle.mdp_cert.specs.declared.version.Version.{Version}
+use Rattle.mdp_cert.specs.declared.version.Version.TheVariants.{One, Two}
+use Rattle.mdp_cert.specs.Cert.{Certificate, upper, reach, reward, bounds, policy, rewards}
 use Rattle.mdp_cert.specs.Lines.{refused, next_line}
-use Rattle.mdp_cert.specs.Words.{words_behind, whole_of, whole_at, frac_at}
+use Rattle.mdp_cert.specs.Words.{words_behind, whole_of, whole_at}
 use Rattle.mdp_cert.specs.Runs.{longest_runs}
-use Rattle.mdp_cert.specs.Spelling.{text_of, old_text_of, text_in, run_text, run_lines, line}
-use Rattle.mdp_cert.specs.Reading.{outcome, version_at, claim_of, claim_at, states_at, finite_at, valued_at, init_at, head_from}
+use Rattle.mdp_cert.specs.Spelling.{version_text, text_of, old_text_of, text_in, run_text, run_lines, line}
+use Rattle.mdp_cert.specs.Reading.{outcome, version_at, claim_to, claim_of, claim_at, states_at, given_at, valued_at, init_at, head_from}
 use Rattle.mdp_cert.specs.Reading.{entry_at, state_at, run_at, longest_at, runs_from, entries_from, entries_to_end, body_from, nothing_behind}
 
 -- ---- an upper bound of 1 at the states 0 and 1, of 0 at state 2
@@ -107,7 +110,7 @@ record Read : Type 0 where
       (record { claim = reach Max (codes "goal"); states = 2; init = Missing; body = policy (none ∷ none ∷ []) (0 ∷ 0 ∷ []) (1 ∷ 0 ∷ []) })
 
 texts-read : Read
-unfolding outcome next_line version_at whole_of whole_at frac_at claim_of claim_at words_behind states_at finite_at valued_at head_from entry_at state_at run_at longest_at
+unfolding outcome next_line version_at whole_of whole_at claim_to claim_of claim_at words_behind states_at given_at valued_at head_from entry_at state_at run_at longest_at
     runs_from entries_from entries_to_end body_from nothing_behind canonical_of ratio gcd gcd_with_fuel
 texts-read = record {
   bounds-read = refl;
@@ -139,11 +142,11 @@ record Refused : Type 0 where
   without-line-feed : outcome (half-two (codes "state 0 1/2 0 1") (codes "ended")) ≡ refused End 8
   another-end : outcome (half-two (codes "state 0 1/2 0 1") (line (codes "ended"))) ≡ refused Shape 8
   bytes-behind : outcome (half-two (codes "state 0 1/2 0 1") (line (codes "end") ++ 32 ∷ [])) ≡ refused End 9
-  another-version : outcome (half-with (codes "mdp-certificate 9") (codes "state 0 1/2 0 1") (line (codes "end"))) ≡ refused Version 1
+  another-version : outcome (half-with (codes "mdp-certificate 9") (codes "state 0 1/2 0 1") (line (codes "end"))) ≡ refused kind.Version 1
   another-state : outcome (half-two (codes "state 1 1/2 0 1") (line (codes "end"))) ≡ refused Count 5
 
 texts-refused : Refused
-unfolding outcome next_line version_at whole_of whole_at frac_at claim_of claim_at words_behind states_at finite_at valued_at head_from entry_at state_at run_at longest_at
+unfolding outcome next_line version_at whole_of whole_at claim_to claim_of claim_at words_behind states_at given_at valued_at head_from entry_at state_at run_at longest_at
     runs_from entries_from entries_to_end body_from nothing_behind canonical_of ratio gcd gcd_with_fuel
 texts-refused = record {
   shorter-runs = refl;
@@ -169,18 +172,197 @@ texts-refused = record {
 -- ---- the line `init`, for 3 states
 
 init-alone : init_at (upper (codes "goal")) 3 4 (codes "init 0") ≡ refused Shape 4
-unfolding valued_at finite_at words_behind
+unfolding valued_at given_at words_behind
 init-alone = refl
 
 init-unnamed : init_at (upper (codes "goal")) 3 4 (codes "init - 1/2") ≡ refused Number 4
-unfolding valued_at finite_at words_behind whole_at whole_of canonical_of ratio gcd gcd_with_fuel
+unfolding valued_at given_at words_behind whole_at whole_of canonical_of ratio gcd gcd_with_fuel
 init-unnamed = refl
 
 init-outside : init_at (upper (codes "goal")) 3 4 (codes "init 3 1/2") ≡ refused Count 4
-unfolding valued_at finite_at words_behind whole_at whole_of frac_at canonical_of ratio gcd gcd_with_fuel
+unfolding valued_at given_at words_behind whole_at whole_of canonical_of ratio gcd gcd_with_fuel
 init-outside = refl
 
--- a claim that isn't known
-reward : claim_at 2 (codes "claim max reward \"-\" \"goal\"") ≡ refused Claim 2
-unfolding claim_at claim_of
-reward = refl
+-- ---- rewards until a goal, from the reward model `-` until the label `goal`
+
+abbrev three : ℚ
+three = ratio (pos 3) 1
+
+abbrev four : ℚ
+four = ratio (pos 4) 1
+
+-- a text of this version and direction, with this number of states, this line `init` and these lines of states
+abbrev reward-text : Version → List ℕ → List ℕ → List ℕ → List ℕ → List ℕ
+reward-text v dir states init rest =
+    line (version_text v) ++ line (codes "claim " ++ dir ++ codes " reward \"-\" \"goal\"") ++ line (codes "states " ++ states) ++ line (codes "init " ++ init) ++ rest ++ line (codes "end")
+
+-- state 0 pays 3 on its way to the goal 1
+abbrev least-of-two : Certificate
+least-of-two = record {
+  claim = reward Min (codes "-") (codes "goal");
+  states = 2;
+  init = Finite 0 three;
+  body = rewards (Some three ∷ Some none ∷ []) (1 ∷ 0 ∷ []) (1 ∷ 0 ∷ []);
+}
+
+abbrev least-lines : Version → List ℕ
+least-lines v = reward-text v (codes "min") (codes "2") (codes "0 3") (line (codes "state 0 3 1 1") ++ line (codes "state 1 0 0 0"))
+
+-- and its greatest reward is infinite
+abbrev greatest-of-two : Certificate
+greatest-of-two = record {
+  claim = reward Max (codes "-") (codes "goal");
+  states = 2;
+  init = Infinite 0;
+  body = rewards (None ∷ Some none ∷ []) (0 ∷ 0 ∷ []) (0 ∷ 0 ∷ []);
+}
+
+abbrev greatest-lines : Version → List ℕ
+greatest-lines v = reward-text v (codes "max") (codes "2") (codes "0 inf") (line (codes "state 0 inf 0 0") ++ line (codes "state 1 0 0 0"))
+
+-- a state of infinite value behind a finite one
+abbrev least-of-three : Certificate
+least-of-three = record {
+  claim = reward Min (codes "-") (codes "goal");
+  states = 3;
+  init = Finite 0 four;
+  body = rewards (Some four ∷ None ∷ Some none ∷ []) (1 ∷ 0 ∷ 0 ∷ []) (1 ∷ 1 ∷ 0 ∷ []);
+}
+
+abbrev least-three-lines : Version → List ℕ
+least-three-lines v = reward-text v (codes "min") (codes "3") (codes "0 4") (line (codes "state 0 4 1 1") ++ line (codes "state 1 inf 0 1") ++ line (codes "state 2 0 0 0"))
+
+-- states of infinite value that say the same are one run
+abbrev infinite-of-three : Certificate
+infinite-of-three = record {
+  claim = reward Max (codes "-") (codes "goal");
+  states = 3;
+  init = Infinite 1;
+  body = rewards (None ∷ None ∷ Some none ∷ []) (0 ∷ 0 ∷ 0 ∷ []) (0 ∷ 0 ∷ 0 ∷ []);
+}
+
+abbrev infinite-three : Version → List ℕ → List ℕ
+infinite-three v rest = reward-text v (codes "max") (codes "3") (codes "1 inf") (rest ++ line (codes "state 2 0 0 0"))
+
+abbrev infinite-run : List ℕ
+infinite-run = line (codes "run 0 1 inf 0 0")
+
+abbrev infinite-states : List ℕ
+infinite-states = line (codes "state 0 inf 0 0") ++ line (codes "state 1 inf 0 0")
+
+record RewardsWritten : Type 0 where
+  least-two : text_of least-of-two ≡ least-lines Two
+  least-two_old : old_text_of least-of-two ≡ least-lines One
+  greatest-two : text_of greatest-of-two ≡ greatest-lines Two
+  greatest-two_old : old_text_of greatest-of-two ≡ greatest-lines One
+  least-three : text_of least-of-three ≡ least-three-lines Two
+  least-three_old : old_text_of least-of-three ≡ least-three-lines One
+  infinite : text_of infinite-of-three ≡ infinite-three Two infinite-run
+  infinite-old : old_text_of infinite-of-three ≡ infinite-three One infinite-states
+
+rewards-written : RewardsWritten
+unfolding text_in run_text run_lines longest_runs spelling ratio gcd gcd_with_fuel digits
+rewards-written = record {
+  least-two = refl;
+  least-two_old = refl;
+  greatest-two = refl;
+  greatest-two_old = refl;
+  least-three = refl;
+  least-three_old = refl;
+  infinite = refl;
+  infinite-old = refl;
+}
+
+-- a text of two states with these lines `init` and of state 0
+abbrev greatest-with : List ℕ → List ℕ → List ℕ
+greatest-with init state-0 = reward-text Two (codes "max") (codes "2") init (line state-0 ++ line (codes "state 1 0 0 0"))
+
+-- and one for the claim `max reach`
+abbrev reach-with : List ℕ → List ℕ → List ℕ
+reach-with init state-0 =
+    line (codes "mdp-certificate 2") ++ line (codes "claim max reach \"goal\"") ++ line (codes "states 2") ++ line (codes "init " ++ init) ++ line state-0 ++ line (codes "state 1 1 0 0")
+    ++ line (codes "end")
+
+record RewardsRead : Type 0 where
+  least-two : outcome (least-lines Two) ≡ Ok least-of-two
+  least-two_old : outcome (least-lines One) ≡ Ok least-of-two
+  greatest-two : outcome (greatest-lines Two) ≡ Ok greatest-of-two
+  greatest-two_old : outcome (greatest-lines One) ≡ Ok greatest-of-two
+  least-three : outcome (least-three-lines Two) ≡ Ok least-of-three
+  least-three_old : outcome (least-three-lines One) ≡ Ok least-of-three
+  infinite : outcome (infinite-three Two infinite-run) ≡ Ok infinite-of-three
+  infinite-old : outcome (infinite-three One infinite-states) ≡ Ok infinite-of-three
+  no-init : outcome (greatest-with (codes "-") (codes "state 0 inf 0 0"))
+      ≡ Ok (record { claim = reward Max (codes "-") (codes "goal"); states = 2; init = Missing; body = rewards (None ∷ Some none ∷ []) (0 ∷ 0 ∷ []) (0 ∷ 0 ∷ []) })
+  -- refused
+  run-of-infinite : outcome (infinite-three Two infinite-states) ≡ refused Run 6
+  run-in-one : outcome (infinite-three One infinite-run) ≡ refused Shape 5
+  another-word : outcome (greatest-with (codes "0 inf") (codes "state 0 Inf 0 0")) ≡ refused Number 5
+  below-zero : outcome (greatest-with (codes "0 inf") (codes "state 0 -inf 0 0")) ≡ refused Number 5
+  without-rank : outcome (greatest-with (codes "0 inf") (codes "state 0 inf 0")) ≡ refused Shape 5
+  infinite-choice : outcome (greatest-with (codes "0 inf") (codes "state 0 inf inf 0")) ≡ refused Number 5
+  another-init : outcome (greatest-with (codes "0 infinite") (codes "state 0 inf 0 0")) ≡ refused Number 4
+  init-outside : outcome (greatest-with (codes "2 inf") (codes "state 0 inf 0 0")) ≡ refused Count 4
+  init-alone : outcome (greatest-with (codes "inf") (codes "state 0 inf 0 0")) ≡ refused Shape 4
+  init-unnamed : outcome (greatest-with (codes "- inf") (codes "state 0 inf 0 0")) ≡ refused Number 4
+  -- a probability isn't infinite
+  reach-init : outcome (reach-with (codes "0 inf") (codes "state 0 1 0 1")) ≡ refused Number 4
+  reach-state : outcome (reach-with (codes "0 1") (codes "state 0 inf 0 1")) ≡ refused Number 5
+
+rewards-read : RewardsRead
+unfolding outcome next_line version_at whole_of whole_at claim_to claim_of claim_at words_behind states_at given_at valued_at head_from entry_at state_at run_at longest_at
+    runs_from entries_from entries_to_end body_from nothing_behind canonical_of ratio gcd gcd_with_fuel
+rewards-read = record {
+  least-two = refl;
+  least-two_old = refl;
+  greatest-two = refl;
+  greatest-two_old = refl;
+  least-three = refl;
+  least-three_old = refl;
+  infinite = refl;
+  infinite-old = refl;
+  no-init = refl;
+  run-of-infinite = refl;
+  run-in-one = refl;
+  another-word = refl;
+  below-zero = refl;
+  without-rank = refl;
+  infinite-choice = refl;
+  another-init = refl;
+  init-outside = refl;
+  init-alone = refl;
+  init-unnamed = refl;
+  reach-init = refl;
+  reach-state = refl;
+}
+
+-- ---- the line of a claim
+
+record Claims : Type 0 where
+  both-names : claim_at 2 (codes "claim min reward \"my costs\" \"is done\"") ≡ Ok (reward Min (codes "my costs") (codes "is done"))
+  -- refused
+  label-missing : claim_at 2 (codes "claim max reward \"-\"") ≡ refused Claim 2
+  no-blank : claim_at 2 (codes "claim max reward \"-\"\"goal\"") ≡ refused Claim 2
+  two-blanks : claim_at 2 (codes "claim max reward \"-\"  \"goal\"") ≡ refused Claim 2
+  no-name : claim_at 2 (codes "claim max reward \"\" \"goal\"") ≡ refused Claim 2
+  quote-in_name : claim_at 2 (codes "claim max reward \"a\"b\" \"goal\"") ≡ refused Claim 2
+  three-names : claim_at 2 (codes "claim max reward \"a\" \"b\" \"goal\"") ≡ refused Claim 2
+  open-label : claim_at 2 (codes "claim max reward \"-\" \"goal") ≡ refused Claim 2
+  upper-reward : claim_at 2 (codes "claim upper reward \"-\" \"goal\"") ≡ refused Claim 2
+  -- a claim that isn't known
+  unknown : claim_at 2 (codes "claim max mean \"-\"") ≡ refused Claim 2
+
+claims-read : Claims
+unfolding claim_at claim_of claim_to
+claims-read = record {
+  both-names = refl;
+  label-missing = refl;
+  no-blank = refl;
+  two-blanks = refl;
+  no-name = refl;
+  quote-in_name = refl;
+  three-names = refl;
+  open-label = refl;
+  upper-reward = refl;
+  unknown = refl;
+}

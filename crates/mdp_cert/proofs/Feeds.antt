@@ -45,27 +45,31 @@ found_ok (Some y) kind n x e = cc
 line-rest : (text rest : List ℕ) → line text ++ rest ≡ text ++ 10 ∷ rest
 line-rest text rest = append_assoc text (10 ∷ []) rest
 
-feed-after : (text rest : List ℕ) → Free 10 text → position_or_len is_line_feed (text ++ 10 ∷ rest) ≡ length text
-feed-after [] rest h = refl
-feed-after (x ∷ text) rest h = by (eqb x 10) refl (λ free. feed-after text rest free)
+-- the first place of a byte that no byte before it is
+pub byte-after : (c : ℕ) (text rest : List ℕ) → Free c text → position_or_len (λ x. eqb x c) (text ++ c ∷ rest) ≡ length text
+byte-after c [] rest h = rw (itself c) refl
   where
-    first-true : (a c : Bool) → a ≡ true → (a || c) ≡ false → true ≡ false
-    first-true true c p q = q
-    first-true false c p q = absurd cc
+    itself : (a : ℕ) → eqb a a ≡ true
+    itself a = grind (arith, nat_tests)
+byte-after c (x ∷ text) rest h = by (eqb x c) refl (λ free. byte-after c text rest free)
+  where
+    first-true : (a b : Bool) → a ≡ true → (a || b) ≡ false → true ≡ false
+    first-true true b p q = q
+    first-true false b p q = absurd cc
 
-    second : (a c : Bool) → a ≡ false → (a || c) ≡ false → c ≡ false
-    second false c p q = q
-    second true c p q = absurd cc
+    second : (a b : Bool) → a ≡ false → (a || b) ≡ false → b ≡ false
+    second false b p q = q
+    second true b p q = absurd cc
 
-    by : (b : Bool) → eqb x 10 ≡ b → (Free 10 text → position_or_len is_line_feed (text ++ 10 ∷ rest) ≡ length text)
-        → cond (not (eqb x 10)) (1 + position_or_len is_line_feed (text ++ 10 ∷ rest)) 0 ≡ length (x ∷ text)
-    by true e more = absurd (let t : true ≡ false = first-true (eqb x 10) _ e h in cc)
-    by false e more = rw (e, more (second (eqb x 10) _ e h)) (omega arith)
+    by : (b : Bool) → eqb x c ≡ b → (Free c text → position_or_len (λ x. eqb x c) (text ++ c ∷ rest) ≡ length text)
+        → cond (not (eqb x c)) (1 + position_or_len (λ x. eqb x c) (text ++ c ∷ rest)) 0 ≡ length (x ∷ text)
+    by true e more = absurd (let t : true ≡ false = first-true (eqb x c) _ e h in cc)
+    by false e more = rw (e, more (second (eqb x c) _ e h)) (omega arith)
 
 pub line-again : (n : ℕ) (text rest : List ℕ) → Free 10 text → next_line (place n (line text ++ rest)) ≡ Ok (text, place (n + 1) rest)
 unfolding next_line
 line-again n text rest h =
-    let at = feed-after text rest h in
+    let at = byte-after 10 text rest h in
     let more : ltb (length text) (length (text ++ 10 ∷ rest)) ≡ true =
     (let e = length-append text (10 ∷ rest) in let lt : length text < length (text ++ 10 ∷ rest) = omega arith in grind (arith, nat_tests)) in
     let front : take (length text) (text ++ 10 ∷ rest) ≡ text = take-append_seam text (10 ∷ rest) in

@@ -11,17 +11,17 @@ use Rattle.mdp_cert.specs.declared.error.CertKind.{CertKind}
 use Rattle.mdp_cert.specs.declared.error.CertKind.TheVariants as kind
 use Rattle.mdp_cert.specs.declared.error.Refusal.{Refusal}
 use Rattle.mdp_cert.specs.declared.init.Init.{Init}
-use Rattle.mdp_cert.specs.declared.init.Init.TheVariants.{Missing, Finite}
+use Rattle.mdp_cert.specs.declared.init.Init.TheVariants.{Missing}
 use Rattle.mdp_cert.specs.declared.version.Version.{Version}
 use Rattle.mdp_cert.specs.declared.version.Version.TheVariants.{One, Two}
-use Rattle.mdp_cert.specs.Cert.{PlainClaim, upper, reach, PlainBody, bounds, Certificate}
+use Rattle.mdp_cert.specs.Cert.{PlainClaim, upper, reach, reward, may_be_infinite, PlainBody, bounds, Certificate}
 use Rattle.mdp_cert.specs.Lines.{◌>>=◌, refuse_if, or_refused, is_line, is_line_feed, Place, place, next_line, line_by}
-use Rattle.mdp_cert.specs.Words.{words, first_of, begins_with, words_behind, whole_of, whole_at, frac_at}
+use Rattle.mdp_cert.specs.Words.{words, first_of, begins_with, words_behind, whole_of, whole_at}
 use Rattle.mdp_cert.specs.Runs.{Columns, run, single, entries_of}
-use Rattle.mdp_cert.specs.Claims.{bound_columns, policy_columns}
+use Rattle.mdp_cert.specs.Claims.{fraction_value, reward_value, bound_columns, policy_columns}
 use Rattle.mdp_cert.specs.Spelling.{line, version_text, end_text}
-use Rattle.mdp_cert.specs.Reading.{version_at, claim_of, claim_at, states_at, finite_at, valued_at, init_at, Head, head_from, entry_at, state_at, run_at}
-use Rattle.mdp_cert.specs.Reading.{is_same, line_of_states, longest_at, run_in, onto_run, runs_from, entries_from, entries_to_end, policy_body, body_from, nothing_behind, outcome}
+use Rattle.mdp_cert.specs.Reading.{version_at, claim_of, claim_at, states_at, init_parse, init_of, given_at, valued_at, init_at, Head, head_from, entry_at, state_at, run_at}
+use Rattle.mdp_cert.specs.Reading.{is_same, line_of_states, longest_at, run_in, onto_run, runs_from, entries_from, entries_to_end, policy_body, reward_body, body_from, nothing_behind, outcome}
 use Rattle.mdp_cert.specs.Laws.{first_lines, LacksAtMost}
 use Rattle.mdp_cert.proofs.Cuts.{guard_ok}
 use Rattle.mdp_cert.proofs.Feeds.{bind_ok, ok-is, line-found, line-again}
@@ -237,10 +237,6 @@ whole-judges : (n : ℕ) (word : List ℕ) → Judges n (whole_at n word)
 unfolding whole_at
 whole-judges n word = or-judges kind.Number n (whole_of word)
 
-frac-judges : (n : ℕ) (word : List ℕ) → Judges n (frac_at n word)
-unfolding frac_at
-frac-judges n word = or-judges kind.Number n (canonical_of word)
-
 version-judges : (n : ℕ) (text : List ℕ) → Judges n (version_at n text)
 unfolding version_at
 version-judges n text = by (bytes_eq text (version_text One)) (bytes_eq text (version_text Two))
@@ -260,25 +256,21 @@ states-judges n text =
     then-judges n (whole_at n (first_of behind)) (states-range n) (whole-judges n (first_of behind)) (λ states.
     then-judges n (refuse_if kind.Count n ((eqb states 0) || ltb (2 ^ 20) states)) (λ range. Ok states) (refuse-judges kind.Count n _) (λ range. ok-judges n states)))
 
-finite-judges : (states n : ℕ) (text : List ℕ) → Judges n (finite_at states n text)
-unfolding finite_at
-finite-judges states n text =
-    then-judges n (words_behind (codes "init") 2 n text) (init-state states n) (behind-judges (codes "init") 2 n text) (λ behind.
-    then-judges n (whole_at n (first_of behind)) (init-value states n behind) (whole-judges n (first_of behind)) (λ state.
-    then-judges n (frac_at n (first_of (drop 1 behind))) (init-inside states n state) (frac-judges n (first_of (drop 1 behind))) (λ value.
-    then-judges n (refuse_if kind.Count n (not (ltb state states))) (λ inside. Ok (Finite state value)) (refuse-judges kind.Count n _) (λ inside. ok-judges n (Finite state value)))))
-
-valued-judges : (states n : ℕ) (text : List ℕ) → Judges n (valued_at states n text)
-unfolding valued_at
-valued-judges states n text = by (bytes_eq text (codes "init -"))
-  where
-    by : (b : Bool) → Judges n (let q : Result Init Refusal = cond b (Ok Missing) (finite_at states n text) in q)
-    by true = ok-judges n Missing
-    by false = finite-judges states n text
+given-judges : (infinite : Bool) (states n : ℕ) (text : List ℕ) → Judges n (given_at infinite states n text)
+unfolding given_at
+given-judges infinite states n text =
+    then-judges n (words_behind (codes "init") 2 n text) (init-state infinite states n) (behind-judges (codes "init") 2 n text) (λ behind.
+    then-judges n (whole_at n (first_of behind)) (init-value infinite states n behind) (whole-judges n (first_of behind)) (λ state.
+    then-judges n (or_refused kind.Number n (init_parse infinite (first_of (drop 1 behind)))) (init-inside states n state) (or-judges kind.Number n _) (λ value.
+    then-judges n (refuse_if kind.Count n (not (ltb state states))) (λ inside. Ok (init_of state value)) (refuse-judges kind.Count n _) (λ inside. ok-judges n (init_of state value)))))
 
 init-judges : (claim : PlainClaim) (states n : ℕ) (text : List ℕ) → Judges n (init_at claim states n text)
-init-judges (upper label) states n text = valued-judges states n text
-init-judges (reach dir label) states n text = valued-judges states n text
+unfolding valued_at
+init-judges claim states n text = by (bytes_eq text (codes "init -"))
+  where
+    by : (b : Bool) → Judges n (let q : Result Init Refusal = cond b (Ok Missing) (given_at (may_be_infinite claim) states n text) in q)
+    by true = ok-judges n Missing
+    by false = given-judges (may_be_infinite claim) states n text
 
 -- ---- the lines of states
 
@@ -351,7 +343,8 @@ head-cuts =
 body-cuts : (v : Version) (claim : PlainClaim) (states : ℕ) → Cuts (body_from v claim states)
 unfolding body_from
 body-cuts v (upper label) states = mapped (entries_to_end v bound_columns states) bounds (closed-cuts bound_columns states v)
-body-cuts v (reach dir label) states = mapped (entries_to_end v policy_columns states) policy_body (closed-cuts policy_columns states v)
+body-cuts v (reach dir label) states = mapped (entries_to_end v (policy_columns fraction_value) states) policy_body (closed-cuts (policy_columns fraction_value) states v)
+body-cuts v (reward dir name label) states = mapped (entries_to_end v (policy_columns reward_value) states) reward_body (closed-cuts (policy_columns reward_value) states v)
 
 -- all lines
 abbrev top-body : Version → Head × Place → Result (Certificate × Place) Refusal

@@ -1,12 +1,12 @@
 -- A text that grows line by line.
-use Rattle.std.proofs.Common.{◌≡◌, ℕ, suc, ◌+◌, ◌-◌, ◌<◌, ◌≤◌, List, [], ◌∷◌, ◌++◌, length, take, drop, get_or, refl, sym, ap, ◌∙◌, append_assoc, arith, true, eqb, ◌&&◌}
+use Rattle.std.proofs.Common.{◌≡◌, ℕ, suc, ◌+◌, ◌-◌, ◌<◌, ◌≤◌, List, [], ◌∷◌, ◌++◌, length, take, drop, get_or, refl, sym, ap, ◌∙◌, append_assoc, arith, true, eqb, ◌&&◌, Option}
 use Rattle.std.proofs.Math.Seq.{drop-cons, take-append_seam}
 use Rattle.std.proofs.lemmas.List.{take-append-drop, drop_all, drop-drop, length-drop}
 use Rattle.std.proofs.lemmas.Bool.{and_parts}
 use Rattle.mdp_math.specs.Rational.{ℚ}
 use Rattle.mdp_cert.specs.declared.version.Version.{Version}
 use Rattle.mdp_cert.specs.declared.version.Version.TheVariants.{One, Two}
-use Rattle.mdp_cert.specs.Cert.{PlainClaim, upper, reach, bounds, policy, is_body_of}
+use Rattle.mdp_cert.specs.Cert.{PlainClaim, upper, reach, reward, bounds, policy, rewards, is_body_of}
 use Rattle.mdp_cert.specs.Runs.{Columns, run, longest_runs, runs_in}
 use Rattle.mdp_cert.specs.Spelling.{line, run_text, run_lines}
 use Rattle.mdp_cert.specs.Answer.{Keeps, more_in}
@@ -83,15 +83,26 @@ module _ {A : Type 0} (k : Columns A) (v : Version) where
 pub bounds-entries : (claim : PlainClaim) (states : ℕ) (zs : List ℚ) → is_body_of claim states (bounds zs) ≡ true → length zs ≡ states
 bounds-entries (upper label) states zs e = number-same _ states e
 bounds-entries (reach dir label) states zs e = absurd cc
+bounds-entries (reward dir name label) states zs e = absurd cc
 
-pub record Entries (states : ℕ) (zs : List ℚ) (cs rs : List ℕ) : Type 0 where
+-- as many values, choices and ranks as states
+pub record Entries {V : Type 0} (states : ℕ) (zs : List V) (cs rs : List ℕ) : Type 0 where
   pub values : length zs ≡ states
   pub choices : length cs ≡ states
   pub ranks : length rs ≡ states
 
-pub policy-entries : (claim : PlainClaim) (states : ℕ) (zs : List ℚ) (cs rs : List ℕ) → is_body_of claim states (policy zs cs rs) ≡ true → Entries states zs cs rs
-policy-entries (upper label) states zs cs rs e = absurd cc
-policy-entries (reach dir label) states zs cs rs e =
+pub three-entries : {V : Type 0} (states : ℕ) (zs : List V) (cs rs : List ℕ) → (eqb (length zs) states && eqb (length cs) states && eqb (length rs) states) ≡ true → Entries states zs cs rs
+three-entries states zs cs rs e =
     let t = and_parts (eqb (length zs) states && eqb (length cs) states) (eqb (length rs) states) e in
     let u = and_parts (eqb (length zs) states) (eqb (length cs) states) t.0 in
     record { values = number-same _ states u.0; choices = number-same _ states u.1; ranks = number-same _ states t.1 }
+
+pub policy-entries : (claim : PlainClaim) (states : ℕ) (zs : List ℚ) (cs rs : List ℕ) → is_body_of claim states (policy zs cs rs) ≡ true → Entries states zs cs rs
+policy-entries (upper label) states zs cs rs e = absurd cc
+policy-entries (reach dir label) states zs cs rs e = three-entries states zs cs rs e
+policy-entries (reward dir name label) states zs cs rs e = absurd cc
+
+pub reward-entries : (claim : PlainClaim) (states : ℕ) (vs : List (Option ℚ)) (cs rs : List ℕ) → is_body_of claim states (rewards vs cs rs) ≡ true → Entries states vs cs rs
+reward-entries (upper label) states vs cs rs e = absurd cc
+reward-entries (reach dir label) states vs cs rs e = absurd cc
+reward-entries (reward dir name label) states vs cs rs e = three-entries states vs cs rs e

@@ -1,27 +1,32 @@
 -- The lines of the version, of the number of states and of the initial state are read exactly where they are their texts.
-use Rattle.std.proofs.Common.{◌≡◌, ℕ, ◌<◌, ◌≤◌, ◌^◌, Bool, true, false, not, cond, eqb, ltb, ◌||◌, List, [], ◌∷◌, length, drop, decimal, Result, Ok, Err, refl, ap, ap₂, subst, ◌∙◌, arith}
+use Rattle.std.proofs.Common.{◌≡◌, ℕ, ◌<◌, ◌≤◌, ◌^◌, Bool, true, false, not, cond, eqb, ltb, ◌||◌, List, [], ◌∷◌, length, drop, decimal}
+use Rattle.std.proofs.Common.{Option, Some, None, Result, Ok, Err, refl, ap, ap₂, subst, ◌∙◌, arith}
 use Rattle.std.specs.Prelude.{codes}
 use Rattle.std.specs.List.{join_with_byte}
+use Rattle.std.specs.Option.{option_map}
 use Rattle.std.specs.Str.{bytes_eq}
-use Rattle.std.proofs.lemmas.Bool.{not-false}
+use Rattle.std.proofs.lemmas.Bool.{not-false, and_parts}
 use Rattle.std.proofs.lemmas.Bool.Decides.{nat_tests}
 use Rattle.mdp_math.specs.Rational.{ℚ}
-use Rattle.mdp_num.specs.Value.{spelling, IsNarrow}
-use Rattle.mdp_cert.specs.declared.error.CertKind.TheVariants.{Version, Count}
+use Rattle.mdp_num.specs.Canonical.{canonical_of}
+use Rattle.mdp_num.proofs.Spellings.{sound, complete}
+use Rattle.mdp_cert.specs.declared.error.CertKind.TheVariants.{Version, Number, Count}
 use Rattle.mdp_cert.specs.declared.error.Refusal.{Refusal}
 use Rattle.mdp_cert.specs.declared.init.Init.{Init}
-use Rattle.mdp_cert.specs.declared.init.Init.TheVariants.{Missing, Finite}
+use Rattle.mdp_cert.specs.declared.init.Init.TheVariants.{Missing, Finite, Infinite}
 use Rattle.mdp_cert.specs.declared.version.Version as version
 use Rattle.mdp_cert.specs.declared.version.Version.TheVariants.{One, Two}
-use Rattle.mdp_cert.specs.Cert.{PlainClaim, upper, reach, is_inside, IsInitInWidth}
-use Rattle.mdp_cert.specs.Lines.{◌>>=◌, refuse_if}
-use Rattle.mdp_cert.specs.Words.{first_of, words_behind, whole_at, frac_at}
+use Rattle.mdp_cert.specs.Cert.{PlainClaim, may_be_infinite, is_init_of, IsInitInWidth, IsValueNarrow}
+use Rattle.mdp_cert.specs.Claims.{reward_text}
+use Rattle.mdp_cert.specs.Lines.{◌>>=◌, refuse_if, or_refused}
+use Rattle.mdp_cert.specs.Words.{first_of, words_behind, whole_at}
 use Rattle.mdp_cert.specs.Spelling.{◌␣◌, version_text, states_text, init_text}
-use Rattle.mdp_cert.specs.Reading.{version_at, states_at, finite_at, valued_at, init_at}
-use Rattle.mdp_cert.proofs.Pieces.{Free, free-spelling, decimal-some}
+use Rattle.mdp_cert.specs.Reading.{version_at, states_at, init_parse, init_of, given_at, valued_at, init_at}
+use Rattle.mdp_cert.proofs.Pieces.{Free, decimal-some}
 use Rattle.mdp_cert.proofs.Cuts.{bytes_same}
-use Rattle.mdp_cert.proofs.Feeds.{bind_ok, ok-is, refuse_ok, whole-found, whole-again, frac-found, frac-again}
+use Rattle.mdp_cert.proofs.Feeds.{bind_ok, ok-is, refuse_ok, found_ok, whole-found, whole-again}
 use Rattle.mdp_cert.proofs.Joined.{free-join, free-whole, behind-again, behind-text}
+use Rattle.mdp_cert.proofs.Columns.{reward-found, reward-again, free-reward}
 
 -- ---- the version
 
@@ -90,14 +95,14 @@ free-states states h = free-join 10 (codes "states" ∷ decimal states ∷ []) r
 
 -- ---- the initial state
 
-abbrev pub init-inside : ℕ → ℕ → ℕ → ℚ → Result Init Refusal
-init-inside states n state value = refuse_if Count n (not (ltb state states)) >>= λ inside. Ok (Finite state value)
+abbrev pub init-inside : ℕ → ℕ → ℕ → Option ℚ → Result Init Refusal
+init-inside states n state value = refuse_if Count n (not (ltb state states)) >>= λ inside. Ok (init_of state value)
 
-abbrev pub init-value : ℕ → ℕ → List (List ℕ) → ℕ → Result Init Refusal
-init-value states n behind state = frac_at n (first_of (drop 1 behind)) >>= init-inside states n state
+abbrev pub init-value : Bool → ℕ → ℕ → List (List ℕ) → ℕ → Result Init Refusal
+init-value infinite states n behind state = or_refused Number n (init_parse infinite (first_of (drop 1 behind))) >>= init-inside states n state
 
-abbrev pub init-state : ℕ → ℕ → List (List ℕ) → Result Init Refusal
-init-state states n behind = whole_at n (first_of behind) >>= init-value states n behind
+abbrev pub init-state : Bool → ℕ → ℕ → List (List ℕ) → Result Init Refusal
+init-state infinite states n behind = whole_at n (first_of behind) >>= init-value infinite states n behind
 
 two-words : (ws : List (List ℕ)) → length ws ≡ 2 → ws ≡ first_of ws ∷ first_of (drop 1 ws) ∷ []
 two-words [] e = absurd (omega arith)
@@ -105,72 +110,127 @@ two-words (w ∷ []) e = absurd (omega arith)
 two-words (w ∷ v ∷ []) e = refl
 two-words (w ∷ v ∷ u ∷ ws) e = absurd (omega arith)
 
-finite-found : (states n : ℕ) (text : List ℕ) (init : Init) → finite_at states n text ≡ Ok init → (text ≡ init_text init) × (is_inside states init ≡ true) × IsInitInWidth init
-unfolding finite_at
-finite-found states n text init e =
-    let one = bind_ok (words_behind (codes "init") 2 n text) (init-state states n) init e in
-    let two = bind_ok (whole_at n (first_of one.0)) (init-value states n one.0) init one.2 in
-    let three = bind_ok (frac_at n (first_of (drop 1 one.0))) (init-inside states n two.0) init two.2 in
-    let four = bind_ok (refuse_if Count n (not (ltb two.0 states))) (λ inside. Ok (Finite two.0 three.0)) init three.2 in
-    let is : Finite two.0 three.0 ≡ init = ok-is _ _ four.2 in
+-- an infinite value stands only where there are some
+abbrev IsAllowed : Bool → Option ℚ → Type 0
+IsAllowed infinite None = infinite ≡ true
+IsAllowed infinite (Some x) = Unit {0}
+
+parse-found : (infinite : Bool) (w : List ℕ) (v : Option ℚ) → init_parse infinite w ≡ Some v → (w ≡ reward_text v) × IsValueNarrow v × IsAllowed infinite v
+parse-found true w v e = let f = reward-found w v e in (f.0, f.1, allowed v)
+  where
+    allowed : (x : Option ℚ) → IsAllowed true x
+    allowed None = refl
+    allowed (Some x) = tt
+parse-found false w v e = by (canonical_of w) refl e
+  where
+    by : (o : Option ℚ) → canonical_of w ≡ o → option_map Some o ≡ Some v → (w ≡ reward_text v) × IsValueNarrow v × IsAllowed false v
+    by None f e = absurd cc
+    by (Some x) f e =
+        let is : Some x ≡ v = cc in
+        let s = sound w x f in
+        subst (λ (y : Option ℚ). (w ≡ reward_text y) × IsValueNarrow y × IsAllowed false y) is (s.0, s.1, tt)
+
+parse-again : (infinite : Bool) (v : Option ℚ) → IsValueNarrow v → IsAllowed infinite v → init_parse infinite (reward_text v) ≡ Some v
+parse-again true v h allowed = reward-again v h
+parse-again false None h allowed = absurd cc
+parse-again false (Some x) h allowed = ap (option_map Some) (complete x h)
+
+-- ---- a state and its value
+
+init-text : (state : ℕ) (v : Option ℚ) → codes "init" ␣ decimal state ␣ reward_text v ≡ init_text (init_of state v)
+init-text state None = refl
+init-text state (Some x) = refl
+
+init-inside_of : (claim : PlainClaim) (states state : ℕ) (v : Option ℚ) → IsAllowed (may_be_infinite claim) v → ltb state states ≡ true → is_init_of claim states (init_of state v) ≡ true
+init-inside_of claim states state None allowed lt = rw (allowed, lt) refl
+init-inside_of claim states state (Some x) allowed lt = lt
+
+init-narrow : (state : ℕ) (v : Option ℚ) → IsValueNarrow v → IsInitInWidth (init_of state v)
+init-narrow state None h = tt
+init-narrow state (Some x) h = h
+
+given-found : (claim : PlainClaim) (states n : ℕ) (text : List ℕ) (init : Init) → given_at (may_be_infinite claim) states n text ≡ Ok init
+    → (text ≡ init_text init) × (is_init_of claim states init ≡ true) × IsInitInWidth init
+unfolding given_at
+given-found claim states n text init e =
+    let infinite = may_be_infinite claim in
+    let one = bind_ok (words_behind (codes "init") 2 n text) (init-state infinite states n) init e in
+    let two = bind_ok (whole_at n (first_of one.0)) (init-value infinite states n one.0) init one.2 in
+    let three = bind_ok (or_refused Number n (init_parse infinite (first_of (drop 1 one.0)))) (init-inside states n two.0) init two.2 in
+    let four = bind_ok (refuse_if Count n (not (ltb two.0 states))) (λ inside. Ok (init_of two.0 three.0)) init three.2 in
+    let is : init_of two.0 three.0 ≡ init = ok-is _ _ four.2 in
     let inside : ltb two.0 states ≡ true = not-false _ (refuse_ok _ Count n four.0 four.1) in
     let word = whole-found n (first_of one.0) two.0 two.1 in
-    let value = frac-found n (first_of (drop 1 one.0)) three.0 three.1 in
+    let value = parse-found infinite (first_of (drop 1 one.0)) three.0 (found_ok (init_parse infinite (first_of (drop 1 one.0))) Number n three.0 three.1) in
     let t = behind-text (codes "init") 2 n text one.0 one.1 in
-    subst (λ (i : Init). (text ≡ init_text i) × (is_inside states i ≡ true) × IsInitInWidth i) is (
-      t.0 ∙ ap (λ (ws : List (List ℕ)). join_with_byte 32 (codes "init" ∷ ws)) (two-words one.0 t.1) ∙ ap₂ (λ (v w : List ℕ). codes "init" ␣ v ␣ w) word.0 value.0,
-      inside,
-      value.1,
+    subst (λ (i : Init). (text ≡ init_text i) × (is_init_of claim states i ≡ true) × IsInitInWidth i) is (
+      t.0
+          ∙ ap (λ (ws : List (List ℕ)). join_with_byte 32 (codes "init" ∷ ws)) (two-words one.0 t.1)
+          ∙ ap₂ (λ (v w : List ℕ). codes "init" ␣ v ␣ w) word.0 value.0
+          ∙ init-text two.0 three.0,
+      init-inside_of claim states two.0 three.0 value.2 inside,
+      init-narrow two.0 three.0 value.1,
     )
 
-finite-again : (states n state : ℕ) (value : ℚ) → state < states → states ≤ 2 ^ 20 → IsNarrow value → finite_at states n (init_text (Finite state value)) ≡ Ok (Finite state value)
-unfolding finite_at
-finite-again states n state value lt limit narrow =
-    let small : state < 2 ^ 32 = omega arith in
-    let ws : words_behind (codes "init") 2 n (init_text (Finite state value)) ≡ Ok (decimal state ∷ spelling value ∷ []) =
-    behind-again (codes "init") 2 n (decimal state ∷ spelling value ∷ []) refl refl (free-whole 32 state (omega arith) small, (free-spelling 32 value (omega arith) narrow, tt)) in
-    let inside : ltb state states ≡ true = grind (arith, nat_tests) in
-    rw (ws, whole-again n state small, frac-again n value narrow, inside) refl
-
-valued-found : (states n : ℕ) (text : List ℕ) (init : Init) → valued_at states n text ≡ Ok init → (text ≡ init_text init) × (is_inside states init ≡ true) × IsInitInWidth init
-unfolding valued_at
-valued-found states n text init e = by (bytes_eq text (codes "init -")) refl e
-  where
-    by : (b : Bool) → bytes_eq text (codes "init -") ≡ b → cond b (Ok Missing) (finite_at states n text) ≡ Ok init → (text ≡ init_text init) × (is_inside states init ≡ true) × IsInitInWidth init
-    by true t e =
-        let is : Missing ≡ init = cc in
-        subst (λ (i : Init). (text ≡ init_text i) × (is_inside states i ≡ true) × IsInitInWidth i) is (bytes_same text (codes "init -") t, refl, tt)
-    by false t e = finite-found states n text init e
-
-valued-again : (states n : ℕ) (init : Init) → is_inside states init ≡ true → states ≤ 2 ^ 20 → IsInitInWidth init → valued_at states n (init_text init) ≡ Ok init
-unfolding valued_at
-valued-again states n Missing inside limit narrow = refl
-valued-again states n (Finite state value) inside limit narrow =
+given-again : (infinite : Bool) (states n state : ℕ) (v : Option ℚ) → ltb state states ≡ true → states ≤ 2 ^ 20 → IsValueNarrow v → IsAllowed infinite v
+    → given_at infinite states n (codes "init" ␣ decimal state ␣ reward_text v) ≡ Ok (init_of state v)
+unfolding given_at
+given-again infinite states n state v inside limit narrow allowed =
     let lt : state < states = grind (arith, nat_tests) in
     let small : state < 2 ^ 32 = omega arith in
-    let digit : bytes_eq (init_text (Finite state value)) (codes "init -") ≡ false = other (decimal state) (spelling value) (free-whole 45 state (omega arith) small) (decimal-some state small) in
-    rw (digit, finite-again states n state value lt limit narrow) refl
+    let ws : words_behind (codes "init") 2 n (codes "init" ␣ decimal state ␣ reward_text v) ≡ Ok (decimal state ∷ reward_text v ∷ []) =
+    behind-again (codes "init") 2 n (decimal state ∷ reward_text v ∷ []) refl refl (free-whole 32 state (omega arith) small, (free-reward 32 v (omega arith) narrow, tt)) in
+    rw (ws, whole-again n state small, parse-again infinite v narrow allowed, inside) refl
+
+-- it isn't `init -`
+given-other : (state : ℕ) (rest : List ℕ) → state < 2 ^ 32 → bytes_eq (codes "init" ␣ decimal state ␣ rest) (codes "init -") ≡ false
+given-other state rest small = other (decimal state) (free-whole 45 state (omega arith) small) (decimal-some state small)
   where
-    other : (ds rest : List ℕ) → Free 45 ds → 0 < length ds → bytes_eq (codes "init" ␣ ds ␣ rest) (codes "init -") ≡ false
-    other [] rest free some = absurd (omega arith)
-    other (d ∷ ds) rest free some = rw (or-first (eqb d 45) _ free) refl
+    other : (ds : List ℕ) → Free 45 ds → 0 < length ds → bytes_eq (codes "init" ␣ ds ␣ rest) (codes "init -") ≡ false
+    other [] free some = absurd (omega arith)
+    other (d ∷ ds) free some = rw (or-first (eqb d 45) _ free) refl
       where
         or-first : (a b : Bool) → (a || b) ≡ false → a ≡ false
         or-first false b e = refl
         or-first true b e = absurd cc
 
--- the form of each claim
-pub init-found : (claim : PlainClaim) (states n : ℕ) (text : List ℕ) (init : Init) → init_at claim states n text ≡ Ok init
-    → (text ≡ init_text init) × (is_inside states init ≡ true) × IsInitInWidth init
-init-found (upper label) states n text init e = valued-found states n text init e
-init-found (reach dir label) states n text init e = valued-found states n text init e
-
-pub init-again : (claim : PlainClaim) (states n : ℕ) (init : Init) → is_inside states init ≡ true → states ≤ 2 ^ 20 → IsInitInWidth init → init_at claim states n (init_text init) ≡ Ok init
-init-again (upper label) states n init inside limit narrow = valued-again states n init inside limit narrow
-init-again (reach dir label) states n init inside limit narrow = valued-again states n init inside limit narrow
-
-pub free-init : (states : ℕ) (init : Init) → is_inside states init ≡ true → states ≤ 2 ^ 20 → IsInitInWidth init → Free 10 (init_text init)
-free-init states Missing inside limit narrow = refl
-free-init states (Finite state value) inside limit narrow =
+valued-given : (infinite : Bool) (states n state : ℕ) (v : Option ℚ) → ltb state states ≡ true → states ≤ 2 ^ 20 → IsValueNarrow v → IsAllowed infinite v
+    → valued_at infinite states n (codes "init" ␣ decimal state ␣ reward_text v) ≡ Ok (init_of state v)
+unfolding valued_at
+valued-given infinite states n state v inside limit narrow allowed =
     let lt : state < states = grind (arith, nat_tests) in
-    free-join 10 (codes "init" ∷ decimal state ∷ spelling value ∷ []) refl (refl, (free-whole 10 state (omega arith) (omega arith), (free-spelling 10 value (omega arith) narrow, tt)))
+    rw (given-other state (reward_text v) (omega arith), given-again infinite states n state v inside limit narrow allowed) refl
+
+-- ---- the form of each claim
+
+pub init-found : (claim : PlainClaim) (states n : ℕ) (text : List ℕ) (init : Init) → init_at claim states n text ≡ Ok init
+    → (text ≡ init_text init) × (is_init_of claim states init ≡ true) × IsInitInWidth init
+unfolding valued_at
+init-found claim states n text init e = by (bytes_eq text (codes "init -")) refl e
+  where
+    by : (b : Bool) → bytes_eq text (codes "init -") ≡ b → cond b (Ok Missing) (given_at (may_be_infinite claim) states n text) ≡ Ok init
+        → (text ≡ init_text init) × (is_init_of claim states init ≡ true) × IsInitInWidth init
+    by true t e =
+        let is : Missing ≡ init = cc in
+        subst (λ (i : Init). (text ≡ init_text i) × (is_init_of claim states i ≡ true) × IsInitInWidth i) is (bytes_same text (codes "init -") t, refl, tt)
+    by false t e = given-found claim states n text init e
+
+pub init-again : (claim : PlainClaim) (states n : ℕ) (init : Init) → is_init_of claim states init ≡ true → states ≤ 2 ^ 20 → IsInitInWidth init → init_at claim states n (init_text init) ≡ Ok init
+unfolding valued_at
+init-again claim states n Missing inside limit narrow = refl
+init-again claim states n (Finite state value) inside limit narrow = valued-given (may_be_infinite claim) states n state (Some value) inside limit narrow tt
+init-again claim states n (Infinite state) inside limit narrow =
+    let p = and_parts (may_be_infinite claim) (ltb state states) inside in valued-given (may_be_infinite claim) states n state None p.1 limit tt p.0
+
+free-given : (state : ℕ) (v : Option ℚ) → state < 2 ^ 32 → IsValueNarrow v → Free 10 (codes "init" ␣ decimal state ␣ reward_text v)
+free-given state v small narrow =
+    free-join 10 (codes "init" ∷ decimal state ∷ reward_text v ∷ []) refl (refl, (free-whole 10 state (omega arith) small, (free-reward 10 v (omega arith) narrow, tt)))
+
+pub free-init : (claim : PlainClaim) (states : ℕ) (init : Init) → is_init_of claim states init ≡ true → states ≤ 2 ^ 20 → IsInitInWidth init → Free 10 (init_text init)
+free-init claim states Missing inside limit narrow = refl
+free-init claim states (Finite state value) inside limit narrow =
+    let lt : state < states = grind (arith, nat_tests) in free-given state (Some value) (omega arith) narrow
+free-init claim states (Infinite state) inside limit narrow =
+    let p = and_parts (may_be_infinite claim) (ltb state states) inside in
+    let lt : state < states = (let q = p.1 in grind (arith, nat_tests)) in
+    free-given state None (omega arith) tt

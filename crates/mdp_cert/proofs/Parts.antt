@@ -1,30 +1,30 @@
 -- The parts of a text are read exactly where they are the texts of what is read.
 use Rattle.std.proofs.Common.{◌≡◌, ◌↔◌, ◌⊎◌, inl, inr, ℕ, suc, ◌+◌, ◌<◌, ◌≤◌, ◌^◌, true, false, eqb, ltb, ◌&&◌}
-use Rattle.std.proofs.Common.{List, [], ◌∷◌, ◌++◌, length, map, Result, Ok, Err, refl, sym, ap, subst, ◌∙◌, append_assoc, arith}
+use Rattle.std.proofs.Common.{List, [], ◌∷◌, ◌++◌, length, map, Option, Result, Ok, Err, refl, sym, ap, subst, ◌∙◌, append_assoc, arith}
 use Rattle.std.specs.List.{All}
-use Rattle.std.proofs.lemmas.Bool.{both_ways, lt-ltb, and_parts}
+use Rattle.std.proofs.lemmas.Bool.{both_ways, lt-ltb}
 use Rattle.std.proofs.lemmas.List.{length-map, append-nil}
 use Rattle.std.proofs.lemmas.List.Elements.{All-cons}
 use Rattle.mdp_math.specs.Rational.{ℚ}
 use Rattle.mdp_num.specs.Value.{IsNarrow}
-use Rattle.mdp_rows.specs.Name.{is_name}
 use Rattle.mdp_cert.specs.declared.error.CertKind.TheVariants.{End}
 use Rattle.mdp_cert.specs.declared.error.Refusal.{Refusal}
 use Rattle.mdp_cert.specs.declared.init.Init.{Init}
-use Rattle.mdp_cert.specs.declared.reach_entry.ReachEntry.{ReachEntry}
+use Rattle.mdp_cert.specs.declared.policy_entry.PolicyEntry.{PolicyEntry}
 use Rattle.mdp_cert.specs.declared.version.Version.{Version}
 use Rattle.mdp_cert.specs.declared.version.Version.TheVariants.{One, Two}
-use Rattle.mdp_cert.specs.Cert.{PlainClaim, upper, reach, PlainBody, bounds, policy, Certificate, label_of, is_inside, is_body_of, IsInitInWidth, IsBodyInWidth, Fits}
+use Rattle.mdp_cert.specs.Cert.{PlainClaim, upper, reach, reward, PlainBody, bounds, policy, rewards, Certificate, are_names, is_init_of, is_body_of, IsInitInWidth, IsValueNarrow, IsBodyInWidth, Fits}
 use Rattle.mdp_cert.specs.Lines.{◌>>=◌, Place, place, line_by}
-use Rattle.mdp_cert.specs.Claims.{bound_columns, policy_columns, policies, IsPolicyInWidth}
+use Rattle.mdp_cert.specs.Claims.{Value, fraction_value, reward_value, bound_columns, policy_columns, policies, IsPolicyInWidth}
 use Rattle.mdp_cert.specs.Spelling.{line, version_text, claim_text, states_text, init_text, closed_lines, body_text, text_in, text_of, old_text_of}
 use Rattle.mdp_cert.specs.Laws.{AreSameWords}
-use Rattle.mdp_cert.specs.Reading.{version_at, claim_at, states_at, init_at, Head, head_from, entries_to_end, policy_body, body_from, nothing_behind, outcome}
+use Rattle.mdp_cert.specs.Reading.{version_at, claim_at, states_at, init_at, Head, head_from, entries_to_end, policy_body, reward_body, body_from, nothing_behind, outcome}
 use Rattle.mdp_cert.proofs.Cuts.{same-number, number-same}
 use Rattle.mdp_cert.proofs.Feeds.{ok-is, bind_ok, refuse_ok, judged-found, judged-again}
 use Rattle.mdp_cert.proofs.Claims.{claim-found, claim-again, free-claim}
 use Rattle.mdp_cert.proofs.Numbered.{version-found, version-again, free-version, states-found, states-again, free-states, init-found, init-again, free-init}
-use Rattle.mdp_cert.proofs.Columns.{bound-is_columns, policy-is_columns, same-words}
+use Rattle.mdp_cert.proofs.Columns.{IsValue, fraction-is_value, reward-is_value, bound-is_columns, policy-is_columns, same-words}
+use Rattle.mdp_cert.proofs.Growth.{three-entries}
 use Rattle.mdp_cert.proofs.Bodies.{Each, closed-found, closed-again}
 use Rattle.mdp_cert.proofs.Policies.{length-policies, values-policies, choices-policies, ranks-policies, policies-of}
 
@@ -33,8 +33,8 @@ use Rattle.mdp_cert.proofs.Policies.{length-policies, values-policies, choices-p
 pub record IsHead (h : Head) : Type 0 where
   pub some : 0 < h.states
   pub limit : h.states ≤ 2 ^ 20
-  pub name : is_name (label_of h.claim) ≡ true
-  pub inside : is_inside h.states h.init ≡ true
+  pub names : are_names h.claim ≡ true
+  pub inside : is_init_of h.claim h.states h.init ≡ true
   pub width : IsInitInWidth h.init
 
 abbrev pub lines-of-head : Head → List ℕ
@@ -65,7 +65,7 @@ head-found p h q e =
     let init = init-found one.0.0 two.0.0 two.0.1.line i.text three.0.0 i.said in
     subst (λ (r : Head × Place). FoundHead p r.0 r.1) same (record {
       text = joined _ _ _ _ _ _ _ _ _ _ c.is.front s.is.front i.is.front claim.0 states.0 init.0;
-      is = record { some = states.1; limit = states.2; name = claim.1; inside = init.1; width = init.2 };
+      is = record { some = states.1; limit = states.2; names = claim.1; inside = init.1; width = init.2 };
     })
   where
     joined : (a b c d t u v a' t' v' : List ℕ) → a ≡ line t ++ b → b ≡ line u ++ c → c ≡ line v ++ d → t ≡ a' → u ≡ t' → v ≡ v' → a ≡ (line a' ++ (line t' ++ line v')) ++ d
@@ -80,12 +80,12 @@ head-again n h rest ok =
       append_assoc (line (states_text h.states)) (line (init_text h.init)) rest,
     ) (
     ap (λ (r : Result (PlainClaim × Place) Refusal). r >>= head-states)
-    (judged-again claim_at n (claim_text h.claim) (line (states_text h.states) ++ (line (init_text h.init) ++ rest)) h.claim (free-claim h.claim ok.name) (claim-again n h.claim ok.name))
+    (judged-again claim_at n (claim_text h.claim) (line (states_text h.states) ++ (line (init_text h.init) ++ rest)) h.claim (free-claim h.claim ok.names) (claim-again n h.claim ok.names))
     ∙ ap (λ (r : Result (ℕ × Place) Refusal). r >>= head-init (h.claim, place (n + 1) (line (states_text h.states) ++ (line (init_text h.init) ++ rest))))
     (judged-again states_at (n + 1) (states_text h.states) (line (init_text h.init) ++ rest) h.states (free-states h.states ok.limit) (states-again (n + 1) h.states ok.some ok.limit))
     ∙ ap (λ (r : Result (Init × Place) Refusal). r >>= λ init. let q : Result (Head × Place) Refusal = Ok
     (record { claim = h.claim; states = h.states; init = init.0 }, init.1) in q)
-    (judged-again (init_at h.claim h.states) (n + 1 + 1) (init_text h.init) rest h.init (free-init h.states h.init ok.inside ok.limit ok.width)
+    (judged-again (init_at h.claim h.states) (n + 1 + 1) (init_text h.init) rest h.init (free-init h.claim h.states h.init ok.inside ok.limit ok.width)
     (init-again h.claim h.states (n + 1 + 1) h.init ok.inside ok.limit ok.width))
     )
 
@@ -107,36 +107,62 @@ all-each : {A : Type 0} (P : A → Type 0) (xs : List A) → All P xs → Each P
 all-each P [] h = tt
 all-each P (x ∷ xs) h = (h 0 x (omega arith), all-each P xs (λ i d lt. h (suc i) d (omega arith)))
 
--- the three lists of entries in width, and back
-values-width : (xs : List ReachEntry) → Each IsPolicyInWidth xs → Each IsNarrow (map (λ x. x.value) xs)
-values-width [] h = tt
-values-width (x ∷ xs) h = (h.0.value, values-width xs h.1)
+-- ---- the lines of a policy
 
-choices-width : (xs : List ReachEntry) → Each IsPolicyInWidth xs → Each (λ c. c < 2 ^ 32) (map (λ x. x.choice) xs)
-choices-width [] h = tt
-choices-width (x ∷ xs) h = (h.0.choice, choices-width xs h.1)
+module _ {V : Type 0} (k : Value V) (IsInWidth : V → Type 0) (is : IsValue k IsInWidth) (states : ℕ) (limit : states ≤ 2 ^ 20) (v : Version) where
+  values-width : (xs : List (PolicyEntry V)) → Each (IsPolicyInWidth IsInWidth) xs → Each IsInWidth (map (λ x. x.value) xs)
+  values-width [] h = tt
+  values-width (x ∷ xs) h = (h.0.value, values-width xs h.1)
 
-ranks-width : (xs : List ReachEntry) → Each IsPolicyInWidth xs → Each (λ r. r < 2 ^ 32) (map (λ x. x.rank) xs)
-ranks-width [] h = tt
-ranks-width (x ∷ xs) h = (h.0.rank, ranks-width xs h.1)
+  choices-width : (xs : List (PolicyEntry V)) → Each (IsPolicyInWidth IsInWidth) xs → Each (λ c. c < 2 ^ 32) (map (λ x. x.choice) xs)
+  choices-width [] h = tt
+  choices-width (x ∷ xs) h = (h.0.choice, choices-width xs h.1)
 
-policies-width : (zs : List ℚ) (cs rs : List ℕ) → Each IsNarrow zs → Each (λ c. c < 2 ^ 32) cs → Each (λ r. r < 2 ^ 32) rs → Each IsPolicyInWidth (policies zs cs rs)
-policies-width (z ∷ zs) (c ∷ cs) (r ∷ rs) p q o = (record { value = p.0; choice = q.0; rank = o.0 }, policies-width zs cs rs p.1 q.1 o.1)
-policies-width zs cs rs p q o = tt
+  ranks-width : (xs : List (PolicyEntry V)) → Each (IsPolicyInWidth IsInWidth) xs → Each (λ r. r < 2 ^ 32) (map (λ x. x.rank) xs)
+  ranks-width [] h = tt
+  ranks-width (x ∷ xs) h = (h.0.rank, ranks-width xs h.1)
 
-pub record Lengths (states : ℕ) (zs : List ℚ) (cs rs : List ℕ) : Type 0 where
-  pub values : length zs ≡ states
-  pub choices : length cs ≡ states
-  pub ranks : length rs ≡ states
+  policies-width : (zs : List V) (cs rs : List ℕ) → Each IsInWidth zs → Each (λ c. c < 2 ^ 32) cs → Each (λ r. r < 2 ^ 32) rs → Each (IsPolicyInWidth IsInWidth) (policies zs cs rs)
+  policies-width (z ∷ zs) (c ∷ cs) (r ∷ rs) p q o = (record { value = p.0; choice = q.0; rank = o.0 }, policies-width zs cs rs p.1 q.1 o.1)
+  policies-width zs cs rs p q o = tt
 
-three-same : (states : ℕ) (zs : List ℚ) (cs rs : List ℕ) → Lengths states zs cs rs → ((eqb (length zs) states && eqb (length cs) states) && eqb (length rs) states) ≡ true
-three-same states zs cs rs l = rw (same-number _ states l.values, same-number _ states l.choices, same-number _ states l.ranks) refl
+  -- three lists, one of each per state and in width, with their lines
+  pub record FoundPolicy (p : Place) (zs : List V) (cs rs : List ℕ) (q : Place) : Type 0 where
+    pub text : p.rest ≡ closed_lines v (policy_columns k) (policies zs cs rs) ++ q.rest
+    pub entries : (eqb (length zs) states && eqb (length cs) states && eqb (length rs) states) ≡ true
+    pub width : All IsInWidth zs × All (λ c. c < 2 ^ 32) cs × All (λ r. r < 2 ^ 32) rs
 
-three-lengths : (states : ℕ) (zs : List ℚ) (cs rs : List ℕ) → ((eqb (length zs) states && eqb (length cs) states) && eqb (length rs) states) ≡ true → Lengths states zs cs rs
-three-lengths states zs cs rs e =
-    let t = and_parts (eqb (length zs) states && eqb (length cs) states) (eqb (length rs) states) e in
-    let u = and_parts (eqb (length zs) states) (eqb (length cs) states) t.0 in
-    record { values = number-same _ states u.0; choices = number-same _ states u.1; ranks = number-same _ states t.1 }
+  pub policy-found : (p : Place) (xs : List (PolicyEntry V)) (q : Place) → entries_to_end v (policy_columns k) states p ≡ Ok (xs, q)
+      → FoundPolicy p (map (λ x. x.value) xs) (map (λ x. x.choice) xs) (map (λ x. x.rank) xs) q
+  policy-found p xs q e =
+      let f = closed-found (policy_columns k) (IsPolicyInWidth IsInWidth) (policy-is_columns k IsInWidth is) states limit v p xs q e in
+      let each : (X : Type 0) (g : PolicyEntry V → X) → eqb (length (map g xs)) states ≡ true = λ X g. same-number _ states (length-map xs g ∙ f.count) in
+      record {
+        text = f.text ∙ ap (λ (ys : List (PolicyEntry V)). closed_lines v (policy_columns k) ys ++ q.rest) (sym (policies-of xs));
+        entries = rw (each V (λ x. x.value), each ℕ (λ x. x.choice), each ℕ (λ x. x.rank)) refl;
+        width = (each-all IsInWidth _ (values-width xs f.width), each-all (λ c. c < 2 ^ 32) _ (choices-width xs f.width), each-all (λ r. r < 2 ^ 32) _ (ranks-width xs f.width));
+      }
+
+  -- the entries of three lists, and the lists of these entries
+  pub record AgainPolicy (n : ℕ) (zs : List V) (cs rs rest : List ℕ) : Type 0 where
+    pub line : ℕ
+    pub read : entries_to_end v (policy_columns k) states (place n (closed_lines v (policy_columns k) (policies zs cs rs) ++ rest)) ≡ Ok (policies zs cs rs, place line rest)
+    pub values : map (λ x. x.value) (policies zs cs rs) ≡ zs
+    pub choices : map (λ x. x.choice) (policies zs cs rs) ≡ cs
+    pub ranks : map (λ x. x.rank) (policies zs cs rs) ≡ rs
+
+  pub policy-again : (n : ℕ) (zs : List V) (cs rs rest : List ℕ) → (eqb (length zs) states && eqb (length cs) states && eqb (length rs) states) ≡ true
+      → All IsInWidth zs × All (λ c. c < 2 ^ 32) cs × All (λ r. r < 2 ^ 32) rs → AgainPolicy n zs cs rs rest
+  policy-again n zs cs rs rest ok width =
+      let l = three-entries states zs cs rs ok in
+      let a : length zs ≡ length cs = omega (arith, l.values, l.choices) in
+      let b : length zs ≡ length rs = omega (arith, l.values, l.ranks) in
+      let r =
+      closed-again (policy_columns k) (IsPolicyInWidth IsInWidth) (policy-is_columns k IsInWidth is) states limit v n (policies zs cs rs) rest (length-policies zs cs rs a b ∙ l.values)
+      (policies-width zs cs rs (all-each IsInWidth zs width.0) (all-each (λ c. c < 2 ^ 32) cs width.1) (all-each (λ r. r < 2 ^ 32) rs width.2)) in
+      record { line = r.0; read = r.1; values = values-policies zs cs rs a b; choices = choices-policies zs cs rs a b; ranks = ranks-policies zs cs rs a b }
+
+-- ---- by the claim
 
 pub body-found : (v : Version) (claim : PlainClaim) (states : ℕ) (p : Place) (b : PlainBody) (q : Place) → states ≤ 2 ^ 20 → body_from v claim states p ≡ Ok (b, q)
     → FoundBody v claim states p b q
@@ -148,46 +174,71 @@ body-found v (upper label) states p b q limit e =
     subst (λ (r : PlainBody × Place). FoundBody v (upper label) states p r.0 r.1) same
     (record { text = f.text; fits = record { entries = same-number _ states f.count; width = each-all IsNarrow all.0.0 f.width } })
 body-found v (reach dir label) states p b q limit e =
-    let all = bind_ok (entries_to_end v policy_columns states p) (λ xs. Ok (policy_body xs.0, xs.1)) (b, q) e in
+    let all = bind_ok (entries_to_end v (policy_columns fraction_value) states p) (λ xs. Ok (policy_body xs.0, xs.1)) (b, q) e in
     let same : (let r : PlainBody × Place = (policy_body all.0.0, all.0.1) in r) ≡ (b, q) = ok-is _ _ all.2 in
-    let f = closed-found policy_columns IsPolicyInWidth policy-is_columns states limit v p all.0.0 all.0.1 all.1 in
-    let xs = all.0.0 in
-    let lengths : Lengths states (map (λ x. x.value) xs) (map (λ x. x.choice) xs) (map (λ x. x.rank) xs) =
-    record { values = length-map xs _ ∙ f.count; choices = length-map xs _ ∙ f.count; ranks = length-map xs _ ∙ f.count } in
-    subst (λ (r : PlainBody × Place). FoundBody v (reach dir label) states p r.0 r.1) same (record {
-      text = f.text ∙ ap (λ (ys : List ReachEntry). closed_lines v policy_columns ys ++ all.0.1.rest) (sym (policies-of xs));
-      fits = record {
-        entries = three-same states _ _ _ lengths;
-        width = (each-all IsNarrow _ (values-width xs f.width), each-all (λ c. c < 2 ^ 32) _ (choices-width xs f.width), each-all (λ r. r < 2 ^ 32) _ (ranks-width xs f.width));
-      };
-    })
+    let f = policy-found fraction_value IsNarrow fraction-is_value states limit v p all.0.0 all.0.1 all.1 in
+    subst (λ (r : PlainBody × Place). FoundBody v (reach dir label) states p r.0 r.1) same (record { text = f.text; fits = record { entries = f.entries; width = f.width } })
+body-found v (reward dir name label) states p b q limit e =
+    let all = bind_ok (entries_to_end v (policy_columns reward_value) states p) (λ xs. Ok (reward_body xs.0, xs.1)) (b, q) e in
+    let same : (let r : PlainBody × Place = (reward_body all.0.0, all.0.1) in r) ≡ (b, q) = ok-is _ _ all.2 in
+    let f = policy-found reward_value IsValueNarrow reward-is_value states limit v p all.0.0 all.0.1 all.1 in
+    subst (λ (r : PlainBody × Place). FoundBody v (reward dir name label) states p r.0 r.1) same (record { text = f.text; fits = record { entries = f.entries; width = f.width } })
 
 abbrev bounds-of : List ℚ × Place → Result (PlainBody × Place) Refusal
 bounds-of xs = Ok (bounds xs.0, xs.1)
 
-abbrev policy-of : List ReachEntry × Place → Result (PlainBody × Place) Refusal
+abbrev policy-of : List (PolicyEntry ℚ) × Place → Result (PlainBody × Place) Refusal
 policy-of xs = Ok (policy_body xs.0, xs.1)
+
+abbrev rewards-of : List (PolicyEntry (Option ℚ)) × Place → Result (PlainBody × Place) Refusal
+rewards-of xs = Ok (reward_body xs.0, xs.1)
+
+-- a body that was read, which is this one
+abbrev read-as : ℕ → List ℕ → PlainBody → Result (PlainBody × Place) Refusal
+read-as m rest b = Ok (b, place m rest)
+
+bounds-again : (v : Version) (states n : ℕ) (zs : List ℚ) (rest : List ℕ) → states ≤ 2 ^ 20 → eqb (length zs) states ≡ true → All IsNarrow zs
+    → (m : ℕ) × ((entries_to_end v bound_columns states (place n (body_text v (bounds zs) ++ rest)) >>= bounds-of) ≡ read-as m rest (bounds zs))
+bounds-again v states n zs rest limit ok width =
+    let r = closed-again bound_columns IsNarrow bound-is_columns states limit v n zs rest (number-same _ states ok) (all-each IsNarrow zs width) in
+    (r.0, ap (λ (q : Result (List ℚ × Place) Refusal). q >>= bounds-of) r.1)
+
+reach-again : (v : Version) (states n : ℕ) (zs : List ℚ) (cs rs rest : List ℕ) → states ≤ 2 ^ 20 → (eqb (length zs) states && eqb (length cs) states && eqb (length rs) states) ≡ true
+    → IsBodyInWidth (policy zs cs rs)
+    → (m : ℕ) × ((entries_to_end v (policy_columns fraction_value) states (place n (body_text v (policy zs cs rs) ++ rest)) >>= policy-of) ≡ read-as m rest (policy zs cs rs))
+reach-again v states n zs cs rs rest limit ok width =
+    let r = policy-again fraction_value IsNarrow fraction-is_value states limit v n zs cs rs rest ok width in (
+      r.line,
+      ap (λ (q : Result (List (PolicyEntry ℚ) × Place) Refusal). q >>= policy-of) r.read ∙ ap (read-as r.line rest) (parts _ _ _ _ _ _ r.values r.choices r.ranks),
+    )
+  where
+    parts : (zs ys : List ℚ) (cs ds rs ss : List ℕ) → zs ≡ ys → cs ≡ ds → rs ≡ ss → policy zs cs rs ≡ policy ys ds ss
+    parts zs ys cs ds rs ss e f g = rw (e, f, g) refl
+
+reward-again : (v : Version) (states n : ℕ) (zs : List (Option ℚ)) (cs rs rest : List ℕ) → states ≤ 2 ^ 20
+    → (eqb (length zs) states && eqb (length cs) states && eqb (length rs) states) ≡ true → IsBodyInWidth (rewards zs cs rs)
+    → (m : ℕ) × ((entries_to_end v (policy_columns reward_value) states (place n (body_text v (rewards zs cs rs) ++ rest)) >>= rewards-of) ≡ read-as m rest (rewards zs cs rs))
+reward-again v states n zs cs rs rest limit ok width =
+    let r = policy-again reward_value IsValueNarrow reward-is_value states limit v n zs cs rs rest ok width in (
+      r.line,
+      ap (λ (q : Result (List (PolicyEntry (Option ℚ)) × Place) Refusal). q >>= rewards-of) r.read ∙ ap (read-as r.line rest) (parts _ _ _ _ _ _ r.values r.choices r.ranks),
+    )
+  where
+    parts : (zs ys : List (Option ℚ)) (cs ds rs ss : List ℕ) → zs ≡ ys → cs ≡ ds → rs ≡ ss → rewards zs cs rs ≡ rewards ys ds ss
+    parts zs ys cs ds rs ss e f g = rw (e, f, g) refl
 
 pub body-again : (v : Version) (claim : PlainClaim) (states n : ℕ) (b : PlainBody) (rest : List ℕ) → states ≤ 2 ^ 20 → FitsBody claim states b
     → (m : ℕ) × (body_from v claim states (place n (body_text v b ++ rest)) ≡ Ok (b, place m rest))
 unfolding body_from
-body-again v (upper label) states n (bounds zs) rest limit ok =
-    let r = closed-again bound_columns IsNarrow bound-is_columns states limit v n zs rest (number-same _ states ok.entries) (all-each IsNarrow zs ok.width) in
-    (r.0, ap (λ (q : Result (List ℚ × Place) Refusal). q >>= bounds-of) r.1)
+body-again v (upper label) states n (bounds zs) rest limit ok = bounds-again v states n zs rest limit ok.entries ok.width
 body-again v (upper label) states n (policy zs cs rs) rest limit ok = absurd (let t = ok.entries in cc)
+body-again v (upper label) states n (rewards zs cs rs) rest limit ok = absurd (let t = ok.entries in cc)
+body-again v (reach dir label) states n (policy zs cs rs) rest limit ok = reach-again v states n zs cs rs rest limit ok.entries ok.width
 body-again v (reach dir label) states n (bounds zs) rest limit ok = absurd (let t = ok.entries in cc)
-body-again v (reach dir label) states n (policy zs cs rs) rest limit ok =
-    let l = three-lengths states zs cs rs ok.entries in
-    let a : length zs ≡ length cs = omega (arith, l.values, l.choices) in
-    let b : length zs ≡ length rs = omega (arith, l.values, l.ranks) in
-    let r =
-    closed-again policy_columns IsPolicyInWidth policy-is_columns states limit v n (policies zs cs rs) rest (length-policies zs cs rs a b ∙ l.values)
-    (policies-width zs cs rs (all-each IsNarrow zs ok.width.0) (all-each (λ c. c < 2 ^ 32) cs ok.width.1) (all-each (λ r. r < 2 ^ 32) rs ok.width.2)) in
-    let back : policy_body (policies zs cs rs) ≡ policy zs cs rs = parts _ _ _ _ _ _ (values-policies zs cs rs a b) (choices-policies zs cs rs a b) (ranks-policies zs cs rs a b) in
-    (r.0, ap (λ (q : Result (List ReachEntry × Place) Refusal). q >>= policy-of) r.1 ∙ ap (λ (c : PlainBody). let q : Result (PlainBody × Place) Refusal = Ok (c, place r.0 rest) in q) back)
-  where
-    parts : (zs ys : List ℚ) (cs ds rs ss : List ℕ) → zs ≡ ys → cs ≡ ds → rs ≡ ss → policy zs cs rs ≡ policy ys ds ss
-    parts zs ys cs ds rs ss e f g = rw (e, f, g) refl
+body-again v (reach dir label) states n (rewards zs cs rs) rest limit ok = absurd (let t = ok.entries in cc)
+body-again v (reward dir name label) states n (rewards zs cs rs) rest limit ok = reward-again v states n zs cs rs rest limit ok.entries ok.width
+body-again v (reward dir name label) states n (bounds zs) rest limit ok = absurd (let t = ok.entries in cc)
+body-again v (reward dir name label) states n (policy zs cs rs) rest limit ok = absurd (let t = ok.entries in cc)
 
 -- ---- the end
 
@@ -239,7 +290,7 @@ text-found bytes c e =
       fits = record {
         some = h.is.some;
         limit = h.is.limit;
-        name = h.is.name;
+        names = h.is.names;
         inside = h.is.inside;
         entries = b.fits.entries;
         init_width = h.is.width;
@@ -254,7 +305,7 @@ pub text-again : (v : Version) (c : Certificate) → Fits c → outcome (text_in
 unfolding outcome text_in nothing_behind
 text-again v c ok =
     let h : Head = record { claim = c.claim; states = c.states; init = c.init } in
-    let head : IsHead h = record { some = ok.some; limit = ok.limit; name = ok.name; inside = ok.inside; width = ok.init_width } in
+    let head : IsHead h = record { some = ok.some; limit = ok.limit; names = ok.names; inside = ok.inside; width = ok.init_width } in
     let body : FitsBody c.claim c.states c.body = record { entries = ok.entries; width = ok.body_width } in
     let b = body-again v c.claim c.states (1 + 1 + 1 + 1 + 1) c.body [] ok.limit body in
     ap (λ (r : Result (Version × Place) Refusal). r >>= whole-head) (judged-again version_at 1 (version_text v) (lines-of-head h ++ body_text v c.body) v (free-version v) (version-again 1 v))
@@ -307,4 +358,8 @@ not-both bytes c r fits is e = apart c r (sym (from-text bytes c fits is) ∙ e)
     apart c r e = absurd cc
 
 pub are-same-words : AreSameWords
-are-same-words = record { bounds = same-words bound_columns IsNarrow bound-is_columns; policies = same-words policy_columns IsPolicyInWidth policy-is_columns }
+are-same-words = record {
+  bounds = same-words bound_columns IsNarrow bound-is_columns;
+  policies = same-words (policy_columns fraction_value) (IsPolicyInWidth IsNarrow) (policy-is_columns fraction_value IsNarrow fraction-is_value);
+  rewards = same-words (policy_columns reward_value) (IsPolicyInWidth IsValueNarrow) (policy-is_columns reward_value IsValueNarrow reward-is_value);
+}

@@ -58,17 +58,23 @@ free-spelling c x lt h = by (eqb x.den 1)
     by false = free-append c (signed_decimal x.num) (47 ∷ decimal x.den) (free-signed c x.num lt h.top)
         (or-false (eqb 47 c) (list_any (λ y. eqb y c) (decimal x.den)) (grind (arith, nat_tests)) (free-decimal c x.den (omega arith) h.bottom))
 
-no-line-feed : (xs : List ℕ) → list_any (λ b. eqb b 34 || eqb b 10) xs ≡ false → Free 10 xs
-no-line-feed xs h =
-    list_any_none (λ x. eqb x 10) xs (λ k d lt. false_from_ne_true _
-    (λ t. both_ways _ h (list_any_at (λ b. eqb b 34 || eqb b 10) xs k d lt (or-second (eqb (get_or xs k d) 34) (eqb (get_or xs k d) 10) t))))
-  where
-    or-second : (a b : Bool) → b ≡ true → (a || b) ≡ true
-    or-second true b e = refl
-    or-second false b e = e
+-- a name has no quote and no line feed
+without : (c : ℕ) (xs : List ℕ) → ((x : ℕ) → eqb x c ≡ true → (eqb x 34 || eqb x 10) ≡ true) → list_any (λ b. eqb b 34 || eqb b 10) xs ≡ false → Free c xs
+without c xs of h =
+    list_any_none (λ x. eqb x c) xs (λ k d lt. false_from_ne_true _ (λ t. both_ways _ h (list_any_at (λ b. eqb b 34 || eqb b 10) xs k d lt (of (get_or xs k d) t))))
+
+or-second : (a b : Bool) → b ≡ true → (a || b) ≡ true
+or-second true b e = refl
+or-second false b e = e
+
+or-first : (a b : Bool) → a ≡ true → (a || b) ≡ true
+or-first a b e = rw e refl
 
 pub free-name : (name : List ℕ) → is_name name ≡ true → Free 10 name
-free-name name h = no-line-feed name (not-true _ (and_parts _ _ h).1)
+free-name name h = without 10 name (λ x t. or-second (eqb x 34) (eqb x 10) t) (not-true _ (and_parts _ _ h).1)
+
+pub quote-free-name : (name : List ℕ) → is_name name ≡ true → Free 34 name
+quote-free-name name h = without 34 name (λ x t. or-first (eqb x 34) (eqb x 10) t) (not-true _ (and_parts _ _ h).1)
 
 -- ---- words
 

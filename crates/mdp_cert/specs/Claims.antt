@@ -1,12 +1,41 @@
 -- The words of each claim behind the number of a state.
-use Rattle.std.specs.Prelude.{ℕ, ◌<◌, ◌^◌, ◌&&◌, ◌==◌, List, [], ◌∷◌, decimal, Option, Some, None, option_and_then}
+use Rattle.std.specs.Prelude.{ℕ, ◌<◌, ◌^◌, Bool, true, false, ◌&&◌, ◌==◌, List, [], ◌∷◌, decimal, codes, Option, Some, None, option_and_then, option_map, if◌then◌else◌}
+use Rattle.std.specs.Str.{bytes_eq}
 use Rattle.mdp_math.specs.Rational.{ℚ}
 use Rattle.mdp_num.specs.Value.{spelling, IsNarrow}
 use Rattle.mdp_num.specs.Canonical.{canonical_of}
 use Rattle.mdp_num.specs.Equal.{eq_ℚ}
-use Rattle.mdp_cert.specs.declared.reach_entry.ReachEntry.{ReachEntry}
+use Rattle.mdp_cert.specs.declared.policy_entry.PolicyEntry.{PolicyEntry}
 use Rattle.mdp_cert.specs.Words.{whole_of}
 use Rattle.mdp_cert.specs.Runs.{Columns}
+
+-- ---- values of one word
+
+-- what a word says (nothing where it isn't such a value), how a value is spelled, and whether two values are the same
+pub record Value (A : Type 0) : Type 0 where
+  pub parse : List ℕ → Option A
+  pub spell : A → List ℕ
+  pub same : A → A → Bool
+
+-- a fraction
+abbrev pub fraction_value : Value ℚ
+fraction_value = record { parse = canonical_of; spell = spelling; same = eq_ℚ }
+
+-- a fraction, or `inf`
+abbrev pub reward_parse : List ℕ → Option (Option ℚ)
+reward_parse word = if bytes_eq word (codes "inf") then Some None else option_map Some (canonical_of word)
+
+abbrev pub reward_text : Option ℚ → List ℕ
+reward_text None = codes "inf"
+reward_text (Some value) = spelling value
+
+abbrev pub reward_same : Option ℚ → Option ℚ → Bool
+reward_same None None = true
+reward_same (Some x) (Some y) = eq_ℚ x y
+reward_same x y = false
+
+abbrev pub reward_value : Value (Option ℚ)
+reward_value = record { parse = reward_parse; spell = reward_text; same = reward_same }
 
 -- ---- an upper bound: V
 
@@ -19,25 +48,25 @@ bound_columns = record { width = 1; parse = bound_parse; words = λ z. spelling 
 
 -- ---- a value, a choice and a rank: V CHOICE RANK
 
-abbrev pub policy_parse : List (List ℕ) → Option ReachEntry
-policy_parse (v ∷ c ∷ r ∷ []) = option_and_then (λ value. option_and_then
-    (λ choice. option_and_then (λ rank. Some (record { value = value; choice = choice; rank = rank })) (whole_of r)) (whole_of c)) (canonical_of v)
-policy_parse ws = None
+abbrev pub policy_parse : {V : Type 0} → Value V → List (List ℕ) → Option (PolicyEntry V)
+policy_parse k (v ∷ c ∷ r ∷ []) = option_and_then (λ value. option_and_then
+    (λ choice. option_and_then (λ rank. Some (record { value = value; choice = choice; rank = rank })) (whole_of r)) (whole_of c)) (k.parse v)
+policy_parse k ws = None
 
-abbrev pub policy_columns : Columns ReachEntry
-policy_columns = record {
+abbrev pub policy_columns : {V : Type 0} → Value V → Columns (PolicyEntry V)
+policy_columns k = record {
   width = 3;
-  parse = policy_parse;
-  words = λ p. spelling p.value ∷ decimal p.choice ∷ decimal p.rank ∷ [];
-  same = λ p q. eq_ℚ p.value q.value && (p.choice == q.choice) && (p.rank == q.rank);
+  parse = policy_parse k;
+  words = λ p. k.spell p.value ∷ decimal p.choice ∷ decimal p.rank ∷ [];
+  same = λ p q. k.same p.value q.value && (p.choice == q.choice) && (p.rank == q.rank);
 }
 
-pub record IsPolicyInWidth (p : ReachEntry) : Type 0 where
-  pub value : IsNarrow p.value
+pub record IsPolicyInWidth {V : Type 0} (IsInWidth : V → Type 0) (p : PolicyEntry V) : Type 0 where
+  pub value : IsInWidth p.value
   pub choice : p.choice < 2 ^ 32
   pub rank : p.rank < 2 ^ 32
 
 -- the entries of three lists
-abbrev pub policies : List ℚ → List ℕ → List ℕ → List ReachEntry
+abbrev pub policies : {V : Type 0} → List V → List ℕ → List ℕ → List (PolicyEntry V)
 policies (z ∷ zs) (c ∷ cs) (r ∷ rs) = record { value = z; choice = c; rank = r } ∷ policies zs cs rs
 policies zs cs rs = []

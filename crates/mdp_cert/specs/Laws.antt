@@ -4,11 +4,11 @@ use Rattle.std.specs.List.{position_or_len, before_first, after_first}
 use Rattle.mdp_cert.specs.declared.error.CertKind.TheVariants.{End}
 use Rattle.mdp_cert.specs.declared.error.Refusal.{Refusal}
 use Rattle.mdp_cert.specs.declared.version.Version.{Version}
-use Rattle.mdp_cert.specs.Cert.{Certificate, Fits}
+use Rattle.mdp_cert.specs.Cert.{Certificate, IsValueNarrow, Fits}
 use Rattle.mdp_num.specs.Value.{IsNarrow}
 use Rattle.mdp_cert.specs.Lines.{is_line_feed}
 use Rattle.mdp_cert.specs.Runs.{Columns}
-use Rattle.mdp_cert.specs.Claims.{bound_columns, policy_columns, IsPolicyInWidth}
+use Rattle.mdp_cert.specs.Claims.{fraction_value, reward_value, bound_columns, policy_columns, IsPolicyInWidth}
 use Rattle.mdp_cert.specs.Spelling.{line, text_in, text_of, old_text_of}
 use Rattle.mdp_cert.specs.Reading.{outcome}
 
@@ -31,7 +31,8 @@ IsSameWords {A} k IsInWidth = (x y : A) → IsInWidth x → IsInWidth y → (k.s
 -- and so for each claim
 pub record AreSameWords : Type 0 where
   pub bounds : IsSameWords bound_columns IsNarrow
-  pub policies : IsSameWords policy_columns IsPolicyInWidth
+  pub policies : IsSameWords (policy_columns fraction_value) (IsPolicyInWidth IsNarrow)
+  pub rewards : IsSameWords (policy_columns reward_value) (IsPolicyInWidth IsValueNarrow)
 
 -- bytes are a text of a certificate, or they are refused
 abbrev pub IsReadOrRefused : Type 0

@@ -1,22 +1,27 @@
 -- Reading a certificate's text line by line: the certificate, or the first line that breaks a rule. Each line is judged by its shape first, then
 -- by its numbers from left to right, then by what they count, and in version 2 by whether it could be one line with the line before it.
-use Rattle.std.specs.Prelude.{ℕ, zero, suc, ◌+◌, ◌-◌, ◌^◌, Bool, false, not, ◌||◌, ◌&&◌, List, [], ◌∷◌}
-use Rattle.std.specs.Prelude.{length, map, take, drop, Option, Some, None, option_and_then, Result, Ok, nat_lt, ◌==◌, if◌then◌else◌, codes}
+use Rattle.std.specs.Prelude.{ℕ, zero, suc, ◌+◌, ◌-◌, ◌^◌, Bool, true, false, not, ◌||◌, ◌&&◌, List, [], ◌∷◌}
+use Rattle.std.specs.Prelude.{length, map, take, drop, Option, Some, None, option_and_then, option_map, Result, Ok, nat_lt, ◌==◌, if◌then◌else◌, codes}
+use Rattle.std.specs.List.{position_or_len, before_first}
+use Rattle.std.specs.Option.{option_or}
 use Rattle.std.specs.Str.{bytes_eq}
+use Rattle.mdp_math.specs.Rational.{ℚ}
+use Rattle.mdp_num.specs.Canonical.{canonical_of}
+use Rattle.mdp_rows.specs.declared.dir.Dir.{Dir}
 use Rattle.mdp_rows.specs.declared.dir.Dir.TheVariants.{Max, Min}
 use Rattle.mdp_rows.specs.Name.{is_name}
 use Rattle.mdp_cert.specs.declared.error.CertKind.TheVariants as kind
 use Rattle.mdp_cert.specs.declared.error.Refusal.{Refusal}
 use Rattle.mdp_cert.specs.declared.init.Init.{Init}
-use Rattle.mdp_cert.specs.declared.init.Init.TheVariants.{Missing, Finite}
+use Rattle.mdp_cert.specs.declared.init.Init.TheVariants.{Missing, Finite, Infinite}
 use Rattle.mdp_cert.specs.declared.version.Version.{Version}
 use Rattle.mdp_cert.specs.declared.version.Version.TheVariants.{One, Two}
-use Rattle.mdp_cert.specs.declared.reach_entry.ReachEntry.{ReachEntry}
-use Rattle.mdp_cert.specs.Cert.{PlainClaim, upper, reach, PlainBody, bounds, policy, Certificate}
+use Rattle.mdp_cert.specs.declared.policy_entry.PolicyEntry.{PolicyEntry}
+use Rattle.mdp_cert.specs.Cert.{PlainClaim, upper, reach, reward, may_be_infinite, PlainBody, bounds, policy, rewards, Certificate}
 use Rattle.mdp_cert.specs.Lines.{◌>>=◌, refused, refuse_if, or_refused, is_line, Place, place, line_by}
-use Rattle.mdp_cert.specs.Words.{words, first_of, begins_with, words_behind, whole_at, frac_at}
+use Rattle.mdp_cert.specs.Words.{words, first_of, begins_with, words_behind, whole_at}
 use Rattle.mdp_cert.specs.Runs.{Columns, Run, run, single, entries_of}
-use Rattle.mdp_cert.specs.Claims.{bound_columns, policy_columns}
+use Rattle.mdp_cert.specs.Claims.{reward_parse, fraction_value, reward_value, bound_columns, policy_columns}
 use Rattle.mdp_cert.specs.Spelling.{version_text, end_text}
 
 -- ---- the version
@@ -39,14 +44,39 @@ closed_name text =
 abbrev pub name_behind : List ℕ → List ℕ → Option (List ℕ)
 name_behind front text = option_and_then closed_name (behind front text)
 
-abbrev pub first_claim : Option (List ℕ) → Option (List ℕ) → Option (List ℕ) → Option PlainClaim
-first_claim (Some label) max min = Some (upper label)
-first_claim None (Some label) min = Some (reach Max label)
-first_claim None None (Some label) = Some (reach Min label)
-first_claim None None None = None
+abbrev pub is_quote : ℕ → Bool
+is_quote c = c == 34
+
+-- a name, `" "`, and a name with `"` at the end; the first name ends at the first `"`
+abbrev pub two_names : List ℕ → Option (List ℕ × List ℕ)
+two_names text =
+    if is_name (before_first is_quote text)
+    then option_map (λ label. (before_first is_quote text, label)) (name_behind (codes "\" \"") (drop (position_or_len is_quote text) text))
+    else None
+
+abbrev pub upper_claim : List ℕ → Option PlainClaim
+upper_claim text = option_map upper (name_behind (codes "claim upper reach \"") text)
+
+abbrev pub reach_front : Dir → List ℕ
+reach_front Max = codes "claim max reach \""
+reach_front Min = codes "claim min reach \""
+
+abbrev pub reach_claim : Dir → List ℕ → Option PlainClaim
+reach_claim dir text = option_map (reach dir) (name_behind (reach_front dir) text)
+
+abbrev pub reward_front : Dir → List ℕ
+reward_front Max = codes "claim max reward \""
+reward_front Min = codes "claim min reward \""
+
+abbrev pub reward_claim : Dir → List ℕ → Option PlainClaim
+reward_claim dir text = option_map (λ names. reward dir names.0 names.1) (option_and_then two_names (behind (reward_front dir) text))
+
+-- the claims of a direction
+unfoldable pub claim_to : Dir → List ℕ → Option PlainClaim
+claim_to dir text = option_or (reach_claim dir text) (reward_claim dir text)
 
 unfoldable pub claim_of : List ℕ → Option PlainClaim
-claim_of text = first_claim (name_behind (codes "claim upper reach \"") text) (name_behind (codes "claim max reach \"") text) (name_behind (codes "claim min reach \"") text)
+claim_of text = option_or (upper_claim text) (option_or (claim_to Max text) (claim_to Min text))
 
 unfoldable pub claim_at : ℕ → List ℕ → Result PlainClaim Refusal
 claim_at n text = or_refused kind.Claim n (claim_of text)
@@ -60,22 +90,30 @@ states_at n text = do
   range ← refuse_if kind.Count n ((states == 0) || nat_lt (2 ^ 20) states)
   Ok states
 
-unfoldable pub finite_at : ℕ → ℕ → List ℕ → Result Init Refusal
-finite_at states n text = do
+-- the value in the line `init`: a fraction, or `inf` where the claim's values may be infinite
+abbrev pub init_parse : Bool → List ℕ → Option (Option ℚ)
+init_parse true word = reward_parse word
+init_parse false word = option_map Some (canonical_of word)
+
+abbrev pub init_of : ℕ → Option ℚ → Init
+init_of state (Some value) = Finite state value
+init_of state None = Infinite state
+
+unfoldable pub given_at : Bool → ℕ → ℕ → List ℕ → Result Init Refusal
+given_at infinite states n text = do
   behind ← words_behind (codes "init") 2 n text
   state ← whole_at n (first_of behind)
-  value ← frac_at n (first_of (drop 1 behind))
+  value ← or_refused kind.Number n (init_parse infinite (first_of (drop 1 behind)))
   inside ← refuse_if kind.Count n (not (nat_lt state states))
-  Ok (Finite state value)
+  Ok (init_of state value)
 
 -- a state with its value, or `-`
-unfoldable pub valued_at : ℕ → ℕ → List ℕ → Result Init Refusal
-valued_at states n text = if bytes_eq text (codes "init -") then Ok Missing else finite_at states n text
+unfoldable pub valued_at : Bool → ℕ → ℕ → List ℕ → Result Init Refusal
+valued_at infinite states n text = if bytes_eq text (codes "init -") then Ok Missing else given_at infinite states n text
 
 -- the form of the line is the claim's
 abbrev pub init_at : PlainClaim → ℕ → ℕ → List ℕ → Result Init Refusal
-init_at (upper label) states n text = valued_at states n text
-init_at (reach dir label) states n text = valued_at states n text
+init_at claim states n text = valued_at (may_be_infinite claim) states n text
 
 pub record Head : Type 0 where
   pub claim : PlainClaim
@@ -158,13 +196,17 @@ entries_to_end v k states p = do
   end ← line_by (is_line kind.Shape end_text) entries.1
   Ok (entries.0, end.1)
 
-abbrev pub policy_body : List ReachEntry → PlainBody
+abbrev pub policy_body : List (PolicyEntry ℚ) → PlainBody
 policy_body xs = policy (map (λ x. x.value) xs) (map (λ x. x.choice) xs) (map (λ x. x.rank) xs)
+
+abbrev pub reward_body : List (PolicyEntry (Option ℚ)) → PlainBody
+reward_body xs = rewards (map (λ x. x.value) xs) (map (λ x. x.choice) xs) (map (λ x. x.rank) xs)
 
 -- the lines behind the head, by the claim, with the line `end`
 unfoldable pub body_from : Version → PlainClaim → ℕ → Place → Result (PlainBody × Place) Refusal
 body_from v (upper label) states p = entries_to_end v bound_columns states p >>= λ xs. Ok (bounds xs.0, xs.1)
-body_from v (reach dir label) states p = entries_to_end v policy_columns states p >>= λ xs. Ok (policy_body xs.0, xs.1)
+body_from v (reach dir label) states p = entries_to_end v (policy_columns fraction_value) states p >>= λ xs. Ok (policy_body xs.0, xs.1)
+body_from v (reward dir name label) states p = entries_to_end v (policy_columns reward_value) states p >>= λ xs. Ok (reward_body xs.0, xs.1)
 
 -- ---- the whole
 

@@ -5,12 +5,12 @@ use Rattle.mdp_num.specs.Value.{spelling}
 use Rattle.mdp_rows.specs.declared.dir.Dir.{Dir}
 use Rattle.mdp_rows.specs.declared.dir.Dir.TheVariants.{Max, Min}
 use Rattle.mdp_cert.specs.declared.init.Init.{Init}
-use Rattle.mdp_cert.specs.declared.init.Init.TheVariants.{Missing, Finite}
+use Rattle.mdp_cert.specs.declared.init.Init.TheVariants.{Missing, Finite, Infinite}
 use Rattle.mdp_cert.specs.declared.version.Version.{Version}
 use Rattle.mdp_cert.specs.declared.version.Version.TheVariants.{One, Two}
-use Rattle.mdp_cert.specs.Cert.{PlainClaim, upper, reach, PlainBody, bounds, policy, Certificate}
+use Rattle.mdp_cert.specs.Cert.{PlainClaim, upper, reach, reward, PlainBody, bounds, policy, rewards, Certificate}
 use Rattle.mdp_cert.specs.Runs.{Columns, Run, runs_in}
-use Rattle.mdp_cert.specs.Claims.{bound_columns, policy_columns, policies}
+use Rattle.mdp_cert.specs.Claims.{fraction_value, reward_value, bound_columns, policy_columns, policies}
 
 -- a text with its line feed
 abbrev pub line : List ℕ → List ℕ
@@ -37,6 +37,7 @@ version_text Two = codes "mdp-certificate 2"
 abbrev pub claim_text : PlainClaim → List ℕ
 claim_text (upper label) = codes "claim" ␣ codes "upper" ␣ codes "reach" ␣ quoted label
 claim_text (reach dir label) = codes "claim" ␣ dir_text dir ␣ codes "reach" ␣ quoted label
+claim_text (reward dir name label) = codes "claim" ␣ dir_text dir ␣ codes "reward" ␣ quoted name ␣ quoted label
 
 abbrev pub states_text : ℕ → List ℕ
 states_text states = codes "states" ␣ decimal states
@@ -44,6 +45,7 @@ states_text states = codes "states" ␣ decimal states
 abbrev pub init_text : Init → List ℕ
 init_text Missing = codes "init -"
 init_text (Finite state value) = codes "init" ␣ decimal state ␣ spelling value
+init_text (Infinite state) = codes "init" ␣ decimal state ␣ codes "inf"
 
 abbrev pub head_text : Certificate → List ℕ
 head_text c = line (claim_text c.claim) ++ (line (states_text c.states) ++ line (init_text c.init))
@@ -75,7 +77,8 @@ closed_lines v k xs = state_lines v k xs ++ line end_text
 -- a body ends with the line `end`
 abbrev pub body_text : Version → PlainBody → List ℕ
 body_text v (bounds values) = closed_lines v bound_columns values
-body_text v (policy values choices ranks) = closed_lines v policy_columns (policies values choices ranks)
+body_text v (policy values choices ranks) = closed_lines v (policy_columns fraction_value) (policies values choices ranks)
+body_text v (rewards values choices ranks) = closed_lines v (policy_columns reward_value) (policies values choices ranks)
 
 -- ---- the whole
 

@@ -1,4 +1,4 @@
-use mdp_farkas::{ReachCert, UpperCert};
+use mdp_farkas::{ReachCert, RewardCert, UpperCert};
 
 /// What a certificate says of each state.
 #[derive(Debug, Drop)]
@@ -7,4 +7,6 @@ pub enum Body {
     Upper(UpperCert),
     /// A value, the policy's choice and a rank.
     Reach(ReachCert),
+    /// A value that may be infinite, the policy's choice and a rank.
+    Reward(RewardCert),
 }

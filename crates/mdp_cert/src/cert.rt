@@ -1,6 +1,5 @@
 ghost use Rattle.std.specs.Prelude.{◌<◌, ◌≤◌, ◌^◌, IsTrue};
-ghost use Rattle.mdp_rows.specs.Name.{is_name};
-ghost use Rattle.mdp_cert.specs.Cert.{plain_claim, plain_body, label_of, is_inside, is_body_of};
+ghost use Rattle.mdp_cert.specs.Cert.{plain_claim, plain_body, are_names, is_init_of, is_body_of};
 
 use crate::body::Body;
 use crate::claim::Claim;
@@ -15,7 +14,7 @@ pub struct Cert {
     pub body: Body,
     ghost some: { 0 < states },
     ghost limit: { states ≤ 2 ^ 20 },
-    ghost name: { IsTrue (is_name (label_of (plain_claim claim))) },
-    ghost inside: { IsTrue (is_inside states init) },
+    ghost names: { IsTrue (are_names (plain_claim claim)) },
+    ghost inside: { IsTrue (is_init_of (plain_claim claim) states init) },
     ghost entries: { IsTrue (is_body_of (plain_claim claim) states (plain_body body)) },
 }

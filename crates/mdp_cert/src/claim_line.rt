@@ -1,14 +1,14 @@
-ghost use Rattle.std.specs.Prelude.{◌≡◌, ◌==◌, ◌||◌, Ok, Some, None, MatchResult, MatchOption};
-ghost use Rattle.std.specs.List.{list_any};
+ghost use Rattle.std.specs.Prelude.{◌≡◌, ◌==◌, ◌||◌, Ok, Some, None, IfOk, MatchResult, MatchOption, option_and_then, option_map};
+ghost use Rattle.std.specs.List.{list_any, position_or_len};
 ghost use Rattle.mdp_rows.specs.Name.{is_name};
 ghost use Rattle.mdp_cert.specs.Cert.{plain_claim};
-ghost use Rattle.mdp_cert.specs.Reading.{closed_name, name_behind, claim_at};
+ghost use Rattle.mdp_cert.specs.Reading.{behind, closed_name, name_behind, is_quote, two_names, upper_claim, reach_front, reach_claim, reward_front, reward_claim, claim_to, claim_of, claim_at};
 ghost use Rattle.mdp_cert.specs.Answer.{Refuses};
 
 use crate::claim::Claim;
 use crate::error::{CertError, CertKind};
 use mdp_rows::Dir;
-use std::alloc::Global;
+use std::alloc::{AllocError, Global};
 
 /// Whether a quote or a line feed is among the bytes.
 fn has_quote_or_line_feed(text: &[u8]) -> bool
@@ -42,31 +42,122 @@ fn name_behind<'a>(front: &[u8], text: &'a [u8]) -> Option<&'a [u8]>
     closed_name(text.strip_prefix(front)?)
 }
 
+/// How many bytes stand before the first quote, or all where there is none.
+fn before_quote(text: &[u8]) -> usize
+    ensures { result ≡ position_or_len is_quote text.now }
+{
+    text.iter().take_while(|byte| **byte != b'"').count()
+}
+
+/// The name before the first quote, and the name between `" "` there and the quote at the text's end.
+fn two_names(text: &[u8]) -> Option<(&[u8], &[u8])>
+    ensures { MatchOption result (two_names text.now ≡ None) (λ names. two_names text.now ≡ Some (names.0.now, names.1.now)) }
+{
+    let end = before_quote(text);
+    let name = &text[..end];
+    if !is_name(name) {
+        return None;
+    }
+    let label = name_behind(b"\" \"", &text[end..])?;
+    Some((name, label))
+}
+
+/// The claim `upper reach` of this line.
+fn upper_claim(alloc: Global, text: &[u8]) -> Result<Option<Claim>, AllocError>
+    ensures { IfOk result (λ c. option_map plain_claim c ≡ upper_claim text.now) }
+{
+    let Some(name) = name_behind(b"claim upper reach \"", text) else {
+        return Ok(None);
+    };
+    let label = Vec::from_slice(alloc, name)?;
+    Ok(Some(Claim::Upper { label }))
+}
+
+/// What stands before the label in the claim `DIR reach`.
+pub(crate) fn reach_front(dir: Dir) -> &'static [u8]
+    ensures { result.now ≡ reach_front dir }
+{
+    match dir {
+        Dir::Max => b"claim max reach \"",
+        Dir::Min => b"claim min reach \"",
+    }
+}
+
+/// The claim `DIR reach` of this line.
+fn reach_claim(alloc: Global, dir: Dir, text: &[u8]) -> Result<Option<Claim>, AllocError>
+    ensures { IfOk result (λ c. option_map plain_claim c ≡ reach_claim dir text.now) }
+{
+    let Some(name) = name_behind(reach_front(dir), text) else {
+        return Ok(None);
+    };
+    let label = Vec::from_slice(alloc, name)?;
+    Ok(Some(Claim::Reach { dir, label }))
+}
+
+/// What stands before the names in the claim `DIR reward`.
+pub(crate) fn reward_front(dir: Dir) -> &'static [u8]
+    ensures { result.now ≡ reward_front dir }
+{
+    match dir {
+        Dir::Max => b"claim max reward \"",
+        Dir::Min => b"claim min reward \"",
+    }
+}
+
+/// The names of the claim `DIR reward` of this line.
+fn reward_names(dir: Dir, text: &[u8]) -> Option<(&[u8], &[u8])>
+    ensures { let due = option_and_then two_names (behind (reward_front dir) text.now) in MatchOption result (due ≡ None) (λ names. due ≡ Some (names.0.now, names.1.now)) }
+{
+    two_names(text.strip_prefix(reward_front(dir))?)
+}
+
+/// The claim `DIR reward` of this line.
+fn reward_claim(alloc: Global, dir: Dir, text: &[u8]) -> Result<Option<Claim>, AllocError>
+    ensures { IfOk result (λ c. option_map plain_claim c ≡ reward_claim dir text.now) }
+{
+    let Some((name, label)) = reward_names(dir, text) else {
+        return Ok(None);
+    };
+    let name = Vec::from_slice(alloc, name)?;
+    let label = Vec::from_slice(alloc, label)?;
+    Ok(Some(Claim::Reward { dir, name, label }))
+}
+
+/// The claim of this direction in this line.
+#[tactic(auto, unfolding(crate::specs::Reading::claim_to))]
+fn claim_to(alloc: Global, dir: Dir, text: &[u8]) -> Result<Option<Claim>, AllocError>
+    ensures { IfOk result (λ c. option_map plain_claim c ≡ claim_to dir text.now) }
+{
+    if let Some(claim) = reach_claim(alloc, dir, text)? {
+        return Ok(Some(claim));
+    }
+    reward_claim(alloc, dir, text)
+}
+
+/// The claim of this line, where it has one.
+#[tactic(auto, unfolding(crate::specs::Reading::claim_of))]
+fn claim_of(alloc: Global, text: &[u8]) -> Result<Option<Claim>, AllocError>
+    ensures { IfOk result (λ c. option_map plain_claim c ≡ claim_of text.now) }
+{
+    if let Some(claim) = upper_claim(alloc, text)? {
+        return Ok(Some(claim));
+    }
+    if let Some(claim) = claim_to(alloc, Dir::Max, text)? {
+        return Ok(Some(claim));
+    }
+    claim_to(alloc, Dir::Min, text)
+}
+
 /// The claim of this line.
-#[tactic(auto, unfolding(crate::specs::Reading::claim_at, crate::specs::Reading::claim_of))]
+#[tactic(auto, unfolding(crate::specs::Reading::claim_at))]
 pub(crate) fn claim_at(alloc: Global, line: u64, text: &[u8]) -> Result<Claim, CertError>
     ensures { MatchResult result (λ c. claim_at line text.now ≡ Ok (plain_claim c)) (λ e. Refuses e (claim_at line text.now)) }
 {
-    if let Some(name) = name_behind(b"claim upper reach \"", text) {
-        let label = Vec::from_slice(alloc, name)?;
-        return Ok(Claim::Upper { label });
+    match claim_of(alloc, text)? {
+        Some(claim) => Ok(claim),
+        None => Err(CertError::At {
+            line,
+            kind: CertKind::Claim,
+        }),
     }
-    if let Some(name) = name_behind(b"claim max reach \"", text) {
-        let label = Vec::from_slice(alloc, name)?;
-        return Ok(Claim::Reach {
-            dir: Dir::Max,
-            label,
-        });
-    }
-    if let Some(name) = name_behind(b"claim min reach \"", text) {
-        let label = Vec::from_slice(alloc, name)?;
-        return Ok(Claim::Reach {
-            dir: Dir::Min,
-            label,
-        });
-    }
-    Err(CertError::At {
-        line,
-        kind: CertKind::Claim,
-    })
 }

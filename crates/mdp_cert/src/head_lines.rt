@@ -1,8 +1,8 @@
 ghost use Rattle.std.specs.Prelude.{◌≡◌, Ok, MatchResult};
 ghost use Rattle.mdp_cert.specs.Answer.{Refuses, plain_head};
-ghost use Rattle.mdp_cert.specs.Cert.{plain_claim};
+ghost use Rattle.mdp_cert.specs.Cert.{plain_claim, may_be_infinite};
 ghost use Rattle.mdp_cert.specs.Lines.{place};
-ghost use Rattle.mdp_cert.specs.Reading.{version_at, states_at, finite_at, valued_at, init_at, head_from};
+ghost use Rattle.mdp_cert.specs.Reading.{version_at, states_at, init_parse, init_of, given_at, valued_at, init_at, head_from};
 
 use crate::claim::Claim;
 use crate::claim_line::claim_at;
@@ -10,9 +10,11 @@ use crate::error::{CertError, CertKind, Refusal};
 use crate::head::Head;
 use crate::init::Init;
 use crate::lines::{next_line, refuse_if};
-use crate::numbers::{frac_at, whole_at};
+use crate::numbers::whole_at;
+use crate::values::Value;
 use crate::version::Version;
 use crate::words::{cut_word, only_word, words_behind};
+use mdp_num::{Frac, read_canonical};
 use std::alloc::Global;
 
 /// The version that the first line names.
@@ -43,37 +45,65 @@ fn states_at(line: u64, text: &[u8]) -> Result<u32, Refusal>
     Ok(states)
 }
 
+/// Whether the values of a claim may be infinite.
+fn may_be_infinite(claim: &Claim) -> bool
+    ensures { result ≡ may_be_infinite (plain_claim claim.now) }
+{
+    matches!(claim, Claim::Reward { .. })
+}
+
+/// The value that a word spells: a fraction, or `inf` where values may be infinite.
+fn init_parse(infinite: bool, word: &[u8]) -> Option<Option<Frac>>
+    ensures { result ≡ init_parse infinite word.now }
+{
+    if infinite {
+        return Value::read_word(word);
+    }
+    Some(Some(read_canonical(word)?))
+}
+
+/// An initial state and its value.
+fn init_of(state: u32, value: Option<Frac>) -> Init
+    ensures { result ≡ init_of state value }
+{
+    match value {
+        Some(value) => Init::Finite(state, value),
+        None => Init::Infinite(state),
+    }
+}
+
 /// The initial state and its value, of the line `init S V`.
-#[tactic(auto, unfolding(crate::specs::Reading::finite_at))]
-fn finite_at(states: u32, line: u64, text: &[u8]) -> Result<Init, Refusal>
-    ensures { result ≡ finite_at states line text.now }
+#[tactic(auto, unfolding(crate::specs::Reading::given_at))]
+fn given_at(infinite: bool, states: u32, line: u64, text: &[u8]) -> Result<Init, Refusal>
+    ensures { result ≡ given_at infinite states line text.now }
 {
     let behind = words_behind(line, text, b"init", 2)?;
     let (word, behind) = cut_word(behind);
     let state = whole_at(line, word)?;
-    let value = frac_at(line, only_word(behind))?;
+    let value = init_parse(infinite, only_word(behind)).ok_or(Refusal {
+        kind: CertKind::Number,
+        line,
+    })?;
     refuse_if(CertKind::Count, line, state >= states)?;
-    Ok(Init::Finite(state, value))
+    Ok(init_of(state, value))
 }
 
 /// What the line `init S V` or `init -` says.
 #[tactic(auto, unfolding(crate::specs::Reading::valued_at))]
-fn valued_at(states: u32, line: u64, text: &[u8]) -> Result<Init, Refusal>
-    ensures { result ≡ valued_at states line text.now }
+fn valued_at(infinite: bool, states: u32, line: u64, text: &[u8]) -> Result<Init, Refusal>
+    ensures { result ≡ valued_at infinite states line text.now }
 {
     if text == b"init -".as_slice() {
         return Ok(Init::Missing);
     }
-    finite_at(states, line, text)
+    given_at(infinite, states, line, text)
 }
 
 /// What the line `init` says, in the form of the claim.
 fn init_at(claim: &Claim, states: u32, line: u64, text: &[u8]) -> Result<Init, Refusal>
     ensures { result ≡ init_at (plain_claim claim.now) states line text.now }
 {
-    match claim {
-        Claim::Upper { .. } | Claim::Reach { .. } => valued_at(states, line, text),
-    }
+    valued_at(may_be_infinite(claim), states, line, text)
 }
 
 /// Reads the lines 2 to 4, of claim, states and init, and gives the bytes behind them.

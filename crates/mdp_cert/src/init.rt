@@ -7,4 +7,6 @@ pub enum Init {
     Missing,
     /// The initial state, and its value.
     Finite(u32, Frac),
+    /// The initial state, of infinite value.
+    Infinite(u32),
 }

@@ -3,8 +3,9 @@
 //! The lines of states are the same for all claims: in version 1 a line for each state, in version 2 a line for each longest run of states with
 //! the same words. They are read in `state_lines` and written in `write`, over any `Entry`: the words behind a state's number. To add a claim with
 //! a line for each state, give its words (`Columns` in specs/Claims, `IsColumns` in proofs/Columns), an `Entry` and the `Lists` that keep it, and
-//! a case in `push_body` and `body_from`; the form of its line `init` is a case of `init_at`. A line more before those of the states is read and
-//! written in these cases, and so is a body of other lines, up to the line `end`. docs/certificates.md has the steps one by one.
+//! a case in `push_body` and `body_from`; whether its values may be infinite is a case of `may_be_infinite`. A line more before those of the
+//! states is read and written in these cases, and so is a body of other lines, up to the line `end`. docs/certificates.md has the steps one by
+//! one.
 #![tactic(auto)]
 
 mod body;
@@ -19,14 +20,15 @@ mod init;
 mod laws;
 mod lines;
 mod numbers;
+mod policy_entry;
+mod policy_lines;
 mod push;
-mod reach_entry;
-mod reach_lines;
 mod read;
 mod state_lines;
 #[cfg(test)]
 mod tests;
 mod upper_lines;
+mod values;
 mod version;
 mod words;
 mod write;

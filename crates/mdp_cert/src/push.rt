@@ -6,11 +6,11 @@ ghost use Rattle.mdp_cert.specs.Spelling.{line, claim_text, states_text, init_te
 ghost use Rattle.mdp_cert.specs.Answer.{Keeps};
 
 use crate::claim::Claim;
+use crate::claim_line::{reach_front, reward_front};
 use crate::entries::Entry;
 use crate::init::Init;
 use itoa::Buffer;
 use mdp_num::{Frac, Memory};
-use mdp_rows::Dir;
 
 /// Appends a whole number in decimal.
 fn push_whole(out: &mut Vec<u8>, number: u32) -> Result<(), Memory>
@@ -106,6 +106,16 @@ fn push_quoted(out: &mut Vec<u8>, front: &[u8], name: &[u8]) -> Result<(), Memor
     Ok(())
 }
 
+/// Appends a line of this front and two names in quotes; the front ends with the first quote.
+fn push_two_quoted(out: &mut Vec<u8>, front: &[u8], name: &[u8], label: &[u8]) -> Result<(), Memory>
+    ensures text { OnOk result (out.new.items ≡ out.old.items ++ line (front.now ++ (name.now ++ 34 ∷ 32 ∷ 34 ∷ (label.now ++ 34 ∷ [])))) }
+    ensures front { Keeps out.old.items out.new.items }
+{
+    out.extend_from_slice(front)?;
+    out.extend_from_slice(name)?;
+    push_quoted(out, b"\" \"", label)
+}
+
 /// Appends the line of the claim.
 pub(crate) fn push_claim(out: &mut Vec<u8>, claim: &Claim) -> Result<(), Memory>
     ensures text { OnOk result (out.new.items ≡ out.old.items ++ line (claim_text (plain_claim claim.now))) }
@@ -113,14 +123,10 @@ pub(crate) fn push_claim(out: &mut Vec<u8>, claim: &Claim) -> Result<(), Memory>
 {
     match claim {
         Claim::Upper { label } => push_quoted(out, b"claim upper reach \"", label),
-        Claim::Reach {
-            dir: Dir::Max,
-            label,
-        } => push_quoted(out, b"claim max reach \"", label),
-        Claim::Reach {
-            dir: Dir::Min,
-            label,
-        } => push_quoted(out, b"claim min reach \"", label),
+        Claim::Reach { dir, label } => push_quoted(out, reach_front(*dir), label),
+        Claim::Reward { dir, name, label } => {
+            push_two_quoted(out, reward_front(*dir), name, label)
+        }
     }
 }
 
@@ -145,6 +151,17 @@ fn push_finite(out: &mut Vec<u8>, state: u32, value: &Frac) -> Result<(), Memory
     push_value_end(out, value)
 }
 
+/// Appends the line of a given initial state of infinite value.
+fn push_infinite(out: &mut Vec<u8>, state: u32) -> Result<(), Memory>
+    ensures text { OnOk result (out.new.items ≡ out.old.items ++ line (init_text (Init.Infinite state))) }
+    ensures front { Keeps out.old.items out.new.items }
+{
+    out.extend_from_slice(b"init ")?;
+    push_whole(out, state)?;
+    out.extend_from_slice(b" inf\n")?;
+    Ok(())
+}
+
 /// Appends the line of the initial state.
 pub(crate) fn push_init(out: &mut Vec<u8>, init: &Init) -> Result<(), Memory>
     ensures text { OnOk result (out.new.items ≡ out.old.items ++ line (init_text init.now)) }
@@ -156,5 +173,6 @@ pub(crate) fn push_init(out: &mut Vec<u8>, init: &Init) -> Result<(), Memory>
             Ok(())
         }
         Init::Finite(state, value) => push_finite(out, *state, value),
+        Init::Infinite(state) => push_infinite(out, *state),
     }
 }

@@ -11,7 +11,7 @@ use crate::claim::Claim;
 use crate::error::{CertError, CertKind, Refusal};
 use crate::head_lines::{head_from, version_at};
 use crate::lines::{next_line, refuse_if};
-use crate::reach_lines::reach_cert;
+use crate::policy_lines::{reach_cert, reward_cert};
 use crate::state_lines::entries_to_end;
 use crate::version::Version;
 use mdp_farkas::UpperCert;
@@ -36,6 +36,10 @@ fn body_from<'a>(
         Claim::Reach { .. } => {
             let (entries, line, rest) = entries_to_end(alloc, version, states, 5, bytes)?;
             Ok((Body::Reach(reach_cert(alloc, &entries)?), line, rest))
+        }
+        Claim::Reward { .. } => {
+            let (entries, line, rest) = entries_to_end(alloc, version, states, 5, bytes)?;
+            Ok((Body::Reward(reward_cert(alloc, &entries)?), line, rest))
         }
     }
 }

@@ -111,6 +111,7 @@ fn push_body(out: &mut Vec<u8>, version: Version, cert: &Cert) -> Result<(), Mem
     match &cert.body {
         Body::Upper(bounds) => push_to_end(out, version, cert.states, bounds),
         Body::Reach(policy) => push_to_end(out, version, cert.states, policy),
+        Body::Reward(policy) => push_to_end(out, version, cert.states, policy),
     }
 }
 

@@ -4,6 +4,7 @@ use Rattle.std.specs.List.{flat_map, range_with_len, AllByRecursion}
 use Rattle.std.specs.Option.{IsSome}
 use Rattle.mdp_math.proofs.Numbers.{last_or}
 use Rattle.mdp_farkas.specs.Verdict.{Check, objection, objection_to, verdict, verdict_of, InWidth, IfYes}
+use Rattle.mdp_farkas.specs.declared.verdict.Fault.{Fault}
 use Rattle.mdp_farkas.specs.declared.verdict.Verdict.{Verdict}
 use Rattle.mdp_farkas.specs.declared.verdict.Verdict.TheVariants.{Yes, No, Wide}
 use Rattle.mdp_farkas.specs.declared.verdict.Objection.{Objection}
@@ -38,6 +39,25 @@ pub if_yes : (v : Verdict) (P : Type 0) → (v ≡ Yes → P) → IfYes v P
 if_yes Yes P h = h refl
 if_yes (No fault) P h = tt
 if_yes (Wide state choice) P h = tt
+
+-- a check that holds where none of its terms is past width
+abbrev pub Sound : Check → Type 0
+Sound c = IsSome c.holds → c.holds ≡ Some true
+
+pub holds_of_sound : (cs : List Check) → Each Sound cs → Each InWidth cs → Each Holds cs
+holds_of_sound [] s w = tt
+holds_of_sound (c ∷ cs) s w = (s.0 w.0, holds_of_sound cs s.1 w.1)
+
+no_by : (c : Check) (h : Option Bool) (cs : List Check) (f : Fault) → (IsSome h → h ≡ Some true) → ((g : Fault) → verdict_of cs ≡ No g → ⊥)
+    → verdict (objection c h >>= (λ ok. objection_to cs)) ≡ No f → ⊥
+no_by c None cs f s rest e = cc
+no_by c (Some false) cs f s rest e = let k = s refl in cc
+no_by c (Some true) cs f s rest e = rest f e
+
+-- checks of which none is false are never answered no
+pub never_no : (cs : List Check) → Each Sound cs → (f : Fault) → verdict_of cs ≡ No f → ⊥
+never_no [] s f e = cc
+never_no (c ∷ cs) s f e = no_by c c.holds cs f s.0 (never_no cs s.1) e
 
 module _ (P : Check → Type 0) where
   pub each_append : (xs ys : List Check) → Each P xs → Each P ys → Each P (xs ++ ys)

@@ -1,14 +1,14 @@
 -- What Bellman's inequality by written operations says of the numbers.
 use Rattle.std.proofs.Common.{◌≡◌, ℕ, Bool, true, List, Option, Some, sym, subst, ◌∙◌}
 use Rattle.std.specs.Option.{IsSome}
-use Rattle.mdp_math.specs.Rational.{ℚ, ◌≤ℚ◌}
-use Rattle.mdp_spec.specs.Mdp.{Mdp, row_at, value_at}
+use Rattle.mdp_math.specs.Rational.{ℚ, ◌+ℚ◌, ◌≤ℚ◌}
+use Rattle.mdp_spec.specs.Mdp.{Entry, Mdp, row_at, value_at}
 use Rattle.mdp_spec.specs.Row.{row_sum}
-use Rattle.mdp_farkas.specs.Bellman.{stands, stands_at}
+use Rattle.mdp_farkas.specs.Bellman.{stands, sum_stands, stands_at}
 use Rattle.mdp_rows.specs.declared.dir.Dir.{Dir}
 use Rattle.mdp_rows.specs.declared.dir.Dir.TheVariants.{Max, Min}
 use Rattle.mdp_farkas.proofs.Comparing.{le_of_at_least, at_least_of_le, le_of_at_most, at_most_of_le}
-use Rattle.mdp_farkas.proofs.Summing.{summed, told_of_holds}
+use Rattle.mdp_farkas.proofs.Summing.{summed, summed_from, told_of_holds}
 
 abbrev pub Stands : Dir → ℚ → ℚ → Type 0
 Stands Max value sum = sum ≤ℚ value
@@ -21,6 +21,16 @@ stands_of Min x y h = le_of_at_most x y h
 of_stands : (dir : Dir) (x y : ℚ) → Stands dir x y → IsSome (stands dir x y) → stands dir x y ≡ Some true
 of_stands Max x y h w = at_least_of_le x y h w
 of_stands Min x y h w = at_most_of_le x y h w
+
+-- the same to acc and the sum over a row
+pub sum_stands_of : (dir : Dir) (x : ℚ) (z : List ℚ) (acc : ℚ) (row : List Entry) → sum_stands dir x z acc row ≡ Some true → Stands dir x (acc +ℚ row_sum row z)
+sum_stands_of dir x z acc row h = stands_of dir x (acc +ℚ row_sum row z) (sym (summed_from (stands dir x) z acc row (told_of_holds _ h)) ∙ h)
+
+pub of_sum_stands : (dir : Dir) (x : ℚ) (z : List ℚ) (acc : ℚ) (row : List Entry) → Stands dir x (acc +ℚ row_sum row z) → IsSome (sum_stands dir x z acc row)
+    → sum_stands dir x z acc row ≡ Some true
+of_sum_stands dir x z acc row le w =
+    let e = summed_from (stands dir x) z acc row w in
+    e ∙ of_stands dir x (acc +ℚ row_sum row z) le (subst (λ (o : Option Bool). IsSome o) e w)
 
 module _ (m : Mdp) (z : List ℚ) where
   pub stands_at_of : (dir : Dir) (s c : ℕ) → stands_at dir m z s c ≡ Some true → Stands dir (value_at z s) (row_sum (row_at m s c) z)

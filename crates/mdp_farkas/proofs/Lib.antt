@@ -6,4 +6,7 @@ mod Inequalities
 pub mod UpperRules
 mod Entries
 pub mod ReachRules
+mod Tests
+pub mod RewardRules
 mod Examples
+mod ExamplesReward

@@ -24,15 +24,19 @@ written_sum-some z acc (x ∷ row) v e =
     ∙ ap (λ (s : ℚ). s +ℚ row_sum row z) (sum ∙ ap (λ (t : ℚ). acc +ℚ t) product)
     ∙ +ℚ_assoc acc (x.prob *ℚ value_at z x.target) (row_sum row z)
 
-summed_by : (f : ℚ → Option Bool) (z : List ℚ) (row : List Entry) (o : Option ℚ) → o ≡ written_sum z (of_int (pos 0)) row → IsSome (option_and_then f o)
-    → option_and_then f o ≡ f (row_sum row z)
-summed_by f z row None e h = absurd (true≢false (sym h))
-summed_by f z row (Some v) e h = ap f (written_sum-some z (of_int (pos 0)) row v e ∙ zero-+ℚ (row_sum row z))
+from_by : (f : ℚ → Option Bool) (z : List ℚ) (acc : ℚ) (row : List Entry) (o : Option ℚ) → o ≡ written_sum z acc row → IsSome (option_and_then f o)
+    → option_and_then f o ≡ f (acc +ℚ row_sum row z)
+from_by f z acc row None e h = absurd (true≢false (sym h))
+from_by f z acc row (Some v) e h = ap f (written_sum-some z acc row v e)
 
 -- what is asked of a written sum is asked of the sum
+pub summed_from : (f : ℚ → Option Bool) (z : List ℚ) (acc : ℚ) (row : List Entry) → IsSome (option_and_then f (written_sum z acc row))
+    → option_and_then f (written_sum z acc row) ≡ f (acc +ℚ row_sum row z)
+summed_from f z acc row h = from_by f z acc row (written_sum z acc row) refl h
+
 pub summed : (f : ℚ → Option Bool) (z : List ℚ) (row : List Entry) → IsSome (option_and_then f (written_sum z (of_int (pos 0)) row))
     → option_and_then f (written_sum z (of_int (pos 0)) row) ≡ f (row_sum row z)
-summed f z row h = summed_by f z row (written_sum z (of_int (pos 0)) row) refl h
+summed f z row h = summed_from f z (of_int (pos 0)) row h ∙ ap f (zero-+ℚ (row_sum row z))
 
 pub told_of_holds : (o : Option Bool) → o ≡ Some true → IsSome o
 told_of_holds o e = subst (λ (x : Option Bool). IsSome x) (sym e) refl

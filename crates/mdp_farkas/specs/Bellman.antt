@@ -1,12 +1,11 @@
 -- Bellman's inequality, by written operations: how the value of a state stands to the sum over the row of a choice.
-use Rattle.std.specs.Prelude.{ℕ, Bool, List, length, map, Option}
-use Rattle.std.specs.List.{range_with_len}
+use Rattle.std.specs.Prelude.{ℕ, Bool, List, Option}
 use Rattle.mdp_math.specs.Rational.{ℚ}
 use Rattle.mdp_math.specs.Written.{◌>>=◌}
-use Rattle.mdp_spec.specs.Mdp.{Mdp, choices_at, row_at, value_at}
+use Rattle.mdp_spec.specs.Mdp.{Entry, Mdp, row_at, value_at}
 use Rattle.mdp_spec.specs.Written.{written_sum}
 use Rattle.mdp_farkas.specs.Compare.{0ℚ, is_at_least, is_at_most}
-use Rattle.mdp_farkas.specs.Verdict.{Check, at_choice}
+use Rattle.mdp_farkas.specs.Verdict.{Check, at_choice, at_choices}
 use Rattle.mdp_rows.specs.declared.dir.Dir.{Dir}
 use Rattle.mdp_rows.specs.declared.dir.Dir.TheVariants.{Max, Min}
 
@@ -15,12 +14,16 @@ abbrev pub stands : Dir → ℚ → ℚ → Option Bool
 stands Max value sum = is_at_least value sum
 stands Min value sum = is_at_most value sum
 
+-- the same to acc and the sum over a row
+abbrev pub sum_stands : Dir → ℚ → List ℚ → ℚ → List Entry → Option Bool
+sum_stands dir value z acc row = written_sum z acc row >>= stands dir value
+
 abbrev pub stands_at : Dir → Mdp → List ℚ → ℕ → ℕ → Option Bool
-stands_at dir m z s c = written_sum z 0ℚ (row_at m s c) >>= stands dir (value_at z s)
+stands_at dir m z s c = sum_stands dir (value_at z s) z 0ℚ (row_at m s c)
 
 -- rule 5
 abbrev pub bound_check : Dir → Mdp → List ℚ → ℕ → ℕ → Check
 bound_check dir m z s c = at_choice 5 s c (stands_at dir m z s c)
 
 abbrev pub bound_checks : Dir → Mdp → List ℚ → ℕ → List Check
-bound_checks dir m z s = map (bound_check dir m z s) (range_with_len 0 (length (choices_at m s)))
+bound_checks dir m z s = at_choices m s (bound_check dir m z s)

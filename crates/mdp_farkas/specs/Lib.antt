@@ -1,5 +1,6 @@
 pub mod Bellman
 pub mod Compare
 pub mod Reach
+pub mod Reward
 pub mod Upper
 pub mod Verdict

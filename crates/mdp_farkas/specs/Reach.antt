@@ -8,14 +8,14 @@
 --     rule 7   goals and states of value 0 have rank 0
 --     rule 8   at any other state an entry of the policy's row leads to a value above 0 and a smaller rank; for the least probability an
 --              entry of each row leads to a smaller rank
-use Rattle.std.specs.Prelude.{ℕ, Bool, ◌==◌, ◌&&◌, ◌||◌, not, nat_lt, List, [], ◌∷◌, ◌++◌, length, map, slice_index, Some, if◌then◌else◌}
+use Rattle.std.specs.Prelude.{ℕ, Bool, ◌==◌, ◌&&◌, ◌||◌, not, nat_lt, List, [], ◌∷◌, ◌++◌, length, slice_index, Some, if◌then◌else◌}
 use Rattle.std.specs.List.{All, flat_map, list_any, range_with_len}
 use Rattle.mdp_math.specs.Rational.{ℚ, lt_ℚ}
 use Rattle.mdp_spec.specs.Mdp.{Mdp, states_of, choices_at, row_at, value_at}
 use Rattle.mdp_spec.specs.Tree.{is_marked}
 use Rattle.mdp_spec.specs.Rules.{MeetsReachMax, MeetsReachMin}
 use Rattle.mdp_farkas.specs.Compare.{0ℚ}
-use Rattle.mdp_farkas.specs.Verdict.{Check, InWidth, at_state, at_choice}
+use Rattle.mdp_farkas.specs.Verdict.{Check, InWidth, at_state, at_choice, at_choices}
 use Rattle.mdp_farkas.specs.Bellman.{stands_at, bound_checks}
 use Rattle.mdp_farkas.specs.Upper.{probability_checks, goal_check}
 use Rattle.mdp_rows.specs.declared.dir.Dir.{Dir}
@@ -56,7 +56,7 @@ fall_check dir m z ranks s c = at_choice 8 s c (Some (list_any (λ y. leads_down
 
 abbrev pub fall_checks : Dir → Mdp → List ℚ → List ℕ → ℕ → ℕ → List Check
 fall_checks Max m z ranks s choice = fall_check Max m z ranks s choice ∷ []
-fall_checks Min m z ranks s choice = map (fall_check Min m z ranks s) (range_with_len 0 (length (choices_at m s)))
+fall_checks Min m z ranks s choice = at_choices m s (fall_check Min m z ranks s)
 
 abbrev pub rank_checks : Dir → Mdp → List Bool → List ℚ → List ℕ → ℕ → ℕ → List Check
 rank_checks dir m goals z ranks s choice = if ends goals z s then rank_check ranks s ∷ [] else fall_checks dir m z ranks s choice

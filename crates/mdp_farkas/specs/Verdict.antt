@@ -1,7 +1,9 @@
 -- A verdict: what a list of checks, walked in order, says.
-use Rattle.std.specs.Prelude.{◌≡◌, ℕ, Bool, true, false, List, [], ◌∷◌, Option, Some, None, Result, Ok, Err}
+use Rattle.std.specs.Prelude.{◌≡◌, ℕ, Bool, true, false, List, [], ◌∷◌, length, map, Option, Some, None, Result, Ok, Err}
+use Rattle.std.specs.List.{range_with_len}
 use Rattle.std.specs.Option.{IsSome}
 use Rattle.mdp_math.specs.Result.{◌>>=◌}
+use Rattle.mdp_spec.specs.Mdp.{Mdp, choices_at}
 use Rattle.mdp_farkas.specs.declared.verdict.Verdict.{Verdict}
 use Rattle.mdp_farkas.specs.declared.verdict.Verdict.TheVariants.{Yes, No, Wide}
 use Rattle.mdp_farkas.specs.declared.verdict.Objection.{Objection}
@@ -20,6 +22,10 @@ at_state rule s holds = record { rule = rule; state = Some s; choice = None; hol
 
 abbrev pub at_choice : ℕ → ℕ → ℕ → Option Bool → Check
 at_choice rule s c holds = record { rule = rule; state = Some s; choice = Some c; holds = holds }
+
+-- one check for each choice of state s
+abbrev pub at_choices : Mdp → ℕ → (ℕ → Check) → List Check
+at_choices m s check = map check (range_with_len 0 (length (choices_at m s)))
 
 -- what stands against a check
 abbrev pub objection : Check → Option Bool → Result (Unit {0}) Objection

@@ -4,10 +4,14 @@
 
 mod bellman;
 mod compare;
+mod falls;
+mod finite;
+mod infinite;
 mod mean;
 mod ranks;
 mod reach;
 mod reward;
+mod transient;
 mod upper;
 mod verdict;
 mod walk;
@@ -15,6 +19,6 @@ mod walk;
 pub use mdp_rows::Dir;
 pub use mean::MeanCert;
 pub use reach::{ReachCert, holds_reach};
-pub use reward::RewardCert;
+pub use reward::{RewardCert, holds_reward};
 pub use upper::{UpperCert, holds_upper};
 pub use verdict::{Fault, Verdict};

@@ -9,7 +9,7 @@ ghost use Rattle.mdp_farkas.specs.Verdict.{objection_to};
 ghost use Rattle.mdp_rows.specs.declared.dir.Dir.TheVariants.{Min};
 
 use crate::verdict::{Objection, judged};
-use crate::walk::each_below;
+use crate::walk::each_choice;
 use mdp_num::Frac;
 use mdp_rows::{Dir, Marks, Model, Row};
 
@@ -88,9 +88,7 @@ fn falls_at_choices(model: &Model, values: &[Frac], ranks: &[u32], s: u32) -> Re
     requires state { s < states_of model.now }
     ensures { result ≡ objection_to (fall_checks Min model.now values.now ranks.now s 0) }
 {
-    each_below(model.choices(s), |c| {
-        fall_at(model, Dir::Min, values, ranks, s, c)
-    })
+    each_choice(model, s, |c| fall_at(model, Dir::Min, values, ranks, s, c))
 }
 
 /// State `s` has rank 0 where it is a goal or has value 0; else its row, or for the least probability each row, leads on from it.

@@ -5,7 +5,7 @@ ghost use Rattle.mdp_farkas.specs.Verdict.{objection_to, verdict_of, IsYes, IfYe
 ghost use Rattle.mdp_rows.specs.declared.dir.Dir.TheVariants.{Max, Min};
 ghost use Rattle.mdp_spec.specs.Bounds.{ReachMax, ReachMin};
 
-use crate::bellman::{bounds_at_state, row_stands};
+use crate::bellman::{bounds_at_state, choice_stands};
 use crate::ranks::rank_at_state;
 use crate::upper::{goal_at, probability_at};
 use crate::verdict::{Objection, Verdict, judged, verdict_after};
@@ -22,7 +22,7 @@ pub struct ReachCert {
 }
 
 /// The other direction.
-fn reversed(dir: Dir) -> Dir
+pub(crate) fn reversed(dir: Dir) -> Dir
     ensures { result ≡ other dir }
 {
     match dir {
@@ -32,7 +32,7 @@ fn reversed(dir: Dir) -> Dir
 }
 
 /// State `s` has the choice.
-fn choice_at(model: &Model, s: u32, choice: u32) -> Result<(), Objection>
+pub(crate) fn choice_at(model: &Model, s: u32, choice: u32) -> Result<(), Objection>
     requires { s < states_of model.now }
     ensures { result ≡ objection_to (choice_exists model.now s choice ∷ []) }
 {
@@ -53,7 +53,7 @@ fn policy_meets(
     ensures { result ≡ objection_to (policy_check dir model.now values.now s choice ∷ []) }
 {
     judged(
-        row_stands(model, reversed(dir), values, s, choice),
+        choice_stands(model, reversed(dir), values, s, choice),
         6,
         s,
         Some(choice),

@@ -1,8 +1,10 @@
-ghost use Rattle.std.specs.Prelude.{◌≡◌, ℕ, ◌<◌, List};
+ghost use Rattle.std.specs.Prelude.{◌≡◌, ℕ, ◌<◌, List, [], ◌∷◌, length};
 ghost use Rattle.std.specs.List.{flat_map, range_with_len};
-ghost use Rattle.mdp_farkas.specs.Verdict.{Check, objection_to};
+ghost use Rattle.mdp_spec.specs.Mdp.{states_of, choices_at};
+ghost use Rattle.mdp_farkas.specs.Verdict.{Check, at_choices, objection_to};
 
 use crate::verdict::Objection;
+use mdp_rows::Model;
 
 /// The checks at each number below `count`, in order: the first objection ends the walk.
 pub(crate) fn each_below<F: Fn(u32) -> Result<(), Objection>>(
@@ -16,4 +18,17 @@ pub(crate) fn each_below<F: Fn(u32) -> Result<(), Objection>>(
         at(i)?;
     }
     Ok(())
+}
+
+/// The check at each choice of state `s`.
+pub(crate) fn each_choice<F: Fn(u32) -> Result<(), Objection>>(
+    model: &Model,
+    s: u32,
+    at: F,
+) -> Result<(), Objection>
+    requires state { s < states_of model.now }
+    requires may_be_called { (c : ℕ) → c < length (choices_at model.now s) → F.pre at c }
+    ensures { (check : ℕ → Check) → ((c : ℕ) (r : _) → c < length (choices_at model.now s) → F.post at c r → r ≡ objection_to (check c ∷ [])) → result ≡ objection_to (at_choices model.now s check) }
+{
+    each_below(model.choices(s), at)
 }

@@ -1,7 +1,7 @@
 use Rattle.std.proofs.Common.{sym, ap, ◌∙◌, arith}
 use Rattle.mdp_cert.specs.declared.body.Body.{Body}
 use Rattle.mdp_cert.specs.Cert.{plain_claim, plain_body, is_body_of}
-use Rattle.mdp_cert.proofs.Growth.{bounds-entries, policy-entries}
+use Rattle.mdp_cert.proofs.Growth.{bounds-entries, policy-entries, reward-entries}
 use Rattle.mdp_cert.proofs.Policies.{length-policies}
 use Rattle.mdp_cert.proofs.write.push_body.Goals as goal
 
@@ -18,3 +18,11 @@ push_to_end-requires-in-Reach c =
     policy-entries (plain_claim cert.claim) cert.states c.in-Reach.policy.values.items c.in-Reach.policy.choices.items c.in-Reach.policy.ranks.items
     (ap (λ (b : Body). is_body_of (plain_claim cert.claim) cert.states (plain_body b)) (sym c.in-Reach.is) ∙ cert.entries) in
     length-policies c.in-Reach.policy.values.items c.in-Reach.policy.choices.items c.in-Reach.policy.ranks.items (omega (arith, e.values, e.choices)) (omega (arith, e.values, e.ranks)) ∙ e.values
+
+pub push_to_end-requires-in-Reward : goal.push_to_end-requires-in-Reward
+push_to_end-requires-in-Reward c =
+    let cert = c.args.cert.now in
+    let e =
+    reward-entries (plain_claim cert.claim) cert.states c.in-Reward.policy.values.items c.in-Reward.policy.choices.items c.in-Reward.policy.ranks.items
+    (ap (λ (b : Body). is_body_of (plain_claim cert.claim) cert.states (plain_body b)) (sym c.in-Reward.is) ∙ cert.entries) in
+    length-policies c.in-Reward.policy.values.items c.in-Reward.policy.choices.items c.in-Reward.policy.ranks.items (omega (arith, e.values, e.choices)) (omega (arith, e.values, e.ranks)) ∙ e.values

@@ -1,6 +1,6 @@
 use Rattle.std.proofs.Common.{arith}
 use Rattle.mdp_cert.proofs.Policies.{inside, entry-at}
-use Rattle.mdp_cert.proofs.reach_lines.ReachCertLists.entry.Goals as goal
+use Rattle.mdp_cert.proofs.policy_lines.ReachCertLists.entry.Goals as goal
 
 pub index-requires : goal.index-requires
 index-requires c = omega (arith, (inside c.args.self.now.values.items c.args.self.now.choices.items c.args.self.now.ranks.items c.args.state c.requires).values)

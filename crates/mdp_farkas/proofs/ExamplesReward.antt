@@ -1,0 +1,134 @@
+-- Verdicts on rewards, computed, on four models: `wait` waits at 0 for nothing or goes to the goal 1 for 3; `trap` goes from 0 to 1, which is left
+-- nowhere, or to the goal 2 for 4; `arrived` has a goal alone; `loss` goes on to a goal that earns -1.
+use Rattle.std.proofs.Common.{◌≡◌, ℕ, ◌+◌, ◌^◌, Bool, true, false, List, [], ◌∷◌, refl, pos, negsuc, Option, Some, None}
+use Rattle.mdp_math.specs.Gcd.{gcd, gcd_with_fuel}
+use Rattle.mdp_math.specs.Rational.{ℚ, of_int, ratio, ◌+ℚ◌, ◌*ℚ◌}
+use Rattle.mdp_math.specs.Written.{narrow, narrow_ℚ, written_add, written_mul, written_compare}
+use Rattle.mdp_spec.specs.Mdp.{Choice, State, Mdp}
+use Rattle.mdp_farkas.specs.Verdict.{verdict_of}
+use Rattle.mdp_farkas.specs.Reward.{reward_checks}
+use Rattle.mdp_rows.specs.declared.dir.Dir.{Dir}
+use Rattle.mdp_rows.specs.declared.dir.Dir.TheVariants.{Max, Min}
+use Rattle.mdp_farkas.specs.declared.verdict.Verdict.{Verdict}
+use Rattle.mdp_farkas.specs.declared.verdict.Verdict.TheVariants.{Yes, No, Wide}
+
+-- the number n, a value, and a choice that leads to t alone
+abbrev number : ℕ → ℚ
+number n = of_int (pos n)
+
+abbrev value : ℕ → Option ℚ
+value n = Some (number n)
+
+abbrev to : ℕ → ℚ → Choice
+to t reward = record { row = record { target = t; prob = number 1 } ∷ []; rewards = reward ∷ [] }
+
+abbrev state : List Choice → State
+state choices = record { labels = []; choices = choices }
+
+abbrev model : List State → Mdp
+model states = record { names = (45 ∷ []) ∷ []; labels = []; states = states }
+
+abbrev wait : Mdp
+wait = model (state (to 0 (number 0) ∷ to 1 (number 3) ∷ []) ∷ state (to 1 (number 0) ∷ []) ∷ [])
+
+abbrev trap : Mdp
+trap = model (state (to 1 (number 0) ∷ to 2 (number 4) ∷ []) ∷ state (to 1 (number 0) ∷ []) ∷ state (to 2 (number 0) ∷ []) ∷ [])
+
+abbrev arrived : Mdp
+arrived = model (state (to 0 (number 0) ∷ []) ∷ [])
+
+abbrev loss : Mdp
+loss = model (state (to 1 (number 0) ∷ []) ∷ state (to 1 (of_int (negsuc 0)) ∷ []) ∷ [])
+
+abbrev second : List Bool
+second = false ∷ true ∷ []
+
+abbrev third : List Bool
+third = false ∷ false ∷ true ∷ []
+
+abbrev fault : ℕ → ℕ → Option ℕ → Verdict
+fault rule s choice = No (record { rule = rule; state = Some s; choice = choice })
+
+-- the verdict on what is said of state 0 of `wait`: its value, choice and rank
+abbrev waiting : Dir → Option ℚ → ℕ → ℕ → Verdict
+waiting dir x choice rank = verdict_of (reward_checks dir wait 0 second (x ∷ value 0 ∷ []) (choice ∷ 0 ∷ []) (rank ∷ 0 ∷ []))
+
+-- the least reward is 3, and there is no greatest, since a policy may wait for ever
+least : waiting Min (value 3) 1 1 ≡ Yes
+unfolding gcd gcd_with_fuel ratio of_int ◌+ℚ◌ ◌*ℚ◌ narrow narrow_ℚ written_add written_mul written_compare
+least = refl
+
+greatest : waiting Max None 0 0 ≡ Yes
+unfolding gcd gcd_with_fuel ratio of_int ◌+ℚ◌ ◌*ℚ◌ narrow narrow_ℚ written_add written_mul written_compare
+greatest = refl
+
+no_such_choice : waiting Min (value 3) 2 1 ≡ fault 2 0 (Some 2)
+unfolding gcd gcd_with_fuel ratio of_int ◌+ℚ◌ ◌*ℚ◌ narrow narrow_ℚ written_add written_mul written_compare
+no_such_choice = refl
+
+too_great : waiting Min (value 4) 1 1 ≡ fault 11 0 (Some 1)
+unfolding gcd gcd_with_fuel ratio of_int ◌+ℚ◌ ◌*ℚ◌ narrow narrow_ℚ written_add written_mul written_compare
+too_great = refl
+
+too_small : waiting Min (value 2) 1 1 ≡ fault 12 0 (Some 1)
+unfolding gcd gcd_with_fuel ratio of_int ◌+ℚ◌ ◌*ℚ◌ narrow narrow_ℚ written_add written_mul written_compare
+too_small = refl
+
+-- 3 meets Bellman's equation for the greatest reward too, but the rank doesn't fall along the loop
+waits_for_ever : waiting Max (value 3) 1 1 ≡ fault 13 0 (Some 0)
+unfolding gcd gcd_with_fuel ratio of_int ◌+ℚ◌ ◌*ℚ◌ narrow narrow_ℚ written_add written_mul written_compare
+waits_for_ever = refl
+
+-- a policy that goes to the goal doesn't miss it, and not each policy does
+doesnt_miss : waiting Max None 1 0 ≡ fault 14 0 (Some 1)
+unfolding gcd gcd_with_fuel ratio of_int ◌+ℚ◌ ◌*ℚ◌ narrow narrow_ℚ written_add written_mul written_compare
+doesnt_miss = refl
+
+may_arrive : waiting Min None 0 1 ≡ fault 15 0 (Some 1)
+unfolding gcd gcd_with_fuel ratio of_int ◌+ℚ◌ ◌*ℚ◌ narrow narrow_ℚ written_add written_mul written_compare
+may_arrive = refl
+
+-- what is left nowhere has no finite reward, and the least reward at 0 leads past it
+past_the_trap : verdict_of (reward_checks Min trap 0 third (value 4 ∷ None ∷ value 0 ∷ []) (1 ∷ 0 ∷ 0 ∷ []) (1 ∷ 1 ∷ 0 ∷ [])) ≡ Yes
+unfolding gcd gcd_with_fuel ratio of_int ◌+ℚ◌ ◌*ℚ◌ narrow narrow_ℚ written_add written_mul written_compare
+past_the_trap = refl
+
+into_the_trap : verdict_of (reward_checks Min trap 0 third (value 4 ∷ None ∷ value 0 ∷ []) (0 ∷ 0 ∷ 0 ∷ []) (1 ∷ 1 ∷ 0 ∷ [])) ≡ fault 10 0 (Some 0)
+unfolding gcd gcd_with_fuel ratio of_int ◌+ℚ◌ ◌*ℚ◌ narrow narrow_ℚ written_add written_mul written_compare
+into_the_trap = refl
+
+-- for the greatest reward no choice may lead there
+may_be_trapped : verdict_of (reward_checks Max trap 0 third (value 4 ∷ None ∷ value 0 ∷ []) (1 ∷ 0 ∷ 0 ∷ []) (1 ∷ 0 ∷ 0 ∷ [])) ≡ fault 10 0 (Some 0)
+unfolding gcd gcd_with_fuel ratio of_int ◌+ℚ◌ ◌*ℚ◌ narrow narrow_ℚ written_add written_mul written_compare
+may_be_trapped = refl
+
+trapped : verdict_of (reward_checks Max trap 0 third (None ∷ None ∷ value 0 ∷ []) (0 ∷ 0 ∷ 0 ∷ []) (1 ∷ 0 ∷ 0 ∷ [])) ≡ Yes
+unfolding gcd gcd_with_fuel ratio of_int ◌+ℚ◌ ◌*ℚ◌ narrow narrow_ℚ written_add written_mul written_compare
+trapped = refl
+
+-- a goal has the value 0 and rank 0
+goal_value : verdict_of (reward_checks Max arrived 0 (true ∷ []) (value 1 ∷ []) (0 ∷ []) (0 ∷ [])) ≡ fault 9 0 None
+unfolding gcd gcd_with_fuel ratio of_int ◌+ℚ◌ ◌*ℚ◌ narrow narrow_ℚ written_add written_mul written_compare
+goal_value = refl
+
+infinite_goal : verdict_of (reward_checks Max arrived 0 (true ∷ []) (None ∷ []) (0 ∷ []) (0 ∷ [])) ≡ fault 9 0 None
+unfolding gcd gcd_with_fuel ratio of_int ◌+ℚ◌ ◌*ℚ◌ narrow narrow_ℚ written_add written_mul written_compare
+infinite_goal = refl
+
+goal_rank : verdict_of (reward_checks Max arrived 0 (true ∷ []) (value 0 ∷ []) (0 ∷ []) (1 ∷ [])) ≡ fault 9 0 None
+unfolding gcd gcd_with_fuel ratio of_int ◌+ℚ◌ ◌*ℚ◌ narrow narrow_ℚ written_add written_mul written_compare
+goal_rank = refl
+
+below_zero : verdict_of (reward_checks Max arrived 0 (false ∷ []) (Some (of_int (negsuc 0)) ∷ []) (0 ∷ []) (0 ∷ [])) ≡ fault 9 0 None
+unfolding gcd gcd_with_fuel ratio of_int ◌+ℚ◌ ◌*ℚ◌ narrow narrow_ℚ written_add written_mul written_compare
+below_zero = refl
+
+-- a reward below 0, though no path earns it
+negative : verdict_of (reward_checks Max loss 0 second (value 0 ∷ value 0 ∷ []) (0 ∷ 0 ∷ []) (1 ∷ 0 ∷ [])) ≡ fault 25 1 (Some 0)
+unfolding gcd gcd_with_fuel ratio of_int ◌+ℚ◌ ◌*ℚ◌ narrow narrow_ℚ written_add written_mul written_compare
+negative = refl
+
+-- a sum has the denominator 3(2^126 + 1), which is past width: its place is said, before any rule that is false
+wide : verdict_of (reward_checks Max (model (state (to 0 (ratio (pos 1) 3) ∷ []) ∷ [])) 0 (false ∷ []) (Some (ratio (pos 1) (2 ^ 126 + 1)) ∷ []) (0 ∷ []) (0 ∷ [])) ≡ Wide (Some 0) (Some 0)
+unfolding gcd gcd_with_fuel ratio of_int ◌+ℚ◌ ◌*ℚ◌ narrow narrow_ℚ written_add written_mul written_compare
+wide = refl

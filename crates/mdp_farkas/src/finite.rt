@@ -1,0 +1,60 @@
+ghost use Rattle.std.specs.Prelude.{◌≡◌, ◌<◌, length, All, not};
+ghost use Rattle.std.specs.List.{list_all};
+ghost use Rattle.std.specs.Result.{result_ok};
+ghost use Rattle.mdp_spec.specs.Bounds.{finite_part, infinite};
+ghost use Rattle.mdp_spec.specs.Mdp.{states_of, choices_at, value_at};
+ghost use Rattle.mdp_spec.specs.Row.{entries};
+ghost use Rattle.mdp_spec.specs.Tree.{is_marked};
+ghost use Rattle.mdp_spec.specs.Written.{written_sum};
+ghost use Rattle.mdp_farkas.specs.Reward.{stays_finite};
+
+use mdp_num::{Frac, Wide};
+use mdp_rows::{Model, Row};
+
+/// Whether the value of state `s` is infinite.
+pub(crate) fn is_infinite_at(values: &[Option<Frac>], s: u32) -> bool
+    requires { s < length values.now }
+    ensures { result ≡ is_marked (infinite values.now) s }
+{
+    values[s as usize].is_none()
+}
+
+/// The value of state `s`, and 0 where it is infinite.
+pub(crate) fn finite_at(values: &[Option<Frac>], s: u32) -> Frac
+    requires { s < length values.now }
+    ensures { result ≡ value_at (finite_part values.now) s }
+{
+    values[s as usize].unwrap_or(Frac::whole(0))
+}
+
+/// `start`, and for each entry of the row its probability times the value of its target (0 where that is infinite), added in the order of
+/// the targets. `Wide` where a written term of one of these operations is past width.
+pub(crate) fn finite_sum(row: Row<'_>, start: &Frac, values: &[Option<Frac>]) -> Result<Frac, Wide>
+    requires { All (λ t. t < length values.now) row.targets.now }
+    ensures { result_ok result ≡ written_sum (finite_part values.now) start.now (entries row.entry.targets.now row.entry.probs.now) }
+{
+    let mut sum = *start;
+    for i in 0..row.targets.len() {
+        let term = row.probs[i].mul(&finite_at(values, row.targets[i]))?;
+        sum = sum.add(&term)?;
+    }
+    Ok(sum)
+}
+
+/// Whether the values of all targets are finite.
+fn all_finite(targets: &[u32], values: &[Option<Frac>]) -> bool
+    requires { All (λ t. t < length values.now) targets.now }
+    ensures { result ≡ list_all (λ t. not (is_marked (infinite values.now) t)) targets.now }
+{
+    targets.iter().all(|t| !is_infinite_at(values, *t))
+}
+
+/// Whether each entry of the row of choice `c` at state `s` leads to a finite value.
+pub(crate) fn stays_finite_at(model: &Model, values: &[Option<Frac>], s: u32, c: u32) -> bool
+    requires values { length values.now ≡ states_of model.now }
+    requires state { s < states_of model.now }
+    requires choice { c < length (choices_at model.now s) }
+    ensures { result ≡ stays_finite model.now values.now s c }
+{
+    all_finite(model.row(s, c).targets, values)
+}
