@@ -1,0 +1,130 @@
+use Rattle.std.proofs.Common.{◌≡◌, ◌∙◌, ℕ, List, Option, Ok, Err, Result, length, sym, ap, subst}
+use Rattle.mdp_math.specs.Rational.{ℚ}
+use Rattle.mdp_spec.specs.Tree.{IsPolicy}
+use Rattle.mdp_elim.specs.declared.too_wide.SolveError.{SolveError}
+use Rattle.mdp_farkas.specs.Verdict.{verdict_of}
+use Rattle.mdp_farkas.specs.Reward.{reward_checks}
+use Rattle.mdp_farkas.specs.declared.verdict.Verdict.TheVariants.{Yes, No, Wide}
+use Rattle.mdp_path.specs.Queries.{Solves, WideTerm}
+use Rattle.mdp_reward.specs.Query.{Answer, plain, rewards_of, AreRanks, EndsSo}
+use Rattle.mdp_reward.proofs.Nodes.{reward-count}
+use Rattle.mdp_reward.proofs.Values.{reward-nonneg}
+use Rattle.mdp_reward.proofs.Starts.{start-solvable, start-choices, start-finite, start-known}
+use Rattle.mdp_reward.proofs.Kept.{found-policy}
+use Rattle.mdp_reward.proofs.Certificate.{rewards-len}
+use Rattle.mdp_reward.proofs.Answering.{meets-reward, ranks-count, ends-refused, ends-answered, ends-wide}
+use Rattle.mdp_farkas.proofs.RewardRules.{reward_never_no}
+use Rattle.mdp_reward.proofs.solve.solve_reward.Goals as goal
+
+pub invariant_of-problem : goal.invariant_of-problem
+invariant_of-problem c = record {
+  named = c.requires.name;
+  goals_each = c.requires.goals;
+  finite_each = start-finite c.args.dir c.args.model.now c.args.goals.now c.in_ok-start.start.finite c.in_ok-start.start.policy.items c.in_ok-start.start.known.items c.known.ensures.mdp (c.in_ok-start.ensures {u = tt});
+}
+
+pub improve-requires : goal.improve-requires
+improve-requires c =
+    start-solvable c.args.dir c.args.model.now c.args.m c.args.goals.now c.in_ok-start.start.finite c.in_ok-start.start.policy.items c.in_ok-start.start.known.items c.known.ensures.mdp c.requires.none_negative c.sure_all_law.ensures.stays
+    c.meet_law.ensures.rest (c.in_ok-start.ensures {u = tt})
+
+pub returns-in-Err-clause-path : goal.returns-in-Err-clause-path
+returns-in-Err-clause-path c =
+    subst (λ (e : SolveError). Solves plain (EndsSo c.args.dir c.args.model.now c.args.m c.args.goals.now) (Err e)) (sym c.in_part.ensures)
+    (ends-refused c.args.dir c.args.model.now c.args.m c.args.goals.now c.in_ok-start.start.finite c.in_ok-start.start.policy.items c.in_ok-start.start.known.items (c.in_ok-start.ensures {u = tt}) c.in-Err.error
+    (c.in-Err.ensures {u = tt}).path)
+
+pub ranks_of-requires-clause-known : goal.ranks_of-requires-clause-known
+ranks_of-requires-clause-known c = start-known c.args.dir c.args.model.now c.args.goals.now c.in_ok-start.start.finite c.in_ok-start.start.policy.items c.in_ok-start.start.known.items c.known.ensures.mdp (c.in_ok-start.ensures {u = tt})
+
+pub ranks_of-requires-clause-policy : goal.ranks_of-requires-clause-policy
+ranks_of-requires-clause-policy c =
+    subst (λ (policy : List ℕ). IsPolicy c.args.model.now policy) (sym c.deref.ensures.value)
+    (found-policy c.args.dir c.args.model.now c.args.m c.args.goals.now c.in_ok-start.start.finite c.in_ok-start.start.policy.items c.in-Ok.found.policy.items c.in-Ok.found.values.items
+    (start-choices c.args.dir c.args.model.now c.args.goals.now c.in_ok-start.start.finite c.in_ok-start.start.policy.items c.in_ok-start.start.known.items c.known.ensures.mdp (c.in_ok-start.ensures {u = tt})) (c.in-Ok.ensures {u = tt}).best)
+
+pub rewards_of-requires-clause-values : goal.rewards_of-requires-clause-values
+rewards_of-requires-clause-values c =
+    ap length c.deref-2.ensures.value ∙ (c.in-Ok.ensures {u = tt}).best.best.values.len ∙ reward-count c.args.dir c.args.model.now c.args.m c.args.goals.now c.in_ok-start.start.finite
+
+pub holds_reward-requires-clause-values : goal.holds_reward-requires-clause-values
+holds_reward-requires-clause-values c =
+    ap length (c.in_ok-rewards.ensures {u = tt}) ∙ rewards-len c.args.model.now c.args.goals.now c.in_ok-start.start.finite c.deref-2.result.now
+
+pub holds_reward-requires-clause-choices : goal.holds_reward-requires-clause-choices
+holds_reward-requires-clause-choices c = (c.in-Ok.ensures {u = tt}).best.best.is.one_each ∙ reward-count c.args.dir c.args.model.now c.args.m c.args.goals.now c.in_ok-start.start.finite
+
+pub holds_reward-requires-clause-ranks : goal.holds_reward-requires-clause-ranks
+holds_reward-requires-clause-ranks c =
+    ranks-count c.args.dir c.args.model.now c.args.goals.now c.in_ok-start.start.finite c.in_ok-start.start.known.items c.deref.result.now c.in_ok-ranks.ranks.items
+    (start-known c.args.dir c.args.model.now c.args.goals.now c.in_ok-start.start.finite c.in_ok-start.start.policy.items c.in_ok-start.start.known.items c.known.ensures.mdp (c.in_ok-start.ensures {u = tt})) (c.in_ok-ranks.ensures {u = tt})
+
+pub returns-in-Yes-clause-path : goal.returns-in-Yes-clause-path
+returns-in-Yes-clause-path c =
+    let dir = c.args.dir in
+    let m = c.args.model.now in
+    let goals = c.args.goals.now in
+    let finite = c.in_ok-start.start.finite in
+    let start = c.in_ok-start.start.policy.items in
+    let known = c.in_ok-start.start.known.items in
+    let policy = c.in-Ok.found.policy.items in
+    let ranks = c.in_ok-ranks.ranks.items in
+    let x = c.in-Ok.found.values.items in
+    let are : AreRanks dir m goals finite known policy ranks =
+    subst (λ (policy : List ℕ). AreRanks dir m goals finite known policy ranks) c.deref.ensures.value (c.in_ok-ranks.ensures {u = tt}) in
+    let values = c.in_ok-rewards.ensures {u = tt} ∙ ap (rewards_of m finite) c.deref-2.ensures.value in
+    let end = (c.in-Ok.ensures {u = tt}).path in
+    subst (λ (v : List (Option ℚ)). EndsSo dir m c.args.m goals (let a : Result Answer WideTerm = Ok (record { values = v; choices = policy; ranks = ranks }) in a)) (sym values)
+    (ends-answered dir m c.args.m goals finite start known (c.in_ok-start.ensures {u = tt}) end.0 policy ranks x end.2 are
+    (subst (λ (v : List (Option ℚ)). Yes ≡ verdict_of (reward_checks dir m c.args.m goals v policy ranks)) values (sym c.in-Yes.is ∙ c.holds_reward.ensures.verdict)))
+
+pub unreachable-requires : goal.unreachable-requires
+unreachable-requires c =
+    let dir = c.args.dir in
+    let m = c.args.model.now in
+    let goals = c.args.goals.now in
+    let finite = c.in_ok-start.start.finite in
+    let start = c.in_ok-start.start.policy.items in
+    let known = c.in_ok-start.start.known.items in
+    let policy = c.in-Ok.found.policy.items in
+    let ranks = c.in_ok-ranks.ranks.items in
+    let x = c.in-Ok.found.values.items in
+    let are : AreRanks dir m goals finite known policy ranks =
+    subst (λ (policy : List ℕ). AreRanks dir m goals finite known policy ranks) c.deref.ensures.value (c.in_ok-ranks.ensures {u = tt}) in
+    let values = c.in_ok-rewards.ensures {u = tt} ∙ ap (rewards_of m finite) c.deref-2.ensures.value in
+    reward_never_no m c.args.m goals (rewards_of m finite x) policy ranks (λ s k. reward-nonneg m c.args.m c.requires.none_negative s k) dir
+    (meets-reward dir m c.args.m goals finite start known policy ranks x
+    (record { model = c.known.ensures.mdp; named = c.requires.name; none_negative = c.requires.none_negative })
+    (record {
+      sure = c.sure_all_law.ensures.stays;
+      avoids = c.meet_law.ensures.rest;
+      falls = c.along_law.ensures.falls;
+      stays = c.along_law.ensures.rest;
+      rounds = c.rounds_law.ensures.fall;
+      zero = c.rounds_law.ensures.zero;
+    })
+    (c.in_ok-start.ensures {u = tt}) (c.in-Ok.ensures {u = tt}).best are)
+    c.in-No.field-0
+    (subst (λ (v : List (Option ℚ)). verdict_of (reward_checks dir m c.args.m goals v policy ranks) ≡ No c.in-No.field-0) values (sym c.holds_reward.ensures.verdict ∙ c.in-No.is))
+
+pub returns-clause-path : goal.returns-clause-path
+returns-clause-path c =
+    let dir = c.args.dir in
+    let m = c.args.model.now in
+    let goals = c.args.goals.now in
+    let finite = c.in_ok-start.start.finite in
+    let start = c.in_ok-start.start.policy.items in
+    let known = c.in_ok-start.start.known.items in
+    let policy = c.in-Ok.found.policy.items in
+    let ranks = c.in_ok-ranks.ranks.items in
+    let x = c.in-Ok.found.values.items in
+    let are : AreRanks dir m goals finite known policy ranks =
+    subst (λ (policy : List ℕ). AreRanks dir m goals finite known policy ranks) c.deref.ensures.value (c.in_ok-ranks.ensures {u = tt}) in
+    let values = c.in_ok-rewards.ensures {u = tt} ∙ ap (rewards_of m finite) c.deref-2.ensures.value in
+    let end = (c.in-Ok.ensures {u = tt}).path in (
+      end.0,
+      end.1,
+      ends-wide dir m c.args.m goals finite start known (c.in_ok-start.ensures {u = tt}) end.0 policy ranks x end.2 are c.in-Wide.state c.in-Wide.choice
+          (subst (λ (v : List (Option ℚ)). Wide c.in-Wide.state c.in-Wide.choice ≡ verdict_of (reward_checks dir m c.args.m goals v policy ranks)) values
+          (sym c.in-Wide.is ∙ c.holds_reward.ensures.verdict)),
+    )

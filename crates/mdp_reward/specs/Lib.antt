@@ -1,0 +1,3 @@
+pub mod Problem
+pub mod Query
+pub mod Laws
