@@ -1,22 +1,28 @@
 -- A certificate is answered yes exactly where it is accepted, and then its claim is true.
-use Rattle.std.proofs.Common.{◌≡◌, ◌↔◌, ℕ, Bool, true, false, cond, List, length, eqb, eqb-true, eq-eqb, Option, Some, None, refl, sym, ap, subst, ◌∙◌}
+use Rattle.std.proofs.Common.{◌≡◌, ◌↔◌, ℕ, ◌<◌, Bool, true, false, cond, List, [], length, eqb, eqb-true, eq-eqb, Option, Some, None, refl, ap, ◌∙◌}
+use Rattle.std.specs.Str.{bytes_eq}
+use Rattle.std.proofs.lemmas.List.Quantifiers.{position-Some}
+use Rattle.mdp_math.specs.Rational.{ℚ}
 use Rattle.mdp_spec.specs.Mdp.{Mdp, states_of}
-use Rattle.mdp_spec.specs.Labels.{place_of, marks_of, initial_of}
+use Rattle.mdp_spec.specs.Labels.{place_of, initial_of}
 use Rattle.mdp_spec.specs.Row.{IsMdp}
 use Rattle.mdp_farkas.specs.Verdict.{verdict_of, IfYes}
-use Rattle.mdp_farkas.specs.Upper.{upper_checks}
-use Rattle.mdp_farkas.specs.Reach.{reach_checks}
+use Rattle.mdp_farkas.specs.Upper.{upper_checks, IsUpper}
+use Rattle.mdp_farkas.specs.Reach.{reach_checks, IsReach}
+use Rattle.mdp_farkas.specs.Reward.{reward_checks, IsReward}
 use Rattle.mdp_farkas.proofs.UpperRules.{upper_rules, upper_bound}
 use Rattle.mdp_farkas.proofs.ReachRules.{reach_rules, reach_max, reach_min}
+use Rattle.mdp_farkas.proofs.RewardRules.{reward_rules, reward_max, reward_min}
 use Rattle.mdp_farkas.specs.declared.verdict.Verdict.{Verdict}
 use Rattle.mdp_farkas.specs.declared.verdict.Verdict.TheVariants as verdict
+use Rattle.mdp_rows.specs.declared.dir.Dir.{Dir}
 use Rattle.mdp_rows.specs.declared.dir.Dir.TheVariants.{Max, Min}
-use Rattle.mdp_cert.specs.Cert.{PlainClaim, upper, reach, PlainBody, bounds, policy, Certificate, label_of, is_body_of}
-use Rattle.mdp_cert.proofs.Growth.{policy-entries}
-use Rattle.mdp_check.specs.Initial.{init_check, init_fault, values_of}
-use Rattle.mdp_check.specs.Check.{answer_of, verdict_by, body_verdict, after_init, at_label, answer_to, valid_by, IsAccepted, bound_by, IsBound}
+use Rattle.mdp_cert.specs.Cert.{PlainClaim, upper, reach, reward, PlainBody, bounds, policy, rewards, Certificate, is_body_of}
+use Rattle.mdp_cert.proofs.Growth.{policy-entries, reward-entries}
+use Rattle.mdp_check.specs.Initial.{init_check, init_fault}
+use Rattle.mdp_check.specs.Check.{reward_place, goal_marks, answer_of, verdict_by, body_verdict, after_init, at_goals, at_reward, answer_to, valid_by, IsAccepted, bound_by, IsBound}
 use Rattle.mdp_check.specs.declared.answer.Answer.{Answer}
-use Rattle.mdp_check.specs.declared.answer.Answer.TheVariants.{Yes, No, Wide, NoLabel, Size}
+use Rattle.mdp_check.specs.declared.answer.Answer.TheVariants.{Yes, No, Wide, NoReward, NoLabel, Size}
 
 -- ---- one step of the answer after the other
 
@@ -41,25 +47,72 @@ of_if_yes verdict.Yes P h e = h
 of_if_yes (verdict.No f) P h e = cc
 of_if_yes (verdict.Wide s c) P h e = cc
 
-module _ (m : Mdp) (goals : List Bool) (states : ℕ) (size : states ≡ states_of m) where
-  body_valid : (claim : PlainClaim) (body : PlainBody) → is_body_of claim states body ≡ true → verdict_by m goals claim body ≡ verdict.Yes → valid_by m goals claim body
-  body_valid (upper label) (bounds z) fits e = (upper_rules m goals z (verdict_of (upper_checks m goals z)) refl).0 e
-  body_valid (upper label) (policy z choices ranks) fits e = cc
-  body_valid (reach dir label) (bounds z) fits e = cc
-  body_valid (reach dir label) (policy z choices ranks) fits e = (reach_rules m goals z choices ranks dir (verdict_of (reach_checks dir m goals z choices ranks)) ((policy-entries (reach dir label) states z choices ranks fits).choices ∙ size) refl).0 e
+-- what is found in a list of names is one of its places
+below_names : (name : List ℕ) (names : List (List ℕ)) (r : ℕ) → place_of name names ≡ Some r → r < length names
+below_names name names r e = (position-Some (bytes_eq name) names r [] e).0
 
-  valid_body : (claim : PlainClaim) (body : PlainBody) → is_body_of claim states body ≡ true → valid_by m goals claim body → verdict_by m goals claim body ≡ verdict.Yes
-  valid_body (upper label) (bounds z) fits h = (upper_rules m goals z (verdict_of (upper_checks m goals z)) refl).1 h
-  valid_body (upper label) (policy z choices ranks) fits h = absurd h
-  valid_body (reach dir label) (bounds z) fits h = absurd h
-  valid_body (reach dir label) (policy z choices ranks) fits h = (reach_rules m goals z choices ranks dir (verdict_of (reach_checks dir m goals z choices ranks)) ((policy-entries (reach dir label) states z choices ranks fits).choices ∙ size) refl).1 h
+module _ (m : Mdp) (r : ℕ) (goals : List Bool) (states : ℕ) (size : states ≡ states_of m) where
+  -- the verdict on a certificate of rewards
+  abbrev rewards_verdict : Dir → List (Option ℚ) → List ℕ → List ℕ → Verdict
+  rewards_verdict dir v choices ranks = verdict_of (reward_checks dir m r goals v choices ranks)
 
-  body_bound : (claim : PlainClaim) (body : PlainBody) → IsMdp m → is_body_of claim states body ≡ true → verdict_by m goals claim body ≡ verdict.Yes → bound_by m goals claim body
-  body_bound (upper label) (bounds z) is fits e = of_if_yes _ _ (upper_bound m goals z (verdict_of (upper_checks m goals z)) is refl) e
-  body_bound (upper label) (policy z choices ranks) is fits e = cc
-  body_bound (reach dir label) (bounds z) is fits e = cc
-  body_bound (reach Max label) (policy z choices ranks) is fits e = of_if_yes _ _ (reach_max m goals z choices ranks Max (verdict_of (reach_checks Max m goals z choices ranks)) is ((policy-entries (reach Max label) states z choices ranks fits).choices ∙ size) refl refl) e
-  body_bound (reach Min label) (policy z choices ranks) is fits e = of_if_yes _ _ (reach_min m goals z choices ranks Min (verdict_of (reach_checks Min m goals z choices ranks)) is ((policy-entries (reach Min label) states z choices ranks fits).choices ∙ size) refl refl) e
+  abbrev reach_verdict : Dir → List ℚ → List ℕ → List ℕ → Verdict
+  reach_verdict dir z choices ranks = verdict_of (reach_checks dir m goals z choices ranks)
+
+  upper_rules_of : (z : List ℚ) → (verdict_of (upper_checks m goals z) ≡ verdict.Yes) ↔ IsUpper m goals z
+  upper_rules_of z = upper_rules m goals z (verdict_of (upper_checks m goals z)) refl
+
+  reach_rules_of : (dir : Dir) (label : List ℕ) (z : List ℚ) (choices ranks : List ℕ) → is_body_of (reach dir label) states (policy z choices ranks) ≡ true
+      → (reach_verdict dir z choices ranks ≡ verdict.Yes) ↔ IsReach dir m goals z choices ranks
+  reach_rules_of dir label z choices ranks fits =
+      reach_rules m goals z choices ranks dir (reach_verdict dir z choices ranks) ((policy-entries (reach dir label) states z choices ranks fits).choices ∙ size) refl
+
+  reward_rules_of : (dir : Dir) (name label : List ℕ) (v : List (Option ℚ)) (choices ranks : List ℕ) → place_of name m.names ≡ Some r
+      → is_body_of (reward dir name label) states (rewards v choices ranks) ≡ true → (rewards_verdict dir v choices ranks ≡ verdict.Yes) ↔ IsReward dir m r goals v choices ranks
+  reward_rules_of dir name label v choices ranks named fits =
+      let entries = reward-entries (reward dir name label) states v choices ranks fits in
+      reward_rules m r goals v choices ranks dir (rewards_verdict dir v choices ranks) (below_names name m.names r named) (entries.values ∙ size) (entries.choices ∙ size) refl
+
+  body_rules : (claim : PlainClaim) (body : PlainBody) → reward_place m claim ≡ Some r → is_body_of claim states body ≡ true
+      → (verdict_by m r goals claim body ≡ verdict.Yes) ↔ valid_by m r goals claim body
+  body_rules (upper label) (bounds z) named fits = upper_rules_of z
+  body_rules (upper label) (policy z choices ranks) named fits = absurd (let t = fits in cc)
+  body_rules (upper label) (rewards v choices ranks) named fits = absurd (let t = fits in cc)
+  body_rules (reach dir label) (bounds z) named fits = absurd (let t = fits in cc)
+  body_rules (reach dir label) (policy z choices ranks) named fits = reach_rules_of dir label z choices ranks fits
+  body_rules (reach dir label) (rewards v choices ranks) named fits = absurd (let t = fits in cc)
+  body_rules (reward dir name label) (bounds z) named fits = absurd (let t = fits in cc)
+  body_rules (reward dir name label) (policy z choices ranks) named fits = absurd (let t = fits in cc)
+  body_rules (reward dir name label) (rewards v choices ranks) named fits = reward_rules_of dir name label v choices ranks named fits
+
+  reach_bound : (dir : Dir) (label : List ℕ) (z : List ℚ) (choices ranks : List ℕ) → IsMdp m → is_body_of (reach dir label) states (policy z choices ranks) ≡ true
+      → reach_verdict dir z choices ranks ≡ verdict.Yes → bound_by m r goals (reach dir label) (policy z choices ranks)
+  reach_bound Max label z choices ranks is fits e =
+      of_if_yes _ _ (reach_max m goals z choices ranks Max (reach_verdict Max z choices ranks) is ((policy-entries (reach Max label) states z choices ranks fits).choices ∙ size) refl refl) e
+  reach_bound Min label z choices ranks is fits e =
+      of_if_yes _ _ (reach_min m goals z choices ranks Min (reach_verdict Min z choices ranks) is ((policy-entries (reach Min label) states z choices ranks fits).choices ∙ size) refl refl) e
+
+  reward_bound : (dir : Dir) (name label : List ℕ) (v : List (Option ℚ)) (choices ranks : List ℕ) → IsMdp m → place_of name m.names ≡ Some r
+      → is_body_of (reward dir name label) states (rewards v choices ranks) ≡ true → rewards_verdict dir v choices ranks ≡ verdict.Yes
+      → bound_by m r goals (reward dir name label) (rewards v choices ranks)
+  reward_bound Max name label v choices ranks is named fits e =
+      let entries = reward-entries (reward Max name label) states v choices ranks fits in
+      of_if_yes _ _ (reward_max m r goals v choices ranks Max (rewards_verdict Max v choices ranks) (below_names name m.names r named) (entries.values ∙ size) (entries.choices ∙ size) refl is refl) e
+  reward_bound Min name label v choices ranks is named fits e =
+      let entries = reward-entries (reward Min name label) states v choices ranks fits in
+      of_if_yes _ _ (reward_min m r goals v choices ranks Min (rewards_verdict Min v choices ranks) (below_names name m.names r named) (entries.values ∙ size) (entries.choices ∙ size) refl is refl) e
+
+  body_bound : (claim : PlainClaim) (body : PlainBody) → IsMdp m → reward_place m claim ≡ Some r → is_body_of claim states body ≡ true
+      → verdict_by m r goals claim body ≡ verdict.Yes → bound_by m r goals claim body
+  body_bound (upper label) (bounds z) is named fits e = of_if_yes _ _ (upper_bound m goals z (verdict_of (upper_checks m goals z)) is refl) e
+  body_bound (upper label) (policy z choices ranks) is named fits e = absurd (let t = fits in cc)
+  body_bound (upper label) (rewards v choices ranks) is named fits e = absurd (let t = fits in cc)
+  body_bound (reach dir label) (bounds z) is named fits e = absurd (let t = fits in cc)
+  body_bound (reach dir label) (policy z choices ranks) is named fits e = reach_bound dir label z choices ranks is fits e
+  body_bound (reach dir label) (rewards v choices ranks) is named fits e = absurd (let t = fits in cc)
+  body_bound (reward dir name label) (bounds z) is named fits e = absurd (let t = fits in cc)
+  body_bound (reward dir name label) (policy z choices ranks) is named fits e = absurd (let t = fits in cc)
+  body_bound (reward dir name label) (rewards v choices ranks) is named fits e = reward_bound dir name label v choices ranks is named fits e
 
 -- a verdict of yes is one on a body that fits
 by_body : (fits : Bool) (v : Verdict) → cond fits v (init_fault None) ≡ verdict.Yes → (fits ≡ true) × (v ≡ verdict.Yes)
@@ -68,28 +121,52 @@ by_body false v e = cc
 
 -- ---- the whole
 
-accepted_at : (m : Mdp) (c : Certificate) (found : Option ℕ) → place_of (label_of c.claim) m.labels ≡ found → c.states ≡ states_of m → at_label m c found ≡ Yes → IsAccepted m c
-accepted_at m c None f size e = cc
-accepted_at m c (Some l) f size e =
-    let both = both_yes (init_check c.init (initial_of m) (values_of c.body)) (body_verdict m (marks_of m l) c) (yes_verdict _ e) in
-    let body = by_body (is_body_of c.claim c.states c.body) (verdict_by m (marks_of m l) c.claim c.body) both.1 in
-    record { states = size; entries = body.0; label = l; found = f; init = both.0; body = body_valid m (marks_of m l) c.states size c.claim c.body body.0 body.1 }
+accepted_at : (m : Mdp) (c : Certificate) (r : ℕ) → c.states ≡ states_of m → reward_place m c.claim ≡ Some r → (found : Option (List Bool)) → goal_marks m c.claim ≡ found
+    → at_goals m c r found ≡ Yes → IsAccepted m c
+accepted_at m c r size named None f e = cc
+accepted_at m c r size named (Some goals) f e =
+    let both = both_yes (init_check c.init (initial_of m) c.body) (body_verdict m r goals c) (yes_verdict _ e) in
+    let body = by_body (is_body_of c.claim c.states c.body) (verdict_by m r goals c.claim c.body) both.1 in
+    record {
+      states = size;
+      entries = body.0;
+      reward = r;
+      named = named;
+      goals = goals;
+      marked = f;
+      init = both.0;
+      body = (body_rules m r goals c.states size c.claim c.body named body.0).0 body.1;
+    }
+
+accepted_named : (m : Mdp) (c : Certificate) → c.states ≡ states_of m → (named : Option ℕ) → reward_place m c.claim ≡ named → at_reward m c named ≡ Yes → IsAccepted m c
+accepted_named m c size None f e = cc
+accepted_named m c size (Some r) f e = accepted_at m c r size f (goal_marks m c.claim) refl e
 
 accepted_of : (m : Mdp) (c : Certificate) → answer_to m c ≡ Yes → IsAccepted m c
 accepted_of m c e =
-    let size = by_size (eqb c.states (states_of m)) (at_label m c (place_of (label_of c.claim) m.labels)) e in
-    accepted_at m c (place_of (label_of c.claim) m.labels) refl (eqb-true c.states (states_of m) size.0) size.1
+    let size = by_size (eqb c.states (states_of m)) (at_reward m c (reward_place m c.claim)) e in
+    accepted_named m c (eqb-true c.states (states_of m) size.0) (reward_place m c.claim) refl size.1
+
+valid_body : (m : Mdp) (c : Certificate) (h : IsAccepted m c) → verdict_by m h.reward h.goals c.claim c.body ≡ verdict.Yes
+valid_body m c h = (body_rules m h.reward h.goals c.states h.states c.claim c.body h.named h.entries).1 h.body
 
 answer_accepted : (m : Mdp) (c : Certificate) → IsAccepted m c → answer_to m c ≡ Yes
 answer_accepted m c h =
-    ap (λ (same : Bool). cond same (at_label m c (place_of (label_of c.claim) m.labels)) Size) (eq-eqb c.states (states_of m) h.states)
-    ∙ ap (λ (found : Option ℕ). at_label m c found) h.found
-    ∙ ap (λ (i : Verdict). answer_of (after_init i (body_verdict m (marks_of m h.label) c))) h.init
-    ∙ ap (λ (fits : Bool). answer_of (cond fits (verdict_by m (marks_of m h.label) c.claim c.body) (init_fault None))) h.entries
-    ∙ ap answer_of (valid_body m (marks_of m h.label) c.states h.states c.claim c.body h.entries h.body)
+    ap (λ (same : Bool). cond same (at_reward m c (reward_place m c.claim)) Size) (eq-eqb c.states (states_of m) h.states)
+    ∙ ap (λ (named : Option ℕ). at_reward m c named) h.named
+    ∙ ap (λ (found : Option (List Bool)). at_goals m c h.reward found) h.marked
+    ∙ ap (λ (i : Verdict). answer_of (after_init i (body_verdict m h.reward h.goals c))) h.init
+    ∙ ap (λ (fits : Bool). answer_of (cond fits (verdict_by m h.reward h.goals c.claim c.body) (init_fault None))) h.entries
+    ∙ ap answer_of (valid_body m c h)
 
 pub yes_is_accepted : (m : Mdp) (c : Certificate) → (answer_to m c ≡ Yes) ↔ IsAccepted m c
 yes_is_accepted m c = (accepted_of m c, answer_accepted m c)
 
 pub accepted_is_bound : (m : Mdp) (c : Certificate) → IsMdp m → IsAccepted m c → IsBound m c
-accepted_is_bound m c is h = (h.label, h.found, body_bound m (marks_of m h.label) c.states h.states c.claim c.body is h.entries (valid_body m (marks_of m h.label) c.states h.states c.claim c.body h.entries h.body))
+accepted_is_bound m c is h = record {
+  reward = h.reward;
+  named = h.named;
+  goals = h.goals;
+  marked = h.marked;
+  holds = body_bound m h.reward h.goals c.states h.states c.claim c.body is h.named h.entries (valid_body m c h);
+}

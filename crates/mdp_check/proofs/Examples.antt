@@ -1,17 +1,18 @@
 -- Answers, computed, on a model of three states: state 0, with the label `init`, has a loop, and a choice that goes on to 1 with 1/3 and to 2 with
 -- 2/3; 1 has the label `goal`, and 2 is left nowhere.
-use Rattle.std.proofs.Common.{◌≡◌, ℕ, List, [], ◌∷◌, refl, pos, Some, None}
+use Rattle.std.proofs.Common.{◌≡◌, ℕ, List, [], ◌∷◌, refl, pos, Option, Some, None}
 use Rattle.std.specs.Prelude.{codes}
 use Rattle.mdp_math.specs.Gcd.{gcd, gcd_with_fuel}
 use Rattle.mdp_math.specs.Rational.{ℚ, of_int, ratio, lt_ℚ, ◌+ℚ◌, ◌*ℚ◌}
 use Rattle.mdp_math.specs.Written.{narrow, narrow_ℚ, written_add, written_mul, written_compare}
 use Rattle.mdp_spec.specs.Mdp.{Entry, Choice, Mdp}
-use Rattle.mdp_rows.specs.declared.dir.Dir.TheVariants.{Max}
+use Rattle.mdp_rows.specs.declared.dir.Dir.{Dir}
+use Rattle.mdp_rows.specs.declared.dir.Dir.TheVariants.{Max, Min}
 use Rattle.mdp_cert.specs.declared.init.Init.{Init}
-use Rattle.mdp_cert.specs.declared.init.Init.TheVariants.{Missing, Finite}
-use Rattle.mdp_cert.specs.Cert.{upper, reach, bounds, policy, Certificate}
+use Rattle.mdp_cert.specs.declared.init.Init.TheVariants.{Missing, Finite, Infinite}
+use Rattle.mdp_cert.specs.Cert.{upper, reach, reward, bounds, policy, rewards, Certificate}
 use Rattle.mdp_check.specs.Check.{answer_to}
-use Rattle.mdp_check.specs.declared.answer.Answer.TheVariants.{Yes, No, NoLabel, Size}
+use Rattle.mdp_check.specs.declared.answer.Answer.TheVariants.{Yes, No, NoReward, NoLabel, Size}
 
 abbrev row : List Entry → Choice
 row entries = record { row = entries; rewards = [] }
@@ -70,3 +71,67 @@ two_states = refl
 two_entries : answer_to three (upper_of (codes "goal") (Finite 0 one) (one ∷ one ∷ [])) ≡ No (record { rule = 1; state = None; choice = None })
 unfolding of_int
 two_entries = refl
+
+-- ---- rewards until a goal
+
+-- state 0, with the label `init`, has a loop, and a choice that pays 3 and goes on to 1, the goal
+abbrev paid : List Entry → ℚ → Choice
+paid entries r = record { row = entries; rewards = r ∷ [] }
+
+abbrev three_ : ℚ
+three_ = of_int (pos 3)
+
+abbrev two : Mdp
+two = record {
+  names = codes "-" ∷ [];
+  labels = codes "init" ∷ codes "goal" ∷ [];
+  states =
+      record { labels = 0 ∷ []; choices = paid (entry 0 one ∷ []) zero_ ∷ paid (entry 1 one ∷ []) three_ ∷ [] }
+      ∷ record { labels = 1 ∷ []; choices = paid (entry 1 one ∷ []) zero_ ∷ [] }
+      ∷ [];
+}
+
+abbrev reward_of_two : Dir → List ℕ → Init → List (Option ℚ) → List ℕ → List ℕ → Certificate
+reward_of_two dir name init values choices ranks =
+    record { claim = reward dir name (codes "goal"); states = 2; init = init; body = rewards values choices ranks }
+
+-- the least reward is 3: the loop pays nothing and doesn't arrive
+least : answer_to two (reward_of_two Min (codes "-") (Finite 0 three_) (Some three_ ∷ Some zero_ ∷ []) (1 ∷ 0 ∷ []) (1 ∷ 0 ∷ [])) ≡ Yes
+unfolding gcd gcd_with_fuel ratio of_int ◌+ℚ◌ ◌*ℚ◌ narrow narrow_ℚ written_add written_mul written_compare
+least = refl
+
+-- the greatest is infinite: the loop misses the goal
+greatest : answer_to two (reward_of_two Max (codes "-") (Infinite 0) (None ∷ Some zero_ ∷ []) (0 ∷ 0 ∷ []) (0 ∷ 0 ∷ [])) ≡ Yes
+unfolding gcd gcd_with_fuel ratio of_int ◌+ℚ◌ ◌*ℚ◌ narrow narrow_ℚ written_add written_mul written_compare
+greatest = refl
+
+-- and not 3
+greatest_three : answer_to two (reward_of_two Max (codes "-") (Finite 0 three_) (Some three_ ∷ Some zero_ ∷ []) (1 ∷ 0 ∷ []) (1 ∷ 0 ∷ []))
+    ≡ No (record { rule = 13; state = Some 0; choice = Some 0 })
+unfolding gcd gcd_with_fuel ratio of_int ◌+ℚ◌ ◌*ℚ◌ narrow narrow_ℚ written_add written_mul written_compare
+greatest_three = refl
+
+-- rule 1: an infinite value stands in the line `init` where the state's value is infinite, and only there
+infinite_init : answer_to two (reward_of_two Min (codes "-") (Infinite 0) (Some three_ ∷ Some zero_ ∷ []) (1 ∷ 0 ∷ []) (1 ∷ 0 ∷ []))
+    ≡ No (record { rule = 1; state = Some 0; choice = None })
+infinite_init = refl
+
+finite_init : answer_to two (reward_of_two Max (codes "-") (Finite 0 three_) (None ∷ Some zero_ ∷ []) (0 ∷ 0 ∷ []) (0 ∷ 0 ∷ []))
+    ≡ No (record { rule = 1; state = Some 0; choice = None })
+finite_init = refl
+
+-- the reward model comes before the label, and the numbers of states before both
+no_reward : answer_to two (record { claim = reward Min (codes "costs") (codes "done"); states = 2; init = Missing; body = rewards [] [] [] }) ≡ NoReward
+no_reward = refl
+
+no_goal : answer_to two (record { claim = reward Min (codes "-") (codes "done"); states = 2; init = Missing; body = rewards [] [] [] }) ≡ NoLabel
+no_goal = refl
+
+other_size : answer_to two (record { claim = reward Min (codes "costs") (codes "done"); states = 3; init = Missing; body = rewards [] [] [] }) ≡ Size
+other_size = refl
+
+-- another claim's body stands in no certificate
+other_body : answer_to two (record { claim = reward Min (codes "-") (codes "goal"); states = 2; init = Finite 0 one; body = bounds (one ∷ one ∷ []) })
+    ≡ No (record { rule = 1; state = None; choice = None })
+unfolding of_int
+other_body = refl

@@ -1,19 +1,38 @@
 -- What holding a certificate against a model answers, and what a yes means.
-use Rattle.std.specs.Prelude.{◌≡◌, ℕ, Bool, IsTrue, List, Option, Some, None, ◌==◌, if◌then◌else◌}
+use Rattle.std.specs.Prelude.{◌≡◌, ℕ, Bool, IsTrue, List, Option, Some, None, option_map, ◌==◌, if◌then◌else◌}
 use Rattle.mdp_math.specs.Rational.{ℚ}
 use Rattle.mdp_spec.specs.Mdp.{Mdp, states_of}
 use Rattle.mdp_spec.specs.Labels.{place_of, marks_of, initial_of}
-use Rattle.mdp_spec.specs.Bounds.{Above, ReachMax, ReachMin}
+use Rattle.mdp_spec.specs.Bounds.{Above, ReachMax, ReachMin, RewardMax, RewardMin}
 use Rattle.mdp_rows.specs.declared.dir.Dir.TheVariants.{Max, Min}
-use Rattle.mdp_cert.specs.Cert.{PlainClaim, upper, reach, PlainBody, bounds, policy, Certificate, label_of, is_body_of}
+use Rattle.mdp_cert.specs.Cert.{PlainClaim, upper, reach, reward, PlainBody, bounds, policy, rewards, Certificate, is_body_of}
 use Rattle.mdp_farkas.specs.Upper.{upper_checks, IsUpper}
 use Rattle.mdp_farkas.specs.Reach.{reach_checks, IsReach}
+use Rattle.mdp_farkas.specs.Reward.{reward_checks, IsReward}
 use Rattle.mdp_farkas.specs.Verdict.{verdict_of}
 use Rattle.mdp_farkas.specs.declared.verdict.Verdict.{Verdict}
 use Rattle.mdp_farkas.specs.declared.verdict.Verdict.TheVariants as verdict
-use Rattle.mdp_check.specs.Initial.{init_check, init_fault, values_of}
+use Rattle.mdp_check.specs.Initial.{init_check, init_fault}
 use Rattle.mdp_check.specs.declared.answer.Answer.{Answer}
-use Rattle.mdp_check.specs.declared.answer.Answer.TheVariants.{Yes, No, Wide, NoLabel, Size}
+use Rattle.mdp_check.specs.declared.answer.Answer.TheVariants.{Yes, No, Wide, NoReward, NoLabel, Size}
+
+-- ---- what the names in a claim stand for
+
+-- the place of the claim's reward model in the model, where it is there; 0 where the claim names none
+abbrev pub reward_place : Mdp → PlainClaim → Option ℕ
+reward_place m (upper label) = Some 0
+reward_place m (reach dir label) = Some 0
+reward_place m (reward dir name label) = place_of name m.names
+
+-- which states have this label, where the model has it
+abbrev pub labelled_marks : Mdp → List ℕ → Option (List Bool)
+labelled_marks m label = option_map (marks_of m) (place_of label m.labels)
+
+-- the goals: which states have the claim's label
+abbrev pub goal_marks : Mdp → PlainClaim → Option (List Bool)
+goal_marks m (upper label) = labelled_marks m label
+goal_marks m (reach dir label) = labelled_marks m label
+goal_marks m (reward dir name label) = labelled_marks m label
 
 -- ---- the answer
 
@@ -22,61 +41,76 @@ answer_of verdict.Yes = Yes
 answer_of (verdict.No f) = No f
 answer_of (verdict.Wide state choice) = Wide state choice
 
--- what the rules of the claim from rule 2 on say of the body; of another claim's body, that it isn't one
-abbrev pub verdict_by : Mdp → List Bool → PlainClaim → PlainBody → Verdict
-verdict_by m goals (upper label) (bounds z) = verdict_of (upper_checks m goals z)
-verdict_by m goals (reach dir label) (policy z choices ranks) = verdict_of (reach_checks dir m goals z choices ranks)
-verdict_by m goals claim body = init_fault None
+-- what the rules of the claim from rule 2 on say of the body, for the reward model of place r and these goals; of another claim's body, that
+-- it isn't one
+abbrev pub verdict_by : Mdp → ℕ → List Bool → PlainClaim → PlainBody → Verdict
+verdict_by m r goals (upper label) (bounds z) = verdict_of (upper_checks m goals z)
+verdict_by m r goals (reach dir label) (policy z choices ranks) = verdict_of (reach_checks dir m goals z choices ranks)
+verdict_by m r goals (reward dir name label) (rewards v choices ranks) = verdict_of (reward_checks dir m r goals v choices ranks)
+verdict_by m r goals claim body = init_fault None
 
 -- a body that isn't the claim's, or that hasn't an entry per state, stands in no certificate; it would be refused
-abbrev pub body_verdict : Mdp → List Bool → Certificate → Verdict
-body_verdict m goals c = if is_body_of c.claim c.states c.body then verdict_by m goals c.claim c.body else init_fault None
+abbrev pub body_verdict : Mdp → ℕ → List Bool → Certificate → Verdict
+body_verdict m r goals c = if is_body_of c.claim c.states c.body then verdict_by m r goals c.claim c.body else init_fault None
 
 abbrev pub after_init : Verdict → Verdict → Verdict
 after_init verdict.Yes rest = rest
 after_init (verdict.No f) rest = verdict.No f
 after_init (verdict.Wide state choice) rest = verdict.Wide state choice
 
-abbrev pub at_label : Mdp → Certificate → Option ℕ → Answer
-at_label m c None = NoLabel
-at_label m c (Some l) = answer_of (after_init (init_check c.init (initial_of m) (values_of c.body)) (body_verdict m (marks_of m l) c))
+abbrev pub at_goals : Mdp → Certificate → ℕ → Option (List Bool) → Answer
+at_goals m c r None = NoLabel
+at_goals m c r (Some goals) = answer_of (after_init (init_check c.init (initial_of m) c.body) (body_verdict m r goals c))
 
--- the numbers of states, then the label, then the rules in their order
+abbrev pub at_reward : Mdp → Certificate → Option ℕ → Answer
+at_reward m c None = NoReward
+at_reward m c (Some r) = at_goals m c r (goal_marks m c.claim)
+
+-- the numbers of states, then the reward model, then the label, then the rules in their order
 abbrev pub answer_to : Mdp → Certificate → Answer
-answer_to m c = if c.states == states_of m then at_label m c (place_of (label_of c.claim) m.labels) else Size
+answer_to m c = if c.states == states_of m then at_reward m c (reward_place m c.claim) else Size
 
 -- ---- what yes means
 
 -- the rules of the claim from rule 2 on hold in exact numbers, and no written term of a check is past width
-abbrev pub valid_by : Mdp → List Bool → PlainClaim → PlainBody → Type 0
-valid_by m goals (upper label) (bounds z) = IsUpper m goals z
-valid_by m goals (reach dir label) (policy z choices ranks) = IsReach dir m goals z choices ranks
-valid_by m goals claim body = ⊥
+abbrev pub valid_by : Mdp → ℕ → List Bool → PlainClaim → PlainBody → Type 0
+valid_by m r goals (upper label) (bounds z) = IsUpper m goals z
+valid_by m r goals (reach dir label) (policy z choices ranks) = IsReach dir m goals z choices ranks
+valid_by m r goals (reward dir name label) (rewards v choices ranks) = IsReward dir m r goals v choices ranks
+valid_by m r goals claim body = ⊥
 
-abbrev pub IsValidBody : Mdp → List Bool → Certificate → Type 0
-IsValidBody m goals c = valid_by m goals c.claim c.body
+abbrev pub IsValidBody : Mdp → ℕ → List Bool → Certificate → Type 0
+IsValidBody m r goals c = valid_by m r goals c.claim c.body
 
--- the certificate belongs to the model and is valid: as many states, an entry of the claim's kind for each, the label is there, and all rules
--- hold with the states of this label as goals
+-- the certificate belongs to the model and is valid: as many states, an entry of the claim's kind for each, the names of the claim are there,
+-- and all rules hold for this reward model and these goals
 pub record IsAccepted (m : Mdp) (c : Certificate) : Type 0 where
   pub states : c.states ≡ states_of m
   pub entries : IsTrue (is_body_of c.claim c.states c.body)
-  pub label : ℕ
-  pub found : place_of (label_of c.claim) m.labels ≡ Some label
-  pub init : init_check c.init (initial_of m) (values_of c.body) ≡ verdict.Yes
-  pub body : IsValidBody m (marks_of m label) c
+  pub reward : ℕ
+  pub named : reward_place m c.claim ≡ Some reward
+  pub goals : List Bool
+  pub marked : goal_marks m c.claim ≡ Some goals
+  pub init : init_check c.init (initial_of m) c.body ≡ verdict.Yes
+  pub body : IsValidBody m reward goals c
 
--- the claim, where these states are the goals: for upper bounds, that no strategy tree passes them; for a direction, that the values are the
--- greatest, or the least, probabilities of reaching a goal, and the policy comes close to them
-abbrev pub bound_by : Mdp → List Bool → PlainClaim → PlainBody → Type 0
-bound_by m goals (upper label) (bounds z) = Above m goals z
-bound_by m goals (reach Max label) (policy z choices ranks) = ReachMax m goals z choices
-bound_by m goals (reach Min label) (policy z choices ranks) = ReachMin m goals z choices
-bound_by m goals claim body = ⊥
+-- the claim, for the reward model of place r and these goals: for upper bounds, that no strategy tree passes them; for a direction, that the
+-- values are the greatest, or the least, probabilities of reaching a goal, or rewards until a goal, and the policy comes close to them
+abbrev pub bound_by : Mdp → ℕ → List Bool → PlainClaim → PlainBody → Type 0
+bound_by m r goals (upper label) (bounds z) = Above m goals z
+bound_by m r goals (reach Max label) (policy z choices ranks) = ReachMax m goals z choices
+bound_by m r goals (reach Min label) (policy z choices ranks) = ReachMin m goals z choices
+bound_by m r goals (reward Max name label) (rewards v choices ranks) = RewardMax m r goals choices v
+bound_by m r goals (reward Min name label) (rewards v choices ranks) = RewardMin m r goals choices v
+bound_by m r goals claim body = ⊥
 
-abbrev pub BoundOf : Mdp → List Bool → Certificate → Type 0
-BoundOf m goals c = bound_by m goals c.claim c.body
+abbrev pub BoundOf : Mdp → ℕ → List Bool → Certificate → Type 0
+BoundOf m r goals c = bound_by m r goals c.claim c.body
 
 -- the claim of the certificate is true of the model
-abbrev pub IsBound : Mdp → Certificate → Type 0
-IsBound m c = (l : ℕ) × (place_of (label_of c.claim) m.labels ≡ Some l) × BoundOf m (marks_of m l) c
+pub record IsBound (m : Mdp) (c : Certificate) : Type 0 where
+  pub reward : ℕ
+  pub named : reward_place m c.claim ≡ Some reward
+  pub goals : List Bool
+  pub marked : goal_marks m c.claim ≡ Some goals
+  pub holds : BoundOf m reward goals c

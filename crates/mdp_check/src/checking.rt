@@ -1,56 +1,64 @@
-ghost use Rattle.std.specs.Prelude.{◌≡◌, ◌⊎◌, ◌↔◌, length};
+ghost use Rattle.std.specs.Prelude.{◌≡◌, ◌⊎◌, ◌↔◌, IfOk, Some, length};
 ghost use Rattle.mdp_spec.specs.Mdp.{states_of};
 ghost use Rattle.mdp_cert.specs.Plain.{plain};
-ghost use Rattle.mdp_cert.specs.Cert.{plain_claim, plain_body, label_of};
-ghost use Rattle.mdp_check.specs.Initial.{values_of};
-ghost use Rattle.mdp_farkas.specs.Verdict.{verdict_of, IfYes, IsYes};
-ghost use Rattle.mdp_check.specs.Check.{answer_to, body_verdict, IsBound, BoundOf, IsAccepted, IsValidBody};
+ghost use Rattle.mdp_cert.specs.Cert.{plain_claim};
+ghost use Rattle.mdp_farkas.specs.Verdict.{IfYes, IsYes};
+ghost use Rattle.mdp_check.specs.Check.{reward_place, goal_marks, answer_to, body_verdict, IsBound, BoundOf, IsAccepted, IsValidBody};
 
 use crate::answer::{Answer, answer_of};
 use crate::initial::{init_denied, init_verdict};
 use mdp_cert::{Body, Cert, Claim};
-use mdp_farkas::{Verdict, holds_reach, holds_upper};
-use mdp_num::{Frac, Memory};
+use mdp_farkas::{Verdict, holds_reach, holds_reward, holds_upper};
+use mdp_num::Memory;
 use mdp_rows::{Marks, Model};
 use std::alloc::Global;
 
-/// The label of a claim.
-fn label_of(claim: &Claim) -> &[u8]
-    ensures { result.now ≡ label_of (plain_claim claim.now) }
+/// The place of the claim's reward model in the model, where it is there; 0 where the claim names none.
+fn reward_place(model: &Model, claim: &Claim) -> Option<u32>
+    ensures { result ≡ reward_place model.now (plain_claim claim.now) }
 {
     match claim {
+        Claim::Upper { .. } | Claim::Reach { .. } => Some(0),
+        Claim::Reward { name, .. } => model.reward_named(name),
+    }
+}
+
+/// The goals: which states have the claim's label. None where the model hasn't the label.
+fn goal_marks(alloc: Global, model: &Model, claim: &Claim) -> Result<Option<Marks>, Memory>
+    ensures { IfOk result (λ goals. goals ≡ goal_marks model.now (plain_claim claim.now)) }
+{
+    let label = match claim {
         Claim::Upper { label } => label,
         Claim::Reach { label, .. } => label,
+        Claim::Reward { label, .. } => label,
+    };
+    match model.label(label) {
+        Some(place) => Ok(Some(model.marks_of(alloc, place)?)),
+        None => Ok(None),
     }
 }
 
-/// The values of a body, one per state.
-fn values_of(body: &Body) -> &[Frac]
-    ensures { result.now ≡ values_of (plain_body body.now) }
-{
-    match body {
-        Body::Upper(cert) => &cert.values,
-        Body::Reach(cert) => &cert.values,
-    }
-}
-
-/// What the rules of the claim from rule 2 on say of the body.
-fn body_verdict(model: &Model, goals: &Marks, cert: &Cert) -> Verdict
+/// What the rules of the claim from rule 2 on say of the body, for the claim's reward model and goals.
+fn body_verdict(model: &Model, reward: u32, goals: &Marks, cert: &Cert) -> Verdict
+    requires reward { reward_place model.now (plain_claim cert.now.claim) ≡ Some reward }
     requires goals { length goals.now ≡ states_of model.now }
     requires states { cert.now.states ≡ states_of model.now }
-    ensures verdict { result ≡ body_verdict model.now goals.now (plain cert.now) }
-    ensures rules { IsYes result ↔ IsValidBody model.now goals.now (plain cert.now) }
-    ensures bound { IfYes result (BoundOf model.now goals.now (plain cert.now)) }
+    ensures verdict { result ≡ body_verdict model.now reward goals.now (plain cert.now) }
+    ensures rules { IsYes result ↔ IsValidBody model.now reward goals.now (plain cert.now) }
+    ensures bound { IfYes result (BoundOf model.now reward goals.now (plain cert.now)) }
 {
     match (&cert.claim, &cert.body) {
         (Claim::Upper { .. }, Body::Upper(upper)) => holds_upper(model, goals, upper),
         (Claim::Reach { dir, .. }, Body::Reach(reach)) => holds_reach(model, goals, *dir, reach),
+        (Claim::Reward { dir, .. }, Body::Reward(rewards)) => {
+            holds_reward(model, reward, goals, *dir, rewards)
+        }
         _ => init_denied(None),
     }
 }
 
-/// Holds a certificate against a model: the numbers of states, then the label, then rule 1 and the rules of the claim. After yes the claim is
-/// true of the model, whoever made the certificate.
+/// Holds a certificate against a model: the numbers of states, then the reward model and the label, then rule 1 and the rules of the claim.
+/// After yes the claim is true of the model, whoever made the certificate.
 pub fn check(alloc: Global, model: &Model, cert: &Cert) -> Answer
     ensures answer { (result ≡ Answer.Memory) ⊎ (result ≡ answer_to model.now (plain cert.now)) }
     ensures accepted { (result ≡ Answer.Memory) ⊎ ((result ≡ Answer.Yes) ↔ IsAccepted model.now (plain cert.now)) }
@@ -59,15 +67,16 @@ pub fn check(alloc: Global, model: &Model, cert: &Cert) -> Answer
     if cert.states != model.states() {
         return Answer::Size;
     }
-    let Some(label) = model.label(label_of(&cert.claim)) else {
-        return Answer::NoLabel;
+    let Some(reward) = reward_place(model, &cert.claim) else {
+        return Answer::NoReward;
     };
-    match init_verdict(model, &cert.init, values_of(&cert.body)) {
-        Verdict::Yes => {}
-        other => return answer_of(other),
-    }
-    match model.marks_of(alloc, label) {
-        Ok(goals) => answer_of(body_verdict(model, &goals, cert)),
-        Err(Memory) => Answer::Memory,
+    let goals = match goal_marks(alloc, model, &cert.claim) {
+        Ok(Some(goals)) => goals,
+        Ok(None) => return Answer::NoLabel,
+        Err(Memory) => return Answer::Memory,
+    };
+    match init_verdict(model, &cert.init, &cert.body) {
+        Verdict::Yes => answer_of(body_verdict(model, reward, &goals, cert)),
+        other => answer_of(other),
     }
 }

@@ -1,8 +1,10 @@
 ghost use Rattle.std.specs.Prelude.{◌≡◌};
-ghost use Rattle.mdp_check.specs.Initial.{init_check, init_fault, is_value};
+ghost use Rattle.mdp_cert.specs.Cert.{plain_body};
+ghost use Rattle.mdp_cert.specs.Claims.{reward_same};
+ghost use Rattle.mdp_check.specs.Initial.{init_check, init_fault, state_check, has_value, is_value, is_reward};
 ghost use Rattle.mdp_spec.specs.Labels.{initial_of};
 
-use mdp_cert::Init;
+use mdp_cert::{Body, Init};
 use mdp_farkas::{Fault, Verdict};
 use mdp_num::Frac;
 use mdp_rows::Model;
@@ -19,7 +21,7 @@ pub(crate) fn init_denied(state: Option<u32>) -> Verdict
 }
 
 /// Whether the value of state `s` is this one.
-fn has_value(values: &[Frac], s: u32, value: &Frac) -> bool
+fn is_value(values: &[Frac], s: u32, value: &Frac) -> bool
     ensures { result ≡ is_value values.now s value.now }
 {
     match values.get(s as usize) {
@@ -28,20 +30,61 @@ fn has_value(values: &[Frac], s: u32, value: &Frac) -> bool
     }
 }
 
+/// Whether two values are the same; a value of none is infinite.
+fn is_same(x: &Option<Frac>, y: &Option<Frac>) -> bool
+    ensures { result ≡ reward_same x.now y.now }
+{
+    match (x, y) {
+        (Some(x), Some(y)) => x == y,
+        (None, None) => true,
+        _ => false,
+    }
+}
+
+/// Whether the value of state `s`, which may be infinite, is this one.
+fn is_reward(values: &[Option<Frac>], s: u32, value: &Option<Frac>) -> bool
+    ensures { result ≡ is_reward values.now s value.now }
+{
+    match values.get(s as usize) {
+        Some(found) => is_same(found, value),
+        None => false,
+    }
+}
+
+/// Whether the value of state `s` in a body is this one, or infinite where there is none.
+fn has_value(body: &Body, s: u32, value: &Option<Frac>) -> bool
+    ensures { result ≡ has_value (plain_body body.now) s value.now }
+{
+    match (body, value) {
+        (Body::Upper(cert), Some(value)) => is_value(&cert.values, s, value),
+        (Body::Reach(cert), Some(value)) => is_value(&cert.values, s, value),
+        (Body::Reward(cert), value) => is_reward(&cert.values, s, value),
+        (_, None) => false,
+    }
+}
+
+/// Rule 1 for a line that names a state: it is the model's one initial state, and its value is the one of its line.
+fn state_verdict(state: u32, initial: Option<u32>, has_value: bool) -> Verdict
+    ensures { result ≡ state_check state initial has_value }
+{
+    match initial {
+        Some(initial) if state == initial && has_value => Verdict::Yes,
+        _ => init_denied(Some(state)),
+    }
+}
+
 /// Rule 1: the line `init` names the model's one initial state and has its value; it names none where there isn't exactly one.
-pub(crate) fn init_verdict(model: &Model, init: &Init, values: &[Frac]) -> Verdict
-    ensures { result ≡ init_check init.now (initial_of model.now) values.now }
+pub(crate) fn init_verdict(model: &Model, init: &Init, body: &Body) -> Verdict
+    ensures { result ≡ init_check init.now (initial_of model.now) (plain_body body.now) }
 {
     match (init, model.initial()) {
         (Init::Missing, None) => Verdict::Yes,
         (Init::Missing, Some(_)) => init_denied(None),
-        (Init::Finite(state, _), None) => init_denied(Some(*state)),
-        (Init::Finite(state, value), Some(initial)) => {
-            if *state == initial && has_value(values, *state, value) {
-                Verdict::Yes
-            } else {
-                init_denied(Some(*state))
-            }
+        (Init::Finite(state, value), initial) => {
+            state_verdict(*state, initial, has_value(body, *state, &Some(*value)))
+        }
+        (Init::Infinite(state), initial) => {
+            state_verdict(*state, initial, has_value(body, *state, &None))
         }
     }
 }

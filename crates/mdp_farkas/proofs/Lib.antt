@@ -1,6 +1,7 @@
 mod Objections
 pub mod Holds
 pub mod Comparing
+mod Asking
 pub mod Summing
 mod Inequalities
 pub mod UpperRules
@@ -8,5 +9,8 @@ mod Entries
 pub mod ReachRules
 mod Tests
 pub mod RewardRules
+mod Spreading
+pub mod MeanRules
 mod Examples
 mod ExamplesReward
+mod ExamplesMean

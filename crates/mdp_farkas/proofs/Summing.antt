@@ -1,5 +1,5 @@
 -- A written sum is the sum, where none of its terms is past width.
-use Rattle.std.proofs.Common.{◌≡◌, Bool, true, true≢false, List, [], ◌∷◌, Option, Some, None, refl, sym, ap, subst, ◌∙◌, pos}
+use Rattle.std.proofs.Common.{◌≡◌, Bool, List, [], ◌∷◌, Option, Some, refl, ap, ◌∙◌, pos}
 use Rattle.std.specs.Option.{IsSome, option_and_then}
 use Rattle.mdp_math.specs.Rational.{ℚ, of_int, ◌+ℚ◌, ◌*ℚ◌}
 use Rattle.mdp_math.specs.Written.{written_add, written_mul}
@@ -10,6 +10,7 @@ use Rattle.mdp_math.proofs.Laws.{rat_ring, zero-+ℚ, +ℚ_assoc}
 use Rattle.mdp_spec.specs.Mdp.{Entry, value_at}
 use Rattle.mdp_spec.specs.Row.{row_sum}
 use Rattle.mdp_spec.specs.Written.{written_sum}
+use Rattle.mdp_farkas.proofs.Asking.{asked}
 
 pub written_sum-some : (z : List ℚ) (acc : ℚ) (row : List Entry) (v : ℚ) → Some v ≡ written_sum z acc row → v ≡ acc +ℚ row_sum row z
 written_sum-some z acc [] v e =
@@ -24,19 +25,11 @@ written_sum-some z acc (x ∷ row) v e =
     ∙ ap (λ (s : ℚ). s +ℚ row_sum row z) (sum ∙ ap (λ (t : ℚ). acc +ℚ t) product)
     ∙ +ℚ_assoc acc (x.prob *ℚ value_at z x.target) (row_sum row z)
 
-from_by : (f : ℚ → Option Bool) (z : List ℚ) (acc : ℚ) (row : List Entry) (o : Option ℚ) → o ≡ written_sum z acc row → IsSome (option_and_then f o)
-    → option_and_then f o ≡ f (acc +ℚ row_sum row z)
-from_by f z acc row None e h = absurd (true≢false (sym h))
-from_by f z acc row (Some v) e h = ap f (written_sum-some z acc row v e)
-
 -- what is asked of a written sum is asked of the sum
 pub summed_from : (f : ℚ → Option Bool) (z : List ℚ) (acc : ℚ) (row : List Entry) → IsSome (option_and_then f (written_sum z acc row))
     → option_and_then f (written_sum z acc row) ≡ f (acc +ℚ row_sum row z)
-summed_from f z acc row h = from_by f z acc row (written_sum z acc row) refl h
+summed_from f z acc row h = asked f (acc +ℚ row_sum row z) (written_sum z acc row) (λ v e. written_sum-some z acc row v e) h
 
 pub summed : (f : ℚ → Option Bool) (z : List ℚ) (row : List Entry) → IsSome (option_and_then f (written_sum z (of_int (pos 0)) row))
     → option_and_then f (written_sum z (of_int (pos 0)) row) ≡ f (row_sum row z)
 summed f z row h = summed_from f z (of_int (pos 0)) row h ∙ ap f (zero-+ℚ (row_sum row z))
-
-pub told_of_holds : (o : Option Bool) → o ≡ Some true → IsSome o
-told_of_holds o e = subst (λ (x : Option Bool). IsSome x) (sym e) refl

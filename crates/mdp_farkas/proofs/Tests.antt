@@ -1,5 +1,5 @@
 -- What a test of each, or of some, element of a list says, and of one of two.
-use Rattle.std.proofs.Common.{◌≡◌, ◌⊎◌, inl, inr, Bool, true, false, true≢false, ◌||◌, List, [], ◌∷◌, refl}
+use Rattle.std.proofs.Common.{◌≡◌, ◌⊎◌, inl, inr, Bool, true, false, true≢false, ◌||◌, List, [], ◌∷◌, refl, sym}
 use Rattle.std.specs.List.{All, Any, AllByRecursion, list_all, list_any}
 use Rattle.std.proofs.lemmas.List.Elements.{All-from_recursion, recursion_from_All}
 use Rattle.std.proofs.lemmas.List.Folds.{Any-from_list_any, list_any-from_Any}
@@ -11,10 +11,7 @@ or-parts false b e = inr e
 
 pub or-first : (a b : Bool) → a ≡ true → (a || b) ≡ true
 or-first true b e = refl
-or-first false b e = absurd (true≢false (sym_of e))
-  where
-    sym_of : false ≡ true → true ≡ false
-    sym_of e = cc
+or-first false b e = absurd (true≢false (sym e))
 
 pub or-second : (a b : Bool) → b ≡ true → (a || b) ≡ true
 or-second true b e = refl

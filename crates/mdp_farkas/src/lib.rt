@@ -11,14 +11,16 @@ mod mean;
 mod ranks;
 mod reach;
 mod reward;
+mod spread;
 mod transient;
 mod upper;
 mod verdict;
 mod walk;
 
 pub use mdp_rows::Dir;
-pub use mean::MeanCert;
+pub use mean::{MeanCert, holds_mean};
 pub use reach::{ReachCert, holds_reach};
 pub use reward::{RewardCert, holds_reward};
+pub use spread::spread_of;
 pub use upper::{UpperCert, holds_upper};
 pub use verdict::{Fault, Verdict};

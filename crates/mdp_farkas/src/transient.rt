@@ -73,7 +73,7 @@ fn earning_stands_at(
 }
 
 /// Whether the value is held against choice `c`: for the least reward only against one whose row leads to finite values only.
-fn counts(model: &Model, dir: Dir, values: &[Option<Frac>], s: u32, c: u32) -> bool
+fn is_held_against(model: &Model, dir: Dir, values: &[Option<Frac>], s: u32, c: u32) -> bool
     requires values { length values.now ≡ states_of model.now }
     requires state { s < states_of model.now }
     requires choice { c < length (choices_at model.now s) }
@@ -100,7 +100,7 @@ fn earning_at(
     requires choice { c < length (choices_at model.now s) }
     ensures { result ≡ objection_to (if is_looked_at dir model.now values.now s c then earning_check dir model.now m values.now s c ∷ [] else []) }
 {
-    if !counts(model, dir, values, s, c) {
+    if !is_held_against(model, dir, values, s, c) {
         return Ok(());
     }
     judged(

@@ -38,16 +38,15 @@ pub(crate) enum Objection {
     },
 }
 
-/// Whether one check of a rule holds at a place.
-pub(crate) fn judged(
+/// Whether one check of a rule holds at a place, which may be none.
+pub(crate) fn judged_at(
     holds: Result<bool, Wide>,
     rule: u8,
-    state: u32,
+    state: Option<u32>,
     choice: Option<u32>,
 ) -> Result<(), Objection>
-    ensures { result ≡ objection_to (record { rule = rule; state = Some state; choice = choice; holds = result_ok holds } ∷ []) }
+    ensures { result ≡ objection_to (record { rule = rule; state = state; choice = choice; holds = result_ok holds } ∷ []) }
 {
-    let state = Some(state);
     match holds {
         Ok(true) => Ok(()),
         Ok(false) => Err(Objection::Broken(Fault {
@@ -57,6 +56,18 @@ pub(crate) fn judged(
         })),
         Err(Wide) => Err(Objection::PastWidth { state, choice }),
     }
+}
+
+/// Whether one check of a rule holds at a state.
+pub(crate) fn judged(
+    holds: Result<bool, Wide>,
+    rule: u8,
+    state: u32,
+    choice: Option<u32>,
+) -> Result<(), Objection>
+    ensures { result ≡ objection_to (record { rule = rule; state = Some state; choice = choice; holds = result_ok holds } ∷ []) }
+{
+    judged_at(holds, rule, Some(state), choice)
 }
 
 /// The verdict after a walk over all rules.

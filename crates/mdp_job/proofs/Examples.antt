@@ -1,11 +1,11 @@
 -- Worked words, and what they are.
-use Rattle.std.proofs.Common.{◌≡◌, [], ◌∷◌, Ok, Err, refl}
+use Rattle.std.proofs.Common.{◌≡◌, [], ◌∷◌, Some, None, Ok, Err, refl}
 use Rattle.std.specs.Prelude.{codes}
 use Rattle.mdp_rows.specs.declared.rule.RowRule.TheVariants.{Exact, Scaled}
 use Rattle.mdp_rows.specs.declared.dir.Dir.TheVariants.{Max}
-use Rattle.mdp_job.specs.Job.{reach, reward, solve, check, drill}
+use Rattle.mdp_job.specs.Job.{reach, reward, solve, check, drill, horizon}
 use Rattle.mdp_job.specs.Words.{job_of_texts}
-use Rattle.mdp_job.specs.declared.words_error.WordsError.TheVariants.{Command, Number, Rows, Direction, Objective, Drill}
+use Rattle.mdp_job.specs.declared.words_error.WordsError.TheVariants.{Command, Number, Rows, Direction, Objective, Drill, Steps}
 
 no_words : job_of_texts [] ≡ Err Command
 no_words = refl
@@ -76,3 +76,19 @@ width_past = refl
 
 drill_words : job_of_texts (codes "drill" ∷ codes "7" ∷ codes "2" ∷ []) ≡ Err Number
 drill_words = refl
+
+-- `horizon`: the row rule, the direction, then the steps
+a_horizon : job_of_texts (codes "horizon" ∷ codes "m" ∷ codes "exact" ∷ codes "max" ∷ codes "-" ∷ codes "goal" ∷ codes "2" ∷ []) ≡ Ok (horizon Exact Max None (codes "goal") 2)
+a_horizon = refl
+
+a_way : job_of_texts (codes "horizon" ∷ codes "m" ∷ codes "exact" ∷ codes "max" ∷ codes "safe" ∷ codes "goal" ∷ codes "9999999" ∷ []) ≡ Ok (horizon Exact Max (Some (codes "safe")) (codes "goal") 9999999)
+a_way = refl
+
+direction_first : job_of_texts (codes "horizon" ∷ codes "m" ∷ codes "exact" ∷ codes "best" ∷ codes "-" ∷ codes "goal" ∷ codes "x" ∷ []) ≡ Err Direction
+direction_first = refl
+
+steps_long : job_of_texts (codes "horizon" ∷ codes "m" ∷ codes "exact" ∷ codes "max" ∷ codes "-" ∷ codes "goal" ∷ codes "00000001" ∷ []) ≡ Err Steps
+steps_long = refl
+
+steps_missing : job_of_texts (codes "horizon" ∷ codes "m" ∷ codes "exact" ∷ codes "max" ∷ codes "-" ∷ codes "goal" ∷ codes "" ∷ []) ≡ Err Steps
+steps_missing = refl

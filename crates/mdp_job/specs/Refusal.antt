@@ -5,7 +5,7 @@ use Rattle.mdp_drn.specs.declared.error.DrnKind.{DrnKind}
 use Rattle.mdp_farkas.specs.declared.verdict.Fault.{Fault}
 use Rattle.mdp_path.specs.Queries.{WideTerm, shown}
 use Rattle.mdp_job.specs.declared.refusal.Refusal.{Refusal}
-use Rattle.mdp_job.specs.declared.refusal.Refusal.TheVariants.{Words, Model, QuerySize, QueryReward, QueryLabel, QueryNegative, TooWide, CheckWide, Denied, ReadModel, ReadCertificate, LongModel, LongCertificate, CertText, Memory}
+use Rattle.mdp_job.specs.declared.refusal.Refusal.TheVariants.{Words, Model, QuerySize, QueryReward, QueryLabel, QueryNegative, QuerySteps, TooWide, CheckWide, HorizonWide, Denied, ReadModel, ReadCertificate, LongModel, LongCertificate, CertText, Memory}
 use Rattle.mdp_job.specs.declared.words_error.WordsError.{WordsError}
 
 pub data PlainRefusal : Type 0 where
@@ -17,10 +17,13 @@ pub data PlainRefusal : Type 0 where
   query_reward : PlainRefusal
   query_label : PlainRefusal
   query_negative : PlainRefusal
+  query_steps : PlainRefusal
   -- the first term past width in what was to be solved
   too_wide : WideTerm → PlainRefusal
   -- the state and the choice at which a term of the check is past width
   check_wide : Option ℕ → Option ℕ → PlainRefusal
+  -- how many steps are left, the state and the choice at which a sum is past width
+  horizon_wide : ℕ → ℕ → ℕ → PlainRefusal
   denied : Fault → PlainRefusal
   read_model : PlainRefusal
   read_certificate : PlainRefusal
@@ -37,8 +40,10 @@ plain_refusal QuerySize = query_size
 plain_refusal QueryReward = query_reward
 plain_refusal QueryLabel = query_label
 plain_refusal QueryNegative = query_negative
+plain_refusal QuerySteps = query_steps
 plain_refusal (TooWide w) = too_wide (shown w w.round)
 plain_refusal (CheckWide state choice) = check_wide state choice
+plain_refusal (HorizonWide depth state choice) = horizon_wide depth state choice
 plain_refusal (Denied f) = denied f
 plain_refusal ReadModel = read_model
 plain_refusal ReadCertificate = read_certificate

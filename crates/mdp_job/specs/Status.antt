@@ -1,6 +1,6 @@
 -- The status with which a run ends, and its number.
 use Rattle.std.specs.Prelude.{ℕ}
-use Rattle.mdp_job.specs.Refusal.{PlainRefusal, no_job, model_text, query_size, query_reward, query_label, query_negative, too_wide, check_wide, denied, read_model, read_certificate, long_model, long_certificate, cert_text, no_memory}
+use Rattle.mdp_job.specs.Refusal.{PlainRefusal, no_job, model_text, query_size, query_reward, query_label, query_negative, query_steps, too_wide, check_wide, horizon_wide, denied, read_model, read_certificate, long_model, long_certificate, cert_text, no_memory}
 use Rattle.mdp_job.specs.declared.status.Status.{Status}
 use Rattle.mdp_job.specs.declared.status.Status.TheVariants.{Done, Denied, Words, Model, Query, TooWide, ReadFault, WriteFault, Memory, CertText, Long}
 
@@ -12,8 +12,10 @@ status_of query_size = Query
 status_of query_reward = Query
 status_of query_label = Query
 status_of query_negative = Query
+status_of query_steps = Query
 status_of (too_wide w) = TooWide
 status_of (check_wide state choice) = TooWide
+status_of (horizon_wide depth state choice) = TooWide
 status_of (denied f) = Denied
 status_of read_model = ReadFault
 status_of read_certificate = ReadFault

@@ -11,7 +11,7 @@ use Rattle.mdp_elim.specs.declared.too_wide.Part.{Part}
 use Rattle.mdp_elim.specs.declared.too_wide.Part.TheVariants.{Whole, Inner, Outer, Steps, Join, Flow, Floor}
 use Rattle.mdp_farkas.specs.declared.verdict.Fault.{Fault}
 use Rattle.mdp_path.specs.Queries.{WideTerm}
-use Rattle.mdp_job.specs.Refusal.{PlainRefusal, no_job, model_text, query_size, query_reward, query_label, query_negative, too_wide, check_wide, denied, read_model, read_certificate, long_model, long_certificate, cert_text, no_memory}
+use Rattle.mdp_job.specs.Refusal.{PlainRefusal, no_job, model_text, query_size, query_reward, query_label, query_negative, query_steps, too_wide, check_wide, horizon_wide, denied, read_model, read_certificate, long_model, long_certificate, cert_text, no_memory}
 use Rattle.mdp_job.specs.declared.words_error.WordsError.{WordsError}
 use Rattle.mdp_job.specs.declared.words_error.WordsError.TheVariants as words
 
@@ -25,6 +25,7 @@ words_word words.Rows = codes "rows"
 words_word words.Direction = codes "direction"
 words_word words.Objective = codes "objective"
 words_word words.Drill = codes "drill"
+words_word words.Steps = codes "steps"
 
 unfoldable pub drn_word : DrnKind → List ℕ
 drn_word drn.Header = codes "header"
@@ -78,6 +79,13 @@ denied_text f = rule_text f.rule ++ place_text f.state f.choice
 abbrev pub wide_text : Option ℕ → Option ℕ → List ℕ
 wide_text state choice = codes "too-wide check" ++ place_text state choice
 
+-- a sum that is past width, with so many steps left
+abbrev pub depth_text : ℕ → List ℕ
+depth_text depth = codes "too-wide horizon depth " ++ decimal depth
+
+abbrev pub horizon_text : ℕ → ℕ → ℕ → List ℕ
+horizon_text depth state choice = depth_text depth ++ place_text (Some state) (Some choice)
+
 -- ---- a term past width in what was to be solved
 
 abbrev pub part_word : Part → List ℕ
@@ -111,8 +119,10 @@ text_of query_size = line (codes "query size")
 text_of query_reward = line (codes "query reward")
 text_of query_label = line (codes "query label")
 text_of query_negative = line (codes "query negative")
+text_of query_steps = line (codes "query steps")
 text_of (too_wide w) = too_wide_text w
 text_of (check_wide state choice) = wide_text state choice
+text_of (horizon_wide depth state choice) = horizon_text depth state choice
 text_of (denied f) = denied_text f
 text_of read_model = line (codes "read-fault model")
 text_of read_certificate = line (codes "read-fault certificate")

@@ -3,9 +3,11 @@
 --     solve MODEL ROWS DIR reward NAME LABEL
 --     check MODEL ROWS CERT
 --     drill NUMBER LAYERS WIDTH
+--     horizon MODEL ROWS DIR A B STEPS
 -- ROWS is `exact` or `scaled`, DIR `max` or `min`.
 use Rattle.std.specs.Prelude.{ℕ, ◌*◌, ◌-◌, ◌^◌, Bool, ◌&&◌, not, List, [], ◌∷◌, length, slice_index_or, map, Option, Some, None, Result, Ok, Err, ◌==◌, nat_lt, if◌then◌else◌, codes}
 use Rattle.std.specs.declared.string.String.{String}
+use Rattle.std.specs.Option.{ok_or}
 use Rattle.std.specs.Str.{bytes_eq}
 use Rattle.std.specs.String.{string_bytes}
 use Rattle.std.specs.Global.{Global}
@@ -15,9 +17,9 @@ use Rattle.mdp_rows.specs.declared.dir.Dir.{Dir}
 use Rattle.mdp_rows.specs.declared.dir.Dir.TheVariants.{Max, Min}
 use Rattle.mdp_rows.specs.declared.rule.RowRule.{RowRule}
 use Rattle.mdp_rows.specs.declared.rule.RowRule.TheVariants.{Exact, Scaled}
-use Rattle.mdp_job.specs.Job.{PlainQuery, reach, reward, solve, check, drill, Asked}
+use Rattle.mdp_job.specs.Job.{PlainQuery, reach, reward, solve, check, drill, horizon, Asked}
 use Rattle.mdp_job.specs.declared.words_error.WordsError.{WordsError}
-use Rattle.mdp_job.specs.declared.words_error.WordsError.TheVariants.{Command, Number, Rows, Direction, Objective, Drill}
+use Rattle.mdp_job.specs.declared.words_error.WordsError.TheVariants.{Command, Number, Rows, Direction, Objective, Drill, Steps}
 
 abbrev pub word_at : List (List ℕ) → ℕ → List ℕ
 word_at words i = slice_index_or words i []
@@ -70,13 +72,31 @@ drill_with number layers width = Err Drill
 abbrev pub drill_of : List (List ℕ) → Asked
 drill_of words = if length words == 3 then drill_with (whole_word 20 (word_at words 0)) (whole_word 7 (word_at words 1)) (whole_word 7 (word_at words 2)) else Err Number
 
+-- a label of states at which a way may go on; `-` for all states
+abbrev pub stay_of : List ℕ → Option (List ℕ)
+stay_of word = if bytes_eq word (codes "-") then None else Some word
+
+-- 1 to 7 digits
+abbrev pub steps_of : List ℕ → Result ℕ WordsError
+steps_of word = ok_or (whole_word 7 word) Steps
+
+-- the words behind `horizon`
+abbrev pub horizon_of : List (List ℕ) → Asked
+horizon_of words =
+    if length words == 6
+    then (rule_of (word_at words 1)
+    >>= (λ rule. dir_of (word_at words 2)
+    >>= (λ dir. steps_of (word_at words 5) >>= (λ steps. Ok (horizon rule dir (stay_of (word_at words 3)) (word_at words 4) steps)))))
+    else Err Number
+
 -- the words, as texts
 abbrev pub job_of_texts : List (List ℕ) → Asked
 job_of_texts [] = Err Command
 job_of_texts (command ∷ words) =
     if bytes_eq command (codes "solve") then solve_of words
     else (if bytes_eq command (codes "check") then check_of words
-    else (if bytes_eq command (codes "drill") then drill_of words else Err Command))
+    else (if bytes_eq command (codes "drill") then drill_of words
+    else (if bytes_eq command (codes "horizon") then horizon_of words else Err Command)))
 
 abbrev pub job_of : List (String Global) → Asked
 job_of words = job_of_texts (map string_bytes words)

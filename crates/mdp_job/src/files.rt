@@ -16,7 +16,7 @@ pub fn files_of(words: &[String]) -> Files
     ensures { result ≡ files_of (job_of words.now) }
 {
     match job_of(words) {
-        Ok(Job::Solve { .. }) => Files {
+        Ok(Job::Solve { .. } | Job::Horizon { .. }) => Files {
             model: Some(1),
             second: None,
         },

@@ -1,8 +1,8 @@
-ghost use Rattle.std.specs.Prelude.{◌≡◌, ◌<◌, ◌^◌, length, map, Ok, Err};
+ghost use Rattle.std.specs.Prelude.{◌≡◌, ◌<◌, ◌^◌, option_map, length, map, Ok, Err};
 ghost use Rattle.std.specs.Result.{MatchResult};
 ghost use Rattle.std.specs.String.{string_bytes};
 ghost use Rattle.mdp_job.specs.Job.{asked, plain_query};
-ghost use Rattle.mdp_job.specs.Words.{job_of, rule_of, dir_of, reach_of, reward_of, query_of, solve_of, check_of, drill_by, drill_of};
+ghost use Rattle.mdp_job.specs.Words.{job_of, rule_of, dir_of, reach_of, reward_of, query_of, solve_of, check_of, drill_by, drill_of, stay_of, steps_of, horizon_of};
 
 use crate::digits::whole_word;
 use crate::words_error::WordsError;
@@ -36,6 +36,15 @@ pub enum Job<'a> {
         number: u64,
         layers: u32,
         width: u32,
+    },
+    /// `horizon MODEL ROWS DIR A B STEPS`: the best probability of reaching a state with the label B within so many steps, on a way that keeps to
+    /// states with the label A; to any states, where `stay` is none (the word `-`).
+    Horizon {
+        rule: RowRule,
+        dir: Dir,
+        stay: Option<&'a [u8]>,
+        label: &'a [u8],
+        steps: u32,
     },
 }
 
@@ -127,6 +136,45 @@ fn check_of<'a>(words: &'a [String]) -> Result<Job<'a>, WordsError>
     Ok(Job::Check { rule })
 }
 
+/// The label of states at which a way may go on, or none for `-`.
+fn stay_of<'a>(word: &'a str) -> Option<&'a [u8]>
+    ensures { option_map (λ name. name.now) result ≡ stay_of word.now }
+{
+    if word == "-" {
+        return None;
+    }
+    Some(word.as_bytes())
+}
+
+/// The number of steps that a word writes.
+fn steps_of(word: &str) -> Result<u32, WordsError>
+    ensures { result ≡ steps_of word.now }
+{
+    match whole_word(word.as_bytes(), 7) {
+        Some(steps) => Ok(steps as u32),
+        None => Err(WordsError::Steps),
+    }
+}
+
+/// The job that the words behind `horizon` are.
+fn horizon_of<'a>(words: &'a [String]) -> Result<Job<'a>, WordsError>
+    ensures { asked result ≡ horizon_of (map string_bytes words.now) }
+{
+    let [_, rows, dir, stay, label, steps] = words else {
+        return Err(WordsError::Number);
+    };
+    let rule = rule_of(rows.as_str())?;
+    let dir = dir_of(dir.as_str())?;
+    let steps = steps_of(steps.as_str())?;
+    Ok(Job::Horizon {
+        rule,
+        dir,
+        stay: stay_of(stay.as_str()),
+        label: label.as_bytes(),
+        steps,
+    })
+}
+
 /// The most states in the layers of a model that is drawn.
 const MOST_STATES: u128 = (1 << 20) - 2;
 
@@ -166,7 +214,7 @@ fn drill_of<'a>(words: &'a [String]) -> Result<Job<'a>, WordsError>
 }
 
 /// The job that the words are, or the first refusal: `Command`, then `Number`, `Rows`, `Direction` and `Objective`, and `Number` again where an
-/// objective has another number of words; for `drill` `Drill`. It takes no memory.
+/// objective has another number of words; for `drill` `Drill`, for `horizon` `Steps`. It takes no memory.
 pub fn job_of<'a>(words: &'a [String]) -> Result<Job<'a>, WordsError>
     ensures { asked result ≡ job_of words.now }
 {
@@ -177,6 +225,7 @@ pub fn job_of<'a>(words: &'a [String]) -> Result<Job<'a>, WordsError>
         "solve" => solve_of(rest),
         "check" => check_of(rest),
         "drill" => drill_of(rest),
+        "horizon" => horizon_of(rest),
         _ => Err(WordsError::Command),
     }
 }

@@ -1,7 +1,7 @@
 ghost use Rattle.std.specs.Prelude.{◌≡◌, ◌≤◌, ◌++◌, length, take, decimal, codes, OnOk, OnErr};
 ghost use Rattle.mdp_job.specs.Refusal.{plain_refusal, no_job};
 ghost use Rattle.mdp_job.specs.Status.{status_of};
-ghost use Rattle.mdp_job.specs.Text.{text_of, words_word, drn_word, cert_word, at_line, place_text, number_or_dash, rule_text, denied_text, wide_text, part_word, kind_word, policy_words, too_wide_text};
+ghost use Rattle.mdp_job.specs.Text.{text_of, words_word, drn_word, cert_word, at_line, place_text, number_or_dash, rule_text, denied_text, wide_text, depth_text, horizon_text, part_word, kind_word, policy_words, too_wide_text};
 ghost use Rattle.mdp_path.specs.Queries.{shown};
 
 use crate::status::Status;
@@ -32,12 +32,20 @@ pub enum Refusal {
     QueryLabel,
     /// A reward of the name until a goal is below 0.
     QueryNegative,
+    /// The steps of `horizon` times the states are above 2^22.
+    QuerySteps,
     /// A written term of what was to be solved is past width, at this place.
     TooWide(TooWide),
     /// A written term of the check is past width, at this place.
     CheckWide {
         state: Option<u32>,
         choice: Option<u32>,
+    },
+    /// A sum of `horizon` is past width, with so many steps left, at this place.
+    HorizonWide {
+        depth: u32,
+        state: u32,
+        choice: u32,
     },
     /// A rule of the certificate is false.
     Denied(Fault),
@@ -72,8 +80,11 @@ impl Refusal {
             Refusal::QuerySize
             | Refusal::QueryReward
             | Refusal::QueryLabel
-            | Refusal::QueryNegative => Status::Query,
-            Refusal::TooWide(_) | Refusal::CheckWide { .. } => Status::TooWide,
+            | Refusal::QueryNegative
+            | Refusal::QuerySteps => Status::Query,
+            Refusal::TooWide(_) | Refusal::CheckWide { .. } | Refusal::HorizonWide { .. } => {
+                Status::TooWide
+            }
             Refusal::Denied(_) => Status::Denied,
             Refusal::ReadModel | Refusal::ReadCertificate => Status::ReadFault,
             Refusal::LongModel | Refusal::LongCertificate => Status::Long,
@@ -94,6 +105,7 @@ fn words_word(error: WordsError) -> &'static str
         WordsError::Direction => "direction",
         WordsError::Objective => "objective",
         WordsError::Drill => "drill",
+        WordsError::Steps => "steps",
     }
 }
 
@@ -290,6 +302,29 @@ fn push_check_wide(
     push_place(state, choice, out)
 }
 
+/// Appends `too-wide horizon depth I`.
+fn push_depth(depth: u32, out: &mut Vec<u8>) -> Result<(), AllocError>
+    ensures text { OnOk result (out.new.items ≡ out.old.items ++ depth_text depth) }
+    ensures front { take (length out.old.items) out.new.items ≡ out.old.items }
+{
+    out.extend_from_slice(b"too-wide horizon depth ")?;
+    push_number(Some(depth), out)
+}
+
+/// Appends the line of a sum of `horizon` that is past width.
+fn push_horizon_wide(
+    depth: u32,
+    state: u32,
+    choice: u32,
+    out: &mut Vec<u8>,
+) -> Result<(), AllocError>
+    ensures text { OnOk result (out.new.items ≡ out.old.items ++ horizon_text depth state choice) }
+    ensures front { take (length out.old.items) out.new.items ≡ out.old.items }
+{
+    push_depth(depth, out)?;
+    push_place(Some(state), Some(choice), out)
+}
+
 /// Appends the refusal's line, where what stands before it may have grown by a part of it on `Err`.
 fn push_parts(refusal: &Refusal, out: &mut Vec<u8>) -> Result<(), AllocError>
     ensures text { OnOk result (out.new.items ≡ out.old.items ++ text_of (plain_refusal refusal.now)) }
@@ -302,8 +337,14 @@ fn push_parts(refusal: &Refusal, out: &mut Vec<u8>) -> Result<(), AllocError>
         Refusal::QueryReward => out.extend_from_slice(b"query reward\n"),
         Refusal::QueryLabel => out.extend_from_slice(b"query label\n"),
         Refusal::QueryNegative => out.extend_from_slice(b"query negative\n"),
+        Refusal::QuerySteps => out.extend_from_slice(b"query steps\n"),
         Refusal::TooWide(wide) => push_too_wide(wide, out),
         Refusal::CheckWide { state, choice } => push_check_wide(*state, *choice, out),
+        Refusal::HorizonWide {
+            depth,
+            state,
+            choice,
+        } => push_horizon_wide(*depth, *state, *choice, out),
         Refusal::Denied(fault) => push_denied(fault, out),
         Refusal::ReadModel => out.extend_from_slice(b"read-fault model\n"),
         Refusal::ReadCertificate => out.extend_from_slice(b"read-fault certificate\n"),

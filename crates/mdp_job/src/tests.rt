@@ -38,6 +38,16 @@ fn spells_refusals(rt: HostRuntime) -> Result<(), Fail> {
             "> denied rule 20 state - choice -\n",
             1,
         ),
+        (Refusal::QuerySteps, "> query steps\n", 4),
+        (
+            Refusal::HorizonWide {
+                depth: 2,
+                state: 0,
+                choice: 1,
+            },
+            "> too-wide horizon depth 2 state 0 choice 1\n",
+            5,
+        ),
         (Refusal::ReadModel, "> read-fault model\n", 6),
         (
             Refusal::CertText {

@@ -13,4 +13,6 @@ pub enum WordsError {
     Objective = 5,
     /// A number of `drill` isn't in range.
     Drill = 7,
+    /// The number of steps of `horizon` isn't 1 to 7 digits.
+    Steps = 8,
 }

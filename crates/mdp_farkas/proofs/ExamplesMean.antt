@@ -1,0 +1,127 @@
+-- Verdicts on mean payoffs, computed, on four models: `turns` goes to and fro between 0 and 1 and earns 1 at 0; `gamble` stays at 0 for 1 in
+-- each step, or moves to 1, which earns 4 in each step, or to 2, which earns nothing, with 1/2 each; `leave` earns 1 in each step, and 5 once
+-- on the way from 0 to 1; `pay` loses 1 in each step at 0, or 5 once on the way to 1, which loses 1/2 in each step.
+use Rattle.std.proofs.Common.{◌≡◌, ℕ, ◌+◌, ◌^◌, List, [], ◌∷◌, refl, pos, Option, Some, None}
+use Rattle.mdp_math.specs.Gcd.{gcd, gcd_with_fuel}
+use Rattle.mdp_math.specs.Rational.{ℚ, of_int, ratio, neg_ℚ, ◌+ℚ◌, ◌*ℚ◌}
+use Rattle.mdp_math.specs.Written.{narrow, narrow_ℚ, written_add, written_mul, written_compare}
+use Rattle.mdp_spec.specs.Mdp.{Entry, Choice, State, Mdp}
+use Rattle.mdp_farkas.specs.Verdict.{verdict_of}
+use Rattle.mdp_farkas.specs.Mean.{mean_checks}
+use Rattle.mdp_rows.specs.declared.dir.Dir.TheVariants.{Max, Min}
+use Rattle.mdp_farkas.specs.declared.verdict.Verdict.{Verdict}
+use Rattle.mdp_farkas.specs.declared.verdict.Verdict.TheVariants.{Yes, No, Wide}
+
+-- n, n/d and -n/d
+abbrev number : ℕ → ℚ
+number n = of_int (pos n)
+
+abbrev over : ℕ → ℕ → ℚ
+over n d = ratio (pos n) d
+
+abbrev minus : ℕ → ℕ → ℚ
+minus n d = neg_ℚ (ratio (pos n) d)
+
+abbrev entry : ℕ → ℚ → Entry
+entry t p = record { target = t; prob = p }
+
+-- a choice that leads to t alone
+abbrev to : ℕ → ℚ → Choice
+to t reward = record { row = entry t (number 1) ∷ []; rewards = reward ∷ [] }
+
+abbrev state : List Choice → State
+state choices = record { labels = []; choices = choices }
+
+abbrev model : List State → Mdp
+model states = record { names = (45 ∷ []) ∷ []; labels = []; states = states }
+
+abbrev turns : Mdp
+turns = model (state (to 1 (number 1) ∷ []) ∷ state (to 0 (number 0) ∷ []) ∷ [])
+
+abbrev gamble : Mdp
+gamble = model
+    (state (to 0 (number 1) ∷ record { row = entry 1 (over 1 2) ∷ entry 2 (over 1 2) ∷ []; rewards = number 0 ∷ [] } ∷ [])
+    ∷ state (to 1 (number 4) ∷ [])
+    ∷ state (to 2 (number 0) ∷ [])
+    ∷ [])
+
+abbrev leave : Mdp
+leave = model (state (to 0 (number 1) ∷ to 1 (number 5) ∷ []) ∷ state (to 1 (number 1) ∷ []) ∷ [])
+
+abbrev pay : Mdp
+pay = model (state (to 0 (minus 1 1) ∷ to 1 (minus 5 1) ∷ []) ∷ state (to 1 (minus 1 2) ∷ []) ∷ [])
+
+abbrev two : ℚ → ℚ → List ℚ
+two x y = x ∷ y ∷ []
+
+abbrev fault : ℕ → Option ℕ → Option ℕ → Verdict
+fault rule s choice = No (record { rule = rule; state = s; choice = choice })
+
+-- both directions: there is nothing to choose
+most_turns : verdict_of (mean_checks Max turns 0 (two (over 1 2) (over 1 2)) (two (number 0) (minus 1 2)) (two (number 0) (minus 1 2)) (over 1 2) (0 ∷ 0 ∷ [])) ≡ Yes
+unfolding gcd gcd_with_fuel ratio of_int neg_ℚ ◌+ℚ◌ ◌*ℚ◌ narrow narrow_ℚ written_add written_mul written_compare
+most_turns = refl
+
+least_turns : verdict_of (mean_checks Min turns 0 (two (over 1 2) (over 1 2)) (two (number 0) (minus 1 2)) (two (number 0) (minus 1 2)) (over 1 2) (0 ∷ 0 ∷ [])) ≡ Yes
+unfolding gcd gcd_with_fuel ratio of_int neg_ℚ ◌+ℚ◌ ◌*ℚ◌ narrow narrow_ℚ written_add written_mul written_compare
+least_turns = refl
+
+-- another spread
+too_wide_spread : verdict_of (mean_checks Max turns 0 (two (over 1 2) (over 1 2)) (two (number 0) (minus 1 2)) (two (number 0) (minus 1 2)) (number 1) (0 ∷ 0 ∷ []))
+    ≡ fault 20 None None
+unfolding gcd gcd_with_fuel ratio of_int neg_ℚ ◌+ℚ◌ ◌*ℚ◌ narrow narrow_ℚ written_add written_mul written_compare
+too_wide_spread = refl
+
+-- the verdict on what is said of state 0 of `gamble`: its gain, its bias and the choice
+abbrev gambling : ℚ → ℚ → ℕ → Verdict
+gambling gain bias choice =
+    verdict_of (mean_checks Max gamble 0 (gain ∷ number 4 ∷ number 0 ∷ []) (number 0 ∷ number 0 ∷ number 0 ∷ []) (bias ∷ number 0 ∷ number 0 ∷ []) (number 2) (choice ∷ 0 ∷ 0 ∷ []))
+
+gambles : gambling (number 2) (minus 2 1) 1 ≡ Yes
+unfolding gcd gcd_with_fuel ratio of_int neg_ℚ ◌+ℚ◌ ◌*ℚ◌ narrow narrow_ℚ written_add written_mul written_compare
+gambles = refl
+
+no_such_choice : gambling (number 2) (minus 2 1) 2 ≡ fault 2 (Some 0) (Some 2)
+unfolding gcd gcd_with_fuel ratio of_int neg_ℚ ◌+ℚ◌ ◌*ℚ◌ narrow narrow_ℚ written_add written_mul written_compare
+no_such_choice = refl
+
+gain_too_small : gambling (number 1) (minus 2 1) 1 ≡ fault 16 (Some 0) (Some 1)
+unfolding gcd gcd_with_fuel ratio of_int neg_ℚ ◌+ℚ◌ ◌*ℚ◌ narrow narrow_ℚ written_add written_mul written_compare
+gain_too_small = refl
+
+gain_too_great : gambling (number 3) (minus 2 1) 1 ≡ fault 18 (Some 0) (Some 1)
+unfolding gcd gcd_with_fuel ratio of_int neg_ℚ ◌+ℚ◌ ◌*ℚ◌ narrow narrow_ℚ written_add written_mul written_compare
+gain_too_great = refl
+
+another_bias : gambling (number 2) (minus 1 1) 1 ≡ fault 19 (Some 0) (Some 1)
+unfolding gcd gcd_with_fuel ratio of_int neg_ℚ ◌+ℚ◌ ◌*ℚ◌ narrow narrow_ℚ written_add written_mul written_compare
+another_bias = refl
+
+-- to stay keeps any gain, but it doesn't earn 2
+stays : gambling (number 2) (minus 2 1) 0 ≡ fault 19 (Some 0) (Some 0)
+unfolding gcd gcd_with_fuel ratio of_int neg_ℚ ◌+ℚ◌ ◌*ℚ◌ narrow narrow_ℚ written_add written_mul written_compare
+stays = refl
+
+-- to leave earns 4 more once, which the bound takes up and the bias doesn't
+leaves : verdict_of (mean_checks Max leave 0 (two (number 1) (number 1)) (two (number 4) (number 0)) (two (number 0) (number 0)) (number 4) (0 ∷ 0 ∷ [])) ≡ Yes
+unfolding gcd gcd_with_fuel ratio of_int neg_ℚ ◌+ℚ◌ ◌*ℚ◌ narrow narrow_ℚ written_add written_mul written_compare
+leaves = refl
+
+no_bound : verdict_of (mean_checks Max leave 0 (two (number 1) (number 1)) (two (number 0) (number 0)) (two (number 0) (number 0)) (number 0) (0 ∷ 0 ∷ []))
+    ≡ fault 17 (Some 0) (Some 1)
+unfolding gcd gcd_with_fuel ratio of_int neg_ℚ ◌+ℚ◌ ◌*ℚ◌ narrow narrow_ℚ written_add written_mul written_compare
+no_bound = refl
+
+-- rewards below 0
+pays : verdict_of (mean_checks Max pay 0 (two (minus 1 2) (minus 1 2)) (two (number 0) (number 0)) (two (minus 9 2) (number 0)) (over 9 2) (1 ∷ 0 ∷ [])) ≡ Yes
+unfolding gcd gcd_with_fuel ratio of_int neg_ℚ ◌+ℚ◌ ◌*ℚ◌ narrow narrow_ℚ written_add written_mul written_compare
+pays = refl
+
+-- two states that are left nowhere: the bounds' range has the denominator 3(2^126 + 1), which is past width and has no place
+wide :
+    verdict_of
+    (mean_checks Max (model (state (to 0 (number 0) ∷ []) ∷ state (to 1 (number 0) ∷ []) ∷ [])) 0 (two (number 0) (number 0)) (two (over 1 3) (over 1 (2 ^ 126 + 1))) (two (number 0) (number 0))
+    (number 0) (0 ∷ 0 ∷ []))
+    ≡ Wide None None
+unfolding gcd gcd_with_fuel ratio of_int neg_ℚ ◌+ℚ◌ ◌*ℚ◌ narrow narrow_ℚ written_add written_mul written_compare
+wide = refl

@@ -1,0 +1,20 @@
+use Rattle.std.proofs.Common.{ap, ◌∙◌}
+use Rattle.mdp_farkas.specs.Verdict.{verdict}
+use Rattle.mdp_farkas.proofs.MeanRules.{mean_rules, mean_max, mean_min}
+use Rattle.mdp_farkas.proofs.mean.holds_mean.Goals as goal
+
+pub returns : goal.returns
+returns c =
+    let m = c.args.model.now in
+    let g = c.args.cert.now.gains.items in
+    let a = c.args.cert.now.bound.items in
+    let b = c.args.cert.now.bias.items in
+    let spread = c.args.cert.now.spread in
+    let policy = c.args.cert.now.choices.items in
+    let e = c.verdict_after.ensures ∙ ap verdict c.mean_walk.ensures in
+    record {
+      verdict = e;
+      rules = mean_rules m c.args.m g a b spread policy c.args.dir c.verdict_after.result c.requires.name c.requires.bound c.requires.bias c.requires.choices e;
+      max = mean_max m c.args.m g a b spread policy c.args.dir c.verdict_after.result c.requires.name c.requires.bound c.requires.bias c.requires.choices e c.known.ensures.mdp;
+      min = mean_min m c.args.m g a b spread policy c.args.dir c.verdict_after.result c.requires.name c.requires.bound c.requires.bias c.requires.choices e c.known.ensures.mdp;
+    }

@@ -1,0 +1,11 @@
+use Rattle.std.proofs.Common.{◌≡◌, length, map, reverse, Ok}
+use Rattle.mdp_spec.specs.Mdp.{states_of}
+use Rattle.mdp_horizon.specs.Written.{in_turn, next_step, no_steps}
+use Rattle.mdp_horizon.proofs.induction.until.Given as goal
+
+abbrev pub invariant-loop-done : goal.invariant-loop-done
+invariant-loop-done l = record {
+  made : in_turn (next_step l.fn.dir l.fn.model l.fn.stay l.fn.goals) (Ok (no_steps l.fn.model l.fn.goals)) l.done
+      ≡ Ok (record { values = l.values.items; steps = map (λ choices. choices.items) (reverse l.table.items) });
+  one_each : length l.values.items ≡ states_of l.fn.model;
+}

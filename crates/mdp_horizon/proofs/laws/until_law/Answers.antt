@@ -1,0 +1,6 @@
+use Rattle.mdp_horizon.proofs.Answering.{answers_are_greatest, answers_are_least, bounded_max_unique, bounded_min_unique}
+use Rattle.mdp_horizon.proofs.Hitting.{until_is_hit}
+use Rattle.mdp_horizon.proofs.laws.until_law.Goals as goal
+
+pub returns : goal.returns
+returns c = record { max = answers_are_greatest; min = answers_are_least; one_max = bounded_max_unique; one_min = bounded_min_unique; hit = until_is_hit }

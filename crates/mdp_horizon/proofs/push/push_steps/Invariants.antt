@@ -1,0 +1,11 @@
+use Rattle.std.proofs.Common.{◌≡◌, ◌++◌, drop}
+use Rattle.mdp_cert.specs.Answer.{Keeps}
+use Rattle.mdp_horizon.specs.Spelling.{step_lines}
+use Rattle.mdp_horizon.specs.Answer.{lists}
+use Rattle.mdp_horizon.proofs.push.push_steps.Given as goal
+
+abbrev pub invariant-loop-done : goal.invariant-loop-done
+invariant-loop-done l = record {
+  rest : l.out.items ++ step_lines (lists (drop l.done l.steps)) ≡ l.initial.out.items ++ step_lines (lists l.steps);
+  front : Keeps l.initial.out.items l.out.items;
+}

@@ -1,0 +1,39 @@
+-- The sums of a state's choices, made and compared by written arithmetic.
+use Rattle.std.specs.Prelude.{ℕ, Bool, true, false, List, Option, Some, pos, if◌then◌else◌}
+use Rattle.std.specs.declared.cmp.Ordering.{Ordering}
+use Rattle.std.specs.declared.cmp.Ordering.TheVariants.{Less, Equal, Greater}
+use Rattle.mdp_math.specs.Rational.{ℚ, of_int}
+use Rattle.mdp_math.specs.Written.{written_compare, ◌>>=◌}
+use Rattle.mdp_spec.specs.Mdp.{Mdp, row_at}
+use Rattle.mdp_spec.specs.Written.{written_sum}
+use Rattle.mdp_rows.specs.declared.dir.Dir.{Dir}
+use Rattle.mdp_rows.specs.declared.dir.Dir.TheVariants.{Max, Min}
+
+-- the value of a state, and the choice that has it
+pub record Best : Type 0 where
+  pub value : ℚ
+  pub choice : ℕ
+
+abbrev pub best : ℚ → ℕ → Best
+best value choice = record { value = value; choice = choice }
+
+-- greater for Max, less for Min
+abbrev pub is_better : Dir → Ordering → Bool
+is_better Max Less = false
+is_better Max Equal = false
+is_better Max Greater = true
+is_better Min Less = true
+is_better Min Equal = false
+is_better Min Greater = false
+
+-- the sum of choice c takes the place of the best one where it is strictly better
+abbrev pub judged : Dir → ℕ → Best → ℚ → Option Best
+judged dir c leader sum = written_compare sum leader.value >>= (λ order. Some (if is_better dir order then best sum c else leader))
+
+-- the sum of choice c of state s over the values z
+abbrev pub sum_of_choice : Mdp → List ℚ → ℕ → ℕ → Option ℚ
+sum_of_choice m z s c = written_sum z (of_int (pos 0)) (row_at m s c)
+
+-- choice c is summed up, and compared before the next one is
+abbrev pub compared : Dir → Mdp → List ℚ → ℕ → ℕ → Best → Option Best
+compared dir m z s c leader = sum_of_choice m z s c >>= judged dir c leader

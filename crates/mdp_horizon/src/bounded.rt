@@ -1,0 +1,9 @@
+use mdp_num::Frac;
+
+/// Probabilities of a bounded until, one for each state, and a choice of each state for each step: the list at place i has the choices with i
+/// steps done.
+#[derive(Debug, Drop)]
+pub struct Bounded {
+    pub values: Vec<Frac>,
+    pub steps: Vec<Vec<u32>>,
+}

@@ -1,0 +1,73 @@
+ghost use Rattle.std.specs.Prelude.{◌≡◌, ◌++◌, length, OnOk, OnErr};
+ghost use Rattle.mdp_spec.specs.Mdp.{states_of};
+ghost use Rattle.mdp_cert.specs.Answer.{Keeps};
+ghost use Rattle.mdp_horizon.specs.Spelling.{head_text, until_text};
+ghost use Rattle.mdp_horizon.specs.Answer.{plain};
+
+use crate::bounded::Bounded;
+use crate::push::{
+    push_claim, push_end, push_init, push_number, push_states, push_steps, push_version,
+};
+use mdp_num::Memory;
+use mdp_rows::{Dir, Model};
+
+/// Appends the lines before those of the states.
+fn push_head(
+    out: &mut Vec<u8>,
+    model: &Model,
+    dir: Dir,
+    stay: &[u8],
+    label: &[u8],
+    bounded: &Bounded,
+) -> Result<(), Memory>
+    requires { length bounded.now.values.items ≡ states_of model.now }
+    ensures text { OnOk result (out.new.items ≡ out.old.items ++ head_text dir stay.now label.now model.now (plain bounded.now)) }
+    ensures front { Keeps out.old.items out.new.items }
+{
+    push_version(out)?;
+    push_claim(out, dir, stay, label, bounded.steps.len() as u64)?;
+    push_number(out, model.states())?;
+    push_init(out, model, &bounded.values)
+}
+
+/// Appends all lines; after `Memory` the text begins as before.
+#[tactic(auto, unfolding(crate::specs::Spelling::until_text))]
+fn push_lines(
+    out: &mut Vec<u8>,
+    model: &Model,
+    dir: Dir,
+    stay: &[u8],
+    label: &[u8],
+    bounded: &Bounded,
+) -> Result<(), Memory>
+    requires { length bounded.now.values.items ≡ states_of model.now }
+    ensures text { OnOk result (out.new.items ≡ out.old.items ++ until_text dir stay.now label.now model.now (plain bounded.now)) }
+    ensures front { Keeps out.old.items out.new.items }
+{
+    push_head(out, model, dir, stay, label, bounded)?;
+    push_states(out, &bounded.values)?;
+    push_steps(out, &bounded.steps)?;
+    push_end(out)
+}
+
+/// Appends the text of an answer: what was asked, the number of states, the initial state, a line for each state and a line for each step. `stay`
+/// and `label` are the names of the states that stay and of the goals, `-` where each state stays. After `Memory` the text is as before.
+pub fn write_until(
+    model: &Model,
+    dir: Dir,
+    stay: &[u8],
+    label: &[u8],
+    bounded: &Bounded,
+    out: &mut Vec<u8>,
+) -> Result<(), Memory>
+    requires { length bounded.now.values.items ≡ states_of model.now }
+    ensures text { OnOk result (out.new.items ≡ out.old.items ++ until_text dir stay.now label.now model.now (plain bounded.now)) }
+    ensures unchanged { OnErr result (out.new.items ≡ out.old.items) }
+{
+    let start = out.len();
+    let answer = push_lines(out, model, dir, stay, label, bounded);
+    if answer.is_err() {
+        out.truncate(start);
+    }
+    answer
+}
