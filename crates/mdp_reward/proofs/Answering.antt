@@ -40,6 +40,9 @@ pub record PassLaws : Type 0 where
   pub rounds : RoundsFall
   pub zero : ZeroIsSure
 
+pub pass_laws : StaysSure → RestAvoids → RowsFall → RowsStay → RoundsFall → ZeroIsSure → PassLaws
+pass_laws sure avoids falls stays rounds zero = record { sure = sure; avoids = avoids; falls = falls; stays = stays; rounds = rounds; zero = zero }
+
 -- ---- what is found meets the rules
 
 pub meets-reward : (dir : Dir) (m : Mdp) (r : ℕ) (goals finite : List Bool) (start known policy ranks : List ℕ) (x : List ℚ) → HasRewards m r → PassLaws
@@ -111,8 +114,11 @@ module _ (dir : Dir) (m : Mdp) (r : ℕ) (goals : List Bool) (a : Answer) (has :
       subst (λ (a : Answer). IsReward dir m r goals a.values a.choices a.ranks) v.1
       ((reward_rules m r goals values f.policy h.0 dir (verdict_of (reward_checks dir m r goals values f.policy h.0)) has.named (rewards-len m goals end.finite f.values) is.one_each refl).0 v.0)
 
-  pub answer-meets : IsReward dir m r goals a.values a.choices a.ranks
+  answer-meets : IsReward dir m r goals a.values a.choices a.ranks
   answer-meets = answer_by end.end end.path end.after
+
+pub answers_meet : EndsAtBest → PassLaws → AnswersMeetRules
+answers_meet best laws dir m r goals a has end = answer-meets dir m r goals a has best laws end
 
 pub answers_are_greatest : AnswersMeetRules → AnswersAreGreatest
 answers_are_greatest h m r goals a has end = reward_max_of_rules m r goals a.values a.choices a.ranks has.model (h Max m r goals a has end).rules

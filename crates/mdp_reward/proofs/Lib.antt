@@ -13,3 +13,4 @@ pub mod MinRules
 pub mod Rounds
 pub mod OneEnd
 pub mod Answering
+mod Examples

@@ -93,7 +93,8 @@ module _ (m : Mdp) (r : ℕ) (goals finite : List Bool) (start known policy rank
   comes_by k s false true l i eg e f ih = e
   comes_by k s false false l i eg e f ih =
       let open_here = both (is_marked goals s) (is_marked finite s) eg f in
-      let a = Any-and (λ y. y.target < states_of m) (λ y. (is_marked finite y.target ≡ true) × ((marked y.target ≡ false) × ((active y.target ≡ false) ⊎ (far y.target < far s)))) (row s) (in_range s l)
+      let a = Any-and (λ y. y.target < states_of m) (λ y. (is_marked finite y.target ≡ true) × ((marked y.target ≡ false) × ((active y.target ≡ false) ⊎ (far y.target < far s)))) (row s)
+      (in_range s l)
       (Any-and (λ y. is_marked finite y.target ≡ true) (λ y. (marked y.target ≡ false) × ((active y.target ≡ false) ⊎ (far y.target < far s))) (row s) (keeps_finite s l open_here)
       (Any-and (λ y. marked y.target ≡ false) (λ y. (active y.target ≡ false) ⊎ (far y.target < far s)) (row s)
       (row-stays m policy model is_policy goals ranking.marks ranking.along ranking.reached ranking.least stays s l e)

@@ -97,7 +97,8 @@ module _ (m : Mdp) (goals : List Bool) where
       let avoiding : b.avoiding ≡ a.avoiding = one_avoiding a.avoiding b.avoiding a.passes.avoids b.passes.avoids in
       let p : MaxPasses m goals a.avoiding b.infinite b.keep b.far b.go b.near = subst (λ (xs : List Bool). MaxPasses m goals xs b.infinite b.keep b.far b.go b.near) avoiding b.passes in
       let infinite : b.infinite ≡ a.infinite = max_infinite a.avoiding a.infinite b.infinite a.keep a.far a.go a.near b.keep b.far b.go b.near a.passes p in
-      let e = max_from a.avoiding a.infinite a.keep a.far a.go a.near b.keep b.far b.go b.near a.passes (subst (λ (xs : List Bool). MaxPasses m goals a.avoiding xs b.keep b.far b.go b.near) infinite p) in
+      let e = max_from a.avoiding a.infinite a.keep a.far a.go a.near b.keep b.far b.go b.near a.passes
+      (subst (λ (xs : List Bool). MaxPasses m goals a.avoiding xs b.keep b.far b.go b.near) infinite p) in
       let finite_same : others ≡ finite = b.finite_is ∙ ap (unmarked m) infinite ∙ sym a.finite_is in
       record {
         finite_same = finite_same;

@@ -1,44 +1,21 @@
 use Rattle.mdp_reward.proofs.OneEnd.{one_query_end}
-use Rattle.mdp_reward.proofs.Answering.{answer-meets, answers_are_greatest, answers_are_least}
+use Rattle.mdp_reward.proofs.Answering.{pass_laws, answers_meet, answers_are_greatest, answers_are_least}
 use Rattle.mdp_reward.proofs.laws.query_law.Goals as goal
 
 pub returns-clause-one_end : goal.returns-clause-one_end
 returns-clause-one_end c dir m r goals p q a b = one_query_end dir m r goals p q a b
 
 pub returns-clause-rules : goal.returns-clause-rules
-returns-clause-rules c dir m r goals a has end =
-    answer-meets dir m r goals a has c.path_law.ensures.best
-    (record {
-      sure = c.sure_all_law.ensures.stays;
-      avoids = c.meet_law.ensures.rest;
-      falls = c.along_law.ensures.falls;
-      stays = c.along_law.ensures.rest;
-      rounds = c.rounds_law.ensures.fall;
-      zero = c.rounds_law.ensures.zero;
-    }) end
+returns-clause-rules c =
+    answers_meet c.path_law.ensures.best
+    (pass_laws c.sure_all_law.ensures.stays c.meet_law.ensures.rest c.along_law.ensures.falls c.along_law.ensures.rest c.rounds_law.ensures.fall c.rounds_law.ensures.zero)
 
 pub returns-clause-max : goal.returns-clause-max
 returns-clause-max c =
-    answers_are_greatest (λ dir m r goals a has end.
-    answer-meets dir m r goals a has c.path_law.ensures.best
-    (record {
-      sure = c.sure_all_law.ensures.stays;
-      avoids = c.meet_law.ensures.rest;
-      falls = c.along_law.ensures.falls;
-      stays = c.along_law.ensures.rest;
-      rounds = c.rounds_law.ensures.fall;
-      zero = c.rounds_law.ensures.zero;
-    }) end)
+    answers_are_greatest (answers_meet c.path_law.ensures.best
+    (pass_laws c.sure_all_law.ensures.stays c.meet_law.ensures.rest c.along_law.ensures.falls c.along_law.ensures.rest c.rounds_law.ensures.fall c.rounds_law.ensures.zero))
 
 pub returns-clause-min : goal.returns-clause-min
 returns-clause-min c =
-    answers_are_least (λ dir m r goals a has end.
-    answer-meets dir m r goals a has c.path_law.ensures.best
-    (record {
-      sure = c.sure_all_law.ensures.stays;
-      avoids = c.meet_law.ensures.rest;
-      falls = c.along_law.ensures.falls;
-      stays = c.along_law.ensures.rest;
-      rounds = c.rounds_law.ensures.fall;
-      zero = c.rounds_law.ensures.zero;
-    }) end)
+    answers_are_least (answers_meet c.path_law.ensures.best
+    (pass_laws c.sure_all_law.ensures.stays c.meet_law.ensures.rest c.along_law.ensures.falls c.along_law.ensures.rest c.rounds_law.ensures.fall c.rounds_law.ensures.zero))

@@ -12,7 +12,7 @@ use Rattle.mdp_reward.proofs.Values.{reward-nonneg}
 use Rattle.mdp_reward.proofs.Starts.{start-solvable, start-choices, start-finite, start-known}
 use Rattle.mdp_reward.proofs.Kept.{found-policy}
 use Rattle.mdp_reward.proofs.Certificate.{rewards-len}
-use Rattle.mdp_reward.proofs.Answering.{meets-reward, ranks-count, ends-refused, ends-answered, ends-wide}
+use Rattle.mdp_reward.proofs.Answering.{pass_laws, meets-reward, ranks-count, ends-refused, ends-answered, ends-wide}
 use Rattle.mdp_farkas.proofs.RewardRules.{reward_never_no}
 use Rattle.mdp_reward.proofs.solve.solve_reward.Goals as goal
 
@@ -20,28 +20,34 @@ pub invariant_of-problem : goal.invariant_of-problem
 invariant_of-problem c = record {
   named = c.requires.name;
   goals_each = c.requires.goals;
-  finite_each = start-finite c.args.dir c.args.model.now c.args.goals.now c.in_ok-start.start.finite c.in_ok-start.start.policy.items c.in_ok-start.start.known.items c.known.ensures.mdp (c.in_ok-start.ensures {u = tt});
+  finite_each = start-finite c.args.dir c.args.model.now c.args.goals.now c.in_ok-start.start.finite c.in_ok-start.start.policy.items c.in_ok-start.start.known.items c.known.ensures.mdp
+      (c.in_ok-start.ensures {u = tt});
 }
 
 pub improve-requires : goal.improve-requires
 improve-requires c =
-    start-solvable c.args.dir c.args.model.now c.args.m c.args.goals.now c.in_ok-start.start.finite c.in_ok-start.start.policy.items c.in_ok-start.start.known.items c.known.ensures.mdp c.requires.none_negative c.sure_all_law.ensures.stays
+    start-solvable c.args.dir c.args.model.now c.args.m c.args.goals.now c.in_ok-start.start.finite c.in_ok-start.start.policy.items c.in_ok-start.start.known.items c.known.ensures.mdp
+    c.requires.none_negative c.sure_all_law.ensures.stays
     c.meet_law.ensures.rest (c.in_ok-start.ensures {u = tt})
 
 pub returns-in-Err-clause-path : goal.returns-in-Err-clause-path
 returns-in-Err-clause-path c =
     subst (λ (e : SolveError). Solves plain (EndsSo c.args.dir c.args.model.now c.args.m c.args.goals.now) (Err e)) (sym c.in_part.ensures)
-    (ends-refused c.args.dir c.args.model.now c.args.m c.args.goals.now c.in_ok-start.start.finite c.in_ok-start.start.policy.items c.in_ok-start.start.known.items (c.in_ok-start.ensures {u = tt}) c.in-Err.error
+    (ends-refused c.args.dir c.args.model.now c.args.m c.args.goals.now c.in_ok-start.start.finite c.in_ok-start.start.policy.items c.in_ok-start.start.known.items
+    (c.in_ok-start.ensures {u = tt}) c.in-Err.error
     (c.in-Err.ensures {u = tt}).path)
 
 pub ranks_of-requires-clause-known : goal.ranks_of-requires-clause-known
-ranks_of-requires-clause-known c = start-known c.args.dir c.args.model.now c.args.goals.now c.in_ok-start.start.finite c.in_ok-start.start.policy.items c.in_ok-start.start.known.items c.known.ensures.mdp (c.in_ok-start.ensures {u = tt})
+ranks_of-requires-clause-known c =
+    start-known c.args.dir c.args.model.now c.args.goals.now c.in_ok-start.start.finite c.in_ok-start.start.policy.items c.in_ok-start.start.known.items c.known.ensures.mdp
+    (c.in_ok-start.ensures {u = tt})
 
 pub ranks_of-requires-clause-policy : goal.ranks_of-requires-clause-policy
 ranks_of-requires-clause-policy c =
     subst (λ (policy : List ℕ). IsPolicy c.args.model.now policy) (sym c.deref.ensures.value)
     (found-policy c.args.dir c.args.model.now c.args.m c.args.goals.now c.in_ok-start.start.finite c.in_ok-start.start.policy.items c.in-Ok.found.policy.items c.in-Ok.found.values.items
-    (start-choices c.args.dir c.args.model.now c.args.goals.now c.in_ok-start.start.finite c.in_ok-start.start.policy.items c.in_ok-start.start.known.items c.known.ensures.mdp (c.in_ok-start.ensures {u = tt})) (c.in-Ok.ensures {u = tt}).best)
+    (start-choices c.args.dir c.args.model.now c.args.goals.now c.in_ok-start.start.finite c.in_ok-start.start.policy.items c.in_ok-start.start.known.items c.known.ensures.mdp
+    (c.in_ok-start.ensures {u = tt})) (c.in-Ok.ensures {u = tt}).best)
 
 pub rewards_of-requires-clause-values : goal.rewards_of-requires-clause-values
 rewards_of-requires-clause-values c =
@@ -57,7 +63,8 @@ holds_reward-requires-clause-choices c = (c.in-Ok.ensures {u = tt}).best.best.is
 pub holds_reward-requires-clause-ranks : goal.holds_reward-requires-clause-ranks
 holds_reward-requires-clause-ranks c =
     ranks-count c.args.dir c.args.model.now c.args.goals.now c.in_ok-start.start.finite c.in_ok-start.start.known.items c.deref.result.now c.in_ok-ranks.ranks.items
-    (start-known c.args.dir c.args.model.now c.args.goals.now c.in_ok-start.start.finite c.in_ok-start.start.policy.items c.in_ok-start.start.known.items c.known.ensures.mdp (c.in_ok-start.ensures {u = tt})) (c.in_ok-ranks.ensures {u = tt})
+    (start-known c.args.dir c.args.model.now c.args.goals.now c.in_ok-start.start.finite c.in_ok-start.start.policy.items c.in_ok-start.start.known.items c.known.ensures.mdp
+    (c.in_ok-start.ensures {u = tt})) (c.in_ok-ranks.ensures {u = tt})
 
 pub returns-in-Yes-clause-path : goal.returns-in-Yes-clause-path
 returns-in-Yes-clause-path c =
@@ -95,14 +102,7 @@ unreachable-requires c =
     reward_never_no m c.args.m goals (rewards_of m finite x) policy ranks (λ s k. reward-nonneg m c.args.m c.requires.none_negative s k) dir
     (meets-reward dir m c.args.m goals finite start known policy ranks x
     (record { model = c.known.ensures.mdp; named = c.requires.name; none_negative = c.requires.none_negative })
-    (record {
-      sure = c.sure_all_law.ensures.stays;
-      avoids = c.meet_law.ensures.rest;
-      falls = c.along_law.ensures.falls;
-      stays = c.along_law.ensures.rest;
-      rounds = c.rounds_law.ensures.fall;
-      zero = c.rounds_law.ensures.zero;
-    })
+    (pass_laws c.sure_all_law.ensures.stays c.meet_law.ensures.rest c.along_law.ensures.falls c.along_law.ensures.rest c.rounds_law.ensures.fall c.rounds_law.ensures.zero)
     (c.in_ok-start.ensures {u = tt}) (c.in-Ok.ensures {u = tt}).best are)
     c.in-No.field-0
     (subst (λ (v : List (Option ℚ)). verdict_of (reward_checks dir m c.args.m goals v policy ranks) ≡ No c.in-No.field-0) values (sym c.holds_reward.ensures.verdict ∙ c.in-No.is))

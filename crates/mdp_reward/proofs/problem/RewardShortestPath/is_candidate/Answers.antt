@@ -6,10 +6,12 @@ use Rattle.mdp_reward.proofs.Nodes.{reward-count, reward-choice, reward-candidat
 use Rattle.mdp_reward.proofs.problem.RewardShortestPath.is_candidate.Goals as goal
 
 pub stays_finite-requires-clause-state : goal.stays_finite-requires-clause-state
-stays_finite-requires-clause-state c = let n = reward-count c.args.self.now.dir c.args.self.now.model.now c.args.self.now.name c.args.self.now.goals.now c.args.self.now.finite.now in omega (arith, c.requires.node)
+stays_finite-requires-clause-state c =
+    let n = reward-count c.args.self.now.dir c.args.self.now.model.now c.args.self.now.name c.args.self.now.goals.now c.args.self.now.finite.now in omega (arith, c.requires.node)
 
 pub stays_finite-requires-clause-choice : goal.stays_finite-requires-clause-choice
-stays_finite-requires-clause-choice c = (reward-choice c.args.self.now.dir c.args.self.now.model.now c.args.self.now.name c.args.self.now.goals.now c.args.self.now.finite.now c.args.s c.args.c c.requires.node c.requires.choice).0
+stays_finite-requires-clause-choice c =
+    (reward-choice c.args.self.now.dir c.args.self.now.model.now c.args.self.now.name c.args.self.now.goals.now c.args.self.now.finite.now c.args.s c.args.c c.requires.node c.requires.choice).0
 
 pub returns-in-Max : goal.returns-in-Max
 returns-in-Max c =

@@ -4,14 +4,20 @@ use Rattle.mdp_reward.proofs.Nodes.{reward-count, reward-row}
 use Rattle.mdp_reward.proofs.problem.RewardShortestPath.row.Goals as goal
 
 pub row-requires-clause-state : goal.row-requires-clause-state
-row-requires-clause-state c = let n = reward-count c.args.self.now.dir c.args.self.now.model.now c.args.self.now.name c.args.self.now.goals.now c.args.self.now.finite.now in omega (arith, c.requires.node)
+row-requires-clause-state c =
+    let n = reward-count c.args.self.now.dir c.args.self.now.model.now c.args.self.now.name c.args.self.now.goals.now c.args.self.now.finite.now in omega (arith, c.requires.node)
 
 pub row-requires-clause-choice : goal.row-requires-clause-choice
-row-requires-clause-choice c = (reward-row c.args.self.now.dir c.args.self.now.model.now c.args.self.now.name c.args.self.now.goals.now c.args.self.now.finite.now c.args.s c.requires.node c.args.c c.requires.choice c.requires.goes_on).0
+row-requires-clause-choice c =
+    (reward-row c.args.self.now.dir c.args.self.now.model.now c.args.self.now.name c.args.self.now.goals.now c.args.self.now.finite.now c.args.s c.requires.node c.args.c c.requires.choice
+    c.requires.goes_on).0
 
 pub returns-clause-row : goal.returns-clause-row
 returns-clause-row c =
-    c.row.ensures.row ∙ sym (reward-row c.args.self.now.dir c.args.self.now.model.now c.args.self.now.name c.args.self.now.goals.now c.args.self.now.finite.now c.args.s c.requires.node c.args.c c.requires.choice c.requires.goes_on).1
+    c.row.ensures.row ∙ sym (reward-row c.args.self.now.dir c.args.self.now.model.now c.args.self.now.name c.args.self.now.goals.now c.args.self.now.finite.now c.args.s c.requires.node
+    c.args.c c.requires.choice c.requires.goes_on).1
 
 pub returns-clause-in_range : goal.returns-clause-in_range
-returns-clause-in_range c = subst (λ n. All (λ t. t < n) c.row.result.targets.now) (sym (reward-count c.args.self.now.dir c.args.self.now.model.now c.args.self.now.name c.args.self.now.goals.now c.args.self.now.finite.now)) c.row.ensures.in_range
+returns-clause-in_range c =
+    subst (λ n. All (λ t. t < n) c.row.result.targets.now) (sym (reward-count c.args.self.now.dir c.args.self.now.model.now c.args.self.now.name c.args.self.now.goals.now
+    c.args.self.now.finite.now)) c.row.ensures.in_range

@@ -1,0 +1,141 @@
+-- Paths of rewards until a goal, computed, and what the checks of certificates say of their ends.
+use Rattle.std.proofs.Common.{◌≡◌, ℕ, [], ◌∷◌, List, Bool, true, false, Some, None, Result, Ok, refl, pos}
+use Rattle.mdp_math.specs.Gcd.{gcd, gcd_with_fuel}
+use Rattle.mdp_math.specs.Rational.{ℚ, of_int, ratio, ◌+ℚ◌, ◌*ℚ◌, neg_ℚ, inv_ℚ}
+use Rattle.mdp_math.specs.Written.{written_add, written_mul, written_compare, narrow, narrow_ℚ}
+use Rattle.mdp_spec.specs.Mdp.{Mdp, State, Choice, Entry}
+use Rattle.mdp_elim.specs.Elimination.{divided_rest, plus_equation, eliminated, evaluated}
+use Rattle.mdp_elim.specs.System.{equation_of}
+use Rattle.mdp_rows.specs.declared.dir.Dir.TheVariants.{Max, Min}
+use Rattle.mdp_graph.specs.Sure.{stays_and_falls}
+use Rattle.mdp_graph.specs.Layers.{reached}
+use Rattle.mdp_graph.specs.Reach.{may_step}
+use Rattle.mdp_graph.specs.Sets.{marked}
+use Rattle.mdp_path.specs.Iteration.{iterated}
+use Rattle.mdp_path.specs.Path.{Found, Refusal, path_step}
+use Rattle.mdp_path.specs.Laws.{first}
+use Rattle.mdp_farkas.specs.Verdict.{verdict_of}
+use Rattle.mdp_farkas.specs.Reward.{reward_checks}
+use Rattle.mdp_farkas.specs.declared.verdict.Fault.{Fault}
+use Rattle.mdp_farkas.specs.declared.verdict.Verdict.TheVariants.{Yes, No}
+use Rattle.mdp_reward.specs.Problem.{may_take, is_transient, reward_problem}
+use Rattle.mdp_reward.specs.Query.{split, unmarked, rewards_of}
+
+abbrev to : ℕ → ℚ → Entry
+to t p = record { target = t; prob = p }
+
+abbrev whole : ℕ → ℚ
+whole n = of_int (pos n)
+
+-- a choice that leads to one state, with a reward
+abbrev goes : ℕ → ℕ → Choice
+goes t reward = record { row = to t (whole 1) ∷ []; rewards = whole reward ∷ [] }
+
+abbrev with : List Choice → State
+with choices = record { labels = []; choices = choices }
+
+abbrev model_of : List State → Mdp
+model_of states = record { names = [] ∷ []; labels = []; states = states }
+
+-- ---- a loop of reward 0: state 0 stays for 0, or goes to the goal 1 for 3
+
+abbrev loops : Mdp
+loops = model_of (with (goes 0 0 ∷ goes 1 3 ∷ []) ∷ with (goes 1 0 ∷ []) ∷ [])
+
+abbrev goal_1 : List Bool
+goal_1 = false ∷ true ∷ []
+
+-- the least reward can't stay: the loop leads to no smaller rank, so the start leaves by choice 1
+loop_stays : stays_and_falls loops (true ∷ true ∷ []) (1 ∷ 0 ∷ []) 0 0 ≡ false
+loop_stays = refl
+
+leaves : stays_and_falls loops (true ∷ true ∷ []) (1 ∷ 0 ∷ []) 0 1 ≡ true
+leaves = refl
+
+-- and the path keeps to it: to stay first is worth no less than the 3 that follow
+least_3 : iterated (path_step (reward_problem Min loops 0 goal_1 (true ∷ true ∷ []))) 1 (first (1 ∷ 0 ∷ [])) ≡
+    Some (let e : Result Found Refusal = Ok (record { number = 0; policy = 1 ∷ 0 ∷ []; values = whole 3 ∷ whole 0 ∷ [] }) in e)
+unfolding equation_of eliminated divided_rest plus_equation evaluated written_add written_mul written_compare narrow narrow_ℚ ◌+ℚ◌ ◌*ℚ◌ neg_ℚ inv_ℚ ratio of_int gcd gcd_with_fuel
+least_3 = refl
+
+-- its certificate holds; that the loop is worth 0 doesn't
+least_holds : verdict_of (reward_checks Min loops 0 goal_1 (Some (whole 3) ∷ Some (whole 0) ∷ []) (1 ∷ 0 ∷ []) (1 ∷ 0 ∷ [])) ≡ Yes
+unfolding written_add written_mul written_compare narrow narrow_ℚ ◌+ℚ◌ ◌*ℚ◌ neg_ℚ inv_ℚ ratio of_int gcd gcd_with_fuel
+least_holds = refl
+
+least_denied : verdict_of (reward_checks Min loops 0 goal_1 (Some (whole 0) ∷ Some (whole 0) ∷ []) (0 ∷ 0 ∷ []) (1 ∷ 0 ∷ []))
+    ≡ No (let f : Fault = record { rule = 13; state = Some 0; choice = Some 0 } in f)
+unfolding written_add written_mul written_compare narrow narrow_ℚ ◌+ℚ◌ ◌*ℚ◌ neg_ℚ inv_ℚ ratio of_int gcd gcd_with_fuel
+least_denied = refl
+
+-- the greatest reward is infinite: state 0 can avoid the goal
+greatest_infinite : rewards_of loops (unmarked loops (true ∷ false ∷ [])) (whole 0 ∷ whole 0 ∷ []) ≡ None ∷ Some (whole 0) ∷ []
+unfolding of_int
+greatest_infinite = refl
+
+greatest_holds : verdict_of (reward_checks Max loops 0 goal_1 (None ∷ Some (whole 0) ∷ []) (0 ∷ 0 ∷ []) (0 ∷ 0 ∷ [])) ≡ Yes
+unfolding written_add written_mul written_compare narrow narrow_ℚ ◌+ℚ◌ ◌*ℚ◌ neg_ℚ inv_ℚ ratio of_int gcd gcd_with_fuel
+greatest_holds = refl
+
+-- ---- finite by one choice, infinite by another: state 0 goes to 1, where it stays, or for 4 to the goal 2
+
+abbrev parts : Mdp
+parts = model_of (with (goes 1 0 ∷ goes 2 4 ∷ []) ∷ with (goes 1 0 ∷ []) ∷ with (goes 2 0 ∷ []) ∷ [])
+
+abbrev goal_2 : List Bool
+goal_2 = false ∷ false ∷ true ∷ []
+
+abbrev finite_parts : List Bool
+finite_parts = true ∷ false ∷ true ∷ []
+
+-- for the least reward choice 0 is no candidate, although it earns less
+no_candidate : may_take Min finite_parts (to 1 (whole 1) ∷ []) ≡ false
+no_candidate = refl
+
+least_4 : iterated (path_step (reward_problem Min parts 0 goal_2 finite_parts)) 1 (first (1 ∷ 0 ∷ 0 ∷ [])) ≡
+    Some (let e : Result Found Refusal = Ok (record { number = 0; policy = 1 ∷ 0 ∷ 0 ∷ []; values = whole 4 ∷ whole 0 ∷ whole 0 ∷ [] }) in e)
+unfolding equation_of eliminated divided_rest plus_equation evaluated written_add written_mul written_compare narrow narrow_ℚ ◌+ℚ◌ ◌*ℚ◌ neg_ℚ inv_ℚ ratio of_int gcd gcd_with_fuel
+least_4 = refl
+
+least_parts : rewards_of parts finite_parts (whole 4 ∷ whole 0 ∷ whole 0 ∷ []) ≡ Some (whole 4) ∷ None ∷ Some (whole 0) ∷ []
+unfolding of_int
+least_parts = refl
+
+-- its ranks: along the policy at finite states, the round of state 1
+ranks_of_parts : split parts finite_parts (1 ∷ 0 ∷ 0 ∷ []) (0 ∷ 1 ∷ 0 ∷ []) ≡ 1 ∷ 1 ∷ 0 ∷ []
+ranks_of_parts = refl
+
+-- for the greatest reward state 0 is infinite too: it comes to state 1, where the goal is avoided
+comes_to_1 : reached (may_step parts goal_2) (marked (false ∷ true ∷ false ∷ [])) 1 0 ≡ true
+unfolding reached
+comes_to_1 = refl
+
+-- ---- the goal's own reward isn't counted: state 0 stays with 1/2 and goes to the goal 1 with 1/2, for 1 each time; the goal stays for 5
+
+abbrev tries : Mdp
+tries = model_of (with (record { row = to 0 (ratio (pos 1) 2) ∷ to 1 (ratio (pos 1) 2) ∷ []; rewards = whole 1 ∷ [] } ∷ []) ∷ with (goes 1 5 ∷ []) ∷ [])
+
+no_goal : is_transient goal_1 (true ∷ true ∷ []) 1 ≡ false
+no_goal = refl
+
+two_tries : iterated (path_step (reward_problem Max tries 0 goal_1 (true ∷ true ∷ []))) 1 (first (0 ∷ 0 ∷ [])) ≡
+    Some (let e : Result Found Refusal = Ok (record { number = 0; policy = 0 ∷ 0 ∷ []; values = whole 2 ∷ whole 0 ∷ [] }) in e)
+unfolding equation_of eliminated divided_rest plus_equation evaluated written_add written_mul written_compare narrow narrow_ℚ ◌+ℚ◌ ◌*ℚ◌ neg_ℚ inv_ℚ ratio of_int gcd gcd_with_fuel
+two_tries = refl
+
+-- ---- both directions: state 1 goes to the goal 2 for 1 or for 2, and state 0 goes there for 2 or to 1 for 1
+
+abbrev late : Mdp
+late = model_of (with (goes 2 2 ∷ goes 1 1 ∷ []) ∷ with (goes 2 1 ∷ goes 2 2 ∷ []) ∷ with (goes 2 0 ∷ []) ∷ [])
+
+-- the greatest: state 1 takes choice 1 first, and then state 0 goes there
+greatest_late : iterated (path_step (reward_problem Max late 0 goal_2 (true ∷ true ∷ true ∷ []))) 3 (first (0 ∷ 0 ∷ 0 ∷ [])) ≡
+    Some (let e : Result Found Refusal = Ok (record { number = 2; policy = 1 ∷ 1 ∷ 0 ∷ []; values = whole 3 ∷ whole 2 ∷ whole 0 ∷ [] }) in e)
+unfolding equation_of eliminated divided_rest plus_equation evaluated written_add written_mul written_compare narrow narrow_ℚ ◌+ℚ◌ ◌*ℚ◌ neg_ℚ inv_ℚ ratio of_int gcd gcd_with_fuel
+greatest_late = refl
+
+-- the least: choice 1 of state 0 is worth no less, and choice 0 stays
+least_late : iterated (path_step (reward_problem Min late 0 goal_2 (true ∷ true ∷ true ∷ []))) 2 (first (0 ∷ 1 ∷ 0 ∷ [])) ≡
+    Some (let e : Result Found Refusal = Ok (record { number = 1; policy = 0 ∷ 0 ∷ 0 ∷ []; values = whole 2 ∷ whole 1 ∷ whole 0 ∷ [] }) in e)
+unfolding equation_of eliminated divided_rest plus_equation evaluated written_add written_mul written_compare narrow narrow_ℚ ◌+ℚ◌ ◌*ℚ◌ neg_ℚ inv_ℚ ratio of_int gcd gcd_with_fuel
+least_late = refl
