@@ -1,6 +1,6 @@
 -- What is shown of a solved query: its answer has an entry per state, and its certificate belongs to the model.
-use Rattle.std.proofs.Common.{◌≡◌, ℕ, ◌<◌, ◌≤◌, ◌⊎◌, inl, inr, Bool, true, false, cond, ◌&&◌, ◌||◌, not, eqb, nat_lt, List, [], ◌∷◌, length, get_or, Option, Some, None, Result, Ok, Err, IfOk, refl, sym, ap, ap₂, subst}
-use Rattle.std.proofs.Common.{◌∙◌, arith, eq-eqb, lt-ltb}
+use Rattle.std.proofs.Common.{◌≡◌, ℕ, ◌<◌, ◌≤◌, ◌⊎◌, inl, inr, Bool, true, false, cond, ◌&&◌, ◌||◌, not, eqb, nat_lt, List, [], ◌∷◌, length, get_or, Option, Some, None}
+use Rattle.std.proofs.Common.{Result, Ok, Err, IfOk, refl, sym, ap, ap₂, subst, ◌∙◌, arith, eq-eqb, lt-ltb}
 use Rattle.std.specs.Prelude.{codes, All, option_map}
 use Rattle.std.specs.List.{list_any, range_with_len}
 use Rattle.std.specs.Str.{bytes_eq}
@@ -15,8 +15,7 @@ use Rattle.mdp_spec.specs.Bounds.{reward_at}
 use Rattle.mdp_spec.specs.Labels.{place_of, marks_of, initial_of, labelled, has_at, only}
 use Rattle.mdp_spec.specs.Mdp.{Mdp, states_of, value_at}
 use Rattle.mdp_spec.specs.Row.{IsMdp}
-use Rattle.mdp_spec.specs.Tree.{is_marked}
-use Rattle.mdp_rows.specs.Name.{is_name, IsName, is_reward_name, IsRewardName}
+use Rattle.mdp_rows.specs.Name.{IsName, IsRewardName}
 use Rattle.mdp_rows.specs.Negative.{has_negative}
 use Rattle.mdp_rows.specs.declared.dir.Dir.{Dir}
 use Rattle.mdp_rows.specs.declared.dir.Dir.TheVariants.{Max, Min}
@@ -32,7 +31,7 @@ use Rattle.mdp_farkas.specs.declared.verdict.Verdict.TheVariants.{Yes, No, Wide}
 use Rattle.mdp_reach.specs.Problem.{reach_problem}
 use Rattle.mdp_elim.specs.declared.too_wide.SolveError.TheVariants as error
 use Rattle.mdp_elim.specs.declared.too_wide.TooWide.{TooWide}
-use Rattle.mdp_path.specs.Queries.{WideTerm, Solves, shown}
+use Rattle.mdp_path.specs.Queries.{Solves, shown}
 use Rattle.mdp_reach.specs.Query.{Answer, plain, AreRanks, Held, AfterPath, EndsSo}
 use Rattle.mdp_reach.proofs.Nodes.{reach-count}
 use Rattle.mdp_reach.proofs.Starts.{start-solvable}
@@ -45,13 +44,13 @@ use Rattle.mdp_cert.specs.Reading.{outcome}
 use Rattle.mdp_cert.specs.Spelling.{text_of}
 use Rattle.mdp_cert.specs.Laws.{IsReadBack}
 use Rattle.mdp_check.specs.Initial.{has_value, init_check, init_fault}
-use Rattle.mdp_check.specs.Check.{reward_place, goal_marks, labelled_marks, valid_by, IsAccepted}
+use Rattle.mdp_check.specs.Check.{labelled_marks, IsAccepted}
 use Rattle.mdp_check.proofs.Accepting.{accepted_is_bound}
 use Rattle.mdp_job.specs.Refusal.{no_memory, query_reward, query_label, query_negative, too_wide}
 use Rattle.mdp_step.specs.Files.{most_bytes}
 use Rattle.mdp_step.specs.Said.{Said}
-use Rattle.mdp_solve_step.specs.Due.{init_at, init_by, certificate_by, certificate_of, reward_certificate_of, said_by, said_of_end, said_of_reward_end, IsReachDue, IsRewardEnd, IsRewardDue}
-use Rattle.mdp_solve_step.specs.Solved.{IsClaimPrinted}
+use Rattle.mdp_solve_step.specs.Due.{init_at, init_by, certificate_of, reward_certificate_of, IsReachDue, IsRewardEnd, IsRewardDue}
+use Rattle.mdp_solve_step.specs.Solved.{IsClaimPrinted, IsReachPrinted, IsRewardPrinted}
 use Rattle.mdp_solve_step.proofs.TextLength.{text_short}
 
 -- ---- an answer has an entry per state
@@ -95,7 +94,9 @@ only_passes P (x ∷ y ∷ xs) s e h = cc e
 
 range_below : (n : ℕ) → All (λ s. s < n) (range_with_len 0 n)
 range_below n =
-    All-from_get_or (λ s. s < n) (range_with_len 0 n) 0 (λ i l. let lt : i < n = subst (λ (k : ℕ). i < k) (length-range_with_len 0 n) l in subst (λ (s : ℕ). s < n) (sym (get_or-range_with_len 0 n i 0 lt)) (omega (arith, lt)))
+    All-from_get_or (λ s. s < n) (range_with_len 0 n) 0 (λ i l.
+    let lt : i < n = subst (λ (k : ℕ). i < k) (length-range_with_len 0 n) l in
+    subst (λ (s : ℕ). s < n) (sym (get_or-range_with_len 0 n i 0 lt)) (omega (arith, lt)))
 
 pub initial_below : (m : Mdp) (s : ℕ) → initial_of m ≡ Some s → s < states_of m
 initial_below m s e =
@@ -216,7 +217,8 @@ printed_by m c mdp back accepted fits text spelled = record {
   bound = accepted_is_bound m c mdp accepted;
 }
 
-module _ (dir : Dir) (label : List ℕ) (m : Mdp) (l : ℕ) (a : Answer) (found : place_of label m.labels ≡ Some l) (rules : IsReach dir m (marks_of m l) a.values a.choices a.ranks) (sizes : HasSizes (states_of m) a) where
+module _ (dir : Dir) (label : List ℕ) (m : Mdp) (l : ℕ) (a : Answer) (found : place_of label m.labels ≡ Some l)
+    (rules : IsReach dir m (marks_of m l) a.values a.choices a.ranks) (sizes : HasSizes (states_of m) a) where
   pub accepted : IsAccepted m (certificate_of dir label m a)
   accepted = record {
     states = refl;
@@ -229,6 +231,9 @@ module _ (dir : Dir) (label : List ℕ) (m : Mdp) (l : ℕ) (a : Answer) (found 
     body = rules;
   }
 
+  pub printed : IsMdp m → IsReadBack → (text : List ℕ) → Fits (certificate_of dir label m a) → text ≡ text_of (certificate_of dir label m a) → IsReachPrinted dir label m text
+  printed mdp back text fits spelled = printed_by m (certificate_of dir label m a) mdp back accepted fits text spelled
+
 module _ (dir : Dir) (name label : List ℕ) (m : Mdp) (r l : ℕ) (a : rewarded.Answer) (named : place_of name m.names ≡ Some r) (found : place_of label m.labels ≡ Some l)
     (rules : IsReward dir m r (marks_of m l) a.values a.choices a.ranks) (ranks : length a.ranks ≡ states_of m) where
   values : length a.values ≡ states_of m
@@ -237,7 +242,8 @@ module _ (dir : Dir) (name label : List ℕ) (m : Mdp) (r l : ℕ) (a : rewarded
   pub reward_accepted : IsAccepted m (reward_certificate_of dir name label m a)
   reward_accepted = record {
     states = refl;
-    entries = reward_entries dir name label (states_of m) (states_of m) a.values a.choices a.ranks refl values (reward_choices_size dir m r (marks_of m l) a.values a.choices a.ranks rules.rules) ranks;
+    entries = reward_entries dir name label (states_of m) (states_of m) a.values a.choices a.ranks refl values
+      (reward_choices_size dir m r (marks_of m l) a.values a.choices a.ranks rules.rules) ranks;
     reward = r;
     named = named;
     goals = marks_of m l;
@@ -245,6 +251,10 @@ module _ (dir : Dir) (name label : List ℕ) (m : Mdp) (r l : ℕ) (a : rewarded
     init = init_holds (initial_of m) _ _ (λ s e. reward_valued a.values a.choices a.ranks s (let lt = initial_below m s e in let n = values in omega (arith, lt, n)));
     body = rules;
   }
+
+  pub reward_printed : IsMdp m → IsReadBack → (text : List ℕ) → Fits (reward_certificate_of dir name label m a) → text ≡ text_of (reward_certificate_of dir name label m a)
+      → IsRewardPrinted dir name label m text
+  reward_printed mdp back text fits spelled = printed_by m (reward_certificate_of dir name label m a) mdp back reward_accepted fits text spelled
 
 -- ---- names
 

@@ -13,17 +13,19 @@ use Rattle.mdp_path.specs.Queries.{WideTerm}
 use Rattle.mdp_reach.specs.Query.{Answer, EndsSo}
 use Rattle.mdp_reach.specs.Laws.{AnswersMeetRules, AnswersAreGreatest, AnswersAreLeast}
 use Rattle.mdp_reach.proofs.OneEnd.{one_query_end}
+use Rattle.mdp_reward.proofs.OneEnd as reward_end
 use Rattle.mdp_reward.specs.Laws as reward_law
 use Rattle.mdp_reward.specs.Query as rewarded
+use Rattle.mdp_cert.specs.Cert as certificate
 use Rattle.mdp_cert.specs.Cert.{PlainClaim}
 use Rattle.mdp_job.specs.Job.{PlainQuery, reach, reward}
 use Rattle.mdp_job.specs.Refusal.{PlainRefusal}
 use Rattle.mdp_step.proofs.Working.{read_of_due}
 use Rattle.mdp_step.specs.Files.{model_due}
 use Rattle.mdp_step.specs.Said.{Said}
-use Rattle.mdp_solve_step.specs.Due.{said_of_end, said_of_reward_end, IsReachDue, IsRewardEnd, IsRewardDue, IsQueryDue, IsSolveDue}
+use Rattle.mdp_solve_step.specs.Due.{said_of_end, said_of_reward_end, IsReachDue, IsRewardEnd, IsRewardDue, IsSolveDue}
 use Rattle.mdp_solve_step.specs.Laws.{IsBest, IsAnswerTo, IsBestReward, IsRewardAnswerTo}
-use Rattle.mdp_solve_step.specs.Solved.{claim_of, IsClaimPrinted, IsPrinted, IsClaimSolved, IsSolved}
+use Rattle.mdp_solve_step.specs.Solved.{IsClaimPrinted, IsPrinted, IsClaimSolved, IsSolved}
 
 -- ---- one thing is due
 
@@ -31,23 +33,22 @@ reach_once : (dir : Dir) (label : List ℕ) (m : Mdp) (found : Option ℕ) (said
 reach_once dir label m None said again d e = d ∙ sym e
 reach_once dir label m (Some l) said again d e = d.2 ∙ ap (said_of_end dir label m) (one_query_end dir m (marks_of m l) e.0 d.0 e.1 d.1) ∙ sym e.2
 
-module _ (one_end : reward_law.HasOneEnd) where
-  end_once : (dir : Dir) (name label : List ℕ) (m : Mdp) (r l : ℕ) (negative : Bool) (said again : Said) → IsRewardEnd dir name label m r l negative said → IsRewardEnd dir name label m r l negative again
-      → said ≡ again
-  end_once dir name label m r l true said again d e = d ∙ sym e
-  end_once dir name label m r l false said again d e =
-      d.2 ∙ ap (said_of_reward_end dir name label m) (one_end dir m r (marks_of m l) e.0 d.0 e.1 d.1) ∙ sym e.2
+end_once : (dir : Dir) (name label : List ℕ) (m : Mdp) (r l : ℕ) (negative : Bool) (said again : Said) → IsRewardEnd dir name label m r l negative said
+    → IsRewardEnd dir name label m r l negative again → said ≡ again
+end_once dir name label m r l true said again d e = d ∙ sym e
+end_once dir name label m r l false said again d e =
+    d.2 ∙ ap (said_of_reward_end dir name label m) (reward_end.one_query_end dir m r (marks_of m l) e.0 d.0 e.1 d.1) ∙ sym e.2
 
-  reward_once : (dir : Dir) (name label : List ℕ) (m : Mdp) (named found : Option ℕ) (said again : Said) → IsRewardDue dir name label m named found said
-      → IsRewardDue dir name label m named found again → said ≡ again
-  reward_once dir name label m None found said again d e = d ∙ sym e
-  reward_once dir name label m (Some r) None said again d e = d ∙ sym e
-  reward_once dir name label m (Some r) (Some l) said again d e = end_once dir name label m r l (has_negative m r) said again d e
+reward_once : (dir : Dir) (name label : List ℕ) (m : Mdp) (named found : Option ℕ) (said again : Said) → IsRewardDue dir name label m named found said
+    → IsRewardDue dir name label m named found again → said ≡ again
+reward_once dir name label m None found said again d e = d ∙ sym e
+reward_once dir name label m (Some r) None said again d e = d ∙ sym e
+reward_once dir name label m (Some r) (Some l) said again d e = end_once dir name label m r l (has_negative m r) said again d e
 
-  pub solve_once : (dir : Dir) (query : PlainQuery) (read : Result Mdp PlainRefusal) (said again : Said) → IsSolveDue dir query read said → IsSolveDue dir query read again → said ≡ again
-  solve_once dir (reach label) (Ok m) said again d e = reach_once dir label m (place_of label m.labels) said again d e
-  solve_once dir (reward name label) (Ok m) said again d e = reward_once dir name label m (place_of name m.names) (place_of label m.labels) said again d e
-  solve_once dir query (Err r) said again d e = d ∙ sym e
+pub solve_once : (dir : Dir) (query : PlainQuery) (read : Result Mdp PlainRefusal) (said again : Said) → IsSolveDue dir query read said → IsSolveDue dir query read again → said ≡ again
+solve_once dir (reach label) (Ok m) said again d e = reach_once dir label m (place_of label m.labels) said again d e
+solve_once dir (reward name label) (Ok m) said again d e = reward_once dir name label m (place_of name m.names) (place_of label m.labels) said again d e
+solve_once dir query (Err r) said again d e = d ∙ sym e
 
 -- ---- a text that is due is an answer
 
@@ -139,6 +140,6 @@ printed_solved rule claimed m bytes text is printed =
 
 pub shown : (rule : RowRule) (dir : Dir) (query : PlainQuery) (m : Mdp) (said : Said) → IfOk said (IsPrinted dir query m) → (bytes : List ℕ) → model_due rule bytes ≡ Ok m
     → IfOk said (IsSolved rule dir query bytes)
-shown rule dir (reach label) m (Ok text) printed bytes is = printed_solved rule (claim_of dir (reach label)) m bytes text is printed
-shown rule dir (reward name label) m (Ok text) printed bytes is = printed_solved rule (claim_of dir (reward name label)) m bytes text is printed
+shown rule dir (reach label) m (Ok text) printed bytes is = printed_solved rule (certificate.reach dir label) m bytes text is printed
+shown rule dir (reward name label) m (Ok text) printed bytes is = printed_solved rule (certificate.reward dir name label) m bytes text is printed
 shown rule dir query m (Err r) printed bytes is = tt

@@ -1,5 +1,5 @@
 -- The text of a certificate has at most 2^30 bytes.
-use Rattle.std.proofs.Common.{◌≡◌, ℕ, suc, ◌+◌, ◌*◌, ◌<◌, ◌≤◌, ◌^◌, Bool, true, false, cond, ◌&&◌, eqb, List, [], ◌∷◌, ◌++◌, length, codes, decimal, Option, Some, None, refl, arith, lit<, ℤ, pos}
+use Rattle.std.proofs.Common.{◌≡◌, ℕ, suc, ◌+◌, ◌*◌, ◌<◌, ◌≤◌, ◌^◌, Bool, true, false, cond, eqb, List, [], ◌∷◌, ◌++◌, length, codes, decimal, Option, Some, None, refl, arith, lit<, ℤ, pos}
 use Rattle.std.proofs.Common.{negsuc, unsigned_abs, ltb→lt, T, sym, subst}
 use Rattle.std.specs.Fmt.{signed_decimal}
 use Rattle.std.specs.List.{AllByRecursion as Each}
@@ -14,12 +14,11 @@ use Rattle.mdp_rows.specs.declared.dir.Dir.{Dir}
 use Rattle.mdp_rows.specs.declared.dir.Dir.TheVariants.{Max, Min}
 use Rattle.mdp_cert.specs.declared.init.Init.{Init}
 use Rattle.mdp_cert.specs.declared.init.Init.TheVariants.{Missing, Finite, Infinite}
-use Rattle.mdp_cert.specs.declared.policy_entry.PolicyEntry.{PolicyEntry}
-use Rattle.mdp_cert.specs.declared.version.Version.TheVariants.{Two}
-use Rattle.mdp_cert.specs.Cert.{PlainClaim, upper, reach, reward, are_names, may_be_infinite, PlainBody, bounds, policy, rewards, is_init_of, is_body_of, IsInitInWidth, IsValueNarrow, IsBodyInWidth, Certificate, Fits}
+use Rattle.mdp_cert.specs.Cert.{PlainClaim, upper, reach, reward, are_names, may_be_infinite, PlainBody, bounds, policy, rewards, is_init_of, is_body_of}
+use Rattle.mdp_cert.specs.Cert.{IsInitInWidth, IsValueNarrow, IsBodyInWidth, Certificate, Fits}
 use Rattle.mdp_cert.specs.Claims.{Value, fraction_value, reward_value, reward_text, bound_columns, policy_columns, IsPolicyInWidth, policies}
 use Rattle.mdp_cert.specs.Runs.{Columns, Run, run, single, before_runs, longest_runs}
-use Rattle.mdp_cert.specs.Spelling.{line, ◌␣◌, quoted, dir_text, claim_text, states_text, init_text, head_text, entry_text, run_text, run_lines, closed_lines, body_text, end_text, text_in, text_of}
+use Rattle.mdp_cert.specs.Spelling.{line, ◌␣◌, quoted, dir_text, claim_text, states_text, init_text, head_text, entry_text, run_text, run_lines, end_text, text_in, text_of}
 use Rattle.mdp_cert.proofs.Growth.{bounds-entries, Entries, policy-entries, reward-entries}
 use Rattle.mdp_cert.proofs.Policies.{length-policies}
 
@@ -125,11 +124,7 @@ entry_short word c r hv hc hr =
     let z = number_short r hr in
     omega (arith, a, b, hv, y, z)
 
--- of values whose words have at most 80 bytes
-module _ {V : Type 0} (k : Value V) (P : V → Type 0) (short : (v : V) → P v → length (k.spell v) ≤ 80) where
-  policy_short : (p : PolicyEntry V) → IsPolicyInWidth P p → length (entry_text (policy_columns k) p) ≤ 110
-  policy_short p h = entry_short (k.spell p.value) p.choice p.rank (short p.value h.value) h.choice h.rank
-
+module _ {V : Type 0} (P : V → Type 0) where
   entries_width : (zs : List V) (cs rs : List ℕ) → Each P zs → Each (λ c. c < 2 ^ 32) cs → Each (λ r. r < 2 ^ 32) rs → Each (IsPolicyInWidth P) (policies zs cs rs)
   entries_width (z ∷ zs) (c ∷ cs) (r ∷ rs) p q o = (record { value = p.0; choice = q.0; rank = o.0 }, entries_width zs cs rs p.1 q.1 o.1)
   entries_width [] cs rs p q o = tt
@@ -139,6 +134,10 @@ module _ {V : Type 0} (k : Value V) (P : V → Type 0) (short : (v : V) → P v 
 reward_short : (v : Option ℚ) → IsValueNarrow v → length (reward_text v) ≤ 80
 reward_short None h = omega arith
 reward_short (Some x) h = spelling_short x h
+
+-- the lines of the states, and the line `end`
+abbrev lines_of : {A : Type 0} → Columns A → List A → List ℕ
+lines_of k xs = run_lines k 0 (longest_runs k xs) ++ line end_text
 
 -- of entries whose words have at most 110 bytes
 module _ {A : Type 0} (k : Columns A) (P : A → Type 0) (short : (x : A) → P x → length (entry_text k x) ≤ 110) where
@@ -226,7 +225,7 @@ module _ {A : Type 0} (k : Columns A) (P : A → Type 0) (short : (x : A) → P 
   states_lines_short xs limit h = let n = runs_size xs in let l = lines_short 0 (longest_runs k xs) (omega (arith, n, limit)) (runs_width xs h) in omega (arith, n, l)
 
   -- with the line `end`
-  closed_short : (xs : List A) → length xs ≤ 2 ^ 20 → Each P xs → length (closed_lines Two k xs) ≤ 150 * length xs + 4
+  closed_short : (xs : List A) → length xs ≤ 2 ^ 20 → Each P xs → length (lines_of k xs) ≤ 150 * length xs + 4
   closed_short xs limit h =
       let l = states_lines_short xs limit h in
       let a = length-append (run_lines k 0 (longest_runs k xs)) (line end_text) in
@@ -243,26 +242,19 @@ inside_short claim n (Infinite state) limit h =
 module _ (states : ℕ) (limit : states ≤ 2 ^ 20) where
   three_short :
       {V : Type 0} (k : Value V) (P : V → Type 0) → ((v : V) → P v → length (k.spell v) ≤ 80) → (zs : List V) (cs rs : List ℕ) → Entries states zs cs rs → Each P zs → Each (λ c. c < 2 ^ 32) cs
-      → Each (λ r. r < 2 ^ 32) rs → length (closed_lines Two (policy_columns k) (policies zs cs rs)) ≤ 150 * states + 4
+      → Each (λ r. r < 2 ^ 32) rs → length (lines_of (policy_columns k) (policies zs cs rs)) ≤ 150 * states + 4
   three_short k P short zs cs rs sizes p q o =
       let x = sizes.values in
       let y = sizes.choices in
       let z = sizes.ranks in
       let n = length-policies zs cs rs (omega (arith, x, y)) (omega (arith, x, z)) in
-      let l = closed_short (policy_columns k) (IsPolicyInWidth P) (policy_short k P short) (policies zs cs rs) (omega (arith, x, n, limit)) (entries_width k P short zs cs rs p q o) in
+      let l = closed_short (policy_columns k) (IsPolicyInWidth P) (λ p h. entry_short (k.spell p.value) p.choice p.rank (short p.value h.value) h.choice h.rank) (policies zs cs rs) (omega (arith, x, n, limit)) (entries_width P zs cs rs p q o) in
       omega (arith, x, n, l)
 
-  body_short : (claim : PlainClaim) (body : PlainBody) → is_body_of claim states body ≡ true → IsBodyInWidth body → length (body_text Two body) ≤ 150 * states + 4
-  body_short claim (bounds zs) h w =
-      let x = bounds-entries claim states zs h in
-      let l = closed_short bound_columns IsNarrow (λ v n. let s = spelling_short v n in omega (arith, s)) zs (omega (arith, x, limit)) (recursion_from_All IsNarrow zs w) in
+  bounds_short : (zs : List ℚ) → length zs ≡ states → Each IsNarrow zs → length (lines_of bound_columns zs) ≤ 150 * states + 4
+  bounds_short zs x w =
+      let l = closed_short bound_columns IsNarrow (λ v n. let s = spelling_short v n in omega (arith, s)) zs (omega (arith, x, limit)) w in
       omega (arith, x, l)
-  body_short claim (policy zs cs rs) h w =
-      three_short fraction_value IsNarrow spelling_short zs cs rs (policy-entries claim states zs cs rs h) (recursion_from_All IsNarrow zs w.0) (recursion_from_All (λ c. c < 2 ^ 32) cs w.1)
-      (recursion_from_All (λ r. r < 2 ^ 32) rs w.2)
-  body_short claim (rewards vs cs rs) h w =
-      three_short reward_value IsValueNarrow reward_short vs cs rs (reward-entries claim states vs cs rs h) (recursion_from_All IsValueNarrow vs w.0) (recursion_from_All (λ c. c < 2 ^ 32) cs w.1)
-      (recursion_from_All (λ r. r < 2 ^ 32) rs w.2)
 
 module _ (c : Certificate) (fits : Fits c) where
   head_short : length (head_text c) ≤ 800
@@ -279,16 +271,26 @@ module _ (c : Certificate) (fits : Fits c) where
       let h = init_short c.init (inside_short c.claim c.states c.init limit fits.inside) fits.init_width in
       omega (arith, a, b, x, d, e, f, g, h)
 
-  whole_short : length (line (codes "mdp-certificate 2") ++ (head_text c ++ body_text Two c.body)) ≤ 2 ^ 30
-  whole_short =
-      let a = length-append (line (codes "mdp-certificate 2")) (head_text c ++ body_text Two c.body) in
-      let b = length-append (head_text c) (body_text Two c.body) in
+  whole_short : (lines : List ℕ) → length lines ≤ 150 * c.states + 4 → length (line (codes "mdp-certificate 2") ++ (head_text c ++ lines)) ≤ 2 ^ 30
+  whole_short lines k =
+      let a = length-append (line (codes "mdp-certificate 2")) (head_text c ++ lines) in
+      let b = length-append (head_text c) lines in
       let h = head_short in
-      let k = body_short c.states fits.limit c.claim c.body fits.entries fits.body_width in
       let limit = fits.limit in
       let p : 150 * 2 ^ 20 + 1000 < 2 ^ 30 = lit< tt in
       omega (arith, a, b, h, k, limit, p)
 
-  pub text_short : length (text_of c) ≤ 2 ^ 30
+  by_body : (body : PlainBody) → is_body_of c.claim c.states body ≡ true → IsBodyInWidth body → length (text_of (record c { body = body })) ≤ 2 ^ 30
   unfolding text_in
-  text_short = whole_short
+  by_body (bounds zs) h w = whole_short (lines_of bound_columns zs) (bounds_short c.states fits.limit zs (bounds-entries c.claim c.states zs h) (recursion_from_All IsNarrow zs w))
+  by_body (policy zs cs rs) h w =
+      whole_short (lines_of (policy_columns fraction_value) (policies zs cs rs))
+      (three_short c.states fits.limit fraction_value IsNarrow spelling_short zs cs rs (policy-entries c.claim c.states zs cs rs h) (recursion_from_All IsNarrow zs w.0)
+      (recursion_from_All (λ c. c < 2 ^ 32) cs w.1) (recursion_from_All (λ r. r < 2 ^ 32) rs w.2))
+  by_body (rewards vs cs rs) h w =
+      whole_short (lines_of (policy_columns reward_value) (policies vs cs rs))
+      (three_short c.states fits.limit reward_value IsValueNarrow reward_short vs cs rs (reward-entries c.claim c.states vs cs rs h) (recursion_from_All IsValueNarrow vs w.0)
+      (recursion_from_All (λ c. c < 2 ^ 32) cs w.1) (recursion_from_All (λ r. r < 2 ^ 32) rs w.2))
+
+  pub text_short : length (text_of c) ≤ 2 ^ 30
+  text_short = by_body c.body fits.entries fits.body_width

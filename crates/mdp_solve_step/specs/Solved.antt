@@ -16,12 +16,6 @@ use Rattle.mdp_step.specs.Said.{Said}
 use Rattle.mdp_step.specs.Streams.{Input}
 use Rattle.mdp_solve_step.specs.Due.{IsQueryDue}
 
--- the claim that solves a query: that the values are the greatest, or the least, probabilities of reaching a state with the label; or rewards of
--- this name until such a state
-abbrev pub claim_of : Dir → PlainQuery → PlainClaim
-claim_of dir (reach label) = certificate.reach dir label
-claim_of dir (reward name label) = certificate.reward dir name label
-
 -- the text of a certificate of this claim for the model, which reads as it; all rules hold, and the claim is true
 pub record IsClaimPrinted (claimed : PlainClaim) (m : Mdp) (text : List ℕ) : Type 0 where
   pub cert : Certificate
@@ -32,8 +26,15 @@ pub record IsClaimPrinted (claimed : PlainClaim) (m : Mdp) (text : List ℕ) : T
   pub holds : IsAccepted m cert
   pub bound : IsBound m cert
 
+abbrev pub IsReachPrinted : Dir → List ℕ → Mdp → List ℕ → Type 0
+IsReachPrinted dir label = IsClaimPrinted (certificate.reach dir label)
+
+abbrev pub IsRewardPrinted : Dir → List ℕ → List ℕ → Mdp → List ℕ → Type 0
+IsRewardPrinted dir name label = IsClaimPrinted (certificate.reward dir name label)
+
 abbrev pub IsPrinted : Dir → PlainQuery → Mdp → List ℕ → Type 0
-IsPrinted dir query = IsClaimPrinted (claim_of dir query)
+IsPrinted dir (reach label) = IsReachPrinted dir label
+IsPrinted dir (reward name label) = IsRewardPrinted dir name label
 
 -- `check` accepts the text with the model's bytes, and its claim, which is this one, is true: the values are the best ones, and the policy comes
 -- close to them
@@ -42,9 +43,11 @@ pub record IsClaimSolved (rule : RowRule) (claimed : PlainClaim) (model_bytes te
   pub claim : true_claim.accepted.cert.claim ≡ claimed
   pub spelled : text ≡ text_of true_claim.accepted.cert
 
+-- the claim that the values are the greatest, or the least, probabilities of reaching a state with the label
 abbrev pub IsReachSolved : RowRule → Dir → List ℕ → List ℕ → List ℕ → Type 0
 IsReachSolved rule dir label = IsClaimSolved rule (certificate.reach dir label)
 
+-- the claim that they are the greatest, or the least, rewards of this name until such a state
 abbrev pub IsRewardSolved : RowRule → Dir → List ℕ → List ℕ → List ℕ → List ℕ → Type 0
 IsRewardSolved rule dir name label = IsClaimSolved rule (certificate.reward dir name label)
 

@@ -1,10 +1,9 @@
 ghost use Rattle.std.specs.Prelude.{◌≡◌, ◌⊎◌, Err, IfOk};
 ghost use Rattle.mdp_spec.specs.Labels.{place_of};
-ghost use Rattle.mdp_cert.specs.Cert.{reach};
 ghost use Rattle.mdp_job.specs.Refusal.{no_memory};
 ghost use Rattle.mdp_step.specs.Said.{said};
 ghost use Rattle.mdp_solve_step.specs.Due.{IsReachDue};
-ghost use Rattle.mdp_solve_step.specs.Solved.{IsClaimPrinted};
+ghost use Rattle.mdp_solve_step.specs.Solved.{IsReachPrinted};
 
 use crate::certificate::{certificate_of, certificate_text};
 use mdp_cert::text_law;
@@ -24,7 +23,7 @@ pub(crate) fn solve_label(
     label: &[u8],
 ) -> Result<Vec<u8>, Refusal>
     ensures due { (said result ≡ Err no_memory) ⊎ IsReachDue dir label.now model.now (place_of label.now model.now.labels) (said result) }
-    ensures printed { IfOk (said result) (IsClaimPrinted (reach dir label.now) model.now) }
+    ensures printed { IfOk (said result) (IsReachPrinted dir label.now model.now) }
 {
     model.known();
     avoid_law();

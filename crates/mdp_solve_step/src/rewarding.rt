@@ -1,10 +1,9 @@
 ghost use Rattle.std.specs.Prelude.{◌≡◌, ◌⊎◌, Err, IfOk};
 ghost use Rattle.mdp_spec.specs.Labels.{place_of};
-ghost use Rattle.mdp_cert.specs.Cert.{reward};
 ghost use Rattle.mdp_job.specs.Refusal.{no_memory};
 ghost use Rattle.mdp_step.specs.Said.{said};
 ghost use Rattle.mdp_solve_step.specs.Due.{IsRewardDue};
-ghost use Rattle.mdp_solve_step.specs.Solved.{IsClaimPrinted};
+ghost use Rattle.mdp_solve_step.specs.Solved.{IsRewardPrinted};
 
 use crate::certificate::{certificate_text, reward_certificate_of};
 use mdp_cert::text_law;
@@ -24,7 +23,7 @@ pub(crate) fn solve_named(
     label: &[u8],
 ) -> Result<Vec<u8>, Refusal>
     ensures due { (said result ≡ Err no_memory) ⊎ IsRewardDue dir name.now label.now model.now (place_of name.now model.now.names) (place_of label.now model.now.labels) (said result) }
-    ensures printed { IfOk (said result) (IsClaimPrinted (reward dir name.now label.now) model.now) }
+    ensures printed { IfOk (said result) (IsRewardPrinted dir name.now label.now model.now) }
 {
     model.known();
     text_law();

@@ -13,5 +13,6 @@ pub returns-in-Some : goal.returns-in-Some
 returns-in-Some c =
     c.init_at.ensures
     ∙ ap (λ (x : ℚ). init_at c.in-Some.state (Some x))
-    (c.index-values-state.is ∙ get_or_default c.args.values.now c.in-Some.state _ (of_int (pos 0)) (let lt = initial_below c.args.model.now c.in-Some.state (sym c.in-Some.ensures) in let n = c.requires in omega (arith, lt, n)))
+    (c.index-values-state.is ∙ get_or_default c.args.values.now c.in-Some.state _ (of_int (pos 0))
+    (let lt = initial_below c.args.model.now c.in-Some.state (sym c.in-Some.ensures) in let n = c.requires in omega (arith, lt, n)))
     ∙ ap (λ (o : Option ℕ). init_by o (λ s. Some (value_at c.args.values.now s))) c.in-Some.ensures
