@@ -74,4 +74,5 @@ seven-text : generated_text 7 2 2
     ++ codes "state 5 [0]\n\taction 0 [0]\n\t\t5 : 1\n"
 unfolding draw spelling ratio of_int gcd gcd_with_fuel
 seven-text =
-    simp (decimal_digit 0 (lit< tt), decimal_digit 1 (lit< tt), decimal_digit 2 (lit< tt), decimal_digit 3 (lit< tt), decimal_digit 4 (lit< tt), decimal_digit 5 (lit< tt), decimal_digit 6 (lit< tt), ten)
+    simp
+    (decimal_digit 0 (lit< tt), decimal_digit 1 (lit< tt), decimal_digit 2 (lit< tt), decimal_digit 3 (lit< tt), decimal_digit 4 (lit< tt), decimal_digit 5 (lit< tt), decimal_digit 6 (lit< tt), ten)

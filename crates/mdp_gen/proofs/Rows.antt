@@ -1,5 +1,6 @@
 -- The rows, choices and states of a layered model.
-use Rattle.std.proofs.Common.{IsTrue, if◌then◌else◌, ◌≡◌, ℕ, ◌+◌, ◌*◌, ◌/◌, ◌%◌, ◌≤◌, ◌<◌, ◌≢◌, min, max, Bool, true, false, ◌&&◌, cond, eqb, ltb, le-leb, List, [], ◌∷◌, length, pos, refl, ap, ap₂, arith, sum_by}
+use Rattle.std.proofs.Common.{IsTrue, if◌then◌else◌, ◌≡◌, ℕ, ◌+◌, ◌*◌, ◌/◌, ◌%◌, ◌≤◌, ◌<◌, ◌≢◌, min, max, Bool, true}
+use Rattle.std.proofs.Common.{false, ◌&&◌, cond, eqb, ltb, le-leb, List, [], ◌∷◌, length, pos, refl, ap, ap₂, arith, sum_by}
 use Rattle.std.proofs.lemmas.Bool.Decides.{nat_tests}
 use Rattle.std.proofs.lemmas.List.Elements.{All-from_recursion}
 use borrow.Author.Tests.{leb-true}
@@ -168,8 +169,8 @@ drawn layers width s a b = row_to (target layers width s a) (target layers width
 
 pub state-closed : (layers width s x : ℕ) → IsShape layers width → IsClosedState (layers * width + 2) 1 (state_behind layers width s x)
 state-closed layers width s x shape =
-    two-closed (layers * width + 2) (if s == 0 then 0 ∷ [] else []) (drawn layers width s (next x) (next (next x))) (drawn layers width s (next (next (next x))) (next (next (next (next x))))) (init-labels s)
-    (good (next x) (next (next x))) (good (next (next (next x))) (next (next (next (next x)))))
+    two-closed (layers * width + 2) (if s == 0 then 0 ∷ [] else []) (drawn layers width s (next x) (next (next x)))
+    (drawn layers width s (next (next (next x))) (next (next (next (next x))))) (init-labels s) (good (next x) (next (next x))) (good (next (next (next x))) (next (next (next (next x)))))
   where
     good : (a b : ℕ) → IsGood (layers * width + 2) (drawn layers width s a b)
     good a b = row_to-good (layers * width + 2) (target layers width s a) (target layers width s b) (target-below layers width s a shape) (target-below layers width s b shape)

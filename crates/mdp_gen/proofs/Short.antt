@@ -1,5 +1,6 @@
 -- The text of a layered model has at most 2^30 bytes.
-use Rattle.std.proofs.Common.{◌≡◌, ℕ, zero, suc, ◌+◌, ◌*◌, ◌<◌, ◌≤◌, ◌^◌, min, max, Bool, true, false, cond, eqb, List, [], ◌∷◌, ◌++◌, length, map, codes, decimal, refl, ap, ◌∙◌, sym, subst, arith, lit<}
+use Rattle.std.proofs.Common.{◌≡◌, ℕ, zero, suc, ◌+◌, ◌*◌, ◌<◌, ◌≤◌, ◌^◌, min, max, Bool, true, false, cond}
+use Rattle.std.proofs.Common.{eqb, List, [], ◌∷◌, ◌++◌, length, map, codes, decimal, refl, ap, ◌∙◌, sym, subst, arith, lit<}
 use Rattle.std.specs.List.{range_with_len}
 use Rattle.std.proofs.lemmas.Fmt.{length-decimal-le}
 use Rattle.std.proofs.lemmas.List.{length-append}

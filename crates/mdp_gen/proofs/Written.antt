@@ -1,5 +1,6 @@
 -- The text of a layered model, by the pieces that are appended.
-use Rattle.std.proofs.Common.{◌≡◌, ℕ, suc, ◌+◌, ◌*◌, ◌<◌, min, max, Bool, true, false, cond, eqb, List, [], ◌∷◌, ◌++◌, length, drop, codes, decimal, pos, refl, sym, ap, ap₂, ◌∙◌, append_assoc, append-nil, arith, sum_by}
+use Rattle.std.proofs.Common.{◌≡◌, ℕ, suc, ◌+◌, ◌*◌, ◌<◌, min, max, Bool, true, false, cond, eqb, List, []}
+use Rattle.std.proofs.Common.{◌∷◌, ◌++◌, length, drop, codes, decimal, pos, refl, sym, ap, ap₂, ◌∙◌, append_assoc, append-nil, arith, sum_by}
 use Rattle.std.proofs.lemmas.List.{drop_more}
 use Rattle.std.proofs.lemmas.List.FromFn.{length-map-range_with_len, get_or-map-range_with_len}
 use Rattle.mdp_math.specs.Rational.{of_int}
@@ -83,7 +84,8 @@ layers-more number layers width s h =
     let n : length states ≡ layers * width = length-map-range_with_len state 0 (layers * width) in
     let e : 0 + s ≡ s = omega arith in
     let f : suc s ≡ s + 1 = omega arith in
-    ap (states_text (of_states []) s) (drop_more states s no_state (omega (arith, n)) ∙ ap (λ (x : State). x ∷ drop (s + 1) states) (get_or-map-range_with_len state 0 (layers * width) s s no_state h e))
+    ap (states_text (of_states []) s)
+    (drop_more states s no_state (omega (arith, n)) ∙ ap (λ (x : State). x ∷ drop (s + 1) states) (get_or-map-range_with_len state 0 (layers * width) s s no_state h e))
     ∙ states-one layers width s (draw number (4 * s)) (drop (s + 1) states)
     ∙ ap (λ (k : ℕ). state_text layers width s (draw number (4 * s)) ++ states_text (of_states []) k (drop (s + 1) states)) f
 

@@ -1,0 +1,4 @@
+pub mod Due
+pub mod Pieces
+pub mod Drilled
+pub mod Laws
