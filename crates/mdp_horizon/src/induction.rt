@@ -26,6 +26,7 @@ pub fn until(
     requires goals_each { length goals.now ≡ states_of model.now }
     requires table { steps * states_of model.now ≤ 2 ^ 22 }
     ensures written { Answers plain result (written_until dir model.now stay.now goals.now steps) }
+    ensures one_each { IfOk result (λ found. length found.values.items ≡ states_of model.now) }
     ensures max { dir ≡ Max → IfOk result (λ found. BoundedMax model.now stay.now goals.now steps (plain found).values (plain found).steps) }
     ensures min { dir ≡ Min → IfOk result (λ found. BoundedMin model.now stay.now goals.now steps (plain found).values (plain found).steps) }
 {
