@@ -1,18 +1,22 @@
 -- What is shown of a solved query: its answer has an entry per state, and its certificate belongs to the model.
-use Rattle.std.proofs.Common.{◌≡◌, ℕ, ◌<◌, ◌≤◌, Bool, true, cond, ◌&&◌, List, [], ◌∷◌, length, get_or, Option, Some, None, Result, Ok, Err, refl, sym, ap, ap₂, subst, ◌∙◌, arith, eq-eqb, lt-ltb}
-use Rattle.std.specs.Prelude.{codes, All}
-use Rattle.std.specs.List.{range_with_len}
+use Rattle.std.proofs.Common.{◌≡◌, ℕ, ◌<◌, ◌≤◌, ◌⊎◌, inl, inr, Bool, true, false, cond, ◌&&◌, ◌||◌, not, eqb, nat_lt, List, [], ◌∷◌, length, get_or, Option, Some, None}
+use Rattle.std.proofs.Common.{Result, Ok, Err, IfOk, refl, sym, ap, ap₂, subst, ◌∙◌, arith, eq-eqb, lt-ltb}
+use Rattle.std.specs.Prelude.{codes, All, option_map}
+use Rattle.std.specs.List.{list_any, range_with_len}
 use Rattle.std.specs.Str.{bytes_eq}
+use Rattle.std.proofs.lemmas.Bool.{and_parts}
 use Rattle.std.proofs.lemmas.List.Elements.{All-filter, All-from_get_or, All-get_or, All-head}
 use Rattle.std.proofs.lemmas.List.Quantifiers.{position-Some}
 use Rattle.std.proofs.lemmas.Slice.Eq.{bytes_eq-Decides}
-use Rattle.std.proofs.lemmas.List.FromFn.{get_or-range_with_len, length-range_with_len}
+use Rattle.std.proofs.lemmas.List.FromFn.{get_or-range_with_len, length-range_with_len, length-map-range_with_len}
 use Rattle.mdp_math.specs.Rational.{ℚ}
 use Rattle.mdp_num.proofs.Equal.{equal_decides}
+use Rattle.mdp_spec.specs.Bounds.{reward_at}
 use Rattle.mdp_spec.specs.Labels.{place_of, marks_of, initial_of, labelled, has_at, only}
 use Rattle.mdp_spec.specs.Mdp.{Mdp, states_of, value_at}
 use Rattle.mdp_spec.specs.Row.{IsMdp}
-use Rattle.mdp_rows.specs.Name.{IsName}
+use Rattle.mdp_rows.specs.Name.{IsName, IsRewardName}
+use Rattle.mdp_rows.specs.Negative.{has_negative}
 use Rattle.mdp_rows.specs.declared.dir.Dir.{Dir}
 use Rattle.mdp_rows.specs.declared.dir.Dir.TheVariants.{Max, Min}
 use Rattle.mdp_graph.specs.Laws.{RestMeets}
@@ -20,6 +24,7 @@ use Rattle.mdp_path.specs.Iteration.{EndsWith}
 use Rattle.mdp_path.specs.Laws.{EndsAtBest, first}
 use Rattle.mdp_path.specs.Path.{Found, Refusal, path_step}
 use Rattle.mdp_farkas.specs.Reach.{MeetsReach, IsReach, reach_checks}
+use Rattle.mdp_farkas.specs.Reward.{MeetsReward, IsReward, reward_checks}
 use Rattle.mdp_farkas.specs.Verdict.{verdict_of}
 use Rattle.mdp_farkas.specs.declared.verdict.Verdict.{Verdict}
 use Rattle.mdp_farkas.specs.declared.verdict.Verdict.TheVariants.{Yes, No, Wide}
@@ -30,19 +35,22 @@ use Rattle.mdp_path.specs.Queries.{Solves, shown}
 use Rattle.mdp_reach.specs.Query.{Answer, plain, AreRanks, Held, AfterPath, EndsSo}
 use Rattle.mdp_reach.proofs.Nodes.{reach-count}
 use Rattle.mdp_reach.proofs.Starts.{start-solvable}
+use Rattle.mdp_reward.specs.Query as rewarded
 use Rattle.mdp_cert.specs.declared.init.Init.{Init}
-use Rattle.mdp_cert.specs.Cert.{reach, policy, is_inside, is_body_of, Fits}
+use Rattle.mdp_cert.specs.Cert as certificate
+use Rattle.mdp_cert.specs.Cert.{PlainClaim, PlainBody, Certificate, may_be_infinite, is_init_of, is_body_of, Fits}
+use Rattle.mdp_cert.specs.Claims.{reward_same}
 use Rattle.mdp_cert.specs.Reading.{outcome}
 use Rattle.mdp_cert.specs.Spelling.{text_of}
 use Rattle.mdp_cert.specs.Laws.{IsReadBack}
-use Rattle.mdp_check.specs.Initial.{init_check, init_fault}
-use Rattle.mdp_check.specs.Check.{IsAccepted}
+use Rattle.mdp_check.specs.Initial.{has_value, init_check, init_fault}
+use Rattle.mdp_check.specs.Check.{labelled_marks, IsAccepted}
 use Rattle.mdp_check.proofs.Accepting.{accepted_is_bound}
-use Rattle.mdp_solve_step.specs.Solved.{IsReachPrinted}
-use Rattle.mdp_job.specs.Refusal.{query_label, too_wide}
+use Rattle.mdp_job.specs.Refusal.{no_memory, query_reward, query_label, query_negative, too_wide}
 use Rattle.mdp_step.specs.Files.{most_bytes}
-use Rattle.mdp_solve_step.specs.Due.{init_by, certificate_of, IsReachDue}
 use Rattle.mdp_step.specs.Said.{Said}
+use Rattle.mdp_solve_step.specs.Due.{init_at, init_by, certificate_of, reward_certificate_of, IsReachDue, IsRewardEnd, IsRewardDue}
+use Rattle.mdp_solve_step.specs.Solved.{IsClaimPrinted, IsReachPrinted, IsRewardPrinted}
 use Rattle.mdp_solve_step.proofs.TextLength.{text_short}
 
 -- ---- an answer has an entry per state
@@ -86,74 +94,253 @@ only_passes P (x ∷ y ∷ xs) s e h = cc e
 
 range_below : (n : ℕ) → All (λ s. s < n) (range_with_len 0 n)
 range_below n =
-    All-from_get_or (λ s. s < n) (range_with_len 0 n) 0 (λ i l. let lt : i < n = subst (λ (k : ℕ). i < k) (length-range_with_len 0 n) l in subst (λ (s : ℕ). s < n) (sym (get_or-range_with_len 0 n i 0 lt)) (omega (arith, lt)))
+    All-from_get_or (λ s. s < n) (range_with_len 0 n) 0 (λ i l.
+    let lt : i < n = subst (λ (k : ℕ). i < k) (length-range_with_len 0 n) l in
+    subst (λ (s : ℕ). s < n) (sym (get_or-range_with_len 0 n i 0 lt)) (omega (arith, lt)))
 
 pub initial_below : (m : Mdp) (s : ℕ) → initial_of m ≡ Some s → s < states_of m
 initial_below m s e =
     only_passes (λ s. s < states_of m) (labelled m (codes "init")) s e
     (All-filter (has_at m (place_of (codes "init") m.labels)) (λ s. s < states_of m) (range_with_len 0 (states_of m)) (range_below (states_of m)))
 
+-- ---- the sizes of an answer of rewards
+
+split_size : (m : Mdp) (marks : List Bool) (inside outside : List ℕ) → length (rewarded.split m marks inside outside) ≡ states_of m
+split_size m marks inside outside = length-map-range_with_len _ 0 (states_of m)
+
+known_size : (m : Mdp) (goals finite : List Bool) (start known ranks : List ℕ) → rewarded.IsMaxStart m goals finite start known → ranks ≡ known → length ranks ≡ states_of m
+known_size m goals finite start known ranks is e = ap length e ∙ ap length is.known_is ∙ split_size m finite is.near is.far
+
+reward_ranks_size : (dir : Dir) (m : Mdp) (goals finite : List Bool) (start known cs ranks : List ℕ) → rewarded.IsStart dir m goals finite start known
+    → rewarded.AreRanks dir m goals finite known cs ranks → length ranks ≡ states_of m
+reward_ranks_size Max m goals finite start known cs ranks is h = known_size m goals finite start known ranks is h
+reward_ranks_size Min m goals finite start known cs ranks is h = ap length h.ranks_are ∙ split_size m finite h.along known
+
+held_ranks : (f : Found) (values : List (Option ℚ)) (ranks : List ℕ) (a : rewarded.Answer) (v : Verdict) → rewarded.Held f values ranks v (Ok a) → ranks ≡ a.ranks
+held_ranks f values ranks a Yes h = let e : (let b : rewarded.Answer = record { values = values; choices = f.policy; ranks = ranks } in b) ≡ a = cc h in ap (λ (b : rewarded.Answer). b.ranks) e
+held_ranks f values ranks a (No fault) h = absurd h
+held_ranks f values ranks a (Wide state choice) h = cc h
+
+module _ (dir : Dir) (m : Mdp) (r : ℕ) (goals : List Bool) (a : rewarded.Answer) (end : rewarded.EndsSo dir m r goals (Ok a)) where
+  ranks_by : (e : Result Found Refusal) → rewarded.AfterPath dir m r goals end.finite end.known e (Ok a) → length a.ranks ≡ states_of m
+  ranks_by (Err w) h = cc h
+  ranks_by (Ok f) h =
+      let values = rewarded.rewards_of m end.finite f.values in
+      ap length (sym (held_ranks f values h.0 a (verdict_of (reward_checks dir m r goals values f.policy h.0)) h.2))
+      ∙ reward_ranks_size dir m goals end.finite end.start end.known f.policy h.0 end.is_start h.1
+
+  pub reward_ranks : length a.ranks ≡ states_of m
+  reward_ranks = ranks_by end.end end.after
+
+pub reward_values_size : (dir : Dir) (m : Mdp) (r : ℕ) (goals : List Bool) (v : List (Option ℚ)) (cs rs : List ℕ) → MeetsReward dir m r goals v cs rs → length v ≡ states_of m
+reward_values_size Max m r goals v cs rs h = h.one_each
+reward_values_size Min m r goals v cs rs h = h.one_each
+
+pub reward_choices_size : (dir : Dir) (m : Mdp) (r : ℕ) (goals : List Bool) (v : List (Option ℚ)) (cs rs : List ℕ) → MeetsReward dir m r goals v cs rs → length cs ≡ states_of m
+reward_choices_size Max m r goals v cs rs h = h.choices.one_each
+reward_choices_size Min m r goals v cs rs h = h.choices.one_each
+
 -- ---- the certificate
 
-init_holds : (i : Option ℕ) (z : List ℚ) → ((s : ℕ) → i ≡ Some s → s < length z) → init_check (init_by i z) i z ≡ Yes
-init_holds None z h = refl
-init_holds (Some s) z h =
-    ap₂ (λ (a b : Bool). cond (a && b) Yes (init_fault (Some s))) (eq-eqb s s refl)
-    (ap₂ (λ (a b : Bool). a && b) (lt-ltb s (length z) (h s refl)) ((equal_decides (value_at z s) (value_at z s)).1 refl))
+-- the line `init` is right of a body that has these values
+init_holds : (i : Option ℕ) (value : ℕ → Option ℚ) (body : PlainBody) → ((s : ℕ) → i ≡ Some s → has_value body s (value s) ≡ true) → init_check (init_by i value) i body ≡ Yes
+init_holds None value body h = refl
+init_holds (Some s) value body h = by (value s) (h s refl)
+  where
+    valued : (b : Bool) → b ≡ true → cond (eqb s s && b) Yes (init_fault (Some s)) ≡ Yes
+    valued b e = ap₂ (λ (a b : Bool). cond (a && b) Yes (init_fault (Some s))) (eq-eqb s s refl) e
 
-inside_by : (i : Option ℕ) (z : List ℚ) (n : ℕ) → ((s : ℕ) → i ≡ Some s → s < n) → is_inside n (init_by i z) ≡ true
-inside_by None z n h = refl
-inside_by (Some s) z n h = lt-ltb s n (h s refl)
+    by : (v : Option ℚ) → has_value body s v ≡ true → init_check (init_at s v) (Some s) body ≡ Yes
+    by None e = valued (has_value body s None) e
+    by (Some x) e = valued (has_value body s (Some x)) e
 
-pub init_inside : (m : Mdp) (z : List ℚ) (n : ℕ) (init : Init) → n ≡ states_of m → init ≡ init_by (initial_of m) z → is_inside n init ≡ true
-init_inside m z n init e i = ap (is_inside n) i ∙ inside_by (initial_of m) z n (λ s h. let l = initial_below m s h in omega (arith, l, e))
+reach_valued : (z : List ℚ) (cs rs : List ℕ) (s : ℕ) → s < length z → has_value (certificate.policy z cs rs) s (Some (value_at z s)) ≡ true
+reach_valued z cs rs s h = ap₂ (λ (a b : Bool). a && b) (lt-ltb s (length z) h) ((equal_decides (value_at z s) (value_at z s)).1 refl)
 
-pub body_entries : (dir : Dir) (label : List ℕ) (states n : ℕ) (zs : List ℚ) (cs rs : List ℕ) → n ≡ states → length zs ≡ states → length cs ≡ states → length rs ≡ states
-    → is_body_of (reach dir label) n (policy zs cs rs) ≡ true
-body_entries dir label states n zs cs rs e x y z =
+same_reward : (v : Option ℚ) → reward_same v v ≡ true
+same_reward None = refl
+same_reward (Some x) = (equal_decides x x).1 refl
+
+reward_valued : (v : List (Option ℚ)) (cs rs : List ℕ) (s : ℕ) → s < length v → has_value (certificate.rewards v cs rs) s (reward_at v s) ≡ true
+reward_valued v cs rs s h = ap₂ (λ (a b : Bool). a && b) (lt-ltb s (length v) h) (same_reward (reward_at v s))
+
+-- whether a value may stand in the line `init` of a claim
+abbrev pub may_stand : PlainClaim → Option ℚ → Bool
+may_stand claim None = may_be_infinite claim
+may_stand claim (Some x) = true
+
+pub may_be_reward : (dir : Dir) (name label : List ℕ) (v : Option ℚ) → may_stand (certificate.reward dir name label) v ≡ true
+may_be_reward dir name label None = refl
+may_be_reward dir name label (Some x) = refl
+
+inside_by : (claim : PlainClaim) (i : Option ℕ) (value : ℕ → Option ℚ) (n : ℕ) → ((s : ℕ) → i ≡ Some s → (s < n) × (may_stand claim (value s) ≡ true)) → is_init_of claim n (init_by i value) ≡ true
+inside_by claim None value n h = refl
+inside_by claim (Some s) value n h = by (value s) (h s refl).1
+  where
+    below : nat_lt s n ≡ true
+    below = lt-ltb s n (h s refl).0
+
+    by : (v : Option ℚ) → may_stand claim v ≡ true → is_init_of claim n (init_at s v) ≡ true
+    by None e = ap₂ (λ (a b : Bool). a && b) e below
+    by (Some x) e = below
+
+pub init_inside : (claim : PlainClaim) (m : Mdp) (value : ℕ → Option ℚ) (n : ℕ) (init : Init) → n ≡ states_of m → ((s : ℕ) → may_stand claim (value s) ≡ true) → init ≡ init_by (initial_of m) value
+    → is_init_of claim n init ≡ true
+init_inside claim m value n init e may i =
+    ap (is_init_of claim n) i ∙ inside_by claim (initial_of m) value n (λ s h. (let l = initial_below m s h in omega (arith, l, e), may s))
+
+three : {V : Type 0} (states n : ℕ) (zs : List V) (cs rs : List ℕ) → n ≡ states → length zs ≡ states → length cs ≡ states → length rs ≡ states
+    → (eqb (length zs) n && eqb (length cs) n && eqb (length rs) n) ≡ true
+three states n zs cs rs e x y z =
     ap₂ (λ (a b : Bool). a && b) (ap₂ (λ (a b : Bool). a && b) (eq-eqb (length zs) n (x ∙ sym e)) (eq-eqb (length cs) n (y ∙ sym e))) (eq-eqb (length rs) n (z ∙ sym e))
 
-module _ (dir : Dir) (label : List ℕ) (m : Mdp) (l : ℕ) (a : Answer) (found : place_of label m.labels ≡ Some l) (rules : IsReach dir m (marks_of m l) a.values a.choices a.ranks) (sizes : HasSizes (states_of m) a) where
+pub body_entries : (dir : Dir) (label : List ℕ) (states n : ℕ) (zs : List ℚ) (cs rs : List ℕ) → n ≡ states → length zs ≡ states → length cs ≡ states → length rs ≡ states
+    → is_body_of (certificate.reach dir label) n (certificate.policy zs cs rs) ≡ true
+body_entries dir label states n zs cs rs e x y z = three states n zs cs rs e x y z
+
+pub reward_entries : (dir : Dir) (name label : List ℕ) (states n : ℕ) (vs : List (Option ℚ)) (cs rs : List ℕ) → n ≡ states → length vs ≡ states → length cs ≡ states → length rs ≡ states
+    → is_body_of (certificate.reward dir name label) n (certificate.rewards vs cs rs) ≡ true
+reward_entries dir name label states n vs cs rs e x y z = three states n vs cs rs e x y z
+
+marks_found : (m : Mdp) (label : List ℕ) (l : ℕ) → place_of label m.labels ≡ Some l → labelled_marks m label ≡ Some (marks_of m l)
+marks_found m label l e = ap (option_map (marks_of m)) e
+
+-- a certificate that belongs to the model is shown by its text
+pub printed_by : (m : Mdp) (c : Certificate) → IsMdp m → IsReadBack → IsAccepted m c → Fits c → (text : List ℕ) → text ≡ text_of c → IsClaimPrinted c.claim m text
+printed_by m c mdp back accepted fits text spelled = record {
+  cert = c;
+  claim = refl;
+  spelled = spelled;
+  short = subst (λ (t : List ℕ). length t ≤ most_bytes) (sym spelled) (text_short c fits);
+  reads = ap outcome spelled ∙ (back c fits).0;
+  holds = accepted;
+  bound = accepted_is_bound m c mdp accepted;
+}
+
+module _ (dir : Dir) (label : List ℕ) (m : Mdp) (l : ℕ) (a : Answer) (found : place_of label m.labels ≡ Some l)
+    (rules : IsReach dir m (marks_of m l) a.values a.choices a.ranks) (sizes : HasSizes (states_of m) a) where
   pub accepted : IsAccepted m (certificate_of dir label m a)
   accepted = record {
     states = refl;
     entries = body_entries dir label (states_of m) (states_of m) a.values a.choices a.ranks refl sizes.values (choices_size dir m (marks_of m l) a.values a.choices a.ranks rules.rules) sizes.ranks;
-    label = l;
-    found = found;
-    init = init_holds (initial_of m) a.values (λ s e. let lt = initial_below m s e in let n = sizes.values in omega (arith, lt, n));
+    reward = 0;
+    named = refl;
+    goals = marks_of m l;
+    marked = marks_found m label l found;
+    init = init_holds (initial_of m) _ _ (λ s e. reach_valued a.values a.choices a.ranks s (let lt = initial_below m s e in let n = sizes.values in omega (arith, lt, n)));
     body = rules;
   }
 
   pub printed : IsMdp m → IsReadBack → (text : List ℕ) → Fits (certificate_of dir label m a) → text ≡ text_of (certificate_of dir label m a) → IsReachPrinted dir label m text
-  printed mdp back text fits spelled = record {
-    cert = certificate_of dir label m a;
-    claim = refl;
-    spelled = spelled;
-    short = subst (λ (t : List ℕ). length t ≤ most_bytes) (sym spelled) (text_short dir label (states_of m) (init_by (initial_of m) a.values) a.values a.choices a.ranks fits);
-    reads = ap outcome spelled ∙ (back (certificate_of dir label m a) fits).0;
-    holds = accepted;
-    bound = accepted_is_bound m (certificate_of dir label m a) mdp accepted;
+  printed mdp back text fits spelled = printed_by m (certificate_of dir label m a) mdp back accepted fits text spelled
+
+module _ (dir : Dir) (name label : List ℕ) (m : Mdp) (r l : ℕ) (a : rewarded.Answer) (named : place_of name m.names ≡ Some r) (found : place_of label m.labels ≡ Some l)
+    (rules : IsReward dir m r (marks_of m l) a.values a.choices a.ranks) (ranks : length a.ranks ≡ states_of m) where
+  values : length a.values ≡ states_of m
+  values = reward_values_size dir m r (marks_of m l) a.values a.choices a.ranks rules.rules
+
+  pub reward_accepted : IsAccepted m (reward_certificate_of dir name label m a)
+  reward_accepted = record {
+    states = refl;
+    entries = reward_entries dir name label (states_of m) (states_of m) a.values a.choices a.ranks refl values
+      (reward_choices_size dir m r (marks_of m l) a.values a.choices a.ranks rules.rules) ranks;
+    reward = r;
+    named = named;
+    goals = marks_of m l;
+    marked = marks_found m label l found;
+    init = init_holds (initial_of m) _ _ (λ s e. reward_valued a.values a.choices a.ranks s (let lt = initial_below m s e in let n = values in omega (arith, lt, n)));
+    body = rules;
   }
 
--- ---- the label's name
+  pub reward_printed : IsMdp m → IsReadBack → (text : List ℕ) → Fits (reward_certificate_of dir name label m a) → text ≡ text_of (reward_certificate_of dir name label m a)
+      → IsRewardPrinted dir name label m text
+  reward_printed mdp back text fits spelled = printed_by m (reward_certificate_of dir name label m a) mdp back reward_accepted fits text spelled
+
+-- ---- names
 
 -- what is found in a list of names is one of them
-pub is_name : (label : List ℕ) (names : List (List ℕ)) (l : ℕ) → place_of label names ≡ Some l → All IsName names → IsName label
-is_name label names l e h =
-    let p = position-Some (bytes_eq label) names l [] e in
-    subst IsName (sym ((bytes_eq-Decides label (get_or names l [])).0 p.1)) (All-get_or IsName names l [] p.0 h)
+pub found_among : (P : List ℕ → Type 0) (name : List ℕ) (names : List (List ℕ)) (l : ℕ) → place_of name names ≡ Some l → All P names → P name
+found_among P name names l e h =
+    let p = position-Some (bytes_eq name) names l [] e in
+    subst P (sym ((bytes_eq-Decides name (get_or names l [])).0 p.1)) (All-get_or P names l [] p.0 h)
+
+-- the name of a reward model is a name
+none_of : (bytes : List ℕ) → list_any (λ b. eqb b 32 || eqb b 9 || eqb b 13 || eqb b 34 || eqb b 10) bytes ≡ false → list_any (λ b. eqb b 34 || eqb b 10) bytes ≡ false
+none_of [] h = refl
+none_of (b ∷ bytes) h = by (eqb b 32) (eqb b 9) (eqb b 13) (eqb b 34) (eqb b 10) (list_any (λ b. eqb b 32 || eqb b 9 || eqb b 13 || eqb b 34 || eqb b 10) bytes) h (none_of bytes)
+  where
+    by : (p q r s t rest : Bool) → ((p || q || r || s || t) || rest) ≡ false → (rest ≡ false → list_any (λ b. eqb b 34 || eqb b 10) bytes ≡ false)
+        → ((s || t) || list_any (λ b. eqb b 34 || eqb b 10) bytes) ≡ false
+    by false false false false false rest h more = more h
+    by true q r s t rest h more = cc h
+    by false true r s t rest h more = cc h
+    by false false true s t rest h more = cc h
+    by false false false true t rest h more = cc h
+    by false false false false true rest h more = cc h
+
+not-true : (b : Bool) → not b ≡ true → b ≡ false
+not-true false e = refl
+not-true true e = cc e
+
+pub name_of_reward : (name : List ℕ) → IsRewardName name → IsName name
+name_of_reward name h = let p = and_parts _ _ h in ap₂ (λ (a b : Bool). a && not b) p.0 (none_of name (not-true _ p.1))
 
 -- ---- what is due
+
+-- a certificate is said by its text, unless memory is wanting
+abbrev pub IsTextOf : Certificate → Said → Type 0
+IsTextOf c said = (said ≡ Err no_memory) ⊎ (said ≡ Ok (text_of c))
+
+pub text_printed : (P : List ℕ → Type 0) (c : Certificate) (said : Said) → ((text : List ℕ) → text ≡ text_of c → P text) → IsTextOf c said → IfOk said P
+text_printed P c (Ok text) shows (inl memory) = cc memory
+text_printed P c (Ok text) shows (inr e) = shows text (cc e)
+text_printed P c (Err r) shows e = tt
 
 module _ (dir : Dir) (label : List ℕ) (m : Mdp) (l : ℕ) (found : place_of label m.labels ≡ Some l) where
   due_at : (said : Said) → IsReachDue dir label m (Some l) said → IsReachDue dir label m (place_of label m.labels) said
   due_at said d = subst (λ (o : Option ℕ). IsReachDue dir label m o said) (sym found) d
 
-  pub text_due : (a : Answer) (text : List ℕ) → EndsSo dir m (marks_of m l) (Ok a) → text ≡ text_of (certificate_of dir label m a) → IsReachDue dir label m (place_of label m.labels) (Ok text)
-  text_due a text end e = due_at (Ok text) (Ok a, end, ap Ok e)
+  pub text_due : (a : Answer) (c : Certificate) (said : Said) → EndsSo dir m (marks_of m l) (Ok a) → c ≡ certificate_of dir label m a → IsTextOf c said
+      → (said ≡ Err no_memory) ⊎ IsReachDue dir label m (place_of label m.labels) said
+  text_due a c said end is (inl memory) = inl memory
+  text_due a c said end is (inr e) = inr (due_at said (Ok a, end, e ∙ ap (λ (x : Certificate). let r : Said = Ok (text_of x) in r) is))
 
   pub wide_due : (w : TooWide) → Solves plain (EndsSo dir m (marks_of m l)) (Err (error.TooWide w)) → IsReachDue dir label m (place_of label m.labels) (Err (too_wide (shown w w.round)))
   wide_due w h = due_at (Err (too_wide (shown w w.round))) (Err (shown w h.0), h.2, ap (λ (n : ℕ). let r : Said = Err (too_wide (shown w n)) in r) h.1)
 
 pub unknown_due : (dir : Dir) (label : List ℕ) (m : Mdp) → place_of label m.labels ≡ None → IsReachDue dir label m (place_of label m.labels) (Err query_label)
 unknown_due dir label m e = subst (λ (o : Option ℕ). IsReachDue dir label m o (Err query_label)) (sym e) refl
+
+-- ---- what is due to a query of rewards
+
+abbrev IsDueTo : Dir → List ℕ → List ℕ → Mdp → Said → Type 0
+IsDueTo dir name label m said = IsRewardDue dir name label m (place_of name m.names) (place_of label m.labels) said
+
+pub unknown_reward_due : (dir : Dir) (name label : List ℕ) (m : Mdp) → place_of name m.names ≡ None → IsDueTo dir name label m (Err query_reward)
+unknown_reward_due dir name label m e = subst (λ (o : Option ℕ). IsRewardDue dir name label m o (place_of label m.labels) (Err query_reward)) (sym e) refl
+
+module _ (dir : Dir) (name label : List ℕ) (m : Mdp) (r : ℕ) (named : place_of name m.names ≡ Some r) where
+  due_named : (said : Said) → IsRewardDue dir name label m (Some r) (place_of label m.labels) said → IsDueTo dir name label m said
+  due_named said d = subst (λ (o : Option ℕ). IsRewardDue dir name label m o (place_of label m.labels) said) (sym named) d
+
+  pub unknown_label_due : place_of label m.labels ≡ None → IsDueTo dir name label m (Err query_label)
+  unknown_label_due e = due_named (Err query_label) (subst (λ (o : Option ℕ). IsRewardDue dir name label m (Some r) o (Err query_label)) (sym e) refl)
+
+  module _ (l : ℕ) (found : place_of label m.labels ≡ Some l) where
+    due_found : (said : Said) → IsRewardEnd dir name label m r l (has_negative m r) said → IsDueTo dir name label m said
+    due_found said d = due_named said (subst (λ (o : Option ℕ). IsRewardDue dir name label m (Some r) o said) (sym found) d)
+
+    pub negative_due : has_negative m r ≡ true → IsDueTo dir name label m (Err query_negative)
+    negative_due e = due_found (Err query_negative) (subst (λ (b : Bool). IsRewardEnd dir name label m r l b (Err query_negative)) (sym e) refl)
+
+    module _ (none : has_negative m r ≡ false) where
+      due_end : (said : Said) → IsRewardEnd dir name label m r l false said → IsDueTo dir name label m said
+      due_end said d = due_found said (subst (λ (b : Bool). IsRewardEnd dir name label m r l b said) (sym none) d)
+
+      pub reward_text_due : (a : rewarded.Answer) (c : Certificate) (said : Said) → rewarded.EndsSo dir m r (marks_of m l) (Ok a) → c ≡ reward_certificate_of dir name label m a → IsTextOf c said
+          → (said ≡ Err no_memory) ⊎ IsDueTo dir name label m said
+      reward_text_due a c said end is (inl memory) = inl memory
+      reward_text_due a c said end is (inr e) = inr (due_end said (Ok a, end, e ∙ ap (λ (x : Certificate). let r : Said = Ok (text_of x) in r) is))
+
+      pub reward_wide_due : (w : TooWide) → Solves rewarded.plain (rewarded.EndsSo dir m r (marks_of m l)) (Err (error.TooWide w)) → IsDueTo dir name label m (Err (too_wide (shown w w.round)))
+      reward_wide_due w h = due_end (Err (too_wide (shown w w.round))) (Err (shown w h.0), h.2, ap (λ (n : ℕ). let r : Said = Err (too_wide (shown w n)) in r) h.1)

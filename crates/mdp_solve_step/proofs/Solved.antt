@@ -1,8 +1,11 @@
 -- One thing is due to a query; and what is made of it, from what was read of the model's source.
-use Rattle.std.proofs.Common.{◌≡◌, ℕ, Bool, List, Option, Some, None, Result, Ok, Err, IfOk, refl, sym, ap, subst, ◌∙◌}
+use Rattle.std.proofs.Common.{◌≡◌, ℕ, Bool, true, false, List, [], Option, Some, None, Result, Ok, Err, IfOk, refl, sym, ap, subst, ◌∙◌}
+use Rattle.std.specs.Str.{bytes_eq}
+use Rattle.std.proofs.lemmas.List.Quantifiers.{position-Some}
 use Rattle.mdp_spec.specs.Labels.{place_of, marks_of}
 use Rattle.mdp_spec.specs.Mdp.{Mdp}
 use Rattle.mdp_spec.specs.Row.{IsMdp}
+use Rattle.mdp_rows.specs.Negative.{has_negative}
 use Rattle.mdp_rows.specs.declared.dir.Dir.{Dir}
 use Rattle.mdp_rows.specs.declared.dir.Dir.TheVariants.{Max, Min}
 use Rattle.mdp_rows.specs.declared.rule.RowRule.{RowRule}
@@ -10,14 +13,19 @@ use Rattle.mdp_path.specs.Queries.{WideTerm}
 use Rattle.mdp_reach.specs.Query.{Answer, EndsSo}
 use Rattle.mdp_reach.specs.Laws.{AnswersMeetRules, AnswersAreGreatest, AnswersAreLeast}
 use Rattle.mdp_reach.proofs.OneEnd.{one_query_end}
-use Rattle.mdp_job.specs.Job.{PlainQuery, reach}
+use Rattle.mdp_reward.proofs.OneEnd as reward_end
+use Rattle.mdp_reward.specs.Laws as reward_law
+use Rattle.mdp_reward.specs.Query as rewarded
+use Rattle.mdp_cert.specs.Cert as certificate
+use Rattle.mdp_cert.specs.Cert.{PlainClaim}
+use Rattle.mdp_job.specs.Job.{PlainQuery, reach, reward}
 use Rattle.mdp_job.specs.Refusal.{PlainRefusal}
 use Rattle.mdp_step.proofs.Working.{read_of_due}
 use Rattle.mdp_step.specs.Files.{model_due}
 use Rattle.mdp_step.specs.Said.{Said}
-use Rattle.mdp_solve_step.specs.Due.{said_of_end, IsReachDue, IsSolveDue}
-use Rattle.mdp_solve_step.specs.Laws.{IsBest, IsAnswerTo}
-use Rattle.mdp_solve_step.specs.Solved.{IsPrinted, IsSolved}
+use Rattle.mdp_solve_step.specs.Due.{said_of_end, said_of_reward_end, IsReachDue, IsRewardEnd, IsRewardDue, IsSolveDue}
+use Rattle.mdp_solve_step.specs.Laws.{IsBest, IsAnswerTo, IsBestReward, IsRewardAnswerTo}
+use Rattle.mdp_solve_step.specs.Solved.{IsClaimPrinted, IsPrinted, IsClaimSolved, IsSolved}
 
 -- ---- one thing is due
 
@@ -25,8 +33,21 @@ reach_once : (dir : Dir) (label : List ℕ) (m : Mdp) (found : Option ℕ) (said
 reach_once dir label m None said again d e = d ∙ sym e
 reach_once dir label m (Some l) said again d e = d.2 ∙ ap (said_of_end dir label m) (one_query_end dir m (marks_of m l) e.0 d.0 e.1 d.1) ∙ sym e.2
 
+end_once : (dir : Dir) (name label : List ℕ) (m : Mdp) (r l : ℕ) (negative : Bool) (said again : Said) → IsRewardEnd dir name label m r l negative said
+    → IsRewardEnd dir name label m r l negative again → said ≡ again
+end_once dir name label m r l true said again d e = d ∙ sym e
+end_once dir name label m r l false said again d e =
+    d.2 ∙ ap (said_of_reward_end dir name label m) (reward_end.one_query_end dir m r (marks_of m l) e.0 d.0 e.1 d.1) ∙ sym e.2
+
+reward_once : (dir : Dir) (name label : List ℕ) (m : Mdp) (named found : Option ℕ) (said again : Said) → IsRewardDue dir name label m named found said
+    → IsRewardDue dir name label m named found again → said ≡ again
+reward_once dir name label m None found said again d e = d ∙ sym e
+reward_once dir name label m (Some r) None said again d e = d ∙ sym e
+reward_once dir name label m (Some r) (Some l) said again d e = end_once dir name label m r l (has_negative m r) said again d e
+
 pub solve_once : (dir : Dir) (query : PlainQuery) (read : Result Mdp PlainRefusal) (said again : Said) → IsSolveDue dir query read said → IsSolveDue dir query read again → said ≡ again
 solve_once dir (reach label) (Ok m) said again d e = reach_once dir label m (place_of label m.labels) said again d e
+solve_once dir (reward name label) (Ok m) said again d e = reward_once dir name label m (place_of name m.names) (place_of label m.labels) said again d e
 solve_once dir query (Err r) said again d e = d ∙ sym e
 
 -- ---- a text that is due is an answer
@@ -55,10 +76,50 @@ module _ (rules : AnswersMeetRules) (greatest : AnswersAreGreatest) (least : Ans
   pub text_is_answer : (dir : Dir) (text : List ℕ) (read : Result Mdp PlainRefusal) → read ≡ Ok m → IsSolveDue dir (reach label) read (Ok text) → IsAnswerTo dir label m text
   text_is_answer dir text read is d = answer_at dir text (place_of label m.labels) refl (subst (λ (r : Result Mdp PlainRefusal). IsSolveDue dir (reach label) r (Ok text)) is d)
 
+-- ---- and so of rewards
+
+module _ (rules : reward_law.AnswersMeetRules) (greatest : reward_law.AnswersAreGreatest) (least : reward_law.AnswersAreLeast) (name label : List ℕ) (m : Mdp) (mdp : IsMdp m) where
+  best_reward : (dir : Dir) (r : ℕ) (goals : List Bool) (a : rewarded.Answer) → reward_law.HasRewards m r → rewarded.EndsSo dir m r goals (Ok a) → IsBestReward dir m r goals a
+  best_reward Max r goals a has end = greatest m r goals a has end
+  best_reward Min r goals a has end = least m r goals a has end
+
+  has_rewards : (r : ℕ) → place_of name m.names ≡ Some r → has_negative m r ≡ false → reward_law.HasRewards m r
+  has_rewards r named none = record { model = mdp; named = (position-Some (bytes_eq name) m.names r [] named).0; none_negative = none }
+
+  reward_of_end : (dir : Dir) (text : List ℕ) (r l : ℕ) → place_of name m.names ≡ Some r → place_of label m.labels ≡ Some l → has_negative m r ≡ false → (end : Result rewarded.Answer WideTerm)
+      → rewarded.EndsSo dir m r (marks_of m l) end → Ok text ≡ said_of_reward_end dir name label m end → IsRewardAnswerTo dir name label m text
+  reward_of_end dir text r l named found none (Err w) end e = cc e
+  reward_of_end dir text r l named found none (Ok a) end e = record {
+    named = r;
+    named_so = named;
+    place = l;
+    found = found;
+    none_negative = none;
+    answer = a;
+    spelled = cc e;
+    rules = rules dir m r (marks_of m l) a (has_rewards r named none) end;
+    best = best_reward dir r (marks_of m l) a (has_rewards r named none) end;
+  }
+
+  reward_by : (dir : Dir) (text : List ℕ) (r l : ℕ) → place_of name m.names ≡ Some r → place_of label m.labels ≡ Some l → (negative : Bool) → has_negative m r ≡ negative
+      → IsRewardEnd dir name label m r l negative (Ok text) → IsRewardAnswerTo dir name label m text
+  reward_by dir text r l named found true is d = cc d
+  reward_by dir text r l named found false is d = reward_of_end dir text r l named found is d.0 d.1 d.2
+
+  reward_at : (dir : Dir) (text : List ℕ) (named found : Option ℕ) → place_of name m.names ≡ named → place_of label m.labels ≡ found → IsRewardDue dir name label m named found (Ok text)
+      → IsRewardAnswerTo dir name label m text
+  reward_at dir text None found named_is found_is d = cc d
+  reward_at dir text (Some r) None named_is found_is d = cc d
+  reward_at dir text (Some r) (Some l) named_is found_is d = reward_by dir text r l named_is found_is (has_negative m r) refl d
+
+  pub reward_text_is_answer : (dir : Dir) (text : List ℕ) (read : Result Mdp PlainRefusal) → read ≡ Ok m → IsSolveDue dir (reward name label) read (Ok text) → IsRewardAnswerTo dir name label m text
+  reward_text_is_answer dir text read is d =
+      reward_at dir text (place_of name m.names) (place_of label m.labels) refl refl (subst (λ (r : Result Mdp PlainRefusal). IsSolveDue dir (reward name label) r (Ok text)) is d)
+
 -- ---- what is shown of a text
 
-printed_solved : (rule : RowRule) (dir : Dir) (query : PlainQuery) (m : Mdp) (bytes text : List ℕ) → model_due rule bytes ≡ Ok m → IsPrinted dir query m text → IsSolved rule dir query bytes text
-printed_solved rule dir (reach label) m bytes text is printed =
+pub printed_solved : (rule : RowRule) (claimed : PlainClaim) (m : Mdp) (bytes text : List ℕ) → model_due rule bytes ≡ Ok m → IsClaimPrinted claimed m text → IsClaimSolved rule claimed bytes text
+printed_solved rule claimed m bytes text is printed =
     let read = read_of_due rule bytes m is in
     record {
       true_claim = record {
@@ -79,5 +140,6 @@ printed_solved rule dir (reach label) m bytes text is printed =
 
 pub shown : (rule : RowRule) (dir : Dir) (query : PlainQuery) (m : Mdp) (said : Said) → IfOk said (IsPrinted dir query m) → (bytes : List ℕ) → model_due rule bytes ≡ Ok m
     → IfOk said (IsSolved rule dir query bytes)
-shown rule dir query m (Ok text) printed bytes is = printed_solved rule dir query m bytes text is printed
+shown rule dir (reach label) m (Ok text) printed bytes is = printed_solved rule (certificate.reach dir label) m bytes text is printed
+shown rule dir (reward name label) m (Ok text) printed bytes is = printed_solved rule (certificate.reward dir name label) m bytes text is printed
 shown rule dir query m (Err r) printed bytes is = tt

@@ -1,5 +1,6 @@
--- The text of a certificate of reachability has at most 2^30 bytes.
-use Rattle.std.proofs.Common.{◌≡◌, ℕ, suc, ◌+◌, ◌*◌, ◌<◌, ◌≤◌, ◌^◌, Bool, true, false, cond, eqb, List, [], ◌∷◌, ◌++◌, length, codes, decimal, refl, arith, lit<, ℤ, pos, negsuc, unsigned_abs, ltb→lt, T, sym, subst}
+-- The text of a certificate has at most 2^30 bytes.
+use Rattle.std.proofs.Common.{◌≡◌, ℕ, suc, ◌+◌, ◌*◌, ◌<◌, ◌≤◌, ◌^◌, Bool, true, false, cond, eqb, List, [], ◌∷◌, ◌++◌, length, codes, decimal, Option, Some, None, refl, arith, lit<, ℤ, pos}
+use Rattle.std.proofs.Common.{negsuc, unsigned_abs, ltb→lt, T, sym, subst}
 use Rattle.std.specs.Fmt.{signed_decimal}
 use Rattle.std.specs.List.{AllByRecursion as Each}
 use Rattle.std.proofs.lemmas.Bool.{and_parts, leb-true}
@@ -12,12 +13,13 @@ use Rattle.mdp_rows.specs.Name.{is_name}
 use Rattle.mdp_rows.specs.declared.dir.Dir.{Dir}
 use Rattle.mdp_rows.specs.declared.dir.Dir.TheVariants.{Max, Min}
 use Rattle.mdp_cert.specs.declared.init.Init.{Init}
-use Rattle.mdp_cert.specs.declared.init.Init.TheVariants.{Missing, Finite}
-use Rattle.mdp_cert.specs.Cert.{reach, policy, is_inside, IsInitInWidth, Certificate, Fits}
-use Rattle.mdp_cert.specs.Claims.{policy_columns, IsPolicyInWidth, policies}
+use Rattle.mdp_cert.specs.declared.init.Init.TheVariants.{Missing, Finite, Infinite}
+use Rattle.mdp_cert.specs.Cert.{PlainClaim, upper, reach, reward, are_names, may_be_infinite, PlainBody, bounds, policy, rewards, is_init_of, is_body_of}
+use Rattle.mdp_cert.specs.Cert.{IsInitInWidth, IsValueNarrow, IsBodyInWidth, Certificate, Fits}
+use Rattle.mdp_cert.specs.Claims.{Value, fraction_value, reward_value, reward_text, bound_columns, policy_columns, IsPolicyInWidth, policies}
 use Rattle.mdp_cert.specs.Runs.{Columns, Run, run, single, before_runs, longest_runs}
 use Rattle.mdp_cert.specs.Spelling.{line, ◌␣◌, quoted, dir_text, claim_text, states_text, init_text, head_text, entry_text, run_text, run_lines, end_text, text_in, text_of}
-use Rattle.mdp_cert.proofs.Growth.{policy-entries}
+use Rattle.mdp_cert.proofs.Growth.{bounds-entries, Entries, policy-entries, reward-entries}
 use Rattle.mdp_cert.proofs.Policies.{length-policies}
 
 -- ---- words
@@ -55,14 +57,39 @@ dir_length : (dir : Dir) → length (dir_text dir) ≡ 3
 dir_length Max = refl
 dir_length Min = refl
 
-claim_short : (dir : Dir) (label : List ℕ) → length label ≤ 255 → length (claim_text (reach dir label)) ≤ 300
-claim_short dir label h =
-    let a = blank_length (codes "claim") (dir_text dir ␣ codes "reach" ␣ quoted label) in
-    let b = blank_length (dir_text dir) (codes "reach" ␣ quoted label) in
-    let c = blank_length (codes "reach") (quoted label) in
-    let d = length-append label (34 ∷ []) in
+quoted_length : (name : List ℕ) → length (quoted name) ≡ length name + 2
+quoted_length name = let d = length-append name (34 ∷ []) in omega (arith, d)
+
+two_words : (dir : Dir) (word rest : List ℕ) → length (codes "claim" ␣ dir_text dir ␣ word ␣ rest) ≡ 5 + (1 + (3 + (1 + (length word + (1 + length rest)))))
+two_words dir word rest =
+    let a = blank_length (codes "claim") (dir_text dir ␣ word ␣ rest) in
+    let b = blank_length (dir_text dir) (word ␣ rest) in
+    let c = blank_length word rest in
     let n = dir_length dir in
-    omega (arith, a, b, c, d, n, h)
+    omega (arith, a, b, c, n)
+
+claim_short : (claim : PlainClaim) → are_names claim ≡ true → length (claim_text claim) ≤ 600
+claim_short (upper label) h =
+    let a = blank_length (codes "claim") (codes "upper" ␣ codes "reach" ␣ quoted label) in
+    let b = blank_length (codes "upper") (codes "reach" ␣ quoted label) in
+    let c = blank_length (codes "reach") (quoted label) in
+    let d = quoted_length label in
+    let l = name_short label h in
+    omega (arith, a, b, c, d, l)
+claim_short (reach dir label) h =
+    let a = two_words dir (codes "reach") (quoted label) in
+    let d = quoted_length label in
+    let l = name_short label h in
+    omega (arith, a, d, l)
+claim_short (reward dir name label) h =
+    let a = two_words dir (codes "reward") (quoted name ␣ quoted label) in
+    let b = blank_length (quoted name) (quoted label) in
+    let c = quoted_length name in
+    let d = quoted_length label in
+    let names = and_parts (is_name name) (is_name label) h in
+    let n = name_short name names.0 in
+    let l = name_short label names.1 in
+    omega (arith, a, b, c, d, n, l)
 
 states_short : (n : ℕ) → n < 2 ^ 32 → length (states_text n) ≤ 30
 states_short n h = let a = blank_length (codes "states") (decimal n) in let l = number_short n h in omega (arith, a, l)
@@ -71,6 +98,7 @@ states_short n h = let a = blank_length (codes "states") (decimal n) in let l = 
 abbrev IsShortInit : Init → Type 0
 IsShortInit Missing = Unit {0}
 IsShortInit (Finite state value) = state < 2 ^ 32
+IsShortInit (Infinite state) = state < 2 ^ 32
 
 init_short : (init : Init) → IsShortInit init → IsInitInWidth init → length (init_text init) ≤ 150
 init_short Missing h w = omega arith
@@ -80,23 +108,36 @@ init_short (Finite state value) h w =
     let l = number_short state h in
     let v = spelling_short value w in
     omega (arith, a, b, l, v)
+init_short (Infinite state) h w =
+    let a = blank_length (codes "init") (decimal state ␣ codes "inf") in
+    let b = blank_length (decimal state) (codes "inf") in
+    let l = number_short state h in
+    omega (arith, a, b, l)
 
 -- ---- the lines of the states
 
-entry_short : (v : ℚ) (c r : ℕ) → IsNarrow v → c < 2 ^ 32 → r < 2 ^ 32 → length (spelling v ␣ (decimal c ␣ decimal r)) ≤ 110
-entry_short v c r hv hc hr =
-    let a = blank_length (spelling v) (decimal c ␣ decimal r) in
+entry_short : (word : List ℕ) (c r : ℕ) → length word ≤ 80 → c < 2 ^ 32 → r < 2 ^ 32 → length (word ␣ (decimal c ␣ decimal r)) ≤ 110
+entry_short word c r hv hc hr =
+    let a = blank_length word (decimal c ␣ decimal r) in
     let b = blank_length (decimal c) (decimal r) in
-    let x = spelling_short v hv in
     let y = number_short c hc in
     let z = number_short r hr in
-    omega (arith, a, b, x, y, z)
+    omega (arith, a, b, hv, y, z)
 
-entries_width : (zs : List ℚ) (cs rs : List ℕ) → Each IsNarrow zs → Each (λ c. c < 2 ^ 32) cs → Each (λ r. r < 2 ^ 32) rs → Each IsPolicyInWidth (policies zs cs rs)
-entries_width (z ∷ zs) (c ∷ cs) (r ∷ rs) p q o = (record { value = p.0; choice = q.0; rank = o.0 }, entries_width zs cs rs p.1 q.1 o.1)
-entries_width [] cs rs p q o = tt
-entries_width (z ∷ zs) [] rs p q o = tt
-entries_width (z ∷ zs) (c ∷ cs) [] p q o = tt
+module _ {V : Type 0} (P : V → Type 0) where
+  entries_width : (zs : List V) (cs rs : List ℕ) → Each P zs → Each (λ c. c < 2 ^ 32) cs → Each (λ r. r < 2 ^ 32) rs → Each (IsPolicyInWidth P) (policies zs cs rs)
+  entries_width (z ∷ zs) (c ∷ cs) (r ∷ rs) p q o = (record { value = p.0; choice = q.0; rank = o.0 }, entries_width zs cs rs p.1 q.1 o.1)
+  entries_width [] cs rs p q o = tt
+  entries_width (z ∷ zs) [] rs p q o = tt
+  entries_width (z ∷ zs) (c ∷ cs) [] p q o = tt
+
+reward_short : (v : Option ℚ) → IsValueNarrow v → length (reward_text v) ≤ 80
+reward_short None h = omega arith
+reward_short (Some x) h = spelling_short x h
+
+-- the lines of the states, and the line `end`
+abbrev lines_of : {A : Type 0} → Columns A → List A → List ℕ
+lines_of k xs = run_lines k 0 (longest_runs k xs) ++ line end_text
 
 -- of entries whose words have at most 110 bytes
 module _ {A : Type 0} (k : Columns A) (P : A → Type 0) (short : (x : A) → P x → length (entry_text k x) ≤ 110) where
@@ -183,58 +224,73 @@ module _ {A : Type 0} (k : Columns A) (P : A → Type 0) (short : (x : A) → P 
   states_lines_short : (xs : List A) → length xs ≤ 2 ^ 20 → Each P xs → length (run_lines k 0 (longest_runs k xs)) ≤ 150 * length xs
   states_lines_short xs limit h = let n = runs_size xs in let l = lines_short 0 (longest_runs k xs) (omega (arith, n, limit)) (runs_width xs h) in omega (arith, n, l)
 
+  -- with the line `end`
+  closed_short : (xs : List A) → length xs ≤ 2 ^ 20 → Each P xs → length (lines_of k xs) ≤ 150 * length xs + 4
+  closed_short xs limit h =
+      let l = states_lines_short xs limit h in
+      let a = length-append (run_lines k 0 (longest_runs k xs)) (line end_text) in
+      omega (arith, l, a)
+
 -- ---- the whole
 
-inside_short : (n : ℕ) (init : Init) → n ≤ 2 ^ 20 → is_inside n init ≡ true → IsShortInit init
-inside_short n Missing limit h = tt
-inside_short n (Finite state value) limit h = let p : 2 ^ 20 < 2 ^ 32 = lit< tt in let l = ltb→lt state n (subst T (sym h) tt) in omega (arith, limit, p, l)
+inside_short : (claim : PlainClaim) (n : ℕ) (init : Init) → n ≤ 2 ^ 20 → is_init_of claim n init ≡ true → IsShortInit init
+inside_short claim n Missing limit h = tt
+inside_short claim n (Finite state value) limit h = let p : 2 ^ 20 < 2 ^ 32 = lit< tt in let l = ltb→lt state n (subst T (sym h) tt) in omega (arith, limit, p, l)
+inside_short claim n (Infinite state) limit h =
+    let p : 2 ^ 20 < 2 ^ 32 = lit< tt in let l = ltb→lt state n (subst T (sym (and_parts (may_be_infinite claim) _ h).1) tt) in omega (arith, limit, p, l)
 
-module _ (dir : Dir) (label : List ℕ) (states : ℕ) (init : Init) (zs : List ℚ) (cs rs : List ℕ) where
-  abbrev certificate : Certificate
-  certificate = record { claim = reach dir label; states = states; init = init; body = policy zs cs rs }
+module _ (states : ℕ) (limit : states ≤ 2 ^ 20) where
+  three_short :
+      {V : Type 0} (k : Value V) (P : V → Type 0) → ((v : V) → P v → length (k.spell v) ≤ 80) → (zs : List V) (cs rs : List ℕ) → Entries states zs cs rs → Each P zs → Each (λ c. c < 2 ^ 32) cs
+      → Each (λ r. r < 2 ^ 32) rs → length (lines_of (policy_columns k) (policies zs cs rs)) ≤ 150 * states + 4
+  three_short k P short zs cs rs sizes p q o =
+      let x = sizes.values in
+      let y = sizes.choices in
+      let z = sizes.ranks in
+      let n = length-policies zs cs rs (omega (arith, x, y)) (omega (arith, x, z)) in
+      let l = closed_short (policy_columns k) (IsPolicyInWidth P) (λ p h. entry_short (k.spell p.value) p.choice p.rank (short p.value h.value) h.choice h.rank) (policies zs cs rs) (omega (arith, x, n, limit)) (entries_width P zs cs rs p q o) in
+      omega (arith, x, n, l)
 
-  -- the lines of the states, and the line `end`
-  abbrev body : List ℕ
-  body = run_lines policy_columns 0 (longest_runs policy_columns (policies zs cs rs)) ++ line end_text
+  bounds_short : (zs : List ℚ) → length zs ≡ states → Each IsNarrow zs → length (lines_of bound_columns zs) ≤ 150 * states + 4
+  bounds_short zs x w =
+      let l = closed_short bound_columns IsNarrow (λ v n. let s = spelling_short v n in omega (arith, s)) zs (omega (arith, x, limit)) w in
+      omega (arith, x, l)
 
-  module _ (fits : Fits certificate) where
-    head_short : length (head_text certificate) ≤ 500
-    head_short =
-        let p : 2 ^ 20 < 2 ^ 32 = lit< tt in
-        let a = length-append (line (claim_text (reach dir label))) (line (states_text states) ++ line (init_text init)) in
-        let b = length-append (line (states_text states)) (line (init_text init)) in
-        let c = line_length (claim_text (reach dir label)) in
-        let d = line_length (states_text states) in
-        let e = line_length (init_text init) in
-        let f = claim_short dir label (name_short label fits.name) in
-        let g = states_short states (let l = fits.limit in omega (arith, p, l)) in
-        let h = init_short init (inside_short states init fits.limit fits.inside) fits.init_width in
-        omega (arith, a, b, c, d, e, f, g, h)
+module _ (c : Certificate) (fits : Fits c) where
+  head_short : length (head_text c) ≤ 800
+  head_short =
+      let limit = fits.limit in
+      let p : 2 ^ 20 < 2 ^ 32 = lit< tt in
+      let a = length-append (line (claim_text c.claim)) (line (states_text c.states) ++ line (init_text c.init)) in
+      let b = length-append (line (states_text c.states)) (line (init_text c.init)) in
+      let x = line_length (claim_text c.claim) in
+      let d = line_length (states_text c.states) in
+      let e = line_length (init_text c.init) in
+      let f = claim_short c.claim fits.names in
+      let g = states_short c.states (omega (arith, p, limit)) in
+      let h = init_short c.init (inside_short c.claim c.states c.init limit fits.inside) fits.init_width in
+      omega (arith, a, b, x, d, e, f, g, h)
 
-    body_short : length body ≤ 150 * states + 4
-    body_short =
-        let sizes = policy-entries (reach dir label) states zs cs rs fits.entries in
-        let x = sizes.values in
-        let y = sizes.choices in
-        let z = sizes.ranks in
-        let k = length-policies zs cs rs (omega (arith, x, y)) (omega (arith, x, z)) in
-        let limit = fits.limit in
-        let width =
-        entries_width zs cs rs (recursion_from_All IsNarrow zs fits.body_width.0) (recursion_from_All (λ c. c < 2 ^ 32) cs fits.body_width.1) (recursion_from_All (λ r. r < 2 ^ 32) rs fits.body_width.2) in
-        let l = states_lines_short policy_columns IsPolicyInWidth (λ p h. entry_short p.value p.choice p.rank h.value h.choice h.rank) (policies zs cs rs) (omega (arith, x, k, limit)) width in
-        let a = length-append (run_lines policy_columns 0 (longest_runs policy_columns (policies zs cs rs))) (line end_text) in
-        omega (arith, x, k, l, a)
+  whole_short : (lines : List ℕ) → length lines ≤ 150 * c.states + 4 → length (line (codes "mdp-certificate 2") ++ (head_text c ++ lines)) ≤ 2 ^ 30
+  whole_short lines k =
+      let a = length-append (line (codes "mdp-certificate 2")) (head_text c ++ lines) in
+      let b = length-append (head_text c) lines in
+      let h = head_short in
+      let limit = fits.limit in
+      let p : 150 * 2 ^ 20 + 1000 < 2 ^ 30 = lit< tt in
+      omega (arith, a, b, h, k, limit, p)
 
-    whole_short : length (line (codes "mdp-certificate 2") ++ (head_text certificate ++ body)) ≤ 2 ^ 30
-    whole_short =
-        let a = length-append (line (codes "mdp-certificate 2")) (head_text certificate ++ body) in
-        let b = length-append (head_text certificate) body in
-        let h = head_short in
-        let k = body_short in
-        let limit = fits.limit in
-        let p : 150 * 2 ^ 20 + 1000 < 2 ^ 30 = lit< tt in
-        omega (arith, a, b, h, k, limit, p)
+  by_body : (body : PlainBody) → is_body_of c.claim c.states body ≡ true → IsBodyInWidth body → length (text_of (record c { body = body })) ≤ 2 ^ 30
+  unfolding text_in
+  by_body (bounds zs) h w = whole_short (lines_of bound_columns zs) (bounds_short c.states fits.limit zs (bounds-entries c.claim c.states zs h) (recursion_from_All IsNarrow zs w))
+  by_body (policy zs cs rs) h w =
+      whole_short (lines_of (policy_columns fraction_value) (policies zs cs rs))
+      (three_short c.states fits.limit fraction_value IsNarrow spelling_short zs cs rs (policy-entries c.claim c.states zs cs rs h) (recursion_from_All IsNarrow zs w.0)
+      (recursion_from_All (λ c. c < 2 ^ 32) cs w.1) (recursion_from_All (λ r. r < 2 ^ 32) rs w.2))
+  by_body (rewards vs cs rs) h w =
+      whole_short (lines_of (policy_columns reward_value) (policies vs cs rs))
+      (three_short c.states fits.limit reward_value IsValueNarrow reward_short vs cs rs (reward-entries c.claim c.states vs cs rs h) (recursion_from_All IsValueNarrow vs w.0)
+      (recursion_from_All (λ c. c < 2 ^ 32) cs w.1) (recursion_from_All (λ r. r < 2 ^ 32) rs w.2))
 
-    pub text_short : length (text_of certificate) ≤ 2 ^ 30
-    unfolding text_in
-    text_short = whole_short
+  pub text_short : length (text_of c) ≤ 2 ^ 30
+  text_short = by_body c.body fits.entries fits.body_width

@@ -1,44 +1,82 @@
 -- What is due to a query and to the model.
-use Rattle.std.specs.Prelude.{◌≡◌, ℕ, List, Option, Some, None, Result, Ok, Err}
+use Rattle.std.specs.Prelude.{◌≡◌, ℕ, Bool, true, false, List, Option, Some, None, Result, Ok, Err}
 use Rattle.mdp_math.specs.Rational.{ℚ}
+use Rattle.mdp_spec.specs.Bounds.{reward_at}
 use Rattle.mdp_spec.specs.Labels.{place_of, marks_of, initial_of}
 use Rattle.mdp_spec.specs.Mdp.{Mdp, states_of, value_at}
+use Rattle.mdp_rows.specs.Negative.{has_negative}
 use Rattle.mdp_rows.specs.declared.dir.Dir.{Dir}
 use Rattle.mdp_path.specs.Ends.{capped}
 use Rattle.mdp_path.specs.Queries.{WideTerm}
 use Rattle.mdp_reach.specs.Query.{Answer, EndsSo}
+use Rattle.mdp_reward.specs.Query as rewarded
 use Rattle.mdp_cert.specs.Cert as certificate
-use Rattle.mdp_cert.specs.Cert.{Certificate}
+use Rattle.mdp_cert.specs.Cert.{PlainClaim, PlainBody, Certificate}
 use Rattle.mdp_cert.specs.Spelling.{text_of}
 use Rattle.mdp_cert.specs.declared.init.Init.{Init}
-use Rattle.mdp_cert.specs.declared.init.Init.TheVariants.{Missing, Finite}
-use Rattle.mdp_job.specs.Job.{PlainQuery, reach}
-use Rattle.mdp_job.specs.Refusal.{PlainRefusal, query_label, too_wide}
+use Rattle.mdp_cert.specs.declared.init.Init.TheVariants.{Missing, Finite, Infinite}
+use Rattle.mdp_job.specs.Job.{PlainQuery, reach, reward}
+use Rattle.mdp_job.specs.Refusal.{PlainRefusal, query_reward, query_label, query_negative, too_wide}
 use Rattle.mdp_step.specs.Files.{IsDueToModel}
 use Rattle.mdp_step.specs.Said.{Said}
 
--- what the line `init` says: the one initial state and its value
-abbrev pub init_by : Option ℕ → List ℚ → Init
-init_by None values = Missing
-init_by (Some s) values = Finite s (value_at values s)
+-- ---- the certificate of an answer
 
--- the certificate of an answer: the claim that its values are the greatest, or the least, probabilities of reaching the label
+-- a state and its value, which is a fraction or infinite
+abbrev pub init_at : ℕ → Option ℚ → Init
+init_at s None = Infinite s
+init_at s (Some x) = Finite s x
+
+-- what the line `init` says: the one initial state and its value
+abbrev pub init_by : Option ℕ → (ℕ → Option ℚ) → Init
+init_by None value = Missing
+init_by (Some s) value = init_at s (value s)
+
+abbrev pub certificate_by : PlainClaim → PlainBody → (ℕ → Option ℚ) → Mdp → Certificate
+certificate_by claim body value m = record { claim = claim; states = states_of m; init = init_by (initial_of m) value; body = body }
+
+-- the claim that the values are the greatest, or the least, probabilities of reaching the label
 abbrev pub certificate_of : Dir → List ℕ → Mdp → Answer → Certificate
-certificate_of dir label m a = record { claim = certificate.reach dir label; states = states_of m; init = init_by (initial_of m) a.values; body = certificate.policy a.values a.choices a.ranks }
+certificate_of dir label m a = certificate_by (certificate.reach dir label) (certificate.policy a.values a.choices a.ranks) (λ s. Some (value_at a.values s)) m
+
+-- the claim that they are the greatest, or the least, rewards of this name until the label
+abbrev pub reward_certificate_of : Dir → List ℕ → List ℕ → Mdp → rewarded.Answer → Certificate
+reward_certificate_of dir name label m a = certificate_by (certificate.reward dir name label) (certificate.rewards a.values a.choices a.ranks) (reward_at a.values) m
 
 -- its text of version 2; or the first term past width, where a round above 2^64 - 1 is given as 2^64 - 1
+abbrev pub said_by : {A : Type 0} → (A → Certificate) → Result A WideTerm → Said
+said_by certificate (Ok a) = Ok (text_of (certificate a))
+said_by certificate (Err w) = Err (too_wide (record { part = w.part; number = capped w.number; policy = w.policy; kind = w.kind; state = w.state; choice = w.choice }))
+
 abbrev pub said_of_end : Dir → List ℕ → Mdp → Result Answer WideTerm → Said
-said_of_end dir label m (Ok a) = Ok (text_of (certificate_of dir label m a))
-said_of_end dir label m (Err w) = Err (too_wide (record { part = w.part; number = capped w.number; policy = w.policy; kind = w.kind; state = w.state; choice = w.choice }))
+said_of_end dir label m = said_by (certificate_of dir label m)
+
+abbrev pub said_of_reward_end : Dir → List ℕ → List ℕ → Mdp → Result rewarded.Answer WideTerm → Said
+said_of_reward_end dir name label m = said_by (reward_certificate_of dir name label m)
+
+-- ---- a query
 
 -- the query with the states of the label as goals ends, and this is said of its end
 abbrev pub IsReachDue : Dir → List ℕ → Mdp → Option ℕ → Said → Type 0
 IsReachDue dir label m None said = said ≡ Err query_label
 IsReachDue dir label m (Some l) said = (end : Result Answer WideTerm) × EndsSo dir m (marks_of m l) end × (said ≡ said_of_end dir label m end)
 
+-- where no reward of the name of place r is below 0, the query with the states of label l as goals ends, and this is said of its end
+abbrev pub IsRewardEnd : Dir → List ℕ → List ℕ → Mdp → ℕ → ℕ → Bool → Said → Type 0
+IsRewardEnd dir name label m r l true said = said ≡ Err query_negative
+IsRewardEnd dir name label m r l false said =
+    (end : Result rewarded.Answer WideTerm) × rewarded.EndsSo dir m r (marks_of m l) end × (said ≡ said_of_reward_end dir name label m end)
+
+-- the name is looked up first, then the label
+abbrev pub IsRewardDue : Dir → List ℕ → List ℕ → Mdp → Option ℕ → Option ℕ → Said → Type 0
+IsRewardDue dir name label m None label_place said = said ≡ Err query_reward
+IsRewardDue dir name label m (Some r) None said = said ≡ Err query_label
+IsRewardDue dir name label m (Some r) (Some l) said = IsRewardEnd dir name label m r l (has_negative m r) said
+
 abbrev pub IsQueryDue : Dir → PlainQuery → Mdp → Said → Type 0
 IsQueryDue dir (reach label) m said = IsReachDue dir label m (place_of label m.labels) said
+IsQueryDue dir (reward name label) m said = IsRewardDue dir name label m (place_of name m.names) (place_of label m.labels) said
 
--- the model is judged first, then the label
+-- the model is judged first, then the query
 abbrev pub IsSolveDue : Dir → PlainQuery → Result Mdp PlainRefusal → Said → Type 0
 IsSolveDue dir query = IsDueToModel (IsQueryDue dir query)

@@ -1,25 +1,30 @@
 -- Laws of what is due to a query, over the definitions alone.
-use Rattle.std.specs.Prelude.{◌≡◌, ℕ, Bool, List, Some, Ok}
+use Rattle.std.specs.Prelude.{◌≡◌, ℕ, Bool, false, List, Some, Ok}
 use Rattle.mdp_spec.specs.Labels.{place_of, marks_of}
 use Rattle.mdp_spec.specs.Mdp.{Mdp}
-use Rattle.mdp_spec.specs.Bounds.{ReachMax, ReachMin}
+use Rattle.mdp_spec.specs.Bounds.{ReachMax, ReachMin, RewardMax, RewardMin}
 use Rattle.mdp_spec.specs.Row.{IsMdp}
+use Rattle.mdp_rows.specs.Negative.{has_negative}
 use Rattle.mdp_rows.specs.declared.dir.Dir.{Dir}
 use Rattle.mdp_rows.specs.declared.dir.Dir.TheVariants.{Max, Min}
 use Rattle.mdp_rows.specs.declared.rule.RowRule.{RowRule}
 use Rattle.mdp_farkas.specs.Reach.{IsReach}
+use Rattle.mdp_farkas.specs.Reward.{IsReward}
 use Rattle.mdp_reach.specs.Query.{Answer}
+use Rattle.mdp_reward.specs.Query as rewarded
 use Rattle.mdp_cert.specs.Spelling.{text_of}
-use Rattle.mdp_job.specs.Job.{PlainQuery, reach}
+use Rattle.mdp_job.specs.Job.{PlainQuery, reach, reward}
 use Rattle.mdp_step.specs.Files.{model_due}
 use Rattle.mdp_step.specs.Said.{Said}
-use Rattle.mdp_solve_step.specs.Due.{certificate_of, IsSolveDue}
+use Rattle.mdp_solve_step.specs.Due.{certificate_of, reward_certificate_of, IsSolveDue}
 
 -- what is due to a query and to the model's bytes is one thing
 abbrev pub IsDueOnce : Type 0
 IsDueOnce =
     (rule : RowRule) (dir : Dir) (query : PlainQuery) (model : List ℕ) (said again : Said) → IsSolveDue dir query (model_due rule model) said
     → IsSolveDue dir query (model_due rule model) again → said ≡ again
+
+-- ---- reaching a label
 
 -- the values are the greatest, or the least, probabilities of reaching a goal
 abbrev pub IsBest : Dir → Mdp → List Bool → Answer → Type 0
@@ -40,3 +45,26 @@ abbrev pub TextIsAnswer : Type 0
 TextIsAnswer =
     (rule : RowRule) (dir : Dir) (label model text : List ℕ) (m : Mdp) → model_due rule model ≡ Ok m → IsMdp m → IsSolveDue dir (reach label) (model_due rule model) (Ok text)
     → IsAnswerTo dir label m text
+
+-- ---- the reward of a name until a label
+
+-- the values are the greatest, or the least, rewards until a goal
+abbrev pub IsBestReward : Dir → Mdp → ℕ → List Bool → rewarded.Answer → Type 0
+IsBestReward Max m r goals a = RewardMax m r goals a.choices a.values
+IsBestReward Min m r goals a = RewardMin m r goals a.choices a.values
+
+pub record IsRewardAnswerTo (dir : Dir) (name label : List ℕ) (m : Mdp) (text : List ℕ) : Type 0 where
+  pub named : ℕ
+  pub named_so : place_of name m.names ≡ Some named
+  pub place : ℕ
+  pub found : place_of label m.labels ≡ Some place
+  pub none_negative : has_negative m named ≡ false
+  pub answer : rewarded.Answer
+  pub spelled : text ≡ text_of (reward_certificate_of dir name label m answer)
+  pub rules : IsReward dir m named (marks_of m place) answer.values answer.choices answer.ranks
+  pub best : IsBestReward dir m named (marks_of m place) answer
+
+abbrev pub RewardTextIsAnswer : Type 0
+RewardTextIsAnswer =
+    (rule : RowRule) (dir : Dir) (name label model text : List ℕ) (m : Mdp) → model_due rule model ≡ Ok m → IsMdp m → IsSolveDue dir (reward name label) (model_due rule model) (Ok text)
+    → IsRewardAnswerTo dir name label m text

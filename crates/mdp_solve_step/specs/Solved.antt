@@ -4,11 +4,11 @@ use Rattle.mdp_spec.specs.Mdp.{Mdp}
 use Rattle.mdp_rows.specs.declared.dir.Dir.{Dir}
 use Rattle.mdp_rows.specs.declared.rule.RowRule.{RowRule}
 use Rattle.mdp_cert.specs.Cert as certificate
-use Rattle.mdp_cert.specs.Cert.{Certificate}
+use Rattle.mdp_cert.specs.Cert.{PlainClaim, Certificate}
 use Rattle.mdp_cert.specs.Reading.{outcome}
 use Rattle.mdp_cert.specs.Spelling.{text_of}
 use Rattle.mdp_check.specs.Check.{IsAccepted, IsBound}
-use Rattle.mdp_job.specs.Job.{PlainQuery, reach}
+use Rattle.mdp_job.specs.Job.{PlainQuery, reach, reward}
 use Rattle.mdp_step.specs.Accepted.{IsTrueClaim}
 use Rattle.mdp_step.specs.Files.{most_bytes}
 use Rattle.mdp_step.specs.Read.{IsWorkOnModel}
@@ -16,28 +16,44 @@ use Rattle.mdp_step.specs.Said.{Said}
 use Rattle.mdp_step.specs.Streams.{Input}
 use Rattle.mdp_solve_step.specs.Due.{IsQueryDue}
 
--- the text of a certificate for the model, of the claim in this direction on this label, which reads as it; all rules hold, and the claim is true
-pub record IsReachPrinted (dir : Dir) (label : List ℕ) (m : Mdp) (text : List ℕ) : Type 0 where
+-- the text of a certificate of this claim for the model, which reads as it; all rules hold, and the claim is true
+pub record IsClaimPrinted (claimed : PlainClaim) (m : Mdp) (text : List ℕ) : Type 0 where
   pub cert : Certificate
-  pub claim : cert.claim ≡ certificate.reach dir label
+  pub claim : cert.claim ≡ claimed
   pub spelled : text ≡ text_of cert
   pub short : length text ≤ most_bytes
   pub reads : outcome text ≡ Ok cert
   pub holds : IsAccepted m cert
   pub bound : IsBound m cert
 
-abbrev pub IsPrinted : Dir → PlainQuery → Mdp → List ℕ → Type 0
-IsPrinted dir (reach label) m text = IsReachPrinted dir label m text
+abbrev pub IsReachPrinted : Dir → List ℕ → Mdp → List ℕ → Type 0
+IsReachPrinted dir label = IsClaimPrinted (certificate.reach dir label)
 
--- `check` accepts the text with the model's bytes, and its claim, in this direction on this label, is true: the values are the greatest, or the
--- least, probabilities of reaching a state with the label, and the policy comes close to them
-pub record IsReachSolved (rule : RowRule) (dir : Dir) (label model_bytes text : List ℕ) : Type 0 where
+abbrev pub IsRewardPrinted : Dir → List ℕ → List ℕ → Mdp → List ℕ → Type 0
+IsRewardPrinted dir name label = IsClaimPrinted (certificate.reward dir name label)
+
+abbrev pub IsPrinted : Dir → PlainQuery → Mdp → List ℕ → Type 0
+IsPrinted dir (reach label) = IsReachPrinted dir label
+IsPrinted dir (reward name label) = IsRewardPrinted dir name label
+
+-- `check` accepts the text with the model's bytes, and its claim, which is this one, is true: the values are the best ones, and the policy comes
+-- close to them
+pub record IsClaimSolved (rule : RowRule) (claimed : PlainClaim) (model_bytes text : List ℕ) : Type 0 where
   pub true_claim : IsTrueClaim rule model_bytes text
-  pub claim : true_claim.accepted.cert.claim ≡ certificate.reach dir label
+  pub claim : true_claim.accepted.cert.claim ≡ claimed
   pub spelled : text ≡ text_of true_claim.accepted.cert
 
+-- the claim that the values are the greatest, or the least, probabilities of reaching a state with the label
+abbrev pub IsReachSolved : RowRule → Dir → List ℕ → List ℕ → List ℕ → Type 0
+IsReachSolved rule dir label = IsClaimSolved rule (certificate.reach dir label)
+
+-- the claim that they are the greatest, or the least, rewards of this name until such a state
+abbrev pub IsRewardSolved : RowRule → Dir → List ℕ → List ℕ → List ℕ → List ℕ → Type 0
+IsRewardSolved rule dir name label = IsClaimSolved rule (certificate.reward dir name label)
+
 abbrev pub IsSolved : RowRule → Dir → PlainQuery → List ℕ → List ℕ → Type 0
-IsSolved rule dir (reach label) model_bytes text = IsReachSolved rule dir label model_bytes text
+IsSolved rule dir (reach label) = IsReachSolved rule dir label
+IsSolved rule dir (reward name label) = IsRewardSolved rule dir name label
 
 -- a query of the model of a source: what is due to the bytes that it had, and what is shown of a text; or a fault, or want of memory
 abbrev pub IsSolveRead : RowRule → Dir → PlainQuery → Input → Said → Type 0

@@ -1,0 +1,15 @@
+use Rattle.std.proofs.Common.{Some, refl, arith}
+use Rattle.mdp_cert.specs.Cert.{reach}
+use Rattle.mdp_spec.specs.Mdp.{value_at}
+use Rattle.mdp_solve_step.proofs.Printing.{init_inside, body_entries}
+use Rattle.mdp_solve_step.proofs.certificate.certificate_of.Goals as goal
+
+pub invariant_of-result : goal.invariant_of-result
+invariant_of-result c = record {
+  some = let e = c.states.ensures in let l = c.known.ensures.mdp.some in omega (arith, e, l);
+  limit = let e = c.states.ensures in let l = c.known.ensures.mdp.few in omega (arith, e, l);
+  names = c.requires.name;
+  inside = init_inside (reach c.args.dir c.args.label.items) c.args.model.now (λ s. Some (value_at c.deref-4.result.now s)) c.states.result
+    c.init_of-init.result c.states.ensures (λ s. refl) c.init_of-init.ensures;
+  entries = body_entries c.args.dir c.args.label.items _ _ _ _ _ c.states.ensures c.requires.values c.requires.choices c.requires.ranks;
+}
