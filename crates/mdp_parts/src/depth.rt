@@ -110,11 +110,7 @@ impl Search {
 }
 
 /// The states in the order in which a search in depth is done with them.
-pub(crate) fn depth_order(
-    alloc: Global,
-    edges: &Edges,
-    states: u32,
-) -> Result<Vec<u32>, AllocError>
+pub(crate) fn depth_order(alloc: Global, edges: &Edges, states: u32) -> Result<Vec<u32>, AllocError>
     requires states { length edges.now ≡ states }
     requires edges { AreEdges (length edges.now) edges.now }
     ensures { IfOk result (λ order. IsOrder edges.now order.items) }
