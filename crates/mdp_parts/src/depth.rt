@@ -26,13 +26,13 @@ fn first_unmet(targets: &[u32], from: usize, met: &Marks) -> Option<usize>
 #[derive(Drop)]
 struct Search {
     /// The states on the way from the root to the one that is looked at.
-    way: Vec<u32>,
+    pub way: Vec<u32>,
     /// For each state how many of its edges were looked at.
-    next: Vec<usize>,
+    pub next: Vec<usize>,
     /// The states that were met.
-    met: Marks,
+    pub met: Marks,
     /// The states that are done with, in that order.
-    done: Vec<u32>,
+    pub done: Vec<u32>,
 }
 
 impl Search {
