@@ -1,9 +1,8 @@
 -- The laws of end components, and that a pass within one arrives with probability 1.
-use Rattle.std.proofs.Common.{◌≡◌, ℕ, ◌<◌, ◌≤◌, Bool, true, false, ◌&&◌, nat_lt, ltb-true, List, length, get_or, refl, sym, ap, ◌∙◌, subst, arith}
+use Rattle.std.proofs.Common.{◌≡◌, ℕ, ◌<◌, true, false, ◌&&◌, nat_lt, ltb-true, length, get_or, sym, ◌∙◌, subst, arith}
 use Rattle.std.proofs.lemmas.Bool.{and_parts}
 use Rattle.std.proofs.lemmas.List.Folds.{Any-from_list_any}
-use Rattle.mdp_spec.specs.Mdp.{Entry, Mdp, states_of, choices_at, row_at}
-use Rattle.mdp_spec.specs.Row.{IsMdp}
+use Rattle.mdp_spec.specs.Mdp.{Entry, states_of, choices_at, row_at}
 use Rattle.mdp_spec.specs.Tree.{unfolded}
 use Rattle.mdp_spec.proofs.Arrives.{arrives_by_ranks}
 use Rattle.mdp_spec.proofs.Keeping.{Follows, keeps_unfolded}
@@ -11,7 +10,6 @@ use Rattle.mdp_graph.specs.Sets.{marked, can_enter, stays_in}
 use Rattle.mdp_graph.specs.Reach.{falls}
 use Rattle.mdp_graph.proofs.RowSets.{list_all-at, enters-at, enters-by}
 use Rattle.mdp_ends.specs.Ends.{in_part, is_inside, part_of}
-use Rattle.mdp_ends.specs.Toward.{IsToward}
 use Rattle.mdp_ends.proofs.Walking.{stays-at, stays-by, target-below}
 use Rattle.mdp_ends.proofs.RoundLaws.{number-has, inside-stays}
 use Rattle.mdp_ends.proofs.EndLaws.{maximal_share_none}

@@ -1,15 +1,14 @@
 -- Small cases, computed: what the definitions say, and what they refuse.
-use Rattle.std.proofs.Common.{◌≡◌, ℕ, Bool, true, false, List, [], ◌∷◌, map, refl, pos, Option, Some, None}
+use Rattle.std.proofs.Common.{◌≡◌, ℕ, true, false, List, [], ◌∷◌, map, refl, pos, Some, None}
 use Rattle.std.specs.List.{range_with_len}
-use Rattle.mdp_math.specs.Gcd.{gcd, gcd_with_fuel}
-use Rattle.mdp_math.specs.Rational.{of_int, ratio}
-use Rattle.mdp_spec.specs.Mdp.{Entry, Choice, State, Mdp}
+use Rattle.mdp_math.specs.Rational.{of_int}
+use Rattle.mdp_spec.specs.Mdp.{Choice, State, Mdp}
 use Rattle.mdp_graph.specs.Choices.{first_passing}
 use Rattle.mdp_ends.specs.Ends.{is_inside, count_of}
 use Rattle.mdp_ends.specs.Numbers.{is_numbered, count_from}
 use Rattle.mdp_ends.specs.Rounds.{keeps_part}
 use Rattle.mdp_ends.specs.Toward.{target_in}
-use Rattle.mdp_parts.specs.Allowed.{allowed_at, each_true}
+use Rattle.mdp_parts.specs.Allowed.{each_true}
 use Rattle.mdp_parts.specs.FoundEnds.{FoundEnds, inner_at}
 use Rattle.mdp_parts.specs.Inner.{may_fall_inside}
 use Rattle.mdp_parts.specs.Round.{key_of}

@@ -1,6 +1,6 @@
 -- Groups of states that are taken backwards, one after the other.
 use Rattle.std.proofs.Common.{◌≡◌, ◌⊎◌, inl, inr, ℕ, suc, zero, ◌+◌, ◌<◌, ◌≤◌, Bool, true, false, ◌||◌, ◌&&◌, ◌==◌, cond, List, [], ◌∷◌, length, get_or, replicate, refl, sym, ap, ◌∙◌, subst, arith, Option, Some, None, is_none, is_some}
-use Rattle.std.proofs.lemmas.Bool.{false≢true, cases_Bool, cases_eq, cases_lt, eqb-true, eq-eqb, or_cases}
+use Rattle.std.proofs.lemmas.Bool.{false≢true, cases_Bool, cases_eq, eqb-true, eq-eqb, or_cases}
 use Rattle.std.proofs.lemmas.List.{length-replicate, get_or-replicate}
 use Rattle.std.proofs.lemmas.List.Folds.{sum_by-replicate}
 use Rattle.std.proofs.lemmas.List.Sums.{sum_by-set}
@@ -11,7 +11,7 @@ use Rattle.mdp_graph.specs.Edges.{has_edge, predecessors_of, AreEdges}
 use Rattle.mdp_graph.specs.Layers.{rank_at}
 use Rattle.mdp_graph.specs.Ranking.{given, unranked, IsGiven}
 use Rattle.mdp_graph.proofs.Among.{cases_rank}
-use Rattle.mdp_ends.specs.Walks.{Reaches, AreJoined, chosen_step}
+use Rattle.mdp_ends.specs.Walks.{Reaches, AreJoined}
 use Rattle.mdp_ends.specs.DepthFirst.{StandsIn, IsSearching}
 use Rattle.mdp_ends.proofs.Walking.{step-has, step-by, here, one_more, walk_to, and_then, joined_trans}
 use Rattle.mdp_ends.proofs.Closing.{reaches, reaches_by}
@@ -229,14 +229,15 @@ module _ (back : List (List ℕ)) (order : List ℕ) (n : ℕ) (edges : AreEdges
 
         -- a state that takes the number comes to the root
         comes : (s : ℕ) → s < n → rank_at numbers s ≡ None → rank_at new s ≡ Some number → Reaches m chosen s root
-        comes s h e g =
-            (states_of m,
-            taken.least (λ x. reaches m ok chosen x root) (reaches_by m ok chosen root root (in_m root root_below) (here m chosen root))
-            (λ x y hx hy edge known.
-            (let lx = in_m x (omega (arith, hx, a.count)) in
-            let ly = in_m y (omega (arith, hy, a.count)) in
-            let z = step-has m chosen (λ u. u == y) x (sym (src.leads x y lx ly) ∙ edge) in
-            reaches_by m ok chosen x root lx (one_more m chosen x z.0 z.1 root z.2 z.3 z.4 (subst (λ u. Reaches m chosen u root) (sym (eqb-true z.1 y z.5)) (states_of m, known))))) s (size s h) e g)
+        comes s h e g = (
+          states_of m,
+          taken.least (λ x. reaches m ok chosen x root) (reaches_by m ok chosen root root (in_m root root_below) (here m chosen root))
+              (λ x y hx hy edge known.
+              (let lx = in_m x (omega (arith, hx, a.count)) in
+              let ly = in_m y (omega (arith, hy, a.count)) in
+              let z = step-has m chosen (λ u. u == y) x (sym (src.leads x y lx ly) ∙ edge) in
+              reaches_by m ok chosen x root lx (one_more m chosen x z.0 z.1 root z.2 z.3 z.4 (subst (λ u. Reaches m chosen u root) (sym (eqb-true z.1 y z.5)) (states_of m, known))))) s (size s h) e g,
+        )
 
         -- so it is joined with the root
         joined_root : (s : ℕ) → s < n → rank_at numbers s ≡ None → rank_at new s ≡ Some number → AreJoined m chosen s root

@@ -1,23 +1,20 @@
 -- A pass within a part, by inner choices.
-use Rattle.std.proofs.Common.{◌≡◌, ◌⊎◌, inl, inr, ℕ, zero, suc, ◌+◌, ◌<◌, ◌≤◌, Bool, true, false, ◌||◌, ◌&&◌, ◌==◌, nat_lt, lt-ltb, le-ltb, List, [], length, map, get_or, refl, sym, ap, ◌∙◌, subst, arith, Option, Some, None, is_some}
+use Rattle.std.proofs.Common.{◌≡◌, inl, inr, ℕ, zero, suc, ◌<◌, Bool, true, false, ◌||◌, ◌&&◌, ◌==◌, nat_lt, lt-ltb, le-ltb, List, length, map, get_or, refl, sym, ap, ◌∙◌, subst, arith, Option, Some, None, is_some}
 use Rattle.std.specs.List.{list_any, range_with_len}
-use Rattle.std.proofs.lemmas.Bool.{false≢true, cases_Bool, and_parts, and_from, eqb-true, eq-eqb}
+use Rattle.std.proofs.lemmas.Bool.{false≢true, cases_Bool, and_from, eqb-true, eq-eqb}
 use Rattle.std.proofs.lemmas.List.{get_or-map, length-map}
-use Rattle.std.proofs.lemmas.List.FromFn.{get_or-map-range_with_len, length-map-range_with_len}
+use Rattle.std.proofs.lemmas.List.FromFn.{get_or-map-range_with_len}
 use Rattle.mdp_math.specs.Rational.{ℚ}
 use Rattle.mdp_math.proofs.Booleans.{and-false}
 use Rattle.mdp_spec.specs.Mdp.{Mdp, states_of, choices_at, row_at}
 use Rattle.mdp_spec.specs.Row.{IsMdp, entries}
-use Rattle.mdp_graph.specs.Edges.{has_edge}
 use Rattle.mdp_graph.specs.Sets.{marked, can_enter}
 use Rattle.mdp_graph.specs.Layers.{reached, rank_at, AreRanks, AreReached, AreLeastRanks}
 use Rattle.mdp_graph.specs.Ranking.{AreRankedBy}
 use Rattle.mdp_graph.specs.Choices.{plain_rank, is_before, first_passing, AreLeast}
-use Rattle.mdp_graph.specs.Reach.{falls}
-use Rattle.mdp_graph.proofs.RowSets.{enters-at, enters-by, enters-same, enters-never}
+use Rattle.mdp_graph.proofs.RowSets.{enters-by, enters-same, enters-never}
 use Rattle.mdp_ends.specs.Ends.{in_part, is_inside, count_of}
 use Rattle.mdp_ends.specs.Toward.{inner_step, target_in, inner_falls, IsToward}
-use Rattle.mdp_ends.specs.Walks.{chosen_step}
 use Rattle.mdp_ends.proofs.Walking.{step-has, step-by, target-below}
 use Rattle.mdp_parts.specs.Targets.{AreTargets, AreReversed}
 use Rattle.mdp_parts.specs.Numbered.{AreSources}

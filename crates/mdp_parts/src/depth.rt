@@ -26,13 +26,13 @@ fn first_unmet(targets: &[u32], from: usize, met: &Marks) -> Option<usize>
 #[derive(Drop)]
 struct Search {
     /// The states on the way from the root to the one that is looked at.
-    way: Vec<u32>,
+    pub way: Vec<u32>,
     /// For each state how many of its edges were looked at.
-    next: Vec<usize>,
+    pub next: Vec<usize>,
     /// The states that were met.
-    met: Marks,
+    pub met: Marks,
     /// The states that are done with, in that order.
-    done: Vec<u32>,
+    pub done: Vec<u32>,
 }
 
 impl Search {
@@ -110,11 +110,7 @@ impl Search {
 }
 
 /// The states in the order in which a search in depth is done with them.
-pub(crate) fn depth_order(
-    alloc: Global,
-    edges: &Edges,
-    states: u32,
-) -> Result<Vec<u32>, AllocError>
+pub(crate) fn depth_order(alloc: Global, edges: &Edges, states: u32) -> Result<Vec<u32>, AllocError>
     requires states { length edges.now ≡ states }
     requires edges { AreEdges (length edges.now) edges.now }
     ensures { IfOk result (λ order. IsOrder edges.now order.items) }

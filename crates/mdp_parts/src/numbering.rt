@@ -58,8 +58,8 @@ pub(crate) fn group_back(
 /// Numbers in the order of the least states, and how many there are.
 #[derive(Drop)]
 pub(crate) struct Numbering {
-    pub(crate) numbers: Vec<Option<u32>>,
-    pub(crate) count: u32,
+    pub numbers: Vec<Option<u32>>,
+    pub count: u32,
 }
 
 /// Numbers groups of states by their least states: two states get the same number where they have the same key, and none where they have none.

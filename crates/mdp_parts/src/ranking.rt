@@ -56,13 +56,13 @@ pub(crate) fn no_numbers(alloc: Global, states: u32) -> Result<Vec<Option<u32>>,
 }
 
 /// The numbers; 0 where there is none.
-pub(crate) fn plain_numbers(
-    alloc: Global,
-    numbers: &[Option<u32>],
-) -> Result<Vec<u32>, AllocError>
+pub(crate) fn plain_numbers(alloc: Global, numbers: &[Option<u32>]) -> Result<Vec<u32>, AllocError>
     ensures { IfOk result (λ plain. plain.items ≡ map plain_rank numbers.now) }
 {
-    numbers.iter().map(|number| number.unwrap_or(0)).collect(alloc)
+    numbers
+        .iter()
+        .map(|number| number.unwrap_or(0))
+        .collect(alloc)
 }
 
 /// Whether each state has a number.

@@ -7,9 +7,9 @@ ghost use Rattle.mdp_parts.specs.FoundEnds.{AreEndsOf};
 ghost use Rattle.mdp_parts.specs.Round.{some_allowed, key_of, IsRound, IsForbidden};
 
 use crate::allowed::Allowed;
-use crate::strong::components;
 use crate::ends::Ends;
 use crate::numbering::numbered;
+use crate::strong::components;
 use mdp_num::Memory;
 use mdp_rows::Model;
 use std::alloc::{AllocError, Global};

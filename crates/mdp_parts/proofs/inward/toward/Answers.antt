@@ -1,8 +1,5 @@
-use Rattle.std.proofs.Common.{◌≡◌, ◌<◌, ℕ, Bool, true, List, Option, length, map, is_some, sym, ap, ◌∙◌}
-use Rattle.std.specs.List.{range_with_len}
+use Rattle.std.proofs.Common.{Bool, List, length, sym, ap, ◌∙◌}
 use Rattle.std.proofs.lemmas.List.FromFn.{length-map-range_with_len}
-use Rattle.mdp_spec.specs.Mdp.{states_of}
-use Rattle.mdp_graph.specs.Choices.{plain_rank}
 use Rattle.mdp_ends.specs.Toward.{target_in}
 use Rattle.mdp_parts.specs.Allowed.{allowed_at}
 use Rattle.mdp_parts.proofs.ComponentsFound.{targets_edges}

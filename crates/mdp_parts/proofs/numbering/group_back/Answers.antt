@@ -1,5 +1,4 @@
-use Rattle.std.proofs.Common.{◌≡◌, ◌<◌, ◌+◌, ◌-◌, ℕ, Option, Some, None, length, get_or, is_none, not, refl, sym, ap, ◌∙◌, subst, arith}
-use Rattle.mdp_graph.specs.Layers.{rank_at}
+use Rattle.std.proofs.Common.{◌≡◌, ◌+◌, ◌-◌, ℕ, get_or, is_none, not, refl, ap, ◌∙◌, subst, arith}
 use Rattle.mdp_parts.proofs.Grouping.{IsGrouping, grouping_skip, grouping_more, grouped, free_root, read_at}
 use Rattle.mdp_parts.proofs.numbering.group_back.Goals as goal
 

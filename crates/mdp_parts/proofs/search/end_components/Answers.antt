@@ -1,8 +1,7 @@
-use Rattle.std.proofs.Common.{◌≡◌, ◌<◌, ℕ, Bool, true, false, List, Option, length, map, sym, ap, ◌∙◌, subst, arith}
+use Rattle.std.proofs.Common.{◌≡◌, ℕ, Bool, false, List, Option, length, map, sym, ap, ◌∙◌, subst, arith}
 use Rattle.std.specs.List.{range_with_len}
 use Rattle.std.proofs.lemmas.List.FromFn.{length-map-range_with_len}
 use Rattle.mdp_spec.specs.Mdp.{states_of}
-use Rattle.mdp_graph.specs.Layers.{rank_at}
 use Rattle.mdp_parts.specs.FoundEnds.{FoundEnds, AreEndsOf}
 use Rattle.mdp_parts.specs.Round.{IsRound, key_of}
 use Rattle.mdp_parts.specs.Numbered.{IsRenumbered}

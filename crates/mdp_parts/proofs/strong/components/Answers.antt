@@ -1,10 +1,7 @@
-use Rattle.std.proofs.Common.{◌≡◌, ◌<◌, ◌^◌, ℕ, List, Option, length, map, sym, ap, ◌∙◌, subst, arith}
-use Rattle.mdp_spec.specs.Mdp.{states_of}
-use Rattle.mdp_graph.specs.Choices.{plain_rank}
-use Rattle.mdp_ends.specs.Walks.{AreComponents}
+use Rattle.std.proofs.Common.{ℕ, List, Option, sym, ◌∙◌, subst, arith}
 use Rattle.mdp_parts.specs.Allowed.{allowed_at}
 use Rattle.mdp_parts.specs.Numbered.{AreGrouped, IsRenumbered}
-use Rattle.mdp_parts.proofs.ComponentsFound.{targets_edges, edges_all, back_edges, order_below, order_all, groups_below, components_found}
+use Rattle.mdp_parts.proofs.ComponentsFound.{targets_edges, edges_all, order_all, groups_below, components_found}
 use Rattle.mdp_parts.proofs.strong.components.Goals as goal
 
 pub reversed-requires : goal.reversed-requires

@@ -1,5 +1,4 @@
-use Rattle.std.proofs.Common.{◌≡◌, ◌<◌, true, length, ap, ◌∙◌, sym, arith}
-use Rattle.mdp_graph.specs.Sets.{marked}
+use Rattle.std.proofs.Common.{◌<◌, length, arith}
 use Rattle.mdp_parts.proofs.Searching.{kept_mark, new_mark, search_as, root_entered}
 use Rattle.mdp_parts.proofs.depth.Search.explore.Goals as goal
 

@@ -1,8 +1,7 @@
-use Rattle.std.proofs.Common.{rules, vec_len, ◌≡◌, ℕ, ◌<◌, ◌+◌, true, List, Bool, length, get_or, set, sym, ap, ◌∙◌, subst, arith}
+use Rattle.std.proofs.Common.{rules, vec_len, ◌≡◌, ℕ, ◌<◌, ◌+◌, List, length, get_or, set, sym, ap, ◌∙◌, subst, arith}
 use Rattle.std.specs.List.{All}
 use Rattle.mdp_graph.specs.Sets.{marked}
-use Rattle.mdp_parts.specs.Searched.{IsSearch, work_left}
-use Rattle.mdp_parts.proofs.Searching.{top_below, goes_on, goes_on-less, goes_back, goes_back-less, known_before, search_as, targets_below, target_below, at_default}
+use Rattle.mdp_parts.proofs.Searching.{top_below, goes_on, goes_on-less, goes_back, known_before, search_as, targets_below, target_below, at_default}
 use Rattle.mdp_parts.proofs.depth.Search.go_on.Goals as goal
 
 pub first_unmet-requires-clause-in_range : goal.first_unmet-requires-clause-in_range

@@ -1,4 +1,4 @@
-use Rattle.std.proofs.Common.{◌≡◌, ◌<◌, sym, ap, ◌∙◌, arith, get_or, [], ℕ, List, length, ◌||◌, ◌&&◌, ◌==◌}
+use Rattle.std.proofs.Common.{◌<◌, sym, ap, ◌∙◌, arith, get_or, [], ℕ, List, ◌||◌, ◌&&◌, ◌==◌}
 use Rattle.std.proofs.lemmas.List.{length-replicate}
 use Rattle.mdp_rows.specs.Preds.{is_among}
 use Rattle.mdp_graph.specs.Edges.{has_edge}
