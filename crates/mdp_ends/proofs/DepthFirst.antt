@@ -21,22 +21,22 @@ begins m chosen = record {
 }
 
 -- a place of a list with one more is one of the list, or the last
-place_cases : (xs : List ℕ) (x k : ℕ) → k < length (xs ++ x ∷ []) → ((k < length xs) × (get_or (xs ++ x ∷ []) k 0 ≡ get_or xs k 0)) ⊎ ((k ≡ length xs) × (get_or (xs ++ x ∷ []) k 0 ≡ x))
+pub place_cases : (xs : List ℕ) (x k : ℕ) → k < length (xs ++ x ∷ []) → ((k < length xs) × (get_or (xs ++ x ∷ []) k 0 ≡ get_or xs k 0)) ⊎ ((k ≡ length xs) × (get_or (xs ++ x ∷ []) k 0 ≡ x))
 place_cases xs x k h = elim (cases_eq k (length xs)) as (λ _. ((k < length xs) × (get_or (xs ++ x ∷ []) k 0 ≡ get_or xs k 0)) ⊎ ((k ≡ length xs) × (get_or (xs ++ x ∷ []) k 0 ≡ x))) [
   | inl same ↦ inr (same, ap (λ j. get_or (xs ++ x ∷ []) j 0) same ∙ at_last xs x 0)
   | inr other ↦ (let l : k < length xs = omega (arith, h, other, length-more xs x) in inl (l, at_before xs x 0 k l))
 ]
 
-last_place : (xs : List ℕ) (x : ℕ) → length xs < length (xs ++ x ∷ [])
+pub last_place : (xs : List ℕ) (x : ℕ) → length xs < length (xs ++ x ∷ [])
 last_place xs x = omega (arith, length-more xs x)
 
-stands-more : (xs : List ℕ) (x s : ℕ) → StandsIn s xs → StandsIn s (xs ++ x ∷ [])
+pub stands-more : (xs : List ℕ) (x s : ℕ) → StandsIn s xs → StandsIn s (xs ++ x ∷ [])
 stands-more xs x s w = (w.0, omega (arith, w.1, length-more xs x), at_before xs x 0 w.0 w.1 ∙ w.2)
 
-stands-last : (xs : List ℕ) (x : ℕ) → StandsIn x (xs ++ x ∷ [])
+pub stands-last : (xs : List ℕ) (x : ℕ) → StandsIn x (xs ++ x ∷ [])
 stands-last xs x = (length xs, last_place xs x, at_last xs x 0)
 
-stands-cases : (xs : List ℕ) (x s : ℕ) → StandsIn s (xs ++ x ∷ []) → StandsIn s xs ⊎ (s ≡ x)
+pub stands-cases : (xs : List ℕ) (x s : ℕ) → StandsIn s (xs ++ x ∷ []) → StandsIn s xs ⊎ (s ≡ x)
 stands-cases xs x s w = elim (place_cases xs x w.0 w.1) as (λ _. StandsIn s xs ⊎ (s ≡ x)) [
   | inl old ↦ inl (w.0, old.0, sym old.1 ∙ w.2)
   | inr new ↦ inr (sym w.2 ∙ new.1)

@@ -89,7 +89,7 @@ module _ (m : Mdp) (ok : IsMdp m) (allowed : ℕ → ℕ → Bool) (parts : List
       let k : i ≡ j.0 = (left.same s t i j.0 hs ht e j.1).1 same in
       j.1 ∙ ap Some (sym k)
 
-  allowed_inside : (s c i : ℕ) → s < states_of m → part_of ends s ≡ Some i → c < length (choices_at m s) → allowed s c ≡ true → is_inside m ends s c ≡ true
+  pub allowed_inside : (s c i : ℕ) → s < states_of m → part_of ends s ≡ Some i → c < length (choices_at m s) → allowed s c ≡ true → is_inside m ends s c ≡ true
   allowed_inside s c i h e l a =
       inside-is m ends s c i e
       ∙ stays-by (in_part ends i) (row_at m s c)

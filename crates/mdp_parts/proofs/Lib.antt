@@ -1,0 +1,16 @@
+mod AllAllowed
+mod Arriving
+mod ComponentsFound
+mod EdgeFacts
+mod EndsFound
+mod Examples
+mod Falls
+mod Forbidding
+mod GivingRanks
+mod Grouping
+mod InnerPass
+mod RankFacts
+mod Reached
+mod Renumbering
+mod Searching
+mod Targeting

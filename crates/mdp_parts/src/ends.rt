@@ -2,13 +2,13 @@ ghost use Rattle.std.specs.Prelude.{◌≡◌, ◌<◌, [], length, slice_index_
 ghost use Rattle.mdp_graph.specs.Sets.{marked};
 ghost use Rattle.mdp_ends.specs.Ends.{part_of, count_of};
 
-use mdp_rows::Marks;
+use crate::allowed::Allowed;
 
 /// The maximal end components of a model, numbered by their least states, and which choices are inside one.
 #[derive(Drop)]
 pub struct Ends {
     parts: Vec<Option<u32>>,
-    inner: Vec<Marks>,
+    inner: Allowed,
     count: u32,
 }
 
@@ -19,22 +19,29 @@ impl std::marker::Model for Ends {
 
     ghost Value = { FoundEnds };
 
-    ghost view = { λ e. record { parts = e.parts.items; inner = e.inner.items } };
+    ghost view = { λ e. record { parts = e.parts.items; inner = e.inner } };
 
     ghost invariant = { λ e. e.count ≡ count_of e.parts.items };
 }
 
 impl Ends {
     /// What was found, with the number of end components.
-    pub(crate) fn from_parts(parts: Vec<Option<u32>>, inner: Vec<Marks>, count: u32) -> Ends
+    pub(crate) fn from_parts(parts: Vec<Option<u32>>, inner: Allowed, count: u32) -> Ends
         requires { count ≡ count_of parts.items }
-        ensures { result ≡ record { parts = parts.items; inner = inner.items } }
+        ensures { result ≡ record { parts = parts.items; inner = inner } }
     {
         Ends {
             parts,
             inner,
             count,
         }
+    }
+
+    /// Which choices are inside.
+    pub(crate) fn choices(&self) -> &Allowed
+        ensures { result.now ≡ self.now.inner }
+    {
+        &self.inner
     }
 
     /// How many maximal end components there are.
@@ -58,6 +65,6 @@ impl Ends {
         requires choice { c < length (slice_index_or self.now.inner s []) }
         ensures { result ≡ marked (slice_index_or self.now.inner s []) c }
     {
-        self.inner[s as usize].at(c)
+        self.inner.at(s, c)
     }
 }

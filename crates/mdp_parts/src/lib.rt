@@ -1,6 +1,20 @@
 //! Strong components and maximal end components of a model.
 #![tactic(auto)]
 
+mod allowed;
+mod depth;
+mod edges;
 mod ends;
+mod inward;
+mod laws;
+mod numbering;
+mod ranking;
+mod search;
+mod strong;
 
+pub use allowed::Allowed;
 pub use ends::Ends;
+pub use inward::toward;
+pub use laws::ends_law;
+pub use search::end_components;
+pub use strong::components;

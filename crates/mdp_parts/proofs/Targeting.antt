@@ -1,0 +1,74 @@
+-- The targets of allowed choices while they are gathered.
+use Rattle.std.proofs.Common.{◌≡◌, inl, inr, ℕ, ◌+◌, ◌<◌, Bool, true, false, ◌||◌, ◌&&◌, ◌==◌, List, [], ◌∷◌, ◌++◌, length, get_or, refl, sym, ap, ◌∙◌, arith}
+use Rattle.std.specs.List.{list_any, range_with_len}
+use Rattle.std.proofs.lemmas.Bool.{cases_eq}
+use Rattle.std.proofs.lemmas.List.Folds.{list_any-append}
+use Rattle.mdp_math.specs.Rational.{ℚ}
+use Rattle.mdp_math.proofs.Booleans.{or-false}
+use Rattle.mdp_math.proofs.Lists.{range_more}
+use Rattle.mdp_spec.specs.Mdp.{Mdp, states_of, choices_at, row_at}
+use Rattle.mdp_spec.specs.Row.{entries}
+use Rattle.mdp_rows.specs.Preds.{is_among}
+use Rattle.mdp_graph.specs.Sets.{can_enter}
+use Rattle.mdp_graph.proofs.Among.{among-append}
+use Rattle.mdp_ends.specs.Walks.{chosen_step}
+use Rattle.mdp_ends.proofs.NumberingFound.{length-more, at_before, at_last}
+use Rattle.mdp_parts.specs.Allowed.{allowed_at}
+use Rattle.mdp_parts.specs.Targets.{AreTargets}
+use Rattle.mdp_parts.proofs.EdgeFacts.{leads-as-among}
+
+-- choice c of state s is allowed and leads to t
+abbrev pub target_test : Mdp → List (List Bool) → ℕ → ℕ → ℕ → Bool
+target_test m allowed s t c = allowed_at allowed s c && can_enter (λ x. x == t) (row_at m s c)
+
+-- the targets of the first c choices
+pub record AreGathered (m : Mdp) (allowed : List (List Bool)) (s c : ℕ) (list : List ℕ) : Type 0 where
+  pub at : (t : ℕ) → is_among t list ≡ list_any (target_test m allowed s t) (range_with_len 0 c)
+
+pub any_more : (p : ℕ → Bool) (c : ℕ) → list_any p (range_with_len 0 (c + 1)) ≡ (list_any p (range_with_len 0 c) || p c)
+any_more p c = ap (list_any p) (range_more c) ∙ list_any-append p (range_with_len 0 c) (c ∷ []) ∙ ap (λ b. list_any p (range_with_len 0 c) || b) (or-false (p c))
+
+pub none_gathered : (m : Mdp) (allowed : List (List Bool)) (s : ℕ) (list : List ℕ) → list ≡ [] → AreGathered m allowed s 0 list
+none_gathered m allowed s list e = record { at = λ t. ap (is_among t) e }
+
+pub gathered_more : (m : Mdp) (allowed : List (List Bool)) (s c : ℕ) (list new ts : List ℕ) (ps : List ℚ) → AreGathered m allowed s c list → allowed_at allowed s c ≡ true → length ts ≡ length ps → entries ts ps ≡ row_at m s c
+    → new ≡ list ++ ts → AreGathered m allowed s (c + 1) new
+gathered_more m allowed s c list new ts ps a is same row e = record {
+  at = λ t.
+      ap (is_among t) e ∙ among-append t list ts ∙ ap (λ b. b || is_among t ts) (a.at t)
+      ∙ ap (λ b. list_any (target_test m allowed s t) (range_with_len 0 c) || b) (sym (ap (λ b. b && can_enter (λ x. x == t) (row_at m s c)) is ∙ ap (can_enter (λ x. x == t)) (sym row) ∙ leads-as-among ts ps t same))
+      ∙ sym (any_more (target_test m allowed s t) c);
+}
+
+pub gathered_skip : (m : Mdp) (allowed : List (List Bool)) (s c : ℕ) (list : List ℕ) → AreGathered m allowed s c list → allowed_at allowed s c ≡ false → AreGathered m allowed s (c + 1) list
+gathered_skip m allowed s c list a out = record {
+  at = λ t.
+      a.at t ∙ sym (or-false (list_any (target_test m allowed s t) (range_with_len 0 c))) ∙ ap (λ b. list_any (target_test m allowed s t) (range_with_len 0 c) || b) (sym (ap (λ b. b && can_enter (λ x. x == t) (row_at m s c)) out))
+      ∙ sym (any_more (target_test m allowed s t) c);
+}
+
+pub all_gathered : (m : Mdp) (allowed : List (List Bool)) (s c : ℕ) (list : List ℕ) → AreGathered m allowed s c list → c ≡ length (choices_at m s) → (t : ℕ) → is_among t list ≡ chosen_step m (allowed_at allowed) (λ x. x == t) s
+all_gathered m allowed s c list a e t = a.at t ∙ ap (λ n. list_any (target_test m allowed s t) (range_with_len 0 n)) e
+
+-- the lists of the first n states
+pub record AreTargetsBelow (m : Mdp) (chosen : ℕ → ℕ → Bool) (n : ℕ) (edges : List (List ℕ)) : Type 0 where
+  pub count : length edges ≡ n
+  pub leads : (s t : ℕ) → s < n → is_among t (get_or edges s []) ≡ chosen_step m chosen (λ x. x == t) s
+
+pub no_targets : (m : Mdp) (chosen : ℕ → ℕ → Bool) → AreTargetsBelow m chosen 0 []
+no_targets m chosen = record { count = refl; leads = λ s t h. absurd (omega (arith, h)) }
+
+pub targets_more : (m : Mdp) (chosen : ℕ → ℕ → Bool) (n : ℕ) (edges new : List (List ℕ)) (list : List ℕ) → AreTargetsBelow m chosen n edges → new ≡ edges ++ list ∷ [] → ((t : ℕ) → is_among t list ≡ chosen_step m chosen (λ x. x == t) n)
+    → AreTargetsBelow m chosen (n + 1) new
+targets_more m chosen n edges new list a e is = record {
+  count = (let c = ap (λ (xs : List (List ℕ)). length xs) e in omega (arith, c, length-more edges list, a.count));
+  leads = λ s t h. ap (λ (xs : List (List ℕ)). is_among t (get_or xs s [])) e ∙ (elim (cases_eq s n) [
+    | inl same ↦
+        (let place : s ≡ length edges = omega (arith, same, a.count) in
+        ap (λ j. is_among t (get_or (edges ++ list ∷ []) j [])) place ∙ ap (is_among t) (at_last edges list []) ∙ is t ∙ ap (λ j. chosen_step m chosen (λ x. x == t) j) (sym same))
+    | inr other ↦ (let l : s < n = omega (arith, h, other) in ap (is_among t) (at_before edges list [] s (omega (arith, l, a.count))) ∙ a.leads s t l)
+  ]);
+}
+
+pub all_targets : (m : Mdp) (chosen : ℕ → ℕ → Bool) (n : ℕ) (edges : List (List ℕ)) → AreTargetsBelow m chosen n edges → n ≡ states_of m → AreTargets m chosen edges
+all_targets m chosen n edges a e = record { count = a.count ∙ e; leads = λ s t h. a.leads s t (omega (arith, h, e)) }

@@ -1,0 +1,17 @@
+use Rattle.std.proofs.Common.{◌≡◌, ◌<◌, true, length, ap, ◌∙◌, sym, arith}
+use Rattle.mdp_graph.specs.Sets.{marked}
+use Rattle.mdp_parts.proofs.Searching.{kept_mark, new_mark, search_as, root_entered}
+use Rattle.mdp_parts.proofs.depth.Search.explore.Goals as goal
+
+pub loop-self-init : goal.loop-self-init
+loop-self-init c =
+    let self = c.args.self.now in
+    let a = c.requires.search in
+    let h : c.args.root < length self.met = omega (arith, c.requires.root, a.count_met) in
+    record {
+      search =
+          search_as c.args.edges.now _ _ _ _ _ _ _ _ c.in_ok-enter.ensures.way c.in_ok-enter.ensures.next c.in_ok-enter.ensures.met c.in_ok-enter.ensures.done
+          (root_entered c.args.edges.now self.way.items self.next.items self.met self.done.items c.args.root a c.requires.begun c.requires.root c.requires.unmet);
+      met = rw c.in_ok-enter.ensures.met (new_mark self.met c.args.root h);
+      kept = λ s e. rw c.in_ok-enter.ensures.met (kept_mark self.met c.args.root s h e);
+    }

@@ -1,0 +1,26 @@
+use Rattle.std.proofs.Common.{sym, ap, ◌∙◌, arith, None, Option, ℕ, length, ◌≡◌}
+use Rattle.std.proofs.lemmas.List.{length-replicate}
+use Rattle.mdp_rows.specs.Preds.{is_among}
+use Rattle.mdp_graph.proofs.Among.{below-all}
+use Rattle.mdp_parts.proofs.RankFacts.{started, layered_from}
+use Rattle.mdp_parts.proofs.ranking.ranks_by.Goals as goal
+
+pub give_number-requires : goal.give_number-requires
+give_number-requires c =
+    let none : Option ℕ = None in
+    let many : length c.in_ok-ranks.ranks.items ≡ c.args.states = ap length c.in_ok-ranks.ensures ∙ length-replicate c.args.states none in
+    record {
+      in_range = below-all _ _ (λ s e. (let h = c.in_ok-marked_states.ensures.below s (ap (is_among s) (sym c.deref.ensures.value) ∙ e) in omega (arith, h, many)));
+    }
+
+pub loop-alloc-init : goal.loop-alloc-init
+loop-alloc-init c =
+    started _ _ _ _ _ _ _ _ c.in_ok-ranks.ensures c.new-layer.ensures.items c.in_ok-give_number.ensures
+    (λ s h. ap (is_among s) c.deref.ensures.value ∙ c.in_ok-marked_states.ensures.marked s h)
+
+pub next_layer-requires-clause-in_range : goal.next_layer-requires-clause-in_range
+next_layer-requires-clause-in_range c =
+    below-all _ _ (λ s e. (let h = c.loop-alloc.invariant.below s (ap (is_among s) (sym c.deref-in-loop-alloc.ensures.value) ∙ e) in omega (arith, h, c.loop-alloc.invariant.count)))
+
+pub loop-alloc-preserved : goal.loop-alloc-preserved
+loop-alloc-preserved c = layered_from _ _ _ _ _ _ _ _ _ c.loop-alloc.invariant c.in_ok-layer.ensures c.deref-in-loop-alloc.ensures.value (first_of (omega arith, grind arith))

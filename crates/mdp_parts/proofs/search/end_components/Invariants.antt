@@ -1,0 +1,16 @@
+use Rattle.mdp_spec.specs.Mdp.{states_of}
+use Rattle.mdp_ends.specs.Walks.{AreComponents}
+use Rattle.mdp_ends.specs.Rounds.{KeepsEnds}
+use Rattle.mdp_ends.proofs.Existing.{total_below}
+use Rattle.mdp_parts.specs.Allowed.{allowed_at, AreChoices}
+use Rattle.mdp_parts.proofs.search.end_components.Given as goal
+
+abbrev pub invariant-loop-allowed : goal.invariant-loop-allowed
+invariant-loop-allowed l = record {
+  sizes : AreChoices l.model l.allowed;
+  keeps : KeepsEnds l.model (allowed_at l.allowed);
+  parts : AreComponents l.model (allowed_at l.allowed) l.parts.items;
+}
+
+abbrev pub decreases-loop-allowed : goal.decreases-loop-allowed
+decreases-loop-allowed l = total_below l.model (allowed_at l.allowed) (states_of l.model)

@@ -1,0 +1,35 @@
+use Rattle.std.proofs.Common.{◌≡◌, ◌<◌, ◌^◌, ℕ, List, Option, length, map, sym, ap, ◌∙◌, subst, arith}
+use Rattle.mdp_spec.specs.Mdp.{states_of}
+use Rattle.mdp_graph.specs.Choices.{plain_rank}
+use Rattle.mdp_ends.specs.Walks.{AreComponents}
+use Rattle.mdp_parts.specs.Allowed.{allowed_at}
+use Rattle.mdp_parts.specs.Numbered.{AreGrouped, IsRenumbered}
+use Rattle.mdp_parts.proofs.ComponentsFound.{targets_edges, edges_all, back_edges, order_below, order_all, groups_below, components_found}
+use Rattle.mdp_parts.proofs.strong.components.Goals as goal
+
+pub reversed-requires : goal.reversed-requires
+reversed-requires c =
+    let m = c.args.model.now in
+    record {
+      states = c.in_ok-edges.ensures.count ∙ sym c.states.ensures;
+      edges = targets_edges m c.known.ensures.mdp (allowed_at c.args.allowed.now) c.in_ok-edges.edges c.states.result c.in_ok-edges.ensures c.states.ensures;
+    }
+
+pub depth_order-requires-clause-edges : goal.depth_order-requires-clause-edges
+depth_order-requires-clause-edges c = edges_all c.args.model.now c.known.ensures.mdp (allowed_at c.args.allowed.now) c.in_ok-edges.edges c.in_ok-edges.ensures
+
+pub group_back-requires-clause-all : goal.group_back-requires-clause-all
+group_back-requires-clause-all c =
+    order_all c.in_ok-edges.edges c.in_ok-order.order.items c.deref.result.now c.states-3.result c.in_ok-order.ensures c.deref.ensures.value (c.in_ok-edges.ensures.count ∙ sym c.states-3.ensures)
+
+pub numbered-requires-clause-below : goal.numbered-requires-clause-below
+numbered-requires-clause-below c = λ s k h e.
+    (let l = groups_below c.in_ok-back.back c.deref.result.now c.states-3.result c.in_ok-groups.groups.items c.deref-2.result.now c.in_ok-groups.ensures c.deref-2.ensures.value s k h e in omega (arith, l, c.states-3.ensures, c.states-4.ensures))
+
+pub returns : goal.returns
+returns c =
+    let m = c.args.model.now in
+    rw (c.in_ok-plain_numbers.ensures, c.deref-3.ensures.value)
+    (components_found m c.known.ensures.mdp (allowed_at c.args.allowed.now) c.in_ok-edges.edges c.in_ok-back.back c.in_ok-order.order.items c.in_ok-groups.groups.items c.in_ok-numbering.numbering.numbers.items c.states-3.result c.states-3.ensures c.in_ok-edges.ensures c.in_ok-back.ensures c.in_ok-order.ensures
+    (subst (λ (xs : List ℕ). AreGrouped c.in_ok-back.back xs c.states-3.result c.in_ok-groups.groups.items) c.deref.ensures.value c.in_ok-groups.ensures)
+    (subst (λ (xs : List (Option ℕ)). IsRenumbered xs c.in_ok-numbering.numbering.numbers.items) c.deref-2.ensures.value c.in_ok-numbering.ensures.numbers))

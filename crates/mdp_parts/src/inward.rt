@@ -1,0 +1,129 @@
+ghost use Rattle.std.specs.Prelude.{◌≡◌, ◌<◌, ◌&&◌, ℕ, true, length, map, slice_index, slice_index_or, IfOk};
+ghost use Rattle.std.specs.List.{All, list_any, find, range_with_len};
+ghost use Rattle.mdp_spec.specs.Mdp.{states_of, choices_at};
+ghost use Rattle.mdp_graph.specs.Sets.{marked};
+ghost use Rattle.mdp_graph.specs.Layers.{rank_at};
+ghost use Rattle.mdp_graph.specs.Choices.{is_before, first_passing};
+ghost use Rattle.mdp_ends.specs.Ends.{in_part, count_of};
+ghost use Rattle.mdp_ends.specs.Toward.{target_in, IsToward};
+ghost use Rattle.mdp_parts.specs.FoundEnds.{AreEndsOf};
+ghost use Rattle.mdp_parts.specs.Inner.{may_fall_inside};
+
+use crate::edges::Edges;
+use crate::ends::Ends;
+use crate::ranking::{marks_by, plain_numbers, ranks_by};
+use mdp_graph::Pass;
+use mdp_num::Memory;
+use mdp_rows::{Marks, Model};
+use std::alloc::{AllocError, Global};
+
+/// Whether state `s` is a target in end component `i`.
+fn is_target(ends: &Ends, i: u32, target: &Marks, s: u32) -> bool
+    requires ends { s < length ends.now.parts }
+    requires target { s < length target.now }
+    ensures { result ≡ target_in ends.now.parts i target.now s }
+{
+    match ends.of(s) {
+        Some(j) => j == i && target.at(s),
+        None => false,
+    }
+}
+
+/// The targets in end component `i`.
+fn targets_in(
+    alloc: Global,
+    ends: &Ends,
+    i: u32,
+    target: &Marks,
+    states: u32,
+) -> Result<Vec<bool>, AllocError>
+    requires ends { length ends.now.parts ≡ states }
+    requires target { length target.now ≡ states }
+    ensures { IfOk result (λ values. values.items ≡ map (target_in ends.now.parts i target.now) (range_with_len 0 states)) }
+{
+    (0..states)
+        .map(|s| is_target(ends, i, target, s))
+        .collect(alloc)
+}
+
+/// Whether there is a rank, and it is below `limit`.
+fn is_below(rank: Option<u32>, limit: u32) -> bool
+    ensures { result ≡ is_before limit rank }
+{
+    rank.is_some_and(|r| r < limit)
+}
+
+/// Whether a target has a rank below `rank`.
+fn some_before(targets: &[u32], ranks: &[Option<u32>], rank: u32) -> bool
+    requires { All (λ t. t < length ranks.now) targets.now }
+    ensures { result ≡ list_any (λ t. is_before rank (rank_at ranks.now t)) targets.now }
+{
+    targets.iter().any(|t| is_below(ranks[*t as usize], rank))
+}
+
+/// Whether choice `c` of state `s` is inside and has a successor of a rank below that of `s`.
+fn can_fall(model: &Model, ends: &Ends, ranks: &[Option<u32>], s: u32, c: u32) -> bool
+    requires state { s < states_of model.now }
+    requires choice { c < length (choices_at model.now s) }
+    requires ends { AreEndsOf model.now ends.now }
+    requires ranks { length ranks.now ≡ states_of model.now }
+    ensures { result ≡ may_fall_inside model.now ends.now.parts ranks.now s c }
+{
+    let rank = ranks[s as usize].unwrap_or(0);
+    ends.inside(s, c) && some_before(model.row(s, c).targets, ranks, rank)
+}
+
+/// The least such choice of state `s`, if there is one.
+fn least_choice(model: &Model, ends: &Ends, ranks: &[Option<u32>], s: u32) -> Option<u32>
+    requires state { s < states_of model.now }
+    requires ends { AreEndsOf model.now ends.now }
+    requires ranks { length ranks.now ≡ states_of model.now }
+    ensures { result ≡ find (may_fall_inside model.now ends.now.parts ranks.now s) (range_with_len 0 (length (choices_at model.now s))) }
+{
+    (0..model.choices(s)).find(|c| can_fall(model, ends, ranks, s, *c))
+}
+
+/// The least such choice of each state; 0 where there is none.
+fn least_choices(
+    alloc: Global,
+    model: &Model,
+    ends: &Ends,
+    ranks: &[Option<u32>],
+) -> Result<Vec<u32>, AllocError>
+    requires ends { AreEndsOf model.now ends.now }
+    requires ranks { length ranks.now ≡ states_of model.now }
+    ensures { IfOk result (λ choices. choices.items ≡ first_passing model.now (may_fall_inside model.now ends.now.parts ranks.now)) }
+{
+    (0..model.states())
+        .map(|s| least_choice(model, ends, ranks, s).unwrap_or(0))
+        .collect(alloc)
+}
+
+/// A pass over end component `i` toward the targets in it, by inner choices. It marks exactly the states of the component. Targets of the
+/// component have rank 0. The choice of any other state of it is the least inner one that has a successor of smaller rank.
+pub fn toward(
+    alloc: Global,
+    model: &Model,
+    ends: &Ends,
+    i: u32,
+    target: &Marks,
+) -> Result<Pass, Memory>
+    requires ends { AreEndsOf model.now ends.now }
+    requires part { i < count_of ends.now.parts }
+    requires target { length target.now ≡ states_of model.now }
+    requires some { (s : ℕ) × (s < states_of model.now) × (in_part ends.now.parts i s ≡ true) × (marked target.now s ≡ true) }
+    ensures toward { IfOk result (λ pass. IsToward model.now ends.now.parts i target.now pass.marks pass.ranks.items pass.choices.items) }
+    ensures marks { IfOk result (λ pass. (s : ℕ) → s < states_of model.now → marked pass.marks s ≡ in_part ends.now.parts i s) }
+{
+    model.known();
+    let edges = Edges::targets(alloc, model, ends.choices())?;
+    let back = edges.reversed(alloc, model.states())?;
+    let values = targets_in(alloc, ends, i, target, model.states())?;
+    let first = Marks::from_values(values);
+    let ranks = ranks_by(alloc, &back, &first, model.states())?;
+    Ok(Pass {
+        marks: marks_by(alloc, &ranks)?,
+        ranks: plain_numbers(alloc, &ranks)?,
+        choices: least_choices(alloc, model, ends, &ranks)?,
+    })
+}
