@@ -5,3 +5,5 @@ pub mod NodesFound
 pub mod ExitsFound
 pub mod QuotientFound
 pub mod Selected
+pub mod LiftedFound
+mod Examples

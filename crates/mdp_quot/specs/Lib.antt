@@ -4,3 +4,4 @@ pub mod Quotient
 pub mod QuotientView
 pub mod ExitLists
 pub mod Laws
+pub mod Lifting

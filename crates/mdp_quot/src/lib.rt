@@ -5,6 +5,7 @@ mod build;
 mod exit_lists;
 mod exit_rows;
 mod laws;
+mod lifting;
 mod node;
 mod numbering;
 mod quotient;
