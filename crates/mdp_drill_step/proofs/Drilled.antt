@@ -18,12 +18,10 @@ use Rattle.mdp_cert.specs.Spelling.{text_of}
 use Rattle.mdp_gen.specs.Layered.{IsShape, layered_model}
 use Rattle.mdp_gen.specs.Laws.{TextReads, TextIsShort, HasRows, HasStates, HasChoices}
 use Rattle.mdp_solve_step.specs.Due.{certificate_of}
-use Rattle.mdp_solve_step.specs.Solved.{IsReachPrinted}
-use Rattle.mdp_solve_step.proofs.Printing.{HasSizes, printed}
+use Rattle.mdp_solve_step.proofs.Printing.{HasSizes, accepted, printed_by}
 use Rattle.mdp_step.specs.Said.{Said}
 use Rattle.mdp_drill_step.specs.Due.{goals, drill_text, said_of_end, IsDueOf, IsDrillDue}
-use Rattle.mdp_drill_step.specs.Drilled.{IsDrilled}
-use Rattle.mdp_drill_step.specs.Laws.{GivesGreatest}
+use Rattle.mdp_drill_step.specs.Drilled.{GivesGreatest, IsDrilled}
 
 abbrev goal : List ℕ
 goal = codes "goal"
@@ -46,9 +44,9 @@ abbrev pub line_of : ℕ → ℕ → ℕ → Mdp → Answer → List ℕ
 line_of number layers width m a = drill_text number layers width (states_of m) (sum_by (λ x. length x.choices) m.states) (value_at a.values 0)
 
 -- the line of its numbers
-pub line-of : (number layers width : ℕ) (m : Mdp) (a : Answer) (s c : ℕ) (v : ℚ) (text : List ℕ) → text ≡ drill_text number layers width s c v → s ≡ states_of m
+pub line-by : (number layers width : ℕ) (m : Mdp) (a : Answer) (s c : ℕ) (v : ℚ) (text : List ℕ) → text ≡ drill_text number layers width s c v → s ≡ states_of m
     → c ≡ sum_by (λ x. length x.choices) m.states → v ≡ value_at a.values 0 → text ≡ line_of number layers width m a
-line-of number layers width m a s c v text e p q r =
+line-by number layers width m a s c v text e p q r =
     e ∙ ap₂ (λ (s c : ℕ). drill_text number layers width s c v) p q ∙ ap (drill_text number layers width (states_of m) (sum_by (λ x. length x.choices) m.states)) r
 
 module _ (number layers width : ℕ) (m : Mdp) (is : m ≡ layered_model number layers width) where
@@ -77,6 +75,7 @@ module _ (states : HasStates) (choices : HasChoices) (number layers width : ℕ)
   greatest-due rows greatest text (Ok a, end, e) = record {
     answer = a;
     spelled = (let same : text ≡ line_of number layers width (layered_model number layers width) a = cc e in same) ∙ line-is a;
+    labelled = refl;
     greatest = greatest (layered_model number layers width) (goals (layered_model number layers width)) a (rows number layers width shape) end;
   }
   greatest-due rows greatest text (Err w, end, e) = cc e
@@ -86,13 +85,10 @@ module _ (reads : TextReads) (short : TextIsShort) (rows : HasRows) (states : Ha
       → text ≡ line_of number layers width (layered_model number layers width) a → IsDrilled number layers width text
   on-layered a text f e =
       let m = layered_model number layers width in
-      let p : IsReachPrinted Max goal m (text_of (certificate_of Max goal m a)) =
-      printed Max goal m 1 a refl f.rules f.sizes (rows number layers width shape) back (text_of (certificate_of Max goal m a)) f.fits refl in
+      let cert = certificate_of Max goal m a in
+      let p = printed_by m cert (rows number layers width shape) back (accepted Max goal m 1 a refl f.rules f.sizes) f.fits (text_of cert) refl in
       record {
-        answer = a;
-        spelled = e ∙ line-is states choices number layers width shape a;
-        labelled = refl;
-        greatest = f.greatest;
+        given = record { answer = a; spelled = e ∙ line-is states choices number layers width shape a; labelled = refl; greatest = f.greatest };
         solved = record {
           true_claim = record {
             accepted = record {

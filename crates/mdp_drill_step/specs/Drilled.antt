@@ -13,11 +13,15 @@ use Rattle.mdp_solve_step.specs.Due.{certificate_of}
 use Rattle.mdp_solve_step.specs.Solved.{IsReachSolved}
 use Rattle.mdp_drill_step.specs.Due.{goal_place, goals, drill_text}
 
--- it gives the number of states and of choices of the layered model, and the value of state 0 of an answer: the answer's values are the greatest
--- probabilities of reaching the goal, and `check` accepts the text of its certificate with the generated text, whose rows add to 1
-pub record IsDrilled (number layers width : ℕ) (text : List ℕ) : Type 0 where
+-- the states and the choices of the layered model, and the value of state 0 of an answer, whose values are the greatest probabilities of reaching
+-- a state with the label `goal`
+pub record GivesGreatest (number layers width : ℕ) (text : List ℕ) : Type 0 where
   pub answer : Answer
   pub spelled : text ≡ drill_text number layers width (layers * width + 2) (2 * (layers * width) + 2) (value_at answer.values 0)
   pub labelled : place_of (codes "goal") (layered_model number layers width).labels ≡ Some goal_place
   pub greatest : ReachMax (layered_model number layers width) (goals (layered_model number layers width)) answer.values answer.choices
-  pub solved : IsReachSolved Exact Max (codes "goal") (generated_text number layers width) (text_of (certificate_of Max (codes "goal") (layered_model number layers width) answer))
+
+-- and `check` accepts the text of the answer's certificate with the generated text, whose rows add to 1
+pub record IsDrilled (number layers width : ℕ) (text : List ℕ) : Type 0 where
+  pub given : GivesGreatest number layers width text
+  pub solved : IsReachSolved Exact Max (codes "goal") (generated_text number layers width) (text_of (certificate_of Max (codes "goal") (layered_model number layers width) given.answer))

@@ -9,7 +9,7 @@ use Rattle.mdp_cert.specs.Plain.{plain}
 use Rattle.mdp_solve_step.specs.Due.{certificate_of}
 use Rattle.mdp_solve_step.proofs.Printing.{answer_sizes}
 use Rattle.mdp_gen.specs.Layered.{IsShape}
-use Rattle.mdp_drill_step.proofs.Drilled.{line-of, line-due, drilled}
+use Rattle.mdp_drill_step.proofs.Drilled.{line-by, line-due, drilled}
 use Rattle.mdp_drill_step.proofs.drilling.drill.Goals as goal
 
 pub first_value-value-requires : goal.first_value-value-requires
@@ -34,7 +34,7 @@ returns-in-Ok-drill_line-clause-due c =
     let a = query.plain c.in-Ok-solve_reach.answer in
     let value = c.first_value-value.ensures ∙ ap (λ (z : List ℚ). value_at z 0) c.deref.ensures.value in
     let line =
-    line-of c.args.number c.args.layers c.args.width c.in-Ok.model a _ _ _ c.in-Ok-drill_line.text.items c.in-Ok-drill_line.ensures
+    line-by c.args.number c.args.layers c.args.width c.in-Ok.model a _ _ _ c.in-Ok-drill_line.text.items c.in-Ok-drill_line.ensures
     (ap (λ (k : Certificate). k.states) c.certificate_of-cert.ensures.certificate) c.all_choices.ensures value
     in
     inr (line-due c.args.number c.args.layers c.args.width c.in-Ok.model c.in-Ok.ensures c.in-Ok-marks_of.goals a c.in-Ok-drill_line.text.items
@@ -50,7 +50,7 @@ returns-in-Ok-drill_line-clause-shown c =
     let mdp : IsMdp m = subst IsMdp (sym c.in-Ok.ensures) (law.rows c.args.number c.args.layers c.args.width shape) in
     let value = c.first_value-value.ensures ∙ ap (λ (z : List ℚ). value_at z 0) c.deref.ensures.value in
     let line =
-    line-of c.args.number c.args.layers c.args.width m a _ _ _ c.in-Ok-drill_line.text.items c.in-Ok-drill_line.ensures
+    line-by c.args.number c.args.layers c.args.width m a _ _ _ c.in-Ok-drill_line.text.items c.in-Ok-drill_line.ensures
     (ap (λ (k : Certificate). k.states) c.certificate_of-cert.ensures.certificate) c.all_choices.ensures value
     in
     let name : c.in-Ok-to_vec.label.items ≡ codes "goal" = search rules in
