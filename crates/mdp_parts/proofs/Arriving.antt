@@ -43,8 +43,10 @@ toward_arrives m ends i target marks ranks policy ok are below x hx x_in x_is t 
     let q = and_parts (is_inside m ends s d) (falls m marks ranks s d) (l.passes s h e not_target) in
     let own = number-has i (part_of ends s) (sym (marks_are s h) ∙ e) in
     subst (λ (d : ℕ). stays_in (marked marks) (row_at m s d) ≡ true) (sym p)
-    (stays-by (marked marks) (row_at m s d) (λ y to. marks_are y (target-below m ok s d y h (l.in_range s h) to) ∙ stays-at (in_part ends i) (row_at m s d) y (inside-stays m ends s d i own q.0) to))) in
-    let fall : (s c : ℕ) → s < states_of m → marked marks s ≡ true → marked target s ≡ false → Follows policy s c → c < length (choices_at m s) → can_enter (λ y. nat_lt (get_or ranks y 0) (get_or ranks s 0)) (row_at m s c) ≡ true =
+    (stays-by (marked marks) (row_at m s d) (λ y to. marks_are y (target-below m ok s d y h (l.in_range s h) to)
+    ∙ stays-at (in_part ends i) (row_at m s d) y (inside-stays m ends s d i own q.0) to))) in
+    let fall : (s c : ℕ) → s < states_of m → marked marks s ≡ true → marked target s ≡ false → Follows policy s c → c < length (choices_at m s)
+    → can_enter (λ y. nat_lt (get_or ranks y 0) (get_or ranks s 0)) (row_at m s c) ≡ true =
     λ s c h e not_target p j.
     (let d : ℕ = get_or policy s 0 in
     let q = and_parts (is_inside m ends s d) (falls m marks ranks s d) (l.passes s h e not_target) in
@@ -53,7 +55,8 @@ toward_arrives m ends i target marks ranks policy ok are below x hx x_in x_is t 
     subst (λ (d : ℕ). can_enter (λ y. nat_lt (get_or ranks y 0) (get_or ranks s 0)) (row_at m s d) ≡ true) (sym p)
     (enters-by (λ y. nat_lt (get_or ranks y 0) (get_or ranks s 0)) (row_at m s d) z.0 z.2 both.1)) in
     let a =
-    arrives_by_ranks m target ok (Follows policy) (marked marks) (λ y. get_or ranks y 0) (λ s c h g e p j. λ k d l. list_all-at (λ (y : Entry). marked marks y.target) (row_at m s c) d (kept s c h e g p j) k l)
+    arrives_by_ranks m target ok (Follows policy) (marked marks) (λ y. get_or ranks y 0) (λ s c h g e p j. λ k d l. list_all-at (λ (y : Entry). marked marks y.target) (row_at m s c) d
+    (kept s c h e g p j) k l)
     (λ s c h g e p j.
     (let f = Any-from_list_any (λ (y : Entry). nat_lt (get_or ranks y.target 0) (get_or ranks s 0)) (row_at m s c) (fall s c h e g p j) in
     (f.0, f.1, f.2, f.3, ltb-true _ (get_or ranks s 0) f.4))) k hk in

@@ -50,7 +50,8 @@ order_below edges order seen n are is e = subst (λ (xs : List ℕ). (k : ℕ) �
 pub order_all : (edges : List (List ℕ)) (order seen : List ℕ) (n : ℕ) → IsOrder edges order → seen ≡ order → length edges ≡ n → (s : ℕ) → s < n → StandsIn s seen
 order_all edges order seen n are is e = subst (λ (xs : List ℕ). (s : ℕ) → s < n → StandsIn s xs) (sym is) (λ s h. are.all s (omega (arith, h, e)))
 
-pub groups_below : (back : List (List ℕ)) (order : List ℕ) (n : ℕ) (groups seen : List (Option ℕ)) → AreGrouped back order n groups → seen ≡ groups → (s k : ℕ) → s < length seen → rank_at seen s ≡ Some k → k < n
+pub groups_below : (back : List (List ℕ)) (order : List ℕ) (n : ℕ) (groups seen : List (Option ℕ)) → AreGrouped back order n groups → seen ≡ groups → (s k : ℕ) → s < length seen
+    → rank_at seen s ≡ Some k → k < n
 groups_below back order n groups seen a is = subst (λ (xs : List (Option ℕ)). (s k : ℕ) → s < length xs → rank_at xs s ≡ Some k → k < n) (sym is)
     (λ s k h e. let w = a.each s (omega (arith, h, a.count)) in let same = some-same k w.0 (rank_at groups s) e w.1 in omega (arith, same, w.2))
 

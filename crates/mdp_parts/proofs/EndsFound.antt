@@ -22,7 +22,8 @@ use Rattle.mdp_parts.specs.Numbered.{IsRenumbered}
 use Rattle.mdp_parts.proofs.RankFacts.{some-same, none-some}
 use Rattle.mdp_parts.proofs.Forbidding.{round_settled, round_same}
 
-module _ (m : Mdp) (ok : IsMdp m) (old new : List (List Bool)) (parts : List ℕ) (keys numbers : List (Option ℕ)) (r : IsRound m parts old new false) (comp : AreComponents m (allowed_at old) parts) (keeps : KeepsEnds m (allowed_at old))
+module _ (m : Mdp) (ok : IsMdp m) (old new : List (List Bool)) (parts : List ℕ) (keys numbers : List (Option ℕ)) (r : IsRound m parts old new false) (comp : AreComponents m
+    (allowed_at old) parts) (keeps : KeepsEnds m (allowed_at old))
     (is : keys ≡ map (key_of m new parts) (range_with_len 0 (states_of m))) (n : IsRenumbered keys numbers) where
   many : length keys ≡ states_of m
   many = ap length is ∙ length-map-range_with_len (key_of m new parts) 0 (states_of m)
@@ -99,7 +100,8 @@ part-below m allowed parts comp s h =
     let n = length-map parts (λ (j : ℕ). Some j) in
     omega (arith, l, k, n, comp.count)
 
-pub key-below : (m : Mdp) (new : List (List Bool)) (allowed : ℕ → ℕ → Bool) (parts : List ℕ) (keys : List (Option ℕ)) → AreComponents m allowed parts → keys ≡ map (key_of m new parts) (range_with_len 0 (states_of m))
+pub key-below : (m : Mdp) (new : List (List Bool)) (allowed : ℕ → ℕ → Bool) (parts : List ℕ) (keys : List (Option ℕ)) → AreComponents m allowed parts
+    → keys ≡ map (key_of m new parts) (range_with_len 0 (states_of m))
     → (s k : ℕ) → s < length keys → rank_at keys s ≡ Some k → k < states_of m
 key-below m new allowed parts keys comp is s k h e =
     let n = ap length is ∙ length-map-range_with_len (key_of m new parts) 0 (states_of m) in

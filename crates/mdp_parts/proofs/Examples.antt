@@ -45,9 +45,11 @@ keys : map (key_of leaving ((false ∷ false ∷ []) ∷ (true ∷ []) ∷ (true
 keys = refl
 
 -- numbers go by the least states: not by the order of a visit, and none is left out
-numbers : (is_numbered 0 (Some 0 ∷ None ∷ Some 1 ∷ Some 0 ∷ []) ≡ true) × (is_numbered 0 (Some 1 ∷ Some 0 ∷ []) ≡ false) × (is_numbered 0 (Some 0 ∷ Some 2 ∷ []) ≡ false) × (count_from 0 (Some 0 ∷ None ∷ Some 1 ∷ Some 0 ∷ []) ≡ 2)
+numbers : (is_numbered 0 (Some 0 ∷ None ∷ Some 1 ∷ Some 0 ∷ []) ≡ true) × (is_numbered 0 (Some 1 ∷ Some 0 ∷ []) ≡ false) × (is_numbered 0 (Some 0 ∷ Some 2 ∷ []) ≡ false) × (count_from 0
+    (Some 0 ∷ None ∷ Some 1 ∷ Some 0 ∷ []) ≡ 2)
 numbers = (refl, refl, refl, refl)
 
 -- toward state 0 within its part: state 1 takes its choice, and state 2 is no target of the part
-toward_0 : (first_passing leaving (may_fall_inside leaving found.parts (Some 0 ∷ Some 1 ∷ None ∷ [])) ≡ 0 ∷ 0 ∷ 0 ∷ []) × (may_fall_inside leaving found.parts (Some 0 ∷ Some 1 ∷ None ∷ []) 1 0 ≡ true) × (target_in found.parts 0 (true ∷ false ∷ true ∷ []) 2 ≡ false)
+toward_0 : (first_passing leaving (may_fall_inside leaving found.parts (Some 0 ∷ Some 1 ∷ None ∷ [])) ≡ 0 ∷ 0 ∷ 0 ∷ []) × (may_fall_inside leaving found.parts
+    (Some 0 ∷ Some 1 ∷ None ∷ []) 1 0 ≡ true) × (target_in found.parts 0 (true ∷ false ∷ true ∷ []) 2 ≡ false)
 toward_0 = (refl, refl, refl)

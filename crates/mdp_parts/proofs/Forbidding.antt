@@ -17,7 +17,8 @@ use Rattle.mdp_parts.specs.Allowed.{allowed_at, AreChoices}
 use Rattle.mdp_parts.specs.Round.{Leaves, IsForbidden, IsRound}
 use Rattle.mdp_parts.proofs.EdgeFacts.{all-as-stays}
 
-pub keeps_by : (m : Mdp) (parts : List ℕ) (s c part : ℕ) (ts : List ℕ) (ps : List ℚ) → length ts ≡ length ps → entries ts ps ≡ row_at m s c → part ≡ get_or parts s 0 → list_all (λ t. get_or parts t 0 == part) ts ≡ keeps_part m parts s c
+pub keeps_by : (m : Mdp) (parts : List ℕ) (s c part : ℕ) (ts : List ℕ) (ps : List ℚ) → length ts ≡ length ps → entries ts ps ≡ row_at m s c → part ≡ get_or parts s 0
+    → list_all (λ t. get_or parts t 0 == part) ts ≡ keeps_part m parts s c
 keeps_by m parts s c part ts ps same row is =
     ap (λ x. list_all (λ t. get_or parts t 0 == x) ts) is ∙ sym (all-as-stays (λ t. get_or parts t 0 == get_or parts s 0) ts ps same) ∙ ap (stays_in (λ t. get_or parts t 0 == get_or parts s 0)) row
 
@@ -34,10 +35,12 @@ module _ (m : Mdp) (lists : List (List Bool)) (a : AreChoices m lists) (s c : �
   in_list = (let w = a.width s hs in omega (arith, hc, w))
 
   pub forbidden_here : allowed_at (set lists s (set (get_or lists s []) c false)) s c ≡ false
-  forbidden_here = ap (λ (xs : List Bool). get_or xs c false) (get_or-set_at lists s s (set (get_or lists s []) c false) [] refl in_lists) ∙ get_or-set_at (get_or lists s []) c c false false refl in_list
+  forbidden_here = ap (λ (xs : List Bool). get_or xs c false) (get_or-set_at lists s s (set (get_or lists s []) c false) [] refl in_lists)
+      ∙ get_or-set_at (get_or lists s []) c c false false refl in_list
 
   pub forbidden_there : (d : ℕ) → (d ≡ c → ⊥) → allowed_at (set lists s (set (get_or lists s []) c false)) s d ≡ allowed_at lists s d
-  forbidden_there d other = ap (λ (xs : List Bool). get_or xs d false) (get_or-set_at lists s s (set (get_or lists s []) c false) [] refl in_lists) ∙ get_or-set_other (get_or lists s []) c d false false other
+  forbidden_there d other = ap (λ (xs : List Bool). get_or xs d false) (get_or-set_at lists s s (set (get_or lists s []) c false) [] refl in_lists)
+      ∙ get_or-set_other (get_or lists s []) c d false false other
 
   pub forbidden_else : (t d : ℕ) → (t ≡ s → ⊥) → allowed_at (set lists s (set (get_or lists s []) c false)) t d ≡ allowed_at lists t d
   forbidden_else t d other = ap (λ (xs : List Bool). get_or xs d false) (get_or-set_other lists s t (set (get_or lists s []) c false) [] other)

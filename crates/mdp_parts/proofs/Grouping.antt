@@ -1,5 +1,6 @@
 -- Groups of states that are taken backwards, one after the other.
-use Rattle.std.proofs.Common.{◌≡◌, ◌⊎◌, inl, inr, ℕ, suc, zero, ◌+◌, ◌<◌, ◌≤◌, Bool, true, false, ◌||◌, ◌&&◌, ◌==◌, cond, List, [], ◌∷◌, length, get_or, replicate, refl, sym, ap, ◌∙◌, subst, arith, Option, Some, None, is_none, is_some}
+use Rattle.std.proofs.Common.{◌≡◌, ◌⊎◌, inl, inr, ℕ, suc, zero, ◌+◌, ◌<◌, ◌≤◌, Bool, true, false, ◌||◌, ◌&&◌, ◌==◌, cond}
+use Rattle.std.proofs.Common.{List, [], ◌∷◌, length, get_or, replicate, refl, sym, ap, ◌∙◌, subst, arith, Option, Some, None, is_none, is_some}
 use Rattle.std.proofs.lemmas.Bool.{false≢true, cases_Bool, cases_eq, eqb-true, eq-eqb, or_cases}
 use Rattle.std.proofs.lemmas.List.{length-replicate, get_or-replicate}
 use Rattle.std.proofs.lemmas.List.Folds.{sum_by-replicate}
@@ -41,10 +42,13 @@ module _ (back : List (List ℕ)) (root number : ℕ) (old : List (Option ℕ)) 
   root_at : is_among root (root ∷ []) ≡ true
   root_at = ap (λ b. b || false) (eq-eqb root root refl)
 
-  pub taking_begins : (none now : List (Option ℕ)) (list layer states : List ℕ) → list ≡ [] → states ≡ root ∷ [] → none ≡ old → IsGiven none list now layer states number → IsTaking back root number old now layer
+  pub taking_begins : (none now : List (Option ℕ)) (list layer states : List ℕ) → list ≡ [] → states ≡ root ∷ [] → none ≡ old → IsGiven none list now layer states number
+      → IsTaking back root number old now layer
   taking_begins none now list layer states no_list is was given_it =
-      let f : IsGiven old [] now layer (root ∷ []) number = subst (λ (xs : List (Option ℕ)). IsGiven xs [] now layer (root ∷ []) number) was (subst (λ (xs : List ℕ). IsGiven none xs now layer (root ∷ []) number) no_list (subst (λ (xs : List ℕ). IsGiven none list now layer xs number) is given_it)) in
-      let new_at : (s : ℕ) → s < length old → rank_at old s ≡ None → rank_at now s ≡ cond (is_among s (root ∷ [])) (Some number) None = λ s h e. f.at s h ∙ ap (given number (is_among s (root ∷ []))) e in
+      let f : IsGiven old [] now layer (root ∷ []) number = subst (λ (xs : List (Option ℕ)). IsGiven xs [] now layer (root ∷ []) number) was (subst (λ (xs : List ℕ). IsGiven none xs now layer
+      (root ∷ []) number) no_list (subst (λ (xs : List ℕ). IsGiven none list now layer xs number) is given_it)) in
+      let new_at : (s : ℕ) → s < length old → rank_at old s ≡ None → rank_at now s ≡ cond (is_among s (root ∷ [])) (Some number) None = λ s h e. f.at s h
+      ∙ ap (given number (is_among s (root ∷ []))) e in
       let listed_at : (t : ℕ) → t < length old → is_among t layer ≡ (is_none (rank_at old t) && is_among t (root ∷ [])) = f.listed in
       let root_layer : is_among root layer ≡ true = listed_at root hr ∙ ap (λ o. is_none o && is_among root (root ∷ [])) free ∙ root_at in
       record {
@@ -68,12 +72,14 @@ module _ (back : List (List ℕ)) (root number : ℕ) (old : List (Option ℕ)) 
             ]);
       }
 
-  pub taking_more : (now new : List (Option ℕ)) (layer seen next : List ℕ) → IsTaking back root number old now layer → seen ≡ layer → IsGiven now [] new next (predecessors_of back seen) number → IsTaking back root number old new next
+  pub taking_more : (now new : List (Option ℕ)) (layer seen next : List ℕ) → IsTaking back root number old now layer → seen ≡ layer → IsGiven now [] new next (predecessors_of back seen) number
+      → IsTaking back root number old new next
   taking_more now new layer seen next a same given_it =
       let f : IsGiven now [] new next (predecessors_of back layer) number = subst (λ (xs : List ℕ). IsGiven now [] new next (predecessors_of back xs) number) same given_it in
       let within : (s : ℕ) → s < length old → s < length now = λ s h. omega (arith, h, a.count) in
       let still : (s i : ℕ) → s < length old → rank_at now s ≡ Some i → rank_at new s ≡ Some i = λ s i h e. f.at s (within s h) ∙ ap (given number (is_among s (predecessors_of back layer))) e in
-      let new_at : (s : ℕ) → s < length old → rank_at now s ≡ None → rank_at new s ≡ cond (is_among s (predecessors_of back layer)) (Some number) None = λ s h e. f.at s (within s h) ∙ ap (given number (is_among s (predecessors_of back layer))) e in
+      let new_at : (s : ℕ) → s < length old → rank_at now s ≡ None → rank_at new s ≡ cond (is_among s (predecessors_of back layer)) (Some number) None = λ s h e. f.at s (within s h)
+      ∙ ap (given number (is_among s (predecessors_of back layer))) e in
       let listed_at : (t : ℕ) → t < length old → is_among t next ≡ (is_none (rank_at now t) && is_among t (predecessors_of back layer)) = λ t h. f.listed t (within t h) in
       record {
         count = f.count ∙ a.count;
@@ -163,7 +169,8 @@ module _ (back : List (List ℕ)) (order : List ℕ) (n : ℕ) (edges : AreEdges
         });
       }
 
-  module _ (below : (k : ℕ) → k < length order → get_or order k 0 < n) (all : (s : ℕ) → s < n → StandsIn s order) (k : ℕ) (hk : k < length order) (numbers : List (Option ℕ)) (number : ℕ) (a : IsGrouping back order n (k + 1) numbers number) where
+  module _ (below : (k : ℕ) → k < length order → get_or order k 0 < n) (all : (s : ℕ) → s < n
+      → StandsIn s order) (k : ℕ) (hk : k < length order) (numbers : List (Option ℕ)) (number : ℕ) (a : IsGrouping back order n (k + 1) numbers number) where
     pub grouping_skip : is_none (rank_at numbers (get_or order k 0)) ≡ false → IsGrouping back order n k numbers number
     grouping_skip has = record {
       count = a.count;
@@ -243,7 +250,8 @@ module _ (back : List (List ℕ)) (order : List ℕ) (n : ℕ) (edges : AreEdges
         joined_root : (s : ℕ) → s < n → rank_at numbers s ≡ None → rank_at new s ≡ Some number → AreJoined m chosen s root
         joined_root s h e g =
             subst (λ x. AreJoined m chosen s x) (sym is)
-            (component_by_order m ok chosen order srch has_number whole k hk (λ j l hj. (let w = a.after j (omega (arith, l)) hj in numbered (get_or order j 0) w.0 w.1)) s (all s h) (unnumbered s e) (subst (λ x. Reaches m chosen s x) is (comes s h e g)))
+            (component_by_order m ok chosen order srch has_number whole k hk (λ j l hj. (let w = a.after j (omega (arith, l)) hj in numbered (get_or order j 0) w.0 w.1)) s (all s h)
+            (unnumbered s e) (subst (λ x. Reaches m chosen s x) is (comes s h e g)))
 
         back_joined : (s t : ℕ) → AreJoined m chosen s t → AreJoined m chosen t s
         back_joined s t j = (j.1, j.0)

@@ -1,5 +1,6 @@
 -- A pass within a part, by inner choices.
-use Rattle.std.proofs.Common.{◌≡◌, inl, inr, ℕ, zero, suc, ◌<◌, Bool, true, false, ◌||◌, ◌&&◌, ◌==◌, nat_lt, lt-ltb, le-ltb, List, length, map, get_or, refl, sym, ap, ◌∙◌, subst, arith, Option, Some, None, is_some}
+use Rattle.std.proofs.Common.{◌≡◌, inl, inr, ℕ, zero, suc, ◌<◌, Bool, true, false, ◌||◌, ◌&&◌, ◌==◌, nat_lt, lt-ltb}
+use Rattle.std.proofs.Common.{le-ltb, List, length, map, get_or, refl, sym, ap, ◌∙◌, subst, arith, Option, Some, None, is_some}
 use Rattle.std.specs.List.{list_any, range_with_len}
 use Rattle.std.proofs.lemmas.Bool.{false≢true, cases_Bool, and_from, eqb-true, eq-eqb}
 use Rattle.std.proofs.lemmas.List.{get_or-map, length-map}
@@ -29,15 +30,18 @@ use Rattle.mdp_parts.proofs.Reached.{rank_of, at_most-some, LeadsAlong, Follows,
 
 -- ---- what the code tests
 
-pub falls_by : (m : Mdp) (ends ranks : List (Option ℕ)) (s c r : ℕ) (ts : List ℕ) (ps : List ℚ) → length ts ≡ length ps → entries ts ps ≡ row_at m s c → r ≡ plain_rank (rank_at ranks s) → (inside : Bool) → inside ≡ is_inside m ends s c
+pub falls_by : (m : Mdp) (ends ranks : List (Option ℕ)) (s c r : ℕ) (ts : List ℕ) (ps : List ℚ) → length ts ≡ length ps → entries ts ps ≡ row_at m s c → r ≡ plain_rank (rank_at ranks s)
+    → (inside : Bool) → inside ≡ is_inside m ends s c
     → (inside && list_any (λ t. is_before r (rank_at ranks t)) ts) ≡ may_fall_inside m ends ranks s c
 falls_by m ends ranks s c r ts ps same row er inside is =
     ap (λ b. b && list_any (λ t. is_before r (rank_at ranks t)) ts) is
-    ∙ ap (λ b. is_inside m ends s c && b) (ap (λ q. list_any (λ t. is_before q (rank_at ranks t)) ts) er ∙ sym (any-as-enters (λ t. is_before (plain_rank (rank_at ranks s)) (rank_at ranks t)) ts ps same) ∙ ap (can_enter (λ t. is_before (plain_rank (rank_at ranks s)) (rank_at ranks t))) row)
+    ∙ ap (λ b. is_inside m ends s c && b) (ap (λ q. list_any (λ t. is_before q (rank_at ranks t)) ts) er
+    ∙ sym (any-as-enters (λ t. is_before (plain_rank (rank_at ranks s)) (rank_at ranks t)) ts ps same) ∙ ap (can_enter (λ t. is_before (plain_rank (rank_at ranks s)) (rank_at ranks t))) row)
 
 -- ---- the step by inner choices, along the edges of the choices that are marked as inside
 
-module _ (m : Mdp) (ok : IsMdp m) (ends : List (Option ℕ)) (inner : ℕ → ℕ → Bool) (are : (s c : ℕ) → s < states_of m → c < length (choices_at m s) → inner s c ≡ is_inside m ends s c) (back : List (List ℕ)) (src : AreSources m inner back) where
+module _ (m : Mdp) (ok : IsMdp m) (ends : List (Option ℕ)) (inner : ℕ → ℕ → Bool) (are : (s c : ℕ) → s < states_of m → c < length (choices_at m s)
+    → inner s c ≡ is_inside m ends s c) (back : List (List ℕ)) (src : AreSources m inner back) where
   along : LeadsAlong (inner_step m ends) (states_of m) back
   along set s h e =
       let z = step-has m (is_inside m ends) set s e in
@@ -49,10 +53,12 @@ module _ (m : Mdp) (ok : IsMdp m) (ends : List (Option ℕ)) (inner : ℕ → �
       let z = step-has m inner (λ x. x == t) s (sym (src.leads s t hs ht) ∙ edge) in
       step-by m (is_inside m ends) set s z.0 z.1 z.2 (sym (are s z.0 hs z.2) ∙ z.3) z.4 (ap set (eqb-true z.1 t z.5) ∙ is)
 
-  pub inner_ranks : (first : List Bool) (i : ℕ) (target : List Bool) (ranks : List (Option ℕ)) → first ≡ map (target_in ends i target) (range_with_len 0 (states_of m)) → AreRankedBy back (marked first) (states_of m) ranks
+  pub inner_ranks : (first : List Bool) (i : ℕ) (target : List Bool) (ranks : List (Option ℕ)) → first ≡ map (target_in ends i target) (range_with_len 0 (states_of m))
+      → AreRankedBy back (marked first) (states_of m) ranks
       → AreRanks (inner_step m ends) (target_in ends i target) (states_of m) ranks
   inner_ranks first i target ranks is by =
-      let first_at : (s : ℕ) → s < states_of m → marked first s ≡ target_in ends i target s = λ s h. ap (λ (xs : List Bool). get_or xs s false) is ∙ get_or-map-range_with_len (target_in ends i target) 0 (states_of m) s s false h (omega arith) in
+      let first_at : (s : ℕ) → s < states_of m → marked first s ≡ target_in ends i target s = λ s h. ap (λ (xs : List Bool). get_or xs s false) is
+      ∙ get_or-map-range_with_len (target_in ends i target) 0 (states_of m) s s false h (omega arith) in
       ranked (inner_step m ends) (target_in ends i target) (states_of m) back ranks
       (record {
         count = by.count;
@@ -125,11 +131,14 @@ module _ (m : Mdp) (ok : IsMdp m) (ends : List (Option ℕ)) (i : ℕ) (target :
   falls-is s c h k =
       let row = ok.row s c h k in
       ap (λ b. is_inside m ends s c && b)
-      (enters-same (λ t. is_before (plain_rank (rank_at ranks s)) (rank_at ranks t)) (λ t. marked (map is_some ranks) t && nat_lt (get_or (map plain_rank ranks) t 0) (get_or (map plain_rank ranks) s 0)) (row_at m s c) (states_of m) row.in_range
-      (λ t l. before-is (plain_rank (rank_at ranks s)) (rank_at ranks t) ∙ rw (mark-is ranks t (omega (arith, l, a.count)), plain-is ranks t (omega (arith, l, a.count)), plain-is ranks s (omega (arith, h, a.count))) refl))
+      (enters-same (λ t. is_before (plain_rank (rank_at ranks s)) (rank_at ranks t)) (λ t. marked (map is_some ranks) t && nat_lt (get_or (map plain_rank ranks) t 0) (get_or
+      (map plain_rank ranks) s 0)) (row_at m s c) (states_of m) row.in_range
+      (λ t l. before-is (plain_rank (rank_at ranks s)) (rank_at ranks t)
+      ∙ rw (mark-is ranks t (omega (arith, l, a.count)), plain-is ranks t (omega (arith, l, a.count)), plain-is ranks s (omega (arith, h, a.count))) refl))
 
   -- a state of rank q + 1 has an inner choice to a state of rank at most q
-  by-step : (s q : ℕ) → s < states_of m → rank_at ranks s ≡ Some (suc q) → inner_step m ends (reached (inner_step m ends) (target_in ends i target) q) s ≡ true → (c : ℕ) × (c < length (choices_at m s)) × (may_fall_inside m ends ranks s c ≡ true)
+  by-step : (s q : ℕ) → s < states_of m → rank_at ranks s ≡ Some (suc q) → inner_step m ends (reached (inner_step m ends) (target_in ends i target) q) s ≡ true
+      → (c : ℕ) × (c < length (choices_at m s)) × (may_fall_inside m ends ranks s c ≡ true)
   by-step s q h e stepped =
       let z = step-has m (is_inside m ends) (reached (inner_step m ends) (target_in ends i target) q) s stepped in
       let b = target-below m ok s z.0 z.1 h z.2 z.4 in
@@ -149,12 +158,14 @@ module _ (m : Mdp) (ok : IsMdp m) (ends : List (Option ℕ)) (i : ℕ) (target :
         let k : suc q ≡ w.0 = some-same (suc q) w.0 (rank_at ranks s) e w.1 in absurd (omega (arith, k, w.2)))
     | inr new ↦
         by-step s q h e
-        (sym (ap (λ b. b || inner_step m ends (reached (inner_step m ends) (target_in ends i target) q) s) new) ∙ sym (a.least (suc q) s h) ∙ at_most-some (suc q) (suc q) (rank_at ranks s) e (omega arith))
+        (sym (ap (λ b. b || inner_step m ends (reached (inner_step m ends) (target_in ends i target) q) s) new) ∙ sym (a.least (suc q) s h)
+        ∙ at_most-some (suc q) (suc q) (rank_at ranks s) e (omega arith))
   ]
 
   none-falls : (s c : ℕ) → plain_rank (rank_at ranks s) ≡ 0 → may_fall_inside m ends ranks s c ≡ false
   none-falls s c e =
-      ap (λ b. is_inside m ends s c && b) (enters-never (row_at m s c) (λ t. is_before (plain_rank (rank_at ranks s)) (rank_at ranks t)) (λ t. ap (λ r. is_before r (rank_at ranks t)) e ∙ before-zero (rank_at ranks t)))
+      ap (λ b. is_inside m ends s c && b) (enters-never (row_at m s c) (λ t. is_before (plain_rank (rank_at ranks s)) (rank_at ranks t)) (λ t. ap (λ r. is_before r (rank_at ranks t)) e
+      ∙ before-zero (rank_at ranks t)))
       ∙ and-false (is_inside m ends s c)
 
   unmarked-zero : (s : ℕ) → s < states_of m → marked (map is_some ranks) s ≡ false → plain_rank (rank_at ranks s) ≡ 0
@@ -167,7 +178,8 @@ module _ (m : Mdp) (ok : IsMdp m) (ends : List (Option ℕ)) (i : ℕ) (target :
     | inl it ↦ (let w = rank_of 0 (rank_at ranks s) (a.least 0 s h ∙ and_from (in_part ends i s) (marked target s) (sym (in_it s h) ∙ it) e) in ap plain_rank w.1 ∙ omega (arith, w.2))
   ]
 
-  pub inner_choices : (choices : List ℕ) → choices ≡ first_passing m (may_fall_inside m ends ranks) → AreLeast m target (map is_some ranks) (inner_falls m ends (map is_some ranks) (map plain_rank ranks)) choices
+  pub inner_choices : (choices : List ℕ) → choices ≡ first_passing m (may_fall_inside m ends ranks)
+      → AreLeast m target (map is_some ranks) (inner_falls m ends (map is_some ranks) (map plain_rank ranks)) choices
   inner_choices choices is =
       let count = firsts_count m (may_fall_inside m ends ranks) choices is in
       let first = firsts m (may_fall_inside m ends ranks) choices is in
@@ -192,18 +204,23 @@ module _ (m : Mdp) (ok : IsMdp m) (ends : List (Option ℕ)) (i : ℕ) (target :
 
 -- ---- the pass
 
-module _ (m : Mdp) (ok : IsMdp m) (e : FoundEnds) (are : AreEndsOf m e) (i : ℕ) (below : i < count_of e.parts) (target : List Bool) (some : (s : ℕ) × (s < states_of m) × (in_part e.parts i s ≡ true) × (marked target s ≡ true))
-    (inner : List (List Bool)) (is : inner ≡ e.inner) (edges back : List (List ℕ)) (to : AreTargets m (allowed_at inner) edges) (rev : AreReversed edges back) (first : List Bool) (n k : ℕ) (many : n ≡ states_of m) (all : k ≡ states_of m)
+module _ (m : Mdp) (ok : IsMdp m) (e : FoundEnds) (are : AreEndsOf m e) (i : ℕ) (below : i < count_of e.parts) (target : List Bool) (some : (s : ℕ) × (s < states_of m) ×
+    (in_part e.parts i s ≡ true) × (marked target s ≡ true))
+    (inner : List (List Bool)) (is : inner ≡ e.inner) (edges back : List (List ℕ)) (to : AreTargets m (allowed_at inner) edges) (rev : AreReversed edges back) (first : List Bool) (n k : ℕ)
+    (many : n ≡ states_of m) (all : k ≡ states_of m)
     (firsts_are : first ≡ map (target_in e.parts i target) (range_with_len 0 n)) (ranks : List (Option ℕ)) (by : AreRankedBy back (marked first) k ranks) where
   ranks_are : AreRanks (inner_step m e.parts) (target_in e.parts i target) (states_of m) ranks
   ranks_are =
-      inner_ranks m ok e.parts (allowed_at inner) (λ s c h l. ap (λ (xs : List (List Bool)). allowed_at xs s c) is ∙ are.inner s c h l) back (sources m (allowed_at inner) edges back to rev) first i target ranks
+      inner_ranks m ok e.parts (allowed_at inner) (λ s c h l. ap (λ (xs : List (List Bool)). allowed_at xs s c) is
+      ∙ are.inner s c h l) back (sources m (allowed_at inner) edges back to rev) first i target ranks
       (firsts_are ∙ ap (λ j. map (target_in e.parts i target) (range_with_len 0 j)) many) (subst (λ (j : ℕ). AreRankedBy back (marked first) j ranks) all by)
 
   pub part_marked : (s : ℕ) → s < states_of m → marked (map is_some ranks) s ≡ in_part e.parts i s
-  part_marked = toward_marks m ok e.parts are.ends i below target (map is_some ranks) (reached_marks (inner_step m e.parts) (target_in e.parts i target) (states_of m) ranks ranks_are) some.0 some.1 some.2 some.3
+  part_marked = toward_marks m ok e.parts are.ends i below target (map is_some ranks) (reached_marks (inner_step m e.parts) (target_in e.parts i target)
+      (states_of m) ranks ranks_are) some.0 some.1 some.2 some.3
 
-  pub is_toward : (choices : List ℕ) (read : List (Option ℕ)) → read ≡ ranks → choices ≡ first_passing m (may_fall_inside m e.parts read) → IsToward m e.parts i target (map is_some ranks) (map plain_rank ranks) choices
+  pub is_toward : (choices : List ℕ) (read : List (Option ℕ)) → read ≡ ranks → choices ≡ first_passing m (may_fall_inside m e.parts read)
+      → IsToward m e.parts i target (map is_some ranks) (map plain_rank ranks) choices
   is_toward choices read same are_least = record {
     reaches = reached_marks (inner_step m e.parts) (target_in e.parts i target) (states_of m) ranks ranks_are;
     ranked = least_ranks (inner_step m e.parts) (target_in e.parts i target) (states_of m) ranks ranks_are;

@@ -1,5 +1,6 @@
 -- Numbers that are given in the order of the least states.
-use Rattle.std.proofs.Common.{◌≡◌, ◌⊎◌, inl, inr, ℕ, ◌+◌, ◌<◌, ◌≤◌, true, false, nat_lt, cond, List, [], ◌∷◌, ◌++◌, length, set, replicate, refl, sym, ap, ◌∙◌, subst, arith, lt-ltb, le-ltb, Option, Some, None, is_none}
+use Rattle.std.proofs.Common.{◌≡◌, ◌⊎◌, inl, inr, ℕ, ◌+◌, ◌<◌, ◌≤◌, true, false, nat_lt, cond, List, [], ◌∷◌}
+use Rattle.std.proofs.Common.{◌++◌, length, set, replicate, refl, sym, ap, ◌∙◌, subst, arith, lt-ltb, le-ltb, Option, Some, None, is_none}
 use Rattle.std.proofs.lemmas.Bool.{false≢true, cases_Bool, cases_eq, cases_lt}
 use Rattle.std.proofs.lemmas.List.{length-replicate, get_or-replicate, length-set, get_or-set_other, get_or_past}
 use Rattle.std.proofs.lemmas.Grind.{get_or-set_at}
@@ -71,7 +72,8 @@ module _ (keys : List (Option ℕ)) (limit : ℕ) where
       in_order = in_order;
       counted = counted;
       at = λ s h. elim (cases_eq s n) [
-        | inl e ↦ (let place : s ≡ length numbers = omega (arith, e, a.length_is) in ap (rank_at (numbers ++ o ∷ [])) place ∙ at_last numbers o None ∙ is ∙ ap (λ j. given_of more (rank_at keys j)) (sym e))
+        | inl e ↦ (let place : s ≡ length numbers = omega (arith, e, a.length_is) in ap (rank_at (numbers ++ o ∷ [])) place ∙ at_last numbers o None ∙ is
+            ∙ ap (λ j. given_of more (rank_at keys j)) (sym e))
         | inr other ↦ (let l : s < n = omega (arith, h, other) in at_before numbers o None s (omega (arith, l, a.length_is)) ∙ a.at s l ∙ same s l)
       ];
       gives = λ s k h e. elim (cases_eq s n) as (λ _. (j : ℕ) × (rank_at more k ≡ Some j)) [
@@ -85,17 +87,23 @@ module _ (keys : List (Option ℕ)) (limit : ℕ) where
 
     pub no_key : rank_at keys n ≡ None → IsRenumbering keys limit (n + 1) given (numbers ++ None ∷ []) count
     no_key e =
-        next_state given None count a.size (numbered-none 0 numbers a.in_order) (count-more 0 numbers None ∙ a.counted) (let f = a.few in omega (arith, f)) (λ s h. refl) (sym (ap (given_of given) e)) (λ k j is. is)
+        next_state given None count a.size (numbered-none 0 numbers a.in_order) (count-more 0 numbers None
+        ∙ a.counted) (let f = a.few in omega (arith, f)) (λ s h. refl) (sym (ap (given_of given) e)) (λ k j is. is)
         (λ k is. absurd (none-some k (rank_at keys n) e is)) a.differ a.below
 
     pub known_key : (k : ℕ) (o : Option ℕ) → rank_at keys n ≡ Some k → is_none (rank_at given k) ≡ false → o ≡ rank_at given k → IsRenumbering keys limit (n + 1) given (numbers ++ o ∷ []) count
     known_key k o e some is =
-        let w : (j : ℕ) × (rank_at given k ≡ Some j) = elim (cases_rank (rank_at given k)) as (λ _. (j : ℕ) × (rank_at given k ≡ Some j)) [ inl none ↦ absurd (false≢true (sym some ∙ ap is_none none)) | inr w ↦ w ] in
+        let w : (j : ℕ) × (rank_at given k ≡ Some j) = elim (cases_rank (rank_at given k)) as (λ _. (j : ℕ) × (rank_at given k ≡ Some j)) [
+          | inl none ↦ absurd (false≢true (sym some
+              ∙ ap is_none none))
+          | inr w ↦ w
+        ] in
         let low = a.below k w.0 w.1 in
         let o_is : o ≡ Some w.0 = is ∙ w.1 in
         subst (λ (x : Option ℕ). IsRenumbering keys limit (n + 1) given (numbers ++ x ∷ []) count) (sym o_is)
         (next_state given (Some w.0) count a.size (numbered-some 0 numbers w.0 a.in_order (omega (arith, low, a.counted)))
-        (count-more 0 numbers (Some w.0) ∙ ap (λ (c : ℕ). count_from c (Some w.0 ∷ [])) a.counted ∙ ap (λ b. cond b count (count + 1)) (lt-ltb w.0 count low)) (let f = a.few in omega (arith, f)) (λ s h. refl)
+        (count-more 0 numbers (Some w.0) ∙ ap (λ (c : ℕ). count_from c (Some w.0 ∷ [])) a.counted
+        ∙ ap (λ b. cond b count (count + 1)) (lt-ltb w.0 count low)) (let f = a.few in omega (arith, f)) (λ s h. refl)
         (sym (ap (given_of given) e ∙ w.1)) (λ l j is. is) (λ l is. (let same = some-same l k (rank_at keys n) is e in (w.0, ap (rank_at given) same ∙ w.1))) a.differ a.below)
 
     module _ (k : ℕ) (e : rank_at keys n ≡ Some k) (hk : k < limit) (free : is_none (rank_at given k) ≡ true) where
@@ -144,14 +152,16 @@ module _ (keys : List (Option ℕ)) (limit : ℕ) where
       unfolding more_given
       new_state =
           next_state more_given (Some count) (count + 1) (length-set given k (Some count) ∙ a.size) (numbered-some 0 numbers count a.in_order (omega (arith, a.counted)))
-          (count-more 0 numbers (Some count) ∙ ap (λ (c : ℕ). count_from c (Some count ∷ [])) a.counted ∙ ap (λ b. cond b count (count + 1)) (le-ltb count count (omega arith))) (let f = a.few in omega (arith, f)) given_same
+          (count-more 0 numbers (Some count) ∙ ap (λ (c : ℕ). count_from c (Some count ∷ [])) a.counted
+          ∙ ap (λ b. cond b count (count + 1)) (le-ltb count count (omega arith))) (let f = a.few in omega (arith, f)) given_same
           (sym (ap (given_of more_given) e ∙ given_at k refl)) kept_given (λ l is. (let same = some-same l k (rank_at keys n) is e in (count, given_at l same))) new_differ new_below
 
       pub new_key : (o : Option ℕ) (more : List (Option ℕ)) → more ≡ set given k (Some count) → o ≡ rank_at more k → IsRenumbering keys limit (n + 1) more (numbers ++ o ∷ []) (count + 1)
       unfolding more_given
       new_key o more e is =
           let o_is : o ≡ Some count = is ∙ ap (λ (xs : List (Option ℕ)). rank_at xs k) e ∙ given_at k refl in
-          subst (λ (x : Option ℕ). IsRenumbering keys limit (n + 1) more (numbers ++ x ∷ []) (count + 1)) (sym o_is) (subst (λ (xs : List (Option ℕ)). IsRenumbering keys limit (n + 1) xs (numbers ++ Some count ∷ []) (count + 1)) (sym e) new_state)
+          subst (λ (x : Option ℕ). IsRenumbering keys limit (n + 1) more (numbers ++ x ∷ []) (count + 1)) (sym o_is) (subst (λ (xs : List (Option ℕ)). IsRenumbering keys limit (n + 1) xs
+          (numbers ++ Some count ∷ []) (count + 1)) (sym e) new_state)
 
 pub renumbered : (keys : List (Option ℕ)) (limit n : ℕ) (given numbers : List (Option ℕ)) (count : ℕ) → IsRenumbering keys limit n given numbers count → n ≡ length keys → IsRenumbered keys numbers
 renumbered keys limit n given numbers count a e = record {

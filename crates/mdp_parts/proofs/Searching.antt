@@ -1,5 +1,6 @@
 -- What a search in depth keeps.
-use Rattle.std.proofs.Common.{◌≡◌, ◌⊎◌, inl, inr, ℕ, zero, suc, ◌+◌, ◌-◌, ◌<◌, ◌≤◌, Bool, true, false, not, ◌==◌, cond, List, [], ◌∷◌, ◌++◌, length, get_or, set, take, replicate, refl, sym, ap, ◌∙◌, subst, arith}
+use Rattle.std.proofs.Common.{◌≡◌, ◌⊎◌, inl, inr, ℕ, zero, suc, ◌+◌, ◌-◌, ◌<◌, ◌≤◌, Bool, true, false, not, ◌==◌}
+use Rattle.std.proofs.Common.{cond, List, [], ◌∷◌, ◌++◌, length, get_or, set, take, replicate, refl, sym, ap, ◌∙◌, subst, arith}
 use Rattle.std.specs.List.{count_by, All}
 use Rattle.std.proofs.lemmas.Bool.{false≢true, cases_eq, cases_lt, eqb-true, eq-eqb}
 use Rattle.std.proofs.lemmas.List.{length-replicate, get_or-replicate, length-set, get_or-set_other, take_more, take_all}
@@ -63,7 +64,8 @@ module _ (edges : List (List ℕ)) where
   module _ (way next : List ℕ) (met : List Bool) (done : List ℕ) where
     -- a state that wasn't met and to which the way leads is put on the way
     pub entered : (t : ℕ) → IsSearch edges way next met done → t < length edges → marked met t ≡ false
-        → ((m : Mdp) (chosen : ℕ → ℕ → Bool) → IsMdp m → AreTargets m chosen edges → (k : ℕ) → k < length way → Reaches m chosen (get_or way k 0) t) → IsSearch edges (way ++ t ∷ []) next (set met t true) done
+        → ((m : Mdp) (chosen : ℕ → ℕ → Bool) → IsMdp m → AreTargets m chosen edges → (k : ℕ) → k < length way → Reaches m chosen (get_or way k 0) t)
+        → IsSearch edges (way ++ t ∷ []) next (set met t true) done
     entered t a ht out led =
         let h : t < length met = omega (arith, ht, a.count_met) in
         record {
@@ -78,16 +80,19 @@ module _ (edges : List (List ℕ)) where
           done_met = λ k l. kept_mark met t (get_or done k 0) h (a.done_met k l);
           stands = λ s hs e. (elim (cases_eq s t) as (λ _. StandsIn s done ⊎ StandsIn s (way ++ t ∷ [])) [
             | inl same ↦ inr (subst (λ x. StandsIn x (way ++ t ∷ [])) (sym same) (stands-last way t))
-            | inr other ↦ (elim (a.stands s hs (sym (get_or-set_other met t s true false other) ∙ e)) as (λ _. StandsIn s done ⊎ StandsIn s (way ++ t ∷ [])) [ inl d ↦ inl d | inr w ↦ inr (stands-more way t s w) ])
+            | inr other ↦ (elim (a.stands s hs (sym (get_or-set_other met t s true false other) ∙ e)) as (λ _. StandsIn s done
+                ⊎ StandsIn s (way ++ t ∷ [])) [ inl d ↦ inl d | inr w ↦ inr (stands-more way t s w) ])
           ]);
           within = a.within;
           looked = λ s k hs l. kept_mark met t (target_at edges s k) h (a.looked s k hs l);
           searching = λ m chosen ok are.
-              pushed m ok chosen way done t (a.searching m chosen ok are) (omega (arith, ht, are.count)) (λ d. false≢true (sym out ∙ ap (marked met) (sym d.2) ∙ a.done_met d.0 d.1)) (led m chosen ok are);
+              pushed m ok chosen way done t (a.searching m chosen ok are) (omega (arith, ht, are.count)) (λ d. false≢true (sym out ∙ ap (marked met) (sym d.2)
+              ∙ a.done_met d.0 d.1)) (led m chosen ok are);
         }
 
     -- more of a state's targets were met
-    pub looked_more : (t n : ℕ) → IsSearch edges way next met done → t < length edges → n ≤ length (get_or edges t []) → ((k : ℕ) → k < n → marked met (target_at edges t k) ≡ true) → IsSearch edges way (set next t n) met done
+    pub looked_more : (t n : ℕ) → IsSearch edges way next met done → t < length edges → n ≤ length (get_or edges t []) → ((k : ℕ) → k < n → marked met (target_at edges t k) ≡ true)
+        → IsSearch edges way (set next t n) met done
     looked_more t n a ht le known =
         let h : t < length next = omega (arith, ht, a.count_next) in
         record {
@@ -110,7 +115,8 @@ module _ (edges : List (List ℕ)) where
         }
 
     -- the last state on the way is done with, where all its targets were met
-    pub finished : (t : ℕ) → IsSearch edges (way ++ t ∷ []) next met done → ((k : ℕ) → k < length (get_or edges t []) → marked met (target_at edges t k) ≡ true) → IsSearch edges way next met (done ++ t ∷ [])
+    pub finished : (t : ℕ) → IsSearch edges (way ++ t ∷ []) next met done → ((k : ℕ) → k < length (get_or edges t []) → marked met (target_at edges t k) ≡ true)
+        → IsSearch edges way next met (done ++ t ∷ [])
     finished t a known =
         let top : get_or (way ++ t ∷ []) (length way) 0 ≡ t = at_last way t 0 in
         let ht : t < length edges = (let l = a.way_below (length way) (last_place way t) in omega (arith, l, top)) in
@@ -127,7 +133,8 @@ module _ (edges : List (List ℕ)) where
           ]);
           stands = λ s hs e. (elim (a.stands s hs e) as (λ _. StandsIn s (done ++ t ∷ []) ⊎ StandsIn s way) [
             | inl d ↦ inl (stands-more done t s d)
-            | inr w ↦ (elim (stands-cases way t s w) as (λ _. StandsIn s (done ++ t ∷ []) ⊎ StandsIn s way) [ inl old ↦ inr old | inr is ↦ inl (subst (λ x. StandsIn x (done ++ t ∷ [])) (sym is) (stands-last done t)) ])
+            | inr w ↦ (elim (stands-cases way t s w) as (λ _. StandsIn s (done ++ t ∷ [])
+                ⊎ StandsIn s way) [ inl old ↦ inr old | inr is ↦ inl (subst (λ x. StandsIn x (done ++ t ∷ [])) (sym is) (stands-last done t)) ])
           ]);
           within = a.within;
           looked = a.looked;
@@ -147,9 +154,11 @@ module _ (edges : List (List ℕ)) where
         let b = a.way_below (length way - 1) (omega (arith, some)) in
         let ht : top < states_of m = omega (arith, b, is, are.count) in
         let hj = a.way_below j h in
-        let w : Reaches m chosen (get_or way j 0) top = subst (λ x. Reaches m chosen (get_or way j 0) x) (sym is) (IsSearching.goes (a.searching m chosen ok are) j (length way - 1) (omega (arith, h)) (omega (arith, some))) in
+        let w : Reaches m chosen (get_or way j 0) top = subst (λ x. Reaches m chosen (get_or way j 0) x) (sym is) (IsSearching.goes (a.searching m chosen ok are) j (length way - 1) (omega
+        (arith, h)) (omega (arith, some))) in
         let z = step-has m chosen (λ x. x == u) top (sym (are.leads top u ht) ∙ some-any (λ x. x == u) (get_or edges top []) 0 k l (eq-eqb (target_at edges top k) u (sym e))) in
-        and_then m ok chosen (get_or way j 0) top u (omega (arith, hj, are.count)) w (one_more m chosen top z.0 z.1 u z.2 z.3 z.4 (subst (λ x. Reaches m chosen x u) (sym (eqb-true z.1 u z.5)) (here m chosen u)))
+        and_then m ok chosen (get_or way j 0) top u (omega (arith, hj, are.count)) w (one_more m chosen top z.0 z.1 u z.2 z.3 z.4 (subst (λ x. Reaches m chosen x u) (sym (eqb-true z.1 u z.5))
+        (here m chosen u)))
 
   -- ---- a step of the search
 
@@ -162,7 +171,8 @@ module _ (edges : List (List ℕ)) where
         → IsSearch edges (way ++ u ∷ []) (set next top (k + 1)) (set met u true) done
     goes_on k u l e hu out before =
         let h : u < length met = omega (arith, hu, a.count_met) in
-        looked_more (way ++ u ∷ []) next (set met u true) done top (k + 1) (entered way next met done u a hu out (led_on way next met done top k u a some is l e)) top_below (omega (arith, l)) (λ j lj. elim (cases_eq j k) as (λ _. marked (set met u true) (target_at edges top j) ≡ true) [
+        looked_more (way ++ u ∷ []) next (set met u true) done top (k + 1) (entered way next met done u a hu out (led_on way next met done top k u a some is l e)) top_below (omega (arith, l))
+        (λ j lj. elim (cases_eq j k) as (λ _. marked (set met u true) (target_at edges top j) ≡ true) [
           | inl same ↦ ap (λ i. marked (set met u true) (target_at edges top i)) same ∙ ap (marked (set met u true)) (sym e) ∙ new_mark met u h
           | inr other ↦ kept_mark met u (target_at edges top j) h (before j (omega (arith, lj, other)))
         ])
@@ -188,14 +198,16 @@ module _ (edges : List (List ℕ)) where
 
 -- ---- as the code has it
 
-pub search_as : (edges : List (List ℕ)) (way next : List ℕ) (met : List Bool) (done way_is next_is : List ℕ) (met_is : List Bool) (done_is : List ℕ) → way ≡ way_is → next ≡ next_is → met ≡ met_is → done ≡ done_is
+pub search_as : (edges : List (List ℕ)) (way next : List ℕ) (met : List Bool) (done way_is next_is : List ℕ) (met_is : List Bool) (done_is : List ℕ) → way ≡ way_is → next ≡ next_is
+    → met ≡ met_is → done ≡ done_is
     → IsSearch edges way_is next_is met_is done_is → IsSearch edges way next met done
 search_as edges way next met done way_is next_is met_is done_is e f g h a = rw (e, f, g, h) a
 
 pub targets_below : (edges : List (List ℕ)) (n s : ℕ) → AreEdges (length edges) edges → n ≡ length edges → s < length edges → All (λ t. t < n) (get_or edges s [])
 targets_below edges n s are e h = below-all n (get_or edges s []) (λ t m. (let l = are.below t s h m in omega (arith, l, e)))
 
-pub target_below : (edges : List (List ℕ)) (n s k : ℕ) (targets : List ℕ) → AreEdges (length edges) edges → n ≡ length edges → s < length edges → targets ≡ get_or edges s [] → k < length targets → get_or targets k 0 < n
+pub target_below : (edges : List (List ℕ)) (n s k : ℕ) (targets : List ℕ) → AreEdges (length edges) edges → n ≡ length edges → s < length edges → targets ≡ get_or edges s []
+    → k < length targets → get_or targets k 0 < n
 target_below edges n s k targets are e h is l = subst (λ (xs : List ℕ). All (λ t. t < n) xs) (sym is) (targets_below edges n s are e h) k 0 l
 
 pub at_default : (xs : List ℕ) (i d : ℕ) → i < length xs → get_or xs i d ≡ get_or xs i 0
@@ -204,7 +216,8 @@ at_default (x ∷ xs) zero d h = refl
 at_default (x ∷ xs) (suc i) d h = at_default xs i d (omega (arith, h))
 
 -- at the end of the search
-pub order_found : (edges : List (List ℕ)) (way next : List ℕ) (met : List Bool) (done : List ℕ) (n : ℕ) → IsSearch edges way next met done → way ≡ [] → ((s : ℕ) → s < n → marked met s ≡ true) → length edges ≤ n → IsOrder edges done
+pub order_found : (edges : List (List ℕ)) (way next : List ℕ) (met : List Bool) (done : List ℕ) (n : ℕ) → IsSearch edges way next met done → way ≡ [] → ((s : ℕ) → s < n → marked met s ≡ true)
+    → length edges ≤ n → IsOrder edges done
 order_found edges way next met done n a none seen le = record {
   below = a.done_below;
   all = λ s h. (elim (a.stands s h (seen s (omega (arith, h, le)))) [
@@ -215,6 +228,7 @@ order_found edges way next met done n a none seen le = record {
 }
 
 -- at its begin from a root
-pub root_entered : (edges : List (List ℕ)) (way next : List ℕ) (met : List Bool) (done : List ℕ) (root : ℕ) → IsSearch edges way next met done → way ≡ [] → root < length edges → marked met root ≡ false → IsSearch edges (way ++ root ∷ []) next (set met root true) done
+pub root_entered : (edges : List (List ℕ)) (way next : List ℕ) (met : List Bool) (done : List ℕ) (root : ℕ) → IsSearch edges way next met done → way ≡ [] → root < length edges
+    → marked met root ≡ false → IsSearch edges (way ++ root ∷ []) next (set met root true) done
 root_entered edges way next met done root a none h out =
     entered edges way next met done root a h out (λ m chosen ok are k l. let z = ap (λ (xs : List ℕ). length xs) none in absurd (omega (arith, l, z)))

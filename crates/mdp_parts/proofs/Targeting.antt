@@ -31,23 +31,27 @@ any_more p c = ap (list_any p) (range_more c) ∙ list_any-append p (range_with_
 pub none_gathered : (m : Mdp) (allowed : List (List Bool)) (s : ℕ) (list : List ℕ) → list ≡ [] → AreGathered m allowed s 0 list
 none_gathered m allowed s list e = record { at = λ t. ap (is_among t) e }
 
-pub gathered_more : (m : Mdp) (allowed : List (List Bool)) (s c : ℕ) (list new ts : List ℕ) (ps : List ℚ) → AreGathered m allowed s c list → allowed_at allowed s c ≡ true → length ts ≡ length ps → entries ts ps ≡ row_at m s c
+pub gathered_more : (m : Mdp) (allowed : List (List Bool)) (s c : ℕ) (list new ts : List ℕ) (ps : List ℚ) → AreGathered m allowed s c list → allowed_at allowed s c ≡ true
+    → length ts ≡ length ps → entries ts ps ≡ row_at m s c
     → new ≡ list ++ ts → AreGathered m allowed s (c + 1) new
 gathered_more m allowed s c list new ts ps a is same row e = record {
   at = λ t.
       ap (is_among t) e ∙ among-append t list ts ∙ ap (λ b. b || is_among t ts) (a.at t)
-      ∙ ap (λ b. list_any (target_test m allowed s t) (range_with_len 0 c) || b) (sym (ap (λ b. b && can_enter (λ x. x == t) (row_at m s c)) is ∙ ap (can_enter (λ x. x == t)) (sym row) ∙ leads-as-among ts ps t same))
+      ∙ ap (λ b. list_any (target_test m allowed s t) (range_with_len 0 c) || b) (sym (ap (λ b. b && can_enter (λ x. x == t) (row_at m s c)) is ∙ ap (can_enter (λ x. x == t)) (sym row)
+      ∙ leads-as-among ts ps t same))
       ∙ sym (any_more (target_test m allowed s t) c);
 }
 
 pub gathered_skip : (m : Mdp) (allowed : List (List Bool)) (s c : ℕ) (list : List ℕ) → AreGathered m allowed s c list → allowed_at allowed s c ≡ false → AreGathered m allowed s (c + 1) list
 gathered_skip m allowed s c list a out = record {
   at = λ t.
-      a.at t ∙ sym (or-false (list_any (target_test m allowed s t) (range_with_len 0 c))) ∙ ap (λ b. list_any (target_test m allowed s t) (range_with_len 0 c) || b) (sym (ap (λ b. b && can_enter (λ x. x == t) (row_at m s c)) out))
+      a.at t ∙ sym (or-false (list_any (target_test m allowed s t) (range_with_len 0 c)))
+      ∙ ap (λ b. list_any (target_test m allowed s t) (range_with_len 0 c) || b) (sym (ap (λ b. b && can_enter (λ x. x == t) (row_at m s c)) out))
       ∙ sym (any_more (target_test m allowed s t) c);
 }
 
-pub all_gathered : (m : Mdp) (allowed : List (List Bool)) (s c : ℕ) (list : List ℕ) → AreGathered m allowed s c list → c ≡ length (choices_at m s) → (t : ℕ) → is_among t list ≡ chosen_step m (allowed_at allowed) (λ x. x == t) s
+pub all_gathered : (m : Mdp) (allowed : List (List Bool)) (s c : ℕ) (list : List ℕ) → AreGathered m allowed s c list → c ≡ length (choices_at m s) → (t : ℕ)
+    → is_among t list ≡ chosen_step m (allowed_at allowed) (λ x. x == t) s
 all_gathered m allowed s c list a e t = a.at t ∙ ap (λ n. list_any (target_test m allowed s t) (range_with_len 0 n)) e
 
 -- the lists of the first n states
@@ -58,7 +62,8 @@ pub record AreTargetsBelow (m : Mdp) (chosen : ℕ → ℕ → Bool) (n : ℕ) (
 pub no_targets : (m : Mdp) (chosen : ℕ → ℕ → Bool) → AreTargetsBelow m chosen 0 []
 no_targets m chosen = record { count = refl; leads = λ s t h. absurd (omega (arith, h)) }
 
-pub targets_more : (m : Mdp) (chosen : ℕ → ℕ → Bool) (n : ℕ) (edges new : List (List ℕ)) (list : List ℕ) → AreTargetsBelow m chosen n edges → new ≡ edges ++ list ∷ [] → ((t : ℕ) → is_among t list ≡ chosen_step m chosen (λ x. x == t) n)
+pub targets_more : (m : Mdp) (chosen : ℕ → ℕ → Bool) (n : ℕ) (edges new : List (List ℕ)) (list : List ℕ) → AreTargetsBelow m chosen n edges → new ≡ edges ++ list ∷ [] → ((t : ℕ)
+    → is_among t list ≡ chosen_step m chosen (λ x. x == t) n)
     → AreTargetsBelow m chosen (n + 1) new
 targets_more m chosen n edges new list a e is = record {
   count = (let c = ap (λ (xs : List (List ℕ)). length xs) e in omega (arith, c, length-more edges list, a.count));

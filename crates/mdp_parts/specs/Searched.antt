@@ -1,5 +1,5 @@
 -- What a search in depth knows, and the order that it finds.
-use Rattle.std.specs.Prelude.{◌≡◌, ℕ, ◌<◌, ◌≤◌, ◌⊎◌, ◌+◌, ◌*◌, Bool, true, not, List, [], length, slice_index, slice_index_or}
+use Rattle.std.specs.Prelude.{◌≡◌, ℕ, ◌<◌, ◌≤◌, ◌⊎◌, ◌+◌, ◌*◌, Bool, true, false, not, List, [], length, slice_index, slice_index_or}
 use Rattle.std.specs.List.{count_by}
 use Rattle.mdp_spec.specs.Mdp.{Mdp}
 use Rattle.mdp_spec.specs.Row.{IsMdp}
@@ -10,6 +10,14 @@ use Rattle.mdp_parts.specs.Targets.{AreTargets}
 -- target k of state s
 abbrev pub target_at : List (List ℕ) → ℕ → ℕ → ℕ
 target_at edges s k = slice_index (slice_index_or edges s []) k
+
+-- the targets from one place on and before another were met
+abbrev pub AreMet : List Bool → List ℕ → ℕ → ℕ → Type 0
+AreMet met targets from end = (k : ℕ) → k < end → from ≤ k → marked met (slice_index targets k) ≡ true
+
+-- place i is the first from a place on whose target wasn't met
+abbrev pub IsFirstUnmet : List Bool → List ℕ → ℕ → ℕ → Type 0
+IsFirstUnmet met targets from i = (i < length targets) × (marked met (slice_index targets i) ≡ false) × AreMet met targets from i
 
 -- what was met is done with or on the way, and of each state so many targets were met
 pub record IsSearch (edges : List (List ℕ)) (way next : List ℕ) (met : List Bool) (done : List ℕ) : Type 0 where

@@ -2,7 +2,7 @@ ghost use Rattle.std.specs.Prelude.{◌≡◌, ◌≤◌, ◌<◌, ◌++◌, ◌
 ghost use Rattle.std.specs.List.{All};
 ghost use Rattle.mdp_graph.specs.Sets.{marked};
 ghost use Rattle.mdp_graph.specs.Edges.{AreEdges};
-ghost use Rattle.mdp_parts.specs.Searched.{IsSearch, IsOrder, work_left};
+ghost use Rattle.mdp_parts.specs.Searched.{AreMet, IsFirstUnmet, IsSearch, IsOrder, work_left};
 
 use crate::edges::Edges;
 use mdp_rows::Marks;
@@ -12,7 +12,7 @@ use std::alloc::{AllocError, Global};
 fn first_unmet(targets: &[u32], from: usize, met: &Marks) -> Option<usize>
     requires from { from ≤ length targets.now }
     requires in_range { All (λ t. t < length met.now) targets.now }
-    ensures { MatchOption result ((k : ℕ) → k < length targets.now → from ≤ k → marked met.now (slice_index targets.now k) ≡ true) (λ i. (i < length targets.now) × (marked met.now (slice_index targets.now i) ≡ false) × ((k : ℕ) → k < i → from ≤ k → marked met.now (slice_index targets.now k) ≡ true)) }
+    ensures { MatchOption result (AreMet met.now targets.now from (length targets.now)) (λ i. IsFirstUnmet met.now targets.now from i) }
 {
     for k in from..targets.len() {
         if !met.at(targets[k]) {

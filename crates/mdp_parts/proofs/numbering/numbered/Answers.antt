@@ -20,9 +20,11 @@ loop-key-preserved c =
           elim w.if-is_none.branch [
             | then-is_none v ↦
                 (let more : w.if-is_none.given.items ≡ set given k (Some c.loop-key.count) = rw v.given-is refl in
-                let h2 : k < length w.if-is_none.given.items = (let l = ap (λ (xs : List (Option ℕ)). length xs) more in let z = length-set given k (Some c.loop-key.count) in omega (arith, l, z, h)) in
+                let h2 : k < length w.if-is_none.given.items = (let l = ap (λ (xs : List (Option ℕ)). length xs) more in let z = length-set given k (Some c.loop-key.count) in omega
+                (arith, l, z, h)) in
                 rw (w.given-is, w.numbers-is, w.count-is, v.count-is, w.in_ok-push-in-Some.ensures.items)
-                (new_key c.args.keys.now c.args.limit n given numbers c.loop-key.count a k w.in-Some.is hk (ap is_none was ∙ ap not v.if-is_none.ensures) w.index-in-Some.result.now w.if-is_none.given.items more
+                (new_key c.args.keys.now c.args.limit n given numbers c.loop-key.count a k w.in-Some.is hk (ap is_none was
+                ∙ ap not v.if-is_none.ensures) w.index-in-Some.result.now w.if-is_none.given.items more
                 (sym (read_at w.if-is_none.given.items k w.index-in-Some.result.now h2 w.index-in-Some.ensures))))
             | else-is_none v ↦
                 (let same : w.if-is_none.given.items ≡ given = rw v.given-is refl in

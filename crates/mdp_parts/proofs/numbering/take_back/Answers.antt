@@ -10,4 +10,5 @@ next_layer-requires-clause-in_range c =
 
 pub loop-alloc-preserved : goal.loop-alloc-preserved
 loop-alloc-preserved c =
-    taking_more c.args.back.now c.args.root c.args.number c.args.numbers.now.items c.requires.root c.requires.free c.loop-alloc.numbers.items _ c.loop-alloc.layer.items c.deref.result.now _ c.loop-alloc.invariant c.deref.ensures.value c.in_ok-layer.ensures
+    taking_more c.args.back.now c.args.root c.args.number c.args.numbers.now.items c.requires.root c.requires.free c.loop-alloc.numbers.items _ c.loop-alloc.layer.items c.deref.result.now _
+    c.loop-alloc.invariant c.deref.ensures.value c.in_ok-layer.ensures

@@ -16,7 +16,8 @@ loop-allowed-smaller c =
 pub loop-allowed-preserved : goal.loop-allowed-preserved
 loop-allowed-preserved c =
     let a = c.loop-allowed.invariant in
-    let r : IsRound c.args.model.now c.loop-allowed.parts.items c.loop-allowed.allowed c.forbid_leaving.new.allowed c.forbid_leaving.result = subst (λ (xs : List ℕ). IsRound c.args.model.now xs c.loop-allowed.allowed c.forbid_leaving.new.allowed c.forbid_leaving.result) c.deref.ensures.value c.forbid_leaving.ensures in
+    let r : IsRound c.args.model.now c.loop-allowed.parts.items c.loop-allowed.allowed c.forbid_leaving.new.allowed c.forbid_leaving.result = subst (λ
+    (xs : List ℕ). IsRound c.args.model.now xs c.loop-allowed.allowed c.forbid_leaving.new.allowed c.forbid_leaving.result) c.deref.ensures.value c.forbid_leaving.ensures in
     record {
       sizes = r.sizes;
       keeps = round_keeps c.args.model.now c.loop-allowed.parts.items c.loop-allowed.allowed c.forbid_leaving.new.allowed c.forbid_leaving.result r c.known.ensures.mdp a.parts a.keeps;
@@ -25,12 +26,14 @@ loop-allowed-preserved c =
 
 pub numbered-requires-clause-few : goal.numbered-requires-clause-few
 numbered-requires-clause-few c =
-    let n = ap (λ (xs : List (Option ℕ)). length xs) (c.deref-3.ensures.value ∙ c.in_ok-keys.ensures) ∙ length-map-range_with_len (key_of c.args.model.now c.forbid_leaving.new.allowed c.deref-2.result.now) 0 (states_of c.args.model.now) in
+    let n = ap (λ (xs : List (Option ℕ)). length xs) (c.deref-3.ensures.value ∙ c.in_ok-keys.ensures)
+    ∙ length-map-range_with_len (key_of c.args.model.now c.forbid_leaving.new.allowed c.deref-2.result.now) 0 (states_of c.args.model.now) in
     omega (arith, n, c.states.ensures)
 
 pub numbered-requires-clause-below : goal.numbered-requires-clause-below
 numbered-requires-clause-below c = λ s k h e.
-    (let is = c.deref-3.ensures.value ∙ c.in_ok-keys.ensures ∙ ap (λ (xs : List ℕ). map (key_of c.args.model.now c.forbid_leaving.new.allowed xs) (range_with_len 0 (states_of c.args.model.now))) c.deref-2.ensures.value in
+    (let is = c.deref-3.ensures.value ∙ c.in_ok-keys.ensures
+    ∙ ap (λ (xs : List ℕ). map (key_of c.args.model.now c.forbid_leaving.new.allowed xs) (range_with_len 0 (states_of c.args.model.now))) c.deref-2.ensures.value in
     let l = key-below c.args.model.now c.forbid_leaving.new.allowed _ c.loop-allowed.parts.items c.deref-3.result.now c.loop-allowed.invariant.parts is s k h e in
     omega (arith, l, c.states.ensures))
 
@@ -40,7 +43,10 @@ returns c =
     let a = c.loop-allowed.invariant in
     let new = c.forbid_leaving.new.allowed in
     let numbers = c.in_ok-numbering.numbering.numbers.items in
-    let r : IsRound m c.loop-allowed.parts.items c.loop-allowed.allowed new false = subst (λ (xs : List ℕ). IsRound m xs c.loop-allowed.allowed new false) c.deref.ensures.value (subst (λ (b : Bool). IsRound m c.deref.result.now c.loop-allowed.allowed new b) c.loop-allowed-test.false c.forbid_leaving.ensures) in
-    let is : c.in_ok-keys.keys.items ≡ map (key_of m new c.loop-allowed.parts.items) (range_with_len 0 (states_of m)) = c.in_ok-keys.ensures ∙ ap (λ (xs : List ℕ). map (key_of m new xs) (range_with_len 0 (states_of m))) c.deref-2.ensures.value in
+    let r : IsRound m c.loop-allowed.parts.items c.loop-allowed.allowed new false = subst (λ (xs : List ℕ). IsRound m xs c.loop-allowed.allowed new false) c.deref.ensures.value (subst (λ
+    (b : Bool). IsRound m c.deref.result.now c.loop-allowed.allowed new b) c.loop-allowed-test.false c.forbid_leaving.ensures) in
+    let is : c.in_ok-keys.keys.items ≡ map (key_of m new c.loop-allowed.parts.items) (range_with_len 0 (states_of m)) = c.in_ok-keys.ensures
+    ∙ ap (λ (xs : List ℕ). map (key_of m new xs) (range_with_len 0 (states_of m))) c.deref-2.ensures.value in
     let n : IsRenumbered c.in_ok-keys.keys.items numbers = subst (λ (xs : List (Option ℕ)). IsRenumbered xs numbers) c.deref-3.ensures.value c.in_ok-numbering.ensures.numbers in
-    subst (λ (e : FoundEnds). AreEndsOf m e) (sym c.from_parts.ensures) (found m c.known.ensures.mdp c.loop-allowed.allowed new c.loop-allowed.parts.items c.in_ok-keys.keys.items numbers r a.parts a.keeps is n)
+    subst (λ (e : FoundEnds). AreEndsOf m e) (sym c.from_parts.ensures)
+    (found m c.known.ensures.mdp c.loop-allowed.allowed new c.loop-allowed.parts.items c.in_ok-keys.keys.items numbers r a.parts a.keeps is n)
