@@ -99,8 +99,8 @@ module _ (parts : List (Option ℕ)) (n : ℕ) (nodes : List ℕ) (components fi
     count = length-more nodes (length components) ∙ omega (arith, a.count);
     numbered = numbered-more nodes (length components) a.numbered (omega (arith, a.next));
     next =
-    nodes-more nodes (length components) ∙ ap (λ (b : Bool). cond b (nodes_in nodes) (nodes_in nodes + 1)) (le-ltb (length components) (nodes_in nodes) (omega (arith, a.next)))
-    ∙ omega (arith, a.next, length-more components (part_of parts n));
+        nodes-more nodes (length components) ∙ ap (λ (b : Bool). cond b (nodes_in nodes) (nodes_in nodes + 1)) (le-ltb (length components) (nodes_in nodes) (omega (arith, a.next)))
+        ∙ omega (arith, a.next, length-more components (part_of parts n));
     few = omega (arith, a.few, length-more components (part_of parts n));
     room = room ∙ a.room;
     part = λ s h. elim (cases_eq s n) [

@@ -109,7 +109,7 @@ rows_shape m nodes n k (x ∷ exits) h are all =
       some = omega arith;
       each = omega (arith, length-map exits (λ (y : Pred). node_row m nodes y.state y.choice));
       are = λ i l. (let hi : i < length (x ∷ exits) = omega (arith, l, length-map exits (λ (y : Pred). node_row m nodes y.state y.choice)) in
-      subst (λ (row : List Entry). IsRow n row) (sym (get_or-map (λ (y : Pred). node_row m nodes y.state y.choice) (x ∷ exits) i x [] hi)) (are (get_or (x ∷ exits) i x) (all i x hi)));
+          subst (λ (row : List Entry). IsRow n row) (sym (get_or-map (λ (y : Pred). node_row m nodes y.state y.choice) (x ∷ exits) i x [] hi)) (are (get_or (x ∷ exits) i x) (all i x hi)));
     })
 
 module _ (m : Mdp) (ok : IsMdp m) (parts : List (Option ℕ)) (are : AreEnds m parts) (q : Quotient) (is : IsQuotient m parts q) where

@@ -82,18 +82,18 @@ module _ (m : Mdp) (parts : List (Option ℕ)) (q : Quotient) (is : IsQuotient m
     chosen = λ selected sel. record {
       count = sel.count ∙ sym length-exits;
       at = λ k h some. (let hk : k < nodes_in q.nodes = omega (arith, h, length-exits) in
-      let e = ap length (exits-at k hk) in
-      elim (sel.at k hk) [
-        | inl none ↦ (let z = eqb-true (length (exits_of m parts q.nodes k)) 0 none.0 in absurd (omega (arith, some, e, z)))
-        | inr l ↦ omega (arith, l, e)
-      ]);
+          let e = ap length (exits-at k hk) in
+          elim (sel.at k hk) [
+            | inl none ↦ (let z = eqb-true (length (exits_of m parts q.nodes k)) 0 none.0 in absurd (omega (arith, some, e, z)))
+            | inr l ↦ omega (arith, l, e)
+          ]);
       none = λ k h none. (let hk : k < nodes_in q.nodes = omega (arith, h, length-exits) in
-      let e = ap length (exits-at k hk) in
-      elim (sel.at k hk) [ inl z ↦ z.1 | inr l ↦ absurd (omega (arith, l, e, none)) ]);
+          let e = ap length (exits-at k hk) in
+          elim (sel.at k hk) [ inl z ↦ z.1 | inr l ↦ absurd (omega (arith, l, e, none)) ]);
     };
     selected = λ selected sel.
-    fill_by_all (selected_row m parts q.nodes selected) (chosen_rows q selected) (nodes_in q.nodes) [] (length-map-range_with_len (λ k. row_of q k (get_or selected k 0)) 0 (length q.rows) ∙ length-rows)
-    (λ k h. get_or-map-range_with_len (λ j. row_of q j (get_or selected j 0)) 0 (length q.rows) k k [] (omega (arith, h, length-rows)) (omega arith) ∙ selected-at selected sel k h);
+        fill_by_all (selected_row m parts q.nodes selected) (chosen_rows q selected) (nodes_in q.nodes) [] (length-map-range_with_len (λ k. row_of q k (get_or selected k 0)) 0 (length q.rows) ∙ length-rows)
+        (λ k h. get_or-map-range_with_len (λ j. row_of q j (get_or selected j 0)) 0 (length q.rows) k k [] (omega (arith, h, length-rows)) (omega arith) ∙ selected-at selected sel k h);
   }
 
 pub every_selection_leaves : EverySelectionLeaves

@@ -161,7 +161,7 @@ merged_is n node row sums seen sorted a moved up =
           omega arith,
           (let w = place_of_times q sorted h in let l = All-permutation (λ k. k < n) seen sorted moved a.below w.0 0 w.1 in omega (arith, l, w.2)),
           not_from_false (le_ℚ (mass_at node row q) 0ℚ)
-          (elim (cases_Bool (le_ℚ (mass_at node row q) 0ℚ)) [ inl e ↦ (let k = count q ∙ ap (λ (b : Bool). cond b 0 1) e in absurd (omega (arith, k, h))) | inr e ↦ e ]),
+              (elim (cases_Bool (le_ℚ (mass_at node row q) 0ℚ)) [ inl e ↦ (let k = count q ∙ ap (λ (b : Bool). cond b 0 1) e in absurd (omega (arith, k, h))) | inr e ↦ e ]),
         );
       }
 

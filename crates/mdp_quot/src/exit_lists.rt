@@ -76,7 +76,10 @@ fn push_state(
     let node = nodes[s as usize] as usize;
     for c in 0..model.choices(s) {
         if !ends.inside(s, c) {
-            lists[node].push(Pred { state: s, choice: c })?;
+            lists[node].push(Pred {
+                state: s,
+                choice: c,
+            })?;
         }
     }
     Ok(())

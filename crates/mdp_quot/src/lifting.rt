@@ -88,7 +88,13 @@ impl Quotient<'_> {
     }
 
     /// At each state of an end component that takes an exit the choice toward the exit's state.
-    fn ways(&self, alloc: Global, model: &Model, ends: &Ends, outer: &[u32]) -> Result<Vec<u32>, Memory>
+    fn ways(
+        &self,
+        alloc: Global,
+        model: &Model,
+        ends: &Ends,
+        outer: &[u32],
+    ) -> Result<Vec<u32>, Memory>
         requires ends { AreEndsOf model.now ends.now }
         requires quotient { IsQuotient model.now ends.now.parts self.now }
         requires outer { IsOuter model.now ends.now.parts self.now.nodes outer.now }

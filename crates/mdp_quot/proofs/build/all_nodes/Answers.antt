@@ -17,15 +17,14 @@ pub loop-q-preserved : goal.loop-q-preserved
 loop-q-preserved c =
     let h : c.loop-q.q < length c.args.lists.now = omega (arith, c.loop-q-test.true) in
     let hc : c.loop-q.q < length c.args.numbering.now.components.items = omega (arith, h, c.requires.count, c.requires.components) in
-    let exits : c.as_slice-exits.result.now ≡ get_or c.args.lists.now c.loop-q.q [] = c.as_slice-exits.ensures ∙ c.index-lists-q.is ∙ get_or_default c.args.lists.now c.loop-q.q c.index-lists-q.result [] h in
-    (
+    let exits : c.as_slice-exits.result.now ≡ get_or c.args.lists.now c.loop-q.q [] = c.as_slice-exits.ensures ∙ c.index-lists-q.is ∙ get_or_default c.args.lists.now c.loop-q.q c.index-lists-q.result [] h in (
       laid_more (λ (x : Node). x.component) c.loop-q.nodes.items c.push.new.self.items c.in_ok-settled.field-0 _ _ c.in_ok-push.ensures.items c.loop-q.invariant.0 (c.in_ok-settled.ensures.component ∙ c.index.ensures)
-      ∙ sym (take_more c.args.numbering.now.components.items c.loop-q.q c.index.result.now hc),
+          ∙ sym (take_more c.args.numbering.now.components.items c.loop-q.q c.index.result.now hc),
       laid_more (λ (x : Node). x.exits.now) c.loop-q.nodes.items c.push.new.self.items c.in_ok-settled.field-0 _ _ c.in_ok-push.ensures.items c.loop-q.invariant.1 (c.in_ok-settled.ensures.exits ∙ exits)
-      ∙ sym (take_more c.args.lists.now c.loop-q.q [] h),
+          ∙ sym (take_more c.args.lists.now c.loop-q.q [] h),
       laid_more rows_in c.loop-q.nodes.items c.push.new.self.items c.in_ok-settled.field-0 _ _ c.in_ok-push.ensures.items c.loop-q.invariant.2
-      (c.in_ok-settled.ensures.rows ∙ ap (λ (rs : List Row). map row_in rs) c.deref-in-loop-q.ensures.value ∙ c.in_ok-rows.ensures.rows
-      ∙ ap₂ (λ (ns : List ℕ) (xs : List Pred). rows_by c.args.model.now ns c.loop-q.q xs) c.deref.ensures.value exits)
-      ∙ sym (map-range_with_len_more (λ k. rows_by c.args.model.now c.args.numbering.now.nodes.items k (get_or c.args.lists.now k [])) 0 c.loop-q.q c.loop-q.q (omega arith)),
+          (c.in_ok-settled.ensures.rows ∙ ap (λ (rs : List Row). map row_in rs) c.deref-in-loop-q.ensures.value ∙ c.in_ok-rows.ensures.rows
+          ∙ ap₂ (λ (ns : List ℕ) (xs : List Pred). rows_by c.args.model.now ns c.loop-q.q xs) c.deref.ensures.value exits)
+          ∙ sym (map-range_with_len_more (λ k. rows_by c.args.model.now c.args.numbering.now.nodes.items k (get_or c.args.lists.now k [])) 0 c.loop-q.q c.loop-q.q (omega arith)),
       subst (λ (ns : List ℕ). IsClear (nodes_in ns) c.rows_of_node.new.sums.sums.items c.rows_of_node.new.sums.seen.items) c.deref.ensures.value c.in_ok-rows.ensures.clear,
     )
