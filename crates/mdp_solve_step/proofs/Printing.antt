@@ -243,7 +243,7 @@ module _ (dir : Dir) (name label : List ℕ) (m : Mdp) (r l : ℕ) (a : rewarded
   reward_accepted = record {
     states = refl;
     entries = reward_entries dir name label (states_of m) (states_of m) a.values a.choices a.ranks refl values
-      (reward_choices_size dir m r (marks_of m l) a.values a.choices a.ranks rules.rules) ranks;
+        (reward_choices_size dir m r (marks_of m l) a.values a.choices a.ranks rules.rules) ranks;
     reward = r;
     named = named;
     goals = marks_of m l;

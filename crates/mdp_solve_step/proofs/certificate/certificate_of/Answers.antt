@@ -10,6 +10,6 @@ invariant_of-result c = record {
   limit = let e = c.states.ensures in let l = c.known.ensures.mdp.few in omega (arith, e, l);
   names = c.requires.name;
   inside = init_inside (reach c.args.dir c.args.label.items) c.args.model.now (λ s. Some (value_at c.deref-4.result.now s)) c.states.result
-    c.init_of-init.result c.states.ensures (λ s. refl) c.init_of-init.ensures;
+      c.init_of-init.result c.states.ensures (λ s. refl) c.init_of-init.ensures;
   entries = body_entries c.args.dir c.args.label.items _ _ _ _ _ c.states.ensures c.requires.values c.requires.choices c.requires.ranks;
 }

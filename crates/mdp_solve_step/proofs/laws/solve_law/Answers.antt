@@ -7,5 +7,5 @@ returns c = record {
   once = λ rule dir query model said again due next. solve_once dir query (model_due rule model) said again due next;
   answer = λ rule dir label model text m read mdp due. text_is_answer c.query_law.ensures.rules c.query_law.ensures.max c.query_law.ensures.min label m mdp dir text (model_due rule model) read due;
   reward = λ rule dir name label model text m read mdp due.
-    reward_text_is_answer c.query_law-2.ensures.rules c.query_law-2.ensures.max c.query_law-2.ensures.min name label m mdp dir text (model_due rule model) read due;
+      reward_text_is_answer c.query_law-2.ensures.rules c.query_law-2.ensures.max c.query_law-2.ensures.min name label m mdp dir text (model_due rule model) read due;
 }
