@@ -10,7 +10,7 @@ use Rattle.mdp_cert.specs.Reading as cert_text
 use Rattle.mdp_cert.specs.declared.error.Refusal as cert_refusal
 use Rattle.mdp_check.specs.Check.{answer_to, IsAccepted, IsBound}
 use Rattle.mdp_check.specs.declared.answer.Answer.{Answer}
-use Rattle.mdp_check.specs.declared.answer.Answer.TheVariants.{Yes, No, Wide, NoLabel, Size, Memory}
+use Rattle.mdp_check.specs.declared.answer.Answer.TheVariants.{Yes, No, Wide, NoReward, NoLabel, Size, Memory}
 use Rattle.mdp_check.proofs.Accepting.{yes_is_accepted, accepted_is_bound}
 use Rattle.mdp_job.specs.Refusal.{PlainRefusal, long_model, long_certificate}
 use Rattle.mdp_step.proofs.Working.{model_is_read}
@@ -21,7 +21,8 @@ use Rattle.mdp_app.specs.Due.{yes_text, said_of, said_to_certificate, said_to_mo
 
 -- ---- a text is due
 
-certificate_is_read : (long : Bool) (read : Result Certificate cert_refusal.Refusal) (c : Certificate) → cond long (Err long_certificate) (certificate_or_refusal read) ≡ Ok c → (long ≡ false) × (read ≡ Ok c)
+certificate_is_read : (long : Bool) (read : Result Certificate cert_refusal.Refusal) (c : Certificate) → cond long (Err long_certificate) (certificate_or_refusal read) ≡ Ok c
+    → (long ≡ false) × (read ≡ Ok c)
 certificate_is_read true read c e = cc
 certificate_is_read false (Ok d) c e = (refl, cc e)
 certificate_is_read false (Err r) c e = cc
@@ -30,6 +31,7 @@ is_yes : (a : Answer) (text : List ℕ) → said_of a ≡ Ok text → (a ≡ Yes
 is_yes Yes text e = (refl, cc e)
 is_yes (No fault) text e = cc
 is_yes (Wide state choice) text e = cc
+is_yes NoReward text e = cc
 is_yes NoLabel text e = cc
 is_yes Size text e = cc
 is_yes Memory text e = cc
@@ -72,7 +74,8 @@ not_more n xs x y h = ap (λ (b : Bool). cond b x y) (le-ltb n (length xs) h)
 accepted_due : (rule : RowRule) (model cert : List ℕ) → Accepted rule model cert → check_due rule model cert ≡ Ok yes_text
 accepted_due rule model cert a =
     ap (λ (r : Result Mdp PlainRefusal). said_to_model r cert) (not_more most_bytes model (Err long_model) (model_or_refusal (outcome rule model)) a.short_model ∙ ap model_or_refusal a.reads)
-    ∙ ap (λ (r : Result Certificate PlainRefusal). said_to_certificate a.model r) (not_more most_bytes cert (Err long_certificate) (certificate_or_refusal (cert_text.outcome cert)) a.short_cert ∙ ap certificate_or_refusal a.text)
+    ∙ ap (λ (r : Result Certificate PlainRefusal). said_to_certificate a.model r) (not_more most_bytes cert (Err long_certificate) (certificate_or_refusal (cert_text.outcome cert)) a.short_cert
+    ∙ ap certificate_or_refusal a.text)
     ∙ ap said_of ((yes_is_accepted a.model a.cert).1 a.holds)
 
 pub text_is_due : (rule : RowRule) (model cert text : List ℕ) → (Ok text ≡ check_due rule model cert) ↔ ((text ≡ yes_text) × Accepted rule model cert)
@@ -90,7 +93,8 @@ true_claim rule model cert text m mdp is e =
 
 -- ---- what is due to a model that was read, and to the bytes behind it
 
-pub check_due_by : (cert : List ℕ) (read : Result Mdp PlainRefusal) (said : Said) → IsDueToModel (λ m said. said ≡ said_to_certificate m (certificate_due cert)) read said → said ≡ said_to_model read cert
+pub check_due_by : (cert : List ℕ) (read : Result Mdp PlainRefusal) (said : Said) → IsDueToModel (λ m said. said ≡ said_to_certificate m (certificate_due cert)) read said
+    → said ≡ said_to_model read cert
 check_due_by cert (Ok m) said due = due
 check_due_by cert (Err r) said due = due
 

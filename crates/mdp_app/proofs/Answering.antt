@@ -1,16 +1,21 @@
 -- What a run answers, from what was decided and what was written.
-use Rattle.std.proofs.Common.{◌≡◌, ℕ, inl, inr, Bool, true, false, List, Option, Ok, Err, IfOk, refl, sym, ap, subst, ◌∙◌}
+use Rattle.std.proofs.Common.{◌≡◌, ℕ, inl, inr, Bool, true, false, List, Option, Result, Ok, Err, IfOk, refl, sym, ap, subst, ◌∙◌}
+use Rattle.mdp_spec.specs.Mdp.{Mdp}
+use Rattle.mdp_rows.specs.declared.dir.Dir.{Dir}
 use Rattle.mdp_drn.specs.FromSource.{HadLeft}
-use Rattle.mdp_job.specs.Job.{solve, check, Asked, reads_model, reads_second}
-use Rattle.mdp_job.specs.Refusal.{PlainRefusal, no_job, model_text, query_size, query_label, too_wide, check_wide, denied, read_model, read_certificate, long_model, long_certificate, cert_text, no_memory}
+use Rattle.mdp_job.specs.Job.{solve, check, drill, horizon, Asked, reads_model, reads_second}
+use Rattle.mdp_job.specs.Refusal.{PlainRefusal, no_job, model_text, query_size, query_reward, query_label, query_negative, query_steps, too_wide, check_wide, horizon_wide}
+use Rattle.mdp_job.specs.Refusal.{denied, read_model, read_certificate, long_model, long_certificate, cert_text, no_memory}
 use Rattle.mdp_job.specs.Status.{status_of}
 use Rattle.mdp_job.specs.declared.status.Status.{Status}
 use Rattle.mdp_job.specs.declared.status.Status.TheVariants as status
-use Rattle.mdp_step.specs.Files.{model_due}
+use Rattle.mdp_step.specs.Files.{model_due, IsDueToModel}
 use Rattle.mdp_step.specs.Said.{Said, said_status}
 use Rattle.mdp_step.specs.Streams.{Input, Told, Output}
 use Rattle.mdp_solve_step.proofs.Solved.{solve_once}
 use Rattle.mdp_solve_step.specs.Due.{IsSolveDue}
+use Rattle.mdp_drill_step.proofs.Drilled.{due-once}
+use Rattle.mdp_horizon_step.specs.Due.{IsHorizonDue}
 use Rattle.mdp_app.specs.Due.{check_due, IsDue}
 use Rattle.mdp_app.specs.Decided.{IsTextDecided, IsDecided, EndsWith}
 use Rattle.mdp_app.specs.Run.{IsFromBytes, HasCause, LeavesUnread, IsAnswered, IsWorkDone, IsDoneUnless, IsComplete}
@@ -21,9 +26,13 @@ refusal_status : (r : PlainRefusal) → status.Done ≡ status_of r → ⊥
 refusal_status (no_job e) h = cc
 refusal_status (model_text n kind) h = cc
 refusal_status query_size h = cc
+refusal_status query_reward h = cc
 refusal_status query_label h = cc
+refusal_status query_negative h = cc
+refusal_status query_steps h = cc
 refusal_status (too_wide w) h = cc
 refusal_status (check_wide state choice) h = cc
+refusal_status (horizon_wide depth state choice) h = cc
 refusal_status (denied f) h = cc
 refusal_status read_model h = cc
 refusal_status read_certificate h = cc
@@ -37,6 +46,11 @@ had_told : (reads : Bool) (x : Input) (told had : List ℕ) → Told reads x tol
 had_told true x told had t h is = subst (λ (left : Option (List ℕ)). HadLeft left had) t h
 had_told false x told had t h is = cc
 
+horizon_once : (dir : Dir) (stay : Option (List ℕ)) (label : List ℕ) (steps : ℕ) (read : Result Mdp PlainRefusal) (said again : Said) → IsDueToModel (IsHorizonDue dir stay label steps) read said
+    → IsDueToModel (IsHorizonDue dir stay label steps) read again → said ≡ again
+horizon_once dir stay label steps (Ok m) said again d e = d ∙ sym e
+horizon_once dir stay label steps (Err r) said again d e = d ∙ sym e
+
 -- what is due is due once
 due_once :
     (asked : Asked) (model second : Input) (m s n t text : List ℕ) (said : Said) → HadLeft model.before n → HadLeft second.before t → IsDue asked n t said
@@ -46,6 +60,10 @@ due_once (Ok (solve rule dir query)) model second m s n t text said hn ht due tm
     solve_once dir query (model_due rule m) said (Ok text) (subst (λ (x : List ℕ). IsSolveDue dir query (model_due rule x) said) (had_told true model m n tm hn refl) due) due_text
 due_once (Ok (check rule)) model second m s n t text said hn ht due tm ts due_text =
     due ∙ ap (λ (x : List ℕ). check_due rule x t) (had_told true model m n tm hn refl) ∙ ap (λ (x : List ℕ). check_due rule m x) (had_told true second s t ts ht refl) ∙ sym due_text
+due_once (Ok (drill number layers width)) model second m s n t text said hn ht due tm ts due_text = due-once number layers width said (Ok text) due due_text
+due_once (Ok (horizon rule dir stay label steps)) model second m s n t text said hn ht due tm ts due_text =
+    horizon_once dir stay label steps (model_due rule m) said (Ok text)
+    (subst (λ (x : List ℕ). IsDueToModel (IsHorizonDue dir stay label steps) (model_due rule x) said) (had_told true model m n tm hn refl) due) due_text
 due_once (Err e) model second m s n t text said hn ht due tm ts due_text = cc
 
 module _ (asked : Asked) (model second : Input) (out : Output) (ended : Status) where
@@ -78,4 +96,5 @@ module _ (asked : Asked) (model second : Input) (out : Output) (ended : Status) 
   by_cause said text w once (inr (inr (inr memory))) = ends said (Err no_memory) memory w (λ e. inr (inl e))
 
   pub complete : IsAnswered asked model second out ended → IsComplete asked model second out ended
-  complete a m s text tm ts due = by_cause a.said text a.written (λ from. due_once asked model second m s from.model_bytes from.second_bytes text a.said from.had_model from.had_second from.is_due tm ts due) a.cause
+  complete a m s text tm ts due =
+      by_cause a.said text a.written (λ from. due_once asked model second m s from.model_bytes from.second_bytes text a.said from.had_model from.had_second from.is_due tm ts due) a.cause

@@ -1,10 +1,10 @@
 -- What is decided of a command's words, from what its step made of the sources.
-use Rattle.std.proofs.Common.{◌≡◌, ℕ, inl, inr, true, false, List, Ok, Err, OnOk, IfOk, IsOk, IsTrue, refl, subst}
+use Rattle.std.proofs.Common.{◌≡◌, ◌⊎◌, ℕ, inl, inr, true, false, List, Ok, Err, OnOk, IfOk, IsOk, IsTrue, refl, subst}
 use Rattle.std.specs.Io.KnownBytes.{IsAtEnd}
 use Rattle.mdp_spec.specs.Mdp.{Mdp}
 use Rattle.mdp_rows.specs.declared.rule.RowRule.{RowRule}
 use Rattle.mdp_job.specs.Job.{Asked, reads_model, reads_second}
-use Rattle.mdp_job.specs.Refusal.{no_job}
+use Rattle.mdp_job.specs.Refusal.{no_job, no_memory}
 use Rattle.mdp_job.specs.declared.words_error.WordsError.{WordsError}
 use Rattle.mdp_step.proofs.FileBytes.{or_nothing, had_nothing}
 use Rattle.mdp_step.specs.Files.{model_due, IsDueToModel}
@@ -37,6 +37,43 @@ pub refused_words :
     (asked : Asked) (e : WordsError) (model second : Input) → Err e ≡ asked → model.same → second.same → IsStill model → IsStill second → IsDecided asked model second (Err (no_job e))
 refused_words asked e model second is model_same second_same model_still second_still =
     subst (λ (x : Asked). IsDecided x model second (Err (no_job e))) is (refused e model second model_same second_same model_still second_still)
+
+-- ---- a command that reads no source
+
+module _ (asked : Asked) (due : Said → Type 0) (shows : List ℕ → Type 0) (model second : Input) (rests : reads_model asked ≡ false) (rests_too : reads_second asked ≡ false)
+    (due_is : (bytes other : List ℕ) (said : Said) → due said → IsDue asked bytes other said) (shown_is : (bytes other text : List ℕ) → shows text → IsShown asked bytes other text)
+    (model_same : model.same) (second_same : second.same) (model_still : IsStill model) (second_still : IsStill second) where
+  from_nothing : (said : Said) → due said → IsFromBytes asked model second said
+  from_nothing said is_due = record {
+    model_bytes = or_nothing model.before;
+    second_bytes = or_nothing second.before;
+    had_model = had_nothing model.before;
+    had_second = had_nothing second.before;
+    is_due = due_is (or_nothing model.before) (or_nothing second.before) said is_due;
+    model_still = model_still;
+    second_still = second_still;
+  }
+
+  alone_cause : (said : Said) → (said ≡ Err no_memory) ⊎ due said → HasCause asked model second said
+  alone_cause said (inl memory) = inr (inr (inr memory))
+  alone_cause said (inr is_due) = inl (from_nothing said is_due)
+
+  alone_text : (said : Said) → (said ≡ Err no_memory) ⊎ due said → IfOk said shows → IfOk said (IsTextDecided asked model second)
+  unfolding from_nothing
+  alone_text (Ok text) (inl memory) shown = cc memory
+  alone_text (Ok text) (inr is_due) shown = record {
+    due = from_nothing (Ok text) is_due;
+    shown = shown_is (or_nothing model.before) (or_nothing second.before) text shown;
+    ends = record { model_end = λ h. cc (h, rests); second_end = λ h. cc (h, rests_too) };
+  }
+  alone_text (Err r) is_due shown = tt
+
+  pub alone_decided : (said : Said) → (said ≡ Err no_memory) ⊎ due said → IfOk said shows → IsDecided asked model second said
+  alone_decided said is_due shown = record {
+    cause = alone_cause said is_due;
+    unread = record { no_model = λ h. model_same; no_second = λ h. second_same; model_first = λ h. second_same };
+    done = alone_text said is_due shown;
+  }
 
 -- ---- a command that reads the model alone
 

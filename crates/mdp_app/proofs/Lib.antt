@@ -1,4 +1,5 @@
 mod Accepting
 mod Deciding
+mod Drawn
 mod Answering
 mod PredCounts

@@ -36,6 +36,7 @@ fn checked(alloc: Global, model: &Model, cert: &Cert) -> Result<Vec<u8>, Refusal
         Answer::Yes => yes(alloc),
         Answer::No(fault) => Err(Refusal::Denied(fault)),
         Answer::Wide { state, choice } => Err(Refusal::CheckWide { state, choice }),
+        Answer::NoReward => Err(Refusal::QueryReward),
         Answer::NoLabel => Err(Refusal::QueryLabel),
         Answer::Size => Err(Refusal::QuerySize),
         Answer::Memory => Err(Refusal::Memory),

@@ -8,7 +8,9 @@ ghost use Rattle.mdp_app.specs.Run.{IsAnswered, IsWorkDone, IsComplete};
 ghost use Rattle.mdp_app.specs.Decided.{IsDecided, EndsWith};
 
 use crate::checking::check_files;
+use mdp_drill_step::drill;
 use mdp_edge::{Sink, Source, WriteFault, write_all};
+use mdp_horizon_step::horizon_file;
 use mdp_job::{Job, MEMORY_TEXT, Refusal, Status, job_of, push_refusal};
 use mdp_num::Memory;
 use mdp_solve_step::solve_file;
@@ -26,6 +28,18 @@ fn decided<S: Source, C: Source>(
     match job_of(words) {
         Ok(Job::Solve { rule, dir, query }) => solve_file(alloc, rule, dir, query, model),
         Ok(Job::Check { rule }) => check_files(alloc, rule, model, second),
+        Ok(Job::Drill {
+            number,
+            layers,
+            width,
+        }) => drill(alloc, number, layers, width),
+        Ok(Job::Horizon {
+            rule,
+            dir,
+            stay,
+            label,
+            steps,
+        }) => horizon_file(alloc, rule, dir, stay, label, steps, model),
         Err(error) => Err(Refusal::Words(error)),
     }
 }

@@ -3,7 +3,8 @@ use Rattle.mdp_job.specs.Job.{plain_job, Asked}
 use Rattle.mdp_job.specs.declared.job.Job.{Job}
 use Rattle.mdp_step.specs.Files.{model_due}
 use Rattle.mdp_app.proofs.Accepting.{check_due_by}
-use Rattle.mdp_app.proofs.Deciding.{refused_words, model_decided, pair_decided, decided_as}
+use Rattle.mdp_app.proofs.Deciding.{refused_words, alone_decided, model_decided, pair_decided, decided_as}
+use Rattle.mdp_app.proofs.Drawn.{can_draw_of}
 use Rattle.mdp_app.proofs.run.decided.Goals as goal
 
 pub returns-in-Err : goal.returns-in-Err
@@ -19,3 +20,29 @@ returns-in-Ok-Check g c =
     decided_as _ _ _ _ _ (sym (ap (λ (job : Job). let asked : Asked = Ok (plain_job job) in asked) c.in-Ok-Check.field-0-is) ∙ c.in-Ok-Check.ensures)
     (pair_decided _ _ _ _ _ _ refl refl (λ bytes other said due. check_due_by other (model_due _ bytes) said due) (λ bytes other text shown. shown) (λ bytes read. read) _ c.check_files.ensures.read
     c.check_files.ensures.model_first c.check_files.ensures.model_end c.check_files.ensures.cert_end)
+
+pub drill-requires-clause-some_layers : goal.drill-requires-clause-some_layers
+drill-requires-clause-some_layers g c =
+    (can_draw_of _ _ _ _ (sym (ap (λ (job : Job). let asked : Asked = Ok (plain_job job) in asked) c.in-Ok-Drill.field-0-is) ∙ c.in-Ok-Drill.ensures)).some_layers
+
+pub drill-requires-clause-few_layers : goal.drill-requires-clause-few_layers
+drill-requires-clause-few_layers g c =
+    (can_draw_of _ _ _ _ (sym (ap (λ (job : Job). let asked : Asked = Ok (plain_job job) in asked) c.in-Ok-Drill.field-0-is) ∙ c.in-Ok-Drill.ensures)).few_layers
+
+pub drill-requires-clause-some_width : goal.drill-requires-clause-some_width
+drill-requires-clause-some_width g c =
+    (can_draw_of _ _ _ _ (sym (ap (λ (job : Job). let asked : Asked = Ok (plain_job job) in asked) c.in-Ok-Drill.field-0-is) ∙ c.in-Ok-Drill.ensures)).some_width
+
+pub drill-requires-clause-few_states : goal.drill-requires-clause-few_states
+drill-requires-clause-few_states g c =
+    (can_draw_of _ _ _ _ (sym (ap (λ (job : Job). let asked : Asked = Ok (plain_job job) in asked) c.in-Ok-Drill.field-0-is) ∙ c.in-Ok-Drill.ensures)).few_states
+
+pub returns-in-Ok-Drill : goal.returns-in-Ok-Drill
+returns-in-Ok-Drill g c =
+    decided_as _ _ _ _ _ (sym (ap (λ (job : Job). let asked : Asked = Ok (plain_job job) in asked) c.in-Ok-Drill.field-0-is) ∙ c.in-Ok-Drill.ensures)
+    (alone_decided _ _ _ _ _ refl refl (λ bytes other said due. due) (λ bytes other text shown. shown) refl refl refl refl _ c.drill.ensures.due c.drill.ensures.shown)
+
+pub returns-in-Ok-Horizon : goal.returns-in-Ok-Horizon
+returns-in-Ok-Horizon g c =
+    decided_as _ _ _ _ _ (sym (ap (λ (job : Job). let asked : Asked = Ok (plain_job job) in asked) c.in-Ok-Horizon.field-0-is) ∙ c.in-Ok-Horizon.ensures)
+    (model_decided _ _ _ _ _ _ refl refl (λ bytes other said due. due) (λ bytes other text shown. shown) refl refl _ c.horizon_file.ensures.read c.horizon_file.ensures.end)
