@@ -45,7 +45,8 @@ drawn_with (Some number) None width = tt
 drawn_with (Some number) (Some layers) None = tt
 
 drill_drawn : (words : List (List ℕ)) → IsDrawn (drill_of words)
-drill_drawn words = either (length words == 3) (drill_with (whole_word 20 (word_at words 0)) (whole_word 7 (word_at words 1)) (whole_word 7 (word_at words 2))) (Err Number) (drawn_with _ _ _) tt
+drill_drawn words = either (length words == 3) (drill_with (whole_word 20 (word_at words 0)) (whole_word 7 (word_at words 1)) (whole_word 7 (word_at words 2))) (Err Number)
+    (drawn_with (whole_word 20 (word_at words 0)) (whole_word 7 (word_at words 1)) (whole_word 7 (word_at words 2))) tt
 
 solve_drawn : (words : List (List ℕ)) → IsDrawn (solve_of words)
 solve_drawn words =

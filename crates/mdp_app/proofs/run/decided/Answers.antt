@@ -23,19 +23,19 @@ returns-in-Ok-Check g c =
 
 pub drill-requires-clause-some_layers : goal.drill-requires-clause-some_layers
 drill-requires-clause-some_layers g c =
-    (can_draw_of _ _ _ _ (sym (ap (λ (job : Job). let asked : Asked = Ok (plain_job job) in asked) c.in-Ok-Drill.field-0-is) ∙ c.in-Ok-Drill.ensures)).some_layers
+    (can_draw_of c.args.words.now _ _ _ (sym (ap (λ (job : Job). let asked : Asked = Ok (plain_job job) in asked) c.in-Ok-Drill.field-0-is) ∙ c.in-Ok-Drill.ensures)).some_layers
 
 pub drill-requires-clause-few_layers : goal.drill-requires-clause-few_layers
 drill-requires-clause-few_layers g c =
-    (can_draw_of _ _ _ _ (sym (ap (λ (job : Job). let asked : Asked = Ok (plain_job job) in asked) c.in-Ok-Drill.field-0-is) ∙ c.in-Ok-Drill.ensures)).few_layers
+    (can_draw_of c.args.words.now _ _ _ (sym (ap (λ (job : Job). let asked : Asked = Ok (plain_job job) in asked) c.in-Ok-Drill.field-0-is) ∙ c.in-Ok-Drill.ensures)).few_layers
 
 pub drill-requires-clause-some_width : goal.drill-requires-clause-some_width
 drill-requires-clause-some_width g c =
-    (can_draw_of _ _ _ _ (sym (ap (λ (job : Job). let asked : Asked = Ok (plain_job job) in asked) c.in-Ok-Drill.field-0-is) ∙ c.in-Ok-Drill.ensures)).some_width
+    (can_draw_of c.args.words.now _ _ _ (sym (ap (λ (job : Job). let asked : Asked = Ok (plain_job job) in asked) c.in-Ok-Drill.field-0-is) ∙ c.in-Ok-Drill.ensures)).some_width
 
 pub drill-requires-clause-few_states : goal.drill-requires-clause-few_states
 drill-requires-clause-few_states g c =
-    (can_draw_of _ _ _ _ (sym (ap (λ (job : Job). let asked : Asked = Ok (plain_job job) in asked) c.in-Ok-Drill.field-0-is) ∙ c.in-Ok-Drill.ensures)).few_states
+    (can_draw_of c.args.words.now _ _ _ (sym (ap (λ (job : Job). let asked : Asked = Ok (plain_job job) in asked) c.in-Ok-Drill.field-0-is) ∙ c.in-Ok-Drill.ensures)).few_states
 
 pub returns-in-Ok-Drill : goal.returns-in-Ok-Drill
 returns-in-Ok-Drill g c =
