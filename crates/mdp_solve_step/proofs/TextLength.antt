@@ -14,12 +14,13 @@ use Rattle.mdp_rows.specs.declared.dir.Dir.{Dir}
 use Rattle.mdp_rows.specs.declared.dir.Dir.TheVariants.{Max, Min}
 use Rattle.mdp_cert.specs.declared.init.Init.{Init}
 use Rattle.mdp_cert.specs.declared.init.Init.TheVariants.{Missing, Finite, Infinite}
-use Rattle.mdp_cert.specs.Cert.{PlainClaim, upper, reach, reward, are_names, may_be_infinite, PlainBody, bounds, policy, rewards, is_init_of, is_body_of}
+use Rattle.mdp_cert.specs.Cert.{PlainClaim, upper, reach, reward, mean, are_names, may_be_infinite, PlainBody, bounds, policy, rewards, gains, is_init_of, is_body_of}
 use Rattle.mdp_cert.specs.Cert.{IsInitInWidth, IsValueNarrow, IsBodyInWidth, Certificate, Fits}
-use Rattle.mdp_cert.specs.Claims.{Value, fraction_value, reward_value, reward_text, bound_columns, policy_columns, IsPolicyInWidth, policies}
+use Rattle.mdp_cert.specs.Claims.{Value, fraction_value, reward_value, reward_text, bound_columns, policy_columns, IsPolicyInWidth, policies, mean_columns, IsMeanInWidth, means}
 use Rattle.mdp_cert.specs.Runs.{Columns, Run, run, single, before_runs, longest_runs}
-use Rattle.mdp_cert.specs.Spelling.{line, ◌␣◌, quoted, dir_text, claim_text, states_text, init_text, head_text, entry_text, run_text, run_lines, end_text, text_in, text_of}
-use Rattle.mdp_cert.proofs.Growth.{bounds-entries, Entries, policy-entries, reward-entries}
+use Rattle.mdp_cert.specs.Spelling.{line, ◌␣◌, quoted, dir_text, claim_text, states_text, init_text, head_text, entry_text, run_text, run_lines, spread_text, end_text, text_in, text_of}
+use Rattle.mdp_cert.proofs.Growth.{bounds-entries, Entries, policy-entries, reward-entries, MeanEntries, gains-entries}
+use Rattle.mdp_cert.proofs.Means.{Back, back}
 use Rattle.mdp_cert.proofs.Policies.{length-policies}
 
 -- ---- words
@@ -90,6 +91,11 @@ claim_short (reward dir name label) h =
     let n = name_short name names.0 in
     let l = name_short label names.1 in
     omega (arith, a, b, c, d, n, l)
+claim_short (mean dir name) h =
+    let a = two_words dir (codes "mean") (quoted name) in
+    let d = quoted_length name in
+    let l = name_short name h in
+    omega (arith, a, d, l)
 
 states_short : (n : ℕ) → n < 2 ^ 32 → length (states_text n) ≤ 30
 states_short n h = let a = blank_length (codes "states") (decimal n) in let l = number_short n h in omega (arith, a, l)
@@ -116,13 +122,33 @@ init_short (Infinite state) h w =
 
 -- ---- the lines of the states
 
-entry_short : (word : List ℕ) (c r : ℕ) → length word ≤ 80 → c < 2 ^ 32 → r < 2 ^ 32 → length (word ␣ (decimal c ␣ decimal r)) ≤ 110
+entry_short : (word : List ℕ) (c r : ℕ) → length word ≤ 80 → c < 2 ^ 32 → r < 2 ^ 32 → length (word ␣ (decimal c ␣ decimal r)) ≤ 260
 entry_short word c r hv hc hr =
     let a = blank_length word (decimal c ␣ decimal r) in
     let b = blank_length (decimal c) (decimal r) in
     let y = number_short c hc in
     let z = number_short r hr in
     omega (arith, a, b, hv, y, z)
+
+means_short : (g z b : ℚ) (c : ℕ) → IsNarrow g → IsNarrow z → IsNarrow b → c < 2 ^ 32 → length (spelling g ␣ (spelling z ␣ (spelling b ␣ decimal c))) ≤ 260
+means_short g z b c hg hz hb hc =
+    let x = blank_length (spelling g) (spelling z ␣ (spelling b ␣ decimal c)) in
+    let y = blank_length (spelling z) (spelling b ␣ decimal c) in
+    let w = blank_length (spelling b) (decimal c) in
+    let p = spelling_short g hg in
+    let q = spelling_short z hz in
+    let r = spelling_short b hb in
+    let n = number_short c hc in
+    omega (arith, x, y, w, p, q, r, n)
+
+means_width :
+    (gs zs bs : List ℚ) (cs : List ℕ) → Each IsNarrow gs → Each IsNarrow zs → Each IsNarrow bs → Each (λ c. c < 2 ^ 32) cs → Each IsMeanInWidth (means gs zs bs cs)
+means_width (g ∷ gs) (z ∷ zs) (b ∷ bs) (c ∷ cs) p q o n =
+    (record { gain = p.0; bound = q.0; bias = o.0; choice = n.0 }, means_width gs zs bs cs p.1 q.1 o.1 n.1)
+means_width [] zs bs cs p q o n = tt
+means_width (g ∷ gs) [] bs cs p q o n = tt
+means_width (g ∷ gs) (z ∷ zs) [] cs p q o n = tt
+means_width (g ∷ gs) (z ∷ zs) (b ∷ bs) [] p q o n = tt
 
 module _ {V : Type 0} (P : V → Type 0) where
   entries_width : (zs : List V) (cs rs : List ℕ) → Each P zs → Each (λ c. c < 2 ^ 32) cs → Each (λ r. r < 2 ^ 32) rs → Each (IsPolicyInWidth P) (policies zs cs rs)
@@ -139,15 +165,15 @@ reward_short (Some x) h = spelling_short x h
 abbrev lines_of : {A : Type 0} → Columns A → List A → List ℕ
 lines_of k xs = run_lines k 0 (longest_runs k xs) ++ line end_text
 
--- of entries whose words have at most 110 bytes
-module _ {A : Type 0} (k : Columns A) (P : A → Type 0) (short : (x : A) → P x → length (entry_text k x) ≤ 110) where
+-- of entries whose words have at most 260 bytes
+module _ {A : Type 0} (k : Columns A) (P : A → Type 0) (short : (x : A) → P x → length (entry_text k x) ≤ 260) where
   abbrev state_text : ℕ → A → List ℕ
   state_text state x = codes "state" ␣ decimal state ␣ entry_text k x
 
   abbrev states_from : ℕ → ℕ → A → List ℕ
   states_from state more x = codes "run" ␣ decimal state ␣ decimal (state + more) ␣ entry_text k x
 
-  one_short : (state : ℕ) (x : A) → state < 2 ^ 32 → P x → length (state_text state x) ≤ 149
+  one_short : (state : ℕ) (x : A) → state < 2 ^ 32 → P x → length (state_text state x) ≤ 299
   one_short state x lt h =
       let a = blank_length (codes "state") (decimal state ␣ entry_text k x) in
       let b = blank_length (decimal state) (entry_text k x) in
@@ -155,7 +181,7 @@ module _ {A : Type 0} (k : Columns A) (P : A → Type 0) (short : (x : A) → P 
       let e = short x h in
       omega (arith, a, b, n, e)
 
-  many_short : (state more : ℕ) (x : A) → state + more < 2 ^ 32 → P x → length (states_from state more x) ≤ 149
+  many_short : (state more : ℕ) (x : A) → state + more < 2 ^ 32 → P x → length (states_from state more x) ≤ 299
   many_short state more x lt h =
       let a = blank_length (codes "run") (decimal state ␣ decimal (state + more) ␣ entry_text k x) in
       let b = blank_length (decimal state) (decimal (state + more) ␣ entry_text k x) in
@@ -165,11 +191,11 @@ module _ {A : Type 0} (k : Columns A) (P : A → Type 0) (short : (x : A) → P 
       let e = short x h in
       omega (arith, a, b, c, n, m, e)
 
-  either_short : (b : Bool) (x y : List ℕ) → length x ≤ 149 → length y ≤ 149 → length (line (cond b x y)) ≤ 150
+  either_short : (b : Bool) (x y : List ℕ) → length x ≤ 299 → length y ≤ 299 → length (line (cond b x y)) ≤ 300
   either_short true x y h l = let n = line_length x in omega (arith, n, h)
   either_short false x y h l = let n = line_length y in omega (arith, n, l)
 
-  run_short : (state : ℕ) (r : Run A) → state + r.more < 2 ^ 32 → P r.entry → length (line (run_text k state r)) ≤ 150
+  run_short : (state : ℕ) (r : Run A) → state + r.more < 2 ^ 32 → P r.entry → length (line (run_text k state r)) ≤ 300
   unfolding run_text
   run_short state r lt h =
       either_short (eqb r.more 0) (state_text state r.entry) (states_from state r.more r.entry) (one_short state r.entry (omega (arith, lt)) h) (many_short state r.more r.entry lt h)
@@ -183,7 +209,7 @@ module _ {A : Type 0} (k : Columns A) (P : A → Type 0) (short : (x : A) → P 
   AreInWidth [] = Unit {0}
   AreInWidth (r ∷ rs) = P r.entry × AreInWidth rs
 
-  lines_short : (state : ℕ) (rs : List (Run A)) → state + size rs ≤ 2 ^ 20 → AreInWidth rs → length (run_lines k state rs) ≤ 150 * size rs
+  lines_short : (state : ℕ) (rs : List (Run A)) → state + size rs ≤ 2 ^ 20 → AreInWidth rs → length (run_lines k state rs) ≤ 300 * size rs
   unfolding run_lines
   lines_short state [] h w = omega arith
   lines_short state (r ∷ rs) h w =
@@ -221,11 +247,11 @@ module _ {A : Type 0} (k : Columns A) (P : A → Type 0) (short : (x : A) → P 
   runs_width [] h = tt
   runs_width (x ∷ xs) h = before_width x (longest_runs k xs) h.0 (runs_width xs h.1)
 
-  states_lines_short : (xs : List A) → length xs ≤ 2 ^ 20 → Each P xs → length (run_lines k 0 (longest_runs k xs)) ≤ 150 * length xs
+  states_lines_short : (xs : List A) → length xs ≤ 2 ^ 20 → Each P xs → length (run_lines k 0 (longest_runs k xs)) ≤ 300 * length xs
   states_lines_short xs limit h = let n = runs_size xs in let l = lines_short 0 (longest_runs k xs) (omega (arith, n, limit)) (runs_width xs h) in omega (arith, n, l)
 
   -- with the line `end`
-  closed_short : (xs : List A) → length xs ≤ 2 ^ 20 → Each P xs → length (lines_of k xs) ≤ 150 * length xs + 4
+  closed_short : (xs : List A) → length xs ≤ 2 ^ 20 → Each P xs → length (lines_of k xs) ≤ 300 * length xs + 4
   closed_short xs limit h =
       let l = states_lines_short xs limit h in
       let a = length-append (run_lines k 0 (longest_runs k xs)) (line end_text) in
@@ -242,7 +268,7 @@ inside_short claim n (Infinite state) limit h =
 module _ (states : ℕ) (limit : states ≤ 2 ^ 20) where
   three_short :
       {V : Type 0} (k : Value V) (P : V → Type 0) → ((v : V) → P v → length (k.spell v) ≤ 80) → (zs : List V) (cs rs : List ℕ) → Entries states zs cs rs → Each P zs → Each (λ c. c < 2 ^ 32) cs
-      → Each (λ r. r < 2 ^ 32) rs → length (lines_of (policy_columns k) (policies zs cs rs)) ≤ 150 * states + 4
+      → Each (λ r. r < 2 ^ 32) rs → length (lines_of (policy_columns k) (policies zs cs rs)) ≤ 300 * states + 4
   three_short k P short zs cs rs sizes p q o =
       let x = sizes.values in
       let y = sizes.choices in
@@ -251,10 +277,22 @@ module _ (states : ℕ) (limit : states ≤ 2 ^ 20) where
       let l = closed_short (policy_columns k) (IsPolicyInWidth P) (λ p h. entry_short (k.spell p.value) p.choice p.rank (short p.value h.value) h.choice h.rank) (policies zs cs rs) (omega (arith, x, n, limit)) (entries_width P zs cs rs p q o) in
       omega (arith, x, n, l)
 
-  bounds_short : (zs : List ℚ) → length zs ≡ states → Each IsNarrow zs → length (lines_of bound_columns zs) ≤ 150 * states + 4
+  bounds_short : (zs : List ℚ) → length zs ≡ states → Each IsNarrow zs → length (lines_of bound_columns zs) ≤ 300 * states + 4
   bounds_short zs x w =
       let l = closed_short bound_columns IsNarrow (λ v n. let s = spelling_short v n in omega (arith, s)) zs (omega (arith, x, limit)) w in
       omega (arith, x, l)
+
+  means_lines_short :
+      (gs zs bs : List ℚ) (cs : List ℕ) → MeanEntries states gs zs bs cs → Each IsNarrow gs → Each IsNarrow zs → Each IsNarrow bs → Each (λ c. c < 2 ^ 32) cs
+      → length (lines_of mean_columns (means gs zs bs cs)) ≤ 300 * states + 4
+  means_lines_short gs zs bs cs sizes p q o n =
+      let x = sizes.gains in
+      let y = sizes.bounds in
+      let z = sizes.biases in
+      let w = sizes.choices in
+      let count = Back.count (back gs zs bs cs (record { bounds = omega (arith, x, y); biases = omega (arith, x, z); choices = omega (arith, x, w) })) in
+      let l = closed_short mean_columns IsMeanInWidth (λ x h. means_short x.gain x.bound x.bias x.choice h.gain h.bound h.bias h.choice) (means gs zs bs cs) (omega (arith, x, count, limit)) (means_width gs zs bs cs p q o n) in
+      omega (arith, x, count, l)
 
 module _ (c : Certificate) (fits : Fits c) where
   head_short : length (head_text c) ≤ 800
@@ -271,26 +309,42 @@ module _ (c : Certificate) (fits : Fits c) where
       let h = init_short c.init (inside_short c.claim c.states c.init limit fits.inside) fits.init_width in
       omega (arith, a, b, x, d, e, f, g, h)
 
-  whole_short : (lines : List ℕ) → length lines ≤ 150 * c.states + 4 → length (line (codes "mdp-certificate 2") ++ (head_text c ++ lines)) ≤ 2 ^ 30
+  whole_short : (lines : List ℕ) → length lines ≤ 300 * c.states + 104 → length (line (codes "mdp-certificate 2") ++ (head_text c ++ lines)) ≤ 2 ^ 30
   whole_short lines k =
       let a = length-append (line (codes "mdp-certificate 2")) (head_text c ++ lines) in
       let b = length-append (head_text c) lines in
       let h = head_short in
       let limit = fits.limit in
-      let p : 150 * 2 ^ 20 + 1000 < 2 ^ 30 = lit< tt in
+      let p : 300 * 2 ^ 20 + 1000 < 2 ^ 30 = lit< tt in
       omega (arith, a, b, h, k, limit, p)
+
+  -- behind the line of the spread
+  spread_lines_short : (spread : ℚ) (lines : List ℕ) → IsNarrow spread → length lines ≤ 300 * c.states + 4 → length (line (spread_text spread) ++ lines) ≤ 300 * c.states + 104
+  spread_lines_short spread lines narrow l =
+      let a = length-append (line (spread_text spread)) lines in
+      let b = line_length (spread_text spread) in
+      let d = blank_length (codes "spread") (spelling spread) in
+      let v = spelling_short spread narrow in
+      omega (arith, a, b, d, v, l)
+
+  plain_lines_short : (lines : List ℕ) → length lines ≤ 300 * c.states + 4 → length lines ≤ 300 * c.states + 104
+  plain_lines_short lines l = omega (arith, l)
 
   by_body : (body : PlainBody) → is_body_of c.claim c.states body ≡ true → IsBodyInWidth body → length (text_of (record c { body = body })) ≤ 2 ^ 30
   unfolding text_in
-  by_body (bounds zs) h w = whole_short (lines_of bound_columns zs) (bounds_short c.states fits.limit zs (bounds-entries c.claim c.states zs h) (recursion_from_All IsNarrow zs w))
+  by_body (bounds zs) h w = whole_short (lines_of bound_columns zs) (plain_lines_short _ (bounds_short c.states fits.limit zs (bounds-entries c.claim c.states zs h) (recursion_from_All IsNarrow zs w)))
   by_body (policy zs cs rs) h w =
       whole_short (lines_of (policy_columns fraction_value) (policies zs cs rs))
-      (three_short c.states fits.limit fraction_value IsNarrow spelling_short zs cs rs (policy-entries c.claim c.states zs cs rs h) (recursion_from_All IsNarrow zs w.0)
-      (recursion_from_All (λ c. c < 2 ^ 32) cs w.1) (recursion_from_All (λ r. r < 2 ^ 32) rs w.2))
+      (plain_lines_short _ (three_short c.states fits.limit fraction_value IsNarrow spelling_short zs cs rs (policy-entries c.claim c.states zs cs rs h) (recursion_from_All IsNarrow zs w.0)
+      (recursion_from_All (λ c. c < 2 ^ 32) cs w.1) (recursion_from_All (λ r. r < 2 ^ 32) rs w.2)))
   by_body (rewards vs cs rs) h w =
       whole_short (lines_of (policy_columns reward_value) (policies vs cs rs))
-      (three_short c.states fits.limit reward_value IsValueNarrow reward_short vs cs rs (reward-entries c.claim c.states vs cs rs h) (recursion_from_All IsValueNarrow vs w.0)
-      (recursion_from_All (λ c. c < 2 ^ 32) cs w.1) (recursion_from_All (λ r. r < 2 ^ 32) rs w.2))
+      (plain_lines_short _ (three_short c.states fits.limit reward_value IsValueNarrow reward_short vs cs rs (reward-entries c.claim c.states vs cs rs h) (recursion_from_All IsValueNarrow vs w.0)
+      (recursion_from_All (λ c. c < 2 ^ 32) cs w.1) (recursion_from_All (λ r. r < 2 ^ 32) rs w.2)))
+  by_body (gains gs zs bs cs k) h w =
+      whole_short (line (spread_text k) ++ lines_of mean_columns (means gs zs bs cs))
+      (spread_lines_short k _ w.4 (means_lines_short c.states fits.limit gs zs bs cs (gains-entries c.claim c.states gs zs bs cs k h) (recursion_from_All IsNarrow gs w.0)
+      (recursion_from_All IsNarrow zs w.1) (recursion_from_All IsNarrow bs w.2) (recursion_from_All (λ c. c < 2 ^ 32) cs w.3)))
 
   pub text_short : length (text_of c) ≤ 2 ^ 30
   text_short = by_body c.body fits.entries fits.body_width
