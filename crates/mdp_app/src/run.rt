@@ -28,18 +28,22 @@ fn decided<S: Source, C: Source>(
     match job_of(words) {
         Ok(Job::Solve { rule, dir, query }) => solve_file(alloc, rule, dir, query, model),
         Ok(Job::Check { rule }) => check_files(alloc, rule, model, second),
-        Ok(Job::Drill {
-            number,
-            layers,
-            width,
-        }) => drill(alloc, number, layers, width),
-        Ok(Job::Horizon {
-            rule,
-            dir,
-            stay,
-            label,
-            steps,
-        }) => horizon_file(alloc, rule, dir, stay, label, steps, model),
+        Ok(
+            Job::Drill {
+                number,
+                layers,
+                width,
+            },
+        ) => drill(alloc, number, layers, width),
+        Ok(
+            Job::Horizon {
+                rule,
+                dir,
+                stay,
+                label,
+                steps,
+            },
+        ) => horizon_file(alloc, rule, dir, stay, label, steps, model),
         Err(error) => Err(Refusal::Words(error)),
     }
 }
