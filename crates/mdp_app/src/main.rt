@@ -8,6 +8,8 @@ mod graph_tests;
 mod laws;
 #[cfg(test)]
 mod library_tests;
+#[cfg(test)]
+mod parts_tests;
 mod run;
 #[cfg(test)]
 mod tests;

@@ -2,6 +2,7 @@
 use crate::opened;
 use crate::run::run;
 use mdp_edge::{ListSink, ListSource, read_all};
+use mdp_gen::layered;
 use mdp_job::Status;
 use std::alloc::{AllocError, Global};
 use std::fs;
@@ -15,13 +16,16 @@ const COIN: &str =
 const UPPER: &str =
     "mdp-certificate 1\nclaim upper reach \"goal\"\nstates 3\ninit 0 1\nstate 0 1\nstate 1 1\nstate 2 0\nend\n";
 
+/// The words of a check.
+const CHECK: [&str; 4] = ["check", "MODEL", "exact", "CERT"];
+
 fn source(
     alloc: Global,
-    text: &str,
+    bytes: &[u8],
     chunk: usize,
     fails: &[u64],
 ) -> Result<ListSource, AllocError> {
-    let bytes = text.as_bytes().to_vec(alloc)?;
+    let bytes = bytes.to_vec(alloc)?;
     Ok(ListSource::new(bytes, chunk.max(1), fails.to_vec(alloc)?))
 }
 
@@ -33,10 +37,10 @@ fn sink(alloc: Global, room: usize, chunk: usize, fails: &[u64]) -> Result<ListS
     Ok(ListSink::new(store, chunk.max(1), fails.to_vec(alloc)?))
 }
 
-/// The words of a check, whose files are given otherwise.
-fn check_words(alloc: Global) -> Result<Vec<String>, AllocError> {
+/// The words of a command, whose files are given otherwise.
+fn words_of(alloc: Global, command: &[&str]) -> Result<Vec<String>, AllocError> {
     let mut words = Vec::new(alloc);
-    for word in ["check", "MODEL", "exact", "CERT"] {
+    for word in command {
         words.push(String::from_str(alloc, word)?)?;
     }
     Ok(words)
@@ -50,9 +54,9 @@ fn checked(
     cert_fails: &[u64],
     out: &mut ListSink,
 ) -> Result<Status, AllocError> {
-    let words = check_words(alloc)?;
-    let mut model = source(alloc, COIN, chunk, model_fails)?;
-    let mut cert = source(alloc, UPPER, chunk, cert_fails)?;
+    let words = words_of(alloc, &CHECK)?;
+    let mut model = source(alloc, COIN.as_bytes(), chunk, model_fails)?;
+    let mut cert = source(alloc, UPPER.as_bytes(), chunk, cert_fails)?;
     Ok(run(alloc, &words, &mut model, &mut cert, out))
 }
 
@@ -121,5 +125,34 @@ fn opens_files(rt: HostRuntime) -> Result<(), Fail> {
     fs::remove_file(&rt, "coin.drn")?;
     let missing = read_all(rt.alloc(), &mut opened(&rt, "missing.drn"), 1000);
     assert!(rt; missing.is_err());
+    Ok(())
+}
+
+/// How a command ends on a model and a second source, and what it writes.
+fn written(
+    alloc: Global,
+    command: &[&str],
+    model: &[u8],
+    second: &[u8],
+) -> Result<(Status, ListSink), AllocError> {
+    let words = words_of(alloc, command)?;
+    let mut model = source(alloc, model, 65_536, &[])?;
+    let mut second = source(alloc, second, 65_536, &[])?;
+    let mut out = sink(alloc, 1 << 20, 65_536, &[])?;
+    let end = run(alloc, &words, &mut model, &mut second, &mut out);
+    Ok((end, out))
+}
+
+/// What `solve` writes on a generated model of 4,002 states is accepted by `check`, with the same model.
+#[test]
+fn accepts_what_is_solved(rt: HostRuntime) -> Result<(), Fail> {
+    let mut model = Vec::new(rt.alloc());
+    layered(7, 40, 100, &mut model)?;
+    let solve = ["solve", "MODEL", "exact", "max", "reach", "goal"];
+    let (end, found) = written(rt.alloc(), &solve, &model, b"")?;
+    assert_eq!(rt; end, Status::Done);
+    let (end, said) = written(rt.alloc(), &CHECK, &model, found.bytes())?;
+    assert_eq!(rt; end, Status::Done);
+    assert_eq!(rt; said.bytes(), b"yes\n".as_slice());
     Ok(())
 }

@@ -1,0 +1,119 @@
+ghost use Rattle.std.specs.Prelude.{◌≡◌, ◌<◌, length};
+ghost use Rattle.mdp_spec.specs.Mdp.{states_of};
+ghost use Rattle.mdp_parts.specs.FoundEnds.{AreEndsOf};
+
+use bumpalo::Bump;
+use mdp_drn::read;
+use mdp_parts::{Allowed, Ends, components, end_components};
+use mdp_quot::Quotient;
+use mdp_rows::{Model, Row, RowRule};
+use std::alloc::{AllocError, Global};
+use std::test::Fail;
+
+/// The model of a text, which follows the type.
+fn model_of(alloc: Global, text: &str) -> Result<Model, Fail> {
+    let mut whole = String::from_str(alloc, "@type: MDP\n@nr_states\n")?;
+    whole.push_str(text)?;
+    Ok(read(alloc, whole.as_bytes(), RowRule::Exact)?)
+}
+
+/// The number of each state's strong component.
+fn push_components(alloc: Global, model: &Model, out: &mut String) -> Result<(), Fail> {
+    let all = Allowed::all(alloc, model)?;
+    out.push_str("components")?;
+    for number in &components(alloc, model, &all)? {
+        write!(out, " {number}")?;
+    }
+    Ok(())
+}
+
+/// The end component of state `s`, and which of its choices are inside.
+fn push_end(model: &Model, ends: &Ends, s: u32, out: &mut String) -> Result<(), AllocError>
+    requires ends { AreEndsOf model.now ends.now }
+    requires state { s < states_of model.now }
+{
+    match ends.of(s) {
+        Some(number) => write!(out, " {number}")?,
+        None => out.push_str(" -")?,
+    }
+    for c in 0..model.choices(s) {
+        out.push_str(if ends.inside(s, c) { " in" } else { " out" })?;
+    }
+    Ok(())
+}
+
+/// Appends the entries of a row.
+fn push_row(row: Row<'_>, out: &mut String) -> Result<(), AllocError> {
+    for i in 0..row.targets.len() {
+        let prob = &row.probs[i];
+        write!(out, " {} {}/{}", row.targets[i], prob.num(), prob.den())?;
+    }
+    Ok(())
+}
+
+/// The exits of node `q` and their rows.
+fn push_exits(quotient: &Quotient<'_>, q: u32, out: &mut String) -> Result<(), AllocError>
+    requires { q < length quotient.now.exits }
+{
+    for (i, exit) in quotient.exits(q).iter().enumerate() {
+        write!(out, ", node {q} by {}/{}:", exit.state, exit.choice)?;
+        if let Ok(i) = u32::try_from(i) {
+            push_row(quotient.row(q, i), out)?;
+        }
+    }
+    Ok(())
+}
+
+/// What is found in a model: strong components, end components, and the exits of the quotient.
+fn found_in(alloc: Global, text: &str) -> Result<String, Fail> {
+    let model = model_of(alloc, text)?;
+    let mut found = String::new(alloc);
+    push_components(alloc, &model, &mut found)?;
+    let ends = end_components(alloc, &model)?;
+    write!(found, ", {} ends", ends.count())?;
+    for s in 0..model.states() {
+        push_end(&model, &ends, s, &mut found)?;
+    }
+    let arena = Bump::new(alloc);
+    let quotient = Quotient::build(alloc, &arena, &model, &ends)?;
+    write!(found, ", {} nodes", quotient.nodes())?;
+    for q in 0..quotient.nodes() {
+        push_exits(&quotient, q, &mut found)?;
+    }
+    Ok(found)
+}
+
+/// Models of few states, and what is found in them by hand.
+#[test]
+fn finds_end_components(rt: HostRuntime) -> Result<(), Fail> {
+    for (model, found) in [
+        // three loops, and a chance to leave the first
+        (
+            "3\n@model\nstate 0\naction\n0:1\naction\n1:1/2\n2:1/2\nstate 1\naction\n1:1\nstate 2\naction\n2:1\n",
+            "components 0 1 2, 3 ends 0 in out 1 in 2 in, 3 nodes, node 0 by 0/1: 1 1/2 2 1/2",
+        ),
+        // two states that go round, and a way out
+        (
+            "3\n@model\nstate 0\naction\n1:1\naction\n2:1\nstate 1\naction\n0:1\nstate 2\naction\n2:1\n",
+            "components 0 0 1, 2 ends 0 in out 0 in 1 in, 2 nodes, node 0 by 0/1: 1 1/1",
+        ),
+        // a state that comes back by chance alone is in none
+        (
+            "3\n@model\nstate 0\naction\n1:1/2\n2:1/2\naction\n0:1/2\n1:1/4\n2:1/4\nstate 1\naction\n1:1\nstate 2\naction\n2:1\n",
+            "components 0 1 2, 2 ends - out out 0 in 1 in, 3 nodes, node 0 by 0/0: 1 1/2 2 1/2, node 0 by 0/1: 0 1/2 1 1/4 2 1/4",
+        ),
+        // two that only a way joins
+        (
+            "2\n@model\nstate 0\naction\n0:1\naction\n1:1\nstate 1\naction\n1:1\n",
+            "components 0 1, 2 ends 0 in out 1 in, 2 nodes, node 0 by 0/1: 1 1/1",
+        ),
+        // a merged row: both targets are in one node
+        (
+            "3\n@model\nstate 0\naction\n1:1/3\n2:2/3\nstate 1\naction\n2:1\nstate 2\naction\n1:1\n",
+            "components 0 1 1, 1 ends - out 0 in 0 in, 2 nodes, node 0 by 0/0: 1 1/1",
+        ),
+    ] {
+        assert_eq!(rt; found_in(rt.alloc(), model)?.as_str(), found, "{model}");
+    }
+    Ok(())
+}
