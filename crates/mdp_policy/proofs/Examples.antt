@@ -1,0 +1,144 @@
+-- A small model, computed.
+use Rattle.std.proofs.Common.{◌≡◌, ℕ, Bool, true, false, List, [], ◌∷◌, ◌++◌, ◌^◌, Option, Some, None, Ok, Err, refl, pos}
+use Rattle.std.specs.Prelude.{codes}
+use Rattle.std.specs.Fmt.{digits}
+use Rattle.mdp_math.specs.Gcd.{gcd, gcd_with_fuel}
+use Rattle.mdp_math.specs.Rational.{ℚ, of_int, ratio, ◌+ℚ◌, ◌*ℚ◌, neg_ℚ, inv_ℚ}
+use Rattle.mdp_math.specs.Written.{written_add, written_mul, written_compare, narrow, narrow_ℚ}
+use Rattle.mdp_num.specs.Value.{spelling}
+use Rattle.mdp_num.specs.Canonical.{canonical_of}
+use Rattle.mdp_spec.specs.Mdp.{Entry, Choice, State, Mdp}
+use Rattle.mdp_elim.specs.Elimination.{divided_rest, plus_equation, eliminated, evaluated}
+use Rattle.mdp_elim.specs.System.{equation_of}
+use Rattle.mdp_elim.specs.declared.too_wide.Kind.TheVariants.{Evaluate, Compare}
+use Rattle.mdp_cert.specs.declared.error.CertKind.TheVariants.{Version, Shape, Number, Count, End}
+use Rattle.mdp_cert.specs.Lines.{refused, next_line}
+use Rattle.mdp_cert.specs.Words.{words_behind, whole_of, whole_at}
+use Rattle.mdp_cert.specs.Reading.{states_at, nothing_behind}
+use Rattle.mdp_policy.specs.Written.{Answer, written_value}
+use Rattle.mdp_policy.specs.Spelling.{changes_text, value_text}
+use Rattle.mdp_policy.specs.Text.{policy_text, choose_at, choices_from, policy_outcome}
+use Rattle.mdp_policy.specs.declared.value.Change.{Change}
+
+abbrev to : ℕ → ℚ → Entry
+to t p = record { target = t; prob = p }
+
+abbrev by : List Entry → Choice
+by row = record { row = row; rewards = [] }
+
+abbrev with : List ℕ → List Choice → State
+with labels choices = record { labels = labels; choices = choices }
+
+abbrev number : ℕ → ℚ
+number n = of_int (pos n)
+
+abbrev model_of : List State → Mdp
+model_of states = record { names = []; labels = codes "init" ∷ codes "goal" ∷ []; states = states }
+
+abbrev stays : ℕ → List ℕ → State
+stays s labels = with labels (by (to s (number 1) ∷ []) ∷ [])
+
+-- state 0 loops, or goes to the goal 1 with 1/3 and is lost in 2 with 2/3
+abbrev goes : Mdp
+goes = model_of (with (0 ∷ []) (by (to 0 (number 1) ∷ []) ∷ by (to 1 (ratio (pos 1) 3) ∷ to 2 (ratio (pos 2) 3) ∷ []) ∷ []) ∷ stays 1 (1 ∷ []) ∷ stays 2 [] ∷ [])
+
+abbrev goal : List Bool
+goal = false ∷ true ∷ false ∷ []
+
+abbrev change : ℕ → ℕ → Option Change
+change s c = Some (record { state = s; choice = c })
+
+abbrev answer : List ℚ → Option Change → Option Change → Answer
+answer values up down = record { values = values; up = up; down = down }
+
+-- to go is as good as it gets: the loop is worth as much as going on, and that isn't better
+abbrev of_going : Answer
+of_going = answer (ratio (pos 1) 3 ∷ number 1 ∷ number 0 ∷ []) None None
+
+going : written_value goes goal (true ∷ true ∷ false ∷ []) (1 ∷ 0 ∷ 0 ∷ []) ≡ Ok of_going
+unfolding equation_of eliminated divided_rest plus_equation evaluated written_add written_mul written_compare narrow narrow_ℚ ◌+ℚ◌ ◌*ℚ◌ neg_ℚ inv_ℚ ratio of_int gcd gcd_with_fuel
+going = refl
+
+-- to loop never comes to the goal, and to go is better
+abbrev of_looping : Answer
+of_looping = answer (number 0 ∷ number 1 ∷ number 0 ∷ []) (change 0 1) None
+
+looping : written_value goes goal (false ∷ true ∷ false ∷ []) (0 ∷ 0 ∷ 0 ∷ []) ≡ Ok of_looping
+unfolding equation_of eliminated divided_rest plus_equation evaluated written_add written_mul written_compare narrow narrow_ℚ ◌+ℚ◌ ◌*ℚ◌ neg_ℚ inv_ℚ ratio of_int gcd gcd_with_fuel
+looping = refl
+
+-- state 0 goes to the goal, or with 1/2, or is lost. The policy takes the middle: of the choices that lower the value the last one taken is named,
+-- and state 1, a goal, has no change
+abbrev three_ways : Mdp
+three_ways = model_of
+    (with (0 ∷ []) (by (to 1 (number 1) ∷ []) ∷ by (to 1 (ratio (pos 1) 2) ∷ to 2 (ratio (pos 1) 2) ∷ []) ∷ by (to 1 (ratio (pos 1) 4) ∷ to 2 (ratio (pos 3) 4) ∷ []) ∷ by (to 2 (number 1) ∷ []) ∷ [])
+    ∷ with (1 ∷ []) (by (to 1 (number 1) ∷ []) ∷ by (to 2 (number 1) ∷ []) ∷ [])
+    ∷ stays 2 []
+    ∷ [])
+
+middle : written_value three_ways goal (true ∷ true ∷ false ∷ []) (1 ∷ 0 ∷ 0 ∷ []) ≡ Ok (answer (ratio (pos 1) 2 ∷ number 1 ∷ number 0 ∷ []) (change 0 0) (change 0 3))
+unfolding equation_of eliminated divided_rest plus_equation evaluated written_add written_mul written_compare narrow narrow_ℚ ◌+ℚ◌ ◌*ℚ◌ neg_ℚ inv_ℚ ratio of_int gcd gcd_with_fuel
+middle = refl
+
+-- 1/10^20 and 1/3^60 add up past width: in the evaluation where the policy takes that choice, in the comparison where it takes the other
+abbrev past_width : Mdp
+past_width = model_of (with (0 ∷ []) (by (to 1 (number 1) ∷ []) ∷ by (to 1 (ratio (pos 1) (10 ^ 20)) ∷ to 2 (ratio (pos 1) (3 ^ 60)) ∷ []) ∷ []) ∷ stays 1 (1 ∷ []) ∷ stays 2 (1 ∷ []) ∷ [])
+
+abbrev goals : List Bool
+goals = false ∷ true ∷ true ∷ []
+
+wide_value : written_value past_width goals (true ∷ true ∷ true ∷ []) (1 ∷ 0 ∷ 0 ∷ []) ≡ Err (record { kind = Evaluate; node = 0; choice = 1 })
+unfolding equation_of eliminated divided_rest plus_equation evaluated written_add written_mul written_compare narrow narrow_ℚ ◌+ℚ◌ ◌*ℚ◌ neg_ℚ inv_ℚ ratio of_int gcd gcd_with_fuel
+wide_value = refl
+
+wide_comparison : written_value past_width goals (true ∷ true ∷ true ∷ []) (0 ∷ 0 ∷ 0 ∷ []) ≡ Err (record { kind = Compare; node = 0; choice = 1 })
+unfolding equation_of eliminated divided_rest plus_equation evaluated written_add written_mul written_compare narrow narrow_ℚ ◌+ℚ◌ ◌*ℚ◌ neg_ℚ inv_ℚ ratio of_int gcd gcd_with_fuel
+wide_comparison = refl
+
+-- ---- the texts
+
+printed : value_text (codes "goal") goes of_going ≡ codes "mdp-value 1\npolicy reach \"goal\"\nstates 3\ninit 0 1/3\nimprove max none\nimprove min none\nstate 0 1/3\nstate 1 1\nstate 2 0\nend\n"
+unfolding value_text changes_text spelling ratio of_int gcd gcd_with_fuel digits
+printed = refl
+
+printed_change : value_text (codes "goal") goes of_looping ≡ codes "mdp-value 1\npolicy reach \"goal\"\nstates 3\ninit 0 0\nimprove max 0 1\nimprove min none\nstate 0 0\nstate 1 1\nstate 2 0\nend\n"
+unfolding value_text changes_text spelling ratio of_int gcd gcd_with_fuel digits
+printed_change = refl
+
+abbrev front : List ℕ
+front = codes "mdp-policy 1\nstates 3\nchoose 0 1\nchoose 1 0\n"
+
+text : policy_text (1 ∷ 0 ∷ 0 ∷ []) ≡ front ++ codes "choose 2 0\nend\n"
+unfolding policy_text digits
+text = refl
+
+record Read : Type 0 where
+  whole : policy_outcome (front ++ codes "choose 2 0\nend\n") ≡ Ok (1 ∷ 0 ∷ 0 ∷ [])
+  no_end : policy_outcome (front ++ codes "choose 2 0\n") ≡ refused End 6
+  more : policy_outcome (front ++ codes "choose 2 0\nend\n\n") ≡ refused End 7
+  cut : policy_outcome (front ++ codes "choose 2 0\nend") ≡ refused End 6
+  fewer : policy_outcome (front ++ codes "end\n") ≡ refused Shape 5
+  more_states : policy_outcome (front ++ codes "choose 2 0\nchoose 3 0\nend\n") ≡ refused Shape 6
+  order : policy_outcome (front ++ codes "choose 1 0\nend\n") ≡ refused Count 5
+  number : policy_outcome (front ++ codes "choose 2 00\nend\n") ≡ refused Number 5
+  state_first : policy_outcome (front ++ codes "choose x 0\nend\n") ≡ refused Number 5
+  version : policy_outcome (codes "mdp-policy 2\nstates 1\nchoose 0 0\nend\n") ≡ refused Version 1
+  none : policy_outcome (codes "mdp-policy 1\nstates 0\nend\n") ≡ refused Count 2
+  empty : policy_outcome [] ≡ refused End 1
+
+reads : Read
+unfolding policy_outcome choose_at choices_from next_line whole_of whole_at words_behind states_at nothing_behind canonical_of ratio gcd gcd_with_fuel
+reads = record {
+  whole = refl;
+  no_end = refl;
+  more = refl;
+  cut = refl;
+  fewer = refl;
+  more_states = refl;
+  order = refl;
+  number = refl;
+  state_first = refl;
+  version = refl;
+  none = refl;
+  empty = refl;
+}

@@ -1,0 +1,9 @@
+pub mod Deviations
+pub mod Values
+pub mod Turns
+pub mod Solving
+pub mod Choosing
+pub mod Facts
+pub mod Initial
+pub mod Reading
+mod Examples

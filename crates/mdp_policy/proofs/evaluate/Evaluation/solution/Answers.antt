@@ -1,0 +1,23 @@
+use Rattle.std.proofs.Common.{◌∙◌, sym, arith, rules}
+use Rattle.mdp_reach.specs.Query.{policy_rows}
+use Rattle.mdp_path.proofs.Solving.{one_column, first_len, written_solution-below}
+use Rattle.mdp_policy.proofs.Solving.{policy_rows-len}
+use Rattle.mdp_policy.proofs.evaluate.Evaluation.solution.Goals as goal
+
+pub solve_leaving-requires-clause-columns : goal.solve_leaving-requires-clause-columns
+solve_leaving-requires-clause-columns c =
+    one_column (λ x. x.items) c.deref.result.now c.args.constants _ (c.deref.ensures.value ∙ (c.in_ok-push.ensures {u = tt}).items ∙ search rules)
+    (c.requires.constants ∙ sym (policy_rows-len c.args.self.model.now c.args.self.policy.now))
+
+pub returns-in-Ok-clause-count : goal.returns-in-Ok-clause-count
+returns-in-Ok-clause-count c =
+    first_len (λ x. x.items) (policy_rows c.args.self.model.now c.args.self.policy.now) c.args.active.now c.deref.result.now c.in-Ok.solutions.items c.args.constants c.remove.result
+    (c.deref.ensures.value ∙ (c.in_ok-push.ensures {u = tt}).items ∙ search rules) (c.in-Ok.ensures {u = tt}).solves c.remove.ensures.value
+    ∙ policy_rows-len c.args.self.model.now c.args.self.policy.now
+
+pub bounds-self-state : goal.bounds-self-state
+bounds-self-state c =
+    let l = written_solution-below _ _ _ c.in-Err-Wide.state ((c.in-Err-Wide.ensures {u = tt}).wide c.in-Err-Wide.state (search rules)) in
+    let n = policy_rows-len c.args.self.model.now c.args.self.policy.now in
+    let m = c.args.self.chosen.one_each in
+    omega arith

@@ -1,0 +1,73 @@
+-- What the code answers, beside the definitions.
+use Rattle.std.specs.Prelude.{◌≡◌, ℕ, Bool, List, Some, Result, Ok, Err}
+use Rattle.mdp_spec.specs.Mdp.{Mdp, states_of}
+use Rattle.mdp_spec.specs.Tree.{is_marked}
+use Rattle.mdp_num.specs.declared.errors.Wide.{Wide}
+use Rattle.mdp_elim.specs.declared.too_wide.Kind.{Kind}
+use Rattle.mdp_elim.specs.declared.too_wide.Part.TheVariants.{Whole}
+use Rattle.mdp_elim.specs.declared.too_wide.TooWide.{TooWide}
+use Rattle.mdp_elim.specs.declared.too_wide.SolveError.{SolveError}
+use Rattle.mdp_elim.specs.declared.too_wide.SolveError.TheVariants as solve
+use Rattle.mdp_graph.specs.Layers.{AreReached}
+use Rattle.mdp_graph.specs.Reach.{row_step}
+use Rattle.mdp_path.specs.Candidates.{Best}
+use Rattle.mdp_path.specs.Places.{Place}
+use Rattle.mdp_reach.specs.Query.{policy_rows}
+use Rattle.mdp_policy.specs.Written.{Answer, written_value}
+use Rattle.mdp_policy.specs.declared.error.PlaceError.{PlaceError}
+use Rattle.mdp_policy.specs.declared.error.PlaceError.TheVariants as error
+use Rattle.mdp_policy.specs.declared.value.PolicyValue.{PolicyValue}
+use Rattle.mdp_policy.specs.declared.compare.Leader.{Leader}
+
+-- an error says that a computation ends at its place; want of memory says nothing
+abbrev pub Says : {B : Type 0} → PlaceError → Result B Place → Type 0
+Says (error.Wide kind s c) r = r ≡ Err (record { kind = kind; node = s; choice = c })
+Says error.Memory r = Unit {0}
+
+-- what the code answers to a computation: its value seen by f, its place, or want of memory
+abbrev pub Answers : {A B : Type 0} → (A → B) → Result A PlaceError → Result B Place → Type 0
+Answers f (Ok x) r = r ≡ Ok (f x)
+Answers f (Err e) r = Says e r
+
+-- a step for a choice of a state
+abbrev pub placed_at : {A : Type 0} → Kind → ℕ → ℕ → Result A Wide → Result A PlaceError
+placed_at kind s c (Ok x) = Ok x
+placed_at kind s c (Err e) = Err (error.Wide kind s c)
+
+-- the best value so far, as the code holds it
+abbrev pub shown : Leader → Best
+shown leader = record { value = leader.value; choice = leader.choice }
+
+abbrev pub plain : PolicyValue → Answer
+plain v = record { values = v.values.items; up = v.up; down = v.down }
+
+-- ---- the value of a policy
+
+-- its computation ends so
+pub record IsValueOf (m : Mdp) (goals : List Bool) (policy : List ℕ) (r : Result Answer Place) : Type 0 where
+  -- the states from which the policy can reach a goal
+  pub marks : List Bool
+  pub reached : AreReached (row_step (policy_rows m policy)) (is_marked goals) (states_of m) marks
+  pub is : written_value m goals marks policy ≡ r
+
+-- the term past width at this place: of the whole model, in round 0, with the policy
+pub record IsTermAt (policy : List ℕ) (place : Place) (w : TooWide) : Type 0 where
+  pub part : w.part ≡ Whole
+  pub round : w.round ≡ 0
+  pub policy_is : w.policy.items ≡ policy
+  pub kind : w.kind ≡ place.kind
+  pub state : w.state ≡ Some place.node
+  pub choice : w.choice ≡ Some place.choice
+
+-- what is answered: the value, the first term past width, or want of memory
+abbrev pub Gives : Mdp → List Bool → List ℕ → Result PolicyValue SolveError → Type 0
+Gives m goals policy (Ok v) = IsValueOf m goals policy (Ok (plain v))
+Gives m goals policy (Err (solve.TooWide w)) = (place : Place) × IsTermAt policy place w × IsValueOf m goals policy (Err place)
+Gives m goals policy (Err solve.Memory) = Unit {0}
+
+-- the error of a place as that of a query
+abbrev pub Named : List ℕ → PlaceError → SolveError → Type 0
+Named policy (error.Wide kind s c) (solve.TooWide w) = IsTermAt policy (record { kind = kind; node = s; choice = c }) w
+Named policy (error.Wide kind s c) solve.Memory = Unit {0}
+Named policy error.Memory (solve.TooWide w) = ⊥
+Named policy error.Memory solve.Memory = Unit {0}

@@ -1,0 +1,144 @@
+ghost use Rattle.std.specs.Prelude.{◌≡◌, ◌<◌, length, Some, None, IfOk, IfErr};
+ghost use Rattle.mdp_spec.specs.Mdp.{states_of, choices_at};
+ghost use Rattle.mdp_elim.specs.declared.too_wide.Kind.TheVariants.{Compare};
+ghost use Rattle.mdp_path.specs.Candidates.{is_better, judged};
+ghost use Rattle.mdp_policy.specs.Choices.{sum_of_choice, compared};
+ghost use Rattle.mdp_policy.specs.Written.{taken_at, change_at, best_of, first_change};
+ghost use Rattle.mdp_policy.specs.Answer.{Answers, placed_at, shown};
+
+use crate::error::PlaceError;
+use crate::value::Change;
+use mdp_elim::Kind;
+use mdp_num::{Frac, Wide};
+use mdp_rows::{Dir, Marks, Model};
+use std::cmp::Ordering;
+
+/// The values of a policy, to be compared with what the choices of each state are worth.
+#[derive(Clone, Copy)]
+pub(crate) struct Comparison<'m, 'v> {
+    pub dir: Dir,
+    pub model: &'m Model,
+    pub goals: &'m Marks,
+    pub values: &'v [Frac],
+    ghost goals_each: { length goals.now ≡ states_of model.now },
+    ghost values_each: { length values.now ≡ states_of model.now },
+}
+
+/// The best value at a state so far, and the choice that has it where it isn't the state's own.
+#[derive(Clone, Copy)]
+pub(crate) struct Leader {
+    pub value: Frac,
+    pub choice: Option<u32>,
+}
+
+/// Greater for the greatest values, less for the least ones.
+fn is_better(dir: Dir, order: Ordering) -> bool
+    ensures { result ≡ is_better dir order }
+{
+    match dir {
+        Dir::Max => order == Ordering::Greater,
+        Dir::Min => order == Ordering::Less,
+    }
+}
+
+/// The leader after the sum of choice `c` has been compared with it.
+fn judged(dir: Dir, c: u32, leader: Leader, sum: Frac) -> Result<Leader, Wide>
+    ensures value { IfOk result (λ next. judged dir c (shown leader) sum ≡ Some (shown next)) }
+    ensures wide { IfErr result (λ _. judged dir c (shown leader) sum ≡ None) }
+{
+    let order = sum.compare(&leader.value)?;
+    if is_better(dir, order) {
+        return Ok(Leader {
+            value: sum,
+            choice: Some(c),
+        });
+    }
+    Ok(leader)
+}
+
+/// A step at choice `c` of state `s`.
+fn at_choice<T>(step: Result<T, Wide>, s: u32, c: u32) -> Result<T, PlaceError>
+    ensures { result ≡ placed_at Compare s c step }
+{
+    match step {
+        Ok(value) => Ok(value),
+        Err(Wide) => Err(PlaceError::Wide {
+            kind: Kind::Compare,
+            state: s,
+            choice: c,
+        }),
+    }
+}
+
+/// The change at state `s`, where a choice is taken there.
+fn change_at(s: u32, choice: Option<u32>) -> Option<Change>
+    ensures { result ≡ change_at s choice }
+{
+    match choice {
+        Some(choice) => Some(Change { state: s, choice }),
+        None => None,
+    }
+}
+
+impl Comparison<'_, '_> {
+    /// The sum of choice `c` of state `s`.
+    fn sum(self, s: u32, c: u32) -> Result<Frac, Wide>
+        requires state { s < states_of self.model.now }
+        requires choice { c < length (choices_at self.model.now s) }
+        ensures value { IfOk result (λ sum. sum_of_choice self.entry.model.now self.entry.values.now s c ≡ Some sum) }
+        ensures wide { IfErr result (λ _. sum_of_choice self.entry.model.now self.entry.values.now s c ≡ None) }
+    {
+        self.model.row(s, c).sum(&Frac::whole(0), self.values)
+    }
+
+    /// The leader after choice `c` of state `s` has been summed up and compared with it.
+    fn compared(self, s: u32, c: u32, leader: Leader) -> Result<Leader, Wide>
+        requires state { s < states_of self.model.now }
+        requires choice { c < length (choices_at self.model.now s) }
+        ensures value { IfOk result (λ next. compared self.entry.dir self.entry.model.now self.entry.values.now s c (shown leader) ≡ Some (shown next)) }
+        ensures wide { IfErr result (λ _. compared self.entry.dir self.entry.model.now self.entry.values.now s c (shown leader) ≡ None) }
+    {
+        let sum = self.sum(s, c)?;
+        judged(self.dir, c, leader, sum)
+    }
+
+    /// The leader after all choices of state `s`, from the state's own value on.
+    fn best(self, s: u32) -> Result<Leader, PlaceError>
+        requires { s < states_of self.model.now }
+        ensures { Answers shown result (best_of self.entry.dir self.entry.model.now self.entry.values.now s (length (choices_at self.entry.model.now s))) }
+    {
+        let mut leader = Leader {
+            value: self.values[s as usize],
+            choice: None,
+        };
+        for c in 0..self.model.choices(s) {
+            leader = at_choice(self.compared(s, c, leader), s, c)?;
+        }
+        Ok(leader)
+    }
+
+    /// The choice that is taken at state `s`, where it is no goal and one is.
+    fn taken(self, s: u32) -> Result<Option<u32>, PlaceError>
+        requires { s < states_of self.model.now }
+        ensures { Answers (λ choice. choice) result (taken_at self.entry.dir self.entry.model.now self.entry.goals.now self.entry.values.now s) }
+    {
+        if self.goals.at(s) {
+            return Ok(None);
+        }
+        let leader = self.best(s)?;
+        Ok(leader.choice)
+    }
+
+    /// The first state at which a choice is taken, and the choice.
+    pub(crate) fn first_change(self) -> Result<Option<Change>, PlaceError>
+        ensures { Answers (λ change. change) result (first_change self.entry.dir self.entry.model.now self.entry.goals.now self.entry.values.now (states_of self.entry.model.now)) }
+    {
+        for s in 0..self.model.states() {
+            let change = change_at(s, self.taken(s)?);
+            if change.is_some() {
+                return Ok(change);
+            }
+        }
+        Ok(None)
+    }
+}

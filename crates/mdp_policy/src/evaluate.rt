@@ -1,0 +1,220 @@
+ghost use Rattle.std.specs.Prelude.{ℕ, List, [], ◌∷◌, ◌≡◌, ◌<◌, length, slice_index, map, Ok, IfOk};
+ghost use Rattle.std.specs.Result.{result_ok};
+ghost use Rattle.std.specs.List.{All};
+ghost use Rattle.mdp_spec.specs.Mdp.{states_of};
+ghost use Rattle.mdp_spec.specs.Row.{entries};
+ghost use Rattle.mdp_spec.specs.Tree.{IsPolicy, is_marked};
+ghost use Rattle.mdp_spec.specs.Written.{written_sum};
+ghost use Rattle.mdp_elim.specs.System.{Leaves};
+ghost use Rattle.mdp_elim.specs.declared.too_wide.Kind.TheVariants.{Evaluate};
+ghost use Rattle.mdp_path.specs.Code.{plus_outer};
+ghost use Rattle.mdp_path.specs.Path.{outer};
+ghost use Rattle.mdp_reach.specs.Query.{policy_rows};
+ghost use Rattle.mdp_policy.specs.Written.{is_under_way, under_way, goal_value, goal_values, constant_of, constants, value_by, values_by, eliminated, evaluated};
+ghost use Rattle.mdp_policy.specs.Answer.{Answers, placed_at};
+
+use crate::error::PlaceError;
+use mdp_elim::{ElimError, Kind, solve_leaving};
+use mdp_num::{Frac, Wide};
+use mdp_rows::{Marks, Model, PolicyRows, Row};
+use std::alloc::{AllocError, Global};
+
+/// A policy, its goals, and the marks of the states from which it can reach one.
+#[derive(Clone, Copy)]
+pub(crate) struct Evaluation<'m, 'k> {
+    pub model: &'m Model,
+    pub goals: &'m Marks,
+    pub marks: &'k Marks,
+    pub policy: &'m [u32],
+    ghost goals_each: { length goals.now ≡ states_of model.now },
+    ghost marks_each: { length marks.now ≡ states_of model.now },
+    ghost chosen: { IsPolicy model.now policy.now },
+}
+
+/// `sum`, and where the target isn't active its value times the probability.
+fn plus_outer(
+    sum: &Frac,
+    target: u32,
+    prob: &Frac,
+    active: &Marks,
+    values: &[Frac],
+) -> Result<Frac, Wide>
+    requires active { target < length active.now }
+    requires values { target < length values.now }
+    ensures { result_ok result ≡ plus_outer active.now values.now sum.now target prob.now }
+{
+    if active.at(target) {
+        return Ok(*sum);
+    }
+    let term = prob.mul(&values[target as usize])?;
+    sum.add(&term)
+}
+
+/// The sum over the entries to states that aren't active.
+fn outer_sum(row: Row<'_>, active: &Marks, start: &Frac, values: &[Frac]) -> Result<Frac, Wide>
+    requires active { All (λ t. t < length active.now) row.targets.now }
+    requires values { All (λ t. t < length values.now) row.targets.now }
+    ensures { result_ok result ≡ written_sum values.now start.now (outer active.now (entries row.entry.targets.now row.entry.probs.now)) }
+{
+    let mut sum = *start;
+    for i in 0..row.targets.len() {
+        sum = plus_outer(&sum, row.targets[i], &row.probs[i], active, values)?;
+    }
+    Ok(sum)
+}
+
+/// A step for state `s`.
+fn at_state<T>(step: Result<T, Wide>, policy: &[u32], s: u32) -> Result<T, PlaceError>
+    requires { s < length policy.now }
+    ensures { result ≡ placed_at Evaluate s (slice_index policy.now s) step }
+{
+    match step {
+        Ok(value) => Ok(value),
+        Err(Wide) => Err(PlaceError::Wide {
+            kind: Kind::Evaluate,
+            state: s,
+            choice: policy[s as usize],
+        }),
+    }
+}
+
+impl Evaluation<'_, '_> {
+    /// Whether state `s` is no goal and is marked.
+    fn is_under_way(self, s: u32) -> bool
+        requires { s < states_of self.model.now }
+        ensures { result ≡ is_under_way self.entry.goals.now self.entry.marks.now s }
+    {
+        !self.goals.at(s) && self.marks.at(s)
+    }
+
+    /// The states that are no goals and are marked.
+    pub(crate) fn under_way(self, alloc: Global) -> Result<Marks, AllocError>
+        ensures { IfOk result (λ marks. marks ≡ under_way self.entry.model.now self.entry.goals.now self.entry.marks.now) }
+    {
+        let mut marks = Vec::new(alloc);
+        for s in 0..self.model.states() {
+            marks.push(self.is_under_way(s))?;
+        }
+        Ok(Marks::from_values(marks))
+    }
+
+    /// 1 at a goal, 0 elsewhere.
+    fn goal_value(self, s: u32) -> Frac
+        requires { s < states_of self.model.now }
+        ensures { result ≡ goal_value self.entry.goals.now s }
+    {
+        if self.goals.at(s) {
+            Frac::whole(1)
+        } else {
+            Frac::whole(0)
+        }
+    }
+
+    /// 1 at goals, 0 elsewhere.
+    fn goal_values(self, alloc: Global) -> Result<Vec<Frac>, AllocError>
+        ensures { IfOk result (λ values. values.items ≡ goal_values self.entry.model.now self.entry.goals.now) }
+    {
+        let mut values = Vec::new(alloc);
+        for s in 0..self.model.states() {
+            values.push(self.goal_value(s))?;
+        }
+        Ok(values)
+    }
+
+    /// The constant of state `s`: under way the sum over the entries to states that aren't.
+    fn constant_of(self, active: &Marks, values: &[Frac], s: u32) -> Result<Frac, Wide>
+        requires state { s < states_of self.model.now }
+        requires active { active.now ≡ under_way self.model.now self.goals.now self.marks.now }
+        requires values { values.now ≡ goal_values self.model.now self.goals.now }
+        ensures { result_ok result ≡ constant_of self.entry.model.now self.entry.goals.now self.entry.marks.now self.entry.policy.now s }
+    {
+        if !self.is_under_way(s) {
+            return Ok(Frac::whole(0));
+        }
+        let row = self.model.row(s, self.policy[s as usize]);
+        outer_sum(row, active, &Frac::whole(0), values)
+    }
+
+    /// The constants of all states.
+    fn constants(self, alloc: Global, active: &Marks) -> Result<Vec<Frac>, PlaceError>
+        requires { active.now ≡ under_way self.model.now self.goals.now self.marks.now }
+        ensures { Answers (λ constants. constants.items) result (constants self.entry.model.now self.entry.goals.now self.entry.marks.now self.entry.policy.now) }
+    {
+        let values = self.goal_values(alloc)?;
+        let mut constants = Vec::new(alloc);
+        for s in 0..self.model.states() {
+            let constant = at_state(self.constant_of(active, &values, s), self.policy, s)?;
+            constants.push(constant)?;
+        }
+        Ok(constants)
+    }
+
+    /// 1 at a goal, and what was solved for elsewhere.
+    fn value_by(self, solution: &[Frac], s: u32) -> Frac
+        requires state { s < states_of self.model.now }
+        requires solution { length solution.now ≡ states_of self.model.now }
+        ensures { result ≡ value_by self.entry.goals.now solution.now s }
+    {
+        if self.goals.at(s) {
+            Frac::whole(1)
+        } else {
+            solution[s as usize]
+        }
+    }
+
+    /// The values of all states.
+    fn values_by(self, alloc: Global, solution: &[Frac]) -> Result<Vec<Frac>, AllocError>
+        requires { length solution.now ≡ states_of self.model.now }
+        ensures { IfOk result (λ values. values.items ≡ values_by self.entry.model.now self.entry.goals.now solution.now) }
+    {
+        let mut values = Vec::new(alloc);
+        for s in 0..self.model.states() {
+            values.push(self.value_by(solution, s))?;
+        }
+        Ok(values)
+    }
+
+    /// The solution of the policy's system.
+    fn solution(
+        self,
+        alloc: Global,
+        active: &Marks,
+        constants: Vec<Frac>,
+    ) -> Result<Vec<Frac>, PlaceError>
+        requires leaves { (ranks : List ℕ) × Leaves (policy_rows self.model.now self.policy.now) active.now ranks }
+        requires active { active.now ≡ under_way self.model.now self.goals.now self.marks.now }
+        requires constants { length constants.items ≡ states_of self.model.now }
+        ensures value { Answers (λ x. x.items ∷ []) result (eliminated self.entry.model.now self.entry.goals.now self.entry.marks.now self.entry.policy.now constants.items) }
+        ensures count { IfOk result (λ x. length x.items ≡ states_of self.entry.model.now) }
+    {
+        let rows = PolicyRows {
+            model: self.model,
+            policy: self.policy,
+        };
+        let mut columns = Vec::new(alloc);
+        columns.push(constants)?;
+        match solve_leaving(alloc, &rows, active, &columns) {
+            Ok(solutions) => {
+                let mut solutions = solutions;
+                Ok(solutions.remove(0))
+            }
+            Err(ElimError::Wide { state }) => Err(PlaceError::Wide {
+                kind: Kind::Evaluate,
+                state,
+                choice: self.policy[state as usize],
+            }),
+            Err(ElimError::Memory) => Err(PlaceError::Memory),
+        }
+    }
+
+    /// The values of the policy.
+    pub(crate) fn values(self, alloc: Global) -> Result<Vec<Frac>, PlaceError>
+        requires { (ranks : List ℕ) × Leaves (policy_rows self.model.now self.policy.now) (under_way self.model.now self.goals.now self.marks.now) ranks }
+        ensures { Answers (λ values. values.items) result (evaluated self.entry.model.now self.entry.goals.now self.entry.marks.now self.entry.policy.now) }
+    {
+        let active = self.under_way(alloc)?;
+        let constants = self.constants(alloc, &active)?;
+        let solution = self.solution(alloc, &active, constants)?;
+        Ok(self.values_by(alloc, &solution)?)
+    }
+}

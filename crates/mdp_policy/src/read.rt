@@ -1,0 +1,84 @@
+ghost use Rattle.std.specs.Prelude.{◌≡◌, ◌+◌, ◌<◌, ◌≤◌, ◌^◌, Ok, IfOk, IfErr, MatchResult, length};
+ghost use Rattle.mdp_cert.specs.Answer.{Refuses};
+ghost use Rattle.mdp_cert.specs.Lines.{place};
+ghost use Rattle.mdp_cert.specs.Reading.{states_at, nothing_behind};
+ghost use Rattle.mdp_policy.specs.Text.{choose_at, choices_from, policy_outcome};
+
+use crate::lines::{is_line, next_line, refuse_if};
+use crate::words::{cut_word, only_word, whole_at, words_behind};
+use mdp_cert::{CertError, CertKind, Refusal};
+use std::alloc::Global;
+
+/// The number in the line `states N`, from 1 to 2^20.
+#[tactic(auto, unfolding(mdp_cert::specs::Reading::states_at))]
+fn states_at(line: u64, text: &[u8]) -> Result<u32, Refusal>
+    ensures { result ≡ states_at line text.now }
+{
+    let word = words_behind(line, text, b"states", 1)?;
+    let states = whole_at(line, only_word(word))?;
+    refuse_if(CertKind::Count, line, states == 0 || states > 1 << 20)?;
+    Ok(states)
+}
+
+/// The choice in the line `choose S C`, where S is the state that is due.
+#[tactic(auto, unfolding(crate::specs::Text::choose_at))]
+fn choose_at(due: u32, line: u64, text: &[u8]) -> Result<u32, Refusal>
+    ensures { result ≡ choose_at due line text.now }
+{
+    let behind = words_behind(line, text, b"choose", 2)?;
+    let (word, behind) = cut_word(behind);
+    let state = whole_at(line, word)?;
+    let choice = whole_at(line, only_word(behind))?;
+    refuse_if(CertKind::Count, line, state != due)?;
+    Ok(choice)
+}
+
+/// Reads the lines of so many states, the first of which has this number, and gives their choices, the number of the line behind them and the
+/// bytes from there on.
+fn choices_from(
+    alloc: Global,
+    states: u32,
+    line: u64,
+    bytes: &[u8],
+) -> Result<(Vec<u32>, u64, &[u8]), CertError>
+    requires { line < 2 ^ 32 }
+    ensures said { let read = choices_from states 0 (place line bytes.now) in MatchResult result (λ p. read ≡ Ok (p.0.items, place p.1 p.2.now)) (λ e. Refuses e read) }
+    ensures lines { IfOk result (λ p. p.1 ≤ line + states) }
+{
+    let mut choices = Vec::new(alloc);
+    let mut next = line;
+    let mut rest = bytes;
+    for s in 0..states {
+        let (text, behind) = next_line(next, rest)?;
+        let choice = choose_at(s, next, text)?;
+        choices.push(choice)?;
+        next += 1;
+        rest = behind;
+    }
+    Ok((choices, next, rest))
+}
+
+/// Nothing stands behind the line before this one.
+#[tactic(auto, unfolding(mdp_cert::specs::Reading::nothing_behind))]
+fn nothing_behind(line: u64, bytes: &[u8]) -> Result<(), Refusal>
+    ensures { result ≡ nothing_behind (place line bytes.now) }
+{
+    refuse_if(CertKind::End, line, !bytes.is_empty())
+}
+
+/// Reads the text of a policy: the choices of which the bytes are the text, one for each state, or the first line that breaks a rule.
+#[tactic(auto, unfolding(crate::specs::Text::policy_outcome))]
+pub fn read_policy(alloc: Global, bytes: &[u8]) -> Result<Vec<u32>, CertError>
+    ensures read { IfOk result (λ choices. policy_outcome bytes.now ≡ Ok choices.items) }
+    ensures refused { IfErr result (λ e. Refuses e (policy_outcome bytes.now)) }
+{
+    let (text, rest) = next_line(1, bytes)?;
+    is_line(CertKind::Version, b"mdp-policy 1", 1, text)?;
+    let (text, rest) = next_line(2, rest)?;
+    let states = states_at(2, text)?;
+    let (choices, line, rest) = choices_from(alloc, states, 3, rest)?;
+    let (text, rest) = next_line(line, rest)?;
+    is_line(CertKind::Shape, b"end", line, text)?;
+    nothing_behind(line + 1, rest)?;
+    Ok(choices)
+}

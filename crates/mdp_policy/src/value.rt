@@ -1,0 +1,117 @@
+ghost use Rattle.std.specs.Prelude.{◌≡◌, ℕ, List, length, IfOk, Some, None};
+ghost use Rattle.mdp_spec.specs.Mdp.{states_of};
+ghost use Rattle.mdp_spec.specs.Tree.{IsPolicy};
+ghost use Rattle.mdp_spec.specs.Bounds.{ReachMax};
+ghost use Rattle.mdp_elim.specs.System.{Leaves};
+ghost use Rattle.mdp_reach.specs.Query.{policy_rows};
+ghost use Rattle.mdp_policy.specs.Bounds.{PolicyBound, SomeTreePasses, DeepTreesStayBelow};
+ghost use Rattle.mdp_policy.specs.Written.{under_way, written_value};
+ghost use Rattle.mdp_policy.specs.Answer.{Answers, Gives, plain, Named};
+
+use crate::compare::Comparison;
+use crate::error::PlaceError;
+use crate::evaluate::Evaluation;
+use mdp_elim::{Part, SolveError, TooWide, solution_law};
+use mdp_graph::{along, along_law};
+use mdp_num::Frac;
+use mdp_rows::{Dir, Marks, Model, PolicyRows};
+use std::alloc::Global;
+
+/// A state, and a choice that is better there than the policy's.
+#[derive(Clone, Copy, Debug, PartialEq, Eq)]
+pub struct Change {
+    pub state: u32,
+    pub choice: u32,
+}
+
+/// The probabilities with which a policy reaches a goal, one for each state; the first change that raises one, and the first that lowers one.
+#[derive(Debug, Drop)]
+pub struct PolicyValue {
+    pub values: Vec<Frac>,
+    pub up: Option<Change>,
+    pub down: Option<Change>,
+}
+
+/// The error at its place, with the policy.
+fn named(alloc: Global, error: PlaceError, policy: &[u32]) -> SolveError
+    ensures { Named policy.now error result }
+{
+    let PlaceError::Wide {
+        kind,
+        state,
+        choice,
+    } = error
+    else {
+        return SolveError::Memory;
+    };
+    match policy.to_vec(alloc) {
+        Ok(policy) => SolveError::TooWide(TooWide {
+            part: Part::Whole,
+            round: 0,
+            policy,
+            kind,
+            state: Some(state),
+            choice: Some(choice),
+        }),
+        Err(_) => SolveError::Memory,
+    }
+}
+
+/// The values, and then the first changes.
+fn evaluated(alloc: Global, evaluation: Evaluation<'_, '_>) -> Result<PolicyValue, PlaceError>
+    requires { (ranks : List ℕ) × Leaves (policy_rows evaluation.model.now evaluation.policy.now) (under_way evaluation.model.now evaluation.goals.now evaluation.marks.now) ranks }
+    ensures { Answers plain result (written_value evaluation.entry.model.now evaluation.entry.goals.now evaluation.entry.marks.now evaluation.entry.policy.now) }
+{
+    let values = evaluation.values(alloc)?;
+    let up = Comparison {
+        dir: Dir::Max,
+        model: evaluation.model,
+        goals: evaluation.goals,
+        values: &values,
+    }
+    .first_change()?;
+    let down = Comparison {
+        dir: Dir::Min,
+        model: evaluation.model,
+        goals: evaluation.goals,
+        values: &values,
+    }
+    .first_change()?;
+    Ok(PolicyValue { values, up, down })
+}
+
+/// The value of a memoryless policy, one choice for each state, for reaching a goal: by state elimination, and then the first states at which
+/// a choice is strictly better than the value (policy evaluation and policy improvement: Puterman 1994, section 7.2). `TooWide` is the first
+/// written term past width.
+pub fn value_of(
+    alloc: Global,
+    model: &Model,
+    goals: &Marks,
+    policy: &[u32],
+) -> Result<PolicyValue, SolveError>
+    requires goals { length goals.now ≡ states_of model.now }
+    requires policy { IsPolicy model.now policy.now }
+    ensures written { Gives model.now goals.now policy.now result }
+    ensures each { IfOk result (λ v. length v.values.items ≡ states_of model.now) }
+    ensures bound { IfOk result (λ v. PolicyBound model.now goals.now v.values.items policy.now) }
+    ensures none_up { IfOk result (λ v. v.up ≡ None → ReachMax model.now goals.now v.values.items policy.now) }
+    ensures up { IfOk result (λ v. (change : Change) → v.up ≡ Some change → SomeTreePasses model.now goals.now v.values.items change.state) }
+    ensures down { IfOk result (λ v. (change : Change) → v.down ≡ Some change → DeepTreesStayBelow model.now goals.now v.values.items change.state) }
+{
+    model.known();
+    along_law();
+    solution_law();
+    let rows = PolicyRows { model, policy };
+    let pass = along(alloc, &rows, goals)?;
+    let marks = pass.marks;
+    let evaluation = Evaluation {
+        model,
+        goals,
+        marks: &marks,
+        policy,
+    };
+    match evaluated(alloc, evaluation) {
+        Ok(value) => Ok(value),
+        Err(error) => Err(named(alloc, error, policy)),
+    }
+}
