@@ -1,18 +1,18 @@
-mod Merge
-mod Steps
-mod Equations
-mod Lists
-mod Targets
-mod Putting
-mod Finish
-mod RowSums
-mod Step
-mod Law
-mod Leaving
-mod Active
-mod Chains
-mod RowsInto
-mod Expected
-mod OneSolution
+pub mod Merge
+pub mod Steps
+pub mod Equations
+pub mod Lists
+pub mod Targets
+pub mod Putting
+pub mod Finish
+pub mod RowSums
+pub mod Step
+pub mod Law
+pub mod Leaving
+pub mod Active
+pub mod Chains
+pub mod RowsInto
+pub mod Expected
+pub mod OneSolution
 mod Examples
-mod GivenRows
+pub mod GivenRows

@@ -1,28 +1,28 @@
 pub mod Among
-mod Avoiding
-mod ByTest
-mod Certainty
-mod Dropping
-mod EdgeFacts
+pub mod Avoiding
+pub mod ByTest
+pub mod Certainty
+pub mod Dropping
+pub mod EdgeFacts
 mod Examples
-mod Falls
-mod GivingRanks
-mod MayReach
-mod Meeting
-mod Missing
-mod NextMet
-mod PassLaws
-mod Passes
-mod PolicyLaws
-mod PolicyMeets
-mod PredLists
-mod RankFacts
-mod Reached
+pub mod Falls
+pub mod GivingRanks
+pub mod MayReach
+pub mod Meeting
+pub mod Missing
+pub mod NextMet
+pub mod PassLaws
+pub mod Passes
+pub mod PolicyLaws
+pub mod PolicyMeets
+pub mod PredLists
+pub mod RankFacts
+pub mod Reached
 pub mod Reaching
-mod Releasing
-mod RoundLaws
-mod Rounding
+pub mod Releasing
+pub mod RoundLaws
+pub mod Rounding
 pub mod RowSets
-mod Settling
-mod Steps
-mod SureSome
+pub mod Settling
+pub mod Steps
+pub mod SureSome

@@ -1,10 +1,10 @@
-mod Assembled
-mod Calls
-mod ClosedRows
-mod CutModels
+pub mod Assembled
+pub mod Calls
+pub mod ClosedRows
+pub mod CutModels
 mod Examples
-mod Flat
-mod Queries
+pub mod Flat
+pub mod Queries
 pub mod NegativeRewards
 pub mod ReplayStates
 pub mod SoundCalls
