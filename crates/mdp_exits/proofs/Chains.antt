@@ -16,6 +16,7 @@ use Rattle.mdp_quot.specs.Quotient.{Quotient, row_of}
 use Rattle.mdp_quot.proofs.Selected.{are_selected}
 use Rattle.mdp_exits.specs.OfModel.{IsOfModel}
 use Rattle.mdp_exits.specs.Outer.{IsOuterPolicy}
+use Rattle.mdp_exits.proofs.OuterNodes.{suc_eqb}
 use Rattle.mdp_exits.proofs.InModel.{row-same, outer-policy}
 
 -- a move does what entry c says: 0 stops, 1 + i goes on by the row of exit i
@@ -45,7 +46,7 @@ module _ (q : Quotient) (of : IsOfModel q) (p : Problem) (policy outer : List �
 
   active_by : (k c : ℕ) (move : Move) → Does q k c move → goes_on move ≡ not (c == 0)
   active_by k zero move d = d
-  active_by k (suc i) move d = ap goes_on d.1
+  active_by k (suc i) move d = rw (suc_eqb i) (ap goes_on d.1)
 
   -- ---- the chain
 

@@ -7,3 +7,4 @@ pub mod Chains
 pub mod StepsBest
 pub mod OuterBest
 pub mod Ending
+pub mod Queries

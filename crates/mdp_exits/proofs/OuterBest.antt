@@ -18,6 +18,7 @@ use Rattle.mdp_quot.specs.Quotient.{Quotient, IsShaped, exits_at, row_of}
 use Rattle.mdp_exits.specs.OfModel.{IsOfModel}
 use Rattle.mdp_exits.specs.Problem.{component_of, gain_of, first_choice, outer_node, outer_problem, outer_start}
 use Rattle.mdp_exits.specs.Outer.{Answer, IsOuterPolicy, IsWorth, IsBestOuter}
+use Rattle.mdp_exits.proofs.Few.{is_shaped}
 use Rattle.mdp_exits.proofs.InModel.{exitless-component}
 use Rattle.mdp_exits.proofs.Chains.{Does, can-leave}
 use Rattle.mdp_exits.proofs.OuterNodes.{exit_count, entry, choices, choices-len, choices-at, outer-count, outer-at, outer-choice, outer-choices, outer-can, outer-known}
@@ -100,9 +101,9 @@ module _ (dir : Dir) (q : Quotient) (gains : List ℚ) where
         (subst (λ (c : ℕ). IsCandidate (outer_node q gains k) c) (sym (start-at k h)) (first_by of k (component_of q k) h refl)));
   }
 
-  pub outer-solvable : IsShaped q → IsOfModel q → IsSolvable p (outer_start q)
-  outer-solvable known of = record {
-    problem = outer-known dir q gains known;
+  pub outer-solvable : IsOfModel q → IsSolvable p (outer_start q)
+  outer-solvable of = record {
+    problem = outer-known dir q gains (is_shaped q of);
     policy = start-policy of;
     leaves = outer-leaves (outer_start q) (start-policy of) of;
     keeps = inl (λ policy is. outer-leaves policy is of);

@@ -14,6 +14,7 @@ use Rattle.mdp_exits.specs.OfModel.{IsOfModel}
 use Rattle.mdp_exits.specs.Problem.{counted, steps_by, steps_node, steps_problem, steps_start}
 use Rattle.mdp_exits.specs.Steps.{after_exit, IsLongest}
 use Rattle.mdp_exits.specs.Outer.{IsOuterPolicy}
+use Rattle.mdp_exits.proofs.Few.{is_shaped}
 use Rattle.mdp_exits.proofs.InModel.{exitless-component}
 use Rattle.mdp_exits.proofs.Chains.{Does, can-leave}
 use Rattle.mdp_exits.proofs.StepsNodes.{exit_count, is_exitless, going-at, goings-len, steps-count, steps-at, steps-choice, steps-candidate, steps-choices, steps-known}
@@ -113,9 +114,9 @@ module _ (q : Quotient) where
         (subst (λ (c : ℕ). IsCandidate (steps_node q k) c) (sym (start-at k h)) (first_by k (is_exitless q k) refl)));
   }
 
-  pub steps-solvable : IsShaped q → IsOfModel q → IsSolvable p (steps_start q)
-  steps-solvable known of = record {
-    problem = steps-known q known;
+  pub steps-solvable : IsOfModel q → IsSolvable p (steps_start q)
+  steps-solvable of = record {
+    problem = steps-known q (is_shaped q of);
     policy = start-policy;
     leaves = steps-leaves (steps_start q) start-policy of;
     keeps = inl (λ policy is. steps-leaves policy is of);
