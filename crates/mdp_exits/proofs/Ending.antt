@@ -1,7 +1,5 @@
 -- The end of a query, from that of its path.
-use Rattle.std.proofs.Common.{◌≡◌, ℕ, List, Result, Ok, Err, refl, sym, ◌∙◌, ap, subst}
-use Rattle.mdp_math.specs.Rational.{ℚ}
-use Rattle.mdp_rows.specs.declared.dir.Dir.{Dir}
+use Rattle.std.proofs.Common.{◌≡◌, ℕ, List, Result, Ok, Err, refl, sym, ◌∙◌, ap}
 use Rattle.mdp_elim.specs.declared.too_wide.Part.{Part}
 use Rattle.mdp_path.specs.Iteration.{EndsWith}
 use Rattle.mdp_path.specs.Problem.{Problem}

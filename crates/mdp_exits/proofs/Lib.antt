@@ -1,6 +1,6 @@
 pub mod StepsNodes
 pub mod OuterNodes
-pub mod Few
+pub mod Sizes
 pub mod InModel
 pub mod ForJoin
 pub mod Chains
@@ -8,3 +8,4 @@ pub mod StepsBest
 pub mod OuterBest
 pub mod Ending
 pub mod Queries
+mod Examples

@@ -1,27 +1,24 @@
 -- Each policy of the problem of the best gains leaves its nodes, and a best one has the best gains.
-use Rattle.std.proofs.Common.{◌≡◌, ℕ, zero, suc, ◌<◌, ◌+◌, Bool, inl, inr, true, false, ◌==◌, if◌then◌else◌, List, length, map, get_or, refl, sym, ◌∙◌, ap, subst, arith, zero-add, pos, Option, Some, None}
-use Rattle.std.specs.List.{range_with_len}
+use Rattle.std.proofs.Common.{◌≡◌, ℕ, zero, suc, ◌<◌, ◌+◌, inl, true, List, length, get_or, refl, sym, ◌∙◌, ap, subst, arith, zero-add, pos, Option, Some, None}
 use Rattle.std.specs.Option.{is_some}
-use Rattle.std.proofs.lemmas.Bool.{eqb-true}
 use Rattle.std.proofs.lemmas.List.FromFn.{get_or-map-range_with_len, length-map-range_with_len}
-use Rattle.mdp_math.specs.Rational.{ℚ, of_int, ◌+ℚ◌}
+use Rattle.mdp_math.specs.Rational.{ℚ, of_int}
 use Rattle.mdp_math.proofs.Laws.{zero-+ℚ}
-use Rattle.mdp_spec.specs.Mdp.{Entry, value_at}
+use Rattle.mdp_spec.specs.Mdp.{value_at}
 use Rattle.mdp_spec.specs.Row.{row_sum}
 use Rattle.mdp_rows.specs.declared.dir.Dir.{Dir}
-use Rattle.mdp_path.specs.Problem.{Problem, Node, Choice, Move, stop, go, worth, count, node_at, goes_on, taken, choices_at, choice_at, IsCandidate, IsPolicy}
-use Rattle.mdp_path.specs.Code.{CanTake}
-use Rattle.mdp_path.specs.Values.{CanLeave, AllLeave, IsAsGood}
+use Rattle.mdp_path.specs.Problem.{Problem, Node, Choice, Move, worth, count, goes_on, taken, choices_at, IsCandidate, IsPolicy}
+use Rattle.mdp_path.specs.Values.{CanLeave, IsAsGood}
 use Rattle.mdp_path.specs.Laws.{IsSolvable, IsBest}
 use Rattle.mdp_path.proofs.Chain.{can_take}
-use Rattle.mdp_quot.specs.Quotient.{Quotient, IsShaped, exits_at, row_of}
+use Rattle.mdp_quot.specs.Quotient.{Quotient, row_of}
 use Rattle.mdp_exits.specs.OfModel.{IsOfModel}
 use Rattle.mdp_exits.specs.Problem.{component_of, gain_of, first_choice, outer_node, outer_problem, outer_start}
-use Rattle.mdp_exits.specs.Outer.{Answer, IsOuterPolicy, IsWorth, IsBestOuter}
-use Rattle.mdp_exits.proofs.Few.{is_shaped}
+use Rattle.mdp_exits.specs.Outer.{Answer, IsOuterPolicy, IsBestOuter}
+use Rattle.mdp_exits.proofs.Sizes.{is_shaped}
 use Rattle.mdp_exits.proofs.InModel.{exitless-component}
 use Rattle.mdp_exits.proofs.Chains.{Does, can-leave}
-use Rattle.mdp_exits.proofs.OuterNodes.{exit_count, entry, choices, choices-len, choices-at, outer-count, outer-at, outer-choice, outer-choices, outer-can, outer-known}
+use Rattle.mdp_exits.proofs.OuterNodes.{exit_count, entry, choices-len, choices-at, outer-count, outer-at, outer-choice, outer-choices, outer-can, outer-known}
 
 -- a component that there is
 some_component : (o : Option ℕ) → is_some o ≡ true → (i : ℕ) × (o ≡ Some i)

@@ -1,14 +1,12 @@
 -- The nodes of the problem of the best gains.
-use Rattle.std.proofs.Common.{◌≡◌, ℕ, zero, suc, ◌<◌, ◌+◌, ◌-◌, Bool, true, false, not, ◌==◌, ◌||◌, nat_lt, List, ◌∷◌, length, map, if◌then◌else◌, refl, sym, ◌∙◌, ap, subst, arith, pos, zero-add, Some}
+use Rattle.std.proofs.Common.{◌≡◌, ℕ, zero, suc, ◌<◌, ◌+◌, ◌-◌, true, false, ◌==◌, nat_lt, List, ◌∷◌, length, map, refl, sym, ◌∙◌, ap, subst, arith, pos, zero-add, Some}
 use Rattle.std.specs.List.{range_with_len}
 use Rattle.std.specs.Prelude.{slice_index_or}
-use Rattle.std.specs.Option.{is_some}
 use Rattle.std.proofs.lemmas.Bool.{ne_eqb, lt-ltb, ltb-true}
 use Rattle.std.proofs.lemmas.List.FromFn.{get_or-map-range_with_len, length-map-range_with_len}
 use Rattle.mdp_math.specs.Rational.{ℚ, of_int}
-use Rattle.mdp_spec.specs.Written.{written_sum}
 use Rattle.mdp_rows.specs.declared.dir.Dir.{Dir}
-use Rattle.mdp_path.specs.Problem.{Problem, Node, given, decision, Choice, stop, go, worth, no_choice, count, node_at, choices_of, choices_at, choice_at, goes_on, amount, row_from, move_by, fits_by, LeadsWithin, IsProblem}
+use Rattle.mdp_path.specs.Problem.{Problem, Node, given, Choice, stop, go, worth, no_choice, count, node_at, choices_of, choices_at, choice_at, goes_on, move_by, fits_by, LeadsWithin, IsProblem}
 use Rattle.mdp_path.specs.Code.{CanTake, move_at, fits_at}
 use Rattle.mdp_path.proofs.Compares.{plain-exact}
 use Rattle.mdp_quot.specs.Quotient.{Quotient, exits_at, row_of, IsShaped}

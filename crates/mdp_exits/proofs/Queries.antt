@@ -1,12 +1,11 @@
 -- What the two queries end with.
-use Rattle.std.proofs.Common.{ℕ, List, sym, subst}
-use Rattle.mdp_math.specs.Rational.{ℚ}
+use Rattle.std.proofs.Common.{sym, subst}
 use Rattle.mdp_elim.specs.declared.too_wide.Part.TheVariants as part
 use Rattle.mdp_path.specs.Path.{Found}
 use Rattle.mdp_path.specs.Laws.{HasOneEnd, EndsAtBest}
 use Rattle.mdp_exits.specs.Problem.{steps_problem, steps_start, outer_problem, outer_start}
 use Rattle.mdp_exits.specs.Steps.{IsLongest}
-use Rattle.mdp_exits.specs.Outer.{Answer, answer_of, IsBestOuter}
+use Rattle.mdp_exits.specs.Outer.{answer_of, IsBestOuter}
 use Rattle.mdp_exits.specs.Laws.{StepsHaveOneEnd, OuterHasOneEnd, StepsEnd, OuterEnds, StepsAreLongest, OuterIsBest}
 use Rattle.mdp_exits.proofs.StepsBest.{steps-solvable, steps-longest}
 use Rattle.mdp_exits.proofs.OuterBest.{outer-solvable, outer-best}

@@ -1,20 +1,19 @@
 -- Each policy of the problem of the greatest number of exits leaves its nodes, and a best one gives the greatest number of exits.
-use Rattle.std.proofs.Common.{◌≡◌, ℕ, zero, suc, ◌<◌, Bool, inl, inr, true, false, ◌==◌, if◌then◌else◌, List, length, map, get_or, refl, sym, ◌∙◌, ap, subst, arith, zero-add, pos, Some}
+use Rattle.std.proofs.Common.{◌≡◌, ℕ, zero, suc, ◌<◌, Bool, inl, inr, true, false, ◌==◌, if◌then◌else◌, List, length, map, get_or, refl, sym, ◌∙◌, ap, subst, arith, zero-add, pos}
 use Rattle.std.specs.List.{range_with_len}
 use Rattle.std.proofs.lemmas.Bool.{ne_eqb, eqb-true, eq-eqb, cases_Bool}
 use Rattle.std.proofs.lemmas.List.FromFn.{get_or-map-range_with_len, length-map-range_with_len}
 use Rattle.mdp_math.specs.Rational.{ℚ, of_int, ◌≤ℚ◌}
 use Rattle.mdp_spec.specs.Mdp.{value_at}
-use Rattle.mdp_rows.specs.declared.dir.Dir.TheVariants.{Max}
-use Rattle.mdp_path.specs.Problem.{Problem, Node, Choice, Move, given, stop, go, worth, count, goes_on, move_by, taken, choices_of, choices_at, choice_at, IsCandidate, IsPolicy}
-use Rattle.mdp_path.specs.Values.{CanLeave, AllLeave, IsAsGood}
+use Rattle.mdp_path.specs.Problem.{Problem, Node, Choice, stop, go, worth, count, goes_on, move_by, taken, choices_at, IsCandidate, IsPolicy}
+use Rattle.mdp_path.specs.Values.{CanLeave}
 use Rattle.mdp_path.specs.Laws.{IsSolvable, IsBest}
-use Rattle.mdp_quot.specs.Quotient.{Quotient, IsShaped, exits_at, row_of}
+use Rattle.mdp_quot.specs.Quotient.{Quotient, exits_at, row_of}
 use Rattle.mdp_exits.specs.OfModel.{IsOfModel}
-use Rattle.mdp_exits.specs.Problem.{counted, steps_by, steps_node, steps_problem, steps_start}
+use Rattle.mdp_exits.specs.Problem.{steps_by, steps_node, steps_problem, steps_start}
 use Rattle.mdp_exits.specs.Steps.{after_exit, IsLongest}
 use Rattle.mdp_exits.specs.Outer.{IsOuterPolicy}
-use Rattle.mdp_exits.proofs.Few.{is_shaped}
+use Rattle.mdp_exits.proofs.Sizes.{is_shaped}
 use Rattle.mdp_exits.proofs.InModel.{exitless-component}
 use Rattle.mdp_exits.proofs.Chains.{Does, can-leave}
 use Rattle.mdp_exits.proofs.StepsNodes.{exit_count, is_exitless, going-at, goings-len, steps-count, steps-at, steps-choice, steps-candidate, steps-choices, steps-known}

@@ -1,5 +1,5 @@
 -- The nodes of the problem of the greatest number of exits.
-use Rattle.std.proofs.Common.{◌≡◌, ℕ, ◌<◌, ◌+◌, Bool, true, false, not, ◌==◌, List, length, map, if◌then◌else◌, refl, sym, ◌∙◌, ap, subst, arith, pos, zero-add, Some}
+use Rattle.std.proofs.Common.{◌≡◌, ℕ, ◌<◌, Bool, true, false, not, ◌==◌, List, length, map, if◌then◌else◌, refl, sym, ◌∙◌, ap, subst, arith, pos, zero-add, Some}
 use Rattle.std.specs.List.{range_with_len}
 use Rattle.std.specs.Prelude.{slice_index_or}
 use Rattle.std.proofs.lemmas.Bool.{eqb-true}

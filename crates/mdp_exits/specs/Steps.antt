@@ -4,7 +4,6 @@ use Rattle.mdp_math.specs.Rational.{ℚ, of_int, ◌+ℚ◌, ◌≤ℚ◌}
 use Rattle.mdp_spec.specs.Mdp.{value_at}
 use Rattle.mdp_spec.specs.Row.{row_sum}
 use Rattle.mdp_elim.specs.declared.too_wide.Part.TheVariants.{Steps}
-use Rattle.mdp_path.specs.Path.{Found}
 use Rattle.mdp_path.specs.Queries.{WideTerm}
 use Rattle.mdp_quot.specs.Quotient.{Quotient, exits_at, row_of}
 use Rattle.mdp_exits.specs.PathEnds.{PathEndsSo}

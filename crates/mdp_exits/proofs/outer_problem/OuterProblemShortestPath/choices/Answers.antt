@@ -1,4 +1,4 @@
-use Rattle.std.proofs.Common.{◌∙◌, ◌+◌, ℕ, length, sym, ap, arith}
+use Rattle.std.proofs.Common.{length, ap, arith}
 use Rattle.mdp_exits.proofs.OuterNodes.{outer-count, outer-choices}
 use Rattle.mdp_exits.proofs.outer_problem.OuterProblemShortestPath.choices.Goals as goal
 

@@ -1,4 +1,4 @@
-use Rattle.std.proofs.Common.{◌∙◌, ◌<◌, length, sym, ap, subst, arith}
+use Rattle.std.proofs.Common.{◌∙◌, ◌<◌, sym, ap, subst, arith}
 use Rattle.std.specs.List.{All}
 use Rattle.mdp_path.specs.Problem.{row_from}
 use Rattle.mdp_exits.proofs.OuterNodes.{outer-count, outer-positive, outer-leaves}

@@ -20,12 +20,12 @@ pub sum-requires : goal.sum-requires
 sum-requires c = subst (λ n. All (λ t. t < n) c.row-row.result.targets.now) (sym (c.requires.values ∙ outer-count c.args.self.now.dir c.args.self.now.quotient.now c.args.self.now.gains.now)) c.row-row.ensures.in_range
 
 pub returns-then-c-eq0 : goal.returns-then-c-eq0
-returns-then-c-eq0 c = 
+returns-then-c-eq0 c =
     ap (λ (v : ℚ). let o : Option ℚ = Some v in o) c.gain.ensures
     ∙ sym (ap (λ (x : Choice). x.written c.args.values.now) (outer-stop c.args.self.now.dir c.args.self.now.quotient.now c.args.self.now.gains.now c.args.s c.requires.node c.args.c c.requires.choice c.if-c-eq0.true))
 
 pub returns-else-c-eq0 : goal.returns-else-c-eq0
-returns-else-c-eq0 c = 
+returns-else-c-eq0 c =
     c.sum.ensures
     ∙ ap₂ (λ (v : ℚ) (r : List Entry). written_sum c.args.values.now v r) c.whole.ensures c.row-row.ensures.row
     ∙ sym (ap (λ (x : Choice). x.written c.args.values.now) (outer-exit c.args.self.now.dir c.args.self.now.quotient.now c.args.self.now.gains.now c.args.s c.requires.node c.args.c c.requires.choice (positive c.args.c c.if-c-eq0.false)).1)

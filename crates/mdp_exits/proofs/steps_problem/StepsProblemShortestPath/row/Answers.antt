@@ -1,4 +1,4 @@
-use Rattle.std.proofs.Common.{◌∙◌, ◌<◌, length, sym, subst, arith}
+use Rattle.std.proofs.Common.{◌∙◌, ◌<◌, sym, subst, arith}
 use Rattle.std.specs.List.{All}
 use Rattle.mdp_exits.proofs.StepsNodes.{steps-count, steps-row}
 use Rattle.mdp_exits.proofs.steps_problem.StepsProblemShortestPath.row.Goals as goal

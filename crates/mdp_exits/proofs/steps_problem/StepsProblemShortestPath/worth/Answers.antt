@@ -16,7 +16,7 @@ pub sum-requires : goal.sum-requires
 sum-requires c = subst (λ n. All (λ t. t < n) c.row-row.result.targets.now) (sym (c.requires.values ∙ steps-count c.args.self.now.quotient.now)) c.row-row.ensures.in_range
 
 pub returns : goal.returns
-returns c = 
+returns c =
     c.sum.ensures
     ∙ ap₂ (λ (v : ℚ) (r : List Entry). written_sum c.args.values.now v r) c.whole.ensures c.row-row.ensures.row
     ∙ sym (steps-written c.args.self.now.quotient.now c.args.s c.requires.node c.args.c c.args.values.now c.requires.choice)

@@ -1,5 +1,5 @@
 -- The quotient of a model has no more nodes than the model has states, and a node no more exits than the model has choices.
-use Rattle.std.proofs.Common.{◌≡◌, ℕ, ◌<◌, ◌≤◌, ◌+◌, Bool, inl, inr, true, false, List, [], ◌∷◌, length, map, filter, get_or, refl, sym, ◌∙◌, ap, ap₂, not, ◌&&◌, ◌==◌, arith, zero-add, cond, nat_lt, ◌^◌, Option, Some, None}
+use Rattle.std.proofs.Common.{◌≡◌, ℕ, ◌<◌, ◌≤◌, ◌+◌, Bool, inl, inr, true, false, List, [], ◌∷◌, length, map, filter, get_or, refl, sym, ◌∙◌, ap, ap₂, not, ◌&&◌, ◌==◌, arith, cond, nat_lt, ◌^◌, Option, Some, None}
 use Rattle.std.specs.List.{range_with_len, flat_map, sum_by}
 use Rattle.std.proofs.lemmas.Bool.{cases_Bool}
 use Rattle.std.proofs.lemmas.List.{length-append, length-map}
@@ -10,14 +10,12 @@ use Rattle.mdp_rows.specs.Preds.{pair, choices_of, choices_below}
 use Rattle.mdp_rows.specs.declared.preds.Pred.{Pred}
 use Rattle.mdp_ends.specs.Ends.{is_inside}
 use Rattle.mdp_ends.specs.Numbers.{count_from}
-use Rattle.mdp_ends.specs.Quotient.{nodes_in, exits_of}
-use Rattle.mdp_quot.specs.Quotient.{exits_at}
-use Rattle.mdp_quot.specs.Laws.{AreSelected}
+use Rattle.mdp_ends.specs.Quotient.{nodes_in}
 use Rattle.mdp_quot.proofs.Selected.{are_selected}
 use Rattle.mdp_quot.specs.Quotient.{Quotient, IsShaped}
 use Rattle.mdp_quot.proofs.QuotientFound.{shaped}
 use Rattle.mdp_exits.specs.OfModel.{IsOfModel}
-use Rattle.mdp_exits.specs.Few.{HasFewExits}
+use Rattle.mdp_exits.specs.Sizes.{HasFewExits}
 
 -- ---- lists
 
