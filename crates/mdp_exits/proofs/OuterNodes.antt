@@ -6,7 +6,8 @@ use Rattle.std.proofs.lemmas.Bool.{ne_eqb, lt-ltb, ltb-true}
 use Rattle.std.proofs.lemmas.List.FromFn.{get_or-map-range_with_len, length-map-range_with_len}
 use Rattle.mdp_math.specs.Rational.{ℚ, of_int}
 use Rattle.mdp_rows.specs.declared.dir.Dir.{Dir}
-use Rattle.mdp_path.specs.Problem.{Problem, Node, given, Choice, stop, go, worth, no_choice, count, node_at, choices_of, choices_at, choice_at, goes_on, move_by, fits_by, LeadsWithin, IsProblem}
+use Rattle.mdp_path.specs.Problem.{Problem, Node, given, Choice, stop, go, worth, no_choice, count, node_at, choices_of, choices_at}
+use Rattle.mdp_path.specs.Problem.{choice_at, goes_on, row_from, move_by, fits_by, LeadsWithin, IsProblem}
 use Rattle.mdp_path.specs.Code.{CanTake, move_at, fits_at}
 use Rattle.mdp_path.proofs.Compares.{plain-exact}
 use Rattle.mdp_quot.specs.Quotient.{Quotient, exits_at, row_of, IsShaped}
@@ -113,8 +114,8 @@ module _ (dir : Dir) (q : Quotient) (gains : List ℚ) where
       pub outer-fits : fits_at p s c ≡ true
       outer-fits = ap (λ (n : Node). fits_by n c) (outer-at s l) ∙ ap Choice.fits (choices-at q gains s c (outer-can c can).0) ∙ by-fits q gains s c
 
-      pub outer-positive : goes_on (move_at p s c) ≡ true → 0 < c
-      outer-positive e = ltb-true 0 c (sym outer-goes ∙ e)
+      pub outer-row : goes_on (move_at p s c) ≡ true → (0 < c) × (c - 1 < exit_count q gains s) × (row_from s (move_at p s c) ≡ row_of q s (c - 1))
+      outer-row e = let h = ltb-true 0 c (sym outer-goes ∙ e) in let w = outer-leaves h in (h, w.0, ap (row_from s) w.1)
 
   pub outer-known : IsShaped q → IsProblem p
   outer-known known = record {

@@ -1,5 +1,6 @@
 -- The quotient of a model has no more nodes than the model has states, and a node no more exits than the model has choices.
-use Rattle.std.proofs.Common.{◌≡◌, ℕ, ◌<◌, ◌≤◌, ◌+◌, Bool, inl, inr, true, false, List, [], ◌∷◌, length, map, filter, get_or, refl, sym, ◌∙◌, ap, ap₂, not, ◌&&◌, ◌==◌, arith, cond, nat_lt, ◌^◌, Option, Some, None}
+use Rattle.std.proofs.Common.{◌≡◌, ℕ, ◌<◌, ◌≤◌, ◌+◌, Bool, inl, inr, true, false, List, [], ◌∷◌, length, map, filter, get_or, refl, sym, ◌∙◌, ap}
+use Rattle.std.proofs.Common.{ap₂, not, ◌&&◌, ◌==◌, arith, cond, nat_lt, ◌^◌, Option, Some, None}
 use Rattle.std.specs.List.{range_with_len, flat_map, sum_by}
 use Rattle.std.proofs.lemmas.Bool.{cases_Bool}
 use Rattle.std.proofs.lemmas.List.{length-append, length-map}

@@ -7,7 +7,13 @@ pub gain-requires : goal.gain-requires
 gain-requires c = omega (arith, c.requires.node, outer-count c.args.self.now.dir c.args.self.now.quotient.now c.args.self.now.gains.now)
 
 pub returns-then-c-eq0 : goal.returns-then-c-eq0
-returns-then-c-eq0 c = c.gain.ensures ∙ sym (ap amount (outer-stops c.args.self.now.dir c.args.self.now.quotient.now c.args.self.now.gains.now c.args.s c.requires.node c.args.c c.requires.choice c.if-c-eq0.true))
+returns-then-c-eq0 c =
+    let p = c.args.self.now in
+    c.gain.ensures
+    ∙ sym (ap amount (outer-stops p.dir p.quotient.now p.gains.now c.args.s c.requires.node c.args.c c.requires.choice c.if-c-eq0.true))
 
 pub returns-else-c-eq0 : goal.returns-else-c-eq0
-returns-else-c-eq0 c = c.whole.ensures ∙ sym (ap amount (outer-leaves c.args.self.now.dir c.args.self.now.quotient.now c.args.self.now.gains.now c.args.s c.requires.node c.args.c c.requires.choice (positive c.args.c c.if-c-eq0.false)).1)
+returns-else-c-eq0 c =
+    let p = c.args.self.now in
+    c.whole.ensures
+    ∙ sym (ap amount (outer-leaves p.dir p.quotient.now p.gains.now c.args.s c.requires.node c.args.c c.requires.choice (positive c.args.c c.if-c-eq0.false)).1)
