@@ -1,0 +1,10 @@
+pub mod Kept
+pub mod Floors
+pub mod Picks
+pub mod Extremal
+pub mod Gather
+pub mod Flows
+pub mod Policies
+pub mod Bounded
+pub mod Made
+pub mod Fewer
