@@ -1,3 +1,6 @@
+pub mod Adding
+pub mod Sizes
+pub mod Stops
 pub mod Kept
 pub mod Floors
 pub mod Picks
