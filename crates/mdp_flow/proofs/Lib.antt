@@ -1,3 +1,4 @@
+pub mod Added
 pub mod Adding
 pub mod Sizes
 pub mod Stops
@@ -10,4 +11,6 @@ pub mod Flows
 pub mod Policies
 pub mod Bounded
 pub mod Made
+pub mod Parts
+pub mod FlowRules
 pub mod Fewer
