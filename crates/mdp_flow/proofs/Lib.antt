@@ -13,4 +13,5 @@ pub mod Bounded
 pub mod Made
 pub mod Parts
 pub mod FlowRules
+pub mod Counted
 pub mod Fewer

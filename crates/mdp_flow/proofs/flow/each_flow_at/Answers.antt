@@ -34,11 +34,11 @@ loop-flow-preserved c =
     let next = drop_more c.args.flows.now c.loop-flow.flow-index x c.loop-flow-test.true ∙ ap (λ (f : Flow). f ∷ rest) (sym c.flow-item.is) in
     let done = c.in_ok-flow_at.ensures {u = tt} in (
       c.loop-flow.invariant.0
-      ∙ ap (λ (flows : List Flow). stop_of (each_flow m goals kept c.loop-flow.sums flows)) next
-      ∙ sym (goes_on (checks_at m goals kept c.loop-flow.sums x) (each_flow m goals kept (after_flow m goals c.loop-flow.sums x) rest) tt _ done.verdict refl)
-      ∙ ap (λ (sums : FlowSums). stop_of (each_flow m goals kept sums rest)) (sym done.sums),
+          ∙ ap (λ (flows : List Flow). stop_of (each_flow m goals kept c.loop-flow.sums flows)) next
+          ∙ sym (goes_on (checks_at m goals kept c.loop-flow.sums x) (each_flow m goals kept (after_flow m goals c.loop-flow.sums x) rest) tt _ done.verdict refl)
+          ∙ ap (λ (sums : FlowSums). stop_of (each_flow m goals kept sums rest)) (sym done.sums),
       c.loop-flow.invariant.1
-      ∙ ap (λ (flows : List Flow). after_flows m goals c.loop-flow.sums flows) next
-      ∙ ap (λ (sums : FlowSums). after_flows m goals sums rest) (sym done.sums),
+          ∙ ap (λ (flows : List Flow). after_flows m goals c.loop-flow.sums flows) next
+          ∙ ap (λ (sums : FlowSums). after_flows m goals sums rest) (sym done.sums),
       subst (λ (sums : FlowSums). AreSums (states_of m) sums) (sym done.sums) (sized_after (states_of m) m goals c.loop-flow.sums x c.loop-flow.invariant.2),
     )
