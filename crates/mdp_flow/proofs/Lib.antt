@@ -13,5 +13,6 @@ pub mod Bounded
 pub mod Made
 pub mod Parts
 pub mod FlowRules
+pub mod FloorRules
 pub mod Counted
 pub mod Fewer
