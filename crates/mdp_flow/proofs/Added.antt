@@ -1,10 +1,9 @@
 -- What written sums are in exact numbers, once a flow is added to them: its amount leaves its state, and comes to the targets of its row with their
 -- probabilities.
-use Rattle.std.proofs.Common.{◌≡◌, ℕ, ◌<◌, ⊎_elim, Bool, true, false, true≢false, cond, eqb, List, [], ◌∷◌, length, get_or, set, Option, Some, None, refl, sym, ap, ◌∙◌, subst, pos}
-use Rattle.std.specs.Prelude.{unwrap_or}
+use Rattle.std.proofs.Common.{◌≡◌, ℕ, ◌<◌, ⊎_elim, Bool, true, false, true≢false, cond, eqb, List, [], ◌∷◌, length, get_or, set, Some, refl, sym, ap, ◌∙◌, subst, pos}
 use Rattle.std.proofs.lemmas.List.{get_or-set_same, get_or-set_other}
-use Rattle.std.proofs.lemmas.Bool.{cases_Bool, cases_eq, eq-eqb, ne_eqb}
-use Rattle.mdp_math.specs.Rational.{ℚ, of_int, ◌+ℚ◌, ◌*ℚ◌}
+use Rattle.std.proofs.lemmas.Bool.{cases_eq, eq-eqb, ne_eqb}
+use Rattle.mdp_math.specs.Rational.{ℚ, ◌+ℚ◌, ◌*ℚ◌}
 use Rattle.mdp_math.specs.Written.{written_add, written_mul}
 use Rattle.mdp_math.proofs.Options.{Some_same, step_told}
 use Rattle.mdp_math.proofs.Order.{0ℚ}
@@ -15,8 +14,8 @@ use Rattle.mdp_spec.specs.Mdp.{Entry, Mdp, value_at}
 use Rattle.mdp_spec.specs.Tree.{is_marked}
 use Rattle.mdp_flow.specs.declared.flow.Flow.{Flow}
 use Rattle.mdp_flow.specs.Flow.{flow_row, prob_to, prob_to_goals, outflow, inflow, goal_flow}
-use Rattle.mdp_flow.specs.Sums.{FlowSums, AreSums, with_outflow, with_goal, with_inflow, with_entry, with_row, with_flow, after_flow, after_flows}
-use Rattle.mdp_flow.proofs.Sizes.{sized_outflow, sized_entry, sized_after}
+use Rattle.mdp_flow.specs.Sums.{FlowSums, AreSums, with_outflow, with_goal, with_inflow, with_entry, with_row, with_flow}
+use Rattle.mdp_flow.proofs.Sizes.{sized_outflow, sized_entry}
 
 add-none : (a w : ℚ) → a ≡ a +ℚ w *ℚ 0ℚ
 add-none a w = ring rat_ring 2 (λ a w. a) (λ a w. a ⊕ w ⊗ lit (pos 0)) refl a w

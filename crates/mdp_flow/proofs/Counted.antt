@@ -1,5 +1,5 @@
 -- What a state counts as by the lines of a certificate: a goal as the one number, the state of a line as that line says, any other state as another.
-use Rattle.std.proofs.Common.{◌≡◌, ℕ, ◌<◌, Bool, true, false, cond, List, get_or, length, map, refl, sym, ap, subst, ◌∙◌, arith, pos}
+use Rattle.std.proofs.Common.{◌≡◌, ℕ, ◌<◌, Bool, true, false, cond, List, get_or, length, sym, ap, ◌∙◌, arith, pos}
 use Rattle.std.proofs.lemmas.List.FromFn.{get_or-map-range_with_len}
 use Rattle.mdp_math.specs.Rational.{ℚ, of_int}
 use Rattle.mdp_math.proofs.Order.{0ℚ}

@@ -1,18 +1,17 @@
 -- A floor certificate is answered yes exactly where the rules hold in exact numbers and no written term is past width; and then each policy of its
 -- subsystem reaches the threshold.
-use Rattle.std.proofs.Common.{◌≡◌, ℕ, ◌<◌, ◌⊎◌, inl, inr, ⊎_elim, Bool, true, false, true≢false, not, ◌||◌, ◌==◌, ltb, lt-ltb, ltb-true, eqb-true, eq-eqb, cond, List, [], ◌∷◌, ◌++◌, map, length, get_or, Option, Some, refl, sym, ap, subst, ◌∙◌, arith, pos}
-use Rattle.std.specs.Prelude.{◌↔◌, slice_index}
-use Rattle.std.specs.List.{All, Any, flat_map, list_any, range_with_len}
-use Rattle.std.specs.Option.{IsSome}
+use Rattle.std.proofs.Common.{◌≡◌, ℕ, ◌<◌, ◌⊎◌, inr, ⊎_elim, Bool, true, false, true≢false, not, ◌||◌, ltb, lt-ltb, ltb-true, eqb-true, eq-eqb, List, [], ◌∷◌, ◌++◌, length, get_or, Some, refl, sym, ap, subst, ◌∙◌}
+use Rattle.std.specs.Prelude.{◌↔◌}
+use Rattle.std.specs.List.{Any, list_any}
 use Rattle.std.proofs.lemmas.List.Elements.{All-from_recursion, recursion_from_All}
-use Rattle.mdp_math.specs.Rational.{ℚ, of_int, lt_ℚ, ◌+ℚ◌, ◌≤ℚ◌, ◌<ℚ◌}
+use Rattle.mdp_math.specs.Rational.{ℚ, lt_ℚ, ◌+ℚ◌, ◌≤ℚ◌, ◌<ℚ◌}
 use Rattle.mdp_math.proofs.Extremes.{lt_of_test, test_of_lt, le_of_no_test, no_test_of_le}
 use Rattle.mdp_math.proofs.Laws.{zero-+ℚ}
 use Rattle.mdp_math.proofs.Options.{Some_same}
 use Rattle.mdp_math.proofs.Order.{0ℚ, 1ℚ, ≤ℚ_of_eq, ≤ℚ_antisymm}
 use Rattle.mdp_spec.specs.Bounds.{SubMin}
 use Rattle.mdp_spec.specs.Mdp.{Entry, Mdp, states_of, choices_at, row_at, value_at}
-use Rattle.mdp_spec.specs.Row.{IsRow, IsMdp, row_sum}
+use Rattle.mdp_spec.specs.Row.{IsMdp, row_sum}
 use Rattle.mdp_spec.specs.Tree.{is_marked}
 use Rattle.mdp_farkas.specs.Verdict.{Check, InWidth, IsYes, IfYes, verdict_of, at_choices}
 use Rattle.mdp_farkas.specs.declared.verdict.Verdict.{Verdict}
@@ -22,8 +21,8 @@ use Rattle.mdp_farkas.proofs.Holds.{Each, Holds, each_of_yes, yes_of_each, told_
 use Rattle.mdp_farkas.proofs.Holds.{each_map, each_map_at, each_if, each_if_true, each_if_false}
 use Rattle.mdp_farkas.proofs.Inequalities.{sum_stands_of, of_sum_stands}
 use Rattle.mdp_farkas.proofs.Tests.{some_passed, some_passes}
-use Rattle.mdp_flow.specs.Floor.{MeetsFloor, counted_value, counted_rank, counted_sum}
-use Rattle.mdp_flow.specs.FloorChecks.{spread_values, spread_ranks, line_value, line_rank, line_values, value_checks, cover_check, cover_checks, rank_check, fall_check, rank_checks, line_checks, checks_of_line, each_line, start_check, floor_checks, HoldsFloor}
+use Rattle.mdp_flow.specs.Floor.{MeetsFloor, counted_value, counted_sum}
+use Rattle.mdp_flow.specs.FloorChecks.{spread_values, spread_ranks, line_value, line_rank, line_values, cover_check, cover_checks, rank_check, fall_check, rank_checks, checks_of_line, each_line, start_check, floor_checks, HoldsFloor}
 use Rattle.mdp_flow.specs.FlowChecks.{kept_check}
 use Rattle.mdp_flow.specs.Kept.{kept_marks}
 use Rattle.mdp_flow.specs.Shape.{IsFloorShape}
@@ -31,6 +30,7 @@ use Rattle.mdp_flow.proofs.Counted.{line_values-at}
 use Rattle.mdp_flow.proofs.Extremal.{row_weigh-same}
 use Rattle.mdp_flow.proofs.Floors.{sub_min_of_floor}
 use Rattle.mdp_flow.proofs.Kept.{each_kept, each_place, spread-at, looked_up-at}
+use Rattle.mdp_flow.proofs.Parts.{unmarked}
 
 -- ---- tests
 
@@ -53,10 +53,6 @@ of_no_end : (g l : Bool) → (g || not l) ≡ false → l ≡ true
 of_no_end true l e = absurd (true≢false e)
 of_no_end false true e = refl
 of_no_end false false e = absurd (true≢false e)
-
-unmarked : (b : Bool) → not b ≡ true → b ≡ false
-unmarked true e = absurd (true≢false (sym e))
-unmarked false e = refl
 
 module _ (m : Mdp) (goals : List Bool) (start : ℕ) (threshold : ℚ) (kept : List ℕ) (wide : List Bool) (values : List ℚ) (ranks : List ℕ) (known : IsMdp m) (h : start < states_of m)
     (shape : IsFloorShape m kept wide values ranks) where

@@ -1,14 +1,14 @@
 -- A flow certificate is answered yes exactly where the rules hold in exact numbers and no written term is past width; and then its subsystem reaches
 -- the threshold.
-use Rattle.std.proofs.Common.{◌≡◌, ℕ, ◌<◌, Bool, true, false, not, ◌&&◌, cond, eqb, List, [], ◌∷◌, ◌++◌, map, length, get_or, set, replicate, Option, Some, None, refl, sym, ap, subst, ◌∙◌, ⊎_elim, arith, pos, true≢false}
+use Rattle.std.proofs.Common.{◌≡◌, ℕ, ◌<◌, Bool, true, false, not, cond, List, [], ◌∷◌, map, length, get_or, set, replicate, Option, Some, None, refl, sym, ap, subst, ◌∙◌, ⊎_elim, pos, true≢false}
 use Rattle.std.specs.Prelude.{◌↔◌, unwrap_or}
-use Rattle.std.specs.List.{All, AllByRecursion}
+use Rattle.std.specs.List.{AllByRecursion}
 use Rattle.std.specs.Option.{IsSome, option_map}
 use Rattle.std.proofs.lemmas.List.{length-set, length-replicate, get_or-replicate, get_or-set_same, get_or-set_other}
 use Rattle.std.proofs.lemmas.List.Elements.{All-from_recursion, recursion_from_All}
-use Rattle.std.proofs.lemmas.Bool.{cases_Bool, cases_eq, eq-eqb, ne_eqb}
+use Rattle.std.proofs.lemmas.Bool.{cases_eq, eq-eqb, ne_eqb}
 use Rattle.std.proofs.lemmas.Bool.{lt-ltb, ltb-true}
-use Rattle.mdp_math.specs.Rational.{ℚ, of_int, lt_ℚ, ◌+ℚ◌, ◌≤ℚ◌, ◌<ℚ◌}
+use Rattle.mdp_math.specs.Rational.{ℚ, of_int, lt_ℚ, ◌+ℚ◌, ◌≤ℚ◌}
 use Rattle.mdp_math.proofs.Booleans.{and-parts, and-both}
 use Rattle.mdp_math.proofs.Laws.{zero-+ℚ}
 use Rattle.mdp_math.proofs.Options.{Some_same}
@@ -18,28 +18,23 @@ use Rattle.mdp_spec.specs.Bounds.{SubMax, SubMaxWithin}
 use Rattle.mdp_spec.specs.Mdp.{Mdp, states_of, choices_at, value_at}
 use Rattle.mdp_spec.specs.Row.{IsMdp}
 use Rattle.mdp_spec.specs.Tree.{is_marked}
-use Rattle.mdp_farkas.specs.Reach.{choice_exists}
 use Rattle.mdp_farkas.specs.Verdict.{Check, InWidth, IsYes, IfYes, verdict_of}
 use Rattle.mdp_farkas.specs.declared.verdict.Verdict.{Verdict}
 use Rattle.mdp_farkas.proofs.Comparing.{le_of_at_least, at_least_of_le, le_of_at_most, at_most_of_le}
 use Rattle.mdp_farkas.proofs.Holds.{Each, Holds, Sound, each_of_yes, yes_of_each, told_of_each, if_yes, holds_of_sound, each_append, each_left, each_right}
 use Rattle.mdp_flow.specs.declared.flow.Flow.{Flow}
-use Rattle.mdp_flow.specs.Flow.{IsFlow, MeetsFlow, outflow, inflow, goal_flow, flow_total, flow_value, source, goal_source}
-use Rattle.mdp_flow.specs.FlowChecks.{kept_check, flow_check, sums_check, checks_at, each_flow, balance_check, arrival_check, sum_checks, checks_from, flow_checks, HoldsFlow}
+use Rattle.mdp_flow.specs.Flow.{IsFlow, MeetsFlow, outflow, inflow, flow_total, flow_value, source}
+use Rattle.mdp_flow.specs.FlowChecks.{kept_check, each_flow, balance_check, arrival_check, sum_checks, checks_from, flow_checks, HoldsFlow}
 use Rattle.mdp_flow.specs.Kept.{kept_marks}
 use Rattle.mdp_flow.specs.Shape.{IsFlowShape}
 use Rattle.mdp_flow.specs.Sums.{FlowSums, AreSums, first_sums, with_flow, after_flow, after_flows}
 use Rattle.mdp_flow.proofs.Added.{AddsFlows, no_flow_adds, flow_adds}
 use Rattle.mdp_flow.proofs.Flows.{sub_max_of_flow, sub_max_within_of_flow}
 use Rattle.mdp_flow.proofs.Kept.{each_kept, each_place}
-use Rattle.mdp_flow.proofs.Parts.{each_at, each_of}
-use Rattle.mdp_flow.proofs.Sizes.{sized_flow, sized_all}
+use Rattle.mdp_flow.proofs.Parts.{unmarked, each_at, each_of}
+use Rattle.mdp_flow.proofs.Sizes.{sized_flow}
 
 -- ---- single checks
-
-unmarked : (b : Bool) → not b ≡ true → b ≡ false
-unmarked true e = absurd (true≢false (sym e))
-unmarked false e = refl
 
 to_unmarked : (b : Bool) → b ≡ false → not b ≡ true
 to_unmarked b e = ap not e

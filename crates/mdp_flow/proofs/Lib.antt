@@ -16,3 +16,5 @@ pub mod FlowRules
 pub mod FloorRules
 pub mod Counted
 pub mod Fewer
+mod Examples
+mod ExamplesChecks

@@ -1,7 +1,11 @@
 -- Claims on the checks of a list that is made from other lists.
-use Rattle.std.proofs.Common.{◌≡◌, ℕ, zero, suc, ◌<◌, List, [], ◌∷◌, map, length, get_or, arith}
+use Rattle.std.proofs.Common.{◌≡◌, ℕ, zero, suc, ◌<◌, Bool, true, false, true≢false, not, refl, sym, List, [], ◌∷◌, map, length, get_or, arith}
 use Rattle.mdp_farkas.specs.Verdict.{Check}
 use Rattle.mdp_farkas.proofs.Holds.{Each}
+
+pub unmarked : (b : Bool) → not b ≡ true → b ≡ false
+unmarked true e = absurd (true≢false (sym e))
+unmarked false e = refl
 
 module _ (P : Check → Type 0) (check : ℕ → Check) where
   -- one check for each element of a list

@@ -1,4 +1,4 @@
-use Rattle.std.proofs.Common.{◌≡◌, Bool, Option, None, [], ◌∷◌, ap, ◌∙◌}
+use Rattle.std.proofs.Common.{Bool, Option, None, [], ◌∷◌, ap, ◌∙◌}
 use Rattle.mdp_math.specs.Rational.{ℚ}
 use Rattle.mdp_farkas.specs.Compare.{is_at_least}
 use Rattle.mdp_flow.specs.Walk.{stop_of}

@@ -1,4 +1,4 @@
-use Rattle.std.proofs.Common.{rules, ◌≡◌, ℕ, [], ◌∷◌, get_or, sym, ap, ◌∙◌}
+use Rattle.std.proofs.Common.{rules, [], ◌∷◌, get_or, sym, ap, ◌∙◌}
 use Rattle.mdp_flow.specs.FlowChecks.{balance_check}
 use Rattle.mdp_flow.specs.Walk.{stop_of}
 use Rattle.mdp_flow.proofs.Stops.{by_place}

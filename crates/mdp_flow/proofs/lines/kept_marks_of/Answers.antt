@@ -1,4 +1,4 @@
-use Rattle.std.proofs.Common.{◌≡◌, ℕ, ◌<◌, List, Bool, true, length, get_or, set, ◌∙◌, sym, ap, subst}
+use Rattle.std.proofs.Common.{ℕ, ◌<◌, List, Bool, true, length, get_or, set, ◌∙◌, sym, ap, subst}
 use Rattle.mdp_flow.proofs.Kept.{kept_marks-none, kept_marks-more, length-kept_marks}
 use Rattle.mdp_flow.proofs.lines.kept_marks_of.Goals as goal
 

@@ -1,7 +1,6 @@
-use Rattle.std.proofs.Common.{◌≡◌, ℕ, ◌<◌, Ok, Err, [], ◌∷◌, List, map, length, ◌∙◌, sym, ap, subst, arith}
+use Rattle.std.proofs.Common.{◌≡◌, ℕ, ◌<◌, Ok, Err, [], ◌∷◌, length, ◌∙◌, sym, ap, subst, arith}
 use Rattle.std.proofs.lemmas.Result.{err_from_is_err_and}
 use Rattle.std.specs.List.{flat_map, range_with_len}
-use Rattle.mdp_farkas.specs.Verdict.{Check}
 use Rattle.mdp_spec.specs.Mdp.{choices_at}
 use Rattle.mdp_flow.specs.Walk.{stop_of}
 use Rattle.mdp_flow.proofs.Stops.{passed, stopped, each_alone}
@@ -19,7 +18,7 @@ returns-in_err-at g c = λ check told.
 pub loop-c-preserved : goal.loop-c-preserved
 loop-c-preserved g c = λ check told.
     let l = subst (λ (n : ℕ). c.loop-c.c < n) c.choices-c-end.ensures c.loop-c-test.true in
-    passed (λ i. check i ∷ []) c.loop-c.c tt tt (c.loop-c.invariant check told) (told c.loop-c.c _ l (c.in_ok-at.ensures {u = tt}))
+    passed (λ i. check i ∷ []) c.loop-c.c tt tt (c.loop-c.invariant check told) (told c.loop-c.c (Ok tt) l (c.in_ok-at.ensures {u = tt}))
 
 pub returns : goal.returns
 returns g c = λ check told.

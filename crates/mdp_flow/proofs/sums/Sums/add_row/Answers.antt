@@ -1,4 +1,4 @@
-use Rattle.std.proofs.Common.{◌≡◌, ◌<◌, ℕ, drop, length, get_or, Some, sym, ◌∙◌, subst, refl, arith}
+use Rattle.std.proofs.Common.{◌<◌, ℕ, length, get_or, sym, ◌∙◌, subst, arith}
 use Rattle.mdp_flow.proofs.Adding.{row_next}
 use Rattle.mdp_flow.proofs.Sizes.{sized_entry}
 use Rattle.mdp_flow.proofs.sums.Sums.add_row.Goals as goal
