@@ -1,6 +1,7 @@
 -- A floor certificate is answered yes exactly where the rules hold in exact numbers and no written term is past width; and then each policy of its
 -- subsystem reaches the threshold.
-use Rattle.std.proofs.Common.{◌≡◌, ℕ, ◌<◌, ◌⊎◌, inr, ⊎_elim, Bool, true, false, true≢false, not, ◌||◌, ltb, lt-ltb, ltb-true, eqb-true, eq-eqb, List, [], ◌∷◌, ◌++◌, length, get_or, Some, refl, sym, ap, subst, ◌∙◌}
+use Rattle.std.proofs.Common.{◌≡◌, ℕ, ◌<◌, ◌⊎◌, inr, ⊎_elim, Bool, true, false, true≢false, not, ◌||◌, ltb, lt-ltb}
+use Rattle.std.proofs.Common.{ltb-true, eqb-true, eq-eqb, List, [], ◌∷◌, ◌++◌, length, get_or, Some, refl, sym, ap, subst, ◌∙◌}
 use Rattle.std.specs.Prelude.{◌↔◌}
 use Rattle.std.specs.List.{Any, list_any}
 use Rattle.std.proofs.lemmas.List.Elements.{All-from_recursion, recursion_from_All}
@@ -22,7 +23,8 @@ use Rattle.mdp_farkas.proofs.Holds.{each_map, each_map_at, each_if, each_if_true
 use Rattle.mdp_farkas.proofs.Inequalities.{sum_stands_of, of_sum_stands}
 use Rattle.mdp_farkas.proofs.Tests.{some_passed, some_passes}
 use Rattle.mdp_flow.specs.Floor.{MeetsFloor, counted_value, counted_sum}
-use Rattle.mdp_flow.specs.FloorChecks.{spread_values, spread_ranks, line_value, line_rank, line_values, cover_check, cover_checks, rank_check, fall_check, rank_checks, checks_of_line, each_line, start_check, floor_checks, HoldsFloor}
+use Rattle.mdp_flow.specs.FloorChecks.{spread_values, spread_ranks, line_value, line_rank, line_values, cover_check, cover_checks}
+use Rattle.mdp_flow.specs.FloorChecks.{rank_check, fall_check, rank_checks, checks_of_line, each_line, start_check, floor_checks, HoldsFloor}
 use Rattle.mdp_flow.specs.FlowChecks.{kept_check}
 use Rattle.mdp_flow.specs.Kept.{kept_marks}
 use Rattle.mdp_flow.specs.Shape.{IsFloorShape}
@@ -235,7 +237,8 @@ module _ (m : Mdp) (goals : List Bool) (start : ℕ) (threshold : ℚ) (kept : L
           (
             at_most_of_le (value_at values i) 1ℚ (at_most_one_at i l) told.1.0,
             each_append Holds (cover_checks m goals counts s (value_at values i)) (rank_checks m goals ranked s (value_at values i) (get_or ranks i 0) ++ kept_check goals s ∷ []) (covers_hold i l)
-                (each_append Holds (rank_checks m goals ranked s (value_at values i) (get_or ranks i 0)) (kept_check goals s ∷ []) (ranks_hold i l) (ap (λ (b : Bool). Some (not b)) (is_free i l), tt)),
+                (each_append Holds (rank_checks m goals ranked s (value_at values i) (get_or ranks i 0)) (kept_check goals s ∷ [])
+                (ranks_hold i l) (ap (λ (b : Bool). Some (not b)) (is_free i l), tt)),
           ),
         )
 
