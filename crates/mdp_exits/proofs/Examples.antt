@@ -1,5 +1,5 @@
 -- Small quotients, computed.
-use Rattle.std.proofs.Common.{◌≡◌, ℕ, List, [], ◌∷◌, Option, Some, None, Result, Ok, Err, ◌^◌, false, refl, arith, pos}
+use Rattle.std.proofs.Common.{◌≡◌, ℕ, List, [], ◌∷◌, Option, Some, None, Result, Ok, Err, ◌^◌, false, refl, ap, arith, pos}
 use Rattle.std.proofs.lemmas.Bool.{false≢true}
 use Rattle.mdp_math.specs.Gcd.{gcd, gcd_with_fuel}
 use Rattle.mdp_math.specs.Rational.{ℚ, of_int, ratio, ◌+ℚ◌, ◌*ℚ◌, neg_ℚ, inv_ℚ, le_ℚ}
@@ -19,8 +19,8 @@ use Rattle.mdp_path.specs.Laws.{first}
 use Rattle.mdp_path.specs.Problem.{choice_at}
 use Rattle.mdp_quot.specs.Quotient.{Quotient, node_rows, loop_row}
 use Rattle.mdp_exits.specs.Problem.{steps_problem, steps_start, outer_problem, outer_start}
-use Rattle.mdp_exits.specs.Steps.{IsLongest}
-use Rattle.mdp_exits.specs.Outer.{IsOuterPolicy, HasGains}
+use Rattle.mdp_exits.specs.Steps.{IsLongest, IsCounted}
+use Rattle.mdp_exits.specs.Outer.{IsOuterPolicy, IsBestOuter, HasGains}
 
 abbrev to : ℕ → ℚ → Entry
 to t p = record { target = t; prob = p }
@@ -84,10 +84,23 @@ too_few : IsLongest of_parts (whole 0 ∷ whole 0 ∷ whole 0 ∷ []) → ⊥
 unfolding le_ℚ ◌+ℚ◌ ◌*ℚ◌ ratio of_int gcd gcd_with_fuel
 too_few h = false≢true (test_of_le (whole 1) (whole 0) (h.each 0 0 (omega arith) (omega arith)))
 
+-- where exit 0 is taken one exit is counted; and there is no exit 1
+not_counted : IsCounted of_parts (0 ∷ 0 ∷ 0 ∷ []) (whole 0 ∷ whole 0 ∷ whole 0 ∷ []) → ⊥
+unfolding le_ℚ ◌+ℚ◌ ◌*ℚ◌ ratio of_int gcd gcd_with_fuel
+not_counted c = false≢true (ap (le_ℚ (whole 1)) (c.some 0 (omega arith) (omega arith)))
+
+no_exit_1 : (x : List ℚ) → IsCounted of_parts (1 ∷ 0 ∷ 0 ∷ []) x → ⊥
+no_exit_1 x c = absurd (omega (arith, c.policy.at 0 (omega arith) (omega arith)))
+
 -- gains 1, 4 and 0: the exit comes to 2, which is better than to stop with 1
 goes_on : Ends (outer_path Max of_parts (whole 1 ∷ whole 4 ∷ whole 0 ∷ []) 2) 1 (1 ∷ 0 ∷ 0 ∷ []) (whole 2 ∷ whole 4 ∷ whole 0 ∷ [])
 unfolding equation_of eliminated divided_rest plus_equation evaluated written_add written_mul written_compare narrow narrow_ℚ ◌+ℚ◌ ◌*ℚ◌ neg_ℚ inv_ℚ ratio of_int gcd gcd_with_fuel
 goes_on = refl
+
+-- so to stop there isn't best
+not_best : IsBestOuter Max of_parts (whole 1 ∷ whole 4 ∷ whole 0 ∷ []) (record { policy = 0 ∷ 0 ∷ 0 ∷ []; values = whole 1 ∷ whole 4 ∷ whole 0 ∷ [] }) → ⊥
+unfolding le_ℚ ◌+ℚ◌ ◌*ℚ◌ ratio of_int gcd gcd_with_fuel
+not_best b = false≢true (test_of_le (whole 2) (whole 1) (b.exit 0 0 (omega arith) (omega arith)))
 
 -- to stop with 3 is better
 stops : Ends (outer_path Max of_parts (whole 3 ∷ whole 4 ∷ whole 0 ∷ []) 1) 0 (0 ∷ 0 ∷ 0 ∷ []) (whole 3 ∷ whole 4 ∷ whole 0 ∷ [])

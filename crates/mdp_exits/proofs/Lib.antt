@@ -8,4 +8,6 @@ pub mod StepsBest
 pub mod OuterBest
 pub mod Ending
 pub mod Queries
+pub mod OuterOfAll
+pub mod StepsOfAll
 mod Examples

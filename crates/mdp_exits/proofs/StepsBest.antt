@@ -18,7 +18,7 @@ use Rattle.mdp_exits.proofs.InModel.{exitless-component}
 use Rattle.mdp_exits.proofs.Chains.{Does, can-leave}
 use Rattle.mdp_exits.proofs.StepsNodes.{exit_count, is_exitless, going-at, goings-len, steps-count, steps-at, steps-choice, steps-candidate, steps-choices, steps-known}
 
-positive : (n : ℕ) → (n == 0) ≡ false → 0 < n
+pub positive : (n : ℕ) → (n == 0) ≡ false → 0 < n
 positive zero e = cc
 positive (suc n) e = omega arith
 
@@ -33,17 +33,17 @@ module _ (q : Quotient) where
     -- ---- what it does at a node
 
     -- a node without exits stops with 0, any other earns 1 and goes on by its exit
-    record Goes (k : ℕ) : Type 0 where
+    pub record Goes (k : ℕ) : Type 0 where
       pub exit : get_or policy k 0 < exit_count q k
       pub move : taken p policy k ≡ go (of_int (pos 1)) (row_of q k (get_or policy k 0))
 
     taken-is : (k : ℕ) → k < length q.exits → taken p policy k ≡ move_by (steps_node q k) (get_or policy k 0)
     taken-is k l = ap (λ (n : Node). move_by n (get_or policy k 0)) (steps-at q k (is_node k l))
 
-    stays : (k : ℕ) → k < length q.exits → is_exitless q k ≡ true → taken p policy k ≡ stop (of_int (pos 0))
+    pub stays : (k : ℕ) → k < length q.exits → is_exitless q k ≡ true → taken p policy k ≡ stop (of_int (pos 0))
     stays k l e = taken-is k l ∙ ap (λ (b : Bool). move_by (steps_by q k b) (get_or policy k 0)) e
 
-    goes : (k : ℕ) → k < length q.exits → is_exitless q k ≡ false → Goes k
+    pub goes : (k : ℕ) → k < length q.exits → is_exitless q k ≡ false → Goes k
     goes k l e =
         let can : IsCandidate (steps_by q k false) (get_or policy k 0) =
         subst (λ (b : Bool). IsCandidate (steps_by q k b) (get_or policy k 0)) e

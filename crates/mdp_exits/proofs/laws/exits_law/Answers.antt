@@ -1,4 +1,6 @@
 use Rattle.mdp_exits.proofs.Queries.{steps_once, outer_once, steps_end, outer_end, steps_are_longest, outer_is_best}
+use Rattle.mdp_exits.proofs.OuterOfAll.{none_is_better}
+use Rattle.mdp_exits.proofs.StepsOfAll.{none_takes_more}
 use Rattle.mdp_exits.proofs.laws.exits_law.Goals as goal
 
 pub returns-clause-longest_once : goal.returns-clause-longest_once
@@ -18,3 +20,9 @@ returns-clause-longest c = steps_are_longest c.path_law.ensures.best
 
 pub returns-clause-best : goal.returns-clause-best
 returns-clause-best c = outer_is_best c.path_law.ensures.best
+
+pub returns-clause-none_longer : goal.returns-clause-none_longer
+returns-clause-none_longer c = none_takes_more
+
+pub returns-clause-none_better : goal.returns-clause-none_better
+returns-clause-none_better c = none_is_better
