@@ -5,7 +5,7 @@
 //! a line for each state, give its words (`Columns` in specs/Claims, `IsColumns` in proofs/Columns), an `Entry` and the `Lists` that keep it, and
 //! a case in `push_body` and `body_from`; whether its values may be infinite is a case of `may_be_infinite`. A line more before those of the
 //! states is read and written in these cases. A body that lists lines of its own up to the line `end`, as that of a subsystem, gives a `Line` and
-//! the `Lines` that keep it instead (`Listed` in specs/Listed, `IsListed` in proofs/Listed); `listed` reads and writes them.
+//! the `Lines` that keep it instead (`Listed` in specs/Listed, `IsListed` in proofs/OneByOne); `listed` reads and writes them.
 //! docs/certificates.md has the steps one by one.
 #![tactic(auto)]
 
