@@ -311,15 +311,9 @@ module _ (states : ℕ) (limit : states ≤ 2 ^ 20) where
 
   pub record FlowsAgain (kept : List ℕ) (wide : List Bool) (flows : List Flow) : Type 0 where
     pub next : AreNext IsNextLine None (flow_lines kept wide flows)
-    pub count : length (flow_lines kept wide flows) ≡ length kept + length flows
     pub kept_is : filter_map kept_in (flow_lines kept wide flows) ≡ kept
     pub wide_is : filter_map mark_in (flow_lines kept wide flows) ≡ wide
     pub flows_are : filter_map flow_in (flow_lines kept wide flows) ≡ flows
-
-  count-is : (kept : List ℕ) (wide : List Bool) (flows : List Flow) → length wide ≡ length kept → length (flow_lines kept wide flows) ≡ length kept + length flows
-  count-is [] wide flows e = omega (arith, length-map flows (λ (f : Flow). Send f))
-  count-is (s ∷ kept) [] flows e = absurd (omega arith)
-  count-is (s ∷ kept) (w ∷ wide) flows e = omega (arith, count-is kept wide flows (omega arith))
 
   sent-kept : (flows : List Flow) → filter_map kept_in (map (λ f. Send f) flows) ≡ []
   sent-kept [] = refl
@@ -357,7 +351,6 @@ module _ (states : ℕ) (limit : states ≤ 2 ^ 20) where
       let many = number-same (length wide) (length kept) q.1 in
       record {
         next = next-lines None None kept wide flows refl refl q.0 many p.1 width;
-        count = count-is kept wide flows many;
         kept_is = kept-back kept wide flows many;
         wide_is = wide-back kept wide flows many;
         flows_are = flows-back kept wide flows;

@@ -14,6 +14,7 @@ pub mod Sections
 pub mod Bodies
 pub mod OneByOne
 pub mod Kept
+pub mod Places
 pub mod Parts
 pub mod FirstBroken
 mod Examples

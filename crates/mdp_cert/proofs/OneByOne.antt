@@ -1,9 +1,10 @@
 -- Lines that are listed one by one are read exactly where they are the lines of what is read.
 use Rattle.std.proofs.Common.{◌≡◌, ℕ, zero, suc, ◌+◌, ◌<◌, ◌≤◌, Bool, true, false, cond, List, [], ◌∷◌, ◌++◌}
-use Rattle.std.proofs.Common.{length, Option, Some, None, Result, Ok, Err, refl, sym, ap, ap₂, subst, ◌∙◌, append_assoc, arith}
+use Rattle.std.proofs.Common.{length, drop, get_or, Option, Some, None, Result, Ok, Err, refl, sym, ap, ap₂, subst, ◌∙◌, append_assoc, arith}
 use Rattle.std.specs.List.{join_with_byte}
 use Rattle.std.specs.Str.{bytes_eq}
-use Rattle.std.proofs.lemmas.List.{length-append, append-nil}
+use Rattle.std.proofs.Math.Seq.{drop-cons}
+use Rattle.std.proofs.lemmas.List.{length-append, append-nil, drop_all}
 use Rattle.mdp_cert.specs.declared.error.Refusal.{Refusal}
 use Rattle.mdp_cert.specs.Lines.{◌>>=◌, Place, place, next_line, line_by}
 use Rattle.mdp_cert.specs.Listed.{Listed}
@@ -11,7 +12,7 @@ use Rattle.mdp_cert.specs.Spelling.{line, end_text, listed_lines}
 use Rattle.mdp_cert.specs.Reading.{listed_at, before_others, listed_from, listed_to_end}
 use Rattle.mdp_cert.proofs.Pieces.{Free}
 use Rattle.mdp_cert.proofs.Cuts.{bytes_same}
-use Rattle.mdp_cert.proofs.Feeds.{bind_ok, ok-is, judged-found, judged-again}
+use Rattle.mdp_cert.proofs.Feeds.{bind_ok, ok-is, Line, judged-found, judged-again}
 
 -- a line is read exactly where it is the text of what may stand there; that text is one line, and isn't `end`
 pub record IsListed {A : Type 0} (k : Listed A) (states : ℕ) (IsNext : Option A → A → Type 0) : Type 0 where
@@ -26,10 +27,11 @@ AreNext P before [] = Unit {0}
 AreNext P before (x ∷ xs) = P before x × AreNext P (Some x) xs
 
 -- each line takes a byte
-pub line-shorter : {B : Type 0} (judge : ℕ → List ℕ → Result B Refusal) (p : Place) (x : B) (q : Place) → line_by judge p ≡ Ok (x, q) → length q.rest < length p.rest
-line-shorter judge p x q e =
-    let j = judged-found judge p x q e in
-    omega (arith, ap (λ (t : List ℕ). length t) j.is.front, length-append (line j.text) q.rest, length-append j.text (10 ∷ []))
+pub next-shorter : (p : Place) (text : List ℕ) (q : Place) → Line p text q → length q.rest < length p.rest
+next-shorter p text q l = omega (arith, ap (λ (t : List ℕ). length t) l.front, length-append (line text) q.rest, length-append text (10 ∷ []))
+
+line-shorter : {B : Type 0} (judge : ℕ → List ℕ → Result B Refusal) (p : Place) (x : B) (q : Place) → line_by judge p ≡ Ok (x, q) → length q.rest < length p.rest
+line-shorter judge p x q e = let j = judged-found judge p x q e in next-shorter p j.text q j.is
 
 module _ {A : Type 0} (k : Listed A) (states : ℕ) where
   -- ---- more lines than there are bytes make no difference
@@ -97,6 +99,22 @@ module _ {A : Type 0} (k : Listed A) (states : ℕ) where
       → onto xs (listed_from (suc (length p.rest)) k states before p) ≡ Err e
   unfolding listed_from
   not-said xs before p q text e line said = rw (line, said) refl
+
+-- ---- a text that grows line by line
+
+module _ {A : Type 0} (k : Listed A) where
+  pub more-written : (out new total : List ℕ) (xs : List A) (i : ℕ) (x : A) → i < length xs → x ≡ get_or xs i x → out ++ listed_lines k (drop i xs) ≡ total
+      → new ≡ out ++ line (join_with_byte 32 (k.words x)) → new ++ listed_lines k (drop (suc i) xs) ≡ total
+  unfolding listed_lines
+  more-written out new total xs i x lt is e made =
+      let first : drop i xs ≡ x ∷ drop (suc i) xs = drop-cons xs i x lt ∙ ap (λ (y : A). y ∷ drop (suc i) xs) (sym is) in
+      ap (λ (t : List ℕ). t ++ listed_lines k (drop (suc i) xs)) made
+      ∙ append_assoc out (line (join_with_byte 32 (k.words x))) (listed_lines k (drop (suc i) xs))
+      ∙ ap (λ (ys : List A). out ++ listed_lines k ys) (sym first) ∙ e
+
+  pub all-written : (xs : List A) (n : ℕ) → length xs ≡ n → listed_lines k (drop n xs) ≡ line end_text
+  unfolding listed_lines
+  all-written xs n e = let none : drop n xs ≡ [] = drop_all n xs (omega arith) in rw none refl
 
 module _ {A : Type 0} (k : Listed A) (states : ℕ) (IsNext : Option A → A → Type 0) (is : IsListed k states IsNext) where
   -- ---- what is read

@@ -1,6 +1,6 @@
-ghost use Rattle.std.specs.Prelude.{◌≡◌, ◌&&◌, ◌++◌, IfOk, nat_lt, filter_map, option_and_then};
+ghost use Rattle.std.specs.Prelude.{◌≡◌, ◌&&◌, ◌++◌, IfOk, nat_lt, length, filter_map, option_and_then};
 ghost use Rattle.mdp_cert.specs.Cert.{is_next, is_next_flow, flow};
-ghost use Rattle.mdp_cert.specs.Witness.{keep_at, flow_at, flow_line_at, kept_in, mark_in, flow_in, flow_listed, flow_lines, flow_body};
+ghost use Rattle.mdp_cert.specs.Witness.{keep_at, flow_at, flow_line_at, kept_in, mark_in, flow_in, flow_listed, keep_lines, flow_lines, flow_body};
 
 use crate::error::{CertKind, Refusal};
 use crate::flow_line::FlowLine;
@@ -105,12 +105,7 @@ fn keep_at(states: u32, before: Option<u32>, line: u64, text: &[u8]) -> Result<F
 
 /// The flow of the line `flow N CHOICE AMOUNT` behind this flow.
 #[tactic(auto, unfolding(crate::specs::Witness::flow_at))]
-fn flow_at(
-    states: u32,
-    before: &Option<Flow>,
-    line: u64,
-    text: &[u8],
-) -> Result<FlowLine, Refusal>
+fn flow_at(states: u32, before: &Option<Flow>, line: u64, text: &[u8]) -> Result<FlowLine, Refusal>
     ensures { result ≡ flow_at states before.now line text.now }
 {
     let behind = words_behind(line, text, b"flow", 3)?;
@@ -168,13 +163,20 @@ impl Line for FlowLine {
     }
 }
 
+/// How many lines keep a state: as many as there are states with a mark.
+fn keep_count(cert: &FlowCert) -> usize
+    ensures { result ≡ length (keep_lines cert.now.kept.items cert.now.wide.items) }
+{
+    cert.kept.len().min(cert.wide.len())
+}
+
 impl Lines for FlowCert {
     type Item = FlowLine;
 
     ghost lines = { λ c. flow_lines c.kept.items c.wide.items c.flows.items };
 
     fn line(&self, place: usize) -> FlowLine {
-        let kept = self.kept.len().min(self.wide.len());
+        let kept = keep_count(self);
         if place < kept {
             FlowLine::Keep {
                 state: self.kept[place],

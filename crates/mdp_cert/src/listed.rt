@@ -17,12 +17,7 @@ pub(crate) trait Line: Copy + Drop {
     ghost listed: { Listed Self };
 
     /// What this line says, in a certificate of so many states, behind the line before it; or why it is refused.
-    fn read(
-        states: u32,
-        before: &Option<Self>,
-        line: u64,
-        text: &[u8],
-    ) -> Result<Self, Refusal>
+    fn read(states: u32, before: &Option<Self>, line: u64, text: &[u8]) -> Result<Self, Refusal>
         ensures { result ≡ listed.judge states before.now line text.now };
 
     /// Appends the words, with a blank between each two.
@@ -76,9 +71,10 @@ pub(crate) fn listed_to_end<L: Line>(
     let mut rest = bytes;
     loop {
         let (text, behind) = next_line(next, rest)?;
+        let said = listed_at(states, &before, next, text)?;
         next += 1;
         rest = behind;
-        let Some(said) = listed_at(states, &before, next - 1, text)? else {
+        let Some(said) = said else {
             return Ok((lines, next, rest));
         };
         lines.push(said)?;
