@@ -21,7 +21,7 @@ use Rattle.mdp_flow.specs.declared.flow.Flow.{Flow}
 use Rattle.mdp_cert.specs.declared.flow_line.FlowLine.{FlowLine}
 use Rattle.mdp_cert.specs.declared.floor_line.FloorLine.{FloorLine}
 use Rattle.mdp_cert.specs.Cert.{PlainClaim, upper, reach, reward, mean, witness, PlainBody, bounds, policy, rewards, gains, flow, floor, Certificate}
-use Rattle.mdp_cert.specs.Cert.{are_names, has_threshold, are_kept, are_flows, is_init_of, is_body_of, IsClaimInWidth, IsInitInWidth, IsValueNarrow, IsFlowInWidth, IsBodyInWidth, Fits}
+use Rattle.mdp_cert.specs.Cert.{are_kept, are_flows, is_init_of, is_body_of, IsInitInWidth, IsValueNarrow, IsFlowInWidth, IsBodyInWidth, Fits}
 use Rattle.mdp_cert.specs.Witness.{flow_listed, flow_lines, flow_body, floor_listed, floor_lines, floor_body}
 use Rattle.mdp_cert.specs.Lines.{◌>>=◌, Place, place, line_by}
 use Rattle.mdp_cert.specs.Words.{first_of, words_behind, frac_at}

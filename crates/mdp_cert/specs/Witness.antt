@@ -1,5 +1,6 @@
 -- The lines of a witnessing subsystem: the states that are kept, and what is said of them.
-use Rattle.std.specs.Prelude.{ℕ, Bool, true, false, not, ◌&&◌, List, [], ◌∷◌, ◌++◌, map, drop, decimal, codes, nat_lt, Option, Some, None, is_some, option_and_then, option_map, filter_map, Result, Ok, if◌then◌else◌}
+use Rattle.std.specs.Prelude.{ℕ, Bool, true, false, not, ◌&&◌, List, [], ◌∷◌, ◌++◌, map, drop, decimal, codes, nat_lt}
+use Rattle.std.specs.Prelude.{Option, Some, None, is_some, option_and_then, option_map, filter_map, Result, Ok, if◌then◌else◌}
 use Rattle.std.specs.Str.{bytes_eq}
 use Rattle.mdp_math.specs.Rational.{ℚ}
 use Rattle.mdp_num.specs.Value.{spelling}

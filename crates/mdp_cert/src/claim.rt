@@ -25,7 +25,7 @@ pub enum Claim {
         dir: Dir,
         name: Vec<u8>,
     },
-    /// The kept states suffice for the greatest, or for the least, probability of reaching the label from the initial state to be at least the threshold.
+    /// On the kept states alone the greatest, or the least, probability of reaching the label from the initial state is at least the threshold.
     Witness {
         dir: Dir,
         label: Vec<u8>,

@@ -125,11 +125,12 @@ module _ (m : Mdp) (r : ℕ) (goals : List Bool) (init : Init) (states : ℕ) (s
       → is_body_of (witness Min label t) states (floor kept wide values ranks) ≡ true → init_check init (initial_of m) (floor kept wide values ranks) ≡ verdict.Yes
       → (verdict_of (floor_checks m goals start t kept values ranks) ≡ verdict.Yes) ↔ HoldsFloor m goals start t kept values ranks
   floor_rules_of label t kept wide values ranks marked fits rule1 =
-      floor_rules m goals start t kept wide values ranks (one_mark_each m label goals marked) (start_below m init (floor kept wide values ranks) refl rule1) (floor_shape m states kept wide values ranks size fits)
+      floor_rules m goals start t kept wide values ranks (one_mark_each m label goals marked) (start_below m init (floor kept wide values ranks) refl rule1)
+      (floor_shape m states kept wide values ranks size fits)
       (verdict_of (floor_checks m goals start t kept values ranks)) refl
 
-  body_rules : (claim : PlainClaim) (body : PlainBody) → reward_place m claim ≡ Some r → goal_marks m claim ≡ Some goals → is_body_of claim states body ≡ true → init_check init (initial_of m) body ≡ verdict.Yes
-      → (verdict_by m r goals start claim body ≡ verdict.Yes) ↔ valid_by m r goals start claim body
+  body_rules : (claim : PlainClaim) (body : PlainBody) → reward_place m claim ≡ Some r → goal_marks m claim ≡ Some goals → is_body_of claim states body ≡ true
+      → init_check init (initial_of m) body ≡ verdict.Yes → (verdict_by m r goals start claim body ≡ verdict.Yes) ↔ valid_by m r goals start claim body
   body_rules (upper label) (bounds z) named marked fits rule1 = upper_rules_of z
   body_rules (upper label) (policy z choices ranks) named marked fits rule1 = absurd (let t = fits in cc)
   body_rules (upper label) (rewards v choices ranks) named marked fits rule1 = absurd (let t = fits in cc)
@@ -214,7 +215,8 @@ module _ (m : Mdp) (r : ℕ) (goals : List Bool) (init : Init) (states : ℕ) (s
       → verdict_of (floor_checks m goals start t kept values ranks) ≡ verdict.Yes → bound_by m r goals start (witness Min label t) (floor kept wide values ranks)
   floor_bound label t kept wide values ranks is marked fits rule1 e =
       of_if_yes _ _
-      (floor_sub_min m goals start t kept wide values ranks (one_mark_each m label goals marked) (start_below m init (floor kept wide values ranks) refl rule1) (floor_shape m states kept wide values ranks size fits)
+      (floor_sub_min m goals start t kept wide values ranks (one_mark_each m label goals marked) (start_below m init (floor kept wide values ranks) refl rule1)
+      (floor_shape m states kept wide values ranks size fits)
       (verdict_of (floor_checks m goals start t kept values ranks)) is refl) e
 
   body_bound : (claim : PlainClaim) (body : PlainBody) → IsMdp m → reward_place m claim ≡ Some r → goal_marks m claim ≡ Some goals → is_body_of claim states body ≡ true

@@ -1,5 +1,4 @@
-use Rattle.std.proofs.Common.{suc, ◌+◌, ◌≡◌, ◌++◌, ap, sym, ◌∙◌, arith, List, ℕ, length}
-use Rattle.mdp_cert.specs.Spelling.{listed_lines}
+use Rattle.std.proofs.Common.{suc, ◌+◌, ◌≡◌, ◌++◌, ap, sym, ◌∙◌, arith, List, ℕ}
 use Rattle.mdp_cert.proofs.Growth.{keeps_more}
 use Rattle.mdp_cert.proofs.OneByOne.{more-written, all-written}
 use Rattle.mdp_cert.proofs.listed.push_listed.Goals as goal

@@ -1,5 +1,4 @@
-use Rattle.std.proofs.Common.{◌≡◌, ◌≤◌, ◌-◌, ℕ, length, get_or, ap, ◌∙◌, arith}
-use Rattle.mdp_cert.specs.Witness.{keep_lines}
+use Rattle.std.proofs.Common.{◌-◌, ℕ, get_or, ap, ◌∙◌, arith}
 use Rattle.mdp_cert.proofs.Places.{keep-inside, keep-at, sent-inside, sent-at}
 use Rattle.mdp_cert.proofs.flow_lines.FlowCertLines.line.Goals as goal
 
