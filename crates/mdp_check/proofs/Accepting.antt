@@ -34,7 +34,7 @@ use Rattle.mdp_check.specs.Initial.{init_check, init_fault, start_of}
 use Rattle.mdp_check.proofs.Shapes.{flow_shape, floor_shape, start_below}
 use Rattle.mdp_check.specs.Check.{reward_place, labelled_marks, goal_marks, answer_of, verdict_by, body_verdict, after_init, at_goals, at_reward, answer_to, valid_by, IsAccepted, bound_by, IsBound}
 use Rattle.mdp_check.specs.declared.answer.Answer.{Answer}
-use Rattle.mdp_check.specs.declared.answer.Answer.TheVariants.{Yes, No, Wide, NoReward, NoLabel, Size}
+use Rattle.mdp_check.specs.declared.answer.Answer.TheVariants.{Yes, Size}
 
 -- ---- one step of the answer after the other
 

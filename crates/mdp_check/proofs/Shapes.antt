@@ -1,5 +1,5 @@
 -- The lists of a subsystem that fit its claim have the shape that its rules ask for, and its initial state is one of the model's.
-use Rattle.std.proofs.Common.{◌≡◌, ℕ, zero, suc, ◌+◌, ◌<◌, ◌≤◌, Bool, true, false, not, cond, eqb, ltb, ◌&&◌, ◌||◌, List, [], ◌∷◌, length, get_or, Option, Some, None, refl, sym, ap, subst, ◌∙◌, arith}
+use Rattle.std.proofs.Common.{◌≡◌, ℕ, zero, suc, ◌<◌, Bool, true, false, cond, eqb, ltb, ◌&&◌, ◌||◌, List, [], ◌∷◌, length, get_or, Option, Some, None, refl, sym, ap, subst, ◌∙◌, arith}
 use Rattle.std.specs.Prelude.{codes}
 use Rattle.std.specs.List.{All, range_with_len}
 use Rattle.std.proofs.lemmas.Bool.{and_parts, eqb-true, ltb-true}
@@ -8,14 +8,11 @@ use Rattle.std.proofs.lemmas.List.Elements.{All-cons, All-head, All-filter, All-
 use Rattle.std.proofs.lemmas.List.FromFn.{length-range_with_len, get_or-range_with_len}
 use Rattle.mdp_math.specs.Rational.{ℚ}
 use Rattle.mdp_rows.specs.declared.dir.Dir.{Dir}
-use Rattle.mdp_rows.specs.declared.dir.Dir.TheVariants.{Max, Min}
 use Rattle.mdp_spec.specs.Mdp.{Mdp, states_of}
 use Rattle.mdp_spec.specs.Labels.{place_of, has_at, labelled, only, initial_of}
 use Rattle.mdp_cert.specs.declared.init.Init.{Init}
 use Rattle.mdp_cert.specs.declared.init.Init.TheVariants.{Missing, Finite, Infinite, Start}
-use Rattle.mdp_cert.specs.Cert.{witness, PlainBody, bounds, policy, rewards, gains, flow, floor, is_init_of, is_body_of, is_next, are_kept, is_next_flow, are_flows}
-use Rattle.mdp_cert.proofs.Growth.{flow-lists, floor-lists}
-use Rattle.mdp_farkas.specs.declared.verdict.Verdict.{Verdict}
+use Rattle.mdp_cert.specs.Cert.{witness, PlainBody, bounds, policy, rewards, gains, flow, floor, is_init_of, are_kept, are_flows}
 use Rattle.mdp_farkas.specs.declared.verdict.Verdict.TheVariants as verdict
 use Rattle.mdp_flow.specs.declared.flow.Flow.{Flow}
 use Rattle.mdp_flow.specs.Kept.{Ascends}
