@@ -8,7 +8,7 @@ use Rattle.mdp_drn.specs.Reading.{outcome, Reads}
 use Rattle.mdp_job.specs.Refusal.{PlainRefusal, read_model, read_certificate, long_model, no_memory}
 use Rattle.mdp_step.proofs.FileBytes.{or_nothing, had_nothing}
 use Rattle.mdp_step.specs.Files.{most_bytes, model_or_refusal, model_due, IsDueToModel}
-use Rattle.mdp_step.specs.Read.{IsDueToBytes, IsRead, IsWorkOnModel, IsWorkOnPair}
+use Rattle.mdp_step.specs.Read.{IsDueToBytes, IsRead, IsReadAs, IsWorkOnModel, IsWorkOnPair}
 use Rattle.mdp_step.specs.Said.{Said}
 use Rattle.mdp_step.specs.Streams.{Input, IsStill}
 
@@ -107,3 +107,44 @@ module _ (rule : RowRule) (due : Mdp → List ℕ → Said → Type 0) (shows : 
         model_still = from.1;
       })))
   pair_worked m said due_to is model_read (inr (inr memory)) shown = inr (inr (inr memory))
+
+  -- the same of what is due to the second source's bytes, and is no function of them
+  pub pair_worked_as : (m : Mdp) (said : Said) → IsRead model (model_due rule) read_model (Ok m) → IsReadAs second (due m) read_certificate said
+      → ((bytes other : List ℕ) → model_due rule bytes ≡ Ok m → due m other said → IfOk said (shows bytes other))
+      → IsWorkOnPair rule due shows model second said
+  pair_worked_as m said model_read (inl read) shown =
+      let from = model_had rule model m model_read in
+      inl (record {
+        model_bytes = from.0.bytes;
+        second_bytes = read.0.bytes;
+        had_model = from.0.had;
+        had_second = read.0.had;
+        is_due = subst (λ (x : Result Mdp PlainRefusal). IsDueToModel (dues read.0.bytes) x said) from.0.is_due read.0.is_due;
+        shown = shown from.0.bytes read.0.bytes (sym from.0.is_due) read.0.is_due;
+        model_still = from.1;
+        second_still = read.1;
+      })
+  pair_worked_as m said model_read (inr (inl failed)) shown =
+      let from = model_had rule model m model_read in
+      inr (inr (inl (record {
+        fault = failed.1;
+        says = failed.0;
+        model_bytes = from.0.bytes;
+        had_model = from.0.had;
+        model_read = subst (λ (x : Result Mdp PlainRefusal). IsOk x) from.0.is_due refl;
+        model_still = from.1;
+      })))
+  pair_worked_as m said model_read (inr (inr memory)) shown = inr (inr (inr memory))
+
+-- what was read of a source is due to its bytes, and what is made of it then
+module _ {A : Type 0} (file : Input) (due_to : List ℕ → Result A PlainRefusal) (due : List ℕ → Said → Type 0) (fault : PlainRefusal) where
+  pub read_refused : (r : PlainRefusal) → ((bytes : List ℕ) → due_to bytes ≡ Err r → due bytes (Err r)) → IsRead file due_to fault (Err r) → IsReadAs file due fault (Err r)
+  read_refused r is (inl read) = inl (record { bytes = read.0.bytes; had = read.0.had; is_due = is read.0.bytes (sym read.0.is_due) }, read.1)
+  read_refused r is (inr (inl failed)) = inr (inl (cc (failed.0), failed.1))
+  read_refused r is (inr (inr memory)) = inr (inr (cc memory))
+
+  pub read_worked : (x : A) (said : Said) → (said ≡ Err no_memory) ⊎ ((bytes : List ℕ) → due_to bytes ≡ Ok x → due bytes said) → IsRead file due_to fault (Ok x) → IsReadAs file due fault said
+  read_worked x said (inl memory) read = inr (inr memory)
+  read_worked x said (inr is) (inl read) = inl (record { bytes = read.0.bytes; had = read.0.had; is_due = is read.0.bytes (sym read.0.is_due) }, read.1)
+  read_worked x said (inr is) (inr (inl failed)) = cc (failed.0)
+  read_worked x said (inr is) (inr (inr memory)) = cc memory
