@@ -1,5 +1,5 @@
 -- One thing is due to the value of a policy.
-use Rattle.std.proofs.Common.{◌≡◌, ℕ, ◌<◌, ◌⊎◌, inl, inr, Bool, true, false, List, length, Option, Some, None, Result, Ok, Err, refl, sym, ap, subst, ◌∙◌, absurd, arith}
+use Rattle.std.proofs.Common.{◌≡◌, ℕ, ◌<◌, ◌⊎◌, inl, inr, Bool, true, false, List, length, Option, Some, None, Result, Ok, Err, refl, sym, ap, subst, ◌∙◌, arith}
 use Rattle.std.specs.Prelude.{slice_index_or, ◌==◌}
 use Rattle.std.proofs.lemmas.List.FromFn.{fill_by_all}
 use Rattle.mdp_math.specs.Result.{◌>>=◌}
@@ -7,18 +7,26 @@ use Rattle.mdp_math.proofs.Booleans.{same_truth}
 use Rattle.mdp_spec.specs.Labels.{place_of, marks_of}
 use Rattle.mdp_spec.specs.Mdp.{Mdp, states_of}
 use Rattle.mdp_spec.specs.Tree.{is_marked, IsPolicy}
+use Rattle.mdp_elim.specs.declared.too_wide.Kind.{Kind}
+use Rattle.mdp_elim.specs.declared.too_wide.Part.{Part}
+use Rattle.mdp_elim.specs.declared.too_wide.Part.TheVariants.{Whole}
+use Rattle.mdp_elim.specs.declared.too_wide.SolveError.{SolveError}
+use Rattle.mdp_elim.specs.declared.too_wide.SolveError.TheVariants as error
+use Rattle.mdp_elim.specs.declared.too_wide.TooWide.{TooWide}
 use Rattle.mdp_graph.specs.Sets.{marked}
 use Rattle.mdp_graph.specs.Layers.{AreReached}
 use Rattle.mdp_graph.specs.Reach.{row_step}
 use Rattle.mdp_path.specs.Places.{Place}
+use Rattle.mdp_path.specs.Queries.{WideTerm, shown}
 use Rattle.mdp_reach.specs.Query.{policy_rows}
-use Rattle.mdp_policy.specs.Answer.{IsValueOf}
+use Rattle.mdp_policy.specs.Answer.{IsValueOf, IsTermAt, Gives}
+use Rattle.mdp_policy.specs.Spelling.{value_text}
 use Rattle.mdp_policy.specs.Text.{policy_outcome}
 use Rattle.mdp_policy.specs.Written.{Answer, written_value}
-use Rattle.mdp_job.specs.Refusal.{PlainRefusal, no_memory}
+use Rattle.mdp_job.specs.Refusal.{PlainRefusal, too_wide, no_memory}
 use Rattle.mdp_step.specs.Files.{second_due}
 use Rattle.mdp_step.specs.Said.{Said}
-use Rattle.mdp_policy_step.specs.Due.{choices_or_refusal, choices_due, TakesNoChoice, said_of_end, IsValueDue, IsChoiceDue, IsLabelDue, IsSizeDue, IsTextDue, IsPolicyDue}
+use Rattle.mdp_policy_step.specs.Due.{choices_or_refusal, choices_due, TakesNoChoice, term_at, said_of_end, IsValueDue, IsChoiceDue, IsLabelDue, IsSizeDue, IsTextDue, IsPolicyDue}
 
 -- ---- the marks are determined
 
@@ -60,14 +68,42 @@ text_once label m (Err r) said again d e = d ∙ sym e
 pub policy_once : (label : List ℕ) (m : Mdp) (bytes : List ℕ) (said again : Said) → IsPolicyDue label m bytes said → IsPolicyDue label m bytes again → said ≡ again
 policy_once label m bytes said again d e = text_once label m (choices_due bytes) said again d e
 
+-- ---- what is due to a policy, from what its value was given as
+
+term_is : (policy : List ℕ) (place : Place) (w : TooWide) → IsTermAt policy place w → shown w w.round ≡ term_at policy place
+term_is policy place w i =
+    let term : Part → ℕ → List ℕ → Kind → Option ℕ → Option ℕ → WideTerm =
+    λ part number choices kind state choice. record { part = part; number = number; policy = choices; kind = kind; state = state; choice = choice } in
+    ap (λ (x : Part). term x w.round w.policy.items w.kind w.state w.choice) i.part
+    ∙ ap (λ (x : ℕ). term Whole x w.policy.items w.kind w.state w.choice) i.round
+    ∙ ap (λ (x : List ℕ). term Whole 0 x w.kind w.state w.choice) i.policy_is
+    ∙ ap (λ (x : Kind). term Whole 0 policy x w.state w.choice) i.kind
+    ∙ ap (λ (x : Option ℕ). term Whole 0 policy place.kind x w.choice) i.state
+    ∙ ap (λ (x : Option ℕ). term Whole 0 policy place.kind (Some place.node) x) i.choice
+
+module _ (label : List ℕ) (m : Mdp) (policy : List ℕ) (l : ℕ) (goals : List Bool) (are : goals ≡ marks_of m l) where
+  of_marks : (end : Result Answer Place) → IsValueOf m goals policy end → IsValueOf m (marks_of m l) policy end
+  of_marks end is = subst (λ (g : List Bool). IsValueOf m g policy end) are is
+
+  pub value_due : (a : Answer) (said : Said) → IsValueOf m goals policy (Ok a) → (said ≡ Err no_memory) ⊎ (said ≡ Ok (value_text label m a)) → (said ≡ Err no_memory) ⊎ IsValueDue label m policy l said
+  value_due a said is (inl memory) = inl memory
+  value_due a said is (inr e) = inr (Ok a, of_marks (Ok a) is, e)
+
+  pub wide_due : (e : SolveError) (w : TooWide) → e ≡ error.TooWide w → Gives m goals policy (Err e) → IsValueDue label m policy l (Err (too_wide (shown w w.round)))
+  wide_due e w is gives =
+      let g = subst (λ (x : SolveError). Gives m goals policy (Err x)) is gives in
+      (Err g.0, of_marks (Err g.0) g.2, ap (λ (t : WideTerm). let r : Said = Err (too_wide t) in r) (term_is policy g.0 w g.1))
+
 -- ---- what is due to the bytes of a file, from what was read of it
 
 pub refused_is_due : (label : List ℕ) (m : Mdp) (r : PlainRefusal) (bytes : List ℕ) → second_due bytes ≡ Err r → IsPolicyDue label m bytes (Err r)
 refused_is_due label m r bytes e =
     subst (λ (x : Result (List ℕ) PlainRefusal). IsTextDue label m (x >>= (λ text. choices_or_refusal (policy_outcome text))) (Err r)) (sym e) refl
 
-pub read_is_due : (label : List ℕ) (m : Mdp) (said : Said) (text : List ℕ) → (said ≡ Err no_memory) ⊎ IsTextDue label m (choices_or_refusal (policy_outcome text)) said
+pub read_is_due : (label : List ℕ) (m : Mdp) (said : Said) (lent text : List ℕ) → lent ≡ text → (said ≡ Err no_memory) ⊎ IsTextDue label m (choices_or_refusal (policy_outcome lent)) said
     → (said ≡ Err no_memory) ⊎ ((bytes : List ℕ) → second_due bytes ≡ Ok text → IsPolicyDue label m bytes said)
-read_is_due label m said text (inl memory) = inl memory
-read_is_due label m said text (inr due) =
-    inr (λ bytes e. subst (λ (x : Result (List ℕ) PlainRefusal). IsTextDue label m (x >>= (λ text. choices_or_refusal (policy_outcome text))) said) (sym e) due)
+read_is_due label m said lent text same (inl memory) = inl memory
+read_is_due label m said lent text same (inr due) =
+    inr (λ bytes e.
+    subst (λ (x : Result (List ℕ) PlainRefusal). IsTextDue label m (x >>= (λ text. choices_or_refusal (policy_outcome text))) said) (sym e)
+    (subst (λ (t : List ℕ). IsTextDue label m (choices_or_refusal (policy_outcome t)) said) same due))

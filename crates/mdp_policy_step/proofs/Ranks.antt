@@ -1,5 +1,5 @@
 -- States that are marked as reached have least ranks.
-use Rattle.std.proofs.Common.{◌≡◌, ℕ, zero, suc, ◌+◌, ◌<◌, ◌≤◌, Bool, true, false, nat_lt, List, length, map, refl, sym, subst, ◌∙◌, T, lt-ltb, ltb→lt, absurd, arith}
+use Rattle.std.proofs.Common.{◌≡◌, ℕ, zero, suc, ◌+◌, ◌<◌, ◌≤◌, Bool, true, false, nat_lt, List, length, map, refl, sym, subst, ◌∙◌, T, lt-ltb, ltb→lt, arith}
 use Rattle.std.specs.Prelude.{slice_index, slice_index_or}
 use Rattle.std.specs.List.{range_with_len}
 use Rattle.std.proofs.lemmas.Bool.{ltb-false}
@@ -28,18 +28,18 @@ module _ (p : ℕ → Bool) where
       by true h = none k (ltb→lt k i (subst T (sym h) tt))
       by false h = let i≤k = ltb-false k i h in let same : k ≡ i = omega (arith, l, i≤k) in subst (λ (j : ℕ). p j ≡ false) (sym same) e
 
+  -- where i doesn't pass, as found behind it
+  at_first : (i : ℕ) → ((k : ℕ) → k < i → p k ≡ false) → (b : Bool) → p i ≡ b → (p i ≡ false → (k : ℕ) × IsLeast p k) → (k : ℕ) × IsLeast p k
+  at_first i none true e behind = (i, record { passes = e; least = λ j h. not_before i j none h })
+  at_first i none false e behind = behind e
+
   -- from i on, where one of the next so many passes
   least_from : (left i : ℕ) → p (i + left) ≡ true → ((k : ℕ) → k < i → p k ≡ false) → (k : ℕ) × IsLeast p k
   least_from zero i e none =
-      let same : i + 0 ≡ i = omega arith in
-      (i, record { passes = subst (λ (j : ℕ). p j ≡ true) same e; least = λ j h. not_before i j none h })
-  least_from (suc left) i e none = by (p i) refl
-    where
-      by : (b : Bool) → p i ≡ b → (k : ℕ) × IsLeast p k
-      by true h = (i, record { passes = h; least = λ j k. not_before i j none k })
-      by false h =
-          let same : i + suc left ≡ suc i + left = omega arith in
-          least_from left (suc i) (subst (λ (j : ℕ). p j ≡ true) same e) (more_none i none h)
+      let same : i + 0 ≡ i = omega arith in (i, record { passes = subst (λ (j : ℕ). p j ≡ true) same e; least = λ j h. not_before i j none h })
+  least_from (suc left) i e none =
+      let same : i + suc left ≡ suc i + left = omega arith in
+      at_first i none (p i) refl (λ h. least_from left (suc i) (subst (λ (j : ℕ). p j ≡ true) same e) (more_none i none h))
 
   pub least_of : (k : ℕ) → p k ≡ true → (j : ℕ) × IsLeast p j
   least_of k e = let same : k ≡ 0 + k = omega arith in least_from k 0 (subst (λ (j : ℕ). p j ≡ true) same e) (λ j l. absurd (omega (arith, l)))
@@ -63,14 +63,14 @@ module _ (step : (ℕ → Bool) → ℕ → Bool) (first : ℕ → Bool) (n : �
   rank_if s true e = let w = rank_at s (ltb→lt s n (subst T (sym e) tt)) (marked marks s) refl in (w.0, λ l. w.1)
   rank_if s false e = (0, λ l. let h = lt-ltb s n l in cc (h, e))
 
-  rank : ℕ → ℕ
+  pub rank : ℕ → ℕ
   rank s = (rank_if s (nat_lt s n) refl).0
 
   abbrev pub ranks_of : List ℕ
   ranks_of = map rank (range_with_len 0 n)
 
-  unfolding rank
   is_rank : (s : ℕ) → s < n → IsRank s (slice_index ranks_of s)
+  unfolding rank rank_if
   is_rank s l =
       let at : slice_index ranks_of s ≡ rank s = get_or-map-range_with_len rank 0 n s s 0 l (omega arith) in
       subst (IsRank s) (sym at) ((rank_if s (nat_lt s n) refl).1 l)

@@ -24,13 +24,10 @@ pub record IsValuePrinted (label : List ℕ) (m : Mdp) (policy text : List ℕ) 
   pub answer : Answer
   pub spelled : text ≡ value_text label m answer
   pub computed : IsValueOf m (marks_of m place) policy (Ok answer)
-
   -- the values are the probabilities with which the policy reaches a goal
   pub bound : PolicyBound m (marks_of m place) answer.values policy
-
   -- where no change is named that raises a value, they are the greatest probabilities, and the policy comes close to them
   pub greatest : answer.up ≡ None → ReachMax m (marks_of m place) answer.values policy
-
   -- a change that is named is better: from its state a goal can be reached with a greater probability, or with a smaller one
   pub raises : (change : Change) → answer.up ≡ Some change → SomeTreePasses m (marks_of m place) answer.values change.state
   pub lowers : (change : Change) → answer.down ≡ Some change → DeepTreesStayBelow m (marks_of m place) answer.values change.state

@@ -77,12 +77,7 @@ fn value_at(
 }
 
 /// The text of the value of a policy, or its refusal: the number of states first, then the label, then the choices.
-fn of_policy(
-    alloc: Global,
-    model: &Model,
-    label: &[u8],
-    policy: &[u32],
-) -> Result<Vec<u8>, Refusal>
+fn of_policy(alloc: Global, model: &Model, label: &[u8], policy: &[u32]) -> Result<Vec<u8>, Refusal>
     ensures due { (said result ≡ Err no_memory) ⊎ IsSizeDue label.now model.now policy.now (length policy.now == states_of model.now) (said result) }
     ensures not_of_model { is_of_model (said result) ≡ false }
 {

@@ -1,5 +1,5 @@
 -- What a command makes of its sources, from what was read of each.
-use Rattle.std.proofs.Common.{◌≡◌, ℕ, ◌≤◌, ◌⊎◌, inl, inr, Bool, true, false, cond, nat_lt, List, length, Result, Ok, Err, IfOk, IsOk, refl, sym, subst}
+use Rattle.std.proofs.Common.{◌≡◌, ℕ, ◌≤◌, ◌⊎◌, inl, inr, Bool, true, false, cond, nat_lt, List, length, Option, Result, Ok, Err, IfOk, IsOk, refl, sym, subst}
 use Rattle.std.proofs.lemmas.Bool.{ltb-false}
 use Rattle.mdp_spec.specs.Mdp.{Mdp}
 use Rattle.mdp_rows.specs.declared.rule.RowRule.{RowRule}
@@ -8,7 +8,7 @@ use Rattle.mdp_drn.specs.Reading.{outcome, Reads}
 use Rattle.mdp_job.specs.Refusal.{PlainRefusal, read_model, read_certificate, long_model, no_memory}
 use Rattle.mdp_step.proofs.FileBytes.{or_nothing, had_nothing}
 use Rattle.mdp_step.specs.Files.{most_bytes, model_or_refusal, model_due, IsDueToModel}
-use Rattle.mdp_step.specs.Read.{IsDueToBytes, IsRead, IsReadAs, IsWorkOnModel, IsWorkOnPair}
+use Rattle.mdp_step.specs.Read.{IsDueToBytes, IsRead, IsSaidOfBytes, IsReadAs, IsWorkOnModel, IsWorkOnPair}
 use Rattle.mdp_step.specs.Said.{Said}
 use Rattle.mdp_step.specs.Streams.{Input, IsStill}
 
@@ -136,15 +136,22 @@ module _ (rule : RowRule) (due : Mdp → List ℕ → Said → Type 0) (shows : 
       })))
   pair_worked_as m said model_read (inr (inr memory)) shown = inr (inr (inr memory))
 
--- what was read of a source is due to its bytes, and what is made of it then
-module _ {A : Type 0} (file : Input) (due_to : List ℕ → Result A PlainRefusal) (due : List ℕ → Said → Type 0) (fault : PlainRefusal) where
-  pub read_refused : (r : PlainRefusal) → ((bytes : List ℕ) → due_to bytes ≡ Err r → due bytes (Err r)) → IsRead file due_to fault (Err r) → IsReadAs file due fault (Err r)
+-- ---- what is due to the bytes of a source, from what was read of it
+
+module _ {A : Type 0} (told : Option (List ℕ)) (still failed : Type 0) (due_to : List ℕ → Result A PlainRefusal) (due : List ℕ → Said → Type 0) (fault : PlainRefusal) where
+  abbrev pub HasRead : Result A PlainRefusal → Type 0
+  HasRead result = (IsDueToBytes told due_to result × still) ⊎ (((result ≡ Err fault) × failed) ⊎ (result ≡ Err no_memory))
+
+  abbrev pub HasSaid : Said → Type 0
+  HasSaid said = (IsSaidOfBytes told due said × still) ⊎ (((said ≡ Err fault) × failed) ⊎ (said ≡ Err no_memory))
+
+  pub read_refused : (r : PlainRefusal) → ((bytes : List ℕ) → due_to bytes ≡ Err r → due bytes (Err r)) → HasRead (Err r) → HasSaid (Err r)
   read_refused r is (inl read) = inl (record { bytes = read.0.bytes; had = read.0.had; is_due = is read.0.bytes (sym read.0.is_due) }, read.1)
-  read_refused r is (inr (inl failed)) = inr (inl (cc (failed.0), failed.1))
+  read_refused r is (inr (inl has_failed)) = inr (inl (cc (has_failed.0), has_failed.1))
   read_refused r is (inr (inr memory)) = inr (inr (cc memory))
 
-  pub read_worked : (x : A) (said : Said) → (said ≡ Err no_memory) ⊎ ((bytes : List ℕ) → due_to bytes ≡ Ok x → due bytes said) → IsRead file due_to fault (Ok x) → IsReadAs file due fault said
+  pub read_worked : (x : A) (said : Said) → (said ≡ Err no_memory) ⊎ ((bytes : List ℕ) → due_to bytes ≡ Ok x → due bytes said) → HasRead (Ok x) → HasSaid said
   read_worked x said (inl memory) read = inr (inr memory)
   read_worked x said (inr is) (inl read) = inl (record { bytes = read.0.bytes; had = read.0.had; is_due = is read.0.bytes (sym read.0.is_due) }, read.1)
-  read_worked x said (inr is) (inr (inl failed)) = cc (failed.0)
+  read_worked x said (inr is) (inr (inl has_failed)) = cc (has_failed.0)
   read_worked x said (inr is) (inr (inr memory)) = cc memory
