@@ -11,7 +11,8 @@ use Rattle.mdp_math.specs.Result.{◌>>=◌}
 use Rattle.mdp_rows.specs.declared.dir.Dir.{Dir}
 use Rattle.mdp_rows.specs.declared.rule.RowRule.{RowRule}
 use Rattle.mdp_job.specs.Job.{PlainQuery, solve, check, drill, horizon, policy, Asked}
-use Rattle.mdp_job.specs.Words.{word_at, rule_of, dir_of, check_of, query_of, solve_of, whole_word, can_draw, drill_by, drill_with, drill_of, stay_of, steps_of, horizon_of, policy_of, job_of_texts, job_of}
+use Rattle.mdp_job.specs.Words.{word_at, rule_of, dir_of, check_of, query_of, solve_of, whole_word, can_draw, drill_by, drill_with, drill_of}
+use Rattle.mdp_job.specs.Words.{stay_of, steps_of, horizon_of, policy_of, job_of_texts, job_of}
 use Rattle.mdp_job.specs.declared.words_error.WordsError.{WordsError}
 use Rattle.mdp_job.specs.declared.words_error.WordsError.TheVariants.{Command, Number, Objective, Drill}
 

@@ -1,5 +1,5 @@
 -- A text that is due is that of a policy's probabilities, and of changes that are better.
-use Rattle.std.proofs.Common.{◌≡◌, ℕ, ◌≤◌, ◌⊎◌, inl, inr, Bool, true, false, nat_lt, List, length, Option, Some, None, Result, Ok, Err, IfOk, refl, sym, ap, subst, ◌∙◌}
+use Rattle.std.proofs.Common.{◌≡◌, ℕ, ◌≤◌, inl, inr, Bool, true, false, nat_lt, List, length, Option, Some, None, Result, Ok, Err, IfOk, refl, ◌∙◌}
 use Rattle.std.specs.Prelude.{◌==◌}
 use Rattle.std.proofs.lemmas.Bool.{ltb-false}
 use Rattle.mdp_spec.specs.Labels.{place_of, marks_of}
@@ -15,15 +15,14 @@ use Rattle.mdp_path.proofs.Results.{ok_part}
 use Rattle.mdp_reach.specs.Query.{policy_rows, AreMaxRanks}
 use Rattle.mdp_cert.specs.declared.error.Refusal as text
 use Rattle.mdp_policy.specs.Answer.{IsValueOf}
-use Rattle.mdp_policy.specs.Spelling.{value_text}
-use Rattle.mdp_policy.specs.Text.{policy_outcome, policy_text, FitsText, IsReadFromText}
-use Rattle.mdp_policy.specs.Written.{Answer, written_value}
+use Rattle.mdp_policy.specs.Text.{policy_outcome, IsReadFromText}
+use Rattle.mdp_policy.specs.Written.{Answer}
 use Rattle.mdp_policy.proofs.Facts.{IsValued, written_valued}
-use Rattle.mdp_job.specs.Refusal.{PlainRefusal, long_certificate}
+use Rattle.mdp_job.specs.Refusal.{PlainRefusal}
 use Rattle.mdp_step.specs.Files.{most_bytes, model_due, second_due}
 use Rattle.mdp_step.specs.Said.{Said}
 use Rattle.mdp_step.proofs.Working.{read_of_due}
-use Rattle.mdp_policy_step.specs.Due.{choices_or_refusal, choices_due, said_of_end, IsValueDue, IsChoiceDue, IsLabelDue, IsSizeDue, IsTextDue, IsPolicyDue}
+use Rattle.mdp_policy_step.specs.Due.{choices_or_refusal, choices_due, said_of_end, IsChoiceDue, IsLabelDue, IsSizeDue, IsTextDue, IsPolicyDue}
 use Rattle.mdp_policy_step.specs.Laws.{TextIsValue}
 use Rattle.mdp_policy_step.specs.Shown.{IsValuePrinted, IsPolicyPrinted, IsPolicyShown}
 use Rattle.mdp_policy_step.proofs.Ranks.{ranks_of, least_ranks}
@@ -82,7 +81,8 @@ module _ (falls : RowsFall) (stays : RowsStay) (gives : GivesSolutions) (label :
   of_size policy false d = cc d
   of_size policy true d = of_label policy (place_of label m.labels) refl d
 
-  of_text : (bytes : List ℕ) (read : Result (List ℕ) PlainRefusal) → choices_due bytes ≡ read → IsTextDue label m read (Ok text) → (policy : List ℕ) × (choices_due bytes ≡ Ok policy) × IsValuePrinted label m policy text
+  of_text : (bytes : List ℕ) (read : Result (List ℕ) PlainRefusal) → choices_due bytes ≡ read → IsTextDue label m read (Ok text)
+      → (policy : List ℕ) × (choices_due bytes ≡ Ok policy) × IsValuePrinted label m policy text
   of_text bytes (Ok policy) is d = (policy, is, of_size policy (length policy == states_of m) d)
   of_text bytes (Err r) is d = cc d
 
