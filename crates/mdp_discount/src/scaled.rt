@@ -42,7 +42,7 @@ impl Entries {
 
 /// The entries of a row with their probabilities taken `factor` times, without those of value 0; none where a term is past width.
 fn products(alloc: Global, factor: &Frac, row: Row<'_>) -> Result<Option<Entries>, AllocError>
-    ensures entries { IfOk result (λ made. option_map entries_in made ≡ products factor.now (entries row.targets.now row.probs.now)) }
+    ensures entries { IfOk result (λ made. option_map entries_in made ≡ products factor.now (entries row.entry.targets.now row.entry.probs.now)) }
     ensures same_length { IfOk result (λ made. IfSome made (λ made. length made.targets.items ≡ length made.probs.items)) }
 {
     let mut made = Entries {
@@ -68,7 +68,7 @@ fn scaled_row<'b>(
 ) -> Result<Option<Row<'b>>, AllocError>
     requires factor { IsFactor factor.now }
     requires targets { All (λ t. t < end) row.targets.now }
-    ensures { IfOk result (λ made. option_map row_in made ≡ scaled_row end factor.now (entries row.targets.now row.probs.now)) }
+    ensures { IfOk result (λ made. option_map row_in made ≡ scaled_row end factor.now (entries row.entry.targets.now row.entry.probs.now)) }
 {
     let Some(mut made) = products(alloc, factor, row)? else {
         return Ok(None);
