@@ -6,3 +6,11 @@ pub mod Greatest
 pub mod Magnitudes
 pub mod DiscountRules
 pub mod Walking
+pub mod ScaledRows
+pub mod Nodes
+pub mod MadeRows
+pub mod Products
+pub mod Initial
+pub mod Solving
+pub mod Ending
+pub mod Names

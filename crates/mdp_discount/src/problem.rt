@@ -93,6 +93,7 @@ impl ShortestPath for Discounted<'_, '_, '_> {
     }
 
     fn row(&self, s: u32, c: u32) -> Row<'_> {
+        self.model.known();
         match self.scaled(s, c) {
             Some(row) => row,
             None => unreachable!(),

@@ -53,7 +53,8 @@ fn products(alloc: Global, factor: &Frac, row: Row<'_>) -> Result<Option<Entries
         let Ok(prob) = factor.mul(&row.probs[i]) else {
             return Ok(None);
         };
-        made.push(row.targets[i], prob)?;
+        let target = row.targets[i];
+        made.push(target, prob)?;
     }
     Ok(Some(made))
 }
