@@ -14,3 +14,5 @@ pub mod Initial
 pub mod Solving
 pub mod Ending
 pub mod Names
+pub mod OneEnd
+pub mod Accepting

@@ -61,7 +61,13 @@ fn name_and_rest(text: &[u8]) -> Option<(&[u8], &[u8])>
 fn is_factor(factor: &Frac) -> bool
     ensures { result ≡ is_factor factor.now }
 {
-    factor.sign() >= 0 && factor.num() < factor.den()
+    if factor.sign() < 0 {
+        return false;
+    }
+    if factor.num() >= factor.den() {
+        return false;
+    }
+    true
 }
 
 /// The discount factor that a word spells.
