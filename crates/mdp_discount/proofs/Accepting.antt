@@ -1,21 +1,16 @@
 -- A check says yes exactly of what is accepted, and the claim of what is accepted is true.
-use Rattle.std.proofs.Common.{◌≡◌, ℕ, ◌<◌, Bool, true, false, cond, List, [], length, eqb, Option, Some, None, ◌↔◌, refl, sym, ◌∙◌, ap, subst}
+use Rattle.std.proofs.Common.{◌≡◌, ℕ, ◌<◌, Bool, true, false, cond, List, [], length, eqb, Option, Some, None, refl, ◌∙◌, ap}
 use Rattle.std.specs.Str.{bytes_eq}
 use Rattle.std.proofs.lemmas.Bool.Decides.{Decides-eqb}
 use Rattle.std.proofs.lemmas.List.Quantifiers.{position-Some}
-use Rattle.mdp_math.specs.Rational.{ℚ}
 use Rattle.mdp_spec.specs.Mdp.{Mdp, states_of}
 use Rattle.mdp_spec.specs.Labels.{place_of, initial_of}
-use Rattle.mdp_farkas.specs.Verdict.{verdict_of}
 use Rattle.mdp_farkas.specs.declared.verdict.Verdict.{Verdict}
 use Rattle.mdp_farkas.specs.declared.verdict.Verdict.TheVariants as verdict
-use Rattle.mdp_discount.specs.Bounds.{DiscountBound}
-use Rattle.mdp_discount.specs.Checks.{discount_checks, IsDiscount}
 use Rattle.mdp_discount.specs.Cert.{Certificate}
-use Rattle.mdp_discount.specs.Check.{init_check, answer_of, then_verdict, checks_of, at_reward, answer_to, IsAccepted, IsBound}
+use Rattle.mdp_discount.specs.Check.{init_check, answer_of, then_verdict, checks_of, at_reward, answer_to, IsAccepted}
 use Rattle.mdp_discount.specs.Laws.{YesIsAccepted, AcceptedIsBound}
-use Rattle.mdp_discount.specs.declared.answer.DiscountAnswer.{DiscountAnswer}
-use Rattle.mdp_discount.specs.declared.answer.DiscountAnswer.TheVariants.{Yes, Size, NoReward}
+use Rattle.mdp_discount.specs.declared.answer.DiscountAnswer.TheVariants.{Yes, Size}
 use Rattle.mdp_discount.proofs.Discount.{discount_of_rules}
 use Rattle.mdp_discount.proofs.DiscountRules.{discount_rules}
 
@@ -54,7 +49,8 @@ module _ (m : Mdp) (c : Certificate) (each : length c.choices ≡ length c.value
       ap (λ (b : Bool). cond b (at_reward m c (place_of c.name m.names)) Size) ((Decides-eqb (length c.values) (states_of m)).1 is.states)
       ∙ ap (at_reward m c) is.named
       ∙ ap (λ (u : Verdict). answer_of (then_verdict u (checks_of m is.reward c))) is.init
-      ∙ ap answer_of ((discount_rules c.dir m is.reward c.factor c.values c.remainder c.choices (checks_of m is.reward c) (place_below m.names c.name is.reward is.named) is.states (each ∙ is.states) refl).1 is.rules)
+      ∙ ap answer_of ((discount_rules c.dir m is.reward c.factor c.values c.remainder c.choices (checks_of m is.reward c) (place_below m.names c.name is.reward is.named) is.states (each
+      ∙ is.states) refl).1 is.rules)
 
 pub yes_is_accepted : YesIsAccepted
 yes_is_accepted m c each = (λ e. size_by m c each (eqb (length c.values) (states_of m)) refl e, λ is. yes_of m c each is)

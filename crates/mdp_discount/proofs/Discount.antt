@@ -14,7 +14,7 @@ use Rattle.mdp_math.proofs.Kernel.{weigh-add, weigh-const}
 use Rattle.mdp_spec.specs.Mdp.{Entry, Mdp, states_of, choices_at, choice_at, row_at, value_at}
 use Rattle.mdp_spec.specs.Row.{IsRow, IsMdp}
 use Rattle.mdp_spec.specs.Unit.{reward_of}
-use Rattle.mdp_spec.specs.Tree.{Tree, IsStrategy, IsPolicy, unfolded}
+use Rattle.mdp_spec.specs.Tree.{Tree, IsPolicy, unfolded}
 use Rattle.mdp_spec.proofs.Keeping.{Keeps, HasChoice, Follows, keeps_of_Fits, keeps_unfolded, unfolded_fits}
 use Rattle.mdp_spec.proofs.Rows.{row_weigh}
 use Rattle.mdp_rows.specs.declared.dir.Dir.{Dir}
@@ -56,7 +56,8 @@ module _ (m : Mdp) (r : ℕ) (f : ℚ) (known_ : IsMdp m) (factor : IsFactor f) 
       → (n : ℕ) (t : Tree) (s : ℕ) → s < states_of m → Keeps m P u n t s → BetterByAtMost dir (pow_ℚ f n *ℚ k) (disc m r f u n t s) (v s)
   disc_by dir P u hu covers n t s h keeps =
       better_by dir (disc m r f u n t s) (v s) (pow_ℚ f n) k
-      (no_better_by_steps dir m u known_ hu (λ s. false) P (λ x. reward_of x r) f factor.at_least_zero (λ n t s. disc m r f u n t s) (disc_goes m r f u known_ hu) (λ n s. v s +ℚ pow_ℚ f n *ℚ signed dir k)
+      (no_better_by_steps dir m u known_ hu (λ s. false) P (λ x. reward_of x r) f factor.at_least_zero (λ n t s. disc m r f u n t s) (disc_goes m r f u known_ hu)
+      (λ n s. v s +ℚ pow_ℚ f n *ℚ signed dir k)
       (λ n t s h e. absurd (true≢false (sym e)))
       (λ t s h e.
       subst (λ (x : ℚ). NoBetter dir x (v s +ℚ 1ℚ *ℚ signed dir k)) (sym (disc-end m r f u t s hu))
@@ -79,21 +80,26 @@ below_greatest v k s e h =
     let g : magnitude (value_at v s) ≤ℚ k = subst (λ (x : ℚ). magnitude (value_at v s) ≤ℚ x) (sym e) (greatest_map-ge magnitude v s 0ℚ h) in
     (≤ℚ_trans _ _ _ (below_magnitude (value_at v s)).0 g, ≤ℚ_trans _ _ _ (below_magnitude (value_at v s)).1 g)
 
-pub discount_of_rules : (dir : Dir) (m : Mdp) (r : ℕ) (f : ℚ) (v : List ℚ) (remainder : ℚ) (policy : List ℕ) → IsMdp m → IsFactor f → MeetsDiscount dir m r f v remainder policy → DiscountBound dir m r f v remainder policy
+pub discount_of_rules : (dir : Dir) (m : Mdp) (r : ℕ) (f : ℚ) (v : List ℚ) (remainder : ℚ) (policy : List ℕ) → IsMdp m → IsFactor f → MeetsDiscount dir m r f v remainder policy
+    → DiscountBound dir m r f v remainder policy
 discount_of_rules dir m r f v remainder policy known_ factor rules =
     let small : (s : ℕ) → s < states_of m → (value_at v s ≤ℚ remainder) × (neg_ℚ (value_at v s) ≤ℚ remainder) =
     λ s h. below_greatest v remainder s rules.greatest_magnitude (subst (λ (n : ℕ). s < n) (sym rules.one_each) h)
     in
-    let follows : (way : Dir) (s c : ℕ) → s < states_of m → Follows policy s c → c < length (choices_at m s) → NoBetter way (reward_of (choice_at m s c) r +ℚ f *ℚ row_weigh (value_at v) (row_at m s c)) (value_at v s) =
+    let follows : (way : Dir) (s c : ℕ) → s < states_of m → Follows policy s c → c < length (choices_at m s)
+    → NoBetter way (reward_of (choice_at m s c) r +ℚ f *ℚ row_weigh (value_at v) (row_at m s c)) (value_at v s) =
     λ way s c h is i. no_better_of_eq way _ _ (sym (subst (λ (d : ℕ). value_at v s ≡ discounted m r f s d v) (sym is) (rules.reached s h)))
     in
     record {
       takes = rules.choices;
       named = rules.named;
       one_each = rules.one_each;
-      trees = λ n u t s h strategy. disc_by m r f known_ factor (value_at v) remainder small dir (HasChoice m) u strategy.mixes (λ s c h ok i. rules.covers s c h i) n t s h (keeps_of_Fits m u n t s strategy.fits);
-      policy_above = λ n s h. disc_by m r f known_ factor (value_at v) remainder small Min (Follows policy) 1 (omega arith) (follows Min) n (unfolded m policy n s) s h (keeps_unfolded m policy n s known_ rules.choices h);
-      policy_below = λ n s h. disc_by m r f known_ factor (value_at v) remainder small Max (Follows policy) 1 (omega arith) (follows Max) n (unfolded m policy n s) s h (keeps_unfolded m policy n s known_ rules.choices h);
+      trees = λ n u t s h strategy. disc_by m r f known_ factor (value_at v) remainder small dir (HasChoice m) u strategy.mixes (λ s c h ok i. rules.covers s c h i) n t s h
+          (keeps_of_Fits m u n t s strategy.fits);
+      policy_above = λ n s h. disc_by m r f known_ factor (value_at v) remainder small Min (Follows policy) 1 (omega arith) (follows Min) n (unfolded m policy n s) s h
+          (keeps_unfolded m policy n s known_ rules.choices h);
+      policy_below = λ n s h. disc_by m r f known_ factor (value_at v) remainder small Max (Follows policy) 1 (omega arith) (follows Max) n (unfolded m policy n s) s h
+          (keeps_unfolded m policy n s known_ rules.choices h);
     }
 
 -- ---- there are no other values
@@ -108,7 +114,8 @@ power_below f c q factor hq = ⊎_elim
     (λ high.
     let n = pow_ℚ-below f (q *ℚ inv_ℚ c) factor.at_least_zero factor.below_one (mul-pos_ℚ q (inv_ℚ c) hq (inv-pos c high)) in (
       n.0,
-      linear 4 (λ p c q i. p ⊗ c) (λ p c q i. q) (λ p c q i. at_most c p (q ⊗ i) ∷ equal q (c ⊗ i) (lit (pos 1)) ∷ []) refl (pow_ℚ f n.0) c q (inv_ℚ c) (≤ℚ_of_lt 0ℚ c high) (n.1 n.0 (omega arith)) (mul-inv_pos c high),
+      linear 4 (λ p c q i. p ⊗ c) (λ p c q i. q) (λ p c q i. at_most c p (q ⊗ i) ∷ equal q (c ⊗ i) (lit (pos 1)) ∷ []) refl (pow_ℚ f n.0) c q (inv_ℚ c) (≤ℚ_of_lt 0ℚ c high) (n.1 n.0
+          (omega arith)) (mul-inv_pos c high),
     ))
     (≤ℚ_or_gt c 0ℚ)
 
@@ -126,16 +133,25 @@ no_better_limit Min f v w k l factor near =
     linear 7 (λ v w x p k l q. w) (λ v w x p k l q. v ⊕ q) (λ v w x p k l q. known w (x ⊕ p ⊗ l) ∷ known x (v ⊕ p ⊗ k) ∷ known (p ⊗ (k ⊕ l)) q ∷ []) refl v w x.0 (pow_ℚ f n.0) k l q x.3 x.2 n.1)
 
 module _ (m : Mdp) (r : ℕ) (dir : Dir) (f : ℚ) (known_ : IsMdp m) (factor : IsFactor f) where
-  discount_no_better : (v w : List ℚ) (k l : ℚ) (policy other : List ℕ) (s : ℕ) → IsPolicy m policy → DiscountBound dir m r f v k policy → DiscountBound dir m r f w l other → s < states_of m → NoBetter dir (value_at v s) (value_at w s)
+  discount_no_better : (v w : List ℚ) (k l : ℚ) (policy other : List ℕ) (s : ℕ) → IsPolicy m policy → DiscountBound dir m r f v k policy → DiscountBound dir m r f w l other
+      → s < states_of m → NoBetter dir (value_at v s) (value_at w s)
   discount_no_better v w k l policy other s choice p q h =
       no_better_limit dir f (value_at v s) (value_at w s) k l factor
-      (λ n. (disc m r f 1 n (unfolded m policy n s) s, p.policy_above n s h, p.policy_below n s h, q.trees n 1 (unfolded m policy n s) s h (record { mixes = omega arith; fits = unfolded_fits m policy n s known_ choice h })))
+      (λ n. (
+        disc m r f 1 n (unfolded m policy n s) s,
+        p.policy_above n s h,
+        p.policy_below n s h,
+        q.trees n 1 (unfolded m policy n s) s h
+            (record { mixes = omega arith; fits = unfolded_fits m policy n s known_ choice h }),
+      ))
 
   -- the best discounted rewards are unique
-  pub discount_unique : (v w : List ℚ) (k l : ℚ) (policy other : List ℕ) (s : ℕ) → IsPolicy m policy → IsPolicy m other → DiscountBound dir m r f v k policy → DiscountBound dir m r f w l other → s < states_of m → value_at v s ≡ value_at w s
+  pub discount_unique : (v w : List ℚ) (k l : ℚ) (policy other : List ℕ) (s : ℕ) → IsPolicy m policy → IsPolicy m other → DiscountBound dir m r f v k policy
+      → DiscountBound dir m r f w l other → s < states_of m → value_at v s ≡ value_at w s
   discount_unique v w k l policy other s a b p q h = no_better_antisymm dir _ _ (discount_no_better v w k l policy other s a p q h) (discount_no_better w v l k other policy s b q p h)
 
   -- so at most one list of values meets the rules
-  pub discount_rules_unique : (v w : List ℚ) (k l : ℚ) (policy other : List ℕ) (s : ℕ) → MeetsDiscount dir m r f v k policy → MeetsDiscount dir m r f w l other → s < states_of m → value_at v s ≡ value_at w s
+  pub discount_rules_unique : (v w : List ℚ) (k l : ℚ) (policy other : List ℕ) (s : ℕ) → MeetsDiscount dir m r f v k policy → MeetsDiscount dir m r f w l other → s < states_of m
+      → value_at v s ≡ value_at w s
   discount_rules_unique v w k l policy other s p q h =
       discount_unique v w k l policy other s p.choices q.choices (discount_of_rules dir m r f v k policy known_ factor p) (discount_of_rules dir m r f w l other known_ factor q) h

@@ -1,5 +1,5 @@
 -- The verdict on discounted rewards is yes exactly where the rules hold in exact numbers and no written term is past width.
-use Rattle.std.proofs.Common.{◌≡◌, ℕ, ◌<◌, lt-ltb, ltb-true, List, [], ◌∷◌, length, map, slice_index, true, Option, Some, ◌↔◌, sym, ap, ap₂, subst, ◌∙◌}
+use Rattle.std.proofs.Common.{◌≡◌, ℕ, ◌<◌, lt-ltb, ltb-true, List, [], ◌∷◌, length, map, slice_index, true, Some, ◌↔◌, sym, ap, ◌∙◌}
 use Rattle.std.specs.Option.{IsSome, option_and_then}
 use Rattle.std.proofs.lemmas.List.Elements.{All-from_recursion, recursion_from_All}
 use Rattle.mdp_math.specs.Rational.{ℚ, ◌+ℚ◌, ◌*ℚ◌}
@@ -28,7 +28,7 @@ use Rattle.mdp_rows.specs.declared.dir.Dir.TheVariants.{Max, Min}
 use Rattle.mdp_path.specs.Values.{IsAsGood}
 use Rattle.mdp_discount.specs.Rules.{IsFactor, discounted, magnitude, MeetsDiscount}
 use Rattle.mdp_discount.specs.Bounds.{DiscountBound}
-use Rattle.mdp_discount.specs.Checks.{written_discounted, covers_check, reached_check, values_checks, checks_at, written_greatest, remainder_check}
+use Rattle.mdp_discount.specs.Checks.{written_discounted, covers_check, reached_check, checks_at, written_greatest, remainder_check}
 use Rattle.mdp_discount.specs.Checks.{state_checks, discount_checks, IsDiscount}
 use Rattle.mdp_discount.proofs.Greatest.{written_greatest-some}
 use Rattle.mdp_discount.proofs.Discount.{discount_of_rules}

@@ -1,8 +1,8 @@
 -- What a tree earns with a discount, by its first step: nothing where the tree ends, and at a node the average over the choices, by the weights,
 -- of the choice's reward and f times the sum over the row of probability times what the entry's tree earns.
-use Rattle.std.proofs.Common.{◌≡◌, ℕ, zero, suc, ◌*◌, ◌^◌, ◌<◌, ◌≤◌, false, List, refl, sym, ◌∙◌, ap, arith, ℤ, pos, ◌*ℤ◌, mul-one}
+use Rattle.std.proofs.Common.{◌≡◌, ℕ, suc, ◌*◌, ◌<◌, ◌≤◌, false, List, refl, sym, ◌∙◌, ap, ℤ, pos, ◌*ℤ◌, mul-one}
 use Rattle.std.specs.Int.{◌∣◌}
-use Rattle.std.proofs.Math.Nat.{pow-zero, pow-suc, one-le-mul}
+use Rattle.std.proofs.Math.Nat.{pow-suc, one-le-mul}
 use Rattle.mdp_math.specs.Rational.{ℚ, of_int, ratio, ◌+ℚ◌, ◌*ℚ◌, ◌≤ℚ◌}
 use Rattle.mdp_math.specs.Sum.{sum_at, EachAt}
 use Rattle.mdp_math.proofs.Ring.{◌⊕◌, ◌⊗◌, lit, ring}
@@ -17,21 +17,18 @@ use Rattle.mdp_spec.specs.Unit.{unit_of, weight_of, reward_of, scale_of, whole_r
 use Rattle.mdp_spec.specs.Tree.{Tree}
 use Rattle.mdp_spec.proofs.Units.{unit_of-pos, den-divides_unit, of_nat-weight_of}
 use Rattle.mdp_spec.proofs.Rows.{rows_known, nonneg_at}
-use Rattle.mdp_spec.proofs.Hits.{share, ratio-is, ratio-none}
+use Rattle.mdp_spec.proofs.Hits.{share, pow_by-pos, ratio-is, ratio-none}
 use Rattle.mdp_spec.proofs.Earnings.{scale_of-pos, den-divides_scale, of_int-whole_reward, of_int-total_at}
 use Rattle.mdp_discount.specs.Disc.{discounted_paths, earned_parts, discs, disc}
 use Rattle.mdp_discount.proofs.Steps.{average, GoesBy}
 
 -- ---- all paths
 
-pow_by-pos : (k n : ℕ) → 0 < k → 0 < k ^ n
-pow_by-pos k zero h = omega (arith, pow-zero k)
-pow_by-pos k (suc n) h = let e = pow-suc k n in let p = one-le-mul (pow_by-pos k n h) h in omega (arith, e, p)
-
 parts-pos : (m : Mdp) (r : ℕ) (f : ℚ) (u n : ℕ) → 1 ≤ u → 0 < scale_of m r * discounted_paths m f u n
 parts-pos m r f u n h = one-le-mul (scale_of-pos m r) (pow_by-pos (u * unit_of m * f.den) n (one-le-mul (one-le-mul h (unit_of-pos m)) (den-pos f)))
 
-of_nat-paths : (m : Mdp) (f : ℚ) (u n : ℕ) → of_int (pos (discounted_paths m f u (suc n))) ≡ of_int (pos (discounted_paths m f u n)) *ℚ ((of_int (pos u) *ℚ of_int (pos (unit_of m))) *ℚ of_int (pos f.den))
+of_nat-paths : (m : Mdp) (f : ℚ) (u n : ℕ)
+    → of_int (pos (discounted_paths m f u (suc n))) ≡ of_int (pos (discounted_paths m f u n)) *ℚ ((of_int (pos u) *ℚ of_int (pos (unit_of m))) *ℚ of_int (pos f.den))
 of_nat-paths m f u n =
     ap (λ (k : ℕ). of_int (pos k)) (pow-suc (u * unit_of m * f.den) n)
     ∙ of_nat-mul (discounted_paths m f u n) (u * unit_of m * f.den)
@@ -62,7 +59,8 @@ row_discounted m k f d row behind g known divides is =
     (EachAt_both row (λ e y. 0ℚ ≤ℚ y.prob) (λ e y. y.prob.den ∣ unit_of m) (nonneg_at k row known) divides))
     ∙ sum_at-scale_right ((of_int (pos (unit_of m)) *ℚ (f *ℚ of_int (pos f.den))) *ℚ d) row (λ e y. y.prob *ℚ g e y)
 
-choice_discounted : (m : Mdp) (r : ℕ) (f : ℚ) (u n : ℕ) (x : Choice) (behind : ℕ → Entry → ℤ) (g : ℕ → Entry → ℚ) → IsRow (states_of m) x.row → EachAt x.row (λ e y. y.prob.den ∣ unit_of m) → (reward_of x r).den ∣ scale_of m r
+choice_discounted : (m : Mdp) (r : ℕ) (f : ℚ) (u n : ℕ) (x : Choice) (behind : ℕ → Entry → ℤ) (g : ℕ → Entry → ℚ) → IsRow (states_of m) x.row
+    → EachAt x.row (λ e y. y.prob.den ∣ unit_of m) → (reward_of x r).den ∣ scale_of m r
     → ((e : ℕ) (y : Entry) → of_int (behind e y) ≡ g e y *ℚ (of_int (pos (scale_of m r)) *ℚ of_int (pos (discounted_paths m f u n))))
     → of_int (earned_parts m r f u n x behind)
     ≡ (reward_of x r +ℚ f *ℚ sum_at x.row (λ e y. y.prob *ℚ g e y)) *ℚ (of_int (pos (scale_of m r)) *ℚ ((of_int (pos (unit_of m)) *ℚ of_int (pos f.den)) *ℚ of_int (pos (discounted_paths m f u n))))
@@ -79,11 +77,13 @@ choice_discounted m r f u n x behind g known divides scale is =
     (of_nat-mul (unit_of m * f.den) (discounted_paths m f u n) ∙ ap (λ (w : ℚ). w *ℚ of_int (pos (discounted_paths m f u n))) (of_nat-mul (unit_of m) f.den)))
     ∙ ap (λ (w : ℚ). (reward_of x r *ℚ of_int (pos (scale_of m r))) *ℚ ((of_int (pos (unit_of m)) *ℚ of_int (pos f.den)) *ℚ of_int (pos (discounted_paths m f u n))) +ℚ w)
     (row_discounted m (states_of m) f (of_int (pos (scale_of m r)) *ℚ of_int (pos (discounted_paths m f u n))) x.row behind g known divides is)
-    ∙ ring rat_ring 7 (λ w a l b d f s. (w ⊗ a) ⊗ ((l ⊗ b) ⊗ d) ⊕ s ⊗ ((l ⊗ (f ⊗ b)) ⊗ (a ⊗ d))) (λ w a l b d f s. (w ⊕ f ⊗ s) ⊗ (a ⊗ ((l ⊗ b) ⊗ d))) refl (reward_of x r) a l b d f (sum_at x.row (λ e y. y.prob *ℚ g e y))
+    ∙ ring rat_ring 7 (λ w a l b d f s. (w ⊗ a) ⊗ ((l ⊗ b) ⊗ d) ⊕ s ⊗ ((l ⊗ (f ⊗ b)) ⊗ (a ⊗ d))) (λ w a l b d f s. (w ⊕ f ⊗ s) ⊗ (a ⊗ ((l ⊗ b) ⊗ d))) refl (reward_of x r) a l b d f
+    (sum_at x.row (λ e y. y.prob *ℚ g e y))
 
 node_discounted : (m : Mdp) (r : ℕ) (f : ℚ) (u n s : ℕ) (weights : ℕ → ℕ) (behind : ℕ → ℕ → Entry → ℤ) (g : ℕ → ℕ → Entry → ℚ) → IsMdp m → 1 ≤ u
     → ((c e : ℕ) (y : Entry) → of_int (behind c e y) ≡ g c e y *ℚ (of_int (pos (scale_of m r)) *ℚ of_int (pos (discounted_paths m f u n))))
-    → of_int (total_at (choices_at m s) (λ c x. pos (weights c) *ℤ earned_parts m r f u n x (behind c))) ≡ average m u weights (λ x. reward_of x r) f g s *ℚ of_int (pos (scale_of m r * discounted_paths m f u (suc n)))
+    → of_int (total_at (choices_at m s) (λ c x. pos (weights c) *ℤ earned_parts m r f u n x (behind c))) ≡ average m u weights (λ x. reward_of x r) f g s *ℚ of_int (pos
+    (scale_of m r * discounted_paths m f u (suc n)))
 node_discounted m r f u n s weights behind g known hu is =
     let one : ℚ = of_int (pos (scale_of m r)) *ℚ ((of_int (pos (unit_of m)) *ℚ of_int (pos f.den)) *ℚ of_int (pos (discounted_paths m f u n))) in
     of_int-total_at (choices_at m s) (λ c x. pos (weights c) *ℤ earned_parts m r f u n x (behind c))
@@ -100,7 +100,8 @@ node_discounted m r f u n s weights behind g known hu is =
     (EachAt_both (choices_at m s) (λ c x. IsRow (states_of m) x.row) (λ c x. EachAt x.row (λ e y. y.prob.den ∣ unit_of m)) (rows_known m s known) (den-divides_unit m s)) (den-divides_scale m r s)))
     ∙ sum_at-scale_right (of_int (pos u) *ℚ one) (choices_at m s) (λ c x. share u weights c *ℚ (reward_of x r +ℚ f *ℚ sum_at x.row (λ e y. y.prob *ℚ g c e y)))
     ∙ ap (λ (w : ℚ). average m u weights (λ x. reward_of x r) f g s *ℚ w)
-    (ring rat_ring 5 (λ u a l b d. u ⊗ (a ⊗ ((l ⊗ b) ⊗ d))) (λ u a l b d. a ⊗ (d ⊗ ((u ⊗ l) ⊗ b))) refl (of_int (pos u)) (of_int (pos (scale_of m r))) (of_int (pos (unit_of m))) (of_int (pos f.den)) (of_int (pos (discounted_paths m f u n)))
+    (ring rat_ring 5 (λ u a l b d. u ⊗ (a ⊗ ((l ⊗ b) ⊗ d))) (λ u a l b d. a ⊗ (d ⊗ ((u ⊗ l) ⊗ b))) refl (of_int (pos u)) (of_int (pos (scale_of m r))) (of_int (pos (unit_of m))) (of_int
+    (pos f.den)) (of_int (pos (discounted_paths m f u n)))
     ∙ ap (λ (w : ℚ). of_int (pos (scale_of m r)) *ℚ w) (sym (of_nat-paths m f u n))
     ∙ sym (of_nat-mul (scale_of m r) (discounted_paths m f u (suc n))))
 
@@ -110,7 +111,8 @@ pub disc-end : (m : Mdp) (r : ℕ) (f : ℚ) (u : ℕ) (t : Tree) (s : ℕ) → 
 unfolding disc
 disc-end m r f u t s h = ratio-none (scale_of m r * discounted_paths m f u 0) (parts-pos m r f u 0 h)
 
-of_int-discs : (m : Mdp) (r : ℕ) (f : ℚ) (u n : ℕ) (t : Tree) (s : ℕ) → 1 ≤ u → of_int (discs m r f u n t s) ≡ disc m r f u n t s *ℚ (of_int (pos (scale_of m r)) *ℚ of_int (pos (discounted_paths m f u n)))
+of_int-discs : (m : Mdp) (r : ℕ) (f : ℚ) (u n : ℕ) (t : Tree) (s : ℕ) → 1 ≤ u
+    → of_int (discs m r f u n t s) ≡ disc m r f u n t s *ℚ (of_int (pos (scale_of m r)) *ℚ of_int (pos (discounted_paths m f u n)))
 unfolding disc
 of_int-discs m r f u n t s h =
     sym (div-of_int (discs m r f u n t s) (scale_of m r * discounted_paths m f u n) (parts-pos m r f u n h))

@@ -1,5 +1,5 @@
 -- The end of a query from the end of its path, and that it has one end at most.
-use Rattle.std.proofs.Common.{◌≡◌, ℕ, List, take, length, Option, Some, None, Result, Ok, Err, refl, sym, ◌∙◌, ap, ap₂, subst}
+use Rattle.std.proofs.Common.{◌≡◌, ℕ, List, take, Result, Ok, Err, ◌∙◌, ap, ap₂, subst}
 use Rattle.mdp_math.specs.Rational.{ℚ}
 use Rattle.mdp_spec.specs.Mdp.{Mdp, states_of}
 use Rattle.mdp_rows.specs.declared.dir.Dir.{Dir}
@@ -11,15 +11,13 @@ use Rattle.mdp_path.specs.Iteration.{EndsWith}
 use Rattle.mdp_path.specs.Path.{Found, Refusal, path_step}
 use Rattle.mdp_path.specs.Laws.{first}
 use Rattle.mdp_path.specs.Ends.{Ends, capped}
-use Rattle.mdp_path.specs.Queries.{WideTerm, Solves, shown, term_of}
+use Rattle.mdp_path.specs.Queries.{Solves, shown, term_of}
 use Rattle.mdp_path.specs.declared.solution.Solution.{Solution}
 use Rattle.mdp_path.specs.declared.solution.WideAt.{WideAt}
-use Rattle.mdp_path.specs.declared.solution.PathError.{PathError}
 use Rattle.mdp_path.specs.declared.solution.PathError.TheVariants as path
 use Rattle.mdp_discount.specs.Problem.{discount_problem}
-use Rattle.mdp_discount.specs.Cert.{Certificate}
 use Rattle.mdp_discount.specs.Plain.{plain}
-use Rattle.mdp_discount.specs.Query.{start_of, cut_found, cut_refusal, AfterFound, EndsSo}
+use Rattle.mdp_discount.specs.Query.{start_of, AfterFound, EndsSo}
 use Rattle.mdp_discount.specs.Code.{found_of, PathEnds}
 use Rattle.mdp_discount.specs.declared.cert.DiscountCert.{DiscountCert}
 

@@ -16,3 +16,4 @@ pub mod Ending
 pub mod Names
 pub mod OneEnd
 pub mod Accepting
+mod Examples

@@ -1,7 +1,6 @@
 -- The discounted rows in the code, state by state and choice by choice.
-use Rattle.std.proofs.Common.{◌≡◌, ℕ, ◌<◌, Bool, true, false, true≢false, List, [], length, map, cond, Option, Some, None, refl, sym, ◌∙◌, ap, zero-add}
+use Rattle.std.proofs.Common.{◌≡◌, ℕ, ◌<◌, Bool, true, false, true≢false, List, length, cond, Option, Some, None, refl, sym, ◌∙◌, ap, zero-add}
 use Rattle.std.specs.Prelude.{slice_index_or}
-use Rattle.std.specs.List.{range_with_len}
 use Rattle.std.specs.Option.{option_map, is_some}
 use Rattle.std.proofs.lemmas.List.FromFn.{get_or-map-range_with_len, length-map-range_with_len}
 use Rattle.std.proofs.Math.ListN.{get_or-map}

@@ -1,5 +1,5 @@
 -- The magnitude of a number, by its sign.
-use Rattle.std.proofs.Common.{◌≡◌, ℕ, [], ◌∷◌, List, refl, pos, arith}
+use Rattle.std.proofs.Common.{◌≡◌, [], ◌∷◌, refl, pos, arith}
 use Rattle.std.proofs.lemmas.List.Elements.{All-nil, All-cons}
 use Rattle.std.specs.List.{All}
 use Rattle.mdp_math.specs.Rational.{ℚ, neg_ℚ, ◌≤ℚ◌, ◌<ℚ◌}

@@ -1,5 +1,6 @@
 -- The nodes of the problem of the discounted reward.
-use Rattle.std.proofs.Common.{◌≡◌, ℕ, ◌+◌, ◌<◌, ◌≤◌, Bool, true, false, true≢false, List, [], ◌∷◌, ◌++◌, length, map, refl, sym, ◌∙◌, ap, ap₂, subst, not, arith, Option, Some, None, cond, zero-add, ltb, ltb-true, ltb-false, pos}
+use Rattle.std.proofs.Common.{◌≡◌, ℕ, ◌+◌, ◌<◌, ◌≤◌, Bool, true, false, true≢false, List, [], ◌∷◌, length, map, refl, sym, ◌∙◌, ap, ap₂, subst, not, arith, Option, Some, None, cond}
+use Rattle.std.proofs.Common.{zero-add, ltb, ltb-true, ltb-false, pos}
 use Rattle.std.specs.List.{range_with_len}
 use Rattle.std.specs.Prelude.{slice_index_or}
 use Rattle.std.proofs.lemmas.List.FromFn.{get_or-map-range_with_len, length-map-range_with_len}
@@ -15,7 +16,8 @@ use Rattle.mdp_spec.specs.Mdp as model
 use Rattle.mdp_spec.specs.Row.{IsMdp, row_sum}
 use Rattle.mdp_spec.specs.Unit.{reward_of}
 use Rattle.mdp_rows.specs.declared.dir.Dir.{Dir}
-use Rattle.mdp_path.specs.Problem.{Problem, Node, given, Choice, Move, go, stop, worth, no_choice, count, node_at, choices_of, choice_at, goes_on, amount, row_from, move_by, fits_by, LeadsWithin, IsProblem, IsCandidate}
+use Rattle.mdp_path.specs.Problem.{Problem, Node, given, Choice, Move, go, stop, worth, no_choice, count, node_at, choices_of, choice_at, goes_on, amount, row_from, move_by, fits_by}
+use Rattle.mdp_path.specs.Problem.{LeadsWithin, IsProblem, IsCandidate}
 use Rattle.mdp_path.specs.Problem as path
 use Rattle.mdp_path.specs.Code.{CanTake, move_at, fits_at}
 use Rattle.mdp_discount.specs.Rules.{IsFactor, discounted}

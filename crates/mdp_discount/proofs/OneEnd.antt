@@ -1,8 +1,8 @@
 -- A query has one end at most, and an answer meets the rules; there is one list of values at most.
-use Rattle.std.proofs.Common.{◌≡◌, ℕ, ◌<◌, List, length, Option, Some, None, Result, Ok, Err, refl, sym, ◌∙◌, ap, subst, take}
+use Rattle.std.proofs.Common.{◌≡◌, ℕ, ◌<◌, List, Option, Some, None, Result, Ok, Err, refl, sym, ◌∙◌, subst, take}
 use Rattle.std.proofs.lemmas.List.{ext_get_or}
 use Rattle.mdp_math.specs.Rational.{ℚ}
-use Rattle.mdp_spec.specs.Mdp.{Mdp, states_of, value_at}
+use Rattle.mdp_spec.specs.Mdp.{Mdp, states_of}
 use Rattle.mdp_rows.specs.declared.dir.Dir.{Dir}
 use Rattle.mdp_path.specs.Path.{Found, Refusal, path_step}
 use Rattle.mdp_path.specs.Laws.{EndsAtBest, first}
@@ -14,9 +14,8 @@ use Rattle.mdp_farkas.specs.declared.verdict.Verdict.{Verdict}
 use Rattle.mdp_farkas.specs.declared.verdict.Verdict.TheVariants.{Yes, No, Wide}
 use Rattle.mdp_discount.specs.Problem.{0ℚ, discount_problem}
 use Rattle.mdp_discount.specs.Checks.{written_greatest, discount_checks, IsDiscount}
-use Rattle.mdp_discount.specs.Bounds.{DiscountBound}
 use Rattle.mdp_discount.specs.Cert.{Certificate}
-use Rattle.mdp_discount.specs.Query.{start_of, cut_found, answer_of, Held, AfterRemainder, AfterFound, AfterPath, EndsSo}
+use Rattle.mdp_discount.specs.Query.{start_of, cut_found, answer_of, Held, AfterRemainder, AfterPath}
 use Rattle.mdp_discount.specs.Code.{IsFound}
 use Rattle.mdp_discount.specs.Laws.{HasOneValue, HasOneEnd, CanAsk, AnswersMeetRules, AnswersAreBest}
 use Rattle.mdp_discount.proofs.Discount.{discount_unique, discount_of_rules}
@@ -46,7 +45,8 @@ module _ (dir : Dir) (m : Mdp) (r : ℕ) (name : List ℕ) (f : ℚ) where
   -- ---- an answer
 
   module _ (a : Certificate) (ask : CanAsk m r f) where
-    rules_held : (found : Found) (remainder : ℚ) (verdict : Verdict) → IsFound dir m r f found.policy found.values → verdict ≡ verdict_of (discount_checks dir m r f found.values remainder found.policy)
+    rules_held : (found : Found) (remainder : ℚ) (verdict : Verdict) → IsFound dir m r f found.policy found.values
+        → verdict ≡ verdict_of (discount_checks dir m r f found.values remainder found.policy)
         → Held dir m name f found remainder verdict (Ok a) → IsDiscount dir m r f a.values a.remainder a.choices
     rules_held found remainder Yes is e h =
         let same : a ≡ answer_of dir m name f found remainder = cc h in

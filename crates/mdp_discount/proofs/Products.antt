@@ -1,11 +1,12 @@
 -- A row is taken f times entry by entry.
-use Rattle.std.proofs.Common.{◌≡◌, ℕ, zero, suc, ◌+◌, ◌<◌, Bool, true, false, true≢false, not, ◌&&◌, cond, List, [], ◌∷◌, ◌++◌, length, drop, map, get_or, Option, Some, None, refl, sym, ◌∙◌, ap, ap₂, arith, append_assoc}
-use Rattle.std.specs.List.{All, AllByRecursion, filter, list_all}
+use Rattle.std.proofs.Common.{◌≡◌, ℕ, zero, suc, ◌<◌, Bool, true, false, true≢false, not, ◌&&◌, cond, List, [], ◌∷◌, ◌++◌, length, drop, map, get_or, Option, Some, None, refl, sym}
+use Rattle.std.proofs.Common.{◌∙◌, ap, ap₂, arith, append_assoc}
+use Rattle.std.specs.List.{All, AllByRecursion, filter}
 use Rattle.std.proofs.lemmas.List.Elements.{All-from_recursion, recursion_from_All}
 use Rattle.mdp_math.proofs.Options.{Some_same}
 use Rattle.std.specs.Option.{is_some}
 use Rattle.std.proofs.lemmas.List.Elements.{filter-append}
-use Rattle.mdp_math.specs.Rational.{ℚ, neg_ℚ, ◌*ℚ◌, ◌-ℚ◌}
+use Rattle.mdp_math.specs.Rational.{ℚ, neg_ℚ, ◌-ℚ◌}
 use Rattle.mdp_math.specs.Written.{written_mul}
 use Rattle.mdp_math.proofs.Written.{written_mul-some, written_add-some}
 use Rattle.mdp_num.specs.Written.{written_sub}
@@ -57,7 +58,8 @@ entry-made f made more row rest all t p q is told so before =
     ∙ ap (λ (es : List Entry). made ++ scaled_entries f es) (sym is)
     ∙ before
 
-pub fits-next : (f : ℚ) (row rest : List Entry) (b : Bool) (t : ℕ) (p q : ℚ) → row ≡ record { target = t; prob = p } ∷ rest → Some q ≡ written_mul f p → products_fit f row ≡ b → products_fit f rest ≡ b
+pub fits-next : (f : ℚ) (row rest : List Entry) (b : Bool) (t : ℕ) (p q : ℚ) → row ≡ record { target = t; prob = p } ∷ rest → Some q ≡ written_mul f p → products_fit f row ≡ b
+    → products_fit f rest ≡ b
 fits-next f row rest b t p q is told before = sym (ap (λ (o : Option ℚ). is_some o && products_fit f rest) (sym told)) ∙ sym (ap (products_fit f) is) ∙ before
 
 pub fits-none : (f : ℚ) (row rest : List Entry) (b : Bool) (t : ℕ) (p : ℚ) → row ≡ record { target = t; prob = p } ∷ rest → None ≡ written_mul f p → products_fit f row ≡ b → false ≡ b
@@ -82,7 +84,8 @@ entries-below n ts ps h = All-from_recursion (λ (e : Entry). e.target < n) (ent
 
 module _ (n : ℕ) (f : ℚ) (ts us : List ℕ) (ps qs : List ℚ) (made : List Entry) (row : List Entry) (left one : ℚ) where
   -- what stands in the arena is the discounted row
-  pub settled-row : us ≡ ts ++ n ∷ [] → qs ≡ ps ++ left ∷ [] → length ts ≡ length ps → entries ts ps ≡ scaled_entries f row → Some left ≡ written_sub one f → one ≡ 1ℚ → entries us qs ≡ discounted_row n f row
+  pub settled-row : us ≡ ts ++ n ∷ [] → qs ≡ ps ++ left ∷ [] → length ts ≡ length ps → entries ts ps ≡ scaled_entries f row → Some left ≡ written_sub one f → one ≡ 1ℚ
+      → entries us qs ≡ discounted_row n f row
   settled-row h k same is told e =
       ap₂ entries h k
       ∙ entries-more ts ps n left same

@@ -1,21 +1,21 @@
 -- A row taken f times, with what is left to a node behind the states, is a distribution again, and sums up f times what the row does, and what is
 -- left times the node's value.
-use Rattle.std.proofs.Common.{◌≡◌, ℕ, suc, ◌+◌, ◌<◌, ◌≤◌, ⊎_elim, Bool, true, false, true≢false, not, ◌&&◌, cond, List, [], ◌∷◌, ◌++◌, map, refl, sym, ◌∙◌, ap, ap₂, subst, arith, pos}
+use Rattle.std.proofs.Common.{◌≡◌, ℕ, suc, ◌+◌, ◌<◌, ◌≤◌, ⊎_elim, Bool, true, false, true≢false, not, cond, List, [], ◌∷◌, ◌++◌, map, refl, sym, ◌∙◌, ap, ap₂, arith, pos}
 use Rattle.std.specs.Prelude.{nat_le, IsTrue}
-use Rattle.std.specs.List.{All, Any, AllByRecursion, filter}
+use Rattle.std.specs.List.{Any, AllByRecursion, filter}
 use Rattle.std.proofs.lemmas.Bool.{le-leb, leb-true}
-use Rattle.std.proofs.lemmas.List.Elements.{All-from_recursion, recursion_from_All, All-nil, All-cons}
-use Rattle.mdp_math.specs.Rational.{ℚ, ◌+ℚ◌, ◌*ℚ◌, ◌-ℚ◌, ◌≤ℚ◌, ◌<ℚ◌}
+use Rattle.std.proofs.lemmas.List.Elements.{All-from_recursion, recursion_from_All}
+use Rattle.mdp_math.specs.Rational.{ℚ, ◌+ℚ◌, ◌*ℚ◌, ◌-ℚ◌, ◌<ℚ◌}
 use Rattle.mdp_math.specs.Sum.{sum_of}
 use Rattle.mdp_math.proofs.Ring.{◌⊕◌, ◌⊗◌, ⊖, lit, ring}
 use Rattle.mdp_math.proofs.Laws.{rat_ring}
 use Rattle.mdp_math.proofs.Booleans.{and-parts, and-both}
-use Rattle.mdp_math.proofs.Order.{0ℚ, 1ℚ, ≤ℚ_of_lt, lt_or_eq_ℚ, mul-pos_ℚ, sub-pos}
+use Rattle.mdp_math.proofs.Order.{0ℚ, 1ℚ, lt_or_eq_ℚ, mul-pos_ℚ, sub-pos}
 use Rattle.mdp_math.proofs.Sums.{sum_of-append, sum_of-scale, sum_of-map, sum_of-same}
 use Rattle.mdp_num.specs.Equal.{eq_ℚ}
 use Rattle.mdp_num.proofs.Equal.{equal_decides}
 use Rattle.mdp_spec.specs.Mdp.{Entry, value_at}
-use Rattle.mdp_spec.specs.Row.{ascends_from, IsDistribution, IsRow, row_sum}
+use Rattle.mdp_spec.specs.Row.{ascends_from, IsRow, row_sum}
 use Rattle.mdp_discount.specs.Rules.{IsFactor}
 use Rattle.mdp_discount.specs.Problem.{scaled, has_value, left_over, scaled_entries, discounted_row}
 
@@ -34,7 +34,8 @@ zero-value e h z = let t = (equal_decides e.prob 0ℚ).1 z in absurd (true≢fal
 -- ---- sums
 
 module _ (h : Entry → ℚ) (zero : (e : Entry) → e.prob ≡ 0ℚ → h e ≡ 0ℚ) where
-  sum_by : (b : Bool) (e : Entry) (es : List Entry) → has_value e ≡ b → sum_of h (filter has_value es) ≡ sum_of h es → sum_of h (cond b (e ∷ filter has_value es) (filter has_value es)) ≡ h e +ℚ sum_of h es
+  sum_by : (b : Bool) (e : Entry) (es : List Entry) → has_value e ≡ b → sum_of h (filter has_value es) ≡ sum_of h es
+      → sum_of h (cond b (e ∷ filter has_value es) (filter has_value es)) ≡ h e +ℚ sum_of h es
   sum_by true e es v same = ap (λ (x : ℚ). h e +ℚ x) same
   sum_by false e es v same =
       same ∙ ring rat_ring 1 (λ x. x) (λ x. lit (pos 0) ⊕ x) refl (sum_of h es) ∙ ap (λ (x : ℚ). x +ℚ sum_of h es) (sym (zero e (none-value e v)))
@@ -65,12 +66,14 @@ module _ (n : ℕ) (f : ℚ) (factor : IsFactor f) where
   left-pos : 0ℚ <ℚ (1ℚ -ℚ f)
   left-pos = sub-pos f 1ℚ factor.below_one
 
-  ascends_by : (b : Bool) (low : ℕ) (e : Entry) (es : List Entry) → low ≤ e.target → IsTrue (ascends_from (e.target + 1) (es ++ left_over n f ∷ [])) → IsTrue (ascends_from low (es ++ left_over n f ∷ []))
+  ascends_by : (b : Bool) (low : ℕ) (e : Entry) (es : List Entry) → low ≤ e.target → IsTrue (ascends_from (e.target + 1) (es ++ left_over n f ∷ []))
+      → IsTrue (ascends_from low (es ++ left_over n f ∷ []))
       → IsTrue (ascends_from low (cond b (scaled f e ∷ es) es ++ left_over n f ∷ []))
   ascends_by true low e es h k l = and-both (nat_le low e.target) (ascends_from (e.target + 1) (es ++ left_over n f ∷ [])) (le-leb low e.target h) k
   ascends_by false low e es h k l = l
 
-  ascends : (row : List Entry) (low a : ℕ) → low ≤ a → a ≤ n → IsTrue (ascends_from a row) → AllByRecursion (λ e. e.target < n) row → IsTrue (ascends_from low (scaled_entries f row ++ left_over n f ∷ []))
+  ascends : (row : List Entry) (low a : ℕ) → low ≤ a → a ≤ n → IsTrue (ascends_from a row) → AllByRecursion (λ e. e.target < n) row
+      → IsTrue (ascends_from low (scaled_entries f row ++ left_over n f ∷ []))
   ascends [] low a h k up below = and-both (nat_le low n) true (le-leb low n (omega arith)) refl
   ascends (e ∷ row) low a h k up below =
       let p = and-parts (nat_le a e.target) (ascends_from (e.target + 1) row) up in

@@ -1,7 +1,7 @@
 -- The problem of the discounted reward is solvable from any policy, and what is found solves the discounted reward.
-use Rattle.std.proofs.Common.{◌≡◌, ◌⊎◌, inl, inr, ℕ, zero, suc, ◌+◌, ◌<◌, ◌≤◌, Bool, true, false, List, [], ◌∷◌, length, take, replicate, refl, sym, ◌∙◌, ap, subst, arith, ltb, ltb-true, ltb-false}
+use Rattle.std.proofs.Common.{◌≡◌, ◌⊎◌, inl, ℕ, zero, suc, ◌+◌, ◌<◌, ◌≤◌, Bool, true, false, List, [], ◌∷◌, length, take, replicate, refl, sym, ◌∙◌, ap, subst, arith, ltb, ltb-true, ltb-false}
 use Rattle.std.specs.Prelude.{slice_index, slice_index_or}
-use Rattle.std.specs.List.{All, Any}
+use Rattle.std.specs.List.{Any}
 use Rattle.std.proofs.lemmas.List.{get_or-take, get_or-replicate, length-replicate}
 use Rattle.mdp_math.specs.Rational.{ℚ, ◌+ℚ◌, ◌*ℚ◌}
 use Rattle.mdp_math.proofs.Sums.{sum_of-same_all}
@@ -10,19 +10,20 @@ use Rattle.mdp_spec.specs.Mdp as model
 use Rattle.mdp_spec.specs.Row.{IsMdp, IsRow, row_sum}
 use Rattle.mdp_spec.specs.Unit.{reward_of}
 use Rattle.mdp_rows.specs.declared.dir.Dir.{Dir}
-use Rattle.mdp_elim.specs.System.{is_active, row_of, Leaves}
+use Rattle.mdp_elim.specs.System.{is_active}
 use Rattle.mdp_path.specs.Problem.{Problem, Node, given, decision, Choice, Move, worth, count, node_at, choice_at, goes_on, row_from, rows_of, active_of, taken, IsCandidate, IsPolicy}
 use Rattle.mdp_path.specs.Problem as path
-use Rattle.mdp_path.specs.Code.{CanTake, move_at}
-use Rattle.mdp_path.specs.Values.{IsValue, IsAsGood, CanLeave, AllLeave}
+use Rattle.mdp_path.specs.Code.{CanTake}
+use Rattle.mdp_path.specs.Values.{IsAsGood, CanLeave}
 use Rattle.mdp_path.specs.Laws.{IsSolvable, IsBestFrom}
 use Rattle.mdp_path.proofs.Chain.{row-at, active-at, active-below}
 use Rattle.mdp_discount.specs.Rules.{IsFactor, discounted}
-use Rattle.mdp_discount.specs.Problem.{0ℚ, discount_problem, discount_choice, discounted_row, left_over}
+use Rattle.mdp_discount.specs.Problem.{0ℚ, discount_problem}
 use Rattle.mdp_discount.specs.Query.{start_of}
 use Rattle.mdp_discount.specs.Code.{IsFound}
 use Rattle.mdp_discount.proofs.ScaledRows.{leads-out}
-use Rattle.mdp_discount.proofs.Nodes.{node-count, state-candidate, state-node, end-node, is-end, state-choices, state-choice, state-can, state-move, end-move, goes-state, goes-row, worth-is, discount-known}
+use Rattle.mdp_discount.proofs.Nodes.{node-count, state-candidate, state-node, end-node, is-end, state-choices, state-choice, state-can, state-move, end-move, goes-state, goes-row}
+use Rattle.mdp_discount.proofs.Nodes.{worth-is, discount-known}
 
 can-of : (node : Node) (c : ℕ) → IsCandidate node c → CanTake node c
 can-of (given v) c h = tt

@@ -4,7 +4,7 @@
 --     rule 27  the value is what the policy's choice earns
 -- and at the end, at no state:
 --     rule 28  the remainder is the greatest magnitude of the values
-use Rattle.std.specs.Prelude.{ℕ, Bool, List, [], ◌∷◌, ◌++◌, map, slice_index, Option, None}
+use Rattle.std.specs.Prelude.{ℕ, List, [], ◌∷◌, ◌++◌, map, slice_index, Option, None}
 use Rattle.std.specs.List.{All, flat_map, range_with_len}
 use Rattle.mdp_math.specs.Rational.{ℚ}
 use Rattle.mdp_math.specs.Written.{written_add, written_mul, ◌>>=◌}

@@ -1,5 +1,5 @@
 -- What the code's contracts say beside the definitions.
-use Rattle.std.specs.Prelude.{◌≡◌, ℕ, ◌<◌, List, length, take, slice_index, Option, Some, Result, Ok, Err, Vec}
+use Rattle.std.specs.Prelude.{◌≡◌, ℕ, ◌<◌, List, length, take, slice_index, Option, Result, Ok, Err, Vec}
 use Rattle.std.specs.Global.{Global}
 use Rattle.mdp_math.specs.Rational.{ℚ}
 use Rattle.mdp_spec.specs.Mdp.{Mdp, states_of, choices_at, value_at}
@@ -16,6 +16,7 @@ use Rattle.mdp_path.specs.Values.{IsAsGood}
 use Rattle.mdp_path.specs.Ends.{capped}
 use Rattle.mdp_path.specs.Queries.{shown, term_of}
 use Rattle.mdp_path.specs.declared.solution.Solution.{Solution}
+use Rattle.mdp_path.specs.declared.solution.WideAt.{WideAt}
 use Rattle.mdp_discount.specs.Rules.{discounted}
 use Rattle.mdp_discount.specs.Problem.{discount_problem}
 use Rattle.mdp_discount.specs.Query.{start_of, cut_found, cut_refusal}
@@ -23,6 +24,10 @@ use Rattle.mdp_discount.specs.Query.{start_of, cut_found, cut_refusal}
 -- what was found in round n
 abbrev pub found_of : ℕ → Solution → Found
 found_of n found = record { number = n; policy = found.policy.items; values = found.values.items }
+
+-- a term past width in round n of a path, with its policy of so many states
+abbrev pub cut_term : ℕ → WideAt → ℕ → Refusal
+cut_term states w n = record { number = n; policy = take states w.policy.items; place = record { kind = w.kind; node = w.node; choice = w.choice } }
 
 -- a term past width after the last round
 abbrev pub wide_after : ℕ → Vec ℕ Global → Kind → Option ℕ → Option ℕ → SolveError

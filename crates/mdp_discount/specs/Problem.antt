@@ -1,7 +1,7 @@
 -- The discounted reward of name r as a stochastic shortest path problem (Bertsekas and Tsitsiklis 1991): with a discount factor f a process stops in
 -- each step with probability 1 - f. The states are nodes, each of which goes on by all its choices, and there is one node more, which is worth 0:
 -- a choice leads by its row with f times the probabilities, and to that node with what is left.
-use Rattle.std.specs.Prelude.{ℕ, Bool, true, not, ◌&&◌, List, [], ◌∷◌, ◌++◌, length, map, Option, None, if◌then◌else◌, pos}
+use Rattle.std.specs.Prelude.{ℕ, Bool, true, not, ◌&&◌, List, [], ◌∷◌, ◌++◌, length, map, None, if◌then◌else◌, pos}
 use Rattle.std.specs.List.{filter, list_all, range_with_len}
 use Rattle.std.specs.Option.{is_some}
 use Rattle.mdp_math.specs.Rational.{ℚ, of_int, ◌*ℚ◌, ◌-ℚ◌}

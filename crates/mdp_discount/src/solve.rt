@@ -9,7 +9,7 @@ ghost use Rattle.mdp_discount.specs.Bounds.{DiscountBound};
 ghost use Rattle.mdp_discount.specs.Checks.{IsDiscount};
 ghost use Rattle.mdp_discount.specs.Plain.{plain};
 ghost use Rattle.mdp_discount.specs.Query.{EndsSo, AfterFound, init_by};
-ghost use Rattle.mdp_discount.specs.Code.{PathEnds, IsFound, found_of, wide_after};
+ghost use Rattle.mdp_discount.specs.Code.{PathEnds, IsFound, found_of, cut_term, wide_after};
 
 use crate::cert::DiscountCert;
 use crate::holds::holds_discount;
@@ -38,7 +38,7 @@ fn cut(mut found: Solution, states: u32) -> Solution
 
 /// A term past width of a path, with its policy of so many states.
 fn cut_wide(mut wide: WideAt, states: u32) -> TooWide
-    ensures term { (n : ℕ) → shown result n ≡ term_of Whole (record { number = n; policy = take states wide.policy.items; place = record { kind = wide.kind; node = wide.node; choice = wide.choice } }) }
+    ensures term { (n : ℕ) → shown result n ≡ term_of Whole (cut_term states wide n) }
     ensures round { result.round ≡ wide.round }
 {
     wide.policy.truncate(states as usize);

@@ -1,4 +1,4 @@
-use Rattle.std.proofs.Common.{◌≡◌, ◌∙◌, sym, rules, ⊎_elim, pos}
+use Rattle.std.proofs.Common.{◌∙◌, sym, rules, ⊎_elim, pos}
 use Rattle.std.specs.Prelude.{◌<ℤ◌}
 use Rattle.mdp_math.proofs.Order.{0ℚ, ≤ℚ_or_gt}
 use Rattle.mdp_discount.proofs.Magnitudes.{magnitude-below, magnitude-above}

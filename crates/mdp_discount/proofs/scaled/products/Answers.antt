@@ -1,4 +1,4 @@
-use Rattle.std.proofs.Common.{◌≡◌, ◌∙◌, ◌+◌, ◌<◌, ◌++◌, ◌∷◌, ℕ, suc, Bool, true, false, cond, List, [], length, drop, Option, Some, None, refl, sym, ap, ap₂, subst, arith, get_or}
+use Rattle.std.proofs.Common.{◌≡◌, ◌∙◌, ◌+◌, ◌<◌, ◌++◌, ◌∷◌, ℕ, suc, Bool, true, false, cond, List, [], length, drop, Option, Some, None, refl, sym, ap, ap₂, arith, get_or}
 use Rattle.std.proofs.lemmas.List.{append-nil, get_or_default}
 use Rattle.mdp_math.specs.Written.{written_mul}
 use Rattle.std.proofs.Math.Seq.{drop-length}
@@ -57,7 +57,8 @@ loop-i-preserved c =
     let rest = entries (drop (i + 1) ts) (drop (i + 1) ps) in
     let next : i + 1 ≡ suc i = omega arith in
     let here : entries (drop i ts) (drop i ps) ≡ record { target = (get_or ts i 0); prob = c.index-row-i.result } ∷ rest =
-    entry-at ts ps i (i + 1) (get_or ts i 0) c.index-row-i.result c.index-row-i.result c.args.row.same_length c.loop-i-test.true next (get_or_default ts i 0 (get_or ts i 0) c.loop-i-test.true) c.index-row-i.is in
+    entry-at ts ps i (i + 1) (get_or ts i 0) c.index-row-i.result c.index-row-i.result c.args.row.same_length c.loop-i-test.true next (get_or_default ts i 0
+    (get_or ts i 0) c.loop-i-test.true) c.index-row-i.is in
     let told : Some c.in-Ok.prob ≡ written_mul f c.index-row-i.result = c.in-Ok.ensures {u = tt} ∙ ap (written_mul f) (sym c.index-row-i.is) in
     record {
       kept =

@@ -1,10 +1,8 @@
 use Rattle.std.proofs.Common.{◌≡◌, ◌∙◌, ◌+◌, ◌++◌, ◌∷◌, [], ℕ, List, length, Option, Some, sym, ap, subst}
 use Rattle.std.specs.Option.{option_map, IfSome}
 use Rattle.std.proofs.lemmas.List.{length-append}
-use Rattle.mdp_math.specs.Rational.{ℚ}
 use Rattle.mdp_spec.specs.Mdp.{Entry}
 use Rattle.mdp_spec.specs.Row.{entries, IsDistribution, IsRow}
-use Rattle.mdp_discount.specs.Problem.{discounted_row}
 use Rattle.mdp_discount.specs.ScaledView.{entries_in}
 use Rattle.mdp_discount.specs.declared.scaled.Entries.{Entries}
 use Rattle.mdp_discount.proofs.ScaledRows.{discounted-row}
@@ -28,7 +26,8 @@ invariant_of-result c =
     record {
       same_length = ap length h ∙ length-append ts (c.args.end ∷ []) ∙ ap (λ (n : ℕ). n + 1) same ∙ sym (length-append ps (c.in-Ok.left ∷ [])) ∙ sym (ap length k);
       distribution = subst (λ (es : List Entry). IsDistribution es) (sym is)
-          (IsRow.distribution (discounted-row c.args.end f c.requires.factor row (record { distribution = c.args.row.distribution; in_range = entries-below c.args.end c.args.row.targets.now c.args.row.probs.now c.requires.targets })));
+          (IsRow.distribution (discounted-row c.args.end f c.requires.factor row
+          (record { distribution = c.args.row.distribution; in_range = entries-below c.args.end c.args.row.targets.now c.args.row.probs.now c.requires.targets })));
     }
 
 pub returns : goal.returns

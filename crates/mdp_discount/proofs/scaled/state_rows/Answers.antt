@@ -4,7 +4,6 @@ use Rattle.std.specs.Option.{option_map}
 use Rattle.std.proofs.lemmas.List.{map-append}
 use Rattle.mdp_math.proofs.Lists.{map_more}
 use Rattle.mdp_spec.specs.Mdp.{Entry, states_of, row_at}
-use Rattle.mdp_rows.specs.declared.row.Row.{Row}
 use Rattle.mdp_discount.specs.ScaledView.{row_in, scaled_row}
 use Rattle.mdp_discount.proofs.scaled.state_rows.Goals as goal
 

@@ -1,6 +1,5 @@
-use Rattle.std.proofs.Common.{◌≡◌, ◌∙◌, ℕ, ◌<◌, ◌≤◌, ◌^◌, List, [], length, Option, Some, sym, ap, subst, arith}
+use Rattle.std.proofs.Common.{◌∙◌, ℕ, ◌<◌, ◌≤◌, ◌^◌, [], length, sym, ap, subst, arith}
 use Rattle.std.specs.Prelude.{IsTrue, slice_index_or}
-use Rattle.mdp_math.specs.Rational.{ℚ}
 use Rattle.mdp_spec.specs.Labels.{initial_of}
 use Rattle.mdp_rows.specs.Name.{IsName}
 use Rattle.mdp_cert.specs.declared.init.Init.{Init}
@@ -23,7 +22,8 @@ invariant_of-cert c =
       some = omega (arith, n, some);
       limit = subst (λ (j : ℕ). j ≤ 2 ^ 20) (sym n) few;
       one_each = k ∙ sym n;
-      named = subst IsName (sym (c.in_ok-from_slice.ensures {u = tt}).items) (subst IsName c.requires.name (name_of_reward (slice_index_or m.names c.args.m []) (c.known.ensures.model.names.each c.args.m [] c.requires.place)));
+      named = subst IsName (sym (c.in_ok-from_slice.ensures {u = tt}).items) (subst IsName c.requires.name (name_of_reward (slice_index_or m.names c.args.m [])
+          (c.known.ensures.model.names.each c.args.m [] c.requires.place)));
       discount = c.requires.factor;
       inside =
           subst (λ (i : Init). IsTrue (is_init (length c.args.found.values.items) i)) (sym c.init_of.ensures)

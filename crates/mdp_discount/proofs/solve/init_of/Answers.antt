@@ -1,4 +1,4 @@
-use Rattle.std.proofs.Common.{◌≡◌, ◌∙◌, ◌<◌, ℕ, Option, length, sym, ap, arith}
+use Rattle.std.proofs.Common.{◌∙◌, ◌<◌, ℕ, Option, length, sym, ap, arith}
 use Rattle.std.proofs.lemmas.List.{get_or_default}
 use Rattle.mdp_math.specs.Rational.{ℚ}
 use Rattle.mdp_cert.specs.declared.init.Init.{Init}

@@ -1,4 +1,4 @@
-use Rattle.std.proofs.Common.{◌≡◌, ◌∙◌, ℕ, ◌+◌, List, Err, take, replicate, length, sym, ap, ap₂, subst}
+use Rattle.std.proofs.Common.{◌≡◌, ◌∙◌, ℕ, ◌+◌, List, Err, take, replicate, length, sym, ap, subst}
 use Rattle.mdp_math.specs.Rational.{ℚ}
 use Rattle.mdp_path.specs.Laws.{IsSolvable}
 use Rattle.mdp_path.specs.Ends.{Ends}
@@ -40,7 +40,9 @@ pub returns-in-Err-TooWide-clause-path : goal.returns-in-Err-TooWide-clause-path
 returns-in-Err-TooWide-clause-path c =
     let start : c.in_ok-start.start.items ≡ start_of c.args.model.now =
     (c.in_ok-start.ensures {u = tt}).items_if_clones_equal (λ y e. e) ∙ ap (λ (n : ℕ). replicate (n + 1) 0) c.states-states.ensures in
-    path-wide c.args.dir c.args.model.now c.args.m c.args.factor.now c.in_ok-start.start.items start c.in-Err-TooWide.wide c.cut_wide.result (subst (λ (e : PathError). Ends (discount_problem c.args.dir c.args.model.now c.args.m c.args.factor.now) c.in_ok-start.start.items (Err e)) c.in-Err-TooWide.field-0-is (c.in-Err-TooWide.ensures {u = tt}).path) c.cut_wide.ensures.round
+    path-wide c.args.dir c.args.model.now c.args.m c.args.factor.now c.in_ok-start.start.items start c.in-Err-TooWide.wide c.cut_wide.result (subst (λ (e : PathError). Ends
+    (discount_problem c.args.dir c.args.model.now c.args.m c.args.factor.now) c.in_ok-start.start.items (Err e)) c.in-Err-TooWide.field-0-is
+    (c.in-Err-TooWide.ensures {u = tt}).path) c.cut_wide.ensures.round
     (λ n.
     c.cut_wide.ensures.term n
     ∙ ap (λ (k : ℕ). term_of Whole (record { number = n; policy = take k c.in-Err-TooWide.wide.policy.items; place = record { kind = c.in-Err-TooWide.wide.kind; node = c.in-Err-TooWide.wide.node; choice = c.in-Err-TooWide.wide.choice } }))

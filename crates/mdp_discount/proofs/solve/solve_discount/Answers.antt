@@ -1,6 +1,4 @@
-use Rattle.std.proofs.Common.{◌≡◌, Err, sym, subst}
 use Rattle.std.proofs.lemmas.Result.{err_from_is_err_and}
-use Rattle.mdp_elim.specs.declared.too_wide.SolveError.{SolveError}
 use Rattle.mdp_discount.proofs.Ending.{ends-refused, ends-after}
 use Rattle.mdp_discount.proofs.solve.solve_discount.Goals as goal
 

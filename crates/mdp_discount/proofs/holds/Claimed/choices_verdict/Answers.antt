@@ -1,8 +1,6 @@
-use Rattle.std.proofs.Common.{◌≡◌, ℕ, [], ◌∷◌, List, map, Bool, Option, Some, sym, ap, subst, ◌∙◌, arith}
+use Rattle.std.proofs.Common.{◌≡◌, ℕ, [], ◌∷◌, List, map, Bool, Option, Some, sym, ap, ◌∙◌, arith}
 use Rattle.std.specs.List.{range_with_len}
 use Rattle.mdp_farkas.specs.Verdict.{Check, verdict_of}
-use Rattle.mdp_farkas.specs.declared.verdict.Verdict.{Verdict}
-use Rattle.mdp_farkas.specs.declared.verdict.Verdict.TheVariants.{Yes}
 use Rattle.mdp_discount.specs.Checks.{covers_check}
 use Rattle.mdp_discount.proofs.Walking.{passes, stops, alone}
 use Rattle.mdp_discount.proofs.holds.Claimed.choices_verdict.Goals as goal

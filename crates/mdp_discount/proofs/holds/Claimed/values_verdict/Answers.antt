@@ -1,4 +1,4 @@
-use Rattle.std.proofs.Common.{◌≡◌, ℕ, [], ◌∷◌, List, Bool, Option, Some, sym, ap, ◌∙◌}
+use Rattle.std.proofs.Common.{[], ◌∷◌, List, Bool, Option, Some, sym, ap, ◌∙◌}
 use Rattle.mdp_farkas.specs.Verdict.{Check, verdict_of, at_choices}
 use Rattle.mdp_discount.specs.Checks.{covers_check, reached_check}
 use Rattle.mdp_discount.proofs.Walking.{no_first, yes_first}

@@ -1,4 +1,4 @@
-use Rattle.std.proofs.Common.{◌≡◌, [], ◌∷◌, List, Bool, Option, None, sym, ap, ◌∙◌}
+use Rattle.std.proofs.Common.{[], ◌∷◌, List, Bool, Option, None, sym, ap, ◌∙◌}
 use Rattle.mdp_farkas.specs.Verdict.{Check, verdict_of}
 use Rattle.mdp_discount.specs.Checks.{state_checks, remainder_check}
 use Rattle.mdp_discount.proofs.Walking.{no_first, yes_first}

@@ -1,4 +1,4 @@
-use Rattle.std.proofs.Common.{◌≡◌, ◌∙◌, ℕ, ◌<◌, List, sym, ap, subst, arith}
+use Rattle.std.proofs.Common.{◌∙◌, ap, arith}
 use Rattle.std.specs.Option.{option_map}
 use Rattle.mdp_discount.specs.ScaledView.{row_in}
 use Rattle.mdp_discount.proofs.MadeRows.{made-len, made-count, made-row}

@@ -1,4 +1,4 @@
-use Rattle.std.proofs.Common.{◌≡◌, ◌∙◌, ℕ, ◌<◌, ◌≤◌, true, sym, ap, subst}
+use Rattle.std.proofs.Common.{◌≡◌, ◌∙◌, ℕ, ◌<◌, ◌≤◌, true, sym, subst}
 use Rattle.mdp_spec.specs.Mdp.{states_of, row_at}
 use Rattle.mdp_path.specs.Code.{fits_at}
 use Rattle.mdp_discount.proofs.MadeRows.{is_some-scaled}

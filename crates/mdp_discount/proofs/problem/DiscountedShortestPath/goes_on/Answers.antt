@@ -1,4 +1,4 @@
-use Rattle.std.proofs.Common.{◌≡◌, ◌∙◌, ℕ, ltb, sym, ap}
+use Rattle.std.proofs.Common.{◌∙◌, ℕ, ltb, sym, ap}
 use Rattle.mdp_discount.proofs.Nodes.{goes-is}
 use Rattle.mdp_discount.proofs.problem.DiscountedShortestPath.goes_on.Goals as goal
 

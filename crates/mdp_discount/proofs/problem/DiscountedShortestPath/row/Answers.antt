@@ -1,11 +1,10 @@
-use Rattle.std.proofs.Common.{◌≡◌, ◌∙◌, ℕ, ◌+◌, ◌<◌, List, true, Option, Some, None, sym, ap, subst}
-use Rattle.std.specs.Option.{option_map, is_some}
+use Rattle.std.proofs.Common.{◌∙◌, ℕ, ◌+◌, ◌<◌, List, sym, ap, subst}
+use Rattle.std.specs.Option.{is_some}
 use Rattle.std.specs.List.{All}
 use Rattle.mdp_spec.specs.Mdp.{Entry, states_of, row_at}
 use Rattle.mdp_spec.specs.Row.{IsRow}
 use Rattle.mdp_elim.proofs.GivenRows.{targets_below}
 use Rattle.mdp_discount.proofs.ScaledRows.{discounted-row}
-use Rattle.mdp_path.specs.Code.{fits_at}
 use Rattle.mdp_discount.proofs.Nodes.{node-count, state-can, state-fits, goes-state, goes-row}
 use Rattle.mdp_discount.proofs.MadeRows.{is_some-scaled, scaled-is}
 use Rattle.mdp_discount.proofs.problem.DiscountedShortestPath.row.Goals as goal
