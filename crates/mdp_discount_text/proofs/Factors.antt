@@ -1,5 +1,5 @@
 -- A discount factor by its numerator and denominator.
-use Rattle.std.proofs.Common.{◌≡◌, ℕ, Bool, true, false, ◌&&◌, ⊎_elim, refl, sym, ◌∙◌, ap, ap₂, subst, pos, ℤ, ◌*ℤ◌}
+use Rattle.std.proofs.Common.{◌≡◌, Bool, true, false, ◌&&◌, ⊎_elim, refl, sym, ◌∙◌, ap, ap₂, subst, pos, ℤ, ◌*ℤ◌}
 use Rattle.std.specs.Prelude.{◌<ℤ◌, ◌≤ℤ◌}
 use Rattle.std.proofs.lemmas.Bool.{cases_Bool}
 use Rattle.mdp_math.specs.Rational.{ℚ, of_int, le_ℚ, lt_ℚ, ◌≤ℚ◌, ◌<ℚ◌}
@@ -28,11 +28,11 @@ one-times x = ring int_ring 1 (λ x. lit (pos 1) ⊗ x) (λ x. x) refl x
 
 pub below-one : (f : ℚ) → f.num <ℤ pos f.den → f <ℚ 1ℚ
 unfolding of_int
-below-one f h = across_lt f 1ℚ (subst (λ (x : ℤ). x <ℤ pos 1 *ℤ pos f.den) (sym (times-one f.num)) (subst (λ (x : ℤ). f.num <ℤ x) (sym (one-times (pos f.den))) h))
+below-one f h = across_lt f 1ℚ (subst (λ (x : ℤ). x <ℤ (pos 1 *ℤ pos f.den)) (sym (times-one f.num)) (subst (λ (x : ℤ). f.num <ℤ x) (sym (one-times (pos f.den))) h))
 
 pub above-one : (f : ℚ) → pos f.den ≤ℤ f.num → 1ℚ ≤ℚ f
 unfolding of_int
-above-one f h = across_le 1ℚ f (subst (λ (x : ℤ). x ≤ℤ f.num *ℤ pos 1) (sym (one-times (pos f.den))) (subst (λ (x : ℤ). pos f.den ≤ℤ x) (sym (times-one f.num)) h))
+above-one f h = across_le 1ℚ f (subst (λ (x : ℤ). x ≤ℤ (f.num *ℤ pos 1)) (sym (one-times (pos f.den))) (subst (λ (x : ℤ). pos f.den ≤ℤ x) (sym (times-one f.num)) h))
 
 pub factor-is : (f : ℚ) → is_factor f ≡ true → IsFactor f
 factor-is f h = let p = and-parts (le_ℚ 0ℚ f) (lt_ℚ f 1ℚ) h in record { at_least_zero = le_of_test 0ℚ f p.0; below_one = lt_of_test f 1ℚ p.1 }

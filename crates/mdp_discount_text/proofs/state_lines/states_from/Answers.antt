@@ -1,4 +1,4 @@
-use Rattle.std.proofs.Common.{◌+◌, ◌-◌, ℕ, List, sym, ◌∙◌, ap, ap₂, arith}
+use Rattle.std.proofs.Common.{◌+◌, ◌-◌, ℕ, List, sym, ◌∙◌, ap₂, arith}
 use Rattle.std.proofs.lemmas.Result.{err_from_is_err_and}
 use Rattle.mdp_math.specs.Rational.{ℚ}
 use Rattle.mdp_cert.specs.Lines.{place}
@@ -7,13 +7,18 @@ use Rattle.mdp_discount_text.proofs.Reading.{onto, first-state, next-state, no-l
 use Rattle.mdp_discount_text.proofs.state_lines.states_from.Goals as goal
 
 pub loop-s-init : goal.loop-s-init
-loop-s-init c = ?
+loop-s-init c = record {
+  lines = omega arith;
+  said = ap₂ (λ (vs : List ℚ) (cs : List ℕ). onto vs cs (states_from (c.args.states - 0) 0 (place c.args.line c.args.bytes.now))) c.new.ensures.items c.new-2.ensures.items
+      ∙ first-state c.args.states (place c.args.line c.args.bytes.now);
+}
 
 pub returns-in_err-text-clause-said : goal.returns-in_err-text-clause-said
 returns-in_err-text-clause-said c =
     let p = err_from_is_err_and c.from_residual.result c.from_residual.ensures.1 in
     rw (p.1, p.2)
-    (sym c.loop-s.invariant.said ∙ no-line c.loop-s.columns.values.items c.loop-s.columns.choices.items c.args.states c.loop-s.s (place c.loop-s.next c.loop-s.rest.now) _ (omega arith) c.in_err-text.ensures)
+    (sym c.loop-s.invariant.said ∙ no-line c.loop-s.columns.values.items c.loop-s.columns.choices.items c.args.states c.loop-s.s (place c.loop-s.next c.loop-s.rest.now) _
+    (omega arith) c.in_err-text.ensures)
 
 pub returns-in_err-said-clause-said : goal.returns-in_err-said-clause-said
 returns-in_err-said-clause-said c =
