@@ -7,7 +7,7 @@ use Rattle.mdp_elim.specs.declared.too_wide.Part.TheVariants.{Whole}
 use Rattle.mdp_path.specs.Queries.{term_of}
 use Rattle.mdp_discount.specs.Problem.{discount_problem}
 use Rattle.mdp_discount.specs.Query.{start_of}
-use Rattle.mdp_discount.specs.Code.{IsFound}
+use Rattle.mdp_discount.specs.Code.{IsFound, cut_term}
 use Rattle.mdp_discount.proofs.Solving.{start-solvable, found-is}
 use Rattle.mdp_discount.proofs.Ending.{path-found, path-wide}
 use Rattle.mdp_discount.proofs.solve.path_end.Goals as goal
@@ -45,5 +45,5 @@ returns-in-Err-TooWide-clause-path c =
     (c.in-Err-TooWide.ensures {u = tt}).path) c.cut_wide.ensures.round
     (λ n.
     c.cut_wide.ensures.term n
-    ∙ ap (λ (k : ℕ). term_of Whole (record { number = n; policy = take k c.in-Err-TooWide.wide.policy.items; place = record { kind = c.in-Err-TooWide.wide.kind; node = c.in-Err-TooWide.wide.node; choice = c.in-Err-TooWide.wide.choice } }))
+    ∙ ap (λ (k : ℕ). term_of Whole (cut_term k c.in-Err-TooWide.wide n))
     c.states-states.ensures)
