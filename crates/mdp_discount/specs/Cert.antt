@@ -6,7 +6,7 @@ use Rattle.mdp_num.specs.Value.{IsNarrow}
 use Rattle.mdp_rows.specs.Name.{is_name}
 use Rattle.mdp_rows.specs.declared.dir.Dir.{Dir}
 use Rattle.mdp_cert.specs.declared.init.Init.{Init}
-use Rattle.mdp_cert.specs.declared.init.Init.TheVariants.{Missing, Finite, Infinite}
+use Rattle.mdp_cert.specs.declared.init.Init.TheVariants.{Missing, Finite, Infinite, Start}
 use Rattle.mdp_discount.specs.Rules.{IsFactor}
 
 pub record Certificate : Type 0 where
@@ -24,11 +24,13 @@ abbrev pub is_init : ℕ → Init → Bool
 is_init states Missing = true
 is_init states (Finite s value) = nat_lt s states
 is_init states (Infinite s) = false
+is_init states (Start s) = false
 
 abbrev pub IsInitNarrow : Init → Type 0
 IsInitNarrow Missing = Unit {0}
 IsInitNarrow (Finite s value) = IsNarrow value
 IsInitNarrow (Infinite s) = ⊥
+IsInitNarrow (Start s) = ⊥
 
 -- the certificates that have a text: of 1 to 2^20 states with a value and a choice each, all numbers in width
 pub record Fits (c : Certificate) : Type 0 where

@@ -5,7 +5,7 @@ use Rattle.mdp_num.specs.Equal.{eq_ℚ}
 use Rattle.mdp_spec.specs.Mdp.{Mdp, states_of, value_at}
 use Rattle.mdp_spec.specs.Labels.{place_of, initial_of}
 use Rattle.mdp_cert.specs.declared.init.Init.{Init}
-use Rattle.mdp_cert.specs.declared.init.Init.TheVariants.{Missing, Finite, Infinite}
+use Rattle.mdp_cert.specs.declared.init.Init.TheVariants.{Missing, Finite, Infinite, Start}
 use Rattle.mdp_farkas.specs.Verdict.{verdict_of}
 use Rattle.mdp_farkas.specs.declared.verdict.Verdict.{Verdict}
 use Rattle.mdp_farkas.specs.declared.verdict.Verdict.TheVariants as verdict
@@ -35,6 +35,7 @@ init_check Missing None v = verdict.Yes
 init_check Missing (Some t) v = init_fault None
 init_check (Finite s x) initial v = state_check s initial (is_value v s x)
 init_check (Infinite s) initial v = init_fault (Some s)
+init_check (Start s) initial v = init_fault (Some s)
 
 -- ---- the answer
 

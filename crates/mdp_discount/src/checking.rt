@@ -53,6 +53,7 @@ fn init_verdict(model: &Model, init: &Init, values: &[Frac]) -> Verdict
             state_verdict(*state, initial, is_value(values, *state, value))
         }
         (Init::Infinite(state), _) => init_fault(Some(*state)),
+        (Init::Start(state), _) => init_fault(Some(*state)),
     }
 }
 

@@ -10,7 +10,7 @@ use Rattle.mdp_rows.specs.Name.{is_name}
 use Rattle.mdp_cert.specs.declared.error.CertKind.TheVariants.{Version, Shape, End}
 use Rattle.mdp_cert.specs.declared.error.Refusal.{Refusal}
 use Rattle.mdp_cert.specs.declared.init.Init.{Init}
-use Rattle.mdp_cert.specs.declared.init.Init.TheVariants.{Missing, Finite, Infinite}
+use Rattle.mdp_cert.specs.declared.init.Init.TheVariants.{Missing, Finite, Infinite, Start}
 use Rattle.mdp_cert.specs.Cert.{upper, is_init_of, IsInitInWidth}
 use Rattle.mdp_cert.specs.Lines.{◌>>=◌, is_line, Place, place, next_line, line_by}
 use Rattle.mdp_cert.specs.Words.{first_of, words_behind, frac_at}
@@ -35,16 +35,19 @@ init-is : (states : ℕ) (init : Init) → is_init_of (upper []) states init ≡
 init-is states Missing = refl
 init-is states (Finite s value) = refl
 init-is states (Infinite s) = refl
+init-is states (Start s) = refl
 
 init-narrow : (states : ℕ) (init : Init) → is_init_of (upper []) states init ≡ true → IsInitInWidth init → IsInitNarrow init
 init-narrow states Missing h k = tt
 init-narrow states (Finite s value) h k = k
 init-narrow states (Infinite s) h k = absurd (true≢false (sym h))
+init-narrow states (Start s) h k = absurd (true≢false (sym h))
 
 init-wide : (init : Init) → IsInitNarrow init → IsInitInWidth init
 init-wide Missing k = tt
 init-wide (Finite s value) k = k
 init-wide (Infinite s) k = absurd k
+init-wide (Start s) k = absurd k
 
 -- ---- the line of the remainder
 

@@ -2,7 +2,7 @@ ghost use Rattle.std.specs.Prelude.{◌≡◌, ◌++◌, ◌∷◌, [], length, 
 ghost use Rattle.mdp_num.specs.Value.{spelling};
 ghost use Rattle.mdp_cert.specs.Answer.{Keeps};
 ghost use Rattle.mdp_cert.specs.Spelling.{line, states_text, init_text, end_text};
-ghost use Rattle.mdp_cert.specs.declared.init.Init.TheVariants.{Missing, Finite, Infinite};
+ghost use Rattle.mdp_cert.specs.declared.init.Init.TheVariants.{Missing, Finite, Infinite, Start};
 ghost use Rattle.mdp_discount_text.specs.Spelling.{version_text, claim_text, remainder_text, state_text, state_lines};
 ghost use Rattle.mdp_discount_text.specs.Text.{claim_front};
 
@@ -107,6 +107,17 @@ fn push_infinite(out: &mut Vec<u8>, state: u32) -> Result<(), Memory>
     Ok(())
 }
 
+/// Appends the line of a given initial state without a value.
+fn push_start(out: &mut Vec<u8>, state: u32) -> Result<(), Memory>
+    ensures text { OnOk result (out.new.items ≡ out.old.items ++ line (init_text (Start state))) }
+    ensures front { Keeps out.old.items out.new.items }
+{
+    out.extend_from_slice(b"init ")?;
+    push_whole(out, u64::from(state))?;
+    out.extend_from_slice(b"\n")?;
+    Ok(())
+}
+
 /// Appends the line of the initial state.
 pub(crate) fn push_init(out: &mut Vec<u8>, init: &Init) -> Result<(), Memory>
     ensures text { OnOk result (out.new.items ≡ out.old.items ++ line (init_text init.now)) }
@@ -119,6 +130,7 @@ pub(crate) fn push_init(out: &mut Vec<u8>, init: &Init) -> Result<(), Memory>
         }
         Init::Finite(state, value) => push_finite(out, *state, value),
         Init::Infinite(state) => push_infinite(out, *state),
+        Init::Start(state) => push_start(out, *state),
     }
 }
 

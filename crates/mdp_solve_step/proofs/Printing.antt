@@ -38,12 +38,12 @@ use Rattle.mdp_reach.proofs.Starts.{start-solvable}
 use Rattle.mdp_reward.specs.Query as rewarded
 use Rattle.mdp_cert.specs.declared.init.Init.{Init}
 use Rattle.mdp_cert.specs.Cert as certificate
-use Rattle.mdp_cert.specs.Cert.{PlainClaim, PlainBody, Certificate, may_be_infinite, is_init_of, is_body_of, Fits}
+use Rattle.mdp_cert.specs.Cert.{PlainClaim, PlainBody, Certificate, may_be_infinite, is_witness, is_init_of, is_body_of, Fits}
 use Rattle.mdp_cert.specs.Claims.{reward_same}
 use Rattle.mdp_cert.specs.Reading.{outcome}
 use Rattle.mdp_cert.specs.Spelling.{text_of}
 use Rattle.mdp_cert.specs.Laws.{IsReadBack}
-use Rattle.mdp_check.specs.Initial.{has_value, init_check, init_fault}
+use Rattle.mdp_check.specs.Initial.{has_value, is_subsystem, init_check, init_fault}
 use Rattle.mdp_check.specs.Check.{labelled_marks, IsAccepted}
 use Rattle.mdp_check.proofs.Accepting.{accepted_is_bound}
 use Rattle.mdp_job.specs.Refusal.{no_memory, query_reward, query_label, query_negative, too_wide}
@@ -143,9 +143,9 @@ reward_choices_size Min m r goals v cs rs h = h.choices.one_each
 -- ---- the certificate
 
 -- the line `init` is right of a body that has these values
-init_holds : (i : Option ℕ) (value : ℕ → Option ℚ) (body : PlainBody) → ((s : ℕ) → i ≡ Some s → has_value body s (value s) ≡ true) → init_check (init_by i value) i body ≡ Yes
-init_holds None value body h = refl
-init_holds (Some s) value body h = by (value s) (h s refl)
+init_holds : (i : Option ℕ) (value : ℕ → Option ℚ) (body : PlainBody) → is_subsystem body ≡ false → ((s : ℕ) → i ≡ Some s → has_value body s (value s) ≡ true) → init_check (init_by i value) i body ≡ Yes
+init_holds None value body plain h = ap (λ (b : Bool). cond b (init_fault None) Yes) plain
+init_holds (Some s) value body plain h = by (value s) (h s refl)
   where
     valued : (b : Bool) → b ≡ true → cond (eqb s s && b) Yes (init_fault (Some s)) ≡ Yes
     valued b e = ap₂ (λ (a b : Bool). cond (a && b) Yes (init_fault (Some s))) (eq-eqb s s refl) e
@@ -173,21 +173,21 @@ pub may_be_reward : (dir : Dir) (name label : List ℕ) (v : Option ℚ) → may
 may_be_reward dir name label None = refl
 may_be_reward dir name label (Some x) = refl
 
-inside_by : (claim : PlainClaim) (i : Option ℕ) (value : ℕ → Option ℚ) (n : ℕ) → ((s : ℕ) → i ≡ Some s → (s < n) × (may_stand claim (value s) ≡ true)) → is_init_of claim n (init_by i value) ≡ true
-inside_by claim None value n h = refl
-inside_by claim (Some s) value n h = by (value s) (h s refl).1
+inside_by : (claim : PlainClaim) → is_witness claim ≡ false → (i : Option ℕ) (value : ℕ → Option ℚ) (n : ℕ) → ((s : ℕ) → i ≡ Some s → (s < n) × (may_stand claim (value s) ≡ true)) → is_init_of claim n (init_by i value) ≡ true
+inside_by claim plain None value n h = ap not plain
+inside_by claim plain (Some s) value n h = by (value s) (h s refl).1
   where
     below : nat_lt s n ≡ true
     below = lt-ltb s n (h s refl).0
 
     by : (v : Option ℚ) → may_stand claim v ≡ true → is_init_of claim n (init_at s v) ≡ true
     by None e = ap₂ (λ (a b : Bool). a && b) e below
-    by (Some x) e = below
+    by (Some x) e = ap₂ (λ (a b : Bool). a && b) (ap not plain) below
 
-pub init_inside : (claim : PlainClaim) (m : Mdp) (value : ℕ → Option ℚ) (n : ℕ) (init : Init) → n ≡ states_of m → ((s : ℕ) → may_stand claim (value s) ≡ true) → init ≡ init_by (initial_of m) value
+pub init_inside : (claim : PlainClaim) → is_witness claim ≡ false → (m : Mdp) (value : ℕ → Option ℚ) (n : ℕ) (init : Init) → n ≡ states_of m → ((s : ℕ) → may_stand claim (value s) ≡ true) → init ≡ init_by (initial_of m) value
     → is_init_of claim n init ≡ true
-init_inside claim m value n init e may i =
-    ap (is_init_of claim n) i ∙ inside_by claim (initial_of m) value n (λ s h. (let l = initial_below m s h in omega (arith, l, e), may s))
+init_inside claim plain m value n init e may i =
+    ap (is_init_of claim n) i ∙ inside_by claim plain (initial_of m) value n (λ s h. (let l = initial_below m s h in omega (arith, l, e), may s))
 
 three : {V : Type 0} (states n : ℕ) (zs : List V) (cs rs : List ℕ) → n ≡ states → length zs ≡ states → length cs ≡ states → length rs ≡ states
     → (eqb (length zs) n && eqb (length cs) n && eqb (length rs) n) ≡ true
@@ -206,12 +206,12 @@ marks_found : (m : Mdp) (label : List ℕ) (l : ℕ) → place_of label m.labels
 marks_found m label l e = ap (option_map (marks_of m)) e
 
 -- a certificate that belongs to the model is shown by its text
-pub printed_by : (m : Mdp) (c : Certificate) → IsMdp m → IsReadBack → IsAccepted m c → Fits c → (text : List ℕ) → text ≡ text_of c → IsClaimPrinted c.claim m text
-printed_by m c mdp back accepted fits text spelled = record {
+pub printed_by : (m : Mdp) (c : Certificate) → is_witness c.claim ≡ false → IsMdp m → IsReadBack → IsAccepted m c → Fits c → (text : List ℕ) → text ≡ text_of c → IsClaimPrinted c.claim m text
+printed_by m c plain mdp back accepted fits text spelled = record {
   cert = c;
   claim = refl;
   spelled = spelled;
-  short = subst (λ (t : List ℕ). length t ≤ most_bytes) (sym spelled) (text_short c fits);
+  short = subst (λ (t : List ℕ). length t ≤ most_bytes) (sym spelled) (text_short c fits plain);
   reads = ap outcome spelled ∙ (back c fits).0;
   holds = accepted;
   bound = accepted_is_bound m c mdp accepted;
@@ -227,12 +227,12 @@ module _ (dir : Dir) (label : List ℕ) (m : Mdp) (l : ℕ) (a : Answer) (found 
     named = refl;
     goals = marks_of m l;
     marked = marks_found m label l found;
-    init = init_holds (initial_of m) _ _ (λ s e. reach_valued a.values a.choices a.ranks s (let lt = initial_below m s e in let n = sizes.values in omega (arith, lt, n)));
+    init = init_holds (initial_of m) _ (certificate.policy a.values a.choices a.ranks) refl (λ s e. reach_valued a.values a.choices a.ranks s (let lt = initial_below m s e in let n = sizes.values in omega (arith, lt, n)));
     body = rules;
   }
 
   pub printed : IsMdp m → IsReadBack → (text : List ℕ) → Fits (certificate_of dir label m a) → text ≡ text_of (certificate_of dir label m a) → IsReachPrinted dir label m text
-  printed mdp back text fits spelled = printed_by m (certificate_of dir label m a) mdp back accepted fits text spelled
+  printed mdp back text fits spelled = printed_by m (certificate_of dir label m a) refl mdp back accepted fits text spelled
 
 module _ (dir : Dir) (name label : List ℕ) (m : Mdp) (r l : ℕ) (a : rewarded.Answer) (named : place_of name m.names ≡ Some r) (found : place_of label m.labels ≡ Some l)
     (rules : IsReward dir m r (marks_of m l) a.values a.choices a.ranks) (ranks : length a.ranks ≡ states_of m) where
@@ -248,13 +248,13 @@ module _ (dir : Dir) (name label : List ℕ) (m : Mdp) (r l : ℕ) (a : rewarded
     named = named;
     goals = marks_of m l;
     marked = marks_found m label l found;
-    init = init_holds (initial_of m) _ _ (λ s e. reward_valued a.values a.choices a.ranks s (let lt = initial_below m s e in let n = values in omega (arith, lt, n)));
+    init = init_holds (initial_of m) _ (certificate.rewards a.values a.choices a.ranks) refl (λ s e. reward_valued a.values a.choices a.ranks s (let lt = initial_below m s e in let n = values in omega (arith, lt, n)));
     body = rules;
   }
 
   pub reward_printed : IsMdp m → IsReadBack → (text : List ℕ) → Fits (reward_certificate_of dir name label m a) → text ≡ text_of (reward_certificate_of dir name label m a)
       → IsRewardPrinted dir name label m text
-  reward_printed mdp back text fits spelled = printed_by m (reward_certificate_of dir name label m a) mdp back reward_accepted fits text spelled
+  reward_printed mdp back text fits spelled = printed_by m (reward_certificate_of dir name label m a) refl mdp back reward_accepted fits text spelled
 
 -- ---- names
 

@@ -1,6 +1,6 @@
--- The text of a certificate has at most 2^30 bytes.
+-- The text of a certificate whose claim is no subsystem's has at most 2^30 bytes.
 use Rattle.std.proofs.Common.{◌≡◌, ℕ, suc, ◌+◌, ◌*◌, ◌<◌, ◌≤◌, ◌^◌, Bool, true, false, cond, eqb, List, [], ◌∷◌, ◌++◌, length, codes, decimal, Option, Some, None, refl, arith, lit<, ℤ, pos}
-use Rattle.std.proofs.Common.{negsuc, unsigned_abs, ltb→lt, T, sym, subst}
+use Rattle.std.proofs.Common.{negsuc, unsigned_abs, ltb→lt, T, sym, subst, not}
 use Rattle.std.specs.Fmt.{signed_decimal}
 use Rattle.std.specs.List.{AllByRecursion as Each}
 use Rattle.std.proofs.lemmas.Bool.{and_parts, leb-true}
@@ -13,8 +13,10 @@ use Rattle.mdp_rows.specs.Name.{is_name}
 use Rattle.mdp_rows.specs.declared.dir.Dir.{Dir}
 use Rattle.mdp_rows.specs.declared.dir.Dir.TheVariants.{Max, Min}
 use Rattle.mdp_cert.specs.declared.init.Init.{Init}
-use Rattle.mdp_cert.specs.declared.init.Init.TheVariants.{Missing, Finite, Infinite}
-use Rattle.mdp_cert.specs.Cert.{PlainClaim, upper, reach, reward, mean, are_names, may_be_infinite, PlainBody, bounds, policy, rewards, gains, is_init_of, is_body_of}
+use Rattle.mdp_cert.specs.declared.init.Init.TheVariants.{Missing, Finite, Infinite, Start}
+use Rattle.mdp_flow.specs.declared.flow.Flow.{Flow}
+use Rattle.mdp_cert.specs.Cert.{PlainClaim, upper, reach, reward, mean, witness, are_names, may_be_infinite, is_witness}
+use Rattle.mdp_cert.specs.Cert.{PlainBody, bounds, policy, rewards, gains, flow, floor, is_init_of, is_body_of}
 use Rattle.mdp_cert.specs.Cert.{IsInitInWidth, IsValueNarrow, IsBodyInWidth, Certificate, Fits}
 use Rattle.mdp_cert.specs.Claims.{Value, fraction_value, reward_value, reward_text, bound_columns, policy_columns, IsPolicyInWidth, policies, mean_columns, IsMeanInWidth, means}
 use Rattle.mdp_cert.specs.Runs.{Columns, Run, run, single, before_runs, longest_runs}
@@ -69,20 +71,21 @@ two_words dir word rest =
     let n = dir_length dir in
     omega (arith, a, b, c, n)
 
-claim_short : (claim : PlainClaim) → are_names claim ≡ true → length (claim_text claim) ≤ 600
-claim_short (upper label) h =
+-- of a claim that is no subsystem's
+claim_short : (claim : PlainClaim) → is_witness claim ≡ false → are_names claim ≡ true → length (claim_text claim) ≤ 600
+claim_short (upper label) plain h =
     let a = blank_length (codes "claim") (codes "upper" ␣ codes "reach" ␣ quoted label) in
     let b = blank_length (codes "upper") (codes "reach" ␣ quoted label) in
     let c = blank_length (codes "reach") (quoted label) in
     let d = quoted_length label in
     let l = name_short label h in
     omega (arith, a, b, c, d, l)
-claim_short (reach dir label) h =
+claim_short (reach dir label) plain h =
     let a = two_words dir (codes "reach") (quoted label) in
     let d = quoted_length label in
     let l = name_short label h in
     omega (arith, a, d, l)
-claim_short (reward dir name label) h =
+claim_short (reward dir name label) plain h =
     let a = two_words dir (codes "reward") (quoted name ␣ quoted label) in
     let b = blank_length (quoted name) (quoted label) in
     let c = quoted_length name in
@@ -91,11 +94,12 @@ claim_short (reward dir name label) h =
     let n = name_short name names.0 in
     let l = name_short label names.1 in
     omega (arith, a, b, c, d, n, l)
-claim_short (mean dir name) h =
+claim_short (mean dir name) plain h =
     let a = two_words dir (codes "mean") (quoted name) in
     let d = quoted_length name in
     let l = name_short name h in
     omega (arith, a, d, l)
+claim_short (witness dir label threshold) plain h = cc plain
 
 states_short : (n : ℕ) → n < 2 ^ 32 → length (states_text n) ≤ 30
 states_short n h = let a = blank_length (codes "states") (decimal n) in let l = number_short n h in omega (arith, a, l)
@@ -105,6 +109,7 @@ abbrev IsShortInit : Init → Type 0
 IsShortInit Missing = Unit {0}
 IsShortInit (Finite state value) = state < 2 ^ 32
 IsShortInit (Infinite state) = state < 2 ^ 32
+IsShortInit (Start state) = state < 2 ^ 32
 
 init_short : (init : Init) → IsShortInit init → IsInitInWidth init → length (init_text init) ≤ 150
 init_short Missing h w = omega arith
@@ -119,6 +124,7 @@ init_short (Infinite state) h w =
     let b = blank_length (decimal state) (codes "inf") in
     let l = number_short state h in
     omega (arith, a, b, l)
+init_short (Start state) h w = let a = blank_length (codes "init") (decimal state) in let l = number_short state h in omega (arith, a, l)
 
 -- ---- the lines of the states
 
@@ -261,9 +267,27 @@ module _ {A : Type 0} (k : Columns A) (P : A → Type 0) (short : (x : A) → P 
 
 inside_short : (claim : PlainClaim) (n : ℕ) (init : Init) → n ≤ 2 ^ 20 → is_init_of claim n init ≡ true → IsShortInit init
 inside_short claim n Missing limit h = tt
-inside_short claim n (Finite state value) limit h = let p : 2 ^ 20 < 2 ^ 32 = lit< tt in let l = ltb→lt state n (subst T (sym h) tt) in omega (arith, limit, p, l)
+inside_short claim n (Finite state value) limit h =
+    let p : 2 ^ 20 < 2 ^ 32 = lit< tt in let l = ltb→lt state n (subst T (sym (and_parts (not (is_witness claim)) _ h).1) tt) in omega (arith, limit, p, l)
 inside_short claim n (Infinite state) limit h =
     let p : 2 ^ 20 < 2 ^ 32 = lit< tt in let l = ltb→lt state n (subst T (sym (and_parts (may_be_infinite claim) _ h).1) tt) in omega (arith, limit, p, l)
+inside_short claim n (Start state) limit h =
+    let p : 2 ^ 20 < 2 ^ 32 = lit< tt in let l = ltb→lt state n (subst T (sym (and_parts (is_witness claim) _ h).1) tt) in omega (arith, limit, p, l)
+
+-- the body of a claim that is no subsystem's isn't that of a subsystem
+no_flow : (claim : PlainClaim) (n : ℕ) (kept : List ℕ) (wide : List Bool) (flows : List Flow) → is_witness claim ≡ false → is_body_of claim n (flow kept wide flows) ≡ true → ⊥
+no_flow (upper label) n kept wide flows plain h = cc h
+no_flow (reach dir label) n kept wide flows plain h = cc h
+no_flow (reward dir name label) n kept wide flows plain h = cc h
+no_flow (mean dir name) n kept wide flows plain h = cc h
+no_flow (witness dir label threshold) n kept wide flows plain h = cc plain
+
+no_floor : (claim : PlainClaim) (n : ℕ) (kept : List ℕ) (wide : List Bool) (zs : List ℚ) (rs : List ℕ) → is_witness claim ≡ false → is_body_of claim n (floor kept wide zs rs) ≡ true → ⊥
+no_floor (upper label) n kept wide zs rs plain h = cc h
+no_floor (reach dir label) n kept wide zs rs plain h = cc h
+no_floor (reward dir name label) n kept wide zs rs plain h = cc h
+no_floor (mean dir name) n kept wide zs rs plain h = cc h
+no_floor (witness dir label threshold) n kept wide zs rs plain h = cc plain
 
 module _ (states : ℕ) (limit : states ≤ 2 ^ 20) where
   three_short :
@@ -294,7 +318,7 @@ module _ (states : ℕ) (limit : states ≤ 2 ^ 20) where
       let l = closed_short mean_columns IsMeanInWidth (λ x h. means_short x.gain x.bound x.bias x.choice h.gain h.bound h.bias h.choice) (means gs zs bs cs) (omega (arith, x, count, limit)) (means_width gs zs bs cs p q o n) in
       omega (arith, x, count, l)
 
-module _ (c : Certificate) (fits : Fits c) where
+module _ (c : Certificate) (fits : Fits c) (plain : is_witness c.claim ≡ false) where
   head_short : length (head_text c) ≤ 800
   head_short =
       let limit = fits.limit in
@@ -304,7 +328,7 @@ module _ (c : Certificate) (fits : Fits c) where
       let x = line_length (claim_text c.claim) in
       let d = line_length (states_text c.states) in
       let e = line_length (init_text c.init) in
-      let f = claim_short c.claim fits.names in
+      let f = claim_short c.claim plain fits.names in
       let g = states_short c.states (omega (arith, p, limit)) in
       let h = init_short c.init (inside_short c.claim c.states c.init limit fits.inside) fits.init_width in
       omega (arith, a, b, x, d, e, f, g, h)
@@ -345,6 +369,8 @@ module _ (c : Certificate) (fits : Fits c) where
       whole_short (line (spread_text k) ++ lines_of mean_columns (means gs zs bs cs))
       (spread_lines_short k _ w.4 (means_lines_short c.states fits.limit gs zs bs cs (gains-entries c.claim c.states gs zs bs cs k h) (recursion_from_All IsNarrow gs w.0)
       (recursion_from_All IsNarrow zs w.1) (recursion_from_All IsNarrow bs w.2) (recursion_from_All (λ c. c < 2 ^ 32) cs w.3)))
+  by_body (flow kept wide flows) h w = absurd (no_flow c.claim c.states kept wide flows plain h)
+  by_body (floor kept wide zs rs) h w = absurd (no_floor c.claim c.states kept wide zs rs plain h)
 
   pub text_short : length (text_of c) ≤ 2 ^ 30
   text_short = by_body c.body fits.entries fits.body_width

@@ -9,7 +9,8 @@ invariant_of-result c = record {
   some = let e = c.states.ensures in let l = c.known.ensures.mdp.some in omega (arith, e, l);
   limit = let e = c.states.ensures in let l = c.known.ensures.mdp.few in omega (arith, e, l);
   names = c.requires.name;
-  inside = init_inside (reach c.args.dir c.args.label.items) c.args.model.now (λ s. Some (value_at c.deref-4.result.now s)) c.states.result
+  threshold = refl;
+  inside = init_inside (reach c.args.dir c.args.label.items) refl c.args.model.now (λ s. Some (value_at c.deref-4.result.now s)) c.states.result
       c.init_of-init.result c.states.ensures (λ s. refl) c.init_of-init.ensures;
   entries = body_entries c.args.dir c.args.label.items _ _ _ _ _ c.states.ensures c.requires.values c.requires.choices c.requires.ranks;
 }
