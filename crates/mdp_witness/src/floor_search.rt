@@ -193,11 +193,12 @@ impl Subsystems<'_, '_> {
             Verdict::Yes => Ok(Subsystem::Min(cert)),
             Verdict::No(_) => unreachable!(),
             Verdict::Wide { state, choice } => {
-                let round = self.round_of(alloc, &left.kept, &left.last)?;
+                let Left { kept, wide: _, last } = left;
+                let round = self.round_of(alloc, &kept, &last)?;
                 Err(WitnessError::TooWide(TooWide {
                     part: Part::Floor,
                     round,
-                    policy: left.last.choices,
+                    policy: last.choices,
                     kind: Kind::Check,
                     state,
                     choice,

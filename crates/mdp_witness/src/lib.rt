@@ -12,9 +12,9 @@ mod round;
 mod subsystem;
 mod trial;
 mod visited;
-mod witness;
+mod witnessing;
 
 pub use laws::witness_law;
 pub use subsystem::{Subsystem, WitnessError};
 pub use trial::Trial;
-pub use witness::witness;
+pub use witnessing::witness;

@@ -60,13 +60,15 @@ pub(crate) fn last_round(
     reach_law();
     let _answered = cert;
     let start = start_of(alloc, model, goals, dir)?;
+    let first = start.choices;
+    let marks = start.marks;
     let problem = Reach {
         dir,
         model,
         goals,
-        marks: &start.marks,
+        marks: &marks,
     };
-    match improve(alloc, &problem, start.choices) {
+    match improve(alloc, &problem, first) {
         Ok(found) => Ok(found.round),
         Err(PathError::TooWide(_)) => unreachable!(),
         Err(PathError::Memory) => Err(Memory),
