@@ -1,4 +1,4 @@
-ghost use Rattle.std.specs.Prelude.{◌≡◌, ◌<◌, length, fold, IfOk, OnOk};
+ghost use Rattle.std.specs.Prelude.{◌≡◌, ◌<◌, [], ◌∷◌, ◌++◌, false, length, fold, replicate, IfOk, OnOk, IfSome, IfNone};
 ghost use Rattle.std.specs.List.{All, range_with_len};
 ghost use Rattle.mdp_spec.specs.Mdp.{states_of, choices_at};
 ghost use Rattle.mdp_spec.specs.Tree.{IsPolicy};
@@ -35,6 +35,35 @@ impl std::marker::Model for Front {
     ghost Value = { Front };
 
     ghost view = { λ f. record { found = f.found; waiting = f.waiting.items } };
+}
+
+impl Front {
+    /// No state is found.
+    fn empty(alloc: Global, states: u32) -> Result<Front, Memory>
+        ensures found { IfOk result (λ front. front.found ≡ replicate states false) }
+        ensures waiting { IfOk result (λ front. front.waiting ≡ []) }
+    {
+        Ok(Front {
+            found: Marks::empty(alloc, states)?,
+            waiting: Vec::new(alloc),
+        })
+    }
+
+    /// The next state to be looked at, which waits no longer.
+    fn next(&mut self) -> Option<u32>
+        ensures found { self.new.found ≡ self.old.found }
+        ensures last { IfSome result (λ s. self.old.waiting ≡ self.new.waiting ++ s ∷ []) }
+        ensures none { IfNone result (self.old.waiting ≡ []) }
+    {
+        self.waiting.pop()
+    }
+
+    /// The states that were found.
+    fn into_found(self) -> Marks
+        ensures { result ≡ self.found }
+    {
+        self.found
+    }
 }
 
 impl Query<'_, '_, '_, '_> {
@@ -82,7 +111,8 @@ impl Query<'_, '_, '_, '_> {
         ensures count { OnOk result (length front.new.found ≡ states_of self.now.model.now) }
     {
         let row = self.model.row(s, c);
-        self.find_each(front, row.targets)
+        self.find_each(front, row.targets)?;
+        Ok(())
     }
 
     /// Finds the open targets of all choices of state `s`.
@@ -116,14 +146,12 @@ impl Query<'_, '_, '_, '_> {
         requires { start < states_of self.now.model.now }
         ensures { IfOk result (λ first. IsFirst self.now.dir self.now.model.now self.now.goals.now self.now.values.now self.now.policy.now start first) }
     {
-        let mut front = Front {
-            found: Marks::empty(alloc, self.model.states())?,
-            waiting: Vec::new(alloc),
-        };
+        self.model.known();
+        let mut front = Front::empty(alloc, self.model.states())?;
         self.find(&mut front, start)?;
-        while let Some(s) = front.waiting.pop() {
+        while let Some(s) = front.next() {
             self.find_next(&mut front, s)?;
         }
-        Ok(front.found)
+        Ok(front.into_found())
     }
 }

@@ -28,6 +28,14 @@ pub(crate) fn marks_at(
     states.iter().map(|s| marks.at(*s)).collect(alloc)
 }
 
+/// The value of state `s`.
+fn value_of(values: &[Frac], s: u32) -> Frac
+    requires { s < length values.now }
+    ensures { result ≡ value_at values.now s }
+{
+    values[s as usize]
+}
+
 /// The values of these states.
 pub(crate) fn values_at(
     alloc: Global,
@@ -37,7 +45,7 @@ pub(crate) fn values_at(
     requires { All (λ s. s < length values.now) states.now }
     ensures { IfOk result (λ list. list.items ≡ map (value_at values.now) states.now) }
 {
-    states.iter().map(|s| values[*s as usize]).collect(alloc)
+    states.iter().map(|s| value_of(values, *s)).collect(alloc)
 }
 
 /// The ranks of these states.

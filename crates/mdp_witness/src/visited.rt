@@ -1,7 +1,7 @@
 ghost use Rattle.std.specs.Prelude.{ℕ, ◌≡◌, ◌<◌, length, Err, IfOk, slice_index};
 ghost use Rattle.std.specs.Result.{result_ok};
 ghost use Rattle.std.specs.List.{All};
-ghost use Rattle.mdp_spec.specs.Mdp.{states_of, row_at};
+ghost use Rattle.mdp_spec.specs.Mdp.{states_of, row_at, value_at};
 ghost use Rattle.mdp_spec.specs.Row.{entries};
 ghost use Rattle.mdp_spec.specs.Tree.{IsPolicy};
 ghost use Rattle.mdp_elim.specs.System.{Leaves};
@@ -67,11 +67,11 @@ fn with_arrival(
 }
 
 /// `sum`, and the visits times the probability of each entry to a goal.
-fn with_arrivals(goals: &Marks, visits: &Frac, sum: &Frac, row: Row<'_>) -> Result<Frac, Wide>
+fn with_arrivals(goals: &Marks, visits: &Frac, start: &Frac, row: Row<'_>) -> Result<Frac, Wide>
     requires { All (λ t. t < length goals.now) row.targets.now }
-    ensures { result_ok result ≡ with_arrivals goals.now visits.now sum.now (entries row.entry.targets.now row.entry.probs.now) }
+    ensures { result_ok result ≡ with_arrivals goals.now visits.now start.now (entries row.entry.targets.now row.entry.probs.now) }
 {
-    let mut sum = *sum;
+    let mut sum = *start;
     for i in 0..row.targets.len() {
         sum = with_arrival(goals, visits, &sum, row.targets[i], &row.probs[i])?;
     }
@@ -90,13 +90,17 @@ fn placed(s: u32, sum: Result<Frac, Wide>) -> Result<Frac, ElimError>
 
 impl Policy<'_, '_, '_, '_> {
     /// `sum`, and the arrivals from state `s`.
-    fn arrivals_at(&self, visits: &Frac, sum: &Frac, s: u32) -> Result<Frac, ElimError>
-        requires { s < states_of self.now.model.now }
-        ensures sum { Answers (λ x. x) result (placed s (with_arrivals self.now.goals.now visits.now sum.now (row_at self.now.model.now s (slice_index self.now.choices.now s)))) }
+    fn arrivals_at(&self, visits: &[Frac], sum: &Frac, s: u32) -> Result<Frac, ElimError>
+        requires state { s < states_of self.now.model.now }
+        requires visits { length visits.now ≡ states_of self.now.model.now }
+        ensures sum { Answers (λ x. x) result (placed s (with_arrivals self.now.goals.now (value_at visits.now s) sum.now (row_at self.now.model.now s (slice_index self.now.choices.now s)))) }
         ensures place { (t : ℕ) → result ≡ Err (ElimError.Wide t) → t ≡ s }
     {
         let row = self.model.row(s, self.choices[s as usize]);
-        placed(s, with_arrivals(self.goals, visits, sum, row))
+        placed(
+            s,
+            with_arrivals(self.goals, &visits[s as usize], sum, row),
+        )
     }
 
     /// The arrivals from all states of the set.
@@ -109,7 +113,10 @@ impl Policy<'_, '_, '_, '_> {
         let mut sum = goal_source(self.goals, self.start);
         for s in 0..self.model.states() {
             if set.at(s) {
-                sum = self.arrivals_at(&visits[s as usize], &sum, s)?;
+                match self.arrivals_at(visits, &sum, s) {
+                    Ok(next) => sum = next,
+                    Err(error) => return Err(error),
+                }
             }
         }
         Ok(sum)
@@ -146,8 +153,13 @@ impl Policy<'_, '_, '_, '_> {
         ensures count { IfOk result (λ v. length v.visits.items ≡ states_of self.now.model.now) }
         ensures found { Answers plain result (visited self.now.model.now self.now.goals.now self.now.choices.now self.now.start set.now) }
     {
-        let visits = self.visits_on(alloc, set)?;
-        let value = self.arrivals(set, &visits)?;
-        Ok(Visited { visits, value })
+        let visits = match self.visits_on(alloc, set) {
+            Ok(visits) => visits,
+            Err(error) => return Err(error),
+        };
+        match self.arrivals(set, &visits) {
+            Ok(value) => Ok(Visited { visits, value }),
+            Err(error) => Err(error),
+        }
     }
 }

@@ -1,0 +1,4 @@
+pub mod Fronts
+pub mod Finding
+pub mod Arrivals
+pub mod Trying
