@@ -1,13 +1,12 @@
 -- The best hit of each depth, and the least: at each state that is no goal the choice is picked whose row weighs most, or least, with as many
 -- steps left. A tree reaches it, and no tree passes it.
-use Rattle.std.proofs.Common.{◌≡◌, ℕ, zero, suc, ◌<◌, ◌≤◌, ⊎_elim, Bool, true, false, cond, eqb, List, [], ◌∷◌, length, get_or, refl, sym, ◌∙◌, ap, subst, arith, pos}
-use Rattle.std.proofs.lemmas.List.{get_or_default}
-use Rattle.std.proofs.lemmas.Bool.{cases_Bool, cases_eq, eqb-true, eq-eqb, ne_eqb}
-use Rattle.mdp_math.specs.Rational.{ℚ, of_int, ◌*ℚ◌, ◌≤ℚ◌, ◌<ℚ◌}
+use Rattle.std.proofs.Common.{◌≡◌, ℕ, zero, suc, ◌<◌, ◌≤◌, ⊎_elim, Bool, true, false, cond, eqb, List, length, get_or, refl, sym, ◌∙◌, ap, subst, arith}
+use Rattle.std.proofs.lemmas.Bool.{cases_Bool}
+use Rattle.mdp_math.specs.Rational.{ℚ, ◌*ℚ◌, ◌≤ℚ◌, ◌<ℚ◌}
 use Rattle.mdp_math.specs.Sum.{sum_at, EachAt}
 use Rattle.mdp_math.proofs.Laws.{one-*ℚ}
 use Rattle.mdp_math.proofs.Order.{0ℚ, 1ℚ, ≤ℚ_trans, ≤ℚ_of_eq, ≤ℚ_antisymm, mul-le-mul_left_ℚ}
-use Rattle.mdp_math.proofs.SumsAt.{sum_at-le, sum_at-same, sum_at-sum_of, sum_at-weighted_ge, EachAt_all, EachAt_mono, EachAt_both, EachAt-from_places}
+use Rattle.mdp_math.proofs.SumsAt.{sum_at-le, sum_at-same, sum_at-sum_of, sum_at-weighted_ge, EachAt_all, EachAt_mono, EachAt_both}
 use Rattle.mdp_spec.specs.Mdp.{Entry, Choice, Mdp, states_of, choices_at, row_at}
 use Rattle.mdp_spec.specs.Row.{IsRow, IsMdp}
 use Rattle.mdp_spec.specs.Unit.{count_at}

@@ -1,3 +1,7 @@
+pub mod Added
+pub mod Adding
+pub mod Sizes
+pub mod Stops
 pub mod Kept
 pub mod Floors
 pub mod Picks
@@ -7,4 +11,10 @@ pub mod Flows
 pub mod Policies
 pub mod Bounded
 pub mod Made
+pub mod Parts
+pub mod FlowRules
+pub mod FloorRules
+pub mod Counted
 pub mod Fewer
+mod Examples
+mod ExamplesChecks

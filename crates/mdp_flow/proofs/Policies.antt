@@ -1,6 +1,5 @@
 -- Policies on subsystems: flows of a policy show how close it comes, and a policy that falls short on a subsystem does so on each smaller one.
-use Rattle.std.proofs.Common.{◌≡◌, ℕ, zero, suc, ◌+◌, ◌*◌, ◌<◌, ◌≤◌, ⊎_elim, Bool, true, false, cond, ◌||◌, List, [], ◌∷◌, get_or, length, refl, sym, ◌∙◌, ap, subst, arith, pos}
-use Rattle.std.proofs.lemmas.List.{get_or_past}
+use Rattle.std.proofs.Common.{◌≡◌, ℕ, suc, ◌*◌, ◌<◌, ◌≤◌, ⊎_elim, Bool, true, ◌||◌, List, [], ◌∷◌, get_or, length, refl, sym, ◌∙◌, ap, subst, arith, pos}
 use Rattle.std.proofs.lemmas.Bool.{cases_Bool}
 use Rattle.mdp_math.specs.Rational.{ℚ, ratio, ◌+ℚ◌, ◌-ℚ◌, ◌≤ℚ◌, ◌<ℚ◌}
 use Rattle.mdp_math.proofs.Ring.{◌⊕◌, ⊖}
@@ -8,7 +7,7 @@ use Rattle.mdp_math.proofs.Laws.{den-pos}
 use Rattle.mdp_math.proofs.Linear.{linear, known}
 use Rattle.mdp_math.proofs.Order.{≤ℚ_trans, ≤ℚ_of_eq, sub-pos, le-ratio}
 use Rattle.mdp_math.proofs.Powers.{unit_fraction-le}
-use Rattle.mdp_spec.specs.Mdp.{Entry, Choice, Mdp, states_of, choices_at, row_at, value_at}
+use Rattle.mdp_spec.specs.Mdp.{Entry, Choice, Mdp, states_of, row_at, value_at}
 use Rattle.mdp_spec.specs.Row.{IsMdp}
 use Rattle.mdp_spec.specs.Tree.{IsPolicy}
 use Rattle.mdp_spec.specs.Tree.{is_marked, unfolded}
@@ -21,7 +20,7 @@ use Rattle.mdp_flow.specs.declared.flow.Flow.{Flow}
 use Rattle.mdp_flow.specs.Flow.{IsFlow, MeetsFlow, flow_row, flow_total}
 use Rattle.mdp_flow.specs.Fewer.{IsIncluded}
 use Rattle.mdp_flow.specs.Policy.{AreOfPolicy, hit_on, PolicyWithin, FallsShort}
-use Rattle.mdp_spec.proofs.Subsystem.{stays, stays-goal, stays-kept, sub-states, sub-stays, sub-loops, stays-row, sub_is_mdp, policy_on-stays, policy_on_is, policy_on_sub}
+use Rattle.mdp_spec.proofs.Subsystem.{stays, stays-goal, stays-kept, sub-states, sub-stays, stays-row, sub_is_mdp, policy_on-stays, policy_on_is, policy_on_sub}
 use Rattle.mdp_flow.proofs.Extremal.{hit-unfolded}
 use Rattle.mdp_flow.proofs.Flows.{inside_of_choice, close_by_flow}
 use Rattle.mdp_flow.proofs.Fewer.{policy-fewer, in_large}

@@ -66,11 +66,11 @@ line_checks m goals kept values ranks s value rank =
     ++ (cover_checks m goals (line_values m goals kept values) s value ++ (rank_checks m goals (line_rank m goals kept ranks) s value rank ++ kept_check goals s ∷ []))
 
 -- the checks of line i
-abbrev pub line_at : Mdp → List Bool → List ℕ → List ℚ → List ℕ → ℕ → List Check
-line_at m goals kept values ranks i = line_checks m goals kept values ranks (slice_index kept i) (value_at values i) (slice_index ranks i)
+abbrev pub checks_of_line : Mdp → List Bool → List ℕ → List ℚ → List ℕ → ℕ → List Check
+checks_of_line m goals kept values ranks i = line_checks m goals kept values ranks (slice_index kept i) (value_at values i) (slice_index ranks i)
 
 abbrev pub each_line : Mdp → List Bool → List ℕ → List ℚ → List ℕ → List Check
-each_line m goals kept values ranks = flat_map (line_at m goals kept values ranks) (range_with_len 0 (length kept))
+each_line m goals kept values ranks = flat_map (checks_of_line m goals kept values ranks) (range_with_len 0 (length kept))
 
 -- rule 24
 abbrev pub start_check : Mdp → List Bool → ℕ → ℚ → List ℕ → List ℚ → Check

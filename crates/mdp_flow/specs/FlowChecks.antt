@@ -7,7 +7,7 @@
 -- then
 --     rule 22  what leaves a kept state is at most what comes in, where the start gets 1 from outside
 --     rule 23  what comes to the goals, and 1 where the start is a goal, is at least the threshold
-use Rattle.std.specs.Prelude.{ℕ, Bool, true, ◌&&◌, not, List, [], ◌∷◌, ◌++◌, map, Option, Some, None, option_map, pos}
+use Rattle.std.specs.Prelude.{ℕ, Bool, true, ◌&&◌, not, List, [], ◌∷◌, ◌++◌, map, Some, None, option_map, pos}
 use Rattle.std.specs.List.{All}
 use Rattle.mdp_math.specs.Rational.{ℚ, of_int, lt_ℚ}
 use Rattle.mdp_spec.specs.Mdp.{Mdp, states_of, value_at}

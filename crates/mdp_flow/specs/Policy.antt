@@ -1,8 +1,8 @@
 -- What a policy does on a subsystem: how close it comes to a threshold there, and when it falls short of it.
-use Rattle.std.specs.Prelude.{◌≡◌, ℕ, suc, ◌≤◌, Bool, ◌||◌, List, [], ◌∷◌, slice_index, All, if◌then◌else◌}
+use Rattle.std.specs.Prelude.{◌≡◌, ℕ, ◌≤◌, Bool, List, slice_index, All}
 use Rattle.mdp_math.specs.Rational.{ℚ, ◌+ℚ◌, ◌*ℚ◌, ◌≤ℚ◌}
 use Rattle.mdp_spec.specs.Mdp.{Mdp}
-use Rattle.mdp_spec.specs.Tree.{is_marked, unfolded}
+use Rattle.mdp_spec.specs.Tree.{unfolded}
 use Rattle.mdp_spec.specs.Hit.{hit}
 use Rattle.mdp_spec.specs.Sub.{sub_of}
 use Rattle.mdp_spec.specs.Bounds.{part, whole}

@@ -1,17 +1,18 @@
-ghost use Rattle.std.specs.Prelude.{◌≡◌, ◌<◌, ◌↔◌, length, [], ◌∷◌, All, slice_index, nat_lt};
+ghost use Rattle.std.specs.Prelude.{◌≡◌, ◌<◌, ◌↔◌, ◌||◌, not, length, [], ◌∷◌, All, nat_lt};
 ghost use Rattle.std.specs.List.{list_any};
 ghost use Rattle.std.specs.Result.{result_ok};
-ghost use Rattle.mdp_math.specs.Rational.{of_int};
+ghost use Rattle.mdp_math.specs.Rational.{lt_ℚ};
 ghost use Rattle.mdp_spec.specs.Bounds.{SubMin};
-ghost use Rattle.mdp_spec.specs.Mdp.{states_of, choices_at, row_at, value_at};
+ghost use Rattle.mdp_spec.specs.Mdp.{states_of, choices_at, value_at};
 ghost use Rattle.mdp_spec.specs.Row.{entries};
+ghost use Rattle.mdp_spec.specs.Tree.{is_marked};
 ghost use Rattle.mdp_spec.specs.Written.{written_sum};
 ghost use Rattle.mdp_farkas.specs.Bellman.{sum_stands};
 ghost use Rattle.mdp_farkas.specs.Compare.{0ℚ};
-ghost use Rattle.mdp_farkas.specs.Verdict.{verdict_of, IsYes, IfYes};
+ghost use Rattle.mdp_farkas.specs.Verdict.{at_choices, verdict_of, IsYes, IfYes};
 ghost use Rattle.mdp_rows.specs.declared.dir.Dir.TheVariants.{Min};
-ghost use Rattle.mdp_flow.specs.FloorChecks.{line_value, line_rank, line_values, value_checks, cover_check, cover_checks, fall_check, rank_checks, line_checks, line_at, each_line, start_check, floor_checks, HoldsFloor};
-ghost use Rattle.mdp_flow.specs.Kept.{kept_marks, Ascends};
+ghost use Rattle.mdp_flow.specs.FloorChecks.{line_rank, line_values, value_checks, cover_check, cover_checks, fall_check, rank_checks, line_checks, checks_of_line, each_line, start_check, floor_checks, HoldsFloor};
+ghost use Rattle.mdp_flow.specs.Kept.{kept_marks};
 ghost use Rattle.mdp_flow.specs.Shape.{IsFloorShape};
 ghost use Rattle.mdp_flow.specs.Walk.{stop_of};
 
@@ -38,7 +39,7 @@ fn value_of(model: &Model, goals: &Marks, cert: &FloorCert, s: u32) -> Frac
     requires goals { length goals.now ≡ states_of model.now }
     requires shape { IsFloorShape model.now cert.now.kept.items cert.now.wide.items cert.now.values.items cert.now.ranks.items }
     requires state { s < states_of model.now }
-    ensures { result ≡ line_value model.now goals.now cert.now.kept.items cert.now.values.items s }
+    ensures { result ≡ value_at (line_values model.now goals.now cert.now.kept.items cert.now.values.items) s }
 {
     if goals.at(s) {
         return Frac::whole(1);
@@ -81,6 +82,16 @@ fn row_sum(row: Row<'_>, model: &Model, goals: &Marks, cert: &FloorCert) -> Resu
     Ok(sum)
 }
 
+/// Whether state `s` counts with a rank below this one.
+fn is_below(model: &Model, goals: &Marks, cert: &FloorCert, s: u32, rank: u32) -> bool
+    requires goals { length goals.now ≡ states_of model.now }
+    requires shape { IsFloorShape model.now cert.now.kept.items cert.now.wide.items cert.now.values.items cert.now.ranks.items }
+    requires state { s < states_of model.now }
+    ensures { result ≡ nat_lt (line_rank model.now goals.now cert.now.kept.items cert.now.ranks.items s) rank }
+{
+    rank_of(model, goals, cert, s) < rank
+}
+
 /// Whether some entry of a row leads to a rank below this one.
 fn row_falls(row: Row<'_>, model: &Model, goals: &Marks, cert: &FloorCert, rank: u32) -> bool
     requires goals { length goals.now ≡ states_of model.now }
@@ -89,19 +100,36 @@ fn row_falls(row: Row<'_>, model: &Model, goals: &Marks, cert: &FloorCert, rank:
     ensures { result ≡ list_any (λ y. nat_lt (line_rank model.now goals.now cert.now.kept.items cert.now.ranks.items y.target) rank) (entries row.entry.targets.now row.entry.probs.now) }
 {
     for t in row.targets {
-        if rank_of(model, goals, cert, *t) < rank {
+        if is_below(model, goals, cert, *t, rank) {
             return true;
         }
     }
     false
 }
 
-/// A value is from 0 to 1: that of the kept state `s`.
+/// The value of the kept state `s` is from 0 to 1.
 fn probability_at(s: u32, value: &Frac) -> Result<(), Verdict>
     ensures { result ≡ stop_of (value_checks s value.now) }
 {
     judged(at_least(value, &Frac::whole(0)), 3, s, None)?;
     judged(at_most(value, &Frac::whole(1)), 3, s, None)
+}
+
+/// Whether a value is at most that sum.
+fn row_covers(
+    row: Row<'_>,
+    model: &Model,
+    goals: &Marks,
+    cert: &FloorCert,
+    value: &Frac,
+) -> Result<bool, Wide>
+    requires goals { length goals.now ≡ states_of model.now }
+    requires shape { IsFloorShape model.now cert.now.kept.items cert.now.wide.items cert.now.values.items cert.now.ranks.items }
+    requires targets { All (λ t. t < states_of model.now) row.targets.now }
+    ensures { result_ok result ≡ sum_stands Min value.now (line_values model.now goals.now cert.now.kept.items cert.now.values.items) 0ℚ (entries row.entry.targets.now row.entry.probs.now) }
+{
+    let sum = row_sum(row, model, goals, cert)?;
+    at_most(value, &sum)
 }
 
 /// The value of the kept state `s` is at most the sum over the row of its choice `c`.
@@ -119,10 +147,7 @@ fn cover_at(
     requires choice { c < length (choices_at model.now s) }
     ensures { result ≡ stop_of (cover_check model.now (line_values model.now goals.now cert.now.kept.items cert.now.values.items) s value.now c ∷ []) }
 {
-    let covers = match row_sum(model.row(s, c), model, goals, cert) {
-        Ok(sum) => at_most(value, &sum),
-        Err(Wide) => Err(Wide),
-    };
+    let covers = row_covers(model.row(s, c), model, goals, cert, value);
     judged(covers, 5, s, Some(c))
 }
 
@@ -164,6 +189,37 @@ fn fall_at(
     judged(Ok(falls), 8, s, Some(c))
 }
 
+/// Whether a number is above 0.
+fn is_above_zero(value: &Frac) -> bool
+    ensures { result ≡ lt_ℚ 0ℚ value.now }
+{
+    value.sign() > 0
+}
+
+/// Whether state `s`, of this value, is a goal or has value 0.
+fn ends_at(goals: &Marks, s: u32, value: &Frac) -> bool
+    requires { s < length goals.now }
+    ensures { result ≡ (is_marked goals.now s || not (lt_ℚ 0ℚ value.now)) }
+{
+    goals.at(s) || !is_above_zero(value)
+}
+
+/// An entry of the row of each choice at the kept state `s` leads to a rank below this one.
+fn falls_at(
+    model: &Model,
+    goals: &Marks,
+    cert: &FloorCert,
+    s: u32,
+    rank: u32,
+) -> Result<(), Verdict>
+    requires goals { length goals.now ≡ states_of model.now }
+    requires shape { IsFloorShape model.now cert.now.kept.items cert.now.wide.items cert.now.values.items cert.now.ranks.items }
+    requires state { s < states_of model.now }
+    ensures { result ≡ stop_of (at_choices model.now s (fall_check model.now (line_rank model.now goals.now cert.now.kept.items cert.now.ranks.items) s rank)) }
+{
+    each_choice(model, s, |c| fall_at(model, goals, cert, s, rank, c))
+}
+
 /// The kept state `s` has rank 0 where it is a goal or has value 0; else an entry of each row leads to a smaller rank.
 fn rank_at(
     model: &Model,
@@ -178,14 +234,14 @@ fn rank_at(
     requires state { s < states_of model.now }
     ensures { result ≡ stop_of (rank_checks model.now goals.now (line_rank model.now goals.now cert.now.kept.items cert.now.ranks.items) s value.now rank) }
 {
-    if goals.at(s) || value.sign() <= 0 {
+    if ends_at(goals, s, value) {
         return judged(Ok(rank == 0), 7, s, None);
     }
-    each_choice(model, s, |c| fall_at(model, goals, cert, s, rank, c))
+    falls_at(model, goals, cert, s, rank)
 }
 
 /// The rules at the kept state `s` of this value and rank.
-fn line_at(
+fn state_at(
     model: &Model,
     goals: &Marks,
     cert: &FloorCert,
@@ -204,22 +260,30 @@ fn line_at(
     kept_at(goals, s)
 }
 
+/// The rules at the kept state of line `i`.
+fn line_at(model: &Model, goals: &Marks, cert: &FloorCert, i: usize) -> Result<(), Verdict>
+    requires goals { length goals.now ≡ states_of model.now }
+    requires shape { IsFloorShape model.now cert.now.kept.items cert.now.wide.items cert.now.values.items cert.now.ranks.items }
+    requires line { i < length cert.now.kept.items }
+    ensures { result ≡ stop_of (checks_of_line model.now goals.now cert.now.kept.items cert.now.values.items cert.now.ranks.items i) }
+{
+    state_at(
+        model,
+        goals,
+        cert,
+        cert.kept[i],
+        &cert.values[i],
+        cert.ranks[i],
+    )
+}
+
 /// The rules at each kept state.
 fn each_line_at(model: &Model, goals: &Marks, cert: &FloorCert) -> Result<(), Verdict>
     requires goals { length goals.now ≡ states_of model.now }
     requires shape { IsFloorShape model.now cert.now.kept.items cert.now.wide.items cert.now.values.items cert.now.ranks.items }
     ensures { result ≡ stop_of (each_line model.now goals.now cert.now.kept.items cert.now.values.items cert.now.ranks.items) }
 {
-    each_place(cert.kept.len(), |i| {
-        line_at(
-            model,
-            goals,
-            cert,
-            cert.kept[i],
-            &cert.values[i],
-            cert.ranks[i],
-        )
-    })
+    each_place(cert.kept.len(), |i| line_at(model, goals, cert, i))
 }
 
 /// What the start counts as is at least the threshold.

@@ -121,8 +121,8 @@ impl Sums {
 
     /// An amount comes to the targets of a row, one after the other.
     fn add_row(&mut self, goals: &Marks, amount: &Frac, row: Row<'_>) -> Result<(), Wide>
-        requires goals { length goals.now ≡ length self.old.inflows }
-        requires targets { All (λ t. t < length self.old.inflows) row.targets.now }
+        requires sums { AreSums (length goals.now) self.old }
+        requires targets { All (λ t. t < length goals.now) row.targets.now }
         ensures { let xs = entries row.entry.targets.now row.entry.probs.now in MatchResult result (λ ok. with_row goals.now amount.now self.old xs ≡ Some self.new) (λ e. with_row goals.now amount.now self.old xs ≡ None) }
     {
         for i in 0..row.targets.len() {
