@@ -1,10 +1,11 @@
 -- Trials, from the greatest state down: what holds when those from x on have been made, and that one more keeps it.
-use Rattle.std.proofs.Common.{◌≡◌, ℕ, zero, suc, ◌+◌, ◌<◌, ◌≤◌, inl, inr, Bool, true, false, cond, eqb, ◌&&◌, nat_lt, List, length, get_or, Result, Ok, Err, refl, sym, ◌∙◌, ap, subst, arith, map, if◌then◌else◌}
+use Rattle.std.proofs.Common.{rules, ◌≡◌, ℕ, zero, suc, ◌+◌, ◌<◌, ◌≤◌, inl, inr, Bool, true, false, cond, eqb, ◌&&◌, nat_lt, List, length, get_or, Result, Ok, Err, refl, sym, ◌∙◌, ap, subst, arith, map, if◌then◌else◌}
 use Rattle.std.specs.List.{range_with_len}
 use Rattle.std.specs.Prelude.{replicate}
 use Rattle.std.proofs.Math.ListN.{set, get_or-eq_default}
 use Rattle.std.proofs.lemmas.List.{length-set, length-replicate, ext_get_or}
 use Rattle.std.proofs.lemmas.List.FromFn.{get_or-map-range_with_len, length-map-range_with_len}
+use Rattle.std.proofs.lemmas.Bool.{eq-eqb, eqb-true}
 use Rattle.mdp_math.specs.Rational.{ℚ}
 use Rattle.mdp_math.proofs.Numbers.{le_or, eqb-smaller, eqb-greater}
 use Rattle.mdp_spec.specs.Tree.{is_marked}
@@ -53,7 +54,7 @@ without_at first kept x s l h = set-at kept x s false l ∙ elim (le_or s x) as 
     | inr j ↦
         ap (λ (b : Bool). cond b false (is_marked kept s)) (eqb-smaller s x j) ∙ h s j ∙ sym (ap (λ (b : Bool). cond b (is_marked first s) (nat_lt x s && is_marked kept s)) (lt-true s x j))
     | inl j ↦
-        ap (λ (b : Bool). cond b false (is_marked kept s)) (search rules)
+        ap (λ (b : Bool). cond b false (is_marked kept s)) (eq-eqb s x (omega arith))
         ∙ sym (ap (λ (b : Bool). cond b (is_marked first s) (nat_lt x s && is_marked kept s)) (lt-false s x j) ∙ ap (λ (b : Bool). b && is_marked kept s) (lt-false x s i))
   ]
 ]
@@ -84,6 +85,17 @@ module _ {E W : Type 0} (Evaluates : List Bool → Result E W → Type 0) (value
   unmarked zero s = refl
   unmarked (suc n) zero = refl
   unmarked (suc n) (suc s) = unmarked n s
+
+  inside_by : (x : ℕ) (kept wide : List Bool) (last : E) (s : ℕ) (b : Bool) → From x kept wide last → is_marked kept s ≡ true → is_marked first s ≡ b → b ≡ true
+  inside_by x kept wide last s true left h e = refl
+  inside_by x kept wide last s false left h e = elim (le_or x s) as (λ _. false ≡ true) [
+    | inl l ↦ (let k = marked-below kept s h in let n = left.one_kept_each in let o = (left.outside s (omega arith) l e).0 in cc)
+    | inr l ↦ (let k = left.kept_below s l in cc)
+  ]
+
+  -- what is left is of the first set
+  pub left_inside : (x : ℕ) (kept wide : List Bool) (last : E) → From x kept wide last → (s : ℕ) → is_marked kept s ≡ true → is_marked first s ≡ true
+  left_inside x kept wide last left s h = inside_by x kept wide last s (is_marked first s) left h refl
 
   -- before any trial
   pub left_first : (n : ℕ) (wide : List Bool) (last : E) → length first ≡ n → wide ≡ replicate n false → Evaluates first (Ok last) → From n first wide last
@@ -159,7 +171,7 @@ module _ {E W : Type 0} (Evaluates : List Bool → Result E W → Type 0) (value
       wide2-above s l = wide2-at s ∙ ap (λ (b : Bool). cond b (is_wide trial) (is_marked wide s)) (eqb-greater s x l)
 
       eqb-self : eqb x x ≡ true
-      eqb-self = search rules
+      eqb-self = eq-eqb x x refl
 
       -- the set of the step is that of the trial
       set_is : set kept x false ≡ trial_set first kept2 x
@@ -200,7 +212,7 @@ module _ {E W : Type 0} (Evaluates : List Bool → Result E W → Type 0) (value
           (λ s l. ap (λ (xs : List Bool). is_marked xs s) e ∙ set-at kept x s (stays t) in_range ∙ back_by t s (eqb s x) refl h)
         where
           back_by : (t : Trial) (s : ℕ) (b : Bool) → eqb s x ≡ b → stays t ≡ true → cond b (stays t) (is_marked kept s) ≡ is_marked kept s
-          back_by t s true e h = h ∙ sym in_kept ∙ ap (is_marked kept) (search rules)
+          back_by t s true e h = h ∙ sym in_kept ∙ ap (is_marked kept) (sym (eqb-true s x e))
           back_by t s false e h = refl
 
       evaluated_by : (t : Trial) → t ≡ trial → IsLast t step.evaluation last next → kept2 ≡ set kept x (stays t) → Evaluates kept2 (Ok next)

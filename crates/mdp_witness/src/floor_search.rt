@@ -26,7 +26,9 @@ use crate::trial::Trial;
 use mdp_elim::{Kind, Part, SolveError, TooWide};
 use mdp_farkas::{ReachCert, Verdict};
 use mdp_flow::{FloorCert, holds_floor};
+use mdp_graph::meet_law;
 use mdp_num::{Frac, Memory};
+use mdp_path::path_law;
 use mdp_reach::solve_reach;
 use mdp_rows::{Dir, Marks, Model};
 use std::alloc::{AllocError, Global};
@@ -80,9 +82,14 @@ impl Subsystems<'_, '_> {
     /// The least probabilities on the subsystem of a set.
     fn evaluate(&self, alloc: Global, set: &Marks) -> Result<ReachCert, SolveError>
         requires { length set.now ≡ states_of self.now.model.now }
-        ensures { Solves plain (Evaluates self.now.model.now self.now.goals.now set.now) result }
+        ensures found { Solves plain (Evaluates self.now.model.now self.now.goals.now set.now) result }
+        ensures values { IfOk result (λ cert. length cert.values.items ≡ states_of self.now.model.now) }
+        ensures ranks { IfOk result (λ cert. length cert.ranks.items ≡ states_of self.now.model.now) }
     {
+        meet_law();
+        path_law();
         let cut = self.model.cut(alloc, set, self.goals)?;
+        cut.known();
         solve_reach(alloc, &cut, self.goals, Dir::Min)
     }
 
