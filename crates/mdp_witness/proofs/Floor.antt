@@ -5,12 +5,15 @@ use Rattle.mdp_spec.specs.Row.{IsMdp}
 use Rattle.mdp_spec.specs.Sub.{sub_of}
 use Rattle.mdp_spec.proofs.Subsystem.{sub-states}
 use Rattle.mdp_rows.specs.declared.dir.Dir.TheVariants.{Min}
+use Rattle.mdp_elim.specs.declared.too_wide.TooWide.{TooWide}
 use Rattle.mdp_elim.specs.declared.too_wide.SolveError.{SolveError}
+use Rattle.mdp_elim.specs.declared.too_wide.SolveError.TheVariants as solve
 use Rattle.mdp_farkas.specs.declared.reach.ReachCert.{ReachCert}
 use Rattle.mdp_graph.specs.Laws.{RestMeets}
 use Rattle.mdp_path.specs.Laws.{EndsAtBest}
-use Rattle.mdp_path.specs.Queries.{Solves}
-use Rattle.mdp_reach.specs.Query.{plain, EndsSo}
+use Rattle.mdp_path.specs.Ends.{capped}
+use Rattle.mdp_path.specs.Queries.{WideTerm, shown, Solves}
+use Rattle.mdp_reach.specs.Query.{Answer, plain, EndsSo}
 use Rattle.mdp_witness.specs.Search.{Evaluates}
 use Rattle.mdp_witness.proofs.Lengths.{sized}
 
@@ -29,3 +32,7 @@ ranks_cut m cut goals set (Err x) e known_ best meets h = tt
 
 pub cut_goals : (m cut : Mdp) (goals set : List Bool) → length goals ≡ states_of m → cut ≡ sub_of m goals set → length goals ≡ states_of cut
 cut_goals m cut goals set e h = e ∙ sym (ap states_of h ∙ sub-states m goals set)
+
+-- a term past width in a query
+pub solves_wide : (Ends : Result Answer WideTerm → Type 0) (e : SolveError) (w : TooWide) → e ≡ solve.TooWide w → Solves plain Ends (Err e) → (n : ℕ) × (w.round ≡ capped n) × Ends (Err (shown w n))
+solves_wide Ends e w is h = subst (λ (e : SolveError). Solves plain Ends (Err e)) is h

@@ -6,3 +6,6 @@ pub mod Steps
 pub mod Duality
 pub mod Lengths
 pub mod Floor
+pub mod Listed
+pub mod FirstMax
+pub mod Visiting

@@ -19,14 +19,14 @@ ghost use Rattle.mdp_witness.specs.StepCode.{IsStep, CanBeLeast, SearchesFrom, i
 ghost use Rattle.mdp_witness.specs.Trial.{AreLeft};
 
 use crate::first::Query;
-use crate::kept::{listed, marks_at, ranks_at, values_at};
+use crate::kept::{listed, marks_at, ranks_at, value_of, values_at};
 use crate::round::last_round;
 use crate::subsystem::{Subsystem, WitnessError};
 use crate::trial::Trial;
 use mdp_elim::{Kind, Part, SolveError, TooWide};
 use mdp_farkas::{ReachCert, Verdict};
 use mdp_flow::{FloorCert, holds_floor};
-use mdp_graph::meet_law;
+use mdp_graph::avoid_law;
 use mdp_num::{Frac, Memory};
 use mdp_path::path_law;
 use mdp_reach::solve_reach;
@@ -86,7 +86,7 @@ impl Subsystems<'_, '_> {
         ensures values { IfOk result (λ cert. length cert.values.items ≡ states_of self.now.model.now) }
         ensures ranks { IfOk result (λ cert. length cert.ranks.items ≡ states_of self.now.model.now) }
     {
-        meet_law();
+        avoid_law();
         path_law();
         let cut = self.model.cut(alloc, set, self.goals)?;
         cut.known();
@@ -111,7 +111,8 @@ impl Subsystems<'_, '_> {
         kept.set(s, false);
         match self.evaluate(alloc, kept) {
             Ok(found) => {
-                let trial = Trial::of(&found.values[self.start as usize], threshold);
+                let value = value_of(&found.values, self.start);
+                let trial = Trial::of(&value, threshold);
                 trial.mark(s, kept, wide);
                 match trial {
                     Trial::Goes => Ok(found),

@@ -29,7 +29,7 @@ pub(crate) fn marks_at(
 }
 
 /// The value of state `s`.
-fn value_of(values: &[Frac], s: u32) -> Frac
+pub(crate) fn value_of(values: &[Frac], s: u32) -> Frac
     requires { s < length values.now }
     ensures { result ≡ value_at values.now s }
 {

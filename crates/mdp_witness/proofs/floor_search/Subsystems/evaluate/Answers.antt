@@ -10,9 +10,9 @@ returns-clause-found c = evaluates_cut c.args.self.now.model.now c.in_ok-cut.cut
 pub returns-clause-values : goal.returns-clause-values
 returns-clause-values c =
     sizes_cut c.args.self.now.model.now c.in_ok-cut.cut c.args.self.now.goals.now c.args.set.now c.solve_reach.result (c.in_ok-cut.ensures {u = tt}) c.known.ensures.mdp c.path_law.ensures.best
-    c.meet_law.ensures.rest c.solve_reach.ensures.path
+    c.avoid_law.ensures.rest c.solve_reach.ensures.path
 
 pub returns-clause-ranks : goal.returns-clause-ranks
 returns-clause-ranks c =
     ranks_cut c.args.self.now.model.now c.in_ok-cut.cut c.args.self.now.goals.now c.args.set.now c.solve_reach.result (c.in_ok-cut.ensures {u = tt}) c.known.ensures.mdp c.path_law.ensures.best
-    c.meet_law.ensures.rest c.solve_reach.ensures.path
+    c.avoid_law.ensures.rest c.solve_reach.ensures.path
