@@ -9,3 +9,5 @@ pub mod Floor
 pub mod Listed
 pub mod FirstMax
 pub mod Visiting
+pub mod Values
+pub mod Left

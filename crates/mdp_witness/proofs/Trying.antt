@@ -17,10 +17,10 @@ use Rattle.mdp_witness.proofs.Fronts.{set-at, marked-below}
 
 -- ---- tests
 
-lt-true : (a b : ℕ) → a < b → nat_lt a b ≡ true
+pub lt-true : (a b : ℕ) → a < b → nat_lt a b ≡ true
 lt-true a b l = search rules
 
-lt-false : (a b : ℕ) → b ≤ a → nat_lt a b ≡ false
+pub lt-false : (a b : ℕ) → b ≤ a → nat_lt a b ≡ false
 lt-false a b l = search rules
 
 -- ---- the set of a trial

@@ -2,7 +2,8 @@ use Rattle.std.proofs.Common.{ℕ, List, ◌<◌, ◌∙◌, sym, ap, subst, len
 use Rattle.std.specs.List.{All}
 use Rattle.mdp_spec.specs.Mdp.{states_of}
 use Rattle.mdp_witness.specs.Search.{listed}
-use Rattle.mdp_witness.proofs.FirstMax.{brought}
+use Rattle.mdp_witness.proofs.Values.{can_be_first}
+use Rattle.mdp_witness.proofs.Left.{left_by}
 use Rattle.mdp_witness.proofs.Visiting.{visits_on_set}
 use Rattle.mdp_witness.proofs.Listed.{listed_below, marks_back}
 use Rattle.mdp_witness.proofs.visited.Policy.certificate.Goals as goal
