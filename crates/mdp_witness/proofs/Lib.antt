@@ -11,3 +11,5 @@ pub mod FirstMax
 pub mod Visiting
 pub mod Values
 pub mod Left
+pub mod LastRound
+pub mod Found

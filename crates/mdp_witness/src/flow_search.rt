@@ -226,6 +226,7 @@ pub(crate) fn search_max(
     requires reaches { threshold ≤ℚ value_at whole.now.values.items start }
     ensures { Finds (SearchesMax model.now goals.now start threshold (reach.plain whole.now)) result }
 {
+    model.known();
     let query = Query {
         dir: Dir::Max,
         model,

@@ -6,7 +6,7 @@ ghost use Rattle.mdp_witness.specs.Search.{IsLastRound};
 
 use crate::problem::Reach;
 use mdp_farkas::ReachCert;
-use mdp_graph::{Pass, avoid_law, may_avoid, may_reach, meet_law, reach_law};
+use mdp_graph::{Pass, avoid_law, may_avoid, may_reach};
 use mdp_num::Memory;
 use mdp_path::{PathError, improve};
 use mdp_rows::{Dir, Marks, Model};
@@ -56,8 +56,6 @@ pub(crate) fn last_round(
 {
     model.known();
     avoid_law();
-    meet_law();
-    reach_law();
     let _answered = cert;
     let start = start_of(alloc, model, goals, dir)?;
     let first = start.choices;
