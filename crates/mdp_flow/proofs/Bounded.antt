@@ -38,7 +38,8 @@ one_more_step m goals policy zero s known_ choice h =
     (λ g. ≤ℚ_trans _ _ _ (≤ℚ_of_eq _ _ (hit-end m goals 1 leaf s (omega arith) g)) (hit-nonneg m goals 1 1 (unfolded m policy 1 s) s (omega arith)))
     (cases_Bool (is_marked goals s))
 one_more_step m goals policy (suc n) s known_ choice h =
-    ⊎_elim (λ g. ≤ℚ_of_eq _ _ (hit-goal m goals 1 (suc n) (unfolded m policy (suc n) s) s (omega arith) g ∙ sym (hit-goal m goals 1 (suc (suc n)) (unfolded m policy (suc (suc n)) s) s (omega arith) g)))
+    ⊎_elim (λ g. ≤ℚ_of_eq _ _ (hit-goal m goals 1 (suc n) (unfolded m policy (suc n) s) s (omega arith) g
+    ∙ sym (hit-goal m goals 1 (suc (suc n)) (unfolded m policy (suc (suc n)) s) s (omega arith) g)))
     (λ g.
     ≤ℚ_trans _ _ _ (≤ℚ_of_eq _ _ (hit-unfolded m goals policy n s known_ (choice.in_range s h) g))
     (≤ℚ_trans _ _ _
@@ -132,12 +133,14 @@ module _ (m : Mdp) (goals kept : List Bool) (flows : List Flow) (start : ℕ) (p
       ap (λ (w : ℚ). x.amount *ℚ w) (step n x (each k d l) (along k d l))
       ∙ ring rat_ring 3 (λ a g k. a ⊗ (g ⊕ k)) (λ a g k. a ⊗ g ⊕ a ⊗ k) refl x.amount (prob_to_goals goals (flow_row m x)) (kept_sum x))
       ∙ sum_of-add (λ (x : Flow). x.amount *ℚ prob_to_goals goals (flow_row m x)) (λ (x : Flow). x.amount *ℚ kept_sum x) flows
-      ∙ ap (λ (s : ℚ). goal_flow m goals flows +ℚ s) (sym (gathered_parts (λ (x : Flow). x.amount) (λ (x : Flow) t. prob_to (flow_row m x) t) (λ t. kept_value n t) (range_with_len 0 (states_of m)) flows))
+      ∙ ap (λ (s : ℚ). goal_flow m goals flows +ℚ s)
+      (sym (gathered_parts (λ (x : Flow). x.amount) (λ (x : Flow) t. prob_to (flow_row m x) t) (λ t. kept_value n t) (range_with_len 0 (states_of m)) flows))
 
   leaves : (n : ℕ) → weighed n ≡ kept_value n start +ℚ kept_inflow n
   unfolding kept_inflow
   leaves n =
-      sym (gathered (λ (x : Flow). x.state) (λ (x : Flow). x.amount) (λ t. kept_value n t) (states_of m) flows (λ k d l. let x : Flow = get_or flows k d in inside_of_choice m x.state x.choice (IsFlow.choice (each k d l)))
+      sym (gathered (λ (x : Flow). x.state) (λ (x : Flow). x.amount) (λ t. kept_value n t) (states_of m) flows
+      (λ k d l. let x : Flow = get_or flows k d in inside_of_choice m x.state x.choice (IsFlow.choice (each k d l)))
       ∙ sum_of-same_all (λ (x : Flow). kept_value n x.state *ℚ x.amount) (λ (x : Flow). x.amount *ℚ value n x.state) flows
       (λ k d l.
       let x : Flow = get_or flows k d in

@@ -48,7 +48,8 @@ pub followed_fits : (m : Mdp) (choose : ℕ → ℕ → ℕ) (n s : ℕ) → IsM
 followed_fits m choose zero s known choice h = tt
 followed_fits m choose (suc n) s known choice h = (
   count_at-one (choices_at m s) (choose n s) (choice n s h),
-  EachAt_mono (choices_at m s) (λ c x. ((c < length (choices_at m s)) × (row_at m s c ≡ x.row)) × IsRow (states_of m) x.row) (λ c x. EachAt x.row (λ e y. Fits m 1 n (followed m choose n (target_at m s c e)) y.target))
+  EachAt_mono (choices_at m s) (λ c x. ((c < length (choices_at m s)) × (row_at m s c ≡ x.row)) × IsRow (states_of m) x.row)
+      (λ c x. EachAt x.row (λ e y. Fits m 1 n (followed m choose n (target_at m s c e)) y.target))
       (λ c x q.
       EachAt_mono x.row (λ e y. (target_at m s c e ≡ y.target) × (y.target < states_of m)) (λ e y. Fits m 1 n (followed m choose n (target_at m s c e)) y.target)
       (λ e y r. subst (λ (t : ℕ). Fits m 1 n (followed m choose n t) y.target) (sym r.0) (followed_fits m choose n y.target known choice r.1))
@@ -138,7 +139,8 @@ module _ (m : Mdp) (goals : List Bool) (pick : (ℕ → ℚ) → ℕ → ℕ) (k
       ⊎_elim (λ g. hit-goal m goals 1 (suc n) (extreme_tree (suc n) s) s (omega arith) g ∙ sym (extreme-goal m goals pick (suc n) s g))
       (λ g.
       hit-followed m goals (picked m goals pick) n s known_ (picks_choice n s h) g
-      ∙ row_weigh-same (states_of m) (row_at m s (picked m goals pick n s)) (λ v. hit m goals 1 n (extreme_tree n v) v) (λ v. extreme m goals pick n v) (known_.row s (picked m goals pick n s) h (picks_choice n s h)) (λ v l. hit-extreme n v l)
+      ∙ row_weigh-same (states_of m) (row_at m s (picked m goals pick n s)) (λ v. hit m goals 1 n (extreme_tree n v) v)
+      (λ v. extreme m goals pick n v) (known_.row s (picked m goals pick n s) h (picks_choice n s h)) (λ v l. hit-extreme n v l)
       ∙ sym (extreme-suc m goals pick n s g))
       (cases_Bool (is_marked goals s))
 
@@ -178,13 +180,15 @@ row_sum-ge k row f z known each =
 known_kids : (m : Mdp) (u n s : ℕ) (weights : ℕ → ℕ) (kids : ℕ → ℕ → Tree) → IsMdp m → Fits m u (suc n) (node weights kids) s
     → EachAt (choices_at m s) (λ c x. (((c < length (choices_at m s)) × (row_at m s c ≡ x.row)) × IsRow (states_of m) x.row) × EachAt x.row (λ e y. Fits m u n (kids c e) y.target))
 known_kids m u n s weights kids known fits =
-    EachAt_both (choices_at m s) (λ c x. ((c < length (choices_at m s)) × (row_at m s c ≡ x.row)) × IsRow (states_of m) x.row) (λ c x. EachAt x.row (λ e y. Fits m u n (kids c e) y.target)) (known_choices m s known) fits.1
+    EachAt_both (choices_at m s) (λ c x. ((c < length (choices_at m s)) × (row_at m s c ≡ x.row)) × IsRow (states_of m) x.row)
+    (λ c x. EachAt x.row (λ e y. Fits m u n (kids c e) y.target)) (known_choices m s known) fits.1
 
 module _ (m : Mdp) (goals : List Bool) (u : ℕ) (known_ : IsMdp m) (hu : 1 ≤ u) where
   -- no tree passes the best hit of its depth
   pub hit-le_best : (n : ℕ) (t : Tree) (s : ℕ) → s < states_of m → Fits m u n t s → hit m goals u n t s ≤ℚ best m goals n s
   hit-le_best zero t s h fits =
-      ⊎_elim (λ g. ≤ℚ_of_eq _ _ (hit-goal m goals u 0 t s hu g ∙ sym (extreme-goal m goals greatest_place 0 s g))) (λ g. ≤ℚ_of_eq _ _ (hit-end m goals u t s hu g ∙ sym (extreme-end m goals greatest_place s g)))
+      ⊎_elim (λ g. ≤ℚ_of_eq _ _ (hit-goal m goals u 0 t s hu g ∙ sym (extreme-goal m goals greatest_place 0 s g)))
+      (λ g. ≤ℚ_of_eq _ _ (hit-end m goals u t s hu g ∙ sym (extreme-end m goals greatest_place s g)))
       (cases_Bool (is_marked goals s))
   hit-le_best (suc n) leaf s h fits = absurd fits
   hit-le_best (suc n) (node weights kids) s h fits =
@@ -208,7 +212,8 @@ module _ (m : Mdp) (goals : List Bool) (u : ℕ) (known_ : IsMdp m) (hu : 1 ≤ 
   -- and none stays below the least
   pub worst-le_hit : (n : ℕ) (t : Tree) (s : ℕ) → s < states_of m → Fits m u n t s → worst m goals n s ≤ℚ hit m goals u n t s
   worst-le_hit zero t s h fits =
-      ⊎_elim (λ g. ≤ℚ_of_eq _ _ (extreme-goal m goals least_place 0 s g ∙ sym (hit-goal m goals u 0 t s hu g))) (λ g. ≤ℚ_of_eq _ _ (extreme-end m goals least_place s g ∙ sym (hit-end m goals u t s hu g)))
+      ⊎_elim (λ g. ≤ℚ_of_eq _ _ (extreme-goal m goals least_place 0 s g ∙ sym (hit-goal m goals u 0 t s hu g)))
+      (λ g. ≤ℚ_of_eq _ _ (extreme-end m goals least_place s g ∙ sym (hit-end m goals u t s hu g)))
       (cases_Bool (is_marked goals s))
   worst-le_hit (suc n) leaf s h fits = absurd fits
   worst-le_hit (suc n) (node weights kids) s h fits =
@@ -240,5 +245,6 @@ pub hit-unfolded : (m : Mdp) (goals : List Bool) (policy : List ℕ) (n s : ℕ)
 hit-unfolded m goals policy n s known choice g =
     ap (λ (t : Tree). hit m goals 1 (suc n) t s) (sym (unfolded_is m policy (suc n) s))
     ∙ hit-followed m goals (λ d v. get_or policy v 0) n s known choice g
-    ∙ weigh-same (λ (y : Entry). y.target) (λ (y : Entry). y.prob) (λ v. hit m goals 1 n (followed m (λ d w. get_or policy w 0) n v) v) (λ v. hit m goals 1 n (unfolded m policy n v) v) (row_at m s (get_or policy s 0))
+    ∙ weigh-same (λ (y : Entry). y.target) (λ (y : Entry). y.prob) (λ v. hit m goals 1 n (followed m (λ d w. get_or policy w 0) n v) v)
+    (λ v. hit m goals 1 n (unfolded m policy n v) v) (row_at m s (get_or policy s 0))
     (λ k d l. let v : ℕ = Entry.target (get_or (row_at m s (get_or policy s 0)) k d) in ap (λ (t : Tree). hit m goals 1 n t v) (unfolded_is m policy n v))

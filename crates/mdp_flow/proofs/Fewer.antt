@@ -21,7 +21,8 @@ use Rattle.mdp_spec.proofs.Keeping.{unfolded_fits, unfolded_is_strategy}
 use Rattle.mdp_flow.specs.Fewer.{IsIncluded, ReachesMore}
 use Rattle.mdp_spec.proofs.Subsystem.{stays, stays-kept, sub-states, sub-stays, sub-loops, sub_is_mdp}
 use Rattle.mdp_flow.proofs.Picks.{greatest_place, greatest_place-below, least_place, least_place-below}
-use Rattle.mdp_flow.proofs.Extremal.{IsPick, extreme, extreme-goal, extreme-end, extreme-suc, extreme-nonneg, picked, picks_choice, best, worst, best-ge, worst-le, hit-le_best, worst-le_hit, extreme_tree, extreme_fits, hit-extreme, hit-unfolded, row_weigh-mono}
+use Rattle.mdp_flow.proofs.Extremal.{IsPick, extreme, extreme-goal, extreme-end, extreme-suc, extreme-nonneg, picked, picks_choice, best}
+use Rattle.mdp_flow.proofs.Extremal.{worst, best-ge, worst-le, hit-le_best, worst-le_hit, extreme_tree, extreme_fits, hit-extreme, hit-unfolded, row_weigh-mono}
 
 -- ---- a state that is left with its loop never meets a goal
 
@@ -39,7 +40,8 @@ module _ (m : Mdp) (goals kept : List Bool) (pick : (ℕ → ℚ) → ℕ → �
       let b : Mdp = sub_of m goals kept in
       let loops : choices_at b s ≡ loop_at m.names s ∷ [] = sub-loops m goals kept s h e in
       let first : picked b goals pick n s ≡ 0 =
-      loop_choice (picked b goals pick n s) (length (choices_at b s)) (picks_choice b goals pick (sub_is_mdp m goals kept known_) is_pick n s (subst (λ (k : ℕ). s < k) (sym (sub-states m goals kept)) h)) (ap length loops)
+      loop_choice (picked b goals pick n s) (length (choices_at b s))
+      (picks_choice b goals pick (sub_is_mdp m goals kept known_) is_pick n s (subst (λ (k : ℕ). s < k) (sym (sub-states m goals kept)) h)) (ap length loops)
       in
       extreme-suc b goals pick n s (neither (is_marked goals s) (is_marked kept s) e)
       ∙ ap (λ (c : ℕ). row_weigh (λ v. extreme b goals pick n v) (row_at b s c)) first
@@ -79,7 +81,8 @@ module _ (m : Mdp) (goals kept more : List Bool) (known_ : IsMdp m) (inc : IsInc
   same_row s c h g e = ap (λ (cs : List Choice). Choice.row (get_or cs c no_choice)) (same_choices s h g e)
 
   -- what grows at each state weighs more in a row of the larger subsystem
-  weighs_more : (n s c : ℕ) (f g : ℕ → ℚ) → s < states_of m → c < length (choices_at large s) → ((v : ℕ) → v < states_of m → f v ≤ℚ g v) → row_weigh f (row_at large s c) ≤ℚ row_weigh g (row_at large s c)
+  weighs_more : (n s c : ℕ) (f g : ℕ → ℚ) → s < states_of m → c < length (choices_at large s) → ((v : ℕ) → v < states_of m → f v ≤ℚ g v)
+      → row_weigh f (row_at large s c) ≤ℚ row_weigh g (row_at large s c)
   weighs_more n s c f g h l less =
       row_weigh-mono (states_of large) (row_at large s c) f g (large_known.row s c (in_large s h) l) (λ v i. less v (subst (λ (k : ℕ). v < k) (sub-states m goals more) i))
 
@@ -90,10 +93,12 @@ module _ (m : Mdp) (goals kept more : List Bool) (known_ : IsMdp m) (inc : IsInc
       (λ g. ⊎_elim
       (λ e.
       let c : ℕ = picked small goals greatest_place n s in
-      let l : c < length (choices_at large s) = subst (λ (cs : List Choice). c < length cs) (same_choices s h g e) (picks_choice small goals greatest_place small_known greatest_place-below n s (in_small s h)) in
+      let l : c < length (choices_at large s) = subst (λ (cs : List Choice). c < length cs) (same_choices s h g e)
+      (picks_choice small goals greatest_place small_known greatest_place-below n s (in_small s h)) in
       ≤ℚ_trans _ _ _ (≤ℚ_of_eq _ _ (extreme-suc small goals greatest_place n s g ∙ ap (λ (row : List Entry). row_weigh (λ v. best small goals n v) row) (same_row s c h g e)))
       (≤ℚ_trans _ _ _ (weighs_more n s c (λ v. best small goals n v) (λ v. best large goals n v) h l (λ v i. best-fewer n v i)) (best-ge large goals large_known n s c g l)))
-      (λ e. ≤ℚ_trans _ _ _ (≤ℚ_of_eq _ _ (lost-none m goals kept greatest_place known_ greatest_place-below (suc n) s h e)) (extreme-nonneg large goals greatest_place large_known greatest_place-below (suc n) s (in_large s h)))
+      (λ e. ≤ℚ_trans _ _ _ (≤ℚ_of_eq _ _ (lost-none m goals kept greatest_place known_ greatest_place-below (suc n) s h e))
+      (extreme-nonneg large goals greatest_place large_known greatest_place-below (suc n) s (in_large s h)))
       (cases_Bool (stays goals kept s)))
       (cases_Bool (is_marked goals s))
 
@@ -108,7 +113,8 @@ module _ (m : Mdp) (goals kept more : List Bool) (known_ : IsMdp m) (inc : IsInc
       ≤ℚ_trans _ _ _ (worst-le small goals small_known n s c g (subst (λ (cs : List Choice). c < length cs) (sym (same_choices s h g e)) l))
       (≤ℚ_trans _ _ _ (≤ℚ_of_eq _ _ (ap (λ (row : List Entry). row_weigh (λ v. worst small goals n v) row) (same_row s c h g e)))
       (≤ℚ_trans _ _ _ (weighs_more n s c (λ v. worst small goals n v) (λ v. worst large goals n v) h l (λ v i. worst-fewer n v i)) (≤ℚ_of_eq _ _ (sym (extreme-suc large goals least_place n s g))))))
-      (λ e. ≤ℚ_trans _ _ _ (≤ℚ_of_eq _ _ (lost-none m goals kept least_place known_ least_place-below (suc n) s h e)) (extreme-nonneg large goals least_place large_known least_place-below (suc n) s (in_large s h)))
+      (λ e. ≤ℚ_trans _ _ _ (≤ℚ_of_eq _ _ (lost-none m goals kept least_place known_ least_place-below (suc n) s h e))
+      (extreme-nonneg large goals least_place large_known least_place-below (suc n) s (in_large s h)))
       (cases_Bool (stays goals kept s)))
       (cases_Bool (is_marked goals s))
 
@@ -132,7 +138,8 @@ module _ (m : Mdp) (goals kept more : List Bool) (known_ : IsMdp m) (inc : IsInc
       ∙ ap (λ (d : ℕ). row_weigh (λ v. hit small goals 1 n (unfolded small p n v) v) (row_at small s d)) (agree s h g e)
       ∙ ap (λ (row : List Entry). row_weigh (λ v. hit small goals 1 n (unfolded small p n v) v) row) (same_row s c h g e)))
       (≤ℚ_trans _ _ _
-      (weighs_more n s c (λ v. hit small goals 1 n (unfolded small p n v) v) (λ v. hit large goals 1 n (unfolded large q n v) v) h (is_q.in_range s (in_large s h)) (λ v i. policy-fewer p q is_p is_q agree n v i))
+      (weighs_more n s c (λ v. hit small goals 1 n (unfolded small p n v) v) (λ v. hit large goals 1 n (unfolded large q n v) v) h
+      (is_q.in_range s (in_large s h)) (λ v i. policy-fewer p q is_p is_q agree n v i))
       (≤ℚ_of_eq _ _ (sym (hit-unfolded large goals q n s large_known (is_q.in_range s (in_large s h)) g)))))
       (λ e.
       ≤ℚ_trans _ _ _ (hit-le_best small goals 1 small_known (omega arith) (suc n) (unfolded small p (suc n) s) s (in_small s h) (unfolded_fits small p (suc n) s small_known is_p (in_small s h)))

@@ -1,14 +1,19 @@
 -- A floor certificate is answered yes exactly where the rules hold in exact numbers and no written term is past width; and then each policy of its
 -- subsystem reaches the threshold.
-use Rattle.std.proofs.Common.{◌≡◌, ℕ, ◌<◌, ◌⊎◌, inr, ⊎_elim, Bool, true, false, true≢false, not, ◌||◌, ltb, lt-ltb, ltb-true, eqb-true, eq-eqb, List, [], ◌∷◌, ◌++◌, length, get_or, Some, refl, sym, ap, subst, ◌∙◌}
+use Rattle.std.proofs.Common.{◌≡◌, ℕ, ◌<◌, ◌⊎◌, inr, ⊎_elim, Bool, true, false, true≢false, not, ◌||◌, ltb, lt-ltb}
+use Rattle.std.proofs.Common.{ltb-true, eqb-true, eq-eqb, List, [], ◌∷◌, ◌++◌, length, get_or, Some, refl, sym, ap, subst, ◌∙◌, ap₂, cond, pos, arith}
 use Rattle.std.specs.Prelude.{◌↔◌}
 use Rattle.std.specs.List.{Any, list_any}
 use Rattle.std.proofs.lemmas.List.Elements.{All-from_recursion, recursion_from_All}
-use Rattle.mdp_math.specs.Rational.{ℚ, lt_ℚ, ◌+ℚ◌, ◌≤ℚ◌, ◌<ℚ◌}
+use Rattle.std.proofs.lemmas.Bool.{cases_lt}
+use Rattle.std.proofs.lemmas.List.{get_or_past}
+use Rattle.std.proofs.lemmas.List.FromFn.{length-map-range_with_len}
+use Rattle.mdp_math.specs.Rational.{ℚ, lt_ℚ, ◌+ℚ◌, ◌≤ℚ◌, ◌<ℚ◌, of_int}
 use Rattle.mdp_math.proofs.Extremes.{lt_of_test, test_of_lt, le_of_no_test, no_test_of_le}
 use Rattle.mdp_math.proofs.Laws.{zero-+ℚ}
 use Rattle.mdp_math.proofs.Options.{Some_same}
 use Rattle.mdp_math.proofs.Order.{0ℚ, 1ℚ, ≤ℚ_of_eq, ≤ℚ_antisymm}
+use Rattle.mdp_math.proofs.Kernel.{weigh-same}
 use Rattle.mdp_spec.specs.Bounds.{SubMin}
 use Rattle.mdp_spec.specs.Mdp.{Entry, Mdp, states_of, choices_at, row_at, value_at}
 use Rattle.mdp_spec.specs.Row.{IsMdp, row_sum}
@@ -22,12 +27,12 @@ use Rattle.mdp_farkas.proofs.Holds.{each_map, each_map_at, each_if, each_if_true
 use Rattle.mdp_farkas.proofs.Inequalities.{sum_stands_of, of_sum_stands}
 use Rattle.mdp_farkas.proofs.Tests.{some_passed, some_passes}
 use Rattle.mdp_flow.specs.Floor.{MeetsFloor, counted_value, counted_sum}
-use Rattle.mdp_flow.specs.FloorChecks.{spread_values, spread_ranks, line_value, line_rank, line_values, cover_check, cover_checks, rank_check, fall_check, rank_checks, checks_of_line, each_line, start_check, floor_checks, HoldsFloor}
+use Rattle.mdp_flow.specs.FloorChecks.{spread_values, spread_ranks, line_value, line_rank, line_values, cover_check, cover_checks}
+use Rattle.mdp_flow.specs.FloorChecks.{rank_check, fall_check, rank_checks, checks_of_line, each_line, start_check, floor_checks, HoldsFloor}
 use Rattle.mdp_flow.specs.FlowChecks.{kept_check}
-use Rattle.mdp_flow.specs.Kept.{kept_marks}
+use Rattle.mdp_flow.specs.Kept.{is_listed, kept_marks}
 use Rattle.mdp_flow.specs.Shape.{IsFloorShape}
 use Rattle.mdp_flow.proofs.Counted.{line_values-at}
-use Rattle.mdp_flow.proofs.Extremal.{row_weigh-same}
 use Rattle.mdp_flow.proofs.Floors.{sub_min_of_floor}
 use Rattle.mdp_flow.proofs.Kept.{each_kept, each_place, spread-at, looked_up-at}
 use Rattle.mdp_flow.proofs.Parts.{unmarked}
@@ -54,7 +59,7 @@ of_no_end true l e = absurd (true≢false e)
 of_no_end false true e = refl
 of_no_end false false e = absurd (true≢false e)
 
-module _ (m : Mdp) (goals : List Bool) (start : ℕ) (threshold : ℚ) (kept : List ℕ) (wide : List Bool) (values : List ℚ) (ranks : List ℕ) (known : IsMdp m) (h : start < states_of m)
+module _ (m : Mdp) (goals : List Bool) (start : ℕ) (threshold : ℚ) (kept : List ℕ) (wide : List Bool) (values : List ℚ) (ranks : List ℕ) (one_mark_each : length goals ≡ states_of m) (h : start < states_of m)
     (shape : IsFloorShape m kept wide values ranks) where
   abbrev marks : List Bool
   marks = kept_marks (states_of m) kept
@@ -82,10 +87,20 @@ module _ (m : Mdp) (goals : List Bool) (start : ℕ) (threshold : ℚ) (kept : L
   own_rank : (i : ℕ) → i < length kept → get_or steps (get_or kept i 0) 0 ≡ get_or ranks i 0
   own_rank i l = spread-at (states_of m) kept ranks 0 0 (get_or kept i 0) (inside i l) ∙ looked_up-at kept ranks 0 0 i shape.kept_ascends l shape.one_rank_each
 
+  -- a number that isn't a state counts as 0
+  value_is : (t : ℕ) → value_at counts t ≡ counted_value goals marks z t
+  value_is t =
+      ⊎_elim (λ lt. line_values-at m goals kept values t lt)
+      (λ past. get_or_past counts t 0ℚ (omega (arith, past, length-map-range_with_len (line_value m goals kept values) 0 (states_of m)))
+      ∙ ap₂ (λ (g k : Bool). cond g (of_int (pos 1)) (cond k (value_at z t) 0ℚ)) (sym (get_or_past goals t false (omega (arith, past, one_mark_each))))
+      (sym (get_or_past marks t false (omega (arith, past, length-map-range_with_len (is_listed kept) 0 (states_of m))))))
+      (cases_lt t (states_of m))
+
   -- the sum over a row of what the lines count is that of what the states count as
   same_sum : (s c : ℕ) → s < states_of m → c < length (choices_at m s) → row_sum (row_at m s c) counts ≡ counted_sum goals marks z (row_at m s c)
   same_sum s c l k =
-      row_weigh-same (states_of m) (row_at m s c) (λ t. value_at counts t) (λ t. counted_value goals marks z t) (known.row s c l k) (λ t i. line_values-at m goals kept values t i)
+      weigh-same (λ (y : Entry). y.target) (λ (y : Entry). y.prob) (λ t. value_at counts t) (λ t. counted_value goals marks z t) (row_at m s c)
+      (λ i d l. value_is (Entry.target (get_or (row_at m s c) i d)))
 
   -- ---- the parts of the checks
 
@@ -235,7 +250,8 @@ module _ (m : Mdp) (goals : List Bool) (start : ℕ) (threshold : ℚ) (kept : L
           (
             at_most_of_le (value_at values i) 1ℚ (at_most_one_at i l) told.1.0,
             each_append Holds (cover_checks m goals counts s (value_at values i)) (rank_checks m goals ranked s (value_at values i) (get_or ranks i 0) ++ kept_check goals s ∷ []) (covers_hold i l)
-                (each_append Holds (rank_checks m goals ranked s (value_at values i) (get_or ranks i 0)) (kept_check goals s ∷ []) (ranks_hold i l) (ap (λ (b : Bool). Some (not b)) (is_free i l), tt)),
+                (each_append Holds (rank_checks m goals ranked s (value_at values i) (get_or ranks i 0)) (kept_check goals s ∷ [])
+                (ranks_hold i l) (ap (λ (b : Bool). Some (not b)) (is_free i l), tt)),
           ),
         )
 
@@ -260,6 +276,6 @@ module _ (m : Mdp) (goals : List Bool) (start : ℕ) (threshold : ℚ) (kept : L
         e ∙ yes_of_each (floor_checks m goals start threshold kept values ranks) (all_hold w is.rules)),
   )
 
-  pub floor_sub_min : (v : Verdict) → v ≡ verdict_of (floor_checks m goals start threshold kept values ranks) → IfYes v (SubMin m goals marks start threshold)
-  floor_sub_min v e =
+  pub floor_sub_min : (v : Verdict) → IsMdp m → v ≡ verdict_of (floor_checks m goals start threshold kept values ranks) → IfYes v (SubMin m goals marks start threshold)
+  floor_sub_min v known e =
       if_yes v (SubMin m goals marks start threshold) (λ yes_. sub_min_of_floor m goals marks z steps start threshold known (HoldsFloor.rules ((floor_rules v e).0 yes_)) h)

@@ -102,15 +102,18 @@ module _ (m : Mdp) (goals kept : List Bool) (flows : List Flow) (start : ℕ) (t
       (sum_of-same (λ (x : Flow). x.amount *ℚ (prob_to_goals goals (flow_row m x) +ℚ kept_sum x)) (λ (x : Flow). x.amount *ℚ prob_to_goals goals (flow_row m x) +ℚ x.amount *ℚ kept_sum x) flows
       (λ x. ring rat_ring 3 (λ a g k. a ⊗ (g ⊕ k)) (λ a g k. a ⊗ g ⊕ a ⊗ k) refl x.amount (prob_to_goals goals (flow_row m x)) (kept_sum x))
       ∙ sum_of-add (λ (x : Flow). x.amount *ℚ prob_to_goals goals (flow_row m x)) (λ (x : Flow). x.amount *ℚ kept_sum x) flows
-      ∙ ap (λ (s : ℚ). goal_flow m goals flows +ℚ s) (sym (gathered_parts (λ (x : Flow). x.amount) (λ (x : Flow) t. prob_to (flow_row m x) t) (λ t. kept_value n t) (range_with_len 0 (states_of m)) flows)))
+      ∙ ap (λ (s : ℚ). goal_flow m goals flows +ℚ s)
+      (sym (gathered_parts (λ (x : Flow). x.amount) (λ (x : Flow) t. prob_to (flow_row m x) t) (λ t. kept_value n t) (range_with_len 0 (states_of m)) flows)))
       (sum_of-le (λ (x : Flow). x.amount *ℚ (prob_to_goals goals (flow_row m x) +ℚ kept_sum x)) (λ (x : Flow). x.amount *ℚ v (suc n) x.state) flows
-      (λ k d l. let x : Flow = get_or flows k d in mul-le-mul_left_ℚ x.amount _ _ (≤ℚ_of_lt _ _ (IsFlow.positive (f.each k d l))) (≤ℚ_trans _ _ _ (row_parts n (flow_row m x) (flow_known x (f.each k d l))) (v-step n k d l))))
+      (λ k d l. let x : Flow = get_or flows k d in mul-le-mul_left_ℚ x.amount _ _ (≤ℚ_of_lt _ _ (IsFlow.positive (f.each k d l)))
+      (≤ℚ_trans _ _ _ (row_parts n (flow_row m x) (flow_known x (f.each k d l))) (v-step n k d l))))
 
   -- what leaves the kept states, weighed, is what the start gets from outside and what comes in, at most
   leaves : (n : ℕ) → weighed n ≤ℚ kept_value n start +ℚ sum_of (λ t. kept_value n t *ℚ inflow m flows t) (range_with_len 0 (states_of m))
   leaves n =
       let out_is : sum_of (λ t. kept_value n t *ℚ outflow flows t) (range_with_len 0 (states_of m)) ≡ weighed n =
-      gathered (λ (x : Flow). x.state) (λ (x : Flow). x.amount) (λ t. kept_value n t) (states_of m) flows (λ k d l. let x : Flow = get_or flows k d in inside_of_choice m x.state x.choice (IsFlow.choice (f.each k d l)))
+      gathered (λ (x : Flow). x.state) (λ (x : Flow). x.amount) (λ t. kept_value n t) (states_of m) flows
+      (λ k d l. let x : Flow = get_or flows k d in inside_of_choice m x.state x.choice (IsFlow.choice (f.each k d l)))
       ∙ sum_of-same_all (λ (x : Flow). kept_value n x.state *ℚ x.amount) (λ (x : Flow). x.amount *ℚ v n x.state) flows
       (λ k d l.
       let x : Flow = get_or flows k d in
@@ -121,7 +124,8 @@ module _ (m : Mdp) (goals kept : List Bool) (flows : List Flow) (start : ℕ) (t
       (λ t. ap (λ (b : Bool). kept_value n t *ℚ cond b 1ℚ 0ℚ) (eqb_sym t start) ∙ sym (goal_part (eqb start t) (kept_value n t)))
       ∙ sum_of-only (λ t. kept_value n t) start (states_of m) h
       in
-      let in_is : sum_of (λ t. kept_value n t *ℚ (source start t +ℚ inflow m flows t)) (range_with_len 0 (states_of m)) ≡ kept_value n start +ℚ sum_of (λ t. kept_value n t *ℚ inflow m flows t) (range_with_len 0 (states_of m)) =
+      let in_is : sum_of (λ t. kept_value n t *ℚ (source start t +ℚ inflow m flows t)) (range_with_len 0 (states_of m))
+      ≡ kept_value n start +ℚ sum_of (λ t. kept_value n t *ℚ inflow m flows t) (range_with_len 0 (states_of m)) =
       sum_of-same (λ t. kept_value n t *ℚ (source start t +ℚ inflow m flows t)) (λ t. kept_value n t *ℚ source start t +ℚ kept_value n t *ℚ inflow m flows t) (range_with_len 0 (states_of m))
       (λ t. ring rat_ring 3 (λ k s i. k ⊗ (s ⊕ i)) (λ k s i. k ⊗ s ⊕ k ⊗ i) refl (kept_value n t) (source start t) (inflow m flows t))
       ∙ sum_of-add (λ t. kept_value n t *ℚ source start t) (λ t. kept_value n t *ℚ inflow m flows t) (range_with_len 0 (states_of m))
@@ -138,7 +142,8 @@ module _ (m : Mdp) (goals kept : List Bool) (flows : List Flow) (start : ℕ) (t
   one_more n =
       linear 8 (λ t g s k v a b i. t) (λ t g s k v a b i. v ⊕ (b ⊕ ⊖ a))
       (λ t g s k v a b i. known t (s ⊕ g) ∷ known (s ⊕ k) v ∷ known (g ⊕ i) b ∷ known a (k ⊕ i) ∷ []) refl
-      threshold (goal_flow m goals flows) (goal_source goals start) (kept_value n start) (v n start) (weighed n) (weighed (suc n)) (sum_of (λ t. kept_value n t *ℚ inflow m flows t) (range_with_len 0 (states_of m)))
+      threshold (goal_flow m goals flows) (goal_source goals start) (kept_value n start) (v n start) (weighed n)
+      (weighed (suc n)) (sum_of (λ t. kept_value n t *ℚ inflow m flows t) (range_with_len 0 (states_of m)))
       f.reached (value-parts n start h) (arrives n) (leaves n)
 
   -- ---- many steps
@@ -146,7 +151,8 @@ module _ (m : Mdp) (goals kept : List Bool) (flows : List Flow) (start : ℕ) (t
   weighed-nonneg : (n : ℕ) → 0ℚ ≤ℚ weighed n
   weighed-nonneg n =
       sum_of-nonneg (λ (x : Flow). x.amount *ℚ v n x.state) flows
-      (λ k d l. let x : Flow = get_or flows k d in mul-nonneg _ _ (≤ℚ_of_lt _ _ (IsFlow.positive (f.each k d l))) (v-nonneg n x.state (inside_of_choice m x.state x.choice (IsFlow.choice (f.each k d l)))))
+      (λ k d l. let x : Flow = get_or flows k d in mul-nonneg _ _ (≤ℚ_of_lt _ _ (IsFlow.positive (f.each k d l)))
+      (v-nonneg n x.state (inside_of_choice m x.state x.choice (IsFlow.choice (f.each k d l)))))
 
   weighed-le : (n : ℕ) → weighed n ≤ℚ flow_total flows
   weighed-le n =

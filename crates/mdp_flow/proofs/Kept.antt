@@ -1,5 +1,6 @@
 -- What marks and spread lists say: a claim on the kept states is one on the places of the list.
-use Rattle.std.proofs.Common.{◌≡◌, ℕ, zero, suc, ◌+◌, ◌<◌, ◌≤◌, ◌⊎◌, ⊎_elim, replicate, set, take, inl, inr, Bool, true, false, true≢false, ◌||◌, cond, eqb, List, [], ◌∷◌, get_or, length, refl, sym, ◌∙◌, ap, subst, arith}
+use Rattle.std.proofs.Common.{◌≡◌, ℕ, zero, suc, ◌+◌, ◌<◌, ◌≤◌, ◌⊎◌, ⊎_elim, replicate, set, take, inl, inr, Bool, true}
+use Rattle.std.proofs.Common.{false, true≢false, ◌||◌, cond, eqb, List, [], ◌∷◌, get_or, length, refl, sym, ◌∙◌, ap, subst, arith}
 use Rattle.std.proofs.lemmas.List.FromFn.{get_or-map-range_with_len}
 use Rattle.std.specs.Prelude.{Result, Ok, Err, MatchResult, MatchOption}
 use Rattle.std.specs.Result.{result_ok}
@@ -48,7 +49,8 @@ place_of_listed (k ∷ states) s e = elim (either_is (eqb k s) (is_listed states
 ascends-tail : (k : ℕ) (states : List ℕ) → Ascends (k ∷ states) → Ascends states
 ascends-tail k states a i j l h = a (suc i) (suc j) (omega (arith, l)) (omega (arith, h))
 
-pub looked_up-at : {A : Type 0} (states : List ℕ) (xs : List A) (none d : A) (i : ℕ) → Ascends states → i < length states → length xs ≡ length states → looked_up states xs none (get_or states i 0) ≡ get_or xs i d
+pub looked_up-at : {A : Type 0} (states : List ℕ) (xs : List A) (none d : A) (i : ℕ) → Ascends states → i < length states
+    → length xs ≡ length states → looked_up states xs none (get_or states i 0) ≡ get_or xs i d
 looked_up-at [] xs none d i a h e = absurd (omega arith)
 looked_up-at (k ∷ states) [] none d i a h e = absurd (omega (arith, e))
 looked_up-at (k ∷ states) (x ∷ xs) none d zero a h e = ap (λ (b : Bool). cond b x (looked_up states xs none k)) (eq-eqb k k refl)
@@ -64,7 +66,8 @@ pub each_kept : (P : ℕ → Type 0) (n : ℕ) (states : List ℕ) → ((i : ℕ
 each_kept P n states each s h e = let p = place_of_listed states s (sym (kept_marks-at n states s h) ∙ e) in subst P p.2 (each p.0 p.1)
 
 -- and the other way round
-pub each_place : (P : ℕ → Type 0) (n : ℕ) (states : List ℕ) → ((s : ℕ) → s < n → is_marked (kept_marks n states) s ≡ true → P s) → (i : ℕ) → i < length states → get_or states i 0 < n → P (get_or states i 0)
+pub each_place : (P : ℕ → Type 0) (n : ℕ) (states : List ℕ) → ((s : ℕ) → s < n → is_marked (kept_marks n states) s ≡ true → P s)
+    → (i : ℕ) → i < length states → get_or states i 0 < n → P (get_or states i 0)
 each_place P n states each i h l = each (get_or states i 0) l (kept_marks-at n states (get_or states i 0) l ∙ listed-at states i h)
 
 -- ---- marks that are made one after the other
@@ -108,7 +111,8 @@ ascends-le states a i j le h = elim (cases_eq i j) as (λ _. get_or states i 0 �
 
 -- the place that a search in an ascending list finds, or that the state isn't in it
 pub place_of_search : (states : List ℕ) (s : ℕ) (r : Result ℕ ℕ)
-    → MatchResult r (λ i. (i < length states) × (get_or states i 0 ≡ s)) (λ i. (i ≤ length states) × ((k : ℕ) → k < i → get_or states k 0 < s) × ((k : ℕ) → i ≤ k → k < length states → s < get_or states k 0))
+    → MatchResult r (λ i. (i < length states) × (get_or states i 0 ≡ s))
+    (λ i. (i ≤ length states) × ((k : ℕ) → k < i → get_or states k 0 < s) × ((k : ℕ) → i ≤ k → k < length states → s < get_or states k 0))
     → MatchOption (result_ok r) (is_listed states s ≡ false) (λ i. (i < length states) × (get_or states i 0 ≡ s))
 place_of_search states s (Ok i) found = found
 place_of_search states s (Err i) missed =

@@ -90,11 +90,13 @@ module _ (m : Mdp) (goals kept : List Bool) (z : List ℚ) (policy ranks : List 
     at_most_one = λ s l k. AreProbabilities.at_most_one r.probabilities s (inside_back s l);
     covered = λ s c l k i.
         ≤ℚ_trans _ _ _
-        (subst (λ (row : List Entry). value_at z s ≤ℚ row_weigh (value_at z) row) (stays-row m goals kept s c l (stays-kept goals kept s k)) (r.covered s c (inside_back s l) (no_goal s l k) (sub_has s c l k i)))
+        (subst (λ (row : List Entry). value_at z s ≤ℚ row_weigh (value_at z) row) (stays-row m goals kept s c l (stays-kept goals kept s k))
+        (r.covered s c (inside_back s l) (no_goal s l k) (sub_has s c l k i)))
         (≤ℚ_of_eq _ _ (row_weigh-same (states_of m) (row_at m s c) (value_at z) (counted_value goals kept z) (known_.row s c l i) (λ v j. sym (value_is v j))));
     ends = λ s l k e. r.ends s (inside_back s l) (inr e);
     falls = λ s c l k p i.
-        let any = subst (λ (row : List Entry). Any (λ y. get_or ranks y.target 0 < get_or ranks s 0) row) (stays-row m goals kept s c l (stays-kept goals kept s k)) (r.falls s c (inside_back s l) (no_goal s l k) p (sub_has s c l k i)) in
+        let any = subst (λ (row : List Entry). Any (λ y. get_or ranks y.target 0 < get_or ranks s 0) row)
+        (stays-row m goals kept s c l (stays-kept goals kept s k)) (r.falls s c (inside_back s l) (no_goal s l k) p (sub_has s c l k i)) in
         let target : Entry.target any.1 < states_of m = subst (λ (y : Entry). y.target < states_of m) any.3 ((known_.row s c l i).in_range any.0 any.1 any.2) in
         (any.0, any.1, any.2, any.3, subst (λ (x : ℕ). x < get_or ranks s 0) (sym (rank_is (Entry.target any.1) target)) any.4);
     reached = ≤ℚ_trans _ _ _ reached (≤ℚ_of_eq _ _ (sym (value_is start h)));

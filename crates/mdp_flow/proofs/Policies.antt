@@ -75,7 +75,8 @@ short_by : (x y t q : ℚ) → y ≤ℚ x → q ≤ℚ t -ℚ x → y +ℚ q ≤
 short_by x y t q le less = linear 4 (λ x y t q. y ⊕ q) (λ x y t q. t) (λ x y t q. known y x ∷ known q (t ⊕ ⊖ x) ∷ []) refl x y t q le less
 
 -- a policy of the larger subsystem that stays below a number under the threshold, and one of the smaller subsystem that agrees with it
-short_by_other : (m : Mdp) (goals kept more : List Bool) (start : ℕ) (threshold x : ℚ) (p q : List ℕ) → IsMdp m → IsIncluded m kept more → start < states_of m → IsPolicy (sub_of m goals kept) p → IsPolicy (sub_of m goals more) q
+short_by_other : (m : Mdp) (goals kept more : List Bool) (start : ℕ) (threshold x : ℚ) (p q : List ℕ) → IsMdp m
+    → IsIncluded m kept more → start < states_of m → IsPolicy (sub_of m goals kept) p → IsPolicy (sub_of m goals more) q
     → ((s : ℕ) → s < states_of m → stays goals kept s ≡ true → get_or p s 0 ≡ get_or q s 0)
     → ((n : ℕ) → hit_on m goals more q n start ≤ℚ x) → x <ℚ threshold → FallsShort m goals kept start threshold p
 short_by_other m goals kept more start threshold x p q known_ inc h is_p is_q agree bound less = record {
@@ -91,7 +92,8 @@ short_by_other m goals kept more start threshold x p q known_ inc h is_p is_q ag
 
 module _ (m : Mdp) (goals kept more : List Bool) (start : ℕ) (threshold : ℚ) (policy : List ℕ) (known_ : IsMdp m) (inc : IsIncluded m kept more) (h : start < states_of m) where
   -- a policy of the model
-  pub short_of_bound : (x : ℚ) → IsPolicy m policy → ((n : ℕ) → hit_on m goals more (policy_on goals more policy) n start ≤ℚ x) → x <ℚ threshold → FallsShort m goals kept start threshold (policy_on goals kept policy)
+  pub short_of_bound : (x : ℚ) → IsPolicy m policy → ((n : ℕ) → hit_on m goals more (policy_on goals more policy) n start ≤ℚ x)
+      → x <ℚ threshold → FallsShort m goals kept start threshold (policy_on goals kept policy)
   short_of_bound x choice bound less =
       short_by_other m goals kept more start threshold x (policy_on goals kept policy) (policy_on goals more policy) known_ inc h
       (policy_on_sub m goals kept policy choice) (policy_on_sub m goals more policy choice)
@@ -103,7 +105,8 @@ module _ (m : Mdp) (goals kept more : List Bool) (start : ℕ) (threshold : ℚ)
   short_of_min z r less =
       short_by_other m goals kept more start threshold (value_at z start) (policy_on goals kept policy) policy known_ inc h
       (policy_on_is m goals kept policy (r.takes.one_each ∙ sub-states m goals more)
-      (λ s l e. subst (λ (cs : List Choice). get_or policy s 0 < length cs) (sub-stays m goals more s l (stays_on m goals kept more inc s l e)) (r.takes.in_range s (in_large m goals kept more known_ inc s l))))
+      (λ s l e. subst (λ (cs : List Choice). get_or policy s 0 < length cs) (sub-stays m goals more s l (stays_on m goals kept more inc s l e))
+      (r.takes.in_range s (in_large m goals kept more known_ inc s l))))
       r.takes
       (λ s l e. policy_on-stays goals kept policy s e)
       (λ n. r.below n start (in_large m goals kept more known_ inc start h)) less

@@ -1,5 +1,4 @@
 ghost use Rattle.std.specs.Prelude.{◌≡◌, ◌<◌, ◌↔◌, length, [], ◌∷◌, ◌++◌, map, All, IfOk, OnOk};
-ghost use Rattle.mdp_math.specs.Rational.{ℚ};
 ghost use Rattle.mdp_spec.specs.Bounds.{SubMax, SubMaxWithin};
 ghost use Rattle.mdp_spec.specs.Mdp.{states_of};
 ghost use Rattle.mdp_farkas.specs.Reach.{choice_exists};
@@ -8,7 +7,7 @@ ghost use Rattle.mdp_flow.specs.Flow.{flow_total};
 ghost use Rattle.mdp_flow.specs.FlowChecks.{kept_check, flow_check, checks_at, each_flow, balance_check, arrival_check, sum_checks, checks_from, flow_checks, HoldsFlow};
 ghost use Rattle.mdp_flow.specs.Kept.{kept_marks};
 ghost use Rattle.mdp_flow.specs.Shape.{IsFlowShape};
-ghost use Rattle.mdp_flow.specs.Sums.{AreSums, first_sums, after_flow, after_flows};
+ghost use Rattle.mdp_flow.specs.Sums.{AreSums, after_flow, after_flows};
 ghost use Rattle.mdp_flow.specs.Walk.{stop_of};
 
 use crate::compare::{at_least, at_most};

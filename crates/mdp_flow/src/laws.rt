@@ -1,4 +1,5 @@
-ghost use Rattle.mdp_flow.specs.Laws.{FloorShows, FlowShows, PolicyShows, LeastIsFloor, VisitsAreFlow, VisitsBound, TreesReachMore, WholeIsModel, GreatestGrows, LeastGrows, LeastFallsShort, PolicyFallsShort, VisitsFallShort, ShortIsNoFloor};
+ghost use Rattle.mdp_flow.specs.Laws.{FloorShows, FlowShows, PolicyShows, LeastIsFloor, VisitsAreFlow, VisitsBound, TreesReachMore};
+ghost use Rattle.mdp_flow.specs.Laws.{WholeIsModel, GreatestGrows, LeastGrows, LeastFallsShort, PolicyFallsShort, VisitsFallShort, ShortIsNoFloor};
 
 /// A floor that meets its rules bounds the least probability of meeting a goal on its subsystem from below.
 pub fn floor_law()

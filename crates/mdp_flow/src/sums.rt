@@ -109,7 +109,8 @@ impl Sums {
     ) -> Result<(), Wide>
         requires goals { target < length goals.now }
         requires inflows { target < length self.old.inflows }
-        ensures { let x : Entry = record { target = target; prob = prob.now } in MatchResult result (λ ok. with_entry goals.now amount.now self.old x ≡ Some self.new) (λ e. with_entry goals.now amount.now self.old x ≡ None) }
+        ensures { let x : Entry = record { target = target; prob = prob.now } in
+            MatchResult result (λ ok. with_entry goals.now amount.now self.old x ≡ Some self.new) (λ e. with_entry goals.now amount.now self.old x ≡ None) }
     {
         let term = amount.mul(prob)?;
         if goals.at(target) {
@@ -123,7 +124,8 @@ impl Sums {
     fn add_row(&mut self, goals: &Marks, amount: &Frac, row: Row<'_>) -> Result<(), Wide>
         requires sums { AreSums (length goals.now) self.old }
         requires targets { All (λ t. t < length goals.now) row.targets.now }
-        ensures { let xs = entries row.entry.targets.now row.entry.probs.now in MatchResult result (λ ok. with_row goals.now amount.now self.old xs ≡ Some self.new) (λ e. with_row goals.now amount.now self.old xs ≡ None) }
+        ensures { let xs = entries row.entry.targets.now row.entry.probs.now in
+            MatchResult result (λ ok. with_row goals.now amount.now self.old xs ≡ Some self.new) (λ e. with_row goals.now amount.now self.old xs ≡ None) }
     {
         for i in 0..row.targets.len() {
             self.add_entry(goals, amount, row.targets[i], &row.probs[i])?;

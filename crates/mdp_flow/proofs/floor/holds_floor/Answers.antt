@@ -20,6 +20,6 @@ returns c =
     in
     record {
       verdict = e;
-      rules = floor_rules m goals start threshold cert.kept.items cert.wide.items cert.values.items cert.ranks.items c.known.ensures.mdp c.requires.start c.requires.shape v e;
-      sub_min = floor_sub_min m goals start threshold cert.kept.items cert.wide.items cert.values.items cert.ranks.items c.known.ensures.mdp c.requires.start c.requires.shape v e;
+      rules = floor_rules m goals start threshold cert.kept.items cert.wide.items cert.values.items cert.ranks.items c.requires.goals c.requires.start c.requires.shape v e;
+      sub_min = floor_sub_min m goals start threshold cert.kept.items cert.wide.items cert.values.items cert.ranks.items c.requires.goals c.requires.start c.requires.shape v c.known.ensures.mdp e;
     }

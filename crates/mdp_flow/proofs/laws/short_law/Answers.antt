@@ -13,7 +13,8 @@ returns-clause-policy c = λ m goals kept more start threshold x policy known in
 
 pub returns-clause-visits : goal.returns-clause-visits
 returns-clause-visits c = λ m goals kept more start threshold policy y known inc h choice visits no_goal less.
-    short_of_bound m goals kept more start threshold policy known inc h (flow_value m goals (visit_flows (states_of m) policy y) start) choice (visits_bound m goals more policy start y known choice h visits no_goal) less
+    short_of_bound m goals kept more start threshold policy known inc h (flow_value m goals (visit_flows (states_of m) policy y) start) choice
+    (visits_bound m goals more policy start y known choice h visits no_goal) less
 
 pub returns-clause-no_floor : goal.returns-clause-no_floor
 returns-clause-no_floor c = λ m goals kept start threshold policy known h choice short sub. not_sub_min m goals kept start threshold policy known h choice short sub
