@@ -14,7 +14,7 @@ use Rattle.mdp_path.specs.Laws.{EndsAtBest}
 use Rattle.mdp_path.specs.Ends.{capped}
 use Rattle.mdp_path.specs.Queries.{WideTerm, shown, Solves}
 use Rattle.mdp_reach.specs.Query.{Answer, plain, EndsSo}
-use Rattle.mdp_witness.specs.Search.{Evaluates}
+use Rattle.mdp_witness.specs.LeastEvaluation.{Evaluates}
 use Rattle.mdp_witness.proofs.Lengths.{sized}
 
 pub evaluates_cut : (m cut : Mdp) (goals set : List Bool) (r : Result ReachCert SolveError) → cut ≡ sub_of m goals set → Solves plain (EndsSo Min cut goals) r → Solves plain (Evaluates m goals set) r

@@ -7,6 +7,8 @@ use Rattle.std.proofs.lemmas.List.{ext_get_or}
 use Rattle.std.proofs.lemmas.List.FromFn.{get_or-map-range_with_len, length-map-range_with_len}
 use Rattle.mdp_math.specs.Rational.{ℚ, ◌≤ℚ◌, ◌<ℚ◌}
 use Rattle.mdp_math.specs.Written.{written_compare}
+use Rattle.mdp_math.proofs.Order.{≤ℚ_of_eq, ≤ℚ_of_lt, lt_of_cmp, eq_of_cmp, gt_of_cmp}
+use Rattle.mdp_math.proofs.Written.{written_compare-some}
 use Rattle.mdp_math.proofs.Numbers.{le_or, last_or}
 use Rattle.mdp_spec.specs.Tree.{is_marked}
 use Rattle.mdp_farkas.specs.Compare.{not_less}
@@ -89,6 +91,11 @@ needed_compare (Some Less) e = refl
 needed_compare (Some Equal) e = cc
 needed_compare (Some Greater) e = cc
 
+at_least : (x y : ℚ) (o : Ordering) → written_compare x y ≡ Some o → not_less o ≡ true → y ≤ℚ x
+at_least x y Less e h = cc
+at_least x y Equal e h = ≤ℚ_of_eq y x (sym (eq_of_cmp x y (sym (written_compare-some x y Equal (sym e)))))
+at_least x y Greater e h = ≤ℚ_of_lt y x (gt_of_cmp x y (sym (written_compare-some x y Greater (sym e))))
+
 module _ {E W : Type 0} (value : E → ℚ) (threshold : ℚ) where
   pub goes_value : (r : Result E W) → trial_of value threshold r ≡ Goes → (e : E) × (r ≡ Ok e) × ((o : Ordering) × (written_compare (value e) threshold ≡ Some o) × (not_less o ≡ true))
   goes_value (Ok e) h = (e, refl, goes_compare (written_compare (value e) threshold) h)
@@ -127,3 +134,16 @@ module _ {E W : Type 0} (value : E → ℚ) (threshold : ℚ) where
             let g = needed_value t.evaluation (needed_is (trial_of value threshold t.evaluation) (sym k ∙ t.keeps) (sym w ∙ t.marks)) in
             (g.0, subst (Evaluates (trial_set first kept x)) g.1 t.evaluated, g.2)
         needed_by false a = let o = (left.outside x l a).0 in cc
+
+    -- what is left reaches the threshold, where the first set does
+    pub left_reaches : ((e : E) → Evaluates first (Ok e) → threshold ≤ℚ value e) → threshold ≤ℚ value last
+    left_reaches h = elim left_by as (λ _. threshold ≤ℚ value last) [
+      | inl e ↦ h last (subst (λ (set : List Bool). Evaluates set (Ok last)) e left.evaluated)
+      | inr o ↦ at_least (value last) threshold o.0 o.1 o.2
+    ]
+
+    -- in its trial the set fell below the threshold
+    pub left_below : (x : ℕ) → x < length first → is_marked kept x ≡ true → is_marked wide x ≡ false → (e : E) × Evaluates (trial_set first kept x) (Ok e) × (value e <ℚ threshold)
+    left_below x l k w =
+        let n = left_needed x l k w in
+        (n.0, n.1, lt_of_cmp (value n.0) threshold (sym (written_compare-some (value n.0) threshold Less (sym n.2))))

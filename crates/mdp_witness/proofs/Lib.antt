@@ -6,10 +6,7 @@ pub mod Steps
 pub mod Duality
 pub mod Lengths
 pub mod Floor
-pub mod Listed
 pub mod FirstMax
 pub mod Visiting
 pub mod Values
 pub mod Left
-pub mod LastRound
-pub mod Found

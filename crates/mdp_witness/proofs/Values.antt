@@ -27,7 +27,7 @@ use Rattle.mdp_flow.proofs.Made.{goal_flow_is}
 use Rattle.mdp_reach.specs.Query.{policy_rows}
 use Rattle.mdp_witness.specs.First.{is_open, IsFirst}
 use Rattle.mdp_witness.specs.Evaluation.{Visited, visits_on, arrivals_below, arrived, visited}
-use Rattle.mdp_witness.specs.StepCode.{CanBeFirst}
+use Rattle.mdp_witness.specs.Laws.{CanBeFirst}
 use Rattle.mdp_witness.proofs.FirstMax.{below-exact, are_rows, first-no_goal, first-leaves, brought}
 use Rattle.mdp_witness.proofs.Visiting.{visits_on_set}
 

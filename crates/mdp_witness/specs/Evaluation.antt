@@ -1,5 +1,5 @@
 -- The evaluation of a set of states for the greatest probability, by the expected visits of the policy, in written arithmetic.
-use Rattle.std.specs.Prelude.{ℕ, zero, suc, Bool, List, [], ◌∷◌, length, replicate, slice_index, Option, Some, None, Result, Ok, Err, pos, if◌then◌else◌}
+use Rattle.std.specs.Prelude.{◌≡◌, ℕ, zero, suc, Bool, List, [], ◌∷◌, length, replicate, slice_index, Option, Some, None, Result, Ok, Err, pos, if◌then◌else◌}
 use Rattle.mdp_math.specs.Rational.{ℚ, of_int}
 use Rattle.mdp_math.specs.Result.{◌>>=◌}
 use Rattle.mdp_math.specs.Written as written
@@ -45,3 +45,10 @@ arrived m goals policy start set y = arrivals_below m goals policy start set y (
 
 abbrev pub visited : Mdp → List Bool → List ℕ → ℕ → List Bool → Result Visited ℕ
 visited m goals policy start set = visits_on m policy start set >>= λ y. arrived m goals policy start set y
+
+-- it has one end; and the value that is held against the threshold
+abbrev pub Visits : Mdp → List Bool → List ℕ → ℕ → List Bool → Result Visited ℕ → Type 0
+Visits m goals policy start set r = r ≡ visited m goals policy start set
+
+abbrev pub visited_value : Visited → ℚ
+visited_value v = v.value

@@ -1,128 +1,74 @@
--- What the search finds.
-use Rattle.std.specs.Prelude.{◌≡◌, ◌==◌, ℕ, ◌<◌, ◌≤◌, Bool, false, List, length, map, slice_index, Result, Ok, Err, if◌then◌else◌}
-use Rattle.std.specs.List.{range_with_len}
-use Rattle.mdp_math.specs.Rational.{ℚ, ◌+ℚ◌, ◌≤ℚ◌, ◌<ℚ◌}
+-- What the first set, the evaluations and the trials imply.
+use Rattle.std.specs.Prelude.{◌≡◌, ℕ, ◌<◌, Bool, true, false, List, length, Result, Ok}
+use Rattle.mdp_math.specs.Rational.{ℚ, ◌≤ℚ◌, ◌<ℚ◌}
 use Rattle.mdp_spec.specs.Mdp.{Mdp, states_of, value_at}
-use Rattle.mdp_spec.specs.Bounds.{part, ReachMax, ReachMin, SubMax, SubMin}
 use Rattle.mdp_spec.specs.Row.{IsMdp}
-use Rattle.mdp_spec.specs.Sub.{sub_of, policy_on}
+use Rattle.mdp_spec.specs.Rules.{MeetsReachMax}
 use Rattle.mdp_spec.specs.Tree.{IsPolicy, is_marked}
-use Rattle.mdp_rows.specs.declared.dir.Dir.{Dir}
-use Rattle.mdp_rows.specs.declared.dir.Dir.TheVariants.{Max, Min}
-use Rattle.mdp_flow.specs.FlowChecks.{HoldsFlow}
-use Rattle.mdp_flow.specs.FloorChecks.{HoldsFloor}
-use Rattle.mdp_flow.specs.Kept.{kept_marks}
-use Rattle.mdp_flow.specs.Policy.{hit_on, FallsShort}
-use Rattle.mdp_reach.specs.Query as reach
-use Rattle.mdp_witness.specs.declared.subsystem.Subsystem.{Subsystem}
-use Rattle.mdp_witness.specs.declared.subsystem.WitnessError.{WitnessError}
-use Rattle.mdp_witness.specs.declared.subsystem.WitnessError.TheVariants as error
-use Rattle.mdp_witness.specs.Search.{Answer, with_flows, with_values, Refusal, below, EndsSo}
+use Rattle.mdp_rows.specs.declared.dir.Dir.TheVariants.{Max}
+use Rattle.mdp_elim.specs.System.{Leaves}
+use Rattle.mdp_flow.specs.Flow.{flow_value}
+use Rattle.mdp_flow.specs.Visits.{AreVisitsOn, visit_flows}
+use Rattle.mdp_reach.specs.Query.{policy_rows}
+use Rattle.mdp_witness.specs.First.{IsFirst}
+use Rattle.mdp_witness.specs.Evaluation.{Visited, visited, Visits, visited_value}
+use Rattle.mdp_witness.specs.LeastEvaluation.{Evaluates, value_from}
+use Rattle.mdp_witness.specs.Trial.{trial_set, AreLeft}
 
--- the kept states of an answer, and whether the one at place i is marked as wide
-abbrev pub kept_states : Answer → List ℕ
-kept_states (with_flows kept wide flows) = kept
-kept_states (with_values kept wide values ranks) = kept
+-- what the trials for the greatest probability need of their first set: no goal is in it, the policy leaves it, and its value is at least the threshold
+pub record CanBeFirst (m : Mdp) (goals : List Bool) (policy ranks : List ℕ) (start : ℕ) (threshold : ℚ) (first : List Bool) : Type 0 where
+  pub one_each : length first ≡ states_of m
+  pub no_goal : (s : ℕ) → s < states_of m → is_marked first s ≡ true → is_marked goals s ≡ false
+  pub leaves : Leaves (policy_rows m policy) first ranks
+  pub reaches : (v : Visited) → visited m goals policy start first ≡ Ok v → threshold ≤ℚ v.value
 
-abbrev pub wide_marks : Answer → List Bool
-wide_marks (with_flows kept wide flows) = wide
-wide_marks (with_values kept wide values ranks) = wide
+-- the first set of values, choices and ranks that meet the rules of the greatest probability
+abbrev pub FirstReaches : Type 0
+FirstReaches =
+    (m : Mdp) (goals : List Bool) (z : List ℚ) (policy ranks : List ℕ) (start : ℕ) (threshold : ℚ) (first : List Bool)
+    → IsMdp m → MeetsReachMax m goals z policy ranks → IsFirst Max m goals z policy start first → start < states_of m → threshold ≤ℚ value_at z start
+    → CanBeFirst m goals policy ranks start threshold first
 
-module _ (m : Mdp) (goals : List Bool) (start : ℕ) (threshold : ℚ) where
-  -- its certificate meets the rules, and no term of their check is past width
-  abbrev pub Holds : Answer → Type 0
-  Holds (with_flows kept wide flows) = HoldsFlow m goals start threshold kept flows
-  Holds (with_values kept wide values ranks) = HoldsFloor m goals start threshold kept values ranks
+-- ---- the evaluation of a set
 
--- the kept states as marks, one per state; and without one of them
-abbrev pub marks_of : Mdp → Answer → List Bool
-marks_of m a = kept_marks (states_of m) (kept_states a)
+-- in exact numbers: the expected visits of the policy, and what their flows bring to the goals
+pub record AreExact (m : Mdp) (goals : List Bool) (policy : List ℕ) (start : ℕ) (set : List Bool) (v : Visited) : Type 0 where
+  pub visits : AreVisitsOn m set policy start v.visits
+  pub value : v.value ≡ flow_value m goals (visit_flows (states_of m) policy v.visits) start
 
-abbrev pub without : List Bool → ℕ → List Bool
-without marks x = map (λ s. if s == x then false else is_marked marks s) (range_with_len 0 (length marks))
+abbrev pub VisitsAreExact : Type 0
+VisitsAreExact =
+    (m : Mdp) (goals : List Bool) (policy ranks : List ℕ) (start : ℕ) (set : List Bool) (v : Visited)
+    → IsMdp m → IsPolicy m policy → length set ≡ states_of m → Leaves (policy_rows m policy) set ranks → start < states_of m
+    → visited m goals policy start set ≡ Ok v
+    → AreExact m goals policy start set v
 
--- ---- the policy of the reach query
+-- ---- what the trials leave
 
-module _ (m : Mdp) (goals : List Bool) (start : ℕ) (threshold : ℚ) where
-  -- on the subsystem it comes within 1/k of the threshold, for each k
-  pub record PolicyReaches (a : Answer) : Type 0 where
-    pub query : reach.Answer
-    pub is_query : reach.EndsSo Max m goals (Ok query)
-    pub close : (k : ℕ) → 1 ≤ k → (n : ℕ) × (threshold ≤ℚ hit_on m goals (marks_of m a) (policy_on goals (marks_of m a) query.choices) n start +ℚ part k)
+-- where the first set reaches the threshold, so does the set that is left
+abbrev pub LeftReaches : {E W : Type 0} → (List Bool → Result E W → Type 0) → (E → ℚ) → ℚ → Type 0
+LeftReaches {E} Evaluates value threshold =
+    (first kept wide : List Bool) (last : E)
+    → AreLeft Evaluates value threshold first kept wide last → ((e : E) → Evaluates first (Ok e) → threshold ≤ℚ value e)
+    → threshold ≤ℚ value last
 
-  -- ---- no state that isn't marked as wide can go
+-- in the trial of a state that stays and isn't marked as wide the set fell below the threshold
+abbrev pub LeftAreNeeded : {E W : Type 0} → (List Bool → Result E W → Type 0) → (E → ℚ) → ℚ → Type 0
+LeftAreNeeded {E} Evaluates value threshold =
+    (first kept wide : List Bool) (last : E) (x : ℕ)
+    → AreLeft Evaluates value threshold first kept wide last → x < length first → is_marked kept x ≡ true → is_marked wide x ≡ false
+    → (e : E) × Evaluates (trial_set first kept x) (Ok e) × (value e <ℚ threshold)
 
-  -- without it the policy of the reach query falls short of the threshold
-  pub record EachIsNeeded (a : Answer) : Type 0 where
-    pub query : reach.Answer
-    pub is_query : reach.EndsSo Max m goals (Ok query)
-    pub short :
-        (i : ℕ)
-        → i < length (kept_states a)
-        → is_marked (wide_marks a) i ≡ false
-        → let less = without (marks_of m a) (slice_index (kept_states a) i) in FallsShort m goals less start threshold (policy_on goals less query.choices)
+-- for the greatest probability
+abbrev pub VisitsLeftReach : Type 0
+VisitsLeftReach = (m : Mdp) (goals : List Bool) (policy : List ℕ) (start : ℕ) (threshold : ℚ) → LeftReaches (Visits m goals policy start) visited_value threshold
 
-  -- without it some policy does
-  pub record EachIsNeededByAll (a : Answer) : Type 0 where
-    pub short :
-        (i : ℕ)
-        → i < length (kept_states a)
-        → is_marked (wide_marks a) i ≡ false
-        → let less = without (marks_of m a) (slice_index (kept_states a) i) in (policy : List ℕ) × IsPolicy (sub_of m goals less) policy × FallsShort m goals less start threshold policy
+abbrev pub VisitsLeftAreNeeded : Type 0
+VisitsLeftAreNeeded = (m : Mdp) (goals : List Bool) (policy : List ℕ) (start : ℕ) (threshold : ℚ) → LeftAreNeeded (Visits m goals policy start) visited_value threshold
 
--- ---- below the threshold
+-- for the least one
+abbrev pub ValuesLeftReach : Type 0
+ValuesLeftReach = (m : Mdp) (goals : List Bool) (start : ℕ) (threshold : ℚ) → LeftReaches (Evaluates m goals) (value_from start) threshold
 
--- the greatest, or the least, probabilities of reaching a goal
-abbrev pub AreBest : Dir → Mdp → List Bool → List ℚ → List ℕ → Type 0
-AreBest Max = ReachMax
-AreBest Min = ReachMin
-
--- v is the greatest, or the least, probability from the start, and below the threshold
-pub record IsBelow (dir : Dir) (m : Mdp) (goals : List Bool) (start : ℕ) (threshold v : ℚ) : Type 0 where
-  pub values : List ℚ
-  pub policy : List ℕ
-  pub best : AreBest dir m goals values policy
-  pub value : value_at values start ≡ v
-  pub less : v <ℚ threshold
-
-abbrev pub IfBelow : Result Subsystem WitnessError → (ℚ → Type 0) → Type 0
-IfBelow (Ok sub) P = Unit {0}
-IfBelow (Err (error.Below v)) P = P v
-IfBelow (Err (error.TooWide w)) P = Unit {0}
-IfBelow (Err error.Memory) P = Unit {0}
-
--- ---- the laws: what an end of the search means
-
-abbrev pub Means : (Dir → Mdp → List Bool → ℕ → ℚ → Answer → Type 0) → Type 0
-Means Claim =
-    (dir : Dir) (m : Mdp) (goals : List Bool) (start : ℕ) (threshold : ℚ) (a : Answer) → IsMdp m → start < states_of m → EndsSo dir m goals start threshold (Ok a)
-    → Claim dir m goals start threshold a
-
--- the search has one end at most
-abbrev pub HasOneEnd : Type 0
-HasOneEnd =
-    (dir : Dir) (m : Mdp) (goals : List Bool) (start : ℕ) (threshold : ℚ) (r q : Result Answer Refusal)
-    → EndsSo dir m goals start threshold r → EndsSo dir m goals start threshold q → q ≡ r
-
-abbrev pub AnswersHold : Type 0
-AnswersHold = Means (λ dir m goals start threshold a. Holds m goals start threshold a)
-
--- some trees of the subsystem come close to the threshold; for the least probability each deep tree does
-abbrev pub AnswersReachMost : Type 0
-AnswersReachMost = Means (λ dir m goals start threshold a. dir ≡ Max → SubMax m goals (marks_of m a) start threshold)
-
-abbrev pub AnswersReachLeast : Type 0
-AnswersReachLeast = Means (λ dir m goals start threshold a. dir ≡ Min → SubMin m goals (marks_of m a) start threshold)
-
-abbrev pub AnswersFollowPolicy : Type 0
-AnswersFollowPolicy = Means (λ dir m goals start threshold a. dir ≡ Max → PolicyReaches m goals start threshold a)
-
-abbrev pub AnswersNeedEach : Type 0
-AnswersNeedEach = Means (λ dir m goals start threshold a. dir ≡ Max → EachIsNeeded m goals start threshold a)
-
-abbrev pub AnswersNeedEachByAll : Type 0
-AnswersNeedEachByAll = Means (λ dir m goals start threshold a. dir ≡ Min → EachIsNeededByAll m goals start threshold a)
-
-abbrev pub BelowMeansLess : Type 0
-BelowMeansLess =
-    (dir : Dir) (m : Mdp) (goals : List Bool) (start : ℕ) (threshold v : ℚ) → IsMdp m → EndsSo dir m goals start threshold (Err (below v)) → IsBelow dir m goals start threshold v
+abbrev pub ValuesLeftAreNeeded : Type 0
+ValuesLeftAreNeeded = (m : Mdp) (goals : List Bool) (start : ℕ) (threshold : ℚ) → LeftAreNeeded (Evaluates m goals) (value_from start) threshold

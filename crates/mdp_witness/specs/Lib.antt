@@ -4,5 +4,5 @@ pub mod Trial
 pub mod StepCode
 pub mod Evaluation
 pub mod EvaluationCode
-pub mod Search
+pub mod LeastEvaluation
 pub mod Laws

@@ -9,14 +9,19 @@ use mdp_num::{Frac, Memory};
 use mdp_rows::{Dir, Marks, Model};
 use std::alloc::{AllocError, Global};
 
-/// Where the first set is looked for: the open states are those that aren't goals and have a value above 0.
+/// Where the first set is looked for: an answered query of reachability. The open states are those that aren't goals and have a value above 0.
 #[derive(Clone, Copy)]
-pub(crate) struct Query<'m, 'g, 'v, 'p> {
-    pub(crate) dir: Dir,
-    pub(crate) model: &'m Model,
-    pub(crate) goals: &'g Marks,
-    pub(crate) values: &'v [Frac],
-    pub(crate) policy: &'p [u32],
+pub struct Query<'m, 'g, 'v, 'p> {
+    /// Whether the greatest or the least probability is asked for.
+    pub dir: Dir,
+    /// The model.
+    pub model: &'m Model,
+    /// Whether each state is a goal, one mark per state.
+    pub goals: &'g Marks,
+    /// The best probability from each state, one per state.
+    pub values: &'v [Frac],
+    /// The choice of each state, one per state.
+    pub policy: &'p [u32],
     ghost goals_each: { length goals.now ≡ states_of model.now },
     ghost values_each: { length values.now ≡ states_of model.now },
     ghost chosen: { IsPolicy model.now policy.now },
@@ -141,10 +146,11 @@ impl Query<'_, '_, '_, '_> {
         }
     }
 
-    /// The open states that are reached from `start` through open states. Each state is looked at once.
-    pub(crate) fn first_set(&self, alloc: Global, start: u32) -> Result<Marks, Memory>
-        requires { start < states_of self.now.model.now }
-        ensures { IfOk result (λ first. IsFirst self.now.dir self.now.model.now self.now.goals.now self.now.values.now self.now.policy.now start first) }
+    /// The first set: the open states that are reached from `start` through open states, for the greatest probability by the policy's choices, for
+    /// the least one by all; one mark per state. Each state is looked at once. Fails where memory is refused.
+    pub fn first_set(&self, alloc: Global, start: u32) -> Result<Marks, Memory>
+        requires start { start < states_of self.now.model.now }
+        ensures first { IfOk result (λ first. IsFirst self.now.dir self.now.model.now self.now.goals.now self.now.values.now self.now.policy.now start first) }
     {
         self.model.known();
         let mut front = Front::empty(alloc, self.model.states())?;

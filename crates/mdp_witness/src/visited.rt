@@ -17,12 +17,17 @@ use std::alloc::{AllocError, Global};
 
 /// The policy of the greatest probability, with the ranks by which it leads to a goal, and where it starts.
 #[derive(Clone, Copy)]
-pub(crate) struct Policy<'m, 'g, 'p, 'r> {
-    pub(crate) model: &'m Model,
-    pub(crate) goals: &'g Marks,
-    pub(crate) choices: &'p [u32],
-    pub(crate) ranks: &'r [u32],
-    pub(crate) start: u32,
+pub struct Policy<'m, 'g, 'p, 'r> {
+    /// The model.
+    pub model: &'m Model,
+    /// Whether each state is a goal, one mark per state.
+    pub goals: &'g Marks,
+    /// The choice of each state, one per state.
+    pub choices: &'p [u32],
+    /// The rank of each state, one per state: an entry of its choice leads to a lesser one, or out of the set.
+    pub ranks: &'r [u32],
+    /// Where the paths start, a state.
+    pub start: u32,
     ghost goals_each: { length goals.now ≡ states_of model.now },
     ghost chosen: { IsPolicy model.now choices.now },
     ghost ranks_each: { length ranks.now ≡ states_of model.now },
@@ -31,9 +36,11 @@ pub(crate) struct Policy<'m, 'g, 'p, 'r> {
 
 /// What the evaluation of a set gives: how often each state is visited, and the probability to come to a goal through states of the set.
 #[derive(Debug, Drop)]
-pub(crate) struct Visited {
-    pub(crate) visits: Vec<Frac>,
-    pub(crate) value: Frac,
+pub struct Visited {
+    /// How often each state is visited, one number per state; 0 outside the set.
+    pub visits: Vec<Frac>,
+    /// The probability.
+    pub value: Frac,
 }
 
 /// 1 where the start is a goal, else 0.
@@ -145,8 +152,9 @@ impl Policy<'_, '_, '_, '_> {
         visits(alloc, &chain, self.start)
     }
 
-    /// The evaluation of a set.
-    pub(crate) fn evaluate(&self, alloc: Global, set: &Marks) -> Result<Visited, ElimError>
+    /// The evaluation of a set of states, one mark per state: the expected visits of the policy from the start, and the probability to come to a
+    /// goal through states of the set alone. Fails at the state whose term is past width, and where memory is refused.
+    pub fn evaluate(&self, alloc: Global, set: &Marks) -> Result<Visited, ElimError>
         requires set { length set.now ≡ states_of self.now.model.now }
         requires leaves { Leaves (policy_rows self.now.model.now self.now.choices.now) set.now self.now.ranks.now }
         ensures place { (s : ℕ) → result ≡ Err (ElimError.Wide s) → s < states_of self.now.model.now }

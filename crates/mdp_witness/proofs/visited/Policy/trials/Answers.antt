@@ -2,7 +2,7 @@ use Rattle.std.proofs.Common.{◌≡◌, ◌<◌, ◌+◌, ◌-◌, ◌∙◌, �
 use Rattle.std.specs.Prelude.{replicate}
 use Rattle.mdp_reach.specs.Query.{policy_rows}
 use Rattle.mdp_witness.specs.EvaluationCode.{plain}
-use Rattle.mdp_witness.specs.Search.{Visits, visited_value}
+use Rattle.mdp_witness.specs.Evaluation.{Visits, visited_value}
 use Rattle.mdp_witness.proofs.Steps.{leaves_subset}
 use Rattle.mdp_witness.proofs.Trying.{AreLeftFrom, left_first, left_inside, left_skip, left_step, left_all}
 use Rattle.mdp_witness.proofs.visited.Policy.trials.Goals as goal
@@ -34,10 +34,12 @@ loop-s-preserved-then-at c =
     let inside = let f = c.requires.first in let g = c.states-s.ensures in let h = c.loop-s.auto.s in let k = c.loop-s-test.true in let l : c.loop-s.s - 1 < length c.args.first = omega arith in l in
     left_step (Visits c.args.self.now.model.now c.args.self.now.goals.now c.args.self.now.choices.now c.args.self.now.start) visited_value c.args.threshold.now c.args.first (c.loop-s.s - 1) c.loop-s.kept c.loop-s.wide (plain c.loop-s.last) inside
     (subst (λ (x : ℕ). AreLeftFrom (Visits c.args.self.now.model.now c.args.self.now.goals.now c.args.self.now.choices.now c.args.self.now.start) visited_value c.args.threshold.now c.args.first x c.loop-s.kept c.loop-s.wide (plain c.loop-s.last)) again c.loop-s.invariant)
-    c.try_state.new.kept c.try_state.new.wide (plain c.in_ok-last.last) (sym c.at.ensures ∙ c.if-at.true) (c.in_ok-last.ensures {u = tt})
+    c.try_state.new.kept c.try_state.new.wide (plain c.in_ok-last.last) (sym c.at.ensures ∙ c.if-at.true) (c.in_ok-last.ensures {u = tt}).step
 
 pub returns : goal.returns
-returns c =
+returns c = record {
+  left =
     left_all (Visits c.args.self.now.model.now c.args.self.now.goals.now c.args.self.now.choices.now c.args.self.now.start) visited_value c.args.threshold.now c.args.first c.loop-s.kept c.loop-s.wide (plain c.loop-s.last)
     (subst (λ (x : ℕ). AreLeftFrom (Visits c.args.self.now.model.now c.args.self.now.goals.now c.args.self.now.choices.now c.args.self.now.start) visited_value c.args.threshold.now c.args.first x c.loop-s.kept c.loop-s.wide (plain c.loop-s.last))
-    (let e : c.loop-s.s ≡ 0 = omega arith in e) c.loop-s.invariant)
+    (let e : c.loop-s.s ≡ 0 = omega arith in e) c.loop-s.invariant);
+}

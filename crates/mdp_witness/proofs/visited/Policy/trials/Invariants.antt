@@ -1,5 +1,5 @@
 use Rattle.mdp_witness.specs.EvaluationCode.{plain}
-use Rattle.mdp_witness.specs.Search.{Visits, visited_value}
+use Rattle.mdp_witness.specs.Evaluation.{Visits, visited_value}
 use Rattle.mdp_witness.proofs.Trying.{AreLeftFrom}
 use Rattle.mdp_witness.proofs.visited.Policy.trials.Given as goal
 
