@@ -37,9 +37,9 @@ module _ (rows : List (List Entry)) (active : List Bool) (ranks : List ℕ) (sta
       let x = one.0 in
       let solves = one.1 in
       let nonneg = solution-nonneg (chain_shrinks rows active ranks chain.distributions chain.marks chain.leaves) (length rows) (active-below rows active chain.marks) (row_of rows)
-          (λ s a. refl) (value_at (unit_column (length rows) t)) (value_at x)
-          (λ s a. subst (λ (q : ℚ). 0ℚ ≤ℚ q) (sym (unit_column-at (length rows) t s (active-below rows active chain.marks s a))) (one-nonneg t s (eqb s t)))
-          (record { outside = solves.outside; inside = solves.inside }) start in
+      (λ s a. refl) (value_at (unit_column (length rows) t)) (value_at x)
+      (λ s a. subst (λ (q : ℚ). 0ℚ ≤ℚ q) (sym (unit_column-at (length rows) t s (active-below rows active chain.marks s a))) (one-nonneg t s (eqb s t)))
+      (record { outside = solves.outside; inside = solves.inside }) start in
       let sum : value_at x start ≡ value_at y t =
       sym (weighed rows active start (unit_column (length rows) t) x y chain.distributions inside visits solves)
       ∙ sum_of-same_all (λ s. value_at y s *ℚ value_at (unit_column (length rows) t) s) (λ s. value_at y s *ℚ one_at t s) (range_with_len 0 (length rows))

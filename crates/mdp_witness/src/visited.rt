@@ -104,10 +104,7 @@ impl Policy<'_, '_, '_, '_> {
         ensures place { (t : ℕ) → result ≡ Err (ElimError.Wide t) → t ≡ s }
     {
         let row = self.model.row(s, self.choices[s as usize]);
-        placed(
-            s,
-            with_arrivals(self.goals, &visits[s as usize], sum, row),
-        )
+        placed(s, with_arrivals(self.goals, &visits[s as usize], sum, row))
     }
 
     /// The arrivals from all states of the set.

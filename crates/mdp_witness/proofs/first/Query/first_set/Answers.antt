@@ -30,7 +30,7 @@ loop-s-preserved c =
 pub returns : goal.returns
 returns c = record {
   first = subst (λ (found : List Bool). IsFirst c.args.self.now.dir c.args.self.now.model.now c.args.self.now.goals.now c.args.self.now.values.now c.args.self.now.policy.now c.args.start found)
-    (sym (c.into_found.ensures ∙ c.next.ensures.found))
-    (first_of c.args.self.now.dir c.args.self.now.model.now c.args.self.now.goals.now c.args.self.now.values.now c.args.self.now.policy.now c.args.start c.known.ensures.mdp
-    c.args.self.now.chosen c.loop-s.front c.loop-s.invariant (c.in_default.ensures {u = tt}).none);
+      (sym (c.into_found.ensures ∙ c.next.ensures.found))
+      (first_of c.args.self.now.dir c.args.self.now.model.now c.args.self.now.goals.now c.args.self.now.values.now c.args.self.now.policy.now c.args.start c.known.ensures.mdp
+      c.args.self.now.chosen c.loop-s.front c.loop-s.invariant (c.in_default.ensures {u = tt}).none);
 }

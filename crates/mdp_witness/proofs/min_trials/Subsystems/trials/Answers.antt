@@ -32,7 +32,7 @@ loop-s-preserved-then-at c =
 pub returns : goal.returns
 returns c = record {
   left =
-    left_all (Evaluates c.args.self.now.model.now c.args.self.now.goals.now) (value_from c.args.self.now.start) c.args.threshold.now c.args.first c.loop-s.kept c.loop-s.wide (plain c.loop-s.last)
-    (subst (λ (x : ℕ). AreLeftFrom (Evaluates c.args.self.now.model.now c.args.self.now.goals.now) (value_from c.args.self.now.start) c.args.threshold.now c.args.first x c.loop-s.kept c.loop-s.wide (plain c.loop-s.last))
-    (let e : c.loop-s.s ≡ 0 = omega arith in e) c.loop-s.invariant);
+      left_all (Evaluates c.args.self.now.model.now c.args.self.now.goals.now) (value_from c.args.self.now.start) c.args.threshold.now c.args.first c.loop-s.kept c.loop-s.wide (plain c.loop-s.last)
+      (subst (λ (x : ℕ). AreLeftFrom (Evaluates c.args.self.now.model.now c.args.self.now.goals.now) (value_from c.args.self.now.start) c.args.threshold.now c.args.first x c.loop-s.kept c.loop-s.wide (plain c.loop-s.last))
+      (let e : c.loop-s.s ≡ 0 = omega arith in e) c.loop-s.invariant);
 }

@@ -39,7 +39,7 @@ loop-s-preserved-then-at c =
 pub returns : goal.returns
 returns c = record {
   left =
-    left_all (Visits c.args.self.now.model.now c.args.self.now.goals.now c.args.self.now.choices.now c.args.self.now.start) visited_value c.args.threshold.now c.args.first c.loop-s.kept c.loop-s.wide (plain c.loop-s.last)
-    (subst (λ (x : ℕ). AreLeftFrom (Visits c.args.self.now.model.now c.args.self.now.goals.now c.args.self.now.choices.now c.args.self.now.start) visited_value c.args.threshold.now c.args.first x c.loop-s.kept c.loop-s.wide (plain c.loop-s.last))
-    (let e : c.loop-s.s ≡ 0 = omega arith in e) c.loop-s.invariant);
+      left_all (Visits c.args.self.now.model.now c.args.self.now.goals.now c.args.self.now.choices.now c.args.self.now.start) visited_value c.args.threshold.now c.args.first c.loop-s.kept c.loop-s.wide (plain c.loop-s.last)
+      (subst (λ (x : ℕ). AreLeftFrom (Visits c.args.self.now.model.now c.args.self.now.goals.now c.args.self.now.choices.now c.args.self.now.start) visited_value c.args.threshold.now c.args.first x c.loop-s.kept c.loop-s.wide (plain c.loop-s.last))
+      (let e : c.loop-s.s ≡ 0 = omega arith in e) c.loop-s.invariant);
 }
