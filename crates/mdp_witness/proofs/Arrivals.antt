@@ -1,5 +1,5 @@
 -- The arrivals from the states of a set: a term past width at one state is one of all.
-use Rattle.std.proofs.Common.{Vec, IfOk, ◌≡◌, ℕ, zero, suc, ◌+◌, ◌<◌, ◌≤◌, inl, inr, Bool, true, false, List, length, get_or, Option, Result, Ok, Err, refl, sym, ◌∙◌, ap, subst, arith, if◌then◌else◌}
+use Rattle.std.proofs.Common.{Vec, IfOk, ◌≡◌, ℕ, zero, suc, ◌+◌, ◌<◌, ◌≤◌, inl, inr, Bool, true, false, List, length, get_or, Result, Ok, Err, ◌∙◌, ap, subst, arith, if◌then◌else◌}
 use Rattle.std.specs.Global.{Global}
 use Rattle.mdp_math.specs.Rational.{ℚ}
 use Rattle.mdp_math.specs.Result.{◌>>=◌}

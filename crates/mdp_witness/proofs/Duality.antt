@@ -1,15 +1,12 @@
 -- Two systems of one chain: the visits from the start, weighed with the constants of a system, are its solution at the start. So no visits are
 -- below 0.
-use Rattle.std.proofs.Common.{◌≡◌, ℕ, ◌<◌, inl, inr, Bool, true, false, cond, eqb, List, [], length, get_or, refl, sym, ◌∙◌, ap, subst, arith, pos, if◌then◌else◌, ◌∷◌}
-use Rattle.std.specs.List.{All, range_with_len}
-use Rattle.std.proofs.lemmas.List.FromFn.{length-range_with_len, get_or-range_with_len}
-use Rattle.std.proofs.lemmas.Bool.{cases_Bool}
-use Rattle.mdp_math.specs.Rational.{ℚ, of_int, ◌+ℚ◌, ◌*ℚ◌, ◌≤ℚ◌}
+use Rattle.std.proofs.Common.{◌≡◌, ℕ, ◌<◌, Bool, true, false, List, [], length, refl, sym, ◌∙◌, ap, pos, ◌∷◌}
+use Rattle.std.specs.List.{range_with_len}
+use Rattle.mdp_math.specs.Rational.{ℚ, ◌+ℚ◌, ◌*ℚ◌}
 use Rattle.mdp_math.specs.Sum.{sum_of}
-use Rattle.mdp_math.proofs.Ring.{◌⊕◌, ◌⊗◌, ⊖, lit, ring}
-use Rattle.mdp_math.proofs.Laws.{rat_ring, *ℚ_comm}
+use Rattle.mdp_math.proofs.Ring.{◌⊕◌, ◌⊗◌, ⊖, lit}
+use Rattle.mdp_math.proofs.Laws.{*ℚ_comm}
 use Rattle.mdp_math.proofs.Linear.{combine, equal}
-use Rattle.mdp_math.proofs.Order.{0ℚ, 1ℚ}
 use Rattle.mdp_math.proofs.Sums.{sum_of-add, sum_of-same, sum_of-same_all}
 use Rattle.mdp_spec.specs.Mdp.{Entry, value_at}
 use Rattle.mdp_spec.specs.Row.{row_sum, AreRows}

@@ -1,12 +1,12 @@
 -- The search for the first set: what holds whenever the next waiting state is looked at, and that it ends with the first set.
-use Rattle.std.proofs.Common.{◌≡◌, ℕ, zero, suc, ◌+◌, ◌*◌, ◌<◌, ◌≤◌, ◌⊎◌, inl, inr, Bool, true, false, cond, eqb, ◌&&◌, ◌||◌, not, List, [], ◌∷◌, ◌++◌, length, get_or, refl, sym, ◌∙◌, ap, subst, arith, fold}
-use Rattle.std.specs.List.{All, list_any, range_with_len}
+use Rattle.std.proofs.Common.{◌≡◌, ℕ, zero, suc, ◌+◌, ◌<◌, ◌≤◌, ◌⊎◌, inl, inr, Bool, true, false, eqb, ◌||◌, List, [], ◌∷◌, ◌++◌, length, get_or, refl, sym, ◌∙◌, ap, subst, arith, fold}
+use Rattle.std.specs.List.{All}
 use Rattle.std.proofs.lemmas.Bool.{or_cases, eq-eqb}
 use Rattle.std.proofs.lemmas.List.Folds.{list_any-append}
-use Rattle.std.proofs.lemmas.List.{length-append, length-replicate, get_or-replicate}
+use Rattle.std.proofs.lemmas.List.{length-append, length-replicate}
 use Rattle.std.proofs.lemmas.List.Elements.{All-cons}
 use Rattle.std.proofs.lemmas.List.FromFn.{length-range_with_len, get_or-range_with_len}
-use Rattle.std.specs.Prelude.{replicate, slice_index}
+use Rattle.std.specs.Prelude.{replicate}
 use Rattle.mdp_math.specs.Rational.{ℚ}
 use Rattle.mdp_math.proofs.Kernel.{All-head, All-tail}
 use Rattle.mdp_spec.specs.Mdp.{Entry, Mdp, states_of, choices_at, row_at}
@@ -219,7 +219,8 @@ module _ (dir : Dir) (m : Mdp) (goals : List Bool) (z : List ℚ) (policy : List
       (ap (λ (xs : List ℕ). with_state goals z (let i : Front = record { found = f.found; waiting = xs } in i) start) (sym k) ∙ sym h)
       (finding_first f.found l e)
 
-  next_all : (f : Front) (s : ℕ) → f.waiting ≡ [] → (is_listed f.waiting s ≡ true) ⊎ All (λ c. All (λ x. is_open goals z x.target ≡ true → is_marked f.found x.target ≡ true) (row_at m s c)) (followed dir m policy s)
+  next_all : (f : Front) (s : ℕ) → f.waiting ≡ [] → (is_listed f.waiting s ≡ true) ⊎ All (λ c. All (λ x. is_open goals z x.target ≡ true → is_marked f.found x.target ≡ true)
+      (row_at m s c)) (followed dir m policy s)
       → All (λ c. All (λ x. is_open goals z x.target ≡ true → is_marked f.found x.target ≡ true) (row_at m s c)) (followed dir m policy s)
   next_all f s e (inr h) = h
   next_all f s e (inl h) = let k : is_listed [] s ≡ true = subst (λ (xs : List ℕ). is_listed xs s ≡ true) e h in cc

@@ -1,27 +1,26 @@
 -- The first set of the greatest probability: it can be visited, and its visits bring to the goals what the policy's value at the start is.
-use Rattle.std.proofs.Common.{◌≡◌, ℕ, zero, suc, ◌+◌, ◌<◌, ◌≤◌, ◌⊎◌, inl, inr, Bool, true, false, cond, not, ◌&&◌, List, [], ◌∷◌, length, get_or, map, Option, Some, None, Result, Ok, Err, refl, sym, ◌∙◌, ap, subst, arith, pos, if◌then◌else◌}
+use Rattle.std.proofs.Common.{◌≡◌, ℕ, zero, suc, ◌+◌, ◌<◌, ◌≤◌, ◌⊎◌, inl, inr, Bool, true, false, not, ◌&&◌, List, [], ◌∷◌, length, get_or, map, Option, Some, None, Result, Ok, Err, refl, sym, ◌∙◌, ap, subst, arith, pos, if◌then◌else◌}
 use Rattle.std.specs.List.{All, Any, range_with_len}
 use Rattle.std.specs.Prelude.{slice_index}
 use Rattle.std.proofs.lemmas.List.FromFn.{get_or-map-range_with_len, length-map-range_with_len}
 use Rattle.std.proofs.Math.ListN.{get_or-eq_default}
-use Rattle.mdp_math.specs.Rational.{ℚ, of_int, lt_ℚ, ◌+ℚ◌, ◌*ℚ◌, ◌≤ℚ◌, ◌<ℚ◌}
+use Rattle.mdp_math.specs.Rational.{ℚ, lt_ℚ, ◌+ℚ◌, ◌*ℚ◌, ◌<ℚ◌}
 use Rattle.mdp_math.specs.Result.{◌>>=◌}
 use Rattle.mdp_math.specs.Sum.{sum_of}
 use Rattle.mdp_math.specs.Written.{written_add, written_mul}
 use Rattle.mdp_math.specs.Written as written
 use Rattle.mdp_math.proofs.Booleans.{and-left, and-right}
 use Rattle.mdp_math.proofs.Extremes.{lt_of_test, le_of_no_test}
-use Rattle.mdp_math.proofs.Kernel.{All-head, All-tail}
-use Rattle.mdp_math.proofs.Lists.{range_more}
+use Rattle.mdp_math.proofs.Kernel.{All-head}
 use Rattle.mdp_math.proofs.Numbers.{le_or}
 use Rattle.mdp_math.proofs.Options.{Some_same, step_told}
-use Rattle.mdp_math.proofs.Order.{0ℚ, 1ℚ, ≤ℚ_antisymm}
+use Rattle.mdp_math.proofs.Order.{0ℚ, ≤ℚ_antisymm}
 use Rattle.mdp_math.proofs.Ring.{◌⊕◌, ◌⊗◌, ⊖, lit, ring}
-use Rattle.mdp_math.proofs.Laws.{rat_ring, +ℚ_assoc}
+use Rattle.mdp_math.proofs.Laws.{rat_ring}
 use Rattle.mdp_math.proofs.Linear.{combine, equal}
-use Rattle.mdp_math.proofs.Sums.{sum_of-add, sum_of-same, sum_of-same_all}
+use Rattle.mdp_math.proofs.Sums.{sum_of-add, sum_of-same_all}
 use Rattle.mdp_math.proofs.Written.{written_mul-some, written_add-some}
-use Rattle.mdp_spec.specs.Mdp.{Entry, Mdp, states_of, choices_at, row_at, value_at}
+use Rattle.mdp_spec.specs.Mdp.{Entry, Mdp, states_of, row_at, value_at}
 use Rattle.mdp_spec.specs.Row.{IsMdp, IsRow, row_sum, AreRows}
 use Rattle.mdp_spec.specs.Rules.{MeetsReachMax}
 use Rattle.mdp_spec.specs.Tree.{IsPolicy, is_marked}

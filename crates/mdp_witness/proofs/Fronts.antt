@@ -1,6 +1,6 @@
 -- What the search for the first set finds.
-use Rattle.std.proofs.Common.{◌≡◌, ℕ, zero, suc, ◌+◌, ◌*◌, ◌<◌, ◌≤◌, ◌⊎◌, inl, inr, Bool, true, false, cond, eqb, ◌&&◌, ◌||◌, not, List, [], ◌∷◌, ◌++◌, length, get_or, refl, sym, ◌∙◌, ap, subst, arith, fold, sum_by, if◌then◌else◌}
-use Rattle.std.specs.List.{All, list_any, range_with_len}
+use Rattle.std.proofs.Common.{◌≡◌, ℕ, ◌+◌, ◌*◌, ◌<◌, ◌≤◌, ◌⊎◌, inl, inr, Bool, true, false, cond, eqb, ◌&&◌, ◌||◌, not, List, [], ◌∷◌, ◌++◌, length, get_or, refl, sym, ◌∙◌, ap, subst, arith, fold, sum_by, if◌then◌else◌}
+use Rattle.std.specs.List.{All, range_with_len}
 use Rattle.std.proofs.Math.ListN.{set, get_or-eq_default}
 use Rattle.std.proofs.lemmas.List.{get_or-set_other, length-set, length-append}
 use Rattle.std.proofs.lemmas.Grind.{get_or-set_at}
@@ -12,7 +12,7 @@ use Rattle.mdp_math.proofs.Booleans.{and-left, and-right}
 use Rattle.mdp_math.proofs.Kernel.{All-head, All-tail}
 use Rattle.mdp_math.proofs.Lists.{range_more}
 use Rattle.mdp_math.proofs.Numbers.{le_or, eqb-smaller, eqb-greater}
-use Rattle.mdp_spec.specs.Mdp.{Entry, Mdp, states_of, row_at}
+use Rattle.mdp_spec.specs.Mdp.{Entry}
 use Rattle.mdp_spec.specs.Row.{entries}
 use Rattle.mdp_spec.specs.Tree.{is_marked}
 use Rattle.mdp_flow.specs.Kept.{is_listed}

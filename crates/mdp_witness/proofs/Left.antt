@@ -1,6 +1,5 @@
 -- What is left by the trials has a value of at least the threshold, and each state that isn't marked as wide is needed.
-use Rattle.std.proofs.Common.{rules, ◌≡◌, ℕ, zero, suc, ◌+◌, ◌<◌, ◌≤◌, ◌⊎◌, inl, inr, Bool, true, false, cond, ◌&&◌, nat_lt, List, length, get_or, map, Option, Some, None, Result, Ok, Err, refl, sym, ◌∙◌, ap, subst, arith}
-use Rattle.std.specs.List.{range_with_len}
+use Rattle.std.proofs.Common.{◌≡◌, ℕ, zero, suc, ◌<◌, ◌⊎◌, inl, inr, Bool, true, false, cond, ◌&&◌, nat_lt, List, length, Option, Some, None, Result, Ok, Err, refl, sym, ◌∙◌, ap, subst, arith}
 use Rattle.std.specs.declared.cmp.Ordering.{Ordering}
 use Rattle.std.specs.declared.cmp.Ordering.TheVariants.{Less, Equal, Greater}
 use Rattle.std.proofs.lemmas.List.{ext_get_or}
@@ -9,12 +8,12 @@ use Rattle.mdp_math.specs.Rational.{ℚ, ◌≤ℚ◌, ◌<ℚ◌}
 use Rattle.mdp_math.specs.Written.{written_compare}
 use Rattle.mdp_math.proofs.Order.{≤ℚ_of_eq, ≤ℚ_of_lt, lt_of_cmp, eq_of_cmp, gt_of_cmp}
 use Rattle.mdp_math.proofs.Written.{written_compare-some}
-use Rattle.mdp_math.proofs.Numbers.{le_or, last_or}
+use Rattle.mdp_math.proofs.Numbers.{le_or}
 use Rattle.mdp_spec.specs.Tree.{is_marked}
 use Rattle.mdp_farkas.specs.Compare.{not_less}
 use Rattle.mdp_witness.specs.declared.trial.Trial.{Trial}
 use Rattle.mdp_witness.specs.declared.trial.Trial.TheVariants.{Goes, Needed, PastWidth}
-use Rattle.mdp_witness.specs.Trial.{in_trial, trial_set, trial_by, trial_of, stays, is_wide, IsTried, AreLeft}
+use Rattle.mdp_witness.specs.Trial.{in_trial, trial_set, trial_by, trial_of, stays, is_wide, AreLeft}
 use Rattle.mdp_witness.proofs.Trying.{lt-true, lt-false}
 
 -- ---- the first state that went

@@ -10,3 +10,4 @@ pub mod FirstMax
 pub mod Visiting
 pub mod Values
 pub mod Left
+pub mod Examples

@@ -1,21 +1,20 @@
 -- The trial of one state, from what its parts say.
-use Rattle.std.proofs.Common.{◌≡◌, ℕ, ◌+◌, ◌<◌, ◌⊎◌, inl, inr, Bool, true, false, cond, eqb, List, length, get_or, Result, Ok, Err, refl, sym, ◌∙◌, ap, subst, arith}
-use Rattle.std.specs.List.{Any}
+use Rattle.std.proofs.Common.{◌≡◌, ℕ, ◌<◌, ◌⊎◌, inl, inr, Bool, true, false, cond, eqb, List, length, get_or, Result, refl, sym, ◌∙◌, ap, subst, arith}
 use Rattle.std.proofs.Math.ListN.{set}
 use Rattle.std.proofs.lemmas.List.{length-set, ext_get_or}
 use Rattle.mdp_math.specs.Rational.{ℚ}
-use Rattle.mdp_math.specs.Written.{written_compare}
 use Rattle.mdp_spec.specs.Mdp.{Entry}
 use Rattle.mdp_spec.specs.Tree.{is_marked}
-use Rattle.mdp_elim.specs.System.{is_active, row_of, Leaves}
+use Rattle.mdp_elim.specs.System.{is_active, Leaves}
 use Rattle.mdp_witness.specs.declared.trial.Trial.{Trial}
-use Rattle.mdp_witness.specs.declared.trial.Trial.TheVariants.{Goes, Needed, PastWidth}
-use Rattle.mdp_witness.specs.Trial.{trial_by, trial_of, stays, is_wide}
+use Rattle.mdp_witness.specs.declared.trial.Trial.TheVariants.{Needed, PastWidth}
+use Rattle.mdp_witness.specs.Trial.{trial_of, stays, is_wide}
 use Rattle.mdp_witness.specs.StepCode.{IsLast, IsStep}
 use Rattle.mdp_witness.proofs.Fronts.{set-at}
 
 -- fewer active states leave too
-pub leaves_subset : (rows : List (List Entry)) (more kept : List Bool) (ranks : List ℕ) → ((s : ℕ) → is_active kept s ≡ true → is_active more s ≡ true) → Leaves rows more ranks → Leaves rows kept ranks
+pub leaves_subset : (rows : List (List Entry)) (more kept : List Bool) (ranks : List ℕ) → ((s : ℕ) → is_active kept s ≡ true → is_active more s ≡ true) → Leaves rows more ranks → Leaves
+    rows kept ranks
 leaves_subset rows more kept ranks h leaves = record {
   falls = λ s l a. let any = leaves.falls s l (h s a) in (any.0, any.1, any.2, any.3, out s any.1 any.4);
 }

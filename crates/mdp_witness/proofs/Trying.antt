@@ -1,8 +1,8 @@
 -- Trials, from the greatest state down: what holds when those from x on have been made, and that one more keeps it.
-use Rattle.std.proofs.Common.{rules, ◌≡◌, ℕ, zero, suc, ◌+◌, ◌<◌, ◌≤◌, inl, inr, Bool, true, false, cond, eqb, ◌&&◌, nat_lt, List, length, get_or, Result, Ok, Err, refl, sym, ◌∙◌, ap, subst, arith, map, if◌then◌else◌}
+use Rattle.std.proofs.Common.{rules, ◌≡◌, ℕ, zero, suc, ◌+◌, ◌<◌, ◌≤◌, inl, inr, Bool, true, false, cond, eqb, ◌&&◌, nat_lt, List, length, Result, Ok, refl, sym, ◌∙◌, ap, subst, arith, map}
 use Rattle.std.specs.List.{range_with_len}
 use Rattle.std.specs.Prelude.{replicate}
-use Rattle.std.proofs.Math.ListN.{set, get_or-eq_default}
+use Rattle.std.proofs.Math.ListN.{set}
 use Rattle.std.proofs.lemmas.List.{length-set, length-replicate, ext_get_or}
 use Rattle.std.proofs.lemmas.List.FromFn.{get_or-map-range_with_len, length-map-range_with_len}
 use Rattle.std.proofs.lemmas.Bool.{eq-eqb, eqb-true}

@@ -1,25 +1,25 @@
 -- The value of a set in exact numbers: its visits are flows of the policy, and their value is what the evaluation gives.
-use Rattle.std.proofs.Common.{◌≡◌, ℕ, zero, suc, ◌+◌, ◌<◌, ◌≤◌, inl, inr, Bool, true, false, eqb, not, ◌&&◌, List, [], ◌∷◌, length, get_or, Result, Ok, Err, refl, sym, ◌∙◌, ap, subst, arith, pos, if◌then◌else◌}
+use Rattle.std.proofs.Common.{◌≡◌, ℕ, zero, suc, ◌<◌, Bool, true, false, eqb, not, ◌&&◌, List, length, get_or, Result, Ok, Err, refl, sym, ◌∙◌, ap, subst, pos, if◌then◌else◌}
 use Rattle.std.specs.Prelude.{replicate}
 use Rattle.std.specs.List.{range_with_len}
 use Rattle.std.proofs.lemmas.Bool.{eqb-true}
 use Rattle.std.proofs.lemmas.List.FromFn.{length-map-range_with_len}
-use Rattle.mdp_math.specs.Rational.{ℚ, of_int, lt_ℚ, ◌+ℚ◌, ◌*ℚ◌, ◌≤ℚ◌}
+use Rattle.mdp_math.specs.Rational.{ℚ, lt_ℚ, ◌+ℚ◌, ◌*ℚ◌, ◌≤ℚ◌}
 use Rattle.mdp_math.specs.Result.{◌>>=◌}
 use Rattle.mdp_math.specs.Sum.{sum_of}
 use Rattle.mdp_math.proofs.Extremes.{le_of_no_test}
-use Rattle.mdp_math.proofs.Order.{0ℚ, 1ℚ, ≤ℚ_refl, ≤ℚ_of_eq, ≤ℚ_trans}
-use Rattle.mdp_math.proofs.Ring.{◌⊕◌, ◌⊗◌, ⊖, lit, ring}
+use Rattle.mdp_math.proofs.Order.{0ℚ, 1ℚ, ≤ℚ_of_eq, ≤ℚ_trans}
+use Rattle.mdp_math.proofs.Ring.{◌⊕◌, ◌⊗◌, lit, ring}
 use Rattle.mdp_math.proofs.Laws.{rat_ring}
 use Rattle.mdp_math.proofs.Sums.{sum_of-same, sum_of-zero}
-use Rattle.mdp_spec.specs.Mdp.{Entry, Mdp, states_of, row_at, value_at}
+use Rattle.mdp_spec.specs.Mdp.{Mdp, states_of, row_at, value_at}
 use Rattle.mdp_spec.specs.Row.{IsMdp}
 use Rattle.mdp_spec.specs.Rules.{MeetsReachMax}
 use Rattle.mdp_spec.specs.Tree.{IsPolicy, is_marked}
 use Rattle.mdp_rows.specs.declared.dir.Dir.TheVariants.{Max}
 use Rattle.mdp_elim.specs.Laws.{LeavingChain}
 use Rattle.mdp_elim.specs.System.{Leaves}
-use Rattle.mdp_elim.specs.Visits.{written_visits, AreVisits}
+use Rattle.mdp_elim.specs.Visits.{written_visits}
 use Rattle.mdp_elim.proofs.OneSolution.{gives_visits}
 use Rattle.mdp_flow.specs.Flow.{source, prob_to, prob_to_goals, goal_source, flow_value}
 use Rattle.mdp_flow.specs.Visits.{AreVisitsOn, visit_flows}
@@ -87,7 +87,8 @@ module _ (m : Mdp) (goals : List Bool) (policy ranks : List ℕ) (start : ℕ) (
     abbrev first_step : (y : List ℚ) × (visits_on m policy start set ≡ Ok y) × (arrived m goals policy start set y ≡ Ok v)
     first_step = told (visits_on m policy start set) (λ y. arrived m goals policy start set y) v is
 
-    abbrev second_step : (value : ℚ) × (arrivals_below m goals policy start set first_step.0 (states_of m) ≡ Ok value) × ((let w : Visited = record { visits = first_step.0; value = value } in let r : Result Visited ℕ = Ok w in r) ≡ Ok v)
+    abbrev second_step : (value : ℚ) × (arrivals_below m goals policy start set first_step.0 (states_of m) ≡ Ok value) ×
+        ((let w : Visited = record { visits = first_step.0; value = value } in let r : Result Visited ℕ = Ok w in r) ≡ Ok v)
     second_step = told (arrivals_below m goals policy start set first_step.0 (states_of m)) (λ value. Ok (record { visits = first_step.0; value = value })) v first_step.2
 
     same : (let w : Visited = record { visits = first_step.0; value = second_step.0 } in w) ≡ v

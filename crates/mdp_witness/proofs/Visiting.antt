@@ -1,19 +1,16 @@
 -- The expected visits of a chain that leaves its active states are at least 0, and so are flows of the policy.
-use Rattle.std.proofs.Common.{◌≡◌, ℕ, ◌+◌, ◌<◌, ◌≤◌, inl, inr, Bool, true, false, eqb, List, [], ◌∷◌, length, get_or, refl, sym, ◌∙◌, ap, subst, arith, pos, if◌then◌else◌}
+use Rattle.std.proofs.Common.{◌≡◌, ℕ, ◌<◌, Bool, true, false, eqb, List, [], length, get_or, refl, sym, ◌∙◌, ap, subst, arith, if◌then◌else◌}
 use Rattle.std.specs.List.{range_with_len}
 use Rattle.std.proofs.lemmas.List.FromFn.{get_or-map-range_with_len, length-map-range_with_len}
-use Rattle.mdp_math.specs.Rational.{ℚ, of_int, ◌+ℚ◌, ◌*ℚ◌, ◌≤ℚ◌}
+use Rattle.mdp_math.specs.Rational.{ℚ, ◌+ℚ◌, ◌*ℚ◌, ◌≤ℚ◌}
 use Rattle.mdp_math.specs.Sum.{sum_of}
-use Rattle.mdp_math.specs.Pivot.{entry_at}
-use Rattle.mdp_math.proofs.Order.{0ℚ, 1ℚ, ≤ℚ_of_eq, ≤ℚ_of_lt, ≤ℚ_refl}
+use Rattle.mdp_math.proofs.Order.{0ℚ, 1ℚ, ≤ℚ_of_lt, ≤ℚ_refl}
 use Rattle.mdp_math.proofs.Whole.{one-pos}
 use Rattle.mdp_math.proofs.Sums.{sum_of-same_all}
 use Rattle.mdp_math.proofs.Solutions.{solution-nonneg}
 use Rattle.mdp_spec.specs.Mdp.{Entry, Mdp, states_of, row_at, value_at}
-use Rattle.mdp_spec.specs.Row.{IsMdp}
-use Rattle.mdp_spec.specs.Tree.{IsPolicy, is_marked}
 use Rattle.mdp_elim.specs.Laws.{LeavingChain}
-use Rattle.mdp_elim.specs.System.{is_active, row_of}
+use Rattle.mdp_elim.specs.System.{row_of}
 use Rattle.mdp_elim.specs.Visits.{one_at, unit_column, step, AreVisits}
 use Rattle.mdp_elim.proofs.Expected.{unit_column-at}
 use Rattle.mdp_elim.proofs.Leaving.{active-below, chain_shrinks}

@@ -1,5 +1,5 @@
 -- The evaluation of a set of states for the greatest probability, by the expected visits of the policy, in written arithmetic.
-use Rattle.std.specs.Prelude.{◌≡◌, ℕ, zero, suc, Bool, List, [], ◌∷◌, length, replicate, slice_index, Option, Some, None, Result, Ok, Err, pos, if◌then◌else◌}
+use Rattle.std.specs.Prelude.{◌≡◌, ℕ, zero, suc, Bool, List, [], ◌∷◌, replicate, slice_index, Option, Some, None, Result, Ok, Err, pos, if◌then◌else◌}
 use Rattle.mdp_math.specs.Rational.{ℚ, of_int}
 use Rattle.mdp_math.specs.Result.{◌>>=◌}
 use Rattle.mdp_math.specs.Written as written

@@ -11,7 +11,8 @@ IsLast Goes evaluation last next = evaluation ≡ Ok next
 IsLast Needed evaluation last next = next ≡ last
 IsLast PastWidth evaluation last next = next ≡ last
 
-pub record IsStep {E W : Type 0} (Evaluates : List Bool → Result E W → Type 0) (value : E → ℚ) (threshold : ℚ) (s : ℕ) (kept wide : List Bool) (last : E) (then_kept then_wide : List Bool) (next : E) : Type 0 where
+pub record IsStep {E W : Type 0} (Evaluates : List Bool → Result E W → Type 0) (value : E → ℚ) (threshold : ℚ) (s : ℕ) (kept wide : List Bool) (last : E)
+    (then_kept then_wide : List Bool) (next : E) : Type 0 where
   pub evaluation : Result E W
   pub evaluated : Evaluates (slice_set kept s false) evaluation
   pub kept_is : then_kept ≡ slice_set kept s (stays (trial_of value threshold evaluation))

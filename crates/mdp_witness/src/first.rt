@@ -124,7 +124,8 @@ impl Query<'_, '_, '_, '_> {
     fn find_by_all(&self, front: &mut Front, s: u32) -> Result<(), AllocError>
         requires state { s < states_of self.now.model.now }
         requires found { length front.old.found ≡ states_of self.now.model.now }
-        ensures found { OnOk result (front.new ≡ fold (with_choice self.now.model.now self.now.goals.now self.now.values.now s) front.old (range_with_len 0 (length (choices_at self.now.model.now s)))) }
+        ensures found { OnOk result (front.new ≡ fold (with_choice self.now.model.now self.now.goals.now self.now.values.now s) front.old
+            (range_with_len 0 (length (choices_at self.now.model.now s)))) }
         ensures count { OnOk result (length front.new.found ≡ states_of self.now.model.now) }
     {
         for c in 0..self.model.choices(s) {

@@ -80,7 +80,8 @@ impl Subsystems<'_, '_> {
         requires state { s < states_of self.now.model.now }
         requires kept { length kept.old ≡ states_of self.now.model.now }
         requires wide { length wide.old ≡ states_of self.now.model.now }
-        ensures step { IfOk result (λ next. IsStep (Evaluates self.now.model.now self.now.goals.now) (value_from self.now.start) threshold.now s kept.old wide.old (plain last) kept.new wide.new (plain next)) }
+        ensures step { IfOk result (λ next. IsStep (Evaluates self.now.model.now self.now.goals.now) (value_from self.now.start) threshold.now s kept.old wide.old (plain last) kept.new
+            wide.new (plain next)) }
     {
         kept.set(s, false);
         match self.evaluate(alloc, kept) {

@@ -1,6 +1,6 @@
-use Rattle.std.proofs.Common.{◌≡◌, length, fold, take}
+use Rattle.std.proofs.Common.{take}
 use Rattle.mdp_spec.specs.Mdp.{states_of}
-use Rattle.mdp_witness.specs.FrontCode.{Front, with_state}
+use Rattle.mdp_witness.specs.FrontCode.{with_state}
 use Rattle.mdp_witness.proofs.Fronts.{IsFound}
 use Rattle.mdp_witness.proofs.first.Query.find_each.Given as goal
 
