@@ -10,4 +10,5 @@ pub mod FirstMax
 pub mod Visiting
 pub mod Values
 pub mod Left
+pub mod OneLeft
 pub mod Examples

@@ -52,6 +52,13 @@ LeftReaches {E} Evaluates value threshold =
     → AreLeft Evaluates value threshold first kept wide last → ((e : E) → Evaluates first (Ok e) → threshold ≤ℚ value e)
     → threshold ≤ℚ value last
 
+-- the trials leave one set, with one evaluation
+abbrev pub LeavesOne : {E W : Type 0} → (List Bool → Result E W → Type 0) → (E → ℚ) → ℚ → Type 0
+LeavesOne {E} Evaluates value threshold =
+    (first kept wide : List Bool) (last : E) (more far : List Bool) (final : E)
+    → AreLeft Evaluates value threshold first kept wide last → AreLeft Evaluates value threshold first more far final
+    → (kept ≡ more) × (wide ≡ far) × (last ≡ final)
+
 -- in the trial of a state that stays and isn't marked as wide the set fell below the threshold
 abbrev pub LeftAreNeeded : {E W : Type 0} → (List Bool → Result E W → Type 0) → (E → ℚ) → ℚ → Type 0
 LeftAreNeeded {E} Evaluates value threshold =
@@ -60,6 +67,9 @@ LeftAreNeeded {E} Evaluates value threshold =
     → (e : E) × Evaluates (trial_set first kept x) (Ok e) × (value e <ℚ threshold)
 
 -- for the greatest probability
+abbrev pub VisitsLeaveOne : Type 0
+VisitsLeaveOne = (m : Mdp) (goals : List Bool) (policy : List ℕ) (start : ℕ) (threshold : ℚ) → LeavesOne (Visits m goals policy start) visited_value threshold
+
 abbrev pub VisitsLeftReach : Type 0
 VisitsLeftReach = (m : Mdp) (goals : List Bool) (policy : List ℕ) (start : ℕ) (threshold : ℚ) → LeftReaches (Visits m goals policy start) visited_value threshold
 
@@ -67,6 +77,9 @@ abbrev pub VisitsLeftAreNeeded : Type 0
 VisitsLeftAreNeeded = (m : Mdp) (goals : List Bool) (policy : List ℕ) (start : ℕ) (threshold : ℚ) → LeftAreNeeded (Visits m goals policy start) visited_value threshold
 
 -- for the least one
+abbrev pub ValuesLeaveOne : Type 0
+ValuesLeaveOne = (m : Mdp) (goals : List Bool) (start : ℕ) (threshold : ℚ) → LeavesOne (Evaluates m goals) (value_from start) threshold
+
 abbrev pub ValuesLeftReach : Type 0
 ValuesLeftReach = (m : Mdp) (goals : List Bool) (start : ℕ) (threshold : ℚ) → LeftReaches (Evaluates m goals) (value_from start) threshold
 

@@ -1,4 +1,5 @@
-ghost use Rattle.mdp_witness.specs.Laws.{FirstReaches, VisitsAreExact, VisitsLeftReach, VisitsLeftAreNeeded, ValuesLeftReach, ValuesLeftAreNeeded};
+ghost use Rattle.mdp_witness.specs.Laws.{FirstReaches, VisitsAreExact};
+ghost use Rattle.mdp_witness.specs.Laws.{VisitsLeaveOne, VisitsLeftReach, VisitsLeftAreNeeded, ValuesLeaveOne, ValuesLeftReach, ValuesLeftAreNeeded};
 
 use mdp_reach::query_law;
 
@@ -13,11 +14,13 @@ pub fn evaluation_law()
     ensures visits { VisitsAreExact }
 {}
 
-/// What the trials leave still reaches the threshold, where the first set does; and in the trial of each state that stays and isn't marked as wide
+/// The trials of a first set leave one set. What they leave still reaches the threshold, where the first set does; and in the trial of each state that stays and isn't marked as wide
 /// the set fell below the threshold. So for both directions.
 pub fn left_law()
+    ensures max_one { VisitsLeaveOne }
     ensures max_reaches { VisitsLeftReach }
     ensures max_needed { VisitsLeftAreNeeded }
+    ensures min_one { ValuesLeaveOne }
     ensures min_reaches { ValuesLeftReach }
     ensures min_needed { ValuesLeftAreNeeded }
 {

@@ -8,7 +8,7 @@ pub loop-s-init : goal.loop-s-init
 loop-s-init c =
     finding_start c.args.self.now.dir c.args.self.now.model.now c.args.self.now.goals.now c.args.self.now.values.now c.args.self.now.policy.now c.args.start c.known.ensures.mdp
     c.args.self.now.chosen c.in_ok-front.front c.find.new.front c.requires.start ((c.in_ok-front.ensures {u = tt}).found ∙ ap (λ (n : ℕ). replicate n false) c.states.ensures)
-        (c.in_ok-front.ensures {u = tt}).waiting
+    (c.in_ok-front.ensures {u = tt}).waiting
     (c.in_ok-find.ensures {u = tt}).found
 
 pub find_next-requires-clause-state : goal.find_next-requires-clause-state

@@ -18,7 +18,7 @@ pub returns-in-Goes : goal.returns-in-Goes
 returns-in-Goes c = record {
   step =
       step_by (Visits c.args.self.now.model.now c.args.self.now.goals.now c.args.self.now.choices.now c.args.self.now.start) visited_value c.args.threshold.now c.args.s c.args.kept.now
-          c.args.wide.now c.set.new.self (plain c.args.last) c.mark.new.kept c.mark.new.wide
+      c.args.wide.now c.set.new.self (plain c.args.last) c.mark.new.kept c.mark.new.wide
       (plain c.in-Ok.found) (omega arith) c.set.ensures (Ok (plain c.in-Ok.found)) c.of-trial.result c.of-trial.ensures (sym (c.in-Ok.ensures {u = tt}).found) c.mark.ensures.kept c.mark.ensures.wide
       (subst (λ (t : Trial). IsLast t (Ok (plain c.in-Ok.found)) (plain c.args.last) (plain c.in-Ok.found)) (sym c.in-Goes.is) refl);
 }
@@ -27,7 +27,7 @@ pub returns-in-Needed : goal.returns-in-Needed
 returns-in-Needed c = record {
   step =
       step_by (Visits c.args.self.now.model.now c.args.self.now.goals.now c.args.self.now.choices.now c.args.self.now.start) visited_value c.args.threshold.now c.args.s c.args.kept.now
-          c.args.wide.now c.set.new.self (plain c.args.last) c.mark.new.kept c.mark.new.wide
+      c.args.wide.now c.set.new.self (plain c.args.last) c.mark.new.kept c.mark.new.wide
       (plain c.args.last) (omega arith) c.set.ensures (Ok (plain c.in-Ok.found)) c.of-trial.result c.of-trial.ensures (sym (c.in-Ok.ensures {u = tt}).found) c.mark.ensures.kept c.mark.ensures.wide
       (kept_last c.of-trial.result (Ok (plain c.in-Ok.found)) (plain c.args.last) c.in-Needed.is);
 }
@@ -36,10 +36,10 @@ pub returns-in-Err-Wide : goal.returns-in-Err-Wide
 returns-in-Err-Wide c = record {
   step =
       step_by (Visits c.args.self.now.model.now c.args.self.now.goals.now c.args.self.now.choices.now c.args.self.now.start) visited_value c.args.threshold.now c.args.s c.args.kept.now
-          c.args.wide.now c.set.new.self (plain c.args.last) c.mark-in-Err-Wide.new.kept
+      c.args.wide.now c.set.new.self (plain c.args.last) c.mark-in-Err-Wide.new.kept
       c.mark-in-Err-Wide.new.wide (plain c.args.last) (omega arith) c.set.ensures (Err c.in-Err-Wide.field-0-0) PastWidth refl
       (sym (answers_wide plain c.in-Err-Wide.field-0 c.in-Err-Wide.field-0-0 (visited c.args.self.now.model.now c.args.self.now.goals.now c.args.self.now.choices.now
-          c.args.self.now.start c.set.new.self) c.in-Err-Wide.field-0-is
+      c.args.self.now.start c.set.new.self) c.in-Err-Wide.field-0-is
       (c.in-Err-Wide.ensures {u = tt}).found))
       c.mark-in-Err-Wide.ensures.kept c.mark-in-Err-Wide.ensures.wide refl;
 }
