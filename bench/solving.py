@@ -1,15 +1,18 @@
 #!/usr/bin/env python3
-"""Measures `solve .. reach` and `check` on models that the script writes, beside an exact linear program of the same query.
+"""Measures `solve` and `check` on models that the script writes; for `reach` beside an exact linear program of the same query.
 
     layered LAYERS WIDTH   a layered MDP: each state but the last two has two choices, each of two draws of a small generator; a choice of a layer
                            goes to one or two states of the next one, one of the last layer to the goal or to a failing state
     random STATES          a sparse MDP: two choices a state, each with 1/2 to two states drawn with a fixed seed from the next 50; the last two
                            states are the goal and a failing one
+    reward LAYERS WIDTH    the layered MDP with a cost of each choice, drawn too, whose last layer goes to the goal alone: the least cost until it
+    mean STATES            a ring of states: two choices a state, each with a gain and with 1/2 to two states drawn from the next 20; the greatest
+                           mean payoff of a model that is one end component
 
 What is timed is the whole program, reading and writing too. The linear program (least sum of values that cover each choice) goes to `glpsol
 --exact` of Debian's glpk-utils where that is installed, in the same run, for at most LIMIT seconds; only its time is compared, and the value of
 state 0. The rounds of policy iteration are counted by the script itself.
-Usage: bench/solving.py [layered L W | random N ..] (layered of 1,002, 4,002 and 16,002 states and a random one of 4,000 if nothing is said).
+Usage: bench/solving.py [layered L W | random N | reward L W | mean N ..] (some of each if nothing is said).
 """
 import os
 import random
@@ -55,13 +58,29 @@ def random_model(size):
     return states + [[[goal]], [[failing]]]
 
 
-def write_model(path, states):
+def costly_model(layers, width):
+    """The layered model whose last layer goes to the goal alone, and a cost from 1 to 9 of each of its choices."""
+    states = layered(layers, width)
+    goal = layers * width
+    states[goal - width : goal] = [[[goal]] * 2 for _ in range(width)]
+    draws = random.Random(7)
+    return states, [[draws.randrange(1, 10) for _ in choices] for choices in states[:goal]] + [[0], [0]]
+
+
+def ring_model(size):
+    """A ring whose states all reach one another, and a gain from 0 to 9 of each choice."""
+    draws = random.Random(7)
+    states = [[sorted({(s + 1) % size, (s + draws.randrange(1, 21)) % size}) for _ in range(2)] for s in range(size)]
+    return states, [[draws.randrange(10) for _ in choices] for choices in states]
+
+
+def write_model(path, states, rewards=None):
     with open(path, "w") as file:
         file.write("@type: MDP\n@nr_states\n%d\n@model\n" % len(states))
         for s, choices in enumerate(states):
             file.write("state %d%s\n" % (s, " init" if s == 0 else " goal" if s == len(states) - 2 else ""))
-            for targets in choices:
-                file.write("action\n")
+            for c, targets in enumerate(choices):
+                file.write("action a [%d]\n" % rewards[s][c] if rewards else "action\n")
                 file.writelines("%d : 1/%d\n" % (target, len(targets)) for target in targets)
 
 
@@ -168,16 +187,44 @@ def measure(folder, name, states):
     print("  %s%s" % (line, "" if seconds is None else ", %.0f times as long" % (seconds / solved)))
 
 
+def measure_earning(folder, name, states, rewards, query):
+    """A query of rewards, and the check of its certificate."""
+    model, cert = os.path.join(folder, "model.drn"), os.path.join(folder, "model.cert")
+    write_model(model, states, rewards)
+    text, status, solved = timed([PROGRAM, "solve", model, "exact", *query])
+    print("%s: %d states, %d choices, load %.1f" % (name, len(states), sum(len(c) for c in states), os.getloadavg()[0]))
+    if status != 0:
+        print("  solve %s: status %d after %.2f s: %s" % (" ".join(query), status, solved, text.split("\n")[0]))
+        return
+    with open(cert, "w") as file:
+        file.write(text)
+    said, _, checked = timed([PROGRAM, "check", model, "exact", cert])
+    value = Fraction(re.search(r"^init 0 (\S+)$", text, re.M).group(1))
+    print("  solve %s: %.2f s, value of state 0 %.6f; check: %.2f s, %s" % (" ".join(query), solved, value, checked, said.strip()))
+
+
+def measure_named(folder, words):
+    """Measures the model that the first words name; the words behind them."""
+    if words[0] in ("layered", "reward"):
+        name, layers, width, rest = " ".join(words[:3]), int(words[1]), int(words[2]), words[3:]
+    else:
+        name, size, rest = " ".join(words[:2]), int(words[1]), words[2:]
+    if words[0] == "layered":
+        measure(folder, name, layered(layers, width))
+    elif words[0] == "reward":
+        measure_earning(folder, name, *costly_model(layers, width), ["min", "reward", "-", "goal"])
+    elif words[0] == "random":
+        measure(folder, name, random_model(size))
+    else:
+        measure_earning(folder, name, *ring_model(size), ["max", "mean", "-"])
+    return rest
+
+
 def main():
-    words = sys.argv[1:] or "layered 10 100 layered 40 100 layered 100 160 random 4000".split()
+    words = sys.argv[1:] or "layered 10 100 layered 40 100 layered 100 160 random 4000 reward 10 100 reward 40 100 mean 50 mean 100".split()
     with tempfile.TemporaryDirectory() as folder:
         while words:
-            if words[0] == "layered":
-                measure(folder, " ".join(words[:3]), layered(int(words[1]), int(words[2])))
-                words = words[3:]
-            else:
-                measure(folder, " ".join(words[:2]), random_model(int(words[1])))
-                words = words[2:]
+            words = measure_named(folder, words)
 
 
 if __name__ == "__main__":

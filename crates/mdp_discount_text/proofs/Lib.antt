@@ -1,0 +1,5 @@
+pub mod Factors
+pub mod ClaimLines
+pub mod Reading
+pub mod Outcomes
+mod Examples

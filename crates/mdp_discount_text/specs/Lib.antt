@@ -1,0 +1,4 @@
+pub mod Spelling
+pub mod Text
+pub mod Code
+pub mod Laws

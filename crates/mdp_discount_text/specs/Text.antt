@@ -1,0 +1,130 @@
+-- Reading the text of a certificate of the discounted reward line by line: the certificate, or the first line that breaks a rule. Each line is judged
+-- by its shape first, then by its numbers from left to right, then by what they count.
+use Rattle.std.specs.Prelude.{ℕ, zero, suc, ◌&&◌, not, Bool, false, List, [], ◌∷◌, drop, codes, Option, Some, None, option_and_then, option_map, Result, Ok, ◌==◌, if◌then◌else◌, pos}
+use Rattle.std.specs.List.{before_first, position_or_len}
+use Rattle.std.specs.Option.{option_or}
+use Rattle.mdp_math.specs.Rational.{ℚ, of_int, le_ℚ, lt_ℚ}
+use Rattle.mdp_num.specs.Canonical.{canonical_of}
+use Rattle.mdp_rows.specs.Name.{is_name}
+use Rattle.mdp_rows.specs.declared.dir.Dir.{Dir}
+use Rattle.mdp_rows.specs.declared.dir.Dir.TheVariants.{Max, Min}
+use Rattle.mdp_cert.specs.declared.error.CertKind.TheVariants as kind
+use Rattle.mdp_cert.specs.declared.error.Refusal.{Refusal}
+use Rattle.mdp_cert.specs.declared.init.Init.{Init}
+use Rattle.mdp_cert.specs.Lines.{◌>>=◌, refuse_if, or_refused, is_line, Place, place, line_by}
+use Rattle.mdp_cert.specs.Words.{first_of, words_behind, whole_at, frac_at}
+use Rattle.mdp_cert.specs.Reading.{behind, is_quote, states_at, valued_at, nothing_behind}
+use Rattle.mdp_cert.specs.Spelling.{end_text}
+use Rattle.mdp_discount_text.specs.Spelling.{version_text}
+use Rattle.mdp_discount.specs.Cert.{Certificate}
+use Rattle.mdp_discount_text.specs.declared.state_lines.StateLine.{StateLine}
+
+-- ---- the claim
+
+pub record Claim : Type 0 where
+  pub dir : Dir
+  pub name : List ℕ
+  pub factor : ℚ
+
+-- a fraction from 0 to below 1
+abbrev pub is_factor : ℚ → Bool
+is_factor f = le_ℚ (of_int (pos 0)) f && lt_ℚ f (of_int (pos 1))
+
+abbrev pub factor_of : List ℕ → Option ℚ
+factor_of word = option_and_then (λ f. if is_factor f then Some f else None) (canonical_of word)
+
+-- a name up to the first `"`, and what stands behind `" `
+abbrev pub name_and_rest : List ℕ → Option (List ℕ × List ℕ)
+name_and_rest text =
+    if is_name (before_first is_quote text)
+    then option_map (λ rest. (before_first is_quote text, rest)) (behind (codes "\" ") (drop (position_or_len is_quote text) text))
+    else None
+
+abbrev pub claim_with : Dir → List ℕ × List ℕ → Option Claim
+claim_with dir p = option_map (λ f. record { dir = dir; name = p.0; factor = f }) (factor_of p.1)
+
+abbrev pub claim_front : Dir → List ℕ
+claim_front Max = codes "claim max discount \""
+claim_front Min = codes "claim min discount \""
+
+abbrev pub claim_names : Dir → List ℕ → Option (List ℕ × List ℕ)
+claim_names dir text = option_and_then name_and_rest (behind (claim_front dir) text)
+
+unfoldable pub claim_to : Dir → List ℕ → Option Claim
+claim_to dir text = option_and_then (claim_with dir) (claim_names dir text)
+
+unfoldable pub claim_of : List ℕ → Option Claim
+claim_of text = option_or (claim_to Max text) (claim_to Min text)
+
+unfoldable pub claim_at : ℕ → List ℕ → Result Claim Refusal
+claim_at n text = or_refused kind.Claim n (claim_of text)
+
+-- ---- the other lines before those of the states
+
+-- the line `init`: `-`, or a state with its value
+abbrev pub init_at : ℕ → ℕ → List ℕ → Result Init Refusal
+init_at states n text = valued_at false states n text
+
+unfoldable pub remainder_at : ℕ → List ℕ → Result ℚ Refusal
+remainder_at n text = words_behind (codes "remainder") 1 n text >>= λ behind. frac_at n (first_of behind)
+
+pub record Head : Type 0 where
+  pub claim : Claim
+  pub states : ℕ
+  pub init : Init
+  pub remainder : ℚ
+
+unfoldable pub head_from : Place → Result (Head × Place) Refusal
+head_from p = do
+  claim ← line_by claim_at p
+  states ← line_by states_at claim.1
+  init ← line_by (init_at states.0) states.1
+  remainder ← line_by remainder_at init.1
+  Ok (record { claim = claim.0; states = states.0; init = init.0; remainder = remainder.0 }, remainder.1)
+
+-- ---- the lines of the states
+
+-- the value and the choice of the state that is due
+unfoldable pub state_at : ℕ → ℕ → List ℕ → Result StateLine Refusal
+state_at due n text = do
+  behind ← words_behind (codes "state") 3 n text
+  state ← whole_at n (first_of behind)
+  value ← frac_at n (first_of (drop 1 behind))
+  choice ← whole_at n (first_of (drop 1 (drop 1 behind)))
+  order ← refuse_if kind.Count n (not (state == due))
+  Ok (record { value = value; choice = choice })
+
+pub record Columns : Type 0 where
+  pub values : List ℚ
+  pub choices : List ℕ
+
+abbrev pub before_others : StateLine → Result (Columns × Place) Refusal → Result (Columns × Place) Refusal
+before_others x others = others >>= λ p. Ok (record { values = x.value ∷ p.0.values; choices = x.choice ∷ p.0.choices }, p.1)
+
+-- so many states, from the one that is due on
+unfoldable pub states_from : ℕ → ℕ → Place → Result (Columns × Place) Refusal
+states_from zero due p = Ok (record { values = []; choices = [] }, p)
+states_from (suc left) due p = line_by (state_at due) p >>= λ said. before_others said.0 (states_from left (suc due) said.1)
+
+-- ---- the whole
+
+abbrev pub certificate_of : Head → Columns → Certificate
+certificate_of head columns = record {
+  dir = head.claim.dir;
+  name = head.claim.name;
+  factor = head.claim.factor;
+  init = head.init;
+  remainder = head.remainder;
+  values = columns.values;
+  choices = columns.choices;
+}
+
+-- the certificate of which the bytes are the text, or the first line that breaks a rule
+unfoldable pub outcome : List ℕ → Result Certificate Refusal
+outcome bytes = do
+  version ← line_by (is_line kind.Version version_text) (place 1 bytes)
+  head ← head_from version.1
+  columns ← states_from head.0.states 0 head.1
+  end ← line_by (is_line kind.Shape end_text) columns.1
+  nothing ← nothing_behind end.1
+  Ok (certificate_of head.0 columns.0)

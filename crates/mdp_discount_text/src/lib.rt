@@ -1,0 +1,16 @@
+//! The text of certificates of the discounted reward: written, and read exactly, with the first line that breaks a rule.
+#![tactic(auto)]
+
+mod claim_line;
+mod head_lines;
+mod laws;
+mod lines;
+mod push;
+mod read;
+mod state_lines;
+mod words;
+mod write;
+
+pub use laws::discount_text_law;
+pub use read::read_discount;
+pub use write::write_discount;

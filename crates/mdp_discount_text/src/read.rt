@@ -1,0 +1,45 @@
+ghost use Rattle.std.specs.Prelude.{◌≡◌, Ok, IfOk, IfErr};
+ghost use Rattle.mdp_cert.specs.Answer.{Refuses};
+ghost use Rattle.mdp_cert.specs.Lines.{place};
+ghost use Rattle.mdp_cert.specs.Reading.{nothing_behind};
+ghost use Rattle.mdp_discount.specs.Plain.{plain};
+ghost use Rattle.mdp_discount_text.specs.Text.{outcome};
+
+use crate::head_lines::head_from;
+use crate::lines::{is_line, next_line, refuse_if};
+use crate::state_lines::states_from;
+use mdp_cert::{CertError, CertKind, Refusal};
+use mdp_discount::DiscountCert;
+use std::alloc::Global;
+
+/// Nothing stands behind the line before this one.
+#[tactic(auto, unfolding(mdp_cert::specs::Reading::nothing_behind))]
+fn nothing_behind(line: u64, bytes: &[u8]) -> Result<(), Refusal>
+    ensures { result ≡ nothing_behind (place line bytes.now) }
+{
+    refuse_if(CertKind::End, line, !bytes.is_empty())
+}
+
+/// Reads a certificate of the discounted reward: the bytes are its text, or the refusal names the first line that breaks a rule.
+#[tactic(auto, unfolding(crate::specs::Text::outcome))]
+pub fn read_discount(alloc: Global, bytes: &[u8]) -> Result<DiscountCert, CertError>
+    ensures read { IfOk result (λ c. outcome bytes.now ≡ Ok (plain c)) }
+    ensures refused { IfErr result (λ e. Refuses e (outcome bytes.now)) }
+{
+    let (text, rest) = next_line(1, bytes)?;
+    is_line(CertKind::Version, b"mdp-discount 1", 1, text)?;
+    let (head, rest) = head_from(alloc, rest)?;
+    let (columns, line, rest) = states_from(alloc, head.states, 6, rest)?;
+    let (text, rest) = next_line(line, rest)?;
+    is_line(CertKind::Shape, b"end", line, text)?;
+    nothing_behind(line + 1, rest)?;
+    Ok(DiscountCert {
+        dir: head.claim.dir,
+        name: head.claim.name,
+        factor: head.claim.factor,
+        init: head.init,
+        remainder: head.remainder,
+        values: columns.values,
+        choices: columns.choices,
+    })
+}

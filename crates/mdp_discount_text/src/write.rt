@@ -1,0 +1,47 @@
+ghost use Rattle.std.specs.Prelude.{◌≡◌, ◌++◌, OnOk, OnErr};
+ghost use Rattle.mdp_cert.specs.Answer.{Keeps};
+ghost use Rattle.mdp_discount.specs.Plain.{plain};
+ghost use Rattle.mdp_discount_text.specs.Spelling.{head_text, text_of};
+
+use crate::push::{
+    push_claim, push_end, push_init, push_number, push_remainder, push_states, push_version,
+};
+use mdp_discount::DiscountCert;
+use mdp_num::Memory;
+
+/// Appends the lines before those of the states.
+fn push_head(out: &mut Vec<u8>, cert: &DiscountCert) -> Result<(), Memory>
+    ensures text { OnOk result (out.new.items ≡ out.old.items ++ head_text (plain cert.now)) }
+    ensures front { Keeps out.old.items out.new.items }
+{
+    push_version(out)?;
+    push_claim(out, cert.dir, &cert.name, &cert.factor)?;
+    push_number(out, cert.values.len() as u64)?;
+    push_init(out, &cert.init)?;
+    push_remainder(out, &cert.remainder)
+}
+
+/// Appends all lines; after `Memory` the text begins as before.
+#[tactic(auto, unfolding(crate::specs::Spelling::text_of))]
+fn push_lines(out: &mut Vec<u8>, cert: &DiscountCert) -> Result<(), Memory>
+    ensures text { OnOk result (out.new.items ≡ out.old.items ++ text_of (plain cert.now)) }
+    ensures front { Keeps out.old.items out.new.items }
+{
+    push_head(out, cert)?;
+    push_states(out, &cert.values, &cert.choices)?;
+    push_end(out)
+}
+
+/// Appends the text of a certificate: its claim, the number of states, the initial state, the remainder and a line for each state. After `Memory`
+/// the text is as before.
+pub fn write_discount(cert: &DiscountCert, out: &mut Vec<u8>) -> Result<(), Memory>
+    ensures text { OnOk result (out.new.items ≡ out.old.items ++ text_of (plain cert.now)) }
+    ensures unchanged { OnErr result (out.new.items ≡ out.old.items) }
+{
+    let start = out.len();
+    let answer = push_lines(out, cert);
+    if answer.is_err() {
+        out.truncate(start);
+    }
+    answer
+}
