@@ -1,0 +1,14 @@
+pub mod Fronts
+pub mod Finding
+pub mod Arrivals
+pub mod Trying
+pub mod Steps
+pub mod Duality
+pub mod Lengths
+pub mod Floor
+pub mod FirstMax
+pub mod Visiting
+pub mod Values
+pub mod Left
+pub mod OneLeft
+pub mod Examples
