@@ -2,25 +2,19 @@
 use Rattle.std.specs.Prelude.{◌≡◌, ℕ, ◌<◌, ◌≤◌, true, List, Option, Result, Ok}
 use Rattle.mdp_math.specs.Rational.{ℚ, ◌+ℚ◌, ◌*ℚ◌, ◌≤ℚ◌}
 use Rattle.mdp_spec.specs.Mdp.{Mdp, states_of}
-use Rattle.mdp_spec.specs.Row.{IsMdp}
 use Rattle.mdp_spec.specs.Tree.{Tree}
 use Rattle.mdp_spec.specs.Pay.{total}
 use Rattle.mdp_spec.specs.Bounds.{whole}
 use Rattle.mdp_spec.proofs.Keeping.{Keeps}
 use Rattle.mdp_rows.specs.declared.dir.Dir.{Dir}
 use Rattle.mdp_rows.specs.declared.dir.Dir.TheVariants.{Max, Min}
-use Rattle.mdp_ends.specs.Ends.{AreEnds, count_of, in_part, is_inside}
+use Rattle.mdp_ends.specs.Ends.{in_part, is_inside}
 use Rattle.mdp_path.specs.Queries.{WideTerm}
 use Rattle.mdp_path.specs.Values.{IsAsGood}
+pub use Rattle.mdp_unichain.specs.Part.{IsPart}
 use Rattle.mdp_unichain.specs.Improvement.{IsEvaluated}
 use Rattle.mdp_gain.specs.Query.{Answer, inner_component, EndsSo}
 use Rattle.mdp_gain.specs.Best.{IsBestInner}
-
--- part i of the maximal end components of a model
-pub record IsPart (m : Mdp) (parts : List (Option ℕ)) (i : ℕ) : Type 0 where
-  pub model : IsMdp m
-  pub ends : AreEnds m parts
-  pub below : i < count_of parts
 
 -- a query has exactly one end
 abbrev pub HasOneEnd : Type 0

@@ -7,7 +7,8 @@ ghost use Rattle.mdp_parts.specs.Allowed.{allowed_at, AreChoices};
 ghost use Rattle.mdp_unichain.specs.Chain.{AllLeadTo, IsReference};
 ghost use Rattle.mdp_unichain.specs.Component.{Component, count, is_state, row_by, IsPolicy};
 ghost use Rattle.mdp_gain.specs.Code.{IsGiven, component_in};
-ghost use Rattle.mdp_gain.specs.Classes.{takes, TakesAt, leaves, differs, has_flag, shares_part, AreClasses, is_in_changed_class, Picks};
+ghost use Rattle.mdp_gain.specs.Classes.{TakesAt};
+ghost use Rattle.mdp_unichain.specs.Classes.{takes, leaves, differs, has_flag, shares_part, AreClasses, is_in_changed_class, Picks};
 
 use crate::component::EndComponent;
 use mdp_num::Memory;

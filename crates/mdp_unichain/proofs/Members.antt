@@ -20,13 +20,13 @@ module _ (dir : Dir) (m : Mdp) (r : ℕ) (inner : ℕ → ℕ → Bool) where
   abbrev listed_choices : ℕ → List Choice
   listed_choices s = map (choice_of m r inner s) (range_with_len 0 (length (choices_at m s)))
 
-  count-is : component.count p ≡ states_of m
+  pub count-is : component.count p ≡ states_of m
   count-is = length-map-range_with_len listed_choices 0 (states_of m)
 
-  choices-at : (s : ℕ) → s < states_of m → component.choices_at p s ≡ listed_choices s
+  pub choices-at : (s : ℕ) → s < states_of m → component.choices_at p s ≡ listed_choices s
   choices-at s l = get_or-map-range_with_len listed_choices 0 (states_of m) s s [] l (zero-add s)
 
-  choices-len : (s : ℕ) → s < states_of m → length (component.choices_at p s) ≡ length (choices_at m s)
+  pub choices-len : (s : ℕ) → s < states_of m → length (component.choices_at p s) ≡ length (choices_at m s)
   choices-len s l = ap (λ (cs : List Choice). length cs) (choices-at s l) ∙ length-map-range_with_len (choice_of m r inner s) 0 (length (choices_at m s))
 
   -- a choice of the component is one of the model that passes the test

@@ -1,4 +1,5 @@
 pub mod Chain
+pub mod Classes
 pub mod Component
 pub mod Evaluation
 pub mod Improvement
@@ -6,6 +7,7 @@ pub mod Iteration
 pub mod Laws
 pub mod Model
 pub mod Next
+pub mod Part
 pub mod Path
 pub mod Sums
 pub mod Written

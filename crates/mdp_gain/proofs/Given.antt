@@ -1,0 +1,52 @@
+-- The component that the code holds, in terms of its model.
+use Rattle.std.proofs.Common.{◌≡◌, ℕ, ◌<◌, Bool, true, false, ◌&&◌, ◌==◌, List, [], length, Option, Some, None, refl, sym, ◌∙◌, ap, subst, arith}
+use Rattle.std.proofs.lemmas.Bool.{and_from}
+use Rattle.mdp_math.specs.Rational.{ℚ}
+use Rattle.mdp_spec.specs.Mdp as mdp
+use Rattle.mdp_spec.specs.Mdp.{Entry, Mdp, states_of, row_at}
+use Rattle.mdp_spec.specs.Row.{IsMdp}
+use Rattle.mdp_spec.specs.Unit.{reward_of}
+use Rattle.mdp_graph.specs.Sets.{marked}
+use Rattle.mdp_ends.specs.Ends.{part_of, in_part, is_inside}
+use Rattle.mdp_parts.specs.FoundEnds.{inner_at}
+use Rattle.mdp_unichain.specs.Component.{Component, Choice, count, choices_at, choice_at, is_state}
+use Rattle.mdp_unichain.specs.Part.{IsPart, is_inner}
+use Rattle.mdp_unichain.proofs.Parts.{part-state, part-count, part-choices, part-choice, inner_member, part-component}
+use Rattle.mdp_gain.specs.Code.{IsGiven, component_in}
+use Rattle.mdp_gain.specs.declared.component.EndComponent.{EndComponent}
+
+module _ (x : EndComponent) where
+  abbrev m : Mdp
+  m = x.model.now
+
+  pub count-is : count (component_in x) ≡ states_of m
+  count-is = part-count x.dir m x.ends.now.parts x.number x.name
+
+  pub state-below : (s : ℕ) → s < count (component_in x) → s < states_of m
+  state-below s l = let n = count-is in omega arith
+
+  pub choices-are : (s : ℕ) → s < count (component_in x) → length (choices_at (component_in x) s) ≡ length (mdp.choices_at m s)
+  choices-are s l = part-choices x.dir m x.ends.now.parts x.number x.name s (state-below s l)
+
+  pub choice-below : (s c : ℕ) → s < count (component_in x) → c < length (choices_at (component_in x) s) → c < length (mdp.choices_at m s)
+  choice-below s c l k = let n = choices-are s l in omega arith
+
+  module _ (s c : ℕ) (l : s < count (component_in x)) (k : c < length (choices_at (component_in x) s)) where
+    pub reward-is : (choice_at (component_in x) s c).reward ≡ reward_of (mdp.choice_at m s c) x.name
+    reward-is = ap Choice.reward (part-choice x.dir m x.ends.now.parts x.number x.name s c (state-below s l) (choice-below s c l k))
+
+    pub row-is : (choice_at (component_in x) s c).row ≡ row_at m s c
+    row-is = ap Choice.row (part-choice x.dir m x.ends.now.parts x.number x.name s c (state-below s l) (choice-below s c l k))
+
+    pub inner-is : (choice_at (component_in x) s c).inner ≡ is_inner m x.ends.now.parts x.number s c
+    inner-is = ap Choice.inner (part-choice x.dir m x.ends.now.parts x.number x.name s c (state-below s l) (choice-below s c l k))
+
+  module _ (g : IsGiven x) where
+    pub parts-len : length x.ends.now.parts ≡ states_of m
+    parts-len = g.ends.ends.count
+
+    pub part_of-given : IsMdp m → IsPart m x.ends.now.parts x.number
+    part_of-given known = record { model = known; ends = g.ends.ends; below = g.below }
+
+    pub member-is : IsMdp m → (s : ℕ) → is_state (component_in x) s ≡ in_part x.ends.now.parts x.number s
+    member-is known s = part-state m x.ends.now.parts x.number (part_of-given known) x.dir x.name s
