@@ -116,16 +116,20 @@ module _ (p : Component) (known : IsComponent p) where
 
     decide : (s c : ℕ) (b : Bool) → Choice.inner (choice_at p s c) ≡ b → IsBetterChoice p gain bias s c ⊎ (IsInner p s c → IsAsGood p.dir (gain +ℚ bias s) (worth bias (choice_at p s c)))
     decide s c false h = inr (λ k. absurd (clash_test _ k h))
-    decide s c true h = elim (≤ℚ_or_gt (turn p.dir (worth bias (choice_at p s c))) (turn p.dir (gain +ℚ bias s))) as (λ _. IsBetterChoice p gain bias s c ⊎ (IsInner p s c → IsAsGood p.dir (gain +ℚ bias s) (worth bias (choice_at p s c)))) [
-      | inl l ↦ inr (λ k. as_good_turned p.dir _ _ l)
-      | inr l ↦ inl (h, better_turned p.dir _ _ l)
-    ]
+    decide s c true h =
+        elim (≤ℚ_or_gt (turn p.dir (worth bias (choice_at p s c))) (turn p.dir (gain +ℚ bias s))) as
+        (λ _. IsBetterChoice p gain bias s c ⊎ (IsInner p s c → IsAsGood p.dir (gain +ℚ bias s) (worth bias (choice_at p s c)))) [
+          | inl l ↦ inr (λ k. as_good_turned p.dir _ _ l)
+          | inr l ↦ inl (h, better_turned p.dir _ _ l)
+        ]
 
     better_at : (s : ℕ) → Better s ⊎ NoneAt s
-    better_at s = elim (search_below (λ c. IsBetterChoice p gain bias s c) (λ c. IsInner p s c → IsAsGood p.dir (gain +ℚ bias s) (worth bias (choice_at p s c))) (length (choices_at p s)) (λ c l. decide s c (Choice.inner (choice_at p s c)) refl)) as (λ _. Better s ⊎ NoneAt s) [
-      | inl f ↦ inl (f.0, f.2)
-      | inr q ↦ inr (λ c k. q c (inner-below p s c k) k)
-    ]
+    better_at s =
+        elim (search_below (λ c. IsBetterChoice p gain bias s c) (λ c. IsInner p s c → IsAsGood p.dir (gain +ℚ bias s) (worth bias (choice_at p s c))) (length (choices_at p s))
+        (λ c l. decide s c (Choice.inner (choice_at p s c)) refl)) as (λ _. Better s ⊎ NoneAt s) [
+          | inl f ↦ inl (f.0, f.2)
+          | inr q ↦ inr (λ c k. q c (inner-below p s c k) k)
+        ]
 
     take_by : (s : ℕ) → Better s ⊎ NoneAt s → ℕ
     take_by s (inl b) = b.0

@@ -9,7 +9,8 @@ use Rattle.mdp_unichain.proofs.Reaching.{test_or_not, clash_test, rank_then, ran
 
 module _ (states : ℕ → Bool) (n : ℕ) (row : ℕ → List Entry) (chain : IsChain states n row) where
   -- a closed set with a state holds each state to which all lead
-  module _ (part : ℕ → Bool) (inside : (s : ℕ) → part s ≡ true → states s ≡ true) (closed : (s : ℕ) → part s ≡ true → All (λ y. part y.target ≡ true) (row s)) (t : ℕ) (leads : AllLeadTo states row t) where
+  module _ (part : ℕ → Bool) (inside : (s : ℕ) → part s ≡ true → states s ≡ true) (closed : (s : ℕ) → part s ≡ true → All (λ y. part y.target ≡ true) (row s)) (t : ℕ)
+      (leads : AllLeadTo states row t) where
     holds_within : (fuel s : ℕ) → leads.rank s < fuel → part s ≡ true → part t ≡ true
     holds_within zero s l h = absurd (omega arith)
     holds_within (suc fuel) s l h = elim (same_or_other s t) as (λ _. part t ≡ true) [
@@ -141,5 +142,6 @@ module _ (states : ℕ → Bool) (n : ℕ) (row other : ℕ → List Entry) (cha
     least = λ u to.
         let c = class_of_t in
         let k = class-same states other row c.0 (untouched c.0 c.1) c.1 in
-        reference.least u (leads_into states n row chain c.0 k (into_class states n row chain c.0 t c.2 reference.leads) u (holds states n other next c.0 k.states (IsClosedClass.closed c.1) u to t c.2));
+        reference.least u (leads_into states n row chain c.0 k (into_class states n row chain c.0 t c.2 reference.leads) u
+        (holds states n other next c.0 k.states (IsClosedClass.closed c.1) u to t c.2));
   }

@@ -1,22 +1,20 @@
 -- The strong components of a policy's choices: those that the policy doesn't leave are its closed classes.
-use Rattle.std.proofs.Common.{◌≡◌, ◌≢◌, ℕ, zero, suc, ◌+◌, ◌<◌, ◌≤◌, ◌⊎◌, inl, inr, Bool, true, false, not, ◌&&◌, ◌==◌, List, [], ◌∷◌, length, map, get_or, Option, Some, None, refl, sym, ◌∙◌, ap, subst, arith, zero-add}
-use Rattle.std.specs.List.{All, Any, list_any, range_with_len}
+use Rattle.std.proofs.Common.{◌≡◌, ◌≢◌, ℕ, zero, suc, ◌+◌, ◌<◌, ◌≤◌, ◌⊎◌, inl, inr, Bool, true, false, not, ◌&&◌, ◌==◌, List, [], ◌∷◌, length, map, get_or, Option, Some, None, refl, sym, ◌∙◌, ap}
+use Rattle.std.proofs.Common.{subst, arith, zero-add}
+use Rattle.std.specs.List.{All, range_with_len}
 use Rattle.std.specs.Prelude.{slice_index, nat_lt, cond}
-use Rattle.std.proofs.lemmas.Bool.{false≢true, and_parts, and_from, eqb-true, eq-eqb, ne_eqb, cases_Bool}
+use Rattle.std.proofs.lemmas.Bool.{false≢true, and_parts, and_from, eqb-true, eq-eqb, ne_eqb}
 use Rattle.std.proofs.lemmas.List.FromFn.{get_or-map-range_with_len}
-use Rattle.mdp_math.proofs.Numbers.{le_or}
 use Rattle.mdp_spec.specs.Mdp.{Entry, Mdp, states_of, choices_at, row_at}
-use Rattle.mdp_spec.specs.Row.{IsMdp}
 use Rattle.mdp_rows.specs.declared.dir.Dir.{Dir}
 use Rattle.mdp_rows.specs.Preds.{leads_to}
 use Rattle.mdp_graph.specs.Sets.{marked, can_enter}
 use Rattle.mdp_ends.specs.Numbers.{is_numbered, count_from}
-use Rattle.mdp_ends.specs.Walks.{Reaches, AreJoined, AreComponents}
+use Rattle.mdp_ends.specs.Walks.{Reaches, AreComponents}
 use Rattle.mdp_ends.proofs.Walking.{any-range, range-any, enters-at, enters-by, stays-by, stays_along}
 use Rattle.mdp_ends.proofs.Numbering.{numbered-below}
 use Rattle.mdp_unichain.specs.Chain.{IsChain, AllLeadTo, IsClosedClass}
-use Rattle.mdp_unichain.specs.Component as component
-use Rattle.mdp_unichain.specs.Component.{Component, Choice, count, IsInner, is_state, row_by, IsPolicy, IsComponent}
+use Rattle.mdp_unichain.specs.Component.{Component, count, is_state, row_by, IsPolicy, IsComponent}
 use Rattle.mdp_unichain.specs.Model.{IsInside}
 use Rattle.mdp_unichain.specs.Part.{IsPart, is_inner, inner_component}
 use Rattle.mdp_unichain.specs.Classes.{takes, leaves, has_flag, shares_part, AreClasses}
@@ -107,7 +105,8 @@ module _ (dir : Dir) (m : Mdp) (parts : List (Option ℕ)) (i r : ℕ) (k : IsPa
     below : (s : ℕ) → is_state p s ≡ true → s < states_of m
     below s h = (inside s h).0
 
-    module _ (chosen : ℕ → ℕ → Bool) (agrees : (s c : ℕ) → s < states_of m → c < length (choices_at m s) → chosen s c ≡ takes p policy s c) (numbers : List ℕ) (found : AreComponents m chosen numbers) where
+    module _ (chosen : ℕ → ℕ → Bool) (agrees : (s c : ℕ) → s < states_of m → c < length (choices_at m s) → chosen s c ≡ takes p policy s c) (numbers : List ℕ)
+        (found : AreComponents m chosen numbers) where
       -- what is chosen is what the policy takes
       takes_of : (s c : ℕ) → s < states_of m → c < length (choices_at m s) → chosen s c ≡ true → (is_state p s ≡ true) × (c ≡ slice_index policy s)
       takes_of s c l lc e =
@@ -160,9 +159,11 @@ module _ (dir : Dir) (m : Mdp) (parts : List (Option ℕ)) (i r : ℕ) (k : IsPa
             (λ j. and_from (is_state p t) (slice_index numbers t == slice_index numbers s) (IsClosedClass.states c t j) (eq-eqb (slice_index numbers t) (slice_index numbers s) (class_number t s j h)))
 
       module _ (left : List Bool) (len : length left ≡ count p)
-          (left_is : (s : ℕ) → s < count p → marked left (slice_index numbers s) ≡ has_flag (map (leaves p policy numbers) (range_with_len 0 (count p))) numbers (count p) (slice_index numbers s)) where
+          (left_is : (s : ℕ) → s < count p → marked left (slice_index numbers s) ≡ has_flag (map (leaves p policy numbers) (range_with_len 0 (count p))) numbers (count p)
+          (slice_index numbers s)) where
         -- a closed class isn't left
-        class_kept : (class : ℕ → Bool) (c : IsClosedClass (is_state p) (row_by p policy) class) (s : ℕ) → class s ≡ true → (marked left (slice_index numbers s) ≡ true) ⊎ (marked left (slice_index numbers s) ≡ false)
+        class_kept : (class : ℕ → Bool) (c : IsClosedClass (is_state p) (row_by p policy) class) (s : ℕ) → class s ≡ true
+            → (marked left (slice_index numbers s) ≡ true) ⊎ (marked left (slice_index numbers s) ≡ false)
             → marked left (slice_index numbers s) ≡ false
         class_kept class c s h (inr o) = o
         class_kept class c s h (inl e) =
@@ -185,7 +186,8 @@ module _ (dir : Dir) (m : Mdp) (parts : List (Option ℕ)) (i r : ℕ) (k : IsPa
           number_in : (t : ℕ) → class t ≡ true → slice_index numbers t ≡ slice_index numbers s
           number_in t e = eqb-true (slice_index numbers t) (slice_index numbers s) (and_parts (is_state p t) (slice_index numbers t == slice_index numbers s) e).1
 
-          target_in : (u y : ℕ) → class u ≡ true → leads_to y (row_by p policy u) ≡ true → (slice_index numbers y ≡ slice_index numbers u) ⊎ (slice_index numbers y ≢ slice_index numbers u) → class y ≡ true
+          target_in : (u y : ℕ) → class u ≡ true → leads_to y (row_by p policy u) ≡ true → (slice_index numbers y ≡ slice_index numbers u) ⊎ (slice_index numbers y ≢ slice_index numbers u)
+              → class y ≡ true
           target_in u y e to (inl q) =
               and_from (is_state p y) (slice_index numbers y == slice_index numbers s) (all-target (row_by p policy u) (λ v. is_state p v ≡ true) (IsChain.stays chain u (state_in u e)) y to)
               (eq-eqb (slice_index numbers y) (slice_index numbers s) (q ∙ number_in u e))
@@ -209,7 +211,8 @@ module _ (dir : Dir) (m : Mdp) (parts : List (Option ℕ)) (i r : ℕ) (k : IsPa
                 let n = walk_falls m chosen t class (walks_in t j) u e o in
                 let z = takes_of u (LeadsNearer.choice n) (below u (state_in u e)) (LeadsNearer.below n) (LeadsNearer.taken n) in
                 target-any (row_by p policy u) (λ y. walk_rank m chosen t class (walks_in t j) y < walk_rank m chosen t class (walks_in t j) u) (LeadsNearer.target n)
-                (subst (λ (es : List Entry). leads_to (LeadsNearer.target n) es ≡ true) (sym (row-same u z.0)) (subst (λ d. leads_to (LeadsNearer.target n) (row_at m u d) ≡ true) z.1 (LeadsNearer.leads n)))
+                (subst (λ (es : List Entry). leads_to (LeadsNearer.target n) es ≡ true) (sym (row-same u z.0))
+                (subst (λ d. leads_to (LeadsNearer.target n) (row_at m u d) ≡ true) z.1 (LeadsNearer.leads n)))
                 (LeadsNearer.smaller n);
           }
 

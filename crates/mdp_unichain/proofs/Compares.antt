@@ -1,23 +1,17 @@
 -- What the written comparison says in exact numbers: a choice that is taken is one of the component and better than the present value, and where none
 -- is taken none is better.
-use Rattle.std.proofs.Common.{◌≡◌, ℕ, zero, suc, ◌<◌, ◌≤◌, ◌⊎◌, inl, inr, Bool, true, false, if◌then◌else◌, List, length, Option, Some, None, Result, Ok, refl, sym, ◌∙◌, ap, subst, arith, Ordering}
-use Rattle.std.specs.declared.cmp.Ordering.TheVariants.{Less, Equal, Greater}
+use Rattle.std.proofs.Common.{◌≡◌, ℕ, zero, suc, ◌<◌, ◌≤◌, ◌⊎◌, inl, inr, Bool, true, false, if◌then◌else◌, List, length, Option, Some, None, Result, Ok, refl, sym, ◌∙◌, ap, subst, arith}
 use Rattle.std.specs.Prelude.{slice_index}
 use Rattle.std.proofs.Math.ListN.{get_or-eq_default}
 use Rattle.mdp_math.specs.Rational.{ℚ, ◌+ℚ◌, ◌≤ℚ◌, ◌<ℚ◌}
 use Rattle.mdp_math.specs.Written.{written_add, written_compare, cmp_ℚ, ◌>>=◌}
 use Rattle.mdp_math.proofs.Written.{written_add-some, written_compare-some}
-use Rattle.mdp_math.proofs.Order.{≤ℚ_trans, ≤ℚ_of_lt, ≤ℚ_of_eq, ≤ℚ-<ℚ_trans, lt_of_cmp, eq_of_cmp, gt_of_cmp}
+use Rattle.mdp_math.proofs.Order.{≤ℚ_trans, ≤ℚ_of_lt, ≤ℚ_of_eq, ≤ℚ-<ℚ_trans}
 use Rattle.mdp_math.proofs.Numbers.{last_or, le_or}
 use Rattle.mdp_spec.specs.Mdp.{value_at}
-use Rattle.mdp_spec.specs.Written.{written_sum}
-use Rattle.mdp_rows.specs.declared.dir.Dir.{Dir}
-use Rattle.mdp_rows.specs.declared.dir.Dir.TheVariants.{Max, Min}
-use Rattle.mdp_elim.specs.declared.too_wide.Kind.TheVariants.{Compare}
 use Rattle.mdp_unichain.specs.Component.{Component, Choice, count, choices_at, choice_at, is_state, IsInner, IsPolicy}
-use Rattle.mdp_path.specs.Values.{IsBetter, IsAsGood}
 use Rattle.mdp_unichain.specs.Improvement.{worth, IsBetterChoice, NoneBetterAt, IsImproved}
-use Rattle.mdp_path.specs.Places.{Place, at_place}
+use Rattle.mdp_path.specs.Places.{Place}
 use Rattle.mdp_path.specs.Candidates.{is_better, Best, judged}
 use Rattle.mdp_path.specs.Path.{comparing, or_kept}
 use Rattle.mdp_unichain.specs.Sums.{written_worth, compared}
@@ -123,8 +117,11 @@ module _ (p : Component) (policy : List ℕ) (v : Values) (is : IsPolicy p polic
       let b = ok_part (best_of p v.bias s a.0 (length (choices_at p s))) (λ best. (let r : Result ℕ Place = Ok (or_kept (Best.choice best) (slice_index policy s)) in r)) c a.2 in
       let k = best_of-is p v.bias s a.0 (length (choices_at p s)) b.0 b.1 in
       let value : a.0 ≡ v.gain +ℚ bias s =
-      written_add-some v.gain (value_at v.bias s) a.0 (sym (place_part (comparing s (slice_index policy s)) (written_add v.gain (value_at v.bias s)) a.0 a.1)) in
-      (λ q. subst (Improves s) (ok_same (or_kept (Best.choice b.0) (slice_index policy s)) c b.2) (taken s a.0 (Best.value b.0) (Best.choice b.0) value (IsBest.is k) (IsBest.most k)), λ q. absurd (let r : true ≡ false = q in cc))
+      written_add-some v.gain (value_at v.bias s) a.0 (sym (place_part (comparing s (slice_index policy s)) (written_add v.gain (value_at v.bias s)) a.0 a.1)) in (
+        λ q. subst (Improves s) (ok_same (or_kept (Best.choice b.0) (slice_index policy s)) c b.2)
+            (taken s a.0 (Best.value b.0) (Best.choice b.0) value (IsBest.is k) (IsBest.most k)),
+        λ q. absurd (let r : true ≡ false = q in cc),
+      )
 
   module _ (improved : List ℕ) (h : IsUpTo (improved_at p policy v) (count p) improved) where
     at : (s : ℕ) → s < count p → (is_state p s ≡ true → Improves s (slice_index improved s)) × (is_state p s ≡ false → slice_index improved s ≡ 0)

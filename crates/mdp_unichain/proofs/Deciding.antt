@@ -11,7 +11,8 @@ use Rattle.mdp_unichain.specs.Component.{Component, Choice, count, choice_at, Is
 use Rattle.mdp_unichain.specs.Improvement.{GoesToward, IsNext}
 use Rattle.mdp_unichain.specs.Laws.{HasReference, HasNext}
 use Rattle.mdp_unichain.proofs.Chains.{target, same_number, same_or_other}
-use Rattle.mdp_unichain.proofs.Reaching.{search_below, test_or_not, clash_test, and_true, rank_then, rank_else, IsPart, part-chain, Split, others, others-part, others-not, reached_of, split, split_to, to_falls, alone, has_class}
+use Rattle.mdp_unichain.proofs.Reaching.{search_below, test_or_not, clash_test, and_true, rank_then, rank_else, IsPart, part-chain, Split, others, others-part, others-not, reached_of, split}
+use Rattle.mdp_unichain.proofs.Reaching.{split_to, to_falls, alone, has_class}
 use Rattle.mdp_unichain.proofs.Classes.{holds, class-chain, class-reference, into_class}
 use Rattle.mdp_unichain.proofs.Improving.{policy-chain, state-below}
 
@@ -74,7 +75,8 @@ module _ (states : ℕ → Bool) (n : ℕ) (row : ℕ → List Entry) (chain : I
     not_in h k =
         let v = comes (suc (Split.rank to_lost u)) u (omega arith) h k in
         let e : (class u && lost u) ≡ true = holds class n row (class-chain states n row chain class c) (λ s. class s && lost s) (λ s q. both_first (class s) (lost s) q)
-        (λ s q j d l. both_true _ _ (c.closed s (both_first (class s) (lost s) q) j d l) (lost-closed s (both_second (class s) (lost s) q) j d l)) u (c.connected u k) v.0 (both_true (class v.0) (lost v.0) v.1 v.2) in
+        (λ s q j d l. both_true _ _ (c.closed s (both_first (class s) (lost s) q) j d l) (lost-closed s (both_second (class s) (lost s) q) j d l)) u (c.connected u k) v.0
+        (both_true (class v.0) (lost v.0) v.1 v.2) in
         clash_test (lost u) (both_second (class u) (lost u) e) not_lost
 
   -- else the states that lead to no lost one all lead to u, and hold a class
@@ -114,9 +116,12 @@ module _ (states : ℕ → Bool) (n : ℕ) (row : ℕ → List Entry) (chain : I
 
 -- some class holds a marked state, or none does
 pub marked_class : (states : ℕ → Bool) (n : ℕ) (row : ℕ → List Entry) → IsChain states n row → (marked : ℕ → Bool)
-    → ((class : ℕ → Bool) × IsClosedClass states row class × ((s : ℕ) × (class s ≡ true) × (marked s ≡ true))) ⊎ ((class : ℕ → Bool) → IsClosedClass states row class → (s : ℕ) → class s ≡ true → marked s ≡ false)
+    → ((class : ℕ → Bool) × IsClosedClass states row class × ((s : ℕ) × (class s ≡ true) × (marked s ≡ true))) ⊎
+    ((class : ℕ → Bool) → IsClosedClass states row class → (s : ℕ) → class s ≡ true → marked s ≡ false)
 marked_class states n row chain marked =
-    elim (search_below Some None n (λ s l. decide s (marked s) (states s) refl refl)) as (λ _. ((class : ℕ → Bool) × IsClosedClass states row class × ((s : ℕ) × (class s ≡ true) × (marked s ≡ true))) ⊎ ((class : ℕ → Bool) → IsClosedClass states row class → (s : ℕ) → class s ≡ true → marked s ≡ false)) [
+    elim (search_below Some None n (λ s l. decide s (marked s) (states s) refl refl)) as
+    (λ _. ((class : ℕ → Bool) × IsClosedClass states row class × ((s : ℕ) × (class s ≡ true) × (marked s ≡ true))) ⊎
+    ((class : ℕ → Bool) → IsClosedClass states row class → (s : ℕ) → class s ≡ true → marked s ≡ false)) [
       | inl f ↦ inl (f.2.0, f.2.1, (f.0, f.2.2, f.2.3))
       | inr q ↦ inr (λ class c s h. q s (chain.below s (IsClosedClass.states c s h)) class c h)
     ]
@@ -141,7 +146,9 @@ pub reference_of : (states : ℕ → Bool) (n : ℕ) (row : ℕ → List Entry) 
 reference_of states n row chain t leads =
     let c = has_class states n row chain t leads.state in
     let some = IsClosedClass.some c.1 in
-    let r = class-reference states n row chain c.0 c.1 (into_class states n row chain c.0 t (holds states n row chain c.0 (IsClosedClass.states c.1) (IsClosedClass.closed c.1) t leads some.0 some.1) leads) in
+    let r =
+    class-reference states n row chain c.0 c.1 (into_class states n row chain c.0 t
+    (holds states n row chain c.0 (IsClosedClass.states c.1) (IsClosedClass.closed c.1) t leads some.0 some.1) leads) in
     (r.0, r.2)
 
 pub has_reference : HasReference
@@ -163,7 +170,8 @@ module _ (p : Component) (known : IsComponent p) (policy improved : List ℕ) (i
 
   is_changed : (s : ℕ) → changed s ≡ true → slice_index improved s ≢ slice_index policy s
   unfolding changed
-  is_changed s e q = let k : eqb (slice_index improved s) (slice_index policy s) ≡ true = ap (λ c. eqb c (slice_index policy s)) q ∙ eqb-same (slice_index policy s) in clash_test (changed s) e (ap not k)
+  is_changed s e q =
+      let k : eqb (slice_index improved s) (slice_index policy s) ≡ true = ap (λ c. eqb c (slice_index policy s)) q ∙ eqb-same (slice_index policy s) in clash_test (changed s) e (ap not k)
 
   -- the improved choices on a class, and toward one of its states elsewhere
   module _ (class : ℕ → Bool) (c : IsClosedClass (is_state p) (row_by p improved) class) (u : ℕ) (holds_u : class u ≡ true) where

@@ -122,13 +122,15 @@ module _ (p : Component) where
           λ s. ap (up p) (one_bias (is_state p) (count p) (row_by p policy) chain t leads (reward_by p policy) gain _ bias _ e.values k s),
         )
 
-    module _ (policy improved after : List ℕ) (t u : ℕ) (gain g : ℚ) (bias h : ℕ → ℚ) (e : IsEvaluated p policy t gain bias) (i : IsImproved p policy gain bias improved) (s : ℕ) (c : IsChanged p policy improved s) (k : IsEvaluated p after u g h) where
+    module _ (policy improved after : List ℕ) (t u : ℕ) (gain g : ℚ) (bias h : ℕ → ℚ) (e : IsEvaluated p policy t gain bias) (i : IsImproved p policy gain bias improved) (s : ℕ)
+        (c : IsChanged p policy improved s) (k : IsEvaluated p after u g h) where
       falls : ((other : List ℕ) → is_better u after other ≡ true → is_better t policy other ≡ true) → is_better t policy (u ∷ after) ≡ true → better_left u after < better_left t policy
       unfolding better_left
       falls more one =
           number-lt bound 0 (suc (count p)) (is_better u after) (is_better t policy) (u ∷ after) more
           (let n = IsPolicy.len k.is in omega arith)
-          (within_from bound 0 (u ∷ after) (λ j l. let e : j ≡ 0 + j = omega arith in subst (λ (q : ℕ). get_or (u ∷ after) j 0 < bound q) e (within_at u after k.is (AllLeadTo.state (IsReference.leads k.reference)) j)))
+          (within_from bound 0 (u ∷ after) (λ j l. let e : j ≡ 0 + j = omega arith in subst (λ (q : ℕ). get_or (u ∷ after) j 0 < bound q) e
+          (within_at u after k.is (AllLeadTo.state (IsReference.leads k.reference)) j)))
           (less-own (count p) u (gain_at u after) (bias_at u after))
           one
 
@@ -163,7 +165,9 @@ module _ (p : Component) where
           (record {
             gain = before_is.0 ∙ ap (up p) (sym rose.gain_stays) ∙ sym after_is.0;
             reference = sym rose.reference;
-            bias = λ v. subst (λ (q : ℚ). q ≤ℚ bias_at u after v) (sym (before_is.1 v)) (subst (λ (q : ℚ). ups p bias v ≤ℚ q) (sym (after_is.1 v)) (turn_as_good p.dir (h v) (bias v) (rose.as_good v)));
+            bias =
+                λ v. subst (λ (q : ℚ). q ≤ℚ bias_at u after v) (sym (before_is.1 v))
+                (subst (λ (q : ℚ). ups p bias v ≤ℚ q) (sym (after_is.1 v)) (turn_as_good p.dir (h v) (bias v) (rose.as_good v)));
           })
           (subst (λ (q : ℚ). q <ℚ bias_at u after s) (sym (before_is.1 s)) (subst (λ (q : ℚ). ups p bias s <ℚ q) (sym (after_is.1 s)) (turn_better p.dir (h s) (bias s) (rose.better s c))))
 

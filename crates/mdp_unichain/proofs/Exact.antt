@@ -1,5 +1,6 @@
 -- Written evaluation gives the gain and the bias, where no term is past width.
-use Rattle.std.proofs.Common.{◌≡◌, ℕ, ◌<◌, ◌≤◌, ◌⊎◌, inl, inr, Bool, true, false, if◌then◌else◌, List, [], ◌∷◌, length, map, Some, Result, Ok, Err, refl, sym, ◌∙◌, ap, ap₂, subst, arith, pos, negsuc, zero-add, rules}
+use Rattle.std.proofs.Common.{◌≡◌, ℕ, ◌<◌, ◌≤◌, ◌⊎◌, inl, inr, Bool, true, false, if◌then◌else◌, List, [], ◌∷◌, length, map, Some, Result, Ok, Err, refl, sym, ◌∙◌, ap, ap₂, subst, arith, pos}
+use Rattle.std.proofs.Common.{negsuc, zero-add, rules}
 use Rattle.std.specs.List.{Any, range_with_len}
 use Rattle.std.specs.Prelude.{slice_index, slice_index_or}
 use Rattle.std.proofs.Math.ListN.{get_or-eq_default}
@@ -7,7 +8,7 @@ use Rattle.std.proofs.lemmas.List.FromFn.{get_or-map-range_with_len, length-map-
 use Rattle.std.proofs.lemmas.List.Elements.{All-nil, All-cons}
 use Rattle.std.proofs.lemmas.List.{get_or_default}
 use Rattle.mdp_math.specs.Rational.{ℚ, of_int, ◌+ℚ◌, ◌*ℚ◌, ◌-ℚ◌, ◌<ℚ◌}
-use Rattle.mdp_math.specs.Written.{written_add, written_mul, ◌>>=◌}
+use Rattle.mdp_math.specs.Written.{written_mul, ◌>>=◌}
 use Rattle.mdp_math.proofs.Written.{written_add-some, written_mul-some}
 use Rattle.mdp_math.proofs.Ring.{◌⊕◌, ◌⊗◌, ⊖, lit, ring}
 use Rattle.mdp_math.proofs.Laws.{rat_ring}
@@ -30,7 +31,8 @@ use Rattle.mdp_unichain.specs.Evaluation.{active, IsEarned, IsEvaluation}
 use Rattle.mdp_path.specs.Places.{Place, at_place}
 use Rattle.mdp_path.specs.Path.{evaluating, placed}
 use Rattle.mdp_unichain.specs.Sums.{written_ratio, written_bias}
-use Rattle.mdp_unichain.specs.Written.{row_or_loop, rows_of, active_of, rewards_of, ones_of, written_columns, written_gain, bias_of, written_bias_list, Values, with_biases, written_biases, from_columns, written_values}
+use Rattle.mdp_unichain.specs.Written.{row_or_loop, rows_of, active_of, rewards_of, ones_of, written_columns, written_gain, bias_of, written_bias_list, Values, with_biases, written_biases}
+use Rattle.mdp_unichain.specs.Written.{from_columns, written_values}
 use Rattle.mdp_unichain.specs.WrittenLaws.{EvaluatesExactly}
 use Rattle.mdp_unichain.proofs.Chains.{target, active-state, active-other, active-outside}
 use Rattle.mdp_unichain.proofs.Reaching.{test_or_not}
@@ -115,7 +117,9 @@ module _ (p : Component) (policy : List ℕ) (t : ℕ) (known : IsComponent p) (
       falls_at s a =
           let h = active-state (is_state p) t s a in
           let chain = policy-chain p policy known is in
-          let both = Any-and (λ (y : Entry). is_state p y.target ≡ true) (λ (y : Entry). leads.rank y.target < leads.rank s) (row_by p policy s) (chain.stays s h) (leads.falls s h (active-other (is_state p) t s a)) in
+          let both =
+          Any-and (λ (y : Entry). is_state p y.target ≡ true) (λ (y : Entry). leads.rank y.target < leads.rank s) (row_by p policy s) (chain.stays s h)
+          (leads.falls s h (active-other (is_state p) t s a)) in
           subst (λ (r : List Entry). Any (λ x. (is_active (active_of p t) x.target ≡ false) ⊎ (slice_index ranks x.target < slice_index ranks s)) r) (sym (row-state s h))
           (both.0, both.1, both.2, both.3, inr (smaller (rank-at (target both.1) (state-below p (target both.1) both.4.0)) (rank-at s (state-below p s h)) both.4.1))
 
@@ -123,7 +127,8 @@ module _ (p : Component) (policy : List ℕ) (t : ℕ) (known : IsComponent p) (
   leaving = record { distributions = chain_rows; marks = active-len ∙ sym rows-len; leaves = leaves }
 
   -- what solves the system is earned on the way
-  earned_of : (c x : List ℚ) (reward : ℕ → ℚ) → ((s : ℕ) → is_state p s ≡ true → value_at c s ≡ reward s) → IsSolution (rows_of p policy) (active_of p t) c x → IsEarned (is_state p) (row_by p policy) t reward (value_at x)
+  earned_of : (c x : List ℚ) (reward : ℕ → ℚ) → ((s : ℕ) → is_state p s ≡ true → value_at c s ≡ reward s) → IsSolution (rows_of p policy) (active_of p t) c x
+      → IsEarned (is_state p) (row_by p policy) t reward (value_at x)
   earned_of c x reward e sol = record {
     outside = λ s a. sol.outside s (active-at s ∙ a);
     inside = λ s a.
@@ -172,7 +177,8 @@ module _ (p : Component) (policy : List ℕ) (t : ℕ) (known : IsComponent p) (
           (place_part (evaluating policy s) (written_bias g (value_at x s) (value_at y s)) (value_at bias s)
           (sym (if_true (active (is_state p) t s) (at_place (evaluating policy s) (written_bias g (value_at x s) (value_at y s))) (Ok 0ℚ) a) ∙ IsUpTo.at made s 0ℚ l))
       | inr a ↦
-          sym (ok_same 0ℚ (value_at bias s) (sym (if_false (active (is_state p) t s) (at_place (evaluating policy s) (written_bias g (value_at x s) (value_at y s))) (Ok 0ℚ) a) ∙ IsUpTo.at made s 0ℚ l))
+          sym (ok_same 0ℚ (value_at bias s) (sym (if_false (active (is_state p) t s) (at_place (evaluating policy s) (written_bias g (value_at x s) (value_at y s))) (Ok 0ℚ) a)
+          ∙ IsUpTo.at made s 0ℚ l))
           ∙ none_by s g a
     ]
 
@@ -202,7 +208,8 @@ module _ (p : Component) (policy : List ℕ) (t : ℕ) (known : IsComponent p) (
       let columns : List (List ℚ) = rewards_of p policy ∷ ones_of p ∷ [] in
       let a = ok_part (written_columns p policy t) (from_columns p policy t) v h in
       let solved : SolveEach (rows_of p policy) (active_of p t) (rewards_of p policy ∷ ones_of p ∷ []) a.0 =
-      gives (rows_of p policy) (active_of p t) ranks (rewards_of p policy ∷ ones_of p ∷ []) a.0 leaving (inr refl) (placed_part (written_solution (rows_of p policy) (active_of p t) (rewards_of p policy ∷ ones_of p ∷ [])) a.0 a.1) in
+      gives (rows_of p policy) (active_of p t) ranks (rewards_of p policy ∷ ones_of p ∷ []) a.0 leaving (inr refl)
+      (placed_part (written_solution (rows_of p policy) (active_of p t) (rewards_of p policy ∷ ones_of p ∷ [])) a.0 a.1) in
       biases-are (slice_index_or a.0 0 []) (slice_index_or a.0 1 [])
       (earned_of (rewards_of p policy) (slice_index_or a.0 0 []) (reward_by p policy) (column (reward_by p policy)) (solved.1 0 (omega arith)))
       (earned_of (ones_of p) (slice_index_or a.0 1 []) (λ s. 1ℚ) (column (λ s. 1ℚ)) (solved.1 1 (omega arith)))

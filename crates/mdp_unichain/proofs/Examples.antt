@@ -121,7 +121,8 @@ rows_two (suc (suc s)) c h = cc
 stays_two : (s c : ℕ) → IsInner two s c → All (λ y. is_state two y.target ≡ true) (choice_at two s c).row
 stays_two zero zero h = one_entry 0 refl
 stays_two zero (suc zero) h =
-    All-cons (λ y. is_state two y.target ≡ true) (to 0 (ratio (pos 1) 2)) (to 1 (ratio (pos 1) 2) ∷ []) refl (All-cons (λ y. is_state two y.target ≡ true) (to 1 (ratio (pos 1) 2)) [] refl (All-nil (λ y. is_state two y.target ≡ true)))
+    All-cons (λ y. is_state two y.target ≡ true) (to 0 (ratio (pos 1) 2)) (to 1 (ratio (pos 1) 2) ∷ []) refl
+    (All-cons (λ y. is_state two y.target ≡ true) (to 1 (ratio (pos 1) 2)) [] refl (All-nil (λ y. is_state two y.target ≡ true)))
 stays_two zero (suc (suc c)) h = cc
 stays_two (suc zero) zero h = one_entry 1 refl
 stays_two (suc zero) (suc zero) h = one_entry 0 refl

@@ -14,7 +14,8 @@ use Rattle.mdp_math.proofs.Solutions.{Solves, solution-nonneg, solution-pos, sol
 use Rattle.mdp_spec.specs.Mdp.{Entry}
 use Rattle.mdp_unichain.specs.Chain.{IsChain, AllLeadTo}
 use Rattle.mdp_unichain.specs.Evaluation.{mean, IsEarned}
-use Rattle.mdp_unichain.proofs.Chains.{target, prob, same_or_other, active-state, active-from, active-reference, inactive, masked, masked-at, masked-outside, mean-masked, entries-nonneg, chain-shrinks, active-bound, earned_by, earned-is}
+use Rattle.mdp_unichain.proofs.Chains.{target, prob, same_or_other, active-state, active-from, active-reference, inactive, masked, masked-at, masked-outside, mean-masked, entries-nonneg}
+use Rattle.mdp_unichain.proofs.Chains.{chain-shrinks, active-bound, earned_by, earned-is}
 use Rattle.mdp_unichain.proofs.Gains.{steps-pos}
 
 -- g times p is at least 0, p above 0
@@ -83,7 +84,8 @@ module _ (states : ℕ → Bool) (n : ℕ) (row : ℕ → List Entry) (chain : I
           let k = active-state states t s a in
           masked-at states free s k
           ∙ combine 11 (λ hn hs dt gn g ys r mn m my mf. ((hn ⊕ ⊖ hs) ⊕ ⊖ dt) ⊕ (gn ⊕ ⊖ g) ⊗ ys) (λ hn hs dt gn g ys r mn m my mf. ((r ⊕ m) ⊕ ⊖ (g ⊕ hs)) ⊕ mf)
-          (λ hn hs dt gn g ys r mn m my mf. equal (gn ⊕ ⊖ g) ys (lit (pos 1) ⊕ my) ∷ equal (lit (negsuc 0)) (r ⊕ mn) (gn ⊕ hn) ∷ equal (lit (negsuc 0)) mf (((mn ⊕ ⊖ m) ⊕ ⊖ dt) ⊕ (gn ⊕ ⊖ g) ⊗ my) ∷ []) refl
+          (λ hn hs dt gn g ys r mn m my mf. equal (gn ⊕ ⊖ g) ys (lit (pos 1) ⊕ my) ∷ equal (lit (negsuc 0)) (r ⊕ mn) (gn ⊕ hn) ∷ equal (lit (negsuc 0)) mf
+          (((mn ⊕ ⊖ m) ⊕ ⊖ dt) ⊕ (gn ⊕ ⊖ g) ⊗ my) ∷ []) refl
           (h' s) (h s) (d t) g' g (y s) (r s) (mean (row s) h') (mean (row s) h) (mean (row s) y) (mean (row s) free)
           (Solves.inside y_is s a) (own s k) (mean_free s k)
           ∙ ap (λ (u : ℚ). excess s +ℚ u) (sym (mean-masked states n row chain free s k));
@@ -94,7 +96,8 @@ module _ (states : ℕ → Bool) (n : ℕ) (row : ℕ → List Entry) (chain : I
     unfolding excess
     gap =
         combine 11 (λ hn hs dt gn g r mn m my mf mp. (gn ⊕ ⊖ g) ⊗ (lit (pos 1) ⊕ my)) (λ hn hs dt gn g r mn m my mf mp. ((r ⊕ m) ⊕ ⊖ (g ⊕ hs)) ⊕ mp)
-        (λ hn hs dt gn g r mn m my mf mp. equal (lit (negsuc 0)) (r ⊕ mn) (gn ⊕ hn) ∷ equal (lit (negsuc 0)) mf (((mn ⊕ ⊖ m) ⊕ ⊖ (hn ⊕ ⊖ hs)) ⊕ (gn ⊕ ⊖ g) ⊗ my) ∷ equal (lit (negsuc 0)) mp mf ∷ []) refl
+        (λ hn hs dt gn g r mn m my mf mp. equal (lit (negsuc 0)) (r ⊕ mn) (gn ⊕ hn) ∷ equal (lit (negsuc 0)) mf (((mn ⊕ ⊖ m) ⊕ ⊖ (hn ⊕ ⊖ hs)) ⊕ (gn ⊕ ⊖ g) ⊗ my) ∷ equal
+        (lit (negsuc 0)) mp mf ∷ []) refl
         (h' t) (h t) (d t) g' g (r t) (mean (row t) h') (mean (row t) h) (mean (row t) y) (mean (row t) free) (mean (row t) phi)
         (own t leads.state) (mean_free t leads.state) (mean-masked states n row chain free t leads.state)
 
@@ -104,7 +107,9 @@ module _ (states : ℕ → Bool) (n : ℕ) (row : ℕ → List Entry) (chain : I
       excess-nonneg s k = sub-nonneg _ _ (helps s k)
 
       phi-nonneg : (s : ℕ) → 0ℚ ≤ℚ phi s
-      phi-nonneg s = solution-nonneg (chain-shrinks states n row chain t leads) n (active-bound states n row chain t leads) row (λ s a. refl) excess phi (λ s a. excess-nonneg s (active-state states t s a)) phi_solves s
+      phi-nonneg s =
+          solution-nonneg (chain-shrinks states n row chain t leads) n (active-bound states n row chain t leads) row (λ s a. refl) excess phi
+          (λ s a. excess-nonneg s (active-state states t s a)) phi_solves s
 
       mean_phi-nonneg : (s : ℕ) → states s ≡ true → 0ℚ ≤ℚ mean (row s) phi
       mean_phi-nonneg s k = weigh-nonneg target prob phi (row s) (entries-nonneg states n row chain s k) phi-nonneg
@@ -136,12 +141,14 @@ module _ (states : ℕ → Bool) (n : ℕ) (row : ℕ → List Entry) (chain : I
             let other : s ≢ t = λ e. (let q : to_u.rank s ≡ to_u.rank t = ap to_u.rank e in absurd (omega (arith, b.1))) in
             let a = active-from states t s b.0 other in
             elim (same_or_other s u) as (λ _. 0ℚ <ℚ phi s) [
-              | inl e ↦ solution-pos (chain-shrinks states n row chain t leads) n (active-bound states n row chain t leads) row (λ s a. refl) excess phi (λ s a. excess-nonneg s (active-state states t s a)) phi_solves s a
+              | inl e ↦ solution-pos (chain-shrinks states n row chain t leads) n (active-bound states n row chain t leads) row (λ s a. refl) excess phi
+                  (λ s a. excess-nonneg s (active-state states t s a)) phi_solves s a
                   (subst (λ k. 0ℚ <ℚ excess k) (sym e) excess-pos)
               | inr o ↦
                   let any = to_u.falls s b.0 o in
                   let f = found s any.0 any.1 b.0 any.3 any.2 in
-                  solution-pos_by_entry (chain-shrinks states n row chain t leads) n (active-bound states n row chain t leads) row (λ s a. refl) excess phi (λ s a. excess-nonneg s (active-state states t s a)) phi_solves s a
+                  solution-pos_by_entry (chain-shrinks states n row chain t leads) n (active-bound states n row chain t leads) row (λ s a. refl) excess phi
+                  (λ s a. excess-nonneg s (active-state states t s a)) phi_solves s a
                   (any.0, any.1, any.2, any.3, (f.0, phi-pos fuel (target any.1) (omega (arith, any.4, l)) (f.1, omega (arith, any.4, b.1))))
             ]
 
@@ -181,13 +188,15 @@ module _ (states : ℕ → Bool) (n : ℕ) (row : ℕ → List Entry) (chain : I
         pub bias-le : (s : ℕ) → h s ≤ℚ h' s
         bias-le s =
             linear 2 (λ g k. g) (λ g k. k) (λ g k. known (lit (pos 0)) (k ⊕ ⊖ g) ∷ []) refl (h s) (h' s)
-            (solution-nonneg (chain-shrinks states n row chain t leads) n (active-bound states n row chain t leads) row (λ s a. refl) excess d (λ s a. excess-nonneg s (active-state states t s a)) d_solves s)
+            (solution-nonneg (chain-shrinks states n row chain t leads) n (active-bound states n row chain t leads) row (λ s a. refl) excess d
+            (λ s a. excess-nonneg s (active-state states t s a)) d_solves s)
 
         pub bias-lt : (s : ℕ) → states s ≡ true → s ≢ t → g +ℚ h s <ℚ r s +ℚ mean (row s) h → h s <ℚ h' s
         unfolding excess
         bias-lt s k o more =
             linear_lt 2 (λ g k. g) (λ g k. k) (λ g k. k ⊕ ⊖ g) (λ g k. []) refl (h s) (h' s)
-            (solution-pos (chain-shrinks states n row chain t leads) n (active-bound states n row chain t leads) row (λ s a. refl) excess d (λ s a. excess-nonneg s (active-state states t s a)) d_solves s (active-from states t s k o)
+            (solution-pos (chain-shrinks states n row chain t leads) n (active-bound states n row chain t leads) row (λ s a. refl) excess d
+            (λ s a. excess-nonneg s (active-state states t s a)) d_solves s (active-from states t s k o)
             (sub-pos _ _ more))
 
 -- the same from above: what no step passes, the gain doesn't pass

@@ -11,7 +11,8 @@ use Rattle.mdp_math.proofs.Solutions.{Solves, Solves-sub, Solves-scale, one_solu
 use Rattle.mdp_spec.specs.Mdp.{Entry}
 use Rattle.mdp_unichain.specs.Chain.{IsChain, AllLeadTo}
 use Rattle.mdp_unichain.specs.Evaluation.{mean, active, IsEarned, IsEvaluation, IsGain}
-use Rattle.mdp_unichain.proofs.Chains.{target, prob, same_or_other, active-state, active-from, active-outside, active-reference, entries-nonneg, inactive, chain-shrinks, active-bound, earned_by, earned-is}
+use Rattle.mdp_unichain.proofs.Chains.{target, prob, same_or_other, active-state, active-from, active-outside, active-reference, entries-nonneg, inactive, chain-shrinks, active-bound, earned_by}
+use Rattle.mdp_unichain.proofs.Chains.{earned-is}
 
 -- the gain and the bias by exact elimination; numbers for each chain, also where not all lead to t
 unfoldable pub gain_by : (ℕ → Bool) → ℕ → (ℕ → List Entry) → ℕ → (ℕ → ℚ) → ℚ

@@ -22,7 +22,9 @@ use Rattle.mdp_unichain.proofs.Turned.{turn-mean, turn-back}
 module _ (p : Component) where
   below_by : (s : ℕ) → (count p ≤ s) ⊎ (s < count p) → is_state p s ≡ true → s < count p
   below_by s (inr l) h = l
-  below_by s (inl l) h = absurd (let e : choices_at p s ≡ [] = get_or-eq_default p.states [] l in let k : list_any (λ c. c.inner) (choices_at p s) ≡ false = ap (λ (cs : List Choice). list_any (λ c. c.inner) cs) e in cc)
+  below_by s (inl l) h =
+      absurd (let e : choices_at p s ≡ [] = get_or-eq_default p.states [] l in let k : list_any (λ c. c.inner) (choices_at p s) ≡ false = ap
+      (λ (cs : List Choice). list_any (λ c. c.inner) cs) e in cc)
 
   pub state-below : (s : ℕ) → is_state p s ≡ true → s < count p
   state-below s h = below_by s (le_or (count p) s) h
@@ -72,8 +74,11 @@ has_one_evaluation p policy t known is leads =
       bias_by (is_state p) (count p) (row_by p policy) t (reward_by p policy),
       e,
       λ g h other.
-          let k = is-gain (is_state p) (count p) (row_by p policy) chain t leads (reward_by p policy) g h other in
-          (one_gain (is_state p) (count p) (row_by p policy) chain t leads (reward_by p policy) _ g _ h e k, one_bias (is_state p) (count p) (row_by p policy) chain t leads (reward_by p policy) _ g _ h e k),
+          let k = is-gain (is_state p) (count p) (row_by p policy) chain t leads (reward_by p policy) g h other in (
+            one_gain (is_state p) (count p) (row_by p policy) chain t leads (reward_by p policy) _ g _ h e k,
+            one_bias (is_state p) (count p) (row_by p policy) chain t leads
+                (reward_by p policy) _ g _ h e k,
+          ),
     )
 
 pub meets_equations : MeetsEquations
@@ -81,7 +86,11 @@ meets_equations p policy t gain bias known is leads e =
     let chain = policy-chain p policy known is in (
       is-gain (is_state p) (count p) (row_by p policy) chain t leads (reward_by p policy) gain bias e,
       steps-ge_one (is_state p) (count p) (row_by p policy) chain t leads (IsEvaluation.y e) (IsEvaluation.steps e),
-      λ g h k. (one_gain (is_state p) (count p) (row_by p policy) chain t leads (reward_by p policy) gain g bias h e k, one_bias (is_state p) (count p) (row_by p policy) chain t leads (reward_by p policy) gain g bias h e k),
+      λ g h k. (
+        one_gain (is_state p) (count p) (row_by p policy) chain t leads (reward_by p policy) gain g bias h e k,
+        one_bias (is_state p) (count p) (row_by p policy) chain t leads
+            (reward_by p policy) gain g bias h e k,
+      ),
     )
 
 module _ (p : Component) (known : IsComponent p) where
@@ -144,9 +153,11 @@ module _ (p : Component) (known : IsComponent p) where
           better_turned p.dir gain' gain
           (gain-lt class (count p) (row_by p after) (class-chain (is_state p) (count p) (row_by p after) chain class c) u (IsClosedClass.connected c u is)
           (ups p (reward_by p after)) (up p gain) (up p gain') (ups p bias) (ups p bias') (λ s h. own after u gain' bias' k s (IsClosedClass.states c s h))
-          (λ s h. at_class (λ (a : ℕ). up p gain +ℚ ups p bias s ≤ℚ up p (Choice.reward (choice_at p s a)) +ℚ mean (Choice.row (choice_at p s a)) (ups p bias)) s h (gains s (IsClosedClass.states c s h)))
+          (λ s h. at_class (λ (a : ℕ). up p gain +ℚ ups p bias s ≤ℚ up p (Choice.reward (choice_at p s a)) +ℚ mean (Choice.row (choice_at p s a)) (ups p bias)) s h
+          (gains s (IsClosedClass.states c s h)))
           g.changed.0 (IsClosedClass.connected c g.changed.0 g.changed.1)
-          (at_class (λ (a : ℕ). up p gain +ℚ ups p bias g.changed.0 <ℚ up p (Choice.reward (choice_at p g.changed.0 a)) +ℚ mean (Choice.row (choice_at p g.changed.0 a)) (ups p bias)) g.changed.0 g.changed.1
+          (at_class (λ (a : ℕ). up p gain +ℚ ups p bias g.changed.0 <ℚ up p (Choice.reward (choice_at p g.changed.0 a)) +ℚ mean (Choice.row (choice_at p g.changed.0 a))
+          (ups p bias)) g.changed.0 g.changed.1
           (gains_more g.changed.0 (IsClosedClass.states c g.changed.0 g.changed.1, g.changed.2))))
 
     -- ---- no class holds a changed state
@@ -181,9 +192,11 @@ module _ (p : Component) (known : IsComponent p) where
         same_gain : up p gain' ≡ up p gain
         same_gain =
             ≤ℚ_antisymm _ _
-            (gain-le class.0 (count p) (row_by p improved) class_is_chain t (IsClosedClass.connected class.1 t class.2) (ups p (reward_by p improved)) (up p gain') (up p gain) (ups p bias') (ups p bias) old_own
+            (gain-le class.0 (count p) (row_by p improved) class_is_chain t (IsClosedClass.connected class.1 t class.2) (ups p (reward_by p improved)) (up p gain') (up p gain) (ups p bias')
+            (ups p bias) old_own
             (λ s h. ≤ℚ_of_eq _ _ (sym (new_own s h))))
-            (gain-le class.0 (count p) (row_by p improved) class_is_chain t (IsClosedClass.connected class.1 t class.2) (ups p (reward_by p improved)) (up p gain) (up p gain') (ups p bias) (ups p bias') new_own
+            (gain-le class.0 (count p) (row_by p improved) class_is_chain t (IsClosedClass.connected class.1 t class.2) (ups p (reward_by p improved)) (up p gain) (up p gain') (ups p bias)
+            (ups p bias') new_own
             (λ s h. ≤ℚ_of_eq _ _ (sym (old_own s h))))
 
         unchanged_t : slice_index improved t ≡ slice_index policy t
@@ -201,11 +214,13 @@ module _ (p : Component) (known : IsComponent p) where
           gain_stays = turn-back p.dir gain' gain same_gain;
           as_good = λ s.
               as_good_turned p.dir (bias' s) (bias s)
-              (bias-le (is_state p) (count p) (row_by p improved) chain_after t (IsReference.leads kept_reference) (ups p (reward_by p improved)) (up p gain) (up p gain') (ups p bias) (ups p bias') (own improved t gain' bias' k) gains
+              (bias-le (is_state p) (count p) (row_by p improved) chain_after t (IsReference.leads kept_reference) (ups p (reward_by p improved)) (up p gain) (up p gain') (ups p bias)
+              (ups p bias') (own improved t gain' bias' k) gains
               same_gain at_t outside s);
           better = λ s c.
               better_turned p.dir (bias' s) (bias s)
-              (bias-lt (is_state p) (count p) (row_by p improved) chain_after t (IsReference.leads kept_reference) (ups p (reward_by p improved)) (up p gain) (up p gain') (ups p bias) (ups p bias') (own improved t gain' bias' k) gains
+              (bias-lt (is_state p) (count p) (row_by p improved) chain_after t (IsReference.leads kept_reference) (ups p (reward_by p improved)) (up p gain) (up p gain') (ups p bias)
+              (ups p bias') (own improved t gain' bias' k) gains
               same_gain at_t outside s c.0 (λ q. c.1 (subst (λ (v : ℕ). slice_index improved v ≡ slice_index policy v) (sym q) unchanged_t)) (gains_more s c));
         }
 
@@ -234,13 +249,15 @@ ends_at_none_better p policy improved t gain bias known e i same s c k =
     let h = state-of p s c k in
     elim (i.better s h) as (λ _. IsAsGood p.dir (gain +ℚ bias s) (worth bias (choice_at p s c))) [
       | inl q ↦ q.1 c k
-      | inr b ↦ absurd (clash_ℚ _ _ (turn_better p.dir _ _ (subst (λ (d : ℕ). IsBetter p.dir (worth bias (choice_at p s d)) (gain +ℚ bias s)) (same s h) b.1)) (≤ℚ_of_eq _ _ (ap (turn p.dir) (IsGain.step (gain_of p known policy t gain bias e) s h))))
+      | inr b ↦ absurd (clash_ℚ _ _ (turn_better p.dir _ _ (subst (λ (d : ℕ). IsBetter p.dir (worth bias (choice_at p s d)) (gain +ℚ bias s)) (same s h) b.1))
+          (≤ℚ_of_eq _ _ (ap (turn p.dir) (IsGain.step (gain_of p known policy t gain bias e) s h))))
     ]
 
 pub best_of_all : BestOfAll
 best_of_all p gain bias known none other u g h k =
     as_good_turned p.dir gain g
-    (gain-ge (is_state p) (count p) (row_by p other) (policy-chain p other known k.is) u (IsReference.leads k.reference) (ups p (reward_by p other)) (up p gain) (up p g) (ups p bias) (ups p h) (own p known other u g h k)
+    (gain-ge (is_state p) (count p) (row_by p other) (policy-chain p other known k.is) u (IsReference.leads k.reference) (ups p (reward_by p other)) (up p gain) (up p g) (ups p bias) (ups p h)
+    (own p known other u g h k)
     (λ s i.
     subst (λ (w : ℚ). ups p (reward_by p other) s +ℚ mean (row_by p other s) (ups p bias) ≤ℚ w) (turn-add p.dir gain (bias s))
     (subst (λ (w : ℚ). w ≤ℚ up p (gain +ℚ bias s)) (turn-worth p bias (chosen p other s)) (turn_as_good p.dir _ _ (none s (slice_index other s) (IsPolicy.inner k.is s i))))))

@@ -145,11 +145,15 @@ module _ (p : Component) (known : IsComponent p) (policy improved : List ℕ) (i
   abbrev NoHolder : ℕ → Type 0
   NoHolder s = (class : ℕ → Bool) → IsClosedClass (is_state p) (row_by p improved) class → class s ≡ true → HoldsChanged policy improved class → ⊥
 
-  changed_or_not : (class : ℕ → Bool) → IsClosedClass (is_state p) (row_by p improved) class → HoldsChanged policy improved class ⊎ ((s : ℕ) → class s ≡ true → slice_index improved s ≡ slice_index policy s)
-  changed_or_not class c = elim (search_below (λ s. (class s ≡ true) × (slice_index improved s ≢ slice_index policy s)) (λ s. class s ≡ true → slice_index improved s ≡ slice_index policy s) (count p) (λ s l. by s (test_or_not (class s)) (same_or_other (slice_index improved s) (slice_index policy s)))) as (λ _. HoldsChanged policy improved class ⊎ ((s : ℕ) → class s ≡ true → slice_index improved s ≡ slice_index policy s)) [
-    | inl f ↦ inl (f.0, f.2.0, f.2.1)
-    | inr q ↦ inr (λ s h. q s (state-below p s (c.states s h)) h)
-  ]
+  changed_or_not : (class : ℕ → Bool) → IsClosedClass (is_state p) (row_by p improved) class
+      → HoldsChanged policy improved class ⊎ ((s : ℕ) → class s ≡ true → slice_index improved s ≡ slice_index policy s)
+  changed_or_not class c =
+      elim (search_below (λ s. (class s ≡ true) × (slice_index improved s ≢ slice_index policy s)) (λ s. class s ≡ true → slice_index improved s ≡ slice_index policy s) (count p)
+      (λ s l. by s (test_or_not (class s)) (same_or_other (slice_index improved s) (slice_index policy s)))) as
+      (λ _. HoldsChanged policy improved class ⊎ ((s : ℕ) → class s ≡ true → slice_index improved s ≡ slice_index policy s)) [
+        | inl f ↦ inl (f.0, f.2.0, f.2.1)
+        | inr q ↦ inr (λ s h. q s (state-below p s (c.states s h)) h)
+      ]
     where
       by : (s : ℕ) → (class s ≡ true) ⊎ (class s ≡ false) → (slice_index improved s ≡ slice_index policy s) ⊎ (slice_index improved s ≢ slice_index policy s)
           → ((class s ≡ true) × (slice_index improved s ≢ slice_index policy s)) ⊎ (class s ≡ true → slice_index improved s ≡ slice_index policy s)
@@ -260,8 +264,14 @@ module _ (p : Component) (known : IsComponent p) (class : ℕ → Bool) (u : ℕ
       let a = Any-from_list_any (enters (near k)) (choices_at p s) (or_rest (near k s) (list_any (enters (near k)) (choices_at p s)) n (no_less k s e (near k s) refl)) in
       let is_choice : choice_at p s a.0 ≡ a.1 = get_or_default (choices_at p s) a.0 no_choice a.1 a.2 ∙ a.3 in
       let i : IsInner p s a.0 = ap Choice.inner is_choice ∙ both_first (Choice.inner a.1) (list_any (λ y. near k y.target) (Choice.row a.1)) a.4 in
-      let y = Any-from_list_any (λ y. near k y.target) (Choice.row a.1) (both_second (Choice.inner a.1) (list_any (λ y. near k y.target) (Choice.row a.1)) a.4) in
-      (a.0, (i, subst (λ (r : List Entry). Any (λ y. rank_of y.target < rank_of s) r) (ap Choice.row (sym is_choice)) (y.0, y.1, y.2, y.3, let l = rank_least (target y.1) (test_or_not (is_state p (target y.1))) k y.4 in omega arith)))
+      let y = Any-from_list_any (λ y. near k y.target) (Choice.row a.1) (both_second (Choice.inner a.1) (list_any (λ y. near k y.target) (Choice.row a.1)) a.4) in (
+        a.0,
+        (
+          i,
+          subst (λ (r : List Entry). Any (λ y. rank_of y.target < rank_of s) r) (ap Choice.row (sym is_choice))
+              (y.0, y.1, y.2, y.3, let l = rank_least (target y.1) (test_or_not (is_state p (target y.1))) k y.4 in omega arith),
+        ),
+      )
 
   pub ranks_toward : AreRanksToward p class rank_of
   unfolding rank_of
@@ -283,7 +293,8 @@ module _ (p : Component) (known : IsComponent p) (class : ℕ → Bool) (u : ℕ
   unfolding nearest_test
   test_of s c h =
       both_true (Choice.inner (choice_at p s c)) (list_any (λ y. nat_lt (rank_of y.target) (rank_of s)) (Choice.row (choice_at p s c))) h.0
-      (list_any_at (λ y. nat_lt (rank_of y.target) (rank_of s)) (Choice.row (choice_at p s c)) h.1.0 h.1.1 h.1.2 (ap (λ (y : Entry). nat_lt (rank_of y.target) (rank_of s)) h.1.3 ∙ lt_test (rank_of (target h.1.1)) (rank_of s) h.1.4))
+      (list_any_at (λ y. nat_lt (rank_of y.target) (rank_of s)) (Choice.row (choice_at p s c)) h.1.0 h.1.1 h.1.2
+      (ap (λ (y : Entry). nat_lt (rank_of y.target) (rank_of s)) h.1.3 ∙ lt_test (rank_of (target h.1.1)) (rank_of s) h.1.4))
     where
       lt_test : (i k : ℕ) → i < k → nat_lt i k ≡ true
       lt_test i k h = grind arith
@@ -291,8 +302,12 @@ module _ (p : Component) (known : IsComponent p) (class : ℕ → Bool) (u : ℕ
   of_test : (s c : ℕ) → nearest_test s c ≡ true → LeadsNearer p rank_of s c
   unfolding nearest_test
   of_test s c h =
-      let a = Any-from_list_any (λ y. nat_lt (rank_of y.target) (rank_of s)) (Choice.row (choice_at p s c)) (both_second (Choice.inner (choice_at p s c)) (list_any (λ y. nat_lt (rank_of y.target) (rank_of s)) (Choice.row (choice_at p s c))) h) in
-      (both_first (Choice.inner (choice_at p s c)) (list_any (λ y. nat_lt (rank_of y.target) (rank_of s)) (Choice.row (choice_at p s c))) h, (a.0, a.1, a.2, a.3, test_lt (rank_of (target a.1)) (rank_of s) a.4))
+      let a =
+      Any-from_list_any (λ y. nat_lt (rank_of y.target) (rank_of s)) (Choice.row (choice_at p s c))
+      (both_second (Choice.inner (choice_at p s c)) (list_any (λ y. nat_lt (rank_of y.target) (rank_of s)) (Choice.row (choice_at p s c))) h) in (
+        both_first (Choice.inner (choice_at p s c)) (list_any (λ y. nat_lt (rank_of y.target) (rank_of s)) (Choice.row (choice_at p s c))) h,
+        (a.0, a.1, a.2, a.3, test_lt (rank_of (target a.1)) (rank_of s) a.4),
+      )
     where
       test_lt : (i k : ℕ) → nat_lt i k ≡ true → i < k
       test_lt i k h = grind arith
@@ -354,7 +369,8 @@ module _ (p : Component) (known : IsComponent p) (class : ℕ → Bool) (u : ℕ
 
 -- ---- the law
 
-some_next : (p : Component) (policy improved : List ℕ) → IsComponent p → IsPolicy p improved → ((class : ℕ → Bool) × IsPicked p policy improved class) ⊎ KeepsClasses p policy improved → (after : List ℕ) × IsExactNext p policy improved after
+some_next : (p : Component) (policy improved : List ℕ) → IsComponent p → IsPolicy p improved → ((class : ℕ → Bool) × IsPicked p policy improved class) ⊎ KeepsClasses p policy improved
+    → (after : List ℕ) × IsExactNext p policy improved after
 some_next p policy improved known is (inr k) = (improved, inl (refl, k))
 some_next p policy improved known is (inl c) =
     let some = IsClosedClass.some (IsPicked.class_is c.1) in

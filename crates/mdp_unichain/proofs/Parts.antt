@@ -1,11 +1,10 @@
 -- A part of the maximal end components of a model is a component whose states are the part's.
-use Rattle.std.proofs.Common.{◌≡◌, ◌≢◌, ℕ, ◌<◌, ◌≤◌, ◌⊎◌, inl, inr, Bool, true, false, ◌&&◌, List, length, Option, None, refl, sym, ◌∙◌, ap, subst, arith}
-use Rattle.std.specs.List.{All, Any}
+use Rattle.std.proofs.Common.{◌≡◌, ◌≢◌, ℕ, ◌<◌, ◌≤◌, ◌⊎◌, inl, inr, true, List, length, Option, None, sym, ◌∙◌, ap, arith}
+use Rattle.std.specs.List.{Any}
 use Rattle.std.proofs.lemmas.Bool.{false≢true, and_parts, and_from}
 use Rattle.std.proofs.Math.ListN.{get_or-eq_default}
 use Rattle.mdp_math.proofs.Numbers.{le_or}
 use Rattle.mdp_spec.specs.Mdp.{Mdp, states_of, choices_at, row_at}
-use Rattle.mdp_spec.specs.Row.{IsMdp}
 use Rattle.mdp_rows.specs.declared.dir.Dir.{Dir}
 use Rattle.mdp_ends.specs.Ends.{has_number, in_part, is_inside, IsEnd, IsMaximal, AreEnds}
 use Rattle.mdp_ends.proofs.Walking.{stays-at}
@@ -44,11 +43,15 @@ module _ (m : Mdp) (parts : List (Option ℕ)) (i : ℕ) (k : IsPart m parts i) 
   connected_to : (t : ℕ) → in_part parts i t ≡ true
       → (rank : ℕ → ℕ) × ((s : ℕ) → in_part parts i s ≡ true → s ≢ t → (c : ℕ) × IsInside m (is_inner m parts i) s c × Any (λ y. rank y.target < rank s) (row_at m s c))
   connected_to t h =
-      let walks = λ (s : ℕ) (e : in_part parts i s ≡ true). IsEnd.joined the_end s t (member-below s e) (member-below t h) e h in
-      (walk_rank m (is_inside m parts) t (in_part parts i) walks, λ s e o.
-      let n = walk_falls m (is_inside m parts) t (in_part parts i) walks s e o in
-      (LeadsNearer.choice n, (member-below s e, LeadsNearer.below n, inside_inner s (LeadsNearer.choice n) e (LeadsNearer.taken n)),
-      target-any (row_at m s (LeadsNearer.choice n)) _ (LeadsNearer.target n) (LeadsNearer.leads n) (LeadsNearer.smaller n)))
+      let walks = λ (s : ℕ) (e : in_part parts i s ≡ true). IsEnd.joined the_end s t (member-below s e) (member-below t h) e h in (
+        walk_rank m (is_inside m parts) t (in_part parts i) walks,
+        λ s e o.
+            let n = walk_falls m (is_inside m parts) t (in_part parts i) walks s e o in (
+              LeadsNearer.choice n,
+              (member-below s e, LeadsNearer.below n, inside_inner s (LeadsNearer.choice n) e (LeadsNearer.taken n)),
+              target-any (row_at m s (LeadsNearer.choice n)) _ (LeadsNearer.target n) (LeadsNearer.leads n) (LeadsNearer.smaller n),
+            ),
+      )
 
   pub end_component : IsEndComponent m (in_part parts i) (is_inner m parts i)
   end_component = record {

@@ -29,10 +29,13 @@ use Rattle.mdp_unichain.proofs.Iterations.{one_end, holds_at_end}
 
 -- two policies are the same, or differ at a state
 changed_or_same : (p : Component) (policy improved : List ℕ) → IsPolicy p policy → IsPolicy p improved → (improved ≡ policy) ⊎ ((s : ℕ) × IsChanged p policy improved s)
-changed_or_same p policy improved is now = elim (search_below (IsChanged p policy improved) (λ s. is_state p s ≡ true → slice_index improved s ≡ slice_index policy s) (count p) (λ s l. by s (test_or_not (is_state p s)) (same_or_other (slice_index improved s) (slice_index policy s)))) as (λ _. (improved ≡ policy) ⊎ ((s : ℕ) × IsChanged p policy improved s)) [
-  | inl f ↦ inr (f.0, f.2)
-  | inr q ↦ inl (fill_by_all (slice_index policy) improved (count p) 0 now.len (λ k l. at k (test_or_not (is_state p k)) (q k l)) ∙ sym (fill_by_all (slice_index policy) policy (count p) 0 is.len (λ k l. refl)))
-]
+changed_or_same p policy improved is now =
+    elim (search_below (IsChanged p policy improved) (λ s. is_state p s ≡ true → slice_index improved s ≡ slice_index policy s) (count p)
+    (λ s l. by s (test_or_not (is_state p s)) (same_or_other (slice_index improved s) (slice_index policy s)))) as (λ _. (improved ≡ policy) ⊎ ((s : ℕ) × IsChanged p policy improved s)) [
+      | inl f ↦ inr (f.0, f.2)
+      | inr q ↦ inl (fill_by_all (slice_index policy) improved (count p) 0 now.len (λ k l. at k (test_or_not (is_state p k)) (q k l)) ∙ sym
+          (fill_by_all (slice_index policy) policy (count p) 0 is.len (λ k l. refl)))
+    ]
   where
     by : (s : ℕ) → (is_state p s ≡ true) ⊎ (is_state p s ≡ false) → (slice_index improved s ≡ slice_index policy s) ⊎ (slice_index improved s ≢ slice_index policy s)
         → IsChanged p policy improved s ⊎ (is_state p s ≡ true → slice_index improved s ≡ slice_index policy s)
@@ -48,12 +51,14 @@ module _ (p : Component) (known : IsComponent p) (gives : GivesSolutions) where
   abbrev P : Round → Type 0
   P a = IsStart p a.policy
 
-  evaluated : (policy : List ℕ) (t : ℕ) (v : Values) → IsPolicy p policy → IsReference (is_state p) (row_by p policy) t → written_values p policy t ≡ Ok v → IsEvaluated p policy t v.gain (value_at v.bias)
+  evaluated : (policy : List ℕ) (t : ℕ) (v : Values) → IsPolicy p policy → IsReference (is_state p) (row_by p policy) t → written_values p policy t ≡ Ok v
+      → IsEvaluated p policy t v.gain (value_at v.bias)
   evaluated policy t v is r h = record { is = is; reference = r; values = evaluates_exactly gives p policy t v known is (IsReference.leads r) h }
 
   -- ---- a round makes one thing
 
-  comparison_one : (a : Round) (t : ℕ) (v : Values) (r : Result (List ℕ) Place) (s q : Step Round Found Refusal) → P a → written_improved p a.policy v ≡ r → AfterComparison p a t v r s → AfterComparison p a t v r q → s ≡ q
+  comparison_one : (a : Round) (t : ℕ) (v : Values) (r : Result (List ℕ) Place) (s q : Step Round Found Refusal) → P a → written_improved p a.policy v ≡ r → AfterComparison p a t v r s
+      → AfterComparison p a t v r q → s ≡ q
   comparison_one a t v (Err place) s q k e h j = h ∙ sym j
   comparison_one a t v (Ok improved) s q k e (inl h) (inl j) = h.1 ∙ sym j.1
   comparison_one a t v (Ok improved) s q k e (inl h) (inr j) = absurd (j.0 h.0)
@@ -108,11 +113,20 @@ module _ (p : Component) (known : IsComponent p) (gives : GivesSolutions) where
   next_policy : (n : ℕ) (after : List ℕ) (b : Round) → (let s : Step Round Found Refusal = next b in s) ≡ next (record { number = n; policy = after }) → after ≡ b.policy
   next_policy n after b e = let same : b ≡ (let r : Round = record { number = n; policy = after } in r) = cc in sym (ap Round.policy same)
 
-  comparison_next : (a b : Round) (t : ℕ) (v : Values) (r : Result (List ℕ) Place) → written_values p a.policy t ≡ Ok v → written_improved p a.policy v ≡ r → AfterComparison p a t v r (next b) → Goes_on a b t
+  comparison_next : (a b : Round) (t : ℕ) (v : Values) (r : Result (List ℕ) Place) → written_values p a.policy t ≡ Ok v → written_improved p a.policy v ≡ r → AfterComparison p a t v r (next b)
+      → Goes_on a b t
   comparison_next a b t v (Err place) w e h = cc
   comparison_next a b t v (Ok improved) w e (inl h) = absurd (let k = h.1 in cc)
   comparison_next a b t v (Ok improved) w e (inr h) =
-      record { v = v; improved = improved; values = w; made = e; changed = h.0; exact = subst (λ (after : List ℕ). IsExactNext p a.policy improved after) (next_policy (a.number + 1) h.1.0 b h.1.2) h.1.1 }
+      record {
+        v = v;
+        improved = improved;
+        values = w;
+        made = e;
+        changed = h.0;
+        exact = subst (λ (after : List ℕ). IsExactNext p a.policy improved after)
+            (next_policy (a.number + 1) h.1.0 b h.1.2) h.1.1;
+      }
 
   evaluation_next : (a b : Round) (t : ℕ) (r : Result Values Place) → written_values p a.policy t ≡ r → AfterEvaluation p a t r (next b) → Goes_on a b t
   evaluation_next a b t (Err place) w h = cc
@@ -148,10 +162,12 @@ module _ (p : Component) (known : IsComponent p) (gives : GivesSolutions) where
 
   -- ---- the end
 
-  done_found : (a : Round) (t : ℕ) (v : Values) (f : Found) → (let s : Step Round Found Refusal = done f in s) ≡ done (record { policy = a.policy; reference = t; values = v }) → (let g : Found = record { policy = a.policy; reference = t; values = v } in g) ≡ f
+  done_found : (a : Round) (t : ℕ) (v : Values) (f : Found) → (let s : Step Round Found Refusal = done f in s) ≡ done (record { policy = a.policy; reference = t; values = v })
+      → (let g : Found = record { policy = a.policy; reference = t; values = v } in g) ≡ f
   done_found a t v f e = cc
 
-  comparison_done : (a : Round) (t : ℕ) (v : Values) (f : Found) (r : Result (List ℕ) Place) → P a → IsReference (is_state p) (row_by p a.policy) t → written_values p a.policy t ≡ Ok v → written_improved p a.policy v ≡ r → AfterComparison p a t v r (done f) → IsBestGain p f
+  comparison_done : (a : Round) (t : ℕ) (v : Values) (f : Found) (r : Result (List ℕ) Place) → P a → IsReference (is_state p) (row_by p a.policy) t → written_values p a.policy t ≡ Ok v
+      → written_improved p a.policy v ≡ r → AfterComparison p a t v r (done f) → IsBestGain p f
   comparison_done a t v f (Err place) k w x e h = cc
   comparison_done a t v f (Ok improved) k w x e (inr h) = absurd (let q = h.1.2 in cc)
   comparison_done a t v f (Ok improved) k w x e (inl h) =
@@ -160,7 +176,8 @@ module _ (p : Component) (known : IsComponent p) (gives : GivesSolutions) where
       subst (IsBestGain p) (done_found a t v f h.1)
       (record { evaluated = now; none_better = ends_at_none_better p a.policy improved t v.gain (value_at v.bias) known now i (λ s j. ap (λ (xs : List ℕ). slice_index xs s) h.0) })
 
-  evaluation_done : (a : Round) (t : ℕ) (f : Found) (r : Result Values Place) → P a → IsReference (is_state p) (row_by p a.policy) t → written_values p a.policy t ≡ r → AfterEvaluation p a t r (done f) → IsBestGain p f
+  evaluation_done : (a : Round) (t : ℕ) (f : Found) (r : Result Values Place) → P a → IsReference (is_state p) (row_by p a.policy) t → written_values p a.policy t ≡ r
+      → AfterEvaluation p a t r (done f) → IsBestGain p f
   evaluation_done a t f (Err place) k w x h = cc
   evaluation_done a t f (Ok v) k w x h = comparison_done a t v f (written_improved p a.policy v) k w x refl h
 
@@ -170,8 +187,10 @@ module _ (p : Component) (known : IsComponent p) (gives : GivesSolutions) where
   -- ---- there is an end
 
   -- rounds from a policy with this reference, as long as the number falls
-  ends_by : (fuel : ℕ) (a : Round) (t : ℕ) (s : Step Round Found Refusal) → P a → IsReference (is_state p) (row_by p a.policy) t → measure_of a t < suc fuel → AfterEvaluation p a t (written_values p a.policy t) s
-      → ((b : Round) (u : ℕ) → P b → IsReference (is_state p) (row_by p b.policy) u → measure_of b u < fuel → (r : Result Found Refusal) × EndsWith (Makes p) b r) → (r : Result Found Refusal) × EndsWith (Makes p) a r
+  ends_by : (fuel : ℕ) (a : Round) (t : ℕ) (s : Step Round Found Refusal) → P a → IsReference (is_state p) (row_by p a.policy) t → measure_of a t < suc fuel
+      → AfterEvaluation p a t (written_values p a.policy t) s
+      → ((b : Round) (u : ℕ) → P b → IsReference (is_state p) (row_by p b.policy) u → measure_of b u < fuel → (r : Result Found Refusal) × EndsWith (Makes p) b r)
+      → (r : Result Found Refusal) × EndsWith (Makes p) a r
   ends_by fuel a t (done f) k w l h ih = (Ok f, (1, (done f, (t, w, h), refl)))
   ends_by fuel a t (refused x) k w l h ih = (Err x, (1, (refused x, (t, w, h), refl)))
   ends_by fuel a t (next b) k w l h ih =

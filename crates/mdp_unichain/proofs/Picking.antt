@@ -1,6 +1,6 @@
 -- The reference and the class that is picked, from the parts of a policy's chain.
-use Rattle.std.proofs.Common.{◌≡◌, ◌≢◌, ℕ, zero, suc, ◌<◌, ◌≤◌, ◌⊎◌, inl, inr, Bool, true, false, not, ◌&&◌, ◌==◌, List, length, map, Option, Some, None, refl, sym, ◌∙◌, ap, subst, arith}
-use Rattle.std.specs.List.{All, Any, range_with_len}
+use Rattle.std.proofs.Common.{◌≡◌, ◌≢◌, ℕ, ◌<◌, ◌≤◌, ◌⊎◌, inl, inr, Bool, true, false, not, ◌&&◌, ◌==◌, List, length, map, Some, refl, sym, ◌∙◌, ap, arith}
+use Rattle.std.specs.List.{range_with_len}
 use Rattle.std.specs.Prelude.{slice_index}
 use Rattle.std.proofs.lemmas.Bool.{false≢true, and_parts, and_from, eqb-true, eq-eqb, ne_eqb}
 use Rattle.std.proofs.Math.ListN.{get_or-eq_default}
@@ -11,12 +11,11 @@ use Rattle.mdp_graph.specs.Sets.{marked}
 use Rattle.mdp_unichain.specs.Chain.{IsChain, AllLeadTo, IsReference, IsClosedClass}
 use Rattle.mdp_unichain.specs.Component.{Component, count, is_state, row_by, IsPolicy, IsComponent}
 use Rattle.mdp_unichain.specs.Improvement.{KeepsClasses}
-use Rattle.mdp_unichain.specs.Next.{HoldsChanged, IsPicked}
+use Rattle.mdp_unichain.specs.Next.{HoldsChanged}
 use Rattle.mdp_unichain.specs.Classes.{differs, has_flag, shares_part, AreClasses, is_in_class, is_in_changed_class, Picks}
 use Rattle.mdp_unichain.proofs.Chains.{same_or_other}
 use Rattle.mdp_unichain.proofs.Classes.{holds, leads_into, into_class}
 use Rattle.mdp_unichain.proofs.ClassesFound.{flag-is, flag_from, flag_by}
-use Rattle.mdp_unichain.proofs.Deciding.{reference_of}
 use Rattle.mdp_unichain.proofs.Improving.{policy-chain, state-below}
 use Rattle.mdp_unichain.proofs.Reaching.{test_or_not, clash_test, has_class}
 
@@ -155,7 +154,11 @@ module _ (p : Component) (known : IsComponent p) (policy improved : List ℕ) (b
       record {
         class_is = closed_class;
         changed = holds_changed;
-        least = (t, sym (marked-is t) ∙ shares_own p known improved is parts left a t state_t.0, λ other c h u j.
-            IsFirst.least f u (state-below p u (IsClosedClass.states c u j)) (in_changed_of other c h.0 h.1 h.2 u j));
+        least = (
+          t,
+          sym (marked-is t) ∙ shares_own p known improved is parts left a t state_t.0,
+          λ other c h u j.
+              IsFirst.least f u (state-below p u (IsClosedClass.states c u j)) (in_changed_of other c h.0 h.1 h.2 u j),
+        );
       },
     )

@@ -1,8 +1,8 @@
 -- Walks by chosen choices as ranks: from each state of a closed set some number of steps leads to t, so each has an entry of smaller rank, until t is
 -- reached. And back: where ranks fall along the choices, there is a walk.
-use Rattle.std.proofs.Common.{◌≡◌, ◌≢◌, ℕ, zero, suc, ◌<◌, ◌≤◌, ◌⊎◌, inl, inr, Bool, true, false, ◌||◌, ◌==◌, List, length, refl, sym, ◌∙◌, ap, subst, arith}
+use Rattle.std.proofs.Common.{◌≡◌, ◌≢◌, ℕ, zero, suc, ◌<◌, ◌≤◌, ◌⊎◌, inl, inr, Bool, true, false, length, sym, ◌∙◌, subst, arith}
 use Rattle.std.proofs.lemmas.Bool.{eqb-true, or_cases}
-use Rattle.mdp_spec.specs.Mdp.{Mdp, states_of, choices_at, row_at}
+use Rattle.mdp_spec.specs.Mdp.{Mdp, choices_at, row_at}
 use Rattle.mdp_rows.specs.Preds.{leads_to}
 use Rattle.mdp_graph.specs.Layers.{reached}
 use Rattle.mdp_ends.specs.Walks.{chosen_step, comes_to, Reaches}

@@ -195,17 +195,21 @@ module _ (states : ℕ → Bool) (n : ℕ) (row : ℕ → List Entry) (chain : I
 
   grows : (fuel : ℕ) (reached : ℕ → Bool) → Found reached → count_below (left reached) n < fuel → Split states row start
   grows zero reached f l = absurd (omega arith)
-  grows (suc fuel) reached f l = elim (search_below (λ s. (left reached s ≡ true) × Any (λ y. reached y.target ≡ true) (row s)) (λ s. left reached s ≡ true → All (λ y. reached y.target ≡ false) (row s)) n (λ s i. decide s (left reached s) refl)) as (λ _. Split states row start) [
-    | inl h ↦ grows fuel (more reached f h.0 h.2.0 h.2.1) (found_more reached f h.0 h.2.0 h.2.1) (let k = fewer reached f h.0 h.2.0 h.2.1 in omega arith)
-    | inr q ↦ ends reached f q
-  ]
+  grows (suc fuel) reached f l =
+      elim (search_below (λ s. (left reached s ≡ true) × Any (λ y. reached y.target ≡ true) (row s)) (λ s. left reached s ≡ true → All (λ y. reached y.target ≡ false) (row s)) n
+      (λ s i. decide s (left reached s) refl)) as (λ _. Split states row start) [
+        | inl h ↦ grows fuel (more reached f h.0 h.2.0 h.2.1) (found_more reached f h.0 h.2.0 h.2.1) (let k = fewer reached f h.0 h.2.0 h.2.1 in omega arith)
+        | inr q ↦ ends reached f q
+      ]
     where
       decide : (s : ℕ) (b : Bool) → left reached s ≡ b → ((left reached s ≡ true) × Any (λ y. reached y.target ≡ true) (row s)) ⊎ (left reached s ≡ true → All (λ y. reached y.target ≡ false) (row s))
       decide s false e = inr (λ h. absurd (clash_test (left reached s) h e))
-      decide s true e = elim (any_or_all (λ y. reached y.target) (row s)) as (λ _. ((left reached s ≡ true) × Any (λ y. reached y.target ≡ true) (row s)) ⊎ (left reached s ≡ true → All (λ y. reached y.target ≡ false) (row s))) [
-        | inl a ↦ inl (e, a)
-        | inr a ↦ inr (λ h. a)
-      ]
+      decide s true e =
+          elim (any_or_all (λ y. reached y.target) (row s)) as
+          (λ _. ((left reached s ≡ true) × Any (λ y. reached y.target ≡ true) (row s)) ⊎ (left reached s ≡ true → All (λ y. reached y.target ≡ false) (row s))) [
+            | inl a ↦ inl (e, a)
+            | inr a ↦ inr (λ h. a)
+          ]
 
   pub split : Split states row start
   split =
@@ -260,14 +264,16 @@ module _ (states : ℕ → Bool) (n : ℕ) (row : ℕ → List Entry) (chain : I
   Outcome = AllLeadTo states row t ⊎ ((part : ℕ → Bool) × IsPart states n row part × (part t ≡ false))
 
   pub all_or_part : states t ≡ true → Outcome
-  all_or_part is = elim (search_below (λ s. others states n row chain alone split_to s ≡ true) (λ s. others states n row chain alone split_to s ≡ false) n (λ s l. test_or_not (others states n row chain alone split_to s))) as (λ _. Outcome) [
-    | inl h ↦ inr (others states n row chain alone split_to, others-part states n row chain alone split_to h.0 h.2, others-not states n row chain alone split_to t (eqb-same t))
-    | inr h ↦ inl (record {
-      state = is;
-      rank = Split.rank split_to;
-      falls = λ s k o. let a = to_falls s (reached_of states n row chain alone split_to s k (h s (chain.below s k))) o in (a.0, a.1, a.2, a.3, a.4.1);
-    })
-  ]
+  all_or_part is =
+      elim (search_below (λ s. others states n row chain alone split_to s ≡ true) (λ s. others states n row chain alone split_to s ≡ false) n
+      (λ s l. test_or_not (others states n row chain alone split_to s))) as (λ _. Outcome) [
+        | inl h ↦ inr (others states n row chain alone split_to, others-part states n row chain alone split_to h.0 h.2, others-not states n row chain alone split_to t (eqb-same t))
+        | inr h ↦ inl (record {
+          state = is;
+          rank = Split.rank split_to;
+          falls = λ s k o. let a = to_falls s (reached_of states n row chain alone split_to s k (h s (chain.below s k))) o in (a.0, a.1, a.2, a.3, a.4.1);
+        })
+      ]
 
 -- ---- each chain has a closed class
 
@@ -286,15 +292,17 @@ lead_or_smaller states n row chain t true e = elim (all_or_part states n row cha
 
 class_within : (fuel n : ℕ) (row : ℕ → List Entry) (states : ℕ → Bool) → IsChain states n row → (s : ℕ) → states s ≡ true → count_below states n < fuel → ClassOf states row
 class_within zero n row states chain s h l = absurd (omega arith)
-class_within (suc fuel) n row states chain s h l = elim (search_below (Smaller states n row) (LeadIfState states row) n (λ t i. lead_or_smaller states n row chain t (states t) refl)) as (λ _. ClassOf states row) [
-  | inl f ↦
-      let part = f.2.1 in
-      let k : count_below part.0 n < count_below states n = count-lt part.0 states n f.0 (λ u i e. IsPart.inside part.1 u e) f.1 part.2 f.2.0 in
-      let some = IsPart.some part.1 in
-      let c = class_within fuel n row part.0 (part-chain states n row part.0 chain part.1) some.0 some.1 (omega arith) in
-      (c.0, record { some = IsClosedClass.some c.1; states = λ u e. IsPart.inside part.1 u (IsClosedClass.states c.1 u e); closed = IsClosedClass.closed c.1; connected = IsClosedClass.connected c.1 })
-  | inr q ↦ (states, record { some = (s, h); states = λ u e. e; closed = chain.stays; connected = λ t e. q t (chain.below t e) e })
-]
+class_within (suc fuel) n row states chain s h l =
+    elim (search_below (Smaller states n row) (LeadIfState states row) n (λ t i. lead_or_smaller states n row chain t (states t) refl)) as (λ _. ClassOf states row) [
+      | inl f ↦
+          let part = f.2.1 in
+          let k : count_below part.0 n < count_below states n = count-lt part.0 states n f.0 (λ u i e. IsPart.inside part.1 u e) f.1 part.2 f.2.0 in
+          let some = IsPart.some part.1 in
+          let c = class_within fuel n row part.0 (part-chain states n row part.0 chain part.1) some.0 some.1 (omega arith) in
+          (c.0, record { some = IsClosedClass.some c.1; states = λ u e. IsPart.inside part.1 u
+          (IsClosedClass.states c.1 u e); closed = IsClosedClass.closed c.1; connected = IsClosedClass.connected c.1 })
+      | inr q ↦ (states, record { some = (s, h); states = λ u e. e; closed = chain.stays; connected = λ t e. q t (chain.below t e) e })
+    ]
 
 pub has_class : (states : ℕ → Bool) (n : ℕ) (row : ℕ → List Entry) → IsChain states n row → (s : ℕ) → states s ≡ true → ClassOf states row
 has_class states n row chain s h = class_within (suc (count_below states n)) n row states chain s h (omega arith)

@@ -103,8 +103,11 @@ module _ (p : Component) (known : IsComponent p) where
     at_same s (inl h) (inr o) =
         let x = f.toward s h o in
         let y = g.toward s h (λ q. o (q ∙ sym one_least)) in
-        let l = IsNearest.least x (slice_index b s) (nearer_same p known a a f.is (λ v. eqb v g.least) (λ v. eqb v f.least) g.rank f.rank (λ v. sym (same v)) g.ranks f.ranks s (slice_index b s) (IsNearest.nearer y)) in
-        let k = IsNearest.least y (slice_index a s) (nearer_same p known a a f.is (λ v. eqb v f.least) (λ v. eqb v g.least) f.rank g.rank same f.ranks g.ranks s (slice_index a s) (IsNearest.nearer x)) in
+        let l =
+        IsNearest.least x (slice_index b s) (nearer_same p known a a f.is (λ v. eqb v g.least) (λ v. eqb v f.least) g.rank f.rank (λ v. sym (same v)) g.ranks f.ranks s (slice_index b s)
+        (IsNearest.nearer y)) in
+        let k =
+        IsNearest.least y (slice_index a s) (nearer_same p known a a f.is (λ v. eqb v f.least) (λ v. eqb v g.least) f.rank g.rank same f.ranks g.ranks s (slice_index a s) (IsNearest.nearer x)) in
         omega arith
 
     one_first : a ≡ b

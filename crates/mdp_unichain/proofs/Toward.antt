@@ -1,5 +1,5 @@
 -- The pass toward some states of a part: its ranks and choices are those of the path.
-use Rattle.std.proofs.Common.{◌≡◌, ℕ, zero, suc, ◌<◌, ◌≤◌, inl, inr, Bool, true, false, ◌||◌, ◌&&◌, nat_lt, List, length, get_or, Option, refl, sym, ◌∙◌, ap, subst, arith}
+use Rattle.std.proofs.Common.{◌≡◌, ℕ, suc, ◌<◌, ◌≤◌, inl, Bool, true, false, ◌&&◌, nat_lt, List, length, Option, sym, ◌∙◌, ap, subst, arith}
 use Rattle.std.specs.List.{All, Any}
 use Rattle.std.specs.Prelude.{slice_index}
 use Rattle.std.proofs.lemmas.Bool.{or_right, and_parts, and_from, ltb-true, lt-ltb}
@@ -18,9 +18,8 @@ use Rattle.mdp_unichain.specs.Model.{IsInside}
 use Rattle.mdp_unichain.specs.Next.{LeadsNearer, AreRanksToward, IsNearest}
 use Rattle.mdp_unichain.specs.Part.{IsPart, is_inner, inner_component}
 use Rattle.mdp_unichain.proofs.Entries.{any-target, target-any, all-target, target-all}
-use Rattle.mdp_unichain.proofs.Improving.{state-of}
 use Rattle.mdp_unichain.proofs.Members.{inside_of, inner_of, row-is}
-use Rattle.mdp_unichain.proofs.Parts.{member-below, inner_inside, inner_member, inside_inner, part-component, part-state}
+use Rattle.mdp_unichain.proofs.Parts.{member-below, inner_inside, inside_inner, part-component, part-state}
 
 module _ (dir : Dir) (m : Mdp) (parts : List (Option ℕ)) (i r : ℕ) (k : IsPart m parts i) (target marks : List Bool) (ranks choices : List ℕ)
     (pass : IsToward m parts i target marks ranks choices) (marks_are : (s : ℕ) → s < states_of m → marked marks s ≡ in_part parts i s)

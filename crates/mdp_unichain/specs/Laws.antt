@@ -34,13 +34,15 @@ HasNext = (p : Component) (policy improved : List ℕ) → IsComponent p → IsP
 -- it has one closed class again
 abbrev pub NextIsEvaluated : Type 0
 NextIsEvaluated =
-    (p : Component) (policy improved after : List ℕ) (t : ℕ) (gain : ℚ) (bias : ℕ → ℚ) → IsComponent p → IsEvaluated p policy t gain bias → IsImproved p policy gain bias improved → IsNext p policy improved after
+    (p : Component) (policy improved after : List ℕ) (t : ℕ) (gain : ℚ) (bias : ℕ → ℚ) → IsComponent p → IsEvaluated p policy t gain bias → IsImproved p policy gain bias improved
+    → IsNext p policy improved after
     → (u : ℕ) × (g : ℚ) × (h : ℕ → ℚ) × IsEvaluated p after u g h
 
 -- where it goes toward a class that holds a changed state, its gain is better
 abbrev pub GainRises : Type 0
 GainRises =
-    (p : Component) (policy improved after : List ℕ) (t u : ℕ) (gain g : ℚ) (bias h : ℕ → ℚ) (class : ℕ → Bool) → IsComponent p → IsEvaluated p policy t gain bias → IsImproved p policy gain bias improved
+    (p : Component) (policy improved after : List ℕ) (t u : ℕ) (gain g : ℚ) (bias h : ℕ → ℚ) (class : ℕ → Bool) → IsComponent p → IsEvaluated p policy t gain bias
+    → IsImproved p policy gain bias improved
     → GoesToward p policy improved after class → IsEvaluated p after u g h → IsBetter p.dir g gain
 
 -- else the gain and the reference stay, and the bias is worse nowhere and better at each changed state

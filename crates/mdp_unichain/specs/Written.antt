@@ -1,5 +1,5 @@
 -- A round in written arithmetic: the evaluation of a policy with the reference t, and the comparison of all choices of the component.
-use Rattle.std.specs.Prelude.{ℕ, zero, suc, Bool, true, false, List, [], ◌∷◌, length, map, slice_index, slice_index_or, None, Result, Ok, Err, if◌then◌else◌, pos}
+use Rattle.std.specs.Prelude.{ℕ, zero, suc, Bool, true, false, List, [], ◌∷◌, length, map, slice_index, slice_index_or, None, Result, Ok, if◌then◌else◌, pos}
 use Rattle.std.specs.List.{range_with_len}
 use Rattle.mdp_math.specs.Rational.{ℚ, of_int}
 use Rattle.mdp_math.specs.Result.{◌>>=◌}
