@@ -7,7 +7,10 @@ use Rattle.mdp_spec.specs.Mdp.{Entry, Mdp, states_of, row_at}
 use Rattle.mdp_spec.specs.Row.{IsMdp}
 use Rattle.mdp_spec.specs.Unit.{reward_of}
 use Rattle.mdp_graph.specs.Sets.{marked}
-use Rattle.mdp_ends.specs.Ends.{part_of, in_part, is_inside}
+use Rattle.std.proofs.Common.{eqb}
+use Rattle.std.specs.Option.{option_eq}
+use Rattle.std.specs.Prelude.{slice_index_or}
+use Rattle.mdp_ends.specs.Ends.{has_number, part_of, in_part, is_inside}
 use Rattle.mdp_parts.specs.FoundEnds.{inner_at}
 use Rattle.mdp_unichain.specs.Component.{Component, Choice, count, choices_at, choice_at, is_state}
 use Rattle.mdp_unichain.specs.Part.{IsPart, is_inner}
@@ -50,3 +53,18 @@ module _ (x : EndComponent) where
 
     pub member-is : IsMdp m → (s : ℕ) → is_state (component_in x) s ≡ in_part x.ends.now.parts x.number s
     member-is known s = part-state m x.ends.now.parts x.number (part_of-given known) x.dir x.name s
+
+-- the test of a part's number
+pub number-eq : (n : ℕ) (o : Option ℕ) → option_eq eqb o (Some n) ≡ has_number n o
+number-eq n None = refl
+number-eq n (Some j) = refl
+
+module _ (x : EndComponent) (g : IsGiven x) (known : IsMdp x.model.now) (s c : ℕ) (l : s < count (component_in x)) (k : c < length (choices_at (component_in x) s)) where
+  pub inner-in : is_state (component_in x) s ≡ true → marked (slice_index_or x.ends.now.inner s []) c ≡ (choice_at (component_in x) s c).inner
+  inner-in h =
+      g.ends.inner s c (state-below x s l) (choice-below x s c l k)
+      ∙ ap (λ b. b && is_inside x.model.now x.ends.now.parts s c) (sym (sym (member-is x g known s) ∙ h))
+      ∙ sym (inner-is x s c l k)
+
+  pub inner-out : is_state (component_in x) s ≡ false → false ≡ (choice_at (component_in x) s c).inner
+  inner-out h = ap (λ b. b && is_inside x.model.now x.ends.now.parts s c) (sym (sym (member-is x g known s) ∙ h)) ∙ sym (inner-is x s c l k)

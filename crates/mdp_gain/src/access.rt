@@ -51,6 +51,7 @@ impl EndComponent<'_, '_> {
         requires choice { c < length (choices_at (component_in self.now) s) }
         ensures { result ≡ (choice_at (component_in self.now) s c).inner }
     {
+        self.model.known();
         self.holds(s) && self.ends.inside(s, c)
     }
 

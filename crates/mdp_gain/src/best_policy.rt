@@ -1,4 +1,4 @@
-ghost use Rattle.std.specs.Prelude.{IfOk};
+ghost use Rattle.std.specs.Prelude.{◌≡◌};
 ghost use Rattle.mdp_unichain.specs.Path.{IsStart};
 ghost use Rattle.mdp_gain.specs.Code.{IsGiven, component_in, path_error, Ends};
 

@@ -4,7 +4,7 @@ ghost use Rattle.mdp_path.specs.Candidates.{is_better};
 ghost use Rattle.mdp_path.specs.Path.{or_kept};
 ghost use Rattle.mdp_unichain.specs.Component.{count, choices_at, choice_at, IsPolicy};
 ghost use Rattle.mdp_unichain.specs.Sums.{compared};
-ghost use Rattle.mdp_unichain.specs.Written.{choice_over, improved_choice, written_improved};
+ghost use Rattle.mdp_unichain.specs.Written.{choice_over, improved_choice, improved_at, written_improved};
 ghost use Rattle.mdp_gain.specs.Code.{IsGiven, component_in, values_in, shown};
 ghost use Rattle.mdp_gain.specs.Faults.{placed_at, Answers};
 
@@ -129,6 +129,25 @@ fn improved_choice(
     choice_over(component, policy, values, s, present)
 }
 
+/// The improved policy's choice at state `s`: 0 outside the component.
+fn improved_at(
+    component: &EndComponent<'_, '_>,
+    policy: &[u32],
+    values: &Values,
+    s: u32,
+) -> Result<u32, RoundError>
+    requires given { IsGiven component.now }
+    requires policy { IsPolicy (component_in component.now) policy.now }
+    requires state { s < count (component_in component.now) }
+    requires bias { length values.now.bias.items ≡ count (component_in component.now) }
+    ensures { Answers (λ c. c) result (improved_at (component_in component.now) policy.now (values_in values.now) s) }
+{
+    if !component.holds(s) {
+        return Ok(0);
+    }
+    improved_choice(component, policy, values, s)
+}
+
 /// The improved policy: at each state of the component the best choice, where it is better than what the policy has.
 pub(crate) fn improved(
     alloc: Global,
@@ -143,11 +162,8 @@ pub(crate) fn improved(
 {
     let mut choices = Vec::new(alloc);
     for s in 0..component.count() {
-        if component.holds(s) {
-            choices.push(improved_choice(component, policy, values, s)?)?;
-        } else {
-            choices.push(0)?;
-        }
+        let choice = improved_at(component, policy, values, s)?;
+        choices.push(choice)?;
     }
     Ok(choices)
 }

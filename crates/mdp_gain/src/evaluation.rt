@@ -1,12 +1,14 @@
-ghost use Rattle.std.specs.Prelude.{◌≡◌, ◌<◌, length, map, slice_index, IfOk};
+ghost use Rattle.std.specs.Prelude.{◌≡◌, ◌<◌, length, map, slice_index, pos, IfOk};
 ghost use Rattle.std.specs.Result.{result_ok};
+ghost use Rattle.std.specs.List.{All};
+ghost use Rattle.mdp_math.specs.Rational.{of_int, ◌+ℚ◌, ◌≤ℚ◌};
 ghost use Rattle.mdp_spec.specs.Mdp.{value_at};
 ghost use Rattle.mdp_elim.specs.declared.too_wide.Kind.TheVariants.{Evaluate};
 ghost use Rattle.mdp_unichain.specs.Chain.{AllLeadTo};
 ghost use Rattle.mdp_unichain.specs.Component.{count, is_state, row_by, IsPolicy};
-ghost use Rattle.mdp_unichain.specs.Evaluation.{active};
+ghost use Rattle.mdp_unichain.specs.Evaluation.{active, mean};
 ghost use Rattle.mdp_unichain.specs.Sums.{written_ratio, written_bias};
-ghost use Rattle.mdp_unichain.specs.Written.{active_of, rewards_of, ones_of, written_columns, written_gain, written_bias_list, written_values};
+ghost use Rattle.mdp_unichain.specs.Written.{active_of, rewards_of, ones_of, written_columns, bias_of, written_bias_list, written_values};
 ghost use Rattle.mdp_gain.specs.Code.{IsGiven, component_in, values_in};
 ghost use Rattle.mdp_gain.specs.Faults.{placed_at, Answers};
 
@@ -24,6 +26,15 @@ pub(crate) struct Values {
     pub(crate) bias: Vec<Frac>,
 }
 
+/// Whether state `s` is one of the component, and not `t`.
+fn is_active(component: &EndComponent<'_, '_>, t: u32, s: u32) -> bool
+    requires given { IsGiven component.now }
+    requires state { s < count (component_in component.now) }
+    ensures { result ≡ active (is_state (component_in component.now)) t s }
+{
+    component.holds(s) && s != t
+}
+
 /// The states of the component but `t`.
 fn active_states(
     alloc: Global,
@@ -35,7 +46,7 @@ fn active_states(
 {
     let mut marks = Vec::new(alloc);
     for s in 0..component.count() {
-        marks.push(component.holds(s) && s != t)?;
+        marks.push(is_active(component, t, s))?;
     }
     Ok(Marks::from_values(marks))
 }
@@ -81,6 +92,7 @@ fn columns(
     requires leads { AllLeadTo (is_state (component_in component.now)) (row_by (component_in component.now) policy.now) t }
     ensures value { Answers (λ columns. map (λ x. x.items) columns.items) result (written_columns (component_in component.now) policy.now t) }
     ensures count { IfOk result (λ columns. length columns.items ≡ 2) }
+    ensures lengths { IfOk result (λ columns. All (λ x. length x.items ≡ count (component_in component.now)) columns.items) }
 {
     component.model.known();
     let rows = PolicyRows {
@@ -115,6 +127,7 @@ fn ratio(
     requires reference { t < count (component_in component.now) }
     requires earned { length x.now ≡ count (component_in component.now) }
     requires steps { length y.now ≡ count (component_in component.now) }
+    requires positive { of_int (pos 1) ≤ℚ of_int (pos 1) +ℚ mean (row_by (component_in component.now) policy.now t) (value_at y.now) }
     ensures { result_ok result ≡ written_ratio (component_in component.now) policy.now t x.now y.now }
 {
     let choice = policy[t as usize];
@@ -147,6 +160,29 @@ fn at_state<T>(step: Result<T, Wide>, policy: &[u32], s: u32) -> Result<T, Round
     }
 }
 
+/// The bias of state `s` to a gain: 0 at `t` and outside the component.
+fn bias_at(
+    component: &EndComponent<'_, '_>,
+    policy: &[u32],
+    t: u32,
+    gain: &Frac,
+    x: &[Frac],
+    y: &[Frac],
+    s: u32,
+) -> Result<Frac, RoundError>
+    requires given { IsGiven component.now }
+    requires policy { IsPolicy (component_in component.now) policy.now }
+    requires earned { length x.now ≡ count (component_in component.now) }
+    requires steps { length y.now ≡ count (component_in component.now) }
+    requires state { s < count (component_in component.now) }
+    ensures { Answers (λ bias. bias) result (bias_of (component_in component.now) policy.now t gain.now x.now y.now s) }
+{
+    if !is_active(component, t, s) {
+        return Ok(Frac::whole(0));
+    }
+    at_state(bias(gain, &x[s as usize], &y[s as usize]), policy, s)
+}
+
 /// The biases to a gain.
 fn biases(
     alloc: Global,
@@ -165,12 +201,8 @@ fn biases(
 {
     let mut biases = Vec::new(alloc);
     for s in 0..component.count() {
-        if component.holds(s) && s != t {
-            let value = bias(gain, &x[s as usize], &y[s as usize]);
-            biases.push(at_state(value, policy, s)?)?;
-        } else {
-            biases.push(Frac::whole(0))?;
-        }
+        let bias = bias_at(component, policy, t, gain, x, y, s)?;
+        biases.push(bias)?;
     }
     Ok(biases)
 }

@@ -7,7 +7,7 @@ use Rattle.std.proofs.Math.ListN.{get_or-eq_default}
 use Rattle.std.proofs.lemmas.List.FromFn.{get_or-map-range_with_len, length-map-range_with_len}
 use Rattle.std.proofs.lemmas.List.Elements.{All-nil, All-cons}
 use Rattle.std.proofs.lemmas.List.{get_or_default}
-use Rattle.mdp_math.specs.Rational.{ℚ, of_int, ◌+ℚ◌, ◌*ℚ◌, ◌-ℚ◌, ◌<ℚ◌}
+use Rattle.mdp_math.specs.Rational.{ℚ, of_int, ◌+ℚ◌, ◌*ℚ◌, ◌-ℚ◌, ◌≤ℚ◌, ◌<ℚ◌}
 use Rattle.mdp_math.specs.Written.{written_mul, ◌>>=◌}
 use Rattle.mdp_math.proofs.Written.{written_add-some, written_mul-some}
 use Rattle.mdp_math.proofs.Ring.{◌⊕◌, ◌⊗◌, ⊖, lit, ring}
@@ -22,12 +22,15 @@ use Rattle.mdp_num.specs.Written.{written_sub, written_div}
 use Rattle.mdp_spec.specs.Mdp.{Entry, value_at}
 use Rattle.mdp_spec.specs.Row.{IsRow, AreRows, row_sum}
 use Rattle.mdp_spec.specs.Written.{written_sum}
-use Rattle.mdp_elim.specs.System.{is_active, row_of, Leaves, IsSolution, SolveEach}
-use Rattle.mdp_elim.specs.Solve.{written_solution}
+use Rattle.mdp_elim.specs.Equation.{Equation, no_equation}
+use Rattle.mdp_elim.specs.Elimination.{solution}
+use Rattle.mdp_elim.specs.System.{is_active, row_of, inner, column_at, equation_of, system, Leaves, IsSolution, SolveEach}
+use Rattle.mdp_elim.specs.Solve.{columns_of, kept, written_solution}
 use Rattle.mdp_elim.specs.Laws.{LeavingChain, GivesSolutions}
 use Rattle.mdp_unichain.specs.Chain.{AllLeadTo}
 use Rattle.mdp_unichain.specs.Component.{Component, count, is_state, row_by, reward_by, IsPolicy, IsComponent}
-use Rattle.mdp_unichain.specs.Evaluation.{active, IsEarned, IsEvaluation}
+use Rattle.mdp_unichain.proofs.Gains.{steps-ge_one}
+use Rattle.mdp_unichain.specs.Evaluation.{mean, active, IsEarned, IsEvaluation}
 use Rattle.mdp_path.specs.Places.{Place, at_place}
 use Rattle.mdp_path.specs.Path.{evaluating, placed}
 use Rattle.mdp_unichain.specs.Sums.{written_ratio, written_bias}
@@ -40,6 +43,10 @@ use Rattle.mdp_unichain.proofs.Improving.{state-below, policy-chain}
 use Rattle.mdp_path.proofs.Compares.{written_sum-is}
 use Rattle.mdp_path.proofs.Results.{ok_same, ok_part, place_part, IsUpTo, up_to-is}
 use Rattle.mdp_elim.proofs.RowSums.{some_part}
+
+map_same : {A : Type 0} (f g : ℕ → A) → ((s : ℕ) → f s ≡ g s) → (xs : List ℕ) → map f xs ≡ map g xs
+map_same f g h [] = refl
+map_same f g h (x ∷ xs) = ap₂ (λ y ys. y ∷ ys) (h x) (map_same f g h xs)
 
 row_of_state : (b : Bool) (s : ℕ) (row : List Entry) → b ≡ true → row_or_loop b s row ≡ row
 row_of_state true s row e = refl
@@ -214,6 +221,49 @@ module _ (p : Component) (policy : List ℕ) (t : ℕ) (known : IsComponent p) (
       (earned_of (rewards_of p policy) (slice_index_or a.0 0 []) (reward_by p policy) (column (reward_by p policy)) (solved.1 0 (omega arith)))
       (earned_of (ones_of p) (slice_index_or a.0 1 []) (λ s. 1ℚ) (column (λ s. 1ℚ)) (solved.1 1 (omega arith)))
       v a.2
+
+  -- a way from t back to t has at least one step
+  pub steps-least : GivesSolutions → (xs : List (List ℚ)) → written_columns p policy t ≡ Ok xs → 1ℚ ≤ℚ 1ℚ +ℚ mean (row_by p policy t) (value_at (slice_index_or xs 1 []))
+  steps-least gives xs h =
+      let solved : SolveEach (rows_of p policy) (active_of p t) (rewards_of p policy ∷ ones_of p ∷ []) xs =
+      gives (rows_of p policy) (active_of p t) ranks (rewards_of p policy ∷ ones_of p ∷ []) xs leaving (inr refl)
+      (placed_part (written_solution (rows_of p policy) (active_of p t) (rewards_of p policy ∷ ones_of p ∷ [])) xs h) in
+      steps-ge_one (is_state p) (count p) (row_by p policy) (policy-chain p policy known is) t leads (value_at (slice_index_or xs 1 []))
+      (earned_of (ones_of p) (slice_index_or xs 1 []) (λ s. 1ℚ) (column (λ s. 1ℚ)) (solved.1 1 (omega arith)))
+
+  -- rows that are the policy's at the states of the component make the same system, whatever they are elsewhere
+  module _ (rows : List (List Entry)) (len : length rows ≡ count p) (same : (s : ℕ) → is_state p s ≡ true → row_of rows s ≡ row_by p policy s) where
+    pub rows-leave : (ranks : List ℕ) × Leaves rows (active_of p t) ranks
+    rows-leave = (ranks, record {
+      falls = λ s l a.
+          let h = active-state (is_state p) t s (sym (active-at s) ∙ a) in
+          let b = state-below p s h in
+          subst (λ (r : List Entry). Any (λ x. (is_active (active_of p t) x.target ≡ false) ⊎ (slice_index ranks x.target < slice_index ranks s)) r) (row-state s h ∙ sym (same s h))
+          (leaves.falls s (let n = rows-len in omega arith) a);
+    })
+
+    equation_by : (columns : List (List ℚ)) (s : ℕ) (b : Bool) → is_active (active_of p t) s ≡ b → equation_of rows (active_of p t) columns s ≡ equation_of (rows_of p policy) (active_of p t) columns s
+    unfolding equation_of
+    equation_by columns s true e =
+        let h = active-state (is_state p) t s (sym (active-at s) ∙ e) in
+        ap (λ (r : List Entry). if is_active (active_of p t) s then made columns s r else no_equation) (same s h ∙ sym (row-state s h))
+      where
+        made : List (List ℚ) → ℕ → List Entry → Equation
+        made columns s r = record { entries = inner (active_of p t) r; first = column_at columns 0 s; second = column_at columns 1 s }
+    equation_by columns s false e =
+        ap (λ (b : Bool). let q : Equation = if b then record { entries = inner (active_of p t) (row_of rows s); first = column_at columns 0 s; second = column_at columns 1 s } else no_equation in q) e
+        ∙ sym (ap (λ (b : Bool). let q : Equation = if b then record { entries = inner (active_of p t) (row_of (rows_of p policy) s); first = column_at columns 0 s; second = column_at columns 1 s } else no_equation in q) e)
+
+    same-system : (columns : List (List ℚ)) → system rows (active_of p t) columns ≡ system (rows_of p policy) (active_of p t) columns
+    same-system columns =
+        ap (λ n. map (equation_of rows (active_of p t) columns) (range_with_len 0 n)) (len ∙ sym rows-len)
+        ∙ map_same (equation_of rows (active_of p t) columns) (equation_of (rows_of p policy) (active_of p t) columns)
+        (λ s. equation_by columns s (is_active (active_of p t) s) refl) (range_with_len 0 (length (rows_of p policy)))
+
+    pub same-solution : (columns : List (List ℚ)) → written_solution rows (active_of p t) columns ≡ written_solution (rows_of p policy) (active_of p t) columns
+    same-solution columns =
+        ap (λ n. kept (columns_of (length columns)) (solution n (system rows (active_of p t) columns))) (len ∙ sym rows-len)
+        ∙ ap (λ (q : List Equation). kept (columns_of (length columns)) (solution (length (rows_of p policy)) q)) (same-system columns)
 
 pub evaluates_exactly : GivesSolutions → EvaluatesExactly
 evaluates_exactly gives p policy t v known is leads h = values-are p policy t known is leads gives v h

@@ -1,6 +1,8 @@
 use Rattle.std.proofs.Common.{◌≡◌, ◌∙◌, ◌<◌, ℕ, List, Bool, true, false, ◌&&◌, length, sym, ap, subst, arith, Option, Some, None}
-use Rattle.mdp_ends.specs.Ends.{has_number, part_of}
-use Rattle.mdp_gain.proofs.Given.{state-below, parts-len, member-is}
+use Rattle.mdp_ends.specs.Ends.{part_of}
+use Rattle.std.proofs.Common.{eqb}
+use Rattle.std.specs.Option.{option_eq}
+use Rattle.mdp_gain.proofs.Given.{state-below, parts-len, member-is, number-eq}
 use Rattle.mdp_gain.proofs.component.EndComponent.holds.Goals as goal
 
 pub of-requires : goal.of-requires
@@ -10,4 +12,7 @@ of-requires c =
     omega arith
 
 pub returns : goal.returns
-returns c = ?
+returns c =
+    c.eq.ensures ∙ ap (λ (o : Option ℕ). option_eq eqb o (Some c.args.self.now.number)) c.of.ensures
+    ∙ number-eq c.args.self.now.number (part_of c.args.self.now.ends.now.parts c.args.s)
+    ∙ sym (member-is c.args.self.now c.requires.given c.known.ensures.mdp c.args.s)

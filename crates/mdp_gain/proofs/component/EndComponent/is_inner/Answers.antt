@@ -1,6 +1,6 @@
 use Rattle.std.proofs.Common.{◌≡◌, ◌∙◌, ◌<◌, ℕ, List, Bool, true, false, ◌&&◌, length, sym, ap, subst, arith, Option, Some, None}
 use Rattle.mdp_graph.specs.Sets.{marked}
-use Rattle.mdp_gain.proofs.Given.{state-below, choice-below, inner-is}
+use Rattle.mdp_gain.proofs.Given.{state-below, choice-below, inner-in, inner-out}
 use Rattle.mdp_gain.proofs.component.EndComponent.is_inner.Goals as goal
 
 pub inside-requires-clause-state : goal.inside-requires-clause-state
@@ -16,4 +16,9 @@ inside-requires-clause-choice c =
     omega arith
 
 pub returns-then-holds : goal.returns-then-holds
-returns-then-holds c = ?
+returns-then-holds c =
+    c.inside.ensures ∙ inner-in c.args.self.now c.requires.given c.known.ensures.mdp c.args.s c.args.c c.requires.state c.requires.choice (sym c.holds.ensures ∙ c.if-holds.true)
+
+pub returns-else-holds : goal.returns-else-holds
+returns-else-holds c =
+    c.if-holds.false ∙ inner-out c.args.self.now c.requires.given c.known.ensures.mdp c.args.s c.args.c c.requires.state c.requires.choice (sym c.holds.ensures ∙ c.if-holds.false)
