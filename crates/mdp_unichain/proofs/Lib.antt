@@ -14,6 +14,7 @@ pub mod Improving
 pub mod Iterations
 pub mod Members
 pub mod Nexts
+pub mod OneGain
 pub mod Parts
 pub mod Paths
 pub mod Picking

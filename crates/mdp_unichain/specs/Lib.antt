@@ -1,3 +1,4 @@
+pub mod BestGain
 pub mod Chain
 pub mod Classes
 pub mod Component

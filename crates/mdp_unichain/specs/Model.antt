@@ -1,15 +1,16 @@
 -- An end component of a model, for the reward of name r. Choices keep their numbers.
-use Rattle.std.specs.Prelude.{◌≡◌, ◌≢◌, ℕ, ◌<◌, Bool, true, length, map}
+use Rattle.std.specs.Prelude.{◌≡◌, ◌≢◌, ℕ, zero, suc, ◌<◌, Bool, true, length, map}
 use Rattle.std.specs.List.{All, Any, range_with_len}
 use Rattle.mdp_math.specs.Rational.{ℚ, ◌+ℚ◌, ◌-ℚ◌, ◌*ℚ◌, ◌≤ℚ◌}
 use Rattle.mdp_spec.specs.Mdp.{Mdp, states_of, row_at}
 use Rattle.mdp_spec.specs.Mdp as mdp
 use Rattle.mdp_spec.specs.Row.{IsMdp}
-use Rattle.mdp_spec.specs.Unit.{reward_of}
+use Rattle.mdp_spec.specs.Unit.{count_at, reward_of}
+use Rattle.mdp_math.specs.Sum.{EachAt}
 use Rattle.mdp_spec.specs.Tree.{Tree}
+use Rattle.mdp_spec.specs.Tree.Tree.{leaf, node}
 use Rattle.mdp_spec.specs.Pay.{total}
 use Rattle.mdp_spec.specs.Bounds.{whole}
-use Rattle.mdp_spec.proofs.Keeping.{Keeps}
 use Rattle.mdp_rows.specs.declared.dir.Dir.{Dir}
 use Rattle.mdp_rows.specs.declared.dir.Dir.TheVariants.{Max, Min}
 use Rattle.mdp_unichain.specs.Component.{Component, Choice, is_state, IsComponent}
@@ -23,6 +24,14 @@ abbrev pub component_of : Dir → Mdp → ℕ → (ℕ → ℕ → Bool) → Com
 component_of dir m r inner =
     record { dir = dir; states = map (λ s. map (choice_of m r inner s) (range_with_len 0 (length (mdp.choices_at m s)))) (range_with_len 0 (states_of m)) }
 
+-- a tree of n steps of mixing total u takes, with a weight above 0, only choices that pass the test
+abbrev pub Takes : Mdp → (ℕ → ℕ → Bool) → ℕ → ℕ → Tree → ℕ → Type 0
+Takes m inner u zero t s = Unit {0}
+Takes m inner u (suc n) leaf s = ⊥
+Takes m inner u (suc n) (node weights kids) s =
+    (count_at (mdp.choices_at m s) (λ c x. weights c) ≡ u)
+    × EachAt (mdp.choices_at m s) (λ c x. 0 < weights c → (inner s c ≡ true) × EachAt x.row (λ e y. Takes m inner u n (kids c e) y.target))
+
 -- all biases lie between these two
 pub record LieBetween (n : ℕ) (bias : ℕ → ℚ) (low high : ℚ) : Type 0 where
   pub least : (s : ℕ) → s < n → low ≤ℚ bias s
@@ -32,13 +41,13 @@ pub record LieBetween (n : ℕ) (bias : ℕ → ℚ) (low high : ℚ) : Type 0 w
 abbrev pub NoTreeEarnsMore : Type 0
 NoTreeEarnsMore =
     (m : Mdp) (r : ℕ) (inner : ℕ → ℕ → Bool) (gain low high : ℚ) (bias : ℕ → ℚ) → IsMdp m → NoneBetter (component_of Max m r inner) gain bias → LieBetween (states_of m) bias low high
-    → (n u : ℕ) (t : Tree) (s : ℕ) → 0 < u → s < states_of m → Keeps m (λ v c. inner v c ≡ true) u n t s → total m r u n t s ≤ℚ whole n *ℚ gain +ℚ (high -ℚ low)
+    → (n u : ℕ) (t : Tree) (s : ℕ) → 0 < u → s < states_of m → Takes m inner u n t s → total m r u n t s ≤ℚ whole n *ℚ gain +ℚ (high -ℚ low)
 
 -- and for the least gain at least as much
 abbrev pub NoTreeEarnsLess : Type 0
 NoTreeEarnsLess =
     (m : Mdp) (r : ℕ) (inner : ℕ → ℕ → Bool) (gain low high : ℚ) (bias : ℕ → ℚ) → IsMdp m → NoneBetter (component_of Min m r inner) gain bias → LieBetween (states_of m) bias low high
-    → (n u : ℕ) (t : Tree) (s : ℕ) → 0 < u → s < states_of m → Keeps m (λ v c. inner v c ≡ true) u n t s → whole n *ℚ gain ≤ℚ total m r u n t s +ℚ (high -ℚ low)
+    → (n u : ℕ) (t : Tree) (s : ℕ) → 0 < u → s < states_of m → Takes m inner u n t s → whole n *ℚ gain ≤ℚ total m r u n t s +ℚ (high -ℚ low)
 
 -- ---- an end component
 
