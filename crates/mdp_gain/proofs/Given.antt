@@ -7,12 +7,19 @@ use Rattle.mdp_spec.specs.Mdp.{Entry, Mdp, states_of, row_at}
 use Rattle.mdp_spec.specs.Row.{IsMdp}
 use Rattle.mdp_spec.specs.Unit.{reward_of}
 use Rattle.mdp_graph.specs.Sets.{marked}
-use Rattle.std.proofs.Common.{eqb}
+use Rattle.std.proofs.Common.{eqb, ◌⊎◌, inl, inr, map, zero-add}
+use Rattle.std.specs.List.{range_with_len}
+use Rattle.std.specs.Prelude.{slice_index}
+use Rattle.std.proofs.lemmas.List.FromFn.{get_or-map-range_with_len}
+use Rattle.mdp_spec.specs.Tree as tree
+use Rattle.mdp_unichain.proofs.Improving.{inner-below}
+use Rattle.mdp_unichain.proofs.Improving.{state-below as state-below-of}
+use Rattle.mdp_unichain.proofs.Reaching.{test_or_not}
 use Rattle.std.specs.Option.{option_eq}
 use Rattle.std.specs.Prelude.{slice_index_or}
 use Rattle.mdp_ends.specs.Ends.{has_number, part_of, in_part, is_inside}
 use Rattle.mdp_parts.specs.FoundEnds.{inner_at}
-use Rattle.mdp_unichain.specs.Component.{Component, Choice, count, choices_at, choice_at, is_state}
+use Rattle.mdp_unichain.specs.Component.{Component, Choice, count, choices_at, choice_at, is_state, IsPolicy, row_by}
 use Rattle.mdp_unichain.specs.Part.{IsPart, is_inner}
 use Rattle.mdp_unichain.proofs.Parts.{part-state, part-count, part-choices, part-choice, inner_member, part-component}
 use Rattle.mdp_gain.specs.Code.{IsGiven, component_in}
@@ -68,3 +75,33 @@ module _ (x : EndComponent) (g : IsGiven x) (known : IsMdp x.model.now) (s c : �
 
   pub inner-out : is_state (component_in x) s ≡ false → false ≡ (choice_at (component_in x) s c).inner
   inner-out h = ap (λ b. b && is_inside x.model.now x.ends.now.parts s c) (sym (sym (member-is x g known s) ∙ h)) ∙ sym (inner-is x s c l k)
+
+-- a policy has a choice for each state of the model
+module _ (x : EndComponent) (known : IsMdp x.model.now) (policy : List ℕ) (is : IsPolicy (component_in x) policy) where
+  policy_by : (s : ℕ) → s < count (component_in x) → (is_state (component_in x) s ≡ true) ⊎ (is_state (component_in x) s ≡ false)
+      → slice_index policy s < length (choices_at (component_in x) s)
+  policy_by s l (inl h) = inner-below (component_in x) s (slice_index policy s) (is.inner s h)
+  policy_by s l (inr h) =
+      let n = choices-are x s l in
+      let e = is.outside s h in
+      let some = known.choice s (state-below x s l) in
+      omega arith
+
+  pub policy-below : (s : ℕ) → s < count (component_in x) → slice_index policy s < length (choices_at (component_in x) s)
+  policy-below s l = policy_by s l (test_or_not (is_state (component_in x) s))
+
+  pub model-policy : tree.IsPolicy x.model.now policy
+  model-policy = record {
+    one_each = is.len ∙ count-is x;
+    in_range = λ s l.
+        let n = count-is x in
+        let b : s < count (component_in x) = omega (arith, l, n) in
+        choice-below x s (slice_index policy s) b (policy-below s b);
+  }
+
+  pub row-of-policy : (s : ℕ) → is_state (component_in x) s ≡ true
+      → slice_index_or (map (λ s. row_at x.model.now s (slice_index policy s)) (range_with_len 0 (states_of x.model.now))) s [] ≡ row_by (component_in x) policy s
+  row-of-policy s h =
+      let b = state-below-of (component_in x) s h in
+      get_or-map-range_with_len (λ s. row_at x.model.now s (slice_index policy s)) 0 (states_of x.model.now) s s [] (state-below x s b) (zero-add s)
+      ∙ sym (row-is x s (slice_index policy s) b (policy-below s b))

@@ -1,2 +1,6 @@
-mod Given
 mod Answering
+mod BestInner
+mod GainLaws
+mod Given
+mod Listed
+mod Told

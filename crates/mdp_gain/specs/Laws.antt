@@ -5,15 +5,15 @@ use Rattle.mdp_spec.specs.Mdp.{Mdp, states_of}
 use Rattle.mdp_spec.specs.Tree.{Tree}
 use Rattle.mdp_spec.specs.Pay.{total}
 use Rattle.mdp_spec.specs.Bounds.{whole}
-use Rattle.mdp_spec.proofs.Keeping.{Keeps}
 use Rattle.mdp_rows.specs.declared.dir.Dir.{Dir}
 use Rattle.mdp_rows.specs.declared.dir.Dir.TheVariants.{Max, Min}
-use Rattle.mdp_ends.specs.Ends.{in_part, is_inside}
+use Rattle.mdp_ends.specs.Ends.{in_part}
 use Rattle.mdp_path.specs.Queries.{WideTerm}
 use Rattle.mdp_path.specs.Values.{IsAsGood}
 pub use Rattle.mdp_unichain.specs.Part.{IsPart}
+use Rattle.mdp_unichain.specs.Model.{Takes}
 use Rattle.mdp_unichain.specs.Improvement.{IsEvaluated}
-use Rattle.mdp_gain.specs.Query.{Answer, inner_component, EndsSo}
+use Rattle.mdp_gain.specs.Query.{Answer, is_inner, inner_component, EndsSo}
 use Rattle.mdp_gain.specs.Best.{IsBestInner}
 
 -- a query has exactly one end
@@ -38,17 +38,17 @@ NoPolicyIsBetter =
     (dir : Dir) (m : Mdp) (parts : List (Option ℕ)) (i r : ℕ) (a : Answer) → IsPart m parts i → IsBestInner dir m parts i r a
     → (policy : List ℕ) (t : ℕ) (gain : ℚ) (bias : ℕ → ℚ) → IsEvaluated (inner_component dir m parts i r) policy t gain bias → IsAsGood dir a.gain gain
 
--- the steps of a tree that uses choices of the component alone earn at most the greatest gain in the mean, up to an amount that doesn't depend on the
+-- the steps of a tree that takes choices of the component alone earn at most the greatest gain in the mean, up to an amount that doesn't depend on the
 -- tree or on the number of steps
 abbrev pub NoTreeEarnsMore : Type 0
 NoTreeEarnsMore =
     (m : Mdp) (parts : List (Option ℕ)) (i r : ℕ) (a : Answer) → IsPart m parts i → IsBestInner Max m parts i r a
-    → (spread : ℚ) × ((n u : ℕ) (t : Tree) (s : ℕ) → 1 ≤ u → s < states_of m → in_part parts i s ≡ true → Keeps m (λ v c. is_inside m parts v c ≡ true) u n t s
+    → (spread : ℚ) × ((n u : ℕ) (t : Tree) (s : ℕ) → 1 ≤ u → s < states_of m → in_part parts i s ≡ true → Takes m (is_inner m parts i) u n t s
     → total m r u n t s ≤ℚ whole n *ℚ a.gain +ℚ spread)
 
 -- and at least the least gain
 abbrev pub NoTreeEarnsLess : Type 0
 NoTreeEarnsLess =
     (m : Mdp) (parts : List (Option ℕ)) (i r : ℕ) (a : Answer) → IsPart m parts i → IsBestInner Min m parts i r a
-    → (spread : ℚ) × ((n u : ℕ) (t : Tree) (s : ℕ) → 1 ≤ u → s < states_of m → in_part parts i s ≡ true → Keeps m (λ v c. is_inside m parts v c ≡ true) u n t s
+    → (spread : ℚ) × ((n u : ℕ) (t : Tree) (s : ℕ) → 1 ≤ u → s < states_of m → in_part parts i s ≡ true → Takes m (is_inner m parts i) u n t s
     → whole n *ℚ a.gain ≤ℚ total m r u n t s +ℚ spread)

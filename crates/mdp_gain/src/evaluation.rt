@@ -61,6 +61,7 @@ fn rewards(
     requires policy { IsPolicy (component_in component.now) policy.now }
     ensures { IfOk result (λ rewards. rewards.items ≡ rewards_of (component_in component.now) policy.now) }
 {
+    component.known();
     let mut rewards = Vec::new(alloc);
     for s in 0..component.count() {
         rewards.push(component.reward(s, policy[s as usize]))?;
@@ -130,6 +131,7 @@ fn ratio(
     requires positive { of_int (pos 1) ≤ℚ of_int (pos 1) +ℚ mean (row_by (component_in component.now) policy.now t) (value_at y.now) }
     ensures { result_ok result ≡ written_ratio (component_in component.now) policy.now t x.now y.now }
 {
+    component.known();
     let choice = policy[t as usize];
     let row = component.row(t, choice);
     let earned = row.sum(&component.reward(t, choice), x)?;

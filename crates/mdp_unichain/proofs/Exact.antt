@@ -234,13 +234,16 @@ module _ (p : Component) (policy : List ℕ) (t : ℕ) (known : IsComponent p) (
   -- rows that are the policy's at the states of the component make the same system, whatever they are elsewhere
   module _ (rows : List (List Entry)) (len : length rows ≡ count p) (same : (s : ℕ) → is_state p s ≡ true → row_of rows s ≡ row_by p policy s) where
     pub rows-leave : (ranks : List ℕ) × Leaves rows (active_of p t) ranks
-    rows-leave = (ranks, record {
-      falls = λ s l a.
-          let h = active-state (is_state p) t s (sym (active-at s) ∙ a) in
-          let b = state-below p s h in
-          subst (λ (r : List Entry). Any (λ x. (is_active (active_of p t) x.target ≡ false) ⊎ (slice_index ranks x.target < slice_index ranks s)) r) (row-state s h ∙ sym (same s h))
-          (leaves.falls s (let n = rows-len in omega arith) a);
-    })
+    rows-leave = (
+      ranks,
+      record {
+        falls = λ s l a.
+            let h = active-state (is_state p) t s (sym (active-at s) ∙ a) in
+            let b = state-below p s h in
+            subst (λ (r : List Entry). Any (λ x. (is_active (active_of p t) x.target ≡ false) ⊎ (slice_index ranks x.target < slice_index ranks s)) r) (row-state s h ∙ sym (same s h))
+            (leaves.falls s (let n = rows-len in omega arith) a);
+      },
+    )
 
     equation_by : (columns : List (List ℚ)) (s : ℕ) (b : Bool) → is_active (active_of p t) s ≡ b → equation_of rows (active_of p t) columns s ≡ equation_of (rows_of p policy) (active_of p t) columns s
     unfolding equation_of
@@ -251,8 +254,10 @@ module _ (p : Component) (policy : List ℕ) (t : ℕ) (known : IsComponent p) (
         made : List (List ℚ) → ℕ → List Entry → Equation
         made columns s r = record { entries = inner (active_of p t) r; first = column_at columns 0 s; second = column_at columns 1 s }
     equation_by columns s false e =
-        ap (λ (b : Bool). let q : Equation = if b then record { entries = inner (active_of p t) (row_of rows s); first = column_at columns 0 s; second = column_at columns 1 s } else no_equation in q) e
-        ∙ sym (ap (λ (b : Bool). let q : Equation = if b then record { entries = inner (active_of p t) (row_of (rows_of p policy) s); first = column_at columns 0 s; second = column_at columns 1 s } else no_equation in q) e)
+        ap (λ (b : Bool). let q : Equation = if b then record { entries = inner (active_of p t)
+        (row_of rows s); first = column_at columns 0 s; second = column_at columns 1 s } else no_equation in q) e
+        ∙ sym (ap (λ (b : Bool). let q : Equation = if b then record { entries = inner (active_of p t)
+        (row_of (rows_of p policy) s); first = column_at columns 0 s; second = column_at columns 1 s } else no_equation in q) e)
 
     same-system : (columns : List (List ℚ)) → system rows (active_of p t) columns ≡ system (rows_of p policy) (active_of p t) columns
     same-system columns =

@@ -298,9 +298,16 @@ class_within (suc fuel) n row states chain s h l =
           let part = f.2.1 in
           let k : count_below part.0 n < count_below states n = count-lt part.0 states n f.0 (λ u i e. IsPart.inside part.1 u e) f.1 part.2 f.2.0 in
           let some = IsPart.some part.1 in
-          let c = class_within fuel n row part.0 (part-chain states n row part.0 chain part.1) some.0 some.1 (omega arith) in
-          (c.0, record { some = IsClosedClass.some c.1; states = λ u e. IsPart.inside part.1 u
-          (IsClosedClass.states c.1 u e); closed = IsClosedClass.closed c.1; connected = IsClosedClass.connected c.1 })
+          let c = class_within fuel n row part.0 (part-chain states n row part.0 chain part.1) some.0 some.1 (omega arith) in (
+            c.0,
+            record {
+              some = IsClosedClass.some c.1;
+              states = λ u e. IsPart.inside part.1 u
+                  (IsClosedClass.states c.1 u e);
+              closed = IsClosedClass.closed c.1;
+              connected = IsClosedClass.connected c.1;
+            },
+          )
       | inr q ↦ (states, record { some = (s, h); states = λ u e. e; closed = chain.stays; connected = λ t e. q t (chain.below t e) e })
     ]
 

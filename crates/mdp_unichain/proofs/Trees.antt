@@ -22,8 +22,6 @@ use Rattle.mdp_unichain.specs.Component as component
 use Rattle.mdp_math.specs.Sum.{EachAt}
 use Rattle.mdp_math.proofs.SumsAt.{EachAt_mono, EachAt_both}
 use Rattle.mdp_spec.specs.Row.{IsRow}
-use Rattle.mdp_spec.specs.Unit.{count_at}
-use Rattle.mdp_spec.specs.Tree.Tree.{leaf, node}
 use Rattle.mdp_spec.proofs.Rows.{rows_known, targets_at, row_weigh-scale, row_weigh-line, row_weigh-const}
 use Rattle.mdp_spec.proofs.Steps.{Uses, at_most_by_steps, goes-scale, total_goes}
 use Rattle.mdp_spec.specs.Mdp as mdp
@@ -80,7 +78,8 @@ module _ (m : Mdp) (r u : ℕ) (known_ : IsMdp m) (hu : 1 ≤ u) (inner : ℕ �
       (sym (row_weigh-scale (row_at m s d) sign g))
       (subst (λ (w : ℚ). sign *ℚ reward_of (mdp.choice_at m s d) r +ℚ (whole n *ℚ (sign *ℚ row_weigh g (row_at m s d)) +ℚ (w -ℚ c)) ≤ℚ whole (suc n) *ℚ (sign *ℚ g s) +ℚ (sign *ℚ a s -ℚ c))
       (sym (row_weigh-scale (row_at m s d) sign a))
-      (mean_step sign (reward_of (mdp.choice_at m s d) r) (row_weigh g (row_at m s d)) (row_weigh a (row_at m s d)) (whole n) (whole (suc n)) (g s) (a s) c (of_nat-suc n) (of_nat-nonneg n) (gain s d h ok i) (bias s d h ok i)))))
+      (mean_step sign (reward_of (mdp.choice_at m s d) r) (row_weigh g (row_at m s d)) (row_weigh a (row_at m s d)) (whole n) (whole (suc n)) (g s) (a s) c (of_nat-suc n) (of_nat-nonneg n)
+      (gain s d h ok i) (bias s d h ok i)))))
       n t s (h, takes)
 
   -- where they cover the choices, no tree earns more than the gain in each step, up to the width of the relative values
