@@ -6,10 +6,11 @@ use Rattle.mdp_num.specs.declared.errors.Wide.{Wide}
 use Rattle.mdp_elim.specs.declared.too_wide.Kind.{Kind}
 use Rattle.mdp_path.specs.Places.{Place, at_place}
 use Rattle.mdp_path.specs.Candidates.{Best}
-use Rattle.mdp_path.specs.Path.{comparing}
+use Rattle.std.specs.Prelude.{slice_index}
+use Rattle.mdp_path.specs.Path.{comparing, or_kept}
 use Rattle.mdp_unichain.specs.Component.{Component, choices_at, choice_at}
 use Rattle.mdp_unichain.specs.Sums.{compared}
-use Rattle.mdp_unichain.specs.Written.{then_compared, best_of}
+use Rattle.mdp_unichain.specs.Written.{then_compared, best_of, choice_over}
 use Rattle.mdp_gain.specs.Faults.{placed_at, Says, Answers}
 use Rattle.mdp_gain.specs.declared.errors.RoundError.{RoundError}
 use Rattle.mdp_gain.specs.declared.errors.RoundError.TheVariants as fault
@@ -75,3 +76,10 @@ module _ (p : Component) (x : List ℚ) (s : ℕ) (present : ℚ) where
   pub best_of-more : (c n : ℕ) (best after : Best) → best_of p x s present c ≡ Ok best → compared p.dir x c (choice_at p s c) best ≡ Some after → n ≡ suc c
       → best_of p x s present n ≡ Ok after
   best_of-more c n best after h e q = ap (best_of p x s present) q ∙ ap (after_choice c) h ∙ ap (at_place (comparing s c)) e
+
+-- so the choice over the present value is refused there
+pub wide-over : (p : Component) (policy : List ℕ) (gain : ℚ) (bias : List ℚ) (s : ℕ) (present : ℚ) (c : ℕ) (best : Best) → best_of p bias s present c ≡ Ok best
+    → compared p.dir bias c (choice_at p s c) best ≡ None → c < length (choices_at p s)
+    → choice_over p policy (record { gain = gain; bias = bias }) s present ≡ Err (comparing s c)
+wide-over p policy gain bias s present c best h e l =
+    ap (λ (r : Result Best Place). r >>= (λ b. Ok (or_kept b.choice (slice_index policy s)))) (wide-from p bias s present c best h e l)

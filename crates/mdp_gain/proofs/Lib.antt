@@ -1,5 +1,6 @@
 mod Answering
 mod BestInner
+mod Columns
 mod GainLaws
 mod Given
 mod Listed

@@ -3,7 +3,8 @@ use Rattle.std.proofs.Common.{◌≡◌, ℕ, Bool, true, false, if◌then◌els
 use Rattle.std.specs.Prelude.{slice_index}
 use Rattle.std.specs.Result.{result_ok}
 use Rattle.mdp_math.specs.Rational.{ℚ, of_int, ◌+ℚ◌, ◌≤ℚ◌}
-use Rattle.mdp_math.proofs.Order.{0ℚ, 1ℚ, one-pos, clash_ℚ}
+use Rattle.mdp_math.proofs.Order.{0ℚ, 1ℚ, clash_ℚ}
+use Rattle.mdp_math.proofs.Whole.{one-pos}
 use Rattle.mdp_num.specs.declared.errors.Wide.{Wide}
 use Rattle.mdp_elim.specs.declared.too_wide.Kind.TheVariants.{Evaluate}
 use Rattle.mdp_spec.specs.Mdp.{Entry, value_at}

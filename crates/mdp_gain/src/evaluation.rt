@@ -14,7 +14,7 @@ ghost use Rattle.mdp_gain.specs.Faults.{placed_at, Answers};
 
 use crate::component::EndComponent;
 use crate::errors::RoundError;
-use mdp_elim::{ElimError, Kind, solve_leaving};
+use mdp_elim::{ElimError, Kind, solution_law, solve_leaving};
 use mdp_num::{Frac, Wide};
 use mdp_rows::{Marks, PolicyRows};
 use std::alloc::{AllocError, Global};
@@ -222,6 +222,8 @@ pub(crate) fn evaluate(
     ensures value { Answers values_in result (written_values (component_in component.now) policy.now t) }
     ensures count { IfOk result (λ values. length values.bias.items ≡ count (component_in component.now)) }
 {
+    component.known();
+    solution_law();
     let columns = columns(alloc, component, policy, t)?;
     let (x, y) = (&columns[0], &columns[1]);
     let gain = at_state(ratio(component, policy, t, x, y), policy, t)?;
