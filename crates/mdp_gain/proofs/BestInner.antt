@@ -113,12 +113,15 @@ module _ (dir : Dir) (m : Mdp) (parts : List (Option ℕ)) (i r : ℕ) (k : IsPa
           worth-same s (taken_at answer s) e
           ∙ ap (λ c. worth (value_at found.values.bias) (choice_at p s c)) (taken-same s (state s h))
           ∙ IsGain.step gain_is s (state s h) ∙ ap (λ (w : ℚ). found.values.gain +ℚ w) (sym (bias-same s));
-      one_class = (found.reference, record {
-        state = member found.reference (AllLeadTo.state leads);
-        rank = AllLeadTo.rank leads;
-        falls = λ s h o.
-            subst (λ (es : List Entry). Any (λ y. AllLeadTo.rank leads y.target < AllLeadTo.rank leads s) es) (row-taken s (state s h)) (AllLeadTo.falls leads s (state s h) o);
-      });
+      one_class = (
+        found.reference,
+        record {
+          state = member found.reference (AllLeadTo.state leads);
+          rank = AllLeadTo.rank leads;
+          falls = λ s h o.
+              subst (λ (es : List Entry). Any (λ y. AllLeadTo.rank leads y.target < AllLeadTo.rank leads s) es) (row-taken s (state s h)) (AllLeadTo.falls leads s (state s h) o);
+        },
+      );
     }
 
   -- ---- what a best gain says
@@ -138,13 +141,15 @@ module _ (dir : Dir) (m : Mdp) (parts : List (Option ℕ)) (i r : ℕ) (k : IsPa
       none_better = none_is_better;
       earns = λ s h. worth-is (bias_at a) s (taken_at a s) (best.takes s (below s h) (member s h)) ∙ best.earns s (below s h) (member s h);
       one_class =
-          let t = best.one_class in
-          (t.0, record {
-            state = state t.0 (AllLeadTo.state t.1);
-            rank = AllLeadTo.rank t.1;
-            falls = λ s h o.
-                let e = best.takes s (below s h) (member s h) in
-                subst (λ (es : List Entry). Any (λ y. AllLeadTo.rank t.1 y.target < AllLeadTo.rank t.1 s) es)
-                (sym (ap Choice.row (part-choice dir m parts i r s (taken_at a s) e.state e.choice))) (AllLeadTo.falls t.1 s (member s h) o);
-          });
+          let t = best.one_class in (
+            t.0,
+            record {
+              state = state t.0 (AllLeadTo.state t.1);
+              rank = AllLeadTo.rank t.1;
+              falls = λ s h o.
+                  let e = best.takes s (below s h) (member s h) in
+                  subst (λ (es : List Entry). Any (λ y. AllLeadTo.rank t.1 y.target < AllLeadTo.rank t.1 s) es)
+                  (sym (ap Choice.row (part-choice dir m parts i r s (taken_at a s) e.state e.choice))) (AllLeadTo.falls t.1 s (member s h) o);
+            },
+          );
     }

@@ -48,12 +48,15 @@ module _ (gives : GivesSolutions) (dir : Dir) (m : Mdp) (parts : List (Option �
       let c = known dir m parts i r k in
       let s = some_state in
       let f = has_one_first (inner_component dir m parts i r) s.0 c s.1 in
-      let e = has_one_end gives (inner_component dir m parts i r) f.0 c (first_is_start (inner_component dir m parts i r) f.0 c f.1) in
-      (after_path (members m parts i) i e.0, record { start = f.0; is_first = f.1; end = e.0; path = e.1; after = refl }, λ other h.
-      let same : EndsSo.start h ≡ f.0 = f.2 (EndsSo.start h) (EndsSo.is_first h) in
-      let end : EndsSo.end h ≡ e.0 =
-      sym (e.2 (EndsSo.end h) (subst (λ (start : List ℕ). EndsWith (Makes (inner_component dir m parts i r)) (first start) (EndsSo.end h)) same (EndsSo.path h))) in
-      EndsSo.after h ∙ ap (after_path (members m parts i) i) end)
+      let e = has_one_end gives (inner_component dir m parts i r) f.0 c (first_is_start (inner_component dir m parts i r) f.0 c f.1) in (
+        after_path (members m parts i) i e.0,
+        record { start = f.0; is_first = f.1; end = e.0; path = e.1; after = refl },
+        λ other h.
+            let same : EndsSo.start h ≡ f.0 = f.2 (EndsSo.start h) (EndsSo.is_first h) in
+            let end : EndsSo.end h ≡ e.0 =
+            sym (e.2 (EndsSo.end h) (subst (λ (start : List ℕ). EndsWith (Makes (inner_component dir m parts i r)) (first start) (EndsSo.end h)) same (EndsSo.path h))) in
+            EndsSo.after h ∙ ap (after_path (members m parts i) i) end,
+      )
 
   answered : (a : Answer) (start : List ℕ) → IsFirst (inner_component dir m parts i r) start → (end : Result Found Refusal)
       → EndsWith (Makes (inner_component dir m parts i r)) (first start) end
@@ -97,13 +100,17 @@ module _ (m : Mdp) (a : Answer) where
   }
 
 pub no_tree_more : NoTreeEarnsMore
-no_tree_more m parts i r a k x =
-    (greatest (biases m a) -ℚ least (biases m a), λ n u t s hu l h takes.
-    no_tree_earns_more m r (is_inner m parts i) a.gain (least (biases m a)) (greatest (biases m a)) (bias_at a) (IsPart.model k) (none_is_better Max m parts i r k a x) (between m a)
-    n u t s hu l takes)
+no_tree_more m parts i r a k x = (
+  greatest (biases m a) -ℚ least (biases m a),
+  λ n u t s hu l h takes.
+      no_tree_earns_more m r (is_inner m parts i) a.gain (least (biases m a)) (greatest (biases m a)) (bias_at a) (IsPart.model k) (none_is_better Max m parts i r k a x) (between m a)
+      n u t s hu l takes,
+)
 
 pub no_tree_less : NoTreeEarnsLess
-no_tree_less m parts i r a k x =
-    (greatest (biases m a) -ℚ least (biases m a), λ n u t s hu l h takes.
-    no_tree_earns_less m r (is_inner m parts i) a.gain (least (biases m a)) (greatest (biases m a)) (bias_at a) (IsPart.model k) (none_is_better Min m parts i r k a x) (between m a)
-    n u t s hu l takes)
+no_tree_less m parts i r a k x = (
+  greatest (biases m a) -ℚ least (biases m a),
+  λ n u t s hu l h takes.
+      no_tree_earns_less m r (is_inner m parts i) a.gain (least (biases m a)) (greatest (biases m a)) (bias_at a) (IsPart.model k) (none_is_better Min m parts i r k a x) (between m a)
+      n u t s hu l takes,
+)

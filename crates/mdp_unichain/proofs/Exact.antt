@@ -254,10 +254,18 @@ module _ (p : Component) (policy : List ℕ) (t : ℕ) (known : IsComponent p) (
         made : List (List ℚ) → ℕ → List Entry → Equation
         made columns s r = record { entries = inner (active_of p t) r; first = column_at columns 0 s; second = column_at columns 1 s }
     equation_by columns s false e =
-        ap (λ (b : Bool). let q : Equation = if b then record { entries = inner (active_of p t)
-        (row_of rows s); first = column_at columns 0 s; second = column_at columns 1 s } else no_equation in q) e
-        ∙ sym (ap (λ (b : Bool). let q : Equation = if b then record { entries = inner (active_of p t)
-        (row_of (rows_of p policy) s); first = column_at columns 0 s; second = column_at columns 1 s } else no_equation in q) e)
+        ap (λ (b : Bool). let q : Equation = if b then record {
+          entries = inner (active_of p t)
+              (row_of rows s);
+          first = column_at columns 0 s;
+          second = column_at columns 1 s;
+        } else no_equation in q) e
+        ∙ sym (ap (λ (b : Bool). let q : Equation = if b then record {
+          entries = inner (active_of p t)
+              (row_of (rows_of p policy) s);
+          first = column_at columns 0 s;
+          second = column_at columns 1 s;
+        } else no_equation in q) e)
 
     same-system : (columns : List (List ℚ)) → system rows (active_of p t) columns ≡ system (rows_of p policy) (active_of p t) columns
     same-system columns =
