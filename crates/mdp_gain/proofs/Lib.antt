@@ -4,4 +4,5 @@ mod Columns
 mod GainLaws
 mod Given
 mod Listed
+mod NextPolicy
 mod Told

@@ -1,4 +1,4 @@
-ghost use Rattle.std.specs.Prelude.{ℕ, ◌≡◌, ◌<◌, ◌^◌, length, map, slice_index, IfOk, OnOk};
+ghost use Rattle.std.specs.Prelude.{ℕ, ◌==◌, not, ◌≡◌, ◌<◌, ◌^◌, length, map, slice_index, IfOk, OnOk};
 ghost use Rattle.std.specs.List.{All, find, range_with_len};
 ghost use Rattle.mdp_spec.specs.Mdp.{states_of, choices_at};
 ghost use Rattle.mdp_graph.specs.Sets.{marked};
@@ -7,7 +7,7 @@ ghost use Rattle.mdp_parts.specs.Allowed.{allowed_at, AreChoices};
 ghost use Rattle.mdp_unichain.specs.Chain.{AllLeadTo, IsReference};
 ghost use Rattle.mdp_unichain.specs.Component.{Component, count, is_state, row_by, IsPolicy};
 ghost use Rattle.mdp_gain.specs.Code.{IsGiven, component_in};
-ghost use Rattle.mdp_gain.specs.Classes.{TakesAt};
+ghost use Rattle.mdp_gain.specs.Classes.{TakesAt, TakesAll};
 ghost use Rattle.mdp_unichain.specs.Classes.{takes, leaves, differs, has_flag, shares_part, AreClasses, is_in_changed_class, Picks};
 
 use crate::component::EndComponent;
@@ -38,7 +38,7 @@ fn policy_choices(
     requires given { IsGiven component.now }
     requires policy { IsPolicy (component_in component.now) policy.now }
     ensures sizes { IfOk result (λ allowed. AreChoices component.now.model.now allowed) }
-    ensures taken { IfOk result (λ allowed. (s c : ℕ) → s < states_of component.now.model.now → c < length (choices_at component.now.model.now s) → allowed_at allowed s c ≡ takes (component_in component.now) policy.now s c) }
+    ensures taken { IfOk result (λ allowed. TakesAll component.now.model.now (component_in component.now) policy.now allowed) }
 {
     let mut allowed = Allowed::all(alloc, component.model)?;
     for s in 0..component.count() {
@@ -79,6 +79,13 @@ fn leaving(
         .collect(alloc)
 }
 
+/// Whether two choices differ.
+fn is_other(choice: u32, other: u32) -> bool
+    ensures { result ≡ not (other == choice) }
+{
+    other != choice
+}
+
 /// For each state whether two policies differ there.
 fn differing(alloc: Global, policy: &[u32], improved: &[u32]) -> Result<Vec<bool>, AllocError>
     requires { length improved.now ≡ length policy.now }
@@ -86,7 +93,7 @@ fn differing(alloc: Global, policy: &[u32], improved: &[u32]) -> Result<Vec<bool
 {
     let mut flags = Vec::new(alloc);
     for s in 0..policy.len() {
-        flags.push(improved[s] != policy[s])?;
+        flags.push(is_other(policy[s], improved[s]))?;
     }
     Ok(flags)
 }
@@ -150,6 +157,17 @@ pub(crate) fn reference(
     Ok(least.unwrap_or(0))
 }
 
+/// Whether state `s` of the component is in the part of state `t`.
+fn shares_part(component: &EndComponent<'_, '_>, parts: &[u32], t: u32, s: u32) -> bool
+    requires given { IsGiven component.now }
+    requires parts { length parts.now ≡ count (component_in component.now) }
+    requires target { t < count (component_in component.now) }
+    requires state { s < count (component_in component.now) }
+    ensures { result ≡ shares_part (component_in component.now) parts.now t s }
+{
+    component.holds(s) && parts[s as usize] == parts[t as usize]
+}
+
 /// The states of the component in the part of state `t`.
 fn class_of(
     alloc: Global,
@@ -164,7 +182,7 @@ fn class_of(
 {
     let mut class = Vec::new(alloc);
     for s in 0..component.count() {
-        class.push(component.holds(s) && parts[s as usize] == parts[t as usize])?;
+        class.push(shares_part(component, parts, t, s))?;
     }
     Ok(Marks::from_values(class))
 }

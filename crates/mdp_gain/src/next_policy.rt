@@ -12,6 +12,21 @@ use mdp_parts::toward;
 use mdp_rows::Marks;
 use std::alloc::{AllocError, Global};
 
+/// One list at a marked state, another elsewhere.
+fn joined_at(marks: &Marks, inside: &[u32], outside: &[u32], s: usize) -> u32
+    requires marks { s < length marks.now }
+    requires inside { s < length inside.now }
+    requires outside { s < length outside.now }
+    requires few { s < 2 ^ 32 }
+    ensures { result ≡ (if marked marks.now s then slice_index inside.now s else slice_index outside.now s) }
+{
+    if marks.at(s as u32) {
+        inside[s]
+    } else {
+        outside[s]
+    }
+}
+
 /// One list at the marked states, another at the others.
 fn joined(
     alloc: Global,
@@ -26,11 +41,7 @@ fn joined(
 {
     let mut both = Vec::new(alloc);
     for s in 0..outside.len() {
-        both.push(if marks.at(s as u32) {
-            inside[s]
-        } else {
-            outside[s]
-        })?;
+        both.push(joined_at(marks, inside, outside, s))?;
     }
     Ok(both)
 }
