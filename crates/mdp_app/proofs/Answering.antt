@@ -3,9 +3,9 @@ use Rattle.std.proofs.Common.{◌≡◌, ℕ, inl, inr, Bool, true, false, List,
 use Rattle.mdp_spec.specs.Mdp.{Mdp}
 use Rattle.mdp_rows.specs.declared.dir.Dir.{Dir}
 use Rattle.mdp_drn.specs.FromSource.{HadLeft}
-use Rattle.mdp_job.specs.Job.{solve, check, drill, horizon, Asked, reads_model, reads_second}
-use Rattle.mdp_job.specs.Refusal.{PlainRefusal, no_job, model_text, query_size, query_reward, query_label, query_negative, query_steps, too_wide, check_wide, horizon_wide}
-use Rattle.mdp_job.specs.Refusal.{denied, read_model, read_certificate, long_model, long_certificate, cert_text, no_memory}
+use Rattle.mdp_job.specs.Job.{solve, check, drill, horizon, policy, Asked, reads_model, reads_second}
+use Rattle.mdp_job.specs.Refusal.{PlainRefusal, no_job, model_text, query_size, query_reward, query_label, query_negative, query_steps, query_choice, too_wide, check_wide, horizon_wide}
+use Rattle.mdp_job.specs.Refusal.{denied, read_model, read_certificate, long_model, long_certificate, cert_text, policy_text, no_memory}
 use Rattle.mdp_job.specs.Status.{status_of}
 use Rattle.mdp_job.specs.declared.status.Status.{Status}
 use Rattle.mdp_job.specs.declared.status.Status.TheVariants as status
@@ -16,6 +16,8 @@ use Rattle.mdp_solve_step.proofs.Solved.{solve_once}
 use Rattle.mdp_solve_step.specs.Due.{IsSolveDue}
 use Rattle.mdp_drill_step.proofs.Drilled.{due-once}
 use Rattle.mdp_horizon_step.specs.Due.{IsHorizonDue}
+use Rattle.mdp_policy_step.specs.Due.{IsPolicyDue}
+use Rattle.mdp_policy_step.proofs.Due.{policy_once}
 use Rattle.mdp_app.specs.Due.{check_due, IsDue}
 use Rattle.mdp_app.specs.Decided.{IsTextDecided, IsDecided, EndsWith}
 use Rattle.mdp_app.specs.Run.{IsFromBytes, HasCause, LeavesUnread, IsAnswered, IsWorkDone, IsDoneUnless, IsComplete}
@@ -30,6 +32,7 @@ refusal_status query_reward h = cc
 refusal_status query_label h = cc
 refusal_status query_negative h = cc
 refusal_status query_steps h = cc
+refusal_status query_choice h = cc
 refusal_status (too_wide w) h = cc
 refusal_status (check_wide state choice) h = cc
 refusal_status (horizon_wide depth state choice) h = cc
@@ -39,6 +42,7 @@ refusal_status read_certificate h = cc
 refusal_status long_model h = cc
 refusal_status long_certificate h = cc
 refusal_status (cert_text n kind) h = cc
+refusal_status (policy_text n kind) h = cc
 refusal_status no_memory h = cc
 
 -- what is due doesn't depend on bytes that the job doesn't read
@@ -50,6 +54,11 @@ horizon_once : (dir : Dir) (stay : Option (List ℕ)) (label : List ℕ) (steps 
     → IsDueToModel (IsHorizonDue dir stay label steps) read again → said ≡ again
 horizon_once dir stay label steps (Ok m) said again d e = d ∙ sym e
 horizon_once dir stay label steps (Err r) said again d e = d ∙ sym e
+
+value_once : (label : List ℕ) (other : List ℕ) (read : Result Mdp PlainRefusal) (said again : Said) → IsDueToModel (λ m. IsPolicyDue label m other) read said
+    → IsDueToModel (λ m. IsPolicyDue label m other) read again → said ≡ again
+value_once label other (Ok m) said again d e = policy_once label m other said again d e
+value_once label other (Err r) said again d e = d ∙ sym e
 
 -- what is due is due once
 due_once :
@@ -64,6 +73,10 @@ due_once (Ok (drill number layers width)) model second m s n t text said hn ht d
 due_once (Ok (horizon rule dir stay label steps)) model second m s n t text said hn ht due tm ts due_text =
     horizon_once dir stay label steps (model_due rule m) said (Ok text)
     (subst (λ (x : List ℕ). IsDueToModel (IsHorizonDue dir stay label steps) (model_due rule x) said) (had_told true model m n tm hn refl) due) due_text
+due_once (Ok (policy rule label)) model second m s n t text said hn ht due tm ts due_text =
+    value_once label s (model_due rule m) said (Ok text)
+    (subst (λ (x : List ℕ). IsDueToModel (λ k. IsPolicyDue label k x) (model_due rule m) said) (had_told true second s t ts ht refl)
+    (subst (λ (x : List ℕ). IsDueToModel (λ k. IsPolicyDue label k t) (model_due rule x) said) (had_told true model m n tm hn refl) due)) due_text
 due_once (Err e) model second m s n t text said hn ht due tm ts due_text = cc
 
 module _ (asked : Asked) (model second : Input) (out : Output) (ended : Status) where

@@ -10,10 +10,11 @@ use Rattle.std.proofs.lemmas.Bool.{and_parts, ltb-false}
 use Rattle.mdp_math.specs.Result.{◌>>=◌}
 use Rattle.mdp_rows.specs.declared.dir.Dir.{Dir}
 use Rattle.mdp_rows.specs.declared.rule.RowRule.{RowRule}
-use Rattle.mdp_job.specs.Job.{PlainQuery, solve, check, drill, horizon, Asked}
-use Rattle.mdp_job.specs.Words.{word_at, rule_of, dir_of, check_of, query_of, solve_of, whole_word, can_draw, drill_by, drill_with, drill_of, stay_of, steps_of, horizon_of, job_of_texts, job_of}
+use Rattle.mdp_job.specs.Job.{PlainQuery, solve, check, drill, horizon, policy, Asked}
+use Rattle.mdp_job.specs.Words.{word_at, rule_of, dir_of, check_of, query_of, solve_of, whole_word, can_draw, drill_by, drill_with, drill_of}
+use Rattle.mdp_job.specs.Words.{stay_of, steps_of, horizon_of, policy_of, job_of_texts, job_of}
 use Rattle.mdp_job.specs.declared.words_error.WordsError.{WordsError}
-use Rattle.mdp_job.specs.declared.words_error.WordsError.TheVariants.{Command, Number, Drill}
+use Rattle.mdp_job.specs.declared.words_error.WordsError.TheVariants.{Command, Number, Objective, Drill}
 
 -- where a drill is asked for, its numbers can be drawn
 abbrev pub IsDrawn : Asked → Type 0
@@ -21,6 +22,7 @@ IsDrawn (Ok (solve rule dir query)) = Unit {0}
 IsDrawn (Ok (check rule)) = Unit {0}
 IsDrawn (Ok (drill number layers width)) = can_draw number layers width ≡ true
 IsDrawn (Ok (horizon rule dir stay label steps)) = Unit {0}
+IsDrawn (Ok (policy rule label)) = Unit {0}
 IsDrawn (Err e) = Unit {0}
 
 either : (b : Bool) (x y : Asked) → IsDrawn x → IsDrawn y → IsDrawn (cond b x y)
@@ -60,11 +62,17 @@ horizon_drawn : (words : List (List ℕ)) → IsDrawn (horizon_of words)
 horizon_drawn words =
     either (length words == 6) _ (Err Number) (bind (rule_of (word_at words 1)) _ (λ rule. bind (dir_of (word_at words 2)) _ (λ dir. bind (steps_of (word_at words 5)) _ (λ steps. tt)))) tt
 
+policy_drawn : (words : List (List ℕ)) → IsDrawn (policy_of words)
+policy_drawn words =
+    either (length words == 5) _ (Err Number)
+    (bind (rule_of (word_at words 1)) _ (λ rule. either (bytes_eq (word_at words 3) (codes "reach")) (Ok (policy rule (word_at words 4))) (Err Objective) tt tt)) tt
+
 texts_drawn : (words : List (List ℕ)) → IsDrawn (job_of_texts words)
 texts_drawn [] = tt
 texts_drawn (command ∷ words) =
     either (bytes_eq command (codes "solve")) (solve_of words) _ (solve_drawn words) (either (bytes_eq command (codes "check")) (check_of words) _ (check_drawn words) (
-    either (bytes_eq command (codes "drill")) (drill_of words) _ (drill_drawn words) (either (bytes_eq command (codes "horizon")) (horizon_of words) (Err Command) (horizon_drawn words) tt)))
+    either (bytes_eq command (codes "drill")) (drill_of words) _ (drill_drawn words) (either (bytes_eq command (codes "horizon")) (horizon_of words) _ (horizon_drawn words) (
+    either (bytes_eq command (codes "policy")) (policy_of words) (Err Command) (policy_drawn words) tt))))
 
 drawn : (words : List (String Global)) (number layers width : ℕ) → Ok (drill number layers width) ≡ job_of words → can_draw number layers width ≡ true
 drawn words number layers width is = subst IsDrawn (sym is) (texts_drawn (map string_bytes words))

@@ -13,6 +13,7 @@ use mdp_edge::{Sink, Source, WriteFault, write_all};
 use mdp_horizon_step::horizon_file;
 use mdp_job::{Job, MEMORY_TEXT, Refusal, Status, job_of, push_refusal};
 use mdp_num::Memory;
+use mdp_policy_step::policy_file;
 use mdp_solve_step::solve_file;
 use std::alloc::Global;
 
@@ -44,6 +45,7 @@ fn decided<S: Source, C: Source>(
                 steps,
             },
         ) => horizon_file(alloc, rule, dir, stay, label, steps, model),
+        Ok(Job::Policy { rule, label }) => policy_file(alloc, rule, label, model, second),
         Err(error) => Err(Refusal::Words(error)),
     }
 }

@@ -12,12 +12,16 @@ use Rattle.mdp_rows.specs.Name.{is_name}
 use Rattle.mdp_rows.specs.declared.dir.Dir.{Dir}
 use Rattle.mdp_rows.specs.declared.dir.Dir.TheVariants.{Max, Min}
 use Rattle.mdp_cert.specs.declared.error.CertKind.TheVariants.{Claim}
-use Rattle.mdp_cert.specs.Cert.{PlainClaim, upper, reach, reward, mean, are_names}
+use Rattle.mdp_math.specs.Rational.{ℚ}
+use Rattle.mdp_num.specs.Value.{spelling, IsNarrow}
+use Rattle.mdp_num.specs.Canonical.{canonical_of}
+use Rattle.mdp_num.proofs.Spellings.{sound, complete}
+use Rattle.mdp_cert.specs.Cert.{PlainClaim, upper, reach, reward, mean, witness, are_names, is_at_least_zero, has_threshold, IsClaimInWidth}
 use Rattle.mdp_cert.specs.Lines.{or_refused}
 use Rattle.mdp_cert.specs.Spelling.{claim_text}
 use Rattle.mdp_cert.specs.Reading.{behind, closed_name, name_behind, is_quote, two_names, upper_claim, reach_front}
-use Rattle.mdp_cert.specs.Reading.{reach_claim, reward_front, reward_claim, mean_front, mean_claim, claim_to, claim_of, claim_at}
-use Rattle.mdp_cert.proofs.Pieces.{Free, free-append, free-name, quote-free-name}
+use Rattle.mdp_cert.specs.Reading.{reach_claim, reward_front, reward_claim, mean_front, mean_claim, threshold_of, name_and_threshold, witness_front, witness_claim, claim_to, claim_of, claim_at}
+use Rattle.mdp_cert.proofs.Pieces.{Free, free-append, free-name, quote-free-name, free-spelling}
 use Rattle.mdp_cert.proofs.Cuts.{bytes_same, bytes_self}
 use Rattle.mdp_cert.proofs.Feeds.{found_ok, byte-after}
 
@@ -82,14 +86,63 @@ two-again name label h g =
     let at : position_or_len is_quote (name ++ (34 ∷ 32 ∷ 34 ∷ (label ++ 34 ∷ []))) ≡ length name = byte-after 34 name (32 ∷ 34 ∷ (label ++ 34 ∷ [])) (quote-free-name name h) in
     rw (at, take-append_seam name (34 ∷ 32 ∷ 34 ∷ (label ++ 34 ∷ [])), drop-append_seam name (34 ∷ 32 ∷ 34 ∷ (label ++ 34 ∷ [])), h, name-again (codes "\" \"") label g) refl
 
--- ---- each claim
-
-abbrev IsClaim : List ℕ → PlainClaim → Type 0
-IsClaim text c = (text ≡ claim_text c) × (are_names c ≡ true)
+-- ---- a name and a threshold
 
 map-some : {A B : Type 0} (f : A → B) (o : Option A) (y : B) → option_map f o ≡ Some y → (x : A) × (o ≡ Some x) × (f x ≡ y)
 map-some f None y e = absurd cc
 map-some f (Some x) y e = (x, refl, cc)
+
+threshold-found : (word : List ℕ) (t : ℚ) → threshold_of word ≡ Some t → (word ≡ spelling t) × (is_at_least_zero t ≡ true) × IsNarrow t
+threshold-found word t e = by (canonical_of word) refl e
+  where
+    by : (o : Option ℚ) → canonical_of word ≡ o → (let from : ℚ → Option ℚ = λ x. cond (is_at_least_zero x) (Some x) None in option_and_then from o) ≡ Some t
+        → (word ≡ spelling t) × (is_at_least_zero t ≡ true) × IsNarrow t
+    by None f e = absurd cc
+    by (Some x) f e = at (is_at_least_zero x) refl e
+      where
+        at : (b : Bool) → is_at_least_zero x ≡ b → cond b (Some x) None ≡ Some t → (word ≡ spelling t) × (is_at_least_zero t ≡ true) × IsNarrow t
+        at true z e =
+            let is : x ≡ t = cc in
+            let s = sound word x f in
+            subst (λ (y : ℚ). (word ≡ spelling y) × (is_at_least_zero y ≡ true) × IsNarrow y) is (s.0, z, s.1)
+        at false z e = absurd cc
+
+said-found : (text : List ℕ) (said : List ℕ × ℚ) → name_and_threshold text ≡ Some said
+    → (text ≡ said.0 ++ (34 ∷ 32 ∷ spelling said.1)) × (is_name said.0 ≡ true) × (is_at_least_zero said.1 ≡ true) × IsNarrow said.1
+said-found text said e = by (is_name (before_first is_quote text)) refl (behind (codes "\" ") (drop (position_or_len is_quote text) text)) refl e
+  where
+    by : (b : Bool) → is_name (before_first is_quote text) ≡ b → (o : Option (List ℕ)) → behind (codes "\" ") (drop (position_or_len is_quote text) text) ≡ o
+        → cond b (option_map (λ t. (before_first is_quote text, t)) (option_and_then threshold_of o)) None ≡ Some said
+        → (text ≡ said.0 ++ (34 ∷ 32 ∷ spelling said.1)) × (is_name said.0 ≡ true) × (is_at_least_zero said.1 ≡ true) × IsNarrow said.1
+    by false h o f e = absurd cc
+    by true h None f e = absurd cc
+    by true h (Some word) f e =
+        let m = map-some (λ (t : ℚ). let p : List ℕ × ℚ = (before_first is_quote text, t) in p) (threshold_of word) said e in
+        let t = threshold-found word m.0 m.1 in
+        subst (λ (p : List ℕ × ℚ). (text ≡ p.0 ++ (34 ∷ 32 ∷ spelling p.1)) × (is_name p.0 ≡ true) × (is_at_least_zero p.1 ≡ true) × IsNarrow p.1) m.2 (
+          sym (take-append-drop (position_or_len is_quote text) text)
+              ∙ ap (λ (ys : List ℕ). before_first is_quote text ++ ys) (behind-found (codes "\" ") (drop (position_or_len is_quote text) text) word f ∙ ap (λ (w : List ℕ). 34 ∷ 32 ∷ w) t.0),
+          h,
+          t.1,
+          t.2,
+        )
+
+said-again : (name : List ℕ) (t : ℚ) → is_name name ≡ true → is_at_least_zero t ≡ true → IsNarrow t → name_and_threshold (name ++ (34 ∷ 32 ∷ spelling t)) ≡ Some (name, t)
+said-again name t h z narrow =
+    let at : position_or_len is_quote (name ++ (34 ∷ 32 ∷ spelling t)) ≡ length name = byte-after 34 name (32 ∷ spelling t) (quote-free-name name h) in
+    let read : threshold_of (spelling t) ≡ Some t = rw (complete t narrow, z) refl in
+    rw (at, take-append_seam name (34 ∷ 32 ∷ spelling t), drop-append_seam name (34 ∷ 32 ∷ spelling t), h, read) refl
+
+-- ---- each claim
+
+-- its names are names, and its threshold is from 0 on and in width
+pub record IsRight (c : PlainClaim) : Type 0 where
+  pub names : are_names c ≡ true
+  pub threshold : has_threshold c ≡ true
+  pub width : IsClaimInWidth c
+
+abbrev IsClaim : List ℕ → PlainClaim → Type 0
+IsClaim text c = (text ≡ claim_text c) × IsRight c
 
 or-found : {A : Type 0} (a b : Option A) (x : A) → option_or a b ≡ Some x → (a ≡ Some x) ⊎ (b ≡ Some x)
 or-found None b x e = inr e
@@ -99,7 +152,7 @@ upper-found : (text : List ℕ) (c : PlainClaim) → upper_claim text ≡ Some c
 upper-found text c e =
     let m = map-some upper (name_behind (codes "claim upper reach \"") text) c e in
     let f = name-found (codes "claim upper reach \"") text m.0 m.1 in
-    subst (IsClaim text) m.2 (f.0, f.1)
+    subst (IsClaim text) m.2 (f.0, record { names = f.1; threshold = refl; width = tt })
 
 reach-text : (dir : Dir) (label : List ℕ) → reach_front dir ++ (label ++ 34 ∷ []) ≡ claim_text (reach dir label)
 reach-text Max label = refl
@@ -109,7 +162,7 @@ reach-found : (dir : Dir) (text : List ℕ) (c : PlainClaim) → reach_claim dir
 reach-found dir text c e =
     let m = map-some (reach dir) (name_behind (reach_front dir) text) c e in
     let f = name-found (reach_front dir) text m.0 m.1 in
-    subst (IsClaim text) m.2 (f.0 ∙ reach-text dir m.0, f.1)
+    subst (IsClaim text) m.2 (f.0 ∙ reach-text dir m.0, record { names = f.1; threshold = refl; width = tt })
 
 reward-text : (dir : Dir) (name label : List ℕ) → reward_front dir ++ (name ++ (34 ∷ 32 ∷ 34 ∷ (label ++ 34 ∷ []))) ≡ claim_text (reward dir name label)
 reward-text Max name label = ap (λ (t : List ℕ). codes "claim max reward \"" ++ t) (sym (append_assoc name (34 ∷ []) (32 ∷ 34 ∷ (label ++ 34 ∷ []))))
@@ -128,7 +181,7 @@ reward-found dir text c e =
     by (Some rest) b names e =
         let t = two-found rest names e in (
           behind-found (reward_front dir) text rest b ∙ ap (λ (xs : List ℕ). reward_front dir ++ xs) t.0 ∙ reward-text dir names.0 names.1,
-          and-true _ _ t.1 t.2,
+          record { names = and-true _ _ t.1 t.2; threshold = refl; width = tt },
         )
 
 mean-text : (dir : Dir) (name : List ℕ) → mean_front dir ++ (name ++ 34 ∷ []) ≡ claim_text (mean dir name)
@@ -139,13 +192,33 @@ mean-found : (dir : Dir) (text : List ℕ) (c : PlainClaim) → mean_claim dir t
 mean-found dir text c e =
     let m = map-some (mean dir) (name_behind (mean_front dir) text) c e in
     let f = name-found (mean_front dir) text m.0 m.1 in
-    subst (IsClaim text) m.2 (f.0 ∙ mean-text dir m.0, f.1)
+    subst (IsClaim text) m.2 (f.0 ∙ mean-text dir m.0, record { names = f.1; threshold = refl; width = tt })
+
+witness-text : (dir : Dir) (label : List ℕ) (t : ℚ) → witness_front dir ++ (label ++ (34 ∷ 32 ∷ spelling t)) ≡ claim_text (witness dir label t)
+witness-text Max label t = ap (λ (u : List ℕ). codes "claim max witness \"" ++ u) (sym (append_assoc label (34 ∷ []) (32 ∷ spelling t)))
+witness-text Min label t = ap (λ (u : List ℕ). codes "claim min witness \"" ++ u) (sym (append_assoc label (34 ∷ []) (32 ∷ spelling t)))
+
+witness-found : (dir : Dir) (text : List ℕ) (c : PlainClaim) → witness_claim dir text ≡ Some c → IsClaim text c
+witness-found dir text c e =
+    let m = map-some (λ said. witness dir said.0 said.1) (option_and_then name_and_threshold (behind (witness_front dir) text)) c e in
+    subst (IsClaim text) m.2 (by (behind (witness_front dir) text) refl m.0 m.1)
+  where
+    by : (o : Option (List ℕ)) → behind (witness_front dir) text ≡ o → (said : List ℕ × ℚ) → option_and_then name_and_threshold o ≡ Some said → IsClaim text (witness dir said.0 said.1)
+    by None b said e = absurd cc
+    by (Some rest) b said e =
+        let t = said-found rest said e in (
+          behind-found (witness_front dir) text rest b ∙ ap (λ (xs : List ℕ). witness_front dir ++ xs) t.0 ∙ witness-text dir said.0 said.1,
+          record { names = t.1; threshold = t.2; width = t.3 },
+        )
 
 to-found : (dir : Dir) (text : List ℕ) (c : PlainClaim) → claim_to dir text ≡ Some c → IsClaim text c
 unfolding claim_to
-to-found dir text c e = elim (or-found (reach_claim dir text) (option_or (reward_claim dir text) (mean_claim dir text)) c e) [
+to-found dir text c e = elim (or-found (reach_claim dir text) (option_or (reward_claim dir text) (option_or (mean_claim dir text) (witness_claim dir text))) c e) [
   | inl h ↦ reach-found dir text c h
-  | inr h ↦ elim (or-found (reward_claim dir text) (mean_claim dir text) c h) [ inl g ↦ reward-found dir text c g | inr g ↦ mean-found dir text c g ]
+  | inr h ↦ elim (or-found (reward_claim dir text) (option_or (mean_claim dir text) (witness_claim dir text)) c h) [
+    | inl g ↦ reward-found dir text c g
+    | inr g ↦ elim (or-found (mean_claim dir text) (witness_claim dir text) c g) [ inl f ↦ mean-found dir text c f | inr f ↦ witness-found dir text c f ]
+  ]
 ]
 
 of-found : (text : List ℕ) (c : PlainClaim) → claim_of text ≡ Some c → IsClaim text c
@@ -155,7 +228,7 @@ of-found text c e = elim (or-found (upper_claim text) (option_or (claim_to Max t
   | inr h ↦ elim (or-found (claim_to Max text) (claim_to Min text) c h) [ inl g ↦ to-found Max text c g | inr g ↦ to-found Min text c g ]
 ]
 
-pub claim-found : (n : ℕ) (text : List ℕ) (c : PlainClaim) → claim_at n text ≡ Ok c → (text ≡ claim_text c) × (are_names c ≡ true)
+pub claim-found : (n : ℕ) (text : List ℕ) (c : PlainClaim) → claim_at n text ≡ Ok c → (text ≡ claim_text c) × IsRight c
 unfolding claim_at
 claim-found n text c e = of-found text c (found_ok (claim_of text) Claim n c e)
 
@@ -179,21 +252,36 @@ reward-read dir name label h g =
 reward-again : (dir : Dir) (name label : List ℕ) → is_name name ≡ true → is_name label ≡ true → claim_of (claim_text (reward dir name label)) ≡ Some (reward dir name label)
 unfolding claim_of claim_to
 reward-again Max name label h g =
-    ap (λ (o : Option PlainClaim). option_or (option_or o (mean_claim Max (claim_text (reward Max name label)))) (claim_to Min (claim_text (reward Max name label)))) (reward-read Max name label h g)
-reward-again Min name label h g = ap (λ (o : Option PlainClaim). option_or o (mean_claim Min (claim_text (reward Min name label)))) (reward-read Min name label h g)
+    let text = claim_text (reward Max name label) in
+    ap (λ (o : Option PlainClaim). option_or (option_or o (option_or (mean_claim Max text) (witness_claim Max text))) (claim_to Min text)) (reward-read Max name label h g)
+reward-again Min name label h g =
+    let text = claim_text (reward Min name label) in
+    ap (λ (o : Option PlainClaim). option_or o (option_or (mean_claim Min text) (witness_claim Min text))) (reward-read Min name label h g)
 
 mean-again : (dir : Dir) (name : List ℕ) → is_name name ≡ true → claim_of (claim_text (mean dir name)) ≡ Some (mean dir name)
 unfolding claim_of claim_to
 mean-again Max name h = rw (name-again (codes "claim max mean \"") name h) refl
 mean-again Min name h = rw (name-again (codes "claim min mean \"") name h) refl
 
-again : (c : PlainClaim) → are_names c ≡ true → claim_of (claim_text c) ≡ Some c
-again (upper label) h = upper-again label h
-again (reach dir label) h = reach-again dir label h
-again (mean dir name) h = mean-again dir name h
-again (reward dir name label) h = let p = and_parts (is_name name) (is_name label) h in reward-again dir name label p.0 p.1
+witness-read : (dir : Dir) (label : List ℕ) (t : ℚ) → IsRight (witness dir label t) → witness_claim dir (claim_text (witness dir label t)) ≡ Some (witness dir label t)
+witness-read dir label t h =
+    ap (witness_claim dir) (sym (witness-text dir label t))
+    ∙ ap (λ (o : Option (List ℕ)). option_map (λ said. witness dir said.0 said.1) (option_and_then name_and_threshold o)) (behind-again (witness_front dir) (label ++ (34 ∷ 32 ∷ spelling t)))
+    ∙ ap (option_map (λ said. witness dir said.0 said.1)) (said-again label t h.names h.threshold h.width)
 
-pub claim-again : (n : ℕ) (c : PlainClaim) → are_names c ≡ true → claim_at n (claim_text c) ≡ Ok c
+witness-again : (dir : Dir) (label : List ℕ) (t : ℚ) → IsRight (witness dir label t) → claim_of (claim_text (witness dir label t)) ≡ Some (witness dir label t)
+unfolding claim_of claim_to
+witness-again Max label t h = ap (λ (o : Option PlainClaim). option_or o (claim_to Min (claim_text (witness Max label t)))) (witness-read Max label t h)
+witness-again Min label t h = witness-read Min label t h
+
+again : (c : PlainClaim) → IsRight c → claim_of (claim_text c) ≡ Some c
+again (upper label) h = upper-again label h.names
+again (reach dir label) h = reach-again dir label h.names
+again (mean dir name) h = mean-again dir name h.names
+again (reward dir name label) h = let p = and_parts (is_name name) (is_name label) h.names in reward-again dir name label p.0 p.1
+again (witness dir label t) h = witness-again dir label t h
+
+pub claim-again : (n : ℕ) (c : PlainClaim) → IsRight c → claim_at n (claim_text c) ≡ Ok c
 unfolding claim_at
 claim-again n c h = ap (or_refused Claim n) (again c h)
 
@@ -211,10 +299,19 @@ free-reward dir name label h g =
     front Max = refl
     front Min = refl
 
-pub free-claim : (c : PlainClaim) → are_names c ≡ true → Free 10 (claim_text c)
-free-claim (upper label) h = free-named (codes "claim upper reach \"") label refl h
-free-claim (reach Max label) h = free-named (codes "claim max reach \"") label refl h
-free-claim (reach Min label) h = free-named (codes "claim min reach \"") label refl h
-free-claim (mean Max name) h = free-named (codes "claim max mean \"") name refl h
-free-claim (mean Min name) h = free-named (codes "claim min mean \"") name refl h
-free-claim (reward dir name label) h = let p = and_parts (is_name name) (is_name label) h in subst (Free 10) (reward-text dir name label) (free-reward dir name label p.0 p.1)
+free-witness : (dir : Dir) (label : List ℕ) (t : ℚ) → is_name label ≡ true → IsNarrow t → Free 10 (witness_front dir ++ (label ++ (34 ∷ 32 ∷ spelling t)))
+free-witness dir label t h narrow =
+    free-append 10 (witness_front dir) (label ++ (34 ∷ 32 ∷ spelling t)) (front dir) (free-append 10 label (34 ∷ 32 ∷ spelling t) (free-name label h) (free-spelling 10 t (omega arith) narrow))
+  where
+    front : (d : Dir) → Free 10 (witness_front d)
+    front Max = refl
+    front Min = refl
+
+pub free-claim : (c : PlainClaim) → IsRight c → Free 10 (claim_text c)
+free-claim (upper label) h = free-named (codes "claim upper reach \"") label refl h.names
+free-claim (reach Max label) h = free-named (codes "claim max reach \"") label refl h.names
+free-claim (reach Min label) h = free-named (codes "claim min reach \"") label refl h.names
+free-claim (mean Max name) h = free-named (codes "claim max mean \"") name refl h.names
+free-claim (mean Min name) h = free-named (codes "claim min mean \"") name refl h.names
+free-claim (witness dir label t) h = subst (Free 10) (witness-text dir label t) (free-witness dir label t h.names h.width)
+free-claim (reward dir name label) h = let p = and_parts (is_name name) (is_name label) h.names in subst (Free 10) (reward-text dir name label) (free-reward dir name label p.0 p.1)

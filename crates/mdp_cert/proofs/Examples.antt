@@ -1,24 +1,28 @@
 -- Worked texts, by computation.
-use Rattle.std.proofs.Common.{◌≡◌, ℕ, List, [], ◌∷◌, ◌++◌, Some, None, Ok, refl, pos, negsuc}
+use Rattle.std.proofs.Common.{◌≡◌, ℕ, true, false, List, [], ◌∷◌, ◌++◌, Some, None, Ok, refl, pos, negsuc}
 use Rattle.std.specs.Prelude.{codes}
 use Rattle.std.specs.Fmt.{digits}
 use Rattle.mdp_math.specs.Gcd.{gcd, gcd_with_fuel}
 use Rattle.mdp_math.specs.Rational.{ℚ, ratio}
+use Rattle.mdp_rows.specs.declared.dir.Dir.{Dir}
 use Rattle.mdp_rows.specs.declared.dir.Dir.TheVariants.{Max, Min}
+use Rattle.mdp_flow.specs.declared.flow.Flow.{Flow}
 use Rattle.mdp_num.specs.Value.{spelling}
 use Rattle.mdp_num.specs.Canonical.{canonical_of}
 use Rattle.mdp_cert.specs.declared.init.Init.{Init}
-use Rattle.mdp_cert.specs.declared.init.Init.TheVariants.{Missing, Finite, Infinite}
+use Rattle.mdp_cert.specs.declared.init.Init.TheVariants.{Missing, Finite, Infinite, Start}
 use Rattle.mdp_cert.specs.declared.error.CertKind.TheVariants as kind
 use Rattle.mdp_cert.specs.declared.error.CertKind.TheVariants.{Claim, Number, Shape, Count, End, Run}
 use Rattle.mdp_cert.specs.declared.version.Version.{Version}
 use Rattle.mdp_cert.specs.declared.version.Version.TheVariants.{One, Two}
-use Rattle.mdp_cert.specs.Cert.{Certificate, upper, reach, reward, mean, bounds, policy, rewards, gains}
+use Rattle.mdp_cert.specs.Cert.{Certificate, upper, reach, reward, mean, witness, PlainBody, bounds, policy, rewards, gains, flow, floor}
 use Rattle.mdp_cert.specs.Lines.{refused, next_line}
 use Rattle.mdp_cert.specs.Words.{words_behind, whole_of, whole_at, frac_at}
 use Rattle.mdp_cert.specs.Runs.{longest_runs}
-use Rattle.mdp_cert.specs.Spelling.{version_text, text_of, old_text_of, text_in, run_text, run_lines, line}
-use Rattle.mdp_cert.specs.Reading.{outcome, version_at, claim_to, claim_of, claim_at, states_at, given_at, valued_at, init_at, head_from}
+use Rattle.mdp_cert.specs.Witness.{keep_at, flow_at, flow_line_at, floor_line_at}
+use Rattle.mdp_cert.specs.Spelling.{version_text, text_of, old_text_of, text_in, run_text, run_lines, listed_lines, line}
+use Rattle.mdp_cert.specs.Reading.{outcome, version_at, claim_to, claim_of, claim_at, states_at, given_at, valued_at, start_at, init_at, head_from}
+use Rattle.mdp_cert.specs.Reading.{listed_at, listed_from, listed_to_end}
 use Rattle.mdp_cert.specs.Reading.{entry_at, state_at, run_at, longest_at, runs_from, entries_from, entries_to_end, spread_at, body_from, nothing_behind}
 
 -- ---- an upper bound of 1 at the states 0 and 1, of 0 at state 2
@@ -482,7 +486,7 @@ record Claims : Type 0 where
   label-of_mean : claim_at 2 (codes "claim max mean \"-\" \"goal\"") ≡ refused Claim 2
   upper-mean : claim_at 2 (codes "claim upper mean \"-\"") ≡ refused Claim 2
   -- a claim that isn't known
-  unknown : claim_at 2 (codes "claim max witness \"goal\" 1/2") ≡ refused Claim 2
+  unknown : claim_at 2 (codes "claim max survival \"goal\"") ≡ refused Claim 2
 
 claims-read : Claims
 unfolding claim_at claim_of claim_to
@@ -500,4 +504,127 @@ claims-read = record {
   label-of_mean = refl;
   upper-mean = refl;
   unknown = refl;
+}
+
+-- ---- subsystems: of four states 0 and 2 are kept
+
+abbrev witness-of : Dir → ℚ → PlainBody → Certificate
+witness-of dir t body = record { claim = witness dir (codes "goal") t; states = 4; init = Start 0; body = body }
+
+abbrev quarter : ℚ
+quarter = ratio (pos 1) 4
+
+abbrev sent : ℕ → ℕ → ℚ → Flow
+sent state choice amount = record { state = state; choice = choice; amount = amount }
+
+abbrev two-kept : Certificate
+two-kept = witness-of Max quarter (flow (0 ∷ 2 ∷ []) (false ∷ true ∷ []) (sent 0 0 half ∷ sent 0 1 half ∷ sent 2 0 one ∷ []))
+
+abbrev two-floors : Certificate
+two-floors = witness-of Min quarter (floor (0 ∷ 2 ∷ []) (false ∷ true ∷ []) (half ∷ one ∷ []) (2 ∷ 1 ∷ []))
+
+-- a text with this line of the claim, this line `init` and these lines behind it
+abbrev witness-text : Version → List ℕ → List ℕ → List ℕ → List ℕ
+witness-text v claim init lines = line (version_text v) ++ line (codes "claim " ++ claim) ++ line (codes "states 4") ++ line (codes "init " ++ init) ++ lines
+
+abbrev kept-lines : List ℕ
+kept-lines = line (codes "keep 0 kept") ++ line (codes "keep 2 wide")
+
+abbrev flows-lines : List ℕ
+flows-lines = line (codes "flow 0 0 1/2") ++ line (codes "flow 0 1 1/2") ++ line (codes "flow 2 0 1")
+
+abbrev end-line : List ℕ
+end-line = line (codes "end")
+
+abbrev for-max : List ℕ → List ℕ
+for-max lines = witness-text Two (codes "max witness \"goal\" 1/4") (codes "0") lines
+
+abbrev floors-lines : List ℕ
+floors-lines = line (codes "keep 0 1/2 2 kept") ++ line (codes "keep 2 1 1 wide")
+
+abbrev for-min : List ℕ → List ℕ
+for-min lines = witness-text Two (codes "min witness \"goal\" 1/4") (codes "0") lines
+
+-- both versions differ in the first line alone
+record WitnessesWritten : Type 0 where
+  flows-two : text_of two-kept ≡ for-max (kept-lines ++ flows-lines ++ end-line)
+  flows-one : old_text_of two-kept ≡ witness-text One (codes "max witness \"goal\" 1/4") (codes "0") (kept-lines ++ flows-lines ++ end-line)
+  floors-two : text_of two-floors ≡ for-min (floors-lines ++ end-line)
+
+witnesses-written : WitnessesWritten
+unfolding text_in listed_lines spelling ratio gcd gcd_with_fuel digits
+witnesses-written = record { flows-two = refl; flows-one = refl; floors-two = refl }
+
+record WitnessesRead : Type 0 where
+  flows-two : outcome (for-max (kept-lines ++ flows-lines ++ end-line)) ≡ Ok two-kept
+  flows-one : outcome (witness-text One (codes "max witness \"goal\" 1/4") (codes "0") (kept-lines ++ flows-lines ++ end-line)) ≡ Ok two-kept
+  floors-two : outcome (for-min (floors-lines ++ end-line)) ≡ Ok two-floors
+  -- no state is kept
+  none-kept : outcome (witness-text Two (codes "max witness \"goal\" 0") (codes "0") end-line) ≡ Ok (witness-of Max none (flow [] [] []))
+  -- refused: the line of the claim
+  below-zero : outcome (witness-text Two (codes "max witness \"goal\" -1/4") (codes "0") end-line) ≡ refused Claim 2
+  no-threshold : outcome (witness-text Two (codes "max witness \"goal\"") (codes "0") end-line) ≡ refused Claim 2
+  threshold-unreduced : outcome (witness-text Two (codes "min witness \"goal\" 2/4") (codes "0") end-line) ≡ refused Claim 2
+  -- the line `init`
+  init-with_value : outcome (witness-text Two (codes "max witness \"goal\" 1/4") (codes "0 1/4") end-line) ≡ refused Shape 4
+  init-missing : outcome (witness-text Two (codes "max witness \"goal\" 1/4") (codes "-") end-line) ≡ refused Number 4
+  init-past_end : outcome (witness-text Two (codes "max witness \"goal\" 1/4") (codes "4") end-line) ≡ refused Count 4
+  init-of_reach : outcome (witness-text Two (codes "max reach \"goal\"") (codes "0") end-line) ≡ refused Shape 4
+  -- kept states
+  kept-twice : outcome (for-max (line (codes "keep 2 kept") ++ line (codes "keep 2 kept") ++ end-line)) ≡ refused Count 6
+  kept-past_end : outcome (for-max (line (codes "keep 4 kept") ++ end-line)) ≡ refused Count 5
+  wrong-mark : outcome (for-max (line (codes "keep 04 held") ++ end-line)) ≡ refused Shape 5
+  kept-not_number : outcome (for-max (line (codes "keep 04 kept") ++ end-line)) ≡ refused Number 5
+  kept-behind_flow : outcome (for-max (line (codes "keep 0 kept") ++ line (codes "flow 0 0 1") ++ line (codes "keep 2 kept") ++ end-line)) ≡ refused Shape 7
+  -- flows; whether the flow's state is kept is a rule for the checker
+  flow-twice : outcome (for-max (line (codes "flow 0 1 1") ++ line (codes "flow 0 1 1") ++ end-line)) ≡ refused Count 6
+  flow-back : outcome (for-max (line (codes "flow 2 0 1") ++ line (codes "flow 0 1 1") ++ end-line)) ≡ refused Count 6
+  flow-past_end : outcome (for-max (line (codes "flow 4 0 1") ++ end-line)) ≡ refused Count 5
+  flow-unreduced : outcome (for-max (line (codes "flow 4 0 2/4") ++ end-line)) ≡ refused Number 5
+  flow-of_min : outcome (for-min (line (codes "flow 0 0 1") ++ end-line)) ≡ refused Shape 5
+  -- lines of other claims
+  state-line : outcome (for-max (line (codes "state 0 1") ++ end-line)) ≡ refused Shape 5
+  run-line : outcome (for-min (line (codes "run 0 1 1") ++ end-line)) ≡ refused Shape 5
+  -- the line `end`
+  end-missing : outcome (for-max kept-lines) ≡ refused End 7
+  end-with_word : outcome (for-max (line (codes "end 0"))) ≡ refused Shape 5
+  bytes-behind : outcome (for-min (floors-lines ++ end-line ++ end-line)) ≡ refused End 8
+  -- floors
+  floor-without_value : outcome (for-min (line (codes "keep 0 kept") ++ end-line)) ≡ refused Shape 5
+  floor-unreduced : outcome (for-min (line (codes "keep 0 2/4 0 kept") ++ end-line)) ≡ refused Number 5
+  floor-back : outcome (for-min (line (codes "keep 2 1 0 kept") ++ line (codes "keep 0 1 0 kept") ++ end-line)) ≡ refused Count 6
+
+witnesses-read : WitnessesRead
+unfolding outcome next_line version_at whole_of whole_at frac_at claim_to claim_of claim_at words_behind states_at start_at given_at valued_at head_from keep_at flow_at flow_line_at
+    floor_line_at listed_at listed_from listed_to_end body_from nothing_behind canonical_of ratio gcd gcd_with_fuel
+witnesses-read = record {
+  flows-two = refl;
+  flows-one = refl;
+  floors-two = refl;
+  none-kept = refl;
+  below-zero = refl;
+  no-threshold = refl;
+  threshold-unreduced = refl;
+  init-with_value = refl;
+  init-missing = refl;
+  init-past_end = refl;
+  init-of_reach = refl;
+  kept-twice = refl;
+  kept-past_end = refl;
+  wrong-mark = refl;
+  kept-not_number = refl;
+  kept-behind_flow = refl;
+  flow-twice = refl;
+  flow-back = refl;
+  flow-past_end = refl;
+  flow-unreduced = refl;
+  flow-of_min = refl;
+  state-line = refl;
+  run-line = refl;
+  end-missing = refl;
+  end-with_word = refl;
+  bytes-behind = refl;
+  floor-without_value = refl;
+  floor-unreduced = refl;
+  floor-back = refl;
 }

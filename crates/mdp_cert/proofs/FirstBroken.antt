@@ -1,8 +1,9 @@
 -- A refusal names the first line that breaks a rule.
-use Rattle.std.proofs.Common.{◌≡◌, ℕ, zero, suc, ◌+◌, ◌-◌, ◌<◌, ◌^◌, ◌⊎◌, inl, inr, Bool, true, false, not, cond, eqb, ltb, ◌||◌}
-use Rattle.std.proofs.Common.{List, [], ◌∷◌, ◌++◌, length, drop, Option, Some, None, Result, Ok, Err, refl, sym, ap, ap₂, subst, ◌∙◌, arith}
+use Rattle.std.proofs.Common.{◌≡◌, ℕ, zero, suc, ◌+◌, ◌-◌, ◌<◌, ◌≤◌, ◌^◌, ◌⊎◌, inl, inr, Bool, true, false, not, cond, eqb, ltb, ◌&&◌, ◌||◌}
+use Rattle.std.proofs.Common.{List, [], ◌∷◌, ◌++◌, length, drop, Option, Some, None, is_some, Result, Ok, Err, refl, sym, ap, ap₂, subst, ◌∙◌, arith}
 use Rattle.std.specs.Prelude.{codes}
 use Rattle.std.specs.List.{position_or_len, before_first, after_first}
+use Rattle.std.specs.Option.{option_and_then, option_map}
 use Rattle.std.specs.Str.{bytes_eq}
 use Rattle.std.proofs.lemmas.Bool.{lt-ltb}
 use Rattle.std.proofs.lemmas.List.{length-append}
@@ -11,22 +12,30 @@ use Rattle.mdp_cert.specs.declared.error.CertKind.{CertKind}
 use Rattle.mdp_cert.specs.declared.error.CertKind.TheVariants as kind
 use Rattle.mdp_cert.specs.declared.error.Refusal.{Refusal}
 use Rattle.mdp_cert.specs.declared.init.Init.{Init}
-use Rattle.mdp_cert.specs.declared.init.Init.TheVariants.{Missing}
+use Rattle.mdp_cert.specs.declared.init.Init.TheVariants.{Missing, Start}
 use Rattle.mdp_cert.specs.declared.version.Version.{Version}
 use Rattle.mdp_cert.specs.declared.version.Version.TheVariants.{One, Two}
-use Rattle.mdp_cert.specs.Cert.{PlainClaim, upper, reach, reward, mean, may_be_infinite, PlainBody, bounds, Certificate}
+use Rattle.mdp_rows.specs.declared.dir.Dir.TheVariants.{Max, Min}
+use Rattle.mdp_cert.specs.declared.flow_line.FlowLine.{FlowLine}
+use Rattle.mdp_cert.specs.declared.flow_line.FlowLine.TheVariants.{Keep, Send}
+use Rattle.mdp_cert.specs.declared.floor_line.FloorLine.{FloorLine}
+use Rattle.mdp_flow.specs.declared.flow.Flow.{Flow}
+use Rattle.mdp_cert.specs.Cert.{PlainClaim, upper, reach, reward, mean, witness, may_be_infinite, is_witness, is_next, is_next_flow, PlainBody, bounds, Certificate}
+use Rattle.mdp_cert.specs.Listed.{Listed}
+use Rattle.mdp_cert.specs.Witness.{mark_text, mark_at, keep_at, kept_in, flow_in, flow_at, flow_line_at, flow_listed, flow_body, floor_line_at, floor_listed, floor_body}
 use Rattle.mdp_cert.specs.Lines.{◌>>=◌, refuse_if, or_refused, is_line, is_line_feed, Place, place, next_line, line_by}
 use Rattle.mdp_cert.specs.Words.{words, first_of, begins_with, words_behind, whole_of, whole_at, frac_at}
 use Rattle.mdp_cert.specs.Runs.{Columns, run, single, entries_of}
 use Rattle.mdp_cert.specs.Claims.{fraction_value, reward_value, bound_columns, policy_columns, mean_columns}
 use Rattle.mdp_cert.specs.Spelling.{line, version_text, end_text}
-use Rattle.mdp_cert.specs.Reading.{version_at, claim_of, claim_at, states_at, init_parse, init_of, given_at, valued_at, init_at, Head, head_from, entry_at, state_at, run_at}
+use Rattle.mdp_cert.specs.Reading.{version_at, claim_of, claim_at, states_at, init_parse, init_of, given_at, valued_at, start_at, init_at, Head, head_from, entry_at, state_at, run_at}
 use Rattle.mdp_cert.specs.Reading.{is_same, line_of_states, longest_at, run_in, onto_run, runs_from, entries_from}
-use Rattle.mdp_cert.specs.Reading.{entries_to_end, policy_body, reward_body, mean_body, spread_at, body_from, nothing_behind, outcome}
+use Rattle.mdp_cert.specs.Reading.{listed_at, before_others, listed_from, listed_to_end, entries_to_end, policy_body, reward_body, mean_body, spread_at, body_from, nothing_behind, outcome}
 use Rattle.mdp_cert.specs.Laws.{first_lines, LacksAtMost}
 use Rattle.mdp_cert.proofs.Cuts.{guard_ok}
 use Rattle.mdp_cert.proofs.Feeds.{bind_ok, ok-is, line-found, line-again}
-use Rattle.mdp_cert.proofs.Numbered.{states-number, states-range, init-state, init-value, init-inside}
+use Rattle.mdp_cert.proofs.Numbered.{states-number, states-range, init-state, init-value, init-inside, start-state, start-inside}
+use Rattle.mdp_cert.proofs.OneByOne.{enough}
 use Rattle.mdp_cert.proofs.Parts.{head-states, whole, whole-end, whole-body, whole-head}
 
 abbrev pub missing : ℕ → Refusal
@@ -269,13 +278,27 @@ given-judges infinite states n text =
     then-judges n (or_refused kind.Number n (init_parse infinite (first_of (drop 1 behind)))) (init-inside states n state) (or-judges kind.Number n _) (λ value.
     then-judges n (refuse_if kind.Count n (not (ltb state states))) (λ inside. Ok (init_of state value)) (refuse-judges kind.Count n _) (λ inside. ok-judges n (init_of state value)))))
 
-init-judges : (claim : PlainClaim) (states n : ℕ) (text : List ℕ) → Judges n (init_at claim states n text)
+valued-judges : (infinite : Bool) (states n : ℕ) (text : List ℕ) → Judges n (valued_at infinite states n text)
 unfolding valued_at
-init-judges claim states n text = by (bytes_eq text (codes "init -"))
+valued-judges infinite states n text = by (bytes_eq text (codes "init -"))
   where
-    by : (b : Bool) → Judges n (let q : Result Init Refusal = cond b (Ok Missing) (given_at (may_be_infinite claim) states n text) in q)
+    by : (b : Bool) → Judges n (let q : Result Init Refusal = cond b (Ok Missing) (given_at infinite states n text) in q)
     by true = ok-judges n Missing
-    by false = given-judges (may_be_infinite claim) states n text
+    by false = given-judges infinite states n text
+
+start-judges : (states n : ℕ) (text : List ℕ) → Judges n (start_at states n text)
+unfolding start_at
+start-judges states n text =
+    then-judges n (words_behind (codes "init") 1 n text) (start-state states n) (behind-judges (codes "init") 1 n text) (λ behind.
+    then-judges n (whole_at n (first_of behind)) (start-inside states n) (whole-judges n (first_of behind)) (λ state.
+    then-judges n (refuse_if kind.Count n (not (ltb state states))) _ (refuse-judges kind.Count n _) (λ inside. ok-judges n (Start state))))
+
+init-judges : (claim : PlainClaim) (states n : ℕ) (text : List ℕ) → Judges n (init_at claim states n text)
+init-judges claim states n text = by (is_witness claim)
+  where
+    by : (b : Bool) → Judges n (cond b (start_at states n text) (valued_at (may_be_infinite claim) states n text))
+    by true = start-judges states n text
+    by false = valued-judges (may_be_infinite claim) states n text
 
 -- ---- the lines of states
 
@@ -335,6 +358,126 @@ module _ {A : Type 0} (k : Columns A) (states : ℕ) where
       next (entries_from v k states) (λ xs p. line_by (is_line kind.Shape end_text) p >>= λ end. Ok (xs, end.1)) (entries-cuts v) (λ xs.
       mapped (line_by (is_line kind.Shape end_text)) (λ end. xs) (lined (is_line kind.Shape end_text) (λ n text. refuse-judges kind.Shape n _)))
 
+-- ---- lines that are listed one by one
+
+-- where no line may be read
+ended : {A : Type 0} → Cuts (λ p. let r : Result (A × Place) Refusal = Err (missing p.line) in r)
+ended {A} = record {
+  read = λ p x q e. absurd cc;
+  broken = λ p r e. (let z : p.line ≡ p.line + 0 = omega arith in
+      let is : missing p.line ≡ r = cc in
+      record {
+        at = 0;
+        number = ap (λ (x : Refusal). x.line) (sym is) ∙ z;
+        before = ap (λ (n : ℕ). let x : Result (A × Place) Refusal = Err (missing n) in x) z;
+        behind = λ j. ap (λ (x : Refusal). let y : Result (A × Place) Refusal = Err x in y) is;
+      });
+}
+
+no-lines : (xs : List ℕ) → first_lines 0 xs ≡ []
+unfolding first_lines
+no-lines xs = refl
+
+-- the first lines are no more bytes than all
+lines-fewer : (i : ℕ) (p : Place) → length (first_lines i p.rest) ≤ length p.rest
+lines-fewer zero p = rw (no-lines p.rest) (omega arith)
+lines-fewer (suc i) p = by (next_line p) refl (lines-fewer i)
+  where
+    by : (r : Result (List ℕ × Place) Refusal) → next_line p ≡ r → ((q : Place) → length (first_lines i q.rest) ≤ length q.rest) → length (first_lines (suc i) p.rest) ≤ length p.rest
+    by (Err e) lost fewer = let all = ap (λ (q : Place). length q.rest) ((line-missing p e lost).1 i) in omega (arith, all)
+    by (Ok s) got fewer =
+        let l = line-found p s.0 s.1 got in
+        omega (
+          arith,
+          fewer s.1,
+          ap (λ (t : List ℕ). length t) (cut-line p s.0 s.1 got i),
+          ap (λ (t : List ℕ). length t) l.front,
+          length-append (line s.0) (first_lines i s.1.rest),
+          length-append (line s.0) s.1.rest,
+        )
+
+module _ {A : Type 0} (k : Listed A) (states : ℕ) (judges : (before : Option A) (n : ℕ) (text : List ℕ) → Judges n (k.judge states before n text)) where
+  said-judges : (before : Option A) (n : ℕ) (text : List ℕ) → Judges n (listed_at k states before n text)
+  unfolding listed_at
+  said-judges before n text = by (bytes_eq text end_text)
+    where
+      by : (b : Bool) → Judges n (let q : Result (Option A) Refusal = cond b (Ok None) (k.judge states before n text >>= λ x. Ok (Some x)) in q)
+      by true = ok-judges n None
+      by false = then-judges n (k.judge states before n text) _ (judges before n text) (λ x. ok-judges n (Some x))
+
+  listed-cuts : (most : ℕ) (before : Option A) → Cuts (listed_from most k states before)
+  unfolding listed_from
+  listed-cuts zero before = ended
+  listed-cuts (suc most) before =
+      next (line_by (listed_at k states before)) (λ o p. before_others o p (λ x. listed_from most k states (Some x) p)) (lined (listed_at k states before) (said-judges before))
+      (others (λ x. listed-cuts most (Some x)))
+    where
+      others : ((x : A) → Cuts (listed_from most k states (Some x))) → (o : Option A) → Cuts (λ p. before_others o p (λ x. listed_from most k states (Some x) p))
+      others more None = done []
+      others more (Some x) = mapped (listed_from most k states (Some x)) (λ xs. x ∷ xs) (more x)
+
+  -- the reader of a place reads the first lines from there too
+  same-reader : (p : Place) (i : ℕ) → listed_to_end k states (cut i p) ≡ listed_from (suc (length p.rest)) k states None (cut i p)
+  unfolding listed_to_end
+  same-reader p i =
+      let fewer = lines-fewer i p in enough k states (suc (length (first_lines i p.rest))) (suc (length p.rest)) None (cut i p) (omega arith) (omega arith)
+
+  pub to_end-cuts : Cuts (listed_to_end k states)
+  unfolding listed_to_end
+  to_end-cuts = record {
+    read = λ p x q e. (let t = (listed-cuts (suc (length p.rest)) None).read p x q e in
+        record { lines = t.lines; number = t.number; again = λ j. same-reader p (t.lines + j) ∙ t.again j });
+    broken = λ p r e. (let b = (listed-cuts (suc (length p.rest)) None).broken p r e in
+        record { at = b.at; number = b.number; before = same-reader p b.at ∙ b.before; behind = λ j. same-reader p (suc b.at + j) ∙ b.behind j });
+  }
+
+mark-judges : (n : ℕ) (word : List ℕ) → Judges n (mark_at n word)
+mark-judges n word = by (bytes_eq word (mark_text false)) (bytes_eq word (mark_text true))
+  where
+    by : (b c : Bool) → Judges n (let r : Result Bool Refusal = cond b (Ok false) (cond c (Ok true) (Err (record { kind = kind.Shape; line = n }))) in r)
+    by true c = ok-judges n false
+    by false c = cond-judges kind.Shape n c true
+
+keep-judges : (states : ℕ) (before : Option ℕ) (n : ℕ) (text : List ℕ) → Judges n (keep_at states before n text)
+unfolding keep_at
+keep-judges states before n text =
+    then-judges n (words_behind (codes "keep") 2 n text) _ (behind-judges (codes "keep") 2 n text) (λ behind.
+    then-judges n (mark_at n (first_of (drop 1 behind))) _ (mark-judges n (first_of (drop 1 behind))) (λ wide.
+    then-judges n (whole_at n (first_of behind)) _ (whole-judges n (first_of behind)) (λ state.
+    then-judges n (refuse_if kind.Count n (not (is_next before state && ltb state states))) _ (refuse-judges kind.Count n _) (λ order. ok-judges n (Keep state wide)))))
+
+flow-judges : (states : ℕ) (before : Option Flow) (n : ℕ) (text : List ℕ) → Judges n (flow_at states before n text)
+unfolding flow_at
+flow-judges states before n text =
+    then-judges n (words_behind (codes "flow") 3 n text) _ (behind-judges (codes "flow") 3 n text) (λ behind.
+    then-judges n (whole_at n (first_of behind)) _ (whole-judges n (first_of behind)) (λ state.
+    then-judges n (whole_at n (first_of (drop 1 behind))) _ (whole-judges n (first_of (drop 1 behind))) (λ choice.
+    then-judges n (frac_at n (first_of (drop 1 (drop 1 behind)))) _ (frac-judges n (first_of (drop 1 (drop 1 behind)))) (λ amount.
+    (let f : Flow = record { state = state; choice = choice; amount = amount } in
+    then-judges n (refuse_if kind.Count n (not (is_next_flow before f && ltb state states))) _ (refuse-judges kind.Count n _) (λ order. ok-judges n (Send f)))))))
+
+flow-line-judges : (states : ℕ) (before : Option FlowLine) (n : ℕ) (text : List ℕ) → Judges n (flow_line_at states before n text)
+unfolding flow_line_at
+flow-line-judges states before n text = by (begins_with (codes "flow") (words text))
+  where
+    by : (b : Bool) → Judges n (cond b (flow_at states (option_and_then flow_in before) n text)
+        (refuse_if kind.Shape n (is_some (option_and_then flow_in before)) >>= λ order. keep_at states (option_and_then kept_in before) n text))
+    by true = flow-judges states (option_and_then flow_in before) n text
+    by false =
+        then-judges n (refuse_if kind.Shape n (is_some (option_and_then flow_in before))) _ (refuse-judges kind.Shape n _)
+        (λ order. keep-judges states (option_and_then kept_in before) n text)
+
+floor-line-judges : (states : ℕ) (before : Option FloorLine) (n : ℕ) (text : List ℕ) → Judges n (floor_line_at states before n text)
+unfolding floor_line_at
+floor-line-judges states before n text =
+    then-judges n (words_behind (codes "keep") 4 n text) _ (behind-judges (codes "keep") 4 n text) (λ behind.
+    then-judges n (mark_at n (first_of (drop 1 (drop 1 (drop 1 behind))))) _ (mark-judges n (first_of (drop 1 (drop 1 (drop 1 behind))))) (λ wide.
+    then-judges n (whole_at n (first_of behind)) _ (whole-judges n (first_of behind)) (λ state.
+    then-judges n (frac_at n (first_of (drop 1 behind))) _ (frac-judges n (first_of (drop 1 behind))) (λ value.
+    then-judges n (whole_at n (first_of (drop 1 (drop 1 behind)))) _ (whole-judges n (first_of (drop 1 (drop 1 behind)))) (λ rank.
+    then-judges n (refuse_if kind.Count n (not (is_next (option_map (λ x. x.state) before) state && ltb state states))) _ (refuse-judges kind.Count n _)
+    (λ order. ok-judges n (record { state = state; value = value; rank = rank; wide = wide })))))))
+
 -- ---- the parts
 
 head-cuts : Cuts head_from
@@ -358,6 +501,8 @@ body-cuts v (reward dir name label) states = mapped (entries_to_end v (policy_co
 body-cuts v (mean dir name) states =
     next (line_by spread_at) (λ spread p. entries_to_end v mean_columns states p >>= λ xs. Ok (mean_body spread xs.0, xs.1)) (lined spread_at spread-judges) (λ spread.
     mapped (entries_to_end v mean_columns states) (mean_body spread) (closed-cuts mean_columns states v))
+body-cuts v (witness Max label t) states = mapped (listed_to_end flow_listed states) flow_body (to_end-cuts flow_listed states (flow-line-judges states))
+body-cuts v (witness Min label t) states = mapped (listed_to_end floor_listed states) floor_body (to_end-cuts floor_listed states (floor-line-judges states))
 
 -- all lines
 abbrev top-body : Version → Head × Place → Result (Certificate × Place) Refusal
@@ -430,10 +575,6 @@ nonempty xs h = by (ltb (position_or_len is_line_feed xs) (length xs))
     by : (q : Bool) → ltb 0 (length (cond q (line (before_first is_line_feed xs) ++ []) xs)) ≡ true
     by false = h
     by true = lt-ltb 0 _ (omega (arith, length-append (line (before_first is_line_feed xs)) [], length-append (before_first is_line_feed xs) (10 ∷ [])))
-
-no-lines : (xs : List ℕ) → first_lines 0 xs ≡ []
-unfolding first_lines
-no-lines xs = refl
 
 -- bytes stand behind the last line
 module _ (bytes : List ℕ) (r : Refusal) (c : Certificate) (q : Place) (e : top (place 1 bytes) ≡ Ok (c, q)) where

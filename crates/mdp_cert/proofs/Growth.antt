@@ -1,12 +1,16 @@
 -- A text that grows line by line.
-use Rattle.std.proofs.Common.{◌≡◌, ℕ, suc, ◌+◌, ◌-◌, ◌<◌, ◌≤◌, List, [], ◌∷◌, ◌++◌, length, take, drop, get_or, refl, sym, ap, ◌∙◌, append_assoc, arith, true, eqb, ◌&&◌, Option}
+use Rattle.std.proofs.Common.{◌≡◌, ℕ, suc, ◌+◌, ◌-◌, ◌<◌, ◌≤◌, List, [], ◌∷◌, ◌++◌, length, take, drop, get_or, refl, sym, ap, ◌∙◌, append_assoc, arith, Bool, true, eqb, ◌&&◌, Option, None}
 use Rattle.std.proofs.Math.Seq.{drop-cons, take-append_seam}
-use Rattle.std.proofs.lemmas.List.{take-append-drop, drop_all, drop-drop, length-drop}
+use Rattle.std.proofs.lemmas.List.{take-append-drop, drop_all, drop-drop, length-drop, length-map}
 use Rattle.std.proofs.lemmas.Bool.{and_parts}
 use Rattle.mdp_math.specs.Rational.{ℚ}
 use Rattle.mdp_cert.specs.declared.version.Version.{Version}
 use Rattle.mdp_cert.specs.declared.version.Version.TheVariants.{One, Two}
-use Rattle.mdp_cert.specs.Cert.{PlainClaim, upper, reach, reward, mean, bounds, policy, rewards, gains, is_body_of}
+use Rattle.mdp_rows.specs.declared.dir.Dir.TheVariants.{Max, Min}
+use Rattle.mdp_flow.specs.declared.flow.Flow.{Flow}
+use Rattle.mdp_cert.specs.Cert.{PlainClaim, upper, reach, reward, mean, witness, bounds, policy, rewards, gains, flow, floor, are_kept, are_flows, is_body_of}
+use Rattle.mdp_cert.specs.declared.flow_line.FlowLine.TheVariants.{Send}
+use Rattle.mdp_cert.specs.Witness.{flow_lines, floor_lines}
 use Rattle.mdp_cert.specs.Runs.{Columns, run, longest_runs, runs_in}
 use Rattle.mdp_cert.specs.Spelling.{line, run_text, run_lines}
 use Rattle.mdp_cert.specs.Answer.{Keeps, more_in}
@@ -78,13 +82,15 @@ module _ {A : Type 0} (k : Columns A) (v : Version) where
       by One = refl
       by Two = refl
 
--- ---- a body has an entry per state
+-- ---- a body has an entry per state, or one per kept state
 
 pub bounds-entries : (claim : PlainClaim) (states : ℕ) (zs : List ℚ) → is_body_of claim states (bounds zs) ≡ true → length zs ≡ states
 bounds-entries (upper label) states zs e = number-same _ states e
 bounds-entries (reach dir label) states zs e = absurd cc
 bounds-entries (reward dir name label) states zs e = absurd cc
 bounds-entries (mean dir name) states zs e = absurd cc
+bounds-entries (witness Max label t) states zs e = absurd cc
+bounds-entries (witness Min label t) states zs e = absurd cc
 
 -- as many values, choices and ranks as states
 pub record Entries {V : Type 0} (states : ℕ) (zs : List V) (cs rs : List ℕ) : Type 0 where
@@ -103,12 +109,16 @@ policy-entries (upper label) states zs cs rs e = absurd cc
 policy-entries (reach dir label) states zs cs rs e = three-entries states zs cs rs e
 policy-entries (reward dir name label) states zs cs rs e = absurd cc
 policy-entries (mean dir name) states zs cs rs e = absurd cc
+policy-entries (witness Max label t) states zs cs rs e = absurd cc
+policy-entries (witness Min label t) states zs cs rs e = absurd cc
 
 pub reward-entries : (claim : PlainClaim) (states : ℕ) (vs : List (Option ℚ)) (cs rs : List ℕ) → is_body_of claim states (rewards vs cs rs) ≡ true → Entries states vs cs rs
 reward-entries (upper label) states vs cs rs e = absurd cc
 reward-entries (reach dir label) states vs cs rs e = absurd cc
 reward-entries (reward dir name label) states vs cs rs e = three-entries states vs cs rs e
 reward-entries (mean dir name) states vs cs rs e = absurd cc
+reward-entries (witness Max label t) states vs cs rs e = absurd cc
+reward-entries (witness Min label t) states vs cs rs e = absurd cc
 
 -- as many gains, bounds, biases and choices as states
 pub record MeanEntries (states : ℕ) (gs zs bs : List ℚ) (cs : List ℕ) : Type 0 where
@@ -130,3 +140,52 @@ gains-entries (upper label) states gs zs bs cs k e = absurd cc
 gains-entries (reach dir label) states gs zs bs cs k e = absurd cc
 gains-entries (reward dir name label) states gs zs bs cs k e = absurd cc
 gains-entries (mean dir name) states gs zs bs cs k e = four-entries states gs zs bs cs e
+gains-entries (witness Max label t) states gs zs bs cs k e = absurd cc
+gains-entries (witness Min label t) states gs zs bs cs k e = absurd cc
+
+pub flow-lists : (claim : PlainClaim) (states : ℕ) (kept : List ℕ) (wide : List Bool) (flows : List Flow) → is_body_of claim states (flow kept wide flows) ≡ true
+    → (are_kept states None kept && eqb (length wide) (length kept) && are_flows states None flows) ≡ true
+flow-lists (upper label) states kept wide flows e = absurd cc
+flow-lists (reach dir label) states kept wide flows e = absurd cc
+flow-lists (reward dir name label) states kept wide flows e = absurd cc
+flow-lists (mean dir name) states kept wide flows e = absurd cc
+flow-lists (witness Max label t) states kept wide flows e = e
+flow-lists (witness Min label t) states kept wide flows e = absurd cc
+
+-- as many lines as kept states and flows
+pub flow-count : (kept : List ℕ) (wide : List Bool) (flows : List Flow) → length wide ≡ length kept → length (flow_lines kept wide flows) ≡ length kept + length flows
+flow-count [] wide flows e = omega (arith, length-map flows (λ (f : Flow). Send f))
+flow-count (s ∷ kept) [] flows e = absurd (omega arith)
+flow-count (s ∷ kept) (w ∷ wide) flows e = omega (arith, flow-count kept wide flows (omega arith))
+
+pub lines-of-flow : (claim : PlainClaim) (states : ℕ) (kept : List ℕ) (wide : List Bool) (flows : List Flow) → is_body_of claim states (flow kept wide flows) ≡ true
+    → length (flow_lines kept wide flows) ≡ length kept + length flows
+lines-of-flow claim states kept wide flows e =
+    let p = and_parts (are_kept states None kept && eqb (length wide) (length kept)) (are_flows states None flows) (flow-lists claim states kept wide flows e) in
+    let q = and_parts (are_kept states None kept) (eqb (length wide) (length kept)) p.0 in
+    flow-count kept wide flows (number-same _ _ q.1)
+
+pub floor-lists : (claim : PlainClaim) (states : ℕ) (kept : List ℕ) (wide : List Bool) (values : List ℚ) (ranks : List ℕ) → is_body_of claim states (floor kept wide values ranks) ≡ true
+    → (are_kept states None kept && eqb (length wide) (length kept) && eqb (length values) (length kept) && eqb (length ranks) (length kept)) ≡ true
+floor-lists (upper label) states kept wide values ranks e = absurd cc
+floor-lists (reach dir label) states kept wide values ranks e = absurd cc
+floor-lists (reward dir name label) states kept wide values ranks e = absurd cc
+floor-lists (mean dir name) states kept wide values ranks e = absurd cc
+floor-lists (witness Max label t) states kept wide values ranks e = absurd cc
+floor-lists (witness Min label t) states kept wide values ranks e = e
+
+-- as many lines as kept states
+floor-count : (kept : List ℕ) (wide : List Bool) (values : List ℚ) (ranks : List ℕ) → length wide ≡ length kept → length values ≡ length kept → length ranks ≡ length kept
+    → length (floor_lines kept wide values ranks) ≡ length kept
+floor-count [] wide values ranks p q o = refl
+floor-count (s ∷ kept) (w ∷ wide) (z ∷ values) (r ∷ ranks) p q o = ap suc (floor-count kept wide values ranks (omega arith) (omega arith) (omega arith))
+floor-count (s ∷ kept) wide values ranks p q o = absurd (omega arith)
+
+pub lines-of-floor : (claim : PlainClaim) (states : ℕ) (kept : List ℕ) (wide : List Bool) (values : List ℚ) (ranks : List ℕ) → is_body_of claim states (floor kept wide values ranks) ≡ true
+    → length (floor_lines kept wide values ranks) ≡ length kept
+lines-of-floor claim states kept wide values ranks e =
+    let p = and_parts (are_kept states None kept && eqb (length wide) (length kept) && eqb (length values) (length kept)) (eqb (length ranks) (length kept))
+    (floor-lists claim states kept wide values ranks e) in
+    let q = and_parts (are_kept states None kept && eqb (length wide) (length kept)) (eqb (length values) (length kept)) p.0 in
+    let r = and_parts (are_kept states None kept) (eqb (length wide) (length kept)) q.0 in
+    floor-count kept wide values ranks (number-same _ _ r.1) (number-same _ _ q.1) (number-same _ _ p.1)

@@ -12,6 +12,9 @@ pub mod Numbered
 pub mod Columns
 pub mod Sections
 pub mod Bodies
+pub mod OneByOne
+pub mod Kept
+pub mod Places
 pub mod Parts
 pub mod FirstBroken
 mod Examples

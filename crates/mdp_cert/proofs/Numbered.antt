@@ -13,15 +13,15 @@ use Rattle.mdp_num.proofs.Spellings.{sound, complete}
 use Rattle.mdp_cert.specs.declared.error.CertKind.TheVariants.{Version, Number, Count}
 use Rattle.mdp_cert.specs.declared.error.Refusal.{Refusal}
 use Rattle.mdp_cert.specs.declared.init.Init.{Init}
-use Rattle.mdp_cert.specs.declared.init.Init.TheVariants.{Missing, Finite, Infinite}
+use Rattle.mdp_cert.specs.declared.init.Init.TheVariants.{Missing, Finite, Infinite, Start}
 use Rattle.mdp_cert.specs.declared.version.Version as version
 use Rattle.mdp_cert.specs.declared.version.Version.TheVariants.{One, Two}
-use Rattle.mdp_cert.specs.Cert.{PlainClaim, may_be_infinite, is_init_of, IsInitInWidth, IsValueNarrow}
+use Rattle.mdp_cert.specs.Cert.{PlainClaim, upper, reach, reward, mean, witness, may_be_infinite, is_witness, is_init_of, IsInitInWidth, IsValueNarrow}
 use Rattle.mdp_cert.specs.Claims.{reward_text}
 use Rattle.mdp_cert.specs.Lines.{◌>>=◌, refuse_if, or_refused}
 use Rattle.mdp_cert.specs.Words.{first_of, words_behind, whole_at}
 use Rattle.mdp_cert.specs.Spelling.{◌␣◌, version_text, states_text, init_text}
-use Rattle.mdp_cert.specs.Reading.{version_at, states_at, init_parse, init_of, given_at, valued_at, init_at}
+use Rattle.mdp_cert.specs.Reading.{version_at, states_at, init_parse, init_of, given_at, valued_at, start_at, init_at}
 use Rattle.mdp_cert.proofs.Pieces.{Free, decimal-some}
 use Rattle.mdp_cert.proofs.Cuts.{bytes_same}
 use Rattle.mdp_cert.proofs.Feeds.{bind_ok, ok-is, refuse_ok, found_ok, whole-found, whole-again}
@@ -141,18 +141,19 @@ init-text : (state : ℕ) (v : Option ℚ) → codes "init" ␣ decimal state �
 init-text state None = refl
 init-text state (Some x) = refl
 
-init-inside_of : (claim : PlainClaim) (states state : ℕ) (v : Option ℚ) → IsAllowed (may_be_infinite claim) v → ltb state states ≡ true → is_init_of claim states (init_of state v) ≡ true
-init-inside_of claim states state None allowed lt = rw (allowed, lt) refl
-init-inside_of claim states state (Some x) allowed lt = lt
+init-inside_of : (claim : PlainClaim) (states state : ℕ) (v : Option ℚ) → is_witness claim ≡ false → IsAllowed (may_be_infinite claim) v → ltb state states ≡ true
+    → is_init_of claim states (init_of state v) ≡ true
+init-inside_of claim states state None form allowed lt = rw (allowed, lt) refl
+init-inside_of claim states state (Some x) form allowed lt = rw (form, lt) refl
 
 init-narrow : (state : ℕ) (v : Option ℚ) → IsValueNarrow v → IsInitInWidth (init_of state v)
 init-narrow state None h = tt
 init-narrow state (Some x) h = h
 
-given-found : (claim : PlainClaim) (states n : ℕ) (text : List ℕ) (init : Init) → given_at (may_be_infinite claim) states n text ≡ Ok init
+given-found : (claim : PlainClaim) (states n : ℕ) (text : List ℕ) (init : Init) → is_witness claim ≡ false → given_at (may_be_infinite claim) states n text ≡ Ok init
     → (text ≡ init_text init) × (is_init_of claim states init ≡ true) × IsInitInWidth init
 unfolding given_at
-given-found claim states n text init e =
+given-found claim states n text init form e =
     let infinite = may_be_infinite claim in
     let one = bind_ok (words_behind (codes "init") 2 n text) (init-state infinite states n) init e in
     let two = bind_ok (whole_at n (first_of one.0)) (init-value infinite states n one.0) init one.2 in
@@ -168,7 +169,7 @@ given-found claim states n text init e =
           ∙ ap (λ (ws : List (List ℕ)). join_with_byte 32 (codes "init" ∷ ws)) (two-words one.0 t.1)
           ∙ ap₂ (λ (v w : List ℕ). codes "init" ␣ v ␣ w) word.0 value.0
           ∙ init-text two.0 three.0,
-      init-inside_of claim states two.0 three.0 value.2 inside,
+      init-inside_of claim states two.0 three.0 form value.2 inside,
       init-narrow two.0 three.0 value.1,
     )
 
@@ -201,26 +202,85 @@ valued-given infinite states n state v inside limit narrow allowed =
     let lt : state < states = grind (arith, nat_tests) in
     rw (given-other state (reward_text v) (omega arith), given-again infinite states n state v inside limit narrow allowed) refl
 
+-- ---- a state alone
+
+abbrev pub start-inside : ℕ → ℕ → ℕ → Result Init Refusal
+start-inside states n state = refuse_if Count n (not (ltb state states)) >>= λ inside. Ok (Start state)
+
+abbrev pub start-state : ℕ → ℕ → List (List ℕ) → Result Init Refusal
+start-state states n behind = whole_at n (first_of behind) >>= start-inside states n
+
+start-found : (claim : PlainClaim) (states n : ℕ) (text : List ℕ) (init : Init) → is_witness claim ≡ true → start_at states n text ≡ Ok init
+    → (text ≡ init_text init) × (is_init_of claim states init ≡ true) × IsInitInWidth init
+unfolding start_at
+start-found claim states n text init form e =
+    let one = bind_ok (words_behind (codes "init") 1 n text) (start-state states n) init e in
+    let two = bind_ok (whole_at n (first_of one.0)) (start-inside states n) init one.2 in
+    let three = bind_ok (refuse_if Count n (not (ltb two.0 states))) (λ inside. Ok (Start two.0)) init two.2 in
+    let inside : ltb two.0 states ≡ true = not-false _ (refuse_ok _ Count n three.0 three.1) in
+    let word = whole-found n (first_of one.0) two.0 two.1 in
+    let t = behind-text (codes "init") 1 n text one.0 one.1 in
+    subst (λ (i : Init). (text ≡ init_text i) × (is_init_of claim states i ≡ true) × IsInitInWidth i) (ok-is _ init three.2) (
+      t.0 ∙ ap (λ (ws : List (List ℕ)). join_with_byte 32 (codes "init" ∷ ws)) (one-word one.0 t.1) ∙ ap (λ (w : List ℕ). codes "init" ␣ w) word.0,
+      rw (form, inside) refl,
+      tt,
+    )
+
+start-again : (states n state : ℕ) → ltb state states ≡ true → states ≤ 2 ^ 20 → start_at states n (init_text (Start state)) ≡ Ok (Start state)
+unfolding start_at
+start-again states n state inside limit =
+    let lt : state < states = grind (arith, nat_tests) in
+    let small : state < 2 ^ 32 = omega arith in
+    let ws : words_behind (codes "init") 1 n (init_text (Start state)) ≡ Ok (decimal state ∷ []) =
+    behind-again (codes "init") 1 n (decimal state ∷ []) refl refl (free-whole 32 state (omega arith) small, tt) in
+    rw (ws, whole-again n state small, inside) refl
+
 -- ---- the form of each claim
 
-pub init-found : (claim : PlainClaim) (states n : ℕ) (text : List ℕ) (init : Init) → init_at claim states n text ≡ Ok init
+valued-found : (claim : PlainClaim) (states n : ℕ) (text : List ℕ) (init : Init) → is_witness claim ≡ false → valued_at (may_be_infinite claim) states n text ≡ Ok init
     → (text ≡ init_text init) × (is_init_of claim states init ≡ true) × IsInitInWidth init
 unfolding valued_at
-init-found claim states n text init e = by (bytes_eq text (codes "init -")) refl e
+valued-found claim states n text init form e = by (bytes_eq text (codes "init -")) refl e
   where
     by : (b : Bool) → bytes_eq text (codes "init -") ≡ b → cond b (Ok Missing) (given_at (may_be_infinite claim) states n text) ≡ Ok init
         → (text ≡ init_text init) × (is_init_of claim states init ≡ true) × IsInitInWidth init
     by true t e =
         let is : Missing ≡ init = cc in
-        subst (λ (i : Init). (text ≡ init_text i) × (is_init_of claim states i ≡ true) × IsInitInWidth i) is (bytes_same text (codes "init -") t, refl, tt)
-    by false t e = given-found claim states n text init e
+        subst (λ (i : Init). (text ≡ init_text i) × (is_init_of claim states i ≡ true) × IsInitInWidth i) is (bytes_same text (codes "init -") t, ap not form, tt)
+    by false t e = given-found claim states n text init form e
+
+pub init-found : (claim : PlainClaim) (states n : ℕ) (text : List ℕ) (init : Init) → init_at claim states n text ≡ Ok init
+    → (text ≡ init_text init) × (is_init_of claim states init ≡ true) × IsInitInWidth init
+init-found claim states n text init e = by (is_witness claim) refl e
+  where
+    by : (b : Bool) → is_witness claim ≡ b → cond b (start_at states n text) (valued_at (may_be_infinite claim) states n text) ≡ Ok init
+        → (text ≡ init_text init) × (is_init_of claim states init ≡ true) × IsInitInWidth init
+    by true form e = start-found claim states n text init form e
+    by false form e = valued-found claim states n text init form e
+
+not-witness : (b : Bool) → not b ≡ true → b ≡ false
+not-witness false e = refl
+not-witness true e = absurd cc
+
+-- no claim of a subsystem has infinite values
+infinite-form : (claim : PlainClaim) → may_be_infinite claim ≡ true → is_witness claim ≡ false
+infinite-form (upper label) e = refl
+infinite-form (reach dir label) e = refl
+infinite-form (reward dir name label) e = refl
+infinite-form (mean dir name) e = refl
+infinite-form (witness dir label threshold) e = absurd cc
 
 pub init-again : (claim : PlainClaim) (states n : ℕ) (init : Init) → is_init_of claim states init ≡ true → states ≤ 2 ^ 20 → IsInitInWidth init → init_at claim states n (init_text init) ≡ Ok init
 unfolding valued_at
-init-again claim states n Missing inside limit narrow = refl
-init-again claim states n (Finite state value) inside limit narrow = valued-given (may_be_infinite claim) states n state (Some value) inside limit narrow tt
+init-again claim states n Missing inside limit narrow = rw (not-witness (is_witness claim) inside) refl
+init-again claim states n (Finite state value) inside limit narrow =
+    let p = and_parts (not (is_witness claim)) (ltb state states) inside in
+    rw (not-witness (is_witness claim) p.0) (valued-given (may_be_infinite claim) states n state (Some value) p.1 limit narrow tt)
 init-again claim states n (Infinite state) inside limit narrow =
-    let p = and_parts (may_be_infinite claim) (ltb state states) inside in valued-given (may_be_infinite claim) states n state None p.1 limit tt p.0
+    let p = and_parts (may_be_infinite claim) (ltb state states) inside in
+    rw (infinite-form claim p.0) (valued-given (may_be_infinite claim) states n state None p.1 limit tt p.0)
+init-again claim states n (Start state) inside limit narrow =
+    let p = and_parts (is_witness claim) (ltb state states) inside in rw (p.0) (start-again states n state p.1 limit)
 
 free-given : (state : ℕ) (v : Option ℚ) → state < 2 ^ 32 → IsValueNarrow v → Free 10 (codes "init" ␣ decimal state ␣ reward_text v)
 free-given state v small narrow =
@@ -229,7 +289,13 @@ free-given state v small narrow =
 pub free-init : (claim : PlainClaim) (states : ℕ) (init : Init) → is_init_of claim states init ≡ true → states ≤ 2 ^ 20 → IsInitInWidth init → Free 10 (init_text init)
 free-init claim states Missing inside limit narrow = refl
 free-init claim states (Finite state value) inside limit narrow =
-    let lt : state < states = grind (arith, nat_tests) in free-given state (Some value) (omega arith) narrow
+    let p = and_parts (not (is_witness claim)) (ltb state states) inside in
+    let lt : state < states = (let q = p.1 in grind (arith, nat_tests)) in
+    free-given state (Some value) (omega arith) narrow
+free-init claim states (Start state) inside limit narrow =
+    let p = and_parts (is_witness claim) (ltb state states) inside in
+    let lt : state < states = (let q = p.1 in grind (arith, nat_tests)) in
+    free-join 10 (codes "init" ∷ decimal state ∷ []) refl (refl, (free-whole 10 state (omega arith) (omega arith), tt))
 free-init claim states (Infinite state) inside limit narrow =
     let p = and_parts (may_be_infinite claim) (ltb state states) inside in
     let lt : state < states = (let q = p.1 in grind (arith, nat_tests)) in

@@ -1,6 +1,6 @@
 -- The parts of a text are read exactly where they are the texts of what is read.
-use Rattle.std.proofs.Common.{◌≡◌, ◌↔◌, ◌⊎◌, inl, inr, ℕ, suc, ◌+◌, ◌<◌, ◌≤◌, ◌^◌, true, false, eqb, ltb, ◌&&◌}
-use Rattle.std.proofs.Common.{List, [], ◌∷◌, ◌++◌, length, map, Option, Result, Ok, Err, refl, sym, ap, subst, ◌∙◌, append_assoc, arith}
+use Rattle.std.proofs.Common.{◌≡◌, ◌↔◌, ◌⊎◌, inl, inr, ℕ, suc, ◌+◌, ◌<◌, ◌≤◌, ◌^◌, Bool, true, false, eqb, ltb, ◌&&◌}
+use Rattle.std.proofs.Common.{List, [], ◌∷◌, ◌++◌, length, map, Option, None, Result, Ok, Err, refl, sym, ap, subst, ◌∙◌, append_assoc, arith}
 use Rattle.std.specs.Prelude.{codes}
 use Rattle.std.specs.List.{All, join_with_byte}
 use Rattle.std.proofs.lemmas.Bool.{both_ways, lt-ltb}
@@ -16,24 +16,33 @@ use Rattle.mdp_cert.specs.declared.mean_entry.MeanEntry.{MeanEntry}
 use Rattle.mdp_cert.specs.declared.policy_entry.PolicyEntry.{PolicyEntry}
 use Rattle.mdp_cert.specs.declared.version.Version.{Version}
 use Rattle.mdp_cert.specs.declared.version.Version.TheVariants.{One, Two}
-use Rattle.mdp_cert.specs.Cert.{PlainClaim, upper, reach, reward, mean, PlainBody, bounds, policy, rewards}
-use Rattle.mdp_cert.specs.Cert.{gains, Certificate, are_names, is_init_of, is_body_of, IsInitInWidth, IsValueNarrow, IsBodyInWidth, Fits}
+use Rattle.mdp_rows.specs.declared.dir.Dir.TheVariants.{Max, Min}
+use Rattle.mdp_flow.specs.declared.flow.Flow.{Flow}
+use Rattle.mdp_cert.specs.declared.flow_line.FlowLine.{FlowLine}
+use Rattle.mdp_cert.specs.declared.floor_line.FloorLine.{FloorLine}
+use Rattle.mdp_cert.specs.Cert.{PlainClaim, upper, reach, reward, mean, witness, PlainBody, bounds, policy, rewards, gains, flow, floor, Certificate}
+use Rattle.mdp_cert.specs.Cert.{are_kept, are_flows, is_init_of, is_body_of, IsInitInWidth, IsValueNarrow, IsFlowInWidth, IsBodyInWidth, Fits}
+use Rattle.mdp_cert.specs.Witness.{flow_listed, flow_lines, flow_body, floor_listed, floor_lines, floor_body}
 use Rattle.mdp_cert.specs.Lines.{◌>>=◌, Place, place, line_by}
 use Rattle.mdp_cert.specs.Words.{first_of, words_behind, frac_at}
 use Rattle.mdp_cert.specs.Claims.{Value, fraction_value, reward_value, bound_columns, policy_columns, policies, IsPolicyInWidth, mean_columns, means, IsMeanInWidth}
-use Rattle.mdp_cert.specs.Spelling.{◌␣◌, spread_text, line, version_text, claim_text, states_text, init_text, closed_lines, body_text, text_in, text_of, old_text_of}
+use Rattle.mdp_cert.specs.Spelling.{◌␣◌, spread_text, line, version_text, claim_text, states_text, init_text, closed_lines, listed_lines, body_text, text_in, text_of, old_text_of}
 use Rattle.mdp_cert.specs.Laws.{AreSameWords}
-use Rattle.mdp_cert.specs.Reading.{version_at, claim_at, states_at, init_at, Head, head_from, entries_to_end, policy_body, reward_body, mean_body, spread_at, body_from, nothing_behind, outcome}
+use Rattle.mdp_cert.specs.Reading.{version_at, claim_at, states_at, init_at, Head, head_from, entries_to_end, policy_body, reward_body, mean_body, spread_at}
+use Rattle.mdp_cert.specs.Reading.{listed_to_end, body_from, nothing_behind, outcome}
 use Rattle.mdp_cert.proofs.Cuts.{same-number, number-same}
 use Rattle.mdp_cert.proofs.Pieces.{Free, free-spelling}
 use Rattle.mdp_cert.proofs.Joined.{free-join, behind-again, behind-text}
 use Rattle.mdp_cert.proofs.Feeds.{ok-is, bind_ok, refuse_ok, judged-found, judged-again, frac-found, frac-again}
-use Rattle.mdp_cert.proofs.Claims.{claim-found, claim-again, free-claim}
+use Rattle.mdp_cert.proofs.Claims.{IsRight, claim-found, claim-again, free-claim}
 use Rattle.mdp_cert.proofs.Numbered.{one-word, version-found, version-again, free-version, states-found, states-again, free-states, init-found, init-again, free-init}
 use Rattle.mdp_cert.proofs.Columns.{IsValue, fraction-is_value, reward-is_value, bound-is_columns, policy-is_columns, mean-is_columns, same-words}
 use Rattle.mdp_cert.proofs.Growth.{three-entries, four-entries}
 use Rattle.mdp_cert.proofs.Means.{back, means-of}
 use Rattle.mdp_cert.proofs.Bodies.{Each, closed-found, closed-again}
+use Rattle.mdp_cert.proofs.OneByOne.{to_end-found, to_end-again}
+use Rattle.mdp_cert.proofs.Kept.{IsNextLine, flow-is_listed, lines-of, flow-entries, flow-width, flows-again}
+use Rattle.mdp_cert.proofs.Kept.{IsNextFloor, floor-is_listed, floors-of, floor-values, floor-ranks, floor-entries, floor-counts, floors-back, floors-next}
 use Rattle.mdp_cert.proofs.Policies.{length-policies, values-policies, choices-policies, ranks-policies, policies-of}
 
 -- ---- the head
@@ -41,7 +50,7 @@ use Rattle.mdp_cert.proofs.Policies.{length-policies, values-policies, choices-p
 pub record IsHead (h : Head) : Type 0 where
   pub some : 0 < h.states
   pub limit : h.states ≤ 2 ^ 20
-  pub names : are_names h.claim ≡ true
+  pub claim : IsRight h.claim
   pub inside : is_init_of h.claim h.states h.init ≡ true
   pub width : IsInitInWidth h.init
 
@@ -73,7 +82,7 @@ head-found p h q e =
     let init = init-found one.0.0 two.0.0 two.0.1.line i.text three.0.0 i.said in
     subst (λ (r : Head × Place). FoundHead p r.0 r.1) same (record {
       text = joined _ _ _ _ _ _ _ _ _ _ c.is.front s.is.front i.is.front claim.0 states.0 init.0;
-      is = record { some = states.1; limit = states.2; names = claim.1; inside = init.1; width = init.2 };
+      is = record { some = states.1; limit = states.2; claim = claim.1; inside = init.1; width = init.2 };
     })
   where
     joined : (a b c d t u v a' t' v' : List ℕ) → a ≡ line t ++ b → b ≡ line u ++ c → c ≡ line v ++ d → t ≡ a' → u ≡ t' → v ≡ v' → a ≡ (line a' ++ (line t' ++ line v')) ++ d
@@ -88,7 +97,7 @@ head-again n h rest ok =
       append_assoc (line (states_text h.states)) (line (init_text h.init)) rest,
     ) (
     ap (λ (r : Result (PlainClaim × Place) Refusal). r >>= head-states)
-    (judged-again claim_at n (claim_text h.claim) (line (states_text h.states) ++ (line (init_text h.init) ++ rest)) h.claim (free-claim h.claim ok.names) (claim-again n h.claim ok.names))
+    (judged-again claim_at n (claim_text h.claim) (line (states_text h.states) ++ (line (init_text h.init) ++ rest)) h.claim (free-claim h.claim ok.claim) (claim-again n h.claim ok.claim))
     ∙ ap (λ (r : Result (ℕ × Place) Refusal). r >>= head-init (h.claim, place (n + 1) (line (states_text h.states) ++ (line (init_text h.init) ++ rest))))
     (judged-again states_at (n + 1) (states_text h.states) (line (init_text h.init) ++ rest) h.states (free-states h.states ok.limit) (states-again (n + 1) h.states ok.some ok.limit))
     ∙ ap (λ (r : Result (Init × Place) Refusal). r >>= λ init. let q : Result (Head × Place) Refusal = Ok
@@ -263,6 +272,72 @@ mean-again v dir name states n gs zs bs cs k rest limit ok =
     parts : (a b c d e f : List ℚ) (g h : List ℕ) → a ≡ b → c ≡ d → e ≡ f → g ≡ h → gains a c e g k ≡ gains b d f h k
     parts a b c d e f g h p q o t = rw (p, q, o, t) refl
 
+-- ---- the lines of a subsystem
+
+abbrev flows-behind : List FlowLine × Place → Result (PlainBody × Place) Refusal
+flows-behind xs = Ok (flow_body xs.0, xs.1)
+
+abbrev floors-behind : List FloorLine × Place → Result (PlainBody × Place) Refusal
+floors-behind xs = Ok (floor_body xs.0, xs.1)
+
+flows-found : (v : Version) (label : List ℕ) (t : ℚ) (states : ℕ) (p : Place) (b : PlainBody) (q : Place) → states ≤ 2 ^ 20
+    → (listed_to_end flow_listed states p >>= flows-behind) ≡ Ok (b, q) → FoundBody v (witness Max label t) states p b q
+flows-found v label t states p b q limit e =
+    let all = bind_ok (listed_to_end flow_listed states p) flows-behind (b, q) e in
+    let xs = all.0.0 in
+    let same : (let r : PlainBody × Place = (flow_body xs, all.0.1) in r) ≡ (b, q) = ok-is _ _ all.2 in
+    let f = to_end-found flow_listed states (IsNextLine states limit) (flow-is_listed states limit) p xs all.0.1 all.1 in
+    subst (λ (r : PlainBody × Place). FoundBody v (witness Max label t) states p r.0 r.1) same (record {
+      text = f.text ∙ ap (λ (ys : List FlowLine). listed_lines flow_listed ys ++ all.0.1.rest) (sym (lines-of states limit None xs f.next));
+      fits = record { entries = flow-entries states limit xs f.next; width = each-all IsFlowInWidth _ (flow-width states limit None xs f.next) };
+    })
+
+floors-found : (v : Version) (label : List ℕ) (t : ℚ) (states : ℕ) (p : Place) (b : PlainBody) (q : Place) → states ≤ 2 ^ 20
+    → (listed_to_end floor_listed states p >>= floors-behind) ≡ Ok (b, q) → FoundBody v (witness Min label t) states p b q
+floors-found v label t states p b q limit e =
+    let all = bind_ok (listed_to_end floor_listed states p) floors-behind (b, q) e in
+    let xs = all.0.0 in
+    let same : (let r : PlainBody × Place = (floor_body xs, all.0.1) in r) ≡ (b, q) = ok-is _ _ all.2 in
+    let f = to_end-found floor_listed states (IsNextFloor states limit) (floor-is_listed states limit) p xs all.0.1 all.1 in
+    subst (λ (r : PlainBody × Place). FoundBody v (witness Min label t) states p r.0 r.1) same (record {
+      text = f.text ∙ ap (λ (ys : List FloorLine). listed_lines floor_listed ys ++ all.0.1.rest) (sym (floors-of states limit xs));
+      fits = record {
+        entries = floor-entries states limit xs f.next;
+        width = (each-all IsNarrow _ (floor-values states limit None xs f.next), each-all (λ r. r < 2 ^ 32) _ (floor-ranks states limit None xs f.next));
+      };
+    })
+
+flows-read : (v : Version) (states n : ℕ) (kept : List ℕ) (wide : List Bool) (flows : List Flow) (rest : List ℕ) → states ≤ 2 ^ 20
+    → (are_kept states None kept && eqb (length wide) (length kept) && are_flows states None flows) ≡ true → IsBodyInWidth (flow kept wide flows)
+    → (m : ℕ) × ((listed_to_end flow_listed states (place n (body_text v (flow kept wide flows) ++ rest)) >>= flows-behind) ≡ Ok (flow kept wide flows, place m rest))
+flows-read v states n kept wide flows rest limit ok width =
+    let a = flows-again states limit kept wide flows ok (all-each IsFlowInWidth flows width) in
+    let r = to_end-again flow_listed states (IsNextLine states limit) (flow-is_listed states limit) n (flow_lines kept wide flows) rest a.next in (
+      r.0,
+      ap (λ (q : Result (List FlowLine × Place) Refusal). q >>= flows-behind) r.1
+          ∙ ap (λ (b : PlainBody). let z : Result (PlainBody × Place) Refusal = Ok (b, place r.0 rest) in z) (parts _ _ _ _ _ _ a.kept_is a.wide_is a.flows_are),
+    )
+  where
+    parts : (a b : List ℕ) (c d : List Bool) (f g : List Flow) → a ≡ b → c ≡ d → f ≡ g → flow a c f ≡ flow b d g
+    parts a b c d f g p q o = rw (p, q, o) refl
+
+floors-read : (v : Version) (states n : ℕ) (kept : List ℕ) (wide : List Bool) (values : List ℚ) (ranks rest : List ℕ) → states ≤ 2 ^ 20
+    → (are_kept states None kept && eqb (length wide) (length kept) && eqb (length values) (length kept) && eqb (length ranks) (length kept)) ≡ true
+    → IsBodyInWidth (floor kept wide values ranks)
+    → (m : ℕ) × ((listed_to_end floor_listed states (place n (body_text v (floor kept wide values ranks) ++ rest)) >>= floors-behind) ≡ Ok (floor kept wide values ranks, place m rest))
+floors-read v states n kept wide values ranks rest limit ok width =
+    let c = floor-counts states limit kept wide values ranks ok in
+    let a = floors-back states limit kept wide values ranks c.1 in
+    let next = floors-next states limit kept wide values ranks c.0 (all-each IsNarrow values width.0) (all-each (λ r. r < 2 ^ 32) ranks width.1) in
+    let r = to_end-again floor_listed states (IsNextFloor states limit) (floor-is_listed states limit) n (floor_lines kept wide values ranks) rest next in (
+      r.0,
+      ap (λ (q : Result (List FloorLine × Place) Refusal). q >>= floors-behind) r.1
+          ∙ ap (λ (b : PlainBody). let z : Result (PlainBody × Place) Refusal = Ok (b, place r.0 rest) in z) (parts _ _ _ _ _ _ _ _ a.kept_is a.wide_is a.values_are a.ranks_are),
+    )
+  where
+    parts : (a b : List ℕ) (c d : List Bool) (f g : List ℚ) (s t : List ℕ) → a ≡ b → c ≡ d → f ≡ g → s ≡ t → floor a c f s ≡ floor b d g t
+    parts a b c d f g s t p q o r = rw (p, q, o, r) refl
+
 -- ---- by the claim
 
 pub body-found : (v : Version) (claim : PlainClaim) (states : ℕ) (p : Place) (b : PlainBody) (q : Place) → states ≤ 2 ^ 20 → body_from v claim states p ≡ Ok (b, q)
@@ -285,6 +360,8 @@ body-found v (reward dir name label) states p b q limit e =
     let f = policy-found reward_value IsValueNarrow reward-is_value states limit v p all.0.0 all.0.1 all.1 in
     subst (λ (r : PlainBody × Place). FoundBody v (reward dir name label) states p r.0 r.1) same (record { text = f.text; fits = record { entries = f.entries; width = f.width } })
 body-found v (mean dir name) states p b q limit e = mean-found v dir name states p b q limit e
+body-found v (witness Max label t) states p b q limit e = flows-found v label t states p b q limit e
+body-found v (witness Min label t) states p b q limit e = floors-found v label t states p b q limit e
 
 abbrev bounds-of : List ℚ × Place → Result (PlainBody × Place) Refusal
 bounds-of xs = Ok (bounds xs.0, xs.1)
@@ -336,18 +413,38 @@ body-again v (upper label) states n (bounds zs) rest limit ok = bounds-again v s
 body-again v (upper label) states n (policy zs cs rs) rest limit ok = absurd (let t = ok.entries in cc)
 body-again v (upper label) states n (rewards zs cs rs) rest limit ok = absurd (let t = ok.entries in cc)
 body-again v (upper label) states n (gains gs zs bs cs k) rest limit ok = absurd (let t = ok.entries in cc)
-body-again v (reach dir label) states n (policy zs cs rs) rest limit ok = reach-again v states n zs cs rs rest limit ok.entries ok.width
+body-again v (upper label) states n (flow kept wide flows) rest limit ok = absurd (let t = ok.entries in cc)
+body-again v (upper label) states n (floor kept wide values ranks) rest limit ok = absurd (let t = ok.entries in cc)
 body-again v (reach dir label) states n (bounds zs) rest limit ok = absurd (let t = ok.entries in cc)
+body-again v (reach dir label) states n (policy zs cs rs) rest limit ok = reach-again v states n zs cs rs rest limit ok.entries ok.width
 body-again v (reach dir label) states n (rewards zs cs rs) rest limit ok = absurd (let t = ok.entries in cc)
 body-again v (reach dir label) states n (gains gs zs bs cs k) rest limit ok = absurd (let t = ok.entries in cc)
-body-again v (reward dir name label) states n (rewards zs cs rs) rest limit ok = reward-again v states n zs cs rs rest limit ok.entries ok.width
+body-again v (reach dir label) states n (flow kept wide flows) rest limit ok = absurd (let t = ok.entries in cc)
+body-again v (reach dir label) states n (floor kept wide values ranks) rest limit ok = absurd (let t = ok.entries in cc)
 body-again v (reward dir name label) states n (bounds zs) rest limit ok = absurd (let t = ok.entries in cc)
 body-again v (reward dir name label) states n (policy zs cs rs) rest limit ok = absurd (let t = ok.entries in cc)
+body-again v (reward dir name label) states n (rewards zs cs rs) rest limit ok = reward-again v states n zs cs rs rest limit ok.entries ok.width
 body-again v (reward dir name label) states n (gains gs zs bs cs k) rest limit ok = absurd (let t = ok.entries in cc)
+body-again v (reward dir name label) states n (flow kept wide flows) rest limit ok = absurd (let t = ok.entries in cc)
+body-again v (reward dir name label) states n (floor kept wide values ranks) rest limit ok = absurd (let t = ok.entries in cc)
 body-again v (mean dir name) states n (bounds zs) rest limit ok = absurd (let t = ok.entries in cc)
 body-again v (mean dir name) states n (policy zs cs rs) rest limit ok = absurd (let t = ok.entries in cc)
 body-again v (mean dir name) states n (rewards zs cs rs) rest limit ok = absurd (let t = ok.entries in cc)
 body-again v (mean dir name) states n (gains gs zs bs cs k) rest limit ok = mean-again v dir name states n gs zs bs cs k rest limit ok
+body-again v (mean dir name) states n (flow kept wide flows) rest limit ok = absurd (let t = ok.entries in cc)
+body-again v (mean dir name) states n (floor kept wide values ranks) rest limit ok = absurd (let t = ok.entries in cc)
+body-again v (witness Max label t) states n (bounds zs) rest limit ok = absurd (let t = ok.entries in cc)
+body-again v (witness Max label t) states n (policy zs cs rs) rest limit ok = absurd (let t = ok.entries in cc)
+body-again v (witness Max label t) states n (rewards zs cs rs) rest limit ok = absurd (let t = ok.entries in cc)
+body-again v (witness Max label t) states n (gains gs zs bs cs k) rest limit ok = absurd (let t = ok.entries in cc)
+body-again v (witness Max label t) states n (flow kept wide flows) rest limit ok = flows-read v states n kept wide flows rest limit ok.entries ok.width
+body-again v (witness Max label t) states n (floor kept wide values ranks) rest limit ok = absurd (let t = ok.entries in cc)
+body-again v (witness Min label t) states n (bounds zs) rest limit ok = absurd (let t = ok.entries in cc)
+body-again v (witness Min label t) states n (policy zs cs rs) rest limit ok = absurd (let t = ok.entries in cc)
+body-again v (witness Min label t) states n (rewards zs cs rs) rest limit ok = absurd (let t = ok.entries in cc)
+body-again v (witness Min label t) states n (gains gs zs bs cs k) rest limit ok = absurd (let t = ok.entries in cc)
+body-again v (witness Min label t) states n (flow kept wide flows) rest limit ok = absurd (let t = ok.entries in cc)
+body-again v (witness Min label t) states n (floor kept wide values ranks) rest limit ok = floors-read v states n kept wide values ranks rest limit ok.entries ok.width
 
 -- ---- the end
 
@@ -399,9 +496,11 @@ text-found bytes c e =
       fits = record {
         some = h.is.some;
         limit = h.is.limit;
-        names = h.is.names;
+        names = h.is.claim.names;
+        threshold = h.is.claim.threshold;
         inside = h.is.inside;
         entries = b.fits.entries;
+        claim_width = h.is.claim.width;
         init_width = h.is.width;
         body_width = b.fits.width;
       };
@@ -414,7 +513,8 @@ pub text-again : (v : Version) (c : Certificate) → Fits c → outcome (text_in
 unfolding outcome text_in nothing_behind
 text-again v c ok =
     let h : Head = record { claim = c.claim; states = c.states; init = c.init } in
-    let head : IsHead h = record { some = ok.some; limit = ok.limit; names = ok.names; inside = ok.inside; width = ok.init_width } in
+    let claim : IsRight c.claim = record { names = ok.names; threshold = ok.threshold; width = ok.claim_width } in
+    let head : IsHead h = record { some = ok.some; limit = ok.limit; claim = claim; inside = ok.inside; width = ok.init_width } in
     let body : FitsBody c.claim c.states c.body = record { entries = ok.entries; width = ok.body_width } in
     let b = body-again v c.claim c.states (1 + 1 + 1 + 1 + 1) c.body [] ok.limit body in
     ap (λ (r : Result (Version × Place) Refusal). r >>= whole-head) (judged-again version_at 1 (version_text v) (lines-of-head h ++ body_text v c.body) v (free-version v) (version-again 1 v))

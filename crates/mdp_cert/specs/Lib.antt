@@ -4,6 +4,8 @@ pub mod Lines
 pub mod Words
 pub mod Runs
 pub mod Claims
+pub mod Listed
+pub mod Witness
 pub mod Spelling
 pub mod Reading
 pub mod Answer

@@ -13,16 +13,18 @@ use Rattle.mdp_rows.specs.Name.{is_name}
 use Rattle.mdp_cert.specs.declared.error.CertKind.TheVariants as kind
 use Rattle.mdp_cert.specs.declared.error.Refusal.{Refusal}
 use Rattle.mdp_cert.specs.declared.init.Init.{Init}
-use Rattle.mdp_cert.specs.declared.init.Init.TheVariants.{Missing, Finite, Infinite}
+use Rattle.mdp_cert.specs.declared.init.Init.TheVariants.{Missing, Finite, Infinite, Start}
 use Rattle.mdp_cert.specs.declared.version.Version.{Version}
 use Rattle.mdp_cert.specs.declared.version.Version.TheVariants.{One, Two}
 use Rattle.mdp_cert.specs.declared.mean_entry.MeanEntry.{MeanEntry}
 use Rattle.mdp_cert.specs.declared.policy_entry.PolicyEntry.{PolicyEntry}
-use Rattle.mdp_cert.specs.Cert.{PlainClaim, upper, reach, reward, mean, may_be_infinite, PlainBody, bounds, policy, rewards, gains, Certificate}
+use Rattle.mdp_cert.specs.Cert.{PlainClaim, upper, reach, reward, mean, witness, may_be_infinite, is_witness, is_at_least_zero, PlainBody, bounds, policy, rewards, gains, Certificate}
 use Rattle.mdp_cert.specs.Lines.{◌>>=◌, refused, refuse_if, or_refused, is_line, Place, place, line_by}
 use Rattle.mdp_cert.specs.Words.{words, first_of, begins_with, words_behind, whole_at, frac_at}
 use Rattle.mdp_cert.specs.Runs.{Columns, Run, run, single, entries_of}
 use Rattle.mdp_cert.specs.Claims.{reward_parse, fraction_value, reward_value, bound_columns, policy_columns, mean_columns}
+use Rattle.mdp_cert.specs.Listed.{Listed}
+use Rattle.mdp_cert.specs.Witness.{flow_listed, flow_body, floor_listed, floor_body}
 use Rattle.mdp_cert.specs.Spelling.{version_text, end_text}
 
 -- ---- the version
@@ -79,9 +81,27 @@ mean_front Min = codes "claim min mean \""
 abbrev pub mean_claim : Dir → List ℕ → Option PlainClaim
 mean_claim dir text = option_map (mean dir) (name_behind (mean_front dir) text)
 
+-- a fraction from 0 on
+abbrev pub threshold_of : List ℕ → Option ℚ
+threshold_of word = option_and_then (λ t. if is_at_least_zero t then Some t else None) (canonical_of word)
+
+-- a name, `" `, and a threshold; the name ends at the first `"`
+abbrev pub name_and_threshold : List ℕ → Option (List ℕ × ℚ)
+name_and_threshold text =
+    if is_name (before_first is_quote text)
+    then option_map (λ t. (before_first is_quote text, t)) (option_and_then threshold_of (behind (codes "\" ") (drop (position_or_len is_quote text) text)))
+    else None
+
+abbrev pub witness_front : Dir → List ℕ
+witness_front Max = codes "claim max witness \""
+witness_front Min = codes "claim min witness \""
+
+abbrev pub witness_claim : Dir → List ℕ → Option PlainClaim
+witness_claim dir text = option_map (λ said. witness dir said.0 said.1) (option_and_then name_and_threshold (behind (witness_front dir) text))
+
 -- the claims of a direction
 unfoldable pub claim_to : Dir → List ℕ → Option PlainClaim
-claim_to dir text = option_or (reach_claim dir text) (option_or (reward_claim dir text) (mean_claim dir text))
+claim_to dir text = option_or (reach_claim dir text) (option_or (reward_claim dir text) (option_or (mean_claim dir text) (witness_claim dir text)))
 
 unfoldable pub claim_of : List ℕ → Option PlainClaim
 claim_of text = option_or (upper_claim text) (option_or (claim_to Max text) (claim_to Min text))
@@ -119,9 +139,17 @@ given_at infinite states n text = do
 unfoldable pub valued_at : Bool → ℕ → ℕ → List ℕ → Result Init Refusal
 valued_at infinite states n text = if bytes_eq text (codes "init -") then Ok Missing else given_at infinite states n text
 
+-- a state alone
+unfoldable pub start_at : ℕ → ℕ → List ℕ → Result Init Refusal
+start_at states n text = do
+  behind ← words_behind (codes "init") 1 n text
+  state ← whole_at n (first_of behind)
+  inside ← refuse_if kind.Count n (not (nat_lt state states))
+  Ok (Start state)
+
 -- the form of the line is the claim's
 abbrev pub init_at : PlainClaim → ℕ → ℕ → List ℕ → Result Init Refusal
-init_at claim states n text = valued_at (may_be_infinite claim) states n text
+init_at claim states n text = if is_witness claim then start_at states n text else valued_at (may_be_infinite claim) states n text
 
 pub record Head : Type 0 where
   pub claim : PlainClaim
@@ -217,6 +245,26 @@ mean_body spread xs = gains (map (λ x. x.gain) xs) (map (λ x. x.bound) xs) (ma
 unfoldable pub spread_at : ℕ → List ℕ → Result ℚ Refusal
 spread_at n text = words_behind (codes "spread") 1 n text >>= λ behind. frac_at n (first_of behind)
 
+-- ---- lines that are listed one by one
+
+-- what a line says; nothing where it is `end`
+unfoldable pub listed_at : {A : Type 0} → Listed A → ℕ → Option A → ℕ → List ℕ → Result (Option A) Refusal
+listed_at k states before n text = if bytes_eq text end_text then Ok None else (k.judge states before n text >>= λ x. Ok (Some x))
+
+-- a line before others; behind the line `end` none are read
+abbrev pub before_others : {A : Type 0} → Option A → Place → (A → Result (List A × Place) Refusal) → Result (List A × Place) Refusal
+before_others None p others = Ok ([], p)
+before_others (Some x) p others = others x >>= λ r. Ok (x ∷ r.0, r.1)
+
+-- the lines behind this one, and no more than `most` of them; each tells the next one what it says
+unfoldable pub listed_from : {A : Type 0} → ℕ → Listed A → ℕ → Option A → Place → Result (List A × Place) Refusal
+listed_from zero k states before p = refused kind.End p.line
+listed_from (suc most) k states before p = line_by (listed_at k states before) p >>= λ said. before_others said.0 said.1 (λ x. listed_from most k states (Some x) said.1)
+
+-- all lines with the line `end`; there are no more lines than bytes
+unfoldable pub listed_to_end : {A : Type 0} → Listed A → ℕ → Place → Result (List A × Place) Refusal
+listed_to_end k states p = listed_from (suc (length p.rest)) k states None p
+
 -- the lines behind the head, by the claim, with the line `end`
 unfoldable pub body_from : Version → PlainClaim → ℕ → Place → Result (PlainBody × Place) Refusal
 body_from v (upper label) states p = entries_to_end v bound_columns states p >>= λ xs. Ok (bounds xs.0, xs.1)
@@ -226,6 +274,8 @@ body_from v (mean dir name) states p = do
   spread ← line_by spread_at p
   xs ← entries_to_end v mean_columns states spread.1
   Ok (mean_body spread.0 xs.0, xs.1)
+body_from v (witness Max label threshold) states p = listed_to_end flow_listed states p >>= λ xs. Ok (flow_body xs.0, xs.1)
+body_from v (witness Min label threshold) states p = listed_to_end floor_listed states p >>= λ xs. Ok (floor_body xs.0, xs.1)
 
 -- ---- the whole
 

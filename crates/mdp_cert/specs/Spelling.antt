@@ -6,12 +6,14 @@ use Rattle.mdp_num.specs.Value.{spelling}
 use Rattle.mdp_rows.specs.declared.dir.Dir.{Dir}
 use Rattle.mdp_rows.specs.declared.dir.Dir.TheVariants.{Max, Min}
 use Rattle.mdp_cert.specs.declared.init.Init.{Init}
-use Rattle.mdp_cert.specs.declared.init.Init.TheVariants.{Missing, Finite, Infinite}
+use Rattle.mdp_cert.specs.declared.init.Init.TheVariants.{Missing, Finite, Infinite, Start}
 use Rattle.mdp_cert.specs.declared.version.Version.{Version}
 use Rattle.mdp_cert.specs.declared.version.Version.TheVariants.{One, Two}
-use Rattle.mdp_cert.specs.Cert.{PlainClaim, upper, reach, reward, mean, PlainBody, bounds, policy, rewards, gains, Certificate}
+use Rattle.mdp_cert.specs.Cert.{PlainClaim, upper, reach, reward, mean, witness, PlainBody, bounds, policy, rewards, gains, flow, floor, Certificate}
 use Rattle.mdp_cert.specs.Runs.{Columns, Run, runs_in}
 use Rattle.mdp_cert.specs.Claims.{fraction_value, reward_value, bound_columns, policy_columns, policies, mean_columns, means}
+use Rattle.mdp_cert.specs.Listed.{Listed}
+use Rattle.mdp_cert.specs.Witness.{flow_listed, flow_lines, floor_listed, floor_lines}
 
 -- a text with its line feed
 abbrev pub line : List ℕ → List ℕ
@@ -40,6 +42,7 @@ claim_text (upper label) = codes "claim" ␣ codes "upper" ␣ codes "reach" ␣
 claim_text (reach dir label) = codes "claim" ␣ dir_text dir ␣ codes "reach" ␣ quoted label
 claim_text (reward dir name label) = codes "claim" ␣ dir_text dir ␣ codes "reward" ␣ quoted name ␣ quoted label
 claim_text (mean dir name) = codes "claim" ␣ dir_text dir ␣ codes "mean" ␣ quoted name
+claim_text (witness dir label threshold) = codes "claim" ␣ dir_text dir ␣ codes "witness" ␣ quoted label ␣ spelling threshold
 
 abbrev pub states_text : ℕ → List ℕ
 states_text states = codes "states" ␣ decimal states
@@ -48,6 +51,7 @@ abbrev pub init_text : Init → List ℕ
 init_text Missing = codes "init -"
 init_text (Finite state value) = codes "init" ␣ decimal state ␣ spelling value
 init_text (Infinite state) = codes "init" ␣ decimal state ␣ codes "inf"
+init_text (Start state) = codes "init" ␣ decimal state
 
 abbrev pub head_text : Certificate → List ℕ
 head_text c = line (claim_text c.claim) ++ (line (states_text c.states) ++ line (init_text c.init))
@@ -76,16 +80,23 @@ end_text = codes "end"
 abbrev pub closed_lines : {A : Type 0} → Version → Columns A → List A → List ℕ
 closed_lines v k xs = state_lines v k xs ++ line end_text
 
+-- lines that are listed one by one, and the line `end`
+unfoldable pub listed_lines : {A : Type 0} → Listed A → List A → List ℕ
+listed_lines k [] = line end_text
+listed_lines k (x ∷ xs) = line (join_with_byte 32 (k.words x)) ++ listed_lines k xs
+
 -- the spread of a certificate of mean payoffs
 abbrev pub spread_text : ℚ → List ℕ
 spread_text spread = codes "spread" ␣ spelling spread
 
--- a body ends with the line `end`
+-- a body ends with the line `end`; that of a subsystem is the same in both versions
 abbrev pub body_text : Version → PlainBody → List ℕ
 body_text v (bounds values) = closed_lines v bound_columns values
 body_text v (policy values choices ranks) = closed_lines v (policy_columns fraction_value) (policies values choices ranks)
 body_text v (rewards values choices ranks) = closed_lines v (policy_columns reward_value) (policies values choices ranks)
 body_text v (gains gain bound bias choices spread) = line (spread_text spread) ++ closed_lines v mean_columns (means gain bound bias choices)
+body_text v (flow kept wide flows) = listed_lines flow_listed (flow_lines kept wide flows)
+body_text v (floor kept wide values ranks) = listed_lines floor_listed (floor_lines kept wide values ranks)
 
 -- ---- the whole
 

@@ -1,6 +1,7 @@
 use mdp_farkas::{MeanCert, ReachCert, RewardCert, UpperCert};
+use mdp_flow::{FloorCert, FlowCert};
 
-/// What a certificate says of each state.
+/// What a certificate says of each state, or of each kept state of a subsystem.
 #[derive(Debug, Drop)]
 pub enum Body {
     /// An upper bound.
@@ -11,4 +12,8 @@ pub enum Body {
     Reward(RewardCert),
     /// A gain, a bound, a bias and the policy's choice; and the spread of bounds and biases.
     Mean(MeanCert),
+    /// The kept states, ascending, each with its mark, and the flows on them, ascending by state and choice.
+    Flow(FlowCert),
+    /// The kept states, ascending, each with its mark, its value and its rank.
+    Floor(FloorCert),
 }

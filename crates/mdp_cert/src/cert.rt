@@ -1,11 +1,12 @@
 ghost use Rattle.std.specs.Prelude.{◌<◌, ◌≤◌, ◌^◌, IsTrue};
-ghost use Rattle.mdp_cert.specs.Cert.{plain_claim, plain_body, are_names, is_init_of, is_body_of};
+ghost use Rattle.mdp_cert.specs.Cert.{plain_claim, plain_body, are_names, has_threshold, is_init_of, is_body_of};
 
 use crate::body::Body;
 use crate::claim::Claim;
 use crate::init::Init;
 
 /// A certificate: its claim, the number of states, from 1 to 2^20, the initial state with its value, and a body of the claim's kind with an entry per state.
+/// For a subsystem the initial state has no value, and the body has an entry per kept state.
 #[derive(Debug, Drop)]
 pub struct Cert {
     pub claim: Claim,
@@ -15,6 +16,7 @@ pub struct Cert {
     ghost some: { 0 < states },
     ghost limit: { states ≤ 2 ^ 20 },
     ghost names: { IsTrue (are_names (plain_claim claim)) },
+    ghost threshold: { IsTrue (has_threshold (plain_claim claim)) },
     ghost inside: { IsTrue (is_init_of (plain_claim claim) states init) },
     ghost entries: { IsTrue (is_body_of (plain_claim claim) states (plain_body body)) },
 }

@@ -1,6 +1,8 @@
+use mdp_num::Frac;
 use mdp_rows::Dir;
 
-/// What a certificate says of a model. A label and the name of a reward model are names: 1 to 255 bytes without `"` and line feed.
+/// What a certificate says of a model. A label and the name of a reward model are names: 1 to 255 bytes without `"` and line feed. A threshold is
+/// at least 0.
 #[derive(Debug, Drop)]
 pub enum Claim {
     /// The values bound the probability of reaching the label from above, under each policy.
@@ -22,5 +24,11 @@ pub enum Claim {
     Mean {
         dir: Dir,
         name: Vec<u8>,
+    },
+    /// On the kept states alone the greatest, or the least, probability of reaching the label from the initial state is at least the threshold.
+    Witness {
+        dir: Dir,
+        label: Vec<u8>,
+        threshold: Frac,
     },
 }

@@ -3,11 +3,12 @@ ghost use Rattle.std.specs.List.{list_any, position_or_len};
 ghost use Rattle.mdp_rows.specs.Name.{is_name};
 ghost use Rattle.mdp_cert.specs.Cert.{plain_claim};
 ghost use Rattle.mdp_cert.specs.Reading.{behind, closed_name, name_behind, is_quote, two_names, upper_claim, reach_front};
-ghost use Rattle.mdp_cert.specs.Reading.{reach_claim, reward_front, reward_claim, mean_front, mean_claim, claim_to, claim_of, claim_at};
+ghost use Rattle.mdp_cert.specs.Reading.{reach_claim, reward_front, reward_claim, mean_front, mean_claim, threshold_of, name_and_threshold, witness_front, witness_claim, claim_to, claim_of, claim_at};
 ghost use Rattle.mdp_cert.specs.Answer.{Refuses};
 
 use crate::claim::Claim;
 use crate::error::{CertError, CertKind};
+use mdp_num::{Frac, read_canonical};
 use mdp_rows::Dir;
 use std::alloc::{AllocError, Global};
 
@@ -145,6 +146,63 @@ fn mean_claim(alloc: Global, dir: Dir, text: &[u8]) -> Result<Option<Claim>, All
     Ok(Some(Claim::Mean { dir, name }))
 }
 
+/// The fraction from 0 on that a word spells.
+fn threshold_of(word: &[u8]) -> Option<Frac>
+    ensures { result ≡ threshold_of word.now }
+{
+    let threshold = read_canonical(word)?;
+    if threshold.num() >= 0 {
+        Some(threshold)
+    } else {
+        None
+    }
+}
+
+/// The name before the first quote, and the threshold behind `" ` there.
+fn name_and_threshold(text: &[u8]) -> Option<(&[u8], Frac)>
+    ensures { MatchOption result (name_and_threshold text.now ≡ None) (λ said. name_and_threshold text.now ≡ Some (said.0.now, said.1)) }
+{
+    let end = before_quote(text);
+    let name = &text[..end];
+    if !is_name(name) {
+        return None;
+    }
+    let threshold = threshold_of(text[end..].strip_prefix(b"\" ")?)?;
+    Some((name, threshold))
+}
+
+/// What stands before the label in the claim `DIR witness`.
+pub(crate) fn witness_front(dir: Dir) -> &'static [u8]
+    ensures { result.now ≡ witness_front dir }
+{
+    match dir {
+        Dir::Max => b"claim max witness \"",
+        Dir::Min => b"claim min witness \"",
+    }
+}
+
+/// The label and the threshold of the claim `DIR witness` of this line.
+fn witness_parts(dir: Dir, text: &[u8]) -> Option<(&[u8], Frac)>
+    ensures { let due = option_and_then name_and_threshold (behind (witness_front dir) text.now) in MatchOption result (due ≡ None) (λ said. due ≡ Some (said.0.now, said.1)) }
+{
+    name_and_threshold(text.strip_prefix(witness_front(dir))?)
+}
+
+/// The claim `DIR witness` of this line.
+fn witness_claim(alloc: Global, dir: Dir, text: &[u8]) -> Result<Option<Claim>, AllocError>
+    ensures { IfOk result (λ c. option_map plain_claim c ≡ witness_claim dir text.now) }
+{
+    let Some((label, threshold)) = witness_parts(dir, text) else {
+        return Ok(None);
+    };
+    let label = Vec::from_slice(alloc, label)?;
+    Ok(Some(Claim::Witness {
+        dir,
+        label,
+        threshold,
+    }))
+}
+
 /// The claim of this direction in this line.
 #[tactic(auto, unfolding(crate::specs::Reading::claim_to))]
 fn claim_to(alloc: Global, dir: Dir, text: &[u8]) -> Result<Option<Claim>, AllocError>
@@ -156,7 +214,10 @@ fn claim_to(alloc: Global, dir: Dir, text: &[u8]) -> Result<Option<Claim>, Alloc
     if let Some(claim) = reward_claim(alloc, dir, text)? {
         return Ok(Some(claim));
     }
-    mean_claim(alloc, dir, text)
+    if let Some(claim) = mean_claim(alloc, dir, text)? {
+        return Ok(Some(claim));
+    }
+    witness_claim(alloc, dir, text)
 }
 
 /// The claim of this line, where it has one.

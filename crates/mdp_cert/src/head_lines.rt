@@ -1,8 +1,8 @@
 ghost use Rattle.std.specs.Prelude.{◌≡◌, Ok, MatchResult};
 ghost use Rattle.mdp_cert.specs.Answer.{Refuses, plain_head};
-ghost use Rattle.mdp_cert.specs.Cert.{plain_claim, may_be_infinite};
+ghost use Rattle.mdp_cert.specs.Cert.{plain_claim, may_be_infinite, is_witness};
 ghost use Rattle.mdp_cert.specs.Lines.{place};
-ghost use Rattle.mdp_cert.specs.Reading.{version_at, states_at, init_parse, init_of, given_at, valued_at, init_at, head_from};
+ghost use Rattle.mdp_cert.specs.Reading.{version_at, states_at, init_parse, init_of, given_at, valued_at, start_at, init_at, head_from};
 
 use crate::claim::Claim;
 use crate::claim_line::claim_at;
@@ -99,10 +99,31 @@ fn valued_at(infinite: bool, states: u32, line: u64, text: &[u8]) -> Result<Init
     given_at(infinite, states, line, text)
 }
 
+/// Whether the claim is one of a subsystem.
+fn is_witness(claim: &Claim) -> bool
+    ensures { result ≡ is_witness (plain_claim claim.now) }
+{
+    matches!(claim, Claim::Witness { .. })
+}
+
+/// The initial state of the line `init S`.
+#[tactic(auto, unfolding(crate::specs::Reading::start_at))]
+fn start_at(states: u32, line: u64, text: &[u8]) -> Result<Init, Refusal>
+    ensures { result ≡ start_at states line text.now }
+{
+    let word = words_behind(line, text, b"init", 1)?;
+    let state = whole_at(line, only_word(word))?;
+    refuse_if(CertKind::Count, line, state >= states)?;
+    Ok(Init::Start(state))
+}
+
 /// What the line `init` says, in the form of the claim.
 fn init_at(claim: &Claim, states: u32, line: u64, text: &[u8]) -> Result<Init, Refusal>
     ensures { result ≡ init_at (plain_claim claim.now) states line text.now }
 {
+    if is_witness(claim) {
+        return start_at(states, line, text);
+    }
     valued_at(may_be_infinite(claim), states, line, text)
 }
 

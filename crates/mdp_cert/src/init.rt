@@ -9,4 +9,6 @@ pub enum Init {
     Finite(u32, Frac),
     /// The initial state, of infinite value.
     Infinite(u32),
+    /// The initial state alone, for a subsystem.
+    Start(u32),
 }

@@ -4,8 +4,9 @@
 //! the same words. They are read in `state_lines` and written in `write`, over any `Entry`: the words behind a state's number. To add a claim with
 //! a line for each state, give its words (`Columns` in specs/Claims, `IsColumns` in proofs/Columns), an `Entry` and the `Lists` that keep it, and
 //! a case in `push_body` and `body_from`; whether its values may be infinite is a case of `may_be_infinite`. A line more before those of the
-//! states is read and written in these cases, and so is a body of other lines, up to the line `end`. docs/certificates.md has the steps one by
-//! one.
+//! states is read and written in these cases. A body that lists lines of its own up to the line `end`, as that of a subsystem, gives a `Line` and
+//! the `Lines` that keep it instead (`Listed` in specs/Listed, `IsListed` in proofs/OneByOne); `listed` reads and writes them.
+//! docs/certificates.md has the steps one by one.
 #![tactic(auto)]
 
 mod body;
@@ -14,11 +15,17 @@ mod claim;
 mod claim_line;
 mod entries;
 mod error;
+mod floor_line;
+mod floor_lines;
+mod flow_line;
+mod flow_lines;
 mod head;
 mod head_lines;
 mod init;
 mod laws;
 mod lines;
+mod listed;
+mod mark;
 mod mean_entry;
 mod mean_lines;
 mod numbers;

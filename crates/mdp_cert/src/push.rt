@@ -6,7 +6,7 @@ ghost use Rattle.mdp_cert.specs.Spelling.{line, claim_text, states_text, init_te
 ghost use Rattle.mdp_cert.specs.Answer.{Keeps};
 
 use crate::claim::Claim;
-use crate::claim_line::{mean_front, reach_front, reward_front};
+use crate::claim_line::{mean_front, reach_front, reward_front, witness_front};
 use crate::entries::Entry;
 use crate::init::Init;
 use itoa::Buffer;
@@ -114,6 +114,24 @@ fn push_two_quoted(out: &mut Vec<u8>, front: &[u8], name: &[u8], label: &[u8]) -
     push_quoted(out, b"\" \"", label)
 }
 
+/// Appends a line of this front, a name in quotes and a fraction; the front ends with the first quote.
+fn push_threshold(
+    out: &mut Vec<u8>,
+    front: &[u8],
+    name: &[u8],
+    threshold: &Frac,
+) -> Result<(), Memory>
+    ensures text { OnOk result (out.new.items ≡ out.old.items ++ line (front.now ++ (name.now ++ 34 ∷ 32 ∷ spelling threshold.now))) }
+    ensures front { Keeps out.old.items out.new.items }
+{
+    out.extend_from_slice(front)?;
+    out.extend_from_slice(name)?;
+    out.extend_from_slice(b"\"")?;
+    push_fraction(out, threshold)?;
+    out.extend_from_slice(b"\n")?;
+    Ok(())
+}
+
 /// Appends the line of the claim.
 pub(crate) fn push_claim(out: &mut Vec<u8>, claim: &Claim) -> Result<(), Memory>
     ensures text { OnOk result (out.new.items ≡ out.old.items ++ line (claim_text (plain_claim claim.now))) }
@@ -126,6 +144,11 @@ pub(crate) fn push_claim(out: &mut Vec<u8>, claim: &Claim) -> Result<(), Memory>
             push_two_quoted(out, reward_front(*dir), name, label)
         }
         Claim::Mean { dir, name } => push_quoted(out, mean_front(*dir), name),
+        Claim::Witness {
+            dir,
+            label,
+            threshold,
+        } => push_threshold(out, witness_front(*dir), label, threshold),
     }
 }
 
@@ -163,6 +186,17 @@ fn push_infinite(out: &mut Vec<u8>, state: u32) -> Result<(), Memory>
     Ok(())
 }
 
+/// Appends the line of an initial state without a value.
+fn push_start(out: &mut Vec<u8>, state: u32) -> Result<(), Memory>
+    ensures text { OnOk result (out.new.items ≡ out.old.items ++ line (init_text (Init.Start state))) }
+    ensures front { Keeps out.old.items out.new.items }
+{
+    out.extend_from_slice(b"init")?;
+    push_word(out, state)?;
+    out.extend_from_slice(b"\n")?;
+    Ok(())
+}
+
 /// Appends the line of the initial state.
 pub(crate) fn push_init(out: &mut Vec<u8>, init: &Init) -> Result<(), Memory>
     ensures text { OnOk result (out.new.items ≡ out.old.items ++ line (init_text init.now)) }
@@ -175,6 +209,7 @@ pub(crate) fn push_init(out: &mut Vec<u8>, init: &Init) -> Result<(), Memory>
         }
         Init::Finite(state, value) => push_finite(out, *state, value),
         Init::Infinite(state) => push_infinite(out, *state),
+        Init::Start(state) => push_start(out, *state),
     }
 }
 

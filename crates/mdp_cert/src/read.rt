@@ -9,13 +9,17 @@ use crate::body::Body;
 use crate::cert::Cert;
 use crate::claim::Claim;
 use crate::error::{CertError, CertKind, Refusal};
+use crate::floor_lines::floor_cert;
+use crate::flow_lines::flow_cert;
 use crate::head_lines::{head_from, version_at};
 use crate::lines::{next_line, refuse_if};
+use crate::listed::listed_to_end;
 use crate::mean_lines::{mean_cert, spread_at};
 use crate::policy_lines::{reach_cert, reward_cert};
 use crate::state_lines::entries_to_end;
 use crate::version::Version;
 use mdp_farkas::UpperCert;
+use mdp_rows::Dir;
 use std::alloc::Global;
 
 /// Reads the lines from line 5 on, by the claim, with the line `end`, and gives the number of the line behind it and the bytes from there on.
@@ -47,6 +51,14 @@ fn body_from<'a>(
             let spread = spread_at(5, text)?;
             let (entries, line, rest) = entries_to_end(alloc, version, states, 6, rest)?;
             Ok((Body::Mean(mean_cert(alloc, spread, &entries)?), line, rest))
+        }
+        Claim::Witness { dir: Dir::Max, .. } => {
+            let (lines, line, rest) = listed_to_end(alloc, states, 5, bytes)?;
+            Ok((Body::Flow(flow_cert(alloc, &lines)?), line, rest))
+        }
+        Claim::Witness { dir: Dir::Min, .. } => {
+            let (lines, line, rest) = listed_to_end(alloc, states, 5, bytes)?;
+            Ok((Body::Floor(floor_cert(alloc, &lines)?), line, rest))
         }
     }
 }

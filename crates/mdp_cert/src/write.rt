@@ -7,6 +7,7 @@ ghost use Rattle.mdp_cert.specs.Answer.{Keeps, same_next, more_same, more_in};
 use crate::body::Body;
 use crate::cert::Cert;
 use crate::entries::{Entry, Lists};
+use crate::listed::push_listed;
 use crate::push::{push_claim, push_init, push_number, push_run, push_spread};
 use crate::version::Version;
 use mdp_num::Memory;
@@ -116,6 +117,8 @@ fn push_body(out: &mut Vec<u8>, version: Version, cert: &Cert) -> Result<(), Mem
             push_spread(out, &mean.spread)?;
             push_to_end(out, version, cert.states, mean)
         }
+        Body::Flow(flow) => push_listed(out, flow.kept.len() + flow.flows.len(), flow),
+        Body::Floor(floor) => push_listed(out, floor.kept.len(), floor),
     }
 }
 

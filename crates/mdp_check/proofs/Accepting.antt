@@ -1,10 +1,13 @@
 -- A certificate is answered yes exactly where it is accepted, and then its claim is true.
-use Rattle.std.proofs.Common.{◌≡◌, ◌↔◌, ℕ, ◌<◌, Bool, true, false, cond, List, [], length, eqb, eqb-true, eq-eqb, Option, Some, None, refl, ap, ◌∙◌}
+use Rattle.std.proofs.Common.{◌≡◌, ◌↔◌, ℕ, ◌<◌, Bool, true, false, cond, List, [], length, eqb, eqb-true, eq-eqb, Option, Some, None, refl, sym, ap, ◌∙◌}
 use Rattle.std.specs.Str.{bytes_eq}
+use Rattle.std.specs.Option.{option_map}
+use Rattle.std.proofs.Math.ListN.{replicate}
+use Rattle.std.proofs.lemmas.List.{length-map, length-replicate}
 use Rattle.std.proofs.lemmas.List.Quantifiers.{position-Some}
 use Rattle.mdp_math.specs.Rational.{ℚ}
 use Rattle.mdp_spec.specs.Mdp.{Mdp, states_of}
-use Rattle.mdp_spec.specs.Labels.{place_of, initial_of}
+use Rattle.mdp_spec.specs.Labels.{place_of, marks_of, initial_of}
 use Rattle.mdp_spec.specs.Row.{IsMdp}
 use Rattle.mdp_farkas.specs.Verdict.{verdict_of, IfYes}
 use Rattle.mdp_farkas.specs.Upper.{upper_checks, IsUpper}
@@ -19,12 +22,19 @@ use Rattle.mdp_farkas.specs.declared.verdict.Verdict.{Verdict}
 use Rattle.mdp_farkas.specs.declared.verdict.Verdict.TheVariants as verdict
 use Rattle.mdp_rows.specs.declared.dir.Dir.{Dir}
 use Rattle.mdp_rows.specs.declared.dir.Dir.TheVariants.{Max, Min}
-use Rattle.mdp_cert.specs.Cert.{PlainClaim, upper, reach, reward, mean, PlainBody, bounds, policy, rewards, gains, Certificate, is_body_of}
+use Rattle.mdp_cert.specs.Cert.{PlainClaim, upper, reach, reward, mean, witness, PlainBody, bounds, policy, rewards, gains, flow, floor, Certificate, is_body_of}
 use Rattle.mdp_cert.proofs.Growth.{policy-entries, reward-entries, gains-entries}
-use Rattle.mdp_check.specs.Initial.{init_check, init_fault}
-use Rattle.mdp_check.specs.Check.{reward_place, goal_marks, answer_of, verdict_by, body_verdict, after_init, at_goals, at_reward, answer_to, valid_by, IsAccepted, bound_by, IsBound}
+use Rattle.mdp_flow.specs.declared.flow.Flow.{Flow}
+use Rattle.mdp_flow.specs.FlowChecks.{flow_checks, HoldsFlow}
+use Rattle.mdp_flow.specs.FloorChecks.{floor_checks, HoldsFloor}
+use Rattle.mdp_flow.proofs.FlowRules.{flow_rules, flow_sub_max, flow_within}
+use Rattle.mdp_flow.proofs.FloorRules.{floor_rules, floor_sub_min}
+use Rattle.mdp_cert.specs.declared.init.Init.{Init}
+use Rattle.mdp_check.specs.Initial.{init_check, init_fault, start_of}
+use Rattle.mdp_check.proofs.Shapes.{flow_shape, floor_shape, start_below}
+use Rattle.mdp_check.specs.Check.{reward_place, labelled_marks, goal_marks, answer_of, verdict_by, body_verdict, after_init, at_goals, at_reward, answer_to, valid_by, IsAccepted, bound_by, IsBound}
 use Rattle.mdp_check.specs.declared.answer.Answer.{Answer}
-use Rattle.mdp_check.specs.declared.answer.Answer.TheVariants.{Yes, No, Wide, NoReward, NoLabel, Size}
+use Rattle.mdp_check.specs.declared.answer.Answer.TheVariants.{Yes, Size}
 
 -- ---- one step of the answer after the other
 
@@ -53,7 +63,26 @@ of_if_yes (verdict.Wide s c) P h e = cc
 below_names : (name : List ℕ) (names : List (List ℕ)) (r : ℕ) → place_of name names ≡ Some r → r < length names
 below_names name names r e = (position-Some (bytes_eq name) names r [] e).0
 
-module _ (m : Mdp) (r : ℕ) (goals : List Bool) (states : ℕ) (size : states ≡ states_of m) where
+-- one mark for each state
+one_mark_each : (m : Mdp) (label : List ℕ) (goals : List Bool) → labelled_marks m label ≡ Some goals → length goals ≡ states_of m
+one_mark_each m label goals e = by (place_of label m.labels) e
+  where
+    by : (o : Option ℕ) → option_map (marks_of m) o ≡ Some goals → length goals ≡ states_of m
+    by None e = cc e
+    by (Some l) e = let is : marks_of m l ≡ goals = cc e in sym (ap (λ (xs : List Bool). length xs) is) ∙ length-map m.states _
+
+pub goals_count : (m : Mdp) (claim : PlainClaim) (goals : List Bool) → goal_marks m claim ≡ Some goals → length goals ≡ states_of m
+goals_count m (upper label) goals e = one_mark_each m label goals e
+goals_count m (reach dir label) goals e = one_mark_each m label goals e
+goals_count m (reward dir name label) goals e = one_mark_each m label goals e
+goals_count m (mean dir name) goals e =
+    let is : replicate (states_of m) false ≡ goals = cc e in sym (ap (λ (xs : List Bool). length xs) is) ∙ length-replicate (states_of m) false
+goals_count m (witness dir label t) goals e = one_mark_each m label goals e
+
+module _ (m : Mdp) (r : ℕ) (goals : List Bool) (init : Init) (states : ℕ) (size : states ≡ states_of m) where
+  abbrev start : ℕ
+  start = start_of init
+
   -- the verdict on a certificate of rewards
   abbrev rewards_verdict : Dir → List (Option ℚ) → List ℕ → List ℕ → Verdict
   rewards_verdict dir v choices ranks = verdict_of (reward_checks dir m r goals v choices ranks)
@@ -85,27 +114,62 @@ module _ (m : Mdp) (r : ℕ) (goals : List Bool) (states : ℕ) (size : states �
       mean_rules m r g bound bias k choices dir (mean_verdict dir g bound bias choices k) (below_names name m.names r named) (entries.bounds ∙ size) (entries.biases ∙ size)
       (entries.choices ∙ size) refl
 
-  body_rules : (claim : PlainClaim) (body : PlainBody) → reward_place m claim ≡ Some r → is_body_of claim states body ≡ true
-      → (verdict_by m r goals claim body ≡ verdict.Yes) ↔ valid_by m r goals claim body
-  body_rules (upper label) (bounds z) named fits = upper_rules_of z
-  body_rules (upper label) (policy z choices ranks) named fits = absurd (let t = fits in cc)
-  body_rules (upper label) (rewards v choices ranks) named fits = absurd (let t = fits in cc)
-  body_rules (upper label) (gains g bound bias choices k) named fits = absurd (let t = fits in cc)
-  body_rules (reach dir label) (bounds z) named fits = absurd (let t = fits in cc)
-  body_rules (reach dir label) (policy z choices ranks) named fits = reach_rules_of dir label z choices ranks fits
-  body_rules (reach dir label) (rewards v choices ranks) named fits = absurd (let t = fits in cc)
-  body_rules (reach dir label) (gains g bound bias choices k) named fits = absurd (let t = fits in cc)
-  body_rules (reward dir name label) (bounds z) named fits = absurd (let t = fits in cc)
-  body_rules (reward dir name label) (policy z choices ranks) named fits = absurd (let t = fits in cc)
-  body_rules (reward dir name label) (rewards v choices ranks) named fits = reward_rules_of dir name label v choices ranks named fits
-  body_rules (reward dir name label) (gains g bound bias choices k) named fits = absurd (let t = fits in cc)
-  body_rules (mean dir name) (bounds z) named fits = absurd (let t = fits in cc)
-  body_rules (mean dir name) (policy z choices ranks) named fits = absurd (let t = fits in cc)
-  body_rules (mean dir name) (rewards v choices ranks) named fits = absurd (let t = fits in cc)
-  body_rules (mean dir name) (gains g bound bias choices k) named fits = mean_rules_of dir name g bound bias choices k named fits
+  flow_rules_of : (label : List ℕ) (t : ℚ) (kept : List ℕ) (wide : List Bool) (flows : List Flow) → is_body_of (witness Max label t) states (flow kept wide flows) ≡ true
+      → init_check init (initial_of m) (flow kept wide flows) ≡ verdict.Yes
+      → (verdict_of (flow_checks m goals start t kept flows) ≡ verdict.Yes) ↔ HoldsFlow m goals start t kept flows
+  flow_rules_of label t kept wide flows fits rule1 =
+      flow_rules m goals start t kept wide flows (start_below m init (flow kept wide flows) refl rule1) (flow_shape m states kept wide flows size fits)
+      (verdict_of (flow_checks m goals start t kept flows)) refl
+
+  floor_rules_of : (label : List ℕ) (t : ℚ) (kept : List ℕ) (wide : List Bool) (values : List ℚ) (ranks : List ℕ) → labelled_marks m label ≡ Some goals
+      → is_body_of (witness Min label t) states (floor kept wide values ranks) ≡ true → init_check init (initial_of m) (floor kept wide values ranks) ≡ verdict.Yes
+      → (verdict_of (floor_checks m goals start t kept values ranks) ≡ verdict.Yes) ↔ HoldsFloor m goals start t kept values ranks
+  floor_rules_of label t kept wide values ranks marked fits rule1 =
+      floor_rules m goals start t kept wide values ranks (one_mark_each m label goals marked) (start_below m init (floor kept wide values ranks) refl rule1)
+      (floor_shape m states kept wide values ranks size fits)
+      (verdict_of (floor_checks m goals start t kept values ranks)) refl
+
+  body_rules : (claim : PlainClaim) (body : PlainBody) → reward_place m claim ≡ Some r → goal_marks m claim ≡ Some goals → is_body_of claim states body ≡ true
+      → init_check init (initial_of m) body ≡ verdict.Yes → (verdict_by m r goals start claim body ≡ verdict.Yes) ↔ valid_by m r goals start claim body
+  body_rules (upper label) (bounds z) named marked fits rule1 = upper_rules_of z
+  body_rules (upper label) (policy z choices ranks) named marked fits rule1 = absurd (let t = fits in cc)
+  body_rules (upper label) (rewards v choices ranks) named marked fits rule1 = absurd (let t = fits in cc)
+  body_rules (upper label) (gains g bound bias choices k) named marked fits rule1 = absurd (let t = fits in cc)
+  body_rules (upper label) (flow kept wide flows) named marked fits rule1 = absurd (let t = fits in cc)
+  body_rules (upper label) (floor kept wide values ranks) named marked fits rule1 = absurd (let t = fits in cc)
+  body_rules (reach dir label) (bounds z) named marked fits rule1 = absurd (let t = fits in cc)
+  body_rules (reach dir label) (policy z choices ranks) named marked fits rule1 = reach_rules_of dir label z choices ranks fits
+  body_rules (reach dir label) (rewards v choices ranks) named marked fits rule1 = absurd (let t = fits in cc)
+  body_rules (reach dir label) (gains g bound bias choices k) named marked fits rule1 = absurd (let t = fits in cc)
+  body_rules (reach dir label) (flow kept wide flows) named marked fits rule1 = absurd (let t = fits in cc)
+  body_rules (reach dir label) (floor kept wide values ranks) named marked fits rule1 = absurd (let t = fits in cc)
+  body_rules (reward dir name label) (bounds z) named marked fits rule1 = absurd (let t = fits in cc)
+  body_rules (reward dir name label) (policy z choices ranks) named marked fits rule1 = absurd (let t = fits in cc)
+  body_rules (reward dir name label) (rewards v choices ranks) named marked fits rule1 = reward_rules_of dir name label v choices ranks named fits
+  body_rules (reward dir name label) (gains g bound bias choices k) named marked fits rule1 = absurd (let t = fits in cc)
+  body_rules (reward dir name label) (flow kept wide flows) named marked fits rule1 = absurd (let t = fits in cc)
+  body_rules (reward dir name label) (floor kept wide values ranks) named marked fits rule1 = absurd (let t = fits in cc)
+  body_rules (mean dir name) (bounds z) named marked fits rule1 = absurd (let t = fits in cc)
+  body_rules (mean dir name) (policy z choices ranks) named marked fits rule1 = absurd (let t = fits in cc)
+  body_rules (mean dir name) (rewards v choices ranks) named marked fits rule1 = absurd (let t = fits in cc)
+  body_rules (mean dir name) (gains g bound bias choices k) named marked fits rule1 = mean_rules_of dir name g bound bias choices k named fits
+  body_rules (mean dir name) (flow kept wide flows) named marked fits rule1 = absurd (let t = fits in cc)
+  body_rules (mean dir name) (floor kept wide values ranks) named marked fits rule1 = absurd (let t = fits in cc)
+  body_rules (witness Max label t) (bounds z) named marked fits rule1 = absurd (let t = fits in cc)
+  body_rules (witness Max label t) (policy z choices ranks) named marked fits rule1 = absurd (let t = fits in cc)
+  body_rules (witness Max label t) (rewards v choices ranks) named marked fits rule1 = absurd (let t = fits in cc)
+  body_rules (witness Max label t) (gains g bound bias choices k) named marked fits rule1 = absurd (let t = fits in cc)
+  body_rules (witness Max label t) (flow kept wide flows) named marked fits rule1 = flow_rules_of label t kept wide flows fits rule1
+  body_rules (witness Max label t) (floor kept wide values ranks) named marked fits rule1 = absurd (let t = fits in cc)
+  body_rules (witness Min label t) (bounds z) named marked fits rule1 = absurd (let t = fits in cc)
+  body_rules (witness Min label t) (policy z choices ranks) named marked fits rule1 = absurd (let t = fits in cc)
+  body_rules (witness Min label t) (rewards v choices ranks) named marked fits rule1 = absurd (let t = fits in cc)
+  body_rules (witness Min label t) (gains g bound bias choices k) named marked fits rule1 = absurd (let t = fits in cc)
+  body_rules (witness Min label t) (flow kept wide flows) named marked fits rule1 = absurd (let t = fits in cc)
+  body_rules (witness Min label t) (floor kept wide values ranks) named marked fits rule1 = floor_rules_of label t kept wide values ranks marked fits rule1
 
   reach_bound : (dir : Dir) (label : List ℕ) (z : List ℚ) (choices ranks : List ℕ) → IsMdp m → is_body_of (reach dir label) states (policy z choices ranks) ≡ true
-      → reach_verdict dir z choices ranks ≡ verdict.Yes → bound_by m r goals (reach dir label) (policy z choices ranks)
+      → reach_verdict dir z choices ranks ≡ verdict.Yes → bound_by m r goals start (reach dir label) (policy z choices ranks)
   reach_bound Max label z choices ranks is fits e =
       of_if_yes _ _ (reach_max m goals z choices ranks Max (reach_verdict Max z choices ranks) is ((policy-entries (reach Max label) states z choices ranks fits).choices ∙ size) refl refl) e
   reach_bound Min label z choices ranks is fits e =
@@ -113,7 +177,7 @@ module _ (m : Mdp) (r : ℕ) (goals : List Bool) (states : ℕ) (size : states �
 
   reward_bound : (dir : Dir) (name label : List ℕ) (v : List (Option ℚ)) (choices ranks : List ℕ) → IsMdp m → place_of name m.names ≡ Some r
       → is_body_of (reward dir name label) states (rewards v choices ranks) ≡ true → rewards_verdict dir v choices ranks ≡ verdict.Yes
-      → bound_by m r goals (reward dir name label) (rewards v choices ranks)
+      → bound_by m r goals start (reward dir name label) (rewards v choices ranks)
   reward_bound Max name label v choices ranks is named fits e =
       let entries = reward-entries (reward Max name label) states v choices ranks fits in
       of_if_yes _ _ (reward_max m r goals v choices ranks Max (rewards_verdict Max v choices ranks) (below_names name m.names r named) (entries.values ∙ size) (entries.choices ∙ size) refl is refl) e
@@ -123,7 +187,7 @@ module _ (m : Mdp) (r : ℕ) (goals : List Bool) (states : ℕ) (size : states �
 
   mean_bound : (dir : Dir) (name : List ℕ) (g bound bias : List ℚ) (choices : List ℕ) (k : ℚ) → IsMdp m → place_of name m.names ≡ Some r
       → is_body_of (mean dir name) states (gains g bound bias choices k) ≡ true → mean_verdict dir g bound bias choices k ≡ verdict.Yes
-      → bound_by m r goals (mean dir name) (gains g bound bias choices k)
+      → bound_by m r goals start (mean dir name) (gains g bound bias choices k)
   mean_bound Max name g bound bias choices k is named fits e =
       let entries = gains-entries (mean Max name) states g bound bias choices k fits in
       of_if_yes _ _
@@ -135,24 +199,65 @@ module _ (m : Mdp) (r : ℕ) (goals : List Bool) (states : ℕ) (size : states �
       (mean_min m r g bound bias k choices Min (mean_verdict Min g bound bias choices k) (below_names name m.names r named) (entries.bounds ∙ size) (entries.biases ∙ size)
       (entries.choices ∙ size) refl is refl) e
 
-  body_bound : (claim : PlainClaim) (body : PlainBody) → IsMdp m → reward_place m claim ≡ Some r → is_body_of claim states body ≡ true
-      → verdict_by m r goals claim body ≡ verdict.Yes → bound_by m r goals claim body
-  body_bound (upper label) (bounds z) is named fits e = of_if_yes _ _ (upper_bound m goals z (verdict_of (upper_checks m goals z)) is refl) e
-  body_bound (upper label) (policy z choices ranks) is named fits e = absurd (let t = fits in cc)
-  body_bound (upper label) (rewards v choices ranks) is named fits e = absurd (let t = fits in cc)
-  body_bound (upper label) (gains g bound bias choices k) is named fits e = absurd (let t = fits in cc)
-  body_bound (reach dir label) (bounds z) is named fits e = absurd (let t = fits in cc)
-  body_bound (reach dir label) (policy z choices ranks) is named fits e = reach_bound dir label z choices ranks is fits e
-  body_bound (reach dir label) (rewards v choices ranks) is named fits e = absurd (let t = fits in cc)
-  body_bound (reach dir label) (gains g bound bias choices k) is named fits e = absurd (let t = fits in cc)
-  body_bound (reward dir name label) (bounds z) is named fits e = absurd (let t = fits in cc)
-  body_bound (reward dir name label) (policy z choices ranks) is named fits e = absurd (let t = fits in cc)
-  body_bound (reward dir name label) (rewards v choices ranks) is named fits e = reward_bound dir name label v choices ranks is named fits e
-  body_bound (reward dir name label) (gains g bound bias choices k) is named fits e = absurd (let t = fits in cc)
-  body_bound (mean dir name) (bounds z) is named fits e = absurd (let t = fits in cc)
-  body_bound (mean dir name) (policy z choices ranks) is named fits e = absurd (let t = fits in cc)
-  body_bound (mean dir name) (rewards v choices ranks) is named fits e = absurd (let t = fits in cc)
-  body_bound (mean dir name) (gains g bound bias choices k) is named fits e = mean_bound dir name g bound bias choices k is named fits e
+  flow_bound : (label : List ℕ) (t : ℚ) (kept : List ℕ) (wide : List Bool) (flows : List Flow) → IsMdp m → is_body_of (witness Max label t) states (flow kept wide flows) ≡ true
+      → init_check init (initial_of m) (flow kept wide flows) ≡ verdict.Yes → verdict_of (flow_checks m goals start t kept flows) ≡ verdict.Yes
+      → bound_by m r goals start (witness Max label t) (flow kept wide flows)
+  flow_bound label t kept wide flows is fits rule1 e =
+      let v = verdict_of (flow_checks m goals start t kept flows) in
+      let inside = start_below m init (flow kept wide flows) refl rule1 in
+      let shape = flow_shape m states kept wide flows size fits in (
+        of_if_yes _ _ (flow_sub_max m goals start t kept wide flows inside shape v is refl) e,
+        of_if_yes _ _ (flow_within m goals start t kept wide flows inside shape v is refl) e,
+      )
+
+  floor_bound : (label : List ℕ) (t : ℚ) (kept : List ℕ) (wide : List Bool) (values : List ℚ) (ranks : List ℕ) → IsMdp m → labelled_marks m label ≡ Some goals
+      → is_body_of (witness Min label t) states (floor kept wide values ranks) ≡ true → init_check init (initial_of m) (floor kept wide values ranks) ≡ verdict.Yes
+      → verdict_of (floor_checks m goals start t kept values ranks) ≡ verdict.Yes → bound_by m r goals start (witness Min label t) (floor kept wide values ranks)
+  floor_bound label t kept wide values ranks is marked fits rule1 e =
+      of_if_yes _ _
+      (floor_sub_min m goals start t kept wide values ranks (one_mark_each m label goals marked) (start_below m init (floor kept wide values ranks) refl rule1)
+      (floor_shape m states kept wide values ranks size fits)
+      (verdict_of (floor_checks m goals start t kept values ranks)) is refl) e
+
+  body_bound : (claim : PlainClaim) (body : PlainBody) → IsMdp m → reward_place m claim ≡ Some r → goal_marks m claim ≡ Some goals → is_body_of claim states body ≡ true
+      → init_check init (initial_of m) body ≡ verdict.Yes
+      → verdict_by m r goals start claim body ≡ verdict.Yes → bound_by m r goals start claim body
+  body_bound (upper label) (bounds z) is named marked fits rule1 e = of_if_yes _ _ (upper_bound m goals z (verdict_of (upper_checks m goals z)) is refl) e
+  body_bound (upper label) (policy z choices ranks) is named marked fits rule1 e = absurd (let t = fits in cc)
+  body_bound (upper label) (rewards v choices ranks) is named marked fits rule1 e = absurd (let t = fits in cc)
+  body_bound (upper label) (gains g bound bias choices k) is named marked fits rule1 e = absurd (let t = fits in cc)
+  body_bound (upper label) (flow kept wide flows) is named marked fits rule1 e = absurd (let t = fits in cc)
+  body_bound (upper label) (floor kept wide values ranks) is named marked fits rule1 e = absurd (let t = fits in cc)
+  body_bound (reach dir label) (bounds z) is named marked fits rule1 e = absurd (let t = fits in cc)
+  body_bound (reach dir label) (policy z choices ranks) is named marked fits rule1 e = reach_bound dir label z choices ranks is fits e
+  body_bound (reach dir label) (rewards v choices ranks) is named marked fits rule1 e = absurd (let t = fits in cc)
+  body_bound (reach dir label) (gains g bound bias choices k) is named marked fits rule1 e = absurd (let t = fits in cc)
+  body_bound (reach dir label) (flow kept wide flows) is named marked fits rule1 e = absurd (let t = fits in cc)
+  body_bound (reach dir label) (floor kept wide values ranks) is named marked fits rule1 e = absurd (let t = fits in cc)
+  body_bound (reward dir name label) (bounds z) is named marked fits rule1 e = absurd (let t = fits in cc)
+  body_bound (reward dir name label) (policy z choices ranks) is named marked fits rule1 e = absurd (let t = fits in cc)
+  body_bound (reward dir name label) (rewards v choices ranks) is named marked fits rule1 e = reward_bound dir name label v choices ranks is named fits e
+  body_bound (reward dir name label) (gains g bound bias choices k) is named marked fits rule1 e = absurd (let t = fits in cc)
+  body_bound (reward dir name label) (flow kept wide flows) is named marked fits rule1 e = absurd (let t = fits in cc)
+  body_bound (reward dir name label) (floor kept wide values ranks) is named marked fits rule1 e = absurd (let t = fits in cc)
+  body_bound (mean dir name) (bounds z) is named marked fits rule1 e = absurd (let t = fits in cc)
+  body_bound (mean dir name) (policy z choices ranks) is named marked fits rule1 e = absurd (let t = fits in cc)
+  body_bound (mean dir name) (rewards v choices ranks) is named marked fits rule1 e = absurd (let t = fits in cc)
+  body_bound (mean dir name) (gains g bound bias choices k) is named marked fits rule1 e = mean_bound dir name g bound bias choices k is named fits e
+  body_bound (mean dir name) (flow kept wide flows) is named marked fits rule1 e = absurd (let t = fits in cc)
+  body_bound (mean dir name) (floor kept wide values ranks) is named marked fits rule1 e = absurd (let t = fits in cc)
+  body_bound (witness Max label t) (bounds z) is named marked fits rule1 e = absurd (let t = fits in cc)
+  body_bound (witness Max label t) (policy z choices ranks) is named marked fits rule1 e = absurd (let t = fits in cc)
+  body_bound (witness Max label t) (rewards v choices ranks) is named marked fits rule1 e = absurd (let t = fits in cc)
+  body_bound (witness Max label t) (gains g bound bias choices k) is named marked fits rule1 e = absurd (let t = fits in cc)
+  body_bound (witness Max label t) (flow kept wide flows) is named marked fits rule1 e = flow_bound label t kept wide flows is fits rule1 e
+  body_bound (witness Max label t) (floor kept wide values ranks) is named marked fits rule1 e = absurd (let t = fits in cc)
+  body_bound (witness Min label t) (bounds z) is named marked fits rule1 e = absurd (let t = fits in cc)
+  body_bound (witness Min label t) (policy z choices ranks) is named marked fits rule1 e = absurd (let t = fits in cc)
+  body_bound (witness Min label t) (rewards v choices ranks) is named marked fits rule1 e = absurd (let t = fits in cc)
+  body_bound (witness Min label t) (gains g bound bias choices k) is named marked fits rule1 e = absurd (let t = fits in cc)
+  body_bound (witness Min label t) (flow kept wide flows) is named marked fits rule1 e = absurd (let t = fits in cc)
+  body_bound (witness Min label t) (floor kept wide values ranks) is named marked fits rule1 e = floor_bound label t kept wide values ranks is marked fits rule1 e
 
 -- a verdict of yes is one on a body that fits
 by_body : (fits : Bool) (v : Verdict) → cond fits v (init_fault None) ≡ verdict.Yes → (fits ≡ true) × (v ≡ verdict.Yes)
@@ -166,7 +271,7 @@ accepted_at : (m : Mdp) (c : Certificate) (r : ℕ) → c.states ≡ states_of m
 accepted_at m c r size named None f e = cc
 accepted_at m c r size named (Some goals) f e =
     let both = both_yes (init_check c.init (initial_of m) c.body) (body_verdict m r goals c) (yes_verdict _ e) in
-    let body = by_body (is_body_of c.claim c.states c.body) (verdict_by m r goals c.claim c.body) both.1 in
+    let body = by_body (is_body_of c.claim c.states c.body) (verdict_by m r goals (start_of c.init) c.claim c.body) both.1 in
     record {
       states = size;
       entries = body.0;
@@ -175,7 +280,7 @@ accepted_at m c r size named (Some goals) f e =
       goals = goals;
       marked = f;
       init = both.0;
-      body = (body_rules m r goals c.states size c.claim c.body named body.0).0 body.1;
+      body = (body_rules m r goals c.init c.states size c.claim c.body named f body.0 both.0).0 body.1;
     }
 
 accepted_named : (m : Mdp) (c : Certificate) → c.states ≡ states_of m → (named : Option ℕ) → reward_place m c.claim ≡ named → at_reward m c named ≡ Yes → IsAccepted m c
@@ -187,8 +292,8 @@ accepted_of m c e =
     let size = by_size (eqb c.states (states_of m)) (at_reward m c (reward_place m c.claim)) e in
     accepted_named m c (eqb-true c.states (states_of m) size.0) (reward_place m c.claim) refl size.1
 
-valid_body : (m : Mdp) (c : Certificate) (h : IsAccepted m c) → verdict_by m h.reward h.goals c.claim c.body ≡ verdict.Yes
-valid_body m c h = (body_rules m h.reward h.goals c.states h.states c.claim c.body h.named h.entries).1 h.body
+valid_body : (m : Mdp) (c : Certificate) (h : IsAccepted m c) → verdict_by m h.reward h.goals (start_of c.init) c.claim c.body ≡ verdict.Yes
+valid_body m c h = (body_rules m h.reward h.goals c.init c.states h.states c.claim c.body h.named h.marked h.entries h.init).1 h.body
 
 answer_accepted : (m : Mdp) (c : Certificate) → IsAccepted m c → answer_to m c ≡ Yes
 answer_accepted m c h =
@@ -196,7 +301,7 @@ answer_accepted m c h =
     ∙ ap (λ (named : Option ℕ). at_reward m c named) h.named
     ∙ ap (λ (found : Option (List Bool)). at_goals m c h.reward found) h.marked
     ∙ ap (λ (i : Verdict). answer_of (after_init i (body_verdict m h.reward h.goals c))) h.init
-    ∙ ap (λ (fits : Bool). answer_of (cond fits (verdict_by m h.reward h.goals c.claim c.body) (init_fault None))) h.entries
+    ∙ ap (λ (fits : Bool). answer_of (cond fits (verdict_by m h.reward h.goals (start_of c.init) c.claim c.body) (init_fault None))) h.entries
     ∙ ap answer_of (valid_body m c h)
 
 pub yes_is_accepted : (m : Mdp) (c : Certificate) → (answer_to m c ≡ Yes) ↔ IsAccepted m c
@@ -208,5 +313,5 @@ accepted_is_bound m c is h = record {
   named = h.named;
   goals = h.goals;
   marked = h.marked;
-  holds = body_bound m h.reward h.goals c.states h.states c.claim c.body is h.named h.entries (valid_body m c h);
+  holds = body_bound m h.reward h.goals c.init c.states h.states c.claim c.body is h.named h.marked h.entries h.init (valid_body m c h);
 }

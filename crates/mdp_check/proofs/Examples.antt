@@ -1,6 +1,6 @@
 -- Answers, computed, on a model of three states: state 0, with the label `init`, has a loop, and a choice that goes on to 1 with 1/3 and to 2 with
 -- 2/3; 1 has the label `goal`, and 2 is left nowhere.
-use Rattle.std.proofs.Common.{◌≡◌, ℕ, List, [], ◌∷◌, refl, pos, negsuc, Option, Some, None}
+use Rattle.std.proofs.Common.{◌≡◌, ℕ, false, List, [], ◌∷◌, refl, pos, negsuc, Option, Some, None}
 use Rattle.std.specs.Prelude.{codes}
 use Rattle.mdp_math.specs.Gcd.{gcd, gcd_with_fuel}
 use Rattle.mdp_math.specs.Rational.{ℚ, of_int, ratio, lt_ℚ, neg_ℚ, ◌+ℚ◌, ◌*ℚ◌}
@@ -9,8 +9,8 @@ use Rattle.mdp_spec.specs.Mdp.{Entry, Choice, Mdp}
 use Rattle.mdp_rows.specs.declared.dir.Dir.{Dir}
 use Rattle.mdp_rows.specs.declared.dir.Dir.TheVariants.{Max, Min}
 use Rattle.mdp_cert.specs.declared.init.Init.{Init}
-use Rattle.mdp_cert.specs.declared.init.Init.TheVariants.{Missing, Finite, Infinite}
-use Rattle.mdp_cert.specs.Cert.{upper, reach, reward, mean, bounds, policy, rewards, gains, Certificate}
+use Rattle.mdp_cert.specs.declared.init.Init.TheVariants.{Missing, Finite, Infinite, Start}
+use Rattle.mdp_cert.specs.Cert.{upper, reach, reward, mean, witness, bounds, policy, rewards, gains, flow, floor, Certificate}
 use Rattle.mdp_check.specs.Check.{answer_to}
 use Rattle.mdp_check.specs.declared.answer.Answer.TheVariants.{Yes, No, NoReward, NoLabel, Size}
 
@@ -189,3 +189,62 @@ mean_without_bound : answer_to once (mean_of_two (codes "-") (Finite 0 one) (one
     ≡ No (record { rule = 17; state = Some 0; choice = Some 1 })
 unfolding gcd gcd_with_fuel ratio of_int neg_ℚ ◌+ℚ◌ ◌*ℚ◌ narrow narrow_ℚ written_add written_mul written_compare
 mean_without_bound = refl
+
+-- ---- subsystems of the model of three states: state 0 alone is kept
+
+abbrev third : ℚ
+third = ratio (pos 1) 3
+
+-- all that comes to state 0 takes this choice of it
+abbrev one_flow : ℕ → List ℕ → Init → ℕ → ℚ → Certificate
+one_flow states label init choice t =
+    record { claim = witness Max label t; states = states; init = init; body = flow (0 ∷ []) (false ∷ []) (record { state = 0; choice = choice; amount = one } ∷ []) }
+
+-- choice 1 brings a third of it to the goal
+flow_third : answer_to three (one_flow 3 (codes "goal") (Start 0) 1 third) ≡ Yes
+unfolding gcd gcd_with_fuel ratio of_int lt_ℚ ◌+ℚ◌ ◌*ℚ◌ narrow narrow_ℚ written_add written_mul written_compare
+flow_third = refl
+
+-- and no half
+flow_half : answer_to three (one_flow 3 (codes "goal") (Start 0) 1 half) ≡ No (record { rule = 23; state = None; choice = None })
+unfolding gcd gcd_with_fuel ratio of_int lt_ℚ ◌+ℚ◌ ◌*ℚ◌ narrow narrow_ℚ written_add written_mul written_compare
+flow_half = refl
+
+-- a choice that state 0 hasn't
+flow_choice : answer_to three (one_flow 3 (codes "goal") (Start 0) 2 third) ≡ No (record { rule = 2; state = Some 0; choice = Some 2 })
+unfolding gcd gcd_with_fuel ratio of_int lt_ℚ ◌+ℚ◌ ◌*ℚ◌ narrow narrow_ℚ written_add written_mul written_compare
+flow_choice = refl
+
+-- the line `init` names another state
+flow_start : answer_to three (one_flow 3 (codes "goal") (Start 1) 1 third) ≡ No (record { rule = 1; state = Some 1; choice = None })
+flow_start = refl
+
+flow_size : answer_to three (one_flow 2 (codes "goal") (Start 0) 1 third) ≡ Size
+flow_size = refl
+
+flow_label : answer_to three (one_flow 3 (codes "done") (Start 0) 1 third) ≡ NoLabel
+flow_label = refl
+
+-- a model without an initial state has no subsystem
+abbrev without_init : Mdp
+without_init = record three { labels = codes "start" ∷ codes "goal" ∷ [] }
+
+flow_without_init : answer_to without_init (one_flow 3 (codes "goal") (Start 0) 1 third) ≡ No (record { rule = 1; state = Some 0; choice = None })
+flow_without_init = refl
+
+-- the loop at state 0 keeps a policy from the goal, so no floor above 0 falls in rank there
+abbrev one_floor : ℚ → ℕ → ℚ → Certificate
+one_floor value rank t =
+    record { claim = witness Min (codes "goal") t; states = 3; init = Start 0; body = floor (0 ∷ []) (false ∷ []) (value ∷ []) (rank ∷ []) }
+
+floor_zero : answer_to three (one_floor zero_ 0 zero_) ≡ Yes
+unfolding gcd gcd_with_fuel ratio of_int lt_ℚ ◌+ℚ◌ ◌*ℚ◌ narrow narrow_ℚ written_add written_mul written_compare
+floor_zero = refl
+
+floor_third : answer_to three (one_floor third 1 third) ≡ No (record { rule = 8; state = Some 0; choice = Some 0 })
+unfolding gcd gcd_with_fuel ratio of_int lt_ℚ ◌+ℚ◌ ◌*ℚ◌ narrow narrow_ℚ written_add written_mul written_compare
+floor_third = refl
+
+floor_below : answer_to three (one_floor zero_ 0 third) ≡ No (record { rule = 24; state = None; choice = None })
+unfolding gcd gcd_with_fuel ratio of_int lt_ℚ ◌+ℚ◌ ◌*ℚ◌ narrow narrow_ℚ written_add written_mul written_compare
+floor_below = refl

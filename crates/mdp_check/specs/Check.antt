@@ -3,17 +3,21 @@ use Rattle.std.specs.Prelude.{◌≡◌, ℕ, Bool, false, IsTrue, List, Option,
 use Rattle.std.proofs.Math.ListN.{replicate}
 use Rattle.mdp_spec.specs.Mdp.{Mdp, states_of}
 use Rattle.mdp_spec.specs.Labels.{place_of, marks_of, initial_of}
-use Rattle.mdp_spec.specs.Bounds.{Above, ReachMax, ReachMin, RewardMax, RewardMin, MeanMax, MeanMin}
+use Rattle.mdp_spec.specs.Bounds.{Above, ReachMax, ReachMin, RewardMax, RewardMin, MeanMax, MeanMin, SubMax, SubMaxWithin, SubMin}
 use Rattle.mdp_rows.specs.declared.dir.Dir.TheVariants.{Max, Min}
-use Rattle.mdp_cert.specs.Cert.{PlainClaim, upper, reach, reward, mean, PlainBody, bounds, policy, rewards, gains, Certificate, is_body_of}
+use Rattle.mdp_cert.specs.Cert.{PlainClaim, upper, reach, reward, mean, witness, PlainBody, bounds, policy, rewards, gains, flow, floor, Certificate, is_body_of}
 use Rattle.mdp_farkas.specs.Upper.{upper_checks, IsUpper}
 use Rattle.mdp_farkas.specs.Reach.{reach_checks, IsReach}
 use Rattle.mdp_farkas.specs.Reward.{reward_checks, IsReward}
 use Rattle.mdp_farkas.specs.Mean.{mean_checks, IsMean}
 use Rattle.mdp_farkas.specs.Verdict.{verdict_of}
+use Rattle.mdp_flow.specs.Flow.{flow_total}
+use Rattle.mdp_flow.specs.Kept.{kept_marks}
+use Rattle.mdp_flow.specs.FlowChecks.{flow_checks, HoldsFlow}
+use Rattle.mdp_flow.specs.FloorChecks.{floor_checks, HoldsFloor}
 use Rattle.mdp_farkas.specs.declared.verdict.Verdict.{Verdict}
 use Rattle.mdp_farkas.specs.declared.verdict.Verdict.TheVariants as verdict
-use Rattle.mdp_check.specs.Initial.{init_check, init_fault}
+use Rattle.mdp_check.specs.Initial.{init_check, init_fault, start_of}
 use Rattle.mdp_check.specs.declared.answer.Answer.{Answer}
 use Rattle.mdp_check.specs.declared.answer.Answer.TheVariants.{Yes, No, Wide, NoReward, NoLabel, Size}
 
@@ -25,6 +29,7 @@ reward_place m (upper label) = Some 0
 reward_place m (reach dir label) = Some 0
 reward_place m (reward dir name label) = place_of name m.names
 reward_place m (mean dir name) = place_of name m.names
+reward_place m (witness dir label threshold) = Some 0
 
 -- which states have this label, where the model has it
 abbrev pub labelled_marks : Mdp → List ℕ → Option (List Bool)
@@ -36,6 +41,7 @@ goal_marks m (upper label) = labelled_marks m label
 goal_marks m (reach dir label) = labelled_marks m label
 goal_marks m (reward dir name label) = labelled_marks m label
 goal_marks m (mean dir name) = Some (replicate (states_of m) false)
+goal_marks m (witness dir label threshold) = labelled_marks m label
 
 -- ---- the answer
 
@@ -44,18 +50,20 @@ answer_of verdict.Yes = Yes
 answer_of (verdict.No f) = No f
 answer_of (verdict.Wide state choice) = Wide state choice
 
--- what the rules of the claim from rule 2 on say of the body, for the reward model of place r and these goals; of another claim's body, that
--- it isn't one
-abbrev pub verdict_by : Mdp → ℕ → List Bool → PlainClaim → PlainBody → Verdict
-verdict_by m r goals (upper label) (bounds z) = verdict_of (upper_checks m goals z)
-verdict_by m r goals (reach dir label) (policy z choices ranks) = verdict_of (reach_checks dir m goals z choices ranks)
-verdict_by m r goals (reward dir name label) (rewards v choices ranks) = verdict_of (reward_checks dir m r goals v choices ranks)
-verdict_by m r goals (mean dir name) (gains g bound bias choices spread) = verdict_of (mean_checks dir m r g bound bias spread choices)
-verdict_by m r goals claim body = init_fault None
+-- what the rules of the claim from rule 2 on say of the body, for the reward model of place r, these goals and this initial state; of another
+-- claim's body, that it isn't one
+abbrev pub verdict_by : Mdp → ℕ → List Bool → ℕ → PlainClaim → PlainBody → Verdict
+verdict_by m r goals start (upper label) (bounds z) = verdict_of (upper_checks m goals z)
+verdict_by m r goals start (reach dir label) (policy z choices ranks) = verdict_of (reach_checks dir m goals z choices ranks)
+verdict_by m r goals start (reward dir name label) (rewards v choices ranks) = verdict_of (reward_checks dir m r goals v choices ranks)
+verdict_by m r goals start (mean dir name) (gains g bound bias choices spread) = verdict_of (mean_checks dir m r g bound bias spread choices)
+verdict_by m r goals start (witness Max label t) (flow kept wide flows) = verdict_of (flow_checks m goals start t kept flows)
+verdict_by m r goals start (witness Min label t) (floor kept wide values ranks) = verdict_of (floor_checks m goals start t kept values ranks)
+verdict_by m r goals start claim body = init_fault None
 
 -- a body that isn't the claim's, or that hasn't an entry per state, stands in no certificate; it would be refused
 abbrev pub body_verdict : Mdp → ℕ → List Bool → Certificate → Verdict
-body_verdict m r goals c = if is_body_of c.claim c.states c.body then verdict_by m r goals c.claim c.body else init_fault None
+body_verdict m r goals c = if is_body_of c.claim c.states c.body then verdict_by m r goals (start_of c.init) c.claim c.body else init_fault None
 
 abbrev pub after_init : Verdict → Verdict → Verdict
 after_init verdict.Yes rest = rest
@@ -77,15 +85,17 @@ answer_to m c = if c.states == states_of m then at_reward m c (reward_place m c.
 -- ---- what yes means
 
 -- the rules of the claim from rule 2 on hold in exact numbers, and no written term of a check is past width
-abbrev pub valid_by : Mdp → ℕ → List Bool → PlainClaim → PlainBody → Type 0
-valid_by m r goals (upper label) (bounds z) = IsUpper m goals z
-valid_by m r goals (reach dir label) (policy z choices ranks) = IsReach dir m goals z choices ranks
-valid_by m r goals (reward dir name label) (rewards v choices ranks) = IsReward dir m r goals v choices ranks
-valid_by m r goals (mean dir name) (gains g bound bias choices spread) = IsMean dir m r g bound bias spread choices
-valid_by m r goals claim body = ⊥
+abbrev pub valid_by : Mdp → ℕ → List Bool → ℕ → PlainClaim → PlainBody → Type 0
+valid_by m r goals start (upper label) (bounds z) = IsUpper m goals z
+valid_by m r goals start (reach dir label) (policy z choices ranks) = IsReach dir m goals z choices ranks
+valid_by m r goals start (reward dir name label) (rewards v choices ranks) = IsReward dir m r goals v choices ranks
+valid_by m r goals start (mean dir name) (gains g bound bias choices spread) = IsMean dir m r g bound bias spread choices
+valid_by m r goals start (witness Max label t) (flow kept wide flows) = HoldsFlow m goals start t kept flows
+valid_by m r goals start (witness Min label t) (floor kept wide values ranks) = HoldsFloor m goals start t kept values ranks
+valid_by m r goals start claim body = ⊥
 
 abbrev pub IsValidBody : Mdp → ℕ → List Bool → Certificate → Type 0
-IsValidBody m r goals c = valid_by m r goals c.claim c.body
+IsValidBody m r goals c = valid_by m r goals (start_of c.init) c.claim c.body
 
 -- the certificate belongs to the model and is valid: as many states, an entry of the claim's kind for each, the names of the claim are there,
 -- and all rules hold for this reward model and these goals
@@ -100,20 +110,24 @@ pub record IsAccepted (m : Mdp) (c : Certificate) : Type 0 where
   pub body : IsValidBody m reward goals c
 
 -- the claim, for the reward model of place r and these goals: for upper bounds, that no strategy tree passes them; for a direction, that the
--- values are the greatest, or the least, probabilities of reaching a goal, or rewards until a goal, and the policy comes close to them; or that
--- the gains are the greatest, or the least, mean payoffs to within the spread
-abbrev pub bound_by : Mdp → ℕ → List Bool → PlainClaim → PlainBody → Type 0
-bound_by m r goals (upper label) (bounds z) = Above m goals z
-bound_by m r goals (reach Max label) (policy z choices ranks) = ReachMax m goals z choices
-bound_by m r goals (reach Min label) (policy z choices ranks) = ReachMin m goals z choices
-bound_by m r goals (reward Max name label) (rewards v choices ranks) = RewardMax m r goals choices v
-bound_by m r goals (reward Min name label) (rewards v choices ranks) = RewardMin m r goals choices v
-bound_by m r goals (mean Max name) (gains g bound bias choices spread) = MeanMax m r g spread choices
-bound_by m r goals (mean Min name) (gains g bound bias choices spread) = MeanMin m r g spread choices
-bound_by m r goals claim body = ⊥
+-- values are the greatest, or the least, probabilities of reaching a goal, or rewards until a goal, and the policy comes close to them; that
+-- the gains are the greatest, or the least, mean payoffs to within the spread; or that on the kept states alone some strategy tree from the
+-- initial state, or each deep one, comes close to the threshold or over it, some at a depth that the sum of the flows bounds
+abbrev pub bound_by : Mdp → ℕ → List Bool → ℕ → PlainClaim → PlainBody → Type 0
+bound_by m r goals start (upper label) (bounds z) = Above m goals z
+bound_by m r goals start (reach Max label) (policy z choices ranks) = ReachMax m goals z choices
+bound_by m r goals start (reach Min label) (policy z choices ranks) = ReachMin m goals z choices
+bound_by m r goals start (reward Max name label) (rewards v choices ranks) = RewardMax m r goals choices v
+bound_by m r goals start (reward Min name label) (rewards v choices ranks) = RewardMin m r goals choices v
+bound_by m r goals start (mean Max name) (gains g bound bias choices spread) = MeanMax m r g spread choices
+bound_by m r goals start (mean Min name) (gains g bound bias choices spread) = MeanMin m r g spread choices
+bound_by m r goals start (witness Max label t) (flow kept wide flows) =
+    SubMax m goals (kept_marks (states_of m) kept) start t × SubMaxWithin m goals (kept_marks (states_of m) kept) start t (flow_total flows)
+bound_by m r goals start (witness Min label t) (floor kept wide values ranks) = SubMin m goals (kept_marks (states_of m) kept) start t
+bound_by m r goals start claim body = ⊥
 
 abbrev pub BoundOf : Mdp → ℕ → List Bool → Certificate → Type 0
-BoundOf m r goals c = bound_by m r goals c.claim c.body
+BoundOf m r goals c = bound_by m r goals (start_of c.init) c.claim c.body
 
 -- the claim of the certificate is true of the model
 pub record IsBound (m : Mdp) (c : Certificate) : Type 0 where

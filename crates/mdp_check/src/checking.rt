@@ -6,11 +6,12 @@ ghost use Rattle.mdp_farkas.specs.Verdict.{IfYes, IsYes};
 ghost use Rattle.mdp_check.specs.Check.{reward_place, goal_marks, answer_to, body_verdict, IsBound, BoundOf, IsAccepted, IsValidBody};
 
 use crate::answer::{Answer, answer_of};
-use crate::initial::{init_denied, init_verdict};
+use crate::initial::{init_denied, init_verdict, start_of};
 use mdp_cert::{Body, Cert, Claim};
 use mdp_farkas::{Verdict, holds_mean, holds_reach, holds_reward, holds_upper};
+use mdp_flow::{holds_floor, holds_flow};
 use mdp_num::Memory;
-use mdp_rows::{Marks, Model};
+use mdp_rows::{Dir, Marks, Model};
 use std::alloc::Global;
 
 /// The place of the claim's reward model in the model, where it is there; 0 where the claim names none.
@@ -18,7 +19,7 @@ fn reward_place(model: &Model, claim: &Claim) -> Option<u32>
     ensures { result ≡ reward_place model.now (plain_claim claim.now) }
 {
     match claim {
-        Claim::Upper { .. } | Claim::Reach { .. } => Some(0),
+        Claim::Upper { .. } | Claim::Reach { .. } | Claim::Witness { .. } => Some(0),
         Claim::Reward { name, .. } => model.reward_named(name),
         Claim::Mean { name, .. } => model.reward_named(name),
     }
@@ -32,6 +33,7 @@ fn goal_marks(alloc: Global, model: &Model, claim: &Claim) -> Result<Option<Mark
         Claim::Upper { label } => label,
         Claim::Reach { label, .. } => label,
         Claim::Reward { label, .. } => label,
+        Claim::Witness { label, .. } => label,
         Claim::Mean { .. } => return Ok(Some(Marks::empty(alloc, model.states())?)),
     };
     match model.label(label) {
@@ -41,22 +43,50 @@ fn goal_marks(alloc: Global, model: &Model, claim: &Claim) -> Result<Option<Mark
 }
 
 /// What the rules of the claim from rule 2 on say of the body, for the claim's reward model and goals.
-fn body_verdict(model: &Model, reward: u32, goals: &Marks, cert: &Cert) -> Verdict
+fn body_verdict(
+    alloc: Global,
+    model: &Model,
+    reward: u32,
+    goals: &Marks,
+    cert: &Cert,
+) -> Result<Verdict, Memory>
     requires reward { reward_place model.now (plain_claim cert.now.claim) ≡ Some reward }
     requires goals { length goals.now ≡ states_of model.now }
     requires states { cert.now.states ≡ states_of model.now }
-    ensures verdict { result ≡ body_verdict model.now reward goals.now (plain cert.now) }
-    ensures rules { IsYes result ↔ IsValidBody model.now reward goals.now (plain cert.now) }
-    ensures bound { IfYes result (BoundOf model.now reward goals.now (plain cert.now)) }
+    ensures verdict { IfOk result (λ v. v ≡ body_verdict model.now reward goals.now (plain cert.now)) }
+    ensures rules { IfOk result (λ v. IsYes v ↔ IsValidBody model.now reward goals.now (plain cert.now)) }
+    ensures bound { IfOk result (λ v. IfYes v (BoundOf model.now reward goals.now (plain cert.now))) }
 {
+    let start = start_of(&cert.init);
     match (&cert.claim, &cert.body) {
-        (Claim::Upper { .. }, Body::Upper(upper)) => holds_upper(model, goals, upper),
-        (Claim::Reach { dir, .. }, Body::Reach(reach)) => holds_reach(model, goals, *dir, reach),
-        (Claim::Reward { dir, .. }, Body::Reward(rewards)) => {
-            holds_reward(model, reward, goals, *dir, rewards)
+        (Claim::Upper { .. }, Body::Upper(upper)) => Ok(holds_upper(model, goals, upper)),
+        (Claim::Reach { dir, .. }, Body::Reach(reach)) => {
+            Ok(holds_reach(model, goals, *dir, reach))
         }
-        (Claim::Mean { dir, .. }, Body::Mean(mean)) => holds_mean(model, reward, *dir, mean),
-        _ => init_denied(None),
+        (Claim::Reward { dir, .. }, Body::Reward(rewards)) => {
+            Ok(holds_reward(model, reward, goals, *dir, rewards))
+        }
+        (Claim::Mean { dir, .. }, Body::Mean(mean)) => Ok(holds_mean(model, reward, *dir, mean)),
+        (
+            Claim::Witness {
+                dir: Dir::Max,
+                threshold,
+                ..
+            },
+            Body::Flow(flow),
+        ) => {
+            let verdict = holds_flow(alloc, model, goals, start, *threshold, flow)?;
+            Ok(verdict)
+        }
+        (
+            Claim::Witness {
+                dir: Dir::Min,
+                threshold,
+                ..
+            },
+            Body::Floor(floor),
+        ) => Ok(holds_floor(model, goals, start, *threshold, floor)),
+        _ => Ok(init_denied(None)),
     }
 }
 
@@ -79,7 +109,10 @@ pub fn check(alloc: Global, model: &Model, cert: &Cert) -> Answer
         Err(Memory) => return Answer::Memory,
     };
     match init_verdict(model, &cert.init, &cert.body) {
-        Verdict::Yes => answer_of(body_verdict(model, reward, &goals, cert)),
+        Verdict::Yes => match body_verdict(alloc, model, reward, &goals, cert) {
+            Ok(verdict) => answer_of(verdict),
+            Err(Memory) => Answer::Memory,
+        },
         other => answer_of(other),
     }
 }

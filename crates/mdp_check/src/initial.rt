@@ -1,7 +1,7 @@
 ghost use Rattle.std.specs.Prelude.{◌≡◌};
 ghost use Rattle.mdp_cert.specs.Cert.{plain_body};
 ghost use Rattle.mdp_cert.specs.Claims.{reward_same};
-ghost use Rattle.mdp_check.specs.Initial.{init_check, init_fault, state_check, has_value, is_value, is_reward};
+ghost use Rattle.mdp_check.specs.Initial.{init_check, init_fault, state_check, has_value, is_subsystem, start_of, is_value, is_reward};
 ghost use Rattle.mdp_spec.specs.Labels.{initial_of};
 
 use mdp_cert::{Body, Init};
@@ -60,7 +60,26 @@ fn has_value(body: &Body, s: u32, value: &Option<Frac>) -> bool
         (Body::Reach(cert), Some(value)) => is_value(&cert.values, s, value),
         (Body::Reward(cert), value) => is_reward(&cert.values, s, value),
         (Body::Mean(cert), Some(value)) => is_value(&cert.gains, s, value),
-        (_, None) => false,
+        (Body::Flow(_), _) | (Body::Floor(_), _) | (_, None) => false,
+    }
+}
+
+/// Whether the body is one of a subsystem, which needs an initial state and has no value of it.
+fn is_subsystem(body: &Body) -> bool
+    ensures { result ≡ is_subsystem (plain_body body.now) }
+{
+    matches!(body, Body::Flow(_) | Body::Floor(_))
+}
+
+/// The state of the line `init`; 0 where it has none.
+pub(crate) fn start_of(init: &Init) -> u32
+    ensures { result ≡ start_of init.now }
+{
+    match init {
+        Init::Missing => 0,
+        Init::Finite(state, _) => *state,
+        Init::Infinite(state) => *state,
+        Init::Start(state) => *state,
     }
 }
 
@@ -75,10 +94,12 @@ fn state_verdict(state: u32, initial: Option<u32>, has_value: bool) -> Verdict
 }
 
 /// Rule 1: the line `init` names the model's one initial state and has its value; it names none where there isn't exactly one.
+/// For a subsystem there is exactly one, and the line has no value.
 pub(crate) fn init_verdict(model: &Model, init: &Init, body: &Body) -> Verdict
     ensures { result ≡ init_check init.now (initial_of model.now) (plain_body body.now) }
 {
     match (init, model.initial()) {
+        (Init::Missing, None) if is_subsystem(body) => init_denied(None),
         (Init::Missing, None) => Verdict::Yes,
         (Init::Missing, Some(_)) => init_denied(None),
         (Init::Finite(state, value), initial) => {
@@ -87,5 +108,6 @@ pub(crate) fn init_verdict(model: &Model, init: &Init, body: &Body) -> Verdict
         (Init::Infinite(state), initial) => {
             state_verdict(*state, initial, has_value(body, *state, &None))
         }
+        (Init::Start(state), initial) => state_verdict(*state, initial, is_subsystem(body)),
     }
 }

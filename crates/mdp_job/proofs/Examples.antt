@@ -3,7 +3,7 @@ use Rattle.std.proofs.Common.{◌≡◌, [], ◌∷◌, Some, None, Ok, Err, ref
 use Rattle.std.specs.Prelude.{codes}
 use Rattle.mdp_rows.specs.declared.rule.RowRule.TheVariants.{Exact, Scaled}
 use Rattle.mdp_rows.specs.declared.dir.Dir.TheVariants.{Max}
-use Rattle.mdp_job.specs.Job.{reach, reward, solve, check, drill, horizon}
+use Rattle.mdp_job.specs.Job.{reach, reward, solve, check, drill, horizon, policy}
 use Rattle.mdp_job.specs.Words.{job_of_texts}
 use Rattle.mdp_job.specs.declared.words_error.WordsError.TheVariants.{Command, Number, Rows, Direction, Objective, Drill, Steps}
 
@@ -92,3 +92,16 @@ steps_long = refl
 
 steps_missing : job_of_texts (codes "horizon" ∷ codes "m" ∷ codes "exact" ∷ codes "max" ∷ codes "-" ∷ codes "goal" ∷ codes "" ∷ []) ≡ Err Steps
 steps_missing = refl
+
+-- `policy`: the number of words, the row rule, then the objective
+a_policy : job_of_texts (codes "policy" ∷ codes "m" ∷ codes "exact" ∷ codes "p" ∷ codes "reach" ∷ codes "goal" ∷ []) ≡ Ok (policy Exact (codes "goal"))
+a_policy = refl
+
+policy_words : job_of_texts (codes "policy" ∷ codes "m" ∷ codes "EXACT" ∷ codes "p" ∷ codes "visit" ∷ []) ≡ Err Number
+policy_words = refl
+
+policy_rows : job_of_texts (codes "policy" ∷ codes "m" ∷ codes "EXACT" ∷ codes "p" ∷ codes "visit" ∷ codes "goal" ∷ []) ≡ Err Rows
+policy_rows = refl
+
+policy_objective : job_of_texts (codes "policy" ∷ codes "m" ∷ codes "exact" ∷ codes "p" ∷ codes "reward" ∷ codes "goal" ∷ []) ≡ Err Objective
+policy_objective = refl

@@ -5,7 +5,7 @@ use Rattle.mdp_rows.specs.declared.rule.RowRule.{RowRule}
 use Rattle.mdp_job.specs.declared.job.Query.{Query}
 use Rattle.mdp_job.specs.declared.job.Query.TheVariants as query
 use Rattle.mdp_job.specs.declared.job.Job.{Job}
-use Rattle.mdp_job.specs.declared.job.Job.TheVariants.{Check, Drill, Horizon, Solve}
+use Rattle.mdp_job.specs.declared.job.Job.TheVariants.{Check, Drill, Horizon, Policy, Solve}
 use Rattle.mdp_job.specs.declared.files.Files.{Files}
 use Rattle.mdp_job.specs.declared.words_error.WordsError.{WordsError}
 
@@ -23,6 +23,8 @@ pub data PlainJob : Type 0 where
   drill : ℕ → ℕ → ℕ → PlainJob
   -- the best probability, in the direction, of reaching a label within so many steps, on a way that keeps to states of another label, or to any
   horizon : RowRule → Dir → Option (List ℕ) → List ℕ → ℕ → PlainJob
+  -- the probabilities with which a given policy reaches a label, and where another choice is better
+  policy : RowRule → List ℕ → PlainJob
 
 -- what words ask for: a job, or why they are none
 abbrev pub Asked : Type 0
@@ -39,6 +41,7 @@ plain_job (Solve rule dir query) = solve rule dir (plain_query query)
 plain_job (Check rule) = check rule
 plain_job (Drill number layers width) = drill number layers width
 plain_job (Horizon rule dir stay label steps) = horizon rule dir (option_map (λ name. name.now) stay) label.now steps
+plain_job (Policy rule label) = policy rule label.now
 
 abbrev pub asked : Result Job WordsError → Asked
 asked (Ok job) = Ok (plain_job job)
@@ -52,6 +55,7 @@ files_of (Ok (solve rule dir query)) = record { model = Some 1; second = None }
 files_of (Ok (check rule)) = record { model = Some 1; second = Some 3 }
 files_of (Ok (drill number layers width)) = record { model = None; second = None }
 files_of (Ok (horizon rule dir stay label steps)) = record { model = Some 1; second = None }
+files_of (Ok (policy rule label)) = record { model = Some 1; second = Some 3 }
 files_of (Err e) = record { model = None; second = None }
 
 abbrev pub reads_model : Asked → Bool

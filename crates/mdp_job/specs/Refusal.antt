@@ -5,7 +5,8 @@ use Rattle.mdp_drn.specs.declared.error.DrnKind.{DrnKind}
 use Rattle.mdp_farkas.specs.declared.verdict.Fault.{Fault}
 use Rattle.mdp_path.specs.Queries.{WideTerm, shown}
 use Rattle.mdp_job.specs.declared.refusal.Refusal.{Refusal}
-use Rattle.mdp_job.specs.declared.refusal.Refusal.TheVariants.{Words, Model, QuerySize, QueryReward, QueryLabel, QueryNegative, QuerySteps, TooWide, CheckWide, HorizonWide, Denied, ReadModel, ReadCertificate, LongModel, LongCertificate, CertText, Memory}
+use Rattle.mdp_job.specs.declared.refusal.Refusal.TheVariants.{Words, Model, QuerySize, QueryReward, QueryLabel, QueryNegative, QuerySteps, QueryChoice}
+use Rattle.mdp_job.specs.declared.refusal.Refusal.TheVariants.{TooWide, CheckWide, HorizonWide, Denied, ReadModel, ReadCertificate, LongModel, LongCertificate, CertText, PolicyText, Memory}
 use Rattle.mdp_job.specs.declared.words_error.WordsError.{WordsError}
 
 pub data PlainRefusal : Type 0 where
@@ -18,6 +19,7 @@ pub data PlainRefusal : Type 0 where
   query_label : PlainRefusal
   query_negative : PlainRefusal
   query_steps : PlainRefusal
+  query_choice : PlainRefusal
   -- the first term past width in what was to be solved
   too_wide : WideTerm → PlainRefusal
   -- the state and the choice at which a term of the check is past width
@@ -31,6 +33,8 @@ pub data PlainRefusal : Type 0 where
   long_certificate : PlainRefusal
   -- a line of the certificate's text, and the rule that it breaks
   cert_text : ℕ → CertKind → PlainRefusal
+  -- a line of the policy's text, and the rule that it breaks
+  policy_text : ℕ → CertKind → PlainRefusal
   no_memory : PlainRefusal
 
 abbrev pub plain_refusal : Refusal → PlainRefusal
@@ -41,6 +45,7 @@ plain_refusal QueryReward = query_reward
 plain_refusal QueryLabel = query_label
 plain_refusal QueryNegative = query_negative
 plain_refusal QuerySteps = query_steps
+plain_refusal QueryChoice = query_choice
 plain_refusal (TooWide w) = too_wide (shown w w.round)
 plain_refusal (CheckWide state choice) = check_wide state choice
 plain_refusal (HorizonWide depth state choice) = horizon_wide depth state choice
@@ -50,4 +55,5 @@ plain_refusal ReadCertificate = read_certificate
 plain_refusal LongModel = long_model
 plain_refusal LongCertificate = long_certificate
 plain_refusal (CertText n kind) = cert_text n kind
+plain_refusal (PolicyText n kind) = policy_text n kind
 plain_refusal Memory = no_memory

@@ -1,6 +1,7 @@
 -- The status with which a run ends, and its number.
 use Rattle.std.specs.Prelude.{ℕ}
-use Rattle.mdp_job.specs.Refusal.{PlainRefusal, no_job, model_text, query_size, query_reward, query_label, query_negative, query_steps, too_wide, check_wide, horizon_wide, denied, read_model, read_certificate, long_model, long_certificate, cert_text, no_memory}
+use Rattle.mdp_job.specs.Refusal.{PlainRefusal, no_job, model_text, query_size, query_reward, query_label, query_negative, query_steps, query_choice, too_wide, check_wide, horizon_wide}
+use Rattle.mdp_job.specs.Refusal.{denied, read_model, read_certificate, long_model, long_certificate, cert_text, policy_text, no_memory}
 use Rattle.mdp_job.specs.declared.status.Status.{Status}
 use Rattle.mdp_job.specs.declared.status.Status.TheVariants.{Done, Denied, Words, Model, Query, TooWide, ReadFault, WriteFault, Memory, CertText, Long}
 
@@ -13,6 +14,7 @@ status_of query_reward = Query
 status_of query_label = Query
 status_of query_negative = Query
 status_of query_steps = Query
+status_of query_choice = Query
 status_of (too_wide w) = TooWide
 status_of (check_wide state choice) = TooWide
 status_of (horizon_wide depth state choice) = TooWide
@@ -22,6 +24,7 @@ status_of read_certificate = ReadFault
 status_of long_model = Long
 status_of long_certificate = Long
 status_of (cert_text n kind) = CertText
+status_of (policy_text n kind) = CertText
 status_of no_memory = Memory
 
 -- the exit status of the program

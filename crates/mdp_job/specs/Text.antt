@@ -11,7 +11,8 @@ use Rattle.mdp_elim.specs.declared.too_wide.Part.{Part}
 use Rattle.mdp_elim.specs.declared.too_wide.Part.TheVariants.{Whole, Inner, Outer, Steps, Join, Flow, Floor}
 use Rattle.mdp_farkas.specs.declared.verdict.Fault.{Fault}
 use Rattle.mdp_path.specs.Queries.{WideTerm}
-use Rattle.mdp_job.specs.Refusal.{PlainRefusal, no_job, model_text, query_size, query_reward, query_label, query_negative, query_steps, too_wide, check_wide, horizon_wide, denied, read_model, read_certificate, long_model, long_certificate, cert_text, no_memory}
+use Rattle.mdp_job.specs.Refusal.{PlainRefusal, no_job, model_text, query_size, query_reward, query_label, query_negative, query_steps, query_choice, too_wide, check_wide, horizon_wide}
+use Rattle.mdp_job.specs.Refusal.{denied, read_model, read_certificate, long_model, long_certificate, cert_text, policy_text, no_memory}
 use Rattle.mdp_job.specs.declared.words_error.WordsError.{WordsError}
 use Rattle.mdp_job.specs.declared.words_error.WordsError.TheVariants as words
 
@@ -120,6 +121,7 @@ text_of query_reward = line (codes "query reward")
 text_of query_label = line (codes "query label")
 text_of query_negative = line (codes "query negative")
 text_of query_steps = line (codes "query steps")
+text_of query_choice = line (codes "query choice")
 text_of (too_wide w) = too_wide_text w
 text_of (check_wide state choice) = wide_text state choice
 text_of (horizon_wide depth state choice) = horizon_text depth state choice
@@ -129,4 +131,5 @@ text_of read_certificate = line (codes "read-fault certificate")
 text_of long_model = line (codes "long model")
 text_of long_certificate = line (codes "long certificate")
 text_of (cert_text n kind) = at_line (codes "cert") n (cert_word kind)
+text_of (policy_text n kind) = at_line (codes "policy") n (cert_word kind)
 text_of no_memory = line (codes "memory")

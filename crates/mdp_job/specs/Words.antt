@@ -4,6 +4,7 @@
 --     check MODEL ROWS CERT
 --     drill NUMBER LAYERS WIDTH
 --     horizon MODEL ROWS DIR A B STEPS
+--     policy MODEL ROWS POLICY reach LABEL
 -- ROWS is `exact` or `scaled`, DIR `max` or `min`.
 use Rattle.std.specs.Prelude.{ℕ, ◌*◌, ◌-◌, ◌^◌, Bool, ◌&&◌, not, List, [], ◌∷◌, length, slice_index_or, map, Option, Some, None, Result, Ok, Err, ◌==◌, nat_lt, if◌then◌else◌, codes}
 use Rattle.std.specs.declared.string.String.{String}
@@ -17,7 +18,7 @@ use Rattle.mdp_rows.specs.declared.dir.Dir.{Dir}
 use Rattle.mdp_rows.specs.declared.dir.Dir.TheVariants.{Max, Min}
 use Rattle.mdp_rows.specs.declared.rule.RowRule.{RowRule}
 use Rattle.mdp_rows.specs.declared.rule.RowRule.TheVariants.{Exact, Scaled}
-use Rattle.mdp_job.specs.Job.{PlainQuery, reach, reward, solve, check, drill, horizon, Asked}
+use Rattle.mdp_job.specs.Job.{PlainQuery, reach, reward, solve, check, drill, horizon, policy, Asked}
 use Rattle.mdp_job.specs.declared.words_error.WordsError.{WordsError}
 use Rattle.mdp_job.specs.declared.words_error.WordsError.TheVariants.{Command, Number, Rows, Direction, Objective, Drill, Steps}
 
@@ -89,6 +90,13 @@ horizon_of words =
     >>= (λ dir. steps_of (word_at words 5) >>= (λ steps. Ok (horizon rule dir (stay_of (word_at words 3)) (word_at words 4) steps)))))
     else Err Number
 
+-- the words behind `policy`: the row rule, then the objective
+abbrev pub policy_of : List (List ℕ) → Asked
+policy_of words =
+    if length words == 5
+    then (rule_of (word_at words 1) >>= (λ rule. if bytes_eq (word_at words 3) (codes "reach") then Ok (policy rule (word_at words 4)) else Err Objective))
+    else Err Number
+
 -- the words, as texts
 abbrev pub job_of_texts : List (List ℕ) → Asked
 job_of_texts [] = Err Command
@@ -96,7 +104,8 @@ job_of_texts (command ∷ words) =
     if bytes_eq command (codes "solve") then solve_of words
     else (if bytes_eq command (codes "check") then check_of words
     else (if bytes_eq command (codes "drill") then drill_of words
-    else (if bytes_eq command (codes "horizon") then horizon_of words else Err Command)))
+    else (if bytes_eq command (codes "horizon") then horizon_of words
+    else (if bytes_eq command (codes "policy") then policy_of words else Err Command))))
 
 abbrev pub job_of : List (String Global) → Asked
 job_of words = job_of_texts (map string_bytes words)

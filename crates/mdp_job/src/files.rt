@@ -20,7 +20,7 @@ pub fn files_of(words: &[String]) -> Files
             model: Some(1),
             second: None,
         },
-        Ok(Job::Check { .. }) => Files {
+        Ok(Job::Check { .. } | Job::Policy { .. }) => Files {
             model: Some(1),
             second: Some(3),
         },

@@ -2,7 +2,7 @@ ghost use Rattle.std.specs.Prelude.{◌≡◌, ◌<◌, ◌^◌, option_map, len
 ghost use Rattle.std.specs.Result.{MatchResult};
 ghost use Rattle.std.specs.String.{string_bytes};
 ghost use Rattle.mdp_job.specs.Job.{asked, plain_query};
-ghost use Rattle.mdp_job.specs.Words.{job_of, rule_of, dir_of, reach_of, reward_of, query_of, solve_of, check_of, drill_by, drill_of, stay_of, steps_of, horizon_of};
+ghost use Rattle.mdp_job.specs.Words.{job_of, rule_of, dir_of, reach_of, reward_of, query_of, solve_of, check_of, drill_by, drill_of, stay_of, steps_of, horizon_of, policy_of};
 
 use crate::digits::whole_word;
 use crate::words_error::WordsError;
@@ -45,6 +45,12 @@ pub enum Job<'a> {
         stay: Option<&'a [u8]>,
         label: &'a [u8],
         steps: u32,
+    },
+    /// `policy MODEL ROWS POLICY reach LABEL`: the probabilities with which a given policy reaches a state with the label, and where another choice
+    /// is better.
+    Policy {
+        rule: RowRule,
+        label: &'a [u8],
     },
 }
 
@@ -175,6 +181,23 @@ fn horizon_of<'a>(words: &'a [String]) -> Result<Job<'a>, WordsError>
     })
 }
 
+/// The job that the words behind `policy` are.
+fn policy_of<'a>(words: &'a [String]) -> Result<Job<'a>, WordsError>
+    ensures { asked result ≡ policy_of (map string_bytes words.now) }
+{
+    let [_, rows, _, objective, label] = words else {
+        return Err(WordsError::Number);
+    };
+    let rule = rule_of(rows.as_str())?;
+    if objective.as_str() != "reach" {
+        return Err(WordsError::Objective);
+    }
+    Ok(Job::Policy {
+        rule,
+        label: label.as_bytes(),
+    })
+}
+
 /// The most states in the layers of a model that is drawn.
 const MOST_STATES: u128 = (1 << 20) - 2;
 
@@ -214,7 +237,7 @@ fn drill_of<'a>(words: &'a [String]) -> Result<Job<'a>, WordsError>
 }
 
 /// The job that the words are, or the first refusal: `Command`, then `Number`, `Rows`, `Direction` and `Objective`, and `Number` again where an
-/// objective has another number of words; for `drill` `Drill`, for `horizon` `Steps`. It takes no memory.
+/// objective has another number of words; for `drill` `Drill`, for `horizon` `Steps`, for `policy` `Objective` behind `Rows`. It takes no memory.
 pub fn job_of<'a>(words: &'a [String]) -> Result<Job<'a>, WordsError>
     ensures { asked result ≡ job_of words.now }
 {
@@ -226,6 +249,7 @@ pub fn job_of<'a>(words: &'a [String]) -> Result<Job<'a>, WordsError>
         "check" => check_of(rest),
         "drill" => drill_of(rest),
         "horizon" => horizon_of(rest),
+        "policy" => policy_of(rest),
         _ => Err(WordsError::Command),
     }
 }

@@ -24,7 +24,7 @@ pub enum Refusal {
         line: u64,
         kind: DrnKind,
     },
-    /// The certificate has another number of states than the model.
+    /// The certificate, or the policy, has another number of states than the model.
     QuerySize,
     /// The reward's name isn't in the model.
     QueryReward,
@@ -34,6 +34,8 @@ pub enum Refusal {
     QueryNegative,
     /// The steps of `horizon` times the states are above 2^22.
     QuerySteps,
+    /// A choice of the policy isn't one of its state.
+    QueryChoice,
     /// A written term of what was to be solved is past width, at this place.
     TooWide(TooWide),
     /// A written term of the check is past width, at this place.
@@ -51,14 +53,19 @@ pub enum Refusal {
     Denied(Fault),
     /// The model's source failed.
     ReadModel,
-    /// The certificate's source failed.
+    /// The second source failed.
     ReadCertificate,
     /// The model's source gave more than 2^30 bytes.
     LongModel,
-    /// The certificate's source gave more than 2^30 bytes.
+    /// The second source gave more than 2^30 bytes.
     LongCertificate,
     /// The certificate's text breaks a rule, first at this line.
     CertText {
+        line: u64,
+        kind: CertKind,
+    },
+    /// The policy's text breaks a rule, first at this line.
+    PolicyText {
         line: u64,
         kind: CertKind,
     },
@@ -81,14 +88,15 @@ impl Refusal {
             | Refusal::QueryReward
             | Refusal::QueryLabel
             | Refusal::QueryNegative
-            | Refusal::QuerySteps => Status::Query,
+            | Refusal::QuerySteps
+            | Refusal::QueryChoice => Status::Query,
             Refusal::TooWide(_) | Refusal::CheckWide { .. } | Refusal::HorizonWide { .. } => {
                 Status::TooWide
             }
             Refusal::Denied(_) => Status::Denied,
             Refusal::ReadModel | Refusal::ReadCertificate => Status::ReadFault,
             Refusal::LongModel | Refusal::LongCertificate => Status::Long,
-            Refusal::CertText { .. } => Status::CertText,
+            Refusal::CertText { .. } | Refusal::PolicyText { .. } => Status::CertText,
             Refusal::Memory => Status::Memory,
         }
     }
@@ -338,6 +346,7 @@ fn push_parts(refusal: &Refusal, out: &mut Vec<u8>) -> Result<(), AllocError>
         Refusal::QueryLabel => out.extend_from_slice(b"query label\n"),
         Refusal::QueryNegative => out.extend_from_slice(b"query negative\n"),
         Refusal::QuerySteps => out.extend_from_slice(b"query steps\n"),
+        Refusal::QueryChoice => out.extend_from_slice(b"query choice\n"),
         Refusal::TooWide(wide) => push_too_wide(wide, out),
         Refusal::CheckWide { state, choice } => push_check_wide(*state, *choice, out),
         Refusal::HorizonWide {
@@ -351,6 +360,7 @@ fn push_parts(refusal: &Refusal, out: &mut Vec<u8>) -> Result<(), AllocError>
         Refusal::LongModel => out.extend_from_slice(b"long model\n"),
         Refusal::LongCertificate => out.extend_from_slice(b"long certificate\n"),
         Refusal::CertText { line, kind } => push_at("cert", *line, cert_word(*kind), out),
+        Refusal::PolicyText { line, kind } => push_at("policy", *line, cert_word(*kind), out),
         Refusal::Memory => out.extend_from_slice(MEMORY_TEXT),
     }
 }

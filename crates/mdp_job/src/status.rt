@@ -12,7 +12,8 @@ pub enum Status {
     Words,
     /// The model's text was refused.
     Model,
-    /// The certificate doesn't belong to the model, or a reward name or a label isn't in it, or a reward until a goal is below 0.
+    /// The certificate or the policy doesn't belong to the model, or a reward name or a label isn't in it, or a reward until a goal is below 0, or there
+    /// are too many steps.
     Query,
     /// A written term of the check is past width.
     TooWide,
@@ -22,7 +23,7 @@ pub enum Status {
     WriteFault,
     /// Memory was refused.
     Memory,
-    /// The certificate's text was refused.
+    /// The text of the certificate or of the policy was refused.
     CertText,
     /// A source gave more bytes than the limit.
     Long,

@@ -39,6 +39,7 @@ fn spells_refusals(rt: HostRuntime) -> Result<(), Fail> {
             1,
         ),
         (Refusal::QuerySteps, "> query steps\n", 4),
+        (Refusal::QueryChoice, "> query choice\n", 4),
         (
             Refusal::HorizonWide {
                 depth: 2,
@@ -55,6 +56,14 @@ fn spells_refusals(rt: HostRuntime) -> Result<(), Fail> {
                 kind: CertKind::Number,
             },
             "> cert line 5 number\n",
+            9,
+        ),
+        (
+            Refusal::PolicyText {
+                line: 6,
+                kind: CertKind::End,
+            },
+            "> policy line 6 end\n",
             9,
         ),
         (Refusal::LongCertificate, "> long certificate\n", 10),

@@ -9,7 +9,7 @@ pub enum WordsError {
     Rows = 3,
     /// The direction is neither `max` nor `min`.
     Direction = 4,
-    /// `solve` has another objective than `reach` and `reward`.
+    /// `solve` has another objective than `reach` and `reward`, or `policy` another than `reach`.
     Objective = 5,
     /// A number of `drill` isn't in range.
     Drill = 7,

@@ -1,5 +1,5 @@
 -- What a command makes of its sources, from what was read of each.
-use Rattle.std.proofs.Common.{◌≡◌, ℕ, ◌≤◌, ◌⊎◌, inl, inr, Bool, true, false, cond, nat_lt, List, length, Result, Ok, Err, IfOk, IsOk, refl, sym, subst}
+use Rattle.std.proofs.Common.{◌≡◌, ℕ, ◌≤◌, ◌⊎◌, inl, inr, Bool, true, false, cond, nat_lt, List, length, Option, Result, Ok, Err, IfOk, IsOk, refl, sym, subst}
 use Rattle.std.proofs.lemmas.Bool.{ltb-false}
 use Rattle.mdp_spec.specs.Mdp.{Mdp}
 use Rattle.mdp_rows.specs.declared.rule.RowRule.{RowRule}
@@ -8,7 +8,7 @@ use Rattle.mdp_drn.specs.Reading.{outcome, Reads}
 use Rattle.mdp_job.specs.Refusal.{PlainRefusal, read_model, read_certificate, long_model, no_memory}
 use Rattle.mdp_step.proofs.FileBytes.{or_nothing, had_nothing}
 use Rattle.mdp_step.specs.Files.{most_bytes, model_or_refusal, model_due, IsDueToModel}
-use Rattle.mdp_step.specs.Read.{IsDueToBytes, IsRead, IsWorkOnModel, IsWorkOnPair}
+use Rattle.mdp_step.specs.Read.{IsDueToBytes, IsRead, IsSaidOfBytes, IsReadAs, IsWorkOnModel, IsWorkOnPair}
 use Rattle.mdp_step.specs.Said.{Said}
 use Rattle.mdp_step.specs.Streams.{Input, IsStill}
 
@@ -107,3 +107,51 @@ module _ (rule : RowRule) (due : Mdp → List ℕ → Said → Type 0) (shows : 
         model_still = from.1;
       })))
   pair_worked m said due_to is model_read (inr (inr memory)) shown = inr (inr (inr memory))
+
+  -- the same of what is due to the second source's bytes, and is no function of them
+  pub pair_worked_as : (m : Mdp) (said : Said) → IsRead model (model_due rule) read_model (Ok m) → IsReadAs second (due m) read_certificate said
+      → ((bytes other : List ℕ) → model_due rule bytes ≡ Ok m → due m other said → IfOk said (shows bytes other))
+      → IsWorkOnPair rule due shows model second said
+  pair_worked_as m said model_read (inl read) shown =
+      let from = model_had rule model m model_read in
+      inl (record {
+        model_bytes = from.0.bytes;
+        second_bytes = read.0.bytes;
+        had_model = from.0.had;
+        had_second = read.0.had;
+        is_due = subst (λ (x : Result Mdp PlainRefusal). IsDueToModel (dues read.0.bytes) x said) from.0.is_due read.0.is_due;
+        shown = shown from.0.bytes read.0.bytes (sym from.0.is_due) read.0.is_due;
+        model_still = from.1;
+        second_still = read.1;
+      })
+  pair_worked_as m said model_read (inr (inl failed)) shown =
+      let from = model_had rule model m model_read in
+      inr (inr (inl (record {
+        fault = failed.1;
+        says = failed.0;
+        model_bytes = from.0.bytes;
+        had_model = from.0.had;
+        model_read = subst (λ (x : Result Mdp PlainRefusal). IsOk x) from.0.is_due refl;
+        model_still = from.1;
+      })))
+  pair_worked_as m said model_read (inr (inr memory)) shown = inr (inr (inr memory))
+
+-- ---- what is due to the bytes of a source, from what was read of it
+
+module _ {A : Type 0} (told : Option (List ℕ)) (still failed : Type 0) (due_to : List ℕ → Result A PlainRefusal) (due : List ℕ → Said → Type 0) (fault : PlainRefusal) where
+  abbrev pub HasRead : Result A PlainRefusal → Type 0
+  HasRead result = (IsDueToBytes told due_to result × still) ⊎ (((result ≡ Err fault) × failed) ⊎ (result ≡ Err no_memory))
+
+  abbrev pub HasSaid : Said → Type 0
+  HasSaid said = (IsSaidOfBytes told due said × still) ⊎ (((said ≡ Err fault) × failed) ⊎ (said ≡ Err no_memory))
+
+  pub read_refused : (r : PlainRefusal) → ((bytes : List ℕ) → due_to bytes ≡ Err r → due bytes (Err r)) → HasRead (Err r) → HasSaid (Err r)
+  read_refused r is (inl read) = inl (record { bytes = read.0.bytes; had = read.0.had; is_due = is read.0.bytes (sym read.0.is_due) }, read.1)
+  read_refused r is (inr (inl has_failed)) = inr (inl (cc (has_failed.0), has_failed.1))
+  read_refused r is (inr (inr memory)) = inr (inr (cc memory))
+
+  pub read_worked : (x : A) (said : Said) → (said ≡ Err no_memory) ⊎ ((bytes : List ℕ) → due_to bytes ≡ Ok x → due bytes said) → HasRead (Ok x) → HasSaid said
+  read_worked x said (inl memory) read = inr (inr memory)
+  read_worked x said (inr is) (inl read) = inl (record { bytes = read.0.bytes; had = read.0.had; is_due = is read.0.bytes (sym read.0.is_due) }, read.1)
+  read_worked x said (inr is) (inr (inl has_failed)) = cc (has_failed.0)
+  read_worked x said (inr is) (inr (inr memory)) = cc memory

@@ -24,6 +24,16 @@ pub record IsDueToBytes {A : Type 0} (told : Option (List ℕ)) (due_to : List �
 abbrev pub IsRead : {A : Type 0} → Input → (List ℕ → Result A PlainRefusal) → PlainRefusal → Result A PlainRefusal → Type 0
 IsRead file due_to fault result = (IsDueToBytes file.before due_to result × IsStill file) ⊎ (((result ≡ Err fault) × HasFailed file) ⊎ (result ≡ Err no_memory))
 
+-- this is due to the bytes that a source had left
+pub record IsSaidOfBytes (told : Option (List ℕ)) (due : List ℕ → Said → Type 0) (said : Said) : Type 0 where
+  pub bytes : List ℕ
+  pub had : HadLeft told bytes
+  pub is_due : due bytes said
+
+-- a file, where this is due to its bytes; or a fault that was counted, or want of memory
+abbrev pub IsReadAs : Input → (List ℕ → Said → Type 0) → PlainRefusal → Said → Type 0
+IsReadAs file due fault said = (IsSaidOfBytes file.before due said × IsStill file) ⊎ (((said ≡ Err fault) × HasFailed file) ⊎ (said ≡ Err no_memory))
+
 abbrev pub plain_certificate : Result Cert Refusal → Result Certificate PlainRefusal
 plain_certificate (Ok c) = Ok (plain c)
 plain_certificate (Err refusal) = Err (plain_refusal refusal)

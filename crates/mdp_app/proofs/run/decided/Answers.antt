@@ -46,3 +46,9 @@ pub returns-in-Ok-Horizon : goal.returns-in-Ok-Horizon
 returns-in-Ok-Horizon g c =
     decided_as _ _ _ _ _ (sym (ap (λ (job : Job). let asked : Asked = Ok (plain_job job) in asked) c.in-Ok-Horizon.field-0-is) ∙ c.in-Ok-Horizon.ensures)
     (model_decided _ _ _ _ _ _ refl refl (λ bytes other said due. due) (λ bytes other text shown. shown) refl refl _ c.horizon_file.ensures.read c.horizon_file.ensures.end)
+
+pub returns-in-Ok-Policy : goal.returns-in-Ok-Policy
+returns-in-Ok-Policy g c =
+    decided_as _ _ _ _ _ (sym (ap (λ (job : Job). let asked : Asked = Ok (plain_job job) in asked) c.in-Ok-Policy.field-0-is) ∙ c.in-Ok-Policy.ensures)
+    (pair_decided _ _ _ _ _ _ refl refl (λ bytes other said due. due) (λ bytes other text shown. shown) (λ bytes read. read) _ c.policy_file.ensures.read
+    c.policy_file.ensures.unread c.policy_file.ensures.model_end c.policy_file.ensures.second_end)

@@ -10,4 +10,11 @@ invariant_of-result c =
     let body =
     body-found c.in_ok-version.version (plain_claim c.in_ok-head.head.claim) c.in_ok-head.head.states (place 5 c.in_ok-head.rest.now) (plain_body c.in_ok-body.body)
     (place c.in_ok-body.line c.in_ok-body.rest.now) head.is.limit c.in_ok-body.ensures in
-    record { some = head.is.some; limit = head.is.limit; names = head.is.names; inside = head.is.inside; entries = body.fits.entries }
+    record {
+      some = head.is.some;
+      limit = head.is.limit;
+      names = head.is.claim.names;
+      threshold = head.is.claim.threshold;
+      inside = head.is.inside;
+      entries = body.fits.entries;
+    }

@@ -1,7 +1,7 @@
 use Rattle.std.proofs.Common.{sym, ap, ◌∙◌, arith}
 use Rattle.mdp_cert.specs.declared.body.Body.{Body}
 use Rattle.mdp_cert.specs.Cert.{plain_claim, plain_body, is_body_of}
-use Rattle.mdp_cert.proofs.Growth.{bounds-entries, policy-entries, reward-entries, gains-entries}
+use Rattle.mdp_cert.proofs.Growth.{bounds-entries, policy-entries, reward-entries, gains-entries, lines-of-flow, lines-of-floor}
 use Rattle.mdp_cert.proofs.Means.{back}
 use Rattle.mdp_cert.proofs.Policies.{length-policies}
 use Rattle.mdp_cert.proofs.write.push_body.Goals as goal
@@ -39,3 +39,21 @@ push_to_end-requires-in-Mean c =
     back mean.gains.items mean.bound.items mean.bias.items mean.choices.items
     (record { bounds = omega (arith, e.gains, e.bounds); biases = omega (arith, e.gains, e.biases); choices = omega (arith, e.gains, e.choices) }) in
     b.count ∙ e.gains
+
+pub push_listed-requires : goal.push_listed-requires
+push_listed-requires c =
+    let cert = c.args.cert.now in
+    let flow = c.in-Flow.flow in
+    let e =
+    lines-of-flow (plain_claim cert.claim) cert.states flow.kept.items flow.wide.items flow.flows.items
+    (ap (λ (b : Body). is_body_of (plain_claim cert.claim) cert.states (plain_body b)) (sym c.in-Flow.is) ∙ cert.entries) in
+    omega (arith, e, c.len.ensures, c.len-in-Flow.ensures)
+
+pub push_listed-requires-in-Floor : goal.push_listed-requires-in-Floor
+push_listed-requires-in-Floor c =
+    let cert = c.args.cert.now in
+    let floor = c.in-Floor.floor in
+    let e =
+    lines-of-floor (plain_claim cert.claim) cert.states floor.kept.items floor.wide.items floor.values.items floor.ranks.items
+    (ap (λ (b : Body). is_body_of (plain_claim cert.claim) cert.states (plain_body b)) (sym c.in-Floor.is) ∙ cert.entries) in
+    omega (arith, e, c.len-in-Floor.ensures)

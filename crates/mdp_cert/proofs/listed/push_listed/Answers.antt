@@ -1,0 +1,18 @@
+use Rattle.std.proofs.Common.{suc, ◌+◌, ◌≡◌, ◌++◌, ap, sym, ◌∙◌, arith, List, ℕ}
+use Rattle.mdp_cert.proofs.Growth.{keeps_more}
+use Rattle.mdp_cert.proofs.OneByOne.{more-written, all-written}
+use Rattle.mdp_cert.proofs.listed.push_listed.Goals as goal
+
+pub loop-place-preserved : goal.loop-place-preserved
+loop-place-preserved g c =
+    let one : c.loop-place.place + 1 ≡ suc c.loop-place.place = omega arith in
+    rw one (
+      more-written g.L.Item.Line.listed c.loop-place.out.items _ _ (g.L.Lines.lines c.args.lines.now) c.loop-place.place c.line.result (omega (arith, c.requires)) c.line.ensures
+          c.loop-place.invariant.0 c.in_ok-push_line.ensures.text,
+      keeps_more _ _ _ c.loop-place.invariant.1 c.in_ok-push_line.ensures.front,
+    )
+
+pub returns-clause-text : goal.returns-clause-text
+returns-clause-text g c =
+    let all = all-written g.L.Item.Line.listed (g.L.Lines.lines c.args.lines.now) c.loop-place.place (omega (arith, c.requires)) in
+    c.in_ok-extend_from_slice.ensures.items ∙ ap (λ (t : List ℕ). c.loop-place.out.items ++ t) (sym all) ∙ c.loop-place.invariant.0

@@ -1,0 +1,221 @@
+ghost use Rattle.std.specs.Prelude.{◌≡◌, ◌&&◌, ◌++◌, IfOk, nat_lt, length, filter_map, option_and_then};
+ghost use Rattle.mdp_cert.specs.Cert.{is_next, is_next_flow, flow};
+ghost use Rattle.mdp_cert.specs.Witness.{keep_at, flow_at, flow_line_at, kept_in, mark_in, flow_in, flow_listed, keep_lines, flow_lines, flow_body};
+
+use crate::error::{CertKind, Refusal};
+use crate::flow_line::FlowLine;
+use crate::lines::refuse_if;
+use crate::listed::{Line, Lines};
+use crate::mark::{mark_at, push_mark};
+use crate::numbers::{frac_at, whole_at};
+use crate::push::{push_fraction, push_word};
+use crate::words::{begins_with, cut_word, only_word, words_behind};
+use mdp_flow::{Flow, FlowCert};
+use mdp_num::Memory;
+use std::alloc::{AllocError, Global};
+
+/// Whether a state's number may stand behind this one.
+pub(crate) fn is_next(before: Option<u32>, state: u32) -> bool
+    ensures { result ≡ is_next before state }
+{
+    match before {
+        Some(before) => before < state,
+        None => true,
+    }
+}
+
+/// Whether a flow may stand behind this one.
+fn is_next_flow(before: &Option<Flow>, flow: &Flow) -> bool
+    ensures { result ≡ is_next_flow before.now flow.now }
+{
+    match before {
+        Some(before) => {
+            before.state < flow.state || before.state == flow.state && before.choice < flow.choice
+        }
+        None => true,
+    }
+}
+
+/// The state that a line keeps.
+fn kept_in(line: &FlowLine) -> Option<u32>
+    ensures { result ≡ kept_in line.now }
+{
+    match line {
+        FlowLine::Keep { state, .. } => Some(*state),
+        FlowLine::Send(_) => None,
+    }
+}
+
+/// The mark of the state that a line keeps.
+fn mark_in(line: &FlowLine) -> Option<bool>
+    ensures { result ≡ mark_in line.now }
+{
+    match line {
+        FlowLine::Keep { wide, .. } => Some(*wide),
+        FlowLine::Send(_) => None,
+    }
+}
+
+/// The flow that a line says.
+fn flow_in(line: &FlowLine) -> Option<Flow>
+    ensures { result ≡ flow_in line.now }
+{
+    match line {
+        FlowLine::Keep { .. } => None,
+        FlowLine::Send(flow) => Some(*flow),
+    }
+}
+
+/// The state that the line before keeps.
+fn kept_before(before: &Option<FlowLine>) -> Option<u32>
+    ensures { result ≡ option_and_then kept_in before.now }
+{
+    match before {
+        Some(line) => kept_in(line),
+        None => None,
+    }
+}
+
+/// The flow that the line before says.
+fn flow_before(before: &Option<FlowLine>) -> Option<Flow>
+    ensures { result ≡ option_and_then flow_in before.now }
+{
+    match before {
+        Some(line) => flow_in(line),
+        None => None,
+    }
+}
+
+/// The state of the line `keep N MARK` behind this state.
+#[tactic(auto, unfolding(crate::specs::Witness::keep_at))]
+fn keep_at(states: u32, before: Option<u32>, line: u64, text: &[u8]) -> Result<FlowLine, Refusal>
+    ensures { result ≡ keep_at states before line text.now }
+{
+    let behind = words_behind(line, text, b"keep", 2)?;
+    let (number, mark) = cut_word(behind);
+    let wide = mark_at(line, only_word(mark))?;
+    let state = whole_at(line, number)?;
+    refuse_if(
+        CertKind::Count,
+        line,
+        !(is_next(before, state) && state < states),
+    )?;
+    Ok(FlowLine::Keep { state, wide })
+}
+
+/// The flow of the line `flow N CHOICE AMOUNT` behind this flow.
+#[tactic(auto, unfolding(crate::specs::Witness::flow_at))]
+fn flow_at(states: u32, before: &Option<Flow>, line: u64, text: &[u8]) -> Result<FlowLine, Refusal>
+    ensures { result ≡ flow_at states before.now line text.now }
+{
+    let behind = words_behind(line, text, b"flow", 3)?;
+    let (word, behind) = cut_word(behind);
+    let state = whole_at(line, word)?;
+    let (word, behind) = cut_word(behind);
+    let choice = whole_at(line, word)?;
+    let amount = frac_at(line, only_word(behind))?;
+    let flow = Flow {
+        state,
+        choice,
+        amount,
+    };
+    refuse_if(
+        CertKind::Count,
+        line,
+        !(is_next_flow(before, &flow) && state < states),
+    )?;
+    Ok(FlowLine::Send(flow))
+}
+
+/// The lines of the claim `max witness`: the kept states, and behind them the flows.
+impl Line for FlowLine {
+    ghost listed = { flow_listed };
+
+    #[tactic(auto, unfolding(crate::specs::Witness::flow_line_at))]
+    fn read(
+        states: u32,
+        before: &Option<FlowLine>,
+        line: u64,
+        text: &[u8],
+    ) -> Result<FlowLine, Refusal> {
+        let flow = flow_before(before);
+        if begins_with(text, b"flow") {
+            return flow_at(states, &flow, line, text);
+        }
+        refuse_if(CertKind::Shape, line, flow.is_some())?;
+        keep_at(states, kept_before(before), line, text)
+    }
+
+    fn push_words(&self, out: &mut Vec<u8>) -> Result<(), Memory> {
+        match self {
+            FlowLine::Keep { state, wide } => {
+                out.extend_from_slice(b"keep")?;
+                push_word(out, *state)?;
+                push_mark(out, *wide)
+            }
+            FlowLine::Send(flow) => {
+                out.extend_from_slice(b"flow")?;
+                push_word(out, flow.state)?;
+                push_word(out, flow.choice)?;
+                push_fraction(out, &flow.amount)
+            }
+        }
+    }
+}
+
+/// How many lines keep a state: as many as there are states with a mark.
+fn keep_count(cert: &FlowCert) -> usize
+    ensures { result ≡ length (keep_lines cert.now.kept.items cert.now.wide.items) }
+{
+    cert.kept.len().min(cert.wide.len())
+}
+
+impl Lines for FlowCert {
+    type Item = FlowLine;
+
+    ghost lines = { λ c. flow_lines c.kept.items c.wide.items c.flows.items };
+
+    fn line(&self, place: usize) -> FlowLine {
+        let kept = keep_count(self);
+        if place < kept {
+            FlowLine::Keep {
+                state: self.kept[place],
+                wide: self.wide[place],
+            }
+        } else {
+            FlowLine::Send(self.flows[place - kept])
+        }
+    }
+}
+
+/// The states that these lines keep.
+fn kept_of(alloc: Global, lines: &[FlowLine]) -> Result<Vec<u32>, AllocError>
+    ensures { IfOk result (λ v. v.items ≡ filter_map kept_in lines.now) }
+{
+    lines.iter().filter_map(kept_in).collect(alloc)
+}
+
+/// The marks of the states that these lines keep.
+fn marks_of(alloc: Global, lines: &[FlowLine]) -> Result<Vec<bool>, AllocError>
+    ensures { IfOk result (λ v. v.items ≡ filter_map mark_in lines.now) }
+{
+    lines.iter().filter_map(mark_in).collect(alloc)
+}
+
+/// The flows that these lines say.
+fn flows_of(alloc: Global, lines: &[FlowLine]) -> Result<Vec<Flow>, AllocError>
+    ensures { IfOk result (λ v. v.items ≡ filter_map flow_in lines.now) }
+{
+    lines.iter().filter_map(flow_in).collect(alloc)
+}
+
+/// The kept states with their marks, and the flows, of these lines.
+pub(crate) fn flow_cert(alloc: Global, lines: &[FlowLine]) -> Result<FlowCert, AllocError>
+    ensures { IfOk result (λ c. flow c.kept.items c.wide.items c.flows.items ≡ flow_body lines.now) }
+{
+    Ok(FlowCert {
+        kept: kept_of(alloc, lines)?,
+        wide: marks_of(alloc, lines)?,
+        flows: flows_of(alloc, lines)?,
+    })
+}

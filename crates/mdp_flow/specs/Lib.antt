@@ -1,0 +1,12 @@
+pub mod Fewer
+pub mod Floor
+pub mod FloorChecks
+pub mod Flow
+pub mod FlowChecks
+pub mod Kept
+pub mod Laws
+pub mod Policy
+pub mod Shape
+pub mod Sums
+pub mod Visits
+pub mod Walk

@@ -1,0 +1,39 @@
+ghost use Rattle.mdp_flow.specs.Laws.{FloorShows, FlowShows, PolicyShows, LeastIsFloor, VisitsAreFlow, VisitsBound, TreesReachMore};
+ghost use Rattle.mdp_flow.specs.Laws.{WholeIsModel, GreatestGrows, LeastGrows, LeastFallsShort, PolicyFallsShort, VisitsFallShort, ShortIsNoFloor};
+
+/// A floor that meets its rules bounds the least probability of meeting a goal on its subsystem from below.
+pub fn floor_law()
+    ensures shows { FloorShows }
+{}
+
+/// A flow that meets its rules bounds the greatest probability from below, and says at which depth it is close. Flows of one policy bound that
+/// policy's probability.
+pub fn flow_law()
+    ensures shows { FlowShows }
+    ensures policy { PolicyShows }
+{}
+
+/// Certificates that are made so meet the rules: the values and ranks of the least probability on the subsystem, and the flows of expected visits.
+/// Such flows also bound the policy's probability from above.
+pub fn made_law()
+    ensures floor { LeastIsFloor }
+    ensures flow { VisitsAreFlow }
+    ensures bound { VisitsBound }
+{}
+
+/// With fewer kept states no probability is greater: for trees of one depth, and for the greatest and the least probabilities.
+pub fn fewer_law()
+    ensures trees { TreesReachMore }
+    ensures whole { WholeIsModel }
+    ensures greatest { GreatestGrows }
+    ensures least { LeastGrows }
+{}
+
+/// A subsystem whose least probability is under the threshold falls short of it, and so does each smaller one; the same of one policy's
+/// probability. A subsystem that falls short has no floor at the threshold.
+pub fn short_law()
+    ensures least { LeastFallsShort }
+    ensures policy { PolicyFallsShort }
+    ensures visits { VisitsFallShort }
+    ensures no_floor { ShortIsNoFloor }
+{}

@@ -1,0 +1,16 @@
+//! Certificates of witnessing subsystems: a flow shows that some policy of the subsystem reaches a goal with a probability of at least the
+//! threshold, a floor that each policy does. The calls go through the rules in their order and answer yes, the first rule that is false, or
+//! the first written term past width. Laws say what the rules imply, and which certificates meet them.
+#![tactic(auto)]
+
+mod compare;
+mod floor;
+mod flow;
+mod laws;
+mod lines;
+mod sums;
+mod walk;
+
+pub use floor::{FloorCert, holds_floor};
+pub use flow::{Flow, FlowCert, holds_flow};
+pub use laws::{fewer_law, floor_law, flow_law, made_law, short_law};
