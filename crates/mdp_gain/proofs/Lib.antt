@@ -1,8 +1,11 @@
+mod Allowing
 mod Answering
 mod BestInner
 mod Columns
+mod Flagging
 mod GainLaws
 mod Given
 mod Listed
 mod NextPolicy
+mod Starting
 mod Told

@@ -1,5 +1,5 @@
 ghost use Rattle.std.specs.Prelude.{ℕ, ◌==◌, not, ◌≡◌, ◌<◌, ◌^◌, length, map, slice_index, IfOk, OnOk};
-ghost use Rattle.std.specs.List.{All, find, range_with_len};
+ghost use Rattle.std.specs.List.{All, list_any, find, range_with_len};
 ghost use Rattle.mdp_spec.specs.Mdp.{states_of, choices_at};
 ghost use Rattle.mdp_graph.specs.Sets.{marked};
 ghost use Rattle.mdp_ends.specs.Walks.{AreComponents};
@@ -8,13 +8,23 @@ ghost use Rattle.mdp_unichain.specs.Chain.{AllLeadTo, IsReference};
 ghost use Rattle.mdp_unichain.specs.Component.{Component, count, is_state, row_by, IsPolicy};
 ghost use Rattle.mdp_gain.specs.Code.{IsGiven, component_in};
 ghost use Rattle.mdp_gain.specs.Classes.{TakesAt, TakesAll};
-ghost use Rattle.mdp_unichain.specs.Classes.{takes, leaves, differs, has_flag, shares_part, AreClasses, is_in_changed_class, Picks};
+ghost use Rattle.mdp_unichain.specs.Classes.{takes, leaves, differs, has_flag, shares_part, AreClasses, is_in_class, is_in_changed_class, Picks};
 
 use crate::component::EndComponent;
 use mdp_num::Memory;
 use mdp_parts::{Allowed, components};
 use mdp_rows::Marks;
 use std::alloc::{AllocError, Global};
+
+/// Whether choice `c` of state `s` is the policy's, at a state of the component.
+fn takes(component: &EndComponent<'_, '_>, policy: &[u32], s: u32, c: u32) -> bool
+    requires given { IsGiven component.now }
+    requires policy { length policy.now ≡ count (component_in component.now) }
+    requires state { s < count (component_in component.now) }
+    ensures { result ≡ takes (component_in component.now) policy.now s c }
+{
+    component.holds(s) && c == policy[s as usize]
+}
 
 /// Allows the policy's choice of state `s`, where it is one of the component, and forbids its other choices.
 fn allow_at(component: &EndComponent<'_, '_>, policy: &[u32], allowed: &mut Allowed, s: u32)
@@ -25,7 +35,7 @@ fn allow_at(component: &EndComponent<'_, '_>, policy: &[u32], allowed: &mut Allo
     ensures { TakesAt component.now.model.now (component_in component.now) policy.now s allowed.old allowed.new }
 {
     for c in 0..component.model.choices(s) {
-        allowed.set(s, c, component.holds(s) && c == policy[s as usize]);
+        allowed.set(s, c, takes(component, policy, s, c));
     }
 }
 
@@ -47,6 +57,14 @@ fn policy_choices(
     Ok(allowed)
 }
 
+/// Whether one of these states is in another part.
+fn has_other(targets: &[u32], parts: &[u32], part: u32) -> bool
+    requires { All (λ t. t < length parts.now) targets.now }
+    ensures { result ≡ list_any (λ t. not (slice_index parts.now t == part)) targets.now }
+{
+    targets.iter().any(|t| parts[*t as usize] != part)
+}
+
 /// Whether the policy leads from state `s` of the component to another part.
 fn leaves(component: &EndComponent<'_, '_>, policy: &[u32], parts: &[u32], s: u32) -> bool
     requires given { IsGiven component.now }
@@ -55,11 +73,10 @@ fn leaves(component: &EndComponent<'_, '_>, policy: &[u32], parts: &[u32], s: u3
     requires state { s < count (component_in component.now) }
     ensures { result ≡ leaves (component_in component.now) policy.now parts.now s }
 {
-    let targets = component.row(s, policy[s as usize]).targets;
-    component.holds(s)
-        && targets
-            .iter()
-            .any(|t| parts[*t as usize] != parts[s as usize])
+    component.known();
+    let row = component.row(s, policy[s as usize]);
+    let other = has_other(row.targets, parts, parts[s as usize]);
+    component.holds(s) && other
 }
 
 /// For each state whether it leaves its part.
@@ -140,6 +157,29 @@ fn find_classes(
     Ok(Classes { parts, left })
 }
 
+/// Whether state `s` is in a closed class.
+fn in_class(component: &EndComponent<'_, '_>, classes: &Classes, s: u32) -> bool
+    requires given { IsGiven component.now }
+    requires parts { length classes.now.parts.items ≡ count (component_in component.now) }
+    requires below { slice_index classes.now.parts.items s < count (component_in component.now) }
+    requires left { length classes.now.left ≡ count (component_in component.now) }
+    requires state { s < count (component_in component.now) }
+    ensures { result ≡ is_in_class (component_in component.now) classes.now.parts.items classes.now.left s }
+{
+    component.holds(s) && !classes.left.at(classes.parts[s as usize])
+}
+
+/// The least state of a closed class.
+fn least_in_class(component: &EndComponent<'_, '_>, classes: &Classes) -> Option<u32>
+    requires given { IsGiven component.now }
+    requires parts { length classes.now.parts.items ≡ count (component_in component.now) }
+    requires below { (s : ℕ) → s < count (component_in component.now) → slice_index classes.now.parts.items s < count (component_in component.now) }
+    requires left { length classes.now.left ≡ count (component_in component.now) }
+    ensures { result ≡ find (is_in_class (component_in component.now) classes.now.parts.items classes.now.left) (range_with_len 0 (count (component_in component.now))) }
+{
+    (0..component.count()).find(|s| in_class(component, classes, *s))
+}
+
 /// The reference of a policy with one closed class: the least state of this class.
 pub(crate) fn reference(
     alloc: Global,
@@ -151,10 +191,9 @@ pub(crate) fn reference(
     requires one { (t : ℕ) × AllLeadTo (is_state (component_in component.now)) (row_by (component_in component.now) policy.now) t }
     ensures { IfOk result (λ t. IsReference (is_state (component_in component.now)) (row_by (component_in component.now) policy.now) t) }
 {
+    component.known();
     let classes = find_classes(alloc, component, policy)?;
-    let least = (0..component.count()).find(|s| component.holds(*s)
-        && !classes.left.at(classes.parts[*s as usize]));
-    Ok(least.unwrap_or(0))
+    Ok(least_in_class(component, &classes).unwrap_or(0))
 }
 
 /// Whether state `s` of the component is in the part of state `t`.
@@ -206,6 +245,18 @@ fn in_changed_class(
     component.holds(s) && !classes.left.at(part) && changed.at(part)
 }
 
+/// The least state of a closed class with a changed state.
+fn least_changed(component: &EndComponent<'_, '_>, classes: &Classes, changed: &Marks) -> Option<u32>
+    requires given { IsGiven component.now }
+    requires parts { length classes.now.parts.items ≡ count (component_in component.now) }
+    requires below { (s : ℕ) → s < count (component_in component.now) → slice_index classes.now.parts.items s < count (component_in component.now) }
+    requires left { length classes.now.left ≡ count (component_in component.now) }
+    requires changed { length changed.now ≡ count (component_in component.now) }
+    ensures { result ≡ find (is_in_changed_class (component_in component.now) classes.now.parts.items classes.now.left changed.now) (range_with_len 0 (count (component_in component.now))) }
+{
+    (0..component.count()).find(|s| in_changed_class(component, classes, changed, *s))
+}
+
 /// Of the closed classes of the improved policy that hold a state where it differs from the policy, the one with the least state.
 pub(crate) fn picked(
     alloc: Global,
@@ -218,13 +269,11 @@ pub(crate) fn picked(
     requires improved { IsPolicy (component_in component.now) improved.now }
     ensures { IfOk result (λ class. Picks (component_in component.now) policy.now improved.now class) }
 {
+    component.known();
     let classes = find_classes(alloc, component, improved)?;
     let flags = differing(alloc, policy, improved)?;
     let changed = flagged_parts(alloc, &flags, &classes.parts)?;
-    let least = (0..component.count()).find(|s| in_changed_class(
-        component, &classes, &changed, *s,
-    ));
-    match least {
+    match least_changed(component, &classes, &changed) {
         Some(t) => Ok(Some(class_of(alloc, component, &classes.parts, t)?)),
         None => Ok(None),
     }
