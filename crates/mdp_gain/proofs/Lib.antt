@@ -7,5 +7,6 @@ mod GainLaws
 mod Given
 mod Listed
 mod NextPolicy
+mod Rounds
 mod Starting
 mod Told

@@ -29,6 +29,10 @@ use Rattle.mdp_gain.specs.declared.component.EndComponent.{EndComponent}
 use Rattle.mdp_gain.proofs.Flagging.{find-or}
 use Rattle.mdp_gain.proofs.Given.{count-is, part_of-given, member-is}
 
+pub choices-len : (x : EndComponent) {target marks : List Bool} {ranks choices : List ℕ} → IsToward x.model.now x.ends.now.parts x.number target marks ranks choices
+    → length choices ≡ count (component_in x)
+choices-len x pass = AreLeast.count (IsToward.chosen pass) ∙ sym (count-is x)
+
 module _ (x : EndComponent) (g : IsGiven x) (known : IsMdp x.model.now) where
   abbrev p : Component
   p = component_in x
@@ -88,18 +92,18 @@ module _ (x : EndComponent) (g : IsGiven x) (known : IsMdp x.model.now) where
         (marks_are : (s : ℕ) → s < states_of x.model.now → marked marks s ≡ in_part x.ends.now.parts x.number s)
         (own : ℕ) (own_is : own ≡ unwrap_or (find (λ c. (choice_at p t c).inner) (range_with_len 0 (length (choices_at p t)))) 0)
         (start : List ℕ) (made : start ≡ set choices t own) where
-      pub choices-len : length choices ≡ count p
-      choices-len = AreLeast.count (IsToward.chosen pass) ∙ sym (count-is x)
+      choices_len : length choices ≡ count p
+      choices_len = choices-len x pass
 
       own-first : IsFirst (λ c. (choice_at p t c).inner) (length (choices_at p t)) own
       own-first = subst (λ (c : ℕ). IsFirst (λ c. (choice_at p t c).inner) (length (choices_at p t)) c) (sym own_is) choice-first
 
       start-len : length start ≡ count p
-      start-len = ap (λ (xs : List ℕ). length xs) made ∙ length-set choices t own ∙ choices-len
+      start-len = ap (λ (xs : List ℕ). length xs) made ∙ length-set choices t own ∙ choices_len
 
       own-at : slice_index start t ≡ own
       own-at =
-          let n = choices-len in
+          let n = choices_len in
           let l = IsFirst.below f in
           ap (λ (xs : List ℕ). slice_index xs t) made ∙ get_or-set_at choices t t own 0 refl (omega (arith, n, l))
 

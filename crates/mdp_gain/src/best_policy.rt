@@ -2,6 +2,7 @@ ghost use Rattle.std.specs.Prelude.{◌≡◌};
 ghost use Rattle.mdp_unichain.specs.Path.{IsStart};
 ghost use Rattle.mdp_gain.specs.Code.{IsGiven, component_in, path_error, Ends};
 
+use crate::classes::reference;
 use crate::component::EndComponent;
 use crate::errors::RoundError;
 use crate::evaluation::Values;
@@ -50,12 +51,20 @@ pub(crate) fn improve(
 {
     component.known();
     solution_law();
+    let mut t = match reference(alloc, component, &start) {
+        Ok(first) => first,
+        Err(_) => return Err(PathError::Memory),
+    };
     let mut policy = start;
     let mut round = 0u64;
     'rounds: loop {
-        match round_of(alloc, component, &policy) {
+        match round_of(alloc, component, &policy, t) {
             Ok(RoundEnd::Done(values, _)) => return Ok(Found { policy, values }),
             Ok(RoundEnd::Next(next)) => {
+                t = match reference(alloc, component, &next) {
+                    Ok(after) => after,
+                    Err(_) => return Err(PathError::Memory),
+                };
                 policy = next;
                 round = round.saturating_add(1);
             }

@@ -1,8 +1,9 @@
 ghost use Rattle.std.specs.Prelude.{ℕ};
+ghost use Rattle.mdp_unichain.specs.Chain.{IsReference};
+ghost use Rattle.mdp_unichain.specs.Component.{is_state, row_by};
 ghost use Rattle.mdp_unichain.specs.Path.{IsStart};
 ghost use Rattle.mdp_gain.specs.Code.{IsGiven, component_in, Makes};
 
-use crate::classes::reference;
 use crate::comparison::improved;
 use crate::component::EndComponent;
 use crate::errors::RoundError;
@@ -20,19 +21,20 @@ pub(crate) enum RoundEnd {
     Next(Vec<u32>),
 }
 
-/// One round of a policy: its gain and biases, and the choices that improve it.
+/// One round of a policy with reference `t`: its gain and biases, and the choices that improve it.
 pub(crate) fn round_of(
     alloc: Global,
     component: &EndComponent<'_, '_>,
     policy: &[u32],
+    t: u32,
 ) -> Result<RoundEnd, RoundError>
     requires given { IsGiven component.now }
     requires start { IsStart (component_in component.now) policy.now }
+    requires reference { IsReference (is_state (component_in component.now)) (row_by (component_in component.now) policy.now) t }
     ensures { (n : ℕ) → Makes (component_in component.now) n policy.now result }
 {
     component.known();
     solution_law();
-    let t = reference(alloc, component, policy)?;
     let values = evaluate(alloc, component, policy, t)?;
     let improved = improved(alloc, component, policy, &values)?;
     if improved.as_slice() == policy {

@@ -154,7 +154,7 @@ module _ (p : Component) where
       after_is : (gain_at u after ≡ up p g) × ((s : ℕ) → bias_at u after s ≡ ups p h s)
       after_is = gain_at-is after u g h k
 
-      next_by : IsNext p policy improved after → better_left u after < better_left t policy
+      pub next_by : IsNext p policy improved after → better_left u after < better_left t policy
       next_by (inr toward) =
           falls_gain
           (subst (λ (q : ℚ). q <ℚ gain_at u after) (sym before_is.0)

@@ -102,13 +102,13 @@ module _ (p : Component) (known : IsComponent p) (gives : GivesSolutions) where
   measure_of : (a : Round) → (t : ℕ) → ℕ
   measure_of a t = (none_twice p known).0 t a.policy
 
-  record Goes_on (a b : Round) (t : ℕ) : Type 0 where
-    v : Values
-    improved : List ℕ
-    values : written_values p a.policy t ≡ Ok v
-    made : written_improved p a.policy v ≡ Ok improved
-    changed : improved ≢ a.policy
-    exact : IsExactNext p a.policy improved b.policy
+  pub record Goes_on (a b : Round) (t : ℕ) : Type 0 where
+    pub v : Values
+    pub improved : List ℕ
+    pub values : written_values p a.policy t ≡ Ok v
+    pub made : written_improved p a.policy v ≡ Ok improved
+    pub changed : improved ≢ a.policy
+    pub exact : IsExactNext p a.policy improved b.policy
 
   next_policy : (n : ℕ) (after : List ℕ) (b : Round) → (let s : Step Round Found Refusal = next b in s) ≡ next (record { number = n; policy = after }) → after ≡ b.policy
   next_policy n after b e = let same : b ≡ (let r : Round = record { number = n; policy = after } in r) = cc in sym (ap Round.policy same)
@@ -128,25 +128,25 @@ module _ (p : Component) (known : IsComponent p) (gives : GivesSolutions) where
             (next_policy (a.number + 1) h.1.0 b h.1.2) h.1.1;
       }
 
-  evaluation_next : (a b : Round) (t : ℕ) (r : Result Values Place) → written_values p a.policy t ≡ r → AfterEvaluation p a t r (next b) → Goes_on a b t
+  pub evaluation_next : (a b : Round) (t : ℕ) (r : Result Values Place) → written_values p a.policy t ≡ r → AfterEvaluation p a t r (next b) → Goes_on a b t
   evaluation_next a b t (Err place) w h = cc
   evaluation_next a b t (Ok v) w h = comparison_next a b t v (written_improved p a.policy v) w refl h
 
   -- the next policy keeps one closed class, and fewer are better
   module _ (a b : Round) (k : P a) (t : ℕ) (r : IsReference (is_state p) (row_by p a.policy) t) (g : Goes_on a b t) where
-    now : IsEvaluated p a.policy t g.v.gain (value_at g.v.bias)
+    pub now : IsEvaluated p a.policy t g.v.gain (value_at g.v.bias)
     now = evaluated a.policy t g.v k.is r g.values
 
-    imp : IsImproved p a.policy g.v.gain (value_at g.v.bias) g.improved
+    pub imp : IsImproved p a.policy g.v.gain (value_at g.v.bias) g.improved
     imp = improves_exactly p a.policy g.improved g.v k.is g.made
 
-    after : (u : ℕ) × (q : ℚ) × (h : ℕ → ℚ) × IsEvaluated p b.policy u q h
+    pub after : (u : ℕ) × (q : ℚ) × (h : ℕ → ℚ) × IsEvaluated p b.policy u q h
     after = next_is_evaluated p a.policy g.improved b.policy t g.v.gain (value_at g.v.bias) known now imp (exact_is_next p a.policy g.improved b.policy g.exact)
 
-    keeps : P b
+    pub keeps : P b
     keeps = record { is = IsEvaluated.is after.3; reference = (after.0, IsEvaluated.reference after.3) }
 
-    some_changed : (s : ℕ) × IsChanged p a.policy g.improved s
+    pub some_changed : (s : ℕ) × IsChanged p a.policy g.improved s
     some_changed = elim (changed_or_same p a.policy g.improved k.is (IsImproved.is imp)) as (λ _. (s : ℕ) × IsChanged p a.policy g.improved s) [ inl e ↦ absurd (g.changed e) | inr c ↦ c ]
 
     fewer : (u : ℕ) → IsReference (is_state p) (row_by p b.policy) u → measure_of b u < measure_of a t
@@ -157,7 +157,7 @@ module _ (p : Component) (known : IsComponent p) (gives : GivesSolutions) where
         subst (λ (w : ℕ). (none_twice p known).0 w b.policy < (none_twice p known).0 t a.policy) e
         ((none_twice p known).1 a.policy g.improved b.policy t after.0 g.v.gain after.1 (value_at g.v.bias) after.2 now imp c.0 c.1 (exact_is_next p a.policy g.improved b.policy g.exact) after.3)
 
-  kept : (a b : Round) → P a → Makes p a (next b) → P b
+  pub kept : (a b : Round) → P a → Makes p a (next b) → P b
   kept a b k h = keeps a b k h.0 h.1 (evaluation_next a b h.0 (written_values p a.policy h.0) refl h.2)
 
   -- ---- the end
