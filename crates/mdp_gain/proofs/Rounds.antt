@@ -66,6 +66,11 @@ module _ (p : Component) (policy : List ℕ) (t : ℕ) (is : IsReference (is_sta
 pub makes_err : (p : Component) (n : ℕ) (policy : List ℕ) (result : Result RoundEnd RoundError) (e : RoundError) → result ≡ Err e → Makes p n policy (Err e) → Makes p n policy result
 makes_err p n policy result e q h = subst (Makes p n policy) (sym q) h
 
+-- what was answered to a round of the same policy
+pub made_at : (p : Component) (n : ℕ) (held policy : List ℕ) (result : Result RoundEnd RoundError) → held ≡ policy → Makes p n held result
+    → (r : Result RoundEnd RoundError) → result ≡ r → Makes p n policy r
+made_at p n held policy result same made r e = subst (λ (xs : List ℕ). Makes p n xs r) same (subst (λ (q : Result RoundEnd RoundError). Makes p n held q) e made)
+
 -- ---- the path
 
 pub goes_on : (p : Component) (a b : Round) (r : Result Found Refusal) → path.Makes p a (next b) → EndsWith (path.Makes p) b r → EndsWith (path.Makes p) a r

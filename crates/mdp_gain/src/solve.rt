@@ -1,10 +1,10 @@
-ghost use Rattle.std.specs.Prelude.{◌≡◌, ◌<◌, length, map, slice_index, IfOk};
-ghost use Rattle.std.specs.List.{All};
+ghost use Rattle.std.specs.Prelude.{◌≡◌, ◌<◌, length, map, filter, slice_index, IfOk};
+ghost use Rattle.std.specs.List.{All, range_with_len};
 ghost use Rattle.mdp_spec.specs.Mdp.{value_at};
 ghost use Rattle.mdp_ends.specs.Ends.{count_of};
 ghost use Rattle.mdp_parts.specs.FoundEnds.{AreEndsOf};
 ghost use Rattle.mdp_path.specs.Queries.{Solves};
-ghost use Rattle.mdp_unichain.specs.Component.{count};
+ghost use Rattle.mdp_unichain.specs.Component.{count, is_state};
 ghost use Rattle.mdp_gain.specs.Code.{IsGiven, component_in, values_in, FitsStates, AtStates, answer_at};
 ghost use Rattle.mdp_gain.specs.Query.{members, plain, EndsSo};
 ghost use Rattle.mdp_gain.specs.Best.{IsBestInner};
@@ -23,7 +23,7 @@ use std::alloc::{AllocError, Global};
 /// The states of the component, ascending.
 fn states_in(alloc: Global, component: &EndComponent<'_, '_>) -> Result<Vec<u32>, AllocError>
     requires given { IsGiven component.now }
-    ensures { IfOk result (λ states. states.items ≡ members component.now.model.now component.now.ends.now.parts component.now.number) }
+    ensures { IfOk result (λ states. states.items ≡ filter (is_state (component_in component.now)) (range_with_len 0 (count (component_in component.now)))) }
 {
     (0..component.count())
         .filter(|s| component.holds(*s))
