@@ -8,5 +8,6 @@ mod Given
 mod Listed
 mod NextPolicy
 mod Rounds
+mod Solving
 mod Starting
 mod Told

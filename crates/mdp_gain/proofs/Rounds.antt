@@ -1,5 +1,5 @@
 -- What the code answers to a round, as a step of the path.
-use Rattle.std.proofs.Common.{◌≡◌, ◌≢◌, ℕ, ◌+◌, ◌-◌, ◌<◌, ◌^◌, min, inl, inr, suc, List, Result, Ok, Err, Vec, refl, sym, ◌∙◌, ap, subst, arith}
+use Rattle.std.proofs.Common.{◌≡◌, ◌≢◌, ℕ, ◌+◌, ◌-◌, ◌<◌, ◌^◌, min, inl, inr, suc, List, length, Result, Ok, Err, Vec, refl, sym, ◌∙◌, ap, subst, arith}
 use Rattle.std.specs.Global.{Global}
 use Rattle.mdp_spec.specs.Mdp.{value_at}
 use Rattle.mdp_elim.specs.Laws.{GivesSolutions}
@@ -8,7 +8,7 @@ use Rattle.mdp_path.specs.Path.{Round, Refusal}
 use Rattle.mdp_path.specs.Places.{Place}
 use Rattle.mdp_path.specs.Laws.{first}
 use Rattle.mdp_unichain.specs.Chain.{IsReference}
-use Rattle.mdp_unichain.specs.Component.{Component, is_state, row_by, IsComponent}
+use Rattle.mdp_unichain.specs.Component.{Component, count, is_state, row_by, IsComponent}
 use Rattle.mdp_unichain.specs.Iteration.{EndsWith}
 use Rattle.mdp_unichain.specs.Improvement.{IsEvaluated}
 use Rattle.mdp_unichain.specs.Next.{IsExactNext}
@@ -20,7 +20,7 @@ use Rattle.mdp_unichain.proofs.Classes.{one_reference}
 use Rattle.mdp_unichain.proofs.Ending.{better_left, next_by}
 use Rattle.mdp_unichain.proofs.Nexts.{exact_is_next}
 use Rattle.mdp_unichain.proofs.Paths.{Goes_on, evaluation_next, now, imp, after, keeps, some_changed}
-use Rattle.mdp_gain.specs.Code.{Makes, Ends, path_error, values_in}
+use Rattle.mdp_gain.specs.Code.{Makes, Ends, HasEntries, path_error}
 use Rattle.mdp_gain.specs.Faults.{Says}
 use Rattle.mdp_gain.specs.declared.errors.RoundError.{RoundError}
 use Rattle.mdp_gain.specs.declared.errors.RoundError.TheVariants as fault
@@ -95,6 +95,10 @@ ends_by p n policy start round held (fault.Wide kind s c) q m rest h = (
       (ends_refused p (record { number = n; policy = policy }) (record { number = n; policy = policy; place = record { kind = kind; node = s; choice = c } }) h)),
 )
 ends_by p n policy start round held fault.Memory q m rest h = tt
+
+pub error_entries : (p : Component) (e : RoundError) (round : ℕ) (held : Vec ℕ Global) → length held.items ≡ count p → HasEntries p (Err (path_error e round held))
+error_entries p (fault.Wide kind s c) round held h = h
+error_entries p fault.Memory round held h = tt
 
 -- ---- a next round is a start, and fewer policies are better
 

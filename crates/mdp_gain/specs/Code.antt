@@ -11,7 +11,7 @@ use Rattle.mdp_path.specs.Laws.{first}
 use Rattle.mdp_path.specs.Ends.{capped}
 use Rattle.mdp_path.specs.declared.solution.PathError.{PathError}
 use Rattle.mdp_path.specs.declared.solution.PathError.TheVariants as error
-use Rattle.mdp_unichain.specs.Component.{Component}
+use Rattle.mdp_unichain.specs.Component.{Component, count}
 use Rattle.mdp_unichain.specs.Written as written
 use Rattle.mdp_unichain.specs.Iteration.{EndsWith}
 use Rattle.mdp_unichain.specs.Path as path
@@ -49,6 +49,18 @@ Makes p n policy (Ok (end.Next after)) = path.Makes p (record { number = n; poli
 Makes p n policy (Err (fault.Wide kind s c)) =
     path.Makes p (record { number = n; policy = policy }) (refused (record { number = n; policy = policy; place = record { kind = kind; node = s; choice = c } }))
 Makes p n policy (Err fault.Memory) = Unit {0}
+
+-- the biases of a round's end have an entry for each number
+abbrev pub HasBiases : Component → Result RoundEnd RoundError → Type 0
+HasBiases p (Ok (end.Done values t)) = length values.bias.items ≡ count p
+HasBiases p (Ok (end.Next after)) = Unit {0}
+HasBiases p (Err e) = Unit {0}
+
+-- the last policy and its biases have an entry for each number, and so has the policy of a refused round
+abbrev pub HasEntries : Component → Result Found PathError → Type 0
+HasEntries p (Ok found) = (length found.policy.items ≡ count p) × (length found.values.bias.items ≡ count p)
+HasEntries p (Err (error.TooWide w)) = length w.policy.items ≡ count p
+HasEntries p (Err error.Memory) = Unit {0}
 
 -- the path's end
 abbrev pub Ends : Component → List ℕ → Result Found PathError → Type 0

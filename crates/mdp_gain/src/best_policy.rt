@@ -1,6 +1,6 @@
 ghost use Rattle.std.specs.Prelude.{◌≡◌};
 ghost use Rattle.mdp_unichain.specs.Path.{IsStart};
-ghost use Rattle.mdp_gain.specs.Code.{IsGiven, component_in, path_error, Ends};
+ghost use Rattle.mdp_gain.specs.Code.{IsGiven, component_in, path_error, Ends, HasEntries};
 
 use crate::classes::reference;
 use crate::component::EndComponent;
@@ -47,7 +47,8 @@ pub(crate) fn improve(
 ) -> Result<Found, PathError>
     requires given { IsGiven component.now }
     requires start { IsStart (component_in component.now) start.items }
-    ensures { Ends (component_in component.now) start.items result }
+    ensures path { Ends (component_in component.now) start.items result }
+    ensures entries { HasEntries (component_in component.now) result }
 {
     component.known();
     solution_law();

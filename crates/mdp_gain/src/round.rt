@@ -2,7 +2,7 @@ ghost use Rattle.std.specs.Prelude.{ℕ};
 ghost use Rattle.mdp_unichain.specs.Chain.{IsReference};
 ghost use Rattle.mdp_unichain.specs.Component.{is_state, row_by};
 ghost use Rattle.mdp_unichain.specs.Path.{IsStart};
-ghost use Rattle.mdp_gain.specs.Code.{IsGiven, component_in, Makes};
+ghost use Rattle.mdp_gain.specs.Code.{IsGiven, component_in, Makes, HasBiases};
 
 use crate::comparison::improved;
 use crate::component::EndComponent;
@@ -31,7 +31,8 @@ pub(crate) fn round_of(
     requires given { IsGiven component.now }
     requires start { IsStart (component_in component.now) policy.now }
     requires reference { IsReference (is_state (component_in component.now)) (row_by (component_in component.now) policy.now) t }
-    ensures { (n : ℕ) → Makes (component_in component.now) n policy.now result }
+    ensures made { (n : ℕ) → Makes (component_in component.now) n policy.now result }
+    ensures biases { HasBiases (component_in component.now) result }
 {
     component.known();
     solution_law();

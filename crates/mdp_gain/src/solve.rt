@@ -38,12 +38,20 @@ fn choices_at(alloc: Global, states: &[u32], policy: &[u32]) -> Result<Vec<u32>,
     states.iter().map(|s| policy[*s as usize]).collect(alloc)
 }
 
+/// The value of state `s`.
+fn value_of(values: &[Frac], s: u32) -> Frac
+    requires { s < length values.now }
+    ensures { result ≡ value_at values.now s }
+{
+    values[s as usize]
+}
+
 /// The values of these states.
 fn values_at(alloc: Global, states: &[u32], values: &[Frac]) -> Result<Vec<Frac>, AllocError>
     requires { All (λ s. s < length values.now) states.now }
     ensures { IfOk result (λ list. list.items ≡ map (value_at values.now) states.now) }
 {
-    states.iter().map(|s| values[*s as usize]).collect(alloc)
+    states.iter().map(|s| value_of(values, *s)).collect(alloc)
 }
 
 /// What was found, at these states.
