@@ -1,0 +1,4 @@
+pub mod Terms
+pub mod Join
+pub mod Faults
+pub mod Code
