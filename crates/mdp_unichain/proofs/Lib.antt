@@ -1,0 +1,19 @@
+pub mod Best
+pub mod Chains
+pub mod Classes
+pub mod Compares
+pub mod Deciding
+pub mod Ending
+pub mod Exact
+mod Examples
+pub mod Excess
+pub mod Gains
+pub mod Improving
+pub mod Iterations
+pub mod Members
+pub mod Nexts
+pub mod Paths
+pub mod Reaching
+pub mod Starts
+pub mod Trees
+pub mod Turned

@@ -1,0 +1,12 @@
+pub mod Chain
+pub mod Component
+pub mod Evaluation
+pub mod Improvement
+pub mod Iteration
+pub mod Laws
+pub mod Model
+pub mod Next
+pub mod Path
+pub mod Sums
+pub mod Written
+pub mod WrittenLaws
