@@ -1,0 +1,9 @@
+pub mod StepsNodes
+pub mod OuterNodes
+pub mod Few
+pub mod InModel
+pub mod ForJoin
+pub mod Chains
+pub mod StepsBest
+pub mod OuterBest
+pub mod Ending

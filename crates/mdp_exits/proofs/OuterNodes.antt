@@ -1,0 +1,129 @@
+-- The nodes of the problem of the best gains.
+use Rattle.std.proofs.Common.{◌≡◌, ℕ, zero, suc, ◌<◌, ◌+◌, ◌-◌, Bool, true, false, not, ◌==◌, ◌||◌, nat_lt, List, ◌∷◌, length, map, if◌then◌else◌, refl, sym, ◌∙◌, ap, subst, arith, pos, zero-add, Some}
+use Rattle.std.specs.List.{range_with_len}
+use Rattle.std.specs.Prelude.{slice_index_or}
+use Rattle.std.specs.Option.{is_some}
+use Rattle.std.proofs.lemmas.List.FromFn.{get_or-map-range_with_len, length-map-range_with_len}
+use Rattle.mdp_math.specs.Rational.{ℚ, of_int}
+use Rattle.mdp_spec.specs.Written.{written_sum}
+use Rattle.mdp_rows.specs.declared.dir.Dir.{Dir}
+use Rattle.mdp_path.specs.Problem.{Problem, Node, given, decision, Choice, stop, go, worth, no_choice, count, node_at, choices_of, choices_at, choice_at, goes_on, amount, row_from, move_by, fits_by, LeadsWithin, IsProblem}
+use Rattle.mdp_path.specs.Code.{CanTake, move_at, fits_at}
+use Rattle.mdp_path.proofs.Compares.{plain-exact}
+use Rattle.mdp_quot.specs.Quotient.{Quotient, exits_at, row_of, IsShaped}
+use Rattle.mdp_exits.specs.Problem.{component_of, gain_of, stopping, leaving, outer_node, outer_problem}
+
+-- ---- what choice c of a node is
+
+module _ (q : Quotient) (gains : List ℚ) (k : ℕ) where
+  abbrev pub exit_count : ℕ
+  exit_count = length (exits_at q k)
+
+  abbrev pub leavings : List Choice
+  leavings = map (leaving q k) (range_with_len 0 exit_count)
+
+  -- it stops, or takes an exit
+  abbrev pub entry : ℕ → Choice
+  entry zero = stopping gains (component_of q k)
+  entry (suc i) = leaving q k i
+
+  abbrev pub choices : List Choice
+  choices = stopping gains (component_of q k) ∷ leavings
+
+  pub choices-len : length choices ≡ exit_count + 1
+  choices-len = omega (arith, length-map-range_with_len (leaving q k) 0 exit_count)
+
+  pub choices-at : (c : ℕ) → c < exit_count + 1 → slice_index_or choices c no_choice ≡ entry c
+  choices-at zero l = refl
+  choices-at (suc i) l = get_or-map-range_with_len (leaving q k) 0 exit_count i i no_choice (omega (arith, l)) (zero-add i)
+
+  by-goes : (c : ℕ) → goes_on (entry c).move ≡ not (c == 0)
+  by-goes zero = refl
+  by-goes (suc i) = refl
+
+  by-candidate : (c : ℕ) → (entry c).candidate ≡ (if c == 0 then is_some (component_of q k) else true)
+  by-candidate zero = refl
+  by-candidate (suc i) = refl
+
+  by-amount : (c : ℕ) → amount (entry c).move ≡ (if c == 0 then gain_of gains (component_of q k) else of_int (pos 0))
+  by-amount zero = refl
+  by-amount (suc i) = refl
+
+  by-fits : (c : ℕ) → (entry c).fits ≡ true
+  by-fits zero = refl
+  by-fits (suc i) = refl
+
+  by-row : (c : ℕ) → c < exit_count + 1 → goes_on (entry c).move ≡ true → (c - 1 < exit_count) × (row_from k (entry c).move ≡ row_of q k (c - 1))
+  by-row zero l e = cc
+  by-row (suc i) l e = let n : suc i - 1 ≡ i = omega arith in (omega (arith, l, n), ap (row_of q k) (sym n))
+
+  by-exact : (c : ℕ) (y : List ℚ) (v : ℚ) → (entry c).written y ≡ Some v → v ≡ worth y (entry c).move
+  by-exact zero y v h = plain-exact y (stop (gain_of gains (component_of q k))) v h
+  by-exact (suc i) y v h = plain-exact y (go (of_int (pos 0)) (row_of q k i)) v h
+
+  pub written-stop : (c : ℕ) (y : List ℚ) → c ≡ 0 → (entry c).written y ≡ Some (gain_of gains (component_of q k))
+  written-stop c y e = ap (λ (c : ℕ). (entry c).written y) e
+
+  pub written-exit : (c : ℕ) (y : List ℚ) → 0 < c → (entry c).written y ≡ written_sum y (of_int (pos 0)) (row_of q k (c - 1))
+  written-exit zero y l = absurd (omega (arith, l))
+  written-exit (suc i) y l = let n : suc i - 1 ≡ i = omega arith in ap (λ (i : ℕ). written_sum y (of_int (pos 0)) (row_of q k i)) (sym n)
+
+  by-leads : IsShaped q → k < length q.exits → (c : ℕ) → c < exit_count + 1 → LeadsWithin (length q.exits) (entry c).move
+  by-leads known l zero h = tt
+  by-leads known l (suc i) h = known.are_rows k i l (let w = known.each k l in omega (arith, w.1, h))
+
+-- ---- the problem
+
+module _ (dir : Dir) (q : Quotient) (gains : List ℚ) where
+  abbrev pub p : Problem
+  p = outer_problem dir q gains
+
+  pub outer-count : count p ≡ length q.exits
+  outer-count = length-map-range_with_len (outer_node q gains) 0 (length q.exits)
+
+  pub outer-at : (s : ℕ) → s < count p → node_at p s ≡ outer_node q gains s
+  outer-at s l = get_or-map-range_with_len (outer_node q gains) 0 (length q.exits) s s (given (of_int (pos 0))) (omega (arith, l, outer-count)) (zero-add s)
+
+  module _ (s : ℕ) (l : s < count p) where
+    pub outer-choices : length (choices_at p s) ≡ exit_count q gains s + 1
+    outer-choices = ap (λ (n : Node). length (choices_of n)) (outer-at s l) ∙ choices-len q gains s
+
+    pub outer-choice : (c : ℕ) → c < length (choices_at p s) → (c < exit_count q gains s + 1) × (choice_at p s c ≡ entry q gains s c)
+    outer-choice c h =
+        let k : c < exit_count q gains s + 1 = subst (λ (n : ℕ). c < n) outer-choices h in
+        (k, ap (λ (n : Node). slice_index_or (choices_of n) c no_choice) (outer-at s l) ∙ choices-at q gains s c k)
+
+    pub outer-can : (c : ℕ) → CanTake (node_at p s) c → (c < exit_count q gains s + 1) × (move_at p s c ≡ (entry q gains s c).move)
+    outer-can c can =
+        let k : c < exit_count q gains s + 1 = subst (λ (n : ℕ). c < n) (choices-len q gains s) (subst (λ (n : Node). CanTake n c) (outer-at s l) can) in
+        (k, ap (λ (n : Node). move_by n c) (outer-at s l) ∙ ap Choice.move (choices-at q gains s c k))
+
+    pub outer-candidate : (c : ℕ) → c < length (choices_at p s) → (choice_at p s c).candidate ≡ (if c == 0 then is_some (component_of q s) else true)
+    outer-candidate c h = ap Choice.candidate (outer-choice c h).1 ∙ by-candidate q gains s c
+
+    pub outer-goes : (c : ℕ) → CanTake (node_at p s) c → goes_on (move_at p s c) ≡ not (c == 0)
+    outer-goes c can = ap goes_on (outer-can c can).1 ∙ by-goes q gains s c
+
+    pub outer-amount : (c : ℕ) → CanTake (node_at p s) c → amount (move_at p s c) ≡ (if c == 0 then gain_of gains (component_of q s) else of_int (pos 0))
+    outer-amount c can = ap amount (outer-can c can).1 ∙ by-amount q gains s c
+
+    pub outer-fits : (c : ℕ) → CanTake (node_at p s) c → fits_at p s c ≡ true
+    outer-fits c can =
+        ap (λ (n : Node). fits_by n c) (outer-at s l) ∙ ap Choice.fits (choices-at q gains s c (outer-can c can).0) ∙ by-fits q gains s c
+
+    pub outer-row : (c : ℕ) → CanTake (node_at p s) c → goes_on (move_at p s c) ≡ true → (c - 1 < exit_count q gains s) × (row_from s (move_at p s c) ≡ row_of q s (c - 1))
+    outer-row c can e =
+        let w = outer-can c can in
+        let b = by-row q gains s c w.0 (sym (ap goes_on w.1) ∙ e) in
+        (b.0, ap (row_from s) w.1 ∙ b.1)
+
+  pub outer-known : IsShaped q → IsProblem p
+  outer-known known = record {
+    rows = λ s c l h.
+        let w = outer-choice s l c h in
+        subst (λ (k : ℕ). LeadsWithin k (choice_at p s c).move) (sym outer-count)
+        (subst (λ (x : Choice). LeadsWithin (length q.exits) x.move) (sym w.1) (by-leads q gains s known (omega (arith, l, outer-count)) c w.0));
+    exact = λ s c y v l h e.
+        let w = outer-choice s l c h in
+        subst (λ (x : Choice). v ≡ worth y x.move) (sym w.1) (by-exact q gains s c y v (subst (λ (x : Choice). x.written y ≡ Some v) w.1 e));
+  }

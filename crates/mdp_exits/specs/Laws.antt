@@ -1,0 +1,30 @@
+-- What the two queries end with.
+use Rattle.std.specs.Prelude.{◌≡◌, ℕ, List, Result, Ok}
+use Rattle.mdp_math.specs.Rational.{ℚ}
+use Rattle.mdp_rows.specs.declared.dir.Dir.{Dir}
+use Rattle.mdp_path.specs.Queries.{WideTerm}
+use Rattle.mdp_quot.specs.Quotient.{Quotient}
+use Rattle.mdp_exits.specs.OfModel.{IsOfModel}
+use Rattle.mdp_exits.specs.Steps.{StepsEndSo, IsLongest}
+use Rattle.mdp_exits.specs.Outer.{Answer, OuterEndSo, IsBestOuter}
+
+-- each query has one end at most
+abbrev pub StepsHaveOneEnd : Type 0
+StepsHaveOneEnd = (q : Quotient) (p r : Result (List ℚ) WideTerm) → StepsEndSo q p → StepsEndSo q r → r ≡ p
+
+abbrev pub OuterHasOneEnd : Type 0
+OuterHasOneEnd = (dir : Dir) (q : Quotient) (gains : List ℚ) (p r : Result Answer WideTerm) → OuterEndSo dir q gains p → OuterEndSo dir q gains r → r ≡ p
+
+-- and has one over the quotient of a model
+abbrev pub StepsEnd : Type 0
+StepsEnd = (q : Quotient) → IsOfModel q → (r : Result (List ℚ) WideTerm) × StepsEndSo q r
+
+abbrev pub OuterEnds : Type 0
+OuterEnds = (dir : Dir) (q : Quotient) (gains : List ℚ) → IsOfModel q → (r : Result Answer WideTerm) × OuterEndSo dir q gains r
+
+-- where that is an answer, it is the greatest number of exits, or the best gains
+abbrev pub StepsAreLongest : Type 0
+StepsAreLongest = (q : Quotient) (n : List ℚ) → IsOfModel q → StepsEndSo q (Ok n) → IsLongest q n
+
+abbrev pub OuterIsBest : Type 0
+OuterIsBest = (dir : Dir) (q : Quotient) (gains : List ℚ) (a : Answer) → IsOfModel q → OuterEndSo dir q gains (Ok a) → IsBestOuter dir q gains a

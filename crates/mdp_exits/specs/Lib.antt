@@ -1,0 +1,7 @@
+pub mod OfModel
+pub mod PathEnds
+pub mod Problem
+pub mod Steps
+pub mod Outer
+pub mod Few
+pub mod Laws
