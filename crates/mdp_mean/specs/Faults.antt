@@ -1,5 +1,9 @@
 -- Places of the join as errors of the code.
-use Rattle.std.specs.Prelude.{◌≡◌, ℕ, Option, Result, Ok, Err}
+use Rattle.std.specs.Prelude.{◌≡◌, ℕ, Option, Result, Ok, Err, Vec}
+use Rattle.std.specs.Global.{Global}
+use Rattle.mdp_elim.specs.declared.too_wide.Part.TheVariants as part
+use Rattle.mdp_elim.specs.declared.too_wide.SolveError.{SolveError}
+use Rattle.mdp_elim.specs.declared.too_wide.SolveError.TheVariants as solve
 use Rattle.mdp_elim.specs.declared.too_wide.Kind.{Kind}
 use Rattle.mdp_num.specs.declared.errors.Wide.{Wide}
 use Rattle.mdp_mean.specs.Join.{Place}
@@ -20,3 +24,8 @@ Says fault.Memory r = Unit {0}
 abbrev pub Answers : {A B : Type 0} → (A → B) → Result A JoinError → Result B Place → Type 0
 Answers f (Ok x) r = r ≡ Ok (f x)
 Answers f (Err e) r = Says e r
+
+-- an error of the join, with the policy of all states
+abbrev pub in_join : JoinError → Vec ℕ Global → SolveError
+in_join (fault.Wide kind s c) policy = solve.TooWide (record { part = part.Join; round = 0; policy = policy; kind = kind; state = s; choice = c })
+in_join fault.Memory policy = solve.Memory

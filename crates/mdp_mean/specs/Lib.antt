@@ -2,3 +2,8 @@ pub mod Terms
 pub mod Join
 pub mod Faults
 pub mod Code
+pub mod Inners
+pub mod Best
+pub mod Query
+pub mod PartsCode
+pub mod Laws

@@ -3,7 +3,15 @@
 
 mod bias;
 mod bound;
+mod certificate;
 mod errors;
 mod excess;
+mod inners;
 mod join;
 mod joining;
+mod laws;
+mod parts;
+mod solve;
+
+pub use laws::mean_law;
+pub use solve::solve_mean;
