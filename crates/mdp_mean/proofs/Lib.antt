@@ -1,1 +1,8 @@
 mod Answering
+mod Held
+mod Putting
+mod BiasOf
+mod ExcessOf
+mod Meets
+mod Adding
+mod Passing

@@ -1,5 +1,7 @@
 ghost use Rattle.std.specs.Prelude.{◌≡◌, ◌<◌, length, IfOk};
+ghost use Rattle.mdp_spec.specs.Bounds.{MeanMax, MeanMin};
 ghost use Rattle.mdp_spec.specs.Mdp.{states_of};
+ghost use Rattle.mdp_rows.specs.declared.dir.Dir.TheVariants.{Max, Min};
 ghost use Rattle.mdp_farkas.specs.Mean.{MeetsMean, IsMean};
 ghost use Rattle.mdp_path.specs.Queries.{Solves};
 ghost use Rattle.mdp_mean.specs.Query.{plain, checked, Held};
@@ -19,8 +21,10 @@ pub(crate) fn held(
     requires gains { length cert.gains.items ≡ states_of model.now }
     requires rules { MeetsMean dir model.now m cert.gains.items cert.bound.items cert.bias.items cert.spread cert.choices.items }
     ensures held { Solves plain (Held (plain cert) (checked dir model.now m (plain cert))) result }
-    ensures same { IfOk result (λ c. plain c ≡ plain cert) }
-    ensures rules { IfOk result (λ c. IsMean dir model.now m cert.gains.items cert.bound.items cert.bias.items cert.spread cert.choices.items) }
+    ensures each { IfOk result (λ c. length c.gains.items ≡ states_of model.now) }
+    ensures rules { IfOk result (λ c. IsMean dir model.now m c.gains.items c.bound.items c.bias.items c.spread c.choices.items) }
+    ensures max { dir ≡ Max → IfOk result (λ c. MeanMax model.now m c.gains.items c.spread c.choices.items) }
+    ensures min { dir ≡ Min → IfOk result (λ c. MeanMin model.now m c.gains.items c.spread c.choices.items) }
 {
     match holds_mean(model, m, dir, &cert) {
         Verdict::Yes => Ok(cert),

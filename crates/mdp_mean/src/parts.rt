@@ -1,6 +1,6 @@
-ghost use Rattle.std.specs.Prelude.{ℕ, ◌≡◌, ◌<◌, length, IfOk, slice_index};
+ghost use Rattle.std.specs.Prelude.{ℕ, ◌≡◌, ◌<◌, ◌==◌, not, length, IfOk, slice_index};
 ghost use Rattle.mdp_spec.specs.Bounds.{MeanMax, MeanMin};
-ghost use Rattle.mdp_spec.specs.Mdp.{states_of};
+ghost use Rattle.mdp_spec.specs.Mdp.{states_of, value_at};
 ghost use Rattle.mdp_rows.specs.declared.dir.Dir.TheVariants.{Max, Min};
 ghost use Rattle.mdp_parts.specs.FoundEnds.{AreEndsOf};
 ghost use Rattle.mdp_path.specs.Queries.{Solves};
@@ -38,6 +38,15 @@ pub(crate) struct Parts<'a, 'b> {
     pub(crate) steps: &'a [Frac],
 }
 
+/// The value of the node of state `s`.
+fn value_at(quotient: &Quotient<'_>, values: &[Frac], s: u32) -> Frac
+    requires state { s < length quotient.now.nodes }
+    requires node { slice_index quotient.now.nodes s < length values.now }
+    ensures { result ≡ value_at values.now (slice_index quotient.now.nodes s) }
+{
+    values[quotient.node_of(s) as usize]
+}
+
 /// For each state the value of its node.
 fn at_nodes(
     alloc: Global,
@@ -51,9 +60,18 @@ fn at_nodes(
 {
     let mut list = Vec::new(alloc);
     for s in 0..model.states() {
-        list.push(values[quotient.node_of(s) as usize])?;
+        list.push(value_at(quotient, values, s))?;
     }
     Ok(list)
+}
+
+/// Whether the node of state `s` takes an exit.
+fn is_left(quotient: &Quotient<'_>, policy: &[u32], s: u32) -> bool
+    requires state { s < length quotient.now.nodes }
+    requires node { slice_index quotient.now.nodes s < length policy.now }
+    ensures { result ≡ not (slice_index policy.now (slice_index quotient.now.nodes s) == 0) }
+{
+    policy[quotient.node_of(s) as usize] != 0
 }
 
 /// The states whose node takes an exit.
@@ -69,7 +87,7 @@ fn leaving(
 {
     let mut marks = Vec::new(alloc);
     for s in 0..model.states() {
-        marks.push(policy[quotient.node_of(s) as usize] != 0)?;
+        marks.push(is_left(quotient, policy, s))?;
     }
     Ok(Marks::from_values(marks))
 }
