@@ -1,21 +1,22 @@
 -- A policy of exits leaves the nodes that go on, in whatever problem over the nodes it is taken.
-use Rattle.std.proofs.Common.{◌≡◌, ℕ, zero, suc, ◌<◌, Bool, true, false, not, ◌==◌, List, [], ◌∷◌, length, map, get_or, refl, sym, ◌∙◌, ap, subst, subst₂, arith, zero-add, pos}
+use Rattle.std.proofs.Common.{◌≡◌, ℕ, zero, suc, ◌<◌, Bool, false, not, ◌==◌, List, [], length, map, get_or, refl, sym, ◌∙◌, ap, subst, arith, zero-add}
 use Rattle.std.specs.List.{range_with_len}
 use Rattle.std.proofs.lemmas.List.FromFn.{get_or-map-range_with_len, length-map-range_with_len, fill_by_all}
-use Rattle.mdp_math.specs.Rational.{ℚ, of_int}
+use Rattle.mdp_math.specs.Rational.{ℚ}
 use Rattle.mdp_spec.specs.Mdp.{Entry}
 use Rattle.mdp_spec.specs.Row.{IsMdp}
 use Rattle.mdp_elim.specs.System.{Leaves}
 use Rattle.mdp_ends.specs.Quotient.{nodes_in}
 use Rattle.mdp_ends.specs.Toward.{IsOuter, outer_row}
 use Rattle.mdp_ends.proofs.Lifting.{outer_rows, active_nodes, node_ranks, outer_leaves}
-use Rattle.mdp_path.specs.Problem.{Problem, Move, go, stop, count, goes_on, row_from, taken, rows_of, active_of}
+use Rattle.mdp_path.specs.Problem.{Problem, Move, go, count, goes_on, row_from, taken, rows_of, active_of}
 use Rattle.mdp_path.specs.Values.{CanLeave}
 use Rattle.mdp_path.proofs.Chain.{row-stops}
 use Rattle.mdp_quot.specs.Quotient.{Quotient, row_of}
 use Rattle.mdp_quot.proofs.Selected.{are_selected}
 use Rattle.mdp_exits.specs.OfModel.{IsOfModel}
 use Rattle.mdp_exits.specs.Outer.{IsOuterPolicy}
+use Rattle.mdp_exits.proofs.OuterNodes.{suc_eqb}
 use Rattle.mdp_exits.proofs.InModel.{row-same, outer-policy}
 
 -- a move does what entry c says: 0 stops, 1 + i goes on by the row of exit i
@@ -45,7 +46,7 @@ module _ (q : Quotient) (of : IsOfModel q) (p : Problem) (policy outer : List �
 
   active_by : (k c : ℕ) (move : Move) → Does q k c move → goes_on move ≡ not (c == 0)
   active_by k zero move d = d
-  active_by k (suc i) move d = ap goes_on d.1
+  active_by k (suc i) move d = rw (suc_eqb i) (ap goes_on d.1)
 
   -- ---- the chain
 

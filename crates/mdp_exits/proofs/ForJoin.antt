@@ -1,5 +1,5 @@
 -- What the two answers give for joining the values of the nodes to values of the states.
-use Rattle.std.proofs.Common.{◌≡◌, ℕ, ◌<◌, false, List, length, get_or, ◌∙◌, sym, subst, Option, Some, pos}
+use Rattle.std.proofs.Common.{◌≡◌, ℕ, ◌<◌, false, List, length, get_or, ◌∙◌, subst, Option, Some, pos}
 use Rattle.mdp_math.specs.Rational.{ℚ, of_int, ◌+ℚ◌, ◌≤ℚ◌}
 use Rattle.mdp_spec.specs.Mdp.{Mdp, Entry, states_of, choices_at, value_at}
 use Rattle.mdp_spec.specs.Row.{IsMdp, row_sum}
@@ -13,7 +13,7 @@ use Rattle.mdp_path.specs.Values as path
 use Rattle.mdp_quot.specs.Quotient.{Quotient, IsQuotient}
 use Rattle.mdp_exits.specs.Steps.{IsLongest}
 use Rattle.mdp_exits.specs.Outer.{Answer, IsBestOuter}
-use Rattle.mdp_exits.proofs.InModel.{node, node_below, component-is, exit_place}
+use Rattle.mdp_exits.proofs.InModel.{node_below, component-is, exit_place}
 
 as_good : (dir : Dir) (x y : ℚ) → path.IsAsGood dir x y → join.IsAsGood dir x y
 as_good Max x y h = h

@@ -1,14 +1,16 @@
 -- The quotient of a model in terms of the model: its exits, and what a policy of exits is there.
-use Rattle.std.proofs.Common.{◌≡◌, ℕ, suc, ◌<◌, true, false, ◌==◌, List, length, get_or, refl, sym, ◌∙◌, ap, subst, arith, Option, Some}
+use Rattle.std.proofs.Common.{◌≡◌, ℕ, ◌<◌, false, List, length, get_or, sym, ◌∙◌, ap, arith, Option, Some}
 use Rattle.std.proofs.lemmas.List.{get_or_default}
-use Rattle.mdp_spec.specs.Mdp.{Mdp, Entry, states_of, choices_at}
+use Rattle.mdp_math.specs.Rational.{ℚ}
+use Rattle.mdp_spec.specs.Mdp.{Mdp, states_of, choices_at}
 use Rattle.mdp_spec.specs.Row.{IsMdp}
 use Rattle.mdp_rows.specs.declared.preds.Pred.{Pred}
 use Rattle.mdp_rows.specs.Preds.{pair}
-use Rattle.mdp_ends.specs.Ends.{AreEnds, part_of, is_inside}
-use Rattle.mdp_ends.specs.Quotient.{nodes_in, exits_of, node_row}
+use Rattle.mdp_ends.specs.Ends.{AreEnds, part_of, is_inside, count_of}
+use Rattle.mdp_ends.specs.Quotient.{exits_of, node_row}
 use Rattle.mdp_ends.specs.Selection.{exit_row}
 use Rattle.mdp_ends.specs.Toward.{IsOuter}
+use Rattle.mdp_ends.proofs.Numbering.{numbered-below}
 use Rattle.mdp_ends.proofs.Exits.{exit_found, node-has}
 use Rattle.mdp_ends.proofs.Leaving.{node_of-below}
 use Rattle.mdp_ends.proofs.StepsLeave.{exitless-part}
@@ -17,7 +19,7 @@ use Rattle.mdp_quot.specs.Laws.{AreSelected}
 use Rattle.mdp_quot.proofs.Selected.{are_selected}
 use Rattle.std.proofs.lemmas.Bool.{eq-eqb}
 use Rattle.mdp_exits.specs.Problem.{component_of}
-use Rattle.mdp_exits.specs.Outer.{IsOuterPolicy}
+use Rattle.mdp_exits.specs.Outer.{IsOuterPolicy, HasGains}
 
 module _ (m : Mdp) (ok : IsMdp m) (parts : List (Option ℕ)) (are : AreEnds m parts) (q : Quotient) (is : IsQuotient m parts q) where
   abbrev pub node : ℕ → ℕ
@@ -48,6 +50,13 @@ module _ (m : Mdp) (ok : IsMdp m) (parts : List (Option ℕ)) (are : AreEnds m p
       let z : length (exits_of m parts q.nodes (node w.0)) ≡ 0 = ap (λ (k : ℕ). length (exits_of m parts q.nodes k)) w.2 ∙ sym (ap length (exits-same k l)) ∙ none in
       let part = exitless-part m ok parts are q.nodes is.nodes w.0 hs (eq-eqb (length (exits_of m parts q.nodes (node w.0))) 0 z) in
       (part.0, ap (component_of q) (sym w.2) ∙ component-is w.0 hs ∙ part.1)
+
+  -- where there is a gain for each end component of the model, each node's component has one
+  pub gains-each : (gains : List ℚ) → length gains ≡ count_of parts → HasGains q gains
+  gains-each gains n k i l e =
+      let w = node-has parts q.nodes is.nodes k (omega (arith, l, selected.count)) in
+      let hs : w.0 < states_of m = omega (arith, w.1, are.count) in
+      omega (arith, n, numbered-below 0 parts w.0 i are.numbered (sym (component-is w.0 hs) ∙ ap (component_of q) w.2 ∙ e))
 
   -- ---- exits
 

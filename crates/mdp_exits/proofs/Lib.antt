@@ -1,9 +1,13 @@
 pub mod StepsNodes
 pub mod OuterNodes
-pub mod Few
+pub mod Sizes
 pub mod InModel
 pub mod ForJoin
 pub mod Chains
 pub mod StepsBest
 pub mod OuterBest
 pub mod Ending
+pub mod Queries
+pub mod OuterOfAll
+pub mod StepsOfAll
+mod Examples

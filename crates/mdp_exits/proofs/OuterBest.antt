@@ -1,29 +1,27 @@
 -- Each policy of the problem of the best gains leaves its nodes, and a best one has the best gains.
-use Rattle.std.proofs.Common.{◌≡◌, ℕ, zero, suc, ◌<◌, ◌+◌, Bool, inl, inr, true, false, ◌==◌, if◌then◌else◌, List, length, map, get_or, refl, sym, ◌∙◌, ap, subst, arith, zero-add, pos, Option, Some, None}
-use Rattle.std.specs.List.{range_with_len}
+use Rattle.std.proofs.Common.{◌≡◌, ℕ, zero, suc, ◌<◌, ◌+◌, inl, true, List, length, get_or, refl, sym, ◌∙◌, ap, subst, arith, zero-add, pos, Option, Some, None}
 use Rattle.std.specs.Option.{is_some}
-use Rattle.std.proofs.lemmas.Bool.{eqb-true}
 use Rattle.std.proofs.lemmas.List.FromFn.{get_or-map-range_with_len, length-map-range_with_len}
-use Rattle.mdp_math.specs.Rational.{ℚ, of_int, ◌+ℚ◌}
+use Rattle.mdp_math.specs.Rational.{ℚ, of_int}
 use Rattle.mdp_math.proofs.Laws.{zero-+ℚ}
-use Rattle.mdp_spec.specs.Mdp.{Entry, value_at}
+use Rattle.mdp_spec.specs.Mdp.{value_at}
 use Rattle.mdp_spec.specs.Row.{row_sum}
 use Rattle.mdp_rows.specs.declared.dir.Dir.{Dir}
-use Rattle.mdp_path.specs.Problem.{Problem, Node, Choice, Move, stop, go, worth, count, node_at, goes_on, taken, choices_at, choice_at, IsCandidate, IsPolicy}
-use Rattle.mdp_path.specs.Code.{CanTake}
-use Rattle.mdp_path.specs.Values.{CanLeave, AllLeave, IsAsGood}
+use Rattle.mdp_path.specs.Problem.{Problem, Node, Choice, Move, worth, count, goes_on, taken, choices_at, IsCandidate, IsPolicy}
+use Rattle.mdp_path.specs.Values.{CanLeave, IsAsGood}
 use Rattle.mdp_path.specs.Laws.{IsSolvable, IsBest}
 use Rattle.mdp_path.proofs.Chain.{can_take}
-use Rattle.mdp_quot.specs.Quotient.{Quotient, IsShaped, exits_at, row_of}
+use Rattle.mdp_quot.specs.Quotient.{Quotient, row_of}
 use Rattle.mdp_exits.specs.OfModel.{IsOfModel}
 use Rattle.mdp_exits.specs.Problem.{component_of, gain_of, first_choice, outer_node, outer_problem, outer_start}
-use Rattle.mdp_exits.specs.Outer.{Answer, IsOuterPolicy, IsWorth, IsBestOuter}
+use Rattle.mdp_exits.specs.Outer.{Answer, IsOuterPolicy, IsBestOuter}
+use Rattle.mdp_exits.proofs.Sizes.{is_shaped}
 use Rattle.mdp_exits.proofs.InModel.{exitless-component}
 use Rattle.mdp_exits.proofs.Chains.{Does, can-leave}
-use Rattle.mdp_exits.proofs.OuterNodes.{exit_count, entry, choices, choices-len, choices-at, outer-count, outer-at, outer-choice, outer-choices, outer-can, outer-known}
+use Rattle.mdp_exits.proofs.OuterNodes.{exit_count, entry, choices-len, choices-at, outer-count, outer-at, outer-choice, outer-choices, outer-can, outer-known}
 
 -- a component that there is
-some_component : (o : Option ℕ) → is_some o ≡ true → (i : ℕ) × (o ≡ Some i)
+pub some_component : (o : Option ℕ) → is_some o ≡ true → (i : ℕ) × (o ≡ Some i)
 some_component None e = cc
 some_component (Some i) e = (i, refl)
 
@@ -40,7 +38,7 @@ module _ (dir : Dir) (q : Quotient) (gains : List ℚ) where
     abbrev chosen : ℕ → ℕ
     chosen k = get_or policy k 0
 
-    taken-is : (k : ℕ) → k < length q.exits → taken p policy k ≡ (entry q gains k (chosen k)).move
+    pub taken-is : (k : ℕ) → k < length q.exits → taken p policy k ≡ (entry q gains k (chosen k)).move
     taken-is k l = (outer-can dir q gains k (is_node k l) (chosen k) (can_take p policy is k (is_node k l))).1
 
     in_range : (k : ℕ) → k < length q.exits → chosen k < exit_count q gains k + 1
@@ -84,7 +82,7 @@ module _ (dir : Dir) (q : Quotient) (gains : List ℚ) where
     at zero z = let w = exitless-component of.m of.model.mdp of.parts of.ends q of.quotient k l z in absurd (let h : None ≡ Some w.0 = sym e ∙ w.1 in cc)
     at (suc n) z = omega (arith, z)
 
-  can_by : (k c : ℕ) → c < exit_count q gains k + 1 → (entry q gains k c).candidate ≡ true → IsCandidate (outer_node q gains k) c
+  pub can_by : (k c : ℕ) → c < exit_count q gains k + 1 → (entry q gains k c).candidate ≡ true → IsCandidate (outer_node q gains k) c
   can_by k c l e = (omega (arith, l, choices-len q gains k), ap Choice.candidate (choices-at q gains k c l) ∙ e)
 
   first_by : IsOfModel q → (k : ℕ) (o : Option ℕ) → k < length q.exits → component_of q k ≡ o → IsCandidate (outer_node q gains k) (first_choice o)
@@ -100,9 +98,9 @@ module _ (dir : Dir) (q : Quotient) (gains : List ℚ) where
         (subst (λ (c : ℕ). IsCandidate (outer_node q gains k) c) (sym (start-at k h)) (first_by of k (component_of q k) h refl)));
   }
 
-  pub outer-solvable : IsShaped q → IsOfModel q → IsSolvable p (outer_start q)
-  outer-solvable known of = record {
-    problem = outer-known dir q gains known;
+  pub outer-solvable : IsOfModel q → IsSolvable p (outer_start q)
+  outer-solvable of = record {
+    problem = outer-known dir q gains (is_shaped q of);
     policy = start-policy of;
     leaves = outer-leaves (outer_start q) (start-policy of) of;
     keeps = inl (λ policy is. outer-leaves policy is of);
@@ -110,16 +108,16 @@ module _ (dir : Dir) (q : Quotient) (gains : List ℚ) where
 
   -- ---- the end
 
+  -- where nothing is earned an exit is worth what it leads to
+  pub exit-worth : (x : List ℚ) (k i : ℕ) → worth x (entry q gains k (suc i)).move ≡ row_sum (row_of q k i) x
+  exit-worth x k i = zero-+ℚ (row_sum (row_of q k i) x)
+
+  pub stop-worth : (x : List ℚ) (k i : ℕ) → component_of q k ≡ Some i → worth x (entry q gains k 0).move ≡ value_at gains i
+  stop-worth x k i e = ap (gain_of gains) e
+
   module _ (policy : List ℕ) (x : List ℚ) (best : IsBest p policy x) where
     abbrev answer : Answer
     answer = record { policy = policy; values = x }
-
-    -- what nothing is earned for is worth what it leads to
-    exit-worth : (k i : ℕ) → worth x (entry q gains k (suc i)).move ≡ row_sum (row_of q k i) x
-    exit-worth k i = zero-+ℚ (row_sum (row_of q k i) x)
-
-    stop-worth : (k i : ℕ) → component_of q k ≡ Some i → worth x (entry q gains k 0).move ≡ value_at gains i
-    stop-worth k i e = ap (gain_of gains) e
 
     value-is : (k c : ℕ) → k < length q.exits → get_or policy k 0 ≡ c → value_at x k ≡ worth x (entry q gains k c).move
     value-is k c l e =
@@ -136,9 +134,9 @@ module _ (dir : Dir) (q : Quotient) (gains : List ℚ) where
       policy = is-outer policy best.is;
       worth = record {
         count = best.values.len ∙ outer-count dir q gains;
-        stopped = λ k i l e c. value-is k 0 l e ∙ stop-worth k i c;
-        left = λ k i l e. value-is k (suc i) l e ∙ exit-worth k i;
+        stopped = λ k i l e c. value-is k 0 l e ∙ stop-worth x k i c;
+        left = λ k i l e. value-is k (suc i) l e ∙ exit-worth x k i;
       };
-      gain = λ k i l c. subst (IsAsGood dir (value_at x k)) (stop-worth k i c) (none-better k 0 l (omega arith) (ap is_some c));
-      exit = λ k i l h. subst (IsAsGood dir (value_at x k)) (exit-worth k i) (none-better k (suc i) l (omega (arith, h)) refl);
+      gain = λ k i l c. subst (IsAsGood dir (value_at x k)) (stop-worth x k i c) (none-better k 0 l (omega arith) (ap is_some c));
+      exit = λ k i l h. subst (IsAsGood dir (value_at x k)) (exit-worth x k i) (none-better k (suc i) l (omega (arith, h)) refl);
     }

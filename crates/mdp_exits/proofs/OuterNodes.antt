@@ -1,17 +1,25 @@
 -- The nodes of the problem of the best gains.
-use Rattle.std.proofs.Common.{◌≡◌, ℕ, zero, suc, ◌<◌, ◌+◌, ◌-◌, Bool, true, false, not, ◌==◌, ◌||◌, nat_lt, List, ◌∷◌, length, map, if◌then◌else◌, refl, sym, ◌∙◌, ap, subst, arith, pos, zero-add, Some}
+use Rattle.std.proofs.Common.{◌≡◌, ℕ, zero, suc, ◌<◌, ◌+◌, ◌-◌, true, false, ◌==◌, nat_lt, List, ◌∷◌, length, map, refl, sym, ◌∙◌, ap, subst, arith, pos, zero-add, Some}
 use Rattle.std.specs.List.{range_with_len}
 use Rattle.std.specs.Prelude.{slice_index_or}
-use Rattle.std.specs.Option.{is_some}
+use Rattle.std.proofs.lemmas.Bool.{ne_eqb, lt-ltb, ltb-true}
 use Rattle.std.proofs.lemmas.List.FromFn.{get_or-map-range_with_len, length-map-range_with_len}
 use Rattle.mdp_math.specs.Rational.{ℚ, of_int}
-use Rattle.mdp_spec.specs.Written.{written_sum}
 use Rattle.mdp_rows.specs.declared.dir.Dir.{Dir}
-use Rattle.mdp_path.specs.Problem.{Problem, Node, given, decision, Choice, stop, go, worth, no_choice, count, node_at, choices_of, choices_at, choice_at, goes_on, amount, row_from, move_by, fits_by, LeadsWithin, IsProblem}
+use Rattle.mdp_path.specs.Problem.{Problem, Node, given, Choice, stop, go, worth, no_choice, count, node_at, choices_of, choices_at}
+use Rattle.mdp_path.specs.Problem.{choice_at, goes_on, row_from, move_by, fits_by, LeadsWithin, IsProblem}
 use Rattle.mdp_path.specs.Code.{CanTake, move_at, fits_at}
 use Rattle.mdp_path.proofs.Compares.{plain-exact}
 use Rattle.mdp_quot.specs.Quotient.{Quotient, exits_at, row_of, IsShaped}
 use Rattle.mdp_exits.specs.Problem.{component_of, gain_of, stopping, leaving, outer_node, outer_problem}
+
+-- 1 + i isn't 0
+pub suc_eqb : (i : ℕ) → (suc i == 0) ≡ false
+suc_eqb i = ne_eqb (suc i) 0 (λ z. omega (arith, z))
+
+pub positive : (c : ℕ) → (c ≡ 0 → ⊥) → 0 < c
+positive zero h = absurd (h refl)
+positive (suc i) h = omega arith
 
 -- ---- what choice c of a node is
 
@@ -37,36 +45,24 @@ module _ (q : Quotient) (gains : List ℚ) (k : ℕ) where
   choices-at zero l = refl
   choices-at (suc i) l = get_or-map-range_with_len (leaving q k) 0 exit_count i i no_choice (omega (arith, l)) (zero-add i)
 
-  by-goes : (c : ℕ) → goes_on (entry c).move ≡ not (c == 0)
+  pub entry-stop : (c : ℕ) → c ≡ 0 → entry c ≡ stopping gains (component_of q k)
+  entry-stop c e = ap entry e
+
+  pub entry-exit : (c : ℕ) → 0 < c → entry c ≡ leaving q k (c - 1)
+  entry-exit zero l = absurd (omega (arith, l))
+  entry-exit (suc i) l = let n : suc i - 1 ≡ i = omega arith in ap (leaving q k) (sym n)
+
+  by-goes : (c : ℕ) → goes_on (entry c).move ≡ nat_lt 0 c
   by-goes zero = refl
-  by-goes (suc i) = refl
-
-  by-candidate : (c : ℕ) → (entry c).candidate ≡ (if c == 0 then is_some (component_of q k) else true)
-  by-candidate zero = refl
-  by-candidate (suc i) = refl
-
-  by-amount : (c : ℕ) → amount (entry c).move ≡ (if c == 0 then gain_of gains (component_of q k) else of_int (pos 0))
-  by-amount zero = refl
-  by-amount (suc i) = refl
+  by-goes (suc i) = sym (lt-ltb 0 (suc i) (omega arith))
 
   by-fits : (c : ℕ) → (entry c).fits ≡ true
   by-fits zero = refl
   by-fits (suc i) = refl
 
-  by-row : (c : ℕ) → c < exit_count + 1 → goes_on (entry c).move ≡ true → (c - 1 < exit_count) × (row_from k (entry c).move ≡ row_of q k (c - 1))
-  by-row zero l e = cc
-  by-row (suc i) l e = let n : suc i - 1 ≡ i = omega arith in (omega (arith, l, n), ap (row_of q k) (sym n))
-
   by-exact : (c : ℕ) (y : List ℚ) (v : ℚ) → (entry c).written y ≡ Some v → v ≡ worth y (entry c).move
   by-exact zero y v h = plain-exact y (stop (gain_of gains (component_of q k))) v h
   by-exact (suc i) y v h = plain-exact y (go (of_int (pos 0)) (row_of q k i)) v h
-
-  pub written-stop : (c : ℕ) (y : List ℚ) → c ≡ 0 → (entry c).written y ≡ Some (gain_of gains (component_of q k))
-  written-stop c y e = ap (λ (c : ℕ). (entry c).written y) e
-
-  pub written-exit : (c : ℕ) (y : List ℚ) → 0 < c → (entry c).written y ≡ written_sum y (of_int (pos 0)) (row_of q k (c - 1))
-  written-exit zero y l = absurd (omega (arith, l))
-  written-exit (suc i) y l = let n : suc i - 1 ≡ i = omega arith in ap (λ (i : ℕ). written_sum y (of_int (pos 0)) (row_of q k i)) (sym n)
 
   by-leads : IsShaped q → k < length q.exits → (c : ℕ) → c < exit_count + 1 → LeadsWithin (length q.exits) (entry c).move
   by-leads known l zero h = tt
@@ -98,24 +94,28 @@ module _ (dir : Dir) (q : Quotient) (gains : List ℚ) where
         let k : c < exit_count q gains s + 1 = subst (λ (n : ℕ). c < n) (choices-len q gains s) (subst (λ (n : Node). CanTake n c) (outer-at s l) can) in
         (k, ap (λ (n : Node). move_by n c) (outer-at s l) ∙ ap Choice.move (choices-at q gains s c k))
 
-    pub outer-candidate : (c : ℕ) → c < length (choices_at p s) → (choice_at p s c).candidate ≡ (if c == 0 then is_some (component_of q s) else true)
-    outer-candidate c h = ap Choice.candidate (outer-choice c h).1 ∙ by-candidate q gains s c
+    -- choice 0 stops, any other takes an exit
+    pub outer-stop : (c : ℕ) → c < length (choices_at p s) → c ≡ 0 → choice_at p s c ≡ stopping gains (component_of q s)
+    outer-stop c h e = (outer-choice c h).1 ∙ entry-stop q gains s c e
 
-    pub outer-goes : (c : ℕ) → CanTake (node_at p s) c → goes_on (move_at p s c) ≡ not (c == 0)
-    outer-goes c can = ap goes_on (outer-can c can).1 ∙ by-goes q gains s c
+    pub outer-exit : (c : ℕ) → c < length (choices_at p s) → 0 < c → (c - 1 < exit_count q gains s) × (choice_at p s c ≡ leaving q s (c - 1))
+    outer-exit c h e = let w = outer-choice c h in (omega (arith, w.0, e), w.1 ∙ entry-exit q gains s c e)
 
-    pub outer-amount : (c : ℕ) → CanTake (node_at p s) c → amount (move_at p s c) ≡ (if c == 0 then gain_of gains (component_of q s) else of_int (pos 0))
-    outer-amount c can = ap amount (outer-can c can).1 ∙ by-amount q gains s c
+    module _ (c : ℕ) (can : CanTake (node_at p s) c) where
+      pub outer-goes : goes_on (move_at p s c) ≡ nat_lt 0 c
+      outer-goes = ap goes_on (outer-can c can).1 ∙ by-goes q gains s c
 
-    pub outer-fits : (c : ℕ) → CanTake (node_at p s) c → fits_at p s c ≡ true
-    outer-fits c can =
-        ap (λ (n : Node). fits_by n c) (outer-at s l) ∙ ap Choice.fits (choices-at q gains s c (outer-can c can).0) ∙ by-fits q gains s c
+      pub outer-stops : c ≡ 0 → move_at p s c ≡ stop (gain_of gains (component_of q s))
+      outer-stops e = (outer-can c can).1 ∙ ap Choice.move (entry-stop q gains s c e)
 
-    pub outer-row : (c : ℕ) → CanTake (node_at p s) c → goes_on (move_at p s c) ≡ true → (c - 1 < exit_count q gains s) × (row_from s (move_at p s c) ≡ row_of q s (c - 1))
-    outer-row c can e =
-        let w = outer-can c can in
-        let b = by-row q gains s c w.0 (sym (ap goes_on w.1) ∙ e) in
-        (b.0, ap (row_from s) w.1 ∙ b.1)
+      pub outer-leaves : 0 < c → (c - 1 < exit_count q gains s) × (move_at p s c ≡ go (of_int (pos 0)) (row_of q s (c - 1)))
+      outer-leaves l = let w = outer-can c can in (omega (arith, w.0, l), w.1 ∙ ap Choice.move (entry-exit q gains s c l))
+
+      pub outer-fits : fits_at p s c ≡ true
+      outer-fits = ap (λ (n : Node). fits_by n c) (outer-at s l) ∙ ap Choice.fits (choices-at q gains s c (outer-can c can).0) ∙ by-fits q gains s c
+
+      pub outer-row : goes_on (move_at p s c) ≡ true → (0 < c) × (c - 1 < exit_count q gains s) × (row_from s (move_at p s c) ≡ row_of q s (c - 1))
+      outer-row e = let h = ltb-true 0 c (sym outer-goes ∙ e) in let w = outer-leaves h in (h, w.0, ap (row_from s) w.1)
 
   pub outer-known : IsShaped q → IsProblem p
   outer-known known = record {

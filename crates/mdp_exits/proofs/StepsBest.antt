@@ -1,24 +1,24 @@
 -- Each policy of the problem of the greatest number of exits leaves its nodes, and a best one gives the greatest number of exits.
-use Rattle.std.proofs.Common.{◌≡◌, ℕ, zero, suc, ◌<◌, Bool, inl, inr, true, false, ◌==◌, if◌then◌else◌, List, length, map, get_or, refl, sym, ◌∙◌, ap, subst, arith, zero-add, pos, Some}
+use Rattle.std.proofs.Common.{◌≡◌, ℕ, zero, suc, ◌<◌, Bool, inl, inr, true, false, ◌==◌, if◌then◌else◌, List, length, map, get_or, refl, sym, ◌∙◌, ap, subst, arith, zero-add, pos}
 use Rattle.std.specs.List.{range_with_len}
 use Rattle.std.proofs.lemmas.Bool.{ne_eqb, eqb-true, eq-eqb, cases_Bool}
 use Rattle.std.proofs.lemmas.List.FromFn.{get_or-map-range_with_len, length-map-range_with_len}
 use Rattle.mdp_math.specs.Rational.{ℚ, of_int, ◌≤ℚ◌}
 use Rattle.mdp_spec.specs.Mdp.{value_at}
-use Rattle.mdp_rows.specs.declared.dir.Dir.TheVariants.{Max}
-use Rattle.mdp_path.specs.Problem.{Problem, Node, Choice, Move, given, stop, go, worth, count, goes_on, move_by, taken, choices_of, choices_at, choice_at, IsCandidate, IsPolicy}
-use Rattle.mdp_path.specs.Values.{CanLeave, AllLeave, IsAsGood}
+use Rattle.mdp_path.specs.Problem.{Problem, Node, Choice, stop, go, worth, count, goes_on, move_by, taken, choices_at, IsCandidate, IsPolicy}
+use Rattle.mdp_path.specs.Values.{CanLeave}
 use Rattle.mdp_path.specs.Laws.{IsSolvable, IsBest}
-use Rattle.mdp_quot.specs.Quotient.{Quotient, IsShaped, exits_at, row_of}
+use Rattle.mdp_quot.specs.Quotient.{Quotient, exits_at, row_of}
 use Rattle.mdp_exits.specs.OfModel.{IsOfModel}
-use Rattle.mdp_exits.specs.Problem.{counted, steps_by, steps_node, steps_problem, steps_start}
+use Rattle.mdp_exits.specs.Problem.{steps_by, steps_node, steps_problem, steps_start}
 use Rattle.mdp_exits.specs.Steps.{after_exit, IsLongest}
 use Rattle.mdp_exits.specs.Outer.{IsOuterPolicy}
+use Rattle.mdp_exits.proofs.Sizes.{is_shaped}
 use Rattle.mdp_exits.proofs.InModel.{exitless-component}
 use Rattle.mdp_exits.proofs.Chains.{Does, can-leave}
 use Rattle.mdp_exits.proofs.StepsNodes.{exit_count, is_exitless, going-at, goings-len, steps-count, steps-at, steps-choice, steps-candidate, steps-choices, steps-known}
 
-positive : (n : ℕ) → (n == 0) ≡ false → 0 < n
+pub positive : (n : ℕ) → (n == 0) ≡ false → 0 < n
 positive zero e = cc
 positive (suc n) e = omega arith
 
@@ -33,17 +33,17 @@ module _ (q : Quotient) where
     -- ---- what it does at a node
 
     -- a node without exits stops with 0, any other earns 1 and goes on by its exit
-    record Goes (k : ℕ) : Type 0 where
+    pub record Goes (k : ℕ) : Type 0 where
       pub exit : get_or policy k 0 < exit_count q k
       pub move : taken p policy k ≡ go (of_int (pos 1)) (row_of q k (get_or policy k 0))
 
     taken-is : (k : ℕ) → k < length q.exits → taken p policy k ≡ move_by (steps_node q k) (get_or policy k 0)
     taken-is k l = ap (λ (n : Node). move_by n (get_or policy k 0)) (steps-at q k (is_node k l))
 
-    stays : (k : ℕ) → k < length q.exits → is_exitless q k ≡ true → taken p policy k ≡ stop (of_int (pos 0))
+    pub stays : (k : ℕ) → k < length q.exits → is_exitless q k ≡ true → taken p policy k ≡ stop (of_int (pos 0))
     stays k l e = taken-is k l ∙ ap (λ (b : Bool). move_by (steps_by q k b) (get_or policy k 0)) e
 
-    goes : (k : ℕ) → k < length q.exits → is_exitless q k ≡ false → Goes k
+    pub goes : (k : ℕ) → k < length q.exits → is_exitless q k ≡ false → Goes k
     goes k l e =
         let can : IsCandidate (steps_by q k false) (get_or policy k 0) =
         subst (λ (b : Bool). IsCandidate (steps_by q k b) (get_or policy k 0)) e
@@ -113,9 +113,9 @@ module _ (q : Quotient) where
         (subst (λ (c : ℕ). IsCandidate (steps_node q k) c) (sym (start-at k h)) (first_by k (is_exitless q k) refl)));
   }
 
-  pub steps-solvable : IsShaped q → IsOfModel q → IsSolvable p (steps_start q)
-  steps-solvable known of = record {
-    problem = steps-known q known;
+  pub steps-solvable : IsOfModel q → IsSolvable p (steps_start q)
+  steps-solvable of = record {
+    problem = steps-known q (is_shaped q of);
     policy = start-policy;
     leaves = steps-leaves (steps_start q) start-policy of;
     keeps = inl (λ policy is. steps-leaves policy is of);

@@ -1,12 +1,13 @@
 -- The nodes of the problem of the greatest number of exits.
-use Rattle.std.proofs.Common.{◌≡◌, ℕ, ◌<◌, ◌+◌, Bool, true, false, not, ◌==◌, List, length, map, if◌then◌else◌, refl, sym, ◌∙◌, ap, subst, arith, pos, zero-add, Some}
+use Rattle.std.proofs.Common.{◌≡◌, ℕ, ◌<◌, Bool, true, false, not, ◌==◌, List, length, map, if◌then◌else◌, refl, sym, ◌∙◌, ap, subst, arith, pos, zero-add, Some}
 use Rattle.std.specs.List.{range_with_len}
 use Rattle.std.specs.Prelude.{slice_index_or}
 use Rattle.std.proofs.lemmas.Bool.{eqb-true}
 use Rattle.std.proofs.lemmas.List.FromFn.{get_or-map-range_with_len, length-map-range_with_len}
 use Rattle.mdp_math.specs.Rational.{ℚ, of_int}
 use Rattle.mdp_spec.specs.Written.{written_sum}
-use Rattle.mdp_path.specs.Problem.{Problem, Node, given, Choice, go, worth, no_choice, count, node_at, choices_of, choices_at, choice_at, goes_on, amount, row_from, move_by, fits_by, LeadsWithin, IsProblem}
+use Rattle.mdp_path.specs.Problem.{Problem, Node, given, Choice, go, worth, no_choice, count, node_at, choices_of, choices_at, choice_at}
+use Rattle.mdp_path.specs.Problem.{goes_on, amount, row_from, move_by, fits_by, LeadsWithin, IsProblem}
 use Rattle.mdp_path.specs.Code.{CanTake, move_at, fits_at}
 use Rattle.mdp_path.proofs.Compares.{plain-exact}
 use Rattle.mdp_quot.specs.Quotient.{Quotient, exits_at, row_of, IsShaped}

@@ -1,12 +1,14 @@
 -- What the two queries end with.
-use Rattle.std.specs.Prelude.{◌≡◌, ℕ, List, Result, Ok}
-use Rattle.mdp_math.specs.Rational.{ℚ}
+use Rattle.std.specs.Prelude.{◌≡◌, ℕ, ◌<◌, List, length, Result, Ok}
+use Rattle.mdp_math.specs.Rational.{ℚ, ◌≤ℚ◌}
+use Rattle.mdp_spec.specs.Mdp.{value_at}
 use Rattle.mdp_rows.specs.declared.dir.Dir.{Dir}
+use Rattle.mdp_path.specs.Values.{IsAsGood}
 use Rattle.mdp_path.specs.Queries.{WideTerm}
 use Rattle.mdp_quot.specs.Quotient.{Quotient}
 use Rattle.mdp_exits.specs.OfModel.{IsOfModel}
-use Rattle.mdp_exits.specs.Steps.{StepsEndSo, IsLongest}
-use Rattle.mdp_exits.specs.Outer.{Answer, OuterEndSo, IsBestOuter}
+use Rattle.mdp_exits.specs.Steps.{StepsEndSo, IsLongest, IsCounted}
+use Rattle.mdp_exits.specs.Outer.{Answer, OuterEndSo, IsOuterPolicy, IsWorth, IsBestOuter}
 
 -- each query has one end at most
 abbrev pub StepsHaveOneEnd : Type 0
@@ -28,3 +30,15 @@ StepsAreLongest = (q : Quotient) (n : List ℚ) → IsOfModel q → StepsEndSo q
 
 abbrev pub OuterIsBest : Type 0
 OuterIsBest = (dir : Dir) (q : Quotient) (gains : List ℚ) (a : Answer) → IsOfModel q → OuterEndSo dir q gains (Ok a) → IsBestOuter dir q gains a
+
+-- so no choice of exits takes more of them
+abbrev pub NoneTakesMore : Type 0
+NoneTakesMore =
+    (q : Quotient) (n : List ℚ) (chosen : List ℕ) (x : List ℚ) → IsOfModel q → IsLongest q n → IsCounted q chosen x
+    → (k : ℕ) → k < length q.exits → value_at x k ≤ℚ value_at n k
+
+-- and no policy of exits comes to better gains
+abbrev pub NoneIsBetter : Type 0
+NoneIsBetter =
+    (dir : Dir) (q : Quotient) (gains : List ℚ) (a b : Answer) → IsOfModel q → IsBestOuter dir q gains a → IsOuterPolicy q b.policy → IsWorth q gains b
+    → (k : ℕ) → k < length q.exits → IsAsGood dir (value_at a.values k) (value_at b.values k)

@@ -3,5 +3,5 @@ pub mod PathEnds
 pub mod Problem
 pub mod Steps
 pub mod Outer
-pub mod Few
+pub mod Sizes
 pub mod Laws

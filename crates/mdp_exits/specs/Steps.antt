@@ -1,12 +1,11 @@
 -- The greatest expected number of exits that can be taken from each node, before a node without exits.
-use Rattle.std.specs.Prelude.{◌≡◌, ℕ, ◌<◌, List, length, pos, Result}
+use Rattle.std.specs.Prelude.{◌≡◌, ℕ, ◌<◌, List, length, slice_index, pos, Result}
 use Rattle.mdp_math.specs.Rational.{ℚ, of_int, ◌+ℚ◌, ◌≤ℚ◌}
 use Rattle.mdp_spec.specs.Mdp.{value_at}
 use Rattle.mdp_spec.specs.Row.{row_sum}
 use Rattle.mdp_elim.specs.declared.too_wide.Part.TheVariants.{Steps}
-use Rattle.mdp_path.specs.Path.{Found}
 use Rattle.mdp_path.specs.Queries.{WideTerm}
-use Rattle.mdp_quot.specs.Quotient.{Quotient, exits_at, row_of}
+use Rattle.mdp_quot.specs.Quotient.{Quotient, IsChosen, exits_at, row_of}
 use Rattle.mdp_exits.specs.PathEnds.{PathEndsSo}
 use Rattle.mdp_exits.specs.Problem.{steps_problem, steps_start}
 
@@ -24,3 +23,10 @@ pub record IsLongest (q : Quotient) (n : List ℚ) : Type 0 where
   pub none : (k : ℕ) → k < length q.exits → length (exits_at q k) ≡ 0 → value_at n k ≡ of_int (pos 0)
   pub each : (k i : ℕ) → k < length q.exits → i < length (exits_at q k) → after_exit q n k i ≤ℚ value_at n k
   pub some : (k : ℕ) → k < length q.exits → 0 < length (exits_at q k) → (i : ℕ) × (i < length (exits_at q k)) × (value_at n k ≡ after_exit q n k i)
+
+-- the expected number of exits from each node where the chosen ones are taken
+pub record IsCounted (q : Quotient) (chosen : List ℕ) (x : List ℚ) : Type 0 where
+  pub policy : IsChosen q chosen
+  pub count : length x ≡ length q.exits
+  pub none : (k : ℕ) → k < length q.exits → length (exits_at q k) ≡ 0 → value_at x k ≡ of_int (pos 0)
+  pub some : (k : ℕ) → k < length q.exits → 0 < length (exits_at q k) → value_at x k ≡ after_exit q x k (slice_index chosen k)

@@ -1,5 +1,5 @@
 ghost use Rattle.std.specs.Prelude.{◌≡◌, ◌<◌, length};
-ghost use Rattle.mdp_exits.specs.Few.{HasFewExits};
+ghost use Rattle.mdp_exits.specs.Sizes.{HasFewExits};
 ghost use Rattle.mdp_exits.specs.Problem.{component_of, gain_of, outer_problem};
 ghost use Rattle.mdp_exits.specs.Outer.{HasGains};
 
@@ -69,11 +69,7 @@ impl ShortestPath for OuterProblem<'_, '_, '_> {
     }
 
     fn amount(&self, s: u32, c: u32) -> Frac {
-        if c == 0 {
-            self.gain(s)
-        } else {
-            Frac::whole(0)
-        }
+        if c == 0 { self.gain(s) } else { Frac::whole(0) }
     }
 
     fn fits(&self, _s: u32, _c: u32) -> bool {

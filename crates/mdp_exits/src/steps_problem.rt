@@ -1,6 +1,6 @@
 ghost use Rattle.std.specs.Prelude.{◌≡◌, ◌<◌, ◌==◌, not, length};
 ghost use Rattle.mdp_quot.specs.Quotient.{exits_at};
-ghost use Rattle.mdp_exits.specs.Few.{HasFewExits};
+ghost use Rattle.mdp_exits.specs.Sizes.{HasFewExits};
 ghost use Rattle.mdp_exits.specs.Problem.{steps_problem};
 
 use mdp_num::{Frac, Wide};
