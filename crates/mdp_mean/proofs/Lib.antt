@@ -6,3 +6,5 @@ mod ExcessOf
 mod Meets
 mod Adding
 mod Passing
+pub mod OneEnd
+mod Certified

@@ -99,6 +99,9 @@ module _ (dir : Dir) (m : Mdp) (ok : IsMdp m) (r : ℕ) (parts : List (Option �
   pub gains-len : length j.gains ≡ states_of m
   gains-len = length-map-range_with_len (λ s. value_at o.values (node s)) 0 (states_of m)
 
+  pub steps-len : length j.steps ≡ states_of m
+  steps-len = length-map-range_with_len (λ s. value_at n (node s)) 0 (states_of m)
+
   -- ---- the end components
 
   part-below : (s i : ℕ) → part_of parts s ≡ Some i → i < count_of parts

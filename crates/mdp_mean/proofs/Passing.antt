@@ -39,20 +39,20 @@ goes-through f Part Ends (Err solve.Memory) h s = tt
 
 -- ---- in the order of the parts
 
-module _ (dir : Dir) (m : Mdp) (r : ℕ) (parts : List (Option ℕ)) (are : AreEnds m parts) (q : Quotient) (is : IsQuotient m parts q) where
+module _ (dir : Dir) (m : Mdp) (r : ℕ) (parts : List (Option ℕ)) (are : AreEnds m parts) where
   pub ends-inner : (w : WideTerm) → InnersEndSo dir m parts r (Err w) → EndsSo dir m r (Err w)
-  ends-inner w h = record { parts = parts; quotient = q; are_ends = are; is_quotient = is; inner = Err w; inner_ends = h; after = refl }
+  ends-inner w h = record { parts = parts; are_ends = are; inner = Err w; inner_ends = h; after = refl }
 
-  module _ (x : Inners) (inner : InnersEndSo dir m parts r (Ok x)) where
+  module _ (x : Inners) (inner : InnersEndSo dir m parts r (Ok x)) (q : Quotient) (is : IsQuotient m parts q) where
     pub ends-outer : (w : WideTerm) → outer.OuterEndSo dir q x.gains (Err w) → EndsSo dir m r (Err w)
-    ends-outer w h = record { parts = parts; quotient = q; are_ends = are; is_quotient = is; inner = Ok x; inner_ends = inner; after = (Err w, h, refl) }
+    ends-outer w h = record { parts = parts; are_ends = are; inner = Ok x; inner_ends = inner; after = (q, is, (Err w, h, refl)) }
 
     module _ (o : outer.Answer) (exits : outer.OuterEndSo dir q x.gains (Ok o)) where
       pub ends-steps : (w : WideTerm) → StepsEndSo q (Err w) → EndsSo dir m r (Err w)
-      ends-steps w h = record { parts = parts; quotient = q; are_ends = are; is_quotient = is; inner = Ok x; inner_ends = inner; after = (Ok o, exits, (Err w, h, refl)) }
+      ends-steps w h = record { parts = parts; are_ends = are; inner = Ok x; inner_ends = inner; after = (q, is, (Ok o, exits, (Err w, h, refl))) }
 
       pub ends-join : (n : List ℚ) → StepsEndSo q (Ok n) → (p : Result Answer WideTerm) → JoinEndsSo (joining dir m r parts q x o n) p → EndsSo dir m r p
-      ends-join n steps p h = record { parts = parts; quotient = q; are_ends = are; is_quotient = is; inner = Ok x; inner_ends = inner; after = (Ok o, exits, (Ok n, steps, h)) }
+      ends-join n steps p h = record { parts = parts; are_ends = are; inner = Ok x; inner_ends = inner; after = (q, is, (Ok o, exits, (Ok n, steps, h))) }
 
 -- ---- the join
 

@@ -97,16 +97,17 @@ abbrev pub AfterOuter : Dir → Mdp → ℕ → List (Option ℕ) → Quotient �
 AfterOuter dir m r parts q x (Err w) p = p ≡ Err w
 AfterOuter dir m r parts q x (Ok o) p = (steps : Result (List ℚ) WideTerm) × StepsEndSo q steps × AfterSteps dir m r parts q x o steps p
 
-abbrev pub AfterInners : Dir → Mdp → ℕ → List (Option ℕ) → Quotient → Result Inners WideTerm → Result Answer WideTerm → Type 0
-AfterInners dir m r parts q (Err w) p = p ≡ Err w
-AfterInners dir m r parts q (Ok x) p = (outer : Result outer.Answer WideTerm) × OuterEndSo dir q x.gains outer × AfterOuter dir m r parts q x outer p
+abbrev pub AfterQuotient : Dir → Mdp → ℕ → List (Option ℕ) → Inners → Quotient → Result Answer WideTerm → Type 0
+AfterQuotient dir m r parts x q p = (outer : Result outer.Answer WideTerm) × OuterEndSo dir q x.gains outer × AfterOuter dir m r parts q x outer p
+
+abbrev pub AfterInners : Dir → Mdp → ℕ → List (Option ℕ) → Result Inners WideTerm → Result Answer WideTerm → Type 0
+AfterInners dir m r parts (Err w) p = p ≡ Err w
+AfterInners dir m r parts (Ok x) p = (q : Quotient) × IsQuotient m parts q × AfterQuotient dir m r parts x q p
 
 -- the query ends so
 pub record EndsSo (dir : Dir) (m : Mdp) (r : ℕ) (p : Result Answer WideTerm) : Type 0 where
   pub parts : List (Option ℕ)
-  pub quotient : Quotient
   pub are_ends : AreEnds m parts
-  pub is_quotient : IsQuotient m parts quotient
   pub inner : Result Inners WideTerm
   pub inner_ends : InnersEndSo dir m parts r inner
-  pub after : AfterInners dir m r parts quotient inner p
+  pub after : AfterInners dir m r parts inner p

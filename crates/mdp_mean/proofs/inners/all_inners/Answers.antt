@@ -1,4 +1,4 @@
-use Rattle.std.proofs.Common.{◌≡◌, ◌∙◌, ℕ, List, Ok, length, sym, subst, arith, get_or, ◌<◌}
+use Rattle.std.proofs.Common.{◌≡◌, ℕ, suc, ◌+◌, List, length, sym, subst, arith, get_or, ◌<◌}
 use Rattle.std.proofs.lemmas.Result.{err_from_is_err_and}
 use Rattle.mdp_spec.specs.Mdp.{states_of}
 use Rattle.mdp_gain.specs.Query.{members, plain}
@@ -38,5 +38,7 @@ add-requires-clause-choices c =
 
 pub loop-i-preserved : goal.loop-i-preserved
 loop-i-preserved c =
-    keeps-one c.args.dir c.args.model.now c.args.ends.now.parts c.args.m c.loop-i.i (plain c.in_ok-found.found) (inners_in c.loop-i.inners) (inners_in c.add.new.self) c.loop-i.invariant
-    (c.in_ok-add.ensures {u = tt}) (c.in_ok-found.ensures {u = tt}).best (c.in_ok-found.ensures {u = tt}).path
+    let next : suc c.loop-i.i ≡ c.loop-i.i + 1 = omega arith in
+    subst (λ k. Keeps c.args.dir c.args.model.now c.args.ends.now.parts c.args.m k (inners_in c.add.new.self)) next
+    (keeps-one c.args.dir c.args.model.now c.args.ends.now.parts c.args.m c.loop-i.i (plain c.in_ok-found.found) (inners_in c.loop-i.inners) (inners_in c.add.new.self) c.loop-i.invariant
+    (c.in_ok-add.ensures {u = tt}) (c.in_ok-found.ensures {u = tt}).best (c.in_ok-found.ensures {u = tt}).path)
