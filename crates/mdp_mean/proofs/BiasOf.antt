@@ -26,7 +26,6 @@ use Rattle.mdp_farkas.proofs.Summing.{written_sum-some}
 use Rattle.mdp_mean.specs.Terms.{Joining, reward_at, constant_by}
 use Rattle.mdp_mean.specs.Join.{Place, evaluating, constant, policy_rows, placed, eliminated, filled_by, filled, solved, written_bias}
 
-
 -- the values of active states, and others elsewhere
 abbrev mixed : List Bool → List ℚ → List ℚ → ℕ → ℚ
 mixed active x inner s = filled_by x inner s (is_active active s)
@@ -36,7 +35,7 @@ module _ (active : List Bool) (inner x : List ℚ) (outside : (s : ℕ) → is_a
   both_by : (y : Entry) (row : List Entry) (b : Bool) → is_active active y.target ≡ b
       → row_sum (outer active row) inner +ℚ row_sum row x ≡ weigh (λ (y : Entry). y.target) (λ (y : Entry). y.prob) (mixed active x inner) row
       → row_sum (if not b then y ∷ outer active row else outer active row) inner +ℚ row_sum (y ∷ row) x
-          ≡ y.prob *ℚ filled_by x inner y.target b +ℚ weigh (λ (y : Entry). y.target) (λ (y : Entry). y.prob) (mixed active x inner) row
+      ≡ y.prob *ℚ filled_by x inner y.target b +ℚ weigh (λ (y : Entry). y.target) (λ (y : Entry). y.prob) (mixed active x inner) row
   both_by y row true e h =
       combine 5 (λ o r w p x. o ⊕ (p ⊗ x ⊕ r)) (λ o r w p x. p ⊗ x ⊕ w) (λ o r w p x. equal (lit (pos 1)) (o ⊕ r) w ∷ []) refl
       (row_sum (outer active row) inner) (row_sum row x) (weigh (λ (y : Entry). y.target) (λ (y : Entry). y.prob) (mixed active x inner) row) y.prob (value_at x y.target) h

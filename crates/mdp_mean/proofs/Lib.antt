@@ -8,3 +8,4 @@ mod Adding
 mod Passing
 pub mod OneEnd
 mod Certified
+mod Examples

@@ -90,7 +90,7 @@ module _ (dir : Dir) (m : Mdp) (r : ℕ) (has : HasReward m r) (once : gain.HasO
 
   refused-same : (i k : ℕ) (v w : WideTerm) → IsRefused dir m parts r i v → IsRefused dir m parts r k w → i ≡ k
   refused-same i k v w a b = elim (le_or i k) as (λ _. i ≡ k) [
-    | inl le ↦ elim (le_or k i) as (λ _. i ≡ k) [ | inl ge ↦ omega (arith, le, ge) | inr lt ↦ absurd (refused-first i k v w a b (omega (arith, lt))) ]
+    | inl le ↦ elim (le_or k i) as (λ _. i ≡ k) [ inl ge ↦ omega (arith, le, ge) | inr lt ↦ absurd (refused-first i k v w a b (omega (arith, lt))) ]
     | inr lt ↦ absurd (refused-first k i w v b a (omega (arith, lt)))
   ]
 

@@ -11,12 +11,7 @@ use mdp_farkas::{MeanCert, Verdict, holds_mean};
 use mdp_rows::{Dir, Model};
 
 /// A certificate that meets the rules, where no term of its check is past width.
-pub(crate) fn held(
-    model: &Model,
-    m: u32,
-    dir: Dir,
-    cert: MeanCert,
-) -> Result<MeanCert, SolveError>
+pub(crate) fn held(model: &Model, m: u32, dir: Dir, cert: MeanCert) -> Result<MeanCert, SolveError>
     requires name { m < length model.now.names }
     requires gains { length cert.gains.items ≡ states_of model.now }
     requires rules { MeetsMean dir model.now m cert.gains.items cert.bound.items cert.bias.items cert.spread cert.choices.items }

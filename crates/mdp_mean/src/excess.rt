@@ -50,12 +50,7 @@ fn greater(first: Frac, second: Frac) -> Result<Frac, Wide>
 }
 
 /// The greater of the excess of choice `c` of state `s` and the greatest one so far.
-fn greater_excess(
-    join: &Joining<'_>,
-    s: u32,
-    c: u32,
-    greatest: Frac,
-) -> Result<Frac, Wide>
+fn greater_excess(join: &Joining<'_>, s: u32, c: u32, greatest: Frac) -> Result<Frac, Wide>
     requires state { s < states_of join.now.model.now }
     requires choice { c < length (choices_at join.now.model.now s) }
     ensures { result_ok result ≡ greater_excess (joining_in join.now) s c greatest }
@@ -79,12 +74,7 @@ fn at_choice(step: Result<Frac, Wide>, s: u32, c: u32) -> Result<Frac, JoinError
 }
 
 /// The greatest excess so far and of choice `c` of state `s`, where that is an exit.
-fn after_choice(
-    join: &Joining<'_>,
-    s: u32,
-    c: u32,
-    greatest: Frac,
-) -> Result<Frac, JoinError>
+fn after_choice(join: &Joining<'_>, s: u32, c: u32, greatest: Frac) -> Result<Frac, JoinError>
     requires state { s < states_of join.now.model.now }
     requires choice { c < length (choices_at join.now.model.now s) }
     ensures { Answers (λ d. d) result (after_choice (joining_in join.now) s c greatest) }
@@ -96,11 +86,7 @@ fn after_choice(
 }
 
 /// The greatest excess so far and of the exits among the choices of state `s`.
-fn after_state(
-    join: &Joining<'_>,
-    s: u32,
-    greatest: Frac,
-) -> Result<Frac, JoinError>
+fn after_state(join: &Joining<'_>, s: u32, greatest: Frac) -> Result<Frac, JoinError>
     requires state { s < states_of join.now.model.now }
     ensures { Answers (λ d. d) result (after_state (joining_in join.now) s greatest) }
 {

@@ -9,7 +9,9 @@ mod excess;
 mod inners;
 mod join;
 mod joining;
+mod laws;
 mod parts;
 mod solve;
 
+pub use laws::mean_law;
 pub use solve::solve_mean;

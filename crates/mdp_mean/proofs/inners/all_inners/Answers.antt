@@ -23,18 +23,18 @@ add-requires-clause-biases c =
     let m = c.args.model.now in
     let states = (c.in_ok-found.ensures {u = tt}).best.states in
     λ k h.
-      (let l : k < length (members m c.args.ends.now.parts c.loop-i.i) = subst (λ (xs : List ℕ). k < length xs) states h in
-      subst (λ n. get_or c.in_ok-found.found.states.items k 0 < n) (sym c.loop-i.invariant.inners.bias_each)
-      (subst (λ (xs : List ℕ). get_or xs k 0 < states_of m) (sym states) (members-below m c.args.ends.now.parts c.loop-i.i k l)))
+    (let l : k < length (members m c.args.ends.now.parts c.loop-i.i) = subst (λ (xs : List ℕ). k < length xs) states h in
+    subst (λ n. get_or c.in_ok-found.found.states.items k 0 < n) (sym c.loop-i.invariant.inners.bias_each)
+    (subst (λ (xs : List ℕ). get_or xs k 0 < states_of m) (sym states) (members-below m c.args.ends.now.parts c.loop-i.i k l)))
 
 pub add-requires-clause-choices : goal.add-requires-clause-choices
 add-requires-clause-choices c =
     let m = c.args.model.now in
     let states = (c.in_ok-found.ensures {u = tt}).best.states in
     λ k h.
-      (let l : k < length (members m c.args.ends.now.parts c.loop-i.i) = subst (λ (xs : List ℕ). k < length xs) states h in
-      subst (λ n. get_or c.in_ok-found.found.states.items k 0 < n) (sym c.loop-i.invariant.inners.choice_each)
-      (subst (λ (xs : List ℕ). get_or xs k 0 < states_of m) (sym states) (members-below m c.args.ends.now.parts c.loop-i.i k l)))
+    (let l : k < length (members m c.args.ends.now.parts c.loop-i.i) = subst (λ (xs : List ℕ). k < length xs) states h in
+    subst (λ n. get_or c.in_ok-found.found.states.items k 0 < n) (sym c.loop-i.invariant.inners.choice_each)
+    (subst (λ (xs : List ℕ). get_or xs k 0 < states_of m) (sym states) (members-below m c.args.ends.now.parts c.loop-i.i k l)))
 
 pub loop-i-preserved : goal.loop-i-preserved
 loop-i-preserved c =

@@ -56,7 +56,7 @@ pub at_nodes-requires-2-clause-below : goal.at_nodes-requires-2-clause-below
 at_nodes-requires-2-clause-below c =
     let P = c.args.parts.now in
     λ s h. subst (λ k. slice_index P.quotient.now.nodes s < k) (sym c.requires.steps.count)
-      (node_below c.args.model.now c.known.ensures.mdp P.ends.now.parts c.requires.ends.ends P.quotient.now c.requires.quotient s h)
+    (node_below c.args.model.now c.known.ensures.mdp P.ends.now.parts c.requires.ends.ends P.quotient.now c.requires.quotient s h)
 
 pub invariant_of-join : goal.invariant_of-join
 invariant_of-join c =
@@ -74,13 +74,13 @@ invariant_of-join c =
       width = c.requires.ends.width;
       inside = c.requires.ends.inner;
       chosen = subst (λ (xs : List ℕ). IsPolicy m xs) (sym (c.deref-5.ensures.value ∙ policy)) (policy-is c.args.dir c.args.model.now c.known.ensures.mdp c.args.m P.ends.now.parts c.requires.ends.ends P.quotient.now c.requires.quotient (inners_in P.inner.now) c.requires.inner
-    (outer.plain P.outer.now) c.requires.outer P.steps.now c.requires.steps);
+          (outer.plain P.outer.now) c.requires.outer P.steps.now c.requires.steps);
       marks = ap length active ∙ marks-len c.args.dir c.args.model.now c.known.ensures.mdp c.args.m P.ends.now.parts c.requires.ends.ends P.quotient.now c.requires.quotient (inners_in P.inner.now) c.requires.inner
-    (outer.plain P.outer.now) c.requires.outer P.steps.now c.requires.steps;
+          (outer.plain P.outer.now) c.requires.outer P.steps.now c.requires.steps;
       gain_each = ap length (c.deref-6.ensures.value ∙ gains) ∙ gains-len c.args.dir c.args.model.now c.known.ensures.mdp c.args.m P.ends.now.parts c.requires.ends.ends P.quotient.now c.requires.quotient (inners_in P.inner.now) c.requires.inner
-    (outer.plain P.outer.now) c.requires.outer P.steps.now c.requires.steps;
+          (outer.plain P.outer.now) c.requires.outer P.steps.now c.requires.steps;
       steps_each = ap length (c.deref-7.ensures.value ∙ steps) ∙ steps-len c.args.dir c.args.model.now c.known.ensures.mdp c.args.m P.ends.now.parts c.requires.ends.ends P.quotient.now c.requires.quotient (inners_in P.inner.now) c.requires.inner
-    (outer.plain P.outer.now) c.requires.outer P.steps.now c.requires.steps;
+          (outer.plain P.outer.now) c.requires.outer P.steps.now c.requires.steps;
       bias_each = ap length c.deref-8.ensures.value ∙ c.requires.inner.bias_each;
     }
 
@@ -97,8 +97,10 @@ joined-requires c =
     let same =
     same-joining k c.deref-5.result.now c.in_ok-active.active c.deref-6.result.now c.deref-7.result.now c.deref-8.result.now (c.deref-5.ensures.value ∙ policy) active (c.deref-6.ensures.value ∙ gains)
     (c.deref-7.ensures.value ∙ steps) c.deref-8.ensures.value in
-    record { leaves = subst (λ (j : Joining). (ranks : List ℕ) × Leaves (policy_rows j) j.active ranks) (sym same) (can_leave c.args.dir c.args.model.now c.known.ensures.mdp c.args.m P.ends.now.parts c.requires.ends.ends P.quotient.now c.requires.quotient (inners_in P.inner.now) c.requires.inner
-    (outer.plain P.outer.now) c.requires.outer P.steps.now c.requires.steps) }
+    record {
+      leaves = subst (λ (j : Joining). (ranks : List ℕ) × Leaves (policy_rows j) j.active ranks) (sym same) (can_leave c.args.dir c.args.model.now c.known.ensures.mdp c.args.m P.ends.now.parts c.requires.ends.ends P.quotient.now c.requires.quotient (inners_in P.inner.now) c.requires.inner
+          (outer.plain P.outer.now) c.requires.outer P.steps.now c.requires.steps);
+    }
 
 pub returns-in-Err-clause-join : goal.returns-in-Err-clause-join
 returns-in-Err-clause-join c =
