@@ -1,5 +1,5 @@
 -- Answers of steps at a place, and computations that take the steps 0, .., n - 1.
-use Rattle.std.proofs.Common.{◌≡◌, ℕ, zero, suc, ◌<◌, inl, inr, Option, Result, Ok, Err, refl, sym, ap, ◌∙◌, subst, arith}
+use Rattle.std.proofs.Common.{◌≡◌, ℕ, zero, suc, ◌<◌, inl, inr, Option, Some, None, Result, Ok, Err, refl, sym, ap, ◌∙◌, subst, arith}
 use Rattle.std.specs.Result.{result_ok}
 use Rattle.mdp_math.specs.Result.{◌>>=◌}
 use Rattle.mdp_math.proofs.Numbers.{last_or}
@@ -78,3 +78,8 @@ at-ok r o step x d e = ap (at_place r) (sym d ∙ ap result_ok e)
 
 pub at-err : {A R : Type 0} (r : R) (o : Option A) (step : Result A Wide) (w : Wide) → result_ok step ≡ o → step ≡ Err w → at_place r o ≡ Err r
 at-err r o step w d e = ap (at_place r) (sym d ∙ ap result_ok e)
+
+-- the same of the whole answer
+pub at-answers : {A : Type 0} (kind : Kind) (s c : Option ℕ) (o : Option A) (step : Result A Wide) → result_ok step ≡ o → Answers (λ (x : A). x) (placed_at kind s c step) (at_place (place_of kind s c) o)
+at-answers kind s c o (Ok x) d = ap (at_place (place_of kind s c)) (sym d)
+at-answers kind s c o (Err w) d = ap (at_place (place_of kind s c)) (sym d)

@@ -1,6 +1,6 @@
 -- The written bias solves the policy's equation where nodes are left, and is the inner one elsewhere.
-use Rattle.std.proofs.Common.{◌≡◌, ℕ, ◌<◌, inl, Bool, true, false, not, if◌then◌else◌, List, [], ◌∷◌, length}
-use Rattle.std.proofs.Common.{Some, Result, Ok, Err, refl, sym, ap, ◌∙◌, subst, arith, pos, zero-add}
+use Rattle.std.proofs.Common.{◌≡◌, ℕ, ◌<◌, inl, Bool, true, false, not, if◌then◌else◌, List, [], ◌∷◌, length, map, get_or, Some, Result, Ok, Err, refl, sym, ap, ap₂, ◌∙◌, subst, arith, pos, negsuc, zero-add}
+use Rattle.std.specs.List.{range_with_len}
 use Rattle.std.specs.Prelude.{slice_index, slice_index_or}
 use Rattle.std.proofs.lemmas.List.FromFn.{get_or-map-range_with_len, length-map-range_with_len}
 use Rattle.mdp_math.specs.Rational.{ℚ, ◌+ℚ◌, ◌-ℚ◌, ◌*ℚ◌}
@@ -8,7 +8,7 @@ use Rattle.mdp_math.specs.Kernel.{weigh}
 use Rattle.mdp_math.proofs.Laws.{zero-+ℚ}
 use Rattle.mdp_math.proofs.Options.{step_told}
 use Rattle.mdp_math.proofs.Written.{written_add-some}
-use Rattle.mdp_math.proofs.Ring.{◌⊕◌, ◌⊗◌, lit}
+use Rattle.mdp_math.proofs.Ring.{◌⊕◌, ◌⊗◌, ⊖, lit}
 use Rattle.mdp_math.proofs.Linear.{combine, equal}
 use Rattle.mdp_math.proofs.Kernel.{weigh-same}
 use Rattle.mdp_spec.specs.Mdp.{Entry, states_of, row_at, value_at}
@@ -24,7 +24,7 @@ use Rattle.mdp_path.proofs.Results.{ok_same, ok_part, place_part, IsUpTo, up_to-
 use Rattle.mdp_farkas.specs.Compare.{0ℚ}
 use Rattle.mdp_farkas.proofs.Summing.{written_sum-some}
 use Rattle.mdp_mean.specs.Terms.{Joining, reward_at, constant_by}
-use Rattle.mdp_mean.specs.Join.{evaluating, constant, policy_rows, placed, eliminated, filled_by, filled, solved, written_bias}
+use Rattle.mdp_mean.specs.Join.{Place, evaluating, constant, policy_rows, placed, eliminated, filled_by, filled, solved, written_bias}
 
 -- the values of active states, and others elsewhere
 abbrev mixed : List Bool → List ℚ → List ℚ → ℕ → ℚ
@@ -77,12 +77,10 @@ module _ (j : Joining) (rows : AreRows (policy_rows j)) (marks : length j.active
 
   module _ (constants x : List ℚ) (made : IsUpTo (constant j) (states_of j.model) constants) (sol : IsSolution (policy_rows j) j.active constants x) where
     row_sum-filled : (s : ℕ) → s < states_of j.model
-        → row_sum (outer j.active (row_at j.model s (slice_index j.policy s))) j.inner +ℚ row_sum (row_at j.model s (slice_index j.policy s)) x ≡ row_sum (row_at j.model s
-        (slice_index j.policy s)) (filled j x)
+        → row_sum (outer j.active (row_at j.model s (slice_index j.policy s))) j.inner +ℚ row_sum (row_at j.model s (slice_index j.policy s)) x ≡ row_sum (row_at j.model s (slice_index j.policy s)) (filled j x)
     row_sum-filled s l =
         let row = row_at j.model s (slice_index j.policy s) in
-        let is : IsRow (states_of j.model) row = subst (λ n. IsRow n row) rows-len (subst (λ (r : List Entry). IsRow (length (policy_rows j)) r) (row-at s l) (rows s [] (omega
-        (arith, l, rows-len)))) in
+        let is : IsRow (states_of j.model) row = subst (λ n. IsRow n row) rows-len (subst (λ (r : List Entry). IsRow (length (policy_rows j)) r) (row-at s l) (rows s [] (omega (arith, l, rows-len)))) in
         both j.active j.inner x sol.outside row
         ∙ weigh-same (λ (y : Entry). y.target) (λ (y : Entry). y.prob) (mixed j.active x j.inner) (value_at (filled j x)) row (λ k d u. sym (filled-at x _ (is.in_range k d u)))
 

@@ -1,5 +1,5 @@
 -- What ends a part of a query ends the query.
-use Rattle.std.proofs.Common.{◌≡◌, ℕ, Bool, List, Option, Result, Ok, Err, Vec, refl, sym, ap, ◌∙◌, subst}
+use Rattle.std.proofs.Common.{◌≡◌, ℕ, Bool, List, Option, Result, Ok, Err, Vec, refl, sym, ap, ap₂, ◌∙◌, subst}
 use Rattle.std.specs.Global.{Global}
 use Rattle.mdp_math.specs.Rational.{ℚ}
 use Rattle.mdp_spec.specs.Mdp.{Mdp}
@@ -21,8 +21,7 @@ use Rattle.mdp_mean.specs.declared.errors.JoinError.{JoinError}
 use Rattle.mdp_mean.specs.declared.errors.JoinError.TheVariants as fault
 
 -- an error that is returned
-pub solves-err : {A B : Type 0} (f : A → B) (Ends : Result B WideTerm → Type 0) (result : Result A SolveError) (e d : SolveError) → result ≡ Err e → e ≡ d → Solves f Ends (Err d)
-    → Solves f Ends result
+pub solves-err : {A B : Type 0} (f : A → B) (Ends : Result B WideTerm → Type 0) (result : Result A SolveError) (e d : SolveError) → result ≡ Err e → e ≡ d → Solves f Ends (Err d) → Solves f Ends result
 solves-err f Ends result e d q p h =
     subst (λ (x : Result _ SolveError). Solves f Ends x) (sym q) (subst (λ (x : SolveError). Solves f Ends (Err x)) (sym p) h)
 
@@ -59,18 +58,14 @@ module _ (dir : Dir) (m : Mdp) (r : ℕ) (parts : List (Option ℕ)) (are : AreE
 
 module _ (j : Joining) where
   -- the lists that the code holds are those that are joined
-  abbrev pub with_lists : List ℕ → List Bool → List ℚ → List ℚ → List ℚ → Joining
-  with_lists policy active gains steps inner =
-      record { dir = j.dir; model = j.model; name = j.name; parts = j.parts; policy = policy; active = active; gains = gains; steps = steps; inner = inner }
-
   pub same-joining : (policy : List ℕ) (active : List Bool) (gains steps inner : List ℚ) → policy ≡ j.policy → active ≡ j.active → gains ≡ j.gains → steps ≡ j.steps → inner ≡ j.inner
-      → with_lists policy active gains steps inner ≡ j
+      → (let k : Joining = record { dir = j.dir; model = j.model; name = j.name; parts = j.parts; policy = policy; active = active; gains = gains; steps = steps; inner = inner } in k) ≡ j
   same-joining policy active gains steps inner p a g s i =
-      ap (λ (p : List ℕ). with_lists p active gains steps inner) p
-      ∙ ap (λ (a : List Bool). with_lists j.policy a gains steps inner) a
-      ∙ ap (λ (g : List ℚ). with_lists j.policy j.active g steps inner) g
-      ∙ ap (λ (s : List ℚ). with_lists j.policy j.active j.gains s inner) s
-      ∙ ap (λ (i : List ℚ). with_lists j.policy j.active j.gains j.steps i) i
+      ap (λ (p : List ℕ). let k : Joining = record { dir = j.dir; model = j.model; name = j.name; parts = j.parts; policy = p; active = active; gains = gains; steps = steps; inner = inner } in k) p
+      ∙ ap (λ (a : List Bool). let k : Joining = record { dir = j.dir; model = j.model; name = j.name; parts = j.parts; policy = j.policy; active = a; gains = gains; steps = steps; inner = inner } in k) a
+      ∙ ap (λ (g : List ℚ). let k : Joining = record { dir = j.dir; model = j.model; name = j.name; parts = j.parts; policy = j.policy; active = j.active; gains = g; steps = steps; inner = inner } in k) g
+      ∙ ap (λ (s : List ℚ). let k : Joining = record { dir = j.dir; model = j.model; name = j.name; parts = j.parts; policy = j.policy; active = j.active; gains = j.gains; steps = s; inner = inner } in k) s
+      ∙ ap (λ (i : List ℚ). let k : Joining = record { dir = j.dir; model = j.model; name = j.name; parts = j.parts; policy = j.policy; active = j.active; gains = j.gains; steps = j.steps; inner = i } in k) i
 
   refused_by : (policy : List ℕ) (w : Result Joined Place) (x : Place) → policy ≡ j.policy → w ≡ Err x → AfterJoin j w (Err (term_at policy x))
   refused_by policy w x p e =

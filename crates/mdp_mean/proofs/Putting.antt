@@ -1,7 +1,7 @@
 -- Entries that are written from the last one back: where a number stands more than once, the first one's entry is left.
-use Rattle.std.proofs.Common.{◌≡◌, ℕ, suc, ◌<◌, Bool, true, false, cond, ◌==◌, List, ◌∷◌, length, get_or, set, drop, refl, sym, ap, ◌∙◌, subst, arith}
+use Rattle.std.proofs.Common.{◌≡◌, ℕ, suc, ◌+◌, ◌<◌, inl, inr, Bool, true, false, cond, ◌==◌, List, [], ◌∷◌, length, get_or, set, drop, refl, sym, ap, ◌∙◌, subst, arith}
 use Rattle.std.proofs.Math.Seq.{drop-cons}
-use Rattle.std.proofs.lemmas.Bool.{eqb-true, eq-eqb, false≢true}
+use Rattle.std.proofs.lemmas.Bool.{cases_Bool, eqb-true, eq-eqb, false≢true}
 use Rattle.std.proofs.lemmas.List.{get_or-set_same, get_or-set_other, length-set}
 use Rattle.mdp_gain.specs.Best.{entry_of}
 
@@ -20,8 +20,7 @@ module _ {A : Type 0} (d : A) (old : List A) (states : List ℕ) (entries : List
       (get_or-set_same values (get_or states k 0) x d (omega (arith, below k l, p.count)) ∙ e)
   put-at k values x l e p s false is = get_or-set_other values (get_or states k 0) s x d (λ q. false≢true (sym is ∙ eq-eqb (get_or states k 0) s (sym q))) ∙ p.at s
 
-  pub put-one : (k : ℕ) (values : List A) (x : A) → k < length states → x ≡ get_or entries k d → IsPut d old states entries (suc k) values
-      → IsPut d old states entries k (set values (get_or states k 0) x)
+  pub put-one : (k : ℕ) (values : List A) (x : A) → k < length states → x ≡ get_or entries k d → IsPut d old states entries (suc k) values → IsPut d old states entries k (set values (get_or states k 0) x)
   put-one k values x l e p = record {
     count = length-set values (get_or states k 0) x ∙ p.count;
     at = λ s.

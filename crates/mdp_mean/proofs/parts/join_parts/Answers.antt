@@ -1,4 +1,4 @@
-use Rattle.std.proofs.Common.{◌≡◌, ◌∙◌, ◌<◌, ℕ, List, Ok, Err, length, sym, ap, ap₂, subst, slice_index}
+use Rattle.std.proofs.Common.{◌≡◌, ◌∙◌, ◌<◌, ℕ, List, Ok, Err, length, map, sym, ap, ap₂, subst, arith, slice_index}
 use Rattle.mdp_math.specs.Rational.{ℚ}
 use Rattle.mdp_spec.specs.Tree.{IsPolicy}
 use Rattle.mdp_elim.specs.System.{Leaves}
@@ -9,9 +9,9 @@ use Rattle.mdp_quot.specs.Lifting.{IsInner}
 use Rattle.mdp_exits.proofs.InModel.{node_below}
 use Rattle.mdp_farkas.specs.Mean.{MeetsMean}
 use Rattle.mdp_mean.specs.Terms.{Joining}
-use Rattle.mdp_mean.specs.Join.{policy_rows, written_join}
+use Rattle.mdp_mean.specs.Join.{Place, Joined, policy_rows, written_join}
 use Rattle.mdp_mean.specs.Code.{shown}
-use Rattle.mdp_mean.specs.Faults.{Says}
+use Rattle.mdp_mean.specs.Faults.{Answers, Says}
 use Rattle.mdp_mean.specs.PartsCode.{inners_in, joining_of}
 use Rattle.mdp_mean.specs.Query.{Answer, plain, at_nodes, leaving, JoinEndsSo}
 use Rattle.mdp_exits.specs.Outer as outer
@@ -73,17 +73,13 @@ invariant_of-join c =
       found = c.requires.ends.count;
       width = c.requires.ends.width;
       inside = c.requires.ends.inner;
-      chosen = subst (λ (xs : List ℕ). IsPolicy m xs) (sym (c.deref-5.ensures.value ∙ policy)) (policy-is c.args.dir c.args.model.now c.known.ensures.mdp
-          c.args.m P.ends.now.parts c.requires.ends.ends P.quotient.now c.requires.quotient (inners_in P.inner.now) c.requires.inner
+      chosen = subst (λ (xs : List ℕ). IsPolicy m xs) (sym (c.deref-5.ensures.value ∙ policy)) (policy-is c.args.dir c.args.model.now c.known.ensures.mdp c.args.m P.ends.now.parts c.requires.ends.ends P.quotient.now c.requires.quotient (inners_in P.inner.now) c.requires.inner
           (outer.plain P.outer.now) c.requires.outer P.steps.now c.requires.steps);
-      marks = ap length active ∙ marks-len c.args.dir c.args.model.now c.known.ensures.mdp c.args.m P.ends.now.parts c.requires.ends.ends P.quotient.now c.requires.quotient
-          (inners_in P.inner.now) c.requires.inner
+      marks = ap length active ∙ marks-len c.args.dir c.args.model.now c.known.ensures.mdp c.args.m P.ends.now.parts c.requires.ends.ends P.quotient.now c.requires.quotient (inners_in P.inner.now) c.requires.inner
           (outer.plain P.outer.now) c.requires.outer P.steps.now c.requires.steps;
-      gain_each = ap length (c.deref-6.ensures.value ∙ gains) ∙ gains-len c.args.dir c.args.model.now c.known.ensures.mdp c.args.m P.ends.now.parts
-          c.requires.ends.ends P.quotient.now c.requires.quotient (inners_in P.inner.now) c.requires.inner
+      gain_each = ap length (c.deref-6.ensures.value ∙ gains) ∙ gains-len c.args.dir c.args.model.now c.known.ensures.mdp c.args.m P.ends.now.parts c.requires.ends.ends P.quotient.now c.requires.quotient (inners_in P.inner.now) c.requires.inner
           (outer.plain P.outer.now) c.requires.outer P.steps.now c.requires.steps;
-      steps_each = ap length (c.deref-7.ensures.value ∙ steps) ∙ steps-len c.args.dir c.args.model.now c.known.ensures.mdp c.args.m P.ends.now.parts
-          c.requires.ends.ends P.quotient.now c.requires.quotient (inners_in P.inner.now) c.requires.inner
+      steps_each = ap length (c.deref-7.ensures.value ∙ steps) ∙ steps-len c.args.dir c.args.model.now c.known.ensures.mdp c.args.m P.ends.now.parts c.requires.ends.ends P.quotient.now c.requires.quotient (inners_in P.inner.now) c.requires.inner
           (outer.plain P.outer.now) c.requires.outer P.steps.now c.requires.steps;
       bias_each = ap length c.deref-8.ensures.value ∙ c.requires.inner.bias_each;
     }
@@ -102,8 +98,7 @@ joined-requires c =
     same-joining k c.deref-5.result.now c.in_ok-active.active c.deref-6.result.now c.deref-7.result.now c.deref-8.result.now (c.deref-5.ensures.value ∙ policy) active (c.deref-6.ensures.value ∙ gains)
     (c.deref-7.ensures.value ∙ steps) c.deref-8.ensures.value in
     record {
-      leaves = subst (λ (j : Joining). (ranks : List ℕ) × Leaves (policy_rows j) j.active ranks) (sym same) (can_leave c.args.dir c.args.model.now c.known.ensures.mdp
-          c.args.m P.ends.now.parts c.requires.ends.ends P.quotient.now c.requires.quotient (inners_in P.inner.now) c.requires.inner
+      leaves = subst (λ (j : Joining). (ranks : List ℕ) × Leaves (policy_rows j) j.active ranks) (sym same) (can_leave c.args.dir c.args.model.now c.known.ensures.mdp c.args.m P.ends.now.parts c.requires.ends.ends P.quotient.now c.requires.quotient (inners_in P.inner.now) c.requires.inner
           (outer.plain P.outer.now) c.requires.outer P.steps.now c.requires.steps);
     }
 
@@ -139,8 +134,7 @@ held-requires-clause-rules c =
     let made : written_join k ≡ Ok (shown c.in-Ok.values) = ap written_join (sym same) ∙ c.in-Ok.ensures {u = tt} in
     let v = shown c.in-Ok.values in
     subst (λ (g : List ℚ). MeetsMean c.args.dir m c.args.m g v.bound v.bias v.spread c.in_ok-policy.policy.items) (sym gains)
-    (subst (λ (xs : List ℕ). MeetsMean c.args.dir m c.args.m k.gains v.bound v.bias v.spread xs) (sym policy) (meets c.args.dir c.args.model.now c.known.ensures.mdp
-    c.args.m P.ends.now.parts c.requires.ends.ends P.quotient.now c.requires.quotient (inners_in P.inner.now) c.requires.inner
+    (subst (λ (xs : List ℕ). MeetsMean c.args.dir m c.args.m k.gains v.bound v.bias v.spread xs) (sym policy) (meets c.args.dir c.args.model.now c.known.ensures.mdp c.args.m P.ends.now.parts c.requires.ends.ends P.quotient.now c.requires.quotient (inners_in P.inner.now) c.requires.inner
     (outer.plain P.outer.now) c.requires.outer P.steps.now c.requires.steps c.requires.name v made))
 
 pub returns-clause-join : goal.returns-clause-join
@@ -159,5 +153,4 @@ returns-clause-join c =
     let made : written_join k ≡ Ok (shown c.in-Ok.values) = ap written_join (sym same) ∙ c.in-Ok.ensures {u = tt} in
     let v = shown c.in-Ok.values in
     let e = ap₂ (λ (g : List ℚ) (xs : List ℕ). let a : Answer = record { gains = g; bound = v.bound; bias = v.bias; choices = xs; spread = v.spread } in a) gains policy in
-    join-held k (let a : Answer = record { gains = c.in_ok-gains.gains.items; bound = v.bound; bias = v.bias; choices = c.in_ok-policy.policy.items; spread = v.spread } in a) v
-    c.held.result e made c.held.ensures.held
+    join-held k (let a : Answer = record { gains = c.in_ok-gains.gains.items; bound = v.bound; bias = v.bias; choices = c.in_ok-policy.policy.items; spread = v.spread } in a) v c.held.result e made c.held.ensures.held

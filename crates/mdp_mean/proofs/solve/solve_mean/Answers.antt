@@ -8,7 +8,7 @@ use Rattle.mdp_exits.specs.Outer as outer
 use Rattle.mdp_exits.specs.Steps.{StepsEndSo}
 use Rattle.mdp_exits.proofs.InModel.{gains-each}
 use Rattle.mdp_mean.specs.Inners.{InnersEndSo}
-use Rattle.mdp_mean.specs.PartsCode.{inners_in}
+use Rattle.mdp_mean.specs.PartsCode.{inners_in, joining_of}
 use Rattle.mdp_mean.specs.Query.{plain, joining, JoinEndsSo, EndsSo}
 use Rattle.mdp_mean.proofs.Passing.{solves-err, passed-on, goes-through, ends-inner, ends-outer, ends-steps, ends-join}
 use Rattle.mdp_mean.proofs.solve.solve_mean.Goals as goal
@@ -63,6 +63,5 @@ returns-clause-path c =
     let n = c.in_ok-steps.steps.items in
     let exits = subst (λ (g : List ℚ). outer.OuterEndSo c.args.dir q g (Ok o)) c.deref.ensures.value (c.in_ok-outer.ensures {u = tt}).path in
     goes-through plain (JoinEndsSo (joining c.args.dir m c.args.m parts q x o n)) (EndsSo c.args.dir m c.args.m) c.join_parts.result
-    (ends-join c.args.dir m c.args.m parts (c.in_ok-ends.ensures {u = tt}).ends x (c.in_ok-inner.ensures {u = tt}).path q (c.in_ok-quotient.ensures {u = tt}) o exits n
-    (c.in_ok-steps.ensures {u = tt}).path)
+    (ends-join c.args.dir m c.args.m parts (c.in_ok-ends.ensures {u = tt}).ends x (c.in_ok-inner.ensures {u = tt}).path q (c.in_ok-quotient.ensures {u = tt}) o exits n (c.in_ok-steps.ensures {u = tt}).path)
     (subst (λ (s : List ℚ). Solves plain (JoinEndsSo (joining c.args.dir m c.args.m parts q x o s)) c.join_parts.result) c.deref-2.ensures.value c.join_parts.ensures.join)
