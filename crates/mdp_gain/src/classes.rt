@@ -246,7 +246,11 @@ fn in_changed_class(
 }
 
 /// The least state of a closed class with a changed state.
-fn least_changed(component: &EndComponent<'_, '_>, classes: &Classes, changed: &Marks) -> Option<u32>
+fn least_changed(
+    component: &EndComponent<'_, '_>,
+    classes: &Classes,
+    changed: &Marks,
+) -> Option<u32>
     requires given { IsGiven component.now }
     requires parts { length classes.now.parts.items ≡ count (component_in component.now) }
     requires below { (s : ℕ) → s < count (component_in component.now) → slice_index classes.now.parts.items s < count (component_in component.now) }

@@ -1,4 +1,4 @@
-ghost use Rattle.std.specs.Prelude.{ℕ};
+ghost use Rattle.std.specs.Prelude.{ℕ, ◌≡◌, ◌≢◌, true, false};
 ghost use Rattle.mdp_unichain.specs.Chain.{IsReference};
 ghost use Rattle.mdp_unichain.specs.Component.{is_state, row_by};
 ghost use Rattle.mdp_unichain.specs.Path.{IsStart};
@@ -21,6 +21,14 @@ pub(crate) enum RoundEnd {
     Next(Vec<u32>),
 }
 
+/// Whether two policies are the same.
+fn is_same(policy: &[u32], other: &[u32]) -> bool
+    ensures same { result ≡ true → policy.now ≡ other.now }
+    ensures other { result ≡ false → policy.now ≢ other.now }
+{
+    policy == other
+}
+
 /// One round of a policy with reference `t`: its gain and biases, and the choices that improve it.
 pub(crate) fn round_of(
     alloc: Global,
@@ -38,7 +46,7 @@ pub(crate) fn round_of(
     solution_law();
     let values = evaluate(alloc, component, policy, t)?;
     let improved = improved(alloc, component, policy, &values)?;
-    if improved.as_slice() == policy {
+    if is_same(&improved, policy) {
         return Ok(RoundEnd::Done(values, t));
     }
     Ok(RoundEnd::Next(next_policy(alloc, component, policy, improved)?))

@@ -12,5 +12,8 @@ returns-in-Some c =
 
 pub returns-in-None : goal.returns-in-None
 returns-in-None c =
-    inl (refl, subst (λ (xs : List ℕ). Picks (component_in c.args.component.now) c.args.policy.now xs None) c.deref.ensures.value
-    (subst (λ (o : Option (List Bool)). Picks (component_in c.args.component.now) c.args.policy.now c.deref.result.now o) c.in-None.is (c.in_ok-class.ensures {u = tt})))
+    inl (
+      refl,
+      subst (λ (xs : List ℕ). Picks (component_in c.args.component.now) c.args.policy.now xs None) c.deref.ensures.value
+          (subst (λ (o : Option (List Bool)). Picks (component_in c.args.component.now) c.args.policy.now c.deref.result.now o) c.in-None.is (c.in_ok-class.ensures {u = tt})),
+    )
