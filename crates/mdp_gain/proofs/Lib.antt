@@ -1,0 +1,13 @@
+mod Allowing
+mod Answering
+mod BestInner
+mod Columns
+mod Flagging
+mod GainLaws
+mod Given
+mod Listed
+mod NextPolicy
+mod Rounds
+mod Solving
+mod Starting
+mod Told

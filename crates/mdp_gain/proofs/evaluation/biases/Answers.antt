@@ -1,0 +1,26 @@
+use Rattle.std.proofs.Common.{◌∙◌, ◌+◌, ℕ, Result, Ok, sym, ap, arith}
+use Rattle.std.proofs.lemmas.Result.{err_from_is_err_and}
+use Rattle.mdp_math.specs.Rational.{ℚ}
+use Rattle.mdp_path.specs.Places.{Place}
+use Rattle.mdp_path.proofs.Answering.{up_to-more, up_to-refused}
+use Rattle.mdp_unichain.specs.Component.{count}
+use Rattle.mdp_unichain.specs.Written.{bias_of}
+use Rattle.mdp_gain.specs.Code.{component_in}
+use Rattle.mdp_gain.proofs.Answering.{Says-then, says_of, says_same, answers_err}
+use Rattle.mdp_gain.proofs.evaluation.biases.Goals as goal
+
+pub loop-s-preserved : goal.loop-s-preserved
+loop-s-preserved c =
+    let f : ℕ → Result ℚ Place = bias_of (component_in c.args.component.now) c.args.policy.now c.args.t c.args.gain.now c.args.x.now c.args.y.now in
+    up_to-more f c.loop-s.s (c.loop-s.s + 1) c.loop-s.biases.items c.in_ok-bias.bias c.loop-s.invariant (c.in_ok-bias.ensures {u = tt}) (omega arith)
+    ∙ ap Ok (sym (c.in_ok-push.ensures {u = tt}).items)
+
+pub returns-in_err-bias : goal.returns-in_err-bias
+returns-in_err-bias c =
+    let f : ℕ → Result ℚ Place = bias_of (component_in c.args.component.now) c.args.policy.now c.args.t c.args.gain.now c.args.x.now c.args.y.now in
+    let e = err_from_is_err_and c.from_residual.result c.from_residual.ensures.1 in
+    answers_err _ c.from_residual.result e.0 _ e.1
+    (says_same e.0 c.in_err-bias.field-0.0 _ e.2
+    (Says-then c.in_err-bias.field-0.0 (f c.loop-s.s) _
+    (λ w h. up_to-refused f c.loop-s.s (count (component_in c.args.component.now)) c.loop-s.biases.items w c.loop-s.invariant h (omega arith))
+    (says_of _ c.bias_at.result c.in_err-bias.field-0.0 _ c.bias_at.ensures c.in_err-bias.was)))

@@ -1,0 +1,99 @@
+-- What the code's contracts say beside the definitions.
+use Rattle.std.specs.Prelude.{◌≡◌, ℕ, ◌+◌, ◌<◌, Bool, List, length, map, slice_index, Result, Ok, Err, Vec, if◌then◌else◌}
+use Rattle.std.specs.Global.{Global}
+use Rattle.std.specs.List.{All, range_with_len}
+use Rattle.mdp_graph.specs.Sets.{marked}
+use Rattle.mdp_ends.specs.Ends.{count_of}
+use Rattle.mdp_parts.specs.FoundEnds.{AreEndsOf}
+use Rattle.mdp_path.specs.Iteration.{next, done, refused}
+use Rattle.mdp_path.specs.Candidates.{Best}
+use Rattle.mdp_path.specs.Laws.{first}
+use Rattle.mdp_path.specs.Ends.{capped}
+use Rattle.mdp_path.specs.declared.solution.PathError.{PathError}
+use Rattle.mdp_path.specs.declared.solution.PathError.TheVariants as error
+use Rattle.mdp_unichain.specs.Component.{Component, count}
+use Rattle.mdp_unichain.specs.Written as written
+use Rattle.mdp_unichain.specs.Iteration.{EndsWith}
+use Rattle.mdp_unichain.specs.Path as path
+use Rattle.mdp_gain.specs.Query.{Answer, answer_of, inner_component}
+use Rattle.mdp_gain.specs.declared.component.EndComponent.{EndComponent}
+use Rattle.mdp_gain.specs.declared.evaluation.Values.{Values}
+use Rattle.mdp_gain.specs.declared.comparison.Leader.{Leader}
+use Rattle.mdp_gain.specs.declared.best_policy.Found.{Found}
+use Rattle.mdp_gain.specs.declared.errors.RoundError.{RoundError}
+use Rattle.mdp_gain.specs.declared.errors.RoundError.TheVariants as fault
+use Rattle.mdp_gain.specs.declared.round.RoundEnd.{RoundEnd}
+use Rattle.mdp_gain.specs.declared.round.RoundEnd.TheVariants as end
+
+-- the component that the code holds
+abbrev pub component_in : EndComponent → Component
+component_in p = inner_component p.dir p.model.now p.ends.now.parts p.number p.name
+
+-- the gain and the biases, as the code holds them
+abbrev pub values_in : Values → written.Values
+values_in v = record { gain = v.gain; bias = v.bias.items }
+
+-- the best value so far, as the code holds it
+abbrev pub shown : Leader → Best
+shown leader = record { value = leader.value; choice = leader.choice }
+
+-- one list at the marked states, another at the others
+abbrev pub joined : List Bool → List ℕ → List ℕ → List ℕ
+joined marks inside outside = map (λ s. if marked marks s then slice_index inside s else slice_index outside s) (range_with_len 0 (length outside))
+
+-- round n of a policy: its end, the next policy, the place of the first term past width, or want of memory
+abbrev pub Makes : Component → ℕ → List ℕ → Result RoundEnd RoundError → Type 0
+Makes p n policy (Ok (end.Done values t)) =
+    path.Makes p (record { number = n; policy = policy }) (done (record { policy = policy; reference = t; values = values_in values }))
+Makes p n policy (Ok (end.Next after)) = path.Makes p (record { number = n; policy = policy }) (next (record { number = n + 1; policy = after.items }))
+Makes p n policy (Err (fault.Wide kind s c)) =
+    path.Makes p (record { number = n; policy = policy }) (refused (record { number = n; policy = policy; place = record { kind = kind; node = s; choice = c } }))
+Makes p n policy (Err fault.Memory) = Unit {0}
+
+-- the biases of a round's end have an entry for each number
+abbrev pub HasBiases : Component → Result RoundEnd RoundError → Type 0
+HasBiases p (Ok (end.Done values t)) = length values.bias.items ≡ count p
+HasBiases p (Ok (end.Next after)) = Unit {0}
+HasBiases p (Err e) = Unit {0}
+
+-- the last policy and its biases have an entry for each number, and so has the policy of a refused round
+abbrev pub HasEntries : Component → Result Found PathError → Type 0
+HasEntries p (Ok found) = (length found.policy.items ≡ count p) × (length found.values.bias.items ≡ count p)
+HasEntries p (Err (error.TooWide w)) = length w.policy.items ≡ count p
+HasEntries p (Err error.Memory) = Unit {0}
+
+-- the path's end
+abbrev pub Ends : Component → List ℕ → Result Found PathError → Type 0
+Ends p start (Ok found) =
+    (t : ℕ) × EndsWith (path.Makes p) (first start) (Ok (record { policy = found.policy.items; reference = t; values = values_in found.values }))
+Ends p start (Err (error.TooWide w)) =
+    (n : ℕ) × (w.round ≡ capped n)
+    × EndsWith (path.Makes p) (first start) (Err (record { number = n; policy = w.policy.items; place = record { kind = w.kind; node = w.node; choice = w.choice } }))
+Ends p start (Err error.Memory) = Unit {0}
+
+-- the error of a round, with the round and its policy
+abbrev pub path_error : RoundError → ℕ → Vec ℕ Global → PathError
+path_error (fault.Wide kind s c) round policy = error.TooWide (record { round = round; policy = policy; kind = kind; node = s; choice = c })
+path_error fault.Memory round policy = error.Memory
+
+-- an error's policy has a choice for each of these states
+abbrev pub FitsStates : List ℕ → PathError → Type 0
+FitsStates states (error.TooWide w) = All (λ s. s < length w.policy.items) states
+FitsStates states error.Memory = Unit {0}
+
+-- the same error with the policy of these states alone, or want of memory
+abbrev pub AtStates : List ℕ → PathError → PathError → Type 0
+AtStates states (error.TooWide w) (error.TooWide v) =
+    (v.round ≡ w.round) × (v.policy.items ≡ map (slice_index w.policy.items) states) × (v.kind ≡ w.kind) × (v.node ≡ w.node) × (v.choice ≡ w.choice)
+AtStates states error.Memory (error.TooWide v) = ⊥
+AtStates states e error.Memory = Unit {0}
+
+-- what was found, at these states
+abbrev pub answer_at : List ℕ → List ℕ → written.Values → Answer
+answer_at states policy v = answer_of states (record { policy = policy; reference = 0; values = v })
+
+-- what the code holds: one of the maximal end components of its model, and one of the model's reward names
+pub record IsGiven (p : EndComponent) : Type 0 where
+  pub ends : AreEndsOf p.model.now p.ends.now
+  pub below : p.number < count_of p.ends.now.parts
+  pub named : p.name < length p.model.now.names

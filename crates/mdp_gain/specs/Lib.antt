@@ -1,0 +1,6 @@
+pub mod Query
+pub mod Best
+pub mod Laws
+pub mod Faults
+pub mod Classes
+pub mod Code

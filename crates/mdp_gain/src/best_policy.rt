@@ -1,0 +1,75 @@
+ghost use Rattle.std.specs.Prelude.{◌≡◌};
+ghost use Rattle.mdp_unichain.specs.Path.{IsStart};
+ghost use Rattle.mdp_gain.specs.Code.{IsGiven, component_in, path_error, Ends, HasEntries};
+
+use crate::classes::reference;
+use crate::component::EndComponent;
+use crate::errors::RoundError;
+use crate::evaluation::Values;
+use crate::round::{RoundEnd, round_of};
+use mdp_elim::solution_law;
+use mdp_path::{PathError, WideAt};
+use std::alloc::Global;
+
+/// The last policy of the path, with its gain and biases.
+#[derive(Drop)]
+pub(crate) struct Found {
+    pub(crate) policy: Vec<u32>,
+    pub(crate) values: Values,
+}
+
+/// The error of a round, with the round and its policy.
+fn path_error(error: RoundError, round: u64, policy: Vec<u32>) -> PathError
+    ensures { result ≡ path_error error round policy }
+{
+    match error {
+        RoundError::Wide {
+            kind,
+            state,
+            choice,
+        } => PathError::TooWide(WideAt {
+            round,
+            policy,
+            kind,
+            node: state,
+            choice,
+        }),
+        RoundError::Memory => PathError::Memory,
+    }
+}
+
+/// Policy iteration from a start policy (Howard 1960): the last policy of the path, or the first term past width. A round above 2^64 - 1 is given as
+/// 2^64 - 1.
+pub(crate) fn improve(
+    alloc: Global,
+    component: &EndComponent<'_, '_>,
+    start: Vec<u32>,
+) -> Result<Found, PathError>
+    requires given { IsGiven component.now }
+    requires start { IsStart (component_in component.now) start.items }
+    ensures path { Ends (component_in component.now) start.items result }
+    ensures entries { HasEntries (component_in component.now) result }
+{
+    component.known();
+    solution_law();
+    let mut t = match reference(alloc, component, &start) {
+        Ok(first) => first,
+        Err(_) => return Err(PathError::Memory),
+    };
+    let mut policy = start;
+    let mut round = 0u64;
+    'rounds: loop {
+        match round_of(alloc, component, &policy, t) {
+            Ok(RoundEnd::Done(values, _)) => return Ok(Found { policy, values }),
+            Ok(RoundEnd::Next(next)) => {
+                t = match reference(alloc, component, &next) {
+                    Ok(after) => after,
+                    Err(_) => return Err(PathError::Memory),
+                };
+                policy = next;
+                round = round.saturating_add(1);
+            }
+            Err(error) => return Err(path_error(error, round, policy)),
+        }
+    }
+}

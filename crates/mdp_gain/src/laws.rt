@@ -1,0 +1,16 @@
+ghost use Rattle.mdp_gain.specs.Laws.{HasOneEnd, AnswersAreBest, HasOneGain, NoPolicyIsBetter, NoTreeEarnsMore, NoTreeEarnsLess};
+
+use mdp_elim::solution_law;
+
+/// A query of the best gain of an end component has exactly one end. Where that is an answer, its gain is the best: one number alone has such a bias,
+/// and no policy of the component with one closed class, and no tree of its choices, earns more in the long run (for the least gain: less).
+pub fn gain_law()
+    ensures one_end { HasOneEnd }
+    ensures best { AnswersAreBest }
+    ensures only { HasOneGain }
+    ensures policies { NoPolicyIsBetter }
+    ensures more { NoTreeEarnsMore }
+    ensures less { NoTreeEarnsLess }
+{
+    solution_law();
+}

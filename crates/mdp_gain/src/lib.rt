@@ -1,0 +1,20 @@
+//! The best gain of one end component, with a bias and a policy that has one closed class, by policy iteration.
+#![tactic(auto)]
+
+mod access;
+mod best_policy;
+mod classes;
+mod comparison;
+mod component;
+mod errors;
+mod evaluation;
+mod inner;
+mod laws;
+mod next_policy;
+mod round;
+mod solve;
+mod start;
+
+pub use inner::Inner;
+pub use laws::gain_law;
+pub use solve::solve_inner;

@@ -1,0 +1,91 @@
+ghost use Rattle.std.specs.Prelude.{ℕ, ◌≡◌, ◌<◌, ◌^◌, length, map, slice_index, if◌then◌else◌, IfOk};
+ghost use Rattle.std.specs.List.{range_with_len};
+ghost use Rattle.mdp_graph.specs.Sets.{marked};
+ghost use Rattle.mdp_unichain.specs.Component.{count, IsPolicy};
+ghost use Rattle.mdp_unichain.specs.Next.{IsPicked, IsExactNext};
+ghost use Rattle.mdp_gain.specs.Code.{IsGiven, component_in, joined};
+
+use crate::classes::picked;
+use crate::component::EndComponent;
+use mdp_num::Memory;
+use mdp_parts::toward;
+use mdp_rows::Marks;
+use std::alloc::{AllocError, Global};
+
+/// One list at a marked state, another elsewhere.
+fn joined_at(marks: &Marks, inside: &[u32], outside: &[u32], s: usize) -> u32
+    requires marks { s < length marks.now }
+    requires inside { s < length inside.now }
+    requires outside { s < length outside.now }
+    requires few { s < 2 ^ 32 }
+    ensures { result ≡ (if marked marks.now s then slice_index inside.now s else slice_index outside.now s) }
+{
+    if marks.at(s as u32) {
+        inside[s]
+    } else {
+        outside[s]
+    }
+}
+
+/// One list at the marked states, another at the others.
+fn joined(
+    alloc: Global,
+    marks: &Marks,
+    inside: &[u32],
+    outside: &[u32],
+) -> Result<Vec<u32>, AllocError>
+    requires marks { length marks.now ≡ length outside.now }
+    requires inside { length inside.now ≡ length outside.now }
+    requires few { length outside.now < 2 ^ 32 }
+    ensures { IfOk result (λ both. both.items ≡ joined marks.now inside.now outside.now) }
+{
+    let mut both = Vec::new(alloc);
+    for s in 0..outside.len() {
+        both.push(joined_at(marks, inside, outside, s))?;
+    }
+    Ok(both)
+}
+
+/// The policy that keeps the improved choices on a closed class, and goes toward it from the other states of the component.
+fn toward_class(
+    alloc: Global,
+    component: &EndComponent<'_, '_>,
+    policy: &[u32],
+    improved: &[u32],
+    class: &Marks,
+) -> Result<Vec<u32>, Memory>
+    requires given { IsGiven component.now }
+    requires improved { IsPolicy (component_in component.now) improved.now }
+    requires picked { IsPicked (component_in component.now) policy.now improved.now (marked class.now) }
+    requires count { length class.now ≡ count (component_in component.now) }
+    ensures { IfOk result (λ next. IsExactNext (component_in component.now) policy.now improved.now next.items) }
+{
+    component.known();
+    let pass = toward(
+        alloc,
+        component.model,
+        component.ends,
+        component.number,
+        class,
+    )?;
+    Ok(joined(alloc, class, improved, &pass.choices)?)
+}
+
+/// The next policy: the improved one where none of its closed classes holds a state where it differs; else one such class keeps its choices, and the
+/// other states go toward it.
+pub(crate) fn next_policy(
+    alloc: Global,
+    component: &EndComponent<'_, '_>,
+    policy: &[u32],
+    improved: Vec<u32>,
+) -> Result<Vec<u32>, Memory>
+    requires given { IsGiven component.now }
+    requires policy { IsPolicy (component_in component.now) policy.now }
+    requires improved { IsPolicy (component_in component.now) improved.items }
+    ensures { IfOk result (λ next. IsExactNext (component_in component.now) policy.now improved.items next.items) }
+{
+    match picked(alloc, component, policy, &improved)? {
+        Some(class) => toward_class(alloc, component, policy, &improved, &class),
+        None => Ok(improved),
+    }
+}

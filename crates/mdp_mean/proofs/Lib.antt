@@ -1,0 +1,11 @@
+mod Answering
+mod Held
+mod Putting
+mod BiasOf
+mod ExcessOf
+mod Meets
+mod Adding
+mod Passing
+pub mod OneEnd
+mod Certified
+mod Examples

@@ -1,0 +1,8 @@
+use Rattle.std.proofs.Common.{◌≡◌, Ok}
+use Rattle.mdp_path.specs.Places.{up_to}
+use Rattle.mdp_mean.specs.Code.{joining_in}
+use Rattle.mdp_mean.specs.Join.{constant}
+use Rattle.mdp_mean.proofs.bias.constants_of.Given as goal
+
+abbrev pub invariant-loop-s : goal.invariant-loop-s
+invariant-loop-s l = up_to (constant (joining_in l.join)) l.s ≡ Ok l.constants.items

@@ -1,0 +1,9 @@
+pub mod Terms
+pub mod Join
+pub mod Faults
+pub mod Code
+pub mod Inners
+pub mod Best
+pub mod Query
+pub mod PartsCode
+pub mod Laws

@@ -1,0 +1,26 @@
+pub mod Best
+pub mod Chains
+pub mod Classes
+pub mod ClassesFound
+pub mod Compares
+pub mod Deciding
+pub mod Ending
+pub mod Entries
+pub mod Exact
+mod Examples
+pub mod Excess
+pub mod Gains
+pub mod Improving
+pub mod Iterations
+pub mod Members
+pub mod Nexts
+pub mod OneGain
+pub mod Parts
+pub mod Paths
+pub mod Picking
+pub mod Ranks
+pub mod Reaching
+pub mod Starts
+pub mod Toward
+pub mod Trees
+pub mod Turned

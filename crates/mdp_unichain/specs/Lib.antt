@@ -1,0 +1,15 @@
+pub mod BestGain
+pub mod Chain
+pub mod Classes
+pub mod Component
+pub mod Evaluation
+pub mod Improvement
+pub mod Iteration
+pub mod Laws
+pub mod Model
+pub mod Next
+pub mod Part
+pub mod Path
+pub mod Sums
+pub mod Written
+pub mod WrittenLaws
