@@ -10,6 +10,8 @@ mod laws;
 #[cfg(test)]
 mod library_tests;
 #[cfg(test)]
+mod mean_tests;
+#[cfg(test)]
 mod parts_tests;
 mod run;
 #[cfg(test)]

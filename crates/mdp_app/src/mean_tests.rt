@@ -1,0 +1,66 @@
+ghost use Rattle.std.specs.Prelude.{◌<◌, length};
+
+use mdp_drn::read;
+use mdp_farkas::MeanCert;
+use mdp_mean::solve_mean;
+use mdp_num::Frac;
+use mdp_rows::{Dir, Model, RowRule};
+use std::alloc::{AllocError, Global};
+use std::test::Fail;
+
+/// Appends a blank and a fraction.
+fn push_fraction(value: &Frac, out: &mut String) -> Result<(), AllocError> {
+    write!(out, " {}/{}", value.num(), value.den())
+}
+
+/// Appends each fraction of a list.
+fn push_list(name: &str, values: &[Frac], out: &mut String) -> Result<(), AllocError> {
+    out.push_str(name)?;
+    for value in values {
+        push_fraction(value, out)?;
+    }
+    Ok(())
+}
+
+/// What a certificate of the mean payoff says, in one line.
+fn push_cert(cert: &MeanCert, out: &mut String) -> Result<(), AllocError> {
+    push_list("gains", &cert.gains, out)?;
+    push_list(" bound", &cert.bound, out)?;
+    push_list(" bias", &cert.bias, out)?;
+    out.push_str(" choices")?;
+    for choice in &cert.choices {
+        write!(out, " {choice}")?;
+    }
+    out.push_str(" spread")?;
+    push_fraction(&cert.spread, out)
+}
+
+/// The best mean payoff of the first reward name of a model's text, which follows the type.
+fn solved(alloc: Global, text: &str, dir: Dir) -> Result<String, Fail> {
+    let mut whole = String::from_str(alloc, "@type: MDP\n@nr_states\n")?;
+    whole.push_str(text)?;
+    let model = read(alloc, whole.as_bytes(), RowRule::Exact)?;
+    let mut found = String::new(alloc);
+    if model.names() > 0 {
+        push_cert(&solve_mean(alloc, &model, 0, dir)?, &mut found)?;
+    }
+    Ok(found)
+}
+
+/// A state that stays for 1 or takes a chance of 4 or nothing: for the greatest mean payoff it takes it, for the least one it stays.
+#[test]
+fn solves_the_mean_payoff(rt: HostRuntime) -> Result<(), Fail> {
+    let text =
+        "3\n@model\nstate 0\naction [1]\n0 : 1\naction [0]\n1 : 1/2\n2 : 1/2\nstate 1\naction [4]\n1 : 1\nstate 2\naction [0]\n2 : 1\n";
+    let greatest = solved(rt.alloc(), text, Dir::Max)?;
+    assert_eq!(rt;
+        greatest.as_str(),
+        "gains 2/1 4/1 0/1 bound 0/1 0/1 0/1 bias -2/1 0/1 0/1 choices 1 0 0 spread 2/1"
+    );
+    let least = solved(rt.alloc(), text, Dir::Min)?;
+    assert_eq!(rt;
+        least.as_str(),
+        "gains 1/1 4/1 0/1 bound -1/1 0/1 0/1 bias 0/1 0/1 0/1 choices 0 0 0 spread 1/1"
+    );
+    Ok(())
+}
