@@ -1,13 +1,13 @@
 -- The two columns of a policy, as the code hands them over and gets them back.
-use Rattle.std.proofs.Common.{◌≡◌, ℕ, zero, suc, ◌<◌, Bool, true, List, [], ◌∷◌, ◌++◌, length, map, get_or, Result, Ok, Err, pos, refl, sym, ◌∙◌, ap, ap₂, subst, arith}
+use Rattle.std.proofs.Common.{◌≡◌, ℕ, suc, ◌<◌, Bool, List, [], ◌∷◌, ◌++◌, length, map, get_or, Result, Ok, pos, refl, sym, ◌∙◌, ap, ap₂, subst, arith}
 use Rattle.std.specs.List.{All, range_with_len}
 use Rattle.std.specs.Prelude.{slice_index, slice_index_or}
 use Rattle.std.proofs.lemmas.List.Elements.{All-nil, All-cons}
 use Rattle.std.proofs.lemmas.List.FromFn.{length-map-range_with_len}
 use Rattle.mdp_math.specs.Rational.{ℚ, of_int, ◌+ℚ◌, ◌≤ℚ◌}
-use Rattle.mdp_spec.specs.Mdp.{Entry, Mdp, states_of, row_at, value_at}
+use Rattle.mdp_spec.specs.Mdp.{Entry, states_of, row_at, value_at}
 use Rattle.mdp_spec.specs.Row.{IsMdp}
-use Rattle.mdp_elim.specs.System.{Leaves, SolveEach, IsSolution}
+use Rattle.mdp_elim.specs.System.{Leaves}
 use Rattle.mdp_elim.specs.Solve.{written_solution}
 use Rattle.mdp_elim.specs.Laws.{GivesSolutions}
 use Rattle.mdp_unichain.specs.Evaluation.{mean}

@@ -1,16 +1,16 @@
 -- Parts that are flagged while the states are gone through, the targets of a row, and the first number of a range that passes a test.
-use Rattle.std.proofs.Common.{◌≡◌, ◌⊎◌, inl, inr, ℕ, zero, suc, ◌+◌, ◌<◌, ◌≤◌, Bool, true, false, ◌&&◌, ◌||◌, ◌==◌, cond, List, [], ◌∷◌, ◌++◌, length, map, set, replicate, Option, Some, None}
+use Rattle.std.proofs.Common.{◌≡◌, inl, inr, ℕ, zero, suc, ◌+◌, ◌<◌, ◌≤◌, Bool, true, false, ◌&&◌, ◌||◌, ◌==◌, cond, List, [], ◌∷◌, length, map, set, replicate, Option, Some, None}
 use Rattle.std.proofs.Common.{refl, sym, ap, ◌∙◌, subst, arith, eq-eqb}
 use Rattle.std.specs.Option.{unwrap_or}
 use Rattle.std.specs.List.{list_any, find, range_with_len}
 use Rattle.std.specs.Prelude.{slice_index, slice_index_or}
-use Rattle.std.proofs.lemmas.Bool.{false≢true, cases_eq, cases_Bool, ne_eqb}
+use Rattle.std.proofs.lemmas.Bool.{false≢true, cases_eq, ne_eqb}
 use Rattle.std.proofs.lemmas.List.{length-set, get_or-set_other, length-replicate, get_or-replicate}
 use Rattle.std.proofs.lemmas.List.Folds.{list_any-append}
 use Rattle.std.proofs.lemmas.Grind.{get_or-set_at}
 use Rattle.mdp_math.specs.Rational.{ℚ}
 use Rattle.mdp_math.proofs.Lists.{range_more}
-use Rattle.mdp_math.proofs.Booleans.{or-false, and-false}
+use Rattle.mdp_math.proofs.Booleans.{or-false}
 use Rattle.mdp_spec.specs.Row.{entries}
 use Rattle.mdp_graph.specs.Sets.{marked}
 use Rattle.mdp_unichain.specs.Component.{Component, count}
@@ -42,10 +42,12 @@ module _ (flags : List Bool) (parts : List ℕ) where
       at = λ k h. elim (cases_eq k (slice_index parts n)) [
         | inl same ↦
             get_or-set_at marks (slice_index parts n) k true false same (omega (arith, l, a.count))
-            ∙ sym (flag_more flags parts n k ∙ ap (λ b. has_flag flags parts n k || b) (ap (λ b. b && (slice_index parts n == k)) f ∙ eq-eqb (slice_index parts n) k (sym same)) ∙ or_true (has_flag flags parts n k))
+            ∙ sym (flag_more flags parts n k
+            ∙ ap (λ b. has_flag flags parts n k || b) (ap (λ b. b && (slice_index parts n == k)) f ∙ eq-eqb (slice_index parts n) k (sym same)) ∙ or_true (has_flag flags parts n k))
         | inr other ↦
             get_or-set_other marks (slice_index parts n) k true false other ∙ a.at k h
-            ∙ sym (flag_more flags parts n k ∙ ap (λ b. has_flag flags parts n k || b) (ap (λ b. b && (slice_index parts n == k)) f ∙ ne_eqb (slice_index parts n) k (λ e. other (sym e))) ∙ or-false (has_flag flags parts n k))
+            ∙ sym (flag_more flags parts n k
+            ∙ ap (λ b. has_flag flags parts n k || b) (ap (λ b. b && (slice_index parts n == k)) f ∙ ne_eqb (slice_index parts n) k (λ e. other (sym e))) ∙ or-false (has_flag flags parts n k))
       ];
     }) where
       or_true : (b : Bool) → (b || true) ≡ true

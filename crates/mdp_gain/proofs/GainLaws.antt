@@ -1,5 +1,5 @@
 -- The laws of a query of the best gain.
-use Rattle.std.proofs.Common.{◌≡◌, ℕ, zero, suc, ◌<◌, ◌≤◌, ◌+◌, ◌⊎◌, inl, inr, true, false, List, map, Option, Result, Ok, Err, refl, sym, ◌∙◌, ap, subst, arith, get_or, zero-add, length}
+use Rattle.std.proofs.Common.{◌≡◌, ℕ, ◌<◌, true, List, map, Option, Result, Ok, Err, refl, sym, ◌∙◌, ap, subst, arith, zero-add}
 use Rattle.std.specs.List.{All, range_with_len}
 use Rattle.std.proofs.lemmas.List.FromFn.{get_or-map-range_with_len, length-map-range_with_len}
 use Rattle.mdp_math.specs.Rational.{ℚ, ◌-ℚ◌, ◌≤ℚ◌}
@@ -18,13 +18,13 @@ use Rattle.mdp_unichain.specs.Component.{is_state}
 use Rattle.mdp_unichain.specs.Iteration.{EndsWith}
 use Rattle.mdp_unichain.specs.Part.{IsPart, members, is_inner, inner_component}
 use Rattle.mdp_unichain.specs.Model.{LieBetween}
-use Rattle.mdp_unichain.specs.Path.{Found, Makes, IsFirst, IsBestGain}
+use Rattle.mdp_unichain.specs.Path.{Found, Makes, IsFirst}
 use Rattle.mdp_unichain.proofs.Improving.{best_of_all}
 use Rattle.mdp_unichain.proofs.OneGain.{one_best_gain}
 use Rattle.mdp_unichain.proofs.Paths.{has_one_end, ends_at_best_gain, first_is_start}
 use Rattle.mdp_unichain.proofs.Starts.{has_one_first}
 use Rattle.mdp_unichain.proofs.Trees.{no_tree_earns_more, no_tree_earns_less}
-use Rattle.mdp_ends.specs.Ends.{in_part, IsEnd, IsMaximal, AreEnds}
+use Rattle.mdp_ends.specs.Ends.{IsEnd, IsMaximal, AreEnds}
 use Rattle.mdp_unichain.proofs.Parts.{part-state}
 use Rattle.mdp_gain.specs.Query.{Answer, answer_of, refusal_at, after_path, EndsSo}
 use Rattle.mdp_gain.specs.Best.{bias_at, taken_at, IsBestInner}

@@ -1,7 +1,5 @@
 -- The component that the code holds, in terms of its model.
-use Rattle.std.proofs.Common.{◌≡◌, ℕ, ◌<◌, Bool, true, false, ◌&&◌, ◌==◌, List, [], length, Option, Some, None, refl, sym, ◌∙◌, ap, subst, arith}
-use Rattle.std.proofs.lemmas.Bool.{and_from}
-use Rattle.mdp_math.specs.Rational.{ℚ}
+use Rattle.std.proofs.Common.{◌≡◌, ℕ, ◌<◌, true, false, ◌&&◌, List, [], length, Option, Some, None, refl, sym, ◌∙◌, ap, arith}
 use Rattle.mdp_spec.specs.Mdp as mdp
 use Rattle.mdp_spec.specs.Mdp.{Entry, Mdp, states_of, row_at}
 use Rattle.mdp_spec.specs.Row.{IsMdp}
@@ -17,11 +15,10 @@ use Rattle.mdp_unichain.proofs.Improving.{state-below as state-below-of}
 use Rattle.mdp_unichain.proofs.Reaching.{test_or_not}
 use Rattle.std.specs.Option.{option_eq}
 use Rattle.std.specs.Prelude.{slice_index_or}
-use Rattle.mdp_ends.specs.Ends.{has_number, part_of, in_part, is_inside}
-use Rattle.mdp_parts.specs.FoundEnds.{inner_at}
-use Rattle.mdp_unichain.specs.Component.{Component, Choice, count, choices_at, choice_at, is_state, IsPolicy, row_by}
+use Rattle.mdp_ends.specs.Ends.{has_number, in_part, is_inside}
+use Rattle.mdp_unichain.specs.Component.{Choice, count, choices_at, choice_at, is_state, IsPolicy, row_by}
 use Rattle.mdp_unichain.specs.Part.{IsPart, is_inner}
-use Rattle.mdp_unichain.proofs.Parts.{part-state, part-count, part-choices, part-choice, inner_member, part-component}
+use Rattle.mdp_unichain.proofs.Parts.{part-state, part-count, part-choices, part-choice}
 use Rattle.mdp_gain.specs.Code.{IsGiven, component_in}
 use Rattle.mdp_gain.specs.declared.component.EndComponent.{EndComponent}
 

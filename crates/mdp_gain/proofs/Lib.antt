@@ -2,6 +2,7 @@ mod Allowing
 mod Answering
 mod BestInner
 mod Columns
+mod Examples
 mod Flagging
 mod GainLaws
 mod Given

@@ -1,5 +1,5 @@
 -- What the code answers to a round, as a step of the path.
-use Rattle.std.proofs.Common.{◌≡◌, ◌≢◌, ℕ, ◌+◌, ◌-◌, ◌<◌, ◌^◌, min, inl, inr, suc, List, length, Result, Ok, Err, Vec, refl, sym, ◌∙◌, ap, subst, arith}
+use Rattle.std.proofs.Common.{◌≡◌, ◌≢◌, ℕ, ◌+◌, ◌-◌, ◌<◌, ◌^◌, min, inl, inr, suc, List, length, Result, Ok, Err, Vec, refl, sym, subst}
 use Rattle.std.specs.Global.{Global}
 use Rattle.mdp_spec.specs.Mdp.{value_at}
 use Rattle.mdp_elim.specs.Laws.{GivesSolutions}
@@ -24,9 +24,7 @@ use Rattle.mdp_gain.specs.Code.{Makes, Ends, HasEntries, path_error}
 use Rattle.mdp_gain.specs.Faults.{Says}
 use Rattle.mdp_gain.specs.declared.errors.RoundError.{RoundError}
 use Rattle.mdp_gain.specs.declared.errors.RoundError.TheVariants as fault
-use Rattle.mdp_gain.specs.declared.evaluation.Values.{Values}
 use Rattle.mdp_gain.specs.declared.round.RoundEnd.{RoundEnd}
-use Rattle.mdp_gain.specs.declared.round.RoundEnd.TheVariants as end
 
 -- ---- one round
 
@@ -36,8 +34,12 @@ module _ (p : Component) (policy : List ℕ) (t : ℕ) (is : IsReference (is_sta
 
   -- a term of the evaluation is past width
   pub values_refused : (e : RoundError) → Says e (written_values p policy t) → Makes p n policy (Err e)
-  values_refused (fault.Wide kind s c) h =
-      (t, is, subst (λ (r : Result written.Values Place). AfterEvaluation p a t r (refused (record { number = n; policy = policy; place = record { kind = kind; node = s; choice = c } }))) (sym h) refl)
+  values_refused (fault.Wide kind s c) h = (
+    t,
+    is,
+    subst (λ (r : Result written.Values Place). AfterEvaluation p a t r (refused (record { number = n; policy = policy; place = record { kind = kind; node = s; choice = c } })))
+        (sym h) refl,
+  )
   values_refused fault.Memory h = tt
 
   module _ (v : written.Values) (told : written_values p policy t ≡ Ok v) where
@@ -89,7 +91,8 @@ pub ends_by : (p : Component) (n : ℕ) (policy start : List ℕ) (round : ℕ) 
 ends_by p n policy start round held (fault.Wide kind s c) q m rest h = (
   n,
   m,
-  subst (λ (policy : List ℕ). EndsWith (path.Makes p) (first start) (let e : Result Found Refusal = Err (record { number = n; policy = policy; place = record { kind = kind; node = s; choice = c } }) in e))
+  subst (λ (policy : List ℕ). EndsWith (path.Makes p) (first start)
+      (let e : Result Found Refusal = Err (record { number = n; policy = policy; place = record { kind = kind; node = s; choice = c } }) in e))
       (sym q)
       (rest (Err (record { number = n; policy = policy; place = record { kind = kind; node = s; choice = c } }))
       (ends_refused p (record { number = n; policy = policy }) (record { number = n; policy = policy; place = record { kind = kind; node = s; choice = c } }) h)),

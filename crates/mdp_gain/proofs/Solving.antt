@@ -4,24 +4,20 @@ use Rattle.std.specs.List.{All, range_with_len}
 use Rattle.std.specs.Prelude.{slice_index}
 use Rattle.std.proofs.lemmas.List.Elements.{All-filter}
 use Rattle.std.proofs.lemmas.List.FromFn.{length-range_with_len, get_or-range_with_len}
-use Rattle.mdp_spec.specs.Mdp.{Mdp, states_of}
+use Rattle.mdp_spec.specs.Mdp.{Mdp}
 use Rattle.mdp_rows.specs.declared.dir.Dir.{Dir}
 use Rattle.mdp_elim.specs.declared.too_wide.Kind.{Kind}
 use Rattle.mdp_elim.specs.declared.too_wide.Part.TheVariants.{Inner}
 use Rattle.mdp_ends.specs.Ends.{in_part}
 use Rattle.mdp_path.specs.Ends.{error_of_part}
-use Rattle.mdp_path.specs.Laws.{first}
-use Rattle.mdp_path.specs.Path.{Refusal}
 use Rattle.mdp_path.specs.Queries.{WideTerm, Solves}
 use Rattle.mdp_path.specs.declared.solution.PathError.{PathError}
 use Rattle.mdp_path.specs.declared.solution.PathError.TheVariants as error
 use Rattle.mdp_unichain.specs.Component.{Component, count, is_state}
-use Rattle.mdp_unichain.specs.Iteration.{EndsWith}
 use Rattle.mdp_unichain.specs.Part.{IsPart, members, inner_component}
-use Rattle.mdp_unichain.specs.Path as path
 use Rattle.mdp_unichain.specs.Path.{IsFirst}
 use Rattle.mdp_unichain.proofs.Parts.{part-state, part-count}
-use Rattle.mdp_gain.specs.Query.{Answer, plain, answer_of, after_path, EndsSo}
+use Rattle.mdp_gain.specs.Query.{Answer, plain, EndsSo}
 use Rattle.mdp_gain.specs.Code.{Ends, AtStates, FitsStates, HasEntries, answer_at, values_in}
 use Rattle.mdp_gain.specs.declared.best_policy.Found as code
 

@@ -1,28 +1,28 @@
 -- The start policy: it goes toward the least state of the component, which takes its least choice.
-use Rattle.std.proofs.Common.{◌≡◌, ◌≢◌, ℕ, ◌<◌, ◌≤◌, ◌⊎◌, inl, inr, Bool, true, false, ◌&&◌, ◌==◌, List, length, map, set, Option, refl, sym, ◌∙◌, ap, subst, arith, zero-add}
+use Rattle.std.proofs.Common.{◌≡◌, ◌≢◌, ℕ, ◌<◌, ◌≤◌, ◌⊎◌, inl, inr, Bool, true, false, ◌&&◌, ◌==◌, List, length, map, set, refl, sym, ◌∙◌, ap, subst, arith, zero-add}
 use Rattle.std.specs.List.{find, range_with_len}
 use Rattle.std.specs.Option.{unwrap_or}
 use Rattle.std.specs.Prelude.{slice_index}
 use Rattle.std.proofs.Math.ListN.{get_or-eq_default}
-use Rattle.std.proofs.lemmas.Bool.{cases_eq, and_from, eqb-true, eq-eqb, ne_eqb}
+use Rattle.std.proofs.lemmas.Bool.{cases_eq, and_from, eq-eqb, ne_eqb}
 use Rattle.std.proofs.lemmas.List.{length-set, get_or-set_other}
 use Rattle.std.proofs.lemmas.List.FromFn.{get_or-map-range_with_len, length-map-range_with_len}
 use Rattle.std.proofs.lemmas.Grind.{get_or-set_at}
 use Rattle.mdp_math.proofs.Numbers.{le_or}
-use Rattle.mdp_spec.specs.Mdp.{Mdp, states_of}
+use Rattle.mdp_spec.specs.Mdp.{states_of}
 use Rattle.mdp_spec.specs.Row.{IsMdp}
 use Rattle.mdp_graph.specs.Sets.{marked}
 use Rattle.mdp_graph.specs.Choices.{AreLeast}
 use Rattle.mdp_ends.specs.Ends.{in_part, IsEnd, IsMaximal, AreEnds}
 use Rattle.mdp_ends.specs.Toward.{target_in, IsToward}
-use Rattle.mdp_unichain.specs.Component.{Component, count, choices_at, choice_at, is_state, IsInner, IsPolicy}
+use Rattle.mdp_unichain.specs.Component.{Component, count, choices_at, choice_at, is_state, IsInner}
 use Rattle.mdp_unichain.specs.Next.{IsNearest}
 use Rattle.mdp_unichain.specs.Path as path
 use Rattle.mdp_unichain.proofs.Best.{inner_of_state}
 use Rattle.mdp_unichain.proofs.Chains.{same_or_other}
 use Rattle.mdp_unichain.proofs.Improving.{state-below, inner-below}
 use Rattle.mdp_unichain.proofs.Picking.{IsFirst}
-use Rattle.mdp_unichain.proofs.Reaching.{test_or_not, clash_test}
+use Rattle.mdp_unichain.proofs.Reaching.{clash_test}
 use Rattle.mdp_unichain.proofs.Toward.{ranks_toward, nearest_choice, outside_choice}
 use Rattle.mdp_gain.specs.Code.{IsGiven, component_in}
 use Rattle.mdp_gain.specs.declared.component.EndComponent.{EndComponent}
@@ -77,7 +77,8 @@ module _ (x : EndComponent) (g : IsGiven x) (known : IsMdp x.model.now) where
     same : (s : ℕ) → target_in x.ends.now.parts x.number target s ≡ (s == t)
     same s = elim (cases_eq s t) [
       | inl e ↦
-          (let both : target_in x.ends.now.parts x.number target t ≡ true = and_from (in_part x.ends.now.parts x.number t) (marked target t) member_t (target-at t (IsFirst.below f) ∙ eq-eqb t t refl) in
+          (let both : target_in x.ends.now.parts x.number target t ≡ true =
+          and_from (in_part x.ends.now.parts x.number t) (marked target t) member_t (target-at t (IsFirst.below f) ∙ eq-eqb t t refl) in
           ap (target_in x.ends.now.parts x.number target) e ∙ both ∙ sym (eq-eqb s t e))
       | inr o ↦ other_by s o (le_or (count p) s)
     ]

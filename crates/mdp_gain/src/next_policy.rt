@@ -1,5 +1,4 @@
-ghost use Rattle.std.specs.Prelude.{ℕ, ◌≡◌, ◌<◌, ◌^◌, length, map, slice_index, if◌then◌else◌, IfOk};
-ghost use Rattle.std.specs.List.{range_with_len};
+ghost use Rattle.std.specs.Prelude.{◌≡◌, ◌<◌, ◌^◌, length, slice_index, if◌then◌else◌, IfOk};
 ghost use Rattle.mdp_graph.specs.Sets.{marked};
 ghost use Rattle.mdp_unichain.specs.Component.{count, IsPolicy};
 ghost use Rattle.mdp_unichain.specs.Next.{IsPicked, IsExactNext};

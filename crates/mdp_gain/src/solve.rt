@@ -6,7 +6,7 @@ ghost use Rattle.mdp_parts.specs.FoundEnds.{AreEndsOf};
 ghost use Rattle.mdp_path.specs.Queries.{Solves};
 ghost use Rattle.mdp_unichain.specs.Component.{count, is_state};
 ghost use Rattle.mdp_gain.specs.Code.{IsGiven, component_in, values_in, FitsStates, AtStates, answer_at};
-ghost use Rattle.mdp_gain.specs.Query.{members, plain, EndsSo};
+ghost use Rattle.mdp_gain.specs.Query.{plain, EndsSo};
 ghost use Rattle.mdp_gain.specs.Best.{IsBestInner};
 
 use crate::best_policy::{Found, improve};

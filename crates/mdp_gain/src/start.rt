@@ -1,4 +1,4 @@
-ghost use Rattle.std.specs.Prelude.{ℕ, ◌≡◌, ◌<◌, ◌==◌, length, map, IfOk};
+ghost use Rattle.std.specs.Prelude.{◌≡◌, ◌<◌, ◌==◌, length, map, IfOk};
 ghost use Rattle.std.specs.List.{find, range_with_len};
 ghost use Rattle.mdp_unichain.specs.Component.{count, choices_at, choice_at, is_state};
 ghost use Rattle.mdp_unichain.specs.Path.{IsFirst};

@@ -18,7 +18,9 @@ returns-in-Ok-Done-clause-path c =
     let a : Round = record { number = n; policy = c.rounds.policy.items } in
     let found : Found = record { policy = c.rounds.policy.items; reference = c.in-Ok-Done.field-0-1; values = values_in c.in-Ok-Done.values } in
     let was : c.round_of.result ≡ Ok (end.Done c.in-Ok-Done.values c.in-Ok-Done.field-0-1) = search rules in
-    let step = made_at p n c.deref-in-rounds.result.now c.rounds.policy.items c.round_of.result c.deref-in-rounds.ensures.value (c.round_of.ensures.made n) (Ok (end.Done c.in-Ok-Done.values c.in-Ok-Done.field-0-1)) was in
+    let step =
+    made_at p n c.deref-in-rounds.result.now c.rounds.policy.items c.round_of.result c.deref-in-rounds.ensures.value (c.round_of.ensures.made n)
+    (Ok (end.Done c.in-Ok-Done.values c.in-Ok-Done.field-0-1)) was in
     (c.in-Ok-Done.field-0-1, c.rounds.invariant.path.2 (Ok found) (ends_done p a found step))
 
 pub reference-requires-in-Ok-Next-clause-policy : goal.reference-requires-in-Ok-Next-clause-policy

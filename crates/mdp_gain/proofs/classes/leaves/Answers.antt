@@ -1,4 +1,4 @@
-use Rattle.std.proofs.Common.{◌≡◌, ◌∙◌, ℕ, Bool, true, false, ◌&&◌, ◌==◌, not, List, length, sym, ap, ap₂, refl}
+use Rattle.std.proofs.Common.{◌∙◌, Bool, ◌&&◌, ◌==◌, not, List, sym, ap}
 use Rattle.std.specs.List.{list_any}
 use Rattle.std.specs.Prelude.{slice_index}
 use Rattle.mdp_spec.specs.Mdp.{Entry}

@@ -17,4 +17,5 @@ returns-in_err-best c =
     let same : compared p.dir c.args.values.now.bias.items c.loop-c.c (choice_at p c.args.s c.loop-c.c) (shown c.loop-c.best) ≡ None =
     subst (λ (b : List ℚ). compared p.dir b c.loop-c.c (choice_at p c.args.s c.loop-c.c) (shown c.loop-c.best) ≡ None) c.deref.ensures.value none in
     answers_err _ c.from_residual.result e.0 _ e.1
-    (says Compare c.args.s c.loop-c.c e.0 _ (e.2 ∙ placed.error_is) (wide-over p c.args.policy.now c.args.values.now.gain c.args.values.now.bias.items c.args.s c.args.present c.loop-c.c _ c.loop-c.invariant same (omega arith)))
+    (says Compare c.args.s c.loop-c.c e.0 _ (e.2 ∙ placed.error_is)
+    (wide-over p c.args.policy.now c.args.values.now.gain c.args.values.now.bias.items c.args.s c.args.present c.loop-c.c _ c.loop-c.invariant same (omega arith)))

@@ -1,4 +1,4 @@
-use Rattle.std.proofs.Common.{◌≡◌, ◌&&◌, ◌==◌, not, map, length, if◌then◌else◌}
+use Rattle.std.proofs.Common.{◌≡◌, map, if◌then◌else◌}
 use Rattle.std.specs.Prelude.{slice_index}
 use Rattle.std.specs.List.{range_with_len}
 use Rattle.mdp_graph.specs.Sets.{marked}

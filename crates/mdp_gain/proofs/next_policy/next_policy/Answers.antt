@@ -1,7 +1,7 @@
-use Rattle.std.proofs.Common.{ℕ, List, Option, None, Bool, inl, refl, ap, sym, subst, ◌∙◌}
+use Rattle.std.proofs.Common.{ℕ, List, Option, None, Bool, inl, refl, subst}
 use Rattle.mdp_unichain.specs.Classes.{Picks}
 use Rattle.mdp_unichain.specs.Next.{IsExactNext}
-use Rattle.std.specs.Prelude.{IfOk, Vec}
+use Rattle.std.specs.Prelude.{IfOk}
 use Rattle.mdp_gain.specs.Code.{component_in}
 use Rattle.mdp_gain.proofs.next_policy.next_policy.Goals as goal
 

@@ -1,12 +1,10 @@
-use Rattle.std.proofs.Common.{◌≡◌, ◌∙◌, ◌<◌, ℕ, List, Result, Ok, Err, sym, subst, rules}
+use Rattle.std.proofs.Common.{◌≡◌, ◌∙◌, ◌<◌, ℕ, List, Ok, Err, sym, subst, rules}
 use Rattle.std.specs.List.{All}
-use Rattle.mdp_elim.specs.declared.too_wide.Part.TheVariants.{Inner}
 use Rattle.mdp_elim.specs.declared.too_wide.SolveError.{SolveError}
 use Rattle.mdp_path.specs.Queries.{Solves}
-use Rattle.mdp_path.specs.declared.solution.PathError.{PathError}
 use Rattle.mdp_unichain.specs.Component.{count, is_state}
 use Rattle.mdp_unichain.specs.Part.{inner_component}
-use Rattle.mdp_gain.specs.Code.{Ends, HasEntries, FitsStates, AtStates}
+use Rattle.mdp_gain.specs.Code.{Ends, HasEntries, AtStates}
 use Rattle.mdp_gain.specs.Query.{plain, EndsSo}
 use Rattle.mdp_gain.proofs.GainLaws.{answers_are_best}
 use Rattle.mdp_gain.proofs.Solving.{states-members, states-below, fits_states, answer_ends, error_ends}

@@ -1,5 +1,5 @@
-use Rattle.std.proofs.Common.{◌∙◌, ℕ, Bool, List, Option, map, length, ◌==◌, refl, sym, ap, subst, arith}
-use Rattle.std.specs.List.{find, range_with_len}
+use Rattle.std.proofs.Common.{◌∙◌, ℕ, Option, map, ◌==◌, refl, sym, ap, subst, arith}
+use Rattle.std.specs.List.{range_with_len}
 use Rattle.std.specs.Option.{unwrap_or}
 use Rattle.mdp_unichain.specs.Component.{count, is_state}
 use Rattle.mdp_unichain.proofs.Picking.{IsFirst}

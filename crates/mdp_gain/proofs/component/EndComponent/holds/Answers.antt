@@ -1,4 +1,4 @@
-use Rattle.std.proofs.Common.{◌≡◌, ◌∙◌, ◌<◌, ℕ, List, Bool, true, false, ◌&&◌, length, sym, ap, subst, arith, Option, Some, None}
+use Rattle.std.proofs.Common.{◌∙◌, ℕ, sym, ap, arith, Option, Some}
 use Rattle.mdp_ends.specs.Ends.{part_of}
 use Rattle.std.proofs.Common.{eqb}
 use Rattle.std.specs.Option.{option_eq}

@@ -1,5 +1,4 @@
-use Rattle.std.proofs.Common.{◌≡◌, ◌∙◌, ◌<◌, ℕ, List, Bool, true, false, ◌&&◌, length, sym, ap, subst, arith, Option, Some, None}
-use Rattle.mdp_graph.specs.Sets.{marked}
+use Rattle.std.proofs.Common.{◌∙◌, sym, arith}
 use Rattle.mdp_gain.proofs.Given.{state-below, choice-below, inner-in, inner-out}
 use Rattle.mdp_gain.proofs.component.EndComponent.is_inner.Goals as goal
 

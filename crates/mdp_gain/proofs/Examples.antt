@@ -1,0 +1,101 @@
+-- Small components, computed. In the first, state 0 stays and earns 1 or goes to state 1 and earns nothing; state 1 goes to state 0 and earns nothing or
+-- stays and earns 3. Its best gain is 3, and its least gain 0. In the second, one state stays and earns -2, -1 or -3: its best gain is -1.
+use Rattle.std.proofs.Common.{◌≡◌, ℕ, true, false, List, [], ◌∷◌, Option, Some, refl, pos, negsuc}
+use Rattle.mdp_math.specs.Gcd.{gcd, gcd_with_fuel}
+use Rattle.mdp_math.specs.Rational.{ℚ, of_int, ratio, ◌+ℚ◌, ◌*ℚ◌}
+use Rattle.mdp_spec.specs.Mdp.{Choice, State, Mdp}
+use Rattle.mdp_ends.specs.Ends.{count_of}
+use Rattle.mdp_rows.specs.declared.dir.Dir.TheVariants.{Max}
+use Rattle.mdp_unichain.specs.Component.{is_state}
+use Rattle.mdp_unichain.specs.Part.{members, inner_component}
+use Rattle.mdp_gain.specs.Query.{Answer, answer_of}
+use Rattle.mdp_gain.specs.Best.{bias_at, taken_at, worth_of}
+
+abbrev choice : ℕ → ℚ → Choice
+choice t reward = record { row = record { target = t; prob = of_int (pos 1) } ∷ []; rewards = reward ∷ [] }
+
+abbrev state : List Choice → State
+state choices = record { labels = []; choices = choices }
+
+abbrev two_states : Mdp
+two_states = record {
+  names = [] ∷ [];
+  labels = [];
+  states =
+      state (choice 0 (of_int (pos 1)) ∷ choice 1 (of_int (pos 0)) ∷ [])
+      ∷ state (choice 0 (of_int (pos 0)) ∷ choice 1 (of_int (pos 3)) ∷ [])
+      ∷ [];
+}
+
+abbrev both : List (Option ℕ)
+both = Some 0 ∷ Some 0 ∷ []
+
+both-counted : count_of both ≡ 1
+both-counted = refl
+
+both-members : members two_states both 0 ≡ 0 ∷ 1 ∷ []
+both-members = refl
+
+-- the numbers of the component are states, and no others
+both-states : (is_state (inner_component Max two_states both 0 0) 0 ≡ true) × (is_state (inner_component Max two_states both 0 0) 1 ≡ true)
+    × (is_state (inner_component Max two_states both 0 0) 2 ≡ false)
+both-states = (refl, refl, refl)
+
+-- ---- the greatest gain is 3: both states take choice 1
+
+abbrev best : Answer
+best = record { states = 0 ∷ 1 ∷ []; gain = of_int (pos 3); bias = of_int (negsuc 2) ∷ of_int (pos 0) ∷ []; choices = 1 ∷ 1 ∷ [] }
+
+best-of_path :
+    answer_of (members two_states both 0)
+    (record { policy = 1 ∷ 1 ∷ []; reference = 1; values = record { gain = of_int (pos 3); bias = of_int (negsuc 2) ∷ of_int (pos 0) ∷ [] } })
+    ≡ best
+best-of_path = refl
+
+best-taken : (taken_at best 0 ≡ 1) × (taken_at best 1 ≡ 1)
+best-taken = (refl, refl)
+
+-- the policy's choices earn the gain, as the bias sees it
+best-earns : (worth_of two_states 0 (bias_at best) 0 1 ≡ best.gain +ℚ bias_at best 0) × (worth_of two_states 0 (bias_at best) 1 1 ≡ best.gain +ℚ bias_at best 1)
+unfolding gcd gcd_with_fuel of_int ratio ◌+ℚ◌ ◌*ℚ◌
+best-earns = (refl, refl)
+
+-- the others earn less: -2 where the policy's earns 0, and -3 where it earns 3
+best-others : (worth_of two_states 0 (bias_at best) 0 0 ≡ of_int (negsuc 1)) × (worth_of two_states 0 (bias_at best) 1 0 ≡ of_int (negsuc 2))
+unfolding gcd gcd_with_fuel of_int ratio ◌+ℚ◌ ◌*ℚ◌
+best-others = (refl, refl)
+
+-- ---- the least gain is 0: each state goes to the other one
+
+abbrev least : Answer
+least = record { states = 0 ∷ 1 ∷ []; gain = of_int (pos 0); bias = of_int (pos 0) ∷ of_int (pos 0) ∷ []; choices = 1 ∷ 0 ∷ [] }
+
+least-earns : (worth_of two_states 0 (bias_at least) 0 1 ≡ least.gain +ℚ bias_at least 0) × (worth_of two_states 0 (bias_at least) 1 0 ≡ least.gain +ℚ bias_at least 1)
+unfolding gcd gcd_with_fuel of_int ratio ◌+ℚ◌ ◌*ℚ◌
+least-earns = (refl, refl)
+
+-- the others earn more
+least-others : (worth_of two_states 0 (bias_at least) 0 0 ≡ of_int (pos 1)) × (worth_of two_states 0 (bias_at least) 1 1 ≡ of_int (pos 3))
+unfolding gcd gcd_with_fuel of_int ratio ◌+ℚ◌ ◌*ℚ◌
+least-others = (refl, refl)
+
+-- ---- one state with three loops: the best gain is -1, by choice 1
+
+abbrev loops : Mdp
+loops = record {
+  names = [] ∷ [];
+  labels = [];
+  states = state (choice 0 (of_int (negsuc 1)) ∷ choice 0 (of_int (negsuc 0)) ∷ choice 0 (of_int (negsuc 2)) ∷ []) ∷ [];
+}
+
+abbrev best_loop : Answer
+best_loop = record { states = 0 ∷ []; gain = of_int (negsuc 0); bias = of_int (pos 0) ∷ []; choices = 1 ∷ [] }
+
+best_loop-earns : worth_of loops 0 (bias_at best_loop) 0 1 ≡ best_loop.gain +ℚ bias_at best_loop 0
+unfolding gcd gcd_with_fuel of_int ratio ◌+ℚ◌ ◌*ℚ◌
+best_loop-earns = refl
+
+-- -2 and -3 are less
+best_loop-others : (worth_of loops 0 (bias_at best_loop) 0 0 ≡ of_int (negsuc 1)) × (worth_of loops 0 (bias_at best_loop) 0 2 ≡ of_int (negsuc 2))
+unfolding gcd gcd_with_fuel of_int ratio ◌+ℚ◌ ◌*ℚ◌
+best_loop-others = (refl, refl)
