@@ -64,3 +64,49 @@ fn solves_the_mean_payoff(rt: HostRuntime) -> Result<(), Fail> {
     );
     Ok(())
 }
+
+/// The best loop is away from the first policy's; two choices of one gain differ in bias; a gain below 0.
+#[test]
+fn solves_components(rt: HostRuntime) -> Result<(), Fail> {
+    let away =
+        "2\n@model\nstate 0\naction [1]\n0 : 1\naction\n1 : 1\nstate 1\naction\n0 : 1\naction [3]\n1 : 1\n";
+    let found = solved(rt.alloc(), away, Dir::Max)?;
+    assert_eq!(rt;
+        found.as_str(),
+        "gains 3/1 3/1 bound -3/1 0/1 bias -3/1 0/1 choices 1 1 spread 3/1"
+    );
+    let tied =
+        "2\n@model\nstate 0\naction [1]\n1 : 1\naction [3]\n1 : 1\nstate 1\naction [3]\n0 : 1\naction [1]\n0 : 1\n";
+    let found = solved(rt.alloc(), tied, Dir::Max)?;
+    assert_eq!(rt;
+        found.as_str(),
+        "gains 3/1 3/1 bound 0/1 0/1 bias 0/1 0/1 choices 1 0 spread 0/1"
+    );
+    let below =
+        "2\n@model\nstate 0\naction [-1]\n0 : 1/2\n1 : 1/2\nstate 1\naction [-2]\n0 : 1/3\n1 : 2/3\n";
+    let found = solved(rt.alloc(), below, Dir::Max)?;
+    assert_eq!(rt;
+        found.as_str(),
+        "gains -8/5 -8/5 bound 0/1 -6/5 bias 0/1 -6/5 choices 0 0 spread 6/5"
+    );
+    Ok(())
+}
+
+/// The best of several loops at one state, and end components with states between them.
+#[test]
+fn solves_loops_and_states_between(rt: HostRuntime) -> Result<(), Fail> {
+    let loops = "1\n@model\nstate 0\naction [1]\n0 : 1\naction [-4]\n0 : 1\naction [2]\n0 : 1\n";
+    let found = solved(rt.alloc(), loops, Dir::Min)?;
+    assert_eq!(rt;
+        found.as_str(),
+        "gains -4/1 bound 0/1 bias 0/1 choices 1 spread 0/1"
+    );
+    let between =
+        "5\n@model\nstate 0\naction [1]\n0 : 1\naction\n1 : 1\nstate 1\naction\n2 : 1/2\n3 : 1/2\nstate 2\naction [1]\n2 : 1\nstate 3\naction [2]\n4 : 1\nstate 4\naction [6]\n3 : 1\n";
+    let found = solved(rt.alloc(), between, Dir::Max)?;
+    assert_eq!(rt;
+        found.as_str(),
+        "gains 5/2 5/2 1/1 4/1 4/1 bound 0/1 0/1 0/1 0/1 2/1 bias -5/1 -5/2 0/1 0/1 2/1 choices 1 0 0 0 0 spread 7/1"
+    );
+    Ok(())
+}
