@@ -21,7 +21,7 @@ import tempfile
 TOP = pathlib.Path(__file__).resolve().parent.parent
 ROWS = TOP / "crates" / "mdp_app" / "data" / "rows"
 PROGRAM = TOP / "out" / "mdp"
-NAMES = ["solve_die", "solve_greatest", "loop_carries_value", "solve_mean_by_chance", "witness_die_even"]
+NAMES = ["solve_die", "solve_greatest", "loop_carries_value", "mean_by_chance", "subsystem_flows", "policy_loops"]
 
 COUNTER = r"""
 #define _GNU_SOURCE
@@ -119,10 +119,10 @@ def main():
     with tempfile.TemporaryDirectory() as name:
         folder = pathlib.Path(name)
         library = compiled(folder)
-        names = [name for name in NAMES if (ROWS / name).exists()]
-        wrong = [*(tried_row(name, library, folder) for name in names), tried_pair(library, folder)]
+        wrong = [*(tried_row(name, library, folder) for name in NAMES), tried_pair(library, folder)]
     wrong = [text for text in wrong if text]
-    print(*wrong, sep="\n")
+    for text in wrong:
+        print(text)
     sys.exit(1 if wrong else 0)
 
 
