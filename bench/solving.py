@@ -6,13 +6,11 @@
     random STATES          a sparse MDP: two choices a state, each with 1/2 to two states drawn with a fixed seed from the next 50; the last two
                            states are the goal and a failing one
     reward LAYERS WIDTH    the layered MDP with a cost of each choice, drawn too, whose last layer goes to the goal alone: the least cost until it
-    mean STATES            a ring of states: two choices a state, each with a gain and with 1/2 to two states drawn from the next 20; the greatest
-                           mean payoff of a model that is one end component
 
 What is timed is the whole program, reading and writing too. The linear program (least sum of values that cover each choice) goes to `glpsol
 --exact` of Debian's glpk-utils where that is installed, in the same run, for at most LIMIT seconds; only its time is compared, and the value of
 state 0. The rounds of policy iteration are counted by the script itself.
-Usage: bench/solving.py [layered L W | random N | reward L W | mean N ..] (some of each if nothing is said).
+Usage: bench/solving.py [layered L W | random N | reward L W ..] (some of each if nothing is said).
 """
 import os
 import random
@@ -65,13 +63,6 @@ def costly_model(layers, width):
     states[goal - width : goal] = [[[goal]] * 2 for _ in range(width)]
     draws = random.Random(7)
     return states, [[draws.randrange(1, 10) for _ in choices] for choices in states[:goal]] + [[0], [0]]
-
-
-def ring_model(size):
-    """A ring whose states all reach one another, and a gain from 0 to 9 of each choice."""
-    draws = random.Random(7)
-    states = [[sorted({(s + 1) % size, (s + draws.randrange(1, 21)) % size}) for _ in range(2)] for s in range(size)]
-    return states, [[draws.randrange(10) for _ in choices] for choices in states]
 
 
 def write_model(path, states, rewards=None):
@@ -213,15 +204,13 @@ def measure_named(folder, words):
         measure(folder, name, layered(layers, width))
     elif words[0] == "reward":
         measure_earning(folder, name, *costly_model(layers, width), ["min", "reward", "-", "goal"])
-    elif words[0] == "random":
-        measure(folder, name, random_model(size))
     else:
-        measure_earning(folder, name, *ring_model(size), ["max", "mean", "-"])
+        measure(folder, name, random_model(size))
     return rest
 
 
 def main():
-    words = sys.argv[1:] or "layered 10 100 layered 40 100 layered 100 160 random 4000 reward 10 100 reward 40 100 mean 50 mean 100".split()
+    words = sys.argv[1:] or "layered 10 100 layered 40 100 layered 100 160 random 4000 reward 10 100 reward 40 100".split()
     with tempfile.TemporaryDirectory() as folder:
         while words:
             words = measure_named(folder, words)
