@@ -1,11 +1,12 @@
 -- Worked words, and what they are.
 use Rattle.std.proofs.Common.{◌≡◌, [], ◌∷◌, Some, None, Ok, Err, refl}
-use Rattle.std.specs.Prelude.{codes}
+use Rattle.std.specs.Prelude.{codes, pos}
+use Rattle.mdp_math.specs.Rational.{ratio}
 use Rattle.mdp_rows.specs.declared.rule.RowRule.TheVariants.{Exact, Scaled}
 use Rattle.mdp_rows.specs.declared.dir.Dir.TheVariants.{Max}
-use Rattle.mdp_job.specs.Job.{reach, reward, solve, check, drill, horizon, policy}
+use Rattle.mdp_job.specs.Job.{reach, reward, mean, solve, check, drill, horizon, policy, discount, discount_check}
 use Rattle.mdp_job.specs.Words.{job_of_texts}
-use Rattle.mdp_job.specs.declared.words_error.WordsError.TheVariants.{Command, Number, Rows, Direction, Objective, Drill, Steps}
+use Rattle.mdp_job.specs.declared.words_error.WordsError.TheVariants.{Command, Number, Rows, Direction, Objective, Drill, Steps, Factor}
 
 no_words : job_of_texts [] ≡ Err Command
 no_words = refl
@@ -48,6 +49,16 @@ no_reward_label = refl
 
 a_reward : job_of_texts (codes "solve" ∷ codes "m" ∷ codes "exact" ∷ codes "max" ∷ codes "reward" ∷ codes "-" ∷ codes "goal" ∷ []) ≡ Ok (solve Exact Max (reward (codes "-") (codes "goal")))
 a_reward = refl
+
+-- a mean payoff has a name alone
+a_mean : job_of_texts (codes "solve" ∷ codes "m" ∷ codes "exact" ∷ codes "max" ∷ codes "mean" ∷ codes "-" ∷ []) ≡ Ok (solve Exact Max (mean (codes "-")))
+a_mean = refl
+
+mean_words : job_of_texts (codes "solve" ∷ codes "m" ∷ codes "exact" ∷ codes "max" ∷ codes "mean" ∷ codes "-" ∷ codes "goal" ∷ []) ≡ Err Number
+mean_words = refl
+
+no_mean_name : job_of_texts (codes "solve" ∷ codes "m" ∷ codes "exact" ∷ codes "max" ∷ codes "mean" ∷ []) ≡ Err Number
+no_mean_name = refl
 
 -- `drill`: numbers of at most 20 digits below 2^64, 1 to 100 layers, at most 2^20 - 2 states in them
 a_drill : job_of_texts (codes "drill" ∷ codes "007" ∷ codes "40" ∷ codes "100" ∷ []) ≡ Ok (drill 7 40 100)
@@ -105,3 +116,28 @@ policy_rows = refl
 
 policy_objective : job_of_texts (codes "policy" ∷ codes "m" ∷ codes "exact" ∷ codes "p" ∷ codes "reward" ∷ codes "goal" ∷ []) ≡ Err Objective
 policy_objective = refl
+
+-- `discount`: the number of words, the row rule, the direction, then the factor
+a_discount : job_of_texts (codes "discount" ∷ codes "m" ∷ codes "exact" ∷ codes "max" ∷ codes "-" ∷ codes "0.50" ∷ []) ≡ Ok (discount Exact Max (codes "-") (ratio (pos 1) 2))
+a_discount = refl
+
+factor_zero : job_of_texts (codes "discount" ∷ codes "m" ∷ codes "exact" ∷ codes "max" ∷ codes "energy" ∷ codes "0" ∷ []) ≡ Ok (discount Exact Max (codes "energy") (ratio (pos 0) 1))
+factor_zero = refl
+
+factor_one : job_of_texts (codes "discount" ∷ codes "m" ∷ codes "exact" ∷ codes "max" ∷ codes "-" ∷ codes "1" ∷ []) ≡ Err Factor
+factor_one = refl
+
+factor_below_zero : job_of_texts (codes "discount" ∷ codes "m" ∷ codes "exact" ∷ codes "max" ∷ codes "-" ∷ codes "-1/2" ∷ []) ≡ Err Factor
+factor_below_zero = refl
+
+factor_behind_direction : job_of_texts (codes "discount" ∷ codes "m" ∷ codes "exact" ∷ codes "best" ∷ codes "-" ∷ codes "2" ∷ []) ≡ Err Direction
+factor_behind_direction = refl
+
+discount_words : job_of_texts (codes "discount" ∷ codes "m" ∷ codes "EXACT" ∷ codes "best" ∷ codes "-" ∷ []) ≡ Err Number
+discount_words = refl
+
+a_discount_check : job_of_texts (codes "discount-check" ∷ codes "m" ∷ codes "scaled" ∷ codes "c" ∷ []) ≡ Ok (discount_check Scaled)
+a_discount_check = refl
+
+discount_check_words : job_of_texts (codes "discount-check" ∷ codes "m" ∷ codes "exact" ∷ codes "c" ∷ codes "d" ∷ []) ≡ Err Number
+discount_check_words = refl

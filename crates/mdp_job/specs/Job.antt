@@ -1,18 +1,20 @@
 -- The jobs, as contracts see them, and the words that name the files of each.
 use Rattle.std.specs.Prelude.{ℕ, Bool, List, Option, Some, None, option_map, is_some, Result, Ok, Err}
+use Rattle.mdp_math.specs.Rational.{ℚ}
 use Rattle.mdp_rows.specs.declared.dir.Dir.{Dir}
 use Rattle.mdp_rows.specs.declared.rule.RowRule.{RowRule}
 use Rattle.mdp_job.specs.declared.job.Query.{Query}
 use Rattle.mdp_job.specs.declared.job.Query.TheVariants as query
 use Rattle.mdp_job.specs.declared.job.Job.{Job}
-use Rattle.mdp_job.specs.declared.job.Job.TheVariants.{Check, Drill, Horizon, Policy, Solve}
+use Rattle.mdp_job.specs.declared.job.Job.TheVariants.{Check, Discount, DiscountCheck, Drill, Horizon, Policy, Solve}
 use Rattle.mdp_job.specs.declared.files.Files.{Files}
 use Rattle.mdp_job.specs.declared.words_error.WordsError.{WordsError}
 
--- what is to be solved: the probability of reaching a label, or the reward of a name until a label
+-- what is to be solved: the probability of reaching a label, the reward of a name until a label, or the mean payoff of a name
 pub data PlainQuery : Type 0 where
   reach : List ℕ → PlainQuery
   reward : List ℕ → List ℕ → PlainQuery
+  mean : List ℕ → PlainQuery
 
 pub data PlainJob : Type 0 where
   -- the best values, in the direction, and a policy
@@ -25,6 +27,10 @@ pub data PlainJob : Type 0 where
   horizon : RowRule → Dir → Option (List ℕ) → List ℕ → ℕ → PlainJob
   -- the probabilities with which a given policy reaches a label, and where another choice is better
   policy : RowRule → List ℕ → PlainJob
+  -- the best reward of a name, in the direction, each step discounted by the factor
+  discount : RowRule → Dir → List ℕ → ℚ → PlainJob
+  -- whether a certificate of discounted rewards holds
+  discount_check : RowRule → PlainJob
 
 -- what words ask for: a job, or why they are none
 abbrev pub Asked : Type 0
@@ -35,6 +41,7 @@ Asked = Result PlainJob WordsError
 abbrev pub plain_query : Query → PlainQuery
 plain_query (query.Reach label) = reach label.now
 plain_query (query.Reward name label) = reward name.now label.now
+plain_query (query.Mean name) = mean name.now
 
 abbrev pub plain_job : Job → PlainJob
 plain_job (Solve rule dir query) = solve rule dir (plain_query query)
@@ -42,6 +49,8 @@ plain_job (Check rule) = check rule
 plain_job (Drill number layers width) = drill number layers width
 plain_job (Horizon rule dir stay label steps) = horizon rule dir (option_map (λ name. name.now) stay) label.now steps
 plain_job (Policy rule label) = policy rule label.now
+plain_job (Discount rule dir name factor) = discount rule dir name.now factor
+plain_job (DiscountCheck rule) = discount_check rule
 
 abbrev pub asked : Result Job WordsError → Asked
 asked (Ok job) = Ok (plain_job job)
@@ -56,6 +65,8 @@ files_of (Ok (check rule)) = record { model = Some 1; second = Some 3 }
 files_of (Ok (drill number layers width)) = record { model = None; second = None }
 files_of (Ok (horizon rule dir stay label steps)) = record { model = Some 1; second = None }
 files_of (Ok (policy rule label)) = record { model = Some 1; second = Some 3 }
+files_of (Ok (discount rule dir name factor)) = record { model = Some 1; second = None }
+files_of (Ok (discount_check rule)) = record { model = Some 1; second = Some 3 }
 files_of (Err e) = record { model = None; second = None }
 
 abbrev pub reads_model : Asked → Bool

@@ -27,6 +27,7 @@ words_word words.Direction = codes "direction"
 words_word words.Objective = codes "objective"
 words_word words.Drill = codes "drill"
 words_word words.Steps = codes "steps"
+words_word words.Factor = codes "factor"
 
 unfoldable pub drn_word : DrnKind → List ℕ
 drn_word drn.Header = codes "header"

@@ -1,26 +1,32 @@
 -- The words of the command line, and the job that they are:
 --     solve MODEL ROWS DIR reach LABEL
 --     solve MODEL ROWS DIR reward NAME LABEL
+--     solve MODEL ROWS DIR mean NAME
 --     check MODEL ROWS CERT
 --     drill NUMBER LAYERS WIDTH
 --     horizon MODEL ROWS DIR A B STEPS
 --     policy MODEL ROWS POLICY reach LABEL
+--     discount MODEL ROWS DIR NAME FACTOR
+--     discount-check MODEL ROWS CERT
 -- ROWS is `exact` or `scaled`, DIR `max` or `min`.
-use Rattle.std.specs.Prelude.{ℕ, ◌*◌, ◌-◌, ◌^◌, Bool, ◌&&◌, not, List, [], ◌∷◌, length, slice_index_or, map, Option, Some, None, Result, Ok, Err, ◌==◌, nat_lt, if◌then◌else◌, codes}
+use Rattle.std.specs.Prelude.{ℕ, ◌*◌, ◌-◌, ◌^◌, Bool, ◌&&◌, not, List, [], ◌∷◌, length, slice_index_or, map, Option, Some, None, Result, Ok, Err, pos, ◌==◌, nat_lt, if◌then◌else◌, codes}
 use Rattle.std.specs.declared.string.String.{String}
 use Rattle.std.specs.Option.{ok_or}
 use Rattle.std.specs.Str.{bytes_eq}
 use Rattle.std.specs.String.{string_bytes}
 use Rattle.std.specs.Global.{Global}
+use Rattle.mdp_math.specs.Rational.{ℚ, of_int, lt_ℚ}
 use Rattle.mdp_math.specs.Result.{◌>>=◌}
 use Rattle.mdp_num.specs.Digits.{is_digits, number}
+use Rattle.mdp_num.specs.Numeral.{numeral_of}
+use Rattle.mdp_num.specs.declared.errors.NumeralError.{NumeralError}
 use Rattle.mdp_rows.specs.declared.dir.Dir.{Dir}
 use Rattle.mdp_rows.specs.declared.dir.Dir.TheVariants.{Max, Min}
 use Rattle.mdp_rows.specs.declared.rule.RowRule.{RowRule}
 use Rattle.mdp_rows.specs.declared.rule.RowRule.TheVariants.{Exact, Scaled}
-use Rattle.mdp_job.specs.Job.{PlainQuery, reach, reward, solve, check, drill, horizon, policy, Asked}
+use Rattle.mdp_job.specs.Job.{PlainQuery, reach, reward, mean, solve, check, drill, horizon, policy, discount, discount_check, Asked}
 use Rattle.mdp_job.specs.declared.words_error.WordsError.{WordsError}
-use Rattle.mdp_job.specs.declared.words_error.WordsError.TheVariants.{Command, Number, Rows, Direction, Objective, Drill, Steps}
+use Rattle.mdp_job.specs.declared.words_error.WordsError.TheVariants.{Command, Number, Rows, Direction, Objective, Drill, Steps, Factor}
 
 abbrev pub word_at : List (List ℕ) → ℕ → List ℕ
 word_at words i = slice_index_or words i []
@@ -44,10 +50,14 @@ reach_of words = if length words == 5 then Ok (reach (word_at words 4)) else Err
 abbrev pub reward_of : List (List ℕ) → Result PlainQuery WordsError
 reward_of words = if length words == 6 then Ok (reward (word_at words 4) (word_at words 5)) else Err Number
 
+abbrev pub mean_of : List (List ℕ) → Result PlainQuery WordsError
+mean_of words = if length words == 5 then Ok (mean (word_at words 4)) else Err Number
+
 abbrev pub query_of : List (List ℕ) → Result PlainQuery WordsError
 query_of words =
     if bytes_eq (word_at words 3) (codes "reach") then reach_of words
-    else (if bytes_eq (word_at words 3) (codes "reward") then reward_of words else Err Objective)
+    else (if bytes_eq (word_at words 3) (codes "reward") then reward_of words
+    else (if bytes_eq (word_at words 3) (codes "mean") then mean_of words else Err Objective))
 
 abbrev pub solve_of : List (List ℕ) → Asked
 solve_of words =
@@ -97,6 +107,26 @@ policy_of words =
     then (rule_of (word_at words 1) >>= (λ rule. if bytes_eq (word_at words 3) (codes "reach") then Ok (policy rule (word_at words 4)) else Err Objective))
     else Err Number
 
+-- a numeral below 1, as a value of a model's row is spelled
+abbrev pub below_one : Result ℚ NumeralError → Result ℚ WordsError
+below_one (Ok f) = if lt_ℚ f (of_int (pos 1)) then Ok f else Err Factor
+below_one (Err e) = Err Factor
+
+abbrev pub factor_of : List ℕ → Result ℚ WordsError
+factor_of word = below_one (numeral_of word)
+
+-- the words behind `discount`: the row rule, the direction, then the factor
+abbrev pub discount_of : List (List ℕ) → Asked
+discount_of words =
+    if length words == 5
+    then (rule_of (word_at words 1)
+    >>= (λ rule. dir_of (word_at words 2) >>= (λ dir. factor_of (word_at words 4) >>= (λ factor. Ok (discount rule dir (word_at words 3) factor)))))
+    else Err Number
+
+-- the words behind `discount-check`
+abbrev pub discount_check_of : List (List ℕ) → Asked
+discount_check_of words = if length words == 3 then (rule_of (word_at words 1) >>= λ rule. Ok (discount_check rule)) else Err Number
+
 -- the words, as texts
 abbrev pub job_of_texts : List (List ℕ) → Asked
 job_of_texts [] = Err Command
@@ -105,7 +135,9 @@ job_of_texts (command ∷ words) =
     else (if bytes_eq command (codes "check") then check_of words
     else (if bytes_eq command (codes "drill") then drill_of words
     else (if bytes_eq command (codes "horizon") then horizon_of words
-    else (if bytes_eq command (codes "policy") then policy_of words else Err Command))))
+    else (if bytes_eq command (codes "policy") then policy_of words
+    else (if bytes_eq command (codes "discount") then discount_of words
+    else (if bytes_eq command (codes "discount-check") then discount_check_of words else Err Command))))))
 
 abbrev pub job_of : List (String Global) → Asked
 job_of words = job_of_texts (map string_bytes words)

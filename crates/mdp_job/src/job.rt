@@ -2,10 +2,11 @@ ghost use Rattle.std.specs.Prelude.{◌≡◌, ◌<◌, ◌^◌, option_map, len
 ghost use Rattle.std.specs.Result.{MatchResult};
 ghost use Rattle.std.specs.String.{string_bytes};
 ghost use Rattle.mdp_job.specs.Job.{asked, plain_query};
-ghost use Rattle.mdp_job.specs.Words.{job_of, rule_of, dir_of, reach_of, reward_of, query_of, solve_of, check_of, drill_by, drill_of, stay_of, steps_of, horizon_of, policy_of};
+ghost use Rattle.mdp_job.specs.Words.{job_of, rule_of, dir_of, reach_of, reward_of, mean_of, query_of, solve_of, check_of, drill_by, drill_of, stay_of, steps_of, horizon_of, policy_of, factor_of, discount_of, discount_check_of};
 
 use crate::digits::whole_word;
 use crate::words_error::WordsError;
+use mdp_num::{Frac, read_numeral};
 use mdp_rows::{Dir, RowRule};
 
 /// What is to be solved.
@@ -15,13 +16,15 @@ pub enum Query<'a> {
     Reach { label: &'a [u8] },
     /// The reward of this name until a state with this label.
     Reward { name: &'a [u8], label: &'a [u8] },
+    /// The mean payoff of the reward of this name: its gain, without end.
+    Mean { name: &'a [u8] },
 }
 
 /// What the words ask for.
 #[derive(Clone, Copy, Debug, PartialEq, Eq)]
 pub enum Job<'a> {
-    /// `solve MODEL ROWS DIR reach LABEL` and `solve MODEL ROWS DIR reward NAME LABEL`: the best values in the direction, with a policy and a
-    /// certificate.
+    /// `solve MODEL ROWS DIR reach LABEL`, `solve MODEL ROWS DIR reward NAME LABEL` and `solve MODEL ROWS DIR mean NAME`: the best values in the
+    /// direction, with a policy and a certificate.
     Solve {
         rule: RowRule,
         dir: Dir,
@@ -51,6 +54,18 @@ pub enum Job<'a> {
     Policy {
         rule: RowRule,
         label: &'a [u8],
+    },
+    /// `discount MODEL ROWS DIR NAME FACTOR`: the best reward of this name, without end, where each step counts the factor less than the one before it;
+    /// the factor is at least 0 and below 1.
+    Discount {
+        rule: RowRule,
+        dir: Dir,
+        name: &'a [u8],
+        factor: Frac,
+    },
+    /// `discount-check MODEL ROWS CERT`: whether a certificate of discounted rewards holds of the model, read under the row rule.
+    DiscountCheck {
+        rule: RowRule,
     },
 }
 
@@ -101,6 +116,18 @@ fn reward_of<'a>(words: &'a [String]) -> Result<Query<'a>, WordsError>
     })
 }
 
+/// The query that the words behind `solve` name, where the objective is `mean`.
+fn mean_of<'a>(words: &'a [String]) -> Result<Query<'a>, WordsError>
+    ensures { MatchResult result (λ q. mean_of (map string_bytes words.now) ≡ Ok (plain_query q)) (λ e. mean_of (map string_bytes words.now) ≡ Err e) }
+{
+    let [_, _, _, _, name] = words else {
+        return Err(WordsError::Number);
+    };
+    Ok(Query::Mean {
+        name: name.as_bytes(),
+    })
+}
+
 /// The query that the words behind `solve` name.
 fn query_of<'a>(words: &'a [String]) -> Result<Query<'a>, WordsError>
     requires { 3 < length words.now }
@@ -112,6 +139,9 @@ fn query_of<'a>(words: &'a [String]) -> Result<Query<'a>, WordsError>
     }
     if objective == "reward" {
         return reward_of(words);
+    }
+    if objective == "mean" {
+        return mean_of(words);
     }
     Err(WordsError::Objective)
 }
@@ -198,6 +228,45 @@ fn policy_of<'a>(words: &'a [String]) -> Result<Job<'a>, WordsError>
     })
 }
 
+/// The factor that a word writes: a numeral below 1.
+fn factor_of(word: &str) -> Result<Frac, WordsError>
+    ensures { result ≡ factor_of word.now }
+{
+    match read_numeral(word.as_bytes()) {
+        Ok(factor) if factor.num() < factor.den() => Ok(factor),
+        _ => Err(WordsError::Factor),
+    }
+}
+
+/// The job that the words behind `discount` are.
+fn discount_of<'a>(words: &'a [String]) -> Result<Job<'a>, WordsError>
+    ensures { asked result ≡ discount_of (map string_bytes words.now) }
+{
+    let [_, rows, dir, name, factor] = words else {
+        return Err(WordsError::Number);
+    };
+    let rule = rule_of(rows.as_str())?;
+    let dir = dir_of(dir.as_str())?;
+    let factor = factor_of(factor.as_str())?;
+    Ok(Job::Discount {
+        rule,
+        dir,
+        name: name.as_bytes(),
+        factor,
+    })
+}
+
+/// The job that the words behind `discount-check` are.
+fn discount_check_of<'a>(words: &'a [String]) -> Result<Job<'a>, WordsError>
+    ensures { asked result ≡ discount_check_of (map string_bytes words.now) }
+{
+    let [_, rows, _] = words else {
+        return Err(WordsError::Number);
+    };
+    let rule = rule_of(rows.as_str())?;
+    Ok(Job::DiscountCheck { rule })
+}
+
 /// The most states in the layers of a model that is drawn.
 const MOST_STATES: u128 = (1 << 20) - 2;
 
@@ -237,7 +306,8 @@ fn drill_of<'a>(words: &'a [String]) -> Result<Job<'a>, WordsError>
 }
 
 /// The job that the words are, or the first refusal: `Command`, then `Number`, `Rows`, `Direction` and `Objective`, and `Number` again where an
-/// objective has another number of words; for `drill` `Drill`, for `horizon` `Steps`, for `policy` `Objective` behind `Rows`. It takes no memory.
+/// objective has another number of words; for `drill` `Drill`, for `horizon` `Steps`, for `policy` `Objective` behind `Rows`, for `discount` `Factor`
+/// behind `Direction`. It takes no memory.
 pub fn job_of<'a>(words: &'a [String]) -> Result<Job<'a>, WordsError>
     ensures { asked result ≡ job_of words.now }
 {
@@ -250,6 +320,8 @@ pub fn job_of<'a>(words: &'a [String]) -> Result<Job<'a>, WordsError>
         "drill" => drill_of(rest),
         "horizon" => horizon_of(rest),
         "policy" => policy_of(rest),
+        "discount" => discount_of(rest),
+        "discount-check" => discount_check_of(rest),
         _ => Err(WordsError::Command),
     }
 }

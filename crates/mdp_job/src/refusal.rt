@@ -114,6 +114,7 @@ fn words_word(error: WordsError) -> &'static str
         WordsError::Objective => "objective",
         WordsError::Drill => "drill",
         WordsError::Steps => "steps",
+        WordsError::Factor => "factor",
     }
 }
 

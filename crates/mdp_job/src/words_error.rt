@@ -9,10 +9,12 @@ pub enum WordsError {
     Rows = 3,
     /// The direction is neither `max` nor `min`.
     Direction = 4,
-    /// `solve` has another objective than `reach` and `reward`, or `policy` another than `reach`.
+    /// `solve` has another objective than `reach`, `reward` and `mean`, or `policy` another than `reach`.
     Objective = 5,
     /// A number of `drill` isn't in range.
     Drill = 7,
     /// The number of steps of `horizon` isn't 1 to 7 digits.
     Steps = 8,
+    /// The factor of `discount` isn't a numeral below 1.
+    Factor = 9,
 }
