@@ -17,7 +17,7 @@ use Rattle.mdp_trials.specs.declared.trial.Trial.TheVariants.{Goes, Needed, Past
 use Rattle.mdp_trials.specs.Evaluation.{Visited, Visits, visited, visited_value}
 use Rattle.mdp_trials.specs.First.{is_open, followed, IsClosed, IsFirst}
 use Rattle.mdp_trials.specs.LeastEvaluation.{value_from}
-use Rattle.mdp_trials.specs.Trial.{trial_of, stays, is_wide, IsTried, AreLeft}
+use Rattle.mdp_trials.specs.Trial.{trial_set, without, trial_of, stays, is_wide, IsTried, AreLeft}
 
 abbrev to : ℕ → ℚ → Entry
 to t p = record { target = t; prob = p }
@@ -190,6 +190,27 @@ start_visits = refl
 no_visits : of_set one_alone ≡ Ok (record { visits = nought ∷ nought ∷ nought ∷ nought ∷ nought ∷ []; value = nought })
 unfolding equation_of eliminated divided_rest plus_equation evaluated written_add written_mul narrow narrow_ℚ ◌+ℚ◌ ◌*ℚ◌ neg_ℚ inv_ℚ ratio of_int gcd gcd_with_fuel
 no_visits = refl
+
+-- ---- a set without a state; one that isn't in it, or is past the last, changes nothing
+
+without_one : without two_states 1 ≡ start_alone
+without_one = refl
+
+without_start : without two_states 0 ≡ one_alone
+without_start = refl
+
+without_other : without two_states 2 ≡ two_states
+without_other = refl
+
+without_past : without two_states 5 ≡ two_states
+without_past = refl
+
+-- the set in which a state is tried has more, where a lesser state goes later: here 0
+tried_more : trial_set two_states one_alone 1 ≡ start_alone
+tried_more = refl
+
+without_less : without one_alone 1 ≡ no_states
+without_less = refl
 
 -- ---- trials: without state 1 the value is 1/2, which is a threshold of 1/2 still
 
