@@ -73,7 +73,8 @@ module _ (m : Mdp) (goals : List Bool) (z : List ℚ) (policy ranks : List ℕ) 
       let x : Entry = get_or (row_at m s c) k d in
       ap (λ (u : ℚ). x.prob *ℚ u) (counted-is x.target (row.in_range k d l) (next s c h i k d l)))
 
-  floor : MeetsFloor m goals first z ranks start threshold
+  -- the values of the whole model are a floor of the subsystem
+  pub floor : MeetsFloor m goals first z ranks start threshold
   floor = record {
     no_goal = λ s l h. first-no_goal Min m goals z policy start first is s h;
     at_least_zero = λ s l h. rules.probabilities.at_least_zero s l;

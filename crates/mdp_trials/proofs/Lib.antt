@@ -17,3 +17,4 @@ pub mod Within
 pub mod Kept
 pub mod Needed
 pub mod Examples
+pub mod ExamplesLeft
