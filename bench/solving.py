@@ -1,16 +1,19 @@
 #!/usr/bin/env python3
-"""Measures `solve` and `check` on models that the script writes; for `reach` beside an exact linear program of the same query.
+"""Measures `solve`, `discount` and the checks of their certificates on models that the script writes; for `reach`, `mean` and `discount` beside an
+exact linear program of the same query.
 
     layered LAYERS WIDTH   a layered MDP: each state but the last two has two choices, each of two draws of a small generator; a choice of a layer
                            goes to one or two states of the next one, one of the last layer to the goal or to a failing state
     random STATES          a sparse MDP: two choices a state, each with 1/2 to two states drawn with a fixed seed from the next 50; the last two
                            states are the goal and a failing one
     reward LAYERS WIDTH    the layered MDP with a cost of each choice, drawn too, whose last layer goes to the goal alone: the least cost until it
+    mean LAYERS WIDTH      the same with a goal that earns nothing and goes back to state 0: the greatest mean payoff
+    discount LAYERS WIDTH  the same with a goal that stays: the greatest discounted reward with factor 1/2
 
-What is timed is the whole program, reading and writing too. The linear program (least sum of values that cover each choice) goes to `glpsol
---exact` of Debian's glpk-utils where that is installed, in the same run, for at most LIMIT seconds; only its time is compared, and the value of
-state 0. The rounds of policy iteration are counted by the script itself.
-Usage: bench/solving.py [layered L W | random N | reward L W ..] (some of each if nothing is said).
+What is timed is the whole program, reading and writing too. The linear program (least sum of values that cover each choice; for the mean payoff of
+gains, with a bias that covers each choice too) goes to `glpsol --exact` of Debian's glpk-utils where that is installed, in the same run, for at most
+LIMIT seconds; only its time is compared, and the value of state 0. The rounds of policy iteration for `reach` are counted by the script itself.
+Usage: bench/solving.py [layered L W | random N | reward L W | mean L W | discount L W ..] (some of each if nothing is said).
 """
 import os
 import random
@@ -25,6 +28,7 @@ from fractions import Fraction
 TOP = os.path.join(os.path.dirname(os.path.abspath(__file__)), "..")
 PROGRAM = os.path.join(TOP, "bin", "mdp")
 LIMIT = 120
+MODELS = "layered 10 100 layered 40 100 layered 100 160 random 4000 reward 10 100 reward 40 100 mean 10 100 mean 40 100 discount 10 100 discount 40 100"
 
 
 def layered(layers, width):
@@ -65,6 +69,13 @@ def costly_model(layers, width):
     return states, [[draws.randrange(1, 10) for _ in choices] for choices in states[:goal]] + [[0], [0]]
 
 
+def returning_model(layers, width):
+    """The costly model whose goal goes back to state 0."""
+    states, rewards = costly_model(layers, width)
+    states[layers * width] = [[0]]
+    return states, rewards
+
+
 def write_model(path, states, rewards=None):
     with open(path, "w") as file:
         file.write("@type: MDP\n@nr_states\n%d\n@model\n" % len(states))
@@ -75,20 +86,46 @@ def write_model(path, states, rewards=None):
                 file.writelines("%d : 1/%d\n" % (target, len(targets)) for target in targets)
 
 
-def write_program(path, states):
-    """The linear program in CPLEX's format: every share is 1 or 1/2, so all its numbers are exact."""
-    goal = len(states) - 2
+def write_program(path, least, rows, free=()):
+    """The linear program in CPLEX's format: the least sum of some variables under which each row, weights by variable, is at least its bound. Each
+    weight is a multiple of 1/4 and each bound a whole number, so all numbers are exact."""
     with open(path, "w") as file:
-        file.write("Minimize\n total: " + "\n + ".join("z%d" % s for s in range(len(states))) + "\nSubject To\n")
-        for s, choices in enumerate(states):
-            for targets in choices:
-                weights = {s: 1.0}
-                for target in targets:
-                    weights[target] = weights.get(target, 0.0) - 1.0 / len(targets)
-                terms = ["%+g z%d" % (weight, t) for t, weight in weights.items() if weight]
-                if s != goal and terms:
-                    file.write(" " + " ".join(terms) + " >= 0\n")
-        file.write(" z%d = 1\nEnd\n" % goal)
+        file.write("Minimize\n total: " + "\n + ".join(least) + "\nSubject To\n")
+        for weights, bound in rows:
+            terms = ["%+.10g %s" % (weight, name) for name, weight in weights.items() if weight]
+            if terms:
+                file.write(" %s >= %.10g\n" % (" ".join(terms), bound))
+        file.write("Bounds\n" + "".join(" %s free\n" % name for name in free) + "End\n")
+
+
+def covers(letter, s, targets, factor=1.0):
+    """The weights of what state s has above the mean of the targets times the factor."""
+    weights = {"%s%d" % (letter, s): 1.0}
+    for target in targets:
+        name = "%s%d" % (letter, target)
+        weights[name] = weights.get(name, 0.0) - factor / len(targets)
+    return weights
+
+
+def each_choice(states):
+    return [(s, c, targets) for s, choices in enumerate(states) for c, targets in enumerate(choices)]
+
+
+def reach_program(path, states):
+    goal = len(states) - 2
+    rows = [(covers("z", s, targets), 0) for s, _, targets in each_choice(states) if s != goal]
+    write_program(path, ["z%d" % s for s in range(len(states))], [*rows, ({"z%d" % goal: 1.0}, 1)])
+
+
+def mean_program(path, states, rewards):
+    gains = [(covers("z", s, targets), 0) for s, _, targets in each_choice(states)]
+    biases = [({"z%d" % s: 1.0, **covers("h", s, targets)}, rewards[s][c]) for s, c, targets in each_choice(states)]
+    write_program(path, ["z%d" % s for s in range(len(states))], gains + biases, ["h%d" % s for s in range(len(states))])
+
+
+def discount_program(path, states, rewards):
+    rows = [(covers("z", s, targets, 0.5), rewards[s][c]) for s, c, targets in each_choice(states)]
+    write_program(path, ["z%d" % s for s in range(len(states))], rows)
 
 
 def reach_ranks(states):
@@ -147,11 +184,12 @@ def timed(words, **options):
     return ended.stdout.decode(), ended.returncode, time.time() - start
 
 
-def peer(folder, states):
+def peer(folder, program, *query):
+    """What the exact linear program that is written by a function takes, and its seconds."""
     if shutil.which("glpsol") is None:
         return "glpsol isn't installed", None
     path, answer = os.path.join(folder, "query.lp"), os.path.join(folder, "query.txt")
-    write_program(path, states)
+    program(path, *query)
     try:
         _, _, seconds = timed(["glpsol", "--exact", "--lp", path, "-o", answer], timeout=LIMIT)
     except subprocess.TimeoutExpired:
@@ -161,56 +199,57 @@ def peer(folder, states):
     return "glpsol --exact: %.2f s, value of state 0 %s" % (seconds, found.group(1) if found else "?"), seconds
 
 
-def measure(folder, name, states):
-    model, cert = os.path.join(folder, "model.drn"), os.path.join(folder, "model.cert")
-    write_model(model, states)
-    text, status, solved = timed([PROGRAM, "solve", model, "exact", "max", "reach", "goal"])
-    print("%s: %d states, %d choices, load %.1f" % (name, len(states), sum(len(c) for c in states), os.getloadavg()[0]))
-    if status != 0:
-        print("  solve: status %d after %.2f s: %s" % (status, solved, text.split("\n")[0]))
-        return
-    with open(cert, "w") as file:
-        file.write(text)
-    said, _, checked = timed([PROGRAM, "check", model, "exact", cert])
-    value = Fraction(re.search(r"^init 0 (\S+)$", text, re.M).group(1))
-    print("  solve: %.2f s, %d rounds, value of state 0 %.6f; check: %.2f s, %s" % (solved, rounds_of(states), value, checked, said.strip()))
-    line, seconds = peer(folder, states)
-    print("  %s%s" % (line, "" if seconds is None else ", %.0f times as long" % (seconds / solved)))
-
-
-def measure_earning(folder, name, states, rewards, query):
-    """A query of rewards, and the check of its certificate."""
+def measure(folder, name, states, query, rewards=None, program=None, rounds=""):
+    """A query, given by its first word and those behind the row rule, and the check of its certificate; and its linear program, if there is one."""
     model, cert = os.path.join(folder, "model.drn"), os.path.join(folder, "model.cert")
     write_model(model, states, rewards)
-    text, status, solved = timed([PROGRAM, "solve", model, "exact", *query])
+    command, *behind = query
+    text, status, solved = timed([PROGRAM, command, model, "exact", *behind])
     print("%s: %d states, %d choices, load %.1f" % (name, len(states), sum(len(c) for c in states), os.getloadavg()[0]))
     if status != 0:
-        print("  solve %s: status %d after %.2f s: %s" % (" ".join(query), status, solved, text.split("\n")[0]))
+        print("  %s: status %d after %.2f s: %s" % (" ".join(query), status, solved, text.split("\n")[0]))
         return
     with open(cert, "w") as file:
         file.write(text)
-    said, _, checked = timed([PROGRAM, "check", model, "exact", cert])
+    said, _, checked = timed([PROGRAM, "discount-check" if command == "discount" else "check", model, "exact", cert])
     value = Fraction(re.search(r"^init 0 (\S+)$", text, re.M).group(1))
-    print("  solve %s: %.2f s, value of state 0 %.6f; check: %.2f s, %s" % (" ".join(query), solved, value, checked, said.strip()))
+    print("  %s: %.2f s, %svalue of state 0 %.6f; check: %.2f s, %s" % (" ".join(query), solved, rounds, value, checked, said.strip()))
+    if program is not None:
+        line, seconds = peer(folder, program, *([states] if rewards is None else [states, rewards]))
+        print("  %s%s" % (line, "" if seconds is None else ", %.0f times as long" % (seconds / solved)))
+
+
+def measure_reach(folder, name, states):
+    measure(folder, name, states, ["solve", "max", "reach", "goal"], program=reach_program, rounds="%d rounds, " % rounds_of(states))
+
+
+def measure_layers(folder, kind, layers, width):
+    """Measures a model of layers, by the query that its word names."""
+    name = "%s %d %d" % (kind, layers, width)
+    if kind == "layered":
+        measure_reach(folder, name, layered(layers, width))
+    elif kind == "reward":
+        states, rewards = costly_model(layers, width)
+        measure(folder, name, states, ["solve", "min", "reward", "-", "goal"], rewards)
+    elif kind == "mean":
+        states, rewards = returning_model(layers, width)
+        measure(folder, name, states, ["solve", "max", "mean", "-"], rewards, mean_program)
+    else:
+        states, rewards = costly_model(layers, width)
+        measure(folder, name, states, ["discount", "max", "-", "1/2"], rewards, discount_program)
 
 
 def measure_named(folder, words):
     """Measures the model that the first words name; the words behind them."""
-    if words[0] in ("layered", "reward"):
-        name, layers, width, rest = " ".join(words[:3]), int(words[1]), int(words[2]), words[3:]
-    else:
-        name, size, rest = " ".join(words[:2]), int(words[1]), words[2:]
-    if words[0] == "layered":
-        measure(folder, name, layered(layers, width))
-    elif words[0] == "reward":
-        measure_earning(folder, name, *costly_model(layers, width), ["min", "reward", "-", "goal"])
-    else:
-        measure(folder, name, random_model(size))
-    return rest
+    if words[0] == "random":
+        measure_reach(folder, " ".join(words[:2]), random_model(int(words[1])))
+        return words[2:]
+    measure_layers(folder, words[0], int(words[1]), int(words[2]))
+    return words[3:]
 
 
 def main():
-    words = sys.argv[1:] or "layered 10 100 layered 40 100 layered 100 160 random 4000 reward 10 100 reward 40 100".split()
+    words = sys.argv[1:] or MODELS.split()
     with tempfile.TemporaryDirectory() as folder:
         while words:
             words = measure_named(folder, words)
