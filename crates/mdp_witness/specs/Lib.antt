@@ -1,0 +1,5 @@
+pub mod LastRound
+pub mod Query
+pub mod Code
+pub mod Shown
+pub mod Laws
