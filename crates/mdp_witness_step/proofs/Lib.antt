@@ -1,2 +1,3 @@
 pub mod Fitting
 pub mod TextLength
+pub mod Accepting
