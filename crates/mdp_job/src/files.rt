@@ -16,7 +16,9 @@ pub fn files_of(words: &[String]) -> Files
     ensures { result ≡ files_of (job_of words.now) }
 {
     match job_of(words) {
-        Ok(Job::Solve { .. } | Job::Horizon { .. } | Job::Discount { .. }) => Files {
+        Ok(
+            Job::Solve { .. } | Job::Witness { .. } | Job::Horizon { .. } | Job::Discount { .. },
+        ) => Files {
             model: Some(1),
             second: None,
         },

@@ -2,7 +2,7 @@ ghost use Rattle.std.specs.Prelude.{◌≡◌, ◌<◌, ◌^◌, option_map, len
 ghost use Rattle.std.specs.Result.{MatchResult};
 ghost use Rattle.std.specs.String.{string_bytes};
 ghost use Rattle.mdp_job.specs.Job.{asked, plain_query};
-ghost use Rattle.mdp_job.specs.Words.{job_of, rule_of, dir_of, reach_of, reward_of, mean_of, query_of, solve_of, check_of, drill_by, drill_of, stay_of, steps_of, horizon_of, policy_of, factor_of, discount_of, discount_check_of};
+ghost use Rattle.mdp_job.specs.Words.{job_of, rule_of, dir_of, reach_of, reward_of, mean_of, query_of, solve_of, threshold_of, witness_of, check_of, drill_by, drill_of, stay_of, steps_of, horizon_of, policy_of, factor_of, discount_of, discount_check_of};
 
 use crate::digits::whole_word;
 use crate::words_error::WordsError;
@@ -29,6 +29,14 @@ pub enum Job<'a> {
         rule: RowRule,
         dir: Dir,
         query: Query<'a>,
+    },
+    /// `witness MODEL ROWS DIR LABEL THRESHOLD`: a subsystem on which the best probability, in the direction, of reaching a state with the label from
+    /// the one initial state is still at least the threshold.
+    Witness {
+        rule: RowRule,
+        dir: Dir,
+        label: &'a [u8],
+        threshold: Frac,
     },
     /// `check MODEL ROWS CERT`: whether the certificate holds of the model, read under the row rule.
     Check {
@@ -159,6 +167,34 @@ fn solve_of<'a>(words: &'a [String]) -> Result<Job<'a>, WordsError>
         Ok(query) => Ok(Job::Solve { rule, dir, query }),
         Err(error) => Err(error),
     }
+}
+
+/// The threshold that a word writes.
+fn threshold_of(word: &str) -> Result<Frac, WordsError>
+    ensures { result ≡ threshold_of word.now }
+{
+    match read_numeral(word.as_bytes()) {
+        Ok(threshold) => Ok(threshold),
+        Err(_) => Err(WordsError::Threshold),
+    }
+}
+
+/// The job that the words behind `witness` are.
+fn witness_of<'a>(words: &'a [String]) -> Result<Job<'a>, WordsError>
+    ensures { asked result ≡ witness_of (map string_bytes words.now) }
+{
+    let [_, rows, dir, label, threshold] = words else {
+        return Err(WordsError::Number);
+    };
+    let rule = rule_of(rows.as_str())?;
+    let dir = dir_of(dir.as_str())?;
+    let threshold = threshold_of(threshold.as_str())?;
+    Ok(Job::Witness {
+        rule,
+        dir,
+        label: label.as_bytes(),
+        threshold,
+    })
 }
 
 /// The job that the words behind `check` are.
@@ -307,7 +343,7 @@ fn drill_of<'a>(words: &'a [String]) -> Result<Job<'a>, WordsError>
 
 /// The job that the words are, or the first refusal: `Command`, then `Number`, `Rows`, `Direction` and `Objective`, and `Number` again where an
 /// objective has another number of words; for `drill` `Drill`, for `horizon` `Steps`, for `policy` `Objective` behind `Rows`, for `discount` `Factor`
-/// behind `Direction`. It takes no memory.
+/// and for `witness` `Threshold` behind `Direction`. It takes no memory.
 pub fn job_of<'a>(words: &'a [String]) -> Result<Job<'a>, WordsError>
     ensures { asked result ≡ job_of words.now }
 {
@@ -316,6 +352,7 @@ pub fn job_of<'a>(words: &'a [String]) -> Result<Job<'a>, WordsError>
     };
     match command.as_str() {
         "solve" => solve_of(rest),
+        "witness" => witness_of(rest),
         "check" => check_of(rest),
         "drill" => drill_of(rest),
         "horizon" => horizon_of(rest),
