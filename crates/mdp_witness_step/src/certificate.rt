@@ -1,4 +1,4 @@
-ghost use Rattle.std.specs.Prelude.{◌≡◌, ◌<◌, ◌≤◌, ◌^◌, length, All, pos};
+ghost use Rattle.std.specs.Prelude.{◌≡◌, ◌⊎◌, ◌<◌, ◌^◌, All, pos, Ok, Err};
 ghost use Rattle.mdp_math.specs.Rational.{◌≤ℚ◌, of_int};
 ghost use Rattle.mdp_num.specs.Value.{IsNarrow};
 ghost use Rattle.mdp_spec.specs.Mdp.{states_of};
@@ -7,13 +7,21 @@ ghost use Rattle.mdp_rows.specs.declared.dir.Dir.TheVariants.{Max, Min};
 ghost use Rattle.mdp_flow.specs.Shape.{IsFlowShape, IsFloorShape};
 ghost use Rattle.mdp_cert.specs.Cert.{IsFlowInWidth, Fits};
 ghost use Rattle.mdp_cert.specs.Plain.{plain};
+ghost use Rattle.mdp_cert.specs.Spelling.{text_of};
+ghost use Rattle.mdp_job.specs.Refusal.{no_memory};
+ghost use Rattle.mdp_step.specs.Said.{said};
+ghost use Rattle.mdp_witness.specs.Code as witness;
 ghost use Rattle.mdp_witness.specs.Code.{plain_flow, plain_floor};
-ghost use Rattle.mdp_witness_step.specs.Certificate.{certificate_of};
+ghost use Rattle.mdp_witness.specs.Shown.{HasShape};
+ghost use Rattle.mdp_witness_step.specs.Certificate.{dir_of, certificate_of};
 
-use mdp_cert::{Body, Cert, Claim, Init};
+use mdp_cert::{Body, Cert, Claim, Init, write_cert};
 use mdp_flow::{Flow, FloorCert, FlowCert};
+use mdp_job::Refusal;
 use mdp_num::Frac;
 use mdp_rows::{Dir, Model};
+use mdp_witness::Subsystem;
+use std::alloc::Global;
 
 /// Each flow is in width, as its type keeps it.
 fn all_flows_narrow(flows: &[Flow])
@@ -44,7 +52,7 @@ fn all_short(numbers: &[u32])
 }
 
 /// The certificate of a subsystem on which some policy reaches the threshold, which has a text.
-pub fn flow_certificate_of(
+fn flow_certificate_of(
     model: &Model,
     label: Vec<u8>,
     threshold: Frac,
@@ -74,7 +82,7 @@ pub fn flow_certificate_of(
 }
 
 /// The certificate of a subsystem on which each policy reaches the threshold, which has a text.
-pub fn floor_certificate_of(
+fn floor_certificate_of(
     model: &Model,
     label: Vec<u8>,
     threshold: Frac,
@@ -101,5 +109,37 @@ pub fn floor_certificate_of(
         states: model.states(),
         init: Init::Start(start),
         body: Body::Floor(found),
+    }
+}
+
+/// The certificate of a subsystem that was found, which has a text.
+pub fn certificate_of(
+    model: &Model,
+    label: Vec<u8>,
+    threshold: Frac,
+    start: u32,
+    found: Subsystem,
+) -> Cert
+    requires name { IsName label.items }
+    requires threshold { of_int (pos 0) ≤ℚ threshold }
+    requires start { start < states_of model.now }
+    requires shape { HasShape (dir_of (witness.plain found)) model.now (witness.plain found) }
+    ensures certificate { plain result ≡ certificate_of (dir_of (witness.plain found)) label.items threshold start model.now (witness.plain found) }
+    ensures fits { Fits (plain result) }
+{
+    match found {
+        Subsystem::Max(flow) => flow_certificate_of(model, label, threshold, start, flow),
+        Subsystem::Min(floor) => floor_certificate_of(model, label, threshold, start, floor),
+    }
+}
+
+/// The text of a certificate.
+pub(crate) fn certificate_text(alloc: Global, cert: &Cert) -> Result<Vec<u8>, Refusal>
+    ensures { (said result ≡ Err no_memory) ⊎ (said result ≡ Ok (text_of (plain cert.now))) }
+{
+    let mut text = Vec::new(alloc);
+    match write_cert(cert, &mut text) {
+        Ok(()) => Ok(text),
+        Err(_) => Err(Refusal::Memory),
     }
 }

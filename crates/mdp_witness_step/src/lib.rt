@@ -3,5 +3,9 @@
 #![tactic(auto)]
 
 mod certificate;
+mod laws;
+mod searching;
 
-pub use certificate::{flow_certificate_of, floor_certificate_of};
+pub use certificate::certificate_of;
+pub use laws::witness_step_law;
+pub use searching::witness_file;
