@@ -1,3 +1,6 @@
 pub mod Fitting
+pub mod Few
 pub mod TextLength
 pub mod Accepting
+pub mod Printing
+pub mod Dues

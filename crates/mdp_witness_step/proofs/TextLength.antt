@@ -21,7 +21,9 @@ use Rattle.mdp_cert.specs.Listed.{Listed}
 use Rattle.mdp_cert.specs.Spelling.{line, ◌␣◌, quoted, dir_text, claim_text, states_text, init_text, head_text, end_text, listed_lines, text_in, text_of}
 use Rattle.mdp_cert.specs.Witness.{mark_text, flow_listed, flow_lines, keep_lines, floor_listed, floor_lines}
 use Rattle.mdp_witness.specs.Query.{PlainSubsystem, flow, floor}
+use Rattle.mdp_witness.specs.Shown.{HasShape}
 use Rattle.mdp_witness_step.specs.Certificate.{certificate_of}
+use Rattle.mdp_witness_step.proofs.Few.{HasFewFlows}
 
 -- ---- words
 
@@ -194,11 +196,6 @@ flows_below_32 n flows limit inside =
 
 -- ---- the whole
 
--- a flow has a state of its own
-abbrev pub HasFewFlows : Mdp → PlainSubsystem → Type 0
-HasFewFlows m (flow kept wide flows) = length flows ≤ states_of m
-HasFewFlows m (floor kept wide values ranks) = Unit {0}
-
 module _ (dir : Dir) (label : List ℕ) (threshold : ℚ) (start : ℕ) (m : Mdp) (inside : start < states_of m) where
   module _ (found : PlainSubsystem) (fits : Fits (certificate_of dir label threshold start m found)) where
     head_short : length (head_text (certificate_of dir label threshold start m found)) ≤ 500
@@ -250,3 +247,11 @@ module _ (dir : Dir) (label : List ℕ) (threshold : ℚ) (start : ℕ) (m : Mdp
       let k = floor_lines_few kept wide values ranks in
       let n = kept_few (states_of m) kept shape.kept_ascends shape.kept_in_range in
       whole_short (floor kept wide values ranks) fits (listed_lines floor_listed lines) (omega (arith, l, k, n))
+
+  -- so is the text of a subsystem that a query ends with
+  pub witness_text_short : (d : Dir) (found : PlainSubsystem) → Fits (certificate_of dir label threshold start m found) → HasShape d m found → HasFewFlows m found
+      → length (text_of (certificate_of dir label threshold start m found)) ≤ 2 ^ 30
+  witness_text_short Max (flow kept wide flows) fits shape few = flow_text_short kept wide flows fits shape few
+  witness_text_short Max (floor kept wide values ranks) fits shape few = absurd shape
+  witness_text_short Min (flow kept wide flows) fits shape few = absurd shape
+  witness_text_short Min (floor kept wide values ranks) fits shape few = floor_text_short kept wide values ranks fits shape
