@@ -4,3 +4,4 @@ pub mod TextLength
 pub mod Accepting
 pub mod Printing
 pub mod Dues
+mod Examples

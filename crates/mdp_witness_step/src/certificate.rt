@@ -16,7 +16,7 @@ ghost use Rattle.mdp_witness.specs.Shown.{HasShape};
 ghost use Rattle.mdp_witness_step.specs.Certificate.{dir_of, certificate_of};
 
 use mdp_cert::{Body, Cert, Claim, Init, write_cert};
-use mdp_flow::{Flow, FloorCert, FlowCert};
+use mdp_flow::{FloorCert, Flow, FlowCert};
 use mdp_job::Refusal;
 use mdp_num::Frac;
 use mdp_rows::{Dir, Model};
