@@ -1,0 +1,6 @@
+pub mod Listed
+pub mod LastRound
+pub mod Query
+pub mod Code
+pub mod Shown
+pub mod Laws

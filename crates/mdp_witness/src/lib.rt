@@ -1,0 +1,11 @@
+//! The search for a witnessing subsystem: a set of states on which the best probability of reaching a goal from the start is still at least a
+//! threshold, with a certificate that shows it, and from which no single state more can go.
+#![tactic(auto)]
+
+mod laws;
+mod subsystem;
+mod witness;
+
+pub use laws::witness_law;
+pub use subsystem::{Subsystem, WitnessError};
+pub use witness::witness;
