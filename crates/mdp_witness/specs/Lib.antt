@@ -1,4 +1,3 @@
-pub mod Listed
 pub mod LastRound
 pub mod Query
 pub mod Code

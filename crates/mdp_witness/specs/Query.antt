@@ -5,10 +5,10 @@
 --     the trials
 --     and the rules of certificates, against which the certificate of what is left is held
 -- The first written term past width ends it, but for a term of a trial, which ends that trial.
-use Rattle.std.specs.Prelude.{◌≡◌, ℕ, Bool, false, List, slice_index, Option, Some, None, Result, Ok, Err, pos}
+use Rattle.std.specs.Prelude.{◌≡◌, ℕ, Bool, List, slice_index, Option, Some, None, Result, Ok, Err}
 use Rattle.std.specs.declared.cmp.Ordering.{Ordering}
 use Rattle.std.specs.declared.cmp.Ordering.TheVariants.{Less, Equal, Greater}
-use Rattle.mdp_math.specs.Rational.{ℚ, of_int}
+use Rattle.mdp_math.specs.Rational.{ℚ}
 use Rattle.mdp_math.specs.Written.{written_compare}
 use Rattle.mdp_spec.specs.Mdp.{Mdp, states_of, value_at}
 use Rattle.mdp_rows.specs.declared.dir.Dir.{Dir}
@@ -22,13 +22,13 @@ use Rattle.mdp_farkas.specs.declared.verdict.Verdict.TheVariants.{Yes, No, Wide}
 use Rattle.mdp_flow.specs.declared.flow.Flow.{Flow}
 use Rattle.mdp_flow.specs.FlowChecks.{flow_checks}
 use Rattle.mdp_flow.specs.FloorChecks.{floor_checks}
+use Rattle.mdp_flow.specs.Listed.{listed, marks_at, values_at, ranks_at}
 use Rattle.mdp_flow.specs.Visits.{visit_flows}
 use Rattle.mdp_reach.specs.Query.{Answer}
 use Rattle.mdp_trials.specs.First.{IsFirst}
 use Rattle.mdp_trials.specs.Evaluation.{Visited, visited, Visits, visited_value}
 use Rattle.mdp_trials.specs.LeastEvaluation.{Evaluates, value_from}
 use Rattle.mdp_trials.specs.Trial.{AreLeft}
-use Rattle.mdp_witness.specs.Listed.{listed, elements_at}
 use Rattle.mdp_witness.specs.LastRound.{LastAnswer, EndsWithRound}
 
 -- ---- its end
@@ -65,7 +65,7 @@ module _ (m : Mdp) (goals : List Bool) (start : ℕ) (threshold : ℚ) where
 
   -- the certificate of the kept states: the flows of their visits by the policy, but those of amount 0
   abbrev pub flow_of : List ℕ → List Bool → List Bool → Visited → PlainSubsystem
-  flow_of policy kept wide last = flow (listed (states_of m) kept) (elements_at false wide (listed (states_of m) kept)) (visit_flows (states_of m) policy last.visits)
+  flow_of policy kept wide last = flow (listed (states_of m) kept) (marks_at wide (listed (states_of m) kept)) (visit_flows (states_of m) policy last.visits)
 
   abbrev pub flow_verdict : List ℕ → List Bool → Visited → Verdict
   flow_verdict policy kept last = verdict_of (flow_checks m goals start threshold (listed (states_of m) kept) (visit_flows (states_of m) policy last.visits))
@@ -94,14 +94,14 @@ module _ (m : Mdp) (goals : List Bool) (start : ℕ) (threshold : ℚ) where
   -- the certificate of the kept states: their values and ranks in the query of the subsystem
   abbrev pub floor_of : List Bool → List Bool → Answer → PlainSubsystem
   floor_of kept wide last =
-      floor (listed (states_of m) kept) (elements_at false wide (listed (states_of m) kept)) (elements_at (of_int (pos 0)) last.values (listed (states_of m) kept))
-      (elements_at 0 last.ranks (listed (states_of m) kept))
+      floor (listed (states_of m) kept) (marks_at wide (listed (states_of m) kept)) (values_at last.values (listed (states_of m) kept))
+      (ranks_at last.ranks (listed (states_of m) kept))
 
   abbrev pub floor_verdict : List Bool → Answer → Verdict
   floor_verdict kept last =
       verdict_of
-      (floor_checks m goals start threshold (listed (states_of m) kept) (elements_at (of_int (pos 0)) last.values (listed (states_of m) kept))
-      (elements_at 0 last.ranks (listed (states_of m) kept)))
+      (floor_checks m goals start threshold (listed (states_of m) kept) (values_at last.values (listed (states_of m) kept))
+      (ranks_at last.ranks (listed (states_of m) kept)))
 
   -- held against the rules, of which none is false. No term of this check is past width: each was a term of the check of that query, or of a comparison
   -- with the threshold
@@ -144,8 +144,8 @@ module _ (m : Mdp) (goals : List Bool) (start : ℕ) (threshold : ℚ) where
   AfterWhole dir (Err w) r = r ≡ Err (too_wide w)
   AfterWhole dir (Ok whole) r = AfterComparison dir whole (written_compare (value_at whole.answer.values start) threshold) r
 
-  -- the query ends so
-  pub record EndsSo (dir : Dir) (r : Result PlainSubsystem Refusal) : Type 0 where
-    pub whole : Result LastAnswer WideTerm
-    pub solved : EndsWithRound dir m goals whole
-    pub after : AfterWhole dir whole r
+-- the query ends so
+pub record EndsSo (dir : Dir) (m : Mdp) (goals : List Bool) (start : ℕ) (threshold : ℚ) (r : Result PlainSubsystem Refusal) : Type 0 where
+  pub whole : Result LastAnswer WideTerm
+  pub solved : EndsWithRound dir m goals whole
+  pub after : AfterWhole m goals start threshold dir whole r
