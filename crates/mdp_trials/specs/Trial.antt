@@ -1,7 +1,7 @@
 -- Trials: the states of the first set are tried from the greatest to the least. In its trial a state is taken out of the set that is left, and
 -- that set is evaluated. Where its value is at least the threshold, the state goes; else it is needed and stays. It stays too where a term is past
 -- width, and is marked as wide.
-use Rattle.std.specs.Prelude.{◌≡◌, ℕ, ◌<◌, Bool, true, false, ◌&&◌, nat_lt, List, length, map, Option, Some, None, Result, Ok, Err, if◌then◌else◌}
+use Rattle.std.specs.Prelude.{◌≡◌, ℕ, ◌<◌, Bool, true, false, ◌&&◌, nat_lt, List, length, map, slice_set, Option, Some, None, Result, Ok, Err, if◌then◌else◌}
 use Rattle.std.specs.List.{range_with_len}
 use Rattle.std.specs.declared.cmp.Ordering.{Ordering}
 use Rattle.std.specs.declared.cmp.Ordering.TheVariants.{Less, Equal, Greater}
@@ -17,6 +17,10 @@ in_trial first kept x s = if nat_lt s x then is_marked first s else nat_lt x s &
 
 abbrev pub trial_set : List Bool → List Bool → ℕ → List Bool
 trial_set first kept x = map (in_trial first kept x) (range_with_len 0 (length first))
+
+-- a set without state x
+abbrev pub without : List Bool → ℕ → List Bool
+without set x = slice_set set x false
 
 -- what a trial says of its state, by the comparison of the value with the threshold
 abbrev pub trial_by : Option Ordering → Trial
