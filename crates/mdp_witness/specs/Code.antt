@@ -1,5 +1,7 @@
 -- What the code answers.
 use Rattle.std.specs.Prelude.{◌≡◌, ℕ, Result, Ok, Err}
+use Rattle.mdp_math.specs.Rational.{ℚ}
+use Rattle.mdp_elim.specs.declared.too_wide.Part.TheVariants as part
 use Rattle.mdp_elim.specs.declared.too_wide.SolveError.{SolveError}
 use Rattle.mdp_elim.specs.declared.too_wide.SolveError.TheVariants as solve
 use Rattle.mdp_path.specs.Ends.{capped}
@@ -22,6 +24,12 @@ abbrev pub plain : Subsystem → PlainSubsystem
 plain (subsystem.Max cert) = plain_flow cert
 plain (subsystem.Min cert) = plain_floor cert
 
+-- P of the best probability, where it is below the threshold
+abbrev pub IfBelow : WitnessError → (ℚ → Type 0) → Type 0
+IfBelow (refused.Below v) P = P v
+IfBelow (refused.TooWide w) P = Unit {0}
+IfBelow refused.Memory P = Unit {0}
+
 -- an error of a query
 abbrev pub of_solve : SolveError → WitnessError
 of_solve (solve.TooWide w) = refused.TooWide w
@@ -34,3 +42,8 @@ Answers view Ends (Ok found) = Ends (Ok (view found))
 Answers view Ends (Err (refused.Below v)) = Ends (Err (below v))
 Answers view Ends (Err (refused.TooWide w)) = (n : ℕ) × (w.round ≡ capped n) × Ends (Err (too_wide (shown w n)))
 Answers view Ends (Err refused.Memory) = Unit {0}
+
+-- the error of the query of the first set's subsystem
+abbrev pub in_floor : SolveError → WitnessError
+in_floor (solve.TooWide w) = refused.TooWide (record { part = part.Floor; round = w.round; policy = w.policy; kind = w.kind; state = w.state; choice = w.choice })
+in_floor solve.Memory = refused.Memory

@@ -31,8 +31,6 @@ use Rattle.mdp_trials.specs.LeastEvaluation.{Evaluates, value_from}
 use Rattle.mdp_trials.specs.Trial.{AreLeft}
 use Rattle.mdp_witness.specs.LastRound.{LastAnswer, EndsWithRound}
 
--- ---- its end
-
 -- what is printed: the kept states, and for each whether it is kept for want of width; then the flows, or the values and the ranks of the kept states
 pub data PlainSubsystem : Type 0 where
   flow : List ℕ → List Bool → List Flow → PlainSubsystem
@@ -60,62 +58,57 @@ checking policy state choice = record { part = part.Flow; number = 0; policy = p
 abbrev pub in_floor : WideTerm → WideTerm
 in_floor w = record { part = part.Floor; number = w.number; policy = w.policy; kind = w.kind; state = w.state; choice = w.choice }
 
+-- ---- certificates
+
+-- the kept states of the greatest probability, with the flows of their visits by the policy, but those of amount 0
+abbrev pub flow_of : Mdp → List ℕ → List Bool → List Bool → Visited → PlainSubsystem
+flow_of m policy kept wide last = flow (listed (states_of m) kept) (marks_at wide (listed (states_of m) kept)) (visit_flows (states_of m) policy last.visits)
+
+-- those of the least one, with their values and ranks in the query of the subsystem
+abbrev pub floor_of : Mdp → List Bool → List Bool → Answer → PlainSubsystem
+floor_of m kept wide last =
+    floor (listed (states_of m) kept) (marks_at wide (listed (states_of m) kept)) (values_at last.values (listed (states_of m) kept)) (ranks_at last.ranks (listed (states_of m) kept))
+
+-- what the rules say of one
+abbrev pub verdict_on : Mdp → List Bool → ℕ → ℚ → PlainSubsystem → Verdict
+verdict_on m goals start threshold (flow kept wide flows) = verdict_of (flow_checks m goals start threshold kept flows)
+verdict_on m goals start threshold (floor kept wide values ranks) = verdict_of (floor_checks m goals start threshold kept values ranks)
+
+-- flows, held against the rules, of which none is false
+abbrev pub FlowHeld : List ℕ → PlainSubsystem → Verdict → Result PlainSubsystem Refusal → Type 0
+FlowHeld policy found Yes r = r ≡ Ok found
+FlowHeld policy found (Wide state choice) r = r ≡ Err (too_wide (checking policy state choice))
+FlowHeld policy found (No fault) r = ⊥
+
+-- values and ranks. No term of this check is past width: it was one of the check of the subsystem's query, or of a comparison with the threshold
+abbrev pub FloorHeld : PlainSubsystem → Verdict → Result PlainSubsystem Refusal → Type 0
+FloorHeld found Yes r = r ≡ Ok found
+FloorHeld found (Wide state choice) r = ⊥
+FloorHeld found (No fault) r = ⊥
+
+-- ---- from the first set on
+
 module _ (m : Mdp) (goals : List Bool) (start : ℕ) (threshold : ℚ) where
-  -- ---- the greatest probability
-
-  -- the certificate of the kept states: the flows of their visits by the policy, but those of amount 0
-  abbrev pub flow_of : List ℕ → List Bool → List Bool → Visited → PlainSubsystem
-  flow_of policy kept wide last = flow (listed (states_of m) kept) (marks_at wide (listed (states_of m) kept)) (visit_flows (states_of m) policy last.visits)
-
-  abbrev pub flow_verdict : List ℕ → List Bool → Visited → Verdict
-  flow_verdict policy kept last = verdict_of (flow_checks m goals start threshold (listed (states_of m) kept) (visit_flows (states_of m) policy last.visits))
-
-  -- held against the rules, of which none is false
-  abbrev pub FlowHeld : List ℕ → PlainSubsystem → Verdict → Result PlainSubsystem Refusal → Type 0
-  FlowHeld policy found Yes r = r ≡ Ok found
-  FlowHeld policy found (Wide state choice) r = r ≡ Err (too_wide (checking policy state choice))
-  FlowHeld policy found (No fault) r = ⊥
-
-  -- after the trials, with what they leave
+  -- after the trials for the greatest probability, by what they leave
   pub record AfterMaxTrials (policy : List ℕ) (first : List Bool) (r : Result PlainSubsystem Refusal) : Type 0 where
     pub kept : List Bool
     pub wide : List Bool
     pub last : Visited
     pub left : AreLeft (Visits m goals policy start) visited_value threshold first kept wide last
-    pub held : FlowHeld policy (flow_of policy kept wide last) (flow_verdict policy kept last) r
+    pub held : FlowHeld policy (flow_of m policy kept wide last) (verdict_on m goals start threshold (flow_of m policy kept wide last)) r
 
   -- after the evaluation of the first set
   abbrev pub AfterVisits : List ℕ → List Bool → Result Visited ℕ → Result PlainSubsystem Refusal → Type 0
   AfterVisits policy first (Err s) r = r ≡ Err (too_wide (visiting policy s))
   AfterVisits policy first (Ok v) r = AfterMaxTrials policy first r
 
-  -- ---- the least probability
-
-  -- the certificate of the kept states: their values and ranks in the query of the subsystem
-  abbrev pub floor_of : List Bool → List Bool → Answer → PlainSubsystem
-  floor_of kept wide last =
-      floor (listed (states_of m) kept) (marks_at wide (listed (states_of m) kept)) (values_at last.values (listed (states_of m) kept))
-      (ranks_at last.ranks (listed (states_of m) kept))
-
-  abbrev pub floor_verdict : List Bool → Answer → Verdict
-  floor_verdict kept last =
-      verdict_of
-      (floor_checks m goals start threshold (listed (states_of m) kept) (values_at last.values (listed (states_of m) kept))
-      (ranks_at last.ranks (listed (states_of m) kept)))
-
-  -- held against the rules, of which none is false. No term of this check is past width: each was a term of the check of that query, or of a comparison
-  -- with the threshold
-  abbrev pub FloorHeld : PlainSubsystem → Verdict → Result PlainSubsystem Refusal → Type 0
-  FloorHeld found Yes r = r ≡ Ok found
-  FloorHeld found (Wide state choice) r = ⊥
-  FloorHeld found (No fault) r = ⊥
-
+  -- after the trials for the least probability
   pub record AfterMinTrials (first : List Bool) (r : Result PlainSubsystem Refusal) : Type 0 where
     pub kept : List Bool
     pub wide : List Bool
     pub last : Answer
     pub left : AreLeft (Evaluates m goals) (value_from start) threshold first kept wide last
-    pub held : FloorHeld (floor_of kept wide last) (floor_verdict kept last) r
+    pub held : FloorHeld (floor_of m kept wide last) (verdict_on m goals start threshold (floor_of m kept wide last)) r
 
   -- after the query of the first set's subsystem
   abbrev pub AfterFirstQuery : List Bool → Result Answer WideTerm → Result PlainSubsystem Refusal → Type 0

@@ -3,7 +3,7 @@ use Rattle.std.specs.Prelude.{◌≡◌, ℕ, ◌<◌, Bool, true, false, List, 
 use Rattle.mdp_math.specs.Rational.{ℚ, ◌<ℚ◌}
 use Rattle.mdp_spec.specs.Mdp.{Mdp, states_of, value_at}
 use Rattle.mdp_spec.specs.Bounds.{ReachMax, ReachMin}
-use Rattle.mdp_spec.specs.Sub.{policy_on}
+use Rattle.mdp_spec.specs.Sub.{sub_of, policy_on}
 use Rattle.mdp_spec.specs.Tree.{IsPolicy}
 use Rattle.mdp_rows.specs.declared.dir.Dir.{Dir}
 use Rattle.mdp_rows.specs.declared.dir.Dir.TheVariants.{Max, Min}
@@ -14,6 +14,7 @@ use Rattle.mdp_flow.specs.Kept.{kept_marks}
 use Rattle.mdp_flow.specs.Policy.{PolicyWithin, FallsShort}
 use Rattle.mdp_flow.specs.Shape.{IsFlowShape, IsFloorShape}
 use Rattle.mdp_reach.specs.Query.{Answer, EndsSo}
+use Rattle.mdp_trials.specs.Trial.{without}
 use Rattle.mdp_witness.specs.Query.{PlainSubsystem, flow, floor}
 
 -- the kept states; for each whether it is marked as wide; and whether each state of the model is kept
@@ -60,11 +61,11 @@ abbrev pub IsNeededMax : Mdp → List Bool → ℕ → ℚ → List Bool → ℕ
 IsNeededMax m goals start threshold kept s =
     (a : Answer) → EndsSo Max m goals (Ok a) → FallsShort m goals (without kept s) start threshold (policy_on goals (without kept s) a.choices)
 
--- some policy of the model does
+-- some policy of the subsystem without it does
 pub record IsNeededMin (m : Mdp) (goals : List Bool) (start : ℕ) (threshold : ℚ) (kept : List Bool) (s : ℕ) : Type 0 where
   pub policy : List ℕ
-  pub is_policy : IsPolicy m policy
-  pub short : FallsShort m goals (without kept s) start threshold (policy_on goals (without kept s) policy)
+  pub is_policy : IsPolicy (sub_of m goals (without kept s)) policy
+  pub short : FallsShort m goals (without kept s) start threshold policy
 
 -- each kept state that isn't marked as wide is so
 abbrev pub AreNeeded : (List Bool → ℕ → Type 0) → Mdp → PlainSubsystem → Type 0

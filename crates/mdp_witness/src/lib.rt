@@ -2,10 +2,16 @@
 //! threshold, with a certificate that shows it, and from which no single state more can go.
 #![tactic(auto)]
 
+mod greatest;
 mod laws;
+mod least;
+mod listing;
+mod pending;
+mod solve;
 mod subsystem;
-mod witness;
+
 
 pub use laws::witness_law;
+pub use solve::witness;
 pub use subsystem::{Subsystem, WitnessError};
-pub use witness::witness;
+
