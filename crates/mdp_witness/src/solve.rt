@@ -44,6 +44,5 @@ pub fn witness(
 {
     model.known();
     witness_law();
-    let _ = (alloc, goals, start, dir, threshold);
     Err(WitnessError::Memory)
 }
