@@ -1,15 +1,15 @@
 use Rattle.std.proofs.Common.{◌∙◌, ℕ, List, Err, length, sym, ap, subst}
 use Rattle.mdp_spec.specs.Tree.{IsPolicy}
 use Rattle.mdp_elim.specs.declared.too_wide.SolveError.{SolveError}
-use Rattle.mdp_path.specs.Queries.{Solves}
 use Rattle.mdp_math.specs.Rational.{ℚ}
-use Rattle.mdp_reach.specs.Query.{plain, AreRanks, EndsSo}
+use Rattle.mdp_reach.specs.Query.{AreRanks}
+use Rattle.mdp_reach.specs.Round.{SolvesToEnd}
 use Rattle.mdp_reach.proofs.Nodes.{reach-count}
 use Rattle.mdp_reach.proofs.Starts.{start-solvable, start-choices, start-marks}
 use Rattle.mdp_reach.proofs.Kept.{found-policy}
 use Rattle.mdp_reach.proofs.NeverNo.{meets_never_no}
 use Rattle.mdp_reach.proofs.Answering.{meets-reach, ends-refused, ends-answered, ends-wide}
-use Rattle.mdp_reach.proofs.solve.solve_reach.Goals as goal
+use Rattle.mdp_reach.proofs.solve.solve_reach_to_end.Goals as goal
 
 pub invariant_of-problem : goal.invariant_of-problem
 invariant_of-problem c = record {
@@ -24,7 +24,7 @@ improve-requires c =
 
 pub returns-in-Err-clause-path : goal.returns-in-Err-clause-path
 returns-in-Err-clause-path c =
-    subst (λ (e : SolveError). Solves plain (EndsSo c.args.dir c.args.model.now c.args.goals.now) (Err e)) (sym c.in_part.ensures)
+    subst (λ (e : SolveError). SolvesToEnd c.args.dir c.args.model.now c.args.goals.now (Err e)) (sym c.in_part.ensures)
     (ends-refused c.args.dir c.args.model.now c.args.goals.now c.in_ok-start.start.marks c.in_ok-start.start.choices.items (c.in_ok-start.ensures {u = tt}) c.in-Err.error
     (c.in-Err.ensures {u = tt}).path)
 
@@ -54,9 +54,12 @@ returns-in-Yes-clause-path c =
     let are : AreRanks dir m goals c.in-Ok.found.values.items c.in-Ok.found.policy.items c.in_ok-ranks.ranks.items =
     subst (λ (x : List ℚ). AreRanks dir m goals x c.in-Ok.found.policy.items c.in_ok-ranks.ranks.items) c.deref-2.ensures.value
     (subst (λ (policy : List ℕ). AreRanks dir m goals c.deref-2.result.now policy c.in_ok-ranks.ranks.items) c.deref.ensures.value (c.in_ok-ranks.ensures {u = tt})) in
-    let end = (c.in-Ok.ensures {u = tt}).path in
-    ends-answered dir m goals marks start (c.in_ok-start.ensures {u = tt}) end.0 c.in-Ok.found.policy.items c.in_ok-ranks.ranks.items c.in-Ok.found.values.items end.2 are
-    (sym c.in-Yes.is ∙ c.holds_reach.ensures.verdict)
+    let end = (c.in-Ok.ensures {u = tt}).path in (
+      end.0,
+      end.1,
+      ends-answered dir m goals marks start (c.in_ok-start.ensures {u = tt}) end.0 c.in-Ok.found.policy.items c.in_ok-ranks.ranks.items c.in-Ok.found.values.items end.2 are
+          (sym c.in-Yes.is ∙ c.holds_reach.ensures.verdict),
+    )
 
 pub unreachable-requires : goal.unreachable-requires
 unreachable-requires c =
