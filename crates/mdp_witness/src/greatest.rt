@@ -15,8 +15,8 @@ use crate::listing::{flows_of, listed, marks_at};
 use crate::subsystem::WitnessError;
 use mdp_elim::{ElimError, Kind, Part, TooWide};
 use mdp_farkas::{ReachCert, Verdict};
-use crate::pending::{first_law, kept_law, listed_law, never_no_law};
-use mdp_flow::{FlowCert, holds_flow};
+use crate::pending::{first_law, kept_law};
+use mdp_flow::{FlowCert, holds_flow, listed_law, never_no_law};
 use mdp_graph::avoid_law;
 use mdp_num::{Frac, Memory};
 use mdp_path::path_law;
@@ -114,19 +114,20 @@ pub(crate) fn flow_witness(
     first_law();
     kept_law();
     listed_law();
+    let choices = whole.choices.as_slice();
     let query = Query {
         dir: Dir::Max,
         model,
         goals,
-        values: &whole.values,
-        policy: &whole.choices,
+        values: whole.values.as_slice(),
+        policy: choices,
     };
     let first = query.first_set(alloc, start)?;
     let policy = Policy {
         model,
         goals,
-        choices: &whole.choices,
-        ranks: &whole.ranks,
+        choices,
+        ranks: whole.ranks.as_slice(),
         start,
     };
     let found = match policy.evaluate(alloc, &first) {
@@ -135,6 +136,6 @@ pub(crate) fn flow_witness(
         Err(ElimError::Memory) => return Err(WitnessError::Memory),
     };
     let left = policy.trials(alloc, &threshold, first, found)?;
-    let cert = flow_cert(alloc, model, &whole.choices, &left)?;
+    let cert = flow_cert(alloc, model, choices, &left)?;
     held(alloc, model, goals, start, threshold, whole.choices, cert)
 }

@@ -12,8 +12,8 @@ use crate::listing::{listed, marks_at, ranks_at, values_at};
 use crate::subsystem::WitnessError;
 use mdp_elim::{Part, SolveError, TooWide};
 use mdp_farkas::{ReachCert, Verdict};
-use crate::pending::{first_law, kept_law, listed_law};
-use mdp_flow::{FloorCert, fewer_law, holds_floor};
+use crate::pending::{first_law, kept_law};
+use mdp_flow::{FloorCert, fewer_law, holds_floor, listed_law};
 use mdp_graph::avoid_law;
 use mdp_num::{Frac, Memory};
 use mdp_path::path_law;
@@ -114,8 +114,8 @@ pub(crate) fn floor_witness(
         dir: Dir::Min,
         model,
         goals,
-        values: &whole.values,
-        policy: &whole.choices,
+        values: whole.values.as_slice(),
+        policy: whole.choices.as_slice(),
     };
     let first = query.first_set(alloc, start)?;
     let subsystems = Subsystems {

@@ -1,4 +1,5 @@
-ghost use Rattle.std.specs.Prelude.{◌≡◌, ◌<◌, length, All, IfOk};
+ghost use Rattle.std.specs.Prelude.{◌≡◌, ◌<◌, length, pos, All, IfOk};
+ghost use Rattle.mdp_math.specs.Rational.{of_int, lt_ℚ};
 ghost use Rattle.mdp_spec.specs.Mdp.{states_of};
 ghost use Rattle.mdp_flow.specs.Listed.{listed, marks_at, values_at, ranks_at};
 ghost use Rattle.mdp_flow.specs.Visits.{visit_flows};
@@ -58,6 +59,13 @@ pub(crate) fn ranks_at(alloc: Global, ranks: &[u32], states: &[u32]) -> Result<V
     Ok(list)
 }
 
+/// Whether an amount is above 0.
+fn is_positive(amount: &Frac) -> bool
+    ensures { result ≡ lt_ℚ (of_int (pos 0)) amount.now }
+{
+    amount.sign() > 0
+}
+
 /// The flows of so many states by the policy, by how often each state is visited; those of amount 0 are left out.
 pub(crate) fn flows_of(
     alloc: Global,
@@ -72,7 +80,7 @@ pub(crate) fn flows_of(
     let mut flows = Vec::new(alloc);
     for s in 0..states {
         let amount = visits[s as usize];
-        if amount.sign() > 0 {
+        if is_positive(&amount) {
             flows.push(Flow {
                 state: s,
                 choice: policy[s as usize],

@@ -1,17 +1,4 @@
-ghost use Rattle.mdp_flow.specs.Laws.{FlowNeverNo, FloorNeverNo, ListedAreMarks, ListedFlowShape, ListedFloorShape, ListedMeetsFloor};
 ghost use Rattle.mdp_trials.specs.Laws.{FirstReaches, LeastFirstReaches, MaxKeptAreNeeded, MinKeptAreNeeded, MaxKeptIsFlow, MinKeptIsFloor};
-
-pub(crate) fn never_no_law()
-    ensures flow { FlowNeverNo }
-    ensures floor { FloorNeverNo }
-{}
-
-pub(crate) fn listed_law()
-    ensures marks { ListedAreMarks }
-    ensures flow_shape { ListedFlowShape }
-    ensures floor_shape { ListedFloorShape }
-    ensures floor { ListedMeetsFloor }
-{}
 
 pub(crate) fn first_law()
     ensures first { FirstReaches }

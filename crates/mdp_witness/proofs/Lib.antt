@@ -1,0 +1,5 @@
+pub mod OneMore
+pub mod InWidth
+pub mod Sized
+pub mod Passing
+pub mod Flowing
