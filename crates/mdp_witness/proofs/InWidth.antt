@@ -49,15 +49,16 @@ written_sum-same : (n : ℕ) (z w : List ℚ) (acc : ℚ) (row : List Entry) →
 written_sum-same n z w acc [] same inside = refl
 written_sum-same n z w acc (x ∷ row) same inside =
     ap (λ (v : ℚ). written_mul x.prob v >>= (λ term. written_add acc term >>= (λ sum. written_sum z sum row))) (same x.target (inside 0 x (omega arith)))
-    ∙ by_term (written_mul x.prob (value_at w x.target))
+    ∙ by_term (λ sum. written_sum-same n z w sum row same (λ i d l. inside (suc i) d (omega arith))) (written_mul x.prob (value_at w x.target))
   where
-    by_sum : (o : Option ℚ) → (o >>= (λ sum. written_sum z sum row)) ≡ (o >>= (λ sum. written_sum w sum row))
-    by_sum None = refl
-    by_sum (Some sum) = written_sum-same n z w sum row same (λ i d l. inside (suc i) d (omega arith))
+    by_sum : ((sum : ℚ) → written_sum z sum row ≡ written_sum w sum row) → (o : Option ℚ) → (o >>= (λ sum. written_sum z sum row)) ≡ (o >>= (λ sum. written_sum w sum row))
+    by_sum rest None = refl
+    by_sum rest (Some sum) = rest sum
 
-    by_term : (o : Option ℚ) → (o >>= (λ term. written_add acc term >>= (λ sum. written_sum z sum row))) ≡ (o >>= (λ term. written_add acc term >>= (λ sum. written_sum w sum row)))
-    by_term None = refl
-    by_term (Some term) = by_sum (written_add acc term)
+    by_term : ((sum : ℚ) → written_sum z sum row ≡ written_sum w sum row) → (o : Option ℚ)
+        → (o >>= (λ term. written_add acc term >>= (λ sum. written_sum z sum row))) ≡ (o >>= (λ term. written_add acc term >>= (λ sum. written_sum w sum row)))
+    by_term rest None = refl
+    by_term rest (Some term) = by_sum rest (written_add acc term)
 
 module _ (m : Mdp) (goals kept : List Bool) (z : List ℚ) (policy ranks : List ℕ) (start : ℕ) (threshold : ℚ) (known_ : IsMdp m) (each : length kept ≡ states_of m) (h : start < states_of m)
     (no_goal : (s : ℕ) → s < states_of m → is_marked kept s ≡ true → is_marked goals s ≡ false)

@@ -3,3 +3,4 @@ pub mod InWidth
 pub mod Sized
 pub mod Passing
 pub mod Flowing
+pub mod Flooring
