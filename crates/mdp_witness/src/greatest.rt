@@ -15,14 +15,14 @@ use crate::listing::{flows_of, listed, marks_at};
 use crate::subsystem::WitnessError;
 use mdp_elim::{ElimError, Kind, Part, TooWide};
 use mdp_farkas::{ReachCert, Verdict};
-use crate::pending::{first_law, kept_law};
+
 use mdp_flow::{FlowCert, holds_flow, listed_law, never_no_law};
 use mdp_graph::avoid_law;
 use mdp_num::{Frac, Memory};
 use mdp_path::path_law;
 use mdp_reach::query_law;
 use mdp_rows::{Dir, Marks, Model};
-use mdp_trials::{MaxLeft, Policy, Query};
+use mdp_trials::{MaxLeft, Policy, Query, kept_law};
 use std::alloc::Global;
 
 /// The certificate of what the trials leave: the kept states, those of them that are marked as wide, and the flows of their visits.
@@ -111,7 +111,6 @@ pub(crate) fn flow_witness(
     avoid_law();
     path_law();
     query_law();
-    first_law();
     kept_law();
     listed_law();
     let choices = whole.choices.as_slice();

@@ -12,14 +12,14 @@ use crate::listing::{listed, marks_at, ranks_at, values_at};
 use crate::subsystem::WitnessError;
 use mdp_elim::{Part, SolveError, TooWide};
 use mdp_farkas::{ReachCert, Verdict};
-use crate::pending::{first_law, kept_law};
+
 use mdp_flow::{FloorCert, fewer_law, holds_floor, listed_law};
 use mdp_graph::avoid_law;
 use mdp_num::{Frac, Memory};
 use mdp_path::path_law;
 use mdp_reach::query_law;
 use mdp_rows::{Dir, Marks, Model};
-use mdp_trials::{MinLeft, Query, Subsystems};
+use mdp_trials::{MinLeft, Query, Subsystems, first_law, kept_law};
 use std::alloc::Global;
 
 /// The certificate of what the trials leave: the kept states, those of them that are marked as wide, and their values and ranks.

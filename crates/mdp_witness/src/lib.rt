@@ -6,7 +6,6 @@ mod greatest;
 mod laws;
 mod least;
 mod listing;
-mod pending;
 mod solve;
 mod subsystem;
 
