@@ -5,17 +5,15 @@
 --     the trials
 --     and the rules of certificates, against which the certificate of what is left is held
 -- The first written term past width ends it, but for a term of a trial, which ends that trial.
-use Rattle.std.specs.Prelude.{◌≡◌, ℕ, Bool, List, slice_index, Option, Some, None, Result, Ok, Err}
-use Rattle.std.specs.declared.cmp.Ordering.{Ordering}
-use Rattle.std.specs.declared.cmp.Ordering.TheVariants.{Less, Equal, Greater}
+use Rattle.std.specs.Prelude.{◌≡◌, ℕ, Bool, true, false, List, slice_index, Option, Some, None, Result, Ok, Err}
 use Rattle.mdp_math.specs.Rational.{ℚ}
-use Rattle.mdp_math.specs.Written.{written_compare}
 use Rattle.mdp_spec.specs.Mdp.{Mdp, states_of, value_at}
 use Rattle.mdp_rows.specs.declared.dir.Dir.{Dir}
 use Rattle.mdp_rows.specs.declared.dir.Dir.TheVariants.{Max, Min}
 use Rattle.mdp_elim.specs.declared.too_wide.Part.TheVariants as part
 use Rattle.mdp_elim.specs.declared.too_wide.Kind.TheVariants.{Evaluate, Compare, Check}
 use Rattle.mdp_path.specs.Queries.{WideTerm}
+use Rattle.mdp_farkas.specs.Compare.{is_at_least}
 use Rattle.mdp_farkas.specs.Verdict.{verdict_of}
 use Rattle.mdp_farkas.specs.declared.verdict.Verdict.{Verdict}
 use Rattle.mdp_farkas.specs.declared.verdict.Verdict.TheVariants.{Yes, No, Wide}
@@ -125,17 +123,16 @@ module _ (m : Mdp) (goals : List Bool) (start : ℕ) (threshold : ℚ) where
   abbrev pub FromFirst : Dir → Answer → Result PlainSubsystem Refusal → Type 0
   FromFirst dir a r = (first : List Bool) × IsFirst dir m goals a.values a.choices start first × AfterFirst dir a first r
 
-  -- after the comparison with the threshold
-  abbrev pub AfterComparison : Dir → ℕ → Answer → Option Ordering → Result PlainSubsystem Refusal → Type 0
+  -- after the comparison with the threshold: whether the value at the start is at least that
+  abbrev pub AfterComparison : Dir → ℕ → Answer → Option Bool → Result PlainSubsystem Refusal → Type 0
   AfterComparison dir round a None r = r ≡ Err (too_wide (comparing round a.choices start))
-  AfterComparison dir round a (Some Less) r = r ≡ Err (below (value_at a.values start))
-  AfterComparison dir round a (Some Equal) r = FromFirst dir a r
-  AfterComparison dir round a (Some Greater) r = FromFirst dir a r
+  AfterComparison dir round a (Some false) r = r ≡ Err (below (value_at a.values start))
+  AfterComparison dir round a (Some true) r = FromFirst dir a r
 
   -- after the query of the model, which ends in this round
   abbrev pub AfterWhole : Dir → ℕ → Result Answer WideTerm → Result PlainSubsystem Refusal → Type 0
   AfterWhole dir round (Err w) r = r ≡ Err (too_wide w)
-  AfterWhole dir round (Ok a) r = AfterComparison dir round a (written_compare (value_at a.values start) threshold) r
+  AfterWhole dir round (Ok a) r = AfterComparison dir round a (is_at_least (value_at a.values start) threshold) r
 
 -- the query ends so
 pub record EndsSo (dir : Dir) (m : Mdp) (goals : List Bool) (start : ℕ) (threshold : ℚ) (r : Result PlainSubsystem Refusal) : Type 0 where

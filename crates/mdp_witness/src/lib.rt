@@ -9,7 +9,6 @@ mod listing;
 mod solve;
 mod subsystem;
 
-
 pub use laws::witness_law;
 pub use solve::witness;
 pub use subsystem::{Subsystem, WitnessError};

@@ -1,4 +1,5 @@
 ghost use Rattle.std.specs.Prelude.{◌≡◌, ◌<◌, length, pos, true, Some, Ok, IfOk, IfErr};
+ghost use Rattle.std.specs.Result.{result_ok};
 ghost use Rattle.mdp_math.specs.Rational.{◌≤ℚ◌, of_int};
 ghost use Rattle.mdp_spec.specs.Bounds.{SubMax, SubMin};
 ghost use Rattle.mdp_spec.specs.Mdp.{states_of, value_at};
@@ -15,12 +16,28 @@ use crate::least::floor_witness;
 use crate::subsystem::{Subsystem, WitnessError};
 use mdp_elim::{Kind, Part, TooWide};
 use mdp_farkas::ReachCert;
-use mdp_num::Frac;
+use mdp_num::{Frac, Wide};
 use mdp_path::path_law;
 use mdp_reach::{ReachEnd, query_law, solve_reach_to_end};
 use mdp_rows::{Dir, Marks, Model};
 use std::alloc::Global;
 use std::cmp::Ordering;
+
+/// The value of state `s`.
+fn value_of(values: &[Frac], s: u32) -> Frac
+    requires { s < length values.now }
+    ensures { result ≡ value_at values.now s }
+{
+    values[s as usize]
+}
+
+/// Whether a value is at least the threshold. `Wide` where a written term of the comparison is past width.
+fn is_at_least(value: &Frac, threshold: &Frac) -> Result<bool, Wide>
+    ensures { result_ok result ≡ is_at_least value.now threshold.now }
+{
+    let order = value.compare(threshold)?;
+    Ok(order != Ordering::Less)
+}
 
 /// The subsystem, from the answer to the query of the model, whose value at the start is at least the threshold.
 fn from_first(
@@ -84,11 +101,11 @@ pub fn witness(
     query_law();
     witness_law();
     let ReachEnd { cert, round } = solve_reach_to_end(alloc, model, goals, dir)?;
-    let value = cert.values[start as usize];
-    match value.compare(&threshold) {
-        Ok(Ordering::Less) => Err(WitnessError::Below(value)),
-        Ok(_) => from_first(alloc, model, goals, start, dir, threshold, cert),
-        Err(_) => Err(WitnessError::TooWide(TooWide {
+    let value = value_of(&cert.values, start);
+    match is_at_least(&value, &threshold) {
+        Ok(true) => from_first(alloc, model, goals, start, dir, threshold, cert),
+        Ok(false) => Err(WitnessError::Below(value)),
+        Err(Wide) => Err(WitnessError::TooWide(TooWide {
             part: Part::Whole,
             round,
             policy: cert.choices,
