@@ -17,33 +17,33 @@ use Rattle.mdp_trials.specs.declared.trial.Trial.TheVariants.{Goes, Needed, Past
 use Rattle.mdp_trials.specs.Evaluation.{Visited, Visits, visited, visited_value}
 use Rattle.mdp_trials.specs.First.{is_open, followed, IsClosed, IsFirst}
 use Rattle.mdp_trials.specs.LeastEvaluation.{value_from}
-use Rattle.mdp_trials.specs.Trial.{trial_of, stays, is_wide, IsTried, AreLeft}
+use Rattle.mdp_trials.specs.Trial.{trial_set, without, trial_of, stays, is_wide, IsTried, AreLeft}
 
-abbrev to : ℕ → ℚ → Entry
+abbrev pub to : ℕ → ℚ → Entry
 to t p = record { target = t; prob = p }
 
-abbrev by : List Entry → Choice
+abbrev pub by : List Entry → Choice
 by row = record { row = row; rewards = [] }
 
-abbrev with : List Choice → State
+abbrev pub with : List Choice → State
 with choices = record { labels = []; choices = choices }
 
-abbrev nought : ℚ
+abbrev pub nought : ℚ
 nought = of_int (pos 0)
 
-abbrev one : ℚ
+abbrev pub one : ℚ
 one = of_int (pos 1)
 
-abbrev half : ℚ
+abbrev pub half : ℚ
 half = ratio (pos 1) 2
 
-abbrev three_quarters : ℚ
+abbrev pub three_quarters : ℚ
 three_quarters = ratio (pos 3) 4
 
-abbrev falls : State
+abbrev pub falls : State
 falls = with (by (to 3 half ∷ to 4 half ∷ []) ∷ [])
 
-abbrev five : Mdp
+abbrev pub five : Mdp
 five = record {
   names = [];
   labels = [];
@@ -51,35 +51,35 @@ five = record {
       with (by (to 1 half ∷ to 3 half ∷ []) ∷ by (to 2 one ∷ []) ∷ []) ∷ falls ∷ falls ∷ with (by (to 3 one ∷ []) ∷ []) ∷ with (by (to 4 one ∷ []) ∷ []) ∷ [];
 }
 
-abbrev goals : List Bool
+abbrev pub goals : List Bool
 goals = false ∷ false ∷ false ∷ true ∷ false ∷ []
 
-abbrev greatest : List ℚ
+abbrev pub greatest : List ℚ
 greatest = three_quarters ∷ half ∷ half ∷ one ∷ nought ∷ []
 
-abbrev least : List ℚ
+abbrev pub least : List ℚ
 least = half ∷ half ∷ half ∷ one ∷ nought ∷ []
 
-abbrev best : List ℕ
+abbrev pub best : List ℕ
 best = 0 ∷ 0 ∷ 0 ∷ 0 ∷ 0 ∷ []
 
-abbrev worst : List ℕ
+abbrev pub worst : List ℕ
 worst = 1 ∷ 0 ∷ 0 ∷ 0 ∷ 0 ∷ []
 
 -- the sets {0, 1}, {0, 1, 2}, {0} and {1}, and none
-abbrev two_states : List Bool
+abbrev pub two_states : List Bool
 two_states = true ∷ true ∷ false ∷ false ∷ false ∷ []
 
-abbrev three_states : List Bool
+abbrev pub three_states : List Bool
 three_states = true ∷ true ∷ true ∷ false ∷ false ∷ []
 
-abbrev start_alone : List Bool
+abbrev pub start_alone : List Bool
 start_alone = true ∷ false ∷ false ∷ false ∷ false ∷ []
 
 abbrev one_alone : List Bool
 one_alone = false ∷ true ∷ false ∷ false ∷ false ∷ []
 
-abbrev no_states : List Bool
+abbrev pub no_states : List Bool
 no_states = false ∷ false ∷ false ∷ false ∷ false ∷ []
 
 -- ---- the first set: by the policy of the greatest probability 0 and 1, for the least one 2 as well
@@ -87,10 +87,10 @@ no_states = false ∷ false ∷ false ∷ false ∷ false ∷ []
 abbrev Enters : List ℚ → List Bool → Entry → Type 0
 Enters z set x = is_open goals z x.target ≡ true → is_marked set x.target ≡ true
 
-abbrev FirstMax : List Bool → Type 0
+abbrev pub FirstMax : List Bool → Type 0
 FirstMax = IsFirst Max five goals greatest best 0
 
-abbrev FirstMin : List Bool → Type 0
+abbrev pub FirstMin : List Bool → Type 0
 FirstMin = IsFirst Min five goals least worst 0
 
 closed_max : IsClosed Max five goals greatest best 0 (is_marked two_states)
@@ -109,7 +109,7 @@ closed_max = record { has_start = λ e. refl; has_next = next }
     next (suc (suc (suc (suc zero)))) l h = cc
     next (suc (suc (suc (suc (suc s))))) l h = absurd (omega arith)
 
-first_max : FirstMax two_states
+pub first_max : FirstMax two_states
 unfolding lt_ℚ ratio of_int gcd gcd_with_fuel
 first_max = record { one_each = refl; is_open = opened; closed = closed_max; least = within }
   where
@@ -129,7 +129,7 @@ first_max = record { one_each = refl; is_open = opened; closed = closed_max; lea
     within set closed (suc (suc (suc (suc zero)))) l h = cc
     within set closed (suc (suc (suc (suc (suc s))))) l h = absurd (omega arith)
 
-first_min : FirstMin three_states
+pub first_min : FirstMin three_states
 unfolding lt_ℚ ratio of_int gcd gcd_with_fuel
 first_min = record { one_each = refl; is_open = opened; closed = record { has_start = λ e. refl; has_next = next }; least = within }
   where
@@ -191,6 +191,27 @@ no_visits : of_set one_alone ≡ Ok (record { visits = nought ∷ nought ∷ nou
 unfolding equation_of eliminated divided_rest plus_equation evaluated written_add written_mul narrow narrow_ℚ ◌+ℚ◌ ◌*ℚ◌ neg_ℚ inv_ℚ ratio of_int gcd gcd_with_fuel
 no_visits = refl
 
+-- ---- a set without a state; one that isn't in it, or is past the last, changes nothing
+
+without_one : without two_states 1 ≡ start_alone
+without_one = refl
+
+without_start : without two_states 0 ≡ one_alone
+without_start = refl
+
+without_other : without two_states 2 ≡ two_states
+without_other = refl
+
+without_past : without two_states 5 ≡ two_states
+without_past = refl
+
+-- the set in which a state is tried has more, where a lesser state goes later: here 0
+tried_more : trial_set two_states one_alone 1 ≡ start_alone
+tried_more = refl
+
+without_less : without one_alone 1 ≡ no_states
+without_less = refl
+
 -- ---- trials: without state 1 the value is 1/2, which is a threshold of 1/2 still
 
 goes : trial_of visited_value half (of_set start_alone) ≡ Goes
@@ -217,7 +238,7 @@ unfolding written_compare narrow narrow_ℚ ratio of_int gcd gcd_with_fuel
 least_goes = refl
 
 -- at the threshold 1/2 state 1 goes, and then the start is needed
-left : AreLeft (Visits five goals best 0) visited_value half two_states start_alone no_states (record { visits = one ∷ nought ∷ nought ∷ nought ∷ nought ∷ []; value = half })
+pub left : AreLeft (Visits five goals best 0) visited_value half two_states start_alone no_states (record { visits = one ∷ nought ∷ nought ∷ nought ∷ nought ∷ []; value = half })
 unfolding equation_of eliminated divided_rest plus_equation evaluated written_add written_mul written_compare narrow narrow_ℚ ◌+ℚ◌ ◌*ℚ◌ neg_ℚ inv_ℚ ratio of_int gcd gcd_with_fuel
 left = record { one_kept_each = refl; one_wide_each = refl; outside = out; tried = tried; evaluated = refl }
   where

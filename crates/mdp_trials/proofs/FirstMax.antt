@@ -1,17 +1,15 @@
 -- The first set of the greatest probability: it can be visited, and its visits bring to the goals what the policy's value at the start is.
-use Rattle.std.proofs.Common.{◌≡◌, ℕ, zero, suc, ◌+◌, ◌<◌, ◌≤◌, ◌⊎◌, inl, inr, Bool, true, false, not, ◌&&◌, List, []}
+use Rattle.std.proofs.Common.{◌≡◌, ℕ, zero, suc, ◌+◌, ◌<◌, ◌≤◌, ◌⊎◌, inl, inr, Bool, true, false, List, []}
 use Rattle.std.proofs.Common.{◌∷◌, length, get_or, map, Option, Some, None, Result, Ok, Err, refl, sym, ◌∙◌, ap, subst, arith, pos, if◌then◌else◌}
 use Rattle.std.specs.List.{All, Any, range_with_len}
 use Rattle.std.specs.Prelude.{slice_index}
 use Rattle.std.proofs.lemmas.List.FromFn.{get_or-map-range_with_len, length-map-range_with_len}
 use Rattle.std.proofs.Math.ListN.{get_or-eq_default}
-use Rattle.mdp_math.specs.Rational.{ℚ, lt_ℚ, ◌+ℚ◌, ◌*ℚ◌, ◌<ℚ◌}
+use Rattle.mdp_math.specs.Rational.{ℚ, ◌+ℚ◌, ◌*ℚ◌}
 use Rattle.mdp_math.specs.Result.{◌>>=◌}
 use Rattle.mdp_math.specs.Sum.{sum_of}
 use Rattle.mdp_math.specs.Written.{written_add, written_mul}
 use Rattle.mdp_math.specs.Written as written
-use Rattle.mdp_math.proofs.Booleans.{and-left, and-right}
-use Rattle.mdp_math.proofs.Extremes.{lt_of_test, le_of_no_test}
 use Rattle.mdp_math.proofs.Kernel.{All-head}
 use Rattle.mdp_math.proofs.Numbers.{le_or}
 use Rattle.mdp_math.proofs.Options.{Some_same, step_told}
@@ -35,7 +33,7 @@ use Rattle.mdp_reach.specs.Query.{policy_rows}
 use Rattle.mdp_trials.specs.First.{is_open, IsFirst}
 use Rattle.mdp_trials.specs.Evaluation.{with_arrival, with_arrivals, placed, arrivals_below}
 use Rattle.mdp_trials.proofs.Duality.{weighed}
-use Rattle.mdp_trials.proofs.Fronts.{marked-below}
+use Rattle.mdp_trials.proofs.FirstSet.{not_open, closed-zero, first-inside, first-no_goal, first-above}
 
 -- ---- the arrivals in exact numbers
 
@@ -101,24 +99,8 @@ are_rows m policy known_ taking =
 
 -- ---- the first set
 
-not_is : (b : Bool) → not b ≡ true → b ≡ false
-not_is true h = cc
-not_is false h = refl
-
 module _ (m : Mdp) (goals : List Bool) (z : List ℚ) (policy ranks : List ℕ) (start : ℕ) (first : List Bool) (known_ : IsMdp m) (rules : MeetsReachMax m goals z policy ranks)
     (is : IsFirst Max m goals z policy start first) where
-  first-inside : (s : ℕ) → is_marked first s ≡ true → s < states_of m
-  first-inside s h = let l = marked-below first s h in let e = is.one_each in omega arith
-
-  first-open : (s : ℕ) → is_marked first s ≡ true → is_open goals z s ≡ true
-  first-open s h = is.is_open s (first-inside s h) h
-
-  pub first-no_goal : (s : ℕ) → is_marked first s ≡ true → is_marked goals s ≡ false
-  first-no_goal s h = not_is (is_marked goals s) (and-left (not (is_marked goals s)) (lt_ℚ 0ℚ (value_at z s)) (first-open s h))
-
-  first-above : (s : ℕ) → is_marked first s ≡ true → 0ℚ <ℚ value_at z s
-  first-above s h = lt_of_test 0ℚ (value_at z s) (and-right (not (is_marked goals s)) (lt_ℚ 0ℚ (value_at z s)) (first-open s h))
-
   row-is : (s : ℕ) → s < states_of m → row_of (policy_rows m policy) s ≡ row_at m s (get_or policy s 0)
   row-is s l = get_or-map-range_with_len (λ s. row_at m s (get_or policy s 0)) 0 (states_of m) s s [] l (omega arith)
 
@@ -129,8 +111,8 @@ module _ (m : Mdp) (goals : List Bool) (z : List ℚ) (policy ranks : List ℕ) 
   pub first-leaves : Leaves (policy_rows m policy) first ranks
   first-leaves = record {
     falls = λ s l a.
-        let i = first-inside s a in
-        let any = rules.falls s i (first-no_goal s a) (first-above s a) in
+        let i = first-inside Max m goals z policy start first is s a in
+        let any = rules.falls s i (first-no_goal Max m goals z policy start first is s a) (first-above Max m goals z policy start first is s a) in
         subst (λ (row : List Entry). Any (λ x. (is_active first x.target ≡ false) ⊎ (slice_index ranks x.target < slice_index ranks s)) row) (sym (row-is s i))
         (any.0, any.1, any.2, any.3, inr any.4.1);
   }
@@ -139,23 +121,15 @@ module _ (m : Mdp) (goals : List Bool) (z : List ℚ) (policy ranks : List ℕ) 
   abbrev X : ℕ → ℚ
   X s = if is_marked first s then value_at z s else 0ℚ
 
-  closed-zero : (s : ℕ) → s < states_of m → is_marked goals s ≡ false → is_open goals z s ≡ false → value_at z s ≡ 0ℚ
-  closed-zero s l g o =
-      ≤ℚ_antisymm (value_at z s) 0ℚ (le_of_no_test 0ℚ (value_at z s) (ap (λ (b : Bool). not b && lt_ℚ 0ℚ (value_at z s)) (sym g) ∙ o)) (rules.probabilities.at_least_zero s l)
-
-  out_of_first : (b c : Bool) → (b ≡ true → c ≡ true) → c ≡ false → b ≡ false
-  out_of_first true c h e = let k = h refl in cc
-  out_of_first false c h e = refl
-
   target_by : (x : Entry) (g f : Bool) → x.target < states_of m → is_marked goals x.target ≡ g → is_marked first x.target ≡ f → (is_open goals z x.target ≡ true → is_marked first x.target ≡ true)
       → x.prob *ℚ value_at z x.target ≡ (if g then x.prob else 0ℚ) +ℚ x.prob *ℚ (if f then value_at z x.target else 0ℚ)
-  target_by x true true l eg ef o = let n = first-no_goal x.target ef in cc
+  target_by x true true l eg ef o = let n = first-no_goal Max m goals z policy start first is x.target ef in cc
   target_by x true false l eg ef o =
       combine 2 (λ p v. p ⊗ v) (λ p v. p ⊕ p ⊗ lit (pos 0)) (λ p v. equal p v (lit (pos 1)) ∷ []) refl x.prob (value_at z x.target) (rules.probabilities.at_goal x.target l eg)
   target_by x false true l eg ef o = ring rat_ring 2 (λ p v. p ⊗ v) (λ p v. lit (pos 0) ⊕ p ⊗ v) refl x.prob (value_at z x.target)
   target_by x false false l eg ef o =
       combine 2 (λ p v. p ⊗ v) (λ p v. lit (pos 0) ⊕ p ⊗ lit (pos 0)) (λ p v. equal p v (lit (pos 0)) ∷ []) refl x.prob (value_at z x.target)
-      (closed-zero x.target l eg (out_of_first (is_open goals z x.target) (is_marked first x.target) o ef))
+      (closed-zero m goals z x.target rules.probabilities l eg (not_open (is_open goals z x.target) (is_marked first x.target) o ef))
 
   abbrev column : List ℚ
   column = map (λ s. prob_to_goals goals (row_at m s (get_or policy s 0))) (range_with_len 0 (states_of m))
@@ -169,9 +143,9 @@ module _ (m : Mdp) (goals : List Bool) (z : List ℚ) (policy ranks : List ℕ) 
   value-is : (s : ℕ) → is_marked first s ≡ true
       → value_at z s ≡ prob_to_goals goals (row_at m s (get_or policy s 0)) +ℚ row_sum (row_at m s (get_or policy s 0)) x
   value-is s h =
-      let l = first-inside s h in
+      let l = first-inside Max m goals z policy start first is s h in
       let c = rules.choices.in_range s l in
-      let g = first-no_goal s h in
+      let g = first-no_goal Max m goals z policy start first is s h in
       let known_row = known_.row s (get_or policy s 0) l c in
       let next = All-head (λ c. All (λ x. is_open goals z x.target ≡ true → is_marked first x.target ≡ true) (row_at m s c)) (get_or policy s 0) [] (is.closed.has_next s l h) in
       ≤ℚ_antisymm (value_at z s) (row_sum (row_at m s (get_or policy s 0)) z) (rules.reached s l g) (rules.covers s (get_or policy s 0) l g c)
@@ -190,7 +164,7 @@ module _ (m : Mdp) (goals : List Bool) (z : List ℚ) (policy ranks : List ℕ) 
   solution = record {
     len = length-map-range_with_len X 0 (states_of m) ∙ sym rows-count;
     inside = λ s a.
-        let l = first-inside s a in
+        let l = first-inside Max m goals z policy start first is s a in
         x-at s l ∙ ap (λ (b : Bool). if b then value_at z s else 0ℚ) a ∙ value-is s a
         ∙ ap (λ (c : ℚ). c +ℚ row_sum (row_at m s (get_or policy s 0)) x)
         (sym (get_or-map-range_with_len (λ s. prob_to_goals goals (row_at m s (get_or policy s 0))) 0 (states_of m) s s 0ℚ l (omega arith)))
@@ -202,7 +176,7 @@ module _ (m : Mdp) (goals : List Bool) (z : List ℚ) (policy ranks : List ℕ) 
   pub brought : (y : List ℚ) → AreVisits (policy_rows m policy) first start y → is_marked first start ≡ true
       → sum_of (λ s. value_at y s *ℚ prob_to_goals goals (row_at m s (get_or policy s 0))) (range_with_len 0 (states_of m)) ≡ value_at z start
   brought y visits a =
-      let l = first-inside start a in
+      let l = first-inside Max m goals z policy start first is start a in
       let n = rows-count in
       sum_of-same_all (λ s. value_at y s *ℚ prob_to_goals goals (row_at m s (get_or policy s 0))) (λ s. value_at y s *ℚ value_at column s) (range_with_len 0 (states_of m))
       (All-range (λ s. value_at y s *ℚ prob_to_goals goals (row_at m s (get_or policy s 0)) ≡ value_at y s *ℚ value_at column s) (states_of m)

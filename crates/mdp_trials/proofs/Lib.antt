@@ -6,9 +6,15 @@ pub mod Steps
 pub mod Duality
 pub mod Lengths
 pub mod Floor
+pub mod FirstSet
 pub mod FirstMax
+pub mod FirstMin
 pub mod Visiting
 pub mod Values
 pub mod Left
 pub mod OneLeft
+pub mod Within
+pub mod Kept
+pub mod Needed
 pub mod Examples
+pub mod ExamplesLeft

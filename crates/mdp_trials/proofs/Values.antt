@@ -28,7 +28,8 @@ use Rattle.mdp_reach.specs.Query.{policy_rows}
 use Rattle.mdp_trials.specs.First.{is_open, IsFirst}
 use Rattle.mdp_trials.specs.Evaluation.{Visited, visits_on, arrivals_below, arrived, visited}
 use Rattle.mdp_trials.specs.Laws.{CanBeFirst}
-use Rattle.mdp_trials.proofs.FirstMax.{below-exact, are_rows, first-no_goal, first-leaves, brought}
+use Rattle.mdp_trials.proofs.FirstSet.{not_open, first-no_goal}
+use Rattle.mdp_trials.proofs.FirstMax.{below-exact, are_rows, first-leaves, brought}
 use Rattle.mdp_trials.proofs.Visiting.{visits_on_set}
 
 told : {A B E : Type 0} (r : Result A E) (f : A → Result B E) (v : B) → (r >>= f) ≡ Ok v → (u : A) × (r ≡ Ok u) × (f u ≡ Ok v)
@@ -116,10 +117,6 @@ module _ (m : Mdp) (goals : List Bool) (z : List ℚ) (policy ranks : List ℕ) 
   abbrev leaves : Leaves (policy_rows m policy) first ranks
   leaves = first-leaves m goals z policy ranks start first known_ rules is
 
-  closed_open : (a b : Bool) → (a ≡ true → b ≡ true) → b ≡ false → a ≡ false
-  closed_open true b h e = let k = h refl in cc
-  closed_open false b h e = refl
-
   -- without the start there are no visits: the start is a goal, or has value 0
   least_by : (g : Bool) → is_marked goals start ≡ g → is_open goals z start ≡ false → value_at z start ≤ℚ (if g then 1ℚ else 0ℚ)
   least_by true e o = rules.probabilities.at_most_one start inside
@@ -146,14 +143,14 @@ module _ (m : Mdp) (goals : List Bool) (z : List ℚ) (policy ranks : List ℕ) 
 
     value_by : (b : Bool) → is_marked first start ≡ b → value_at z start ≤ℚ goal_source goals start +ℚ sum
     value_by true a =
-        let no_goal = first-no_goal m goals z policy ranks start first known_ rules is start a in
+        let no_goal = first-no_goal Max m goals z policy start first is start a in
         let visits = gives_visits (policy_rows m policy) first ranks start v.visits (chain m goals policy ranks start first known_ rules.choices is.one_each leaves inside) (visits_of true a) in
         ≤ℚ_of_eq _ _
         (sym (brought m goals z policy ranks start first known_ rules is v.visits visits a) ∙ ring rat_ring 1 (λ s. s) (λ s. lit (pos 0) ⊕ s) refl sum
         ∙ ap (λ (g : Bool). (if g then 1ℚ else 0ℚ) +ℚ sum) (sym no_goal))
     value_by false a =
         let same : replicate (states_of m) 0ℚ ≡ v.visits = let e = visits_of false a in cc in
-        ≤ℚ_trans _ _ _ (least_by (is_marked goals start) refl (closed_open (is_open goals z start) (is_marked first start) is.closed.has_start a))
+        ≤ℚ_trans _ _ _ (least_by (is_marked goals start) refl (not_open (is_open goals z start) (is_marked first start) is.closed.has_start a))
         (≤ℚ_of_eq _ _ (ring rat_ring 1 (λ s. s) (λ s. s ⊕ lit (pos 0)) refl (goal_source goals start) ∙ ap (λ (u : ℚ). goal_source goals start +ℚ u) (sym (sum_zero v.visits same))))
 
     first_reaches : threshold ≤ℚ v.value
@@ -162,7 +159,7 @@ module _ (m : Mdp) (goals : List Bool) (z : List ℚ) (policy ranks : List ℕ) 
   pub can_be_first : CanBeFirst m goals policy ranks start threshold first
   can_be_first = record {
     one_each = is.one_each;
-    no_goal = λ s l. first-no_goal m goals z policy ranks start first known_ rules is s;
+    no_goal = λ s l. first-no_goal Max m goals z policy start first is s;
     leaves = leaves;
     reaches = first_reaches;
   }

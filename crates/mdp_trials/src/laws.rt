@@ -1,13 +1,17 @@
-ghost use Rattle.mdp_trials.specs.Laws.{FirstReaches, VisitsAreExact};
+ghost use Rattle.mdp_trials.specs.Laws.{FirstReaches, LeastFirstReaches, VisitsAreExact};
 ghost use Rattle.mdp_trials.specs.Laws.{VisitsLeaveOne, VisitsLeftReach, VisitsLeftAreNeeded, ValuesLeaveOne, ValuesLeftReach, ValuesLeftAreNeeded};
+ghost use Rattle.mdp_trials.specs.Laws.{MaxKeptAreNeeded, MinKeptAreNeeded, MaxKeptIsFlow, MinKeptIsFloor};
 
 use mdp_reach::query_law;
 
-/// The first set of the greatest probability can be tried: no goal is in it, the policy leaves it, and its value is at least each threshold that
-/// the greatest probability reaches.
+/// The first set can be tried: no goal is in it, and its value is at least each threshold that the best probability reaches. For the greatest
+/// probability the policy leaves it.
 pub fn first_law()
     ensures first { FirstReaches }
-{}
+    ensures least { LeastFirstReaches }
+{
+    query_law();
+}
 
 /// The visits of a set are the expected visits of the policy in it, and their value is that of the policy's flows.
 pub fn evaluation_law()
@@ -23,6 +27,24 @@ pub fn left_law()
     ensures min_one { ValuesLeaveOne }
     ensures min_reaches { ValuesLeftReach }
     ensures min_needed { ValuesLeftAreNeeded }
+{
+    query_law();
+}
+
+/// What the trials leave meets the rules of a certificate at the threshold, and is within the first set. For the greatest probability the flows of
+/// its visits do, and they are the policy's; for the least one the values and ranks of its query.
+pub fn kept_law()
+    ensures max { MaxKeptIsFlow }
+    ensures min { MinKeptIsFloor }
+{
+    query_law();
+}
+
+/// No state of what the trials leave can go alone, where it isn't marked as wide: without it the policy falls short of the threshold, for the
+/// least probability some policy.
+pub fn needed_law()
+    ensures max { MaxKeptAreNeeded }
+    ensures min { MinKeptAreNeeded }
 {
     query_law();
 }

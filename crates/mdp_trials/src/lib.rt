@@ -11,7 +11,7 @@ mod trial;
 mod visited;
 
 pub use first::Query;
-pub use laws::{evaluation_law, first_law, left_law};
+pub use laws::{evaluation_law, first_law, kept_law, left_law, needed_law};
 pub use max_trials::MaxLeft;
 pub use min_trials::{MinLeft, Subsystems};
 pub use trial::Trial;

@@ -1,4 +1,3 @@
-pub mod LastRound
 pub mod Query
 pub mod Code
 pub mod Shown

@@ -5,17 +5,15 @@
 --     the trials
 --     and the rules of certificates, against which the certificate of what is left is held
 -- The first written term past width ends it, but for a term of a trial, which ends that trial.
-use Rattle.std.specs.Prelude.{◌≡◌, ℕ, Bool, List, slice_index, Option, Some, None, Result, Ok, Err}
-use Rattle.std.specs.declared.cmp.Ordering.{Ordering}
-use Rattle.std.specs.declared.cmp.Ordering.TheVariants.{Less, Equal, Greater}
+use Rattle.std.specs.Prelude.{◌≡◌, ℕ, Bool, true, false, List, slice_index, Option, Some, None, Result, Ok, Err}
 use Rattle.mdp_math.specs.Rational.{ℚ}
-use Rattle.mdp_math.specs.Written.{written_compare}
 use Rattle.mdp_spec.specs.Mdp.{Mdp, states_of, value_at}
 use Rattle.mdp_rows.specs.declared.dir.Dir.{Dir}
 use Rattle.mdp_rows.specs.declared.dir.Dir.TheVariants.{Max, Min}
 use Rattle.mdp_elim.specs.declared.too_wide.Part.TheVariants as part
 use Rattle.mdp_elim.specs.declared.too_wide.Kind.TheVariants.{Evaluate, Compare, Check}
 use Rattle.mdp_path.specs.Queries.{WideTerm}
+use Rattle.mdp_farkas.specs.Compare.{is_at_least}
 use Rattle.mdp_farkas.specs.Verdict.{verdict_of}
 use Rattle.mdp_farkas.specs.declared.verdict.Verdict.{Verdict}
 use Rattle.mdp_farkas.specs.declared.verdict.Verdict.TheVariants.{Yes, No, Wide}
@@ -25,11 +23,11 @@ use Rattle.mdp_flow.specs.FloorChecks.{floor_checks}
 use Rattle.mdp_flow.specs.Listed.{listed, marks_at, values_at, ranks_at}
 use Rattle.mdp_flow.specs.Visits.{visit_flows}
 use Rattle.mdp_reach.specs.Query.{Answer}
+use Rattle.mdp_reach.specs.Round.{EndsWithRound}
 use Rattle.mdp_trials.specs.First.{IsFirst}
 use Rattle.mdp_trials.specs.Evaluation.{Visited, visited, Visits, visited_value}
 use Rattle.mdp_trials.specs.LeastEvaluation.{Evaluates, value_from}
 use Rattle.mdp_trials.specs.Trial.{AreLeft}
-use Rattle.mdp_witness.specs.LastRound.{LastAnswer, EndsWithRound}
 
 -- what is printed: the kept states, and for each whether it is kept for want of width; then the flows, or the values and the ranks of the kept states
 pub data PlainSubsystem : Type 0 where
@@ -44,8 +42,8 @@ pub data Refusal : Type 0 where
 -- ---- terms past width
 
 -- in the comparison with the threshold: in the last round of the query of the model
-abbrev pub comparing : LastAnswer → ℕ → WideTerm
-comparing last start = record { part = part.Whole; number = last.number; policy = last.answer.choices; kind = Compare; state = Some start; choice = None }
+abbrev pub comparing : ℕ → List ℕ → ℕ → WideTerm
+comparing round policy start = record { part = part.Whole; number = round; policy = policy; kind = Compare; state = Some start; choice = None }
 
 -- in the visits of the first set, at a state, and in the check of their flows: there is one round, with the policy of the query of the model
 abbrev pub visiting : List ℕ → ℕ → WideTerm
@@ -125,20 +123,20 @@ module _ (m : Mdp) (goals : List Bool) (start : ℕ) (threshold : ℚ) where
   abbrev pub FromFirst : Dir → Answer → Result PlainSubsystem Refusal → Type 0
   FromFirst dir a r = (first : List Bool) × IsFirst dir m goals a.values a.choices start first × AfterFirst dir a first r
 
-  -- after the comparison with the threshold
-  abbrev pub AfterComparison : Dir → LastAnswer → Option Ordering → Result PlainSubsystem Refusal → Type 0
-  AfterComparison dir whole None r = r ≡ Err (too_wide (comparing whole start))
-  AfterComparison dir whole (Some Less) r = r ≡ Err (below (value_at whole.answer.values start))
-  AfterComparison dir whole (Some Equal) r = FromFirst dir whole.answer r
-  AfterComparison dir whole (Some Greater) r = FromFirst dir whole.answer r
+  -- after the comparison with the threshold: whether the value at the start is at least that
+  abbrev pub AfterComparison : Dir → ℕ → Answer → Option Bool → Result PlainSubsystem Refusal → Type 0
+  AfterComparison dir round a None r = r ≡ Err (too_wide (comparing round a.choices start))
+  AfterComparison dir round a (Some false) r = r ≡ Err (below (value_at a.values start))
+  AfterComparison dir round a (Some true) r = FromFirst dir a r
 
-  -- after the query of the model
-  abbrev pub AfterWhole : Dir → Result LastAnswer WideTerm → Result PlainSubsystem Refusal → Type 0
-  AfterWhole dir (Err w) r = r ≡ Err (too_wide w)
-  AfterWhole dir (Ok whole) r = AfterComparison dir whole (written_compare (value_at whole.answer.values start) threshold) r
+  -- after the query of the model, which ends in this round
+  abbrev pub AfterWhole : Dir → ℕ → Result Answer WideTerm → Result PlainSubsystem Refusal → Type 0
+  AfterWhole dir round (Err w) r = r ≡ Err (too_wide w)
+  AfterWhole dir round (Ok a) r = AfterComparison dir round a (is_at_least (value_at a.values start) threshold) r
 
 -- the query ends so
 pub record EndsSo (dir : Dir) (m : Mdp) (goals : List Bool) (start : ℕ) (threshold : ℚ) (r : Result PlainSubsystem Refusal) : Type 0 where
-  pub whole : Result LastAnswer WideTerm
-  pub solved : EndsWithRound dir m goals whole
-  pub after : AfterWhole m goals start threshold dir whole r
+  pub round : ℕ
+  pub whole : Result Answer WideTerm
+  pub solved : EndsWithRound dir m goals round whole
+  pub after : AfterWhole m goals start threshold dir round whole r

@@ -2,9 +2,14 @@
 //! threshold, with a certificate that shows it, and from which no single state more can go.
 #![tactic(auto)]
 
+mod greatest;
+mod laws;
+mod least;
+mod listing;
 mod solve;
 mod subsystem;
 
+pub use laws::witness_law;
 pub use solve::witness;
 pub use subsystem::{Subsystem, WitnessError};
 
