@@ -12,6 +12,7 @@ use Rattle.mdp_spec.specs.Unit.{unit_of}
 use Rattle.mdp_spec.specs.Hit.{hit}
 use Rattle.mdp_spec.specs.Sub.{sub_of, policy_on}
 use Rattle.mdp_flow.specs.Kept.{kept_marks, spread}
+use Rattle.mdp_flow.specs.Listed.{listed, marks_at, values_at, ranks_at}
 use Rattle.mdp_flow.specs.Visits.{visit_flows}
 use Rattle.mdp_flow.specs.Policy.{hit_on}
 use Rattle.mdp_flow.specs.Floor.{counted_value, counted_rank, counted_sum, MeetsFloor}
@@ -211,6 +212,33 @@ spread-four = refl
 visit_flows-four : visit_flows 4 (1 ∷ 0 ∷ 0 ∷ 0 ∷ []) (of_int (pos 2) ∷ of_int (pos 2) ∷ of_int (pos 0) ∷ of_int (pos 0) ∷ []) ≡ flows
 unfolding gcd gcd_with_fuel ratio of_int lt_ℚ
 visit_flows-four = refl
+
+-- ---- what is listed of marks, values and ranks per state
+
+abbrev second_and_last : List Bool
+second_and_last = false ∷ true ∷ false ∷ true ∷ []
+
+listed-four : listed 4 second_and_last ≡ 1 ∷ 3 ∷ []
+listed-four = refl
+
+-- a mark past the last state lists nothing, nor does a state without a mark
+listed-past : listed 3 second_and_last ≡ 1 ∷ []
+listed-past = refl
+
+listed-none : listed 4 [] ≡ []
+listed-none = refl
+
+listed-marks : kept_marks 4 (listed 4 second_and_last) ≡ second_and_last
+listed-marks = refl
+
+wide-four : marks_at (true ∷ false ∷ false ∷ true ∷ []) (1 ∷ 3 ∷ []) ≡ false ∷ true ∷ []
+wide-four = refl
+
+values-four : values_at (one ∷ half ∷ one ∷ one ∷ []) (1 ∷ 3 ∷ []) ≡ half ∷ one ∷ []
+values-four = refl
+
+ranks-four : ranks_at (5 ∷ 6 ∷ 7 ∷ 8 ∷ []) (1 ∷ 3 ∷ []) ≡ 6 ∷ 8 ∷ []
+ranks-four = refl
 
 -- a policy on the subsystem that keeps state 1 alone: state 0 is left with choice 0, its loop
 policy_on-four : policy_on goals (false ∷ true ∷ false ∷ false ∷ []) (1 ∷ 0 ∷ 0 ∷ 0 ∷ []) ≡ 0 ∷ 0 ∷ 0 ∷ 0 ∷ []

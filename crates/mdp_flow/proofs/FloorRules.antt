@@ -19,10 +19,12 @@ use Rattle.mdp_spec.specs.Mdp.{Entry, Mdp, states_of, choices_at, row_at, value_
 use Rattle.mdp_spec.specs.Row.{IsMdp, row_sum}
 use Rattle.mdp_spec.specs.Tree.{is_marked}
 use Rattle.mdp_farkas.specs.Verdict.{Check, InWidth, IsYes, IfYes, verdict_of, at_choices}
+use Rattle.mdp_farkas.specs.declared.verdict.Fault.{Fault}
 use Rattle.mdp_farkas.specs.declared.verdict.Verdict.{Verdict}
+use Rattle.mdp_farkas.specs.declared.verdict.Verdict.TheVariants.{No}
 use Rattle.mdp_rows.specs.declared.dir.Dir.TheVariants.{Min}
 use Rattle.mdp_farkas.proofs.Comparing.{le_of_at_least, at_least_of_le, le_of_at_most, at_most_of_le}
-use Rattle.mdp_farkas.proofs.Holds.{Each, Holds, each_of_yes, yes_of_each, told_of_each, if_yes, each_append, each_left, each_right, each_flat, each_flat_at}
+use Rattle.mdp_farkas.proofs.Holds.{Each, Holds, Sound, each_of_yes, yes_of_each, told_of_each, holds_of_sound, never_no, if_yes, each_append, each_left, each_right, each_flat, each_flat_at}
 use Rattle.mdp_farkas.proofs.Holds.{each_map, each_map_at, each_if, each_if_true, each_if_false}
 use Rattle.mdp_farkas.proofs.Inequalities.{sum_stands_of, of_sum_stands}
 use Rattle.mdp_farkas.proofs.Tests.{some_passed, some_passes}
@@ -193,7 +195,7 @@ module _ (m : Mdp) (goals : List Bool) (start : ℕ) (threshold : ℚ) (kept : L
 
   -- ---- and the other way round
 
-  module _ (w : Each InWidth (floor_checks m goals start threshold kept values ranks)) (r : MeetsFloor m goals marks z steps start threshold) where
+  module _ (r : MeetsFloor m goals marks z steps start threshold) where
     is_free : (i : ℕ) → i < length kept → is_marked goals (get_or kept i 0) ≡ false
     is_free i l = each_place (λ s. is_marked goals s ≡ false) (states_of m) kept r.no_goal i l (inside i l)
 
@@ -204,13 +206,13 @@ module _ (m : Mdp) (goals : List Bool) (start : ℕ) (threshold : ℚ) (kept : L
         (subst (λ (x : ℚ). x ≤ℚ counted_sum goals marks z (row_at m s c)) (own_value i l)
         (each_place (λ s. (c : ℕ) → c < length (choices_at m s) → value_at z s ≤ℚ counted_sum goals marks z (row_at m s c)) (states_of m) kept (λ s l k c i. r.covered s c l k i) i l (inside i l) c k))
 
-    covers_hold : (i : ℕ) → i < length kept → Each Holds (cover_checks m goals counts (get_or kept i 0) (value_at values i))
-    covers_hold i l =
+    covers_sound : (i : ℕ) → i < length kept → Each Sound (cover_checks m goals counts (get_or kept i 0) (value_at values i))
+    covers_sound i l =
         let s = get_or kept i 0 in
-        each_if Holds (is_marked goals s) [] (at_choices m s (cover_check m counts s (value_at values i))) (λ g. tt)
+        each_if Sound (is_marked goals s) [] (at_choices m s (cover_check m counts s (value_at values i))) (λ g. tt)
         (λ g.
-        each_map Holds (cover_check m counts s (value_at values i)) (length (choices_at m s))
-        (λ c k. of_sum_stands Min (value_at values i) counts 0ℚ (row_at m s c) (is_covered i l c k) (at_cover InWidth i (at_line InWidth i w l) c g k)))
+        each_map Sound (cover_check m counts s (value_at values i)) (length (choices_at m s))
+        (λ c k told. of_sum_stands Min (value_at values i) counts 0ℚ (row_at m s c) (is_covered i l c k) told))
 
     at_least_zero_at : (i : ℕ) → i < length kept → 0ℚ ≤ℚ value_at values i
     at_least_zero_at i l = subst (λ (x : ℚ). 0ℚ ≤ℚ x) (own_value i l) (each_place (λ s. 0ℚ ≤ℚ value_at z s) (states_of m) kept r.at_least_zero i l (inside i l))
@@ -232,34 +234,37 @@ module _ (m : Mdp) (goals : List Bool) (start : ℕ) (threshold : ℚ) (kept : L
         (each_place (λ s. 0ℚ <ℚ value_at z s → (c : ℕ) → c < length (choices_at m s) → Any (λ y. ranked (Entry.target y) < get_or steps s 0) (row_at m s c)) (states_of m) kept
         (λ s l k p c i. r.falls s c l k p i) i l (inside i l) (subst (λ (x : ℚ). 0ℚ <ℚ x) (sym (own_value i l)) (lt_of_test 0ℚ (value_at values i) e)) c k)
 
-    ranks_hold : (i : ℕ) → i < length kept → Each Holds (rank_checks m goals ranked (get_or kept i 0) (value_at values i) (get_or ranks i 0))
-    ranks_hold i l =
+    ranks_sound : (i : ℕ) → i < length kept → Each Sound (rank_checks m goals ranked (get_or kept i 0) (value_at values i) (get_or ranks i 0))
+    ranks_sound i l =
         let s = get_or kept i 0 in
         let positive = lt_ℚ 0ℚ (value_at values i) in
-        each_if Holds (is_marked goals s || not positive) (rank_check s (get_or ranks i 0) ∷ []) (at_choices m s (fall_check m ranked s (get_or ranks i 0)))
-        (λ e. (ap Some (eq-eqb (get_or ranks i 0) 0 (ends_at i l (of_end (is_marked goals s) positive (is_free i l) e))), tt))
+        each_if Sound (is_marked goals s || not positive) (rank_check s (get_or ranks i 0) ∷ []) (at_choices m s (fall_check m ranked s (get_or ranks i 0)))
+        (λ e. (λ told. ap Some (eq-eqb (get_or ranks i 0) 0 (ends_at i l (of_end (is_marked goals s) positive (is_free i l) e))), tt))
         (λ e.
-        each_map Holds (fall_check m ranked s (get_or ranks i 0)) (length (choices_at m s))
-        (λ c k. ap Some (by_falls (get_or ranks i 0) (row_at m s c) (falls_at i l (of_no_end (is_marked goals s) positive e) c k))))
+        each_map Sound (fall_check m ranked s (get_or ranks i 0)) (length (choices_at m s))
+        (λ c k told. ap Some (by_falls (get_or ranks i 0) (row_at m s c) (falls_at i l (of_no_end (is_marked goals s) positive e) c k))))
 
-    line_holds : (i : ℕ) → i < length kept → Each Holds (checks_of_line m goals kept values ranks i)
-    line_holds i l =
-        let s = get_or kept i 0 in
-        let told = at_line InWidth i w l in (
-          at_least_of_le (value_at values i) 0ℚ (at_least_zero_at i l) told.0,
+    line_sound : (i : ℕ) → i < length kept → Each Sound (checks_of_line m goals kept values ranks i)
+    line_sound i l =
+        let s = get_or kept i 0 in (
+          λ told. at_least_of_le (value_at values i) 0ℚ (at_least_zero_at i l) told,
           (
-            at_most_of_le (value_at values i) 1ℚ (at_most_one_at i l) told.1.0,
-            each_append Holds (cover_checks m goals counts s (value_at values i)) (rank_checks m goals ranked s (value_at values i) (get_or ranks i 0) ++ kept_check goals s ∷ []) (covers_hold i l)
-                (each_append Holds (rank_checks m goals ranked s (value_at values i) (get_or ranks i 0)) (kept_check goals s ∷ [])
-                (ranks_hold i l) (ap (λ (b : Bool). Some (not b)) (is_free i l), tt)),
+            λ told. at_most_of_le (value_at values i) 1ℚ (at_most_one_at i l) told,
+            each_append Sound (cover_checks m goals counts s (value_at values i)) (rank_checks m goals ranked s (value_at values i) (get_or ranks i 0) ++ kept_check goals s ∷ []) (covers_sound i l)
+                (each_append Sound (rank_checks m goals ranked s (value_at values i) (get_or ranks i 0)) (kept_check goals s ∷ [])
+                (ranks_sound i l) (λ told. ap (λ (b : Bool). Some (not b)) (is_free i l), tt)),
           ),
         )
 
-    all_hold : Each Holds (floor_checks m goals start threshold kept values ranks)
-    all_hold =
-        each_append Holds (each_line m goals kept values ranks) (start_check m goals start threshold kept values ∷ [])
-        (each_flat Holds (checks_of_line m goals kept values ranks) (length kept) line_holds)
-        (at_least_of_le (line_value m goals kept values start) threshold r.reached (at_start InWidth w), tt)
+    all_sound : Each Sound (floor_checks m goals start threshold kept values ranks)
+    all_sound =
+        each_append Sound (each_line m goals kept values ranks) (start_check m goals start threshold kept values ∷ [])
+        (each_flat Sound (checks_of_line m goals kept values ranks) (length kept) line_sound)
+        (λ told. at_least_of_le (line_value m goals kept values start) threshold r.reached told, tt)
+
+  -- so what meets the rules is never answered no
+  pub floor_never_no : MeetsFloor m goals marks z steps start threshold → (fault : Fault) → verdict_of (floor_checks m goals start threshold kept values ranks) ≡ No fault → ⊥
+  floor_never_no r = never_no (floor_checks m goals start threshold kept values ranks) (all_sound r)
 
   -- ---- the verdict
 
@@ -273,7 +278,8 @@ module _ (m : Mdp) (goals : List Bool) (start : ℕ) (threshold : ℚ) (kept : L
         }),
     (λ is.
         let w = recursion_from_All InWidth (floor_checks m goals start threshold kept values ranks) is.in_width in
-        e ∙ yes_of_each (floor_checks m goals start threshold kept values ranks) (all_hold w is.rules)),
+        e
+        ∙ yes_of_each (floor_checks m goals start threshold kept values ranks) (holds_of_sound (floor_checks m goals start threshold kept values ranks) (all_sound is.rules) w)),
   )
 
   pub floor_sub_min : (v : Verdict) → IsMdp m → v ≡ verdict_of (floor_checks m goals start threshold kept values ranks) → IfYes v (SubMin m goals marks start threshold)

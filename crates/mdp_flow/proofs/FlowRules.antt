@@ -1,6 +1,6 @@
 -- A flow certificate is answered yes exactly where the rules hold in exact numbers and no written term is past width; and then its subsystem reaches
 -- the threshold.
-use Rattle.std.proofs.Common.{◌≡◌, ℕ, ◌<◌, Bool, true, false, not, cond, List, [], ◌∷◌, map, length, get_or, set, replicate, Option, Some, None, refl, sym, ap, subst, ◌∙◌, ⊎_elim, pos, true≢false}
+use Rattle.std.proofs.Common.{◌≡◌, ℕ, ◌<◌, Bool, true, false, not, cond, List, [], ◌∷◌, ◌++◌, map, length, get_or, set, replicate, Option, Some, None, refl, sym, ap, subst, ◌∙◌, ⊎_elim, pos, true≢false}
 use Rattle.std.specs.Prelude.{◌↔◌, unwrap_or}
 use Rattle.std.specs.List.{AllByRecursion}
 use Rattle.std.specs.Option.{IsSome, option_map}
@@ -9,6 +9,7 @@ use Rattle.std.proofs.lemmas.List.Elements.{All-from_recursion, recursion_from_A
 use Rattle.std.proofs.lemmas.Bool.{cases_eq, eq-eqb, ne_eqb}
 use Rattle.std.proofs.lemmas.Bool.{lt-ltb, ltb-true}
 use Rattle.mdp_math.specs.Rational.{ℚ, of_int, lt_ℚ, ◌+ℚ◌, ◌≤ℚ◌}
+use Rattle.mdp_math.specs.Result.{◌>>=◌}
 use Rattle.mdp_math.proofs.Booleans.{and-parts, and-both}
 use Rattle.mdp_math.proofs.Laws.{zero-+ℚ}
 use Rattle.mdp_math.proofs.Options.{Some_same}
@@ -18,10 +19,12 @@ use Rattle.mdp_spec.specs.Bounds.{SubMax, SubMaxWithin}
 use Rattle.mdp_spec.specs.Mdp.{Mdp, states_of, choices_at, value_at}
 use Rattle.mdp_spec.specs.Row.{IsMdp}
 use Rattle.mdp_spec.specs.Tree.{is_marked}
-use Rattle.mdp_farkas.specs.Verdict.{Check, InWidth, IsYes, IfYes, verdict_of}
+use Rattle.mdp_farkas.specs.Verdict.{Check, InWidth, IsYes, IfYes, objection, objection_to, verdict, verdict_of}
+use Rattle.mdp_farkas.specs.declared.verdict.Fault.{Fault}
 use Rattle.mdp_farkas.specs.declared.verdict.Verdict.{Verdict}
+use Rattle.mdp_farkas.specs.declared.verdict.Verdict.TheVariants.{No}
 use Rattle.mdp_farkas.proofs.Comparing.{le_of_at_least, at_least_of_le, le_of_at_most, at_most_of_le}
-use Rattle.mdp_farkas.proofs.Holds.{Each, Holds, Sound, each_of_yes, yes_of_each, told_of_each, if_yes, holds_of_sound, each_append, each_left, each_right}
+use Rattle.mdp_farkas.proofs.Holds.{Each, Holds, Sound, each_of_yes, yes_of_each, told_of_each, if_yes, holds_of_sound, never_no, each_append, each_left, each_right}
 use Rattle.mdp_flow.specs.declared.flow.Flow.{Flow}
 use Rattle.mdp_flow.specs.Flow.{IsFlow, MeetsFlow, outflow, inflow, flow_total, flow_value, source}
 use Rattle.mdp_flow.specs.FlowChecks.{kept_check, each_flow, balance_check, arrival_check, sum_checks, checks_from, flow_checks, HoldsFlow}
@@ -47,6 +50,18 @@ after_is (Some t) sums w = refl
 never_false : (o : Option FlowSums) → IsSome (option_map (λ after. true) o) → option_map (λ after. true) o ≡ Some true
 never_false None w = absurd (true≢false (sym w))
 never_false (Some t) w = refl
+
+-- ---- checks of which those at the end are looked at only where no term of those before is past width
+
+no_then : (c : Check) (h : Option Bool) (cs ds : List Check) → (IsSome h → h ≡ Some true) → (IsSome h → (g : Fault) → verdict_of (cs ++ ds) ≡ No g → ⊥) → (f : Fault)
+    → verdict (objection c h >>= (λ ok. objection_to (cs ++ ds))) ≡ No f → ⊥
+no_then c None cs ds s rest f e = cc
+no_then c (Some false) cs ds s rest f e = let k = s refl in cc
+no_then c (Some true) cs ds s rest f e = rest refl f e
+
+never_no_then : (cs ds : List Check) → Each Sound cs → (Each InWidth cs → (f : Fault) → verdict_of ds ≡ No f → ⊥) → (f : Fault) → verdict_of (cs ++ ds) ≡ No f → ⊥
+never_no_then [] ds s rest f e = rest tt f e
+never_no_then (c ∷ cs) ds s rest f e = no_then c c.holds cs ds s.0 (λ told. never_no_then cs ds s.1 (λ w. rest (told, w))) f e
 
 -- ---- the first sums
 
@@ -108,9 +123,9 @@ module _ (m : Mdp) (goals : List Bool) (start : ℕ) (threshold : ℚ) (kept : L
 
   -- ---- the sums in exact numbers
 
-  module _ (w : Each InWidth (flow_checks m goals start threshold kept flows)) where
+  module _ (w : Each InWidth (each_flow m goals marks first flows)) where
     adds : AddsFlows n goals m first end flows
-    adds = adds_all n m goals marks first flows (sized_first n goals start) (at_flows InWidth w)
+    adds = adds_all n m goals marks first flows (sized_first n goals start) w
 
     outflow_is : (s : ℕ) → s < states_of m → value_at end.outflows s ≡ outflow flows s
     outflow_is s l = AddsFlows.leaves adds s l ∙ ap (λ (x : ℚ). x +ℚ outflow flows s) (get_or-replicate n s 0ℚ 0ℚ l) ∙ zero-+ℚ (outflow flows s)
@@ -132,8 +147,8 @@ module _ (m : Mdp) (goals : List Bool) (start : ℕ) (threshold : ℚ) (kept : L
       )
 
   module _ (a : Each Holds (flow_checks m goals start threshold kept flows)) where
-    in_width : Each InWidth (flow_checks m goals start threshold kept flows)
-    in_width = told_of_each (flow_checks m goals start threshold kept flows) a
+    in_width : Each InWidth (each_flow m goals marks first flows)
+    in_width = at_flows InWidth (told_of_each (flow_checks m goals start threshold kept flows) a)
 
     free_at : (i : ℕ) → i < length kept → is_marked goals (get_or kept i 0) ≡ false
     free_at i l =
@@ -166,26 +181,41 @@ module _ (m : Mdp) (goals : List Bool) (start : ℕ) (threshold : ℚ) (kept : L
     ),
   )
 
-  module _ (w : Each InWidth (flow_checks m goals start threshold kept flows)) (r : MeetsFlow m goals marks flows start threshold) where
+  module _ (r : MeetsFlow m goals marks flows start threshold) where
     is_free : (i : ℕ) → i < length kept → is_marked goals (get_or kept i 0) ≡ false
     is_free i l = each_place (λ s. is_marked goals s ≡ false) (states_of m) kept r.no_goal i l (inside i l)
 
-    is_balanced : (i : ℕ) → i < length kept → value_at end.outflows (get_or kept i 0) ≤ℚ value_at end.inflows (get_or kept i 0)
-    is_balanced i l =
-        let s = get_or kept i 0 in
-        subst (λ (x : ℚ). x ≤ℚ value_at end.inflows s) (sym (outflow_is w s (inside i l)))
-        (subst (λ (x : ℚ). outflow flows s ≤ℚ x) (sym (inflow_is w s (inside i l) (is_free i l)))
-        (each_place (λ s. outflow flows s ≤ℚ source start s +ℚ inflow m flows s) (states_of m) kept r.balanced i l (inside i l)))
+    kept_sound : Each Sound (map (kept_check goals) kept)
+    kept_sound = each_of Sound (kept_check goals) kept (λ i l told. ap Some (to_unmarked (is_marked goals (get_or kept i 0)) (is_free i l)))
 
-    sound : Each Sound (flow_checks m goals start threshold kept flows)
-    sound =
-        each_append Sound (map (kept_check goals) kept) (checks_from m goals threshold kept flows first)
-        (each_of Sound (kept_check goals) kept (λ i l told. ap Some (to_unmarked (is_marked goals (get_or kept i 0)) (is_free i l))))
-        (each_append Sound (each_flow m goals marks first flows) (sum_checks kept threshold end)
-        (flows_sound first flows (recursion_from_All (IsFlow m marks) flows r.each))
-        (each_append Sound (map (balance_check end) kept) (arrival_check end threshold ∷ [])
-        (each_of Sound (balance_check end) kept (λ i l told. at_most_of_le (value_at end.outflows (get_or kept i 0)) (value_at end.inflows (get_or kept i 0)) (is_balanced i l) told))
-        (λ told. at_least_of_le end.goal threshold (subst (λ (x : ℚ). threshold ≤ℚ x) (sym (goal_is w)) r.reached) told, tt)))
+    each_sound : Each Sound (each_flow m goals marks first flows)
+    each_sound = flows_sound first flows (recursion_from_All (IsFlow m marks) flows r.each)
+
+    -- where no term of the flows is past width
+    module _ (w : Each InWidth (each_flow m goals marks first flows)) where
+      is_balanced : (i : ℕ) → i < length kept → value_at end.outflows (get_or kept i 0) ≤ℚ value_at end.inflows (get_or kept i 0)
+      is_balanced i l =
+          let s = get_or kept i 0 in
+          subst (λ (x : ℚ). x ≤ℚ value_at end.inflows s) (sym (outflow_is w s (inside i l)))
+          (subst (λ (x : ℚ). outflow flows s ≤ℚ x) (sym (inflow_is w s (inside i l) (is_free i l)))
+          (each_place (λ s. outflow flows s ≤ℚ source start s +ℚ inflow m flows s) (states_of m) kept r.balanced i l (inside i l)))
+
+      sums_sound : Each Sound (sum_checks kept threshold end)
+      sums_sound =
+          each_append Sound (map (balance_check end) kept) (arrival_check end threshold ∷ [])
+          (each_of Sound (balance_check end) kept (λ i l told. at_most_of_le (value_at end.outflows (get_or kept i 0)) (value_at end.inflows (get_or kept i 0)) (is_balanced i l) told))
+          (λ told. at_least_of_le end.goal threshold (subst (λ (x : ℚ). threshold ≤ℚ x) (sym (goal_is w)) r.reached) told, tt)
+
+    sound : Each InWidth (each_flow m goals marks first flows) → Each Sound (flow_checks m goals start threshold kept flows)
+    sound w =
+        each_append Sound (map (kept_check goals) kept) (checks_from m goals threshold kept flows first) kept_sound
+        (each_append Sound (each_flow m goals marks first flows) (sum_checks kept threshold end) each_sound (sums_sound w))
+
+    -- what meets the rules is never answered no
+    pub flow_never_no : (fault : Fault) → verdict_of (flow_checks m goals start threshold kept flows) ≡ No fault → ⊥
+    flow_never_no =
+        never_no_then (map (kept_check goals) kept) (checks_from m goals threshold kept flows first) kept_sound
+        (λ told. never_no_then (each_flow m goals marks first flows) (sum_checks kept threshold end) each_sound (λ w. never_no (sum_checks kept threshold end) (sums_sound w)))
 
   -- ---- the verdict
 
@@ -193,10 +223,10 @@ module _ (m : Mdp) (goals : List Bool) (start : ℕ) (threshold : ℚ) (kept : L
   flow_rules v e = (
     (λ yes_.
         let a = each_of_yes (flow_checks m goals start threshold kept flows) (sym e ∙ yes_) in
-        record { rules = meets a; in_width = All-from_recursion InWidth (flow_checks m goals start threshold kept flows) (in_width a) }),
+        record { rules = meets a; in_width = All-from_recursion InWidth (flow_checks m goals start threshold kept flows) (told_of_each (flow_checks m goals start threshold kept flows) a) }),
     (λ is.
         let w = recursion_from_All InWidth (flow_checks m goals start threshold kept flows) is.in_width in
-        e ∙ yes_of_each (flow_checks m goals start threshold kept flows) (holds_of_sound (flow_checks m goals start threshold kept flows) (sound w is.rules) w)),
+        e ∙ yes_of_each (flow_checks m goals start threshold kept flows) (holds_of_sound (flow_checks m goals start threshold kept flows) (sound is.rules (at_flows InWidth w)) w)),
   )
 
   pub flow_sub_max : (v : Verdict) → IsMdp m → v ≡ verdict_of (flow_checks m goals start threshold kept flows) → IfYes v (SubMax m goals marks start threshold)

@@ -16,5 +16,6 @@ pub mod FlowRules
 pub mod FloorRules
 pub mod Counted
 pub mod Fewer
+pub mod Listed
 mod Examples
 mod ExamplesChecks

@@ -1,5 +1,6 @@
--- What the rules of a floor and of a flow show of a subsystem, and that with fewer kept states no chance is greater.
-use Rattle.std.specs.Prelude.{◌≡◌, ℕ, ◌<◌, Bool, true, false, ◌||◌, List}
+-- What the rules of a floor and of a flow show of a subsystem, that with fewer kept states no chance is greater, and which lists are printed of a
+-- certificate that meets them.
+use Rattle.std.specs.Prelude.{◌≡◌, ℕ, ◌<◌, Bool, true, false, ◌||◌, List, length}
 use Rattle.mdp_math.specs.Rational.{ℚ, ◌≤ℚ◌, ◌<ℚ◌}
 use Rattle.mdp_spec.specs.Mdp.{Mdp, states_of, value_at}
 use Rattle.mdp_spec.specs.Row.{IsMdp}
@@ -7,7 +8,15 @@ use Rattle.mdp_spec.specs.Rules.{MeetsReachMin}
 use Rattle.mdp_spec.specs.Tree.{IsPolicy, is_marked}
 use Rattle.mdp_spec.specs.Sub.{sub_of, policy_on}
 use Rattle.mdp_spec.specs.Bounds.{ReachMax, ReachMin, SubMax, SubMaxWithin, SubMin}
+use Rattle.mdp_farkas.specs.Verdict.{verdict_of}
+use Rattle.mdp_farkas.specs.declared.verdict.Fault.{Fault}
+use Rattle.mdp_farkas.specs.declared.verdict.Verdict.TheVariants.{No}
 use Rattle.mdp_flow.specs.Floor.{MeetsFloor}
+use Rattle.mdp_flow.specs.FloorChecks.{floor_checks, spread_values, spread_ranks}
+use Rattle.mdp_flow.specs.FlowChecks.{flow_checks}
+use Rattle.mdp_flow.specs.Kept.{kept_marks}
+use Rattle.mdp_flow.specs.Listed.{listed, marks_at, values_at, ranks_at}
+use Rattle.mdp_flow.specs.Shape.{IsFlowShape, IsFloorShape}
 use Rattle.mdp_flow.specs.declared.flow.Flow.{Flow}
 use Rattle.mdp_flow.specs.Flow.{MeetsFlow, flow_total, flow_value}
 use Rattle.mdp_flow.specs.Fewer.{IsIncluded, ReachesMore}
@@ -104,3 +113,42 @@ abbrev pub ShortIsNoFloor : Type 0
 ShortIsNoFloor =
     (m : Mdp) (goals kept : List Bool) (start : ℕ) (threshold : ℚ) (policy : List ℕ) → IsMdp m → start < states_of m → IsPolicy (sub_of m goals kept) policy
     → FallsShort m goals kept start threshold policy → SubMin m goals kept start threshold → ⊥
+
+-- ---- certificates whose rules hold are never answered no
+
+-- where the flows meet the rules, the checks of the certificate end with yes or with a term past width
+abbrev pub FlowNeverNo : Type 0
+FlowNeverNo =
+    (m : Mdp) (goals : List Bool) (start : ℕ) (threshold : ℚ) (kept : List ℕ) (wide : List Bool) (flows : List Flow) (fault : Fault) → start < states_of m → IsFlowShape m kept wide flows
+    → MeetsFlow m goals (kept_marks (states_of m) kept) flows start threshold → verdict_of (flow_checks m goals start threshold kept flows) ≡ No fault → ⊥
+
+-- and so where values and ranks meet those of a floor
+abbrev pub FloorNeverNo : Type 0
+FloorNeverNo =
+    (m : Mdp) (goals : List Bool) (start : ℕ) (threshold : ℚ) (kept : List ℕ) (wide : List Bool) (values : List ℚ) (ranks : List ℕ) (fault : Fault) → length goals ≡ states_of m → start < states_of m
+    → IsFloorShape m kept wide values ranks → MeetsFloor m goals (kept_marks (states_of m) kept) (spread_values m kept values) (spread_ranks m kept ranks) start threshold
+    → verdict_of (floor_checks m goals start threshold kept values ranks) ≡ No fault → ⊥
+
+-- ---- what is listed of marks, values and ranks
+
+-- the listed states have the marks that they are listed of
+abbrev pub ListedAreMarks : Type 0
+ListedAreMarks = (n : ℕ) (marks : List Bool) → length marks ≡ n → kept_marks n (listed n marks) ≡ marks
+
+-- the lists have the shape of a certificate
+abbrev pub ListedFlowShape : Type 0
+ListedFlowShape =
+    (m : Mdp) (kept wide : List Bool) (policy : List ℕ) (y : List ℚ)
+    → IsFlowShape m (listed (states_of m) kept) (marks_at wide (listed (states_of m) kept)) (visit_flows (states_of m) policy y)
+
+abbrev pub ListedFloorShape : Type 0
+ListedFloorShape =
+    (m : Mdp) (kept wide : List Bool) (z : List ℚ) (ranks : List ℕ)
+    → IsFloorShape m (listed (states_of m) kept) (marks_at wide (listed (states_of m) kept)) (values_at z (listed (states_of m) kept)) (ranks_at ranks (listed (states_of m) kept))
+
+-- values and ranks that meet the rules of a floor meet them as they are listed
+abbrev pub ListedMeetsFloor : Type 0
+ListedMeetsFloor =
+    (m : Mdp) (goals kept : List Bool) (z : List ℚ) (ranks : List ℕ) (start : ℕ) (threshold : ℚ) → length kept ≡ states_of m → MeetsFloor m goals kept z ranks start threshold
+    → let states = listed (states_of m) kept in
+    MeetsFloor m goals (kept_marks (states_of m) states) (spread_values m states (values_at z states)) (spread_ranks m states (ranks_at ranks states)) start threshold

@@ -5,6 +5,7 @@ pub mod Flow
 pub mod FlowChecks
 pub mod Kept
 pub mod Laws
+pub mod Listed
 pub mod Policy
 pub mod Shape
 pub mod Sums

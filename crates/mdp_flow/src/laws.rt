@@ -1,5 +1,6 @@
 ghost use Rattle.mdp_flow.specs.Laws.{FloorShows, FlowShows, PolicyShows, LeastIsFloor, VisitsAreFlow, VisitsBound, TreesReachMore};
 ghost use Rattle.mdp_flow.specs.Laws.{WholeIsModel, GreatestGrows, LeastGrows, LeastFallsShort, PolicyFallsShort, VisitsFallShort, ShortIsNoFloor};
+ghost use Rattle.mdp_flow.specs.Laws.{FlowNeverNo, FloorNeverNo, ListedAreMarks, ListedFlowShape, ListedFloorShape, ListedMeetsFloor};
 
 /// A floor that meets its rules bounds the least probability of meeting a goal on its subsystem from below.
 pub fn floor_law()
@@ -36,4 +37,19 @@ pub fn short_law()
     ensures policy { PolicyFallsShort }
     ensures visits { VisitsFallShort }
     ensures no_floor { ShortIsNoFloor }
+{}
+
+/// A certificate that meets its rules in exact numbers is never answered no: its checks end with yes or with a term past width.
+pub fn never_no_law()
+    ensures flow { FlowNeverNo }
+    ensures floor { FloorNeverNo }
+{}
+
+/// What is listed of marks, values and ranks per state: the listed states have those marks, the lists have the shape of certificates, and a floor
+/// that meets its rules meets them as it is listed.
+pub fn listed_law()
+    ensures marks { ListedAreMarks }
+    ensures flow_shape { ListedFlowShape }
+    ensures floor_shape { ListedFloorShape }
+    ensures floor { ListedMeetsFloor }
 {}

@@ -13,4 +13,4 @@ mod walk;
 
 pub use floor::{FloorCert, holds_floor};
 pub use flow::{Flow, FlowCert, holds_flow};
-pub use laws::{fewer_law, floor_law, flow_law, made_law, short_law};
+pub use laws::{fewer_law, floor_law, flow_law, listed_law, made_law, never_no_law, short_law};

@@ -1,12 +1,19 @@
 -- Worked words, and what they are.
-use Rattle.std.proofs.Common.{◌≡◌, [], ◌∷◌, Some, None, Ok, Err, refl}
+use Rattle.std.proofs.Common.{◌≡◌, [], ◌∷◌, ◌++◌, Some, None, Ok, Err, refl}
+use Rattle.std.specs.Fmt.{digits}
 use Rattle.std.specs.Prelude.{codes, pos}
-use Rattle.mdp_math.specs.Rational.{ratio}
+use Rattle.mdp_math.specs.Gcd.{gcd, gcd_with_fuel}
+use Rattle.mdp_math.specs.Rational.{of_int, ratio, lt_ℚ}
+use Rattle.mdp_num.specs.Numeral.{parts_of, numeral_of}
+use Rattle.mdp_num.specs.Value.{spelling}
 use Rattle.mdp_rows.specs.declared.rule.RowRule.TheVariants.{Exact, Scaled}
-use Rattle.mdp_rows.specs.declared.dir.Dir.TheVariants.{Max}
-use Rattle.mdp_job.specs.Job.{reach, reward, mean, solve, check, drill, horizon, policy, discount, discount_check}
+use Rattle.mdp_rows.specs.declared.dir.Dir.TheVariants.{Max, Min}
+use Rattle.mdp_job.specs.Job.{reach, reward, mean, solve, witness, check, drill, horizon, policy, discount, discount_check}
+use Rattle.mdp_job.specs.Refusal.{query_init, below}
+use Rattle.mdp_job.specs.Status.{code_of, status_of}
+use Rattle.mdp_job.specs.Text.{text_of}
 use Rattle.mdp_job.specs.Words.{job_of_texts}
-use Rattle.mdp_job.specs.declared.words_error.WordsError.TheVariants.{Command, Number, Rows, Direction, Objective, Drill, Steps, Factor}
+use Rattle.mdp_job.specs.declared.words_error.WordsError.TheVariants.{Command, Number, Rows, Direction, Objective, Threshold, Drill, Steps, Factor}
 
 no_words : job_of_texts [] ≡ Err Command
 no_words = refl
@@ -117,17 +124,51 @@ policy_rows = refl
 policy_objective : job_of_texts (codes "policy" ∷ codes "m" ∷ codes "exact" ∷ codes "p" ∷ codes "reward" ∷ codes "goal" ∷ []) ≡ Err Objective
 policy_objective = refl
 
+-- `witness`: the number of words, the row rule, the direction, then the threshold
+a_witness : job_of_texts (codes "witness" ∷ codes "m" ∷ codes "exact" ∷ codes "min" ∷ codes "goal" ∷ codes "0.50" ∷ []) ≡ Ok (witness Exact Min (codes "goal") (ratio (pos 1) 2))
+unfolding numeral_of parts_of ratio gcd gcd_with_fuel
+a_witness = refl
+
+-- it may be above 1
+threshold_two : job_of_texts (codes "witness" ∷ codes "m" ∷ codes "scaled" ∷ codes "max" ∷ codes "goal" ∷ codes "2" ∷ []) ≡ Ok (witness Scaled Max (codes "goal") (ratio (pos 2) 1))
+unfolding numeral_of parts_of ratio gcd gcd_with_fuel
+threshold_two = refl
+
+threshold_below_zero : job_of_texts (codes "witness" ∷ codes "m" ∷ codes "exact" ∷ codes "max" ∷ codes "goal" ∷ codes "-1/2" ∷ []) ≡ Err Threshold
+unfolding numeral_of parts_of
+threshold_below_zero = refl
+
+threshold_behind_direction : job_of_texts (codes "witness" ∷ codes "m" ∷ codes "exact" ∷ codes "best" ∷ codes "goal" ∷ codes "half" ∷ []) ≡ Err Direction
+threshold_behind_direction = refl
+
+no_threshold : job_of_texts (codes "witness" ∷ codes "m" ∷ codes "EXACT" ∷ codes "best" ∷ codes "goal" ∷ []) ≡ Err Number
+no_threshold = refl
+
+query_init_text : text_of query_init ≡ codes "query init" ++ 10 ∷ []
+query_init_text = refl
+
+below_text_of_third : text_of (below (ratio (pos 1) 3)) ≡ codes "below 1/3" ++ 10 ∷ []
+unfolding ratio gcd gcd_with_fuel spelling digits
+below_text_of_third = refl
+
+below_status : code_of (status_of (below (ratio (pos 1) 3))) ≡ 11
+below_status = refl
+
 -- `discount`: the number of words, the row rule, the direction, then the factor
 a_discount : job_of_texts (codes "discount" ∷ codes "m" ∷ codes "exact" ∷ codes "max" ∷ codes "-" ∷ codes "0.50" ∷ []) ≡ Ok (discount Exact Max (codes "-") (ratio (pos 1) 2))
+unfolding numeral_of parts_of lt_ℚ ratio of_int gcd gcd_with_fuel
 a_discount = refl
 
 factor_zero : job_of_texts (codes "discount" ∷ codes "m" ∷ codes "exact" ∷ codes "max" ∷ codes "energy" ∷ codes "0" ∷ []) ≡ Ok (discount Exact Max (codes "energy") (ratio (pos 0) 1))
+unfolding numeral_of parts_of lt_ℚ ratio of_int gcd gcd_with_fuel
 factor_zero = refl
 
 factor_one : job_of_texts (codes "discount" ∷ codes "m" ∷ codes "exact" ∷ codes "max" ∷ codes "-" ∷ codes "1" ∷ []) ≡ Err Factor
+unfolding numeral_of parts_of lt_ℚ ratio of_int gcd gcd_with_fuel
 factor_one = refl
 
 factor_below_zero : job_of_texts (codes "discount" ∷ codes "m" ∷ codes "exact" ∷ codes "max" ∷ codes "-" ∷ codes "-1/2" ∷ []) ≡ Err Factor
+unfolding numeral_of parts_of lt_ℚ ratio of_int gcd gcd_with_fuel
 factor_below_zero = refl
 
 factor_behind_direction : job_of_texts (codes "discount" ∷ codes "m" ∷ codes "exact" ∷ codes "best" ∷ codes "-" ∷ codes "2" ∷ []) ≡ Err Direction

@@ -1,3 +1,5 @@
 mod Examples
+mod Factors
 mod Numbers
 mod WideText
+pub mod Thresholds

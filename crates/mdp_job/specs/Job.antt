@@ -6,7 +6,7 @@ use Rattle.mdp_rows.specs.declared.rule.RowRule.{RowRule}
 use Rattle.mdp_job.specs.declared.job.Query.{Query}
 use Rattle.mdp_job.specs.declared.job.Query.TheVariants as query
 use Rattle.mdp_job.specs.declared.job.Job.{Job}
-use Rattle.mdp_job.specs.declared.job.Job.TheVariants.{Check, Discount, DiscountCheck, Drill, Horizon, Policy, Solve}
+use Rattle.mdp_job.specs.declared.job.Job.TheVariants.{Check, Discount, DiscountCheck, Drill, Horizon, Policy, Solve, Witness}
 use Rattle.mdp_job.specs.declared.files.Files.{Files}
 use Rattle.mdp_job.specs.declared.words_error.WordsError.{WordsError}
 
@@ -19,6 +19,8 @@ pub data PlainQuery : Type 0 where
 pub data PlainJob : Type 0 where
   -- the best values, in the direction, and a policy
   solve : RowRule → Dir → PlainQuery → PlainJob
+  -- a subsystem on which the best probability, in the direction, of reaching a label is at least a threshold
+  witness : RowRule → Dir → List ℕ → ℚ → PlainJob
   -- whether a certificate holds
   check : RowRule → PlainJob
   -- the query of a layered model that is drawn from a number: with so many layers of so many states
@@ -45,6 +47,7 @@ plain_query (query.Mean name) = mean name.now
 
 abbrev pub plain_job : Job → PlainJob
 plain_job (Solve rule dir query) = solve rule dir (plain_query query)
+plain_job (Witness rule dir label threshold) = witness rule dir label.now threshold
 plain_job (Check rule) = check rule
 plain_job (Drill number layers width) = drill number layers width
 plain_job (Horizon rule dir stay label steps) = horizon rule dir (option_map (λ name. name.now) stay) label.now steps
@@ -61,6 +64,7 @@ asked (Err e) = Err e
 -- the places of the words that name the model's file and the second one
 abbrev pub files_of : Asked → Files
 files_of (Ok (solve rule dir query)) = record { model = Some 1; second = None }
+files_of (Ok (witness rule dir label threshold)) = record { model = Some 1; second = None }
 files_of (Ok (check rule)) = record { model = Some 1; second = Some 3 }
 files_of (Ok (drill number layers width)) = record { model = None; second = None }
 files_of (Ok (horizon rule dir stay label steps)) = record { model = Some 1; second = None }

@@ -1,12 +1,13 @@
 -- Answers other than that the work was done, as contracts see them.
 use Rattle.std.specs.Prelude.{ℕ, Option}
+use Rattle.mdp_math.specs.Rational.{ℚ}
 use Rattle.mdp_cert.specs.declared.error.CertKind.{CertKind}
 use Rattle.mdp_drn.specs.declared.error.DrnKind.{DrnKind}
 use Rattle.mdp_farkas.specs.declared.verdict.Fault.{Fault}
 use Rattle.mdp_path.specs.Queries.{WideTerm, shown}
 use Rattle.mdp_job.specs.declared.refusal.Refusal.{Refusal}
-use Rattle.mdp_job.specs.declared.refusal.Refusal.TheVariants.{Words, Model, QuerySize, QueryReward, QueryLabel, QueryNegative, QuerySteps, QueryChoice}
-use Rattle.mdp_job.specs.declared.refusal.Refusal.TheVariants.{TooWide, CheckWide, HorizonWide, Denied, ReadModel, ReadCertificate, LongModel, LongCertificate, CertText, PolicyText, Memory}
+use Rattle.mdp_job.specs.declared.refusal.Refusal.TheVariants.{Words, Model, QuerySize, QueryReward, QueryLabel, QueryInit, QueryNegative, QuerySteps, QueryChoice}
+use Rattle.mdp_job.specs.declared.refusal.Refusal.TheVariants.{TooWide, CheckWide, HorizonWide, Denied, ReadModel, ReadCertificate, LongModel, LongCertificate, CertText, PolicyText, Below, Memory}
 use Rattle.mdp_job.specs.declared.words_error.WordsError.{WordsError}
 
 pub data PlainRefusal : Type 0 where
@@ -17,6 +18,8 @@ pub data PlainRefusal : Type 0 where
   query_size : PlainRefusal
   query_reward : PlainRefusal
   query_label : PlainRefusal
+  -- not exactly one initial state
+  query_init : PlainRefusal
   query_negative : PlainRefusal
   query_steps : PlainRefusal
   query_choice : PlainRefusal
@@ -35,6 +38,8 @@ pub data PlainRefusal : Type 0 where
   cert_text : ℕ → CertKind → PlainRefusal
   -- a line of the policy's text, and the rule that it breaks
   policy_text : ℕ → CertKind → PlainRefusal
+  -- the best probability, which is below the threshold
+  below : ℚ → PlainRefusal
   no_memory : PlainRefusal
 
 abbrev pub plain_refusal : Refusal → PlainRefusal
@@ -43,6 +48,7 @@ plain_refusal (Model n kind) = model_text n kind
 plain_refusal QuerySize = query_size
 plain_refusal QueryReward = query_reward
 plain_refusal QueryLabel = query_label
+plain_refusal QueryInit = query_init
 plain_refusal QueryNegative = query_negative
 plain_refusal QuerySteps = query_steps
 plain_refusal QueryChoice = query_choice
@@ -56,4 +62,5 @@ plain_refusal LongModel = long_model
 plain_refusal LongCertificate = long_certificate
 plain_refusal (CertText n kind) = cert_text n kind
 plain_refusal (PolicyText n kind) = policy_text n kind
+plain_refusal (Below v) = below v
 plain_refusal Memory = no_memory

@@ -1,6 +1,8 @@
 -- The text of each refusal: one line, but for a term past width in what was to be solved, which has two.
 use Rattle.std.specs.Prelude.{ℕ, List, [], ◌∷◌, ◌++◌, Option, Some, None, decimal, codes}
 use Rattle.std.specs.List.{flat_map}
+use Rattle.mdp_math.specs.Rational.{ℚ}
+use Rattle.mdp_num.specs.Value.{spelling}
 use Rattle.mdp_cert.specs.declared.error.CertKind.{CertKind}
 use Rattle.mdp_cert.specs.declared.error.CertKind.TheVariants as cert
 use Rattle.mdp_drn.specs.declared.error.DrnKind.{DrnKind}
@@ -11,8 +13,8 @@ use Rattle.mdp_elim.specs.declared.too_wide.Part.{Part}
 use Rattle.mdp_elim.specs.declared.too_wide.Part.TheVariants.{Whole, Inner, Outer, Steps, Join, Flow, Floor}
 use Rattle.mdp_farkas.specs.declared.verdict.Fault.{Fault}
 use Rattle.mdp_path.specs.Queries.{WideTerm}
-use Rattle.mdp_job.specs.Refusal.{PlainRefusal, no_job, model_text, query_size, query_reward, query_label, query_negative, query_steps, query_choice, too_wide, check_wide, horizon_wide}
-use Rattle.mdp_job.specs.Refusal.{denied, read_model, read_certificate, long_model, long_certificate, cert_text, policy_text, no_memory}
+use Rattle.mdp_job.specs.Refusal.{PlainRefusal, no_job, model_text, query_size, query_reward, query_label, query_init, query_negative, query_steps, query_choice, too_wide, check_wide, horizon_wide}
+use Rattle.mdp_job.specs.Refusal.{denied, read_model, read_certificate, long_model, long_certificate, cert_text, policy_text, below, no_memory}
 use Rattle.mdp_job.specs.declared.words_error.WordsError.{WordsError}
 use Rattle.mdp_job.specs.declared.words_error.WordsError.TheVariants as words
 
@@ -25,6 +27,7 @@ words_word words.Number = codes "number"
 words_word words.Rows = codes "rows"
 words_word words.Direction = codes "direction"
 words_word words.Objective = codes "objective"
+words_word words.Threshold = codes "threshold"
 words_word words.Drill = codes "drill"
 words_word words.Steps = codes "steps"
 words_word words.Factor = codes "factor"
@@ -81,6 +84,10 @@ denied_text f = rule_text f.rule ++ place_text f.state f.choice
 abbrev pub wide_text : Option ℕ → Option ℕ → List ℕ
 wide_text state choice = codes "too-wide check" ++ place_text state choice
 
+-- the best probability, where it is below the threshold
+abbrev pub below_text : ℚ → List ℕ
+below_text v = codes "below " ++ spelling v ++ 10 ∷ []
+
 -- a sum that is past width, with so many steps left
 abbrev pub depth_text : ℕ → List ℕ
 depth_text depth = codes "too-wide horizon depth " ++ decimal depth
@@ -120,6 +127,7 @@ text_of (model_text n kind) = at_line (codes "model") n (drn_word kind)
 text_of query_size = line (codes "query size")
 text_of query_reward = line (codes "query reward")
 text_of query_label = line (codes "query label")
+text_of query_init = line (codes "query init")
 text_of query_negative = line (codes "query negative")
 text_of query_steps = line (codes "query steps")
 text_of query_choice = line (codes "query choice")
@@ -133,4 +141,5 @@ text_of long_model = line (codes "long model")
 text_of long_certificate = line (codes "long certificate")
 text_of (cert_text n kind) = at_line (codes "cert") n (cert_word kind)
 text_of (policy_text n kind) = at_line (codes "policy") n (cert_word kind)
+text_of (below v) = below_text v
 text_of no_memory = line (codes "memory")

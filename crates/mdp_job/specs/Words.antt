@@ -2,6 +2,7 @@
 --     solve MODEL ROWS DIR reach LABEL
 --     solve MODEL ROWS DIR reward NAME LABEL
 --     solve MODEL ROWS DIR mean NAME
+--     witness MODEL ROWS DIR LABEL THRESHOLD
 --     check MODEL ROWS CERT
 --     drill NUMBER LAYERS WIDTH
 --     horizon MODEL ROWS DIR A B STEPS
@@ -24,9 +25,9 @@ use Rattle.mdp_rows.specs.declared.dir.Dir.{Dir}
 use Rattle.mdp_rows.specs.declared.dir.Dir.TheVariants.{Max, Min}
 use Rattle.mdp_rows.specs.declared.rule.RowRule.{RowRule}
 use Rattle.mdp_rows.specs.declared.rule.RowRule.TheVariants.{Exact, Scaled}
-use Rattle.mdp_job.specs.Job.{PlainQuery, reach, reward, mean, solve, check, drill, horizon, policy, discount, discount_check, Asked}
+use Rattle.mdp_job.specs.Job.{PlainQuery, reach, reward, mean, solve, witness, check, drill, horizon, policy, discount, discount_check, Asked}
 use Rattle.mdp_job.specs.declared.words_error.WordsError.{WordsError}
-use Rattle.mdp_job.specs.declared.words_error.WordsError.TheVariants.{Command, Number, Rows, Direction, Objective, Drill, Steps, Factor}
+use Rattle.mdp_job.specs.declared.words_error.WordsError.TheVariants.{Command, Number, Rows, Direction, Objective, Threshold, Drill, Steps, Factor}
 
 abbrev pub word_at : List (List ℕ) → ℕ → List ℕ
 word_at words i = slice_index_or words i []
@@ -63,6 +64,22 @@ abbrev pub solve_of : List (List ℕ) → Asked
 solve_of words =
     if nat_lt (length words) 4 then Err Number
     else (rule_of (word_at words 1) >>= (λ rule. dir_of (word_at words 2) >>= (λ dir. query_of words >>= (λ query. Ok (solve rule dir query)))))
+
+-- a numeral, as a value of a model's row is spelled
+abbrev pub threshold_by : Result ℚ NumeralError → Result ℚ WordsError
+threshold_by (Ok t) = Ok t
+threshold_by (Err e) = Err Threshold
+
+abbrev pub threshold_of : List ℕ → Result ℚ WordsError
+threshold_of word = threshold_by (numeral_of word)
+
+-- the words behind `witness`: the row rule, the direction, then the threshold
+abbrev pub witness_of : List (List ℕ) → Asked
+witness_of words =
+    if length words == 5
+    then (rule_of (word_at words 1)
+    >>= (λ rule. dir_of (word_at words 2) >>= (λ dir. threshold_of (word_at words 4) >>= (λ threshold. Ok (witness rule dir (word_at words 3) threshold)))))
+    else Err Number
 
 -- digits, at least one and at most so many: the number that they write
 abbrev pub whole_word : ℕ → List ℕ → Option ℕ
@@ -127,17 +144,26 @@ discount_of words =
 abbrev pub discount_check_of : List (List ℕ) → Asked
 discount_check_of words = if length words == 3 then (rule_of (word_at words 1) >>= λ rule. Ok (discount_check rule)) else Err Number
 
+-- the words behind a command that is neither `solve` nor `check` nor `drill`
+abbrev pub other_of : List ℕ → List (List ℕ) → Asked
+other_of command words =
+    if bytes_eq command (codes "horizon") then horizon_of words
+    else (if bytes_eq command (codes "policy") then policy_of words
+    else (if bytes_eq command (codes "discount") then discount_of words
+    else (if bytes_eq command (codes "discount-check") then discount_check_of words else Err Command)))
+
+-- a command, and the words behind it
+abbrev pub job_by : List ℕ → List (List ℕ) → Asked
+job_by command words =
+    if bytes_eq command (codes "solve") then solve_of words
+    else (if bytes_eq command (codes "witness") then witness_of words
+    else (if bytes_eq command (codes "check") then check_of words
+    else (if bytes_eq command (codes "drill") then drill_of words else other_of command words)))
+
 -- the words, as texts
 abbrev pub job_of_texts : List (List ℕ) → Asked
 job_of_texts [] = Err Command
-job_of_texts (command ∷ words) =
-    if bytes_eq command (codes "solve") then solve_of words
-    else (if bytes_eq command (codes "check") then check_of words
-    else (if bytes_eq command (codes "drill") then drill_of words
-    else (if bytes_eq command (codes "horizon") then horizon_of words
-    else (if bytes_eq command (codes "policy") then policy_of words
-    else (if bytes_eq command (codes "discount") then discount_of words
-    else (if bytes_eq command (codes "discount-check") then discount_check_of words else Err Command))))))
+job_of_texts (command ∷ words) = job_by command words
 
 abbrev pub job_of : List (String Global) → Asked
 job_of words = job_of_texts (map string_bytes words)

@@ -16,10 +16,11 @@ pub fn files_of(words: &[String]) -> Files
     ensures { result ≡ files_of (job_of words.now) }
 {
     match job_of(words) {
-        Ok(Job::Solve { .. } | Job::Horizon { .. } | Job::Discount { .. }) => Files {
-            model: Some(1),
-            second: None,
-        },
+        Ok(Job::Solve { .. } | Job::Witness { .. } | Job::Horizon { .. } | Job::Discount { .. }) =>
+            Files {
+                model: Some(1),
+                second: None,
+            },
         Ok(Job::Check { .. } | Job::Policy { .. } | Job::DiscountCheck { .. }) => Files {
             model: Some(1),
             second: Some(3),

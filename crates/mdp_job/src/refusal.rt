@@ -1,7 +1,8 @@
 ghost use Rattle.std.specs.Prelude.{◌≡◌, ◌≤◌, ◌++◌, length, take, decimal, codes, OnOk, OnErr};
 ghost use Rattle.mdp_job.specs.Refusal.{plain_refusal, no_job};
 ghost use Rattle.mdp_job.specs.Status.{status_of};
-ghost use Rattle.mdp_job.specs.Text.{text_of, words_word, drn_word, cert_word, at_line, place_text, number_or_dash, rule_text, denied_text, wide_text, depth_text, horizon_text, part_word, kind_word, policy_words, too_wide_text};
+ghost use Rattle.mdp_job.specs.Text.{text_of, words_word, drn_word, cert_word, at_line, place_text, number_or_dash, below_text, rule_text, denied_text, wide_text, depth_text, horizon_text, part_word, kind_word, policy_words, too_wide_text};
+ghost use Rattle.mdp_num.specs.Value.{spelling};
 ghost use Rattle.mdp_path.specs.Queries.{shown};
 
 use crate::status::Status;
@@ -11,7 +12,7 @@ use mdp_cert::CertKind;
 use mdp_drn::DrnKind;
 use mdp_elim::{Kind, Part, TooWide};
 use mdp_farkas::Fault;
-use mdp_num::Memory;
+use mdp_num::{Frac, Memory};
 use std::alloc::AllocError;
 
 /// An answer other than that the work was done, but for a fault of the sink.
@@ -30,6 +31,8 @@ pub enum Refusal {
     QueryReward,
     /// The label isn't in the model.
     QueryLabel,
+    /// The model hasn't exactly one initial state.
+    QueryInit,
     /// A reward of the name until a goal is below 0.
     QueryNegative,
     /// The steps of `horizon` times the states are above 2^22.
@@ -69,6 +72,8 @@ pub enum Refusal {
         line: u64,
         kind: CertKind,
     },
+    /// The best probability, which is below the threshold.
+    Below(Frac),
     /// Memory was refused.
     Memory,
 }
@@ -87,6 +92,7 @@ impl Refusal {
             Refusal::QuerySize
             | Refusal::QueryReward
             | Refusal::QueryLabel
+            | Refusal::QueryInit
             | Refusal::QueryNegative
             | Refusal::QuerySteps
             | Refusal::QueryChoice => Status::Query,
@@ -97,6 +103,7 @@ impl Refusal {
             Refusal::ReadModel | Refusal::ReadCertificate => Status::ReadFault,
             Refusal::LongModel | Refusal::LongCertificate => Status::Long,
             Refusal::CertText { .. } | Refusal::PolicyText { .. } => Status::CertText,
+            Refusal::Below(_) => Status::Below,
             Refusal::Memory => Status::Memory,
         }
     }
@@ -112,6 +119,7 @@ fn words_word(error: WordsError) -> &'static str
         WordsError::Rows => "rows",
         WordsError::Direction => "direction",
         WordsError::Objective => "objective",
+        WordsError::Threshold => "threshold",
         WordsError::Drill => "drill",
         WordsError::Steps => "steps",
         WordsError::Factor => "factor",
@@ -334,6 +342,27 @@ fn push_horizon_wide(
     push_place(Some(state), Some(choice), out)
 }
 
+/// Appends `below V`.
+fn push_value(value: &Frac, out: &mut Vec<u8>) -> Result<(), AllocError>
+    ensures text { OnOk result (out.new.items ≡ out.old.items ++ (codes "below " ++ spelling value.now)) }
+    ensures front { take (length out.old.items) out.new.items ≡ out.old.items }
+{
+    out.extend_from_slice(b"below ")?;
+    match value.push_text(out) {
+        Ok(()) => Ok(()),
+        Err(_) => Err(AllocError),
+    }
+}
+
+/// Appends the line of the best probability, where it is below the threshold.
+fn push_below(value: &Frac, out: &mut Vec<u8>) -> Result<(), AllocError>
+    ensures text { OnOk result (out.new.items ≡ out.old.items ++ below_text value.now) }
+    ensures front { take (length out.old.items) out.new.items ≡ out.old.items }
+{
+    push_value(value, out)?;
+    out.extend_from_slice(b"\n")
+}
+
 /// Appends the refusal's line, where what stands before it may have grown by a part of it on `Err`.
 fn push_parts(refusal: &Refusal, out: &mut Vec<u8>) -> Result<(), AllocError>
     ensures text { OnOk result (out.new.items ≡ out.old.items ++ text_of (plain_refusal refusal.now)) }
@@ -345,6 +374,7 @@ fn push_parts(refusal: &Refusal, out: &mut Vec<u8>) -> Result<(), AllocError>
         Refusal::QuerySize => out.extend_from_slice(b"query size\n"),
         Refusal::QueryReward => out.extend_from_slice(b"query reward\n"),
         Refusal::QueryLabel => out.extend_from_slice(b"query label\n"),
+        Refusal::QueryInit => out.extend_from_slice(b"query init\n"),
         Refusal::QueryNegative => out.extend_from_slice(b"query negative\n"),
         Refusal::QuerySteps => out.extend_from_slice(b"query steps\n"),
         Refusal::QueryChoice => out.extend_from_slice(b"query choice\n"),
@@ -362,6 +392,7 @@ fn push_parts(refusal: &Refusal, out: &mut Vec<u8>) -> Result<(), AllocError>
         Refusal::LongCertificate => out.extend_from_slice(b"long certificate\n"),
         Refusal::CertText { line, kind } => push_at("cert", *line, cert_word(*kind), out),
         Refusal::PolicyText { line, kind } => push_at("policy", *line, cert_word(*kind), out),
+        Refusal::Below(value) => push_below(value, out),
         Refusal::Memory => out.extend_from_slice(MEMORY_TEXT),
     }
 }

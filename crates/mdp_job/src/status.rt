@@ -27,6 +27,8 @@ pub enum Status {
     CertText,
     /// A source gave more bytes than the limit.
     Long,
+    /// The best probability is below the threshold.
+    Below,
 }
 
 impl Status {
@@ -46,6 +48,7 @@ impl Status {
             Status::Memory => 8,
             Status::CertText => 9,
             Status::Long => 10,
+            Status::Below => 11,
         }
     }
 }

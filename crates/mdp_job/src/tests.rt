@@ -2,6 +2,7 @@ use crate::{Refusal, Status, WordsError, push_refusal};
 use mdp_cert::CertKind;
 use mdp_drn::DrnKind;
 use mdp_farkas::Fault;
+use mdp_num::Frac;
 use std::test::Fail;
 
 /// Refusals, the text of each behind one that stands there, and the number of its status.
@@ -14,6 +15,7 @@ fn spells_refusals(rt: HostRuntime) -> Result<(), Fail> {
     };
     for (refusal, text, code) in [
         (Refusal::Words(WordsError::Rows), "> words rows\n", 2),
+        (Refusal::Words(WordsError::Factor), "> words factor\n", 2),
         (
             Refusal::Model {
                 line: u64::MAX,
@@ -24,6 +26,13 @@ fn spells_refusals(rt: HostRuntime) -> Result<(), Fail> {
         ),
         (Refusal::QueryReward, "> query reward\n", 4),
         (Refusal::QueryLabel, "> query label\n", 4),
+        (Refusal::QueryInit, "> query init\n", 4),
+        (Refusal::Below(Frac::whole(2)), "> below 2\n", 11),
+        (
+            Refusal::Words(WordsError::Threshold),
+            "> words threshold\n",
+            2,
+        ),
         (Refusal::QueryNegative, "> query negative\n", 4),
         (
             Refusal::CheckWide {

@@ -11,6 +11,8 @@ pub enum WordsError {
     Direction = 4,
     /// `solve` has another objective than `reach`, `reward` and `mean`, or `policy` another than `reach`.
     Objective = 5,
+    /// The threshold of `witness` isn't a numeral.
+    Threshold = 6,
     /// A number of `drill` isn't in range.
     Drill = 7,
     /// The number of steps of `horizon` isn't 1 to 7 digits.

@@ -12,7 +12,7 @@ use Rattle.mdp_path.specs.Path.{Found, Refusal, path_step}
 use Rattle.mdp_path.specs.Laws.{IsBestFrom, EndsAtBest, first}
 use Rattle.mdp_path.specs.Iteration.{EndsWith}
 use Rattle.mdp_path.specs.Ends.{Ends, error_of_part}
-use Rattle.mdp_path.specs.Queries.{WideTerm, term_of_check, Solves}
+use Rattle.mdp_path.specs.Queries.{WideTerm, term_of_check}
 use Rattle.mdp_path.specs.declared.solution.PathError.{PathError}
 use Rattle.mdp_path.specs.declared.solution.PathError.TheVariants as path
 use Rattle.mdp_farkas.specs.Verdict.{verdict_of}
@@ -21,7 +21,8 @@ use Rattle.mdp_farkas.specs.declared.verdict.Verdict.{Verdict}
 use Rattle.mdp_farkas.specs.declared.verdict.Verdict.TheVariants.{Yes, No, Wide}
 use Rattle.mdp_farkas.proofs.ReachRules.{reach_rules}
 use Rattle.mdp_reach.specs.Problem.{reach_problem}
-use Rattle.mdp_reach.specs.Query.{Answer, plain, IsStart, AreRanks, Held, AfterPath, EndsSo}
+use Rattle.mdp_reach.specs.Query.{Answer, IsStart, AreRanks, Held, AfterPath, EndsSo}
+use Rattle.mdp_reach.specs.Round.{EndsWithRound, SolvesToEnd}
 use Rattle.mdp_reach.specs.Laws.{AnswersMeetRules, AnswersAreGreatest, AnswersAreLeast}
 use Rattle.mdp_reach.proofs.Starts.{start-solvable, start-choices}
 use Rattle.mdp_reach.proofs.Kept.{found-policy}
@@ -39,8 +40,8 @@ meets-reach Min m goals marks start policy ranks x model s found meet rest falls
 -- ---- the end of a query, from that of its path
 
 module _ (dir : Dir) (m : Mdp) (goals marks : List Bool) (start : List ℕ) (is_start : IsStart dir m goals marks start) where
-  pub ends-refused : (e : PathError) → Ends (reach_problem dir m goals marks) start (Err e) → Solves plain (EndsSo dir m goals) (Err (error_of_part Whole e))
-  ends-refused (path.TooWide w) h = (h.0, h.1, record { marks = marks; start = start; is_start = is_start; end = _; path = h.2; after = refl })
+  pub ends-refused : (e : PathError) → Ends (reach_problem dir m goals marks) start (Err e) → SolvesToEnd dir m goals (Err (error_of_part Whole e))
+  ends-refused (path.TooWide w) h = (h.0, h.1, record { ends = record { marks = marks; start = start; is_start = is_start; end = _; path = h.2; after = refl }; round = refl })
   ends-refused path.Memory h = tt
 
   module _ (n : ℕ) (policy ranks : List ℕ) (x : List ℚ)
@@ -48,21 +49,24 @@ module _ (dir : Dir) (m : Mdp) (goals marks : List Bool) (start : List ℕ) (is_
     abbrev checked : Verdict
     checked = verdict_of (reach_checks dir m goals x policy ranks)
 
-    held : (v : Verdict) (r : Result Answer WideTerm) → v ≡ checked → Held (record { number = n; policy = policy; values = x }) ranks v r → EndsSo dir m goals r
+    held : (v : Verdict) (r : Result Answer WideTerm) → v ≡ checked → Held (record { number = n; policy = policy; values = x }) ranks v r → EndsWithRound dir m goals n r
     held v r e h = record {
-      marks = marks;
-      start = start;
-      is_start = is_start;
-      end = Ok (record { number = n; policy = policy; values = x });
-      path = found;
-      after = (ranks, are, subst (λ (v : Verdict). Held (record { number = n; policy = policy; values = x }) ranks v r) e h);
+      ends = record {
+        marks = marks;
+        start = start;
+        is_start = is_start;
+        end = Ok (record { number = n; policy = policy; values = x });
+        path = found;
+        after = (ranks, are, subst (λ (v : Verdict). Held (record { number = n; policy = policy; values = x }) ranks v r) e h);
+      };
+      round = refl;
     }
 
-    pub ends-answered : Yes ≡ checked → EndsSo dir m goals (Ok (record { values = x; choices = policy; ranks = ranks }))
+    pub ends-answered : Yes ≡ checked → EndsWithRound dir m goals n (Ok (record { values = x; choices = policy; ranks = ranks }))
     ends-answered e = held Yes (Ok (record { values = x; choices = policy; ranks = ranks })) e refl
 
     pub ends-wide : (state choice : Option ℕ) → Wide state choice ≡ checked
-        → EndsSo dir m goals (Err (term_of_check Whole (record { number = n; policy = policy; values = x }) state choice))
+        → EndsWithRound dir m goals n (Err (term_of_check Whole (record { number = n; policy = policy; values = x }) state choice))
     ends-wide state choice e = held (Wide state choice) (Err (term_of_check Whole (record { number = n; policy = policy; values = x }) state choice)) e refl
 
 -- ---- an answer is right

@@ -1,5 +1,5 @@
 -- Paths of reachability, computed.
-use Rattle.std.proofs.Common.{◌≡◌, ℕ, [], ◌∷◌, List, Bool, true, false, Some, Result, Ok, refl, pos}
+use Rattle.std.proofs.Common.{◌≡◌, ℕ, [], ◌∷◌, List, Bool, true, false, Some, Result, Ok, Err, refl, pos}
 use Rattle.mdp_math.specs.Gcd.{gcd, gcd_with_fuel}
 use Rattle.mdp_math.specs.Rational.{ℚ, of_int, ratio, ◌+ℚ◌, ◌*ℚ◌, neg_ℚ, inv_ℚ}
 use Rattle.mdp_math.specs.Written.{written_add, written_mul, written_compare, narrow, narrow_ℚ}
@@ -8,9 +8,10 @@ use Rattle.mdp_elim.specs.Elimination.{divided_rest, plus_equation, eliminated, 
 use Rattle.mdp_elim.specs.System.{equation_of}
 use Rattle.mdp_rows.specs.declared.dir.Dir.TheVariants.{Max, Min}
 use Rattle.mdp_path.specs.Iteration.{iterated}
-use Rattle.mdp_path.specs.Path.{Found, Refusal, path_step}
+use Rattle.mdp_path.specs.Path.{Found, Refusal, evaluating, path_step}
 use Rattle.mdp_path.specs.Laws.{first}
 use Rattle.mdp_reach.specs.Problem.{reach_problem}
+use Rattle.mdp_reach.specs.Round.{last_round}
 
 abbrev to : ℕ → ℚ → Entry
 to t p = record { target = t; prob = p }
@@ -67,3 +68,10 @@ four_rounds :
     }) in r)
 unfolding equation_of eliminated divided_rest plus_equation evaluated written_add written_mul written_compare narrow narrow_ℚ ◌+ℚ◌ ◌*ℚ◌ neg_ℚ inv_ℚ ratio of_int gcd gcd_with_fuel
 four_rounds = refl
+
+-- so its last round is the third one after round 0, and that of a refusal is the round in which the term is
+last_of_four : last_round (Ok (record { number = 3; policy = 1 ∷ 1 ∷ 1 ∷ 0 ∷ 0 ∷ []; values = [] })) ≡ 3
+last_of_four = refl
+
+last_of_refusal : last_round (Err (record { number = 2; policy = 0 ∷ []; place = evaluating (0 ∷ []) 0 })) ≡ 2
+last_of_refusal = refl

@@ -1,5 +1,5 @@
 -- A query has one end at most: marks, ranks and choices of its passes are determined, and so are its path and the verdict.
-use Rattle.std.proofs.Common.{◌≡◌, ℕ, ◌<◌, inl, inr, Bool, true, false, List, length, Result, Ok, Err, refl, sym, ◌∙◌, subst, arith}
+use Rattle.std.proofs.Common.{◌≡◌, ℕ, ◌<◌, inl, inr, Bool, true, false, List, length, Result, Ok, Err, refl, sym, ap, ◌∙◌, subst, arith}
 use Rattle.std.specs.Prelude.{slice_index, slice_index_or}
 use Rattle.std.proofs.lemmas.List.FromFn.{fill_by_all}
 use Rattle.mdp_math.proofs.Booleans.{same_truth}
@@ -24,6 +24,7 @@ use Rattle.mdp_farkas.specs.declared.verdict.Verdict.{Verdict}
 use Rattle.mdp_farkas.specs.declared.verdict.Verdict.TheVariants.{Yes, No, Wide}
 use Rattle.mdp_reach.specs.Problem.{reach_problem}
 use Rattle.mdp_reach.specs.Query.{Answer, none_blocked, policy_rows, ending, IsMaxStart, IsMinStart, IsStart, AreRanks, Held, AfterPath, EndsSo}
+use Rattle.mdp_reach.specs.Round.{last_round, EndsWithRound}
 
 -- ---- lists that are the same at each state
 
@@ -110,17 +111,18 @@ one_after dir m goals (Ok f) r q a b =
     (subst (λ (ranks : List ℕ). Held f ranks (verdict_of (reach_checks dir m goals f.values f.policy ranks)) q) same b.2)
 
 module _ (dir : Dir) (m : Mdp) (goals : List Bool) (r q : Result Answer WideTerm) where
-  one_path : (marks : List Bool) (start : List ℕ) (e f : Result Found Refusal) → EndsWith (path_step (reach_problem dir m goals marks)) (first start) e
-      → EndsWith (path_step (reach_problem dir m goals marks)) (first start) f → AfterPath dir m goals e r → AfterPath dir m goals f q → q ≡ r
-  one_path marks start e f h k a b =
-      let same : f ≡ e = one_end (path_step (reach_problem dir m goals marks)) (first start) f e k h in
-      one_after dir m goals e r q a (subst (λ (e : Result Found Refusal). AfterPath dir m goals e q) same b)
-
-  pub one_query_end : EndsSo dir m goals r → EndsSo dir m goals q → q ≡ r
-  one_query_end a b =
+  one_path_end : (a : EndsSo dir m goals r) (b : EndsSo dir m goals q) → b.end ≡ a.end
+  one_path_end a b =
       let marks : b.marks ≡ a.marks = one_marks m goals dir b.marks a.marks b.start a.start b.is_start a.is_start in
       let is_start : IsStart dir m goals a.marks b.start = subst (λ (marks : List Bool). IsStart dir m goals marks b.start) marks b.is_start in
       let start : b.start ≡ a.start = one_start m goals dir a.marks b.start a.start is_start a.is_start in
       let path : EndsWith (path_step (reach_problem dir m goals a.marks)) (first b.start) b.end =
       subst (λ (marks : List Bool). EndsWith (path_step (reach_problem dir m goals marks)) (first b.start) b.end) marks b.path in
-      one_path a.marks a.start a.end b.end a.path (subst (λ (start : List ℕ). EndsWith (path_step (reach_problem dir m goals a.marks)) (first start) b.end) start path) a.after b.after
+      one_end (path_step (reach_problem dir m goals a.marks)) (first a.start) b.end a.end
+      (subst (λ (start : List ℕ). EndsWith (path_step (reach_problem dir m goals a.marks)) (first start) b.end) start path) a.path
+
+  pub one_query_end : EndsSo dir m goals r → EndsSo dir m goals q → q ≡ r
+  one_query_end a b = one_after dir m goals a.end r q a.after (subst (λ (e : Result Found Refusal). AfterPath dir m goals e q) (one_path_end a b) b.after)
+
+  pub one_round_end : (n k : ℕ) → EndsWithRound dir m goals n r → EndsWithRound dir m goals k q → (k ≡ n) × (q ≡ r)
+  one_round_end n k a b = (sym b.round ∙ ap last_round (one_path_end a.ends b.ends) ∙ a.round, one_query_end a.ends b.ends)

@@ -1,5 +1,5 @@
 -- What a query of reachability ends with.
-use Rattle.std.specs.Prelude.{◌≡◌, Bool, List, Result, Ok}
+use Rattle.std.specs.Prelude.{◌≡◌, ℕ, Bool, List, Result, Ok}
 use Rattle.mdp_spec.specs.Mdp.{Mdp}
 use Rattle.mdp_spec.specs.Bounds.{ReachMax, ReachMin}
 use Rattle.mdp_spec.specs.Row.{IsMdp}
@@ -8,10 +8,15 @@ use Rattle.mdp_rows.specs.declared.dir.Dir.TheVariants.{Max, Min}
 use Rattle.mdp_path.specs.Queries.{WideTerm}
 use Rattle.mdp_farkas.specs.Reach.{IsReach}
 use Rattle.mdp_reach.specs.Query.{Answer, EndsSo}
+use Rattle.mdp_reach.specs.Round.{EndsWithRound}
 
 -- it has one end at most
 abbrev pub HasOneEnd : Type 0
 HasOneEnd = (dir : Dir) (m : Mdp) (goals : List Bool) (r q : Result Answer WideTerm) → EndsSo dir m goals r → EndsSo dir m goals q → q ≡ r
+
+-- and its path ends in one round
+abbrev pub HasOneRound : Type 0
+HasOneRound = (dir : Dir) (m : Mdp) (goals : List Bool) (n k : ℕ) (r q : Result Answer WideTerm) → EndsWithRound dir m goals n r → EndsWithRound dir m goals k q → (k ≡ n) × (q ≡ r)
 
 -- an answer meets the rules of certificates, and no term of its check is past width
 abbrev pub AnswersMeetRules : Type 0

@@ -1,3 +1,4 @@
 pub mod Problem
 pub mod Query
+pub mod Round
 pub mod Laws

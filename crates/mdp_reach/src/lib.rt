@@ -8,4 +8,4 @@ mod solve;
 mod start;
 
 pub use laws::query_law;
-pub use solve::solve_reach;
+pub use solve::{ReachEnd, solve_reach, solve_reach_to_end};

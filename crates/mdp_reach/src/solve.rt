@@ -5,6 +5,7 @@ ghost use Rattle.mdp_rows.specs.declared.dir.Dir.TheVariants.{Max, Min};
 ghost use Rattle.mdp_farkas.specs.Reach.{IsReach};
 ghost use Rattle.mdp_path.specs.Queries.{Solves};
 ghost use Rattle.mdp_reach.specs.Query.{plain, EndsSo};
+ghost use Rattle.mdp_reach.specs.Round.{SolvesToEnd};
 
 use crate::problem::Reach;
 use crate::ranks::ranks_of;
@@ -16,19 +17,26 @@ use mdp_path::{Solution, improve};
 use mdp_rows::{Dir, Marks, Model};
 use std::alloc::Global;
 
+/// What a query of reachability ends with: a certificate, and the round of its policy. Rounds count from 0; one above 2^64 - 1 is given as 2^64 - 1.
+#[derive(Debug, Drop)]
+pub struct ReachEnd {
+    pub cert: ReachCert,
+    pub round: u64,
+}
+
 /// The greatest or the least probabilities of reaching a goal, by policy iteration: values, a policy and ranks, held against the rules of
-/// certificates. `TooWide` is the first written term past width, of the path or of that check.
-pub fn solve_reach(
+/// certificates, with the round in which the path of policies ends. `TooWide` is the first written term past width, of the path or of that check.
+pub fn solve_reach_to_end(
     alloc: Global,
     model: &Model,
     goals: &Marks,
     dir: Dir,
-) -> Result<ReachCert, SolveError>
+) -> Result<ReachEnd, SolveError>
     requires { length goals.now ≡ states_of model.now }
-    ensures path { Solves plain (EndsSo dir model.now goals.now) result }
-    ensures rules { IfOk result (λ cert. IsReach dir model.now goals.now cert.values.items cert.choices.items cert.ranks.items) }
-    ensures max { dir ≡ Max → IfOk result (λ cert. ReachMax model.now goals.now cert.values.items cert.choices.items) }
-    ensures min { dir ≡ Min → IfOk result (λ cert. ReachMin model.now goals.now cert.values.items cert.choices.items) }
+    ensures path { SolvesToEnd dir model.now goals.now result }
+    ensures rules { IfOk result (λ end. IsReach dir model.now goals.now end.cert.values.items end.cert.choices.items end.cert.ranks.items) }
+    ensures max { dir ≡ Max → IfOk result (λ end. ReachMax model.now goals.now end.cert.values.items end.cert.choices.items) }
+    ensures min { dir ≡ Min → IfOk result (λ end. ReachMin model.now goals.now end.cert.values.items end.cert.choices.items) }
 {
     model.known();
     along_law();
@@ -59,7 +67,7 @@ pub fn solve_reach(
         ranks,
     };
     match holds_reach(model, goals, dir, &cert) {
-        Verdict::Yes => Ok(cert),
+        Verdict::Yes => Ok(ReachEnd { cert, round }),
         Verdict::No(_) => unreachable!(),
         Verdict::Wide { state, choice } => Err(SolveError::TooWide(TooWide {
             part: Part::Whole,
@@ -70,4 +78,22 @@ pub fn solve_reach(
             choice,
         })),
     }
+}
+
+/// The greatest or the least probabilities of reaching a goal, by policy iteration: values, a policy and ranks, held against the rules of
+/// certificates. `TooWide` is the first written term past width, of the path or of that check.
+pub fn solve_reach(
+    alloc: Global,
+    model: &Model,
+    goals: &Marks,
+    dir: Dir,
+) -> Result<ReachCert, SolveError>
+    requires { length goals.now ≡ states_of model.now }
+    ensures path { Solves plain (EndsSo dir model.now goals.now) result }
+    ensures rules { IfOk result (λ cert. IsReach dir model.now goals.now cert.values.items cert.choices.items cert.ranks.items) }
+    ensures max { dir ≡ Max → IfOk result (λ cert. ReachMax model.now goals.now cert.values.items cert.choices.items) }
+    ensures min { dir ≡ Min → IfOk result (λ cert. ReachMin model.now goals.now cert.values.items cert.choices.items) }
+{
+    let ReachEnd { cert, round: _ } = solve_reach_to_end(alloc, model, goals, dir)?;
+    Ok(cert)
 }

@@ -1,9 +1,12 @@
-use Rattle.mdp_reach.proofs.OneEnd.{one_query_end}
+use Rattle.mdp_reach.proofs.OneEnd.{one_query_end, one_round_end}
 use Rattle.mdp_reach.proofs.Answering.{answer-meets, answers_are_greatest, answers_are_least}
 use Rattle.mdp_reach.proofs.laws.query_law.Goals as goal
 
 pub returns-clause-one_end : goal.returns-clause-one_end
 returns-clause-one_end c dir m goals r q a b = one_query_end dir m goals r q a b
+
+pub returns-clause-one_round : goal.returns-clause-one_round
+returns-clause-one_round c dir m goals n k r q a b = one_round_end dir m goals r q n k a b
 
 pub returns-clause-rules : goal.returns-clause-rules
 returns-clause-rules c dir m goals a model end =

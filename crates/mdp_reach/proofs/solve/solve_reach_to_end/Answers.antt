@@ -1,0 +1,94 @@
+use Rattle.std.proofs.Common.{◌∙◌, ℕ, List, Err, length, sym, ap, subst}
+use Rattle.mdp_spec.specs.Tree.{IsPolicy}
+use Rattle.mdp_elim.specs.declared.too_wide.SolveError.{SolveError}
+use Rattle.mdp_math.specs.Rational.{ℚ}
+use Rattle.mdp_reach.specs.Query.{AreRanks}
+use Rattle.mdp_reach.specs.Round.{SolvesToEnd}
+use Rattle.mdp_reach.proofs.Nodes.{reach-count}
+use Rattle.mdp_reach.proofs.Starts.{start-solvable, start-choices, start-marks}
+use Rattle.mdp_reach.proofs.Kept.{found-policy}
+use Rattle.mdp_reach.proofs.NeverNo.{meets_never_no}
+use Rattle.mdp_reach.proofs.Answering.{meets-reach, ends-refused, ends-answered, ends-wide}
+use Rattle.mdp_reach.proofs.solve.solve_reach_to_end.Goals as goal
+
+pub invariant_of-problem : goal.invariant_of-problem
+invariant_of-problem c = record {
+  goals_each = c.requires;
+  marks_each = start-marks c.args.dir c.args.model.now c.args.goals.now c.in_ok-start.start.marks c.in_ok-start.start.choices.items (c.in_ok-start.ensures {u = tt});
+}
+
+pub improve-requires : goal.improve-requires
+improve-requires c =
+    start-solvable c.args.dir c.args.model.now c.args.goals.now c.in_ok-start.start.marks c.in_ok-start.start.choices.items c.known.ensures.mdp c.avoid_law.ensures.rest
+    (c.in_ok-start.ensures {u = tt})
+
+pub returns-in-Err-clause-path : goal.returns-in-Err-clause-path
+returns-in-Err-clause-path c =
+    subst (λ (e : SolveError). SolvesToEnd c.args.dir c.args.model.now c.args.goals.now (Err e)) (sym c.in_part.ensures)
+    (ends-refused c.args.dir c.args.model.now c.args.goals.now c.in_ok-start.start.marks c.in_ok-start.start.choices.items (c.in_ok-start.ensures {u = tt}) c.in-Err.error
+    (c.in-Err.ensures {u = tt}).path)
+
+pub ranks_of-requires-clause-policy : goal.ranks_of-requires-clause-policy
+ranks_of-requires-clause-policy c =
+    subst (λ (policy : List ℕ). IsPolicy c.args.model.now policy) (sym c.deref.ensures.value)
+    (found-policy c.args.dir c.args.model.now c.args.goals.now c.in_ok-start.start.marks c.in_ok-start.start.choices.items c.in-Ok.found.policy.items c.in-Ok.found.values.items
+    (start-choices c.args.dir c.args.model.now c.args.goals.now c.in_ok-start.start.marks c.in_ok-start.start.choices.items (c.in_ok-start.ensures {u = tt})) (c.in-Ok.ensures {u = tt}).best)
+
+pub ranks_of-requires-clause-values : goal.ranks_of-requires-clause-values
+ranks_of-requires-clause-values c =
+    ap length c.deref-2.ensures.value ∙ (c.in-Ok.ensures {u = tt}).best.best.values.len ∙ reach-count c.args.dir c.args.model.now c.args.goals.now c.in_ok-start.start.marks
+
+pub holds_reach-requires-clause-values : goal.holds_reach-requires-clause-values
+holds_reach-requires-clause-values c = (c.in-Ok.ensures {u = tt}).best.best.values.len ∙ reach-count c.args.dir c.args.model.now c.args.goals.now c.in_ok-start.start.marks
+
+pub holds_reach-requires-clause-choices : goal.holds_reach-requires-clause-choices
+holds_reach-requires-clause-choices c = (c.in-Ok.ensures {u = tt}).best.best.is.one_each ∙ reach-count c.args.dir c.args.model.now c.args.goals.now c.in_ok-start.start.marks
+
+pub returns-in-Yes-clause-path : goal.returns-in-Yes-clause-path
+returns-in-Yes-clause-path c =
+    let dir = c.args.dir in
+    let m = c.args.model.now in
+    let goals = c.args.goals.now in
+    let marks = c.in_ok-start.start.marks in
+    let start = c.in_ok-start.start.choices.items in
+    let are : AreRanks dir m goals c.in-Ok.found.values.items c.in-Ok.found.policy.items c.in_ok-ranks.ranks.items =
+    subst (λ (x : List ℚ). AreRanks dir m goals x c.in-Ok.found.policy.items c.in_ok-ranks.ranks.items) c.deref-2.ensures.value
+    (subst (λ (policy : List ℕ). AreRanks dir m goals c.deref-2.result.now policy c.in_ok-ranks.ranks.items) c.deref.ensures.value (c.in_ok-ranks.ensures {u = tt})) in
+    let end = (c.in-Ok.ensures {u = tt}).path in (
+      end.0,
+      end.1,
+      ends-answered dir m goals marks start (c.in_ok-start.ensures {u = tt}) end.0 c.in-Ok.found.policy.items c.in_ok-ranks.ranks.items c.in-Ok.found.values.items end.2 are
+          (sym c.in-Yes.is ∙ c.holds_reach.ensures.verdict),
+    )
+
+pub unreachable-requires : goal.unreachable-requires
+unreachable-requires c =
+    let dir = c.args.dir in
+    let m = c.args.model.now in
+    let goals = c.args.goals.now in
+    let marks = c.in_ok-start.start.marks in
+    let start = c.in_ok-start.start.choices.items in
+    let are : AreRanks dir m goals c.in-Ok.found.values.items c.in-Ok.found.policy.items c.in_ok-ranks.ranks.items =
+    subst (λ (x : List ℚ). AreRanks dir m goals x c.in-Ok.found.policy.items c.in_ok-ranks.ranks.items) c.deref-2.ensures.value
+    (subst (λ (policy : List ℕ). AreRanks dir m goals c.deref-2.result.now policy c.in_ok-ranks.ranks.items) c.deref.ensures.value (c.in_ok-ranks.ensures {u = tt})) in
+    meets_never_no m goals c.in-Ok.found.values.items c.in-Ok.found.policy.items c.in_ok-ranks.ranks.items dir
+    (meets-reach dir m goals marks start c.in-Ok.found.policy.items c.in_ok-ranks.ranks.items c.in-Ok.found.values.items c.known.ensures.mdp (c.in_ok-start.ensures {u = tt})
+    (c.in-Ok.ensures {u = tt}).best are c.reach_law.ensures.rest c.along_law.ensures.falls c.along_law.ensures.rest c.meet_law.ensures.rest)
+    c.in-No.field-0 (sym c.holds_reach.ensures.verdict ∙ c.in-No.is)
+
+pub returns-clause-path : goal.returns-clause-path
+returns-clause-path c =
+    let dir = c.args.dir in
+    let m = c.args.model.now in
+    let goals = c.args.goals.now in
+    let marks = c.in_ok-start.start.marks in
+    let start = c.in_ok-start.start.choices.items in
+    let are : AreRanks dir m goals c.in-Ok.found.values.items c.in-Ok.found.policy.items c.in_ok-ranks.ranks.items =
+    subst (λ (x : List ℚ). AreRanks dir m goals x c.in-Ok.found.policy.items c.in_ok-ranks.ranks.items) c.deref-2.ensures.value
+    (subst (λ (policy : List ℕ). AreRanks dir m goals c.deref-2.result.now policy c.in_ok-ranks.ranks.items) c.deref.ensures.value (c.in_ok-ranks.ensures {u = tt})) in
+    let end = (c.in-Ok.ensures {u = tt}).path in (
+      end.0,
+      end.1,
+      ends-wide dir m goals marks start (c.in_ok-start.ensures {u = tt}) end.0 c.in-Ok.found.policy.items c.in_ok-ranks.ranks.items c.in-Ok.found.values.items end.2 are
+          c.in-Wide.state c.in-Wide.choice (sym c.in-Wide.is ∙ c.holds_reach.ensures.verdict),
+    )

@@ -1,0 +1,35 @@
+-- What ends a part of the query ends the query.
+use Rattle.std.proofs.Common.{◌≡◌, ℕ, List, Result, Ok, Err, sym, ap, ◌∙◌, subst}
+use Rattle.mdp_math.specs.Rational.{ℚ}
+use Rattle.mdp_reach.specs.Query.{Answer}
+use Rattle.mdp_witness.specs.Query.{PlainSubsystem, Refusal}
+use Rattle.mdp_witness.specs.Code.{Answers}
+use Rattle.mdp_witness.specs.declared.subsystem.WitnessError.{WitnessError}
+use Rattle.mdp_witness.specs.declared.subsystem.WitnessError.TheVariants as refused
+
+-- what the code answers to a part serves the query
+pub goes-through : {A : Type 0} (view : A → PlainSubsystem) (Part Ends : Result PlainSubsystem Refusal → Type 0) (x : Result A WitnessError) → ((r : Result PlainSubsystem Refusal) → Part r → Ends r)
+    → Answers view Part x → Answers view Ends x
+goes-through view Part Ends (Ok found) h a = h _ a
+goes-through view Part Ends (Err (refused.Below v)) h a = h _ a
+goes-through view Part Ends (Err (refused.TooWide w)) h a = (a.0, a.1, h _ a.2)
+goes-through view Part Ends (Err refused.Memory) h a = tt
+
+-- an error that is returned
+pub answers-err : {A : Type 0} (view : A → PlainSubsystem) (Ends : Result PlainSubsystem Refusal → Type 0) (result : Result A WitnessError) (e : WitnessError) → result ≡ Err e
+    → Answers view Ends (Err e) → Answers view Ends result
+answers-err view Ends result e q h = subst (λ (x : Result _ WitnessError). Answers view Ends x) (sym q) h
+
+-- an error of a part, whatever the part gives
+pub passed-on : {A B : Type 0} (f : A → PlainSubsystem) (g : B → PlainSubsystem) (Ends : Result PlainSubsystem Refusal → Type 0) (e : WitnessError) → Answers f Ends (Err e) → Answers g Ends (Err e)
+passed-on f g Ends (refused.Below v) h = h
+passed-on f g Ends (refused.TooWide w) h = h
+passed-on f g Ends refused.Memory h = tt
+
+-- the answer of three lists
+pub same_answer : (a : Answer) (z : List ℚ) (policy ranks : List ℕ) → z ≡ a.values → policy ≡ a.choices → ranks ≡ a.ranks
+    → (let b : Answer = record { values = z; choices = policy; ranks = ranks } in b) ≡ a
+same_answer a z policy ranks ez ep er =
+    ap (λ (z : List ℚ). let b : Answer = record { values = z; choices = policy; ranks = ranks } in b) ez
+    ∙ ap (λ (p : List ℕ). let b : Answer = record { values = a.values; choices = p; ranks = ranks } in b) ep
+    ∙ ap (λ (r : List ℕ). let b : Answer = record { values = a.values; choices = a.choices; ranks = r } in b) er

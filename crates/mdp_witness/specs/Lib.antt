@@ -1,0 +1,4 @@
+pub mod Query
+pub mod Code
+pub mod Shown
+pub mod Laws

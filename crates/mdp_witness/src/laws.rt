@@ -1,0 +1,29 @@
+ghost use Rattle.mdp_witness.specs.Laws.{HasOneEnd, FoundHaveShape, FoundHold, FoundReachMax, FoundReachMin, PoliciesReach};
+ghost use Rattle.mdp_witness.specs.Laws.{FoundNeededMax, FoundNeededMin, BelowIsBest};
+
+use mdp_flow::{floor_law, flow_law, listed_law};
+use mdp_reach::query_law;
+use mdp_trials::{kept_law, left_law, needed_law};
+
+/// The query of a witness has one end at most. A subsystem that is found has a certificate that holds; it reaches the threshold, by some policy or
+/// by each, and for the greatest probability by the policy of the model's query; and each of its states that isn't marked as wide is needed. Where
+/// there is none since the best probability is below the threshold, the value given is that probability.
+pub fn witness_law()
+    ensures one_end { HasOneEnd }
+    ensures shape { FoundHaveShape }
+    ensures holds { FoundHold }
+    ensures sub_max { FoundReachMax }
+    ensures sub_min { FoundReachMin }
+    ensures policy { PoliciesReach }
+    ensures needed_max { FoundNeededMax }
+    ensures needed_min { FoundNeededMin }
+    ensures below { BelowIsBest }
+{
+    query_law();
+    left_law();
+    kept_law();
+    needed_law();
+    listed_law();
+    flow_law();
+    floor_law();
+}

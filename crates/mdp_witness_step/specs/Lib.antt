@@ -1,0 +1,5 @@
+pub mod Certificate
+pub mod Due
+pub mod Shown
+pub mod Laws
+pub mod Code

@@ -1,0 +1,145 @@
+ghost use Rattle.std.specs.Prelude.{◌≡◌, ◌⊎◌, ◌<◌, ◌^◌, All, pos, Ok, Err};
+ghost use Rattle.mdp_math.specs.Rational.{◌≤ℚ◌, of_int};
+ghost use Rattle.mdp_num.specs.Value.{IsNarrow};
+ghost use Rattle.mdp_spec.specs.Mdp.{states_of};
+ghost use Rattle.mdp_rows.specs.Name.{IsName};
+ghost use Rattle.mdp_rows.specs.declared.dir.Dir.TheVariants.{Max, Min};
+ghost use Rattle.mdp_flow.specs.Shape.{IsFlowShape, IsFloorShape};
+ghost use Rattle.mdp_cert.specs.Cert.{IsFlowInWidth, Fits};
+ghost use Rattle.mdp_cert.specs.Plain.{plain};
+ghost use Rattle.mdp_cert.specs.Spelling.{text_of};
+ghost use Rattle.mdp_job.specs.Refusal.{no_memory};
+ghost use Rattle.mdp_step.specs.Said.{said};
+ghost use Rattle.mdp_witness.specs.Code as witness;
+ghost use Rattle.mdp_witness.specs.Code.{plain_flow, plain_floor};
+ghost use Rattle.mdp_witness.specs.Shown.{HasShape};
+ghost use Rattle.mdp_witness_step.specs.Certificate.{dir_of, certificate_of};
+
+use mdp_cert::{Body, Cert, Claim, Init, write_cert};
+use mdp_flow::{FloorCert, Flow, FlowCert};
+use mdp_job::Refusal;
+use mdp_num::Frac;
+use mdp_rows::{Dir, Model};
+use mdp_witness::Subsystem;
+use std::alloc::Global;
+
+/// Each flow is in width, as its type keeps it.
+fn all_flows_narrow(flows: &[Flow])
+    ensures { All IsFlowInWidth flows.now }
+{
+    for flow in flows {
+        let _choice = flow.choice;
+        flow.amount.num();
+    }
+}
+
+/// Each fraction is in width, as its type keeps it.
+fn all_narrow(values: &[Frac])
+    ensures { All IsNarrow values.now }
+{
+    for value in values {
+        value.num();
+    }
+}
+
+/// Each number has 32 bits.
+fn all_short(numbers: &[u32])
+    ensures { All (λ n. n < 2 ^ 32) numbers.now }
+{
+    for number in numbers {
+        let _number = *number;
+    }
+}
+
+/// The certificate of a subsystem on which some policy reaches the threshold, which has a text.
+fn flow_certificate_of(
+    model: &Model,
+    label: Vec<u8>,
+    threshold: Frac,
+    start: u32,
+    found: FlowCert,
+) -> Cert
+    requires name { IsName label.items }
+    requires threshold { of_int (pos 0) ≤ℚ threshold }
+    requires start { start < states_of model.now }
+    requires shape { IsFlowShape model.now found.kept.items found.wide.items found.flows.items }
+    ensures certificate { plain result ≡ certificate_of Max label.items threshold start model.now (plain_flow found) }
+    ensures fits { Fits (plain result) }
+{
+    model.known();
+    threshold.num();
+    all_flows_narrow(&found.flows);
+    Cert {
+        claim: Claim::Witness {
+            dir: Dir::Max,
+            label,
+            threshold,
+        },
+        states: model.states(),
+        init: Init::Start(start),
+        body: Body::Flow(found),
+    }
+}
+
+/// The certificate of a subsystem on which each policy reaches the threshold, which has a text.
+fn floor_certificate_of(
+    model: &Model,
+    label: Vec<u8>,
+    threshold: Frac,
+    start: u32,
+    found: FloorCert,
+) -> Cert
+    requires name { IsName label.items }
+    requires threshold { of_int (pos 0) ≤ℚ threshold }
+    requires start { start < states_of model.now }
+    requires shape { IsFloorShape model.now found.kept.items found.wide.items found.values.items found.ranks.items }
+    ensures certificate { plain result ≡ certificate_of Min label.items threshold start model.now (plain_floor found) }
+    ensures fits { Fits (plain result) }
+{
+    model.known();
+    threshold.num();
+    all_narrow(&found.values);
+    all_short(&found.ranks);
+    Cert {
+        claim: Claim::Witness {
+            dir: Dir::Min,
+            label,
+            threshold,
+        },
+        states: model.states(),
+        init: Init::Start(start),
+        body: Body::Floor(found),
+    }
+}
+
+/// The certificate of a subsystem that was found, which has a text.
+pub fn certificate_of(
+    model: &Model,
+    label: Vec<u8>,
+    threshold: Frac,
+    start: u32,
+    found: Subsystem,
+) -> Cert
+    requires name { IsName label.items }
+    requires threshold { of_int (pos 0) ≤ℚ threshold }
+    requires start { start < states_of model.now }
+    requires shape { HasShape (dir_of (witness.plain found)) model.now (witness.plain found) }
+    ensures certificate { plain result ≡ certificate_of (dir_of (witness.plain found)) label.items threshold start model.now (witness.plain found) }
+    ensures fits { Fits (plain result) }
+{
+    match found {
+        Subsystem::Max(flow) => flow_certificate_of(model, label, threshold, start, flow),
+        Subsystem::Min(floor) => floor_certificate_of(model, label, threshold, start, floor),
+    }
+}
+
+/// The text of a certificate.
+pub(crate) fn certificate_text(alloc: Global, cert: &Cert) -> Result<Vec<u8>, Refusal>
+    ensures { (said result ≡ Err no_memory) ⊎ (said result ≡ Ok (text_of (plain cert.now))) }
+{
+    let mut text = Vec::new(alloc);
+    match write_cert(cert, &mut text) {
+        Ok(()) => Ok(text),
+        Err(_) => Err(Refusal::Memory),
+    }
+}
