@@ -1,7 +1,9 @@
 -- Worked words, and what they are.
 use Rattle.std.proofs.Common.{◌≡◌, [], ◌∷◌, Some, None, Ok, Err, refl}
 use Rattle.std.specs.Prelude.{codes, pos}
-use Rattle.mdp_math.specs.Rational.{ratio}
+use Rattle.mdp_math.specs.Gcd.{gcd, gcd_with_fuel}
+use Rattle.mdp_math.specs.Rational.{of_int, ratio, lt_ℚ}
+use Rattle.mdp_num.specs.Numeral.{parts_of, numeral_of}
 use Rattle.mdp_rows.specs.declared.rule.RowRule.TheVariants.{Exact, Scaled}
 use Rattle.mdp_rows.specs.declared.dir.Dir.TheVariants.{Max}
 use Rattle.mdp_job.specs.Job.{reach, reward, mean, solve, check, drill, horizon, policy, discount, discount_check}
@@ -119,15 +121,19 @@ policy_objective = refl
 
 -- `discount`: the number of words, the row rule, the direction, then the factor
 a_discount : job_of_texts (codes "discount" ∷ codes "m" ∷ codes "exact" ∷ codes "max" ∷ codes "-" ∷ codes "0.50" ∷ []) ≡ Ok (discount Exact Max (codes "-") (ratio (pos 1) 2))
+unfolding numeral_of parts_of lt_ℚ ratio of_int gcd gcd_with_fuel
 a_discount = refl
 
 factor_zero : job_of_texts (codes "discount" ∷ codes "m" ∷ codes "exact" ∷ codes "max" ∷ codes "energy" ∷ codes "0" ∷ []) ≡ Ok (discount Exact Max (codes "energy") (ratio (pos 0) 1))
+unfolding numeral_of parts_of lt_ℚ ratio of_int gcd gcd_with_fuel
 factor_zero = refl
 
 factor_one : job_of_texts (codes "discount" ∷ codes "m" ∷ codes "exact" ∷ codes "max" ∷ codes "-" ∷ codes "1" ∷ []) ≡ Err Factor
+unfolding numeral_of parts_of lt_ℚ ratio of_int gcd gcd_with_fuel
 factor_one = refl
 
 factor_below_zero : job_of_texts (codes "discount" ∷ codes "m" ∷ codes "exact" ∷ codes "max" ∷ codes "-" ∷ codes "-1/2" ∷ []) ≡ Err Factor
+unfolding numeral_of parts_of lt_ℚ ratio of_int gcd gcd_with_fuel
 factor_below_zero = refl
 
 factor_behind_direction : job_of_texts (codes "discount" ∷ codes "m" ∷ codes "exact" ∷ codes "best" ∷ codes "-" ∷ codes "2" ∷ []) ≡ Err Direction

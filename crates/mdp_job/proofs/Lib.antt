@@ -1,3 +1,4 @@
 mod Examples
+mod Factors
 mod Numbers
 mod WideText

@@ -127,17 +127,25 @@ discount_of words =
 abbrev pub discount_check_of : List (List ℕ) → Asked
 discount_check_of words = if length words == 3 then (rule_of (word_at words 1) >>= λ rule. Ok (discount_check rule)) else Err Number
 
+-- the words behind a command that is neither `solve` nor `check` nor `drill`
+abbrev pub other_of : List ℕ → List (List ℕ) → Asked
+other_of command words =
+    if bytes_eq command (codes "horizon") then horizon_of words
+    else (if bytes_eq command (codes "policy") then policy_of words
+    else (if bytes_eq command (codes "discount") then discount_of words
+    else (if bytes_eq command (codes "discount-check") then discount_check_of words else Err Command)))
+
+-- a command, and the words behind it
+abbrev pub job_by : List ℕ → List (List ℕ) → Asked
+job_by command words =
+    if bytes_eq command (codes "solve") then solve_of words
+    else (if bytes_eq command (codes "check") then check_of words
+    else (if bytes_eq command (codes "drill") then drill_of words else other_of command words))
+
 -- the words, as texts
 abbrev pub job_of_texts : List (List ℕ) → Asked
 job_of_texts [] = Err Command
-job_of_texts (command ∷ words) =
-    if bytes_eq command (codes "solve") then solve_of words
-    else (if bytes_eq command (codes "check") then check_of words
-    else (if bytes_eq command (codes "drill") then drill_of words
-    else (if bytes_eq command (codes "horizon") then horizon_of words
-    else (if bytes_eq command (codes "policy") then policy_of words
-    else (if bytes_eq command (codes "discount") then discount_of words
-    else (if bytes_eq command (codes "discount-check") then discount_check_of words else Err Command))))))
+job_of_texts (command ∷ words) = job_by command words
 
 abbrev pub job_of : List (String Global) → Asked
 job_of words = job_of_texts (map string_bytes words)

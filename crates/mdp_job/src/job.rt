@@ -1,8 +1,9 @@
-ghost use Rattle.std.specs.Prelude.{◌≡◌, ◌<◌, ◌^◌, option_map, length, map, Ok, Err};
+ghost use Rattle.std.specs.Prelude.{◌≡◌, ◌<◌, ◌^◌, option_map, length, map, Ok, Err, pos};
 ghost use Rattle.std.specs.Result.{MatchResult};
 ghost use Rattle.std.specs.String.{string_bytes};
+ghost use Rattle.mdp_math.specs.Rational.{of_int, lt_ℚ};
 ghost use Rattle.mdp_job.specs.Job.{asked, plain_query};
-ghost use Rattle.mdp_job.specs.Words.{job_of, rule_of, dir_of, reach_of, reward_of, mean_of, query_of, solve_of, check_of, drill_by, drill_of, stay_of, steps_of, horizon_of, policy_of, factor_of, discount_of, discount_check_of};
+ghost use Rattle.mdp_job.specs.Words.{job_of, rule_of, dir_of, reach_of, reward_of, mean_of, query_of, solve_of, check_of, drill_by, drill_of, stay_of, steps_of, horizon_of, policy_of, factor_of, discount_of, discount_check_of, other_of, job_by};
 
 use crate::digits::whole_word;
 use crate::words_error::WordsError;
@@ -228,12 +229,19 @@ fn policy_of<'a>(words: &'a [String]) -> Result<Job<'a>, WordsError>
     })
 }
 
+/// Whether a fraction is below 1.
+fn is_below_one(factor: &Frac) -> bool
+    ensures { result ≡ lt_ℚ factor.now (of_int (pos 1)) }
+{
+    factor.num() < factor.den()
+}
+
 /// The factor that a word writes: a numeral below 1.
 fn factor_of(word: &str) -> Result<Frac, WordsError>
     ensures { result ≡ factor_of word.now }
 {
     match read_numeral(word.as_bytes()) {
-        Ok(factor) if factor.num() < factor.den() => Ok(factor),
+        Ok(factor) if is_below_one(&factor) => Ok(factor),
         _ => Err(WordsError::Factor),
     }
 }
@@ -305,6 +313,31 @@ fn drill_of<'a>(words: &'a [String]) -> Result<Job<'a>, WordsError>
     drill_by(number, layers, width)
 }
 
+/// The job that the words behind a command are, where it is neither `solve` nor `check` nor `drill`.
+fn other_of<'a>(command: &str, words: &'a [String]) -> Result<Job<'a>, WordsError>
+    ensures { asked result ≡ other_of command.now (map string_bytes words.now) }
+{
+    match command {
+        "horizon" => horizon_of(words),
+        "policy" => policy_of(words),
+        "discount" => discount_of(words),
+        "discount-check" => discount_check_of(words),
+        _ => Err(WordsError::Command),
+    }
+}
+
+/// The job that a command and the words behind it are.
+fn job_by<'a>(command: &str, words: &'a [String]) -> Result<Job<'a>, WordsError>
+    ensures { asked result ≡ job_by command.now (map string_bytes words.now) }
+{
+    match command {
+        "solve" => solve_of(words),
+        "check" => check_of(words),
+        "drill" => drill_of(words),
+        _ => other_of(command, words),
+    }
+}
+
 /// The job that the words are, or the first refusal: `Command`, then `Number`, `Rows`, `Direction` and `Objective`, and `Number` again where an
 /// objective has another number of words; for `drill` `Drill`, for `horizon` `Steps`, for `policy` `Objective` behind `Rows`, for `discount` `Factor`
 /// behind `Direction`. It takes no memory.
@@ -314,14 +347,5 @@ pub fn job_of<'a>(words: &'a [String]) -> Result<Job<'a>, WordsError>
     let [command, rest @ ..] = words else {
         return Err(WordsError::Command);
     };
-    match command.as_str() {
-        "solve" => solve_of(rest),
-        "check" => check_of(rest),
-        "drill" => drill_of(rest),
-        "horizon" => horizon_of(rest),
-        "policy" => policy_of(rest),
-        "discount" => discount_of(rest),
-        "discount-check" => discount_check_of(rest),
-        _ => Err(WordsError::Command),
-    }
+    job_by(command.as_str(), rest)
 }

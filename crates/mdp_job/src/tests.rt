@@ -14,6 +14,7 @@ fn spells_refusals(rt: HostRuntime) -> Result<(), Fail> {
     };
     for (refusal, text, code) in [
         (Refusal::Words(WordsError::Rows), "> words rows\n", 2),
+        (Refusal::Words(WordsError::Factor), "> words factor\n", 2),
         (
             Refusal::Model {
                 line: u64::MAX,
