@@ -6,4 +6,5 @@ pub mod FirstRefusal
 pub mod HeaderEnds
 pub mod LabelOrder
 pub mod LineNumbers
+pub mod ModelsKept
 pub mod Renumbered

@@ -6,6 +6,7 @@ use Rattle.std.specs.Io.BufRead.{ends_with_byte}
 use Rattle.mdp_spec.specs.Mdp.{Mdp}
 use Rattle.mdp_num.specs.Digits.{behind_digits}
 use Rattle.mdp_rows.specs.Draft.{with_name}
+use Rattle.mdp_rows.specs.Limits.{IsModel}
 use Rattle.mdp_rows.specs.declared.rule.RowRule.{RowRule}
 use Rattle.mdp_drn.specs.declared.error.DrnKind.{DrnKind}
 use Rattle.mdp_drn.specs.Lines.{lines_of, content, is_blank, is_comment, without_blanks_before}
@@ -123,3 +124,9 @@ seen known (name ∷ names) = seen (with_name known name) names
 -- a model's labels stand in the order of first sight
 abbrev pub ListsLabelsBySight : Type 0
 ListsLabelsBySight = (bytes : List ℕ) (rule : RowRule) (model : Mdp) → Reads bytes rule model → model.labels ≡ seen [] (flat_map labels_on (model_part (contents_of (lines_of bytes))))
+
+-- ---- what is read is a model
+
+-- what a text reads as keeps all that a model keeps: its rows are distributions, its names are proper, and its numbers are within the limits
+abbrev pub ReadsAsModel : Type 0
+ReadsAsModel = (bytes : List ℕ) (rule : RowRule) (model : Mdp) → Reads bytes rule model → IsModel model

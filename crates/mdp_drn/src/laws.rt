@@ -1,4 +1,4 @@
-ghost use Rattle.mdp_drn.specs.Laws.{RefusedAtFirst, DependsOnNothingBehind, NamesNoLaterLine, NamesLineOfText, DropsBlanks, IsReadByContents, IsMovedByComment, ListsLabelsBySight};
+ghost use Rattle.mdp_drn.specs.Laws.{RefusedAtFirst, DependsOnNothingBehind, NamesNoLaterLine, NamesLineOfText, DropsBlanks, IsReadByContents, IsMovedByComment, ListsLabelsBySight, ReadsAsModel};
 
 /// What a reader of the profile may rely on, of any text. A refusal is that of the first line that breaks a rule, or of the end; nothing behind that
 /// line counts, and the line that is named isn't behind it. Comments, blanks and tabs at the ends of lines and a CR change no model and no kind.
@@ -12,4 +12,9 @@ pub fn reading_law()
     ensures contents { IsReadByContents }
     ensures comment { IsMovedByComment }
     ensures sight { ListsLabelsBySight }
+{}
+
+/// What a text reads as is a model: it keeps all that each model keeps.
+pub fn model_law()
+    ensures { ReadsAsModel }
 {}

@@ -29,7 +29,7 @@ mod writing;
 pub use error::{DrnError, DrnKind};
 pub use feed::Feed;
 pub use from_source::{FromError, read_from};
-pub use laws::reading_law;
+pub use laws::{model_law, reading_law};
 pub use laws_of_writing::written_law;
 pub use reading::read;
 pub use writing::write;

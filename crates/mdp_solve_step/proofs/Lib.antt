@@ -1,3 +1,4 @@
+mod Examples
 pub mod TextLength
 pub mod Printing
 pub mod Solved

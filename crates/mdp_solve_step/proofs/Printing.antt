@@ -3,6 +3,7 @@ use Rattle.std.proofs.Common.{◌≡◌, ℕ, ◌<◌, ◌≤◌, ◌⊎◌, inl
 use Rattle.std.proofs.Common.{Result, Ok, Err, IfOk, refl, sym, ap, ap₂, subst, ◌∙◌, arith, eq-eqb, lt-ltb}
 use Rattle.std.specs.Prelude.{codes, All, option_map}
 use Rattle.std.specs.List.{list_any, range_with_len}
+use Rattle.std.proofs.Math.ListN.{replicate}
 use Rattle.std.specs.Str.{bytes_eq}
 use Rattle.std.proofs.lemmas.Bool.{and_parts}
 use Rattle.std.proofs.lemmas.List.Elements.{All-filter, All-from_get_or, All-get_or, All-head}
@@ -16,7 +17,6 @@ use Rattle.mdp_spec.specs.Labels.{place_of, marks_of, initial_of, labelled, has_
 use Rattle.mdp_spec.specs.Mdp.{Mdp, states_of, value_at}
 use Rattle.mdp_spec.specs.Row.{IsMdp}
 use Rattle.mdp_rows.specs.Name.{IsName, IsRewardName}
-use Rattle.mdp_rows.specs.Negative.{has_negative}
 use Rattle.mdp_rows.specs.declared.dir.Dir.{Dir}
 use Rattle.mdp_rows.specs.declared.dir.Dir.TheVariants.{Max, Min}
 use Rattle.mdp_graph.specs.Laws.{RestMeets}
@@ -25,17 +25,16 @@ use Rattle.mdp_path.specs.Laws.{EndsAtBest, first}
 use Rattle.mdp_path.specs.Path.{Found, Refusal, path_step}
 use Rattle.mdp_farkas.specs.Reach.{MeetsReach, IsReach, reach_checks}
 use Rattle.mdp_farkas.specs.Reward.{MeetsReward, IsReward, reward_checks}
+use Rattle.mdp_farkas.specs.Mean.{MeetsMean, IsMean}
 use Rattle.mdp_farkas.specs.Verdict.{verdict_of}
 use Rattle.mdp_farkas.specs.declared.verdict.Verdict.{Verdict}
 use Rattle.mdp_farkas.specs.declared.verdict.Verdict.TheVariants.{Yes, No, Wide}
 use Rattle.mdp_reach.specs.Problem.{reach_problem}
-use Rattle.mdp_elim.specs.declared.too_wide.SolveError.TheVariants as error
-use Rattle.mdp_elim.specs.declared.too_wide.TooWide.{TooWide}
-use Rattle.mdp_path.specs.Queries.{Solves, shown}
-use Rattle.mdp_reach.specs.Query.{Answer, plain, AreRanks, Held, AfterPath, EndsSo}
+use Rattle.mdp_reach.specs.Query.{Answer, AreRanks, Held, AfterPath, EndsSo}
 use Rattle.mdp_reach.proofs.Nodes.{reach-count}
 use Rattle.mdp_reach.proofs.Starts.{start-solvable}
 use Rattle.mdp_reward.specs.Query as rewarded
+use Rattle.mdp_mean.specs.Query as averaged
 use Rattle.mdp_cert.specs.declared.init.Init.{Init}
 use Rattle.mdp_cert.specs.Cert as certificate
 use Rattle.mdp_cert.specs.Cert.{PlainClaim, PlainBody, Certificate, may_be_infinite, is_witness, is_init_of, is_body_of, Fits}
@@ -46,11 +45,11 @@ use Rattle.mdp_cert.specs.Laws.{IsReadBack}
 use Rattle.mdp_check.specs.Initial.{has_value, is_subsystem, init_check, init_fault}
 use Rattle.mdp_check.specs.Check.{labelled_marks, IsAccepted}
 use Rattle.mdp_check.proofs.Accepting.{accepted_is_bound}
-use Rattle.mdp_job.specs.Refusal.{no_memory, query_reward, query_label, query_negative, too_wide}
+use Rattle.mdp_job.specs.Refusal.{no_memory}
 use Rattle.mdp_step.specs.Files.{most_bytes}
 use Rattle.mdp_step.specs.Said.{Said}
-use Rattle.mdp_solve_step.specs.Due.{init_at, init_by, certificate_of, reward_certificate_of, IsReachDue, IsRewardEnd, IsRewardDue}
-use Rattle.mdp_solve_step.specs.Solved.{IsClaimPrinted, IsReachPrinted, IsRewardPrinted}
+use Rattle.mdp_solve_step.specs.Due.{init_at, init_by, certificate_of, reward_certificate_of, mean_certificate_of}
+use Rattle.mdp_solve_step.specs.Solved.{IsClaimPrinted, IsReachPrinted, IsRewardPrinted, IsMeanPrinted}
 use Rattle.mdp_solve_step.proofs.TextLength.{text_short}
 
 -- ---- an answer has an entry per state
@@ -140,6 +139,18 @@ pub reward_choices_size : (dir : Dir) (m : Mdp) (r : ℕ) (goals : List Bool) (v
 reward_choices_size Max m r goals v cs rs h = h.choices.one_each
 reward_choices_size Min m r goals v cs rs h = h.choices.one_each
 
+-- ---- the sizes of an answer of mean payoffs
+
+pub record HasMeanSizes (n : ℕ) (a : averaged.Answer) : Type 0 where
+  pub gains : length a.gains ≡ n
+  pub bound : length a.bound ≡ n
+  pub bias : length a.bias ≡ n
+  pub choices : length a.choices ≡ n
+
+pub mean_sizes : (dir : Dir) (m : Mdp) (r : ℕ) (a : averaged.Answer) → length a.gains ≡ states_of m → MeetsMean dir m r a.gains a.bound a.bias a.spread a.choices → HasMeanSizes (states_of m) a
+mean_sizes Max m r a gains h = record { gains = gains; bound = h.spreads.bounds; bias = h.spreads.biases; choices = h.choices.one_each }
+mean_sizes Min m r a gains h = record { gains = gains; bound = h.spreads.bounds; bias = h.spreads.biases; choices = h.choices.one_each }
+
 -- ---- the certificate
 
 -- the line `init` is right of a body that has these values
@@ -163,6 +174,9 @@ same_reward (Some x) = (equal_decides x x).1 refl
 
 reward_valued : (v : List (Option ℚ)) (cs rs : List ℕ) (s : ℕ) → s < length v → has_value (certificate.rewards v cs rs) s (reward_at v s) ≡ true
 reward_valued v cs rs s h = ap₂ (λ (a b : Bool). a && b) (lt-ltb s (length v) h) (same_reward (reward_at v s))
+
+gain_valued : (g a b : List ℚ) (cs : List ℕ) (k : ℚ) (s : ℕ) → s < length g → has_value (certificate.gains g a b cs k) s (Some (value_at g s)) ≡ true
+gain_valued g a b cs k s h = ap₂ (λ (a b : Bool). a && b) (lt-ltb s (length g) h) ((equal_decides (value_at g s) (value_at g s)).1 refl)
 
 -- whether a value may stand in the line `init` of a claim
 abbrev pub may_stand : PlainClaim → Option ℚ → Bool
@@ -201,6 +215,15 @@ body_entries dir label states n zs cs rs e x y z = three states n zs cs rs e x y
 pub reward_entries : (dir : Dir) (name label : List ℕ) (states n : ℕ) (vs : List (Option ℚ)) (cs rs : List ℕ) → n ≡ states → length vs ≡ states → length cs ≡ states → length rs ≡ states
     → is_body_of (certificate.reward dir name label) n (certificate.rewards vs cs rs) ≡ true
 reward_entries dir name label states n vs cs rs e x y z = three states n vs cs rs e x y z
+
+pub mean_entries : (dir : Dir) (name : List ℕ) (states n : ℕ) (a : averaged.Answer) → n ≡ states → HasMeanSizes states a
+    → is_body_of (certificate.mean dir name) n (certificate.gains a.gains a.bound a.bias a.choices a.spread) ≡ true
+mean_entries dir name states n a e sizes =
+    ap₂ (λ (a b : Bool). a && b)
+    (ap₂ (λ (a b : Bool). a && b)
+    (ap₂ (λ (a b : Bool). a && b) (eq-eqb (length a.gains) n (sizes.gains ∙ sym e)) (eq-eqb (length a.bound) n (sizes.bound ∙ sym e)))
+    (eq-eqb (length a.bias) n (sizes.bias ∙ sym e)))
+    (eq-eqb (length a.choices) n (sizes.choices ∙ sym e))
 
 marks_found : (m : Mdp) (label : List ℕ) (l : ℕ) → place_of label m.labels ≡ Some l → labelled_marks m label ≡ Some (marks_of m l)
 marks_found m label l e = ap (option_map (marks_of m)) e
@@ -256,6 +279,24 @@ module _ (dir : Dir) (name label : List ℕ) (m : Mdp) (r l : ℕ) (a : rewarded
       → IsRewardPrinted dir name label m text
   reward_printed mdp back text fits spelled = printed_by m (reward_certificate_of dir name label m a) refl mdp back reward_accepted fits text spelled
 
+module _ (dir : Dir) (name : List ℕ) (m : Mdp) (r : ℕ) (a : averaged.Answer) (named : place_of name m.names ≡ Some r)
+    (rules : IsMean dir m r a.gains a.bound a.bias a.spread a.choices) (sizes : HasMeanSizes (states_of m) a) where
+  pub mean_accepted : IsAccepted m (mean_certificate_of dir name m a)
+  mean_accepted = record {
+    states = refl;
+    entries = mean_entries dir name (states_of m) (states_of m) a refl sizes;
+    reward = r;
+    named = named;
+    goals = replicate (states_of m) false;
+    marked = refl;
+    init = init_holds (initial_of m) _ (certificate.gains a.gains a.bound a.bias a.choices a.spread) refl
+        (λ s e. gain_valued a.gains a.bound a.bias a.choices a.spread s (let lt = initial_below m s e in let n = sizes.gains in omega (arith, lt, n)));
+    body = rules;
+  }
+
+  pub mean_printed : IsMdp m → IsReadBack → (text : List ℕ) → Fits (mean_certificate_of dir name m a) → text ≡ text_of (mean_certificate_of dir name m a) → IsMeanPrinted dir name m text
+  mean_printed mdp back text fits spelled = printed_by m (mean_certificate_of dir name m a) refl mdp back mean_accepted fits text spelled
+
 -- ---- names
 
 -- what is found in a list of names is one of them
@@ -285,7 +326,7 @@ not-true true e = cc e
 pub name_of_reward : (name : List ℕ) → IsRewardName name → IsName name
 name_of_reward name h = let p = and_parts _ _ h in ap₂ (λ (a b : Bool). a && not b) p.0 (none_of name (not-true _ p.1))
 
--- ---- what is due
+-- ---- what is said
 
 -- a certificate is said by its text, unless memory is wanting
 abbrev pub IsTextOf : Certificate → Said → Type 0
@@ -295,52 +336,3 @@ pub text_printed : (P : List ℕ → Type 0) (c : Certificate) (said : Said) →
 text_printed P c (Ok text) shows (inl memory) = cc memory
 text_printed P c (Ok text) shows (inr e) = shows text (cc e)
 text_printed P c (Err r) shows e = tt
-
-module _ (dir : Dir) (label : List ℕ) (m : Mdp) (l : ℕ) (found : place_of label m.labels ≡ Some l) where
-  due_at : (said : Said) → IsReachDue dir label m (Some l) said → IsReachDue dir label m (place_of label m.labels) said
-  due_at said d = subst (λ (o : Option ℕ). IsReachDue dir label m o said) (sym found) d
-
-  pub text_due : (a : Answer) (c : Certificate) (said : Said) → EndsSo dir m (marks_of m l) (Ok a) → c ≡ certificate_of dir label m a → IsTextOf c said
-      → (said ≡ Err no_memory) ⊎ IsReachDue dir label m (place_of label m.labels) said
-  text_due a c said end is (inl memory) = inl memory
-  text_due a c said end is (inr e) = inr (due_at said (Ok a, end, e ∙ ap (λ (x : Certificate). let r : Said = Ok (text_of x) in r) is))
-
-  pub wide_due : (w : TooWide) → Solves plain (EndsSo dir m (marks_of m l)) (Err (error.TooWide w)) → IsReachDue dir label m (place_of label m.labels) (Err (too_wide (shown w w.round)))
-  wide_due w h = due_at (Err (too_wide (shown w w.round))) (Err (shown w h.0), h.2, ap (λ (n : ℕ). let r : Said = Err (too_wide (shown w n)) in r) h.1)
-
-pub unknown_due : (dir : Dir) (label : List ℕ) (m : Mdp) → place_of label m.labels ≡ None → IsReachDue dir label m (place_of label m.labels) (Err query_label)
-unknown_due dir label m e = subst (λ (o : Option ℕ). IsReachDue dir label m o (Err query_label)) (sym e) refl
-
--- ---- what is due to a query of rewards
-
-abbrev IsDueTo : Dir → List ℕ → List ℕ → Mdp → Said → Type 0
-IsDueTo dir name label m said = IsRewardDue dir name label m (place_of name m.names) (place_of label m.labels) said
-
-pub unknown_reward_due : (dir : Dir) (name label : List ℕ) (m : Mdp) → place_of name m.names ≡ None → IsDueTo dir name label m (Err query_reward)
-unknown_reward_due dir name label m e = subst (λ (o : Option ℕ). IsRewardDue dir name label m o (place_of label m.labels) (Err query_reward)) (sym e) refl
-
-module _ (dir : Dir) (name label : List ℕ) (m : Mdp) (r : ℕ) (named : place_of name m.names ≡ Some r) where
-  due_named : (said : Said) → IsRewardDue dir name label m (Some r) (place_of label m.labels) said → IsDueTo dir name label m said
-  due_named said d = subst (λ (o : Option ℕ). IsRewardDue dir name label m o (place_of label m.labels) said) (sym named) d
-
-  pub unknown_label_due : place_of label m.labels ≡ None → IsDueTo dir name label m (Err query_label)
-  unknown_label_due e = due_named (Err query_label) (subst (λ (o : Option ℕ). IsRewardDue dir name label m (Some r) o (Err query_label)) (sym e) refl)
-
-  module _ (l : ℕ) (found : place_of label m.labels ≡ Some l) where
-    due_found : (said : Said) → IsRewardEnd dir name label m r l (has_negative m r) said → IsDueTo dir name label m said
-    due_found said d = due_named said (subst (λ (o : Option ℕ). IsRewardDue dir name label m (Some r) o said) (sym found) d)
-
-    pub negative_due : has_negative m r ≡ true → IsDueTo dir name label m (Err query_negative)
-    negative_due e = due_found (Err query_negative) (subst (λ (b : Bool). IsRewardEnd dir name label m r l b (Err query_negative)) (sym e) refl)
-
-    module _ (none : has_negative m r ≡ false) where
-      due_end : (said : Said) → IsRewardEnd dir name label m r l false said → IsDueTo dir name label m said
-      due_end said d = due_found said (subst (λ (b : Bool). IsRewardEnd dir name label m r l b said) (sym none) d)
-
-      pub reward_text_due : (a : rewarded.Answer) (c : Certificate) (said : Said) → rewarded.EndsSo dir m r (marks_of m l) (Ok a) → c ≡ reward_certificate_of dir name label m a → IsTextOf c said
-          → (said ≡ Err no_memory) ⊎ IsDueTo dir name label m said
-      reward_text_due a c said end is (inl memory) = inl memory
-      reward_text_due a c said end is (inr e) = inr (due_end said (Ok a, end, e ∙ ap (λ (x : Certificate). let r : Said = Ok (text_of x) in r) is))
-
-      pub reward_wide_due : (w : TooWide) → Solves rewarded.plain (rewarded.EndsSo dir m r (marks_of m l)) (Err (error.TooWide w)) → IsDueTo dir name label m (Err (too_wide (shown w w.round)))
-      reward_wide_due w h = due_end (Err (too_wide (shown w w.round))) (Err (shown w h.0), h.2, ap (λ (n : ℕ). let r : Said = Err (too_wide (shown w n)) in r) h.1)

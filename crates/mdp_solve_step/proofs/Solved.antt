@@ -5,10 +5,12 @@ use Rattle.std.proofs.lemmas.List.Quantifiers.{position-Some}
 use Rattle.mdp_spec.specs.Labels.{place_of, marks_of}
 use Rattle.mdp_spec.specs.Mdp.{Mdp}
 use Rattle.mdp_spec.specs.Row.{IsMdp}
+use Rattle.mdp_rows.specs.Limits.{IsModel}
 use Rattle.mdp_rows.specs.Negative.{has_negative}
 use Rattle.mdp_rows.specs.declared.dir.Dir.{Dir}
 use Rattle.mdp_rows.specs.declared.dir.Dir.TheVariants.{Max, Min}
 use Rattle.mdp_rows.specs.declared.rule.RowRule.{RowRule}
+use Rattle.mdp_drn.specs.Laws.{ReadsAsModel}
 use Rattle.mdp_path.specs.Queries.{WideTerm}
 use Rattle.mdp_reach.specs.Query.{Answer, EndsSo}
 use Rattle.mdp_reach.specs.Laws.{AnswersMeetRules, AnswersAreGreatest, AnswersAreLeast}
@@ -16,16 +18,28 @@ use Rattle.mdp_reach.proofs.OneEnd.{one_query_end}
 use Rattle.mdp_reward.proofs.OneEnd as reward_end
 use Rattle.mdp_reward.specs.Laws as reward_law
 use Rattle.mdp_reward.specs.Query as rewarded
+use Rattle.mdp_mean.specs.Laws as mean_law
+use Rattle.mdp_mean.specs.Query as averaged
 use Rattle.mdp_cert.specs.Cert as certificate
 use Rattle.mdp_cert.specs.Cert.{PlainClaim}
-use Rattle.mdp_job.specs.Job.{PlainQuery, reach, reward}
+use Rattle.mdp_job.specs.Job.{PlainQuery, reach, reward, mean}
 use Rattle.mdp_job.specs.Refusal.{PlainRefusal}
 use Rattle.mdp_step.proofs.Working.{read_of_due}
 use Rattle.mdp_step.specs.Files.{model_due}
 use Rattle.mdp_step.specs.Said.{Said}
-use Rattle.mdp_solve_step.specs.Due.{said_of_end, said_of_reward_end, IsReachDue, IsRewardEnd, IsRewardDue, IsSolveDue}
-use Rattle.mdp_solve_step.specs.Laws.{IsBest, IsAnswerTo, IsBestReward, IsRewardAnswerTo}
+use Rattle.mdp_solve_step.specs.Due.{said_of_end, said_of_reward_end, said_of_mean_end, IsReachDue, IsRewardEnd, IsRewardDue, IsMeanDue, IsQueryDue, IsSolveDue}
+use Rattle.mdp_solve_step.specs.Laws.{IsBest, IsAnswerTo, IsBestReward, IsRewardAnswerTo, IsBestMean, IsMeanAnswerTo}
 use Rattle.mdp_solve_step.specs.Solved.{IsClaimPrinted, IsPrinted, IsClaimSolved, IsSolved}
+
+-- ---- what is read is a model
+
+module _ (kept : ReadsAsModel) (rule : RowRule) (bytes : List ℕ) where
+  pub model_of : (m : Mdp) → model_due rule bytes ≡ Ok m → IsModel m
+  model_of m is = kept bytes rule m (read_of_due rule bytes m is).1
+
+  pub read_model : (read : Result Mdp PlainRefusal) → model_due rule bytes ≡ read → IfOk read IsModel
+  read_model (Ok m) is = model_of m is
+  read_model (Err r) is = tt
 
 -- ---- one thing is due
 
@@ -45,10 +59,24 @@ reward_once dir name label m None found said again d e = d ∙ sym e
 reward_once dir name label m (Some r) None said again d e = d ∙ sym e
 reward_once dir name label m (Some r) (Some l) said again d e = end_once dir name label m r l (has_negative m r) said again d e
 
-pub solve_once : (dir : Dir) (query : PlainQuery) (read : Result Mdp PlainRefusal) (said again : Said) → IsSolveDue dir query read said → IsSolveDue dir query read again → said ≡ again
-solve_once dir (reach label) (Ok m) said again d e = reach_once dir label m (place_of label m.labels) said again d e
-solve_once dir (reward name label) (Ok m) said again d e = reward_once dir name label m (place_of name m.names) (place_of label m.labels) said again d e
-solve_once dir query (Err r) said again d e = d ∙ sym e
+has_reward : (name : List ℕ) (m : Mdp) (r : ℕ) → IsModel m → place_of name m.names ≡ Some r → mean_law.HasReward m r
+has_reward name m r model named = record { model = model; named = (position-Some (bytes_eq name) m.names r [] named).0 }
+
+mean_once : mean_law.HasOneEnd → (dir : Dir) (name : List ℕ) (m : Mdp) → IsModel m → (named : Option ℕ) → place_of name m.names ≡ named → (said again : Said) → IsMeanDue dir name m named said
+    → IsMeanDue dir name m named again → said ≡ again
+mean_once one_end dir name m model None is said again d e = d ∙ sym e
+mean_once one_end dir name m model (Some r) is said again d e = d.2 ∙ ap (said_of_mean_end dir name m) (one_end dir m r e.0 d.0 (has_reward name m r model is) e.1 d.1) ∙ sym e.2
+
+query_once : mean_law.HasOneEnd → (dir : Dir) (query : PlainQuery) (m : Mdp) → IsModel m → (said again : Said) → IsQueryDue dir query m said → IsQueryDue dir query m again → said ≡ again
+query_once one_end dir (reach label) m model said again d e = reach_once dir label m (place_of label m.labels) said again d e
+query_once one_end dir (reward name label) m model said again d e = reward_once dir name label m (place_of name m.names) (place_of label m.labels) said again d e
+query_once one_end dir (mean name) m model said again d e = mean_once one_end dir name m model (place_of name m.names) refl said again d e
+
+-- where what is read is a model
+pub solve_once : mean_law.HasOneEnd → (dir : Dir) (query : PlainQuery) (read : Result Mdp PlainRefusal) → IfOk read IsModel → (said again : Said) → IsSolveDue dir query read said
+    → IsSolveDue dir query read again → said ≡ again
+solve_once one_end dir query (Ok m) model said again d e = query_once one_end dir query m model said again d e
+solve_once one_end dir query (Err r) model said again d e = d ∙ sym e
 
 -- ---- a text that is due is an answer
 
@@ -116,6 +144,33 @@ module _ (rules : reward_law.AnswersMeetRules) (greatest : reward_law.AnswersAre
   reward_text_is_answer dir text read is d =
       reward_at dir text (place_of name m.names) (place_of label m.labels) refl refl (subst (λ (r : Result Mdp PlainRefusal). IsSolveDue dir (reward name label) r (Ok text)) is d)
 
+-- ---- and of mean payoffs
+
+module _ (rules : mean_law.AnswersMeetRules) (greatest : mean_law.AnswersAreGreatest) (least : mean_law.AnswersAreLeast) (name : List ℕ) (m : Mdp) (model : IsModel m) where
+  best_mean : (dir : Dir) (r : ℕ) (a : averaged.Answer) → mean_law.HasReward m r → averaged.EndsSo dir m r (Ok a) → IsBestMean dir m r a
+  best_mean Max r a has end = greatest m r a has end
+  best_mean Min r a has end = least m r a has end
+
+  mean_of_end : (dir : Dir) (text : List ℕ) (r : ℕ) → place_of name m.names ≡ Some r → (end : Result averaged.Answer WideTerm) → averaged.EndsSo dir m r end → Ok text ≡ said_of_mean_end dir name m end
+      → IsMeanAnswerTo dir name m text
+  mean_of_end dir text r named (Err w) end e = cc e
+  mean_of_end dir text r named (Ok a) end e = record {
+    named = r;
+    named_so = named;
+    answer = a;
+    spelled = cc e;
+    rules = rules dir m r a (has_reward name m r model named) end;
+    best = best_mean dir r a (has_reward name m r model named) end;
+  }
+
+  mean_at : (dir : Dir) (text : List ℕ) (named : Option ℕ) → place_of name m.names ≡ named → IsMeanDue dir name m named (Ok text) → IsMeanAnswerTo dir name m text
+  mean_at dir text None is d = cc d
+  mean_at dir text (Some r) is d = mean_of_end dir text r is d.0 d.1 d.2
+
+  pub mean_text_is_answer : (dir : Dir) (text : List ℕ) (read : Result Mdp PlainRefusal) → read ≡ Ok m → IsSolveDue dir (mean name) read (Ok text) → IsMeanAnswerTo dir name m text
+  mean_text_is_answer dir text read is d =
+      mean_at dir text (place_of name m.names) refl (subst (λ (r : Result Mdp PlainRefusal). IsSolveDue dir (mean name) r (Ok text)) is d)
+
 -- ---- what is shown of a text
 
 pub printed_solved : (rule : RowRule) (claimed : PlainClaim) (m : Mdp) (bytes text : List ℕ) → model_due rule bytes ≡ Ok m → IsClaimPrinted claimed m text → IsClaimSolved rule claimed bytes text
@@ -142,4 +197,5 @@ pub shown : (rule : RowRule) (dir : Dir) (query : PlainQuery) (m : Mdp) (said : 
     → IfOk said (IsSolved rule dir query bytes)
 shown rule dir (reach label) m (Ok text) printed bytes is = printed_solved rule (certificate.reach dir label) m bytes text is printed
 shown rule dir (reward name label) m (Ok text) printed bytes is = printed_solved rule (certificate.reward dir name label) m bytes text is printed
+shown rule dir (mean name) m (Ok text) printed bytes is = printed_solved rule (certificate.mean dir name) m bytes text is printed
 shown rule dir query m (Err r) printed bytes is = tt

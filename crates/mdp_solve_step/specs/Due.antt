@@ -10,12 +10,13 @@ use Rattle.mdp_path.specs.Ends.{capped}
 use Rattle.mdp_path.specs.Queries.{WideTerm}
 use Rattle.mdp_reach.specs.Query.{Answer, EndsSo}
 use Rattle.mdp_reward.specs.Query as rewarded
+use Rattle.mdp_mean.specs.Query as averaged
 use Rattle.mdp_cert.specs.Cert as certificate
 use Rattle.mdp_cert.specs.Cert.{PlainClaim, PlainBody, Certificate}
 use Rattle.mdp_cert.specs.Spelling.{text_of}
 use Rattle.mdp_cert.specs.declared.init.Init.{Init}
 use Rattle.mdp_cert.specs.declared.init.Init.TheVariants.{Missing, Finite, Infinite}
-use Rattle.mdp_job.specs.Job.{PlainQuery, reach, reward}
+use Rattle.mdp_job.specs.Job.{PlainQuery, reach, reward, mean}
 use Rattle.mdp_job.specs.Refusal.{PlainRefusal, query_reward, query_label, query_negative, too_wide}
 use Rattle.mdp_step.specs.Files.{IsDueToModel}
 use Rattle.mdp_step.specs.Said.{Said}
@@ -43,6 +44,10 @@ certificate_of dir label m a = certificate_by (certificate.reach dir label) (cer
 abbrev pub reward_certificate_of : Dir → List ℕ → List ℕ → Mdp → rewarded.Answer → Certificate
 reward_certificate_of dir name label m a = certificate_by (certificate.reward dir name label) (certificate.rewards a.values a.choices a.ranks) (reward_at a.values) m
 
+-- the claim that the gains are the greatest, or the least, mean payoffs of this name
+abbrev pub mean_certificate_of : Dir → List ℕ → Mdp → averaged.Answer → Certificate
+mean_certificate_of dir name m a = certificate_by (certificate.mean dir name) (certificate.gains a.gains a.bound a.bias a.choices a.spread) (λ s. Some (value_at a.gains s)) m
+
 -- its text of version 2; or the first term past width, where a round above 2^64 - 1 is given as 2^64 - 1
 abbrev pub said_by : {A : Type 0} → (A → Certificate) → Result A WideTerm → Said
 said_by certificate (Ok a) = Ok (text_of (certificate a))
@@ -53,6 +58,9 @@ said_of_end dir label m = said_by (certificate_of dir label m)
 
 abbrev pub said_of_reward_end : Dir → List ℕ → List ℕ → Mdp → Result rewarded.Answer WideTerm → Said
 said_of_reward_end dir name label m = said_by (reward_certificate_of dir name label m)
+
+abbrev pub said_of_mean_end : Dir → List ℕ → Mdp → Result averaged.Answer WideTerm → Said
+said_of_mean_end dir name m = said_by (mean_certificate_of dir name m)
 
 -- ---- a query
 
@@ -73,9 +81,15 @@ IsRewardDue dir name label m None label_place said = said ≡ Err query_reward
 IsRewardDue dir name label m (Some r) None said = said ≡ Err query_label
 IsRewardDue dir name label m (Some r) (Some l) said = IsRewardEnd dir name label m r l (has_negative m r) said
 
+-- the query of the name's mean payoff ends, and this is said of its end
+abbrev pub IsMeanDue : Dir → List ℕ → Mdp → Option ℕ → Said → Type 0
+IsMeanDue dir name m None said = said ≡ Err query_reward
+IsMeanDue dir name m (Some r) said = (end : Result averaged.Answer WideTerm) × averaged.EndsSo dir m r end × (said ≡ said_of_mean_end dir name m end)
+
 abbrev pub IsQueryDue : Dir → PlainQuery → Mdp → Said → Type 0
 IsQueryDue dir (reach label) m said = IsReachDue dir label m (place_of label m.labels) said
 IsQueryDue dir (reward name label) m said = IsRewardDue dir name label m (place_of name m.names) (place_of label m.labels) said
+IsQueryDue dir (mean name) m said = IsMeanDue dir name m (place_of name m.names) said
 
 -- the model is judged first, then the query
 abbrev pub IsSolveDue : Dir → PlainQuery → Result Mdp PlainRefusal → Said → Type 0

@@ -2,21 +2,22 @@
 use Rattle.std.specs.Prelude.{◌≡◌, ℕ, Bool, false, List, Some, Ok}
 use Rattle.mdp_spec.specs.Labels.{place_of, marks_of}
 use Rattle.mdp_spec.specs.Mdp.{Mdp}
-use Rattle.mdp_spec.specs.Bounds.{ReachMax, ReachMin, RewardMax, RewardMin}
-use Rattle.mdp_spec.specs.Row.{IsMdp}
+use Rattle.mdp_spec.specs.Bounds.{ReachMax, ReachMin, RewardMax, RewardMin, MeanMax, MeanMin}
 use Rattle.mdp_rows.specs.Negative.{has_negative}
 use Rattle.mdp_rows.specs.declared.dir.Dir.{Dir}
 use Rattle.mdp_rows.specs.declared.dir.Dir.TheVariants.{Max, Min}
 use Rattle.mdp_rows.specs.declared.rule.RowRule.{RowRule}
 use Rattle.mdp_farkas.specs.Reach.{IsReach}
 use Rattle.mdp_farkas.specs.Reward.{IsReward}
+use Rattle.mdp_farkas.specs.Mean.{IsMean}
 use Rattle.mdp_reach.specs.Query.{Answer}
 use Rattle.mdp_reward.specs.Query as rewarded
+use Rattle.mdp_mean.specs.Query as averaged
 use Rattle.mdp_cert.specs.Spelling.{text_of}
-use Rattle.mdp_job.specs.Job.{PlainQuery, reach, reward}
+use Rattle.mdp_job.specs.Job.{PlainQuery, reach, reward, mean}
 use Rattle.mdp_step.specs.Files.{model_due}
 use Rattle.mdp_step.specs.Said.{Said}
-use Rattle.mdp_solve_step.specs.Due.{certificate_of, reward_certificate_of, IsSolveDue}
+use Rattle.mdp_solve_step.specs.Due.{certificate_of, reward_certificate_of, mean_certificate_of, IsSolveDue}
 
 -- what is due to a query and to the model's bytes is one thing
 abbrev pub IsDueOnce : Type 0
@@ -43,7 +44,7 @@ pub record IsAnswerTo (dir : Dir) (label : List ℕ) (m : Mdp) (text : List ℕ)
 -- where a text is due to a query, it is such a text
 abbrev pub TextIsAnswer : Type 0
 TextIsAnswer =
-    (rule : RowRule) (dir : Dir) (label model text : List ℕ) (m : Mdp) → model_due rule model ≡ Ok m → IsMdp m → IsSolveDue dir (reach label) (model_due rule model) (Ok text)
+    (rule : RowRule) (dir : Dir) (label model text : List ℕ) (m : Mdp) → model_due rule model ≡ Ok m → IsSolveDue dir (reach label) (model_due rule model) (Ok text)
     → IsAnswerTo dir label m text
 
 -- ---- the reward of a name until a label
@@ -66,5 +67,24 @@ pub record IsRewardAnswerTo (dir : Dir) (name label : List ℕ) (m : Mdp) (text 
 
 abbrev pub RewardTextIsAnswer : Type 0
 RewardTextIsAnswer =
-    (rule : RowRule) (dir : Dir) (name label model text : List ℕ) (m : Mdp) → model_due rule model ≡ Ok m → IsMdp m → IsSolveDue dir (reward name label) (model_due rule model) (Ok text)
+    (rule : RowRule) (dir : Dir) (name label model text : List ℕ) (m : Mdp) → model_due rule model ≡ Ok m → IsSolveDue dir (reward name label) (model_due rule model) (Ok text)
     → IsRewardAnswerTo dir name label m text
+
+-- ---- the mean payoff of a name
+
+-- the gains are the greatest, or the least, mean payoffs, to within the spread
+abbrev pub IsBestMean : Dir → Mdp → ℕ → averaged.Answer → Type 0
+IsBestMean Max m r a = MeanMax m r a.gains a.spread a.choices
+IsBestMean Min m r a = MeanMin m r a.gains a.spread a.choices
+
+pub record IsMeanAnswerTo (dir : Dir) (name : List ℕ) (m : Mdp) (text : List ℕ) : Type 0 where
+  pub named : ℕ
+  pub named_so : place_of name m.names ≡ Some named
+  pub answer : averaged.Answer
+  pub spelled : text ≡ text_of (mean_certificate_of dir name m answer)
+  pub rules : IsMean dir m named answer.gains answer.bound answer.bias answer.spread answer.choices
+  pub best : IsBestMean dir m named answer
+
+abbrev pub MeanTextIsAnswer : Type 0
+MeanTextIsAnswer =
+    (rule : RowRule) (dir : Dir) (name model text : List ℕ) (m : Mdp) → model_due rule model ≡ Ok m → IsSolveDue dir (mean name) (model_due rule model) (Ok text) → IsMeanAnswerTo dir name m text

@@ -8,7 +8,7 @@ use Rattle.mdp_cert.specs.Cert.{PlainClaim, Certificate}
 use Rattle.mdp_cert.specs.Reading.{outcome}
 use Rattle.mdp_cert.specs.Spelling.{text_of}
 use Rattle.mdp_check.specs.Check.{IsAccepted, IsBound}
-use Rattle.mdp_job.specs.Job.{PlainQuery, reach, reward}
+use Rattle.mdp_job.specs.Job.{PlainQuery, reach, reward, mean}
 use Rattle.mdp_step.specs.Accepted.{IsTrueClaim}
 use Rattle.mdp_step.specs.Files.{most_bytes}
 use Rattle.mdp_step.specs.Read.{IsWorkOnModel}
@@ -32,9 +32,13 @@ IsReachPrinted dir label = IsClaimPrinted (certificate.reach dir label)
 abbrev pub IsRewardPrinted : Dir → List ℕ → List ℕ → Mdp → List ℕ → Type 0
 IsRewardPrinted dir name label = IsClaimPrinted (certificate.reward dir name label)
 
+abbrev pub IsMeanPrinted : Dir → List ℕ → Mdp → List ℕ → Type 0
+IsMeanPrinted dir name = IsClaimPrinted (certificate.mean dir name)
+
 abbrev pub IsPrinted : Dir → PlainQuery → Mdp → List ℕ → Type 0
 IsPrinted dir (reach label) = IsReachPrinted dir label
 IsPrinted dir (reward name label) = IsRewardPrinted dir name label
+IsPrinted dir (mean name) = IsMeanPrinted dir name
 
 -- `check` accepts the text with the model's bytes, and its claim, which is this one, is true: the values are the best ones, and the policy comes
 -- close to them
@@ -51,9 +55,14 @@ IsReachSolved rule dir label = IsClaimSolved rule (certificate.reach dir label)
 abbrev pub IsRewardSolved : RowRule → Dir → List ℕ → List ℕ → List ℕ → List ℕ → Type 0
 IsRewardSolved rule dir name label = IsClaimSolved rule (certificate.reward dir name label)
 
+-- the claim that the gains are the greatest, or the least, mean payoffs of this name, to within the spread
+abbrev pub IsMeanSolved : RowRule → Dir → List ℕ → List ℕ → List ℕ → Type 0
+IsMeanSolved rule dir name = IsClaimSolved rule (certificate.mean dir name)
+
 abbrev pub IsSolved : RowRule → Dir → PlainQuery → List ℕ → List ℕ → Type 0
 IsSolved rule dir (reach label) = IsReachSolved rule dir label
 IsSolved rule dir (reward name label) = IsRewardSolved rule dir name label
+IsSolved rule dir (mean name) = IsMeanSolved rule dir name
 
 -- a query of the model of a source: what is due to the bytes that it had, and what is shown of a text; or a fault, or want of memory
 abbrev pub IsSolveRead : RowRule → Dir → PlainQuery → Input → Said → Type 0

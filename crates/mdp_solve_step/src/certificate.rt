@@ -6,15 +6,16 @@ ghost use Rattle.mdp_spec.specs.Mdp.{states_of, value_at};
 ghost use Rattle.mdp_rows.specs.Name.{IsName};
 ghost use Rattle.mdp_reach.specs.Query as query;
 ghost use Rattle.mdp_reward.specs.Query as rewarded;
+ghost use Rattle.mdp_mean.specs.Query as averaged;
 ghost use Rattle.mdp_cert.specs.Cert.{IsValueNarrow, Fits};
 ghost use Rattle.mdp_cert.specs.Plain.{plain};
 ghost use Rattle.mdp_cert.specs.Spelling.{text_of};
 ghost use Rattle.mdp_job.specs.Refusal.{no_memory};
 ghost use Rattle.mdp_step.specs.Said.{said};
-ghost use Rattle.mdp_solve_step.specs.Due.{init_at, init_by, certificate_of, reward_certificate_of};
+ghost use Rattle.mdp_solve_step.specs.Due.{init_at, init_by, certificate_of, reward_certificate_of, mean_certificate_of};
 
 use mdp_cert::{Body, Cert, Claim, Init, write_cert};
-use mdp_farkas::{ReachCert, RewardCert};
+use mdp_farkas::{MeanCert, ReachCert, RewardCert};
 use mdp_job::Refusal;
 use mdp_num::Frac;
 use mdp_rows::{Dir, Model};
@@ -136,6 +137,31 @@ pub fn reward_certificate_of(
         states: model.states(),
         init,
         body: Body::Reward(answer),
+    }
+}
+
+/// The certificate of an answer to a query of the mean payoff, which has a text; the value of the initial state is its gain.
+pub fn mean_certificate_of(model: &Model, dir: Dir, name: Vec<u8>, answer: MeanCert) -> Cert
+    requires name { IsName name.items }
+    requires gains { length answer.gains.items ≡ states_of model.now }
+    requires bound { length answer.bound.items ≡ states_of model.now }
+    requires bias { length answer.bias.items ≡ states_of model.now }
+    requires choices { length answer.choices.items ≡ states_of model.now }
+    ensures certificate { plain result ≡ mean_certificate_of dir name.items model.now (averaged.plain answer) }
+    ensures fits { Fits (plain result) }
+{
+    model.known();
+    all_narrow(&answer.gains);
+    all_narrow(&answer.bound);
+    all_narrow(&answer.bias);
+    all_short(&answer.choices);
+    answer.spread.num();
+    let init = init_of(model, &answer.gains);
+    Cert {
+        claim: Claim::Mean { dir, name },
+        states: model.states(),
+        init,
+        body: Body::Mean(answer),
     }
 }
 

@@ -7,6 +7,7 @@ ghost use Rattle.mdp_step.specs.Streams.{input};
 ghost use Rattle.mdp_solve_step.specs.Due.{IsQueryDue};
 ghost use Rattle.mdp_solve_step.specs.Solved.{IsPrinted, IsSolveRead};
 
+use crate::averaging::solve_payoff;
 use crate::reaching::solve_label;
 use crate::rewarding::solve_named;
 use mdp_edge::Source;
@@ -23,6 +24,7 @@ fn solve_query(alloc: Global, model: &Model, dir: Dir, query: Query<'_>) -> Resu
     match query {
         Query::Reach { label } => solve_label(alloc, model, dir, label),
         Query::Reward { name, label } => solve_named(alloc, model, dir, name, label),
+        Query::Mean { name } => solve_payoff(alloc, model, dir, name),
     }
 }
 

@@ -1,5 +1,5 @@
 -- What the laws of reading speak of, on small texts.
-use Rattle.std.proofs.Common.{◌≡◌, ℕ, List, [], ◌∷◌, refl}
+use Rattle.std.proofs.Common.{◌≡◌, [], ◌∷◌, refl}
 use Rattle.std.specs.Prelude.{codes}
 use Rattle.mdp_drn.specs.Labels.{labels_in}
 use Rattle.mdp_drn.specs.Lines.{content}

@@ -1,5 +1,5 @@
 -- A model's labels stand in the order in which the lines of its states spell them first.
-use Rattle.std.proofs.Common.{◌≡◌, ℕ, suc, ◌+◌, Option, leb, Bool, true, false, not, cond, eqb, ltb, List, [], ◌∷◌, ◌++◌, length, drop, refl, sym, ap, subst, ◌∙◌, Result, Ok, Err, codes}
+use Rattle.std.proofs.Common.{◌≡◌, ℕ, ◌+◌, Option, leb, Bool, true, false, not, cond, eqb, ltb, List, [], ◌∷◌, ◌++◌, length, drop, refl, sym, ap, subst, ◌∙◌, Result, Ok, Err, codes}
 use Rattle.std.specs.List.{flat_map}
 use Rattle.std.specs.Str.{bytes_eq}
 use Rattle.std.proofs.lemmas.List.Concat.{flat_map-cons}
@@ -15,9 +15,9 @@ use Rattle.mdp_drn.specs.Lines.{lines_of, content, is_comment, without_blanks_be
 use Rattle.mdp_drn.specs.Outcome.{◌>>=◌, refuse_if, Refusal, at_line_of}
 use Rattle.mdp_drn.specs.Labels.{labels_in}
 use Rattle.mdp_drn.specs.Values.{rewards_in}
-use Rattle.mdp_drn.specs.Header.{Header, Next, AnyEntry, Model, no_entries, header_line}
+use Rattle.mdp_drn.specs.Header.{Header, Next, header_line}
 use Rattle.mdp_drn.specs.HeaderView.{is_model}
-use Rattle.mdp_drn.specs.Body.{Body, StateRead, EntryRead, judged, with_labels, begins_as, is_other_mark, is_rest_of_state, bracket_at, state_read}
+use Rattle.mdp_drn.specs.Body.{Body, StateRead, judged, with_labels, begins_as, is_other_mark, is_rest_of_state, bracket_at, state_read}
 use Rattle.mdp_drn.specs.Body.{action_read, entry_read, state_line, action_line, entry_line, model_line}
 use Rattle.mdp_drn.specs.Body.{is_state_line, is_action_line}
 use Rattle.mdp_drn.specs.Reading.{Part, InHeader, InModel, Document, nothing_read, named, longest_line, begun, kept_line, judged_line, at_line, at_end_of, at_end, after_lines, has_choices}
@@ -29,15 +29,15 @@ use Rattle.mdp_drn.proofs.ReadingLaws.HeaderEnds.{ends-at_model}
 
 -- ---- what was answered with Ok
 
-read-by : {A B E : Type 0} (r : Result A E) (f : A → Result B E) (y : B) → (r >>= f) ≡ Ok y → (x : A) × (r ≡ Ok x) × (f x ≡ Ok y)
+pub read-by : {A B E : Type 0} (r : Result A E) (f : A → Result B E) (y : B) → (r >>= f) ≡ Ok y → (x : A) × (r ≡ Ok x) × (f x ≡ Ok y)
 read-by (Ok x) f y e = (x, refl, e)
 read-by (Err k) f y e = absurd cc
 
-judged-is : {A : Type 0} (b : Body) (line : ℕ) (r : Result A RowsError) (x : A) → judged b line r ≡ Ok x → r ≡ Ok x
+pub judged-is : {A : Type 0} (b : Body) (line : ℕ) (r : Result A RowsError) (x : A) → judged b line r ≡ Ok x → r ≡ Ok x
 judged-is b line (Ok y) x h = let e : y ≡ x = cc in ap (λ z. Ok z) e
 judged-is b line (Err e) x h = absurd cc
 
-line-is : {A : Type 0} (line : ℕ) (r : Result A DrnKind) (x : A) → at_line_of line r ≡ Ok x → r ≡ Ok x
+pub line-is : {A : Type 0} (line : ℕ) (r : Result A DrnKind) (x : A) → at_line_of line r ≡ Ok x → r ≡ Ok x
 line-is line (Ok y) x h = let e : y ≡ x = cc in ap (λ z. Ok z) e
 line-is line (Err k) x h = absurd cc
 

@@ -10,7 +10,7 @@ use Rattle.mdp_drn.specs.declared.error.DrnKind.TheVariants as kind
 use Rattle.mdp_drn.specs.Lines.{content, is_comment, without_blanks_before}
 use Rattle.mdp_drn.specs.Outcome.{◌>>=◌, refuse_if, Refusal, at_line_of}
 use Rattle.mdp_drn.specs.Header.{Header, Next, AnyEntry, BlankLine, RewardNames, StateCount, ChoiceCount, Model, header_line, is_chain, announced, names_of}
-use Rattle.mdp_drn.specs.Body.{Body, line_of, kind_of, judged, with_draft, with_labels, state_read, action_read, entry_read, state_line, action_line}
+use Rattle.mdp_drn.specs.Body.{Body, line_of, kind_of, judged, with_labels, state_read, action_read, entry_read, state_line, action_line}
 use Rattle.mdp_drn.specs.Body.{entry_line, model_line, is_state_line, is_action_line}
 use Rattle.mdp_drn.specs.Reading.{Part, InHeader, InModel, Document, named, longest_line, begun, kept_line, judged_line, at_line, after_lines, at_end_of, at_end, has_choices}
 

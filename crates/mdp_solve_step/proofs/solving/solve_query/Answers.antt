@@ -12,3 +12,7 @@ returns-in-Reach-clause-printed c =
 pub returns-in-Reward-clause-printed : goal.returns-in-Reward-clause-printed
 returns-in-Reward-clause-printed c =
     subst (λ (q : Query). IfOk (said c.solve_named.result) (IsPrinted c.args.dir (plain_query q) c.args.model.now)) (sym c.in-Reward.is) c.solve_named.ensures.printed
+
+pub returns-in-Mean-clause-printed : goal.returns-in-Mean-clause-printed
+returns-in-Mean-clause-printed c =
+    subst (λ (q : Query). IfOk (said c.solve_payoff.result) (IsPrinted c.args.dir (plain_query q) c.args.model.now)) (sym c.in-Mean.is) c.solve_payoff.ensures.printed

@@ -1,0 +1,27 @@
+use Rattle.std.proofs.Common.{◌≡◌, ℕ, List, sym, ap, subst, ◌∙◌, rules}
+use Rattle.mdp_rows.specs.Name.{IsName, IsRewardName}
+use Rattle.mdp_mean.specs.Query as averaged
+use Rattle.mdp_cert.specs.Cert.{Fits}
+use Rattle.mdp_cert.specs.Plain.{plain}
+use Rattle.mdp_cert.specs.Spelling.{text_of}
+use Rattle.mdp_solve_step.specs.Due.{mean_certificate_of}
+use Rattle.mdp_solve_step.specs.Solved.{IsMeanPrinted}
+use Rattle.mdp_solve_step.proofs.Printing.{found_among, name_of_reward, mean_sizes, mean_printed, text_printed}
+use Rattle.mdp_solve_step.proofs.averaging.solve_payoff.Goals as goal
+
+pub mean_certificate_of-cert-requires : goal.mean_certificate_of-cert-requires
+mean_certificate_of-cert-requires c = ?
+
+pub returns-clause-printed : goal.returns-clause-printed
+returns-clause-printed c =
+    let dir = c.args.dir in
+    let m = c.args.model.now in
+    let r = c.in-Some.reward in
+    let a = averaged.plain c.in-Ok.answer in
+    let same : c.in-Ok-to_vec.name.items ≡ c.args.name.now = search rules in
+    let cert : plain c.mean_certificate_of-cert.result ≡ mean_certificate_of dir c.args.name.now m a =
+    c.mean_certificate_of-cert.ensures.certificate ∙ ap (λ (n : List ℕ). mean_certificate_of dir n m a) same in
+    text_printed (IsMeanPrinted dir c.args.name.now m) (plain c.mean_certificate_of-cert.result) _
+    (λ text spelled. mean_printed dir c.args.name.now m r a (sym c.in-Some.ensures) c.in-Ok.ensures.rules (mean_sizes dir m r a c.in-Ok.ensures.each c.in-Ok.ensures.rules.rules)
+    c.known.ensures.mdp c.text_law.ensures.back
+    text (subst Fits cert c.mean_certificate_of-cert.ensures.fits) (spelled ∙ ap text_of cert)) c.certificate_text.ensures
