@@ -1,81 +1,134 @@
--- What words that ask for a drill say of its numbers.
-use Rattle.std.proofs.Common.{◌≡◌, ℕ, ◌*◌, ◌-◌, ◌^◌, ◌≤◌, Bool, true, false, cond, ◌&&◌, not, nat_lt, List, [], ◌∷◌, length, map, Option, Some, None, Result, Ok, Err}
-use Rattle.std.proofs.Common.{refl, subst, T, sym, ltb→lt, arith}
+-- What words that ask for a drill say of its numbers, and words that ask for discounted rewards of their factor.
+use Rattle.std.proofs.Common.{◌≡◌, ℕ, zero, suc, ◌*◌, ◌-◌, ◌^◌, ◌≤◌, Bool, true, false, cond, ◌&&◌, not, nat_lt, List, [], ◌∷◌, length, map, Option, Some, None, Result, Ok, Err}
+use Rattle.std.proofs.Common.{refl, subst, T, sym, ltb→lt, arith, pos}
 use Rattle.std.specs.Prelude.{◌==◌, codes}
 use Rattle.std.specs.Global.{Global}
 use Rattle.std.specs.Str.{bytes_eq}
 use Rattle.std.specs.String.{string_bytes}
 use Rattle.std.specs.declared.string.String.{String}
 use Rattle.std.proofs.lemmas.Bool.{and_parts, ltb-false}
+use Rattle.mdp_math.specs.Rational.{ℚ, of_int, ratio, lt_ℚ, ◌≤ℚ◌}
 use Rattle.mdp_math.specs.Result.{◌>>=◌}
+use Rattle.mdp_math.proofs.Extremes.{lt_of_test}
+use Rattle.mdp_math.proofs.Order.{0ℚ, 1ℚ, ≤ℚ_refl, ratio-nonneg}
+use Rattle.mdp_num.specs.Numeral.{parts_of, terms_of, value_of, numeral_of}
+use Rattle.mdp_num.specs.declared.errors.NumeralError.{NumeralError}
 use Rattle.mdp_rows.specs.declared.dir.Dir.{Dir}
 use Rattle.mdp_rows.specs.declared.rule.RowRule.{RowRule}
-use Rattle.mdp_job.specs.Job.{PlainQuery, solve, check, drill, horizon, policy, Asked}
+use Rattle.mdp_discount.specs.Rules.{IsFactor}
+use Rattle.mdp_job.specs.Job.{PlainQuery, solve, check, drill, horizon, policy, discount, discount_check, Asked}
 use Rattle.mdp_job.specs.Words.{word_at, rule_of, dir_of, check_of, query_of, solve_of, whole_word, can_draw, drill_by, drill_with, drill_of}
-use Rattle.mdp_job.specs.Words.{stay_of, steps_of, horizon_of, policy_of, job_of_texts, job_of}
+use Rattle.mdp_job.specs.Words.{stay_of, steps_of, horizon_of, policy_of, below_one, factor_of, discount_of, discount_check_of, job_of_texts, job_of}
 use Rattle.mdp_job.specs.declared.words_error.WordsError.{WordsError}
-use Rattle.mdp_job.specs.declared.words_error.WordsError.TheVariants.{Command, Number, Objective, Drill}
+use Rattle.mdp_job.specs.declared.words_error.WordsError.TheVariants.{Command, Number, Objective, Drill, Factor}
 
--- where a drill is asked for, its numbers can be drawn
-abbrev pub IsDrawn : Asked → Type 0
-IsDrawn (Ok (solve rule dir query)) = Unit {0}
-IsDrawn (Ok (check rule)) = Unit {0}
-IsDrawn (Ok (drill number layers width)) = can_draw number layers width ≡ true
-IsDrawn (Ok (horizon rule dir stay label steps)) = Unit {0}
-IsDrawn (Ok (policy rule label)) = Unit {0}
-IsDrawn (Err e) = Unit {0}
+-- ---- a factor
 
-either : (b : Bool) (x y : Asked) → IsDrawn x → IsDrawn y → IsDrawn (cond b x y)
+ratio-least : (n d : ℕ) → 0ℚ ≤ℚ ratio (pos n) d
+unfolding ratio
+ratio-least n zero = ≤ℚ_refl 0ℚ
+ratio-least n (suc d) = ratio-nonneg n (suc d) (omega arith)
+
+-- a numeral has no sign
+value-least : (terms : Result (ℕ × ℕ) NumeralError) (f : ℚ) → value_of terms ≡ Ok f → 0ℚ ≤ℚ f
+value-least (Ok p) f e = let is : ratio (pos p.0) p.1 ≡ f = cc e in subst (λ (x : ℚ). 0ℚ ≤ℚ x) is (ratio-least p.0 p.1)
+value-least (Err reason) f e = cc e
+
+factor_by : (read : Result ℚ NumeralError) → ((f : ℚ) → read ≡ Ok f → 0ℚ ≤ℚ f) → (f : ℚ) → below_one read ≡ Ok f → IsFactor f
+factor_by (Err reason) least f e = cc e
+factor_by (Ok x) least f e = by (lt_ℚ x 1ℚ) refl e
+  where
+    by : (b : Bool) → lt_ℚ x 1ℚ ≡ b → cond b (Ok x) (Err Factor) ≡ Ok f → IsFactor f
+    by true below same =
+        let is : x ≡ f = cc same in subst IsFactor is (record { at_least_zero = least x refl; below_one = lt_of_test x 1ℚ below })
+    by false below same = cc same
+
+factor_is : (word : List ℕ) (f : ℚ) → factor_of word ≡ Ok f → IsFactor f
+unfolding numeral_of
+factor_is word f e = factor_by (numeral_of word) (value-least (terms_of (parts_of word))) f e
+
+-- ---- words
+
+-- where a drill is asked for, its numbers can be drawn; where discounted rewards are, the factor is one
+abbrev pub IsInRange : Asked → Type 0
+IsInRange (Ok (solve rule dir query)) = Unit {0}
+IsInRange (Ok (check rule)) = Unit {0}
+IsInRange (Ok (drill number layers width)) = can_draw number layers width ≡ true
+IsInRange (Ok (horizon rule dir stay label steps)) = Unit {0}
+IsInRange (Ok (policy rule label)) = Unit {0}
+IsInRange (Ok (discount rule dir name factor)) = IsFactor factor
+IsInRange (Ok (discount_check rule)) = Unit {0}
+IsInRange (Err e) = Unit {0}
+
+either : (b : Bool) (x y : Asked) → IsInRange x → IsInRange y → IsInRange (cond b x y)
 either true x y p q = p
 either false x y p q = q
 
-bind : {A : Type 0} (r : Result A WordsError) (f : A → Asked) → ((x : A) → IsDrawn (f x)) → IsDrawn (r >>= f)
+bind : {A : Type 0} (r : Result A WordsError) (f : A → Asked) → ((x : A) → IsInRange (f x)) → IsInRange (r >>= f)
 bind (Ok x) f h = h x
 bind (Err e) f h = tt
 
-drawn_by : (number layers width : ℕ) → IsDrawn (drill_by number layers width)
-drawn_by number layers width = by (can_draw number layers width) refl
+bind_to : {A : Type 0} (r : Result A WordsError) (f : A → Asked) → ((x : A) → r ≡ Ok x → IsInRange (f x)) → IsInRange (r >>= f)
+bind_to (Ok x) f h = h x refl
+bind_to (Err e) f h = tt
+
+drill_by_in_range : (number layers width : ℕ) → IsInRange (drill_by number layers width)
+drill_by_in_range number layers width = by (can_draw number layers width) refl
   where
-    by : (b : Bool) → can_draw number layers width ≡ b → IsDrawn (cond b (Ok (drill number layers width)) (Err Drill))
+    by : (b : Bool) → can_draw number layers width ≡ b → IsInRange (cond b (Ok (drill number layers width)) (Err Drill))
     by true e = e
     by false e = tt
 
-drawn_with : (number layers width : Option ℕ) → IsDrawn (drill_with number layers width)
-drawn_with (Some number) (Some layers) (Some width) = drawn_by number layers width
-drawn_with None layers width = tt
-drawn_with (Some number) None width = tt
-drawn_with (Some number) (Some layers) None = tt
+drill_with_in_range : (number layers width : Option ℕ) → IsInRange (drill_with number layers width)
+drill_with_in_range (Some number) (Some layers) (Some width) = drill_by_in_range number layers width
+drill_with_in_range None layers width = tt
+drill_with_in_range (Some number) None width = tt
+drill_with_in_range (Some number) (Some layers) None = tt
 
-drill_drawn : (words : List (List ℕ)) → IsDrawn (drill_of words)
-drill_drawn words = either (length words == 3) (drill_with (whole_word 20 (word_at words 0)) (whole_word 7 (word_at words 1)) (whole_word 7 (word_at words 2))) (Err Number)
-    (drawn_with (whole_word 20 (word_at words 0)) (whole_word 7 (word_at words 1)) (whole_word 7 (word_at words 2))) tt
+drill_in_range : (words : List (List ℕ)) → IsInRange (drill_of words)
+drill_in_range words = either (length words == 3) (drill_with (whole_word 20 (word_at words 0)) (whole_word 7 (word_at words 1)) (whole_word 7 (word_at words 2))) (Err Number)
+    (drill_with_in_range (whole_word 20 (word_at words 0)) (whole_word 7 (word_at words 1)) (whole_word 7 (word_at words 2))) tt
 
-solve_drawn : (words : List (List ℕ)) → IsDrawn (solve_of words)
-solve_drawn words =
+solve_in_range : (words : List (List ℕ)) → IsInRange (solve_of words)
+solve_in_range words =
     either (nat_lt (length words) 4) (Err Number) _ tt
     (bind (rule_of (word_at words 1)) _ (λ rule. bind (dir_of (word_at words 2)) _ (λ dir. bind (query_of words) _ (λ query. tt))))
 
-check_drawn : (words : List (List ℕ)) → IsDrawn (check_of words)
-check_drawn words = either (length words == 3) _ (Err Number) (bind (rule_of (word_at words 1)) _ (λ rule. tt)) tt
+check_in_range : (words : List (List ℕ)) → IsInRange (check_of words)
+check_in_range words = either (length words == 3) _ (Err Number) (bind (rule_of (word_at words 1)) _ (λ rule. tt)) tt
 
-horizon_drawn : (words : List (List ℕ)) → IsDrawn (horizon_of words)
-horizon_drawn words =
+horizon_in_range : (words : List (List ℕ)) → IsInRange (horizon_of words)
+horizon_in_range words =
     either (length words == 6) _ (Err Number) (bind (rule_of (word_at words 1)) _ (λ rule. bind (dir_of (word_at words 2)) _ (λ dir. bind (steps_of (word_at words 5)) _ (λ steps. tt)))) tt
 
-policy_drawn : (words : List (List ℕ)) → IsDrawn (policy_of words)
-policy_drawn words =
+policy_in_range : (words : List (List ℕ)) → IsInRange (policy_of words)
+policy_in_range words =
     either (length words == 5) _ (Err Number)
     (bind (rule_of (word_at words 1)) _ (λ rule. either (bytes_eq (word_at words 3) (codes "reach")) (Ok (policy rule (word_at words 4))) (Err Objective) tt tt)) tt
 
-texts_drawn : (words : List (List ℕ)) → IsDrawn (job_of_texts words)
-texts_drawn [] = tt
-texts_drawn (command ∷ words) =
-    either (bytes_eq command (codes "solve")) (solve_of words) _ (solve_drawn words) (either (bytes_eq command (codes "check")) (check_of words) _ (check_drawn words) (
-    either (bytes_eq command (codes "drill")) (drill_of words) _ (drill_drawn words) (either (bytes_eq command (codes "horizon")) (horizon_of words) _ (horizon_drawn words) (
-    either (bytes_eq command (codes "policy")) (policy_of words) (Err Command) (policy_drawn words) tt))))
+discount_in_range : (words : List (List ℕ)) → IsInRange (discount_of words)
+discount_in_range words =
+    either (length words == 5) _ (Err Number)
+    (bind (rule_of (word_at words 1)) _ (λ rule. bind (dir_of (word_at words 2)) _ (λ dir. bind_to (factor_of (word_at words 4)) _ (λ factor is. factor_is (word_at words 4) factor is)))) tt
+
+discount_check_in_range : (words : List (List ℕ)) → IsInRange (discount_check_of words)
+discount_check_in_range words = either (length words == 3) _ (Err Number) (bind (rule_of (word_at words 1)) _ (λ rule. tt)) tt
+
+texts_in_range : (words : List (List ℕ)) → IsInRange (job_of_texts words)
+texts_in_range [] = tt
+texts_in_range (command ∷ words) =
+    either (bytes_eq command (codes "solve")) (solve_of words) _ (solve_in_range words) (either (bytes_eq command (codes "check")) (check_of words) _ (check_in_range words) (
+    either (bytes_eq command (codes "drill")) (drill_of words) _ (drill_in_range words) (either (bytes_eq command (codes "horizon")) (horizon_of words) _ (horizon_in_range words) (
+    either (bytes_eq command (codes "policy")) (policy_of words) _ (policy_in_range words) (either (bytes_eq command (codes "discount")) (discount_of words) _ (discount_in_range words) (
+    either (bytes_eq command (codes "discount-check")) (discount_check_of words) (Err Command) (discount_check_in_range words) tt))))))
 
 drawn : (words : List (String Global)) (number layers width : ℕ) → Ok (drill number layers width) ≡ job_of words → can_draw number layers width ≡ true
-drawn words number layers width is = subst IsDrawn (sym is) (texts_drawn (map string_bytes words))
+drawn words number layers width is = subst IsInRange (sym is) (texts_in_range (map string_bytes words))
+
+pub is_factor_of : (words : List (String Global)) (rule : RowRule) (dir : Dir) (name : List ℕ) (f : ℚ) → Ok (discount rule dir name f) ≡ job_of words → IsFactor f
+is_factor_of words rule dir name f is = subst IsInRange (sym is) (texts_in_range (map string_bytes words))
+
+-- ---- the numbers of a drill
 
 -- what that says of them
 pub record CanDraw (layers width : ℕ) : Type 0 where

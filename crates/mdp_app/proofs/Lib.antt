@@ -1,5 +1,5 @@
 mod Accepting
 mod Deciding
-mod Drawn
+mod InRange
 mod Answering
 mod PredCounts

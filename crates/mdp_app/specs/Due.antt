@@ -6,7 +6,7 @@ use Rattle.mdp_cert.specs.Cert.{Certificate}
 use Rattle.mdp_check.specs.Check.{answer_to}
 use Rattle.mdp_check.specs.declared.answer.Answer as checked
 use Rattle.mdp_check.specs.declared.answer.Answer.TheVariants.{Yes, No, Wide, NoReward, NoLabel, Size, Memory}
-use Rattle.mdp_job.specs.Job.{solve, check, drill, horizon, policy, Asked}
+use Rattle.mdp_job.specs.Job.{solve, check, drill, horizon, policy, discount, discount_check, Asked}
 use Rattle.mdp_job.specs.Refusal.{PlainRefusal, no_job, query_size, query_reward, query_label, check_wide, denied, no_memory}
 use Rattle.mdp_job.specs.Text.{line}
 use Rattle.mdp_step.specs.Files.{model_due, certificate_due, IsDueToModel}
@@ -15,6 +15,7 @@ use Rattle.mdp_solve_step.specs.Due.{IsSolveDue}
 use Rattle.mdp_drill_step.specs.Due.{IsDrillDue}
 use Rattle.mdp_horizon_step.specs.Due.{IsHorizonDue}
 use Rattle.mdp_policy_step.specs.Due.{IsPolicyDue}
+use Rattle.mdp_discount_step.specs.Due.{IsDiscountDue, IsDiscountCheckDue}
 
 -- ---- `check`
 
@@ -51,6 +52,8 @@ IsDue (Ok (check rule)) model second said = said ≡ check_due rule model second
 IsDue (Ok (drill number layers width)) model second said = IsDrillDue number layers width said
 IsDue (Ok (horizon rule dir stay label steps)) model second said = IsDueToModel (IsHorizonDue dir stay label steps) (model_due rule model) said
 IsDue (Ok (policy rule label)) model second said = IsDueToModel (λ m. IsPolicyDue label m second) (model_due rule model) said
+IsDue (Ok (discount rule dir name factor)) model second said = IsDueToModel (IsDiscountDue dir name factor) (model_due rule model) said
+IsDue (Ok (discount_check rule)) model second said = IsDueToModel (λ m. IsDiscountCheckDue m second) (model_due rule model) said
 IsDue (Err e) model second said = said ≡ Err (no_job e)
 
 -- the model's bytes read as a model under the job's row rule
@@ -60,4 +63,6 @@ IsModelRead (Ok (check rule)) model = IsOk (model_due rule model)
 IsModelRead (Ok (drill number layers width)) model = ⊥
 IsModelRead (Ok (horizon rule dir stay label steps)) model = IsOk (model_due rule model)
 IsModelRead (Ok (policy rule label)) model = IsOk (model_due rule model)
+IsModelRead (Ok (discount rule dir name factor)) model = IsOk (model_due rule model)
+IsModelRead (Ok (discount_check rule)) model = IsOk (model_due rule model)
 IsModelRead (Err e) model = ⊥

@@ -1,11 +1,13 @@
 -- What is shown of the work of each command.
 use Rattle.std.specs.Prelude.{ℕ, List, Ok, Err}
-use Rattle.mdp_job.specs.Job.{solve, check, drill, horizon, policy, Asked}
+use Rattle.mdp_job.specs.Job.{solve, check, drill, horizon, policy, discount, discount_check, Asked}
 use Rattle.mdp_step.specs.Accepted.{IsTrueClaim}
 use Rattle.mdp_solve_step.specs.Solved.{IsSolved}
 use Rattle.mdp_drill_step.specs.Drilled.{IsDrilled}
 use Rattle.mdp_horizon_step.specs.Shown.{IsHorizonShown}
 use Rattle.mdp_policy_step.specs.Shown.{IsPolicyShown}
+use Rattle.mdp_discount_step.specs.Accepted as discounted
+use Rattle.mdp_discount_step.specs.Shown.{IsDiscountSolved}
 
 -- what is shown of the model's bytes, of those of the second file and of the text, where the work was done. Each command is a case
 abbrev pub IsShown : Asked → List ℕ → List ℕ → List ℕ → Type 0
@@ -14,4 +16,6 @@ IsShown (Ok (check rule)) model second text = IsTrueClaim rule model second
 IsShown (Ok (drill number layers width)) model second text = IsDrilled number layers width text
 IsShown (Ok (horizon rule dir stay label steps)) model second text = IsHorizonShown rule dir stay label steps model text
 IsShown (Ok (policy rule label)) model second text = IsPolicyShown rule label model second text
+IsShown (Ok (discount rule dir name factor)) model second text = IsDiscountSolved rule dir name factor model text
+IsShown (Ok (discount_check rule)) model second text = discounted.IsTrueClaim rule model second
 IsShown (Err e) model second text = ⊥

@@ -8,13 +8,14 @@ ghost use Rattle.mdp_app.specs.Run.{IsAnswered, IsWorkDone, IsComplete};
 ghost use Rattle.mdp_app.specs.Decided.{IsDecided, EndsWith};
 
 use crate::checking::check_files;
+use mdp_discount_step::{discount_check_files, discount_file};
 use mdp_drill_step::drill;
 use mdp_edge::{Sink, Source, WriteFault, write_all};
 use mdp_horizon_step::horizon_file;
 use mdp_job::{Job, MEMORY_TEXT, Refusal, Status, job_of, push_refusal};
 use mdp_num::Memory;
 use mdp_policy_step::policy_file;
-use mdp_solve_step::solve_file;
+use mdp_solve_step::{solve_file, solve_law};
 use std::alloc::Global;
 
 /// The answer to the words.
@@ -46,6 +47,15 @@ fn decided<S: Source, C: Source>(
             },
         ) => horizon_file(alloc, rule, dir, stay, label, steps, model),
         Ok(Job::Policy { rule, label }) => policy_file(alloc, rule, label, model, second),
+        Ok(
+            Job::Discount {
+                rule,
+                dir,
+                name,
+                factor,
+            },
+        ) => discount_file(alloc, rule, dir, name, factor, model),
+        Ok(Job::DiscountCheck { rule }) => discount_check_files(alloc, rule, model, second),
         Err(error) => Err(Refusal::Words(error)),
     }
 }
@@ -71,6 +81,7 @@ pub fn run<S: Source, C: Source, K: Sink>(
     ensures complete { IsComplete (job_of words.now) (input S.left S.faults model.old model.new) (input C.left C.faults second.old second.new)
         (output K.taken K.settled K.faults out.old out.new) result }
 {
+    solve_law();
     let answer = decided(alloc, words, model, second);
     written(alloc, answer, out)
 }

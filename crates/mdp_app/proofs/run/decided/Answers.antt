@@ -4,7 +4,7 @@ use Rattle.mdp_job.specs.declared.job.Job.{Job}
 use Rattle.mdp_step.specs.Files.{model_due}
 use Rattle.mdp_app.proofs.Accepting.{check_due_by}
 use Rattle.mdp_app.proofs.Deciding.{refused_words, alone_decided, model_decided, pair_decided, decided_as}
-use Rattle.mdp_app.proofs.Drawn.{can_draw_of}
+use Rattle.mdp_app.proofs.InRange.{can_draw_of, is_factor_of}
 use Rattle.mdp_app.proofs.run.decided.Goals as goal
 
 pub returns-in-Err : goal.returns-in-Err
@@ -52,3 +52,18 @@ returns-in-Ok-Policy g c =
     decided_as _ _ _ _ _ (sym (ap (λ (job : Job). let asked : Asked = Ok (plain_job job) in asked) c.in-Ok-Policy.field-0-is) ∙ c.in-Ok-Policy.ensures)
     (pair_decided _ _ _ _ _ _ refl refl (λ bytes other said due. due) (λ bytes other text shown. shown) (λ bytes read. read) _ c.policy_file.ensures.read
     c.policy_file.ensures.unread c.policy_file.ensures.model_end c.policy_file.ensures.second_end)
+
+pub discount_file-requires : goal.discount_file-requires
+discount_file-requires g c =
+    is_factor_of c.args.words.now _ _ _ _ (sym (ap (λ (job : Job). let asked : Asked = Ok (plain_job job) in asked) c.in-Ok-Discount.field-0-is) ∙ c.in-Ok-Discount.ensures)
+
+pub returns-in-Ok-Discount : goal.returns-in-Ok-Discount
+returns-in-Ok-Discount g c =
+    decided_as _ _ _ _ _ (sym (ap (λ (job : Job). let asked : Asked = Ok (plain_job job) in asked) c.in-Ok-Discount.field-0-is) ∙ c.in-Ok-Discount.ensures)
+    (model_decided _ _ _ _ _ _ refl refl (λ bytes other said due. due) (λ bytes other text shown. shown) refl refl _ c.discount_file.ensures.read c.discount_file.ensures.end)
+
+pub returns-in-Ok-DiscountCheck : goal.returns-in-Ok-DiscountCheck
+returns-in-Ok-DiscountCheck g c =
+    decided_as _ _ _ _ _ (sym (ap (λ (job : Job). let asked : Asked = Ok (plain_job job) in asked) c.in-Ok-DiscountCheck.field-0-is) ∙ c.in-Ok-DiscountCheck.ensures)
+    (pair_decided _ _ _ _ _ _ refl refl (λ bytes other said due. due) (λ bytes other text shown. shown) (λ bytes read. read) _ c.discount_check_files.ensures.read
+    c.discount_check_files.ensures.unread c.discount_check_files.ensures.model_end c.discount_check_files.ensures.second_end)

@@ -1,0 +1,5 @@
+mod Examples
+pub mod TextLength
+pub mod Printing
+pub mod Solved
+pub mod Accepting
