@@ -9,8 +9,22 @@ use Rattle.mdp_solve_step.specs.Solved.{IsMeanPrinted}
 use Rattle.mdp_solve_step.proofs.Printing.{found_among, name_of_reward, mean_sizes, mean_printed, text_printed}
 use Rattle.mdp_solve_step.proofs.averaging.solve_payoff.Goals as goal
 
-pub mean_certificate_of-cert-requires : goal.mean_certificate_of-cert-requires
-mean_certificate_of-cert-requires c = ?
+pub mean_certificate_of-cert-requires-clause-name : goal.mean_certificate_of-cert-requires-clause-name
+mean_certificate_of-cert-requires-clause-name c =
+    let same : c.in-Ok-to_vec.name.items ≡ c.args.name.now = search rules in
+    subst IsName (sym same) (name_of_reward c.args.name.now (found_among IsRewardName c.args.name.now c.args.model.now.names c.in-Some.reward (sym c.in-Some.ensures) c.known.ensures.model.names.each))
+
+pub mean_certificate_of-cert-requires-clause-bound : goal.mean_certificate_of-cert-requires-clause-bound
+mean_certificate_of-cert-requires-clause-bound c =
+    (mean_sizes c.args.dir c.args.model.now c.in-Some.reward (averaged.plain c.in-Ok.answer) c.in-Ok.ensures.each c.in-Ok.ensures.rules.rules).bound
+
+pub mean_certificate_of-cert-requires-clause-bias : goal.mean_certificate_of-cert-requires-clause-bias
+mean_certificate_of-cert-requires-clause-bias c =
+    (mean_sizes c.args.dir c.args.model.now c.in-Some.reward (averaged.plain c.in-Ok.answer) c.in-Ok.ensures.each c.in-Ok.ensures.rules.rules).bias
+
+pub mean_certificate_of-cert-requires-clause-choices : goal.mean_certificate_of-cert-requires-clause-choices
+mean_certificate_of-cert-requires-clause-choices c =
+    (mean_sizes c.args.dir c.args.model.now c.in-Some.reward (averaged.plain c.in-Ok.answer) c.in-Ok.ensures.each c.in-Ok.ensures.rules.rules).choices
 
 pub returns-clause-printed : goal.returns-clause-printed
 returns-clause-printed c =

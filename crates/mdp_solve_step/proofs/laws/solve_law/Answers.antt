@@ -3,7 +3,7 @@ use Rattle.mdp_spec.specs.Mdp.{Mdp}
 use Rattle.mdp_rows.specs.Limits.{IsModel}
 use Rattle.mdp_job.specs.Refusal.{PlainRefusal}
 use Rattle.mdp_step.specs.Files.{model_due}
-use Rattle.mdp_solve_step.proofs.Solved.{read_model, solve_once, text_is_answer, reward_text_is_answer, mean_text_is_answer}
+use Rattle.mdp_solve_step.proofs.Solved.{model_of, read_model, solve_once, text_is_answer, reward_text_is_answer, mean_text_is_answer}
 use Rattle.mdp_solve_step.proofs.laws.solve_law.Goals as goal
 
 pub returns : goal.returns
