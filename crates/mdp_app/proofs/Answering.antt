@@ -4,9 +4,9 @@ use Rattle.mdp_math.specs.Rational.{ℚ}
 use Rattle.mdp_spec.specs.Mdp.{Mdp}
 use Rattle.mdp_rows.specs.declared.dir.Dir.{Dir}
 use Rattle.mdp_drn.specs.FromSource.{HadLeft}
-use Rattle.mdp_job.specs.Job.{solve, check, drill, horizon, policy, discount, discount_check, Asked, reads_model, reads_second}
-use Rattle.mdp_job.specs.Refusal.{PlainRefusal, no_job, model_text, query_size, query_reward, query_label, query_negative, query_steps, query_choice, too_wide, check_wide, horizon_wide}
-use Rattle.mdp_job.specs.Refusal.{denied, read_model, read_certificate, long_model, long_certificate, cert_text, policy_text, no_memory}
+use Rattle.mdp_job.specs.Job.{solve, witness, check, drill, horizon, policy, discount, discount_check, Asked, reads_model, reads_second}
+use Rattle.mdp_job.specs.Refusal.{PlainRefusal, no_job, model_text, query_size, query_reward, query_label, query_init, query_negative, query_steps, query_choice, too_wide, check_wide, horizon_wide}
+use Rattle.mdp_job.specs.Refusal.{denied, read_model, read_certificate, long_model, long_certificate, cert_text, policy_text, below, no_memory}
 use Rattle.mdp_job.specs.Status.{status_of}
 use Rattle.mdp_job.specs.declared.status.Status.{Status}
 use Rattle.mdp_job.specs.declared.status.Status.TheVariants as status
@@ -15,6 +15,8 @@ use Rattle.mdp_step.specs.Said.{Said, said_status}
 use Rattle.mdp_step.specs.Streams.{Input, Told, Output}
 use Rattle.mdp_solve_step.specs.Due.{IsSolveDue}
 use Rattle.mdp_solve_step.specs.Laws.{IsDueOnce}
+use Rattle.mdp_witness_step.specs.Due.{IsWitnessDue}
+use Rattle.mdp_witness_step.specs.Laws as witnessed
 use Rattle.mdp_drill_step.proofs.Drilled.{due-once}
 use Rattle.mdp_horizon_step.specs.Due.{IsHorizonDue}
 use Rattle.mdp_policy_step.specs.Due.{IsPolicyDue}
@@ -34,6 +36,7 @@ refusal_status (model_text n kind) h = cc
 refusal_status query_size h = cc
 refusal_status query_reward h = cc
 refusal_status query_label h = cc
+refusal_status query_init h = cc
 refusal_status query_negative h = cc
 refusal_status query_steps h = cc
 refusal_status query_choice h = cc
@@ -47,6 +50,7 @@ refusal_status long_model h = cc
 refusal_status long_certificate h = cc
 refusal_status (cert_text n kind) h = cc
 refusal_status (policy_text n kind) h = cc
+refusal_status (below v) h = cc
 refusal_status no_memory h = cc
 
 -- what is due doesn't depend on bytes that the job doesn't read
@@ -76,29 +80,32 @@ discount_checked_once other (Err r) said again d e = d ∙ sym e
 
 -- what is due is due once
 due_once :
-    IsDueOnce → (asked : Asked) (model second : Input) (m s n t text : List ℕ) (said : Said) → HadLeft model.before n → HadLeft second.before t → IsDue asked n t said
+    IsDueOnce → witnessed.IsDueOnce → (asked : Asked) (model second : Input) (m s n t text : List ℕ) (said : Said) → HadLeft model.before n → HadLeft second.before t → IsDue asked n t said
     → Told (reads_model asked) model m → Told (reads_second asked) second s → IsDue asked m s (Ok text)
     → said ≡ Ok text
-due_once once (Ok (solve rule dir query)) model second m s n t text said hn ht due tm ts due_text =
+due_once once found (Ok (solve rule dir query)) model second m s n t text said hn ht due tm ts due_text =
     once rule dir query m said (Ok text) (subst (λ (x : List ℕ). IsSolveDue dir query (model_due rule x) said) (had_told true model m n tm hn refl) due) due_text
-due_once once (Ok (check rule)) model second m s n t text said hn ht due tm ts due_text =
+due_once once found (Ok (witness rule dir label threshold)) model second m s n t text said hn ht due tm ts due_text =
+    found rule dir label threshold m said (Ok text)
+    (subst (λ (x : List ℕ). IsDueToModel (IsWitnessDue dir label threshold) (model_due rule x) said) (had_told true model m n tm hn refl) due) due_text
+due_once once found (Ok (check rule)) model second m s n t text said hn ht due tm ts due_text =
     due ∙ ap (λ (x : List ℕ). check_due rule x t) (had_told true model m n tm hn refl) ∙ ap (λ (x : List ℕ). check_due rule m x) (had_told true second s t ts ht refl) ∙ sym due_text
-due_once once (Ok (drill number layers width)) model second m s n t text said hn ht due tm ts due_text = due-once number layers width said (Ok text) due due_text
-due_once once (Ok (horizon rule dir stay label steps)) model second m s n t text said hn ht due tm ts due_text =
+due_once once found (Ok (drill number layers width)) model second m s n t text said hn ht due tm ts due_text = due-once number layers width said (Ok text) due due_text
+due_once once found (Ok (horizon rule dir stay label steps)) model second m s n t text said hn ht due tm ts due_text =
     horizon_once dir stay label steps (model_due rule m) said (Ok text)
     (subst (λ (x : List ℕ). IsDueToModel (IsHorizonDue dir stay label steps) (model_due rule x) said) (had_told true model m n tm hn refl) due) due_text
-due_once once (Ok (policy rule label)) model second m s n t text said hn ht due tm ts due_text =
+due_once once found (Ok (policy rule label)) model second m s n t text said hn ht due tm ts due_text =
     value_once label s (model_due rule m) said (Ok text)
     (subst (λ (x : List ℕ). IsDueToModel (λ k. IsPolicyDue label k x) (model_due rule m) said) (had_told true second s t ts ht refl)
     (subst (λ (x : List ℕ). IsDueToModel (λ k. IsPolicyDue label k t) (model_due rule x) said) (had_told true model m n tm hn refl) due)) due_text
-due_once once (Ok (discount rule dir name factor)) model second m s n t text said hn ht due tm ts due_text =
+due_once once found (Ok (discount rule dir name factor)) model second m s n t text said hn ht due tm ts due_text =
     discounted_once dir name factor (model_due rule m) said (Ok text)
     (subst (λ (x : List ℕ). IsDueToModel (IsDiscountDue dir name factor) (model_due rule x) said) (had_told true model m n tm hn refl) due) due_text
-due_once once (Ok (discount_check rule)) model second m s n t text said hn ht due tm ts due_text =
+due_once once found (Ok (discount_check rule)) model second m s n t text said hn ht due tm ts due_text =
     discount_checked_once s (model_due rule m) said (Ok text)
     (subst (λ (x : List ℕ). IsDueToModel (λ k. IsDiscountCheckDue k x) (model_due rule m) said) (had_told true second s t ts ht refl)
     (subst (λ (x : List ℕ). IsDueToModel (λ k. IsDiscountCheckDue k t) (model_due rule x) said) (had_told true model m n tm hn refl) due)) due_text
-due_once once (Err e) model second m s n t text said hn ht due tm ts due_text = cc
+due_once once found (Err e) model second m s n t text said hn ht due tm ts due_text = cc
 
 module _ (asked : Asked) (model second : Input) (out : Output) (ended : Status) where
   memory_unread : (said : Said) → LeavesUnread asked model second said → LeavesUnread asked model second (Err no_memory)
@@ -129,6 +136,6 @@ module _ (asked : Asked) (model second : Input) (out : Output) (ended : Status) 
   by_cause said text w once (inr (inr (inl failed))) = ends said (Err read_certificate) failed.says w (λ e. inr (inr (inl (e, inr (failed.reads, failed.fault)))))
   by_cause said text w once (inr (inr (inr memory))) = ends said (Err no_memory) memory w (λ e. inr (inl e))
 
-  pub complete : IsDueOnce → IsAnswered asked model second out ended → IsComplete asked model second out ended
-  complete once a m s text tm ts due =
-      by_cause a.said text a.written (λ from. due_once once asked model second m s from.model_bytes from.second_bytes text a.said from.had_model from.had_second from.is_due tm ts due) a.cause
+  pub complete : IsDueOnce → witnessed.IsDueOnce → IsAnswered asked model second out ended → IsComplete asked model second out ended
+  complete once found a m s text tm ts due =
+      by_cause a.said text a.written (λ from. due_once once found asked model second m s from.model_bytes from.second_bytes text a.said from.had_model from.had_second from.is_due tm ts due) a.cause

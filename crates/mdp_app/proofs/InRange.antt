@@ -1,4 +1,5 @@
--- What words that ask for a drill say of its numbers, and words that ask for discounted rewards of their factor.
+-- What words that ask for a drill say of its numbers, those that ask for discounted rewards of their factor, and those that ask for a witness of their
+-- threshold.
 use Rattle.std.proofs.Common.{◌≡◌, ℕ, zero, suc, ◌*◌, ◌-◌, ◌^◌, ◌≤◌, Bool, true, false, cond, ◌&&◌, not, nat_lt, List, [], ◌∷◌, length, map, Option, Some, None, Result, Ok, Err}
 use Rattle.std.proofs.Common.{refl, subst, T, sym, ltb→lt, arith, pos}
 use Rattle.std.specs.Prelude.{◌==◌, codes}
@@ -16,11 +17,11 @@ use Rattle.mdp_num.specs.declared.errors.NumeralError.{NumeralError}
 use Rattle.mdp_rows.specs.declared.dir.Dir.{Dir}
 use Rattle.mdp_rows.specs.declared.rule.RowRule.{RowRule}
 use Rattle.mdp_discount.specs.Rules.{IsFactor}
-use Rattle.mdp_job.specs.Job.{PlainQuery, solve, check, drill, horizon, policy, discount, discount_check, Asked}
+use Rattle.mdp_job.specs.Job.{PlainQuery, solve, witness, check, drill, horizon, policy, discount, discount_check, Asked}
 use Rattle.mdp_job.specs.Words.{word_at, rule_of, dir_of, check_of, query_of, solve_of, whole_word, can_draw, drill_by, drill_with, drill_of}
-use Rattle.mdp_job.specs.Words.{stay_of, steps_of, horizon_of, policy_of, below_one, factor_of, discount_of, discount_check_of, job_of_texts, job_of}
+use Rattle.mdp_job.specs.Words.{threshold_by, threshold_of, witness_of, stay_of, steps_of, horizon_of, policy_of, below_one, factor_of, discount_of, discount_check_of, job_of_texts, job_of}
 use Rattle.mdp_job.specs.declared.words_error.WordsError.{WordsError}
-use Rattle.mdp_job.specs.declared.words_error.WordsError.TheVariants.{Command, Number, Objective, Drill, Factor}
+use Rattle.mdp_job.specs.declared.words_error.WordsError.TheVariants.{Command, Number, Objective, Threshold, Drill, Factor}
 
 -- ---- a factor
 
@@ -47,11 +48,22 @@ factor_is : (word : List ℕ) (f : ℚ) → factor_of word ≡ Ok f → IsFactor
 unfolding numeral_of
 factor_is word f e = factor_by (numeral_of word) (value-least (terms_of (parts_of word))) f e
 
+-- ---- a threshold
+
+threshold_least : (read : Result ℚ NumeralError) → ((t : ℚ) → read ≡ Ok t → 0ℚ ≤ℚ t) → (t : ℚ) → threshold_by read ≡ Ok t → 0ℚ ≤ℚ t
+threshold_least (Err reason) least t e = cc e
+threshold_least (Ok x) least t e = let is : x ≡ t = cc e in subst (λ (y : ℚ). 0ℚ ≤ℚ y) is (least x refl)
+
+threshold_is : (word : List ℕ) (t : ℚ) → threshold_of word ≡ Ok t → 0ℚ ≤ℚ t
+unfolding numeral_of
+threshold_is word t e = threshold_least (numeral_of word) (value-least (terms_of (parts_of word))) t e
+
 -- ---- words
 
--- where a drill is asked for, its numbers can be drawn; where discounted rewards are, the factor is one
+-- where a drill is asked for, its numbers can be drawn; where discounted rewards are, the factor is one; where a witness is, its threshold is at least 0
 abbrev pub IsInRange : Asked → Type 0
 IsInRange (Ok (solve rule dir query)) = Unit {0}
+IsInRange (Ok (witness rule dir label threshold)) = 0ℚ ≤ℚ threshold
 IsInRange (Ok (check rule)) = Unit {0}
 IsInRange (Ok (drill number layers width)) = can_draw number layers width ≡ true
 IsInRange (Ok (horizon rule dir stay label steps)) = Unit {0}
@@ -94,6 +106,11 @@ solve_in_range words =
     either (nat_lt (length words) 4) (Err Number) _ tt
     (bind (rule_of (word_at words 1)) _ (λ rule. bind (dir_of (word_at words 2)) _ (λ dir. bind (query_of words) _ (λ query. tt))))
 
+witness_in_range : (words : List (List ℕ)) → IsInRange (witness_of words)
+witness_in_range words =
+    either (length words == 5) _ (Err Number)
+    (bind (rule_of (word_at words 1)) _ (λ rule. bind (dir_of (word_at words 2)) _ (λ dir. bind_to (threshold_of (word_at words 4)) _ (λ threshold is. threshold_is (word_at words 4) threshold is)))) tt
+
 check_in_range : (words : List (List ℕ)) → IsInRange (check_of words)
 check_in_range words = either (length words == 3) _ (Err Number) (bind (rule_of (word_at words 1)) _ (λ rule. tt)) tt
 
@@ -117,16 +134,20 @@ discount_check_in_range words = either (length words == 3) _ (Err Number) (bind 
 texts_in_range : (words : List (List ℕ)) → IsInRange (job_of_texts words)
 texts_in_range [] = tt
 texts_in_range (command ∷ words) =
-    either (bytes_eq command (codes "solve")) (solve_of words) _ (solve_in_range words) (either (bytes_eq command (codes "check")) (check_of words) _ (check_in_range words) (
+    either (bytes_eq command (codes "solve")) (solve_of words) _ (solve_in_range words) (either (bytes_eq command (codes "witness")) (witness_of words) _ (witness_in_range words) (
+    either (bytes_eq command (codes "check")) (check_of words) _ (check_in_range words) (
     either (bytes_eq command (codes "drill")) (drill_of words) _ (drill_in_range words) (either (bytes_eq command (codes "horizon")) (horizon_of words) _ (horizon_in_range words) (
     either (bytes_eq command (codes "policy")) (policy_of words) _ (policy_in_range words) (either (bytes_eq command (codes "discount")) (discount_of words) _ (discount_in_range words) (
-    either (bytes_eq command (codes "discount-check")) (discount_check_of words) (Err Command) (discount_check_in_range words) tt))))))
+    either (bytes_eq command (codes "discount-check")) (discount_check_of words) (Err Command) (discount_check_in_range words) tt)))))))
 
 drawn : (words : List (String Global)) (number layers width : ℕ) → Ok (drill number layers width) ≡ job_of words → can_draw number layers width ≡ true
 drawn words number layers width is = subst IsInRange (sym is) (texts_in_range (map string_bytes words))
 
 pub is_factor_of : (words : List (String Global)) (rule : RowRule) (dir : Dir) (name : List ℕ) (f : ℚ) → Ok (discount rule dir name f) ≡ job_of words → IsFactor f
 is_factor_of words rule dir name f is = subst IsInRange (sym is) (texts_in_range (map string_bytes words))
+
+pub is_threshold : (words : List (String Global)) (rule : RowRule) (dir : Dir) (label : List ℕ) (t : ℚ) → Ok (witness rule dir label t) ≡ job_of words → 0ℚ ≤ℚ t
+is_threshold words rule dir label t is = subst IsInRange (sym is) (texts_in_range (map string_bytes words))
 
 -- ---- the numbers of a drill
 

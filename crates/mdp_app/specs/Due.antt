@@ -6,12 +6,13 @@ use Rattle.mdp_cert.specs.Cert.{Certificate}
 use Rattle.mdp_check.specs.Check.{answer_to}
 use Rattle.mdp_check.specs.declared.answer.Answer as checked
 use Rattle.mdp_check.specs.declared.answer.Answer.TheVariants.{Yes, No, Wide, NoReward, NoLabel, Size, Memory}
-use Rattle.mdp_job.specs.Job.{solve, check, drill, horizon, policy, discount, discount_check, Asked}
+use Rattle.mdp_job.specs.Job.{solve, witness, check, drill, horizon, policy, discount, discount_check, Asked}
 use Rattle.mdp_job.specs.Refusal.{PlainRefusal, no_job, query_size, query_reward, query_label, check_wide, denied, no_memory}
 use Rattle.mdp_job.specs.Text.{line}
 use Rattle.mdp_step.specs.Files.{model_due, certificate_due, IsDueToModel}
 use Rattle.mdp_step.specs.Said.{Said}
 use Rattle.mdp_solve_step.specs.Due.{IsSolveDue}
+use Rattle.mdp_witness_step.specs.Due.{IsWitnessDue}
 use Rattle.mdp_drill_step.specs.Due.{IsDrillDue}
 use Rattle.mdp_horizon_step.specs.Due.{IsHorizonDue}
 use Rattle.mdp_policy_step.specs.Due.{IsPolicyDue}
@@ -48,6 +49,7 @@ check_due rule model cert = said_to_model (model_due rule model) cert
 -- this is due to what the words ask for, to the model's bytes and to those of the second file
 abbrev pub IsDue : Asked → List ℕ → List ℕ → Said → Type 0
 IsDue (Ok (solve rule dir query)) model second said = IsSolveDue dir query (model_due rule model) said
+IsDue (Ok (witness rule dir label threshold)) model second said = IsDueToModel (IsWitnessDue dir label threshold) (model_due rule model) said
 IsDue (Ok (check rule)) model second said = said ≡ check_due rule model second
 IsDue (Ok (drill number layers width)) model second said = IsDrillDue number layers width said
 IsDue (Ok (horizon rule dir stay label steps)) model second said = IsDueToModel (IsHorizonDue dir stay label steps) (model_due rule model) said
@@ -59,6 +61,7 @@ IsDue (Err e) model second said = said ≡ Err (no_job e)
 -- the model's bytes read as a model under the job's row rule
 abbrev pub IsModelRead : Asked → List ℕ → Type 0
 IsModelRead (Ok (solve rule dir query)) model = IsOk (model_due rule model)
+IsModelRead (Ok (witness rule dir label threshold)) model = IsOk (model_due rule model)
 IsModelRead (Ok (check rule)) model = IsOk (model_due rule model)
 IsModelRead (Ok (drill number layers width)) model = ⊥
 IsModelRead (Ok (horizon rule dir stay label steps)) model = IsOk (model_due rule model)

@@ -1,8 +1,9 @@
 -- What is shown of the work of each command.
 use Rattle.std.specs.Prelude.{ℕ, List, Ok, Err}
-use Rattle.mdp_job.specs.Job.{solve, check, drill, horizon, policy, discount, discount_check, Asked}
+use Rattle.mdp_job.specs.Job.{solve, witness, check, drill, horizon, policy, discount, discount_check, Asked}
 use Rattle.mdp_step.specs.Accepted.{IsTrueClaim}
 use Rattle.mdp_solve_step.specs.Solved.{IsSolved}
+use Rattle.mdp_witness_step.specs.Shown.{IsWitnessShown}
 use Rattle.mdp_drill_step.specs.Drilled.{IsDrilled}
 use Rattle.mdp_horizon_step.specs.Shown.{IsHorizonShown}
 use Rattle.mdp_policy_step.specs.Shown.{IsPolicyShown}
@@ -12,6 +13,7 @@ use Rattle.mdp_discount_step.specs.Shown.{IsDiscountSolved}
 -- what is shown of the model's bytes, of those of the second file and of the text, where the work was done. Each command is a case
 abbrev pub IsShown : Asked → List ℕ → List ℕ → List ℕ → Type 0
 IsShown (Ok (solve rule dir query)) model second text = IsSolved rule dir query model text
+IsShown (Ok (witness rule dir label threshold)) model second text = IsWitnessShown rule dir label threshold model text
 IsShown (Ok (check rule)) model second text = IsTrueClaim rule model second
 IsShown (Ok (drill number layers width)) model second text = IsDrilled number layers width text
 IsShown (Ok (horizon rule dir stay label steps)) model second text = IsHorizonShown rule dir stay label steps model text

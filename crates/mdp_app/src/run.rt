@@ -16,6 +16,7 @@ use mdp_job::{Job, MEMORY_TEXT, Refusal, Status, job_of, push_refusal};
 use mdp_num::Memory;
 use mdp_policy_step::policy_file;
 use mdp_solve_step::{solve_file, solve_law};
+use mdp_witness_step::{witness_file, witness_step_law};
 use std::alloc::Global;
 
 /// The answer to the words.
@@ -29,6 +30,14 @@ fn decided<S: Source, C: Source>(
 {
     match job_of(words) {
         Ok(Job::Solve { rule, dir, query }) => solve_file(alloc, rule, dir, query, model),
+        Ok(
+            Job::Witness {
+                rule,
+                dir,
+                label,
+                threshold,
+            },
+        ) => witness_file(alloc, rule, dir, label, threshold, model),
         Ok(Job::Check { rule }) => check_files(alloc, rule, model, second),
         Ok(
             Job::Drill {
@@ -82,6 +91,7 @@ pub fn run<S: Source, C: Source, K: Sink>(
         (output K.taken K.settled K.faults out.old out.new) result }
 {
     solve_law();
+    witness_step_law();
     let answer = decided(alloc, words, model, second);
     written(alloc, answer, out)
 }

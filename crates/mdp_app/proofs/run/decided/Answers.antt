@@ -4,7 +4,7 @@ use Rattle.mdp_job.specs.declared.job.Job.{Job}
 use Rattle.mdp_step.specs.Files.{model_due}
 use Rattle.mdp_app.proofs.Accepting.{check_due_by}
 use Rattle.mdp_app.proofs.Deciding.{refused_words, alone_decided, model_decided, pair_decided, decided_as}
-use Rattle.mdp_app.proofs.InRange.{can_draw_of, is_factor_of}
+use Rattle.mdp_app.proofs.InRange.{can_draw_of, is_factor_of, is_threshold}
 use Rattle.mdp_app.proofs.run.decided.Goals as goal
 
 pub returns-in-Err : goal.returns-in-Err
@@ -14,6 +14,15 @@ pub returns-in-Ok-Solve : goal.returns-in-Ok-Solve
 returns-in-Ok-Solve g c =
     decided_as _ _ _ _ _ (sym (ap (λ (job : Job). let asked : Asked = Ok (plain_job job) in asked) c.in-Ok-Solve.field-0-is) ∙ c.in-Ok-Solve.ensures)
     (model_decided _ _ _ _ _ _ refl refl (λ bytes other said due. due) (λ bytes other text shown. shown) refl refl _ c.solve_file.ensures.read c.solve_file.ensures.end)
+
+pub witness_file-requires : goal.witness_file-requires
+witness_file-requires g c =
+    is_threshold c.args.words.now _ _ _ _ (sym (ap (λ (job : Job). let asked : Asked = Ok (plain_job job) in asked) c.in-Ok-Witness.field-0-is) ∙ c.in-Ok-Witness.ensures)
+
+pub returns-in-Ok-Witness : goal.returns-in-Ok-Witness
+returns-in-Ok-Witness g c =
+    decided_as _ _ _ _ _ (sym (ap (λ (job : Job). let asked : Asked = Ok (plain_job job) in asked) c.in-Ok-Witness.field-0-is) ∙ c.in-Ok-Witness.ensures)
+    (model_decided _ _ _ _ _ _ refl refl (λ bytes other said due. due) (λ bytes other text shown. shown) refl refl _ c.witness_file.ensures.read c.witness_file.ensures.end)
 
 pub returns-in-Ok-Check : goal.returns-in-Ok-Check
 returns-in-Ok-Check g c =
