@@ -21,7 +21,7 @@ import tempfile
 TOP = pathlib.Path(__file__).resolve().parent.parent
 ROWS = TOP / "crates" / "mdp_app" / "data" / "rows"
 PROGRAM = TOP / "out" / "mdp"
-NAMES = ["solve_die", "solve_greatest", "loop_carries_value", "mean_by_chance", "solve_mean_by_chance", "subsystem_flows", "policy_loops"]
+NAMES = ["solve_die", "solve_greatest", "loop_carries_value", "mean_by_chance", "solve_mean_by_chance", "subsystem_flows", "policy_loops", "witness_die", "discount_puterman"]
 
 COUNTER = r"""
 #define _GNU_SOURCE

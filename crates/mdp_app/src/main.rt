@@ -7,6 +7,8 @@
 mod checking;
 #[cfg(test)]
 mod graph_tests;
+#[cfg(test)]
+mod hostile_tests;
 mod laws;
 #[cfg(test)]
 mod library_tests;

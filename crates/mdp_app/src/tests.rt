@@ -9,7 +9,7 @@ use std::fs;
 use std::test::Fail;
 
 /// 0 init: [0 1] [1 1/3, 2 2/3]; 1 goal: [1 1]; 2: [2 1]
-const COIN: &str =
+pub(crate) const COIN: &str =
     "@type: MDP\n@nr_states\n3\n@model\nstate 0 init\naction a\n0 : 1\naction b\n1 : 1/3\n2 : 2/3\nstate 1 goal\naction\n1 : 1\nstate 2\naction\n2 : 1\n";
 
 /// That 1 bounds state 0.
@@ -19,7 +19,7 @@ const UPPER: &str =
 /// The words of a check.
 const CHECK: [&str; 4] = ["check", "MODEL", "exact", "CERT"];
 
-fn source(
+pub(crate) fn source(
     alloc: Global,
     bytes: &[u8],
     chunk: usize,
@@ -29,7 +29,12 @@ fn source(
     Ok(ListSource::new(bytes, chunk.max(1), fails.to_vec(alloc)?))
 }
 
-fn sink(alloc: Global, room: usize, chunk: usize, fails: &[u64]) -> Result<ListSink, AllocError> {
+pub(crate) fn sink(
+    alloc: Global,
+    room: usize,
+    chunk: usize,
+    fails: &[u64],
+) -> Result<ListSink, AllocError> {
     let mut store = Vec::new(alloc);
     for _ in 0..room {
         store.push(0)?;
@@ -38,7 +43,7 @@ fn sink(alloc: Global, room: usize, chunk: usize, fails: &[u64]) -> Result<ListS
 }
 
 /// The words of a command, whose files are given otherwise.
-fn words_of(alloc: Global, command: &[&str]) -> Result<Vec<String>, AllocError> {
+pub(crate) fn words_of(alloc: Global, command: &[&str]) -> Result<Vec<String>, AllocError> {
     let mut words = Vec::new(alloc);
     for word in command {
         words.push(String::from_str(alloc, word)?)?;
