@@ -28,3 +28,7 @@ module _ (dir : Dir) (m : Mdp) (goals : List Bool) (start : ℕ) (threshold : �
 
   pub ends-found : is_at_least (value_at a.values start) threshold ≡ Some true → (r : Result PlainSubsystem Refusal) → FromFirst m goals start threshold dir a r → EndsSo dir m goals start threshold r
   ends-found e r h = ends_by (Some true) r e h
+
+-- a comparison of the value, of another number that is the value
+pub told : (x v threshold : ℚ) → v ≡ x → (o : Option Bool) → is_at_least v threshold ≡ o → is_at_least x threshold ≡ o
+told x v threshold e o h = ap (λ (x : ℚ). is_at_least x threshold) (sym e) ∙ h

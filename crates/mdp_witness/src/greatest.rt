@@ -15,7 +15,6 @@ use crate::listing::{flows_of, listed, marks_at};
 use crate::subsystem::WitnessError;
 use mdp_elim::{ElimError, Kind, Part, TooWide};
 use mdp_farkas::{ReachCert, Verdict};
-
 use mdp_flow::{FlowCert, holds_flow, listed_law, never_no_law};
 use mdp_graph::avoid_law;
 use mdp_num::{Frac, Memory};

@@ -12,7 +12,6 @@ use crate::listing::{listed, marks_at, ranks_at, values_at};
 use crate::subsystem::WitnessError;
 use mdp_elim::{Part, SolveError, TooWide};
 use mdp_farkas::{ReachCert, Verdict};
-
 use mdp_flow::{FloorCert, fewer_law, holds_floor, listed_law};
 use mdp_graph::avoid_law;
 use mdp_num::{Frac, Memory};
@@ -43,13 +42,7 @@ fn floor_cert(alloc: Global, model: &Model, left: &MinLeft) -> Result<FloorCert,
 }
 
 /// A certificate that holds, once it was held against the rules.
-fn held(
-    model: &Model,
-    goals: &Marks,
-    start: u32,
-    threshold: Frac,
-    cert: FloorCert,
-) -> FloorCert
+fn held(model: &Model, goals: &Marks, start: u32, threshold: Frac, cert: FloorCert) -> FloorCert
     requires goals { length goals.now ≡ states_of model.now }
     requires start { start < states_of model.now }
     requires shape { IsFloorShape model.now cert.kept.items cert.wide.items cert.values.items cert.ranks.items }
@@ -59,7 +52,10 @@ fn held(
     match holds_floor(model, goals, start, threshold, &cert) {
         Verdict::Yes => cert,
         Verdict::No(_) => unreachable!(),
-        Verdict::Wide { state: _, choice: _ } => unreachable!(),
+        Verdict::Wide {
+            state: _,
+            choice: _,
+        } => unreachable!(),
     }
 }
 
@@ -68,14 +64,16 @@ fn in_floor(error: SolveError) -> WitnessError
     ensures { result ≡ in_floor error }
 {
     match error {
-        SolveError::TooWide(TooWide {
-            part: _,
-            round,
-            policy,
-            kind,
-            state,
-            choice,
-        }) => WitnessError::TooWide(TooWide {
+        SolveError::TooWide(
+            TooWide {
+                part: _,
+                round,
+                policy,
+                kind,
+                state,
+                choice,
+            },
+        ) => WitnessError::TooWide(TooWide {
             part: Part::Floor,
             round,
             policy,

@@ -12,4 +12,3 @@ mod subsystem;
 pub use laws::witness_law;
 pub use solve::witness;
 pub use subsystem::{Subsystem, WitnessError};
-

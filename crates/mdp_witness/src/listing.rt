@@ -4,7 +4,7 @@ ghost use Rattle.mdp_spec.specs.Mdp.{states_of};
 ghost use Rattle.mdp_flow.specs.Listed.{listed, marks_at, values_at, ranks_at};
 ghost use Rattle.mdp_flow.specs.Visits.{visit_flows};
 
-use mdp_flow::{Flow, FloorCert, FlowCert};
+use mdp_flow::{FloorCert, Flow, FlowCert};
 use mdp_num::{Frac, Memory};
 use mdp_rows::Marks;
 use std::alloc::{AllocError, Global};
@@ -24,7 +24,11 @@ pub(crate) fn listed(alloc: Global, states: u32, marks: &Marks) -> Result<Vec<u3
 }
 
 /// The marks of these states.
-pub(crate) fn marks_at(alloc: Global, marks: &Marks, states: &[u32]) -> Result<Vec<bool>, AllocError>
+pub(crate) fn marks_at(
+    alloc: Global,
+    marks: &Marks,
+    states: &[u32],
+) -> Result<Vec<bool>, AllocError>
     requires { All (λ s. s < length marks.now) states.now }
     ensures { IfOk result (λ list. list.items ≡ marks_at marks.now states.now) }
 {
@@ -36,7 +40,11 @@ pub(crate) fn marks_at(alloc: Global, marks: &Marks, states: &[u32]) -> Result<V
 }
 
 /// The values of these states.
-pub(crate) fn values_at(alloc: Global, values: &[Frac], states: &[u32]) -> Result<Vec<Frac>, AllocError>
+pub(crate) fn values_at(
+    alloc: Global,
+    values: &[Frac],
+    states: &[u32],
+) -> Result<Vec<Frac>, AllocError>
     requires { All (λ s. s < length values.now) states.now }
     ensures { IfOk result (λ list. list.items ≡ values_at values.now states.now) }
 {

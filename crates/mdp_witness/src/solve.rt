@@ -16,9 +16,10 @@ use crate::least::floor_witness;
 use crate::subsystem::{Subsystem, WitnessError};
 use mdp_elim::{Kind, Part, TooWide};
 use mdp_farkas::ReachCert;
+use mdp_graph::avoid_law;
 use mdp_num::{Frac, Wide};
 use mdp_path::path_law;
-use mdp_reach::{ReachEnd, query_law, solve_reach_to_end};
+use mdp_reach::{ReachEnd, solve_reach_to_end};
 use mdp_rows::{Dir, Marks, Model};
 use std::alloc::Global;
 use std::cmp::Ordering;
@@ -97,8 +98,8 @@ pub fn witness(
     ensures below { IfErr result (λ error. IfBelow error (IsBestBelow dir model.now goals.now start threshold)) }
 {
     model.known();
+    avoid_law();
     path_law();
-    query_law();
     witness_law();
     let ReachEnd { cert, round } = solve_reach_to_end(alloc, model, goals, dir)?;
     let value = value_of(&cert.values, start);
