@@ -1,5 +1,5 @@
 -- The certificate of a subsystem that was found is accepted for the model, and so its claim is true.
-use Rattle.std.proofs.Common.{◌≡◌, ℕ, ◌<◌, Bool, true, cond, eqb, List, [], Option, Some, refl, ap, ap₂, ◌∙◌, ◌&&◌, eq-eqb}
+use Rattle.std.proofs.Common.{◌≡◌, ℕ, ◌<◌, Bool, true, cond, List, [], Option, Some, refl, ap, ap₂, ◌∙◌, ◌&&◌, eq-eqb}
 use Rattle.std.specs.Prelude.{option_map}
 use Rattle.mdp_math.specs.Rational.{ℚ}
 use Rattle.mdp_spec.specs.Labels.{place_of, marks_of, initial_of}
@@ -11,7 +11,7 @@ use Rattle.mdp_cert.specs.Cert as certificate
 use Rattle.mdp_cert.specs.Cert.{PlainBody, is_body_of}
 use Rattle.mdp_cert.specs.declared.init.Init.TheVariants.{Start}
 use Rattle.mdp_check.specs.Initial.{init_check, init_fault, is_subsystem}
-use Rattle.mdp_check.specs.Check.{labelled_marks, valid_by, IsAccepted}
+use Rattle.mdp_check.specs.Check.{valid_by, IsAccepted}
 use Rattle.mdp_check.proofs.Shapes.{start_below}
 use Rattle.mdp_witness.specs.Query.{PlainSubsystem, flow, floor}
 use Rattle.mdp_witness.specs.Shown.{HasShape, Holds}

@@ -12,7 +12,7 @@ use Rattle.mdp_step.specs.Said.{Said}
 use Rattle.mdp_witness.specs.Query.{PlainSubsystem, Refusal, below, too_wide, EndsSo}
 use Rattle.mdp_witness.specs.Laws as query
 use Rattle.mdp_witness_step.specs.Certificate.{certificate_of}
-use Rattle.mdp_witness_step.specs.Due.{said_of_end, IsDueAt, IsWitnessDue, IsStepDue}
+use Rattle.mdp_witness_step.specs.Due.{said_of_end, IsDueAt, IsStepDue}
 use Rattle.mdp_witness_step.specs.Laws.{IsBelow}
 use Rattle.mdp_witness_step.specs.Shown.{IsWitnessOf}
 use Rattle.mdp_witness_step.proofs.Accepting.{initial_below}

@@ -1,5 +1,5 @@
 -- The lists of a subsystem that have the shape that its rules ask for fit its claim.
-use Rattle.std.proofs.Common.{◌≡◌, ℕ, zero, suc, ◌<◌, Bool, true, false, eqb, ltb, ◌&&◌, ◌||◌, List, [], ◌∷◌, length, get_or, Option, Some, None, refl, sym, subst, ap, ap₂, arith, eq-eqb, lt-ltb, pos, ℤ, ◌*ℤ◌, int_le, ◌∙◌}
+use Rattle.std.proofs.Common.{◌≡◌, ℕ, suc, ◌<◌, Bool, true, eqb, ◌&&◌, List, [], ◌∷◌, length, get_or, Option, Some, None, refl, sym, subst, ap₂, arith, eq-eqb, lt-ltb, pos, ℤ, ◌*ℤ◌, int_le, ◌∙◌}
 use Rattle.std.specs.List.{All}
 use Rattle.std.proofs.lemmas.List.Elements.{All-head, All-tail}
 use Rattle.mdp_math.specs.Rational.{ℚ, of_int, le_ℚ, ◌≤ℚ◌}
@@ -11,7 +11,7 @@ use Rattle.mdp_rows.specs.declared.dir.Dir.{Dir}
 use Rattle.mdp_spec.specs.Mdp.{Mdp, states_of}
 use Rattle.mdp_flow.specs.declared.flow.Flow.{Flow}
 use Rattle.mdp_flow.specs.Kept.{Ascends}
-use Rattle.mdp_flow.specs.Shape.{is_before, no_flow, FlowsAscend, IsFlowShape, IsFloorShape}
+use Rattle.mdp_flow.specs.Shape.{no_flow, FlowsAscend, IsFlowShape, IsFloorShape}
 use Rattle.mdp_cert.specs.declared.init.Init.TheVariants.{Start}
 use Rattle.mdp_cert.specs.Cert.{witness, is_init_of, is_next, is_next_flow, are_kept, are_flows, is_at_least_zero}
 

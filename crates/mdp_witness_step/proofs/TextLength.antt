@@ -1,5 +1,5 @@
 -- The text of a witness has at most 2^30 bytes: a line for each kept state, and at most one flow for each state.
-use Rattle.std.proofs.Common.{◌≡◌, ℕ, zero, suc, ◌+◌, ◌*◌, ◌<◌, ◌≤◌, ◌^◌, Bool, true, false, cond, eqb, List, [], ◌∷◌, ◌++◌, map, length, get_or, codes, decimal, refl, arith, lit<, ℤ, pos, negsuc, unsigned_abs, subst}
+use Rattle.std.proofs.Common.{◌≡◌, ℕ, zero, suc, ◌+◌, ◌*◌, ◌<◌, ◌≤◌, ◌^◌, Bool, true, false, cond, eqb, List, [], ◌∷◌, ◌++◌, length, get_or, codes, decimal, refl, arith, lit<, ℤ, pos, negsuc, unsigned_abs}
 use Rattle.std.specs.Fmt.{signed_decimal}
 use Rattle.std.specs.List.{All, AllByRecursion as Each, join_with_byte}
 use Rattle.std.proofs.lemmas.Bool.{and_parts, leb-true}
@@ -18,7 +18,7 @@ use Rattle.mdp_flow.specs.Shape.{IsFlowShape, IsFloorShape}
 use Rattle.mdp_cert.specs.declared.init.Init.TheVariants.{Start}
 use Rattle.mdp_cert.specs.Cert.{witness, IsFlowInWidth, Fits}
 use Rattle.mdp_cert.specs.Listed.{Listed}
-use Rattle.mdp_cert.specs.Spelling.{line, ◌␣◌, quoted, dir_text, claim_text, states_text, init_text, head_text, end_text, listed_lines, text_in, text_of}
+use Rattle.mdp_cert.specs.Spelling.{line, ◌␣◌, quoted, dir_text, claim_text, states_text, init_text, head_text, listed_lines, text_in, text_of}
 use Rattle.mdp_cert.specs.Witness.{mark_text, flow_listed, flow_lines, keep_lines, floor_listed, floor_lines}
 use Rattle.mdp_witness.specs.Query.{PlainSubsystem, flow, floor}
 use Rattle.mdp_witness.specs.Shown.{HasShape}

@@ -1,4 +1,4 @@
-use Rattle.std.proofs.Common.{◌<◌, ℕ, sym, subst, arith}
+use Rattle.std.proofs.Common.{arith}
 use Rattle.mdp_rows.specs.declared.dir.Dir.TheVariants.{Min}
 use Rattle.mdp_witness_step.proofs.Fitting.{floor_fits, start_fits, threshold_fits}
 use Rattle.mdp_witness_step.proofs.certificate.floor_certificate_of.Goals as goal

@@ -1,7 +1,7 @@
 use Rattle.std.proofs.Common.{◌≡◌, ℕ, Bool, List, Ok, sym, ap, subst, ◌∙◌, rules}
 use Rattle.mdp_rows.specs.Name.{IsName}
 use Rattle.mdp_rows.specs.declared.dir.Dir.{Dir}
-use Rattle.mdp_cert.specs.Cert.{Certificate, Fits}
+use Rattle.mdp_cert.specs.Cert.{Fits}
 use Rattle.mdp_cert.specs.Plain as cert
 use Rattle.mdp_cert.specs.Spelling.{text_of}
 use Rattle.mdp_spec.specs.Labels.{marks_of}
