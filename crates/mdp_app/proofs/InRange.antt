@@ -17,7 +17,8 @@ use Rattle.mdp_num.specs.declared.errors.NumeralError.{NumeralError}
 use Rattle.mdp_rows.specs.declared.dir.Dir.{Dir}
 use Rattle.mdp_rows.specs.declared.rule.RowRule.{RowRule}
 use Rattle.mdp_discount.specs.Rules.{IsFactor}
-use Rattle.mdp_job.specs.Job.{PlainQuery, solve, witness, check, drill, horizon, policy, discount, discount_check, Asked}
+use Rattle.mdp_app.specs.InRange.{IsInRange, asked_for}
+use Rattle.mdp_job.specs.Job.{PlainQuery, PlainJob, solve, witness, check, drill, horizon, policy, discount, discount_check, Asked}
 use Rattle.mdp_job.specs.Words.{word_at, rule_of, dir_of, check_of, query_of, solve_of, whole_word, can_draw, drill_by, drill_with, drill_of}
 use Rattle.mdp_job.specs.Words.{threshold_by, threshold_of, witness_of, stay_of, steps_of, horizon_of, policy_of, below_one, factor_of, discount_of, discount_check_of, job_of_texts, job_of}
 use Rattle.mdp_job.specs.declared.words_error.WordsError.{WordsError}
@@ -59,18 +60,6 @@ unfolding numeral_of
 threshold_is word t e = threshold_least (numeral_of word) (value-least (terms_of (parts_of word))) t e
 
 -- ---- words
-
--- where a drill is asked for, its numbers can be drawn; where discounted rewards are, the factor is one; where a witness is, its threshold is at least 0
-abbrev pub IsInRange : Asked → Type 0
-IsInRange (Ok (solve rule dir query)) = Unit {0}
-IsInRange (Ok (witness rule dir label threshold)) = 0ℚ ≤ℚ threshold
-IsInRange (Ok (check rule)) = Unit {0}
-IsInRange (Ok (drill number layers width)) = can_draw number layers width ≡ true
-IsInRange (Ok (horizon rule dir stay label steps)) = Unit {0}
-IsInRange (Ok (policy rule label)) = Unit {0}
-IsInRange (Ok (discount rule dir name factor)) = IsFactor factor
-IsInRange (Ok (discount_check rule)) = Unit {0}
-IsInRange (Err e) = Unit {0}
 
 either : (b : Bool) (x y : Asked) → IsInRange x → IsInRange y → IsInRange (cond b x y)
 either true x y p q = p
@@ -140,14 +129,9 @@ texts_in_range (command ∷ words) =
     either (bytes_eq command (codes "policy")) (policy_of words) _ (policy_in_range words) (either (bytes_eq command (codes "discount")) (discount_of words) _ (discount_in_range words) (
     either (bytes_eq command (codes "discount-check")) (discount_check_of words) (Err Command) (discount_check_in_range words) tt)))))))
 
-drawn : (words : List (String Global)) (number layers width : ℕ) → Ok (drill number layers width) ≡ job_of words → can_draw number layers width ≡ true
-drawn words number layers width is = subst IsInRange (sym is) (texts_in_range (map string_bytes words))
-
-pub is_factor_of : (words : List (String Global)) (rule : RowRule) (dir : Dir) (name : List ℕ) (f : ℚ) → Ok (discount rule dir name f) ≡ job_of words → IsFactor f
-is_factor_of words rule dir name f is = subst IsInRange (sym is) (texts_in_range (map string_bytes words))
-
-pub is_threshold : (words : List (String Global)) (rule : RowRule) (dir : Dir) (label : List ℕ) (t : ℚ) → Ok (witness rule dir label t) ≡ job_of words → 0ℚ ≤ℚ t
-is_threshold words rule dir label t is = subst IsInRange (sym is) (texts_in_range (map string_bytes words))
+-- a job that words ask for
+pub in_range_of : (words : List (String Global)) (job : PlainJob) → asked_for job ≡ job_of words → IsInRange (asked_for job)
+in_range_of words job is = subst IsInRange (sym is) (texts_in_range (map string_bytes words))
 
 -- ---- the numbers of a drill
 
@@ -168,9 +152,9 @@ not_past n m e = ltb-false m n (by (nat_lt m n) e)
     by true h = cc h
     by false h = refl
 
-pub can_draw_of : (words : List (String Global)) (number layers width : ℕ) → Ok (drill number layers width) ≡ job_of words → CanDraw layers width
-can_draw_of words number layers width is =
-    let a = and_parts (nat_lt number (2 ^ 64)) _ (drawn words number layers width is) in
+pub can_draw_of : (number layers width : ℕ) → can_draw number layers width ≡ true → CanDraw layers width
+can_draw_of number layers width can =
+    let a = and_parts (nat_lt number (2 ^ 64)) _ can in
     let b = and_parts (nat_lt 0 layers) _ a.1 in
     let c = and_parts (not (nat_lt 100 layers)) _ b.1 in
     let d = and_parts (nat_lt 0 width) _ c.1 in

@@ -4,3 +4,4 @@ pub mod Written
 pub mod Run
 pub mod Decided
 pub mod Laws
+pub mod InRange

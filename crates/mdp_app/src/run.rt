@@ -1,11 +1,13 @@
 ghost use Rattle.std.specs.Prelude.{◌≡◌, Err};
 ghost use Rattle.mdp_job.specs.Refusal.{plain_refusal};
+ghost use Rattle.mdp_job.specs.Job.{plain_job};
 ghost use Rattle.mdp_job.specs.Words.{job_of};
 ghost use Rattle.mdp_step.specs.Said.{said};
 ghost use Rattle.mdp_step.specs.Streams.{input, output};
 ghost use Rattle.mdp_app.specs.Written.{WroteText};
 ghost use Rattle.mdp_app.specs.Run.{IsAnswered, IsWorkDone, IsComplete};
 ghost use Rattle.mdp_app.specs.Decided.{IsDecided, EndsWith};
+ghost use Rattle.mdp_app.specs.InRange.{IsInRange, asked_for};
 
 use crate::checking::check_files;
 use mdp_discount_step::{discount_check_files, discount_file};
@@ -19,6 +21,48 @@ use mdp_solve_step::{solve_file, solve_law};
 use mdp_witness_step::{witness_file, witness_step_law};
 use std::alloc::Global;
 
+/// The answer to a job, whose numbers are in range.
+fn answer_to<S: Source, C: Source>(
+    alloc: Global,
+    job: Job<'_>,
+    model: &mut S,
+    second: &mut C,
+) -> Result<Vec<u8>, Refusal>
+    requires { IsInRange (asked_for (plain_job job.entry)) }
+    ensures { IsDecided (asked_for (plain_job job.entry)) (input S.left S.faults model.old model.new) (input C.left C.faults second.old second.new) (said result) }
+{
+    match job {
+        Job::Solve { rule, dir, query } => solve_file(alloc, rule, dir, query, model),
+        Job::Witness {
+            rule,
+            dir,
+            label,
+            threshold,
+        } => witness_file(alloc, rule, dir, label, threshold, model),
+        Job::Check { rule } => check_files(alloc, rule, model, second),
+        Job::Drill {
+            number,
+            layers,
+            width,
+        } => drill(alloc, number, layers, width),
+        Job::Horizon {
+            rule,
+            dir,
+            stay,
+            label,
+            steps,
+        } => horizon_file(alloc, rule, dir, stay, label, steps, model),
+        Job::Policy { rule, label } => policy_file(alloc, rule, label, model, second),
+        Job::Discount {
+            rule,
+            dir,
+            name,
+            factor,
+        } => discount_file(alloc, rule, dir, name, factor, model),
+        Job::DiscountCheck { rule } => discount_check_files(alloc, rule, model, second),
+    }
+}
+
 /// The answer to the words.
 fn decided<S: Source, C: Source>(
     alloc: Global,
@@ -29,42 +73,7 @@ fn decided<S: Source, C: Source>(
     ensures { IsDecided (job_of words.now) (input S.left S.faults model.old model.new) (input C.left C.faults second.old second.new) (said result) }
 {
     match job_of(words) {
-        Ok(Job::Solve { rule, dir, query }) => solve_file(alloc, rule, dir, query, model),
-        Ok(
-            Job::Witness {
-                rule,
-                dir,
-                label,
-                threshold,
-            },
-        ) => witness_file(alloc, rule, dir, label, threshold, model),
-        Ok(Job::Check { rule }) => check_files(alloc, rule, model, second),
-        Ok(
-            Job::Drill {
-                number,
-                layers,
-                width,
-            },
-        ) => drill(alloc, number, layers, width),
-        Ok(
-            Job::Horizon {
-                rule,
-                dir,
-                stay,
-                label,
-                steps,
-            },
-        ) => horizon_file(alloc, rule, dir, stay, label, steps, model),
-        Ok(Job::Policy { rule, label }) => policy_file(alloc, rule, label, model, second),
-        Ok(
-            Job::Discount {
-                rule,
-                dir,
-                name,
-                factor,
-            },
-        ) => discount_file(alloc, rule, dir, name, factor, model),
-        Ok(Job::DiscountCheck { rule }) => discount_check_files(alloc, rule, model, second),
+        Ok(job) => answer_to(alloc, job, model, second),
         Err(error) => Err(Refusal::Words(error)),
     }
 }

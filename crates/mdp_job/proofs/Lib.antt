@@ -2,4 +2,3 @@ mod Examples
 mod Factors
 mod Numbers
 mod WideText
-pub mod Thresholds

@@ -1,0 +1,22 @@
+-- The numbers of a job, which words give in range.
+use Rattle.std.specs.Prelude.{◌≡◌, ℕ, true, Ok, Err, pos}
+use Rattle.mdp_math.specs.Rational.{of_int, ◌≤ℚ◌}
+use Rattle.mdp_discount.specs.Rules.{IsFactor}
+use Rattle.mdp_job.specs.Job.{PlainJob, solve, witness, check, drill, horizon, policy, discount, discount_check, Asked}
+use Rattle.mdp_job.specs.Words.{can_draw}
+
+-- the numbers of a drill can be drawn, the factor of discounted rewards is from 0 on and below 1, and the threshold of a witness is at least 0
+abbrev pub IsInRange : Asked → Type 0
+IsInRange (Ok (solve rule dir query)) = Unit {0}
+IsInRange (Ok (witness rule dir label threshold)) = of_int (pos 0) ≤ℚ threshold
+IsInRange (Ok (check rule)) = Unit {0}
+IsInRange (Ok (drill number layers width)) = can_draw number layers width ≡ true
+IsInRange (Ok (horizon rule dir stay label steps)) = Unit {0}
+IsInRange (Ok (policy rule label)) = Unit {0}
+IsInRange (Ok (discount rule dir name factor)) = IsFactor factor
+IsInRange (Ok (discount_check rule)) = Unit {0}
+IsInRange (Err e) = Unit {0}
+
+-- what words that are this job ask for
+abbrev pub asked_for : PlainJob → Asked
+asked_for job = Ok job
