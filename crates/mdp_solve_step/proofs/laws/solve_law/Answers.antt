@@ -1,7 +1,5 @@
-use Rattle.std.proofs.Common.{Result, Ok, Err, IfOk, refl}
-use Rattle.mdp_spec.specs.Mdp.{Mdp}
+use Rattle.std.proofs.Common.{refl}
 use Rattle.mdp_rows.specs.Limits.{IsModel}
-use Rattle.mdp_job.specs.Refusal.{PlainRefusal}
 use Rattle.mdp_step.specs.Files.{model_due}
 use Rattle.mdp_solve_step.proofs.Solved.{model_of, read_model, solve_once, text_is_answer, reward_text_is_answer, mean_text_is_answer}
 use Rattle.mdp_solve_step.proofs.laws.solve_law.Goals as goal
