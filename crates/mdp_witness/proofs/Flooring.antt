@@ -1,5 +1,5 @@
 -- The certificate of what the trials for the least probability leave.
-use Rattle.std.proofs.Common.{◌≡◌, ℕ, ◌<◌, inl, inr, ⊎_elim, Bool, true, false, ◌||◌, List, length, get_or, Option, Some, None, option_map, Result, Ok, Err, refl, sym, ◌∙◌, ap, subst}
+use Rattle.std.proofs.Common.{◌≡◌, ℕ, ◌<◌, ⊎_elim, Bool, true, false, ◌||◌, List, length, Option, Some, option_map, Ok, refl, sym, ◌∙◌, ap, subst}
 use Rattle.std.specs.Prelude.{replicate}
 use Rattle.std.specs.Option.{IsSome}
 use Rattle.std.specs.declared.cmp.Ordering.{Ordering}
@@ -19,9 +19,7 @@ use Rattle.mdp_spec.proofs.Subsystem.{sub-states, sub_is_mdp}
 use Rattle.mdp_rows.specs.declared.dir.Dir.TheVariants.{Min}
 use Rattle.mdp_graph.specs.Laws.{RestMeets}
 use Rattle.mdp_path.specs.Laws.{EndsAtBest}
-use Rattle.mdp_path.specs.Queries.{WideTerm}
 use Rattle.mdp_farkas.specs.Compare.{not_less, is_at_least}
-use Rattle.mdp_farkas.specs.Reach.{IsReach}
 use Rattle.mdp_farkas.specs.Verdict.{verdict_of, InWidth}
 use Rattle.mdp_farkas.specs.declared.verdict.Verdict.{Verdict}
 use Rattle.mdp_farkas.specs.declared.verdict.Verdict.TheVariants.{Yes}
@@ -39,7 +37,7 @@ use Rattle.mdp_trials.specs.Laws.{LeastFirstReaches, MinKeptIsFloor}
 use Rattle.mdp_trials.specs.Trial.{AreLeft}
 use Rattle.mdp_trials.proofs.Left.{left_by}
 use Rattle.mdp_trials.proofs.Lengths.{sized}
-use Rattle.mdp_witness.specs.Query.{PlainSubsystem, flow, floor, Refusal, floor_of, verdict_on, FloorHeld, FromFirst}
+use Rattle.mdp_witness.specs.Query.{PlainSubsystem, flow, floor, floor_of, verdict_on, FloorHeld, FromFirst}
 use Rattle.mdp_witness.proofs.InWidth.{floor_in_width}
 use Rattle.mdp_witness.proofs.Passing.{same_answer}
 

@@ -1,16 +1,13 @@
 -- The certificate of what the trials for the greatest probability leave.
-use Rattle.std.proofs.Common.{◌≡◌, ℕ, ◌<◌, Bool, true, false, List, length, Option, Some, None, Result, Ok, Err, refl, sym, ◌∙◌, ap, subst}
+use Rattle.std.proofs.Common.{◌≡◌, ℕ, ◌<◌, Bool, List, Result, Ok, Err, sym, subst}
 use Rattle.mdp_math.specs.Rational.{ℚ, ◌≤ℚ◌}
 use Rattle.mdp_spec.specs.Mdp.{Mdp, states_of, value_at}
 use Rattle.mdp_spec.specs.Row.{IsMdp}
 use Rattle.mdp_spec.specs.Rules.{MeetsReachMax}
 use Rattle.mdp_rows.specs.declared.dir.Dir.TheVariants.{Max}
-use Rattle.mdp_farkas.specs.Verdict.{verdict_of}
 use Rattle.mdp_flow.specs.Flow.{MeetsFlow}
-use Rattle.mdp_flow.specs.FlowChecks.{flow_checks}
 use Rattle.mdp_flow.specs.Kept.{kept_marks}
 use Rattle.mdp_flow.specs.Laws.{ListedAreMarks, ListedFlowShape}
-use Rattle.mdp_flow.specs.Listed.{listed, marks_at}
 use Rattle.mdp_flow.specs.Shape.{IsFlowShape}
 use Rattle.mdp_flow.specs.Visits.{visit_flows}
 use Rattle.mdp_flow.specs.declared.flow.Flow.{Flow}

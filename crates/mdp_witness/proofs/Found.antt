@@ -1,5 +1,5 @@
 -- How a subsystem was found: the query of the model, its first set, and what the trials left.
-use Rattle.std.proofs.Common.{◌≡◌, ℕ, Bool, true, false, List, Option, Some, None, Result, Ok, Err, refl, sym}
+use Rattle.std.proofs.Common.{◌≡◌, ℕ, Bool, true, false, List, Option, Some, None, Result, Ok, Err, refl}
 use Rattle.mdp_math.specs.Rational.{ℚ}
 use Rattle.mdp_spec.specs.Mdp.{Mdp, value_at}
 use Rattle.mdp_rows.specs.declared.dir.Dir.{Dir}
@@ -11,11 +11,10 @@ use Rattle.mdp_farkas.specs.declared.verdict.Verdict.TheVariants.{Yes, No, Wide}
 use Rattle.mdp_reach.specs.Query.{Answer}
 use Rattle.mdp_reach.specs.Query as reach
 use Rattle.mdp_reach.specs.Round.{EndsWithRound}
-use Rattle.mdp_trials.specs.First.{IsFirst}
 use Rattle.mdp_trials.specs.Evaluation.{Visited, visited, Visits, visited_value}
 use Rattle.mdp_trials.specs.LeastEvaluation.{Evaluates, value_from}
 use Rattle.mdp_trials.specs.Trial.{AreLeft}
-use Rattle.mdp_witness.specs.Query.{PlainSubsystem, Refusal, below, too_wide, flow_of, floor_of, verdict_on, FlowHeld, FloorHeld, AfterMaxTrials, AfterVisits, AfterMinTrials, AfterFirstQuery, FromFirst}
+use Rattle.mdp_witness.specs.Query.{PlainSubsystem, Refusal, below, flow_of, floor_of, verdict_on, FlowHeld, FloorHeld, AfterVisits, AfterFirstQuery, FromFirst}
 use Rattle.mdp_witness.specs.Query.{AfterComparison, AfterWhole, EndsSo}
 
 module _ (m : Mdp) (goals : List Bool) (start : ℕ) (threshold : ℚ) where

@@ -5,10 +5,9 @@ use Rattle.std.specs.List.{Any}
 use Rattle.std.specs.Option.{IsSome}
 use Rattle.std.proofs.lemmas.Bool.{cases_Bool}
 use Rattle.std.proofs.lemmas.List.{get_or-map}
-use Rattle.std.proofs.lemmas.List.Elements.{All-from_recursion, recursion_from_All}
-use Rattle.mdp_math.specs.Rational.{ℚ, of_int, lt_ℚ, ◌≤ℚ◌, ◌<ℚ◌}
+use Rattle.std.proofs.lemmas.List.Elements.{recursion_from_All}
+use Rattle.mdp_math.specs.Rational.{ℚ, of_int, lt_ℚ}
 use Rattle.mdp_math.specs.Written.{◌>>=◌, written_add, written_mul}
-use Rattle.mdp_math.proofs.Kernel.{All-head, All-tail}
 use Rattle.mdp_math.proofs.Order.{0ℚ, 1ℚ, ≤ℚ_antisymm, ≤ℚ_or_gt}
 use Rattle.mdp_spec.specs.Mdp.{Entry, Choice, Mdp, no_choice, states_of, choices_at, row_at, value_at}
 use Rattle.mdp_spec.specs.Row.{IsMdp}
@@ -24,11 +23,10 @@ use Rattle.mdp_farkas.specs.Reach.{value_checks, policy_check, rank_checks, reac
 use Rattle.mdp_farkas.specs.Upper.{goal_check}
 use Rattle.mdp_farkas.specs.Verdict.{InWidth, at_choices}
 use Rattle.mdp_farkas.proofs.Holds.{Each, each_append, each_left, each_flat, each_flat_at, each_map, each_map_at, each_if, each_if_false}
-use Rattle.mdp_flow.specs.Floor.{counted_value}
 use Rattle.mdp_flow.specs.FloorChecks as floor
 use Rattle.mdp_flow.specs.FloorChecks.{spread_values, line_value, line_rank, line_values, cover_check, rank_check, fall_check, line_checks, checks_of_line, each_line, start_check, floor_checks}
 use Rattle.mdp_flow.specs.FlowChecks.{kept_check}
-use Rattle.mdp_flow.specs.Kept.{is_listed, kept_marks}
+use Rattle.mdp_flow.specs.Kept.{kept_marks}
 use Rattle.mdp_flow.specs.Listed.{listed, values_at, ranks_at}
 use Rattle.mdp_flow.proofs.Counted.{line_values-at}
 use Rattle.mdp_flow.proofs.Floors.{as_kept, as_neither}

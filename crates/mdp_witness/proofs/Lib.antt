@@ -9,3 +9,4 @@ pub mod Found
 pub mod Showing
 pub mod ByDirection
 pub mod OneEnd
+mod Examples

@@ -1,5 +1,5 @@
 -- The query of a witness has one end at most.
-use Rattle.std.proofs.Common.{◌≡◌, ℕ, ◌<◌, Bool, true, false, List, length, Option, Some, None, Result, Ok, Err, refl, sym, ◌∙◌, ap, subst, arith}
+use Rattle.std.proofs.Common.{◌≡◌, ℕ, ◌<◌, Bool, true, false, List, Option, Some, None, Result, Ok, Err, sym, ◌∙◌, ap, subst, arith}
 use Rattle.std.proofs.lemmas.List.{ext_get_or}
 use Rattle.mdp_math.specs.Rational.{ℚ}
 use Rattle.mdp_math.proofs.Booleans.{same_truth}
@@ -17,9 +17,8 @@ use Rattle.mdp_reach.specs.Query.{Answer}
 use Rattle.mdp_trials.specs.First.{IsFirst}
 use Rattle.mdp_trials.specs.Evaluation.{Visited, visited}
 use Rattle.mdp_trials.specs.Laws.{VisitsLeaveOne, ValuesLeaveOne}
-use Rattle.mdp_witness.specs.Query.{PlainSubsystem, Refusal, flow_of, floor_of, verdict_on, FlowHeld, FloorHeld, AfterMaxTrials, AfterVisits, AfterMinTrials, AfterFirstQuery, AfterFirst, FromFirst}
+use Rattle.mdp_witness.specs.Query.{PlainSubsystem, Refusal, flow_of, floor_of, verdict_on, FlowHeld, FloorHeld, AfterVisits, AfterFirstQuery, AfterFirst, FromFirst}
 use Rattle.mdp_witness.specs.Query.{AfterComparison, AfterWhole, EndsSo}
-use Rattle.mdp_witness.specs.Laws.{HasOneEnd}
 
 -- there is one first set
 one_first : (dir : Dir) (m : Mdp) (goals : List Bool) (z : List ℚ) (policy : List ℕ) (start : ℕ) (first other : List Bool)

@@ -1,5 +1,5 @@
 -- What a subsystem that was found shows.
-use Rattle.std.proofs.Common.{◌≡◌, ℕ, ◌<◌, Bool, true, false, List, length, get_or, Option, Some, None, option_map, Result, Ok, Err, refl, sym, ◌∙◌, ap, subst}
+use Rattle.std.proofs.Common.{◌≡◌, ℕ, ◌<◌, Bool, true, false, List, length, get_or, Option, Some, None, option_map, Ok, Err, refl, sym, ◌∙◌, subst}
 use Rattle.std.specs.declared.cmp.Ordering.{Ordering}
 use Rattle.std.specs.declared.cmp.Ordering.TheVariants.{Less, Equal, Greater}
 use Rattle.std.proofs.lemmas.List.{get_or-map}
@@ -10,14 +10,13 @@ use Rattle.mdp_math.proofs.Written.{written_compare-some}
 use Rattle.mdp_spec.specs.Bounds.{SubMax, SubMin}
 use Rattle.mdp_spec.specs.Mdp.{Mdp, states_of, value_at}
 use Rattle.mdp_spec.specs.Row.{IsMdp}
-use Rattle.mdp_spec.specs.Rules.{MeetsReachMax, MeetsReachMin}
-use Rattle.mdp_spec.specs.Sub.{sub_of, policy_on}
+use Rattle.mdp_spec.specs.Rules.{MeetsReachMax}
+use Rattle.mdp_spec.specs.Sub.{policy_on}
 use Rattle.mdp_spec.specs.Tree.{is_marked}
 use Rattle.mdp_rows.specs.declared.dir.Dir.{Dir}
 use Rattle.mdp_rows.specs.declared.dir.Dir.TheVariants.{Max, Min}
-use Rattle.mdp_farkas.specs.Compare.{not_less, is_at_least}
+use Rattle.mdp_farkas.specs.Compare.{not_less}
 use Rattle.mdp_farkas.specs.Verdict.{verdict_of}
-use Rattle.mdp_farkas.specs.declared.verdict.Verdict.TheVariants.{Yes}
 use Rattle.mdp_farkas.proofs.Comparing.{le_of_at_least}
 use Rattle.mdp_flow.specs.FlowChecks.{flow_checks, HoldsFlow}
 use Rattle.mdp_flow.specs.FloorChecks.{floor_checks, HoldsFloor, spread_values, spread_ranks}
@@ -34,7 +33,6 @@ use Rattle.mdp_flow.proofs.Kept.{listed-at}
 use Rattle.mdp_flow.proofs.Listed.{listed-in_range, is_listed-listed}
 use Rattle.mdp_reach.specs.Laws.{HasOneEnd, AnswersMeetRules, AnswersAreGreatest, AnswersAreLeast}
 use Rattle.mdp_reach.specs.Query.{Answer, EndsSo}
-use Rattle.mdp_trials.specs.First.{IsFirst}
 use Rattle.mdp_trials.specs.Evaluation.{visited}
 use Rattle.mdp_trials.specs.Laws.{MaxKeptIsFlow, MaxKeptAreNeeded, MinKeptAreNeeded}
 use Rattle.mdp_trials.specs.Trial.{without}
@@ -180,17 +178,17 @@ less_of x y (Some Equal) e h = cc
 less_of x y (Some Greater) e h = cc
 
 best : (dir : Dir) (m : Mdp) (goals : List Bool) (a : Answer) → IsMdp m → EndsSo dir m goals (Ok a) → AnswersAreGreatest → AnswersAreLeast → IsBest dir m goals a.values a.choices
-best Max m goals a known_ solved greatest least = greatest m goals a known_ solved
-best Min m goals a known_ solved greatest least = least m goals a known_ solved
+best Max m goals a known_ solved most fewest = most m goals a known_ solved
+best Min m goals a known_ solved most fewest = fewest m goals a known_ solved
 
 pub below-best : (dir : Dir) (m : Mdp) (goals : List Bool) (start : ℕ) (threshold v : ℚ) → IsMdp m → query.EndsSo dir m goals start threshold (Err (query.below v)) → AnswersAreGreatest → AnswersAreLeast
     → IsBestBelow dir m goals start threshold v
-below-best dir m goals start threshold v known_ end greatest least =
+below-best dir m goals start threshold v known_ end most fewest =
     let b = is-below m goals start threshold dir v end in
     record {
       values = b.answer.values;
       policy = b.answer.choices;
-      best = best dir m goals b.answer known_ b.solved greatest least;
+      best = best dir m goals b.answer known_ b.solved most fewest;
       value = b.value;
       less = subst (λ (x : ℚ). x <ℚ threshold) (sym b.value) (less_of (value_at b.answer.values start) threshold (written_compare (value_at b.answer.values start) threshold) refl b.less);
     }

@@ -1,5 +1,5 @@
 -- What the trials leave has one entry for each state.
-use Rattle.std.proofs.Common.{◌≡◌, ℕ, ◌<◌, ◌≤◌, ⊎_elim, Bool, true, false, true≢false, List, length, get_or, Result, Ok, Err, refl, sym, ◌∙◌, ap, arith, pos, if◌then◌else◌}
+use Rattle.std.proofs.Common.{◌≡◌, ℕ, ◌<◌, ⊎_elim, Bool, true, false, true≢false, List, length, get_or, Result, Ok, refl, sym, ◌∙◌, ap, arith, pos, if◌then◌else◌}
 use Rattle.std.specs.Prelude.{replicate}
 use Rattle.std.proofs.lemmas.Bool.{cases_lt, cases_Bool}
 use Rattle.std.proofs.lemmas.List.{get_or_past, length-replicate}
@@ -10,7 +10,6 @@ use Rattle.mdp_spec.specs.Row.{IsMdp}
 use Rattle.mdp_spec.specs.Rules.{MeetsReachMax}
 use Rattle.mdp_spec.specs.Tree.{is_marked}
 use Rattle.mdp_rows.specs.declared.dir.Dir.TheVariants.{Max}
-use Rattle.mdp_elim.specs.Laws.{LeavingChain}
 use Rattle.mdp_elim.specs.System.{Leaves}
 use Rattle.mdp_elim.specs.Visits.{written_visits}
 use Rattle.mdp_elim.proofs.OneSolution.{gives_visits}

@@ -1,4 +1,4 @@
-use Rattle.std.proofs.Common.{◌≡◌, ◌<◌, ℕ, List, Bool, length, All, sym, ◌∙◌, subst}
+use Rattle.std.proofs.Common.{length, ◌∙◌}
 use Rattle.mdp_spec.specs.Mdp.{states_of}
 use Rattle.mdp_witness.proofs.OneMore.{within}
 use Rattle.mdp_witness.proofs.greatest.flow_cert.Goals as goal

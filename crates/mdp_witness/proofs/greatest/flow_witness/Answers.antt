@@ -1,5 +1,4 @@
-use Rattle.std.proofs.Common.{refl, sym, ◌∙◌, ap, subst, length, List, ℕ}
-use Rattle.mdp_spec.specs.Tree.{IsPolicy}
+use Rattle.std.proofs.Common.{refl, ◌∙◌, ap, length, List}
 use Rattle.mdp_spec.specs.Mdp.{value_at}
 use Rattle.mdp_math.specs.Rational.{ℚ}
 use Rattle.mdp_rows.specs.declared.dir.Dir.TheVariants.{Max}

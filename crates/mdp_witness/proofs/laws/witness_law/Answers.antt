@@ -1,6 +1,5 @@
-use Rattle.std.proofs.Common.{Ok, subst, sym}
+use Rattle.std.proofs.Common.{Ok, subst}
 use Rattle.mdp_rows.specs.declared.dir.Dir.{Dir}
-use Rattle.mdp_rows.specs.declared.dir.Dir.TheVariants.{Max, Min}
 use Rattle.mdp_witness.specs.Query.{EndsSo}
 use Rattle.mdp_witness.proofs.OneEnd.{one_query_end}
 use Rattle.mdp_witness.proofs.Showing.{reaches-max, policy-max, needed-max, reaches-min, needed-min, below-best}

@@ -1,4 +1,4 @@
-use Rattle.std.proofs.Common.{refl, sym, ◌∙◌, ap, subst, length, Ok, List, ℕ}
+use Rattle.std.proofs.Common.{sym, ◌∙◌, ap, subst, length, Ok}
 use Rattle.mdp_rows.specs.declared.dir.Dir.TheVariants.{Min}
 use Rattle.mdp_flow.specs.declared.floor.FloorCert.{FloorCert}
 use Rattle.mdp_reach.specs.Query.{plain}

@@ -1,6 +1,6 @@
-use Rattle.std.proofs.Common.{◌≡◌, ◌<◌, ◌∙◌, ℕ, List, Bool, Option, Some, None, true, false, Ok, length, sym, ap, subst}
+use Rattle.std.proofs.Common.{◌≡◌, ◌<◌, ◌∙◌, ℕ, List, Bool, Some, None, true, false, length, sym, ap, subst}
 use Rattle.mdp_math.specs.Rational.{ℚ}
-use Rattle.mdp_spec.specs.Mdp.{states_of, value_at}
+use Rattle.mdp_spec.specs.Mdp.{value_at}
 use Rattle.mdp_spec.specs.Bounds.{SubMax, SubMin}
 use Rattle.mdp_farkas.specs.Compare.{is_at_least}
 use Rattle.mdp_reach.specs.Query as reach
