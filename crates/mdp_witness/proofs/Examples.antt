@@ -108,7 +108,8 @@ unfolding gcd gcd_with_fuel ratio of_int lt_ℚ
 not_the_threshold h = let e : three_quarters ≡ ratio (pos 7) 8 = cc in let f : true ≡ false = ap (λ (x : ℚ). lt_ℚ x (ratio (pos 7) 8)) e in cc
 
 -- terms past width: in the comparison of the value at 0 in round 2, in the visits of state 1, in the check at the flow of state 0, and in the query of a subsystem
-wide_comparison : AfterComparison five goals 0 half Max 2 at_most None (no_subsystem (too_wide (record { part = part.Whole; number = 2; policy = best; kind = Compare; state = Some 0; choice = None })))
+wide_comparison :
+    AfterComparison five goals 0 half Max 2 at_most None (no_subsystem (too_wide (record { part = part.Whole; number = 2; policy = best; kind = Compare; state = Some 0; choice = None })))
 wide_comparison = refl
 
 wide_visits : visiting worst 0 ≡ (record { part = part.Flow; number = 0; policy = worst; kind = Evaluate; state = Some 0; choice = Some 1 })

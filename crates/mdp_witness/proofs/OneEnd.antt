@@ -40,7 +40,8 @@ module _ (m : Mdp) (goals : List Bool) (start : ℕ) (threshold : ℚ) (r q : Re
   one_floor x (Wide state choice) a b = absurd a
   one_floor x (No fault) a b = absurd a
 
-  one_visits : (policy : List ℕ) (first : List Bool) (v : Result Visited ℕ) → VisitsLeaveOne → AfterVisits m goals start threshold policy first v r → AfterVisits m goals start threshold policy first v q → q ≡ r
+  one_visits : (policy : List ℕ) (first : List Bool) (v : Result Visited ℕ) → VisitsLeaveOne
+      → AfterVisits m goals start threshold policy first v r → AfterVisits m goals start threshold policy first v q → q ≡ r
   one_visits policy first (Err s) one a b = b ∙ sym a
   one_visits policy first (Ok v) one a b =
       let same = one m goals policy start threshold first b.kept b.wide b.last a.kept a.wide a.last b.left a.left in

@@ -181,7 +181,8 @@ best : (dir : Dir) (m : Mdp) (goals : List Bool) (a : Answer) → IsMdp m → En
 best Max m goals a known_ solved most fewest = most m goals a known_ solved
 best Min m goals a known_ solved most fewest = fewest m goals a known_ solved
 
-pub below-best : (dir : Dir) (m : Mdp) (goals : List Bool) (start : ℕ) (threshold v : ℚ) → IsMdp m → query.EndsSo dir m goals start threshold (Err (query.below v)) → AnswersAreGreatest → AnswersAreLeast
+pub below-best : (dir : Dir) (m : Mdp) (goals : List Bool) (start : ℕ) (threshold v : ℚ) → IsMdp m
+    → query.EndsSo dir m goals start threshold (Err (query.below v)) → AnswersAreGreatest → AnswersAreLeast
     → IsBestBelow dir m goals start threshold v
 below-best dir m goals start threshold v known_ end most fewest =
     let b = is-below m goals start threshold dir v end in
