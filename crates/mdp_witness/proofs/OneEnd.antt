@@ -21,7 +21,7 @@ use Rattle.mdp_witness.specs.Query.{PlainSubsystem, Refusal, flow_of, floor_of, 
 use Rattle.mdp_witness.specs.Query.{AfterComparison, AfterWhole, EndsSo}
 
 -- there is one first set
-one_first : (dir : Dir) (m : Mdp) (goals : List Bool) (z : List ℚ) (policy : List ℕ) (start : ℕ) (first other : List Bool)
+pub one_first : (dir : Dir) (m : Mdp) (goals : List Bool) (z : List ℚ) (policy : List ℕ) (start : ℕ) (first other : List Bool)
     → IsFirst dir m goals z policy start first → IsFirst dir m goals z policy start other → other ≡ first
 one_first dir m goals z policy start first other a b =
     ext_get_or false other first (b.one_each ∙ sym a.one_each)
