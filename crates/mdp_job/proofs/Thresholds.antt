@@ -1,5 +1,5 @@
 -- A threshold that words give is at least 0.
-use Rattle.std.proofs.Common.{◌≡◌, ℕ, Bool, true, false, cond, IfOk, refl, ap, ◌∙◌, List, [], ◌∷◌, map, length, eqb, ltb, Option, Some, None, Result, Ok, Err, sym, subst, pos}
+use Rattle.std.proofs.Common.{◌≡◌, ℕ, Bool, true, false, cond, IfOk, refl, ap, ◌∙◌, List, [], ◌∷◌, map, length, eqb, ltb, Option, Some, None, Result, Ok, Err, subst, pos}
 use Rattle.std.specs.Prelude.{codes}
 use Rattle.std.specs.Global.{Global}
 use Rattle.std.specs.declared.string.String.{String}
@@ -14,9 +14,9 @@ use Rattle.mdp_num.specs.declared.errors.NumeralError.{NumeralError}
 use Rattle.mdp_num.proofs.Meaning.{terms-all_within, value-within}
 use Rattle.mdp_rows.specs.declared.dir.Dir.{Dir}
 use Rattle.mdp_rows.specs.declared.rule.RowRule.{RowRule}
-use Rattle.mdp_job.specs.Job.{PlainJob, PlainQuery, solve, witness, check, drill, horizon, policy, discount, discount_check, Asked}
-use Rattle.mdp_job.specs.Words.{word_at, rule_of, dir_of, query_of, solve_of, threshold_by, threshold_of, witness_of, check_of, whole_word, can_draw, drill_by, drill_with, drill_of}
-use Rattle.mdp_job.specs.Words.{steps_of, stay_of, horizon_of, policy_of, factor_of, discount_of, discount_check_of, other_of, job_by, job_of_texts, job_of}
+use Rattle.mdp_job.specs.Job.{solve, witness, check, drill, horizon, policy, discount, discount_check, Asked}
+use Rattle.mdp_job.specs.Words.{word_at, rule_of, dir_of, query_of, solve_of, threshold_by, threshold_of, witness_of, check_of, whole_word, can_draw, drill_with, drill_of}
+use Rattle.mdp_job.specs.Words.{steps_of, horizon_of, policy_of, factor_of, discount_of, discount_check_of, other_of, job_by, job_of_texts, job_of}
 use Rattle.mdp_job.specs.declared.words_error.WordsError.{WordsError}
 
 -- ---- a numeral
