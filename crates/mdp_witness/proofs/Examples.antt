@@ -12,7 +12,8 @@ use Rattle.mdp_elim.specs.declared.too_wide.Kind.TheVariants.{Evaluate, Compare,
 use Rattle.mdp_rows.specs.declared.dir.Dir.TheVariants.{Max}
 use Rattle.mdp_farkas.specs.declared.verdict.Verdict.TheVariants.{Yes, No, Wide}
 use Rattle.mdp_reach.specs.Query.{Answer}
-use Rattle.mdp_trials.specs.Evaluation.{Visited}
+use Rattle.mdp_trials.specs.Evaluation.{Visited, visited, visited_value}
+use Rattle.mdp_trials.specs.Trial.{trial_set, trial_of, is_wide}
 use Rattle.mdp_trials.proofs.Examples.{nought, one, half, three_quarters, five, goals, greatest, least, best, worst, two_states, three_states, start_alone, no_states, first_max, left}
 use Rattle.mdp_witness.specs.Query.{PlainSubsystem, flow, floor, Refusal, below, too_wide, visiting, in_floor, flow_of, floor_of, verdict_on, FlowHeld, FloorHeld}
 use Rattle.mdp_witness.specs.Query.{AfterComparison, FromFirst}
@@ -48,6 +49,11 @@ start_holds = refl
 start_found : FromFirst five goals 0 half Max at_most (end from_start)
 unfolding equation_of eliminated divided_rest plus_equation evaluated written_add written_mul written_compare narrow narrow_ℚ ◌+ℚ◌ ◌*ℚ◌ neg_ℚ inv_ℚ lt_ℚ ratio of_int gcd gcd_with_fuel
 start_found = (two_states, first_max, record { kept = start_alone; wide = no_states; last = once; left = left; held = refl })
+
+-- in the trial of the start nothing is past width, so that it isn't marked as wide
+start_in_width : is_wide (trial_of visited_value half (visited five goals best 0 (trial_set two_states start_alone 0))) ≡ false
+unfolding gcd gcd_with_fuel ratio of_int narrow narrow_ℚ written_compare
+start_in_width = refl
 
 -- with an amount of 0, or with the goal as a kept state, or at a greater threshold, it would be refused
 nothing_flows : verdict_on five goals 0 half (flow (0 ∷ []) (false ∷ []) (record { state = 0; choice = 0; amount = nought } ∷ [])) ≡ No (record { rule = 21; state = Some 0; choice = Some 0 })
@@ -108,7 +114,8 @@ unfolding gcd gcd_with_fuel ratio of_int lt_ℚ
 not_the_threshold h = let e : three_quarters ≡ ratio (pos 7) 8 = cc in let f : true ≡ false = ap (λ (x : ℚ). lt_ℚ x (ratio (pos 7) 8)) e in cc
 
 -- terms past width: in the comparison of the value at 0 in round 2, in the visits of state 1, in the check at the flow of state 0, and in the query of a subsystem
-wide_comparison : AfterComparison five goals 0 half Max 2 at_most None (no_subsystem (too_wide (record { part = part.Whole; number = 2; policy = best; kind = Compare; state = Some 0; choice = None })))
+wide_comparison :
+    AfterComparison five goals 0 half Max 2 at_most None (no_subsystem (too_wide (record { part = part.Whole; number = 2; policy = best; kind = Compare; state = Some 0; choice = None })))
 wide_comparison = refl
 
 wide_visits : visiting worst 0 ≡ (record { part = part.Flow; number = 0; policy = worst; kind = Evaluate; state = Some 0; choice = Some 1 })

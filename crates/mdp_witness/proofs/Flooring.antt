@@ -50,7 +50,8 @@ abbrev pub Shaped : Mdp → PlainSubsystem → Type 0
 Shaped m (flow kept wide flows) = ⊥
 Shaped m (floor kept wide values ranks) = IsFloorShape m kept wide values ranks
 
-pub shaped : (m : Mdp) (kept wide : List Bool) (last : Answer) (states : List ℕ) (marks : List Bool) (values : List ℚ) (ranks : List ℕ) → floor states marks values ranks ≡ floor_of m kept wide last → ListedFloorShape
+pub shaped : (m : Mdp) (kept wide : List Bool) (last : Answer) (states : List ℕ) (marks : List Bool) (values : List ℚ) (ranks : List ℕ)
+    → floor states marks values ranks ≡ floor_of m kept wide last → ListedFloorShape
     → IsFloorShape m states marks values ranks
 shaped m kept wide last states marks values ranks e shape = subst (Shaped m) (sym e) (shape m kept wide last.values last.ranks)
 

@@ -29,7 +29,8 @@ abbrev Shaped : Mdp → PlainSubsystem → Type 0
 Shaped m (flow kept wide flows) = IsFlowShape m kept wide flows
 Shaped m (floor kept wide values ranks) = ⊥
 
-pub shaped : (m : Mdp) (policy : List ℕ) (kept wide : List Bool) (last : Visited) (states : List ℕ) (marks : List Bool) (flows : List Flow) → flow states marks flows ≡ flow_of m policy kept wide last → ListedFlowShape
+pub shaped : (m : Mdp) (policy : List ℕ) (kept wide : List Bool) (last : Visited) (states : List ℕ) (marks : List Bool) (flows : List Flow)
+    → flow states marks flows ≡ flow_of m policy kept wide last → ListedFlowShape
     → IsFlowShape m states marks flows
 shaped m policy kept wide last states marks flows e shape = subst (Shaped m) (sym e) (shape m kept wide policy last.visits)
 

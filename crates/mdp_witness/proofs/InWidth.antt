@@ -1,6 +1,7 @@
 -- No term of the check of a floor is past width, where its values and ranks are the answer to the query of the subsystem, and where the value at the
 -- start was compared with the threshold: each sum is one of the check of that answer.
-use Rattle.std.proofs.Common.{◌≡◌, ℕ, zero, suc, ◌<◌, inl, inr, ⊎_elim, Bool, true, false, not, ◌||◌, cond, List, [], ◌∷◌, ◌++◌, length, get_or, Option, Some, None, refl, sym, ◌∙◌, ap, subst, arith, pos}
+use Rattle.std.proofs.Common.{◌≡◌, ℕ, zero, suc, ◌<◌, inl, inr, ⊎_elim, Bool, true, false, not, ◌||◌, cond, List}
+use Rattle.std.proofs.Common.{[], ◌∷◌, ◌++◌, length, get_or, Option, Some, None, refl, sym, ◌∙◌, ap, subst, arith, pos}
 use Rattle.std.specs.List.{Any}
 use Rattle.std.specs.Option.{IsSome}
 use Rattle.std.proofs.lemmas.Bool.{cases_Bool}

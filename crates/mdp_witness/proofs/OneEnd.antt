@@ -21,7 +21,7 @@ use Rattle.mdp_witness.specs.Query.{PlainSubsystem, Refusal, flow_of, floor_of, 
 use Rattle.mdp_witness.specs.Query.{AfterComparison, AfterWhole, EndsSo}
 
 -- there is one first set
-one_first : (dir : Dir) (m : Mdp) (goals : List Bool) (z : List ℚ) (policy : List ℕ) (start : ℕ) (first other : List Bool)
+pub one_first : (dir : Dir) (m : Mdp) (goals : List Bool) (z : List ℚ) (policy : List ℕ) (start : ℕ) (first other : List Bool)
     → IsFirst dir m goals z policy start first → IsFirst dir m goals z policy start other → other ≡ first
 one_first dir m goals z policy start first other a b =
     ext_get_or false other first (b.one_each ∙ sym a.one_each)
@@ -40,7 +40,8 @@ module _ (m : Mdp) (goals : List Bool) (start : ℕ) (threshold : ℚ) (r q : Re
   one_floor x (Wide state choice) a b = absurd a
   one_floor x (No fault) a b = absurd a
 
-  one_visits : (policy : List ℕ) (first : List Bool) (v : Result Visited ℕ) → VisitsLeaveOne → AfterVisits m goals start threshold policy first v r → AfterVisits m goals start threshold policy first v q → q ≡ r
+  one_visits : (policy : List ℕ) (first : List Bool) (v : Result Visited ℕ) → VisitsLeaveOne
+      → AfterVisits m goals start threshold policy first v r → AfterVisits m goals start threshold policy first v q → q ≡ r
   one_visits policy first (Err s) one a b = b ∙ sym a
   one_visits policy first (Ok v) one a b =
       let same = one m goals policy start threshold first b.kept b.wide b.last a.kept a.wide a.last b.left a.left in

@@ -40,7 +40,8 @@ module _ (n : ℕ) (policy : List ℕ) (y : List ℚ) where
   flows-skip e = ap (filter flows) (map_more (visit_flow policy y) n) ∙ filter-skip flows (map (visit_flow policy y) (range_with_len 0 n)) (visit_flow policy y n) e
 
 -- the flow of a state, by its amount
-pub flow-is : (policy : List ℕ) (y : List ℚ) (s : ℕ) (amount : ℚ) → amount ≡ value_at y s → (let f : Flow = record { state = s; choice = get_or policy s 0; amount = amount } in f) ≡ visit_flow policy y s
+pub flow-is : (policy : List ℕ) (y : List ℚ) (s : ℕ) (amount : ℚ) → amount ≡ value_at y s
+    → (let f : Flow = record { state = s; choice = get_or policy s 0; amount = amount } in f) ≡ visit_flow policy y s
 flow-is policy y s amount e = ap (λ (x : ℚ). let f : Flow = record { state = s; choice = get_or policy s 0; amount = x } in f) e
 
 -- the listed states are places of a list with one element per state

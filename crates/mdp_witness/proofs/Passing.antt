@@ -35,7 +35,8 @@ same_answer a z policy ranks ez ep er =
     ∙ ap (λ (r : List ℕ). let b : Answer = record { values = a.values; choices = a.choices; ranks = r } in b) er
 
 -- what holds of each subsystem that the query ends with, holds of the one that the code gives
-pub if_found : {A : Type 0} (view : A → PlainSubsystem) (P : PlainSubsystem → Type 0) (Ends : Result PlainSubsystem Refusal → Type 0) (x : Result A WitnessError) → ((found : PlainSubsystem) → Ends (Ok found) → P found)
+pub if_found : {A : Type 0} (view : A → PlainSubsystem) (P : PlainSubsystem → Type 0) (Ends : Result PlainSubsystem Refusal → Type 0) (x : Result A WitnessError)
+    → ((found : PlainSubsystem) → Ends (Ok found) → P found)
     → Answers view Ends x → IfOk x (λ found. P (view found))
 if_found view P Ends (Ok found) h a = h (view found) a
 if_found view P Ends (Err e) h a = tt

@@ -1,5 +1,5 @@
 -- What a subsystem that was found shows.
-use Rattle.std.proofs.Common.{◌≡◌, ℕ, ◌<◌, Bool, true, false, List, length, get_or, Option, Some, None, option_map, Ok, Err, refl, sym, ◌∙◌, subst}
+use Rattle.std.proofs.Common.{◌≡◌, ℕ, ◌<◌, Bool, true, false, List, length, get_or, Option, Some, None, option_map, Result, Ok, Err, refl, sym, ◌∙◌, ap, subst}
 use Rattle.std.specs.declared.cmp.Ordering.{Ordering}
 use Rattle.std.specs.declared.cmp.Ordering.TheVariants.{Less, Equal, Greater}
 use Rattle.std.proofs.lemmas.List.{get_or-map}
@@ -11,10 +11,11 @@ use Rattle.mdp_spec.specs.Bounds.{SubMax, SubMin}
 use Rattle.mdp_spec.specs.Mdp.{Mdp, states_of, value_at}
 use Rattle.mdp_spec.specs.Row.{IsMdp}
 use Rattle.mdp_spec.specs.Rules.{MeetsReachMax}
-use Rattle.mdp_spec.specs.Sub.{policy_on}
+use Rattle.mdp_spec.specs.Sub.{sub_of, policy_on}
 use Rattle.mdp_spec.specs.Tree.{is_marked}
 use Rattle.mdp_rows.specs.declared.dir.Dir.{Dir}
 use Rattle.mdp_rows.specs.declared.dir.Dir.TheVariants.{Max, Min}
+use Rattle.mdp_path.specs.Queries.{WideTerm}
 use Rattle.mdp_farkas.specs.Compare.{not_less}
 use Rattle.mdp_farkas.specs.Verdict.{verdict_of}
 use Rattle.mdp_farkas.proofs.Comparing.{le_of_at_least}
@@ -33,12 +34,16 @@ use Rattle.mdp_flow.proofs.Kept.{listed-at}
 use Rattle.mdp_flow.proofs.Listed.{listed-in_range, is_listed-listed}
 use Rattle.mdp_reach.specs.Laws.{HasOneEnd, AnswersMeetRules, AnswersAreGreatest, AnswersAreLeast}
 use Rattle.mdp_reach.specs.Query.{Answer, EndsSo}
-use Rattle.mdp_trials.specs.Evaluation.{visited}
+use Rattle.mdp_trials.specs.First.{IsFirst}
+use Rattle.mdp_trials.specs.Evaluation.{Visited, visited, Visits, visited_value}
+use Rattle.mdp_trials.specs.LeastEvaluation.{Evaluates, value_from}
 use Rattle.mdp_trials.specs.Laws.{MaxKeptIsFlow, MaxKeptAreNeeded, MinKeptAreNeeded}
-use Rattle.mdp_trials.specs.Trial.{without}
+use Rattle.mdp_trials.specs.Trial.{trial_set, without, trial_of, is_wide}
 use Rattle.mdp_witness.specs.Query.{PlainSubsystem, flow_of, floor_of, verdict_on}
 use Rattle.mdp_witness.specs.Query as query
-use Rattle.mdp_witness.specs.Shown.{kept_in, HasShape, Holds, PolicyReaches, IsNeededMax, IsNeededMin, AreNeeded, IsBest, IsBestBelow}
+use Rattle.mdp_witness.specs.Shown.{kept_in, HasShape, Holds, PolicyReaches, IsNeededMax, IsNeededMin, AreNeeded, MarksAreExactMax, MarksAreExactMin, IsBest, IsBestBelow}
+use Rattle.mdp_witness.proofs.OneEnd.{one_first}
+use Rattle.mdp_witness.proofs.Sized.{kept_first}
 use Rattle.mdp_witness.proofs.Found.{IsFrom, IsLeftMax, IsLeftMin, left-max, left-min, is-from, is-below}
 
 -- ---- listed states
@@ -118,6 +123,24 @@ module _ (m : Mdp) (goals : List Bool) (start : ℕ) (threshold : ℚ) (found : 
       (law m goals a.values a.choices a.ranks start threshold first left_.kept left_.wide left_.last x known_ (rules_max answers) from_max.from.1 inside left_.left
       (listed_marked (states_of m) left_.kept left_.wide i l) (listed_wide (states_of m) left_.kept left_.wide i l w))))
 
+  pub marked-max : HasOneEnd → ListedAreMarks → MarksAreExactMax m goals start threshold found
+  marked-max one marked =
+      back (MarksAreExactMax m goals start threshold)
+      (λ b other i solved is l.
+      let x = get_or states i 0 in
+      let same : Ok b ≡ Ok a = one Max m goals (Ok a) (Ok b) from_max.solved solved in
+      let e : a ≡ b = cc in
+      let f : first ≡ other = sym (one_first Max m goals a.values a.choices start first other from_max.from.1 (subst (λ (b : Answer). IsFirst Max m goals b.values b.choices start other) (sym e) is)) in
+      let marks = marked (states_of m) left_.kept (left_.left.one_kept_each ∙ from_max.from.1.one_each) in
+      let size = from_max.from.1.one_each in
+      let within : x < states_of m = listed-in_range (states_of m) left_.kept i 0 l in
+      let t = left_.left.tried x (subst (λ (n : ℕ). x < n) (sym size) within)
+      (kept_first (Visits m goals a.choices start) visited_value threshold first left_.kept left_.wide left_.last left_.left x (listed_marked (states_of m) left_.kept left_.wide i l)) in
+      get_or-map (is_marked left_.wide) states i 0 false l ∙ t.marks ∙ ap (λ (r : Result Visited ℕ). is_wide (trial_of visited_value threshold r)) t.evaluated
+      ∙ ap (λ (b : Answer). is_wide (trial_of visited_value threshold (visited m goals b.choices start (trial_set first left_.kept x)))) e
+      ∙ ap (λ (set : List Bool). is_wide (trial_of visited_value threshold (visited m goals b.choices start (trial_set set left_.kept x)))) f
+      ∙ ap (λ (kept : List Bool). is_wide (trial_of visited_value threshold (visited m goals b.choices start (trial_set other kept x)))) (sym marks))
+
 -- ---- the least one
 
 module _ (m : Mdp) (goals : List Bool) (start : ℕ) (threshold : ℚ) (found : PlainSubsystem) (known_ : IsMdp m) (each : length goals ≡ states_of m) (inside : start < states_of m)
@@ -169,6 +192,25 @@ module _ (m : Mdp) (goals : List Bool) (start : ℕ) (threshold : ℚ) (found : 
       (listed_wide (states_of m) least.kept least.wide i l w) in
       subst (λ (kept : List Bool). IsNeededMin m goals start threshold kept x) (sym marks) (record { policy = short.0; is_policy = short.1; short = short.2 }))
 
+  pub marked-min : HasOneEnd → ListedAreMarks → MarksAreExactMin m goals start threshold found
+  marked-min one marked =
+      back_min (MarksAreExactMin m goals start threshold)
+      (λ b other i r solved is l evaluated.
+      let a = from_min.answer in
+      let x = get_or states_min i 0 in
+      let same : Ok b ≡ Ok a = one Min m goals (Ok a) (Ok b) from_min.solved solved in
+      let e : a ≡ b = cc in
+      let f : other ≡ first_min = one_first Min m goals a.values a.choices start first_min other from_min.from.1 (subst (λ (b : Answer). IsFirst Min m goals b.values b.choices start other) (sym e) is) in
+      let marks = marked (states_of m) least.kept (least.left.one_kept_each ∙ from_min.from.1.one_each) in
+      let size = from_min.from.1.one_each in
+      let within : x < states_of m = listed-in_range (states_of m) least.kept i 0 l in
+      let t = least.left.tried x (subst (λ (n : ℕ). x < n) (sym size) within)
+      (kept_first (Evaluates m goals) (value_from start) threshold first_min least.kept least.wide least.last least.left x (listed_marked (states_of m) least.kept least.wide i l)) in
+      let here : Evaluates m goals (trial_set first_min least.kept x) r = subst (λ (kept : List Bool). Evaluates m goals (trial_set first_min kept x) r) marks
+      (subst (λ (set : List Bool). Evaluates m goals (trial_set set (kept_marks (states_of m) states_min) x) r) f evaluated) in
+      let one_evaluation : t.evaluation ≡ r = one Min (sub_of m goals (trial_set first_min least.kept x)) goals r t.evaluation here t.evaluated in
+      get_or-map (is_marked least.wide) states_min i 0 false l ∙ t.marks ∙ ap (λ (r : Result Answer WideTerm). is_wide (trial_of (value_from start) threshold r)) one_evaluation)
+
 -- ---- a value below the threshold
 
 less_of : (x y : ℚ) (o : Option Ordering) → written_compare x y ≡ o → option_map not_less o ≡ Some false → x <ℚ y
@@ -181,7 +223,8 @@ best : (dir : Dir) (m : Mdp) (goals : List Bool) (a : Answer) → IsMdp m → En
 best Max m goals a known_ solved most fewest = most m goals a known_ solved
 best Min m goals a known_ solved most fewest = fewest m goals a known_ solved
 
-pub below-best : (dir : Dir) (m : Mdp) (goals : List Bool) (start : ℕ) (threshold v : ℚ) → IsMdp m → query.EndsSo dir m goals start threshold (Err (query.below v)) → AnswersAreGreatest → AnswersAreLeast
+pub below-best : (dir : Dir) (m : Mdp) (goals : List Bool) (start : ℕ) (threshold v : ℚ) → IsMdp m
+    → query.EndsSo dir m goals start threshold (Err (query.below v)) → AnswersAreGreatest → AnswersAreLeast
     → IsBestBelow dir m goals start threshold v
 below-best dir m goals start threshold v known_ end most fewest =
     let b = is-below m goals start threshold dir v end in

@@ -44,7 +44,8 @@ module _ (m : Mdp) (goals : List Bool) (z : List ℚ) (policy ranks : List ℕ) 
 
   by_start : (b : Bool) → (if b then written_visits (policy_rows m policy) kept start else Ok (replicate (states_of m) (of_int (pos 0)))) ≡ Ok last.visits → length last.visits ≡ states_of m
   by_start true e =
-      (gives_visits (policy_rows m policy) kept ranks start last.visits (record { distributions = are_rows m policy known_ rules.choices; marks = kept_each ∙ sym rows_each; leaves = leaves }) e).len ∙ rows_each
+      (gives_visits (policy_rows m policy) kept ranks start last.visits
+      (record { distributions = are_rows m policy known_ rules.choices; marks = kept_each ∙ sym rows_each; leaves = leaves }) e).len ∙ rows_each
   by_start false e = let same : replicate (states_of m) (of_int (pos 0)) ≡ last.visits = cc in ap length (sym same) ∙ length-replicate (states_of m) (of_int (pos 0))
 
   pub visits_each : length last.visits ≡ states_of m

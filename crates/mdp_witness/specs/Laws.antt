@@ -7,7 +7,7 @@ use Rattle.mdp_spec.specs.Row.{IsMdp}
 use Rattle.mdp_rows.specs.declared.dir.Dir.{Dir}
 use Rattle.mdp_rows.specs.declared.dir.Dir.TheVariants.{Max, Min}
 use Rattle.mdp_witness.specs.Query.{PlainSubsystem, Refusal, below, EndsSo}
-use Rattle.mdp_witness.specs.Shown.{kept_in, HasShape, Holds, PolicyReaches, IsNeededMax, IsNeededMin, AreNeeded, IsBestBelow}
+use Rattle.mdp_witness.specs.Shown.{kept_in, HasShape, Holds, PolicyReaches, IsNeededMax, IsNeededMin, AreNeeded, MarksAreExactMax, MarksAreExactMin, IsBestBelow}
 
 -- it has one end at most
 abbrev pub HasOneEnd : Type 0
@@ -45,6 +45,13 @@ FoundNeededMax = EachFound (λ dir m goals start threshold found. dir ≡ Max �
 
 abbrev pub FoundNeededMin : Type 0
 FoundNeededMin = EachFound (λ dir m goals start threshold found. dir ≡ Min → AreNeeded (IsNeededMin m goals start threshold) m found)
+
+-- those that are so marked are exactly those whose trial has a term past width
+abbrev pub FoundMarkedMax : Type 0
+FoundMarkedMax = EachFound (λ dir m goals start threshold found. dir ≡ Max → MarksAreExactMax m goals start threshold found)
+
+abbrev pub FoundMarkedMin : Type 0
+FoundMarkedMin = EachFound (λ dir m goals start threshold found. dir ≡ Min → MarksAreExactMin m goals start threshold found)
 
 -- a value below the threshold is the best probability
 abbrev pub BelowIsBest : Type 0

@@ -1,5 +1,5 @@
 -- What a subsystem that was found shows: its certificate holds, it reaches the threshold, and each of its states that isn't marked as wide is needed.
-use Rattle.std.specs.Prelude.{◌≡◌, ℕ, ◌<◌, Bool, true, false, List, length, slice_index, slice_index_or, Ok}
+use Rattle.std.specs.Prelude.{◌≡◌, ℕ, ◌<◌, Bool, true, false, List, length, slice_index, slice_index_or, Result, Ok}
 use Rattle.mdp_math.specs.Rational.{ℚ, ◌<ℚ◌}
 use Rattle.mdp_spec.specs.Mdp.{Mdp, states_of, value_at}
 use Rattle.mdp_spec.specs.Bounds.{ReachMax, ReachMin}
@@ -7,6 +7,7 @@ use Rattle.mdp_spec.specs.Sub.{sub_of, policy_on}
 use Rattle.mdp_spec.specs.Tree.{IsPolicy}
 use Rattle.mdp_rows.specs.declared.dir.Dir.{Dir}
 use Rattle.mdp_rows.specs.declared.dir.Dir.TheVariants.{Max, Min}
+use Rattle.mdp_path.specs.Queries.{WideTerm}
 use Rattle.mdp_flow.specs.Flow.{flow_total}
 use Rattle.mdp_flow.specs.FlowChecks.{HoldsFlow}
 use Rattle.mdp_flow.specs.FloorChecks.{HoldsFloor}
@@ -14,7 +15,10 @@ use Rattle.mdp_flow.specs.Kept.{kept_marks}
 use Rattle.mdp_flow.specs.Policy.{PolicyWithin, FallsShort}
 use Rattle.mdp_flow.specs.Shape.{IsFlowShape, IsFloorShape}
 use Rattle.mdp_reach.specs.Query.{Answer, EndsSo}
-use Rattle.mdp_trials.specs.Trial.{without}
+use Rattle.mdp_trials.specs.First.{IsFirst}
+use Rattle.mdp_trials.specs.Evaluation.{visited, visited_value}
+use Rattle.mdp_trials.specs.LeastEvaluation.{Evaluates, value_from}
+use Rattle.mdp_trials.specs.Trial.{trial_set, without, trial_of, is_wide}
 use Rattle.mdp_witness.specs.Query.{PlainSubsystem, flow, floor}
 
 -- the kept states; for each whether it is marked as wide; and whether each state of the model is kept
@@ -71,6 +75,20 @@ pub record IsNeededMin (m : Mdp) (goals : List Bool) (start : ℕ) (threshold : 
 abbrev pub AreNeeded : (List Bool → ℕ → Type 0) → Mdp → PlainSubsystem → Type 0
 AreNeeded IsNeeded m found =
     (i : ℕ) → i < length (kept_of found) → slice_index_or (wide_of found) i true ≡ false → IsNeeded (kept_in m found) (slice_index (kept_of found) i)
+
+-- a kept state is marked as wide exactly where a term of its trial is past width: where the evaluation of the first set's lesser states and of the
+-- greater ones that are left ends so, or the comparison of its value with the threshold
+abbrev pub MarksAreExactMax : Mdp → List Bool → ℕ → ℚ → PlainSubsystem → Type 0
+MarksAreExactMax m goals start threshold found =
+    (a : Answer) (first : List Bool) (i : ℕ) → EndsSo Max m goals (Ok a) → IsFirst Max m goals a.values a.choices start first → i < length (kept_of found)
+    → slice_index_or (wide_of found) i false
+    ≡ is_wide (trial_of visited_value threshold (visited m goals a.choices start (trial_set first (kept_in m found) (slice_index (kept_of found) i))))
+
+abbrev pub MarksAreExactMin : Mdp → List Bool → ℕ → ℚ → PlainSubsystem → Type 0
+MarksAreExactMin m goals start threshold found =
+    (a : Answer) (first : List Bool) (i : ℕ) (r : Result Answer WideTerm) → EndsSo Min m goals (Ok a) → IsFirst Min m goals a.values a.choices start first → i < length (kept_of found)
+    → Evaluates m goals (trial_set first (kept_in m found) (slice_index (kept_of found) i)) r
+    → slice_index_or (wide_of found) i false ≡ is_wide (trial_of (value_from start) threshold r)
 
 -- ---- where there is none
 

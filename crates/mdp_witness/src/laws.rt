@@ -1,12 +1,13 @@
 ghost use Rattle.mdp_witness.specs.Laws.{HasOneEnd, FoundHaveShape, FoundHold, FoundReachMax, FoundReachMin, PoliciesReach};
-ghost use Rattle.mdp_witness.specs.Laws.{FoundNeededMax, FoundNeededMin, BelowIsBest};
+ghost use Rattle.mdp_witness.specs.Laws.{FoundNeededMax, FoundNeededMin, FoundMarkedMax, FoundMarkedMin, BelowIsBest};
 
 use mdp_flow::{floor_law, flow_law, listed_law};
 use mdp_reach::query_law;
 use mdp_trials::{kept_law, left_law, needed_law};
 
 /// The query of a witness has one end at most. A subsystem that is found has a certificate that holds; it reaches the threshold, by some policy or
-/// by each, and for the greatest probability by the policy of the model's query; and each of its states that isn't marked as wide is needed. Where
+/// by each, and for the greatest probability by the policy of the model's query; and each of its states that isn't marked as wide is needed, and those that are so marked are those in whose
+/// trial a term is past width. Where
 /// there is none since the best probability is below the threshold, the value given is that probability.
 pub fn witness_law()
     ensures one_end { HasOneEnd }
@@ -17,6 +18,8 @@ pub fn witness_law()
     ensures policy { PoliciesReach }
     ensures needed_max { FoundNeededMax }
     ensures needed_min { FoundNeededMin }
+    ensures wide_max { FoundMarkedMax }
+    ensures wide_min { FoundMarkedMin }
     ensures below { BelowIsBest }
 {
     query_law();

@@ -9,6 +9,7 @@ ghost use Rattle.mdp_reach.specs.Query as reach;
 ghost use Rattle.mdp_witness.specs.Query.{EndsSo, FromFirst};
 ghost use Rattle.mdp_witness.specs.Code.{plain, Answers, IfBelow};
 ghost use Rattle.mdp_witness.specs.Shown.{kept_in, HasShape, Holds, PolicyReaches, IsNeededMax, IsNeededMin, AreNeeded, IsBestBelow};
+ghost use Rattle.mdp_witness.specs.Shown.{MarksAreExactMax, MarksAreExactMin};
 
 use crate::greatest::flow_witness;
 use crate::laws::witness_law;
@@ -85,7 +86,7 @@ pub fn witness(
     requires threshold { of_int (pos 0) ≤ℚ threshold }
     ensures path { Answers plain (EndsSo dir model.now goals.now start threshold) result }
 
-    // What is found: its certificate, its subsystem, its policy, and that each of its states is needed.
+    // What is found: its certificate, its subsystem, its policy, that each of its states is needed, and its marks.
     ensures shape { IfOk result (λ found. HasShape dir model.now (plain found)) }
     ensures holds { IfOk result (λ found. Holds dir model.now goals.now start threshold (plain found)) }
     ensures sub_max { dir ≡ Max → IfOk result (λ found. SubMax model.now goals.now (kept_in model.now (plain found)) start threshold) }
@@ -93,6 +94,8 @@ pub fn witness(
     ensures policy { dir ≡ Max → IfOk result (λ found. PolicyReaches model.now goals.now start threshold (plain found)) }
     ensures needed_max { dir ≡ Max → IfOk result (λ found. AreNeeded (IsNeededMax model.now goals.now start threshold) model.now (plain found)) }
     ensures needed_min { dir ≡ Min → IfOk result (λ found. AreNeeded (IsNeededMin model.now goals.now start threshold) model.now (plain found)) }
+    ensures wide_max { dir ≡ Max → IfOk result (λ found. MarksAreExactMax model.now goals.now start threshold (plain found)) }
+    ensures wide_min { dir ≡ Min → IfOk result (λ found. MarksAreExactMin model.now goals.now start threshold (plain found)) }
 
     // What is said where there is none.
     ensures below { IfErr result (λ error. IfBelow error (IsBestBelow dir model.now goals.now start threshold)) }

@@ -19,7 +19,8 @@ pub invariant_of-query : goal.invariant_of-query
 invariant_of-query c =
     let a = reach.plain c.args.whole in
     let each = sized Max c.args.model.now c.args.goals.now a c.known.ensures.mdp c.path_law.ensures.best c.avoid_law.ensures.rest c.requires.solved in
-    let rules = meets-max c.args.model.now c.args.goals.now a a.values c.as_slice-choices.result.now a.ranks refl c.as_slice-choices.ensures.value refl c.known.ensures.mdp c.requires.solved c.query_law.ensures.rules in
+    let rules = meets-max c.args.model.now c.args.goals.now a a.values c.as_slice-choices.result.now a.ranks refl
+    c.as_slice-choices.ensures.value refl c.known.ensures.mdp c.requires.solved c.query_law.ensures.rules in
     record { goals_each = c.requires.goals; values_each = ap length c.as_slice.ensures.value ∙ each.values; chosen = rules.choices }
 
 pub evaluate-requires-clause-leaves : goal.evaluate-requires-clause-leaves

@@ -2,7 +2,7 @@ use Rattle.std.proofs.Common.{Ok, subst}
 use Rattle.mdp_rows.specs.declared.dir.Dir.{Dir}
 use Rattle.mdp_witness.specs.Query.{EndsSo}
 use Rattle.mdp_witness.proofs.OneEnd.{one_query_end}
-use Rattle.mdp_witness.proofs.Showing.{reaches-max, policy-max, needed-max, reaches-min, needed-min, below-best}
+use Rattle.mdp_witness.proofs.Showing.{reaches-max, policy-max, needed-max, marked-max, reaches-min, needed-min, marked-min, below-best}
 use Rattle.mdp_witness.proofs.ByDirection.{shape-found, holds-found}
 use Rattle.mdp_witness.proofs.laws.witness_law.Goals as goal
 
@@ -39,6 +39,15 @@ returns-clause-needed_max c = λ dir m goals start threshold found known_ each i
 pub returns-clause-needed_min : goal.returns-clause-needed_min
 returns-clause-needed_min c = λ dir m goals start threshold found known_ each inside end e.
     needed-min m goals start threshold found known_ each inside (subst (λ (dir : Dir). EndsSo dir m goals start threshold (Ok found)) e end) c.listed_law.ensures.marks c.needed_law.ensures.min
+
+pub returns-clause-wide_max : goal.returns-clause-wide_max
+returns-clause-wide_max c = λ dir m goals start threshold found known_ each inside end e.
+    marked-max m goals start threshold found known_ inside (subst (λ (dir : Dir). EndsSo dir m goals start threshold (Ok found)) e end) c.query_law.ensures.one_end c.listed_law.ensures.marks
+
+pub returns-clause-wide_min : goal.returns-clause-wide_min
+returns-clause-wide_min c = λ dir m goals start threshold found known_ each inside end e.
+    marked-min m goals start threshold found known_ each inside (subst (λ (dir : Dir). EndsSo dir m goals start threshold (Ok found)) e end) c.query_law.ensures.one_end
+    c.listed_law.ensures.marks
 
 pub returns-clause-below : goal.returns-clause-below
 returns-clause-below c = λ dir m goals start threshold v known_ end. below-best dir m goals start threshold v known_ end c.query_law.ensures.max c.query_law.ensures.min

@@ -7,7 +7,7 @@ use Rattle.mdp_reach.specs.Query as reach
 use Rattle.mdp_trials.proofs.Lengths.{sized}
 use Rattle.mdp_witness.specs.Query.{EndsSo, FromFirst}
 use Rattle.mdp_witness.specs.Code.{plain}
-use Rattle.mdp_witness.specs.Shown.{kept_in, HasShape, Holds, PolicyReaches, IsNeededMax, IsNeededMin, AreNeeded, IsBestBelow}
+use Rattle.mdp_witness.specs.Shown.{kept_in, HasShape, Holds, PolicyReaches, IsNeededMax, IsNeededMin, AreNeeded, MarksAreExactMax, MarksAreExactMin, IsBestBelow}
 use Rattle.mdp_witness.proofs.Ending.{ends-wide, ends-below, ends-found, told}
 use Rattle.mdp_witness.proofs.Passing.{goes-through, if_found, if_below}
 use Rattle.mdp_witness.proofs.solve.witness.Goals as goal
@@ -51,7 +51,8 @@ returns-in-Ok-true-clause-shape c =
     let reaches : is_at_least (value_at a.values start) threshold ≡ Some true =
     told (value_at a.values start) c.value_of-value.result threshold (c.value_of-value.ensures ∙ ap (λ (z : List ℚ). value_at z start) c.deref.ensures.value) (Some true)
     (sym (c.in-Ok-true.ensures {u = tt}) ∙ ap (λ (b : Bool). Some b) c.in-Ok-true.field-0-test) in
-    let path = goes-through plain (FromFirst m goals start threshold dir a) (EndsSo dir m goals start threshold) c.from_first.result (ends-found dir m goals start threshold solved.0 a solved.2 reaches)
+    let path = goes-through plain (FromFirst m goals start threshold dir a) (EndsSo dir m goals start threshold) c.from_first.result
+    (ends-found dir m goals start threshold solved.0 a solved.2 reaches)
     c.from_first.ensures in
     if_found plain (HasShape dir m) (EndsSo dir m goals start threshold) c.from_first.result
     (λ found end. c.witness_law.ensures.shape dir m goals start threshold found c.known.ensures.mdp c.requires.goals c.requires.start end) path
@@ -68,7 +69,8 @@ returns-in-Ok-true-clause-holds c =
     let reaches : is_at_least (value_at a.values start) threshold ≡ Some true =
     told (value_at a.values start) c.value_of-value.result threshold (c.value_of-value.ensures ∙ ap (λ (z : List ℚ). value_at z start) c.deref.ensures.value) (Some true)
     (sym (c.in-Ok-true.ensures {u = tt}) ∙ ap (λ (b : Bool). Some b) c.in-Ok-true.field-0-test) in
-    let path = goes-through plain (FromFirst m goals start threshold dir a) (EndsSo dir m goals start threshold) c.from_first.result (ends-found dir m goals start threshold solved.0 a solved.2 reaches)
+    let path = goes-through plain (FromFirst m goals start threshold dir a) (EndsSo dir m goals start threshold) c.from_first.result
+    (ends-found dir m goals start threshold solved.0 a solved.2 reaches)
     c.from_first.ensures in
     if_found plain (Holds dir m goals start threshold) (EndsSo dir m goals start threshold) c.from_first.result
     (λ found end. c.witness_law.ensures.holds dir m goals start threshold found c.known.ensures.mdp c.requires.goals c.requires.start end) path
@@ -85,7 +87,8 @@ returns-in-Ok-true-clause-sub_max c =
     let reaches : is_at_least (value_at a.values start) threshold ≡ Some true =
     told (value_at a.values start) c.value_of-value.result threshold (c.value_of-value.ensures ∙ ap (λ (z : List ℚ). value_at z start) c.deref.ensures.value) (Some true)
     (sym (c.in-Ok-true.ensures {u = tt}) ∙ ap (λ (b : Bool). Some b) c.in-Ok-true.field-0-test) in
-    let path = goes-through plain (FromFirst m goals start threshold dir a) (EndsSo dir m goals start threshold) c.from_first.result (ends-found dir m goals start threshold solved.0 a solved.2 reaches)
+    let path = goes-through plain (FromFirst m goals start threshold dir a) (EndsSo dir m goals start threshold) c.from_first.result
+    (ends-found dir m goals start threshold solved.0 a solved.2 reaches)
     c.from_first.ensures in
     λ e. if_found plain (λ found. SubMax m goals (kept_in m found) start threshold) (EndsSo dir m goals start threshold) c.from_first.result
     (λ found end. c.witness_law.ensures.sub_max dir m goals start threshold found c.known.ensures.mdp c.requires.goals c.requires.start end e) path
@@ -102,7 +105,8 @@ returns-in-Ok-true-clause-sub_min c =
     let reaches : is_at_least (value_at a.values start) threshold ≡ Some true =
     told (value_at a.values start) c.value_of-value.result threshold (c.value_of-value.ensures ∙ ap (λ (z : List ℚ). value_at z start) c.deref.ensures.value) (Some true)
     (sym (c.in-Ok-true.ensures {u = tt}) ∙ ap (λ (b : Bool). Some b) c.in-Ok-true.field-0-test) in
-    let path = goes-through plain (FromFirst m goals start threshold dir a) (EndsSo dir m goals start threshold) c.from_first.result (ends-found dir m goals start threshold solved.0 a solved.2 reaches)
+    let path = goes-through plain (FromFirst m goals start threshold dir a) (EndsSo dir m goals start threshold) c.from_first.result
+    (ends-found dir m goals start threshold solved.0 a solved.2 reaches)
     c.from_first.ensures in
     λ e. if_found plain (λ found. SubMin m goals (kept_in m found) start threshold) (EndsSo dir m goals start threshold) c.from_first.result
     (λ found end. c.witness_law.ensures.sub_min dir m goals start threshold found c.known.ensures.mdp c.requires.goals c.requires.start end e) path
@@ -119,7 +123,8 @@ returns-in-Ok-true-clause-policy c =
     let reaches : is_at_least (value_at a.values start) threshold ≡ Some true =
     told (value_at a.values start) c.value_of-value.result threshold (c.value_of-value.ensures ∙ ap (λ (z : List ℚ). value_at z start) c.deref.ensures.value) (Some true)
     (sym (c.in-Ok-true.ensures {u = tt}) ∙ ap (λ (b : Bool). Some b) c.in-Ok-true.field-0-test) in
-    let path = goes-through plain (FromFirst m goals start threshold dir a) (EndsSo dir m goals start threshold) c.from_first.result (ends-found dir m goals start threshold solved.0 a solved.2 reaches)
+    let path = goes-through plain (FromFirst m goals start threshold dir a) (EndsSo dir m goals start threshold) c.from_first.result
+    (ends-found dir m goals start threshold solved.0 a solved.2 reaches)
     c.from_first.ensures in
     λ e. if_found plain (PolicyReaches m goals start threshold) (EndsSo dir m goals start threshold) c.from_first.result
     (λ found end. c.witness_law.ensures.policy dir m goals start threshold found c.known.ensures.mdp c.requires.goals c.requires.start end e) path
@@ -136,7 +141,8 @@ returns-in-Ok-true-clause-needed_max c =
     let reaches : is_at_least (value_at a.values start) threshold ≡ Some true =
     told (value_at a.values start) c.value_of-value.result threshold (c.value_of-value.ensures ∙ ap (λ (z : List ℚ). value_at z start) c.deref.ensures.value) (Some true)
     (sym (c.in-Ok-true.ensures {u = tt}) ∙ ap (λ (b : Bool). Some b) c.in-Ok-true.field-0-test) in
-    let path = goes-through plain (FromFirst m goals start threshold dir a) (EndsSo dir m goals start threshold) c.from_first.result (ends-found dir m goals start threshold solved.0 a solved.2 reaches)
+    let path = goes-through plain (FromFirst m goals start threshold dir a) (EndsSo dir m goals start threshold) c.from_first.result
+    (ends-found dir m goals start threshold solved.0 a solved.2 reaches)
     c.from_first.ensures in
     λ e. if_found plain (AreNeeded (IsNeededMax m goals start threshold) m) (EndsSo dir m goals start threshold) c.from_first.result
     (λ found end. c.witness_law.ensures.needed_max dir m goals start threshold found c.known.ensures.mdp c.requires.goals c.requires.start end e) path
@@ -153,10 +159,47 @@ returns-in-Ok-true-clause-needed_min c =
     let reaches : is_at_least (value_at a.values start) threshold ≡ Some true =
     told (value_at a.values start) c.value_of-value.result threshold (c.value_of-value.ensures ∙ ap (λ (z : List ℚ). value_at z start) c.deref.ensures.value) (Some true)
     (sym (c.in-Ok-true.ensures {u = tt}) ∙ ap (λ (b : Bool). Some b) c.in-Ok-true.field-0-test) in
-    let path = goes-through plain (FromFirst m goals start threshold dir a) (EndsSo dir m goals start threshold) c.from_first.result (ends-found dir m goals start threshold solved.0 a solved.2 reaches)
+    let path = goes-through plain (FromFirst m goals start threshold dir a) (EndsSo dir m goals start threshold) c.from_first.result
+    (ends-found dir m goals start threshold solved.0 a solved.2 reaches)
     c.from_first.ensures in
     λ e. if_found plain (AreNeeded (IsNeededMin m goals start threshold) m) (EndsSo dir m goals start threshold) c.from_first.result
     (λ found end. c.witness_law.ensures.needed_min dir m goals start threshold found c.known.ensures.mdp c.requires.goals c.requires.start end e) path
+
+pub returns-in-Ok-true-clause-wide_max : goal.returns-in-Ok-true-clause-wide_max
+returns-in-Ok-true-clause-wide_max c =
+    let dir = c.args.dir in
+    let m = c.args.model.now in
+    let goals = c.args.goals.now in
+    let start = c.args.start in
+    let threshold = c.args.threshold in
+    let a = reach.plain c.in_ok-cert.field-0.cert in
+    let solved = (c.in_ok-cert.ensures {u = tt}).path in
+    let reaches : is_at_least (value_at a.values start) threshold ≡ Some true =
+    told (value_at a.values start) c.value_of-value.result threshold (c.value_of-value.ensures ∙ ap (λ (z : List ℚ). value_at z start) c.deref.ensures.value) (Some true)
+    (sym (c.in-Ok-true.ensures {u = tt}) ∙ ap (λ (b : Bool). Some b) c.in-Ok-true.field-0-test) in
+    let path = goes-through plain (FromFirst m goals start threshold dir a) (EndsSo dir m goals start threshold) c.from_first.result
+    (ends-found dir m goals start threshold solved.0 a solved.2 reaches)
+    c.from_first.ensures in
+    λ e. if_found plain (MarksAreExactMax m goals start threshold) (EndsSo dir m goals start threshold) c.from_first.result
+    (λ found end. c.witness_law.ensures.wide_max dir m goals start threshold found c.known.ensures.mdp c.requires.goals c.requires.start end e) path
+
+pub returns-in-Ok-true-clause-wide_min : goal.returns-in-Ok-true-clause-wide_min
+returns-in-Ok-true-clause-wide_min c =
+    let dir = c.args.dir in
+    let m = c.args.model.now in
+    let goals = c.args.goals.now in
+    let start = c.args.start in
+    let threshold = c.args.threshold in
+    let a = reach.plain c.in_ok-cert.field-0.cert in
+    let solved = (c.in_ok-cert.ensures {u = tt}).path in
+    let reaches : is_at_least (value_at a.values start) threshold ≡ Some true =
+    told (value_at a.values start) c.value_of-value.result threshold (c.value_of-value.ensures ∙ ap (λ (z : List ℚ). value_at z start) c.deref.ensures.value) (Some true)
+    (sym (c.in-Ok-true.ensures {u = tt}) ∙ ap (λ (b : Bool). Some b) c.in-Ok-true.field-0-test) in
+    let path = goes-through plain (FromFirst m goals start threshold dir a) (EndsSo dir m goals start threshold) c.from_first.result
+    (ends-found dir m goals start threshold solved.0 a solved.2 reaches)
+    c.from_first.ensures in
+    λ e. if_found plain (MarksAreExactMin m goals start threshold) (EndsSo dir m goals start threshold) c.from_first.result
+    (λ found end. c.witness_law.ensures.wide_min dir m goals start threshold found c.known.ensures.mdp c.requires.goals c.requires.start end e) path
 
 pub returns-in-Ok-true-clause-below : goal.returns-in-Ok-true-clause-below
 returns-in-Ok-true-clause-below c =
@@ -170,7 +213,8 @@ returns-in-Ok-true-clause-below c =
     let reaches : is_at_least (value_at a.values start) threshold ≡ Some true =
     told (value_at a.values start) c.value_of-value.result threshold (c.value_of-value.ensures ∙ ap (λ (z : List ℚ). value_at z start) c.deref.ensures.value) (Some true)
     (sym (c.in-Ok-true.ensures {u = tt}) ∙ ap (λ (b : Bool). Some b) c.in-Ok-true.field-0-test) in
-    let path = goes-through plain (FromFirst m goals start threshold dir a) (EndsSo dir m goals start threshold) c.from_first.result (ends-found dir m goals start threshold solved.0 a solved.2 reaches)
+    let path = goes-through plain (FromFirst m goals start threshold dir a) (EndsSo dir m goals start threshold) c.from_first.result
+    (ends-found dir m goals start threshold solved.0 a solved.2 reaches)
     c.from_first.ensures in
     if_below plain (IsBestBelow dir m goals start threshold) (EndsSo dir m goals start threshold) c.from_first.result
     (λ v end. c.witness_law.ensures.below dir m goals start threshold v c.known.ensures.mdp end) path
