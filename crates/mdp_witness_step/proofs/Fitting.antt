@@ -30,7 +30,7 @@ kept_behind n before (s ∷ kept) next a inside =
     ap₂ (λ (p q : Bool). p && q) (ap₂ (λ (p q : Bool). p && q) (next 0 (omega arith)) (lt-ltb s n (All-head (λ s. s < n) s kept inside)))
     (kept_behind n (Some s) kept (λ i l. lt-ltb s (get_or kept i 0) (next_first s kept a i l)) (ascends-tail s kept a) (All-tail (λ s. s < n) s kept inside))
 
-pub kept_fit : (n : ℕ) (kept : List ℕ) → Ascends kept → All (λ s. s < n) kept → are_kept n None kept ≡ true
+kept_fit : (n : ℕ) (kept : List ℕ) → Ascends kept → All (λ s. s < n) kept → are_kept n None kept ≡ true
 kept_fit n kept a inside = kept_behind n None kept (λ i l. refl) a inside
 
 -- ---- flows
@@ -48,10 +48,13 @@ flows_behind n before (f ∷ flows) next a inside =
 -- ---- bodies
 
 module _ (m : Mdp) (n : ℕ) (size : n ≡ states_of m) where
+  kept_inside : (kept : List ℕ) → Ascends kept → All (λ s. s < states_of m) kept → are_kept n None kept ≡ true
+  kept_inside kept ascends inside = kept_fit n kept ascends (subst (λ (k : ℕ). All (λ s. s < k) kept) (sym size) inside)
+
   pub flow_fits : (kept : List ℕ) (wide : List Bool) (flows : List Flow) → IsFlowShape m kept wide flows → (are_kept n None kept && eqb (length wide) (length kept) && are_flows n None flows) ≡ true
   flow_fits kept wide flows shape =
       ap₂ (λ (p q : Bool). p && q)
-      (ap₂ (λ (p q : Bool). p && q) (kept_fit n kept shape.kept_ascends (subst (λ (k : ℕ). All (λ s. s < k) kept) (sym size) shape.kept_in_range)) (eq-eqb (length wide) (length kept) shape.one_wide_each))
+      (ap₂ (λ (p q : Bool). p && q) (kept_inside kept shape.kept_ascends shape.kept_in_range) (eq-eqb (length wide) (length kept) shape.one_wide_each))
       (flows_behind n None flows (λ i l. refl) shape.flows_ascend (subst (λ (k : ℕ). All (λ (f : Flow). f.state < k) flows) (sym size) shape.flows_in_range))
 
   pub floor_fits : (kept : List ℕ) (wide : List Bool) (values : List ℚ) (ranks : List ℕ) → IsFloorShape m kept wide values ranks
@@ -59,7 +62,7 @@ module _ (m : Mdp) (n : ℕ) (size : n ≡ states_of m) where
   floor_fits kept wide values ranks shape =
       ap₂ (λ (p q : Bool). p && q)
       (ap₂ (λ (p q : Bool). p && q)
-      (ap₂ (λ (p q : Bool). p && q) (kept_fit n kept shape.kept_ascends (subst (λ (k : ℕ). All (λ s. s < k) kept) (sym size) shape.kept_in_range)) (eq-eqb (length wide) (length kept) shape.one_wide_each))
+      (ap₂ (λ (p q : Bool). p && q) (kept_inside kept shape.kept_ascends shape.kept_in_range) (eq-eqb (length wide) (length kept) shape.one_wide_each))
       (eq-eqb (length values) (length kept) shape.one_value_each)) (eq-eqb (length ranks) (length kept) shape.one_rank_each)
 
 -- ---- the threshold

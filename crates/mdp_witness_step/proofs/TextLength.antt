@@ -1,5 +1,6 @@
 -- The text of a witness has at most 2^30 bytes: a line for each kept state, and at most one flow for each state.
-use Rattle.std.proofs.Common.{◌≡◌, ℕ, zero, suc, ◌+◌, ◌*◌, ◌<◌, ◌≤◌, ◌^◌, Bool, true, false, cond, eqb, List, [], ◌∷◌, ◌++◌, length, get_or, codes, decimal, refl, arith, lit<, ℤ, pos, negsuc, unsigned_abs}
+use Rattle.std.proofs.Common.{◌≡◌, ℕ, zero, suc, ◌+◌, ◌*◌, ◌<◌, ◌≤◌, ◌^◌, Bool, true, false, cond, eqb, List, [], ◌∷◌, ◌++◌, length, get_or}
+use Rattle.std.proofs.Common.{codes, decimal, refl, arith, lit<, ℤ, pos, negsuc, unsigned_abs}
 use Rattle.std.specs.Fmt.{signed_decimal}
 use Rattle.std.specs.List.{All, AllByRecursion as Each, join_with_byte}
 use Rattle.std.proofs.lemmas.Bool.{and_parts, leb-true}
@@ -212,7 +213,8 @@ module _ (dir : Dir) (label : List ℕ) (threshold : ℚ) (start : ℕ) (m : Mdp
         let i = start_short start (omega (arith, p, limit, inside)) in
         omega (arith, a, b, x, y, z, c, s, i)
 
-    whole_short : (lines : List ℕ) → length lines ≤ 400 * states_of m + 4 → length (line (codes "mdp-certificate 2") ++ (head_text (certificate_of dir label threshold start m found) ++ lines)) ≤ 2 ^ 30
+    whole_short : (lines : List ℕ) → length lines ≤ 400 * states_of m + 4
+        → length (line (codes "mdp-certificate 2") ++ (head_text (certificate_of dir label threshold start m found) ++ lines)) ≤ 2 ^ 30
     whole_short lines k =
         let head = head_text (certificate_of dir label threshold start m found) in
         let a = length-append (line (codes "mdp-certificate 2")) (head ++ lines) in
