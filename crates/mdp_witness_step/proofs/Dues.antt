@@ -47,7 +47,7 @@ module _ (dir : Dir) (label : List ℕ) (threshold : ℚ) where
 
   module _ (m : Mdp) (mdp : IsMdp m) where
     module _ (holds : query.FoundHold) (sub_max : query.FoundReachMax) (sub_min : query.FoundReachMin) (policy : query.PoliciesReach) (needed_max : query.FoundNeededMax)
-        (needed_min : query.FoundNeededMin) (text : List ℕ) where
+        (needed_min : query.FoundNeededMin) (wide_max : query.FoundMarkedMax) (wide_min : query.FoundMarkedMin) (text : List ℕ) where
       text_at : (l start : Option ℕ) → place_of label m.labels ≡ l → initial_of m ≡ start → IsDueAt dir label threshold m l start (Ok text) → IsWitnessOf dir label threshold m text
       text_at None start named initial due = cc
       text_at (Some l) None named initial due = cc
@@ -60,7 +60,8 @@ module _ (dir : Dir) (label : List ℕ) (threshold : ℚ) where
           witness_of dir label threshold m l start named initial found.0
           (is_witness m goals start threshold found.0 dir (holds dir m goals start threshold found.0 mdp each inside end) (sub_max dir m goals start threshold found.0 mdp each inside end)
           (sub_min dir m goals start threshold found.0 mdp each inside end) (policy dir m goals start threshold found.0 mdp each inside end)
-          (needed_max dir m goals start threshold found.0 mdp each inside end) (needed_min dir m goals start threshold found.0 mdp each inside end)) text found.2
+          (needed_max dir m goals start threshold found.0 mdp each inside end) (needed_min dir m goals start threshold found.0 mdp each inside end)
+          (wide_max dir m goals start threshold found.0 mdp each inside end) (wide_min dir m goals start threshold found.0 mdp each inside end)) text found.2
 
       pub text_is_witness : (r : Result Mdp PlainRefusal) → r ≡ Ok m → IsStepDue dir label threshold r (Ok text) → IsWitnessOf dir label threshold m text
       text_is_witness r e due =

@@ -25,7 +25,7 @@ use Rattle.mdp_step.specs.Files.{most_bytes, model_due}
 use Rattle.mdp_step.specs.Said.{Said}
 use Rattle.mdp_step.proofs.Working.{read_of_due}
 use Rattle.mdp_witness.specs.Query.{PlainSubsystem, flow, floor, EndsSo}
-use Rattle.mdp_witness.specs.Shown.{kept_in, HasShape, Holds, PolicyReaches, IsNeededMax, IsNeededMin, AreNeeded}
+use Rattle.mdp_witness.specs.Shown.{kept_in, HasShape, Holds, PolicyReaches, IsNeededMax, IsNeededMin, AreNeeded, MarksAreExactMax, MarksAreExactMin}
 use Rattle.mdp_witness_step.specs.Certificate.{dir_of, certificate_of}
 use Rattle.mdp_witness_step.specs.Due.{IsEndDue}
 use Rattle.mdp_witness_step.specs.Shown.{IsWitness, IsWitnessOf, IsWitnessPrinted, IsWitnessShown}
@@ -62,9 +62,11 @@ module _ (m : Mdp) (goals : List Bool) (start : ℕ) (threshold : ℚ) (found : 
   pub is_witness : (dir : Dir) → Holds dir m goals start threshold found → (dir ≡ Max → SubMax m goals (kept_in m found) start threshold)
       → (dir ≡ Min → SubMin m goals (kept_in m found) start threshold) → (dir ≡ Max → PolicyReaches m goals start threshold found)
       → (dir ≡ Max → AreNeeded (IsNeededMax m goals start threshold) m found) → (dir ≡ Min → AreNeeded (IsNeededMin m goals start threshold) m found)
-      → IsWitness dir threshold m goals start found
-  is_witness Max rules sub_max sub_min policy needed_max needed_min = record { rules = rules; reaches = sub_max refl; policy = policy refl; needed = needed_max refl }
-  is_witness Min rules sub_max sub_min policy needed_max needed_min = record { rules = rules; reaches = sub_min refl; policy = tt; needed = needed_min refl }
+      → (dir ≡ Max → MarksAreExactMax m goals start threshold found) → (dir ≡ Min → MarksAreExactMin m goals start threshold found) → IsWitness dir threshold m goals start found
+  is_witness Max rules sub_max sub_min policy needed_max needed_min wide_max wide_min =
+      record { rules = rules; reaches = sub_max refl; policy = policy refl; needed = needed_max refl; marks = wide_max refl }
+  is_witness Min rules sub_max sub_min policy needed_max needed_min wide_max wide_min =
+      record { rules = rules; reaches = sub_min refl; policy = tt; needed = needed_min refl; marks = wide_min refl }
 
 -- ---- its text
 

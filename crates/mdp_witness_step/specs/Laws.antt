@@ -19,7 +19,8 @@ IsDueOnce =
     (rule : RowRule) (dir : Dir) (label : List ℕ) (threshold : ℚ) (model : List ℕ) (said again : Said) → IsStepDue dir label threshold (model_due rule model) said
     → IsStepDue dir label threshold (model_due rule model) again → said ≡ again
 
--- a text that is due spells a subsystem whose rules hold, which reaches the threshold, and from which no kept state that isn't marked as wide can go
+-- a text that is due spells a subsystem whose rules hold, which reaches the threshold, from which no kept state that isn't marked as wide can go, and
+-- whose marks are exact
 abbrev pub TextIsWitness : Type 0
 TextIsWitness =
     (rule : RowRule) (dir : Dir) (label : List ℕ) (threshold : ℚ) (model text : List ℕ) (m : Mdp) → model_due rule model ≡ Ok m → IsMdp m

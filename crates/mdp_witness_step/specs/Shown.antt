@@ -16,7 +16,7 @@ use Rattle.mdp_step.specs.Read.{IsWorkOnModel}
 use Rattle.mdp_step.specs.Said.{Said}
 use Rattle.mdp_step.specs.Streams.{Input}
 use Rattle.mdp_witness.specs.Query.{PlainSubsystem}
-use Rattle.mdp_witness.specs.Shown.{kept_in, Holds, PolicyReaches, IsNeededMax, IsNeededMin, AreNeeded}
+use Rattle.mdp_witness.specs.Shown.{kept_in, Holds, PolicyReaches, IsNeededMax, IsNeededMin, AreNeeded, MarksAreExactMax, MarksAreExactMin}
 use Rattle.mdp_witness_step.specs.Certificate.{certificate_of}
 use Rattle.mdp_witness_step.specs.Due.{IsWitnessDue}
 
@@ -35,13 +35,19 @@ abbrev pub IsNeeded : Dir → Mdp → List Bool → ℕ → ℚ → List Bool �
 IsNeeded Max = IsNeededMax
 IsNeeded Min = IsNeededMin
 
--- what holds of a subsystem for these goals and this start: its rules, so it reaches the threshold; its policy does; and no kept state that isn't
--- marked as wide can go
+-- a kept state is marked as wide exactly where a term of its trial is past width
+abbrev pub MarksAreExact : Dir → Mdp → List Bool → ℕ → ℚ → PlainSubsystem → Type 0
+MarksAreExact Max = MarksAreExactMax
+MarksAreExact Min = MarksAreExactMin
+
+-- what holds of a subsystem for these goals and this start: its rules, so it reaches the threshold; its policy does; no kept state that isn't marked as
+-- wide can go; and which states are so marked
 pub record IsWitness (dir : Dir) (threshold : ℚ) (m : Mdp) (goals : List Bool) (start : ℕ) (found : PlainSubsystem) : Type 0 where
   pub rules : Holds dir m goals start threshold found
   pub reaches : Reaches dir m goals (kept_in m found) start threshold
   pub policy : PolicyComes dir m goals start threshold found
   pub needed : AreNeeded (IsNeeded dir m goals start threshold) m found
+  pub marks : MarksAreExact dir m goals start threshold found
 
 -- the text spells such a subsystem, for the states with the label and the one initial state
 pub record IsWitnessOf (dir : Dir) (label : List ℕ) (threshold : ℚ) (m : Mdp) (text : List ℕ) : Type 0 where

@@ -3,7 +3,8 @@ ghost use Rattle.mdp_witness_step.specs.Laws.{IsDueOnce, TextIsWitness, BelowIsB
 use mdp_witness::witness_law;
 
 /// Laws of `witness`: what is due is one thing. A text that is due spells a subsystem whose rules hold, on which some policy, or each, reaches the
-/// threshold, and from which no kept state that isn't marked as wide can go. A value that is due as one below the threshold is the best probability.
+/// threshold, from which no kept state that isn't marked as wide can go, and whose marks are exact. A value that is due as one below the threshold is
+/// the best probability.
 pub fn witness_step_law()
     ensures once { IsDueOnce }
     ensures witness { TextIsWitness }

@@ -54,7 +54,8 @@ returns-clause-printed c =
     let witness : IsWitness dir threshold m (marks_of m c.args.place) c.args.start found =
     subst (λ (g : List Bool). IsWitness dir threshold m g c.args.start found) c.in-Ok.ensures
     (is_witness m c.in-Ok.goals c.args.start threshold found dir c.in-Ok-witness.ensures.holds (λ e. c.in-Ok-witness.ensures.sub_max e) (λ e. c.in-Ok-witness.ensures.sub_min e)
-    (λ e. c.in-Ok-witness.ensures.policy e) (λ e. c.in-Ok-witness.ensures.needed_max e) (λ e. c.in-Ok-witness.ensures.needed_min e)) in
+    (λ e. c.in-Ok-witness.ensures.policy e) (λ e. c.in-Ok-witness.ensures.needed_max e) (λ e. c.in-Ok-witness.ensures.needed_min e)
+    (λ e. c.in-Ok-witness.ensures.wide_max e) (λ e. c.in-Ok-witness.ensures.wide_min e)) in
     text_printed (IsWitnessPrinted dir label threshold m) (cert.plain c.certificate_of-cert.result) _
     (λ text spelled. printed dir label threshold m c.args.place c.args.start c.requires.named c.requires.initial found c.known.ensures.mdp c.text_law.ensures.back end
     c.in-Ok-witness.ensures.shape witness (subst Fits is c.certificate_of-cert.ensures.fits) text (spelled ∙ ap text_of is)) c.certificate_text.ensures
