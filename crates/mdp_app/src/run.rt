@@ -1,13 +1,11 @@
 ghost use Rattle.std.specs.Prelude.{◌≡◌, Err};
 ghost use Rattle.mdp_job.specs.Refusal.{plain_refusal};
-ghost use Rattle.mdp_job.specs.Job.{plain_job};
 ghost use Rattle.mdp_job.specs.Words.{job_of};
 ghost use Rattle.mdp_step.specs.Said.{said};
 ghost use Rattle.mdp_step.specs.Streams.{input, output};
 ghost use Rattle.mdp_app.specs.Written.{WroteText};
 ghost use Rattle.mdp_app.specs.Run.{IsAnswered, IsWorkDone, IsComplete};
 ghost use Rattle.mdp_app.specs.Decided.{IsDecided, EndsWith};
-ghost use Rattle.mdp_app.specs.InRange.{IsInRange, asked_for};
 
 use crate::checking::check_files;
 use mdp_discount_step::{discount_check_files, discount_file};
@@ -21,16 +19,19 @@ use mdp_solve_step::{solve_file, solve_law};
 use mdp_witness_step::{witness_file, witness_step_law};
 use std::alloc::Global;
 
-/// The answer to a job, whose numbers are in range.
-fn answer_to<S: Source, C: Source>(
+/// The answer to the words.
+fn decided<S: Source, C: Source>(
     alloc: Global,
-    job: Job<'_>,
+    words: &[String],
     model: &mut S,
     second: &mut C,
 ) -> Result<Vec<u8>, Refusal>
-    requires { IsInRange (asked_for (plain_job job.entry)) }
-    ensures { IsDecided (asked_for (plain_job job.entry)) (input S.left S.faults model.old model.new) (input C.left C.faults second.old second.new) (said result) }
+    ensures { IsDecided (job_of words.now) (input S.left S.faults model.old model.new) (input C.left C.faults second.old second.new) (said result) }
 {
+    let job = match job_of(words) {
+        Ok(job) => job,
+        Err(error) => return Err(Refusal::Words(error)),
+    };
     match job {
         Job::Solve { rule, dir, query } => solve_file(alloc, rule, dir, query, model),
         Job::Witness {
@@ -60,21 +61,6 @@ fn answer_to<S: Source, C: Source>(
             factor,
         } => discount_file(alloc, rule, dir, name, factor, model),
         Job::DiscountCheck { rule } => discount_check_files(alloc, rule, model, second),
-    }
-}
-
-/// The answer to the words.
-fn decided<S: Source, C: Source>(
-    alloc: Global,
-    words: &[String],
-    model: &mut S,
-    second: &mut C,
-) -> Result<Vec<u8>, Refusal>
-    ensures { IsDecided (job_of words.now) (input S.left S.faults model.old model.new) (input C.left C.faults second.old second.new) (said result) }
-{
-    match job_of(words) {
-        Ok(job) => answer_to(alloc, job, model, second),
-        Err(error) => Err(Refusal::Words(error)),
     }
 }
 

@@ -1,13 +1,73 @@
-use Rattle.std.proofs.Common.{refl}
-use Rattle.mdp_app.proofs.Deciding.{refused_words, decided_as}
-use Rattle.mdp_app.proofs.InRange.{in_range_of}
+use Rattle.std.proofs.Common.{refl, sym, ap, ◌∙◌}
+use Rattle.mdp_job.specs.Job.{plain_job}
+use Rattle.mdp_job.specs.declared.job.Job.{Job}
+use Rattle.mdp_step.specs.Files.{model_due}
+use Rattle.mdp_app.specs.InRange.{asked_for}
+use Rattle.mdp_app.proofs.Accepting.{check_due_by}
+use Rattle.mdp_app.proofs.Deciding.{refused_words, alone_decided, model_decided, pair_decided, decided_as}
+use Rattle.mdp_app.proofs.InRange.{in_range_of, can_draw_of}
 use Rattle.mdp_app.proofs.run.decided.Goals as goal
 
 pub returns-in-Err : goal.returns-in-Err
 returns-in-Err g c = refused_words _ c.in-Err.error _ _ c.in-Err.ensures refl refl refl refl
 
-pub answer_to-requires : goal.answer_to-requires
-answer_to-requires g c = in_range_of c.args.words.now _ c.in-Ok.ensures
+pub returns-in-Solve : goal.returns-in-Solve
+returns-in-Solve g c =
+    decided_as _ _ _ _ _ (sym (ap (λ (job : Job). asked_for (plain_job job)) c.in-Solve.is) ∙ c.in-Ok.ensures)
+    (model_decided _ _ _ _ _ _ refl refl (λ bytes other said due. due) (λ bytes other text shown. shown) refl refl _ c.solve_file.ensures.read c.solve_file.ensures.end)
 
-pub returns-in-Ok : goal.returns-in-Ok
-returns-in-Ok g c = decided_as _ _ _ _ _ c.in-Ok.ensures c.answer_to.ensures
+pub witness_file-requires : goal.witness_file-requires
+witness_file-requires g c = in_range_of c.args.words.now _ (sym (ap (λ (job : Job). asked_for (plain_job job)) c.in-Witness.is) ∙ c.in-Ok.ensures)
+
+pub returns-in-Witness : goal.returns-in-Witness
+returns-in-Witness g c =
+    decided_as _ _ _ _ _ (sym (ap (λ (job : Job). asked_for (plain_job job)) c.in-Witness.is) ∙ c.in-Ok.ensures)
+    (model_decided _ _ _ _ _ _ refl refl (λ bytes other said due. due) (λ bytes other text shown. shown) refl refl _ c.witness_file.ensures.read c.witness_file.ensures.end)
+
+pub returns-in-Check : goal.returns-in-Check
+returns-in-Check g c =
+    decided_as _ _ _ _ _ (sym (ap (λ (job : Job). asked_for (plain_job job)) c.in-Check.is) ∙ c.in-Ok.ensures)
+    (pair_decided _ _ _ _ _ _ refl refl (λ bytes other said due. check_due_by other (model_due _ bytes) said due) (λ bytes other text shown. shown) (λ bytes read. read) _ c.check_files.ensures.read
+    c.check_files.ensures.model_first c.check_files.ensures.model_end c.check_files.ensures.cert_end)
+
+pub drill-requires-clause-some_layers : goal.drill-requires-clause-some_layers
+drill-requires-clause-some_layers g c = (can_draw_of c.in-Drill.number c.in-Drill.layers c.in-Drill.width (in_range_of c.args.words.now _ (sym (ap (λ (job : Job). asked_for (plain_job job)) c.in-Drill.is) ∙ c.in-Ok.ensures))).some_layers
+
+pub drill-requires-clause-few_layers : goal.drill-requires-clause-few_layers
+drill-requires-clause-few_layers g c = (can_draw_of c.in-Drill.number c.in-Drill.layers c.in-Drill.width (in_range_of c.args.words.now _ (sym (ap (λ (job : Job). asked_for (plain_job job)) c.in-Drill.is) ∙ c.in-Ok.ensures))).few_layers
+
+pub drill-requires-clause-some_width : goal.drill-requires-clause-some_width
+drill-requires-clause-some_width g c = (can_draw_of c.in-Drill.number c.in-Drill.layers c.in-Drill.width (in_range_of c.args.words.now _ (sym (ap (λ (job : Job). asked_for (plain_job job)) c.in-Drill.is) ∙ c.in-Ok.ensures))).some_width
+
+pub drill-requires-clause-few_states : goal.drill-requires-clause-few_states
+drill-requires-clause-few_states g c = (can_draw_of c.in-Drill.number c.in-Drill.layers c.in-Drill.width (in_range_of c.args.words.now _ (sym (ap (λ (job : Job). asked_for (plain_job job)) c.in-Drill.is) ∙ c.in-Ok.ensures))).few_states
+
+pub returns-in-Drill : goal.returns-in-Drill
+returns-in-Drill g c =
+    decided_as _ _ _ _ _ (sym (ap (λ (job : Job). asked_for (plain_job job)) c.in-Drill.is) ∙ c.in-Ok.ensures)
+    (alone_decided _ _ _ _ _ refl refl (λ bytes other said due. due) (λ bytes other text shown. shown) refl refl refl refl _ c.drill.ensures.due c.drill.ensures.shown)
+
+pub returns-in-Horizon : goal.returns-in-Horizon
+returns-in-Horizon g c =
+    decided_as _ _ _ _ _ (sym (ap (λ (job : Job). asked_for (plain_job job)) c.in-Horizon.is) ∙ c.in-Ok.ensures)
+    (model_decided _ _ _ _ _ _ refl refl (λ bytes other said due. due) (λ bytes other text shown. shown) refl refl _ c.horizon_file.ensures.read c.horizon_file.ensures.end)
+
+pub returns-in-Policy : goal.returns-in-Policy
+returns-in-Policy g c =
+    decided_as _ _ _ _ _ (sym (ap (λ (job : Job). asked_for (plain_job job)) c.in-Policy.is) ∙ c.in-Ok.ensures)
+    (pair_decided _ _ _ _ _ _ refl refl (λ bytes other said due. due) (λ bytes other text shown. shown) (λ bytes read. read) _ c.policy_file.ensures.read
+    c.policy_file.ensures.unread c.policy_file.ensures.model_end c.policy_file.ensures.second_end)
+
+pub discount_file-requires : goal.discount_file-requires
+discount_file-requires g c = in_range_of c.args.words.now _ (sym (ap (λ (job : Job). asked_for (plain_job job)) c.in-Discount.is) ∙ c.in-Ok.ensures)
+
+pub returns-in-Discount : goal.returns-in-Discount
+returns-in-Discount g c =
+    decided_as _ _ _ _ _ (sym (ap (λ (job : Job). asked_for (plain_job job)) c.in-Discount.is) ∙ c.in-Ok.ensures)
+    (model_decided _ _ _ _ _ _ refl refl (λ bytes other said due. due) (λ bytes other text shown. shown) refl refl _ c.discount_file.ensures.read c.discount_file.ensures.end)
+
+pub returns-in-DiscountCheck : goal.returns-in-DiscountCheck
+returns-in-DiscountCheck g c =
+    decided_as _ _ _ _ _ (sym (ap (λ (job : Job). asked_for (plain_job job)) c.in-DiscountCheck.is) ∙ c.in-Ok.ensures)
+    (pair_decided _ _ _ _ _ _ refl refl (λ bytes other said due. due) (λ bytes other text shown. shown) (λ bytes read. read) _ c.discount_check_files.ensures.read
+    c.discount_check_files.ensures.unread c.discount_check_files.ensures.model_end c.discount_check_files.ensures.second_end)
