@@ -17,6 +17,7 @@ TOP = os.path.join(os.path.dirname(os.path.abspath(__file__)), "..")
 PROGRAM = os.path.join(TOP, "bin", "mdp")
 
 HEAD = "@type: MDP\n@nr_states\n%d\n@model\n"
+REWARDED = "@type: MDP\n@parameters\n\n@reward_models\n\n@nr_states\n%d\n@model\n"
 MOST_LINE = 65536
 MOST_STATES = 1 << 20
 MOST_FILE = 1 << 30
@@ -200,6 +201,43 @@ def nested(size):
     return made
 
 
+def earning_lines(states):
+    """In each state one may stay or go to the next one; in the last one alone a step earns. So each state is an end component, and each but the last takes its exit."""
+    for s in range(states - 1):
+        yield "state %d%s\naction [0]\n%d : 1\naction [0]\n%d : 1\n" % (s, " init" if s == 0 else "", s, s + 1)
+    yield "state %d\naction [1]\n%d : 1\n" % (states - 1, states - 1)
+
+
+def earning(size):
+    def made(folder):
+        with open(folder + "/model.drn", "w") as file:
+            file.write(REWARDED % size)
+            file.writelines(earning_lines(size))
+        return ["solve", "model.drn", "exact", "max", "mean", "-"], "mdp-certificate 2"
+
+    return made
+
+
+def needed(size):
+    """A line: each state goes to the next one, and the last one is the goal, so no state can go."""
+
+    def made(folder):
+        write_model(folder + "/model.drn", size, line_of(size))
+        return ["witness", "model.drn", "exact", "max", "goal", "1"], "mdp-certificate 2"
+
+    return made
+
+
+def line_of(states):
+    for s in range(states):
+        yield "state %d%s\naction\n%d : 1\n" % (s, " init" if s == 0 else " goal" if s == states - 1 else "", min(s + 1, states - 1))
+
+
+def many_discounted(folder):
+    write_model(folder + "/model.drn", MOST_STATES, ring_lines(MOST_STATES, 1))
+    return ["discount", "model.drn", "exact", "max", "-", "0"], "mdp-discount 1"
+
+
 def cut_certificate(folder):
     """A certificate of 2^20 states whose last line lacks its LF."""
     words, _ = great_certificate(folder)
@@ -232,6 +270,13 @@ CASES = {
     "nested_1000": nested(1000),
     "nested_2000": nested(2000),
     "nested_4000": nested(4000),
+    "earning_500": earning(500),
+    "earning_1000": earning(1000),
+    "earning_2000": earning(2000),
+    "needed_500": needed(500),
+    "needed_1000": needed(1000),
+    "needed_2000": needed(2000),
+    "many_discounted": many_discounted,
 }
 
 
