@@ -1,8 +1,10 @@
 //! Faults of sources and sinks at each of their calls, and refused models in whatever pieces they come.
 use crate::run::run;
 use crate::tests::{COIN, sink, source, words_of};
+use mdp_drn::{DrnError, DrnKind, Feed};
 use mdp_edge::ListSink;
 use mdp_job::Status;
+use mdp_rows::RowRule;
 use std::alloc::{AllocError, Global};
 use std::test::Fail;
 
@@ -149,5 +151,27 @@ fn refuses_in_pieces(rt: HostRuntime) -> Result<(), Fail> {
             assert_eq!(rt; out.bytes(), due.as_bytes(), "{chunk}");
         }
     }
+    Ok(())
+}
+
+/// A number of states past the limit, whose line ends with byte 59.
+const PAST: &str =
+    "@type: MDP\n@parameters\n\n@reward_models\n\n@nr_states\n1048577\n@nr_choices\n4\n@model\n";
+
+/// Fed byte by byte, a text is refused by the push that ends the line of the refusal, and from then on.
+#[test]
+fn refuses_byte_by_byte(rt: HostRuntime) -> Result<(), Fail> {
+    let refusal = DrnError::At {
+        line: 7,
+        kind: DrnKind::TooMany,
+    };
+    let mut feed = Feed::new(rt.alloc(), RowRule::Exact)?;
+    for piece in PAST.as_bytes().chunks(1).take(58) {
+        assert_eq!(rt; feed.push(piece), Ok(()));
+    }
+    for piece in PAST.as_bytes().chunks(1).skip(58) {
+        assert_eq!(rt; feed.push(piece), Err(refusal));
+    }
+    assert_eq!(rt; feed.finish().err(), Some(refusal));
     Ok(())
 }
