@@ -7,7 +7,7 @@ use Rattle.mdp_rows.specs.declared.rule.RowRule.{RowRule}
 use Rattle.mdp_drn.specs.Reading.{outcome}
 use Rattle.mdp_cert.specs.Cert.{Certificate}
 use Rattle.mdp_cert.specs.Reading as cert_text
-use Rattle.mdp_cert.specs.declared.error.Refusal as cert_refusal
+use Rattle.mdp_lines.specs.declared.error.Refusal as cert_refusal
 use Rattle.mdp_check.specs.Check.{answer_to, IsAccepted, IsBound}
 use Rattle.mdp_check.specs.declared.answer.Answer.{Answer}
 use Rattle.mdp_check.specs.declared.answer.Answer.TheVariants.{Yes, No, Wide, NoReward, NoLabel, Size, Memory}

@@ -1,6 +1,6 @@
 -- What words that ask for a drill say of its numbers, those that ask for discounted rewards of their factor, and those that ask for a witness of their
 -- threshold.
-use Rattle.std.proofs.Common.{◌≡◌, ℕ, zero, suc, ◌*◌, ◌-◌, ◌^◌, ◌≤◌, Bool, true, false, cond, ◌&&◌, not, nat_lt, List, [], ◌∷◌, length, map, Option, Some, None, Result, Ok, Err}
+use Rattle.std.proofs.Common.{◌≡◌, ℕ, zero, suc, ◌*◌, ◌-◌, ◌^◌, ◌≤◌, Bool, true, false, cond, not, nat_lt, List, [], ◌∷◌, length, map, Option, Some, None, Result, Ok, Err}
 use Rattle.std.proofs.Common.{refl, subst, T, sym, ltb→lt, arith, pos}
 use Rattle.std.specs.Prelude.{◌==◌, codes}
 use Rattle.std.specs.Global.{Global}
@@ -8,21 +8,19 @@ use Rattle.std.specs.Str.{bytes_eq}
 use Rattle.std.specs.String.{string_bytes}
 use Rattle.std.specs.declared.string.String.{String}
 use Rattle.std.proofs.lemmas.Bool.{and_parts, ltb-false}
-use Rattle.mdp_math.specs.Rational.{ℚ, of_int, ratio, lt_ℚ, ◌≤ℚ◌}
+use Rattle.mdp_math.specs.Rational.{ℚ, ratio, lt_ℚ, ◌≤ℚ◌}
 use Rattle.mdp_math.specs.Result.{◌>>=◌}
 use Rattle.mdp_math.proofs.Extremes.{lt_of_test}
 use Rattle.mdp_math.proofs.Order.{0ℚ, 1ℚ, ≤ℚ_refl, ratio-nonneg}
 use Rattle.mdp_num.specs.Numeral.{parts_of, terms_of, value_of, numeral_of}
 use Rattle.mdp_num.specs.declared.errors.NumeralError.{NumeralError}
-use Rattle.mdp_rows.specs.declared.dir.Dir.{Dir}
-use Rattle.mdp_rows.specs.declared.rule.RowRule.{RowRule}
 use Rattle.mdp_discount.specs.Rules.{IsFactor}
 use Rattle.mdp_app.specs.InRange.{IsInRange, asked_for}
-use Rattle.mdp_job.specs.Job.{PlainQuery, PlainJob, solve, witness, check, drill, horizon, policy, discount, discount_check, Asked}
+use Rattle.mdp_job.specs.Job.{PlainJob, solve, witness, check, drill, horizon, policy, discount, Asked}
 use Rattle.mdp_job.specs.Words.{word_at, rule_of, dir_of, check_of, query_of, solve_of, whole_word, can_draw, drill_by, drill_with, drill_of}
-use Rattle.mdp_job.specs.Words.{threshold_by, threshold_of, witness_of, stay_of, steps_of, horizon_of, policy_of, below_one, factor_of, discount_of, discount_check_of, job_of_texts, job_of}
+use Rattle.mdp_job.specs.Words.{threshold_by, threshold_of, witness_of, steps_of, horizon_of, policy_of, below_one, factor_of, discount_of, discount_check_of, job_of_texts, job_of}
 use Rattle.mdp_job.specs.declared.words_error.WordsError.{WordsError}
-use Rattle.mdp_job.specs.declared.words_error.WordsError.TheVariants.{Command, Number, Objective, Threshold, Drill, Factor}
+use Rattle.mdp_job.specs.declared.words_error.WordsError.TheVariants.{Command, Number, Objective, Drill, Factor}
 
 -- ---- a factor
 

@@ -1,5 +1,5 @@
 -- The numbers of a job, which words give in range.
-use Rattle.std.specs.Prelude.{◌≡◌, ℕ, true, Ok, Err, pos}
+use Rattle.std.specs.Prelude.{◌≡◌, true, Ok, Err, pos}
 use Rattle.mdp_math.specs.Rational.{of_int, ◌≤ℚ◌}
 use Rattle.mdp_discount.specs.Rules.{IsFactor}
 use Rattle.mdp_job.specs.Job.{PlainJob, solve, witness, check, drill, horizon, policy, discount, discount_check, Asked}

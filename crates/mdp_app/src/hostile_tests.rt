@@ -106,18 +106,24 @@ fn answers_each_fault_of_a_model(rt: HostRuntime) -> Result<(), Fail> {
     Ok(())
 }
 
-/// Each one call of the second source that fails, behind a model that was read.
+/// Each one call of the second source that fails, behind a model that was read, whatever it is to hold.
 #[test]
-fn answers_each_fault_of_a_policy(rt: HostRuntime) -> Result<(), Fail> {
-    for call in 0..calls_of(TAKES) {
-        let mut out = sink(rt.alloc(), 200, 16, &[])?;
-        let end = ended(rt.alloc(), POLICY, &[], &[call], &mut out)?;
-        assert_eq!(rt; end, Status::ReadFault, "{call}");
-        assert_eq!(rt;
-            out.bytes(),
-            b"read-fault certificate\n".as_slice(),
-            "{call}"
-        );
+fn answers_each_fault_of_a_second_file(rt: HostRuntime) -> Result<(), Fail> {
+    for command in [
+        POLICY,
+        &["check", "MODEL", "exact", "CERT"],
+        &["discount-check", "MODEL", "exact", "CERT"],
+    ] {
+        for call in 0..calls_of(TAKES) {
+            let mut out = sink(rt.alloc(), 200, 16, &[])?;
+            let end = ended(rt.alloc(), command, &[], &[call], &mut out)?;
+            assert_eq!(rt; end, Status::ReadFault, "{call}");
+            assert_eq!(rt;
+                out.bytes(),
+                b"read-fault certificate\n".as_slice(),
+                "{call}"
+            );
+        }
     }
     Ok(())
 }

@@ -1,7 +1,7 @@
 -- A text that grows line by line.
-use Rattle.std.proofs.Common.{◌≡◌, ℕ, suc, ◌+◌, ◌-◌, ◌<◌, ◌≤◌, List, [], ◌∷◌, ◌++◌, length, take, drop, get_or, refl, sym, ap, ◌∙◌, append_assoc, arith, Bool, true, eqb, ◌&&◌, Option, None}
-use Rattle.std.proofs.Math.Seq.{drop-cons, take-append_seam}
-use Rattle.std.proofs.lemmas.List.{take-append-drop, drop_all, drop-drop, length-drop, length-map}
+use Rattle.std.proofs.Common.{◌≡◌, ℕ, suc, ◌+◌, ◌-◌, ◌<◌, ◌≤◌, List, [], ◌∷◌, ◌++◌, length, drop, get_or, refl, sym, ap, ◌∙◌, append_assoc, arith, Bool, true, eqb, ◌&&◌, Option, None}
+use Rattle.std.proofs.Math.Seq.{drop-cons}
+use Rattle.std.proofs.lemmas.List.{drop_all, drop-drop, length-drop, length-map}
 use Rattle.std.proofs.lemmas.Bool.{and_parts}
 use Rattle.mdp_math.specs.Rational.{ℚ}
 use Rattle.mdp_cert.specs.declared.version.Version.{Version}
@@ -12,30 +12,11 @@ use Rattle.mdp_cert.specs.Cert.{PlainClaim, upper, reach, reward, mean, witness,
 use Rattle.mdp_cert.specs.declared.flow_line.FlowLine.TheVariants.{Send}
 use Rattle.mdp_cert.specs.Witness.{flow_lines, floor_lines}
 use Rattle.mdp_cert.specs.Runs.{Columns, run, longest_runs, runs_in}
-use Rattle.mdp_cert.specs.Spelling.{line, run_text, run_lines}
-use Rattle.mdp_cert.specs.Answer.{Keeps, more_in}
-use Rattle.mdp_cert.proofs.Cuts.{number-same}
+use Rattle.mdp_lines.specs.Spelling.{line}
+use Rattle.mdp_cert.specs.Spelling.{run_text, run_lines}
+use Rattle.mdp_cert.specs.Answer.{more_in}
+use Rattle.mdp_lines.proofs.Cuts.{number-same}
 use Rattle.mdp_cert.proofs.Runs.{runs-first, more-inside}
-
--- ---- what stands at the front
-
-split-keeps : (a b : List ℕ) → Keeps a b → b ≡ a ++ drop (length a) b
-split-keeps a b h = sym (take-append-drop (length a) b) ∙ ap (λ (x : List ℕ). x ++ drop (length a) b) h
-
-pub keeps-split : (a b t : List ℕ) → b ≡ a ++ t → Keeps a b
-keeps-split a b t e = ap (take (length a)) e ∙ take-append_seam a t
-
-pub keeps_self : (a : List ℕ) → Keeps a a
-keeps_self a = keeps-split a a [] (sym (append-none a))
-  where
-    append-none : (xs : List ℕ) → xs ++ [] ≡ xs
-    append-none [] = refl
-    append-none (x ∷ xs) = ap (λ (ys : List ℕ). x ∷ ys) (append-none xs)
-
-pub keeps_more : (a b c : List ℕ) → Keeps a b → Keeps b c → Keeps a c
-keeps_more a b c p q =
-    keeps-split a c (drop (length a) b ++ drop (length b) c) (split-keeps b c q ∙ ap (λ (x : List ℕ). x ++ drop (length b) c) (split-keeps a b p) ∙ append_assoc a
-    (drop (length a) b) (drop (length b) c))
 
 -- ---- one line more
 

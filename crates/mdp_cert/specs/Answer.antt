@@ -1,23 +1,11 @@
 -- How an answer of the program stands to the definition.
-use Rattle.std.specs.Prelude.{◌≡◌, ℕ, suc, Bool, false, List, [], ◌∷◌, length, take, Result, Err, if◌then◌else◌}
-use Rattle.mdp_cert.specs.declared.error.CertError.{CertError}
-use Rattle.mdp_cert.specs.declared.error.CertError.TheVariants.{At, Memory}
-use Rattle.mdp_cert.specs.declared.error.Refusal.{Refusal}
+use Rattle.std.specs.Prelude.{ℕ, suc, Bool, false, List, [], ◌∷◌, if◌then◌else◌}
 use Rattle.mdp_cert.specs.declared.head.Head.{Head}
 use Rattle.mdp_cert.specs.declared.version.Version.{Version}
 use Rattle.mdp_cert.specs.declared.version.Version.TheVariants.{One, Two}
 use Rattle.mdp_cert.specs.Cert.{plain_claim}
 use Rattle.mdp_cert.specs.Runs.{Columns}
 use Rattle.mdp_cert.specs.Reading as read
-
--- the refusal is the definition's, and want of memory is free
-abbrev pub Refuses : {A : Type 0} → CertError → Result A Refusal → Type 0
-Refuses (At line kind) defined = defined ≡ Err (record { kind = kind; line = line })
-Refuses Memory defined = Unit {0}
-
--- what was there stands at the front
-abbrev pub Keeps : List ℕ → List ℕ → Type 0
-Keeps old new = take (length old) new ≡ old
 
 abbrev pub plain_head : Head → read.Head
 plain_head h = record { claim = plain_claim h.claim; states = h.states; init = h.init }

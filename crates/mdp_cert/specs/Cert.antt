@@ -8,8 +8,9 @@ use Rattle.mdp_rows.specs.declared.dir.Dir.TheVariants.{Max, Min}
 use Rattle.mdp_flow.specs.declared.flow.Flow.{Flow}
 use Rattle.mdp_cert.specs.declared.claim.Claim.{Claim}
 use Rattle.mdp_cert.specs.declared.claim.Claim.TheVariants.{Upper, Reach, Reward, Mean, Witness}
-use Rattle.mdp_cert.specs.declared.init.Init.{Init}
-use Rattle.mdp_cert.specs.declared.init.Init.TheVariants.{Missing, Finite, Infinite, Start}
+use Rattle.mdp_lines.specs.declared.init.Init.{Init}
+use Rattle.mdp_lines.specs.declared.init.Init.TheVariants.{Missing, Finite, Infinite, Start}
+use Rattle.mdp_lines.specs.Heads.{IsInitInWidth}
 use Rattle.mdp_cert.specs.declared.body.Body.{Body}
 use Rattle.mdp_cert.specs.declared.body.Body.TheVariants as body
 
@@ -138,12 +139,6 @@ IsClaimInWidth (reach dir label) = Unit {0}
 IsClaimInWidth (reward dir name label) = Unit {0}
 IsClaimInWidth (mean dir name) = Unit {0}
 IsClaimInWidth (witness dir label threshold) = IsNarrow threshold
-
-abbrev pub IsInitInWidth : Init → Type 0
-IsInitInWidth Missing = Unit {0}
-IsInitInWidth (Finite state value) = IsNarrow value
-IsInitInWidth (Infinite state) = Unit {0}
-IsInitInWidth (Start state) = Unit {0}
 
 -- a value that is infinite has no width
 abbrev pub IsValueNarrow : Option ℚ → Type 0

@@ -1,13 +1,12 @@
 -- The words of each claim behind the number of a state.
-use Rattle.std.specs.Prelude.{ℕ, ◌<◌, ◌^◌, Bool, true, false, ◌&&◌, ◌==◌, List, [], ◌∷◌, decimal, codes, Option, Some, None, option_and_then, option_map, if◌then◌else◌}
-use Rattle.std.specs.Str.{bytes_eq}
+use Rattle.std.specs.Prelude.{ℕ, ◌<◌, ◌^◌, Bool, true, false, ◌&&◌, ◌==◌, List, [], ◌∷◌, decimal, codes, Option, Some, None, option_and_then}
 use Rattle.mdp_math.specs.Rational.{ℚ}
 use Rattle.mdp_num.specs.Value.{spelling, IsNarrow}
 use Rattle.mdp_num.specs.Canonical.{canonical_of}
 use Rattle.mdp_num.specs.Equal.{eq_ℚ}
 use Rattle.mdp_cert.specs.declared.mean_entry.MeanEntry.{MeanEntry}
 use Rattle.mdp_cert.specs.declared.policy_entry.PolicyEntry.{PolicyEntry}
-use Rattle.mdp_cert.specs.Words.{whole_of}
+use Rattle.mdp_lines.specs.Words.{whole_of, reward_parse}
 use Rattle.mdp_cert.specs.Runs.{Columns}
 
 -- ---- values of one word
@@ -23,9 +22,6 @@ abbrev pub fraction_value : Value ℚ
 fraction_value = record { parse = canonical_of; spell = spelling; same = eq_ℚ }
 
 -- a fraction, or `inf`
-abbrev pub reward_parse : List ℕ → Option (Option ℚ)
-reward_parse word = if bytes_eq word (codes "inf") then Some None else option_map Some (canonical_of word)
-
 abbrev pub reward_text : Option ℚ → List ℕ
 reward_text None = codes "inf"
 reward_text (Some value) = spelling value

@@ -1,7 +1,5 @@
 pub mod Cert
 pub mod Plain
-pub mod Lines
-pub mod Words
 pub mod Runs
 pub mod Claims
 pub mod Listed

@@ -1,6 +1,6 @@
 -- Reading a certificate's text line by line: the certificate, or the first line that breaks a rule. Each line is judged by its shape first, then
 -- by its numbers from left to right, then by what they count, and in version 2 by whether it could be one line with the line before it.
-use Rattle.std.specs.Prelude.{ℕ, zero, suc, ◌+◌, ◌-◌, ◌^◌, Bool, true, false, not, ◌||◌, ◌&&◌, List, [], ◌∷◌}
+use Rattle.std.specs.Prelude.{ℕ, zero, suc, ◌+◌, ◌-◌, Bool, false, not, ◌||◌, ◌&&◌, List, [], ◌∷◌}
 use Rattle.std.specs.Prelude.{length, map, take, drop, Option, Some, None, option_and_then, option_map, Result, Ok, nat_lt, ◌==◌, if◌then◌else◌, codes}
 use Rattle.std.specs.List.{position_or_len, before_first}
 use Rattle.std.specs.Option.{option_or}
@@ -10,22 +10,23 @@ use Rattle.mdp_num.specs.Canonical.{canonical_of}
 use Rattle.mdp_rows.specs.declared.dir.Dir.{Dir}
 use Rattle.mdp_rows.specs.declared.dir.Dir.TheVariants.{Max, Min}
 use Rattle.mdp_rows.specs.Name.{is_name}
-use Rattle.mdp_cert.specs.declared.error.CertKind.TheVariants as kind
-use Rattle.mdp_cert.specs.declared.error.Refusal.{Refusal}
-use Rattle.mdp_cert.specs.declared.init.Init.{Init}
-use Rattle.mdp_cert.specs.declared.init.Init.TheVariants.{Missing, Finite, Infinite, Start}
+use Rattle.mdp_lines.specs.declared.error.CertKind.TheVariants as kind
+use Rattle.mdp_lines.specs.declared.error.Refusal.{Refusal}
+use Rattle.mdp_lines.specs.declared.init.Init.{Init}
 use Rattle.mdp_cert.specs.declared.version.Version.{Version}
 use Rattle.mdp_cert.specs.declared.version.Version.TheVariants.{One, Two}
 use Rattle.mdp_cert.specs.declared.mean_entry.MeanEntry.{MeanEntry}
 use Rattle.mdp_cert.specs.declared.policy_entry.PolicyEntry.{PolicyEntry}
 use Rattle.mdp_cert.specs.Cert.{PlainClaim, upper, reach, reward, mean, witness, may_be_infinite, is_witness, is_at_least_zero, PlainBody, bounds, policy, rewards, gains, Certificate}
-use Rattle.mdp_cert.specs.Lines.{◌>>=◌, refused, refuse_if, or_refused, is_line, Place, place, line_by}
-use Rattle.mdp_cert.specs.Words.{words, first_of, begins_with, words_behind, whole_at, frac_at}
+use Rattle.mdp_lines.specs.Lines.{◌>>=◌, refused, refuse_if, or_refused, is_line, Place, place, line_by, nothing_behind}
+use Rattle.mdp_lines.specs.Heads.{states_at, valued_at, start_at}
+use Rattle.mdp_lines.specs.Words.{words, first_of, begins_with, words_behind, whole_at, frac_at, behind, is_quote}
 use Rattle.mdp_cert.specs.Runs.{Columns, Run, run, single, entries_of}
-use Rattle.mdp_cert.specs.Claims.{reward_parse, fraction_value, reward_value, bound_columns, policy_columns, mean_columns}
+use Rattle.mdp_cert.specs.Claims.{fraction_value, reward_value, bound_columns, policy_columns, mean_columns}
 use Rattle.mdp_cert.specs.Listed.{Listed}
 use Rattle.mdp_cert.specs.Witness.{flow_listed, flow_body, floor_listed, floor_body}
-use Rattle.mdp_cert.specs.Spelling.{version_text, end_text}
+use Rattle.mdp_lines.specs.Spelling.{end_text}
+use Rattle.mdp_cert.specs.Spelling.{version_text}
 
 -- ---- the version
 
@@ -33,10 +34,6 @@ unfoldable pub version_at : ℕ → List ℕ → Result Version Refusal
 version_at n text = if bytes_eq text (version_text One) then Ok One else (if bytes_eq text (version_text Two) then Ok Two else refused kind.Version n)
 
 -- ---- the claim
-
--- what stands behind this front of a text
-abbrev pub behind : List ℕ → List ℕ → Option (List ℕ)
-behind front text = if bytes_eq (take (length front) text) front then Some (drop (length front) text) else None
 
 -- a name, and `"` at the end
 abbrev pub closed_name : List ℕ → Option (List ℕ)
@@ -46,9 +43,6 @@ closed_name text =
 
 abbrev pub name_behind : List ℕ → List ℕ → Option (List ℕ)
 name_behind front text = option_and_then closed_name (behind front text)
-
-abbrev pub is_quote : ℕ → Bool
-is_quote c = c == 34
 
 -- a name, `" "`, and a name with `"` at the end; the first name ends at the first `"`
 abbrev pub two_names : List ℕ → Option (List ℕ × List ℕ)
@@ -109,45 +103,9 @@ claim_of text = option_or (upper_claim text) (option_or (claim_to Max text) (cla
 unfoldable pub claim_at : ℕ → List ℕ → Result PlainClaim Refusal
 claim_at n text = or_refused kind.Claim n (claim_of text)
 
--- ---- the number of states, and the initial state
+-- ---- the lines of claim, states and init
 
-unfoldable pub states_at : ℕ → List ℕ → Result ℕ Refusal
-states_at n text = do
-  behind ← words_behind (codes "states") 1 n text
-  states ← whole_at n (first_of behind)
-  range ← refuse_if kind.Count n ((states == 0) || nat_lt (2 ^ 20) states)
-  Ok states
-
--- the value in the line `init`: a fraction, or `inf` where the claim's values may be infinite
-abbrev pub init_parse : Bool → List ℕ → Option (Option ℚ)
-init_parse true word = reward_parse word
-init_parse false word = option_map Some (canonical_of word)
-
-abbrev pub init_of : ℕ → Option ℚ → Init
-init_of state (Some value) = Finite state value
-init_of state None = Infinite state
-
-unfoldable pub given_at : Bool → ℕ → ℕ → List ℕ → Result Init Refusal
-given_at infinite states n text = do
-  behind ← words_behind (codes "init") 2 n text
-  state ← whole_at n (first_of behind)
-  value ← or_refused kind.Number n (init_parse infinite (first_of (drop 1 behind)))
-  inside ← refuse_if kind.Count n (not (nat_lt state states))
-  Ok (init_of state value)
-
--- a state with its value, or `-`
-unfoldable pub valued_at : Bool → ℕ → ℕ → List ℕ → Result Init Refusal
-valued_at infinite states n text = if bytes_eq text (codes "init -") then Ok Missing else given_at infinite states n text
-
--- a state alone
-unfoldable pub start_at : ℕ → ℕ → List ℕ → Result Init Refusal
-start_at states n text = do
-  behind ← words_behind (codes "init") 1 n text
-  state ← whole_at n (first_of behind)
-  inside ← refuse_if kind.Count n (not (nat_lt state states))
-  Ok (Start state)
-
--- the form of the line is the claim's
+-- the form of the line `init` is the claim's
 abbrev pub init_at : PlainClaim → ℕ → ℕ → List ℕ → Result Init Refusal
 init_at claim states n text = if is_witness claim then start_at states n text else valued_at (may_be_infinite claim) states n text
 
@@ -156,7 +114,7 @@ pub record Head : Type 0 where
   pub states : ℕ
   pub init : Init
 
--- the lines of claim, states and init
+-- these three lines
 unfoldable pub head_from : Place → Result (Head × Place) Refusal
 head_from p = do
   claim ← line_by claim_at p
@@ -278,9 +236,6 @@ body_from v (witness Max label threshold) states p = listed_to_end flow_listed s
 body_from v (witness Min label threshold) states p = listed_to_end floor_listed states p >>= λ xs. Ok (floor_body xs.0, xs.1)
 
 -- ---- the whole
-
-unfoldable pub nothing_behind : Place → Result (Unit {0}) Refusal
-nothing_behind p = refuse_if kind.End p.line (nat_lt 0 (length p.rest))
 
 -- the certificate of which the bytes are one of the two texts, or the first line that breaks a rule
 unfoldable pub outcome : List ℕ → Result Certificate Refusal

@@ -3,33 +3,14 @@ use Rattle.std.specs.Prelude.{ℕ, ◌+◌, List, [], ◌∷◌, ◌++◌, ◌==
 use Rattle.std.specs.List.{join_with_byte}
 use Rattle.mdp_math.specs.Rational.{ℚ}
 use Rattle.mdp_num.specs.Value.{spelling}
-use Rattle.mdp_rows.specs.declared.dir.Dir.{Dir}
-use Rattle.mdp_rows.specs.declared.dir.Dir.TheVariants.{Max, Min}
-use Rattle.mdp_cert.specs.declared.init.Init.{Init}
-use Rattle.mdp_cert.specs.declared.init.Init.TheVariants.{Missing, Finite, Infinite, Start}
 use Rattle.mdp_cert.specs.declared.version.Version.{Version}
 use Rattle.mdp_cert.specs.declared.version.Version.TheVariants.{One, Two}
+use Rattle.mdp_lines.specs.Spelling.{line, ◌␣◌, quoted, dir_text, states_text, init_text, end_text}
 use Rattle.mdp_cert.specs.Cert.{PlainClaim, upper, reach, reward, mean, witness, PlainBody, bounds, policy, rewards, gains, flow, floor, Certificate}
 use Rattle.mdp_cert.specs.Runs.{Columns, Run, runs_in}
 use Rattle.mdp_cert.specs.Claims.{fraction_value, reward_value, bound_columns, policy_columns, policies, mean_columns, means}
 use Rattle.mdp_cert.specs.Listed.{Listed}
 use Rattle.mdp_cert.specs.Witness.{flow_listed, flow_lines, floor_listed, floor_lines}
-
--- a text with its line feed
-abbrev pub line : List ℕ → List ℕ
-line text = text ++ 10 ∷ []
-
--- two words with one blank between
-infixr 6 ◌␣◌
-abbrev pub ◌␣◌ : List ℕ → List ℕ → List ℕ
-a ␣ b = a ++ 32 ∷ b
-
-abbrev pub quoted : List ℕ → List ℕ
-quoted name = 34 ∷ (name ++ 34 ∷ [])
-
-abbrev pub dir_text : Dir → List ℕ
-dir_text Max = codes "max"
-dir_text Min = codes "min"
 
 -- ---- the lines before those of the states
 
@@ -43,15 +24,6 @@ claim_text (reach dir label) = codes "claim" ␣ dir_text dir ␣ codes "reach" 
 claim_text (reward dir name label) = codes "claim" ␣ dir_text dir ␣ codes "reward" ␣ quoted name ␣ quoted label
 claim_text (mean dir name) = codes "claim" ␣ dir_text dir ␣ codes "mean" ␣ quoted name
 claim_text (witness dir label threshold) = codes "claim" ␣ dir_text dir ␣ codes "witness" ␣ quoted label ␣ spelling threshold
-
-abbrev pub states_text : ℕ → List ℕ
-states_text states = codes "states" ␣ decimal states
-
-abbrev pub init_text : Init → List ℕ
-init_text Missing = codes "init -"
-init_text (Finite state value) = codes "init" ␣ decimal state ␣ spelling value
-init_text (Infinite state) = codes "init" ␣ decimal state ␣ codes "inf"
-init_text (Start state) = codes "init" ␣ decimal state
 
 abbrev pub head_text : Certificate → List ℕ
 head_text c = line (claim_text c.claim) ++ (line (states_text c.states) ++ line (init_text c.init))
@@ -72,9 +44,6 @@ run_lines k state (r ∷ rs) = line (run_text k state r) ++ run_lines k (state +
 
 abbrev pub state_lines : {A : Type 0} → Version → Columns A → List A → List ℕ
 state_lines v k xs = run_lines k 0 (runs_in v k xs)
-
-abbrev pub end_text : List ℕ
-end_text = codes "end"
 
 -- the lines of all states, and the line `end`
 abbrev pub closed_lines : {A : Type 0} → Version → Columns A → List A → List ℕ

@@ -3,7 +3,7 @@ ghost use Rattle.mdp_cert.specs.Cert.{plain_claim, plain_body, are_names, has_th
 
 use crate::body::Body;
 use crate::claim::Claim;
-use crate::init::Init;
+use mdp_lines::Init;
 
 /// A certificate: its claim, the number of states, from 1 to 2^20, the initial state with its value, and a body of the claim's kind with an entry per state.
 /// For a subsystem the initial state has no value, and the body has an entry per kept state.

@@ -1,33 +1,16 @@
-ghost use Rattle.std.specs.Prelude.{◌≡◌, ◌==◌, ◌||◌, Ok, Some, None, IfOk, MatchResult, MatchOption, option_and_then, option_map};
-ghost use Rattle.std.specs.List.{list_any, position_or_len};
+ghost use Rattle.std.specs.Prelude.{◌≡◌, Ok, Some, None, IfOk, MatchResult, MatchOption, option_and_then, option_map};
 ghost use Rattle.mdp_rows.specs.Name.{is_name};
 ghost use Rattle.mdp_cert.specs.Cert.{plain_claim};
-ghost use Rattle.mdp_cert.specs.Reading.{behind, closed_name, name_behind, is_quote, two_names, upper_claim, reach_front};
+ghost use Rattle.mdp_lines.specs.Words.{behind};
+ghost use Rattle.mdp_cert.specs.Reading.{closed_name, name_behind, two_names, upper_claim, reach_front};
 ghost use Rattle.mdp_cert.specs.Reading.{reach_claim, reward_front, reward_claim, mean_front, mean_claim, threshold_of, name_and_threshold, witness_front, witness_claim, claim_to, claim_of, claim_at};
-ghost use Rattle.mdp_cert.specs.Answer.{Refuses};
+ghost use Rattle.mdp_lines.specs.Answer.{Refuses};
 
 use crate::claim::Claim;
-use crate::error::{CertError, CertKind};
+use mdp_lines::{CertError, CertKind, before_quote, is_name};
 use mdp_num::{Frac, read_canonical};
 use mdp_rows::Dir;
 use std::alloc::{AllocError, Global};
-
-/// Whether a quote or a line feed is among the bytes.
-fn has_quote_or_line_feed(text: &[u8]) -> bool
-    ensures { result ≡ list_any (λ b. b == 34 || b == 10) text.now }
-{
-    text.iter().any(|byte| *byte == b'"' || *byte == b'\n')
-}
-
-/// Whether the bytes are a name: 1 to 255 bytes without a quote and a line feed.
-fn is_name(name: &[u8]) -> bool
-    ensures { result ≡ is_name name.now }
-{
-    if name.is_empty() || name.len() > 255 {
-        return false;
-    }
-    !has_quote_or_line_feed(name)
-}
 
 /// The name that stands before the quote at the text's end.
 fn closed_name(text: &[u8]) -> Option<&[u8]>
@@ -42,13 +25,6 @@ fn name_behind<'a>(front: &[u8], text: &'a [u8]) -> Option<&'a [u8]>
     ensures { MatchOption result (name_behind front.now text.now ≡ None) (λ name. name_behind front.now text.now ≡ Some name.now) }
 {
     closed_name(text.strip_prefix(front)?)
-}
-
-/// How many bytes stand before the first quote, or all where there is none.
-fn before_quote(text: &[u8]) -> usize
-    ensures { result ≡ position_or_len is_quote text.now }
-{
-    text.iter().take_while(|byte| **byte != b'"').count()
 }
 
 /// The name before the first quote, and the name between `" "` there and the quote at the text's end.

@@ -1,17 +1,16 @@
-ghost use Rattle.std.specs.Prelude.{◌≡◌, ◌++◌, IfOk, map, option_map};
+ghost use Rattle.std.specs.Prelude.{◌≡◌, IfOk, map, option_map};
 ghost use Rattle.mdp_cert.specs.Cert.{floor};
 ghost use Rattle.mdp_cert.specs.Witness.{floor_line_at, floor_listed, floor_lines, floor_body};
 
-use crate::error::{CertKind, Refusal};
 use crate::floor_line::FloorLine;
 use crate::flow_lines::is_next;
-use crate::lines::refuse_if;
 use crate::listed::{Line, Lines};
 use crate::mark::{mark_at, push_mark};
-use crate::numbers::{frac_at, whole_at};
-use crate::push::{push_fraction, push_word};
-use crate::words::{cut_word, only_word, words_behind};
 use mdp_flow::FloorCert;
+use mdp_lines::{
+    CertKind, Refusal, cut_word, frac_at, only_word, push_fraction, push_word, refuse_if, whole_at,
+    words_behind,
+};
 use mdp_num::{Frac, Memory};
 use std::alloc::{AllocError, Global};
 
@@ -59,9 +58,9 @@ impl Line for FloorLine {
 
     fn push_words(&self, out: &mut Vec<u8>) -> Result<(), Memory> {
         out.extend_from_slice(b"keep")?;
-        push_word(out, self.state)?;
+        push_word(out, u64::from(self.state))?;
         push_fraction(out, &self.value)?;
-        push_word(out, self.rank)?;
+        push_word(out, u64::from(self.rank))?;
         push_mark(out, self.wide)
     }
 }

@@ -1,16 +1,15 @@
-ghost use Rattle.std.specs.Prelude.{◌≡◌, ◌&&◌, ◌++◌, IfOk, nat_lt, length, filter_map, option_and_then};
+ghost use Rattle.std.specs.Prelude.{◌≡◌, ◌&&◌, IfOk, length, filter_map, option_and_then};
 ghost use Rattle.mdp_cert.specs.Cert.{is_next, is_next_flow, flow};
 ghost use Rattle.mdp_cert.specs.Witness.{keep_at, flow_at, flow_line_at, kept_in, mark_in, flow_in, flow_listed, keep_lines, flow_lines, flow_body};
 
-use crate::error::{CertKind, Refusal};
 use crate::flow_line::FlowLine;
-use crate::lines::refuse_if;
 use crate::listed::{Line, Lines};
 use crate::mark::{mark_at, push_mark};
-use crate::numbers::{frac_at, whole_at};
-use crate::push::{push_fraction, push_word};
-use crate::words::{begins_with, cut_word, only_word, words_behind};
 use mdp_flow::{Flow, FlowCert};
+use mdp_lines::{
+    CertKind, Refusal, begins_with, cut_word, frac_at, only_word, push_fraction, push_word,
+    refuse_if, whole_at, words_behind,
+};
 use mdp_num::Memory;
 use std::alloc::{AllocError, Global};
 
@@ -150,13 +149,13 @@ impl Line for FlowLine {
         match self {
             FlowLine::Keep { state, wide } => {
                 out.extend_from_slice(b"keep")?;
-                push_word(out, *state)?;
+                push_word(out, u64::from(*state))?;
                 push_mark(out, *wide)
             }
             FlowLine::Send(flow) => {
                 out.extend_from_slice(b"flow")?;
-                push_word(out, flow.state)?;
-                push_word(out, flow.choice)?;
+                push_word(out, u64::from(flow.state))?;
+                push_word(out, u64::from(flow.choice))?;
                 push_fraction(out, &flow.amount)
             }
         }

@@ -1,5 +1,5 @@
 use crate::claim::Claim;
-use crate::init::Init;
+use mdp_lines::Init;
 
 /// What the lines of claim, states and init say.
 #[derive(Drop)]

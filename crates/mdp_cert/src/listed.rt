@@ -1,13 +1,13 @@
-ghost use Rattle.std.specs.Prelude.{◌≡◌, ◌<◌, ◌^◌, ◌++◌, List, Ok, Err, length, slice_index_or, OnOk, MatchResult};
+ghost use Rattle.std.specs.Prelude.{◌≡◌, ◌<◌, ◌^◌, ◌++◌, List, Ok, length, slice_index_or, OnOk, MatchResult};
 ghost use Rattle.std.specs.List.{join_with_byte};
-ghost use Rattle.mdp_cert.specs.Answer.{Keeps, Refuses};
-ghost use Rattle.mdp_cert.specs.Lines.{place};
+ghost use Rattle.mdp_lines.specs.Answer.{Keeps, Refuses};
+ghost use Rattle.mdp_lines.specs.Lines.{place};
 ghost use Rattle.mdp_cert.specs.Listed.{Listed};
-ghost use Rattle.mdp_cert.specs.Spelling.{line, listed_lines};
+ghost use Rattle.mdp_lines.specs.Spelling.{line};
+ghost use Rattle.mdp_cert.specs.Spelling.{listed_lines};
 ghost use Rattle.mdp_cert.specs.Reading.{listed_at, listed_to_end};
 
-use crate::error::{CertError, Refusal};
-use crate::lines::next_line;
+use mdp_lines::{CertError, Refusal, next_line, push_end};
 use mdp_num::Memory;
 use std::alloc::Global;
 
@@ -105,6 +105,5 @@ pub(crate) fn push_listed<L: Lines>(
     for place in 0..count {
         push_line(out, &lines.line(place))?;
     }
-    out.extend_from_slice(b"end\n")?;
-    Ok(())
+    push_end(out)
 }

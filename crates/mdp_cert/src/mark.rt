@@ -1,8 +1,8 @@
 ghost use Rattle.std.specs.Prelude.{◌≡◌, ◌++◌, ◌∷◌, OnOk};
-ghost use Rattle.mdp_cert.specs.Answer.{Keeps};
+ghost use Rattle.mdp_lines.specs.Answer.{Keeps};
 ghost use Rattle.mdp_cert.specs.Witness.{mark_text, mark_at};
 
-use crate::error::{CertKind, Refusal};
+use mdp_lines::{CertKind, Refusal};
 use mdp_num::Memory;
 
 /// Whether the word of a kept state says that it stays because without it a number is past width.

@@ -1,15 +1,14 @@
-ghost use Rattle.std.specs.Prelude.{◌≡◌, ◌++◌, OnOk, IfOk, map};
+ghost use Rattle.std.specs.Prelude.{◌≡◌, IfOk, map};
 ghost use Rattle.mdp_cert.specs.Cert.{gains};
 ghost use Rattle.mdp_cert.specs.Claims.{mean_columns, means};
 ghost use Rattle.mdp_cert.specs.Reading.{mean_body, spread_at};
 
 use crate::entries::{Entry, Lists};
-use crate::error::Refusal;
 use crate::mean_entry::MeanEntry;
-use crate::numbers::{frac_at, whole_of};
-use crate::push::{push_fraction, push_word};
-use crate::words::{cut_word, only_word, words_behind};
 use mdp_farkas::MeanCert;
+use mdp_lines::{
+    Refusal, cut_word, frac_at, only_word, push_fraction, push_word, whole_of, words_behind,
+};
 use mdp_num::{Frac, Memory, read_canonical};
 use std::alloc::{AllocError, Global};
 
@@ -37,7 +36,7 @@ impl Entry for MeanEntry {
         self.gain.push_text(out)?;
         push_fraction(out, &self.bound)?;
         push_fraction(out, &self.bias)?;
-        push_word(out, self.choice)
+        push_word(out, u64::from(self.choice))
     }
 
     fn is_same(&self, other: &MeanEntry) -> bool {

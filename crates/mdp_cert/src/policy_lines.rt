@@ -1,15 +1,13 @@
-ghost use Rattle.std.specs.Prelude.{◌≡◌, ◌++◌, OnOk, IfOk, map};
+ghost use Rattle.std.specs.Prelude.{◌≡◌, IfOk, map};
 ghost use Rattle.mdp_cert.specs.Cert.{policy, rewards};
 ghost use Rattle.mdp_cert.specs.Claims.{policy_columns, policies};
 ghost use Rattle.mdp_cert.specs.Reading.{policy_body, reward_body};
 
 use crate::entries::{Entry, Lists};
-use crate::numbers::whole_of;
 use crate::policy_entry::PolicyEntry;
-use crate::push::push_word;
 use crate::values::Value;
-use crate::words::{cut_word, only_word};
 use mdp_farkas::{ReachCert, RewardCert};
+use mdp_lines::{cut_word, only_word, push_word, whole_of};
 use mdp_num::{Frac, Memory};
 use std::alloc::{AllocError, Global};
 
@@ -33,8 +31,8 @@ impl<V: Value> Entry for PolicyEntry<V> {
 
     fn push_words(&self, out: &mut Vec<u8>) -> Result<(), Memory> {
         self.value.push_word(out)?;
-        push_word(out, self.choice)?;
-        push_word(out, self.rank)
+        push_word(out, u64::from(self.choice))?;
+        push_word(out, u64::from(self.rank))
     }
 
     fn is_same(&self, other: &PolicyEntry<V>) -> bool {

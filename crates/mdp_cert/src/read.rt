@@ -1,24 +1,23 @@
 ghost use Rattle.std.specs.Prelude.{◌≡◌, Ok, IfOk, IfErr, MatchResult};
 ghost use Rattle.mdp_cert.specs.Cert.{plain_claim, plain_body};
 ghost use Rattle.mdp_cert.specs.Plain.{plain};
-ghost use Rattle.mdp_cert.specs.Lines.{place};
-ghost use Rattle.mdp_cert.specs.Reading.{body_from, nothing_behind, outcome};
-ghost use Rattle.mdp_cert.specs.Answer.{Refuses};
+ghost use Rattle.mdp_lines.specs.Lines.{place, nothing_behind};
+ghost use Rattle.mdp_cert.specs.Reading.{body_from, outcome};
+ghost use Rattle.mdp_lines.specs.Answer.{Refuses};
 
 use crate::body::Body;
 use crate::cert::Cert;
 use crate::claim::Claim;
-use crate::error::{CertError, CertKind, Refusal};
 use crate::floor_lines::floor_cert;
 use crate::flow_lines::flow_cert;
 use crate::head_lines::{head_from, version_at};
-use crate::lines::{next_line, refuse_if};
 use crate::listed::listed_to_end;
 use crate::mean_lines::{mean_cert, spread_at};
 use crate::policy_lines::{reach_cert, reward_cert};
 use crate::state_lines::entries_to_end;
 use crate::version::Version;
 use mdp_farkas::UpperCert;
+use mdp_lines::{CertError, next_line, nothing_behind};
 use mdp_rows::Dir;
 use std::alloc::Global;
 
@@ -61,14 +60,6 @@ fn body_from<'a>(
             Ok((Body::Floor(floor_cert(alloc, &lines)?), line, rest))
         }
     }
-}
-
-/// Nothing stands behind the line before this one.
-#[tactic(auto, unfolding(crate::specs::Reading::nothing_behind))]
-fn nothing_behind(line: u64, bytes: &[u8]) -> Result<(), Refusal>
-    ensures { result ≡ nothing_behind (place line bytes.now) }
-{
-    refuse_if(CertKind::End, line, !bytes.is_empty())
 }
 
 /// Reads a certificate: the bytes are its text in one of the versions, or the refusal names the first line that breaks a rule.

@@ -1,5 +1,4 @@
-use crate::CertKind::{Claim, Count, End, Number, Run, Shape, Version};
-use crate::{CertError, read_cert, write_cert, write_old};
+use crate::{read_cert, write_cert, write_old};
 use std::alloc::Global;
 use std::test::Fail;
 
@@ -46,26 +45,6 @@ fn reads_and_writes_both_versions(rt: HostRuntime) -> Result<(), Fail> {
             write_old(&cert, &mut written)?;
             assert_eq!(rt; written.as_slice(), old.as_bytes());
         }
-    }
-    Ok(())
-}
-
-#[test]
-fn kinds_have_numbers_and_texts(rt: HostRuntime) -> Result<(), Fail> {
-    for (kind, number, text) in [
-        (Version, 1, "version"),
-        (Claim, 2, "claim"),
-        (Number, 3, "number"),
-        (Shape, 4, "shape"),
-        (Count, 5, "count"),
-        (End, 6, "end"),
-        (Run, 7, "run"),
-    ] {
-        assert_eq!(rt; kind as u8, number);
-        let error = CertError::At { line: 5, kind };
-        let shown = format!(in rt.alloc(); "{error}")?;
-        let expected = format!(in rt.alloc(); "line 5 {text}")?;
-        assert_eq!(rt; shown, expected);
     }
     Ok(())
 }

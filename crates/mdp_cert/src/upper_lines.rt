@@ -1,9 +1,8 @@
-ghost use Rattle.std.specs.Prelude.{◌≡◌, ◌++◌, OnOk};
 ghost use Rattle.mdp_cert.specs.Claims.{bound_columns};
 
 use crate::entries::{Entry, Lists};
-use crate::words::only_word;
 use mdp_farkas::UpperCert;
+use mdp_lines::only_word;
 use mdp_num::{Frac, Memory, read_canonical};
 
 /// The line of a state for the claim `upper reach`: its upper bound.

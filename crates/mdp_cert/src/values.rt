@@ -1,7 +1,8 @@
 ghost use Rattle.std.specs.Prelude.{◌≡◌, ◌++◌, OnOk};
-ghost use Rattle.mdp_cert.specs.Answer.{Keeps};
+ghost use Rattle.mdp_lines.specs.Answer.{Keeps};
 ghost use Rattle.mdp_cert.specs.Claims.{Value, fraction_value, reward_value};
 
+use mdp_lines::reward_of;
 use mdp_num::{Frac, Memory, read_canonical};
 
 /// A value that is one word of a line.
@@ -44,10 +45,7 @@ impl Value for Option<Frac> {
     ghost value = { reward_value };
 
     fn read_word(word: &[u8]) -> Option<Option<Frac>> {
-        if word == b"inf".as_slice() {
-            return Some(None);
-        }
-        Some(Some(read_canonical(word)?))
+        reward_of(word)
     }
 
     fn push_word(&self, out: &mut Vec<u8>) -> Result<(), Memory> {

@@ -1,15 +1,18 @@
 ghost use Rattle.std.specs.Prelude.{◌≡◌, ◌++◌, ◌+◌, ◌<◌, OnOk, OnErr, length, drop};
 ghost use Rattle.mdp_cert.specs.Cert.{plain_body};
 ghost use Rattle.mdp_cert.specs.Plain.{plain};
-ghost use Rattle.mdp_cert.specs.Spelling.{line, state_lines, closed_lines, head_text, body_text, version_text, text_in, text_of, old_text_of};
-ghost use Rattle.mdp_cert.specs.Answer.{Keeps, same_next, more_same, more_in};
+ghost use Rattle.mdp_lines.specs.Spelling.{line};
+ghost use Rattle.mdp_cert.specs.Spelling.{state_lines, closed_lines, head_text, body_text, version_text, text_in, text_of, old_text_of};
+ghost use Rattle.mdp_lines.specs.Answer.{Keeps};
+ghost use Rattle.mdp_cert.specs.Answer.{same_next, more_same, more_in};
 
 use crate::body::Body;
 use crate::cert::Cert;
 use crate::entries::{Entry, Lists};
 use crate::listed::push_listed;
-use crate::push::{push_claim, push_init, push_number, push_run, push_spread};
+use crate::push::{push_claim, push_run, push_spread};
 use crate::version::Version;
+use mdp_lines::{push_end, push_init, push_number};
 use mdp_num::Memory;
 
 /// Appends the line of the version.
@@ -30,7 +33,7 @@ fn push_head(out: &mut Vec<u8>, cert: &Cert) -> Result<(), Memory>
     ensures front { Keeps out.old.items out.new.items }
 {
     push_claim(out, &cert.claim)?;
-    push_number(out, cert.states)?;
+    push_number(out, u64::from(cert.states))?;
     push_init(out, &cert.init)
 }
 
@@ -100,8 +103,7 @@ fn push_to_end<L: Lists>(
     ensures front { Keeps out.old.items out.new.items }
 {
     push_entries(out, version, states, entries)?;
-    out.extend_from_slice(b"end\n")?;
-    Ok(())
+    push_end(out)
 }
 
 /// Appends the lines behind the head, by the claim, with the line `end`.

@@ -29,7 +29,7 @@ use Rattle.mdp_flow.specs.FlowChecks.{flow_checks, HoldsFlow}
 use Rattle.mdp_flow.specs.FloorChecks.{floor_checks, HoldsFloor}
 use Rattle.mdp_flow.proofs.FlowRules.{flow_rules, flow_sub_max, flow_within}
 use Rattle.mdp_flow.proofs.FloorRules.{floor_rules, floor_sub_min}
-use Rattle.mdp_cert.specs.declared.init.Init.{Init}
+use Rattle.mdp_lines.specs.declared.init.Init.{Init}
 use Rattle.mdp_check.specs.Initial.{init_check, init_fault, start_of}
 use Rattle.mdp_check.proofs.Shapes.{flow_shape, floor_shape, start_below}
 use Rattle.mdp_check.specs.Check.{reward_place, labelled_marks, goal_marks, answer_of, verdict_by, body_verdict, after_init, at_goals, at_reward, answer_to, valid_by, IsAccepted, bound_by, IsBound}

@@ -1,17 +1,16 @@
 -- The lists of a subsystem that fit its claim have the shape that its rules ask for, and its initial state is one of the model's.
 use Rattle.std.proofs.Common.{◌≡◌, ℕ, zero, suc, ◌<◌, Bool, true, false, cond, eqb, ltb, ◌&&◌, ◌||◌, List, [], ◌∷◌, length, get_or, Option, Some, None, refl, sym, ap, subst, ◌∙◌, arith}
-use Rattle.std.specs.Prelude.{codes}
-use Rattle.std.specs.List.{All, range_with_len}
+use Rattle.std.specs.List.{All}
 use Rattle.std.proofs.lemmas.Bool.{and_parts, eqb-true, ltb-true}
 use Rattle.std.proofs.lemmas.Bool.Decides.{nat_tests}
-use Rattle.std.proofs.lemmas.List.Elements.{All-cons, All-head, All-filter, All-from_get_or}
-use Rattle.std.proofs.lemmas.List.FromFn.{length-range_with_len, get_or-range_with_len}
+use Rattle.std.proofs.lemmas.List.Elements.{All-cons}
 use Rattle.mdp_math.specs.Rational.{ℚ}
 use Rattle.mdp_rows.specs.declared.dir.Dir.{Dir}
 use Rattle.mdp_spec.specs.Mdp.{Mdp, states_of}
-use Rattle.mdp_spec.specs.Labels.{place_of, has_at, labelled, only, initial_of}
-use Rattle.mdp_cert.specs.declared.init.Init.{Init}
-use Rattle.mdp_cert.specs.declared.init.Init.TheVariants.{Missing, Finite, Infinite, Start}
+use Rattle.mdp_spec.specs.Labels.{initial_of}
+use Rattle.mdp_lines.proofs.InitialState.{initial_below}
+use Rattle.mdp_lines.specs.declared.init.Init.{Init}
+use Rattle.mdp_lines.specs.declared.init.Init.TheVariants.{Missing, Finite, Infinite, Start}
 use Rattle.mdp_cert.specs.Cert.{witness, PlainBody, bounds, policy, rewards, gains, flow, floor, is_init_of, are_kept, are_flows}
 use Rattle.mdp_farkas.specs.declared.verdict.Verdict.TheVariants as verdict
 use Rattle.mdp_flow.specs.declared.flow.Flow.{Flow}
@@ -102,22 +101,6 @@ floor_shape m states kept wide values ranks size fits =
     }
 
 -- ---- the initial state
-
-only_passes : (P : ℕ → Type 0) (xs : List ℕ) (s : ℕ) → only xs ≡ Some s → All P xs → P s
-only_passes P [] s e h = cc e
-only_passes P (x ∷ []) s e h = subst P (let i : x ≡ s = cc e in i) (All-head P x [] h)
-only_passes P (x ∷ y ∷ xs) s e h = cc e
-
-range_below : (n : ℕ) → All (λ s. s < n) (range_with_len 0 n)
-range_below n =
-    All-from_get_or (λ s. s < n) (range_with_len 0 n) 0 (λ i l.
-    let lt : i < n = subst (λ (k : ℕ). i < k) (length-range_with_len 0 n) l in
-    subst (λ (s : ℕ). s < n) (sym (get_or-range_with_len 0 n i 0 lt)) (omega (arith, lt)))
-
-initial_below : (m : Mdp) (s : ℕ) → initial_of m ≡ Some s → s < states_of m
-initial_below m s e =
-    only_passes (λ s. s < states_of m) (labelled m (codes "init")) s e
-    (All-filter (has_at m (place_of (codes "init") m.labels)) (λ s. s < states_of m) (range_with_len 0 (states_of m)) (range_below (states_of m)))
 
 -- rule 1 holds only where the line has the value, and names the model's one initial state
 state_yes : (s : ℕ) (initial : Option ℕ) (valued : Bool) → state_check s initial valued ≡ verdict.Yes → (initial ≡ Some s) × (valued ≡ true)

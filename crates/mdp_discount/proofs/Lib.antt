@@ -10,7 +10,6 @@ pub mod ScaledRows
 pub mod Nodes
 pub mod MadeRows
 pub mod Products
-pub mod Initial
 pub mod Solving
 pub mod Ending
 pub mod Names

@@ -4,9 +4,10 @@ use Rattle.std.specs.Prelude.{IsTrue}
 use Rattle.std.specs.List.{list_any}
 use Rattle.mdp_math.specs.Rational.{ℚ}
 use Rattle.mdp_math.proofs.Booleans.{and-parts}
+use Rattle.mdp_spec.specs.Mdp.{value_at}
 use Rattle.mdp_rows.specs.Name.{IsName, IsRewardName}
 use Rattle.mdp_discount.specs.Cert.{is_init}
-use Rattle.mdp_discount.specs.Query.{init_by}
+use Rattle.mdp_lines.specs.Heads.{init_by}
 
 none_of : (bytes : List ℕ) → list_any (λ b. eqb b 32 || eqb b 9 || eqb b 13 || eqb b 34 || eqb b 10) bytes ≡ false → list_any (λ b. eqb b 34 || eqb b 10) bytes ≡ false
 none_of [] h = refl
@@ -29,6 +30,6 @@ not-true true e = cc e
 pub name_of_reward : (name : List ℕ) → IsRewardName name → IsName name
 name_of_reward name h = let p = and-parts _ _ h in ap₂ (λ (a b : Bool). a && not b) p.0 (none_of name (not-true _ p.1))
 
-pub init-inside : (n : ℕ) (o : Option ℕ) (v : List ℚ) → ((s : ℕ) → o ≡ Some s → s < n) → IsTrue (is_init n (init_by o v))
+pub init-inside : (n : ℕ) (o : Option ℕ) (v : List ℚ) → ((s : ℕ) → o ≡ Some s → s < n) → IsTrue (is_init n (init_by o (λ s. Some (value_at v s))))
 init-inside n None v below = refl
 init-inside n (Some s) v below = lt-ltb s n (below s refl)

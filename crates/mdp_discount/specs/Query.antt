@@ -13,8 +13,7 @@ use Rattle.mdp_path.specs.Queries.{WideTerm, term_of, term_of_check}
 use Rattle.mdp_farkas.specs.Verdict.{verdict_of}
 use Rattle.mdp_farkas.specs.declared.verdict.Verdict.{Verdict}
 use Rattle.mdp_farkas.specs.declared.verdict.Verdict.TheVariants.{Yes, No, Wide}
-use Rattle.mdp_cert.specs.declared.init.Init.{Init}
-use Rattle.mdp_cert.specs.declared.init.Init.TheVariants.{Missing, Finite}
+use Rattle.mdp_lines.specs.Heads.{init_by}
 use Rattle.mdp_discount.specs.Checks.{written_greatest, discount_checks}
 use Rattle.mdp_discount.specs.Problem.{discount_problem}
 use Rattle.mdp_discount.specs.Cert.{Certificate}
@@ -30,17 +29,12 @@ cut_found n found = record { number = found.number; policy = take n found.policy
 abbrev pub cut_refusal : ℕ → Refusal → Refusal
 cut_refusal n refusal = record { number = refusal.number; policy = take n refusal.policy; place = refusal.place }
 
--- the one initial state with its value, where there is exactly one
-abbrev pub init_by : Option ℕ → List ℚ → Init
-init_by None v = Missing
-init_by (Some s) v = Finite s (value_at v s)
-
 abbrev pub answer_of : Dir → Mdp → List ℕ → ℚ → Found → ℚ → Certificate
 answer_of dir m name f found remainder = record {
   dir = dir;
   name = name;
   factor = f;
-  init = init_by (initial_of m) found.values;
+  init = init_by (initial_of m) (λ s. Some (value_at found.values s));
   remainder = remainder;
   values = found.values;
   choices = found.policy;

@@ -3,7 +3,7 @@ ghost use Rattle.mdp_rows.specs.Name.{is_name};
 ghost use Rattle.mdp_discount.specs.Rules.{IsFactor};
 ghost use Rattle.mdp_discount.specs.Cert.{is_init};
 
-use mdp_cert::Init;
+use mdp_lines::Init;
 use mdp_num::Frac;
 use mdp_rows::Dir;
 

@@ -1,6 +1,4 @@
 ghost use Rattle.std.specs.Prelude.{◌≡◌, ◌<◌, ℕ, [], length, slice_index_or, take, IfOk};
-ghost use Rattle.mdp_spec.specs.Mdp.{states_of};
-ghost use Rattle.mdp_spec.specs.Labels.{initial_of};
 ghost use Rattle.mdp_path.specs.Ends.{capped};
 ghost use Rattle.mdp_elim.specs.declared.too_wide.Part.TheVariants.{Whole};
 ghost use Rattle.mdp_path.specs.Queries.{Solves, shown, term_of};
@@ -8,7 +6,7 @@ ghost use Rattle.mdp_discount.specs.Rules.{IsFactor};
 ghost use Rattle.mdp_discount.specs.Bounds.{DiscountBound};
 ghost use Rattle.mdp_discount.specs.Checks.{IsDiscount};
 ghost use Rattle.mdp_discount.specs.Plain.{plain};
-ghost use Rattle.mdp_discount.specs.Query.{EndsSo, AfterFound, init_by};
+ghost use Rattle.mdp_discount.specs.Query.{EndsSo, AfterFound};
 ghost use Rattle.mdp_discount.specs.Code.{PathEnds, IsFound, found_of, cut_term, wide_after};
 
 use crate::cert::DiscountCert;
@@ -17,9 +15,9 @@ use crate::magnitude::greatest_magnitude;
 use crate::problem::Discounted;
 use crate::scaled::scaled_states;
 use bumpalo::Bump;
-use mdp_cert::Init;
 use mdp_elim::{Kind, Part, SolveError, TooWide};
 use mdp_farkas::Verdict;
+use mdp_lines::init_with;
 use mdp_num::Frac;
 use mdp_path::{PathError, Solution, WideAt, improve};
 use mdp_rows::{Dir, Model};
@@ -77,17 +75,6 @@ fn path_end(
     }
 }
 
-/// The one initial state with its value, where there is exactly one.
-fn init_of(model: &Model, values: &[Frac]) -> Init
-    requires { length values.now ≡ states_of model.now }
-    ensures { result ≡ init_by (initial_of model.now) values.now }
-{
-    match model.initial() {
-        Some(s) => Init::Finite(s, values[s as usize]),
-        None => Init::Missing,
-    }
-}
-
 /// A term past width after the last round, in what was found.
 fn wide_after(
     round: u64,
@@ -134,7 +121,7 @@ fn certified(
         dir,
         name: Vec::from_slice(alloc, name)?,
         factor,
-        init: init_of(model, &found.values),
+        init: init_with(model, &found.values),
         remainder,
         values: found.values,
         choices: found.policy,

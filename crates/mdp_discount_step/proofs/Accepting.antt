@@ -6,7 +6,7 @@ use Rattle.mdp_spec.specs.Mdp.{Mdp}
 use Rattle.mdp_spec.specs.Row.{IsMdp}
 use Rattle.mdp_rows.specs.declared.rule.RowRule.{RowRule}
 use Rattle.mdp_drn.specs.Reading as drn
-use Rattle.mdp_cert.specs.declared.error.Refusal as text
+use Rattle.mdp_lines.specs.declared.error.Refusal as text
 use Rattle.mdp_discount.specs.Cert.{Certificate, Fits}
 use Rattle.mdp_discount.specs.Check.{answer_to, IsAccepted}
 use Rattle.mdp_discount.specs.Laws as law

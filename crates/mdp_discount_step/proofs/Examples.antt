@@ -6,9 +6,9 @@ use Rattle.mdp_math.specs.Rational.{ℚ, of_int, ratio, ◌+ℚ◌, ◌*ℚ◌, 
 use Rattle.mdp_math.specs.Written.{narrow, narrow_ℚ, written_add, written_mul, written_compare}
 use Rattle.mdp_spec.specs.Mdp.{Entry, Choice, State, Mdp}
 use Rattle.mdp_rows.specs.declared.dir.Dir.TheVariants.{Max}
-use Rattle.mdp_cert.specs.declared.error.CertKind.TheVariants.{Number}
-use Rattle.mdp_cert.specs.declared.init.Init.{Init}
-use Rattle.mdp_cert.specs.declared.init.Init.TheVariants.{Missing, Finite}
+use Rattle.mdp_lines.specs.declared.error.CertKind.TheVariants.{Number}
+use Rattle.mdp_lines.specs.declared.init.Init.{Init}
+use Rattle.mdp_lines.specs.declared.init.Init.TheVariants.{Missing, Finite}
 use Rattle.mdp_discount.specs.Cert.{Certificate}
 use Rattle.mdp_job.specs.Refusal.{query_size, query_reward, denied, cert_text}
 use Rattle.mdp_discount_step.specs.Due.{IsNamedDue, said_to_certificate}

@@ -21,8 +21,9 @@ use Rattle.mdp_discount.specs.Cert.{Certificate, Fits}
 use Rattle.mdp_discount.specs.Check.{init_fault, init_check, IsAccepted, IsBound}
 use Rattle.mdp_discount.specs.Checks.{written_greatest, discount_checks, IsDiscount}
 use Rattle.mdp_discount.specs.Plain.{plain}
-use Rattle.mdp_discount.specs.Query.{cut_found, init_by, answer_of, Held, AfterRemainder, AfterPath, EndsSo}
-use Rattle.mdp_discount.proofs.Initial.{initial_below}
+use Rattle.mdp_lines.specs.Heads.{init_by}
+use Rattle.mdp_discount.specs.Query.{cut_found, answer_of, Held, AfterRemainder, AfterPath, EndsSo}
+use Rattle.mdp_lines.proofs.InitialState.{initial_below}
 use Rattle.mdp_discount_text.specs.Laws.{IsReadBack}
 use Rattle.mdp_discount_text.specs.Spelling.{text_of}
 use Rattle.mdp_discount_text.specs.Text.{outcome}
@@ -43,7 +44,7 @@ name_at name names r e = let p = position-Some (bytes_eq name) names r [] e in s
 -- its claim is that of the query, and its line `init` has the model's one initial state with its value
 pub record IsOfQuery (dir : Dir) (name : List ℕ) (f : ℚ) (m : Mdp) (a : Certificate) : Type 0 where
   pub claim : ClaimsSo dir name f a
-  pub init : a.init ≡ init_by (initial_of m) a.values
+  pub init : a.init ≡ init_by (initial_of m) (λ s. Some (value_at a.values s))
 
 module _ (dir : Dir) (m : Mdp) (r : ℕ) (name : List ℕ) (f : ℚ) (a : Certificate) where
   of_verdict : (found : Found) (remainder : ℚ) (v : Verdict) → Held dir m name f found remainder v (Ok a) → IsOfQuery dir name f m a
@@ -66,7 +67,7 @@ module _ (dir : Dir) (m : Mdp) (r : ℕ) (name : List ℕ) (f : ℚ) (a : Certif
 
 -- ---- the line `init`
 
-init_holds : (o : Option ℕ) (v : List ℚ) → ((s : ℕ) → o ≡ Some s → s < length v) → init_check (init_by o v) o v ≡ verdict.Yes
+init_holds : (o : Option ℕ) (v : List ℚ) → ((s : ℕ) → o ≡ Some s → s < length v) → init_check (init_by o (λ s. Some (value_at v s))) o v ≡ verdict.Yes
 init_holds None v below = refl
 init_holds (Some s) v below =
     ap₂ (λ (a b : Bool). cond (a && b) verdict.Yes (init_fault (Some s))) (eq-eqb s s refl)

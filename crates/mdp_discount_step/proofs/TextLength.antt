@@ -1,62 +1,23 @@
 -- The text of a certificate of the discounted reward has at most 2^30 bytes.
-use Rattle.std.proofs.Common.{◌≡◌, ℕ, suc, ◌+◌, ◌*◌, ◌<◌, ◌≤◌, ◌^◌, Bool, true, false, cond, eqb, List, [], ◌∷◌, ◌++◌, length, codes, decimal, refl, arith, lit<, ℤ, pos, negsuc}
-use Rattle.std.proofs.Common.{unsigned_abs, ltb→lt, T, sym, subst}
+use Rattle.std.proofs.Common.{◌≡◌, ℕ, suc, ◌+◌, ◌*◌, ◌<◌, ◌≤◌, ◌^◌, true, List, [], ◌∷◌, ◌++◌, length, codes, decimal, arith, lit<, ltb→lt, T, sym, subst}
 use Rattle.std.specs.Prelude.{IsTrue}
-use Rattle.std.specs.Fmt.{signed_decimal}
 use Rattle.std.specs.List.{AllByRecursion as Each}
-use Rattle.std.proofs.lemmas.Bool.{and_parts, leb-true}
-use Rattle.std.proofs.lemmas.Fmt.{length-decimal-le, length-decimal-le_wide}
 use Rattle.std.proofs.lemmas.List.{length-append}
 use Rattle.std.proofs.lemmas.List.Elements.{recursion_from_All}
 use Rattle.mdp_math.specs.Rational.{ℚ}
 use Rattle.mdp_num.specs.Value.{spelling, IsNarrow}
 use Rattle.mdp_rows.specs.Name.{is_name}
 use Rattle.mdp_rows.specs.declared.dir.Dir.{Dir}
-use Rattle.mdp_rows.specs.declared.dir.Dir.TheVariants.{Max, Min}
-use Rattle.mdp_cert.specs.declared.init.Init.{Init}
-use Rattle.mdp_cert.specs.declared.init.Init.TheVariants.{Missing, Finite, Infinite, Start}
-use Rattle.mdp_cert.specs.Spelling.{line, ◌␣◌, quoted, dir_text, states_text, init_text, end_text}
+use Rattle.mdp_lines.specs.declared.init.Init.{Init}
+use Rattle.mdp_lines.specs.declared.init.Init.TheVariants.{Missing, Finite, Infinite, Start}
+use Rattle.mdp_lines.specs.Spelling.{line, ◌␣◌, quoted, dir_text, states_text, init_text, end_text}
+use Rattle.mdp_lines.proofs.Lengths.{number_short, spelling_short, blank_length, line_length, name_short, dir_length, quoted_length, states_short, IsShortInit, init_short}
+use Rattle.mdp_lines.specs.Heads.{IsInitInWidth}
 use Rattle.mdp_discount.specs.Cert.{is_init, IsInitNarrow, Certificate, Fits}
 use Rattle.mdp_discount_text.specs.Spelling.{version_text, claim_text, remainder_text, state_text, state_lines, head_text, text_of}
 use Rattle.mdp_step.specs.Files.{most_bytes}
 
--- ---- words
-
-number_short : (n : ℕ) → n < 2 ^ 32 → length (decimal n) ≤ 10
-number_short n h = let p : 2 ^ 32 < 10 ^ 10 = lit< tt in let q : 2 ^ 32 < 2 ^ 64 = lit< tt in length-decimal-le 10 n (omega arith) (omega (arith, p, h)) (omega (arith, q, h))
-
-term_short : (n : ℕ) → n < 2 ^ 127 → length (decimal n) ≤ 39
-term_short n h = let p : 2 ^ 127 < 10 ^ 39 = lit< tt in let q : 2 ^ 127 < 10 ^ 64 = lit< tt in length-decimal-le_wide 39 n (omega arith) (omega (arith, p, h)) (omega (arith, q, h))
-
-signed_short : (z : ℤ) → unsigned_abs z < 2 ^ 127 → length (signed_decimal z) ≤ 40
-signed_short (pos n) h = let l = term_short n h in omega (arith, l)
-signed_short (negsuc n) h = let l = term_short (suc n) h in omega (arith, l)
-
-spelling_short : (x : ℚ) → IsNarrow x → length (spelling x) ≤ 80
-unfolding spelling
-spelling_short x h = by (eqb x.den 1)
-  where
-    by : (b : Bool) → length (cond b (signed_decimal x.num) (signed_decimal x.num ++ 47 ∷ decimal x.den)) ≤ 80
-    by true = let l = signed_short x.num h.top in omega (arith, l)
-    by false = let l = signed_short x.num h.top in let k = term_short x.den h.bottom in let e = length-append (signed_decimal x.num) (47 ∷ decimal x.den) in omega (arith, l, k, e)
-
-blank_length : (a b : List ℕ) → length (a ␣ b) ≡ length a + (1 + length b)
-blank_length a b = let e = length-append a (32 ∷ b) in omega (arith, e)
-
-line_length : (a : List ℕ) → length (line a) ≡ length a + 1
-line_length a = length-append a (10 ∷ [])
-
 -- ---- the lines before those of the states
-
-name_short : (name : List ℕ) → is_name name ≡ true → length name ≤ 255
-name_short name h = leb-true (length name) 255 (and_parts _ _ (and_parts _ _ h).0).1
-
-dir_length : (dir : Dir) → length (dir_text dir) ≡ 3
-dir_length Max = refl
-dir_length Min = refl
-
-quoted_length : (name : List ℕ) → length (quoted name) ≡ length name + 2
-quoted_length name = let d = length-append name (34 ∷ []) in omega (arith, d)
 
 claim_short : (dir : Dir) (name : List ℕ) (f : ℚ) → is_name name ≡ true → IsNarrow f → length (claim_text dir name f) ≤ 400
 claim_short dir name f named narrow =
@@ -70,21 +31,21 @@ claim_short dir name f named narrow =
     let s = spelling_short f narrow in
     omega (arith, a, b, c, d, l, q, n, s)
 
-states_short : (n : ℕ) → n < 2 ^ 32 → length (states_text n) ≤ 30
-states_short n h = let a = blank_length (codes "states") (decimal n) in let l = number_short n h in omega (arith, a, l)
-
-init_short : (n : ℕ) (init : Init) → n ≤ 2 ^ 20 → IsTrue (is_init n init) → IsInitNarrow init → length (init_text init) ≤ 150
-init_short n Missing limit inside narrow = omega arith
-init_short n (Finite state value) limit inside narrow =
+-- the initial state is a state, and its value is in width
+start_inside : (n : ℕ) (init : Init) → n ≤ 2 ^ 20 → IsTrue (is_init n init) → IsInitNarrow init → IsShortInit init
+start_inside n Missing limit inside narrow = tt
+start_inside n (Finite state value) limit inside narrow =
     let p : 2 ^ 20 < 2 ^ 32 = lit< tt in
     let below = ltb→lt state n (subst T (sym inside) tt) in
-    let a = blank_length (codes "init") (decimal state ␣ spelling value) in
-    let b = blank_length (decimal state) (spelling value) in
-    let l = number_short state (omega (arith, limit, p, below)) in
-    let v = spelling_short value narrow in
-    omega (arith, a, b, l, v)
-init_short n (Infinite state) limit inside narrow = absurd narrow
-init_short n (Start state) limit inside narrow = absurd narrow
+    omega (arith, limit, p, below)
+start_inside n (Infinite state) limit inside narrow = absurd narrow
+start_inside n (Start state) limit inside narrow = absurd narrow
+
+in_width : (init : Init) → IsInitNarrow init → IsInitInWidth init
+in_width Missing narrow = tt
+in_width (Finite state value) narrow = narrow
+in_width (Infinite state) narrow = tt
+in_width (Start state) narrow = tt
 
 remainder_short : (x : ℚ) → IsNarrow x → length (remainder_text x) ≤ 100
 remainder_short x h = let a = blank_length (codes "remainder") (spelling x) in let s = spelling_short x h in omega (arith, a, s)
@@ -133,7 +94,7 @@ module _ (c : Certificate) (fits : Fits c) where
       let i = line_length remainder in
       let j = claim_short c.dir c.name c.factor fits.named fits.factor_width in
       let k = states_short (length c.values) (omega (arith, few, p)) in
-      let l = init_short (length c.values) c.init few fits.inside fits.init_width in
+      let l = init_short c.init (start_inside (length c.values) c.init few fits.inside fits.init_width) (in_width c.init fits.init_width) in
       let m = remainder_short c.remainder fits.remainder_width in
       omega (arith, a, b, d, e, f, g, h, i, j, k, l, m)
 

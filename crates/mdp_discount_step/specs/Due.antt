@@ -8,7 +8,7 @@ use Rattle.mdp_spec.specs.Mdp.{Mdp}
 use Rattle.mdp_rows.specs.declared.dir.Dir.{Dir}
 use Rattle.mdp_path.specs.Ends.{capped}
 use Rattle.mdp_path.specs.Queries.{WideTerm}
-use Rattle.mdp_cert.specs.declared.error.Refusal as text
+use Rattle.mdp_lines.specs.declared.error.Refusal as text
 use Rattle.mdp_discount.specs.Cert.{Certificate}
 use Rattle.mdp_discount.specs.Check.{answer_to}
 use Rattle.mdp_discount.specs.Query.{EndsSo}

@@ -1,6 +1,5 @@
-ghost use Rattle.std.specs.Prelude.{◌≡◌, ◌⊎◌, ◌<◌, ◌^◌, All, Err, OnOk, IfOk};
+ghost use Rattle.std.specs.Prelude.{◌≡◌, ◌⊎◌, ◌<◌, Err, OnOk, IfOk};
 ghost use Rattle.std.specs.Io.KnownBytes.{IsAtEnd};
-ghost use Rattle.mdp_num.specs.Value.{IsNarrow};
 ghost use Rattle.mdp_discount.specs.Cert.{IsInitNarrow, Fits};
 ghost use Rattle.mdp_discount.specs.Plain.{plain};
 ghost use Rattle.mdp_discount.specs.Rules.{IsFactor};
@@ -16,28 +15,11 @@ use mdp_discount_text::{discount_text_law, write_discount};
 use mdp_edge::Source;
 use mdp_elim::SolveError;
 use mdp_job::Refusal;
+use mdp_lines::{all_narrow, all_short};
 use mdp_num::Frac;
 use mdp_rows::{Dir, Model, RowRule};
 use mdp_step::read_model;
 use std::alloc::Global;
-
-/// Each fraction is in width, as its type keeps it.
-fn all_narrow(values: &[Frac])
-    ensures { All IsNarrow values.now }
-{
-    for value in values {
-        value.num();
-    }
-}
-
-/// Each number has 32 bits.
-fn all_short(numbers: &[u32])
-    ensures { All (λ n. n < 2 ^ 32) numbers.now }
-{
-    for number in numbers {
-        let _number = *number;
-    }
-}
 
 /// The value of the initial state is in width, and it isn't infinite where the line is one of a discounted reward.
 fn init_narrow(cert: &DiscountCert)

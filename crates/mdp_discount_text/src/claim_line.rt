@@ -1,13 +1,11 @@
-ghost use Rattle.std.specs.Prelude.{◌≡◌, ◌==◌, ◌||◌, Ok, Some, None, IfOk, MatchResult, MatchOption};
-ghost use Rattle.std.specs.List.{list_any, position_or_len};
+ghost use Rattle.std.specs.Prelude.{◌≡◌, Ok, Some, None, IfOk, MatchResult, MatchOption};
 ghost use Rattle.std.specs.Option.{option_map};
 ghost use Rattle.mdp_rows.specs.Name.{is_name};
-ghost use Rattle.mdp_cert.specs.Reading.{is_quote};
-ghost use Rattle.mdp_cert.specs.Answer.{Refuses};
+ghost use Rattle.mdp_lines.specs.Answer.{Refuses};
 ghost use Rattle.mdp_discount_text.specs.Text.{is_factor, factor_of, name_and_rest, claim_front, claim_names, claim_to, claim_of, claim_at};
 ghost use Rattle.mdp_discount_text.specs.Code.{plain_claim};
 
-use mdp_cert::{CertError, CertKind};
+use mdp_lines::{CertError, CertKind, before_quote, is_name};
 use mdp_num::{Frac, read_canonical};
 use mdp_rows::Dir;
 use std::alloc::{AllocError, Global};
@@ -18,30 +16,6 @@ pub(crate) struct ClaimLine {
     pub(crate) dir: Dir,
     pub(crate) name: Vec<u8>,
     pub(crate) factor: Frac,
-}
-
-/// Whether a quote or a line feed is among the bytes.
-fn has_quote_or_line_feed(text: &[u8]) -> bool
-    ensures { result ≡ list_any (λ b. b == 34 || b == 10) text.now }
-{
-    text.iter().any(|byte| *byte == b'"' || *byte == b'\n')
-}
-
-/// Whether the bytes are a name: 1 to 255 bytes without a quote and a line feed.
-fn is_name(name: &[u8]) -> bool
-    ensures { result ≡ is_name name.now }
-{
-    if name.is_empty() || name.len() > 255 {
-        return false;
-    }
-    !has_quote_or_line_feed(name)
-}
-
-/// How many bytes stand before the first quote, or all where there is none.
-fn before_quote(text: &[u8]) -> usize
-    ensures { result ≡ position_or_len is_quote text.now }
-{
-    text.iter().take_while(|byte| **byte != b'"').count()
 }
 
 /// The name before the first quote, and what stands behind that quote and a blank.

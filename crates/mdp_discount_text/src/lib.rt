@@ -4,11 +4,9 @@
 mod claim_line;
 mod head_lines;
 mod laws;
-mod lines;
 mod push;
 mod read;
 mod state_lines;
-mod words;
 mod write;
 
 pub use laws::discount_text_law;

@@ -1,24 +1,14 @@
 ghost use Rattle.std.specs.Prelude.{◌≡◌, Ok, IfOk, IfErr};
-ghost use Rattle.mdp_cert.specs.Answer.{Refuses};
-ghost use Rattle.mdp_cert.specs.Lines.{place};
-ghost use Rattle.mdp_cert.specs.Reading.{nothing_behind};
+ghost use Rattle.mdp_lines.specs.Answer.{Refuses};
+ghost use Rattle.mdp_lines.specs.Lines.{nothing_behind};
 ghost use Rattle.mdp_discount.specs.Plain.{plain};
 ghost use Rattle.mdp_discount_text.specs.Text.{outcome};
 
 use crate::head_lines::head_from;
-use crate::lines::{is_line, next_line, refuse_if};
 use crate::state_lines::states_from;
-use mdp_cert::{CertError, CertKind, Refusal};
 use mdp_discount::DiscountCert;
+use mdp_lines::{CertError, CertKind, is_line, next_line, nothing_behind};
 use std::alloc::Global;
-
-/// Nothing stands behind the line before this one.
-#[tactic(auto, unfolding(mdp_cert::specs::Reading::nothing_behind))]
-fn nothing_behind(line: u64, bytes: &[u8]) -> Result<(), Refusal>
-    ensures { result ≡ nothing_behind (place line bytes.now) }
-{
-    refuse_if(CertKind::End, line, !bytes.is_empty())
-}
 
 /// Reads a certificate of the discounted reward: the bytes are its text, or the refusal names the first line that breaks a rule.
 #[tactic(auto, unfolding(crate::specs::Text::outcome))]

@@ -1,12 +1,13 @@
 ghost use Rattle.std.specs.Prelude.{◌≡◌, ◌+◌, ◌<◌, ◌≤◌, ◌^◌, Ok, IfOk, MatchResult};
-ghost use Rattle.mdp_cert.specs.Answer.{Refuses};
-ghost use Rattle.mdp_cert.specs.Lines.{place};
+ghost use Rattle.mdp_lines.specs.Answer.{Refuses};
+ghost use Rattle.mdp_lines.specs.Lines.{place};
 ghost use Rattle.mdp_discount_text.specs.Text.{state_at, states_from};
 ghost use Rattle.mdp_discount_text.specs.Code.{plain_columns};
 
-use crate::lines::{next_line, refuse_if};
-use crate::words::{cut_word, frac_at, only_word, whole_at, words_behind};
-use mdp_cert::{CertError, CertKind, Refusal};
+use mdp_lines::{
+    CertError, CertKind, Refusal, cut_word, frac_at, next_line, only_word, refuse_if, whole_at,
+    words_behind,
+};
 use mdp_num::Frac;
 use std::alloc::Global;
 

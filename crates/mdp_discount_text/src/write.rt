@@ -1,12 +1,11 @@
 ghost use Rattle.std.specs.Prelude.{◌≡◌, ◌++◌, OnOk, OnErr};
-ghost use Rattle.mdp_cert.specs.Answer.{Keeps};
+ghost use Rattle.mdp_lines.specs.Answer.{Keeps};
 ghost use Rattle.mdp_discount.specs.Plain.{plain};
 ghost use Rattle.mdp_discount_text.specs.Spelling.{head_text, text_of};
 
-use crate::push::{
-    push_claim, push_end, push_init, push_number, push_remainder, push_states, push_version,
-};
+use crate::push::{push_claim, push_remainder, push_states, push_version};
 use mdp_discount::DiscountCert;
+use mdp_lines::{push_end, push_init, push_number};
 use mdp_num::Memory;
 
 /// Appends the lines before those of the states.

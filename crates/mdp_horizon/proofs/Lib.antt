@@ -6,5 +6,4 @@ pub mod Backward
 pub mod Exact
 pub mod Answering
 pub mod Hitting
-pub mod Initial
 mod Examples

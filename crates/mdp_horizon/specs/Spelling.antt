@@ -1,12 +1,11 @@
 -- The text of an answer.
-use Rattle.std.specs.Prelude.{ℕ, suc, List, [], ◌∷◌, ◌++◌, length, Option, Some, None, decimal, codes}
+use Rattle.std.specs.Prelude.{ℕ, suc, List, [], ◌∷◌, ◌++◌, length, Some, decimal, codes}
 use Rattle.std.specs.List.{flat_map}
-use Rattle.mdp_math.specs.Rational.{ℚ}
-use Rattle.mdp_num.specs.Value.{spelling}
 use Rattle.mdp_spec.specs.Mdp.{Mdp, states_of, value_at}
 use Rattle.mdp_spec.specs.Labels.{initial_of}
 use Rattle.mdp_rows.specs.declared.dir.Dir.{Dir}
-use Rattle.mdp_cert.specs.Spelling.{line, ◌␣◌, quoted, dir_text, states_text, end_text}
+use Rattle.mdp_lines.specs.Heads.{init_by}
+use Rattle.mdp_lines.specs.Spelling.{line, ◌␣◌, quoted, dir_text, states_text, init_text, value_lines, end_text}
 use Rattle.mdp_horizon.specs.Written.{Answer}
 
 abbrev pub version_text : List ℕ
@@ -15,22 +14,6 @@ version_text = codes "mdp-horizon 1"
 -- what was asked: from states of A to states of B, within so many steps
 abbrev pub claim_text : Dir → List ℕ → List ℕ → ℕ → List ℕ
 claim_text dir stay label steps = codes "claim" ␣ dir_text dir ␣ codes "until" ␣ quoted stay ␣ quoted label ␣ decimal steps
-
--- the one initial state and its value
-abbrev pub finite_text : ℕ → ℚ → List ℕ
-finite_text s value = codes "init" ␣ decimal s ␣ spelling value
-
-abbrev pub init_text : Option ℕ → List ℚ → List ℕ
-init_text None values = codes "init -"
-init_text (Some s) values = finite_text s (value_at values s)
-
-abbrev pub state_text : ℕ → ℚ → List ℕ
-state_text s value = codes "state" ␣ decimal s ␣ spelling value
-
--- the states from s on
-abbrev pub state_lines : ℕ → List ℚ → List ℕ
-state_lines s [] = []
-state_lines s (value ∷ values) = line (state_text s value) ++ state_lines (suc s) values
 
 -- each choice behind one blank
 abbrev pub choice_words : List ℕ → List ℕ
@@ -47,7 +30,7 @@ step_lines (choices ∷ steps) = line (step_text (suc (length steps)) choices) +
 -- the lines before those of the states
 abbrev pub head_text : Dir → List ℕ → List ℕ → Mdp → Answer → List ℕ
 head_text dir stay label m a =
-    line version_text ++ (line (claim_text dir stay label (length a.steps)) ++ (line (states_text (states_of m)) ++ line (init_text (initial_of m) a.values)))
+    line version_text ++ (line (claim_text dir stay label (length a.steps)) ++ (line (states_text (states_of m)) ++ line (init_text (init_by (initial_of m) (λ s. Some (value_at a.values s))))))
 
 unfoldable pub until_text : Dir → List ℕ → List ℕ → Mdp → Answer → List ℕ
-until_text dir stay label m a = head_text dir stay label m a ++ (state_lines 0 a.values ++ (step_lines a.steps ++ line end_text))
+until_text dir stay label m a = head_text dir stay label m a ++ (value_lines 0 a.values ++ (step_lines a.steps ++ line end_text))

@@ -1,13 +1,12 @@
 ghost use Rattle.std.specs.Prelude.{◌≡◌, ◌++◌, length, OnOk, OnErr};
 ghost use Rattle.mdp_spec.specs.Mdp.{states_of};
-ghost use Rattle.mdp_cert.specs.Answer.{Keeps};
+ghost use Rattle.mdp_lines.specs.Answer.{Keeps};
 ghost use Rattle.mdp_horizon.specs.Spelling.{head_text, until_text};
 ghost use Rattle.mdp_horizon.specs.Answer.{plain};
 
 use crate::bounded::Bounded;
-use crate::push::{
-    push_claim, push_end, push_init, push_number, push_states, push_steps, push_version,
-};
+use crate::push::{push_claim, push_steps, push_version};
+use mdp_lines::{init_with, push_end, push_init, push_number, push_values};
 use mdp_num::Memory;
 use mdp_rows::{Dir, Model};
 
@@ -26,8 +25,8 @@ fn push_head(
 {
     push_version(out)?;
     push_claim(out, dir, stay, label, bounded.steps.len() as u64)?;
-    push_number(out, model.states())?;
-    push_init(out, model, &bounded.values)
+    push_number(out, u64::from(model.states()))?;
+    push_init(out, &init_with(model, &bounded.values))
 }
 
 /// Appends all lines; after `Memory` the text begins as before.
@@ -45,7 +44,7 @@ fn push_lines(
     ensures front { Keeps out.old.items out.new.items }
 {
     push_head(out, model, dir, stay, label, bounded)?;
-    push_states(out, &bounded.values)?;
+    push_values(out, &bounded.values)?;
     push_steps(out, &bounded.steps)?;
     push_end(out)
 }

@@ -1,7 +1,7 @@
 -- Answers other than that the work was done, as contracts see them.
 use Rattle.std.specs.Prelude.{ℕ, Option}
 use Rattle.mdp_math.specs.Rational.{ℚ}
-use Rattle.mdp_cert.specs.declared.error.CertKind.{CertKind}
+use Rattle.mdp_lines.specs.declared.error.CertKind.{CertKind}
 use Rattle.mdp_drn.specs.declared.error.DrnKind.{DrnKind}
 use Rattle.mdp_farkas.specs.declared.verdict.Fault.{Fault}
 use Rattle.mdp_path.specs.Queries.{WideTerm, shown}

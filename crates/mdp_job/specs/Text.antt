@@ -3,8 +3,8 @@ use Rattle.std.specs.Prelude.{ℕ, List, [], ◌∷◌, ◌++◌, Option, Some, 
 use Rattle.std.specs.List.{flat_map}
 use Rattle.mdp_math.specs.Rational.{ℚ}
 use Rattle.mdp_num.specs.Value.{spelling}
-use Rattle.mdp_cert.specs.declared.error.CertKind.{CertKind}
-use Rattle.mdp_cert.specs.declared.error.CertKind.TheVariants as cert
+use Rattle.mdp_lines.specs.declared.error.CertKind.{CertKind}
+use Rattle.mdp_lines.specs.declared.error.CertKind.TheVariants as cert
 use Rattle.mdp_drn.specs.declared.error.DrnKind.{DrnKind}
 use Rattle.mdp_drn.specs.declared.error.DrnKind.TheVariants as drn
 use Rattle.mdp_elim.specs.declared.too_wide.Kind.{Kind}

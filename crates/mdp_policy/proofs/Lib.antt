@@ -4,6 +4,5 @@ pub mod Turns
 pub mod Solving
 pub mod Choosing
 pub mod Facts
-pub mod Initial
 pub mod Reading
 mod Examples

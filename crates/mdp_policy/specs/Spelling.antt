@@ -1,12 +1,11 @@
 -- The text of a policy's value.
-use Rattle.std.specs.Prelude.{ℕ, suc, List, [], ◌∷◌, ◌++◌, Option, Some, None, decimal, codes}
-use Rattle.mdp_math.specs.Rational.{ℚ}
-use Rattle.mdp_num.specs.Value.{spelling}
+use Rattle.std.specs.Prelude.{ℕ, List, ◌++◌, Option, Some, None, decimal, codes}
 use Rattle.mdp_spec.specs.Mdp.{Mdp, states_of, value_at}
 use Rattle.mdp_spec.specs.Labels.{initial_of}
 use Rattle.mdp_rows.specs.declared.dir.Dir.{Dir}
 use Rattle.mdp_rows.specs.declared.dir.Dir.TheVariants.{Max, Min}
-use Rattle.mdp_cert.specs.Spelling.{line, ◌␣◌, quoted, dir_text, states_text, end_text}
+use Rattle.mdp_lines.specs.Heads.{init_by}
+use Rattle.mdp_lines.specs.Spelling.{line, ◌␣◌, quoted, dir_text, states_text, init_text, value_lines, end_text}
 use Rattle.mdp_policy.specs.Written.{Answer}
 use Rattle.mdp_policy.specs.declared.value.Change.{Change}
 
@@ -17,14 +16,6 @@ version_text = codes "mdp-value 1"
 abbrev pub query_text : List ℕ → List ℕ
 query_text label = codes "policy" ␣ codes "reach" ␣ quoted label
 
--- the one initial state and its value
-abbrev pub finite_text : ℕ → ℚ → List ℕ
-finite_text s value = codes "init" ␣ decimal s ␣ spelling value
-
-abbrev pub init_text : Option ℕ → List ℚ → List ℕ
-init_text None values = codes "init -"
-init_text (Some s) values = finite_text s (value_at values s)
-
 -- the first change that is better, where there is one
 abbrev pub change_text : Option Change → List ℕ
 change_text None = codes "none"
@@ -33,20 +24,12 @@ change_text (Some change) = decimal change.state ␣ decimal change.choice
 abbrev pub improve_text : Dir → Option Change → List ℕ
 improve_text dir change = codes "improve" ␣ dir_text dir ␣ change_text change
 
-abbrev pub state_text : ℕ → ℚ → List ℕ
-state_text s value = codes "state" ␣ decimal s ␣ spelling value
-
--- the states from s on
-abbrev pub state_lines : ℕ → List ℚ → List ℕ
-state_lines s [] = []
-state_lines s (value ∷ values) = line (state_text s value) ++ state_lines (suc s) values
-
 -- the lines before those of the changes
 abbrev pub head_text : List ℕ → Mdp → Answer → List ℕ
-head_text label m a = line version_text ++ (line (query_text label) ++ (line (states_text (states_of m)) ++ line (init_text (initial_of m) a.values)))
+head_text label m a = line version_text ++ (line (query_text label) ++ (line (states_text (states_of m)) ++ line (init_text (init_by (initial_of m) (λ s. Some (value_at a.values s))))))
 
 unfoldable pub changes_text : Answer → List ℕ
 changes_text a = line (improve_text Max a.up) ++ line (improve_text Min a.down)
 
 unfoldable pub value_text : List ℕ → Mdp → Answer → List ℕ
-value_text label m a = head_text label m a ++ (changes_text a ++ (state_lines 0 a.values ++ line end_text))
+value_text label m a = head_text label m a ++ (changes_text a ++ (value_lines 0 a.values ++ line end_text))

@@ -5,11 +5,9 @@ mod compare;
 mod error;
 mod evaluate;
 mod laws;
-mod lines;
 mod push;
 mod read;
 mod value;
-mod words;
 mod write;
 
 pub use laws::{policy_text_law, value_law};

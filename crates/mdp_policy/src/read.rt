@@ -1,24 +1,14 @@
-ghost use Rattle.std.specs.Prelude.{◌≡◌, ◌+◌, ◌<◌, ◌≤◌, ◌^◌, Ok, IfOk, IfErr, MatchResult, length};
-ghost use Rattle.mdp_cert.specs.Answer.{Refuses};
-ghost use Rattle.mdp_cert.specs.Lines.{place};
-ghost use Rattle.mdp_cert.specs.Reading.{states_at, nothing_behind};
+ghost use Rattle.std.specs.Prelude.{◌≡◌, ◌+◌, ◌<◌, ◌≤◌, ◌^◌, Ok, IfOk, IfErr, MatchResult};
+ghost use Rattle.mdp_lines.specs.Answer.{Refuses};
+ghost use Rattle.mdp_lines.specs.Lines.{place, nothing_behind};
+ghost use Rattle.mdp_lines.specs.Heads.{states_at};
 ghost use Rattle.mdp_policy.specs.Text.{choose_at, choices_from, policy_outcome};
 
-use crate::lines::{is_line, next_line, refuse_if};
-use crate::words::{cut_word, only_word, whole_at, words_behind};
-use mdp_cert::{CertError, CertKind, Refusal};
+use mdp_lines::{
+    CertError, CertKind, Refusal, cut_word, is_line, next_line, nothing_behind, only_word, refuse_if,
+    states_at, whole_at, words_behind,
+};
 use std::alloc::Global;
-
-/// The number in the line `states N`, from 1 to 2^20.
-#[tactic(auto, unfolding(mdp_cert::specs::Reading::states_at))]
-fn states_at(line: u64, text: &[u8]) -> Result<u32, Refusal>
-    ensures { result ≡ states_at line text.now }
-{
-    let word = words_behind(line, text, b"states", 1)?;
-    let states = whole_at(line, only_word(word))?;
-    refuse_if(CertKind::Count, line, states == 0 || states > 1 << 20)?;
-    Ok(states)
-}
 
 /// The choice in the line `choose S C`, where S is the state that is due.
 #[tactic(auto, unfolding(crate::specs::Text::choose_at))]
@@ -56,14 +46,6 @@ fn choices_from(
         rest = behind;
     }
     Ok((choices, next, rest))
-}
-
-/// Nothing stands behind the line before this one.
-#[tactic(auto, unfolding(mdp_cert::specs::Reading::nothing_behind))]
-fn nothing_behind(line: u64, bytes: &[u8]) -> Result<(), Refusal>
-    ensures { result ≡ nothing_behind (place line bytes.now) }
-{
-    refuse_if(CertKind::End, line, !bytes.is_empty())
 }
 
 /// Reads the text of a policy: the choices of which the bytes are the text, one for each state, or the first line that breaks a rule.

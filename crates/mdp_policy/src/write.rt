@@ -1,13 +1,12 @@
 ghost use Rattle.std.specs.Prelude.{◌≡◌, ◌++◌, length, OnOk, OnErr};
 ghost use Rattle.mdp_spec.specs.Mdp.{states_of};
-ghost use Rattle.mdp_cert.specs.Answer.{Keeps};
+ghost use Rattle.mdp_lines.specs.Answer.{Keeps};
 ghost use Rattle.mdp_policy.specs.Spelling.{head_text, changes_text, value_text};
 ghost use Rattle.mdp_policy.specs.Answer.{plain};
 
-use crate::push::{
-    push_end, push_improve, push_init, push_number, push_query, push_states, push_version,
-};
+use crate::push::{push_improve, push_query, push_version};
 use crate::value::PolicyValue;
+use mdp_lines::{init_with, push_end, push_init, push_number, push_values};
 use mdp_num::Memory;
 use mdp_rows::{Dir, Model};
 
@@ -34,8 +33,8 @@ fn push_head(
 {
     push_version(out)?;
     push_query(out, label)?;
-    push_number(out, model.states())?;
-    push_init(out, model, &value.values)
+    push_number(out, u64::from(model.states()))?;
+    push_init(out, &init_with(model, &value.values))
 }
 
 /// Appends all lines; after `Memory` the text begins as before.
@@ -52,7 +51,7 @@ fn push_lines(
 {
     push_head(out, model, label, value)?;
     push_changes(out, value)?;
-    push_states(out, &value.values)?;
+    push_values(out, &value.values)?;
     push_end(out)?;
     Ok(())
 }

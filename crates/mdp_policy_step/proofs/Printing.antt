@@ -13,7 +13,7 @@ use Rattle.mdp_graph.specs.Reach.{row_step}
 use Rattle.mdp_path.specs.Places.{Place}
 use Rattle.mdp_path.proofs.Results.{ok_part}
 use Rattle.mdp_reach.specs.Query.{policy_rows, AreMaxRanks}
-use Rattle.mdp_cert.specs.declared.error.Refusal as text
+use Rattle.mdp_lines.specs.declared.error.Refusal as text
 use Rattle.mdp_policy.specs.Answer.{IsValueOf}
 use Rattle.mdp_policy.specs.Text.{policy_outcome, IsReadFromText}
 use Rattle.mdp_policy.specs.Written.{Answer}

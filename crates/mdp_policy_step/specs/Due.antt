@@ -7,7 +7,7 @@ use Rattle.mdp_spec.specs.Tree.{IsPolicy}
 use Rattle.mdp_elim.specs.declared.too_wide.Part.TheVariants.{Whole}
 use Rattle.mdp_path.specs.Places.{Place}
 use Rattle.mdp_path.specs.Queries.{WideTerm}
-use Rattle.mdp_cert.specs.declared.error.Refusal as text
+use Rattle.mdp_lines.specs.declared.error.Refusal as text
 use Rattle.mdp_policy.specs.Answer.{IsValueOf}
 use Rattle.mdp_policy.specs.Spelling.{value_text}
 use Rattle.mdp_policy.specs.Text.{policy_outcome}

@@ -13,8 +13,9 @@ use Rattle.mdp_elim.specs.declared.too_wide.Kind.TheVariants.{Check}
 use Rattle.mdp_path.specs.Queries.{WideTerm}
 use Rattle.mdp_mean.specs.Query as averaged
 use Rattle.mdp_cert.specs.Runs.{longest_runs}
-use Rattle.mdp_cert.specs.Spelling.{line, run_text, run_lines, text_in}
-use Rattle.mdp_cert.specs.declared.init.Init.TheVariants.{Missing}
+use Rattle.mdp_lines.specs.Spelling.{line}
+use Rattle.mdp_cert.specs.Spelling.{run_text, run_lines, text_in}
+use Rattle.mdp_lines.specs.declared.init.Init.TheVariants.{Missing}
 use Rattle.mdp_job.specs.Job.{mean}
 use Rattle.mdp_job.specs.Refusal.{query_reward, query_label, too_wide}
 use Rattle.mdp_step.specs.Said.{Said}

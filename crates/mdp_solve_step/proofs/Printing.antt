@@ -1,19 +1,19 @@
 -- What is shown of a solved query: its answer has an entry per state, and its certificate belongs to the model.
 use Rattle.std.proofs.Common.{◌≡◌, ℕ, ◌<◌, ◌≤◌, ◌⊎◌, inl, inr, Bool, true, false, cond, ◌&&◌, ◌||◌, not, eqb, nat_lt, List, [], ◌∷◌, length, get_or, Option, Some, None}
 use Rattle.std.proofs.Common.{Result, Ok, Err, IfOk, refl, sym, ap, ap₂, subst, ◌∙◌, arith, eq-eqb, lt-ltb}
-use Rattle.std.specs.Prelude.{codes, All, option_map}
-use Rattle.std.specs.List.{list_any, range_with_len}
+use Rattle.std.specs.Prelude.{All, option_map}
+use Rattle.std.specs.List.{list_any}
 use Rattle.std.proofs.Math.ListN.{replicate}
 use Rattle.std.specs.Str.{bytes_eq}
 use Rattle.std.proofs.lemmas.Bool.{and_parts}
-use Rattle.std.proofs.lemmas.List.Elements.{All-filter, All-from_get_or, All-get_or, All-head}
+use Rattle.std.proofs.lemmas.List.Elements.{All-get_or}
 use Rattle.std.proofs.lemmas.List.Quantifiers.{position-Some}
 use Rattle.std.proofs.lemmas.Slice.Eq.{bytes_eq-Decides}
-use Rattle.std.proofs.lemmas.List.FromFn.{get_or-range_with_len, length-range_with_len, length-map-range_with_len}
+use Rattle.std.proofs.lemmas.List.FromFn.{length-map-range_with_len}
 use Rattle.mdp_math.specs.Rational.{ℚ}
 use Rattle.mdp_num.proofs.Equal.{equal_decides}
 use Rattle.mdp_spec.specs.Bounds.{reward_at}
-use Rattle.mdp_spec.specs.Labels.{place_of, marks_of, initial_of, labelled, has_at, only}
+use Rattle.mdp_spec.specs.Labels.{place_of, marks_of, initial_of}
 use Rattle.mdp_spec.specs.Mdp.{Mdp, states_of, value_at}
 use Rattle.mdp_spec.specs.Row.{IsMdp}
 use Rattle.mdp_rows.specs.Name.{IsName, IsRewardName}
@@ -35,7 +35,7 @@ use Rattle.mdp_reach.proofs.Nodes.{reach-count}
 use Rattle.mdp_reach.proofs.Starts.{start-solvable}
 use Rattle.mdp_reward.specs.Query as rewarded
 use Rattle.mdp_mean.specs.Query as averaged
-use Rattle.mdp_cert.specs.declared.init.Init.{Init}
+use Rattle.mdp_lines.specs.declared.init.Init.{Init}
 use Rattle.mdp_cert.specs.Cert as certificate
 use Rattle.mdp_cert.specs.Cert.{PlainClaim, PlainBody, Certificate, may_be_infinite, is_witness, is_init_of, is_body_of, Fits}
 use Rattle.mdp_cert.specs.Claims.{reward_same}
@@ -48,8 +48,10 @@ use Rattle.mdp_check.proofs.Accepting.{accepted_is_bound}
 use Rattle.mdp_job.specs.Refusal.{no_memory}
 use Rattle.mdp_step.specs.Files.{most_bytes}
 use Rattle.mdp_step.specs.Said.{Said}
-use Rattle.mdp_solve_step.specs.Due.{init_at, init_by, certificate_of, reward_certificate_of, mean_certificate_of}
+use Rattle.mdp_solve_step.specs.Due.{certificate_of, reward_certificate_of, mean_certificate_of}
 use Rattle.mdp_solve_step.specs.Solved.{IsClaimPrinted, IsReachPrinted, IsRewardPrinted, IsMeanPrinted}
+use Rattle.mdp_lines.specs.Heads.{init_of, init_by}
+use Rattle.mdp_lines.proofs.InitialState.{initial_below}
 use Rattle.mdp_solve_step.proofs.TextLength.{text_short}
 
 -- ---- an answer has an entry per state
@@ -83,24 +85,6 @@ module _ (dir : Dir) (m : Mdp) (goals : List Bool) (a : Answer) (model : IsMdp m
 
   pub answer_sizes : HasSizes (states_of m) a
   answer_sizes = sizes_by end.end end.path end.after
-
--- ---- the one initial state
-
-only_passes : (P : ℕ → Type 0) (xs : List ℕ) (s : ℕ) → only xs ≡ Some s → All P xs → P s
-only_passes P [] s e h = cc e
-only_passes P (x ∷ []) s e h = subst P (let i : x ≡ s = cc e in i) (All-head P x [] h)
-only_passes P (x ∷ y ∷ xs) s e h = cc e
-
-range_below : (n : ℕ) → All (λ s. s < n) (range_with_len 0 n)
-range_below n =
-    All-from_get_or (λ s. s < n) (range_with_len 0 n) 0 (λ i l.
-    let lt : i < n = subst (λ (k : ℕ). i < k) (length-range_with_len 0 n) l in
-    subst (λ (s : ℕ). s < n) (sym (get_or-range_with_len 0 n i 0 lt)) (omega (arith, lt)))
-
-pub initial_below : (m : Mdp) (s : ℕ) → initial_of m ≡ Some s → s < states_of m
-initial_below m s e =
-    only_passes (λ s. s < states_of m) (labelled m (codes "init")) s e
-    (All-filter (has_at m (place_of (codes "init") m.labels)) (λ s. s < states_of m) (range_with_len 0 (states_of m)) (range_below (states_of m)))
 
 -- ---- the sizes of an answer of rewards
 
@@ -161,7 +145,7 @@ init_holds (Some s) value body plain h = by (value s) (h s refl)
     valued : (b : Bool) → b ≡ true → cond (eqb s s && b) Yes (init_fault (Some s)) ≡ Yes
     valued b e = ap₂ (λ (a b : Bool). cond (a && b) Yes (init_fault (Some s))) (eq-eqb s s refl) e
 
-    by : (v : Option ℚ) → has_value body s v ≡ true → init_check (init_at s v) (Some s) body ≡ Yes
+    by : (v : Option ℚ) → has_value body s v ≡ true → init_check (init_of s v) (Some s) body ≡ Yes
     by None e = valued (has_value body s None) e
     by (Some x) e = valued (has_value body s (Some x)) e
 
@@ -194,7 +178,7 @@ inside_by claim plain (Some s) value n h = by (value s) (h s refl).1
     below : nat_lt s n ≡ true
     below = lt-ltb s n (h s refl).0
 
-    by : (v : Option ℚ) → may_stand claim v ≡ true → is_init_of claim n (init_at s v) ≡ true
+    by : (v : Option ℚ) → may_stand claim v ≡ true → is_init_of claim n (init_of s v) ≡ true
     by None e = ap₂ (λ (a b : Bool). a && b) e below
     by (Some x) e = ap₂ (λ (a b : Bool). a && b) (ap not plain) below
 

@@ -14,24 +14,13 @@ use Rattle.mdp_mean.specs.Query as averaged
 use Rattle.mdp_cert.specs.Cert as certificate
 use Rattle.mdp_cert.specs.Cert.{PlainClaim, PlainBody, Certificate}
 use Rattle.mdp_cert.specs.Spelling.{text_of}
-use Rattle.mdp_cert.specs.declared.init.Init.{Init}
-use Rattle.mdp_cert.specs.declared.init.Init.TheVariants.{Missing, Finite, Infinite}
+use Rattle.mdp_lines.specs.Heads.{init_by}
 use Rattle.mdp_job.specs.Job.{PlainQuery, reach, reward, mean}
 use Rattle.mdp_job.specs.Refusal.{PlainRefusal, query_reward, query_label, query_negative, too_wide}
 use Rattle.mdp_step.specs.Files.{IsDueToModel}
 use Rattle.mdp_step.specs.Said.{Said}
 
 -- ---- the certificate of an answer
-
--- a state and its value, which is a fraction or infinite
-abbrev pub init_at : ℕ → Option ℚ → Init
-init_at s None = Infinite s
-init_at s (Some x) = Finite s x
-
--- what the line `init` says: the one initial state and its value
-abbrev pub init_by : Option ℕ → (ℕ → Option ℚ) → Init
-init_by None value = Missing
-init_by (Some s) value = init_at s (value s)
 
 abbrev pub certificate_by : PlainClaim → PlainBody → (ℕ → Option ℚ) → Mdp → Certificate
 certificate_by claim body value m = record { claim = claim; states = states_of m; init = init_by (initial_of m) value; body = body }

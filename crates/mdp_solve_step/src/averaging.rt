@@ -5,12 +5,13 @@ ghost use Rattle.mdp_step.specs.Said.{said};
 ghost use Rattle.mdp_solve_step.specs.Due.{IsMeanDue};
 ghost use Rattle.mdp_solve_step.specs.Solved.{IsMeanPrinted};
 
-use crate::certificate::{certificate_text, mean_certificate_of};
+use crate::certificate::mean_certificate_of;
 use mdp_cert::text_law;
 use mdp_elim::SolveError;
 use mdp_job::Refusal;
 use mdp_mean::solve_mean;
 use mdp_rows::{Dir, Model};
+use mdp_step::certificate_text;
 use std::alloc::Global;
 
 /// The text of the certificate that solves a query of the mean payoff, or its refusal.

@@ -1,66 +1,18 @@
-ghost use Rattle.std.specs.Prelude.{◌≡◌, ◌⊎◌, ◌<◌, ◌^◌, Some, length, All, Ok, Err};
-ghost use Rattle.mdp_num.specs.Value.{IsNarrow};
-ghost use Rattle.mdp_spec.specs.Bounds.{reward_at};
-ghost use Rattle.mdp_spec.specs.Labels.{initial_of};
-ghost use Rattle.mdp_spec.specs.Mdp.{states_of, value_at};
+ghost use Rattle.std.specs.Prelude.{◌≡◌, ◌<◌, Some, length, All};
+ghost use Rattle.mdp_spec.specs.Mdp.{states_of};
 ghost use Rattle.mdp_rows.specs.Name.{IsName};
 ghost use Rattle.mdp_reach.specs.Query as query;
 ghost use Rattle.mdp_reward.specs.Query as rewarded;
 ghost use Rattle.mdp_mean.specs.Query as averaged;
 ghost use Rattle.mdp_cert.specs.Cert.{IsValueNarrow, Fits};
 ghost use Rattle.mdp_cert.specs.Plain.{plain};
-ghost use Rattle.mdp_cert.specs.Spelling.{text_of};
-ghost use Rattle.mdp_job.specs.Refusal.{no_memory};
-ghost use Rattle.mdp_step.specs.Said.{said};
-ghost use Rattle.mdp_solve_step.specs.Due.{init_at, init_by, certificate_of, reward_certificate_of, mean_certificate_of};
+ghost use Rattle.mdp_solve_step.specs.Due.{certificate_of, reward_certificate_of, mean_certificate_of};
 
-use mdp_cert::{Body, Cert, Claim, Init, write_cert};
+use mdp_cert::{Body, Cert, Claim};
 use mdp_farkas::{MeanCert, ReachCert, RewardCert};
-use mdp_job::Refusal;
+use mdp_lines::{all_narrow, all_short, init_with, init_with_rewards};
 use mdp_num::Frac;
 use mdp_rows::{Dir, Model};
-use std::alloc::Global;
-
-/// What the line `init` says of the one initial state.
-fn init_at(state: u32, value: Option<Frac>) -> Init
-    ensures { result ≡ init_at state value }
-{
-    match value {
-        Some(value) => Init::Finite(state, value),
-        None => Init::Infinite(state),
-    }
-}
-
-/// What the line `init` says: the one initial state and its value.
-fn init_of(model: &Model, values: &[Frac]) -> Init
-    requires { length values.now ≡ states_of model.now }
-    ensures { result ≡ init_by (initial_of model.now) (λ s. Some (value_at values.now s)) }
-{
-    match model.initial() {
-        Some(state) => init_at(state, Some(values[state as usize])),
-        None => Init::Missing,
-    }
-}
-
-/// The same of rewards.
-fn reward_init_of(model: &Model, values: &[Option<Frac>]) -> Init
-    requires { length values.now ≡ states_of model.now }
-    ensures { result ≡ init_by (initial_of model.now) (reward_at values.now) }
-{
-    match model.initial() {
-        Some(state) => init_at(state, values[state as usize]),
-        None => Init::Missing,
-    }
-}
-
-/// Each fraction is in width, as its type keeps it.
-fn all_narrow(values: &[Frac])
-    ensures { All IsNarrow values.now }
-{
-    for value in values {
-        value.num();
-    }
-}
 
 /// A fraction is in width.
 fn narrow(value: &Option<Frac>)
@@ -71,21 +23,12 @@ fn narrow(value: &Option<Frac>)
     }
 }
 
-/// So is each of these that is finite.
+/// Each fraction among these is in width.
 fn all_rewards_narrow(values: &[Option<Frac>])
     ensures { All IsValueNarrow values.now }
 {
     for value in values {
         narrow(value);
-    }
-}
-
-/// Each number has 32 bits.
-fn all_short(numbers: &[u32])
-    ensures { All (λ n. n < 2 ^ 32) numbers.now }
-{
-    for number in numbers {
-        let _number = *number;
     }
 }
 
@@ -102,7 +45,7 @@ pub fn certificate_of(model: &Model, dir: Dir, label: Vec<u8>, answer: ReachCert
     all_narrow(&answer.values);
     all_short(&answer.choices);
     all_short(&answer.ranks);
-    let init = init_of(model, &answer.values);
+    let init = init_with(model, &answer.values);
     Cert {
         claim: Claim::Reach { dir, label },
         states: model.states(),
@@ -131,7 +74,7 @@ pub fn reward_certificate_of(
     all_rewards_narrow(&answer.values);
     all_short(&answer.choices);
     all_short(&answer.ranks);
-    let init = reward_init_of(model, &answer.values);
+    let init = init_with_rewards(model, &answer.values);
     Cert {
         claim: Claim::Reward { dir, name, label },
         states: model.states(),
@@ -156,22 +99,11 @@ pub fn mean_certificate_of(model: &Model, dir: Dir, name: Vec<u8>, answer: MeanC
     all_narrow(&answer.bias);
     all_short(&answer.choices);
     answer.spread.num();
-    let init = init_of(model, &answer.gains);
+    let init = init_with(model, &answer.gains);
     Cert {
         claim: Claim::Mean { dir, name },
         states: model.states(),
         init,
         body: Body::Mean(answer),
-    }
-}
-
-/// The text of a certificate.
-pub(crate) fn certificate_text(alloc: Global, cert: &Cert) -> Result<Vec<u8>, Refusal>
-    ensures { (said result ≡ Err no_memory) ⊎ (said result ≡ Ok (text_of (plain cert.now))) }
-{
-    let mut text = Vec::new(alloc);
-    match write_cert(cert, &mut text) {
-        Ok(()) => Ok(text),
-        Err(_) => Err(Refusal::Memory),
     }
 }

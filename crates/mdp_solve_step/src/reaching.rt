@@ -5,7 +5,7 @@ ghost use Rattle.mdp_step.specs.Said.{said};
 ghost use Rattle.mdp_solve_step.specs.Due.{IsReachDue};
 ghost use Rattle.mdp_solve_step.specs.Solved.{IsReachPrinted};
 
-use crate::certificate::{certificate_of, certificate_text};
+use crate::certificate::certificate_of;
 use mdp_cert::text_law;
 use mdp_elim::SolveError;
 use mdp_graph::avoid_law;
@@ -13,6 +13,7 @@ use mdp_job::Refusal;
 use mdp_path::path_law;
 use mdp_reach::solve_reach;
 use mdp_rows::{Dir, Model};
+use mdp_step::certificate_text;
 use std::alloc::Global;
 
 /// The text of the certificate that solves a query of reachability, or its refusal.

@@ -5,12 +5,13 @@ ghost use Rattle.mdp_step.specs.Said.{said};
 ghost use Rattle.mdp_solve_step.specs.Due.{IsRewardDue};
 ghost use Rattle.mdp_solve_step.specs.Solved.{IsRewardPrinted};
 
-use crate::certificate::{certificate_text, reward_certificate_of};
+use crate::certificate::reward_certificate_of;
 use mdp_cert::text_law;
 use mdp_elim::SolveError;
 use mdp_job::Refusal;
 use mdp_reward::solve_reward;
 use mdp_rows::{Dir, Model};
+use mdp_step::certificate_text;
 use std::alloc::Global;
 
 /// The text of the certificate that solves a query of rewards until a goal, or its refusal: the name is looked up first, then the label, then it is

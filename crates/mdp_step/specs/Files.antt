@@ -6,7 +6,7 @@ use Rattle.mdp_drn.specs.Outcome as drn
 use Rattle.mdp_drn.specs.Reading.{outcome}
 use Rattle.mdp_cert.specs.Cert.{Certificate}
 use Rattle.mdp_cert.specs.Reading as cert_text
-use Rattle.mdp_cert.specs.declared.error.Refusal as cert_refusal
+use Rattle.mdp_lines.specs.declared.error.Refusal as cert_refusal
 use Rattle.mdp_job.specs.Refusal.{PlainRefusal, model_text, long_model, long_certificate, cert_text}
 use Rattle.mdp_step.specs.Said.{Said}
 

@@ -2,5 +2,7 @@
 #![tactic(auto)]
 
 mod files;
+mod printing;
 
 pub use files::{read_certificate, read_model, read_second};
+pub use printing::certificate_text;

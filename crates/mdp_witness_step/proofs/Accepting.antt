@@ -1,5 +1,5 @@
 -- The certificate of a subsystem that was found is accepted for the model, and so its claim is true.
-use Rattle.std.proofs.Common.{◌≡◌, ℕ, ◌<◌, Bool, true, cond, List, [], Option, Some, refl, ap, ap₂, ◌∙◌, ◌&&◌, eq-eqb}
+use Rattle.std.proofs.Common.{◌≡◌, ℕ, Bool, true, cond, List, Option, Some, refl, ap, ap₂, ◌∙◌, ◌&&◌, eq-eqb}
 use Rattle.std.specs.Prelude.{option_map}
 use Rattle.mdp_math.specs.Rational.{ℚ}
 use Rattle.mdp_spec.specs.Labels.{place_of, marks_of, initial_of}
@@ -9,10 +9,9 @@ use Rattle.mdp_rows.specs.declared.dir.Dir.TheVariants.{Max, Min}
 use Rattle.mdp_farkas.specs.declared.verdict.Verdict.TheVariants as verdict
 use Rattle.mdp_cert.specs.Cert as certificate
 use Rattle.mdp_cert.specs.Cert.{PlainBody, is_body_of}
-use Rattle.mdp_cert.specs.declared.init.Init.TheVariants.{Start}
+use Rattle.mdp_lines.specs.declared.init.Init.TheVariants.{Start}
 use Rattle.mdp_check.specs.Initial.{init_check, init_fault, is_subsystem}
 use Rattle.mdp_check.specs.Check.{valid_by, IsAccepted}
-use Rattle.mdp_check.proofs.Shapes.{start_below}
 use Rattle.mdp_witness.specs.Query.{PlainSubsystem, flow, floor}
 use Rattle.mdp_witness.specs.Shown.{HasShape, Holds}
 use Rattle.mdp_witness_step.specs.Certificate.{body_of, certificate_of}
@@ -23,10 +22,6 @@ use Rattle.mdp_witness_step.proofs.Fitting.{flow_fits, floor_fits}
 start_named : (s : ℕ) (initial : Option ℕ) (body : PlainBody) → initial ≡ Some s → is_subsystem body ≡ true → init_check (Start s) initial body ≡ verdict.Yes
 start_named s initial body e sub =
     ap (λ (i : Option ℕ). init_check (Start s) i body) e ∙ ap₂ (λ (a b : Bool). cond (a && b) verdict.Yes (init_fault (Some s))) (eq-eqb s s refl) sub
-
--- the one initial state is a state
-pub initial_below : (m : Mdp) (s : ℕ) → initial_of m ≡ Some s → s < states_of m
-initial_below m s e = start_below m (Start s) (certificate.flow [] [] []) refl (start_named s (initial_of m) (certificate.flow [] [] []) e refl)
 
 -- ---- the body
 

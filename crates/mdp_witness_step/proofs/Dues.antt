@@ -15,7 +15,7 @@ use Rattle.mdp_witness_step.specs.Certificate.{certificate_of}
 use Rattle.mdp_witness_step.specs.Due.{said_of_end, IsDueAt, IsStepDue}
 use Rattle.mdp_witness_step.specs.Laws.{IsBelow}
 use Rattle.mdp_witness_step.specs.Shown.{IsWitnessOf}
-use Rattle.mdp_witness_step.proofs.Accepting.{initial_below}
+use Rattle.mdp_lines.proofs.InitialState.{initial_below}
 use Rattle.mdp_witness_step.proofs.Printing.{marks_each, is_witness, witness_of}
 
 module _ (dir : Dir) (label : List ℕ) (threshold : ℚ) where

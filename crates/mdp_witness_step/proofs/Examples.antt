@@ -10,7 +10,8 @@ use Rattle.mdp_rows.specs.declared.dir.Dir.TheVariants.{Max, Min}
 use Rattle.mdp_elim.specs.declared.too_wide.Kind.TheVariants.{Evaluate}
 use Rattle.mdp_elim.specs.declared.too_wide.Part.TheVariants as part
 use Rattle.mdp_flow.specs.declared.flow.Flow.{Flow}
-use Rattle.mdp_cert.specs.Spelling.{line, text_in, text_of, listed_lines}
+use Rattle.mdp_lines.specs.Spelling.{line}
+use Rattle.mdp_cert.specs.Spelling.{text_in, text_of, listed_lines}
 use Rattle.mdp_job.specs.Refusal as job
 use Rattle.mdp_job.specs.Refusal.{query_label, query_init}
 use Rattle.mdp_witness.specs.Query.{PlainSubsystem, flow, floor, below, too_wide}

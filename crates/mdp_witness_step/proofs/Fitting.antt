@@ -12,7 +12,7 @@ use Rattle.mdp_spec.specs.Mdp.{Mdp, states_of}
 use Rattle.mdp_flow.specs.declared.flow.Flow.{Flow}
 use Rattle.mdp_flow.specs.Kept.{Ascends}
 use Rattle.mdp_flow.specs.Shape.{no_flow, FlowsAscend, IsFlowShape, IsFloorShape}
-use Rattle.mdp_cert.specs.declared.init.Init.TheVariants.{Start}
+use Rattle.mdp_lines.specs.declared.init.Init.TheVariants.{Start}
 use Rattle.mdp_cert.specs.Cert.{witness, is_init_of, is_next, is_next_flow, are_kept, are_flows, is_at_least_zero}
 
 -- ---- kept states

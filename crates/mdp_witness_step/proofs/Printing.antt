@@ -29,7 +29,8 @@ use Rattle.mdp_witness.specs.Shown.{kept_in, HasShape, Holds, PolicyReaches, IsN
 use Rattle.mdp_witness_step.specs.Certificate.{dir_of, certificate_of}
 use Rattle.mdp_witness_step.specs.Due.{IsEndDue}
 use Rattle.mdp_witness_step.specs.Shown.{IsWitness, IsWitnessOf, IsWitnessPrinted, IsWitnessShown}
-use Rattle.mdp_witness_step.proofs.Accepting.{initial_below, witness_accepted}
+use Rattle.mdp_lines.proofs.InitialState.{initial_below}
+use Rattle.mdp_witness_step.proofs.Accepting.{witness_accepted}
 use Rattle.mdp_witness_step.proofs.Few.{few_flows}
 use Rattle.mdp_witness_step.proofs.TextLength.{witness_text_short}
 

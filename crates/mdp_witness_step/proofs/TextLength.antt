@@ -1,10 +1,6 @@
 -- The text of a witness has at most 2^30 bytes: a line for each kept state, and at most one flow for each state.
-use Rattle.std.proofs.Common.{◌≡◌, ℕ, zero, suc, ◌+◌, ◌*◌, ◌<◌, ◌≤◌, ◌^◌, Bool, true, false, cond, eqb, List, [], ◌∷◌, ◌++◌, length, get_or}
-use Rattle.std.proofs.Common.{codes, decimal, refl, arith, lit<, ℤ, pos, negsuc, unsigned_abs}
-use Rattle.std.specs.Fmt.{signed_decimal}
+use Rattle.std.proofs.Common.{◌≡◌, ℕ, zero, suc, ◌+◌, ◌*◌, ◌<◌, ◌≤◌, ◌^◌, Bool, true, false, List, [], ◌∷◌, ◌++◌, length, get_or, codes, decimal, refl, arith, lit<}
 use Rattle.std.specs.List.{All, AllByRecursion as Each, join_with_byte}
-use Rattle.std.proofs.lemmas.Bool.{and_parts, leb-true}
-use Rattle.std.proofs.lemmas.Fmt.{length-decimal-le, length-decimal-le_wide}
 use Rattle.std.proofs.lemmas.List.{length-append}
 use Rattle.std.proofs.lemmas.List.Elements.{recursion_from_All}
 use Rattle.mdp_math.specs.Rational.{ℚ}
@@ -16,52 +12,21 @@ use Rattle.mdp_rows.specs.declared.dir.Dir.TheVariants.{Max, Min}
 use Rattle.mdp_flow.specs.declared.flow.Flow.{Flow}
 use Rattle.mdp_flow.specs.Kept.{Ascends}
 use Rattle.mdp_flow.specs.Shape.{IsFlowShape, IsFloorShape}
-use Rattle.mdp_cert.specs.declared.init.Init.TheVariants.{Start}
+use Rattle.mdp_lines.specs.declared.init.Init.TheVariants.{Start}
 use Rattle.mdp_cert.specs.Cert.{witness, IsFlowInWidth, Fits}
 use Rattle.mdp_cert.specs.Listed.{Listed}
-use Rattle.mdp_cert.specs.Spelling.{line, ◌␣◌, quoted, dir_text, claim_text, states_text, init_text, head_text, listed_lines, text_in, text_of}
+use Rattle.mdp_lines.specs.Spelling.{line, ◌␣◌, quoted, dir_text, states_text, init_text}
+use Rattle.mdp_cert.specs.Spelling.{claim_text, head_text, listed_lines, text_in, text_of}
 use Rattle.mdp_cert.specs.Witness.{mark_text, flow_listed, flow_lines, keep_lines, floor_listed, floor_lines}
+use Rattle.mdp_lines.proofs.Lengths.{number_short, spelling_short, blank_length, line_length, name_short, dir_length, quoted_length, states_short, init_short}
 use Rattle.mdp_witness.specs.Query.{PlainSubsystem, flow, floor}
 use Rattle.mdp_witness.specs.Shown.{HasShape}
 use Rattle.mdp_witness_step.specs.Certificate.{certificate_of}
 use Rattle.mdp_witness_step.proofs.Few.{HasFewFlows}
 
--- ---- words
-
-number_short : (n : ℕ) → n < 2 ^ 32 → length (decimal n) ≤ 10
-number_short n h = let p : 2 ^ 32 < 10 ^ 10 = lit< tt in let q : 2 ^ 32 < 2 ^ 64 = lit< tt in length-decimal-le 10 n (omega arith) (omega (arith, p, h)) (omega (arith, q, h))
-
-term_short : (n : ℕ) → n < 2 ^ 127 → length (decimal n) ≤ 39
-term_short n h = let p : 2 ^ 127 < 10 ^ 39 = lit< tt in let q : 2 ^ 127 < 10 ^ 64 = lit< tt in length-decimal-le_wide 39 n (omega arith) (omega (arith, p, h)) (omega (arith, q, h))
-
-signed_short : (z : ℤ) → unsigned_abs z < 2 ^ 127 → length (signed_decimal z) ≤ 40
-signed_short (pos n) h = let l = term_short n h in omega (arith, l)
-signed_short (negsuc n) h = let l = term_short (suc n) h in omega (arith, l)
-
-spelling_short : (x : ℚ) → IsNarrow x → length (spelling x) ≤ 80
-unfolding spelling
-spelling_short x h = by (eqb x.den 1)
-  where
-    by : (b : Bool) → length (cond b (signed_decimal x.num) (signed_decimal x.num ++ 47 ∷ decimal x.den)) ≤ 80
-    by true = let l = signed_short x.num h.top in omega (arith, l)
-    by false = let l = signed_short x.num h.top in let k = term_short x.den h.bottom in let e = length-append (signed_decimal x.num) (47 ∷ decimal x.den) in omega (arith, l, k, e)
-
 mark_short : (wide : Bool) → length (mark_text wide) ≡ 4
 mark_short true = refl
 mark_short false = refl
-
-blank_length : (a b : List ℕ) → length (a ␣ b) ≡ length a + (1 + length b)
-blank_length a b = let e = length-append a (32 ∷ b) in omega (arith, e)
-
-line_length : (a : List ℕ) → length (line a) ≡ length a + 1
-line_length a = length-append a (10 ∷ [])
-
-name_short : (name : List ℕ) → is_name name ≡ true → length name ≤ 255
-name_short name h = leb-true (length name) 255 (and_parts _ _ (and_parts _ _ h).0).1
-
-dir_length : (dir : Dir) → length (dir_text dir) ≡ 3
-dir_length Max = refl
-dir_length Min = refl
 
 -- ---- the lines before those of the kept states
 
@@ -71,17 +36,11 @@ claim_short dir label threshold h w =
     let b = blank_length (dir_text dir) (codes "witness" ␣ quoted label ␣ spelling threshold) in
     let c = blank_length (codes "witness") (quoted label ␣ spelling threshold) in
     let d = blank_length (quoted label) (spelling threshold) in
-    let e = length-append label (34 ∷ []) in
+    let e = quoted_length label in
     let n = dir_length dir in
     let l = name_short label h in
     let t = spelling_short threshold w in
     omega (arith, a, b, c, d, e, n, l, t)
-
-states_short : (n : ℕ) → n < 2 ^ 32 → length (states_text n) ≤ 20
-states_short n h = let a = blank_length (codes "states") (decimal n) in let l = number_short n h in omega (arith, a, l)
-
-start_short : (s : ℕ) → s < 2 ^ 32 → length (init_text (Start s)) ≤ 20
-start_short s h = let a = blank_length (codes "init") (decimal s) in let l = number_short s h in omega (arith, a, l)
 
 -- ---- the lines of the kept states and of the flows
 
@@ -199,7 +158,7 @@ flows_below_32 n flows limit inside =
 
 module _ (dir : Dir) (label : List ℕ) (threshold : ℚ) (start : ℕ) (m : Mdp) (inside : start < states_of m) where
   module _ (found : PlainSubsystem) (fits : Fits (certificate_of dir label threshold start m found)) where
-    head_short : length (head_text (certificate_of dir label threshold start m found)) ≤ 500
+    head_short : length (head_text (certificate_of dir label threshold start m found)) ≤ 600
     head_short =
         let limit = fits.limit in
         let p : 2 ^ 20 < 2 ^ 32 = lit< tt in
@@ -210,7 +169,7 @@ module _ (dir : Dir) (label : List ℕ) (threshold : ℚ) (start : ℕ) (m : Mdp
         let z = line_length (init_text (Start start)) in
         let c = claim_short dir label threshold fits.names fits.claim_width in
         let s = states_short (states_of m) (omega (arith, p, limit)) in
-        let i = start_short start (omega (arith, p, limit, inside)) in
+        let i = init_short (Start start) (omega (arith, p, limit, inside)) tt in
         omega (arith, a, b, x, y, z, c, s, i)
 
     whole_short : (lines : List ℕ) → length lines ≤ 400 * states_of m + 4

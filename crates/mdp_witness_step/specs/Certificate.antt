@@ -6,7 +6,7 @@ use Rattle.mdp_rows.specs.declared.dir.Dir.{Dir}
 use Rattle.mdp_rows.specs.declared.dir.Dir.TheVariants.{Max, Min}
 use Rattle.mdp_cert.specs.Cert as certificate
 use Rattle.mdp_cert.specs.Cert.{PlainBody, Certificate}
-use Rattle.mdp_cert.specs.declared.init.Init.TheVariants.{Start}
+use Rattle.mdp_lines.specs.declared.init.Init.TheVariants.{Start}
 use Rattle.mdp_witness.specs.Query.{PlainSubsystem, flow, floor}
 
 -- a subsystem with flows reaches the threshold by some policy, one with values and ranks by each

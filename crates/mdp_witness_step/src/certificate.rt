@@ -1,27 +1,22 @@
-ghost use Rattle.std.specs.Prelude.{◌≡◌, ◌⊎◌, ◌<◌, ◌^◌, All, pos, Ok, Err};
+ghost use Rattle.std.specs.Prelude.{◌≡◌, ◌<◌, All, pos};
 ghost use Rattle.mdp_math.specs.Rational.{◌≤ℚ◌, of_int};
-ghost use Rattle.mdp_num.specs.Value.{IsNarrow};
 ghost use Rattle.mdp_spec.specs.Mdp.{states_of};
 ghost use Rattle.mdp_rows.specs.Name.{IsName};
 ghost use Rattle.mdp_rows.specs.declared.dir.Dir.TheVariants.{Max, Min};
 ghost use Rattle.mdp_flow.specs.Shape.{IsFlowShape, IsFloorShape};
 ghost use Rattle.mdp_cert.specs.Cert.{IsFlowInWidth, Fits};
 ghost use Rattle.mdp_cert.specs.Plain.{plain};
-ghost use Rattle.mdp_cert.specs.Spelling.{text_of};
-ghost use Rattle.mdp_job.specs.Refusal.{no_memory};
-ghost use Rattle.mdp_step.specs.Said.{said};
 ghost use Rattle.mdp_witness.specs.Code as witness;
 ghost use Rattle.mdp_witness.specs.Code.{plain_flow, plain_floor};
 ghost use Rattle.mdp_witness.specs.Shown.{HasShape};
 ghost use Rattle.mdp_witness_step.specs.Certificate.{dir_of, certificate_of};
 
-use mdp_cert::{Body, Cert, Claim, Init, write_cert};
+use mdp_cert::{Body, Cert, Claim};
 use mdp_flow::{FloorCert, Flow, FlowCert};
-use mdp_job::Refusal;
+use mdp_lines::{Init, all_narrow, all_short};
 use mdp_num::Frac;
 use mdp_rows::{Dir, Model};
 use mdp_witness::Subsystem;
-use std::alloc::Global;
 
 /// Each flow is in width, as its type keeps it.
 fn all_flows_narrow(flows: &[Flow])
@@ -30,24 +25,6 @@ fn all_flows_narrow(flows: &[Flow])
     for flow in flows {
         let _choice = flow.choice;
         flow.amount.num();
-    }
-}
-
-/// Each fraction is in width, as its type keeps it.
-fn all_narrow(values: &[Frac])
-    ensures { All IsNarrow values.now }
-{
-    for value in values {
-        value.num();
-    }
-}
-
-/// Each number has 32 bits.
-fn all_short(numbers: &[u32])
-    ensures { All (λ n. n < 2 ^ 32) numbers.now }
-{
-    for number in numbers {
-        let _number = *number;
     }
 }
 
@@ -130,16 +107,5 @@ pub fn certificate_of(
     match found {
         Subsystem::Max(flow) => flow_certificate_of(model, label, threshold, start, flow),
         Subsystem::Min(floor) => floor_certificate_of(model, label, threshold, start, floor),
-    }
-}
-
-/// The text of a certificate.
-pub(crate) fn certificate_text(alloc: Global, cert: &Cert) -> Result<Vec<u8>, Refusal>
-    ensures { (said result ≡ Err no_memory) ⊎ (said result ≡ Ok (text_of (plain cert.now))) }
-{
-    let mut text = Vec::new(alloc);
-    match write_cert(cert, &mut text) {
-        Ok(()) => Ok(text),
-        Err(_) => Err(Refusal::Memory),
     }
 }

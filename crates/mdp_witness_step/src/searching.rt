@@ -9,13 +9,13 @@ ghost use Rattle.mdp_witness_step.specs.Code.{refusal_of};
 ghost use Rattle.mdp_witness_step.specs.Due.{IsEndDue, IsWitnessDue};
 ghost use Rattle.mdp_witness_step.specs.Shown.{IsWitnessPrinted, IsWitnessRead};
 
-use crate::certificate::{certificate_of, certificate_text};
+use crate::certificate::certificate_of;
 use mdp_cert::text_law;
 use mdp_edge::Source;
 use mdp_job::Refusal;
 use mdp_num::Frac;
 use mdp_rows::{Dir, Model, RowRule};
-use mdp_step::read_model;
+use mdp_step::{certificate_text, read_model};
 use mdp_witness::{WitnessError, witness};
 use std::alloc::Global;
 

@@ -1,5 +1,5 @@
-use Rattle.std.proofs.Common.{suc, ◌+◌, ◌≡◌, ◌++◌, ap, sym, ◌∙◌, arith, List, ℕ}
-use Rattle.mdp_cert.proofs.Growth.{keeps_more}
+use Rattle.std.proofs.Common.{OnOk, subst, suc, ◌+◌, ◌≡◌, ◌++◌, ap, sym, ◌∙◌, arith, List, ℕ}
+use Rattle.mdp_lines.proofs.Fronts.{keeps_more}
 use Rattle.mdp_cert.proofs.OneByOne.{more-written, all-written}
 use Rattle.mdp_cert.proofs.listed.push_listed.Goals as goal
 
@@ -15,4 +15,5 @@ loop-place-preserved g c =
 pub returns-clause-text : goal.returns-clause-text
 returns-clause-text g c =
     let all = all-written g.L.Item.Line.listed (g.L.Lines.lines c.args.lines.now) c.loop-place.place (omega (arith, c.requires)) in
-    c.in_ok-extend_from_slice.ensures.items ∙ ap (λ (t : List ℕ). c.loop-place.out.items ++ t) (sym all) ∙ c.loop-place.invariant.0
+    subst (λ (t : List ℕ). OnOk c.push_end.result (c.push_end.new.out.items ≡ t)) (ap (λ (t : List ℕ). c.loop-place.out.items ++ t) (sym all) ∙ c.loop-place.invariant.0)
+    c.push_end.ensures.text

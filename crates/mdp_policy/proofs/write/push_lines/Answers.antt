@@ -1,6 +1,7 @@
 use Rattle.std.proofs.Common.{◌≡◌, ◌++◌, List, ℕ, ◌∙◌, ap, append_assoc}
 use Rattle.mdp_math.specs.Rational.{ℚ}
-use Rattle.mdp_policy.specs.Spelling.{state_lines, value_text}
+use Rattle.mdp_lines.specs.Spelling.{value_lines}
+use Rattle.mdp_policy.specs.Spelling.{value_text}
 use Rattle.mdp_policy.proofs.write.push_lines.Goals as goal
 
 -- four texts, one after the other
@@ -11,4 +12,4 @@ pub returns-clause-text : goal.returns-clause-text
 unfolding value_text
 returns-clause-text c =
     joined _ _ _ _ _ _ _ _ _ c.in_ok-push_head.ensures.text c.in_ok-push_changes.ensures.text
-    (c.in_ok-push_states.ensures.text ∙ ap (λ (v : List ℚ). c.push_changes.new.out.items ++ state_lines 0 v) c.deref.ensures.value) c.in_ok-push_end.ensures.text
+    (c.in_ok-push_values.ensures.text ∙ ap (λ (v : List ℚ). c.push_changes.new.out.items ++ value_lines 0 v) c.deref.ensures.value) c.in_ok-push_end.ensures.text

@@ -11,6 +11,6 @@ invariant_of-result c = record {
   names = c.requires.name;
   threshold = refl;
   inside = init_inside (reach c.args.dir c.args.label.items) refl c.args.model.now (λ s. Some (value_at c.deref-4.result.now s)) c.states.result
-      c.init_of-init.result c.states.ensures (λ s. refl) c.init_of-init.ensures;
+      c.init_with-init.result c.states.ensures (λ s. refl) c.init_with-init.ensures;
   entries = body_entries c.args.dir c.args.label.items _ _ _ _ _ c.states.ensures c.requires.values c.requires.choices c.requires.ranks;
 }

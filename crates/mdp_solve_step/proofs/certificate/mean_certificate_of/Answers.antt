@@ -12,7 +12,7 @@ invariant_of-result c = record {
   names = c.requires.name;
   threshold = refl;
   inside = init_inside (mean c.args.dir c.args.name.items) refl c.args.model.now (λ s. Some (value_at c.deref-5.result.now s)) c.states.result
-      c.init_of-init.result c.states.ensures (λ s. refl) c.init_of-init.ensures;
+      c.init_with-init.result c.states.ensures (λ s. refl) c.init_with-init.ensures;
   entries = mean_entries c.args.dir c.args.name.items _ _ (averaged.plain c.args.answer) c.states.ensures
       (record { gains = c.requires.gains; bound = c.requires.bound; bias = c.requires.bias; choices = c.requires.choices });
 }

@@ -9,7 +9,7 @@ use Rattle.mdp_witness.specs.Code.{plain}
 use Rattle.mdp_witness.specs.Query.{EndsSo}
 use Rattle.mdp_witness_step.specs.Certificate.{certificate_of}
 use Rattle.mdp_witness_step.specs.Shown.{IsWitness, IsWitnessPrinted}
-use Rattle.mdp_witness_step.proofs.Accepting.{initial_below}
+use Rattle.mdp_lines.proofs.InitialState.{initial_below}
 use Rattle.mdp_witness_step.proofs.Printing.{found_among, dir_is, is_witness, printed, text_printed, text_due}
 use Rattle.mdp_witness_step.proofs.searching.Asked.from_start.Goals as goal
 

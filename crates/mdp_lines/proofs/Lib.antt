@@ -1,0 +1,9 @@
+pub mod Pieces
+pub mod Cuts
+pub mod Joined
+pub mod Feeds
+pub mod Fronts
+pub mod States
+pub mod InitialState
+pub mod Lengths
+mod Examples

@@ -1,0 +1,5 @@
+pub mod Lines
+pub mod Words
+pub mod Heads
+pub mod Spelling
+pub mod Answer

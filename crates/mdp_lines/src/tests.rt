@@ -1,0 +1,95 @@
+use crate::CertKind::{Claim, Count, End, Number, Run, Shape, Version};
+use crate::{
+    CertError, Refusal, before_quote, begins_with, cut_word, frac_at, init_of, is_line, is_name,
+    next_line, nothing_behind, only_word, push_end, push_fraction, push_fraction_end, push_init,
+    push_number, push_values, push_whole, push_word, refuse_if, reward_of, start_at, states_at,
+    valued_at, whole_at, whole_of, words_behind,
+};
+use std::test::Fail;
+
+#[test]
+fn kinds_have_numbers_and_texts(rt: HostRuntime) -> Result<(), Fail> {
+    for (kind, number, text) in [
+        (Version, 1, "version"),
+        (Claim, 2, "claim"),
+        (Number, 3, "number"),
+        (Shape, 4, "shape"),
+        (Count, 5, "count"),
+        (End, 6, "end"),
+        (Run, 7, "run"),
+    ] {
+        assert_eq!(rt; kind as u8, number);
+        let error = CertError::At { line: 5, kind };
+        let shown = format!(in rt.alloc(); "{error}")?;
+        let expected = format!(in rt.alloc(); "line 5 {text}")?;
+        assert_eq!(rt; shown, expected);
+    }
+    Ok(())
+}
+
+#[test]
+fn lines_are_cut(rt: HostRuntime) -> Result<(), Fail> {
+    let end = Refusal { kind: End, line: 2 };
+    let (first, rest) = next_line(1, b"one\ntwo")?;
+    assert_eq!(rt; first, b"one".as_slice());
+    assert_eq!(rt; rest, b"two".as_slice());
+    assert_eq!(rt; next_line(2, rest).err(), Some(end));
+    assert_eq!(rt; nothing_behind(2, rest).err(), Some(end));
+    assert_eq!(rt; is_line(Shape, b"two", 2, rest).err(), None);
+    assert_eq!(rt; refuse_if(End, 2, true).err(), Some(end));
+    Ok(())
+}
+
+#[test]
+fn words_are_read(rt: HostRuntime) -> Result<(), Fail> {
+    let shape = Refusal {
+        kind: Shape,
+        line: 6,
+    };
+    let number = Refusal {
+        kind: Number,
+        line: 6,
+    };
+    let behind = words_behind(6, b"keep 7 1/3", b"keep", 2)?;
+    let (state, behind) = cut_word(behind);
+    assert_eq!(rt; whole_at(6, state)?, 7);
+    let third = frac_at(6, only_word(behind))?;
+    assert_eq!(rt; (third.num(), third.den()), (1, 3));
+    assert_eq!(rt; words_behind(6, b"keep 7", b"keep", 2).err(), Some(shape));
+    assert_eq!(rt; whole_at(6, b"-1").err(), Some(number));
+    assert_eq!(rt; frac_at(6, b"2/6").err(), Some(number));
+    assert!(rt; whole_of(b"4294967296").is_none());
+    assert!(rt; matches!(reward_of(b"inf"), Some(None)));
+    assert!(rt; begins_with(b"run 0 1", b"run") && !begins_with(b"runs 0", b"run"));
+    assert!(rt; is_name(b"my label") && !is_name(b"") && !is_name(b"a\"b"));
+    assert_eq!(rt; before_quote(b"ab\" \"c"), 2);
+    Ok(())
+}
+
+#[test]
+fn heads_are_read_and_written(rt: HostRuntime) -> Result<(), Fail> {
+    let count = Refusal {
+        kind: Count,
+        line: 3,
+    };
+    assert_eq!(rt; states_at(3, b"states 1048576")?, 1_048_576);
+    assert_eq!(rt; states_at(3, b"states 0").err(), Some(count));
+    assert_eq!(rt; valued_at(true, 2, 3, b"init 2 0").err(), Some(count));
+    let mut text = Vec::new(rt.alloc());
+    push_number(&mut text, 2)?;
+    push_init(&mut text, &valued_at(false, 2, 4, b"init -")?)?;
+    push_init(&mut text, &valued_at(false, 2, 4, b"init 1 1/3")?)?;
+    push_init(&mut text, &init_of(1, None))?;
+    push_init(&mut text, &start_at(2, 4, b"init 0")?)?;
+    let half = frac_at(5, b"1/2")?;
+    push_values(&mut text, &[half, half])?;
+    push_whole(&mut text, 9)?;
+    push_word(&mut text, 8)?;
+    push_fraction(&mut text, &half)?;
+    push_fraction_end(&mut text, &half)?;
+    push_end(&mut text)?;
+    let due =
+        b"states 2\ninit -\ninit 1 1/3\ninit 1 inf\ninit 0\nstate 0 1/2\nstate 1 1/2\n9 8 1/2 1/2\nend\n";
+    assert_eq!(rt; text.as_slice(), due.as_slice());
+    Ok(())
+}
