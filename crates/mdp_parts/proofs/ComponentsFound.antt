@@ -14,7 +14,7 @@ use Rattle.mdp_ends.proofs.Walking.{step-has, target-below}
 use Rattle.mdp_parts.specs.Targets.{AreTargets, AreReversed}
 use Rattle.mdp_parts.specs.Searched.{IsOrder}
 use Rattle.mdp_parts.specs.Numbered.{AreSources, AreClasses, AreGrouped, IsRenumbered}
-use Rattle.mdp_parts.proofs.RankFacts.{some-same, none-some}
+use Rattle.mdp_graph.proofs.RankFacts.{some-same, none-some}
 
 all_some : (xs : List (Option ℕ)) → ((s : ℕ) → s < length xs → rank_at xs s ≡ None → ⊥) → map Some (map plain_rank xs) ≡ xs
 all_some [] h = refl

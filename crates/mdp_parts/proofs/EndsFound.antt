@@ -19,7 +19,7 @@ use Rattle.mdp_parts.specs.Allowed.{allowed_at, AreChoices}
 use Rattle.mdp_parts.specs.FoundEnds.{AreEndsOf}
 use Rattle.mdp_parts.specs.Round.{some_allowed, key_of, IsRound}
 use Rattle.mdp_parts.specs.Numbered.{IsRenumbered}
-use Rattle.mdp_parts.proofs.RankFacts.{some-same, none-some}
+use Rattle.mdp_graph.proofs.RankFacts.{some-same, none-some}
 use Rattle.mdp_parts.proofs.Forbidding.{round_settled, round_same}
 
 module _ (m : Mdp) (ok : IsMdp m) (old new : List (List Bool)) (parts : List ℕ) (keys numbers : List (Option ℕ)) (r : IsRound m parts old new false) (comp : AreComponents m

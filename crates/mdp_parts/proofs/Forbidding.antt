@@ -15,7 +15,7 @@ use Rattle.mdp_ends.proofs.RoundLaws.{round_kept}
 use Rattle.mdp_ends.proofs.Existing.{total_below, total-less}
 use Rattle.mdp_parts.specs.Allowed.{allowed_at, AreChoices}
 use Rattle.mdp_parts.specs.Round.{Leaves, IsForbidden, IsRound}
-use Rattle.mdp_parts.proofs.EdgeFacts.{all-as-stays}
+use Rattle.mdp_graph.proofs.EdgeFacts.{all-as-stays}
 
 pub keeps_by : (m : Mdp) (parts : List ℕ) (s c part : ℕ) (ts : List ℕ) (ps : List ℚ) → length ts ≡ length ps → entries ts ps ≡ row_at m s c → part ≡ get_or parts s 0
     → list_all (λ t. get_or parts t 0 == part) ts ≡ keeps_part m parts s c

@@ -18,7 +18,8 @@ use Rattle.mdp_ends.proofs.Walking.{step-has, step-by, here, one_more, walk_to, 
 use Rattle.mdp_ends.proofs.Closing.{reaches, reaches_by}
 use Rattle.mdp_ends.proofs.DepthFirst.{component_by_order}
 use Rattle.mdp_parts.specs.Numbered.{IsTaken, AreSources, AreClasses, AreGrouped}
-use Rattle.mdp_parts.proofs.RankFacts.{some-same, none-some, cond_some, listed_none, entered, enters, none_among}
+use Rattle.mdp_graph.proofs.RankFacts.{some-same, none-some, cond_some, entered, enters, none_among}
+use Rattle.mdp_parts.proofs.TargetFacts.{listed_none}
 
 given_true : (k : ℕ) (o : Option ℕ) → given k true o ≡ None → ⊥
 given_true k None e = none-some k None refl (sym e)

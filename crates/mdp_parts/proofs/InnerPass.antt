@@ -24,9 +24,10 @@ use Rattle.mdp_ends.proofs.TowardLaws.{toward_marks}
 use Rattle.mdp_parts.specs.Allowed.{allowed_at}
 use Rattle.mdp_parts.specs.FoundEnds.{FoundEnds, AreEndsOf}
 use Rattle.mdp_parts.proofs.ComponentsFound.{sources}
-use Rattle.mdp_parts.proofs.Falls.{any-as-enters, IsFirst, case-any, firsts, firsts_count}
-use Rattle.mdp_parts.proofs.RankFacts.{some-same}
-use Rattle.mdp_parts.proofs.Reached.{rank_of, at_most-some, LeadsAlong, Follows, ranked}
+use Rattle.mdp_graph.proofs.Falls.{IsFirst, case-any, firsts, firsts_count}
+use Rattle.mdp_parts.proofs.TargetFacts.{any-as-enters}
+use Rattle.mdp_graph.proofs.RankFacts.{some-same}
+use Rattle.mdp_graph.proofs.Reached.{rank_of, at_most-some, LeadsAlong, Follows, ranked}
 
 -- ---- what the code tests
 

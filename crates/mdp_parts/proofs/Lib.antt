@@ -1,16 +1,12 @@
 mod AllAllowed
 mod Arriving
 mod ComponentsFound
-mod EdgeFacts
 mod EndsFound
 mod Examples
-mod Falls
 mod Forbidding
-mod GivingRanks
 mod Grouping
 mod InnerPass
-mod RankFacts
-mod Reached
 mod Renumbering
 mod Searching
+mod TargetFacts
 mod Targeting

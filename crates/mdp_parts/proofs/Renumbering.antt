@@ -9,7 +9,7 @@ use Rattle.mdp_graph.proofs.Among.{cases_rank}
 use Rattle.mdp_ends.specs.Numbers.{is_numbered, count_from}
 use Rattle.mdp_ends.proofs.NumberingFound.{numbered-none, numbered-some, length-more, at_before, at_last}
 use Rattle.mdp_parts.specs.Numbered.{IsRenumbered}
-use Rattle.mdp_parts.proofs.RankFacts.{some-same, none-some}
+use Rattle.mdp_graph.proofs.RankFacts.{some-same, none-some}
 
 -- one more state is counted from where the ones before it end
 count-more : (next : ℕ) (xs : List (Option ℕ)) (o : Option ℕ) → count_from next (xs ++ o ∷ []) ≡ count_from (count_from next xs) (o ∷ [])

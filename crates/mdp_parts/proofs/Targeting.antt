@@ -15,7 +15,7 @@ use Rattle.mdp_ends.specs.Walks.{chosen_step}
 use Rattle.mdp_ends.proofs.NumberingFound.{length-more, at_before, at_last}
 use Rattle.mdp_parts.specs.Allowed.{allowed_at}
 use Rattle.mdp_parts.specs.Targets.{AreTargets}
-use Rattle.mdp_parts.proofs.EdgeFacts.{leads-as-among}
+use Rattle.mdp_parts.proofs.TargetFacts.{leads-as-among}
 
 -- choice c of state s is allowed and leads to t
 abbrev pub target_test : Mdp → List (List Bool) → ℕ → ℕ → ℕ → Bool

@@ -2,7 +2,7 @@ use Rattle.std.proofs.Common.{sym, ap, ◌∙◌, arith, None, Option, ℕ, leng
 use Rattle.std.proofs.lemmas.List.{length-replicate}
 use Rattle.mdp_rows.specs.Preds.{is_among}
 use Rattle.mdp_graph.proofs.Among.{below-all}
-use Rattle.mdp_parts.proofs.RankFacts.{started, layered_from}
+use Rattle.mdp_graph.proofs.RankFacts.{started, layered_from}
 use Rattle.mdp_parts.proofs.ranking.ranks_by.Goals as goal
 
 pub give_number-requires : goal.give_number-requires

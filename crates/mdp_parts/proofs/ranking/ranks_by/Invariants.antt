@@ -1,7 +1,7 @@
 use Rattle.std.proofs.Common.{◌+◌, length}
 use Rattle.mdp_graph.specs.Sets.{marked}
 use Rattle.mdp_graph.specs.Ranking.{unranked}
-use Rattle.mdp_parts.proofs.RankFacts.{IsLayered}
+use Rattle.mdp_graph.proofs.RankFacts.{IsLayered}
 use Rattle.mdp_parts.proofs.ranking.ranks_by.Given as goal
 
 abbrev pub invariant-loop-alloc : goal.invariant-loop-alloc

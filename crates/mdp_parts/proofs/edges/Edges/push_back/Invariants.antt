@@ -1,6 +1,6 @@
 use Rattle.std.proofs.Common.{take, ◌&&◌, ◌==◌}
 use Rattle.mdp_rows.specs.Preds.{is_among}
-use Rattle.mdp_parts.proofs.EdgeFacts.{AreAdded}
+use Rattle.mdp_graph.proofs.EdgeFacts.{AreAdded}
 use Rattle.mdp_parts.proofs.edges.Edges.push_back.Given as goal
 
 abbrev pub invariant-loop-t : goal.invariant-loop-t

@@ -3,7 +3,8 @@ use Rattle.std.proofs.lemmas.List.{length-replicate}
 use Rattle.mdp_rows.specs.Preds.{is_among}
 use Rattle.mdp_graph.specs.Edges.{has_edge}
 use Rattle.mdp_graph.proofs.Among.{below-all}
-use Rattle.mdp_parts.proofs.EdgeFacts.{nothing_before, state_added, reversed_are}
+use Rattle.mdp_graph.proofs.EdgeFacts.{nothing_before, state_added}
+use Rattle.mdp_parts.proofs.TargetFacts.{reversed_are}
 use Rattle.mdp_parts.proofs.edges.Edges.reversed.Goals as goal
 
 pub loop-s-init : goal.loop-s-init

@@ -1,6 +1,6 @@
 use Rattle.std.proofs.Common.{[], replicate, get_or}
 use Rattle.mdp_rows.specs.Preds.{is_among}
-use Rattle.mdp_parts.proofs.EdgeFacts.{AreAdded, before}
+use Rattle.mdp_graph.proofs.EdgeFacts.{AreAdded, before}
 use Rattle.mdp_parts.proofs.edges.Edges.reversed.Given as goal
 
 abbrev pub invariant-loop-s : goal.invariant-loop-s
