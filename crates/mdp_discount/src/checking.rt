@@ -6,8 +6,8 @@ ghost use Rattle.mdp_discount.specs.Check.{init_fault, is_value, state_check, in
 use crate::answer::{DiscountAnswer, answer_of};
 use crate::cert::DiscountCert;
 use crate::holds::holds_discount;
-use mdp_lines::Init;
 use mdp_farkas::{Fault, Verdict};
+use mdp_lines::Init;
 use mdp_num::Frac;
 use mdp_rows::Model;
 

@@ -5,8 +5,8 @@ ghost use Rattle.mdp_lines.specs.Heads.{states_at};
 ghost use Rattle.mdp_policy.specs.Text.{choose_at, choices_from, policy_outcome};
 
 use mdp_lines::{
-    CertError, CertKind, Refusal, cut_word, is_line, next_line, nothing_behind, only_word, refuse_if,
-    states_at, whole_at, words_behind,
+    CertError, CertKind, Refusal, cut_word, is_line, next_line, nothing_behind, only_word,
+    refuse_if, states_at, whole_at, words_behind,
 };
 use std::alloc::Global;
 
