@@ -20,7 +20,7 @@ import tempfile
 import time
 
 TOP = os.path.join(os.path.dirname(os.path.abspath(__file__)), "..")
-PROGRAM = os.path.join(TOP, "crates", "mdp_app", "out", "mdp_app")
+PROGRAM = os.path.join(TOP, "out", "mdp")
 RUNS = 3
 
 
