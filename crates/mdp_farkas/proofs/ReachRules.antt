@@ -1,54 +1,26 @@
 -- The verdict on values and a policy is yes exactly where the rules hold in exact numbers and no written term is past width.
-use Rattle.std.proofs.Common.{◌≡◌, ℕ, ◌<◌, ◌⊎◌, inl, inr, ⊎_elim, Bool, true, false, true≢false, not, ◌||◌, ltb, lt-ltb, ltb-true, eqb-true, eq-eqb, List, []}
-use Rattle.std.proofs.Common.{◌∷◌, ◌++◌, length, slice_index, Some, ◌↔◌, refl, sym, ap, subst, ◌∙◌, pos}
-use Rattle.std.specs.List.{Any, list_any}
+use Rattle.std.proofs.Common.{◌≡◌, ℕ, ◌<◌, Bool, false, lt-ltb, ltb-true, List, [], ◌∷◌, ◌++◌, length, slice_index, Some, ◌↔◌, sym, ap, subst, ◌∙◌}
 use Rattle.std.proofs.lemmas.List.Elements.{All-from_recursion, recursion_from_All}
-use Rattle.std.proofs.lemmas.List.Folds.{Any-from_list_any, list_any-from_Any}
-use Rattle.mdp_math.specs.Rational.{ℚ, of_int, lt_ℚ, ◌<ℚ◌}
-use Rattle.mdp_math.proofs.Booleans.{and-parts, and-both}
+use Rattle.mdp_math.specs.Rational.{ℚ, ◌<ℚ◌}
 use Rattle.mdp_math.proofs.Options.{Some_same}
-use Rattle.mdp_math.proofs.Extremes.{lt_of_test, test_of_lt, le_of_no_test, no_test_of_le}
-use Rattle.mdp_math.proofs.Order.{≤ℚ_of_eq, ≤ℚ_antisymm}
-use Rattle.mdp_spec.specs.Mdp.{Entry, Mdp, states_of, choices_at, row_at, value_at}
+use Rattle.mdp_spec.specs.Mdp.{Mdp, states_of, choices_at, row_at, value_at}
 use Rattle.mdp_spec.specs.Row.{IsMdp, row_sum}
 use Rattle.mdp_spec.specs.Rules.{AreProbabilities, RanksEnd}
 use Rattle.mdp_spec.specs.Bounds.{ReachMax, ReachMin}
 use Rattle.mdp_spec.specs.Tree.{IsPolicy, is_marked}
 use Rattle.mdp_spec.proofs.Reach.{reach_max_of_rules, reach_min_of_rules}
 use Rattle.mdp_farkas.specs.Verdict.{Check, verdict_of, InWidth, IsYes, IfYes}
-use Rattle.mdp_farkas.specs.Compare.{0ℚ, 1ℚ}
-use Rattle.mdp_farkas.specs.Upper.{goal_check}
+use Rattle.mdp_farkas.specs.Compare.{0ℚ}
+use Rattle.mdp_farkas.specs.Upper.{values_at}
 use Rattle.mdp_farkas.specs.Bellman.{bound_check, bound_checks}
-use Rattle.mdp_farkas.specs.Reach.{other, policy_check, value_checks, ends, rank_check, leads_down, fall_check, fall_checks, rank_checks, reach_at, reach_checks, MeetsReach, IsReach}
+use Rattle.mdp_farkas.specs.Reach.{other, policy_check, fall_check, fall_checks, rank_checks, reach_at, reach_checks, MeetsReach, IsReach}
 use Rattle.mdp_rows.specs.declared.dir.Dir.{Dir}
 use Rattle.mdp_rows.specs.declared.dir.Dir.TheVariants.{Max, Min}
 use Rattle.mdp_farkas.specs.declared.verdict.Verdict.{Verdict}
-use Rattle.mdp_farkas.proofs.Holds.{Each, Holds, each_of_yes, yes_of_each, told_of_each, if_yes, each_append, each_left, each_right, each_flat, each_flat_at}
-use Rattle.mdp_farkas.proofs.Holds.{each_map, each_map_at, each_if, each_if_true, each_if_false}
-use Rattle.mdp_farkas.proofs.Comparing.{le_of_at_least, at_least_of_le, le_of_at_most, at_most_of_le, same_of_equal, equal_of_same}
+use Rattle.mdp_farkas.proofs.Holds.{Each, Holds, each_of_yes, yes_of_each, told_of_each, if_yes, each_append, each_left, each_right, each_flat, each_flat_at, each_map, each_map_at}
 use Rattle.mdp_farkas.proofs.Inequalities.{Stands, stands_at_of, of_stands_at}
-
--- ---- tests
-
-end_of : (g l : Bool) → (g ≡ true) ⊎ (l ≡ false) → (g || not l) ≡ true
-end_of true l h = refl
-end_of false true h = ⊎_elim (λ e. e) (λ e. sym e) h
-end_of false false h = refl
-
-no_end_of : (g l : Bool) → g ≡ false → l ≡ true → (g || not l) ≡ false
-no_end_of true l e f = absurd (true≢false e)
-no_end_of false true e f = refl
-no_end_of false false e f = absurd (true≢false (sym f))
-
-of_end : (g l : Bool) → (g || not l) ≡ true → (g ≡ true) ⊎ (l ≡ false)
-of_end true l e = inl refl
-of_end false true e = absurd (true≢false (sym e))
-of_end false false e = inr refl
-
-of_no_end : (g l : Bool) → (g || not l) ≡ false → (g ≡ false) × (l ≡ true)
-of_no_end true l e = absurd (true≢false e)
-of_no_end false true e = (refl, refl)
-of_no_end false false e = absurd (true≢false e)
+use Rattle.mdp_farkas.proofs.Halves.{probabilities_of, rest_of, values_hold}
+use Rattle.mdp_farkas.proofs.RankRules.{ranks_end, ranks_fall, ranks_hold, max_falls, falls_max, min_falls, falls_min}
 
 -- ---- the checks at a state
 
@@ -56,39 +28,26 @@ module _ (dir : Dir) (m : Mdp) (goals : List Bool) (z : List ℚ) (policy ranks 
   at : (P : Check → Type 0) (s : ℕ) → Each P (reach_checks dir m goals z policy ranks) → s < states_of m → Each P (reach_at dir m goals z ranks s (slice_index policy s))
   at P s h l = each_flat_at P (λ s. reach_at dir m goals z ranks s (slice_index policy s)) (states_of m) s h l
 
-  values_at : (P : Check → Type 0) (s : ℕ) → Each P (reach_at dir m goals z ranks s (slice_index policy s)) → Each P (value_checks dir m goals z s (slice_index policy s))
-  values_at P s h = each_left P (value_checks dir m goals z s (slice_index policy s)) (rank_checks dir m goals z ranks s (slice_index policy s)) h.1.1.1
+  abbrev sums : ℕ → List Check
+  sums s = bound_checks dir m z s ++ policy_check dir m z s (slice_index policy s) ∷ []
 
-  ranks_at : (P : Check → Type 0) (s : ℕ) → Each P (reach_at dir m goals z ranks s (slice_index policy s)) → Each P (rank_checks dir m goals z ranks s (slice_index policy s))
-  ranks_at P s h = each_right P (value_checks dir m goals z s (slice_index policy s)) (rank_checks dir m goals z ranks s (slice_index policy s)) h.1.1.1
+  abbrev values : ℕ → List Check
+  values s = values_at goals z s (sums s)
 
-  goal_at : (P : Check → Type 0) (s : ℕ) → is_marked goals s ≡ true → Each P (reach_at dir m goals z ranks s (slice_index policy s)) → P (goal_check z s)
-  goal_at P s g h = (each_if_true P (is_marked goals s) (goal_check z s ∷ []) (bound_checks dir m z s ++ policy_check dir m z s (slice_index policy s) ∷ []) g (values_at P s h)).0
+  abbrev rank : ℕ → List Check
+  rank s = rank_checks dir m goals z ranks s (slice_index policy s)
 
-  sums_at : (P : Check → Type 0) (s : ℕ) → is_marked goals s ≡ false → Each P (reach_at dir m goals z ranks s (slice_index policy s))
-      → Each P (bound_checks dir m z s ++ policy_check dir m z s (slice_index policy s) ∷ [])
-  sums_at P s g h = each_if_false P (is_marked goals s) (goal_check z s ∷ []) (bound_checks dir m z s ++ policy_check dir m z s (slice_index policy s) ∷ []) g (values_at P s h)
+  values_of : (P : Check → Type 0) (s : ℕ) → Each P (reach_at dir m goals z ranks s (slice_index policy s)) → Each P (values s)
+  values_of P s h = each_left P (values s) (rank s) h.1
 
-  bound_at : (P : Check → Type 0) (s c : ℕ) → is_marked goals s ≡ false → c < length (choices_at m s) → Each P (reach_at dir m goals z ranks s (slice_index policy s))
-      → P (bound_check dir m z s c)
-  bound_at P s c g i h = each_map_at P (bound_check dir m z s) (length (choices_at m s)) c
-      (each_left P (bound_checks dir m z s) (policy_check dir m z s (slice_index policy s) ∷ []) (sums_at P s g h)) i
+  rank_of : (P : Check → Type 0) (s : ℕ) → Each P (reach_at dir m goals z ranks s (slice_index policy s)) → Each P (rank s)
+  rank_of P s h = each_right P (values s) (rank s) h.1
 
-  policy_at : (P : Check → Type 0) (s : ℕ) → is_marked goals s ≡ false → Each P (reach_at dir m goals z ranks s (slice_index policy s)) → P (policy_check dir m z s (slice_index policy s))
-  policy_at P s g h = (each_right P (bound_checks dir m z s) (policy_check dir m z s (slice_index policy s) ∷ []) (sums_at P s g h)).0
+  bound_of : (P : Check → Type 0) (s c : ℕ) → c < length (choices_at m s) → Each P (sums s) → P (bound_check dir m z s c)
+  bound_of P s c i h = each_map_at P (bound_check dir m z s) (length (choices_at m s)) c (each_left P (bound_checks dir m z s) (policy_check dir m z s (slice_index policy s) ∷ []) h) i
 
-  end_at : (P : Check → Type 0) (s : ℕ) → ends goals z s ≡ true → Each P (reach_at dir m goals z ranks s (slice_index policy s)) → P (rank_check ranks s)
-  end_at P s e h = (each_if_true P (ends goals z s) (rank_check ranks s ∷ []) (fall_checks dir m z ranks s (slice_index policy s)) e (ranks_at P s h)).0
-
-  falls_at : (P : Check → Type 0) (s : ℕ) → ends goals z s ≡ false → Each P (reach_at dir m goals z ranks s (slice_index policy s))
-      → Each P (fall_checks dir m z ranks s (slice_index policy s))
-  falls_at P s e h = each_if_false P (ends goals z s) (rank_check ranks s ∷ []) (fall_checks dir m z ranks s (slice_index policy s)) e (ranks_at P s h)
-
-  is_end : (s : ℕ) → (is_marked goals s ≡ true) ⊎ (value_at z s ≡ of_int (pos 0)) → ends goals z s ≡ true
-  is_end s h = end_of (is_marked goals s) (lt_ℚ 0ℚ (value_at z s)) (⊎_elim (λ g. inl g) (λ e. inr (no_test_of_le 0ℚ (value_at z s) (≤ℚ_of_eq (value_at z s) 0ℚ e))) h)
-
-  is_no_end : (s : ℕ) → is_marked goals s ≡ false → 0ℚ <ℚ value_at z s → ends goals z s ≡ false
-  is_no_end s g l = no_end_of (is_marked goals s) (lt_ℚ 0ℚ (value_at z s)) g (test_of_lt 0ℚ (value_at z s) l)
+  policy_of : (P : Check → Type 0) (s : ℕ) → Each P (sums s) → P (policy_check dir m z s (slice_index policy s))
+  policy_of P s h = (each_right P (bound_checks dir m z s) (policy_check dir m z s (slice_index policy s) ∷ []) h).0
 
   -- ---- what holds, in exact numbers
 
@@ -96,24 +55,23 @@ module _ (dir : Dir) (m : Mdp) (goals : List Bool) (z : List ℚ) (policy ranks 
     choices_of : IsPolicy m policy
     choices_of = record { one_each = each; in_range = λ s l. ltb-true (slice_index policy s) (length (choices_at m s)) (Some_same _ _ (at Holds s h l).0) }
 
-    probabilities_of : AreProbabilities m goals z
-    probabilities_of = record {
-      at_least_zero = λ s l. le_of_at_least (value_at z s) 0ℚ (at Holds s h l).1.0;
-      at_most_one = λ s l. le_of_at_most (value_at z s) 1ℚ (at Holds s h l).1.1.0;
-      at_goal = λ s l g. same_of_equal (value_at z s) 1ℚ (goal_at Holds s g (at Holds s h l));
-    }
+    probabilities : AreProbabilities m goals z
+    probabilities = probabilities_of m goals z sums (λ s l. values_of Holds s (at Holds s h l))
+
+    sums_of : (s : ℕ) → s < states_of m → is_marked goals s ≡ false → Each Holds (sums s)
+    sums_of s l g = rest_of m goals z sums Holds s g (values_of Holds s (at Holds s h l))
 
     bounds_of : (s c : ℕ) → s < states_of m → is_marked goals s ≡ false → c < length (choices_at m s) → Stands dir (value_at z s) (row_sum (row_at m s c) z)
-    bounds_of s c l g i = stands_at_of m z dir s c (bound_at Holds s c g i (at Holds s h l))
+    bounds_of s c l g i = stands_at_of m z dir s c (bound_of Holds s c i (sums_of s l g))
 
     meets_of : (s : ℕ) → s < states_of m → is_marked goals s ≡ false → Stands (other dir) (value_at z s) (row_sum (row_at m s (slice_index policy s)) z)
-    meets_of s l g = stands_at_of m z (other dir) s (slice_index policy s) (policy_at Holds s g (at Holds s h l))
+    meets_of s l g = stands_at_of m z (other dir) s (slice_index policy s) (policy_of Holds s (sums_of s l g))
 
     ends_of : RanksEnd m goals z ranks
-    ends_of s l e = eqb-true (slice_index ranks s) 0 (Some_same _ _ (end_at Holds s (is_end s e) (at Holds s h l)))
+    ends_of = ranks_end dir m goals z policy ranks (λ s l. rank_of Holds s (at Holds s h l))
 
     falls_of : (s : ℕ) → s < states_of m → is_marked goals s ≡ false → 0ℚ <ℚ value_at z s → Each Holds (fall_checks dir m z ranks s (slice_index policy s))
-    falls_of s l g p = falls_at Holds s (is_no_end s g p) (at Holds s h l)
+    falls_of s l g p = ranks_fall dir m goals z policy ranks s g p (rank_of Holds s (at Holds s h l))
 
   -- ---- and the other way round
 
@@ -123,83 +81,47 @@ module _ (dir : Dir) (m : Mdp) (goals : List Bool) (z : List ℚ) (policy ranks 
       (meets : is_marked goals s ≡ false → Stands (other dir) (value_at z s) (row_sum (row_at m s (slice_index policy s)) z))
       (end : RanksEnd m goals z ranks)
       (falls : is_marked goals s ≡ false → 0ℚ <ℚ value_at z s → Each Holds (fall_checks dir m z ranks s (slice_index policy s))) where
-    values_hold : Each Holds (value_checks dir m goals z s (slice_index policy s))
-    values_hold =
-        each_if Holds (is_marked goals s) (goal_check z s ∷ []) (bound_checks dir m z s ++ policy_check dir m z s (slice_index policy s) ∷ [])
-        (λ g. (equal_of_same (value_at z s) 1ℚ (AreProbabilities.at_goal p s l g) (goal_at InWidth s g w), tt))
-        (λ g.
+    sums_hold : is_marked goals s ≡ false → Each InWidth (sums s) → Each Holds (sums s)
+    sums_hold g k =
         each_append Holds (bound_checks dir m z s) (policy_check dir m z s (slice_index policy s) ∷ [])
-        (each_map Holds (bound_check dir m z s) (length (choices_at m s)) (λ c i. of_stands_at m z dir s c (bounds c g i) (bound_at InWidth s c g i w)))
-        (of_stands_at m z (other dir) s (slice_index policy s) (meets g) (policy_at InWidth s g w), tt))
-
-    ranks_hold : Each Holds (rank_checks dir m goals z ranks s (slice_index policy s))
-    ranks_hold =
-        each_if Holds (ends goals z s) (rank_check ranks s ∷ []) (fall_checks dir m z ranks s (slice_index policy s))
-        (λ e.
-        let zero_at = end s l (⊎_elim (λ g. inl g) (λ n. inr (≤ℚ_antisymm _ _ (le_of_no_test 0ℚ (value_at z s) n) (AreProbabilities.at_least_zero p s l)))
-        (of_end (is_marked goals s) (lt_ℚ 0ℚ (value_at z s)) e)) in
-        (ap Some (eq-eqb (slice_index ranks s) 0 zero_at), tt))
-        (λ e. let n = of_no_end (is_marked goals s) (lt_ℚ 0ℚ (value_at z s)) e in falls n.0 (lt_of_test 0ℚ (value_at z s) n.1))
+        (each_map Holds (bound_check dir m z s) (length (choices_at m s)) (λ c i. of_stands_at m z dir s c (bounds c g i) (bound_of InWidth s c i k)))
+        (of_stands_at m z (other dir) s (slice_index policy s) (meets g) (policy_of InWidth s k), tt)
 
     state_holds : Each Holds (reach_at dir m goals z ranks s (slice_index policy s))
     state_holds = (
       ap Some (lt-ltb (slice_index policy s) (length (choices_at m s)) choice),
-      (
-        at_least_of_le (value_at z s) 0ℚ (AreProbabilities.at_least_zero p s l) w.1.0,
-        (
-          at_most_of_le (value_at z s) 1ℚ (AreProbabilities.at_most_one p s l) w.1.1.0,
-          each_append Holds (value_checks dir m goals z s (slice_index policy s))
-              (rank_checks dir m goals z ranks s (slice_index policy s)) values_hold ranks_hold,
-        ),
-      ),
+      each_append Holds (values s) (rank s) (values_hold m goals z sums s l p (values_of InWidth s w) sums_hold) (ranks_hold dir m goals z policy ranks s l p end falls),
     )
 
 -- ---- each direction
 
 module _ (m : Mdp) (goals : List Bool) (z : List ℚ) (policy ranks : List ℕ) where
-  max_falls : (s c : ℕ) → list_any (λ (y : Entry). leads_down Max z ranks s y.target) (row_at m s c) ≡ true
-      → Any (λ y. (0ℚ <ℚ value_at z y.target) × (slice_index ranks y.target < slice_index ranks s)) (row_at m s c)
-  max_falls s c e =
-      let a = Any-from_list_any (λ (y : Entry). leads_down Max z ranks s y.target) (row_at m s c) e in
-      let b = and-parts (ltb (slice_index ranks (Entry.target a.1)) (slice_index ranks s)) (lt_ℚ 0ℚ (value_at z (Entry.target a.1))) a.4 in
-      (a.0, a.1, a.2, a.3, (lt_of_test 0ℚ _ b.1, ltb-true _ _ b.0))
-
-  falls_max : (s c : ℕ) → Any (λ y. (0ℚ <ℚ value_at z y.target) × (slice_index ranks y.target < slice_index ranks s)) (row_at m s c)
-      → list_any (λ (y : Entry). leads_down Max z ranks s y.target) (row_at m s c) ≡ true
-  falls_max s c a = list_any-from_Any (λ (y : Entry). leads_down Max z ranks s y.target) (row_at m s c) (a.0, a.1, a.2, a.3, and-both _ _ (lt-ltb _ _ a.4.1) (test_of_lt 0ℚ _ a.4.0))
-
-  min_falls : (s c : ℕ) → list_any (λ (y : Entry). leads_down Min z ranks s y.target) (row_at m s c) ≡ true → Any (λ y. slice_index ranks y.target < slice_index ranks s) (row_at m s c)
-  min_falls s c e = let a = Any-from_list_any (λ (y : Entry). leads_down Min z ranks s y.target) (row_at m s c) e in (a.0, a.1, a.2, a.3, ltb-true _ _ a.4)
-
-  falls_min : (s c : ℕ) → Any (λ y. slice_index ranks y.target < slice_index ranks s) (row_at m s c) → list_any (λ (y : Entry). leads_down Min z ranks s y.target) (row_at m s c) ≡ true
-  falls_min s c a = list_any-from_Any (λ (y : Entry). leads_down Min z ranks s y.target) (row_at m s c) (a.0, a.1, a.2, a.3, lt-ltb _ _ a.4)
-
   meets_of_holds : (dir : Dir) → length policy ≡ states_of m → Each Holds (reach_checks dir m goals z policy ranks) → MeetsReach dir m goals z policy ranks
   meets_of_holds Max each h = record {
     choices = choices_of Max m goals z policy ranks each h;
-    probabilities = probabilities_of Max m goals z policy ranks each h;
+    probabilities = probabilities Max m goals z policy ranks each h;
     covers = bounds_of Max m goals z policy ranks each h;
     reached = meets_of Max m goals z policy ranks each h;
     ends = ends_of Max m goals z policy ranks each h;
-    falls = λ s l g p. max_falls s (slice_index policy s) (Some_same _ _ (falls_of Max m goals z policy ranks each h s l g p).0);
+    falls = λ s l g p. max_falls m z ranks s (slice_index policy s) (Some_same _ _ (falls_of Max m goals z policy ranks each h s l g p).0);
   }
   meets_of_holds Min each h = record {
     choices = choices_of Min m goals z policy ranks each h;
-    probabilities = probabilities_of Min m goals z policy ranks each h;
+    probabilities = probabilities Min m goals z policy ranks each h;
     covered = bounds_of Min m goals z policy ranks each h;
     reached = meets_of Min m goals z policy ranks each h;
     ends = ends_of Min m goals z policy ranks each h;
-    falls = λ s c l g p i. min_falls s c (Some_same _ _ (each_map_at Holds (fall_check Min m z ranks s) (length (choices_at m s)) c (falls_of Min m goals z policy ranks each h s l g p) i));
+    falls = λ s c l g p i. min_falls m z ranks s c (Some_same _ _ (each_map_at Holds (fall_check Min m z ranks s) (length (choices_at m s)) c (falls_of Min m goals z policy ranks each h s l g p) i));
   }
 
   holds_of_meets : (dir : Dir) (s : ℕ) → s < states_of m → MeetsReach dir m goals z policy ranks → Each InWidth (reach_at dir m goals z ranks s (slice_index policy s))
       → Each Holds (reach_at dir m goals z ranks s (slice_index policy s))
   holds_of_meets Max s l r w =
       state_holds Max m goals z policy ranks s l w (r.choices.in_range s l) r.probabilities (λ c g i. r.covers s c l g i) (λ g. r.reached s l g) r.ends
-      (λ g p. (ap Some (falls_max s (slice_index policy s) (r.falls s l g p)), tt))
+      (λ g p. (ap Some (falls_max m z ranks s (slice_index policy s) (r.falls s l g p)), tt))
   holds_of_meets Min s l r w =
       state_holds Min m goals z policy ranks s l w (r.choices.in_range s l) r.probabilities (λ c g i. r.covered s c l g i) (λ g. r.reached s l g) r.ends
-      (λ g p. each_map Holds (fall_check Min m z ranks s) (length (choices_at m s)) (λ c i. ap Some (falls_min s c (r.falls s c l g p i))))
+      (λ g p. each_map Holds (fall_check Min m z ranks s) (length (choices_at m s)) (λ c i. ap Some (falls_min m z ranks s c (r.falls s c l g p i))))
 
   pub reach_rules : (dir : Dir) (v : Verdict) → length policy ≡ states_of m → v ≡ verdict_of (reach_checks dir m goals z policy ranks) → IsYes v ↔ IsReach dir m goals z policy ranks
   reach_rules dir v each e = (

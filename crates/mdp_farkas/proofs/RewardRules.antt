@@ -33,37 +33,37 @@ use Rattle.mdp_farkas.proofs.Tests.{or-parts, or-first, or-second, all_passed, a
 
 -- ---- values that may be infinite
 
-some_nonneg : (o : Option ℚ) (x : ℚ) → o ≡ Some x → is_nonneg o ≡ Some true → 0ℚ ≤ℚ x
+pub some_nonneg : (o : Option ℚ) (x : ℚ) → o ≡ Some x → is_nonneg o ≡ Some true → 0ℚ ≤ℚ x
 some_nonneg o x e h = le_of_at_least x 0ℚ (subst (λ (o : Option ℚ). is_nonneg o ≡ Some true) e h)
 
-nonneg_sound : (o : Option ℚ) → ((x : ℚ) → o ≡ Some x → 0ℚ ≤ℚ x) → IsSome (is_nonneg o) → is_nonneg o ≡ Some true
+pub nonneg_sound : (o : Option ℚ) → ((x : ℚ) → o ≡ Some x → 0ℚ ≤ℚ x) → IsSome (is_nonneg o) → is_nonneg o ≡ Some true
 nonneg_sound None h w = refl
 nonneg_sound (Some x) h w = at_least_of_le x 0ℚ (h x refl) w
 
-zero_of_test : (o : Option ℚ) → is_zero o ≡ Some true → o ≡ Some 0ℚ
+pub zero_of_test : (o : Option ℚ) → is_zero o ≡ Some true → o ≡ Some 0ℚ
 zero_of_test None h = absurd (true≢false (sym (Some_same _ _ h)))
 zero_of_test (Some x) h = ap Some (same_of_equal x 0ℚ h)
 
-zero_sound : (o : Option ℚ) → o ≡ Some 0ℚ → IsSome (is_zero o) → is_zero o ≡ Some true
+pub zero_sound : (o : Option ℚ) → o ≡ Some 0ℚ → IsSome (is_zero o) → is_zero o ≡ Some true
 zero_sound o e = subst (λ (o : Option ℚ). IsSome (is_zero o) → is_zero o ≡ Some true) (sym e) (λ w. equal_of_same 0ℚ 0ℚ refl w)
 
 -- ---- tests of rows
 
 module _ (m : Mdp) (v : List (Option ℚ)) (ranks : List ℕ) (s c : ℕ) where
-  stays_of_test : stays_finite m v s c ≡ true → StaysFinite m v s c
+  pub stays_of_test : stays_finite m v s c ≡ true → StaysFinite m v s c
   stays_of_test e =
       all_passed (λ (y : Entry). not (is_marked (infinite v) y.target)) (λ (y : Entry). is_marked (infinite v) y.target ≡ false) (λ y h. not_true (is_marked (infinite v) y.target) h) (row_at m s c) e
 
-  test_of_stays : StaysFinite m v s c → stays_finite m v s c ≡ true
+  pub test_of_stays : StaysFinite m v s c → stays_finite m v s c ≡ true
   test_of_stays h =
       all_pass (λ (y : Entry). not (is_marked (infinite v) y.target)) (λ (y : Entry). is_marked (infinite v) y.target ≡ false) (λ y h. ap not h) (row_at m s c) h
 
-  falls_of_test : falls m ranks s c ≡ true → Falls m ranks s c
+  pub falls_of_test : falls m ranks s c ≡ true → Falls m ranks s c
   falls_of_test e =
       some_passed (λ (y : Entry). ltb (slice_index ranks y.target) (slice_index ranks s)) (λ (y : Entry). slice_index ranks y.target < slice_index ranks s)
       (λ y h. ltb-true (slice_index ranks y.target) (slice_index ranks s) h) (row_at m s c) e
 
-  test_of_falls : Falls m ranks s c → falls m ranks s c ≡ true
+  pub test_of_falls : Falls m ranks s c → falls m ranks s c ≡ true
   test_of_falls h =
       some_passes (λ (y : Entry). ltb (slice_index ranks y.target) (slice_index ranks s)) (λ (y : Entry). slice_index ranks y.target < slice_index ranks s)
       (λ y h. lt-ltb (slice_index ranks y.target) (slice_index ranks s) h) (row_at m s c) h
@@ -97,7 +97,7 @@ module _ (m : Mdp) (v : List (Option ℚ)) (ranks : List ℕ) (s c : ℕ) where
       (row_at m s c) h
 
   -- rule 14
-  misses_of_test : (falls_infinite m v ranks s c || (eqb (slice_index ranks s) 0 && stays_infinite m v ranks s c)) ≡ true
+  pub misses_of_test : (falls_infinite m v ranks s c || (eqb (slice_index ranks s) 0 && stays_infinite m v ranks s c)) ≡ true
       → ((slice_index ranks s ≡ 0) × StaysInfinite m v ranks 0 s c) ⊎ FallsInfinite m v ranks s c
   misses_of_test e =
       ⊎_elim (λ f. inr (falls_infinite_of_test f))
@@ -107,7 +107,7 @@ module _ (m : Mdp) (v : List (Option ℚ)) (ranks : List ℕ) (s c : ℕ) where
       inl (zero_at, subst (λ (k : ℕ). StaysInfinite m v ranks k s c) zero_at (stays_infinite_of_test p.1)))
       (or-parts (falls_infinite m v ranks s c) (eqb (slice_index ranks s) 0 && stays_infinite m v ranks s c) e)
 
-  test_of_misses : ((slice_index ranks s ≡ 0) × StaysInfinite m v ranks 0 s c) ⊎ FallsInfinite m v ranks s c
+  pub test_of_misses : ((slice_index ranks s ≡ 0) × StaysInfinite m v ranks 0 s c) ⊎ FallsInfinite m v ranks s c
       → (falls_infinite m v ranks s c || (eqb (slice_index ranks s) 0 && stays_infinite m v ranks s c)) ≡ true
   test_of_misses h =
       ⊎_elim (λ p.
@@ -117,10 +117,10 @@ module _ (m : Mdp) (v : List (Option ℚ)) (ranks : List ℕ) (s c : ℕ) where
       (λ f. or-first (falls_infinite m v ranks s c) (eqb (slice_index ranks s) 0 && stays_infinite m v ranks s c) (test_of_falls_infinite f)) h
 
   -- rule 15
-  all_misses_of_test : (falls_infinite m v ranks s c || stays_infinite m v ranks s c) ≡ true → FallsInfinite m v ranks s c ⊎ StaysInfinite m v ranks (slice_index ranks s) s c
+  pub all_misses_of_test : (falls_infinite m v ranks s c || stays_infinite m v ranks s c) ≡ true → FallsInfinite m v ranks s c ⊎ StaysInfinite m v ranks (slice_index ranks s) s c
   all_misses_of_test e = ⊎_elim (λ f. inl (falls_infinite_of_test f)) (λ k. inr (stays_infinite_of_test k)) (or-parts (falls_infinite m v ranks s c) (stays_infinite m v ranks s c) e)
 
-  test_of_all_misses : FallsInfinite m v ranks s c ⊎ StaysInfinite m v ranks (slice_index ranks s) s c → (falls_infinite m v ranks s c || stays_infinite m v ranks s c) ≡ true
+  pub test_of_all_misses : FallsInfinite m v ranks s c ⊎ StaysInfinite m v ranks (slice_index ranks s) s c → (falls_infinite m v ranks s c || stays_infinite m v ranks s c) ≡ true
   test_of_all_misses h =
       ⊎_elim (λ f. or-first (falls_infinite m v ranks s c) (stays_infinite m v ranks s c) (test_of_falls_infinite f))
       (λ k. or-second (falls_infinite m v ranks s c) (stays_infinite m v ranks s c) (test_of_stays_infinite k)) h

@@ -40,7 +40,7 @@ pub(crate) fn choice_at(model: &Model, s: u32, choice: u32) -> Result<(), Object
 }
 
 /// Bellman's inequality the other way round, for the choice of the policy.
-fn policy_meets(
+pub(crate) fn policy_meets(
     model: &Model,
     dir: Dir,
     values: &[Frac],

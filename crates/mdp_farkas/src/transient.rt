@@ -34,7 +34,7 @@ fn choices_stay(model: &Model, values: &[Option<Frac>], s: u32) -> Result<(), Ob
 }
 
 /// The same of each choice, or for the least reward of the policy's alone.
-fn stays_at_state(
+pub(crate) fn stays_at_state(
     model: &Model,
     dir: Dir,
     values: &[Option<Frac>],
@@ -112,7 +112,7 @@ fn earning_at(
 }
 
 /// The inequality at each choice of state `s` that counts.
-fn earnings_at_state(
+pub(crate) fn earnings_at_state(
     model: &Model,
     m: u32,
     dir: Dir,
@@ -130,7 +130,7 @@ fn earnings_at_state(
 }
 
 /// Bellman's inequality the other way round, for the choice of the policy.
-fn policy_earns(
+pub(crate) fn policy_earns(
     model: &Model,
     m: u32,
     dir: Dir,
@@ -172,7 +172,7 @@ fn choices_fall(model: &Model, ranks: &[u32], s: u32) -> Result<(), Objection>
 }
 
 /// The same of each choice, or for the least reward of the policy's alone.
-fn rank_falls_at_state(
+pub(crate) fn rank_falls_at_state(
     model: &Model,
     dir: Dir,
     ranks: &[u32],

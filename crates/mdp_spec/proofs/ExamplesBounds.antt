@@ -22,7 +22,7 @@ use Rattle.mdp_spec.proofs.Reach.{reach_max_of_rules, reach_min_of_rules, reach_
 use Rattle.mdp_spec.proofs.Subsystem.{loop_is_row, sub-states, sub_is_mdp, policy_on_sub}
 use Rattle.mdp_spec.proofs.Examples.{entry, choice, one, third, three, goals}
 
-below_3 : (P : ℕ → Type 0) → P 0 → P 1 → P 2 → (s : ℕ) → s < 3 → P s
+pub below_3 : (P : ℕ → Type 0) → P 0 → P 1 → P 2 → (s : ℕ) → s < 3 → P s
 below_3 P a b c zero h = a
 below_3 P a b c (suc zero) h = b
 below_3 P a b c (suc (suc zero)) h = c
@@ -33,15 +33,15 @@ below_2 P a b zero h = a
 below_2 P a b (suc zero) h = b
 below_2 P a b (suc (suc s)) h = absurd (omega arith)
 
-abbrev zero_ℚ : ℚ
+abbrev pub zero_ℚ : ℚ
 zero_ℚ = of_int (pos 0)
 
 -- ---- policies. In the model `three` of Examples state 0 has two choices, and 1 and 2 have one each
 
-abbrev goes_on : List ℕ
+abbrev pub goes_on : List ℕ
 goes_on = 1 ∷ 0 ∷ 0 ∷ []
 
-policy_three : IsPolicy three goes_on
+pub policy_three : IsPolicy three goes_on
 policy_three = record { one_each = refl; in_range = below_3 (λ s. slice_index goes_on s < length (choices_at three s)) (omega arith) (omega arith) (omega arith) }
 
 -- choice 7 where there is one, and too few and too many entries
@@ -83,7 +83,7 @@ goes_on_row = record {
   in_range = All-from_recursion (λ x. x.target < 3) (row_at three 0 1) (omega arith, (omega arith, tt));
 }
 
-three_model : IsMdp three
+pub three_model : IsMdp three
 three_model = record { some = omega arith; few = omega arith; choice = below_3 (λ s. 0 < length (choices_at three s)) (omega arith) (omega arith) (omega arith); row = rows }
   where
     rows : (s c : ℕ) → s < 3 → c < length (choices_at three s) → IsRow 3 (row_at three s c)
@@ -98,7 +98,7 @@ three_model = record { some = omega arith; few = omega arith; choice = below_3 (
 
 -- ---- the greatest probabilities: 1/3 from state 0, by going on
 
-abbrev greatest_chances : List ℚ
+abbrev pub greatest_chances : List ℚ
 greatest_chances = third ∷ one ∷ zero_ℚ ∷ []
 
 max_rules : MeetsReachMax three goals greatest_chances goes_on (1 ∷ 0 ∷ 0 ∷ [])
@@ -138,7 +138,7 @@ max_rules = record {
     ranks (suc (suc zero)) h which = refl
     ranks (suc (suc (suc s))) h which = absurd (omega arith)
 
-three_max : ReachMax three goals greatest_chances goes_on
+pub three_max : ReachMax three goals greatest_chances goes_on
 three_max = reach_max_of_rules three goals greatest_chances goes_on (1 ∷ 0 ∷ 0 ∷ []) three_model max_rules
 
 -- nothing comes close to 1/2, so no policy meets the bound with it
@@ -159,13 +159,13 @@ not_quarter policy b =
 
 -- ---- the least probabilities: 0 from state 0, by its loop
 
-abbrev loops : List ℕ
+abbrev pub loops : List ℕ
 loops = 0 ∷ 0 ∷ 0 ∷ []
 
 policy_loops : IsPolicy three loops
 policy_loops = record { one_each = refl; in_range = below_3 (λ s. slice_index loops s < length (choices_at three s)) (omega arith) (omega arith) (omega arith) }
 
-abbrev least_chances : List ℚ
+abbrev pub least_chances : List ℚ
 least_chances = zero_ℚ ∷ one ∷ zero_ℚ ∷ []
 
 min_rules : MeetsReachMin three goals least_chances loops loops
@@ -196,7 +196,7 @@ min_rules = record {
     covered (suc (suc zero)) (suc c) h g l = absurd (omega arith)
     covered (suc (suc (suc s))) c h g l = absurd (omega arith)
 
-three_min : ReachMin three goals least_chances loops
+pub three_min : ReachMin three goals least_chances loops
 three_min = reach_min_of_rules three goals least_chances loops loops three_model min_rules
 
 -- the greatest probabilities aren't the least ones, and no policy makes them so

@@ -27,7 +27,7 @@ choice row reward = record { row = row; rewards = reward ∷ [] }
 abbrev state : List Choice → State
 state choices = record { labels = []; choices = choices }
 
-abbrev number : ℕ → ℚ
+abbrev pub number : ℕ → ℚ
 number n = of_int (pos n)
 
 abbrev model : List State → Mdp
@@ -57,7 +57,7 @@ not_some y e = true≢false (sym (ap is_some e))
 -- ---- rewards: state 0 tries for 1 and is done with 1/2, or pays 3 and is done; 1 is the goal; 2 waits for 1 in each step, or goes on to 0
 -- for nothing; 3 is left nowhere
 
-abbrev trip : Mdp
+abbrev pub trip : Mdp
 trip = model
     (state (choice (entry 0 (ratio (pos 1) 2) ∷ entry 1 (ratio (pos 1) 2) ∷ []) (number 1) ∷ choice (entry 1 (number 1) ∷ []) (number 3) ∷ [])
     ∷ state (choice (entry 1 (number 1) ∷ []) (number 1) ∷ [])
@@ -69,20 +69,20 @@ abbrev goals : List Bool
 goals = false ∷ true ∷ false ∷ false ∷ []
 
 -- the greatest rewards: 3 by paying, and no bound where a policy waits for ever
-abbrev most : List (Option ℚ)
+abbrev pub most : List (Option ℚ)
 most = Some (number 3) ∷ Some (number 0) ∷ None ∷ None ∷ []
 
-abbrev pays : List ℕ
+abbrev pub pays : List ℕ
 pays = 1 ∷ 0 ∷ 0 ∷ 0 ∷ []
 
 abbrev pays_ranks : List ℕ
 pays_ranks = 1 ∷ 0 ∷ 0 ∷ 0 ∷ []
 
 -- the least: 2 by trying, from state 2 as well
-abbrev least : List (Option ℚ)
+abbrev pub least : List (Option ℚ)
 least = Some (number 2) ∷ Some (number 0) ∷ Some (number 2) ∷ None ∷ []
 
-abbrev tries : List ℕ
+abbrev pub tries : List ℕ
 tries = 0 ∷ 0 ∷ 1 ∷ 0 ∷ []
 
 abbrev tries_ranks : List ℕ
@@ -185,11 +185,11 @@ trip_min = record {
 
 -- ---- a mean payoff: state 0 earns 1 in each step, or once 5 and nothing from then on
 
-abbrev job : Mdp
+abbrev pub job : Mdp
 job = model (state (choice (entry 0 (number 1) ∷ []) (number 1) ∷ choice (entry 1 (number 1) ∷ []) (number 5) ∷ []) ∷ state (choice (entry 1 (number 1) ∷ []) (number 0) ∷ []) ∷ [])
 
 -- the gains; with the bound 4 to leave is no better than to stay; the policy's own bias is 0
-abbrev gains : List ℚ
+abbrev pub gains : List ℚ
 gains = number 1 ∷ number 0 ∷ []
 
 abbrev bound : List ℚ
@@ -231,7 +231,7 @@ half_half = record {
   in_range = All-from_recursion (λ x. x.target < 4) (row_at trip 0 0) (omega arith, (omega arith, tt));
 }
 
-trip_model : IsMdp trip
+pub trip_model : IsMdp trip
 trip_model = record {
   some = omega arith;
   few = omega arith;
@@ -243,10 +243,10 @@ trip_model = record {
       s h;
 }
 
-trip_most : RewardMax trip 0 goals pays most
+pub trip_most : RewardMax trip 0 goals pays most
 trip_most = reward_max_of_rules trip 0 goals most pays pays_ranks trip_model trip_max
 
-trip_least : RewardMin trip 0 goals tries least
+pub trip_least : RewardMin trip 0 goals tries least
 trip_least = reward_min_of_rules trip 0 goals least tries tries_ranks trip_model trip_min
 
 -- nothing comes close to 4, and nothing is as little as 1
@@ -269,7 +269,7 @@ not_finite policy x b =
     let e : Some x ≡ None = reward_max_unique trip 0 goals trip_model (Some (number 3) ∷ Some (number 0) ∷ Some x ∷ None ∷ []) most policy pays 2 b trip_most (omega arith) in
     not_some x (sym e)
 
-job_model : IsMdp job
+pub job_model : IsMdp job
 job_model = record {
   some = omega arith;
   few = omega arith;
@@ -279,7 +279,7 @@ job_model = record {
       (below_2 (λ c. IsRow 2 (row_at job 0 c)) (loop_is_row 2 0 (omega arith)) (loop_is_row 2 1 (omega arith)) c) (below_1 (λ c. IsRow 2 (row_at job 1 c)) (loop_is_row 2 1 (omega arith)) c) s h;
 }
 
-job_gains : MeanMax job 0 gains (number 4) (0 ∷ 0 ∷ [])
+pub job_gains : MeanMax job 0 gains (number 4) (0 ∷ 0 ∷ [])
 job_gains = mean_max_of_rules job 0 gains bound bias (number 4) (0 ∷ 0 ∷ []) job_model job_max
 
 -- no spread makes 2 the gain of state 0

@@ -21,3 +21,4 @@ pub mod Unique
 mod Examples
 mod ExamplesBounds
 mod ExamplesRules
+mod ExamplesBetween

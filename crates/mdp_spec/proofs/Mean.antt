@@ -1,5 +1,6 @@
--- What the rules of a mean payoff certificate say of trees. Both directions are one induction, over the total times a sign.
-use Rattle.std.proofs.Common.{◌≡◌, ℕ, suc, ◌<◌, ◌≤◌, false, true≢false, List, [], ◌∷◌, length, refl, sym, subst, arith, pos}
+-- What the rules of a mean payoff certificate say of trees: for a lower and an upper gain at each state, and for gains that are both. Both
+-- directions are one induction, over the total times a sign.
+use Rattle.std.proofs.Common.{◌≡◌, ℕ, suc, ◌<◌, ◌≤◌, false, true≢false, List, [], ◌∷◌, length, get_or, refl, sym, subst, arith, pos}
 use Rattle.mdp_math.specs.Rational.{ℚ, ◌+ℚ◌, ◌*ℚ◌, ◌-ℚ◌, neg_ℚ, ◌≤ℚ◌}
 use Rattle.mdp_math.specs.Extremes.{least, greatest}
 use Rattle.mdp_math.proofs.Ring.{◌⊕◌, ◌⊗◌, ⊖, lit}
@@ -13,7 +14,10 @@ use Rattle.mdp_spec.specs.Unit.{reward_of}
 use Rattle.mdp_spec.specs.Tree.{IsPolicy, Tree, unfolded}
 use Rattle.mdp_spec.specs.Pay.{total}
 use Rattle.mdp_spec.specs.Bounds.{MeanMax, MeanMin, whole}
-use Rattle.mdp_spec.proofs.Keeping.{Keeps, HasChoice, Follows, keeps_of_Fits, keeps_unfolded}
+use Rattle.mdp_spec.specs.Between.{MeanMaxBetween, MeanMinBetween}
+use Rattle.mdp_spec.specs.BetweenRules.{MeetsMeanMaxBetween, MeetsMeanMinBetween}
+use Rattle.mdp_spec.specs.RewardRules.{backup}
+use Rattle.mdp_spec.proofs.Keeping.{Keeps, HasChoice, Follows, keeps_of_Fits, keeps_unfolded, unfolded_is_strategy}
 use Rattle.mdp_spec.proofs.Earnings.{total-end}
 use Rattle.mdp_spec.proofs.Rows.{row_weigh}
 use Rattle.mdp_spec.specs.MeanRules.{width_of, spread_of, IsEvaluation, HasSpread, MeetsMeanMax, MeetsMeanMin}
@@ -103,52 +107,112 @@ width-le_first a b = greatest-ge (width_of a ∷ width_of b ∷ []) 0 0ℚ (omeg
 width-le_second : (a b : List ℚ) → width_of b ≤ℚ spread_of a b
 width-le_second a b = greatest-ge (width_of a ∷ width_of b ∷ []) 1 0ℚ (omega arith)
 
-module _ (m : Mdp) (r : ℕ) (g a b : List ℚ) (spread : ℚ) (policy : List ℕ) (known_ : IsMdp m) where
+module _ (m : Mdp) (r : ℕ) (a b : List ℚ) (spread : ℚ) (policy : List ℕ) (known_ : IsMdp m) where
   first : spread ≡ spread_of a b → greatest a -ℚ least a ≤ℚ spread
   first e = subst (λ (k : ℚ). greatest a -ℚ least a ≤ℚ k) (sym e) (width-le_first a b)
 
   second : spread ≡ spread_of a b → greatest b -ℚ least b ≤ℚ spread
   second e = subst (λ (k : ℚ). greatest b -ℚ least b ≤ℚ k) (sym e) (width-le_second a b)
 
-  -- the policy's own equations give both of its bounds
-  policy_le : IsEvaluation m r g b policy → HasSpread m a b spread → IsPolicy m policy → (n s : ℕ) → s < states_of m → total m r 1 n (unfolded m policy n s) s ≤ℚ whole n *ℚ value_at g s +ℚ spread
-  policy_le evaluation rel choice n s h =
+  -- where gains and the bias cover the policy's choice, the policy earns no more; where the policy's choice covers them, no less
+  policy_le : (g : List ℚ) → ((s : ℕ) → s < states_of m → row_weigh (value_at g) (row_at m s (get_or policy s 0)) ≤ℚ value_at g s)
+      → ((s : ℕ) → s < states_of m → backup m r s (get_or policy s 0) b ≤ℚ value_at g s +ℚ value_at b s)
+      → HasSpread m a b spread → IsPolicy m policy → (n s : ℕ) → s < states_of m → total m r 1 n (unfolded m policy n s) s ≤ℚ whole n *ℚ value_at g s +ℚ spread
+  policy_le g gain bias rel choice n s h =
       total-le_by m r 1 known_ (omega arith) (Follows policy) (value_at g) (value_at b) (least b) (greatest b) spread
       (λ s h. in_list-low b (states_of m) s rel.biases h) (λ s h. in_list-high b (states_of m) s rel.biases h) (second rel.widest)
-      (λ s d h is i. subst (λ (c : ℕ). row_weigh (value_at g) (row_at m s c) ≤ℚ value_at g s) (sym is) (≤ℚ_of_eq _ _ (evaluation.gain s h)))
-      (λ s d h is i. subst (λ (c : ℕ). reward_of (choice_at m s c) r +ℚ row_weigh (value_at b) (row_at m s c) ≤ℚ value_at g s +ℚ value_at b s) (sym is) (≤ℚ_of_eq _ _ (evaluation.bias s h)))
+      (λ s d h is i. subst (λ (c : ℕ). row_weigh (value_at g) (row_at m s c) ≤ℚ value_at g s) (sym is) (gain s h))
+      (λ s d h is i. subst (λ (c : ℕ). reward_of (choice_at m s c) r +ℚ row_weigh (value_at b) (row_at m s c) ≤ℚ value_at g s +ℚ value_at b s) (sym is) (bias s h))
       n (unfolded m policy n s) s h (keeps_unfolded m policy n s known_ choice h)
 
-  policy_ge : IsEvaluation m r g b policy → HasSpread m a b spread → IsPolicy m policy → (n s : ℕ) → s < states_of m → whole n *ℚ value_at g s ≤ℚ total m r 1 n (unfolded m policy n s) s +ℚ spread
-  policy_ge evaluation rel choice n s h =
+  policy_ge : (g : List ℚ) → ((s : ℕ) → s < states_of m → value_at g s ≤ℚ row_weigh (value_at g) (row_at m s (get_or policy s 0)))
+      → ((s : ℕ) → s < states_of m → value_at g s +ℚ value_at b s ≤ℚ backup m r s (get_or policy s 0) b)
+      → HasSpread m a b spread → IsPolicy m policy → (n s : ℕ) → s < states_of m → whole n *ℚ value_at g s ≤ℚ total m r 1 n (unfolded m policy n s) s +ℚ spread
+  policy_ge g gain bias rel choice n s h =
       total-ge_by m r 1 known_ (omega arith) (Follows policy) (value_at g) (value_at b) (least b) (greatest b) spread
       (λ s h. in_list-low b (states_of m) s rel.biases h) (λ s h. in_list-high b (states_of m) s rel.biases h) (second rel.widest)
-      (λ s d h is i. subst (λ (c : ℕ). value_at g s ≤ℚ row_weigh (value_at g) (row_at m s c)) (sym is) (≤ℚ_of_eq _ _ (sym (evaluation.gain s h))))
-      (λ s d h is i. subst (λ (c : ℕ). value_at g s +ℚ value_at b s ≤ℚ reward_of (choice_at m s c) r +ℚ row_weigh (value_at b) (row_at m s c)) (sym is) (≤ℚ_of_eq _ _ (sym (evaluation.bias s h))))
+      (λ s d h is i. subst (λ (c : ℕ). value_at g s ≤ℚ row_weigh (value_at g) (row_at m s c)) (sym is) (gain s h))
+      (λ s d h is i. subst (λ (c : ℕ). value_at g s +ℚ value_at b s ≤ℚ reward_of (choice_at m s c) r +ℚ row_weigh (value_at b) (row_at m s c)) (sym is) (bias s h))
       n (unfolded m policy n s) s h (keeps_unfolded m policy n s known_ choice h)
 
-  pub mean_max_of_rules : MeetsMeanMax m r g a b spread policy → MeanMax m r g spread policy
-  mean_max_of_rules rules = record {
+module _ (m : Mdp) (r : ℕ) (lower upper a b : List ℚ) (spread : ℚ) (policy : List ℕ) (known_ : IsMdp m) where
+  pub mean_max_between_of_rules : MeetsMeanMaxBetween m r lower upper a b spread policy → MeanMaxBetween m r lower upper spread policy
+  mean_max_between_of_rules rules = record {
     takes = rules.choices;
     named = rules.named;
     above = λ n u t s h tree.
-        total-le_by m r u known_ tree.mixes (HasChoice m) (value_at g) (value_at a) (least a) (greatest a) spread
+        total-le_by m r u known_ tree.mixes (HasChoice m) (value_at upper) (value_at a) (least a) (greatest a) spread
         (λ s h. in_list-low a (states_of m) s (HasSpread.bounds rules.spreads) h) (λ s h. in_list-high a (states_of m) s (HasSpread.bounds rules.spreads) h)
-        (first (HasSpread.widest rules.spreads))
+        (first m r a b spread policy known_ (HasSpread.widest rules.spreads))
         (λ s d h ok i. rules.gain_covers s d h i) (λ s d h ok i. rules.bound_covers s d h i) n t s h (keeps_of_Fits m u n t s tree.fits);
-    policy_above = policy_ge rules.evaluation rules.spreads rules.choices;
-    policy_below = policy_le rules.evaluation rules.spreads rules.choices;
+    reached = policy_ge m r a b spread policy known_ lower rules.gain_reached rules.bias_reached rules.spreads rules.choices;
   }
 
-  pub mean_min_of_rules : MeetsMeanMin m r g a b spread policy → MeanMin m r g spread policy
-  mean_min_of_rules rules = record {
+  pub mean_min_between_of_rules : MeetsMeanMinBetween m r lower upper a b spread policy → MeanMinBetween m r lower upper spread policy
+  mean_min_between_of_rules rules = record {
     takes = rules.choices;
     named = rules.named;
     below = λ n u t s h tree.
-        total-ge_by m r u known_ tree.mixes (HasChoice m) (value_at g) (value_at a) (least a) (greatest a) spread
+        total-ge_by m r u known_ tree.mixes (HasChoice m) (value_at lower) (value_at a) (least a) (greatest a) spread
         (λ s h. in_list-low a (states_of m) s (HasSpread.bounds rules.spreads) h) (λ s h. in_list-high a (states_of m) s (HasSpread.bounds rules.spreads) h)
-        (first (HasSpread.widest rules.spreads))
+        (first m r a b spread policy known_ (HasSpread.widest rules.spreads))
         (λ s d h ok i. rules.gain_covered s d h i) (λ s d h ok i. rules.bound_covered s d h i) n t s h (keeps_of_Fits m u n t s tree.fits);
-    policy_above = policy_ge rules.evaluation rules.spreads rules.choices;
-    policy_below = policy_le rules.evaluation rules.spreads rules.choices;
+    reached = policy_le m r a b spread policy known_ upper rules.gain_reached rules.bias_reached rules.spreads rules.choices;
   }
+
+-- ---- the same gains below and above
+
+module _ (m : Mdp) (r : ℕ) (g : List ℚ) (spread : ℚ) (policy : List ℕ) where
+  pub mean_max_between : MeanMax m r g spread policy → MeanMaxBetween m r g g spread policy
+  mean_max_between w = record { takes = w.takes; named = w.named; above = w.above; reached = w.policy_above }
+
+  pub mean_min_between : MeanMin m r g spread policy → MeanMinBetween m r g g spread policy
+  mean_min_between w = record { takes = w.takes; named = w.named; below = w.below; reached = w.policy_below }
+
+  -- the policy's own tree is one of all trees
+  pub mean_max_exact : IsMdp m → MeanMaxBetween m r g g spread policy → MeanMax m r g spread policy
+  mean_max_exact known_ is = record {
+    takes = is.takes;
+    named = is.named;
+    above = is.above;
+    policy_above = is.reached;
+    policy_below = λ n s h. is.above n 1 (unfolded m policy n s) s h (unfolded_is_strategy m policy n s known_ is.takes h);
+  }
+
+  pub mean_min_exact : IsMdp m → MeanMinBetween m r g g spread policy → MeanMin m r g spread policy
+  mean_min_exact known_ is = record {
+    takes = is.takes;
+    named = is.named;
+    below = is.below;
+    policy_above = λ n s h. is.below n 1 (unfolded m policy n s) s h (unfolded_is_strategy m policy n s known_ is.takes h);
+    policy_below = is.reached;
+  }
+
+module _ (m : Mdp) (r : ℕ) (g a b : List ℚ) (spread : ℚ) (policy : List ℕ) (known_ : IsMdp m) where
+  pub mean_max_of_rules : MeetsMeanMax m r g a b spread policy → MeanMax m r g spread policy
+  mean_max_of_rules rules =
+      mean_max_exact m r g spread policy known_
+      (mean_max_between_of_rules m r g g a b spread policy known_
+      (record {
+        named = rules.named;
+        choices = rules.choices;
+        spreads = rules.spreads;
+        gain_covers = rules.gain_covers;
+        bound_covers = rules.bound_covers;
+        gain_reached = λ s h. ≤ℚ_of_eq _ _ (sym (IsEvaluation.gain rules.evaluation s h));
+        bias_reached = λ s h. ≤ℚ_of_eq _ _ (sym (IsEvaluation.bias rules.evaluation s h));
+      }))
+
+  pub mean_min_of_rules : MeetsMeanMin m r g a b spread policy → MeanMin m r g spread policy
+  mean_min_of_rules rules =
+      mean_min_exact m r g spread policy known_
+      (mean_min_between_of_rules m r g g a b spread policy known_
+      (record {
+        named = rules.named;
+        choices = rules.choices;
+        spreads = rules.spreads;
+        gain_covered = rules.gain_covered;
+        bound_covered = rules.bound_covered;
+        gain_reached = λ s h. ≤ℚ_of_eq _ _ (IsEvaluation.gain rules.evaluation s h);
+        bias_reached = λ s h. ≤ℚ_of_eq _ _ (IsEvaluation.bias rules.evaluation s h);
+      }))

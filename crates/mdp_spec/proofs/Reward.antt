@@ -1,4 +1,4 @@
--- What the rules of a reward certificate say of trees.
+-- What the rules of a reward certificate say of trees: for a lower and an upper value for each state, and for values that are both.
 use Rattle.std.proofs.Common.{◌≡◌, ℕ, ◌<◌, ◌≤◌, ◌⊎◌, ⊎_elim, inl, inr, Bool, true, false, List, length, get_or, Option, Some, None, not, refl, sym, ap, subst, arith}
 use Rattle.mdp_math.specs.Rational.{ℚ, ◌+ℚ◌, ◌*ℚ◌, ◌-ℚ◌, ◌≤ℚ◌}
 use Rattle.mdp_math.proofs.Order.{0ℚ, 1ℚ, ≤ℚ_of_eq}
@@ -10,6 +10,8 @@ use Rattle.mdp_spec.specs.Tree.{Tree, Fits, is_marked, unfolded}
 use Rattle.mdp_spec.specs.Hit.{hit}
 use Rattle.mdp_spec.specs.Pay.{pay, Enters}
 use Rattle.mdp_spec.specs.Bounds.{greatest_finite, finite_part, reward_at, infinite, part, MaxValue, MinValue, RewardMax, RewardMin}
+use Rattle.mdp_spec.specs.Between.{MaxLower, MaxUpper, MinLower, MinUpper, RewardMaxBetween, RewardMinBetween}
+use Rattle.mdp_spec.specs.BetweenRules.{MeetsRewardMaxBetween, MeetsRewardMinBetween}
 use Rattle.mdp_spec.proofs.Keeping.{Keeps, HasChoice, Follows, keeps_of_Fits, keeps_unfolded}
 use Rattle.mdp_spec.specs.RewardRules.{backup, IsTransient, StaysFinite, Falls, FallsInfinite, StaysInfinite, AreRewards, MeetsRewardMax, MeetsRewardMin}
 use Rattle.mdp_spec.proofs.Steps.{Uses, staying_uses}
@@ -87,83 +89,195 @@ module _ (m : Mdp) (r : ℕ) (goals : List Bool) (v : List (Option ℚ)) (ranks 
       → (s : ℕ) → s < states_of m → is_marked (infinite v) s ≡ true → (q : ℕ) × (1 ≤ q) × ((n u : ℕ) (t : Tree) → 1 ≤ u → Keeps m P u n t s → hit m goals u n t s +ℚ part q ≤ℚ 1ℚ)
   misses P at_choice = misses_by_ranks m goals known_ P (is_marked (infinite v)) (λ s. get_or ranks s 0) goal_finite at_choice
 
-module _ (m : Mdp) (r : ℕ) (goals : List Bool) (v : List (Option ℚ)) (policy ranks : List ℕ) (known_ : IsMdp m) where
-  -- what holds of the policy's choice holds of each that the policy takes
-  of_policy : (C : ℕ → ℕ → Type 0) → ((s : ℕ) → IsTransient m goals v s → C s (get_or policy s 0)) → AtTransient m goals v (Follows policy) C
-  of_policy C h s c at is i = subst (λ (d : ℕ). C s d) (sym is) (h s at)
+-- what holds of the policy's choice holds of each that the policy takes
+of_policy : (m : Mdp) (goals : List Bool) (v : List (Option ℚ)) (policy : List ℕ) (C : ℕ → ℕ → Type 0) → ((s : ℕ) → IsTransient m goals v s → C s (get_or policy s 0))
+    → AtTransient m goals v (Follows policy) C
+of_policy m goals v policy C h s c at is i = subst (λ (d : ℕ). C s d) (sym is) (h s at)
 
+module _ (m : Mdp) (r : ℕ) (goals : List Bool) (lower upper : List (Option ℚ)) (policy ranks : List ℕ) (known_ : IsMdp m) where
   -- ---- the greatest reward
 
-  module _ (rules : MeetsRewardMax m r goals v policy ranks) where
-    max_choice : (s c : ℕ) → s < states_of m → is_marked (infinite v) s ≡ true → Follows policy s c → c < length (choices_at m s) → FallsInfinite m v ranks s c
-        ⊎ StaysInfinite m v ranks (get_or ranks s 0) s c
+  module _ (rules : MeetsRewardMaxBetween m r goals lower upper policy ranks) where
+    max_choice : (s c : ℕ) → s < states_of m → is_marked (infinite lower) s ≡ true → Follows policy s c → c < length (choices_at m s) → FallsInfinite m lower ranks s c
+        ⊎ StaysInfinite m lower ranks (get_or ranks s 0) s c
     max_choice s c h i is j =
-        subst (λ (d : ℕ). FallsInfinite m v ranks s d ⊎ StaysInfinite m v ranks (get_or ranks s 0) s d) (sym is)
-        (⊎_elim (λ stay. inr (subst (λ (k : ℕ). StaysInfinite m v ranks k s (get_or policy s 0)) (sym stay.0) stay.1)) (λ fall. inl fall) (rules.misses s (h, i)))
+        subst (λ (d : ℕ). FallsInfinite m lower ranks s d ⊎ StaysInfinite m lower ranks (get_or ranks s 0) s d) (sym is)
+        (⊎_elim (λ stay. inr (subst (λ (k : ℕ). StaysInfinite m lower ranks k s (get_or policy s 0)) (sym stay.0) stay.1)) (λ fall. inl fall) (rules.misses s (h, i)))
 
-    max_value : (s : ℕ) (o : Option ℚ) → s < states_of m → reward_at v s ≡ o → MaxValue m r goals policy s o
-    max_value s (Some x) h e =
-        let at : HasFinite m v s = (h, finite_of_some v s x e) in
+    max_lower : (s : ℕ) (o : Option ℚ) → s < states_of m → reward_at lower s ≡ o → MaxLower m r goals policy s o
+    max_lower s (Some x) h e =
+        let at : HasFinite m lower s = (h, finite_of_some lower s x e) in
         record {
-          above = λ n u t tree.
-              subst (λ (w : ℚ). pay m r goals u n t s ≤ℚ w) (part_of_some v s x e)
-              (earns_at_most m r goals v ranks known_ rules.values (HasChoice m) (λ s c at ok i. rules.stays s c at i) (λ s c at ok i. rules.covers s c at i) n u t s tree.mixes
-              (at, keeps_of_Fits m u n t s tree.fits));
           arrives = λ k hk.
-              let near = arrives m r goals v ranks known_ rules.values (HasChoice m) (λ s c at ok i. rules.stays s c at i) (λ s c at ok i. rules.falls s c at i) k hk in
+              let near = arrives m r goals lower ranks known_ rules.lower_values (HasChoice m) (λ s c at ok i. rules.stays s c at i) (λ s c at ok i. rules.falls s c at i) k hk in
               (near.0, λ d u t l tree. near.1 d u t s l tree.mixes (at, keeps_of_Fits m u d t s tree.fits));
           close = λ k hk.
-              let enough = near_enough (greatest_finite v) k (greatest_finite-nonneg v) hk in
-              let near = arrives m r goals v ranks known_ rules.values (Follows policy) (λ s c at ok i. rules.stays s c at i) (λ s c at ok i. rules.falls s c at i) enough.0 enough.1 in
-              let ok : KeepsFinite m v (Follows policy) 1 near.0 (unfolded m policy near.0 s) s = (at, keeps_unfolded m policy near.0 s known_ rules.choices h) in (
+              let enough = near_enough (greatest_finite lower) k (greatest_finite-nonneg lower) hk in
+              let near = arrives m r goals lower ranks known_ rules.lower_values (Follows policy) (λ s c at ok i. rules.stays s c at i) (λ s c at ok i. rules.falls s c at i) enough.0 enough.1 in
+              let ok : KeepsFinite m lower (Follows policy) 1 near.0 (unfolded m policy near.0 s) s = (at, keeps_unfolded m policy near.0 s known_ rules.choices h) in (
                 near.0,
-                subst (λ (w : ℚ). w ≤ℚ pay m r goals 1 near.0 (unfolded m policy near.0 s) s +ℚ part k) (part_of_some v s x e)
-                    (enough.2 (value_at (finite_part v) s) (pay m r goals 1 near.0 (unfolded m policy near.0 s) s) (hit m goals 1 near.0 (unfolded m policy near.0 s) s)
-                    (earns_at_least m r goals v ranks known_ rules.values (Follows policy) (λ s c at ok i. rules.stays s c at i)
-                    (of_policy (λ s c. value_at (finite_part v) s ≤ℚ backup m r s c (finite_part v)) rules.reached) near.0 1 (unfolded m policy near.0 s) s (omega arith) ok)
+                subst (λ (w : ℚ). w ≤ℚ pay m r goals 1 near.0 (unfolded m policy near.0 s) s +ℚ part k) (part_of_some lower s x e)
+                    (enough.2 (value_at (finite_part lower) s) (pay m r goals 1 near.0 (unfolded m policy near.0 s) s) (hit m goals 1 near.0 (unfolded m policy near.0 s) s)
+                    (earns_at_least m r goals lower ranks known_ rules.lower_values (Follows policy) (λ s c at ok i. rules.stays s c at i)
+                    (of_policy m goals lower policy (λ s c. value_at (finite_part lower) s ≤ℚ backup m r s c (finite_part lower)) rules.reached) near.0 1 (unfolded m policy near.0 s) s (omega arith)
+                    ok)
                     (near.1 near.0 1 (unfolded m policy near.0 s) s (omega arith) (omega arith) ok)),
               );
         }
-    max_value s None h e =
-        let missed = misses m r goals v ranks known_ rules.values (Follows policy) max_choice s h (infinite_of_none v s e) in
+    max_lower s None h e =
+        let missed = misses m r goals lower ranks known_ rules.lower_values (Follows policy) max_choice s h (infinite_of_none lower s e) in
         record { misses = (missed.0, missed.1, λ n. missed.2 n 1 (unfolded m policy n s) (omega arith) (keeps_unfolded m policy n s known_ rules.choices h)) }
 
-    pub reward_max_of_rules : RewardMax m r goals policy v
-    reward_max_of_rules = record {
+    max_upper : (s : ℕ) (o : Option ℚ) → s < states_of m → reward_at upper s ≡ o → MaxUpper m r goals policy s o
+    max_upper s (Some y) h e =
+        λ n u t tree.
+        subst (λ (w : ℚ). pay m r goals u n t s ≤ℚ w) (part_of_some upper s y e)
+        (earns_at_most m r goals upper ranks known_ rules.upper_values (HasChoice m) (λ s c at ok i. rules.upper_stays s c at i) (λ s c at ok i. rules.covers s c at i) n u t s tree.mixes
+        ((h, finite_of_some upper s y e), keeps_of_Fits m u n t s tree.fits))
+    max_upper s None h e = tt
+
+    pub reward_max_between_of_rules : RewardMaxBetween m r goals policy lower upper
+    reward_max_between_of_rules = record {
       takes = rules.choices;
       named = rules.named;
       one_each = rules.one_each;
-      value = λ s h. max_value s (reward_at v s) h refl;
+      one_above = rules.one_above;
+      ordered = λ s h i. rules.ordered s (h, i);
+      at_least = λ s h. max_lower s (reward_at lower s) h refl;
+      at_most = λ s h. max_upper s (reward_at upper s) h refl;
     }
 
   -- ---- the least reward
 
-  module _ (rules : MeetsRewardMin m r goals v policy ranks) where
-    min_value : (s : ℕ) (o : Option ℚ) → s < states_of m → reward_at v s ≡ o → MinValue m r goals policy v s o
-    min_value s (Some x) h e =
-        let at : HasFinite m v s = (h, finite_of_some v s x e) in
+  module _ (rules : MeetsRewardMinBetween m r goals lower upper policy ranks) where
+    min_lower : (s : ℕ) (o : Option ℚ) → s < states_of m → reward_at lower s ≡ o → MinLower m r goals policy lower s o
+    min_lower s (Some x) h e =
+        let at : HasFinite m lower s = (h, finite_of_some lower s x e) in
         record {
-          below = λ n.
-              subst (λ (w : ℚ). pay m r goals 1 n (unfolded m policy n s) s ≤ℚ w) (part_of_some v s x e)
-              (earns_at_most m r goals v ranks known_ rules.values (Follows policy) (of_policy (λ s c. StaysFinite m v s c) rules.stays)
-              (of_policy (λ s c. backup m r s c (finite_part v) ≤ℚ value_at (finite_part v) s) rules.reached) n 1 (unfolded m policy n s) s (omega arith)
-              (at, keeps_unfolded m policy n s known_ rules.choices h));
           arrives = λ k hk.
-              let near = arrives m r goals v ranks known_ rules.values (Follows policy) (of_policy (λ s c. StaysFinite m v s c) rules.stays)
-              (of_policy (λ s c. Falls m ranks s c) rules.falls) k hk in
+              let near = arrives m r goals lower ranks known_ rules.lower_values (Follows policy) (of_policy m goals lower policy (λ s c. StaysFinite m lower s c) rules.stays)
+              (of_policy m goals lower policy (λ s c. Falls m ranks s c) rules.falls) k hk in
               (near.0, near.1 near.0 1 (unfolded m policy near.0 s) s (omega arith) (omega arith) (at, keeps_unfolded m policy near.0 s known_ rules.choices h));
           covered = λ n u t tree.
-              subst (λ (w : ℚ). Enters m goals (infinite v) n t s ⊎ (w ≤ℚ pay m r goals u n t s +ℚ greatest_finite v *ℚ (1ℚ -ℚ hit m goals u n t s))) (part_of_some v s x e)
-              (earns_or_enters m r goals v ranks known_ rules.values (λ s c at ok i. rules.covered s c at i ok) n u t s tree.mixes h tree.fits);
+              subst (λ (w : ℚ). Enters m goals (infinite lower) n t s ⊎ (w ≤ℚ pay m r goals u n t s +ℚ greatest_finite lower *ℚ (1ℚ -ℚ hit m goals u n t s))) (part_of_some lower s x e)
+              (earns_or_enters m r goals lower ranks known_ rules.lower_values (λ s c at ok i. rules.covered s c at i ok) n u t s tree.mixes h tree.fits);
         }
-    min_value s None h e =
-        let missed = misses m r goals v ranks known_ rules.values (HasChoice m) (λ s c h i ok j. rules.misses s c (h, i) j) s h (infinite_of_none v s e) in
+    min_lower s None h e =
+        let missed = misses m r goals lower ranks known_ rules.lower_values (HasChoice m) (λ s c h i ok j. rules.misses s c (h, i) j) s h (infinite_of_none lower s e) in
         record { misses = (missed.0, missed.1, λ n u t tree. missed.2 n u t tree.mixes (keeps_of_Fits m u n t s tree.fits)) }
 
-    pub reward_min_of_rules : RewardMin m r goals policy v
-    reward_min_of_rules = record {
+    min_upper : (s : ℕ) (o : Option ℚ) → s < states_of m → reward_at upper s ≡ o → MinUpper m r goals policy s o
+    min_upper s (Some y) h e =
+        λ n.
+        subst (λ (w : ℚ). pay m r goals 1 n (unfolded m policy n s) s ≤ℚ w) (part_of_some upper s y e)
+        (earns_at_most m r goals upper ranks known_ rules.upper_values (Follows policy) (of_policy m goals upper policy (λ s c. StaysFinite m upper s c) rules.upper_stays)
+        (of_policy m goals upper policy (λ s c. backup m r s c (finite_part upper) ≤ℚ value_at (finite_part upper) s) rules.reached) n 1 (unfolded m policy n s) s (omega arith)
+        ((h, finite_of_some upper s y e), keeps_unfolded m policy n s known_ rules.choices h))
+    min_upper s None h e = tt
+
+    pub reward_min_between_of_rules : RewardMinBetween m r goals policy lower upper
+    reward_min_between_of_rules = record {
       takes = rules.choices;
       named = rules.named;
       one_each = rules.one_each;
-      value = λ s h. min_value s (reward_at v s) h refl;
+      one_above = rules.one_above;
+      ordered = λ s h i. rules.ordered s (h, i);
+      at_least = λ s h. min_lower s (reward_at lower s) h refl;
+      at_most = λ s h. min_upper s (reward_at upper s) h refl;
     }
+
+-- ---- the same values below and above
+
+module _ (m : Mdp) (r : ℕ) (goals : List Bool) (v : List (Option ℚ)) (policy : List ℕ) where
+  max_value : (s : ℕ) (o : Option ℚ) → MaxLower m r goals policy s o → MaxUpper m r goals policy s o → MaxValue m r goals policy s o
+  max_value s (Some x) low high = record { above = high; arrives = low.arrives; close = low.close }
+  max_value s None low high = low
+
+  max_lower_of : (s : ℕ) (o : Option ℚ) → MaxValue m r goals policy s o → MaxLower m r goals policy s o
+  max_lower_of s (Some x) value = record { arrives = value.arrives; close = value.close }
+  max_lower_of s None value = value
+
+  max_upper_of : (s : ℕ) (o : Option ℚ) → MaxValue m r goals policy s o → MaxUpper m r goals policy s o
+  max_upper_of s (Some x) value = value.above
+  max_upper_of s None value = tt
+
+  pub reward_max_between : RewardMax m r goals policy v → RewardMaxBetween m r goals policy v v
+  reward_max_between w = record {
+    takes = w.takes;
+    named = w.named;
+    one_each = w.one_each;
+    one_above = w.one_each;
+    ordered = λ s h i. i;
+    at_least = λ s h. max_lower_of s (reward_at v s) (w.value s h);
+    at_most = λ s h. max_upper_of s (reward_at v s) (w.value s h);
+  }
+
+  min_value : (s : ℕ) (o : Option ℚ) → MinLower m r goals policy v s o → MinUpper m r goals policy s o → MinValue m r goals policy v s o
+  min_value s (Some x) low high = record { below = high; arrives = low.arrives; covered = low.covered }
+  min_value s None low high = low
+
+  min_lower_of : (s : ℕ) (o : Option ℚ) → MinValue m r goals policy v s o → MinLower m r goals policy v s o
+  min_lower_of s (Some x) value = record { arrives = value.arrives; covered = value.covered }
+  min_lower_of s None value = value
+
+  min_upper_of : (s : ℕ) (o : Option ℚ) → MinValue m r goals policy v s o → MinUpper m r goals policy s o
+  min_upper_of s (Some x) value = value.below
+  min_upper_of s None value = tt
+
+  pub reward_min_between : RewardMin m r goals policy v → RewardMinBetween m r goals policy v v
+  reward_min_between w = record {
+    takes = w.takes;
+    named = w.named;
+    one_each = w.one_each;
+    one_above = w.one_each;
+    ordered = λ s h i. i;
+    at_least = λ s h. min_lower_of s (reward_at v s) (w.value s h);
+    at_most = λ s h. min_upper_of s (reward_at v s) (w.value s h);
+  }
+
+  pub reward_max_exact : RewardMaxBetween m r goals policy v v → RewardMax m r goals policy v
+  reward_max_exact b = record { takes = b.takes; named = b.named; one_each = b.one_each; value = λ s h. max_value s (reward_at v s) (b.at_least s h) (b.at_most s h) }
+
+  pub reward_min_exact : RewardMinBetween m r goals policy v v → RewardMin m r goals policy v
+  reward_min_exact b = record { takes = b.takes; named = b.named; one_each = b.one_each; value = λ s h. min_value s (reward_at v s) (b.at_least s h) (b.at_most s h) }
+
+  module _ (ranks : List ℕ) (known_ : IsMdp m) where
+    pub reward_max_of_rules : MeetsRewardMax m r goals v policy ranks → RewardMax m r goals policy v
+    reward_max_of_rules rules =
+        reward_max_exact
+        (reward_max_between_of_rules m r goals v v policy ranks known_
+        (record {
+          named = rules.named;
+          one_each = rules.one_each;
+          one_above = rules.one_each;
+          choices = rules.choices;
+          lower_values = rules.values;
+          upper_values = rules.values;
+          ordered = λ s i. i.1;
+          upper_stays = rules.stays;
+          covers = rules.covers;
+          stays = rules.stays;
+          reached = rules.reached;
+          falls = rules.falls;
+          misses = rules.misses;
+        }))
+
+    pub reward_min_of_rules : MeetsRewardMin m r goals v policy ranks → RewardMin m r goals policy v
+    reward_min_of_rules rules =
+        reward_min_exact
+        (reward_min_between_of_rules m r goals v v policy ranks known_
+        (record {
+          named = rules.named;
+          one_each = rules.one_each;
+          one_above = rules.one_each;
+          choices = rules.choices;
+          lower_values = rules.values;
+          upper_values = rules.values;
+          ordered = λ s i. i.1;
+          upper_stays = rules.stays;
+          reached = rules.reached;
+          stays = rules.stays;
+          covered = rules.covered;
+          falls = rules.falls;
+          misses = rules.misses;
+        }))

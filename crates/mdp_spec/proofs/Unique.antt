@@ -1,5 +1,6 @@
--- There are no other values: what meets the sentences of the reward until a goal, or those of the mean payoff, is unique.
-use Rattle.std.proofs.Common.{◌≡◌, ℕ, suc, ◌*◌, ◌<◌, ◌≤◌, ⊎_elim, Bool, List, [], ◌∷◌, Option, Some, None, refl, ap, subst, arith, pos}
+-- No lower value passes an upper one: the reward until a goal and the mean payoff lie between the two, and where the two are the same there
+-- are no other values.
+use Rattle.std.proofs.Common.{◌≡◌, ℕ, suc, ◌*◌, ◌<◌, ◌≤◌, ⊎_elim, Bool, List, [], ◌∷◌, Option, Some, None, is_some, true≢false, refl, ap, subst, arith, pos}
 use Rattle.mdp_math.specs.Rational.{ℚ, ◌+ℚ◌, ◌*ℚ◌, inv_ℚ, ◌≤ℚ◌, ◌<ℚ◌}
 use Rattle.mdp_math.proofs.Ring.{◌⊕◌, ◌⊗◌, ⊖, lit}
 use Rattle.mdp_math.proofs.Linear.{linear, linear_lt, equal, at_most, known}
@@ -13,10 +14,13 @@ use Rattle.mdp_spec.specs.Row.{IsMdp}
 use Rattle.mdp_spec.specs.Tree.{IsPolicy, unfolded}
 use Rattle.mdp_spec.specs.Hit.{hit}
 use Rattle.mdp_spec.specs.Pay.{pay, total, Enters}
-use Rattle.mdp_spec.specs.Bounds.{greatest_finite, part, whole, reward_at, infinite, MaxFinite, MaxInfinite, MaxValue, MinFinite, MinInfinite, MinValue, RewardMax, RewardMin, MeanMax, MeanMin}
+use Rattle.mdp_spec.specs.Bounds.{greatest_finite, part, whole, reward_at, infinite, MaxInfinite, MinInfinite, RewardMax, RewardMin, MeanMax, MeanMin}
+use Rattle.mdp_spec.specs.Between.{AtMost, MaxAtLeast, MaxLower, MaxUpper, MinAtLeast, MinLower, MinUpper, RewardMaxBetween, RewardMinBetween, MeanMaxBetween, MeanMinBetween}
 use Rattle.mdp_spec.proofs.Keeping.{unfolded_is_strategy}
-use Rattle.mdp_spec.proofs.Values.{none_of_infinite, greatest_finite-nonneg}
+use Rattle.mdp_spec.proofs.Values.{infinite_of_none, none_of_infinite, greatest_finite-nonneg}
 use Rattle.mdp_spec.proofs.Reach.{le_of_parts}
+use Rattle.mdp_spec.proofs.Reward.{reward_max_between, reward_min_between}
+use Rattle.mdp_spec.proofs.Mean.{mean_max_between, mean_min_between}
 use Rattle.mdp_spec.proofs.Pays.{near_enough}
 use Rattle.mdp_spec.proofs.Trapped.{misses_of_enters}
 
@@ -43,46 +47,73 @@ clash h q hq missed met =
     let le : part q ≤ℚ part (suc q) = linear 3 (λ h a b. a) (λ h a b. b) (λ h a b. known (h ⊕ a) (lit (pos 1)) ∷ known (lit (pos 1)) (h ⊕ b) ∷ []) refl h (part q) (part (suc q)) missed met in
     let l : 1 * suc q ≤ 1 * q = le-ratio 1 1 q (suc q) hq (omega arith) le in omega (arith, l)
 
-some_eq : (x y : ℚ) → x ≤ℚ y → y ≤ℚ x → Some x ≡ Some y
-some_eq x y p q = ap (λ (w : ℚ). Some w) (≤ℚ_antisymm x y p q)
+-- values that may be infinite and are at most each other are the same
+at_most_antisymm : (o p : Option ℚ) → AtMost o p → AtMost p o → o ≡ p
+at_most_antisymm (Some x) (Some y) h k = ap (λ (w : ℚ). Some w) (≤ℚ_antisymm x y h k)
+at_most_antisymm (Some x) None h k = absurd k
+at_most_antisymm None (Some y) h k = absurd h
+at_most_antisymm None None h k = refl
+
+some_none : (x : ℚ) → Some x ≡ None → ⊥
+some_none x e = true≢false (ap is_some e)
 
 -- ---- the greatest reward
 
 module _ (m : Mdp) (r : ℕ) (goals : List Bool) (known_ : IsMdp m) where
-  max_at_most : (policy other : List ℕ) (s : ℕ) (x y : ℚ) → IsPolicy m policy → s < states_of m → MaxFinite m r goals policy s x → MaxFinite m r goals other s y → x ≤ℚ y
-  max_at_most policy other s x y choice h one two =
+  max_le : (policy other : List ℕ) (s : ℕ) (x y : ℚ) → IsPolicy m policy → s < states_of m → MaxAtLeast m r goals policy s x → MaxUpper m r goals other s (Some y) → x ≤ℚ y
+  max_le policy other s x y choice h one two =
       le_of_parts x y
       (λ k hk.
       let c = one.close k hk in
-      let a = two.above c.0 1 (unfolded m policy c.0 s) (unfolded_is_strategy m policy c.0 s known_ choice h) in
+      let a = two c.0 1 (unfolded m policy c.0 s) (unfolded_is_strategy m policy c.0 s known_ choice h) in
       linear 4 (λ x y p q. x) (λ x y p q. y ⊕ q) (λ x y p q. known x (p ⊕ q) ∷ known p y ∷ []) refl x y (pay m r goals 1 c.0 (unfolded m policy c.0 s) s) (part k) c.1 a)
 
-  max_clash : (policy other : List ℕ) (s : ℕ) (x : ℚ) → IsPolicy m other → s < states_of m → MaxFinite m r goals policy s x → MaxInfinite m r goals other s → ⊥
+  max_clash : (policy other : List ℕ) (s : ℕ) (x : ℚ) → IsPolicy m other → s < states_of m → MaxAtLeast m r goals policy s x → MaxInfinite m r goals other s → ⊥
   max_clash policy other s x choice h one two =
       let missed = two.misses in
       let met = one.arrives (suc missed.0) (omega arith) in
       clash (hit m goals 1 met.0 (unfolded m other met.0 s) s) missed.0 missed.1 (missed.2 met.0)
       (met.1 met.0 1 (unfolded m other met.0 s) (omega arith) (unfolded_is_strategy m other met.0 s known_ choice h))
 
-  max_same : (policy other : List ℕ) (s : ℕ) (o p : Option ℚ) → IsPolicy m policy → IsPolicy m other → s < states_of m → MaxValue m r goals policy s o → MaxValue m r goals other s p → o ≡ p
-  max_same policy other s (Some x) (Some y) c d h one two = some_eq x y (max_at_most policy other s x y c h one two) (max_at_most other policy s y x d h two one)
-  max_same policy other s (Some x) None c d h one two = absurd (max_clash policy other s x d h one two)
-  max_same policy other s None (Some y) c d h one two = absurd (max_clash other policy s y c h two one)
-  max_same policy other s None None c d h one two = refl
+  -- o is the lower value of one claim, q and p are the lower and the upper value of the other
+  max_order : (policy other : List ℕ) (s : ℕ) (o q p : Option ℚ) → IsPolicy m policy → s < states_of m → MaxLower m r goals policy s o → MaxLower m r goals other s q → MaxUpper m r goals other s p
+      → (q ≡ None → p ≡ None) → AtMost o p
+  max_order policy other s (Some x) q (Some y) choice h one low high order = max_le policy other s x y choice h one high
+  max_order policy other s None (Some x) (Some y) choice h one low high order = max_clash other policy s x choice h low one
+  max_order policy other s None None (Some y) choice h one low high order = some_none y (order refl)
+  max_order policy other s (Some x) q None choice h one low high order = tt
+  max_order policy other s None q None choice h one low high order = tt
 
+  -- of two claims on the greatest rewards, the lower values of one are at most the upper values of the other
+  pub reward_max_at_most : (lower upper low high : List (Option ℚ)) (policy other : List ℕ) (s : ℕ) → RewardMaxBetween m r goals policy lower upper → RewardMaxBetween m r goals other low high
+      → s < states_of m → AtMost (reward_at lower s) (reward_at high s)
+  reward_max_at_most lower upper low high policy other s one two h =
+      max_order policy other s (reward_at lower s) (reward_at low s) (reward_at high s) one.takes h (one.at_least s h) (two.at_least s h) (two.at_most s h)
+      (λ e. none_of_infinite high s (two.ordered s h (infinite_of_none low s e)))
+
+  -- the greatest rewards lie between them
+  pub reward_max_lies : (lower upper v : List (Option ℚ)) (policy other : List ℕ) (s : ℕ) → RewardMaxBetween m r goals policy lower upper → RewardMax m r goals other v → s < states_of m
+      → AtMost (reward_at lower s) (reward_at v s) × AtMost (reward_at v s) (reward_at upper s)
+  reward_max_lies lower upper v policy other s one two h = (
+    reward_max_at_most lower upper v v policy other s one (reward_max_between m r goals v other two) h,
+    reward_max_at_most v v lower upper other policy s (reward_max_between m r goals v other two) one h,
+  )
+
+  -- and are unique
   pub reward_max_unique : (v w : List (Option ℚ)) (policy other : List ℕ) (s : ℕ) → RewardMax m r goals policy v → RewardMax m r goals other w → s < states_of m → reward_at v s ≡ reward_at w s
-  reward_max_unique v w policy other s one two h = max_same policy other s (reward_at v s) (reward_at w s) one.takes two.takes h (one.value s h) (two.value s h)
+  reward_max_unique v w policy other s one two h =
+      let p = reward_max_lies v v w policy other s (reward_max_between m r goals v policy one) two h in at_most_antisymm (reward_at v s) (reward_at w s) p.0 p.1
 
   -- ---- the least reward
 
-  -- a policy that arrives never enters a state of infinite value
-  never_enters : (v : List (Option ℚ)) (policy other : List ℕ) (n s : ℕ) → IsPolicy m other → RewardMin m r goals policy v → s < states_of m
-      → ((k : ℕ) → 1 ≤ k → (n : ℕ) × (1ℚ ≤ℚ hit m goals 1 n (unfolded m other n s) s +ℚ part k)) → Enters m goals (infinite v) n (unfolded m other n s) s → ⊥
-  never_enters v policy other n s choice rules h arrives enters =
+  -- a policy that arrives never enters a state whose lower value is infinite
+  never_enters : (lower upper : List (Option ℚ)) (policy other : List ℕ) (n s : ℕ) → IsPolicy m other → RewardMinBetween m r goals policy lower upper → s < states_of m
+      → ((k : ℕ) → 1 ≤ k → (n : ℕ) × (1ℚ ≤ℚ hit m goals 1 n (unfolded m other n s) s +ℚ part k)) → Enters m goals (infinite lower) n (unfolded m other n s) s → ⊥
+  never_enters lower upper policy other n s choice rules h arrives enters =
       let missed =
-      misses_of_enters m goals other known_ choice (infinite v)
+      misses_of_enters m goals other known_ choice (infinite lower)
       (λ t l marked.
-      let value : MinValue m r goals policy v t None = subst (λ (o : Option ℚ). MinValue m r goals policy v t o) (none_of_infinite v t marked) (rules.value t l) in
+      let value : MinLower m r goals policy lower t None = subst (λ (o : Option ℚ). MinLower m r goals policy lower t o) (none_of_infinite lower t marked) (rules.at_least t l) in
       let q = MinInfinite.misses value in
       (part q.0, ratio-pos 1 q.0 (omega arith) q.1, λ d. q.2 d 1 (unfolded m other d t) (unfolded_is_strategy m other d t known_ choice l)))
       n s h enters
@@ -94,35 +125,52 @@ module _ (m : Mdp) (r : ℕ) (goals : List Bool) (known_ : IsMdp m) where
       (missed.2 met.0) (unit_fraction-le missed.0 missed.1))
       met.1
 
-  min_at_most : (v w : List (Option ℚ)) (policy other : List ℕ) (s : ℕ) (x y : ℚ) → IsPolicy m other → RewardMin m r goals policy v → s < states_of m
-      → MinFinite m r goals policy v s x → MinFinite m r goals other w s y → x ≤ℚ y
-  min_at_most v w policy other s x y choice rules h one two =
-      le_of_parts x y
-      (λ k hk.
-      let enough = near_enough (greatest_finite v) k (greatest_finite-nonneg v) hk in
-      let met = two.arrives enough.0 enough.1 in
-      ⊎_elim (λ enters. absurd (never_enters v policy other met.0 s choice rules h two.arrives enters))
-      (λ covered.
-      linear 4 (λ x y p q. x) (λ x y p q. y ⊕ q) (λ x y p q. known x (p ⊕ q) ∷ known p y ∷ []) refl x y (pay m r goals 1 met.0 (unfolded m other met.0 s) s) (part k)
-      (enough.2 x (pay m r goals 1 met.0 (unfolded m other met.0 s) s) (hit m goals 1 met.0 (unfolded m other met.0 s) s) covered met.1) (two.below met.0))
-      (one.covered met.0 1 (unfolded m other met.0 s) (unfolded_is_strategy m other met.0 s known_ choice h)))
+  module _ (lower upper low high : List (Option ℚ)) (policy other : List ℕ) (one : RewardMinBetween m r goals policy lower upper) (two : RewardMinBetween m r goals other low high) where
+    min_le : (s : ℕ) (x w y : ℚ) → s < states_of m → MinAtLeast m r goals policy lower s x → MinAtLeast m r goals other low s w → MinUpper m r goals other s (Some y) → x ≤ℚ y
+    min_le s x w y h a c b =
+        le_of_parts x y
+        (λ k hk.
+        let enough = near_enough (greatest_finite lower) k (greatest_finite-nonneg lower) hk in
+        let met = c.arrives enough.0 enough.1 in
+        ⊎_elim (λ enters. absurd (never_enters lower upper policy other met.0 s two.takes one h c.arrives enters))
+        (λ covered.
+        linear 4 (λ x y p q. x) (λ x y p q. y ⊕ q) (λ x y p q. known x (p ⊕ q) ∷ known p y ∷ []) refl x y (pay m r goals 1 met.0 (unfolded m other met.0 s) s) (part k)
+        (enough.2 x (pay m r goals 1 met.0 (unfolded m other met.0 s) s) (hit m goals 1 met.0 (unfolded m other met.0 s) s) covered met.1) (b met.0))
+        (a.covered met.0 1 (unfolded m other met.0 s) (unfolded_is_strategy m other met.0 s known_ two.takes h)))
 
-  min_clash : (v : List (Option ℚ)) (policy other : List ℕ) (s : ℕ) (x : ℚ) → IsPolicy m policy → s < states_of m → MinFinite m r goals policy v s x → MinInfinite m r goals other s → ⊥
-  min_clash v policy other s x choice h one two =
-      let missed = two.misses in
-      let met = one.arrives (suc missed.0) (omega arith) in
-      clash (hit m goals 1 met.0 (unfolded m policy met.0 s) s) missed.0 missed.1
-      (missed.2 met.0 1 (unfolded m policy met.0 s) (unfolded_is_strategy m policy met.0 s known_ choice h)) met.1
+    min_clash : (s : ℕ) (w : ℚ) → s < states_of m → MinInfinite m r goals policy s → MinAtLeast m r goals other low s w → ⊥
+    min_clash s w h a c =
+        let missed = a.misses in
+        let met = c.arrives (suc missed.0) (omega arith) in
+        clash (hit m goals 1 met.0 (unfolded m other met.0 s) s) missed.0 missed.1
+        (missed.2 met.0 1 (unfolded m other met.0 s) (unfolded_is_strategy m other met.0 s known_ two.takes h)) met.1
 
-  module _ (v w : List (Option ℚ)) (policy other : List ℕ) (one : RewardMin m r goals policy v) (two : RewardMin m r goals other w) where
-    min_same : (s : ℕ) (o p : Option ℚ) → s < states_of m → MinValue m r goals policy v s o → MinValue m r goals other w s p → o ≡ p
-    min_same s (Some x) (Some y) h a b = some_eq x y (min_at_most v w policy other s x y two.takes one h a b) (min_at_most w v other policy s y x one.takes two h b a)
-    min_same s (Some x) None h a b = absurd (min_clash v policy other s x one.takes h a b)
-    min_same s None (Some y) h a b = absurd (min_clash w other policy s y two.takes h b a)
-    min_same s None None h a b = refl
+    min_order : (s : ℕ) (o q p : Option ℚ) → s < states_of m → MinLower m r goals policy lower s o → MinLower m r goals other low s q → MinUpper m r goals other s p → (q ≡ None → p ≡ None) → AtMost o p
+    min_order s (Some x) (Some w) (Some y) h a c b order = min_le s x w y h a c b
+    min_order s None (Some w) (Some y) h a c b order = min_clash s w h a c
+    min_order s (Some x) None (Some y) h a c b order = absurd (some_none y (order refl))
+    min_order s None None (Some y) h a c b order = some_none y (order refl)
+    min_order s (Some x) q None h a c b order = tt
+    min_order s None q None h a c b order = tt
 
-    pub reward_min_unique : (s : ℕ) → s < states_of m → reward_at v s ≡ reward_at w s
-    reward_min_unique s h = min_same s (reward_at v s) (reward_at w s) h (one.value s h) (two.value s h)
+    -- of two claims on the least rewards, the lower values of one are at most the upper values of the other
+    pub reward_min_at_most : (s : ℕ) → s < states_of m → AtMost (reward_at lower s) (reward_at high s)
+    reward_min_at_most s h =
+        min_order s (reward_at lower s) (reward_at low s) (reward_at high s) h (one.at_least s h) (two.at_least s h) (two.at_most s h)
+        (λ e. none_of_infinite high s (two.ordered s h (infinite_of_none low s e)))
+
+  -- the least rewards lie between them
+  pub reward_min_lies : (lower upper v : List (Option ℚ)) (policy other : List ℕ) (s : ℕ) → RewardMinBetween m r goals policy lower upper → RewardMin m r goals other v → s < states_of m
+      → AtMost (reward_at lower s) (reward_at v s) × AtMost (reward_at v s) (reward_at upper s)
+  reward_min_lies lower upper v policy other s one two h = (
+    reward_min_at_most lower upper v v policy other one (reward_min_between m r goals v other two) s h,
+    reward_min_at_most v v lower upper other policy (reward_min_between m r goals v other two) one s h,
+  )
+
+  -- and are unique
+  pub reward_min_unique : (v w : List (Option ℚ)) (policy other : List ℕ) → RewardMin m r goals policy v → RewardMin m r goals other w → (s : ℕ) → s < states_of m → reward_at v s ≡ reward_at w s
+  reward_min_unique v w policy other one two s h =
+      let p = reward_min_lies v v w policy other s (reward_min_between m r goals v policy one) two h in at_most_antisymm (reward_at v s) (reward_at w s) p.0 p.1
 
 -- ---- the mean payoff
 
@@ -134,15 +182,35 @@ module _ (m : Mdp) (r : ℕ) (g k : List ℚ) (spread wider : ℚ) (policy : Lis
       (λ n. linear 6 (λ n g k t x y. n ⊗ g) (λ n g k t x y. n ⊗ k ⊕ (x ⊕ y)) (λ n g k t x y. known (n ⊗ g) (t ⊕ x) ∷ known t (n ⊗ k ⊕ y) ∷ []) refl
       (whole n) (value_at g s) (value_at k s) (total m r 1 n (unfolded m policy n s) s) spread wider (low n) (high n))
 
+module _ (m : Mdp) (r : ℕ) (lower upper low high : List ℚ) (spread wider : ℚ) (policy other : List ℕ) (known_ : IsMdp m) where
+  -- of two claims on the greatest gains, the lower gains of one are at most the upper gains of the other
+  pub mean_max_at_most : MeanMaxBetween m r lower upper spread policy → MeanMaxBetween m r low high wider other → (s : ℕ) → s < states_of m → value_at lower s ≤ℚ value_at high s
+  mean_max_at_most one two s h =
+      gain_at_most m r lower high spread wider policy s (λ n. one.reached n s h) (λ n. two.above n 1 (unfolded m policy n s) s h (unfolded_is_strategy m policy n s known_ one.takes h))
+
+  -- the same of the least gains
+  pub mean_min_at_most : MeanMinBetween m r lower upper spread policy → MeanMinBetween m r low high wider other → (s : ℕ) → s < states_of m → value_at lower s ≤ℚ value_at high s
+  mean_min_at_most one two s h =
+      gain_at_most m r lower high spread wider other s (λ n. one.below n 1 (unfolded m other n s) s h (unfolded_is_strategy m other n s known_ two.takes h)) (λ n. two.reached n s h)
+
+module _ (m : Mdp) (r : ℕ) (lower upper g : List ℚ) (spread wider : ℚ) (policy other : List ℕ) (known_ : IsMdp m) where
+  -- the greatest gains, and the least, lie between them
+  pub mean_max_lies : MeanMaxBetween m r lower upper spread policy → MeanMax m r g wider other → (s : ℕ) → s < states_of m → (value_at lower s ≤ℚ value_at g s) × (value_at g s ≤ℚ value_at upper s)
+  mean_max_lies one two s h = (
+    mean_max_at_most m r lower upper g g spread wider policy other known_ one (mean_max_between m r g wider other two) s h,
+    mean_max_at_most m r g g lower upper wider spread other policy known_ (mean_max_between m r g wider other two) one s h,
+  )
+
+  pub mean_min_lies : MeanMinBetween m r lower upper spread policy → MeanMin m r g wider other → (s : ℕ) → s < states_of m → (value_at lower s ≤ℚ value_at g s) × (value_at g s ≤ℚ value_at upper s)
+  mean_min_lies one two s h = (
+    mean_min_at_most m r lower upper g g spread wider policy other known_ one (mean_min_between m r g wider other two) s h,
+    mean_min_at_most m r g g lower upper wider spread other policy known_ (mean_min_between m r g wider other two) one s h,
+  )
+
+-- and are unique
 module _ (m : Mdp) (r : ℕ) (g k : List ℚ) (spread wider : ℚ) (policy other : List ℕ) (known_ : IsMdp m) where
   pub mean_max_unique : MeanMax m r g spread policy → MeanMax m r k wider other → (s : ℕ) → s < states_of m → value_at g s ≡ value_at k s
-  mean_max_unique one two s h =
-      ≤ℚ_antisymm _ _
-      (gain_at_most m r g k spread wider policy s (λ n. one.policy_above n s h) (λ n. two.above n 1 (unfolded m policy n s) s h (unfolded_is_strategy m policy n s known_ one.takes h)))
-      (gain_at_most m r k g wider spread other s (λ n. two.policy_above n s h) (λ n. one.above n 1 (unfolded m other n s) s h (unfolded_is_strategy m other n s known_ two.takes h)))
+  mean_max_unique one two s h = let p = mean_max_lies m r g g k spread wider policy other known_ (mean_max_between m r g spread policy one) two s h in ≤ℚ_antisymm _ _ p.0 p.1
 
   pub mean_min_unique : MeanMin m r g spread policy → MeanMin m r k wider other → (s : ℕ) → s < states_of m → value_at g s ≡ value_at k s
-  mean_min_unique one two s h =
-      ≤ℚ_antisymm _ _
-      (gain_at_most m r g k spread wider other s (λ n. one.below n 1 (unfolded m other n s) s h (unfolded_is_strategy m other n s known_ two.takes h)) (λ n. two.policy_below n s h))
-      (gain_at_most m r k g wider spread policy s (λ n. two.below n 1 (unfolded m policy n s) s h (unfolded_is_strategy m policy n s known_ one.takes h)) (λ n. one.policy_below n s h))
+  mean_min_unique one two s h = let p = mean_min_lies m r g g k spread wider policy other known_ (mean_min_between m r g spread policy one) two s h in ≤ℚ_antisymm _ _ p.0 p.1

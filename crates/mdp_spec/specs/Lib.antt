@@ -11,3 +11,5 @@ pub mod Unit
 pub mod Written
 pub mod RewardRules
 pub mod MeanRules
+pub mod Between
+pub mod BetweenRules
