@@ -35,11 +35,11 @@ use Rattle.mdp_farkas.proofs.RewardRules.{misses_of_test, test_of_misses, all_mi
 
 -- ---- the order of the two values
 
-implied : (a b : Bool) → (not a || b) ≡ true → a ≡ true → b ≡ true
+pub implied : (a b : Bool) → (not a || b) ≡ true → a ≡ true → b ≡ true
 implied true b e h = e
 implied false b e h = absurd (true≢false (sym h))
 
-implies : (a b : Bool) → (a ≡ true → b ≡ true) → (not a || b) ≡ true
+pub implies : (a b : Bool) → (a ≡ true → b ≡ true) → (not a || b) ≡ true
 implies true b h = h refl
 implies false b h = refl
 
@@ -78,7 +78,7 @@ module _ (m : Mdp) (goals : List Bool) (v : List (Option ℚ)) (ranks : List ℕ
   )
 
 -- a goal has no infinite value
-no_goal : (m : Mdp) (goals : List Bool) (v : List (Option ℚ)) (ranks : List ℕ) → AreRewards m goals v ranks → (s : ℕ) → s < states_of m → is_marked (infinite v) s ≡ true
+pub no_goal : (m : Mdp) (goals : List Bool) (v : List (Option ℚ)) (ranks : List ℕ) → AreRewards m goals v ranks → (s : ℕ) → s < states_of m → is_marked (infinite v) s ≡ true
     → (b : Bool) → is_marked goals s ≡ b → b ≡ false
 no_goal m goals v ranks are s l i true g = absurd (true≢false (sym i ∙ finite_of_some v s 0ℚ (AreRewards.at_goal are s l g).0))
 no_goal m goals v ranks are s l i false g = refl

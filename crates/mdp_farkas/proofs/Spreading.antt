@@ -22,11 +22,11 @@ use Rattle.mdp_rows.specs.declared.dir.Dir.TheVariants.{Max, Min}
 -- ---- the best of a list, by steps
 
 -- y is as good as x
-abbrev AsGood : Dir → ℚ → ℚ → Type 0
+abbrev pub AsGood : Dir → ℚ → ℚ → Type 0
 AsGood Max x y = x ≤ℚ y
 AsGood Min x y = y ≤ℚ x
 
-as_good_same : (dir : Dir) (x : ℚ) → AsGood dir x x
+pub as_good_same : (dir : Dir) (x : ℚ) → AsGood dir x x
 as_good_same Max x = ≤ℚ_refl x
 as_good_same Min x = ≤ℚ_refl x
 
@@ -50,7 +50,7 @@ no_better_by Min x y Less e h = absurd (true≢false h)
 no_better_by Min x y Equal e h = ≤ℚ_of_eq y x (sym (eq_of_cmp x y (sym e)))
 no_better_by Min x y Greater e h = ≤ℚ_of_lt y x (gt_of_cmp x y (sym e))
 
-taken : (dir : Dir) (best x w : ℚ) (o : Ordering) (b : Bool) → o ≡ cmp_ℚ x best → is_better dir o ≡ b → AsGood dir (cond b x best) w → (AsGood dir best w) × (AsGood dir x w)
+pub taken : (dir : Dir) (best x w : ℚ) (o : Ordering) (b : Bool) → o ≡ cmp_ℚ x best → is_better dir o ≡ b → AsGood dir (cond b x best) w → (AsGood dir best w) × (AsGood dir x w)
 taken dir best x w o true e t h = (as_good_trans dir best x w (better_by dir x best o e t) h, h)
 taken dir best x w o false e t h = (h, as_good_trans dir x best w (no_better_by dir x best o e t) h)
 
@@ -63,7 +63,7 @@ best_covers dir best (x ∷ xs) w e =
     let both = taken dir best x w p.0 (is_better dir p.0) (written_compare-some x best p.0 p.1) refl rest.0 in
     (both.0, (both.1, rest.1))
 
-either : (Q : ℚ → Type 0) (b : Bool) (x y : ℚ) → Q x → Q y → Q (cond b x y)
+pub either : (Q : ℚ → Type 0) (b : Bool) (x y : ℚ) → Q x → Q y → Q (cond b x y)
 either Q true x y h k = h
 either Q false x y h k = k
 

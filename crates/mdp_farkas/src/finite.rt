@@ -12,7 +12,7 @@ use mdp_num::{Frac, Wide};
 use mdp_rows::{Model, Row};
 
 /// Whether the value of state `s` is infinite.
-pub(crate) fn is_infinite_at(values: &[Option<Frac>], s: u32) -> bool
+pub fn is_infinite_at(values: &[Option<Frac>], s: u32) -> bool
     requires { s < length values.now }
     ensures { result ≡ is_marked (infinite values.now) s }
 {
@@ -20,7 +20,7 @@ pub(crate) fn is_infinite_at(values: &[Option<Frac>], s: u32) -> bool
 }
 
 /// The value of state `s`, and 0 where it is infinite.
-pub(crate) fn finite_at(values: &[Option<Frac>], s: u32) -> Frac
+pub fn finite_at(values: &[Option<Frac>], s: u32) -> Frac
     requires { s < length values.now }
     ensures { result ≡ value_at (finite_part values.now) s }
 {
@@ -29,7 +29,7 @@ pub(crate) fn finite_at(values: &[Option<Frac>], s: u32) -> Frac
 
 /// `start`, and for each entry of the row its probability times the value of its target (0 where that is infinite), added in the order of
 /// the targets. `Wide` where a written term of one of these operations is past width.
-pub(crate) fn finite_sum(row: Row<'_>, start: &Frac, values: &[Option<Frac>]) -> Result<Frac, Wide>
+pub fn finite_sum(row: Row<'_>, start: &Frac, values: &[Option<Frac>]) -> Result<Frac, Wide>
     requires { All (λ t. t < length values.now) row.targets.now }
     ensures { result_ok result ≡ written_sum (finite_part values.now) start.now (entries row.entry.targets.now row.entry.probs.now) }
 {
@@ -50,7 +50,7 @@ fn all_finite(targets: &[u32], values: &[Option<Frac>]) -> bool
 }
 
 /// Whether each entry of the row of choice `c` at state `s` leads to a finite value.
-pub(crate) fn stays_finite_at(model: &Model, values: &[Option<Frac>], s: u32, c: u32) -> bool
+pub fn stays_finite_at(model: &Model, values: &[Option<Frac>], s: u32, c: u32) -> bool
     requires values { length values.now ≡ states_of model.now }
     requires state { s < states_of model.now }
     requires choice { c < length (choices_at model.now s) }

@@ -64,7 +64,7 @@ fn choices_miss(
 }
 
 /// The rules at state `s`, whose value is infinite.
-pub(crate) fn infinite_state(
+pub fn infinite_state(
     model: &Model,
     dir: Dir,
     values: &[Option<Frac>],

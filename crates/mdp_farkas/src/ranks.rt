@@ -92,7 +92,7 @@ fn falls_at_choices(model: &Model, values: &[Frac], ranks: &[u32], s: u32) -> Re
 }
 
 /// State `s` has rank 0 where it is a goal or has value 0; else its row, or for the least probability each row, leads on from it.
-pub(crate) fn rank_at_state(
+pub fn rank_at_state(
     model: &Model,
     goals: &Marks,
     dir: Dir,

@@ -22,7 +22,7 @@ pub struct ReachCert {
 }
 
 /// The other direction.
-pub(crate) fn reversed(dir: Dir) -> Dir
+pub fn reversed(dir: Dir) -> Dir
     ensures { result ≡ other dir }
 {
     match dir {
@@ -32,7 +32,7 @@ pub(crate) fn reversed(dir: Dir) -> Dir
 }
 
 /// State `s` has the choice.
-pub(crate) fn choice_at(model: &Model, s: u32, choice: u32) -> Result<(), Objection>
+pub fn choice_at(model: &Model, s: u32, choice: u32) -> Result<(), Objection>
     requires { s < states_of model.now }
     ensures { result ≡ objection_to (choice_exists model.now s choice ∷ []) }
 {

@@ -28,7 +28,7 @@ pub struct RewardBetweenCert {
 }
 
 /// The upper value of state `s` is infinite where the lower one is.
-fn order_at(lower: &[Option<Frac>], upper: &[Option<Frac>], s: u32) -> Result<(), Objection>
+pub fn order_at(lower: &[Option<Frac>], upper: &[Option<Frac>], s: u32) -> Result<(), Objection>
     requires lower { s < length lower.now }
     requires upper { s < length upper.now }
     ensures { result ≡ objection_to (order_check lower.now upper.now s ∷ []) }

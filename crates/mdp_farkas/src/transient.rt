@@ -34,7 +34,7 @@ fn choices_stay(model: &Model, values: &[Option<Frac>], s: u32) -> Result<(), Ob
 }
 
 /// The same of each choice, or for the least reward of the policy's alone.
-pub(crate) fn stays_at_state(
+pub fn stays_at_state(
     model: &Model,
     dir: Dir,
     values: &[Option<Frac>],
@@ -73,7 +73,7 @@ fn earning_stands_at(
 }
 
 /// Whether the value is held against choice `c`: for the least reward only against one whose row leads to finite values only.
-fn is_held_against(model: &Model, dir: Dir, values: &[Option<Frac>], s: u32, c: u32) -> bool
+pub fn is_held_against(model: &Model, dir: Dir, values: &[Option<Frac>], s: u32, c: u32) -> bool
     requires values { length values.now ≡ states_of model.now }
     requires state { s < states_of model.now }
     requires choice { c < length (choices_at model.now s) }
@@ -172,7 +172,7 @@ fn choices_fall(model: &Model, ranks: &[u32], s: u32) -> Result<(), Objection>
 }
 
 /// The same of each choice, or for the least reward of the policy's alone.
-pub(crate) fn rank_falls_at_state(
+pub fn rank_falls_at_state(
     model: &Model,
     dir: Dir,
     ranks: &[u32],

@@ -28,7 +28,7 @@ pub enum Verdict {
 
 /// What stands against a certificate: it ends the walk over its rules.
 #[derive(Clone, Copy)]
-pub(crate) enum Objection {
+pub enum Objection {
     /// A rule is false.
     Broken(Fault),
     /// A written term is past width.
@@ -39,7 +39,7 @@ pub(crate) enum Objection {
 }
 
 /// Whether one check of a rule holds at a place, which may be none.
-pub(crate) fn judged_at(
+pub fn judged_at(
     holds: Result<bool, Wide>,
     rule: u8,
     state: Option<u32>,
@@ -59,7 +59,7 @@ pub(crate) fn judged_at(
 }
 
 /// Whether one check of a rule holds at a state.
-pub(crate) fn judged(
+pub fn judged(
     holds: Result<bool, Wide>,
     rule: u8,
     state: u32,
@@ -71,7 +71,7 @@ pub(crate) fn judged(
 }
 
 /// The verdict after a walk over all rules.
-pub(crate) fn verdict_after(walk: Result<(), Objection>) -> Verdict
+pub fn verdict_after(walk: Result<(), Objection>) -> Verdict
     ensures { result ≡ verdict walk }
 {
     match walk {

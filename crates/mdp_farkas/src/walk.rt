@@ -7,7 +7,7 @@ use crate::verdict::Objection;
 use mdp_rows::Model;
 
 /// The checks at each number below `count`, in order: the first objection ends the walk.
-pub(crate) fn each_below<F: Fn(u32) -> Result<(), Objection>>(
+pub fn each_below<F: Fn(u32) -> Result<(), Objection>>(
     count: u32,
     at: F,
 ) -> Result<(), Objection>
@@ -21,7 +21,7 @@ pub(crate) fn each_below<F: Fn(u32) -> Result<(), Objection>>(
 }
 
 /// The check at each choice of state `s`.
-pub(crate) fn each_choice<F: Fn(u32) -> Result<(), Objection>>(
+pub fn each_choice<F: Fn(u32) -> Result<(), Objection>>(
     model: &Model,
     s: u32,
     at: F,

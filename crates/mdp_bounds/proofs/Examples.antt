@@ -1,0 +1,157 @@
+-- Verdicts, computed.
+use Rattle.std.proofs.Common.{◌≡◌, ℕ, ◌+◌, ◌^◌, Bool, true, false, List, [], ◌∷◌, refl, pos, Option, Some, None, Less}
+use Rattle.mdp_math.specs.Gcd.{gcd, gcd_with_fuel}
+use Rattle.mdp_math.specs.Rational.{ℚ, of_int, ratio, le_ℚ, lt_ℚ, neg_ℚ, ◌+ℚ◌, ◌*ℚ◌}
+use Rattle.mdp_math.specs.Written.{narrow, narrow_ℚ, written_add, written_mul, written_compare, cmp_ℚ}
+use Rattle.mdp_spec.specs.Mdp.{Entry, Choice, Mdp}
+use Rattle.mdp_farkas.specs.Verdict.{verdict_of}
+use Rattle.mdp_farkas.specs.Between.{between_checks}
+use Rattle.mdp_rows.specs.declared.dir.Dir.TheVariants.{Max}
+use Rattle.mdp_farkas.specs.declared.verdict.Verdict.{Verdict}
+use Rattle.mdp_farkas.specs.declared.verdict.Verdict.TheVariants.{Yes, No, Wide}
+use Rattle.mdp_bounds.specs.Reach.{bounds_checks}
+use Rattle.mdp_bounds.specs.Reward.{reward_bounds_checks}
+use Rattle.mdp_bounds.specs.Mean.{mean_bounds_checks}
+
+abbrev entry : ℕ → ℚ → Entry
+entry t p = record { target = t; prob = p }
+
+abbrev whole : ℕ → ℚ
+whole n = of_int (pos n)
+
+abbrev half : ℚ
+half = ratio (pos 1) 2
+
+abbrev third : ℚ
+third = ratio (pos 1) 3
+
+-- a number of which a third has a denominator past width
+abbrev narrowest : ℚ
+narrowest = ratio (pos 1) (2 ^ 126 + 1)
+
+abbrev fault : ℕ → ℕ → Option ℕ → Verdict
+fault rule state choice = No (record { rule = rule; state = Some state; choice = choice })
+
+-- two numbers whose products across are past width have no written order, and an exact one
+abbrev near_one : ℚ
+near_one = ratio (pos (2 ^ 126 + 1)) (2 ^ 126 + 3)
+
+abbrev nearer_one : ℚ
+nearer_one = ratio (pos (2 ^ 126 + 3)) (2 ^ 126 + 5)
+
+no_written_order : written_compare near_one nearer_one ≡ None
+unfolding gcd gcd_with_fuel ratio of_int narrow written_compare
+no_written_order = refl
+
+exact_order : cmp_ℚ near_one nearer_one ≡ Less
+unfolding gcd gcd_with_fuel ratio of_int
+exact_order = refl
+
+-- ---- reaching a goal: state 0 has a loop, and a choice that goes on to 1 with 1/3 and to 2 with 2/3; 1 is the goal, and 2 is left nowhere
+
+abbrev row : List Entry → Choice
+row entries = record { row = entries; rewards = [] }
+
+abbrev three : Mdp
+three = record {
+  names = [];
+  labels = [];
+  states =
+      record { labels = []; choices = row (entry 0 (whole 1) ∷ []) ∷ row (entry 1 third ∷ entry 2 (ratio (pos 2) 3) ∷ []) ∷ [] }
+      ∷ record { labels = []; choices = row (entry 1 (whole 1) ∷ []) ∷ [] }
+      ∷ record { labels = []; choices = row (entry 2 (whole 1) ∷ []) ∷ [] }
+      ∷ [];
+}
+
+abbrev goals : List Bool
+goals = false ∷ true ∷ false ∷ []
+
+abbrev reached : ℚ → ℚ → ℚ → Verdict
+reached low high last =
+    verdict_of (bounds_checks Max three goals (low ∷ whole 1 ∷ whole 0 ∷ []) (high ∷ whole 1 ∷ last ∷ []) (1 ∷ 0 ∷ 0 ∷ []) (1 ∷ 0 ∷ 0 ∷ []))
+
+-- the greatest probability, 1/3 at state 0, lies between 1/4 and 1/2
+between : reached (ratio (pos 1) 4) half (whole 0) ≡ Yes
+unfolding gcd gcd_with_fuel ratio of_int le_ℚ lt_ℚ ◌+ℚ◌ ◌*ℚ◌ narrow narrow_ℚ written_add written_mul
+between = refl
+
+-- 1/2 is no lower value, and 1/4 no upper one
+lower_too_great : reached half (whole 1) (whole 0) ≡ fault 6 0 (Some 1)
+unfolding gcd gcd_with_fuel ratio of_int le_ℚ lt_ℚ ◌+ℚ◌ ◌*ℚ◌ narrow narrow_ℚ written_add written_mul
+lower_too_great = refl
+
+upper_too_small : reached (ratio (pos 1) 4) (ratio (pos 1) 4) (whole 0) ≡ fault 5 0 (Some 1)
+unfolding gcd gcd_with_fuel ratio of_int le_ℚ lt_ℚ ◌+ℚ◌ ◌*ℚ◌ narrow narrow_ℚ written_add written_mul
+upper_too_small = refl
+
+-- a sum with a term past width, which the value 1/2 needs, and the value 1 doesn't
+wide : reached third half narrowest ≡ Wide (Some 0) (Some 1)
+unfolding gcd gcd_with_fuel ratio of_int le_ℚ lt_ℚ ◌+ℚ◌ ◌*ℚ◌ narrow narrow_ℚ written_add written_mul
+wide = refl
+
+no_sum : reached third (whole 1) narrowest ≡ Yes
+unfolding gcd gcd_with_fuel ratio of_int le_ℚ lt_ℚ ◌+ℚ◌ ◌*ℚ◌ narrow narrow_ℚ written_add written_mul
+no_sum = refl
+
+-- by written terms the same bounds are too wide
+written_too_wide : verdict_of (between_checks Max three goals (third ∷ whole 1 ∷ whole 0 ∷ []) (whole 1 ∷ whole 1 ∷ narrowest ∷ []) (1 ∷ 0 ∷ 0 ∷ []) (1 ∷ 0 ∷ 0 ∷ [])) ≡ Wide (Some 0) (Some 1)
+unfolding gcd gcd_with_fuel ratio of_int lt_ℚ ◌+ℚ◌ ◌*ℚ◌ narrow narrow_ℚ written_add written_mul written_compare
+written_too_wide = refl
+
+-- ---- rewards until a goal: a trial costs 1, and succeeds with 1/2
+
+abbrev trial : Mdp
+trial = record {
+  names = [] ∷ [];
+  labels = [];
+  states =
+      record { labels = []; choices = record { row = entry 0 half ∷ entry 1 half ∷ []; rewards = whole 1 ∷ [] } ∷ [] }
+      ∷ record { labels = []; choices = record { row = entry 1 (whole 1) ∷ []; rewards = whole 0 ∷ [] } ∷ [] }
+      ∷ [];
+}
+
+abbrev costs : Option ℚ → Option ℚ → Verdict
+costs low high = verdict_of (reward_bounds_checks Max trial 0 (false ∷ true ∷ []) (low ∷ Some (whole 0) ∷ []) (high ∷ Some (whole 0) ∷ []) (0 ∷ 0 ∷ []) (1 ∷ 0 ∷ []))
+
+-- two trials are expected
+costs_between : costs (Some (whole 1)) (Some (whole 3)) ≡ Yes
+unfolding gcd gcd_with_fuel ratio of_int le_ℚ ◌+ℚ◌ ◌*ℚ◌ narrow narrow_ℚ written_add written_mul
+costs_between = refl
+
+costs_less : costs (Some (whole 3)) None ≡ fault 12 0 (Some 0)
+unfolding gcd gcd_with_fuel ratio of_int le_ℚ ◌+ℚ◌ ◌*ℚ◌ narrow narrow_ℚ written_add written_mul
+costs_less = refl
+
+costs_something : costs (Some (whole 0)) None ≡ Yes
+unfolding gcd gcd_with_fuel ratio of_int le_ℚ ◌+ℚ◌ ◌*ℚ◌ narrow narrow_ℚ written_add written_mul
+costs_something = refl
+
+-- an infinite lower value above a finite upper one
+costs_ordered : costs None (Some (whole 3)) ≡ fault 9 0 None
+unfolding gcd gcd_with_fuel ratio of_int le_ℚ ◌+ℚ◌ ◌*ℚ◌ narrow narrow_ℚ written_add written_mul
+costs_ordered = refl
+
+-- ---- mean payoff: a state with two loops, of reward 1 and 3
+
+abbrev loops : Mdp
+loops = record {
+  names = [] ∷ [];
+  labels = [];
+  states =
+      record { labels = []; choices = record { row = entry 0 (whole 1) ∷ []; rewards = whole 1 ∷ [] } ∷ record { row = entry 0 (whole 1) ∷ []; rewards = whole 3 ∷ [] } ∷ [] } ∷ [];
+}
+
+abbrev earns : ℕ → ℕ → ℕ → Verdict
+earns low high choice = verdict_of (mean_bounds_checks Max loops 0 (whole low ∷ []) (whole high ∷ []) (whole 0 ∷ []) (whole 0 ∷ []) (whole 0) (choice ∷ []))
+
+earns_trivially : earns 1 3 0 ≡ Yes
+unfolding gcd gcd_with_fuel ratio of_int le_ℚ neg_ℚ ◌+ℚ◌ ◌*ℚ◌ narrow narrow_ℚ written_add written_mul
+earns_trivially = refl
+
+earns_less : earns 2 3 0 ≡ fault 19 0 (Some 0)
+unfolding gcd gcd_with_fuel ratio of_int le_ℚ neg_ℚ ◌+ℚ◌ ◌*ℚ◌ narrow narrow_ℚ written_add written_mul
+earns_less = refl
+
+earns_more : earns 1 2 1 ≡ fault 17 0 (Some 1)
+unfolding gcd gcd_with_fuel ratio of_int le_ℚ neg_ℚ ◌+ℚ◌ ◌*ℚ◌ narrow narrow_ℚ written_add written_mul
+earns_more = refl

@@ -1,0 +1,16 @@
+use Rattle.std.proofs.Common.{◌≡◌, sym, subst}
+use Rattle.mdp_bounds.specs.Reach.{cover_at}
+use Rattle.mdp_farkas.specs.Between.{covering}
+use Rattle.mdp_farkas.specs.Verdict.{objection_to}
+use Rattle.mdp_rows.specs.declared.dir.Dir.{Dir}
+use Rattle.mdp_bounds.proofs.reach.cover_bounds.Goals as goal
+
+pub returns-in-Max : goal.returns-in-Max
+returns-in-Max c =
+    subst (λ (d : Dir). c.cover_at_state.result ≡ objection_to (cover_at d c.args.model.now c.args.goals.now (covering d c.args.lower.now c.args.upper.now) c.args.s)) (sym c.in-Max.is)
+    c.cover_at_state.ensures
+
+pub returns-in-Min : goal.returns-in-Min
+returns-in-Min c =
+    subst (λ (d : Dir). c.cover_at_state-in-Min.result ≡ objection_to (cover_at d c.args.model.now c.args.goals.now (covering d c.args.lower.now c.args.upper.now) c.args.s)) (sym c.in-Min.is)
+    c.cover_at_state-in-Min.ensures

@@ -1,0 +1,16 @@
+use Rattle.std.proofs.Common.{◌≡◌, sym, subst}
+use Rattle.mdp_bounds.specs.Reach.{follow_at}
+use Rattle.mdp_farkas.specs.Between.{followed}
+use Rattle.mdp_farkas.specs.Verdict.{objection_to}
+use Rattle.mdp_rows.specs.declared.dir.Dir.{Dir}
+use Rattle.mdp_bounds.proofs.reach.follow_bounds.Goals as goal
+
+pub returns-in-Max : goal.returns-in-Max
+returns-in-Max c =
+    subst (λ (d : Dir). c.follow_at_state.result ≡ objection_to (follow_at d c.args.model.now c.args.goals.now (followed d c.args.lower.now c.args.upper.now) c.args.s c.args.choice)) (sym c.in-Max.is)
+    c.follow_at_state.ensures
+
+pub returns-in-Min : goal.returns-in-Min
+returns-in-Min c =
+    subst (λ (d : Dir). c.follow_at_state-in-Min.result ≡ objection_to (follow_at d c.args.model.now c.args.goals.now (followed d c.args.lower.now c.args.upper.now) c.args.s c.args.choice)) (sym c.in-Min.is)
+    c.follow_at_state-in-Min.ensures

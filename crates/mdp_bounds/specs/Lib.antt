@@ -1,0 +1,4 @@
+pub mod Sum
+pub mod Reach
+pub mod Reward
+pub mod Mean

@@ -1,0 +1,52 @@
+ghost use Rattle.std.specs.Prelude.{◌≡◌, ◌<◌, length, All};
+ghost use Rattle.std.specs.List.{list_all};
+ghost use Rattle.std.specs.Result.{result_ok};
+ghost use Rattle.mdp_spec.specs.Bounds.{finite_part};
+ghost use Rattle.mdp_spec.specs.Mdp.{value_at};
+ghost use Rattle.mdp_spec.specs.Row.{entries};
+ghost use Rattle.mdp_num.specs.Equal.{eq_ℚ};
+ghost use Rattle.mdp_bounds.specs.Sum.{first_value, told_sum};
+
+use crate::sum::plain_sum;
+use mdp_farkas::{finite_at, finite_sum};
+use mdp_num::{Frac, Wide};
+use mdp_rows::Row;
+
+/// The value of the first target, 0 where it is infinite; and 0 where there is none.
+fn first_finite(targets: &[u32], values: &[Option<Frac>]) -> Frac
+    requires { All (λ t. t < length values.now) targets.now }
+    ensures { result ≡ first_value (finite_part values.now) targets.now }
+{
+    if targets.is_empty() {
+        return Frac::whole(0);
+    }
+    finite_at(values, targets[0])
+}
+
+/// Whether state `t` has this value, as an infinite one has 0.
+fn has_finite(values: &[Option<Frac>], t: u32, value: &Frac) -> bool
+    requires { t < length values.now }
+    ensures { result ≡ eq_ℚ (value_at (finite_part values.now) t) value.now }
+{
+    finite_at(values, t) == *value
+}
+
+/// Whether all targets have this value.
+fn all_have_finite(targets: &[u32], values: &[Option<Frac>], value: &Frac) -> bool
+    requires { All (λ t. t < length values.now) targets.now }
+    ensures { result ≡ list_all (λ t. eq_ℚ (value_at (finite_part values.now) t) value.now) targets.now }
+{
+    targets.iter().all(|t| has_finite(values, *t, value))
+}
+
+/// `start` and the sum over the row, where an infinite value counts as 0: with no written product where the row's targets all have one value.
+pub fn finite_row_sum(row: Row<'_>, start: &Frac, values: &[Option<Frac>]) -> Result<Frac, Wide>
+    requires { All (λ t. t < length values.now) row.targets.now }
+    ensures { result_ok result ≡ told_sum (finite_part values.now) start.now (entries row.entry.targets.now row.entry.probs.now) }
+{
+    let first = first_finite(row.targets, values);
+    if all_have_finite(row.targets, values, &first) {
+        return plain_sum(start, &first);
+    }
+    finite_sum(row, start, values)
+}

@@ -1,0 +1,18 @@
+//! The rules of certified bounds: a lower and an upper value for each state, a policy, and what shows that they hold. Comparisons are exact and
+//! never too wide, and a row whose truth needs no arithmetic makes no written term.
+#![tactic(auto)]
+
+mod compare;
+mod earning;
+mod finite;
+mod mean;
+mod reach;
+mod reward;
+mod spread;
+mod sum;
+
+pub use mdp_farkas::{Fault, Verdict};
+pub use mdp_rows::Dir;
+pub use mean::{MeanBoundsCert, holds_bounds_mean};
+pub use reach::{ReachBoundsCert, holds_bounds_reach};
+pub use reward::{RewardBoundsCert, holds_bounds_reward};

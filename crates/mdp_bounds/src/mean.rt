@@ -1,0 +1,341 @@
+ghost use Rattle.std.specs.Prelude.{◌≡◌, ◌<◌, ◌↔◌, length, [], ◌∷◌, slice_index};
+ghost use Rattle.std.specs.Result.{result_ok};
+ghost use Rattle.mdp_spec.specs.Mdp.{states_of, choices_at};
+ghost use Rattle.mdp_spec.specs.Between.{MeanMaxBetween, MeanMinBetween};
+ghost use Rattle.mdp_farkas.specs.Between.{covering, followed};
+ghost use Rattle.mdp_farkas.specs.Verdict.{objection_to, verdict_of, at_choices, IsYes, IfYes};
+ghost use Rattle.mdp_rows.specs.declared.dir.Dir.TheVariants.{Max, Min};
+ghost use Rattle.mdp_bounds.specs.Mean.{gain_stands, gain_check, told_step, bound_stands, relative_check, spread_check, gains_cover, gains_follow};
+ghost use Rattle.mdp_bounds.specs.Mean.{mean_bounds_at, state_bounds_checks, mean_bounds_checks, IsMeanBounds, IsTrivialMean};
+
+use crate::compare::value_stands;
+use crate::spread::spread_of;
+use crate::sum::{plain_sum, row_sum};
+use mdp_farkas::{
+    Objection, Verdict, choice_at, each_below, each_choice, judged, judged_at, reversed,
+    verdict_after,
+};
+use mdp_num::{Frac, Wide};
+use mdp_rows::{Dir, Model};
+
+/// Lower and upper gains and a memoryless policy, between which the greatest or the least mean payoffs are said to lie: two gains, a bound, a
+/// bias and a choice per state, and the spread of bounds and biases.
+#[derive(Debug, Drop)]
+pub struct MeanBoundsCert {
+    pub lower: Vec<Frac>,
+    pub upper: Vec<Frac>,
+    pub bound: Vec<Frac>,
+    pub bias: Vec<Frac>,
+    pub choices: Vec<u32>,
+    pub spread: Frac,
+}
+
+/// Whether the upper gain of state `s` is at least, or the lower one at most, the sum of the gains over the row of its choice `c`.
+fn gain_stands_at(model: &Model, dir: Dir, gains: &[Frac], s: u32, c: u32) -> Result<bool, Wide>
+    requires gains { length gains.now ≡ states_of model.now }
+    requires state { s < states_of model.now }
+    requires choice { c < length (choices_at model.now s) }
+    ensures { result_ok result ≡ gain_stands dir model.now gains.now s c }
+{
+    let sum = row_sum(model.row(s, c), &Frac::whole(0), gains)?;
+    Ok(value_stands(dir, &gains[s as usize], &sum))
+}
+
+/// That of state `s` and its choice `c`.
+fn gain_at(model: &Model, dir: Dir, gains: &[Frac], s: u32, c: u32) -> Result<(), Objection>
+    requires gains { length gains.now ≡ states_of model.now }
+    requires state { s < states_of model.now }
+    requires choice { c < length (choices_at model.now s) }
+    ensures { result ≡ objection_to (gain_check dir model.now gains.now s c ∷ []) }
+{
+    judged(gain_stands_at(model, dir, gains, s, c), 16, s, Some(c))
+}
+
+/// The same of each choice.
+fn gains_at_state(model: &Model, dir: Dir, gains: &[Frac], s: u32) -> Result<(), Objection>
+    requires gains { length gains.now ≡ states_of model.now }
+    requires state { s < states_of model.now }
+    ensures { result ≡ objection_to (at_choices model.now s (gain_check dir model.now gains.now s)) }
+{
+    each_choice(model, s, |c| gain_at(model, dir, gains, s, c))
+}
+
+/// The gain and a relative value of state `s` together.
+fn step_at(gains: &[Frac], relative: &[Frac], s: u32) -> Result<Frac, Wide>
+    requires gains { s < length gains.now }
+    requires relative { s < length relative.now }
+    ensures { result_ok result ≡ told_step gains.now relative.now s }
+{
+    plain_sum(&gains[s as usize], &relative[s as usize])
+}
+
+/// Whether the upper gain and the bound of state `s` together are at least, or the lower one and the bound at most, what its choice `c` earns by
+/// the bound: its reward and the sum over its row.
+fn bound_stands_at(
+    model: &Model,
+    m: u32,
+    dir: Dir,
+    gains: &[Frac],
+    bound: &[Frac],
+    s: u32,
+    c: u32,
+) -> Result<bool, Wide>
+    requires name { m < length model.now.names }
+    requires gains { length gains.now ≡ states_of model.now }
+    requires bound { length bound.now ≡ states_of model.now }
+    requires state { s < states_of model.now }
+    requires choice { c < length (choices_at model.now s) }
+    ensures { result_ok result ≡ bound_stands dir model.now m gains.now bound.now s c }
+{
+    let step = step_at(gains, bound, s)?;
+    let sum = row_sum(model.row(s, c), &model.reward(m, s, c), bound)?;
+    Ok(value_stands(dir, &step, &sum))
+}
+
+/// That of state `s` and its choice `c`.
+fn bound_at(
+    model: &Model,
+    m: u32,
+    dir: Dir,
+    gains: &[Frac],
+    bound: &[Frac],
+    s: u32,
+    c: u32,
+) -> Result<(), Objection>
+    requires name { m < length model.now.names }
+    requires gains { length gains.now ≡ states_of model.now }
+    requires bound { length bound.now ≡ states_of model.now }
+    requires state { s < states_of model.now }
+    requires choice { c < length (choices_at model.now s) }
+    ensures { result ≡ objection_to (relative_check dir model.now m gains.now bound.now s c ∷ []) }
+{
+    judged(
+        bound_stands_at(model, m, dir, gains, bound, s, c),
+        17,
+        s,
+        Some(c),
+    )
+}
+
+/// The same of each choice.
+fn bounds_at_state(
+    model: &Model,
+    m: u32,
+    dir: Dir,
+    gains: &[Frac],
+    bound: &[Frac],
+    s: u32,
+) -> Result<(), Objection>
+    requires name { m < length model.now.names }
+    requires gains { length gains.now ≡ states_of model.now }
+    requires bound { length bound.now ≡ states_of model.now }
+    requires state { s < states_of model.now }
+    ensures { result ≡ objection_to (at_choices model.now s (relative_check dir model.now m gains.now bound.now s)) }
+{
+    each_choice(model, s, |c| bound_at(model, m, dir, gains, bound, s, c))
+}
+
+/// Whether the spread is that of bounds and biases.
+fn spread_holds(bound: &[Frac], bias: &[Frac], spread: &Frac) -> Result<bool, Wide>
+    ensures { result_ok result ≡ (spread_check bound.now bias.now spread.now).holds }
+{
+    let widest = spread_of(bound, bias)?;
+    Ok(*spread == widest)
+}
+
+/// The rules of each choice of state `s`.
+fn cover_at_state(
+    model: &Model,
+    m: u32,
+    dir: Dir,
+    gains: &[Frac],
+    bound: &[Frac],
+    s: u32,
+) -> Result<(), Objection>
+    requires name { m < length model.now.names }
+    requires gains { length gains.now ≡ states_of model.now }
+    requires bound { length bound.now ≡ states_of model.now }
+    requires state { s < states_of model.now }
+    ensures { result ≡ objection_to (gains_cover dir model.now m gains.now bound.now s) }
+{
+    gains_at_state(model, dir, gains, s)?;
+    bounds_at_state(model, m, dir, gains, bound, s)
+}
+
+/// Those of the half on each choice.
+fn cover_bounds(
+    model: &Model,
+    m: u32,
+    dir: Dir,
+    lower: &[Frac],
+    upper: &[Frac],
+    bound: &[Frac],
+    s: u32,
+) -> Result<(), Objection>
+    requires name { m < length model.now.names }
+    requires lower { length lower.now ≡ states_of model.now }
+    requires upper { length upper.now ≡ states_of model.now }
+    requires bound { length bound.now ≡ states_of model.now }
+    requires state { s < states_of model.now }
+    ensures { result ≡ objection_to (gains_cover dir model.now m (covering dir lower.now upper.now) bound.now s) }
+{
+    match dir {
+        Dir::Max => cover_at_state(model, m, Dir::Max, upper, bound, s),
+        Dir::Min => cover_at_state(model, m, Dir::Min, lower, bound, s),
+    }
+}
+
+/// The rules of the policy's choice at state `s`.
+fn follow_at_state(
+    model: &Model,
+    m: u32,
+    dir: Dir,
+    gains: &[Frac],
+    bias: &[Frac],
+    s: u32,
+    choice: u32,
+) -> Result<(), Objection>
+    requires name { m < length model.now.names }
+    requires gains { length gains.now ≡ states_of model.now }
+    requires bias { length bias.now ≡ states_of model.now }
+    requires state { s < states_of model.now }
+    requires choice { choice < length (choices_at model.now s) }
+    ensures { result ≡ objection_to (gains_follow dir model.now m gains.now bias.now s choice) }
+{
+    let keeps = gain_stands_at(model, reversed(dir), gains, s, choice);
+    judged(keeps, 18, s, Some(choice))?;
+    let earns = bound_stands_at(model, m, reversed(dir), gains, bias, s, choice);
+    judged(earns, 19, s, Some(choice))
+}
+
+/// Those of the half on the policy's choice.
+fn follow_bounds(
+    model: &Model,
+    m: u32,
+    dir: Dir,
+    lower: &[Frac],
+    upper: &[Frac],
+    bias: &[Frac],
+    s: u32,
+    choice: u32,
+) -> Result<(), Objection>
+    requires name { m < length model.now.names }
+    requires lower { length lower.now ≡ states_of model.now }
+    requires upper { length upper.now ≡ states_of model.now }
+    requires bias { length bias.now ≡ states_of model.now }
+    requires state { s < states_of model.now }
+    requires choice { choice < length (choices_at model.now s) }
+    ensures { result ≡ objection_to (gains_follow dir model.now m (followed dir lower.now upper.now) bias.now s choice) }
+{
+    match dir {
+        Dir::Max => follow_at_state(model, m, Dir::Max, lower, bias, s, choice),
+        Dir::Min => follow_at_state(model, m, Dir::Min, upper, bias, s, choice),
+    }
+}
+
+/// The rules at state `s`, where the policy takes this choice.
+fn mean_bounds_at_state(
+    model: &Model,
+    m: u32,
+    dir: Dir,
+    lower: &[Frac],
+    upper: &[Frac],
+    bound: &[Frac],
+    bias: &[Frac],
+    s: u32,
+    choice: u32,
+) -> Result<(), Objection>
+    requires name { m < length model.now.names }
+    requires lower { length lower.now ≡ states_of model.now }
+    requires upper { length upper.now ≡ states_of model.now }
+    requires bound { length bound.now ≡ states_of model.now }
+    requires bias { length bias.now ≡ states_of model.now }
+    requires state { s < states_of model.now }
+    ensures { result ≡ objection_to (mean_bounds_at dir model.now m lower.now upper.now bound.now bias.now s choice) }
+{
+    choice_at(model, s, choice)?;
+    cover_bounds(model, m, dir, lower, upper, bound, s)?;
+    follow_bounds(model, m, dir, lower, upper, bias, s, choice)
+}
+
+/// The rules at each state, from 0 on.
+fn mean_bounds_at_states(
+    model: &Model,
+    m: u32,
+    dir: Dir,
+    lower: &[Frac],
+    upper: &[Frac],
+    bound: &[Frac],
+    bias: &[Frac],
+    choices: &[u32],
+) -> Result<(), Objection>
+    requires name { m < length model.now.names }
+    requires lower { length lower.now ≡ states_of model.now }
+    requires upper { length upper.now ≡ states_of model.now }
+    requires bound { length bound.now ≡ states_of model.now }
+    requires bias { length bias.now ≡ states_of model.now }
+    requires choices { length choices.now ≡ states_of model.now }
+    ensures { result ≡ objection_to (state_bounds_checks dir model.now m lower.now upper.now bound.now bias.now choices.now) }
+{
+    each_below(model.states(), |s| {
+        mean_bounds_at_state(
+            model,
+            m,
+            dir,
+            lower,
+            upper,
+            bound,
+            bias,
+            s,
+            choices[s as usize],
+        )
+    })
+}
+
+/// All rules: those at each state, and that of the spread.
+fn mean_bounds_walk(model: &Model, m: u32, dir: Dir, cert: &MeanBoundsCert) -> Result<(), Objection>
+    requires name { m < length model.now.names }
+    requires lower { length cert.now.lower.items ≡ states_of model.now }
+    requires upper { length cert.now.upper.items ≡ states_of model.now }
+    requires bound { length cert.now.bound.items ≡ states_of model.now }
+    requires bias { length cert.now.bias.items ≡ states_of model.now }
+    requires choices { length cert.now.choices.items ≡ states_of model.now }
+    ensures { result ≡ objection_to (mean_bounds_checks dir model.now m cert.now.lower.items cert.now.upper.items cert.now.bound.items cert.now.bias.items cert.now.spread cert.now.choices.items) }
+{
+    let lower = cert.lower.as_slice();
+    let upper = cert.upper.as_slice();
+    let bound = cert.bound.as_slice();
+    let bias = cert.bias.as_slice();
+    mean_bounds_at_states(
+        model,
+        m,
+        dir,
+        lower,
+        upper,
+        bound,
+        bias,
+        cert.choices.as_slice(),
+    )?;
+    judged_at(spread_holds(bound, bias, &cert.spread), 20, None, None)
+}
+
+/// Whether the greatest, or the least, mean payoffs of the reward name of place `m` lie between the gains, and those of the policy too: what
+/// rules 2 and 16 to 20 say of the gains, the bound, the bias, the spread and the policy. Yes, the first rule that is false with its place,
+/// or the place of the first sum past width where that comes before; the rule of the spread has no place. The least and the greatest reward get
+/// yes on every model. It takes no memory.
+pub fn holds_bounds_mean(model: &Model, m: u32, dir: Dir, cert: &MeanBoundsCert) -> Verdict
+    requires name { m < length model.now.names }
+    requires lower { length cert.now.lower.items ≡ states_of model.now }
+    requires upper { length cert.now.upper.items ≡ states_of model.now }
+    requires bound { length cert.now.bound.items ≡ states_of model.now }
+    requires bias { length cert.now.bias.items ≡ states_of model.now }
+    requires choices { length cert.now.choices.items ≡ states_of model.now }
+    ensures verdict { result ≡ verdict_of (mean_bounds_checks dir model.now m cert.now.lower.items cert.now.upper.items cert.now.bound.items cert.now.bias.items cert.now.spread cert.now.choices.items) }
+    ensures rules { IsYes result ↔ IsMeanBounds dir model.now m cert.now.lower.items cert.now.upper.items cert.now.bound.items cert.now.bias.items cert.now.spread cert.now.choices.items }
+    ensures max { dir ≡ Max → IfYes result (MeanMaxBetween model.now m cert.now.lower.items cert.now.upper.items cert.now.spread cert.now.choices.items) }
+    ensures min { dir ≡ Min → IfYes result (MeanMinBetween model.now m cert.now.lower.items cert.now.upper.items cert.now.spread cert.now.choices.items) }
+    ensures trivial { IsTrivialMean model.now m cert.now.lower.items cert.now.upper.items cert.now.bound.items cert.now.bias.items cert.now.spread cert.now.choices.items → IsYes result }
+{
+    model.known();
+    verdict_after(mean_bounds_walk(model, m, dir, cert))
+}

@@ -1,0 +1,63 @@
+ghost use Rattle.std.specs.Prelude.{◌≡◌, ◌<◌, length, All};
+ghost use Rattle.std.specs.List.{list_all};
+ghost use Rattle.std.specs.Result.{result_ok};
+ghost use Rattle.mdp_spec.specs.Mdp.{value_at};
+ghost use Rattle.mdp_spec.specs.Row.{entries};
+ghost use Rattle.mdp_num.specs.Equal.{eq_ℚ};
+ghost use Rattle.mdp_bounds.specs.Sum.{first_value, plain_add, told_sum};
+
+use mdp_num::{Frac, Wide};
+use mdp_rows::Row;
+
+/// The value of the first target; 0 where there is none.
+fn first_of(targets: &[u32], values: &[Frac]) -> Frac
+    requires { All (λ t. t < length values.now) targets.now }
+    ensures { result ≡ first_value values.now targets.now }
+{
+    if targets.is_empty() {
+        return Frac::whole(0);
+    }
+    values[targets[0] as usize]
+}
+
+/// Whether state `t` has this value.
+fn has_value(values: &[Frac], t: u32, value: &Frac) -> bool
+    requires { t < length values.now }
+    ensures { result ≡ eq_ℚ (value_at values.now t) value.now }
+{
+    values[t as usize] == *value
+}
+
+/// Whether all targets have this value.
+fn all_have(targets: &[u32], values: &[Frac], value: &Frac) -> bool
+    requires { All (λ t. t < length values.now) targets.now }
+    ensures { result ≡ list_all (λ t. eq_ℚ (value_at values.now t) value.now) targets.now }
+{
+    targets.iter().all(|t| has_value(values, *t, value))
+}
+
+/// The sum, with no written term where one of the two is 0.
+pub fn plain_sum(x: &Frac, y: &Frac) -> Result<Frac, Wide>
+    ensures { result_ok result ≡ plain_add x.now y.now }
+{
+    let zero = Frac::whole(0);
+    if *x == zero {
+        return Ok(*y);
+    }
+    if *y == zero {
+        return Ok(*x);
+    }
+    x.add(y)
+}
+
+/// `start` and the sum over the row: with no written product where the row's targets all have one value, since the probabilities add to 1.
+pub fn row_sum(row: Row<'_>, start: &Frac, values: &[Frac]) -> Result<Frac, Wide>
+    requires { All (λ t. t < length values.now) row.targets.now }
+    ensures { result_ok result ≡ told_sum values.now start.now (entries row.entry.targets.now row.entry.probs.now) }
+{
+    let first = first_of(row.targets, values);
+    if all_have(row.targets, values, &first) {
+        return plain_sum(start, &first);
+    }
+    row.sum(start, values)
+}
