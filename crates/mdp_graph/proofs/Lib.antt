@@ -2,11 +2,14 @@ pub mod Among
 pub mod Avoiding
 pub mod ByTest
 pub mod Certainty
+pub mod Cutting
 pub mod Dropping
 pub mod EdgeFacts
 mod Examples
 pub mod Falls
 pub mod GivingRanks
+pub mod Growing
+pub mod LeftRanks
 pub mod MayReach
 pub mod Meeting
 pub mod Missing
@@ -16,13 +19,17 @@ pub mod Passes
 pub mod PolicyLaws
 pub mod PolicyMeets
 pub mod PredLists
+pub mod Pruning
 pub mod RankFacts
 pub mod Reached
 pub mod Reaching
 pub mod Releasing
+pub mod RoundByRound
 pub mod RoundLaws
 pub mod Rounding
 pub mod RowSets
+pub mod Seeking
 pub mod Settling
 pub mod Steps
 pub mod SureSome
+pub mod Taking

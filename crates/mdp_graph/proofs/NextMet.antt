@@ -13,7 +13,7 @@ use Rattle.mdp_graph.specs.Sets.{can_enter}
 use Rattle.mdp_graph.specs.Layers.{rank_at}
 use Rattle.mdp_graph.specs.Ranking.{given, IsGiven}
 use Rattle.mdp_graph.specs.Meet.{must_step}
-use Rattle.mdp_graph.specs.Waiting.{some_waits, is_one_of, AreWaiting, AreWithin, AreMet, leading_to}
+use Rattle.mdp_graph.specs.Waiting.{some_waits, is_one_of, AreWaiting, AreWithin, AreReleased, AreMet, leading_to}
 use Rattle.mdp_graph.proofs.Meeting.{is_ranked, IsMeeting}
 use Rattle.mdp_graph.proofs.PredLists.{leading-in, leading-back}
 use Rattle.mdp_graph.proofs.Releasing.{true-some, some-in-range}
@@ -113,9 +113,8 @@ module _ (m : Mdp) (ok : IsMdp m) (preds : List (List Pred)) (are : preds ≡ ma
       let k = w.width s z.0 in
       (omega (arith, z.0, w.count), omega (arith, z.1, k))
 
-  module _ (new : List (List Bool)) (ranks seen_ranks : List (Option ℕ)) (met : List ℕ) (same_ranks : seen_ranks ≡ ranks)
-      (more : (t : ℕ) → t < states_of m → is_ranked ranks t ≡ (before t || is_among t layer))
-      (not_met : (s : ℕ) → s < states_of m → is_none (rank_at ranks s) ≡ true → must_step m before s ≡ false) (a : AreMet old new (leading_to preds seen) seen_ranks [] met) where
+  module _ (new : List (List Bool)) (ranks : List (Option ℕ)) (more : (t : ℕ) → t < states_of m → is_ranked ranks t ≡ (before t || is_among t layer))
+      (r : AreReleased old new (leading_to preds seen)) where
     ranked-enters : (s c : ℕ) → s < states_of m → c < length (choices_at m s)
         → (can_enter before (row_at m s c) || can_enter (λ t. is_among t seen) (row_at m s c)) ≡ can_enter (is_ranked ranks) (row_at m s c)
     ranked-enters s c h k =
@@ -128,27 +127,29 @@ module _ (m : Mdp) (ok : IsMdp m) (preds : List (List Pred)) (are : preds ≡ ma
         same_truth (is_one_of (leading_to preds seen) s c) (can_enter (λ t. is_among t seen) (row_at m s c))
         (λ e. (let z = leading-in m preds are seen seen-below s c e in z.2)) (leading-back m preds are ok seen s c h k)
 
-    waiting_now : AreWaiting m (is_ranked ranks) new
+    pub waiting_now : AreWaiting m (is_ranked ranks) new
     waiting_now = record {
-      count = (let r = a.released in r.count ∙ w.count);
-      width = λ s h. (let r = a.released in r.width s ∙ w.width s h);
+      count = r.count ∙ w.count;
+      width = λ s h. r.width s ∙ w.width s h;
       at = λ s c h k.
-          (let r = a.released in
           r.at s c ∙ ap (λ b. b && not (is_one_of (leading_to preds seen) s c)) (w.at s c h k) ∙ ap (λ b. not (can_enter before (row_at m s c)) && not b) (released-is s c h k)
-          ∙ not-or (can_enter before (row_at m s c)) (can_enter (λ t. is_among t seen) (row_at m s c)) ∙ ap not (ranked-enters s c h k));
+          ∙ not-or (can_enter before (row_at m s c)) (can_enter (λ t. is_among t seen) (row_at m s c)) ∙ ap not (ranked-enters s c h k);
     }
 
+  module _ (new : List (List Bool)) (ranks seen_ranks : List (Option ℕ)) (met : List ℕ) (same_ranks : seen_ranks ≡ ranks)
+      (more : (t : ℕ) → t < states_of m → is_ranked ranks t ≡ (before t || is_among t layer))
+      (not_met : (s : ℕ) → s < states_of m → is_none (rank_at ranks s) ≡ true → must_step m before s ≡ false) (a : AreMet old new (leading_to preds seen) seen_ranks [] met) where
     pub next_met : AreNext m ranks met new
     next_met = record {
       listed = λ s h.
           a.listed s ∙ ap (λ (x : List (Option ℕ)). is_none (rank_at x s) && (some_waits old s && not (some_waits new s))) same_ranks
           ∙ ap (λ b. is_none (rank_at ranks s) && (b && not (some_waits new s))) (some-waits-is m before old w s h)
-          ∙ ap (λ b. is_none (rank_at ranks s) && (not (must_step m before s) && not b)) (some-waits-is m (is_ranked ranks) new waiting_now s h)
+          ∙ ap (λ b. is_none (rank_at ranks s) && (not (must_step m before s) && not b)) (some-waits-is m (is_ranked ranks) new (waiting_now new ranks more a.released) s h)
           ∙ met_when (is_none (rank_at ranks s)) (must_step m before s) (must_step m (is_ranked ranks) s) (not_met s h);
       below = λ s e.
           (let some = and-left (some_waits old s) (not (some_waits new s)) (and-right (is_none (rank_at seen_ranks s)) (some_waits old s && not (some_waits new s)) (sym (a.listed s) ∙ e)) in
           let l = some-in-range old s some in omega (arith, l, w.count));
-      waiting = waiting_now;
+      waiting = waiting_now new ranks more a.released;
     }
 
 pub in_preds : (m : Mdp) (preds : List (List Pred)) → preds ≡ map (preds_to m) (range_with_len 0 (states_of m)) → length preds ≡ states_of m

@@ -83,18 +83,18 @@ below-back m a (suc n) s c l h k = one-of-append (choices_of m a) (flat_map (cho
 ])
 
 -- the choices that lead to a state
-led-in : (m : Mdp) (t s c : ℕ) → is_one_of (preds_to m t) s c ≡ true → (s < states_of m) × (c < length (choices_at m s)) × (leads_to t (row_at m s c) ≡ true)
+pub led-in : (m : Mdp) (t s c : ℕ) → is_one_of (preds_to m t) s c ≡ true → (s < states_of m) × (c < length (choices_at m s)) × (leads_to t (row_at m s c) ≡ true)
 led-in m t s c e =
     let w = filter-in (λ (p : Pred). leads_to t (row_at m p.state p.choice)) (choices_below m (states_of m)) s c e in
     let b = below-in m 0 (states_of m) s c w.0 in
     (omega (arith, b.0), b.1, w.1)
 
-led-back : (m : Mdp) (t s c : ℕ) → s < states_of m → c < length (choices_at m s) → leads_to t (row_at m s c) ≡ true → is_one_of (preds_to m t) s c ≡ true
+pub led-back : (m : Mdp) (t s c : ℕ) → s < states_of m → c < length (choices_at m s) → leads_to t (row_at m s c) ≡ true → is_one_of (preds_to m t) s c ≡ true
 led-back m t s c h k e = filter-back (λ (p : Pred). leads_to t (row_at m p.state p.choice)) (choices_below m (states_of m)) s c (below-back m 0 (states_of m) s c (omega arith) (omega (arith, h)) k) e
 
 -- the choices that lead to a list of states
 module _ (m : Mdp) (preds : List (List Pred)) (are : preds ≡ map (preds_to m) (range_with_len 0 (states_of m))) where
-  list-is : (t : ℕ) → t < states_of m → get_or preds t [] ≡ preds_to m t
+  pub list-is : (t : ℕ) → t < states_of m → get_or preds t [] ≡ preds_to m t
   list-is t h = let none : List Pred = [] in ap (λ (x : List (List Pred)). get_or x t []) are ∙ get_or-map-range_with_len (preds_to m) 0 (states_of m) t t none h (omega arith)
 
   pub leading-in : (layer : List ℕ) → ((t : ℕ) → is_among t layer ≡ true → t < states_of m) → (s c : ℕ) → is_one_of (leading_to preds layer) s c ≡ true

@@ -75,11 +75,11 @@ top_round r rounds k rest zero = omega arith
 top_round r rounds k rest (suc t) = let l = rest t in omega (arith, l)
 
 -- all rounds of a list are at most a number
-greatest_round : (rounds : List ℕ) → (k : ℕ) × ((t : ℕ) → get_or rounds t 0 ≤ k)
+pub greatest_round : (rounds : List ℕ) → (k : ℕ) × ((t : ℕ) → get_or rounds t 0 ≤ k)
 greatest_round [] = (0, λ t. omega arith)
 greatest_round (r ∷ rounds) = let w = greatest_round rounds in (w.0 + r, top_round r rounds w.0 w.1)
 
-zero_left : (r : ℕ) → ((r == 0) || nat_lt 0 r) ≡ true
+pub zero_left : (r : ℕ) → ((r == 0) || nat_lt 0 r) ≡ true
 zero_left zero = refl
 zero_left (suc r) = ap (λ b. (suc r == 0) || b) (lt-ltb 0 (suc r) (omega arith)) ∙ or-true (suc r == 0)
 
@@ -94,7 +94,7 @@ sure_left m goals rounds marks ok a v (suc i) s h e =
     ap (λ j. left_after rounds j s) (sym z) ∙ back.1 (w.0, reached-more m ok (marked marks) (left_after rounds i) (marked goals) (sure_left m goals rounds marks ok a v i) w.0 s h w.1)
 
 -- the states of round 0 are a sure set
-zero_sure : (m : Mdp) (goals : List Bool) (rounds : List ℕ) → IsMdp m → AreRounds m goals rounds → IsSure m goals (λ s. get_or rounds s 0 == 0)
+pub zero_sure : (m : Mdp) (goals : List Bool) (rounds : List ℕ) → IsMdp m → AreRounds m goals rounds → IsSure m goals (λ s. get_or rounds s 0 == 0)
 unfolding reached
 zero_sure m goals rounds ok a =
     let top = greatest_round rounds in

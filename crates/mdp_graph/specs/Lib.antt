@@ -13,3 +13,5 @@ pub mod Waiting
 pub mod Avoid
 pub mod SureAll
 pub mod Laws
+pub mod Forest
+pub mod Falling

@@ -3,6 +3,8 @@
 
 mod always;
 mod avoid;
+mod falling;
+mod forest;
 mod laws;
 mod meet;
 mod pass;
@@ -15,6 +17,7 @@ mod waiting;
 
 pub use always::sure_all;
 pub use avoid::may_avoid;
+pub use falling::{SureRounds, sure_rounds};
 pub use laws::{
     along_law, avoid_law, meet_law, reach_law, rounds_law, sure_all_law, sure_some_law,
 };

@@ -1,16 +1,14 @@
-ghost use Rattle.std.specs.Prelude.{◌≡◌, length, is_some, IfOk};
-ghost use Rattle.std.specs.List.{count_by};
+ghost use Rattle.std.specs.Prelude.{◌≡◌, length, IfOk};
 ghost use Rattle.mdp_spec.specs.Mdp.{states_of};
 ghost use Rattle.mdp_graph.specs.Sets.{marked};
 ghost use Rattle.mdp_graph.specs.Layers.{AreRanks, AreLeastRanks};
 ghost use Rattle.mdp_graph.specs.Choices.{AreLeast};
 ghost use Rattle.mdp_graph.specs.Sure.{inside_step, IsGreatestSure, stays_and_falls};
-ghost use Rattle.mdp_graph.specs.Settled.{IsSettled};
 
-use crate::pass::{Pass, least_choices, marks_by, plain_ranks};
+use crate::falling::{SureRounds, sure_rounds};
+use crate::pass::Pass;
 use crate::predecessors::Predecessors;
 use crate::ranking::ranks_by;
-use crate::reach::all_true;
 use mdp_num::Memory;
 use mdp_rows::{Marks, Model};
 use std::alloc::Global;
@@ -32,30 +30,6 @@ pub(crate) fn ranks_inside(
     Ok(ranks_by(alloc, &preds, goals, model.states())?)
 }
 
-/// How many states have a rank.
-pub(crate) fn count_ranked(ranks: &[Option<u32>]) -> usize
-    ensures { result ≡ count_by is_some ranks.now }
-{
-    ranks.iter().filter(|rank| rank.is_some()).count()
-}
-
-/// The ranks inside the greatest sure set. Each round takes away the states that don't reach a goal inside what is left.
-fn settled_ranks(alloc: Global, model: &Model, goals: &Marks) -> Result<Vec<Option<u32>>, Memory>
-    requires goals { length goals.now ≡ states_of model.now }
-    ensures { IfOk result (λ ranks. IsSettled model.now goals.now ranks.items) }
-{
-    model.known();
-    let mut inside = all_true(alloc, model.states())?;
-    let mut left = model.states() as usize;
-    let mut ranks = ranks_inside(alloc, model, &inside, goals)?;
-    while count_ranked(&ranks) < left {
-        left = count_ranked(&ranks);
-        inside = marks_by(alloc, &ranks)?;
-        ranks = ranks_inside(alloc, model, &inside, goals)?;
-    }
-    Ok(ranks)
-}
-
 /// The states from which some policy reaches a goal with certainty: the greatest set that holds the goals and from each state of which a goal
 /// can be reached by choices all of whose successors are in the set. Goals have rank 0. The choice of any other marked state is the least one
 /// that keeps all successors marked and has one of smaller rank.
@@ -67,13 +41,6 @@ pub fn sure_some(alloc: Global, model: &Model, goals: &Marks) -> Result<Pass, Me
     ensures ranks { IfOk result (λ pass. AreLeastRanks (inside_step model.now (marked pass.marks)) (marked goals.now) (states_of model.now) pass.marks pass.ranks.items) }
     ensures choices { IfOk result (λ pass. AreLeast model.now goals.now pass.marks (stays_and_falls model.now pass.marks pass.ranks.items) pass.choices.items) }
 {
-    model.known();
-    let ranks = settled_ranks(alloc, model, goals)?;
-    let marks = marks_by(alloc, &ranks)?;
-    let choices = least_choices(alloc, model, &marks, &ranks)?;
-    Ok(Pass {
-        marks,
-        ranks: plain_ranks(alloc, &ranks)?,
-        choices,
-    })
+    let SureRounds { pass, rounds: _ } = sure_rounds(alloc, model, goals)?;
+    Ok(pass)
 }

@@ -2,7 +2,7 @@ ghost use Rattle.std.specs.Prelude.{◌≡◌, ◌<◌, ◌&&◌, ◌==◌, ℕ,
 ghost use Rattle.std.specs.List.{All, range_with_len};
 ghost use Rattle.mdp_spec.specs.Mdp.{states_of, choices_at};
 ghost use Rattle.mdp_rows.specs.Preds.{pair};
-ghost use Rattle.mdp_graph.specs.Waiting.{some_waits, AreWaiting, AreWithin, AreReleased, AreMet, leading_to, all_wait};
+ghost use Rattle.mdp_graph.specs.Waiting.{waits, some_waits, AreWaiting, AreWithin, AreReleased, AreMet, leading_to, all_wait};
 
 use crate::reach::all_true;
 use mdp_rows::{Marks, Model, Pred, Preds};
@@ -53,6 +53,15 @@ impl Waiting {
             choices: all_choices(alloc, model)?,
             counts: choice_counts(alloc, model)?,
         })
+    }
+
+    /// Whether choice `c` of state `s` waits.
+    pub(crate) fn at(&self, s: u32, c: u32) -> bool
+        requires state { s < length self.now }
+        requires choice { c < length (slice_index_or self.now s []) }
+        ensures { result ≡ waits self.now s c }
+    {
+        self.choices[s as usize].at(c)
     }
 
     /// Choice `c` of state `s` waits no longer. Whether it was the last of the state's choices that waited.

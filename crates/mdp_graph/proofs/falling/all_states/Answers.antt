@@ -1,0 +1,6 @@
+use Rattle.std.proofs.Common.{ap, sym, ◌∙◌, ◌++◌, ◌∷◌, [], List, ℕ, arith}
+use Rattle.mdp_graph.proofs.RoundByRound.{range-more}
+use Rattle.mdp_graph.proofs.falling.all_states.Goals as goal
+
+pub loop-s-preserved : goal.loop-s-preserved
+loop-s-preserved c = c.in_ok-push.ensures.items ∙ ap (λ (l : List ℕ). l ++ c.loop-s.s ∷ []) c.loop-s.invariant ∙ sym (range-more 0 c.loop-s.s c.loop-s.s (omega arith))

@@ -1,0 +1,14 @@
+use Rattle.std.proofs.Common.{◌≡◌, ◌++◌, ◌∷◌, []}
+use Rattle.mdp_graph.proofs.Pruning.{pruning_more, popped_below}
+use Rattle.mdp_graph.proofs.forest.cut_below.Goals as goal
+
+pub of-requires : goal.of-requires
+of-requires c =
+    let w : c.loop-b.pending.items ≡ c.pop.new.self.items ++ c.in-Some.b ∷ [] = rw c.in-Some.is at c.pop.ensures.items in
+    popped_below _ _ _ _ _ _ _ _ c.loop-b.invariant w c.requires.below c.requires.count
+
+pub loop-b-preserved : goal.loop-b-preserved
+loop-b-preserved c =
+    let w : c.loop-b.pending.items ≡ c.pop.new.self.items ++ c.in-Some.b ∷ [] = rw c.in-Some.is at c.pop.ensures.items in
+    pruning_more c.args.preds.now c.args.ways.now.items c.loop-b.ways.items c.cut.new.ways.items c.args.first.items c.loop-b.pending.items c.pop.new.self.items c.cut.new.list.items
+    c.loop-b.broken.items c.push.new.self.items c.in-Some.b c.of.result.now c.loop-b.invariant w c.in_ok-push.ensures.items c.in_ok-cut.ensures c.of.ensures c.requires.known
