@@ -7,16 +7,16 @@ use Rattle.mdp_rows.specs.declared.rule.RowRule.{RowRule}
 use Rattle.mdp_drn.specs.Reading.{outcome}
 use Rattle.mdp_cert.specs.Cert.{Certificate}
 use Rattle.mdp_cert.specs.Reading as cert_text
-use Rattle.mdp_lines.specs.declared.error.Refusal as cert_refusal
+use Rattle.mdp_text.specs.declared.error.Refusal as cert_refusal
 use Rattle.mdp_check.specs.Check.{answer_to, IsAccepted, IsBound}
 use Rattle.mdp_check.specs.declared.answer.Answer.{Answer}
 use Rattle.mdp_check.specs.declared.answer.Answer.TheVariants.{Yes, No, Wide, NoReward, NoLabel, Size, Memory}
 use Rattle.mdp_check.proofs.Accepting.{yes_is_accepted, accepted_is_bound}
 use Rattle.mdp_job.specs.Refusal.{PlainRefusal, long_model, long_certificate}
-use Rattle.mdp_step.proofs.Working.{model_is_read}
-use Rattle.mdp_step.specs.Accepted.{Accepted, IsTrueClaim}
-use Rattle.mdp_step.specs.Files.{most_bytes, model_or_refusal, model_due, certificate_or_refusal, certificate_due, IsDueToModel}
-use Rattle.mdp_step.specs.Said.{Said}
+use Rattle.mdp_command.proofs.Working.{model_is_read}
+use Rattle.mdp_command.specs.Accepted.{Accepted, IsTrueClaim}
+use Rattle.mdp_command.specs.Files.{most_bytes, model_or_refusal, model_due, certificate_or_refusal, certificate_due, IsDueToModel}
+use Rattle.mdp_command.specs.Said.{Said}
 use Rattle.mdp_app.specs.Due.{yes_text, said_of, said_to_certificate, said_to_model, check_due}
 
 -- ---- a text is due

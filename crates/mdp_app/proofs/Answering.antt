@@ -10,20 +10,20 @@ use Rattle.mdp_job.specs.Refusal.{denied, read_model, read_certificate, long_mod
 use Rattle.mdp_job.specs.Status.{status_of}
 use Rattle.mdp_job.specs.declared.status.Status.{Status}
 use Rattle.mdp_job.specs.declared.status.Status.TheVariants as status
-use Rattle.mdp_step.specs.Files.{model_due, IsDueToModel}
-use Rattle.mdp_step.specs.Said.{Said, said_status}
-use Rattle.mdp_step.specs.Streams.{Input, Told, Output}
-use Rattle.mdp_solve_step.specs.Due.{IsSolveDue}
-use Rattle.mdp_solve_step.specs.Laws.{IsDueOnce}
-use Rattle.mdp_witness_step.specs.Due.{IsWitnessDue}
-use Rattle.mdp_witness_step.specs.Laws as witnessed
-use Rattle.mdp_drill_step.proofs.Drilled.{due-once}
-use Rattle.mdp_horizon_step.specs.Due.{IsHorizonDue}
-use Rattle.mdp_policy_step.specs.Due.{IsPolicyDue}
-use Rattle.mdp_policy_step.proofs.Due.{policy_once}
+use Rattle.mdp_command.specs.Files.{model_due, IsDueToModel}
+use Rattle.mdp_command.specs.Said.{Said, said_status}
+use Rattle.mdp_command.specs.Streams.{Input, Told, Output}
+use Rattle.mdp_command_solve.specs.Due.{IsSolveDue}
+use Rattle.mdp_command_solve.specs.Laws.{IsDueOnce}
+use Rattle.mdp_command_witness.specs.Due.{IsWitnessDue}
+use Rattle.mdp_command_witness.specs.Laws as witnessed
+use Rattle.mdp_command_drill.proofs.Drilled.{due-once}
+use Rattle.mdp_command_horizon.specs.Due.{IsHorizonDue}
+use Rattle.mdp_command_policy.specs.Due.{IsPolicyDue}
+use Rattle.mdp_command_policy.proofs.Due.{policy_once}
 use Rattle.mdp_discount.proofs.OneEnd.{one_query_end}
-use Rattle.mdp_discount_step.specs.Due.{IsDiscountDue, IsDiscountCheckDue}
-use Rattle.mdp_discount_step.proofs.Solved.{discount_once}
+use Rattle.mdp_command_discount.specs.Due.{IsDiscountDue, IsDiscountCheckDue}
+use Rattle.mdp_command_discount.proofs.Solved.{discount_once}
 use Rattle.mdp_app.specs.Due.{check_due, IsDue}
 use Rattle.mdp_app.specs.Decided.{IsTextDecided, IsDecided, EndsWith}
 use Rattle.mdp_app.specs.Run.{IsFromBytes, HasCause, LeavesUnread, IsAnswered, IsWorkDone, IsDoneUnless, IsComplete}

@@ -6,11 +6,11 @@ use Rattle.mdp_rows.specs.declared.rule.RowRule.{RowRule}
 use Rattle.mdp_job.specs.Job.{Asked, reads_model, reads_second}
 use Rattle.mdp_job.specs.Refusal.{no_job, no_memory}
 use Rattle.mdp_job.specs.declared.words_error.WordsError.{WordsError}
-use Rattle.mdp_step.proofs.FileBytes.{or_nothing, had_nothing}
-use Rattle.mdp_step.specs.Files.{model_due, IsDueToModel}
-use Rattle.mdp_step.specs.Read.{IsModelWorked, IsWorkOnModel, IsPairWorked, IsWorkOnPair, is_of_model}
-use Rattle.mdp_step.specs.Said.{Said}
-use Rattle.mdp_step.specs.Streams.{Input, IsStill}
+use Rattle.mdp_command.proofs.FileBytes.{or_nothing, had_nothing}
+use Rattle.mdp_command.specs.Files.{model_due, IsDueToModel}
+use Rattle.mdp_command.specs.Read.{IsModelWorked, IsWorkOnModel, IsPairWorked, IsWorkOnPair, is_of_model}
+use Rattle.mdp_command.specs.Said.{Said}
+use Rattle.mdp_command.specs.Streams.{Input, IsStill}
 use Rattle.mdp_app.specs.Decided.{IsTextDecided, IsDecided}
 use Rattle.mdp_app.specs.Due.{IsDue, IsModelRead}
 use Rattle.mdp_app.specs.Run.{IsFromBytes, HasCause}

@@ -4,11 +4,11 @@ use Rattle.mdp_rows.specs.declared.rule.RowRule.{RowRule}
 use Rattle.mdp_job.specs.Job.{Asked}
 use Rattle.mdp_job.specs.Refusal.{no_memory}
 use Rattle.mdp_job.specs.declared.status.Status.{Status}
-use Rattle.mdp_step.specs.Accepted.{IsTrueClaim}
-use Rattle.mdp_step.specs.Files.{certificate_due}
-use Rattle.mdp_step.specs.Read.{IsWorkOnPair}
-use Rattle.mdp_step.specs.Said.{Said}
-use Rattle.mdp_step.specs.Streams.{Input, Output}
+use Rattle.mdp_command.specs.Accepted.{IsTrueClaim}
+use Rattle.mdp_command.specs.Files.{certificate_due}
+use Rattle.mdp_command.specs.Read.{IsWorkOnPair}
+use Rattle.mdp_command.specs.Said.{Said}
+use Rattle.mdp_command.specs.Streams.{Input, Output}
 use Rattle.mdp_app.specs.Due.{said_to_certificate}
 use Rattle.mdp_app.specs.Run.{HasCause, LeavesUnread, IsFromBytes, AreAtEnd}
 use Rattle.mdp_app.specs.Shown.{IsShown}

@@ -9,14 +9,14 @@ use Rattle.mdp_check.specs.declared.answer.Answer.TheVariants.{Yes, No, Wide, No
 use Rattle.mdp_job.specs.Job.{solve, witness, check, drill, horizon, policy, discount, discount_check, Asked}
 use Rattle.mdp_job.specs.Refusal.{PlainRefusal, no_job, query_size, query_reward, query_label, check_wide, denied, no_memory}
 use Rattle.mdp_job.specs.Text.{line}
-use Rattle.mdp_step.specs.Files.{model_due, certificate_due, IsDueToModel}
-use Rattle.mdp_step.specs.Said.{Said}
-use Rattle.mdp_solve_step.specs.Due.{IsSolveDue}
-use Rattle.mdp_witness_step.specs.Due.{IsWitnessDue}
-use Rattle.mdp_drill_step.specs.Due.{IsDrillDue}
-use Rattle.mdp_horizon_step.specs.Due.{IsHorizonDue}
-use Rattle.mdp_policy_step.specs.Due.{IsPolicyDue}
-use Rattle.mdp_discount_step.specs.Due.{IsDiscountDue, IsDiscountCheckDue}
+use Rattle.mdp_command.specs.Files.{model_due, certificate_due, IsDueToModel}
+use Rattle.mdp_command.specs.Said.{Said}
+use Rattle.mdp_command_solve.specs.Due.{IsSolveDue}
+use Rattle.mdp_command_witness.specs.Due.{IsWitnessDue}
+use Rattle.mdp_command_drill.specs.Due.{IsDrillDue}
+use Rattle.mdp_command_horizon.specs.Due.{IsHorizonDue}
+use Rattle.mdp_command_policy.specs.Due.{IsPolicyDue}
+use Rattle.mdp_command_discount.specs.Due.{IsDiscountDue, IsDiscountCheckDue}
 
 -- ---- `check`
 

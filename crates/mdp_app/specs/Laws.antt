@@ -4,7 +4,7 @@ use Rattle.mdp_spec.specs.Row.{IsMdp}
 use Rattle.mdp_rows.specs.declared.rule.RowRule.{RowRule}
 use Rattle.mdp_check.specs.Check.{IsBound}
 use Rattle.mdp_job.specs.Job.{check}
-use Rattle.mdp_step.specs.Accepted.{Accepted}
+use Rattle.mdp_command.specs.Accepted.{Accepted}
 use Rattle.mdp_app.specs.Due.{yes_text, IsDue}
 
 -- a text is due to a check exactly where the bytes are accepted, and it is `yes`

@@ -7,9 +7,9 @@ use Rattle.mdp_job.specs.Job.{Asked, reads_model, reads_second}
 use Rattle.mdp_job.specs.Refusal.{read_model, read_certificate, no_memory}
 use Rattle.mdp_job.specs.declared.status.Status.{Status}
 use Rattle.mdp_job.specs.declared.status.Status.TheVariants.{Done, ReadFault, WriteFault, Memory}
-use Rattle.mdp_step.specs.Read.{is_of_model}
-use Rattle.mdp_step.specs.Said.{Said}
-use Rattle.mdp_step.specs.Streams.{Input, HasFailed, IsStill, Told, Output}
+use Rattle.mdp_command.specs.Read.{is_of_model}
+use Rattle.mdp_command.specs.Said.{Said}
+use Rattle.mdp_command.specs.Streams.{Input, HasFailed, IsStill, Told, Output}
 use Rattle.mdp_app.specs.Due.{IsDue, IsModelRead}
 use Rattle.mdp_app.specs.Shown.{IsShown}
 use Rattle.mdp_app.specs.Written.{WroteAll, Wrote}

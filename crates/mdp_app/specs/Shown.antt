@@ -1,14 +1,14 @@
 -- What is shown of the work of each command.
 use Rattle.std.specs.Prelude.{ℕ, List, Ok, Err}
 use Rattle.mdp_job.specs.Job.{solve, witness, check, drill, horizon, policy, discount, discount_check, Asked}
-use Rattle.mdp_step.specs.Accepted.{IsTrueClaim}
-use Rattle.mdp_solve_step.specs.Solved.{IsSolved}
-use Rattle.mdp_witness_step.specs.Shown.{IsWitnessShown}
-use Rattle.mdp_drill_step.specs.Drilled.{IsDrilled}
-use Rattle.mdp_horizon_step.specs.Shown.{IsHorizonShown}
-use Rattle.mdp_policy_step.specs.Shown.{IsPolicyShown}
-use Rattle.mdp_discount_step.specs.Accepted as discounted
-use Rattle.mdp_discount_step.specs.Shown.{IsDiscountSolved}
+use Rattle.mdp_command.specs.Accepted.{IsTrueClaim}
+use Rattle.mdp_command_solve.specs.Solved.{IsSolved}
+use Rattle.mdp_command_witness.specs.Shown.{IsWitnessShown}
+use Rattle.mdp_command_drill.specs.Drilled.{IsDrilled}
+use Rattle.mdp_command_horizon.specs.Shown.{IsHorizonShown}
+use Rattle.mdp_command_policy.specs.Shown.{IsPolicyShown}
+use Rattle.mdp_command_discount.specs.Accepted as discounted
+use Rattle.mdp_command_discount.specs.Shown.{IsDiscountSolved}
 
 -- what is shown of the model's bytes, of those of the second file and of the text, where the work was done. Each command is a case
 abbrev pub IsShown : Asked → List ℕ → List ℕ → List ℕ → Type 0

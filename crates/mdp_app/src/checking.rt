@@ -3,19 +3,19 @@ ghost use Rattle.std.specs.Io.KnownBytes.{IsAtEnd};
 ghost use Rattle.mdp_cert.specs.Plain.{plain};
 ghost use Rattle.mdp_check.specs.Check.{answer_to};
 ghost use Rattle.mdp_job.specs.Refusal.{no_memory, read_certificate};
-ghost use Rattle.mdp_step.specs.Files.{certificate_due};
-ghost use Rattle.mdp_step.specs.Read.{IsRead, is_of_model};
-ghost use Rattle.mdp_step.specs.Said.{said};
-ghost use Rattle.mdp_step.specs.Streams.{input};
+ghost use Rattle.mdp_command.specs.Files.{certificate_due};
+ghost use Rattle.mdp_command.specs.Read.{IsRead, is_of_model};
+ghost use Rattle.mdp_command.specs.Said.{said};
+ghost use Rattle.mdp_command.specs.Streams.{input};
 ghost use Rattle.mdp_app.specs.Decided.{IsCheckRead};
 ghost use Rattle.mdp_app.specs.Due.{said_of, yes_text, said_to_certificate};
 
 use mdp_cert::Cert;
 use mdp_check::{Answer, check};
+use mdp_command::{read_certificate, read_model};
 use mdp_edge::Source;
 use mdp_job::Refusal;
 use mdp_rows::{Model, RowRule};
-use mdp_step::{read_certificate, read_model};
 use std::alloc::Global;
 
 /// The text of a certificate that holds.

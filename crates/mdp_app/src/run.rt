@@ -1,22 +1,22 @@
 ghost use Rattle.std.specs.Prelude.{◌≡◌, Err};
 ghost use Rattle.mdp_job.specs.Refusal.{plain_refusal};
 ghost use Rattle.mdp_job.specs.Words.{job_of};
-ghost use Rattle.mdp_step.specs.Said.{said};
-ghost use Rattle.mdp_step.specs.Streams.{input, output};
+ghost use Rattle.mdp_command.specs.Said.{said};
+ghost use Rattle.mdp_command.specs.Streams.{input, output};
 ghost use Rattle.mdp_app.specs.Written.{WroteText};
 ghost use Rattle.mdp_app.specs.Run.{IsAnswered, IsWorkDone, IsComplete};
 ghost use Rattle.mdp_app.specs.Decided.{IsDecided, EndsWith};
 
 use crate::checking::check_files;
-use mdp_discount_step::{discount_check_files, discount_file};
-use mdp_drill_step::drill;
+use mdp_command_discount::{discount_check_files, discount_file};
+use mdp_command_drill::drill;
+use mdp_command_horizon::horizon_file;
+use mdp_command_policy::policy_file;
+use mdp_command_solve::{solve_file, solve_law};
+use mdp_command_witness::{witness_file, witness_step_law};
 use mdp_edge::{Sink, Source, WriteFault, write_all};
-use mdp_horizon_step::horizon_file;
 use mdp_job::{Job, MEMORY_TEXT, Refusal, Status, job_of, push_refusal};
 use mdp_num::Memory;
-use mdp_policy_step::policy_file;
-use mdp_solve_step::{solve_file, solve_law};
-use mdp_witness_step::{witness_file, witness_step_law};
 use std::alloc::Global;
 
 /// The answer to the words.

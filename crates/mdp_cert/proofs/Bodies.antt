@@ -5,16 +5,16 @@ use Rattle.std.proofs.Math.ListN.{replicate}
 use Rattle.std.proofs.lemmas.Bool.{lt-ltb}
 use Rattle.std.proofs.lemmas.Bool.Decides.{nat_tests}
 use Rattle.std.proofs.lemmas.List.{length-append, length-replicate}
-use Rattle.mdp_lines.specs.declared.error.CertKind.TheVariants.{Shape}
-use Rattle.mdp_lines.specs.declared.error.Refusal.{Refusal}
+use Rattle.mdp_text.specs.declared.error.CertKind.TheVariants.{Shape}
+use Rattle.mdp_text.specs.declared.error.Refusal.{Refusal}
 use Rattle.mdp_cert.specs.declared.version.Version.{Version}
 use Rattle.mdp_cert.specs.declared.version.Version.TheVariants.{One, Two}
-use Rattle.mdp_lines.specs.Lines.{◌>>=◌, Place, place, is_line, line_by}
+use Rattle.mdp_text.specs.Lines.{◌>>=◌, Place, place, is_line, line_by}
 use Rattle.mdp_cert.specs.Runs.{Columns, Run, run, single, entries_of, before_runs, longest_runs, runs_in}
-use Rattle.mdp_lines.specs.Spelling.{line, end_text}
+use Rattle.mdp_text.specs.Spelling.{line, end_text}
 use Rattle.mdp_cert.specs.Spelling.{run_text, run_lines, state_lines, closed_lines}
 use Rattle.mdp_cert.specs.Reading.{run_in, onto_run, runs_from, entries_from, entries_to_end}
-use Rattle.mdp_lines.proofs.Feeds.{bind_ok, ok-is, judged-found, judged-again, due-line, due-again}
+use Rattle.mdp_text.proofs.Feeds.{bind_ok, ok-is, judged-found, judged-again, due-line, due-again}
 use Rattle.mdp_cert.proofs.Columns.{IsColumns}
 use Rattle.mdp_cert.proofs.Sections.{IsLongest, line-found, line-again, free-run}
 

@@ -11,20 +11,20 @@ use Rattle.std.proofs.Math.Seq.{take-append_seam, drop-append_seam}
 use Rattle.mdp_rows.specs.Name.{is_name}
 use Rattle.mdp_rows.specs.declared.dir.Dir.{Dir}
 use Rattle.mdp_rows.specs.declared.dir.Dir.TheVariants.{Max, Min}
-use Rattle.mdp_lines.specs.declared.error.CertKind.TheVariants.{Claim}
+use Rattle.mdp_text.specs.declared.error.CertKind.TheVariants.{Claim}
 use Rattle.mdp_math.specs.Rational.{ℚ}
 use Rattle.mdp_num.specs.Value.{spelling, IsNarrow}
 use Rattle.mdp_num.specs.Canonical.{canonical_of}
 use Rattle.mdp_num.proofs.Spellings.{sound, complete}
 use Rattle.mdp_cert.specs.Cert.{PlainClaim, upper, reach, reward, mean, witness, are_names, is_at_least_zero, has_threshold, IsClaimInWidth}
-use Rattle.mdp_lines.specs.Lines.{or_refused}
+use Rattle.mdp_text.specs.Lines.{or_refused}
 use Rattle.mdp_cert.specs.Spelling.{claim_text}
-use Rattle.mdp_lines.specs.Words.{behind, is_quote}
+use Rattle.mdp_text.specs.Words.{behind, is_quote}
 use Rattle.mdp_cert.specs.Reading.{closed_name, name_behind, two_names, upper_claim, reach_front}
 use Rattle.mdp_cert.specs.Reading.{reach_claim, reward_front, reward_claim, mean_front, mean_claim, threshold_of, name_and_threshold, witness_front, witness_claim, claim_to, claim_of, claim_at}
-use Rattle.mdp_lines.proofs.Pieces.{Free, free-append, free-name, quote-free-name, free-spelling}
-use Rattle.mdp_lines.proofs.Cuts.{bytes_same, bytes_self}
-use Rattle.mdp_lines.proofs.Feeds.{found_ok, byte-after}
+use Rattle.mdp_text.proofs.Pieces.{Free, free-append, free-name, quote-free-name, free-spelling}
+use Rattle.mdp_text.proofs.Cuts.{bytes_same, bytes_self}
+use Rattle.mdp_text.proofs.Feeds.{found_ok, byte-after}
 
 behind-found : (front text rest : List ℕ) → behind front text ≡ Some rest → text ≡ front ++ rest
 behind-found front text rest e = by (bytes_eq (take (length front) text) front) refl e

@@ -11,19 +11,19 @@ use Rattle.mdp_num.specs.Canonical.{canonical_of}
 use Rattle.mdp_num.specs.Equal.{eq_ℚ}
 use Rattle.mdp_num.proofs.Spellings.{sound, complete}
 use Rattle.mdp_num.proofs.Equal.{equal_decides}
-use Rattle.mdp_lines.specs.declared.error.CertKind.TheVariants.{Number}
+use Rattle.mdp_text.specs.declared.error.CertKind.TheVariants.{Number}
 use Rattle.mdp_cert.specs.declared.mean_entry.MeanEntry.{MeanEntry}
 use Rattle.mdp_cert.specs.declared.policy_entry.PolicyEntry.{PolicyEntry}
-use Rattle.mdp_lines.specs.Words.{whole_of, whole_at, reward_parse}
+use Rattle.mdp_text.specs.Words.{whole_of, whole_at, reward_parse}
 use Rattle.mdp_cert.specs.Runs.{Columns}
 use Rattle.mdp_cert.specs.Cert.{IsValueNarrow}
 use Rattle.mdp_cert.specs.Claims.{Value, fraction_value, reward_value, reward_text, reward_same, bound_columns}
 use Rattle.mdp_cert.specs.Claims.{policy_columns, policy_parse, bound_parse, IsPolicyInWidth, mean_columns, mean_parse, IsMeanInWidth}
 use Rattle.mdp_cert.specs.Laws.{IsSameWords}
-use Rattle.mdp_lines.proofs.Pieces.{Free, free-spelling}
-use Rattle.mdp_lines.proofs.Cuts.{bytes_same}
-use Rattle.mdp_lines.proofs.Feeds.{found_ok, whole-found, whole-again}
-use Rattle.mdp_lines.proofs.Joined.{AllFree, free-whole}
+use Rattle.mdp_text.proofs.Pieces.{Free, free-spelling}
+use Rattle.mdp_text.proofs.Cuts.{bytes_same}
+use Rattle.mdp_text.proofs.Feeds.{found_ok, whole-found, whole-again}
+use Rattle.mdp_text.proofs.Joined.{AllFree, free-whole}
 
 -- the words are read exactly where they are the spelling of an entry in width; none of them has a blank or a line feed; and entries that say
 -- the same are the same

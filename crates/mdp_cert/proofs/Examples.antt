@@ -6,23 +6,23 @@ use Rattle.mdp_math.specs.Gcd.{gcd, gcd_with_fuel}
 use Rattle.mdp_math.specs.Rational.{ℚ, ratio}
 use Rattle.mdp_rows.specs.declared.dir.Dir.{Dir}
 use Rattle.mdp_rows.specs.declared.dir.Dir.TheVariants.{Max, Min}
-use Rattle.mdp_flow.specs.declared.flow.Flow.{Flow}
+use Rattle.mdp_subsystem_rules.specs.declared.flow.Flow.{Flow}
 use Rattle.mdp_num.specs.Value.{spelling}
 use Rattle.mdp_num.specs.Canonical.{canonical_of}
-use Rattle.mdp_lines.specs.declared.init.Init.{Init}
-use Rattle.mdp_lines.specs.declared.init.Init.TheVariants.{Missing, Finite, Infinite, Start}
-use Rattle.mdp_lines.specs.declared.error.CertKind.TheVariants as kind
-use Rattle.mdp_lines.specs.declared.error.CertKind.TheVariants.{Claim, Number, Shape, Count, End, Run}
+use Rattle.mdp_text.specs.declared.init.Init.{Init}
+use Rattle.mdp_text.specs.declared.init.Init.TheVariants.{Missing, Finite, Infinite, Start}
+use Rattle.mdp_text.specs.declared.error.CertKind.TheVariants as kind
+use Rattle.mdp_text.specs.declared.error.CertKind.TheVariants.{Claim, Number, Shape, Count, End, Run}
 use Rattle.mdp_cert.specs.declared.version.Version.{Version}
 use Rattle.mdp_cert.specs.declared.version.Version.TheVariants.{One, Two}
 use Rattle.mdp_cert.specs.Cert.{Certificate, upper, reach, reward, mean, witness, PlainBody, bounds, policy, rewards, gains, flow, floor}
-use Rattle.mdp_lines.specs.Lines.{refused, next_line, nothing_behind}
-use Rattle.mdp_lines.specs.Words.{words_behind, whole_of, whole_at, frac_at}
+use Rattle.mdp_text.specs.Lines.{refused, next_line, nothing_behind}
+use Rattle.mdp_text.specs.Words.{words_behind, whole_of, whole_at, frac_at}
 use Rattle.mdp_cert.specs.Runs.{longest_runs}
 use Rattle.mdp_cert.specs.Witness.{keep_at, flow_at, flow_line_at, floor_line_at}
-use Rattle.mdp_lines.specs.Spelling.{line}
+use Rattle.mdp_text.specs.Spelling.{line}
 use Rattle.mdp_cert.specs.Spelling.{version_text, text_of, old_text_of, text_in, run_text, run_lines, listed_lines}
-use Rattle.mdp_lines.specs.Heads.{states_at, given_at, valued_at, start_at}
+use Rattle.mdp_text.specs.Heads.{states_at, given_at, valued_at, start_at}
 use Rattle.mdp_cert.specs.Reading.{outcome, version_at, claim_to, claim_of, claim_at, init_at, head_from, listed_at, listed_from, listed_to_end}
 use Rattle.mdp_cert.specs.Reading.{entry_at, state_at, run_at, longest_at, runs_from, entries_from, entries_to_end, spread_at, body_from}
 

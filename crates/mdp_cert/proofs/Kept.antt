@@ -10,21 +10,21 @@ use Rattle.std.proofs.lemmas.Bool.Decides.{nat_tests}
 use Rattle.std.proofs.lemmas.List.{length-map}
 use Rattle.mdp_math.specs.Rational.{ℚ}
 use Rattle.mdp_num.specs.Value.{spelling, IsNarrow}
-use Rattle.mdp_flow.specs.declared.flow.Flow.{Flow}
-use Rattle.mdp_lines.specs.declared.error.CertKind.TheVariants as kind
-use Rattle.mdp_lines.specs.declared.error.Refusal.{Refusal}
+use Rattle.mdp_subsystem_rules.specs.declared.flow.Flow.{Flow}
+use Rattle.mdp_text.specs.declared.error.CertKind.TheVariants as kind
+use Rattle.mdp_text.specs.declared.error.Refusal.{Refusal}
 use Rattle.mdp_cert.specs.declared.flow_line.FlowLine.{FlowLine}
 use Rattle.mdp_cert.specs.declared.flow_line.FlowLine.TheVariants.{Keep, Send}
 use Rattle.mdp_cert.specs.declared.floor_line.FloorLine.{FloorLine}
 use Rattle.mdp_cert.specs.Cert.{is_next, are_kept, is_next_flow, are_flows, IsFlowInWidth}
-use Rattle.mdp_lines.specs.Lines.{◌>>=◌, refuse_if}
-use Rattle.mdp_lines.specs.Words.{words, first_of, begins_with, words_behind, whole_at, frac_at}
+use Rattle.mdp_text.specs.Lines.{◌>>=◌, refuse_if}
+use Rattle.mdp_text.specs.Words.{words, first_of, begins_with, words_behind, whole_at, frac_at}
 use Rattle.mdp_cert.specs.Witness.{mark_text, mark_at, flow_line_words, keep_at, kept_in, mark_in, flow_in, flow_at, flow_line_at, flow_listed, flow_lines}
 use Rattle.mdp_cert.specs.Witness.{floor_line_words, floor_line_at, floor_listed, floor_lines}
-use Rattle.mdp_lines.proofs.Pieces.{Free, free-spelling}
-use Rattle.mdp_lines.proofs.Cuts.{bytes_same, same-number, number-same}
-use Rattle.mdp_lines.proofs.Feeds.{bind_ok, ok-is, refuse_ok, whole-found, whole-again, frac-found, frac-again}
-use Rattle.mdp_lines.proofs.Joined.{free-join, free-whole, behind-again, behind-text}
+use Rattle.mdp_text.proofs.Pieces.{Free, free-spelling}
+use Rattle.mdp_text.proofs.Cuts.{bytes_same, same-number, number-same}
+use Rattle.mdp_text.proofs.Feeds.{bind_ok, ok-is, refuse_ok, whole-found, whole-again, frac-found, frac-again}
+use Rattle.mdp_text.proofs.Joined.{free-join, free-whole, behind-again, behind-text}
 use Rattle.mdp_cert.proofs.Bodies.{Each}
 use Rattle.mdp_cert.proofs.OneByOne.{IsListed, AreNext}
 

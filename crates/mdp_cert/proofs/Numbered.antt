@@ -10,25 +10,25 @@ use Rattle.std.proofs.lemmas.Bool.Decides.{nat_tests}
 use Rattle.mdp_math.specs.Rational.{ℚ}
 use Rattle.mdp_num.specs.Canonical.{canonical_of}
 use Rattle.mdp_num.proofs.Spellings.{sound, complete}
-use Rattle.mdp_lines.specs.declared.error.CertKind.TheVariants.{Version, Number, Count}
-use Rattle.mdp_lines.specs.declared.error.Refusal.{Refusal}
-use Rattle.mdp_lines.specs.declared.init.Init.{Init}
-use Rattle.mdp_lines.specs.declared.init.Init.TheVariants.{Missing, Finite, Infinite, Start}
+use Rattle.mdp_text.specs.declared.error.CertKind.TheVariants.{Version, Number, Count}
+use Rattle.mdp_text.specs.declared.error.Refusal.{Refusal}
+use Rattle.mdp_text.specs.declared.init.Init.{Init}
+use Rattle.mdp_text.specs.declared.init.Init.TheVariants.{Missing, Finite, Infinite, Start}
 use Rattle.mdp_cert.specs.declared.version.Version as version
 use Rattle.mdp_cert.specs.declared.version.Version.TheVariants.{One, Two}
-use Rattle.mdp_lines.specs.Heads.{IsInitInWidth, init_parse, init_of, given_at, valued_at, start_at}
+use Rattle.mdp_text.specs.Heads.{IsInitInWidth, init_parse, init_of, given_at, valued_at, start_at}
 use Rattle.mdp_cert.specs.Cert.{PlainClaim, upper, reach, reward, mean, witness, may_be_infinite, is_witness, is_init_of, IsValueNarrow}
 use Rattle.mdp_cert.specs.Claims.{reward_text}
-use Rattle.mdp_lines.specs.Lines.{◌>>=◌, refuse_if, or_refused}
-use Rattle.mdp_lines.specs.Words.{first_of, words_behind, whole_at}
-use Rattle.mdp_lines.specs.Spelling.{◌␣◌, init_text}
+use Rattle.mdp_text.specs.Lines.{◌>>=◌, refuse_if, or_refused}
+use Rattle.mdp_text.specs.Words.{first_of, words_behind, whole_at}
+use Rattle.mdp_text.specs.Spelling.{◌␣◌, init_text}
 use Rattle.mdp_cert.specs.Spelling.{version_text}
 use Rattle.mdp_cert.specs.Reading.{version_at, init_at}
-use Rattle.mdp_lines.proofs.Pieces.{Free, decimal-some}
-use Rattle.mdp_lines.proofs.Cuts.{bytes_same}
-use Rattle.mdp_lines.proofs.Feeds.{bind_ok, ok-is, refuse_ok, found_ok, whole-found, whole-again}
-use Rattle.mdp_lines.proofs.States.{one-word}
-use Rattle.mdp_lines.proofs.Joined.{free-join, free-whole, behind-again, behind-text}
+use Rattle.mdp_text.proofs.Pieces.{Free, decimal-some}
+use Rattle.mdp_text.proofs.Cuts.{bytes_same}
+use Rattle.mdp_text.proofs.Feeds.{bind_ok, ok-is, refuse_ok, found_ok, whole-found, whole-again}
+use Rattle.mdp_text.proofs.States.{one-word}
+use Rattle.mdp_text.proofs.Joined.{free-join, free-whole, behind-again, behind-text}
 use Rattle.mdp_cert.proofs.Columns.{reward-found, reward-again, free-reward}
 
 -- ---- the version

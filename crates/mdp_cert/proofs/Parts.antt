@@ -9,34 +9,34 @@ use Rattle.std.proofs.lemmas.List.Elements.{All-cons}
 use Rattle.mdp_math.specs.Rational.{ℚ}
 use Rattle.mdp_num.specs.Value.{spelling, IsNarrow}
 use Rattle.mdp_rows.specs.declared.dir.Dir.{Dir}
-use Rattle.mdp_lines.specs.declared.error.CertKind.TheVariants.{End}
-use Rattle.mdp_lines.specs.declared.error.Refusal.{Refusal}
-use Rattle.mdp_lines.specs.declared.init.Init.{Init}
+use Rattle.mdp_text.specs.declared.error.CertKind.TheVariants.{End}
+use Rattle.mdp_text.specs.declared.error.Refusal.{Refusal}
+use Rattle.mdp_text.specs.declared.init.Init.{Init}
 use Rattle.mdp_cert.specs.declared.mean_entry.MeanEntry.{MeanEntry}
 use Rattle.mdp_cert.specs.declared.policy_entry.PolicyEntry.{PolicyEntry}
 use Rattle.mdp_cert.specs.declared.version.Version.{Version}
 use Rattle.mdp_cert.specs.declared.version.Version.TheVariants.{One, Two}
 use Rattle.mdp_rows.specs.declared.dir.Dir.TheVariants.{Max, Min}
-use Rattle.mdp_flow.specs.declared.flow.Flow.{Flow}
+use Rattle.mdp_subsystem_rules.specs.declared.flow.Flow.{Flow}
 use Rattle.mdp_cert.specs.declared.flow_line.FlowLine.{FlowLine}
 use Rattle.mdp_cert.specs.declared.floor_line.FloorLine.{FloorLine}
 use Rattle.mdp_cert.specs.Cert.{PlainClaim, upper, reach, reward, mean, witness, PlainBody, bounds, policy, rewards, gains, flow, floor, Certificate}
-use Rattle.mdp_lines.specs.Heads.{IsInitInWidth, states_at}
+use Rattle.mdp_text.specs.Heads.{IsInitInWidth, states_at}
 use Rattle.mdp_cert.specs.Cert.{are_kept, are_flows, is_init_of, is_body_of, IsValueNarrow, IsFlowInWidth, IsBodyInWidth, Fits}
 use Rattle.mdp_cert.specs.Witness.{flow_listed, flow_lines, flow_body, floor_listed, floor_lines, floor_body}
-use Rattle.mdp_lines.specs.Lines.{◌>>=◌, Place, place, line_by, nothing_behind}
-use Rattle.mdp_lines.specs.Words.{first_of, words_behind, frac_at}
+use Rattle.mdp_text.specs.Lines.{◌>>=◌, Place, place, line_by, nothing_behind}
+use Rattle.mdp_text.specs.Words.{first_of, words_behind, frac_at}
 use Rattle.mdp_cert.specs.Claims.{Value, fraction_value, reward_value, bound_columns, policy_columns, policies, IsPolicyInWidth, mean_columns, means, IsMeanInWidth}
-use Rattle.mdp_lines.specs.Spelling.{◌␣◌, line, states_text, init_text}
+use Rattle.mdp_text.specs.Spelling.{◌␣◌, line, states_text, init_text}
 use Rattle.mdp_cert.specs.Spelling.{spread_text, version_text, claim_text, closed_lines, listed_lines, body_text, text_in, text_of, old_text_of}
 use Rattle.mdp_cert.specs.Laws.{AreSameWords}
 use Rattle.mdp_cert.specs.Reading.{version_at, claim_at, init_at, Head, head_from, entries_to_end, policy_body, reward_body, mean_body, spread_at, listed_to_end, body_from, outcome}
-use Rattle.mdp_lines.proofs.Cuts.{same-number, number-same}
-use Rattle.mdp_lines.proofs.Pieces.{Free, free-spelling}
-use Rattle.mdp_lines.proofs.Joined.{free-join, behind-again, behind-text}
-use Rattle.mdp_lines.proofs.Feeds.{ok-is, bind_ok, refuse_ok, judged-found, judged-again, frac-found, frac-again}
+use Rattle.mdp_text.proofs.Cuts.{same-number, number-same}
+use Rattle.mdp_text.proofs.Pieces.{Free, free-spelling}
+use Rattle.mdp_text.proofs.Joined.{free-join, behind-again, behind-text}
+use Rattle.mdp_text.proofs.Feeds.{ok-is, bind_ok, refuse_ok, judged-found, judged-again, frac-found, frac-again}
 use Rattle.mdp_cert.proofs.Claims.{IsRight, claim-found, claim-again, free-claim}
-use Rattle.mdp_lines.proofs.States.{one-word, states-found, states-again, free-states}
+use Rattle.mdp_text.proofs.States.{one-word, states-found, states-again, free-states}
 use Rattle.mdp_cert.proofs.Numbered.{version-found, version-again, free-version, init-found, init-again, free-init}
 use Rattle.mdp_cert.proofs.Columns.{IsValue, fraction-is_value, reward-is_value, bound-is_columns, policy-is_columns, mean-is_columns, same-words}
 use Rattle.mdp_cert.proofs.Growth.{three-entries, four-entries}

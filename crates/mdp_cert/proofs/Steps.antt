@@ -4,9 +4,9 @@ use Rattle.std.proofs.Math.ListN.{replicate}
 use Rattle.std.proofs.lemmas.Bool.{lt-ltb}
 use Rattle.std.proofs.lemmas.Bool.Decides.{nat_tests}
 use Rattle.std.proofs.lemmas.List.{append-nil}
-use Rattle.mdp_lines.specs.declared.error.Refusal.{Refusal}
+use Rattle.mdp_text.specs.declared.error.Refusal.{Refusal}
 use Rattle.mdp_cert.specs.declared.version.Version.{Version}
-use Rattle.mdp_lines.specs.Lines.{◌>>=◌, Place, next_line, line_by}
+use Rattle.mdp_text.specs.Lines.{◌>>=◌, Place, next_line, line_by}
 use Rattle.mdp_cert.specs.Runs.{Columns, Run, run, entries_of}
 use Rattle.mdp_cert.specs.Reading.{run_in, onto_run, runs_from, entries_from}
 

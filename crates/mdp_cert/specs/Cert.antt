@@ -5,12 +5,12 @@ use Rattle.mdp_num.specs.Value.{IsNarrow}
 use Rattle.mdp_rows.specs.Name.{is_name}
 use Rattle.mdp_rows.specs.declared.dir.Dir.{Dir}
 use Rattle.mdp_rows.specs.declared.dir.Dir.TheVariants.{Max, Min}
-use Rattle.mdp_flow.specs.declared.flow.Flow.{Flow}
+use Rattle.mdp_subsystem_rules.specs.declared.flow.Flow.{Flow}
 use Rattle.mdp_cert.specs.declared.claim.Claim.{Claim}
 use Rattle.mdp_cert.specs.declared.claim.Claim.TheVariants.{Upper, Reach, Reward, Mean, Witness}
-use Rattle.mdp_lines.specs.declared.init.Init.{Init}
-use Rattle.mdp_lines.specs.declared.init.Init.TheVariants.{Missing, Finite, Infinite, Start}
-use Rattle.mdp_lines.specs.Heads.{IsInitInWidth}
+use Rattle.mdp_text.specs.declared.init.Init.{Init}
+use Rattle.mdp_text.specs.declared.init.Init.TheVariants.{Missing, Finite, Infinite, Start}
+use Rattle.mdp_text.specs.Heads.{IsInitInWidth}
 use Rattle.mdp_cert.specs.declared.body.Body.{Body}
 use Rattle.mdp_cert.specs.declared.body.Body.TheVariants as body
 

@@ -6,7 +6,7 @@ use Rattle.mdp_num.specs.Canonical.{canonical_of}
 use Rattle.mdp_num.specs.Equal.{eq_ℚ}
 use Rattle.mdp_cert.specs.declared.mean_entry.MeanEntry.{MeanEntry}
 use Rattle.mdp_cert.specs.declared.policy_entry.PolicyEntry.{PolicyEntry}
-use Rattle.mdp_lines.specs.Words.{whole_of, reward_parse}
+use Rattle.mdp_text.specs.Words.{whole_of, reward_parse}
 use Rattle.mdp_cert.specs.Runs.{Columns}
 
 -- ---- values of one word

@@ -1,15 +1,15 @@
 -- Certificates and their texts.
 use Rattle.std.specs.Prelude.{◌≡◌, ◌↔◌, ◌⊎◌, ℕ, zero, suc, ◌-◌, ◌<◌, true, List, [], ◌++◌, length, Result, Ok, Err, nat_lt, if◌then◌else◌}
 use Rattle.std.specs.List.{position_or_len, before_first, after_first}
-use Rattle.mdp_lines.specs.declared.error.CertKind.TheVariants.{End}
-use Rattle.mdp_lines.specs.declared.error.Refusal.{Refusal}
+use Rattle.mdp_text.specs.declared.error.CertKind.TheVariants.{End}
+use Rattle.mdp_text.specs.declared.error.Refusal.{Refusal}
 use Rattle.mdp_cert.specs.declared.version.Version.{Version}
 use Rattle.mdp_cert.specs.Cert.{Certificate, IsValueNarrow, Fits}
 use Rattle.mdp_num.specs.Value.{IsNarrow}
-use Rattle.mdp_lines.specs.Lines.{is_line_feed}
+use Rattle.mdp_text.specs.Lines.{is_line_feed}
 use Rattle.mdp_cert.specs.Runs.{Columns}
 use Rattle.mdp_cert.specs.Claims.{fraction_value, reward_value, bound_columns, policy_columns, IsPolicyInWidth, mean_columns, IsMeanInWidth}
-use Rattle.mdp_lines.specs.Spelling.{line}
+use Rattle.mdp_text.specs.Spelling.{line}
 use Rattle.mdp_cert.specs.Spelling.{text_in, text_of, old_text_of}
 use Rattle.mdp_cert.specs.Reading.{outcome}
 

@@ -10,22 +10,22 @@ use Rattle.mdp_num.specs.Canonical.{canonical_of}
 use Rattle.mdp_rows.specs.declared.dir.Dir.{Dir}
 use Rattle.mdp_rows.specs.declared.dir.Dir.TheVariants.{Max, Min}
 use Rattle.mdp_rows.specs.Name.{is_name}
-use Rattle.mdp_lines.specs.declared.error.CertKind.TheVariants as kind
-use Rattle.mdp_lines.specs.declared.error.Refusal.{Refusal}
-use Rattle.mdp_lines.specs.declared.init.Init.{Init}
+use Rattle.mdp_text.specs.declared.error.CertKind.TheVariants as kind
+use Rattle.mdp_text.specs.declared.error.Refusal.{Refusal}
+use Rattle.mdp_text.specs.declared.init.Init.{Init}
 use Rattle.mdp_cert.specs.declared.version.Version.{Version}
 use Rattle.mdp_cert.specs.declared.version.Version.TheVariants.{One, Two}
 use Rattle.mdp_cert.specs.declared.mean_entry.MeanEntry.{MeanEntry}
 use Rattle.mdp_cert.specs.declared.policy_entry.PolicyEntry.{PolicyEntry}
 use Rattle.mdp_cert.specs.Cert.{PlainClaim, upper, reach, reward, mean, witness, may_be_infinite, is_witness, is_at_least_zero, PlainBody, bounds, policy, rewards, gains, Certificate}
-use Rattle.mdp_lines.specs.Lines.{◌>>=◌, refused, refuse_if, or_refused, is_line, Place, place, line_by, nothing_behind}
-use Rattle.mdp_lines.specs.Heads.{states_at, valued_at, start_at}
-use Rattle.mdp_lines.specs.Words.{words, first_of, begins_with, words_behind, whole_at, frac_at, behind, is_quote}
+use Rattle.mdp_text.specs.Lines.{◌>>=◌, refused, refuse_if, or_refused, is_line, Place, place, line_by, nothing_behind}
+use Rattle.mdp_text.specs.Heads.{states_at, valued_at, start_at}
+use Rattle.mdp_text.specs.Words.{words, first_of, begins_with, words_behind, whole_at, frac_at, behind, is_quote}
 use Rattle.mdp_cert.specs.Runs.{Columns, Run, run, single, entries_of}
 use Rattle.mdp_cert.specs.Claims.{fraction_value, reward_value, bound_columns, policy_columns, mean_columns}
 use Rattle.mdp_cert.specs.Listed.{Listed}
 use Rattle.mdp_cert.specs.Witness.{flow_listed, flow_body, floor_listed, floor_body}
-use Rattle.mdp_lines.specs.Spelling.{end_text}
+use Rattle.mdp_text.specs.Spelling.{end_text}
 use Rattle.mdp_cert.specs.Spelling.{version_text}
 
 -- ---- the version

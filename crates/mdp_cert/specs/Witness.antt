@@ -4,16 +4,16 @@ use Rattle.std.specs.Prelude.{Option, Some, None, is_some, option_and_then, opti
 use Rattle.std.specs.Str.{bytes_eq}
 use Rattle.mdp_math.specs.Rational.{ℚ}
 use Rattle.mdp_num.specs.Value.{spelling}
-use Rattle.mdp_flow.specs.declared.flow.Flow.{Flow}
-use Rattle.mdp_lines.specs.declared.error.CertKind.TheVariants as kind
-use Rattle.mdp_lines.specs.declared.error.Refusal.{Refusal}
+use Rattle.mdp_subsystem_rules.specs.declared.flow.Flow.{Flow}
+use Rattle.mdp_text.specs.declared.error.CertKind.TheVariants as kind
+use Rattle.mdp_text.specs.declared.error.Refusal.{Refusal}
 use Rattle.mdp_cert.specs.declared.flow_line.FlowLine.{FlowLine}
 use Rattle.mdp_cert.specs.declared.flow_line.FlowLine.TheVariants.{Keep, Send}
 use Rattle.mdp_cert.specs.declared.floor_line.FloorLine.{FloorLine}
 use Rattle.mdp_cert.specs.Cert.{PlainBody, flow, floor, is_next, is_next_flow}
-use Rattle.mdp_lines.specs.Lines.{◌>>=◌, refused, refuse_if}
+use Rattle.mdp_text.specs.Lines.{◌>>=◌, refused, refuse_if}
 use Rattle.mdp_cert.specs.Listed.{Listed}
-use Rattle.mdp_lines.specs.Words.{words, first_of, begins_with, words_behind, whole_at, frac_at}
+use Rattle.mdp_text.specs.Words.{words, first_of, begins_with, words_behind, whole_at, frac_at}
 
 -- why a state is kept: the subsystem needs it, or without it a number is past width
 abbrev pub mark_text : Bool → List ℕ

@@ -3,7 +3,7 @@ ghost use Rattle.mdp_cert.specs.Cert.{plain_claim, plain_body, are_names, has_th
 
 use crate::body::Body;
 use crate::claim::Claim;
-use mdp_lines::Init;
+use mdp_text::Init;
 
 /// A certificate: its claim, the number of states, from 1 to 2^20, the initial state with its value, and a body of the claim's kind with an entry per state.
 /// For a subsystem the initial state has no value, and the body has an entry per kept state.

@@ -1,15 +1,15 @@
 ghost use Rattle.std.specs.Prelude.{◌≡◌, Ok, Some, None, IfOk, MatchResult, MatchOption, option_and_then, option_map};
 ghost use Rattle.mdp_rows.specs.Name.{is_name};
 ghost use Rattle.mdp_cert.specs.Cert.{plain_claim};
-ghost use Rattle.mdp_lines.specs.Words.{behind};
+ghost use Rattle.mdp_text.specs.Words.{behind};
 ghost use Rattle.mdp_cert.specs.Reading.{closed_name, name_behind, two_names, upper_claim, reach_front};
 ghost use Rattle.mdp_cert.specs.Reading.{reach_claim, reward_front, reward_claim, mean_front, mean_claim, threshold_of, name_and_threshold, witness_front, witness_claim, claim_to, claim_of, claim_at};
-ghost use Rattle.mdp_lines.specs.Answer.{Refuses};
+ghost use Rattle.mdp_text.specs.Answer.{Refuses};
 
 use crate::claim::Claim;
-use mdp_lines::{CertError, CertKind, before_quote, is_name};
 use mdp_num::{Frac, read_canonical};
 use mdp_rows::Dir;
+use mdp_text::{CertError, CertKind, before_quote, is_name};
 use std::alloc::{AllocError, Global};
 
 /// The name that stands before the quote at the text's end.

@@ -1,4 +1,4 @@
-use mdp_flow::Flow;
+use mdp_subsystem_rules::Flow;
 
 /// What a line of the body says for the claim `max witness`.
 #[derive(Clone, Copy)]

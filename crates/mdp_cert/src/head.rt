@@ -1,5 +1,5 @@
 use crate::claim::Claim;
-use mdp_lines::Init;
+use mdp_text::Init;
 
 /// What the lines of claim, states and init say.
 #[derive(Drop)]

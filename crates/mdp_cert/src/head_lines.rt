@@ -1,16 +1,16 @@
 ghost use Rattle.std.specs.Prelude.{◌≡◌, Ok, MatchResult};
-ghost use Rattle.mdp_lines.specs.Answer.{Refuses};
+ghost use Rattle.mdp_text.specs.Answer.{Refuses};
 ghost use Rattle.mdp_cert.specs.Answer.{plain_head};
 ghost use Rattle.mdp_cert.specs.Cert.{plain_claim, may_be_infinite, is_witness};
-ghost use Rattle.mdp_lines.specs.Lines.{place};
-ghost use Rattle.mdp_lines.specs.Heads.{start_at, valued_at};
+ghost use Rattle.mdp_text.specs.Lines.{place};
+ghost use Rattle.mdp_text.specs.Heads.{start_at, valued_at};
 ghost use Rattle.mdp_cert.specs.Reading.{version_at, init_at, head_from};
 
 use crate::claim::Claim;
 use crate::claim_line::claim_at;
 use crate::head::Head;
 use crate::version::Version;
-use mdp_lines::{CertError, CertKind, Init, Refusal, next_line, start_at, states_at, valued_at};
+use mdp_text::{CertError, CertKind, Init, Refusal, next_line, start_at, states_at, valued_at};
 use std::alloc::Global;
 
 /// The version that the first line names.

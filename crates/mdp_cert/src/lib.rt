@@ -41,6 +41,6 @@ pub use body::Body;
 pub use cert::Cert;
 pub use claim::Claim;
 pub use laws::{refusal_law, text_law};
-pub use mdp_lines::{CertError, CertKind, Init, Refusal};
+pub use mdp_text::{CertError, CertKind, Init, Refusal};
 pub use read::read_cert;
 pub use write::{write_cert, write_old};

@@ -1,14 +1,14 @@
 ghost use Rattle.std.specs.Prelude.{◌≡◌, ◌<◌, ◌^◌, ◌++◌, List, Ok, length, slice_index_or, OnOk, MatchResult};
 ghost use Rattle.std.specs.List.{join_with_byte};
-ghost use Rattle.mdp_lines.specs.Answer.{Keeps, Refuses};
-ghost use Rattle.mdp_lines.specs.Lines.{place};
+ghost use Rattle.mdp_text.specs.Answer.{Keeps, Refuses};
+ghost use Rattle.mdp_text.specs.Lines.{place};
 ghost use Rattle.mdp_cert.specs.Listed.{Listed};
-ghost use Rattle.mdp_lines.specs.Spelling.{line};
+ghost use Rattle.mdp_text.specs.Spelling.{line};
 ghost use Rattle.mdp_cert.specs.Spelling.{listed_lines};
 ghost use Rattle.mdp_cert.specs.Reading.{listed_at, listed_to_end};
 
-use mdp_lines::{CertError, Refusal, next_line, push_end};
 use mdp_num::Memory;
+use mdp_text::{CertError, Refusal, next_line, push_end};
 use std::alloc::Global;
 
 /// A line of a body that lists lines of its own up to the line `end`. A claim with such a body gives one: how a line is read behind the one before

@@ -1,9 +1,9 @@
 ghost use Rattle.std.specs.Prelude.{◌≡◌, ◌++◌, ◌∷◌, OnOk};
-ghost use Rattle.mdp_lines.specs.Answer.{Keeps};
+ghost use Rattle.mdp_text.specs.Answer.{Keeps};
 ghost use Rattle.mdp_cert.specs.Witness.{mark_text, mark_at};
 
-use mdp_lines::{CertKind, Refusal};
 use mdp_num::Memory;
+use mdp_text::{CertKind, Refusal};
 
 /// Whether the word of a kept state says that it stays because without it a number is past width.
 pub(crate) fn mark_at(line: u64, word: &[u8]) -> Result<bool, Refusal>

@@ -7,8 +7,8 @@ use crate::entries::{Entry, Lists};
 use crate::policy_entry::PolicyEntry;
 use crate::values::Value;
 use mdp_farkas::{ReachCert, RewardCert};
-use mdp_lines::{cut_word, only_word, push_word, whole_of};
 use mdp_num::{Frac, Memory};
+use mdp_text::{cut_word, only_word, push_word, whole_of};
 use std::alloc::{AllocError, Global};
 
 /// The line of a state for the claims `DIR reach` and `DIR reward`: a value, a choice and a rank.

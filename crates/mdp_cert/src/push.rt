@@ -2,15 +2,15 @@ ghost use Rattle.std.specs.Prelude.{◌≡◌, ◌<◌, ◌≤◌, ◌-◌, ◌+
 ghost use Rattle.mdp_num.specs.Value.{spelling};
 ghost use Rattle.mdp_cert.specs.Cert.{plain_claim};
 ghost use Rattle.mdp_cert.specs.Runs.{run};
-ghost use Rattle.mdp_lines.specs.Spelling.{line};
+ghost use Rattle.mdp_text.specs.Spelling.{line};
 ghost use Rattle.mdp_cert.specs.Spelling.{claim_text, entry_text, run_text, spread_text};
-ghost use Rattle.mdp_lines.specs.Answer.{Keeps};
+ghost use Rattle.mdp_text.specs.Answer.{Keeps};
 
 use crate::claim::Claim;
 use crate::claim_line::{mean_front, reach_front, reward_front, witness_front};
 use crate::entries::Entry;
-use mdp_lines::{push_fraction_end, push_whole, push_word};
 use mdp_num::{Frac, Memory};
+use mdp_text::{push_fraction_end, push_whole, push_word};
 
 /// Appends a blank, the words of an entry and the line's end.
 fn push_entry_end<E: Entry>(out: &mut Vec<u8>, entry: &E) -> Result<(), Memory>

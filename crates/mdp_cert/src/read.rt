@@ -1,9 +1,9 @@
 ghost use Rattle.std.specs.Prelude.{◌≡◌, Ok, IfOk, IfErr, MatchResult};
 ghost use Rattle.mdp_cert.specs.Cert.{plain_claim, plain_body};
 ghost use Rattle.mdp_cert.specs.Plain.{plain};
-ghost use Rattle.mdp_lines.specs.Lines.{place, nothing_behind};
+ghost use Rattle.mdp_text.specs.Lines.{place, nothing_behind};
 ghost use Rattle.mdp_cert.specs.Reading.{body_from, outcome};
-ghost use Rattle.mdp_lines.specs.Answer.{Refuses};
+ghost use Rattle.mdp_text.specs.Answer.{Refuses};
 
 use crate::body::Body;
 use crate::cert::Cert;
@@ -17,8 +17,8 @@ use crate::policy_lines::{reach_cert, reward_cert};
 use crate::state_lines::entries_to_end;
 use crate::version::Version;
 use mdp_farkas::UpperCert;
-use mdp_lines::{CertError, next_line, nothing_behind};
 use mdp_rows::Dir;
+use mdp_text::{CertError, next_line, nothing_behind};
 use std::alloc::Global;
 
 /// Reads the lines from line 5 on, by the claim, with the line `end`, and gives the number of the line behind it and the bytes from there on.

@@ -1,14 +1,14 @@
 ghost use Rattle.std.specs.Prelude.{◌≡◌, ◌+◌, ◌<◌, ◌≤◌, ◌^◌, ◌++◌, Ok, Err, OnOk, IfOk, MatchResult, length};
 ghost use Rattle.std.proofs.Math.ListN.{replicate};
-ghost use Rattle.mdp_lines.specs.Answer.{Refuses};
-ghost use Rattle.mdp_lines.specs.Lines.{place};
-ghost use Rattle.mdp_lines.specs.Words.{words};
+ghost use Rattle.mdp_text.specs.Answer.{Refuses};
+ghost use Rattle.mdp_text.specs.Lines.{place};
+ghost use Rattle.mdp_text.specs.Words.{words};
 ghost use Rattle.mdp_cert.specs.Runs.{run};
 ghost use Rattle.mdp_cert.specs.Reading.{entry_at, state_at, run_at, is_same, line_of_states, longest_at, run_in, entries_from, entries_to_end};
 
 use crate::entries::Entry;
 use crate::version::Version;
-use mdp_lines::{
+use mdp_text::{
     CertError, CertKind, Refusal, begins_with, cut_word, is_line, next_line, refuse_if, whole_at,
     words_behind,
 };

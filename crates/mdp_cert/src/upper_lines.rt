@@ -2,8 +2,8 @@ ghost use Rattle.mdp_cert.specs.Claims.{bound_columns};
 
 use crate::entries::{Entry, Lists};
 use mdp_farkas::UpperCert;
-use mdp_lines::only_word;
 use mdp_num::{Frac, Memory, read_canonical};
+use mdp_text::only_word;
 
 /// The line of a state for the claim `upper reach`: its upper bound.
 impl Entry for Frac {

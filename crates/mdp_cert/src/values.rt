@@ -1,9 +1,9 @@
 ghost use Rattle.std.specs.Prelude.{◌≡◌, ◌++◌, OnOk};
-ghost use Rattle.mdp_lines.specs.Answer.{Keeps};
+ghost use Rattle.mdp_text.specs.Answer.{Keeps};
 ghost use Rattle.mdp_cert.specs.Claims.{Value, fraction_value, reward_value};
 
-use mdp_lines::reward_of;
 use mdp_num::{Frac, Memory, read_canonical};
+use mdp_text::reward_of;
 
 /// A value that is one word of a line.
 pub(crate) trait Value: Copy + Drop {

@@ -1,9 +1,9 @@
 ghost use Rattle.std.specs.Prelude.{◌≡◌, ◌++◌, ◌+◌, ◌<◌, OnOk, OnErr, length, drop};
 ghost use Rattle.mdp_cert.specs.Cert.{plain_body};
 ghost use Rattle.mdp_cert.specs.Plain.{plain};
-ghost use Rattle.mdp_lines.specs.Spelling.{line};
+ghost use Rattle.mdp_text.specs.Spelling.{line};
 ghost use Rattle.mdp_cert.specs.Spelling.{state_lines, closed_lines, head_text, body_text, version_text, text_in, text_of, old_text_of};
-ghost use Rattle.mdp_lines.specs.Answer.{Keeps};
+ghost use Rattle.mdp_text.specs.Answer.{Keeps};
 ghost use Rattle.mdp_cert.specs.Answer.{same_next, more_same, more_in};
 
 use crate::body::Body;
@@ -12,8 +12,8 @@ use crate::entries::{Entry, Lists};
 use crate::listed::push_listed;
 use crate::push::{push_claim, push_run, push_spread};
 use crate::version::Version;
-use mdp_lines::{push_end, push_init, push_number};
 use mdp_num::Memory;
+use mdp_text::{push_end, push_init, push_number};
 
 /// Appends the line of the version.
 fn push_version(out: &mut Vec<u8>, version: Version) -> Result<(), Memory>

@@ -24,12 +24,12 @@ use Rattle.mdp_rows.specs.declared.dir.Dir.{Dir}
 use Rattle.mdp_rows.specs.declared.dir.Dir.TheVariants.{Max, Min}
 use Rattle.mdp_cert.specs.Cert.{PlainClaim, upper, reach, reward, mean, witness, PlainBody, bounds, policy, rewards, gains, flow, floor, Certificate, is_body_of}
 use Rattle.mdp_cert.proofs.Growth.{policy-entries, reward-entries, gains-entries}
-use Rattle.mdp_flow.specs.declared.flow.Flow.{Flow}
-use Rattle.mdp_flow.specs.FlowChecks.{flow_checks, HoldsFlow}
-use Rattle.mdp_flow.specs.FloorChecks.{floor_checks, HoldsFloor}
-use Rattle.mdp_flow.proofs.FlowRules.{flow_rules, flow_sub_max, flow_within}
-use Rattle.mdp_flow.proofs.FloorRules.{floor_rules, floor_sub_min}
-use Rattle.mdp_lines.specs.declared.init.Init.{Init}
+use Rattle.mdp_subsystem_rules.specs.declared.flow.Flow.{Flow}
+use Rattle.mdp_subsystem_rules.specs.FlowChecks.{flow_checks, HoldsFlow}
+use Rattle.mdp_subsystem_rules.specs.FloorChecks.{floor_checks, HoldsFloor}
+use Rattle.mdp_subsystem_rules.proofs.FlowRules.{flow_rules, flow_sub_max, flow_within}
+use Rattle.mdp_subsystem_rules.proofs.FloorRules.{floor_rules, floor_sub_min}
+use Rattle.mdp_text.specs.declared.init.Init.{Init}
 use Rattle.mdp_check.specs.Initial.{init_check, init_fault, start_of}
 use Rattle.mdp_check.proofs.Shapes.{flow_shape, floor_shape, start_below}
 use Rattle.mdp_check.specs.Check.{reward_place, labelled_marks, goal_marks, answer_of, verdict_by, body_verdict, after_init, at_goals, at_reward, answer_to, valid_by, IsAccepted, bound_by, IsBound}

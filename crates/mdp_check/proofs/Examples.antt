@@ -8,8 +8,8 @@ use Rattle.mdp_math.specs.Written.{narrow, narrow_ℚ, written_add, written_mul,
 use Rattle.mdp_spec.specs.Mdp.{Entry, Choice, Mdp}
 use Rattle.mdp_rows.specs.declared.dir.Dir.{Dir}
 use Rattle.mdp_rows.specs.declared.dir.Dir.TheVariants.{Max, Min}
-use Rattle.mdp_lines.specs.declared.init.Init.{Init}
-use Rattle.mdp_lines.specs.declared.init.Init.TheVariants.{Missing, Finite, Infinite, Start}
+use Rattle.mdp_text.specs.declared.init.Init.{Init}
+use Rattle.mdp_text.specs.declared.init.Init.TheVariants.{Missing, Finite, Infinite, Start}
 use Rattle.mdp_cert.specs.Cert.{upper, reach, reward, mean, witness, bounds, policy, rewards, gains, flow, floor, Certificate}
 use Rattle.mdp_check.specs.Check.{answer_to}
 use Rattle.mdp_check.specs.declared.answer.Answer.TheVariants.{Yes, No, NoReward, NoLabel, Size}

@@ -8,14 +8,14 @@ use Rattle.mdp_math.specs.Rational.{ℚ}
 use Rattle.mdp_rows.specs.declared.dir.Dir.{Dir}
 use Rattle.mdp_spec.specs.Mdp.{Mdp, states_of}
 use Rattle.mdp_spec.specs.Labels.{initial_of}
-use Rattle.mdp_lines.proofs.InitialState.{initial_below}
-use Rattle.mdp_lines.specs.declared.init.Init.{Init}
-use Rattle.mdp_lines.specs.declared.init.Init.TheVariants.{Missing, Finite, Infinite, Start}
+use Rattle.mdp_text.proofs.InitialState.{initial_below}
+use Rattle.mdp_text.specs.declared.init.Init.{Init}
+use Rattle.mdp_text.specs.declared.init.Init.TheVariants.{Missing, Finite, Infinite, Start}
 use Rattle.mdp_cert.specs.Cert.{witness, PlainBody, bounds, policy, rewards, gains, flow, floor, is_init_of, are_kept, are_flows}
 use Rattle.mdp_farkas.specs.declared.verdict.Verdict.TheVariants as verdict
-use Rattle.mdp_flow.specs.declared.flow.Flow.{Flow}
-use Rattle.mdp_flow.specs.Kept.{Ascends}
-use Rattle.mdp_flow.specs.Shape.{is_before, no_flow, FlowsAscend, IsFlowShape, IsFloorShape}
+use Rattle.mdp_subsystem_rules.specs.declared.flow.Flow.{Flow}
+use Rattle.mdp_subsystem_rules.specs.Kept.{Ascends}
+use Rattle.mdp_subsystem_rules.specs.Shape.{is_before, no_flow, FlowsAscend, IsFlowShape, IsFloorShape}
 use Rattle.mdp_check.specs.Initial.{init_check, init_fault, state_check, start_of, is_subsystem, has_value}
 
 -- ---- kept states

@@ -11,10 +11,10 @@ use Rattle.mdp_farkas.specs.Reach.{reach_checks, IsReach}
 use Rattle.mdp_farkas.specs.Reward.{reward_checks, IsReward}
 use Rattle.mdp_farkas.specs.Mean.{mean_checks, IsMean}
 use Rattle.mdp_farkas.specs.Verdict.{verdict_of}
-use Rattle.mdp_flow.specs.Flow.{flow_total}
-use Rattle.mdp_flow.specs.Kept.{kept_marks}
-use Rattle.mdp_flow.specs.FlowChecks.{flow_checks, HoldsFlow}
-use Rattle.mdp_flow.specs.FloorChecks.{floor_checks, HoldsFloor}
+use Rattle.mdp_subsystem_rules.specs.Flow.{flow_total}
+use Rattle.mdp_subsystem_rules.specs.Kept.{kept_marks}
+use Rattle.mdp_subsystem_rules.specs.FlowChecks.{flow_checks, HoldsFlow}
+use Rattle.mdp_subsystem_rules.specs.FloorChecks.{floor_checks, HoldsFloor}
 use Rattle.mdp_farkas.specs.declared.verdict.Verdict.{Verdict}
 use Rattle.mdp_farkas.specs.declared.verdict.Verdict.TheVariants as verdict
 use Rattle.mdp_check.specs.Initial.{init_check, init_fault, start_of}

@@ -6,8 +6,8 @@ use Rattle.mdp_spec.specs.Mdp.{value_at}
 use Rattle.mdp_spec.specs.Bounds.{reward_at}
 use Rattle.mdp_cert.specs.Cert.{PlainBody, bounds, policy, rewards, gains, flow, floor}
 use Rattle.mdp_cert.specs.Claims.{reward_same}
-use Rattle.mdp_lines.specs.declared.init.Init.{Init}
-use Rattle.mdp_lines.specs.declared.init.Init.TheVariants.{Missing, Finite, Infinite, Start}
+use Rattle.mdp_text.specs.declared.init.Init.{Init}
+use Rattle.mdp_text.specs.declared.init.Init.TheVariants.{Missing, Finite, Infinite, Start}
 use Rattle.mdp_farkas.specs.declared.verdict.Verdict.{Verdict}
 use Rattle.mdp_farkas.specs.declared.verdict.Verdict.TheVariants.{Yes, No}
 

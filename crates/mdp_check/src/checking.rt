@@ -9,9 +9,9 @@ use crate::answer::{Answer, answer_of};
 use crate::initial::{init_denied, init_verdict, start_of};
 use mdp_cert::{Body, Cert, Claim};
 use mdp_farkas::{Verdict, holds_mean, holds_reach, holds_reward, holds_upper};
-use mdp_flow::{holds_floor, holds_flow};
 use mdp_num::Memory;
 use mdp_rows::{Dir, Marks, Model};
+use mdp_subsystem_rules::{holds_floor, holds_flow};
 use std::alloc::Global;
 
 /// The place of the claim's reward model in the model, where it is there; 0 where the claim names none.

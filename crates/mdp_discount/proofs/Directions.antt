@@ -7,7 +7,7 @@ use Rattle.mdp_math.proofs.Linear.{linear, known, at_most}
 use Rattle.mdp_math.proofs.Order.{0ℚ, ≤ℚ_refl, ≤ℚ_trans, ≤ℚ_of_eq, ≤ℚ_antisymm, mul-le-mul_left_ℚ}
 use Rattle.mdp_math.proofs.SumsAt.{sum_at-le, sum_at-weighted_le, sum_at-weighted_ge}
 use Rattle.mdp_rows.specs.declared.dir.Dir.{Dir}
-use Rattle.mdp_path.specs.Values.{IsAsGood}
+use Rattle.mdp_policy_iteration.specs.Values.{IsAsGood}
 use Rattle.mdp_rows.specs.declared.dir.Dir.TheVariants.{Max, Min}
 
 -- x is no better than y: at most y for the greatest, at least y for the least

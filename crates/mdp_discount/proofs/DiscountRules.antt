@@ -25,7 +25,7 @@ use Rattle.mdp_farkas.proofs.Asking.{asked_holds, asked_sound}
 use Rattle.mdp_farkas.proofs.Summing.{written_sum-some}
 use Rattle.mdp_rows.specs.declared.dir.Dir.{Dir}
 use Rattle.mdp_rows.specs.declared.dir.Dir.TheVariants.{Max, Min}
-use Rattle.mdp_path.specs.Values.{IsAsGood}
+use Rattle.mdp_policy_iteration.specs.Values.{IsAsGood}
 use Rattle.mdp_discount.specs.Rules.{IsFactor, discounted, magnitude, MeetsDiscount}
 use Rattle.mdp_discount.specs.Bounds.{DiscountBound}
 use Rattle.mdp_discount.specs.Checks.{written_discounted, covers_check, reached_check, checks_at, written_greatest, remainder_check}

@@ -7,7 +7,7 @@ use Rattle.mdp_math.proofs.Booleans.{and-parts}
 use Rattle.mdp_spec.specs.Mdp.{value_at}
 use Rattle.mdp_rows.specs.Name.{IsName, IsRewardName}
 use Rattle.mdp_discount.specs.Cert.{is_init}
-use Rattle.mdp_lines.specs.Heads.{init_by}
+use Rattle.mdp_text.specs.Heads.{init_by}
 
 none_of : (bytes : List ℕ) → list_any (λ b. eqb b 32 || eqb b 9 || eqb b 13 || eqb b 34 || eqb b 10) bytes ≡ false → list_any (λ b. eqb b 34 || eqb b 10) bytes ≡ false
 none_of [] h = refl

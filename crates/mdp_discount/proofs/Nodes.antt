@@ -16,10 +16,10 @@ use Rattle.mdp_spec.specs.Mdp as model
 use Rattle.mdp_spec.specs.Row.{IsMdp, row_sum}
 use Rattle.mdp_spec.specs.Unit.{reward_of}
 use Rattle.mdp_rows.specs.declared.dir.Dir.{Dir}
-use Rattle.mdp_path.specs.Problem.{Problem, Node, given, Choice, Move, go, stop, worth, no_choice, count, node_at, choices_of, choice_at, goes_on, amount, row_from, move_by, fits_by}
-use Rattle.mdp_path.specs.Problem.{LeadsWithin, IsProblem, IsCandidate}
-use Rattle.mdp_path.specs.Problem as path
-use Rattle.mdp_path.specs.Code.{CanTake, move_at, fits_at}
+use Rattle.mdp_policy_iteration.specs.Problem.{Problem, Node, given, Choice, Move, go, stop, worth, no_choice, count, node_at, choices_of, choice_at, goes_on, amount, row_from, move_by, fits_by}
+use Rattle.mdp_policy_iteration.specs.Problem.{LeadsWithin, IsProblem, IsCandidate}
+use Rattle.mdp_policy_iteration.specs.Problem as path
+use Rattle.mdp_policy_iteration.specs.Code.{CanTake, move_at, fits_at}
 use Rattle.mdp_discount.specs.Rules.{IsFactor, discounted}
 use Rattle.mdp_discount.specs.Checks.{written_discounted}
 use Rattle.mdp_discount.specs.Problem.{0ℚ, 1ℚ, discounted_row, row_fits, discount_choice, discount_node, discount_problem}

@@ -4,11 +4,11 @@ use Rattle.std.proofs.lemmas.List.{ext_get_or}
 use Rattle.mdp_math.specs.Rational.{ℚ}
 use Rattle.mdp_spec.specs.Mdp.{Mdp, states_of}
 use Rattle.mdp_rows.specs.declared.dir.Dir.{Dir}
-use Rattle.mdp_path.specs.Path.{Found, Refusal, path_step}
-use Rattle.mdp_path.specs.Laws.{EndsAtBest, first}
-use Rattle.mdp_path.specs.Iteration.{EndsWith}
-use Rattle.mdp_path.specs.Queries.{WideTerm}
-use Rattle.mdp_path.proofs.Iterations.{one_end}
+use Rattle.mdp_policy_iteration.specs.Path.{Found, Refusal, path_step}
+use Rattle.mdp_policy_iteration.specs.Laws.{EndsAtBest, first}
+use Rattle.mdp_policy_iteration.specs.Iteration.{EndsWith}
+use Rattle.mdp_policy_iteration.specs.Queries.{WideTerm}
+use Rattle.mdp_policy_iteration.proofs.Iterations.{one_end}
 use Rattle.mdp_farkas.specs.Verdict.{verdict_of}
 use Rattle.mdp_farkas.specs.declared.verdict.Verdict.{Verdict}
 use Rattle.mdp_farkas.specs.declared.verdict.Verdict.TheVariants.{Yes, No, Wide}

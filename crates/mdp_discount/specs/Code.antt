@@ -9,14 +9,14 @@ use Rattle.mdp_elim.specs.declared.too_wide.Kind.{Kind}
 use Rattle.mdp_elim.specs.declared.too_wide.Part.TheVariants.{Whole}
 use Rattle.mdp_elim.specs.declared.too_wide.SolveError.{SolveError}
 use Rattle.mdp_elim.specs.declared.too_wide.SolveError.TheVariants as solve
-use Rattle.mdp_path.specs.Iteration.{EndsWith}
-use Rattle.mdp_path.specs.Path.{Found, Refusal, path_step}
-use Rattle.mdp_path.specs.Laws.{first}
-use Rattle.mdp_path.specs.Values.{IsAsGood}
-use Rattle.mdp_path.specs.Ends.{capped}
-use Rattle.mdp_path.specs.Queries.{shown, term_of}
-use Rattle.mdp_path.specs.declared.solution.Solution.{Solution}
-use Rattle.mdp_path.specs.declared.solution.WideAt.{WideAt}
+use Rattle.mdp_policy_iteration.specs.Iteration.{EndsWith}
+use Rattle.mdp_policy_iteration.specs.Path.{Found, Refusal, path_step}
+use Rattle.mdp_policy_iteration.specs.Laws.{first}
+use Rattle.mdp_policy_iteration.specs.Values.{IsAsGood}
+use Rattle.mdp_policy_iteration.specs.Ends.{capped}
+use Rattle.mdp_policy_iteration.specs.Queries.{shown, term_of}
+use Rattle.mdp_policy_iteration.specs.declared.solution.Solution.{Solution}
+use Rattle.mdp_policy_iteration.specs.declared.solution.WideAt.{WideAt}
 use Rattle.mdp_discount.specs.Rules.{discounted}
 use Rattle.mdp_discount.specs.Problem.{discount_problem}
 use Rattle.mdp_discount.specs.Query.{start_of, cut_found, cut_refusal}

@@ -4,7 +4,7 @@ use Rattle.mdp_math.specs.Rational.{ℚ}
 use Rattle.mdp_spec.specs.Mdp.{Mdp}
 use Rattle.mdp_spec.specs.Row.{IsMdp}
 use Rattle.mdp_rows.specs.declared.dir.Dir.{Dir}
-use Rattle.mdp_path.specs.Queries.{WideTerm}
+use Rattle.mdp_policy_iteration.specs.Queries.{WideTerm}
 use Rattle.mdp_discount.specs.Rules.{IsFactor, MeetsDiscount}
 use Rattle.mdp_discount.specs.Bounds.{DiscountBound}
 use Rattle.mdp_discount.specs.Checks.{IsDiscount}

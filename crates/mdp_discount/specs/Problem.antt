@@ -11,7 +11,7 @@ use Rattle.mdp_num.specs.Written.{written_sub}
 use Rattle.mdp_spec.specs.Mdp.{Entry, Mdp, states_of, choices_at, choice_at, row_at, value_at}
 use Rattle.mdp_spec.specs.Unit.{reward_of}
 use Rattle.mdp_rows.specs.declared.dir.Dir.{Dir}
-use Rattle.mdp_path.specs.Problem.{Problem, Node, given, decision, Choice, go}
+use Rattle.mdp_policy_iteration.specs.Problem.{Problem, Node, given, decision, Choice, go}
 use Rattle.mdp_discount.specs.Checks.{written_discounted}
 
 abbrev pub 0ℚ : ℚ

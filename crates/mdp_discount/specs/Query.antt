@@ -6,14 +6,14 @@ use Rattle.mdp_spec.specs.Labels.{initial_of}
 use Rattle.mdp_rows.specs.declared.dir.Dir.{Dir}
 use Rattle.mdp_elim.specs.declared.too_wide.Part.TheVariants.{Whole}
 use Rattle.mdp_elim.specs.declared.too_wide.Kind.TheVariants.{Compare}
-use Rattle.mdp_path.specs.Iteration.{EndsWith}
-use Rattle.mdp_path.specs.Path.{Found, Refusal, path_step}
-use Rattle.mdp_path.specs.Laws.{first}
-use Rattle.mdp_path.specs.Queries.{WideTerm, term_of, term_of_check}
+use Rattle.mdp_policy_iteration.specs.Iteration.{EndsWith}
+use Rattle.mdp_policy_iteration.specs.Path.{Found, Refusal, path_step}
+use Rattle.mdp_policy_iteration.specs.Laws.{first}
+use Rattle.mdp_policy_iteration.specs.Queries.{WideTerm, term_of, term_of_check}
 use Rattle.mdp_farkas.specs.Verdict.{verdict_of}
 use Rattle.mdp_farkas.specs.declared.verdict.Verdict.{Verdict}
 use Rattle.mdp_farkas.specs.declared.verdict.Verdict.TheVariants.{Yes, No, Wide}
-use Rattle.mdp_lines.specs.Heads.{init_by}
+use Rattle.mdp_text.specs.Heads.{init_by}
 use Rattle.mdp_discount.specs.Checks.{written_greatest, discount_checks}
 use Rattle.mdp_discount.specs.Problem.{discount_problem}
 use Rattle.mdp_discount.specs.Cert.{Certificate}

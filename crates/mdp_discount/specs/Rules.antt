@@ -8,7 +8,7 @@ use Rattle.mdp_spec.specs.Row.{row_sum}
 use Rattle.mdp_spec.specs.Unit.{reward_of}
 use Rattle.mdp_spec.specs.Tree.{IsPolicy}
 use Rattle.mdp_rows.specs.declared.dir.Dir.{Dir}
-use Rattle.mdp_path.specs.Values.{IsAsGood}
+use Rattle.mdp_policy_iteration.specs.Values.{IsAsGood}
 
 -- a discount factor
 pub record IsFactor (f : ℚ) : Type 0 where

@@ -3,9 +3,9 @@ ghost use Rattle.mdp_rows.specs.Name.{is_name};
 ghost use Rattle.mdp_discount.specs.Rules.{IsFactor};
 ghost use Rattle.mdp_discount.specs.Cert.{is_init};
 
-use mdp_lines::Init;
 use mdp_num::Frac;
 use mdp_rows::Dir;
+use mdp_text::Init;
 
 /// A certificate of the discounted reward: that these are the greatest, or the least, rewards of the reward model `name` where a step later counts
 /// `factor` times as much, with a value and a choice for each state, from 1 to 2^20 of them. After n steps no policy is better than the values by

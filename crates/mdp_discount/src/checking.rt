@@ -7,9 +7,9 @@ use crate::answer::{DiscountAnswer, answer_of};
 use crate::cert::DiscountCert;
 use crate::holds::holds_discount;
 use mdp_farkas::{Fault, Verdict};
-use mdp_lines::Init;
 use mdp_num::Frac;
 use mdp_rows::Model;
+use mdp_text::Init;
 
 /// That rule 1 is false, with the state of the line `init`, where it has one.
 fn init_fault(state: Option<u32>) -> Verdict

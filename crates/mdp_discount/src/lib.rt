@@ -18,5 +18,5 @@ pub use checking::check_discount;
 pub use holds::holds_discount;
 pub use laws::discount_law;
 pub use mdp_farkas::Verdict;
-pub use mdp_lines::Init;
+pub use mdp_text::Init;
 pub use solve::solve_discount;

@@ -8,7 +8,7 @@ ghost use Rattle.mdp_discount.specs.ScaledView.{row_in, scaled_row, AreScaled, A
 use crate::earned::earned;
 use crate::scaled::StateRows;
 use mdp_num::{Frac, Wide};
-use mdp_path::ShortestPath;
+use mdp_policy_iteration::ShortestPath;
 use mdp_rows::{Dir, Model, Row};
 
 /// The discounted reward of a name as a shortest path problem: each state goes on by its choices, which earn their rewards and lead by `factor`

@@ -1,7 +1,7 @@
 ghost use Rattle.std.specs.Prelude.{◌≡◌, ◌<◌, ℕ, [], length, slice_index_or, take, IfOk};
-ghost use Rattle.mdp_path.specs.Ends.{capped};
+ghost use Rattle.mdp_policy_iteration.specs.Ends.{capped};
 ghost use Rattle.mdp_elim.specs.declared.too_wide.Part.TheVariants.{Whole};
-ghost use Rattle.mdp_path.specs.Queries.{Solves, shown, term_of};
+ghost use Rattle.mdp_policy_iteration.specs.Queries.{Solves, shown, term_of};
 ghost use Rattle.mdp_discount.specs.Rules.{IsFactor};
 ghost use Rattle.mdp_discount.specs.Bounds.{DiscountBound};
 ghost use Rattle.mdp_discount.specs.Checks.{IsDiscount};
@@ -17,10 +17,10 @@ use crate::scaled::scaled_states;
 use bumpalo::Bump;
 use mdp_elim::{Kind, Part, SolveError, TooWide};
 use mdp_farkas::Verdict;
-use mdp_lines::init_with;
 use mdp_num::Frac;
-use mdp_path::{PathError, Solution, WideAt, improve};
+use mdp_policy_iteration::{PathError, Solution, WideAt, improve};
 use mdp_rows::{Dir, Model};
+use mdp_text::init_with;
 use std::alloc::Global;
 
 /// A policy and its values, of so many states.

@@ -13,12 +13,12 @@ use Rattle.mdp_num.specs.Value.{spelling, IsNarrow}
 use Rattle.mdp_rows.specs.Name.{is_name}
 use Rattle.mdp_rows.specs.declared.dir.Dir.{Dir}
 use Rattle.mdp_rows.specs.declared.dir.Dir.TheVariants.{Max, Min}
-use Rattle.mdp_lines.specs.declared.error.CertKind.TheVariants as kind
-use Rattle.mdp_lines.specs.Lines.{or_refused}
-use Rattle.mdp_lines.specs.Words.{frac_at, behind, is_quote}
-use Rattle.mdp_lines.proofs.Pieces.{Free, free-append, free-name, quote-free-name, free-spelling}
-use Rattle.mdp_lines.proofs.Cuts.{bytes_same, bytes_self}
-use Rattle.mdp_lines.proofs.Feeds.{found_ok, byte-after, frac-found, frac-again}
+use Rattle.mdp_text.specs.declared.error.CertKind.TheVariants as kind
+use Rattle.mdp_text.specs.Lines.{or_refused}
+use Rattle.mdp_text.specs.Words.{frac_at, behind, is_quote}
+use Rattle.mdp_text.proofs.Pieces.{Free, free-append, free-name, quote-free-name, free-spelling}
+use Rattle.mdp_text.proofs.Cuts.{bytes_same, bytes_self}
+use Rattle.mdp_text.proofs.Feeds.{found_ok, byte-after, frac-found, frac-again}
 use Rattle.mdp_discount_text.specs.Spelling.{claim_text}
 use Rattle.mdp_discount_text.specs.Text.{Claim, is_factor, factor_of, name_and_rest, claim_with, claim_front, claim_to, claim_of, claim_at}
 

@@ -7,19 +7,19 @@ use Rattle.std.proofs.lemmas.List.{append-nil}
 use Rattle.mdp_math.specs.Rational.{ℚ}
 use Rattle.mdp_num.specs.Value.{spelling, IsNarrow}
 use Rattle.mdp_rows.specs.Name.{is_name}
-use Rattle.mdp_lines.specs.declared.error.CertKind.TheVariants.{Version, Shape, End}
-use Rattle.mdp_lines.specs.declared.error.Refusal.{Refusal}
-use Rattle.mdp_lines.specs.declared.init.Init.{Init}
-use Rattle.mdp_lines.specs.declared.init.Init.TheVariants.{Missing, Finite, Infinite, Start}
-use Rattle.mdp_lines.specs.Heads.{IsInitInWidth, states_at}
+use Rattle.mdp_text.specs.declared.error.CertKind.TheVariants.{Version, Shape, End}
+use Rattle.mdp_text.specs.declared.error.Refusal.{Refusal}
+use Rattle.mdp_text.specs.declared.init.Init.{Init}
+use Rattle.mdp_text.specs.declared.init.Init.TheVariants.{Missing, Finite, Infinite, Start}
+use Rattle.mdp_text.specs.Heads.{IsInitInWidth, states_at}
 use Rattle.mdp_cert.specs.Cert.{upper, is_init_of}
-use Rattle.mdp_lines.specs.Lines.{◌>>=◌, is_line, Place, place, next_line, line_by, nothing_behind}
-use Rattle.mdp_lines.specs.Words.{first_of, words_behind, frac_at}
-use Rattle.mdp_lines.specs.Spelling.{line, ◌␣◌, states_text, init_text, end_text}
-use Rattle.mdp_lines.proofs.Pieces.{Free, free-spelling}
-use Rattle.mdp_lines.proofs.Feeds.{bind_ok, ok-is, refuse_ok, judged-found, judged-again, due-line, due-again, frac-found, frac-again}
-use Rattle.mdp_lines.proofs.Joined.{free-join, behind-again, behind-text}
-use Rattle.mdp_lines.proofs.States.{one-word, states-found, states-again, free-states}
+use Rattle.mdp_text.specs.Lines.{◌>>=◌, is_line, Place, place, next_line, line_by, nothing_behind}
+use Rattle.mdp_text.specs.Words.{first_of, words_behind, frac_at}
+use Rattle.mdp_text.specs.Spelling.{line, ◌␣◌, states_text, init_text, end_text}
+use Rattle.mdp_text.proofs.Pieces.{Free, free-spelling}
+use Rattle.mdp_text.proofs.Feeds.{bind_ok, ok-is, refuse_ok, judged-found, judged-again, due-line, due-again, frac-found, frac-again}
+use Rattle.mdp_text.proofs.Joined.{free-join, behind-again, behind-text}
+use Rattle.mdp_text.proofs.States.{one-word, states-found, states-again, free-states}
 use Rattle.mdp_cert.proofs.Numbered.{init-found, init-again, free-init}
 use Rattle.mdp_discount.specs.Rules.{IsFactor}
 use Rattle.mdp_discount.specs.Cert.{Certificate, is_init, IsInitNarrow, Fits}

@@ -9,15 +9,15 @@ use Rattle.std.proofs.lemmas.List.Elements.{All-nil, All-cons}
 use Rattle.mdp_math.specs.Rational.{ℚ}
 use Rattle.mdp_math.proofs.Kernel.{All-head, All-tail}
 use Rattle.mdp_num.specs.Value.{spelling, IsNarrow}
-use Rattle.mdp_lines.specs.declared.error.CertKind.TheVariants.{Count}
-use Rattle.mdp_lines.specs.declared.error.Refusal.{Refusal}
-use Rattle.mdp_lines.specs.Lines.{◌>>=◌, refuse_if, Place, place, next_line, line_by}
-use Rattle.mdp_lines.specs.Words.{first_of, words_behind, whole_at, frac_at}
-use Rattle.mdp_lines.specs.Spelling.{line, ◌␣◌}
-use Rattle.mdp_lines.proofs.Pieces.{Free, free-spelling}
-use Rattle.mdp_lines.proofs.Cuts.{number-same, same-number}
-use Rattle.mdp_lines.proofs.Feeds.{bind_ok, ok-is, refuse_ok, judged-found, judged-again, whole-found, whole-again, frac-found, frac-again}
-use Rattle.mdp_lines.proofs.Joined.{free-join, free-whole, behind-again, behind-text}
+use Rattle.mdp_text.specs.declared.error.CertKind.TheVariants.{Count}
+use Rattle.mdp_text.specs.declared.error.Refusal.{Refusal}
+use Rattle.mdp_text.specs.Lines.{◌>>=◌, refuse_if, Place, place, next_line, line_by}
+use Rattle.mdp_text.specs.Words.{first_of, words_behind, whole_at, frac_at}
+use Rattle.mdp_text.specs.Spelling.{line, ◌␣◌}
+use Rattle.mdp_text.proofs.Pieces.{Free, free-spelling}
+use Rattle.mdp_text.proofs.Cuts.{number-same, same-number}
+use Rattle.mdp_text.proofs.Feeds.{bind_ok, ok-is, refuse_ok, judged-found, judged-again, whole-found, whole-again, frac-found, frac-again}
+use Rattle.mdp_text.proofs.Joined.{free-join, free-whole, behind-again, behind-text}
 use Rattle.mdp_discount_text.specs.Spelling.{state_text, state_lines}
 use Rattle.mdp_discount_text.specs.Text.{Columns, state_at, before_others, states_from}
 use Rattle.mdp_discount_text.specs.declared.state_lines.StateLine.{StateLine}

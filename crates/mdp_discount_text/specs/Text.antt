@@ -8,13 +8,13 @@ use Rattle.mdp_num.specs.Canonical.{canonical_of}
 use Rattle.mdp_rows.specs.Name.{is_name}
 use Rattle.mdp_rows.specs.declared.dir.Dir.{Dir}
 use Rattle.mdp_rows.specs.declared.dir.Dir.TheVariants.{Max, Min}
-use Rattle.mdp_lines.specs.declared.error.CertKind.TheVariants as kind
-use Rattle.mdp_lines.specs.declared.error.Refusal.{Refusal}
-use Rattle.mdp_lines.specs.declared.init.Init.{Init}
-use Rattle.mdp_lines.specs.Lines.{◌>>=◌, refuse_if, or_refused, is_line, Place, place, line_by, nothing_behind}
-use Rattle.mdp_lines.specs.Words.{first_of, words_behind, whole_at, frac_at, behind, is_quote}
-use Rattle.mdp_lines.specs.Heads.{states_at, valued_at}
-use Rattle.mdp_lines.specs.Spelling.{end_text}
+use Rattle.mdp_text.specs.declared.error.CertKind.TheVariants as kind
+use Rattle.mdp_text.specs.declared.error.Refusal.{Refusal}
+use Rattle.mdp_text.specs.declared.init.Init.{Init}
+use Rattle.mdp_text.specs.Lines.{◌>>=◌, refuse_if, or_refused, is_line, Place, place, line_by, nothing_behind}
+use Rattle.mdp_text.specs.Words.{first_of, words_behind, whole_at, frac_at, behind, is_quote}
+use Rattle.mdp_text.specs.Heads.{states_at, valued_at}
+use Rattle.mdp_text.specs.Spelling.{end_text}
 use Rattle.mdp_discount_text.specs.Spelling.{version_text}
 use Rattle.mdp_discount.specs.Cert.{Certificate}
 use Rattle.mdp_discount_text.specs.declared.state_lines.StateLine.{StateLine}

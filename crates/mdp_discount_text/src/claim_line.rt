@@ -1,13 +1,13 @@
 ghost use Rattle.std.specs.Prelude.{◌≡◌, Ok, Some, None, IfOk, MatchResult, MatchOption};
 ghost use Rattle.std.specs.Option.{option_map};
 ghost use Rattle.mdp_rows.specs.Name.{is_name};
-ghost use Rattle.mdp_lines.specs.Answer.{Refuses};
+ghost use Rattle.mdp_text.specs.Answer.{Refuses};
 ghost use Rattle.mdp_discount_text.specs.Text.{is_factor, factor_of, name_and_rest, claim_front, claim_names, claim_to, claim_of, claim_at};
 ghost use Rattle.mdp_discount_text.specs.Code.{plain_claim};
 
-use mdp_lines::{CertError, CertKind, before_quote, is_name};
 use mdp_num::{Frac, read_canonical};
 use mdp_rows::Dir;
+use mdp_text::{CertError, CertKind, before_quote, is_name};
 use std::alloc::{AllocError, Global};
 
 /// What the line of the claim says.

@@ -1,15 +1,15 @@
 ghost use Rattle.std.specs.Prelude.{◌≡◌, false, Ok, MatchResult};
-ghost use Rattle.mdp_lines.specs.Answer.{Refuses};
-ghost use Rattle.mdp_lines.specs.Lines.{place};
-ghost use Rattle.mdp_lines.specs.Heads.{states_at};
+ghost use Rattle.mdp_text.specs.Answer.{Refuses};
+ghost use Rattle.mdp_text.specs.Lines.{place};
+ghost use Rattle.mdp_text.specs.Heads.{states_at};
 ghost use Rattle.mdp_discount_text.specs.Text.{remainder_at, head_from};
 ghost use Rattle.mdp_discount_text.specs.Code.{plain_head};
 
 use crate::claim_line::{ClaimLine, claim_at};
-use mdp_lines::{
+use mdp_num::Frac;
+use mdp_text::{
     CertError, Init, Refusal, frac_at, next_line, only_word, states_at, valued_at, words_behind,
 };
-use mdp_num::Frac;
 use std::alloc::Global;
 
 /// What the lines before those of the states say.

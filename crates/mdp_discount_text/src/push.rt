@@ -1,13 +1,13 @@
 ghost use Rattle.std.specs.Prelude.{◌≡◌, ◌++◌, length, OnOk};
-ghost use Rattle.mdp_lines.specs.Answer.{Keeps};
-ghost use Rattle.mdp_lines.specs.Spelling.{line};
+ghost use Rattle.mdp_text.specs.Answer.{Keeps};
+ghost use Rattle.mdp_text.specs.Spelling.{line};
 ghost use Rattle.mdp_discount_text.specs.Spelling.{version_text, claim_text, remainder_text, state_text, state_lines};
 ghost use Rattle.mdp_discount_text.specs.Text.{claim_front};
 
 use crate::claim_line::claim_front;
-use mdp_lines::{push_fraction, push_fraction_end, push_whole, push_word};
 use mdp_num::{Frac, Memory};
 use mdp_rows::Dir;
+use mdp_text::{push_fraction, push_fraction_end, push_whole, push_word};
 
 /// Appends the line of the version.
 pub(crate) fn push_version(out: &mut Vec<u8>) -> Result<(), Memory>

@@ -1,14 +1,14 @@
 ghost use Rattle.std.specs.Prelude.{◌≡◌, ◌+◌, ◌<◌, ◌≤◌, ◌^◌, Ok, IfOk, MatchResult};
-ghost use Rattle.mdp_lines.specs.Answer.{Refuses};
-ghost use Rattle.mdp_lines.specs.Lines.{place};
+ghost use Rattle.mdp_text.specs.Answer.{Refuses};
+ghost use Rattle.mdp_text.specs.Lines.{place};
 ghost use Rattle.mdp_discount_text.specs.Text.{state_at, states_from};
 ghost use Rattle.mdp_discount_text.specs.Code.{plain_columns};
 
-use mdp_lines::{
+use mdp_num::Frac;
+use mdp_text::{
     CertError, CertKind, Refusal, cut_word, frac_at, next_line, only_word, refuse_if, whole_at,
     words_behind,
 };
-use mdp_num::Frac;
 use std::alloc::Global;
 
 /// What the line of a state says.

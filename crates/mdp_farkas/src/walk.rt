@@ -7,10 +7,7 @@ use crate::verdict::Objection;
 use mdp_rows::Model;
 
 /// The checks at each number below `count`, in order: the first objection ends the walk.
-pub fn each_below<F: Fn(u32) -> Result<(), Objection>>(
-    count: u32,
-    at: F,
-) -> Result<(), Objection>
+pub fn each_below<F: Fn(u32) -> Result<(), Objection>>(count: u32, at: F) -> Result<(), Objection>
     requires { (i : ℕ) → i < count → F.pre at i }
     ensures { (checks : ℕ → List Check) → ((i : ℕ) (r : _) → i < count → F.post at i r → r ≡ objection_to (checks i)) → result ≡ objection_to (flat_map checks (range_with_len 0 count)) }
 {

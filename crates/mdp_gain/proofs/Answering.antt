@@ -4,10 +4,10 @@ use Rattle.mdp_math.specs.Rational.{ℚ}
 use Rattle.mdp_math.specs.Result.{◌>>=◌}
 use Rattle.mdp_num.specs.declared.errors.Wide.{Wide}
 use Rattle.mdp_elim.specs.declared.too_wide.Kind.{Kind}
-use Rattle.mdp_path.specs.Places.{Place, at_place}
-use Rattle.mdp_path.specs.Candidates.{Best}
+use Rattle.mdp_policy_iteration.specs.Places.{Place, at_place}
+use Rattle.mdp_policy_iteration.specs.Candidates.{Best}
 use Rattle.std.specs.Prelude.{slice_index}
-use Rattle.mdp_path.specs.Path.{comparing, or_kept}
+use Rattle.mdp_policy_iteration.specs.Path.{comparing, or_kept}
 use Rattle.mdp_unichain.specs.Component.{Component, choices_at, choice_at}
 use Rattle.mdp_unichain.specs.Sums.{compared}
 use Rattle.mdp_unichain.specs.Written.{then_compared, best_of, choice_over}

@@ -11,7 +11,7 @@ use Rattle.mdp_elim.specs.System.{Leaves}
 use Rattle.mdp_elim.specs.Solve.{written_solution}
 use Rattle.mdp_elim.specs.Laws.{GivesSolutions}
 use Rattle.mdp_unichain.specs.Evaluation.{mean}
-use Rattle.mdp_path.specs.Path.{placed}
+use Rattle.mdp_policy_iteration.specs.Path.{placed}
 use Rattle.mdp_unichain.specs.Chain.{AllLeadTo}
 use Rattle.mdp_unichain.specs.Component.{count, is_state, row_by, IsPolicy, IsComponent}
 use Rattle.mdp_unichain.specs.Written.{active_of, columns_of, written_columns}

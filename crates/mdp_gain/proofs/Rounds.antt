@@ -3,10 +3,10 @@ use Rattle.std.proofs.Common.{◌≡◌, ◌≢◌, ℕ, ◌+◌, ◌-◌, ◌<�
 use Rattle.std.specs.Global.{Global}
 use Rattle.mdp_spec.specs.Mdp.{value_at}
 use Rattle.mdp_elim.specs.Laws.{GivesSolutions}
-use Rattle.mdp_path.specs.Iteration.{Step, next, done, refused}
-use Rattle.mdp_path.specs.Path.{Round, Refusal}
-use Rattle.mdp_path.specs.Places.{Place}
-use Rattle.mdp_path.specs.Laws.{first}
+use Rattle.mdp_policy_iteration.specs.Iteration.{Step, next, done, refused}
+use Rattle.mdp_policy_iteration.specs.Path.{Round, Refusal}
+use Rattle.mdp_policy_iteration.specs.Places.{Place}
+use Rattle.mdp_policy_iteration.specs.Laws.{first}
 use Rattle.mdp_unichain.specs.Chain.{IsReference}
 use Rattle.mdp_unichain.specs.Component.{Component, count, is_state, row_by, IsComponent}
 use Rattle.mdp_unichain.specs.Iteration.{EndsWith}

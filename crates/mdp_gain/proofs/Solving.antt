@@ -9,10 +9,10 @@ use Rattle.mdp_rows.specs.declared.dir.Dir.{Dir}
 use Rattle.mdp_elim.specs.declared.too_wide.Kind.{Kind}
 use Rattle.mdp_elim.specs.declared.too_wide.Part.TheVariants.{Inner}
 use Rattle.mdp_ends.specs.Ends.{in_part}
-use Rattle.mdp_path.specs.Ends.{error_of_part}
-use Rattle.mdp_path.specs.Queries.{WideTerm, Solves}
-use Rattle.mdp_path.specs.declared.solution.PathError.{PathError}
-use Rattle.mdp_path.specs.declared.solution.PathError.TheVariants as error
+use Rattle.mdp_policy_iteration.specs.Ends.{error_of_part}
+use Rattle.mdp_policy_iteration.specs.Queries.{WideTerm, Solves}
+use Rattle.mdp_policy_iteration.specs.declared.solution.PathError.{PathError}
+use Rattle.mdp_policy_iteration.specs.declared.solution.PathError.TheVariants as error
 use Rattle.mdp_unichain.specs.Component.{Component, count, is_state}
 use Rattle.mdp_unichain.specs.Part.{IsPart, members, inner_component}
 use Rattle.mdp_unichain.specs.Path.{IsFirst}

@@ -9,9 +9,9 @@ use Rattle.mdp_num.specs.declared.errors.Wide.{Wide}
 use Rattle.mdp_elim.specs.declared.too_wide.Kind.TheVariants.{Evaluate}
 use Rattle.mdp_spec.specs.Mdp.{Entry, value_at}
 use Rattle.mdp_spec.specs.Written.{written_sum}
-use Rattle.mdp_path.specs.Places.{Place, at_place}
-use Rattle.mdp_path.specs.Path.{evaluating}
-use Rattle.mdp_path.proofs.Compares.{written_sum-is}
+use Rattle.mdp_policy_iteration.specs.Places.{Place, at_place}
+use Rattle.mdp_policy_iteration.specs.Path.{evaluating}
+use Rattle.mdp_policy_iteration.proofs.Compares.{written_sum-is}
 use Rattle.mdp_unichain.specs.Component.{Component, is_state}
 use Rattle.mdp_unichain.specs.Evaluation.{active, mean}
 use Rattle.mdp_unichain.specs.Sums.{written_bias}

@@ -5,12 +5,12 @@ use Rattle.std.specs.List.{All, range_with_len}
 use Rattle.mdp_graph.specs.Sets.{marked}
 use Rattle.mdp_ends.specs.Ends.{count_of}
 use Rattle.mdp_parts.specs.FoundEnds.{AreEndsOf}
-use Rattle.mdp_path.specs.Iteration.{next, done, refused}
-use Rattle.mdp_path.specs.Candidates.{Best}
-use Rattle.mdp_path.specs.Laws.{first}
-use Rattle.mdp_path.specs.Ends.{capped}
-use Rattle.mdp_path.specs.declared.solution.PathError.{PathError}
-use Rattle.mdp_path.specs.declared.solution.PathError.TheVariants as error
+use Rattle.mdp_policy_iteration.specs.Iteration.{next, done, refused}
+use Rattle.mdp_policy_iteration.specs.Candidates.{Best}
+use Rattle.mdp_policy_iteration.specs.Laws.{first}
+use Rattle.mdp_policy_iteration.specs.Ends.{capped}
+use Rattle.mdp_policy_iteration.specs.declared.solution.PathError.{PathError}
+use Rattle.mdp_policy_iteration.specs.declared.solution.PathError.TheVariants as error
 use Rattle.mdp_unichain.specs.Component.{Component, count}
 use Rattle.mdp_unichain.specs.Written as written
 use Rattle.mdp_unichain.specs.Iteration.{EndsWith}

@@ -2,7 +2,7 @@
 use Rattle.std.specs.Prelude.{◌≡◌, ℕ, Result, Ok, Err}
 use Rattle.mdp_elim.specs.declared.too_wide.Kind.{Kind}
 use Rattle.mdp_num.specs.declared.errors.Wide.{Wide}
-use Rattle.mdp_path.specs.Places.{Place}
+use Rattle.mdp_policy_iteration.specs.Places.{Place}
 use Rattle.mdp_gain.specs.declared.errors.RoundError.{RoundError}
 use Rattle.mdp_gain.specs.declared.errors.RoundError.TheVariants as fault
 

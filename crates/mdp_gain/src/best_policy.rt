@@ -8,7 +8,7 @@ use crate::errors::RoundError;
 use crate::evaluation::Values;
 use crate::round::{RoundEnd, round_of};
 use mdp_elim::solution_law;
-use mdp_path::{PathError, WideAt};
+use mdp_policy_iteration::{PathError, WideAt};
 use std::alloc::Global;
 
 /// The last policy of the path, with its gain and biases.

@@ -1,7 +1,7 @@
 ghost use Rattle.std.specs.Prelude.{◌≡◌, ◌<◌, length, Some, None, IfOk, IfErr};
 ghost use Rattle.mdp_elim.specs.declared.too_wide.Kind.TheVariants.{Compare};
-ghost use Rattle.mdp_path.specs.Candidates.{is_better};
-ghost use Rattle.mdp_path.specs.Path.{or_kept};
+ghost use Rattle.mdp_policy_iteration.specs.Candidates.{is_better};
+ghost use Rattle.mdp_policy_iteration.specs.Path.{or_kept};
 ghost use Rattle.mdp_unichain.specs.Component.{count, choices_at, choice_at, IsPolicy};
 ghost use Rattle.mdp_unichain.specs.Sums.{compared};
 ghost use Rattle.mdp_unichain.specs.Written.{choice_over, improved_choice, improved_at, written_improved};

@@ -3,7 +3,7 @@ ghost use Rattle.std.specs.List.{All, range_with_len};
 ghost use Rattle.mdp_spec.specs.Mdp.{value_at};
 ghost use Rattle.mdp_ends.specs.Ends.{count_of};
 ghost use Rattle.mdp_parts.specs.FoundEnds.{AreEndsOf};
-ghost use Rattle.mdp_path.specs.Queries.{Solves};
+ghost use Rattle.mdp_policy_iteration.specs.Queries.{Solves};
 ghost use Rattle.mdp_unichain.specs.Component.{count, is_state};
 ghost use Rattle.mdp_gain.specs.Code.{IsGiven, component_in, values_in, FitsStates, AtStates, answer_at};
 ghost use Rattle.mdp_gain.specs.Query.{plain, EndsSo};
@@ -16,7 +16,7 @@ use crate::start::start_of;
 use mdp_elim::{Part, SolveError, solution_law};
 use mdp_num::Frac;
 use mdp_parts::Ends;
-use mdp_path::{PathError, WideAt};
+use mdp_policy_iteration::{PathError, WideAt};
 use mdp_rows::{Dir, Model};
 use std::alloc::{AllocError, Global};
 

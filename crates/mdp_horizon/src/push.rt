@@ -1,12 +1,12 @@
 ghost use Rattle.std.specs.Prelude.{◌≡◌, ◌<◌, ◌++◌, codes, OnOk};
-ghost use Rattle.mdp_lines.specs.Answer.{Keeps};
-ghost use Rattle.mdp_lines.specs.Spelling.{line, dir_text};
+ghost use Rattle.mdp_text.specs.Answer.{Keeps};
+ghost use Rattle.mdp_text.specs.Spelling.{line, dir_text};
 ghost use Rattle.mdp_horizon.specs.Spelling.{version_text, claim_text, choice_words, step_text, step_lines};
 ghost use Rattle.mdp_horizon.specs.Answer.{lists};
 
-use mdp_lines::{push_whole, push_word};
 use mdp_num::Memory;
 use mdp_rows::Dir;
+use mdp_text::{push_whole, push_word};
 
 /// The word of a direction, with the blanks around it.
 fn front_of(dir: Dir) -> &'static [u8]

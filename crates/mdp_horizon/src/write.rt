@@ -1,14 +1,14 @@
 ghost use Rattle.std.specs.Prelude.{◌≡◌, ◌++◌, length, OnOk, OnErr};
 ghost use Rattle.mdp_spec.specs.Mdp.{states_of};
-ghost use Rattle.mdp_lines.specs.Answer.{Keeps};
+ghost use Rattle.mdp_text.specs.Answer.{Keeps};
 ghost use Rattle.mdp_horizon.specs.Spelling.{head_text, until_text};
 ghost use Rattle.mdp_horizon.specs.Answer.{plain};
 
 use crate::bounded::Bounded;
 use crate::push::{push_claim, push_steps, push_version};
-use mdp_lines::{init_with, push_end, push_init, push_number, push_values};
 use mdp_num::Memory;
 use mdp_rows::{Dir, Model};
+use mdp_text::{init_with, push_end, push_init, push_number, push_values};
 
 /// Appends the lines before those of the states.
 fn push_head(

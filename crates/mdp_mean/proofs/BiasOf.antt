@@ -18,9 +18,9 @@ use Rattle.mdp_num.specs.Written.{written_sub}
 use Rattle.mdp_elim.specs.System.{is_active, row_of, IsSolution, SolveEach, Leaves}
 use Rattle.mdp_elim.specs.Solve.{written_solution}
 use Rattle.mdp_elim.proofs.OneSolution.{gives_solutions}
-use Rattle.mdp_path.specs.Path.{outer}
-use Rattle.mdp_path.specs.Places.{up_to}
-use Rattle.mdp_path.proofs.Results.{ok_same, ok_part, place_part, IsUpTo, up_to-is}
+use Rattle.mdp_policy_iteration.specs.Path.{outer}
+use Rattle.mdp_policy_iteration.specs.Places.{up_to}
+use Rattle.mdp_policy_iteration.proofs.Results.{ok_same, ok_part, place_part, IsUpTo, up_to-is}
 use Rattle.mdp_farkas.specs.Compare.{0ℚ}
 use Rattle.mdp_farkas.proofs.Summing.{written_sum-some}
 use Rattle.mdp_mean.specs.Terms.{Joining, reward_at, constant_by}

@@ -6,14 +6,14 @@ use Rattle.mdp_spec.specs.Mdp.{Mdp, states_of}
 use Rattle.mdp_spec.proofs.Mean.{mean_max_of_rules, mean_min_of_rules}
 use Rattle.mdp_rows.specs.declared.dir.Dir.{Dir}
 use Rattle.mdp_rows.specs.declared.dir.Dir.TheVariants.{Max, Min}
-use Rattle.mdp_path.specs.Queries.{WideTerm}
+use Rattle.mdp_policy_iteration.specs.Queries.{WideTerm}
 use Rattle.mdp_ends.specs.Ends.{count_of, AreEnds}
 use Rattle.mdp_quot.specs.Quotient.{Quotient, IsQuotient}
 use Rattle.mdp_gain.specs.Laws as gain
-use Rattle.mdp_exits.specs.Outer as outer
-use Rattle.mdp_exits.specs.OfModel.{IsOfModel}
-use Rattle.mdp_exits.specs.Steps.{StepsEndSo}
-use Rattle.mdp_exits.specs.Laws.{StepsAreLongest, OuterIsBest}
+use Rattle.mdp_quot_exits.specs.Outer as outer
+use Rattle.mdp_quot_exits.specs.OfModel.{IsOfModel}
+use Rattle.mdp_quot_exits.specs.Steps.{StepsEndSo}
+use Rattle.mdp_quot_exits.specs.Laws.{StepsAreLongest, OuterIsBest}
 use Rattle.mdp_farkas.specs.Mean.{MeetsMean, IsMean}
 use Rattle.mdp_farkas.specs.declared.verdict.Verdict.{Verdict}
 use Rattle.mdp_farkas.specs.declared.verdict.Verdict.TheVariants.{Yes, No, Wide}

@@ -17,7 +17,7 @@ use Rattle.mdp_spec.specs.Row.{row_sum}
 use Rattle.mdp_spec.specs.Written.{written_sum}
 use Rattle.mdp_ends.specs.Ends.{is_inside}
 use Rattle.mdp_ends.specs.Join.{IsAsGood, moved_by}
-use Rattle.mdp_path.proofs.Results.{ok_same, ok_part, place_part, IsUpTo, up_to-is}
+use Rattle.mdp_policy_iteration.proofs.Results.{ok_same, ok_part, place_part, IsUpTo, up_to-is}
 use Rattle.mdp_farkas.specs.Compare.{0ℚ}
 use Rattle.mdp_farkas.specs.Spread.{is_better, written_best}
 use Rattle.mdp_farkas.proofs.Summing.{written_sum-some}

@@ -14,9 +14,9 @@ use Rattle.mdp_spec.specs.Unit.{reward_of}
 use Rattle.mdp_rows.specs.declared.dir.Dir.{Dir}
 use Rattle.mdp_rows.specs.declared.dir.Dir.TheVariants.{Max, Min}
 use Rattle.mdp_elim.specs.System.{is_active, Leaves}
-use Rattle.mdp_path.specs.Places.{at_place}
-use Rattle.mdp_path.specs.Values as path
-use Rattle.mdp_path.proofs.Results.{ok_same, ok_part, place_part}
+use Rattle.mdp_policy_iteration.specs.Places.{at_place}
+use Rattle.mdp_policy_iteration.specs.Values as path
+use Rattle.mdp_policy_iteration.proofs.Results.{ok_same, ok_part, place_part}
 use Rattle.mdp_ends.specs.Ends.{part_of, in_part, is_inside, count_of, AreEnds}
 use Rattle.mdp_ends.specs.Quotient.{AreNodes, nodes_in}
 use Rattle.mdp_ends.specs.Selection.{exit_row}
@@ -31,11 +31,11 @@ use Rattle.mdp_ends.proofs.LiftedRules.{choice-kind, lifted_reaches}
 use Rattle.mdp_quot.specs.Quotient.{Quotient, IsQuotient}
 use Rattle.mdp_gain.specs.Query.{Answer}
 use Rattle.mdp_gain.specs.Best.{IsBestInner, IsInnerChoice, bias_at, taken_at, worth_of}
-use Rattle.mdp_exits.specs.Outer.{IsBestOuter}
-use Rattle.mdp_exits.specs.Outer as outer
-use Rattle.mdp_exits.specs.Steps.{IsLongest}
-use Rattle.mdp_exits.proofs.InModel.{outer-policy, node_below, component-is, row-same}
-use Rattle.mdp_exits.proofs.ForJoin.{at_part, at_exit, falls}
+use Rattle.mdp_quot_exits.specs.Outer.{IsBestOuter}
+use Rattle.mdp_quot_exits.specs.Outer as outer
+use Rattle.mdp_quot_exits.specs.Steps.{IsLongest}
+use Rattle.mdp_quot_exits.proofs.InModel.{outer-policy, node_below, component-is, row-same}
+use Rattle.mdp_quot_exits.proofs.ForJoin.{at_part, at_exit, falls}
 use Rattle.mdp_farkas.specs.Mean.{MeetsMean}
 use Rattle.mdp_farkas.specs.Spread.{written_spread}
 use Rattle.mdp_farkas.proofs.Spreading.{written_spread-some}

@@ -7,7 +7,7 @@ use Rattle.mdp_math.specs.Rational.{ℚ}
 use Rattle.mdp_math.proofs.Numbers.{le_or}
 use Rattle.mdp_spec.specs.Mdp.{Mdp, states_of, value_at}
 use Rattle.mdp_rows.specs.declared.dir.Dir.{Dir}
-use Rattle.mdp_path.specs.Queries.{WideTerm}
+use Rattle.mdp_policy_iteration.specs.Queries.{WideTerm}
 use Rattle.mdp_ends.specs.Ends.{part_of, in_part, count_of, AreEnds}
 use Rattle.mdp_ends.specs.Quotient.{nodes_in}
 use Rattle.mdp_ends.proofs.Numbering.{case-number, numbered-below}
@@ -20,8 +20,8 @@ use Rattle.mdp_gain.specs.Query.{Answer}
 use Rattle.mdp_gain.specs.Query as inner
 use Rattle.mdp_gain.specs.Best.{bias_at, taken_at}
 use Rattle.mdp_gain.specs.Laws as gain
-use Rattle.mdp_exits.specs.Outer as outer
-use Rattle.mdp_exits.specs.Laws.{StepsHaveOneEnd, OuterHasOneEnd}
+use Rattle.mdp_quot_exits.specs.Outer as outer
+use Rattle.mdp_quot_exits.specs.Laws.{StepsHaveOneEnd, OuterHasOneEnd}
 use Rattle.mdp_farkas.specs.Compare.{0ℚ}
 use Rattle.mdp_farkas.specs.declared.verdict.Verdict.{Verdict}
 use Rattle.mdp_farkas.specs.declared.verdict.Verdict.TheVariants.{Yes, No, Wide}

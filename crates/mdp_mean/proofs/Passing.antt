@@ -6,11 +6,11 @@ use Rattle.mdp_spec.specs.Mdp.{Mdp}
 use Rattle.mdp_rows.specs.declared.dir.Dir.{Dir}
 use Rattle.mdp_elim.specs.declared.too_wide.SolveError.{SolveError}
 use Rattle.mdp_elim.specs.declared.too_wide.SolveError.TheVariants as solve
-use Rattle.mdp_path.specs.Queries.{Solves, WideTerm}
+use Rattle.mdp_policy_iteration.specs.Queries.{Solves, WideTerm}
 use Rattle.mdp_ends.specs.Ends.{AreEnds}
 use Rattle.mdp_quot.specs.Quotient.{Quotient, IsQuotient}
-use Rattle.mdp_exits.specs.Outer as outer
-use Rattle.mdp_exits.specs.Steps.{StepsEndSo}
+use Rattle.mdp_quot_exits.specs.Outer as outer
+use Rattle.mdp_quot_exits.specs.Steps.{StepsEndSo}
 use Rattle.mdp_farkas.specs.declared.mean.MeanCert.{MeanCert}
 use Rattle.mdp_mean.specs.Terms.{Joining}
 use Rattle.mdp_mean.specs.Join.{Place, Joined, written_join}

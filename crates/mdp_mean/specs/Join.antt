@@ -11,7 +11,7 @@ use Rattle.mdp_elim.specs.System.{is_active}
 use Rattle.mdp_elim.specs.Solve.{written_solution}
 use Rattle.mdp_elim.specs.declared.too_wide.Kind.{Kind}
 use Rattle.mdp_elim.specs.declared.too_wide.Kind.TheVariants.{Evaluate, Compare}
-use Rattle.mdp_path.specs.Places.{at_place, up_to}
+use Rattle.mdp_policy_iteration.specs.Places.{at_place, up_to}
 use Rattle.mdp_ends.specs.Ends.{is_inside}
 use Rattle.mdp_farkas.specs.Compare.{0ℚ}
 use Rattle.mdp_farkas.specs.Spread.{written_spread}

@@ -5,7 +5,7 @@ use Rattle.mdp_spec.specs.Mdp.{Mdp, value_at}
 use Rattle.mdp_gain.specs.Query.{Answer}
 use Rattle.mdp_gain.specs.Best.{entry_of}
 use Rattle.mdp_rows.specs.declared.dir.Dir.{Dir}
-use Rattle.mdp_exits.specs.Outer as outer
+use Rattle.mdp_quot_exits.specs.Outer as outer
 use Rattle.mdp_mean.specs.Terms.{Joining}
 use Rattle.mdp_mean.specs.Query.{joining}
 use Rattle.mdp_mean.specs.Inners as spec

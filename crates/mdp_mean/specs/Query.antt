@@ -9,13 +9,13 @@ use Rattle.mdp_spec.specs.Mdp.{Mdp, states_of, value_at}
 use Rattle.mdp_rows.specs.declared.dir.Dir.{Dir}
 use Rattle.mdp_elim.specs.declared.too_wide.Part.TheVariants as part
 use Rattle.mdp_elim.specs.declared.too_wide.Kind.TheVariants.{Check}
-use Rattle.mdp_path.specs.Queries.{WideTerm}
+use Rattle.mdp_policy_iteration.specs.Queries.{WideTerm}
 use Rattle.mdp_ends.specs.Ends.{AreEnds}
 use Rattle.mdp_ends.specs.Toward.{lifted}
 use Rattle.mdp_quot.specs.Quotient.{Quotient, IsQuotient}
-use Rattle.mdp_exits.specs.Outer.{OuterEndSo}
-use Rattle.mdp_exits.specs.Outer as outer
-use Rattle.mdp_exits.specs.Steps.{StepsEndSo}
+use Rattle.mdp_quot_exits.specs.Outer.{OuterEndSo}
+use Rattle.mdp_quot_exits.specs.Outer as outer
+use Rattle.mdp_quot_exits.specs.Steps.{StepsEndSo}
 use Rattle.mdp_farkas.specs.Mean.{mean_checks}
 use Rattle.mdp_farkas.specs.Verdict.{verdict_of}
 use Rattle.mdp_farkas.specs.declared.mean.MeanCert.{MeanCert}

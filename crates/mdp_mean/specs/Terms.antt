@@ -7,7 +7,7 @@ use Rattle.mdp_num.specs.Written.{written_sub}
 use Rattle.mdp_spec.specs.Mdp.{Mdp, choice_at, row_at, value_at}
 use Rattle.mdp_spec.specs.Unit.{reward_of}
 use Rattle.mdp_spec.specs.Written.{written_sum}
-use Rattle.mdp_path.specs.Path.{outer}
+use Rattle.mdp_policy_iteration.specs.Path.{outer}
 use Rattle.mdp_farkas.specs.Compare.{0ℚ}
 use Rattle.mdp_farkas.specs.Spread.{written_best}
 use Rattle.mdp_rows.specs.declared.dir.Dir.{Dir}

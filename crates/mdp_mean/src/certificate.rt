@@ -3,7 +3,7 @@ ghost use Rattle.mdp_spec.specs.Bounds.{MeanMax, MeanMin};
 ghost use Rattle.mdp_spec.specs.Mdp.{states_of};
 ghost use Rattle.mdp_rows.specs.declared.dir.Dir.TheVariants.{Max, Min};
 ghost use Rattle.mdp_farkas.specs.Mean.{MeetsMean, IsMean};
-ghost use Rattle.mdp_path.specs.Queries.{Solves};
+ghost use Rattle.mdp_policy_iteration.specs.Queries.{Solves};
 ghost use Rattle.mdp_mean.specs.Query.{plain, checked, Held};
 
 use mdp_elim::{Kind, Part, SolveError, TooWide};

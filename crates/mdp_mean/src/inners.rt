@@ -2,7 +2,7 @@ ghost use Rattle.std.specs.Prelude.{ℕ, ◌≡◌, ◌<◌, length, slice_index
 ghost use Rattle.mdp_spec.specs.Mdp.{states_of, value_at};
 ghost use Rattle.mdp_ends.specs.Ends.{count_of};
 ghost use Rattle.mdp_parts.specs.FoundEnds.{AreEndsOf};
-ghost use Rattle.mdp_path.specs.Queries.{Solves};
+ghost use Rattle.mdp_policy_iteration.specs.Queries.{Solves};
 ghost use Rattle.mdp_gain.specs.Best.{entry_of};
 ghost use Rattle.mdp_gain.specs.Query.{plain};
 ghost use Rattle.mdp_mean.specs.Inners.{InnersEndSo};

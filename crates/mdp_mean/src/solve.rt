@@ -3,17 +3,17 @@ ghost use Rattle.mdp_spec.specs.Bounds.{MeanMax, MeanMin};
 ghost use Rattle.mdp_spec.specs.Mdp.{states_of};
 ghost use Rattle.mdp_rows.specs.declared.dir.Dir.TheVariants.{Max, Min};
 ghost use Rattle.mdp_farkas.specs.Mean.{IsMean};
-ghost use Rattle.mdp_path.specs.Queries.{Solves};
+ghost use Rattle.mdp_policy_iteration.specs.Queries.{Solves};
 ghost use Rattle.mdp_mean.specs.Query.{plain, EndsSo};
 
 use crate::inners::all_inners;
 use crate::parts::{Parts, join_parts};
 use bumpalo::Bump;
 use mdp_elim::SolveError;
-use mdp_exits::{best_exits, longest};
 use mdp_farkas::MeanCert;
 use mdp_parts::end_components;
 use mdp_quot::Quotient;
+use mdp_quot_exits::{best_exits, longest};
 use mdp_rows::{Dir, Model};
 use std::alloc::Global;
 

@@ -15,10 +15,10 @@ use Rattle.mdp_spec.specs.Row.{row_sum}
 use Rattle.mdp_spec.specs.Tree.{is_marked}
 use Rattle.mdp_rows.specs.declared.dir.Dir.{Dir}
 use Rattle.mdp_rows.specs.declared.dir.Dir.TheVariants.{Max, Min}
-use Rattle.mdp_path.specs.Candidates.{is_better, Best, judged}
-use Rattle.mdp_path.specs.Path.{comparing}
-use Rattle.mdp_path.specs.Places.{Place}
-use Rattle.mdp_path.proofs.Results.{ok_same, ok_part, place_part}
+use Rattle.mdp_policy_iteration.specs.Candidates.{is_better, Best, judged}
+use Rattle.mdp_policy_iteration.specs.Path.{comparing}
+use Rattle.mdp_policy_iteration.specs.Places.{Place}
+use Rattle.mdp_policy_iteration.proofs.Results.{ok_same, ok_part, place_part}
 use Rattle.mdp_farkas.proofs.Summing.{written_sum-some}
 use Rattle.mdp_policy.specs.Choices.{sum_of_choice, compared}
 use Rattle.mdp_policy.specs.Written.{next_choice, own, best_of, taken_at, change_at, next_state, first_change}

@@ -11,10 +11,10 @@ use Rattle.mdp_spec.specs.Mdp.{Entry, Choice, State, Mdp}
 use Rattle.mdp_elim.specs.Elimination.{divided_rest, plus_equation, eliminated, evaluated}
 use Rattle.mdp_elim.specs.System.{equation_of}
 use Rattle.mdp_elim.specs.declared.too_wide.Kind.TheVariants.{Evaluate, Compare}
-use Rattle.mdp_lines.specs.declared.error.CertKind.TheVariants.{Version, Shape, Number, Count, End}
-use Rattle.mdp_lines.specs.Lines.{refused, next_line, nothing_behind}
-use Rattle.mdp_lines.specs.Words.{words_behind, whole_of, whole_at}
-use Rattle.mdp_lines.specs.Heads.{states_at}
+use Rattle.mdp_text.specs.declared.error.CertKind.TheVariants.{Version, Shape, Number, Count, End}
+use Rattle.mdp_text.specs.Lines.{refused, next_line, nothing_behind}
+use Rattle.mdp_text.specs.Words.{words_behind, whole_of, whole_at}
+use Rattle.mdp_text.specs.Heads.{states_at}
 use Rattle.mdp_policy.specs.Written.{Answer, written_value}
 use Rattle.mdp_policy.specs.Spelling.{changes_text, value_text}
 use Rattle.mdp_policy.specs.Text.{policy_text, choose_at, choices_from, policy_outcome}

@@ -9,8 +9,8 @@ use Rattle.mdp_spec.specs.Tree.{IsPolicy}
 use Rattle.mdp_rows.specs.declared.dir.Dir.TheVariants.{Max, Min}
 use Rattle.mdp_elim.specs.Laws.{GivesSolutions}
 use Rattle.mdp_graph.specs.Laws.{RowsFall, RowsStay}
-use Rattle.mdp_path.specs.Places.{Place}
-use Rattle.mdp_path.proofs.Results.{ok_same, ok_part}
+use Rattle.mdp_policy_iteration.specs.Places.{Place}
+use Rattle.mdp_policy_iteration.proofs.Results.{ok_same, ok_part}
 use Rattle.mdp_reach.specs.Query.{AreMaxRanks}
 use Rattle.mdp_policy.specs.Bounds.{PolicyBound, SomeTreePasses, DeepTreesStayBelow}
 use Rattle.mdp_policy.specs.Written.{Answer, evaluated, first_change, with_changes, written_value}

@@ -25,10 +25,10 @@ use Rattle.mdp_graph.specs.Sets.{marked}
 use Rattle.mdp_graph.specs.Layers.{AreReached, AreLeastRanks}
 use Rattle.mdp_graph.specs.Reach.{row_step}
 use Rattle.mdp_graph.specs.Laws.{RowsFall, RowsStay}
-use Rattle.mdp_path.specs.Path.{outer, evaluating, placed}
-use Rattle.mdp_path.specs.Places.{Place, up_to}
-use Rattle.mdp_path.proofs.Compares.{written_sum-is}
-use Rattle.mdp_path.proofs.Results.{ok_same, ok_part, place_part, IsUpTo, up_to-is}
+use Rattle.mdp_policy_iteration.specs.Path.{outer, evaluating, placed}
+use Rattle.mdp_policy_iteration.specs.Places.{Place, up_to}
+use Rattle.mdp_policy_iteration.proofs.Compares.{written_sum-is}
+use Rattle.mdp_policy_iteration.proofs.Results.{ok_same, ok_part, place_part, IsUpTo, up_to-is}
 use Rattle.mdp_reach.specs.Query.{policy_rows, AreMaxRanks}
 use Rattle.mdp_reach.proofs.Rows.{row-known, goal-along, row-falls, row-stays}
 use Rattle.mdp_policy.specs.Written.{is_under_way, under_way, goal_value, goal_values, constant_of, constant, value_by, values_by, eliminated, solved, evaluated}

@@ -10,8 +10,8 @@ use Rattle.mdp_elim.specs.declared.too_wide.SolveError.{SolveError}
 use Rattle.mdp_elim.specs.declared.too_wide.SolveError.TheVariants as solve
 use Rattle.mdp_graph.specs.Layers.{AreReached}
 use Rattle.mdp_graph.specs.Reach.{row_step}
-use Rattle.mdp_path.specs.Candidates.{Best}
-use Rattle.mdp_path.specs.Places.{Place}
+use Rattle.mdp_policy_iteration.specs.Candidates.{Best}
+use Rattle.mdp_policy_iteration.specs.Places.{Place}
 use Rattle.mdp_reach.specs.Query.{policy_rows}
 use Rattle.mdp_policy.specs.Written.{Answer, written_value}
 use Rattle.mdp_policy.specs.declared.error.PlaceError.{PlaceError}

@@ -5,7 +5,7 @@ use Rattle.mdp_math.specs.Written.{◌>>=◌}
 use Rattle.mdp_spec.specs.Mdp.{Mdp, row_at}
 use Rattle.mdp_spec.specs.Written.{written_sum}
 use Rattle.mdp_rows.specs.declared.dir.Dir.{Dir}
-use Rattle.mdp_path.specs.Candidates.{Best, judged}
+use Rattle.mdp_policy_iteration.specs.Candidates.{Best, judged}
 
 -- the sum of choice c of state s over the values x
 abbrev pub sum_of_choice : Mdp → List ℚ → ℕ → ℕ → Option ℚ

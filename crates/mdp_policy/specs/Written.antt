@@ -10,9 +10,9 @@ use Rattle.mdp_spec.specs.Written.{written_sum}
 use Rattle.mdp_rows.specs.declared.dir.Dir.{Dir}
 use Rattle.mdp_rows.specs.declared.dir.Dir.TheVariants.{Max, Min}
 use Rattle.mdp_elim.specs.Solve.{written_solution}
-use Rattle.mdp_path.specs.Places.{Place, at_place, up_to}
-use Rattle.mdp_path.specs.Candidates.{Best}
-use Rattle.mdp_path.specs.Path.{outer, evaluating, comparing, placed}
+use Rattle.mdp_policy_iteration.specs.Places.{Place, at_place, up_to}
+use Rattle.mdp_policy_iteration.specs.Candidates.{Best}
+use Rattle.mdp_policy_iteration.specs.Path.{outer, evaluating, comparing, placed}
 use Rattle.mdp_reach.specs.Query.{policy_rows}
 use Rattle.mdp_policy.specs.Choices.{compared}
 use Rattle.mdp_policy.specs.declared.value.Change.{Change}

@@ -1,7 +1,7 @@
 ghost use Rattle.std.specs.Prelude.{◌≡◌, ◌<◌, length, Some, None, IfOk, IfErr};
 ghost use Rattle.mdp_spec.specs.Mdp.{states_of, choices_at};
 ghost use Rattle.mdp_elim.specs.declared.too_wide.Kind.TheVariants.{Compare};
-ghost use Rattle.mdp_path.specs.Candidates.{is_better, judged};
+ghost use Rattle.mdp_policy_iteration.specs.Candidates.{is_better, judged};
 ghost use Rattle.mdp_policy.specs.Choices.{sum_of_choice, compared};
 ghost use Rattle.mdp_policy.specs.Written.{taken_at, change_at, best_of, first_change};
 ghost use Rattle.mdp_policy.specs.Answer.{Answers, placed_at, shown};

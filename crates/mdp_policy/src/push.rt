@@ -1,12 +1,12 @@
 ghost use Rattle.std.specs.Prelude.{◌≡◌, ◌<◌, ◌++◌, codes, OnOk};
-ghost use Rattle.mdp_lines.specs.Answer.{Keeps};
-ghost use Rattle.mdp_lines.specs.Spelling.{line, dir_text};
+ghost use Rattle.mdp_text.specs.Answer.{Keeps};
+ghost use Rattle.mdp_text.specs.Spelling.{line, dir_text};
 ghost use Rattle.mdp_policy.specs.Spelling.{version_text, query_text, change_text, improve_text};
 
 use crate::value::Change;
-use mdp_lines::{push_whole, push_word};
 use mdp_num::Memory;
 use mdp_rows::Dir;
+use mdp_text::{push_whole, push_word};
 
 /// The word of a direction, with the blanks around it.
 fn front_of(dir: Dir) -> &'static [u8]

@@ -1,10 +1,10 @@
 ghost use Rattle.std.specs.Prelude.{◌≡◌, ◌+◌, ◌<◌, ◌≤◌, ◌^◌, Ok, IfOk, IfErr, MatchResult};
-ghost use Rattle.mdp_lines.specs.Answer.{Refuses};
-ghost use Rattle.mdp_lines.specs.Lines.{place, nothing_behind};
-ghost use Rattle.mdp_lines.specs.Heads.{states_at};
+ghost use Rattle.mdp_text.specs.Answer.{Refuses};
+ghost use Rattle.mdp_text.specs.Lines.{place, nothing_behind};
+ghost use Rattle.mdp_text.specs.Heads.{states_at};
 ghost use Rattle.mdp_policy.specs.Text.{choose_at, choices_from, policy_outcome};
 
-use mdp_lines::{
+use mdp_text::{
     CertError, CertKind, Refusal, cut_word, is_line, next_line, nothing_behind, only_word,
     refuse_if, states_at, whole_at, words_behind,
 };

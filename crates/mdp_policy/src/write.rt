@@ -1,14 +1,14 @@
 ghost use Rattle.std.specs.Prelude.{◌≡◌, ◌++◌, length, OnOk, OnErr};
 ghost use Rattle.mdp_spec.specs.Mdp.{states_of};
-ghost use Rattle.mdp_lines.specs.Answer.{Keeps};
+ghost use Rattle.mdp_text.specs.Answer.{Keeps};
 ghost use Rattle.mdp_policy.specs.Spelling.{head_text, changes_text, value_text};
 ghost use Rattle.mdp_policy.specs.Answer.{plain};
 
 use crate::push::{push_improve, push_query, push_version};
 use crate::value::PolicyValue;
-use mdp_lines::{init_with, push_end, push_init, push_number, push_values};
 use mdp_num::Memory;
 use mdp_rows::{Dir, Model};
+use mdp_text::{init_with, push_end, push_init, push_number, push_values};
 
 /// Appends the lines of the changes.
 #[tactic(auto, unfolding(crate::specs::Spelling::changes_text))]

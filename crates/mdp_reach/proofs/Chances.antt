@@ -20,10 +20,10 @@ use Rattle.mdp_spec.specs.Row.{IsMdp, IsRow, row_sum}
 use Rattle.mdp_spec.specs.Tree.{is_marked}
 use Rattle.mdp_rows.specs.declared.dir.Dir.{Dir}
 use Rattle.mdp_elim.specs.System.{is_active, row_of}
-use Rattle.mdp_path.specs.Problem.{Problem, count, active_of, rows_of, IsProblem, IsPolicy, worth}
-use Rattle.mdp_path.specs.Values.{IsValue, CanLeave}
-use Rattle.mdp_path.proofs.Chain.{target, prob, active-below, row_active, ChainShrinks, chain-shrinks}
-use Rattle.mdp_path.proofs.Exact.{value-active}
+use Rattle.mdp_policy_iteration.specs.Problem.{Problem, count, active_of, rows_of, IsProblem, IsPolicy, worth}
+use Rattle.mdp_policy_iteration.specs.Values.{IsValue, CanLeave}
+use Rattle.mdp_policy_iteration.proofs.Chain.{target, prob, active-below, row_active, ChainShrinks, chain-shrinks}
+use Rattle.mdp_policy_iteration.proofs.Exact.{value-active}
 use Rattle.mdp_reach.specs.Problem.{reach_problem}
 use Rattle.mdp_reach.proofs.Nodes.{reach-count, reach-known}
 use Rattle.mdp_reach.proofs.Policies.{open_at, is_node, goal-move, closed-move, open-move, open-active, active-open, open-amount}

@@ -7,9 +7,9 @@ use Rattle.mdp_spec.specs.Mdp.{Mdp, State, Choice, Entry}
 use Rattle.mdp_elim.specs.Elimination.{divided_rest, plus_equation, eliminated, evaluated}
 use Rattle.mdp_elim.specs.System.{equation_of}
 use Rattle.mdp_rows.specs.declared.dir.Dir.TheVariants.{Max, Min}
-use Rattle.mdp_path.specs.Iteration.{iterated}
-use Rattle.mdp_path.specs.Path.{Found, Refusal, evaluating, path_step}
-use Rattle.mdp_path.specs.Laws.{first}
+use Rattle.mdp_policy_iteration.specs.Iteration.{iterated}
+use Rattle.mdp_policy_iteration.specs.Path.{Found, Refusal, evaluating, path_step}
+use Rattle.mdp_policy_iteration.specs.Laws.{first}
 use Rattle.mdp_reach.specs.Problem.{reach_problem}
 use Rattle.mdp_reach.specs.Round.{last_round}
 

@@ -9,10 +9,10 @@ use Rattle.mdp_spec.specs.Row.{row_sum}
 use Rattle.mdp_spec.specs.Tree.{is_marked}
 use Rattle.mdp_spec.specs.Tree as tree
 use Rattle.mdp_rows.specs.declared.dir.Dir.{Dir}
-use Rattle.mdp_path.specs.Problem.{Choice, worth, choice_at}
-use Rattle.mdp_path.specs.Problem as path
-use Rattle.mdp_path.specs.Values.{IsAsGood}
-use Rattle.mdp_path.specs.Laws.{IsBestFrom}
+use Rattle.mdp_policy_iteration.specs.Problem.{Choice, worth, choice_at}
+use Rattle.mdp_policy_iteration.specs.Problem as path
+use Rattle.mdp_policy_iteration.specs.Values.{IsAsGood}
+use Rattle.mdp_policy_iteration.specs.Laws.{IsBestFrom}
 use Rattle.mdp_reach.specs.Problem.{reach_problem}
 use Rattle.mdp_reach.proofs.Nodes.{reach-count, reach-choices, reach-choice, reach-candidate}
 use Rattle.mdp_reach.proofs.Policies.{open_at, is_node, goal-node, closed-node, open-choice}

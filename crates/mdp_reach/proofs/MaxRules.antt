@@ -18,9 +18,9 @@ use Rattle.mdp_rows.specs.declared.dir.Dir.TheVariants.{Max}
 use Rattle.mdp_graph.specs.Sets.{marked, can_enter}
 use Rattle.mdp_graph.specs.Layers.{reached}
 use Rattle.mdp_graph.specs.Laws.{RestStays, RowsFall, RowsStay}
-use Rattle.mdp_path.specs.Problem.{Problem}
-use Rattle.mdp_path.specs.Laws.{IsBestFrom}
-use Rattle.mdp_path.proofs.Chain.{target, prob}
+use Rattle.mdp_policy_iteration.specs.Problem.{Problem}
+use Rattle.mdp_policy_iteration.specs.Laws.{IsBestFrom}
+use Rattle.mdp_policy_iteration.proofs.Chain.{target, prob}
 use Rattle.mdp_reach.specs.Problem.{reach_problem}
 use Rattle.mdp_reach.specs.Query.{none_blocked, IsMaxStart, AreMaxRanks}
 use Rattle.mdp_reach.proofs.Policies.{active-open, open-row}

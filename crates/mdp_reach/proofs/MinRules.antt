@@ -20,8 +20,8 @@ use Rattle.mdp_graph.specs.Layers.{reached}
 use Rattle.mdp_graph.specs.Meet.{must_step}
 use Rattle.mdp_graph.specs.Avoid.{keeps}
 use Rattle.mdp_graph.specs.Laws.{RestAvoids}
-use Rattle.mdp_path.specs.Laws.{IsBestFrom}
-use Rattle.mdp_path.proofs.LeavesAgain.{test_of_lt, test_irrefl}
+use Rattle.mdp_policy_iteration.specs.Laws.{IsBestFrom}
+use Rattle.mdp_policy_iteration.proofs.LeavesAgain.{test_of_lt, test_irrefl}
 use Rattle.mdp_reach.specs.Problem.{reach_problem}
 use Rattle.mdp_reach.specs.Query.{IsMinStart, AreMinRanks, ending}
 use Rattle.mdp_reach.proofs.Starts.{least-policy}

@@ -25,7 +25,7 @@ use Rattle.mdp_farkas.specs.declared.verdict.Verdict.TheVariants.{No}
 use Rattle.mdp_farkas.proofs.Holds.{Each, each_append, each_flat, each_map, each_if}
 use Rattle.mdp_farkas.proofs.Comparing.{at_least_of_le, at_most_of_le, equal_of_same}
 use Rattle.mdp_farkas.proofs.Summing.{summed}
-use Rattle.mdp_path.proofs.LeavesAgain.{lt_of_test, test_of_lt}
+use Rattle.mdp_policy_iteration.proofs.LeavesAgain.{lt_of_test, test_of_lt}
 
 -- a check that holds where none of its terms is past width
 abbrev pub Sound : Check → Type 0

@@ -12,11 +12,11 @@ use Rattle.mdp_spec.specs.Tree.{is_marked}
 use Rattle.mdp_spec.specs.Written.{written_sum}
 use Rattle.mdp_rows.specs.declared.dir.Dir.{Dir}
 use Rattle.mdp_rows.specs.declared.dir.Dir.TheVariants.{Max, Min}
-use Rattle.mdp_path.specs.Problem.{Problem, Node, given, Choice, go, worth, no_choice, count, node_at, choices_of, choice_at, goes_on, amount, row_from, move_by, fits_by, LeadsWithin, IsProblem}
-use Rattle.mdp_path.specs.Problem as path
-use Rattle.mdp_path.specs.Values.{EarnsNoGood, KeepsLeaving}
-use Rattle.mdp_path.specs.Code.{CanTake, move_at, fits_at}
-use Rattle.mdp_path.proofs.Compares.{plain-exact}
+use Rattle.mdp_policy_iteration.specs.Problem.{Problem, Node, given, Choice, go, worth, no_choice, count, node_at, choices_of, choice_at, goes_on, amount, row_from, move_by, fits_by, LeadsWithin, IsProblem}
+use Rattle.mdp_policy_iteration.specs.Problem as path
+use Rattle.mdp_policy_iteration.specs.Values.{EarnsNoGood, KeepsLeaving}
+use Rattle.mdp_policy_iteration.specs.Code.{CanTake, move_at, fits_at}
+use Rattle.mdp_policy_iteration.proofs.Compares.{plain-exact}
 use Rattle.mdp_reach.specs.Problem.{is_open, going, node_by, reach_node, reach_problem}
 
 -- ---- a node, by whether its state is a goal and whether it is open

@@ -13,11 +13,11 @@ use Rattle.mdp_graph.specs.Choices.{AreLeast}
 use Rattle.mdp_graph.specs.Reach.{may_step, row_step, falls}
 use Rattle.mdp_graph.specs.Meet.{must_step}
 use Rattle.mdp_graph.specs.Avoid.{keeps}
-use Rattle.mdp_path.specs.Path.{Found, Refusal, path_step}
-use Rattle.mdp_path.specs.Laws.{first}
-use Rattle.mdp_path.specs.Iteration.{EndsWith}
-use Rattle.mdp_path.specs.Queries.{WideTerm}
-use Rattle.mdp_path.proofs.Iterations.{one_end}
+use Rattle.mdp_policy_iteration.specs.Path.{Found, Refusal, path_step}
+use Rattle.mdp_policy_iteration.specs.Laws.{first}
+use Rattle.mdp_policy_iteration.specs.Iteration.{EndsWith}
+use Rattle.mdp_policy_iteration.specs.Queries.{WideTerm}
+use Rattle.mdp_policy_iteration.proofs.Iterations.{one_end}
 use Rattle.mdp_farkas.specs.Verdict.{verdict_of}
 use Rattle.mdp_farkas.specs.Reach.{reach_checks}
 use Rattle.mdp_farkas.specs.declared.verdict.Verdict.{Verdict}

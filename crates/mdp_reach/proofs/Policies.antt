@@ -7,8 +7,8 @@ use Rattle.mdp_spec.specs.Tree.{is_marked}
 use Rattle.mdp_spec.specs.Tree as tree
 use Rattle.mdp_rows.specs.declared.dir.Dir.{Dir}
 use Rattle.mdp_elim.specs.System.{is_active, row_of}
-use Rattle.mdp_path.specs.Problem.{Problem, Node, given, decision, Choice, stop, go, count, node_at, goes_on, amount, row_from, move_by, taken, active_of, rows_of, IsCandidate, IsPolicy}
-use Rattle.mdp_path.proofs.Chain.{row-at, active-at, active-below}
+use Rattle.mdp_policy_iteration.specs.Problem.{Problem, Node, given, decision, Choice, stop, go, count, node_at, goes_on, amount, row_from, move_by, taken, active_of, rows_of, IsCandidate, IsPolicy}
+use Rattle.mdp_policy_iteration.proofs.Chain.{row-at, active-at, active-below}
 use Rattle.mdp_reach.specs.Problem.{is_open, node_by, reach_problem}
 use Rattle.mdp_reach.proofs.Nodes.{goings, going-at, goings-len, reach-count, reach-at}
 

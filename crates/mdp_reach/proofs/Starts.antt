@@ -21,9 +21,9 @@ use Rattle.mdp_graph.specs.Layers.{reached}
 use Rattle.mdp_graph.specs.Choices.{AreLeast}
 use Rattle.mdp_graph.specs.Laws.{policy_step, RestMeets}
 use Rattle.mdp_elim.specs.System.{is_active, row_of}
-use Rattle.mdp_path.specs.Problem.{Problem, active_of, rows_of, IsPolicy}
-use Rattle.mdp_path.specs.Values.{CanLeave}
-use Rattle.mdp_path.specs.Laws.{IsSolvable}
+use Rattle.mdp_policy_iteration.specs.Problem.{Problem, active_of, rows_of, IsPolicy}
+use Rattle.mdp_policy_iteration.specs.Values.{CanLeave}
+use Rattle.mdp_policy_iteration.specs.Laws.{IsSolvable}
 use Rattle.mdp_reach.specs.Problem.{reach_problem}
 use Rattle.mdp_reach.specs.Query.{IsMaxStart, IsMinStart, IsStart}
 use Rattle.mdp_reach.proofs.Nodes.{reach-count, reach-known, reach-keeps}

@@ -8,7 +8,7 @@ use Rattle.mdp_spec.specs.Mdp.{Mdp, states_of, choices_at, row_at}
 use Rattle.mdp_spec.specs.Tree.{is_marked}
 use Rattle.mdp_rows.specs.declared.dir.Dir.{Dir}
 use Rattle.mdp_rows.specs.declared.dir.Dir.TheVariants.{Max, Min}
-use Rattle.mdp_path.specs.Problem.{Problem, Node, given, decision, Choice, go, plain}
+use Rattle.mdp_policy_iteration.specs.Problem.{Problem, Node, given, decision, Choice, go, plain}
 
 -- whether a state that is no goal is open: by the mark that a goal can be reached, or that goals can be avoided
 abbrev pub is_open : Dir → Bool → Bool

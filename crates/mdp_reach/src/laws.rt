@@ -1,7 +1,7 @@
 ghost use Rattle.mdp_reach.specs.Laws.{HasOneEnd, HasOneRound, AnswersMeetRules, AnswersAreGreatest, AnswersAreLeast};
 
 use mdp_graph::{along_law, avoid_law, meet_law, reach_law};
-use mdp_path::path_law;
+use mdp_policy_iteration::path_law;
 
 /// A query of reachability has one end at most, in one round. Where that is an answer, it meets the rules of certificates, no term of its check is past width,
 /// and its values are the greatest, or the least, probabilities of reaching a goal.

@@ -5,7 +5,7 @@ ghost use Rattle.mdp_spec.specs.Tree.{is_marked};
 ghost use Rattle.mdp_reach.specs.Problem.{is_open, reach_problem};
 
 use mdp_num::{Frac, Wide};
-use mdp_path::ShortestPath;
+use mdp_policy_iteration::ShortestPath;
 use mdp_rows::{Dir, Marks, Model, Row};
 
 /// Reaching a goal as a shortest path problem: goals are worth 1, other states that aren't open 0, and an open state goes on by each of its

@@ -3,7 +3,7 @@ ghost use Rattle.mdp_spec.specs.Mdp.{states_of};
 ghost use Rattle.mdp_spec.specs.Bounds.{ReachMax, ReachMin};
 ghost use Rattle.mdp_rows.specs.declared.dir.Dir.TheVariants.{Max, Min};
 ghost use Rattle.mdp_farkas.specs.Reach.{IsReach};
-ghost use Rattle.mdp_path.specs.Queries.{Solves};
+ghost use Rattle.mdp_policy_iteration.specs.Queries.{Solves};
 ghost use Rattle.mdp_reach.specs.Query.{plain, EndsSo};
 ghost use Rattle.mdp_reach.specs.Round.{SolvesToEnd};
 
@@ -13,7 +13,7 @@ use crate::start::start_of;
 use mdp_elim::{Kind, Part, SolveError, TooWide};
 use mdp_farkas::{ReachCert, Verdict, holds_reach};
 use mdp_graph::{along_law, avoid_law, meet_law, reach_law};
-use mdp_path::{Solution, improve};
+use mdp_policy_iteration::{Solution, improve};
 use mdp_rows::{Dir, Marks, Model};
 use std::alloc::Global;
 

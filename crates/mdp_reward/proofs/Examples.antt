@@ -11,9 +11,9 @@ use Rattle.mdp_graph.specs.Sure.{stays_and_falls}
 use Rattle.mdp_graph.specs.Layers.{reached}
 use Rattle.mdp_graph.specs.Reach.{may_step}
 use Rattle.mdp_graph.specs.Sets.{marked}
-use Rattle.mdp_path.specs.Iteration.{iterated}
-use Rattle.mdp_path.specs.Path.{Found, Refusal, path_step}
-use Rattle.mdp_path.specs.Laws.{first}
+use Rattle.mdp_policy_iteration.specs.Iteration.{iterated}
+use Rattle.mdp_policy_iteration.specs.Path.{Found, Refusal, path_step}
+use Rattle.mdp_policy_iteration.specs.Laws.{first}
 use Rattle.mdp_farkas.specs.Verdict.{verdict_of}
 use Rattle.mdp_farkas.specs.Reward.{reward_checks}
 use Rattle.mdp_farkas.specs.declared.verdict.Fault.{Fault}

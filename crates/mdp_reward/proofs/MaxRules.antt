@@ -13,7 +13,7 @@ use Rattle.mdp_spec.specs.RewardRules.{IsInfinite, IsTransient, StaysFinite, Fal
 use Rattle.mdp_rows.specs.Negative.{has_negative}
 use Rattle.mdp_rows.specs.declared.dir.Dir.TheVariants.{Max}
 use Rattle.mdp_graph.specs.Laws.{StaysSure, RestAvoids}
-use Rattle.mdp_path.specs.Laws.{IsBestFrom}
+use Rattle.mdp_policy_iteration.specs.Laws.{IsBestFrom}
 use Rattle.mdp_reward.specs.Problem.{reward_problem}
 use Rattle.mdp_reward.specs.Query.{rewards_of, IsMaxStart}
 use Rattle.mdp_reward.proofs.Rows.{any_mono, all_in}

@@ -17,9 +17,9 @@ use Rattle.mdp_rows.specs.declared.dir.Dir.TheVariants.{Min}
 use Rattle.mdp_graph.specs.Sets.{stays_in}
 use Rattle.mdp_graph.specs.Laws.{RowsFall, RowsStay, RoundsFall, ZeroIsSure}
 use Rattle.mdp_elim.specs.System.{is_active}
-use Rattle.mdp_path.specs.Problem.{Problem, active_of, rows_of}
-use Rattle.mdp_path.specs.Laws.{IsBestFrom}
-use Rattle.mdp_path.proofs.Chain.{rows-len}
+use Rattle.mdp_policy_iteration.specs.Problem.{Problem, active_of, rows_of}
+use Rattle.mdp_policy_iteration.specs.Laws.{IsBestFrom}
+use Rattle.mdp_policy_iteration.proofs.Chain.{rows-len}
 use Rattle.mdp_reward.specs.Problem.{is_transient, reward_problem}
 use Rattle.mdp_reward.specs.Query.{rewards_of, IsMinStart, AreMinRanks}
 use Rattle.mdp_reward.proofs.Rows.{any_mono, all_in, stays_by_all, split-at, goal-along, goal-along_rank, row-falls, row-stays}

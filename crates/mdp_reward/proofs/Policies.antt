@@ -6,8 +6,8 @@ use Rattle.mdp_spec.specs.Mdp.{Mdp, states_of, row_at, choices_at}
 use Rattle.mdp_spec.specs.Tree as tree
 use Rattle.mdp_rows.specs.declared.dir.Dir.{Dir}
 use Rattle.mdp_elim.specs.System.{is_active, row_of}
-use Rattle.mdp_path.specs.Problem.{Problem, Node, given, decision, Choice, stop, go, count, node_at, goes_on, amount, row_from, move_by, taken, active_of, rows_of, IsCandidate, IsPolicy}
-use Rattle.mdp_path.proofs.Chain.{row-at, active-at, active-below}
+use Rattle.mdp_policy_iteration.specs.Problem.{Problem, Node, given, decision, Choice, stop, go, count, node_at, goes_on, amount, row_from, move_by, taken, active_of, rows_of, IsCandidate, IsPolicy}
+use Rattle.mdp_policy_iteration.proofs.Chain.{row-at, active-at, active-below}
 use Rattle.mdp_reward.specs.Problem.{may_take, is_transient, node_by, reward_problem}
 use Rattle.mdp_reward.proofs.Nodes.{earned, goings, going-at, goings-len, reward-count, reward-at}
 

@@ -11,9 +11,9 @@ use Rattle.mdp_rows.specs.declared.dir.Dir.{Dir}
 use Rattle.mdp_rows.specs.declared.dir.Dir.TheVariants.{Max, Min}
 use Rattle.mdp_graph.specs.Laws.{StaysSure, RestAvoids}
 use Rattle.mdp_elim.specs.System.{is_active}
-use Rattle.mdp_path.specs.Problem.{Choice, active_of, IsPolicy}
-use Rattle.mdp_path.specs.Values.{CanLeave, EarnsNoGood, AllLeave, NoneHelps}
-use Rattle.mdp_path.specs.Laws.{IsSolvable}
+use Rattle.mdp_policy_iteration.specs.Problem.{Choice, active_of, IsPolicy}
+use Rattle.mdp_policy_iteration.specs.Values.{CanLeave, EarnsNoGood, AllLeave, NoneHelps}
+use Rattle.mdp_policy_iteration.specs.Laws.{IsSolvable}
 use Rattle.mdp_reward.specs.Problem.{reward_problem}
 use Rattle.mdp_reward.specs.Query.{IsMaxStart, IsMinStart, IsStart}
 use Rattle.mdp_reward.proofs.Nodes.{reward-count, reward-choice, reward-known}

@@ -23,10 +23,10 @@ use Rattle.mdp_spec.specs.Unit.{reward_of}
 use Rattle.mdp_rows.specs.Negative.{any_negative, is_negative, has_negative}
 use Rattle.mdp_rows.specs.declared.dir.Dir.{Dir}
 use Rattle.mdp_elim.specs.System.{is_active, row_of}
-use Rattle.mdp_path.specs.Problem.{Problem, count, active_of, rows_of, taken, amount, IsProblem, IsPolicy, worth}
-use Rattle.mdp_path.specs.Values.{IsValue, CanLeave}
-use Rattle.mdp_path.proofs.Chain.{target, prob, active-below, ChainShrinks, chain-shrinks}
-use Rattle.mdp_path.proofs.Exact.{value-active}
+use Rattle.mdp_policy_iteration.specs.Problem.{Problem, count, active_of, rows_of, taken, amount, IsProblem, IsPolicy, worth}
+use Rattle.mdp_policy_iteration.specs.Values.{IsValue, CanLeave}
+use Rattle.mdp_policy_iteration.proofs.Chain.{target, prob, active-below, ChainShrinks, chain-shrinks}
+use Rattle.mdp_policy_iteration.proofs.Exact.{value-active}
 use Rattle.mdp_reward.specs.Problem.{reward_problem}
 use Rattle.mdp_reward.proofs.Nodes.{reward-count, reward-known}
 use Rattle.mdp_reward.proofs.Policies.{transient, is_node, transient-choice, transient-active, given-move, transient-move, active-open, open-amount}

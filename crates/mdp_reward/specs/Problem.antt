@@ -11,7 +11,7 @@ use Rattle.mdp_spec.specs.Tree.{is_marked}
 use Rattle.mdp_rows.specs.declared.dir.Dir.{Dir}
 use Rattle.mdp_rows.specs.declared.dir.Dir.TheVariants.{Max, Min}
 use Rattle.mdp_graph.specs.Sets.{stays_in}
-use Rattle.mdp_path.specs.Problem.{Problem, Node, given, decision, Choice, go, plain}
+use Rattle.mdp_policy_iteration.specs.Problem.{Problem, Node, given, decision, Choice, go, plain}
 
 -- whether a policy may take a choice of this row
 abbrev pub may_take : Dir → List Bool → List Entry → Bool

@@ -6,7 +6,7 @@ ghost use Rattle.mdp_graph.specs.Sets.{stays_in};
 ghost use Rattle.mdp_reward.specs.Problem.{is_transient, reward_problem};
 
 use mdp_num::{Frac, Wide};
-use mdp_path::ShortestPath;
+use mdp_policy_iteration::ShortestPath;
 use mdp_rows::{Dir, Marks, Model, Row};
 
 /// The reward of a name until a goal as a shortest path problem: a state whose value is finite and that is no goal goes on by its choices and

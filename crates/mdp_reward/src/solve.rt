@@ -4,7 +4,7 @@ ghost use Rattle.mdp_spec.specs.Bounds.{RewardMax, RewardMin};
 ghost use Rattle.mdp_rows.specs.Negative.{has_negative};
 ghost use Rattle.mdp_rows.specs.declared.dir.Dir.TheVariants.{Max, Min};
 ghost use Rattle.mdp_farkas.specs.Reward.{IsReward};
-ghost use Rattle.mdp_path.specs.Queries.{Solves};
+ghost use Rattle.mdp_policy_iteration.specs.Queries.{Solves};
 ghost use Rattle.mdp_reward.specs.Query.{plain, EndsSo};
 
 use crate::problem::Reward;
@@ -14,7 +14,7 @@ use crate::start::start_of;
 use mdp_elim::{Kind, Part, SolveError, TooWide};
 use mdp_farkas::{RewardCert, Verdict, holds_reward};
 use mdp_graph::{along_law, meet_law, rounds_law, sure_all_law};
-use mdp_path::improve;
+use mdp_policy_iteration::improve;
 use mdp_rows::{Dir, Marks, Model};
 use std::alloc::Global;
 

@@ -11,13 +11,13 @@ use Rattle.mdp_math.proofs.Numbers.{le_or}
 use Rattle.mdp_math.proofs.Order.{≤ℚ_or_gt, ≤ℚ_of_eq, clash_ℚ}
 use Rattle.mdp_unichain.specs.Chain.{AllLeadTo}
 use Rattle.mdp_unichain.specs.Component.{Component, Choice, no_choice, count, choices_at, choice_at, IsInner, is_state, row_by, IsPolicy, CanReach, IsComponent}
-use Rattle.mdp_path.specs.Values.{IsAsGood}
+use Rattle.mdp_policy_iteration.specs.Values.{IsAsGood}
 use Rattle.mdp_unichain.specs.Evaluation.{IsGain}
 use Rattle.mdp_unichain.specs.Improvement.{IsEvaluated, worth, IsBetterChoice, IsImproved, IsChanged, NoneBetter}
 use Rattle.mdp_unichain.specs.Laws.{HasBest}
 use Rattle.mdp_unichain.proofs.Chains.{same_or_other}
 use Rattle.mdp_unichain.proofs.Reaching.{search_below, test_or_not, clash_test}
-use Rattle.mdp_path.proofs.Turned.{turn, turn_better, turn_as_good, better_turned, as_good_turned}
+use Rattle.mdp_policy_iteration.proofs.Turned.{turn, turn_better, turn_as_good, better_turned, as_good_turned}
 use Rattle.mdp_unichain.proofs.Improving.{gain_of, evaluated_by, next_is_evaluated, state-below, inner-below, state-of}
 use Rattle.mdp_unichain.proofs.Ending.{none_twice}
 use Rattle.mdp_unichain.proofs.Deciding.{has_next, has_reference}

@@ -11,17 +11,17 @@ use Rattle.mdp_math.proofs.Numbers.{last_or, le_or}
 use Rattle.mdp_spec.specs.Mdp.{value_at}
 use Rattle.mdp_unichain.specs.Component.{Component, Choice, count, choices_at, choice_at, is_state, IsInner, IsPolicy}
 use Rattle.mdp_unichain.specs.Improvement.{worth, IsBetterChoice, NoneBetterAt, IsImproved}
-use Rattle.mdp_path.specs.Places.{Place}
-use Rattle.mdp_path.specs.Candidates.{is_better, Best, judged}
-use Rattle.mdp_path.specs.Path.{comparing, or_kept}
+use Rattle.mdp_policy_iteration.specs.Places.{Place}
+use Rattle.mdp_policy_iteration.specs.Candidates.{is_better, Best, judged}
+use Rattle.mdp_policy_iteration.specs.Path.{comparing, or_kept}
 use Rattle.mdp_unichain.specs.Sums.{written_worth, compared}
 use Rattle.mdp_unichain.specs.Written.{then_compared, best_of, Values, present_of, choice_over, improved_choice, improved_at}
 use Rattle.mdp_unichain.specs.WrittenLaws.{ImprovesExactly}
-use Rattle.mdp_path.proofs.Turned.{turn, better_turned, as_good_turned, better_of_test, worse_of_test}
+use Rattle.mdp_policy_iteration.proofs.Turned.{turn, better_turned, as_good_turned, better_of_test, worse_of_test}
 use Rattle.mdp_unichain.proofs.Improving.{state-below, inner-below}
-use Rattle.mdp_path.proofs.Results.{ok_same, ok_part, place_part, IsUpTo, up_to-is}
+use Rattle.mdp_policy_iteration.proofs.Results.{ok_same, ok_part, place_part, IsUpTo, up_to-is}
 use Rattle.mdp_elim.proofs.RowSums.{some_part}
-use Rattle.mdp_path.proofs.Compares.{written_sum-is}
+use Rattle.mdp_policy_iteration.proofs.Compares.{written_sum-is}
 
 -- ---- the choices of a state
 

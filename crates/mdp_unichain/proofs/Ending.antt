@@ -12,13 +12,13 @@ use Rattle.mdp_unichain.specs.Improvement.{IsEvaluated, IsImproved, IsChanged, I
 use Rattle.mdp_unichain.specs.Laws.{NoneTwice}
 use Rattle.mdp_unichain.proofs.Gains.{gain_by, bias_by, has_evaluation, is-gain, one_gain, one_bias}
 use Rattle.mdp_unichain.proofs.Reaching.{test_or_not}
-use Rattle.mdp_path.proofs.Turned.{turn_better, turn_as_good}
+use Rattle.mdp_policy_iteration.proofs.Turned.{turn_better, turn_as_good}
 use Rattle.mdp_unichain.proofs.Improving.{up, ups, state-below, inner-below, policy-chain, gain_rises_next, bias_rises}
 use Rattle.mdp_math.proofs.Booleans.{and-left, and-right, and-both}
 use Rattle.mdp_math.proofs.Extremes.{lt_of_test, test_of_lt}
-use Rattle.mdp_path.proofs.LeavesAgain.{test_irrefl}
-use Rattle.mdp_path.proofs.Ordered.{less_all, less_all-after, less_all-own, less_all-from}
-use Rattle.mdp_path.proofs.Products.{number, number-lt, within_from}
+use Rattle.mdp_policy_iteration.proofs.LeavesAgain.{test_irrefl}
+use Rattle.mdp_policy_iteration.proofs.Ordered.{less_all, less_all-after, less_all-own, less_all-from}
+use Rattle.mdp_policy_iteration.proofs.Products.{number, number-lt, within_from}
 
 or_first : (a b : Bool) → a ≡ true → (a || b) ≡ true
 or_first true b e = refl

@@ -31,8 +31,8 @@ use Rattle.mdp_unichain.specs.Chain.{AllLeadTo}
 use Rattle.mdp_unichain.specs.Component.{Component, count, is_state, row_by, reward_by, IsPolicy, IsComponent}
 use Rattle.mdp_unichain.proofs.Gains.{steps-ge_one}
 use Rattle.mdp_unichain.specs.Evaluation.{mean, active, IsEarned, IsEvaluation}
-use Rattle.mdp_path.specs.Places.{Place, at_place}
-use Rattle.mdp_path.specs.Path.{evaluating, placed}
+use Rattle.mdp_policy_iteration.specs.Places.{Place, at_place}
+use Rattle.mdp_policy_iteration.specs.Path.{evaluating, placed}
 use Rattle.mdp_unichain.specs.Sums.{written_ratio, written_bias}
 use Rattle.mdp_unichain.specs.Written.{row_or_loop, rows_of, active_of, rewards_of, ones_of, written_columns, written_gain, bias_of, written_bias_list, Values, with_biases, written_biases}
 use Rattle.mdp_unichain.specs.Written.{from_columns, written_values}
@@ -40,8 +40,8 @@ use Rattle.mdp_unichain.specs.WrittenLaws.{EvaluatesExactly}
 use Rattle.mdp_unichain.proofs.Chains.{target, active-state, active-other, active-outside}
 use Rattle.mdp_unichain.proofs.Reaching.{test_or_not}
 use Rattle.mdp_unichain.proofs.Improving.{state-below, policy-chain}
-use Rattle.mdp_path.proofs.Compares.{written_sum-is}
-use Rattle.mdp_path.proofs.Results.{ok_same, ok_part, place_part, IsUpTo, up_to-is}
+use Rattle.mdp_policy_iteration.proofs.Compares.{written_sum-is}
+use Rattle.mdp_policy_iteration.proofs.Results.{ok_same, ok_part, place_part, IsUpTo, up_to-is}
 use Rattle.mdp_elim.proofs.RowSums.{some_part}
 
 map_same : {A : Type 0} (f g : ℕ → A) → ((s : ℕ) → f s ≡ g s) → (xs : List ℕ) → map f xs ≡ map g xs

@@ -9,14 +9,14 @@ use Rattle.mdp_math.proofs.Numbers.{le_or}
 use Rattle.mdp_math.proofs.Order.{≤ℚ_of_lt, ≤ℚ_of_eq, ≤ℚ_antisymm, clash_ℚ}
 use Rattle.mdp_unichain.specs.Chain.{IsChain, IsReference, IsClosedClass}
 use Rattle.mdp_unichain.specs.Component.{Component, Choice, no_choice, count, choices_at, choice_at, chosen, IsInner, is_state, row_by, reward_by, IsPolicy, IsComponent}
-use Rattle.mdp_path.specs.Values.{IsBetter, IsAsGood}
+use Rattle.mdp_policy_iteration.specs.Values.{IsBetter, IsAsGood}
 use Rattle.mdp_unichain.specs.Evaluation.{mean, IsEvaluation, IsGain}
 use Rattle.mdp_unichain.specs.Improvement.{IsEvaluated, worth, IsBetterChoice, IsImproved, IsChanged, KeepsClasses, GoesToward}
 use Rattle.mdp_unichain.specs.Laws.{HasOneEvaluation, MeetsEquations, NextIsEvaluated, GainRises, BiasRose, BiasRises, EndsAtNoneBetter, BestOfAll}
 use Rattle.mdp_unichain.proofs.Gains.{has_evaluation, gain_by, bias_by, is-gain, one_gain, one_bias, steps-ge_one}
 use Rattle.mdp_unichain.proofs.Excess.{gain-le, gain-ge, gain-lt, bias-le, bias-lt}
 use Rattle.mdp_unichain.proofs.Classes.{holds, class-chain, class-reference, class-same, still_reference, class_of_t, one_reference}
-use Rattle.mdp_path.proofs.Turned.{turn, turn-add, turn_better, turn_as_good, better_turned, as_good_turned}
+use Rattle.mdp_policy_iteration.proofs.Turned.{turn, turn-add, turn_better, turn_as_good, better_turned, as_good_turned}
 use Rattle.mdp_unichain.proofs.Turned.{turn-mean, turn-back}
 
 module _ (p : Component) where

@@ -1,6 +1,6 @@
 -- The laws of iteration: where each step makes one thing there is one end at most, and there is one where a number falls with each step.
 use Rattle.std.proofs.Common.{◌≡◌, ℕ, zero, suc, ◌<◌, Result, Ok, Err, refl, sym, ◌∙◌, subst, arith}
-use Rattle.mdp_path.specs.Iteration.{Step, next, done, refused}
+use Rattle.mdp_policy_iteration.specs.Iteration.{Step, next, done, refused}
 use Rattle.mdp_unichain.specs.Iteration.{Follows, EndsWithin, EndsWith}
 
 -- what each step keeps, in so far as P says

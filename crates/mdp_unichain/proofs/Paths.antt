@@ -9,12 +9,12 @@ use Rattle.mdp_unichain.specs.Chain.{IsReference}
 use Rattle.mdp_unichain.specs.Component.{Component, count, is_state, row_by, IsPolicy, IsComponent}
 use Rattle.mdp_unichain.specs.Improvement.{IsEvaluated, IsImproved, IsChanged}
 use Rattle.mdp_unichain.specs.Next.{IsNearest, IsExactNext}
-use Rattle.mdp_path.specs.Iteration.{Step, next, done, refused}
+use Rattle.mdp_policy_iteration.specs.Iteration.{Step, next, done, refused}
 use Rattle.mdp_unichain.specs.Iteration.{EndsWith}
-use Rattle.mdp_path.specs.Places.{Place}
+use Rattle.mdp_policy_iteration.specs.Places.{Place}
 use Rattle.mdp_unichain.specs.Written.{Values, written_values, written_improved}
-use Rattle.mdp_path.specs.Path.{Round, Refusal}
-use Rattle.mdp_path.specs.Laws.{first}
+use Rattle.mdp_policy_iteration.specs.Path.{Round, Refusal}
+use Rattle.mdp_policy_iteration.specs.Laws.{first}
 use Rattle.mdp_unichain.specs.Path.{Found, refused_at, AfterComparison, AfterEvaluation, Makes, IsStart, FirstIsStart, HasOneEnd, IsBestGain, EndsAtBestGain}
 use Rattle.mdp_unichain.proofs.Chains.{same_or_other}
 use Rattle.mdp_unichain.proofs.Reaching.{search_below, test_or_not}

@@ -6,7 +6,7 @@ use Rattle.mdp_math.proofs.Numbers.{last_or, le_or, eqb-same}
 use Rattle.mdp_spec.specs.Mdp.{Entry}
 use Rattle.mdp_unichain.specs.Chain.{IsChain, AllLeadTo, IsClosedClass}
 use Rattle.mdp_unichain.proofs.Chains.{target, same_number, other_number}
-use Rattle.mdp_path.proofs.Counting.{count_below, count-lt}
+use Rattle.mdp_policy_iteration.proofs.Counting.{count_below, count-lt}
 
 -- ---- search
 

@@ -7,7 +7,7 @@ use Rattle.mdp_math.proofs.Kernel.{weigh-neg}
 use Rattle.mdp_spec.specs.Mdp.{Entry}
 use Rattle.mdp_rows.specs.declared.dir.Dir.{Dir}
 use Rattle.mdp_rows.specs.declared.dir.Dir.TheVariants.{Max, Min}
-use Rattle.mdp_path.proofs.Turned.{turn}
+use Rattle.mdp_policy_iteration.proofs.Turned.{turn}
 use Rattle.mdp_unichain.specs.Evaluation.{mean}
 
 pub turn-mean : (d : Dir) (row : List Entry) (x : ℕ → ℚ) → turn d (mean row x) ≡ mean row (λ s. turn d (x s))

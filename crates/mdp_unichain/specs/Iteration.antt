@@ -1,6 +1,6 @@
 -- Iteration where what a step makes is given as a relation: a step is taken from what the last one made, until it ends or refuses.
 use Rattle.std.specs.Prelude.{◌≡◌, ℕ, zero, suc, Result, Ok, Err}
-use Rattle.mdp_path.specs.Iteration.{Step, next, done, refused}
+use Rattle.mdp_policy_iteration.specs.Iteration.{Step, next, done, refused}
 
 -- what follows a step, by what follows the next one
 abbrev pub Follows : {A E R : Type 0} → (A → Result E R → Type 0) → Step A E R → Result E R → Type 0

@@ -6,11 +6,11 @@ use Rattle.mdp_unichain.specs.Chain.{IsReference}
 use Rattle.mdp_unichain.specs.Component.{Component, is_state, IsInner, row_by, IsPolicy, IsComponent}
 use Rattle.mdp_unichain.specs.Improvement.{IsEvaluated, NoneBetter}
 use Rattle.mdp_unichain.specs.Next.{AreRanksToward, IsNearest, IsExactNext}
-use Rattle.mdp_path.specs.Iteration.{Step, next, done, refused}
-use Rattle.mdp_path.specs.Path.{Round, Refusal}
-use Rattle.mdp_path.specs.Laws.{first}
+use Rattle.mdp_policy_iteration.specs.Iteration.{Step, next, done, refused}
+use Rattle.mdp_policy_iteration.specs.Path.{Round, Refusal}
+use Rattle.mdp_policy_iteration.specs.Laws.{first}
 use Rattle.mdp_unichain.specs.Iteration.{EndsWith}
-use Rattle.mdp_path.specs.Places.{Place}
+use Rattle.mdp_policy_iteration.specs.Places.{Place}
 use Rattle.mdp_unichain.specs.Written.{Values, written_values, written_improved}
 
 -- the last policy, its reference, and its gain and biases

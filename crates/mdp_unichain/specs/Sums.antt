@@ -6,7 +6,7 @@ use Rattle.mdp_math.specs.Written.{written_mul, ◌>>=◌}
 use Rattle.mdp_num.specs.Written.{written_sub, written_div}
 use Rattle.mdp_spec.specs.Written.{written_sum}
 use Rattle.mdp_rows.specs.declared.dir.Dir.{Dir}
-use Rattle.mdp_path.specs.Candidates.{Best, judged}
+use Rattle.mdp_policy_iteration.specs.Candidates.{Best, judged}
 use Rattle.mdp_unichain.specs.Component.{Component, Choice, row_by, reward_by}
 
 -- what is earned from t back to t, by the number of steps

@@ -6,9 +6,9 @@ use Rattle.mdp_math.specs.Result.{◌>>=◌}
 use Rattle.mdp_math.specs.Written.{written_add}
 use Rattle.mdp_spec.specs.Mdp.{Entry, value_at}
 use Rattle.mdp_elim.specs.Solve.{written_solution}
-use Rattle.mdp_path.specs.Places.{Place, at_place, up_to}
-use Rattle.mdp_path.specs.Candidates.{Best}
-use Rattle.mdp_path.specs.Path.{evaluating, placed, comparing, or_kept}
+use Rattle.mdp_policy_iteration.specs.Places.{Place, at_place, up_to}
+use Rattle.mdp_policy_iteration.specs.Candidates.{Best}
+use Rattle.mdp_policy_iteration.specs.Path.{evaluating, placed, comparing, or_kept}
 use Rattle.mdp_unichain.specs.Component.{Component, count, choices_at, choice_at, is_state, row_by, reward_by}
 use Rattle.mdp_unichain.specs.Evaluation.{active}
 use Rattle.mdp_unichain.specs.Sums.{written_ratio, written_bias, compared}

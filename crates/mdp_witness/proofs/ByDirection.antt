@@ -5,7 +5,7 @@ use Rattle.mdp_spec.specs.Mdp.{Mdp, states_of}
 use Rattle.mdp_spec.specs.Row.{IsMdp}
 use Rattle.mdp_rows.specs.declared.dir.Dir.{Dir}
 use Rattle.mdp_rows.specs.declared.dir.Dir.TheVariants.{Max, Min}
-use Rattle.mdp_flow.specs.Laws.{ListedFlowShape, ListedFloorShape}
+use Rattle.mdp_subsystem_rules.specs.Laws.{ListedFlowShape, ListedFloorShape}
 use Rattle.mdp_witness.specs.Query.{PlainSubsystem, EndsSo}
 use Rattle.mdp_witness.specs.Shown.{HasShape, Holds}
 use Rattle.mdp_witness.proofs.Showing.{shape-max, holds-max, shape-min, holds-min}

@@ -12,9 +12,9 @@ use Rattle.mdp_elim.specs.declared.too_wide.Kind.TheVariants.{Evaluate, Compare,
 use Rattle.mdp_rows.specs.declared.dir.Dir.TheVariants.{Max}
 use Rattle.mdp_farkas.specs.declared.verdict.Verdict.TheVariants.{Yes, No, Wide}
 use Rattle.mdp_reach.specs.Query.{Answer}
-use Rattle.mdp_trials.specs.Evaluation.{Visited, visited, visited_value}
-use Rattle.mdp_trials.specs.Trial.{trial_set, trial_of, is_wide}
-use Rattle.mdp_trials.proofs.Examples.{nought, one, half, three_quarters, five, goals, greatest, least, best, worst, two_states, three_states, start_alone, no_states, first_max, left}
+use Rattle.mdp_witness_trials.specs.Evaluation.{Visited, visited, visited_value}
+use Rattle.mdp_witness_trials.specs.Trial.{trial_set, trial_of, is_wide}
+use Rattle.mdp_witness_trials.proofs.Examples.{nought, one, half, three_quarters, five, goals, greatest, least, best, worst, two_states, three_states, start_alone, no_states, first_max, left}
 use Rattle.mdp_witness.specs.Query.{PlainSubsystem, flow, floor, Refusal, below, too_wide, visiting, in_floor, flow_of, floor_of, verdict_on, FlowHeld, FloorHeld}
 use Rattle.mdp_witness.specs.Query.{AfterComparison, FromFirst}
 use Rattle.mdp_witness.specs.Shown.{kept_of, kept_in, HasShape, Holds}

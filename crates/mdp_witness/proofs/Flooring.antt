@@ -18,25 +18,25 @@ use Rattle.mdp_spec.specs.Tree.{is_marked}
 use Rattle.mdp_spec.proofs.Subsystem.{sub-states, sub_is_mdp}
 use Rattle.mdp_rows.specs.declared.dir.Dir.TheVariants.{Min}
 use Rattle.mdp_graph.specs.Laws.{RestMeets}
-use Rattle.mdp_path.specs.Laws.{EndsAtBest}
+use Rattle.mdp_policy_iteration.specs.Laws.{EndsAtBest}
 use Rattle.mdp_farkas.specs.Compare.{not_less, is_at_least}
 use Rattle.mdp_farkas.specs.Verdict.{verdict_of, InWidth}
 use Rattle.mdp_farkas.specs.declared.verdict.Verdict.{Verdict}
 use Rattle.mdp_farkas.specs.declared.verdict.Verdict.TheVariants.{Yes}
 use Rattle.mdp_farkas.proofs.Comparing.{le_of_at_least}
-use Rattle.mdp_flow.specs.FloorChecks.{floor_checks, HoldsFloor}
-use Rattle.mdp_flow.specs.Laws.{WholeIsModel, LeastGrows, ListedMeetsFloor, ListedFloorShape}
-use Rattle.mdp_flow.specs.Listed.{listed, values_at, ranks_at}
-use Rattle.mdp_flow.specs.Shape.{IsFloorShape}
-use Rattle.mdp_flow.proofs.FloorRules.{floor_rules}
+use Rattle.mdp_subsystem_rules.specs.FloorChecks.{floor_checks, HoldsFloor}
+use Rattle.mdp_subsystem_rules.specs.Laws.{WholeIsModel, LeastGrows, ListedMeetsFloor, ListedFloorShape}
+use Rattle.mdp_subsystem_rules.specs.Listed.{listed, values_at, ranks_at}
+use Rattle.mdp_subsystem_rules.specs.Shape.{IsFloorShape}
+use Rattle.mdp_subsystem_rules.proofs.FloorRules.{floor_rules}
 use Rattle.mdp_reach.specs.Laws.{HasOneEnd, AnswersMeetRules, AnswersAreLeast}
 use Rattle.mdp_reach.specs.Query.{Answer, EndsSo}
-use Rattle.mdp_trials.specs.First.{IsFirst}
-use Rattle.mdp_trials.specs.LeastEvaluation.{Evaluates, value_from}
-use Rattle.mdp_trials.specs.Laws.{LeastFirstReaches, MinKeptIsFloor}
-use Rattle.mdp_trials.specs.Trial.{AreLeft}
-use Rattle.mdp_trials.proofs.Left.{left_by}
-use Rattle.mdp_trials.proofs.Lengths.{sized}
+use Rattle.mdp_witness_trials.specs.First.{IsFirst}
+use Rattle.mdp_witness_trials.specs.LeastEvaluation.{Evaluates, value_from}
+use Rattle.mdp_witness_trials.specs.Laws.{LeastFirstReaches, MinKeptIsFloor}
+use Rattle.mdp_witness_trials.specs.Trial.{AreLeft}
+use Rattle.mdp_witness_trials.proofs.Left.{left_by}
+use Rattle.mdp_witness_trials.proofs.Lengths.{sized}
 use Rattle.mdp_witness.specs.Query.{PlainSubsystem, flow, floor, floor_of, verdict_on, FloorHeld, FromFirst}
 use Rattle.mdp_witness.proofs.InWidth.{floor_in_width}
 use Rattle.mdp_witness.proofs.Passing.{same_answer}

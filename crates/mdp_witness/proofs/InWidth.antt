@@ -24,15 +24,15 @@ use Rattle.mdp_farkas.specs.Reach.{value_checks, policy_check, rank_checks, reac
 use Rattle.mdp_farkas.specs.Upper.{goal_check}
 use Rattle.mdp_farkas.specs.Verdict.{InWidth, at_choices}
 use Rattle.mdp_farkas.proofs.Holds.{Each, each_append, each_left, each_flat, each_flat_at, each_map, each_map_at, each_if, each_if_false}
-use Rattle.mdp_flow.specs.FloorChecks as floor
-use Rattle.mdp_flow.specs.FloorChecks.{spread_values, line_value, line_rank, line_values, cover_check, rank_check, fall_check, line_checks, checks_of_line, each_line, start_check, floor_checks}
-use Rattle.mdp_flow.specs.FlowChecks.{kept_check}
-use Rattle.mdp_flow.specs.Kept.{kept_marks}
-use Rattle.mdp_flow.specs.Listed.{listed, values_at, ranks_at}
-use Rattle.mdp_flow.proofs.Counted.{line_values-at}
-use Rattle.mdp_flow.proofs.Floors.{as_kept, as_neither}
-use Rattle.mdp_flow.proofs.Kept.{listed-at, spread-at}
-use Rattle.mdp_flow.proofs.Listed.{listed-in_range, is_listed-listed, kept_marks-listed, looked_up-map}
+use Rattle.mdp_subsystem_rules.specs.FloorChecks as floor
+use Rattle.mdp_subsystem_rules.specs.FloorChecks.{spread_values, line_value, line_rank, line_values, cover_check, rank_check, fall_check, line_checks, checks_of_line, each_line, start_check, floor_checks}
+use Rattle.mdp_subsystem_rules.specs.FlowChecks.{kept_check}
+use Rattle.mdp_subsystem_rules.specs.Kept.{kept_marks}
+use Rattle.mdp_subsystem_rules.specs.Listed.{listed, values_at, ranks_at}
+use Rattle.mdp_subsystem_rules.proofs.Counted.{line_values-at}
+use Rattle.mdp_subsystem_rules.proofs.Floors.{as_kept, as_neither}
+use Rattle.mdp_subsystem_rules.proofs.Kept.{listed-at, spread-at}
+use Rattle.mdp_subsystem_rules.proofs.Listed.{listed-in_range, is_listed-listed, kept_marks-listed, looked_up-map}
 
 -- a loop leads to no smaller rank
 loop_falls : (names : List (List ℕ)) (s : ℕ) (rank : ℕ → ℕ) → Any (λ y. rank y.target < rank s) (Choice.row (get_or (loop_at names s ∷ []) 0 no_choice)) → ⊥

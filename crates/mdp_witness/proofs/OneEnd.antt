@@ -8,15 +8,15 @@ use Rattle.mdp_spec.specs.Sub.{sub_of}
 use Rattle.mdp_spec.specs.Tree.{is_marked}
 use Rattle.mdp_rows.specs.declared.dir.Dir.{Dir}
 use Rattle.mdp_rows.specs.declared.dir.Dir.TheVariants.{Max, Min}
-use Rattle.mdp_path.specs.Queries.{WideTerm}
+use Rattle.mdp_policy_iteration.specs.Queries.{WideTerm}
 use Rattle.mdp_farkas.specs.Compare.{is_at_least}
 use Rattle.mdp_farkas.specs.declared.verdict.Verdict.{Verdict}
 use Rattle.mdp_farkas.specs.declared.verdict.Verdict.TheVariants.{Yes, No, Wide}
 use Rattle.mdp_reach.specs.Laws as reach
 use Rattle.mdp_reach.specs.Query.{Answer}
-use Rattle.mdp_trials.specs.First.{IsFirst}
-use Rattle.mdp_trials.specs.Evaluation.{Visited, visited}
-use Rattle.mdp_trials.specs.Laws.{VisitsLeaveOne, ValuesLeaveOne}
+use Rattle.mdp_witness_trials.specs.First.{IsFirst}
+use Rattle.mdp_witness_trials.specs.Evaluation.{Visited, visited}
+use Rattle.mdp_witness_trials.specs.Laws.{VisitsLeaveOne, ValuesLeaveOne}
 use Rattle.mdp_witness.specs.Query.{PlainSubsystem, Refusal, flow_of, floor_of, verdict_on, FlowHeld, FloorHeld, AfterVisits, AfterFirstQuery, AfterFirst, FromFirst}
 use Rattle.mdp_witness.specs.Query.{AfterComparison, AfterWhole, EndsSo}
 

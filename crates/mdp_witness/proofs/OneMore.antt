@@ -8,10 +8,10 @@ use Rattle.mdp_math.proofs.Lists.{range_more, map_more}
 use Rattle.mdp_math.proofs.Order.{0ℚ}
 use Rattle.mdp_spec.specs.Mdp.{value_at}
 use Rattle.mdp_spec.specs.Tree.{is_marked}
-use Rattle.mdp_flow.specs.declared.flow.Flow.{Flow}
-use Rattle.mdp_flow.specs.Listed.{listed}
-use Rattle.mdp_flow.proofs.Listed.{listed-in_range}
-use Rattle.mdp_flow.specs.Visits.{visit_flow, visit_flows}
+use Rattle.mdp_subsystem_rules.specs.declared.flow.Flow.{Flow}
+use Rattle.mdp_subsystem_rules.specs.Listed.{listed}
+use Rattle.mdp_subsystem_rules.proofs.Listed.{listed-in_range}
+use Rattle.mdp_subsystem_rules.specs.Visits.{visit_flow, visit_flows}
 
 one_passes : {A : Type 0} (p : A → Bool) (x : A) (b : Bool) → p x ≡ b → filter p (x ∷ []) ≡ (if b then x ∷ [] else [])
 one_passes p x b e = ap (λ (c : Bool). if c then x ∷ [] else []) e

@@ -15,30 +15,30 @@ use Rattle.mdp_spec.specs.Sub.{sub_of, policy_on}
 use Rattle.mdp_spec.specs.Tree.{is_marked}
 use Rattle.mdp_rows.specs.declared.dir.Dir.{Dir}
 use Rattle.mdp_rows.specs.declared.dir.Dir.TheVariants.{Max, Min}
-use Rattle.mdp_path.specs.Queries.{WideTerm}
+use Rattle.mdp_policy_iteration.specs.Queries.{WideTerm}
 use Rattle.mdp_farkas.specs.Compare.{not_less}
 use Rattle.mdp_farkas.specs.Verdict.{verdict_of}
 use Rattle.mdp_farkas.proofs.Comparing.{le_of_at_least}
-use Rattle.mdp_flow.specs.FlowChecks.{flow_checks, HoldsFlow}
-use Rattle.mdp_flow.specs.FloorChecks.{floor_checks, HoldsFloor, spread_values, spread_ranks}
-use Rattle.mdp_flow.specs.Flow.{flow_total}
-use Rattle.mdp_flow.specs.Kept.{kept_marks}
-use Rattle.mdp_flow.specs.Laws.{FloorShows, FlowShows, PolicyShows, ListedAreMarks, ListedFlowShape, ListedFloorShape}
-use Rattle.mdp_flow.specs.Listed.{listed, marks_at, values_at, ranks_at}
-use Rattle.mdp_flow.specs.Policy.{PolicyWithin, FallsShort}
-use Rattle.mdp_flow.specs.Visits.{visit_flows}
-use Rattle.mdp_flow.specs.declared.flow.Flow.{Flow}
-use Rattle.mdp_flow.proofs.FlowRules.{flow_rules}
-use Rattle.mdp_flow.proofs.FloorRules.{floor_rules}
-use Rattle.mdp_flow.proofs.Kept.{listed-at}
-use Rattle.mdp_flow.proofs.Listed.{listed-in_range, is_listed-listed}
+use Rattle.mdp_subsystem_rules.specs.FlowChecks.{flow_checks, HoldsFlow}
+use Rattle.mdp_subsystem_rules.specs.FloorChecks.{floor_checks, HoldsFloor, spread_values, spread_ranks}
+use Rattle.mdp_subsystem_rules.specs.Flow.{flow_total}
+use Rattle.mdp_subsystem_rules.specs.Kept.{kept_marks}
+use Rattle.mdp_subsystem_rules.specs.Laws.{FloorShows, FlowShows, PolicyShows, ListedAreMarks, ListedFlowShape, ListedFloorShape}
+use Rattle.mdp_subsystem_rules.specs.Listed.{listed, marks_at, values_at, ranks_at}
+use Rattle.mdp_subsystem_rules.specs.Policy.{PolicyWithin, FallsShort}
+use Rattle.mdp_subsystem_rules.specs.Visits.{visit_flows}
+use Rattle.mdp_subsystem_rules.specs.declared.flow.Flow.{Flow}
+use Rattle.mdp_subsystem_rules.proofs.FlowRules.{flow_rules}
+use Rattle.mdp_subsystem_rules.proofs.FloorRules.{floor_rules}
+use Rattle.mdp_subsystem_rules.proofs.Kept.{listed-at}
+use Rattle.mdp_subsystem_rules.proofs.Listed.{listed-in_range, is_listed-listed}
 use Rattle.mdp_reach.specs.Laws.{HasOneEnd, AnswersMeetRules, AnswersAreGreatest, AnswersAreLeast}
 use Rattle.mdp_reach.specs.Query.{Answer, EndsSo}
-use Rattle.mdp_trials.specs.First.{IsFirst}
-use Rattle.mdp_trials.specs.Evaluation.{Visited, visited, Visits, visited_value}
-use Rattle.mdp_trials.specs.LeastEvaluation.{Evaluates, value_from}
-use Rattle.mdp_trials.specs.Laws.{MaxKeptIsFlow, MaxKeptAreNeeded, MinKeptAreNeeded}
-use Rattle.mdp_trials.specs.Trial.{trial_set, without, trial_of, is_wide}
+use Rattle.mdp_witness_trials.specs.First.{IsFirst}
+use Rattle.mdp_witness_trials.specs.Evaluation.{Visited, visited, Visits, visited_value}
+use Rattle.mdp_witness_trials.specs.LeastEvaluation.{Evaluates, value_from}
+use Rattle.mdp_witness_trials.specs.Laws.{MaxKeptIsFlow, MaxKeptAreNeeded, MinKeptAreNeeded}
+use Rattle.mdp_witness_trials.specs.Trial.{trial_set, without, trial_of, is_wide}
 use Rattle.mdp_witness.specs.Query.{PlainSubsystem, flow_of, floor_of, verdict_on}
 use Rattle.mdp_witness.specs.Query as query
 use Rattle.mdp_witness.specs.Shown.{kept_in, HasShape, Holds, PolicyReaches, IsNeededMax, IsNeededMin, AreNeeded, MarksAreExactMax, MarksAreExactMin, IsBest, IsBestBelow}

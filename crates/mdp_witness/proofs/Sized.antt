@@ -14,12 +14,12 @@ use Rattle.mdp_elim.specs.System.{Leaves}
 use Rattle.mdp_elim.specs.Visits.{written_visits}
 use Rattle.mdp_elim.proofs.OneSolution.{gives_visits}
 use Rattle.mdp_reach.specs.Query.{policy_rows}
-use Rattle.mdp_trials.specs.First.{IsFirst}
-use Rattle.mdp_trials.specs.Evaluation.{Visited, Visits, visited_value}
-use Rattle.mdp_trials.specs.Trial.{AreLeft}
-use Rattle.mdp_trials.proofs.FirstMax.{are_rows, first-leaves}
-use Rattle.mdp_trials.proofs.Steps.{leaves_subset}
-use Rattle.mdp_trials.proofs.Values.{visits_by_start}
+use Rattle.mdp_witness_trials.specs.First.{IsFirst}
+use Rattle.mdp_witness_trials.specs.Evaluation.{Visited, Visits, visited_value}
+use Rattle.mdp_witness_trials.specs.Trial.{AreLeft}
+use Rattle.mdp_witness_trials.proofs.FirstMax.{are_rows, first-leaves}
+use Rattle.mdp_witness_trials.proofs.Steps.{leaves_subset}
+use Rattle.mdp_witness_trials.proofs.Values.{visits_by_start}
 
 -- what is left is within the first set
 pub kept_first : {E W : Type 0} (Evaluates : List Bool → Result E W → Type 0) (value : E → ℚ) (threshold : ℚ) (first kept wide : List Bool) (last : E)

@@ -7,18 +7,18 @@ use Rattle.mdp_spec.specs.Sub.{sub_of, policy_on}
 use Rattle.mdp_spec.specs.Tree.{IsPolicy}
 use Rattle.mdp_rows.specs.declared.dir.Dir.{Dir}
 use Rattle.mdp_rows.specs.declared.dir.Dir.TheVariants.{Max, Min}
-use Rattle.mdp_path.specs.Queries.{WideTerm}
-use Rattle.mdp_flow.specs.Flow.{flow_total}
-use Rattle.mdp_flow.specs.FlowChecks.{HoldsFlow}
-use Rattle.mdp_flow.specs.FloorChecks.{HoldsFloor}
-use Rattle.mdp_flow.specs.Kept.{kept_marks}
-use Rattle.mdp_flow.specs.Policy.{PolicyWithin, FallsShort}
-use Rattle.mdp_flow.specs.Shape.{IsFlowShape, IsFloorShape}
+use Rattle.mdp_policy_iteration.specs.Queries.{WideTerm}
+use Rattle.mdp_subsystem_rules.specs.Flow.{flow_total}
+use Rattle.mdp_subsystem_rules.specs.FlowChecks.{HoldsFlow}
+use Rattle.mdp_subsystem_rules.specs.FloorChecks.{HoldsFloor}
+use Rattle.mdp_subsystem_rules.specs.Kept.{kept_marks}
+use Rattle.mdp_subsystem_rules.specs.Policy.{PolicyWithin, FallsShort}
+use Rattle.mdp_subsystem_rules.specs.Shape.{IsFlowShape, IsFloorShape}
 use Rattle.mdp_reach.specs.Query.{Answer, EndsSo}
-use Rattle.mdp_trials.specs.First.{IsFirst}
-use Rattle.mdp_trials.specs.Evaluation.{visited, visited_value}
-use Rattle.mdp_trials.specs.LeastEvaluation.{Evaluates, value_from}
-use Rattle.mdp_trials.specs.Trial.{trial_set, without, trial_of, is_wide}
+use Rattle.mdp_witness_trials.specs.First.{IsFirst}
+use Rattle.mdp_witness_trials.specs.Evaluation.{visited, visited_value}
+use Rattle.mdp_witness_trials.specs.LeastEvaluation.{Evaluates, value_from}
+use Rattle.mdp_witness_trials.specs.Trial.{trial_set, without, trial_of, is_wide}
 use Rattle.mdp_witness.specs.Query.{PlainSubsystem, flow, floor}
 
 -- the kept states; for each whether it is marked as wide; and whether each state of the model is kept

@@ -2,12 +2,12 @@ ghost use Rattle.std.specs.Prelude.{◌≡◌, ◌<◌, length, true, Some, Ok, 
 ghost use Rattle.mdp_spec.specs.Mdp.{states_of, value_at};
 ghost use Rattle.mdp_rows.specs.declared.dir.Dir.TheVariants.{Max};
 ghost use Rattle.mdp_farkas.specs.Compare.{is_at_least};
-ghost use Rattle.mdp_flow.specs.Flow.{MeetsFlow};
-ghost use Rattle.mdp_flow.specs.Kept.{kept_marks};
-ghost use Rattle.mdp_flow.specs.Shape.{IsFlowShape};
+ghost use Rattle.mdp_subsystem_rules.specs.Flow.{MeetsFlow};
+ghost use Rattle.mdp_subsystem_rules.specs.Kept.{kept_marks};
+ghost use Rattle.mdp_subsystem_rules.specs.Shape.{IsFlowShape};
 ghost use Rattle.mdp_reach.specs.Query.{EndsSo};
 ghost use Rattle.mdp_reach.specs.Query as reach;
-ghost use Rattle.mdp_trials.specs.EvaluationCode.{plain};
+ghost use Rattle.mdp_witness_trials.specs.EvaluationCode.{plain};
 ghost use Rattle.mdp_witness.specs.Query.{too_wide, visiting, flow_of, verdict_on, FlowHeld, FromFirst};
 ghost use Rattle.mdp_witness.specs.Code.{plain_flow, Answers};
 
@@ -15,13 +15,13 @@ use crate::listing::{flows_of, listed, marks_at};
 use crate::subsystem::WitnessError;
 use mdp_elim::{ElimError, Kind, Part, TooWide};
 use mdp_farkas::{ReachCert, Verdict};
-use mdp_flow::{FlowCert, holds_flow, listed_law, never_no_law};
 use mdp_graph::avoid_law;
 use mdp_num::{Frac, Memory};
-use mdp_path::path_law;
+use mdp_policy_iteration::path_law;
 use mdp_reach::query_law;
 use mdp_rows::{Dir, Marks, Model};
-use mdp_trials::{MaxLeft, Policy, Query, kept_law};
+use mdp_subsystem_rules::{FlowCert, holds_flow, listed_law, never_no_law};
+use mdp_witness_trials::{MaxLeft, Policy, Query, kept_law};
 use std::alloc::Global;
 
 /// The certificate of what the trials leave: the kept states, those of them that are marked as wide, and the flows of their visits.

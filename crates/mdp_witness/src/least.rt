@@ -2,8 +2,8 @@ ghost use Rattle.std.specs.Prelude.{◌≡◌, ◌<◌, length, true, Some, Ok, 
 ghost use Rattle.mdp_spec.specs.Mdp.{states_of, value_at};
 ghost use Rattle.mdp_rows.specs.declared.dir.Dir.TheVariants.{Min};
 ghost use Rattle.mdp_farkas.specs.Compare.{is_at_least};
-ghost use Rattle.mdp_flow.specs.FloorChecks.{HoldsFloor};
-ghost use Rattle.mdp_flow.specs.Shape.{IsFloorShape};
+ghost use Rattle.mdp_subsystem_rules.specs.FloorChecks.{HoldsFloor};
+ghost use Rattle.mdp_subsystem_rules.specs.Shape.{IsFloorShape};
 ghost use Rattle.mdp_reach.specs.Query.{EndsSo, plain};
 ghost use Rattle.mdp_witness.specs.Query.{floor_of, FromFirst};
 ghost use Rattle.mdp_witness.specs.Code.{plain_floor, in_floor, Answers};
@@ -12,13 +12,13 @@ use crate::listing::{listed, marks_at, ranks_at, values_at};
 use crate::subsystem::WitnessError;
 use mdp_elim::{Part, SolveError, TooWide};
 use mdp_farkas::{ReachCert, Verdict};
-use mdp_flow::{FloorCert, fewer_law, holds_floor, listed_law};
 use mdp_graph::avoid_law;
 use mdp_num::{Frac, Memory};
-use mdp_path::path_law;
+use mdp_policy_iteration::path_law;
 use mdp_reach::query_law;
 use mdp_rows::{Dir, Marks, Model};
-use mdp_trials::{MinLeft, Query, Subsystems, first_law, kept_law};
+use mdp_subsystem_rules::{FloorCert, fewer_law, holds_floor, listed_law};
+use mdp_witness_trials::{MinLeft, Query, Subsystems, first_law, kept_law};
 use std::alloc::Global;
 
 /// The certificate of what the trials leave: the kept states, those of them that are marked as wide, and their values and ranks.

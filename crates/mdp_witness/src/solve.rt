@@ -19,7 +19,7 @@ use mdp_elim::{Kind, Part, TooWide};
 use mdp_farkas::ReachCert;
 use mdp_graph::avoid_law;
 use mdp_num::{Frac, Wide};
-use mdp_path::path_law;
+use mdp_policy_iteration::path_law;
 use mdp_reach::{ReachEnd, solve_reach_to_end};
 use mdp_rows::{Dir, Marks, Model};
 use std::alloc::Global;

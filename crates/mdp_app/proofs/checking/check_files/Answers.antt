@@ -1,5 +1,5 @@
 use Rattle.std.proofs.Common.{refl}
-use Rattle.mdp_step.proofs.Working.{pair_refused, pair_worked}
+use Rattle.mdp_command.proofs.Working.{pair_refused, pair_worked}
 use Rattle.mdp_app.proofs.Accepting.{checked}
 use Rattle.mdp_app.proofs.checking.check_files.Goals as goal
 

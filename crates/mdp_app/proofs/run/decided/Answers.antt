@@ -1,7 +1,7 @@
 use Rattle.std.proofs.Common.{refl, sym, ap, ◌∙◌}
 use Rattle.mdp_job.specs.Job.{plain_job}
 use Rattle.mdp_job.specs.declared.job.Job.{Job}
-use Rattle.mdp_step.specs.Files.{model_due}
+use Rattle.mdp_command.specs.Files.{model_due}
 use Rattle.mdp_app.specs.InRange.{asked_for}
 use Rattle.mdp_app.proofs.Accepting.{check_due_by}
 use Rattle.mdp_app.proofs.Deciding.{refused_words, alone_decided, model_decided, pair_decided, decided_as}

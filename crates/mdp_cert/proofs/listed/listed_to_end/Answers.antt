@@ -1,8 +1,8 @@
 use Rattle.std.proofs.Common.{suc, ◌+◌, length, None, Some, Ok, ap, sym, ◌∙◌, arith}
 use Rattle.std.proofs.lemmas.Result.{err_from_is_err_and}
-use Rattle.mdp_lines.specs.Lines.{place}
+use Rattle.mdp_text.specs.Lines.{place}
 use Rattle.mdp_cert.specs.Reading.{listed_from}
-use Rattle.mdp_lines.proofs.Feeds.{line-found}
+use Rattle.mdp_text.proofs.Feeds.{line-found}
 use Rattle.mdp_cert.proofs.OneByOne.{next-shorter, onto, first-line, next-line, last-line, no-line, not-said}
 use Rattle.mdp_cert.proofs.listed.listed_to_end.Goals as goal
 

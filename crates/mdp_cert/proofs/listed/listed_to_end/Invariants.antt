@@ -1,5 +1,5 @@
 use Rattle.std.proofs.Common.{◌≡◌, suc, ◌+◌, ◌≤◌, length}
-use Rattle.mdp_lines.specs.Lines.{place}
+use Rattle.mdp_text.specs.Lines.{place}
 use Rattle.mdp_cert.specs.Reading.{listed_from, listed_to_end}
 use Rattle.mdp_cert.proofs.OneByOne.{onto}
 use Rattle.mdp_cert.proofs.listed.listed_to_end.Given as goal

@@ -1,5 +1,5 @@
 use Rattle.std.proofs.Common.{OnOk, subst, suc, ◌+◌, ◌≡◌, ◌++◌, ap, sym, ◌∙◌, arith, List, ℕ}
-use Rattle.mdp_lines.proofs.Fronts.{keeps_more}
+use Rattle.mdp_text.proofs.Fronts.{keeps_more}
 use Rattle.mdp_cert.proofs.OneByOne.{more-written, all-written}
 use Rattle.mdp_cert.proofs.listed.push_listed.Goals as goal
 

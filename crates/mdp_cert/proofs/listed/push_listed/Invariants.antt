@@ -1,5 +1,5 @@
 use Rattle.std.proofs.Common.{◌≡◌, ◌++◌, drop}
-use Rattle.mdp_lines.specs.Answer.{Keeps}
+use Rattle.mdp_text.specs.Answer.{Keeps}
 use Rattle.mdp_cert.specs.Spelling.{listed_lines}
 use Rattle.mdp_cert.proofs.listed.push_listed.Given as goal
 

@@ -1,5 +1,5 @@
 use Rattle.std.proofs.Common.{◌≡◌, ◌+◌, ◌-◌, ◌≤◌}
-use Rattle.mdp_lines.specs.Lines.{place}
+use Rattle.mdp_text.specs.Lines.{place}
 use Rattle.mdp_cert.specs.Reading.{runs_from, entries_from}
 use Rattle.mdp_cert.proofs.Steps.{onto}
 use Rattle.mdp_cert.proofs.state_lines.entries_from.Given as goal

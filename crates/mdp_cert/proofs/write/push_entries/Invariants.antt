@@ -1,7 +1,7 @@
 use Rattle.std.proofs.Common.{◌≡◌, ◌++◌, ◌≤◌, ◌-◌, drop}
 use Rattle.mdp_cert.specs.Runs.{runs_in}
 use Rattle.mdp_cert.specs.Spelling.{run_lines, state_lines}
-use Rattle.mdp_lines.specs.Answer.{Keeps}
+use Rattle.mdp_text.specs.Answer.{Keeps}
 use Rattle.mdp_cert.proofs.write.push_entries.Given as goal
 
 abbrev pub invariant-loop-first : goal.invariant-loop-first

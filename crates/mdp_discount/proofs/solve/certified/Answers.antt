@@ -2,12 +2,12 @@ use Rattle.std.proofs.Common.{◌∙◌, ℕ, ◌<◌, ◌≤◌, ◌^◌, [], l
 use Rattle.std.specs.Prelude.{IsTrue, slice_index_or}
 use Rattle.mdp_spec.specs.Labels.{initial_of}
 use Rattle.mdp_rows.specs.Name.{IsName}
-use Rattle.mdp_lines.specs.declared.init.Init.{Init}
+use Rattle.mdp_text.specs.declared.init.Init.{Init}
 use Rattle.mdp_discount.specs.Cert.{is_init}
 use Rattle.mdp_discount.specs.Checks.{written_greatest}
 use Rattle.mdp_discount.proofs.Greatest.{written_greatest-some}
 use Rattle.mdp_discount.proofs.DiscountRules.{discount_never_no}
-use Rattle.mdp_lines.proofs.InitialState.{initial_below}
+use Rattle.mdp_text.proofs.InitialState.{initial_below}
 use Rattle.mdp_discount.proofs.Names.{name_of_reward, init-inside}
 use Rattle.mdp_discount.proofs.solve.certified.Goals as goal
 

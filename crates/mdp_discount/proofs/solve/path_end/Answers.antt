@@ -1,10 +1,10 @@
 use Rattle.std.proofs.Common.{◌≡◌, ◌∙◌, ℕ, ◌+◌, List, Err, take, replicate, length, sym, ap, subst}
 use Rattle.mdp_math.specs.Rational.{ℚ}
-use Rattle.mdp_path.specs.Laws.{IsSolvable}
-use Rattle.mdp_path.specs.Ends.{Ends}
-use Rattle.mdp_path.specs.declared.solution.PathError.{PathError}
+use Rattle.mdp_policy_iteration.specs.Laws.{IsSolvable}
+use Rattle.mdp_policy_iteration.specs.Ends.{Ends}
+use Rattle.mdp_policy_iteration.specs.declared.solution.PathError.{PathError}
 use Rattle.mdp_elim.specs.declared.too_wide.Part.TheVariants.{Whole}
-use Rattle.mdp_path.specs.Queries.{term_of}
+use Rattle.mdp_policy_iteration.specs.Queries.{term_of}
 use Rattle.mdp_discount.specs.Problem.{discount_problem}
 use Rattle.mdp_discount.specs.Query.{start_of}
 use Rattle.mdp_discount.specs.Code.{IsFound, cut_term}

@@ -1,5 +1,5 @@
 use Rattle.std.proofs.Common.{◌≡◌, ◌++◌, drop}
-use Rattle.mdp_lines.specs.Answer.{Keeps}
+use Rattle.mdp_text.specs.Answer.{Keeps}
 use Rattle.mdp_discount_text.specs.Spelling.{state_lines}
 use Rattle.mdp_discount_text.proofs.push.push_states.Given as goal
 

@@ -1,7 +1,7 @@
 use Rattle.std.proofs.Common.{◌+◌, ◌-◌, ℕ, List, sym, ◌∙◌, ap₂, arith}
 use Rattle.std.proofs.lemmas.Result.{err_from_is_err_and}
 use Rattle.mdp_math.specs.Rational.{ℚ}
-use Rattle.mdp_lines.specs.Lines.{place}
+use Rattle.mdp_text.specs.Lines.{place}
 use Rattle.mdp_discount_text.specs.Text.{states_from}
 use Rattle.mdp_discount_text.proofs.Reading.{onto, first-state, next-state, no-line, no-state, last-state}
 use Rattle.mdp_discount_text.proofs.state_lines.states_from.Goals as goal

@@ -1,5 +1,5 @@
 use Rattle.std.proofs.Common.{◌≡◌, ◌+◌, ◌-◌, ◌≤◌}
-use Rattle.mdp_lines.specs.Lines.{place}
+use Rattle.mdp_text.specs.Lines.{place}
 use Rattle.mdp_discount_text.specs.Text.{states_from}
 use Rattle.mdp_discount_text.proofs.Reading.{onto}
 use Rattle.mdp_discount_text.proofs.state_lines.states_from.Given as goal

@@ -1,6 +1,6 @@
 use Rattle.std.proofs.Common.{◌≡◌, ℕ, ◌-◌, ◌^◌, min, Result}
-use Rattle.mdp_path.specs.Path.{Refusal}
-use Rattle.mdp_path.specs.Laws.{first}
+use Rattle.mdp_policy_iteration.specs.Path.{Refusal}
+use Rattle.mdp_policy_iteration.specs.Laws.{first}
 use Rattle.mdp_unichain.specs.Chain.{IsReference}
 use Rattle.mdp_unichain.specs.Component.{is_state, row_by}
 use Rattle.mdp_unichain.specs.Iteration.{EndsWith}

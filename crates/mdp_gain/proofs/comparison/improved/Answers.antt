@@ -1,7 +1,7 @@
 use Rattle.std.proofs.Common.{◌∙◌, ◌+◌, ℕ, Result, Ok, sym, ap, arith}
 use Rattle.std.proofs.lemmas.Result.{err_from_is_err_and}
-use Rattle.mdp_path.specs.Places.{Place}
-use Rattle.mdp_path.proofs.Answering.{up_to-more, up_to-refused}
+use Rattle.mdp_policy_iteration.specs.Places.{Place}
+use Rattle.mdp_policy_iteration.proofs.Answering.{up_to-more, up_to-refused}
 use Rattle.mdp_unichain.specs.Component.{count}
 use Rattle.mdp_unichain.specs.Written.{improved_at}
 use Rattle.mdp_gain.specs.Code.{component_in, values_in}

@@ -1,5 +1,5 @@
 use Rattle.std.proofs.Common.{◌≡◌, Ok}
-use Rattle.mdp_path.specs.Places.{up_to}
+use Rattle.mdp_policy_iteration.specs.Places.{up_to}
 use Rattle.mdp_unichain.specs.Written.{improved_at}
 use Rattle.mdp_gain.specs.Code.{component_in, values_in}
 use Rattle.mdp_gain.proofs.comparison.improved.Given as goal

@@ -1,5 +1,5 @@
 use Rattle.std.proofs.Common.{◌≡◌, Ok}
-use Rattle.mdp_path.specs.Places.{up_to}
+use Rattle.mdp_policy_iteration.specs.Places.{up_to}
 use Rattle.mdp_unichain.specs.Written.{bias_of}
 use Rattle.mdp_gain.specs.Code.{component_in}
 use Rattle.mdp_gain.proofs.evaluation.biases.Given as goal

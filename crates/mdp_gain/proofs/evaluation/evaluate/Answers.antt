@@ -1,5 +1,5 @@
 use Rattle.std.proofs.Common.{◌∙◌, map, sym, ap}
-use Rattle.mdp_path.proofs.Results.{IsUpTo, up_to-is}
+use Rattle.mdp_policy_iteration.proofs.Results.{IsUpTo, up_to-is}
 use Rattle.mdp_unichain.specs.Component.{count}
 use Rattle.mdp_unichain.specs.Written.{bias_of}
 use Rattle.mdp_gain.specs.Code.{component_in}

@@ -1,5 +1,5 @@
 use Rattle.std.proofs.Common.{◌≡◌, ◌++◌, take}
-use Rattle.mdp_lines.specs.Answer.{Keeps}
+use Rattle.mdp_text.specs.Answer.{Keeps}
 use Rattle.mdp_horizon.specs.Spelling.{choice_words}
 use Rattle.mdp_horizon.proofs.push.push_choices.Given as goal
 

@@ -1,5 +1,5 @@
 use Rattle.std.proofs.Common.{◌≡◌, ◌++◌, drop}
-use Rattle.mdp_lines.specs.Answer.{Keeps}
+use Rattle.mdp_text.specs.Answer.{Keeps}
 use Rattle.mdp_horizon.specs.Spelling.{step_lines}
 use Rattle.mdp_horizon.specs.Answer.{lists}
 use Rattle.mdp_horizon.proofs.push.push_steps.Given as goal

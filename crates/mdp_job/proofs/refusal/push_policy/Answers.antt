@@ -1,4 +1,4 @@
-use Rattle.mdp_lines.proofs.Fronts.{keeps-split, keeps_more}
+use Rattle.mdp_text.proofs.Fronts.{keeps-split, keeps_more}
 use Rattle.mdp_job.proofs.refusal.push_policy.Goals as goal
 
 pub returns-in_err-push_number-clause-front : goal.returns-in_err-push_number-clause-front

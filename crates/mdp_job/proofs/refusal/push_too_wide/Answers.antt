@@ -1,5 +1,5 @@
 use Rattle.std.proofs.Common.{◌∷◌, ◌++◌, [], codes, decimal, List, ℕ, ap, ◌∙◌}
-use Rattle.mdp_lines.proofs.Fronts.{keeps-split, keeps_more}
+use Rattle.mdp_text.proofs.Fronts.{keeps-split, keeps_more}
 use Rattle.mdp_job.specs.Text.{part_word, kind_word, place_text, policy_words}
 use Rattle.mdp_job.proofs.WideText.{on_ok, assembled}
 use Rattle.mdp_job.proofs.refusal.push_too_wide.Goals as goal

@@ -1,7 +1,7 @@
 use Rattle.std.proofs.Common.{◌≡◌, drop}
 use Rattle.mdp_spec.specs.Row.{entries}
 use Rattle.mdp_spec.specs.Written.{written_sum}
-use Rattle.mdp_path.specs.Path.{outer}
+use Rattle.mdp_policy_iteration.specs.Path.{outer}
 use Rattle.mdp_mean.proofs.bias.outer_sum.Given as goal
 
 abbrev pub invariant-loop-i : goal.invariant-loop-i

@@ -1,5 +1,5 @@
 use Rattle.std.proofs.Common.{◌≡◌, Ok}
-use Rattle.mdp_path.specs.Places.{up_to}
+use Rattle.mdp_policy_iteration.specs.Places.{up_to}
 use Rattle.mdp_mean.specs.Code.{joining_in}
 use Rattle.mdp_mean.specs.Join.{bound_at}
 use Rattle.mdp_mean.proofs.bound.bound_of.Given as goal

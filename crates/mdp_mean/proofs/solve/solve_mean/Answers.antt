@@ -3,10 +3,10 @@ use Rattle.std.specs.Global.{Global}
 use Rattle.mdp_num.specs.declared.frac.Frac.{Frac}
 use Rattle.std.proofs.lemmas.Result.{err_from_is_err_and}
 use Rattle.mdp_math.specs.Rational.{ℚ}
-use Rattle.mdp_path.specs.Queries.{Solves}
-use Rattle.mdp_exits.specs.Outer as outer
-use Rattle.mdp_exits.specs.Steps.{StepsEndSo}
-use Rattle.mdp_exits.proofs.InModel.{gains-each}
+use Rattle.mdp_policy_iteration.specs.Queries.{Solves}
+use Rattle.mdp_quot_exits.specs.Outer as outer
+use Rattle.mdp_quot_exits.specs.Steps.{StepsEndSo}
+use Rattle.mdp_quot_exits.proofs.InModel.{gains-each}
 use Rattle.mdp_mean.specs.Inners.{InnersEndSo}
 use Rattle.mdp_mean.specs.PartsCode.{inners_in, joining_of}
 use Rattle.mdp_mean.specs.Query.{plain, joining, JoinEndsSo, EndsSo}

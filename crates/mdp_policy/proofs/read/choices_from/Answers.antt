@@ -1,6 +1,6 @@
 use Rattle.std.proofs.Common.{◌+◌, ◌-◌, sym, ◌∙◌, ap, arith}
 use Rattle.std.proofs.lemmas.Result.{err_from_is_err_and}
-use Rattle.mdp_lines.specs.Lines.{place}
+use Rattle.mdp_text.specs.Lines.{place}
 use Rattle.mdp_policy.specs.Text.{choices_from}
 use Rattle.mdp_policy.proofs.Reading.{onto, first-choice, next-choice, no-line, no-choice, last-choice}
 use Rattle.mdp_policy.proofs.read.choices_from.Goals as goal

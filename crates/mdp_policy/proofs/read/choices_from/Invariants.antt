@@ -1,5 +1,5 @@
 use Rattle.std.proofs.Common.{◌≡◌, ◌+◌, ◌-◌, ◌≤◌}
-use Rattle.mdp_lines.specs.Lines.{place}
+use Rattle.mdp_text.specs.Lines.{place}
 use Rattle.mdp_policy.specs.Text.{choices_from}
 use Rattle.mdp_policy.proofs.Reading.{onto}
 use Rattle.mdp_policy.proofs.read.choices_from.Given as goal

@@ -1,6 +1,6 @@
 use Rattle.std.proofs.Common.{◌≡◌, ◌++◌, List, ℕ, ◌∙◌, ap, append_assoc}
 use Rattle.mdp_math.specs.Rational.{ℚ}
-use Rattle.mdp_lines.specs.Spelling.{value_lines}
+use Rattle.mdp_text.specs.Spelling.{value_lines}
 use Rattle.mdp_policy.specs.Spelling.{value_text}
 use Rattle.mdp_policy.proofs.write.push_lines.Goals as goal
 

@@ -5,7 +5,7 @@ use Rattle.mdp_elim.specs.declared.too_wide.SolveError.{SolveError}
 use Rattle.mdp_farkas.specs.Verdict.{verdict_of}
 use Rattle.mdp_farkas.specs.Reward.{reward_checks}
 use Rattle.mdp_farkas.specs.declared.verdict.Verdict.TheVariants.{Yes, No, Wide}
-use Rattle.mdp_path.specs.Queries.{Solves, WideTerm}
+use Rattle.mdp_policy_iteration.specs.Queries.{Solves, WideTerm}
 use Rattle.mdp_reward.specs.Query.{Answer, plain, rewards_of, AreRanks, EndsSo}
 use Rattle.mdp_reward.proofs.Nodes.{reward-count}
 use Rattle.mdp_reward.proofs.Values.{reward-nonneg}

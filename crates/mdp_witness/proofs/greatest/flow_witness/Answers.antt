@@ -5,9 +5,9 @@ use Rattle.mdp_rows.specs.declared.dir.Dir.TheVariants.{Max}
 use Rattle.mdp_farkas.specs.Compare.{is_at_least}
 use Rattle.mdp_farkas.proofs.Comparing.{le_of_at_least}
 use Rattle.mdp_reach.specs.Query as reach
-use Rattle.mdp_trials.specs.EvaluationCode.{plain}
-use Rattle.mdp_trials.proofs.FirstMax.{first-leaves}
-use Rattle.mdp_trials.proofs.Lengths.{sized}
+use Rattle.mdp_witness_trials.specs.EvaluationCode.{plain}
+use Rattle.mdp_witness_trials.proofs.FirstMax.{first-leaves}
+use Rattle.mdp_witness_trials.proofs.Lengths.{sized}
 use Rattle.mdp_witness.specs.Query.{FlowHeld, FromFirst, verdict_on}
 use Rattle.mdp_witness.specs.Code.{plain_flow}
 use Rattle.mdp_witness.proofs.Flowing.{shaped, meets-max, left-meets, left-held}

@@ -1,8 +1,8 @@
 use Rattle.std.proofs.Common.{sym, ◌∙◌, ap, subst, length, Ok}
 use Rattle.mdp_rows.specs.declared.dir.Dir.TheVariants.{Min}
-use Rattle.mdp_flow.specs.declared.floor.FloorCert.{FloorCert}
+use Rattle.mdp_subsystem_rules.specs.declared.floor.FloorCert.{FloorCert}
 use Rattle.mdp_reach.specs.Query.{plain}
-use Rattle.mdp_trials.proofs.Lengths.{sized}
+use Rattle.mdp_witness_trials.proofs.Lengths.{sized}
 use Rattle.mdp_witness.specs.Query.{FromFirst}
 use Rattle.mdp_witness.specs.Code.{plain_floor}
 use Rattle.mdp_witness.proofs.Flooring.{shaped, meets-min, left-holds, left-found, values_each, ranks_each}

@@ -1,5 +1,5 @@
 use Rattle.std.proofs.Common.{◌≡◌}
-use Rattle.mdp_flow.specs.Listed.{listed}
+use Rattle.mdp_subsystem_rules.specs.Listed.{listed}
 use Rattle.mdp_witness.proofs.listing.listed.Given as goal
 
 abbrev pub invariant-loop-s : goal.invariant-loop-s

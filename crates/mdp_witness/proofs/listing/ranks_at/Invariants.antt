@@ -1,5 +1,5 @@
 use Rattle.std.proofs.Common.{◌≡◌, take}
-use Rattle.mdp_flow.specs.Listed.{ranks_at}
+use Rattle.mdp_subsystem_rules.specs.Listed.{ranks_at}
 use Rattle.mdp_witness.proofs.listing.ranks_at.Given as goal
 
 abbrev pub invariant-loop-s : goal.invariant-loop-s

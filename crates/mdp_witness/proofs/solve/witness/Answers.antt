@@ -4,7 +4,7 @@ use Rattle.mdp_spec.specs.Mdp.{value_at}
 use Rattle.mdp_spec.specs.Bounds.{SubMax, SubMin}
 use Rattle.mdp_farkas.specs.Compare.{is_at_least}
 use Rattle.mdp_reach.specs.Query as reach
-use Rattle.mdp_trials.proofs.Lengths.{sized}
+use Rattle.mdp_witness_trials.proofs.Lengths.{sized}
 use Rattle.mdp_witness.specs.Query.{EndsSo, FromFirst}
 use Rattle.mdp_witness.specs.Code.{plain}
 use Rattle.mdp_witness.specs.Shown.{kept_in, HasShape, Holds, PolicyReaches, IsNeededMax, IsNeededMin, AreNeeded, MarksAreExactMax, MarksAreExactMin, IsBestBelow}

@@ -1,5 +1,5 @@
 use Rattle.std.proofs.Common.{◌≡◌, ◌∙◌, ℕ, ◌<◌, ◌≤◌, length, sym, subst}
-use Rattle.mdp_path.specs.Problem.{choices_at}
+use Rattle.mdp_policy_iteration.specs.Problem.{choices_at}
 use Rattle.mdp_discount.specs.Problem.{discount_problem}
 use Rattle.mdp_discount.proofs.Nodes.{state-choices, end-choices, is-end}
 use Rattle.mdp_discount.proofs.problem.DiscountedShortestPath.choices.Goals as goal

@@ -1,5 +1,5 @@
 use Rattle.std.proofs.Common.{sym, ap}
-use Rattle.mdp_path.specs.Problem.{Choice}
+use Rattle.mdp_policy_iteration.specs.Problem.{Choice}
 use Rattle.mdp_discount.proofs.Nodes.{has-choice, state-choice}
 use Rattle.mdp_discount.proofs.problem.DiscountedShortestPath.is_candidate.Goals as goal
 

@@ -2,7 +2,7 @@ use Rattle.std.proofs.Common.{◌∙◌, ℕ, Option, None, Result, Ok, sym, ap,
 use Rattle.std.proofs.lemmas.Result.{err_from_is_err_and}
 use Rattle.mdp_math.specs.Result.{◌>>=◌}
 use Rattle.mdp_spec.specs.Mdp.{states_of}
-use Rattle.mdp_path.specs.Places.{Place}
+use Rattle.mdp_policy_iteration.specs.Places.{Place}
 use Rattle.mdp_policy.specs.Written.{taken_at, change_at, next_state}
 use Rattle.mdp_policy.specs.declared.value.Change.{Change}
 use Rattle.mdp_policy.proofs.Turns.{in_turn-refused, says_of, says_then, says_same, answers_err}

@@ -3,9 +3,9 @@ use Rattle.std.proofs.lemmas.Result.{err_from_is_err_and}
 use Rattle.std.specs.Result.{result_ok}
 use Rattle.mdp_spec.specs.Mdp.{states_of}
 use Rattle.mdp_elim.specs.declared.too_wide.Kind.TheVariants.{Evaluate}
-use Rattle.mdp_path.specs.Path.{evaluating}
-use Rattle.mdp_path.specs.Places.{at_place}
-use Rattle.mdp_path.proofs.Answering.{up_to-more, up_to-refused}
+use Rattle.mdp_policy_iteration.specs.Path.{evaluating}
+use Rattle.mdp_policy_iteration.specs.Places.{at_place}
+use Rattle.mdp_policy_iteration.proofs.Answering.{up_to-more, up_to-refused}
 use Rattle.mdp_policy.specs.Written.{constant}
 use Rattle.mdp_policy.proofs.Turns.{placed-ok, placed-err, says, answers_err}
 use Rattle.mdp_policy.proofs.evaluate.Evaluation.constants.Goals as goal

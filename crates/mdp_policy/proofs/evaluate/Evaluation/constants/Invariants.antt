@@ -1,5 +1,5 @@
 use Rattle.std.proofs.Common.{◌≡◌, Ok}
-use Rattle.mdp_path.specs.Places.{up_to}
+use Rattle.mdp_policy_iteration.specs.Places.{up_to}
 use Rattle.mdp_policy.specs.Written.{constant}
 use Rattle.mdp_policy.proofs.evaluate.Evaluation.constants.Given as goal
 

@@ -1,6 +1,6 @@
 use Rattle.std.proofs.Common.{◌∙◌, sym, arith, rules}
 use Rattle.mdp_reach.specs.Query.{policy_rows}
-use Rattle.mdp_path.proofs.Solving.{one_column, first_len, written_solution-below}
+use Rattle.mdp_policy_iteration.proofs.Solving.{one_column, first_len, written_solution-below}
 use Rattle.mdp_policy.proofs.Solving.{policy_rows-len}
 use Rattle.mdp_policy.proofs.evaluate.Evaluation.solution.Goals as goal
 

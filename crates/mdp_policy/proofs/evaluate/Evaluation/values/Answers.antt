@@ -1,5 +1,5 @@
 use Rattle.mdp_spec.specs.Mdp.{states_of}
-use Rattle.mdp_path.proofs.Results.{IsUpTo, up_to-is}
+use Rattle.mdp_policy_iteration.proofs.Results.{IsUpTo, up_to-is}
 use Rattle.mdp_policy.specs.Written.{constant}
 use Rattle.mdp_policy.proofs.evaluate.Evaluation.values.Goals as goal
 

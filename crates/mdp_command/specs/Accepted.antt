@@ -1,0 +1,25 @@
+-- Which bytes `check` accepts.
+use Rattle.std.specs.Prelude.{◌≡◌, ℕ, ◌≤◌, List, length, Ok}
+use Rattle.mdp_spec.specs.Mdp.{Mdp}
+use Rattle.mdp_rows.specs.declared.rule.RowRule.{RowRule}
+use Rattle.mdp_drn.specs.Reading.{Reads}
+use Rattle.mdp_cert.specs.Cert.{Certificate}
+use Rattle.mdp_cert.specs.Reading.{outcome}
+use Rattle.mdp_check.specs.Check.{IsAccepted, IsBound}
+use Rattle.mdp_command.specs.Files.{most_bytes}
+
+-- neither file has more than 2^30 bytes, the first reads as a model, the second is the text of a certificate, and that is accepted for the model:
+-- as many states, the label is there, all rules hold, and no written term is past width
+pub record Accepted (rule : RowRule) (model_bytes cert_bytes : List ℕ) : Type 0 where
+  pub short_model : length model_bytes ≤ most_bytes
+  pub short_cert : length cert_bytes ≤ most_bytes
+  pub model : Mdp
+  pub reads : Reads model_bytes rule model
+  pub cert : Certificate
+  pub text : outcome cert_bytes ≡ Ok cert
+  pub holds : IsAccepted model cert
+
+-- they are accepted, and the claim of the certificate is true of the model, whoever made the certificate
+pub record IsTrueClaim (rule : RowRule) (model_bytes cert_bytes : List ℕ) : Type 0 where
+  pub accepted : Accepted rule model_bytes cert_bytes
+  pub bound : IsBound accepted.model accepted.cert

@@ -1,0 +1,47 @@
+-- What is shown of the text that `discount` prints, and of a `yes` of `discount-check`.
+use Rattle.std.specs.Prelude.{◌≡◌, ℕ, ◌≤◌, List, length, Ok}
+use Rattle.mdp_math.specs.Rational.{ℚ}
+use Rattle.mdp_spec.specs.Mdp.{Mdp}
+use Rattle.mdp_rows.specs.declared.dir.Dir.{Dir}
+use Rattle.mdp_rows.specs.declared.rule.RowRule.{RowRule}
+use Rattle.mdp_discount.specs.Cert.{Certificate}
+use Rattle.mdp_discount.specs.Check.{IsAccepted, IsBound}
+use Rattle.mdp_discount_text.specs.Spelling.{text_of}
+use Rattle.mdp_discount_text.specs.Text.{outcome}
+use Rattle.mdp_command.specs.Files.{most_bytes}
+use Rattle.mdp_command.specs.Read.{IsWorkOnModel, IsWorkOnPair}
+use Rattle.mdp_command.specs.Said.{Said}
+use Rattle.mdp_command.specs.Streams.{Input}
+use Rattle.mdp_command_discount.specs.Accepted.{IsTrueClaim}
+use Rattle.mdp_command_discount.specs.Due.{IsDiscountDue, IsDiscountCheckDue}
+
+-- the claim is that of this direction, this name and this factor
+pub record ClaimsSo (dir : Dir) (name : List ℕ) (f : ℚ) (c : Certificate) : Type 0 where
+  pub direction : c.dir ≡ dir
+  pub named : c.name ≡ name
+  pub discounted : c.factor ≡ f
+
+-- the text of a certificate of this claim for the model, which reads as it; all rules hold, and the claim is true
+pub record IsDiscountPrinted (dir : Dir) (name : List ℕ) (f : ℚ) (m : Mdp) (text : List ℕ) : Type 0 where
+  pub cert : Certificate
+  pub claim : ClaimsSo dir name f cert
+  pub spelled : text ≡ text_of cert
+  pub short : length text ≤ most_bytes
+  pub reads : outcome text ≡ Ok cert
+  pub holds : IsAccepted m cert
+  pub bound : IsBound m cert
+
+-- `discount-check` accepts the text with the model's bytes, and its claim, which is this one, is true: the values are the best ones, and the policy
+-- comes close to them
+pub record IsDiscountSolved (rule : RowRule) (dir : Dir) (name : List ℕ) (f : ℚ) (model_bytes text : List ℕ) : Type 0 where
+  pub true_claim : IsTrueClaim rule model_bytes text
+  pub claim : ClaimsSo dir name f true_claim.accepted.cert
+  pub spelled : text ≡ text_of true_claim.accepted.cert
+
+-- discounted rewards of the model of a source: what is due to the bytes that it had, and what is shown of a text; or a fault, or want of memory
+abbrev pub IsDiscountRead : RowRule → Dir → List ℕ → ℚ → Input → Said → Type 0
+IsDiscountRead rule dir name f = IsWorkOnModel rule (IsDiscountDue dir name f) (IsDiscountSolved rule dir name f)
+
+-- what `discount-check` makes of its files: what is due to their bytes, and what is shown of a `yes`; or a fault that was counted, or want of memory
+abbrev pub IsDiscountCheckRead : RowRule → Input → Input → Said → Type 0
+IsDiscountCheckRead rule = IsWorkOnPair rule IsDiscountCheckDue (λ model cert text. IsTrueClaim rule model cert)

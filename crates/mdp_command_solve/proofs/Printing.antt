@@ -1,0 +1,322 @@
+-- What is shown of a solved query: its answer has an entry per state, and its certificate belongs to the model.
+use Rattle.std.proofs.Common.{◌≡◌, ℕ, ◌<◌, ◌≤◌, ◌⊎◌, inl, inr, Bool, true, false, cond, ◌&&◌, ◌||◌, not, eqb, nat_lt, List, [], ◌∷◌, length, get_or, Option, Some, None}
+use Rattle.std.proofs.Common.{Result, Ok, Err, IfOk, refl, sym, ap, ap₂, subst, ◌∙◌, arith, eq-eqb, lt-ltb}
+use Rattle.std.specs.Prelude.{All, option_map}
+use Rattle.std.specs.List.{list_any}
+use Rattle.std.proofs.Math.ListN.{replicate}
+use Rattle.std.specs.Str.{bytes_eq}
+use Rattle.std.proofs.lemmas.Bool.{and_parts}
+use Rattle.std.proofs.lemmas.List.Elements.{All-get_or}
+use Rattle.std.proofs.lemmas.List.Quantifiers.{position-Some}
+use Rattle.std.proofs.lemmas.Slice.Eq.{bytes_eq-Decides}
+use Rattle.std.proofs.lemmas.List.FromFn.{length-map-range_with_len}
+use Rattle.mdp_math.specs.Rational.{ℚ}
+use Rattle.mdp_num.proofs.Equal.{equal_decides}
+use Rattle.mdp_spec.specs.Bounds.{reward_at}
+use Rattle.mdp_spec.specs.Labels.{place_of, marks_of, initial_of}
+use Rattle.mdp_spec.specs.Mdp.{Mdp, states_of, value_at}
+use Rattle.mdp_spec.specs.Row.{IsMdp}
+use Rattle.mdp_rows.specs.Name.{IsName, IsRewardName}
+use Rattle.mdp_rows.specs.declared.dir.Dir.{Dir}
+use Rattle.mdp_rows.specs.declared.dir.Dir.TheVariants.{Max, Min}
+use Rattle.mdp_graph.specs.Laws.{RestMeets}
+use Rattle.mdp_policy_iteration.specs.Iteration.{EndsWith}
+use Rattle.mdp_policy_iteration.specs.Laws.{EndsAtBest, first}
+use Rattle.mdp_policy_iteration.specs.Path.{Found, Refusal, path_step}
+use Rattle.mdp_farkas.specs.Reach.{MeetsReach, IsReach, reach_checks}
+use Rattle.mdp_farkas.specs.Reward.{MeetsReward, IsReward, reward_checks}
+use Rattle.mdp_farkas.specs.Mean.{MeetsMean, IsMean}
+use Rattle.mdp_farkas.specs.Verdict.{verdict_of}
+use Rattle.mdp_farkas.specs.declared.verdict.Verdict.{Verdict}
+use Rattle.mdp_farkas.specs.declared.verdict.Verdict.TheVariants.{Yes, No, Wide}
+use Rattle.mdp_reach.specs.Problem.{reach_problem}
+use Rattle.mdp_reach.specs.Query.{Answer, AreRanks, Held, AfterPath, EndsSo}
+use Rattle.mdp_reach.proofs.Nodes.{reach-count}
+use Rattle.mdp_reach.proofs.Starts.{start-solvable}
+use Rattle.mdp_reward.specs.Query as rewarded
+use Rattle.mdp_mean.specs.Query as averaged
+use Rattle.mdp_text.specs.declared.init.Init.{Init}
+use Rattle.mdp_cert.specs.Cert as certificate
+use Rattle.mdp_cert.specs.Cert.{PlainClaim, PlainBody, Certificate, may_be_infinite, is_witness, is_init_of, is_body_of, Fits}
+use Rattle.mdp_cert.specs.Claims.{reward_same}
+use Rattle.mdp_cert.specs.Reading.{outcome}
+use Rattle.mdp_cert.specs.Spelling.{text_of}
+use Rattle.mdp_cert.specs.Laws.{IsReadBack}
+use Rattle.mdp_check.specs.Initial.{has_value, is_subsystem, init_check, init_fault}
+use Rattle.mdp_check.specs.Check.{labelled_marks, IsAccepted}
+use Rattle.mdp_check.proofs.Accepting.{accepted_is_bound}
+use Rattle.mdp_job.specs.Refusal.{no_memory}
+use Rattle.mdp_command.specs.Files.{most_bytes}
+use Rattle.mdp_command.specs.Said.{Said}
+use Rattle.mdp_command_solve.specs.Due.{certificate_of, reward_certificate_of, mean_certificate_of}
+use Rattle.mdp_command_solve.specs.Solved.{IsClaimPrinted, IsReachPrinted, IsRewardPrinted, IsMeanPrinted}
+use Rattle.mdp_text.specs.Heads.{init_of, init_by}
+use Rattle.mdp_text.proofs.InitialState.{initial_below}
+use Rattle.mdp_command_solve.proofs.TextLength.{text_short}
+
+-- ---- an answer has an entry per state
+
+ranks_size : (dir : Dir) (m : Mdp) (goals : List Bool) (z : List ℚ) (cs rs : List ℕ) → AreRanks dir m goals z cs rs → length rs ≡ states_of m
+ranks_size Max m goals z cs rs h = h.least.count
+ranks_size Min m goals z cs rs h = h.least.count
+
+pub choices_size : (dir : Dir) (m : Mdp) (goals : List Bool) (z : List ℚ) (cs rs : List ℕ) → MeetsReach dir m goals z cs rs → length cs ≡ states_of m
+choices_size Max m goals z cs rs h = h.choices.one_each
+choices_size Min m goals z cs rs h = h.choices.one_each
+
+pub record HasSizes (n : ℕ) (a : Answer) : Type 0 where
+  pub values : length a.values ≡ n
+  pub ranks : length a.ranks ≡ n
+
+held_sizes : (n : ℕ) (f : Found) (ranks : List ℕ) (a : Answer) (v : Verdict) → Held f ranks v (Ok a) → length f.values ≡ n → length ranks ≡ n → HasSizes n a
+held_sizes n f ranks a Yes h x y =
+    let e : (let b : Answer = record { values = f.values; choices = f.policy; ranks = ranks } in b) ≡ a = cc h in
+    subst (HasSizes n) e (record { values = x; ranks = y })
+held_sizes n f ranks a (No fault) h x y = absurd h
+held_sizes n f ranks a (Wide state choice) h x y = cc h
+
+module _ (dir : Dir) (m : Mdp) (goals : List Bool) (a : Answer) (model : IsMdp m) (best : EndsAtBest) (meets : RestMeets) (end : EndsSo dir m goals (Ok a)) where
+  sizes_by : (e : Result Found Refusal) → EndsWith (path_step (reach_problem dir m goals end.marks)) (first end.start) e → AfterPath dir m goals e (Ok a) → HasSizes (states_of m) a
+  sizes_by (Err w) p h = cc h
+  sizes_by (Ok f) p h =
+      let b = best (reach_problem dir m goals end.marks) end.start f (start-solvable dir m goals end.marks end.start model meets end.is_start) p in
+      held_sizes (states_of m) f h.0 a (verdict_of (reach_checks dir m goals f.values f.policy h.0)) h.2 (b.best.values.len ∙ reach-count dir m goals end.marks)
+      (ranks_size dir m goals f.values f.policy h.0 h.1)
+
+  pub answer_sizes : HasSizes (states_of m) a
+  answer_sizes = sizes_by end.end end.path end.after
+
+-- ---- the sizes of an answer of rewards
+
+split_size : (m : Mdp) (marks : List Bool) (inside outside : List ℕ) → length (rewarded.split m marks inside outside) ≡ states_of m
+split_size m marks inside outside = length-map-range_with_len _ 0 (states_of m)
+
+known_size : (m : Mdp) (goals finite : List Bool) (start known ranks : List ℕ) → rewarded.IsMaxStart m goals finite start known → ranks ≡ known → length ranks ≡ states_of m
+known_size m goals finite start known ranks is e = ap length e ∙ ap length is.known_is ∙ split_size m finite is.near is.far
+
+reward_ranks_size : (dir : Dir) (m : Mdp) (goals finite : List Bool) (start known cs ranks : List ℕ) → rewarded.IsStart dir m goals finite start known
+    → rewarded.AreRanks dir m goals finite known cs ranks → length ranks ≡ states_of m
+reward_ranks_size Max m goals finite start known cs ranks is h = known_size m goals finite start known ranks is h
+reward_ranks_size Min m goals finite start known cs ranks is h = ap length h.ranks_are ∙ split_size m finite h.along known
+
+held_ranks : (f : Found) (values : List (Option ℚ)) (ranks : List ℕ) (a : rewarded.Answer) (v : Verdict) → rewarded.Held f values ranks v (Ok a) → ranks ≡ a.ranks
+held_ranks f values ranks a Yes h = let e : (let b : rewarded.Answer = record { values = values; choices = f.policy; ranks = ranks } in b) ≡ a = cc h in ap (λ (b : rewarded.Answer). b.ranks) e
+held_ranks f values ranks a (No fault) h = absurd h
+held_ranks f values ranks a (Wide state choice) h = cc h
+
+module _ (dir : Dir) (m : Mdp) (r : ℕ) (goals : List Bool) (a : rewarded.Answer) (end : rewarded.EndsSo dir m r goals (Ok a)) where
+  ranks_by : (e : Result Found Refusal) → rewarded.AfterPath dir m r goals end.finite end.known e (Ok a) → length a.ranks ≡ states_of m
+  ranks_by (Err w) h = cc h
+  ranks_by (Ok f) h =
+      let values = rewarded.rewards_of m end.finite f.values in
+      ap length (sym (held_ranks f values h.0 a (verdict_of (reward_checks dir m r goals values f.policy h.0)) h.2))
+      ∙ reward_ranks_size dir m goals end.finite end.start end.known f.policy h.0 end.is_start h.1
+
+  pub reward_ranks : length a.ranks ≡ states_of m
+  reward_ranks = ranks_by end.end end.after
+
+pub reward_values_size : (dir : Dir) (m : Mdp) (r : ℕ) (goals : List Bool) (v : List (Option ℚ)) (cs rs : List ℕ) → MeetsReward dir m r goals v cs rs → length v ≡ states_of m
+reward_values_size Max m r goals v cs rs h = h.one_each
+reward_values_size Min m r goals v cs rs h = h.one_each
+
+pub reward_choices_size : (dir : Dir) (m : Mdp) (r : ℕ) (goals : List Bool) (v : List (Option ℚ)) (cs rs : List ℕ) → MeetsReward dir m r goals v cs rs → length cs ≡ states_of m
+reward_choices_size Max m r goals v cs rs h = h.choices.one_each
+reward_choices_size Min m r goals v cs rs h = h.choices.one_each
+
+-- ---- the sizes of an answer of mean payoffs
+
+pub record HasMeanSizes (n : ℕ) (a : averaged.Answer) : Type 0 where
+  pub gains : length a.gains ≡ n
+  pub bound : length a.bound ≡ n
+  pub bias : length a.bias ≡ n
+  pub choices : length a.choices ≡ n
+
+pub mean_sizes : (dir : Dir) (m : Mdp) (r : ℕ) (a : averaged.Answer) → length a.gains ≡ states_of m → MeetsMean dir m r a.gains a.bound a.bias a.spread a.choices → HasMeanSizes (states_of m) a
+mean_sizes Max m r a gains h = record { gains = gains; bound = h.spreads.bounds; bias = h.spreads.biases; choices = h.choices.one_each }
+mean_sizes Min m r a gains h = record { gains = gains; bound = h.spreads.bounds; bias = h.spreads.biases; choices = h.choices.one_each }
+
+-- ---- the certificate
+
+-- the line `init` is right of a body that has these values
+init_holds : (i : Option ℕ) (value : ℕ → Option ℚ) (body : PlainBody) → is_subsystem body ≡ false → ((s : ℕ) → i ≡ Some s → has_value body s (value s) ≡ true) → init_check (init_by i value) i body ≡ Yes
+init_holds None value body plain h = ap (λ (b : Bool). cond b (init_fault None) Yes) plain
+init_holds (Some s) value body plain h = by (value s) (h s refl)
+  where
+    valued : (b : Bool) → b ≡ true → cond (eqb s s && b) Yes (init_fault (Some s)) ≡ Yes
+    valued b e = ap₂ (λ (a b : Bool). cond (a && b) Yes (init_fault (Some s))) (eq-eqb s s refl) e
+
+    by : (v : Option ℚ) → has_value body s v ≡ true → init_check (init_of s v) (Some s) body ≡ Yes
+    by None e = valued (has_value body s None) e
+    by (Some x) e = valued (has_value body s (Some x)) e
+
+reach_valued : (z : List ℚ) (cs rs : List ℕ) (s : ℕ) → s < length z → has_value (certificate.policy z cs rs) s (Some (value_at z s)) ≡ true
+reach_valued z cs rs s h = ap₂ (λ (a b : Bool). a && b) (lt-ltb s (length z) h) ((equal_decides (value_at z s) (value_at z s)).1 refl)
+
+same_reward : (v : Option ℚ) → reward_same v v ≡ true
+same_reward None = refl
+same_reward (Some x) = (equal_decides x x).1 refl
+
+reward_valued : (v : List (Option ℚ)) (cs rs : List ℕ) (s : ℕ) → s < length v → has_value (certificate.rewards v cs rs) s (reward_at v s) ≡ true
+reward_valued v cs rs s h = ap₂ (λ (a b : Bool). a && b) (lt-ltb s (length v) h) (same_reward (reward_at v s))
+
+gain_valued : (g a b : List ℚ) (cs : List ℕ) (k : ℚ) (s : ℕ) → s < length g → has_value (certificate.gains g a b cs k) s (Some (value_at g s)) ≡ true
+gain_valued g a b cs k s h = ap₂ (λ (a b : Bool). a && b) (lt-ltb s (length g) h) ((equal_decides (value_at g s) (value_at g s)).1 refl)
+
+-- whether a value may stand in the line `init` of a claim
+abbrev pub may_stand : PlainClaim → Option ℚ → Bool
+may_stand claim None = may_be_infinite claim
+may_stand claim (Some x) = true
+
+pub may_be_reward : (dir : Dir) (name label : List ℕ) (v : Option ℚ) → may_stand (certificate.reward dir name label) v ≡ true
+may_be_reward dir name label None = refl
+may_be_reward dir name label (Some x) = refl
+
+inside_by : (claim : PlainClaim) → is_witness claim ≡ false → (i : Option ℕ) (value : ℕ → Option ℚ) (n : ℕ) → ((s : ℕ) → i ≡ Some s → (s < n) × (may_stand claim (value s) ≡ true)) → is_init_of claim n (init_by i value) ≡ true
+inside_by claim plain None value n h = ap not plain
+inside_by claim plain (Some s) value n h = by (value s) (h s refl).1
+  where
+    below : nat_lt s n ≡ true
+    below = lt-ltb s n (h s refl).0
+
+    by : (v : Option ℚ) → may_stand claim v ≡ true → is_init_of claim n (init_of s v) ≡ true
+    by None e = ap₂ (λ (a b : Bool). a && b) e below
+    by (Some x) e = ap₂ (λ (a b : Bool). a && b) (ap not plain) below
+
+pub init_inside : (claim : PlainClaim) → is_witness claim ≡ false → (m : Mdp) (value : ℕ → Option ℚ) (n : ℕ) (init : Init) → n ≡ states_of m → ((s : ℕ) → may_stand claim (value s) ≡ true) → init ≡ init_by (initial_of m) value
+    → is_init_of claim n init ≡ true
+init_inside claim plain m value n init e may i =
+    ap (is_init_of claim n) i ∙ inside_by claim plain (initial_of m) value n (λ s h. (let l = initial_below m s h in omega (arith, l, e), may s))
+
+three : {V : Type 0} (states n : ℕ) (zs : List V) (cs rs : List ℕ) → n ≡ states → length zs ≡ states → length cs ≡ states → length rs ≡ states
+    → (eqb (length zs) n && eqb (length cs) n && eqb (length rs) n) ≡ true
+three states n zs cs rs e x y z =
+    ap₂ (λ (a b : Bool). a && b) (ap₂ (λ (a b : Bool). a && b) (eq-eqb (length zs) n (x ∙ sym e)) (eq-eqb (length cs) n (y ∙ sym e))) (eq-eqb (length rs) n (z ∙ sym e))
+
+pub body_entries : (dir : Dir) (label : List ℕ) (states n : ℕ) (zs : List ℚ) (cs rs : List ℕ) → n ≡ states → length zs ≡ states → length cs ≡ states → length rs ≡ states
+    → is_body_of (certificate.reach dir label) n (certificate.policy zs cs rs) ≡ true
+body_entries dir label states n zs cs rs e x y z = three states n zs cs rs e x y z
+
+pub reward_entries : (dir : Dir) (name label : List ℕ) (states n : ℕ) (vs : List (Option ℚ)) (cs rs : List ℕ) → n ≡ states → length vs ≡ states → length cs ≡ states → length rs ≡ states
+    → is_body_of (certificate.reward dir name label) n (certificate.rewards vs cs rs) ≡ true
+reward_entries dir name label states n vs cs rs e x y z = three states n vs cs rs e x y z
+
+pub mean_entries : (dir : Dir) (name : List ℕ) (states n : ℕ) (a : averaged.Answer) → n ≡ states → HasMeanSizes states a
+    → is_body_of (certificate.mean dir name) n (certificate.gains a.gains a.bound a.bias a.choices a.spread) ≡ true
+mean_entries dir name states n a e sizes =
+    ap₂ (λ (a b : Bool). a && b)
+    (ap₂ (λ (a b : Bool). a && b)
+    (ap₂ (λ (a b : Bool). a && b) (eq-eqb (length a.gains) n (sizes.gains ∙ sym e)) (eq-eqb (length a.bound) n (sizes.bound ∙ sym e)))
+    (eq-eqb (length a.bias) n (sizes.bias ∙ sym e)))
+    (eq-eqb (length a.choices) n (sizes.choices ∙ sym e))
+
+marks_found : (m : Mdp) (label : List ℕ) (l : ℕ) → place_of label m.labels ≡ Some l → labelled_marks m label ≡ Some (marks_of m l)
+marks_found m label l e = ap (option_map (marks_of m)) e
+
+-- a certificate that belongs to the model is shown by its text
+pub printed_by : (m : Mdp) (c : Certificate) → is_witness c.claim ≡ false → IsMdp m → IsReadBack → IsAccepted m c → Fits c → (text : List ℕ) → text ≡ text_of c → IsClaimPrinted c.claim m text
+printed_by m c plain mdp back accepted fits text spelled = record {
+  cert = c;
+  claim = refl;
+  spelled = spelled;
+  short = subst (λ (t : List ℕ). length t ≤ most_bytes) (sym spelled) (text_short c fits plain);
+  reads = ap outcome spelled ∙ (back c fits).0;
+  holds = accepted;
+  bound = accepted_is_bound m c mdp accepted;
+}
+
+module _ (dir : Dir) (label : List ℕ) (m : Mdp) (l : ℕ) (a : Answer) (found : place_of label m.labels ≡ Some l)
+    (rules : IsReach dir m (marks_of m l) a.values a.choices a.ranks) (sizes : HasSizes (states_of m) a) where
+  pub accepted : IsAccepted m (certificate_of dir label m a)
+  accepted = record {
+    states = refl;
+    entries = body_entries dir label (states_of m) (states_of m) a.values a.choices a.ranks refl sizes.values (choices_size dir m (marks_of m l) a.values a.choices a.ranks rules.rules) sizes.ranks;
+    reward = 0;
+    named = refl;
+    goals = marks_of m l;
+    marked = marks_found m label l found;
+    init = init_holds (initial_of m) _ (certificate.policy a.values a.choices a.ranks) refl (λ s e. reach_valued a.values a.choices a.ranks s (let lt = initial_below m s e in let n = sizes.values in omega (arith, lt, n)));
+    body = rules;
+  }
+
+  pub printed : IsMdp m → IsReadBack → (text : List ℕ) → Fits (certificate_of dir label m a) → text ≡ text_of (certificate_of dir label m a) → IsReachPrinted dir label m text
+  printed mdp back text fits spelled = printed_by m (certificate_of dir label m a) refl mdp back accepted fits text spelled
+
+module _ (dir : Dir) (name label : List ℕ) (m : Mdp) (r l : ℕ) (a : rewarded.Answer) (named : place_of name m.names ≡ Some r) (found : place_of label m.labels ≡ Some l)
+    (rules : IsReward dir m r (marks_of m l) a.values a.choices a.ranks) (ranks : length a.ranks ≡ states_of m) where
+  values : length a.values ≡ states_of m
+  values = reward_values_size dir m r (marks_of m l) a.values a.choices a.ranks rules.rules
+
+  pub reward_accepted : IsAccepted m (reward_certificate_of dir name label m a)
+  reward_accepted = record {
+    states = refl;
+    entries = reward_entries dir name label (states_of m) (states_of m) a.values a.choices a.ranks refl values
+        (reward_choices_size dir m r (marks_of m l) a.values a.choices a.ranks rules.rules) ranks;
+    reward = r;
+    named = named;
+    goals = marks_of m l;
+    marked = marks_found m label l found;
+    init = init_holds (initial_of m) _ (certificate.rewards a.values a.choices a.ranks) refl (λ s e. reward_valued a.values a.choices a.ranks s (let lt = initial_below m s e in let n = values in omega (arith, lt, n)));
+    body = rules;
+  }
+
+  pub reward_printed : IsMdp m → IsReadBack → (text : List ℕ) → Fits (reward_certificate_of dir name label m a) → text ≡ text_of (reward_certificate_of dir name label m a)
+      → IsRewardPrinted dir name label m text
+  reward_printed mdp back text fits spelled = printed_by m (reward_certificate_of dir name label m a) refl mdp back reward_accepted fits text spelled
+
+module _ (dir : Dir) (name : List ℕ) (m : Mdp) (r : ℕ) (a : averaged.Answer) (named : place_of name m.names ≡ Some r)
+    (rules : IsMean dir m r a.gains a.bound a.bias a.spread a.choices) (sizes : HasMeanSizes (states_of m) a) where
+  pub mean_accepted : IsAccepted m (mean_certificate_of dir name m a)
+  mean_accepted = record {
+    states = refl;
+    entries = mean_entries dir name (states_of m) (states_of m) a refl sizes;
+    reward = r;
+    named = named;
+    goals = replicate (states_of m) false;
+    marked = refl;
+    init = init_holds (initial_of m) _ (certificate.gains a.gains a.bound a.bias a.choices a.spread) refl
+        (λ s e. gain_valued a.gains a.bound a.bias a.choices a.spread s (let lt = initial_below m s e in let n = sizes.gains in omega (arith, lt, n)));
+    body = rules;
+  }
+
+  pub mean_printed : IsMdp m → IsReadBack → (text : List ℕ) → Fits (mean_certificate_of dir name m a) → text ≡ text_of (mean_certificate_of dir name m a) → IsMeanPrinted dir name m text
+  mean_printed mdp back text fits spelled = printed_by m (mean_certificate_of dir name m a) refl mdp back mean_accepted fits text spelled
+
+-- ---- names
+
+-- what is found in a list of names is one of them
+pub found_among : (P : List ℕ → Type 0) (name : List ℕ) (names : List (List ℕ)) (l : ℕ) → place_of name names ≡ Some l → All P names → P name
+found_among P name names l e h =
+    let p = position-Some (bytes_eq name) names l [] e in
+    subst P (sym ((bytes_eq-Decides name (get_or names l [])).0 p.1)) (All-get_or P names l [] p.0 h)
+
+-- the name of a reward model is a name
+none_of : (bytes : List ℕ) → list_any (λ b. eqb b 32 || eqb b 9 || eqb b 13 || eqb b 34 || eqb b 10) bytes ≡ false → list_any (λ b. eqb b 34 || eqb b 10) bytes ≡ false
+none_of [] h = refl
+none_of (b ∷ bytes) h = by (eqb b 32) (eqb b 9) (eqb b 13) (eqb b 34) (eqb b 10) (list_any (λ b. eqb b 32 || eqb b 9 || eqb b 13 || eqb b 34 || eqb b 10) bytes) h (none_of bytes)
+  where
+    by : (p q r s t rest : Bool) → ((p || q || r || s || t) || rest) ≡ false → (rest ≡ false → list_any (λ b. eqb b 34 || eqb b 10) bytes ≡ false)
+        → ((s || t) || list_any (λ b. eqb b 34 || eqb b 10) bytes) ≡ false
+    by false false false false false rest h more = more h
+    by true q r s t rest h more = cc h
+    by false true r s t rest h more = cc h
+    by false false true s t rest h more = cc h
+    by false false false true t rest h more = cc h
+    by false false false false true rest h more = cc h
+
+not-true : (b : Bool) → not b ≡ true → b ≡ false
+not-true false e = refl
+not-true true e = cc e
+
+pub name_of_reward : (name : List ℕ) → IsRewardName name → IsName name
+name_of_reward name h = let p = and_parts _ _ h in ap₂ (λ (a b : Bool). a && not b) p.0 (none_of name (not-true _ p.1))
+
+-- ---- what is said
+
+-- a certificate is said by its text, unless memory is wanting
+abbrev pub IsTextOf : Certificate → Said → Type 0
+IsTextOf c said = (said ≡ Err no_memory) ⊎ (said ≡ Ok (text_of c))
+
+pub text_printed : (P : List ℕ → Type 0) (c : Certificate) (said : Said) → ((text : List ℕ) → text ≡ text_of c → P text) → IsTextOf c said → IfOk said P
+text_printed P c (Ok text) shows (inl memory) = cc memory
+text_printed P c (Ok text) shows (inr e) = shows text (cc e)
+text_printed P c (Err r) shows e = tt

@@ -1,0 +1,201 @@
+-- One thing is due to a query; and what is made of it, from what was read of the model's source.
+use Rattle.std.proofs.Common.{◌≡◌, ℕ, Bool, true, false, List, [], Option, Some, None, Result, Ok, Err, IfOk, refl, sym, ap, subst, ◌∙◌}
+use Rattle.std.specs.Str.{bytes_eq}
+use Rattle.std.proofs.lemmas.List.Quantifiers.{position-Some}
+use Rattle.mdp_spec.specs.Labels.{place_of, marks_of}
+use Rattle.mdp_spec.specs.Mdp.{Mdp}
+use Rattle.mdp_spec.specs.Row.{IsMdp}
+use Rattle.mdp_rows.specs.Limits.{IsModel}
+use Rattle.mdp_rows.specs.Negative.{has_negative}
+use Rattle.mdp_rows.specs.declared.dir.Dir.{Dir}
+use Rattle.mdp_rows.specs.declared.dir.Dir.TheVariants.{Max, Min}
+use Rattle.mdp_rows.specs.declared.rule.RowRule.{RowRule}
+use Rattle.mdp_drn.specs.Laws.{ReadsAsModel}
+use Rattle.mdp_policy_iteration.specs.Queries.{WideTerm}
+use Rattle.mdp_reach.specs.Query.{Answer, EndsSo}
+use Rattle.mdp_reach.specs.Laws.{AnswersMeetRules, AnswersAreGreatest, AnswersAreLeast}
+use Rattle.mdp_reach.proofs.OneEnd.{one_query_end}
+use Rattle.mdp_reward.proofs.OneEnd as reward_end
+use Rattle.mdp_reward.specs.Laws as reward_law
+use Rattle.mdp_reward.specs.Query as rewarded
+use Rattle.mdp_mean.specs.Laws as mean_law
+use Rattle.mdp_mean.specs.Query as averaged
+use Rattle.mdp_cert.specs.Cert as certificate
+use Rattle.mdp_cert.specs.Cert.{PlainClaim}
+use Rattle.mdp_job.specs.Job.{PlainQuery, reach, reward, mean}
+use Rattle.mdp_job.specs.Refusal.{PlainRefusal}
+use Rattle.mdp_command.proofs.Working.{read_of_due}
+use Rattle.mdp_command.specs.Files.{model_due}
+use Rattle.mdp_command.specs.Said.{Said}
+use Rattle.mdp_command_solve.specs.Due.{said_of_end, said_of_reward_end, said_of_mean_end, IsReachDue, IsRewardEnd, IsRewardDue, IsMeanDue, IsQueryDue, IsSolveDue}
+use Rattle.mdp_command_solve.specs.Laws.{IsBest, IsAnswerTo, IsBestReward, IsRewardAnswerTo, IsBestMean, IsMeanAnswerTo}
+use Rattle.mdp_command_solve.specs.Solved.{IsClaimPrinted, IsPrinted, IsClaimSolved, IsSolved}
+
+-- ---- what is read is a model
+
+module _ (kept : ReadsAsModel) (rule : RowRule) (bytes : List ℕ) where
+  pub model_of : (m : Mdp) → model_due rule bytes ≡ Ok m → IsModel m
+  model_of m is = kept bytes rule m (read_of_due rule bytes m is).1
+
+  pub read_model : (read : Result Mdp PlainRefusal) → model_due rule bytes ≡ read → IfOk read IsModel
+  read_model (Ok m) is = model_of m is
+  read_model (Err r) is = tt
+
+-- ---- one thing is due
+
+reach_once : (dir : Dir) (label : List ℕ) (m : Mdp) (found : Option ℕ) (said again : Said) → IsReachDue dir label m found said → IsReachDue dir label m found again → said ≡ again
+reach_once dir label m None said again d e = d ∙ sym e
+reach_once dir label m (Some l) said again d e = d.2 ∙ ap (said_of_end dir label m) (one_query_end dir m (marks_of m l) e.0 d.0 e.1 d.1) ∙ sym e.2
+
+end_once : (dir : Dir) (name label : List ℕ) (m : Mdp) (r l : ℕ) (negative : Bool) (said again : Said) → IsRewardEnd dir name label m r l negative said
+    → IsRewardEnd dir name label m r l negative again → said ≡ again
+end_once dir name label m r l true said again d e = d ∙ sym e
+end_once dir name label m r l false said again d e =
+    d.2 ∙ ap (said_of_reward_end dir name label m) (reward_end.one_query_end dir m r (marks_of m l) e.0 d.0 e.1 d.1) ∙ sym e.2
+
+reward_once : (dir : Dir) (name label : List ℕ) (m : Mdp) (named found : Option ℕ) (said again : Said) → IsRewardDue dir name label m named found said
+    → IsRewardDue dir name label m named found again → said ≡ again
+reward_once dir name label m None found said again d e = d ∙ sym e
+reward_once dir name label m (Some r) None said again d e = d ∙ sym e
+reward_once dir name label m (Some r) (Some l) said again d e = end_once dir name label m r l (has_negative m r) said again d e
+
+has_reward : (name : List ℕ) (m : Mdp) (r : ℕ) → IsModel m → place_of name m.names ≡ Some r → mean_law.HasReward m r
+has_reward name m r model named = record { model = model; named = (position-Some (bytes_eq name) m.names r [] named).0 }
+
+mean_once : mean_law.HasOneEnd → (dir : Dir) (name : List ℕ) (m : Mdp) → IsModel m → (named : Option ℕ) → place_of name m.names ≡ named → (said again : Said) → IsMeanDue dir name m named said
+    → IsMeanDue dir name m named again → said ≡ again
+mean_once one_end dir name m model None is said again d e = d ∙ sym e
+mean_once one_end dir name m model (Some r) is said again d e = d.2 ∙ ap (said_of_mean_end dir name m) (one_end dir m r e.0 d.0 (has_reward name m r model is) e.1 d.1) ∙ sym e.2
+
+query_once : mean_law.HasOneEnd → (dir : Dir) (query : PlainQuery) (m : Mdp) → IsModel m → (said again : Said) → IsQueryDue dir query m said → IsQueryDue dir query m again → said ≡ again
+query_once one_end dir (reach label) m model said again d e = reach_once dir label m (place_of label m.labels) said again d e
+query_once one_end dir (reward name label) m model said again d e = reward_once dir name label m (place_of name m.names) (place_of label m.labels) said again d e
+query_once one_end dir (mean name) m model said again d e = mean_once one_end dir name m model (place_of name m.names) refl said again d e
+
+-- where what is read is a model
+pub solve_once : mean_law.HasOneEnd → (dir : Dir) (query : PlainQuery) (read : Result Mdp PlainRefusal) → IfOk read IsModel → (said again : Said) → IsSolveDue dir query read said
+    → IsSolveDue dir query read again → said ≡ again
+solve_once one_end dir query (Ok m) model said again d e = query_once one_end dir query m model said again d e
+solve_once one_end dir query (Err r) model said again d e = d ∙ sym e
+
+-- ---- a text that is due is an answer
+
+module _ (rules : AnswersMeetRules) (greatest : AnswersAreGreatest) (least : AnswersAreLeast) (label : List ℕ) (m : Mdp) (mdp : IsMdp m) where
+  best_answer : (dir : Dir) (goals : List Bool) (a : Answer) → EndsSo dir m goals (Ok a) → IsBest dir m goals a
+  best_answer Max goals a end = greatest m goals a mdp end
+  best_answer Min goals a end = least m goals a mdp end
+
+  answer_of_end : (dir : Dir) (text : List ℕ) (l : ℕ) → place_of label m.labels ≡ Some l → (end : Result Answer WideTerm) → EndsSo dir m (marks_of m l) end → Ok text ≡ said_of_end dir label m end
+      → IsAnswerTo dir label m text
+  answer_of_end dir text l found (Err w) end e = cc e
+  answer_of_end dir text l found (Ok a) end e = record {
+    place = l;
+    found = found;
+    answer = a;
+    spelled = cc e;
+    rules = rules dir m (marks_of m l) a mdp end;
+    best = best_answer dir (marks_of m l) a end;
+  }
+
+  answer_at : (dir : Dir) (text : List ℕ) (found : Option ℕ) → place_of label m.labels ≡ found → IsReachDue dir label m found (Ok text) → IsAnswerTo dir label m text
+  answer_at dir text None found d = cc d
+  answer_at dir text (Some l) found d = answer_of_end dir text l found d.0 d.1 d.2
+
+  pub text_is_answer : (dir : Dir) (text : List ℕ) (read : Result Mdp PlainRefusal) → read ≡ Ok m → IsSolveDue dir (reach label) read (Ok text) → IsAnswerTo dir label m text
+  text_is_answer dir text read is d = answer_at dir text (place_of label m.labels) refl (subst (λ (r : Result Mdp PlainRefusal). IsSolveDue dir (reach label) r (Ok text)) is d)
+
+-- ---- and so of rewards
+
+module _ (rules : reward_law.AnswersMeetRules) (greatest : reward_law.AnswersAreGreatest) (least : reward_law.AnswersAreLeast) (name label : List ℕ) (m : Mdp) (mdp : IsMdp m) where
+  best_reward : (dir : Dir) (r : ℕ) (goals : List Bool) (a : rewarded.Answer) → reward_law.HasRewards m r → rewarded.EndsSo dir m r goals (Ok a) → IsBestReward dir m r goals a
+  best_reward Max r goals a has end = greatest m r goals a has end
+  best_reward Min r goals a has end = least m r goals a has end
+
+  has_rewards : (r : ℕ) → place_of name m.names ≡ Some r → has_negative m r ≡ false → reward_law.HasRewards m r
+  has_rewards r named none = record { model = mdp; named = (position-Some (bytes_eq name) m.names r [] named).0; none_negative = none }
+
+  reward_of_end : (dir : Dir) (text : List ℕ) (r l : ℕ) → place_of name m.names ≡ Some r → place_of label m.labels ≡ Some l → has_negative m r ≡ false → (end : Result rewarded.Answer WideTerm)
+      → rewarded.EndsSo dir m r (marks_of m l) end → Ok text ≡ said_of_reward_end dir name label m end → IsRewardAnswerTo dir name label m text
+  reward_of_end dir text r l named found none (Err w) end e = cc e
+  reward_of_end dir text r l named found none (Ok a) end e = record {
+    named = r;
+    named_so = named;
+    place = l;
+    found = found;
+    none_negative = none;
+    answer = a;
+    spelled = cc e;
+    rules = rules dir m r (marks_of m l) a (has_rewards r named none) end;
+    best = best_reward dir r (marks_of m l) a (has_rewards r named none) end;
+  }
+
+  reward_by : (dir : Dir) (text : List ℕ) (r l : ℕ) → place_of name m.names ≡ Some r → place_of label m.labels ≡ Some l → (negative : Bool) → has_negative m r ≡ negative
+      → IsRewardEnd dir name label m r l negative (Ok text) → IsRewardAnswerTo dir name label m text
+  reward_by dir text r l named found true is d = cc d
+  reward_by dir text r l named found false is d = reward_of_end dir text r l named found is d.0 d.1 d.2
+
+  reward_at : (dir : Dir) (text : List ℕ) (named found : Option ℕ) → place_of name m.names ≡ named → place_of label m.labels ≡ found → IsRewardDue dir name label m named found (Ok text)
+      → IsRewardAnswerTo dir name label m text
+  reward_at dir text None found named_is found_is d = cc d
+  reward_at dir text (Some r) None named_is found_is d = cc d
+  reward_at dir text (Some r) (Some l) named_is found_is d = reward_by dir text r l named_is found_is (has_negative m r) refl d
+
+  pub reward_text_is_answer : (dir : Dir) (text : List ℕ) (read : Result Mdp PlainRefusal) → read ≡ Ok m → IsSolveDue dir (reward name label) read (Ok text) → IsRewardAnswerTo dir name label m text
+  reward_text_is_answer dir text read is d =
+      reward_at dir text (place_of name m.names) (place_of label m.labels) refl refl (subst (λ (r : Result Mdp PlainRefusal). IsSolveDue dir (reward name label) r (Ok text)) is d)
+
+-- ---- and of mean payoffs
+
+module _ (rules : mean_law.AnswersMeetRules) (greatest : mean_law.AnswersAreGreatest) (least : mean_law.AnswersAreLeast) (name : List ℕ) (m : Mdp) (model : IsModel m) where
+  best_mean : (dir : Dir) (r : ℕ) (a : averaged.Answer) → mean_law.HasReward m r → averaged.EndsSo dir m r (Ok a) → IsBestMean dir m r a
+  best_mean Max r a has end = greatest m r a has end
+  best_mean Min r a has end = least m r a has end
+
+  mean_of_end : (dir : Dir) (text : List ℕ) (r : ℕ) → place_of name m.names ≡ Some r → (end : Result averaged.Answer WideTerm) → averaged.EndsSo dir m r end → Ok text ≡ said_of_mean_end dir name m end
+      → IsMeanAnswerTo dir name m text
+  mean_of_end dir text r named (Err w) end e = cc e
+  mean_of_end dir text r named (Ok a) end e = record {
+    named = r;
+    named_so = named;
+    answer = a;
+    spelled = cc e;
+    rules = rules dir m r a (has_reward name m r model named) end;
+    best = best_mean dir r a (has_reward name m r model named) end;
+  }
+
+  mean_at : (dir : Dir) (text : List ℕ) (named : Option ℕ) → place_of name m.names ≡ named → IsMeanDue dir name m named (Ok text) → IsMeanAnswerTo dir name m text
+  mean_at dir text None is d = cc d
+  mean_at dir text (Some r) is d = mean_of_end dir text r is d.0 d.1 d.2
+
+  pub mean_text_is_answer : (dir : Dir) (text : List ℕ) (read : Result Mdp PlainRefusal) → read ≡ Ok m → IsSolveDue dir (mean name) read (Ok text) → IsMeanAnswerTo dir name m text
+  mean_text_is_answer dir text read is d =
+      mean_at dir text (place_of name m.names) refl (subst (λ (r : Result Mdp PlainRefusal). IsSolveDue dir (mean name) r (Ok text)) is d)
+
+-- ---- what is shown of a text
+
+pub printed_solved : (rule : RowRule) (claimed : PlainClaim) (m : Mdp) (bytes text : List ℕ) → model_due rule bytes ≡ Ok m → IsClaimPrinted claimed m text → IsClaimSolved rule claimed bytes text
+printed_solved rule claimed m bytes text is printed =
+    let read = read_of_due rule bytes m is in
+    record {
+      true_claim = record {
+        accepted = record {
+          short_model = read.0;
+          short_cert = printed.short;
+          model = m;
+          reads = read.1;
+          cert = printed.cert;
+          text = printed.reads;
+          holds = printed.holds;
+        };
+        bound = printed.bound;
+      };
+      claim = printed.claim;
+      spelled = printed.spelled;
+    }
+
+pub shown : (rule : RowRule) (dir : Dir) (query : PlainQuery) (m : Mdp) (said : Said) → IfOk said (IsPrinted dir query m) → (bytes : List ℕ) → model_due rule bytes ≡ Ok m
+    → IfOk said (IsSolved rule dir query bytes)
+shown rule dir (reach label) m (Ok text) printed bytes is = printed_solved rule (certificate.reach dir label) m bytes text is printed
+shown rule dir (reward name label) m (Ok text) printed bytes is = printed_solved rule (certificate.reward dir name label) m bytes text is printed
+shown rule dir (mean name) m (Ok text) printed bytes is = printed_solved rule (certificate.mean dir name) m bytes text is printed
+shown rule dir query m (Err r) printed bytes is = tt

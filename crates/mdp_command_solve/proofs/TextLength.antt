@@ -1,0 +1,313 @@
+-- The text of a certificate whose claim is no subsystem's has at most 2^30 bytes.
+use Rattle.std.proofs.Common.{◌≡◌, ℕ, suc, ◌+◌, ◌*◌, ◌<◌, ◌≤◌, ◌^◌, Bool, true, false, cond, eqb, List, [], ◌∷◌, ◌++◌, length, codes, decimal, Option, Some, None, refl, arith, lit<}
+use Rattle.std.proofs.Common.{ltb→lt, T, sym, subst, not}
+use Rattle.std.specs.List.{AllByRecursion as Each}
+use Rattle.std.proofs.lemmas.Bool.{and_parts}
+use Rattle.std.proofs.lemmas.List.{length-append}
+use Rattle.std.proofs.lemmas.List.Elements.{recursion_from_All}
+use Rattle.mdp_math.specs.Rational.{ℚ}
+use Rattle.mdp_num.specs.Value.{spelling, IsNarrow}
+use Rattle.mdp_rows.specs.Name.{is_name}
+use Rattle.mdp_rows.specs.declared.dir.Dir.{Dir}
+use Rattle.mdp_text.specs.declared.init.Init.{Init}
+use Rattle.mdp_text.specs.declared.init.Init.TheVariants.{Missing, Finite, Infinite, Start}
+use Rattle.mdp_subsystem_rules.specs.declared.flow.Flow.{Flow}
+use Rattle.mdp_cert.specs.Cert.{PlainClaim, upper, reach, reward, mean, witness, are_names, may_be_infinite, is_witness, IsValueNarrow, IsBodyInWidth, Certificate, Fits}
+use Rattle.mdp_cert.specs.Cert.{PlainBody, bounds, policy, rewards, gains, flow, floor, is_init_of, is_body_of}
+use Rattle.mdp_cert.specs.Claims.{Value, fraction_value, reward_value, reward_text, bound_columns, policy_columns, IsPolicyInWidth, policies, mean_columns, IsMeanInWidth, means}
+use Rattle.mdp_cert.specs.Runs.{Columns, Run, run, single, before_runs, longest_runs}
+use Rattle.mdp_text.specs.Spelling.{line, ◌␣◌, quoted, dir_text, states_text, init_text, end_text}
+use Rattle.mdp_cert.specs.Spelling.{claim_text, head_text, entry_text, run_text, run_lines, spread_text, text_in, text_of}
+use Rattle.mdp_text.proofs.Lengths.{number_short, spelling_short, blank_length, line_length, name_short, dir_length, quoted_length, states_short, IsShortInit, init_short}
+use Rattle.mdp_cert.proofs.Growth.{bounds-entries, Entries, policy-entries, reward-entries, MeanEntries, gains-entries}
+use Rattle.mdp_cert.proofs.Means.{Back, back}
+use Rattle.mdp_cert.proofs.Policies.{length-policies}
+
+-- ---- the lines before those of the states
+
+two_words : (dir : Dir) (word rest : List ℕ) → length (codes "claim" ␣ dir_text dir ␣ word ␣ rest) ≡ 5 + (1 + (3 + (1 + (length word + (1 + length rest)))))
+two_words dir word rest =
+    let a = blank_length (codes "claim") (dir_text dir ␣ word ␣ rest) in
+    let b = blank_length (dir_text dir) (word ␣ rest) in
+    let c = blank_length word rest in
+    let n = dir_length dir in
+    omega (arith, a, b, c, n)
+
+-- of a claim that is no subsystem's
+claim_short : (claim : PlainClaim) → is_witness claim ≡ false → are_names claim ≡ true → length (claim_text claim) ≤ 600
+claim_short (upper label) plain h =
+    let a = blank_length (codes "claim") (codes "upper" ␣ codes "reach" ␣ quoted label) in
+    let b = blank_length (codes "upper") (codes "reach" ␣ quoted label) in
+    let c = blank_length (codes "reach") (quoted label) in
+    let d = quoted_length label in
+    let l = name_short label h in
+    omega (arith, a, b, c, d, l)
+claim_short (reach dir label) plain h =
+    let a = two_words dir (codes "reach") (quoted label) in
+    let d = quoted_length label in
+    let l = name_short label h in
+    omega (arith, a, d, l)
+claim_short (reward dir name label) plain h =
+    let a = two_words dir (codes "reward") (quoted name ␣ quoted label) in
+    let b = blank_length (quoted name) (quoted label) in
+    let c = quoted_length name in
+    let d = quoted_length label in
+    let names = and_parts (is_name name) (is_name label) h in
+    let n = name_short name names.0 in
+    let l = name_short label names.1 in
+    omega (arith, a, b, c, d, n, l)
+claim_short (mean dir name) plain h =
+    let a = two_words dir (codes "mean") (quoted name) in
+    let d = quoted_length name in
+    let l = name_short name h in
+    omega (arith, a, d, l)
+claim_short (witness dir label threshold) plain h = cc plain
+
+-- ---- the lines of the states
+
+entry_short : (word : List ℕ) (c r : ℕ) → length word ≤ 80 → c < 2 ^ 32 → r < 2 ^ 32 → length (word ␣ (decimal c ␣ decimal r)) ≤ 260
+entry_short word c r hv hc hr =
+    let a = blank_length word (decimal c ␣ decimal r) in
+    let b = blank_length (decimal c) (decimal r) in
+    let y = number_short c hc in
+    let z = number_short r hr in
+    omega (arith, a, b, hv, y, z)
+
+means_short : (g z b : ℚ) (c : ℕ) → IsNarrow g → IsNarrow z → IsNarrow b → c < 2 ^ 32 → length (spelling g ␣ (spelling z ␣ (spelling b ␣ decimal c))) ≤ 260
+means_short g z b c hg hz hb hc =
+    let x = blank_length (spelling g) (spelling z ␣ (spelling b ␣ decimal c)) in
+    let y = blank_length (spelling z) (spelling b ␣ decimal c) in
+    let w = blank_length (spelling b) (decimal c) in
+    let p = spelling_short g hg in
+    let q = spelling_short z hz in
+    let r = spelling_short b hb in
+    let n = number_short c hc in
+    omega (arith, x, y, w, p, q, r, n)
+
+means_width :
+    (gs zs bs : List ℚ) (cs : List ℕ) → Each IsNarrow gs → Each IsNarrow zs → Each IsNarrow bs → Each (λ c. c < 2 ^ 32) cs → Each IsMeanInWidth (means gs zs bs cs)
+means_width (g ∷ gs) (z ∷ zs) (b ∷ bs) (c ∷ cs) p q o n =
+    (record { gain = p.0; bound = q.0; bias = o.0; choice = n.0 }, means_width gs zs bs cs p.1 q.1 o.1 n.1)
+means_width [] zs bs cs p q o n = tt
+means_width (g ∷ gs) [] bs cs p q o n = tt
+means_width (g ∷ gs) (z ∷ zs) [] cs p q o n = tt
+means_width (g ∷ gs) (z ∷ zs) (b ∷ bs) [] p q o n = tt
+
+module _ {V : Type 0} (P : V → Type 0) where
+  entries_width : (zs : List V) (cs rs : List ℕ) → Each P zs → Each (λ c. c < 2 ^ 32) cs → Each (λ r. r < 2 ^ 32) rs → Each (IsPolicyInWidth P) (policies zs cs rs)
+  entries_width (z ∷ zs) (c ∷ cs) (r ∷ rs) p q o = (record { value = p.0; choice = q.0; rank = o.0 }, entries_width zs cs rs p.1 q.1 o.1)
+  entries_width [] cs rs p q o = tt
+  entries_width (z ∷ zs) [] rs p q o = tt
+  entries_width (z ∷ zs) (c ∷ cs) [] p q o = tt
+
+reward_short : (v : Option ℚ) → IsValueNarrow v → length (reward_text v) ≤ 80
+reward_short None h = omega arith
+reward_short (Some x) h = spelling_short x h
+
+-- the lines of the states, and the line `end`
+abbrev lines_of : {A : Type 0} → Columns A → List A → List ℕ
+lines_of k xs = run_lines k 0 (longest_runs k xs) ++ line end_text
+
+-- of entries whose words have at most 260 bytes
+module _ {A : Type 0} (k : Columns A) (P : A → Type 0) (short : (x : A) → P x → length (entry_text k x) ≤ 260) where
+  abbrev state_text : ℕ → A → List ℕ
+  state_text state x = codes "state" ␣ decimal state ␣ entry_text k x
+
+  abbrev states_from : ℕ → ℕ → A → List ℕ
+  states_from state more x = codes "run" ␣ decimal state ␣ decimal (state + more) ␣ entry_text k x
+
+  one_short : (state : ℕ) (x : A) → state < 2 ^ 32 → P x → length (state_text state x) ≤ 299
+  one_short state x lt h =
+      let a = blank_length (codes "state") (decimal state ␣ entry_text k x) in
+      let b = blank_length (decimal state) (entry_text k x) in
+      let n = number_short state lt in
+      let e = short x h in
+      omega (arith, a, b, n, e)
+
+  many_short : (state more : ℕ) (x : A) → state + more < 2 ^ 32 → P x → length (states_from state more x) ≤ 299
+  many_short state more x lt h =
+      let a = blank_length (codes "run") (decimal state ␣ decimal (state + more) ␣ entry_text k x) in
+      let b = blank_length (decimal state) (decimal (state + more) ␣ entry_text k x) in
+      let c = blank_length (decimal (state + more)) (entry_text k x) in
+      let n = number_short state (omega (arith, lt)) in
+      let m = number_short (state + more) lt in
+      let e = short x h in
+      omega (arith, a, b, c, n, m, e)
+
+  either_short : (b : Bool) (x y : List ℕ) → length x ≤ 299 → length y ≤ 299 → length (line (cond b x y)) ≤ 300
+  either_short true x y h l = let n = line_length x in omega (arith, n, h)
+  either_short false x y h l = let n = line_length y in omega (arith, n, l)
+
+  run_short : (state : ℕ) (r : Run A) → state + r.more < 2 ^ 32 → P r.entry → length (line (run_text k state r)) ≤ 300
+  unfolding run_text
+  run_short state r lt h =
+      either_short (eqb r.more 0) (state_text state r.entry) (states_from state r.more r.entry) (one_short state r.entry (omega (arith, lt)) h) (many_short state r.more r.entry lt h)
+
+  -- the states that the lines stand for
+  abbrev size : List (Run A) → ℕ
+  size [] = 0
+  size (r ∷ rs) = r.more + 1 + size rs
+
+  abbrev AreInWidth : List (Run A) → Type 0
+  AreInWidth [] = Unit {0}
+  AreInWidth (r ∷ rs) = P r.entry × AreInWidth rs
+
+  lines_short : (state : ℕ) (rs : List (Run A)) → state + size rs ≤ 2 ^ 20 → AreInWidth rs → length (run_lines k state rs) ≤ 300 * size rs
+  unfolding run_lines
+  lines_short state [] h w = omega arith
+  lines_short state (r ∷ rs) h w =
+      let p : 2 ^ 20 < 2 ^ 32 = lit< tt in
+      let a = run_short state r (omega (arith, h, p)) w.0 in
+      let b = lines_short (state + r.more + 1) rs (omega (arith, h)) w.1 in
+      let e = length-append (line (run_text k state r)) (run_lines k (state + r.more + 1) rs) in
+      omega (arith, a, b, e)
+
+  -- ---- the longest runs
+
+  before_size : (x : A) (rs : List (Run A)) → size (before_runs k x rs) ≡ size rs + 1
+  before_size x [] = refl
+  before_size x (r ∷ rs) = by (k.same x r.entry)
+    where
+      by : (b : Bool) → size (cond b (run x (suc r.more) ∷ rs) (single x ∷ r ∷ rs)) ≡ r.more + 1 + size rs + 1
+      by true = omega arith
+      by false = omega arith
+
+  before_width : (x : A) (rs : List (Run A)) → P x → AreInWidth rs → AreInWidth (before_runs k x rs)
+  before_width x [] h w = (h, tt)
+  before_width x (r ∷ rs) h w = by (k.same x r.entry)
+    where
+      by : (b : Bool) → AreInWidth (cond b (run x (suc r.more) ∷ rs) (single x ∷ r ∷ rs))
+      by true = (h, w.1)
+      by false = (h, w)
+
+  runs_size : (xs : List A) → size (longest_runs k xs) ≡ length xs
+  unfolding longest_runs
+  runs_size [] = refl
+  runs_size (x ∷ xs) = let a = before_size x (longest_runs k xs) in let b = runs_size xs in omega (arith, a, b)
+
+  runs_width : (xs : List A) → Each P xs → AreInWidth (longest_runs k xs)
+  unfolding longest_runs
+  runs_width [] h = tt
+  runs_width (x ∷ xs) h = before_width x (longest_runs k xs) h.0 (runs_width xs h.1)
+
+  states_lines_short : (xs : List A) → length xs ≤ 2 ^ 20 → Each P xs → length (run_lines k 0 (longest_runs k xs)) ≤ 300 * length xs
+  states_lines_short xs limit h = let n = runs_size xs in let l = lines_short 0 (longest_runs k xs) (omega (arith, n, limit)) (runs_width xs h) in omega (arith, n, l)
+
+  -- with the line `end`
+  closed_short : (xs : List A) → length xs ≤ 2 ^ 20 → Each P xs → length (lines_of k xs) ≤ 300 * length xs + 4
+  closed_short xs limit h =
+      let l = states_lines_short xs limit h in
+      let a = length-append (run_lines k 0 (longest_runs k xs)) (line end_text) in
+      omega (arith, l, a)
+
+-- ---- the whole
+
+inside_short : (claim : PlainClaim) (n : ℕ) (init : Init) → n ≤ 2 ^ 20 → is_init_of claim n init ≡ true → IsShortInit init
+inside_short claim n Missing limit h = tt
+inside_short claim n (Finite state value) limit h =
+    let p : 2 ^ 20 < 2 ^ 32 = lit< tt in let l = ltb→lt state n (subst T (sym (and_parts (not (is_witness claim)) _ h).1) tt) in omega (arith, limit, p, l)
+inside_short claim n (Infinite state) limit h =
+    let p : 2 ^ 20 < 2 ^ 32 = lit< tt in let l = ltb→lt state n (subst T (sym (and_parts (may_be_infinite claim) _ h).1) tt) in omega (arith, limit, p, l)
+inside_short claim n (Start state) limit h =
+    let p : 2 ^ 20 < 2 ^ 32 = lit< tt in let l = ltb→lt state n (subst T (sym (and_parts (is_witness claim) _ h).1) tt) in omega (arith, limit, p, l)
+
+-- the body of a claim that is no subsystem's isn't that of a subsystem
+no_flow : (claim : PlainClaim) (n : ℕ) (kept : List ℕ) (wide : List Bool) (flows : List Flow) → is_witness claim ≡ false → is_body_of claim n (flow kept wide flows) ≡ true → ⊥
+no_flow (upper label) n kept wide flows plain h = cc h
+no_flow (reach dir label) n kept wide flows plain h = cc h
+no_flow (reward dir name label) n kept wide flows plain h = cc h
+no_flow (mean dir name) n kept wide flows plain h = cc h
+no_flow (witness dir label threshold) n kept wide flows plain h = cc plain
+
+no_floor : (claim : PlainClaim) (n : ℕ) (kept : List ℕ) (wide : List Bool) (zs : List ℚ) (rs : List ℕ) → is_witness claim ≡ false → is_body_of claim n (floor kept wide zs rs) ≡ true → ⊥
+no_floor (upper label) n kept wide zs rs plain h = cc h
+no_floor (reach dir label) n kept wide zs rs plain h = cc h
+no_floor (reward dir name label) n kept wide zs rs plain h = cc h
+no_floor (mean dir name) n kept wide zs rs plain h = cc h
+no_floor (witness dir label threshold) n kept wide zs rs plain h = cc plain
+
+module _ (states : ℕ) (limit : states ≤ 2 ^ 20) where
+  three_short :
+      {V : Type 0} (k : Value V) (P : V → Type 0) → ((v : V) → P v → length (k.spell v) ≤ 80) → (zs : List V) (cs rs : List ℕ) → Entries states zs cs rs → Each P zs → Each (λ c. c < 2 ^ 32) cs
+      → Each (λ r. r < 2 ^ 32) rs → length (lines_of (policy_columns k) (policies zs cs rs)) ≤ 300 * states + 4
+  three_short k P short zs cs rs sizes p q o =
+      let x = sizes.values in
+      let y = sizes.choices in
+      let z = sizes.ranks in
+      let n = length-policies zs cs rs (omega (arith, x, y)) (omega (arith, x, z)) in
+      let l = closed_short (policy_columns k) (IsPolicyInWidth P) (λ p h. entry_short (k.spell p.value) p.choice p.rank (short p.value h.value) h.choice h.rank) (policies zs cs rs) (omega (arith, x, n, limit)) (entries_width P zs cs rs p q o) in
+      omega (arith, x, n, l)
+
+  bounds_short : (zs : List ℚ) → length zs ≡ states → Each IsNarrow zs → length (lines_of bound_columns zs) ≤ 300 * states + 4
+  bounds_short zs x w =
+      let l = closed_short bound_columns IsNarrow (λ v n. let s = spelling_short v n in omega (arith, s)) zs (omega (arith, x, limit)) w in
+      omega (arith, x, l)
+
+  means_lines_short :
+      (gs zs bs : List ℚ) (cs : List ℕ) → MeanEntries states gs zs bs cs → Each IsNarrow gs → Each IsNarrow zs → Each IsNarrow bs → Each (λ c. c < 2 ^ 32) cs
+      → length (lines_of mean_columns (means gs zs bs cs)) ≤ 300 * states + 4
+  means_lines_short gs zs bs cs sizes p q o n =
+      let x = sizes.gains in
+      let y = sizes.bounds in
+      let z = sizes.biases in
+      let w = sizes.choices in
+      let count = Back.count (back gs zs bs cs (record { bounds = omega (arith, x, y); biases = omega (arith, x, z); choices = omega (arith, x, w) })) in
+      let l = closed_short mean_columns IsMeanInWidth (λ x h. means_short x.gain x.bound x.bias x.choice h.gain h.bound h.bias h.choice) (means gs zs bs cs) (omega (arith, x, count, limit)) (means_width gs zs bs cs p q o n) in
+      omega (arith, x, count, l)
+
+module _ (c : Certificate) (fits : Fits c) (plain : is_witness c.claim ≡ false) where
+  head_short : length (head_text c) ≤ 800
+  head_short =
+      let limit = fits.limit in
+      let p : 2 ^ 20 < 2 ^ 32 = lit< tt in
+      let a = length-append (line (claim_text c.claim)) (line (states_text c.states) ++ line (init_text c.init)) in
+      let b = length-append (line (states_text c.states)) (line (init_text c.init)) in
+      let x = line_length (claim_text c.claim) in
+      let d = line_length (states_text c.states) in
+      let e = line_length (init_text c.init) in
+      let f = claim_short c.claim plain fits.names in
+      let g = states_short c.states (omega (arith, p, limit)) in
+      let h = init_short c.init (inside_short c.claim c.states c.init limit fits.inside) fits.init_width in
+      omega (arith, a, b, x, d, e, f, g, h)
+
+  whole_short : (lines : List ℕ) → length lines ≤ 300 * c.states + 104 → length (line (codes "mdp-certificate 2") ++ (head_text c ++ lines)) ≤ 2 ^ 30
+  whole_short lines k =
+      let a = length-append (line (codes "mdp-certificate 2")) (head_text c ++ lines) in
+      let b = length-append (head_text c) lines in
+      let h = head_short in
+      let limit = fits.limit in
+      let p : 300 * 2 ^ 20 + 1000 < 2 ^ 30 = lit< tt in
+      omega (arith, a, b, h, k, limit, p)
+
+  -- behind the line of the spread
+  spread_lines_short : (spread : ℚ) (lines : List ℕ) → IsNarrow spread → length lines ≤ 300 * c.states + 4 → length (line (spread_text spread) ++ lines) ≤ 300 * c.states + 104
+  spread_lines_short spread lines narrow l =
+      let a = length-append (line (spread_text spread)) lines in
+      let b = line_length (spread_text spread) in
+      let d = blank_length (codes "spread") (spelling spread) in
+      let v = spelling_short spread narrow in
+      omega (arith, a, b, d, v, l)
+
+  plain_lines_short : (lines : List ℕ) → length lines ≤ 300 * c.states + 4 → length lines ≤ 300 * c.states + 104
+  plain_lines_short lines l = omega (arith, l)
+
+  by_body : (body : PlainBody) → is_body_of c.claim c.states body ≡ true → IsBodyInWidth body → length (text_of (record c { body = body })) ≤ 2 ^ 30
+  unfolding text_in
+  by_body (bounds zs) h w = whole_short (lines_of bound_columns zs) (plain_lines_short _ (bounds_short c.states fits.limit zs (bounds-entries c.claim c.states zs h) (recursion_from_All IsNarrow zs w)))
+  by_body (policy zs cs rs) h w =
+      whole_short (lines_of (policy_columns fraction_value) (policies zs cs rs))
+      (plain_lines_short _ (three_short c.states fits.limit fraction_value IsNarrow spelling_short zs cs rs (policy-entries c.claim c.states zs cs rs h) (recursion_from_All IsNarrow zs w.0)
+      (recursion_from_All (λ c. c < 2 ^ 32) cs w.1) (recursion_from_All (λ r. r < 2 ^ 32) rs w.2)))
+  by_body (rewards vs cs rs) h w =
+      whole_short (lines_of (policy_columns reward_value) (policies vs cs rs))
+      (plain_lines_short _ (three_short c.states fits.limit reward_value IsValueNarrow reward_short vs cs rs (reward-entries c.claim c.states vs cs rs h) (recursion_from_All IsValueNarrow vs w.0)
+      (recursion_from_All (λ c. c < 2 ^ 32) cs w.1) (recursion_from_All (λ r. r < 2 ^ 32) rs w.2)))
+  by_body (gains gs zs bs cs k) h w =
+      whole_short (line (spread_text k) ++ lines_of mean_columns (means gs zs bs cs))
+      (spread_lines_short k _ w.4 (means_lines_short c.states fits.limit gs zs bs cs (gains-entries c.claim c.states gs zs bs cs k h) (recursion_from_All IsNarrow gs w.0)
+      (recursion_from_All IsNarrow zs w.1) (recursion_from_All IsNarrow bs w.2) (recursion_from_All (λ c. c < 2 ^ 32) cs w.3)))
+  by_body (flow kept wide flows) h w = absurd (no_flow c.claim c.states kept wide flows plain h)
+  by_body (floor kept wide zs rs) h w = absurd (no_floor c.claim c.states kept wide zs rs plain h)
+
+  pub text_short : length (text_of c) ≤ 2 ^ 30
+  text_short = by_body c.body fits.entries fits.body_width

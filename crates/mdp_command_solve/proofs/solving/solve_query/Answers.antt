@@ -1,0 +1,18 @@
+use Rattle.std.proofs.Common.{IfOk, sym, subst}
+use Rattle.mdp_job.specs.Job.{plain_query}
+use Rattle.mdp_job.specs.declared.job.Query.{Query}
+use Rattle.mdp_command.specs.Said.{said}
+use Rattle.mdp_command_solve.specs.Solved.{IsPrinted}
+use Rattle.mdp_command_solve.proofs.solving.solve_query.Goals as goal
+
+pub returns-in-Reach-clause-printed : goal.returns-in-Reach-clause-printed
+returns-in-Reach-clause-printed c =
+    subst (λ (q : Query). IfOk (said c.solve_label.result) (IsPrinted c.args.dir (plain_query q) c.args.model.now)) (sym c.in-Reach.is) c.solve_label.ensures.printed
+
+pub returns-in-Reward-clause-printed : goal.returns-in-Reward-clause-printed
+returns-in-Reward-clause-printed c =
+    subst (λ (q : Query). IfOk (said c.solve_named.result) (IsPrinted c.args.dir (plain_query q) c.args.model.now)) (sym c.in-Reward.is) c.solve_named.ensures.printed
+
+pub returns-in-Mean-clause-printed : goal.returns-in-Mean-clause-printed
+returns-in-Mean-clause-printed c =
+    subst (λ (q : Query). IfOk (said c.solve_payoff.result) (IsPrinted c.args.dir (plain_query q) c.args.model.now)) (sym c.in-Mean.is) c.solve_payoff.ensures.printed

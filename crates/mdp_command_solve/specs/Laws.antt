@@ -1,0 +1,90 @@
+-- Laws of what is due to a query, over the definitions alone.
+use Rattle.std.specs.Prelude.{◌≡◌, ℕ, Bool, false, List, Some, Ok}
+use Rattle.mdp_spec.specs.Labels.{place_of, marks_of}
+use Rattle.mdp_spec.specs.Mdp.{Mdp}
+use Rattle.mdp_spec.specs.Bounds.{ReachMax, ReachMin, RewardMax, RewardMin, MeanMax, MeanMin}
+use Rattle.mdp_rows.specs.Negative.{has_negative}
+use Rattle.mdp_rows.specs.declared.dir.Dir.{Dir}
+use Rattle.mdp_rows.specs.declared.dir.Dir.TheVariants.{Max, Min}
+use Rattle.mdp_rows.specs.declared.rule.RowRule.{RowRule}
+use Rattle.mdp_farkas.specs.Reach.{IsReach}
+use Rattle.mdp_farkas.specs.Reward.{IsReward}
+use Rattle.mdp_farkas.specs.Mean.{IsMean}
+use Rattle.mdp_reach.specs.Query.{Answer}
+use Rattle.mdp_reward.specs.Query as rewarded
+use Rattle.mdp_mean.specs.Query as averaged
+use Rattle.mdp_cert.specs.Spelling.{text_of}
+use Rattle.mdp_job.specs.Job.{PlainQuery, reach, reward, mean}
+use Rattle.mdp_command.specs.Files.{model_due}
+use Rattle.mdp_command.specs.Said.{Said}
+use Rattle.mdp_command_solve.specs.Due.{certificate_of, reward_certificate_of, mean_certificate_of, IsSolveDue}
+
+-- what is due to a query and to the model's bytes is one thing
+abbrev pub IsDueOnce : Type 0
+IsDueOnce =
+    (rule : RowRule) (dir : Dir) (query : PlainQuery) (model : List ℕ) (said again : Said) → IsSolveDue dir query (model_due rule model) said
+    → IsSolveDue dir query (model_due rule model) again → said ≡ again
+
+-- ---- reaching a label
+
+-- the values are the greatest, or the least, probabilities of reaching a goal
+abbrev pub IsBest : Dir → Mdp → List Bool → Answer → Type 0
+IsBest Max m goals a = ReachMax m goals a.values a.choices
+IsBest Min m goals a = ReachMin m goals a.values a.choices
+
+-- a text that is due spells an answer that meets the rules, and whose values are the best ones
+pub record IsAnswerTo (dir : Dir) (label : List ℕ) (m : Mdp) (text : List ℕ) : Type 0 where
+  pub place : ℕ
+  pub found : place_of label m.labels ≡ Some place
+  pub answer : Answer
+  pub spelled : text ≡ text_of (certificate_of dir label m answer)
+  pub rules : IsReach dir m (marks_of m place) answer.values answer.choices answer.ranks
+  pub best : IsBest dir m (marks_of m place) answer
+
+-- where a text is due to a query, it is such a text
+abbrev pub TextIsAnswer : Type 0
+TextIsAnswer =
+    (rule : RowRule) (dir : Dir) (label model text : List ℕ) (m : Mdp) → model_due rule model ≡ Ok m → IsSolveDue dir (reach label) (model_due rule model) (Ok text)
+    → IsAnswerTo dir label m text
+
+-- ---- the reward of a name until a label
+
+-- the values are the greatest, or the least, rewards until a goal
+abbrev pub IsBestReward : Dir → Mdp → ℕ → List Bool → rewarded.Answer → Type 0
+IsBestReward Max m r goals a = RewardMax m r goals a.choices a.values
+IsBestReward Min m r goals a = RewardMin m r goals a.choices a.values
+
+pub record IsRewardAnswerTo (dir : Dir) (name label : List ℕ) (m : Mdp) (text : List ℕ) : Type 0 where
+  pub named : ℕ
+  pub named_so : place_of name m.names ≡ Some named
+  pub place : ℕ
+  pub found : place_of label m.labels ≡ Some place
+  pub none_negative : has_negative m named ≡ false
+  pub answer : rewarded.Answer
+  pub spelled : text ≡ text_of (reward_certificate_of dir name label m answer)
+  pub rules : IsReward dir m named (marks_of m place) answer.values answer.choices answer.ranks
+  pub best : IsBestReward dir m named (marks_of m place) answer
+
+abbrev pub RewardTextIsAnswer : Type 0
+RewardTextIsAnswer =
+    (rule : RowRule) (dir : Dir) (name label model text : List ℕ) (m : Mdp) → model_due rule model ≡ Ok m → IsSolveDue dir (reward name label) (model_due rule model) (Ok text)
+    → IsRewardAnswerTo dir name label m text
+
+-- ---- the mean payoff of a name
+
+-- the gains are the greatest, or the least, mean payoffs, to within the spread
+abbrev pub IsBestMean : Dir → Mdp → ℕ → averaged.Answer → Type 0
+IsBestMean Max m r a = MeanMax m r a.gains a.spread a.choices
+IsBestMean Min m r a = MeanMin m r a.gains a.spread a.choices
+
+pub record IsMeanAnswerTo (dir : Dir) (name : List ℕ) (m : Mdp) (text : List ℕ) : Type 0 where
+  pub named : ℕ
+  pub named_so : place_of name m.names ≡ Some named
+  pub answer : averaged.Answer
+  pub spelled : text ≡ text_of (mean_certificate_of dir name m answer)
+  pub rules : IsMean dir m named answer.gains answer.bound answer.bias answer.spread answer.choices
+  pub best : IsBestMean dir m named answer
+
+abbrev pub MeanTextIsAnswer : Type 0
+MeanTextIsAnswer =
+    (rule : RowRule) (dir : Dir) (name model text : List ℕ) (m : Mdp) → model_due rule model ≡ Ok m → IsSolveDue dir (mean name) (model_due rule model) (Ok text) → IsMeanAnswerTo dir name m text

@@ -1,0 +1,133 @@
+-- What is shown of the text of a witness, and what is due.
+use Rattle.std.proofs.Common.{◌≡◌, ℕ, ◌≤◌, ◌⊎◌, inl, inr, Bool, List, [], length, get_or, Some, Ok, Err, IfOk, refl, sym, ap, subst, ◌∙◌}
+use Rattle.std.specs.Prelude.{All}
+use Rattle.std.specs.Str.{bytes_eq}
+use Rattle.std.proofs.lemmas.List.{length-map}
+use Rattle.std.proofs.lemmas.List.Elements.{All-get_or}
+use Rattle.std.proofs.lemmas.List.Quantifiers.{position-Some}
+use Rattle.std.proofs.lemmas.Slice.Eq.{bytes_eq-Decides}
+use Rattle.mdp_math.specs.Rational.{ℚ}
+use Rattle.mdp_spec.specs.Bounds.{SubMax, SubMin}
+use Rattle.mdp_spec.specs.Labels.{place_of, marks_of, initial_of}
+use Rattle.mdp_spec.specs.Mdp.{Mdp, states_of}
+use Rattle.mdp_spec.specs.Row.{IsMdp}
+use Rattle.mdp_rows.specs.declared.dir.Dir.{Dir}
+use Rattle.mdp_rows.specs.declared.dir.Dir.TheVariants.{Max, Min}
+use Rattle.mdp_rows.specs.declared.rule.RowRule.{RowRule}
+use Rattle.mdp_cert.specs.Cert.{Certificate, Fits}
+use Rattle.mdp_cert.specs.Laws.{IsReadBack}
+use Rattle.mdp_cert.specs.Reading.{outcome}
+use Rattle.mdp_cert.specs.Spelling.{text_of}
+use Rattle.mdp_check.specs.Check.{IsAccepted}
+use Rattle.mdp_check.proofs.Accepting.{accepted_is_bound}
+use Rattle.mdp_job.specs.Refusal.{no_memory}
+use Rattle.mdp_command.specs.Files.{most_bytes, model_due}
+use Rattle.mdp_command.specs.Said.{Said}
+use Rattle.mdp_command.proofs.Working.{read_of_due}
+use Rattle.mdp_witness.specs.Query.{PlainSubsystem, flow, floor, EndsSo}
+use Rattle.mdp_witness.specs.Shown.{kept_in, HasShape, Holds, PolicyReaches, IsNeededMax, IsNeededMin, AreNeeded, MarksAreExactMax, MarksAreExactMin}
+use Rattle.mdp_command_witness.specs.Certificate.{dir_of, certificate_of}
+use Rattle.mdp_command_witness.specs.Due.{IsEndDue}
+use Rattle.mdp_command_witness.specs.Shown.{IsWitness, IsWitnessOf, IsWitnessPrinted, IsWitnessShown}
+use Rattle.mdp_text.proofs.InitialState.{initial_below}
+use Rattle.mdp_command_witness.proofs.Accepting.{witness_accepted}
+use Rattle.mdp_command_witness.proofs.Few.{few_flows}
+use Rattle.mdp_command_witness.proofs.TextLength.{witness_text_short}
+
+-- ---- names
+
+-- what is found in a list of names is one of them
+pub found_among : (P : List ℕ → Type 0) (name : List ℕ) (names : List (List ℕ)) (l : ℕ) → place_of name names ≡ Some l → All P names → P name
+found_among P name names l e h =
+    let p = position-Some (bytes_eq name) names l [] e in
+    subst P (sym ((bytes_eq-Decides name (get_or names l [])).0 p.1)) (All-get_or P names l [] p.0 h)
+
+-- a mark for each state
+pub marks_each : (m : Mdp) (l : ℕ) → length (marks_of m l) ≡ states_of m
+marks_each m l = length-map m.states _
+
+-- ---- a subsystem that was found
+
+-- its direction is that of the query
+pub dir_is : (dir : Dir) (m : Mdp) (found : PlainSubsystem) → HasShape dir m found → dir_of found ≡ dir
+dir_is Max m (flow kept wide flows) shape = refl
+dir_is Max m (floor kept wide values ranks) shape = absurd shape
+dir_is Min m (flow kept wide flows) shape = absurd shape
+dir_is Min m (floor kept wide values ranks) shape = refl
+
+pub own_shape : (dir : Dir) (m : Mdp) (found : PlainSubsystem) → HasShape dir m found → HasShape (dir_of found) m found
+own_shape dir m found shape = subst (λ (d : Dir). HasShape d m found) (sym (dir_is dir m found shape)) shape
+
+module _ (m : Mdp) (goals : List Bool) (start : ℕ) (threshold : ℚ) (found : PlainSubsystem) where
+  -- what it shows, by the direction
+  pub is_witness : (dir : Dir) → Holds dir m goals start threshold found → (dir ≡ Max → SubMax m goals (kept_in m found) start threshold)
+      → (dir ≡ Min → SubMin m goals (kept_in m found) start threshold) → (dir ≡ Max → PolicyReaches m goals start threshold found)
+      → (dir ≡ Max → AreNeeded (IsNeededMax m goals start threshold) m found) → (dir ≡ Min → AreNeeded (IsNeededMin m goals start threshold) m found)
+      → (dir ≡ Max → MarksAreExactMax m goals start threshold found) → (dir ≡ Min → MarksAreExactMin m goals start threshold found) → IsWitness dir threshold m goals start found
+  is_witness Max rules sub_max sub_min policy needed_max needed_min wide_max wide_min =
+      record { rules = rules; reaches = sub_max refl; policy = policy refl; needed = needed_max refl; marks = wide_max refl }
+  is_witness Min rules sub_max sub_min policy needed_max needed_min wide_max wide_min =
+      record { rules = rules; reaches = sub_min refl; policy = tt; needed = needed_min refl; marks = wide_min refl }
+
+-- ---- its text
+
+module _ (dir : Dir) (label : List ℕ) (threshold : ℚ) (m : Mdp) (l start : ℕ) (named : place_of label m.labels ≡ Some l) (initial : initial_of m ≡ Some start) (found : PlainSubsystem) where
+  pub witness_of : IsWitness dir threshold m (marks_of m l) start found → (text : List ℕ) → text ≡ text_of (certificate_of dir label threshold start m found)
+      → IsWitnessOf dir label threshold m text
+  witness_of witness text spelled = record { place = l; named = named; start = start; initial = initial; found = found; spelled = spelled; witness = witness }
+
+  pub printed : IsMdp m → IsReadBack → EndsSo dir m (marks_of m l) start threshold (Ok found) → HasShape dir m found → IsWitness dir threshold m (marks_of m l) start found
+      → Fits (certificate_of dir label threshold start m found) → (text : List ℕ) → text ≡ text_of (certificate_of dir label threshold start m found)
+      → IsWitnessPrinted dir label threshold m text
+  unfolding witness_of
+  printed mdp back end shape witness fits text spelled =
+      let accepted : IsAccepted m (certificate_of dir label threshold start m found) = witness_accepted label threshold start m dir l found named initial shape (IsWitness.rules witness) in
+      record {
+        spells = witness_of witness text spelled;
+        short = subst (λ (t : List ℕ). length t ≤ most_bytes) (sym spelled)
+            (witness_text_short dir label threshold start m (initial_below m start initial) dir found fits shape (few_flows m (marks_of m l) start threshold found dir end));
+        reads = ap outcome spelled ∙ (back (certificate_of dir label threshold start m found) fits).0;
+        holds = accepted;
+        bound = accepted_is_bound m (certificate_of dir label threshold start m found) mdp accepted;
+      }
+
+-- ---- what is due
+
+-- a certificate is said by its text, unless memory is wanting
+abbrev pub IsTextOf : Certificate → Said → Type 0
+IsTextOf c said = (said ≡ Err no_memory) ⊎ (said ≡ Ok (text_of c))
+
+pub text_printed : (P : List ℕ → Type 0) (c : Certificate) (said : Said) → ((text : List ℕ) → text ≡ text_of c → P text) → IsTextOf c said → IfOk said P
+text_printed P c (Ok text) shows (inl memory) = cc memory
+text_printed P c (Ok text) shows (inr e) = shows text (cc e)
+text_printed P c (Err r) shows e = tt
+
+pub text_due : (dir : Dir) (label : List ℕ) (threshold : ℚ) (m : Mdp) (l start : ℕ) (found : PlainSubsystem) (c : Certificate) (said : Said)
+    → EndsSo dir m (marks_of m l) start threshold (Ok found) → c ≡ certificate_of dir label threshold start m found → IsTextOf c said
+    → (said ≡ Err no_memory) ⊎ IsEndDue dir label threshold m l start said
+text_due dir label threshold m l start found c said end is (inl memory) = inl memory
+text_due dir label threshold m l start found c said end is (inr e) = inr (Ok found, end, e ∙ ap (λ (x : Certificate). let r : Said = Ok (text_of x) in r) is)
+
+-- ---- what is shown of the model's bytes
+
+pub shown : (rule : RowRule) (dir : Dir) (label : List ℕ) (threshold : ℚ) (m : Mdp) (said : Said) → IfOk said (IsWitnessPrinted dir label threshold m) → (bytes : List ℕ)
+    → model_due rule bytes ≡ Ok m → IfOk said (IsWitnessShown rule dir label threshold bytes)
+shown rule dir label threshold m (Ok text) printed bytes is =
+    let read = read_of_due rule bytes m is in
+    record {
+      true_claim = record {
+        accepted = record {
+          short_model = read.0;
+          short_cert = printed.short;
+          model = m;
+          reads = read.1;
+          cert = certificate_of dir label threshold printed.spells.start m printed.spells.found;
+          text = printed.reads;
+          holds = printed.holds;
+        };
+        bound = printed.bound;
+      };
+      spells = printed.spells;
+      cert = refl;
+    }
+shown rule dir label threshold m (Err r) printed bytes is = tt

@@ -1,9 +1,0 @@
-use Rattle.std.proofs.Common.{arith}
-use Rattle.mdp_lines.proofs.Cuts.{words_cut, words_one}
-use Rattle.mdp_lines.proofs.words.first_word.Goals as goal
-
-pub returns-then-end-text : goal.returns-then-end-text
-returns-then-end-text c = words_cut _ c.args.text.now c.before_blank-end.ensures (omega arith)
-
-pub returns-else-end-text : goal.returns-else-end-text
-returns-else-end-text c = words_one _ c.args.text.now c.before_blank-end.ensures (omega arith)

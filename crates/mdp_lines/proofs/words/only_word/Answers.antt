@@ -1,5 +1,0 @@
-use Rattle.mdp_lines.proofs.Cuts.{words_alone}
-use Rattle.mdp_lines.proofs.words.only_word.Goals as goal
-
-pub returns : goal.returns
-returns c = words_alone c.args.text.now c.requires

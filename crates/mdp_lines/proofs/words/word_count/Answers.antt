@@ -1,5 +1,0 @@
-use Rattle.mdp_lines.proofs.Cuts.{words_count}
-use Rattle.mdp_lines.proofs.words.word_count.Goals as goal
-
-pub returns : goal.returns
-returns c = words_count c.args.text.now _ c.blank_count.ensures.blanks

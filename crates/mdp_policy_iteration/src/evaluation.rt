@@ -1,0 +1,284 @@
+ghost use Rattle.std.specs.Prelude.{ℕ, List, [], ◌∷◌, ◌≡◌, ◌<◌, length, map, not, true, Ok, Err, IfOk, slice_index};
+ghost use Rattle.std.specs.Result.{result_ok};
+ghost use Rattle.mdp_elim.specs.System.{is_active, Leaves};
+ghost use Rattle.mdp_elim.specs.declared.too_wide.Kind.TheVariants.{Evaluate};
+ghost use Rattle.mdp_policy_iteration.specs.Problem.{IsPolicy, count, taken, active_of, rows_of};
+ghost use Rattle.mdp_policy_iteration.specs.Values.{CanLeave};
+ghost use Rattle.mdp_policy_iteration.specs.Path.{evaluating, fits, stop_value, boundary, outer, constant_by, constant, eliminated, filled_by, filled, values_of_rows, written_values};
+ghost use Rattle.mdp_policy_iteration.specs.Places.{up_to, all_pass};
+ghost use Rattle.mdp_policy_iteration.specs.Faults.{placed_at, Answers};
+ghost use Rattle.mdp_spec.specs.Written.{written_sum};
+ghost use Rattle.mdp_spec.specs.Row.{entries};
+ghost use Rattle.mdp_policy_iteration.specs.Code.{RowsFit, plus_outer};
+ghost use Rattle.std.specs.List.{All, range_with_len};
+
+use crate::errors::RoundError;
+use crate::loops::Loops;
+use crate::policy_chain::PolicyChain;
+use crate::shortest_path::ShortestPath;
+use mdp_elim::{ElimError, Kind, solve_leaving};
+use mdp_num::{Frac, Memory, Wide};
+use mdp_rows::{Marks, Row, RowsOf};
+use std::alloc::{AllocError, Global};
+
+/// The active nodes of a policy: those that go on.
+fn active_nodes<P: ShortestPath>(
+    alloc: Global,
+    problem: &P,
+    policy: &[u32],
+) -> Result<Marks, AllocError>
+    requires { IsPolicy (P.problem problem.now) policy.now }
+    ensures { IfOk result (λ marks. marks ≡ active_of (P.problem problem.now) policy.now) }
+{
+    let mut marks = Vec::new(alloc);
+    for s in 0..problem.count() {
+        marks.push(problem.goes_on(s, policy[s as usize]))?;
+    }
+    Ok(Marks::from_values(marks))
+}
+
+/// The value with which node `s` stops, 0 where it is active.
+fn stop_value<P: ShortestPath>(problem: &P, policy: &[u32], s: u32) -> Frac
+    requires policy { IsPolicy (P.problem problem.now) policy.now }
+    requires node { s < count (P.problem problem.now) }
+    ensures { result ≡ stop_value (taken (P.problem problem.now) policy.now s) }
+{
+    let choice = policy[s as usize];
+    if problem.goes_on(s, choice) {
+        Frac::whole(0)
+    } else {
+        problem.amount(s, choice)
+    }
+}
+
+/// The values with which nodes stop, 0 at active ones.
+fn stop_values<P: ShortestPath>(
+    alloc: Global,
+    problem: &P,
+    policy: &[u32],
+) -> Result<Vec<Frac>, AllocError>
+    requires { IsPolicy (P.problem problem.now) policy.now }
+    ensures { IfOk result (λ values. values.items ≡ boundary (P.problem problem.now) policy.now) }
+{
+    let mut values = Vec::new(alloc);
+    for s in 0..problem.count() {
+        values.push(stop_value(problem, policy, s))?;
+    }
+    Ok(values)
+}
+
+/// `sum`, and where the target isn't active its value times the probability.
+fn plus_outer(
+    sum: &Frac,
+    target: u32,
+    prob: &Frac,
+    active: &Marks,
+    values: &[Frac],
+) -> Result<Frac, Wide>
+    requires active { target < length active.now }
+    requires values { target < length values.now }
+    ensures { result_ok result ≡ plus_outer active.now values.now sum.now target prob.now }
+{
+    if active.at(target) {
+        return Ok(*sum);
+    }
+    let term = prob.mul(&values[target as usize])?;
+    sum.add(&term)
+}
+
+/// `start`, and for each entry to a node that isn't active its probability times the value of its target.
+fn outer_sum(row: Row<'_>, active: &Marks, start: &Frac, values: &[Frac]) -> Result<Frac, Wide>
+    requires active { All (λ t. t < length active.now) row.targets.now }
+    requires values { All (λ t. t < length values.now) row.targets.now }
+    ensures { result_ok result ≡ written_sum values.now start.now (outer active.now (entries row.entry.targets.now row.entry.probs.now)) }
+{
+    let mut sum = *start;
+    for i in 0..row.targets.len() {
+        sum = plus_outer(&sum, row.targets[i], &row.probs[i], active, values)?;
+    }
+    Ok(sum)
+}
+
+/// The constant of node `s`: what it earns, and the sum over its entries to nodes that stop.
+fn constant_at<P: ShortestPath>(
+    problem: &P,
+    policy: &[u32],
+    active: &Marks,
+    values: &[Frac],
+    s: u32,
+) -> Result<Frac, Wide>
+    requires policy { IsPolicy (P.problem problem.now) policy.now }
+    requires fit { RowsFit (P.problem problem.now) policy.now }
+    requires node { s < count (P.problem problem.now) }
+    requires active { length active.now ≡ count (P.problem problem.now) }
+    requires values { length values.now ≡ count (P.problem problem.now) }
+    ensures { result_ok result ≡ constant_by active.now values.now (taken (P.problem problem.now) policy.now s) }
+{
+    let choice = policy[s as usize];
+    if !problem.goes_on(s, choice) {
+        return Ok(Frac::whole(0));
+    }
+    let amount = problem.amount(s, choice);
+    outer_sum(problem.row(s, choice), active, &amount, values)
+}
+
+/// A step for node `s`.
+fn at_node<T>(step: Result<T, Wide>, policy: &[u32], s: u32) -> Result<T, RoundError>
+    requires { s < length policy.now }
+    ensures { result ≡ placed_at Evaluate s (slice_index policy.now s) step }
+{
+    match step {
+        Ok(value) => Ok(value),
+        Err(Wide) => Err(RoundError::Wide {
+            kind: Kind::Evaluate,
+            node: s,
+            choice: policy[s as usize],
+        }),
+    }
+}
+
+/// The constants of all nodes.
+fn constants_of<P: ShortestPath>(
+    alloc: Global,
+    problem: &P,
+    policy: &[u32],
+    active: &Marks,
+) -> Result<Vec<Frac>, RoundError>
+    requires policy { IsPolicy (P.problem problem.now) policy.now }
+    requires fit { RowsFit (P.problem problem.now) policy.now }
+    requires active { active.now ≡ active_of (P.problem problem.now) policy.now }
+    ensures { Answers (λ constants. constants.items) result (up_to (constant (P.problem problem.now) policy.now) (count (P.problem problem.now))) }
+{
+    let values = stop_values(alloc, problem, policy)?;
+    let mut constants = Vec::new(alloc);
+    for s in 0..problem.count() {
+        let constant = at_node(constant_at(problem, policy, active, &values, s), policy, s)?;
+        constants.push(constant)?;
+    }
+    Ok(constants)
+}
+
+/// The value of node `s`: that of the solution where it is active, and that with which it stops elsewhere.
+fn filled_value<P: ShortestPath>(problem: &P, policy: &[u32], solution: &[Frac], s: u32) -> Frac
+    requires policy { IsPolicy (P.problem problem.now) policy.now }
+    requires node { s < count (P.problem problem.now) }
+    requires solution { length solution.now ≡ count (P.problem problem.now) }
+    ensures { result ≡ filled_by solution.now s (taken (P.problem problem.now) policy.now s) }
+{
+    let choice = policy[s as usize];
+    if problem.goes_on(s, choice) {
+        solution[s as usize]
+    } else {
+        problem.amount(s, choice)
+    }
+}
+
+/// The values of all nodes.
+fn filled<P: ShortestPath>(
+    alloc: Global,
+    problem: &P,
+    policy: &[u32],
+    solution: &[Frac],
+) -> Result<Vec<Frac>, AllocError>
+    requires policy { IsPolicy (P.problem problem.now) policy.now }
+    requires solution { length solution.now ≡ count (P.problem problem.now) }
+    ensures { IfOk result (λ values. values.items ≡ filled (P.problem problem.now) policy.now solution.now) }
+{
+    let mut values = Vec::new(alloc);
+    for s in 0..problem.count() {
+        values.push(filled_value(problem, policy, solution, s))?;
+    }
+    Ok(values)
+}
+
+/// The solution of a policy's system.
+fn solution_of<P: ShortestPath>(
+    alloc: Global,
+    problem: &P,
+    policy: &[u32],
+    loops: &Loops,
+    active: &Marks,
+    constants: Vec<Frac>,
+) -> Result<Vec<Frac>, RoundError>
+    requires policy { IsPolicy (P.problem problem.now) policy.now }
+    requires fit { RowsFit (P.problem problem.now) policy.now }
+    requires leaves { CanLeave (P.problem problem.now) policy.now }
+    requires loops { length loops.now.nodes.items ≡ count (P.problem problem.now) }
+    requires active { active.now ≡ active_of (P.problem problem.now) policy.now }
+    requires constants { length constants.items ≡ count (P.problem problem.now) }
+    ensures value { Answers (λ x. x.items ∷ []) result (eliminated (P.problem problem.now) policy.now constants.items) }
+    ensures count { IfOk result (λ x. length x.items ≡ count (P.problem problem.now)) }
+{
+    let rows = PolicyChain {
+        problem,
+        policy,
+        loops,
+    };
+    let mut columns = Vec::new(alloc);
+    columns.push(constants)?;
+    match solve_leaving(alloc, &rows, active, &columns) {
+        Ok(solutions) => {
+            let mut solutions = solutions;
+            Ok(solutions.remove(0))
+        }
+        Err(ElimError::Wide { state }) => Err(RoundError::Wide {
+            kind: Kind::Evaluate,
+            node: state,
+            choice: policy[state as usize],
+        }),
+        Err(ElimError::Memory) => Err(RoundError::Memory),
+    }
+}
+
+/// The values of a policy whose rows are in width.
+fn evaluate_rows<P: ShortestPath>(
+    alloc: Global,
+    problem: &P,
+    policy: &[u32],
+    loops: &Loops,
+) -> Result<Vec<Frac>, RoundError>
+    requires policy { IsPolicy (P.problem problem.now) policy.now }
+    requires fit { RowsFit (P.problem problem.now) policy.now }
+    requires leaves { CanLeave (P.problem problem.now) policy.now }
+    requires loops { length loops.now.nodes.items ≡ count (P.problem problem.now) }
+    ensures { Answers (λ values. values.items) result (values_of_rows (P.problem problem.now) policy.now) }
+{
+    let active = active_nodes(alloc, problem, policy)?;
+    let constants = constants_of(alloc, problem, policy, &active)?;
+    let solution = solution_of(alloc, problem, policy, loops, &active, constants)?;
+    Ok(filled(alloc, problem, policy, &solution)?)
+}
+
+/// Refuses the first node whose row has a term past width.
+fn check_rows<P: ShortestPath>(problem: &P, policy: &[u32]) -> Result<(), RoundError>
+    requires { IsPolicy (P.problem problem.now) policy.now }
+    ensures { Answers (λ _. true) result (all_pass (fits (P.problem problem.now) policy.now) (evaluating policy.now) (count (P.problem problem.now))) }
+{
+    for s in 0..problem.count() {
+        let choice = policy[s as usize];
+        if !problem.fits(s, choice) {
+            return Err(RoundError::Wide {
+                kind: Kind::Evaluate,
+                node: s,
+                choice,
+            });
+        }
+    }
+    Ok(())
+}
+
+/// The values of a policy, or the first place at which a written term is past width.
+pub(crate) fn evaluate<P: ShortestPath>(
+    alloc: Global,
+    problem: &P,
+    policy: &[u32],
+    loops: &Loops,
+) -> Result<Vec<Frac>, RoundError>
+    requires policy { IsPolicy (P.problem problem.now) policy.now }
+    requires leaves { CanLeave (P.problem problem.now) policy.now }
+    requires loops { length loops.now.nodes.items ≡ count (P.problem problem.now) }
+    ensures { Answers (λ values. values.items) result (written_values (P.problem problem.now) policy.now) }
+{
+    check_rows(problem, policy)?;
+    evaluate_rows(alloc, problem, policy, loops)
+}

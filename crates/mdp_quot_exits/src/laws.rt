@@ -1,0 +1,18 @@
+ghost use Rattle.mdp_quot_exits.specs.Laws.{StepsHaveOneEnd, OuterHasOneEnd, StepsEnd, OuterEnds, StepsAreLongest, OuterIsBest, NoneTakesMore, NoneIsBetter};
+
+use mdp_policy_iteration::path_law;
+
+/// Each of the two queries has one end at most, and has one over the quotient of a model. Where that is an answer, it is the greatest expected number
+/// of exits from each node, or a policy with the best gains: no choice of exits takes more of them, and no policy of exits comes to better gains.
+pub fn exits_law()
+    ensures longest_once { StepsHaveOneEnd }
+    ensures outer_once { OuterHasOneEnd }
+    ensures longest_ends { StepsEnd }
+    ensures outer_ends { OuterEnds }
+    ensures longest { StepsAreLongest }
+    ensures best { OuterIsBest }
+    ensures none_longer { NoneTakesMore }
+    ensures none_better { NoneIsBetter }
+{
+    path_law();
+}

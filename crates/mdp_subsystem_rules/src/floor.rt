@@ -1,0 +1,344 @@
+ghost use Rattle.std.specs.Prelude.{◌≡◌, ◌<◌, ◌↔◌, ◌||◌, not, length, [], ◌∷◌, All, nat_lt};
+ghost use Rattle.std.specs.List.{list_any};
+ghost use Rattle.std.specs.Result.{result_ok};
+ghost use Rattle.mdp_math.specs.Rational.{lt_ℚ};
+ghost use Rattle.mdp_spec.specs.Bounds.{SubMin};
+ghost use Rattle.mdp_spec.specs.Mdp.{states_of, choices_at, value_at};
+ghost use Rattle.mdp_spec.specs.Row.{entries};
+ghost use Rattle.mdp_spec.specs.Tree.{is_marked};
+ghost use Rattle.mdp_spec.specs.Written.{written_sum};
+ghost use Rattle.mdp_farkas.specs.Bellman.{sum_stands};
+ghost use Rattle.mdp_farkas.specs.Compare.{0ℚ};
+ghost use Rattle.mdp_farkas.specs.Verdict.{at_choices, verdict_of, IsYes, IfYes};
+ghost use Rattle.mdp_rows.specs.declared.dir.Dir.TheVariants.{Min};
+ghost use Rattle.mdp_subsystem_rules.specs.FloorChecks.{line_rank, line_values, value_checks, cover_check, cover_checks, fall_check};
+ghost use Rattle.mdp_subsystem_rules.specs.FloorChecks.{rank_checks, line_checks, checks_of_line, each_line, start_check, floor_checks, HoldsFloor};
+ghost use Rattle.mdp_subsystem_rules.specs.Kept.{kept_marks};
+ghost use Rattle.mdp_subsystem_rules.specs.Shape.{IsFloorShape};
+ghost use Rattle.mdp_subsystem_rules.specs.Walk.{stop_of};
+
+use crate::compare::{at_least, at_most};
+use crate::flow::kept_at;
+use crate::lines::place_of;
+use crate::walk::{each_choice, each_place, judged, judged_at, verdict_of_walk};
+use mdp_farkas::Verdict;
+use mdp_num::{Frac, Wide};
+use mdp_rows::{Marks, Model, Row};
+
+/// Values and ranks that are said to show that each policy of a subsystem reaches a goal with a probability of at least a threshold: the states that
+/// are kept, strictly ascending, and for each whether it was kept since a number was too wide to try without it, its value and its rank.
+#[derive(Debug, Drop)]
+pub struct FloorCert {
+    pub kept: Vec<u32>,
+    pub wide: Vec<bool>,
+    pub values: Vec<Frac>,
+    pub ranks: Vec<u32>,
+}
+
+/// What state `s` counts as: a goal as 1, a kept state as the value of its line, any other state as 0.
+fn value_of(model: &Model, goals: &Marks, cert: &FloorCert, s: u32) -> Frac
+    requires goals { length goals.now ≡ states_of model.now }
+    requires shape { IsFloorShape model.now cert.now.kept.items cert.now.wide.items cert.now.values.items cert.now.ranks.items }
+    requires state { s < states_of model.now }
+    ensures { result ≡ value_at (line_values model.now goals.now cert.now.kept.items cert.now.values.items) s }
+{
+    if goals.at(s) {
+        return Frac::whole(1);
+    }
+    match place_of(cert.kept.as_slice(), s) {
+        Some(line) => cert.values[line],
+        None => Frac::whole(0),
+    }
+}
+
+/// Which rank it counts with: a kept state with that of its line, any other state and a goal with 0.
+fn rank_of(model: &Model, goals: &Marks, cert: &FloorCert, s: u32) -> u32
+    requires goals { length goals.now ≡ states_of model.now }
+    requires shape { IsFloorShape model.now cert.now.kept.items cert.now.wide.items cert.now.values.items cert.now.ranks.items }
+    requires state { s < states_of model.now }
+    ensures { result ≡ line_rank model.now goals.now cert.now.kept.items cert.now.ranks.items s }
+{
+    if goals.at(s) {
+        return 0;
+    }
+    match place_of(cert.kept.as_slice(), s) {
+        Some(line) => cert.ranks[line],
+        None => 0,
+    }
+}
+
+/// The sum over a row of its probabilities times what its targets count as, added in the order of the targets. `Wide` where a written term of one
+/// of these operations is past width.
+fn row_sum(row: Row<'_>, model: &Model, goals: &Marks, cert: &FloorCert) -> Result<Frac, Wide>
+    requires goals { length goals.now ≡ states_of model.now }
+    requires shape { IsFloorShape model.now cert.now.kept.items cert.now.wide.items cert.now.values.items cert.now.ranks.items }
+    requires targets { All (λ t. t < states_of model.now) row.targets.now }
+    ensures { result_ok result ≡ written_sum (line_values model.now goals.now cert.now.kept.items cert.now.values.items) 0ℚ (entries row.entry.targets.now row.entry.probs.now) }
+{
+    let mut sum = Frac::whole(0);
+    for i in 0..row.targets.len() {
+        let term = row.probs[i].mul(&value_of(model, goals, cert, row.targets[i]))?;
+        sum = sum.add(&term)?;
+    }
+    Ok(sum)
+}
+
+/// Whether state `s` counts with a rank below this one.
+fn is_below(model: &Model, goals: &Marks, cert: &FloorCert, s: u32, rank: u32) -> bool
+    requires goals { length goals.now ≡ states_of model.now }
+    requires shape { IsFloorShape model.now cert.now.kept.items cert.now.wide.items cert.now.values.items cert.now.ranks.items }
+    requires state { s < states_of model.now }
+    ensures { result ≡ nat_lt (line_rank model.now goals.now cert.now.kept.items cert.now.ranks.items s) rank }
+{
+    rank_of(model, goals, cert, s) < rank
+}
+
+/// Whether some entry of a row leads to a rank below this one.
+fn row_falls(row: Row<'_>, model: &Model, goals: &Marks, cert: &FloorCert, rank: u32) -> bool
+    requires goals { length goals.now ≡ states_of model.now }
+    requires shape { IsFloorShape model.now cert.now.kept.items cert.now.wide.items cert.now.values.items cert.now.ranks.items }
+    requires targets { All (λ t. t < states_of model.now) row.targets.now }
+    ensures { result ≡ list_any (λ y. nat_lt (line_rank model.now goals.now cert.now.kept.items cert.now.ranks.items y.target) rank) (entries row.entry.targets.now row.entry.probs.now) }
+{
+    for t in row.targets {
+        if is_below(model, goals, cert, *t, rank) {
+            return true;
+        }
+    }
+    false
+}
+
+/// The value of the kept state `s` is from 0 to 1.
+fn probability_at(s: u32, value: &Frac) -> Result<(), Verdict>
+    ensures { result ≡ stop_of (value_checks s value.now) }
+{
+    judged(at_least(value, &Frac::whole(0)), 3, s, None)?;
+    judged(at_most(value, &Frac::whole(1)), 3, s, None)
+}
+
+/// Whether a value is at most that sum.
+fn row_covers(
+    row: Row<'_>,
+    model: &Model,
+    goals: &Marks,
+    cert: &FloorCert,
+    value: &Frac,
+) -> Result<bool, Wide>
+    requires goals { length goals.now ≡ states_of model.now }
+    requires shape { IsFloorShape model.now cert.now.kept.items cert.now.wide.items cert.now.values.items cert.now.ranks.items }
+    requires targets { All (λ t. t < states_of model.now) row.targets.now }
+    ensures { result_ok result ≡ sum_stands Min value.now (line_values model.now goals.now cert.now.kept.items cert.now.values.items) 0ℚ (entries row.entry.targets.now row.entry.probs.now) }
+{
+    let sum = row_sum(row, model, goals, cert)?;
+    at_most(value, &sum)
+}
+
+/// The value of the kept state `s` is at most the sum over the row of its choice `c`.
+fn cover_at(
+    model: &Model,
+    goals: &Marks,
+    cert: &FloorCert,
+    s: u32,
+    value: &Frac,
+    c: u32,
+) -> Result<(), Verdict>
+    requires goals { length goals.now ≡ states_of model.now }
+    requires shape { IsFloorShape model.now cert.now.kept.items cert.now.wide.items cert.now.values.items cert.now.ranks.items }
+    requires state { s < states_of model.now }
+    requires choice { c < length (choices_at model.now s) }
+    ensures { result ≡ stop_of (cover_check model.now (line_values model.now goals.now cert.now.kept.items cert.now.values.items) s value.now c ∷ []) }
+{
+    let covers = row_covers(model.row(s, c), model, goals, cert, value);
+    judged(covers, 5, s, Some(c))
+}
+
+/// The same at each choice of the kept state `s`, where it is no goal.
+fn covers_at(
+    model: &Model,
+    goals: &Marks,
+    cert: &FloorCert,
+    s: u32,
+    value: &Frac,
+) -> Result<(), Verdict>
+    requires goals { length goals.now ≡ states_of model.now }
+    requires shape { IsFloorShape model.now cert.now.kept.items cert.now.wide.items cert.now.values.items cert.now.ranks.items }
+    requires state { s < states_of model.now }
+    ensures { result ≡ stop_of (cover_checks model.now goals.now (line_values model.now goals.now cert.now.kept.items cert.now.values.items) s value.now) }
+{
+    if goals.at(s) {
+        return Ok(());
+    }
+    each_choice(model, s, |c| cover_at(model, goals, cert, s, value, c))
+}
+
+/// An entry of the row of choice `c` at the kept state `s` leads to a rank below this one.
+fn fall_at(
+    model: &Model,
+    goals: &Marks,
+    cert: &FloorCert,
+    s: u32,
+    rank: u32,
+    c: u32,
+) -> Result<(), Verdict>
+    requires goals { length goals.now ≡ states_of model.now }
+    requires shape { IsFloorShape model.now cert.now.kept.items cert.now.wide.items cert.now.values.items cert.now.ranks.items }
+    requires state { s < states_of model.now }
+    requires choice { c < length (choices_at model.now s) }
+    ensures { result ≡ stop_of (fall_check model.now (line_rank model.now goals.now cert.now.kept.items cert.now.ranks.items) s rank c ∷ []) }
+{
+    let falls = row_falls(model.row(s, c), model, goals, cert, rank);
+    judged(Ok(falls), 8, s, Some(c))
+}
+
+/// Whether a number is above 0.
+fn is_above_zero(value: &Frac) -> bool
+    ensures { result ≡ lt_ℚ 0ℚ value.now }
+{
+    value.sign() > 0
+}
+
+/// Whether state `s`, of this value, is a goal or has value 0.
+fn ends_at(goals: &Marks, s: u32, value: &Frac) -> bool
+    requires { s < length goals.now }
+    ensures { result ≡ (is_marked goals.now s || not (lt_ℚ 0ℚ value.now)) }
+{
+    goals.at(s) || !is_above_zero(value)
+}
+
+/// An entry of the row of each choice at the kept state `s` leads to a rank below this one.
+fn falls_at(
+    model: &Model,
+    goals: &Marks,
+    cert: &FloorCert,
+    s: u32,
+    rank: u32,
+) -> Result<(), Verdict>
+    requires goals { length goals.now ≡ states_of model.now }
+    requires shape { IsFloorShape model.now cert.now.kept.items cert.now.wide.items cert.now.values.items cert.now.ranks.items }
+    requires state { s < states_of model.now }
+    ensures { result ≡ stop_of (at_choices model.now s (fall_check model.now (line_rank model.now goals.now cert.now.kept.items cert.now.ranks.items) s rank)) }
+{
+    each_choice(model, s, |c| fall_at(model, goals, cert, s, rank, c))
+}
+
+/// The kept state `s` has rank 0 where it is a goal or has value 0; else an entry of each row leads to a smaller rank.
+fn rank_at(
+    model: &Model,
+    goals: &Marks,
+    cert: &FloorCert,
+    s: u32,
+    value: &Frac,
+    rank: u32,
+) -> Result<(), Verdict>
+    requires goals { length goals.now ≡ states_of model.now }
+    requires shape { IsFloorShape model.now cert.now.kept.items cert.now.wide.items cert.now.values.items cert.now.ranks.items }
+    requires state { s < states_of model.now }
+    ensures { result ≡ stop_of (rank_checks model.now goals.now (line_rank model.now goals.now cert.now.kept.items cert.now.ranks.items) s value.now rank) }
+{
+    if ends_at(goals, s, value) {
+        return judged(Ok(rank == 0), 7, s, None);
+    }
+    falls_at(model, goals, cert, s, rank)
+}
+
+/// The rules at the kept state `s` of this value and rank.
+fn state_at(
+    model: &Model,
+    goals: &Marks,
+    cert: &FloorCert,
+    s: u32,
+    value: &Frac,
+    rank: u32,
+) -> Result<(), Verdict>
+    requires goals { length goals.now ≡ states_of model.now }
+    requires shape { IsFloorShape model.now cert.now.kept.items cert.now.wide.items cert.now.values.items cert.now.ranks.items }
+    requires state { s < states_of model.now }
+    ensures { result ≡ stop_of (line_checks model.now goals.now cert.now.kept.items cert.now.values.items cert.now.ranks.items s value.now rank) }
+{
+    probability_at(s, value)?;
+    covers_at(model, goals, cert, s, value)?;
+    rank_at(model, goals, cert, s, value, rank)?;
+    kept_at(goals, s)
+}
+
+/// The rules at the kept state of line `i`.
+fn line_at(model: &Model, goals: &Marks, cert: &FloorCert, i: usize) -> Result<(), Verdict>
+    requires goals { length goals.now ≡ states_of model.now }
+    requires shape { IsFloorShape model.now cert.now.kept.items cert.now.wide.items cert.now.values.items cert.now.ranks.items }
+    requires line { i < length cert.now.kept.items }
+    ensures { result ≡ stop_of (checks_of_line model.now goals.now cert.now.kept.items cert.now.values.items cert.now.ranks.items i) }
+{
+    state_at(
+        model,
+        goals,
+        cert,
+        cert.kept[i],
+        &cert.values[i],
+        cert.ranks[i],
+    )
+}
+
+/// The rules at each kept state.
+fn each_line_at(model: &Model, goals: &Marks, cert: &FloorCert) -> Result<(), Verdict>
+    requires goals { length goals.now ≡ states_of model.now }
+    requires shape { IsFloorShape model.now cert.now.kept.items cert.now.wide.items cert.now.values.items cert.now.ranks.items }
+    ensures { result ≡ stop_of (each_line model.now goals.now cert.now.kept.items cert.now.values.items cert.now.ranks.items) }
+{
+    each_place(cert.kept.len(), |i| line_at(model, goals, cert, i))
+}
+
+/// What the start counts as is at least the threshold.
+fn start_at(
+    model: &Model,
+    goals: &Marks,
+    start: u32,
+    threshold: &Frac,
+    cert: &FloorCert,
+) -> Result<(), Verdict>
+    requires goals { length goals.now ≡ states_of model.now }
+    requires shape { IsFloorShape model.now cert.now.kept.items cert.now.wide.items cert.now.values.items cert.now.ranks.items }
+    requires start { start < states_of model.now }
+    ensures { result ≡ stop_of (start_check model.now goals.now start threshold.now cert.now.kept.items cert.now.values.items ∷ []) }
+{
+    let reaches = at_least(&value_of(model, goals, cert, start), threshold);
+    judged_at(reaches, 24, None, None)
+}
+
+/// All rules: those at each kept state, and that of the start.
+fn floor_walk(
+    model: &Model,
+    goals: &Marks,
+    start: u32,
+    threshold: &Frac,
+    cert: &FloorCert,
+) -> Result<(), Verdict>
+    requires goals { length goals.now ≡ states_of model.now }
+    requires shape { IsFloorShape model.now cert.now.kept.items cert.now.wide.items cert.now.values.items cert.now.ranks.items }
+    requires start { start < states_of model.now }
+    ensures { result ≡ stop_of (floor_checks model.now goals.now start threshold.now cert.now.kept.items cert.now.values.items cert.now.ranks.items) }
+{
+    each_line_at(model, goals, cert)?;
+    start_at(model, goals, start, threshold, cert)
+}
+
+/// Whether the values and ranks show that each policy of the subsystem with these kept states reaches a goal from the start with a probability of at
+/// least the threshold: what rules 3, 5, 7, 8, 21 and 24 say of them (Funke, Jantsch and Baier 2020). Yes, the first rule that is false with its
+/// place, or the place of the first written term past width where that comes before. It takes no memory, and for each successor time in proportion
+/// to the logarithm of the number of kept states.
+pub fn holds_floor(
+    model: &Model,
+    goals: &Marks,
+    start: u32,
+    threshold: Frac,
+    cert: &FloorCert,
+) -> Verdict
+    requires goals { length goals.now ≡ states_of model.now }
+    requires start { start < states_of model.now }
+    requires shape { IsFloorShape model.now cert.now.kept.items cert.now.wide.items cert.now.values.items cert.now.ranks.items }
+    ensures verdict { result ≡ verdict_of (floor_checks model.now goals.now start threshold cert.now.kept.items cert.now.values.items cert.now.ranks.items) }
+    ensures rules { IsYes result ↔ HoldsFloor model.now goals.now start threshold cert.now.kept.items cert.now.values.items cert.now.ranks.items }
+    ensures sub_min { IfYes result (SubMin model.now goals.now (kept_marks (states_of model.now) cert.now.kept.items) start threshold) }
+{
+    model.known();
+    verdict_of_walk(floor_walk(model, goals, start, &threshold, cert))
+}

@@ -1,0 +1,218 @@
+ghost use Rattle.std.specs.Prelude.{◌≡◌, ◌<◌, ◌↔◌, length, [], ◌∷◌, ◌++◌, map, All, IfOk, OnOk};
+ghost use Rattle.mdp_spec.specs.Bounds.{SubMax, SubMaxWithin};
+ghost use Rattle.mdp_spec.specs.Mdp.{states_of};
+ghost use Rattle.mdp_farkas.specs.Reach.{choice_exists};
+ghost use Rattle.mdp_farkas.specs.Verdict.{verdict_of, IsYes, IfYes};
+ghost use Rattle.mdp_subsystem_rules.specs.Flow.{flow_total};
+ghost use Rattle.mdp_subsystem_rules.specs.FlowChecks.{kept_check, flow_check, checks_at, each_flow, balance_check, arrival_check, sum_checks, checks_from, flow_checks, HoldsFlow};
+ghost use Rattle.mdp_subsystem_rules.specs.Kept.{kept_marks};
+ghost use Rattle.mdp_subsystem_rules.specs.Shape.{IsFlowShape};
+ghost use Rattle.mdp_subsystem_rules.specs.Sums.{AreSums, after_flow, after_flows};
+ghost use Rattle.mdp_subsystem_rules.specs.Walk.{stop_of};
+
+use crate::compare::{at_least, at_most};
+use crate::lines::kept_marks_of;
+use crate::sums::Sums;
+use crate::walk::{each_place, judged, judged_at, verdict_of_walk};
+use mdp_farkas::Verdict;
+use mdp_num::{Frac, Memory, Wide};
+use mdp_rows::{Marks, Model};
+use std::alloc::Global;
+
+/// How much of a flow takes a choice of a state.
+#[derive(Clone, Copy, Debug)]
+pub struct Flow {
+    pub state: u32,
+    pub choice: u32,
+    pub amount: Frac,
+}
+
+/// A flow that is said to show that a subsystem reaches a goal with a probability of at least a threshold: the states that are kept, strictly
+/// ascending, for each whether it was kept since a number was too wide to try without it, and the flows, strictly ascending by state and choice.
+#[derive(Debug, Drop)]
+pub struct FlowCert {
+    pub kept: Vec<u32>,
+    pub wide: Vec<bool>,
+    pub flows: Vec<Flow>,
+}
+
+/// The kept state `s` is no goal.
+pub(crate) fn kept_at(goals: &Marks, s: u32) -> Result<(), Verdict>
+    requires { s < length goals.now }
+    ensures { result ≡ stop_of (kept_check goals.now s ∷ []) }
+{
+    judged(Ok(!goals.at(s)), 21, s, None)
+}
+
+/// The same of each kept state.
+fn each_kept_at(goals: &Marks, kept: &[u32]) -> Result<(), Verdict>
+    requires { All (λ s. s < length goals.now) kept.now }
+    ensures { result ≡ stop_of (map (kept_check goals.now) kept.now) }
+{
+    each_place(kept.len(), |i| kept_at(goals, kept[i]))
+}
+
+/// The flow's state has its choice.
+fn choice_at(model: &Model, flow: &Flow) -> Result<(), Verdict>
+    requires { flow.now.state < states_of model.now }
+    ensures { result ≡ stop_of (choice_exists model.now flow.now.state flow.now.choice ∷ []) }
+{
+    let exists = flow.choice < model.choices(flow.state);
+    judged(Ok(exists), 2, flow.state, Some(flow.choice))
+}
+
+/// The flow's state is kept and its amount above 0.
+fn amount_at(kept: &Marks, flow: &Flow) -> Result<(), Verdict>
+    requires { flow.now.state < length kept.now }
+    ensures { result ≡ stop_of (flow_check kept.now flow.now ∷ []) }
+{
+    let flows = kept.at(flow.state) && flow.amount.sign() > 0;
+    judged(Ok(flows), 21, flow.state, Some(flow.choice))
+}
+
+/// The rules at a flow, which is then added to the sums.
+fn flow_at(
+    model: &Model,
+    goals: &Marks,
+    kept: &Marks,
+    sums: &mut Sums,
+    flow: &Flow,
+) -> Result<(), Verdict>
+    requires goals { length goals.now ≡ states_of model.now }
+    requires kept { length kept.now ≡ states_of model.now }
+    requires sums { AreSums (states_of model.now) sums.old }
+    requires state { flow.now.state < states_of model.now }
+    ensures verdict { result ≡ stop_of (checks_at model.now goals.now kept.now sums.old flow.now) }
+    ensures sums { OnOk result (sums.new ≡ after_flow model.now goals.now sums.old flow.now) }
+{
+    choice_at(model, flow)?;
+    amount_at(kept, flow)?;
+    match sums.add_flow(model, goals, flow) {
+        Ok(()) => Ok(()),
+        Err(Wide) => Err(Verdict::Wide {
+            state: Some(flow.state),
+            choice: Some(flow.choice),
+        }),
+    }
+}
+
+/// The same at each flow.
+fn each_flow_at(
+    model: &Model,
+    goals: &Marks,
+    kept: &Marks,
+    sums: &mut Sums,
+    flows: &[Flow],
+) -> Result<(), Verdict>
+    requires goals { length goals.now ≡ states_of model.now }
+    requires kept { length kept.now ≡ states_of model.now }
+    requires sums { AreSums (states_of model.now) sums.old }
+    requires states { All (λ f. f.state < states_of model.now) flows.now }
+    ensures verdict { result ≡ stop_of (each_flow model.now goals.now kept.now sums.old flows.now) }
+    ensures sums { OnOk result (sums.new ≡ after_flows model.now goals.now sums.old flows.now) }
+{
+    for flow in flows {
+        flow_at(model, goals, kept, sums, flow)?;
+    }
+    Ok(())
+}
+
+/// What leaves the kept state `s` is at most what comes in.
+fn balance_at(sums: &Sums, s: u32) -> Result<(), Verdict>
+    requires outflow { s < length sums.now.outflows }
+    requires inflow { s < length sums.now.inflows }
+    ensures { result ≡ stop_of (balance_check sums.now s ∷ []) }
+{
+    judged(at_most(&sums.outflow(s), &sums.inflow(s)), 22, s, None)
+}
+
+/// The same at each kept state.
+fn each_balance_at(sums: &Sums, kept: &[u32]) -> Result<(), Verdict>
+    requires outflows { All (λ s. s < length sums.now.outflows) kept.now }
+    requires inflows { All (λ s. s < length sums.now.inflows) kept.now }
+    ensures { result ≡ stop_of (map (balance_check sums.now) kept.now) }
+{
+    each_place(kept.len(), |i| balance_at(sums, kept[i]))
+}
+
+/// What comes to the goals is at least the threshold.
+fn arrival_at(sums: &Sums, threshold: &Frac) -> Result<(), Verdict>
+    ensures { result ≡ stop_of (arrival_check sums.now threshold.now ∷ []) }
+{
+    judged_at(at_least(&sums.goal(), threshold), 23, None, None)
+}
+
+/// The rules on the sums.
+fn sums_at(sums: &Sums, kept: &[u32], threshold: &Frac) -> Result<(), Verdict>
+    requires outflows { All (λ s. s < length sums.now.outflows) kept.now }
+    requires inflows { All (λ s. s < length sums.now.inflows) kept.now }
+    ensures { result ≡ stop_of (sum_checks kept.now threshold.now sums.now) }
+{
+    each_balance_at(sums, kept)?;
+    arrival_at(sums, threshold)
+}
+
+/// The rules at the flows and on their sums.
+fn flows_walk(
+    model: &Model,
+    goals: &Marks,
+    threshold: &Frac,
+    cert: &FlowCert,
+    kept: &Marks,
+    sums: &mut Sums,
+) -> Result<(), Verdict>
+    requires goals { length goals.now ≡ states_of model.now }
+    requires shape { IsFlowShape model.now cert.now.kept.items cert.now.wide.items cert.now.flows.items }
+    requires kept { kept.now ≡ kept_marks (states_of model.now) cert.now.kept.items }
+    requires sums { AreSums (states_of model.now) sums.old }
+    ensures { result ≡ stop_of (checks_from model.now goals.now threshold.now cert.now.kept.items cert.now.flows.items sums.old) }
+{
+    each_flow_at(model, goals, kept, sums, cert.flows.as_slice())?;
+    sums_at(sums, cert.kept.as_slice(), threshold)
+}
+
+/// All rules: those at the kept states, at the flows and on their sums.
+fn flow_walk(
+    model: &Model,
+    goals: &Marks,
+    threshold: &Frac,
+    cert: &FlowCert,
+    kept: &Marks,
+    sums: &mut Sums,
+) -> Result<(), Verdict>
+    requires goals { length goals.now ≡ states_of model.now }
+    requires shape { IsFlowShape model.now cert.now.kept.items cert.now.wide.items cert.now.flows.items }
+    requires kept { kept.now ≡ kept_marks (states_of model.now) cert.now.kept.items }
+    requires sums { AreSums (states_of model.now) sums.old }
+    ensures { result ≡ stop_of (map (kept_check goals.now) cert.now.kept.items ++ checks_from model.now goals.now threshold.now cert.now.kept.items cert.now.flows.items sums.old) }
+{
+    each_kept_at(goals, cert.kept.as_slice())?;
+    flows_walk(model, goals, threshold, cert, kept, sums)
+}
+
+/// Whether the flow shows that some policy of the subsystem with these kept states reaches a goal from the start with a probability of at least
+/// the threshold: what rules 2, 21, 22 and 23 say of it (Funke, Jantsch and Baier 2020). Yes, the first rule that is false with its place, or the
+/// place of the first written term past width where that comes before; a term of a flow's sums has the flow's state and choice. It takes time in
+/// proportion to the model's states and the entries of the rows that flows take.
+pub fn holds_flow(
+    alloc: Global,
+    model: &Model,
+    goals: &Marks,
+    start: u32,
+    threshold: Frac,
+    cert: &FlowCert,
+) -> Result<Verdict, Memory>
+    requires goals { length goals.now ≡ states_of model.now }
+    requires start { start < states_of model.now }
+    requires shape { IsFlowShape model.now cert.now.kept.items cert.now.wide.items cert.now.flows.items }
+    ensures verdict { IfOk result (λ v. v ≡ verdict_of (flow_checks model.now goals.now start threshold cert.now.kept.items cert.now.flows.items)) }
+    ensures rules { IfOk result (λ v. IsYes v ↔ HoldsFlow model.now goals.now start threshold cert.now.kept.items cert.now.flows.items) }
+    ensures sub_max { IfOk result (λ v. IfYes v (SubMax model.now goals.now (kept_marks (states_of model.now) cert.now.kept.items) start threshold)) }
+    ensures within { IfOk result (λ v. IfYes v (SubMaxWithin model.now goals.now (kept_marks (states_of model.now) cert.now.kept.items) start threshold (flow_total cert.now.flows.items))) }
+{
+    model.known();
+    let kept = kept_marks_of(alloc, model.states(), cert.kept.as_slice())?;
+    let mut sums = Sums::new(alloc, model.states(), goals, start)?;
+    let walk = flow_walk(model, goals, &threshold, cert, &kept, &mut sums);
+    Ok(verdict_of_walk(walk))
+}

@@ -1,0 +1,55 @@
+ghost use Rattle.mdp_subsystem_rules.specs.Laws.{FloorShows, FlowShows, PolicyShows, LeastIsFloor, VisitsAreFlow, VisitsBound, TreesReachMore};
+ghost use Rattle.mdp_subsystem_rules.specs.Laws.{WholeIsModel, GreatestGrows, LeastGrows, LeastFallsShort, PolicyFallsShort, VisitsFallShort, ShortIsNoFloor};
+ghost use Rattle.mdp_subsystem_rules.specs.Laws.{FlowNeverNo, FloorNeverNo, ListedAreMarks, ListedFlowShape, ListedFloorShape, ListedMeetsFloor};
+
+/// A floor that meets its rules bounds the least probability of meeting a goal on its subsystem from below.
+pub fn floor_law()
+    ensures shows { FloorShows }
+{}
+
+/// A flow that meets its rules bounds the greatest probability from below, and says at which depth it is close. Flows of one policy bound that
+/// policy's probability.
+pub fn flow_law()
+    ensures shows { FlowShows }
+    ensures policy { PolicyShows }
+{}
+
+/// Certificates that are made so meet the rules: the values and ranks of the least probability on the subsystem, and the flows of expected visits.
+/// Such flows also bound the policy's probability from above.
+pub fn made_law()
+    ensures floor { LeastIsFloor }
+    ensures flow { VisitsAreFlow }
+    ensures bound { VisitsBound }
+{}
+
+/// With fewer kept states no probability is greater: for trees of one depth, and for the greatest and the least probabilities.
+pub fn fewer_law()
+    ensures trees { TreesReachMore }
+    ensures whole { WholeIsModel }
+    ensures greatest { GreatestGrows }
+    ensures least { LeastGrows }
+{}
+
+/// A subsystem whose least probability is under the threshold falls short of it, and so does each smaller one; the same of one policy's
+/// probability. A subsystem that falls short has no floor at the threshold.
+pub fn short_law()
+    ensures least { LeastFallsShort }
+    ensures policy { PolicyFallsShort }
+    ensures visits { VisitsFallShort }
+    ensures no_floor { ShortIsNoFloor }
+{}
+
+/// A certificate that meets its rules in exact numbers is never answered no: its checks end with yes or with a term past width.
+pub fn never_no_law()
+    ensures flow { FlowNeverNo }
+    ensures floor { FloorNeverNo }
+{}
+
+/// What is listed of marks, values and ranks per state: the listed states have those marks, the lists have the shape of certificates, and a floor
+/// that meets its rules meets them as it is listed.
+pub fn listed_law()
+    ensures marks { ListedAreMarks }
+    ensures flow_shape { ListedFlowShape }
+    ensures floor_shape { ListedFloorShape }
+    ensures floor { ListedMeetsFloor }
+{}

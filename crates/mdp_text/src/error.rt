@@ -1,0 +1,76 @@
+ghost use Rattle.std.specs.Prelude.{◌≡◌};
+ghost use Rattle.mdp_text.specs.declared.error.CertError.TheVariants.{At, Memory};
+
+use std::alloc::{AllocError, AllocFailed};
+use thiserror::Error;
+
+/// Which rule a line breaks.
+#[derive(Clone, Copy, Debug, PartialEq, Eq, Error)]
+pub enum CertKind {
+    /// The first line is none of the versions.
+    #[error("version")]
+    Version = 1,
+    /// The second line is none of the claims.
+    #[error("claim")]
+    Claim = 2,
+    /// A word isn't the number that is due.
+    #[error("number")]
+    Number = 3,
+    /// Another first word or number of words, or another line where `end` is due; `run` in version 1.
+    #[error("shape")]
+    Shape = 4,
+    /// The number of states is out of range, a state isn't below it or isn't the one in order, or a run doesn't end above its first state.
+    #[error("count")]
+    Count = 5,
+    /// No line where one is due, a last line without a line feed, or bytes after the line `end`.
+    #[error("end")]
+    End = 6,
+    /// In version 2, a line of states that has the same words as the line of states before it.
+    #[error("run")]
+    Run = 7,
+}
+
+/// Why bytes aren't the text of a certificate.
+#[derive(Clone, Copy, Debug, PartialEq, Eq, Error)]
+pub enum CertError {
+    /// The first line that breaks a rule, numbered from 1, and the rule.
+    #[error("line {line} {kind}")]
+    At { line: u64, kind: CertKind },
+    /// Memory was refused.
+    #[error("memory")]
+    Memory,
+}
+
+/// The first line that breaks a rule, numbered from 1, and the rule.
+#[derive(Clone, Copy, Debug, PartialEq, Eq)]
+pub struct Refusal {
+    pub kind: CertKind,
+    pub line: u64,
+}
+
+impl From<Refusal> for CertError {
+    ghost from_gives = { λ r e. e ≡ At r.line r.kind };
+
+    fn from(refusal: Refusal) -> CertError {
+        CertError::At {
+            line: refusal.line,
+            kind: refusal.kind,
+        }
+    }
+}
+
+impl From<AllocError> for CertError {
+    ghost from_gives = { λ _ e. e ≡ Memory };
+
+    fn from(_error: AllocError) -> CertError {
+        CertError::Memory
+    }
+}
+
+impl<T: Drop> From<AllocFailed<T>> for CertError {
+    ghost from_gives = { λ _ e. e ≡ Memory };
+
+    fn from(_error: AllocFailed<T>) -> CertError {
+        CertError::Memory
+    }
+}

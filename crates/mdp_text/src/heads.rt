@@ -1,0 +1,78 @@
+ghost use Rattle.std.specs.Prelude.{◌≡◌};
+ghost use Rattle.mdp_text.specs.Heads.{states_at, init_parse, init_of, given_at, valued_at, start_at};
+
+use crate::error::{CertKind, Refusal};
+use crate::init::Init;
+use crate::lines::refuse_if;
+use crate::numbers::{reward_of, whole_at};
+use crate::words::{cut_word, only_word, words_behind};
+use mdp_num::{Frac, read_canonical};
+
+/// The number of states, from 1 to 2^20, of the line `states N`.
+#[tactic(auto, unfolding(crate::specs::Heads::states_at))]
+pub fn states_at(line: u64, text: &[u8]) -> Result<u32, Refusal>
+    ensures { result ≡ states_at line text.now }
+{
+    let word = words_behind(line, text, b"states", 1)?;
+    let states = whole_at(line, only_word(word))?;
+    refuse_if(CertKind::Count, line, states == 0 || states > 1 << 20)?;
+    Ok(states)
+}
+
+/// The value that a word spells: a fraction, or `inf` where values may be infinite.
+fn init_parse(infinite: bool, word: &[u8]) -> Option<Option<Frac>>
+    ensures { result ≡ init_parse infinite word.now }
+{
+    if infinite {
+        return reward_of(word);
+    }
+    Some(Some(read_canonical(word)?))
+}
+
+/// An initial state and its value.
+pub fn init_of(state: u32, value: Option<Frac>) -> Init
+    ensures { result ≡ init_of state value }
+{
+    match value {
+        Some(value) => Init::Finite(state, value),
+        None => Init::Infinite(state),
+    }
+}
+
+/// The initial state and its value, of the line `init S V`.
+#[tactic(auto, unfolding(crate::specs::Heads::given_at))]
+fn given_at(infinite: bool, states: u32, line: u64, text: &[u8]) -> Result<Init, Refusal>
+    ensures { result ≡ given_at infinite states line text.now }
+{
+    let behind = words_behind(line, text, b"init", 2)?;
+    let (word, behind) = cut_word(behind);
+    let state = whole_at(line, word)?;
+    let value = init_parse(infinite, only_word(behind)).ok_or(Refusal {
+        kind: CertKind::Number,
+        line,
+    })?;
+    refuse_if(CertKind::Count, line, state >= states)?;
+    Ok(init_of(state, value))
+}
+
+/// What the line `init S V` or `init -` says.
+#[tactic(auto, unfolding(crate::specs::Heads::valued_at))]
+pub fn valued_at(infinite: bool, states: u32, line: u64, text: &[u8]) -> Result<Init, Refusal>
+    ensures { result ≡ valued_at infinite states line text.now }
+{
+    if text == b"init -".as_slice() {
+        return Ok(Init::Missing);
+    }
+    given_at(infinite, states, line, text)
+}
+
+/// The initial state of the line `init S`.
+#[tactic(auto, unfolding(crate::specs::Heads::start_at))]
+pub fn start_at(states: u32, line: u64, text: &[u8]) -> Result<Init, Refusal>
+    ensures { result ≡ start_at states line text.now }
+{
+    let word = words_behind(line, text, b"init", 1)?;
+    let state = whole_at(line, only_word(word))?;
+    refuse_if(CertKind::Count, line, state >= states)?;
+    Ok(Init::Start(state))
+}

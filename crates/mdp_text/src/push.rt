@@ -1,0 +1,136 @@
+ghost use Rattle.std.specs.Prelude.{◌≡◌, ◌++◌, ◌∷◌, [], decimal, OnOk};
+ghost use Rattle.mdp_num.specs.Value.{spelling};
+ghost use Rattle.mdp_text.specs.declared.init.Init.TheVariants.{Finite, Infinite, Start};
+ghost use Rattle.mdp_text.specs.Answer.{Keeps};
+ghost use Rattle.mdp_text.specs.Spelling.{line, states_text, init_text, value_text, value_lines, end_text};
+
+use crate::init::Init;
+use itoa::Buffer;
+use mdp_num::{Frac, Memory};
+
+/// Appends a whole number in decimal. After `Memory` the text begins as before, as after each call here.
+pub fn push_whole(out: &mut Vec<u8>, number: u64) -> Result<(), Memory>
+    ensures text { OnOk result (out.new.items ≡ out.old.items ++ decimal number) }
+    ensures front { Keeps out.old.items out.new.items }
+{
+    let mut buffer = Buffer::new();
+    out.extend_from_slice(buffer.format(number).as_bytes())?;
+    Ok(())
+}
+
+/// Appends a blank and the whole number.
+pub fn push_word(out: &mut Vec<u8>, number: u64) -> Result<(), Memory>
+    ensures text { OnOk result (out.new.items ≡ out.old.items ++ (32 ∷ decimal number)) }
+    ensures front { Keeps out.old.items out.new.items }
+{
+    out.extend_from_slice(b" ")?;
+    push_whole(out, number)
+}
+
+/// Appends a blank and the fraction.
+pub fn push_fraction(out: &mut Vec<u8>, value: &Frac) -> Result<(), Memory>
+    ensures text { OnOk result (out.new.items ≡ out.old.items ++ (32 ∷ spelling value.now)) }
+    ensures front { Keeps out.old.items out.new.items }
+{
+    out.extend_from_slice(b" ")?;
+    value.push_text(out)
+}
+
+/// Appends a blank, the fraction and the line's end.
+pub fn push_fraction_end(out: &mut Vec<u8>, value: &Frac) -> Result<(), Memory>
+    ensures text { OnOk result (out.new.items ≡ out.old.items ++ (32 ∷ (spelling value.now ++ 10 ∷ []))) }
+    ensures front { Keeps out.old.items out.new.items }
+{
+    push_fraction(out, value)?;
+    out.extend_from_slice(b"\n")?;
+    Ok(())
+}
+
+/// Appends the line of the number of states.
+pub fn push_number(out: &mut Vec<u8>, states: u64) -> Result<(), Memory>
+    ensures text { OnOk result (out.new.items ≡ out.old.items ++ line (states_text states)) }
+    ensures front { Keeps out.old.items out.new.items }
+{
+    out.extend_from_slice(b"states")?;
+    push_word(out, states)?;
+    out.extend_from_slice(b"\n")?;
+    Ok(())
+}
+
+/// Appends the line of a given initial state and its value.
+fn push_finite(out: &mut Vec<u8>, state: u32, value: &Frac) -> Result<(), Memory>
+    ensures text { OnOk result (out.new.items ≡ out.old.items ++ line (init_text (Finite state value.now))) }
+    ensures front { Keeps out.old.items out.new.items }
+{
+    out.extend_from_slice(b"init ")?;
+    push_whole(out, u64::from(state))?;
+    push_fraction_end(out, value)
+}
+
+/// Appends the line of a given initial state of infinite value.
+fn push_infinite(out: &mut Vec<u8>, state: u32) -> Result<(), Memory>
+    ensures text { OnOk result (out.new.items ≡ out.old.items ++ line (init_text (Infinite state))) }
+    ensures front { Keeps out.old.items out.new.items }
+{
+    out.extend_from_slice(b"init ")?;
+    push_whole(out, u64::from(state))?;
+    out.extend_from_slice(b" inf\n")?;
+    Ok(())
+}
+
+/// Appends the line of an initial state without a value.
+fn push_start(out: &mut Vec<u8>, state: u32) -> Result<(), Memory>
+    ensures text { OnOk result (out.new.items ≡ out.old.items ++ line (init_text (Start state))) }
+    ensures front { Keeps out.old.items out.new.items }
+{
+    out.extend_from_slice(b"init ")?;
+    push_whole(out, u64::from(state))?;
+    out.extend_from_slice(b"\n")?;
+    Ok(())
+}
+
+/// Appends the line of the initial state.
+pub fn push_init(out: &mut Vec<u8>, init: &Init) -> Result<(), Memory>
+    ensures text { OnOk result (out.new.items ≡ out.old.items ++ line (init_text init.now)) }
+    ensures front { Keeps out.old.items out.new.items }
+{
+    match init {
+        Init::Missing => {
+            out.extend_from_slice(b"init -\n")?;
+            Ok(())
+        }
+        Init::Finite(state, value) => push_finite(out, *state, value),
+        Init::Infinite(state) => push_infinite(out, *state),
+        Init::Start(state) => push_start(out, *state),
+    }
+}
+
+/// Appends the line of a state and its value.
+fn push_value(out: &mut Vec<u8>, state: u64, value: &Frac) -> Result<(), Memory>
+    ensures text { OnOk result (out.new.items ≡ out.old.items ++ line (value_text state value.now)) }
+    ensures front { Keeps out.old.items out.new.items }
+{
+    out.extend_from_slice(b"state ")?;
+    push_whole(out, state)?;
+    push_fraction_end(out, value)
+}
+
+/// Appends a line for each state, with its value.
+pub fn push_values(out: &mut Vec<u8>, values: &[Frac]) -> Result<(), Memory>
+    ensures text { OnOk result (out.new.items ≡ out.old.items ++ value_lines 0 values.now) }
+    ensures front { Keeps out.old.items out.new.items }
+{
+    for s in 0..values.len() {
+        push_value(out, s as u64, &values[s])?;
+    }
+    Ok(())
+}
+
+/// Appends the line `end`.
+pub fn push_end(out: &mut Vec<u8>) -> Result<(), Memory>
+    ensures text { OnOk result (out.new.items ≡ out.old.items ++ line end_text) }
+    ensures front { Keeps out.old.items out.new.items }
+{
+    out.extend_from_slice(b"end\n")?;
+    Ok(())
+}
