@@ -20,9 +20,9 @@ mod run;
 #[cfg(test)]
 mod tests;
 
-use crate::run::run;
-use mdp_edge::{StdSink, StdSource, SureSource, WriteFault, write_all};
-use mdp_job::{Files, MEMORY_TEXT, Status, files_of};
+use crate::run::{run, without_words};
+use mdp_edge::{StdSink, StdSource, SureSource};
+use mdp_job::{Files, Status, files_of};
 use std::alloc::Global;
 use std::env;
 use std::fs::File;
@@ -81,18 +81,10 @@ fn words_given(rt: &HostRuntime) -> Option<Vec<String>> {
     Some(words)
 }
 
-/// Says that there is no memory for the words.
-fn without_words(rt: &HostRuntime) -> Status {
-    match write_all(&mut StdSink::new(rt.stdout()), MEMORY_TEXT) {
-        Ok(()) => Status::Memory,
-        Err(WriteFault) => Status::WriteFault,
-    }
-}
-
 fn main(rt: HostRuntime) -> ExitCode {
     let status = match words_given(&rt) {
         Some(words) => run_on_files(&rt, &words),
-        None => without_words(&rt),
+        None => without_words(&mut StdSink::new(rt.stdout())),
     };
     ExitCode::from(status.code())
 }

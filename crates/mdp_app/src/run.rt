@@ -1,9 +1,9 @@
 ghost use Rattle.std.specs.Prelude.{◌≡◌, Err};
-ghost use Rattle.mdp_job.specs.Refusal.{plain_refusal};
+ghost use Rattle.mdp_job.specs.Refusal.{plain_refusal, no_memory};
 ghost use Rattle.mdp_job.specs.Words.{job_of};
 ghost use Rattle.mdp_command.specs.Said.{said};
 ghost use Rattle.mdp_command.specs.Streams.{input, output};
-ghost use Rattle.mdp_app.specs.Written.{WroteText};
+ghost use Rattle.mdp_app.specs.Written.{WroteText, Wrote};
 ghost use Rattle.mdp_app.specs.Run.{IsAnswered, IsWorkDone, IsComplete};
 ghost use Rattle.mdp_app.specs.Decided.{IsDecided, EndsWith};
 
@@ -89,6 +89,13 @@ pub fn run<S: Source, C: Source, K: Sink>(
     witness_step_law();
     let answer = decided(alloc, words, model, second);
     written(alloc, answer, out)
+}
+
+/// Says that there is no memory for the words, before they are judged.
+pub fn without_words<K: Sink>(out: &mut K) -> Status
+    ensures { Wrote result (output K.taken K.settled K.faults out.old out.new) (Err no_memory) }
+{
+    write_text(out, MEMORY_TEXT, Status::Memory)
 }
 
 /// Writes a text to end with a status.

@@ -32,7 +32,8 @@ fn yes(alloc: Global) -> Result<Vec<u8>, Refusal>
 
 /// What the checker says, as the text of a run or its refusal.
 fn checked(alloc: Global, model: &Model, cert: &DiscountCert) -> Result<Vec<u8>, Refusal>
-    ensures { (said result ≡ Err no_memory) ⊎ (said result ≡ said_of (answer_to model.now (plain cert.now))) }
+    ensures due { (said result ≡ Err no_memory) ⊎ (said result ≡ said_of (answer_to model.now (plain cert.now))) }
+    ensures memory { said result ≡ Err no_memory → answer_to model.now (plain cert.now) ≡ DiscountAnswer.Yes }
 {
     match check_discount(model, cert) {
         DiscountAnswer::Yes => yes(alloc),
