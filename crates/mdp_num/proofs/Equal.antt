@@ -1,25 +1,13 @@
 -- Equality of fractions, as the code tests it.
-use Rattle.std.proofs.Common.{◌≡◌, Bool, true, false, ◌&&◌, eqb, refl, sym, ap, ap₂, ◌∙◌, pos, unsigned_abs, to_z, of_z}
+use Rattle.std.proofs.Common.{◌≡◌, eqb, sym, ap, ◌∙◌, pos, unsigned_abs, to_z, of_z}
 use Rattle.std.specs.Bool.{Decides}
-use Rattle.std.proofs.lemmas.Bool.Decides.{Decides-int_eq, Decides-eqb}
-use Rattle.std.specs.Ordering.{int_eq}
+use Rattle.std.proofs.lemmas.Bool.Decides.{Decides-eqb}
 use mir.Syntax.{w128}
 use Rattle.mdp_math.specs.Rational.{ℚ}
 use Rattle.mdp_math.proofs.Laws.{same_terms}
 use Rattle.mdp_num.specs.declared.frac.Frac.TheInside.{Inside}
 use Rattle.mdp_num.specs.Inside.{value_of, IsFrac}
-use Rattle.mdp_num.specs.Equal.{eq_ℚ}
 use Rattle.mdp_num.proofs.Values.{num-bits, den-bits, num-value, pos-den-value}
-
-both : (a b : Bool) → (a && b) ≡ true → (a ≡ true) × (b ≡ true)
-both true b e = (refl, e)
-both false b e = absurd cc
-
-pub equal_decides : (x y : ℚ) → Decides (eq_ℚ x y) (x ≡ y)
-equal_decides x y = (
-  λ e. (let p = both (int_eq x.num y.num) (eqb x.den y.den) e in same_terms x y ((Decides-int_eq x.num y.num).0 p.0) ((Decides-eqb x.den y.den).0 p.1)),
-  λ e. ap₂ (λ (a b : Bool). a && b) ((Decides-int_eq x.num y.num).1 (ap (λ (z : ℚ). z.num) e)) ((Decides-eqb x.den y.den).1 (ap (λ (z : ℚ). z.den) e)),
-)
 
 module _ (f g : Inside) (x y : ℚ) (vf : value_of f ≡ x) (i : IsFrac f) (vg : value_of g ≡ y) (j : IsFrac g) where
   -- where the numerators' bits are the same, the denominators' bits decide

@@ -1,5 +1,6 @@
 use Rattle.std.proofs.lemmas.Bool.Decides.{same_from_decides}
-use Rattle.mdp_num.proofs.Equal.{equal_decides, same_num-decides, other_num-decides}
+use Rattle.mdp_num.specs.OrderView.{equal_decides}
+use Rattle.mdp_num.proofs.Equal.{same_num-decides, other_num-decides}
 use Rattle.mdp_num.proofs.frac.FracPartialEq.eq.Goals as goal
 
 pub returns-then-self-other : goal.returns-then-self-other
