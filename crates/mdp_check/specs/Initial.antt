@@ -10,10 +10,11 @@ use Rattle.mdp_text.specs.declared.init.Init.{Init}
 use Rattle.mdp_text.specs.declared.init.Init.TheVariants.{Missing, Finite, Infinite, Start}
 use Rattle.mdp_farkas.specs.declared.verdict.Verdict.{Verdict}
 use Rattle.mdp_farkas.specs.declared.verdict.Verdict.TheVariants.{Yes, No}
+use Rattle.mdp_farkas.specs.declared.rule.Rule.TheVariants.{InitialState}
 
 -- rule 1 is false, with the state of the line `init`, where it has one
 abbrev pub init_fault : Option ℕ → Verdict
-init_fault state = No (record { rule = 1; state = state; choice = None })
+init_fault state = No (record { rule = InitialState; state = state; choice = None })
 
 -- the value of state s is this one
 abbrev pub is_value : List ℚ → ℕ → ℚ → Bool

@@ -5,7 +5,7 @@ ghost use Rattle.mdp_check.specs.Initial.{init_check, init_fault, state_check, h
 ghost use Rattle.mdp_spec.specs.Labels.{initial_of};
 
 use mdp_cert::{Body, Init};
-use mdp_farkas::{Fault, Verdict};
+use mdp_farkas::{Fault, Rule, Verdict};
 use mdp_num::Frac;
 use mdp_rows::Model;
 
@@ -14,7 +14,7 @@ pub(crate) fn init_denied(state: Option<u32>) -> Verdict
     ensures { result ≡ init_fault state }
 {
     Verdict::No(Fault {
-        rule: 1,
+        rule: Rule::InitialState,
         state,
         choice: None,
     })

@@ -12,6 +12,7 @@ use Rattle.mdp_rows.specs.declared.dir.Dir.{Dir}
 use Rattle.mdp_rows.specs.declared.dir.Dir.TheVariants.{Max, Min}
 use Rattle.mdp_discount.specs.Checks.{discount_checks}
 use Rattle.mdp_discount.specs.Problem.{discounted_row}
+use Rattle.mdp_farkas.specs.declared.rule.Rule.TheVariants.{ChoiceExists, DiscountedOnEachChoice, DiscountedOnPolicy, RemainderIsGreatest}
 
 abbrev number : ℕ → ℚ
 number n = of_int (pos n)
@@ -73,23 +74,23 @@ at_once = refl
 -- ---- what is refused
 
 -- to wait for ever earns 2; to move on earns 3
-first_kept : says Max wait (over 1 2) (number 2 ∷ number 6 ∷ []) (number 6) (0 ∷ 0 ∷ []) ≡ No (record { rule = 26; state = Some 0; choice = Some 1 })
+first_kept : says Max wait (over 1 2) (number 2 ∷ number 6 ∷ []) (number 6) (0 ∷ 0 ∷ []) ≡ No (record { rule = DiscountedOnEachChoice; state = Some 0; choice = Some 1 })
 unfolding gcd gcd_with_fuel of_int ratio neg_ℚ le_ℚ ◌+ℚ◌ ◌*ℚ◌ narrow narrow_ℚ written_add written_mul written_compare
 first_kept = refl
 
-too_much : says Max wait (over 1 2) (number 4 ∷ number 6 ∷ []) (number 6) (1 ∷ 0 ∷ []) ≡ No (record { rule = 27; state = Some 0; choice = Some 1 })
+too_much : says Max wait (over 1 2) (number 4 ∷ number 6 ∷ []) (number 6) (1 ∷ 0 ∷ []) ≡ No (record { rule = DiscountedOnPolicy; state = Some 0; choice = Some 1 })
 unfolding gcd gcd_with_fuel of_int ratio neg_ℚ le_ℚ ◌+ℚ◌ ◌*ℚ◌ narrow narrow_ℚ written_add written_mul written_compare
 too_much = refl
 
-small_remainder : says Max wait (over 1 2) (number 3 ∷ number 6 ∷ []) (number 5) (1 ∷ 0 ∷ []) ≡ No (record { rule = 28; state = None; choice = None })
+small_remainder : says Max wait (over 1 2) (number 3 ∷ number 6 ∷ []) (number 5) (1 ∷ 0 ∷ []) ≡ No (record { rule = RemainderIsGreatest; state = None; choice = None })
 unfolding gcd gcd_with_fuel of_int ratio neg_ℚ le_ℚ ◌+ℚ◌ ◌*ℚ◌ narrow narrow_ℚ written_add written_mul written_compare
 small_remainder = refl
 
-greatest_value : says Max puterman (over 9 10) (number 1 ∷ minus 10 ∷ []) (number 1) (1 ∷ 0 ∷ []) ≡ No (record { rule = 28; state = None; choice = None })
+greatest_value : says Max puterman (over 9 10) (number 1 ∷ minus 10 ∷ []) (number 1) (1 ∷ 0 ∷ []) ≡ No (record { rule = RemainderIsGreatest; state = None; choice = None })
 unfolding gcd gcd_with_fuel of_int ratio neg_ℚ le_ℚ ◌+ℚ◌ ◌*ℚ◌ narrow narrow_ℚ written_add written_mul written_compare
 greatest_value = refl
 
-no_choice : says Max wait (over 1 2) (number 3 ∷ number 6 ∷ []) (number 6) (2 ∷ 0 ∷ []) ≡ No (record { rule = 2; state = Some 0; choice = Some 2 })
+no_choice : says Max wait (over 1 2) (number 3 ∷ number 6 ∷ []) (number 6) (2 ∷ 0 ∷ []) ≡ No (record { rule = ChoiceExists; state = Some 0; choice = Some 2 })
 unfolding gcd gcd_with_fuel of_int ratio neg_ℚ le_ℚ ◌+ℚ◌ ◌*ℚ◌ narrow narrow_ℚ written_add written_mul written_compare
 no_choice = refl
 

@@ -14,12 +14,13 @@ use Rattle.mdp_discount.specs.Checks.{discount_checks, IsDiscount}
 use Rattle.mdp_discount.specs.Cert.{Certificate}
 use Rattle.mdp_discount.specs.declared.answer.DiscountAnswer.{DiscountAnswer}
 use Rattle.mdp_discount.specs.declared.answer.DiscountAnswer.TheVariants.{Yes, No, Wide, NoReward, Size}
+use Rattle.mdp_farkas.specs.declared.rule.Rule.TheVariants.{InitialState}
 
 -- ---- rule 1: the line `init`
 
 -- rule 1 is false, with the state of the line, where it has one
 abbrev pub init_fault : Option ℕ → Verdict
-init_fault state = verdict.No (record { rule = 1; state = state; choice = None })
+init_fault state = verdict.No (record { rule = InitialState; state = state; choice = None })
 
 abbrev pub is_value : List ℚ → ℕ → ℚ → Bool
 is_value v s x = nat_lt s (length v) && eq_ℚ (value_at v s) x

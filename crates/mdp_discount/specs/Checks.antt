@@ -19,6 +19,7 @@ use Rattle.mdp_farkas.specs.Spread.{written_extreme}
 use Rattle.mdp_rows.specs.declared.dir.Dir.{Dir}
 use Rattle.mdp_rows.specs.declared.dir.Dir.TheVariants.{Max}
 use Rattle.mdp_discount.specs.Rules.{magnitude, MeetsDiscount}
+use Rattle.mdp_farkas.specs.declared.rule.Rule.TheVariants.{DiscountedOnEachChoice, DiscountedOnPolicy, RemainderIsGreatest}
 
 -- what choice c at s earns under the values v
 abbrev pub written_discounted : Mdp → ℕ → ℚ → ℕ → ℕ → List ℚ → Option ℚ
@@ -29,11 +30,11 @@ written_discounted m r f s c v = do
 
 -- rule 26
 abbrev pub covers_check : Dir → Mdp → ℕ → ℚ → List ℚ → ℕ → ℕ → Check
-covers_check dir m r f v s c = at_choice 26 s c (written_discounted m r f s c v >>= stands dir (value_at v s))
+covers_check dir m r f v s c = at_choice DiscountedOnEachChoice s c (written_discounted m r f s c v >>= stands dir (value_at v s))
 
 -- rule 27
 abbrev pub reached_check : Mdp → ℕ → ℚ → List ℚ → ℕ → ℕ → Check
-reached_check m r f v s choice = at_choice 27 s choice (written_discounted m r f s choice v >>= is_equal (value_at v s))
+reached_check m r f v s choice = at_choice DiscountedOnPolicy s choice (written_discounted m r f s choice v >>= is_equal (value_at v s))
 
 -- the rules on values at state s, where the policy takes this choice
 abbrev pub values_checks : Dir → Mdp → ℕ → ℚ → List ℚ → ℕ → ℕ → List Check
@@ -49,7 +50,7 @@ written_greatest v = written_extreme Max (map magnitude v)
 
 -- rule 28
 abbrev pub remainder_check : List ℚ → ℚ → Check
-remainder_check v remainder = record { rule = 28; state = None; choice = None; holds = written_greatest v >>= is_equal remainder }
+remainder_check v remainder = record { rule = RemainderIsGreatest; state = None; choice = None; holds = written_greatest v >>= is_equal remainder }
 
 -- the states ascend, at a state the rules, in a rule the choices
 abbrev pub state_checks : Dir → Mdp → ℕ → ℚ → List ℚ → List ℕ → List Check

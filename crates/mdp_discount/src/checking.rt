@@ -6,7 +6,7 @@ ghost use Rattle.mdp_discount.specs.Check.{init_fault, is_value, state_check, in
 use crate::answer::{DiscountAnswer, answer_of};
 use crate::cert::DiscountCert;
 use crate::holds::holds_discount;
-use mdp_farkas::{Fault, Verdict};
+use mdp_farkas::{Fault, Rule, Verdict};
 use mdp_num::Frac;
 use mdp_rows::Model;
 use mdp_text::Init;
@@ -16,7 +16,7 @@ fn init_fault(state: Option<u32>) -> Verdict
     ensures { result ≡ init_fault state }
 {
     Verdict::No(Fault {
-        rule: 1,
+        rule: Rule::InitialState,
         state,
         choice: None,
     })

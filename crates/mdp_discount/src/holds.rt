@@ -11,7 +11,7 @@ ghost use Rattle.mdp_discount.specs.Checks.{covers_check, reached_check, values_
 use crate::cert::DiscountCert;
 use crate::earned::earned;
 use crate::magnitude::greatest_magnitude;
-use mdp_farkas::{Fault, Verdict};
+use mdp_farkas::{Fault, Rule, Verdict};
 use mdp_num::{Frac, Wide};
 use mdp_rows::{Dir, Model};
 use std::cmp::Ordering;
@@ -35,7 +35,7 @@ fn is_equal(left: &Frac, right: &Frac) -> Result<bool, Wide>
 }
 
 /// The verdict of one check of a rule at a place, which may be none.
-fn judged(holds: Result<bool, Wide>, rule: u8, state: Option<u32>, choice: Option<u32>) -> Verdict
+fn judged(holds: Result<bool, Wide>, rule: Rule, state: Option<u32>, choice: Option<u32>) -> Verdict
     ensures { result ≡ verdict_of (record { rule = rule; state = state; choice = choice; holds = result_ok holds } ∷ []) }
 {
     match holds {
@@ -90,7 +90,12 @@ impl Claimed<'_> {
         ensures { result ≡ verdict_of (at_choices self.entry.model.now s (covers_check self.entry.dir self.entry.model.now self.entry.name self.entry.factor.now self.entry.values.now s)) }
     {
         for c in 0..self.model.choices(s) {
-            match judged(self.covers(s, c), 26, Some(s), Some(c)) {
+            match judged(
+                self.covers(s, c),
+                Rule::DiscountedOnEachChoice,
+                Some(s),
+                Some(c),
+            ) {
                 Verdict::Yes => {}
                 other => return other,
             }
@@ -105,7 +110,12 @@ impl Claimed<'_> {
         ensures { result ≡ verdict_of (values_checks self.entry.dir self.entry.model.now self.entry.name self.entry.factor.now self.entry.values.now s c) }
     {
         match self.choices_verdict(s) {
-            Verdict::Yes => judged(self.is_reached(s, c), 27, Some(s), Some(c)),
+            Verdict::Yes => judged(
+                self.is_reached(s, c),
+                Rule::DiscountedOnPolicy,
+                Some(s),
+                Some(c),
+            ),
             other => other,
         }
     }
@@ -119,7 +129,7 @@ impl Claimed<'_> {
         if choice < self.model.choices(s) {
             self.values_verdict(s, choice)
         } else {
-            judged(Ok(false), 2, Some(s), Some(choice))
+            judged(Ok(false), Rule::ChoiceExists, Some(s), Some(choice))
         }
     }
 
@@ -141,7 +151,12 @@ impl Claimed<'_> {
         ensures { result ≡ verdict_of (discount_checks self.entry.dir self.entry.model.now self.entry.name self.entry.factor.now self.entry.values.now remainder.now self.entry.choices.now) }
     {
         match self.states_verdict() {
-            Verdict::Yes => judged(is_greatest(remainder, self.values), 28, None, None),
+            Verdict::Yes => judged(
+                is_greatest(remainder, self.values),
+                Rule::RemainderIsGreatest,
+                None,
+                None,
+            ),
             other => other,
         }
     }

@@ -4,6 +4,7 @@ use Rattle.mdp_farkas.specs.Verdict.{Check, verdict_of}
 use Rattle.mdp_discount.specs.Checks.{covers_check}
 use Rattle.mdp_discount.proofs.Walking.{passes, stops, alone}
 use Rattle.mdp_discount.proofs.holds.Claimed.choices_verdict.Goals as goal
+use Rattle.mdp_farkas.specs.declared.rule.Rule.TheVariants.{DiscountedOnEachChoice}
 
 pub returns-in_default : goal.returns-in_default
 returns-in_default c =
@@ -11,7 +12,7 @@ returns-in_default c =
     let checks : ℕ → List Check = λ c. check c ∷ [] in
     stops checks c.choices-c-end.result c.loop-c.c c.judged.result c.loop-c-test.true c.loop-c.invariant
     (c.judged.ensures
-    ∙ ap (λ (h : Option Bool). verdict_of (record { rule = 26; state = Some c.args.s; choice = Some c.loop-c.c; holds = h } ∷ [])) c.covers.ensures) c.in_default.not-Yes
+    ∙ ap (λ (h : Option Bool). verdict_of (record { rule = DiscountedOnEachChoice; state = Some c.args.s; choice = Some c.loop-c.c; holds = h } ∷ [])) c.covers.ensures) c.in_default.not-Yes
     ∙ alone check c.choices-c-end.result
     ∙ ap (λ (n : ℕ). verdict_of (map check (range_with_len 0 n))) c.choices-c-end.ensures
 
@@ -22,7 +23,7 @@ loop-c-preserved c =
     passes checks c.loop-c.c c.loop-c.invariant
     (sym c.in-Yes.is
     ∙ c.judged.ensures
-    ∙ ap (λ (h : Option Bool). verdict_of (record { rule = 26; state = Some c.args.s; choice = Some c.loop-c.c; holds = h } ∷ [])) c.covers.ensures)
+    ∙ ap (λ (h : Option Bool). verdict_of (record { rule = DiscountedOnEachChoice; state = Some c.args.s; choice = Some c.loop-c.c; holds = h } ∷ [])) c.covers.ensures)
 
 pub returns : goal.returns
 returns c =
