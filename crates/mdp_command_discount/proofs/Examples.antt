@@ -9,7 +9,7 @@ use Rattle.mdp_rows.specs.declared.dir.Dir.TheVariants.{Max}
 use Rattle.mdp_text.specs.declared.error.CertKind.TheVariants.{Number}
 use Rattle.mdp_text.specs.declared.init.Init.{Init}
 use Rattle.mdp_text.specs.declared.init.Init.TheVariants.{Missing, Finite}
-use Rattle.mdp_discount.specs.Cert.{Certificate}
+use Rattle.mdp_discount_rules.specs.Cert.{Certificate}
 use Rattle.mdp_job.specs.Refusal.{query_size, query_reward, denied, cert_text}
 use Rattle.mdp_command_discount.specs.Due.{IsNamedDue, said_to_certificate}
 use Rattle.mdp_farkas.specs.declared.rule.Rule.TheVariants.{DiscountedOnEachChoice, InitialState}

@@ -92,7 +92,7 @@ fn flow_at(
     amount_at(kept, flow)?;
     match sums.add_flow(model, goals, flow) {
         Ok(()) => Ok(()),
-        Err(Wide) => Err(Verdict::Wide {
+        Err(Wide) => Err(Objection::PastWidth {
             state: Some(flow.state),
             choice: Some(flow.choice),
         }),
