@@ -18,7 +18,8 @@ use Rattle.mdp_farkas.specs.declared.verdict.Verdict.{Verdict}
 use Rattle.mdp_farkas.specs.declared.verdict.Verdict.TheVariants as verdict
 use Rattle.mdp_discount_rules.specs.Bounds.{DiscountBound}
 use Rattle.mdp_discount_rules.specs.Cert.{Certificate, Fits}
-use Rattle.mdp_discount_rules.specs.Check.{init_fault, init_check, IsAccepted, IsBound}
+use Rattle.mdp_discount_rules.specs.Check.{init_check, IsAccepted, IsBound}
+use Rattle.mdp_farkas.specs.Initial.{init_fault}
 use Rattle.mdp_discount_rules.specs.Checks.{written_greatest, discount_checks, IsDiscount}
 use Rattle.mdp_discount_rules.specs.Plain.{plain}
 use Rattle.mdp_text.specs.Heads.{init_by}

@@ -9,7 +9,7 @@ use Rattle.mdp_farkas.specs.declared.verdict.Verdict.{Verdict}
 use Rattle.mdp_farkas.specs.declared.verdict.Verdict.TheVariants as verdict
 use Rattle.mdp_discount_rules.specs.Cert.{Certificate}
 use Rattle.mdp_discount_rules.specs.Check.{init_check, answer_of, then_verdict, checks_of, at_reward, answer_to, IsAccepted}
-use Rattle.mdp_discount.specs.Laws.{YesIsAccepted, AcceptedIsBound}
+use Rattle.mdp_discount_rules.specs.Laws.{YesIsAccepted, AcceptedIsBound}
 use Rattle.mdp_discount_rules.specs.declared.answer.DiscountAnswer.TheVariants.{Yes, Size}
 use Rattle.mdp_discount_rules.proofs.Discount.{discount_of_rules}
 use Rattle.mdp_discount_rules.proofs.DiscountRules.{discount_rules}

@@ -6,6 +6,7 @@ use Rattle.mdp_spec.specs.Mdp.{Mdp, states_of, value_at}
 use Rattle.mdp_spec.specs.Labels.{place_of, initial_of}
 use Rattle.mdp_text.specs.declared.init.Init.{Init}
 use Rattle.mdp_text.specs.declared.init.Init.TheVariants.{Missing, Finite, Infinite, Start}
+use Rattle.mdp_farkas.specs.Initial.{init_fault, is_value, state_check}
 use Rattle.mdp_farkas.specs.Verdict.{verdict_of}
 use Rattle.mdp_farkas.specs.declared.verdict.Verdict.{Verdict}
 use Rattle.mdp_farkas.specs.declared.verdict.Verdict.TheVariants as verdict
@@ -14,23 +15,10 @@ use Rattle.mdp_discount_rules.specs.Checks.{discount_checks, IsDiscount}
 use Rattle.mdp_discount_rules.specs.Cert.{Certificate}
 use Rattle.mdp_discount_rules.specs.declared.answer.DiscountAnswer.{DiscountAnswer}
 use Rattle.mdp_discount_rules.specs.declared.answer.DiscountAnswer.TheVariants.{Yes, No, Wide, NoReward, Size}
-use Rattle.mdp_farkas.specs.declared.rule.Rule.TheVariants.{InitialState}
 
 -- ---- rule 1: the line `init`
 
--- rule 1 is false, with the state of the line, where it has one
-abbrev pub init_fault : Option ℕ → Verdict
-init_fault state = verdict.No (record { rule = InitialState; state = state; choice = None })
-
-abbrev pub is_value : List ℚ → ℕ → ℚ → Bool
-is_value v s x = nat_lt s (length v) && eq_ℚ (value_at v s) x
-
--- the line names the model's one initial state, and its value
-abbrev pub state_check : ℕ → Option ℕ → Bool → Verdict
-state_check s None valued = init_fault (Some s)
-state_check s (Some t) valued = if (s == t) && valued then verdict.Yes else init_fault (Some s)
-
--- it names the model's one initial state and has its value; it names none where there isn't exactly one
+-- the line names the model's one initial state and has its value; it names none where there isn't exactly one
 abbrev pub init_check : Init → Option ℕ → List ℚ → Verdict
 init_check Missing None v = verdict.Yes
 init_check Missing (Some t) v = init_fault None

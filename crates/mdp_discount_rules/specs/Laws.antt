@@ -4,6 +4,10 @@ use Rattle.mdp_math.specs.Rational.{ℚ}
 use Rattle.mdp_spec.specs.Mdp.{Mdp}
 use Rattle.mdp_spec.specs.Row.{IsMdp}
 use Rattle.mdp_rows.specs.declared.dir.Dir.{Dir}
+use Rattle.mdp_farkas.specs.Verdict.{verdict_of}
+use Rattle.mdp_farkas.specs.declared.verdict.Fault.{Fault}
+use Rattle.mdp_farkas.specs.declared.verdict.Verdict.TheVariants.{No}
+use Rattle.mdp_discount_rules.specs.Checks.{discount_checks}
 use Rattle.mdp_discount_rules.specs.Rules.{IsFactor, MeetsDiscount}
 use Rattle.mdp_discount_rules.specs.Bounds.{DiscountBound}
 use Rattle.mdp_discount_rules.specs.Cert.{Certificate}
@@ -33,3 +37,11 @@ YesIsAccepted = (m : Mdp) (c : Certificate) → length c.choices ≡ length c.va
 -- the claim of an accepted certificate is true
 abbrev pub AcceptedIsBound : Type 0
 AcceptedIsBound = (m : Mdp) (c : Certificate) → IsMdp m → IsFactor c.factor → IsAccepted m c → IsBound m c
+
+-- ---- certificates whose rules hold are never answered no
+
+-- where values, policy and remainder meet the rules, the checks end with yes or with a term past width
+abbrev pub DiscountNeverNo : Type 0
+DiscountNeverNo =
+    (dir : Dir) (m : Mdp) (r : ℕ) (f : ℚ) (v : List ℚ) (remainder : ℚ) (policy : List ℕ) (fault : Fault)
+    → MeetsDiscount dir m r f v remainder policy → verdict_of (discount_checks dir m r f v remainder policy) ≡ No fault → ⊥

@@ -1,46 +1,15 @@
 ghost use Rattle.std.specs.Prelude.{◌≡◌, ◌↔◌};
 ghost use Rattle.mdp_spec.specs.Labels.{initial_of};
 ghost use Rattle.mdp_discount_rules.specs.Plain.{plain};
-ghost use Rattle.mdp_discount_rules.specs.Check.{init_fault, is_value, state_check, init_check, answer_to, IsAccepted, IsBound};
+ghost use Rattle.mdp_discount_rules.specs.Check.{init_check, answer_to, IsAccepted, IsBound};
 
 use crate::answer::{DiscountAnswer, answer_of};
 use crate::cert::DiscountCert;
 use crate::holds::holds_discount;
-use mdp_farkas::{Fault, Rule, Verdict};
+use mdp_farkas::{Verdict, init_denied, is_value, state_verdict};
 use mdp_num::Frac;
 use mdp_rows::Model;
 use mdp_text::Init;
-
-/// That rule 1 is false, with the state of the line `init`, where it has one.
-fn init_fault(state: Option<u32>) -> Verdict
-    ensures { result ≡ init_fault state }
-{
-    Verdict::No(Fault {
-        rule: Rule::InitialState,
-        state,
-        choice: None,
-    })
-}
-
-/// Whether the value of state `s` is this one.
-fn is_value(values: &[Frac], s: u32, value: &Frac) -> bool
-    ensures { result ≡ is_value values.now s value.now }
-{
-    match values.get(s as usize) {
-        Some(found) => found == value,
-        None => false,
-    }
-}
-
-/// Rule 1 for a line that names a state: it is the model's one initial state, and its value is the one of its line.
-fn state_verdict(state: u32, initial: Option<u32>, is_value: bool) -> Verdict
-    ensures { result ≡ state_check state initial is_value }
-{
-    match initial {
-        Some(initial) if state == initial && is_value => Verdict::Yes,
-        _ => init_fault(Some(state)),
-    }
-}
 
 /// Rule 1: the line `init` names the model's one initial state and has its value; it names none where there isn't exactly one.
 fn init_verdict(model: &Model, init: &Init, values: &[Frac]) -> Verdict
@@ -48,12 +17,12 @@ fn init_verdict(model: &Model, init: &Init, values: &[Frac]) -> Verdict
 {
     match (init, model.initial()) {
         (Init::Missing, None) => Verdict::Yes,
-        (Init::Missing, Some(_)) => init_fault(None),
+        (Init::Missing, Some(_)) => init_denied(None),
         (Init::Finite(state, value), initial) => {
             state_verdict(*state, initial, is_value(values, *state, value))
         }
-        (Init::Infinite(state), _) => init_fault(Some(*state)),
-        (Init::Start(state), _) => init_fault(Some(*state)),
+        (Init::Infinite(state), _) => init_denied(Some(*state)),
+        (Init::Start(state), _) => init_denied(Some(*state)),
     }
 }
 

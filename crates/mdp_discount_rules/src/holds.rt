@@ -8,7 +8,7 @@ ghost use Rattle.mdp_discount_rules.specs.Bounds.{DiscountBound};
 ghost use Rattle.mdp_discount_rules.specs.Checks.{covers_check, reached_check, values_checks, checks_at, remainder_check, state_checks, discount_checks, IsDiscount};
 
 use crate::cert::DiscountCert;
-use crate::earned::earned;
+use crate::earning::earned;
 use crate::magnitude::greatest_magnitude;
 use mdp_farkas::{
     Objection, Rule, Verdict, at_least, at_most, each_below, each_choice, equal, judged, judged_at,

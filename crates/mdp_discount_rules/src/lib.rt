@@ -4,7 +4,7 @@
 mod answer;
 mod cert;
 mod checking;
-mod earned;
+mod earning;
 mod holds;
 mod laws;
 mod magnitude;
@@ -12,7 +12,7 @@ mod magnitude;
 pub use answer::DiscountAnswer;
 pub use cert::DiscountCert;
 pub use checking::check_discount;
-pub use earned::earned;
+pub use earning::earned;
 pub use holds::holds_discount;
 pub use laws::discount_rules_law;
 pub use magnitude::greatest_magnitude;

@@ -10,3 +10,4 @@ pub mod Between
 pub mod MeanBetween
 pub mod RewardBetween
 pub mod RuleNumber
+pub mod Initial

@@ -13,9 +13,9 @@ returns-in_err-exists_at c =
     let exists : List Check = choice_exists m c.args.s c.args.choice ∷ [] in
     let covers = at_choices m c.args.s (covers_check x.dir m x.name x.factor.now x.values.now c.args.s) in
     let policy : List Check = reached_check m x.name x.factor.now x.values.now c.args.s c.args.choice ∷ [] in
-    let p = err_from_is_err_and c.from_residual-in_err-exists_at.result c.from_residual-in_err-exists_at.ensures.1 in
+    let p = err_from_is_err_and c.from_residual.result c.from_residual.ensures.1 in
     rw (p.1, p.2)
-    (halts exists (covers ++ policy) c.in_err-exists_at.field-0.0 (c.in_err-exists_at.ensures.exists {u = tt}))
+    (halts exists (covers ++ policy) c.in_err-exists_at.field-0.0 (c.in_err-exists_at.ensures.exists))
 
 pub returns-in_err-choices_of : goal.returns-in_err-choices_of
 returns-in_err-choices_of c =
@@ -26,7 +26,7 @@ returns-in_err-choices_of c =
     let policy : List Check = reached_check m x.name x.factor.now x.values.now c.args.s c.args.choice ∷ [] in
     let p = err_from_is_err_and c.from_residual-in_err-choices_of.result c.from_residual-in_err-choices_of.ensures.1 in
     rw (p.1, p.2)
-    (goes_on exists (covers ++ policy) tt _ (c.in_ok-exists_at.ensures.exists {u = tt})
+    (goes_on exists (covers ++ policy) tt _ (c.in_ok-exists_at.ensures.exists)
     (halts covers policy c.in_err-choices_of.field-0.0 (c.in_err-choices_of.ensures {u = tt})))
 
 pub returns : goal.returns
@@ -36,5 +36,5 @@ returns c =
     let exists : List Check = choice_exists m c.args.s c.args.choice ∷ [] in
     let covers = at_choices m c.args.s (covers_check x.dir m x.name x.factor.now x.values.now c.args.s) in
     let policy : List Check = reached_check m x.name x.factor.now x.values.now c.args.s c.args.choice ∷ [] in
-    goes_on exists (covers ++ policy) tt c.policy_at.result (c.in_ok-exists_at.ensures.exists {u = tt})
+    goes_on exists (covers ++ policy) tt c.policy_at.result (c.in_ok-exists_at.ensures.exists)
     (goes_on covers policy tt c.policy_at.result (c.in_ok-choices_of.ensures {u = tt}) c.policy_at.ensures)
