@@ -1,7 +1,7 @@
 -- The numbers of a job, which words give in range.
 use Rattle.std.specs.Prelude.{◌≡◌, true, Ok, Err, pos}
 use Rattle.mdp_math.specs.Rational.{of_int, ◌≤ℚ◌}
-use Rattle.mdp_discount.specs.Rules.{IsFactor}
+use Rattle.mdp_discount_rules.specs.Rules.{IsFactor}
 use Rattle.mdp_job.specs.Job.{PlainJob, solve, witness, check, drill, horizon, policy, discount, discount_check, Asked}
 use Rattle.mdp_job.specs.Words.{can_draw}
 

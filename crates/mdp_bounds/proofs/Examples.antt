@@ -12,6 +12,8 @@ use Rattle.mdp_farkas.specs.declared.verdict.Verdict.TheVariants.{Yes, No, Wide}
 use Rattle.mdp_bounds.specs.Reach.{bounds_checks}
 use Rattle.mdp_bounds.specs.Reward.{reward_bounds_checks}
 use Rattle.mdp_bounds.specs.Mean.{mean_bounds_checks}
+use Rattle.mdp_farkas.specs.declared.rule.Rule.TheVariants.{BiasOnPolicy, BoundOnEachChoice, RewardOnPolicy, RewardValue, ValueOnEachChoice, ValueOnPolicy}
+use Rattle.mdp_farkas.specs.declared.rule.Rule.{Rule}
 
 abbrev entry : ℕ → ℚ → Entry
 entry t p = record { target = t; prob = p }
@@ -29,7 +31,7 @@ third = ratio (pos 1) 3
 abbrev narrowest : ℚ
 narrowest = ratio (pos 1) (2 ^ 126 + 1)
 
-abbrev fault : ℕ → ℕ → Option ℕ → Verdict
+abbrev fault : Rule → ℕ → Option ℕ → Verdict
 fault rule state choice = No (record { rule = rule; state = Some state; choice = choice })
 
 -- two numbers whose products across are past width have no written order, and an exact one
@@ -76,11 +78,11 @@ unfolding gcd gcd_with_fuel ratio of_int le_ℚ lt_ℚ ◌+ℚ◌ ◌*ℚ◌ nar
 between = refl
 
 -- 1/2 is no lower value, and 1/4 no upper one
-lower_too_great : reached half (whole 1) (whole 0) ≡ fault 6 0 (Some 1)
+lower_too_great : reached half (whole 1) (whole 0) ≡ fault ValueOnPolicy 0 (Some 1)
 unfolding gcd gcd_with_fuel ratio of_int le_ℚ lt_ℚ ◌+ℚ◌ ◌*ℚ◌ narrow narrow_ℚ written_add written_mul
 lower_too_great = refl
 
-upper_too_small : reached (ratio (pos 1) 4) (ratio (pos 1) 4) (whole 0) ≡ fault 5 0 (Some 1)
+upper_too_small : reached (ratio (pos 1) 4) (ratio (pos 1) 4) (whole 0) ≡ fault ValueOnEachChoice 0 (Some 1)
 unfolding gcd gcd_with_fuel ratio of_int le_ℚ lt_ℚ ◌+ℚ◌ ◌*ℚ◌ narrow narrow_ℚ written_add written_mul
 upper_too_small = refl
 
@@ -118,7 +120,7 @@ costs_between : costs (Some (whole 1)) (Some (whole 3)) ≡ Yes
 unfolding gcd gcd_with_fuel ratio of_int le_ℚ ◌+ℚ◌ ◌*ℚ◌ narrow narrow_ℚ written_add written_mul
 costs_between = refl
 
-costs_less : costs (Some (whole 3)) None ≡ fault 12 0 (Some 0)
+costs_less : costs (Some (whole 3)) None ≡ fault RewardOnPolicy 0 (Some 0)
 unfolding gcd gcd_with_fuel ratio of_int le_ℚ ◌+ℚ◌ ◌*ℚ◌ narrow narrow_ℚ written_add written_mul
 costs_less = refl
 
@@ -127,7 +129,7 @@ unfolding gcd gcd_with_fuel ratio of_int le_ℚ ◌+ℚ◌ ◌*ℚ◌ narrow nar
 costs_something = refl
 
 -- an infinite lower value above a finite upper one
-costs_ordered : costs None (Some (whole 3)) ≡ fault 9 0 None
+costs_ordered : costs None (Some (whole 3)) ≡ fault RewardValue 0 None
 unfolding gcd gcd_with_fuel ratio of_int le_ℚ ◌+ℚ◌ ◌*ℚ◌ narrow narrow_ℚ written_add written_mul
 costs_ordered = refl
 
@@ -148,10 +150,10 @@ earns_trivially : earns 1 3 0 ≡ Yes
 unfolding gcd gcd_with_fuel ratio of_int le_ℚ neg_ℚ ◌+ℚ◌ ◌*ℚ◌ narrow narrow_ℚ written_add written_mul
 earns_trivially = refl
 
-earns_less : earns 2 3 0 ≡ fault 19 0 (Some 0)
+earns_less : earns 2 3 0 ≡ fault BiasOnPolicy 0 (Some 0)
 unfolding gcd gcd_with_fuel ratio of_int le_ℚ neg_ℚ ◌+ℚ◌ ◌*ℚ◌ narrow narrow_ℚ written_add written_mul
 earns_less = refl
 
-earns_more : earns 1 2 1 ≡ fault 17 0 (Some 1)
+earns_more : earns 1 2 1 ≡ fault BoundOnEachChoice 0 (Some 1)
 unfolding gcd gcd_with_fuel ratio of_int le_ℚ neg_ℚ ◌+ℚ◌ ◌*ℚ◌ narrow narrow_ℚ written_add written_mul
 earns_more = refl

@@ -26,6 +26,7 @@ use Rattle.mdp_farkas.specs.MeanBetween.{MeetsMeanBetween}
 use Rattle.mdp_rows.specs.declared.dir.Dir.{Dir}
 use Rattle.mdp_rows.specs.declared.dir.Dir.TheVariants.{Max, Min}
 use Rattle.mdp_bounds.specs.Sum.{stands, plain_add, told_sum}
+use Rattle.mdp_farkas.specs.declared.rule.Rule.TheVariants.{BiasOnPolicy, BoundOnEachChoice, GainOnEachChoice, GainOnPolicy, SpreadIsGreatest}
 
 -- ---- gains and what choices earn
 
@@ -34,7 +35,7 @@ gain_stands dir m g s c = option_map (stands dir (value_at g s)) (told_sum g 0�
 
 -- rule 16
 abbrev pub gain_check : Dir → Mdp → List ℚ → ℕ → ℕ → Check
-gain_check dir m g s c = at_choice 16 s c (gain_stands dir m g s c)
+gain_check dir m g s c = at_choice GainOnEachChoice s c (gain_stands dir m g s c)
 
 -- the gain and a relative value of state s together
 abbrev pub told_step : List ℚ → List ℚ → ℕ → Option ℚ
@@ -45,15 +46,15 @@ bound_stands dir m r g a s c = told_step g a s >>= λ step. option_map (stands d
 
 -- rule 17
 abbrev pub relative_check : Dir → Mdp → ℕ → List ℚ → List ℚ → ℕ → ℕ → Check
-relative_check dir m r g a s c = at_choice 17 s c (bound_stands dir m r g a s c)
+relative_check dir m r g a s c = at_choice BoundOnEachChoice s c (bound_stands dir m r g a s c)
 
 -- rule 18
 abbrev pub follow_gain_check : Dir → Mdp → List ℚ → ℕ → ℕ → Check
-follow_gain_check dir m g s choice = at_choice 18 s choice (gain_stands (other dir) m g s choice)
+follow_gain_check dir m g s choice = at_choice GainOnPolicy s choice (gain_stands (other dir) m g s choice)
 
 -- rule 19
 abbrev pub follow_bias_check : Dir → Mdp → ℕ → List ℚ → List ℚ → ℕ → ℕ → Check
-follow_bias_check dir m r g b s choice = at_choice 19 s choice (bound_stands (other dir) m r g b s choice)
+follow_bias_check dir m r g b s choice = at_choice BiasOnPolicy s choice (bound_stands (other dir) m r g b s choice)
 
 -- ---- the spread
 
@@ -79,7 +80,7 @@ told_spread a b = do
 
 -- rule 20
 abbrev pub spread_check : List ℚ → List ℚ → ℚ → Check
-spread_check a b spread = record { rule = 20; state = None; choice = None; holds = option_map (eq_ℚ spread) (told_spread a b) }
+spread_check a b spread = record { rule = SpreadIsGreatest; state = None; choice = None; holds = option_map (eq_ℚ spread) (told_spread a b) }
 
 -- ---- all rules
 

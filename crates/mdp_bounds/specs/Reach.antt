@@ -25,14 +25,15 @@ use Rattle.mdp_farkas.specs.Between.{covering, followed, MeetsReachBetween}
 use Rattle.mdp_rows.specs.declared.dir.Dir.{Dir}
 use Rattle.mdp_rows.specs.declared.dir.Dir.TheVariants.{Max, Min}
 use Rattle.mdp_bounds.specs.Sum.{stands, told_sum}
+use Rattle.mdp_farkas.specs.declared.rule.Rule.TheVariants.{GoalValue, Probability, ValueOnEachChoice, ValueOnPolicy}
 
 -- rule 3
 abbrev pub probability_checks : List ℚ → ℕ → List Check
-probability_checks z s = at_state 3 s (Some (le_ℚ 0ℚ (value_at z s))) ∷ at_state 3 s (Some (le_ℚ (value_at z s) 1ℚ)) ∷ []
+probability_checks z s = at_state Probability s (Some (le_ℚ 0ℚ (value_at z s))) ∷ at_state Probability s (Some (le_ℚ (value_at z s) 1ℚ)) ∷ []
 
 -- rule 4
 abbrev pub goal_check : List ℚ → ℕ → Check
-goal_check z s = at_state 4 s (Some (eq_ℚ (value_at z s) 1ℚ))
+goal_check z s = at_state GoalValue s (Some (eq_ℚ (value_at z s) 1ℚ))
 
 -- rule 3, at a goal rule 4, and elsewhere the rest
 abbrev pub values_at : List Bool → List ℚ → ℕ → List Check → List Check
@@ -52,11 +53,11 @@ stands_at dir m z s c = stands_to_row dir (value_at z s) z (row_at m s c)
 
 -- rule 5
 abbrev pub bound_check : Dir → Mdp → List ℚ → ℕ → ℕ → Check
-bound_check dir m z s c = at_choice 5 s c (stands_at dir m z s c)
+bound_check dir m z s c = at_choice ValueOnEachChoice s c (stands_at dir m z s c)
 
 -- rule 6
 abbrev pub policy_check : Dir → Mdp → List ℚ → ℕ → ℕ → Check
-policy_check dir m z s choice = at_choice 6 s choice (stands_at (other dir) m z s choice)
+policy_check dir m z s choice = at_choice ValueOnPolicy s choice (stands_at (other dir) m z s choice)
 
 -- the half on each choice
 abbrev pub cover_at : Dir → Mdp → List Bool → List ℚ → ℕ → List Check

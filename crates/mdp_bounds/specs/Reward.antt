@@ -26,6 +26,7 @@ use Rattle.mdp_farkas.specs.RewardBetween.{order_check, lower_on_each, MeetsRewa
 use Rattle.mdp_rows.specs.declared.dir.Dir.{Dir}
 use Rattle.mdp_rows.specs.declared.dir.Dir.TheVariants.{Max, Min}
 use Rattle.mdp_bounds.specs.Sum.{stands, told_sum}
+use Rattle.mdp_farkas.specs.declared.rule.Rule.TheVariants.{RewardNotNegative, RewardOnEachChoice, RewardOnPolicy, RewardValue}
 
 -- ---- rule 9
 
@@ -38,10 +39,10 @@ is_zero None = false
 is_zero (Some x) = eq_ℚ x 0ℚ
 
 abbrev pub nonneg_check : List (Option ℚ) → ℕ → Check
-nonneg_check v s = at_state 9 s (Some (is_nonneg (reward_at v s)))
+nonneg_check v s = at_state RewardValue s (Some (is_nonneg (reward_at v s)))
 
 abbrev pub goal_checks : List (Option ℚ) → List ℕ → ℕ → List Check
-goal_checks v ranks s = at_state 9 s (Some (is_zero (reward_at v s))) ∷ at_state 9 s (Some (slice_index ranks s == 0)) ∷ []
+goal_checks v ranks s = at_state RewardValue s (Some (is_zero (reward_at v s))) ∷ at_state RewardValue s (Some (slice_index ranks s == 0)) ∷ []
 
 -- ---- what a choice earns
 
@@ -57,14 +58,14 @@ earning_stands dir m r v s c =
 
 -- rule 11
 abbrev pub earning_check : Dir → Mdp → ℕ → List (Option ℚ) → ℕ → ℕ → Check
-earning_check dir m r v s c = at_choice 11 s c (earning_stands dir m r v s c)
+earning_check dir m r v s c = at_choice RewardOnEachChoice s c (earning_stands dir m r v s c)
 
 abbrev pub earning_checks : Dir → Mdp → ℕ → List (Option ℚ) → ℕ → List Check
 earning_checks dir m r v s = flat_map (λ c. if is_looked_at dir m v s c then earning_check dir m r v s c ∷ [] else []) (range_with_len 0 (length (choices_at m s)))
 
 -- rule 12
 abbrev pub policy_earning_check : Dir → Mdp → ℕ → List (Option ℚ) → ℕ → ℕ → Check
-policy_earning_check dir m r v s choice = at_choice 12 s choice (earning_stands (other dir) m r v s choice)
+policy_earning_check dir m r v s choice = at_choice RewardOnPolicy s choice (earning_stands (other dir) m r v s choice)
 
 -- ---- the two values of a state
 
@@ -97,7 +98,7 @@ upper_value_checks dir m r goals v ranks s choice = nonneg_check v s ∷ upper_p
 
 -- rule 25
 abbrev pub sign_check : Mdp → ℕ → ℕ → ℕ → Check
-sign_check m r s c = at_choice 25 s c (Some (le_ℚ 0ℚ (reward_of (choice_at m s c) r)))
+sign_check m r s c = at_choice RewardNotNegative s c (Some (le_ℚ 0ℚ (reward_of (choice_at m s c) r)))
 
 abbrev pub sign_checks : Mdp → ℕ → ℕ → List Check
 sign_checks m r s = at_choices m s (sign_check m r s)

@@ -7,7 +7,7 @@ ghost use Rattle.mdp_bounds.specs.Reward.{is_least, earning_stands, earning_chec
 
 use crate::compare::value_stands;
 use crate::finite::finite_row_sum;
-use mdp_farkas::{Objection, each_below, finite_at, is_held_against, judged, reversed};
+use mdp_farkas::{Objection, Rule, each_below, finite_at, is_held_against, judged, reversed};
 use mdp_num::{Frac, Wide};
 use mdp_rows::{Dir, Model};
 
@@ -65,7 +65,7 @@ fn earning_at(
     }
     judged(
         earning_stands_at(model, m, dir, values, s, c),
-        11,
+        Rule::RewardOnEachChoice,
         s,
         Some(c),
     )
@@ -106,7 +106,7 @@ pub fn policy_earns(
 {
     judged(
         earning_stands_at(model, m, reversed(dir), values, s, choice),
-        12,
+        Rule::RewardOnPolicy,
         s,
         Some(choice),
     )

@@ -12,7 +12,7 @@ use crate::compare::value_stands;
 use crate::spread::spread_of;
 use crate::sum::{plain_sum, row_sum};
 use mdp_farkas::{
-    Objection, Verdict, choice_at, each_below, each_choice, judged, judged_at, reversed,
+    Objection, Rule, Verdict, choice_at, each_below, each_choice, judged, judged_at, reversed,
     verdict_after,
 };
 use mdp_num::{Frac, Wide};
@@ -48,7 +48,12 @@ fn gain_at(model: &Model, dir: Dir, gains: &[Frac], s: u32, c: u32) -> Result<()
     requires choice { c < length (choices_at model.now s) }
     ensures { result ≡ objection_to (gain_check dir model.now gains.now s c ∷ []) }
 {
-    judged(gain_stands_at(model, dir, gains, s, c), 16, s, Some(c))
+    judged(
+        gain_stands_at(model, dir, gains, s, c),
+        Rule::GainOnEachChoice,
+        s,
+        Some(c),
+    )
 }
 
 /// The same of each choice.
@@ -111,7 +116,7 @@ fn bound_at(
 {
     judged(
         bound_stands_at(model, m, dir, gains, bound, s, c),
-        17,
+        Rule::BoundOnEachChoice,
         s,
         Some(c),
     )
@@ -203,9 +208,9 @@ fn follow_at_state(
     ensures { result ≡ objection_to (gains_follow dir model.now m gains.now bias.now s choice) }
 {
     let keeps = gain_stands_at(model, reversed(dir), gains, s, choice);
-    judged(keeps, 18, s, Some(choice))?;
+    judged(keeps, Rule::GainOnPolicy, s, Some(choice))?;
     let earns = bound_stands_at(model, m, reversed(dir), gains, bias, s, choice);
-    judged(earns, 19, s, Some(choice))
+    judged(earns, Rule::BiasOnPolicy, s, Some(choice))
 }
 
 /// Those of the half on the policy's choice.
@@ -316,7 +321,12 @@ fn mean_bounds_walk(model: &Model, m: u32, dir: Dir, cert: &MeanBoundsCert) -> R
         bias,
         cert.choices.as_slice(),
     )?;
-    judged_at(spread_holds(bound, bias, &cert.spread), 20, None, None)
+    judged_at(
+        spread_holds(bound, bias, &cert.spread),
+        Rule::SpreadIsGreatest,
+        None,
+        None,
+    )
 }
 
 /// Whether the greatest, or the least, mean payoffs of the reward name of place `m` lie between the gains, and those of the policy too: what

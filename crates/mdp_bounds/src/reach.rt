@@ -13,7 +13,7 @@ ghost use Rattle.mdp_bounds.specs.Reach.{cover_at, follow_at, bounds_at, bounds_
 use crate::compare::{at_most, value_stands};
 use crate::sum::row_sum;
 use mdp_farkas::{
-    Objection, Verdict, choice_at, each_below, each_choice, judged, rank_at_state, reversed,
+    Objection, Rule, Verdict, choice_at, each_below, each_choice, judged, rank_at_state, reversed,
     verdict_after,
 };
 use mdp_num::{Frac, Wide};
@@ -35,8 +35,18 @@ fn probability_at(values: &[Frac], s: u32) -> Result<(), Objection>
     ensures { result ≡ objection_to (probability_checks values.now s) }
 {
     let value = values[s as usize];
-    judged(Ok(at_most(&Frac::whole(0), &value)), 3, s, None)?;
-    judged(Ok(at_most(&value, &Frac::whole(1))), 3, s, None)
+    judged(
+        Ok(at_most(&Frac::whole(0), &value)),
+        Rule::Probability,
+        s,
+        None,
+    )?;
+    judged(
+        Ok(at_most(&value, &Frac::whole(1))),
+        Rule::Probability,
+        s,
+        None,
+    )
 }
 
 /// The value of the goal `s` is 1.
@@ -44,7 +54,12 @@ fn goal_at(values: &[Frac], s: u32) -> Result<(), Objection>
     requires { s < length values.now }
     ensures { result ≡ objection_to (goal_check values.now s ∷ []) }
 {
-    judged(Ok(values[s as usize] == Frac::whole(1)), 4, s, None)
+    judged(
+        Ok(values[s as usize] == Frac::whole(1)),
+        Rule::GoalValue,
+        s,
+        None,
+    )
 }
 
 /// The greatest probability for upper values, and the least for lower ones.
@@ -80,7 +95,12 @@ fn bound_at(model: &Model, dir: Dir, values: &[Frac], s: u32, c: u32) -> Result<
     requires choice { c < length (choices_at model.now s) }
     ensures { result ≡ objection_to (bound_check dir model.now values.now s c ∷ []) }
 {
-    judged(choice_stands(model, dir, values, s, c), 5, s, Some(c))
+    judged(
+        choice_stands(model, dir, values, s, c),
+        Rule::ValueOnEachChoice,
+        s,
+        Some(c),
+    )
 }
 
 /// The inequality at each choice of state `s`.
@@ -107,7 +127,7 @@ fn policy_meets(
 {
     judged(
         choice_stands(model, reversed(dir), values, s, choice),
-        6,
+        Rule::ValueOnPolicy,
         s,
         Some(choice),
     )

@@ -11,8 +11,8 @@ ghost use Rattle.mdp_bounds.specs.Reward.{lower_place_checks, upper_place_checks
 use crate::compare::at_most;
 use crate::earning::{earnings_at_state, policy_earns};
 use mdp_farkas::{
-    Objection, Verdict, choice_at, each_below, each_choice, infinite_state, is_infinite_at, judged,
-    order_at, rank_falls_at_state, stays_at_state, verdict_after,
+    Objection, Rule, Verdict, choice_at, each_below, each_choice, infinite_state, is_infinite_at,
+    judged, order_at, rank_falls_at_state, stays_at_state, verdict_after,
 };
 use mdp_num::Frac;
 use mdp_rows::{Dir, Marks, Model};
@@ -52,7 +52,12 @@ fn nonneg_at(values: &[Option<Frac>], s: u32) -> Result<(), Objection>
     requires { s < length values.now }
     ensures { result ≡ objection_to (nonneg_check values.now s ∷ []) }
 {
-    judged(Ok(at_least_zero(values[s as usize])), 9, s, None)
+    judged(
+        Ok(at_least_zero(values[s as usize])),
+        Rule::RewardValue,
+        s,
+        None,
+    )
 }
 
 /// The goal `s` has the value 0 and rank 0.
@@ -61,8 +66,13 @@ fn goal_state(values: &[Option<Frac>], ranks: &[u32], s: u32) -> Result<(), Obje
     requires ranks { s < length ranks.now }
     ensures { result ≡ objection_to (goal_checks values.now ranks.now s) }
 {
-    judged(Ok(equal_to_zero(values[s as usize])), 9, s, None)?;
-    judged(Ok(ranks[s as usize] == 0), 9, s, None)
+    judged(
+        Ok(equal_to_zero(values[s as usize])),
+        Rule::RewardValue,
+        s,
+        None,
+    )?;
+    judged(Ok(ranks[s as usize] == 0), Rule::RewardValue, s, None)
 }
 
 /// The reward of choice `c` is at least 0.
@@ -74,7 +84,7 @@ fn sign_at(model: &Model, m: u32, s: u32, c: u32) -> Result<(), Objection>
 {
     judged(
         Ok(at_most(&Frac::whole(0), &model.reward(m, s, c))),
-        25,
+        Rule::RewardNotNegative,
         s,
         Some(c),
     )

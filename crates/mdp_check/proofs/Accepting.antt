@@ -30,7 +30,8 @@ use Rattle.mdp_subsystem_rules.specs.FloorChecks.{floor_checks, HoldsFloor}
 use Rattle.mdp_subsystem_rules.proofs.FlowRules.{flow_rules, flow_sub_max, flow_within}
 use Rattle.mdp_subsystem_rules.proofs.FloorRules.{floor_rules, floor_sub_min}
 use Rattle.mdp_text.specs.declared.init.Init.{Init}
-use Rattle.mdp_check.specs.Initial.{init_check, init_fault, start_of}
+use Rattle.mdp_check.specs.Initial.{init_check, start_of}
+use Rattle.mdp_farkas.specs.Initial.{init_fault}
 use Rattle.mdp_check.proofs.Shapes.{flow_shape, floor_shape, start_below}
 use Rattle.mdp_check.specs.Check.{reward_place, labelled_marks, goal_marks, answer_of, verdict_by, body_verdict, after_init, at_goals, at_reward, answer_to, valid_by, IsAccepted, bound_by, IsBound}
 use Rattle.mdp_check.specs.declared.answer.Answer.{Answer}

@@ -13,6 +13,8 @@ use Rattle.mdp_text.specs.declared.init.Init.TheVariants.{Missing, Finite, Infin
 use Rattle.mdp_cert.specs.Cert.{upper, reach, reward, mean, witness, bounds, policy, rewards, gains, flow, floor, Certificate}
 use Rattle.mdp_check.specs.Check.{answer_to}
 use Rattle.mdp_check.specs.declared.answer.Answer.TheVariants.{Yes, No, NoReward, NoLabel, Size}
+use Rattle.mdp_farkas.specs.declared.rule.Rule.TheVariants.{BoundOnEachChoice, ChoiceExists, FiniteRankFalls, FlowsReachGoals, InitialState, RankFalls}
+use Rattle.mdp_farkas.specs.declared.rule.Rule.TheVariants.{StartReachesThreshold}
 
 abbrev row : List Entry → Choice
 row entries = record { row = entries; rewards = [] }
@@ -48,15 +50,15 @@ bounded = refl
 -- the loop alone carries the value 1 at state 0, so its rank doesn't fall
 loop_alone :
     answer_to three (record { claim = reach Max (codes "goal"); states = 3; init = Finite 0 one; body = policy (one ∷ one ∷ zero_ ∷ []) (0 ∷ 0 ∷ 0 ∷ []) (1 ∷ 0 ∷ 0 ∷ []) })
-    ≡ No (record { rule = 8; state = Some 0; choice = Some 0 })
+    ≡ No (record { rule = RankFalls; state = Some 0; choice = Some 0 })
 unfolding gcd gcd_with_fuel ratio of_int lt_ℚ ◌+ℚ◌ ◌*ℚ◌ narrow narrow_ℚ written_add written_mul written_compare
 loop_alone = refl
 
 -- rule 1 comes before the others
-no_init : answer_to three (upper_of (codes "goal") Missing (zero_ ∷ zero_ ∷ zero_ ∷ [])) ≡ No (record { rule = 1; state = None; choice = None })
+no_init : answer_to three (upper_of (codes "goal") Missing (zero_ ∷ zero_ ∷ zero_ ∷ [])) ≡ No (record { rule = InitialState; state = None; choice = None })
 no_init = refl
 
-other_value : answer_to three (upper_of (codes "goal") (Finite 0 zero_) (one ∷ one ∷ zero_ ∷ [])) ≡ No (record { rule = 1; state = Some 0; choice = None })
+other_value : answer_to three (upper_of (codes "goal") (Finite 0 zero_) (one ∷ one ∷ zero_ ∷ [])) ≡ No (record { rule = InitialState; state = Some 0; choice = None })
 unfolding of_int
 other_value = refl
 
@@ -68,7 +70,7 @@ two_states : answer_to three (record { claim = upper (codes "done"); states = 2;
 two_states = refl
 
 -- a body without an entry per state stands in no certificate
-two_entries : answer_to three (upper_of (codes "goal") (Finite 0 one) (one ∷ one ∷ [])) ≡ No (record { rule = 1; state = None; choice = None })
+two_entries : answer_to three (upper_of (codes "goal") (Finite 0 one) (one ∷ one ∷ [])) ≡ No (record { rule = InitialState; state = None; choice = None })
 unfolding of_int
 two_entries = refl
 
@@ -107,17 +109,17 @@ greatest = refl
 
 -- and not 3
 greatest_three : answer_to two (reward_of_two Max (codes "-") (Finite 0 three_) (Some three_ ∷ Some zero_ ∷ []) (1 ∷ 0 ∷ []) (1 ∷ 0 ∷ []))
-    ≡ No (record { rule = 13; state = Some 0; choice = Some 0 })
+    ≡ No (record { rule = FiniteRankFalls; state = Some 0; choice = Some 0 })
 unfolding gcd gcd_with_fuel ratio of_int ◌+ℚ◌ ◌*ℚ◌ narrow narrow_ℚ written_add written_mul written_compare
 greatest_three = refl
 
 -- rule 1: an infinite value stands in the line `init` where the state's value is infinite, and only there
 infinite_init : answer_to two (reward_of_two Min (codes "-") (Infinite 0) (Some three_ ∷ Some zero_ ∷ []) (1 ∷ 0 ∷ []) (1 ∷ 0 ∷ []))
-    ≡ No (record { rule = 1; state = Some 0; choice = None })
+    ≡ No (record { rule = InitialState; state = Some 0; choice = None })
 infinite_init = refl
 
 finite_init : answer_to two (reward_of_two Max (codes "-") (Finite 0 three_) (None ∷ Some zero_ ∷ []) (0 ∷ 0 ∷ []) (0 ∷ 0 ∷ []))
-    ≡ No (record { rule = 1; state = Some 0; choice = None })
+    ≡ No (record { rule = InitialState; state = Some 0; choice = None })
 finite_init = refl
 
 -- the reward model comes before the label, and the numbers of states before both
@@ -132,7 +134,7 @@ other_size = refl
 
 -- another claim's body stands in no certificate
 other_body : answer_to two (record { claim = reward Min (codes "-") (codes "goal"); states = 2; init = Finite 0 one; body = bounds (one ∷ one ∷ []) })
-    ≡ No (record { rule = 1; state = None; choice = None })
+    ≡ No (record { rule = InitialState; state = None; choice = None })
 unfolding of_int
 other_body = refl
 
@@ -163,7 +165,7 @@ mean_half = refl
 
 -- another gain in the line `init`
 mean_init : answer_to turns (mean_of_two (codes "-") (Finite 0 one) (half ∷ half ∷ []) (zero_ ∷ below_half ∷ []) (zero_ ∷ below_half ∷ []) (0 ∷ 0 ∷ []) half)
-    ≡ No (record { rule = 1; state = Some 0; choice = None })
+    ≡ No (record { rule = InitialState; state = Some 0; choice = None })
 unfolding ratio of_int gcd gcd_with_fuel
 mean_init = refl
 
@@ -186,7 +188,7 @@ unfolding gcd gcd_with_fuel ratio of_int neg_ℚ ◌+ℚ◌ ◌*ℚ◌ narrow na
 mean_once = refl
 
 mean_without_bound : answer_to once (mean_of_two (codes "-") (Finite 0 one) (one ∷ one ∷ []) (zero_ ∷ zero_ ∷ []) (zero_ ∷ zero_ ∷ []) (0 ∷ 0 ∷ []) zero_)
-    ≡ No (record { rule = 17; state = Some 0; choice = Some 1 })
+    ≡ No (record { rule = BoundOnEachChoice; state = Some 0; choice = Some 1 })
 unfolding gcd gcd_with_fuel ratio of_int neg_ℚ ◌+ℚ◌ ◌*ℚ◌ narrow narrow_ℚ written_add written_mul written_compare
 mean_without_bound = refl
 
@@ -206,17 +208,17 @@ unfolding gcd gcd_with_fuel ratio of_int lt_ℚ ◌+ℚ◌ ◌*ℚ◌ narrow nar
 flow_third = refl
 
 -- and no half
-flow_half : answer_to three (one_flow 3 (codes "goal") (Start 0) 1 half) ≡ No (record { rule = 23; state = None; choice = None })
+flow_half : answer_to three (one_flow 3 (codes "goal") (Start 0) 1 half) ≡ No (record { rule = FlowsReachGoals; state = None; choice = None })
 unfolding gcd gcd_with_fuel ratio of_int lt_ℚ ◌+ℚ◌ ◌*ℚ◌ narrow narrow_ℚ written_add written_mul written_compare
 flow_half = refl
 
 -- a choice that state 0 hasn't
-flow_choice : answer_to three (one_flow 3 (codes "goal") (Start 0) 2 third) ≡ No (record { rule = 2; state = Some 0; choice = Some 2 })
+flow_choice : answer_to three (one_flow 3 (codes "goal") (Start 0) 2 third) ≡ No (record { rule = ChoiceExists; state = Some 0; choice = Some 2 })
 unfolding gcd gcd_with_fuel ratio of_int lt_ℚ ◌+ℚ◌ ◌*ℚ◌ narrow narrow_ℚ written_add written_mul written_compare
 flow_choice = refl
 
 -- the line `init` names another state
-flow_start : answer_to three (one_flow 3 (codes "goal") (Start 1) 1 third) ≡ No (record { rule = 1; state = Some 1; choice = None })
+flow_start : answer_to three (one_flow 3 (codes "goal") (Start 1) 1 third) ≡ No (record { rule = InitialState; state = Some 1; choice = None })
 flow_start = refl
 
 flow_size : answer_to three (one_flow 2 (codes "goal") (Start 0) 1 third) ≡ Size
@@ -229,7 +231,7 @@ flow_label = refl
 abbrev without_init : Mdp
 without_init = record three { labels = codes "start" ∷ codes "goal" ∷ [] }
 
-flow_without_init : answer_to without_init (one_flow 3 (codes "goal") (Start 0) 1 third) ≡ No (record { rule = 1; state = Some 0; choice = None })
+flow_without_init : answer_to without_init (one_flow 3 (codes "goal") (Start 0) 1 third) ≡ No (record { rule = InitialState; state = Some 0; choice = None })
 flow_without_init = refl
 
 -- the loop at state 0 keeps a policy from the goal, so no floor above 0 falls in rank there
@@ -241,10 +243,10 @@ floor_zero : answer_to three (one_floor zero_ 0 zero_) ≡ Yes
 unfolding gcd gcd_with_fuel ratio of_int lt_ℚ ◌+ℚ◌ ◌*ℚ◌ narrow narrow_ℚ written_add written_mul written_compare
 floor_zero = refl
 
-floor_third : answer_to three (one_floor third 1 third) ≡ No (record { rule = 8; state = Some 0; choice = Some 0 })
+floor_third : answer_to three (one_floor third 1 third) ≡ No (record { rule = RankFalls; state = Some 0; choice = Some 0 })
 unfolding gcd gcd_with_fuel ratio of_int lt_ℚ ◌+ℚ◌ ◌*ℚ◌ narrow narrow_ℚ written_add written_mul written_compare
 floor_third = refl
 
-floor_below : answer_to three (one_floor zero_ 0 third) ≡ No (record { rule = 24; state = None; choice = None })
+floor_below : answer_to three (one_floor zero_ 0 third) ≡ No (record { rule = StartReachesThreshold; state = None; choice = None })
 unfolding gcd gcd_with_fuel ratio of_int lt_ℚ ◌+ℚ◌ ◌*ℚ◌ narrow narrow_ℚ written_add written_mul written_compare
 floor_below = refl

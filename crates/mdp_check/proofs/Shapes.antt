@@ -16,7 +16,8 @@ use Rattle.mdp_farkas.specs.declared.verdict.Verdict.TheVariants as verdict
 use Rattle.mdp_subsystem_rules.specs.declared.flow.Flow.{Flow}
 use Rattle.mdp_subsystem_rules.specs.Kept.{Ascends}
 use Rattle.mdp_subsystem_rules.specs.Shape.{is_before, no_flow, FlowsAscend, IsFlowShape, IsFloorShape}
-use Rattle.mdp_check.specs.Initial.{init_check, init_fault, state_check, start_of, is_subsystem, has_value}
+use Rattle.mdp_check.specs.Initial.{init_check, start_of, is_subsystem, has_value}
+use Rattle.mdp_farkas.specs.Initial.{init_fault, state_check}
 
 -- ---- kept states
 

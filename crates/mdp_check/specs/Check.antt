@@ -17,7 +17,8 @@ use Rattle.mdp_subsystem_rules.specs.FlowChecks.{flow_checks, HoldsFlow}
 use Rattle.mdp_subsystem_rules.specs.FloorChecks.{floor_checks, HoldsFloor}
 use Rattle.mdp_farkas.specs.declared.verdict.Verdict.{Verdict}
 use Rattle.mdp_farkas.specs.declared.verdict.Verdict.TheVariants as verdict
-use Rattle.mdp_check.specs.Initial.{init_check, init_fault, start_of}
+use Rattle.mdp_check.specs.Initial.{init_check, start_of}
+use Rattle.mdp_farkas.specs.Initial.{init_fault}
 use Rattle.mdp_check.specs.declared.answer.Answer.{Answer}
 use Rattle.mdp_check.specs.declared.answer.Answer.TheVariants.{Yes, No, Wide, NoReward, NoLabel, Size}
 

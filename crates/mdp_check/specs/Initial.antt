@@ -9,17 +9,10 @@ use Rattle.mdp_cert.specs.Claims.{reward_same}
 use Rattle.mdp_text.specs.declared.init.Init.{Init}
 use Rattle.mdp_text.specs.declared.init.Init.TheVariants.{Missing, Finite, Infinite, Start}
 use Rattle.mdp_farkas.specs.declared.verdict.Verdict.{Verdict}
-use Rattle.mdp_farkas.specs.declared.verdict.Verdict.TheVariants.{Yes, No}
+use Rattle.mdp_farkas.specs.declared.verdict.Verdict.TheVariants.{Yes}
+use Rattle.mdp_farkas.specs.Initial.{init_fault, is_value, state_check}
 
--- rule 1 is false, with the state of the line `init`, where it has one
-abbrev pub init_fault : Option ℕ → Verdict
-init_fault state = No (record { rule = 1; state = state; choice = None })
-
--- the value of state s is this one
-abbrev pub is_value : List ℚ → ℕ → ℚ → Bool
-is_value z s x = nat_lt s (length z) && eq_ℚ (value_at z s) x
-
--- the same of values that may be infinite
+-- there is a value of state s, which may be infinite, and it is this one
 abbrev pub is_reward : List (Option ℚ) → ℕ → Option ℚ → Bool
 is_reward v s x = nat_lt s (length v) && reward_same (reward_at v s) x
 
@@ -49,12 +42,7 @@ has_value (flow kept wide flows) s (Some x) = false
 has_value (floor kept wide values ranks) s (Some x) = false
 has_value body s None = false
 
--- the line names the model's one initial state, and its value
-abbrev pub state_check : ℕ → Option ℕ → Bool → Verdict
-state_check s None valued = init_fault (Some s)
-state_check s (Some t) valued = if (s == t) && valued then Yes else init_fault (Some s)
-
--- it names the model's one initial state and has its value; it names none where there isn't exactly one. For a subsystem there is exactly one, and the
+-- the line names the model's one initial state and has its value; it names none where there isn't exactly one. For a subsystem there is exactly one, and the
 -- line has no value
 abbrev pub init_check : Init → Option ℕ → PlainBody → Verdict
 init_check Missing None body = if is_subsystem body then init_fault None else Yes

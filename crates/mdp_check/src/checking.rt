@@ -6,9 +6,9 @@ ghost use Rattle.mdp_farkas.specs.Verdict.{IfYes, IsYes};
 ghost use Rattle.mdp_check.specs.Check.{reward_place, goal_marks, answer_to, body_verdict, IsBound, BoundOf, IsAccepted, IsValidBody};
 
 use crate::answer::{Answer, answer_of};
-use crate::initial::{init_denied, init_verdict, start_of};
+use crate::initial::{init_verdict, start_of};
 use mdp_cert::{Body, Cert, Claim};
-use mdp_farkas::{Verdict, holds_mean, holds_reach, holds_reward, holds_upper};
+use mdp_farkas::{Verdict, holds_mean, holds_reach, holds_reward, holds_upper, init_denied};
 use mdp_num::Memory;
 use mdp_rows::{Dir, Marks, Model};
 use mdp_subsystem_rules::{holds_floor, holds_flow};

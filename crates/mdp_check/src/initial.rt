@@ -1,34 +1,14 @@
 ghost use Rattle.std.specs.Prelude.{◌≡◌};
 ghost use Rattle.mdp_cert.specs.Cert.{plain_body};
 ghost use Rattle.mdp_cert.specs.Claims.{reward_same};
-ghost use Rattle.mdp_check.specs.Initial.{init_check, init_fault, state_check, has_value, is_subsystem, start_of, is_value, is_reward};
+ghost use Rattle.mdp_check.specs.Initial.{init_check, has_value, is_subsystem, start_of, is_reward};
+ghost use Rattle.mdp_farkas.specs.Initial.{init_fault, state_check, is_value};
 ghost use Rattle.mdp_spec.specs.Labels.{initial_of};
 
 use mdp_cert::{Body, Init};
-use mdp_farkas::{Fault, Verdict};
+use mdp_farkas::{Verdict, init_denied, is_value, state_verdict};
 use mdp_num::Frac;
 use mdp_rows::Model;
-
-/// That rule 1 is false, with the state of the line `init`, where it has one.
-pub(crate) fn init_denied(state: Option<u32>) -> Verdict
-    ensures { result ≡ init_fault state }
-{
-    Verdict::No(Fault {
-        rule: 1,
-        state,
-        choice: None,
-    })
-}
-
-/// Whether the value of state `s` is this one.
-fn is_value(values: &[Frac], s: u32, value: &Frac) -> bool
-    ensures { result ≡ is_value values.now s value.now }
-{
-    match values.get(s as usize) {
-        Some(found) => found == value,
-        None => false,
-    }
-}
 
 /// Whether two values are the same; a value of none is infinite.
 fn is_same(x: &Option<Frac>, y: &Option<Frac>) -> bool
@@ -80,16 +60,6 @@ pub(crate) fn start_of(init: &Init) -> u32
         Init::Finite(state, _) => *state,
         Init::Infinite(state) => *state,
         Init::Start(state) => *state,
-    }
-}
-
-/// Rule 1 for a line that names a state: it is the model's one initial state, and its value is the one of its line.
-fn state_verdict(state: u32, initial: Option<u32>, has_value: bool) -> Verdict
-    ensures { result ≡ state_check state initial has_value }
-{
-    match initial {
-        Some(initial) if state == initial && has_value => Verdict::Yes,
-        _ => init_denied(Some(state)),
     }
 }
 

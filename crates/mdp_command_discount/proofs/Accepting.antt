@@ -7,11 +7,11 @@ use Rattle.mdp_spec.specs.Row.{IsMdp}
 use Rattle.mdp_rows.specs.declared.rule.RowRule.{RowRule}
 use Rattle.mdp_drn.specs.Reading as drn
 use Rattle.mdp_text.specs.declared.error.Refusal as text
-use Rattle.mdp_discount.specs.Cert.{Certificate, Fits}
-use Rattle.mdp_discount.specs.Check.{answer_to, IsAccepted}
+use Rattle.mdp_discount_rules.specs.Cert.{Certificate, Fits}
+use Rattle.mdp_discount_rules.specs.Check.{answer_to, IsAccepted}
 use Rattle.mdp_discount.specs.Laws as law
-use Rattle.mdp_discount.specs.declared.answer.DiscountAnswer.{DiscountAnswer}
-use Rattle.mdp_discount.specs.declared.answer.DiscountAnswer.TheVariants.{Yes, No, Wide, NoReward, Size}
+use Rattle.mdp_discount_rules.specs.declared.answer.DiscountAnswer.{DiscountAnswer}
+use Rattle.mdp_discount_rules.specs.declared.answer.DiscountAnswer.TheVariants.{Yes, No, Wide, NoReward, Size}
 use Rattle.mdp_discount_text.specs.Laws.{IsReadFromText}
 use Rattle.mdp_discount_text.specs.Text.{outcome}
 use Rattle.mdp_job.specs.Refusal.{PlainRefusal, long_model, long_certificate, no_memory}

@@ -9,9 +9,10 @@ use Rattle.mdp_rows.specs.declared.dir.Dir.TheVariants.{Max}
 use Rattle.mdp_text.specs.declared.error.CertKind.TheVariants.{Number}
 use Rattle.mdp_text.specs.declared.init.Init.{Init}
 use Rattle.mdp_text.specs.declared.init.Init.TheVariants.{Missing, Finite}
-use Rattle.mdp_discount.specs.Cert.{Certificate}
+use Rattle.mdp_discount_rules.specs.Cert.{Certificate}
 use Rattle.mdp_job.specs.Refusal.{query_size, query_reward, denied, cert_text}
 use Rattle.mdp_command_discount.specs.Due.{IsNamedDue, said_to_certificate}
+use Rattle.mdp_farkas.specs.declared.rule.Rule.TheVariants.{DiscountedOnEachChoice, InitialState}
 
 abbrev number : ℕ → ℚ
 number n = of_int (pos n)
@@ -58,13 +59,13 @@ other_name = refl
 
 no_init :
     said_to_certificate wait (Ok (claimed (codes "-") Missing (number 3 ∷ number 6 ∷ []) (1 ∷ 0 ∷ [])))
-    ≡ Err (denied (record { rule = 1; state = None; choice = None }))
+    ≡ Err (denied (record { rule = InitialState; state = None; choice = None }))
 no_init = refl
 
 -- the first policy, which never moves on
 first_kept :
     said_to_certificate wait (Ok (claimed (codes "-") (Finite 0 (number 2)) (number 2 ∷ number 6 ∷ []) (0 ∷ 0 ∷ [])))
-    ≡ Err (denied (record { rule = 26; state = Some 0; choice = Some 1 }))
+    ≡ Err (denied (record { rule = DiscountedOnEachChoice; state = Some 0; choice = Some 1 }))
 unfolding gcd gcd_with_fuel of_int ratio neg_ℚ le_ℚ ◌+ℚ◌ ◌*ℚ◌ narrow narrow_ℚ written_add written_mul written_compare
 first_kept = refl
 

@@ -16,11 +16,12 @@ use Rattle.mdp_policy_iteration.specs.Queries.{Solves, shown}
 use Rattle.mdp_farkas.specs.Verdict.{verdict_of}
 use Rattle.mdp_farkas.specs.declared.verdict.Verdict.{Verdict}
 use Rattle.mdp_farkas.specs.declared.verdict.Verdict.TheVariants as verdict
-use Rattle.mdp_discount.specs.Bounds.{DiscountBound}
-use Rattle.mdp_discount.specs.Cert.{Certificate, Fits}
-use Rattle.mdp_discount.specs.Check.{init_fault, init_check, IsAccepted, IsBound}
-use Rattle.mdp_discount.specs.Checks.{written_greatest, discount_checks, IsDiscount}
-use Rattle.mdp_discount.specs.Plain.{plain}
+use Rattle.mdp_discount_rules.specs.Bounds.{DiscountBound}
+use Rattle.mdp_discount_rules.specs.Cert.{Certificate, Fits}
+use Rattle.mdp_discount_rules.specs.Check.{init_check, IsAccepted, IsBound}
+use Rattle.mdp_farkas.specs.Initial.{init_fault}
+use Rattle.mdp_discount_rules.specs.Checks.{written_greatest, discount_checks, IsDiscount}
+use Rattle.mdp_discount_rules.specs.Plain.{plain}
 use Rattle.mdp_text.specs.Heads.{init_by}
 use Rattle.mdp_discount.specs.Query.{cut_found, answer_of, Held, AfterRemainder, AfterPath, EndsSo}
 use Rattle.mdp_text.proofs.InitialState.{initial_below}

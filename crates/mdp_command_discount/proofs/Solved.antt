@@ -9,10 +9,10 @@ use Rattle.mdp_spec.specs.Row.{IsMdp}
 use Rattle.mdp_rows.specs.declared.dir.Dir.{Dir}
 use Rattle.mdp_rows.specs.declared.rule.RowRule.{RowRule}
 use Rattle.mdp_policy_iteration.specs.Queries.{WideTerm}
-use Rattle.mdp_discount.specs.Cert.{Certificate}
+use Rattle.mdp_discount_rules.specs.Cert.{Certificate}
 use Rattle.mdp_discount.specs.Laws.{HasOneEnd, CanAsk, AnswersMeetRules, AnswersAreBest}
 use Rattle.mdp_discount.specs.Query.{EndsSo}
-use Rattle.mdp_discount.specs.Rules.{IsFactor}
+use Rattle.mdp_discount_rules.specs.Rules.{IsFactor}
 use Rattle.mdp_command.proofs.Working.{read_of_due}
 use Rattle.mdp_command.specs.Files.{model_due}
 use Rattle.mdp_command.specs.Said.{Said}

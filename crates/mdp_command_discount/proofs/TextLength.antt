@@ -13,7 +13,7 @@ use Rattle.mdp_text.specs.declared.init.Init.TheVariants.{Missing, Finite, Infin
 use Rattle.mdp_text.specs.Spelling.{line, ◌␣◌, quoted, dir_text, states_text, init_text, end_text}
 use Rattle.mdp_text.proofs.Lengths.{number_short, spelling_short, blank_length, line_length, name_short, dir_length, quoted_length, states_short, IsShortInit, init_short}
 use Rattle.mdp_text.specs.Heads.{IsInitInWidth}
-use Rattle.mdp_discount.specs.Cert.{is_init, IsInitNarrow, Certificate, Fits}
+use Rattle.mdp_discount_rules.specs.Cert.{is_init, IsInitNarrow, Certificate, Fits}
 use Rattle.mdp_discount_text.specs.Spelling.{version_text, claim_text, remainder_text, state_text, state_lines, head_text, text_of}
 use Rattle.mdp_command.specs.Files.{most_bytes}
 

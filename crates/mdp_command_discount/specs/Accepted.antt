@@ -3,8 +3,8 @@ use Rattle.std.specs.Prelude.{◌≡◌, ℕ, ◌≤◌, List, length, Ok}
 use Rattle.mdp_spec.specs.Mdp.{Mdp}
 use Rattle.mdp_rows.specs.declared.rule.RowRule.{RowRule}
 use Rattle.mdp_drn.specs.Reading.{Reads}
-use Rattle.mdp_discount.specs.Cert.{Certificate}
-use Rattle.mdp_discount.specs.Check.{IsAccepted, IsBound}
+use Rattle.mdp_discount_rules.specs.Cert.{Certificate}
+use Rattle.mdp_discount_rules.specs.Check.{IsAccepted, IsBound}
 use Rattle.mdp_discount_text.specs.Text.{outcome}
 use Rattle.mdp_command.specs.Files.{most_bytes}
 

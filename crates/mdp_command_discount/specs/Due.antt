@@ -9,11 +9,11 @@ use Rattle.mdp_rows.specs.declared.dir.Dir.{Dir}
 use Rattle.mdp_policy_iteration.specs.Ends.{capped}
 use Rattle.mdp_policy_iteration.specs.Queries.{WideTerm}
 use Rattle.mdp_text.specs.declared.error.Refusal as text
-use Rattle.mdp_discount.specs.Cert.{Certificate}
-use Rattle.mdp_discount.specs.Check.{answer_to}
+use Rattle.mdp_discount_rules.specs.Cert.{Certificate}
+use Rattle.mdp_discount_rules.specs.Check.{answer_to}
 use Rattle.mdp_discount.specs.Query.{EndsSo}
-use Rattle.mdp_discount.specs.declared.answer.DiscountAnswer.{DiscountAnswer}
-use Rattle.mdp_discount.specs.declared.answer.DiscountAnswer.TheVariants.{Yes, No, Wide, NoReward, Size}
+use Rattle.mdp_discount_rules.specs.declared.answer.DiscountAnswer.{DiscountAnswer}
+use Rattle.mdp_discount_rules.specs.declared.answer.DiscountAnswer.TheVariants.{Yes, No, Wide, NoReward, Size}
 use Rattle.mdp_discount_text.specs.Spelling.{text_of}
 use Rattle.mdp_discount_text.specs.Text.{outcome}
 use Rattle.mdp_job.specs.Refusal.{PlainRefusal, query_size, query_reward, too_wide, check_wide, denied, cert_text}

@@ -6,11 +6,11 @@ use Rattle.mdp_spec.specs.Mdp.{Mdp}
 use Rattle.mdp_spec.specs.Row.{IsMdp}
 use Rattle.mdp_rows.specs.declared.dir.Dir.{Dir}
 use Rattle.mdp_rows.specs.declared.rule.RowRule.{RowRule}
-use Rattle.mdp_discount.specs.Bounds.{DiscountBound}
-use Rattle.mdp_discount.specs.Cert.{Certificate}
-use Rattle.mdp_discount.specs.Check.{IsBound}
-use Rattle.mdp_discount.specs.Checks.{IsDiscount}
-use Rattle.mdp_discount.specs.Rules.{IsFactor}
+use Rattle.mdp_discount_rules.specs.Bounds.{DiscountBound}
+use Rattle.mdp_discount_rules.specs.Cert.{Certificate}
+use Rattle.mdp_discount_rules.specs.Check.{IsBound}
+use Rattle.mdp_discount_rules.specs.Checks.{IsDiscount}
+use Rattle.mdp_discount_rules.specs.Rules.{IsFactor}
 use Rattle.mdp_discount_text.specs.Spelling.{text_of}
 use Rattle.mdp_command.specs.Files.{model_due, IsDueToModel}
 use Rattle.mdp_command.specs.Said.{Said}

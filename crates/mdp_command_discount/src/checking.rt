@@ -1,7 +1,7 @@
 ghost use Rattle.std.specs.Prelude.{◌≡◌, ◌⊎◌, false, Ok, Err, OnOk, IsTrue};
 ghost use Rattle.std.specs.Io.KnownBytes.{IsAtEnd};
-ghost use Rattle.mdp_discount.specs.Check.{answer_to};
-ghost use Rattle.mdp_discount.specs.Plain.{plain};
+ghost use Rattle.mdp_discount_rules.specs.Check.{answer_to};
+ghost use Rattle.mdp_discount_rules.specs.Plain.{plain};
 ghost use Rattle.mdp_discount_text.specs.Text.{outcome};
 ghost use Rattle.mdp_job.specs.Refusal.{no_memory, read_certificate};
 ghost use Rattle.mdp_command.specs.Read.{IsReadAs, is_of_model};
@@ -13,7 +13,7 @@ ghost use Rattle.mdp_command_discount.specs.Shown.{IsDiscountCheckRead};
 use crate::laws::discount_step_law;
 use mdp_cert::CertError;
 use mdp_command::{read_model, read_second};
-use mdp_discount::{DiscountAnswer, DiscountCert, check_discount};
+use mdp_discount_rules::{DiscountAnswer, DiscountCert, check_discount};
 use mdp_discount_text::read_discount;
 use mdp_edge::Source;
 use mdp_job::Refusal;

@@ -1,8 +1,8 @@
 ghost use Rattle.std.specs.Prelude.{◌≡◌, ◌⊎◌, ◌<◌, Err, OnOk, IfOk};
 ghost use Rattle.std.specs.Io.KnownBytes.{IsAtEnd};
-ghost use Rattle.mdp_discount.specs.Cert.{IsInitNarrow, Fits};
-ghost use Rattle.mdp_discount.specs.Plain.{plain};
-ghost use Rattle.mdp_discount.specs.Rules.{IsFactor};
+ghost use Rattle.mdp_discount_rules.specs.Cert.{IsInitNarrow, Fits};
+ghost use Rattle.mdp_discount_rules.specs.Plain.{plain};
+ghost use Rattle.mdp_discount_rules.specs.Rules.{IsFactor};
 ghost use Rattle.mdp_discount_text.specs.Spelling.{text_of};
 ghost use Rattle.mdp_job.specs.Refusal.{no_memory};
 ghost use Rattle.mdp_command.specs.Said.{said};
@@ -11,7 +11,8 @@ ghost use Rattle.mdp_command_discount.specs.Due.{IsDiscountDue};
 ghost use Rattle.mdp_command_discount.specs.Shown.{IsDiscountPrinted, IsDiscountRead};
 
 use mdp_command::read_model;
-use mdp_discount::{DiscountCert, Init, discount_law, solve_discount};
+use mdp_discount::{discount_law, solve_discount};
+use mdp_discount_rules::{DiscountCert, Init};
 use mdp_discount_text::{discount_text_law, write_discount};
 use mdp_edge::Source;
 use mdp_elim::SolveError;

@@ -42,7 +42,8 @@ use Rattle.mdp_cert.specs.Claims.{reward_same}
 use Rattle.mdp_cert.specs.Reading.{outcome}
 use Rattle.mdp_cert.specs.Spelling.{text_of}
 use Rattle.mdp_cert.specs.Laws.{IsReadBack}
-use Rattle.mdp_check.specs.Initial.{has_value, is_subsystem, init_check, init_fault}
+use Rattle.mdp_check.specs.Initial.{has_value, is_subsystem, init_check}
+use Rattle.mdp_farkas.specs.Initial.{init_fault}
 use Rattle.mdp_check.specs.Check.{labelled_marks, IsAccepted}
 use Rattle.mdp_check.proofs.Accepting.{accepted_is_bound}
 use Rattle.mdp_job.specs.Refusal.{no_memory}

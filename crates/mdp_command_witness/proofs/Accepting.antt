@@ -10,7 +10,8 @@ use Rattle.mdp_farkas.specs.declared.verdict.Verdict.TheVariants as verdict
 use Rattle.mdp_cert.specs.Cert as certificate
 use Rattle.mdp_cert.specs.Cert.{PlainBody, is_body_of}
 use Rattle.mdp_text.specs.declared.init.Init.TheVariants.{Start}
-use Rattle.mdp_check.specs.Initial.{init_check, init_fault, is_subsystem}
+use Rattle.mdp_check.specs.Initial.{init_check, is_subsystem}
+use Rattle.mdp_farkas.specs.Initial.{init_fault}
 use Rattle.mdp_check.specs.Check.{valid_by, IsAccepted}
 use Rattle.mdp_witness.specs.Query.{PlainSubsystem, flow, floor}
 use Rattle.mdp_witness.specs.Shown.{HasShape, Holds}

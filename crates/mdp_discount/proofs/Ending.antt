@@ -16,10 +16,10 @@ use Rattle.mdp_policy_iteration.specs.declared.solution.Solution.{Solution}
 use Rattle.mdp_policy_iteration.specs.declared.solution.WideAt.{WideAt}
 use Rattle.mdp_policy_iteration.specs.declared.solution.PathError.TheVariants as path
 use Rattle.mdp_discount.specs.Problem.{discount_problem}
-use Rattle.mdp_discount.specs.Plain.{plain}
+use Rattle.mdp_discount_rules.specs.Plain.{plain}
 use Rattle.mdp_discount.specs.Query.{start_of, AfterFound, EndsSo}
 use Rattle.mdp_discount.specs.Code.{found_of, PathEnds}
-use Rattle.mdp_discount.specs.declared.cert.DiscountCert.{DiscountCert}
+use Rattle.mdp_discount_rules.specs.declared.cert.DiscountCert.{DiscountCert}
 
 module _ (dir : Dir) (m : Mdp) (r : ℕ) (f : ℚ) (start : List ℕ) (same : start ≡ start_of m) where
   begun : (end : Result Found Refusal) → EndsWith (path_step (discount_problem dir m r f)) (first start) end → EndsWith (path_step (discount_problem dir m r f)) (first (start_of m)) end

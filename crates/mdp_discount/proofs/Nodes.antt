@@ -20,10 +20,10 @@ use Rattle.mdp_policy_iteration.specs.Problem.{Problem, Node, given, Choice, Mov
 use Rattle.mdp_policy_iteration.specs.Problem.{LeadsWithin, IsProblem, IsCandidate}
 use Rattle.mdp_policy_iteration.specs.Problem as path
 use Rattle.mdp_policy_iteration.specs.Code.{CanTake, move_at, fits_at}
-use Rattle.mdp_discount.specs.Rules.{IsFactor, discounted}
-use Rattle.mdp_discount.specs.Checks.{written_discounted}
+use Rattle.mdp_discount_rules.specs.Rules.{IsFactor, discounted}
+use Rattle.mdp_discount_rules.specs.Checks.{written_discounted}
 use Rattle.mdp_discount.specs.Problem.{0ℚ, 1ℚ, discounted_row, row_fits, discount_choice, discount_node, discount_problem}
-use Rattle.mdp_discount.proofs.DiscountRules.{written_discounted-some}
+use Rattle.mdp_discount_rules.proofs.DiscountRules.{written_discounted-some}
 use Rattle.mdp_discount.proofs.ScaledRows.{discounted-row, discounted-sum}
 
 module _ (dir : Dir) (m : Mdp) (r : ℕ) (f : ℚ) where

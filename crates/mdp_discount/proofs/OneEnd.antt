@@ -1,6 +1,5 @@
--- A query has one end at most, and an answer meets the rules; there is one list of values at most.
+-- A query has one end at most, and an answer meets the rules.
 use Rattle.std.proofs.Common.{◌≡◌, ℕ, ◌<◌, List, Option, Some, None, Result, Ok, Err, refl, sym, ◌∙◌, subst, take}
-use Rattle.std.proofs.lemmas.List.{ext_get_or}
 use Rattle.mdp_math.specs.Rational.{ℚ}
 use Rattle.mdp_spec.specs.Mdp.{Mdp, states_of}
 use Rattle.mdp_rows.specs.declared.dir.Dir.{Dir}
@@ -12,20 +11,15 @@ use Rattle.mdp_policy_iteration.proofs.Iterations.{one_end}
 use Rattle.mdp_farkas.specs.Verdict.{verdict_of}
 use Rattle.mdp_farkas.specs.declared.verdict.Verdict.{Verdict}
 use Rattle.mdp_farkas.specs.declared.verdict.Verdict.TheVariants.{Yes, No, Wide}
-use Rattle.mdp_discount.specs.Problem.{0ℚ, discount_problem}
-use Rattle.mdp_discount.specs.Checks.{written_greatest, discount_checks, IsDiscount}
-use Rattle.mdp_discount.specs.Cert.{Certificate}
+use Rattle.mdp_discount.specs.Problem.{discount_problem}
+use Rattle.mdp_discount_rules.specs.Checks.{written_greatest, discount_checks, IsDiscount}
+use Rattle.mdp_discount_rules.specs.Cert.{Certificate}
 use Rattle.mdp_discount.specs.Query.{start_of, cut_found, answer_of, Held, AfterRemainder, AfterPath}
 use Rattle.mdp_discount.specs.Code.{IsFound}
-use Rattle.mdp_discount.specs.Laws.{HasOneValue, HasOneEnd, CanAsk, AnswersMeetRules, AnswersAreBest}
-use Rattle.mdp_discount.proofs.Discount.{discount_unique, discount_of_rules}
-use Rattle.mdp_discount.proofs.DiscountRules.{is_of_yes}
+use Rattle.mdp_discount.specs.Laws.{HasOneEnd, CanAsk, AnswersMeetRules, AnswersAreBest}
+use Rattle.mdp_discount_rules.proofs.Discount.{discount_of_rules}
+use Rattle.mdp_discount_rules.proofs.DiscountRules.{is_of_yes}
 use Rattle.mdp_discount.proofs.Solving.{start-solvable, found-is}
-
-pub one_value : HasOneValue
-one_value dir m r f v w k l policy other known factor a b =
-    ext_get_or 0ℚ w v (b.one_each ∙ sym a.one_each)
-    (λ s h. discount_unique m r dir f known factor w v l k other policy s b.takes a.takes b a (subst (λ (n : ℕ). s < n) b.one_each h))
 
 module _ (dir : Dir) (m : Mdp) (r : ℕ) (name : List ℕ) (f : ℚ) where
   module _ (p q : Result Certificate WideTerm) where

@@ -16,7 +16,7 @@ use Rattle.mdp_num.specs.Equal.{eq_ℚ}
 use Rattle.mdp_num.proofs.Equal.{equal_decides}
 use Rattle.mdp_spec.specs.Mdp.{Entry, value_at}
 use Rattle.mdp_spec.specs.Row.{ascends_from, IsRow, row_sum}
-use Rattle.mdp_discount.specs.Rules.{IsFactor}
+use Rattle.mdp_discount_rules.specs.Rules.{IsFactor}
 use Rattle.mdp_discount.specs.Problem.{scaled, has_value, left_over, scaled_entries, discounted_row}
 
 -- ---- entries of value 0

@@ -14,10 +14,11 @@ use Rattle.mdp_elim.specs.System.{is_active}
 use Rattle.mdp_policy_iteration.specs.Problem.{Problem, Node, given, decision, Choice, Move, worth, count, node_at, choice_at, goes_on, row_from, rows_of, active_of, taken, IsCandidate, IsPolicy}
 use Rattle.mdp_policy_iteration.specs.Problem as path
 use Rattle.mdp_policy_iteration.specs.Code.{CanTake}
-use Rattle.mdp_policy_iteration.specs.Values.{IsAsGood, CanLeave}
+use Rattle.mdp_policy_iteration.specs.Values.{CanLeave}
+use Rattle.mdp_rows.specs.Better.{IsAsGood}
 use Rattle.mdp_policy_iteration.specs.Laws.{IsSolvable, IsBestFrom}
 use Rattle.mdp_policy_iteration.proofs.Chain.{row-at, active-at, active-below}
-use Rattle.mdp_discount.specs.Rules.{IsFactor, discounted}
+use Rattle.mdp_discount_rules.specs.Rules.{IsFactor, discounted}
 use Rattle.mdp_discount.specs.Problem.{0ℚ, discount_problem}
 use Rattle.mdp_discount.specs.Query.{start_of}
 use Rattle.mdp_discount.specs.Code.{IsFound}

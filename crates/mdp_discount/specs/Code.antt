@@ -12,12 +12,12 @@ use Rattle.mdp_elim.specs.declared.too_wide.SolveError.TheVariants as solve
 use Rattle.mdp_policy_iteration.specs.Iteration.{EndsWith}
 use Rattle.mdp_policy_iteration.specs.Path.{Found, Refusal, path_step}
 use Rattle.mdp_policy_iteration.specs.Laws.{first}
-use Rattle.mdp_policy_iteration.specs.Values.{IsAsGood}
+use Rattle.mdp_rows.specs.Better.{IsAsGood}
 use Rattle.mdp_policy_iteration.specs.Ends.{capped}
 use Rattle.mdp_policy_iteration.specs.Queries.{shown, term_of}
 use Rattle.mdp_policy_iteration.specs.declared.solution.Solution.{Solution}
 use Rattle.mdp_policy_iteration.specs.declared.solution.WideAt.{WideAt}
-use Rattle.mdp_discount.specs.Rules.{discounted}
+use Rattle.mdp_discount_rules.specs.Rules.{discounted}
 use Rattle.mdp_discount.specs.Problem.{discount_problem}
 use Rattle.mdp_discount.specs.Query.{start_of, cut_found, cut_refusal}
 

@@ -1,12 +1,5 @@
-pub mod Disc
-pub mod Rules
-pub mod Bounds
-pub mod Checks
 pub mod Problem
 pub mod ScaledView
-pub mod Cert
-pub mod Plain
 pub mod Query
 pub mod Code
-pub mod Check
 pub mod Laws

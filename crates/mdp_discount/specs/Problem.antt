@@ -12,7 +12,7 @@ use Rattle.mdp_spec.specs.Mdp.{Entry, Mdp, states_of, choices_at, choice_at, row
 use Rattle.mdp_spec.specs.Unit.{reward_of}
 use Rattle.mdp_rows.specs.declared.dir.Dir.{Dir}
 use Rattle.mdp_policy_iteration.specs.Problem.{Problem, Node, given, decision, Choice, go}
-use Rattle.mdp_discount.specs.Checks.{written_discounted}
+use Rattle.mdp_discount_rules.specs.Checks.{written_discounted}
 
 abbrev pub 0ℚ : ℚ
 0ℚ = of_int (pos 0)

@@ -14,9 +14,9 @@ use Rattle.mdp_farkas.specs.Verdict.{verdict_of}
 use Rattle.mdp_farkas.specs.declared.verdict.Verdict.{Verdict}
 use Rattle.mdp_farkas.specs.declared.verdict.Verdict.TheVariants.{Yes, No, Wide}
 use Rattle.mdp_text.specs.Heads.{init_by}
-use Rattle.mdp_discount.specs.Checks.{written_greatest, discount_checks}
+use Rattle.mdp_discount_rules.specs.Checks.{written_greatest, discount_checks}
 use Rattle.mdp_discount.specs.Problem.{discount_problem}
-use Rattle.mdp_discount.specs.Cert.{Certificate}
+use Rattle.mdp_discount_rules.specs.Cert.{Certificate}
 
 -- choice 0 everywhere, and at the node behind the states
 abbrev pub start_of : Mdp → List ℕ

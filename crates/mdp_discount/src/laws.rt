@@ -1,9 +1,11 @@
-ghost use Rattle.mdp_discount.specs.Laws.{RulesBound, HasOneValue, HasOneEnd, AnswersMeetRules, AnswersAreBest, YesIsAccepted, AcceptedIsBound};
+ghost use Rattle.mdp_discount_rules.specs.Laws.{RulesBound, HasOneValue, YesIsAccepted, AcceptedIsBound};
+ghost use Rattle.mdp_discount.specs.Laws.{HasOneEnd, AnswersMeetRules, AnswersAreBest};
 
+use mdp_discount_rules::discount_rules_law;
 use mdp_policy_iteration::path_law;
 
-/// What meets the rules is bounded by its remainder, and there is one such list of values at most. A query has one end at most; an answer meets the
-/// rules, and its values are the greatest, or the least, discounted rewards. A check says yes exactly of what is accepted, and its claim is true.
+/// What `discount_rules_law` says of the rules; and a query has one end at most, an answer meets the rules, and its values are the greatest, or the
+/// least, discounted rewards.
 pub fn discount_law()
     ensures bound { RulesBound }
     ensures one_value { HasOneValue }
@@ -13,5 +15,6 @@ pub fn discount_law()
     ensures accepted { YesIsAccepted }
     ensures true_claim { AcceptedIsBound }
 {
+    discount_rules_law();
     path_law();
 }

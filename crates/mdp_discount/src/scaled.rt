@@ -3,7 +3,7 @@ ghost use Rattle.std.specs.List.{All, filter};
 ghost use Rattle.std.specs.Option.{option_map};
 ghost use Rattle.mdp_spec.specs.Mdp.{states_of};
 ghost use Rattle.mdp_spec.specs.Row.{entries};
-ghost use Rattle.mdp_discount.specs.Rules.{IsFactor};
+ghost use Rattle.mdp_discount_rules.specs.Rules.{IsFactor};
 ghost use Rattle.mdp_discount.specs.Problem.{has_value};
 ghost use Rattle.mdp_discount.specs.ScaledView.{row_in, rows_in, entries_in, products, scaled_row, scaled_rows, AreScaled};
 

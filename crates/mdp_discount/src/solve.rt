@@ -2,19 +2,17 @@ ghost use Rattle.std.specs.Prelude.{◌≡◌, ◌<◌, ℕ, [], length, slice_i
 ghost use Rattle.mdp_policy_iteration.specs.Ends.{capped};
 ghost use Rattle.mdp_elim.specs.declared.too_wide.Part.TheVariants.{Whole};
 ghost use Rattle.mdp_policy_iteration.specs.Queries.{Solves, shown, term_of};
-ghost use Rattle.mdp_discount.specs.Rules.{IsFactor};
-ghost use Rattle.mdp_discount.specs.Bounds.{DiscountBound};
-ghost use Rattle.mdp_discount.specs.Checks.{IsDiscount};
-ghost use Rattle.mdp_discount.specs.Plain.{plain};
+ghost use Rattle.mdp_discount_rules.specs.Rules.{IsFactor};
+ghost use Rattle.mdp_discount_rules.specs.Bounds.{DiscountBound};
+ghost use Rattle.mdp_discount_rules.specs.Checks.{IsDiscount};
+ghost use Rattle.mdp_discount_rules.specs.Plain.{plain};
 ghost use Rattle.mdp_discount.specs.Query.{EndsSo, AfterFound};
 ghost use Rattle.mdp_discount.specs.Code.{PathEnds, IsFound, found_of, cut_term, wide_after};
 
-use crate::cert::DiscountCert;
-use crate::holds::holds_discount;
-use crate::magnitude::greatest_magnitude;
 use crate::problem::Discounted;
 use crate::scaled::scaled_states;
 use bumpalo::Bump;
+use mdp_discount_rules::{DiscountCert, greatest_magnitude, holds_discount};
 use mdp_elim::{Kind, Part, SolveError, TooWide};
 use mdp_farkas::Verdict;
 use mdp_num::Frac;

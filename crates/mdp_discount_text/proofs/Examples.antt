@@ -7,7 +7,7 @@ use Rattle.mdp_math.specs.Gcd.{gcd, gcd_with_fuel}
 use Rattle.mdp_math.specs.Rational.{of_int, ratio, neg_ℚ, le_ℚ, lt_ℚ}
 use Rattle.mdp_rows.specs.declared.dir.Dir.TheVariants.{Max}
 use Rattle.mdp_text.specs.declared.init.Init.TheVariants.{Finite}
-use Rattle.mdp_discount.specs.Cert.{Certificate}
+use Rattle.mdp_discount_rules.specs.Cert.{Certificate}
 use Rattle.mdp_discount_text.specs.Spelling.{text_of}
 use Rattle.mdp_discount_text.specs.Text.{is_factor}
 

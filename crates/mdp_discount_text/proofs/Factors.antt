@@ -8,7 +8,7 @@ use Rattle.mdp_math.proofs.IntegerRing.{int_ring}
 use Rattle.mdp_math.proofs.Booleans.{and-parts, and-false}
 use Rattle.mdp_math.proofs.Order.{0ℚ, 1ℚ, across_le, across_lt, clash_ℚ}
 use Rattle.mdp_math.proofs.Extremes.{le_of_test, test_of_le, lt_of_test, test_of_lt, no_test_of_le}
-use Rattle.mdp_discount.specs.Rules.{IsFactor}
+use Rattle.mdp_discount_rules.specs.Rules.{IsFactor}
 use Rattle.mdp_discount_text.specs.Text.{is_factor}
 
 pub factor-yes : (f : ℚ) → 0ℚ ≤ℚ f → f <ℚ 1ℚ → true ≡ is_factor f

@@ -21,8 +21,8 @@ use Rattle.mdp_text.proofs.Feeds.{bind_ok, ok-is, refuse_ok, judged-found, judge
 use Rattle.mdp_text.proofs.Joined.{free-join, behind-again, behind-text}
 use Rattle.mdp_text.proofs.States.{one-word, states-found, states-again, free-states}
 use Rattle.mdp_cert.proofs.Numbered.{init-found, init-again, free-init}
-use Rattle.mdp_discount.specs.Rules.{IsFactor}
-use Rattle.mdp_discount.specs.Cert.{Certificate, is_init, IsInitNarrow, Fits}
+use Rattle.mdp_discount_rules.specs.Rules.{IsFactor}
+use Rattle.mdp_discount_rules.specs.Cert.{Certificate, is_init, IsInitNarrow, Fits}
 use Rattle.mdp_discount_text.specs.Spelling.{version_text, claim_text, remainder_text, state_lines, head_text, text_of}
 use Rattle.mdp_discount_text.specs.Text.{Claim, is_factor, claim_at, init_at, remainder_at, Head, head_from, Columns, states_from, certificate_of, outcome}
 use Rattle.mdp_discount_text.specs.Laws.{IsReadFromText, IsReadBack}

@@ -1,6 +1,6 @@
 -- What holds of the texts of certificates of the discounted reward.
 use Rattle.std.specs.Prelude.{◌≡◌, ◌↔◌, ℕ, List, Ok}
-use Rattle.mdp_discount.specs.Cert.{Certificate, Fits}
+use Rattle.mdp_discount_rules.specs.Cert.{Certificate, Fits}
 use Rattle.mdp_discount_text.specs.Spelling.{text_of}
 use Rattle.mdp_discount_text.specs.Text.{outcome}
 

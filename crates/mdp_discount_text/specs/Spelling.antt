@@ -4,7 +4,7 @@ use Rattle.mdp_math.specs.Rational.{ℚ}
 use Rattle.mdp_num.specs.Value.{spelling}
 use Rattle.mdp_rows.specs.declared.dir.Dir.{Dir}
 use Rattle.mdp_text.specs.Spelling.{line, ◌␣◌, quoted, dir_text, states_text, init_text, end_text}
-use Rattle.mdp_discount.specs.Cert.{Certificate}
+use Rattle.mdp_discount_rules.specs.Cert.{Certificate}
 
 abbrev pub version_text : List ℕ
 version_text = codes "mdp-discount 1"

@@ -16,7 +16,7 @@ use Rattle.mdp_text.specs.Words.{first_of, words_behind, whole_at, frac_at, behi
 use Rattle.mdp_text.specs.Heads.{states_at, valued_at}
 use Rattle.mdp_text.specs.Spelling.{end_text}
 use Rattle.mdp_discount_text.specs.Spelling.{version_text}
-use Rattle.mdp_discount.specs.Cert.{Certificate}
+use Rattle.mdp_discount_rules.specs.Cert.{Certificate}
 use Rattle.mdp_discount_text.specs.declared.state_lines.StateLine.{StateLine}
 
 -- ---- the claim

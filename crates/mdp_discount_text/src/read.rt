@@ -1,12 +1,12 @@
 ghost use Rattle.std.specs.Prelude.{◌≡◌, Ok, IfOk, IfErr};
 ghost use Rattle.mdp_text.specs.Answer.{Refuses};
 ghost use Rattle.mdp_text.specs.Lines.{nothing_behind};
-ghost use Rattle.mdp_discount.specs.Plain.{plain};
+ghost use Rattle.mdp_discount_rules.specs.Plain.{plain};
 ghost use Rattle.mdp_discount_text.specs.Text.{outcome};
 
 use crate::head_lines::head_from;
 use crate::state_lines::states_from;
-use mdp_discount::DiscountCert;
+use mdp_discount_rules::DiscountCert;
 use mdp_text::{CertError, CertKind, is_line, next_line, nothing_behind};
 use std::alloc::Global;
 

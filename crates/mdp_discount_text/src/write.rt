@@ -1,10 +1,10 @@
 ghost use Rattle.std.specs.Prelude.{◌≡◌, ◌++◌, OnOk, OnErr};
 ghost use Rattle.mdp_text.specs.Answer.{Keeps};
-ghost use Rattle.mdp_discount.specs.Plain.{plain};
+ghost use Rattle.mdp_discount_rules.specs.Plain.{plain};
 ghost use Rattle.mdp_discount_text.specs.Spelling.{head_text, text_of};
 
 use crate::push::{push_claim, push_remainder, push_states, push_version};
-use mdp_discount::DiscountCert;
+use mdp_discount_rules::DiscountCert;
 use mdp_num::Memory;
 use mdp_text::{push_end, push_init, push_number};
 

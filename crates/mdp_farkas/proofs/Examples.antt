@@ -12,6 +12,9 @@ use Rattle.mdp_farkas.specs.Between.{between_checks}
 use Rattle.mdp_rows.specs.declared.dir.Dir.TheVariants.{Max, Min}
 use Rattle.mdp_farkas.specs.declared.verdict.Verdict.{Verdict}
 use Rattle.mdp_farkas.specs.declared.verdict.Verdict.TheVariants.{Yes, No, Wide}
+use Rattle.mdp_farkas.specs.declared.rule.Rule.TheVariants.{ChoiceExists, GoalValue, Probability, RankFalls, RankZero, ValueOnEachChoice}
+use Rattle.mdp_farkas.specs.declared.rule.Rule.TheVariants.{ValueOnPolicy}
+use Rattle.mdp_farkas.specs.declared.rule.Rule.{Rule}
 
 abbrev row : List Entry → Choice
 row entries = record { row = entries; rewards = [] }
@@ -42,11 +45,11 @@ three = record {
 abbrev goals : List Bool
 goals = false ∷ true ∷ false ∷ []
 
-abbrev fault : ℕ → ℕ → Option ℕ → Verdict
+abbrev fault : Rule → ℕ → Option ℕ → Verdict
 fault rule state choice = No (record { rule = rule; state = Some state; choice = choice })
 
 -- the loop alone carries the value 1 at state 0, so its rank doesn't fall
-loop_alone : verdict_of (reach_checks Max three goals (one ∷ one ∷ zero_ ∷ []) (0 ∷ 0 ∷ 0 ∷ []) (1 ∷ 0 ∷ 0 ∷ [])) ≡ fault 8 0 (Some 0)
+loop_alone : verdict_of (reach_checks Max three goals (one ∷ one ∷ zero_ ∷ []) (0 ∷ 0 ∷ 0 ∷ []) (1 ∷ 0 ∷ 0 ∷ [])) ≡ fault RankFalls 0 (Some 0)
 unfolding gcd gcd_with_fuel ratio of_int lt_ℚ ◌+ℚ◌ ◌*ℚ◌ narrow narrow_ℚ written_add written_mul written_compare
 loop_alone = refl
 
@@ -55,7 +58,7 @@ unfolding gcd gcd_with_fuel ratio of_int lt_ℚ ◌+ℚ◌ ◌*ℚ◌ narrow nar
 greatest = refl
 
 -- the second choice would do better
-too_small : verdict_of (reach_checks Max three goals (zero_ ∷ one ∷ zero_ ∷ []) (0 ∷ 0 ∷ 0 ∷ []) (0 ∷ 0 ∷ 0 ∷ [])) ≡ fault 5 0 (Some 1)
+too_small : verdict_of (reach_checks Max three goals (zero_ ∷ one ∷ zero_ ∷ []) (0 ∷ 0 ∷ 0 ∷ []) (0 ∷ 0 ∷ 0 ∷ [])) ≡ fault ValueOnEachChoice 0 (Some 1)
 unfolding gcd gcd_with_fuel ratio of_int lt_ℚ ◌+ℚ◌ ◌*ℚ◌ narrow narrow_ℚ written_add written_mul written_compare
 too_small = refl
 
@@ -65,17 +68,17 @@ unfolding gcd gcd_with_fuel ratio of_int lt_ℚ ◌+ℚ◌ ◌*ℚ◌ narrow nar
 least = refl
 
 -- a policy that takes a choice that the state has not
-no_such_choice : verdict_of (reach_checks Max three goals (third ∷ one ∷ zero_ ∷ []) (1 ∷ 1 ∷ 0 ∷ []) (1 ∷ 0 ∷ 0 ∷ [])) ≡ fault 2 1 (Some 1)
+no_such_choice : verdict_of (reach_checks Max three goals (third ∷ one ∷ zero_ ∷ []) (1 ∷ 1 ∷ 0 ∷ []) (1 ∷ 0 ∷ 0 ∷ [])) ≡ fault ChoiceExists 1 (Some 1)
 unfolding gcd gcd_with_fuel ratio of_int lt_ℚ ◌+ℚ◌ ◌*ℚ◌ narrow narrow_ℚ written_add written_mul written_compare
 no_such_choice = refl
 
 -- a policy that falls short of the value
-short : verdict_of (reach_checks Max three goals (ratio (pos 1) 2 ∷ one ∷ zero_ ∷ []) (1 ∷ 0 ∷ 0 ∷ []) (1 ∷ 0 ∷ 0 ∷ [])) ≡ fault 6 0 (Some 1)
+short : verdict_of (reach_checks Max three goals (ratio (pos 1) 2 ∷ one ∷ zero_ ∷ []) (1 ∷ 0 ∷ 0 ∷ []) (1 ∷ 0 ∷ 0 ∷ [])) ≡ fault ValueOnPolicy 0 (Some 1)
 unfolding gcd gcd_with_fuel ratio of_int lt_ℚ ◌+ℚ◌ ◌*ℚ◌ narrow narrow_ℚ written_add written_mul written_compare
 short = refl
 
 -- a goal has rank 0
-goal_rank : verdict_of (reach_checks Max three goals (third ∷ one ∷ zero_ ∷ []) (1 ∷ 0 ∷ 0 ∷ []) (2 ∷ 1 ∷ 0 ∷ [])) ≡ fault 7 1 None
+goal_rank : verdict_of (reach_checks Max three goals (third ∷ one ∷ zero_ ∷ []) (1 ∷ 0 ∷ 0 ∷ []) (2 ∷ 1 ∷ 0 ∷ [])) ≡ fault RankZero 1 None
 unfolding gcd gcd_with_fuel ratio of_int lt_ℚ ◌+ℚ◌ ◌*ℚ◌ narrow narrow_ℚ written_add written_mul written_compare
 goal_rank = refl
 
@@ -84,15 +87,15 @@ upper : verdict_of (upper_checks three goals (one ∷ one ∷ zero_ ∷ [])) ≡
 unfolding gcd gcd_with_fuel ratio of_int ◌+ℚ◌ ◌*ℚ◌ narrow narrow_ℚ written_add written_mul written_compare
 upper = refl
 
-no_upper : verdict_of (upper_checks three goals (ratio (pos 1) 4 ∷ one ∷ zero_ ∷ [])) ≡ fault 5 0 (Some 1)
+no_upper : verdict_of (upper_checks three goals (ratio (pos 1) 4 ∷ one ∷ zero_ ∷ [])) ≡ fault ValueOnEachChoice 0 (Some 1)
 unfolding gcd gcd_with_fuel ratio of_int ◌+ℚ◌ ◌*ℚ◌ narrow narrow_ℚ written_add written_mul written_compare
 no_upper = refl
 
-goal_below_one : verdict_of (upper_checks three goals (one ∷ third ∷ zero_ ∷ [])) ≡ fault 4 1 None
+goal_below_one : verdict_of (upper_checks three goals (one ∷ third ∷ zero_ ∷ [])) ≡ fault GoalValue 1 None
 unfolding gcd gcd_with_fuel ratio of_int ◌+ℚ◌ ◌*ℚ◌ narrow narrow_ℚ written_add written_mul written_compare
 goal_below_one = refl
 
-above_one : verdict_of (upper_checks three goals (ratio (pos 3) 2 ∷ one ∷ zero_ ∷ [])) ≡ fault 3 0 None
+above_one : verdict_of (upper_checks three goals (ratio (pos 3) 2 ∷ one ∷ zero_ ∷ [])) ≡ fault Probability 0 None
 unfolding gcd gcd_with_fuel ratio of_int ◌+ℚ◌ ◌*ℚ◌ narrow narrow_ℚ written_add written_mul written_compare
 above_one = refl
 
@@ -114,16 +117,16 @@ unfolding gcd gcd_with_fuel ratio of_int lt_ℚ ◌+ℚ◌ ◌*ℚ◌ narrow nar
 both = refl
 
 -- 1/4 is no upper value, and 1/2 no lower one
-upper_too_small : verdict_of (between_checks Max three goals (zero_ ∷ one ∷ zero_ ∷ []) (ratio (pos 1) 4 ∷ one ∷ zero_ ∷ []) (1 ∷ 0 ∷ 0 ∷ []) (0 ∷ 0 ∷ 0 ∷ [])) ≡ fault 5 0 (Some 1)
+upper_too_small : verdict_of (between_checks Max three goals (zero_ ∷ one ∷ zero_ ∷ []) (ratio (pos 1) 4 ∷ one ∷ zero_ ∷ []) (1 ∷ 0 ∷ 0 ∷ []) (0 ∷ 0 ∷ 0 ∷ [])) ≡ fault ValueOnEachChoice 0 (Some 1)
 unfolding gcd gcd_with_fuel ratio of_int lt_ℚ ◌+ℚ◌ ◌*ℚ◌ narrow narrow_ℚ written_add written_mul written_compare
 upper_too_small = refl
 
-lower_too_great : verdict_of (between_checks Max three goals (ratio (pos 1) 2 ∷ one ∷ zero_ ∷ []) (one ∷ one ∷ zero_ ∷ []) (1 ∷ 0 ∷ 0 ∷ []) (1 ∷ 0 ∷ 0 ∷ [])) ≡ fault 6 0 (Some 1)
+lower_too_great : verdict_of (between_checks Max three goals (ratio (pos 1) 2 ∷ one ∷ zero_ ∷ []) (one ∷ one ∷ zero_ ∷ []) (1 ∷ 0 ∷ 0 ∷ []) (1 ∷ 0 ∷ 0 ∷ [])) ≡ fault ValueOnPolicy 0 (Some 1)
 unfolding gcd gcd_with_fuel ratio of_int lt_ℚ ◌+ℚ◌ ◌*ℚ◌ narrow narrow_ℚ written_add written_mul written_compare
 lower_too_great = refl
 
 -- a lower value above 0 whose policy waits for ever
-lower_waits : verdict_of (between_checks Max three goals (ratio (pos 1) 4 ∷ one ∷ zero_ ∷ []) (one ∷ one ∷ zero_ ∷ []) (0 ∷ 0 ∷ 0 ∷ []) (1 ∷ 0 ∷ 0 ∷ [])) ≡ fault 8 0 (Some 0)
+lower_waits : verdict_of (between_checks Max three goals (ratio (pos 1) 4 ∷ one ∷ zero_ ∷ []) (one ∷ one ∷ zero_ ∷ []) (0 ∷ 0 ∷ 0 ∷ []) (1 ∷ 0 ∷ 0 ∷ [])) ≡ fault RankFalls 0 (Some 0)
 unfolding gcd gcd_with_fuel ratio of_int lt_ℚ ◌+ℚ◌ ◌*ℚ◌ narrow narrow_ℚ written_add written_mul written_compare
 lower_waits = refl
 

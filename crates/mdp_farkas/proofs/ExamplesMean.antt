@@ -12,6 +12,8 @@ use Rattle.mdp_farkas.specs.MeanBetween.{mean_between_checks}
 use Rattle.mdp_rows.specs.declared.dir.Dir.TheVariants.{Max, Min}
 use Rattle.mdp_farkas.specs.declared.verdict.Verdict.{Verdict}
 use Rattle.mdp_farkas.specs.declared.verdict.Verdict.TheVariants.{Yes, No, Wide}
+use Rattle.mdp_farkas.specs.declared.rule.Rule.TheVariants.{BiasOnPolicy, BoundOnEachChoice, ChoiceExists, GainOnEachChoice, GainOnPolicy, SpreadIsGreatest}
+use Rattle.mdp_farkas.specs.declared.rule.Rule.{Rule}
 
 -- n, n/d and -n/d
 abbrev number : ℕ → ℚ
@@ -55,7 +57,7 @@ pay = model (state (to 0 (minus 1 1) ∷ to 1 (minus 5 1) ∷ []) ∷ state (to 
 abbrev two : ℚ → ℚ → List ℚ
 two x y = x ∷ y ∷ []
 
-abbrev fault : ℕ → Option ℕ → Option ℕ → Verdict
+abbrev fault : Rule → Option ℕ → Option ℕ → Verdict
 fault rule s choice = No (record { rule = rule; state = s; choice = choice })
 
 -- both directions: there is nothing to choose
@@ -69,7 +71,7 @@ least_turns = refl
 
 -- another spread
 too_wide_spread : verdict_of (mean_checks Max turns 0 (two (over 1 2) (over 1 2)) (two (number 0) (minus 1 2)) (two (number 0) (minus 1 2)) (number 1) (0 ∷ 0 ∷ []))
-    ≡ fault 20 None None
+    ≡ fault SpreadIsGreatest None None
 unfolding gcd gcd_with_fuel ratio of_int neg_ℚ ◌+ℚ◌ ◌*ℚ◌ narrow narrow_ℚ written_add written_mul written_compare
 too_wide_spread = refl
 
@@ -82,24 +84,24 @@ gambles : gambling (number 2) (minus 2 1) 1 ≡ Yes
 unfolding gcd gcd_with_fuel ratio of_int neg_ℚ ◌+ℚ◌ ◌*ℚ◌ narrow narrow_ℚ written_add written_mul written_compare
 gambles = refl
 
-no_such_choice : gambling (number 2) (minus 2 1) 2 ≡ fault 2 (Some 0) (Some 2)
+no_such_choice : gambling (number 2) (minus 2 1) 2 ≡ fault ChoiceExists (Some 0) (Some 2)
 unfolding gcd gcd_with_fuel ratio of_int neg_ℚ ◌+ℚ◌ ◌*ℚ◌ narrow narrow_ℚ written_add written_mul written_compare
 no_such_choice = refl
 
-gain_too_small : gambling (number 1) (minus 2 1) 1 ≡ fault 16 (Some 0) (Some 1)
+gain_too_small : gambling (number 1) (minus 2 1) 1 ≡ fault GainOnEachChoice (Some 0) (Some 1)
 unfolding gcd gcd_with_fuel ratio of_int neg_ℚ ◌+ℚ◌ ◌*ℚ◌ narrow narrow_ℚ written_add written_mul written_compare
 gain_too_small = refl
 
-gain_too_great : gambling (number 3) (minus 2 1) 1 ≡ fault 18 (Some 0) (Some 1)
+gain_too_great : gambling (number 3) (minus 2 1) 1 ≡ fault GainOnPolicy (Some 0) (Some 1)
 unfolding gcd gcd_with_fuel ratio of_int neg_ℚ ◌+ℚ◌ ◌*ℚ◌ narrow narrow_ℚ written_add written_mul written_compare
 gain_too_great = refl
 
-another_bias : gambling (number 2) (minus 1 1) 1 ≡ fault 19 (Some 0) (Some 1)
+another_bias : gambling (number 2) (minus 1 1) 1 ≡ fault BiasOnPolicy (Some 0) (Some 1)
 unfolding gcd gcd_with_fuel ratio of_int neg_ℚ ◌+ℚ◌ ◌*ℚ◌ narrow narrow_ℚ written_add written_mul written_compare
 another_bias = refl
 
 -- to stay keeps any gain, but it doesn't earn 2
-stays : gambling (number 2) (minus 2 1) 0 ≡ fault 19 (Some 0) (Some 0)
+stays : gambling (number 2) (minus 2 1) 0 ≡ fault BiasOnPolicy (Some 0) (Some 0)
 unfolding gcd gcd_with_fuel ratio of_int neg_ℚ ◌+ℚ◌ ◌*ℚ◌ narrow narrow_ℚ written_add written_mul written_compare
 stays = refl
 
@@ -109,7 +111,7 @@ unfolding gcd gcd_with_fuel ratio of_int neg_ℚ ◌+ℚ◌ ◌*ℚ◌ narrow na
 leaves = refl
 
 no_bound : verdict_of (mean_checks Max leave 0 (two (number 1) (number 1)) (two (number 0) (number 0)) (two (number 0) (number 0)) (number 0) (0 ∷ 0 ∷ []))
-    ≡ fault 17 (Some 0) (Some 1)
+    ≡ fault BoundOnEachChoice (Some 0) (Some 1)
 unfolding gcd gcd_with_fuel ratio of_int neg_ℚ ◌+ℚ◌ ◌*ℚ◌ narrow narrow_ℚ written_add written_mul written_compare
 no_bound = refl
 
@@ -146,10 +148,10 @@ gambles_both : gambling_between (number 2) (number 2) (minus 2 1) 1 ≡ Yes
 unfolding gcd gcd_with_fuel ratio of_int neg_ℚ ◌+ℚ◌ ◌*ℚ◌ narrow narrow_ℚ written_add written_mul written_compare
 gambles_both = refl
 
-upper_too_small : gambling_between (number 1) (number 1) (minus 2 1) 1 ≡ fault 16 (Some 0) (Some 1)
+upper_too_small : gambling_between (number 1) (number 1) (minus 2 1) 1 ≡ fault GainOnEachChoice (Some 0) (Some 1)
 unfolding gcd gcd_with_fuel ratio of_int neg_ℚ ◌+ℚ◌ ◌*ℚ◌ narrow narrow_ℚ written_add written_mul written_compare
 upper_too_small = refl
 
-lower_too_great : gambling_between (number 3) (number 3) (minus 2 1) 1 ≡ fault 18 (Some 0) (Some 1)
+lower_too_great : gambling_between (number 3) (number 3) (minus 2 1) 1 ≡ fault GainOnPolicy (Some 0) (Some 1)
 unfolding gcd gcd_with_fuel ratio of_int neg_ℚ ◌+ℚ◌ ◌*ℚ◌ narrow narrow_ℚ written_add written_mul written_compare
 lower_too_great = refl

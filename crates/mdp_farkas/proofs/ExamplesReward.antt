@@ -12,6 +12,9 @@ use Rattle.mdp_rows.specs.declared.dir.Dir.{Dir}
 use Rattle.mdp_rows.specs.declared.dir.Dir.TheVariants.{Max, Min}
 use Rattle.mdp_farkas.specs.declared.verdict.Verdict.{Verdict}
 use Rattle.mdp_farkas.specs.declared.verdict.Verdict.TheVariants.{Yes, No, Wide}
+use Rattle.mdp_farkas.specs.declared.rule.Rule.TheVariants.{ChoiceExists, EachChoiceMisses, FiniteRankFalls, FiniteTargets, PolicyMisses, RewardNotNegative}
+use Rattle.mdp_farkas.specs.declared.rule.Rule.TheVariants.{RewardOnEachChoice, RewardOnPolicy, RewardValue}
+use Rattle.mdp_farkas.specs.declared.rule.Rule.{Rule}
 
 -- the number n, a value, and a choice that leads to t alone
 abbrev number : ℕ → ℚ
@@ -47,7 +50,7 @@ second = false ∷ true ∷ []
 abbrev third : List Bool
 third = false ∷ false ∷ true ∷ []
 
-abbrev fault : ℕ → ℕ → Option ℕ → Verdict
+abbrev fault : Rule → ℕ → Option ℕ → Verdict
 fault rule s choice = No (record { rule = rule; state = Some s; choice = choice })
 
 -- the verdict on what is said of state 0 of `wait`: its value, choice and rank
@@ -63,29 +66,29 @@ greatest : waiting Max None 0 0 ≡ Yes
 unfolding gcd gcd_with_fuel ratio of_int ◌+ℚ◌ ◌*ℚ◌ narrow narrow_ℚ written_add written_mul written_compare
 greatest = refl
 
-no_such_choice : waiting Min (value 3) 2 1 ≡ fault 2 0 (Some 2)
+no_such_choice : waiting Min (value 3) 2 1 ≡ fault ChoiceExists 0 (Some 2)
 unfolding gcd gcd_with_fuel ratio of_int ◌+ℚ◌ ◌*ℚ◌ narrow narrow_ℚ written_add written_mul written_compare
 no_such_choice = refl
 
-too_great : waiting Min (value 4) 1 1 ≡ fault 11 0 (Some 1)
+too_great : waiting Min (value 4) 1 1 ≡ fault RewardOnEachChoice 0 (Some 1)
 unfolding gcd gcd_with_fuel ratio of_int ◌+ℚ◌ ◌*ℚ◌ narrow narrow_ℚ written_add written_mul written_compare
 too_great = refl
 
-too_small : waiting Min (value 2) 1 1 ≡ fault 12 0 (Some 1)
+too_small : waiting Min (value 2) 1 1 ≡ fault RewardOnPolicy 0 (Some 1)
 unfolding gcd gcd_with_fuel ratio of_int ◌+ℚ◌ ◌*ℚ◌ narrow narrow_ℚ written_add written_mul written_compare
 too_small = refl
 
 -- 3 meets Bellman's equation for the greatest reward too, but the rank doesn't fall along the loop
-waits_for_ever : waiting Max (value 3) 1 1 ≡ fault 13 0 (Some 0)
+waits_for_ever : waiting Max (value 3) 1 1 ≡ fault FiniteRankFalls 0 (Some 0)
 unfolding gcd gcd_with_fuel ratio of_int ◌+ℚ◌ ◌*ℚ◌ narrow narrow_ℚ written_add written_mul written_compare
 waits_for_ever = refl
 
 -- a policy that goes to the goal doesn't miss it, and not each policy does
-doesnt_miss : waiting Max None 1 0 ≡ fault 14 0 (Some 1)
+doesnt_miss : waiting Max None 1 0 ≡ fault PolicyMisses 0 (Some 1)
 unfolding gcd gcd_with_fuel ratio of_int ◌+ℚ◌ ◌*ℚ◌ narrow narrow_ℚ written_add written_mul written_compare
 doesnt_miss = refl
 
-may_arrive : waiting Min None 0 1 ≡ fault 15 0 (Some 1)
+may_arrive : waiting Min None 0 1 ≡ fault EachChoiceMisses 0 (Some 1)
 unfolding gcd gcd_with_fuel ratio of_int ◌+ℚ◌ ◌*ℚ◌ narrow narrow_ℚ written_add written_mul written_compare
 may_arrive = refl
 
@@ -94,12 +97,12 @@ past_the_trap : verdict_of (reward_checks Min trap 0 third (value 4 ∷ None ∷
 unfolding gcd gcd_with_fuel ratio of_int ◌+ℚ◌ ◌*ℚ◌ narrow narrow_ℚ written_add written_mul written_compare
 past_the_trap = refl
 
-into_the_trap : verdict_of (reward_checks Min trap 0 third (value 4 ∷ None ∷ value 0 ∷ []) (0 ∷ 0 ∷ 0 ∷ []) (1 ∷ 1 ∷ 0 ∷ [])) ≡ fault 10 0 (Some 0)
+into_the_trap : verdict_of (reward_checks Min trap 0 third (value 4 ∷ None ∷ value 0 ∷ []) (0 ∷ 0 ∷ 0 ∷ []) (1 ∷ 1 ∷ 0 ∷ [])) ≡ fault FiniteTargets 0 (Some 0)
 unfolding gcd gcd_with_fuel ratio of_int ◌+ℚ◌ ◌*ℚ◌ narrow narrow_ℚ written_add written_mul written_compare
 into_the_trap = refl
 
 -- for the greatest reward no choice may lead there
-may_be_trapped : verdict_of (reward_checks Max trap 0 third (value 4 ∷ None ∷ value 0 ∷ []) (1 ∷ 0 ∷ 0 ∷ []) (1 ∷ 0 ∷ 0 ∷ [])) ≡ fault 10 0 (Some 0)
+may_be_trapped : verdict_of (reward_checks Max trap 0 third (value 4 ∷ None ∷ value 0 ∷ []) (1 ∷ 0 ∷ 0 ∷ []) (1 ∷ 0 ∷ 0 ∷ [])) ≡ fault FiniteTargets 0 (Some 0)
 unfolding gcd gcd_with_fuel ratio of_int ◌+ℚ◌ ◌*ℚ◌ narrow narrow_ℚ written_add written_mul written_compare
 may_be_trapped = refl
 
@@ -108,24 +111,24 @@ unfolding gcd gcd_with_fuel ratio of_int ◌+ℚ◌ ◌*ℚ◌ narrow narrow_ℚ
 trapped = refl
 
 -- a goal has the value 0 and rank 0
-goal_value : verdict_of (reward_checks Max arrived 0 (true ∷ []) (value 1 ∷ []) (0 ∷ []) (0 ∷ [])) ≡ fault 9 0 None
+goal_value : verdict_of (reward_checks Max arrived 0 (true ∷ []) (value 1 ∷ []) (0 ∷ []) (0 ∷ [])) ≡ fault RewardValue 0 None
 unfolding gcd gcd_with_fuel ratio of_int ◌+ℚ◌ ◌*ℚ◌ narrow narrow_ℚ written_add written_mul written_compare
 goal_value = refl
 
-infinite_goal : verdict_of (reward_checks Max arrived 0 (true ∷ []) (None ∷ []) (0 ∷ []) (0 ∷ [])) ≡ fault 9 0 None
+infinite_goal : verdict_of (reward_checks Max arrived 0 (true ∷ []) (None ∷ []) (0 ∷ []) (0 ∷ [])) ≡ fault RewardValue 0 None
 unfolding gcd gcd_with_fuel ratio of_int ◌+ℚ◌ ◌*ℚ◌ narrow narrow_ℚ written_add written_mul written_compare
 infinite_goal = refl
 
-goal_rank : verdict_of (reward_checks Max arrived 0 (true ∷ []) (value 0 ∷ []) (0 ∷ []) (1 ∷ [])) ≡ fault 9 0 None
+goal_rank : verdict_of (reward_checks Max arrived 0 (true ∷ []) (value 0 ∷ []) (0 ∷ []) (1 ∷ [])) ≡ fault RewardValue 0 None
 unfolding gcd gcd_with_fuel ratio of_int ◌+ℚ◌ ◌*ℚ◌ narrow narrow_ℚ written_add written_mul written_compare
 goal_rank = refl
 
-below_zero : verdict_of (reward_checks Max arrived 0 (false ∷ []) (Some (of_int (negsuc 0)) ∷ []) (0 ∷ []) (0 ∷ [])) ≡ fault 9 0 None
+below_zero : verdict_of (reward_checks Max arrived 0 (false ∷ []) (Some (of_int (negsuc 0)) ∷ []) (0 ∷ []) (0 ∷ [])) ≡ fault RewardValue 0 None
 unfolding gcd gcd_with_fuel ratio of_int ◌+ℚ◌ ◌*ℚ◌ narrow narrow_ℚ written_add written_mul written_compare
 below_zero = refl
 
 -- a reward below 0, though no path earns it
-negative : verdict_of (reward_checks Max loss 0 second (value 0 ∷ value 0 ∷ []) (0 ∷ 0 ∷ []) (1 ∷ 0 ∷ [])) ≡ fault 25 1 (Some 0)
+negative : verdict_of (reward_checks Max loss 0 second (value 0 ∷ value 0 ∷ []) (0 ∷ 0 ∷ []) (1 ∷ 0 ∷ [])) ≡ fault RewardNotNegative 1 (Some 0)
 unfolding gcd gcd_with_fuel ratio of_int ◌+ℚ◌ ◌*ℚ◌ narrow narrow_ℚ written_add written_mul written_compare
 negative = refl
 
@@ -149,16 +152,16 @@ least_above : waiting_between Min (value 2) None 1 1 ≡ Yes
 unfolding gcd gcd_with_fuel ratio of_int ◌+ℚ◌ ◌*ℚ◌ narrow narrow_ℚ written_add written_mul written_compare
 least_above = refl
 
-lower_too_great : waiting_between Min (value 4) (value 5) 1 1 ≡ fault 11 0 (Some 1)
+lower_too_great : waiting_between Min (value 4) (value 5) 1 1 ≡ fault RewardOnEachChoice 0 (Some 1)
 unfolding gcd gcd_with_fuel ratio of_int ◌+ℚ◌ ◌*ℚ◌ narrow narrow_ℚ written_add written_mul written_compare
 lower_too_great = refl
 
-upper_too_small : waiting_between Min (value 1) (value 2) 1 1 ≡ fault 12 0 (Some 1)
+upper_too_small : waiting_between Min (value 1) (value 2) 1 1 ≡ fault RewardOnPolicy 0 (Some 1)
 unfolding gcd gcd_with_fuel ratio of_int ◌+ℚ◌ ◌*ℚ◌ narrow narrow_ℚ written_add written_mul written_compare
 upper_too_small = refl
 
 -- an infinite lower value has an infinite upper one
-no_order : waiting_between Max None (value 5) 0 0 ≡ fault 9 0 None
+no_order : waiting_between Max None (value 5) 0 0 ≡ fault RewardValue 0 None
 unfolding gcd gcd_with_fuel ratio of_int ◌+ℚ◌ ◌*ℚ◌ narrow narrow_ℚ written_add written_mul written_compare
 no_order = refl
 
@@ -167,6 +170,6 @@ unfolding gcd gcd_with_fuel ratio of_int ◌+ℚ◌ ◌*ℚ◌ narrow narrow_ℚ
 infinite_between = refl
 
 -- a policy may wait for ever, so the greatest reward isn't finite
-lower_waits_for_ever : waiting_between Max (value 2) None 1 1 ≡ fault 13 0 (Some 0)
+lower_waits_for_ever : waiting_between Max (value 2) None 1 1 ≡ fault FiniteRankFalls 0 (Some 0)
 unfolding gcd gcd_with_fuel ratio of_int ◌+ℚ◌ ◌*ℚ◌ narrow narrow_ℚ written_add written_mul written_compare
 lower_waits_for_ever = refl

@@ -8,6 +8,7 @@ use Rattle.mdp_farkas.specs.Compare.{0ℚ, is_at_least, is_at_most}
 use Rattle.mdp_farkas.specs.Verdict.{Check, at_choice, at_choices}
 use Rattle.mdp_rows.specs.declared.dir.Dir.{Dir}
 use Rattle.mdp_rows.specs.declared.dir.Dir.TheVariants.{Max, Min}
+use Rattle.mdp_farkas.specs.declared.rule.Rule.TheVariants.{ValueOnEachChoice}
 
 -- how a value stands to a sum: at least for Max, at most for Min
 abbrev pub stands : Dir → ℚ → ℚ → Option Bool
@@ -23,7 +24,7 @@ stands_at dir m z s c = sum_stands dir (value_at z s) z 0ℚ (row_at m s c)
 
 -- rule 5
 abbrev pub bound_check : Dir → Mdp → List ℚ → ℕ → ℕ → Check
-bound_check dir m z s c = at_choice 5 s c (stands_at dir m z s c)
+bound_check dir m z s c = at_choice ValueOnEachChoice s c (stands_at dir m z s c)
 
 abbrev pub bound_checks : Dir → Mdp → List ℚ → ℕ → List Check
 bound_checks dir m z s = at_choices m s (bound_check dir m z s)

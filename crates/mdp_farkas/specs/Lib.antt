@@ -9,3 +9,5 @@ pub mod Verdict
 pub mod Between
 pub mod MeanBetween
 pub mod RewardBetween
+pub mod RuleNumber
+pub mod Initial

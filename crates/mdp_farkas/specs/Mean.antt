@@ -22,10 +22,11 @@ use Rattle.mdp_farkas.specs.Reach.{choice_exists}
 use Rattle.mdp_farkas.specs.Spread.{written_spread}
 use Rattle.mdp_rows.specs.declared.dir.Dir.{Dir}
 use Rattle.mdp_rows.specs.declared.dir.Dir.TheVariants.{Max, Min}
+use Rattle.mdp_farkas.specs.declared.rule.Rule.TheVariants.{BiasOnPolicy, BoundOnEachChoice, GainOnEachChoice, GainOnPolicy, SpreadIsGreatest}
 
 -- rule 16
 abbrev pub gain_check : Dir → Mdp → List ℚ → ℕ → ℕ → Check
-gain_check dir m g s c = at_choice 16 s c (stands_at dir m g s c)
+gain_check dir m g s c = at_choice GainOnEachChoice s c (stands_at dir m g s c)
 
 -- the gain and a relative value of state s together
 abbrev pub written_step : List ℚ → List ℚ → ℕ → Option ℚ
@@ -36,25 +37,25 @@ abbrev pub bound_stands : Dir → Mdp → ℕ → List ℚ → List ℚ → ℕ 
 bound_stands dir m r g a s c = written_step g a s >>= λ step. sum_stands dir step a (reward_of (choice_at m s c) r) (row_at m s c)
 
 abbrev pub relative_check : Dir → Mdp → ℕ → List ℚ → List ℚ → ℕ → ℕ → Check
-relative_check dir m r g a s c = at_choice 17 s c (bound_stands dir m r g a s c)
+relative_check dir m r g a s c = at_choice BoundOnEachChoice s c (bound_stands dir m r g a s c)
 
 -- rule 18
 abbrev pub keeps_gain : Mdp → List ℚ → ℕ → ℕ → Option Bool
 keeps_gain m g s c = written_sum g 0ℚ (row_at m s c) >>= is_equal (value_at g s)
 
 abbrev pub policy_gain_check : Mdp → List ℚ → ℕ → ℕ → Check
-policy_gain_check m g s choice = at_choice 18 s choice (keeps_gain m g s choice)
+policy_gain_check m g s choice = at_choice GainOnPolicy s choice (keeps_gain m g s choice)
 
 -- rule 19
 abbrev pub earns_gain : Mdp → ℕ → List ℚ → List ℚ → ℕ → ℕ → Option Bool
 earns_gain m r g b s c = written_step g b s >>= λ step. written_sum b (reward_of (choice_at m s c) r) (row_at m s c) >>= is_equal step
 
 abbrev pub policy_bias_check : Mdp → ℕ → List ℚ → List ℚ → ℕ → ℕ → Check
-policy_bias_check m r g b s choice = at_choice 19 s choice (earns_gain m r g b s choice)
+policy_bias_check m r g b s choice = at_choice BiasOnPolicy s choice (earns_gain m r g b s choice)
 
 -- rule 20
 abbrev pub spread_check : List ℚ → List ℚ → ℚ → Check
-spread_check a b spread = record { rule = 20; state = None; choice = None; holds = written_spread a b >>= is_equal spread }
+spread_check a b spread = record { rule = SpreadIsGreatest; state = None; choice = None; holds = written_spread a b >>= is_equal spread }
 
 -- all rules at state s, where the policy takes this choice
 abbrev pub mean_checks_at : Dir → Mdp → ℕ → List ℚ → List ℚ → List ℚ → ℕ → ℕ → List Check

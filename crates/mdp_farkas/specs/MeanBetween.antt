@@ -16,6 +16,7 @@ use Rattle.mdp_farkas.specs.Mean.{gain_check, relative_check, bound_stands, spre
 use Rattle.mdp_farkas.specs.Between.{covering, followed}
 use Rattle.mdp_rows.specs.declared.dir.Dir.{Dir}
 use Rattle.mdp_rows.specs.declared.dir.Dir.TheVariants.{Max, Min}
+use Rattle.mdp_farkas.specs.declared.rule.Rule.TheVariants.{BiasOnPolicy, GainOnPolicy}
 
 -- rules 16 and 17
 abbrev pub gains_cover : Dir → Mdp → ℕ → List ℚ → List ℚ → ℕ → List Check
@@ -23,11 +24,11 @@ gains_cover dir m r g a s = at_choices m s (gain_check dir m g s) ++ at_choices 
 
 -- rule 18
 abbrev pub follow_gain_check : Dir → Mdp → List ℚ → ℕ → ℕ → Check
-follow_gain_check dir m g s choice = at_choice 18 s choice (stands_at (other dir) m g s choice)
+follow_gain_check dir m g s choice = at_choice GainOnPolicy s choice (stands_at (other dir) m g s choice)
 
 -- rule 19
 abbrev pub follow_bias_check : Dir → Mdp → ℕ → List ℚ → List ℚ → ℕ → ℕ → Check
-follow_bias_check dir m r g b s choice = at_choice 19 s choice (bound_stands (other dir) m r g b s choice)
+follow_bias_check dir m r g b s choice = at_choice BiasOnPolicy s choice (bound_stands (other dir) m r g b s choice)
 
 abbrev pub gains_follow : Dir → Mdp → ℕ → List ℚ → List ℚ → ℕ → ℕ → List Check
 gains_follow dir m r g b s choice = follow_gain_check dir m g s choice ∷ follow_bias_check dir m r g b s choice ∷ []

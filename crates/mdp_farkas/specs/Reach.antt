@@ -20,10 +20,11 @@ use Rattle.mdp_farkas.specs.Bellman.{stands_at, bound_checks}
 use Rattle.mdp_farkas.specs.Upper.{probability_checks, goal_check}
 use Rattle.mdp_rows.specs.declared.dir.Dir.{Dir}
 use Rattle.mdp_rows.specs.declared.dir.Dir.TheVariants.{Max, Min}
+use Rattle.mdp_farkas.specs.declared.rule.Rule.TheVariants.{ChoiceExists, RankFalls, RankZero, ValueOnPolicy}
 
 -- rule 2
 abbrev pub choice_exists : Mdp → ℕ → ℕ → Check
-choice_exists m s choice = at_choice 2 s choice (Some (nat_lt choice (length (choices_at m s))))
+choice_exists m s choice = at_choice ChoiceExists s choice (Some (nat_lt choice (length (choices_at m s))))
 
 -- the other direction
 abbrev pub other : Dir → Dir
@@ -32,7 +33,7 @@ other Min = Max
 
 -- rule 6
 abbrev pub policy_check : Dir → Mdp → List ℚ → ℕ → ℕ → Check
-policy_check dir m z s choice = at_choice 6 s choice (stands_at (other dir) m z s choice)
+policy_check dir m z s choice = at_choice ValueOnPolicy s choice (stands_at (other dir) m z s choice)
 
 abbrev pub value_checks : Dir → Mdp → List Bool → List ℚ → ℕ → ℕ → List Check
 value_checks dir m goals z s choice = if is_marked goals s then goal_check z s ∷ [] else bound_checks dir m z s ++ policy_check dir m z s choice ∷ []
@@ -43,7 +44,7 @@ ends goals z s = is_marked goals s || not (lt_ℚ 0ℚ (value_at z s))
 
 -- rule 7
 abbrev pub rank_check : List ℕ → ℕ → Check
-rank_check ranks s = at_state 7 s (Some (slice_index ranks s == 0))
+rank_check ranks s = at_state RankZero s (Some (slice_index ranks s == 0))
 
 -- whether target t of a row of state s leads on
 abbrev pub leads_down : Dir → List ℚ → List ℕ → ℕ → ℕ → Bool
@@ -52,7 +53,7 @@ leads_down Min z ranks s t = nat_lt (slice_index ranks t) (slice_index ranks s)
 
 -- rule 8
 abbrev pub fall_check : Dir → Mdp → List ℚ → List ℕ → ℕ → ℕ → Check
-fall_check dir m z ranks s c = at_choice 8 s c (Some (list_any (λ y. leads_down dir z ranks s y.target) (row_at m s c)))
+fall_check dir m z ranks s c = at_choice RankFalls s c (Some (list_any (λ y. leads_down dir z ranks s y.target) (row_at m s c)))
 
 abbrev pub fall_checks : Dir → Mdp → List ℚ → List ℕ → ℕ → ℕ → List Check
 fall_checks Max m z ranks s choice = fall_check Max m z ranks s choice ∷ []

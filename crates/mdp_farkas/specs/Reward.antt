@@ -30,6 +30,8 @@ use Rattle.mdp_farkas.specs.Bellman.{sum_stands}
 use Rattle.mdp_farkas.specs.Reach.{choice_exists, other}
 use Rattle.mdp_rows.specs.declared.dir.Dir.{Dir}
 use Rattle.mdp_rows.specs.declared.dir.Dir.TheVariants.{Max, Min}
+use Rattle.mdp_farkas.specs.declared.rule.Rule.TheVariants.{EachChoiceMisses, FiniteRankFalls, FiniteTargets, PolicyMisses, RewardNotNegative, RewardOnEachChoice}
+use Rattle.mdp_farkas.specs.declared.rule.Rule.TheVariants.{RewardOnPolicy, RewardValue}
 
 -- ---- rule 9
 
@@ -42,10 +44,10 @@ is_zero None = Some false
 is_zero (Some x) = is_equal x 0ℚ
 
 abbrev pub nonneg_check : List (Option ℚ) → ℕ → Check
-nonneg_check v s = at_state 9 s (is_nonneg (reward_at v s))
+nonneg_check v s = at_state RewardValue s (is_nonneg (reward_at v s))
 
 abbrev pub goal_checks : List (Option ℚ) → List ℕ → ℕ → List Check
-goal_checks v ranks s = at_state 9 s (is_zero (reward_at v s)) ∷ at_state 9 s (Some (slice_index ranks s == 0)) ∷ []
+goal_checks v ranks s = at_state RewardValue s (is_zero (reward_at v s)) ∷ at_state RewardValue s (Some (slice_index ranks s == 0)) ∷ []
 
 -- ---- a state of finite value that is no goal
 
@@ -54,7 +56,7 @@ abbrev pub stays_finite : Mdp → List (Option ℚ) → ℕ → ℕ → Bool
 stays_finite m v s c = list_all (λ y. not (is_marked (infinite v) y.target)) (row_at m s c)
 
 abbrev pub stay_check : Mdp → List (Option ℚ) → ℕ → ℕ → Check
-stay_check m v s c = at_choice 10 s c (Some (stays_finite m v s c))
+stay_check m v s c = at_choice FiniteTargets s c (Some (stays_finite m v s c))
 
 abbrev pub stay_checks : Dir → Mdp → List (Option ℚ) → ℕ → ℕ → List Check
 stay_checks Max m v s choice = at_choices m s (stay_check m v s)
@@ -71,21 +73,21 @@ is_looked_at Min m v s c = stays_finite m v s c
 
 -- rule 11
 abbrev pub earning_check : Dir → Mdp → ℕ → List (Option ℚ) → ℕ → ℕ → Check
-earning_check dir m r v s c = at_choice 11 s c (earning_stands dir m r v s c)
+earning_check dir m r v s c = at_choice RewardOnEachChoice s c (earning_stands dir m r v s c)
 
 abbrev pub earning_checks : Dir → Mdp → ℕ → List (Option ℚ) → ℕ → List Check
 earning_checks dir m r v s = flat_map (λ c. if is_looked_at dir m v s c then earning_check dir m r v s c ∷ [] else []) (range_with_len 0 (length (choices_at m s)))
 
 -- rule 12
 abbrev pub policy_earning_check : Dir → Mdp → ℕ → List (Option ℚ) → ℕ → ℕ → Check
-policy_earning_check dir m r v s choice = at_choice 12 s choice (earning_stands (other dir) m r v s choice)
+policy_earning_check dir m r v s choice = at_choice RewardOnPolicy s choice (earning_stands (other dir) m r v s choice)
 
 -- rule 13
 abbrev pub falls : Mdp → List ℕ → ℕ → ℕ → Bool
 falls m ranks s c = list_any (λ y. nat_lt (slice_index ranks y.target) (slice_index ranks s)) (row_at m s c)
 
 abbrev pub rank_fall_check : Mdp → List ℕ → ℕ → ℕ → Check
-rank_fall_check m ranks s c = at_choice 13 s c (Some (falls m ranks s c))
+rank_fall_check m ranks s c = at_choice FiniteRankFalls s c (Some (falls m ranks s c))
 
 abbrev pub rank_fall_checks : Dir → Mdp → List ℕ → ℕ → ℕ → List Check
 rank_fall_checks Max m ranks s choice = at_choices m s (rank_fall_check m ranks s)
@@ -105,11 +107,11 @@ stays_infinite m v ranks s c = list_all (λ y. is_marked (infinite v) y.target &
 
 -- rule 14
 abbrev pub miss_check : Mdp → List (Option ℚ) → List ℕ → ℕ → ℕ → Check
-miss_check m v ranks s c = at_choice 14 s c (Some (falls_infinite m v ranks s c || ((slice_index ranks s == 0) && stays_infinite m v ranks s c)))
+miss_check m v ranks s c = at_choice PolicyMisses s c (Some (falls_infinite m v ranks s c || ((slice_index ranks s == 0) && stays_infinite m v ranks s c)))
 
 -- rule 15
 abbrev pub all_miss_check : Mdp → List (Option ℚ) → List ℕ → ℕ → ℕ → Check
-all_miss_check m v ranks s c = at_choice 15 s c (Some (falls_infinite m v ranks s c || stays_infinite m v ranks s c))
+all_miss_check m v ranks s c = at_choice EachChoiceMisses s c (Some (falls_infinite m v ranks s c || stays_infinite m v ranks s c))
 
 abbrev pub infinite_checks : Dir → Mdp → List (Option ℚ) → List ℕ → ℕ → ℕ → List Check
 infinite_checks Max m v ranks s choice = miss_check m v ranks s choice ∷ []
@@ -124,7 +126,7 @@ place_checks dir m r goals v ranks s choice =
 
 -- rule 25
 abbrev pub sign_check : Mdp → ℕ → ℕ → ℕ → Check
-sign_check m r s c = at_choice 25 s c (is_at_least (reward_of (choice_at m s c) r) 0ℚ)
+sign_check m r s c = at_choice RewardNotNegative s c (is_at_least (reward_of (choice_at m s c) r) 0ℚ)
 
 abbrev pub sign_checks : Mdp → ℕ → ℕ → List Check
 sign_checks m r s = at_choices m s (sign_check m r s)

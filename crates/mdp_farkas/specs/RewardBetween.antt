@@ -22,10 +22,11 @@ use Rattle.mdp_farkas.specs.Reach.{choice_exists}
 use Rattle.mdp_farkas.specs.Reward.{nonneg_check, goal_checks, stay_checks, earning_checks, policy_earning_check, rank_fall_checks, infinite_checks, sign_checks}
 use Rattle.mdp_rows.specs.declared.dir.Dir.{Dir}
 use Rattle.mdp_rows.specs.declared.dir.Dir.TheVariants.{Max, Min}
+use Rattle.mdp_farkas.specs.declared.rule.Rule.TheVariants.{RewardValue}
 
 -- rule 9, of both values
 abbrev pub order_check : List (Option ℚ) → List (Option ℚ) → ℕ → Check
-order_check lower upper s = at_state 9 s (Some (not (is_marked (infinite lower) s) || is_marked (infinite upper) s))
+order_check lower upper s = at_state RewardValue s (Some (not (is_marked (infinite lower) s) || is_marked (infinite upper) s))
 
 -- whether the half on each choice is asked of the lower values, or of the upper ones
 abbrev pub lower_on_each : Dir → Bool

@@ -13,14 +13,15 @@ use Rattle.mdp_farkas.specs.Verdict.{Check, InWidth, at_state}
 use Rattle.mdp_farkas.specs.Bellman.{bound_checks}
 use Rattle.mdp_rows.specs.declared.dir.Dir.{Dir}
 use Rattle.mdp_rows.specs.declared.dir.Dir.TheVariants.{Max}
+use Rattle.mdp_farkas.specs.declared.rule.Rule.TheVariants.{GoalValue, Probability}
 
 -- rule 3
 abbrev pub probability_checks : List ℚ → ℕ → List Check
-probability_checks z s = at_state 3 s (is_at_least (value_at z s) 0ℚ) ∷ at_state 3 s (is_at_most (value_at z s) 1ℚ) ∷ []
+probability_checks z s = at_state Probability s (is_at_least (value_at z s) 0ℚ) ∷ at_state Probability s (is_at_most (value_at z s) 1ℚ) ∷ []
 
 -- rule 4
 abbrev pub goal_check : List ℚ → ℕ → Check
-goal_check z s = at_state 4 s (is_equal (value_at z s) 1ℚ)
+goal_check z s = at_state GoalValue s (is_equal (value_at z s) 1ℚ)
 
 -- rule 3, at a goal rule 4, and elsewhere the rest
 abbrev pub values_at : List Bool → List ℚ → ℕ → List Check → List Check

@@ -4,6 +4,7 @@ use Rattle.std.specs.List.{range_with_len}
 use Rattle.std.specs.Option.{IsSome}
 use Rattle.mdp_math.specs.Result.{◌>>=◌}
 use Rattle.mdp_spec.specs.Mdp.{Mdp, choices_at}
+use Rattle.mdp_farkas.specs.declared.rule.Rule.{Rule}
 use Rattle.mdp_farkas.specs.declared.verdict.Verdict.{Verdict}
 use Rattle.mdp_farkas.specs.declared.verdict.Verdict.TheVariants.{Yes, No, Wide}
 use Rattle.mdp_farkas.specs.declared.verdict.Objection.{Objection}
@@ -11,16 +12,16 @@ use Rattle.mdp_farkas.specs.declared.verdict.Objection.TheVariants.{Broken, Past
 
 -- a check of a rule at a place: whether it holds, or nothing where one of its written terms is past width
 pub record Check : Type 0 where
-  pub rule : ℕ
+  pub rule : Rule
   pub state : Option ℕ
   pub choice : Option ℕ
   pub holds : Option Bool
 
 -- a check at a state, and one at a choice of a state
-abbrev pub at_state : ℕ → ℕ → Option Bool → Check
+abbrev pub at_state : Rule → ℕ → Option Bool → Check
 at_state rule s holds = record { rule = rule; state = Some s; choice = None; holds = holds }
 
-abbrev pub at_choice : ℕ → ℕ → ℕ → Option Bool → Check
+abbrev pub at_choice : Rule → ℕ → ℕ → Option Bool → Check
 at_choice rule s c holds = record { rule = rule; state = Some s; choice = Some c; holds = holds }
 
 -- one check for each choice of state s

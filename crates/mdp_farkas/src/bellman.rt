@@ -6,6 +6,7 @@ ghost use Rattle.mdp_farkas.specs.Bellman.{stands, sum_stands, stands_at, bound_
 ghost use Rattle.mdp_farkas.specs.Verdict.{objection_to};
 
 use crate::compare::{at_least, at_most};
+use crate::rule::Rule;
 use crate::verdict::{Objection, judged};
 use crate::walk::each_choice;
 use mdp_num::{Frac, Wide};
@@ -65,7 +66,12 @@ fn bound_at(model: &Model, dir: Dir, values: &[Frac], s: u32, c: u32) -> Result<
     requires choice { c < length (choices_at model.now s) }
     ensures { result ≡ objection_to (bound_check dir model.now values.now s c ∷ []) }
 {
-    judged(choice_stands(model, dir, values, s, c), 5, s, Some(c))
+    judged(
+        choice_stands(model, dir, values, s, c),
+        Rule::ValueOnEachChoice,
+        s,
+        Some(c),
+    )
 }
 
 /// The inequality at each choice of state `s`.

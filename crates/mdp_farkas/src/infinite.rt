@@ -4,6 +4,7 @@ ghost use Rattle.mdp_farkas.specs.Reward.{miss_check, all_miss_check, infinite_c
 ghost use Rattle.mdp_farkas.specs.Verdict.{objection_to, at_choices};
 
 use crate::falls::{falls_infinite_at, stays_infinite_at};
+use crate::rule::Rule;
 use crate::verdict::{Objection, judged};
 use crate::walk::each_choice;
 use mdp_num::Frac;
@@ -26,7 +27,7 @@ fn policy_misses(
 {
     let misses = falls_infinite_at(model, values, ranks, s, choice)
         || (ranks[s as usize] == 0 && stays_infinite_at(model, values, ranks, s, choice));
-    judged(Ok(misses), 14, s, Some(choice))
+    judged(Ok(misses), Rule::PolicyMisses, s, Some(choice))
 }
 
 /// An entry of the row of choice `c` leads to an infinite value of smaller rank, or each entry to one of this rank.
@@ -45,7 +46,7 @@ fn choice_misses(
 {
     let misses = falls_infinite_at(model, values, ranks, s, c)
         || stays_infinite_at(model, values, ranks, s, c);
-    judged(Ok(misses), 15, s, Some(c))
+    judged(Ok(misses), Rule::EachChoiceMisses, s, Some(c))
 }
 
 /// Each choice misses the goals with some chance.

@@ -10,6 +10,7 @@ ghost use Rattle.mdp_rows.specs.declared.dir.Dir.TheVariants.{Max, Min};
 use crate::bellman::{choice_stands, row_stands};
 use crate::compare::equal;
 use crate::reach::choice_at;
+use crate::rule::Rule;
 use crate::spread::spread_of;
 use crate::verdict::{Objection, Verdict, judged, judged_at, verdict_after};
 use crate::walk::{each_below, each_choice};
@@ -34,7 +35,12 @@ fn gain_at(model: &Model, dir: Dir, gains: &[Frac], s: u32, c: u32) -> Result<()
     requires choice { c < length (choices_at model.now s) }
     ensures { result ≡ objection_to (gain_check dir model.now gains.now s c ∷ []) }
 {
-    judged(choice_stands(model, dir, gains, s, c), 16, s, Some(c))
+    judged(
+        choice_stands(model, dir, gains, s, c),
+        Rule::GainOnEachChoice,
+        s,
+        Some(c),
+    )
 }
 
 /// The same of each choice.
@@ -101,7 +107,7 @@ fn bound_at(
 {
     judged(
         bound_stands_at(model, m, dir, gains, bound, s, c),
-        17,
+        Rule::BoundOnEachChoice,
         s,
         Some(c),
     )
@@ -174,9 +180,9 @@ fn policy_at(
     ensures { result ≡ objection_to (policy_gain_check model.now gains.now s choice ∷ policy_bias_check model.now m gains.now bias.now s choice ∷ []) }
 {
     let keeps = keeps_gain_at(model, gains, s, choice);
-    judged(keeps, 18, s, Some(choice))?;
+    judged(keeps, Rule::GainOnPolicy, s, Some(choice))?;
     let earns = earns_gain_at(model, m, gains, bias, s, choice);
-    judged(earns, 19, s, Some(choice))
+    judged(earns, Rule::BiasOnPolicy, s, Some(choice))
 }
 
 /// The rules at state `s`, where the policy takes this choice.
@@ -246,7 +252,12 @@ fn mean_walk(model: &Model, m: u32, dir: Dir, cert: &MeanCert) -> Result<(), Obj
     let bound = cert.bound.as_slice();
     let bias = cert.bias.as_slice();
     mean_at_states(model, m, dir, gains, bound, bias, cert.choices.as_slice())?;
-    judged_at(spread_holds(bound, bias, &cert.spread), 20, None, None)
+    judged_at(
+        spread_holds(bound, bias, &cert.spread),
+        Rule::SpreadIsGreatest,
+        None,
+        None,
+    )
 }
 
 /// Whether the gains are the greatest, or the least, mean payoffs of the reward name of place `m`, and the policy one that earns them: what

@@ -10,6 +10,7 @@ ghost use Rattle.mdp_rows.specs.declared.dir.Dir.TheVariants.{Max, Min};
 use crate::bellman::choice_stands;
 use crate::mean::{bound_stands_at, bounds_at_state, gains_at_state, spread_holds};
 use crate::reach::{choice_at, reversed};
+use crate::rule::Rule;
 use crate::verdict::{Objection, Verdict, judged, judged_at, verdict_after};
 use crate::walk::each_below;
 use mdp_num::Frac;
@@ -87,9 +88,9 @@ fn follow_at_state(
     ensures { result ≡ objection_to (gains_follow dir model.now m gains.now bias.now s choice) }
 {
     let keeps = choice_stands(model, reversed(dir), gains, s, choice);
-    judged(keeps, 18, s, Some(choice))?;
+    judged(keeps, Rule::GainOnPolicy, s, Some(choice))?;
     let earns = bound_stands_at(model, m, reversed(dir), gains, bias, s, choice);
-    judged(earns, 19, s, Some(choice))
+    judged(earns, Rule::BiasOnPolicy, s, Some(choice))
 }
 
 /// Those of the half on the policy's choice.
@@ -205,7 +206,12 @@ fn mean_between_walk(
         bias,
         cert.choices.as_slice(),
     )?;
-    judged_at(spread_holds(bound, bias, &cert.spread), 20, None, None)
+    judged_at(
+        spread_holds(bound, bias, &cert.spread),
+        Rule::SpreadIsGreatest,
+        None,
+        None,
+    )
 }
 
 /// Whether the greatest, or the least, mean payoffs of the reward name of place `m` lie between the gains, and those of the policy too: what

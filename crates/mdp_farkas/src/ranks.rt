@@ -8,6 +8,7 @@ ghost use Rattle.mdp_farkas.specs.Reach.{ends, leads_down, rank_check, fall_chec
 ghost use Rattle.mdp_farkas.specs.Verdict.{objection_to};
 ghost use Rattle.mdp_rows.specs.declared.dir.Dir.TheVariants.{Min};
 
+use crate::rule::Rule;
 use crate::verdict::{Objection, judged};
 use crate::walk::each_choice;
 use mdp_num::Frac;
@@ -75,7 +76,7 @@ fn fall_at(
 {
     judged(
         Ok(row_leads_on(model.row(s, c), dir, values, ranks, s)),
-        8,
+        Rule::RankFalls,
         s,
         Some(c),
     )
@@ -109,7 +110,7 @@ pub fn rank_at_state(
     ensures { result ≡ objection_to (rank_checks dir model.now goals.now values.now ranks.now s choice) }
 {
     if ends_at(goals, values, s) {
-        return judged(Ok(ranks[s as usize] == 0), 7, s, None);
+        return judged(Ok(ranks[s as usize] == 0), Rule::RankZero, s, None);
     }
     match dir {
         Dir::Max => fall_at(model, dir, values, ranks, s, choice),

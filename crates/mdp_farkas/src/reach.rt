@@ -7,6 +7,7 @@ ghost use Rattle.mdp_spec.specs.Bounds.{ReachMax, ReachMin};
 
 use crate::bellman::{bounds_at_state, choice_stands};
 use crate::ranks::rank_at_state;
+use crate::rule::Rule;
 use crate::upper::{goal_at, probability_at};
 use crate::verdict::{Objection, Verdict, judged, verdict_after};
 use crate::walk::each_below;
@@ -36,7 +37,12 @@ pub fn choice_at(model: &Model, s: u32, choice: u32) -> Result<(), Objection>
     requires { s < states_of model.now }
     ensures { result ≡ objection_to (choice_exists model.now s choice ∷ []) }
 {
-    judged(Ok(choice < model.choices(s)), 2, s, Some(choice))
+    judged(
+        Ok(choice < model.choices(s)),
+        Rule::ChoiceExists,
+        s,
+        Some(choice),
+    )
 }
 
 /// Bellman's inequality the other way round, for the choice of the policy.
@@ -54,7 +60,7 @@ pub(crate) fn policy_meets(
 {
     judged(
         choice_stands(model, reversed(dir), values, s, choice),
-        6,
+        Rule::ValueOnPolicy,
         s,
         Some(choice),
     )

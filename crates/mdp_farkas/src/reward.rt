@@ -11,6 +11,7 @@ use crate::compare::{at_least, equal};
 use crate::finite::is_infinite_at;
 use crate::infinite::infinite_state;
 use crate::reach::choice_at;
+use crate::rule::Rule;
 use crate::transient::transient_state;
 use crate::verdict::{Objection, Verdict, judged, verdict_after};
 use crate::walk::{each_below, each_choice};
@@ -51,7 +52,12 @@ pub(crate) fn nonneg_at(values: &[Option<Frac>], s: u32) -> Result<(), Objection
     requires { s < length values.now }
     ensures { result ≡ objection_to (nonneg_check values.now s ∷ []) }
 {
-    judged(at_least_zero(values[s as usize]), 9, s, None)
+    judged(
+        at_least_zero(values[s as usize]),
+        Rule::RewardValue,
+        s,
+        None,
+    )
 }
 
 /// The goal `s` has the value 0 and rank 0.
@@ -60,8 +66,13 @@ pub(crate) fn goal_state(values: &[Option<Frac>], ranks: &[u32], s: u32) -> Resu
     requires ranks { s < length ranks.now }
     ensures { result ≡ objection_to (goal_checks values.now ranks.now s) }
 {
-    judged(equal_to_zero(values[s as usize]), 9, s, None)?;
-    judged(Ok(ranks[s as usize] == 0), 9, s, None)
+    judged(
+        equal_to_zero(values[s as usize]),
+        Rule::RewardValue,
+        s,
+        None,
+    )?;
+    judged(Ok(ranks[s as usize] == 0), Rule::RewardValue, s, None)
 }
 
 /// The rules of a goal, of a state of infinite value or of another one, as state `s` is.
@@ -101,7 +112,7 @@ fn sign_at(model: &Model, m: u32, s: u32, c: u32) -> Result<(), Objection>
 {
     judged(
         at_least(&model.reward(m, s, c), &Frac::whole(0)),
-        25,
+        Rule::RewardNotNegative,
         s,
         Some(c),
     )

@@ -11,6 +11,7 @@ use crate::finite::is_infinite_at;
 use crate::infinite::infinite_state;
 use crate::reach::choice_at;
 use crate::reward::{goal_state, nonneg_at, signs_at_state};
+use crate::rule::Rule;
 use crate::transient::{earnings_at_state, policy_earns, rank_falls_at_state, stays_at_state};
 use crate::verdict::{Objection, Verdict, judged, verdict_after};
 use crate::walk::each_below;
@@ -34,7 +35,7 @@ pub fn order_at(lower: &[Option<Frac>], upper: &[Option<Frac>], s: u32) -> Resul
     ensures { result ≡ objection_to (order_check lower.now upper.now s ∷ []) }
 {
     let ordered = !is_infinite_at(lower, s) || is_infinite_at(upper, s);
-    judged(Ok(ordered), 9, s, None)
+    judged(Ok(ordered), Rule::RewardValue, s, None)
 }
 
 /// The half of the rules of a finite value that is asked of the lower one.

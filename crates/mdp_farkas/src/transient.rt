@@ -9,6 +9,7 @@ use crate::bellman::value_stands;
 use crate::falls::falls_at;
 use crate::finite::{finite_at, finite_sum, stays_finite_at};
 use crate::reach::reversed;
+use crate::rule::Rule;
 use crate::verdict::{Objection, judged};
 use crate::walk::{each_below, each_choice};
 use mdp_num::{Frac, Wide};
@@ -21,7 +22,12 @@ fn stay_at(model: &Model, values: &[Option<Frac>], s: u32, c: u32) -> Result<(),
     requires choice { c < length (choices_at model.now s) }
     ensures { result ≡ objection_to (stay_check model.now values.now s c ∷ []) }
 {
-    judged(Ok(stays_finite_at(model, values, s, c)), 10, s, Some(c))
+    judged(
+        Ok(stays_finite_at(model, values, s, c)),
+        Rule::FiniteTargets,
+        s,
+        Some(c),
+    )
 }
 
 /// The same of each choice.
@@ -105,7 +111,7 @@ fn earning_at(
     }
     judged(
         earning_stands_at(model, m, dir, values, s, c),
-        11,
+        Rule::RewardOnEachChoice,
         s,
         Some(c),
     )
@@ -146,7 +152,7 @@ pub(crate) fn policy_earns(
 {
     judged(
         earning_stands_at(model, m, reversed(dir), values, s, choice),
-        12,
+        Rule::RewardOnPolicy,
         s,
         Some(choice),
     )
@@ -159,7 +165,12 @@ fn rank_fall_at(model: &Model, ranks: &[u32], s: u32, c: u32) -> Result<(), Obje
     requires choice { c < length (choices_at model.now s) }
     ensures { result ≡ objection_to (rank_fall_check model.now ranks.now s c ∷ []) }
 {
-    judged(Ok(falls_at(model, ranks, s, c)), 13, s, Some(c))
+    judged(
+        Ok(falls_at(model, ranks, s, c)),
+        Rule::FiniteRankFalls,
+        s,
+        Some(c),
+    )
 }
 
 /// The same of each choice.

@@ -6,6 +6,7 @@ ghost use Rattle.mdp_spec.specs.Bounds.{Above};
 
 use crate::bellman::bounds_at_state;
 use crate::compare::{at_least, at_most, equal};
+use crate::rule::Rule;
 use crate::verdict::{Objection, Verdict, judged, verdict_after};
 use crate::walk::each_below;
 use mdp_num::Frac;
@@ -23,8 +24,13 @@ pub(crate) fn probability_at(values: &[Frac], s: u32) -> Result<(), Objection>
     ensures { result ≡ objection_to (probability_checks values.now s) }
 {
     let value = values[s as usize];
-    judged(at_least(&value, &Frac::whole(0)), 3, s, None)?;
-    judged(at_most(&value, &Frac::whole(1)), 3, s, None)
+    judged(
+        at_least(&value, &Frac::whole(0)),
+        Rule::Probability,
+        s,
+        None,
+    )?;
+    judged(at_most(&value, &Frac::whole(1)), Rule::Probability, s, None)
 }
 
 /// The value of the goal `s` is 1.
@@ -32,7 +38,12 @@ pub(crate) fn goal_at(values: &[Frac], s: u32) -> Result<(), Objection>
     requires { s < length values.now }
     ensures { result ≡ objection_to (goal_check values.now s ∷ []) }
 {
-    judged(equal(&values[s as usize], &Frac::whole(1)), 4, s, None)
+    judged(
+        equal(&values[s as usize], &Frac::whole(1)),
+        Rule::GoalValue,
+        s,
+        None,
+    )
 }
 
 /// The value of state `s` is a probability and 1 at a goal; else Bellman's inequality holds.

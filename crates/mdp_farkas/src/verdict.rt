@@ -2,12 +2,13 @@ ghost use Rattle.std.specs.Prelude.{◌≡◌, [], ◌∷◌};
 ghost use Rattle.std.specs.Result.{result_ok};
 ghost use Rattle.mdp_farkas.specs.Verdict.{objection_to, verdict};
 
+use crate::rule::Rule;
 use mdp_num::Wide;
 
 /// A rule that is false, and where: the state and the choice looked at, where the rule has them.
 #[derive(Clone, Copy, Debug, PartialEq, Eq)]
 pub struct Fault {
-    pub rule: u8,
+    pub rule: Rule,
     pub state: Option<u32>,
     pub choice: Option<u32>,
 }
@@ -41,7 +42,7 @@ pub enum Objection {
 /// Whether one check of a rule holds at a place, which may be none.
 pub fn judged_at(
     holds: Result<bool, Wide>,
-    rule: u8,
+    rule: Rule,
     state: Option<u32>,
     choice: Option<u32>,
 ) -> Result<(), Objection>
@@ -61,7 +62,7 @@ pub fn judged_at(
 /// Whether one check of a rule holds at a state.
 pub fn judged(
     holds: Result<bool, Wide>,
-    rule: u8,
+    rule: Rule,
     state: u32,
     choice: Option<u32>,
 ) -> Result<(), Objection>

@@ -10,7 +10,7 @@ use Rattle.mdp_spec.specs.Mdp.{Entry, Mdp, states_of, row_at, value_at}
 use Rattle.mdp_spec.specs.Unit.{reward_of}
 use Rattle.mdp_rows.specs.declared.dir.Dir.{Dir}
 use Rattle.mdp_ends.specs.Ends.{in_part}
-use Rattle.mdp_policy_iteration.specs.Values.{IsAsGood}
+use Rattle.mdp_rows.specs.Better.{IsAsGood}
 use Rattle.mdp_unichain.specs.BestGain.{HasBestGain}
 use Rattle.mdp_unichain.specs.Chain.{AllLeadTo, IsReference}
 use Rattle.mdp_unichain.specs.Component.{Component, Choice, choice_at, is_state, IsInner, row_by, reward_by, IsPolicy, IsComponent}

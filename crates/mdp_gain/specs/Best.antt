@@ -7,7 +7,7 @@ use Rattle.mdp_spec.specs.Mdp.{Mdp, states_of, choices_at, choice_at, row_at}
 use Rattle.mdp_spec.specs.Unit.{reward_of}
 use Rattle.mdp_rows.specs.declared.dir.Dir.{Dir}
 use Rattle.mdp_ends.specs.Ends.{in_part, is_inside}
-use Rattle.mdp_policy_iteration.specs.Values.{IsAsGood}
+use Rattle.mdp_rows.specs.Better.{IsAsGood}
 use Rattle.mdp_unichain.specs.Chain.{AllLeadTo}
 use Rattle.mdp_unichain.specs.Evaluation.{mean}
 use Rattle.mdp_gain.specs.Query.{Answer, members}

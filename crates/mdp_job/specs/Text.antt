@@ -11,6 +11,8 @@ use Rattle.mdp_elim.specs.declared.too_wide.Kind.{Kind}
 use Rattle.mdp_elim.specs.declared.too_wide.Kind.TheVariants.{Evaluate, Compare, Check}
 use Rattle.mdp_elim.specs.declared.too_wide.Part.{Part}
 use Rattle.mdp_elim.specs.declared.too_wide.Part.TheVariants.{Whole, Inner, Outer, Steps, Join, Flow, Floor}
+use Rattle.mdp_farkas.specs.RuleNumber.{number_of}
+use Rattle.mdp_farkas.specs.declared.rule.Rule.{Rule}
 use Rattle.mdp_farkas.specs.declared.verdict.Fault.{Fault}
 use Rattle.mdp_policy_iteration.specs.Queries.{WideTerm}
 use Rattle.mdp_job.specs.Refusal.{PlainRefusal, no_job, model_text, query_size, query_reward, query_label, query_init, query_negative, query_steps, query_choice, too_wide, check_wide, horizon_wide}
@@ -75,8 +77,8 @@ place_text state choice = codes " state " ++ number_or_dash state ++ codes " cho
 abbrev pub at_line : List ℕ → ℕ → List ℕ → List ℕ
 at_line what n why = what ++ codes " line " ++ decimal n ++ 32 ∷ why ++ 10 ∷ []
 
-abbrev pub rule_text : ℕ → List ℕ
-rule_text rule = codes "denied rule " ++ decimal rule
+abbrev pub rule_text : Rule → List ℕ
+rule_text rule = codes "denied rule " ++ decimal (number_of rule)
 
 abbrev pub denied_text : Fault → List ℕ
 denied_text f = rule_text f.rule ++ place_text f.state f.choice

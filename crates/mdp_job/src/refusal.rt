@@ -12,7 +12,7 @@ use itoa::Buffer;
 use mdp_cert::CertKind;
 use mdp_drn::DrnKind;
 use mdp_elim::{Kind, Part, TooWide};
-use mdp_farkas::Fault;
+use mdp_farkas::{Fault, Rule};
 use mdp_num::{Frac, Memory};
 use std::alloc::AllocError;
 
@@ -222,12 +222,12 @@ fn push_at(what: &str, line: u64, why: &str, out: &mut Vec<u8>) -> Result<(), Al
 }
 
 /// Appends `denied rule R`.
-fn push_rule(rule: u8, out: &mut Vec<u8>) -> Result<(), AllocError>
+fn push_rule(rule: Rule, out: &mut Vec<u8>) -> Result<(), AllocError>
     ensures text { OnOk result (out.new.items ≡ out.old.items ++ rule_text rule) }
     ensures front { take (length out.old.items) out.new.items ≡ out.old.items }
 {
     out.extend_from_slice(b"denied rule ")?;
-    push_number(Some(u32::from(rule)), out)
+    push_number(Some(u32::from(rule.number())), out)
 }
 
 /// Appends the line of a rule that is false.

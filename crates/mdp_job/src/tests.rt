@@ -1,7 +1,7 @@
 use crate::{Refusal, Status, WordsError, push_refusal};
 use mdp_cert::CertKind;
 use mdp_drn::DrnKind;
-use mdp_farkas::Fault;
+use mdp_farkas::{Fault, Rule};
 use mdp_num::Frac;
 use std::test::Fail;
 
@@ -9,7 +9,7 @@ use std::test::Fail;
 #[test]
 fn spells_refusals(rt: HostRuntime) -> Result<(), Fail> {
     let denied = Fault {
-        rule: 20,
+        rule: Rule::SpreadIsGreatest,
         state: None,
         choice: None,
     };

@@ -5,7 +5,7 @@ use Rattle.mdp_spec.specs.Mdp.{value_at}
 use Rattle.mdp_elim.specs.System.{Leaves}
 use Rattle.mdp_policy_iteration.specs.Problem.{Problem, Move, stop, go, count, worth, taken, choices_at, choice_at, active_of, rows_of, IsPolicy}
 use Rattle.mdp_rows.specs.declared.dir.Dir.{Dir}
-use Rattle.mdp_rows.specs.declared.dir.Dir.TheVariants.{Max, Min}
+use Rattle.mdp_rows.specs.Better.{IsBetter, IsAsGood}
 
 -- each node is worth what the policy's move there is worth
 pub record IsValue (p : Problem) (policy : List ℕ) (x : List ℚ) : Type 0 where
@@ -15,16 +15,6 @@ pub record IsValue (p : Problem) (policy : List ℕ) (x : List ℚ) : Type 0 whe
 -- the policy leaves its active nodes: each has an entry to a node that stops, or to an active one of smaller rank
 abbrev pub CanLeave : Problem → List ℕ → Type 0
 CanLeave p policy = (ranks : List ℕ) × (length ranks ≡ count p) × Leaves (rows_of p policy) (active_of p policy) ranks
-
--- greater for Max, less for Min
-abbrev pub IsBetter : Dir → ℚ → ℚ → Type 0
-IsBetter Max x y = y <ℚ x
-IsBetter Min x y = x <ℚ y
-
--- at least for Max, at most for Min
-abbrev pub IsAsGood : Dir → ℚ → ℚ → Type 0
-IsAsGood Max x y = y ≤ℚ x
-IsAsGood Min x y = x ≤ℚ y
 
 -- what a move earns on its way doesn't help: at most 0 for Max, at least 0 for Min
 abbrev pub EarnsNoGood : Dir → Move → Type 0

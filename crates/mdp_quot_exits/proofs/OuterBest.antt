@@ -8,7 +8,8 @@ use Rattle.mdp_spec.specs.Mdp.{value_at}
 use Rattle.mdp_spec.specs.Row.{row_sum}
 use Rattle.mdp_rows.specs.declared.dir.Dir.{Dir}
 use Rattle.mdp_policy_iteration.specs.Problem.{Problem, Node, Choice, Move, worth, count, goes_on, taken, choices_at, IsCandidate, IsPolicy}
-use Rattle.mdp_policy_iteration.specs.Values.{CanLeave, IsAsGood}
+use Rattle.mdp_policy_iteration.specs.Values.{CanLeave}
+use Rattle.mdp_rows.specs.Better.{IsAsGood}
 use Rattle.mdp_policy_iteration.specs.Laws.{IsSolvable, IsBest}
 use Rattle.mdp_policy_iteration.proofs.Chain.{can_take}
 use Rattle.mdp_quot.specs.Quotient.{Quotient, row_of}

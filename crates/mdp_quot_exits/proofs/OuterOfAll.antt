@@ -5,7 +5,8 @@ use Rattle.mdp_math.specs.Rational.{ℚ}
 use Rattle.mdp_spec.specs.Mdp.{value_at}
 use Rattle.mdp_rows.specs.declared.dir.Dir.{Dir}
 use Rattle.mdp_policy_iteration.specs.Problem.{Problem, Node, Choice, worth, count, IsCandidate, IsPolicy}
-use Rattle.mdp_policy_iteration.specs.Values.{IsValue, IsAsGood}
+use Rattle.mdp_policy_iteration.specs.Values.{IsValue}
+use Rattle.mdp_rows.specs.Better.{IsAsGood}
 use Rattle.mdp_policy_iteration.specs.Laws.{IsBest}
 use Rattle.mdp_policy_iteration.proofs.Optimal.{best_of_all}
 use Rattle.mdp_quot.specs.Quotient.{Quotient}

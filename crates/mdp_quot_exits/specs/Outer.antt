@@ -6,7 +6,7 @@ use Rattle.mdp_spec.specs.Row.{row_sum}
 use Rattle.mdp_rows.specs.declared.dir.Dir.{Dir}
 use Rattle.mdp_elim.specs.declared.too_wide.Part.TheVariants as part
 use Rattle.mdp_policy_iteration.specs.Path.{Found}
-use Rattle.mdp_policy_iteration.specs.Values.{IsAsGood}
+use Rattle.mdp_rows.specs.Better.{IsAsGood}
 use Rattle.mdp_policy_iteration.specs.Queries.{WideTerm}
 use Rattle.mdp_quot.specs.Quotient.{Quotient, exits_at, row_of}
 use Rattle.mdp_quot_exits.specs.PathEnds.{PathEndsSo}

@@ -11,7 +11,7 @@ use Rattle.mdp_spec.specs.Tree as tree
 use Rattle.mdp_rows.specs.declared.dir.Dir.{Dir}
 use Rattle.mdp_policy_iteration.specs.Problem.{Choice, worth, choice_at}
 use Rattle.mdp_policy_iteration.specs.Problem as path
-use Rattle.mdp_policy_iteration.specs.Values.{IsAsGood}
+use Rattle.mdp_rows.specs.Better.{IsAsGood}
 use Rattle.mdp_policy_iteration.specs.Laws.{IsBestFrom}
 use Rattle.mdp_reach.specs.Problem.{reach_problem}
 use Rattle.mdp_reach.proofs.Nodes.{reach-count, reach-choices, reach-choice, reach-candidate}

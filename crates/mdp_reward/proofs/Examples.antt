@@ -20,6 +20,7 @@ use Rattle.mdp_farkas.specs.declared.verdict.Fault.{Fault}
 use Rattle.mdp_farkas.specs.declared.verdict.Verdict.TheVariants.{Yes, No}
 use Rattle.mdp_reward.specs.Problem.{may_take, is_transient, reward_problem}
 use Rattle.mdp_reward.specs.Query.{split, unmarked, rewards_of}
+use Rattle.mdp_farkas.specs.declared.rule.Rule.TheVariants.{FiniteRankFalls}
 
 abbrev to : ℕ → ℚ → Entry
 to t p = record { target = t; prob = p }
@@ -64,7 +65,7 @@ unfolding written_add written_mul written_compare narrow narrow_ℚ ◌+ℚ◌ �
 least_holds = refl
 
 least_denied : verdict_of (reward_checks Min loops 0 goal_1 (Some (whole 0) ∷ Some (whole 0) ∷ []) (0 ∷ 0 ∷ []) (1 ∷ 0 ∷ []))
-    ≡ No (let f : Fault = record { rule = 13; state = Some 0; choice = Some 0 } in f)
+    ≡ No (let f : Fault = record { rule = FiniteRankFalls; state = Some 0; choice = Some 0 } in f)
 unfolding written_add written_mul written_compare narrow narrow_ℚ ◌+ℚ◌ ◌*ℚ◌ neg_ℚ inv_ℚ ratio of_int gcd gcd_with_fuel
 least_denied = refl
 

@@ -13,7 +13,7 @@ use Rattle.mdp_spec.specs.Bounds.{finite_part}
 use Rattle.mdp_spec.specs.RewardRules.{backup, IsTransient, AreRewards}
 use Rattle.mdp_rows.specs.Negative.{has_negative}
 use Rattle.mdp_rows.specs.declared.dir.Dir.{Dir}
-use Rattle.mdp_policy_iteration.specs.Values.{IsAsGood}
+use Rattle.mdp_rows.specs.Better.{IsAsGood}
 use Rattle.mdp_policy_iteration.specs.Laws.{IsBestFrom}
 use Rattle.mdp_reward.specs.Problem.{may_take, is_transient, reward_problem}
 use Rattle.mdp_reward.specs.Query.{rewards_of}

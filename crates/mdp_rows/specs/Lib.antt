@@ -21,3 +21,4 @@ pub mod Sound
 pub mod PredCode
 pub mod Preds
 pub mod Cut
+pub mod Better

@@ -1,7 +1,7 @@
 pub mod Added
 pub mod Adding
 pub mod Sizes
-pub mod Stops
+pub mod ByPlace
 pub mod Kept
 pub mod Floors
 pub mod Picks

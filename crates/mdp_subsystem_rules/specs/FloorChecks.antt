@@ -19,6 +19,7 @@ use Rattle.mdp_rows.specs.declared.dir.Dir.TheVariants.{Min}
 use Rattle.mdp_subsystem_rules.specs.Floor.{MeetsFloor, counted_value, counted_rank}
 use Rattle.mdp_subsystem_rules.specs.FlowChecks.{kept_check}
 use Rattle.mdp_subsystem_rules.specs.Kept.{kept_marks, spread}
+use Rattle.mdp_farkas.specs.declared.rule.Rule.TheVariants.{Probability, RankFalls, RankZero, StartReachesThreshold, ValueOnEachChoice}
 
 -- the values of a certificate's lines, one per state, and the ranks
 abbrev pub spread_values : Mdp → List ℕ → List ℚ → List ℚ
@@ -40,21 +41,21 @@ line_values m goals kept values = map (line_value m goals kept values) (range_wi
 
 -- rule 3
 abbrev pub value_checks : ℕ → ℚ → List Check
-value_checks s value = at_state 3 s (is_at_least value 0ℚ) ∷ at_state 3 s (is_at_most value 1ℚ) ∷ []
+value_checks s value = at_state Probability s (is_at_least value 0ℚ) ∷ at_state Probability s (is_at_most value 1ℚ) ∷ []
 
 -- rule 5, where each state counts as z says
 abbrev pub cover_check : Mdp → List ℚ → ℕ → ℚ → ℕ → Check
-cover_check m z s value c = at_choice 5 s c (sum_stands Min value z 0ℚ (row_at m s c))
+cover_check m z s value c = at_choice ValueOnEachChoice s c (sum_stands Min value z 0ℚ (row_at m s c))
 
 abbrev pub cover_checks : Mdp → List Bool → List ℚ → ℕ → ℚ → List Check
 cover_checks m goals z s value = if is_marked goals s then [] else at_choices m s (cover_check m z s value)
 
 -- rules 7 and 8
 abbrev pub rank_check : ℕ → ℕ → Check
-rank_check s rank = at_state 7 s (Some (rank == 0))
+rank_check s rank = at_state RankZero s (Some (rank == 0))
 
 abbrev pub fall_check : Mdp → (ℕ → ℕ) → ℕ → ℕ → ℕ → Check
-fall_check m ranked s rank c = at_choice 8 s c (Some (list_any (λ y. nat_lt (ranked y.target) rank) (row_at m s c)))
+fall_check m ranked s rank c = at_choice RankFalls s c (Some (list_any (λ y. nat_lt (ranked y.target) rank) (row_at m s c)))
 
 abbrev pub rank_checks : Mdp → List Bool → (ℕ → ℕ) → ℕ → ℚ → ℕ → List Check
 rank_checks m goals ranked s value rank = if is_marked goals s || not (lt_ℚ 0ℚ value) then rank_check s rank ∷ [] else at_choices m s (fall_check m ranked s rank)
@@ -74,7 +75,7 @@ each_line m goals kept values ranks = flat_map (checks_of_line m goals kept valu
 
 -- rule 24
 abbrev pub start_check : Mdp → List Bool → ℕ → ℚ → List ℕ → List ℚ → Check
-start_check m goals start threshold kept values = record { rule = 24; state = None; choice = None; holds = is_at_least (line_value m goals kept values start) threshold }
+start_check m goals start threshold kept values = record { rule = StartReachesThreshold; state = None; choice = None; holds = is_at_least (line_value m goals kept values start) threshold }
 
 -- the kept states ascend, at a state the rules, in a rule the choices; the start comes last
 abbrev pub floor_checks : Mdp → List Bool → ℕ → ℚ → List ℕ → List ℚ → List ℕ → List Check

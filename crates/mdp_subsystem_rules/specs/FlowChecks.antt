@@ -19,17 +19,18 @@ use Rattle.mdp_subsystem_rules.specs.declared.flow.Flow.{Flow}
 use Rattle.mdp_subsystem_rules.specs.Flow.{MeetsFlow}
 use Rattle.mdp_subsystem_rules.specs.Kept.{kept_marks}
 use Rattle.mdp_subsystem_rules.specs.Sums.{FlowSums, first_sums, with_flow, after_flow, after_flows}
+use Rattle.mdp_farkas.specs.declared.rule.Rule.TheVariants.{FlowsBalance, FlowsReachGoals, StateIsKept}
 
 -- rule 21 at a kept state, and at a flow
 abbrev pub kept_check : List Bool → ℕ → Check
-kept_check goals s = at_state 21 s (Some (not (is_marked goals s)))
+kept_check goals s = at_state StateIsKept s (Some (not (is_marked goals s)))
 
 abbrev pub flow_check : List Bool → Flow → Check
-flow_check kept f = at_choice 21 f.state f.choice (Some (is_marked kept f.state && lt_ℚ (of_int (pos 0)) f.amount))
+flow_check kept f = at_choice StateIsKept f.state f.choice (Some (is_marked kept f.state && lt_ℚ (of_int (pos 0)) f.amount))
 
 -- the flow's terms are in width: this check is never false, so it stands for no rule of its own but for the sums of rules 22 and 23
 abbrev pub sums_check : Mdp → List Bool → FlowSums → Flow → Check
-sums_check m goals sums f = at_choice 22 f.state f.choice (option_map (λ after. true) (with_flow m goals sums f))
+sums_check m goals sums f = at_choice FlowsBalance f.state f.choice (option_map (λ after. true) (with_flow m goals sums f))
 
 -- all checks of one flow, and of each flow of a list from these sums on
 abbrev pub checks_at : Mdp → List Bool → List Bool → FlowSums → Flow → List Check
@@ -41,11 +42,11 @@ each_flow m goals kept sums (f ∷ flows) = checks_at m goals kept sums f ++ eac
 
 -- rule 22
 abbrev pub balance_check : FlowSums → ℕ → Check
-balance_check sums s = at_state 22 s (is_at_most (value_at sums.outflows s) (value_at sums.inflows s))
+balance_check sums s = at_state FlowsBalance s (is_at_most (value_at sums.outflows s) (value_at sums.inflows s))
 
 -- rule 23
 abbrev pub arrival_check : FlowSums → ℚ → Check
-arrival_check sums threshold = record { rule = 23; state = None; choice = None; holds = is_at_least sums.goal threshold }
+arrival_check sums threshold = record { rule = FlowsReachGoals; state = None; choice = None; holds = is_at_least sums.goal threshold }
 
 -- the rules on the sums of all flows
 abbrev pub sum_checks : List ℕ → ℚ → FlowSums → List Check

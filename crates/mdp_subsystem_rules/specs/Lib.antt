@@ -10,4 +10,3 @@ pub mod Policy
 pub mod Shape
 pub mod Sums
 pub mod Visits
-pub mod Walk

@@ -9,19 +9,19 @@ ghost use Rattle.mdp_spec.specs.Tree.{is_marked};
 ghost use Rattle.mdp_spec.specs.Written.{written_sum};
 ghost use Rattle.mdp_farkas.specs.Bellman.{sum_stands};
 ghost use Rattle.mdp_farkas.specs.Compare.{0ℚ};
-ghost use Rattle.mdp_farkas.specs.Verdict.{at_choices, verdict_of, IsYes, IfYes};
+ghost use Rattle.mdp_farkas.specs.Verdict.{at_choices, verdict_of, IsYes, IfYes, objection_to};
 ghost use Rattle.mdp_rows.specs.declared.dir.Dir.TheVariants.{Min};
 ghost use Rattle.mdp_subsystem_rules.specs.FloorChecks.{line_rank, line_values, value_checks, cover_check, cover_checks, fall_check};
 ghost use Rattle.mdp_subsystem_rules.specs.FloorChecks.{rank_checks, line_checks, checks_of_line, each_line, start_check, floor_checks, HoldsFloor};
 ghost use Rattle.mdp_subsystem_rules.specs.Kept.{kept_marks};
 ghost use Rattle.mdp_subsystem_rules.specs.Shape.{IsFloorShape};
-ghost use Rattle.mdp_subsystem_rules.specs.Walk.{stop_of};
 
-use crate::compare::{at_least, at_most};
 use crate::flow::kept_at;
 use crate::lines::place_of;
-use crate::walk::{each_choice, each_place, judged, judged_at, verdict_of_walk};
-use mdp_farkas::Verdict;
+use crate::walk::each_place;
+use mdp_farkas::{
+    Objection, Rule, Verdict, at_least, at_most, each_choice, judged, judged_at, verdict_after,
+};
 use mdp_num::{Frac, Wide};
 use mdp_rows::{Marks, Model, Row};
 
@@ -109,11 +109,11 @@ fn row_falls(row: Row<'_>, model: &Model, goals: &Marks, cert: &FloorCert, rank:
 }
 
 /// The value of the kept state `s` is from 0 to 1.
-fn probability_at(s: u32, value: &Frac) -> Result<(), Verdict>
-    ensures { result ≡ stop_of (value_checks s value.now) }
+fn probability_at(s: u32, value: &Frac) -> Result<(), Objection>
+    ensures { result ≡ objection_to (value_checks s value.now) }
 {
-    judged(at_least(value, &Frac::whole(0)), 3, s, None)?;
-    judged(at_most(value, &Frac::whole(1)), 3, s, None)
+    judged(at_least(value, &Frac::whole(0)), Rule::Probability, s, None)?;
+    judged(at_most(value, &Frac::whole(1)), Rule::Probability, s, None)
 }
 
 /// Whether a value is at most that sum.
@@ -141,15 +141,15 @@ fn cover_at(
     s: u32,
     value: &Frac,
     c: u32,
-) -> Result<(), Verdict>
+) -> Result<(), Objection>
     requires goals { length goals.now ≡ states_of model.now }
     requires shape { IsFloorShape model.now cert.now.kept.items cert.now.wide.items cert.now.values.items cert.now.ranks.items }
     requires state { s < states_of model.now }
     requires choice { c < length (choices_at model.now s) }
-    ensures { result ≡ stop_of (cover_check model.now (line_values model.now goals.now cert.now.kept.items cert.now.values.items) s value.now c ∷ []) }
+    ensures { result ≡ objection_to (cover_check model.now (line_values model.now goals.now cert.now.kept.items cert.now.values.items) s value.now c ∷ []) }
 {
     let covers = row_covers(model.row(s, c), model, goals, cert, value);
-    judged(covers, 5, s, Some(c))
+    judged(covers, Rule::ValueOnEachChoice, s, Some(c))
 }
 
 /// The same at each choice of the kept state `s`, where it is no goal.
@@ -159,11 +159,11 @@ fn covers_at(
     cert: &FloorCert,
     s: u32,
     value: &Frac,
-) -> Result<(), Verdict>
+) -> Result<(), Objection>
     requires goals { length goals.now ≡ states_of model.now }
     requires shape { IsFloorShape model.now cert.now.kept.items cert.now.wide.items cert.now.values.items cert.now.ranks.items }
     requires state { s < states_of model.now }
-    ensures { result ≡ stop_of (cover_checks model.now goals.now (line_values model.now goals.now cert.now.kept.items cert.now.values.items) s value.now) }
+    ensures { result ≡ objection_to (cover_checks model.now goals.now (line_values model.now goals.now cert.now.kept.items cert.now.values.items) s value.now) }
 {
     if goals.at(s) {
         return Ok(());
@@ -179,15 +179,15 @@ fn fall_at(
     s: u32,
     rank: u32,
     c: u32,
-) -> Result<(), Verdict>
+) -> Result<(), Objection>
     requires goals { length goals.now ≡ states_of model.now }
     requires shape { IsFloorShape model.now cert.now.kept.items cert.now.wide.items cert.now.values.items cert.now.ranks.items }
     requires state { s < states_of model.now }
     requires choice { c < length (choices_at model.now s) }
-    ensures { result ≡ stop_of (fall_check model.now (line_rank model.now goals.now cert.now.kept.items cert.now.ranks.items) s rank c ∷ []) }
+    ensures { result ≡ objection_to (fall_check model.now (line_rank model.now goals.now cert.now.kept.items cert.now.ranks.items) s rank c ∷ []) }
 {
     let falls = row_falls(model.row(s, c), model, goals, cert, rank);
-    judged(Ok(falls), 8, s, Some(c))
+    judged(Ok(falls), Rule::RankFalls, s, Some(c))
 }
 
 /// Whether a number is above 0.
@@ -212,11 +212,11 @@ fn falls_at(
     cert: &FloorCert,
     s: u32,
     rank: u32,
-) -> Result<(), Verdict>
+) -> Result<(), Objection>
     requires goals { length goals.now ≡ states_of model.now }
     requires shape { IsFloorShape model.now cert.now.kept.items cert.now.wide.items cert.now.values.items cert.now.ranks.items }
     requires state { s < states_of model.now }
-    ensures { result ≡ stop_of (at_choices model.now s (fall_check model.now (line_rank model.now goals.now cert.now.kept.items cert.now.ranks.items) s rank)) }
+    ensures { result ≡ objection_to (at_choices model.now s (fall_check model.now (line_rank model.now goals.now cert.now.kept.items cert.now.ranks.items) s rank)) }
 {
     each_choice(model, s, |c| fall_at(model, goals, cert, s, rank, c))
 }
@@ -229,14 +229,14 @@ fn rank_at(
     s: u32,
     value: &Frac,
     rank: u32,
-) -> Result<(), Verdict>
+) -> Result<(), Objection>
     requires goals { length goals.now ≡ states_of model.now }
     requires shape { IsFloorShape model.now cert.now.kept.items cert.now.wide.items cert.now.values.items cert.now.ranks.items }
     requires state { s < states_of model.now }
-    ensures { result ≡ stop_of (rank_checks model.now goals.now (line_rank model.now goals.now cert.now.kept.items cert.now.ranks.items) s value.now rank) }
+    ensures { result ≡ objection_to (rank_checks model.now goals.now (line_rank model.now goals.now cert.now.kept.items cert.now.ranks.items) s value.now rank) }
 {
     if ends_at(goals, s, value) {
-        return judged(Ok(rank == 0), 7, s, None);
+        return judged(Ok(rank == 0), Rule::RankZero, s, None);
     }
     falls_at(model, goals, cert, s, rank)
 }
@@ -249,11 +249,11 @@ fn state_at(
     s: u32,
     value: &Frac,
     rank: u32,
-) -> Result<(), Verdict>
+) -> Result<(), Objection>
     requires goals { length goals.now ≡ states_of model.now }
     requires shape { IsFloorShape model.now cert.now.kept.items cert.now.wide.items cert.now.values.items cert.now.ranks.items }
     requires state { s < states_of model.now }
-    ensures { result ≡ stop_of (line_checks model.now goals.now cert.now.kept.items cert.now.values.items cert.now.ranks.items s value.now rank) }
+    ensures { result ≡ objection_to (line_checks model.now goals.now cert.now.kept.items cert.now.values.items cert.now.ranks.items s value.now rank) }
 {
     probability_at(s, value)?;
     covers_at(model, goals, cert, s, value)?;
@@ -262,11 +262,11 @@ fn state_at(
 }
 
 /// The rules at the kept state of line `i`.
-fn line_at(model: &Model, goals: &Marks, cert: &FloorCert, i: usize) -> Result<(), Verdict>
+fn line_at(model: &Model, goals: &Marks, cert: &FloorCert, i: usize) -> Result<(), Objection>
     requires goals { length goals.now ≡ states_of model.now }
     requires shape { IsFloorShape model.now cert.now.kept.items cert.now.wide.items cert.now.values.items cert.now.ranks.items }
     requires line { i < length cert.now.kept.items }
-    ensures { result ≡ stop_of (checks_of_line model.now goals.now cert.now.kept.items cert.now.values.items cert.now.ranks.items i) }
+    ensures { result ≡ objection_to (checks_of_line model.now goals.now cert.now.kept.items cert.now.values.items cert.now.ranks.items i) }
 {
     state_at(
         model,
@@ -279,10 +279,10 @@ fn line_at(model: &Model, goals: &Marks, cert: &FloorCert, i: usize) -> Result<(
 }
 
 /// The rules at each kept state.
-fn each_line_at(model: &Model, goals: &Marks, cert: &FloorCert) -> Result<(), Verdict>
+fn each_line_at(model: &Model, goals: &Marks, cert: &FloorCert) -> Result<(), Objection>
     requires goals { length goals.now ≡ states_of model.now }
     requires shape { IsFloorShape model.now cert.now.kept.items cert.now.wide.items cert.now.values.items cert.now.ranks.items }
-    ensures { result ≡ stop_of (each_line model.now goals.now cert.now.kept.items cert.now.values.items cert.now.ranks.items) }
+    ensures { result ≡ objection_to (each_line model.now goals.now cert.now.kept.items cert.now.values.items cert.now.ranks.items) }
 {
     each_place(cert.kept.len(), |i| line_at(model, goals, cert, i))
 }
@@ -294,14 +294,14 @@ fn start_at(
     start: u32,
     threshold: &Frac,
     cert: &FloorCert,
-) -> Result<(), Verdict>
+) -> Result<(), Objection>
     requires goals { length goals.now ≡ states_of model.now }
     requires shape { IsFloorShape model.now cert.now.kept.items cert.now.wide.items cert.now.values.items cert.now.ranks.items }
     requires start { start < states_of model.now }
-    ensures { result ≡ stop_of (start_check model.now goals.now start threshold.now cert.now.kept.items cert.now.values.items ∷ []) }
+    ensures { result ≡ objection_to (start_check model.now goals.now start threshold.now cert.now.kept.items cert.now.values.items ∷ []) }
 {
     let reaches = at_least(&value_of(model, goals, cert, start), threshold);
-    judged_at(reaches, 24, None, None)
+    judged_at(reaches, Rule::StartReachesThreshold, None, None)
 }
 
 /// All rules: those at each kept state, and that of the start.
@@ -311,11 +311,11 @@ fn floor_walk(
     start: u32,
     threshold: &Frac,
     cert: &FloorCert,
-) -> Result<(), Verdict>
+) -> Result<(), Objection>
     requires goals { length goals.now ≡ states_of model.now }
     requires shape { IsFloorShape model.now cert.now.kept.items cert.now.wide.items cert.now.values.items cert.now.ranks.items }
     requires start { start < states_of model.now }
-    ensures { result ≡ stop_of (floor_checks model.now goals.now start threshold.now cert.now.kept.items cert.now.values.items cert.now.ranks.items) }
+    ensures { result ≡ objection_to (floor_checks model.now goals.now start threshold.now cert.now.kept.items cert.now.values.items cert.now.ranks.items) }
 {
     each_line_at(model, goals, cert)?;
     start_at(model, goals, start, threshold, cert)
@@ -340,5 +340,5 @@ pub fn holds_floor(
     ensures sub_min { IfYes result (SubMin model.now goals.now (kept_marks (states_of model.now) cert.now.kept.items) start threshold) }
 {
     model.known();
-    verdict_of_walk(floor_walk(model, goals, start, &threshold, cert))
+    verdict_after(floor_walk(model, goals, start, &threshold, cert))
 }

@@ -2,19 +2,17 @@ ghost use Rattle.std.specs.Prelude.{◌≡◌, ◌<◌, ◌↔◌, length, [], �
 ghost use Rattle.mdp_spec.specs.Bounds.{SubMax, SubMaxWithin};
 ghost use Rattle.mdp_spec.specs.Mdp.{states_of};
 ghost use Rattle.mdp_farkas.specs.Reach.{choice_exists};
-ghost use Rattle.mdp_farkas.specs.Verdict.{verdict_of, IsYes, IfYes};
+ghost use Rattle.mdp_farkas.specs.Verdict.{verdict_of, IsYes, IfYes, objection_to};
 ghost use Rattle.mdp_subsystem_rules.specs.Flow.{flow_total};
 ghost use Rattle.mdp_subsystem_rules.specs.FlowChecks.{kept_check, flow_check, checks_at, each_flow, balance_check, arrival_check, sum_checks, checks_from, flow_checks, HoldsFlow};
 ghost use Rattle.mdp_subsystem_rules.specs.Kept.{kept_marks};
 ghost use Rattle.mdp_subsystem_rules.specs.Shape.{IsFlowShape};
 ghost use Rattle.mdp_subsystem_rules.specs.Sums.{AreSums, after_flow, after_flows};
-ghost use Rattle.mdp_subsystem_rules.specs.Walk.{stop_of};
 
-use crate::compare::{at_least, at_most};
 use crate::lines::kept_marks_of;
 use crate::sums::Sums;
-use crate::walk::{each_place, judged, judged_at, verdict_of_walk};
-use mdp_farkas::Verdict;
+use crate::walk::each_place;
+use mdp_farkas::{Objection, Rule, Verdict, at_least, at_most, judged, judged_at, verdict_after};
 use mdp_num::{Frac, Memory, Wide};
 use mdp_rows::{Marks, Model};
 use std::alloc::Global;
@@ -37,37 +35,42 @@ pub struct FlowCert {
 }
 
 /// The kept state `s` is no goal.
-pub(crate) fn kept_at(goals: &Marks, s: u32) -> Result<(), Verdict>
+pub(crate) fn kept_at(goals: &Marks, s: u32) -> Result<(), Objection>
     requires { s < length goals.now }
-    ensures { result ≡ stop_of (kept_check goals.now s ∷ []) }
+    ensures { result ≡ objection_to (kept_check goals.now s ∷ []) }
 {
-    judged(Ok(!goals.at(s)), 21, s, None)
+    judged(Ok(!goals.at(s)), Rule::StateIsKept, s, None)
 }
 
 /// The same of each kept state.
-fn each_kept_at(goals: &Marks, kept: &[u32]) -> Result<(), Verdict>
+fn each_kept_at(goals: &Marks, kept: &[u32]) -> Result<(), Objection>
     requires { All (λ s. s < length goals.now) kept.now }
-    ensures { result ≡ stop_of (map (kept_check goals.now) kept.now) }
+    ensures { result ≡ objection_to (map (kept_check goals.now) kept.now) }
 {
     each_place(kept.len(), |i| kept_at(goals, kept[i]))
 }
 
 /// The flow's state has its choice.
-fn choice_at(model: &Model, flow: &Flow) -> Result<(), Verdict>
+fn choice_at(model: &Model, flow: &Flow) -> Result<(), Objection>
     requires { flow.now.state < states_of model.now }
-    ensures { result ≡ stop_of (choice_exists model.now flow.now.state flow.now.choice ∷ []) }
+    ensures { result ≡ objection_to (choice_exists model.now flow.now.state flow.now.choice ∷ []) }
 {
     let exists = flow.choice < model.choices(flow.state);
-    judged(Ok(exists), 2, flow.state, Some(flow.choice))
+    judged(
+        Ok(exists),
+        Rule::ChoiceExists,
+        flow.state,
+        Some(flow.choice),
+    )
 }
 
 /// The flow's state is kept and its amount above 0.
-fn amount_at(kept: &Marks, flow: &Flow) -> Result<(), Verdict>
+fn amount_at(kept: &Marks, flow: &Flow) -> Result<(), Objection>
     requires { flow.now.state < length kept.now }
-    ensures { result ≡ stop_of (flow_check kept.now flow.now ∷ []) }
+    ensures { result ≡ objection_to (flow_check kept.now flow.now ∷ []) }
 {
     let flows = kept.at(flow.state) && flow.amount.sign() > 0;
-    judged(Ok(flows), 21, flow.state, Some(flow.choice))
+    judged(Ok(flows), Rule::StateIsKept, flow.state, Some(flow.choice))
 }
 
 /// The rules at a flow, which is then added to the sums.
@@ -77,19 +80,19 @@ fn flow_at(
     kept: &Marks,
     sums: &mut Sums,
     flow: &Flow,
-) -> Result<(), Verdict>
+) -> Result<(), Objection>
     requires goals { length goals.now ≡ states_of model.now }
     requires kept { length kept.now ≡ states_of model.now }
     requires sums { AreSums (states_of model.now) sums.old }
     requires state { flow.now.state < states_of model.now }
-    ensures verdict { result ≡ stop_of (checks_at model.now goals.now kept.now sums.old flow.now) }
+    ensures verdict { result ≡ objection_to (checks_at model.now goals.now kept.now sums.old flow.now) }
     ensures sums { OnOk result (sums.new ≡ after_flow model.now goals.now sums.old flow.now) }
 {
     choice_at(model, flow)?;
     amount_at(kept, flow)?;
     match sums.add_flow(model, goals, flow) {
         Ok(()) => Ok(()),
-        Err(Wide) => Err(Verdict::Wide {
+        Err(Wide) => Err(Objection::PastWidth {
             state: Some(flow.state),
             choice: Some(flow.choice),
         }),
@@ -103,12 +106,12 @@ fn each_flow_at(
     kept: &Marks,
     sums: &mut Sums,
     flows: &[Flow],
-) -> Result<(), Verdict>
+) -> Result<(), Objection>
     requires goals { length goals.now ≡ states_of model.now }
     requires kept { length kept.now ≡ states_of model.now }
     requires sums { AreSums (states_of model.now) sums.old }
     requires states { All (λ f. f.state < states_of model.now) flows.now }
-    ensures verdict { result ≡ stop_of (each_flow model.now goals.now kept.now sums.old flows.now) }
+    ensures verdict { result ≡ objection_to (each_flow model.now goals.now kept.now sums.old flows.now) }
     ensures sums { OnOk result (sums.new ≡ after_flows model.now goals.now sums.old flows.now) }
 {
     for flow in flows {
@@ -118,35 +121,45 @@ fn each_flow_at(
 }
 
 /// What leaves the kept state `s` is at most what comes in.
-fn balance_at(sums: &Sums, s: u32) -> Result<(), Verdict>
+fn balance_at(sums: &Sums, s: u32) -> Result<(), Objection>
     requires outflow { s < length sums.now.outflows }
     requires inflow { s < length sums.now.inflows }
-    ensures { result ≡ stop_of (balance_check sums.now s ∷ []) }
+    ensures { result ≡ objection_to (balance_check sums.now s ∷ []) }
 {
-    judged(at_most(&sums.outflow(s), &sums.inflow(s)), 22, s, None)
+    judged(
+        at_most(&sums.outflow(s), &sums.inflow(s)),
+        Rule::FlowsBalance,
+        s,
+        None,
+    )
 }
 
 /// The same at each kept state.
-fn each_balance_at(sums: &Sums, kept: &[u32]) -> Result<(), Verdict>
+fn each_balance_at(sums: &Sums, kept: &[u32]) -> Result<(), Objection>
     requires outflows { All (λ s. s < length sums.now.outflows) kept.now }
     requires inflows { All (λ s. s < length sums.now.inflows) kept.now }
-    ensures { result ≡ stop_of (map (balance_check sums.now) kept.now) }
+    ensures { result ≡ objection_to (map (balance_check sums.now) kept.now) }
 {
     each_place(kept.len(), |i| balance_at(sums, kept[i]))
 }
 
 /// What comes to the goals is at least the threshold.
-fn arrival_at(sums: &Sums, threshold: &Frac) -> Result<(), Verdict>
-    ensures { result ≡ stop_of (arrival_check sums.now threshold.now ∷ []) }
+fn arrival_at(sums: &Sums, threshold: &Frac) -> Result<(), Objection>
+    ensures { result ≡ objection_to (arrival_check sums.now threshold.now ∷ []) }
 {
-    judged_at(at_least(&sums.goal(), threshold), 23, None, None)
+    judged_at(
+        at_least(&sums.goal(), threshold),
+        Rule::FlowsReachGoals,
+        None,
+        None,
+    )
 }
 
 /// The rules on the sums.
-fn sums_at(sums: &Sums, kept: &[u32], threshold: &Frac) -> Result<(), Verdict>
+fn sums_at(sums: &Sums, kept: &[u32], threshold: &Frac) -> Result<(), Objection>
     requires outflows { All (λ s. s < length sums.now.outflows) kept.now }
     requires inflows { All (λ s. s < length sums.now.inflows) kept.now }
-    ensures { result ≡ stop_of (sum_checks kept.now threshold.now sums.now) }
+    ensures { result ≡ objection_to (sum_checks kept.now threshold.now sums.now) }
 {
     each_balance_at(sums, kept)?;
     arrival_at(sums, threshold)
@@ -160,12 +173,12 @@ fn flows_walk(
     cert: &FlowCert,
     kept: &Marks,
     sums: &mut Sums,
-) -> Result<(), Verdict>
+) -> Result<(), Objection>
     requires goals { length goals.now ≡ states_of model.now }
     requires shape { IsFlowShape model.now cert.now.kept.items cert.now.wide.items cert.now.flows.items }
     requires kept { kept.now ≡ kept_marks (states_of model.now) cert.now.kept.items }
     requires sums { AreSums (states_of model.now) sums.old }
-    ensures { result ≡ stop_of (checks_from model.now goals.now threshold.now cert.now.kept.items cert.now.flows.items sums.old) }
+    ensures { result ≡ objection_to (checks_from model.now goals.now threshold.now cert.now.kept.items cert.now.flows.items sums.old) }
 {
     each_flow_at(model, goals, kept, sums, cert.flows.as_slice())?;
     sums_at(sums, cert.kept.as_slice(), threshold)
@@ -179,12 +192,12 @@ fn flow_walk(
     cert: &FlowCert,
     kept: &Marks,
     sums: &mut Sums,
-) -> Result<(), Verdict>
+) -> Result<(), Objection>
     requires goals { length goals.now ≡ states_of model.now }
     requires shape { IsFlowShape model.now cert.now.kept.items cert.now.wide.items cert.now.flows.items }
     requires kept { kept.now ≡ kept_marks (states_of model.now) cert.now.kept.items }
     requires sums { AreSums (states_of model.now) sums.old }
-    ensures { result ≡ stop_of (map (kept_check goals.now) cert.now.kept.items ++ checks_from model.now goals.now threshold.now cert.now.kept.items cert.now.flows.items sums.old) }
+    ensures { result ≡ objection_to (map (kept_check goals.now) cert.now.kept.items ++ checks_from model.now goals.now threshold.now cert.now.kept.items cert.now.flows.items sums.old) }
 {
     each_kept_at(goals, cert.kept.as_slice())?;
     flows_walk(model, goals, threshold, cert, kept, sums)
@@ -214,5 +227,5 @@ pub fn holds_flow(
     let kept = kept_marks_of(alloc, model.states(), cert.kept.as_slice())?;
     let mut sums = Sums::new(alloc, model.states(), goals, start)?;
     let walk = flow_walk(model, goals, &threshold, cert, &kept, &mut sums);
-    Ok(verdict_of_walk(walk))
+    Ok(verdict_after(walk))
 }

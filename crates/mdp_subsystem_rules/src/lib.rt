@@ -3,7 +3,6 @@
 //! the first written term past width. Laws say what the rules imply, and which certificates meet them.
 #![tactic(auto)]
 
-mod compare;
 mod floor;
 mod flow;
 mod laws;

@@ -11,7 +11,7 @@ use Rattle.mdp_math.proofs.Numbers.{le_or}
 use Rattle.mdp_math.proofs.Order.{≤ℚ_or_gt, ≤ℚ_of_eq, clash_ℚ}
 use Rattle.mdp_unichain.specs.Chain.{AllLeadTo}
 use Rattle.mdp_unichain.specs.Component.{Component, Choice, no_choice, count, choices_at, choice_at, IsInner, is_state, row_by, IsPolicy, CanReach, IsComponent}
-use Rattle.mdp_policy_iteration.specs.Values.{IsAsGood}
+use Rattle.mdp_rows.specs.Better.{IsAsGood}
 use Rattle.mdp_unichain.specs.Evaluation.{IsGain}
 use Rattle.mdp_unichain.specs.Improvement.{IsEvaluated, worth, IsBetterChoice, IsImproved, IsChanged, NoneBetter}
 use Rattle.mdp_unichain.specs.Laws.{HasBest}

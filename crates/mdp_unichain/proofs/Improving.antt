@@ -9,7 +9,7 @@ use Rattle.mdp_math.proofs.Numbers.{le_or}
 use Rattle.mdp_math.proofs.Order.{≤ℚ_of_lt, ≤ℚ_of_eq, ≤ℚ_antisymm, clash_ℚ}
 use Rattle.mdp_unichain.specs.Chain.{IsChain, IsReference, IsClosedClass}
 use Rattle.mdp_unichain.specs.Component.{Component, Choice, no_choice, count, choices_at, choice_at, chosen, IsInner, is_state, row_by, reward_by, IsPolicy, IsComponent}
-use Rattle.mdp_policy_iteration.specs.Values.{IsBetter, IsAsGood}
+use Rattle.mdp_rows.specs.Better.{IsBetter, IsAsGood}
 use Rattle.mdp_unichain.specs.Evaluation.{mean, IsEvaluation, IsGain}
 use Rattle.mdp_unichain.specs.Improvement.{IsEvaluated, worth, IsBetterChoice, IsImproved, IsChanged, KeepsClasses, GoesToward}
 use Rattle.mdp_unichain.specs.Laws.{HasOneEvaluation, MeetsEquations, NextIsEvaluated, GainRises, BiasRose, BiasRises, EndsAtNoneBetter, BestOfAll}

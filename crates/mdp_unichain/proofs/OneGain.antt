@@ -14,7 +14,7 @@ use Rattle.mdp_spec.proofs.Rows.{row_weigh-const}
 use Rattle.mdp_math.proofs.Kernel.{weigh-sub}
 use Rattle.mdp_rows.specs.declared.dir.Dir.{Dir}
 use Rattle.mdp_rows.specs.declared.dir.Dir.TheVariants.{Max, Min}
-use Rattle.mdp_policy_iteration.specs.Values.{IsAsGood}
+use Rattle.mdp_rows.specs.Better.{IsAsGood}
 use Rattle.mdp_unichain.specs.BestGain.{HasBestGain}
 use Rattle.mdp_unichain.specs.Chain.{IsChain, AllLeadTo, IsReference}
 use Rattle.mdp_unichain.specs.Component.{Component, Choice, count, choice_at, is_state, IsInner, row_by, reward_by, IsPolicy, IsComponent}

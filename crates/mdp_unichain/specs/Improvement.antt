@@ -3,7 +3,7 @@ use Rattle.std.specs.Prelude.{◌≡◌, ◌≢◌, ◌⊎◌, ℕ, Bool, true, 
 use Rattle.mdp_math.specs.Rational.{ℚ, ◌+ℚ◌}
 use Rattle.mdp_unichain.specs.Chain.{IsReference, IsClosedClass, AllLeadInto}
 use Rattle.mdp_unichain.specs.Component.{Component, Choice, choice_at, IsInner, is_state, row_by, reward_by, IsPolicy}
-use Rattle.mdp_policy_iteration.specs.Values.{IsBetter, IsAsGood}
+use Rattle.mdp_rows.specs.Better.{IsBetter, IsAsGood}
 use Rattle.mdp_unichain.specs.Evaluation.{mean, IsEvaluation}
 
 -- a policy of the path: it has one closed class, with the reference t, and this gain and bias

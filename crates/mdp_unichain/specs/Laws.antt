@@ -3,7 +3,7 @@ use Rattle.std.specs.Prelude.{◌≡◌, ℕ, ◌<◌, Bool, true, List, slice_i
 use Rattle.mdp_math.specs.Rational.{ℚ, of_int, ◌+ℚ◌, ◌≤ℚ◌}
 use Rattle.mdp_unichain.specs.Chain.{AllLeadTo, IsReference}
 use Rattle.mdp_unichain.specs.Component.{Component, is_state, row_by, reward_by, IsPolicy, IsComponent}
-use Rattle.mdp_policy_iteration.specs.Values.{IsBetter, IsAsGood}
+use Rattle.mdp_rows.specs.Better.{IsBetter, IsAsGood}
 use Rattle.mdp_unichain.specs.Evaluation.{mean, IsEvaluation, IsGain}
 use Rattle.mdp_unichain.specs.Improvement.{IsEvaluated, IsImproved, IsChanged, KeepsClasses, GoesToward, IsNext, NoneBetter}
 

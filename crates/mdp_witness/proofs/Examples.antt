@@ -18,6 +18,7 @@ use Rattle.mdp_witness_trials.proofs.Examples.{nought, one, half, three_quarters
 use Rattle.mdp_witness.specs.Query.{PlainSubsystem, flow, floor, Refusal, below, too_wide, visiting, in_floor, flow_of, floor_of, verdict_on, FlowHeld, FloorHeld}
 use Rattle.mdp_witness.specs.Query.{AfterComparison, FromFirst}
 use Rattle.mdp_witness.specs.Shown.{kept_of, kept_in, HasShape, Holds}
+use Rattle.mdp_farkas.specs.declared.rule.Rule.TheVariants.{FlowsBalance, FlowsReachGoals, StateIsKept, ValueOnEachChoice}
 
 -- the answers to the queries of the greatest and of the least probability
 abbrev at_most : Answer
@@ -56,15 +57,15 @@ unfolding gcd gcd_with_fuel ratio of_int narrow narrow_ℚ written_compare
 start_in_width = refl
 
 -- with an amount of 0, or with the goal as a kept state, or at a greater threshold, it would be refused
-nothing_flows : verdict_on five goals 0 half (flow (0 ∷ []) (false ∷ []) (record { state = 0; choice = 0; amount = nought } ∷ [])) ≡ No (record { rule = 21; state = Some 0; choice = Some 0 })
+nothing_flows : verdict_on five goals 0 half (flow (0 ∷ []) (false ∷ []) (record { state = 0; choice = 0; amount = nought } ∷ [])) ≡ No (record { rule = StateIsKept; state = Some 0; choice = Some 0 })
 unfolding gcd gcd_with_fuel ratio of_int lt_ℚ ◌+ℚ◌ ◌*ℚ◌ narrow narrow_ℚ written_add written_mul written_compare
 nothing_flows = refl
 
-goal_kept : verdict_on five goals 0 half (flow (0 ∷ 3 ∷ []) (false ∷ false ∷ []) (record { state = 0; choice = 0; amount = one } ∷ [])) ≡ No (record { rule = 21; state = Some 3; choice = None })
+goal_kept : verdict_on five goals 0 half (flow (0 ∷ 3 ∷ []) (false ∷ false ∷ []) (record { state = 0; choice = 0; amount = one } ∷ [])) ≡ No (record { rule = StateIsKept; state = Some 3; choice = None })
 unfolding gcd gcd_with_fuel ratio of_int lt_ℚ ◌+ℚ◌ ◌*ℚ◌ narrow narrow_ℚ written_add written_mul written_compare
 goal_kept = refl
 
-less_than_asked : verdict_on five goals 0 three_quarters from_start ≡ No (record { rule = 23; state = None; choice = None })
+less_than_asked : verdict_on five goals 0 three_quarters from_start ≡ No (record { rule = FlowsReachGoals; state = None; choice = None })
 unfolding gcd gcd_with_fuel ratio of_int lt_ℚ ◌+ℚ◌ ◌*ℚ◌ narrow narrow_ℚ written_add written_mul written_compare
 less_than_asked = refl
 
@@ -81,7 +82,7 @@ unfolding gcd gcd_with_fuel ratio of_int lt_ℚ ◌+ℚ◌ ◌*ℚ◌ narrow nar
 three_hold = refl
 
 -- without state 2, to which a policy may go, these values are too great
-two_alone : verdict_on five goals 0 half (floor (0 ∷ 1 ∷ []) (false ∷ false ∷ []) (half ∷ half ∷ []) (2 ∷ 1 ∷ [])) ≡ No (record { rule = 5; state = Some 0; choice = Some 1 })
+two_alone : verdict_on five goals 0 half (floor (0 ∷ 1 ∷ []) (false ∷ false ∷ []) (half ∷ half ∷ []) (2 ∷ 1 ∷ [])) ≡ No (record { rule = ValueOnEachChoice; state = Some 0; choice = Some 1 })
 unfolding gcd gcd_with_fuel ratio of_int lt_ℚ ◌+ℚ◌ ◌*ℚ◌ narrow narrow_ℚ written_add written_mul written_compare
 two_alone = refl
 
@@ -130,7 +131,7 @@ wide_query :
 wide_query = refl
 
 -- a certificate that a rule refuses is no end of the query, and neither is a term past width in the check of a floor
-no_end : (r : Result PlainSubsystem Refusal) → FlowHeld best from_start (No (record { rule = 22; state = Some 0; choice = None })) r → ⊥
+no_end : (r : Result PlainSubsystem Refusal) → FlowHeld best from_start (No (record { rule = FlowsBalance; state = Some 0; choice = None })) r → ⊥
 no_end r h = h
 
 no_wide_floor : (r : Result PlainSubsystem Refusal) → FloorHeld all_three (Wide (Some 0) None) r → ⊥

@@ -1,5 +1,5 @@
 use Rattle.std.proofs.Common.{sym}
-use Rattle.mdp_discount.specs.Plain.{plain}
+use Rattle.mdp_discount_rules.specs.Plain.{plain}
 use Rattle.mdp_command_discount.proofs.Printing.{name_at, answer_of_query, printed, text_due}
 use Rattle.mdp_command_discount.proofs.solving.solve_named.Goals as goal
 

@@ -1,6 +1,6 @@
 use Rattle.std.proofs.Common.{◌+◌, sym}
 use Rattle.mdp_text.specs.Lines.{place}
-use Rattle.mdp_discount.specs.Cert.{Fits}
+use Rattle.mdp_discount_rules.specs.Cert.{Fits}
 use Rattle.mdp_discount_text.specs.Text.{certificate_of}
 use Rattle.mdp_discount_text.specs.Code.{plain_head, plain_columns}
 use Rattle.mdp_discount_text.proofs.Outcomes.{read-whole, read-fits}

@@ -5,6 +5,7 @@ use Rattle.mdp_farkas.specs.Mean.{state_checks, spread_check}
 use Rattle.mdp_farkas.specs.Verdict.{Check, objection_to}
 use Rattle.mdp_farkas.proofs.Objections.{halts, goes_on}
 use Rattle.mdp_farkas.proofs.mean.mean_walk.Goals as goal
+use Rattle.mdp_farkas.specs.declared.rule.Rule.TheVariants.{SpreadIsGreatest}
 
 pub returns-in_err-mean_at_states : goal.returns-in_err-mean_at_states
 returns-in_err-mean_at_states c =
@@ -38,7 +39,7 @@ returns c =
     ∙ ap (λ (b : List ℚ). objection_to (state_checks d m r cert.gains.items cert.bound.items b c.as_slice.result.now)) c.as_slice-bias.ensures.value
     ∙ ap (λ (k : List ℕ). objection_to (state_checks d m r cert.gains.items cert.bound.items cert.bias.items k)) c.as_slice.ensures.value)
     (c.judged_at.ensures
-    ∙ ap (λ (holds : Option Bool). objection_to (record { rule = 20; state = None; choice = None; holds = holds } ∷ []))
+    ∙ ap (λ (holds : Option Bool). objection_to (record { rule = SpreadIsGreatest; state = None; choice = None; holds = holds } ∷ []))
     (c.spread_holds.ensures
     ∙ ap (λ (a : List ℚ). Check.holds (spread_check a c.as_slice-bias.result.now cert.spread)) c.as_slice-bound.ensures.value
     ∙ ap (λ (b : List ℚ). Check.holds (spread_check cert.bound.items b cert.spread)) c.as_slice-bias.ensures.value))

@@ -6,6 +6,7 @@ use Rattle.mdp_farkas.specs.MeanBetween.{state_between_checks}
 use Rattle.mdp_farkas.specs.Verdict.{Check, objection_to}
 use Rattle.mdp_farkas.proofs.Objections.{halts, goes_on}
 use Rattle.mdp_farkas.proofs.mean_between.mean_between_walk.Goals as goal
+use Rattle.mdp_farkas.specs.declared.rule.Rule.TheVariants.{SpreadIsGreatest}
 
 pub returns-in_err-mean_between_at_states : goal.returns-in_err-mean_between_at_states
 returns-in_err-mean_between_at_states c =
@@ -41,7 +42,7 @@ returns c =
     ∙ ap (λ (x : List ℚ). objection_to (state_between_checks d m r cert.lower.items cert.upper.items cert.bound.items x c.as_slice.result.now)) c.as_slice-bias.ensures.value
     ∙ ap (λ (x : List ℕ). objection_to (state_between_checks d m r cert.lower.items cert.upper.items cert.bound.items cert.bias.items x)) c.as_slice.ensures.value)
     (c.judged_at.ensures
-    ∙ ap (λ (holds : Option Bool). objection_to (record { rule = 20; state = None; choice = None; holds = holds } ∷ []))
+    ∙ ap (λ (holds : Option Bool). objection_to (record { rule = SpreadIsGreatest; state = None; choice = None; holds = holds } ∷ []))
     (c.spread_holds.ensures
     ∙ ap (λ (a : List ℚ). Check.holds (spread_check a c.as_slice-bias.result.now cert.spread)) c.as_slice-bound.ensures.value
     ∙ ap (λ (b : List ℚ). Check.holds (spread_check cert.bound.items b cert.spread)) c.as_slice-bias.ensures.value))

@@ -1,9 +1,8 @@
 use Rattle.std.proofs.Common.{◌≡◌, ap, ◌∙◌}
 use Rattle.mdp_farkas.specs.Verdict.{verdict_of}
 use Rattle.mdp_subsystem_rules.specs.FloorChecks.{floor_checks}
-use Rattle.mdp_subsystem_rules.specs.Walk.{verdict_after}
+use Rattle.mdp_farkas.specs.Verdict.{verdict}
 use Rattle.mdp_subsystem_rules.proofs.FloorRules.{floor_rules, floor_sub_min}
-use Rattle.mdp_subsystem_rules.proofs.Stops.{verdict_after-stop_of}
 use Rattle.mdp_subsystem_rules.proofs.floor.holds_floor.Goals as goal
 
 pub returns : goal.returns
@@ -13,10 +12,10 @@ returns c =
     let start = c.args.start in
     let threshold = c.args.threshold in
     let cert = c.args.cert.now in
-    let v = c.verdict_of_walk.result in
-    let e : c.verdict_of_walk.result
+    let v = c.verdict_after.result in
+    let e : c.verdict_after.result
     ≡ verdict_of (floor_checks c.args.model.now c.args.goals.now c.args.start c.args.threshold c.args.cert.now.kept.items c.args.cert.now.values.items c.args.cert.now.ranks.items) =
-    c.verdict_of_walk.ensures ∙ ap verdict_after c.floor_walk.ensures ∙ verdict_after-stop_of (floor_checks m goals start threshold cert.kept.items cert.values.items cert.ranks.items)
+    c.verdict_after.ensures ∙ ap verdict c.floor_walk.ensures
     in
     record {
       verdict = e;

@@ -5,8 +5,8 @@ use Rattle.mdp_spec.specs.Mdp.{states_of}
 use Rattle.mdp_subsystem_rules.specs.declared.flow.Flow.{Flow}
 use Rattle.mdp_subsystem_rules.specs.FlowChecks.{checks_at, each_flow}
 use Rattle.mdp_subsystem_rules.specs.Sums.{FlowSums, AreSums, after_flow, after_flows}
-use Rattle.mdp_subsystem_rules.specs.Walk.{stop_of}
-use Rattle.mdp_subsystem_rules.proofs.Stops.{halts, goes_on}
+use Rattle.mdp_farkas.specs.Verdict.{objection_to}
+use Rattle.mdp_farkas.proofs.Objections.{halts, goes_on}
 use Rattle.mdp_subsystem_rules.proofs.Sizes.{sized_after}
 use Rattle.mdp_subsystem_rules.proofs.flow.each_flow_at.Goals as goal
 
@@ -21,7 +21,7 @@ returns-in_err-flow_at-clause-verdict c =
     let p = err_from_is_err_and c.from_residual.result c.from_residual.ensures.1 in
     rw (p.1, p.2)
     (halts (checks_at m goals kept c.loop-flow.sums x) (each_flow m goals kept (after_flow m goals c.loop-flow.sums x) rest) c.in_err-flow_at.field-0.0 (c.in_err-flow_at.ensures {u = tt}).verdict
-    ∙ sym (ap (λ (flows : List Flow). stop_of (each_flow m goals kept c.loop-flow.sums flows)) next)
+    ∙ sym (ap (λ (flows : List Flow). objection_to (each_flow m goals kept c.loop-flow.sums flows)) next)
     ∙ sym c.loop-flow.invariant.0)
 
 pub loop-flow-preserved : goal.loop-flow-preserved
@@ -34,9 +34,9 @@ loop-flow-preserved c =
     let next = drop_more c.args.flows.now c.loop-flow.flow-index x c.loop-flow-test.true ∙ ap (λ (f : Flow). f ∷ rest) (sym c.flow-item.is) in
     let done = c.in_ok-flow_at.ensures {u = tt} in (
       c.loop-flow.invariant.0
-          ∙ ap (λ (flows : List Flow). stop_of (each_flow m goals kept c.loop-flow.sums flows)) next
+          ∙ ap (λ (flows : List Flow). objection_to (each_flow m goals kept c.loop-flow.sums flows)) next
           ∙ sym (goes_on (checks_at m goals kept c.loop-flow.sums x) (each_flow m goals kept (after_flow m goals c.loop-flow.sums x) rest) tt _ done.verdict refl)
-          ∙ ap (λ (sums : FlowSums). stop_of (each_flow m goals kept sums rest)) (sym done.sums),
+          ∙ ap (λ (sums : FlowSums). objection_to (each_flow m goals kept sums rest)) (sym done.sums),
       c.loop-flow.invariant.1
           ∙ ap (λ (flows : List Flow). after_flows m goals c.loop-flow.sums flows) next
           ∙ ap (λ (sums : FlowSums). after_flows m goals sums rest) (sym done.sums),

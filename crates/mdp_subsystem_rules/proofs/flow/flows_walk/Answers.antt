@@ -5,10 +5,10 @@ use Rattle.mdp_subsystem_rules.specs.declared.flow.Flow.{Flow}
 use Rattle.mdp_subsystem_rules.specs.FlowChecks.{each_flow, sum_checks}
 use Rattle.mdp_subsystem_rules.specs.Kept.{kept_marks}
 use Rattle.mdp_subsystem_rules.specs.Sums.{FlowSums, AreSums, after_flows}
-use Rattle.mdp_subsystem_rules.specs.Walk.{stop_of}
+use Rattle.mdp_farkas.specs.Verdict.{objection_to}
 use Rattle.mdp_subsystem_rules.proofs.Kept.{length-kept_marks}
 use Rattle.mdp_subsystem_rules.proofs.Sizes.{sized_all}
-use Rattle.mdp_subsystem_rules.proofs.Stops.{halts, goes_on}
+use Rattle.mdp_farkas.proofs.Objections.{halts, goes_on}
 use Rattle.mdp_subsystem_rules.proofs.flow.flows_walk.Goals as goal
 
 pub each_flow_at-requires-clause-kept : goal.each_flow_at-requires-clause-kept
@@ -26,8 +26,8 @@ returns-in_err-each_flow_at c =
     rw (p.1, p.2)
     (halts each sums c.in_err-each_flow_at.field-0.0
     ((c.in_err-each_flow_at.ensures {u = tt}).verdict
-    ∙ ap (λ (flows : List Flow). stop_of (each_flow m goals c.args.kept.now c.args.sums.now flows)) c.as_slice.ensures.value
-    ∙ ap (λ (marks : List Bool). stop_of (each_flow m goals marks c.args.sums.now cert.flows.items)) c.requires.kept))
+    ∙ ap (λ (flows : List Flow). objection_to (each_flow m goals c.args.kept.now c.args.sums.now flows)) c.as_slice.ensures.value
+    ∙ ap (λ (marks : List Bool). objection_to (each_flow m goals marks c.args.sums.now cert.flows.items)) c.requires.kept))
 
 pub sums_at-requires-clause-outflows : goal.sums_at-requires-clause-outflows
 sums_at-requires-clause-outflows c =
@@ -56,9 +56,9 @@ returns c =
     let done = c.in_ok-each_flow_at.ensures {u = tt} in
     goes_on each (sum_checks cert.kept.items c.args.threshold.now end) tt c.sums_at.result
     (done.verdict
-    ∙ ap (λ (flows : List Flow). stop_of (each_flow m goals c.args.kept.now c.args.sums.now flows)) c.as_slice.ensures.value
-    ∙ ap (λ (marks : List Bool). stop_of (each_flow m goals marks c.args.sums.now cert.flows.items)) c.requires.kept)
+    ∙ ap (λ (flows : List Flow). objection_to (each_flow m goals c.args.kept.now c.args.sums.now flows)) c.as_slice.ensures.value
+    ∙ ap (λ (marks : List Bool). objection_to (each_flow m goals marks c.args.sums.now cert.flows.items)) c.requires.kept)
     (c.sums_at.ensures
-    ∙ ap (λ (kept : List ℕ). stop_of (sum_checks kept c.args.threshold.now c.each_flow_at.new.sums)) c.as_slice-2.ensures.value
-    ∙ ap (λ (sums : FlowSums). stop_of (sum_checks cert.kept.items c.args.threshold.now sums))
+    ∙ ap (λ (kept : List ℕ). objection_to (sum_checks kept c.args.threshold.now c.each_flow_at.new.sums)) c.as_slice-2.ensures.value
+    ∙ ap (λ (sums : FlowSums). objection_to (sum_checks cert.kept.items c.args.threshold.now sums))
     (done.sums ∙ ap (λ (flows : List Flow). after_flows m goals c.args.sums.now flows) c.as_slice.ensures.value))

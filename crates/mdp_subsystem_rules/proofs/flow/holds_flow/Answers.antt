@@ -2,9 +2,8 @@ use Rattle.std.proofs.Common.{◌≡◌, ℕ, ◌++◌, map, ap, ◌∙◌}
 use Rattle.mdp_farkas.specs.Verdict.{verdict_of}
 use Rattle.mdp_subsystem_rules.specs.FlowChecks.{kept_check, checks_from, flow_checks}
 use Rattle.mdp_subsystem_rules.specs.Sums.{FlowSums, first_sums}
-use Rattle.mdp_subsystem_rules.specs.Walk.{stop_of, verdict_after}
+use Rattle.mdp_farkas.specs.Verdict.{objection_to, verdict}
 use Rattle.mdp_subsystem_rules.proofs.FlowRules.{flow_rules, flow_sub_max, flow_within}
-use Rattle.mdp_subsystem_rules.proofs.Stops.{verdict_after-stop_of}
 use Rattle.mdp_subsystem_rules.proofs.flow.holds_flow.Goals as goal
 
 pub returns : goal.returns
@@ -16,14 +15,13 @@ returns c =
     let kept = c.args.cert.now.kept.items in
     let wide = c.args.cert.now.wide.items in
     let flows = c.args.cert.now.flows.items in
-    let v = c.verdict_of_walk.result in
-    let e : c.verdict_of_walk.result
+    let v = c.verdict_after.result in
+    let e : c.verdict_after.result
     ≡ verdict_of (flow_checks c.args.model.now c.args.goals.now c.args.start c.args.threshold c.args.cert.now.kept.items c.args.cert.now.flows.items) =
-    c.verdict_of_walk.ensures
-    ∙ ap verdict_after c.flow_walk-walk.ensures
-    ∙ ap (λ (sums : FlowSums). verdict_after (stop_of (map (kept_check goals) kept ++ checks_from m goals threshold kept flows sums)))
+    c.verdict_after.ensures
+    ∙ ap verdict c.flow_walk-walk.ensures
+    ∙ ap (λ (sums : FlowSums). verdict (objection_to (map (kept_check goals) kept ++ checks_from m goals threshold kept flows sums)))
     (c.in_ok-sums.ensures {u = tt} ∙ ap (λ (n : ℕ). first_sums n goals start) c.states-2.ensures)
-    ∙ verdict_after-stop_of (flow_checks m goals start threshold kept flows)
     in
     record {
       verdict = e;

@@ -2,7 +2,7 @@ use Rattle.std.proofs.Common.{List, [], ◌∷◌, map}
 use Rattle.std.proofs.lemmas.Result.{err_from_is_err_and}
 use Rattle.mdp_farkas.specs.Verdict.{Check}
 use Rattle.mdp_subsystem_rules.specs.FlowChecks.{balance_check, arrival_check}
-use Rattle.mdp_subsystem_rules.proofs.Stops.{halts, goes_on}
+use Rattle.mdp_farkas.proofs.Objections.{halts, goes_on}
 use Rattle.mdp_subsystem_rules.proofs.flow.sums_at.Goals as goal
 
 pub returns-in_err-each_balance_at : goal.returns-in_err-each_balance_at

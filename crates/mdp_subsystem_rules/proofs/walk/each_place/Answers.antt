@@ -1,8 +1,8 @@
 use Rattle.std.proofs.Common.{◌≡◌, ℕ, Ok, Err, subst, arith}
 use Rattle.std.proofs.lemmas.Result.{err_from_is_err_and}
 use Rattle.std.specs.List.{flat_map, range_with_len}
-use Rattle.mdp_subsystem_rules.specs.Walk.{stop_of}
-use Rattle.mdp_subsystem_rules.proofs.Stops.{passed, stopped}
+use Rattle.mdp_farkas.specs.Verdict.{objection_to}
+use Rattle.mdp_farkas.proofs.Objections.{passed, stopped}
 use Rattle.mdp_subsystem_rules.proofs.walk.each_place.Goals as goal
 
 pub returns-in_err-at : goal.returns-in_err-at
@@ -17,4 +17,4 @@ loop-i-preserved g c = λ checks told. passed checks c.loop-i.i tt tt (c.loop-i.
 
 pub returns : goal.returns
 returns g c = λ checks told. let e : c.loop-i.i
-    ≡ c.args.count = omega arith in subst (λ (n : ℕ). Ok tt ≡ stop_of (flat_map checks (range_with_len 0 n))) e (c.loop-i.invariant checks told)
+    ≡ c.args.count = omega arith in subst (λ (n : ℕ). Ok tt ≡ objection_to (flat_map checks (range_with_len 0 n))) e (c.loop-i.invariant checks told)

@@ -1,0 +1,94 @@
+-- Verdicts on discounted rewards, computed. `wait` stays at 0 for 1 in each step, or moves to 1, which earns 3 in each step. `puterman` is the example
+-- with two states of Puterman 1994, section 3.1: 5 at 0, where half the time one stays, or 10 at once, and -1 in each step at 1.
+use Rattle.std.proofs.Common.{◌≡◌, ℕ, List, [], ◌∷◌, refl, pos, Some, None}
+use Rattle.mdp_math.specs.Gcd.{gcd, gcd_with_fuel}
+use Rattle.mdp_math.specs.Rational.{ℚ, of_int, ratio, neg_ℚ, ◌+ℚ◌, ◌*ℚ◌, le_ℚ}
+use Rattle.mdp_math.specs.Written.{narrow, narrow_ℚ, written_add, written_mul, written_compare}
+use Rattle.mdp_spec.specs.Mdp.{Entry, Choice, State, Mdp}
+use Rattle.mdp_farkas.specs.Verdict.{verdict_of}
+use Rattle.mdp_farkas.specs.declared.verdict.Verdict.{Verdict}
+use Rattle.mdp_farkas.specs.declared.verdict.Verdict.TheVariants.{Yes, No}
+use Rattle.mdp_rows.specs.declared.dir.Dir.{Dir}
+use Rattle.mdp_rows.specs.declared.dir.Dir.TheVariants.{Max, Min}
+use Rattle.mdp_discount_rules.specs.Checks.{discount_checks}
+use Rattle.mdp_farkas.specs.declared.rule.Rule.TheVariants.{ChoiceExists, DiscountedOnEachChoice, DiscountedOnPolicy, RemainderIsGreatest}
+
+abbrev number : ℕ → ℚ
+number n = of_int (pos n)
+
+abbrev minus : ℕ → ℚ
+minus n = neg_ℚ (of_int (pos n))
+
+abbrev over : ℕ → ℕ → ℚ
+over n d = ratio (pos n) d
+
+abbrev entry : ℕ → ℚ → Entry
+entry t p = record { target = t; prob = p }
+
+abbrev to : ℕ → ℚ → Choice
+to t reward = record { row = entry t (number 1) ∷ []; rewards = reward ∷ [] }
+
+abbrev state : List Choice → State
+state choices = record { labels = []; choices = choices }
+
+abbrev model : List State → Mdp
+model states = record { names = (45 ∷ []) ∷ []; labels = []; states = states }
+
+abbrev wait : Mdp
+wait = model (state (to 0 (number 1) ∷ to 1 (number 0) ∷ []) ∷ state (to 1 (number 3) ∷ []) ∷ [])
+
+abbrev puterman : Mdp
+puterman = model
+    (state (record { row = entry 0 (over 1 2) ∷ entry 1 (over 1 2) ∷ []; rewards = number 5 ∷ [] } ∷ to 1 (number 10) ∷ [])
+    ∷ state (to 1 (minus 1) ∷ [])
+    ∷ [])
+
+abbrev says : Dir → Mdp → ℚ → List ℚ → ℚ → List ℕ → Verdict
+says dir m f v remainder policy = verdict_of (discount_checks dir m 0 f v remainder policy)
+
+-- ---- what holds
+
+waits : says Max wait (over 1 2) (number 3 ∷ number 6 ∷ []) (number 6) (1 ∷ 0 ∷ []) ≡ Yes
+unfolding gcd gcd_with_fuel of_int ratio neg_ℚ le_ℚ ◌+ℚ◌ ◌*ℚ◌ narrow narrow_ℚ written_add written_mul written_compare
+waits = refl
+
+half : says Max puterman (over 1 2) (number 9 ∷ minus 2 ∷ []) (number 9) (1 ∷ 0 ∷ []) ≡ Yes
+unfolding gcd gcd_with_fuel of_int ratio neg_ℚ le_ℚ ◌+ℚ◌ ◌*ℚ◌ narrow narrow_ℚ written_add written_mul written_compare
+half = refl
+
+-- the remainder is a magnitude: -10 is the farthest from 0
+nine_tenths : says Max puterman (over 9 10) (number 1 ∷ minus 10 ∷ []) (number 10) (1 ∷ 0 ∷ []) ≡ Yes
+unfolding gcd gcd_with_fuel of_int ratio neg_ℚ le_ℚ ◌+ℚ◌ ◌*ℚ◌ narrow narrow_ℚ written_add written_mul written_compare
+nine_tenths = refl
+
+least : says Min puterman (over 1 2) (number 6 ∷ minus 2 ∷ []) (number 6) (0 ∷ 0 ∷ []) ≡ Yes
+unfolding gcd gcd_with_fuel of_int ratio neg_ℚ le_ℚ ◌+ℚ◌ ◌*ℚ◌ narrow narrow_ℚ written_add written_mul written_compare
+least = refl
+
+-- under factor 0 the values are the rewards
+at_once : says Max puterman (number 0) (number 10 ∷ minus 1 ∷ []) (number 10) (1 ∷ 0 ∷ []) ≡ Yes
+unfolding gcd gcd_with_fuel of_int ratio neg_ℚ le_ℚ ◌+ℚ◌ ◌*ℚ◌ narrow narrow_ℚ written_add written_mul written_compare
+at_once = refl
+
+-- ---- what is refused
+
+-- to wait for ever earns 2; to move on earns 3
+first_kept : says Max wait (over 1 2) (number 2 ∷ number 6 ∷ []) (number 6) (0 ∷ 0 ∷ []) ≡ No (record { rule = DiscountedOnEachChoice; state = Some 0; choice = Some 1 })
+unfolding gcd gcd_with_fuel of_int ratio neg_ℚ le_ℚ ◌+ℚ◌ ◌*ℚ◌ narrow narrow_ℚ written_add written_mul written_compare
+first_kept = refl
+
+too_much : says Max wait (over 1 2) (number 4 ∷ number 6 ∷ []) (number 6) (1 ∷ 0 ∷ []) ≡ No (record { rule = DiscountedOnPolicy; state = Some 0; choice = Some 1 })
+unfolding gcd gcd_with_fuel of_int ratio neg_ℚ le_ℚ ◌+ℚ◌ ◌*ℚ◌ narrow narrow_ℚ written_add written_mul written_compare
+too_much = refl
+
+small_remainder : says Max wait (over 1 2) (number 3 ∷ number 6 ∷ []) (number 5) (1 ∷ 0 ∷ []) ≡ No (record { rule = RemainderIsGreatest; state = None; choice = None })
+unfolding gcd gcd_with_fuel of_int ratio neg_ℚ le_ℚ ◌+ℚ◌ ◌*ℚ◌ narrow narrow_ℚ written_add written_mul written_compare
+small_remainder = refl
+
+greatest_value : says Max puterman (over 9 10) (number 1 ∷ minus 10 ∷ []) (number 1) (1 ∷ 0 ∷ []) ≡ No (record { rule = RemainderIsGreatest; state = None; choice = None })
+unfolding gcd gcd_with_fuel of_int ratio neg_ℚ le_ℚ ◌+ℚ◌ ◌*ℚ◌ narrow narrow_ℚ written_add written_mul written_compare
+greatest_value = refl
+
+no_choice : says Max wait (over 1 2) (number 3 ∷ number 6 ∷ []) (number 6) (2 ∷ 0 ∷ []) ≡ No (record { rule = ChoiceExists; state = Some 0; choice = Some 2 })
+unfolding gcd gcd_with_fuel of_int ratio neg_ℚ le_ℚ ◌+ℚ◌ ◌*ℚ◌ narrow narrow_ℚ written_add written_mul written_compare
+no_choice = refl

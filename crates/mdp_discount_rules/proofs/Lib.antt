@@ -1,0 +1,11 @@
+pub mod Directions
+pub mod Steps
+pub mod Discs
+pub mod Discount
+pub mod Greatest
+pub mod Magnitudes
+pub mod DiscountRules
+pub mod Names
+pub mod Accepting
+pub mod OneValue
+mod Examples

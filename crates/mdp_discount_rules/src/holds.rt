@@ -1,0 +1,167 @@
+ghost use Rattle.std.specs.Prelude.{◌≡◌, ◌<◌, ◌↔◌, [], ◌∷◌, length, IfOk};
+ghost use Rattle.std.specs.Result.{result_ok};
+ghost use Rattle.mdp_spec.specs.Mdp.{states_of, choices_at, value_at};
+ghost use Rattle.mdp_farkas.specs.Bellman.{stands};
+ghost use Rattle.mdp_farkas.specs.Reach.{choice_exists};
+ghost use Rattle.mdp_farkas.specs.Verdict.{at_choices, objection_to, verdict_of, IsYes, IfYes};
+ghost use Rattle.mdp_discount_rules.specs.Bounds.{DiscountBound};
+ghost use Rattle.mdp_discount_rules.specs.Checks.{covers_check, reached_check, values_checks, checks_at, remainder_check, state_checks, discount_checks, IsDiscount};
+
+use crate::cert::DiscountCert;
+use crate::earning::earned;
+use crate::magnitude::greatest_magnitude;
+use mdp_farkas::{
+    Objection, Rule, Verdict, at_least, at_most, each_below, each_choice, equal, judged, judged_at,
+    verdict_after,
+};
+use mdp_num::{Frac, Wide};
+use mdp_rows::{Dir, Model};
+
+/// Whether a value is at least, or for the least values at most, a sum.
+fn value_stands(dir: Dir, value: &Frac, sum: &Frac) -> Result<bool, Wide>
+    ensures { result_ok result ≡ stands dir value.now sum.now }
+{
+    match dir {
+        Dir::Max => at_least(value, sum),
+        Dir::Min => at_most(value, sum),
+    }
+}
+
+/// Values, a policy and a remainder that are held against a model.
+#[derive(Clone, Copy)]
+struct Claimed<'a> {
+    dir: Dir,
+    model: &'a Model,
+    name: u32,
+    factor: &'a Frac,
+    values: &'a [Frac],
+    choices: &'a [u32],
+    ghost named: { name < length model.now.names },
+    ghost values_each: { length values.now ≡ states_of model.now },
+    ghost choices_each: { length choices.now ≡ states_of model.now },
+}
+
+impl Claimed<'_> {
+    /// Whether the value of state `s` is at least, or for the least reward at most, what its choice `c` earns.
+    fn covers(self, s: u32, c: u32) -> Result<bool, Wide>
+        requires state { s < states_of self.model.now }
+        requires choice { c < length (choices_at self.model.now s) }
+        ensures { result_ok result ≡ (covers_check self.entry.dir self.entry.model.now self.entry.name self.entry.factor.now self.entry.values.now s c).holds }
+    {
+        let sum = earned(self.model, self.name, self.factor, s, c, self.values)?;
+        value_stands(self.dir, &self.values[s as usize], &sum)
+    }
+
+    /// Whether the value of state `s` is what its choice `c` earns.
+    fn is_reached(self, s: u32, c: u32) -> Result<bool, Wide>
+        requires state { s < states_of self.model.now }
+        requires choice { c < length (choices_at self.model.now s) }
+        ensures { result_ok result ≡ (reached_check self.entry.model.now self.entry.name self.entry.factor.now self.entry.values.now s c).holds }
+    {
+        let sum = earned(self.model, self.name, self.factor, s, c, self.values)?;
+        equal(&self.values[s as usize], &sum)
+    }
+
+    /// The value of state `s` against its choice `c`.
+    fn choice_at(self, s: u32, c: u32) -> Result<(), Objection>
+        requires state { s < states_of self.model.now }
+        requires choice { c < length (choices_at self.model.now s) }
+        ensures { result ≡ objection_to (covers_check self.entry.dir self.entry.model.now self.entry.name self.entry.factor.now self.entry.values.now s c ∷ []) }
+    {
+        judged(self.covers(s, c), Rule::DiscountedOnEachChoice, s, Some(c))
+    }
+
+    /// The value of state `s` against each of its choices.
+    fn choices_of(self, s: u32) -> Result<(), Objection>
+        requires { s < states_of self.model.now }
+        ensures { result ≡ objection_to (at_choices self.entry.model.now s (covers_check self.entry.dir self.entry.model.now self.entry.name self.entry.factor.now self.entry.values.now s)) }
+    {
+        each_choice(self.model, s, |c| self.choice_at(s, c))
+    }
+
+    /// The value of state `s` against the policy's choice `c`.
+    fn policy_at(self, s: u32, c: u32) -> Result<(), Objection>
+        requires state { s < states_of self.model.now }
+        requires choice { c < length (choices_at self.model.now s) }
+        ensures { result ≡ objection_to (reached_check self.entry.model.now self.entry.name self.entry.factor.now self.entry.values.now s c ∷ []) }
+    {
+        judged(self.is_reached(s, c), Rule::DiscountedOnPolicy, s, Some(c))
+    }
+
+    /// Whether state `s` has the policy's choice.
+    fn exists_at(self, s: u32, choice: u32) -> Result<(), Objection>
+        requires { s < states_of self.model.now }
+        ensures exists { result ≡ objection_to (choice_exists self.entry.model.now s choice ∷ []) }
+        ensures below { IfOk result (λ u. choice < length (choices_at self.entry.model.now s)) }
+    {
+        judged(
+            Ok(choice < self.model.choices(s)),
+            Rule::ChoiceExists,
+            s,
+            Some(choice),
+        )
+    }
+
+    /// The rules at state `s`, where the policy takes this choice.
+    fn state_at(self, s: u32, choice: u32) -> Result<(), Objection>
+        requires { s < states_of self.model.now }
+        ensures { result ≡ objection_to (checks_at self.entry.dir self.entry.model.now self.entry.name self.entry.factor.now self.entry.values.now s choice) }
+    {
+        self.exists_at(s, choice)?;
+        self.choices_of(s)?;
+        self.policy_at(s, choice)
+    }
+
+    /// The rules at each state, from 0 on.
+    fn states(self) -> Result<(), Objection>
+        ensures { result ≡ objection_to (state_checks self.entry.dir self.entry.model.now self.entry.name self.entry.factor.now self.entry.values.now self.entry.choices.now) }
+    {
+        each_below(
+            self.model.states(),
+            |s| self.state_at(s, self.choices[s as usize]),
+        )
+    }
+
+    /// All rules: those at each state, and that of the remainder.
+    fn walk(self, remainder: &Frac) -> Result<(), Objection>
+        ensures { result ≡ objection_to (discount_checks self.entry.dir self.entry.model.now self.entry.name self.entry.factor.now self.entry.values.now remainder.now self.entry.choices.now) }
+    {
+        self.states()?;
+        judged_at(
+            is_greatest(remainder, self.values),
+            Rule::RemainderIsGreatest,
+            None,
+            None,
+        )
+    }
+}
+
+/// Whether a remainder is the greatest magnitude of the values.
+fn is_greatest(remainder: &Frac, values: &[Frac]) -> Result<bool, Wide>
+    ensures { result_ok result ≡ (remainder_check values.now remainder.now).holds }
+{
+    let greatest = greatest_magnitude(values)?;
+    equal(remainder, &greatest)
+}
+
+/// Whether the values are the greatest, or the least, discounted rewards of the reward name of place `m`, and the policy one that earns them: what
+/// rules 2 and 26 to 28 say. Yes, the first rule that is false with its place, or the place of the first written term past width where that comes
+/// before; the rule of the remainder has no place. It takes no memory.
+pub fn holds_discount(model: &Model, m: u32, cert: &DiscountCert) -> Verdict
+    requires name { m < length model.now.names }
+    requires values { length cert.now.values.items ≡ states_of model.now }
+    ensures verdict { result ≡ verdict_of (discount_checks cert.now.dir model.now m cert.now.factor cert.now.values.items cert.now.remainder cert.now.choices.items) }
+    ensures rules { IsYes result ↔ IsDiscount cert.now.dir model.now m cert.now.factor cert.now.values.items cert.now.remainder cert.now.choices.items }
+    ensures bound { IfYes result (DiscountBound cert.now.dir model.now m cert.now.factor cert.now.values.items cert.now.remainder cert.now.choices.items) }
+{
+    model.known();
+    let claimed = Claimed {
+        dir: cert.dir,
+        model,
+        name: m,
+        factor: &cert.factor,
+        values: cert.values.as_slice(),
+        choices: cert.choices.as_slice(),
+    };
+    verdict_after(claimed.walk(&cert.remainder))
+}

@@ -1,0 +1,20 @@
+//! The rules of discounted rewards: a certificate is held against the model. No search stands below this crate.
+#![tactic(auto)]
+
+mod answer;
+mod cert;
+mod checking;
+mod earning;
+mod holds;
+mod laws;
+mod magnitude;
+
+pub use answer::DiscountAnswer;
+pub use cert::DiscountCert;
+pub use checking::check_discount;
+pub use earning::earned;
+pub use holds::holds_discount;
+pub use laws::discount_rules_law;
+pub use magnitude::greatest_magnitude;
+pub use mdp_farkas::Verdict;
+pub use mdp_text::Init;
