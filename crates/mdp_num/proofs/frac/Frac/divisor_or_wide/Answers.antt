@@ -7,8 +7,8 @@ use Rattle.mdp_math.proofs.Laws.{den-pos}
 use Rattle.mdp_num.specs.Value.{IsNarrow}
 use Rattle.mdp_num.proofs.Values.{den-bits}
 use Rattle.mdp_num.proofs.Past.{either-past}
-use Rattle.mdp_num.proofs.frac.Frac.near_divisor.Goals as goal
-use Rattle.mdp_num.proofs.frac.Frac.near_divisor.Goals.{After-divisor_above}
+use Rattle.mdp_num.proofs.frac.Frac.divisor_or_wide.Goals as goal
+use Rattle.mdp_num.proofs.frac.Frac.divisor_or_wide.Goals.{After-divisor_above}
 
 dens-are : (c : After-divisor_above) → gcd c.unsigned_abs.result c.unsigned_abs-2.result ≡ gcd (ℚ.den c.args.self.now) (ℚ.den c.args.other.now)
 dens-are c = ap₂ gcd (c.unsigned_abs.ensures.value ∙ ap unsigned_abs (den-bits _ _ c.self.view_is c.self.invariant))
