@@ -22,7 +22,7 @@ use Rattle.mdp_graph.proofs.ByTest.{ranks_to, ranks_test, same_below, agree, tes
 use Rattle.mdp_graph.proofs.Dropping.{sure_marks}
 use Rattle.mdp_graph.proofs.Meeting.{must_respects}
 use Rattle.mdp_graph.proofs.Passes.{reached_marks, least_ranks}
-use Rattle.mdp_graph.proofs.Rounding.{left-top, stays-alike}
+use Rattle.mdp_graph.proofs.LeftAfter.{left-top, stays-alike}
 
 abbrev halves : ℕ → ℕ → List Entry
 halves s t = record { target = s; prob = ratio (pos 1) 2 } ∷ record { target = t; prob = ratio (pos 1) 2 } ∷ []

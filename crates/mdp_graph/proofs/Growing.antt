@@ -20,7 +20,7 @@ use Rattle.mdp_graph.proofs.RankFacts.{none_among}
 use Rattle.mdp_graph.proofs.Pruning.{cases_way, or-cases, or-left, or-right, way-in}
 use Rattle.mdp_graph.proofs.Reaching.{step-reaches, first-reached}
 use Rattle.mdp_graph.proofs.RowSets.{enters-at, enters-by, stays-at, stays-outside}
-use Rattle.mdp_graph.proofs.Settling.{inside-choice, choice-inside}
+use Rattle.mdp_graph.proofs.StepsInside.{inside-choice, choice-inside}
 use Rattle.mdp_math.proofs.Booleans.{or-false, and-both, and-right, not_true, false_of_not}
 
 abbrev pub nothing : ℕ → Bool

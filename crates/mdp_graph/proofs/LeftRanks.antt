@@ -13,8 +13,8 @@ use Rattle.mdp_graph.specs.Sure.{inside_step, IsSure}
 use Rattle.mdp_graph.proofs.Passes.{mark-is, has_rank}
 use Rattle.mdp_graph.proofs.Reached.{at_most-some}
 use Rattle.mdp_graph.proofs.RoundLaws.{greatest_round, zero_sure, zero_left}
-use Rattle.mdp_graph.proofs.Rounding.{left-top, stays-alike}
-use Rattle.mdp_graph.proofs.Settling.{reached-more, rank-reached}
+use Rattle.mdp_graph.proofs.LeftAfter.{left-top, stays-alike}
+use Rattle.mdp_graph.proofs.StepsInside.{reached-more, rank-reached}
 use Rattle.mdp_math.proofs.Booleans.{same_truth}
 
 set_left : (m : Mdp) (goals : List Bool) (rounds : List ℕ) (set : ℕ → Bool) → IsMdp m → AreRounds m goals rounds → IsSure m goals set

@@ -9,6 +9,7 @@ mod Examples
 pub mod Falls
 pub mod GivingRanks
 pub mod Growing
+pub mod LeftAfter
 pub mod LeftRanks
 pub mod MayReach
 pub mod Meeting
@@ -26,10 +27,9 @@ pub mod Reaching
 pub mod Releasing
 pub mod RoundByRound
 pub mod RoundLaws
-pub mod Rounding
 pub mod RowSets
 pub mod Seeking
-pub mod Settling
 pub mod Steps
+pub mod StepsInside
 pub mod SureSome
 pub mod Taking

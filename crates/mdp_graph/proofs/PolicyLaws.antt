@@ -11,7 +11,7 @@ use Rattle.mdp_graph.specs.Meet.{must_step}
 use Rattle.mdp_graph.specs.Sure.{inside_step, IsSure, IsGreatestSure}
 use Rattle.mdp_graph.specs.Laws.{policy_step, ChoicesReach, RestStays, RowsFall, RowsStay, EachPolicyMeets, RestAvoids, IsSurePolicy, ChoicesAreSure, SureAreMarked}
 use Rattle.mdp_graph.proofs.Reaching.{step-reaches, stays-reached, first-reached, never-reached}
-use Rattle.mdp_graph.proofs.Settling.{choice-inside}
+use Rattle.mdp_graph.proofs.StepsInside.{choice-inside}
 use Rattle.mdp_math.proofs.Booleans.{or-true, and-left, and-right, and-both}
 use Rattle.mdp_graph.proofs.RowSets.{list_any-at, list_any-by, list_all-at, list_all-by, list_all-fails, enters-at, enters-by, stays-at, stays-more, stays-outside}
 

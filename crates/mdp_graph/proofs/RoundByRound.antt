@@ -25,9 +25,9 @@ use Rattle.mdp_graph.proofs.PredLists.{list-is, led-in, led-back}
 use Rattle.mdp_graph.proofs.Passes.{plain-is}
 use Rattle.mdp_graph.proofs.Pruning.{cases_way, or-cases, or-left, or-right, some-in, way-in}
 use Rattle.mdp_graph.proofs.RankFacts.{some-same}
-use Rattle.mdp_graph.proofs.Rounding.{stays-alike}
+use Rattle.mdp_graph.proofs.LeftAfter.{stays-alike}
 use Rattle.mdp_graph.proofs.RowSets.{enters-same}
-use Rattle.mdp_graph.proofs.Settling.{reached-more}
+use Rattle.mdp_graph.proofs.StepsInside.{reached-more}
 use Rattle.mdp_math.proofs.Booleans.{or-false, and-right, and-both, same_truth, not_true, not-not}
 
 among-range : (s a n : ℕ) → a ≤ s → s < a + n → is_among s (range_with_len a n) ≡ true

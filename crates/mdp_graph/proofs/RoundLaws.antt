@@ -10,8 +10,8 @@ use Rattle.mdp_graph.specs.Sure.{inside_step, IsSure}
 use Rattle.mdp_graph.specs.Rounds.{left_after, AreRounds}
 use Rattle.mdp_graph.specs.Laws.{earlier, RoundsFall, ZeroIsSure}
 use Rattle.mdp_graph.proofs.Reaching.{step-reaches}
-use Rattle.mdp_graph.proofs.Settling.{choice-inside, reached-more}
-use Rattle.mdp_graph.proofs.Rounding.{left-top, stays-alike}
+use Rattle.mdp_graph.proofs.StepsInside.{choice-inside, reached-more}
+use Rattle.mdp_graph.proofs.LeftAfter.{left-top, stays-alike}
 use Rattle.mdp_math.proofs.Booleans.{or-true, and-both, same_truth}
 use Rattle.mdp_graph.proofs.RowSets.{enters-by, stays-outside, stays-fails}
 

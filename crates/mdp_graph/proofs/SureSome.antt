@@ -10,7 +10,7 @@ use Rattle.mdp_graph.specs.Sure.{inside_step, IsGreatestSure, stays_and_falls}
 use Rattle.mdp_graph.specs.Settled.{IsSettled}
 use Rattle.mdp_graph.proofs.Reached.{rank_of, at_most-some}
 use Rattle.mdp_graph.proofs.Passes.{mark-is, has_rank, least_ranks, least_choices, falls-is}
-use Rattle.mdp_graph.proofs.Settling.{inside-choice}
+use Rattle.mdp_graph.proofs.StepsInside.{inside-choice}
 
 module _ (m : Mdp) (goals : List Bool) (ranks : List (Option ℕ)) (f : IsSettled m goals ranks) where
   mark : (s : ℕ) → s < states_of m → marked (map is_some ranks) s ≡ is_some (rank_at ranks s)

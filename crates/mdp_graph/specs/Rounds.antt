@@ -1,5 +1,5 @@
 -- The rounds in which the states outside the greatest sure set are removed, from all states on.
-use Rattle.std.specs.Prelude.{◌≡◌, ℕ, ◌+◌, ◌<◌, ◌↔◌, Bool, true, ◌||◌, ◌==◌, nat_lt, cond, Option, Some, None, List, length, slice_index}
+use Rattle.std.specs.Prelude.{◌≡◌, ℕ, ◌+◌, ◌<◌, ◌↔◌, Bool, true, ◌||◌, ◌==◌, nat_lt, List, length, slice_index}
 use Rattle.mdp_spec.specs.Mdp.{Mdp, states_of}
 use Rattle.mdp_graph.specs.Sets.{marked}
 use Rattle.mdp_graph.specs.Layers.{reached}
@@ -17,8 +17,3 @@ CanStay m goals set s = (k : ℕ) × (reached (inside_step m set) (marked goals)
 pub record AreRounds (m : Mdp) (goals : List Bool) (rounds : List ℕ) : Type 0 where
   pub count : length rounds ≡ states_of m
   pub next : (i s : ℕ) → s < states_of m → (left_after rounds (i + 1) s ≡ true) ↔ CanStay m goals (left_after rounds i) s
-
--- the round of a state without a rank that has none yet
-abbrev pub noted : ℕ → Option ℕ → ℕ → ℕ
-noted round (Some r) old = old
-noted round None old = cond (old == 0) round old

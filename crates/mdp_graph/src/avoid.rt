@@ -2,10 +2,12 @@ ghost use Rattle.std.specs.Prelude.{◌≡◌, ◌<◌, ◌&&◌, ℕ, length, m
 ghost use Rattle.std.specs.List.{All, list_all, find, range_with_len};
 ghost use Rattle.mdp_spec.specs.Mdp.{states_of, choices_at};
 ghost use Rattle.mdp_graph.specs.Sets.{marked};
+ghost use Rattle.mdp_graph.specs.Layers.{AreRanks, AreReached, AreLeastRanks};
 ghost use Rattle.mdp_graph.specs.Choices.{first_passing, AreLeast};
+ghost use Rattle.mdp_graph.specs.Meet.{must_step, AllFall};
 ghost use Rattle.mdp_graph.specs.Avoid.{IsGreatestAvoiding, keeps};
 
-use crate::meet::meeting_ranks;
+use crate::meet::{meeting_pass, meeting_ranks};
 use crate::pass::{Pass, zeros};
 use crate::predecessors::all_marked;
 use mdp_num::Memory;
@@ -55,6 +57,28 @@ fn keeping_choices(alloc: Global, model: &Model, marks: &Marks) -> Result<Vec<u3
         .collect(alloc)
 }
 
+/// What `may_avoid` answers, by the ranks of `must_meet`.
+fn avoiding_pass(
+    alloc: Global,
+    model: &Model,
+    goals: &Marks,
+    met: &[Option<u32>],
+) -> Result<Pass, AllocError>
+    requires met { AreRanks (must_step model.now) (marked goals.now) (states_of model.now) met.now }
+    ensures marks { IfOk result (λ pass. IsGreatestAvoiding model.now goals.now pass.marks) }
+    ensures ranks { IfOk result (λ pass. pass.ranks.items ≡ replicate (states_of model.now) 0) }
+    ensures choices { IfOk result (λ pass. AreLeast model.now goals.now pass.marks (keeps model.now pass.marks) pass.choices.items) }
+{
+    model.known();
+    let marks = marks_without(alloc, met)?;
+    let choices = keeping_choices(alloc, model, &marks)?;
+    Ok(Pass {
+        marks,
+        ranks: zeros(alloc, model.states() as usize)?,
+        choices,
+    })
+}
+
 /// The states from which some policy never meets a goal: the greatest set of states that aren't goals in which each has a choice whose
 /// successors all are in the set. The choice is the least such one. Ranks are 0.
 ///
@@ -65,13 +89,35 @@ pub fn may_avoid(alloc: Global, model: &Model, goals: &Marks) -> Result<Pass, Me
     ensures ranks { IfOk result (λ pass. pass.ranks.items ≡ replicate (states_of model.now) 0) }
     ensures choices { IfOk result (λ pass. AreLeast model.now goals.now pass.marks (keeps model.now pass.marks) pass.choices.items) }
 {
-    model.known();
     let met = meeting_ranks(alloc, model, goals)?;
-    let marks = marks_without(alloc, &met)?;
-    let choices = keeping_choices(alloc, model, &marks)?;
-    Ok(Pass {
-        marks,
-        ranks: zeros(alloc, model.states() as usize)?,
-        choices,
+    Ok(avoiding_pass(alloc, model, goals, &met)?)
+}
+
+/// The states that some policy keeps from the goals, and those that each policy brings to one.
+#[derive(Drop, Debug)]
+pub struct AvoidingAndMeeting {
+    pub avoiding: Pass,
+    pub meeting: Pass,
+}
+
+/// What `may_avoid` and `must_meet` answer, in one call.
+pub fn avoid_and_meet(
+    alloc: Global,
+    model: &Model,
+    goals: &Marks,
+) -> Result<AvoidingAndMeeting, Memory>
+    requires goals { length goals.now ≡ states_of model.now }
+    ensures avoiding { IfOk result (λ both. IsGreatestAvoiding model.now goals.now both.avoiding.marks) }
+    ensures avoiding_ranks { IfOk result (λ both. both.avoiding.ranks.items ≡ replicate (states_of model.now) 0) }
+    ensures avoiding_choices { IfOk result (λ both. AreLeast model.now goals.now both.avoiding.marks (keeps model.now both.avoiding.marks) both.avoiding.choices.items) }
+    ensures meeting { IfOk result (λ both. AreReached (must_step model.now) (marked goals.now) (states_of model.now) both.meeting.marks) }
+    ensures meeting_ranks { IfOk result (λ both. AreLeastRanks (must_step model.now) (marked goals.now) (states_of model.now) both.meeting.marks both.meeting.ranks.items) }
+    ensures falls { IfOk result (λ both. AllFall model.now goals.now both.meeting.marks both.meeting.ranks.items) }
+    ensures meeting_choices { IfOk result (λ both. both.meeting.choices.items ≡ replicate (states_of model.now) 0) }
+{
+    let met = meeting_ranks(alloc, model, goals)?;
+    Ok(AvoidingAndMeeting {
+        avoiding: avoiding_pass(alloc, model, goals, &met)?,
+        meeting: meeting_pass(alloc, model, goals, &met)?,
     })
 }

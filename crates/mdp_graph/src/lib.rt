@@ -16,7 +16,7 @@ mod sure;
 mod waiting;
 
 pub use always::sure_all;
-pub use avoid::may_avoid;
+pub use avoid::{AvoidingAndMeeting, avoid_and_meet, may_avoid};
 pub use falling::{SureRounds, sure_rounds};
 pub use laws::{
     along_law, avoid_law, meet_law, reach_law, rounds_law, sure_all_law, sure_some_law,

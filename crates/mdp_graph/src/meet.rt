@@ -9,7 +9,7 @@ use crate::ranking::{give_rank, marked_states, no_ranks};
 use crate::waiting::Waiting;
 use mdp_num::Memory;
 use mdp_rows::{Marks, Model, preds_of};
-use std::alloc::Global;
+use std::alloc::{AllocError, Global};
 
 /// The least ranks by which states meet a target whatever is chosen; none where they don't. Each entry is looked at once, so the time grows
 /// with their number.
@@ -39,6 +39,27 @@ pub(crate) fn meeting_ranks(
     Ok(ranks)
 }
 
+/// What `must_meet` answers, by its ranks.
+pub(crate) fn meeting_pass(
+    alloc: Global,
+    model: &Model,
+    target: &Marks,
+    ranks: &[Option<u32>],
+) -> Result<Pass, AllocError>
+    requires ranks { AreRanks (must_step model.now) (marked target.now) (states_of model.now) ranks.now }
+    ensures marks { IfOk result (λ pass. AreReached (must_step model.now) (marked target.now) (states_of model.now) pass.marks) }
+    ensures ranks { IfOk result (λ pass. AreLeastRanks (must_step model.now) (marked target.now) (states_of model.now) pass.marks pass.ranks.items) }
+    ensures falls { IfOk result (λ pass. AllFall model.now target.now pass.marks pass.ranks.items) }
+    ensures choices { IfOk result (λ pass. pass.choices.items ≡ replicate (states_of model.now) 0) }
+{
+    model.known();
+    Ok(Pass {
+        marks: marks_by(alloc, ranks)?,
+        ranks: plain_ranks(alloc, ranks)?,
+        choices: zeros(alloc, model.states() as usize)?,
+    })
+}
+
 /// The states that meet a target whatever is chosen. Targets have rank 0. Each choice of any other marked state has a marked successor of
 /// smaller rank. Choices are 0.
 pub fn must_meet(alloc: Global, model: &Model, target: &Marks) -> Result<Pass, Memory>
@@ -48,11 +69,6 @@ pub fn must_meet(alloc: Global, model: &Model, target: &Marks) -> Result<Pass, M
     ensures falls { IfOk result (λ pass. AllFall model.now target.now pass.marks pass.ranks.items) }
     ensures choices { IfOk result (λ pass. pass.choices.items ≡ replicate (states_of model.now) 0) }
 {
-    model.known();
     let ranks = meeting_ranks(alloc, model, target)?;
-    Ok(Pass {
-        marks: marks_by(alloc, &ranks)?,
-        ranks: plain_ranks(alloc, &ranks)?,
-        choices: zeros(alloc, model.states() as usize)?,
-    })
+    Ok(meeting_pass(alloc, model, target, &ranks)?)
 }

@@ -6,7 +6,7 @@ use Rattle.mdp_graph.specs.Edges.{has_edge, has_choice_to}
 use Rattle.mdp_graph.specs.Sure.{inside_step}
 use Rattle.mdp_graph.specs.Ranking.{AreRankedBy}
 use Rattle.mdp_graph.proofs.Reached.{ranked}
-use Rattle.mdp_graph.proofs.Settling.{inside_leads, inside_follows}
+use Rattle.mdp_graph.proofs.StepsInside.{inside_leads, inside_follows}
 use Rattle.mdp_graph.proofs.sure.ranks_inside.Goals as goal
 
 pub returns : goal.returns
