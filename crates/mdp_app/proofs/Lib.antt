@@ -2,4 +2,3 @@ mod Accepting
 mod Deciding
 mod InRange
 mod Answering
-mod PredCounts

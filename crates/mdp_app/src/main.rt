@@ -6,16 +6,8 @@
 
 mod checking;
 #[cfg(test)]
-mod graph_tests;
-#[cfg(test)]
 mod hostile_tests;
 mod laws;
-#[cfg(test)]
-mod library_tests;
-#[cfg(test)]
-mod mean_tests;
-#[cfg(test)]
-mod parts_tests;
 mod run;
 #[cfg(test)]
 mod tests;

@@ -30,8 +30,6 @@ mod policy_lines;
 mod push;
 mod read;
 mod state_lines;
-#[cfg(test)]
-mod tests;
 mod upper_lines;
 mod values;
 mod version;

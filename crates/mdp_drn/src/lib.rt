@@ -21,8 +21,6 @@ mod names;
 mod push;
 mod reading;
 mod state_text;
-#[cfg(test)]
-mod tests;
 mod values;
 mod writing;
 

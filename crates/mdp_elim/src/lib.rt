@@ -7,11 +7,7 @@ mod entries;
 mod equation;
 mod errors;
 mod laws;
-#[cfg(test)]
-mod listed;
 mod predecessors;
-#[cfg(test)]
-mod tests;
 mod too_wide;
 mod transposed;
 

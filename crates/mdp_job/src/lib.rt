@@ -6,8 +6,6 @@ mod files;
 mod job;
 mod refusal;
 mod status;
-#[cfg(test)]
-mod tests;
 mod words_error;
 
 pub use files::{Files, files_of};

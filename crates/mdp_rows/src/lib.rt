@@ -23,8 +23,6 @@ mod rows_of;
 mod rule;
 mod subsystem;
 mod terms;
-#[cfg(test)]
-mod tests;
 
 pub use builder::Builder;
 pub use dir::Dir;

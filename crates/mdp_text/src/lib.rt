@@ -10,8 +10,6 @@ mod lines;
 mod names;
 mod numbers;
 mod push;
-#[cfg(test)]
-mod tests;
 mod widths;
 mod words;
 

@@ -1,5 +1,5 @@
-use crate::CertKind::{Claim, Count, End, Number, Run, Shape, Version};
-use crate::{
+use mdp_text::CertKind::{Claim, Count, End, Number, Run, Shape, Version};
+use mdp_text::{
     CertError, Refusal, before_quote, begins_with, cut_word, frac_at, init_of, is_line, is_name,
     next_line, nothing_behind, only_word, push_end, push_fraction, push_fraction_end, push_init,
     push_number, push_values, push_whole, push_word, refuse_if, reward_of, start_at, states_at,

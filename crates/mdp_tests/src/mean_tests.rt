@@ -1,10 +1,10 @@
 ghost use Rattle.std.specs.Prelude.{◌<◌, length};
 
-use mdp_drn::read;
+use crate::models::model_of;
 use mdp_farkas::MeanCert;
 use mdp_mean::solve_mean;
 use mdp_num::Frac;
-use mdp_rows::{Dir, Model, RowRule};
+use mdp_rows::{Dir, Model};
 use std::alloc::{AllocError, Global};
 use std::test::Fail;
 
@@ -37,9 +37,7 @@ fn push_cert(cert: &MeanCert, out: &mut String) -> Result<(), AllocError> {
 
 /// The best mean payoff of the first reward name of a model's text, which follows the type.
 fn solved(alloc: Global, text: &str, dir: Dir) -> Result<String, Fail> {
-    let mut whole = String::from_str(alloc, "@type: MDP\n@nr_states\n")?;
-    whole.push_str(text)?;
-    let model = read(alloc, whole.as_bytes(), RowRule::Exact)?;
+    let model = model_of(alloc, text)?;
     let mut found = String::new(alloc);
     if model.names() > 0 {
         push_cert(&solve_mean(alloc, &model, 0, dir)?, &mut found)?;

@@ -1,4 +1,4 @@
-use crate::read_canonical;
+use mdp_num::read_canonical;
 use std::test::Fail;
 
 const WIDTH: i128 = 170141183460469231731687303715884105727;

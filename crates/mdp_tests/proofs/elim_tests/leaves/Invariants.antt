@@ -1,7 +1,7 @@
 use Rattle.std.proofs.Common.{◌≡◌, ℕ, ◌<◌, ◌⊎◌, true, false, get_or}
 use Rattle.std.specs.List.{Any}
 use Rattle.mdp_elim.specs.System.{is_active, row_of}
-use Rattle.mdp_elim.proofs.listed.leaves.Given as goal
+use Rattle.mdp_tests.proofs.elim_tests.leaves.Given as goal
 
 abbrev pub invariant-loop-s : goal.invariant-loop-s
 invariant-loop-s g l =

@@ -1,8 +1,8 @@
-use crate::DrnKind::{
+use mdp_drn::DrnKind::{
     Choices, Count, End, Header, Label, Large, LongLine, Negative, NoChoice, Number, Order,
     Parametric, Reward, RowSum, RowWide, Shape, Target, TooMany, Twice, Type,
 };
-use crate::{DrnError, Feed, FromError, read, read_from, write};
+use mdp_drn::{DrnError, Feed, FromError, read, read_from, write};
 use mdp_edge::ListSource;
 use mdp_rows::RowRule;
 use std::alloc::Global;

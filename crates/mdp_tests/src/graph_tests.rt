@@ -1,12 +1,12 @@
 ghost use Rattle.std.specs.Prelude.{◌≡◌, ◌<◌, length, IfOk};
 ghost use Rattle.mdp_spec.specs.Mdp.{states_of};
 
-use mdp_drn::read;
+use crate::models::{marked, model_of};
 use mdp_graph::{
     Pass, along, may_avoid, may_reach, must_meet, rounds_outside, sure_all, sure_some,
 };
 use mdp_num::Memory;
-use mdp_rows::{Marks, Model, PolicyRows, Pred, Preds, RowRule, preds_of};
+use mdp_rows::{Marks, Model, PolicyRows, Pred, Preds, preds_of};
 use std::alloc::{AllocError, Global};
 use std::test::Fail;
 
@@ -17,23 +17,6 @@ const SPLITS: &str =
 /// State 0 goes to 1 and 2, or may also come back; 1 is the goal.
 const FORK: &str =
     "3\n@model\nstate 0\naction\n1:1/2\n2:1/2\naction\n0:1/2\n1:1/4\n2:1/4\nstate 1 goal\naction\n1:1\nstate 2\naction\n2:1\n";
-
-/// The model of a text, which follows the type.
-fn model_of(alloc: Global, text: &str) -> Result<Model, Fail> {
-    let mut whole = String::from_str(alloc, "@type: MDP\n@nr_states\n")?;
-    whole.push_str(text)?;
-    Ok(read(alloc, whole.as_bytes(), RowRule::Exact)?)
-}
-
-/// The states with this label.
-fn marked(alloc: Global, model: &Model, label: &str) -> Result<Marks, Memory>
-    ensures { IfOk result (λ marks. length marks ≡ states_of model.now) }
-{
-    match model.label(label.as_bytes()) {
-        Some(place) => model.marks_of(alloc, place),
-        None => Marks::empty(alloc, model.states()),
-    }
-}
 
 /// Appends the rank and the choice of each state, or `-` where the state isn't marked and both are 0.
 fn push_pass(name: &str, pass: &Pass, states: u32, out: &mut String) -> Result<(), AllocError>

@@ -2,20 +2,13 @@ ghost use Rattle.std.specs.Prelude.{◌≡◌, ◌<◌, length};
 ghost use Rattle.mdp_spec.specs.Mdp.{states_of};
 ghost use Rattle.mdp_parts.specs.FoundEnds.{AreEndsOf};
 
+use crate::models::model_of;
 use bumpalo::Bump;
-use mdp_drn::read;
 use mdp_parts::{Allowed, Ends, components, end_components};
 use mdp_quot::Quotient;
-use mdp_rows::{Model, Row, RowRule};
+use mdp_rows::{Model, Row};
 use std::alloc::{AllocError, Global};
 use std::test::Fail;
-
-/// The model of a text, which follows the type.
-fn model_of(alloc: Global, text: &str) -> Result<Model, Fail> {
-    let mut whole = String::from_str(alloc, "@type: MDP\n@nr_states\n")?;
-    whole.push_str(text)?;
-    Ok(read(alloc, whole.as_bytes(), RowRule::Exact)?)
-}
 
 /// The number of each state's strong component.
 fn push_components(alloc: Global, model: &Model, out: &mut String) -> Result<(), Fail> {

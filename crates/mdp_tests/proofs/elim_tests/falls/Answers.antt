@@ -3,8 +3,8 @@ use Rattle.std.specs.List.{Any}
 use Rattle.std.proofs.lemmas.List.{get_or_default}
 use Rattle.mdp_spec.specs.Mdp.{Entry}
 use Rattle.mdp_elim.specs.System.{is_active}
-use Rattle.mdp_elim.proofs.GivenRows.{any-entry}
-use Rattle.mdp_elim.proofs.listed.falls.Goals as goal
+use Rattle.mdp_tests.proofs.Entered.{any-entry}
+use Rattle.mdp_tests.proofs.elim_tests.falls.Goals as goal
 
 pub returns-then-not-at : goal.returns-then-not-at
 returns-then-not-at g c = λ _.

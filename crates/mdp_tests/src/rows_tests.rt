@@ -1,4 +1,4 @@
-use crate::marks::Marks;
+use mdp_rows::Marks;
 use std::test::Fail;
 
 #[test]

@@ -1,7 +1,7 @@
-use crate::{Refusal, Status, WordsError, push_refusal};
 use mdp_cert::CertKind;
 use mdp_drn::DrnKind;
 use mdp_farkas::{Fault, Rule};
+use mdp_job::{Refusal, Status, WordsError, push_refusal};
 use mdp_num::Frac;
 use std::test::Fail;
 

@@ -1,6 +1,6 @@
 use Rattle.std.proofs.Common.{◌≡◌, true, false, below_more, ◌∙◌, sym, rules, IsTrue}
-use Rattle.mdp_elim.proofs.listed.leaves.Goals.{else-at-via-then-at+else-not-falls, else-at-via-else-at}
-use Rattle.mdp_elim.proofs.listed.leaves.Goals as goal
+use Rattle.mdp_tests.proofs.elim_tests.leaves.Goals.{else-at-via-then-at+else-not-falls, else-at-via-else-at}
+use Rattle.mdp_tests.proofs.elim_tests.leaves.Goals as goal
 
 pub loop-s-preserved : goal.loop-s-preserved
 loop-s-preserved g c =

@@ -1,4 +1,4 @@
-use crate::{
+use mdp_edge::{
     Failed, InError, ListSink, ListSource, Sink, Source, StdSink, StdSource, SureSink, SureSource,
     WriteFault, read_all, write_all,
 };

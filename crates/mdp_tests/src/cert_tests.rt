@@ -1,4 +1,4 @@
-use crate::{read_cert, write_cert, write_old};
+use mdp_cert::{read_cert, write_cert, write_old};
 use std::alloc::Global;
 use std::test::Fail;
 

@@ -1,0 +1,2 @@
+mod PredCounts
+mod Entered
