@@ -6,6 +6,8 @@ mod cert_tests;
 #[cfg(test)]
 mod drn_tests;
 #[cfg(test)]
+mod edge_fault_tests;
+#[cfg(test)]
 mod edge_tests;
 #[cfg(test)]
 mod elim_tests;
