@@ -6,6 +6,3 @@ pub mod Reward
 pub mod Spread
 pub mod Upper
 pub mod Verdict
-pub mod Between
-pub mod MeanBetween
-pub mod RewardBetween
