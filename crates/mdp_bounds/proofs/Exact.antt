@@ -13,12 +13,11 @@ use Rattle.mdp_farkas.specs.Bellman as bellman
 use Rattle.mdp_farkas.specs.Upper as upper
 use Rattle.mdp_farkas.specs.Reach as reach
 use Rattle.mdp_farkas.specs.Reach.{other, choice_exists, rank_checks, value_checks, reach_at, reach_checks, MeetsReach, IsReach}
-use Rattle.mdp_farkas.specs.Between.{MeetsReachBetween}
+use Rattle.mdp_bounds.specs.Reach.{MeetsReachBetween, outermost, stands_at, goal_check, bound_check, policy_check, cover_at, follow_at, bounds_at, bounds_checks, IsReachBounds}
 use Rattle.mdp_rows.specs.declared.dir.Dir.{Dir}
 use Rattle.mdp_rows.specs.declared.dir.Dir.TheVariants.{Max, Min}
 use Rattle.mdp_farkas.proofs.Holds.{Each, each_append, each_left, each_right, each_flat, each_flat_at, each_map, each_map_at, each_if, each_if_false}
 use Rattle.mdp_bounds.specs.Sum.{stands, first_value, have_one_value, plain_add, targets_of}
-use Rattle.mdp_bounds.specs.Reach.{outermost, stands_at, goal_check, bound_check, policy_check, cover_at, follow_at, bounds_at, bounds_checks, IsReachBounds}
 use Rattle.mdp_bounds.proofs.Sums.{plain_zero_left}
 
 -- ---- where a written sum is in width, the sum that is told is

@@ -5,11 +5,11 @@ use Rattle.mdp_math.specs.Rational.{ℚ, of_int, ratio, le_ℚ, lt_ℚ, neg_ℚ,
 use Rattle.mdp_math.specs.Written.{narrow, narrow_ℚ, written_add, written_mul, written_compare, cmp_ℚ}
 use Rattle.mdp_spec.specs.Mdp.{Entry, Choice, Mdp}
 use Rattle.mdp_farkas.specs.Verdict.{verdict_of}
-use Rattle.mdp_farkas.specs.Between.{between_checks}
+use Rattle.mdp_farkas.specs.Upper.{upper_checks}
+use Rattle.mdp_bounds.specs.Reach.{bounds_checks}
 use Rattle.mdp_rows.specs.declared.dir.Dir.TheVariants.{Max}
 use Rattle.mdp_farkas.specs.declared.verdict.Verdict.{Verdict}
 use Rattle.mdp_farkas.specs.declared.verdict.Verdict.TheVariants.{Yes, No, Wide}
-use Rattle.mdp_bounds.specs.Reach.{bounds_checks}
 use Rattle.mdp_bounds.specs.Reward.{reward_bounds_checks}
 use Rattle.mdp_bounds.specs.Mean.{mean_bounds_checks}
 use Rattle.mdp_farkas.specs.declared.rule.Rule.TheVariants.{BiasOnPolicy, BoundOnEachChoice, RewardOnPolicy, RewardValue, ValueOnEachChoice, ValueOnPolicy}
@@ -95,8 +95,8 @@ no_sum : reached third (whole 1) narrowest ≡ Yes
 unfolding gcd gcd_with_fuel ratio of_int le_ℚ lt_ℚ ◌+ℚ◌ ◌*ℚ◌ narrow narrow_ℚ written_add written_mul
 no_sum = refl
 
--- by written terms the same bounds are too wide
-written_too_wide : verdict_of (between_checks Max three goals (third ∷ whole 1 ∷ whole 0 ∷ []) (whole 1 ∷ whole 1 ∷ narrowest ∷ []) (1 ∷ 0 ∷ 0 ∷ []) (1 ∷ 0 ∷ 0 ∷ [])) ≡ Wide (Some 0) (Some 1)
+-- by written terms the same upper bounds are too wide
+written_too_wide : verdict_of (upper_checks three goals (whole 1 ∷ whole 1 ∷ narrowest ∷ [])) ≡ Wide (Some 0) (Some 1)
 unfolding gcd gcd_with_fuel ratio of_int lt_ℚ ◌+ℚ◌ ◌*ℚ◌ narrow narrow_ℚ written_add written_mul written_compare
 written_too_wide = refl
 

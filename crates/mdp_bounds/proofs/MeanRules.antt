@@ -15,8 +15,8 @@ use Rattle.mdp_farkas.specs.Verdict.{Check, verdict_of, InWidth, at_choices, IsY
 use Rattle.mdp_num.specs.Equal.{eq_ℚ}
 use Rattle.mdp_num.proofs.Equal.{equal_decides}
 use Rattle.mdp_farkas.specs.Reach.{other}
-use Rattle.mdp_farkas.specs.Between.{covering, followed}
-use Rattle.mdp_farkas.specs.MeanBetween.{MeetsMeanBetween}
+use Rattle.mdp_bounds.specs.Reach.{covering, followed}
+use Rattle.mdp_bounds.specs.Mean.{MeetsMeanBetween}
 use Rattle.mdp_bounds.specs.Mean.{gain_check, relative_check, told_spread, spread_check, gains_cover, gains_follow, mean_bounds_at, state_bounds_checks, mean_bounds_checks, IsMeanBounds}
 use Rattle.mdp_rows.specs.declared.dir.Dir.{Dir}
 use Rattle.mdp_rows.specs.declared.dir.Dir.TheVariants.{Max, Min}

@@ -23,7 +23,7 @@ use Rattle.mdp_farkas.specs.Verdict.{Check, verdict_of, at_choices}
 use Rattle.mdp_farkas.specs.declared.verdict.Verdict.TheVariants.{Yes}
 use Rattle.mdp_farkas.specs.Compare.{0ℚ}
 use Rattle.mdp_farkas.specs.Reach.{other}
-use Rattle.mdp_farkas.specs.Between.{covering, followed}
+use Rattle.mdp_bounds.specs.Reach.{covering, followed}
 use Rattle.mdp_rows.specs.declared.dir.Dir.{Dir}
 use Rattle.mdp_rows.specs.declared.dir.Dir.TheVariants.{Max, Min}
 use Rattle.mdp_farkas.proofs.Holds.{Each, Holds, yes_of_each, each_append, each_map, each_flat}

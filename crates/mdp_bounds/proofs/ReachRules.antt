@@ -13,15 +13,13 @@ use Rattle.mdp_spec.proofs.Reach.{reach_max_between_of_rules, reach_min_between_
 use Rattle.mdp_farkas.specs.Verdict.{Check, verdict_of, InWidth, IsYes, IfYes}
 use Rattle.mdp_farkas.specs.Compare.{0ℚ}
 use Rattle.mdp_farkas.specs.Reach.{other, fall_check, fall_checks, rank_checks}
-use Rattle.mdp_farkas.specs.Between.{covering, followed, MeetsReachBetween}
-use Rattle.mdp_bounds.specs.Reach.{cover_at, follow_at, bounds_at, bounds_checks, IsReachBounds}
+use Rattle.mdp_bounds.specs.Reach.{covering, followed, MeetsReachBetween, cover_at, follow_at, bounds_at, bounds_checks, IsReachBounds}
 use Rattle.mdp_rows.specs.declared.dir.Dir.{Dir}
 use Rattle.mdp_rows.specs.declared.dir.Dir.TheVariants.{Max, Min}
 use Rattle.mdp_farkas.specs.declared.verdict.Verdict.{Verdict}
-use Rattle.mdp_farkas.proofs.Holds.{Each, Holds, each_of_yes, yes_of_each, told_of_each, if_yes, each_append, each_left, each_right, each_flat, each_flat_at}
-use Rattle.mdp_farkas.proofs.Holds.{each_map, each_map_at}
+use Rattle.mdp_farkas.proofs.Holds.{Each, Holds, each_of_yes, yes_of_each, told_of_each, if_yes, each_append, each_left, each_right, each_flat, each_flat_at, each_map, each_map_at}
 use Rattle.mdp_farkas.proofs.Inequalities.{Stands}
-use Rattle.mdp_farkas.proofs.RankRules.{ranks_end, ranks_fall, ranks_hold, max_falls, falls_max, min_falls, falls_min}
+use Rattle.mdp_farkas.proofs.ReachRules.{ranks_end, ranks_fall, ranks_hold, max_falls, falls_max, min_falls, falls_min}
 use Rattle.mdp_bounds.proofs.Halves.{cover_probabilities, cover_bounds, cover_holds, follow_probabilities, follow_meets, follow_holds}
 
 -- ---- the checks at a state

@@ -1,6 +1,6 @@
 -- The verdict on a lower and an upper reward for each state, a policy and ranks is yes exactly where the rules hold in exact numbers and no sum is
 -- past width.
-use Rattle.std.proofs.Common.{◌≡◌, ℕ, ◌<◌, Bool, true, false, not, lt-ltb, ltb-true, eqb-true, eq-eqb, List, [], ◌∷◌, ◌++◌, cond, length, slice_index}
+use Rattle.std.proofs.Common.{◌≡◌, ℕ, ◌<◌, Bool, true, false, true≢false, not, ◌||◌, lt-ltb, ltb-true, eqb-true, eq-eqb, List, [], ◌∷◌, ◌++◌, cond, length, slice_index}
 use Rattle.std.proofs.Common.{Option, Some, ◌↔◌, refl, sym, ap, subst, ◌∙◌}
 use Rattle.std.proofs.lemmas.List.Elements.{All-from_recursion, recursion_from_All}
 use Rattle.mdp_math.specs.Rational.{ℚ, ◌≤ℚ◌}
@@ -12,17 +12,15 @@ use Rattle.mdp_spec.specs.Tree.{IsPolicy, is_marked}
 use Rattle.mdp_spec.specs.Bounds.{reward_at, finite_part, infinite}
 use Rattle.mdp_spec.specs.Between.{RewardMaxBetween, RewardMinBetween}
 use Rattle.mdp_spec.specs.RewardRules.{backup, IsTransient, AreRewards}
-use Rattle.mdp_spec.proofs.Values.{part-nonneg}
+use Rattle.mdp_spec.proofs.Values.{part-nonneg, finite_of_some}
 use Rattle.mdp_spec.proofs.Reward.{reward_max_between_of_rules, reward_min_between_of_rules}
 use Rattle.mdp_farkas.specs.Verdict.{Check, verdict_of, InWidth, IsYes, IfYes}
 use Rattle.mdp_farkas.specs.Compare.{0ℚ}
 use Rattle.mdp_farkas.specs.Reach.{other}
 use Rattle.mdp_farkas.specs.Reward.{stay_check, stay_checks, is_looked_at}
 use Rattle.mdp_farkas.specs.Reward.{rank_fall_check, rank_fall_checks, all_miss_check, infinite_checks}
-use Rattle.mdp_farkas.specs.RewardBetween.{lower_on_each, MeetsRewardBetween}
-use Rattle.mdp_bounds.specs.Reward.{nonneg_check, goal_checks, earning_check, earning_checks, policy_earning_check, sign_check, sign_checks, NoneNegative}
-use Rattle.mdp_bounds.specs.Reward.{half_checks, finite_checks, kind_checks, lower_checks, upper_value_checks}
-use Rattle.mdp_bounds.specs.Reward.{reward_bounds_at, reward_bounds_checks, IsRewardBounds}
+use Rattle.mdp_bounds.specs.Reward.{lower_on_each, MeetsRewardBetween, nonneg_check, goal_checks, earning_check, earning_checks, policy_earning_check, sign_check, sign_checks, NoneNegative}
+use Rattle.mdp_bounds.specs.Reward.{half_checks, finite_checks, kind_checks, lower_checks, upper_value_checks, reward_bounds_at, reward_bounds_checks, IsRewardBounds}
 use Rattle.mdp_rows.specs.declared.dir.Dir.{Dir}
 use Rattle.mdp_rows.specs.declared.dir.Dir.TheVariants.{Max, Min}
 use Rattle.mdp_farkas.specs.declared.verdict.Fault.{Fault}
@@ -33,9 +31,17 @@ use Rattle.mdp_farkas.proofs.Holds.{each_append, each_left, each_right, each_fla
 use Rattle.mdp_math.proofs.Extremes.{le_of_test, test_of_le}
 use Rattle.mdp_farkas.proofs.Inequalities.{Stands}
 use Rattle.mdp_bounds.proofs.Earnings.{some_nonneg, nonneg_true, zero_of_test, zero_true, earning_of, earning_sound}
-use Rattle.mdp_farkas.proofs.RewardBetweenRules.{implied, implies, no_goal}
-use Rattle.mdp_farkas.proofs.RewardRules.{stays_of_test, test_of_stays, falls_of_test, test_of_falls}
-use Rattle.mdp_farkas.proofs.RewardRules.{misses_of_test, test_of_misses, all_misses_of_test, test_of_all_misses}
+use Rattle.mdp_farkas.proofs.RewardRules.{stays_of_test, test_of_stays, falls_of_test, test_of_falls, misses_of_test, test_of_misses, all_misses_of_test, test_of_all_misses}
+
+-- ---- the order of the two values
+
+pub implied : (a b : Bool) → (not a || b) ≡ true → a ≡ true → b ≡ true
+implied true b e h = e
+implied false b e h = absurd (true≢false (sym h))
+
+pub implies : (a b : Bool) → (a ≡ true → b ≡ true) → (not a || b) ≡ true
+implies true b h = h refl
+implies false b h = refl
 
 -- ---- one value: rule 9, and what belongs to its kind
 
@@ -70,6 +76,12 @@ module _ (m : Mdp) (goals : List Bool) (v : List (Option ℚ)) (ranks : List ℕ
         (λ g. let at = AreRewards.at_goal are s l g in (λ w. ap Some (zero_true (reward_at v s) at.0), (λ w. ap Some (eq-eqb (slice_index ranks s) 0 at.1), tt)))
         (λ g. each_if Sound (is_marked (infinite v) s) (without s) (within s) outside (λ f. inside (l, g, f))),
   )
+
+-- a goal has no infinite value
+no_goal : (m : Mdp) (goals : List Bool) (v : List (Option ℚ)) (ranks : List ℕ) → AreRewards m goals v ranks → (s : ℕ) → s < states_of m → is_marked (infinite v) s ≡ true
+    → (b : Bool) → is_marked goals s ≡ b → b ≡ false
+no_goal m goals v ranks are s l i true g = absurd (true≢false (sym i ∙ finite_of_some v s 0ℚ (AreRewards.at_goal are s l g).0))
+no_goal m goals v ranks are s l i false g = refl
 
 -- ---- a finite value: the half on each choice, and the half on the policy's choice
 

@@ -17,13 +17,12 @@ use Rattle.mdp_farkas.specs.Verdict.{Check, verdict_of}
 use Rattle.mdp_farkas.specs.declared.verdict.Verdict.TheVariants.{Yes}
 use Rattle.mdp_farkas.specs.Compare.{0ℚ}
 use Rattle.mdp_farkas.specs.Reward.{stay_check, stay_checks, is_looked_at, rank_fall_check, rank_fall_checks, all_miss_check, infinite_checks}
-use Rattle.mdp_farkas.specs.RewardBetween.{lower_on_each}
+use Rattle.mdp_bounds.specs.Reward.{lower_on_each, goal_checks, earning_check, sign_check, sign_checks, half_checks, finite_checks, kind_checks}
 use Rattle.mdp_rows.specs.declared.dir.Dir.{Dir}
 use Rattle.mdp_rows.specs.declared.dir.Dir.TheVariants.{Max, Min}
 use Rattle.mdp_farkas.proofs.Holds.{Each, Holds, yes_of_each, each_append, each_map, each_flat, each_if}
-use Rattle.mdp_farkas.proofs.RewardBetweenRules.{implies}
+use Rattle.mdp_bounds.proofs.RewardRules.{implies}
 use Rattle.mdp_farkas.proofs.RewardRules.{test_of_stays, test_of_falls, test_of_misses, test_of_all_misses}
-use Rattle.mdp_bounds.specs.Reward.{goal_checks, earning_check, sign_check, sign_checks, half_checks, finite_checks, kind_checks}
 use Rattle.mdp_bounds.specs.Reward.{lower_checks, upper_value_checks, reward_bounds_at, reward_bounds_checks, Arrives, Misses, IsTrivialReward}
 use Rattle.mdp_bounds.proofs.Earnings.{nonneg_true, zero_true, zero_earns}
 

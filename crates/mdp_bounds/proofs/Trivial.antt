@@ -12,12 +12,11 @@ use Rattle.mdp_farkas.specs.Verdict.{Check, verdict_of, at_choices}
 use Rattle.mdp_farkas.specs.declared.verdict.Verdict.TheVariants.{Yes}
 use Rattle.mdp_farkas.specs.Compare.{0ℚ, 1ℚ}
 use Rattle.mdp_farkas.specs.Reach.{other, rank_checks}
-use Rattle.mdp_farkas.specs.Between.{covering, followed}
+use Rattle.mdp_bounds.specs.Reach.{covering, followed, outermost, stands_at, bound_check, policy_check, cover_at, follow_at, bounds_at, bounds_checks, IsTrivialReach}
 use Rattle.mdp_rows.specs.declared.dir.Dir.{Dir}
 use Rattle.mdp_rows.specs.declared.dir.Dir.TheVariants.{Max, Min}
 use Rattle.mdp_farkas.proofs.Holds.{Each, Holds, yes_of_each, each_append, each_map, each_flat}
-use Rattle.mdp_farkas.proofs.RankRules.{ranks_hold}
-use Rattle.mdp_bounds.specs.Reach.{outermost, stands_at, bound_check, policy_check, cover_at, follow_at, bounds_at, bounds_checks, IsTrivialReach}
+use Rattle.mdp_farkas.proofs.ReachRules.{ranks_hold}
 use Rattle.mdp_bounds.specs.Sum.{stands, told_sum}
 use Rattle.mdp_bounds.proofs.Halves.{values_hold}
 

@@ -17,15 +17,15 @@ use Rattle.mdp_num.specs.Equal.{eq_ℚ}
 use Rattle.mdp_spec.specs.Mdp.{Mdp, states_of, choices_at, choice_at, row_at, value_at}
 use Rattle.mdp_spec.specs.Unit.{reward_of}
 use Rattle.mdp_spec.specs.Tree.{IsPolicy}
+use Rattle.mdp_spec.specs.BetweenRules.{MeetsMeanMaxBetween, MeetsMeanMinBetween}
 use Rattle.mdp_farkas.specs.Compare.{0ℚ}
 use Rattle.mdp_farkas.specs.Verdict.{Check, InWidth, at_choice, at_choices}
 use Rattle.mdp_farkas.specs.Reach.{choice_exists, other}
 use Rattle.mdp_farkas.specs.Spread.{is_better}
-use Rattle.mdp_farkas.specs.Between.{covering, followed}
-use Rattle.mdp_farkas.specs.MeanBetween.{MeetsMeanBetween}
 use Rattle.mdp_rows.specs.declared.dir.Dir.{Dir}
 use Rattle.mdp_rows.specs.declared.dir.Dir.TheVariants.{Max, Min}
 use Rattle.mdp_bounds.specs.Sum.{stands, plain_add, told_sum}
+use Rattle.mdp_bounds.specs.Reach.{covering, followed}
 use Rattle.mdp_farkas.specs.declared.rule.Rule.TheVariants.{BiasOnPolicy, BoundOnEachChoice, GainOnEachChoice, GainOnPolicy, SpreadIsGreatest}
 
 -- ---- gains and what choices earn
@@ -104,6 +104,11 @@ state_bounds_checks dir m r lower upper a b policy = flat_map (λ s. mean_bounds
 -- and the spread comes last
 abbrev pub mean_bounds_checks : Dir → Mdp → ℕ → List ℚ → List ℚ → List ℚ → List ℚ → ℚ → List ℕ → List Check
 mean_bounds_checks dir m r lower upper a b spread policy = state_bounds_checks dir m r lower upper a b policy ++ spread_check a b spread ∷ []
+
+-- the rules in exact numbers
+abbrev pub MeetsMeanBetween : Dir → Mdp → ℕ → List ℚ → List ℚ → List ℚ → List ℚ → ℚ → List ℕ → Type 0
+MeetsMeanBetween Max m r lower upper a b spread policy = MeetsMeanMaxBetween m r lower upper a b spread policy
+MeetsMeanBetween Min m r lower upper a b spread policy = MeetsMeanMinBetween m r lower upper a b spread policy
 
 -- what yes means: the rules hold in exact numbers, and no sum that a check makes is past width
 pub record IsMeanBounds (dir : Dir) (m : Mdp) (r : ℕ) (lower upper a b : List ℚ) (spread : ℚ) (policy : List ℕ) : Type 0 where

@@ -21,11 +21,20 @@ use Rattle.mdp_spec.specs.Tree.{IsPolicy, is_marked}
 use Rattle.mdp_farkas.specs.Compare.{0ℚ, 1ℚ}
 use Rattle.mdp_farkas.specs.Verdict.{Check, InWidth, at_state, at_choice, at_choices}
 use Rattle.mdp_farkas.specs.Reach.{other, choice_exists, rank_checks}
-use Rattle.mdp_farkas.specs.Between.{covering, followed, MeetsReachBetween}
+use Rattle.mdp_spec.specs.BetweenRules.{MeetsReachMaxBetween, MeetsReachMinBetween}
 use Rattle.mdp_rows.specs.declared.dir.Dir.{Dir}
 use Rattle.mdp_rows.specs.declared.dir.Dir.TheVariants.{Max, Min}
 use Rattle.mdp_bounds.specs.Sum.{stands, told_sum}
 use Rattle.mdp_farkas.specs.declared.rule.Rule.TheVariants.{GoalValue, Probability, ValueOnEachChoice, ValueOnPolicy}
+
+-- the values that the half on each choice is asked of
+abbrev pub covering : Dir → List ℚ → List ℚ → List ℚ
+covering Max lower upper = upper
+covering Min lower upper = lower
+
+-- the values that the half on the policy's choice is asked of
+abbrev pub followed : Dir → List ℚ → List ℚ → List ℚ
+followed dir lower upper = covering (other dir) lower upper
 
 -- rule 3
 abbrev pub probability_checks : List ℚ → ℕ → List Check
@@ -76,6 +85,11 @@ bounds_at dir m goals lower upper ranks s choice =
 -- the states ascend, at a state the rules, in a rule the choices
 abbrev pub bounds_checks : Dir → Mdp → List Bool → List ℚ → List ℚ → List ℕ → List ℕ → List Check
 bounds_checks dir m goals lower upper policy ranks = flat_map (λ s. bounds_at dir m goals lower upper ranks s (slice_index policy s)) (range_with_len 0 (states_of m))
+
+-- the rules in exact numbers
+abbrev pub MeetsReachBetween : Dir → Mdp → List Bool → List ℚ → List ℚ → List ℕ → List ℕ → Type 0
+MeetsReachBetween Max m goals lower upper policy ranks = MeetsReachMaxBetween m goals lower upper policy ranks
+MeetsReachBetween Min m goals lower upper policy ranks = MeetsReachMinBetween m goals lower upper policy ranks
 
 -- what yes means: the rules hold in exact numbers, and no sum that a check makes is past width
 pub record IsReachBounds (dir : Dir) (m : Mdp) (goals : List Bool) (lower upper : List ℚ) (policy ranks : List ℕ) : Type 0 where

@@ -9,7 +9,7 @@
 -- and at each state, goals as well:
 --     rule 25  no choice's reward is below 0
 -- A lower value of 0 meets rules 11 and 12 on any row, since no reward is below 0: there no sum is made.
-use Rattle.std.specs.Prelude.{◌≡◌, ℕ, ◌<◌, Bool, true, false, ◌==◌, not, List, [], ◌∷◌, ◌++◌, length, slice_index, Option, Some, None, option_map, ◌⊎◌, if◌then◌else◌}
+use Rattle.std.specs.Prelude.{◌≡◌, ℕ, ◌<◌, Bool, true, false, ◌==◌, ◌||◌, not, List, [], ◌∷◌, ◌++◌, length, slice_index, Option, Some, None, option_map, ◌⊎◌, if◌then◌else◌}
 use Rattle.std.specs.List.{All, flat_map, range_with_len}
 use Rattle.mdp_math.specs.Rational.{ℚ, le_ℚ, ◌≤ℚ◌}
 use Rattle.mdp_num.specs.Equal.{eq_ℚ}
@@ -17,12 +17,12 @@ use Rattle.mdp_spec.specs.Mdp.{Mdp, states_of, choices_at, choice_at, row_at, va
 use Rattle.mdp_spec.specs.Unit.{reward_of}
 use Rattle.mdp_spec.specs.Tree.{IsPolicy, is_marked}
 use Rattle.mdp_spec.specs.Bounds.{reward_at, finite_part, infinite}
+use Rattle.mdp_spec.specs.BetweenRules.{MeetsRewardMaxBetween, MeetsRewardMinBetween}
 use Rattle.mdp_spec.specs.RewardRules.{IsInfinite, IsTransient, StaysFinite, Falls, FallsInfinite, StaysInfinite}
 use Rattle.mdp_farkas.specs.Compare.{0ℚ}
 use Rattle.mdp_farkas.specs.Verdict.{Check, InWidth, at_state, at_choice, at_choices}
 use Rattle.mdp_farkas.specs.Reach.{choice_exists, other}
 use Rattle.mdp_farkas.specs.Reward.{stay_checks, is_looked_at, rank_fall_checks, infinite_checks}
-use Rattle.mdp_farkas.specs.RewardBetween.{order_check, lower_on_each, MeetsRewardBetween}
 use Rattle.mdp_rows.specs.declared.dir.Dir.{Dir}
 use Rattle.mdp_rows.specs.declared.dir.Dir.TheVariants.{Max, Min}
 use Rattle.mdp_bounds.specs.Sum.{stands, told_sum}
@@ -30,6 +30,11 @@ use Rattle.mdp_farkas.specs.declared.rule.Rule.TheVariants.{RewardNotNegative, R
 
 -- ---- rule 9
 
+-- of both values
+abbrev pub order_check : List (Option ℚ) → List (Option ℚ) → ℕ → Check
+order_check lower upper s = at_state RewardValue s (Some (not (is_marked (infinite lower) s) || is_marked (infinite upper) s))
+
+-- of one
 abbrev pub is_nonneg : Option ℚ → Bool
 is_nonneg None = true
 is_nonneg (Some x) = le_ℚ 0ℚ x
@@ -68,6 +73,11 @@ abbrev pub policy_earning_check : Dir → Mdp → ℕ → List (Option ℚ) → 
 policy_earning_check dir m r v s choice = at_choice RewardOnPolicy s choice (earning_stands (other dir) m r v s choice)
 
 -- ---- the two values of a state
+
+-- whether the half on each choice is asked of the lower values, or of the upper ones
+abbrev pub lower_on_each : Dir → Bool
+lower_on_each Max = false
+lower_on_each Min = true
 
 -- rule 11, or rule 12
 abbrev pub half_checks : Bool → Dir → Mdp → ℕ → List (Option ℚ) → ℕ → ℕ → List Check
@@ -119,6 +129,11 @@ reward_bounds_checks dir m r goals lower upper policy ranks = flat_map (λ s. re
 -- no reward of name r is below 0
 abbrev pub NoneNegative : Mdp → ℕ → Type 0
 NoneNegative m r = (s c : ℕ) → s < states_of m → c < length (choices_at m s) → 0ℚ ≤ℚ reward_of (choice_at m s c) r
+
+-- the rules in exact numbers
+abbrev pub MeetsRewardBetween : Dir → Mdp → ℕ → List Bool → List (Option ℚ) → List (Option ℚ) → List ℕ → List ℕ → Type 0
+MeetsRewardBetween Max m r goals lower upper policy ranks = MeetsRewardMaxBetween m r goals lower upper policy ranks
+MeetsRewardBetween Min m r goals lower upper policy ranks = MeetsRewardMinBetween m r goals lower upper policy ranks
 
 -- what yes means: the rules hold in exact numbers, rule 25 as well, and no sum that a check makes is past width
 pub record IsRewardBounds (dir : Dir) (m : Mdp) (r : ℕ) (goals : List Bool) (lower upper : List (Option ℚ)) (policy ranks : List ℕ) : Type 0 where

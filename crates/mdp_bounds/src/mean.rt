@@ -2,7 +2,7 @@ ghost use Rattle.std.specs.Prelude.{◌≡◌, ◌<◌, ◌↔◌, length, [], �
 ghost use Rattle.std.specs.Result.{result_ok};
 ghost use Rattle.mdp_spec.specs.Mdp.{states_of, choices_at};
 ghost use Rattle.mdp_spec.specs.Between.{MeanMaxBetween, MeanMinBetween};
-ghost use Rattle.mdp_farkas.specs.Between.{covering, followed};
+ghost use Rattle.mdp_bounds.specs.Reach.{covering, followed};
 ghost use Rattle.mdp_farkas.specs.Verdict.{objection_to, verdict_of, at_choices, IsYes, IfYes};
 ghost use Rattle.mdp_rows.specs.declared.dir.Dir.TheVariants.{Max, Min};
 ghost use Rattle.mdp_bounds.specs.Mean.{gain_stands, gain_check, told_step, bound_stands, relative_check, spread_check, gains_cover, gains_follow};

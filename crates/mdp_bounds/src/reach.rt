@@ -3,11 +3,10 @@ ghost use Rattle.std.specs.Result.{result_ok};
 ghost use Rattle.mdp_spec.specs.Mdp.{states_of, choices_at};
 ghost use Rattle.mdp_spec.specs.Row.{entries};
 ghost use Rattle.mdp_spec.specs.Between.{ReachMaxBetween, ReachMinBetween};
-ghost use Rattle.mdp_farkas.specs.Between.{covering, followed};
+ghost use Rattle.mdp_bounds.specs.Reach.{covering, followed, probability_checks, goal_check, outermost, stands_to_row, stands_at, bound_check, policy_check};
 ghost use Rattle.mdp_farkas.specs.Reach.{IsReach};
 ghost use Rattle.mdp_farkas.specs.Verdict.{objection_to, verdict_of, at_choices, IsYes, IfYes};
 ghost use Rattle.mdp_rows.specs.declared.dir.Dir.TheVariants.{Max, Min};
-ghost use Rattle.mdp_bounds.specs.Reach.{probability_checks, goal_check, outermost, stands_to_row, stands_at, bound_check, policy_check};
 ghost use Rattle.mdp_bounds.specs.Reach.{cover_at, follow_at, bounds_at, bounds_checks, IsReachBounds, IsTrivialReach};
 
 use crate::compare::{at_most, value_stands};

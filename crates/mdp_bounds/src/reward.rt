@@ -2,17 +2,16 @@ ghost use Rattle.std.specs.Prelude.{◌≡◌, ◌<◌, ◌↔◌, ◌++◌, not
 ghost use Rattle.mdp_spec.specs.Mdp.{states_of, choices_at};
 ghost use Rattle.mdp_spec.specs.Between.{RewardMaxBetween, RewardMinBetween};
 ghost use Rattle.mdp_farkas.specs.Reward.{rank_fall_checks};
-ghost use Rattle.mdp_farkas.specs.RewardBetween.{lower_on_each};
 ghost use Rattle.mdp_farkas.specs.Verdict.{objection_to, verdict_of, IsYes, IfYes};
 ghost use Rattle.mdp_rows.specs.declared.dir.Dir.TheVariants.{Max, Min};
-ghost use Rattle.mdp_bounds.specs.Reward.{is_nonneg, is_zero, nonneg_check, goal_checks, half_checks, finite_checks, lower_checks, upper_value_checks};
+ghost use Rattle.mdp_bounds.specs.Reward.{order_check, lower_on_each, is_nonneg, is_zero, nonneg_check, goal_checks, half_checks, finite_checks, lower_checks, upper_value_checks};
 ghost use Rattle.mdp_bounds.specs.Reward.{lower_place_checks, upper_place_checks, sign_check, sign_checks, reward_bounds_at, reward_bounds_checks, IsRewardBounds, IsTrivialReward};
 
 use crate::compare::at_most;
 use crate::earning::{earnings_at_state, policy_earns};
 use mdp_farkas::{
     Objection, Rule, Verdict, choice_at, each_below, each_choice, infinite_state, is_infinite_at,
-    judged, order_at, rank_falls_at_state, stays_at_state, verdict_after,
+    judged, rank_falls_at_state, stays_at_state, verdict_after,
 };
 use mdp_num::Frac;
 use mdp_rows::{Dir, Marks, Model};
@@ -25,6 +24,16 @@ pub struct RewardBoundsCert {
     pub upper: Vec<Option<Frac>>,
     pub choices: Vec<u32>,
     pub ranks: Vec<u32>,
+}
+
+/// The upper value of state `s` is infinite where the lower one is.
+fn order_at(lower: &[Option<Frac>], upper: &[Option<Frac>], s: u32) -> Result<(), Objection>
+    requires lower { s < length lower.now }
+    requires upper { s < length upper.now }
+    ensures { result ≡ objection_to (order_check lower.now upper.now s ∷ []) }
+{
+    let ordered = !is_infinite_at(lower, s) || is_infinite_at(upper, s);
+    judged(Ok(ordered), Rule::RewardValue, s, None)
 }
 
 /// Whether a value is at least 0, as an infinite one is.

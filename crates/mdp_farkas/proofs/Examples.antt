@@ -8,7 +8,6 @@ use Rattle.mdp_spec.specs.Mdp.{Entry, Choice, Mdp}
 use Rattle.mdp_farkas.specs.Verdict.{verdict_of}
 use Rattle.mdp_farkas.specs.Upper.{upper_checks}
 use Rattle.mdp_farkas.specs.Reach.{reach_checks}
-use Rattle.mdp_farkas.specs.Between.{between_checks}
 use Rattle.mdp_rows.specs.declared.dir.Dir.TheVariants.{Max, Min}
 use Rattle.mdp_farkas.specs.declared.verdict.Verdict.{Verdict}
 use Rattle.mdp_farkas.specs.declared.verdict.Verdict.TheVariants.{Yes, No, Wide}
@@ -103,34 +102,3 @@ above_one = refl
 wide : verdict_of (upper_checks three goals (one ∷ one ∷ ratio (pos 1) (2 ^ 126 + 1) ∷ [])) ≡ Wide (Some 0) (Some 1)
 unfolding gcd gcd_with_fuel ratio of_int ◌+ℚ◌ ◌*ℚ◌ narrow narrow_ℚ written_add written_mul written_compare
 wide = refl
-
--- ---- a lower and an upper value
-
--- the greatest probability, 1/3 at state 0, lies between 1/4 and 1/2
-between : verdict_of (between_checks Max three goals (ratio (pos 1) 4 ∷ one ∷ zero_ ∷ []) (ratio (pos 1) 2 ∷ one ∷ zero_ ∷ []) (1 ∷ 0 ∷ 0 ∷ []) (1 ∷ 0 ∷ 0 ∷ [])) ≡ Yes
-unfolding gcd gcd_with_fuel ratio of_int lt_ℚ ◌+ℚ◌ ◌*ℚ◌ narrow narrow_ℚ written_add written_mul written_compare
-between = refl
-
--- and is the one value that is both
-both : verdict_of (between_checks Max three goals (third ∷ one ∷ zero_ ∷ []) (third ∷ one ∷ zero_ ∷ []) (1 ∷ 0 ∷ 0 ∷ []) (1 ∷ 0 ∷ 0 ∷ [])) ≡ Yes
-unfolding gcd gcd_with_fuel ratio of_int lt_ℚ ◌+ℚ◌ ◌*ℚ◌ narrow narrow_ℚ written_add written_mul written_compare
-both = refl
-
--- 1/4 is no upper value, and 1/2 no lower one
-upper_too_small : verdict_of (between_checks Max three goals (zero_ ∷ one ∷ zero_ ∷ []) (ratio (pos 1) 4 ∷ one ∷ zero_ ∷ []) (1 ∷ 0 ∷ 0 ∷ []) (0 ∷ 0 ∷ 0 ∷ [])) ≡ fault ValueOnEachChoice 0 (Some 1)
-unfolding gcd gcd_with_fuel ratio of_int lt_ℚ ◌+ℚ◌ ◌*ℚ◌ narrow narrow_ℚ written_add written_mul written_compare
-upper_too_small = refl
-
-lower_too_great : verdict_of (between_checks Max three goals (ratio (pos 1) 2 ∷ one ∷ zero_ ∷ []) (one ∷ one ∷ zero_ ∷ []) (1 ∷ 0 ∷ 0 ∷ []) (1 ∷ 0 ∷ 0 ∷ [])) ≡ fault ValueOnPolicy 0 (Some 1)
-unfolding gcd gcd_with_fuel ratio of_int lt_ℚ ◌+ℚ◌ ◌*ℚ◌ narrow narrow_ℚ written_add written_mul written_compare
-lower_too_great = refl
-
--- a lower value above 0 whose policy waits for ever
-lower_waits : verdict_of (between_checks Max three goals (ratio (pos 1) 4 ∷ one ∷ zero_ ∷ []) (one ∷ one ∷ zero_ ∷ []) (0 ∷ 0 ∷ 0 ∷ []) (1 ∷ 0 ∷ 0 ∷ [])) ≡ fault RankFalls 0 (Some 0)
-unfolding gcd gcd_with_fuel ratio of_int lt_ℚ ◌+ℚ◌ ◌*ℚ◌ narrow narrow_ℚ written_add written_mul written_compare
-lower_waits = refl
-
--- the least probability lies between 0 and what a policy that is not the best reaches
-least_between : verdict_of (between_checks Min three goals (zero_ ∷ one ∷ zero_ ∷ []) (third ∷ one ∷ zero_ ∷ []) (1 ∷ 0 ∷ 0 ∷ []) (0 ∷ 0 ∷ 0 ∷ [])) ≡ Yes
-unfolding gcd gcd_with_fuel ratio of_int lt_ℚ ◌+ℚ◌ ◌*ℚ◌ narrow narrow_ℚ written_add written_mul written_compare
-least_between = refl

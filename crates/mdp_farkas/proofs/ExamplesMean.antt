@@ -8,7 +8,6 @@ use Rattle.mdp_math.specs.Written.{narrow, narrow_ℚ, written_add, written_mul,
 use Rattle.mdp_spec.specs.Mdp.{Entry, Choice, State, Mdp}
 use Rattle.mdp_farkas.specs.Verdict.{verdict_of}
 use Rattle.mdp_farkas.specs.Mean.{mean_checks}
-use Rattle.mdp_farkas.specs.MeanBetween.{mean_between_checks}
 use Rattle.mdp_rows.specs.declared.dir.Dir.TheVariants.{Max, Min}
 use Rattle.mdp_farkas.specs.declared.verdict.Verdict.{Verdict}
 use Rattle.mdp_farkas.specs.declared.verdict.Verdict.TheVariants.{Yes, No, Wide}
@@ -128,30 +127,3 @@ wide :
     ≡ Wide None None
 unfolding gcd gcd_with_fuel ratio of_int neg_ℚ ◌+ℚ◌ ◌*ℚ◌ narrow narrow_ℚ written_add written_mul written_compare
 wide = refl
-
--- ---- a lower and an upper gain
-
--- the verdict on what is said of state 0 of `gamble`: its lower and its upper gain, its bias and the choice
-abbrev gambling_between : ℚ → ℚ → ℚ → ℕ → Verdict
-gambling_between low high bias choice =
-    verdict_of
-    (mean_between_checks Max gamble 0 (low ∷ number 4 ∷ number 0 ∷ []) (high ∷ number 4 ∷ number 0 ∷ []) (number 0 ∷ number 0 ∷ number 0 ∷ []) (bias ∷ number 0 ∷ number 0 ∷ [])
-    (number 2) (choice ∷ 0 ∷ 0 ∷ []))
-
--- the greatest gain, 2, lies between 1 and 3
-gambles_between : gambling_between (number 1) (number 3) (minus 2 1) 1 ≡ Yes
-unfolding gcd gcd_with_fuel ratio of_int neg_ℚ ◌+ℚ◌ ◌*ℚ◌ narrow narrow_ℚ written_add written_mul written_compare
-gambles_between = refl
-
--- and is the one gain that is both
-gambles_both : gambling_between (number 2) (number 2) (minus 2 1) 1 ≡ Yes
-unfolding gcd gcd_with_fuel ratio of_int neg_ℚ ◌+ℚ◌ ◌*ℚ◌ narrow narrow_ℚ written_add written_mul written_compare
-gambles_both = refl
-
-upper_too_small : gambling_between (number 1) (number 1) (minus 2 1) 1 ≡ fault GainOnEachChoice (Some 0) (Some 1)
-unfolding gcd gcd_with_fuel ratio of_int neg_ℚ ◌+ℚ◌ ◌*ℚ◌ narrow narrow_ℚ written_add written_mul written_compare
-upper_too_small = refl
-
-lower_too_great : gambling_between (number 3) (number 3) (minus 2 1) 1 ≡ fault GainOnPolicy (Some 0) (Some 1)
-unfolding gcd gcd_with_fuel ratio of_int neg_ℚ ◌+ℚ◌ ◌*ℚ◌ narrow narrow_ℚ written_add written_mul written_compare
-lower_too_great = refl

@@ -7,7 +7,6 @@ use Rattle.mdp_math.specs.Written.{narrow, narrow_ℚ, written_add, written_mul,
 use Rattle.mdp_spec.specs.Mdp.{Choice, State, Mdp}
 use Rattle.mdp_farkas.specs.Verdict.{verdict_of}
 use Rattle.mdp_farkas.specs.Reward.{reward_checks}
-use Rattle.mdp_farkas.specs.RewardBetween.{reward_between_checks}
 use Rattle.mdp_rows.specs.declared.dir.Dir.{Dir}
 use Rattle.mdp_rows.specs.declared.dir.Dir.TheVariants.{Max, Min}
 use Rattle.mdp_farkas.specs.declared.verdict.Verdict.{Verdict}
@@ -136,40 +135,3 @@ negative = refl
 wide : verdict_of (reward_checks Max (model (state (to 0 (ratio (pos 1) 3) ∷ []) ∷ [])) 0 (false ∷ []) (Some (ratio (pos 1) (2 ^ 126 + 1)) ∷ []) (0 ∷ []) (0 ∷ [])) ≡ Wide (Some 0) (Some 0)
 unfolding gcd gcd_with_fuel ratio of_int ◌+ℚ◌ ◌*ℚ◌ narrow narrow_ℚ written_add written_mul written_compare
 wide = refl
-
--- ---- a lower and an upper value
-
--- the verdict on what is said of state 0 of `wait`: its lower and its upper value, choice and rank
-abbrev waiting_between : Dir → Option ℚ → Option ℚ → ℕ → ℕ → Verdict
-waiting_between dir x y choice rank = verdict_of (reward_between_checks dir wait 0 second (x ∷ value 0 ∷ []) (y ∷ value 0 ∷ []) (choice ∷ 0 ∷ []) (rank ∷ 0 ∷ []))
-
--- the least reward, 3, lies between 2 and 5, and above 2 in any case
-least_between : waiting_between Min (value 2) (value 5) 1 1 ≡ Yes
-unfolding gcd gcd_with_fuel ratio of_int ◌+ℚ◌ ◌*ℚ◌ narrow narrow_ℚ written_add written_mul written_compare
-least_between = refl
-
-least_above : waiting_between Min (value 2) None 1 1 ≡ Yes
-unfolding gcd gcd_with_fuel ratio of_int ◌+ℚ◌ ◌*ℚ◌ narrow narrow_ℚ written_add written_mul written_compare
-least_above = refl
-
-lower_too_great : waiting_between Min (value 4) (value 5) 1 1 ≡ fault RewardOnEachChoice 0 (Some 1)
-unfolding gcd gcd_with_fuel ratio of_int ◌+ℚ◌ ◌*ℚ◌ narrow narrow_ℚ written_add written_mul written_compare
-lower_too_great = refl
-
-upper_too_small : waiting_between Min (value 1) (value 2) 1 1 ≡ fault RewardOnPolicy 0 (Some 1)
-unfolding gcd gcd_with_fuel ratio of_int ◌+ℚ◌ ◌*ℚ◌ narrow narrow_ℚ written_add written_mul written_compare
-upper_too_small = refl
-
--- an infinite lower value has an infinite upper one
-no_order : waiting_between Max None (value 5) 0 0 ≡ fault RewardValue 0 None
-unfolding gcd gcd_with_fuel ratio of_int ◌+ℚ◌ ◌*ℚ◌ narrow narrow_ℚ written_add written_mul written_compare
-no_order = refl
-
-infinite_between : waiting_between Max None None 0 0 ≡ Yes
-unfolding gcd gcd_with_fuel ratio of_int ◌+ℚ◌ ◌*ℚ◌ narrow narrow_ℚ written_add written_mul written_compare
-infinite_between = refl
-
--- a policy may wait for ever, so the greatest reward isn't finite
-lower_waits_for_ever : waiting_between Max (value 2) None 1 1 ≡ fault FiniteRankFalls 0 (Some 0)
-unfolding gcd gcd_with_fuel ratio of_int ◌+ℚ◌ ◌*ℚ◌ narrow narrow_ℚ written_add written_mul written_compare
-lower_waits_for_ever = refl

@@ -52,12 +52,12 @@ module _ (m : Mdp) (r : ℕ) (g : List ℚ) (s c : ℕ) where
   abbrev reward : ℚ
   reward = reward_of (choice_at m s c) r
 
-  pub bound_of : (dir : Dir) (a : List ℚ) → bound_stands dir m r g a s c ≡ Some true → Stands dir (value_at g s +ℚ value_at a s) (backup m r s c a)
+  bound_of : (dir : Dir) (a : List ℚ) → bound_stands dir m r g a s c ≡ Some true → Stands dir (value_at g s +ℚ value_at a s) (backup m r s c a)
   bound_of dir a h =
       sum_stands_of dir (value_at g s +ℚ value_at a s) a reward (row_at m s c)
       (asked_holds (λ step. sum_stands dir step a reward (row_at m s c)) (value_at g s +ℚ value_at a s) (written_step g a s) (λ v e. written_add-some (value_at g s) (value_at a s) v e) h)
 
-  pub of_bound : (dir : Dir) (a : List ℚ) → Stands dir (value_at g s +ℚ value_at a s) (backup m r s c a) → IsSome (bound_stands dir m r g a s c) → bound_stands dir m r g a s c ≡ Some true
+  of_bound : (dir : Dir) (a : List ℚ) → Stands dir (value_at g s +ℚ value_at a s) (backup m r s c a) → IsSome (bound_stands dir m r g a s c) → bound_stands dir m r g a s c ≡ Some true
   of_bound dir a le w =
       asked_sound (λ step. sum_stands dir step a reward (row_at m s c)) (value_at g s +ℚ value_at a s) (written_step g a s) (λ v e. written_add-some (value_at g s) (value_at a s) v e)
       (λ i. of_sum_stands dir (value_at g s +ℚ value_at a s) a reward (row_at m s c) le i) w

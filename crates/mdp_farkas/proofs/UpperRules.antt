@@ -1,18 +1,53 @@
 -- The verdict on an upper bound is yes exactly where the rules hold in exact numbers and no written term is past width.
-use Rattle.std.proofs.Common.{◌≡◌, ℕ, ◌<◌, Bool, List, ◌↔◌, sym, ◌∙◌}
+use Rattle.std.proofs.Common.{◌≡◌, ℕ, ◌<◌, Bool, false, cond, List, [], ◌∷◌, ◌++◌, length, ◌↔◌, sym, ◌∙◌}
 use Rattle.std.proofs.lemmas.List.Elements.{All-from_recursion, recursion_from_All}
 use Rattle.mdp_math.specs.Rational.{ℚ}
-use Rattle.mdp_spec.specs.Mdp.{Mdp, states_of}
+use Rattle.mdp_spec.specs.Mdp.{Mdp, states_of, choices_at, value_at}
 use Rattle.mdp_spec.specs.Row.{IsMdp}
-use Rattle.mdp_spec.specs.Rules.{MeetsUpper}
+use Rattle.mdp_spec.specs.Tree.{is_marked}
+use Rattle.mdp_spec.specs.Rules.{AreProbabilities, MeetsUpper}
 use Rattle.mdp_spec.specs.Bounds.{Above}
 use Rattle.mdp_spec.proofs.Reach.{above_of_rules}
 use Rattle.mdp_farkas.specs.Verdict.{Check, verdict_of, InWidth, IsYes, IfYes}
-use Rattle.mdp_farkas.specs.Upper.{upper_at, upper_checks, IsUpper}
+use Rattle.mdp_farkas.specs.Compare.{0ℚ, 1ℚ}
+use Rattle.mdp_farkas.specs.Bellman.{bound_check, bound_checks}
+use Rattle.mdp_farkas.specs.Upper.{probability_checks, goal_check, upper_at, upper_checks, IsUpper}
 use Rattle.mdp_rows.specs.declared.dir.Dir.TheVariants.{Max}
 use Rattle.mdp_farkas.specs.declared.verdict.Verdict.{Verdict}
-use Rattle.mdp_farkas.proofs.Holds.{Each, Holds, each_of_yes, yes_of_each, told_of_each, if_yes, each_flat, each_flat_at}
-use Rattle.mdp_farkas.proofs.Halves.{cover_probabilities, cover_bounds, cover_holds}
+use Rattle.mdp_farkas.proofs.Holds.{Each, Holds, each_of_yes, yes_of_each, told_of_each, if_yes, each_flat, each_flat_at, each_map, each_map_at, each_if, each_if_true, each_if_false}
+use Rattle.mdp_farkas.proofs.Comparing.{le_of_at_least, at_least_of_le, le_of_at_most, at_most_of_le, same_of_equal, equal_of_same}
+use Rattle.mdp_farkas.proofs.Inequalities.{stands_at_of, of_stands_at}
+
+-- ---- probabilities that are 1 at a goal, and elsewhere the rest
+
+abbrev pub values_at : List Bool → List ℚ → ℕ → List Check → List Check
+values_at goals z s rest = probability_checks z s ++ cond (is_marked goals s) (goal_check z s ∷ []) rest
+
+module _ (m : Mdp) (goals : List Bool) (z : List ℚ) (rest : ℕ → List Check) where
+  pub probabilities_of : ((s : ℕ) → s < states_of m → Each Holds (values_at goals z s (rest s))) → AreProbabilities m goals z
+  probabilities_of h = record {
+    at_least_zero = λ s l. le_of_at_least (value_at z s) 0ℚ (h s l).0;
+    at_most_one = λ s l. le_of_at_most (value_at z s) 1ℚ (h s l).1.0;
+    at_goal = λ s l g. same_of_equal (value_at z s) 1ℚ (each_if_true Holds (is_marked goals s) (goal_check z s ∷ []) (rest s) g (h s l).1.1).0;
+  }
+
+  pub rest_of : (P : Check → Type 0) (s : ℕ) → is_marked goals s ≡ false → Each P (values_at goals z s (rest s)) → Each P (rest s)
+  rest_of P s g h = each_if_false P (is_marked goals s) (goal_check z s ∷ []) (rest s) g h.1.1
+
+  pub values_hold : (s : ℕ) → s < states_of m → AreProbabilities m goals z → Each InWidth (values_at goals z s (rest s))
+      → (is_marked goals s ≡ false → Each InWidth (rest s) → Each Holds (rest s)) → Each Holds (values_at goals z s (rest s))
+  values_hold s l p w h = (
+    at_least_of_le (value_at z s) 0ℚ (AreProbabilities.at_least_zero p s l) w.0,
+    (
+      at_most_of_le (value_at z s) 1ℚ (AreProbabilities.at_most_one p s l) w.1.0,
+      each_if Holds (is_marked goals s) (goal_check z s ∷ []) (rest s)
+          (λ g. (
+            equal_of_same (value_at z s) 1ℚ (AreProbabilities.at_goal p s l g) (each_if_true InWidth (is_marked goals s) (goal_check z s ∷ []) (rest s) g w.1.1).0,
+            tt,
+          ))
+          (λ g. h g (rest_of InWidth s g w)),
+    ),
+  )
 
 -- ---- a state
 
@@ -22,12 +57,16 @@ module _ (m : Mdp) (goals : List Bool) (z : List ℚ) where
 
   pub upper_of_holds : Each Holds (upper_checks m goals z) → MeetsUpper m goals z
   upper_of_holds h = record {
-    probabilities = cover_probabilities Max m goals z (λ s l. at Holds s h l);
-    covers = λ s c l g i. cover_bounds Max m goals z s c g i (at Holds s h l);
+    probabilities = probabilities_of m goals z (bound_checks Max m z) (λ s l. at Holds s h l);
+    covers = λ s c l g i. stands_at_of m z Max s c
+        (each_map_at Holds (bound_check Max m z s) (length (choices_at m s)) c (rest_of m goals z (bound_checks Max m z) Holds s g (at Holds s h l)) i);
   }
 
   holds_at : (s : ℕ) → s < states_of m → MeetsUpper m goals z → Each InWidth (upper_at m goals z s) → Each Holds (upper_at m goals z s)
-  holds_at s l r w = cover_holds Max m goals z s l r.probabilities (λ c g i. r.covers s c l g i) w
+  holds_at s l r w =
+      values_hold m goals z (bound_checks Max m z) s l r.probabilities w
+      (λ g k. each_map Holds (bound_check Max m z s) (length (choices_at m s))
+      (λ c i. of_stands_at m z Max s c (r.covers s c l g i) (each_map_at InWidth (bound_check Max m z s) (length (choices_at m s)) c k i)))
 
   pub upper_rules : (v : Verdict) → v ≡ verdict_of (upper_checks m goals z) → IsYes v ↔ IsUpper m goals z
   upper_rules v e = (

@@ -6,8 +6,5 @@ pub mod Reward
 pub mod Spread
 pub mod Upper
 pub mod Verdict
-pub mod Between
-pub mod MeanBetween
-pub mod RewardBetween
 pub mod RuleNumber
 pub mod Initial

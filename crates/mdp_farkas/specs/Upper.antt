@@ -11,7 +11,6 @@ use Rattle.mdp_spec.specs.Rules.{MeetsUpper}
 use Rattle.mdp_farkas.specs.Compare.{0ℚ, 1ℚ, is_at_least, is_at_most, is_equal}
 use Rattle.mdp_farkas.specs.Verdict.{Check, InWidth, at_state}
 use Rattle.mdp_farkas.specs.Bellman.{bound_checks}
-use Rattle.mdp_rows.specs.declared.dir.Dir.{Dir}
 use Rattle.mdp_rows.specs.declared.dir.Dir.TheVariants.{Max}
 use Rattle.mdp_farkas.specs.declared.rule.Rule.TheVariants.{GoalValue, Probability}
 
@@ -23,16 +22,9 @@ probability_checks z s = at_state Probability s (is_at_least (value_at z s) 0ℚ
 abbrev pub goal_check : List ℚ → ℕ → Check
 goal_check z s = at_state GoalValue s (is_equal (value_at z s) 1ℚ)
 
--- rule 3, at a goal rule 4, and elsewhere the rest
-abbrev pub values_at : List Bool → List ℚ → ℕ → List Check → List Check
-values_at goals z s rest = probability_checks z s ++ (if is_marked goals s then goal_check z s ∷ [] else rest)
-
 -- and rule 5
-abbrev pub cover_at : Dir → Mdp → List Bool → List ℚ → ℕ → List Check
-cover_at dir m goals z s = values_at goals z s (bound_checks dir m z s)
-
 abbrev pub upper_at : Mdp → List Bool → List ℚ → ℕ → List Check
-upper_at m goals z s = cover_at Max m goals z s
+upper_at m goals z s = probability_checks z s ++ (if is_marked goals s then goal_check z s ∷ [] else bound_checks Max m z s)
 
 -- the states ascend, at a state the rules, in a rule the choices
 abbrev pub upper_checks : Mdp → List Bool → List ℚ → List Check

@@ -3,18 +3,15 @@
 #![tactic(auto)]
 
 mod bellman;
-mod between;
 mod compare;
 mod falls;
 mod finite;
 mod infinite;
 mod initial;
 mod mean;
-mod mean_between;
 mod ranks;
 mod reach;
 mod reward;
-mod reward_between;
 mod rule;
 mod spread;
 mod transient;
@@ -22,18 +19,15 @@ mod upper;
 mod verdict;
 mod walk;
 
-pub use between::{ReachBetweenCert, holds_reach_between};
 pub use compare::{at_least, at_most, equal};
 pub use finite::{finite_at, finite_sum, is_infinite_at, stays_finite_at};
 pub use infinite::infinite_state;
 pub use initial::{init_denied, is_value, state_verdict};
 pub use mdp_rows::Dir;
 pub use mean::{MeanCert, holds_mean};
-pub use mean_between::{MeanBetweenCert, holds_mean_between};
 pub use ranks::rank_at_state;
 pub use reach::{ReachCert, choice_at, holds_reach, reversed};
 pub use reward::{RewardCert, holds_reward};
-pub use reward_between::{RewardBetweenCert, holds_reward_between, order_at};
 pub use rule::Rule;
 pub use spread::spread_of;
 pub use transient::{is_held_against, rank_falls_at_state, stays_at_state};

@@ -44,12 +44,7 @@ fn gain_at(model: &Model, dir: Dir, gains: &[Frac], s: u32, c: u32) -> Result<()
 }
 
 /// The same of each choice.
-pub(crate) fn gains_at_state(
-    model: &Model,
-    dir: Dir,
-    gains: &[Frac],
-    s: u32,
-) -> Result<(), Objection>
+fn gains_at_state(model: &Model, dir: Dir, gains: &[Frac], s: u32) -> Result<(), Objection>
     requires gains { length gains.now ≡ states_of model.now }
     requires state { s < states_of model.now }
     ensures { result ≡ objection_to (at_choices model.now s (gain_check dir model.now gains.now s)) }
@@ -68,7 +63,7 @@ fn step_at(gains: &[Frac], relative: &[Frac], s: u32) -> Result<Frac, Wide>
 
 /// Whether the gain and the bound of state `s` together are at least, or for the least mean payoff at most, what its choice `c` earns by the
 /// bound: its reward and the sum over its row.
-pub(crate) fn bound_stands_at(
+fn bound_stands_at(
     model: &Model,
     m: u32,
     dir: Dir,
@@ -114,7 +109,7 @@ fn bound_at(
 }
 
 /// The same of each choice.
-pub(crate) fn bounds_at_state(
+fn bounds_at_state(
     model: &Model,
     m: u32,
     dir: Dir,
@@ -232,7 +227,7 @@ fn mean_at_states(
 }
 
 /// The spread is that of bounds and biases.
-pub(crate) fn spread_holds(bound: &[Frac], bias: &[Frac], spread: &Frac) -> Result<bool, Wide>
+fn spread_holds(bound: &[Frac], bias: &[Frac], spread: &Frac) -> Result<bool, Wide>
     ensures { result_ok result ≡ (spread_check bound.now bias.now spread.now).holds }
 {
     let widest = spread_of(bound, bias)?;

@@ -46,7 +46,7 @@ pub fn choice_at(model: &Model, s: u32, choice: u32) -> Result<(), Objection>
 }
 
 /// Bellman's inequality the other way round, for the choice of the policy.
-pub(crate) fn policy_meets(
+fn policy_meets(
     model: &Model,
     dir: Dir,
     values: &[Frac],

@@ -48,7 +48,7 @@ fn equal_to_zero(value: Option<Frac>) -> Result<bool, Wide>
 }
 
 /// The value of state `s` is at least 0.
-pub(crate) fn nonneg_at(values: &[Option<Frac>], s: u32) -> Result<(), Objection>
+fn nonneg_at(values: &[Option<Frac>], s: u32) -> Result<(), Objection>
     requires { s < length values.now }
     ensures { result ≡ objection_to (nonneg_check values.now s ∷ []) }
 {
@@ -61,7 +61,7 @@ pub(crate) fn nonneg_at(values: &[Option<Frac>], s: u32) -> Result<(), Objection
 }
 
 /// The goal `s` has the value 0 and rank 0.
-pub(crate) fn goal_state(values: &[Option<Frac>], ranks: &[u32], s: u32) -> Result<(), Objection>
+fn goal_state(values: &[Option<Frac>], ranks: &[u32], s: u32) -> Result<(), Objection>
     requires values { s < length values.now }
     requires ranks { s < length ranks.now }
     ensures { result ≡ objection_to (goal_checks values.now ranks.now s) }
@@ -119,7 +119,7 @@ fn sign_at(model: &Model, m: u32, s: u32, c: u32) -> Result<(), Objection>
 }
 
 /// The same of each choice.
-pub(crate) fn signs_at_state(model: &Model, m: u32, s: u32) -> Result<(), Objection>
+fn signs_at_state(model: &Model, m: u32, s: u32) -> Result<(), Objection>
     requires name { m < length model.now.names }
     requires state { s < states_of model.now }
     ensures { result ≡ objection_to (sign_checks model.now m s) }

@@ -118,7 +118,7 @@ fn earning_at(
 }
 
 /// The inequality at each choice of state `s` that counts.
-pub(crate) fn earnings_at_state(
+fn earnings_at_state(
     model: &Model,
     m: u32,
     dir: Dir,
@@ -136,7 +136,7 @@ pub(crate) fn earnings_at_state(
 }
 
 /// Bellman's inequality the other way round, for the choice of the policy.
-pub(crate) fn policy_earns(
+fn policy_earns(
     model: &Model,
     m: u32,
     dir: Dir,

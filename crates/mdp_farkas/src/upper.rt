@@ -1,6 +1,6 @@
 ghost use Rattle.std.specs.Prelude.{◌≡◌, ◌<◌, ◌↔◌, length, [], ◌∷◌};
 ghost use Rattle.mdp_spec.specs.Mdp.{states_of};
-ghost use Rattle.mdp_farkas.specs.Upper.{probability_checks, goal_check, cover_at, upper_checks, IsUpper};
+ghost use Rattle.mdp_farkas.specs.Upper.{probability_checks, goal_check, upper_at, upper_checks, IsUpper};
 ghost use Rattle.mdp_farkas.specs.Verdict.{objection_to, verdict_of, IsYes, IfYes};
 ghost use Rattle.mdp_spec.specs.Bounds.{Above};
 
@@ -46,24 +46,18 @@ pub(crate) fn goal_at(values: &[Frac], s: u32) -> Result<(), Objection>
     )
 }
 
-/// The value of state `s` is a probability and 1 at a goal; else Bellman's inequality holds.
-pub(crate) fn cover_at_state(
-    model: &Model,
-    goals: &Marks,
-    dir: Dir,
-    values: &[Frac],
-    s: u32,
-) -> Result<(), Objection>
+/// The rules at state `s`.
+fn upper_at_state(model: &Model, goals: &Marks, values: &[Frac], s: u32) -> Result<(), Objection>
     requires goals { length goals.now ≡ states_of model.now }
     requires values { length values.now ≡ states_of model.now }
     requires state { s < states_of model.now }
-    ensures { result ≡ objection_to (cover_at dir model.now goals.now values.now s) }
+    ensures { result ≡ objection_to (upper_at model.now goals.now values.now s) }
 {
     probability_at(values, s)?;
     if goals.at(s) {
         goal_at(values, s)
     } else {
-        bounds_at_state(model, dir, values, s)
+        bounds_at_state(model, Dir::Max, values, s)
     }
 }
 
@@ -73,9 +67,7 @@ fn upper_at_states(model: &Model, goals: &Marks, values: &[Frac]) -> Result<(), 
     requires values { length values.now ≡ states_of model.now }
     ensures { result ≡ objection_to (upper_checks model.now goals.now values.now) }
 {
-    each_below(model.states(), |s| {
-        cover_at_state(model, goals, Dir::Max, values, s)
-    })
+    each_below(model.states(), |s| upper_at_state(model, goals, values, s))
 }
 
 /// Whether the values are a Farkas certificate of upper bounds: what rules 3, 4 and 5 say of them. Yes, the first rule that is false with

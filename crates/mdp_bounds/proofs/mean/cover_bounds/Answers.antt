@@ -1,5 +1,5 @@
 use Rattle.std.proofs.Common.{◌≡◌, sym, subst}
-use Rattle.mdp_farkas.specs.Between.{covering}
+use Rattle.mdp_bounds.specs.Reach.{covering}
 use Rattle.mdp_bounds.specs.Mean.{gains_cover}
 use Rattle.mdp_farkas.specs.Verdict.{objection_to}
 use Rattle.mdp_rows.specs.declared.dir.Dir.{Dir}

@@ -1,7 +1,7 @@
 use Rattle.std.proofs.Common.{[], ◌∷◌, ◌++◌, List}
 use Rattle.std.proofs.lemmas.Result.{err_from_is_err_and}
 use Rattle.mdp_farkas.specs.Reach.{choice_exists}
-use Rattle.mdp_farkas.specs.Between.{covering, followed}
+use Rattle.mdp_bounds.specs.Reach.{covering, followed}
 use Rattle.mdp_bounds.specs.Mean.{gains_cover, gains_follow}
 use Rattle.mdp_farkas.specs.Verdict.{Check}
 use Rattle.mdp_farkas.proofs.Objections.{halts, goes_on}

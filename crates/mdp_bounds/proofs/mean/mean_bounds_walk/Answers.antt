@@ -1,8 +1,7 @@
 use Rattle.std.proofs.Common.{ℕ, Bool, Option, [], ◌∷◌, List, None, ap, ◌∙◌}
 use Rattle.std.proofs.lemmas.Result.{err_from_is_err_and}
 use Rattle.mdp_math.specs.Rational.{ℚ}
-use Rattle.mdp_bounds.specs.Mean.{spread_check}
-use Rattle.mdp_bounds.specs.Mean.{state_bounds_checks}
+use Rattle.mdp_bounds.specs.Mean.{spread_check, state_bounds_checks}
 use Rattle.mdp_farkas.specs.Verdict.{Check, objection_to}
 use Rattle.mdp_farkas.proofs.Objections.{halts, goes_on}
 use Rattle.mdp_bounds.proofs.mean.mean_bounds_walk.Goals as goal

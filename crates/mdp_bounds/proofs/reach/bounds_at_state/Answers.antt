@@ -1,8 +1,7 @@
 use Rattle.std.proofs.Common.{[], ◌∷◌, ◌++◌, List}
 use Rattle.std.proofs.lemmas.Result.{err_from_is_err_and}
 use Rattle.mdp_farkas.specs.Reach.{choice_exists, rank_checks}
-use Rattle.mdp_farkas.specs.Between.{covering, followed}
-use Rattle.mdp_bounds.specs.Reach.{cover_at, follow_at}
+use Rattle.mdp_bounds.specs.Reach.{covering, followed, cover_at, follow_at}
 use Rattle.mdp_farkas.specs.Verdict.{Check}
 use Rattle.mdp_farkas.proofs.Objections.{halts, goes_on}
 use Rattle.mdp_bounds.proofs.reach.bounds_at_state.Goals as goal

@@ -1,6 +1,5 @@
 use Rattle.std.proofs.Common.{◌≡◌, sym, subst}
-use Rattle.mdp_bounds.specs.Reach.{cover_at}
-use Rattle.mdp_farkas.specs.Between.{covering}
+use Rattle.mdp_bounds.specs.Reach.{cover_at, covering}
 use Rattle.mdp_farkas.specs.Verdict.{objection_to}
 use Rattle.mdp_rows.specs.declared.dir.Dir.{Dir}
 use Rattle.mdp_bounds.proofs.reach.cover_bounds.Goals as goal

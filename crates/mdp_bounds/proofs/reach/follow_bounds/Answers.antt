@@ -1,6 +1,5 @@
 use Rattle.std.proofs.Common.{◌≡◌, sym, subst}
-use Rattle.mdp_bounds.specs.Reach.{follow_at}
-use Rattle.mdp_farkas.specs.Between.{followed}
+use Rattle.mdp_bounds.specs.Reach.{follow_at, followed}
 use Rattle.mdp_farkas.specs.Verdict.{objection_to}
 use Rattle.mdp_rows.specs.declared.dir.Dir.{Dir}
 use Rattle.mdp_bounds.proofs.reach.follow_bounds.Goals as goal

@@ -1,8 +1,7 @@
 use Rattle.std.proofs.Common.{[], ◌∷◌, ◌++◌, List}
 use Rattle.std.proofs.lemmas.Result.{err_from_is_err_and}
 use Rattle.mdp_farkas.specs.Reach.{choice_exists}
-use Rattle.mdp_farkas.specs.RewardBetween.{order_check}
-use Rattle.mdp_bounds.specs.Reward.{lower_checks, upper_value_checks, sign_checks}
+use Rattle.mdp_bounds.specs.Reward.{order_check, lower_checks, upper_value_checks, sign_checks}
 use Rattle.mdp_farkas.specs.Verdict.{Check}
 use Rattle.mdp_farkas.proofs.Objections.{halts, goes_on}
 use Rattle.mdp_bounds.proofs.reward.reward_bounds_at_state.Goals as goal

@@ -1,8 +1,7 @@
 use Rattle.std.proofs.Common.{not}
 use Rattle.std.proofs.lemmas.Result.{err_from_is_err_and}
 use Rattle.mdp_farkas.specs.Reward.{stay_checks}
-use Rattle.mdp_farkas.specs.RewardBetween.{lower_on_each}
-use Rattle.mdp_bounds.specs.Reward.{half_checks}
+use Rattle.mdp_bounds.specs.Reward.{lower_on_each, half_checks}
 use Rattle.mdp_farkas.proofs.Objections.{halts, goes_on}
 use Rattle.mdp_bounds.proofs.reward.upper_finite.Goals as goal
 

@@ -1,6 +1,5 @@
 use Rattle.std.proofs.Common.{◌≡◌, sym, subst, not}
-use Rattle.mdp_farkas.specs.RewardBetween.{lower_on_each}
-use Rattle.mdp_bounds.specs.Reward.{half_checks}
+use Rattle.mdp_bounds.specs.Reward.{lower_on_each, half_checks}
 use Rattle.mdp_farkas.specs.Verdict.{objection_to}
 use Rattle.mdp_rows.specs.declared.dir.Dir.{Dir}
 use Rattle.mdp_bounds.proofs.reward.upper_half.Goals as goal
