@@ -30,6 +30,11 @@ Between low high (x ∷ row) = (low ≤ x.target) × (x.target < high) × Betwee
 abbrev pub LeadsAt : ℕ → List Entry → ℕ → Type 0
 LeadsAt v row i = (i < length row) × HoldsAt (λ x. x.target ≡ v) row i
 
+-- the first entry of a row leads to a state to which the other row doesn't
+abbrev pub StartsNew : List Entry → List Entry → Type 0
+StartsNew [] row = Unit {0}
+StartsNew (x ∷ source) row = entry_to x.target row ≡ None
+
 -- a step for each element, where each of them can be made
 abbrev pub each : {A : Type 0} → (A → Option A) → List A → Option (List A)
 each f [] = Some []

@@ -3,7 +3,7 @@ ghost use Rattle.std.specs.List.{All};
 ghost use Rattle.std.specs.Result.{result_ok};
 ghost use Rattle.mdp_spec.specs.Written.{written_sum};
 ghost use Rattle.mdp_math.specs.Rational.{of_int};
-ghost use Rattle.mdp_elim.specs.Entries.{Between, LeadsAt, place, entry_to, without, each, divided_entry, plus_row};
+ghost use Rattle.mdp_elim.specs.Entries.{Between, LeadsAt, StartsNew, place, entry_to, without, each, divided_entry, plus_row};
 
 use crate::errors::StepError;
 use mdp_num::{Frac, Wide};
@@ -118,15 +118,15 @@ fn split_entry(row: &[Term], target: u32) -> (Option<Frac>, &[Term])
 
 /// A row at a target: the entries to smaller states, the factor of the entry to the target where there is one, and the entries behind it.
 #[derive(Drop)]
-pub(crate) struct Split<'r> {
-    pub(crate) before: &'r [Term],
-    pub(crate) entry: Option<Frac>,
-    pub(crate) behind: &'r [Term],
+struct Split<'r> {
+    before: &'r [Term],
+    entry: Option<Frac>,
+    behind: &'r [Term],
 }
 
 /// Splits a row at a target.
 #[tactic(auto, using(crate::proofs::Merge::place_le, crate::proofs::Merge::place_rest))]
-pub(crate) fn split_row(row: &[Term], target: u32) -> Split<'_>
+fn split_row(row: &[Term], target: u32) -> Split<'_>
     ensures before { result.before.now ≡ take (place target row.now) row.now }
     ensures entry { result.entry ≡ entry_to target (drop (place target row.now) row.now) }
     ensures behind { result.behind.now ≡ without target (drop (place target row.now) row.now) }
@@ -180,6 +180,7 @@ fn add_known<'s>(row: &mut [Term], times: &Frac, source: &'s [Term]) -> Result<&
     requires source { (high : ℕ) × Between 0 high source.now }
     ensures ok { IfOk result (λ left. plus_row times.now source.now row.old ≡ plus_row times.now left.now row.new) }
     ensures left { IfOk result (λ left. (high : ℕ) × Between 0 high left.now) }
+    ensures new { IfOk result (λ left. StartsNew left.now row.new) }
     ensures wide { OnErr result (plus_row times.now source.now row.old ≡ None) }
 {
     let mut left = source;
