@@ -46,7 +46,8 @@ plus_entry-at low high v x (suc i) (y ∷ row) d h l e =
     ∙ behind_first y (written_add (Entry.prob (get_or row i d)) x) (λ sum. set row i (entry v sum))
 
 -- one entry of the other row, to a target that the row has at i
-module _ (w : ℚ) (x : Entry) (source left row : List Entry) (all : Option (List Entry)) (is : left ≡ x ∷ source) (so_far : all ≡ plus_row w left row) (high : ℕ) (between : Between 0 high row) (i t : ℕ) (target : t ≡ x.target) (known : LeadsAt t row i)
+module _ (w : ℚ) (x : Entry) (source left row : List Entry) (all : Option (List Entry)) (is : left ≡ x ∷ source)
+    (so_far : all ≡ plus_row w left row) (high : ℕ) (between : Between 0 high row) (i t : ℕ) (target : t ≡ x.target) (known : LeadsAt t row i)
     (p more : ℚ) (prob : p ≡ x.prob) (term : Some more ≡ written_mul w p) (d : Entry) (old : ℚ) (factor : old ≡ Entry.prob (get_or row i d)) where
   abbrev put : ℚ → List Entry
   put sum = set row i (entry x.target sum)

@@ -32,7 +32,8 @@ loop-x-preserved c =
           ] in
           rw w.lists-is
           (record {
-            listed = so_far-same (λ v. c.args.t < v → LeadsTo c.args.row.now v ⊎ IsListed c.loop-x.lists v c.args.t) c.args.source.now c.loop-x.x-index c.x-item.result c.x-item.is c.loop-x-test.true c.loop-x.invariant.listed here;
+            listed = so_far-same (λ v. c.args.t < v → LeadsTo c.args.row.now v ⊎ IsListed c.loop-x.lists v c.args.t)
+                c.args.source.now c.loop-x.x-index c.x-item.result c.x-item.is c.loop-x-test.true c.loop-x.invariant.listed here;
             more = c.loop-x.invariant.more;
           })
     ]
