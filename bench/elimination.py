@@ -5,12 +5,13 @@
     random N   state s goes to two greater states with 1/2 each, drawn with a fixed seed: no new entry either
     grid N     N layers of N states; a state goes to two states of the next layer with 1/2 each. Layers are numbered so that those in between
                are eliminated first (by the bits of a layer's number in opposite order), so rows grow up to N entries
+    hub N      the first state goes to each of N states with equal chance, and each of these to the goal: no new entry, and one long row
 
 Each is a Markov chain whose last state is the goal, so `solve` takes one round: a pass over the graph, one evaluation, the comparison of each
 state's one choice, and the check of the certificate. What is timed is the whole program, reading and writing too. Writes for each chain the
 least time of RUNS runs, the greatest memory (where that is less than the script itself takes, some 40 MB, the latter), the status, and the
 machine's load. The program has to be built (bin/mdp builds it).
-Usage: bench/elimination.py [CHAIN N ..] (a line and a random chain of 1000, 10000 and 100000 states and a grid of 100 if nothing is said).
+Usage: bench/elimination.py [CHAIN N ..] (a line, a random chain and a hub of 1000, 10000 and 100000 states and a grid of 100 if nothing is said).
 """
 import os
 import random
@@ -51,7 +52,11 @@ def grid(width):
     return rows
 
 
-KINDS = {"line": line, "random": random_chain, "grid": grid}
+def hub(size):
+    return [[(s, "1/%d" % size) for s in range(1, size + 1)]] + [[(size + 1, "1")]] * size
+
+
+KINDS = {"line": line, "random": random_chain, "grid": grid, "hub": hub}
 
 
 def write_chain(path, rows):
@@ -72,7 +77,7 @@ def solve(model):
 
 
 def main():
-    words = sys.argv[1:] or "line 1000 line 10000 line 100000 random 1000 random 10000 random 100000 grid 100".split()
+    words = sys.argv[1:] or "line 1000 line 10000 line 100000 random 1000 random 10000 random 100000 grid 100 hub 1000 hub 10000 hub 100000".split()
     with tempfile.TemporaryDirectory() as folder:
         model = os.path.join(folder, "chain.drn")
         for kind, size in zip(words[::2], words[1::2]):

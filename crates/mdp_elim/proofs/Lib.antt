@@ -1,4 +1,6 @@
 pub mod Merge
+pub mod Search
+pub mod InPlace
 pub mod Steps
 pub mod Equations
 pub mod Lists

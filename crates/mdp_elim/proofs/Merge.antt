@@ -46,7 +46,7 @@ below-append : (v : ℕ) (xs : List Entry) (y : Entry) → Below v xs → y.targ
 below-append v [] y h l = (l, tt)
 below-append v (x ∷ xs) y h l = (h.0, below-append v xs y h.1 l)
 
-not_le : (v n : ℕ) → n < v → nat_le v n ≡ false
+pub not_le : (v n : ℕ) → n < v → nat_le v n ≡ false
 not_le v n l = grind arith
 
 lt_of_not_le : (v n : ℕ) → nat_le v n ≡ false → n < v

@@ -1,5 +1,5 @@
 -- A fact about the targets of two rows holds of the targets of what elimination makes of them.
-use Rattle.std.proofs.Common.{◌≡◌, ℕ, zero, suc, ◌+◌, ◌<◌, ◌⊎◌, inl, inr, Bool, true, false, List, [], ◌∷◌, length, drop, get_or, refl, sym, ◌∙◌, ap, subst, arith, eqb, nat_le, Option, Some, None, if◌then◌else◌, pos}
+use Rattle.std.proofs.Common.{◌≡◌, ℕ, zero, suc, ◌+◌, ◌<◌, ◌⊎◌, inl, inr, Bool, true, false, List, [], ◌∷◌, length, get_or, refl, sym, ◌∙◌, ap, subst, arith, eqb, nat_le, Option, Some, None, IfSome, if◌then◌else◌, pos}
 use Rattle.std.specs.List.{All}
 use Rattle.std.specs.Option.{is_none}
 use Rattle.std.proofs.lemmas.List.{get_or_default}
@@ -9,9 +9,10 @@ use Rattle.mdp_math.specs.Written.{written_add, written_mul, ◌>>=◌}
 use Rattle.mdp_num.specs.Written.{written_sub, written_div}
 use Rattle.mdp_spec.specs.Mdp.{Entry}
 use Rattle.mdp_elim.specs.Equation.{Equation}
-use Rattle.mdp_elim.specs.Entries.{entry_to, without, each, divided_entry, plus_entry, plus_row}
+use Rattle.mdp_elim.specs.Entries.{LeadsAt, entry_to, without, each, divided_entry, plus_entry, plus_row}
 use Rattle.mdp_elim.specs.Elimination.{divided, divided_rest, divided_where, rest_of, substituted, substituted_where, plus_equation}
 use Rattle.mdp_elim.specs.Predecessors.{LeadsTo}
+use Rattle.mdp_elim.proofs.Merge.{no_entry}
 use Rattle.mdp_elim.proofs.RowSums.{some_part}
 
 pub before_or : (i k : ℕ) → k < i + 1 → (k < i) ⊎ (k ≡ i)
@@ -135,38 +136,7 @@ pub leads-entry : (v : ℕ) (p : ℚ) (row : List Entry) → entry_to v row ≡ 
 leads-entry v p [] h = cc
 leads-entry v p (x ∷ row) h = leads_by v p x row (nat_le v x.target) (eqb x.target v) refl h (leads-entry v p row)
 
--- ---- what a part of a row leads to
-
-leads_head : (v : ℕ) (x : Entry) (row : List Entry) → x.target ≡ v → LeadsTo (x ∷ row) v
-leads_head v x row e = (0, x, omega arith, refl, e)
-
-leads_cons : (v : ℕ) (x : Entry) (row : List Entry) → LeadsTo (x ∷ row) v → (x.target ≡ v) ⊎ LeadsTo row v
-leads_cons v x row (zero, y, l, e, t) = inl (ap Entry.target e ∙ t)
-leads_cons v x row (suc k, y, l, e, t) = inr (k, y, omega arith, e, t)
-
-leads_behind : (v : ℕ) (x : Entry) (small row : List Entry) → (LeadsTo small v → LeadsTo row v) → (x.target ≡ v) ⊎ LeadsTo small v → LeadsTo (x ∷ row) v
-leads_behind v x small row f (inl e) = leads_head v x row e
-leads_behind v x small row f (inr h) = leads_later v x row (f h)
-
-leads_drop : (v n : ℕ) (row : List Entry) → LeadsTo (drop n row) v → LeadsTo row v
-leads_drop v zero row h = h
-leads_drop v (suc n) [] h = h
-leads_drop v (suc n) (x ∷ row) h = leads_later v x row (leads_drop v n row h)
-
-without_to : (v : ℕ) (x : Entry) (row rest : List Entry) (b c : Bool) → (LeadsTo rest v → LeadsTo row v) → LeadsTo (if b then (if c then row else x ∷ row) else x ∷ rest) v → LeadsTo (x ∷ row) v
-without_to v x row rest true true f h = leads_later v x row h
-without_to v x row rest true false f h = h
-without_to v x row rest false c f h = leads_behind v x rest row f (leads_cons v x rest h)
-
-leads_without : (v s : ℕ) (row : List Entry) → LeadsTo (without s row) v → LeadsTo row v
-leads_without v s [] h = h
-leads_without v s (x ∷ row) h = without_to v x row (without s row) (nat_le s x.target) (eqb x.target s) (leads_without v s row) h
-
--- of the rest behind a target
-pub leads-rest : (v s n : ℕ) (rest behind : List Entry) → behind ≡ without s (drop n rest) → LeadsTo behind v → LeadsTo rest v
-leads-rest v s n rest behind is h = leads_drop v n rest (leads_without v s (drop n rest) (subst (λ (r : List Entry). LeadsTo r v) is h))
-
 -- an entry that was found there
-pub leads-found : (v n : ℕ) (rest : List Entry) (o : Option ℚ) → o ≡ entry_to v (drop n rest) → is_none o ≡ false → LeadsTo rest v
-leads-found v n rest None is h = cc
-leads-found v n rest (Some p) is h = leads_drop v n rest (leads-entry v p (drop n rest) (sym is))
+pub leads-found : (v : ℕ) (row : List Entry) (o : Option ℕ) → IfSome o (LeadsAt v row) → is_none o ≡ false → LeadsTo row v
+leads-found v row None h e = cc
+leads-found v row (Some i) h e = (i, get_or row i no_entry, h.0, get_or_default row i _ no_entry h.0, h.1 no_entry)

@@ -1,5 +1,6 @@
 -- Written arithmetic on the entries of an equation, whose targets ascend.
-use Rattle.std.specs.Prelude.{◌<◌, ◌≤◌, ℕ, suc, List, [], ◌∷◌, Option, Some, None, ◌==◌, nat_le, if◌then◌else◌, pos}
+use Rattle.std.specs.Prelude.{◌≡◌, ◌<◌, ◌≤◌, ℕ, suc, length, List, [], ◌∷◌, Option, Some, None, ◌==◌, nat_le, if◌then◌else◌, pos}
+use Rattle.std.specs.List.{HoldsAt}
 use Rattle.mdp_math.specs.Rational.{ℚ, of_int}
 use Rattle.mdp_math.specs.Written.{written_add, written_mul, ◌>>=◌}
 use Rattle.mdp_num.specs.Written.{written_div}
@@ -24,6 +25,15 @@ without s (x ∷ row) = if nat_le s x.target then (if x.target == s then row els
 abbrev pub Between : ℕ → ℕ → List Entry → Type 0
 Between low high [] = Unit {0}
 Between low high (x ∷ row) = (low ≤ x.target) × (x.target < high) × Between (suc x.target) high row
+
+-- the entry at place i leads to v
+abbrev pub LeadsAt : ℕ → List Entry → ℕ → Type 0
+LeadsAt v row i = (i < length row) × HoldsAt (λ x. x.target ≡ v) row i
+
+-- the first entry of a row leads to a state to which the other row doesn't
+abbrev pub StartsNew : List Entry → List Entry → Type 0
+StartsNew [] row = Unit {0}
+StartsNew (x ∷ source) row = entry_to x.target row ≡ None
 
 -- a step for each element, where each of them can be made
 abbrev pub each : {A : Type 0} → (A → Option A) → List A → Option (List A)

@@ -1,9 +1,9 @@
-ghost use Rattle.std.specs.Prelude.{ℕ, ◌≡◌, ◌≢◌, ◌<◌, ◌+◌, length, take, drop, Some, None, OnOk, OnErr, IfOk, pos};
+ghost use Rattle.std.specs.Prelude.{ℕ, ◌≡◌, ◌≢◌, ◌<◌, ◌+◌, length, take, drop, Some, None, OnOk, OnErr, IfOk, IfSome, pos};
 ghost use Rattle.std.specs.List.{All};
 ghost use Rattle.std.specs.Result.{result_ok};
 ghost use Rattle.mdp_spec.specs.Written.{written_sum};
 ghost use Rattle.mdp_math.specs.Rational.{of_int};
-ghost use Rattle.mdp_elim.specs.Entries.{Between, place, entry_to, without, each, divided_entry, plus_row};
+ghost use Rattle.mdp_elim.specs.Entries.{Between, LeadsAt, StartsNew, place, entry_to, without, each, divided_entry, plus_row};
 
 use crate::errors::StepError;
 use mdp_num::{Frac, Wide};
@@ -118,15 +118,15 @@ fn split_entry(row: &[Term], target: u32) -> (Option<Frac>, &[Term])
 
 /// A row at a target: the entries to smaller states, the factor of the entry to the target where there is one, and the entries behind it.
 #[derive(Drop)]
-pub(crate) struct Split<'r> {
-    pub(crate) before: &'r [Term],
-    pub(crate) entry: Option<Frac>,
-    pub(crate) behind: &'r [Term],
+struct Split<'r> {
+    before: &'r [Term],
+    entry: Option<Frac>,
+    behind: &'r [Term],
 }
 
 /// Splits a row at a target.
 #[tactic(auto, using(crate::proofs::Merge::place_le, crate::proofs::Merge::place_rest))]
-pub(crate) fn split_row(row: &[Term], target: u32) -> Split<'_>
+fn split_row(row: &[Term], target: u32) -> Split<'_>
     ensures before { result.before.now ≡ take (place target row.now) row.now }
     ensures entry { result.entry ≡ entry_to target (drop (place target row.now) row.now) }
     ensures behind { result.behind.now ≡ without target (drop (place target row.now) row.now) }
@@ -140,8 +140,16 @@ pub(crate) fn split_row(row: &[Term], target: u32) -> Split<'_>
     }
 }
 
+/// The index of the entry to `target` in a row whose targets ascend, where there is one.
+pub(crate) fn find(row: &[Term], target: u32) -> Option<usize>
+    ensures found { IfSome result (LeadsAt target row.now) }
+    ensures none { result ≡ None → (high : ℕ) → Between 0 high row.now → entry_to target row.now ≡ None }
+{
+    row.binary_search_by_key(&target, |x| x.target()).ok()
+}
+
 /// A row and so many times each entry of another, merged.
-pub(crate) fn plus_row(
+fn merged(
     alloc: Global,
     row: &[Term],
     times: &Frac,
@@ -164,6 +172,47 @@ pub(crate) fn plus_row(
     }
     sums.extend_from_slice(rest)?;
     Ok(sums)
+}
+
+/// Adds so many times each entry of another row, up to the first one to whose target the row has no entry. Gives the entries from this one on.
+fn add_known<'s>(row: &mut [Term], times: &Frac, source: &'s [Term]) -> Result<&'s [Term], Wide>
+    requires row { (high : ℕ) × Between 0 high row.old }
+    requires source { (high : ℕ) × Between 0 high source.now }
+    ensures ok { IfOk result (λ left. plus_row times.now source.now row.old ≡ plus_row times.now left.now row.new) }
+    ensures left { IfOk result (λ left. (high : ℕ) × Between 0 high left.now) }
+    ensures new { IfOk result (λ left. StartsNew left.now row.new) }
+    ensures wide { OnErr result (plus_row times.now source.now row.old ≡ None) }
+{
+    let mut left = source;
+    while let Some((x, rest)) = left.split_first() {
+        let Some(at) = find(row, x.target()) else {
+            break;
+        };
+        let more = times.mul(&x.factor())?;
+        let sum = row[at].factor().add(&more)?;
+        row[at] = Term::new(x.target(), sum);
+        left = rest;
+    }
+    Ok(left)
+}
+
+/// Adds so many times each entry of another row: in place as far as the row has entries to the same targets, and else by a merge.
+pub(crate) fn add_row(
+    alloc: Global,
+    row: &mut Vec<Term>,
+    times: &Frac,
+    source: &[Term],
+) -> Result<(), StepError>
+    requires row { (high : ℕ) × Between 0 high row.old.items }
+    requires source { (high : ℕ) × Between 0 high source.now }
+    ensures ok { OnOk result (plus_row times.now source.now row.old.items ≡ Some row.new.items) }
+    ensures wide { result ≡ Err StepError.Wide → plus_row times.now source.now row.old.items ≡ None }
+{
+    let left = add_known(row, times, source)?;
+    if !left.is_empty() {
+        *row = merged(alloc, row, times, left)?;
+    }
+    Ok(())
 }
 
 /// `start`, and for each entry its factor times the value of its target, added in the order of the entries.

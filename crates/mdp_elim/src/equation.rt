@@ -4,7 +4,7 @@ ghost use Rattle.mdp_math.specs.Rational.{of_int};
 ghost use Rattle.mdp_elim.specs.Entries.{Between, entry_to};
 ghost use Rattle.mdp_elim.specs.Elimination.{divided, divided_rest, plus_equation, substituted, evaluated};
 
-use crate::entries::{Term, divide_row, plus_row, row_sum, take_entry};
+use crate::entries::{Term, add_row, divide_row, row_sum, take_entry};
 use crate::errors::StepError;
 use bumpalo::Bump;
 use mdp_num::{Frac, Wide};
@@ -127,16 +127,16 @@ impl Equation {
 
     /// Adds so many times another equation.
     fn plus(&mut self, alloc: Global, times: &Frac, other: &Solved<'_>) -> Result<(), StepError>
-        requires { (high : ℕ) × Between 0 high other.now.entries }
+        requires ascend { (high : ℕ) × Between 0 high self.old.entries }
+        requires other { (high : ℕ) × Between 0 high other.now.entries }
         ensures ok { OnOk result (plus_equation times.now other.now self.old ≡ Some self.new) }
         ensures wide { result ≡ Err StepError.Wide → plus_equation times.now other.now self.old ≡ None }
     {
-        let entries = plus_row(alloc, &self.entries, times, other.entries)?;
+        add_row(alloc, &mut self.entries, times, other.entries)?;
         let more = times.mul(&other.first)?;
         let first = self.first.add(&more)?;
         let also = times.mul(&other.second)?;
         let second = self.second.add(&also)?;
-        self.entries = entries;
         self.first = first;
         self.second = second;
         Ok(())

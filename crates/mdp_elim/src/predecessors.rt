@@ -3,7 +3,7 @@ ghost use Rattle.std.specs.Prelude.{ℕ, ◌≡◌, ◌<◌, ◌⊎◌, ◌^◌,
 ghost use Rattle.std.specs.List.{All};
 ghost use Rattle.mdp_elim.specs.Predecessors.{IsListed, HoldSmaller, ListsMore, LeadsTo, ListsTargets, LeadBelow, IsLinked, at};
 
-use crate::entries::{Term, split_row};
+use crate::entries::{Term, find};
 use crate::equation::Equation;
 use smallvec::SmallVec;
 use std::alloc::{AllocError, Global};
@@ -72,13 +72,10 @@ pub(crate) fn list_new(
     ensures listed { OnOk result (All (λ x. t < x.target → LeadsTo row.now x.target ⊎ IsListed lists.new x.target t) source.now) }
     ensures more { OnOk result (ListsMore lists.old lists.new) }
 {
-    let mut rest = row;
     for x in source {
-        let split = split_row(rest, x.target());
-        if t < x.target() && split.entry.is_none() {
+        if t < x.target() && find(row, x.target()).is_none() {
             list(lists, x.target(), t)?;
         }
-        rest = split.behind;
     }
     Ok(())
 }

@@ -1,7 +1,7 @@
 use Rattle.std.proofs.Common.{ap, ◌∙◌, ◌∷◌, ◌++◌, [], List}
 use Rattle.mdp_spec.specs.Mdp.{Entry}
 use Rattle.mdp_elim.proofs.Merge.{merge-no_sum, merge-next}
-use Rattle.mdp_elim.proofs.entries.plus_row.Goals as goal
+use Rattle.mdp_elim.proofs.entries.merged.Goals as goal
 
 pub returns-in_err-sum-clause-wide : goal.returns-in_err-sum-clause-wide
 returns-in_err-sum-clause-wide c = λ _.
