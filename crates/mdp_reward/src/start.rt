@@ -3,7 +3,7 @@ ghost use Rattle.mdp_spec.specs.Mdp.{states_of};
 ghost use Rattle.mdp_reward.specs.Query.{unmarked, IsMaxStart, IsMinStart, IsStart};
 
 use crate::ranks::split;
-use mdp_graph::{may_avoid, may_reach, must_meet, rounds_outside, sure_some};
+use mdp_graph::{AvoidingAndMeeting, SureRounds, avoid_and_meet, may_reach, sure_rounds};
 use mdp_num::Memory;
 use mdp_rows::{Dir, Marks, Model};
 use std::alloc::{AllocError, Global};
@@ -33,9 +33,8 @@ fn max_start(alloc: Global, model: &Model, goals: &Marks) -> Result<Start, Memor
     requires { length goals.now ≡ states_of model.now }
     ensures { IfOk result (λ start. IsMaxStart model.now goals.now start.finite start.policy.items start.known.items) }
 {
-    let avoiding = may_avoid(alloc, model, goals)?;
+    let AvoidingAndMeeting { avoiding, meeting } = avoid_and_meet(alloc, model, goals)?;
     let infinite = may_reach(alloc, model, &avoiding.marks, goals)?;
-    let meeting = must_meet(alloc, model, goals)?;
     let finite = unmarked(alloc, model, &infinite.marks)?;
     let policy = split(
         alloc,
@@ -57,12 +56,11 @@ fn min_start(alloc: Global, model: &Model, goals: &Marks) -> Result<Start, Memor
     requires { length goals.now ≡ states_of model.now }
     ensures { IfOk result (λ start. IsMinStart model.now goals.now start.finite start.policy.items start.known.items) }
 {
-    let sure = sure_some(alloc, model, goals)?;
-    let known = rounds_outside(alloc, model, goals)?;
+    let SureRounds { pass, rounds } = sure_rounds(alloc, model, goals)?;
     Ok(Start {
-        finite: sure.marks,
-        policy: sure.choices,
-        known,
+        finite: pass.marks,
+        policy: pass.choices,
+        known: rounds,
     })
 }
 
