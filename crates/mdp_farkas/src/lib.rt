@@ -7,6 +7,7 @@ mod compare;
 mod falls;
 mod finite;
 mod infinite;
+mod laws;
 mod mean;
 mod ranks;
 mod reach;
@@ -19,6 +20,7 @@ mod walk;
 
 pub use finite::{finite_at, finite_sum, is_infinite_at, stays_finite_at};
 pub use infinite::infinite_state;
+pub use laws::never_no_law;
 pub use mdp_rows::Dir;
 pub use mean::{MeanCert, holds_mean};
 pub use ranks::rank_at_state;
