@@ -44,6 +44,10 @@ if_yes (Wide state choice) P h = tt
 abbrev pub Sound : Check → Type 0
 Sound c = IsSome c.holds → c.holds ≡ Some true
 
+pub sound_of_holds : (cs : List Check) → Each Holds cs → Each Sound cs
+sound_of_holds [] h = tt
+sound_of_holds (c ∷ cs) h = (λ w. h.0, sound_of_holds cs h.1)
+
 pub holds_of_sound : (cs : List Check) → Each Sound cs → Each InWidth cs → Each Holds cs
 holds_of_sound [] s w = tt
 holds_of_sound (c ∷ cs) s w = (s.0 w.0, holds_of_sound cs s.1 w.1)

@@ -11,6 +11,7 @@ pub mod Tests
 pub mod RewardRules
 pub mod Spreading
 pub mod MeanRules
+mod Named
 mod Examples
 mod ExamplesReward
 mod ExamplesMean

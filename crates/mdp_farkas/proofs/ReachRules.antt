@@ -21,11 +21,13 @@ use Rattle.mdp_farkas.specs.Bellman.{bound_check, bound_checks}
 use Rattle.mdp_farkas.specs.Reach.{other, policy_check, ends, rank_check, leads_down, fall_check, fall_checks, rank_checks, reach_at, reach_checks, MeetsReach, IsReach}
 use Rattle.mdp_rows.specs.declared.dir.Dir.{Dir}
 use Rattle.mdp_rows.specs.declared.dir.Dir.TheVariants.{Max, Min}
+use Rattle.mdp_farkas.specs.declared.verdict.Fault.{Fault}
 use Rattle.mdp_farkas.specs.declared.verdict.Verdict.{Verdict}
-use Rattle.mdp_farkas.proofs.Holds.{Each, Holds, each_of_yes, yes_of_each, told_of_each, if_yes, each_append, each_left, each_right, each_flat, each_flat_at}
-use Rattle.mdp_farkas.proofs.Holds.{each_map, each_map_at, each_if, each_if_true, each_if_false}
+use Rattle.mdp_farkas.specs.declared.verdict.Verdict.TheVariants.{No}
+use Rattle.mdp_farkas.proofs.Holds.{Each, Holds, Sound, each_of_yes, yes_of_each, told_of_each, if_yes, sound_of_holds, holds_of_sound, never_no}
+use Rattle.mdp_farkas.proofs.Holds.{each_append, each_left, each_right, each_flat, each_flat_at, each_map, each_map_at, each_if, each_if_true, each_if_false}
 use Rattle.mdp_farkas.proofs.Inequalities.{Stands, stands_at_of, of_stands_at}
-use Rattle.mdp_farkas.proofs.UpperRules.{values_at, probabilities_of, rest_of, values_hold}
+use Rattle.mdp_farkas.proofs.UpperRules.{values_at, probabilities_of, rest_of, values_sound}
 
 -- ---- tests
 
@@ -101,9 +103,6 @@ module _ (m : Mdp) (z : List ℚ) (ranks : List ℕ) where
 -- ---- the checks at a state
 
 module _ (dir : Dir) (m : Mdp) (goals : List Bool) (z : List ℚ) (policy ranks : List ℕ) where
-  at : (P : Check → Type 0) (s : ℕ) → Each P (reach_checks dir m goals z policy ranks) → s < states_of m → Each P (reach_at dir m goals z ranks s (slice_index policy s))
-  at P s h l = each_flat_at P (λ s. reach_at dir m goals z ranks s (slice_index policy s)) (states_of m) s h l
-
   abbrev sums : ℕ → List Check
   sums s = bound_checks dir m z s ++ policy_check dir m z s (slice_index policy s) ∷ []
 
@@ -113,60 +112,61 @@ module _ (dir : Dir) (m : Mdp) (goals : List Bool) (z : List ℚ) (policy ranks 
   abbrev rank : ℕ → List Check
   rank s = rank_checks dir m goals z ranks s (slice_index policy s)
 
-  values_of : (P : Check → Type 0) (s : ℕ) → Each P (reach_at dir m goals z ranks s (slice_index policy s)) → Each P (values s)
-  values_of P s h = each_left P (values s) (rank s) h.1
-
-  rank_of : (P : Check → Type 0) (s : ℕ) → Each P (reach_at dir m goals z ranks s (slice_index policy s)) → Each P (rank s)
-  rank_of P s h = each_right P (values s) (rank s) h.1
-
-  bound_of : (P : Check → Type 0) (s c : ℕ) → c < length (choices_at m s) → Each P (sums s) → P (bound_check dir m z s c)
-  bound_of P s c i h = each_map_at P (bound_check dir m z s) (length (choices_at m s)) c (each_left P (bound_checks dir m z s) (policy_check dir m z s (slice_index policy s) ∷ []) h) i
-
-  policy_of : (P : Check → Type 0) (s : ℕ) → Each P (sums s) → P (policy_check dir m z s (slice_index policy s))
-  policy_of P s h = (each_right P (bound_checks dir m z s) (policy_check dir m z s (slice_index policy s) ∷ []) h).0
-
   -- ---- what holds, in exact numbers
 
   module _ (each : length policy ≡ states_of m) (h : Each Holds (reach_checks dir m goals z policy ranks)) where
+    at : (s : ℕ) → s < states_of m → Each Holds (reach_at dir m goals z ranks s (slice_index policy s))
+    at s l = each_flat_at Holds (λ s. reach_at dir m goals z ranks s (slice_index policy s)) (states_of m) s h l
+
+    values_of : (s : ℕ) → s < states_of m → Each Holds (values s)
+    values_of s l = each_left Holds (values s) (rank s) (at s l).1
+
+    rank_of : (s : ℕ) → s < states_of m → Each Holds (rank s)
+    rank_of s l = each_right Holds (values s) (rank s) (at s l).1
+
     choices_of : IsPolicy m policy
-    choices_of = record { one_each = each; in_range = λ s l. ltb-true (slice_index policy s) (length (choices_at m s)) (Some_same _ _ (at Holds s h l).0) }
+    choices_of = record { one_each = each; in_range = λ s l. ltb-true (slice_index policy s) (length (choices_at m s)) (Some_same _ _ (at s l).0) }
 
     probabilities : AreProbabilities m goals z
-    probabilities = probabilities_of m goals z sums (λ s l. values_of Holds s (at Holds s h l))
+    probabilities = probabilities_of m goals z sums values_of
 
     sums_of : (s : ℕ) → s < states_of m → is_marked goals s ≡ false → Each Holds (sums s)
-    sums_of s l g = rest_of m goals z sums Holds s g (values_of Holds s (at Holds s h l))
+    sums_of s l g = rest_of m goals z sums s g (values_of s l)
 
     bounds_of : (s c : ℕ) → s < states_of m → is_marked goals s ≡ false → c < length (choices_at m s) → Stands dir (value_at z s) (row_sum (row_at m s c) z)
-    bounds_of s c l g i = stands_at_of m z dir s c (bound_of Holds s c i (sums_of s l g))
+    bounds_of s c l g i =
+        stands_at_of m z dir s c
+        (each_map_at Holds (bound_check dir m z s) (length (choices_at m s)) c
+        (each_left Holds (bound_checks dir m z s) (policy_check dir m z s (slice_index policy s) ∷ []) (sums_of s l g)) i)
 
     meets_of : (s : ℕ) → s < states_of m → is_marked goals s ≡ false → Stands (other dir) (value_at z s) (row_sum (row_at m s (slice_index policy s)) z)
-    meets_of s l g = stands_at_of m z (other dir) s (slice_index policy s) (policy_of Holds s (sums_of s l g))
+    meets_of s l g =
+        stands_at_of m z (other dir) s (slice_index policy s)
+        (each_right Holds (bound_checks dir m z s) (policy_check dir m z s (slice_index policy s) ∷ []) (sums_of s l g)).0
 
     ends_of : RanksEnd m goals z ranks
-    ends_of = ranks_end dir m goals z policy ranks (λ s l. rank_of Holds s (at Holds s h l))
+    ends_of = ranks_end dir m goals z policy ranks rank_of
 
     falls_of : (s : ℕ) → s < states_of m → is_marked goals s ≡ false → 0ℚ <ℚ value_at z s → Each Holds (fall_checks dir m z ranks s (slice_index policy s))
-    falls_of s l g p = ranks_fall dir m goals z policy ranks s g p (rank_of Holds s (at Holds s h l))
+    falls_of s l g p = ranks_fall dir m goals z policy ranks s g p (rank_of s l)
 
-  -- ---- and the other way round
+  -- ---- and the other way round: no check is false
 
-  module _ (s : ℕ) (l : s < states_of m) (w : Each InWidth (reach_at dir m goals z ranks s (slice_index policy s)))
-      (choice : slice_index policy s < length (choices_at m s)) (p : AreProbabilities m goals z)
+  module _ (s : ℕ) (l : s < states_of m) (choice : slice_index policy s < length (choices_at m s)) (p : AreProbabilities m goals z)
       (bounds : (c : ℕ) → is_marked goals s ≡ false → c < length (choices_at m s) → Stands dir (value_at z s) (row_sum (row_at m s c) z))
       (meets : is_marked goals s ≡ false → Stands (other dir) (value_at z s) (row_sum (row_at m s (slice_index policy s)) z))
       (end : RanksEnd m goals z ranks)
       (falls : is_marked goals s ≡ false → 0ℚ <ℚ value_at z s → Each Holds (fall_checks dir m z ranks s (slice_index policy s))) where
-    sums_hold : is_marked goals s ≡ false → Each InWidth (sums s) → Each Holds (sums s)
-    sums_hold g k =
-        each_append Holds (bound_checks dir m z s) (policy_check dir m z s (slice_index policy s) ∷ [])
-        (each_map Holds (bound_check dir m z s) (length (choices_at m s)) (λ c i. of_stands_at m z dir s c (bounds c g i) (bound_of InWidth s c i k)))
-        (of_stands_at m z (other dir) s (slice_index policy s) (meets g) (policy_of InWidth s k), tt)
+    sums_sound : is_marked goals s ≡ false → Each Sound (sums s)
+    sums_sound g =
+        each_append Sound (bound_checks dir m z s) (policy_check dir m z s (slice_index policy s) ∷ [])
+        (each_map Sound (bound_check dir m z s) (length (choices_at m s)) (λ c i w. of_stands_at m z dir s c (bounds c g i) w))
+        (λ w. of_stands_at m z (other dir) s (slice_index policy s) (meets g) w, tt)
 
-    state_holds : Each Holds (reach_at dir m goals z ranks s (slice_index policy s))
-    state_holds = (
-      ap Some (lt-ltb (slice_index policy s) (length (choices_at m s)) choice),
-      each_append Holds (values s) (rank s) (values_hold m goals z sums s l p (values_of InWidth s w) sums_hold) (ranks_hold dir m goals z policy ranks s l p end falls),
+    state_sound : Each Sound (reach_at dir m goals z ranks s (slice_index policy s))
+    state_sound = (
+      λ w. ap Some (lt-ltb (slice_index policy s) (length (choices_at m s)) choice),
+      each_append Sound (values s) (rank s) (values_sound m goals z sums s l p sums_sound) (sound_of_holds (rank s) (ranks_hold dir m goals z policy ranks s l p end falls)),
     )
 
 -- ---- each direction
@@ -190,14 +190,20 @@ module _ (m : Mdp) (goals : List Bool) (z : List ℚ) (policy ranks : List ℕ) 
     falls = λ s c l g p i. min_falls m z ranks s c (Some_same _ _ (each_map_at Holds (fall_check Min m z ranks s) (length (choices_at m s)) c (falls_of Min m goals z policy ranks each h s l g p) i));
   }
 
-  holds_of_meets : (dir : Dir) (s : ℕ) → s < states_of m → MeetsReach dir m goals z policy ranks → Each InWidth (reach_at dir m goals z ranks s (slice_index policy s))
-      → Each Holds (reach_at dir m goals z ranks s (slice_index policy s))
-  holds_of_meets Max s l r w =
-      state_holds Max m goals z policy ranks s l w (r.choices.in_range s l) r.probabilities (λ c g i. r.covers s c l g i) (λ g. r.reached s l g) r.ends
+  sound_at : (dir : Dir) (s : ℕ) → s < states_of m → MeetsReach dir m goals z policy ranks → Each Sound (reach_at dir m goals z ranks s (slice_index policy s))
+  sound_at Max s l r =
+      state_sound Max m goals z policy ranks s l (r.choices.in_range s l) r.probabilities (λ c g i. r.covers s c l g i) (λ g. r.reached s l g) r.ends
       (λ g p. (ap Some (falls_max m z ranks s (slice_index policy s) (r.falls s l g p)), tt))
-  holds_of_meets Min s l r w =
-      state_holds Min m goals z policy ranks s l w (r.choices.in_range s l) r.probabilities (λ c g i. r.covered s c l g i) (λ g. r.reached s l g) r.ends
+  sound_at Min s l r =
+      state_sound Min m goals z policy ranks s l (r.choices.in_range s l) r.probabilities (λ c g i. r.covered s c l g i) (λ g. r.reached s l g) r.ends
       (λ g p. each_map Holds (fall_check Min m z ranks s) (length (choices_at m s)) (λ c i. ap Some (falls_min m z ranks s c (r.falls s c l g p i))))
+
+  reach_sound : (dir : Dir) → MeetsReach dir m goals z policy ranks → Each Sound (reach_checks dir m goals z policy ranks)
+  reach_sound dir r = each_flat Sound (λ s. reach_at dir m goals z ranks s (slice_index policy s)) (states_of m) (λ s l. sound_at dir s l r)
+
+  -- so what meets the rules is never answered no
+  pub reach_never_no : (dir : Dir) → MeetsReach dir m goals z policy ranks → (f : Fault) → verdict_of (reach_checks dir m goals z policy ranks) ≡ No f → ⊥
+  reach_never_no dir r = never_no (reach_checks dir m goals z policy ranks) (reach_sound dir r)
 
   pub reach_rules : (dir : Dir) (v : Verdict) → length policy ≡ states_of m → v ≡ verdict_of (reach_checks dir m goals z policy ranks) → IsYes v ↔ IsReach dir m goals z policy ranks
   reach_rules dir v each e = (
@@ -209,9 +215,8 @@ module _ (m : Mdp) (goals : List Bool) (z : List ℚ) (policy ranks : List ℕ) 
               (told_of_each (reach_checks dir m goals z policy ranks) h);
         }),
     (λ is.
-        let w = recursion_from_All InWidth (reach_checks dir m goals z policy ranks) is.in_width in
         e ∙ yes_of_each (reach_checks dir m goals z policy ranks)
-        (each_flat Holds (λ s. reach_at dir m goals z ranks s (slice_index policy s)) (states_of m) (λ s l. holds_of_meets dir s l is.rules (at dir m goals z policy ranks InWidth s w l)))),
+        (holds_of_sound (reach_checks dir m goals z policy ranks) (reach_sound dir is.rules) (recursion_from_All InWidth (reach_checks dir m goals z policy ranks) is.in_width))),
   )
 
   pub reach_max : (dir : Dir) (v : Verdict) → IsMdp m → length policy ≡ states_of m → v ≡ verdict_of (reach_checks dir m goals z policy ranks) → dir ≡ Max

@@ -13,8 +13,11 @@ use Rattle.mdp_farkas.specs.Compare.{0ℚ, 1ℚ}
 use Rattle.mdp_farkas.specs.Bellman.{bound_check, bound_checks}
 use Rattle.mdp_farkas.specs.Upper.{probability_checks, goal_check, upper_at, upper_checks, IsUpper}
 use Rattle.mdp_rows.specs.declared.dir.Dir.TheVariants.{Max}
+use Rattle.mdp_farkas.specs.declared.verdict.Fault.{Fault}
 use Rattle.mdp_farkas.specs.declared.verdict.Verdict.{Verdict}
-use Rattle.mdp_farkas.proofs.Holds.{Each, Holds, each_of_yes, yes_of_each, told_of_each, if_yes, each_flat, each_flat_at, each_map, each_map_at, each_if, each_if_true, each_if_false}
+use Rattle.mdp_farkas.specs.declared.verdict.Verdict.TheVariants.{No}
+use Rattle.mdp_farkas.proofs.Holds.{Each, Holds, Sound, each_of_yes, yes_of_each, told_of_each, if_yes, holds_of_sound, never_no}
+use Rattle.mdp_farkas.proofs.Holds.{each_flat, each_flat_at, each_map, each_map_at, each_if, each_if_true, each_if_false}
 use Rattle.mdp_farkas.proofs.Comparing.{le_of_at_least, at_least_of_le, le_of_at_most, at_most_of_le, same_of_equal, equal_of_same}
 use Rattle.mdp_farkas.proofs.Inequalities.{stands_at_of, of_stands_at}
 
@@ -31,42 +34,42 @@ module _ (m : Mdp) (goals : List Bool) (z : List ℚ) (rest : ℕ → List Check
     at_goal = λ s l g. same_of_equal (value_at z s) 1ℚ (each_if_true Holds (is_marked goals s) (goal_check z s ∷ []) (rest s) g (h s l).1.1).0;
   }
 
-  pub rest_of : (P : Check → Type 0) (s : ℕ) → is_marked goals s ≡ false → Each P (values_at goals z s (rest s)) → Each P (rest s)
-  rest_of P s g h = each_if_false P (is_marked goals s) (goal_check z s ∷ []) (rest s) g h.1.1
+  pub rest_of : (s : ℕ) → is_marked goals s ≡ false → Each Holds (values_at goals z s (rest s)) → Each Holds (rest s)
+  rest_of s g h = each_if_false Holds (is_marked goals s) (goal_check z s ∷ []) (rest s) g h.1.1
 
-  pub values_hold : (s : ℕ) → s < states_of m → AreProbabilities m goals z → Each InWidth (values_at goals z s (rest s))
-      → (is_marked goals s ≡ false → Each InWidth (rest s) → Each Holds (rest s)) → Each Holds (values_at goals z s (rest s))
-  values_hold s l p w h = (
-    at_least_of_le (value_at z s) 0ℚ (AreProbabilities.at_least_zero p s l) w.0,
+  pub values_sound : (s : ℕ) → s < states_of m → AreProbabilities m goals z → (is_marked goals s ≡ false → Each Sound (rest s)) → Each Sound (values_at goals z s (rest s))
+  values_sound s l p h = (
+    λ w. at_least_of_le (value_at z s) 0ℚ (AreProbabilities.at_least_zero p s l) w,
     (
-      at_most_of_le (value_at z s) 1ℚ (AreProbabilities.at_most_one p s l) w.1.0,
-      each_if Holds (is_marked goals s) (goal_check z s ∷ []) (rest s)
-          (λ g. (
-            equal_of_same (value_at z s) 1ℚ (AreProbabilities.at_goal p s l g) (each_if_true InWidth (is_marked goals s) (goal_check z s ∷ []) (rest s) g w.1.1).0,
-            tt,
-          ))
-          (λ g. h g (rest_of InWidth s g w)),
+      λ w. at_most_of_le (value_at z s) 1ℚ (AreProbabilities.at_most_one p s l) w,
+      each_if Sound (is_marked goals s) (goal_check z s ∷ []) (rest s) (λ g. (λ w. equal_of_same (value_at z s) 1ℚ (AreProbabilities.at_goal p s l g) w, tt)) h,
     ),
   )
 
--- ---- a state
+-- ---- all checks
 
 module _ (m : Mdp) (goals : List Bool) (z : List ℚ) where
-  at : (P : Check → Type 0) (s : ℕ) → Each P (upper_checks m goals z) → s < states_of m → Each P (upper_at m goals z s)
-  at P s h l = each_flat_at P (upper_at m goals z) (states_of m) s h l
+  at : (s : ℕ) → Each Holds (upper_checks m goals z) → s < states_of m → Each Holds (upper_at m goals z s)
+  at s h l = each_flat_at Holds (upper_at m goals z) (states_of m) s h l
 
   pub upper_of_holds : Each Holds (upper_checks m goals z) → MeetsUpper m goals z
   upper_of_holds h = record {
-    probabilities = probabilities_of m goals z (bound_checks Max m z) (λ s l. at Holds s h l);
-    covers = λ s c l g i. stands_at_of m z Max s c
-        (each_map_at Holds (bound_check Max m z s) (length (choices_at m s)) c (rest_of m goals z (bound_checks Max m z) Holds s g (at Holds s h l)) i);
+    probabilities = probabilities_of m goals z (bound_checks Max m z) (λ s l. at s h l);
+    covers = λ s c l g i.
+        stands_at_of m z Max s c
+        (each_map_at Holds (bound_check Max m z s) (length (choices_at m s)) c (rest_of m goals z (bound_checks Max m z) s g (at s h l)) i);
   }
 
-  holds_at : (s : ℕ) → s < states_of m → MeetsUpper m goals z → Each InWidth (upper_at m goals z s) → Each Holds (upper_at m goals z s)
-  holds_at s l r w =
-      values_hold m goals z (bound_checks Max m z) s l r.probabilities w
-      (λ g k. each_map Holds (bound_check Max m z s) (length (choices_at m s))
-      (λ c i. of_stands_at m z Max s c (r.covers s c l g i) (each_map_at InWidth (bound_check Max m z s) (length (choices_at m s)) c k i)))
+  upper_sound : MeetsUpper m goals z → Each Sound (upper_checks m goals z)
+  upper_sound r =
+      each_flat Sound (upper_at m goals z) (states_of m)
+      (λ s l.
+      values_sound m goals z (bound_checks Max m z) s l r.probabilities
+      (λ g. each_map Sound (bound_check Max m z s) (length (choices_at m s)) (λ c i w. of_stands_at m z Max s c (r.covers s c l g i) w)))
+
+  -- so what meets the rules is never answered no
+  pub upper_never_no : MeetsUpper m goals z → (f : Fault) → verdict_of (upper_checks m goals z) ≡ No f → ⊥
+  upper_never_no r = never_no (upper_checks m goals z) (upper_sound r)
 
   pub upper_rules : (v : Verdict) → v ≡ verdict_of (upper_checks m goals z) → IsYes v ↔ IsUpper m goals z
   upper_rules v e = (
@@ -74,8 +77,8 @@ module _ (m : Mdp) (goals : List Bool) (z : List ℚ) where
         let h = each_of_yes (upper_checks m goals z) (sym e ∙ yes_) in
         record { rules = upper_of_holds h; in_width = All-from_recursion InWidth (upper_checks m goals z) (told_of_each (upper_checks m goals z) h) }),
     (λ is.
-        let w = recursion_from_All InWidth (upper_checks m goals z) is.in_width in
-        e ∙ yes_of_each (upper_checks m goals z) (each_flat Holds (upper_at m goals z) (states_of m) (λ s l. holds_at s l is.rules (at InWidth s w l)))),
+        e ∙ yes_of_each (upper_checks m goals z)
+        (holds_of_sound (upper_checks m goals z) (upper_sound is.rules) (recursion_from_All InWidth (upper_checks m goals z) is.in_width))),
   )
 
   pub upper_bound : (v : Verdict) → IsMdp m → v ≡ verdict_of (upper_checks m goals z) → IfYes v (Above m goals z)

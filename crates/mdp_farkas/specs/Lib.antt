@@ -1,5 +1,6 @@
 pub mod Bellman
 pub mod Compare
+pub mod Laws
 pub mod Mean
 pub mod Reach
 pub mod Reward

@@ -6,7 +6,6 @@ pub mod Kept
 pub mod Rows
 pub mod MaxRules
 pub mod MinRules
-pub mod NeverNo
 pub mod OneEnd
 pub mod Answering
 mod Examples

@@ -7,7 +7,7 @@ use Rattle.mdp_reach.specs.Round.{SolvesToEnd}
 use Rattle.mdp_reach.proofs.Nodes.{reach-count}
 use Rattle.mdp_reach.proofs.Starts.{start-solvable, start-choices, start-marks}
 use Rattle.mdp_reach.proofs.Kept.{found-policy}
-use Rattle.mdp_reach.proofs.NeverNo.{meets_never_no}
+use Rattle.mdp_farkas.proofs.ReachRules.{reach_never_no}
 use Rattle.mdp_reach.proofs.Answering.{meets-reach, ends-refused, ends-answered, ends-wide}
 use Rattle.mdp_reach.proofs.solve.solve_reach_to_end.Goals as goal
 
@@ -71,7 +71,7 @@ unreachable-requires c =
     let are : AreRanks dir m goals c.in-Ok.found.values.items c.in-Ok.found.policy.items c.in_ok-ranks.ranks.items =
     subst (λ (x : List ℚ). AreRanks dir m goals x c.in-Ok.found.policy.items c.in_ok-ranks.ranks.items) c.deref-2.ensures.value
     (subst (λ (policy : List ℕ). AreRanks dir m goals c.deref-2.result.now policy c.in_ok-ranks.ranks.items) c.deref.ensures.value (c.in_ok-ranks.ensures {u = tt})) in
-    meets_never_no m goals c.in-Ok.found.values.items c.in-Ok.found.policy.items c.in_ok-ranks.ranks.items dir
+    reach_never_no m goals c.in-Ok.found.values.items c.in-Ok.found.policy.items c.in_ok-ranks.ranks.items dir
     (meets-reach dir m goals marks start c.in-Ok.found.policy.items c.in_ok-ranks.ranks.items c.in-Ok.found.values.items c.known.ensures.mdp (c.in_ok-start.ensures {u = tt})
     (c.in-Ok.ensures {u = tt}).best are c.reach_law.ensures.rest c.along_law.ensures.falls c.along_law.ensures.rest c.meet_law.ensures.rest)
     c.in-No.field-0 (sym c.holds_reach.ensures.verdict ∙ c.in-No.is)

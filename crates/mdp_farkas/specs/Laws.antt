@@ -1,0 +1,47 @@
+-- What a no means: a check of the named rule at the named place is false, and the rules don't hold in exact numbers.
+use Rattle.std.specs.Prelude.{◌≡◌, ℕ, ◌<◌, Bool, false, List, length, Option, Some}
+use Rattle.std.specs.List.{Any}
+use Rattle.mdp_math.specs.Rational.{ℚ, ◌≤ℚ◌}
+use Rattle.mdp_spec.specs.Mdp.{Mdp, states_of, choices_at, choice_at}
+use Rattle.mdp_spec.specs.Unit.{reward_of}
+use Rattle.mdp_spec.specs.Rules.{MeetsUpper}
+use Rattle.mdp_farkas.specs.Compare.{0ℚ}
+use Rattle.mdp_farkas.specs.Verdict.{Check, verdict_of}
+use Rattle.mdp_farkas.specs.Upper.{upper_checks}
+use Rattle.mdp_farkas.specs.Reach.{reach_checks, MeetsReach}
+use Rattle.mdp_farkas.specs.Reward.{reward_checks, MeetsReward}
+use Rattle.mdp_farkas.specs.Mean.{mean_checks, MeetsMean}
+use Rattle.mdp_rows.specs.declared.dir.Dir.{Dir}
+use Rattle.mdp_farkas.specs.declared.verdict.Fault.{Fault}
+use Rattle.mdp_farkas.specs.declared.verdict.Verdict.TheVariants.{No}
+
+-- the check is of the rule and at the place that the fault names, and it is false
+abbrev pub IsFalse : Fault → Check → Type 0
+IsFalse fault c = (c.rule ≡ fault.rule) × (c.state ≡ fault.state) × (c.choice ≡ fault.choice) × (c.holds ≡ Some false)
+
+-- a list of checks that is answered no has one that is false, of the rule and at the place that are named
+abbrev pub NoIsFalse : Type 0
+NoIsFalse = (checks : List Check) (fault : Fault) → verdict_of checks ≡ No fault → Any (IsFalse fault) checks
+
+-- where the values meet the rules of an upper bound, the checks end with yes or with a term past width
+abbrev pub UpperNeverNo : Type 0
+UpperNeverNo = (m : Mdp) (goals : List Bool) (z : List ℚ) (fault : Fault) → MeetsUpper m goals z → verdict_of (upper_checks m goals z) ≡ No fault → ⊥
+
+-- and so where values, policy and ranks meet those of probabilities
+abbrev pub ReachNeverNo : Type 0
+ReachNeverNo =
+    (dir : Dir) (m : Mdp) (goals : List Bool) (z : List ℚ) (policy ranks : List ℕ) (fault : Fault) → MeetsReach dir m goals z policy ranks
+    → verdict_of (reach_checks dir m goals z policy ranks) ≡ No fault → ⊥
+
+-- those of rewards until a goal, where no reward is below 0
+abbrev pub RewardNeverNo : Type 0
+RewardNeverNo =
+    (dir : Dir) (m : Mdp) (r : ℕ) (goals : List Bool) (v : List (Option ℚ)) (policy ranks : List ℕ) (fault : Fault)
+    → ((s c : ℕ) → s < states_of m → c < length (choices_at m s) → 0ℚ ≤ℚ reward_of (choice_at m s c) r) → MeetsReward dir m r goals v policy ranks
+    → verdict_of (reward_checks dir m r goals v policy ranks) ≡ No fault → ⊥
+
+-- and those of mean payoffs
+abbrev pub MeanNeverNo : Type 0
+MeanNeverNo =
+    (dir : Dir) (m : Mdp) (r : ℕ) (g a b : List ℚ) (spread : ℚ) (policy : List ℕ) (fault : Fault) → MeetsMean dir m r g a b spread policy
+    → verdict_of (mean_checks dir m r g a b spread policy) ≡ No fault → ⊥
