@@ -4,7 +4,7 @@ use Rattle.std.specs.Option.{IsSome}
 use Rattle.mdp_math.specs.Rational.{ℚ, ◌≤ℚ◌}
 use Rattle.mdp_math.proofs.Extremes.{le_of_test, test_of_le}
 use Rattle.mdp_math.proofs.Order.{add-nonneg}
-use Rattle.mdp_num.proofs.Equal.{equal_decides}
+use Rattle.mdp_num.specs.OrderView.{equal_decides}
 use Rattle.mdp_spec.specs.Mdp.{Mdp, states_of, choices_at, choice_at, row_at, value_at}
 use Rattle.mdp_spec.specs.Row.{IsMdp, row_sum}
 use Rattle.mdp_spec.specs.Unit.{reward_of}

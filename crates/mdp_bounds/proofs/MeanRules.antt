@@ -13,7 +13,7 @@ use Rattle.mdp_spec.specs.MeanRules.{spread_of, HasSpread}
 use Rattle.mdp_spec.proofs.Mean.{mean_max_between_of_rules, mean_min_between_of_rules}
 use Rattle.mdp_farkas.specs.Verdict.{Check, verdict_of, InWidth, at_choices, IsYes, IfYes}
 use Rattle.mdp_num.specs.Equal.{eq_ℚ}
-use Rattle.mdp_num.proofs.Equal.{equal_decides}
+use Rattle.mdp_num.specs.OrderView.{equal_decides}
 use Rattle.mdp_farkas.specs.Reach.{other}
 use Rattle.mdp_bounds.specs.Reach.{covering, followed}
 use Rattle.mdp_bounds.specs.Mean.{MeetsMeanBetween}

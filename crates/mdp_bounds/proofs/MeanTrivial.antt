@@ -13,7 +13,7 @@ use Rattle.mdp_math.proofs.Order.{≤ℚ_of_eq, <ℚ_irrefl}
 use Rattle.mdp_math.proofs.Whole.{one-pos}
 use Rattle.mdp_math.proofs.Kernel.{All-head}
 use Rattle.mdp_num.specs.Equal.{eq_ℚ}
-use Rattle.mdp_num.proofs.Equal.{equal_decides}
+use Rattle.mdp_num.specs.OrderView.{equal_decides}
 use Rattle.mdp_spec.specs.Mdp.{Entry, Mdp, states_of, choices_at, choice_at, row_at, value_at}
 use Rattle.mdp_spec.specs.Row.{IsRow, IsMdp}
 use Rattle.mdp_spec.specs.Unit.{reward_of}

@@ -12,7 +12,7 @@ use Rattle.mdp_math.proofs.Ring.{◌⊕◌, ◌⊗◌, lit, ring}
 use Rattle.mdp_math.proofs.Laws.{rat_ring, zero-+ℚ}
 use Rattle.mdp_math.proofs.Kernel.{weigh-le_const, weigh-ge_const}
 use Rattle.mdp_num.specs.Equal.{eq_ℚ}
-use Rattle.mdp_num.proofs.Equal.{equal_decides}
+use Rattle.mdp_num.specs.OrderView.{equal_decides}
 use Rattle.mdp_spec.specs.Mdp.{Entry, value_at}
 use Rattle.mdp_spec.specs.Row.{IsRow, entries, row_sum}
 use Rattle.mdp_spec.specs.Written.{written_sum}

@@ -4,7 +4,7 @@ use Rattle.std.specs.Option.{IsSome}
 use Rattle.mdp_math.specs.Rational.{ℚ, ◌+ℚ◌, ◌≤ℚ◌}
 use Rattle.mdp_math.proofs.Laws.{zero-+ℚ}
 use Rattle.mdp_num.specs.Equal.{eq_ℚ}
-use Rattle.mdp_num.proofs.Equal.{equal_decides}
+use Rattle.mdp_num.specs.OrderView.{equal_decides}
 use Rattle.mdp_spec.specs.Mdp.{Entry, Mdp, states_of, choices_at, row_at, value_at}
 use Rattle.mdp_spec.specs.Row.{IsRow, IsMdp, row_sum}
 use Rattle.mdp_farkas.specs.Compare.{0ℚ, 1ℚ}

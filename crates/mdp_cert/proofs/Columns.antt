@@ -10,7 +10,7 @@ use Rattle.mdp_num.specs.Value.{spelling, IsNarrow}
 use Rattle.mdp_num.specs.Canonical.{canonical_of}
 use Rattle.mdp_num.specs.Equal.{eq_ℚ}
 use Rattle.mdp_num.proofs.Spellings.{sound, complete}
-use Rattle.mdp_num.proofs.Equal.{equal_decides}
+use Rattle.mdp_num.specs.OrderView.{equal_decides}
 use Rattle.mdp_text.specs.declared.error.CertKind.TheVariants.{Number}
 use Rattle.mdp_cert.specs.declared.mean_entry.MeanEntry.{MeanEntry}
 use Rattle.mdp_cert.specs.declared.policy_entry.PolicyEntry.{PolicyEntry}

@@ -5,7 +5,7 @@ use Rattle.std.specs.Str.{bytes_eq}
 use Rattle.std.proofs.lemmas.List.Quantifiers.{position-Some}
 use Rattle.std.proofs.lemmas.Slice.Eq.{bytes_eq-Decides}
 use Rattle.mdp_math.specs.Rational.{ℚ}
-use Rattle.mdp_num.proofs.Equal.{equal_decides}
+use Rattle.mdp_num.specs.OrderView.{equal_decides}
 use Rattle.mdp_spec.specs.Labels.{place_of, initial_of}
 use Rattle.mdp_spec.specs.Mdp.{Mdp, states_of, value_at}
 use Rattle.mdp_rows.specs.declared.dir.Dir.{Dir}

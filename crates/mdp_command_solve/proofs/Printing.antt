@@ -11,7 +11,7 @@ use Rattle.std.proofs.lemmas.List.Quantifiers.{position-Some}
 use Rattle.std.proofs.lemmas.Slice.Eq.{bytes_eq-Decides}
 use Rattle.std.proofs.lemmas.List.FromFn.{length-map-range_with_len}
 use Rattle.mdp_math.specs.Rational.{ℚ}
-use Rattle.mdp_num.proofs.Equal.{equal_decides}
+use Rattle.mdp_num.specs.OrderView.{equal_decides}
 use Rattle.mdp_spec.specs.Bounds.{reward_at}
 use Rattle.mdp_spec.specs.Labels.{place_of, marks_of, initial_of}
 use Rattle.mdp_spec.specs.Mdp.{Mdp, states_of, value_at}

@@ -10,7 +10,7 @@ use Rattle.mdp_math.specs.Rational.{ℚ, ◌+ℚ◌, ◌*ℚ◌, ◌-ℚ◌}
 use Rattle.mdp_math.proofs.Ring.{◌⊕◌, ◌⊗◌, ⊖, lit, ring}
 use Rattle.mdp_math.proofs.Laws.{rat_ring}
 use Rattle.mdp_num.specs.Equal.{eq_ℚ}
-use Rattle.mdp_num.proofs.Equal.{equal_decides}
+use Rattle.mdp_num.specs.OrderView.{equal_decides}
 use Rattle.mdp_spec.specs.Mdp.{Mdp, states_of, row_at, choices_at, value_at}
 use Rattle.mdp_spec.specs.Mdp as model
 use Rattle.mdp_spec.specs.Row.{IsMdp, row_sum}

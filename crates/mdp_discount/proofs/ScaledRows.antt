@@ -13,7 +13,7 @@ use Rattle.mdp_math.proofs.Booleans.{and-parts, and-both}
 use Rattle.mdp_math.proofs.Order.{0ℚ, 1ℚ, lt_or_eq_ℚ, mul-pos_ℚ, sub-pos}
 use Rattle.mdp_math.proofs.Sums.{sum_of-append, sum_of-scale, sum_of-map, sum_of-same}
 use Rattle.mdp_num.specs.Equal.{eq_ℚ}
-use Rattle.mdp_num.proofs.Equal.{equal_decides}
+use Rattle.mdp_num.specs.OrderView.{equal_decides}
 use Rattle.mdp_spec.specs.Mdp.{Entry, value_at}
 use Rattle.mdp_spec.specs.Row.{ascends_from, IsRow, row_sum}
 use Rattle.mdp_discount_rules.specs.Rules.{IsFactor}
