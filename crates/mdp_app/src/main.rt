@@ -6,6 +6,8 @@
 
 mod checking;
 #[cfg(test)]
+mod command_tests;
+#[cfg(test)]
 mod hostile_tests;
 mod laws;
 mod run;

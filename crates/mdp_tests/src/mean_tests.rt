@@ -2,11 +2,17 @@ ghost use Rattle.std.specs.Prelude.{◌<◌, length};
 
 use crate::models::model_of;
 use mdp_farkas::MeanCert;
+use mdp_gain::solve_inner;
 use mdp_mean::solve_mean;
 use mdp_num::Frac;
+use mdp_parts::end_components;
 use mdp_rows::{Dir, Model};
 use std::alloc::{AllocError, Global};
 use std::test::Fail;
+
+/// State 0 stays for 1 or goes to 1, which goes back or stays for 3.
+const AWAY: &str =
+    "2\n@model\nstate 0\naction [1]\n0 : 1\naction\n1 : 1\nstate 1\naction\n0 : 1\naction [3]\n1 : 1\n";
 
 /// Appends a blank and a fraction.
 fn push_fraction(value: &Frac, out: &mut String) -> Result<(), AllocError> {
@@ -22,15 +28,21 @@ fn push_list(name: &str, values: &[Frac], out: &mut String) -> Result<(), AllocE
     Ok(())
 }
 
+/// Appends the choices of states.
+fn push_choices(choices: &[u32], out: &mut String) -> Result<(), AllocError> {
+    out.push_str(" choices")?;
+    for choice in choices {
+        write!(out, " {choice}")?;
+    }
+    Ok(())
+}
+
 /// What a certificate of the mean payoff says, in one line.
 fn push_cert(cert: &MeanCert, out: &mut String) -> Result<(), AllocError> {
     push_list("gains", &cert.gains, out)?;
     push_list(" bound", &cert.bound, out)?;
     push_list(" bias", &cert.bias, out)?;
-    out.push_str(" choices")?;
-    for choice in &cert.choices {
-        write!(out, " {choice}")?;
-    }
+    push_choices(&cert.choices, out)?;
     out.push_str(" spread")?;
     push_fraction(&cert.spread, out)
 }
@@ -66,9 +78,7 @@ fn solves_the_mean_payoff(rt: HostRuntime) -> Result<(), Fail> {
 /// The best loop is away from the first policy's; two choices of one gain differ in bias; a gain below 0.
 #[test]
 fn solves_components(rt: HostRuntime) -> Result<(), Fail> {
-    let away =
-        "2\n@model\nstate 0\naction [1]\n0 : 1\naction\n1 : 1\nstate 1\naction\n0 : 1\naction [3]\n1 : 1\n";
-    let found = solved(rt.alloc(), away, Dir::Max)?;
+    let found = solved(rt.alloc(), AWAY, Dir::Max)?;
     assert_eq!(rt;
         found.as_str(),
         "gains 3/1 3/1 bound -3/1 0/1 bias -3/1 0/1 choices 1 1 spread 3/1"
@@ -106,5 +116,30 @@ fn solves_loops_and_states_between(rt: HostRuntime) -> Result<(), Fail> {
         found.as_str(),
         "gains 5/2 5/2 1/1 4/1 4/1 bound 0/1 0/1 0/1 0/1 2/1 bias -5/1 -5/2 0/1 0/1 2/1 choices 1 0 0 0 0 spread 7/1"
     );
+    Ok(())
+}
+
+/// The best gain of the first end component, under the first reward name.
+fn solved_within(alloc: Global, text: &str, dir: Dir) -> Result<String, Fail> {
+    let model = model_of(alloc, text)?;
+    let ends = end_components(alloc, &model)?;
+    let mut found = String::new(alloc);
+    if model.names() > 0 && ends.count() > 0 {
+        let inner = solve_inner(alloc, &model, &ends, 0, 0, dir)?;
+        found.push_str("gain")?;
+        push_fraction(&inner.gain, &mut found)?;
+        push_list(" bias", &inner.bias, &mut found)?;
+        push_choices(&inner.choices, &mut found)?;
+    }
+    Ok(found)
+}
+
+/// Both states are one end component. Its greatest gain is to stay in the second state, its least one to go round.
+#[test]
+fn solves_one_component(rt: HostRuntime) -> Result<(), Fail> {
+    let greatest = solved_within(rt.alloc(), AWAY, Dir::Max)?;
+    assert_eq!(rt; greatest.as_str(), "gain 3/1 bias -3/1 0/1 choices 1 1");
+    let least = solved_within(rt.alloc(), AWAY, Dir::Min)?;
+    assert_eq!(rt; least.as_str(), "gain 0/1 bias 0/1 0/1 choices 1 0");
     Ok(())
 }
