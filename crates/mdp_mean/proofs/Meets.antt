@@ -15,7 +15,7 @@ use Rattle.mdp_rows.specs.declared.dir.Dir.{Dir}
 use Rattle.mdp_rows.specs.declared.dir.Dir.TheVariants.{Max, Min}
 use Rattle.mdp_elim.specs.System.{is_active, Leaves}
 use Rattle.mdp_policy_iteration.specs.Places.{at_place}
-use Rattle.mdp_policy_iteration.specs.Values as path
+use Rattle.mdp_rows.specs.Better as better
 use Rattle.mdp_policy_iteration.proofs.Results.{ok_same, ok_part, place_part}
 use Rattle.mdp_ends.specs.Ends.{part_of, in_part, is_inside, count_of, AreEnds}
 use Rattle.mdp_ends.specs.Quotient.{AreNodes, nodes_in}
@@ -47,7 +47,7 @@ use Rattle.mdp_mean.specs.Query.{at_nodes, leaving, joining}
 use Rattle.mdp_mean.proofs.BiasOf.{IsBias, bias-is}
 use Rattle.mdp_mean.proofs.ExcessOf.{excess-nonneg, excess-leaving, bound-len, bound-is}
 
-as_good : (dir : Dir) (x y : ℚ) → path.IsAsGood dir x y → IsAsGood dir x y
+as_good : (dir : Dir) (x y : ℚ) → better.IsAsGood dir x y → IsAsGood dir x y
 as_good Max x y h = h
 as_good Min x y h = h
 

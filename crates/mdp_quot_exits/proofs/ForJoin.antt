@@ -9,13 +9,13 @@ use Rattle.mdp_ends.specs.Ends.{AreEnds, part_of, is_inside}
 use Rattle.mdp_ends.specs.Quotient.{node_row}
 use Rattle.mdp_ends.specs.Join.{over}
 use Rattle.mdp_ends.specs.Join as join
-use Rattle.mdp_policy_iteration.specs.Values as path
+use Rattle.mdp_rows.specs.Better as better
 use Rattle.mdp_quot.specs.Quotient.{Quotient, IsQuotient}
 use Rattle.mdp_quot_exits.specs.Steps.{IsLongest}
 use Rattle.mdp_quot_exits.specs.Outer.{Answer, IsBestOuter}
 use Rattle.mdp_quot_exits.proofs.InModel.{node_below, component-is, exit_place}
 
-as_good : (dir : Dir) (x y : ℚ) → path.IsAsGood dir x y → join.IsAsGood dir x y
+as_good : (dir : Dir) (x y : ℚ) → better.IsAsGood dir x y → join.IsAsGood dir x y
 as_good Max x y h = h
 as_good Min x y h = h
 
