@@ -9,7 +9,7 @@ use Rattle.mdp_drn.specs.Reading as drn
 use Rattle.mdp_text.specs.declared.error.Refusal as text
 use Rattle.mdp_discount_rules.specs.Cert.{Certificate, Fits}
 use Rattle.mdp_discount_rules.specs.Check.{answer_to, IsAccepted}
-use Rattle.mdp_discount.specs.Laws as law
+use Rattle.mdp_discount_rules.specs.Laws as law
 use Rattle.mdp_discount_rules.specs.declared.answer.DiscountAnswer.{DiscountAnswer}
 use Rattle.mdp_discount_rules.specs.declared.answer.DiscountAnswer.TheVariants.{Yes, No, Wide, NoReward, Size}
 use Rattle.mdp_discount_text.specs.Laws.{IsReadFromText}
