@@ -1,0 +1,70 @@
+#!/usr/bin/env python3
+"""Prints the shared coin of Aspnes and Herlihy (1990) as a model in DRN.
+
+    python3 examples/shared_coin.py PROCESSES BOUND      PROCESSES at least 1, BOUND at least 1
+
+Each process repeats three steps: it flips a coin of its own, counts a shared counter up (heads) or down (tails), and checks the counter. Where
+that stands at BOUND times PROCESSES or above, the process decides for heads; at minus that or below, for tails; else it begins again. A scheduler
+lets one undecided process after the other make a step, and sees all that has happened.
+
+Labels: `init`, `finished` where all processes have decided, `heads` where all decided for heads, `tails` where all decided for tails, `disagree`
+where some decided for each. The reward `steps` counts the steps. This is the model of Kwiatkowska, Norman and Segala (2001), with the counter from 0.
+"""
+
+import sys
+
+FLIP, UP, DOWN, CHECK, HEADS, TAILS = range(6)
+DECIDED = (HEADS, TAILS)
+
+
+def step(counter, process, bound):
+    """The counter and the process after its step, each with its probability."""
+    if process == FLIP:
+        return [("1/2", counter, UP), ("1/2", counter, DOWN)]
+    if process == UP:
+        return [("1", counter + 1, CHECK)]
+    if process == DOWN:
+        return [("1", counter - 1, CHECK)]
+    return [("1", counter, HEADS if counter >= bound else TAILS if counter <= -bound else FLIP)]
+
+
+def choices(state, bound):
+    """The name of each choice with its entries: the processes that may make a step, or a rest where all have decided."""
+    counter, processes = state
+    for i, process in enumerate(processes):
+        if process not in DECIDED:
+            after = step(counter, process, bound)
+            yield f"process-{i + 1}", [(value, (to, processes[:i] + (now,) + processes[i + 1:])) for value, to, now in after]
+    if all(process in DECIDED for process in processes):
+        yield "rest", [("1", state)]
+
+
+def labels(state):
+    decided = set(state[1])
+    if not decided <= set(DECIDED):
+        return []
+    return ["finished", "disagree" if len(decided) == 2 else "heads" if HEADS in decided else "tails"]
+
+
+def main():
+    processes, bound = int(sys.argv[1]), int(sys.argv[1]) * int(sys.argv[2])
+    states = [(0, (FLIP,) * processes)]
+    numbers = {states[0]: 0}
+    lines = []
+    for state in states:
+        marks = ["init"] * (state == states[0]) + labels(state)
+        lines.append(" ".join(["state", str(numbers[state]), *marks]))
+        for name, entries in choices(state, bound):
+            lines.append(f"action {name} [{int(name != 'rest')}]")
+            for value, target in entries:
+                if target not in numbers:
+                    numbers[target] = len(states)
+                    states.append(target)
+                lines.append(f"{numbers[target]} : {value}")
+    actions = sum(line.startswith("action") for line in lines)
+    print("@type: MDP", "@parameters", "", "@reward_models", "steps", "@nr_states", len(states), "@nr_choices", actions, "@model", sep="\n")
+    print(*lines, sep="\n")
+
+
+if __name__ == "__main__":
+    main()
