@@ -4,8 +4,8 @@
     python3 examples/value_iteration.py MODEL max|min LABEL [CHANGE]
 
 It starts with 1 at the states with LABEL and 0 elsewhere, and replaces all values by the best expected ones until no value changes by CHANGE, 10^-6
-where nothing is said, or more. Then it prints the value of the state labelled `init`, and after how many steps it stopped. It reads models as the
-scripts of this folder print them, and doesn't judge them.
+where nothing is said, or more. Then it prints the value of the state labelled `init`, and after how many steps it stopped. It reads models as those
+of this folder, with labels of one word, and doesn't judge them.
 """
 
 import fractions
@@ -16,7 +16,7 @@ def read(path):
     """The choices of each state, a list of rows; and the states of each label."""
     states, labels = [], {}
     with open(path, encoding="utf-8") as lines:
-        for line in lines:
+        for line in map(str.strip, lines):
             words = line.split()
             if line.startswith("state "):
                 states.append([])
