@@ -2,3 +2,4 @@ pub mod Sum
 pub mod Reach
 pub mod Reward
 pub mod Mean
+pub mod Laws

@@ -5,12 +5,14 @@
 mod compare;
 mod earning;
 mod finite;
+mod laws;
 mod mean;
 mod reach;
 mod reward;
 mod spread;
 mod sum;
 
+pub use laws::never_no_law;
 pub use mdp_farkas::{Fault, Verdict};
 pub use mdp_rows::Dir;
 pub use mean::{MeanBoundsCert, holds_bounds_mean};
