@@ -1,15 +1,20 @@
 pub mod Comparing
+pub mod Telling
 pub mod Sums
 pub mod Values
 pub mod Halves
 pub mod ReachRules
+pub mod ReachTelling
 pub mod Trivial
 pub mod Exact
 pub mod Earnings
 pub mod RewardRules
 pub mod RewardTrivial
+pub mod RewardTelling
 pub mod Gains
 pub mod Spreading
 pub mod MeanRules
 pub mod MeanTrivial
+pub mod MeanTelling
+pub mod Saying
 mod Examples

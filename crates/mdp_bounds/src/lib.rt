@@ -12,7 +12,7 @@ mod reward;
 mod spread;
 mod sum;
 
-pub use laws::never_no_law;
+pub use laws::{never_no_law, refuted_law, says_law};
 pub use mdp_farkas::{Fault, Verdict};
 pub use mdp_rows::Dir;
 pub use mean::{MeanBoundsCert, holds_bounds_mean};
