@@ -1,6 +1,6 @@
 -- Exact values that meet the rules by written terms meet those of bounds, as lower and as upper values.
-use Rattle.std.proofs.Common.{◌≡◌, ℕ, Bool, true, false, true≢false, List, [], ◌∷◌, ◌++◌, length, slice_index, Option, Some, None, refl, sym, subst, option_map, if◌then◌else◌}
-use Rattle.std.specs.Option.{IsSome, option_and_then}
+use Rattle.std.proofs.Common.{◌≡◌, ℕ, Bool, false, List, [], ◌∷◌, ◌++◌, length, slice_index, refl, sym, subst, if◌then◌else◌}
+use Rattle.std.specs.Option.{IsSome}
 use Rattle.std.proofs.lemmas.List.Elements.{All-from_recursion, recursion_from_All}
 use Rattle.mdp_math.specs.Rational.{ℚ}
 use Rattle.mdp_num.specs.Equal.{eq_ℚ}
@@ -17,18 +17,8 @@ use Rattle.mdp_bounds.specs.Reach.{MeetsReachBetween, outermost, stands_at, goal
 use Rattle.mdp_rows.specs.declared.dir.Dir.{Dir}
 use Rattle.mdp_rows.specs.declared.dir.Dir.TheVariants.{Max, Min}
 use Rattle.mdp_farkas.proofs.Holds.{Each, each_append, each_left, each_right, each_flat, each_flat_at, each_map, each_map_at, each_if, each_if_false}
-use Rattle.mdp_bounds.specs.Sum.{stands, targets_of, one_sum, or_else}
-
--- ---- where a written sum is in width, the sum that is told is
-
-asked_some : (f : ℚ → Option Bool) (g : ℚ → Bool) (o p : Option ℚ) → IsSome (option_and_then f o) → IsSome (option_map g (or_else p o))
-asked_some f g o (Some v) w = refl
-asked_some f g (Some v) None w = refl
-asked_some f g None None w = absurd (true≢false (sym w))
-
-some_by : (f : ℚ → Option Bool) (g : ℚ → Bool) (a : Bool) (o p : Option ℚ) → IsSome (option_and_then f o) → IsSome (if a then Some true else option_map g (or_else p o))
-some_by f g true o p w = refl
-some_by f g false o p w = asked_some f g o p w
+use Rattle.mdp_bounds.specs.Sum.{stands, targets_of, one_sum}
+use Rattle.mdp_bounds.proofs.Wider.{some_by}
 
 module _ (dir : Dir) (m : Mdp) (goals : List Bool) (z : List ℚ) (policy ranks : List ℕ) (s : ℕ) where
   told_some : (d : Dir) (c : ℕ) → IsSome (bellman.stands_at d m z s c) → IsSome (stands_at d m z s c)
