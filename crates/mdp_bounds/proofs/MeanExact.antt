@@ -1,10 +1,10 @@
 -- Exact gains that meet the rules by written terms meet those of bounds, as lower and as upper gains.
-use Rattle.std.proofs.Common.{◌≡◌, ℕ, Bool, cond, List, [], ◌∷◌, ◌++◌, length, slice_index, Option, Some, None, refl, sym, ap, subst, ◌∙◌}
+use Rattle.std.proofs.Common.{◌≡◌, ℕ, cond, List, [], ◌∷◌, ◌++◌, length, slice_index, Option, Some, None, refl, sym, ap, subst, ◌∙◌}
 use Rattle.std.specs.Option.{IsSome, option_and_then, option_map}
 use Rattle.std.specs.declared.cmp.Ordering.{Ordering}
 use Rattle.std.proofs.lemmas.List.Elements.{All-from_recursion, recursion_from_All}
-use Rattle.mdp_math.specs.Rational.{ℚ, neg_ℚ, ◌≤ℚ◌}
-use Rattle.mdp_math.specs.Written.{written_compare, cmp_ℚ}
+use Rattle.mdp_math.specs.Rational.{ℚ, neg_ℚ}
+use Rattle.mdp_math.specs.Written.{written_compare}
 use Rattle.mdp_math.proofs.Options.{Some_same, step_told}
 use Rattle.mdp_math.proofs.Written.{written_compare-some}
 use Rattle.mdp_math.proofs.Order.{≤ℚ_of_eq}
@@ -24,7 +24,7 @@ use Rattle.mdp_rows.specs.declared.dir.Dir.{Dir}
 use Rattle.mdp_rows.specs.declared.dir.Dir.TheVariants.{Max, Min}
 use Rattle.mdp_farkas.proofs.Holds.{Each, each_append, each_left, each_right, each_flat, each_flat_at, each_map, each_map_at}
 use Rattle.mdp_bounds.specs.Sum.{stands}
-use Rattle.mdp_bounds.specs.Mean.{gain_check, relative_check, follow_gain_check, follow_bias_check, exact_best, exact_extreme, told_width, told_spread, spread_check}
+use Rattle.mdp_bounds.specs.Mean.{gain_check, relative_check, exact_best, exact_extreme, told_width, told_spread, spread_check}
 use Rattle.mdp_bounds.specs.Mean.{gains_cover, gains_follow, mean_bounds_at, state_bounds_checks, mean_bounds_checks, MeetsMeanBetween, IsMeanBounds}
 use Rattle.mdp_bounds.proofs.Wider.{plain_some, first_some, then_some, told_some, step_some}
 

@@ -7,7 +7,7 @@ use Rattle.mdp_num.specs.OrderView.{equal_decides}
 use Rattle.mdp_spec.specs.Mdp.{Mdp, states_of, choices_at}
 use Rattle.mdp_spec.specs.Row.{IsMdp}
 use Rattle.mdp_spec.specs.MeanRules.{spread_of}
-use Rattle.mdp_farkas.specs.Verdict.{Check, verdict_of, at_choices}
+use Rattle.mdp_farkas.specs.Verdict.{verdict_of, at_choices}
 use Rattle.mdp_farkas.specs.Reach.{other, choice_exists}
 use Rattle.mdp_rows.specs.declared.dir.Dir.{Dir}
 use Rattle.mdp_farkas.specs.declared.verdict.Fault.{Fault}

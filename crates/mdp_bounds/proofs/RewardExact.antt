@@ -18,7 +18,7 @@ use Rattle.mdp_rows.specs.declared.dir.Dir.{Dir}
 use Rattle.mdp_rows.specs.declared.dir.Dir.TheVariants.{Max, Min}
 use Rattle.mdp_farkas.proofs.Holds.{Each, each_append, each_left, each_right, each_flat, each_flat_at, each_map, each_if, each_if_true, each_if_false}
 use Rattle.mdp_bounds.specs.Sum.{stands, targets_of, one_sum}
-use Rattle.mdp_bounds.specs.Reward.{is_least, earning_stands, lower_on_each, nonneg_check, goal_checks, earning_check, earning_checks, policy_earning_check, sign_check, sign_checks}
+use Rattle.mdp_bounds.specs.Reward.{is_least, earning_stands, lower_on_each, nonneg_check, goal_checks, earning_check, earning_checks, sign_check, sign_checks}
 use Rattle.mdp_bounds.specs.Reward.{half_checks, finite_checks, kind_checks, lower_checks, upper_value_checks, reward_bounds_at, reward_bounds_checks, MeetsRewardBetween, IsRewardBounds}
 use Rattle.mdp_bounds.proofs.Wider.{some_by}
 
@@ -76,8 +76,7 @@ module _ (m : Mdp) (r : ℕ) (goals : List Bool) (v : List (Option ℚ)) (policy
           each_flat InWidth (λ c. cond (is_looked_at dir m v s c) (earning_check dir m r v s c ∷ []) []) (length (choices_at m s))
           (λ c i.
           each_if InWidth (is_looked_at dir m v s c) (earning_check dir m r v s c ∷ []) []
-          (λ e.
-          (
+          (λ e. (
             earning_some dir c
                 (each_if_true InWidth (is_looked_at dir m v s c) (reward.earning_check dir m r v s c ∷ []) [] e
                 (each_flat_at InWidth (λ c. cond (is_looked_at dir m v s c) (reward.earning_check dir m r v s c ∷ []) []) (length (choices_at m s)) c

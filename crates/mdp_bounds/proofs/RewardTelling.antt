@@ -1,5 +1,5 @@
 -- A no on bounds of rewards: what the named rule says of the named place is false.
-use Rattle.std.proofs.Common.{◌≡◌, ℕ, ◌<◌, ◌⊎◌, Bool, true, false, true≢false, not, ◌||◌, ◌==◌, lt-ltb, ltb-true, eq-eqb, List, [], ◌∷◌, ◌++◌, cond, length, slice_index, Option, Some, None, refl, sym, ap, ◌∙◌}
+use Rattle.std.proofs.Common.{◌≡◌, ℕ, ◌<◌, ◌⊎◌, Bool, true, false, not, ◌==◌, lt-ltb, ltb-true, eq-eqb, List, [], ◌∷◌, ◌++◌, cond, length, slice_index, Option, Some, None, refl, ap}
 use Rattle.mdp_math.specs.Rational.{ℚ, ◌≤ℚ◌}
 use Rattle.mdp_math.proofs.Options.{Some_same}
 use Rattle.mdp_math.proofs.Extremes.{test_of_le}
@@ -21,7 +21,7 @@ use Rattle.mdp_farkas.specs.declared.rule.Rule.TheVariants.{RewardValue, FiniteT
 use Rattle.mdp_farkas.proofs.RewardRules.{stays_of_test, test_of_stays, test_of_falls, test_of_misses, test_of_all_misses}
 use Rattle.mdp_bounds.specs.Reward.{is_zero, lower_on_each, order_check, nonneg_check, goal_checks, earning_check, earning_checks, policy_earning_check, sign_check, sign_checks}
 use Rattle.mdp_bounds.specs.Reward.{half_checks, finite_checks, kind_checks, lower_checks, upper_value_checks, reward_bounds_at, reward_bounds_checks}
-use Rattle.mdp_bounds.specs.Says.{IsChoice, IsTaken, IsAsked, IsRewardValue, StaysAt, IsSeen, IsEarningBound, RewardSays}
+use Rattle.mdp_bounds.specs.Says.{IsChoice, IsTaken, IsRewardValue, StaysAt, IsSeen, IsEarningBound, RewardSays}
 use Rattle.mdp_bounds.proofs.Earnings.{nonneg_true, zero_true, earning_sound}
 use Rattle.mdp_bounds.proofs.RewardRules.{implies}
 use Rattle.mdp_bounds.proofs.ReachTelling.{stands_of_bound}
@@ -73,7 +73,7 @@ module _ (Q : Fault → Type 0) (m : Mdp) (known : IsMdp m) (r : ℕ) (goals : L
 
     each_tells : (dir : Dir)
         → ((c : ℕ) → ((IsTransient m goals v s → IsChoice m s c → IsSeen dir m v s c → IsEarningBound dir m r v s c) → ⊥)
-            → Q (record { rule = RewardOnEachChoice; state = Some s; choice = Some c }))
+        → Q (record { rule = RewardOnEachChoice; state = Some s; choice = Some c }))
         → Tells Q (earning_checks dir m r v s)
     each_tells dir earning_wrong =
         tells_flat Q (λ c. cond (is_looked_at dir m v s c) (earning_check dir m r v s c ∷ []) []) (length (choices_at m s))

@@ -1,5 +1,5 @@
 -- Where a written sum is in width, the sum that is told is.
-use Rattle.std.proofs.Common.{◌≡◌, Bool, true, false, true≢false, List, Option, Some, None, refl, sym, option_map, if◌then◌else◌}
+use Rattle.std.proofs.Common.{Bool, true, false, true≢false, List, Option, Some, None, refl, sym, option_map, if◌then◌else◌}
 use Rattle.std.specs.Option.{IsSome, option_and_then}
 use Rattle.mdp_math.specs.Rational.{ℚ}
 use Rattle.mdp_math.specs.Written.{written_add}
