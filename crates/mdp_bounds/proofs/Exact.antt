@@ -18,7 +18,7 @@ use Rattle.mdp_rows.specs.declared.dir.Dir.{Dir}
 use Rattle.mdp_rows.specs.declared.dir.Dir.TheVariants.{Max, Min}
 use Rattle.mdp_farkas.proofs.Holds.{Each, each_append, each_left, each_right, each_flat, each_flat_at, each_map, each_map_at, each_if, each_if_false}
 use Rattle.mdp_bounds.specs.Sum.{stands, targets_of, one_sum}
-use Rattle.mdp_bounds.proofs.Wider.{some_by}
+use Rattle.mdp_bounds.proofs.Width.{some_by}
 
 module _ (dir : Dir) (m : Mdp) (goals : List Bool) (z : List ℚ) (policy ranks : List ℕ) (s : ℕ) where
   told_some : (d : Dir) (c : ℕ) → IsSome (bellman.stands_at d m z s c) → IsSome (stands_at d m z s c)

@@ -6,7 +6,7 @@ pub mod Halves
 pub mod ReachRules
 pub mod ReachTelling
 pub mod Trivial
-pub mod Wider
+pub mod Width
 pub mod Exact
 pub mod Earnings
 pub mod RewardRules

@@ -26,7 +26,7 @@ use Rattle.mdp_farkas.proofs.Holds.{Each, each_append, each_left, each_right, ea
 use Rattle.mdp_bounds.specs.Sum.{stands}
 use Rattle.mdp_bounds.specs.Mean.{gain_check, relative_check, exact_best, exact_extreme, told_width, told_spread, spread_check}
 use Rattle.mdp_bounds.specs.Mean.{gains_cover, gains_follow, mean_bounds_at, state_bounds_checks, mean_bounds_checks, MeetsMeanBetween, IsMeanBounds}
-use Rattle.mdp_bounds.proofs.Wider.{plain_some, first_some, then_some, told_some, step_some}
+use Rattle.mdp_bounds.proofs.Width.{plain_some, first_some, then_some, told_some, step_some}
 
 -- ---- the spread
 

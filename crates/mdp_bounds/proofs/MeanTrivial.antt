@@ -1,6 +1,7 @@
 -- The least and the greatest reward, with bound, bias and spread 0, get yes on every model: each of their checks holds, and none makes a sum of
 -- numbers that aren't 0.
-use Rattle.std.proofs.Common.{◌≡◌, ℕ, ◌<◌, Bool, true, false, List, [], ◌∷◌, length, slice_index, Option, Some, None, refl, sym, ap, ap₂, subst, ◌∙◌, lt-ltb, pos, subst, if◌then◌else◌, option_map}
+use Rattle.std.proofs.Common.{◌≡◌, ℕ, ◌<◌, Bool, true, false, List, [], ◌∷◌, length, slice_index, Option, Some, None, refl, sym}
+use Rattle.std.proofs.Common.{ap, ap₂, subst, ◌∙◌, lt-ltb, pos, subst, if◌then◌else◌, option_map}
 use Rattle.std.specs.List.{All, AllByRecursion, list_all}
 use Rattle.std.specs.Option.{option_and_then}
 use Rattle.std.proofs.lemmas.List.Elements.{recursion_from_All}

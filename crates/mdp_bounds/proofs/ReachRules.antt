@@ -123,7 +123,8 @@ module _ (m : Mdp) (known : IsMdp m) (goals : List Bool) (lower upper : List ℚ
   reach_bounds_sound dir r = each_flat Sound (λ s. bounds_at dir m goals lower upper ranks s (slice_index policy s)) (states_of m) (λ s l. sound_at dir s l r)
 
   -- so what meets the rules is never answered no
-  pub reach_bounds_never_no : (dir : Dir) → MeetsReachBetween dir m goals lower upper policy ranks → (f : Fault) → verdict_of (bounds_checks dir m goals lower upper policy ranks) ≡ No f → ⊥
+  pub reach_bounds_never_no : (dir : Dir) → MeetsReachBetween dir m goals lower upper policy ranks → (f : Fault)
+      → verdict_of (bounds_checks dir m goals lower upper policy ranks) ≡ No f → ⊥
   reach_bounds_never_no dir r = never_no (bounds_checks dir m goals lower upper policy ranks) (reach_bounds_sound dir r)
 
   pub bounds_rules : (dir : Dir) (v : Verdict) → length policy ≡ states_of m → v ≡ verdict_of (bounds_checks dir m goals lower upper policy ranks)

@@ -1,5 +1,6 @@
 -- A no on bounds of probabilities: what the named rule says of the named place is false.
-use Rattle.std.proofs.Common.{◌≡◌, ℕ, ◌<◌, ◌⊎◌, inl, inr, ⊎_elim, Bool, true, false, true≢false, not, lt-ltb, ltb-true, eq-eqb, List, [], ◌∷◌, ◌++◌, cond, length, slice_index, Some, refl, ap}
+use Rattle.std.proofs.Common.{◌≡◌, ℕ, ◌<◌, ◌⊎◌, inl, inr, ⊎_elim, Bool, true, false, true≢false, not, lt-ltb, ltb-true, eq-eqb, List}
+use Rattle.std.proofs.Common.{[], ◌∷◌, ◌++◌, cond, length, slice_index, Some, refl, ap}
 use Rattle.mdp_math.specs.Rational.{ℚ, le_ℚ, lt_ℚ, ◌≤ℚ◌, ◌<ℚ◌}
 use Rattle.mdp_math.proofs.Booleans.{not_true, or-left_false, or-right_false}
 use Rattle.mdp_math.proofs.Options.{Some_same}
@@ -95,7 +96,8 @@ module _ (m : Mdp) (known : IsMdp m) (goals : List Bool) (lower upper : List ℚ
   lower_nonneg Max covers follows = le_of_test 0ℚ (value_at lower s) (Some_same _ _ follows.0)
   lower_nonneg Min covers follows = le_of_test 0ℚ (value_at lower s) (Some_same _ _ covers.0)
 
-  falls_tell : (dir : Dir) → is_marked goals s ≡ false → 0ℚ <ℚ value_at lower s → Tells (Refutes dir m goals lower upper policy ranks) (fall_checks dir m lower ranks s (slice_index policy s))
+  falls_tell : (dir : Dir) → is_marked goals s ≡ false → 0ℚ <ℚ value_at lower s
+      → Tells (Refutes dir m goals lower upper policy ranks) (fall_checks dir m lower ranks s (slice_index policy s))
   falls_tell Max g p =
       tells_one (Refutes Max m goals lower upper policy ranks) (fall_check Max m lower ranks s (slice_index policy s))
       (λ wrong says.

@@ -20,7 +20,7 @@ use Rattle.mdp_farkas.proofs.Holds.{Each, each_append, each_left, each_right, ea
 use Rattle.mdp_bounds.specs.Sum.{stands, targets_of, one_sum}
 use Rattle.mdp_bounds.specs.Reward.{is_least, earning_stands, lower_on_each, nonneg_check, goal_checks, earning_check, earning_checks, sign_check, sign_checks}
 use Rattle.mdp_bounds.specs.Reward.{half_checks, finite_checks, kind_checks, lower_checks, upper_value_checks, reward_bounds_at, reward_bounds_checks, MeetsRewardBetween, IsRewardBounds}
-use Rattle.mdp_bounds.proofs.Wider.{some_by}
+use Rattle.mdp_bounds.proofs.Width.{some_by}
 
 module _ (m : Mdp) (r : ℕ) (goals : List Bool) (v : List (Option ℚ)) (policy ranks : List ℕ) (s : ℕ) where
   abbrev choice : ℕ

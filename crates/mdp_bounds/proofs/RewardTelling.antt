@@ -1,5 +1,6 @@
 -- A no on bounds of rewards: what the named rule says of the named place is false.
-use Rattle.std.proofs.Common.{◌≡◌, ℕ, ◌<◌, ◌⊎◌, Bool, true, false, not, ◌==◌, lt-ltb, ltb-true, eq-eqb, List, [], ◌∷◌, ◌++◌, cond, length, slice_index, Option, Some, None, refl, ap}
+use Rattle.std.proofs.Common.{◌≡◌, ℕ, ◌<◌, ◌⊎◌, Bool, true, false, not, ◌==◌, lt-ltb, ltb-true, eq-eqb, List, [], ◌∷◌, ◌++◌}
+use Rattle.std.proofs.Common.{cond, length, slice_index, Option, Some, None, refl, ap}
 use Rattle.mdp_math.specs.Rational.{ℚ, ◌≤ℚ◌}
 use Rattle.mdp_math.proofs.Options.{Some_same}
 use Rattle.mdp_math.proofs.Extremes.{test_of_le}
@@ -59,7 +60,8 @@ module _ (Q : Fault → Type 0) (m : Mdp) (known : IsMdp m) (r : ℕ) (goals : L
         (λ g. tells_if Q (is_marked (infinite v) s) without within (outside g) (λ f. inside (l, g, f))))
 
   module _ (t : IsTransient m goals v s) where
-    stays_tell : (dir : Dir) → ((c : ℕ) → (StaysAt dir m goals v policy s c → ⊥) → Q (record { rule = FiniteTargets; state = Some s; choice = Some c })) → Tells Q (stay_checks dir m v s choice)
+    stays_tell : (dir : Dir) → ((c : ℕ) → (StaysAt dir m goals v policy s c → ⊥) → Q (record { rule = FiniteTargets; state = Some s; choice = Some c }))
+        → Tells Q (stay_checks dir m v s choice)
     stays_tell Max stays_wrong =
         tells_map Q (stay_check m v s) (length (choices_at m s))
         (λ c i wrong. stays_wrong c (λ stays. refuted (StaysFinite m v s c) _ (λ h w. ap Some (test_of_stays m v ranks s c h)) wrong (stays t i)))
@@ -88,7 +90,8 @@ module _ (Q : Fault → Type 0) (m : Mdp) (known : IsMdp m) (r : ℕ) (goals : L
         (λ e. tells_none Q))
 
     policy_tells : (dir : Dir) → IsChoice m s choice
-        → (((IsTransient m goals v s → IsTaken policy s choice → IsEarningBound (other dir) m r v s choice) → ⊥) → Q (record { rule = RewardOnPolicy; state = Some s; choice = Some choice }))
+        → (((IsTransient m goals v s → IsTaken policy s choice → IsEarningBound (other dir) m r v s choice) → ⊥)
+        → Q (record { rule = RewardOnPolicy; state = Some s; choice = Some choice }))
         → Tells Q (policy_earning_check dir m r v s choice ∷ [])
     policy_tells dir i earning_wrong =
         tells_one Q (policy_earning_check dir m r v s choice)

@@ -25,7 +25,8 @@ exists m policy s c takes l e = subst (λ (c : ℕ). c < length (choices_at m s)
 -- ---- reaching a goal
 
 module _ (m : Mdp) (goals : List Bool) (lower upper : List ℚ) (policy ranks : List ℕ) where
-  pub reach_says : (dir : Dir) → MeetsReachBetween dir m goals lower upper policy ranks → (rule : Rule) (state choice : Option ℕ) → ReachSays dir m goals lower upper policy ranks rule state choice
+  pub reach_says : (dir : Dir) → MeetsReachBetween dir m goals lower upper policy ranks → (rule : Rule) (state choice : Option ℕ)
+      → ReachSays dir m goals lower upper policy ranks rule state choice
   reach_says Max r ChoiceExists (Some s) (Some c) = λ l e. exists m policy s c r.choices l e
   reach_says Max r Probability (Some s) None = λ l. ((r.lower_values.at_least_zero s l, r.lower_values.at_most_one s l), (r.upper_values.at_least_zero s l, r.upper_values.at_most_one s l))
   reach_says Max r GoalValue (Some s) None = λ l g. (r.lower_values.at_goal s l g, r.upper_values.at_goal s l g)
@@ -79,7 +80,8 @@ module _ (m : Mdp) (r : ℕ) (goals : List Bool) (lower upper : List (Option ℚ
 -- ---- mean payoff
 
 module _ (m : Mdp) (r : ℕ) (lower upper a b : List ℚ) (spread : ℚ) (policy : List ℕ) where
-  pub mean_says : (dir : Dir) → MeetsMeanBetween dir m r lower upper a b spread policy → (rule : Rule) (state choice : Option ℕ) → MeanSays dir m r lower upper a b spread policy rule state choice
+  pub mean_says : (dir : Dir) → MeetsMeanBetween dir m r lower upper a b spread policy → (rule : Rule) (state choice : Option ℕ)
+      → MeanSays dir m r lower upper a b spread policy rule state choice
   mean_says Max k ChoiceExists (Some s) (Some c) = λ l e. exists m policy s c k.choices l e
   mean_says Max k GainOnEachChoice (Some s) (Some c) = λ l i. k.gain_covers s c l i
   mean_says Max k BoundOnEachChoice (Some s) (Some c) = λ l i. k.bound_covers s c l i

@@ -1,5 +1,6 @@
 -- A sum that is told is the sum; and the outermost values stand to the sum over any row.
-use Rattle.std.proofs.Common.{◌≡◌, ℕ, ◌<◌, Bool, true, false, List, [], ◌∷◌, Option, Some, None, refl, sym, ap, ap₂, subst, ◌∙◌, pos, if◌then◌else◌, get_or, length, arith}
+use Rattle.std.proofs.Common.{◌≡◌, ℕ, ◌<◌, Bool, true, false, List, [], ◌∷◌, Option, Some, None, refl, sym, ap}
+use Rattle.std.proofs.Common.{ap₂, subst, ◌∙◌, pos, if◌then◌else◌, get_or, length, arith}
 use Rattle.std.specs.List.{list_all}
 use Rattle.std.specs.Option.{IsSome, option_map}
 use Rattle.mdp_math.specs.Rational.{ℚ, ◌+ℚ◌, ◌*ℚ◌, ◌≤ℚ◌}
@@ -47,7 +48,8 @@ module _ (n : ℕ) (row : List Entry) (known : IsRow n row) (z : List ℚ) where
   pub one_value_sum : have_one_value z (targets_of row) ≡ true → row_sum row z ≡ first_value z (targets_of row)
   one_value_sum e = same_values z (first_value z (targets_of row)) row e ∙ row_weigh-const n row (first_value z (targets_of row)) known
 
-  one_by : (b : Bool) (start v : ℚ) → have_one_value z (targets_of row) ≡ b → Some v ≡ (if b then plain_add start (first_value z (targets_of row)) else None) → v ≡ start +ℚ row_sum row z
+  one_by : (b : Bool) (start v : ℚ) → have_one_value z (targets_of row) ≡ b
+      → Some v ≡ (if b then plain_add start (first_value z (targets_of row)) else None) → v ≡ start +ℚ row_sum row z
   one_by true start v e h = plain_add-some start (first_value z (targets_of row)) v h ∙ ap (λ (u : ℚ). start +ℚ u) (sym (one_value_sum e))
   one_by false start v e h = cc
 

@@ -57,8 +57,8 @@ MeanNoRefutes =
 -- no rule says more of a place than the rules in exact numbers
 abbrev pub ReachMeetsSays : Type 0
 ReachMeetsSays =
-    (dir : Dir) (m : Mdp) (goals : List Bool) (lower upper : List ℚ) (policy ranks : List ℕ) → MeetsReachBetween dir m goals lower upper policy ranks → (rule : Rule) (state choice : Option ℕ)
-    → ReachSays dir m goals lower upper policy ranks rule state choice
+    (dir : Dir) (m : Mdp) (goals : List Bool) (lower upper : List ℚ) (policy ranks : List ℕ) → MeetsReachBetween dir m goals lower upper policy ranks
+    → (rule : Rule) (state choice : Option ℕ) → ReachSays dir m goals lower upper policy ranks rule state choice
 
 abbrev pub RewardMeetsSays : Type 0
 RewardMeetsSays =
@@ -67,5 +67,5 @@ RewardMeetsSays =
 
 abbrev pub MeanMeetsSays : Type 0
 MeanMeetsSays =
-    (dir : Dir) (m : Mdp) (r : ℕ) (lower upper a b : List ℚ) (spread : ℚ) (policy : List ℕ) → MeetsMeanBetween dir m r lower upper a b spread policy → (rule : Rule) (state choice : Option ℕ)
-    → MeanSays dir m r lower upper a b spread policy rule state choice
+    (dir : Dir) (m : Mdp) (r : ℕ) (lower upper a b : List ℚ) (spread : ℚ) (policy : List ℕ) → MeetsMeanBetween dir m r lower upper a b spread policy
+    → (rule : Rule) (state choice : Option ℕ) → MeanSays dir m r lower upper a b spread policy rule state choice

@@ -345,7 +345,8 @@ pub fn holds_bounds_mean(model: &Model, m: u32, dir: Dir, cert: &MeanBoundsCert)
     ensures rules { IsYes result ↔ IsMeanBounds dir model.now m cert.now.lower.items cert.now.upper.items cert.now.bound.items cert.now.bias.items cert.now.spread cert.now.choices.items }
     ensures max { dir ≡ Max → IfYes result (MeanMaxBetween model.now m cert.now.lower.items cert.now.upper.items cert.now.spread cert.now.choices.items) }
     ensures min { dir ≡ Min → IfYes result (MeanMinBetween model.now m cert.now.lower.items cert.now.upper.items cert.now.spread cert.now.choices.items) }
-    ensures exact { cert.now.upper.items ≡ cert.now.lower.items → IsMean dir model.now m cert.now.lower.items cert.now.bound.items cert.now.bias.items cert.now.spread cert.now.choices.items → IsYes result }
+    ensures exact { cert.now.upper.items ≡ cert.now.lower.items
+        → IsMean dir model.now m cert.now.lower.items cert.now.bound.items cert.now.bias.items cert.now.spread cert.now.choices.items → IsYes result }
     ensures trivial { IsTrivialMean model.now m cert.now.lower.items cert.now.upper.items cert.now.bound.items cert.now.bias.items cert.now.spread cert.now.choices.items → IsYes result }
 {
     model.known();

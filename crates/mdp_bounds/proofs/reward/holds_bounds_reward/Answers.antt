@@ -22,11 +22,14 @@ returns c =
     ∙ ap (λ x. verdict_of (reward_bounds_checks c.args.dir c.args.model.now c.args.m c.args.goals.now c.args.cert.now.lower.items c.args.cert.now.upper.items x c.as_slice-4.result.now)) c.as_slice-3.ensures.value
     ∙ ap (λ x. verdict_of (reward_bounds_checks c.args.dir c.args.model.now c.args.m c.args.goals.now c.args.cert.now.lower.items c.args.cert.now.upper.items c.args.cert.now.choices.items x)) c.as_slice-4.ensures.value
     in
+    let rules =
+    reward_bounds_rules m c.known.ensures.mdp c.args.m goals low high policy ranks c.args.dir c.verdict_after.result
+    c.requires.name c.requires.lower c.requires.upper c.requires.choices e in
     record {
       verdict = e;
-      rules = reward_bounds_rules m c.known.ensures.mdp c.args.m goals low high policy ranks c.args.dir c.verdict_after.result c.requires.name c.requires.lower c.requires.upper c.requires.choices e;
+      rules = rules;
       max = reward_bounds_max m c.known.ensures.mdp c.args.m goals low high policy ranks c.args.dir c.verdict_after.result c.requires.name c.requires.lower c.requires.upper c.requires.choices e;
       min = reward_bounds_min m c.known.ensures.mdp c.args.m goals low high policy ranks c.args.dir c.verdict_after.result c.requires.name c.requires.lower c.requires.upper c.requires.choices e;
-      exact = λ same is. (reward_bounds_rules m c.known.ensures.mdp c.args.m goals low high policy ranks c.args.dir c.verdict_after.result c.requires.name c.requires.lower c.requires.upper c.requires.choices e).1 (reward_of_exact c.args.dir m c.args.m goals low high policy ranks same is);
+      exact = λ same is. rules.1 (reward_of_exact c.args.dir m c.args.m goals low high policy ranks same is);
       trivial = λ t. e ∙ trivial_yes c.args.dir m c.known.ensures.mdp c.args.m goals low high policy ranks t;
     }
