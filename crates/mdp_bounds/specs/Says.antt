@@ -51,18 +51,20 @@ abbrev pub LeadsOn : Dir → Mdp → List ℚ → List ℕ → ℕ → ℕ → T
 LeadsOn Max m z ranks s c = Any (λ y. (0ℚ <ℚ value_at z y.target) × (slice_index ranks y.target < slice_index ranks s)) (row_at m s c)
 LeadsOn Min m z ranks s c = Any (λ y. slice_index ranks y.target < slice_index ranks s) (row_at m s c)
 
-abbrev pub ReachSays : Dir → Mdp → List Bool → List ℚ → List ℚ → List ℕ → List ℕ → Rule → Option ℕ → Option ℕ → Type 0
-ReachSays dir m goals lower upper policy ranks ChoiceExists (Some s) (Some c) = s < states_of m → IsTaken policy s c → IsChoice m s c
-ReachSays dir m goals lower upper policy ranks Probability (Some s) None = s < states_of m → IsProbability (value_at lower s) × IsProbability (value_at upper s)
-ReachSays dir m goals lower upper policy ranks GoalValue (Some s) None = s < states_of m → is_marked goals s ≡ true → (value_at lower s ≡ 1ℚ) × (value_at upper s ≡ 1ℚ)
-ReachSays dir m goals lower upper policy ranks ValueOnEachChoice (Some s) (Some c) =
-    s < states_of m → is_marked goals s ≡ false → IsChoice m s c → IsRowBound dir m (covering dir lower upper) s c
-ReachSays dir m goals lower upper policy ranks ValueOnPolicy (Some s) (Some c) =
-    s < states_of m → is_marked goals s ≡ false → IsTaken policy s c → IsRowBound (other dir) m (followed dir lower upper) s c
-ReachSays dir m goals lower upper policy ranks RankZero (Some s) None = s < states_of m → (is_marked goals s ≡ true) ⊎ (value_at lower s ≡ 0ℚ) → slice_index ranks s ≡ 0
-ReachSays dir m goals lower upper policy ranks RankFalls (Some s) (Some c) =
-    s < states_of m → is_marked goals s ≡ false → 0ℚ <ℚ value_at lower s → IsAsked dir m policy s c → LeadsOn dir m lower ranks s c
-ReachSays dir m goals lower upper policy ranks rule state choice = Unit {0}
+module _ (dir : Dir) (m : Mdp) (goals : List Bool) (lower upper : List ℚ) (policy ranks : List ℕ) where
+  -- what the rule says of this state, and of this choice
+  abbrev pub ReachSays : Rule → Option ℕ → Option ℕ → Type 0
+  ReachSays ChoiceExists (Some s) (Some c) = s < states_of m → IsTaken policy s c → IsChoice m s c
+  ReachSays Probability (Some s) None = s < states_of m → IsProbability (value_at lower s) × IsProbability (value_at upper s)
+  ReachSays GoalValue (Some s) None = s < states_of m → is_marked goals s ≡ true → (value_at lower s ≡ 1ℚ) × (value_at upper s ≡ 1ℚ)
+  ReachSays ValueOnEachChoice (Some s) (Some c) =
+      s < states_of m → is_marked goals s ≡ false → IsChoice m s c → IsRowBound dir m (covering dir lower upper) s c
+  ReachSays ValueOnPolicy (Some s) (Some c) =
+      s < states_of m → is_marked goals s ≡ false → IsTaken policy s c → IsRowBound (other dir) m (followed dir lower upper) s c
+  ReachSays RankZero (Some s) None = s < states_of m → (is_marked goals s ≡ true) ⊎ (value_at lower s ≡ 0ℚ) → slice_index ranks s ≡ 0
+  ReachSays RankFalls (Some s) (Some c) =
+      s < states_of m → is_marked goals s ≡ false → 0ℚ <ℚ value_at lower s → IsAsked dir m policy s c → LeadsOn dir m lower ranks s c
+  ReachSays rule state choice = Unit {0}
 
 -- ---- the reward of name r until a goal
 
@@ -89,22 +91,24 @@ IsSeen Min m v s c = StaysFinite m v s c
 abbrev pub IsEarningBound : Dir → Mdp → ℕ → List (Option ℚ) → ℕ → ℕ → Type 0
 IsEarningBound dir m r v s c = IsBound dir (value_at (finite_part v) s) (backup m r s c (finite_part v))
 
-abbrev pub RewardSays : Dir → Mdp → ℕ → List Bool → List (Option ℚ) → List (Option ℚ) → List ℕ → List ℕ → Rule → Option ℕ → Option ℕ → Type 0
-RewardSays dir m r goals lower upper policy ranks ChoiceExists (Some s) (Some c) = s < states_of m → IsTaken policy s c → IsChoice m s c
-RewardSays dir m r goals lower upper policy ranks RewardValue (Some s) None =
-    s < states_of m → (is_marked (infinite lower) s ≡ true → is_marked (infinite upper) s ≡ true) × IsRewardValue goals lower ranks s × IsRewardValue goals upper ranks s
-RewardSays dir m r goals lower upper policy ranks FiniteTargets (Some s) (Some c) = StaysAt dir m goals lower policy s c × StaysAt dir m goals upper policy s c
-RewardSays dir m r goals lower upper policy ranks RewardOnEachChoice (Some s) (Some c) =
-    let v = covering_rewards dir lower upper in IsTransient m goals v s → IsChoice m s c → IsSeen dir m v s c → IsEarningBound dir m r v s c
-RewardSays dir m r goals lower upper policy ranks RewardOnPolicy (Some s) (Some c) =
-    let v = covering_rewards (other dir) lower upper in IsTransient m goals v s → IsTaken policy s c → IsEarningBound (other dir) m r v s c
-RewardSays dir m r goals lower upper policy ranks FiniteRankFalls (Some s) (Some c) = IsTransient m goals lower s → IsAsked (other dir) m policy s c → Falls m ranks s c
-RewardSays dir m r goals lower upper policy ranks PolicyMisses (Some s) (Some c) =
-    dir ≡ Max → IsInfinite m lower s → IsTaken policy s c → ((slice_index ranks s ≡ 0) × StaysInfinite m lower ranks 0 s c) ⊎ FallsInfinite m lower ranks s c
-RewardSays dir m r goals lower upper policy ranks EachChoiceMisses (Some s) (Some c) =
-    dir ≡ Min → IsInfinite m lower s → IsChoice m s c → FallsInfinite m lower ranks s c ⊎ StaysInfinite m lower ranks (slice_index ranks s) s c
-RewardSays dir m r goals lower upper policy ranks RewardNotNegative (Some s) (Some c) = s < states_of m → IsChoice m s c → 0ℚ ≤ℚ reward_of (choice_at m s c) r
-RewardSays dir m r goals lower upper policy ranks rule state choice = Unit {0}
+module _ (dir : Dir) (m : Mdp) (r : ℕ) (goals : List Bool) (lower upper : List (Option ℚ)) (policy ranks : List ℕ) where
+  -- what the rule says of this state, and of this choice
+  abbrev pub RewardSays : Rule → Option ℕ → Option ℕ → Type 0
+  RewardSays ChoiceExists (Some s) (Some c) = s < states_of m → IsTaken policy s c → IsChoice m s c
+  RewardSays RewardValue (Some s) None =
+      s < states_of m → (is_marked (infinite lower) s ≡ true → is_marked (infinite upper) s ≡ true) × IsRewardValue goals lower ranks s × IsRewardValue goals upper ranks s
+  RewardSays FiniteTargets (Some s) (Some c) = StaysAt dir m goals lower policy s c × StaysAt dir m goals upper policy s c
+  RewardSays RewardOnEachChoice (Some s) (Some c) =
+      let v = covering_rewards dir lower upper in IsTransient m goals v s → IsChoice m s c → IsSeen dir m v s c → IsEarningBound dir m r v s c
+  RewardSays RewardOnPolicy (Some s) (Some c) =
+      let v = covering_rewards (other dir) lower upper in IsTransient m goals v s → IsTaken policy s c → IsEarningBound (other dir) m r v s c
+  RewardSays FiniteRankFalls (Some s) (Some c) = IsTransient m goals lower s → IsAsked (other dir) m policy s c → Falls m ranks s c
+  RewardSays PolicyMisses (Some s) (Some c) =
+      dir ≡ Max → IsInfinite m lower s → IsTaken policy s c → ((slice_index ranks s ≡ 0) × StaysInfinite m lower ranks 0 s c) ⊎ FallsInfinite m lower ranks s c
+  RewardSays EachChoiceMisses (Some s) (Some c) =
+      dir ≡ Min → IsInfinite m lower s → IsChoice m s c → FallsInfinite m lower ranks s c ⊎ StaysInfinite m lower ranks (slice_index ranks s) s c
+  RewardSays RewardNotNegative (Some s) (Some c) = s < states_of m → IsChoice m s c → 0ℚ ≤ℚ reward_of (choice_at m s c) r
+  RewardSays rule state choice = Unit {0}
 
 -- ---- the mean payoff of the reward of name r
 
@@ -112,12 +116,14 @@ RewardSays dir m r goals lower upper policy ranks rule state choice = Unit {0}
 abbrev pub IsStepBound : Dir → Mdp → ℕ → List ℚ → List ℚ → ℕ → ℕ → Type 0
 IsStepBound dir m r g z s c = IsBound dir (value_at g s +ℚ value_at z s) (backup m r s c z)
 
-abbrev pub MeanSays : Dir → Mdp → ℕ → List ℚ → List ℚ → List ℚ → List ℚ → ℚ → List ℕ → Rule → Option ℕ → Option ℕ → Type 0
-MeanSays dir m r lower upper a b spread policy ChoiceExists (Some s) (Some c) = s < states_of m → IsTaken policy s c → IsChoice m s c
-MeanSays dir m r lower upper a b spread policy GainOnEachChoice (Some s) (Some c) = s < states_of m → IsChoice m s c → IsRowBound dir m (covering dir lower upper) s c
-MeanSays dir m r lower upper a b spread policy BoundOnEachChoice (Some s) (Some c) = s < states_of m → IsChoice m s c → IsStepBound dir m r (covering dir lower upper) a s c
-MeanSays dir m r lower upper a b spread policy GainOnPolicy (Some s) (Some c) = s < states_of m → IsTaken policy s c → IsRowBound (other dir) m (followed dir lower upper) s c
-MeanSays dir m r lower upper a b spread policy BiasOnPolicy (Some s) (Some c) =
-    s < states_of m → IsTaken policy s c → IsStepBound (other dir) m r (followed dir lower upper) b s c
-MeanSays dir m r lower upper a b spread policy SpreadIsGreatest None None = spread ≡ spread_of a b
-MeanSays dir m r lower upper a b spread policy rule state choice = Unit {0}
+module _ (dir : Dir) (m : Mdp) (r : ℕ) (lower upper a b : List ℚ) (spread : ℚ) (policy : List ℕ) where
+  -- what the rule says of this state, and of this choice
+  abbrev pub MeanSays : Rule → Option ℕ → Option ℕ → Type 0
+  MeanSays ChoiceExists (Some s) (Some c) = s < states_of m → IsTaken policy s c → IsChoice m s c
+  MeanSays GainOnEachChoice (Some s) (Some c) = s < states_of m → IsChoice m s c → IsRowBound dir m (covering dir lower upper) s c
+  MeanSays BoundOnEachChoice (Some s) (Some c) = s < states_of m → IsChoice m s c → IsStepBound dir m r (covering dir lower upper) a s c
+  MeanSays GainOnPolicy (Some s) (Some c) = s < states_of m → IsTaken policy s c → IsRowBound (other dir) m (followed dir lower upper) s c
+  MeanSays BiasOnPolicy (Some s) (Some c) =
+      s < states_of m → IsTaken policy s c → IsStepBound (other dir) m r (followed dir lower upper) b s c
+  MeanSays SpreadIsGreatest None None = spread ≡ spread_of a b
+  MeanSays rule state choice = Unit {0}

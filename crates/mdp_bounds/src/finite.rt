@@ -52,7 +52,8 @@ fn one_finite_sum(targets: &[u32], start: &Frac, values: &[Option<Frac>]) -> Opt
     None
 }
 
-/// `start` and the sum over the row, where an infinite value counts as 0: with no written product where the row's targets all have one value.
+/// `start` and the sum over the row, where an infinite value counts as 0: with no written product where the row's targets all have one value and
+/// that sum is in width.
 pub fn finite_row_sum(row: Row<'_>, start: &Frac, values: &[Option<Frac>]) -> Result<Frac, Wide>
     requires { All (λ t. t < length values.now) row.targets.now }
     ensures { result_ok result ≡ told_sum (finite_part values.now) start.now (entries row.entry.targets.now row.entry.probs.now) }

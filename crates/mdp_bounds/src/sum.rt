@@ -72,7 +72,8 @@ fn one_value_sum(targets: &[u32], start: &Frac, values: &[Frac]) -> Option<Frac>
     None
 }
 
-/// `start` and the sum over the row: with no written product where the row's targets all have one value, since the probabilities add to 1.
+/// `start` and the sum over the row: with no written product where the row's targets all have one value, since the probabilities add to 1, and
+/// that sum is in width.
 pub fn row_sum(row: Row<'_>, start: &Frac, values: &[Frac]) -> Result<Frac, Wide>
     requires { All (λ t. t < length values.now) row.targets.now }
     ensures { result_ok result ≡ told_sum values.now start.now (entries row.entry.targets.now row.entry.probs.now) }
