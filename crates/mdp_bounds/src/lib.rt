@@ -1,5 +1,5 @@
 //! The rules of certified bounds: a lower and an upper value for each state, a policy, and what shows that they hold. Comparisons are exact and
-//! never too wide, and a row whose truth needs no arithmetic makes no written term.
+//! never too wide, and a row whose truth needs no arithmetic makes no written term. Laws say what a no means.
 #![tactic(auto)]
 
 mod compare;
