@@ -1,6 +1,6 @@
 -- Exact values that meet the rules by written terms meet those of bounds, as lower and as upper values.
-use Rattle.std.proofs.Common.{◌≡◌, ℕ, Bool, true, false, true≢false, List, [], ◌∷◌, ◌++◌, length, slice_index, Option, Some, None, refl, sym, subst, option_map, if◌then◌else◌}
-use Rattle.std.specs.Option.{IsSome, option_and_then}
+use Rattle.std.proofs.Common.{◌≡◌, ℕ, Bool, false, List, [], ◌∷◌, ◌++◌, length, slice_index, refl, sym, subst, if◌then◌else◌}
+use Rattle.std.specs.Option.{IsSome}
 use Rattle.std.proofs.lemmas.List.Elements.{All-from_recursion, recursion_from_All}
 use Rattle.mdp_math.specs.Rational.{ℚ}
 use Rattle.mdp_num.specs.Equal.{eq_ℚ}
@@ -17,26 +17,13 @@ use Rattle.mdp_bounds.specs.Reach.{MeetsReachBetween, outermost, stands_at, goal
 use Rattle.mdp_rows.specs.declared.dir.Dir.{Dir}
 use Rattle.mdp_rows.specs.declared.dir.Dir.TheVariants.{Max, Min}
 use Rattle.mdp_farkas.proofs.Holds.{Each, each_append, each_left, each_right, each_flat, each_flat_at, each_map, each_map_at, each_if, each_if_false}
-use Rattle.mdp_bounds.specs.Sum.{stands, first_value, have_one_value, plain_add, targets_of}
-use Rattle.mdp_bounds.proofs.Sums.{plain_zero_left}
-
--- ---- where a written sum is in width, the sum that is told is
-
-asked_some : (f : ℚ → Option Bool) (g : ℚ → Bool) (o : Option ℚ) → IsSome (option_and_then f o) → IsSome (option_map g o)
-asked_some f g None w = absurd (true≢false (sym w))
-asked_some f g (Some v) w = refl
-
-some_by : (f : ℚ → Option Bool) (g : ℚ → Bool) (a b : Bool) (v : ℚ) (o : Option ℚ) → IsSome (option_and_then f o)
-    → IsSome (if a then Some true else option_map g (if b then plain_add 0ℚ v else o))
-some_by f g true b v o w = refl
-some_by f g false true v o w = subst (λ (p : Option ℚ). IsSome (option_map g p)) (sym (plain_zero_left v)) refl
-some_by f g false false v o w = asked_some f g o w
+use Rattle.mdp_bounds.specs.Sum.{stands, targets_of, one_sum}
+use Rattle.mdp_bounds.proofs.Width.{some_by}
 
 module _ (dir : Dir) (m : Mdp) (goals : List Bool) (z : List ℚ) (policy ranks : List ℕ) (s : ℕ) where
   told_some : (d : Dir) (c : ℕ) → IsSome (bellman.stands_at d m z s c) → IsSome (stands_at d m z s c)
   told_some d c w =
-      some_by (bellman.stands d (value_at z s)) (stands d (value_at z s)) (eq_ℚ (value_at z s) (outermost d)) (have_one_value z (targets_of (row_at m s c)))
-      (first_value z (targets_of (row_at m s c))) (written_sum z 0ℚ (row_at m s c)) w
+      some_by (bellman.stands d (value_at z s)) (stands d (value_at z s)) (eq_ℚ (value_at z s) (outermost d)) (written_sum z 0ℚ (row_at m s c)) (one_sum z 0ℚ (targets_of (row_at m s c))) w
 
   abbrev choice : ℕ
   choice = slice_index policy s

@@ -1,12 +1,17 @@
 -- Verdicts, computed.
-use Rattle.std.proofs.Common.{◌≡◌, ℕ, ◌+◌, ◌^◌, Bool, true, false, List, [], ◌∷◌, refl, pos, Option, Some, None, Less}
+use Rattle.std.proofs.Common.{◌≡◌, ℕ, ◌+◌, ◌-◌, ◌*◌, ◌^◌, ◌∙◌, Bool, true, false, true≢false, List, [], ◌∷◌, refl, sym, pos, Option, Some, None, Less, arith}
 use Rattle.mdp_math.specs.Gcd.{gcd, gcd_with_fuel}
 use Rattle.mdp_math.specs.Rational.{ℚ, of_int, ratio, le_ℚ, lt_ℚ, neg_ℚ, ◌+ℚ◌, ◌*ℚ◌}
 use Rattle.mdp_math.specs.Written.{narrow, narrow_ℚ, written_add, written_mul, written_compare, cmp_ℚ}
-use Rattle.mdp_spec.specs.Mdp.{Entry, Choice, Mdp}
+use Rattle.mdp_math.proofs.Extremes.{le_of_test, test_of_le}
+use Rattle.mdp_spec.specs.Mdp.{Entry, Choice, Mdp, row_at}
+use Rattle.mdp_spec.specs.Row.{row_sum}
+use Rattle.mdp_spec.specs.RewardRules.{backup}
 use Rattle.mdp_farkas.specs.Verdict.{verdict_of}
 use Rattle.mdp_farkas.specs.Upper.{upper_checks}
+use Rattle.mdp_bounds.specs.Sum.{plain_add, told_sum}
 use Rattle.mdp_bounds.specs.Reach.{bounds_checks}
+use Rattle.mdp_bounds.specs.Says.{ReachSays, RewardSays, MeanSays}
 use Rattle.mdp_rows.specs.declared.dir.Dir.TheVariants.{Max}
 use Rattle.mdp_farkas.specs.declared.verdict.Verdict.{Verdict}
 use Rattle.mdp_farkas.specs.declared.verdict.Verdict.TheVariants.{Yes, No, Wide}
@@ -100,6 +105,59 @@ written_too_wide : verdict_of (upper_checks three goals (whole 1 ∷ whole 1 ∷
 unfolding gcd gcd_with_fuel ratio of_int lt_ℚ ◌+ℚ◌ ◌*ℚ◌ narrow narrow_ℚ written_add written_mul written_compare
 written_too_wide = refl
 
+-- what the rule of a no says there: the lower value is at most the sum over the row, which 1/4 is and 1/2 isn't
+abbrev at_most_row : ℚ → Bool
+at_most_row low = le_ℚ low (row_sum (row_at three 0 1) (low ∷ whole 1 ∷ whole 0 ∷ []))
+
+abbrev reach_says : ℚ → Rule → Option ℕ → Option ℕ → Type 0
+reach_says low = ReachSays Max three goals (low ∷ whole 1 ∷ whole 0 ∷ []) (whole 1 ∷ whole 1 ∷ whole 0 ∷ []) (1 ∷ 0 ∷ 0 ∷ []) (1 ∷ 0 ∷ 0 ∷ [])
+
+quarter_passes : at_most_row (ratio (pos 1) 4) ≡ true
+unfolding gcd gcd_with_fuel ratio of_int le_ℚ ◌+ℚ◌ ◌*ℚ◌
+quarter_passes = refl
+
+half_fails : at_most_row half ≡ false
+unfolding gcd gcd_with_fuel ratio of_int le_ℚ ◌+ℚ◌ ◌*ℚ◌
+half_fails = refl
+
+quarter_said : reach_says (ratio (pos 1) 4) ValueOnPolicy (Some 0) (Some 1)
+quarter_said = λ l g e. le_of_test _ _ quarter_passes
+
+half_refused : reach_says half ValueOnPolicy (Some 0) (Some 1) → ⊥
+half_refused says = true≢false (sym (test_of_le _ _ (says (omega arith) refl refl)) ∙ half_fails)
+
+-- nothing is said of another choice than the policy's, nor by a rule of mean payoffs
+not_taken : reach_says half ValueOnPolicy (Some 0) (Some 0)
+not_taken = λ l g e. absurd (omega arith)
+
+no_rule_of_reach : reach_says half BiasOnPolicy (Some 0) (Some 1)
+no_rule_of_reach = tt
+
+-- the exact probabilities, as lower and as upper values
+exactly : reached third third (whole 0) ≡ Yes
+unfolding gcd gcd_with_fuel ratio of_int le_ℚ lt_ℚ ◌+ℚ◌ ◌*ℚ◌ narrow narrow_ℚ written_add written_mul
+exactly = refl
+
+-- ---- a sum over equal values whose one term is past width: it is told by its written terms
+
+-- 1/2^50 + 1/3^32, which two targets have, and a start whose denominator 2^50 5^21 the first term cancels
+abbrev twin : ℚ
+twin = ratio (pos (2 ^ 50 + 3 ^ 32)) (2 ^ 50 * 3 ^ 32)
+
+abbrev begin : ℚ
+begin = ratio (pos (2 ^ 51 + (2 ^ 50 - 1) * 5 ^ 21)) (2 ^ 50 * 5 ^ 21)
+
+abbrev twins : List Entry
+twins = entry 0 (ratio (pos (3 ^ 32)) (2 ^ 50 + 3 ^ 32)) ∷ entry 1 (ratio (pos (2 ^ 50)) (2 ^ 50 + 3 ^ 32)) ∷ []
+
+no_plain_sum : plain_add begin twin ≡ None
+unfolding gcd gcd_with_fuel ratio of_int ◌+ℚ◌ narrow narrow_ℚ written_add
+no_plain_sum = refl
+
+told : told_sum (twin ∷ twin ∷ []) begin twins ≡ Some (begin +ℚ twin)
+unfolding gcd gcd_with_fuel ratio of_int ◌+ℚ◌ ◌*ℚ◌ narrow narrow_ℚ written_add written_mul
+told = refl
+
 -- ---- rewards until a goal: a trial costs 1, and succeeds with 1/2
 
 abbrev trial : Mdp
@@ -133,6 +191,34 @@ costs_ordered : costs None (Some (whole 3)) ≡ fault RewardValue 0 None
 unfolding gcd gcd_with_fuel ratio of_int le_ℚ ◌+ℚ◌ ◌*ℚ◌ narrow narrow_ℚ written_add written_mul
 costs_ordered = refl
 
+costs_exactly : costs (Some (whole 2)) (Some (whole 2)) ≡ Yes
+unfolding gcd gcd_with_fuel ratio of_int le_ℚ ◌+ℚ◌ ◌*ℚ◌ narrow narrow_ℚ written_add written_mul
+costs_exactly = refl
+
+-- what the rules of those no say: a lower value is at most what the policy's choice earns, and is infinite only where the upper one is
+abbrev costs_say : Option ℚ → Option ℚ → Rule → Option ℕ → Option ℕ → Type 0
+costs_say low high = RewardSays Max trial 0 (false ∷ true ∷ []) (low ∷ Some (whole 0) ∷ []) (high ∷ Some (whole 0) ∷ []) (0 ∷ 0 ∷ []) (1 ∷ 0 ∷ [])
+
+abbrev at_most_earned : ℚ → Bool
+at_most_earned low = le_ℚ low (backup trial 0 0 0 (low ∷ whole 0 ∷ []))
+
+one_passes : at_most_earned (whole 1) ≡ true
+unfolding gcd gcd_with_fuel ratio of_int le_ℚ ◌+ℚ◌ ◌*ℚ◌
+one_passes = refl
+
+three_fails : at_most_earned (whole 3) ≡ false
+unfolding gcd gcd_with_fuel ratio of_int le_ℚ ◌+ℚ◌ ◌*ℚ◌
+three_fails = refl
+
+one_said : costs_say (Some (whole 1)) None RewardOnPolicy (Some 0) (Some 0)
+one_said = λ t e. le_of_test _ _ one_passes
+
+three_refused : costs_say (Some (whole 3)) None RewardOnPolicy (Some 0) (Some 0) → ⊥
+three_refused says = true≢false (sym (test_of_le _ _ (says (omega arith, refl, refl) refl)) ∙ three_fails)
+
+order_refused : costs_say None (Some (whole 3)) RewardValue (Some 0) None → ⊥
+order_refused says = true≢false (sym ((says (omega arith)).0 refl))
+
 -- ---- mean payoff: a state with two loops, of reward 1 and 3
 
 abbrev loops : Mdp
@@ -157,3 +243,28 @@ earns_less = refl
 earns_more : earns 1 2 1 ≡ fault BoundOnEachChoice 0 (Some 1)
 unfolding gcd gcd_with_fuel ratio of_int le_ℚ neg_ℚ ◌+ℚ◌ ◌*ℚ◌ narrow narrow_ℚ written_add written_mul
 earns_more = refl
+
+earns_exactly : earns 3 3 1 ≡ Yes
+unfolding gcd gcd_with_fuel ratio of_int le_ℚ neg_ℚ ◌+ℚ◌ ◌*ℚ◌ narrow narrow_ℚ written_add written_mul
+earns_exactly = refl
+
+-- what the rule of that no says: the lower gain and the bias are at most what the policy's choice earns by the bias
+abbrev earns_say : ℕ → Rule → Option ℕ → Option ℕ → Type 0
+earns_say low = MeanSays Max loops 0 (whole low ∷ []) (whole 3 ∷ []) (whole 0 ∷ []) (whole 0 ∷ []) (whole 0) (0 ∷ [])
+
+abbrev at_most_step : ℕ → Bool
+at_most_step low = le_ℚ (whole low +ℚ whole 0) (backup loops 0 0 0 (whole 0 ∷ []))
+
+one_steps : at_most_step 1 ≡ true
+unfolding gcd gcd_with_fuel ratio of_int le_ℚ ◌+ℚ◌ ◌*ℚ◌
+one_steps = refl
+
+two_steps_not : at_most_step 2 ≡ false
+unfolding gcd gcd_with_fuel ratio of_int le_ℚ ◌+ℚ◌ ◌*ℚ◌
+two_steps_not = refl
+
+step_said : earns_say 1 BiasOnPolicy (Some 0) (Some 0)
+step_said = λ l e. le_of_test _ _ one_steps
+
+step_refused : earns_say 2 BiasOnPolicy (Some 0) (Some 0) → ⊥
+step_refused says = true≢false (sym (test_of_le _ _ (says (omega arith) refl)) ∙ two_steps_not)

@@ -8,11 +8,11 @@ use Rattle.mdp_spec.specs.Mdp.{Mdp, states_of, choices_at, row_at, value_at}
 use Rattle.mdp_spec.specs.Row.{IsMdp, row_sum}
 use Rattle.mdp_spec.specs.Tree.{is_marked}
 use Rattle.mdp_spec.specs.Rules.{AreProbabilities}
-use Rattle.mdp_farkas.specs.Verdict.{Check, InWidth, at_choices}
+use Rattle.mdp_farkas.specs.Verdict.{Check, at_choices}
 use Rattle.mdp_farkas.specs.Compare.{0ℚ, 1ℚ}
 use Rattle.mdp_farkas.specs.Reach.{other}
 use Rattle.mdp_rows.specs.declared.dir.Dir.{Dir}
-use Rattle.mdp_farkas.proofs.Holds.{Each, Holds, each_map, each_map_at, each_if, each_if_true, each_if_false}
+use Rattle.mdp_farkas.proofs.Holds.{Each, Holds, Sound, each_map, each_map_at, each_if, each_if_true, each_if_false}
 use Rattle.mdp_farkas.proofs.Inequalities.{Stands}
 use Rattle.mdp_bounds.specs.Reach.{goal_check, values_at, bound_check, policy_check, cover_at, follow_at}
 use Rattle.mdp_bounds.proofs.Values.{AreWithin, stands_at_of, of_stands_at}
@@ -41,6 +41,15 @@ module _ (m : Mdp) (goals : List Bool) (z : List ℚ) (rest : ℕ → List Check
     ),
   )
 
+  pub values_sound : (s : ℕ) → s < states_of m → AreProbabilities m goals z → (is_marked goals s ≡ false → Each Sound (rest s)) → Each Sound (values_at goals z s (rest s))
+  values_sound s l p h = (
+    λ w. ap Some (test_of_le 0ℚ (value_at z s) (AreProbabilities.at_least_zero p s l)),
+    (
+      λ w. ap Some (test_of_le (value_at z s) 1ℚ (AreProbabilities.at_most_one p s l)),
+      each_if Sound (is_marked goals s) (goal_check z s ∷ []) (rest s) (λ g. (λ w. ap Some ((equal_decides (value_at z s) 1ℚ).1 (AreProbabilities.at_goal p s l g)), tt)) h,
+    ),
+  )
+
 -- ---- the half on each choice
 
 module _ (dir : Dir) (m : Mdp) (known : IsMdp m) (goals : List Bool) (z : List ℚ) where
@@ -56,13 +65,11 @@ module _ (dir : Dir) (m : Mdp) (known : IsMdp m) (goals : List Bool) (z : List �
       stands_at_of m known z dir s c l i (within_of m goals z p)
       (each_map_at Holds (bound_check dir m z s) (length (choices_at m s)) c (rest_of m goals z at_each Holds s g h) i)
 
-  pub cover_holds : (s : ℕ) → s < states_of m → AreProbabilities m goals z
-      → ((c : ℕ) → is_marked goals s ≡ false → c < length (choices_at m s) → Stands dir (value_at z s) (row_sum (row_at m s c) z))
-      → Each InWidth (cover_at dir m goals z s) → Each Holds (cover_at dir m goals z s)
-  cover_holds s l p bounds w =
-      values_hold m goals z at_each s l p
-      (λ g. each_map Holds (bound_check dir m z s) (length (choices_at m s))
-      (λ c i. of_stands_at m known z dir s c l i (bounds c g i) (each_map_at InWidth (bound_check dir m z s) (length (choices_at m s)) c (rest_of m goals z at_each InWidth s g w) i)))
+  pub cover_sound : (s : ℕ) → s < states_of m → AreProbabilities m goals z
+      → ((c : ℕ) → is_marked goals s ≡ false → c < length (choices_at m s) → Stands dir (value_at z s) (row_sum (row_at m s c) z)) → Each Sound (cover_at dir m goals z s)
+  cover_sound s l p bounds =
+      values_sound m goals z at_each s l p
+      (λ g. each_map Sound (bound_check dir m z s) (length (choices_at m s)) (λ c i w. of_stands_at m known z dir s c l i (bounds c g i) w))
 
 -- ---- the half on the policy's choice
 
@@ -77,9 +84,7 @@ module _ (dir : Dir) (m : Mdp) (known : IsMdp m) (goals : List Bool) (z : List �
       → Each Holds (follow_at dir m goals z s (slice_index policy s)) → Stands (other dir) (value_at z s) (row_sum (row_at m s (slice_index policy s)) z)
   follow_meets s l i g p h = stands_at_of m known z (other dir) s (slice_index policy s) l i (within_of m goals z p) (rest_of m goals z at_policy Holds s g h).0
 
-  pub follow_holds : (s : ℕ) → s < states_of m → slice_index policy s < length (choices_at m s) → AreProbabilities m goals z
+  pub follow_sound : (s : ℕ) → s < states_of m → slice_index policy s < length (choices_at m s) → AreProbabilities m goals z
       → (is_marked goals s ≡ false → Stands (other dir) (value_at z s) (row_sum (row_at m s (slice_index policy s)) z))
-      → Each InWidth (follow_at dir m goals z s (slice_index policy s)) → Each Holds (follow_at dir m goals z s (slice_index policy s))
-  follow_holds s l i p meets w =
-      values_hold m goals z at_policy s l p
-      (λ g. (of_stands_at m known z (other dir) s (slice_index policy s) l i (meets g) (rest_of m goals z at_policy InWidth s g w).0, tt))
+      → Each Sound (follow_at dir m goals z s (slice_index policy s))
+  follow_sound s l i p meets = values_sound m goals z at_policy s l p (λ g. (λ w. of_stands_at m known z (other dir) s (slice_index policy s) l i (meets g) w, tt))

@@ -1,15 +1,23 @@
 pub mod Comparing
+pub mod Telling
 pub mod Sums
 pub mod Values
 pub mod Halves
 pub mod ReachRules
+pub mod ReachTelling
 pub mod Trivial
+pub mod Width
 pub mod Exact
 pub mod Earnings
 pub mod RewardRules
 pub mod RewardTrivial
+pub mod RewardTelling
+pub mod RewardExact
 pub mod Gains
 pub mod Spreading
 pub mod MeanRules
 pub mod MeanTrivial
+pub mod MeanTelling
+pub mod MeanExact
+pub mod Saying
 mod Examples

@@ -1,6 +1,7 @@
 -- The least and the greatest reward, with bound, bias and spread 0, get yes on every model: each of their checks holds, and none makes a sum of
 -- numbers that aren't 0.
-use Rattle.std.proofs.Common.{◌≡◌, ℕ, ◌<◌, Bool, true, false, List, [], ◌∷◌, length, slice_index, Option, Some, refl, sym, ap, ap₂, subst, ◌∙◌, lt-ltb, pos, subst, if◌then◌else◌, option_map}
+use Rattle.std.proofs.Common.{◌≡◌, ℕ, ◌<◌, Bool, true, false, List, [], ◌∷◌, length, slice_index, Option, Some, None, refl, sym}
+use Rattle.std.proofs.Common.{ap, ap₂, subst, ◌∙◌, lt-ltb, pos, subst, if◌then◌else◌, option_map}
 use Rattle.std.specs.List.{All, AllByRecursion, list_all}
 use Rattle.std.specs.Option.{option_and_then}
 use Rattle.std.proofs.lemmas.List.Elements.{recursion_from_All}
@@ -28,7 +29,7 @@ use Rattle.mdp_rows.specs.declared.dir.Dir.{Dir}
 use Rattle.mdp_rows.specs.declared.dir.Dir.TheVariants.{Max, Min}
 use Rattle.mdp_farkas.proofs.Holds.{Each, Holds, yes_of_each, each_append, each_map, each_flat}
 use Rattle.mdp_farkas.proofs.Inequalities.{Stands}
-use Rattle.mdp_bounds.specs.Sum.{stands, first_value, plain_add, targets_of, told_sum}
+use Rattle.mdp_bounds.specs.Sum.{stands, first_value, plain_add, targets_of, or_else, told_sum}
 use Rattle.mdp_bounds.specs.Mean.{gain_stands, bound_stands, gain_check, relative_check, exact_best, exact_extreme, told_width, told_spread, spread_check}
 use Rattle.mdp_bounds.specs.Mean.{gains_cover, gains_follow, mean_bounds_at, state_bounds_checks, mean_bounds_checks, IsTrivialMean}
 use Rattle.mdp_bounds.proofs.Comparing.{of_stands}
@@ -54,11 +55,13 @@ module _ (n : ℕ) (z : List ℚ) (v : ℚ) (same : (t : ℕ) → t < n → valu
   first_same [] known = absurd (<ℚ_irrefl 0ℚ (subst (λ (x : ℚ). 0ℚ <ℚ x) (sym known.distribution.total) one-pos))
   first_same (x ∷ row) known = same x.target (All-head (λ (y : Entry). y.target < n) x row known.in_range)
 
-  same_told : (row : List Entry) (start : ℚ) → IsRow n row → told_sum z start row ≡ plain_add start v
-  same_told row start known =
-      ap (λ (b : Bool). if b then plain_add start (first_value z (targets_of row)) else written_sum z start row)
+  same_told : (row : List Entry) (start w : ℚ) → IsRow n row → plain_add start v ≡ Some w → told_sum z start row ≡ Some w
+  same_told row start w known e =
+      ap (λ (o : Option ℚ). or_else o (written_sum z start row))
+      (ap (λ (b : Bool). if b then plain_add start (first_value z (targets_of row)) else None)
       (all_same (first_value z (targets_of row)) row (first_same row known) (recursion_from_All (λ x. x.target < n) row known.in_range))
       ∙ ap (λ (u : ℚ). plain_add start u) (first_same row known)
+      ∙ e)
 
 stands_same : (dir : Dir) (x v : ℚ) → x ≡ v → Stands dir x v
 stands_same Max x v e = ≤ℚ_of_eq v x (sym e)
@@ -67,7 +70,7 @@ stands_same Min x v e = ≤ℚ_of_eq x v e
 module _ (m : Mdp) (known : IsMdp m) (r s c : ℕ) (l : s < states_of m) (i : c < length (choices_at m s)) where
   gain_trivial : (dir : Dir) (g : List ℚ) (v : ℚ) → ((t : ℕ) → t < states_of m → value_at g t ≡ v) → gain_stands dir m g s c ≡ Some true
   gain_trivial dir g v same =
-      ap (λ (o : Option ℚ). option_map (stands dir (value_at g s)) o) (same_told (states_of m) g v same (row_at m s c) 0ℚ (known.row s c l i) ∙ plain_zero_left v)
+      ap (λ (o : Option ℚ). option_map (stands dir (value_at g s)) o) (same_told (states_of m) g v same (row_at m s c) 0ℚ v (known.row s c l i) (plain_zero_left v))
       ∙ ap Some (of_stands dir (value_at g s) v (stands_same dir (value_at g s) v (same s l)))
 
   bound_trivial : (dir : Dir) (g a : List ℚ) (v : ℚ) → ((t : ℕ) → t < states_of m → value_at g t ≡ v) → ((t : ℕ) → t < states_of m → value_at a t ≡ 0ℚ)
@@ -76,7 +79,7 @@ module _ (m : Mdp) (known : IsMdp m) (r s c : ℕ) (l : s < states_of m) (i : c 
       ap (λ (o : Option ℚ). option_and_then (λ step. option_map (stands dir step) (told_sum a (reward_of (choice_at m s c) r) (row_at m s c))) o)
       (ap₂ (λ (x y : ℚ). plain_add x y) (same s l) (none s l) ∙ plain_zero_right v)
       ∙ ap (λ (o : Option ℚ). option_map (stands dir v) o)
-      (same_told (states_of m) a 0ℚ none (row_at m s c) (reward_of (choice_at m s c) r) (known.row s c l i) ∙ plain_zero_right (reward_of (choice_at m s c) r))
+      (same_told (states_of m) a 0ℚ none (row_at m s c) (reward_of (choice_at m s c) r) (reward_of (choice_at m s c) r) (known.row s c l i) (plain_zero_right (reward_of (choice_at m s c) r)))
       ∙ ap Some (of_stands dir v (reward_of (choice_at m s c) r) h)
 
 -- ---- the spread of zeros

@@ -16,11 +16,14 @@ use Rattle.mdp_farkas.specs.Reach.{other, fall_check, fall_checks, rank_checks}
 use Rattle.mdp_bounds.specs.Reach.{covering, followed, MeetsReachBetween, cover_at, follow_at, bounds_at, bounds_checks, IsReachBounds}
 use Rattle.mdp_rows.specs.declared.dir.Dir.{Dir}
 use Rattle.mdp_rows.specs.declared.dir.Dir.TheVariants.{Max, Min}
+use Rattle.mdp_farkas.specs.declared.verdict.Fault.{Fault}
 use Rattle.mdp_farkas.specs.declared.verdict.Verdict.{Verdict}
-use Rattle.mdp_farkas.proofs.Holds.{Each, Holds, each_of_yes, yes_of_each, told_of_each, if_yes, each_append, each_left, each_right, each_flat, each_flat_at, each_map, each_map_at}
+use Rattle.mdp_farkas.specs.declared.verdict.Verdict.TheVariants.{No}
+use Rattle.mdp_farkas.proofs.Holds.{Each, Holds, Sound, each_of_yes, yes_of_each, told_of_each, if_yes, sound_of_holds, holds_of_sound, never_no}
+use Rattle.mdp_farkas.proofs.Holds.{each_append, each_left, each_right, each_flat, each_flat_at, each_map, each_map_at}
 use Rattle.mdp_farkas.proofs.Inequalities.{Stands}
 use Rattle.mdp_farkas.proofs.ReachRules.{ranks_end, ranks_fall, ranks_hold, max_falls, falls_max, min_falls, falls_min}
-use Rattle.mdp_bounds.proofs.Halves.{cover_probabilities, cover_bounds, cover_holds, follow_probabilities, follow_meets, follow_holds}
+use Rattle.mdp_bounds.proofs.Halves.{cover_probabilities, cover_bounds, cover_sound, follow_probabilities, follow_meets, follow_sound}
 
 -- ---- the checks at a state
 
@@ -72,13 +75,13 @@ module _ (dir : Dir) (m : Mdp) (known : IsMdp m) (goals : List Bool) (lower uppe
     falls_of : (s : ℕ) → s < states_of m → is_marked goals s ≡ false → 0ℚ <ℚ value_at lower s → Each Holds (fall_checks dir m lower ranks s (slice_index policy s))
     falls_of s l g p = ranks_fall dir m goals lower policy ranks s g p (rank_of Holds s (at Holds s h l))
 
-  -- ---- and the other way round
+  -- ---- and the other way round: no check is false
 
-  state_holds : (s : ℕ) → s < states_of m → Each InWidth (bounds_at dir m goals lower upper ranks s (slice_index policy s)) → slice_index policy s < length (choices_at m s)
-      → Each Holds (cover s) → Each Holds (follow s) → Each Holds (rank s) → Each Holds (bounds_at dir m goals lower upper ranks s (slice_index policy s))
-  state_holds s l w choice covers follows falls = (
-    ap Some (lt-ltb (slice_index policy s) (length (choices_at m s)) choice),
-    each_append Holds (cover s) (follow s ++ rank s) covers (each_append Holds (follow s) (rank s) follows falls),
+  state_sound : (s : ℕ) → slice_index policy s < length (choices_at m s) → Each Sound (cover s) → Each Sound (follow s) → Each Holds (rank s)
+      → Each Sound (bounds_at dir m goals lower upper ranks s (slice_index policy s))
+  state_sound s choice covers follows falls = (
+    λ w. ap Some (lt-ltb (slice_index policy s) (length (choices_at m s)) choice),
+    each_append Sound (cover s) (follow s ++ rank s) covers (each_append Sound (follow s) (rank s) follows (sound_of_holds (rank s) falls)),
   )
 
 -- ---- each direction
@@ -105,19 +108,24 @@ module _ (m : Mdp) (known : IsMdp m) (goals : List Bool) (lower upper : List ℚ
         (Some_same _ _ (each_map_at Holds (fall_check Min m lower ranks s) (length (choices_at m s)) c (falls_of Min m known goals lower upper policy ranks each h s l g p) i));
   }
 
-  holds_of_meets : (dir : Dir) (s : ℕ) → s < states_of m → MeetsReachBetween dir m goals lower upper policy ranks → Each InWidth (bounds_at dir m goals lower upper ranks s (slice_index policy s))
-      → Each Holds (bounds_at dir m goals lower upper ranks s (slice_index policy s))
-  holds_of_meets Max s l r w =
-      state_holds Max m known goals lower upper policy ranks s l w (r.choices.in_range s l)
-      (cover_holds Max m known goals upper s l r.upper_values (λ c g i. r.covers s c l g i) (cover_of Max m known goals lower upper policy ranks InWidth s w))
-      (follow_holds Max m known goals lower policy s l (r.choices.in_range s l) r.lower_values (λ g. r.reached s l g) (follow_of Max m known goals lower upper policy ranks InWidth s w))
+  sound_at : (dir : Dir) (s : ℕ) → s < states_of m → MeetsReachBetween dir m goals lower upper policy ranks → Each Sound (bounds_at dir m goals lower upper ranks s (slice_index policy s))
+  sound_at Max s l r =
+      state_sound Max m known goals lower upper policy ranks s (r.choices.in_range s l) (cover_sound Max m known goals upper s l r.upper_values (λ c g i. r.covers s c l g i))
+      (follow_sound Max m known goals lower policy s l (r.choices.in_range s l) r.lower_values (λ g. r.reached s l g))
       (ranks_hold Max m goals lower policy ranks s l r.lower_values r.ends (λ g p. (ap Some (falls_max m lower ranks s (slice_index policy s) (r.falls s l g p)), tt)))
-  holds_of_meets Min s l r w =
-      state_holds Min m known goals lower upper policy ranks s l w (r.choices.in_range s l)
-      (cover_holds Min m known goals lower s l r.lower_values (λ c g i. r.covered s c l g i) (cover_of Min m known goals lower upper policy ranks InWidth s w))
-      (follow_holds Min m known goals upper policy s l (r.choices.in_range s l) r.upper_values (λ g. r.reached s l g) (follow_of Min m known goals lower upper policy ranks InWidth s w))
+  sound_at Min s l r =
+      state_sound Min m known goals lower upper policy ranks s (r.choices.in_range s l) (cover_sound Min m known goals lower s l r.lower_values (λ c g i. r.covered s c l g i))
+      (follow_sound Min m known goals upper policy s l (r.choices.in_range s l) r.upper_values (λ g. r.reached s l g))
       (ranks_hold Min m goals lower policy ranks s l r.lower_values r.ends
       (λ g p. each_map Holds (fall_check Min m lower ranks s) (length (choices_at m s)) (λ c i. ap Some (falls_min m lower ranks s c (r.falls s c l g p i)))))
+
+  pub reach_bounds_sound : (dir : Dir) → MeetsReachBetween dir m goals lower upper policy ranks → Each Sound (bounds_checks dir m goals lower upper policy ranks)
+  reach_bounds_sound dir r = each_flat Sound (λ s. bounds_at dir m goals lower upper ranks s (slice_index policy s)) (states_of m) (λ s l. sound_at dir s l r)
+
+  -- so what meets the rules is never answered no
+  pub reach_bounds_never_no : (dir : Dir) → MeetsReachBetween dir m goals lower upper policy ranks → (f : Fault)
+      → verdict_of (bounds_checks dir m goals lower upper policy ranks) ≡ No f → ⊥
+  reach_bounds_never_no dir r = never_no (bounds_checks dir m goals lower upper policy ranks) (reach_bounds_sound dir r)
 
   pub bounds_rules : (dir : Dir) (v : Verdict) → length policy ≡ states_of m → v ≡ verdict_of (bounds_checks dir m goals lower upper policy ranks)
       → IsYes v ↔ IsReachBounds dir m goals lower upper policy ranks
@@ -129,10 +137,9 @@ module _ (m : Mdp) (known : IsMdp m) (goals : List Bool) (lower upper : List ℚ
           in_width = All-from_recursion InWidth (bounds_checks dir m goals lower upper policy ranks) (told_of_each (bounds_checks dir m goals lower upper policy ranks) h);
         }),
     (λ is.
-        let w = recursion_from_All InWidth (bounds_checks dir m goals lower upper policy ranks) is.in_width in
         e ∙ yes_of_each (bounds_checks dir m goals lower upper policy ranks)
-        (each_flat Holds (λ s. bounds_at dir m goals lower upper ranks s (slice_index policy s)) (states_of m)
-        (λ s l. holds_of_meets dir s l is.rules (at dir m known goals lower upper policy ranks InWidth s w l)))),
+        (holds_of_sound (bounds_checks dir m goals lower upper policy ranks) (reach_bounds_sound dir is.rules)
+        (recursion_from_All InWidth (bounds_checks dir m goals lower upper policy ranks) is.in_width))),
   )
 
   pub bounds_max : (dir : Dir) (v : Verdict) → length policy ≡ states_of m → v ≡ verdict_of (bounds_checks dir m goals lower upper policy ranks) → dir ≡ Max

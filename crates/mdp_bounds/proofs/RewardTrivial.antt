@@ -1,5 +1,6 @@
 -- The bounds 0 and infinite get yes wherever the ranks show where the reward is finite: each of their checks holds, and none makes a sum.
-use Rattle.std.proofs.Common.{◌≡◌, ℕ, zero, suc, ◌<◌, Bool, true, false, true≢false, List, [], ◌∷◌, ◌++◌, cond, length, slice_index, Option, Some, None, refl, sym, ap, ◌∙◌}
+use Rattle.std.proofs.Common.{◌≡◌, ℕ, zero, suc, ◌<◌, Bool, true, false, true≢false, List, [], ◌∷◌, ◌++◌, cond, length}
+use Rattle.std.proofs.Common.{slice_index, Option, Some, None, refl, sym, ap, ◌∙◌}
 use Rattle.std.proofs.Common.{lt-ltb, eq-eqb, not}
 use Rattle.std.specs.Prelude.{unwrap_or}
 use Rattle.mdp_math.specs.Rational.{ℚ, ◌≤ℚ◌}

@@ -1,5 +1,6 @@
 -- A sum that is told is the sum; and the outermost values stand to the sum over any row.
-use Rattle.std.proofs.Common.{◌≡◌, ℕ, ◌<◌, Bool, true, false, List, [], ◌∷◌, Option, Some, refl, sym, ap, ap₂, subst, ◌∙◌, pos, if◌then◌else◌, get_or, length, arith}
+use Rattle.std.proofs.Common.{◌≡◌, ℕ, ◌<◌, Bool, true, false, List, [], ◌∷◌, Option, Some, None, refl, sym, ap}
+use Rattle.std.proofs.Common.{ap₂, subst, ◌∙◌, pos, if◌then◌else◌, get_or, length, arith}
 use Rattle.std.specs.List.{list_all}
 use Rattle.std.specs.Option.{IsSome, option_map}
 use Rattle.mdp_math.specs.Rational.{ℚ, ◌+ℚ◌, ◌*ℚ◌, ◌≤ℚ◌}
@@ -19,7 +20,7 @@ use Rattle.mdp_spec.specs.Written.{written_sum}
 use Rattle.mdp_spec.proofs.Rows.{probs_nonneg, row_weigh-const}
 use Rattle.mdp_farkas.specs.Compare.{0ℚ}
 use Rattle.mdp_farkas.proofs.Summing.{written_sum-some}
-use Rattle.mdp_bounds.specs.Sum.{first_value, have_one_value, plain_add, targets_of, told_sum}
+use Rattle.mdp_bounds.specs.Sum.{first_value, have_one_value, plain_add, targets_of, one_sum, or_else, told_sum}
 
 pub plain_add-zero : (x : ℚ) → x +ℚ 0ℚ ≡ x
 plain_add-zero x = ring rat_ring 1 (λ x. x ⊕ lit (pos 0)) (λ x. x) refl x
@@ -47,13 +48,17 @@ module _ (n : ℕ) (row : List Entry) (known : IsRow n row) (z : List ℚ) where
   pub one_value_sum : have_one_value z (targets_of row) ≡ true → row_sum row z ≡ first_value z (targets_of row)
   one_value_sum e = same_values z (first_value z (targets_of row)) row e ∙ row_weigh-const n row (first_value z (targets_of row)) known
 
-  told_by : (b : Bool) (start v : ℚ) → have_one_value z (targets_of row) ≡ b → Some v ≡ (if b then plain_add start (first_value z (targets_of row)) else written_sum z start row)
-      → v ≡ start +ℚ row_sum row z
-  told_by true start v e h = plain_add-some start (first_value z (targets_of row)) v h ∙ ap (λ (u : ℚ). start +ℚ u) (sym (one_value_sum e))
-  told_by false start v e h = written_sum-some z start row v h
+  one_by : (b : Bool) (start v : ℚ) → have_one_value z (targets_of row) ≡ b
+      → Some v ≡ (if b then plain_add start (first_value z (targets_of row)) else None) → v ≡ start +ℚ row_sum row z
+  one_by true start v e h = plain_add-some start (first_value z (targets_of row)) v h ∙ ap (λ (u : ℚ). start +ℚ u) (sym (one_value_sum e))
+  one_by false start v e h = cc
+
+  told_by : (o : Option ℚ) (start v : ℚ) → one_sum z start (targets_of row) ≡ o → Some v ≡ or_else o (written_sum z start row) → v ≡ start +ℚ row_sum row z
+  told_by (Some x) start v e h = one_by (have_one_value z (targets_of row)) start v refl (h ∙ sym e)
+  told_by None start v e h = written_sum-some z start row v h
 
   pub told_sum-some : (start v : ℚ) → Some v ≡ told_sum z start row → v ≡ start +ℚ row_sum row z
-  told_sum-some start v h = told_by (have_one_value z (targets_of row)) start v refl h
+  told_sum-some start v h = told_by (one_sum z start (targets_of row)) start v refl h
 
   -- ---- bounds on the sum
 
@@ -78,21 +83,10 @@ targets_of-entries (t ∷ ts) [] e = absurd (omega arith)
 targets_of-entries (t ∷ ts) (q ∷ ps) e = ap (λ (us : List ℕ). t ∷ us) (targets_of-entries ts ps (omega arith))
 
 module _ (z : List ℚ) (start : ℚ) (ts : List ℕ) (ps : List ℚ) (same : length ts ≡ length ps) where
-  abbrev told_from : List ℕ → Option ℚ
-  told_from us = if have_one_value z us then plain_add start (first_value z us) else written_sum z start (entries ts ps)
-
-  told_as : (b : Bool) (v : ℚ) → v ≡ first_value z ts → list_all (λ t. eq_ℚ (value_at z t) v) ts ≡ b
-      → (if b then plain_add start v else written_sum z start (entries ts ps)) ≡ told_sum z start (entries ts ps)
-  told_as b v e h =
-      ap (λ (c : Bool). if c then plain_add start v else written_sum z start (entries ts ps)) (sym h)
-      ∙ ap (λ (u : ℚ). if list_all (λ t. eq_ℚ (value_at z t) u) ts then plain_add start u else written_sum z start (entries ts ps)) e
-      ∙ ap told_from (sym (targets_of-entries ts ps same))
-
-  pub told_one : (v : ℚ) → v ≡ first_value z ts → list_all (λ t. eq_ℚ (value_at z t) v) ts ≡ true → plain_add start v ≡ told_sum z start (entries ts ps)
-  told_one v e h = told_as true v e h
-
-  pub told_written : (v : ℚ) → v ≡ first_value z ts → list_all (λ t. eq_ℚ (value_at z t) v) ts ≡ false → written_sum z start (entries ts ps) ≡ told_sum z start (entries ts ps)
-  told_written v e h = told_as false v e h
+  pub told_as : (o : Option ℚ) → o ≡ one_sum z start ts → or_else o (written_sum z start (entries ts ps)) ≡ told_sum z start (entries ts ps)
+  told_as o e =
+      ap (λ (p : Option ℚ). or_else p (written_sum z start (entries ts ps))) e
+      ∙ ap (λ (us : List ℕ). or_else (one_sum z start us) (written_sum z start (entries ts ps))) (sym (targets_of-entries ts ps same))
 
 -- ---- what is asked of a value that may be missing
 

@@ -1,5 +1,5 @@
 -- Sums over rows that make no written term where none is needed, and the exact order of a value and a sum.
-use Rattle.std.specs.Prelude.{ℕ, Bool, List, [], ◌∷◌, map, Option, Some, pos, if◌then◌else◌}
+use Rattle.std.specs.Prelude.{ℕ, Bool, List, [], ◌∷◌, map, Option, Some, None, pos, if◌then◌else◌}
 use Rattle.std.specs.List.{list_all}
 use Rattle.mdp_math.specs.Rational.{ℚ, of_int, le_ℚ}
 use Rattle.mdp_math.specs.Written.{written_add}
@@ -31,6 +31,15 @@ plain_add x y = if eq_ℚ x 0ℚ then Some y else (if eq_ℚ y 0ℚ then Some x 
 abbrev pub targets_of : List Entry → List ℕ
 targets_of row = map (λ y. y.target) row
 
--- start and the sum over the row: where all targets have one value, that value is the sum
+-- start and the one value that all targets have, since probabilities add to 1; nothing where they have more values, or where it has a term past width
+abbrev pub one_sum : List ℚ → ℚ → List ℕ → Option ℚ
+one_sum z start ts = if have_one_value z ts then plain_add start (first_value z ts) else None
+
+-- the first of two sums that has no term past width
+abbrev pub or_else : Option ℚ → Option ℚ → Option ℚ
+or_else (Some x) next = Some x
+or_else None next = next
+
+-- start and the sum over the row: by the one value of all targets, or else by written terms
 abbrev pub told_sum : List ℚ → ℚ → List Entry → Option ℚ
-told_sum z start row = if have_one_value z (targets_of row) then plain_add start (first_value z (targets_of row)) else written_sum z start row
+told_sum z start row = or_else (one_sum z start (targets_of row)) (written_sum z start row)

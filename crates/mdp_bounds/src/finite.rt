@@ -5,9 +5,9 @@ ghost use Rattle.mdp_spec.specs.Bounds.{finite_part};
 ghost use Rattle.mdp_spec.specs.Mdp.{value_at};
 ghost use Rattle.mdp_spec.specs.Row.{entries};
 ghost use Rattle.mdp_num.specs.Equal.{eq_ℚ};
-ghost use Rattle.mdp_bounds.specs.Sum.{first_value, told_sum};
+ghost use Rattle.mdp_bounds.specs.Sum.{first_value, one_sum, told_sum};
 
-use crate::sum::plain_sum;
+use crate::sum::sum_in_width;
 use mdp_farkas::{finite_at, finite_sum};
 use mdp_num::{Frac, Wide};
 use mdp_rows::Row;
@@ -39,14 +39,27 @@ fn all_have_finite(targets: &[u32], values: &[Option<Frac>], value: &Frac) -> bo
     targets.iter().all(|t| has_finite(values, *t, value))
 }
 
-/// `start` and the sum over the row, where an infinite value counts as 0: with no written product where the row's targets all have one value.
+/// `start` and the one value that all targets have, as an infinite one has 0; nothing where they have more values, or where a term of that sum
+/// is past width.
+fn one_finite_sum(targets: &[u32], start: &Frac, values: &[Option<Frac>]) -> Option<Frac>
+    requires { All (λ t. t < length values.now) targets.now }
+    ensures { result ≡ one_sum (finite_part values.now) start.now targets.now }
+{
+    let first = first_finite(targets, values);
+    if all_have_finite(targets, values, &first) {
+        return sum_in_width(start, &first);
+    }
+    None
+}
+
+/// `start` and the sum over the row, where an infinite value counts as 0: with no written product where the row's targets all have one value and
+/// that sum is in width.
 pub fn finite_row_sum(row: Row<'_>, start: &Frac, values: &[Option<Frac>]) -> Result<Frac, Wide>
     requires { All (λ t. t < length values.now) row.targets.now }
     ensures { result_ok result ≡ told_sum (finite_part values.now) start.now (entries row.entry.targets.now row.entry.probs.now) }
 {
-    let first = first_finite(row.targets, values);
-    if all_have_finite(row.targets, values, &first) {
-        return plain_sum(start, &first);
+    match one_finite_sum(row.targets, start, values) {
+        Some(sum) => Ok(sum),
+        None => finite_sum(row, start, values),
     }
-    finite_sum(row, start, values)
 }

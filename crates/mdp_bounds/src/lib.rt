@@ -1,16 +1,18 @@
 //! The rules of certified bounds: a lower and an upper value for each state, a policy, and what shows that they hold. Comparisons are exact and
-//! never too wide, and a row whose truth needs no arithmetic makes no written term.
+//! never too wide, and a row whose truth needs no arithmetic makes no written term. Laws say what a no means.
 #![tactic(auto)]
 
 mod compare;
 mod earning;
 mod finite;
+mod laws;
 mod mean;
 mod reach;
 mod reward;
 mod spread;
 mod sum;
 
+pub use laws::{never_no_law, refuted_law, says_law};
 pub use mdp_farkas::{Fault, Verdict};
 pub use mdp_rows::Dir;
 pub use mean::{MeanBoundsCert, holds_bounds_mean};

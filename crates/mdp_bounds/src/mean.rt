@@ -3,6 +3,7 @@ ghost use Rattle.std.specs.Result.{result_ok};
 ghost use Rattle.mdp_spec.specs.Mdp.{states_of, choices_at};
 ghost use Rattle.mdp_spec.specs.Between.{MeanMaxBetween, MeanMinBetween};
 ghost use Rattle.mdp_bounds.specs.Reach.{covering, followed};
+ghost use Rattle.mdp_farkas.specs.Mean.{IsMean};
 ghost use Rattle.mdp_farkas.specs.Verdict.{objection_to, verdict_of, at_choices, IsYes, IfYes};
 ghost use Rattle.mdp_rows.specs.declared.dir.Dir.TheVariants.{Max, Min};
 ghost use Rattle.mdp_bounds.specs.Mean.{gain_stands, gain_check, told_step, bound_stands, relative_check, spread_check, gains_cover, gains_follow};
@@ -332,7 +333,7 @@ fn mean_bounds_walk(model: &Model, m: u32, dir: Dir, cert: &MeanBoundsCert) -> R
 /// Whether the greatest, or the least, mean payoffs of the reward name of place `m` lie between the gains, and those of the policy too: what
 /// rules 2 and 16 to 20 say of the gains, the bound, the bias, the spread and the policy. Yes, the first rule that is false with its place,
 /// or the place of the first sum past width where that comes before; the rule of the spread has no place. The least and the greatest reward get
-/// yes on every model. It takes no memory.
+/// yes on every model, and so do exact gains that `holds_mean` says yes of, as lower and upper gains. It takes no memory.
 pub fn holds_bounds_mean(model: &Model, m: u32, dir: Dir, cert: &MeanBoundsCert) -> Verdict
     requires name { m < length model.now.names }
     requires lower { length cert.now.lower.items ≡ states_of model.now }
@@ -344,6 +345,8 @@ pub fn holds_bounds_mean(model: &Model, m: u32, dir: Dir, cert: &MeanBoundsCert)
     ensures rules { IsYes result ↔ IsMeanBounds dir model.now m cert.now.lower.items cert.now.upper.items cert.now.bound.items cert.now.bias.items cert.now.spread cert.now.choices.items }
     ensures max { dir ≡ Max → IfYes result (MeanMaxBetween model.now m cert.now.lower.items cert.now.upper.items cert.now.spread cert.now.choices.items) }
     ensures min { dir ≡ Min → IfYes result (MeanMinBetween model.now m cert.now.lower.items cert.now.upper.items cert.now.spread cert.now.choices.items) }
+    ensures exact { cert.now.upper.items ≡ cert.now.lower.items
+        → IsMean dir model.now m cert.now.lower.items cert.now.bound.items cert.now.bias.items cert.now.spread cert.now.choices.items → IsYes result }
     ensures trivial { IsTrivialMean model.now m cert.now.lower.items cert.now.upper.items cert.now.bound.items cert.now.bias.items cert.now.spread cert.now.choices.items → IsYes result }
 {
     model.known();

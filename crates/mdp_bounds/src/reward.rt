@@ -2,6 +2,7 @@ ghost use Rattle.std.specs.Prelude.{◌≡◌, ◌<◌, ◌↔◌, ◌++◌, not
 ghost use Rattle.mdp_spec.specs.Mdp.{states_of, choices_at};
 ghost use Rattle.mdp_spec.specs.Between.{RewardMaxBetween, RewardMinBetween};
 ghost use Rattle.mdp_farkas.specs.Reward.{rank_fall_checks};
+ghost use Rattle.mdp_farkas.specs.Reward.{IsReward};
 ghost use Rattle.mdp_farkas.specs.Verdict.{objection_to, verdict_of, IsYes, IfYes};
 ghost use Rattle.mdp_rows.specs.declared.dir.Dir.TheVariants.{Max, Min};
 ghost use Rattle.mdp_bounds.specs.Reward.{order_check, lower_on_each, is_nonneg, is_zero, nonneg_check, goal_checks, half_checks, finite_checks, lower_checks, upper_value_checks};
@@ -356,8 +357,8 @@ fn reward_bounds_at_states(
 
 /// Whether the greatest, or the least, rewards of the name of place `m` until a goal lie between the values, and those of the policy too: what
 /// rules 2, 9 to 15 and 25 say of the values, the policy and the ranks. Yes, the first rule that is false with its place, or the place of the
-/// first sum past width where that comes before. The bounds 0 and infinite get yes wherever the ranks show where the reward is finite. It takes
-/// no memory.
+/// first sum past width where that comes before. The bounds 0 and infinite get yes wherever the ranks show where the reward is finite, and so
+/// do exact values that `holds_reward` says yes of, as lower and upper values. It takes no memory.
 pub fn holds_bounds_reward(
     model: &Model,
     m: u32,
@@ -375,6 +376,7 @@ pub fn holds_bounds_reward(
     ensures rules { IsYes result ↔ IsRewardBounds dir model.now m goals.now cert.now.lower.items cert.now.upper.items cert.now.choices.items cert.now.ranks.items }
     ensures max { dir ≡ Max → IfYes result (RewardMaxBetween model.now m goals.now cert.now.choices.items cert.now.lower.items cert.now.upper.items) }
     ensures min { dir ≡ Min → IfYes result (RewardMinBetween model.now m goals.now cert.now.choices.items cert.now.lower.items cert.now.upper.items) }
+    ensures exact { cert.now.upper.items ≡ cert.now.lower.items → IsReward dir model.now m goals.now cert.now.lower.items cert.now.choices.items cert.now.ranks.items → IsYes result }
     ensures trivial { IsTrivialReward dir model.now m goals.now cert.now.lower.items cert.now.upper.items cert.now.choices.items cert.now.ranks.items → IsYes result }
 {
     model.known();

@@ -4,7 +4,7 @@ ghost use Rattle.std.specs.Result.{result_ok};
 ghost use Rattle.mdp_spec.specs.Mdp.{value_at};
 ghost use Rattle.mdp_spec.specs.Row.{entries};
 ghost use Rattle.mdp_num.specs.Equal.{eq_ℚ};
-ghost use Rattle.mdp_bounds.specs.Sum.{first_value, plain_add, told_sum};
+ghost use Rattle.mdp_bounds.specs.Sum.{first_value, plain_add, one_sum, told_sum};
 
 use mdp_num::{Frac, Wide};
 use mdp_rows::Row;
@@ -50,14 +50,36 @@ pub fn plain_sum(x: &Frac, y: &Frac) -> Result<Frac, Wide>
     x.add(y)
 }
 
-/// `start` and the sum over the row: with no written product where the row's targets all have one value, since the probabilities add to 1.
+/// The sum, or nothing where one of its terms is past width.
+pub fn sum_in_width(x: &Frac, y: &Frac) -> Option<Frac>
+    ensures { result ≡ plain_add x.now y.now }
+{
+    match plain_sum(x, y) {
+        Ok(sum) => Some(sum),
+        Err(Wide) => None,
+    }
+}
+
+/// `start` and the one value that all targets have; nothing where they have more values, or where a term of that sum is past width.
+fn one_value_sum(targets: &[u32], start: &Frac, values: &[Frac]) -> Option<Frac>
+    requires { All (λ t. t < length values.now) targets.now }
+    ensures { result ≡ one_sum values.now start.now targets.now }
+{
+    let first = first_of(targets, values);
+    if all_have(targets, values, &first) {
+        return sum_in_width(start, &first);
+    }
+    None
+}
+
+/// `start` and the sum over the row: with no written product where the row's targets all have one value, since the probabilities add to 1, and
+/// that sum is in width.
 pub fn row_sum(row: Row<'_>, start: &Frac, values: &[Frac]) -> Result<Frac, Wide>
     requires { All (λ t. t < length values.now) row.targets.now }
     ensures { result_ok result ≡ told_sum values.now start.now (entries row.entry.targets.now row.entry.probs.now) }
 {
-    let first = first_of(row.targets, values);
-    if all_have(row.targets, values, &first) {
-        return plain_sum(start, &first);
+    match one_value_sum(row.targets, start, values) {
+        Some(sum) => Ok(sum),
+        None => row.sum(start, values),
     }
-    row.sum(start, values)
 }

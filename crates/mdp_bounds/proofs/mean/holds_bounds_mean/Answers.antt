@@ -1,6 +1,7 @@
 use Rattle.std.proofs.Common.{ap, ◌∙◌}
 use Rattle.mdp_farkas.specs.Verdict.{verdict}
 use Rattle.mdp_bounds.proofs.MeanRules.{mean_bounds_rules, mean_bounds_max, mean_bounds_min}
+use Rattle.mdp_bounds.proofs.MeanExact.{mean_of_exact}
 use Rattle.mdp_bounds.proofs.MeanTrivial.{trivial_yes}
 use Rattle.mdp_bounds.proofs.mean.holds_bounds_mean.Goals as goal
 
@@ -14,10 +15,14 @@ returns c =
     let spread = c.args.cert.now.spread in
     let policy = c.args.cert.now.choices.items in
     let e = c.verdict_after.ensures ∙ ap verdict c.mean_bounds_walk.ensures in
+    let rules =
+    mean_bounds_rules m c.known.ensures.mdp c.args.m low high a b spread policy c.args.dir c.verdict_after.result
+    c.requires.name c.requires.bound c.requires.bias c.requires.choices e in
     record {
       verdict = e;
-      rules = mean_bounds_rules m c.known.ensures.mdp c.args.m low high a b spread policy c.args.dir c.verdict_after.result c.requires.name c.requires.bound c.requires.bias c.requires.choices e;
+      rules = rules;
       max = mean_bounds_max m c.known.ensures.mdp c.args.m low high a b spread policy c.args.dir c.verdict_after.result c.requires.name c.requires.bound c.requires.bias c.requires.choices e;
       min = mean_bounds_min m c.known.ensures.mdp c.args.m low high a b spread policy c.args.dir c.verdict_after.result c.requires.name c.requires.bound c.requires.bias c.requires.choices e;
+      exact = λ same is. rules.1 (mean_of_exact c.args.dir m c.args.m low high a b spread policy same is);
       trivial = λ t. e ∙ trivial_yes m c.known.ensures.mdp c.args.m low high a b spread policy t c.requires.bound c.requires.bias c.args.dir;
     }

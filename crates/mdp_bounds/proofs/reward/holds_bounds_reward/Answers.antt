@@ -2,6 +2,7 @@ use Rattle.std.proofs.Common.{◌≡◌, ap, ◌∙◌}
 use Rattle.mdp_bounds.specs.Reward.{reward_bounds_checks}
 use Rattle.mdp_farkas.specs.Verdict.{verdict, verdict_of}
 use Rattle.mdp_bounds.proofs.RewardRules.{reward_bounds_rules, reward_bounds_max, reward_bounds_min}
+use Rattle.mdp_bounds.proofs.RewardExact.{reward_of_exact}
 use Rattle.mdp_bounds.proofs.RewardTrivial.{trivial_yes}
 use Rattle.mdp_bounds.proofs.reward.holds_bounds_reward.Goals as goal
 
@@ -21,10 +22,14 @@ returns c =
     ∙ ap (λ x. verdict_of (reward_bounds_checks c.args.dir c.args.model.now c.args.m c.args.goals.now c.args.cert.now.lower.items c.args.cert.now.upper.items x c.as_slice-4.result.now)) c.as_slice-3.ensures.value
     ∙ ap (λ x. verdict_of (reward_bounds_checks c.args.dir c.args.model.now c.args.m c.args.goals.now c.args.cert.now.lower.items c.args.cert.now.upper.items c.args.cert.now.choices.items x)) c.as_slice-4.ensures.value
     in
+    let rules =
+    reward_bounds_rules m c.known.ensures.mdp c.args.m goals low high policy ranks c.args.dir c.verdict_after.result
+    c.requires.name c.requires.lower c.requires.upper c.requires.choices e in
     record {
       verdict = e;
-      rules = reward_bounds_rules m c.known.ensures.mdp c.args.m goals low high policy ranks c.args.dir c.verdict_after.result c.requires.name c.requires.lower c.requires.upper c.requires.choices e;
+      rules = rules;
       max = reward_bounds_max m c.known.ensures.mdp c.args.m goals low high policy ranks c.args.dir c.verdict_after.result c.requires.name c.requires.lower c.requires.upper c.requires.choices e;
       min = reward_bounds_min m c.known.ensures.mdp c.args.m goals low high policy ranks c.args.dir c.verdict_after.result c.requires.name c.requires.lower c.requires.upper c.requires.choices e;
+      exact = λ same is. rules.1 (reward_of_exact c.args.dir m c.args.m goals low high policy ranks same is);
       trivial = λ t. e ∙ trivial_yes c.args.dir m c.known.ensures.mdp c.args.m goals low high policy ranks t;
     }

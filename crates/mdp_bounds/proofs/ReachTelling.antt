@@ -1,0 +1,140 @@
+-- A no on bounds of probabilities: what the named rule says of the named place is false.
+use Rattle.std.proofs.Common.{◌≡◌, ℕ, ◌<◌, ◌⊎◌, inl, inr, ⊎_elim, Bool, true, false, true≢false, not, lt-ltb, ltb-true, eq-eqb, List}
+use Rattle.std.proofs.Common.{[], ◌∷◌, ◌++◌, cond, length, slice_index, Some, refl, ap}
+use Rattle.mdp_math.specs.Rational.{ℚ, le_ℚ, lt_ℚ, ◌≤ℚ◌, ◌<ℚ◌}
+use Rattle.mdp_math.proofs.Booleans.{not_true, or-left_false, or-right_false}
+use Rattle.mdp_math.proofs.Options.{Some_same}
+use Rattle.mdp_math.proofs.Extremes.{le_of_test, test_of_le, lt_of_test, le_of_no_test}
+use Rattle.mdp_math.proofs.Order.{≤ℚ_antisymm}
+use Rattle.mdp_num.specs.OrderView.{equal_decides}
+use Rattle.mdp_spec.specs.Mdp.{Mdp, states_of, choices_at, value_at}
+use Rattle.mdp_spec.specs.Row.{IsMdp}
+use Rattle.mdp_spec.specs.Tree.{is_marked}
+use Rattle.mdp_farkas.specs.Verdict.{Check, verdict_of, at_state, at_choices}
+use Rattle.mdp_farkas.specs.Compare.{0ℚ, 1ℚ}
+use Rattle.mdp_farkas.specs.Reach.{other, choice_exists, ends, rank_check, fall_check, fall_checks, rank_checks}
+use Rattle.mdp_rows.specs.declared.dir.Dir.{Dir}
+use Rattle.mdp_rows.specs.declared.dir.Dir.TheVariants.{Max, Min}
+use Rattle.mdp_farkas.specs.declared.verdict.Fault.{Fault}
+use Rattle.mdp_farkas.specs.declared.verdict.Verdict.TheVariants.{No}
+use Rattle.mdp_farkas.specs.declared.rule.Rule.TheVariants.{Probability}
+use Rattle.mdp_farkas.proofs.Holds.{Each, Holds}
+use Rattle.mdp_farkas.proofs.Inequalities.{Stands}
+use Rattle.mdp_farkas.proofs.ReachRules.{falls_max, falls_min}
+use Rattle.mdp_farkas.proofs.Tests.{or-parts}
+use Rattle.mdp_bounds.specs.Reach.{covering, followed, goal_check, values_at, bound_check, policy_check, cover_at, follow_at, bounds_at, bounds_checks}
+use Rattle.mdp_bounds.specs.Says.{IsBound, IsChoice, LeadsOn, IsProbability, IsRowBound, ReachSays}
+use Rattle.mdp_bounds.proofs.Values.{of_stands_at}
+use Rattle.mdp_bounds.proofs.Telling.{refuted, Tells, tells_first, tells_one, tells_append, tells_if, tells_flat, tells_map}
+
+pub stands_of_bound : (dir : Dir) (x y : ℚ) → IsBound dir x y → Stands dir x y
+stands_of_bound Max x y h = h
+stands_of_bound Min x y h = h
+
+-- what is said of both values is said of those that a half is asked of
+covering_says : (P : ℚ → Type 0) (dir : Dir) (lower upper : List ℚ) (s : ℕ) → P (value_at lower s) × P (value_at upper s) → P (value_at (covering dir lower upper) s)
+covering_says P Max lower upper s h = h.1
+covering_says P Min lower upper s h = h.0
+
+-- a goal, or a value that isn't above 0
+end_of : (goals : List Bool) (z : List ℚ) (s : ℕ) → 0ℚ ≤ℚ value_at z s → ends goals z s ≡ true → (is_marked goals s ≡ true) ⊎ (value_at z s ≡ 0ℚ)
+end_of goals z s h e =
+    ⊎_elim (λ g. inl g) (λ n. inr (≤ℚ_antisymm _ _ (le_of_no_test 0ℚ (value_at z s) (not_true (lt_ℚ 0ℚ (value_at z s)) n)) h))
+    (or-parts (is_marked goals s) _ e)
+
+abbrev Refutes : Dir → Mdp → List Bool → List ℚ → List ℚ → List ℕ → List ℕ → Fault → Type 0
+Refutes dir m goals lower upper policy ranks f = ReachSays dir m goals lower upper policy ranks f.rule f.state f.choice → ⊥
+
+module _ (m : Mdp) (known : IsMdp m) (goals : List Bool) (lower upper : List ℚ) (policy ranks : List ℕ) (s : ℕ) (l : s < states_of m) where
+  -- ---- the values of a half
+
+  abbrev low_check : List ℚ → Check
+  low_check z = at_state Probability s (Some (le_ℚ 0ℚ (value_at z s)))
+
+  abbrev high_check : List ℚ → Check
+  high_check z = at_state Probability s (Some (le_ℚ (value_at z s) 1ℚ))
+
+  side_tells : (dir : Dir) (z : List ℚ) (rest : List Check) → (IsProbability (value_at lower s) × IsProbability (value_at upper s) → IsProbability (value_at z s))
+      → ((value_at lower s ≡ 1ℚ) × (value_at upper s ≡ 1ℚ) → value_at z s ≡ 1ℚ)
+      → (is_marked goals s ≡ false → Tells (Refutes dir m goals lower upper policy ranks) rest) → Tells (Refutes dir m goals lower upper policy ranks) (values_at goals z s rest)
+  side_tells dir z rest within at_goal others =
+      tells_first (Refutes dir m goals lower upper policy ranks) (low_check z) (high_check z ∷ cond (is_marked goals s) (goal_check z s ∷ []) rest)
+      (λ wrong says. refuted (0ℚ ≤ℚ value_at z s) _ (λ h w. ap Some (test_of_le 0ℚ (value_at z s) h)) wrong (within (says l)).0)
+      (λ t.
+      tells_first (Refutes dir m goals lower upper policy ranks) (high_check z) (cond (is_marked goals s) (goal_check z s ∷ []) rest)
+      (λ wrong says. refuted (value_at z s ≤ℚ 1ℚ) _ (λ h w. ap Some (test_of_le (value_at z s) 1ℚ h)) wrong (within (says l)).1)
+      (λ t.
+      tells_if (Refutes dir m goals lower upper policy ranks) (is_marked goals s) (goal_check z s ∷ []) rest
+      (λ g.
+      tells_one (Refutes dir m goals lower upper policy ranks) (goal_check z s)
+      (λ wrong says. refuted (value_at z s ≡ 1ℚ) _ (λ h w. ap Some ((equal_decides (value_at z s) 1ℚ).1 h)) wrong (at_goal (says l g)))) others))
+
+  cover_tells : (dir : Dir) → Tells (Refutes dir m goals lower upper policy ranks) (cover_at dir m goals (covering dir lower upper) s)
+  cover_tells dir =
+      side_tells dir (covering dir lower upper) (at_choices m s (bound_check dir m (covering dir lower upper) s)) (λ h. covering_says IsProbability dir lower upper s h)
+      (λ h. covering_says (λ x. x ≡ 1ℚ) dir lower upper s h)
+      (λ g.
+      tells_map (Refutes dir m goals lower upper policy ranks) (bound_check dir m (covering dir lower upper) s) (length (choices_at m s))
+      (λ c i wrong says.
+      refuted (IsRowBound dir m (covering dir lower upper) s c) _ (λ h w. of_stands_at m known (covering dir lower upper) dir s c l i (stands_of_bound dir _ _ h) w) wrong (says l g i)))
+
+  follow_tells : (dir : Dir) → slice_index policy s < length (choices_at m s)
+      → Tells (Refutes dir m goals lower upper policy ranks) (follow_at dir m goals (followed dir lower upper) s (slice_index policy s))
+  follow_tells dir i =
+      side_tells dir (followed dir lower upper) (policy_check dir m (followed dir lower upper) s (slice_index policy s) ∷ []) (λ h. covering_says IsProbability (other dir) lower upper s h)
+      (λ h. covering_says (λ x. x ≡ 1ℚ) (other dir) lower upper s h)
+      (λ g.
+      tells_one (Refutes dir m goals lower upper policy ranks) (policy_check dir m (followed dir lower upper) s (slice_index policy s))
+      (λ wrong says.
+      refuted (IsRowBound (other dir) m (followed dir lower upper) s (slice_index policy s)) _
+      (λ h w. of_stands_at m known (followed dir lower upper) (other dir) s (slice_index policy s) l i (stands_of_bound (other dir) _ _ h) w) wrong (says l g refl)))
+
+  -- ---- the ranks
+
+  lower_nonneg : (dir : Dir) → Each Holds (cover_at dir m goals (covering dir lower upper) s) → Each Holds (follow_at dir m goals (followed dir lower upper) s (slice_index policy s))
+      → 0ℚ ≤ℚ value_at lower s
+  lower_nonneg Max covers follows = le_of_test 0ℚ (value_at lower s) (Some_same _ _ follows.0)
+  lower_nonneg Min covers follows = le_of_test 0ℚ (value_at lower s) (Some_same _ _ covers.0)
+
+  falls_tell : (dir : Dir) → is_marked goals s ≡ false → 0ℚ <ℚ value_at lower s
+      → Tells (Refutes dir m goals lower upper policy ranks) (fall_checks dir m lower ranks s (slice_index policy s))
+  falls_tell Max g p =
+      tells_one (Refutes Max m goals lower upper policy ranks) (fall_check Max m lower ranks s (slice_index policy s))
+      (λ wrong says.
+      refuted (LeadsOn Max m lower ranks s (slice_index policy s)) _ (λ h w. ap Some (falls_max m lower ranks s (slice_index policy s) h)) wrong (says l g p refl))
+  falls_tell Min g p =
+      tells_map (Refutes Min m goals lower upper policy ranks) (fall_check Min m lower ranks s) (length (choices_at m s))
+      (λ c i wrong says. refuted (LeadsOn Min m lower ranks s c) _ (λ h w. ap Some (falls_min m lower ranks s c h)) wrong (says l g p i))
+
+  ranks_tell : (dir : Dir) → 0ℚ ≤ℚ value_at lower s → Tells (Refutes dir m goals lower upper policy ranks) (rank_checks dir m goals lower ranks s (slice_index policy s))
+  ranks_tell dir nonneg =
+      tells_if (Refutes dir m goals lower upper policy ranks) (ends goals lower s) (rank_check ranks s ∷ []) (fall_checks dir m lower ranks s (slice_index policy s))
+      (λ e.
+      tells_one (Refutes dir m goals lower upper policy ranks) (rank_check ranks s)
+      (λ wrong says. refuted (slice_index ranks s ≡ 0) _ (λ h w. ap Some (eq-eqb (slice_index ranks s) 0 h)) wrong (says l (end_of goals lower s nonneg e))))
+      (λ e. falls_tell dir (or-left_false (is_marked goals s) _ e) (lt_of_test 0ℚ (value_at lower s) (above (lt_ℚ 0ℚ (value_at lower s)) (or-right_false (is_marked goals s) _ e))))
+    where
+      above : (b : Bool) → not b ≡ false → b ≡ true
+      above true e = refl
+      above false e = absurd (true≢false e)
+
+  -- ---- all rules at a state
+
+  state_tells : (dir : Dir) → Tells (Refutes dir m goals lower upper policy ranks) (bounds_at dir m goals lower upper ranks s (slice_index policy s))
+  state_tells dir =
+      let cover : List Check = cover_at dir m goals (covering dir lower upper) s in
+      let follow : List Check = follow_at dir m goals (followed dir lower upper) s (slice_index policy s) in
+      let rank : List Check = rank_checks dir m goals lower ranks s (slice_index policy s) in
+      tells_first (Refutes dir m goals lower upper policy ranks) (choice_exists m s (slice_index policy s)) (cover ++ (follow ++ rank))
+      (λ wrong says. refuted (IsChoice m s (slice_index policy s)) _ (λ i w. ap Some (lt-ltb (slice_index policy s) (length (choices_at m s)) i)) wrong (says l refl))
+      (λ takes.
+      tells_append (Refutes dir m goals lower upper policy ranks) cover (follow ++ rank) (cover_tells dir)
+      (λ covers.
+      tells_append (Refutes dir m goals lower upper policy ranks) follow rank (follow_tells dir (ltb-true (slice_index policy s) (length (choices_at m s)) (Some_same _ _ takes)))
+      (λ follows. ranks_tell dir (lower_nonneg dir covers follows))))
+
+pub reach_refuted : (dir : Dir) (m : Mdp) (goals : List Bool) (lower upper : List ℚ) (policy ranks : List ℕ) (fault : Fault) → IsMdp m
+    → verdict_of (bounds_checks dir m goals lower upper policy ranks) ≡ No fault → ReachSays dir m goals lower upper policy ranks fault.rule fault.state fault.choice → ⊥
+reach_refuted dir m goals lower upper policy ranks fault known =
+    tells_flat (Refutes dir m goals lower upper policy ranks) (λ s. bounds_at dir m goals lower upper ranks s (slice_index policy s)) (states_of m)
+    (λ s l. state_tells m known goals lower upper policy ranks s l dir) fault
