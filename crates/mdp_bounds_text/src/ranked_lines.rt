@@ -47,14 +47,15 @@ impl<V: Value> Entry for RankedEntry<V> {
 }
 
 /// The lists of a certificate with ranks, one of each per state.
-pub(crate) struct RankedLists<'a, V> {
+#[derive(Drop)]
+pub(crate) struct RankedSlices<'a, V> {
     pub lower: &'a [V],
     pub upper: &'a [V],
     pub choices: &'a [u32],
     pub ranks: &'a [u32],
 }
 
-impl<V: Value> Lists for RankedLists<'_, V> {
+impl<V: Value> Lists for RankedSlices<'_, V> {
     type Item = RankedEntry<V>;
 
     ghost entries = { λ c. ranked_of c.lower.now c.upper.now c.choices.now c.ranks.now };
