@@ -152,9 +152,19 @@ gains-itself : (x : GainsEntry) → (eq_ℚ x.lower x.lower && eq_ℚ x.upper x.
 gains-itself x = rw (itself-ℚ x.lower, itself-ℚ x.upper, itself-ℚ x.bound, itself-ℚ x.bias, number-itself x.choice) refl
 
 gains-free : (c : ℕ) (x : GainsEntry) → c < 45 → IsGainsInWidth x → AllFree c (gains-words x)
-gains-free c x lt h =
-    (free-spelling c x.lower lt h.lower, (free-spelling c x.upper lt h.upper, (free-spelling c x.bound lt h.bound, (free-spelling c x.bias lt h.bias,
-    (free-whole c x.choice (omega arith) h.choice, tt)))))
+gains-free c x lt h = (
+  free-spelling c x.lower lt h.lower,
+  (
+    free-spelling c x.upper lt h.upper,
+    (
+      free-spelling c x.bound lt h.bound,
+      (
+        free-spelling c x.bias lt h.bias,
+        (free-whole c x.choice (omega arith) h.choice, tt),
+      ),
+    ),
+  ),
+)
 
 pub gains-is_columns : IsColumns gains_columns IsGainsInWidth
 gains-is_columns = record {

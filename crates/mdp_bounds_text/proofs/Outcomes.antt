@@ -6,12 +6,17 @@ use Rattle.mdp_text.specs.declared.error.Refusal.{Refusal}
 use Rattle.mdp_text.specs.Lines.{◌>>=◌, is_line, Place, place, line_by, nothing_behind}
 use Rattle.mdp_text.specs.Spelling.{line}
 use Rattle.mdp_text.proofs.Feeds.{bind_ok, ok-is, judged-found, judged-again, due-line, due-again}
-use Rattle.mdp_cert.specs.Cert.{PlainClaim, upper, reach, reward, mean, witness}
+use Rattle.mdp_num.specs.Value.{IsNarrow}
+use Rattle.mdp_cert.specs.Cert.{PlainClaim, upper, reach, reward, mean, witness, IsValueNarrow}
+use Rattle.mdp_cert.specs.Claims.{fraction_value, reward_value}
+use Rattle.mdp_cert.proofs.Columns.{fraction-is_value, reward-is_value, same-words}
 use Rattle.mdp_cert.proofs.Parts.{nothing-found}
+use Rattle.mdp_bounds_text.specs.Entries.{ranked_columns, IsRankedInWidth, gains_columns, IsGainsInWidth}
+use Rattle.mdp_bounds_text.proofs.Columns.{ranked-is_columns, gains-is_columns}
 use Rattle.mdp_bounds_text.specs.Cert.{PlainBounds, Certificate, is_of_bounds, is_body_of, Fits}
 use Rattle.mdp_bounds_text.specs.Spelling.{version_text, body_text, text_of}
 use Rattle.mdp_bounds_text.specs.Reading.{Head, head_from, body_from, outcome}
-use Rattle.mdp_bounds_text.specs.Laws.{IsReadFromText, IsReadBack, IsOneText}
+use Rattle.mdp_bounds_text.specs.Laws.{IsReadFromText, IsReadBack, IsOneText, AreSameWords}
 use Rattle.mdp_bounds_text.proofs.Heads.{right-claim, IsHead, lines-of-head, head-found, head-again}
 use Rattle.mdp_bounds_text.proofs.Bodies.{FitsBody, body-found, body-again}
 
@@ -91,3 +96,10 @@ read-back c fits = cert-again c fits
 
 pub one-text : IsOneText
 one-text c d p q e = ok-is c d (sym (cert-again c p) ∙ ap outcome e ∙ cert-again d q)
+
+pub are-same-words : AreSameWords
+are-same-words = record {
+  probabilities = same-words (ranked_columns fraction_value) (IsRankedInWidth IsNarrow) (ranked-is_columns fraction_value IsNarrow fraction-is_value);
+  rewards = same-words (ranked_columns reward_value) (IsRankedInWidth IsValueNarrow) (ranked-is_columns reward_value IsValueNarrow reward-is_value);
+  gains = same-words gains_columns IsGainsInWidth gains-is_columns;
+}

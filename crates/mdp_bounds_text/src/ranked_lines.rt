@@ -72,20 +72,14 @@ impl<V: Value> Lists for RankedSlices<'_, V> {
 }
 
 /// The lower values of these entries.
-fn lower_of<V: Copy + Drop>(
-    alloc: Global,
-    entries: &[RankedEntry<V>],
-) -> Result<Vec<V>, AllocError>
+fn lower_of<V: Copy + Drop>(alloc: Global, entries: &[RankedEntry<V>]) -> Result<Vec<V>, AllocError>
     ensures { IfOk result (λ v. v.items ≡ map (λ x. x.lower) entries.now) }
 {
     entries.iter().map(|entry| entry.lower).collect(alloc)
 }
 
 /// The upper values of these entries.
-fn upper_of<V: Copy + Drop>(
-    alloc: Global,
-    entries: &[RankedEntry<V>],
-) -> Result<Vec<V>, AllocError>
+fn upper_of<V: Copy + Drop>(alloc: Global, entries: &[RankedEntry<V>]) -> Result<Vec<V>, AllocError>
     ensures { IfOk result (λ v. v.items ≡ map (λ x. x.upper) entries.now) }
 {
     entries.iter().map(|entry| entry.upper).collect(alloc)
