@@ -83,9 +83,6 @@ may-allowed claim (Some x) h = tt
 value-found : (infinite : Bool) (n : ℕ) (w : List ℕ) (v : Option ℚ) → init_value_at infinite n w ≡ Ok v → (w ≡ reward_text v) × IsValueNarrow v × IsAllowed infinite v
 value-found infinite n w v e = parse-found infinite w v (found_ok (init_parse infinite w) Number n v e)
 
-value-again : (infinite : Bool) (n : ℕ) (v : Option ℚ) → IsValueNarrow v → IsAllowed infinite v → init_value_at infinite n (reward_text v) ≡ Ok v
-value-again infinite n v h allowed = rw (parse-again infinite v h allowed) refl
-
 abbrev init-inside : ℕ → ℕ → ℕ → Option ℚ → Option ℚ → Result BoundsInit Refusal
 init-inside states n state lower upper = refuse_if Count n (not (ltb state states)) >>= λ inside. Ok (Between state lower upper)
 
@@ -162,7 +159,7 @@ between-again infinite states n state lower upper lt limit l u p q =
     let ws : words_behind (codes "init") 3 n (init_text (Between state lower upper)) ≡ Ok (decimal state ∷ reward_text lower ∷ reward_text upper ∷ []) =
     behind-again (codes "init") 3 n (decimal state ∷ reward_text lower ∷ reward_text upper ∷ []) refl refl
     (free-whole 32 state (omega arith) small, (free-reward 32 lower (omega arith) l, (free-reward 32 upper (omega arith) u, tt))) in
-    rw (ws, whole-again n state small, value-again infinite n lower l p, value-again infinite n upper u q, inside) refl
+    rw (ws, whole-again n state small, parse-again infinite lower l p, parse-again infinite upper u q, inside) refl
 
 init-again : (claim : PlainClaim) (states n : ℕ) (init : BoundsInit) → states ≤ 2 ^ 20 → IsInit claim states init → init_at (may_be_infinite claim) states n (init_text init) ≡ Ok init
 unfolding init_at
@@ -226,23 +223,24 @@ head-found p h q e =
       is = record { some = states.1; limit = states.2; claim = claim.1; inside = init.1.inside; width = init.1.width };
     })
   where
-    joined : (a b c d t u v a' t' v' : List ℕ) → a ≡ line t ++ b → b ≡ line u ++ c → c ≡ line v ++ d → t ≡ a' → u ≡ t' → v ≡ v' → a ≡ (line a' ++ (line t' ++ line v')) ++ d
-    joined a b c d t u v a' t' v' p q r x y z =
-        rw (p, q, r, x, y, z) (sym (append_assoc (line a') (line t' ++ line v') d ∙ ap (λ (w : List ℕ). line a' ++ w) (append_assoc (line t') (line v') d)))
+    joined : (a b c d t u v x y z : List ℕ) → a ≡ line t ++ b → b ≡ line u ++ c → c ≡ line v ++ d → t ≡ x → u ≡ y → v ≡ z → a ≡ (line x ++ (line y ++ line z)) ++ d
+    joined a b c d t u v x y z p q r i j k =
+        rw (p, q, r, i, j, k) (sym (append_assoc (line x) (line y ++ line z) d ∙ ap (λ (w : List ℕ). line x ++ w) (append_assoc (line y) (line z) d)))
 
 pub head-again : (n : ℕ) (h : Head) (rest : List ℕ) → IsHead h → head_from (place n (lines-of-head h ++ rest)) ≡ Ok (h, place (n + 1 + 1 + 1) rest)
 unfolding head_from
 head-again n h rest ok =
     let is : IsInit h.claim h.states h.init = record { inside = ok.inside; width = ok.width } in
+    let i : List ℕ = line (init_text h.init) ++ rest in
     rw (
       append_assoc (line (claim_text h.claim)) (line (states_text h.states) ++ line (init_text h.init)) rest,
       append_assoc (line (states_text h.states)) (line (init_text h.init)) rest,
     ) (
     ap (λ (r : Result (PlainClaim × Place) Refusal). r >>= head-states)
-    (judged-again bounds_claim_at n (claim_text h.claim) (line (states_text h.states) ++ (line (init_text h.init) ++ rest)) h.claim (free-claim h.claim ok.claim.right)
+    (judged-again bounds_claim_at n (claim_text h.claim) (line (states_text h.states) ++ i) h.claim (free-claim h.claim ok.claim.right)
     (bounds-claim-again n h.claim ok.claim))
     ∙ ap (λ (r : Result (ℕ × Place) Refusal). r >>= head-init h.claim)
-    (judged-again states_at (n + 1) (states_text h.states) (line (init_text h.init) ++ rest) h.states (free-states h.states ok.limit)
+    (judged-again states_at (n + 1) (states_text h.states) i h.states (free-states h.states ok.limit)
     (states-again (n + 1) h.states ok.some ok.limit))
     ∙ ap (λ (r : Result (BoundsInit × Place) Refusal). r >>= head-end h.claim h.states)
     (judged-again (init_at (may_be_infinite h.claim) h.states) (n + 1 + 1) (init_text h.init) rest h.init (free-init h.claim h.states h.init ok.limit is)
