@@ -47,22 +47,22 @@ same-words k IsInWidth is x y p q =
 
 -- ---- numbers
 
-and_then-some : {A B : Type 0} (f : A → Option B) (o : Option A) (y : B) → option_and_then f o ≡ Some y → (x : A) × (o ≡ Some x) × (f x ≡ Some y)
+pub and_then-some : {A B : Type 0} (f : A → Option B) (o : Option A) (y : B) → option_and_then f o ≡ Some y → (x : A) × (o ≡ Some x) × (f x ≡ Some y)
 and_then-some f None y e = absurd cc
 and_then-some f (Some x) y e = (x, refl, e)
 
-whole-of-found : (w : List ℕ) (m : ℕ) → whole_of w ≡ Some m → (w ≡ decimal m) × (m < 2 ^ 32)
+pub whole-of-found : (w : List ℕ) (m : ℕ) → whole_of w ≡ Some m → (w ≡ decimal m) × (m < 2 ^ 32)
 unfolding whole_at
 whole-of-found w m e = whole-found 0 w m (rw e refl)
 
-whole-of-again : (m : ℕ) → m < 2 ^ 32 → whole_of (decimal m) ≡ Some m
+pub whole-of-again : (m : ℕ) → m < 2 ^ 32 → whole_of (decimal m) ≡ Some m
 unfolding whole_at
 whole-of-again m lt = found_ok (whole_of (decimal m)) Number 0 m (whole-again 0 m lt)
 
-same-ℚ : (x y : ℚ) → eq_ℚ x y ≡ true → x ≡ y
+pub same-ℚ : (x y : ℚ) → eq_ℚ x y ≡ true → x ≡ y
 same-ℚ x y e = (equal_decides x y).0 e
 
-itself-ℚ : (x : ℚ) → eq_ℚ x x ≡ true
+pub itself-ℚ : (x : ℚ) → eq_ℚ x x ≡ true
 itself-ℚ x = (equal_decides x x).1 refl
 
 -- ---- values of one word
@@ -148,10 +148,10 @@ bound-is_columns = record {
 
 -- ---- a value, a choice and a rank
 
-number-same : (a b : ℕ) → eqb a b ≡ true → a ≡ b
+pub number-same : (a b : ℕ) → eqb a b ≡ true → a ≡ b
 number-same a b e = grind (arith, nat_tests)
 
-number-itself : (a : ℕ) → eqb a a ≡ true
+pub number-itself : (a : ℕ) → eqb a a ≡ true
 number-itself a = grind (arith, nat_tests)
 
 module _ {V : Type 0} (k : Value V) (IsInWidth : V → Type 0) (is : IsValue k IsInWidth) where

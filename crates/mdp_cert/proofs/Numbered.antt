@@ -70,11 +70,11 @@ two-words (w ∷ v ∷ []) e = refl
 two-words (w ∷ v ∷ u ∷ ws) e = absurd (omega arith)
 
 -- an infinite value stands only where there are some
-abbrev IsAllowed : Bool → Option ℚ → Type 0
+abbrev pub IsAllowed : Bool → Option ℚ → Type 0
 IsAllowed infinite None = infinite ≡ true
 IsAllowed infinite (Some x) = Unit {0}
 
-parse-found : (infinite : Bool) (w : List ℕ) (v : Option ℚ) → init_parse infinite w ≡ Some v → (w ≡ reward_text v) × IsValueNarrow v × IsAllowed infinite v
+pub parse-found : (infinite : Bool) (w : List ℕ) (v : Option ℚ) → init_parse infinite w ≡ Some v → (w ≡ reward_text v) × IsValueNarrow v × IsAllowed infinite v
 parse-found true w v e = let f = reward-found w v e in (f.0, f.1, allowed v)
   where
     allowed : (x : Option ℚ) → IsAllowed true x
@@ -89,7 +89,7 @@ parse-found false w v e = by (canonical_of w) refl e
         let s = sound w x f in
         subst (λ (y : Option ℚ). (w ≡ reward_text y) × IsValueNarrow y × IsAllowed false y) is (s.0, s.1, tt)
 
-parse-again : (infinite : Bool) (v : Option ℚ) → IsValueNarrow v → IsAllowed infinite v → init_parse infinite (reward_text v) ≡ Some v
+pub parse-again : (infinite : Bool) (v : Option ℚ) → IsValueNarrow v → IsAllowed infinite v → init_parse infinite (reward_text v) ≡ Some v
 parse-again true v h allowed = reward-again v h
 parse-again false None h allowed = absurd cc
 parse-again false (Some x) h allowed = ap (option_map Some) (complete x h)
@@ -143,7 +143,7 @@ given-again infinite states n state v inside limit narrow allowed =
     rw (ws, whole-again n state small, parse-again infinite v narrow allowed, inside) refl
 
 -- it isn't `init -`
-given-other : (state : ℕ) (rest : List ℕ) → state < 2 ^ 32 → bytes_eq (codes "init" ␣ decimal state ␣ rest) (codes "init -") ≡ false
+pub given-other : (state : ℕ) (rest : List ℕ) → state < 2 ^ 32 → bytes_eq (codes "init" ␣ decimal state ␣ rest) (codes "init -") ≡ false
 given-other state rest small = other (decimal state) (free-whole 45 state (omega arith) small) (decimal-some state small)
   where
     other : (ds : List ℕ) → Free 45 ds → 0 < length ds → bytes_eq (codes "init" ␣ ds ␣ rest) (codes "init -") ≡ false

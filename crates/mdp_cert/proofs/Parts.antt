@@ -118,11 +118,11 @@ pub record FoundBody (v : Version) (claim : PlainClaim) (states : ℕ) (p : Plac
   pub text : p.rest ≡ body_text v b ++ q.rest
   pub fits : FitsBody claim states b
 
-each-all : {A : Type 0} (P : A → Type 0) (xs : List A) → Each P xs → All P xs
+pub each-all : {A : Type 0} (P : A → Type 0) (xs : List A) → Each P xs → All P xs
 each-all P [] h = λ i d lt. absurd (omega arith)
 each-all P (x ∷ xs) h = All-cons P x xs h.0 (each-all P xs h.1)
 
-all-each : {A : Type 0} (P : A → Type 0) (xs : List A) → All P xs → Each P xs
+pub all-each : {A : Type 0} (P : A → Type 0) (xs : List A) → All P xs → Each P xs
 all-each P [] h = tt
 all-each P (x ∷ xs) h = (h 0 x (omega arith), all-each P xs (λ i d lt. h (suc i) d (omega arith)))
 
@@ -183,10 +183,10 @@ module _ {V : Type 0} (k : Value V) (IsInWidth : V → Type 0) (is : IsValue k I
 
 -- ---- the lines of mean payoffs
 
-free-spread : (k : ℚ) → IsNarrow k → Free 10 (spread_text k)
+pub free-spread : (k : ℚ) → IsNarrow k → Free 10 (spread_text k)
 free-spread k h = free-join 10 (codes "spread" ∷ spelling k ∷ []) refl (refl, (free-spelling 10 k (omega arith) h, tt))
 
-spread-found : (n : ℕ) (text : List ℕ) (k : ℚ) → spread_at n text ≡ Ok k → (text ≡ spread_text k) × IsNarrow k
+pub spread-found : (n : ℕ) (text : List ℕ) (k : ℚ) → spread_at n text ≡ Ok k → (text ≡ spread_text k) × IsNarrow k
 unfolding spread_at
 spread-found n text k e =
     let one = bind_ok (words_behind (codes "spread") 1 n text) (λ behind. frac_at n (first_of behind)) k e in
@@ -194,7 +194,7 @@ spread-found n text k e =
     let t = behind-text (codes "spread") 1 n text one.0 one.1 in
     (t.0 ∙ ap (λ (ws : List (List ℕ)). join_with_byte 32 (codes "spread" ∷ ws)) (one-word one.0 t.1) ∙ ap (λ (w : List ℕ). codes "spread" ␣ w) f.0, f.1)
 
-spread-again : (n : ℕ) (k : ℚ) → IsNarrow k → spread_at n (spread_text k) ≡ Ok k
+pub spread-again : (n : ℕ) (k : ℚ) → IsNarrow k → spread_at n (spread_text k) ≡ Ok k
 unfolding spread_at
 spread-again n k h =
     let ws : words_behind (codes "spread") 1 n (spread_text k) ≡ Ok (spelling k ∷ []) = behind-again (codes "spread") 1 n (spelling k ∷ []) refl refl (free-spelling 32 k (omega arith) h, tt) in
@@ -454,7 +454,7 @@ none-is : (xs : List ℕ) → ltb 0 (length xs) ≡ false → xs ≡ []
 none-is [] h = refl
 none-is (x ∷ xs) h = absurd (both_ways _ h (lt-ltb 0 (length (x ∷ xs)) (omega arith)))
 
-nothing-found : (p : Place) (u : Unit {0}) → nothing_behind p ≡ Ok u → p.rest ≡ []
+pub nothing-found : (p : Place) (u : Unit {0}) → nothing_behind p ≡ Ok u → p.rest ≡ []
 unfolding nothing_behind
 nothing-found p u e = none-is p.rest (refuse_ok _ End p.line u e)
 

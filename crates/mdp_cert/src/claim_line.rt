@@ -212,7 +212,7 @@ fn claim_of(alloc: Global, text: &[u8]) -> Result<Option<Claim>, AllocError>
 
 /// The claim of this line.
 #[tactic(auto, unfolding(crate::specs::Reading::claim_at))]
-pub(crate) fn claim_at(alloc: Global, line: u64, text: &[u8]) -> Result<Claim, CertError>
+pub fn claim_at(alloc: Global, line: u64, text: &[u8]) -> Result<Claim, CertError>
     ensures { MatchResult result (λ c. claim_at line text.now ≡ Ok (plain_claim c)) (λ e. Refuses e (claim_at line text.now)) }
 {
     match claim_of(alloc, text)? {

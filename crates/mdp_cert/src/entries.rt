@@ -8,7 +8,7 @@ use mdp_num::Memory;
 
 /// What the words behind a state's number say. A claim with a line for each state gives one: how many words there are, how they are read and
 /// how they are spelled.
-pub(crate) trait Entry: Copy + Drop {
+pub trait Entry: Copy + Drop {
     ghost columns: { Columns Self };
 
     /// How many words stand behind the numbers of states.
@@ -32,7 +32,7 @@ pub(crate) trait Entry: Copy + Drop {
 }
 
 /// The lists in which the body of a claim keeps the entries of its states.
-pub(crate) trait Lists {
+pub trait Lists {
     type Item: Entry;
 
     ghost entries: { Self → List Self.Item };

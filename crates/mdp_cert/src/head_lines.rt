@@ -31,7 +31,7 @@ pub(crate) fn version_at(line: u64, text: &[u8]) -> Result<Version, Refusal>
 }
 
 /// Whether the values of a claim may be infinite.
-fn may_be_infinite(claim: &Claim) -> bool
+pub fn may_be_infinite(claim: &Claim) -> bool
     ensures { result ≡ may_be_infinite (plain_claim claim.now) }
 {
     matches!(claim, Claim::Reward { .. })

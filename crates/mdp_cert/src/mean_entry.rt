@@ -2,7 +2,7 @@ use mdp_num::Frac;
 
 /// What the line of a state says for the claim `DIR mean`: its gain, its bound and bias, and the policy's choice.
 #[derive(Clone, Copy)]
-pub(crate) struct MeanEntry {
+pub struct MeanEntry {
     pub gain: Frac,
     pub bound: Frac,
     pub bias: Frac,

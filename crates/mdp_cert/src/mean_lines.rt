@@ -110,7 +110,7 @@ pub(crate) fn mean_cert(
 
 /// The spread of the line `spread K`.
 #[tactic(auto, unfolding(crate::specs::Reading::spread_at))]
-pub(crate) fn spread_at(line: u64, text: &[u8]) -> Result<Frac, Refusal>
+pub fn spread_at(line: u64, text: &[u8]) -> Result<Frac, Refusal>
     ensures { result ≡ spread_at line text.now }
 {
     let word = words_behind(line, text, b"spread", 1)?;

@@ -103,7 +103,7 @@ fn push_threshold(
 }
 
 /// Appends the line of the claim.
-pub(crate) fn push_claim(out: &mut Vec<u8>, claim: &Claim) -> Result<(), Memory>
+pub fn push_claim(out: &mut Vec<u8>, claim: &Claim) -> Result<(), Memory>
     ensures text { OnOk result (out.new.items ≡ out.old.items ++ line (claim_text (plain_claim claim.now))) }
     ensures front { Keeps out.old.items out.new.items }
 {
@@ -123,7 +123,7 @@ pub(crate) fn push_claim(out: &mut Vec<u8>, claim: &Claim) -> Result<(), Memory>
 }
 
 /// Appends the line of the spread.
-pub(crate) fn push_spread(out: &mut Vec<u8>, spread: &Frac) -> Result<(), Memory>
+pub fn push_spread(out: &mut Vec<u8>, spread: &Frac) -> Result<(), Memory>
     ensures text { OnOk result (out.new.items ≡ out.old.items ++ line (spread_text spread.now)) }
     ensures front { Keeps out.old.items out.new.items }
 {

@@ -167,7 +167,7 @@ fn entries_from<E: Entry>(
 
 /// Reads the lines of the states and the line `end`, and gives the entries, the number of the line behind it and the bytes from there on.
 #[tactic(auto, unfolding(crate::specs::Reading::entries_to_end))]
-pub(crate) fn entries_to_end<E: Entry>(
+pub fn entries_to_end<E: Entry>(
     alloc: Global,
     version: Version,
     states: u32,

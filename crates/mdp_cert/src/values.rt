@@ -6,7 +6,7 @@ use mdp_num::{Frac, Memory, read_canonical};
 use mdp_text::reward_of;
 
 /// A value that is one word of a line.
-pub(crate) trait Value: Copy + Drop {
+pub trait Value: Copy + Drop {
     ghost value: { Value Self };
 
     /// The value that a word spells.

@@ -92,7 +92,7 @@ fn push_entries<L: Lists>(
 }
 
 /// Appends the lines of the states and the line `end`.
-fn push_to_end<L: Lists>(
+pub fn push_to_end<L: Lists>(
     out: &mut Vec<u8>,
     version: Version,
     states: u32,

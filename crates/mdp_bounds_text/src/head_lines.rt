@@ -1,0 +1,105 @@
+ghost use Rattle.std.specs.Prelude.{◌≡◌, Ok, MatchResult};
+ghost use Rattle.mdp_text.specs.Answer.{Refuses};
+ghost use Rattle.mdp_text.specs.Heads.{init_parse};
+ghost use Rattle.mdp_text.specs.Lines.{place};
+ghost use Rattle.mdp_cert.specs.Cert.{plain_claim};
+ghost use Rattle.mdp_bounds_text.specs.Cert.{is_of_bounds};
+ghost use Rattle.mdp_bounds_text.specs.Code.{plain_head};
+ghost use Rattle.mdp_bounds_text.specs.Reading.{bounds_claim_at, init_value_at, between_at, init_at, head_from};
+
+use crate::head::Head;
+use crate::init::BoundsInit;
+use mdp_cert::{Claim, claim_at, may_be_infinite};
+use mdp_num::{Frac, read_canonical};
+use mdp_text::{
+    CertError, CertKind, Refusal, cut_word, next_line, only_word, refuse_if, reward_of, states_at,
+    whole_at, words_behind,
+};
+use std::alloc::Global;
+
+/// Whether the claim is one of bounds.
+fn is_of_bounds(claim: &Claim) -> bool
+    ensures { result ≡ is_of_bounds (plain_claim claim.now) }
+{
+    matches!(
+        claim,
+        Claim::Reach { .. } | Claim::Reward { .. } | Claim::Mean { .. }
+    )
+}
+
+/// The claim of this line, which is one of bounds.
+#[tactic(auto, unfolding(crate::specs::Reading::bounds_claim_at))]
+fn bounds_claim_at(alloc: Global, line: u64, text: &[u8]) -> Result<Claim, CertError>
+    ensures { MatchResult result (λ c. bounds_claim_at line text.now ≡ Ok (plain_claim c)) (λ e. Refuses e (bounds_claim_at line text.now)) }
+{
+    let claim = claim_at(alloc, line, text)?;
+    refuse_if(CertKind::Claim, line, !is_of_bounds(&claim))?;
+    Ok(claim)
+}
+
+/// The value that a word spells: a fraction, or `inf` where values may be infinite.
+fn init_parse(infinite: bool, word: &[u8]) -> Option<Option<Frac>>
+    ensures { result ≡ init_parse infinite word.now }
+{
+    if infinite {
+        return reward_of(word);
+    }
+    Some(Some(read_canonical(word)?))
+}
+
+/// The value that a word in this line spells, or `Number`.
+fn init_value_at(infinite: bool, line: u64, word: &[u8]) -> Result<Option<Frac>, Refusal>
+    ensures { result ≡ init_value_at infinite line word.now }
+{
+    init_parse(infinite, word).ok_or(Refusal {
+        kind: CertKind::Number,
+        line,
+    })
+}
+
+/// The initial state, its lower and its upper value, of the line `init S LOWER UPPER`.
+#[tactic(auto, unfolding(crate::specs::Reading::between_at))]
+fn between_at(infinite: bool, states: u32, line: u64, text: &[u8]) -> Result<BoundsInit, Refusal>
+    ensures { result ≡ between_at infinite states line text.now }
+{
+    let behind = words_behind(line, text, b"init", 3)?;
+    let (word, behind) = cut_word(behind);
+    let state = whole_at(line, word)?;
+    let (word, behind) = cut_word(behind);
+    let lower = init_value_at(infinite, line, word)?;
+    let upper = init_value_at(infinite, line, only_word(behind))?;
+    refuse_if(CertKind::Count, line, state >= states)?;
+    Ok(BoundsInit::Between(state, lower, upper))
+}
+
+/// What the line `init S LOWER UPPER` or `init -` says.
+#[tactic(auto, unfolding(crate::specs::Reading::init_at))]
+fn init_at(infinite: bool, states: u32, line: u64, text: &[u8]) -> Result<BoundsInit, Refusal>
+    ensures { result ≡ init_at infinite states line text.now }
+{
+    if text == b"init -".as_slice() {
+        return Ok(BoundsInit::Missing);
+    }
+    between_at(infinite, states, line, text)
+}
+
+/// Reads the lines 2 to 4, of claim, states and init, and gives the bytes behind them.
+#[tactic(auto, unfolding(crate::specs::Reading::head_from))]
+pub(crate) fn head_from(alloc: Global, bytes: &[u8]) -> Result<(Head, &[u8]), CertError>
+    ensures { MatchResult result (λ p. head_from (place 2 bytes.now) ≡ Ok (plain_head p.0, place 5 p.1.now)) (λ e. Refuses e (head_from (place 2 bytes.now))) }
+{
+    let (text, rest) = next_line(2, bytes)?;
+    let claim = bounds_claim_at(alloc, 2, text)?;
+    let (text, rest) = next_line(3, rest)?;
+    let states = states_at(3, text)?;
+    let (text, rest) = next_line(4, rest)?;
+    let init = init_at(may_be_infinite(&claim), states, 4, text)?;
+    Ok((
+        Head {
+            claim,
+            states,
+            init,
+        },
+        rest,
+    ))
+}

@@ -1,0 +1,155 @@
+ghost use Rattle.std.specs.Prelude.{◌≡◌, IfOk, map};
+ghost use Rattle.mdp_bounds_text.specs.Cert.{probabilities, rewards};
+ghost use Rattle.mdp_bounds_text.specs.Entries.{ranked_columns, ranked_of};
+ghost use Rattle.mdp_bounds_text.specs.Reading.{reach_body, reward_body};
+
+use crate::ranked_entry::RankedEntry;
+use mdp_bounds::{ReachBoundsCert, RewardBoundsCert};
+use mdp_cert::{Entry, Lists, Value};
+use mdp_num::{Frac, Memory};
+use mdp_text::{cut_word, only_word, push_word, whole_of};
+use std::alloc::{AllocError, Global};
+
+/// The line of a state for the claims `DIR reach` and `DIR reward`: two values, a choice and a rank.
+impl<V: Value> Entry for RankedEntry<V> {
+    ghost columns = { ranked_columns V.value };
+
+    fn width() -> u8 {
+        4
+    }
+
+    fn read(text: &[u8]) -> Option<RankedEntry<V>> {
+        let (lower, others) = cut_word(text);
+        let (upper, others) = cut_word(others);
+        let (choice, rank) = cut_word(others);
+        Some(RankedEntry {
+            lower: V::read_word(lower)?,
+            upper: V::read_word(upper)?,
+            choice: whole_of(choice)?,
+            rank: whole_of(only_word(rank))?,
+        })
+    }
+
+    fn push_words(&self, out: &mut Vec<u8>) -> Result<(), Memory> {
+        self.lower.push_word(out)?;
+        out.extend_from_slice(b" ")?;
+        self.upper.push_word(out)?;
+        push_word(out, u64::from(self.choice))?;
+        push_word(out, u64::from(self.rank))
+    }
+
+    fn is_same(&self, other: &RankedEntry<V>) -> bool {
+        self.lower.is_same_value(&other.lower)
+            && self.upper.is_same_value(&other.upper)
+            && self.choice == other.choice
+            && self.rank == other.rank
+    }
+}
+
+/// A certificate of probabilities, lent to be written.
+#[derive(Drop)]
+pub(crate) struct LentReach<'a> {
+    pub cert: &'a ReachBoundsCert,
+}
+
+impl Lists for LentReach<'_> {
+    type Item = RankedEntry<Frac>;
+
+    ghost entries = { λ c. ranked_of c.cert.now.lower.items c.cert.now.upper.items c.cert.now.choices.items c.cert.now.ranks.items };
+
+    fn entry(&self, state: u32) -> RankedEntry<Frac> {
+        let place = state as usize;
+        RankedEntry {
+            lower: self.cert.lower[place],
+            upper: self.cert.upper[place],
+            choice: self.cert.choices[place],
+            rank: self.cert.ranks[place],
+        }
+    }
+}
+
+/// A certificate of rewards, lent to be written.
+#[derive(Drop)]
+pub(crate) struct LentReward<'a> {
+    pub cert: &'a RewardBoundsCert,
+}
+
+impl Lists for LentReward<'_> {
+    type Item = RankedEntry<Option<Frac>>;
+
+    ghost entries = { λ c. ranked_of c.cert.now.lower.items c.cert.now.upper.items c.cert.now.choices.items c.cert.now.ranks.items };
+
+    fn entry(&self, state: u32) -> RankedEntry<Option<Frac>> {
+        let place = state as usize;
+        RankedEntry {
+            lower: self.cert.lower[place],
+            upper: self.cert.upper[place],
+            choice: self.cert.choices[place],
+            rank: self.cert.ranks[place],
+        }
+    }
+}
+
+/// The lower values of these entries.
+fn lower_of<V: Copy + Drop>(alloc: Global, entries: &[RankedEntry<V>]) -> Result<Vec<V>, AllocError>
+    ensures { IfOk result (λ v. v.items ≡ map (λ x. x.lower) entries.now) }
+{
+    entries.iter().map(|entry| entry.lower).collect(alloc)
+}
+
+/// The upper values of these entries.
+fn upper_of<V: Copy + Drop>(alloc: Global, entries: &[RankedEntry<V>]) -> Result<Vec<V>, AllocError>
+    ensures { IfOk result (λ v. v.items ≡ map (λ x. x.upper) entries.now) }
+{
+    entries.iter().map(|entry| entry.upper).collect(alloc)
+}
+
+/// The choices of these entries.
+fn choices_of<V: Copy + Drop>(
+    alloc: Global,
+    entries: &[RankedEntry<V>],
+) -> Result<Vec<u32>, AllocError>
+    ensures { IfOk result (λ v. v.items ≡ map (λ x. x.choice) entries.now) }
+{
+    entries.iter().map(|entry| entry.choice).collect(alloc)
+}
+
+/// The ranks of these entries.
+fn ranks_of<V: Copy + Drop>(
+    alloc: Global,
+    entries: &[RankedEntry<V>],
+) -> Result<Vec<u32>, AllocError>
+    ensures { IfOk result (λ v. v.items ≡ map (λ x. x.rank) entries.now) }
+{
+    entries.iter().map(|entry| entry.rank).collect(alloc)
+}
+
+/// The lower and the upper values, the choices and the ranks of these entries.
+pub(crate) fn reach_cert(
+    alloc: Global,
+    entries: &[RankedEntry<Frac>],
+) -> Result<ReachBoundsCert, AllocError>
+    ensures { IfOk result (λ c. probabilities c.lower.items c.upper.items c.choices.items c.ranks.items ≡ reach_body entries.now) }
+{
+    Ok(ReachBoundsCert {
+        lower: lower_of(alloc, entries)?,
+        upper: upper_of(alloc, entries)?,
+        choices: choices_of(alloc, entries)?,
+        ranks: ranks_of(alloc, entries)?,
+    })
+}
+
+/// The lower and the upper values, the choices and the ranks of these entries.
+pub(crate) fn reward_cert(
+    alloc: Global,
+    entries: &[RankedEntry<Option<Frac>>],
+) -> Result<RewardBoundsCert, AllocError>
+    ensures { IfOk result (λ c. rewards c.lower.items c.upper.items c.choices.items c.ranks.items ≡ reward_body entries.now) }
+{
+    Ok(RewardBoundsCert {
+        lower: lower_of(alloc, entries)?,
+        upper: upper_of(alloc, entries)?,
+        choices: choices_of(alloc, entries)?,
+        ranks: ranks_of(alloc, entries)?,
+    })
+}

@@ -1,0 +1,75 @@
+ghost use Rattle.std.specs.Prelude.{◌≡◌, Ok, IfOk, IfErr, MatchResult};
+ghost use Rattle.mdp_text.specs.Answer.{Refuses};
+ghost use Rattle.mdp_text.specs.Lines.{place, nothing_behind};
+ghost use Rattle.mdp_cert.specs.Cert.{plain_claim};
+ghost use Rattle.mdp_bounds_text.specs.Cert.{plain_body};
+ghost use Rattle.mdp_bounds_text.specs.Plain.{plain};
+ghost use Rattle.mdp_bounds_text.specs.Reading.{body_from, outcome};
+
+use crate::body::BoundsBody;
+use crate::cert::BoundsCert;
+use crate::gains_lines::mean_cert;
+use crate::head_lines::head_from;
+use crate::ranked_lines::{reach_cert, reward_cert};
+use mdp_cert::{Claim, Version, entries_to_end, spread_at};
+use mdp_text::{CertError, CertKind, is_line, next_line, nothing_behind};
+use std::alloc::Global;
+
+/// Reads the lines from line 5 on, by the claim, with the line `end`, and gives the number of the line behind it and the bytes from there on.
+#[tactic(auto, unfolding(crate::specs::Reading::body_from))]
+fn body_from<'a>(
+    alloc: Global,
+    claim: &Claim,
+    states: u32,
+    bytes: &'a [u8],
+) -> Result<(BoundsBody, u64, &'a [u8]), CertError>
+    ensures { let read = body_from (plain_claim claim.now) states (place 5 bytes.now) in MatchResult result (λ p. read ≡ Ok (plain_body p.0, place p.1 p.2.now)) (λ e. Refuses e read) }
+{
+    match claim {
+        Claim::Reach { .. } => {
+            let (entries, line, rest) = entries_to_end(alloc, Version::Two, states, 5, bytes)?;
+            Ok((BoundsBody::Reach(reach_cert(alloc, &entries)?), line, rest))
+        }
+        Claim::Reward { .. } => {
+            let (entries, line, rest) = entries_to_end(alloc, Version::Two, states, 5, bytes)?;
+            Ok((
+                BoundsBody::Reward(reward_cert(alloc, &entries)?),
+                line,
+                rest,
+            ))
+        }
+        Claim::Mean { .. } => {
+            let (text, rest) = next_line(5, bytes)?;
+            let spread = spread_at(5, text)?;
+            let (entries, line, rest) = entries_to_end(alloc, Version::Two, states, 6, rest)?;
+            Ok((
+                BoundsBody::Mean(mean_cert(alloc, spread, &entries)?),
+                line,
+                rest,
+            ))
+        }
+        Claim::Upper { .. } | Claim::Witness { .. } => Err(CertError::At {
+            line: 5,
+            kind: CertKind::Claim,
+        }),
+    }
+}
+
+/// Reads a certificate of bounds: the bytes are its text, or the refusal names the first line that breaks a rule.
+#[tactic(auto, unfolding(crate::specs::Reading::outcome))]
+pub fn read_bounds(alloc: Global, bytes: &[u8]) -> Result<BoundsCert, CertError>
+    ensures read { IfOk result (λ c. outcome bytes.now ≡ Ok (plain c)) }
+    ensures refused { IfErr result (λ e. Refuses e (outcome bytes.now)) }
+{
+    let (text, rest) = next_line(1, bytes)?;
+    is_line(CertKind::Version, b"mdp-bounds 1", 1, text)?;
+    let (head, rest) = head_from(alloc, rest)?;
+    let (body, line, rest) = body_from(alloc, &head.claim, head.states, rest)?;
+    nothing_behind(line, rest)?;
+    Ok(BoundsCert {
+        claim: head.claim,
+        states: head.states,
+        init: head.init,
+        body,
+    })
+}

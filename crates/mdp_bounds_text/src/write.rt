@@ -1,0 +1,118 @@
+ghost use Rattle.std.specs.Prelude.{◌≡◌, ◌++◌, ◌∷◌, OnOk, OnErr};
+ghost use Rattle.mdp_text.specs.Answer.{Keeps};
+ghost use Rattle.mdp_text.specs.Spelling.{line};
+ghost use Rattle.mdp_cert.specs.Claims.{reward_text};
+ghost use Rattle.mdp_bounds_text.specs.declared.init.BoundsInit.TheVariants.{Between};
+ghost use Rattle.mdp_bounds_text.specs.Cert.{plain_body};
+ghost use Rattle.mdp_bounds_text.specs.Plain.{plain};
+ghost use Rattle.mdp_bounds_text.specs.Spelling.{version_text, init_text, head_text, body_text, text_of};
+
+use crate::body::BoundsBody;
+use crate::cert::BoundsCert;
+use crate::gains_lines::LentMean;
+use crate::init::BoundsInit;
+use crate::ranked_lines::{LentReach, LentReward};
+use mdp_cert::{Value, Version, push_claim, push_spread, push_to_end};
+use mdp_num::{Frac, Memory};
+use mdp_text::{push_number, push_whole};
+
+/// Appends the line of the version.
+fn push_version(out: &mut Vec<u8>) -> Result<(), Memory>
+    ensures text { OnOk result (out.new.items ≡ out.old.items ++ line version_text) }
+    ensures front { Keeps out.old.items out.new.items }
+{
+    out.extend_from_slice(b"mdp-bounds 1\n")?;
+    Ok(())
+}
+
+/// Appends a blank and a value, which may be infinite.
+fn push_bound(out: &mut Vec<u8>, value: &Option<Frac>) -> Result<(), Memory>
+    ensures text { OnOk result (out.new.items ≡ out.old.items ++ (32 ∷ reward_text value.now)) }
+    ensures front { Keeps out.old.items out.new.items }
+{
+    out.extend_from_slice(b" ")?;
+    value.push_word(out)
+}
+
+/// Appends the line of a given initial state with its lower and its upper value.
+fn push_between(
+    out: &mut Vec<u8>,
+    state: u32,
+    lower: &Option<Frac>,
+    upper: &Option<Frac>,
+) -> Result<(), Memory>
+    ensures text { OnOk result (out.new.items ≡ out.old.items ++ line (init_text (Between state lower.now upper.now))) }
+    ensures front { Keeps out.old.items out.new.items }
+{
+    out.extend_from_slice(b"init ")?;
+    push_whole(out, u64::from(state))?;
+    push_bound(out, lower)?;
+    push_bound(out, upper)?;
+    out.extend_from_slice(b"\n")?;
+    Ok(())
+}
+
+/// Appends the line of the initial state.
+fn push_init(out: &mut Vec<u8>, init: &BoundsInit) -> Result<(), Memory>
+    ensures text { OnOk result (out.new.items ≡ out.old.items ++ line (init_text init.now)) }
+    ensures front { Keeps out.old.items out.new.items }
+{
+    match init {
+        BoundsInit::Missing => {
+            out.extend_from_slice(b"init -\n")?;
+            Ok(())
+        }
+        BoundsInit::Between(state, lower, upper) => push_between(out, *state, lower, upper),
+    }
+}
+
+/// Appends the lines of version, claim, states and init.
+fn push_head(out: &mut Vec<u8>, cert: &BoundsCert) -> Result<(), Memory>
+    ensures text { OnOk result (out.new.items ≡ out.old.items ++ head_text (plain cert.now)) }
+    ensures front { Keeps out.old.items out.new.items }
+{
+    push_version(out)?;
+    push_claim(out, &cert.claim)?;
+    push_number(out, u64::from(cert.states))?;
+    push_init(out, &cert.init)
+}
+
+/// Appends the lines behind the head, by the claim, with the line `end`.
+fn push_body(out: &mut Vec<u8>, cert: &BoundsCert) -> Result<(), Memory>
+    ensures text { OnOk result (out.new.items ≡ out.old.items ++ body_text (plain_body cert.now.body)) }
+    ensures front { Keeps out.old.items out.new.items }
+{
+    let states = cert.states;
+    match &cert.body {
+        BoundsBody::Reach(cert) => push_to_end(out, Version::Two, states, &LentReach { cert }),
+        BoundsBody::Reward(cert) => push_to_end(out, Version::Two, states, &LentReward { cert }),
+        BoundsBody::Mean(cert) => {
+            push_spread(out, &cert.spread)?;
+            push_to_end(out, Version::Two, states, &LentMean { cert })
+        }
+    }
+}
+
+/// Appends all lines; after `Memory` the text begins as before.
+#[tactic(auto, unfolding(crate::specs::Spelling::text_of))]
+fn push_lines(out: &mut Vec<u8>, cert: &BoundsCert) -> Result<(), Memory>
+    ensures text { OnOk result (out.new.items ≡ out.old.items ++ text_of (plain cert.now)) }
+    ensures front { Keeps out.old.items out.new.items }
+{
+    push_head(out, cert)?;
+    push_body(out, cert)
+}
+
+/// Appends the text of a certificate of bounds, with a line for each longest run of states with the same words. After `Memory` the text is as
+/// before.
+pub fn write_bounds(cert: &BoundsCert, out: &mut Vec<u8>) -> Result<(), Memory>
+    ensures text { OnOk result (out.new.items ≡ out.old.items ++ text_of (plain cert.now)) }
+    ensures unchanged { OnErr result (out.new.items ≡ out.old.items) }
+{
+    let start = out.len();
+    let answer = push_lines(out, cert);
+    if answer.is_err() {
+        out.truncate(start);
+    }
+    answer
+}
