@@ -7,6 +7,8 @@
 //! states is read and written in these cases. A body that lists lines of its own up to the line `end`, as that of a subsystem, gives a `Line` and
 //! the `Lines` that keep it instead (`Listed` in specs/Listed, `IsListed` in proofs/OneByOne); `listed` reads and writes them.
 //! docs/certificates.md has the steps one by one.
+//!
+//! What the text of certificates of bounds shares with these is public: the line of the claim, that of the spread, and the lines of states.
 #![tactic(auto)]
 
 mod body;
