@@ -19,16 +19,16 @@ use Rattle.mdp_farkas.specs.declared.rule.Rule.TheVariants.{StartReachesThreshol
 abbrev row : List Entry → Choice
 row entries = record { row = entries; rewards = [] }
 
-abbrev entry : ℕ → ℚ → Entry
+abbrev pub entry : ℕ → ℚ → Entry
 entry t p = record { target = t; prob = p }
 
-abbrev zero_ : ℚ
+abbrev pub zero_ : ℚ
 zero_ = of_int (pos 0)
 
-abbrev one : ℚ
+abbrev pub one : ℚ
 one = of_int (pos 1)
 
-abbrev three : Mdp
+abbrev pub three : Mdp
 three = record {
   names = [];
   labels = codes "init" ∷ codes "goal" ∷ [];
@@ -80,10 +80,10 @@ two_entries = refl
 abbrev paid : List Entry → ℚ → Choice
 paid entries r = record { row = entries; rewards = r ∷ [] }
 
-abbrev three_ : ℚ
+abbrev pub three_ : ℚ
 three_ = of_int (pos 3)
 
-abbrev two : Mdp
+abbrev pub two : Mdp
 two = record {
   names = codes "-" ∷ [];
   labels = codes "init" ∷ codes "goal" ∷ [];
@@ -140,14 +140,14 @@ other_body = refl
 
 -- ---- mean payoffs
 
-abbrev half : ℚ
+abbrev pub half : ℚ
 half = ratio (pos 1) 2
 
 abbrev below_half : ℚ
 below_half = ratio (negsuc 0) 2
 
 -- the states 0 and 1 lead to each other, and only the step from 0 pays: 1
-abbrev turns : Mdp
+abbrev pub turns : Mdp
 turns = record {
   names = codes "-" ∷ [];
   labels = codes "init" ∷ [];
@@ -194,7 +194,7 @@ mean_without_bound = refl
 
 -- ---- subsystems of the model of three states: state 0 alone is kept
 
-abbrev third : ℚ
+abbrev pub third : ℚ
 third = ratio (pos 1) 3
 
 -- all that comes to state 0 takes this choice of it
