@@ -1,6 +1,11 @@
 -- Certificates of bounds and their texts.
 use Rattle.std.specs.Prelude.{◌≡◌, ◌↔◌, ℕ, List, Ok}
+use Rattle.mdp_num.specs.Value.{IsNarrow}
+use Rattle.mdp_cert.specs.Cert.{IsValueNarrow}
+use Rattle.mdp_cert.specs.Claims.{fraction_value, reward_value}
+use Rattle.mdp_cert.specs.Laws.{IsSameWords}
 use Rattle.mdp_bounds_text.specs.Cert.{Certificate, Fits}
+use Rattle.mdp_bounds_text.specs.Entries.{ranked_columns, IsRankedInWidth, gains_columns, IsGainsInWidth}
 use Rattle.mdp_bounds_text.specs.Spelling.{text_of}
 use Rattle.mdp_bounds_text.specs.Reading.{outcome}
 
@@ -15,3 +20,9 @@ IsReadBack = (c : Certificate) → Fits c → outcome (text_of c) ≡ Ok c
 -- no two certificates have the same text
 abbrev pub IsOneText : Type 0
 IsOneText = (c d : Certificate) → Fits c → Fits d → text_of c ≡ text_of d → c ≡ d
+
+-- states say the same exactly where their words are the same, for each claim
+pub record AreSameWords : Type 0 where
+  pub probabilities : IsSameWords (ranked_columns fraction_value) (IsRankedInWidth IsNarrow)
+  pub rewards : IsSameWords (ranked_columns reward_value) (IsRankedInWidth IsValueNarrow)
+  pub gains : IsSameWords gains_columns IsGainsInWidth

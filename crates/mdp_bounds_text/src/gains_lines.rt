@@ -50,7 +50,8 @@ impl Entry for GainsEntry {
 }
 
 /// The lists of a certificate of mean payoffs, one of each per state.
-pub(crate) struct GainsLists<'a> {
+#[derive(Drop)]
+pub(crate) struct GainsSlices<'a> {
     pub lower: &'a [Frac],
     pub upper: &'a [Frac],
     pub bound: &'a [Frac],
@@ -58,7 +59,7 @@ pub(crate) struct GainsLists<'a> {
     pub choices: &'a [u32],
 }
 
-impl Lists for GainsLists<'_> {
+impl Lists for GainsSlices<'_> {
     type Item = GainsEntry;
 
     ghost entries = { λ c. gains_of c.lower.now c.upper.now c.bound.now c.bias.now c.choices.now };

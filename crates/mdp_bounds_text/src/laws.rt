@@ -1,9 +1,10 @@
-ghost use Rattle.mdp_bounds_text.specs.Laws.{IsReadFromText, IsReadBack, IsOneText};
+ghost use Rattle.mdp_bounds_text.specs.Laws.{IsReadFromText, IsReadBack, IsOneText, AreSameWords};
 
 /// What is read is the certificate of bounds of which the bytes are the text; the text of a certificate is read back; and no two certificates have
-/// the same text.
+/// the same text. States say the same exactly where their words are the same.
 pub fn bounds_text_law()
     ensures read { IsReadFromText }
     ensures back { IsReadBack }
     ensures one { IsOneText }
+    ensures words { AreSameWords }
 {}

@@ -47,14 +47,15 @@ impl<V: Value> Entry for RankedEntry<V> {
 }
 
 /// The lists of a certificate with ranks, one of each per state.
-pub(crate) struct RankedLists<'a, V> {
+#[derive(Drop)]
+pub(crate) struct RankedSlices<'a, V> {
     pub lower: &'a [V],
     pub upper: &'a [V],
     pub choices: &'a [u32],
     pub ranks: &'a [u32],
 }
 
-impl<V: Value> Lists for RankedLists<'_, V> {
+impl<V: Value> Lists for RankedSlices<'_, V> {
     type Item = RankedEntry<V>;
 
     ghost entries = { λ c. ranked_of c.lower.now c.upper.now c.choices.now c.ranks.now };
@@ -71,20 +72,14 @@ impl<V: Value> Lists for RankedLists<'_, V> {
 }
 
 /// The lower values of these entries.
-fn lower_of<V: Copy + Drop>(
-    alloc: Global,
-    entries: &[RankedEntry<V>],
-) -> Result<Vec<V>, AllocError>
+fn lower_of<V: Copy + Drop>(alloc: Global, entries: &[RankedEntry<V>]) -> Result<Vec<V>, AllocError>
     ensures { IfOk result (λ v. v.items ≡ map (λ x. x.lower) entries.now) }
 {
     entries.iter().map(|entry| entry.lower).collect(alloc)
 }
 
 /// The upper values of these entries.
-fn upper_of<V: Copy + Drop>(
-    alloc: Global,
-    entries: &[RankedEntry<V>],
-) -> Result<Vec<V>, AllocError>
+fn upper_of<V: Copy + Drop>(alloc: Global, entries: &[RankedEntry<V>]) -> Result<Vec<V>, AllocError>
     ensures { IfOk result (λ v. v.items ≡ map (λ x. x.upper) entries.now) }
 {
     entries.iter().map(|entry| entry.upper).collect(alloc)

@@ -28,11 +28,7 @@ fn body_from<'a>(
     match claim {
         Claim::Reach { .. } => {
             let (entries, line, rest) = entries_to_end(alloc, Version::Two, states, 5, bytes)?;
-            Ok((
-                BoundsBody::Reach(reach_cert(alloc, &entries)?),
-                line,
-                rest,
-            ))
+            Ok((BoundsBody::Reach(reach_cert(alloc, &entries)?), line, rest))
         }
         Claim::Reward { .. } => {
             let (entries, line, rest) = entries_to_end(alloc, Version::Two, states, 5, bytes)?;

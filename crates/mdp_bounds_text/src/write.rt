@@ -9,9 +9,9 @@ ghost use Rattle.mdp_bounds_text.specs.Spelling.{version_text, init_text, head_t
 
 use crate::body::BoundsBody;
 use crate::cert::BoundsCert;
-use crate::gains_lines::GainsLists;
+use crate::gains_lines::GainsSlices;
 use crate::init::BoundsInit;
-use crate::ranked_lines::RankedLists;
+use crate::ranked_lines::RankedSlices;
 use mdp_cert::{Value, Version, push_claim, push_spread, push_to_end};
 use mdp_num::{Frac, Memory};
 use mdp_text::{push_number, push_whole};
@@ -84,7 +84,7 @@ fn push_body(out: &mut Vec<u8>, cert: &BoundsCert) -> Result<(), Memory>
 {
     match &cert.body {
         BoundsBody::Reach(reach) => {
-            let lists = RankedLists {
+            let lists = RankedSlices {
                 lower: &reach.lower,
                 upper: &reach.upper,
                 choices: &reach.choices,
@@ -93,7 +93,7 @@ fn push_body(out: &mut Vec<u8>, cert: &BoundsCert) -> Result<(), Memory>
             push_to_end(out, Version::Two, cert.states, &lists)
         }
         BoundsBody::Reward(reward) => {
-            let lists = RankedLists {
+            let lists = RankedSlices {
                 lower: &reward.lower,
                 upper: &reward.upper,
                 choices: &reward.choices,
@@ -103,7 +103,7 @@ fn push_body(out: &mut Vec<u8>, cert: &BoundsCert) -> Result<(), Memory>
         }
         BoundsBody::Mean(mean) => {
             push_spread(out, &mean.spread)?;
-            let lists = GainsLists {
+            let lists = GainsSlices {
                 lower: &mean.lower,
                 upper: &mean.upper,
                 bound: &mean.bound,

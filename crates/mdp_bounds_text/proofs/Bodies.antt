@@ -1,0 +1,303 @@
+-- The lines of a body are read exactly where they are the lines of what is read.
+use Rattle.std.proofs.Common.{◌≡◌, ℕ, ◌+◌, ◌<◌, ◌≤◌, ◌^◌, true, eqb, ◌&&◌, List, [], ◌∷◌, ◌++◌, length, map, Option}
+use Rattle.std.proofs.Common.{Result, Ok, refl, sym, ap, subst, ◌∙◌, append_assoc, arith}
+use Rattle.std.specs.List.{All}
+use Rattle.std.proofs.lemmas.Bool.{and_parts}
+use Rattle.std.proofs.lemmas.List.{length-map}
+use Rattle.mdp_math.specs.Rational.{ℚ}
+use Rattle.mdp_num.specs.Value.{IsNarrow}
+use Rattle.mdp_rows.specs.declared.dir.Dir.{Dir}
+use Rattle.mdp_text.specs.declared.error.Refusal.{Refusal}
+use Rattle.mdp_text.specs.Lines.{◌>>=◌, Place, place, line_by}
+use Rattle.mdp_text.specs.Spelling.{line}
+use Rattle.mdp_text.proofs.Cuts.{same-number, number-same}
+use Rattle.mdp_text.proofs.Feeds.{ok-is, bind_ok, judged-found, judged-again}
+use Rattle.mdp_cert.specs.declared.version.Version.TheVariants.{Two}
+use Rattle.mdp_cert.specs.Cert.{PlainClaim, upper, reach, reward, mean, witness, IsValueNarrow}
+use Rattle.mdp_cert.specs.Claims.{Value, fraction_value, reward_value}
+use Rattle.mdp_cert.specs.Spelling.{spread_text, closed_lines}
+use Rattle.mdp_cert.specs.Reading.{entries_to_end, spread_at}
+use Rattle.mdp_cert.proofs.Columns.{IsValue, fraction-is_value, reward-is_value}
+use Rattle.mdp_cert.proofs.Bodies.{Each, closed-found, closed-again}
+use Rattle.mdp_cert.proofs.Parts.{each-all, all-each, free-spread, spread-found, spread-again}
+use Rattle.mdp_bounds_text.specs.declared.ranked_entry.RankedEntry.{RankedEntry}
+use Rattle.mdp_bounds_text.specs.declared.gains_entry.GainsEntry.{GainsEntry}
+use Rattle.mdp_bounds_text.specs.Cert.{PlainBounds, probabilities, rewards, gains, is_body_of, IsBodyInWidth}
+use Rattle.mdp_bounds_text.specs.Entries.{ranked_columns, ranked_of, IsRankedInWidth, gains_columns, gains_of, IsGainsInWidth}
+use Rattle.mdp_bounds_text.specs.Spelling.{body_text}
+use Rattle.mdp_bounds_text.specs.Reading.{reach_body, reward_body, mean_body, body_from}
+use Rattle.mdp_bounds_text.proofs.Columns.{ranked-is_columns, gains-is_columns}
+use Rattle.mdp_bounds_text.proofs.Ranked as ranked
+use Rattle.mdp_bounds_text.proofs.Gains as gained
+
+pub record FitsBody (claim : PlainClaim) (states : ℕ) (b : PlainBounds) : Type 0 where
+  pub entries : is_body_of claim states b ≡ true
+  pub width : IsBodyInWidth b
+
+pub record FoundBody (claim : PlainClaim) (states : ℕ) (p : Place) (b : PlainBounds) (q : Place) : Type 0 where
+  pub text : p.rest ≡ body_text b ++ q.rest
+  pub fits : FitsBody claim states b
+
+-- ---- values, choices and ranks
+
+ranked-counts : {V : Type 0} (states : ℕ) (ls us : List V) (cs rs : List ℕ)
+    → (eqb (length ls) states && eqb (length us) states && eqb (length cs) states && eqb (length rs) states) ≡ true → ranked.Count states ls us cs rs
+ranked-counts states ls us cs rs e =
+    let t = and_parts (eqb (length ls) states && eqb (length us) states && eqb (length cs) states) (eqb (length rs) states) e in
+    let u = and_parts (eqb (length ls) states && eqb (length us) states) (eqb (length cs) states) t.0 in
+    let v = and_parts (eqb (length ls) states) (eqb (length us) states) u.0 in
+    record { lower = number-same _ states v.0; upper = number-same _ states v.1; choices = number-same _ states u.1; ranks = number-same _ states t.1 }
+
+module _ {V : Type 0} (k : Value V) (IsInWidth : V → Type 0) (is : IsValue k IsInWidth) (states : ℕ) (limit : states ≤ 2 ^ 20) where
+  lower-width : (xs : List (RankedEntry V)) → Each (IsRankedInWidth IsInWidth) xs → Each IsInWidth (map (λ x. x.lower) xs)
+  lower-width [] h = tt
+  lower-width (x ∷ xs) h = (h.0.lower, lower-width xs h.1)
+
+  upper-width : (xs : List (RankedEntry V)) → Each (IsRankedInWidth IsInWidth) xs → Each IsInWidth (map (λ x. x.upper) xs)
+  upper-width [] h = tt
+  upper-width (x ∷ xs) h = (h.0.upper, upper-width xs h.1)
+
+  choices-width : (xs : List (RankedEntry V)) → Each (IsRankedInWidth IsInWidth) xs → Each (λ c. c < 2 ^ 32) (map (λ x. x.choice) xs)
+  choices-width [] h = tt
+  choices-width (x ∷ xs) h = (h.0.choice, choices-width xs h.1)
+
+  ranks-width : (xs : List (RankedEntry V)) → Each (IsRankedInWidth IsInWidth) xs → Each (λ r. r < 2 ^ 32) (map (λ x. x.rank) xs)
+  ranks-width [] h = tt
+  ranks-width (x ∷ xs) h = (h.0.rank, ranks-width xs h.1)
+
+  ranked-width : (ls us : List V) (cs rs : List ℕ) → Each IsInWidth ls → Each IsInWidth us → Each (λ c. c < 2 ^ 32) cs → Each (λ r. r < 2 ^ 32) rs
+      → Each (IsRankedInWidth IsInWidth) (ranked_of ls us cs rs)
+  ranked-width (l ∷ ls) (u ∷ us) (c ∷ cs) (r ∷ rs) p q o t = (record { lower = p.0; upper = q.0; choice = o.0; rank = t.0 }, ranked-width ls us cs rs p.1 q.1 o.1 t.1)
+  ranked-width ls us cs rs p q o t = tt
+
+  -- four lists, one of each per state and in width, with their lines
+  record FoundRanked (p : Place) (ls us : List V) (cs rs : List ℕ) (q : Place) : Type 0 where
+    text : p.rest ≡ closed_lines Two (ranked_columns k) (ranked_of ls us cs rs) ++ q.rest
+    entries : (eqb (length ls) states && eqb (length us) states && eqb (length cs) states && eqb (length rs) states) ≡ true
+    width : All IsInWidth ls × All IsInWidth us × All (λ c. c < 2 ^ 32) cs × All (λ r. r < 2 ^ 32) rs
+
+  ranked-found : (p : Place) (xs : List (RankedEntry V)) (q : Place) → entries_to_end Two (ranked_columns k) states p ≡ Ok (xs, q)
+      → FoundRanked p (map (λ x. x.lower) xs) (map (λ x. x.upper) xs) (map (λ x. x.choice) xs) (map (λ x. x.rank) xs) q
+  ranked-found p xs q e =
+      let f = closed-found (ranked_columns k) (IsRankedInWidth IsInWidth) (ranked-is_columns k IsInWidth is) states limit Two p xs q e in
+      let each : (X : Type 0) (g : RankedEntry V → X) → eqb (length (map g xs)) states ≡ true = λ X g. same-number _ states (length-map xs g ∙ f.count) in
+      record {
+        text = f.text ∙ ap (λ (ys : List (RankedEntry V)). closed_lines Two (ranked_columns k) ys ++ q.rest) (sym (ranked.ranked-of xs));
+        entries = rw (each V (λ x. x.lower), each V (λ x. x.upper), each ℕ (λ x. x.choice), each ℕ (λ x. x.rank)) refl;
+        width = (
+          each-all IsInWidth _ (lower-width xs f.width),
+          each-all IsInWidth _ (upper-width xs f.width),
+          each-all (λ c. c < 2 ^ 32) _ (choices-width xs f.width),
+          each-all (λ r. r < 2 ^ 32) _ (ranks-width xs f.width),
+        );
+      }
+
+  -- the entries of four lists, and the lists of these entries
+  record AgainRanked (n : ℕ) (ls us : List V) (cs rs rest : List ℕ) : Type 0 where
+    line : ℕ
+    read : entries_to_end Two (ranked_columns k) states (place n (closed_lines Two (ranked_columns k) (ranked_of ls us cs rs) ++ rest)) ≡ Ok (ranked_of ls us cs rs, place line rest)
+    back : ranked.Back ls us cs rs
+
+  ranked-again : (n : ℕ) (ls us : List V) (cs rs rest : List ℕ) → (eqb (length ls) states && eqb (length us) states && eqb (length cs) states && eqb (length rs) states) ≡ true
+      → All IsInWidth ls × All IsInWidth us × All (λ c. c < 2 ^ 32) cs × All (λ r. r < 2 ^ 32) rs → AgainRanked n ls us cs rs rest
+  ranked-again n ls us cs rs rest ok width =
+      let l = ranked-counts states ls us cs rs ok in
+      let b = ranked.back states ls us cs rs l in
+      let r =
+      closed-again (ranked_columns k) (IsRankedInWidth IsInWidth) (ranked-is_columns k IsInWidth is) states limit Two n (ranked_of ls us cs rs) rest (b.count ∙ l.lower)
+      (ranked-width ls us cs rs (all-each IsInWidth ls width.0) (all-each IsInWidth us width.1) (all-each (λ c. c < 2 ^ 32) cs width.2) (all-each (λ r. r < 2 ^ 32) rs width.3)) in
+      record { line = r.0; read = r.1; back = b }
+
+-- ---- mean payoffs
+
+lower-gains : (xs : List GainsEntry) → Each IsGainsInWidth xs → Each IsNarrow (map (λ x. x.lower) xs)
+lower-gains [] h = tt
+lower-gains (x ∷ xs) h = (h.0.lower, lower-gains xs h.1)
+
+upper-gains : (xs : List GainsEntry) → Each IsGainsInWidth xs → Each IsNarrow (map (λ x. x.upper) xs)
+upper-gains [] h = tt
+upper-gains (x ∷ xs) h = (h.0.upper, upper-gains xs h.1)
+
+bounds-width : (xs : List GainsEntry) → Each IsGainsInWidth xs → Each IsNarrow (map (λ x. x.bound) xs)
+bounds-width [] h = tt
+bounds-width (x ∷ xs) h = (h.0.bound, bounds-width xs h.1)
+
+biases-width : (xs : List GainsEntry) → Each IsGainsInWidth xs → Each IsNarrow (map (λ x. x.bias) xs)
+biases-width [] h = tt
+biases-width (x ∷ xs) h = (h.0.bias, biases-width xs h.1)
+
+gains-choices : (xs : List GainsEntry) → Each IsGainsInWidth xs → Each (λ c. c < 2 ^ 32) (map (λ x. x.choice) xs)
+gains-choices [] h = tt
+gains-choices (x ∷ xs) h = (h.0.choice, gains-choices xs h.1)
+
+gains-width : (ls us zs bs : List ℚ) (cs : List ℕ) → Each IsNarrow ls → Each IsNarrow us → Each IsNarrow zs → Each IsNarrow bs → Each (λ c. c < 2 ^ 32) cs
+    → Each IsGainsInWidth (gains_of ls us zs bs cs)
+gains-width (l ∷ ls) (u ∷ us) (z ∷ zs) (b ∷ bs) (c ∷ cs) p q o r t =
+    (record { lower = p.0; upper = q.0; bound = o.0; bias = r.0; choice = t.0 }, gains-width ls us zs bs cs p.1 q.1 o.1 r.1 t.1)
+gains-width ls us zs bs cs p q o r t = tt
+
+gains-counts : (states : ℕ) (ls us zs bs : List ℚ) (cs : List ℕ)
+    → (eqb (length ls) states && eqb (length us) states && eqb (length zs) states && eqb (length bs) states && eqb (length cs) states) ≡ true
+    → gained.Count states ls us zs bs cs
+gains-counts states ls us zs bs cs e =
+    let t = and_parts (eqb (length ls) states && eqb (length us) states && eqb (length zs) states && eqb (length bs) states) (eqb (length cs) states) e in
+    let u = and_parts (eqb (length ls) states && eqb (length us) states && eqb (length zs) states) (eqb (length bs) states) t.0 in
+    let v = and_parts (eqb (length ls) states && eqb (length us) states) (eqb (length zs) states) u.0 in
+    let w = and_parts (eqb (length ls) states) (eqb (length us) states) v.0 in
+    record {
+      lower = number-same _ states w.0;
+      upper = number-same _ states w.1;
+      bounds = number-same _ states v.1;
+      biases = number-same _ states u.1;
+      choices = number-same _ states t.1;
+    }
+
+abbrev gains-behind : ℕ → ℚ × Place → Result (PlainBounds × Place) Refusal
+gains-behind states spread = entries_to_end Two gains_columns states spread.1 >>= λ xs. Ok (mean_body spread.0 xs.0, xs.1)
+
+mean-found : (dir : Dir) (name : List ℕ) (states : ℕ) (p : Place) (b : PlainBounds) (q : Place) → states ≤ 2 ^ 20 → body_from (mean dir name) states p ≡ Ok (b, q)
+    → FoundBody (mean dir name) states p b q
+unfolding body_from
+mean-found dir name states p b q limit e =
+    let spread = bind_ok (line_by spread_at p) (gains-behind states) (b, q) e in
+    let all = bind_ok (entries_to_end Two gains_columns states spread.0.1) (λ xs. Ok (mean_body spread.0.0 xs.0, xs.1)) (b, q) spread.2 in
+    let xs = all.0.0 in
+    let same : (let r : PlainBounds × Place = (mean_body spread.0.0 xs, all.0.1) in r) ≡ (b, q) = ok-is _ _ all.2 in
+    let j = judged-found spread_at p spread.0.0 spread.0.1 spread.1 in
+    let k = spread-found p.line j.text spread.0.0 j.said in
+    let f = closed-found gains_columns IsGainsInWidth gains-is_columns states limit Two spread.0.1 xs all.0.1 all.1 in
+    let each : (X : Type 0) (g : GainsEntry → X) → eqb (length (map g xs)) states ≡ true = λ X g. same-number _ states (length-map xs g ∙ f.count) in
+    subst (λ (r : PlainBounds × Place). FoundBody (mean dir name) states p r.0 r.1) same (record {
+      text = joined p.rest j.text (spread_text spread.0.0) spread.0.1.rest (closed_lines Two gains_columns xs) (closed_lines Two gains_columns (gains_of _ _ _ _ _)) all.0.1.rest
+          j.is.front k.0 f.text (ap (λ (ys : List GainsEntry). closed_lines Two gains_columns ys) (sym (gained.gains-of xs)));
+      fits = record {
+        entries = rw (each ℚ (λ x. x.lower), each ℚ (λ x. x.upper), each ℚ (λ x. x.bound), each ℚ (λ x. x.bias), each ℕ (λ x. x.choice)) refl;
+        width = (
+          each-all IsNarrow _ (lower-gains xs f.width),
+          each-all IsNarrow _ (upper-gains xs f.width),
+          each-all IsNarrow _ (bounds-width xs f.width),
+          each-all IsNarrow _ (biases-width xs f.width),
+          each-all (λ c. c < 2 ^ 32) _ (gains-choices xs f.width),
+          k.1,
+        );
+      };
+    })
+  where
+    joined : (a t u r c d z : List ℕ) → a ≡ line t ++ r → t ≡ u → r ≡ c ++ z → c ≡ d → a ≡ (line u ++ d) ++ z
+    joined a t u r c d z p q o e = rw (p, q, o, e) (sym (append_assoc (line u) d z))
+
+mean-again : (dir : Dir) (name : List ℕ) (states n : ℕ) (ls us zs bs : List ℚ) (cs : List ℕ) (k : ℚ) (rest : List ℕ) → states ≤ 2 ^ 20
+    → FitsBody (mean dir name) states (gains ls us zs bs cs k)
+    → (m : ℕ) × (body_from (mean dir name) states (place n (body_text (gains ls us zs bs cs k) ++ rest)) ≡ Ok (gains ls us zs bs cs k, place m rest))
+unfolding body_from
+mean-again dir name states n ls us zs bs cs k rest limit ok =
+    let l = gains-counts states ls us zs bs cs ok.entries in
+    let b = gained.back states ls us zs bs cs l in
+    let r =
+    closed-again gains_columns IsGainsInWidth gains-is_columns states limit Two (n + 1) (gains_of ls us zs bs cs) rest (b.count ∙ l.lower)
+    (gains-width ls us zs bs cs (all-each IsNarrow ls ok.width.0) (all-each IsNarrow us ok.width.1) (all-each IsNarrow zs ok.width.2) (all-each IsNarrow bs ok.width.3)
+    (all-each (λ c. c < 2 ^ 32) cs ok.width.4)) in (
+      r.0,
+      ap (λ (t : List ℕ). line_by spread_at (place n t) >>= gains-behind states) (append_assoc (line (spread_text k)) (closed_lines Two gains_columns (gains_of ls us zs bs cs)) rest)
+          ∙ ap (λ (q : Result (ℚ × Place) Refusal). q >>= gains-behind states)
+          (judged-again spread_at n (spread_text k) (closed_lines Two gains_columns (gains_of ls us zs bs cs) ++ rest) k (free-spread k ok.width.5) (spread-again n k ok.width.5))
+          ∙ ap (λ (q : Result (List GainsEntry × Place) Refusal). q >>= λ xs. let z : Result (PlainBounds × Place) Refusal = Ok (mean_body k xs.0, xs.1) in z) r.1
+          ∙ ap (λ (c : PlainBounds). let z : Result (PlainBounds × Place) Refusal = Ok (c, place r.0 rest) in z)
+          (parts _ _ _ _ _ _ _ _ _ _ b.lower b.upper b.bounds b.biases b.choices),
+    )
+  where
+    parts : (a b c d e f g h : List ℚ) (i j : List ℕ) → a ≡ b → c ≡ d → e ≡ f → g ≡ h → i ≡ j → gains a c e g i k ≡ gains b d f h j k
+    parts a b c d e f g h i j p q o r t = rw (p, q, o, r, t) refl
+
+-- ---- by the claim
+
+pub body-found : (claim : PlainClaim) (states : ℕ) (p : Place) (b : PlainBounds) (q : Place) → states ≤ 2 ^ 20 → body_from claim states p ≡ Ok (b, q) → FoundBody claim states p b q
+unfolding body_from
+body-found (upper label) states p b q limit e = absurd cc
+body-found (reach dir label) states p b q limit e =
+    let all = bind_ok (entries_to_end Two (ranked_columns fraction_value) states p) (λ xs. Ok (reach_body xs.0, xs.1)) (b, q) e in
+    let same : (let r : PlainBounds × Place = (reach_body all.0.0, all.0.1) in r) ≡ (b, q) = ok-is _ _ all.2 in
+    let f = ranked-found fraction_value IsNarrow fraction-is_value states limit p all.0.0 all.0.1 all.1 in
+    subst (λ (r : PlainBounds × Place). FoundBody (reach dir label) states p r.0 r.1) same (record { text = f.text; fits = record { entries = f.entries; width = f.width } })
+body-found (reward dir name label) states p b q limit e =
+    let all = bind_ok (entries_to_end Two (ranked_columns reward_value) states p) (λ xs. Ok (reward_body xs.0, xs.1)) (b, q) e in
+    let same : (let r : PlainBounds × Place = (reward_body all.0.0, all.0.1) in r) ≡ (b, q) = ok-is _ _ all.2 in
+    let f = ranked-found reward_value IsValueNarrow reward-is_value states limit p all.0.0 all.0.1 all.1 in
+    subst (λ (r : PlainBounds × Place). FoundBody (reward dir name label) states p r.0 r.1) same (record { text = f.text; fits = record { entries = f.entries; width = f.width } })
+body-found (mean dir name) states p b q limit e = mean-found dir name states p b q limit e
+body-found (witness dir label threshold) states p b q limit e = absurd cc
+
+abbrev reach-of : List (RankedEntry ℚ) × Place → Result (PlainBounds × Place) Refusal
+reach-of xs = Ok (reach_body xs.0, xs.1)
+
+abbrev reward-of : List (RankedEntry (Option ℚ)) × Place → Result (PlainBounds × Place) Refusal
+reward-of xs = Ok (reward_body xs.0, xs.1)
+
+-- a body that was read, which is this one
+abbrev read-as : ℕ → List ℕ → PlainBounds → Result (PlainBounds × Place) Refusal
+read-as m rest b = Ok (b, place m rest)
+
+reach-again : (states n : ℕ) (ls us : List ℚ) (cs rs rest : List ℕ) → states ≤ 2 ^ 20
+    → (eqb (length ls) states && eqb (length us) states && eqb (length cs) states && eqb (length rs) states) ≡ true → IsBodyInWidth (probabilities ls us cs rs)
+    → (m : ℕ) × ((entries_to_end Two (ranked_columns fraction_value) states (place n (body_text (probabilities ls us cs rs) ++ rest)) >>= reach-of) ≡ read-as m rest (probabilities ls us cs rs))
+reach-again states n ls us cs rs rest limit ok width =
+    let r = ranked-again fraction_value IsNarrow fraction-is_value states limit n ls us cs rs rest ok width in (
+      r.line,
+      ap (λ (q : Result (List (RankedEntry ℚ) × Place) Refusal). q >>= reach-of) r.read
+          ∙ ap (read-as r.line rest) (parts _ _ _ _ _ _ _ _ r.back.lower r.back.upper r.back.choices r.back.ranks),
+    )
+  where
+    parts : (a b c d : List ℚ) (e f g h : List ℕ) → a ≡ b → c ≡ d → e ≡ f → g ≡ h → probabilities a c e g ≡ probabilities b d f h
+    parts a b c d e f g h p q o t = rw (p, q, o, t) refl
+
+reward-again : (states n : ℕ) (ls us : List (Option ℚ)) (cs rs rest : List ℕ) → states ≤ 2 ^ 20
+    → (eqb (length ls) states && eqb (length us) states && eqb (length cs) states && eqb (length rs) states) ≡ true → IsBodyInWidth (rewards ls us cs rs)
+    → (m : ℕ) × ((entries_to_end Two (ranked_columns reward_value) states (place n (body_text (rewards ls us cs rs) ++ rest)) >>= reward-of) ≡ read-as m rest (rewards ls us cs rs))
+reward-again states n ls us cs rs rest limit ok width =
+    let r = ranked-again reward_value IsValueNarrow reward-is_value states limit n ls us cs rs rest ok width in (
+      r.line,
+      ap (λ (q : Result (List (RankedEntry (Option ℚ)) × Place) Refusal). q >>= reward-of) r.read
+          ∙ ap (read-as r.line rest) (parts _ _ _ _ _ _ _ _ r.back.lower r.back.upper r.back.choices r.back.ranks),
+    )
+  where
+    parts : (a b c d : List (Option ℚ)) (e f g h : List ℕ) → a ≡ b → c ≡ d → e ≡ f → g ≡ h → rewards a c e g ≡ rewards b d f h
+    parts a b c d e f g h p q o t = rw (p, q, o, t) refl
+
+pub body-again : (claim : PlainClaim) (states n : ℕ) (b : PlainBounds) (rest : List ℕ) → states ≤ 2 ^ 20 → FitsBody claim states b
+    → (m : ℕ) × (body_from claim states (place n (body_text b ++ rest)) ≡ Ok (b, place m rest))
+unfolding body_from
+body-again (upper label) states n b rest limit ok = absurd (let t = ok.entries in cc)
+body-again (reach dir label) states n (probabilities ls us cs rs) rest limit ok = reach-again states n ls us cs rs rest limit ok.entries ok.width
+body-again (reach dir label) states n (rewards ls us cs rs) rest limit ok = absurd (let t = ok.entries in cc)
+body-again (reach dir label) states n (gains ls us zs bs cs k) rest limit ok = absurd (let t = ok.entries in cc)
+body-again (reward dir name label) states n (probabilities ls us cs rs) rest limit ok = absurd (let t = ok.entries in cc)
+body-again (reward dir name label) states n (rewards ls us cs rs) rest limit ok = reward-again states n ls us cs rs rest limit ok.entries ok.width
+body-again (reward dir name label) states n (gains ls us zs bs cs k) rest limit ok = absurd (let t = ok.entries in cc)
+body-again (mean dir name) states n (probabilities ls us cs rs) rest limit ok = absurd (let t = ok.entries in cc)
+body-again (mean dir name) states n (rewards ls us cs rs) rest limit ok = absurd (let t = ok.entries in cc)
+body-again (mean dir name) states n (gains ls us zs bs cs k) rest limit ok = mean-again dir name states n ls us zs bs cs k rest limit ok
+body-again (witness dir label threshold) states n b rest limit ok = absurd (let t = ok.entries in cc)
+
+-- ---- as many entries as states
+
+pub reach-counts : (claim : PlainClaim) (states : ℕ) (ls us : List ℚ) (cs rs : List ℕ) → is_body_of claim states (probabilities ls us cs rs) ≡ true → ranked.Count states ls us cs rs
+reach-counts (upper label) states ls us cs rs e = absurd cc
+reach-counts (reach dir label) states ls us cs rs e = ranked-counts states ls us cs rs e
+reach-counts (reward dir name label) states ls us cs rs e = absurd cc
+reach-counts (mean dir name) states ls us cs rs e = absurd cc
+reach-counts (witness dir label threshold) states ls us cs rs e = absurd cc
+
+pub reward-counts : (claim : PlainClaim) (states : ℕ) (ls us : List (Option ℚ)) (cs rs : List ℕ) → is_body_of claim states (rewards ls us cs rs) ≡ true → ranked.Count states ls us cs rs
+reward-counts (upper label) states ls us cs rs e = absurd cc
+reward-counts (reach dir label) states ls us cs rs e = absurd cc
+reward-counts (reward dir name label) states ls us cs rs e = ranked-counts states ls us cs rs e
+reward-counts (mean dir name) states ls us cs rs e = absurd cc
+reward-counts (witness dir label threshold) states ls us cs rs e = absurd cc
+
+pub mean-counts : (claim : PlainClaim) (states : ℕ) (ls us zs bs : List ℚ) (cs : List ℕ) (k : ℚ) → is_body_of claim states (gains ls us zs bs cs k) ≡ true
+    → gained.Count states ls us zs bs cs
+mean-counts (upper label) states ls us zs bs cs k e = absurd cc
+mean-counts (reach dir label) states ls us zs bs cs k e = absurd cc
+mean-counts (reward dir name label) states ls us zs bs cs k e = absurd cc
+mean-counts (mean dir name) states ls us zs bs cs k e = gains-counts states ls us zs bs cs e
+mean-counts (witness dir label threshold) states ls us zs bs cs k e = absurd cc

@@ -1,0 +1,248 @@
+-- The lines of claim, states and init are read exactly where they are the texts of what is read.
+use Rattle.std.proofs.Common.{◌≡◌, ℕ, ◌+◌, ◌<◌, ◌≤◌, ◌^◌, Bool, true, false, not, cond, ltb, ◌&&◌, List, [], ◌∷◌, ◌++◌}
+use Rattle.std.proofs.Common.{length, drop, decimal, Option, Some, None, Result, Ok, refl, sym, ap, subst, ◌∙◌, append_assoc, arith}
+use Rattle.std.specs.Prelude.{codes}
+use Rattle.std.specs.List.{join_with_byte}
+use Rattle.std.specs.Str.{bytes_eq}
+use Rattle.std.proofs.lemmas.Bool.{not-false, and_parts}
+use Rattle.std.proofs.lemmas.Bool.Decides.{nat_tests}
+use Rattle.mdp_math.specs.Rational.{ℚ}
+use Rattle.mdp_text.specs.declared.error.CertKind.TheVariants.{Claim, Number, Count}
+use Rattle.mdp_text.specs.declared.error.Refusal.{Refusal}
+use Rattle.mdp_text.specs.Heads.{states_at, init_parse}
+use Rattle.mdp_text.specs.Lines.{◌>>=◌, refuse_if, Place, place, line_by}
+use Rattle.mdp_text.specs.Words.{first_of, words_behind, whole_at}
+use Rattle.mdp_text.specs.Spelling.{◌␣◌, line, states_text}
+use Rattle.mdp_text.proofs.Pieces.{Free}
+use Rattle.mdp_text.proofs.Cuts.{bytes_same}
+use Rattle.mdp_text.proofs.Feeds.{bind_ok, ok-is, refuse_ok, found_ok, judged-found, judged-again, whole-found, whole-again}
+use Rattle.mdp_text.proofs.Joined.{free-join, free-whole, behind-again, behind-text}
+use Rattle.mdp_text.proofs.States.{states-found, states-again, free-states}
+use Rattle.mdp_cert.specs.Cert.{PlainClaim, upper, reach, reward, mean, witness, are_names, may_be_infinite, IsValueNarrow}
+use Rattle.mdp_cert.specs.Claims.{reward_text}
+use Rattle.mdp_cert.specs.Spelling.{claim_text}
+use Rattle.mdp_cert.specs.Reading.{claim_at}
+use Rattle.mdp_cert.proofs.Columns.{free-reward}
+use Rattle.mdp_cert.proofs.Numbered.{IsAllowed, parse-found, parse-again, given-other}
+use Rattle.mdp_cert.proofs.Claims.{IsRight, claim-found, claim-again, free-claim}
+use Rattle.mdp_bounds_text.specs.declared.init.BoundsInit.{BoundsInit}
+use Rattle.mdp_bounds_text.specs.declared.init.BoundsInit.TheVariants.{Missing, Between}
+use Rattle.mdp_bounds_text.specs.Cert.{is_of_bounds, may_be, is_init_of, IsInitInWidth}
+use Rattle.mdp_bounds_text.specs.Spelling.{init_text}
+use Rattle.mdp_bounds_text.specs.Reading.{bounds_claim_at, init_value_at, between_at, init_at, Head, head_from}
+
+-- ---- the claim
+
+pub record IsBoundsClaim (c : PlainClaim) : Type 0 where
+  pub right : IsRight c
+  pub bounds : is_of_bounds c ≡ true
+
+-- names alone are to be right in a claim of bounds
+pub right-claim : (c : PlainClaim) → is_of_bounds c ≡ true → are_names c ≡ true → IsBoundsClaim c
+right-claim (upper label) b h = absurd cc
+right-claim (reach dir label) b h = record { right = record { names = h; threshold = refl; width = tt }; bounds = refl }
+right-claim (reward dir name label) b h = record { right = record { names = h; threshold = refl; width = tt }; bounds = refl }
+right-claim (mean dir name) b h = record { right = record { names = h; threshold = refl; width = tt }; bounds = refl }
+right-claim (witness dir label threshold) b h = absurd cc
+
+abbrev kept-claim : ℕ → PlainClaim → Result PlainClaim Refusal
+kept-claim n claim = refuse_if Claim n (not (is_of_bounds claim)) >>= λ bounds. Ok claim
+
+bounds-claim-found : (n : ℕ) (text : List ℕ) (c : PlainClaim) → bounds_claim_at n text ≡ Ok c → (text ≡ claim_text c) × IsBoundsClaim c
+unfolding bounds_claim_at
+bounds-claim-found n text c e =
+    let one = bind_ok (claim_at n text) (kept-claim n) c e in
+    let two = bind_ok (refuse_if Claim n (not (is_of_bounds one.0))) (λ bounds. Ok one.0) c one.2 in
+    let f = claim-found n text one.0 one.1 in
+    subst (λ (d : PlainClaim). (text ≡ claim_text d) × IsBoundsClaim d) (ok-is one.0 c two.2) (
+      f.0,
+      record { right = f.1; bounds = not-false _ (refuse_ok _ Claim n two.0 two.1) },
+    )
+
+bounds-claim-again : (n : ℕ) (c : PlainClaim) → IsBoundsClaim c → bounds_claim_at n (claim_text c) ≡ Ok c
+unfolding bounds_claim_at
+bounds-claim-again n c h = rw (claim-again n c h.right, h.bounds) refl
+
+-- ---- the initial state
+
+three-words : (ws : List (List ℕ)) → length ws ≡ 3 → ws ≡ first_of ws ∷ first_of (drop 1 ws) ∷ first_of (drop 1 (drop 1 ws)) ∷ []
+three-words [] e = absurd (omega arith)
+three-words (w ∷ []) e = absurd (omega arith)
+three-words (w ∷ v ∷ []) e = absurd (omega arith)
+three-words (w ∷ v ∷ u ∷ []) e = refl
+three-words (w ∷ v ∷ u ∷ t ∷ ws) e = absurd (omega arith)
+
+allowed-may : (claim : PlainClaim) (v : Option ℚ) → IsAllowed (may_be_infinite claim) v → may_be claim v ≡ true
+allowed-may claim None h = h
+allowed-may claim (Some x) h = refl
+
+may-allowed : (claim : PlainClaim) (v : Option ℚ) → may_be claim v ≡ true → IsAllowed (may_be_infinite claim) v
+may-allowed claim None h = h
+may-allowed claim (Some x) h = tt
+
+value-found : (infinite : Bool) (n : ℕ) (w : List ℕ) (v : Option ℚ) → init_value_at infinite n w ≡ Ok v → (w ≡ reward_text v) × IsValueNarrow v × IsAllowed infinite v
+value-found infinite n w v e = parse-found infinite w v (found_ok (init_parse infinite w) Number n v e)
+
+abbrev init-inside : ℕ → ℕ → ℕ → Option ℚ → Option ℚ → Result BoundsInit Refusal
+init-inside states n state lower upper = refuse_if Count n (not (ltb state states)) >>= λ inside. Ok (Between state lower upper)
+
+abbrev init-upper : Bool → ℕ → ℕ → List (List ℕ) → ℕ → Option ℚ → Result BoundsInit Refusal
+init-upper infinite states n behind state lower = init_value_at infinite n (first_of (drop 1 (drop 1 behind))) >>= init-inside states n state lower
+
+abbrev init-lower : Bool → ℕ → ℕ → List (List ℕ) → ℕ → Result BoundsInit Refusal
+init-lower infinite states n behind state = init_value_at infinite n (first_of (drop 1 behind)) >>= init-upper infinite states n behind state
+
+abbrev init-state : Bool → ℕ → ℕ → List (List ℕ) → Result BoundsInit Refusal
+init-state infinite states n behind = whole_at n (first_of behind) >>= init-lower infinite states n behind
+
+record IsInit (claim : PlainClaim) (states : ℕ) (init : BoundsInit) : Type 0 where
+  inside : is_init_of claim states init ≡ true
+  width : IsInitInWidth init
+
+between-is : (claim : PlainClaim) (states state : ℕ) (lower upper : Option ℚ) → ltb state states ≡ true → may_be claim lower ≡ true → may_be claim upper ≡ true
+    → IsValueNarrow lower → IsValueNarrow upper → IsInit claim states (Between state lower upper)
+between-is claim states state lower upper lt p q l u = record { inside = rw (lt, p, q) refl; width = (l, u) }
+
+between-found : (claim : PlainClaim) (states n : ℕ) (text : List ℕ) (init : BoundsInit) → between_at (may_be_infinite claim) states n text ≡ Ok init
+    → (text ≡ init_text init) × IsInit claim states init
+unfolding between_at
+between-found claim states n text init e =
+    let infinite = may_be_infinite claim in
+    let one = bind_ok (words_behind (codes "init") 3 n text) (init-state infinite states n) init e in
+    let two = bind_ok (whole_at n (first_of one.0)) (init-lower infinite states n one.0) init one.2 in
+    let three = bind_ok (init_value_at infinite n (first_of (drop 1 one.0))) (init-upper infinite states n one.0 two.0) init two.2 in
+    let four = bind_ok (init_value_at infinite n (first_of (drop 1 (drop 1 one.0)))) (init-inside states n two.0 three.0) init three.2 in
+    let five = bind_ok (refuse_if Count n (not (ltb two.0 states))) (λ inside. Ok (Between two.0 three.0 four.0)) init four.2 in
+    let inside : ltb two.0 states ≡ true = not-false _ (refuse_ok _ Count n five.0 five.1) in
+    let word = whole-found n (first_of one.0) two.0 two.1 in
+    let low = value-found infinite n (first_of (drop 1 one.0)) three.0 three.1 in
+    let high = value-found infinite n (first_of (drop 1 (drop 1 one.0))) four.0 four.1 in
+    let t = behind-text (codes "init") 3 n text one.0 one.1 in
+    subst (λ (i : BoundsInit). (text ≡ init_text i) × IsInit claim states i) (ok-is _ init five.2) (
+      t.0 ∙ ap (λ (ws : List (List ℕ)). join_with_byte 32 (codes "init" ∷ ws)) (three-words one.0 t.1) ∙ spelled _ _ _ _ _ _ word.0 low.0 high.0,
+      between-is claim states two.0 three.0 four.0 inside (allowed-may claim three.0 low.2) (allowed-may claim four.0 high.2) low.1 high.1,
+    )
+  where
+    spelled : (a b c a' b' c' : List ℕ) → a ≡ a' → b ≡ b' → c ≡ c' → codes "init" ␣ a ␣ b ␣ c ≡ codes "init" ␣ a' ␣ b' ␣ c'
+    spelled a b c a' b' c' p q r = rw (p, q, r) refl
+
+init-found : (claim : PlainClaim) (states n : ℕ) (text : List ℕ) (init : BoundsInit) → init_at (may_be_infinite claim) states n text ≡ Ok init
+    → (text ≡ init_text init) × IsInit claim states init
+unfolding init_at
+init-found claim states n text init e = by (bytes_eq text (codes "init -")) refl e
+  where
+    by : (b : Bool) → bytes_eq text (codes "init -") ≡ b → cond b (Ok Missing) (between_at (may_be_infinite claim) states n text) ≡ Ok init
+        → (text ≡ init_text init) × IsInit claim states init
+    by true t e =
+        let is : Missing ≡ init = cc in
+        subst (λ (i : BoundsInit). (text ≡ init_text i) × IsInit claim states i) is (bytes_same text (codes "init -") t, record { inside = refl; width = tt })
+    by false t e = between-found claim states n text init e
+
+record InParts (claim : PlainClaim) (states state : ℕ) (lower upper : Option ℚ) : Type 0 where
+  below : state < states
+  low : may_be claim lower ≡ true
+  high : may_be claim upper ≡ true
+
+in-parts : (claim : PlainClaim) (states state : ℕ) (lower upper : Option ℚ) → is_init_of claim states (Between state lower upper) ≡ true → InParts claim states state lower upper
+in-parts claim states state lower upper h =
+    let p = and_parts (ltb state states && may_be claim lower) (may_be claim upper) h in
+    let q = and_parts (ltb state states) (may_be claim lower) p.0 in
+    let r : ltb state states ≡ true = q.0 in
+    record { below = grind (arith, nat_tests); low = q.1; high = p.1 }
+
+between-again : (infinite : Bool) (states n state : ℕ) (lower upper : Option ℚ) → state < states → states ≤ 2 ^ 20 → IsValueNarrow lower → IsValueNarrow upper
+    → IsAllowed infinite lower → IsAllowed infinite upper → between_at infinite states n (init_text (Between state lower upper)) ≡ Ok (Between state lower upper)
+unfolding between_at
+between-again infinite states n state lower upper lt limit l u p q =
+    let small : state < 2 ^ 32 = omega arith in
+    let inside : ltb state states ≡ true = grind (arith, nat_tests) in
+    let ws : words_behind (codes "init") 3 n (init_text (Between state lower upper)) ≡ Ok (decimal state ∷ reward_text lower ∷ reward_text upper ∷ []) =
+    behind-again (codes "init") 3 n (decimal state ∷ reward_text lower ∷ reward_text upper ∷ []) refl refl
+    (free-whole 32 state (omega arith) small, (free-reward 32 lower (omega arith) l, (free-reward 32 upper (omega arith) u, tt))) in
+    rw (ws, whole-again n state small, parse-again infinite lower l p, parse-again infinite upper u q, inside) refl
+
+init-again : (claim : PlainClaim) (states n : ℕ) (init : BoundsInit) → states ≤ 2 ^ 20 → IsInit claim states init → init_at (may_be_infinite claim) states n (init_text init) ≡ Ok init
+unfolding init_at
+init-again claim states n Missing limit h = refl
+init-again claim states n (Between state lower upper) limit h =
+    let p = in-parts claim states state lower upper h.inside in
+    let lt : state < states = p.below in
+    rw (
+      given-other state (reward_text lower ␣ reward_text upper) (omega arith),
+      between-again (may_be_infinite claim) states n state lower upper lt limit h.width.0 h.width.1 (may-allowed claim lower p.low) (may-allowed claim upper p.high),
+    ) refl
+
+free-init : (claim : PlainClaim) (states : ℕ) (init : BoundsInit) → states ≤ 2 ^ 20 → IsInit claim states init → Free 10 (init_text init)
+free-init claim states Missing limit h = refl
+free-init claim states (Between state lower upper) limit h =
+    let p = in-parts claim states state lower upper h.inside in
+    let lt : state < states = p.below in
+    free-join 10 (codes "init" ∷ decimal state ∷ reward_text lower ∷ reward_text upper ∷ []) refl
+    (refl, (free-whole 10 state (omega arith) (omega arith), (free-reward 10 lower (omega arith) h.width.0, (free-reward 10 upper (omega arith) h.width.1, tt))))
+
+-- ---- the three lines
+
+pub record IsHead (h : Head) : Type 0 where
+  pub some : 0 < h.states
+  pub limit : h.states ≤ 2 ^ 20
+  pub claim : IsBoundsClaim h.claim
+  pub inside : is_init_of h.claim h.states h.init ≡ true
+  pub width : IsInitInWidth h.init
+
+abbrev pub lines-of-head : Head → List ℕ
+lines-of-head h = line (claim_text h.claim) ++ (line (states_text h.states) ++ line (init_text h.init))
+
+abbrev head-end : PlainClaim → ℕ → BoundsInit × Place → Result (Head × Place) Refusal
+head-end claim states init = Ok (record { claim = claim; states = states; init = init.0 }, init.1)
+
+abbrev head-init : PlainClaim → ℕ × Place → Result (Head × Place) Refusal
+head-init claim states = line_by (init_at (may_be_infinite claim) states.0) states.1 >>= head-end claim states.0
+
+abbrev head-states : PlainClaim × Place → Result (Head × Place) Refusal
+head-states claim = line_by states_at claim.1 >>= head-init claim.0
+
+pub record FoundHead (p : Place) (h : Head) (q : Place) : Type 0 where
+  pub text : p.rest ≡ lines-of-head h ++ q.rest
+  pub is : IsHead h
+
+pub head-found : (p : Place) (h : Head) (q : Place) → head_from p ≡ Ok (h, q) → FoundHead p h q
+unfolding head_from
+head-found p h q e =
+    let one = bind_ok (line_by bounds_claim_at p) head-states (h, q) e in
+    let two = bind_ok (line_by states_at one.0.1) (head-init one.0.0) (h, q) one.2 in
+    let three = bind_ok (line_by (init_at (may_be_infinite one.0.0) two.0.0) two.0.1) (head-end one.0.0 two.0.0) (h, q) two.2 in
+    let same : (let r : Head × Place = (record { claim = one.0.0; states = two.0.0; init = three.0.0 }, three.0.1) in r) ≡ (h, q) = ok-is _ _ three.2 in
+    let c = judged-found bounds_claim_at p one.0.0 one.0.1 one.1 in
+    let s = judged-found states_at one.0.1 two.0.0 two.0.1 two.1 in
+    let i = judged-found (init_at (may_be_infinite one.0.0) two.0.0) two.0.1 three.0.0 three.0.1 three.1 in
+    let claim = bounds-claim-found p.line c.text one.0.0 c.said in
+    let states = states-found one.0.1.line s.text two.0.0 s.said in
+    let init = init-found one.0.0 two.0.0 two.0.1.line i.text three.0.0 i.said in
+    subst (λ (r : Head × Place). FoundHead p r.0 r.1) same (record {
+      text = joined _ _ _ _ _ _ _ _ _ _ c.is.front s.is.front i.is.front claim.0 states.0 init.0;
+      is = record { some = states.1; limit = states.2; claim = claim.1; inside = init.1.inside; width = init.1.width };
+    })
+  where
+    joined : (a b c d t u v x y z : List ℕ) → a ≡ line t ++ b → b ≡ line u ++ c → c ≡ line v ++ d → t ≡ x → u ≡ y → v ≡ z → a ≡ (line x ++ (line y ++ line z)) ++ d
+    joined a b c d t u v x y z p q r i j k =
+        rw (p, q, r, i, j, k) (sym (append_assoc (line x) (line y ++ line z) d ∙ ap (λ (w : List ℕ). line x ++ w) (append_assoc (line y) (line z) d)))
+
+pub head-again : (n : ℕ) (h : Head) (rest : List ℕ) → IsHead h → head_from (place n (lines-of-head h ++ rest)) ≡ Ok (h, place (n + 1 + 1 + 1) rest)
+unfolding head_from
+head-again n h rest ok =
+    let is : IsInit h.claim h.states h.init = record { inside = ok.inside; width = ok.width } in
+    let i : List ℕ = line (init_text h.init) ++ rest in
+    rw (
+      append_assoc (line (claim_text h.claim)) (line (states_text h.states) ++ line (init_text h.init)) rest,
+      append_assoc (line (states_text h.states)) (line (init_text h.init)) rest,
+    ) (
+    ap (λ (r : Result (PlainClaim × Place) Refusal). r >>= head-states)
+    (judged-again bounds_claim_at n (claim_text h.claim) (line (states_text h.states) ++ i) h.claim (free-claim h.claim ok.claim.right)
+    (bounds-claim-again n h.claim ok.claim))
+    ∙ ap (λ (r : Result (ℕ × Place) Refusal). r >>= head-init h.claim)
+    (judged-again states_at (n + 1) (states_text h.states) i h.states (free-states h.states ok.limit)
+    (states-again (n + 1) h.states ok.some ok.limit))
+    ∙ ap (λ (r : Result (BoundsInit × Place) Refusal). r >>= head-end h.claim h.states)
+    (judged-again (init_at (may_be_infinite h.claim) h.states) (n + 1 + 1) (init_text h.init) rest h.init (free-init h.claim h.states h.init ok.limit is)
+    (init-again h.claim h.states (n + 1 + 1) h.init ok.limit is))
+    )

@@ -1,0 +1,21 @@
+use Rattle.mdp_text.specs.Lines.{place}
+use Rattle.mdp_cert.specs.Cert.{plain_claim}
+use Rattle.mdp_bounds_text.specs.Cert.{plain_body}
+use Rattle.mdp_bounds_text.specs.Code.{plain_head}
+use Rattle.mdp_bounds_text.proofs.Heads.{head-found}
+use Rattle.mdp_bounds_text.proofs.Bodies.{body-found}
+use Rattle.mdp_bounds_text.proofs.read.read_bounds.Goals as goal
+
+pub invariant_of-result : goal.invariant_of-result
+invariant_of-result c =
+    let head = head-found (place 2 c.in_ok-text.rest.now) (plain_head c.in_ok-head.head) (place 5 c.in_ok-head.rest.now) c.in_ok-head.ensures in
+    let body =
+    body-found (plain_claim c.in_ok-head.head.claim) c.in_ok-head.head.states (place 5 c.in_ok-head.rest.now) (plain_body c.in_ok-body.body)
+    (place c.in_ok-body.line c.in_ok-body.rest.now) head.is.limit c.in_ok-body.ensures in
+    record {
+      some = head.is.some;
+      limit = head.is.limit;
+      names = head.is.claim.right.names;
+      inside = head.is.inside;
+      entries = body.fits.entries;
+    }
