@@ -84,10 +84,10 @@ value-found : (infinite : Bool) (n : ℕ) (w : List ℕ) (v : Option ℚ) → in
 value-found infinite n w v e = parse-found infinite w v (found_ok (init_parse infinite w) Number n v e)
 
 abbrev init-inside : ℕ → ℕ → ℕ → Option ℚ → Option ℚ → Result BoundsInit Refusal
-init-inside states n state lower upper = refuse_if Count n (not (ltb state states)) >>= λ inside. Ok (Between state lower upper)
+init-inside states n state low high = refuse_if Count n (not (ltb state states)) >>= λ inside. Ok (Between state low high)
 
 abbrev init-upper : Bool → ℕ → ℕ → List (List ℕ) → ℕ → Option ℚ → Result BoundsInit Refusal
-init-upper infinite states n behind state lower = init_value_at infinite n (first_of (drop 1 (drop 1 behind))) >>= init-inside states n state lower
+init-upper infinite states n behind state low = init_value_at infinite n (first_of (drop 1 (drop 1 behind))) >>= init-inside states n state low
 
 abbrev init-lower : Bool → ℕ → ℕ → List (List ℕ) → ℕ → Result BoundsInit Refusal
 init-lower infinite states n behind state = init_value_at infinite n (first_of (drop 1 behind)) >>= init-upper infinite states n behind state
@@ -99,9 +99,9 @@ record IsInit (claim : PlainClaim) (states : ℕ) (init : BoundsInit) : Type 0 w
   inside : is_init_of claim states init ≡ true
   width : IsInitInWidth init
 
-between-is : (claim : PlainClaim) (states state : ℕ) (lower upper : Option ℚ) → ltb state states ≡ true → may_be claim lower ≡ true → may_be claim upper ≡ true
-    → IsValueNarrow lower → IsValueNarrow upper → IsInit claim states (Between state lower upper)
-between-is claim states state lower upper lt p q l u = record { inside = rw (lt, p, q) refl; width = (l, u) }
+between-is : (claim : PlainClaim) (states state : ℕ) (low high : Option ℚ) → ltb state states ≡ true → may_be claim low ≡ true → may_be claim high ≡ true
+    → IsValueNarrow low → IsValueNarrow high → IsInit claim states (Between state low high)
+between-is claim states state low high lt p q l u = record { inside = rw (lt, p, q) refl; width = (l, u) }
 
 between-found : (claim : PlainClaim) (states n : ℕ) (text : List ℕ) (init : BoundsInit) → between_at (may_be_infinite claim) states n text ≡ Ok init
     → (text ≡ init_text init) × IsInit claim states init
@@ -115,12 +115,12 @@ between-found claim states n text init e =
     let five = bind_ok (refuse_if Count n (not (ltb two.0 states))) (λ inside. Ok (Between two.0 three.0 four.0)) init four.2 in
     let inside : ltb two.0 states ≡ true = not-false _ (refuse_ok _ Count n five.0 five.1) in
     let word = whole-found n (first_of one.0) two.0 two.1 in
-    let low = value-found infinite n (first_of (drop 1 one.0)) three.0 three.1 in
-    let high = value-found infinite n (first_of (drop 1 (drop 1 one.0))) four.0 four.1 in
+    let least = value-found infinite n (first_of (drop 1 one.0)) three.0 three.1 in
+    let most = value-found infinite n (first_of (drop 1 (drop 1 one.0))) four.0 four.1 in
     let t = behind-text (codes "init") 3 n text one.0 one.1 in
     subst (λ (i : BoundsInit). (text ≡ init_text i) × IsInit claim states i) (ok-is _ init five.2) (
-      t.0 ∙ ap (λ (ws : List (List ℕ)). join_with_byte 32 (codes "init" ∷ ws)) (three-words one.0 t.1) ∙ spelled _ _ _ _ _ _ word.0 low.0 high.0,
-      between-is claim states two.0 three.0 four.0 inside (allowed-may claim three.0 low.2) (allowed-may claim four.0 high.2) low.1 high.1,
+      t.0 ∙ ap (λ (ws : List (List ℕ)). join_with_byte 32 (codes "init" ∷ ws)) (three-words one.0 t.1) ∙ spelled _ _ _ _ _ _ word.0 least.0 most.0,
+      between-is claim states two.0 three.0 four.0 inside (allowed-may claim three.0 least.2) (allowed-may claim four.0 most.2) least.1 most.1,
     )
   where
     spelled : (a b c a' b' c' : List ℕ) → a ≡ a' → b ≡ b' → c ≡ c' → codes "init" ␣ a ␣ b ␣ c ≡ codes "init" ␣ a' ␣ b' ␣ c'
@@ -138,47 +138,47 @@ init-found claim states n text init e = by (bytes_eq text (codes "init -")) refl
         subst (λ (i : BoundsInit). (text ≡ init_text i) × IsInit claim states i) is (bytes_same text (codes "init -") t, record { inside = refl; width = tt })
     by false t e = between-found claim states n text init e
 
-record InParts (claim : PlainClaim) (states state : ℕ) (lower upper : Option ℚ) : Type 0 where
+record InParts (claim : PlainClaim) (states state : ℕ) (low high : Option ℚ) : Type 0 where
   below : state < states
-  low : may_be claim lower ≡ true
-  high : may_be claim upper ≡ true
+  may_low : may_be claim low ≡ true
+  may_high : may_be claim high ≡ true
 
-in-parts : (claim : PlainClaim) (states state : ℕ) (lower upper : Option ℚ) → is_init_of claim states (Between state lower upper) ≡ true → InParts claim states state lower upper
-in-parts claim states state lower upper h =
-    let p = and_parts (ltb state states && may_be claim lower) (may_be claim upper) h in
-    let q = and_parts (ltb state states) (may_be claim lower) p.0 in
+in-parts : (claim : PlainClaim) (states state : ℕ) (low high : Option ℚ) → is_init_of claim states (Between state low high) ≡ true → InParts claim states state low high
+in-parts claim states state low high h =
+    let p = and_parts (ltb state states && may_be claim low) (may_be claim high) h in
+    let q = and_parts (ltb state states) (may_be claim low) p.0 in
     let r : ltb state states ≡ true = q.0 in
-    record { below = grind (arith, nat_tests); low = q.1; high = p.1 }
+    record { below = grind (arith, nat_tests); may_low = q.1; may_high = p.1 }
 
-between-again : (infinite : Bool) (states n state : ℕ) (lower upper : Option ℚ) → state < states → states ≤ 2 ^ 20 → IsValueNarrow lower → IsValueNarrow upper
-    → IsAllowed infinite lower → IsAllowed infinite upper → between_at infinite states n (init_text (Between state lower upper)) ≡ Ok (Between state lower upper)
+between-again : (infinite : Bool) (states n state : ℕ) (low high : Option ℚ) → state < states → states ≤ 2 ^ 20 → IsValueNarrow low → IsValueNarrow high
+    → IsAllowed infinite low → IsAllowed infinite high → between_at infinite states n (init_text (Between state low high)) ≡ Ok (Between state low high)
 unfolding between_at
-between-again infinite states n state lower upper lt limit l u p q =
+between-again infinite states n state low high lt limit l u p q =
     let small : state < 2 ^ 32 = omega arith in
     let inside : ltb state states ≡ true = grind (arith, nat_tests) in
-    let ws : words_behind (codes "init") 3 n (init_text (Between state lower upper)) ≡ Ok (decimal state ∷ reward_text lower ∷ reward_text upper ∷ []) =
-    behind-again (codes "init") 3 n (decimal state ∷ reward_text lower ∷ reward_text upper ∷ []) refl refl
-    (free-whole 32 state (omega arith) small, (free-reward 32 lower (omega arith) l, (free-reward 32 upper (omega arith) u, tt))) in
-    rw (ws, whole-again n state small, parse-again infinite lower l p, parse-again infinite upper u q, inside) refl
+    let ws : words_behind (codes "init") 3 n (init_text (Between state low high)) ≡ Ok (decimal state ∷ reward_text low ∷ reward_text high ∷ []) =
+    behind-again (codes "init") 3 n (decimal state ∷ reward_text low ∷ reward_text high ∷ []) refl refl
+    (free-whole 32 state (omega arith) small, (free-reward 32 low (omega arith) l, (free-reward 32 high (omega arith) u, tt))) in
+    rw (ws, whole-again n state small, parse-again infinite low l p, parse-again infinite high u q, inside) refl
 
 init-again : (claim : PlainClaim) (states n : ℕ) (init : BoundsInit) → states ≤ 2 ^ 20 → IsInit claim states init → init_at (may_be_infinite claim) states n (init_text init) ≡ Ok init
 unfolding init_at
 init-again claim states n Missing limit h = refl
-init-again claim states n (Between state lower upper) limit h =
-    let p = in-parts claim states state lower upper h.inside in
+init-again claim states n (Between state low high) limit h =
+    let p = in-parts claim states state low high h.inside in
     let lt : state < states = p.below in
     rw (
-      given-other state (reward_text lower ␣ reward_text upper) (omega arith),
-      between-again (may_be_infinite claim) states n state lower upper lt limit h.width.0 h.width.1 (may-allowed claim lower p.low) (may-allowed claim upper p.high),
+      given-other state (reward_text low ␣ reward_text high) (omega arith),
+      between-again (may_be_infinite claim) states n state low high lt limit h.width.0 h.width.1 (may-allowed claim low p.may_low) (may-allowed claim high p.may_high),
     ) refl
 
 free-init : (claim : PlainClaim) (states : ℕ) (init : BoundsInit) → states ≤ 2 ^ 20 → IsInit claim states init → Free 10 (init_text init)
 free-init claim states Missing limit h = refl
-free-init claim states (Between state lower upper) limit h =
-    let p = in-parts claim states state lower upper h.inside in
+free-init claim states (Between state low high) limit h =
+    let p = in-parts claim states state low high h.inside in
     let lt : state < states = p.below in
-    free-join 10 (codes "init" ∷ decimal state ∷ reward_text lower ∷ reward_text upper ∷ []) refl
-    (refl, (free-whole 10 state (omega arith) (omega arith), (free-reward 10 lower (omega arith) h.width.0, (free-reward 10 upper (omega arith) h.width.1, tt))))
+    free-join 10 (codes "init" ∷ decimal state ∷ reward_text low ∷ reward_text high ∷ []) refl
+    (refl, (free-whole 10 state (omega arith) (omega arith), (free-reward 10 low (omega arith) h.width.0, (free-reward 10 high (omega arith) h.width.1, tt))))
 
 -- ---- the three lines
 

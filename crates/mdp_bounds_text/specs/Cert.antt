@@ -46,30 +46,30 @@ may_be claim (Some value) = true
 -- the initial state is one of the states, and its values are such as the claim's may be
 abbrev pub is_init_of : PlainClaim → ℕ → BoundsInit → Bool
 is_init_of claim states Missing = true
-is_init_of claim states (Between state lower upper) = nat_lt state states && may_be claim lower && may_be claim upper
+is_init_of claim states (Between state low high) = nat_lt state states && may_be claim low && may_be claim high
 
 -- the body is of the claim's kind, with an entry per state
 abbrev pub is_body_of : PlainClaim → ℕ → PlainBounds → Bool
-is_body_of (reach dir label) states (probabilities lower upper choices ranks) =
-    (length lower == states) && (length upper == states) && (length choices == states) && (length ranks == states)
-is_body_of (reward dir name label) states (rewards lower upper choices ranks) =
-    (length lower == states) && (length upper == states) && (length choices == states) && (length ranks == states)
-is_body_of (mean dir name) states (gains lower upper bound bias choices spread) =
-    (length lower == states) && (length upper == states) && (length bound == states) && (length bias == states) && (length choices == states)
+is_body_of (reach dir label) states (probabilities low high choices ranks) =
+    (length low == states) && (length high == states) && (length choices == states) && (length ranks == states)
+is_body_of (reward dir name label) states (rewards low high choices ranks) =
+    (length low == states) && (length high == states) && (length choices == states) && (length ranks == states)
+is_body_of (mean dir name) states (gains low high bound bias choices spread) =
+    (length low == states) && (length high == states) && (length bound == states) && (length bias == states) && (length choices == states)
 is_body_of claim states body = false
 
 -- the fractions are in width, and choices and ranks below 2^32
 abbrev pub IsInitInWidth : BoundsInit → Type 0
 IsInitInWidth Missing = Unit {0}
-IsInitInWidth (Between state lower upper) = IsValueNarrow lower × IsValueNarrow upper
+IsInitInWidth (Between state low high) = IsValueNarrow low × IsValueNarrow high
 
 abbrev pub IsBodyInWidth : PlainBounds → Type 0
-IsBodyInWidth (probabilities lower upper choices ranks) =
-    All IsNarrow lower × All IsNarrow upper × All (λ c. c < 2 ^ 32) choices × All (λ r. r < 2 ^ 32) ranks
-IsBodyInWidth (rewards lower upper choices ranks) =
-    All IsValueNarrow lower × All IsValueNarrow upper × All (λ c. c < 2 ^ 32) choices × All (λ r. r < 2 ^ 32) ranks
-IsBodyInWidth (gains lower upper bound bias choices spread) =
-    All IsNarrow lower × All IsNarrow upper × All IsNarrow bound × All IsNarrow bias × All (λ c. c < 2 ^ 32) choices × IsNarrow spread
+IsBodyInWidth (probabilities low high choices ranks) =
+    All IsNarrow low × All IsNarrow high × All (λ c. c < 2 ^ 32) choices × All (λ r. r < 2 ^ 32) ranks
+IsBodyInWidth (rewards low high choices ranks) =
+    All IsValueNarrow low × All IsValueNarrow high × All (λ c. c < 2 ^ 32) choices × All (λ r. r < 2 ^ 32) ranks
+IsBodyInWidth (gains low high bound bias choices spread) =
+    All IsNarrow low × All IsNarrow high × All IsNarrow bound × All IsNarrow bias × All (λ c. c < 2 ^ 32) choices × IsNarrow spread
 
 pub record Fits (c : Certificate) : Type 0 where
   pub some : 0 < c.states

@@ -37,10 +37,10 @@ unfoldable pub between_at : Bool → ℕ → ℕ → List ℕ → Result BoundsI
 between_at infinite states n text = do
   behind ← words_behind (codes "init") 3 n text
   state ← whole_at n (first_of behind)
-  lower ← init_value_at infinite n (first_of (drop 1 behind))
-  upper ← init_value_at infinite n (first_of (drop 1 (drop 1 behind)))
+  low ← init_value_at infinite n (first_of (drop 1 behind))
+  high ← init_value_at infinite n (first_of (drop 1 (drop 1 behind)))
   inside ← refuse_if kind.Count n (not (nat_lt state states))
-  Ok (Between state lower upper)
+  Ok (Between state low high)
 
 -- a state with its lower and its upper value, or `-`
 unfoldable pub init_at : Bool → ℕ → ℕ → List ℕ → Result BoundsInit Refusal

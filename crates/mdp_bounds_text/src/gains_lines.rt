@@ -49,29 +49,25 @@ impl Entry for GainsEntry {
     }
 }
 
-/// The lists of a certificate of mean payoffs, one of each per state.
+/// A certificate of mean payoffs, lent to be written.
 #[derive(Drop)]
-pub(crate) struct GainsSlices<'a> {
-    pub lower: &'a [Frac],
-    pub upper: &'a [Frac],
-    pub bound: &'a [Frac],
-    pub bias: &'a [Frac],
-    pub choices: &'a [u32],
+pub(crate) struct LentMean<'a> {
+    pub cert: &'a MeanBoundsCert,
 }
 
-impl Lists for GainsSlices<'_> {
+impl Lists for LentMean<'_> {
     type Item = GainsEntry;
 
-    ghost entries = { λ c. gains_of c.lower.now c.upper.now c.bound.now c.bias.now c.choices.now };
+    ghost entries = { λ c. gains_of c.cert.now.lower.items c.cert.now.upper.items c.cert.now.bound.items c.cert.now.bias.items c.cert.now.choices.items };
 
     fn entry(&self, state: u32) -> GainsEntry {
         let place = state as usize;
         GainsEntry {
-            lower: self.lower[place],
-            upper: self.upper[place],
-            bound: self.bound[place],
-            bias: self.bias[place],
-            choice: self.choices[place],
+            lower: self.cert.lower[place],
+            upper: self.cert.upper[place],
+            bound: self.cert.bound[place],
+            bias: self.cert.bias[place],
+            choice: self.cert.choices[place],
         }
     }
 }

@@ -46,27 +46,46 @@ impl<V: Value> Entry for RankedEntry<V> {
     }
 }
 
-/// The lists of a certificate with ranks, one of each per state.
+/// A certificate of probabilities, lent to be written.
 #[derive(Drop)]
-pub(crate) struct RankedSlices<'a, V> {
-    pub lower: &'a [V],
-    pub upper: &'a [V],
-    pub choices: &'a [u32],
-    pub ranks: &'a [u32],
+pub(crate) struct LentReach<'a> {
+    pub cert: &'a ReachBoundsCert,
 }
 
-impl<V: Value> Lists for RankedSlices<'_, V> {
-    type Item = RankedEntry<V>;
+impl Lists for LentReach<'_> {
+    type Item = RankedEntry<Frac>;
 
-    ghost entries = { λ c. ranked_of c.lower.now c.upper.now c.choices.now c.ranks.now };
+    ghost entries = { λ c. ranked_of c.cert.now.lower.items c.cert.now.upper.items c.cert.now.choices.items c.cert.now.ranks.items };
 
-    fn entry(&self, state: u32) -> RankedEntry<V> {
+    fn entry(&self, state: u32) -> RankedEntry<Frac> {
         let place = state as usize;
         RankedEntry {
-            lower: self.lower[place],
-            upper: self.upper[place],
-            choice: self.choices[place],
-            rank: self.ranks[place],
+            lower: self.cert.lower[place],
+            upper: self.cert.upper[place],
+            choice: self.cert.choices[place],
+            rank: self.cert.ranks[place],
+        }
+    }
+}
+
+/// A certificate of rewards, lent to be written.
+#[derive(Drop)]
+pub(crate) struct LentReward<'a> {
+    pub cert: &'a RewardBoundsCert,
+}
+
+impl Lists for LentReward<'_> {
+    type Item = RankedEntry<Option<Frac>>;
+
+    ghost entries = { λ c. ranked_of c.cert.now.lower.items c.cert.now.upper.items c.cert.now.choices.items c.cert.now.ranks.items };
+
+    fn entry(&self, state: u32) -> RankedEntry<Option<Frac>> {
+        let place = state as usize;
+        RankedEntry {
+            lower: self.cert.lower[place],
+            upper: self.cert.upper[place],
+            choice: self.cert.choices[place],
+            rank: self.cert.ranks[place],
         }
     }
 }

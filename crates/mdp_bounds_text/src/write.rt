@@ -9,9 +9,9 @@ ghost use Rattle.mdp_bounds_text.specs.Spelling.{version_text, init_text, head_t
 
 use crate::body::BoundsBody;
 use crate::cert::BoundsCert;
-use crate::gains_lines::GainsSlices;
+use crate::gains_lines::LentMean;
 use crate::init::BoundsInit;
-use crate::ranked_lines::RankedSlices;
+use crate::ranked_lines::{LentReach, LentReward};
 use mdp_cert::{Value, Version, push_claim, push_spread, push_to_end};
 use mdp_num::{Frac, Memory};
 use mdp_text::{push_number, push_whole};
@@ -82,35 +82,13 @@ fn push_body(out: &mut Vec<u8>, cert: &BoundsCert) -> Result<(), Memory>
     ensures text { OnOk result (out.new.items ≡ out.old.items ++ body_text (plain_body cert.now.body)) }
     ensures front { Keeps out.old.items out.new.items }
 {
+    let states = cert.states;
     match &cert.body {
-        BoundsBody::Reach(reach) => {
-            let lists = RankedSlices {
-                lower: &reach.lower,
-                upper: &reach.upper,
-                choices: &reach.choices,
-                ranks: &reach.ranks,
-            };
-            push_to_end(out, Version::Two, cert.states, &lists)
-        }
-        BoundsBody::Reward(reward) => {
-            let lists = RankedSlices {
-                lower: &reward.lower,
-                upper: &reward.upper,
-                choices: &reward.choices,
-                ranks: &reward.ranks,
-            };
-            push_to_end(out, Version::Two, cert.states, &lists)
-        }
-        BoundsBody::Mean(mean) => {
-            push_spread(out, &mean.spread)?;
-            let lists = GainsSlices {
-                lower: &mean.lower,
-                upper: &mean.upper,
-                bound: &mean.bound,
-                bias: &mean.bias,
-                choices: &mean.choices,
-            };
-            push_to_end(out, Version::Two, cert.states, &lists)
+        BoundsBody::Reach(cert) => push_to_end(out, Version::Two, states, &LentReach { cert }),
+        BoundsBody::Reward(cert) => push_to_end(out, Version::Two, states, &LentReward { cert }),
+        BoundsBody::Mean(cert) => {
+            push_spread(out, &cert.spread)?;
+            push_to_end(out, Version::Two, states, &LentMean { cert })
         }
     }
 }

@@ -10,7 +10,7 @@ use Rattle.mdp_bounds_text.proofs.write.push_body.Goals as goal
 pub push_to_end-requires : goal.push_to_end-requires
 push_to_end-requires c =
     let cert = c.args.cert.now in
-    let x = c.in-Reach.reach in
+    let x = c.in-Reach.cert in
     let e =
     reach-counts (plain_claim cert.claim) cert.states x.lower.items x.upper.items x.choices.items x.ranks.items
     (ap (λ (b : BoundsBody). is_body_of (plain_claim cert.claim) cert.states (plain_body b)) (sym c.in-Reach.is) ∙ cert.entries) in
@@ -19,7 +19,7 @@ push_to_end-requires c =
 pub push_to_end-requires-in-Reward : goal.push_to_end-requires-in-Reward
 push_to_end-requires-in-Reward c =
     let cert = c.args.cert.now in
-    let x = c.in-Reward.reward in
+    let x = c.in-Reward.cert in
     let e =
     reward-counts (plain_claim cert.claim) cert.states x.lower.items x.upper.items x.choices.items x.ranks.items
     (ap (λ (b : BoundsBody). is_body_of (plain_claim cert.claim) cert.states (plain_body b)) (sym c.in-Reward.is) ∙ cert.entries) in
@@ -28,7 +28,7 @@ push_to_end-requires-in-Reward c =
 pub push_to_end-requires-in-Mean : goal.push_to_end-requires-in-Mean
 push_to_end-requires-in-Mean c =
     let cert = c.args.cert.now in
-    let x = c.in-Mean.mean in
+    let x = c.in-Mean.cert in
     let e =
     mean-counts (plain_claim cert.claim) cert.states x.lower.items x.upper.items x.bound.items x.bias.items x.choices.items x.spread
     (ap (λ (b : BoundsBody). is_body_of (plain_claim cert.claim) cert.states (plain_body b)) (sym c.in-Mean.is) ∙ cert.entries) in
