@@ -26,7 +26,11 @@ pub(crate) fn reward_place(model: &Model, claim: &Claim) -> Option<u32>
 }
 
 /// The goals: which states have the claim's label; no state where the claim names none. None where the model hasn't the label.
-pub(crate) fn goal_marks(alloc: Global, model: &Model, claim: &Claim) -> Result<Option<Marks>, Memory>
+pub(crate) fn goal_marks(
+    alloc: Global,
+    model: &Model,
+    claim: &Claim,
+) -> Result<Option<Marks>, Memory>
     ensures { IfOk result (λ goals. goals ≡ goal_marks model.now (plain_claim claim.now)) }
 {
     let label = match claim {
