@@ -1,5 +1,5 @@
 -- What is shown of the words of each kind of line.
-use Rattle.std.proofs.Common.{◌≡◌, ℕ, ◌<◌, ◌^◌, true, eqb, ◌&&◌, List, [], ◌∷◌, decimal, Option, Some, refl, subst, arith}
+use Rattle.std.proofs.Common.{◌≡◌, ℕ, ◌<◌, true, eqb, ◌&&◌, List, [], ◌∷◌, decimal, Option, Some, refl, subst, arith}
 use Rattle.std.specs.Option.{option_and_then}
 use Rattle.std.proofs.lemmas.Bool.{and_parts}
 use Rattle.mdp_math.specs.Rational.{ℚ}

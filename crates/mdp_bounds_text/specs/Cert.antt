@@ -1,5 +1,5 @@
 -- What a certificate of bounds says, as a plain record.
-use Rattle.std.specs.Prelude.{ℕ, ◌<◌, ◌≤◌, ◌^◌, Bool, true, false, ◌||◌, ◌&&◌, IsTrue, List, length, nat_lt, ◌==◌, All, Option, Some, None}
+use Rattle.std.specs.Prelude.{ℕ, ◌<◌, ◌≤◌, ◌^◌, Bool, true, false, ◌&&◌, IsTrue, List, length, nat_lt, ◌==◌, All, Option, Some, None}
 use Rattle.mdp_math.specs.Rational.{ℚ}
 use Rattle.mdp_num.specs.Value.{IsNarrow}
 use Rattle.mdp_cert.specs.Cert.{PlainClaim, upper, reach, reward, mean, witness, are_names, may_be_infinite, IsValueNarrow}
