@@ -39,29 +39,29 @@ use Rattle.mdp_check.specs.declared.answer.Answer.TheVariants.{Yes, Size}
 
 -- ---- one step of the answer after the other
 
-by_size : (same : Bool) (x : Answer) → cond same x Size ≡ Yes → (same ≡ true) × (x ≡ Yes)
+pub by_size : (same : Bool) (x : Answer) → cond same x Size ≡ Yes → (same ≡ true) × (x ≡ Yes)
 by_size true x e = (refl, e)
 by_size false x e = cc
 
-yes_verdict : (v : Verdict) → answer_of v ≡ Yes → v ≡ verdict.Yes
+pub yes_verdict : (v : Verdict) → answer_of v ≡ Yes → v ≡ verdict.Yes
 yes_verdict verdict.Yes e = refl
 yes_verdict (verdict.No f) e = cc
 yes_verdict (verdict.Wide s c) e = cc
 
-both_yes : (i v : Verdict) → after_init i v ≡ verdict.Yes → (i ≡ verdict.Yes) × (v ≡ verdict.Yes)
+pub both_yes : (i v : Verdict) → after_init i v ≡ verdict.Yes → (i ≡ verdict.Yes) × (v ≡ verdict.Yes)
 both_yes verdict.Yes v e = (refl, e)
 both_yes (verdict.No f) v e = cc
 both_yes (verdict.Wide s c) v e = cc
 
 -- ---- the body
 
-of_if_yes : (v : Verdict) (P : Type 0) → IfYes v P → v ≡ verdict.Yes → P
+pub of_if_yes : (v : Verdict) (P : Type 0) → IfYes v P → v ≡ verdict.Yes → P
 of_if_yes verdict.Yes P h e = h
 of_if_yes (verdict.No f) P h e = cc
 of_if_yes (verdict.Wide s c) P h e = cc
 
 -- what is found in a list of names is one of its places
-below_names : (name : List ℕ) (names : List (List ℕ)) (r : ℕ) → place_of name names ≡ Some r → r < length names
+pub below_names : (name : List ℕ) (names : List (List ℕ)) (r : ℕ) → place_of name names ≡ Some r → r < length names
 below_names name names r e = (position-Some (bytes_eq name) names r [] e).0
 
 -- one mark for each state
@@ -261,7 +261,7 @@ module _ (m : Mdp) (r : ℕ) (goals : List Bool) (init : Init) (states : ℕ) (s
   body_bound (witness Min label t) (floor kept wide values ranks) is named marked fits rule1 e = floor_bound label t kept wide values ranks is marked fits rule1 e
 
 -- a verdict of yes is one on a body that fits
-by_body : (fits : Bool) (v : Verdict) → cond fits v (init_fault None) ≡ verdict.Yes → (fits ≡ true) × (v ≡ verdict.Yes)
+pub by_body : (fits : Bool) (v : Verdict) → cond fits v (init_fault None) ≡ verdict.Yes → (fits ≡ true) × (v ≡ verdict.Yes)
 by_body true v e = (refl, e)
 by_body false v e = cc
 

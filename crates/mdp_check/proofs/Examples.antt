@@ -22,13 +22,13 @@ row entries = record { row = entries; rewards = [] }
 abbrev entry : ℕ → ℚ → Entry
 entry t p = record { target = t; prob = p }
 
-abbrev zero_ : ℚ
+abbrev pub zero_ : ℚ
 zero_ = of_int (pos 0)
 
-abbrev one : ℚ
+abbrev pub one : ℚ
 one = of_int (pos 1)
 
-abbrev three : Mdp
+abbrev pub three : Mdp
 three = record {
   names = [];
   labels = codes "init" ∷ codes "goal" ∷ [];
@@ -83,7 +83,7 @@ paid entries r = record { row = entries; rewards = r ∷ [] }
 abbrev three_ : ℚ
 three_ = of_int (pos 3)
 
-abbrev two : Mdp
+abbrev pub two : Mdp
 two = record {
   names = codes "-" ∷ [];
   labels = codes "init" ∷ codes "goal" ∷ [];
@@ -140,14 +140,14 @@ other_body = refl
 
 -- ---- mean payoffs
 
-abbrev half : ℚ
+abbrev pub half : ℚ
 half = ratio (pos 1) 2
 
 abbrev below_half : ℚ
 below_half = ratio (negsuc 0) 2
 
 -- the states 0 and 1 lead to each other, and only the step from 0 pays: 1
-abbrev turns : Mdp
+abbrev pub turns : Mdp
 turns = record {
   names = codes "-" ∷ [];
   labels = codes "init" ∷ [];

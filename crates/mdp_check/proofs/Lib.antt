@@ -1,3 +1,6 @@
 pub mod Shapes
 pub mod Accepting
+pub mod BoundsShapes
+pub mod BoundsAccepting
 mod Examples
+mod BoundsExamples

@@ -15,7 +15,7 @@ use mdp_subsystem_rules::{holds_floor, holds_flow};
 use std::alloc::Global;
 
 /// The place of the claim's reward model in the model, where it is there; 0 where the claim names none.
-fn reward_place(model: &Model, claim: &Claim) -> Option<u32>
+pub(crate) fn reward_place(model: &Model, claim: &Claim) -> Option<u32>
     ensures { result ≡ reward_place model.now (plain_claim claim.now) }
 {
     match claim {
@@ -26,7 +26,11 @@ fn reward_place(model: &Model, claim: &Claim) -> Option<u32>
 }
 
 /// The goals: which states have the claim's label; no state where the claim names none. None where the model hasn't the label.
-fn goal_marks(alloc: Global, model: &Model, claim: &Claim) -> Result<Option<Marks>, Memory>
+pub(crate) fn goal_marks(
+    alloc: Global,
+    model: &Model,
+    claim: &Claim,
+) -> Result<Option<Marks>, Memory>
     ensures { IfOk result (λ goals. goals ≡ goal_marks model.now (plain_claim claim.now)) }
 {
     let label = match claim {

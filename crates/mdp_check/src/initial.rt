@@ -22,7 +22,7 @@ fn is_same(x: &Option<Frac>, y: &Option<Frac>) -> bool
 }
 
 /// Whether the value of state `s`, which may be infinite, is this one.
-fn is_reward(values: &[Option<Frac>], s: u32, value: &Option<Frac>) -> bool
+pub(crate) fn is_reward(values: &[Option<Frac>], s: u32, value: &Option<Frac>) -> bool
     ensures { result ≡ is_reward values.now s value.now }
 {
     match values.get(s as usize) {

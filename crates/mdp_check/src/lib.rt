@@ -1,11 +1,14 @@
-//! The checker: a certificate is held against a model, and its yes implies the certificate's claim.
+//! The checker: a certificate, or one of bounds, is held against a model, and its yes implies the certificate's claim.
 #![tactic(auto)]
 
 mod answer;
+mod bounds;
+mod bounds_initial;
 mod checking;
 mod initial;
 mod laws;
 
 pub use answer::Answer;
+pub use bounds::check_bounds;
 pub use checking::check;
-pub use laws::checking_law;
+pub use laws::{bounds_checking_law, checking_law};

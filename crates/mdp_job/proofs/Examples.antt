@@ -8,7 +8,7 @@ use Rattle.mdp_num.specs.Numeral.{parts_of, numeral_of}
 use Rattle.mdp_num.specs.Value.{spelling}
 use Rattle.mdp_rows.specs.declared.rule.RowRule.TheVariants.{Exact, Scaled}
 use Rattle.mdp_rows.specs.declared.dir.Dir.TheVariants.{Max, Min}
-use Rattle.mdp_job.specs.Job.{reach, reward, mean, solve, witness, check, drill, horizon, policy, discount, discount_check}
+use Rattle.mdp_job.specs.Job.{reach, reward, mean, solve, witness, check, drill, horizon, policy, discount, discount_check, bounds_check}
 use Rattle.mdp_job.specs.Refusal.{query_init, below}
 use Rattle.mdp_job.specs.Status.{code_of, status_of}
 use Rattle.mdp_job.specs.Text.{text_of}
@@ -182,3 +182,13 @@ a_discount_check = refl
 
 discount_check_words : job_of_texts (codes "discount-check" ∷ codes "m" ∷ codes "exact" ∷ codes "c" ∷ codes "d" ∷ []) ≡ Err Number
 discount_check_words = refl
+
+a_bounds_check : job_of_texts (codes "bounds-check" ∷ codes "m" ∷ codes "exact" ∷ codes "c" ∷ []) ≡ Ok (bounds_check Exact)
+a_bounds_check = refl
+
+-- how many words there are comes before the row rule
+bounds_check_words : job_of_texts (codes "bounds-check" ∷ codes "m" ∷ codes "EXACT" ∷ []) ≡ Err Number
+bounds_check_words = refl
+
+bounds_check_rows : job_of_texts (codes "bounds-check" ∷ codes "m" ∷ codes "EXACT" ∷ codes "c" ∷ []) ≡ Err Rows
+bounds_check_rows = refl

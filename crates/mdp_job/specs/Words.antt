@@ -9,6 +9,7 @@
 --     policy MODEL ROWS POLICY reach LABEL
 --     discount MODEL ROWS DIR NAME FACTOR
 --     discount-check MODEL ROWS CERT
+--     bounds-check MODEL ROWS CERT
 -- ROWS is `exact` or `scaled`, DIR `max` or `min`.
 use Rattle.std.specs.Prelude.{ℕ, ◌*◌, ◌-◌, ◌^◌, Bool, ◌&&◌, not, List, [], ◌∷◌, length, slice_index_or, map, Option, Some, None, Result, Ok, Err, pos, ◌==◌, nat_lt, if◌then◌else◌, codes}
 use Rattle.std.specs.declared.string.String.{String}
@@ -25,7 +26,7 @@ use Rattle.mdp_rows.specs.declared.dir.Dir.{Dir}
 use Rattle.mdp_rows.specs.declared.dir.Dir.TheVariants.{Max, Min}
 use Rattle.mdp_rows.specs.declared.rule.RowRule.{RowRule}
 use Rattle.mdp_rows.specs.declared.rule.RowRule.TheVariants.{Exact, Scaled}
-use Rattle.mdp_job.specs.Job.{PlainQuery, reach, reward, mean, solve, witness, check, drill, horizon, policy, discount, discount_check, Asked}
+use Rattle.mdp_job.specs.Job.{PlainQuery, reach, reward, mean, solve, witness, check, drill, horizon, policy, discount, discount_check, bounds_check, Asked}
 use Rattle.mdp_job.specs.declared.words_error.WordsError.{WordsError}
 use Rattle.mdp_job.specs.declared.words_error.WordsError.TheVariants.{Command, Number, Rows, Direction, Objective, Threshold, Drill, Steps, Factor}
 
@@ -144,13 +145,18 @@ discount_of words =
 abbrev pub discount_check_of : List (List ℕ) → Asked
 discount_check_of words = if length words == 3 then (rule_of (word_at words 1) >>= λ rule. Ok (discount_check rule)) else Err Number
 
+-- the words behind `bounds-check`
+abbrev pub bounds_check_of : List (List ℕ) → Asked
+bounds_check_of words = if length words == 3 then (rule_of (word_at words 1) >>= λ rule. Ok (bounds_check rule)) else Err Number
+
 -- the words behind a command that is neither `solve` nor `check` nor `drill`
 abbrev pub other_of : List ℕ → List (List ℕ) → Asked
 other_of command words =
     if bytes_eq command (codes "horizon") then horizon_of words
     else (if bytes_eq command (codes "policy") then policy_of words
     else (if bytes_eq command (codes "discount") then discount_of words
-    else (if bytes_eq command (codes "discount-check") then discount_check_of words else Err Command)))
+    else (if bytes_eq command (codes "discount-check") then discount_check_of words
+    else (if bytes_eq command (codes "bounds-check") then bounds_check_of words else Err Command))))
 
 -- a command, and the words behind it
 abbrev pub job_by : List ℕ → List (List ℕ) → Asked

@@ -21,7 +21,12 @@ pub fn files_of(words: &[String]) -> Files
                 model: Some(1),
                 second: None,
             },
-        Ok(Job::Check { .. } | Job::Policy { .. } | Job::DiscountCheck { .. }) => Files {
+        Ok(
+            Job::Check { .. }
+            | Job::Policy { .. }
+            | Job::DiscountCheck { .. }
+            | Job::BoundsCheck { .. },
+        ) => Files {
             model: Some(1),
             second: Some(3),
         },

@@ -4,7 +4,7 @@ ghost use Rattle.std.specs.String.{string_bytes};
 ghost use Rattle.mdp_math.specs.Rational.{of_int, lt_ℚ};
 ghost use Rattle.mdp_job.specs.Job.{asked, plain_query};
 ghost use Rattle.mdp_job.specs.Words.{job_of, rule_of, dir_of, reach_of, reward_of, mean_of, query_of, solve_of, threshold_of, witness_of, check_of, drill_by};
-ghost use Rattle.mdp_job.specs.Words.{drill_of, stay_of, steps_of, horizon_of, policy_of, factor_of, discount_of, discount_check_of, other_of, job_by};
+ghost use Rattle.mdp_job.specs.Words.{drill_of, stay_of, steps_of, horizon_of, policy_of, factor_of, discount_of, discount_check_of, bounds_check_of, other_of, job_by};
 
 use crate::digits::whole_word;
 use crate::words_error::WordsError;
@@ -75,6 +75,10 @@ pub enum Job<'a> {
     },
     /// `discount-check MODEL ROWS CERT`: whether a certificate of discounted rewards holds of the model, read under the row rule.
     DiscountCheck {
+        rule: RowRule,
+    },
+    /// `bounds-check MODEL ROWS CERT`: whether a certificate of bounds holds of the model, read under the row rule.
+    BoundsCheck {
         rule: RowRule,
     },
 }
@@ -312,6 +316,17 @@ fn discount_check_of<'a>(words: &'a [String]) -> Result<Job<'a>, WordsError>
     Ok(Job::DiscountCheck { rule })
 }
 
+/// The job that the words behind `bounds-check` are.
+fn bounds_check_of<'a>(words: &'a [String]) -> Result<Job<'a>, WordsError>
+    ensures { asked result ≡ bounds_check_of (map string_bytes words.now) }
+{
+    let [_, rows, _] = words else {
+        return Err(WordsError::Number);
+    };
+    let rule = rule_of(rows.as_str())?;
+    Ok(Job::BoundsCheck { rule })
+}
+
 /// The most states in the layers of a model that is drawn.
 const MOST_STATES: u128 = (1 << 20) - 2;
 
@@ -359,6 +374,7 @@ fn other_of<'a>(command: &str, words: &'a [String]) -> Result<Job<'a>, WordsErro
         "policy" => policy_of(words),
         "discount" => discount_of(words),
         "discount-check" => discount_check_of(words),
+        "bounds-check" => bounds_check_of(words),
         _ => Err(WordsError::Command),
     }
 }

@@ -1,0 +1,4 @@
+pub mod Due
+pub mod Accepted
+pub mod Shown
+pub mod Laws
