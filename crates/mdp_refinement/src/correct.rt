@@ -6,6 +6,9 @@ use crate::leaving::proper;
 use crate::lists::{float_at, number, put};
 use std::alloc::{AllocError, Global};
 
+/// Components of more nodes are swept before nodes are eliminated.
+const FEW_NODES: usize = 40;
+
 /// How many sweeps are tried before nodes are eliminated.
 const FEW_SWEEPS: usize = 400;
 
@@ -18,13 +21,35 @@ const MOST_ENTRIES: usize = 3_000_000;
 /// How many policies are tried.
 const MOST_POLICIES: usize = 200;
 
+/// A sweep that changes values by less than this part of a unit is the last.
+const SMALL_CHANGE: f64 = 1e-3;
+
+/// A row that gains less than this part of a unit is no better than the policy's.
+const SMALL_GAIN: f64 = 4e-3;
+
+/// What sums of floats may lose, as a part of the greatest value, in a sweep and in an improvement.
+const SWEEP_LOSS: f64 = 1e-14;
+
+const GAIN_LOSS: f64 = 1e-13;
+
+/// How corrections are found.
+#[derive(Clone, Copy)]
+enum Way {
+    /// By few sweeps, if a forecast says that they come to an end, else by policies.
+    FewSweeps,
+    /// By policies.
+    Policies,
+    /// By so many sweeps, where elimination takes too long.
+    ManySweeps(usize),
+}
+
 /// The search for corrections, with the policy that it has come to.
 #[derive(Drop)]
 pub(crate) struct Corrector<'a> {
     component: &'a Component,
     sense: f64,
     unit: f64,
-    sweeps: usize,
+    way: Way,
     start: Vec<usize>,
     policy: Vec<usize>,
     values: Vec<f64>,
@@ -42,7 +67,7 @@ struct Change {
 impl Change {
     /// What is small enough.
     fn enough(self, unit: f64) -> f64 {
-        (unit * 1e-3).max(self.size * 1e-14)
+        (unit * SMALL_CHANGE).max(self.size * SWEEP_LOSS)
     }
 }
 
@@ -71,7 +96,11 @@ impl<'a> Corrector<'a> {
             component,
             sense,
             unit: component.least_unit(),
-            sweeps: if component.len() > 40 { FEW_SWEEPS } else { 0 },
+            way: if component.len() > FEW_NODES {
+                Way::FewSweeps
+            } else {
+                Way::Policies
+            },
             start: listed(alloc, start)?,
             policy: listed(alloc, start)?,
             values: vec![in alloc; 0.0; component.len()]?,
@@ -174,7 +203,7 @@ impl<'a> Corrector<'a> {
     /// The row of the node at a place that gains most over the policy's, where it gains enough.
     fn improved(&self, gains: &[f64], place: usize, chosen: usize) -> Option<usize> {
         let value = self.values.get(place).copied()?;
-        let mut best = (self.unit * 0.004).max(value.abs() * 1e-13);
+        let mut best = (self.unit * SMALL_GAIN).max(value.abs() * GAIN_LOSS);
         let mut better = None;
         let (from, to) = self.component.range_of(place);
         for at in from..to {
@@ -219,7 +248,7 @@ impl<'a> Corrector<'a> {
             .checked_div(self.component.size())
             .unwrap_or(0)
             .max(FEW_SWEEPS + 1);
-        self.sweeps = sweeps;
+        self.way = Way::ManySweeps(sweeps);
         self.by_sweeps(alloc, gains, sweeps)?;
         Ok(true)
     }
@@ -262,14 +291,20 @@ impl<'a> Corrector<'a> {
 
     /// Finds the corrections that gains, one for each row, come to. Whether there are any.
     pub(crate) fn correct(&mut self, alloc: Global, gains: &[f64]) -> Result<bool, AllocError> {
-        if self.sweeps > 0 {
-            let is_settled = self.by_sweeps(alloc, gains, self.sweeps)?;
-            if is_settled || self.sweeps > FEW_SWEEPS {
-                return Ok(true);
+        match self.way {
+            Way::FewSweeps => {
+                if self.by_sweeps(alloc, gains, FEW_SWEEPS)? {
+                    return Ok(true);
+                }
+                self.way = Way::Policies;
+                self.by_policies(alloc, gains)
             }
-            self.sweeps = 0;
+            Way::Policies => self.by_policies(alloc, gains),
+            Way::ManySweeps(sweeps) => {
+                self.by_sweeps(alloc, gains, sweeps)?;
+                Ok(true)
+            }
         }
-        self.by_policies(alloc, gains)
     }
 }
 

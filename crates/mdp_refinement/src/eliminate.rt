@@ -81,11 +81,33 @@ struct System {
     added: Vec<u32>,
 }
 
+/// The probability that a row, ordered by target, gives to a target.
 fn entry_of(row: &[(u32, f64)], target: u32) -> f64 {
     match row.binary_search_by_key(&target, |entry| entry.0) {
         Ok(place) => row.get(place).copied().unwrap_or((0, 0.0)).1,
         Err(_) => 0.0,
     }
+}
+
+/// Appends the entries of a row from a place on, as long as they lead to nodes below a limit, but for the one to `gone`. The place behind them.
+fn copy_below(
+    own: &[(u32, f64)],
+    from: usize,
+    limit: u32,
+    gone: u32,
+    merged: &mut Entries,
+) -> Result<usize, AllocError> {
+    let mut next = from;
+    for entry in own.get(from..).unwrap_or(&[]) {
+        if entry.0 >= limit {
+            break;
+        }
+        if entry.0 != gone {
+            merged.push(*entry)?;
+        }
+        next = next.saturating_add(1);
+    }
+    Ok(next)
 }
 
 /// Puts the row `own` of node `own_node` into `merged`, with `share` times `row` in the place of its entry to `gone`. Targets that are new to it are
@@ -103,15 +125,7 @@ fn merge(
     added.clear();
     let mut next = 0usize;
     for (target, prob) in row {
-        for first in own.get(next..).unwrap_or(&[]) {
-            if first.0 >= *target {
-                break;
-            }
-            if first.0 != gone {
-                merged.push(*first)?;
-            }
-            next = next.saturating_add(1);
-        }
+        next = copy_below(own, next, *target, gone, merged)?;
         if *target == own_node {
             continue;
         }
@@ -125,11 +139,7 @@ fn merge(
         }
         merged.push((*target, sum))?;
     }
-    for entry in own.get(next..).unwrap_or(&[]) {
-        if entry.0 != gone {
-            merged.push(*entry)?;
-        }
-    }
+    copy_below(own, next, u32::MAX, gone, merged)?;
     Ok(())
 }
 
@@ -191,6 +201,7 @@ fn counts_of(alloc: Global, lists: &[Vec<u32>]) -> Result<Vec<usize>, AllocError
 }
 
 impl System {
+    /// The rows of a policy, with all nodes waiting.
     fn new(alloc: Global, component: &Component, policy: &[usize]) -> Result<System, AllocError> {
         let rows = rows_of(alloc, component, policy)?;
         let preds = preds_of(alloc, &rows)?;
@@ -218,6 +229,7 @@ impl System {
         entries.saturating_mul(preds)
     }
 
+    /// Puts a node into the queue, by its products.
     fn push(&mut self, node: u32) -> Result<(), AllocError> {
         let key = self.key(node);
         self.heap.push(Reverse((key, node)))?;

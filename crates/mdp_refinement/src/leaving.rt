@@ -21,6 +21,7 @@ struct Leaving<'a> {
 }
 
 impl<'a> Leaving<'a> {
+    /// A search with no way out yet.
     fn new(alloc: Global, component: &'a Component) -> Result<Leaving<'a>, AllocError> {
         Ok(Leaving {
             component,

@@ -13,6 +13,12 @@ const MOST_ROUNDS: u32 = 14;
 /// From which correction on the rows are given more room.
 const FIRST_ROOMY: u32 = 5;
 
+/// The room that rows are given first, as a multiple of what rounding may cost.
+const FIRST_ROOM: f64 = 1.01;
+
+/// By how much the room grows with each correction.
+const GROWTH: f64 = 1.5;
+
 /// How many corrections are made at least: the first has only the digits of a float.
 const LEAST_ROUNDS: u32 = 2;
 
@@ -89,11 +95,11 @@ pub(crate) fn refine(
     };
     let mut corrector = Corrector::new(alloc, component, task.sense(), start)?;
     let mut gains = vec![in alloc; 0.0; component.rows.len()]?;
-    let mut room = 1.01;
+    let mut room = FIRST_ROOM;
     setting.clear(values);
     for round in 0..MOST_ROUNDS {
         if round >= FIRST_ROOMY {
-            room *= 1.5;
+            room *= GROWTH;
         }
         match setting.measure(corrector.policy(), values, room, &mut gains) {
             None => return Ok(None),

@@ -53,6 +53,7 @@ struct Building<'a> {
 }
 
 impl Rows {
+    /// No row yet.
     fn empty(alloc: Global, nodes: &Nodes, digits: u32) -> Result<Rows, AllocError> {
         Ok(Rows {
             digits,
