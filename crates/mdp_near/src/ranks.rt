@@ -1,5 +1,4 @@
 ghost use Rattle.std.specs.Prelude.{◌≡◌, length, IfOk};
-ghost use Rattle.mdp_spec.specs.Mdp.{states_of};
 
 use crate::backward::Backward;
 use mdp_graph::must_meet;

@@ -1,6 +1,3 @@
-ghost use Rattle.std.specs.Prelude.{◌<◌};
-ghost use Rattle.mdp_spec.specs.Mdp.{states_of};
-
 use crate::bound::Bound;
 use crate::convert::to_float;
 use crate::lists::{flag_at, number_at, put, start_at};
