@@ -11,6 +11,9 @@ use mdp_num::Memory;
 use mdp_rows::{Dir, Marks, Model};
 use std::alloc::Global;
 
+/// The most digits that are tried.
+const MOST_DIGITS: u32 = 30;
+
 /// The numbers of digits that are tried where more of them came to nothing that meets the rules.
 const FEWER_DIGITS: [u32; 5] = [12, 9, 6, 3, 0];
 
@@ -29,6 +32,43 @@ fn held(model: &Model, goals: &Marks, dir: Dir, cert: ReachBoundsCert) -> Option
     }
 }
 
+/// The simplest fractions between the bounds of a certificate, as exact values, where the rules say yes to them.
+fn held_exact(
+    alloc: Global,
+    model: &Model,
+    goals: &Marks,
+    dir: Dir,
+    cert: &ReachBoundsCert,
+) -> Result<Option<ReachBoundsCert>, Memory>
+    requires goals { length goals.now ≡ states_of model.now }
+    requires lower { length cert.now.lower.items ≡ states_of model.now }
+    requires upper { length cert.now.upper.items ≡ states_of model.now }
+    requires choices { length cert.now.choices.items ≡ states_of model.now }
+    requires ranks { length cert.now.ranks.items ≡ states_of model.now }
+    ensures { IfOk result (λ found. IfSome found (IsHeldReach dir model.now goals.now)) }
+{
+    let exact = simplest_reach(alloc, model.states(), cert)?;
+    Ok(held(model, goals, dir, exact))
+}
+
+/// The same of what the search proposes with the most digits, where these are more than so many.
+fn held_exact_with_most(
+    alloc: Global,
+    model: &Model,
+    goals: &Marks,
+    dir: Dir,
+    digits: u32,
+) -> Result<Option<ReachBoundsCert>, Memory>
+    requires { length goals.now ≡ states_of model.now }
+    ensures { IfOk result (λ found. IfSome found (IsHeldReach dir model.now goals.now)) }
+{
+    if digits >= MOST_DIGITS {
+        return Ok(None);
+    }
+    let cert = near_reach(alloc, model, goals, dir, MOST_DIGITS)?;
+    held_exact(alloc, model, goals, dir, &cert)
+}
+
 /// What the search proposes with so many digits, where the rules say yes to it: first the simplest fractions between its bounds, as exact values.
 fn held_near(
     alloc: Global,
@@ -41,8 +81,7 @@ fn held_near(
     ensures { IfOk result (λ found. IfSome found (IsHeldReach dir model.now goals.now)) }
 {
     let cert = near_reach(alloc, model, goals, dir, digits)?;
-    let exact = simplest_reach(alloc, model.states(), &cert)?;
-    if let Some(exact) = held(model, goals, dir, exact) {
+    if let Some(exact) = held_exact(alloc, model, goals, dir, &cert)? {
         return Ok(Some(exact));
     }
     Ok(held(model, goals, dir, cert))
@@ -87,7 +126,8 @@ fn held_trivial(
 }
 
 /// Bounds of the greatest or the least probability to reach a goal, with a policy and ranks: exact values, where the simplest fractions between the
-/// bounds that the search proposes are such, else these bounds, with so many digits or fewer, else 0 and 1. They always meet the rules.
+/// bounds that the search proposes, with so many digits or with the most, are such; else these bounds, with so many digits or fewer; else 0 and 1. They
+/// always meet the rules.
 pub fn bounds_reach(
     alloc: Global,
     model: &Model,
@@ -102,7 +142,14 @@ pub fn bounds_reach(
     ensures choices { IfOk result (λ cert. length cert.choices.items ≡ states_of model.now) }
     ensures ranks { IfOk result (λ cert. length cert.ranks.items ≡ states_of model.now) }
 {
-    if let Some(cert) = held_near(alloc, model, goals, dir, digits)? {
+    let near = near_reach(alloc, model, goals, dir, digits)?;
+    if let Some(exact) = held_exact(alloc, model, goals, dir, &near)? {
+        return Ok(exact);
+    }
+    if let Some(exact) = held_exact_with_most(alloc, model, goals, dir, digits)? {
+        return Ok(exact);
+    }
+    if let Some(cert) = held(model, goals, dir, near) {
         return Ok(cert);
     }
     if let Some(cert) = held_with_fewer(alloc, model, goals, dir, digits)? {
