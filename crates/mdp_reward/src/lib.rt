@@ -9,4 +9,6 @@ mod solve;
 mod start;
 
 pub use laws::query_law;
+pub use ranks::ranks_of;
 pub use solve::solve_reward;
+pub use start::{Start, start_of};

@@ -63,8 +63,8 @@ fn min_ranks(
     Ok(ranks)
 }
 
-/// The ranks of a certificate.
-pub(crate) fn ranks_of(
+/// The ranks of a certificate with this policy, one for each state; `known` are those of the start. An `Err` is want of memory.
+pub fn ranks_of(
     alloc: Global,
     model: &Model,
     goals: &Marks,

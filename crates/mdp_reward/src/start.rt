@@ -10,10 +10,10 @@ use std::alloc::{AllocError, Global};
 
 /// The states of finite reward, the start policy, and the ranks that are known before the path.
 #[derive(Drop)]
-pub(crate) struct Start {
-    pub(crate) finite: Marks,
-    pub(crate) policy: Vec<u32>,
-    pub(crate) known: Vec<u32>,
+pub struct Start {
+    pub finite: Marks,
+    pub policy: Vec<u32>,
+    pub known: Vec<u32>,
 }
 
 /// The states that aren't marked.
@@ -64,13 +64,8 @@ fn min_start(alloc: Global, model: &Model, goals: &Marks) -> Result<Start, Memor
     })
 }
 
-/// The start of a query.
-pub(crate) fn start_of(
-    alloc: Global,
-    model: &Model,
-    goals: &Marks,
-    dir: Dir,
-) -> Result<Start, Memory>
+/// The start of a query: the states of finite reward by the graph alone, a policy, and ranks, one of each for each state. An `Err` is want of memory.
+pub fn start_of(alloc: Global, model: &Model, goals: &Marks, dir: Dir) -> Result<Start, Memory>
     requires { length goals.now ≡ states_of model.now }
     ensures { IfOk result (λ start. IsStart dir model.now goals.now start.finite start.policy.items start.known.items) }
 {
