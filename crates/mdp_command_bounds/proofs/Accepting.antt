@@ -11,7 +11,7 @@ use Rattle.mdp_drn.specs.Reading as drn
 use Rattle.mdp_text.specs.declared.error.Refusal as text
 use Rattle.mdp_bounds_text.specs.Cert.{Certificate}
 use Rattle.mdp_bounds_text.specs.Reading.{outcome}
-use Rattle.mdp_check.specs.Bounds.{bounds_answer_to, IsBoundsAccepted, IsBoundsTrue}
+use Rattle.mdp_check.specs.Bounds.{bounds_answer_to, IsBoundsAccepted}
 use Rattle.mdp_check.specs.BoundsLaws.{YesAcceptsBounds, AcceptedBoundsAreTrue}
 use Rattle.mdp_check.specs.declared.answer.Answer.{Answer}
 use Rattle.mdp_check.specs.declared.answer.Answer.TheVariants.{Yes, No, Wide, NoReward, NoLabel, Size, Memory}

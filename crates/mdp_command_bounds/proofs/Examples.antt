@@ -1,5 +1,5 @@
 -- What is said to certificates of bounds, computed. `draw` stays at 0 without a reward, or pays 3 and moves to 1 with 1/3 and to 2 with 2/3; 1 is the goal.
-use Rattle.std.proofs.Common.{◌≡◌, ℕ, ◌+◌, ◌^◌, List, [], ◌∷◌, Ok, Err, refl, pos, Option, Some, None}
+use Rattle.std.proofs.Common.{◌≡◌, ℕ, ◌+◌, ◌^◌, List, [], ◌∷◌, Ok, Err, refl, pos, Some, None}
 use Rattle.std.specs.Prelude.{codes}
 use Rattle.mdp_math.specs.Gcd.{gcd, gcd_with_fuel}
 use Rattle.mdp_math.specs.Rational.{ℚ, of_int, ratio, le_ℚ, lt_ℚ, ◌+ℚ◌, ◌*ℚ◌}
