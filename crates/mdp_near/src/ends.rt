@@ -1,0 +1,252 @@
+//! The end components among the states whose value the graph doesn't decide.
+
+ghost use Rattle.std.specs.Prelude.{◌≡◌, ◌<◌, length, IfOk};
+ghost use Rattle.mdp_spec.specs.Mdp.{states_of, choices_at};
+
+use crate::backward::Backward;
+use crate::decided::{Kind, kind_at};
+use mdp_graph::may_avoid;
+use mdp_num::Memory;
+use mdp_refinement::{Components, Graph, flag_at, number_at, put, strong_components};
+use mdp_rows::{Dir, Marks, Model, Pred};
+use std::alloc::{AllocError, Global};
+
+/// The choices that are left, numbered state by state: which they are, how many each state has, and the states that have none, in the order in which
+/// they lost the last.
+#[derive(Drop)]
+struct Left {
+    starts: Vec<usize>,
+    is_left: Vec<bool>,
+    counts: Vec<u32>,
+    gone: Vec<u32>,
+}
+
+impl Left {
+    /// All choices of a model.
+    fn all(alloc: Global, model: &Model) -> Result<Left, AllocError> {
+        let mut starts = Vec::new(alloc);
+        let mut counts = Vec::new(alloc);
+        let mut total = 0usize;
+        for s in 0..model.states() {
+            starts.push(total)?;
+            counts.push(model.choices(s))?;
+            total = total.saturating_add(model.choices(s) as usize);
+        }
+        starts.push(total)?;
+        Ok(Left {
+            starts,
+            is_left: vec![in alloc; true; total]?,
+            counts,
+            gone: Vec::new(alloc),
+        })
+    }
+
+    /// Whether each choice of a state is left.
+    fn of(&self, s: u32) -> &[bool] {
+        let from = self.starts.get(s as usize).copied().unwrap_or(0);
+        let to = self.starts.get((s as usize).saturating_add(1)).copied();
+        self.is_left.get(from..to.unwrap_or(0)).unwrap_or(&[])
+    }
+
+    /// Forbids choice `c` of state `s`, if it is left.
+    fn forbid(&mut self, s: u32, c: u32) -> Result<(), AllocError> {
+        let start = self.starts.get(s as usize).copied().unwrap_or(0);
+        let Some(is_left) = self.is_left.get_mut(start.saturating_add(c as usize)) else {
+            return Ok(());
+        };
+        if *is_left {
+            *is_left = false;
+            let count = number_at(&self.counts, s).saturating_sub(1);
+            put(&mut self.counts, s, count);
+            if count == 0 {
+                self.gone.push(s)?;
+            }
+        }
+        Ok(())
+    }
+
+    /// Forbids all choices of a state.
+    fn forbid_state(&mut self, s: u32, choices: u32) -> Result<(), AllocError> {
+        for c in 0..choices {
+            self.forbid(s, c)?;
+        }
+        Ok(())
+    }
+
+    /// Forbids the choices of the states that aren't marked.
+    fn keep_marked(&mut self, model: &Model, marks: &Marks) -> Result<(), AllocError>
+        requires { length marks.now ≡ states_of model.now }
+    {
+        for s in 0..model.states() {
+            if !marks.at(s) {
+                self.forbid_state(s, model.choices(s))?;
+            }
+        }
+        Ok(())
+    }
+
+    /// Forbids choices.
+    fn forbid_each(&mut self, choices: &[Pred]) -> Result<(), AllocError> {
+        for choice in choices {
+            self.forbid(choice.state, choice.choice)?;
+        }
+        Ok(())
+    }
+
+    /// Forbids the choices that lead to a state without a choice, of those from a place in their order on. How many such states there are then.
+    fn spread(&mut self, backward: &Backward, from: usize) -> Result<usize, AllocError> {
+        for place in from..self.counts.len() {
+            let Some(s) = self.gone.get(place).copied() else {
+                break;
+            };
+            self.forbid_each(backward.of(s))?;
+        }
+        Ok(self.gone.len())
+    }
+
+    /// Forbids the choices of a state that are left and leave its part. Whether there were any.
+    fn forbid_leaving_at(
+        &mut self,
+        model: &Model,
+        parts: &Components,
+        s: u32,
+    ) -> Result<bool, AllocError>
+        requires { s < states_of model.now }
+    {
+        let mut any = false;
+        for c in 0..model.choices(s) {
+            if flag_at(self.of(s), c) && !stays(model, parts, s, c) {
+                self.forbid(s, c)?;
+                any = true;
+            }
+        }
+        Ok(any)
+    }
+
+    /// Forbids the choices that are left and leave the part of their state. Whether there were any.
+    fn forbid_leaving(&mut self, model: &Model, parts: &Components) -> Result<bool, AllocError> {
+        let mut any = false;
+        for s in 0..model.states() {
+            if self.forbid_leaving_at(model, parts, s)? {
+                any = true;
+            }
+        }
+        Ok(any)
+    }
+
+    /// Whether each state has a choice.
+    fn have_choice(&self, alloc: Global) -> Result<Vec<bool>, AllocError> {
+        self.counts.iter().map(|count| *count > 0).collect(alloc)
+    }
+}
+
+/// Whether a choice stays in the part of its state.
+fn stays(model: &Model, parts: &Components, s: u32, c: u32) -> bool
+    requires state { s < states_of model.now }
+    requires choice { c < length (choices_at model.now s) }
+{
+    let part = parts.of(s);
+    let targets = model.row(s, c).targets;
+    targets.iter().all(|t| parts.of(*t) == part)
+}
+
+/// The part of a state; none where it is in none.
+fn part_of(parts: &Components, s: u32) -> Option<u32> {
+    let part = parts.of(s);
+    if part == u32::MAX { None } else { Some(part) }
+}
+
+/// Appends the edges of a state: those of its choices that are left.
+fn push_edges(graph: &mut Graph, model: &Model, is_left: &[bool], s: u32) -> Result<(), AllocError>
+    requires { s < states_of model.now }
+{
+    for c in 0..model.choices(s) {
+        if flag_at(is_left, c) {
+            push_targets(graph, model.row(s, c).targets)?;
+        }
+    }
+    Ok(())
+}
+
+/// Appends an edge to each target.
+fn push_targets(graph: &mut Graph, targets: &[u32]) -> Result<(), AllocError> {
+    for target in targets {
+        graph.push_edge(*target)?;
+    }
+    Ok(())
+}
+
+/// The strong components of the choices that are left, at the states that have one.
+fn components_of(alloc: Global, model: &Model, left: &Left) -> Result<Components, AllocError> {
+    let mut graph = Graph::empty(alloc);
+    for s in 0..model.states() {
+        graph.push_node()?;
+        push_edges(&mut graph, model, left.of(s), s)?;
+    }
+    strong_components(alloc, &graph, &left.have_choice(alloc)?)
+}
+
+/// The maximal end component of each state, if it is in one, of those inside a set of states.
+///
+/// Each round takes the strong components of the choices that are left and forbids each choice that leaves its own, until none does (de Alfaro 1997).
+/// Between rounds a state that has no choice left takes from the others the choices that lead to it, so that states which fall away one after the other
+/// take no round each.
+fn ends_inside(
+    alloc: Global,
+    model: &Model,
+    backward: &Backward,
+    inside: &Marks,
+) -> Result<Vec<Option<u32>>, AllocError>
+    requires { length inside.now ≡ states_of model.now }
+{
+    let mut left = Left::all(alloc, model)?;
+    left.keep_marked(model, inside)?;
+    let mut spread = left.spread(backward, 0)?;
+    let mut parts = components_of(alloc, model, &left)?;
+    for _ in 0..model.states() {
+        if !left.forbid_leaving(model, &parts)? {
+            break;
+        }
+        spread = left.spread(backward, spread)?;
+        parts = components_of(alloc, model, &left)?;
+    }
+    (0..model.states())
+        .map(|s| part_of(&parts, s))
+        .collect(alloc)
+}
+
+/// Whether the graph decides the value, for each state.
+fn are_decided(alloc: Global, states: u32, kinds: &[Kind]) -> Result<Vec<bool>, AllocError>
+    ensures { IfOk result (λ list. length list.items ≡ states) }
+{
+    (0..states)
+        .map(|s| kind_at(kinds, s) != Kind::Between)
+        .collect(alloc)
+}
+
+/// Whether some state is marked.
+fn is_any(states: u32, marks: &Marks) -> bool
+    requires { length marks.now ≡ states }
+{
+    (0..states).any(|s| marks.at(s))
+}
+
+/// For each state the end component that is to be one node, if it is in one: the states of an end component have one greatest probability. For the least
+/// probability there is no end component where the graph doesn't decide the value.
+pub(crate) fn joined_parts(
+    alloc: Global,
+    model: &Model,
+    backward: &Backward,
+    kinds: &[Kind],
+    dir: Dir,
+) -> Result<Vec<Option<u32>>, Memory> {
+    model.known();
+    if dir == Dir::Max {
+        let decided = Marks::from_values(are_decided(alloc, model.states(), kinds)?);
+        let staying = may_avoid(alloc, model, &decided)?;
+        if is_any(model.states(), &staying.marks) {
+            return Ok(ends_inside(alloc, model, backward, &staying.marks)?);
+        }
+    }
+    Ok(vec![in alloc; None; model.states() as usize]?)
+}

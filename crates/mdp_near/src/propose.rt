@@ -1,0 +1,265 @@
+ghost use Rattle.std.specs.Prelude.{◌≡◌, length, IfOk};
+ghost use Rattle.mdp_spec.specs.Mdp.{states_of};
+
+use crate::backward::Backward;
+use crate::decided::{Decided, Kind, decide, kind_at};
+use crate::ends::joined_parts;
+use crate::policy::policy_of;
+use crate::ranks::{max_ranks, min_ranks};
+use mdp_bounds::ReachBoundsCert;
+use mdp_num::{Frac, Memory};
+use mdp_refinement::{Bound, Nodes, Rows, Solution, Task, number_at, put, solve, value_at};
+use mdp_rows::{Dir, Marks, Model};
+use std::alloc::{AllocError, Global};
+
+/// The most digits that values are given.
+const MOST_DIGITS: u32 = 30;
+
+/// The goals, one truth value for each state.
+fn goals_of(alloc: Global, states: u32, goals: &Marks) -> Result<Vec<bool>, AllocError>
+    requires { length goals.now ≡ states }
+{
+    (0..states).map(|s| goals.at(s)).collect(alloc)
+}
+
+/// Whether the value of each state is to be found.
+fn are_open(alloc: Global, kinds: &[Kind]) -> Result<Vec<bool>, AllocError> {
+    kinds
+        .iter()
+        .map(|kind| *kind == Kind::Between)
+        .collect(alloc)
+}
+
+/// The values of nodes that the graph decides.
+fn given_values(
+    alloc: Global,
+    kinds: &[Kind],
+    nodes: &Nodes,
+    one: i128,
+) -> Result<Vec<Option<i128>>, AllocError> {
+    let mut given = vec![in alloc; None; nodes.count() as usize]?;
+    for state in nodes.order() {
+        let value = match kind_at(kinds, *state) {
+            Kind::Never => Some(0),
+            Kind::Surely => Some(one),
+            Kind::Between => None,
+        };
+        put(&mut given, nodes.of(*state), value);
+    }
+    Ok(given)
+}
+
+/// The value of a state, in units and between 0 and 1.
+fn clamped(nodes: &Nodes, values: &[i128], one: i128, state: u32) -> i128 {
+    value_at(values, nodes.of(state))
+        .unwrap_or(0)
+        .max(0)
+        .min(one)
+}
+
+/// The values of the states, in units.
+fn spread(
+    alloc: Global,
+    states: u32,
+    nodes: &Nodes,
+    values: &[i128],
+    one: i128,
+) -> Result<Vec<i128>, AllocError> {
+    (0..states)
+        .map(|s| clamped(nodes, values, one, s))
+        .collect(alloc)
+}
+
+/// A value in units as a fraction.
+fn fraction_at(values: &[i128], one: i128, state: u32) -> Frac {
+    let value = value_at(values, state).unwrap_or(0);
+    match Frac::try_new(value, one) {
+        Ok(fraction) => fraction,
+        Err(_) => Frac::whole(0),
+    }
+}
+
+/// The fractions of values in units.
+fn fractions(
+    alloc: Global,
+    states: u32,
+    values: &[i128],
+    one: i128,
+) -> Result<Vec<Frac>, AllocError>
+    ensures { IfOk result (λ list. length list.items ≡ states) }
+{
+    (0..states)
+        .map(|s| fraction_at(values, one, s))
+        .collect(alloc)
+}
+
+/// A number for each state.
+fn numbers(alloc: Global, states: u32, values: &[u32]) -> Result<Vec<u32>, AllocError>
+    ensures { IfOk result (λ list. length list.items ≡ states) }
+{
+    (0..states).map(|s| number_at(values, s)).collect(alloc)
+}
+
+/// Whether each value is 0.
+fn are_zero(alloc: Global, values: &[i128]) -> Result<Vec<bool>, AllocError> {
+    values.iter().map(|value| *value == 0).collect(alloc)
+}
+
+/// What the search came to: values in units, choices and ranks, for each state.
+#[derive(Drop)]
+struct Outcome {
+    lower: Vec<i128>,
+    upper: Vec<i128>,
+    choices: Vec<u32>,
+    ranks: Vec<u32>,
+}
+
+/// The parts of a search.
+#[derive(Clone, Copy)]
+struct Search<'a> {
+    model: &'a Model,
+    goals: &'a [bool],
+    dir: Dir,
+    decided: &'a Decided,
+    backward: &'a Backward,
+    nodes: &'a Nodes,
+    rows: &'a Rows,
+}
+
+impl Search<'_> {
+    /// The values of the nodes for one bound.
+    fn solve(self, alloc: Global, bound: Bound) -> Result<Solution, AllocError> {
+        let one = self.rows.one();
+        let given = given_values(alloc, &self.decided.kinds, self.nodes, one)?;
+        let dir = self.dir;
+        solve(alloc, self.rows, &given, Task { dir, bound })
+    }
+
+    /// The values of the states.
+    fn spread(self, alloc: Global, solution: &Solution) -> Result<Vec<i128>, AllocError> {
+        let one = self.rows.one();
+        spread(
+            alloc,
+            self.model.states(),
+            self.nodes,
+            &solution.values,
+            one,
+        )
+    }
+
+    /// The ranks of lower bounds under a policy, where there are such.
+    fn ranks(
+        self,
+        alloc: Global,
+        lower: &[i128],
+        choices: &[u32],
+    ) -> Result<Option<Vec<u32>>, Memory> {
+        let is_zero = are_zero(alloc, lower)?;
+        match self.dir {
+            Dir::Max => { Ok(max_ranks(alloc, self.backward, self.goals, choices, &is_zero)?) }
+            Dir::Min => Ok(Some(min_ranks(alloc, self.model, self.goals, &is_zero)?)),
+        }
+    }
+
+    /// Lower bounds that hold by the graph alone.
+    fn least(self, alloc: Global) -> Result<Vec<i128>, AllocError> {
+        let one = self.rows.one();
+        self.decided
+            .kinds
+            .iter()
+            .map(|kind| if *kind == Kind::Surely { one } else { 0 })
+            .collect(alloc)
+    }
+
+    /// Lower bounds and the ranks that go with them: the given ones, or, where those have no ranks, such as hold by the graph alone.
+    fn ranked(
+        self,
+        alloc: Global,
+        lower: Vec<i128>,
+        choices: &[u32],
+    ) -> Result<(Vec<i128>, Vec<u32>), Memory> {
+        if let Some(ranks) = self.ranks(alloc, &lower, choices)? {
+            return Ok((lower, ranks));
+        }
+        let least = self.least(alloc)?;
+        match self.ranks(alloc, &least, choices)? {
+            Some(ranks) => Ok((least, ranks)),
+            None => Ok((least, Vec::new(alloc))),
+        }
+    }
+
+    /// The policy that the picks of the nodes come to.
+    fn policy(self, alloc: Global, picks: &[Option<usize>]) -> Result<Vec<u32>, AllocError> {
+        policy_of(
+            alloc,
+            self.model,
+            self.backward,
+            self.nodes,
+            self.rows,
+            picks,
+            &self.decided.choices,
+        )
+    }
+
+    /// Both bounds, a policy and ranks.
+    fn run(self, alloc: Global) -> Result<Outcome, Memory> {
+        let low = self.solve(alloc, Bound::Lower)?;
+        let high = self.solve(alloc, Bound::Upper)?;
+        let choices = match self.dir {
+            Dir::Max => self.policy(alloc, &low.picks)?,
+            Dir::Min => self.policy(alloc, &high.picks)?,
+        };
+        let upper = self.spread(alloc, &high)?;
+        let (lower, ranks) = self.ranked(alloc, self.spread(alloc, &low)?, &choices)?;
+        Ok(Outcome {
+            lower,
+            upper,
+            choices,
+            ranks,
+        })
+    }
+}
+
+/// Proposes bounds of the greatest or the least probability to reach a goal, as multiples of 10 to the power of -`digits` where the rows allow it,
+/// with a policy and ranks.
+///
+/// The graph decides where the probability is 0 or 1. Elsewhere components are solved, successors first: floats give corrections to values in whole
+/// numbers, whose residuals are exact (iterative refinement).
+pub fn near_reach(
+    alloc: Global,
+    model: &Model,
+    goals: &Marks,
+    dir: Dir,
+    digits: u32,
+) -> Result<ReachBoundsCert, Memory>
+    requires goals { length goals.now ≡ states_of model.now }
+    ensures lower { IfOk result (λ cert. length cert.lower.items ≡ states_of model.now) }
+    ensures upper { IfOk result (λ cert. length cert.upper.items ≡ states_of model.now) }
+    ensures choices { IfOk result (λ cert. length cert.choices.items ≡ states_of model.now) }
+    ensures ranks { IfOk result (λ cert. length cert.ranks.items ≡ states_of model.now) }
+{
+    let states = model.states();
+    let decided = decide(alloc, model, goals, dir)?;
+    let backward = Backward::new(alloc, model)?;
+    let parts = joined_parts(alloc, model, &backward, &decided.kinds, dir)?;
+    let nodes = Nodes::new(alloc, &parts)?;
+    let is_open = are_open(alloc, &decided.kinds)?;
+    let rows = Rows::new(alloc, model, &nodes, &is_open, digits.min(MOST_DIGITS))?;
+    let is_goal = goals_of(alloc, states, goals)?;
+    let search = Search {
+        model,
+        goals: &is_goal,
+        dir,
+        decided: &decided,
+        backward: &backward,
+        nodes: &nodes,
+        rows: &rows,
+    };
+    let outcome = search.run(alloc)?;
+    Ok(ReachBoundsCert {
+        lower: fractions(alloc, states, &outcome.lower, rows.one())?,
+        upper: fractions(alloc, states, &outcome.upper, rows.one())?,
+        choices: numbers(alloc, states, &outcome.choices)?,
+        ranks: numbers(alloc, states, &outcome.ranks)?,
+    })
+}

@@ -1,0 +1,68 @@
+//! Which bound is sought, and what it asks of the choices.
+
+use mdp_rows::Dir;
+use std::cmp::Ordering;
+
+/// A bound from below or from above.
+#[derive(Clone, Copy, PartialEq, Eq)]
+pub enum Bound {
+    Lower,
+    Upper,
+}
+
+/// A bound of the greatest or of the least value.
+#[derive(Clone, Copy, PartialEq, Eq)]
+pub struct Task {
+    pub dir: Dir,
+    pub bound: Bound,
+}
+
+impl Task {
+    /// Whether the bound is to hold on each choice, and not on the policy's alone.
+    pub fn is_each(self) -> bool {
+        match self.dir {
+            Dir::Max => self.bound == Bound::Upper,
+            Dir::Min => self.bound == Bound::Lower,
+        }
+    }
+
+    /// 1 for an upper bound, -1 for a lower one.
+    pub fn side(self) -> f64 {
+        match self.bound {
+            Bound::Upper => 1.0,
+            Bound::Lower => -1.0,
+        }
+    }
+
+    /// 1 where greater values are better, -1 where less are.
+    pub fn sense(self) -> f64 {
+        match self.dir {
+            Dir::Max => 1.0,
+            Dir::Min => -1.0,
+        }
+    }
+
+    /// Whether a value is better than another, for whoever chooses.
+    pub fn prefers(self, value: i128, other: i128) -> bool {
+        match self.dir {
+            Dir::Max => value > other,
+            Dir::Min => value < other,
+        }
+    }
+
+    /// Whether a value is a stricter bound than another.
+    pub fn is_nearer(self, value: i128, other: i128) -> bool {
+        match self.bound {
+            Bound::Upper => value < other,
+            Bound::Lower => value > other,
+        }
+    }
+
+    /// Whether a row whose value has this order to that of its node breaks the bound.
+    pub fn is_broken(self, order: Ordering) -> bool {
+        match self.bound {
+            Bound::Upper => order == Ordering::Greater,
+            Bound::Lower => order == Ordering::Less,
+        }
+    }
+}

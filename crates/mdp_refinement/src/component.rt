@@ -1,0 +1,242 @@
+use crate::convert::to_float;
+use crate::lists::{Groups, float_at, number, number_at, put};
+use crate::rows::{Rows, WholeRow};
+use crate::strong::Components;
+use std::alloc::{AllocError, Global};
+
+/// A row of a node of a component, in floats: `total` times the node's value is the sum of probability times value over the entries, and of what
+/// goes to nodes outside, with probability `exit`. The node's own entry is left out, so `total` is what remains of 1.
+#[derive(Clone, Copy)]
+pub(crate) struct FloatRow {
+    /// The place of the node in the component.
+    pub(crate) node: u32,
+    /// The place of the whole row.
+    pub(crate) place: usize,
+    pub(crate) exit: f64,
+    pub(crate) total: f64,
+    /// What rounding of the values to their units may cost.
+    pub(crate) slack: f64,
+    first: usize,
+    end: usize,
+}
+
+/// A strong component with more than one node, in floats. Nodes are named by their places in it; an entry is the place of a node and its probability.
+#[derive(Drop)]
+pub(crate) struct Component {
+    pub(crate) nodes: Vec<u32>,
+    pub(crate) units: Vec<f64>,
+    pub(crate) rows: Vec<FloatRow>,
+    starts: Vec<usize>,
+    entries: Vec<(u32, f64)>,
+    leading: Groups,
+    owners: Vec<u32>,
+}
+
+/// Gathers the rows of a component.
+#[derive(Drop)]
+struct Gathering<'a> {
+    whole_rows: &'a Rows,
+    components: &'a Components,
+    number: u32,
+    units: Vec<f64>,
+    rows: Vec<FloatRow>,
+    entries: Vec<(u32, f64)>,
+    pending: Vec<(u32, f64)>,
+}
+
+impl Gathering<'_> {
+    /// Takes the entries of a row that stay in the component into `pending`, ordered by place, and gives the probability that leaves.
+    fn take_entries(&mut self, row: &WholeRow) -> Result<f64, AllocError> {
+        self.pending.clear();
+        let denominator = to_float(row.denominator);
+        let mut leaving = 0i128;
+        for entry in self.whole_rows.entries_of(row) {
+            match self.components.place_in(self.number, entry.node) {
+                Some(_) if entry.node == row.node => {}
+                Some(place) => self
+                    .pending
+                    .push((place, to_float(entry.numerator) / denominator))?,
+                None => leaving = leaving.saturating_add(entry.numerator),
+            }
+        }
+        self.pending.sort_by_key(|entry| entry.0)?;
+        Ok(to_float(leaving) / denominator)
+    }
+
+    /// Appends the row at a place, of the node at a place of the component.
+    fn push(&mut self, node: u32, place: usize, row: &WholeRow) -> Result<(), AllocError> {
+        let exit = self.take_entries(row)?;
+        let first = self.entries.len();
+        let mut total = exit;
+        let mut rounding = 0.0;
+        for entry in &self.pending {
+            total += entry.1;
+            rounding += entry.1 * float_at(&self.units, entry.0);
+            self.entries.push(*entry)?;
+        }
+        rounding += total * float_at(&self.units, node);
+        self.rows.push(FloatRow {
+            node,
+            place,
+            exit,
+            total,
+            slack: rounding / 2.0,
+            first,
+            end: self.entries.len(),
+        })?;
+        Ok(())
+    }
+
+    /// Appends the rows of a node, which has a place in the component.
+    fn push_node(&mut self, place: u32, node: u32) -> Result<(), AllocError> {
+        let whole_rows = self.whole_rows;
+        let (from, to) = whole_rows.range_of(node);
+        for at in from..to {
+            if let Some(row) = whole_rows.row(at) {
+                self.push(place, at, row)?;
+            }
+        }
+        Ok(())
+    }
+
+    /// Appends the rows of all nodes. Where those of each begin, and behind the last node where they end.
+    fn push_nodes(&mut self, alloc: Global, nodes: &[u32]) -> Result<Vec<usize>, AllocError> {
+        let mut starts = Vec::new(alloc);
+        for (place, node) in nodes.iter().enumerate() {
+            starts.push(self.rows.len())?;
+            self.push_node(number(place), *node)?;
+        }
+        starts.push(self.rows.len())?;
+        Ok(starts)
+    }
+}
+
+/// The units of nodes, in floats.
+fn units_of(alloc: Global, rows: &Rows, nodes: &[u32]) -> Result<Vec<f64>, AllocError> {
+    let mut units = Vec::new(alloc);
+    for node in nodes {
+        units.push(to_float(rows.unit_of(*node)))?;
+    }
+    Ok(units)
+}
+
+/// The place of the row of each entry.
+fn owners_of(alloc: Global, rows: &[FloatRow]) -> Result<Vec<u32>, AllocError> {
+    let mut owners = Vec::new(alloc);
+    for (place, row) in rows.iter().enumerate() {
+        for _ in row.first..row.end {
+            owners.push(number(place))?;
+        }
+    }
+    Ok(owners)
+}
+
+/// The places of entries, grouped by the nodes that they lead to.
+fn leading_to(alloc: Global, entries: &[(u32, f64)], count: usize) -> Result<Groups, AllocError> {
+    let mut targets = Vec::new(alloc);
+    for entry in entries {
+        targets.push(entry.0)?;
+    }
+    Groups::new(alloc, &targets, count)
+}
+
+/// The nodes of a component by their places.
+fn by_place(
+    alloc: Global,
+    components: &Components,
+    component: usize,
+) -> Result<Vec<u32>, AllocError> {
+    let members = components.nodes_of(component);
+    let mut nodes = vec![in alloc; 0; members.len()]?;
+    for node in members {
+        if let Some(place) = components.place_in(number(component), *node) {
+            put(&mut nodes, place, *node);
+        }
+    }
+    Ok(nodes)
+}
+
+impl Component {
+    /// The component of this number.
+    pub(crate) fn new(
+        alloc: Global,
+        rows: &Rows,
+        components: &Components,
+        component: usize,
+    ) -> Result<Component, AllocError> {
+        let nodes = by_place(alloc, components, component)?;
+        let mut gathering = Gathering {
+            whole_rows: rows,
+            components,
+            number: number(component),
+            units: units_of(alloc, rows, &nodes)?,
+            rows: Vec::new(alloc),
+            entries: Vec::new(alloc),
+            pending: Vec::new(alloc),
+        };
+        let starts = gathering.push_nodes(alloc, &nodes)?;
+        let leading = leading_to(alloc, &gathering.entries, nodes.len())?;
+        let owners = owners_of(alloc, &gathering.rows)?;
+        Ok(Component {
+            nodes,
+            units: gathering.units,
+            rows: gathering.rows,
+            starts,
+            entries: gathering.entries,
+            leading,
+            owners,
+        })
+    }
+
+    /// How many nodes there are.
+    pub(crate) fn len(&self) -> usize {
+        self.nodes.len()
+    }
+
+    /// How many entries there are.
+    pub(crate) fn size(&self) -> usize {
+        self.entries.len()
+    }
+
+    /// Where the rows of the node at a place begin and end.
+    pub(crate) fn range_of(&self, place: usize) -> (usize, usize) {
+        let from = self.starts.get(place).copied().unwrap_or(0);
+        let to = self.starts.get(place.saturating_add(1)).copied();
+        (from, to.unwrap_or(0))
+    }
+
+    /// The entries of a row, ordered by place.
+    pub(crate) fn entries_of(&self, row: &FloatRow) -> &[(u32, f64)] {
+        self.entries.get(row.first..row.end).unwrap_or(&[])
+    }
+
+    /// The places of the entries that lead to a node.
+    pub(crate) fn leading_to(&self, node: u32) -> &[usize] {
+        self.leading.of(node)
+    }
+
+    /// The place of the row that an entry is of, and the row's node.
+    pub(crate) fn owner_of(&self, entry: usize) -> Option<(usize, u32)> {
+        let place = number_at(&self.owners, number(entry)) as usize;
+        let row = self.rows.get(place)?;
+        Some((place, row.node))
+    }
+
+    /// The least unit of a node.
+    pub(crate) fn least_unit(&self) -> f64 {
+        let mut least = f64::INFINITY;
+        for unit in &self.units {
+            least = least.min(*unit);
+        }
+        least
+    }
+
+    /// What a row makes of a gain and of values within the component.
+    pub(crate) fn sum(&self, row: &FloatRow, gain: f64, values: &[f64]) -> f64 {
+        let mut total = gain;
+        for (target, prob) in self.entries_of(row) {
+            total += *prob * float_at(values, *target);
+        }
+        total
+    }
+}

@@ -1,0 +1,328 @@
+//! Corrections of the values of a component, in floats: the best values that gains come to, by sweeps or by policies.
+
+use crate::component::{Component, FloatRow};
+use crate::eliminate::{Elimination, Factors, eliminated};
+use crate::leaving::proper;
+use crate::lists::{float_at, number, put};
+use std::alloc::{AllocError, Global};
+
+/// Components of more nodes are swept before nodes are eliminated.
+const FEW_NODES: usize = 40;
+
+/// How many sweeps are tried before nodes are eliminated.
+const FEW_SWEEPS: usize = 400;
+
+/// How many sweeps a forecast is made from.
+const WINDOW: usize = 20;
+
+/// How many entries are looked at in all where elimination takes too long.
+const MOST_ENTRIES: usize = 3_000_000;
+
+/// How many policies are tried.
+const MOST_POLICIES: usize = 200;
+
+/// A sweep that changes values by less than this part of a unit is the last.
+const SMALL_CHANGE: f64 = 1e-3;
+
+/// A row that gains less than this part of a unit is no better than the policy's.
+const SMALL_GAIN: f64 = 4e-3;
+
+/// What sums of floats may lose, as a part of the greatest value, in a sweep and in an improvement.
+const SWEEP_LOSS: f64 = 1e-14;
+
+const GAIN_LOSS: f64 = 1e-13;
+
+/// How corrections are found.
+#[derive(Clone, Copy)]
+enum Way {
+    /// By few sweeps, if a forecast says that they come to an end, else by policies.
+    FewSweeps,
+    /// By policies.
+    Policies,
+    /// By so many sweeps, where elimination takes too long.
+    ManySweeps(usize),
+}
+
+/// The search for corrections, with the policy that it has come to.
+#[derive(Drop)]
+pub(crate) struct Corrector<'a> {
+    component: &'a Component,
+    sense: f64,
+    unit: f64,
+    way: Way,
+    start: Vec<usize>,
+    policy: Vec<usize>,
+    values: Vec<f64>,
+    factors: Option<Factors>,
+    factors_policy: Vec<usize>,
+}
+
+/// The greatest change of a sweep, and the greatest value.
+#[derive(Clone, Copy)]
+struct Change {
+    most: f64,
+    size: f64,
+}
+
+impl Change {
+    /// What is small enough.
+    fn enough(self, unit: f64) -> f64 {
+        (unit * SMALL_CHANGE).max(self.size * SWEEP_LOSS)
+    }
+}
+
+/// Whether a change that shrinks from `last` to `most` in a window will be small enough within so many windows.
+fn is_promising(most: f64, last: f64, enough: f64, windows: usize) -> bool {
+    let ratio = most / last;
+    let mut left = most;
+    for _ in 0..windows {
+        if left <= enough {
+            return true;
+        }
+        left *= ratio;
+    }
+    left <= enough
+}
+
+impl<'a> Corrector<'a> {
+    /// A search that begins with a policy from which each node leaves.
+    pub(crate) fn new(
+        alloc: Global,
+        component: &'a Component,
+        sense: f64,
+        start: &[usize],
+    ) -> Result<Corrector<'a>, AllocError> {
+        Ok(Corrector {
+            component,
+            sense,
+            unit: component.least_unit(),
+            way: if component.len() > FEW_NODES {
+                Way::FewSweeps
+            } else {
+                Way::Policies
+            },
+            start: listed(alloc, start)?,
+            policy: listed(alloc, start)?,
+            values: vec![in alloc; 0.0; component.len()]?,
+            factors: None,
+            factors_policy: Vec::new(alloc),
+        })
+    }
+
+    /// The row of each node.
+    pub(crate) fn policy(&self) -> &[usize] {
+        &self.policy
+    }
+
+    /// The row of each node, to keep.
+    pub(crate) fn into_policy(self) -> Vec<usize> {
+        self.policy
+    }
+
+    /// The corrections.
+    pub(crate) fn values(&self) -> &[f64] {
+        &self.values
+    }
+
+    /// The best value of the node at a place, and the row that gives it.
+    fn best(&self, gains: &[f64], place: usize) -> Option<(f64, usize)> {
+        let (from, to) = self.component.range_of(place);
+        let mut best = None;
+        for at in from..to {
+            let row = self.component.rows.get(at)?;
+            let gain = gains.get(at).copied()?;
+            let value = self.component.sum(row, gain, &self.values) / row.total;
+            match best {
+                Some((old, _)) if !((value - old) * self.sense > 0.0) => {}
+                _ => best = Some((value, at)),
+            }
+        }
+        best
+    }
+
+    /// Gives each node its best value in turn, and its row in `greedy`.
+    fn sweep(&mut self, gains: &[f64], greedy: &mut [usize]) -> Change {
+        let mut change = Change {
+            most: 0.0,
+            size: 0.0,
+        };
+        for place in 0..self.values.len() {
+            if let Some((value, row)) = self.best(gains, place) {
+                let node = number(place);
+                let old = float_at(&self.values, node);
+                change.most = change.most.max((value - old).abs());
+                change.size = change.size.max(value.abs());
+                put(&mut self.values, node, value);
+                put(greedy, node, row);
+            }
+        }
+        change
+    }
+
+    /// Sweeps until the changes are small. Whether they became so; it stops where a forecast says that they won't.
+    fn sweep_on(&mut self, gains: &[f64], sweeps: usize, greedy: &mut [usize]) -> bool {
+        for value in self.values.iter_mut() {
+            *value = 0.0;
+        }
+        let mut last = f64::INFINITY;
+        for sweep in 0..sweeps {
+            let change = self.sweep(gains, greedy);
+            let enough = change.enough(self.unit);
+            if change.most <= enough {
+                return true;
+            }
+            if sweeps <= FEW_SWEEPS && sweep % WINDOW == WINDOW - 1 {
+                let windows = sweeps.saturating_sub(sweep) / WINDOW;
+                if last.is_finite() && !is_promising(change.most, last, enough, windows) {
+                    return false;
+                }
+                last = change.most;
+            }
+        }
+        false
+    }
+
+    /// Corrections by sweeps. Whether they came to an end.
+    fn by_sweeps(
+        &mut self,
+        alloc: Global,
+        gains: &[f64],
+        sweeps: usize,
+    ) -> Result<bool, AllocError> {
+        let mut greedy = self.start.clone()?;
+        let is_settled = self.sweep_on(gains, sweeps, &mut greedy);
+        self.policy = proper(alloc, self.component, &greedy, &self.start)?;
+        Ok(is_settled)
+    }
+
+    /// How much a row gains over the value of its node, for whoever chooses.
+    fn gain_of(&self, row: &FloatRow, gain: f64, value: f64) -> f64 {
+        (self.component.sum(row, gain, &self.values) - row.total * value) * self.sense
+    }
+
+    /// The row of the node at a place that gains most over the policy's, where it gains enough.
+    fn improved(&self, gains: &[f64], place: usize, chosen: usize) -> Option<usize> {
+        let value = self.values.get(place).copied()?;
+        let mut best = (self.unit * SMALL_GAIN).max(value.abs() * GAIN_LOSS);
+        let mut better = None;
+        let (from, to) = self.component.range_of(place);
+        for at in from..to {
+            let row = self.component.rows.get(at)?;
+            let more = self.gain_of(row, gains.get(at).copied()?, value);
+            if at != chosen && more > best {
+                best = more;
+                better = Some(at);
+            }
+        }
+        better
+    }
+
+    /// Improves the policy by the values. Whether it changed.
+    fn improve(&mut self, gains: &[f64]) -> bool {
+        let mut is_changed = false;
+        for place in 0..self.policy.len() {
+            let chosen = self.policy.get(place).copied().unwrap_or(0);
+            if let Some(row) = self.improved(gains, place, chosen) {
+                put(&mut self.policy, number(place), row);
+                is_changed = true;
+            }
+        }
+        is_changed
+    }
+
+    /// The values of the policy, of which the factors are at hand.
+    fn evaluate(&mut self, alloc: Global, gains: &[f64]) -> Result<(), AllocError> {
+        let mut own = Vec::new(alloc);
+        for row in &self.policy {
+            own.push(gains.get(*row).copied().unwrap_or(0.0))?;
+        }
+        if let Some(factors) = &self.factors {
+            factors.solve(&mut own, &mut self.values);
+        }
+        Ok(())
+    }
+
+    /// Corrections by sweeps alone, where elimination takes too long.
+    fn by_many_sweeps(&mut self, alloc: Global, gains: &[f64]) -> Result<bool, AllocError> {
+        let sweeps = MOST_ENTRIES
+            .checked_div(self.component.size())
+            .unwrap_or(0)
+            .max(FEW_SWEEPS + 1);
+        self.way = Way::ManySweeps(sweeps);
+        self.by_sweeps(alloc, gains, sweeps)?;
+        Ok(true)
+    }
+
+    /// Has the factors of the policy at hand. An improper policy gives way to the last one that was proper.
+    fn factor(&mut self, alloc: Global) -> Result<Factored, AllocError> {
+        if self.factors.is_some() && self.factors_policy == self.policy {
+            return Ok(Factored::Same);
+        }
+        match eliminated(alloc, self.component, &self.policy)? {
+            Elimination::Done(factors) => {
+                self.factors = Some(factors);
+                self.factors_policy = self.policy.clone()?;
+                Ok(Factored::New)
+            }
+            Elimination::Improper if self.factors.is_some() => {
+                self.policy = self.factors_policy.clone()?;
+                Ok(Factored::Back)
+            }
+            Elimination::Improper => Ok(Factored::Failed),
+            Elimination::Dense => Ok(Factored::Dense),
+        }
+    }
+
+    /// Corrections by policies, each better than the one before.
+    fn by_policies(&mut self, alloc: Global, gains: &[f64]) -> Result<bool, AllocError> {
+        for _ in 0..MOST_POLICIES {
+            let factored = self.factor(alloc)?;
+            match factored {
+                Factored::Failed => return Ok(false),
+                Factored::Dense => return self.by_many_sweeps(alloc, gains),
+                _ => self.evaluate(alloc, gains)?,
+            }
+            if factored == Factored::Back || !self.improve(gains) {
+                break;
+            }
+        }
+        Ok(true)
+    }
+
+    /// Finds the corrections that gains, one for each row, come to. Whether there are any.
+    pub(crate) fn correct(&mut self, alloc: Global, gains: &[f64]) -> Result<bool, AllocError> {
+        match self.way {
+            Way::FewSweeps => {
+                if self.by_sweeps(alloc, gains, FEW_SWEEPS)? {
+                    return Ok(true);
+                }
+                self.way = Way::Policies;
+                self.by_policies(alloc, gains)
+            }
+            Way::Policies => self.by_policies(alloc, gains),
+            Way::ManySweeps(sweeps) => {
+                self.by_sweeps(alloc, gains, sweeps)?;
+                Ok(true)
+            }
+        }
+    }
+}
+
+/// How the factors of a policy came to be at hand.
+#[derive(Clone, Copy, PartialEq, Eq)]
+enum Factored {
+    Same,
+    New,
+    Back,
+    Failed,
+    Dense,
+}
+
+/// A copy of a list.
+fn listed(alloc: Global, places: &[usize]) -> Result<Vec<usize>, AllocError> {
+    let mut copy = Vec::new(alloc);
+    for place in places {
+        copy.push(*place)?;
+    }
+    Ok(copy)
+}

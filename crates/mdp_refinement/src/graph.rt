@@ -1,0 +1,48 @@
+//! Directed graphs in flat lists.
+
+use std::alloc::{AllocError, Global};
+
+/// A directed graph: the targets of each node's edges, node by node.
+#[derive(Drop)]
+pub struct Graph {
+    starts: Vec<usize>,
+    targets: Vec<u32>,
+}
+
+impl Graph {
+    /// A graph without a node.
+    pub fn empty(alloc: Global) -> Graph {
+        Graph {
+            starts: Vec::new(alloc),
+            targets: Vec::new(alloc),
+        }
+    }
+
+    /// Appends a node without an edge.
+    pub fn push_node(&mut self) -> Result<(), AllocError> {
+        self.starts.push(self.targets.len())?;
+        Ok(())
+    }
+
+    /// Appends an edge from the last node.
+    pub fn push_edge(&mut self, target: u32) -> Result<(), AllocError> {
+        self.targets.push(target)?;
+        Ok(())
+    }
+
+    /// The targets of a node's edges.
+    pub(crate) fn targets_of(&self, node: u32) -> &[u32] {
+        let Some(from) = self.starts.get(node as usize).copied() else {
+            return &[];
+        };
+        let to = self.starts.get((node as usize).saturating_add(1)).copied();
+        self.targets
+            .get(from..to.unwrap_or(self.targets.len()))
+            .unwrap_or(&[])
+    }
+
+    /// How many edges there are in all.
+    pub(crate) fn size(&self) -> usize {
+        self.targets.len()
+    }
+}

@@ -1,0 +1,92 @@
+//! Interval iteration in whole numbers: from values that surely meet the bound, each step keeps the rows.
+
+use crate::bound::{Bound, Task};
+use crate::rows::{Rows, value_at};
+use crate::solving::Solution;
+use crate::whole::quotient;
+
+/// How many entries are looked at in all.
+const MOST_ENTRIES: usize = 3_000_000;
+
+/// The best value of a node by its rows, rounded to its unit, and the place of the row that gives it. None past 128 bits.
+pub(crate) fn best_rounded(
+    rows: &Rows,
+    task: Task,
+    node: u32,
+    values: &[i128],
+) -> Option<(i128, usize)> {
+    let (from, to) = rows.range_of(node);
+    let mut best = None;
+    for place in from..to {
+        let value = rows.rounded(rows.row(place)?, values, task.bound)?;
+        match best {
+            Some((old, _)) if !task.prefers(value, old) => {}
+            _ => best = Some((value, place)),
+        }
+    }
+    best
+}
+
+/// A value that is a bound, rounded to a multiple of a unit.
+fn rounded(value: i128, unit: i128, bound: Bound) -> Option<i128> {
+    quotient(value, unit, bound)?.checked_mul(unit)
+}
+
+/// The greatest unit of nodes.
+fn greatest_unit(rows: &Rows, nodes: &[u32]) -> i128 {
+    let mut greatest = 1i128;
+    for node in nodes {
+        greatest = greatest.max(rows.unit_of(*node));
+    }
+    greatest
+}
+
+/// How many sweeps are made.
+fn count_sweeps(rows: &Rows, nodes: &[u32]) -> usize {
+    let mut size = 1usize;
+    for node in nodes {
+        size = size.saturating_add(rows.edges_of(*node).len());
+    }
+    MOST_ENTRIES.checked_div(size).unwrap_or(0).max(2)
+}
+
+/// Brings the value of a node nearer, where a row allows it. Whether it did.
+fn bring_nearer(rows: &Rows, task: Task, node: u32, solution: &mut Solution) -> bool {
+    let Some((value, place)) = best_rounded(rows, task, node, &solution.values) else {
+        return false;
+    };
+    match value_at(&solution.values, node) {
+        Some(old) if task.is_nearer(value, old) => {
+            solution.settle(node, value, Some(place));
+            true
+        }
+        _ => false,
+    }
+}
+
+/// Values of the nodes of a component that meet the bound, from a value that bounds all that leads out of it. The picks of the nodes are to be rows
+/// by which they leave it.
+pub(crate) fn sweep_exact(
+    rows: &Rows,
+    task: Task,
+    nodes: &[u32],
+    start: i128,
+    solution: &mut Solution,
+) -> Option<()> {
+    let first = rounded(start, greatest_unit(rows, nodes), task.bound)?;
+    for node in nodes {
+        solution.set_value(*node, first);
+    }
+    for _ in 0..count_sweeps(rows, nodes) {
+        let mut is_changed = false;
+        for node in nodes {
+            if bring_nearer(rows, task, *node, solution) {
+                is_changed = true;
+            }
+        }
+        if !is_changed {
+            break;
+        }
+    }
+    Some(())
+}

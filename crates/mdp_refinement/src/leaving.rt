@@ -1,0 +1,117 @@
+//! Policies by which each node leaves its component.
+
+use crate::component::Component;
+use crate::lists::number;
+use std::alloc::{AllocError, Global};
+
+/// Whether a policy, where there is one, takes this row at this node.
+fn is_of(policy: Option<&[usize]>, node: u32, row: usize) -> bool {
+    match policy {
+        Some(policy) => policy.get(node as usize).copied() == Some(row),
+        None => true,
+    }
+}
+
+/// A search backwards for ways out of a component: the row of each node that has one, and those nodes in the order in which they got it.
+#[derive(Drop)]
+struct Leaving<'a> {
+    component: &'a Component,
+    chosen: Vec<Option<usize>>,
+    queue: Vec<u32>,
+}
+
+impl<'a> Leaving<'a> {
+    /// A search with no way out yet.
+    fn new(alloc: Global, component: &'a Component) -> Result<Leaving<'a>, AllocError> {
+        Ok(Leaving {
+            component,
+            chosen: vec![in alloc; None; component.len()]?,
+            queue: Vec::new(alloc),
+        })
+    }
+
+    /// Gives a node its row, unless it has one.
+    fn lead(&mut self, node: u32, row: usize) -> Result<(), AllocError> {
+        if let Some(slot) = self.chosen.get_mut(node as usize) {
+            if slot.is_none() {
+                *slot = Some(row);
+                self.queue.push(node)?;
+            }
+        }
+        Ok(())
+    }
+
+    /// Leads the nodes that have an entry to this one, by the policy's rows or by all.
+    fn lead_to(&mut self, target: u32, policy: Option<&[usize]>) -> Result<(), AllocError> {
+        let component = self.component;
+        for entry in component.leading_to(target) {
+            if let Some((row, node)) = component.owner_of(*entry) {
+                if is_of(policy, node, row) {
+                    self.lead(node, row)?;
+                }
+            }
+        }
+        Ok(())
+    }
+
+    /// Leads on to all nodes that were led, by the policy's rows or by all.
+    fn spread(&mut self, policy: Option<&[usize]>) -> Result<(), AllocError> {
+        for place in 0..self.chosen.len() {
+            let Some(target) = self.queue.get(place).copied() else {
+                break;
+            };
+            self.lead_to(target, policy)?;
+        }
+        Ok(())
+    }
+
+    /// The row of each node, where each has one.
+    fn policy(&self, alloc: Global) -> Result<Option<Vec<usize>>, AllocError> {
+        let mut policy = Vec::new(alloc);
+        for chosen in &self.chosen {
+            let Some(row) = *chosen else {
+                return Ok(None);
+            };
+            policy.push(row)?;
+        }
+        Ok(Some(policy))
+    }
+}
+
+/// For each node a row by which it may leave the component: its first that leaves, else one that leads to a node which does so in fewer steps. None
+/// where a node can't leave.
+pub(crate) fn exit_policy(
+    alloc: Global,
+    component: &Component,
+) -> Result<Option<Vec<usize>>, AllocError> {
+    let mut search = Leaving::new(alloc, component)?;
+    for (place, row) in component.rows.iter().enumerate() {
+        if row.exit > 0.0 {
+            search.lead(row.node, place)?;
+        }
+    }
+    search.spread(None)?;
+    search.policy(alloc)
+}
+
+/// A policy, changed to another one at the nodes from which it doesn't leave the component.
+pub(crate) fn proper(
+    alloc: Global,
+    component: &Component,
+    policy: &[usize],
+    other: &[usize],
+) -> Result<Vec<usize>, AllocError> {
+    let mut search = Leaving::new(alloc, component)?;
+    for (node, row) in policy.iter().enumerate() {
+        if component.rows.get(*row).is_some_and(|row| row.exit > 0.0) {
+            search.lead(number(node), *row)?;
+        }
+    }
+    search.spread(Some(policy))?;
+    let mut chosen = Vec::new(alloc);
+    for (node, given) in search.chosen.iter().enumerate() {
+        let instead = other.get(node).copied().unwrap_or(0);
+        chosen.push(given.unwrap_or(instead))?;
+    }
+    Ok(chosen)
+}

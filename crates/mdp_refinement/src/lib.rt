@@ -1,0 +1,28 @@
+//! Bounds of the values of a model, near to each other, found in floats and whole numbers. A bound for each node, a state or an end component of the
+//! model, is a whole number in units; components of nodes are solved one after the other, successors first, by iterative refinement: what the rows have
+//! over the values is exact in whole numbers, and floats give corrections. Nothing is promised of what comes out: it is to be held against exact rules.
+#![tactic(auto)]
+
+mod bound;
+mod component;
+mod convert;
+mod correct;
+mod eliminate;
+mod graph;
+mod intervals;
+mod leaving;
+mod lists;
+mod nodes;
+mod refine;
+mod rows;
+mod solving;
+mod strong;
+mod whole;
+
+pub use bound::{Bound, Task};
+pub use graph::Graph;
+pub use lists::{flag_at, number, number_at, put};
+pub use nodes::Nodes;
+pub use rows::{Entry, Rows, WholeRow, value_at};
+pub use solving::{Solution, solve};
+pub use strong::{Components, strong_components};

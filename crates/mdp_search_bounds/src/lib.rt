@@ -1,0 +1,10 @@
+//! Bounds that meet the rules of mdp_bounds, for every model: those that a search proposes, where the rules say yes to them, else wider ones, at last
+//! those that say nothing.
+#![tactic(auto)]
+
+mod reach;
+mod simplest;
+mod trivial;
+
+pub use reach::bounds_reach;
+pub use trivial::trivial_reach;
