@@ -9,15 +9,15 @@ use Rattle.mdp_cert.specs.Cert.{Certificate}
 use Rattle.mdp_cert.specs.Reading as cert_text
 use Rattle.mdp_text.specs.declared.error.Refusal as cert_refusal
 use Rattle.mdp_check.specs.Check.{answer_to, IsAccepted, IsBound}
-use Rattle.mdp_check.specs.declared.answer.Answer.{Answer}
-use Rattle.mdp_check.specs.declared.answer.Answer.TheVariants.{Yes, No, Wide, NoReward, NoLabel, Size, Memory}
 use Rattle.mdp_check.proofs.Accepting.{yes_is_accepted, accepted_is_bound}
 use Rattle.mdp_job.specs.Refusal.{PlainRefusal, long_model, long_certificate}
 use Rattle.mdp_command.proofs.Working.{model_is_read}
 use Rattle.mdp_command.specs.Accepted.{Accepted, IsTrueClaim}
 use Rattle.mdp_command.specs.Files.{most_bytes, model_or_refusal, model_due, certificate_or_refusal, certificate_due, IsDueToModel}
 use Rattle.mdp_command.specs.Said.{Said}
-use Rattle.mdp_app.specs.Due.{yes_text, said_of, said_to_certificate, said_to_model, check_due}
+use Rattle.mdp_command_bounds.proofs.Accepting.{is_yes}
+use Rattle.mdp_command_bounds.specs.Due.{yes_text, said_of}
+use Rattle.mdp_app.specs.Due.{said_to_certificate, said_to_model, check_due}
 
 -- ---- a text is due
 
@@ -26,15 +26,6 @@ certificate_is_read : (long : Bool) (read : Result Certificate cert_refusal.Refu
 certificate_is_read true read c e = cc
 certificate_is_read false (Ok d) c e = (refl, cc e)
 certificate_is_read false (Err r) c e = cc
-
-is_yes : (a : Answer) (text : List ℕ) → said_of a ≡ Ok text → (a ≡ Yes) × (text ≡ yes_text)
-is_yes Yes text e = (refl, cc e)
-is_yes (No fault) text e = cc
-is_yes (Wide state choice) text e = cc
-is_yes NoReward text e = cc
-is_yes NoLabel text e = cc
-is_yes Size text e = cc
-is_yes Memory text e = cc
 
 -- what was read as a certificate is one that is accepted
 pub record IsYes (m : Mdp) (read : Result Certificate PlainRefusal) (text : List ℕ) : Type 0 where

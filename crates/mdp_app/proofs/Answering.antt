@@ -4,7 +4,7 @@ use Rattle.mdp_math.specs.Rational.{ℚ}
 use Rattle.mdp_spec.specs.Mdp.{Mdp}
 use Rattle.mdp_rows.specs.declared.dir.Dir.{Dir}
 use Rattle.mdp_drn.specs.FromSource.{HadLeft}
-use Rattle.mdp_job.specs.Job.{solve, witness, check, drill, horizon, policy, discount, discount_check, Asked, reads_model, reads_second}
+use Rattle.mdp_job.specs.Job.{solve, witness, check, drill, horizon, policy, discount, discount_check, bounds_check, Asked, reads_model, reads_second}
 use Rattle.mdp_job.specs.Refusal.{PlainRefusal, no_job, model_text, query_size, query_reward, query_label, query_init, query_negative, query_steps, query_choice, too_wide, check_wide, horizon_wide}
 use Rattle.mdp_job.specs.Refusal.{denied, read_model, read_certificate, long_model, long_certificate, cert_text, policy_text, below, no_memory}
 use Rattle.mdp_job.specs.Status.{status_of}
@@ -24,6 +24,7 @@ use Rattle.mdp_command_policy.proofs.Due.{policy_once}
 use Rattle.mdp_discount.proofs.OneEnd.{one_query_end}
 use Rattle.mdp_command_discount.specs.Due.{IsDiscountDue, IsDiscountCheckDue}
 use Rattle.mdp_command_discount.proofs.Solved.{discount_once}
+use Rattle.mdp_command_bounds.specs.Due.{IsBoundsCheckDue}
 use Rattle.mdp_app.specs.Due.{check_due, IsDue}
 use Rattle.mdp_app.specs.Decided.{IsTextDecided, IsDecided, EndsWith}
 use Rattle.mdp_app.specs.Run.{IsFromBytes, HasCause, LeavesUnread, IsAnswered, IsWorkDone, IsDoneUnless, IsComplete}
@@ -78,6 +79,11 @@ discount_checked_once : (other : List ℕ) (read : Result Mdp PlainRefusal) (sai
 discount_checked_once other (Ok m) said again d e = d ∙ sym e
 discount_checked_once other (Err r) said again d e = d ∙ sym e
 
+bounds_checked_once : (other : List ℕ) (read : Result Mdp PlainRefusal) (said again : Said) → IsDueToModel (λ m. IsBoundsCheckDue m other) read said
+    → IsDueToModel (λ m. IsBoundsCheckDue m other) read again → said ≡ again
+bounds_checked_once other (Ok m) said again d e = d ∙ sym e
+bounds_checked_once other (Err r) said again d e = d ∙ sym e
+
 -- what is due is due once
 due_once :
     IsDueOnce → witnessed.IsDueOnce → (asked : Asked) (model second : Input) (m s n t text : List ℕ) (said : Said) → HadLeft model.before n → HadLeft second.before t → IsDue asked n t said
@@ -105,6 +111,10 @@ due_once once found (Ok (discount_check rule)) model second m s n t text said hn
     discount_checked_once s (model_due rule m) said (Ok text)
     (subst (λ (x : List ℕ). IsDueToModel (λ k. IsDiscountCheckDue k x) (model_due rule m) said) (had_told true second s t ts ht refl)
     (subst (λ (x : List ℕ). IsDueToModel (λ k. IsDiscountCheckDue k t) (model_due rule x) said) (had_told true model m n tm hn refl) due)) due_text
+due_once once found (Ok (bounds_check rule)) model second m s n t text said hn ht due tm ts due_text =
+    bounds_checked_once s (model_due rule m) said (Ok text)
+    (subst (λ (x : List ℕ). IsDueToModel (λ k. IsBoundsCheckDue k x) (model_due rule m) said) (had_told true second s t ts ht refl)
+    (subst (λ (x : List ℕ). IsDueToModel (λ k. IsBoundsCheckDue k t) (model_due rule x) said) (had_told true model m n tm hn refl) due)) due_text
 due_once once found (Err e) model second m s n t text said hn ht due tm ts due_text = cc
 
 module _ (asked : Asked) (model second : Input) (out : Output) (ended : Status) where

@@ -1,14 +1,11 @@
 -- What is due to the words, to the bytes of the model and to those of the second file. Each command is a case of `IsDue`.
-use Rattle.std.specs.Prelude.{◌≡◌, ℕ, List, Result, Ok, Err, IsOk, codes}
+use Rattle.std.specs.Prelude.{◌≡◌, ℕ, List, Result, Ok, Err, IsOk}
 use Rattle.mdp_spec.specs.Mdp.{Mdp}
 use Rattle.mdp_rows.specs.declared.rule.RowRule.{RowRule}
 use Rattle.mdp_cert.specs.Cert.{Certificate}
 use Rattle.mdp_check.specs.Check.{answer_to}
-use Rattle.mdp_check.specs.declared.answer.Answer as checked
-use Rattle.mdp_check.specs.declared.answer.Answer.TheVariants.{Yes, No, Wide, NoReward, NoLabel, Size, Memory}
-use Rattle.mdp_job.specs.Job.{solve, witness, check, drill, horizon, policy, discount, discount_check, Asked}
-use Rattle.mdp_job.specs.Refusal.{PlainRefusal, no_job, query_size, query_reward, query_label, check_wide, denied, no_memory}
-use Rattle.mdp_job.specs.Text.{line}
+use Rattle.mdp_job.specs.Job.{solve, witness, check, drill, horizon, policy, discount, discount_check, bounds_check, Asked}
+use Rattle.mdp_job.specs.Refusal.{PlainRefusal, no_job}
 use Rattle.mdp_command.specs.Files.{model_due, certificate_due, IsDueToModel}
 use Rattle.mdp_command.specs.Said.{Said}
 use Rattle.mdp_command_solve.specs.Due.{IsSolveDue}
@@ -17,20 +14,9 @@ use Rattle.mdp_command_drill.specs.Due.{IsDrillDue}
 use Rattle.mdp_command_horizon.specs.Due.{IsHorizonDue}
 use Rattle.mdp_command_policy.specs.Due.{IsPolicyDue}
 use Rattle.mdp_command_discount.specs.Due.{IsDiscountDue, IsDiscountCheckDue}
+use Rattle.mdp_command_bounds.specs.Due.{said_of, IsBoundsCheckDue}
 
 -- ---- `check`
-
-abbrev pub yes_text : List ℕ
-yes_text = line (codes "yes")
-
-abbrev pub said_of : checked.Answer → Said
-said_of Yes = Ok yes_text
-said_of (No fault) = Err (denied fault)
-said_of (Wide state choice) = Err (check_wide state choice)
-said_of NoReward = Err query_reward
-said_of NoLabel = Err query_label
-said_of Size = Err query_size
-said_of Memory = Err no_memory
 
 abbrev pub said_to_certificate : Mdp → Result Certificate PlainRefusal → Said
 said_to_certificate m (Ok c) = said_of (answer_to m c)
@@ -56,6 +42,7 @@ IsDue (Ok (horizon rule dir stay label steps)) model second said = IsDueToModel 
 IsDue (Ok (policy rule label)) model second said = IsDueToModel (λ m. IsPolicyDue label m second) (model_due rule model) said
 IsDue (Ok (discount rule dir name factor)) model second said = IsDueToModel (IsDiscountDue dir name factor) (model_due rule model) said
 IsDue (Ok (discount_check rule)) model second said = IsDueToModel (λ m. IsDiscountCheckDue m second) (model_due rule model) said
+IsDue (Ok (bounds_check rule)) model second said = IsDueToModel (λ m. IsBoundsCheckDue m second) (model_due rule model) said
 IsDue (Err e) model second said = said ≡ Err (no_job e)
 
 -- the model's bytes read as a model under the job's row rule
@@ -68,4 +55,5 @@ IsModelRead (Ok (horizon rule dir stay label steps)) model = IsOk (model_due rul
 IsModelRead (Ok (policy rule label)) model = IsOk (model_due rule model)
 IsModelRead (Ok (discount rule dir name factor)) model = IsOk (model_due rule model)
 IsModelRead (Ok (discount_check rule)) model = IsOk (model_due rule model)
+IsModelRead (Ok (bounds_check rule)) model = IsOk (model_due rule model)
 IsModelRead (Err e) model = ⊥

@@ -5,7 +5,8 @@ use Rattle.mdp_rows.specs.declared.rule.RowRule.{RowRule}
 use Rattle.mdp_check.specs.Check.{IsBound}
 use Rattle.mdp_job.specs.Job.{check}
 use Rattle.mdp_command.specs.Accepted.{Accepted}
-use Rattle.mdp_app.specs.Due.{yes_text, IsDue}
+use Rattle.mdp_command_bounds.specs.Due.{yes_text}
+use Rattle.mdp_app.specs.Due.{IsDue}
 
 -- a text is due to a check exactly where the bytes are accepted, and it is `yes`
 abbrev pub YesIsAccepted : Type 0

@@ -1,6 +1,6 @@
 -- What is shown of the work of each command.
 use Rattle.std.specs.Prelude.{ℕ, List, Ok, Err}
-use Rattle.mdp_job.specs.Job.{solve, witness, check, drill, horizon, policy, discount, discount_check, Asked}
+use Rattle.mdp_job.specs.Job.{solve, witness, check, drill, horizon, policy, discount, discount_check, bounds_check, Asked}
 use Rattle.mdp_command.specs.Accepted.{IsTrueClaim}
 use Rattle.mdp_command_solve.specs.Solved.{IsSolved}
 use Rattle.mdp_command_witness.specs.Shown.{IsWitnessShown}
@@ -9,6 +9,7 @@ use Rattle.mdp_command_horizon.specs.Shown.{IsHorizonShown}
 use Rattle.mdp_command_policy.specs.Shown.{IsPolicyShown}
 use Rattle.mdp_command_discount.specs.Accepted as discounted
 use Rattle.mdp_command_discount.specs.Shown.{IsDiscountSolved}
+use Rattle.mdp_command_bounds.specs.Accepted as between
 
 -- what is shown of the model's bytes, of those of the second file and of the text, where the work was done. Each command is a case
 abbrev pub IsShown : Asked → List ℕ → List ℕ → List ℕ → Type 0
@@ -20,4 +21,5 @@ IsShown (Ok (horizon rule dir stay label steps)) model second text = IsHorizonSh
 IsShown (Ok (policy rule label)) model second text = IsPolicyShown rule label model second text
 IsShown (Ok (discount rule dir name factor)) model second text = IsDiscountSolved rule dir name factor model text
 IsShown (Ok (discount_check rule)) model second text = discounted.IsTrueClaim rule model second
+IsShown (Ok (bounds_check rule)) model second text = between.IsTrueClaim rule model second
 IsShown (Err e) model second text = ⊥

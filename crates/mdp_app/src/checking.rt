@@ -1,4 +1,4 @@
-ghost use Rattle.std.specs.Prelude.{◌≡◌, ◌⊎◌, false, Ok, Err, OnOk, IsTrue};
+ghost use Rattle.std.specs.Prelude.{◌≡◌, ◌⊎◌, false, Err, OnOk, IsTrue};
 ghost use Rattle.std.specs.Io.KnownBytes.{IsAtEnd};
 ghost use Rattle.mdp_cert.specs.Plain.{plain};
 ghost use Rattle.mdp_check.specs.Check.{answer_to};
@@ -8,39 +8,24 @@ ghost use Rattle.mdp_command.specs.Read.{IsRead, is_of_model};
 ghost use Rattle.mdp_command.specs.Said.{said};
 ghost use Rattle.mdp_command.specs.Streams.{input};
 ghost use Rattle.mdp_app.specs.Decided.{IsCheckRead};
-ghost use Rattle.mdp_app.specs.Due.{said_of, yes_text, said_to_certificate};
+ghost use Rattle.mdp_command_bounds.specs.Due.{said_of};
+ghost use Rattle.mdp_app.specs.Due.{said_to_certificate};
 
 use mdp_cert::Cert;
-use mdp_check::{Answer, check};
+use mdp_check::check;
 use mdp_command::{read_certificate, read_model};
+use mdp_command_bounds::answered;
 use mdp_edge::Source;
 use mdp_job::Refusal;
 use mdp_rows::{Model, RowRule};
 use std::alloc::Global;
 
-/// The text of a certificate that holds.
-fn yes(alloc: Global) -> Result<Vec<u8>, Refusal>
-    ensures { (said result ≡ Err no_memory) ⊎ (said result ≡ Ok yes_text) }
-{
-    match b"yes\n".to_vec(alloc) {
-        Ok(text) => Ok(text),
-        Err(_) => Err(Refusal::Memory),
-    }
-}
-
 /// What the checker says, as the text of a run or its refusal.
 fn checked(alloc: Global, model: &Model, cert: &Cert) -> Result<Vec<u8>, Refusal>
-    ensures { (said result ≡ Err no_memory) ⊎ (said result ≡ said_of (answer_to model.now (plain cert.now))) }
+    ensures due { (said result ≡ Err no_memory) ⊎ (said result ≡ said_of (answer_to model.now (plain cert.now))) }
+    ensures not_of_model { is_of_model (said result) ≡ false }
 {
-    match check(alloc, model, cert) {
-        Answer::Yes => yes(alloc),
-        Answer::No(fault) => Err(Refusal::Denied(fault)),
-        Answer::Wide { state, choice } => Err(Refusal::CheckWide { state, choice }),
-        Answer::NoReward => Err(Refusal::QueryReward),
-        Answer::NoLabel => Err(Refusal::QueryLabel),
-        Answer::Size => Err(Refusal::QuerySize),
-        Answer::Memory => Err(Refusal::Memory),
-    }
+    answered(alloc, check(alloc, model, cert))
 }
 
 /// Reads the certificate to its end and judges its text, then holds it against the model.

@@ -14,6 +14,10 @@ const PAID: &str =
 const COIN_UPPER: &str =
     "mdp-certificate 2\nclaim upper reach \"goal\"\nstates 3\ninit 0 1\nrun 0 2 1\nend\n";
 
+/// Bounds of the coin: the greatest probability at state 0, 1/3, lies between 1/4 and 1/2.
+const COIN_BOUNDS: &str =
+    "mdp-bounds 1\nclaim max reach \"goal\"\nstates 3\ninit 0 1/4 1/2\nstate 0 1/4 1/2 1 1\nstate 1 1 1 0 0\nstate 2 0 0 0 0\nend\n";
+
 /// A policy of the coin.
 const COIN_POLICY: &str = "mdp-policy 1\nstates 3\nchoose 0 1\nchoose 1 0\nchoose 2 0\nend\n";
 
@@ -72,6 +76,7 @@ fn works_on_the_coin(rt: HostRuntime) -> Result<(), Fail> {
             "mdp-certificate 2\nclaim min witness \"goal\" 0\nstates 3\ninit 0\nend\n",
         ),
         ("check M exact C", COIN_UPPER, "yes\n"),
+        ("bounds-check M exact C", COIN_BOUNDS, "yes\n"),
         (
             "policy M exact P reach goal",
             COIN_POLICY,

@@ -95,6 +95,7 @@ fn answers_each_fault_of_a_model(rt: HostRuntime) -> Result<(), Fail> {
         &["horizon", "MODEL", "exact", "max", "-", "goal", "2"],
         &["discount", "MODEL", "exact", "max", "-", "1/2"],
         &["discount-check", "MODEL", "exact", "CERT"],
+        &["bounds-check", "MODEL", "exact", "CERT"],
     ] {
         for call in 0..calls_of(COIN) {
             let mut out = sink(rt.alloc(), 200, 16, &[])?;
@@ -113,6 +114,7 @@ fn answers_each_fault_of_a_second_file(rt: HostRuntime) -> Result<(), Fail> {
         POLICY,
         &["check", "MODEL", "exact", "CERT"],
         &["discount-check", "MODEL", "exact", "CERT"],
+        &["bounds-check", "MODEL", "exact", "CERT"],
     ] {
         for call in 0..calls_of(TAKES) {
             let mut out = sink(rt.alloc(), 200, 16, &[])?;

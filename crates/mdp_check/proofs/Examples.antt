@@ -19,7 +19,7 @@ use Rattle.mdp_farkas.specs.declared.rule.Rule.TheVariants.{StartReachesThreshol
 abbrev row : List Entry → Choice
 row entries = record { row = entries; rewards = [] }
 
-abbrev pub entry : ℕ → ℚ → Entry
+abbrev entry : ℕ → ℚ → Entry
 entry t p = record { target = t; prob = p }
 
 abbrev pub zero_ : ℚ
@@ -80,7 +80,7 @@ two_entries = refl
 abbrev paid : List Entry → ℚ → Choice
 paid entries r = record { row = entries; rewards = r ∷ [] }
 
-abbrev pub three_ : ℚ
+abbrev three_ : ℚ
 three_ = of_int (pos 3)
 
 abbrev pub two : Mdp
@@ -194,7 +194,7 @@ mean_without_bound = refl
 
 -- ---- subsystems of the model of three states: state 0 alone is kept
 
-abbrev pub third : ℚ
+abbrev third : ℚ
 third = ratio (pos 1) 3
 
 -- all that comes to state 0 takes this choice of it
