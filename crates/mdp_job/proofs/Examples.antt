@@ -8,12 +8,12 @@ use Rattle.mdp_num.specs.Numeral.{parts_of, numeral_of}
 use Rattle.mdp_num.specs.Value.{spelling}
 use Rattle.mdp_rows.specs.declared.rule.RowRule.TheVariants.{Exact, Scaled}
 use Rattle.mdp_rows.specs.declared.dir.Dir.TheVariants.{Max, Min}
-use Rattle.mdp_job.specs.Job.{reach, reward, mean, solve, witness, check, drill, horizon, policy, discount, discount_check, bounds_check}
-use Rattle.mdp_job.specs.Refusal.{query_init, below}
+use Rattle.mdp_job.specs.Job.{reach, reward, mean, solve, witness, check, drill, horizon, policy, discount, discount_check, bounds, bounds_check}
+use Rattle.mdp_job.specs.Refusal.{no_job, query_init, below}
 use Rattle.mdp_job.specs.Status.{code_of, status_of}
 use Rattle.mdp_job.specs.Text.{text_of}
 use Rattle.mdp_job.specs.Words.{job_of_texts}
-use Rattle.mdp_job.specs.declared.words_error.WordsError.TheVariants.{Command, Number, Rows, Direction, Objective, Threshold, Drill, Steps, Factor}
+use Rattle.mdp_job.specs.declared.words_error.WordsError.TheVariants.{Command, Number, Rows, Direction, Objective, Threshold, Drill, Steps, Factor, Digits}
 
 no_words : job_of_texts [] ≡ Err Command
 no_words = refl
@@ -182,6 +182,43 @@ a_discount_check = refl
 
 discount_check_words : job_of_texts (codes "discount-check" ∷ codes "m" ∷ codes "exact" ∷ codes "c" ∷ codes "d" ∷ []) ≡ Err Number
 discount_check_words = refl
+
+-- `bounds`: six words at least, the row rule, the direction, the objective, its number of words, then the digits
+a_bounds : job_of_texts (codes "bounds" ∷ codes "m" ∷ codes "exact" ∷ codes "min" ∷ codes "reach" ∷ codes "goal" ∷ codes "12" ∷ []) ≡ Ok (bounds Exact Min (codes "goal") 12)
+a_bounds = refl
+
+most_digits : job_of_texts (codes "bounds" ∷ codes "m" ∷ codes "scaled" ∷ codes "max" ∷ codes "reach" ∷ codes "goal" ∷ codes "30" ∷ []) ≡ Ok (bounds Scaled Max (codes "goal") 30)
+most_digits = refl
+
+digits_past : job_of_texts (codes "bounds" ∷ codes "m" ∷ codes "exact" ∷ codes "max" ∷ codes "reach" ∷ codes "goal" ∷ codes "31" ∷ []) ≡ Err Digits
+digits_past = refl
+
+no_digit : job_of_texts (codes "bounds" ∷ codes "m" ∷ codes "exact" ∷ codes "max" ∷ codes "reach" ∷ codes "goal" ∷ codes "0" ∷ []) ≡ Err Digits
+no_digit = refl
+
+leading_zero : job_of_texts (codes "bounds" ∷ codes "m" ∷ codes "exact" ∷ codes "max" ∷ codes "reach" ∷ codes "goal" ∷ codes "06" ∷ []) ≡ Err Digits
+leading_zero = refl
+
+bounds_words : job_of_texts (codes "bounds" ∷ codes "m" ∷ codes "EXACT" ∷ codes "best" ∷ codes "visit" ∷ codes "goal" ∷ []) ≡ Err Number
+bounds_words = refl
+
+bounds_rows : job_of_texts (codes "bounds" ∷ codes "m" ∷ codes "EXACT" ∷ codes "best" ∷ codes "visit" ∷ codes "goal" ∷ codes "0" ∷ []) ≡ Err Rows
+bounds_rows = refl
+
+bounds_direction : job_of_texts (codes "bounds" ∷ codes "m" ∷ codes "exact" ∷ codes "best" ∷ codes "visit" ∷ codes "goal" ∷ codes "0" ∷ []) ≡ Err Direction
+bounds_direction = refl
+
+bounds_objective : job_of_texts (codes "bounds" ∷ codes "m" ∷ codes "exact" ∷ codes "max" ∷ codes "reward" ∷ codes "-" ∷ codes "goal" ∷ codes "0" ∷ []) ≡ Err Objective
+bounds_objective = refl
+
+one_word_more : job_of_texts (codes "bounds" ∷ codes "m" ∷ codes "exact" ∷ codes "max" ∷ codes "reach" ∷ codes "goal" ∷ codes "0" ∷ codes "1" ∷ []) ≡ Err Number
+one_word_more = refl
+
+digits_text : text_of (no_job Digits) ≡ codes "words digits" ++ 10 ∷ []
+digits_text = refl
+
+digits_status : code_of (status_of (no_job Digits)) ≡ 2
+digits_status = refl
 
 a_bounds_check : job_of_texts (codes "bounds-check" ∷ codes "m" ∷ codes "exact" ∷ codes "c" ∷ []) ≡ Ok (bounds_check Exact)
 a_bounds_check = refl

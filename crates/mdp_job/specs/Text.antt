@@ -33,6 +33,7 @@ words_word words.Threshold = codes "threshold"
 words_word words.Drill = codes "drill"
 words_word words.Steps = codes "steps"
 words_word words.Factor = codes "factor"
+words_word words.Digits = codes "digits"
 
 unfoldable pub drn_word : DrnKind → List ℕ
 drn_word drn.Header = codes "header"

@@ -9,9 +9,11 @@
 --     policy MODEL ROWS POLICY reach LABEL
 --     discount MODEL ROWS DIR NAME FACTOR
 --     discount-check MODEL ROWS CERT
+--     bounds MODEL ROWS DIR reach LABEL DIGITS
 --     bounds-check MODEL ROWS CERT
 -- ROWS is `exact` or `scaled`, DIR `max` or `min`.
-use Rattle.std.specs.Prelude.{ℕ, ◌*◌, ◌-◌, ◌^◌, Bool, ◌&&◌, not, List, [], ◌∷◌, length, slice_index_or, map, Option, Some, None, Result, Ok, Err, pos, ◌==◌, nat_lt, if◌then◌else◌, codes}
+use Rattle.std.specs.Prelude.{ℕ, ◌*◌, ◌-◌, ◌^◌, Bool, false, ◌&&◌, not, List, [], ◌∷◌, length, slice_index_or, map, Option, Some, None}
+use Rattle.std.specs.Prelude.{Result, Ok, Err, pos, ◌==◌, nat_lt, if◌then◌else◌, codes}
 use Rattle.std.specs.declared.string.String.{String}
 use Rattle.std.specs.Option.{ok_or}
 use Rattle.std.specs.Str.{bytes_eq}
@@ -26,9 +28,9 @@ use Rattle.mdp_rows.specs.declared.dir.Dir.{Dir}
 use Rattle.mdp_rows.specs.declared.dir.Dir.TheVariants.{Max, Min}
 use Rattle.mdp_rows.specs.declared.rule.RowRule.{RowRule}
 use Rattle.mdp_rows.specs.declared.rule.RowRule.TheVariants.{Exact, Scaled}
-use Rattle.mdp_job.specs.Job.{PlainQuery, reach, reward, mean, solve, witness, check, drill, horizon, policy, discount, discount_check, bounds_check, Asked}
+use Rattle.mdp_job.specs.Job.{PlainQuery, reach, reward, mean, solve, witness, check, drill, horizon, policy, discount, discount_check, bounds, bounds_check, Asked}
 use Rattle.mdp_job.specs.declared.words_error.WordsError.{WordsError}
-use Rattle.mdp_job.specs.declared.words_error.WordsError.TheVariants.{Command, Number, Rows, Direction, Objective, Threshold, Drill, Steps, Factor}
+use Rattle.mdp_job.specs.declared.words_error.WordsError.TheVariants.{Command, Number, Rows, Direction, Objective, Threshold, Drill, Steps, Factor, Digits}
 
 abbrev pub word_at : List (List ℕ) → ℕ → List ℕ
 word_at words i = slice_index_or words i []
@@ -145,6 +147,31 @@ discount_of words =
 abbrev pub discount_check_of : List (List ℕ) → Asked
 discount_check_of words = if length words == 3 then (rule_of (word_at words 1) >>= λ rule. Ok (discount_check rule)) else Err Number
 
+-- whether the first byte is `0`
+abbrev pub begins_with_zero : List ℕ → Bool
+begins_with_zero [] = false
+begins_with_zero (b ∷ bytes) = b == 48
+
+-- at most 30
+abbrev pub few_digits : Option ℕ → Result ℕ WordsError
+few_digits (Some n) = if nat_lt 30 n then Err Digits else Ok n
+few_digits None = Err Digits
+
+-- a whole number from 1 to 30, without leading zeros
+abbrev pub digits_of : List ℕ → Result ℕ WordsError
+digits_of word = if begins_with_zero word then Err Digits else few_digits (whole_word 2 word)
+
+-- the words behind the objective `reach` of `bounds`: the label, then the digits
+abbrev pub bounds_reach_of : RowRule → Dir → List (List ℕ) → Asked
+bounds_reach_of rule dir words = if length words == 6 then (digits_of (word_at words 5) >>= λ digits. Ok (bounds rule dir (word_at words 4) digits)) else Err Number
+
+abbrev pub bounds_objective_of : RowRule → Dir → List (List ℕ) → Asked
+bounds_objective_of rule dir words = if bytes_eq (word_at words 3) (codes "reach") then bounds_reach_of rule dir words else Err Objective
+
+-- the words behind `bounds`: how many there are at least, the row rule, the direction, the objective, and how many words that has
+abbrev pub bounds_of : List (List ℕ) → Asked
+bounds_of words = if nat_lt (length words) 6 then Err Number else (rule_of (word_at words 1) >>= (λ rule. dir_of (word_at words 2) >>= (λ dir. bounds_objective_of rule dir words)))
+
 -- the words behind `bounds-check`
 abbrev pub bounds_check_of : List (List ℕ) → Asked
 bounds_check_of words = if length words == 3 then (rule_of (word_at words 1) >>= λ rule. Ok (bounds_check rule)) else Err Number
@@ -156,7 +183,8 @@ other_of command words =
     else (if bytes_eq command (codes "policy") then policy_of words
     else (if bytes_eq command (codes "discount") then discount_of words
     else (if bytes_eq command (codes "discount-check") then discount_check_of words
-    else (if bytes_eq command (codes "bounds-check") then bounds_check_of words else Err Command))))
+    else (if bytes_eq command (codes "bounds") then bounds_of words
+    else (if bytes_eq command (codes "bounds-check") then bounds_check_of words else Err Command)))))
 
 -- a command, and the words behind it
 abbrev pub job_by : List ℕ → List (List ℕ) → Asked

@@ -16,11 +16,16 @@ pub fn files_of(words: &[String]) -> Files
     ensures { result ≡ files_of (job_of words.now) }
 {
     match job_of(words) {
-        Ok(Job::Solve { .. } | Job::Witness { .. } | Job::Horizon { .. } | Job::Discount { .. }) =>
-            Files {
-                model: Some(1),
-                second: None,
-            },
+        Ok(
+            Job::Solve { .. }
+            | Job::Witness { .. }
+            | Job::Horizon { .. }
+            | Job::Discount { .. }
+            | Job::Bounds { .. },
+        ) => Files {
+            model: Some(1),
+            second: None,
+        },
         Ok(
             Job::Check { .. }
             | Job::Policy { .. }

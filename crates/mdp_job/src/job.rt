@@ -4,7 +4,8 @@ ghost use Rattle.std.specs.String.{string_bytes};
 ghost use Rattle.mdp_math.specs.Rational.{of_int, lt_ℚ};
 ghost use Rattle.mdp_job.specs.Job.{asked, plain_query};
 ghost use Rattle.mdp_job.specs.Words.{job_of, rule_of, dir_of, reach_of, reward_of, mean_of, query_of, solve_of, threshold_of, witness_of, check_of, drill_by};
-ghost use Rattle.mdp_job.specs.Words.{drill_of, stay_of, steps_of, horizon_of, policy_of, factor_of, discount_of, discount_check_of, bounds_check_of, other_of, job_by};
+ghost use Rattle.mdp_job.specs.Words.{drill_of, stay_of, steps_of, horizon_of, policy_of, factor_of, discount_of, discount_check_of, digits_of, bounds_reach_of, bounds_objective_of, bounds_of};
+ghost use Rattle.mdp_job.specs.Words.{bounds_check_of, other_of, job_by};
 
 use crate::digits::whole_word;
 use crate::words_error::WordsError;
@@ -76,6 +77,14 @@ pub enum Job<'a> {
     /// `discount-check MODEL ROWS CERT`: whether a certificate of discounted rewards holds of the model, read under the row rule.
     DiscountCheck {
         rule: RowRule,
+    },
+    /// `bounds MODEL ROWS DIR reach LABEL DIGITS`: a lower and an upper value for each state, between which the best probability, in the direction, of
+    /// reaching a state with the label lies, and a policy; the search tries for so many digits, from 1 to 30.
+    Bounds {
+        rule: RowRule,
+        dir: Dir,
+        label: &'a [u8],
+        digits: u32,
     },
     /// `bounds-check MODEL ROWS CERT`: whether a certificate of bounds holds of the model, read under the row rule.
     BoundsCheck {
@@ -316,6 +325,64 @@ fn discount_check_of<'a>(words: &'a [String]) -> Result<Job<'a>, WordsError>
     Ok(Job::DiscountCheck { rule })
 }
 
+/// The number of digits that a word writes: from 1 to 30, without leading zeros.
+fn digits_of(word: &str) -> Result<u32, WordsError>
+    ensures { result ≡ digits_of word.now }
+{
+    let bytes = word.as_bytes();
+    if let [b'0', ..] = bytes {
+        return Err(WordsError::Digits);
+    }
+    match whole_word(bytes, 2) {
+        Some(digits) if digits <= 30 => Ok(digits as u32),
+        _ => Err(WordsError::Digits),
+    }
+}
+
+/// The job that the words behind `bounds` are, where the objective is `reach`.
+fn bounds_reach_of<'a>(rule: RowRule, dir: Dir, words: &'a [String]) -> Result<Job<'a>, WordsError>
+    ensures { asked result ≡ bounds_reach_of rule dir (map string_bytes words.now) }
+{
+    let [_, _, _, _, label, digits] = words else {
+        return Err(WordsError::Number);
+    };
+    let digits = digits_of(digits.as_str())?;
+    Ok(Job::Bounds {
+        rule,
+        dir,
+        label: label.as_bytes(),
+        digits,
+    })
+}
+
+/// The job that the words behind `bounds` are, by their objective.
+fn bounds_objective_of<'a>(
+    rule: RowRule,
+    dir: Dir,
+    words: &'a [String],
+) -> Result<Job<'a>, WordsError>
+    requires { 3 < length words.now }
+    ensures { asked result ≡ bounds_objective_of rule dir (map string_bytes words.now) }
+{
+    let objective = words[3].as_str();
+    if objective == "reach" {
+        return bounds_reach_of(rule, dir, words);
+    }
+    Err(WordsError::Objective)
+}
+
+/// The job that the words behind `bounds` are.
+fn bounds_of<'a>(words: &'a [String]) -> Result<Job<'a>, WordsError>
+    ensures { asked result ≡ bounds_of (map string_bytes words.now) }
+{
+    if words.len() < 6 {
+        return Err(WordsError::Number);
+    }
+    let rule = rule_of(words[1].as_str())?;
+    let dir = dir_of(words[2].as_str())?;
+    bounds_objective_of(rule, dir, words)
+}
+
 /// The job that the words behind `bounds-check` are.
 fn bounds_check_of<'a>(words: &'a [String]) -> Result<Job<'a>, WordsError>
     ensures { asked result ≡ bounds_check_of (map string_bytes words.now) }
@@ -374,6 +441,7 @@ fn other_of<'a>(command: &str, words: &'a [String]) -> Result<Job<'a>, WordsErro
         "policy" => policy_of(words),
         "discount" => discount_of(words),
         "discount-check" => discount_check_of(words),
+        "bounds" => bounds_of(words),
         "bounds-check" => bounds_check_of(words),
         _ => Err(WordsError::Command),
     }
@@ -394,7 +462,7 @@ fn job_by<'a>(command: &str, words: &'a [String]) -> Result<Job<'a>, WordsError>
 
 /// The job that the words are, or the first refusal: `Command`, then `Number`, `Rows`, `Direction` and `Objective`, and `Number` again where an
 /// objective has another number of words; for `drill` `Drill`, for `horizon` `Steps`, for `policy` `Objective` behind `Rows`, for `discount` `Factor`
-/// and for `witness` `Threshold` behind `Direction`. It takes no memory.
+/// and for `witness` `Threshold` behind `Direction`, and for `bounds` `Digits` behind `Objective`. It takes no memory.
 pub fn job_of<'a>(words: &'a [String]) -> Result<Job<'a>, WordsError>
     ensures { asked result ≡ job_of words.now }
 {

@@ -124,6 +124,7 @@ fn words_word(error: WordsError) -> &'static str
         WordsError::Drill => "drill",
         WordsError::Steps => "steps",
         WordsError::Factor => "factor",
+        WordsError::Digits => "digits",
     }
 }
 

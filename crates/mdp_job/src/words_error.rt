@@ -9,7 +9,7 @@ pub enum WordsError {
     Rows = 3,
     /// The direction is neither `max` nor `min`.
     Direction = 4,
-    /// `solve` has another objective than `reach`, `reward` and `mean`, or `policy` another than `reach`.
+    /// `solve` has another objective than `reach`, `reward` and `mean`, or `policy` or `bounds` another than `reach`.
     Objective = 5,
     /// The threshold of `witness` isn't a numeral.
     Threshold = 6,
@@ -19,4 +19,6 @@ pub enum WordsError {
     Steps = 8,
     /// The factor of `discount` isn't a numeral below 1.
     Factor = 9,
+    /// The digits of `bounds` aren't a whole number from 1 to 30, without leading zeros.
+    Digits = 10,
 }

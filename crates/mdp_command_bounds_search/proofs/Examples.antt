@@ -1,0 +1,89 @@
+-- What is due to `bounds`, computed. `draw` stays at 0, or moves to 1 with 1/3 and to 2 with 2/3; 1 is the goal. `both` has two initial states.
+use Rattle.std.proofs.Common.{◌≡◌, ℕ, List, [], ◌∷◌, Err, refl, pos, Some}
+use Rattle.std.specs.Prelude.{codes}
+use Rattle.mdp_math.specs.Gcd.{gcd, gcd_with_fuel}
+use Rattle.mdp_math.specs.Rational.{ℚ, of_int, ratio, le_ℚ, lt_ℚ, ◌+ℚ◌, ◌*ℚ◌}
+use Rattle.mdp_math.specs.Written.{narrow, narrow_ℚ, written_add, written_mul}
+use Rattle.mdp_spec.specs.Mdp.{Entry, Choice, State, Mdp}
+use Rattle.mdp_rows.specs.declared.dir.Dir.TheVariants.{Max, Min}
+use Rattle.mdp_farkas.specs.declared.rule.Rule.TheVariants.{ValueOnEachChoice}
+use Rattle.mdp_bounds_text.specs.Cert.{Certificate}
+use Rattle.mdp_bounds_text.specs.declared.init.BoundsInit.TheVariants.{Missing, Between}
+use Rattle.mdp_check.specs.Bounds.{bounds_answer_to}
+use Rattle.mdp_check.specs.declared.answer.Answer.TheVariants.{Yes, No}
+use Rattle.mdp_job.specs.Refusal.{PlainRefusal, query_label, query_size}
+use Rattle.mdp_command_bounds_search.specs.Certificate.{reach_certificate}
+use Rattle.mdp_command_bounds_search.specs.Due.{IsBoundsDue}
+
+abbrev whole : ℕ → ℚ
+whole n = of_int (pos n)
+
+abbrev entry : ℕ → ℚ → Entry
+entry t p = record { target = t; prob = p }
+
+abbrev choice : List Entry → Choice
+choice row = record { row = row; rewards = [] }
+
+abbrev state : List ℕ → List Choice → State
+state labels choices = record { labels = labels; choices = choices }
+
+abbrev drawn : List ℕ → Mdp
+drawn last = record {
+  names = [];
+  labels = codes "init" ∷ codes "goal" ∷ [];
+  states =
+      state (0 ∷ []) (choice (entry 0 (whole 1) ∷ []) ∷ choice (entry 1 (ratio (pos 1) 3) ∷ entry 2 (ratio (pos 2) 3) ∷ []) ∷ [])
+      ∷ state (1 ∷ []) (choice (entry 1 (whole 1) ∷ []) ∷ [])
+      ∷ state last (choice (entry 2 (whole 1) ∷ []) ∷ [])
+      ∷ [];
+}
+
+abbrev draw : Mdp
+draw = drawn []
+
+abbrev both : Mdp
+both = drawn (0 ∷ [])
+
+abbrev bounds : Mdp → ℚ → ℚ → Certificate
+bounds m low high = reach_certificate Max (codes "goal") m (low ∷ whole 1 ∷ whole 0 ∷ []) (high ∷ whole 1 ∷ whole 0 ∷ []) (1 ∷ 0 ∷ 0 ∷ []) (1 ∷ 0 ∷ 0 ∷ [])
+
+-- the line `init` has both values of the one initial state; there is none where two states have the label
+line_init : (bounds draw (ratio (pos 1) 4) (ratio (pos 1) 2)).init ≡ Between 0 (Some (ratio (pos 1) 4)) (Some (ratio (pos 1) 2))
+line_init = refl
+
+no_line_init : (bounds both (ratio (pos 1) 4) (ratio (pos 1) 2)).init ≡ Missing
+no_line_init = refl
+
+-- the greatest probability of reaching the goal from 0, 1/3, lies between 1/4 and 1/2
+holds : bounds_answer_to draw (bounds draw (ratio (pos 1) 4) (ratio (pos 1) 2)) ≡ Yes
+unfolding gcd gcd_with_fuel of_int ratio le_ℚ lt_ℚ ◌+ℚ◌ ◌*ℚ◌ narrow narrow_ℚ written_add written_mul
+holds = refl
+
+holds_without_init : bounds_answer_to both (bounds both (ratio (pos 1) 3) (ratio (pos 1) 3)) ≡ Yes
+unfolding gcd gcd_with_fuel of_int ratio le_ℚ lt_ℚ ◌+ℚ◌ ◌*ℚ◌ narrow narrow_ℚ written_add written_mul
+holds_without_init = refl
+
+-- 0 and 1 hold of any model
+says_nothing :
+    bounds_answer_to draw
+    (reach_certificate Min (codes "goal") draw (whole 0 ∷ whole 1 ∷ whole 0 ∷ []) (whole 1 ∷ whole 1 ∷ whole 1 ∷ []) (0 ∷ 0 ∷ 0 ∷ []) (0 ∷ 0 ∷ 0 ∷ []))
+    ≡ Yes
+unfolding gcd gcd_with_fuel of_int ratio le_ℚ lt_ℚ ◌+ℚ◌ ◌*ℚ◌ narrow narrow_ℚ written_add written_mul
+says_nothing = refl
+
+-- 1/4 is below the greatest probability
+upper_too_small : bounds_answer_to draw (bounds draw (ratio (pos 1) 4) (ratio (pos 1) 4)) ≡ No (record { rule = ValueOnEachChoice; state = Some 0; choice = Some 1 })
+unfolding gcd gcd_with_fuel of_int ratio le_ℚ lt_ℚ ◌+ℚ◌ ◌*ℚ◌ narrow narrow_ℚ written_add written_mul
+upper_too_small = refl
+
+-- ---- what is due
+
+unknown : IsBoundsDue Max (codes "done") draw (Err query_label)
+unknown = refl
+
+unknown_alone : IsBoundsDue Max (codes "done") draw (Err query_size) → ⊥
+unknown_alone d = cc d
+
+-- no refusal is due, where the label is there
+no_refusal : (refusal : PlainRefusal) → IsBoundsDue Max (codes "goal") draw (Err refusal) → ⊥
+no_refusal refusal d = cc (d.spelled)

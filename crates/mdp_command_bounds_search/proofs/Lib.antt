@@ -1,0 +1,4 @@
+mod Examples
+pub mod TextLength
+pub mod Printing
+pub mod Solved

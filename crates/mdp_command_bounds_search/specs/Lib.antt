@@ -1,0 +1,4 @@
+pub mod Certificate
+pub mod Due
+pub mod Shown
+pub mod Laws

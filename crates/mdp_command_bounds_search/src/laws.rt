@@ -1,0 +1,12 @@
+ghost use Rattle.mdp_command_bounds_search.specs.Laws.{IsNeverTooWide, TextLiesBetween};
+
+use mdp_check::bounds_checking_law;
+
+/// Laws of what is due to `bounds`: where the model has the label it's a text, and never a term that is too wide; and between the lower and the upper
+/// values of that text lie the greatest, or the least, probabilities, and those of its policy.
+pub fn bounds_search_law()
+    ensures total { IsNeverTooWide }
+    ensures between { TextLiesBetween }
+{
+    bounds_checking_law();
+}

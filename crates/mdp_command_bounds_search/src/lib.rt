@@ -1,0 +1,9 @@
+//! The command `bounds`: certified lower and upper bounds of the best probability of reaching a label, with a policy, for every model.
+#![tactic(auto)]
+
+mod certificate;
+mod laws;
+mod searching;
+
+pub use laws::bounds_search_law;
+pub use searching::bounds_file;
