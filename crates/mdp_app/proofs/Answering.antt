@@ -1,10 +1,11 @@
 -- What a run answers, from what was decided and what was written.
-use Rattle.std.proofs.Common.{◌≡◌, ℕ, inl, inr, Bool, true, false, List, Option, Result, Ok, Err, IfOk, refl, sym, ap, subst, ◌∙◌}
+use Rattle.std.proofs.Common.{◌≡◌, ℕ, inl, inr, Bool, true, false, List, Option, Some, None, Result, Ok, Err, IfOk, IsOk, refl, sym, ap, subst, ◌∙◌}
 use Rattle.mdp_math.specs.Rational.{ℚ}
+use Rattle.mdp_spec.specs.Labels.{place_of}
 use Rattle.mdp_spec.specs.Mdp.{Mdp}
 use Rattle.mdp_rows.specs.declared.dir.Dir.{Dir}
 use Rattle.mdp_drn.specs.FromSource.{HadLeft}
-use Rattle.mdp_job.specs.Job.{solve, witness, check, drill, horizon, policy, discount, discount_check, bounds_check, Asked, reads_model, reads_second}
+use Rattle.mdp_job.specs.Job.{solve, witness, check, drill, horizon, policy, discount, discount_check, bounds, bounds_check, Asked, reads_model, reads_second}
 use Rattle.mdp_job.specs.Refusal.{PlainRefusal, no_job, model_text, query_size, query_reward, query_label, query_init, query_negative, query_steps, query_choice, too_wide, check_wide, horizon_wide}
 use Rattle.mdp_job.specs.Refusal.{denied, read_model, read_certificate, long_model, long_certificate, cert_text, policy_text, below, no_memory}
 use Rattle.mdp_job.specs.Status.{status_of}
@@ -25,6 +26,8 @@ use Rattle.mdp_discount.proofs.OneEnd.{one_query_end}
 use Rattle.mdp_command_discount.specs.Due.{IsDiscountDue, IsDiscountCheckDue}
 use Rattle.mdp_command_discount.proofs.Solved.{discount_once}
 use Rattle.mdp_command_bounds.specs.Due.{IsBoundsCheckDue}
+use Rattle.mdp_command_bounds_search.specs.Due.{IsLabelDue, IsBoundsDue}
+use Rattle.mdp_command_bounds_search.proofs.Solved.{never_too_wide}
 use Rattle.mdp_app.specs.Due.{check_due, IsDue}
 use Rattle.mdp_app.specs.Decided.{IsTextDecided, IsDecided, EndsWith}
 use Rattle.mdp_app.specs.Run.{IsFromBytes, HasCause, LeavesUnread, IsAnswered, IsWorkDone, IsDoneUnless, IsComplete}
@@ -84,38 +87,69 @@ bounds_checked_once : (other : List ℕ) (read : Result Mdp PlainRefusal) (said 
 bounds_checked_once other (Ok m) said again d e = d ∙ sym e
 bounds_checked_once other (Err r) said again d e = d ∙ sym e
 
--- what is due is due once
-due_once :
+-- the one thing that is due is a text, with which the work is done
+done_of : (said : Said) (text : List ℕ) → said ≡ Ok text → said_status said ≡ status.Done
+done_of said text e = ap said_status e
+
+done_ok : (said : Said) → IsOk said → said_status said ≡ status.Done
+done_ok (Ok text) ok = refl
+done_ok (Err r) ok = cc ok
+
+-- more than one certificate of bounds may be due; but where a text is due, no refusal is
+bounds_done : (dir : Dir) (label : List ℕ) (read : Result Mdp PlainRefusal) (said : Said) (text : List ℕ) → IsDueToModel (IsBoundsDue dir label) read said
+    → IsDueToModel (IsBoundsDue dir label) read (Ok text) → said_status said ≡ status.Done
+bounds_done dir label (Ok m) said text d e = by (place_of label m.labels) refl e
+  where
+    by : (found : Option ℕ) → place_of label m.labels ≡ found → IsLabelDue dir label m found (Ok text) → said_status said ≡ status.Done
+    by None found h = cc h
+    by (Some l) found h = done_ok said (never_too_wide dir label m l said found d)
+bounds_done dir label (Err r) said text d e = cc e
+
+-- where a text is due, the work is done with what is due
+due_done :
     IsDueOnce → witnessed.IsDueOnce → (asked : Asked) (model second : Input) (m s n t text : List ℕ) (said : Said) → HadLeft model.before n → HadLeft second.before t → IsDue asked n t said
     → Told (reads_model asked) model m → Told (reads_second asked) second s → IsDue asked m s (Ok text)
-    → said ≡ Ok text
-due_once once found (Ok (solve rule dir query)) model second m s n t text said hn ht due tm ts due_text =
-    once rule dir query m said (Ok text) (subst (λ (x : List ℕ). IsSolveDue dir query (model_due rule x) said) (had_told true model m n tm hn refl) due) due_text
-due_once once found (Ok (witness rule dir label threshold)) model second m s n t text said hn ht due tm ts due_text =
+    → said_status said ≡ status.Done
+due_done once found (Ok (solve rule dir query)) model second m s n t text said hn ht due tm ts due_text =
+    done_of said text (
+    once rule dir query m said (Ok text) (subst (λ (x : List ℕ). IsSolveDue dir query (model_due rule x) said) (had_told true model m n tm hn refl) due) due_text)
+due_done once found (Ok (witness rule dir label threshold)) model second m s n t text said hn ht due tm ts due_text =
+    done_of said text (
     found rule dir label threshold m said (Ok text)
-    (subst (λ (x : List ℕ). IsDueToModel (IsWitnessDue dir label threshold) (model_due rule x) said) (had_told true model m n tm hn refl) due) due_text
-due_once once found (Ok (check rule)) model second m s n t text said hn ht due tm ts due_text =
-    due ∙ ap (λ (x : List ℕ). check_due rule x t) (had_told true model m n tm hn refl) ∙ ap (λ (x : List ℕ). check_due rule m x) (had_told true second s t ts ht refl) ∙ sym due_text
-due_once once found (Ok (drill number layers width)) model second m s n t text said hn ht due tm ts due_text = due-once number layers width said (Ok text) due due_text
-due_once once found (Ok (horizon rule dir stay label steps)) model second m s n t text said hn ht due tm ts due_text =
+    (subst (λ (x : List ℕ). IsDueToModel (IsWitnessDue dir label threshold) (model_due rule x) said) (had_told true model m n tm hn refl) due) due_text)
+due_done once found (Ok (check rule)) model second m s n t text said hn ht due tm ts due_text =
+    done_of said text (
+    due ∙ ap (λ (x : List ℕ). check_due rule x t) (had_told true model m n tm hn refl) ∙ ap (λ (x : List ℕ). check_due rule m x) (had_told true second s t ts ht refl) ∙ sym due_text)
+due_done once found (Ok (drill number layers width)) model second m s n t text said hn ht due tm ts due_text =
+    done_of said text (
+    due-once number layers width said (Ok text) due due_text)
+due_done once found (Ok (horizon rule dir stay label steps)) model second m s n t text said hn ht due tm ts due_text =
+    done_of said text (
     horizon_once dir stay label steps (model_due rule m) said (Ok text)
-    (subst (λ (x : List ℕ). IsDueToModel (IsHorizonDue dir stay label steps) (model_due rule x) said) (had_told true model m n tm hn refl) due) due_text
-due_once once found (Ok (policy rule label)) model second m s n t text said hn ht due tm ts due_text =
+    (subst (λ (x : List ℕ). IsDueToModel (IsHorizonDue dir stay label steps) (model_due rule x) said) (had_told true model m n tm hn refl) due) due_text)
+due_done once found (Ok (policy rule label)) model second m s n t text said hn ht due tm ts due_text =
+    done_of said text (
     value_once label s (model_due rule m) said (Ok text)
     (subst (λ (x : List ℕ). IsDueToModel (λ k. IsPolicyDue label k x) (model_due rule m) said) (had_told true second s t ts ht refl)
-    (subst (λ (x : List ℕ). IsDueToModel (λ k. IsPolicyDue label k t) (model_due rule x) said) (had_told true model m n tm hn refl) due)) due_text
-due_once once found (Ok (discount rule dir name factor)) model second m s n t text said hn ht due tm ts due_text =
+    (subst (λ (x : List ℕ). IsDueToModel (λ k. IsPolicyDue label k t) (model_due rule x) said) (had_told true model m n tm hn refl) due)) due_text)
+due_done once found (Ok (discount rule dir name factor)) model second m s n t text said hn ht due tm ts due_text =
+    done_of said text (
     discounted_once dir name factor (model_due rule m) said (Ok text)
-    (subst (λ (x : List ℕ). IsDueToModel (IsDiscountDue dir name factor) (model_due rule x) said) (had_told true model m n tm hn refl) due) due_text
-due_once once found (Ok (discount_check rule)) model second m s n t text said hn ht due tm ts due_text =
+    (subst (λ (x : List ℕ). IsDueToModel (IsDiscountDue dir name factor) (model_due rule x) said) (had_told true model m n tm hn refl) due) due_text)
+due_done once found (Ok (discount_check rule)) model second m s n t text said hn ht due tm ts due_text =
+    done_of said text (
     discount_checked_once s (model_due rule m) said (Ok text)
     (subst (λ (x : List ℕ). IsDueToModel (λ k. IsDiscountCheckDue k x) (model_due rule m) said) (had_told true second s t ts ht refl)
-    (subst (λ (x : List ℕ). IsDueToModel (λ k. IsDiscountCheckDue k t) (model_due rule x) said) (had_told true model m n tm hn refl) due)) due_text
-due_once once found (Ok (bounds_check rule)) model second m s n t text said hn ht due tm ts due_text =
+    (subst (λ (x : List ℕ). IsDueToModel (λ k. IsDiscountCheckDue k t) (model_due rule x) said) (had_told true model m n tm hn refl) due)) due_text)
+due_done once found (Ok (bounds rule dir label digits)) model second m s n t text said hn ht due tm ts due_text =
+    bounds_done dir label (model_due rule m) said text
+    (subst (λ (x : List ℕ). IsDueToModel (IsBoundsDue dir label) (model_due rule x) said) (had_told true model m n tm hn refl) due) due_text
+due_done once found (Ok (bounds_check rule)) model second m s n t text said hn ht due tm ts due_text =
+    done_of said text (
     bounds_checked_once s (model_due rule m) said (Ok text)
     (subst (λ (x : List ℕ). IsDueToModel (λ k. IsBoundsCheckDue k x) (model_due rule m) said) (had_told true second s t ts ht refl)
-    (subst (λ (x : List ℕ). IsDueToModel (λ k. IsBoundsCheckDue k t) (model_due rule x) said) (had_told true model m n tm hn refl) due)) due_text
-due_once once found (Err e) model second m s n t text said hn ht due tm ts due_text = cc
+    (subst (λ (x : List ℕ). IsDueToModel (λ k. IsBoundsCheckDue k t) (model_due rule x) said) (had_told true model m n tm hn refl) due)) due_text)
+due_done once found (Err e) model second m s n t text said hn ht due tm ts due_text = cc
 
 module _ (asked : Asked) (model second : Input) (out : Output) (ended : Status) where
   memory_unread : (said : Said) → LeavesUnread asked model second said → LeavesUnread asked model second (Err no_memory)
@@ -136,16 +170,19 @@ module _ (asked : Asked) (model second : Input) (out : Output) (ended : Status) 
   abbrev Unless : Type 0
   Unless = IsDoneUnless asked model second out ended
 
-  ends : (said due : Said) → said ≡ due → Wrote ended out said → (ended ≡ said_status due → Unless) → Unless
-  ends said due is (inl w) by = by (w.0 ∙ ap said_status is)
-  ends said due is (inr w) by = inr (inr (inr (w.0, w.1.fault)))
+  ends_as : (said : Said) (s : Status) → said_status said ≡ s → Wrote ended out said → (ended ≡ s → Unless) → Unless
+  ends_as said s is (inl w) by = by (w.0 ∙ is)
+  ends_as said s is (inr w) by = inr (inr (inr (w.0, w.1.fault)))
 
-  by_cause : (said : Said) (text : List ℕ) → Wrote ended out said → (IsFromBytes asked model second said → said ≡ Ok text) → HasCause asked model second said → Unless
-  by_cause said text w once (inl from) = ends said (Ok text) (once from) w inl
-  by_cause said text w once (inr (inl failed)) = ends said (Err read_model) failed.says w (λ e. inr (inr (inl (e, inl (failed.reads, failed.fault)))))
-  by_cause said text w once (inr (inr (inl failed))) = ends said (Err read_certificate) failed.says w (λ e. inr (inr (inl (e, inr (failed.reads, failed.fault)))))
-  by_cause said text w once (inr (inr (inr memory))) = ends said (Err no_memory) memory w (λ e. inr (inl e))
+  ends : (said due : Said) → said ≡ due → Wrote ended out said → (ended ≡ said_status due → Unless) → Unless
+  ends said due is w by = ends_as said (said_status due) (ap said_status is) w by
+
+  by_cause : (said : Said) → Wrote ended out said → (IsFromBytes asked model second said → said_status said ≡ status.Done) → HasCause asked model second said → Unless
+  by_cause said w done (inl from) = ends_as said status.Done (done from) w inl
+  by_cause said w done (inr (inl failed)) = ends said (Err read_model) failed.says w (λ e. inr (inr (inl (e, inl (failed.reads, failed.fault)))))
+  by_cause said w done (inr (inr (inl failed))) = ends said (Err read_certificate) failed.says w (λ e. inr (inr (inl (e, inr (failed.reads, failed.fault)))))
+  by_cause said w done (inr (inr (inr memory))) = ends said (Err no_memory) memory w (λ e. inr (inl e))
 
   pub complete : IsDueOnce → witnessed.IsDueOnce → IsAnswered asked model second out ended → IsComplete asked model second out ended
   complete once found a m s text tm ts due =
-      by_cause a.said text a.written (λ from. due_once once found asked model second m s from.model_bytes from.second_bytes text a.said from.had_model from.had_second from.is_due tm ts due) a.cause
+      by_cause a.said a.written (λ from. due_done once found asked model second m s from.model_bytes from.second_bytes text a.said from.had_model from.had_second from.is_due tm ts due) a.cause

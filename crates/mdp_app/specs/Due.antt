@@ -4,7 +4,7 @@ use Rattle.mdp_spec.specs.Mdp.{Mdp}
 use Rattle.mdp_rows.specs.declared.rule.RowRule.{RowRule}
 use Rattle.mdp_cert.specs.Cert.{Certificate}
 use Rattle.mdp_check.specs.Check.{answer_to}
-use Rattle.mdp_job.specs.Job.{solve, witness, check, drill, horizon, policy, discount, discount_check, bounds_check, Asked}
+use Rattle.mdp_job.specs.Job.{solve, witness, check, drill, horizon, policy, discount, discount_check, bounds, bounds_check, Asked}
 use Rattle.mdp_job.specs.Refusal.{PlainRefusal, no_job}
 use Rattle.mdp_command.specs.Files.{model_due, certificate_due, IsDueToModel}
 use Rattle.mdp_command.specs.Said.{Said}
@@ -15,6 +15,7 @@ use Rattle.mdp_command_horizon.specs.Due.{IsHorizonDue}
 use Rattle.mdp_command_policy.specs.Due.{IsPolicyDue}
 use Rattle.mdp_command_discount.specs.Due.{IsDiscountDue, IsDiscountCheckDue}
 use Rattle.mdp_command_bounds.specs.Due.{said_of, IsBoundsCheckDue}
+use Rattle.mdp_command_bounds_search.specs.Due.{IsBoundsDue}
 
 -- ---- `check`
 
@@ -42,6 +43,7 @@ IsDue (Ok (horizon rule dir stay label steps)) model second said = IsDueToModel 
 IsDue (Ok (policy rule label)) model second said = IsDueToModel (λ m. IsPolicyDue label m second) (model_due rule model) said
 IsDue (Ok (discount rule dir name factor)) model second said = IsDueToModel (IsDiscountDue dir name factor) (model_due rule model) said
 IsDue (Ok (discount_check rule)) model second said = IsDueToModel (λ m. IsDiscountCheckDue m second) (model_due rule model) said
+IsDue (Ok (bounds rule dir label digits)) model second said = IsDueToModel (IsBoundsDue dir label) (model_due rule model) said
 IsDue (Ok (bounds_check rule)) model second said = IsDueToModel (λ m. IsBoundsCheckDue m second) (model_due rule model) said
 IsDue (Err e) model second said = said ≡ Err (no_job e)
 
@@ -55,5 +57,6 @@ IsModelRead (Ok (horizon rule dir stay label steps)) model = IsOk (model_due rul
 IsModelRead (Ok (policy rule label)) model = IsOk (model_due rule model)
 IsModelRead (Ok (discount rule dir name factor)) model = IsOk (model_due rule model)
 IsModelRead (Ok (discount_check rule)) model = IsOk (model_due rule model)
+IsModelRead (Ok (bounds rule dir label digits)) model = IsOk (model_due rule model)
 IsModelRead (Ok (bounds_check rule)) model = IsOk (model_due rule model)
 IsModelRead (Err e) model = ⊥

@@ -76,6 +76,11 @@ fn works_on_the_coin(rt: HostRuntime) -> Result<(), Fail> {
             "mdp-certificate 2\nclaim min witness \"goal\" 0\nstates 3\ninit 0\nend\n",
         ),
         ("check M exact C", COIN_UPPER, "yes\n"),
+        (
+            "bounds M exact max reach goal 6",
+            "",
+            "mdp-bounds 1\nclaim max reach \"goal\"\nstates 3\ninit 0 ",
+        ),
         ("bounds-check M exact C", COIN_BOUNDS, "yes\n"),
         (
             "policy M exact P reach goal",

@@ -95,6 +95,7 @@ fn answers_each_fault_of_a_model(rt: HostRuntime) -> Result<(), Fail> {
         &["horizon", "MODEL", "exact", "max", "-", "goal", "2"],
         &["discount", "MODEL", "exact", "max", "-", "1/2"],
         &["discount-check", "MODEL", "exact", "CERT"],
+        &["bounds", "MODEL", "exact", "max", "reach", "goal", "6"],
         &["bounds-check", "MODEL", "exact", "CERT"],
     ] {
         for call in 0..calls_of(COIN) {

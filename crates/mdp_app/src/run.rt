@@ -9,6 +9,7 @@ ghost use Rattle.mdp_app.specs.Decided.{IsDecided, EndsWith};
 
 use crate::checking::check_files;
 use mdp_command_bounds::bounds_check_files;
+use mdp_command_bounds_search::bounds_file;
 use mdp_command_discount::{discount_check_files, discount_file};
 use mdp_command_drill::drill;
 use mdp_command_horizon::horizon_file;
@@ -62,6 +63,12 @@ fn decided<S: Source, C: Source>(
             factor,
         } => discount_file(alloc, rule, dir, name, factor, model),
         Job::DiscountCheck { rule } => discount_check_files(alloc, rule, model, second),
+        Job::Bounds {
+            rule,
+            dir,
+            label,
+            digits,
+        } => bounds_file(alloc, rule, dir, label, digits, model),
         Job::BoundsCheck { rule } => bounds_check_files(alloc, rule, model, second),
     }
 }

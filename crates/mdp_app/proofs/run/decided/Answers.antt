@@ -72,6 +72,11 @@ returns-in-DiscountCheck g c =
     (pair_decided _ _ _ _ _ _ refl refl (λ bytes other said due. due) (λ bytes other text shown. shown) (λ bytes read. read) _ c.discount_check_files.ensures.read
     c.discount_check_files.ensures.unread c.discount_check_files.ensures.model_end c.discount_check_files.ensures.second_end)
 
+pub returns-in-Bounds : goal.returns-in-Bounds
+returns-in-Bounds g c =
+    decided_as _ _ _ _ _ (sym (ap (λ (job : Job). asked_for (plain_job job)) c.in-Bounds.is) ∙ c.in-Ok.ensures)
+    (model_decided _ _ _ _ _ _ refl refl (λ bytes other said due. due) (λ bytes other text shown. shown) refl refl _ c.bounds_file.ensures.read c.bounds_file.ensures.end)
+
 pub returns-in-BoundsCheck : goal.returns-in-BoundsCheck
 returns-in-BoundsCheck g c =
     decided_as _ _ _ _ _ (sym (ap (λ (job : Job). asked_for (plain_job job)) c.in-BoundsCheck.is) ∙ c.in-Ok.ensures)
