@@ -19,7 +19,8 @@ use Rattle.mdp_reward.proofs.Answering.{PassLaws}
 use Rattle.mdp_trivial_bounds.specs.Values.{zeros_of}
 use Rattle.mdp_trivial_bounds.proofs.Parts.{trivial_by}
 
-module _ (m : Mdp) (r : ℕ) (goals finite : List Bool) (start known : List ℕ) (model : IsMdp m) (none : has_negative m r ≡ false) (is : IsMaxStart m goals finite start known) (laws : PassLaws) where
+module _ (m : Mdp) (r : ℕ) (goals finite : List Bool) (start known : List ℕ) (model : IsMdp m) (none : has_negative m r ≡ false)
+    (is : IsMaxStart m goals finite start known) (laws : PassLaws) where
   abbrev v : List (Option ℚ)
   v = zeros_of (states_of m) finite
 

@@ -13,6 +13,9 @@ use Rattle.mdp_bounds.specs.Mean.{IsTrivialMean}
 use Rattle.mdp_trivial_bounds.specs.Extent.{IsExtreme, AreAllExtreme}
 
 -- a number for each state
+pub same_each : {A : Type 0} (n k : ℕ) (x y : A) → n ≡ k → x ≡ y → replicate n x ≡ replicate k y
+same_each n k x y e f = ap (λ i. replicate i x) e ∙ ap (λ z. replicate k z) f
+
 pub length_same : (n : ℕ) (x : ℚ) (gains : List ℚ) → gains ≡ replicate n x → length gains ≡ n
 length_same n x gains e = ap length e ∙ length-replicate n x
 

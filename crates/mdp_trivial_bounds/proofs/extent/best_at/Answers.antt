@@ -13,9 +13,10 @@ loop-c-preserved c =
     let x = c.better-best.result in
     let old = c.loop-c.best in
     let as_reward = subst (λ (y : ℚ). IsAsGood c.args.dir x y) c.reward.ensures c.better-best.ensures.as_number in
+    let has = subst (λ (n : ℕ). c.loop-c.c < n) c.choices-c-end.ensures c.loop-c-test.true in
     let one = subst (λ (y : ℚ). (x ≡ old) ⊎ (x ≡ y)) c.reward.ensures c.better-best.ensures.one in
     record {
       as_first = good_trans c.args.dir x old c.args.first.now c.better-best.ensures.as_best c.loop-c.invariant.as_first;
       as_each = at_next c.args.dir m c.args.name old x c.better-best.ensures.as_best c.args.s c.loop-c.c c.loop-c.invariant.as_each as_reward;
-      one = one-next m c.args.name c.args.s c.loop-c.c c.args.first.now old x c.requires.state (subst (λ (n : ℕ). c.loop-c.c < n) c.choices-c-end.ensures c.loop-c-test.true) c.loop-c.invariant.one one;
+      one = one-next m c.args.name c.args.s c.loop-c.c c.args.first.now old x c.requires.state has c.loop-c.invariant.one one;
     }
