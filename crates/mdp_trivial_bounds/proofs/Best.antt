@@ -1,4 +1,5 @@
--- Of two numbers the one that the test keeps is as good as both, and what is as good as a best number is as good as what that is as good as.
+-- Of two numbers the one that the test keeps is as good as both. What is kept over choices and states is as good as each of their rewards, and is the
+-- first number or one of them.
 use Rattle.std.proofs.Common.{◌≡◌, ℕ, ◌+◌, ◌<◌, ◌⊎◌, inl, inr, true, false, length, refl, sym, ◌∙◌, subst, arith}
 use Rattle.mdp_math.specs.Rational.{ℚ}
 use Rattle.mdp_math.specs.Written.{cmp_ℚ}
