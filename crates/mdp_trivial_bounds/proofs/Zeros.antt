@@ -1,21 +1,17 @@
--- Values that are 0 at marked states and infinite at the others are those of a certificate whose numbers are 0.
-use Rattle.std.proofs.Common.{◌≡◌, ℕ, ◌<◌, Bool, true, false, List, [], length, Option, Some, None, refl, ◌∙◌, ap, zero-add, if◌then◌else◌}
+-- Values that are 0 at marked states and infinite at the others: they are `rewards_of` of no numbers, so what is known of these holds of them.
+use Rattle.std.proofs.Common.{◌≡◌, ℕ, ◌<◌, Bool, true, false, List, [], length, Option, Some, None, ◌∙◌, ap, zero-add, if◌then◌else◌}
 use Rattle.std.proofs.lemmas.List.FromFn.{get_or-map-range_with_len}
 use Rattle.mdp_math.specs.Rational.{ℚ}
 use Rattle.mdp_math.proofs.Order.{0ℚ}
 use Rattle.mdp_spec.specs.Mdp.{Mdp, states_of}
 use Rattle.mdp_spec.specs.Tree.{is_marked}
 use Rattle.mdp_spec.specs.Bounds.{reward_at}
-use Rattle.mdp_reward.specs.Query.{rewards_of}
 use Rattle.mdp_reward.proofs.Certificate.{rewards-len, reward-finite, some-value}
 use Rattle.mdp_trivial_bounds.specs.Values.{zero_by, zeros_of}
 
 module _ (m : Mdp) (marks : List Bool) where
   abbrev pub zeros : List (Option ℚ)
   zeros = zeros_of (states_of m) marks
-
-  same : zeros ≡ rewards_of m marks []
-  same = refl
 
   pub zeros-len : length zeros ≡ states_of m
   zeros-len = rewards-len m marks marks []
