@@ -1,0 +1,82 @@
+-- The bounds that say nothing of a small model, computed, and what the rules say of others.
+use Rattle.std.proofs.Common.{◌≡◌, ℕ, ◌∙◌, Bool, true, false, true≢false, List, [], ◌∷◌, Some, None, refl, sym, pos, arith}
+use Rattle.mdp_math.specs.Gcd.{gcd, gcd_with_fuel}
+use Rattle.mdp_math.specs.Rational.{ℚ, of_int, ratio, le_ℚ, lt_ℚ, neg_ℚ, ◌+ℚ◌, ◌*ℚ◌}
+use Rattle.mdp_math.specs.Written.{narrow, narrow_ℚ, written_add, written_mul}
+use Rattle.mdp_math.proofs.Extremes.{test_of_le}
+use Rattle.mdp_spec.specs.Mdp.{Mdp, State, Choice, Entry}
+use Rattle.mdp_rows.specs.declared.dir.Dir.{Dir}
+use Rattle.mdp_rows.specs.declared.dir.Dir.TheVariants.{Max, Min}
+use Rattle.mdp_farkas.specs.Verdict.{verdict_of}
+use Rattle.mdp_farkas.specs.declared.verdict.Verdict.{Verdict}
+use Rattle.mdp_farkas.specs.declared.verdict.Verdict.TheVariants.{Yes, No}
+use Rattle.mdp_farkas.specs.declared.rule.Rule.TheVariants.{BoundOnEachChoice, FiniteRankFalls}
+use Rattle.mdp_bounds.specs.Reward.{reward_bounds_checks}
+use Rattle.mdp_bounds.specs.Mean.{mean_bounds_checks}
+use Rattle.mdp_trivial_bounds.specs.Extent.{IsExtreme}
+use Rattle.mdp_trivial_bounds.specs.Values.{zeros_of}
+
+abbrev whole : ℕ → ℚ
+whole n = of_int (pos n)
+
+-- a choice that leads to one state, with a reward
+abbrev goes : ℕ → ℕ → Choice
+goes t reward = record { row = (let e : Entry = record { target = t; prob = whole 1 } in e) ∷ []; rewards = whole reward ∷ [] }
+
+abbrev with : List Choice → State
+with choices = record { labels = []; choices = choices }
+
+-- state 0 stays for 0, or goes to the goal 1 for 3
+abbrev loops : Mdp
+loops = record { names = [] ∷ []; labels = []; states = with (goes 0 0 ∷ goes 1 3 ∷ []) ∷ with (goes 1 0 ∷ []) ∷ [] }
+
+abbrev goal_1 : List Bool
+goal_1 = false ∷ true ∷ []
+
+zeros_at_goal : zeros_of 2 goal_1 ≡ None ∷ Some (whole 0) ∷ []
+zeros_at_goal = refl
+
+-- ---- the reward until the goal, with bounds that are 0 at these states
+
+abbrev bounded : Dir → List Bool → List ℕ → List ℕ → Verdict
+bounded dir finite policy ranks = verdict_of (reward_bounds_checks dir loops 0 goal_1 (zeros_of 2 finite) (zeros_of 2 goal_1) policy ranks)
+
+-- the greatest is infinite at state 0, where the goal can be avoided
+greatest_infinite : bounded Max goal_1 (0 ∷ 0 ∷ []) (0 ∷ 0 ∷ []) ≡ Yes
+unfolding gcd gcd_with_fuel ratio of_int le_ℚ lt_ℚ ◌+ℚ◌ ◌*ℚ◌ narrow narrow_ℚ written_add written_mul
+greatest_infinite = refl
+
+greatest_not_finite : bounded Max (true ∷ true ∷ []) (1 ∷ 0 ∷ []) (1 ∷ 0 ∷ []) ≡ No (record { rule = FiniteRankFalls; state = Some 0; choice = Some 0 })
+unfolding gcd gcd_with_fuel ratio of_int le_ℚ lt_ℚ ◌+ℚ◌ ◌*ℚ◌ narrow narrow_ℚ written_add written_mul
+greatest_not_finite = refl
+
+-- the least is finite there, by choice 1
+least_finite : bounded Min (true ∷ true ∷ []) (1 ∷ 0 ∷ []) (1 ∷ 0 ∷ []) ≡ Yes
+unfolding gcd gcd_with_fuel ratio of_int le_ℚ lt_ℚ ◌+ℚ◌ ◌*ℚ◌ narrow narrow_ℚ written_add written_mul
+least_finite = refl
+
+-- ---- mean payoffs, with these lower and upper gains
+
+abbrev paid : Dir → ℕ → ℕ → Verdict
+paid dir low high =
+    verdict_of (mean_bounds_checks dir loops 0 (whole low ∷ whole low ∷ []) (whole high ∷ whole high ∷ []) (whole 0 ∷ whole 0 ∷ []) (whole 0 ∷ whole 0 ∷ []) (whole 0) (0 ∷ 0 ∷ []))
+
+greatest_mean : paid Max 0 3 ≡ Yes
+unfolding gcd gcd_with_fuel ratio of_int le_ℚ lt_ℚ neg_ℚ ◌+ℚ◌ ◌*ℚ◌ narrow narrow_ℚ written_add written_mul
+greatest_mean = refl
+
+least_mean : paid Min 0 3 ≡ Yes
+unfolding gcd gcd_with_fuel ratio of_int le_ℚ lt_ℚ neg_ℚ ◌+ℚ◌ ◌*ℚ◌ narrow narrow_ℚ written_add written_mul
+least_mean = refl
+
+-- 2 is below the reward of a choice
+too_small : paid Max 0 2 ≡ No (record { rule = BoundOnEachChoice; state = Some 0; choice = Some 1 })
+unfolding gcd gcd_with_fuel ratio of_int le_ℚ lt_ℚ neg_ℚ ◌+ℚ◌ ◌*ℚ◌ narrow narrow_ℚ written_add written_mul
+too_small = refl
+
+three_above : le_ℚ (whole 3) (whole 2) ≡ false
+unfolding gcd gcd_with_fuel ratio of_int le_ℚ
+three_above = refl
+
+not_greatest : IsExtreme Max loops 0 (whole 2) → ⊥
+not_greatest is = true≢false (sym (test_of_le _ _ (is.as_each 0 1 (omega arith) (omega arith))) ∙ three_above)
