@@ -5,8 +5,9 @@
     roulette GOAL     bets of 1 on red from half of GOAL: the probability of reaching GOAL
 
 For each model: its states and transitions; the time of the whole program at DIGITS digits, reading and writing too, and the greatest gap between lower
-and upper; that `bounds-check` says yes, and its time; and the time of the iteration alone until its greatest gap is at most 10^-DIGITS, or LIMIT seconds
-are over. The iteration has the states that the graph gives 0 at 0 from the start, as its upper bounds would not fall there.
+and upper; what `bounds-check` says, and its time; and the time of the iteration alone until its greatest gap is at most GAP, or LIMIT seconds are over.
+The gap of `bounds` is about the expected number of steps times 10^-DIGITS. The iteration has the states that the graph gives 0 at 0 from the start, as
+its upper bounds would not fall there.
 Usage: bench/bounds.py [coin B | roulette G ..] (some of each if nothing is said). It needs gcc.
 """
 
@@ -25,7 +26,7 @@ sys.path.insert(0, str(TOP / "tools"))
 from drn_model import Model  # noqa: E402
 
 PROGRAM = TOP / "bin" / "mdp"
-DIGITS, LIMIT = 6, 60
+DIGITS, GAP, LIMIT = 12, "1e-6", 60
 MODELS = "coin 2 coin 10 coin 50 roulette 100 roulette 1000"
 
 ITERATION = r"""
@@ -69,14 +70,21 @@ int main(int argc, char **argv) {
 
 
 def is_zero(model, goals, least):
-    """The states from which no policy, or for the least probability some policy, reaches no goal: the greatest set that can stay in itself."""
-    inside = set(range(len(model.choices))) - goals
-    while True:
-        stays = [[all(t in inside for t, _ in row) for _, row in model.choices[s]] for s in range(len(model.choices))]
-        left = {s for s in inside if (any if least else all)(stays[s])}
-        if left == inside:
-            return inside
-        inside = left
+    """The states from which no policy reaches a goal; for the least probability those from which some policy reaches none."""
+    before = [[] for _ in model.choices]
+    for s, choices in enumerate(model.choices):
+        for c, (_, row) in enumerate(choices):
+            for target, _ in row:
+                before[target].append((s, c))
+    open_choices = [set(range(len(choices))) for choices in model.choices]
+    reached, waiting = set(goals), list(goals)
+    while waiting:
+        for s, c in before[waiting.pop()]:
+            open_choices[s].discard(c)
+            if s not in reached and (not least or not open_choices[s]):
+                reached.add(s)
+                waiting.append(s)
+    return set(range(len(model.choices))) - reached
 
 
 def packed(model, goals, least):
@@ -116,7 +124,7 @@ def measure(kind, size, folder):
     said, checking = timed([PROGRAM, "bounds-check", path, "exact", cert])
     model = Model(path.read_bytes(), False)
     binary.write_bytes(packed(model, model.labels[query[2].encode()], query[0] == "min"))
-    iterated = subprocess.run([folder / "iteration", binary, f"1e-{DIGITS}", str(LIMIT)], stdout=subprocess.PIPE, check=True, text=True).stdout.split()
+    iterated = subprocess.run([folder / "iteration", binary, GAP, str(LIMIT)], stdout=subprocess.PIPE, check=True, text=True).stdout.split()
     transitions = sum(len(row) for choices in model.choices for _, row in choices)
     print(f"{kind} {size}: {len(model.choices)} states, {transitions} transitions; bounds {seconds:.2f} s, gap {float(gap_of(text)):.2e}; "
           f"bounds-check {said.decode().strip()} in {checking:.2f} s; iteration {iterated[0]} s, {iterated[1]} sweeps, gap {iterated[2]}", flush=True)
