@@ -9,10 +9,11 @@ use Rattle.mdp_num.specs.OrderView.{equal_decides}
 use Rattle.mdp_spec.specs.Labels.{place_of, initial_of}
 use Rattle.mdp_spec.specs.Mdp.{Mdp, states_of, value_at}
 use Rattle.mdp_rows.specs.declared.dir.Dir.{Dir}
-use Rattle.mdp_elim.specs.declared.too_wide.SolveError.TheVariants as error
-use Rattle.mdp_elim.specs.declared.too_wide.TooWide.{TooWide}
+use Rattle.mdp_wide.specs.declared.too_wide.SolveError.TheVariants as error
+use Rattle.mdp_wide.specs.declared.too_wide.TooWide.{TooWide}
 use Rattle.mdp_policy_iteration.specs.Path.{Found, Refusal}
-use Rattle.mdp_policy_iteration.specs.Queries.{Solves, shown}
+use Rattle.mdp_wide.specs.Term.{shown}
+use Rattle.mdp_policy_iteration.specs.Queries.{Solves}
 use Rattle.mdp_farkas.specs.Verdict.{verdict_of}
 use Rattle.mdp_farkas.specs.declared.verdict.Verdict.{Verdict}
 use Rattle.mdp_farkas.specs.declared.verdict.Verdict.TheVariants as verdict

@@ -8,7 +8,7 @@ use Rattle.mdp_spec.specs.Mdp.{Mdp}
 use Rattle.mdp_spec.specs.Row.{IsMdp}
 use Rattle.mdp_rows.specs.declared.dir.Dir.{Dir}
 use Rattle.mdp_rows.specs.declared.rule.RowRule.{RowRule}
-use Rattle.mdp_policy_iteration.specs.Queries.{WideTerm}
+use Rattle.mdp_wide.specs.Term.{WideTerm}
 use Rattle.mdp_discount_rules.specs.Cert.{Certificate}
 use Rattle.mdp_discount.specs.Laws.{HasOneEnd, CanAsk, AnswersMeetRules, AnswersAreBest}
 use Rattle.mdp_discount.specs.Query.{EndsSo}

@@ -7,7 +7,7 @@ use Rattle.mdp_spec.specs.Labels.{place_of}
 use Rattle.mdp_spec.specs.Mdp.{Mdp}
 use Rattle.mdp_rows.specs.declared.dir.Dir.{Dir}
 use Rattle.mdp_policy_iteration.specs.Ends.{capped}
-use Rattle.mdp_policy_iteration.specs.Queries.{WideTerm}
+use Rattle.mdp_wide.specs.Term.{WideTerm}
 use Rattle.mdp_text.specs.declared.error.Refusal as text
 use Rattle.mdp_discount_rules.specs.Cert.{Certificate}
 use Rattle.mdp_discount_rules.specs.Check.{answer_to}

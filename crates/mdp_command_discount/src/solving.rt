@@ -15,7 +15,7 @@ use mdp_discount::{discount_law, solve_discount};
 use mdp_discount_rules::{DiscountCert, Init};
 use mdp_discount_text::{discount_text_law, write_discount};
 use mdp_edge::Source;
-use mdp_elim::SolveError;
+use mdp_wide::SolveError;
 use mdp_job::Refusal;
 use mdp_num::Frac;
 use mdp_rows::{Dir, Model, RowRule};

@@ -5,7 +5,7 @@ use Rattle.mdp_num.specs.Value.{spelling}
 use Rattle.mdp_spec.specs.Labels.{marks_of}
 use Rattle.mdp_spec.specs.Mdp.{Mdp, states_of, value_at}
 use Rattle.mdp_rows.specs.declared.dir.Dir.TheVariants.{Max}
-use Rattle.mdp_policy_iteration.specs.Queries.{WideTerm}
+use Rattle.mdp_wide.specs.Term.{WideTerm}
 use Rattle.mdp_reach.specs.Query.{Answer, EndsSo}
 use Rattle.mdp_gen.specs.Layered.{layered_model}
 use Rattle.mdp_job.specs.Text.{line}

@@ -10,7 +10,7 @@ use crate::line::drill_line;
 use mdp_cert::text_law;
 use mdp_command_solve::certificate_of;
 use mdp_drn::{DrnError, read};
-use mdp_elim::SolveError;
+use mdp_wide::SolveError;
 use mdp_gen::{layered, layered_law};
 use mdp_graph::avoid_law;
 use mdp_job::Refusal;

@@ -4,9 +4,9 @@ use Rattle.mdp_math.specs.Result.{◌>>=◌}
 use Rattle.mdp_spec.specs.Labels.{place_of, marks_of}
 use Rattle.mdp_spec.specs.Mdp.{Mdp, states_of, choices_at}
 use Rattle.mdp_spec.specs.Tree.{IsPolicy}
-use Rattle.mdp_elim.specs.declared.too_wide.Part.TheVariants.{Whole}
+use Rattle.mdp_wide.specs.declared.too_wide.Part.TheVariants.{Whole}
 use Rattle.mdp_policy_iteration.specs.Places.{Place}
-use Rattle.mdp_policy_iteration.specs.Queries.{WideTerm}
+use Rattle.mdp_wide.specs.Term.{WideTerm}
 use Rattle.mdp_text.specs.declared.error.Refusal as text
 use Rattle.mdp_policy.specs.Answer.{IsValueOf}
 use Rattle.mdp_policy.specs.Spelling.{value_text}

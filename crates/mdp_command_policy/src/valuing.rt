@@ -16,7 +16,7 @@ use crate::laws::policy_law;
 use mdp_cert::CertError;
 use mdp_command::{read_model, read_second};
 use mdp_edge::Source;
-use mdp_elim::SolveError;
+use mdp_wide::SolveError;
 use mdp_job::Refusal;
 use mdp_policy::{PolicyValue, read_policy, value_of, write_value};
 use mdp_rows::{Model, RowRule};

@@ -8,9 +8,9 @@ use Rattle.mdp_math.specs.Rational.{ℚ, of_int, ratio, neg_ℚ}
 use Rattle.mdp_num.specs.Value.{spelling}
 use Rattle.mdp_spec.specs.Mdp.{Entry, Choice, Mdp}
 use Rattle.mdp_rows.specs.declared.dir.Dir.TheVariants.{Max, Min}
-use Rattle.mdp_elim.specs.declared.too_wide.Part.TheVariants as part
-use Rattle.mdp_elim.specs.declared.too_wide.Kind.TheVariants.{Check}
-use Rattle.mdp_policy_iteration.specs.Queries.{WideTerm}
+use Rattle.mdp_wide.specs.declared.too_wide.Part.TheVariants as part
+use Rattle.mdp_wide.specs.declared.too_wide.Kind.TheVariants.{Check}
+use Rattle.mdp_wide.specs.Term.{WideTerm}
 use Rattle.mdp_mean.specs.Query as averaged
 use Rattle.mdp_cert.specs.Runs.{longest_runs}
 use Rattle.mdp_text.specs.Spelling.{line}

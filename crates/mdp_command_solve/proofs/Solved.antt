@@ -11,7 +11,7 @@ use Rattle.mdp_rows.specs.declared.dir.Dir.{Dir}
 use Rattle.mdp_rows.specs.declared.dir.Dir.TheVariants.{Max, Min}
 use Rattle.mdp_rows.specs.declared.rule.RowRule.{RowRule}
 use Rattle.mdp_drn.specs.Laws.{ReadsAsModel}
-use Rattle.mdp_policy_iteration.specs.Queries.{WideTerm}
+use Rattle.mdp_wide.specs.Term.{WideTerm}
 use Rattle.mdp_reach.specs.Query.{Answer, EndsSo}
 use Rattle.mdp_reach.specs.Laws.{AnswersMeetRules, AnswersAreGreatest, AnswersAreLeast}
 use Rattle.mdp_reach.proofs.OneEnd.{one_query_end}

@@ -7,7 +7,7 @@ use Rattle.mdp_spec.specs.Mdp.{Mdp, states_of, value_at}
 use Rattle.mdp_rows.specs.Negative.{has_negative}
 use Rattle.mdp_rows.specs.declared.dir.Dir.{Dir}
 use Rattle.mdp_policy_iteration.specs.Ends.{capped}
-use Rattle.mdp_policy_iteration.specs.Queries.{WideTerm}
+use Rattle.mdp_wide.specs.Term.{WideTerm}
 use Rattle.mdp_reach.specs.Query.{Answer, EndsSo}
 use Rattle.mdp_reward.specs.Query as rewarded
 use Rattle.mdp_mean.specs.Query as averaged

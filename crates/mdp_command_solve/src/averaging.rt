@@ -8,7 +8,7 @@ ghost use Rattle.mdp_command_solve.specs.Solved.{IsMeanPrinted};
 use crate::certificate::mean_certificate_of;
 use mdp_cert::text_law;
 use mdp_command::certificate_text;
-use mdp_elim::SolveError;
+use mdp_wide::SolveError;
 use mdp_job::Refusal;
 use mdp_mean::solve_mean;
 use mdp_rows::{Dir, Model};

@@ -8,7 +8,7 @@ ghost use Rattle.mdp_command_solve.specs.Solved.{IsReachPrinted};
 use crate::certificate::certificate_of;
 use mdp_cert::text_law;
 use mdp_command::certificate_text;
-use mdp_elim::SolveError;
+use mdp_wide::SolveError;
 use mdp_graph::avoid_law;
 use mdp_job::Refusal;
 use mdp_policy_iteration::path_law;

@@ -8,7 +8,7 @@ ghost use Rattle.mdp_command_solve.specs.Solved.{IsRewardPrinted};
 use crate::certificate::reward_certificate_of;
 use mdp_cert::text_law;
 use mdp_command::certificate_text;
-use mdp_elim::SolveError;
+use mdp_wide::SolveError;
 use mdp_job::Refusal;
 use mdp_reward::solve_reward;
 use mdp_rows::{Dir, Model};

@@ -7,8 +7,8 @@ use Rattle.mdp_math.specs.Rational.{ℚ, of_int, ratio}
 use Rattle.mdp_num.specs.Value.{spelling}
 use Rattle.mdp_spec.specs.Mdp.{Choice, State, Mdp}
 use Rattle.mdp_rows.specs.declared.dir.Dir.TheVariants.{Max, Min}
-use Rattle.mdp_elim.specs.declared.too_wide.Kind.TheVariants.{Evaluate}
-use Rattle.mdp_elim.specs.declared.too_wide.Part.TheVariants as part
+use Rattle.mdp_wide.specs.declared.too_wide.Kind.TheVariants.{Evaluate}
+use Rattle.mdp_wide.specs.declared.too_wide.Part.TheVariants as part
 use Rattle.mdp_subsystem_rules.specs.declared.flow.Flow.{Flow}
 use Rattle.mdp_text.specs.Spelling.{line}
 use Rattle.mdp_cert.specs.Spelling.{text_in, text_of, listed_lines}

@@ -1,5 +1,5 @@
 -- What the code says where there is no subsystem.
-use Rattle.mdp_policy_iteration.specs.Queries.{shown}
+use Rattle.mdp_wide.specs.Term.{shown}
 use Rattle.mdp_job.specs.Refusal.{PlainRefusal, below, too_wide, no_memory}
 use Rattle.mdp_witness.specs.declared.subsystem.WitnessError.{WitnessError}
 use Rattle.mdp_witness.specs.declared.subsystem.WitnessError.TheVariants as refused

@@ -5,16 +5,17 @@ use Rattle.mdp_math.specs.Rational.{ℚ}
 use Rattle.mdp_spec.specs.Mdp.{Mdp, states_of, choices_at, value_at}
 use Rattle.mdp_spec.specs.Tree.{IsPolicy}
 use Rattle.mdp_rows.specs.declared.dir.Dir.{Dir}
-use Rattle.mdp_elim.specs.declared.too_wide.Kind.{Kind}
-use Rattle.mdp_elim.specs.declared.too_wide.Part.TheVariants.{Whole}
-use Rattle.mdp_elim.specs.declared.too_wide.SolveError.{SolveError}
-use Rattle.mdp_elim.specs.declared.too_wide.SolveError.TheVariants as solve
+use Rattle.mdp_wide.specs.declared.too_wide.Kind.{Kind}
+use Rattle.mdp_wide.specs.declared.too_wide.Part.TheVariants.{Whole}
+use Rattle.mdp_wide.specs.declared.too_wide.SolveError.{SolveError}
+use Rattle.mdp_wide.specs.declared.too_wide.SolveError.TheVariants as solve
 use Rattle.mdp_policy_iteration.specs.Iteration.{EndsWith}
 use Rattle.mdp_policy_iteration.specs.Path.{Found, Refusal, path_step}
 use Rattle.mdp_policy_iteration.specs.Laws.{first}
 use Rattle.mdp_rows.specs.Better.{IsAsGood}
 use Rattle.mdp_policy_iteration.specs.Ends.{capped}
-use Rattle.mdp_policy_iteration.specs.Queries.{shown, term_of}
+use Rattle.mdp_wide.specs.Term.{shown}
+use Rattle.mdp_policy_iteration.specs.Queries.{term_of}
 use Rattle.mdp_policy_iteration.specs.declared.solution.Solution.{Solution}
 use Rattle.mdp_policy_iteration.specs.declared.solution.WideAt.{WideAt}
 use Rattle.mdp_discount_rules.specs.Rules.{discounted}

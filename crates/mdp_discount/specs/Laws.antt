@@ -4,7 +4,7 @@ use Rattle.mdp_math.specs.Rational.{ℚ}
 use Rattle.mdp_spec.specs.Mdp.{Mdp}
 use Rattle.mdp_spec.specs.Row.{IsMdp}
 use Rattle.mdp_rows.specs.declared.dir.Dir.{Dir}
-use Rattle.mdp_policy_iteration.specs.Queries.{WideTerm}
+use Rattle.mdp_wide.specs.Term.{WideTerm}
 use Rattle.mdp_discount_rules.specs.Rules.{IsFactor}
 use Rattle.mdp_discount_rules.specs.Bounds.{DiscountBound}
 use Rattle.mdp_discount_rules.specs.Checks.{IsDiscount}

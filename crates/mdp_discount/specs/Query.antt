@@ -4,12 +4,13 @@ use Rattle.mdp_math.specs.Rational.{ℚ}
 use Rattle.mdp_spec.specs.Mdp.{Mdp, states_of, value_at}
 use Rattle.mdp_spec.specs.Labels.{initial_of}
 use Rattle.mdp_rows.specs.declared.dir.Dir.{Dir}
-use Rattle.mdp_elim.specs.declared.too_wide.Part.TheVariants.{Whole}
-use Rattle.mdp_elim.specs.declared.too_wide.Kind.TheVariants.{Compare}
+use Rattle.mdp_wide.specs.declared.too_wide.Part.TheVariants.{Whole}
+use Rattle.mdp_wide.specs.declared.too_wide.Kind.TheVariants.{Compare}
 use Rattle.mdp_policy_iteration.specs.Iteration.{EndsWith}
 use Rattle.mdp_policy_iteration.specs.Path.{Found, Refusal, path_step}
 use Rattle.mdp_policy_iteration.specs.Laws.{first}
-use Rattle.mdp_policy_iteration.specs.Queries.{WideTerm, term_of, term_of_check}
+use Rattle.mdp_wide.specs.Term.{WideTerm}
+use Rattle.mdp_policy_iteration.specs.Queries.{term_of, term_of_check}
 use Rattle.mdp_farkas.specs.Verdict.{verdict_of}
 use Rattle.mdp_farkas.specs.declared.verdict.Verdict.{Verdict}
 use Rattle.mdp_farkas.specs.declared.verdict.Verdict.TheVariants.{Yes, No, Wide}

@@ -8,11 +8,9 @@ mod equation;
 mod errors;
 mod laws;
 mod predecessors;
-mod too_wide;
 mod transposed;
 
 pub use chain::{Chain, solve, solve_leaving};
 pub use errors::ElimError;
 pub use laws::{solution_law, visits_law};
-pub use too_wide::{Kind, Part, SolveError, TooWide};
 pub use transposed::visits;

@@ -3,7 +3,7 @@ use Rattle.std.proofs.Common.{◌≡◌, ℕ, zero, suc, ◌<◌, ◌≤◌, ◌
 use Rattle.mdp_math.specs.Rational.{ℚ}
 use Rattle.mdp_math.specs.Result.{◌>>=◌}
 use Rattle.mdp_num.specs.declared.errors.Wide.{Wide}
-use Rattle.mdp_elim.specs.declared.too_wide.Kind.{Kind}
+use Rattle.mdp_wide.specs.declared.too_wide.Kind.{Kind}
 use Rattle.mdp_policy_iteration.specs.Places.{Place, at_place}
 use Rattle.mdp_policy_iteration.specs.Candidates.{Best}
 use Rattle.std.specs.Prelude.{slice_index}

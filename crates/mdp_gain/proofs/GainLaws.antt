@@ -11,9 +11,10 @@ use Rattle.mdp_rows.specs.declared.dir.Dir.TheVariants.{Max, Min}
 use Rattle.mdp_elim.specs.Laws.{GivesSolutions}
 use Rattle.mdp_policy_iteration.specs.Path.{Refusal}
 use Rattle.mdp_policy_iteration.specs.Laws.{first}
-use Rattle.mdp_policy_iteration.specs.Queries.{WideTerm, term_of}
+use Rattle.mdp_wide.specs.Term.{WideTerm}
+use Rattle.mdp_policy_iteration.specs.Queries.{term_of}
 use Rattle.mdp_policy_iteration.proofs.Results.{ok_same}
-use Rattle.mdp_elim.specs.declared.too_wide.Part.TheVariants.{Inner}
+use Rattle.mdp_wide.specs.declared.too_wide.Part.TheVariants.{Inner}
 use Rattle.mdp_unichain.specs.Component.{is_state}
 use Rattle.mdp_unichain.specs.Iteration.{EndsWith}
 use Rattle.mdp_unichain.specs.Part.{IsPart, members, is_inner, inner_component}

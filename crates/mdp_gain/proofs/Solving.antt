@@ -6,11 +6,12 @@ use Rattle.std.proofs.lemmas.List.Elements.{All-filter}
 use Rattle.std.proofs.lemmas.List.FromFn.{length-range_with_len, get_or-range_with_len}
 use Rattle.mdp_spec.specs.Mdp.{Mdp}
 use Rattle.mdp_rows.specs.declared.dir.Dir.{Dir}
-use Rattle.mdp_elim.specs.declared.too_wide.Kind.{Kind}
-use Rattle.mdp_elim.specs.declared.too_wide.Part.TheVariants.{Inner}
+use Rattle.mdp_wide.specs.declared.too_wide.Kind.{Kind}
+use Rattle.mdp_wide.specs.declared.too_wide.Part.TheVariants.{Inner}
 use Rattle.mdp_ends.specs.Ends.{in_part}
 use Rattle.mdp_policy_iteration.specs.Ends.{error_of_part}
-use Rattle.mdp_policy_iteration.specs.Queries.{WideTerm, Solves}
+use Rattle.mdp_wide.specs.Term.{WideTerm}
+use Rattle.mdp_policy_iteration.specs.Queries.{Solves}
 use Rattle.mdp_policy_iteration.specs.declared.solution.PathError.{PathError}
 use Rattle.mdp_policy_iteration.specs.declared.solution.PathError.TheVariants as error
 use Rattle.mdp_unichain.specs.Component.{Component, count, is_state}

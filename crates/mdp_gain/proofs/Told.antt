@@ -6,7 +6,7 @@ use Rattle.mdp_math.specs.Rational.{ℚ, ◌+ℚ◌, ◌≤ℚ◌}
 use Rattle.mdp_math.proofs.Order.{0ℚ, 1ℚ, clash_ℚ}
 use Rattle.mdp_math.proofs.Whole.{one-pos}
 use Rattle.mdp_num.specs.declared.errors.Wide.{Wide}
-use Rattle.mdp_elim.specs.declared.too_wide.Kind.TheVariants.{Evaluate}
+use Rattle.mdp_wide.specs.declared.too_wide.Kind.TheVariants.{Evaluate}
 use Rattle.mdp_spec.specs.Mdp.{Entry, value_at}
 use Rattle.mdp_spec.specs.Written.{written_sum}
 use Rattle.mdp_policy_iteration.specs.Places.{Place, at_place}

@@ -8,7 +8,7 @@ use Rattle.mdp_spec.specs.Bounds.{whole}
 use Rattle.mdp_rows.specs.declared.dir.Dir.{Dir}
 use Rattle.mdp_rows.specs.declared.dir.Dir.TheVariants.{Max, Min}
 use Rattle.mdp_ends.specs.Ends.{in_part}
-use Rattle.mdp_policy_iteration.specs.Queries.{WideTerm}
+use Rattle.mdp_wide.specs.Term.{WideTerm}
 use Rattle.mdp_rows.specs.Better.{IsAsGood}
 pub use Rattle.mdp_unichain.specs.Part.{IsPart}
 use Rattle.mdp_unichain.specs.Model.{Takes}

@@ -1,5 +1,5 @@
 ghost use Rattle.std.specs.Prelude.{◌≡◌, ◌<◌, length, Some, None, IfOk, IfErr};
-ghost use Rattle.mdp_elim.specs.declared.too_wide.Kind.TheVariants.{Compare};
+ghost use Rattle.mdp_wide.specs.declared.too_wide.Kind.TheVariants.{Compare};
 ghost use Rattle.mdp_policy_iteration.specs.Candidates.{is_better};
 ghost use Rattle.mdp_policy_iteration.specs.Path.{or_kept};
 ghost use Rattle.mdp_unichain.specs.Component.{count, choices_at, choice_at, IsPolicy};
@@ -11,7 +11,7 @@ ghost use Rattle.mdp_gain.specs.Faults.{placed_at, Answers};
 use crate::component::EndComponent;
 use crate::errors::RoundError;
 use crate::evaluation::Values;
-use mdp_elim::Kind;
+use mdp_wide::Kind;
 use mdp_num::{Frac, Wide};
 use mdp_rows::Dir;
 use std::alloc::Global;

@@ -1,4 +1,4 @@
-use mdp_elim::Kind;
+use mdp_wide::Kind;
 use mdp_num::Memory;
 use std::alloc::{AllocError, AllocFailed};
 

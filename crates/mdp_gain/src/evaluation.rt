@@ -3,7 +3,7 @@ ghost use Rattle.std.specs.Result.{result_ok};
 ghost use Rattle.std.specs.List.{All};
 ghost use Rattle.mdp_math.specs.Rational.{of_int, ◌+ℚ◌, ◌≤ℚ◌};
 ghost use Rattle.mdp_spec.specs.Mdp.{value_at};
-ghost use Rattle.mdp_elim.specs.declared.too_wide.Kind.TheVariants.{Evaluate};
+ghost use Rattle.mdp_wide.specs.declared.too_wide.Kind.TheVariants.{Evaluate};
 ghost use Rattle.mdp_unichain.specs.Chain.{AllLeadTo};
 ghost use Rattle.mdp_unichain.specs.Component.{count, is_state, row_by, IsPolicy};
 ghost use Rattle.mdp_unichain.specs.Evaluation.{active, mean};
@@ -14,7 +14,8 @@ ghost use Rattle.mdp_gain.specs.Faults.{placed_at, Answers};
 
 use crate::component::EndComponent;
 use crate::errors::RoundError;
-use mdp_elim::{ElimError, Kind, solution_law, solve_leaving};
+use mdp_elim::{ElimError, solution_law, solve_leaving};
+use mdp_wide::Kind;
 use mdp_num::{Frac, Wide};
 use mdp_rows::{Marks, PolicyRows};
 use std::alloc::{AllocError, Global};

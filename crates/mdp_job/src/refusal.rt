@@ -4,14 +4,14 @@ ghost use Rattle.mdp_job.specs.Status.{status_of};
 ghost use Rattle.mdp_job.specs.Text.{text_of, words_word, drn_word, cert_word, at_line, place_text, number_or_dash, below_text};
 ghost use Rattle.mdp_job.specs.Text.{rule_text, denied_text, wide_text, depth_text, horizon_text, part_word, kind_word, policy_words, too_wide_text};
 ghost use Rattle.mdp_num.specs.Value.{spelling};
-ghost use Rattle.mdp_policy_iteration.specs.Queries.{shown};
+ghost use Rattle.mdp_wide.specs.Term.{shown};
 
 use crate::status::Status;
 use crate::words_error::WordsError;
 use itoa::Buffer;
 use mdp_cert::CertKind;
 use mdp_drn::DrnKind;
-use mdp_elim::{Kind, Part, TooWide};
+use mdp_wide::{Kind, Part, TooWide};
 use mdp_farkas::{Fault, Rule};
 use mdp_num::{Frac, Memory};
 use std::alloc::AllocError;

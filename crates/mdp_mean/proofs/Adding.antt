@@ -19,7 +19,7 @@ use Rattle.mdp_ends.proofs.RoundLaws.{number-has}
 use Rattle.mdp_gain.specs.Query.{Answer, members}
 use Rattle.mdp_gain.specs.Query as inner
 use Rattle.mdp_gain.specs.Best.{IsBestInner, entry_of, bias_at, taken_at}
-use Rattle.mdp_policy_iteration.specs.Queries.{WideTerm}
+use Rattle.mdp_wide.specs.Term.{WideTerm}
 use Rattle.mdp_farkas.specs.Compare.{0ℚ}
 use Rattle.mdp_mean.specs.Inners.{Inners, AreAnswers, AreInners, Answered, IsRefused, InnersEndSo}
 use Rattle.mdp_mean.specs.Best.{IsBest, AreBest}

@@ -9,7 +9,7 @@ use Rattle.mdp_math.specs.Written.{narrow, narrow_ℚ, written_add, written_mul,
 use Rattle.mdp_spec.specs.Mdp.{Entry, Choice, State, Mdp}
 use Rattle.mdp_elim.specs.Elimination.{divided_rest, plus_equation, eliminated, evaluated}
 use Rattle.mdp_elim.specs.System.{equation_of}
-use Rattle.mdp_elim.specs.declared.too_wide.Kind.TheVariants.{Evaluate, Compare}
+use Rattle.mdp_wide.specs.declared.too_wide.Kind.TheVariants.{Evaluate, Compare}
 use Rattle.mdp_rows.specs.declared.dir.Dir.{Dir}
 use Rattle.mdp_rows.specs.declared.dir.Dir.TheVariants.{Max, Min}
 use Rattle.mdp_ends.specs.Quotient.{exits_of}

@@ -7,7 +7,7 @@ use Rattle.mdp_math.specs.Rational.{ℚ}
 use Rattle.mdp_math.proofs.Numbers.{le_or}
 use Rattle.mdp_spec.specs.Mdp.{Mdp, states_of, value_at}
 use Rattle.mdp_rows.specs.declared.dir.Dir.{Dir}
-use Rattle.mdp_policy_iteration.specs.Queries.{WideTerm}
+use Rattle.mdp_wide.specs.Term.{WideTerm}
 use Rattle.mdp_ends.specs.Ends.{part_of, in_part, count_of, AreEnds}
 use Rattle.mdp_ends.specs.Quotient.{nodes_in}
 use Rattle.mdp_ends.proofs.Numbering.{case-number, numbered-below}

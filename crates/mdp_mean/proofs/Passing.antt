@@ -4,9 +4,10 @@ use Rattle.std.specs.Global.{Global}
 use Rattle.mdp_math.specs.Rational.{ℚ}
 use Rattle.mdp_spec.specs.Mdp.{Mdp}
 use Rattle.mdp_rows.specs.declared.dir.Dir.{Dir}
-use Rattle.mdp_elim.specs.declared.too_wide.SolveError.{SolveError}
-use Rattle.mdp_elim.specs.declared.too_wide.SolveError.TheVariants as solve
-use Rattle.mdp_policy_iteration.specs.Queries.{Solves, WideTerm}
+use Rattle.mdp_wide.specs.declared.too_wide.SolveError.{SolveError}
+use Rattle.mdp_wide.specs.declared.too_wide.SolveError.TheVariants as solve
+use Rattle.mdp_wide.specs.Term.{WideTerm}
+use Rattle.mdp_policy_iteration.specs.Queries.{Solves}
 use Rattle.mdp_ends.specs.Ends.{AreEnds}
 use Rattle.mdp_quot.specs.Quotient.{Quotient, IsQuotient}
 use Rattle.mdp_quot_exits.specs.Outer as outer

@@ -1,10 +1,10 @@
 -- Places of the join as errors of the code.
 use Rattle.std.specs.Prelude.{◌≡◌, ℕ, Option, Result, Ok, Err, Vec}
 use Rattle.std.specs.Global.{Global}
-use Rattle.mdp_elim.specs.declared.too_wide.Part.TheVariants as part
-use Rattle.mdp_elim.specs.declared.too_wide.SolveError.{SolveError}
-use Rattle.mdp_elim.specs.declared.too_wide.SolveError.TheVariants as solve
-use Rattle.mdp_elim.specs.declared.too_wide.Kind.{Kind}
+use Rattle.mdp_wide.specs.declared.too_wide.Part.TheVariants as part
+use Rattle.mdp_wide.specs.declared.too_wide.SolveError.{SolveError}
+use Rattle.mdp_wide.specs.declared.too_wide.SolveError.TheVariants as solve
+use Rattle.mdp_wide.specs.declared.too_wide.Kind.{Kind}
 use Rattle.mdp_num.specs.declared.errors.Wide.{Wide}
 use Rattle.mdp_mean.specs.Join.{Place}
 use Rattle.mdp_mean.specs.declared.errors.JoinError.{JoinError}

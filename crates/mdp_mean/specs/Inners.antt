@@ -4,7 +4,7 @@ use Rattle.mdp_math.specs.Rational.{ℚ, of_int}
 use Rattle.mdp_spec.specs.Mdp.{Mdp, states_of, value_at}
 use Rattle.mdp_rows.specs.declared.dir.Dir.{Dir}
 use Rattle.mdp_ends.specs.Ends.{part_of, in_part, count_of}
-use Rattle.mdp_policy_iteration.specs.Queries.{WideTerm}
+use Rattle.mdp_wide.specs.Term.{WideTerm}
 use Rattle.mdp_gain.specs.Query.{Answer}
 use Rattle.mdp_gain.specs.Query as inner
 use Rattle.mdp_gain.specs.Best.{bias_at, taken_at}

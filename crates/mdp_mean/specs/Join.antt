@@ -9,8 +9,8 @@ use Rattle.mdp_math.specs.Result.{◌>>=◌}
 use Rattle.mdp_spec.specs.Mdp.{Entry, states_of, choices_at, row_at, value_at}
 use Rattle.mdp_elim.specs.System.{is_active}
 use Rattle.mdp_elim.specs.Solve.{written_solution}
-use Rattle.mdp_elim.specs.declared.too_wide.Kind.{Kind}
-use Rattle.mdp_elim.specs.declared.too_wide.Kind.TheVariants.{Evaluate, Compare}
+use Rattle.mdp_wide.specs.declared.too_wide.Kind.{Kind}
+use Rattle.mdp_wide.specs.declared.too_wide.Kind.TheVariants.{Evaluate, Compare}
 use Rattle.mdp_policy_iteration.specs.Places.{at_place, up_to}
 use Rattle.mdp_ends.specs.Ends.{is_inside}
 use Rattle.mdp_farkas.specs.Compare.{0ℚ}

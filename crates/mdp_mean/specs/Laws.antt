@@ -5,7 +5,7 @@ use Rattle.mdp_spec.specs.Bounds.{MeanMax, MeanMin}
 use Rattle.mdp_rows.specs.Limits.{IsModel}
 use Rattle.mdp_rows.specs.declared.dir.Dir.{Dir}
 use Rattle.mdp_rows.specs.declared.dir.Dir.TheVariants.{Max, Min}
-use Rattle.mdp_policy_iteration.specs.Queries.{WideTerm}
+use Rattle.mdp_wide.specs.Term.{WideTerm}
 use Rattle.mdp_farkas.specs.Mean.{IsMean}
 use Rattle.mdp_mean.specs.Query.{Answer, EndsSo}
 

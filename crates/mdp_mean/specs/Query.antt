@@ -7,9 +7,9 @@ use Rattle.std.specs.List.{range_with_len}
 use Rattle.mdp_math.specs.Rational.{ℚ}
 use Rattle.mdp_spec.specs.Mdp.{Mdp, states_of, value_at}
 use Rattle.mdp_rows.specs.declared.dir.Dir.{Dir}
-use Rattle.mdp_elim.specs.declared.too_wide.Part.TheVariants as part
-use Rattle.mdp_elim.specs.declared.too_wide.Kind.TheVariants.{Check}
-use Rattle.mdp_policy_iteration.specs.Queries.{WideTerm}
+use Rattle.mdp_wide.specs.declared.too_wide.Part.TheVariants as part
+use Rattle.mdp_wide.specs.declared.too_wide.Kind.TheVariants.{Check}
+use Rattle.mdp_wide.specs.Term.{WideTerm}
 use Rattle.mdp_ends.specs.Ends.{AreEnds}
 use Rattle.mdp_ends.specs.Toward.{lifted}
 use Rattle.mdp_quot.specs.Quotient.{Quotient, IsQuotient}

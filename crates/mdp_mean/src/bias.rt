@@ -2,7 +2,7 @@ ghost use Rattle.std.specs.Prelude.{ℕ, List, [], ◌∷◌, ◌≡◌, ◌<◌
 ghost use Rattle.std.specs.Result.{result_ok};
 ghost use Rattle.std.specs.List.{All};
 ghost use Rattle.mdp_elim.specs.System.{is_active, Leaves};
-ghost use Rattle.mdp_elim.specs.declared.too_wide.Kind.TheVariants.{Evaluate};
+ghost use Rattle.mdp_wide.specs.declared.too_wide.Kind.TheVariants.{Evaluate};
 ghost use Rattle.mdp_policy_iteration.specs.Code.{plus_outer};
 ghost use Rattle.mdp_policy_iteration.specs.Path.{outer};
 ghost use Rattle.mdp_policy_iteration.specs.Places.{up_to};
@@ -16,7 +16,8 @@ ghost use Rattle.mdp_mean.specs.Terms.{constant_by};
 
 use crate::errors::JoinError;
 use crate::joining::Joining;
-use mdp_elim::{ElimError, Kind, solve_leaving};
+use mdp_elim::{ElimError, solve_leaving};
+use mdp_wide::Kind;
 use mdp_num::{Frac, Wide};
 use mdp_rows::{Marks, PolicyRows, Row};
 use std::alloc::{AllocError, Global};

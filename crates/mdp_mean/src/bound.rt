@@ -1,6 +1,6 @@
 ghost use Rattle.std.specs.Prelude.{◌≡◌, ◌<◌, length, Some, slice_index};
 ghost use Rattle.std.specs.Result.{result_ok};
-ghost use Rattle.mdp_elim.specs.declared.too_wide.Kind.TheVariants.{Compare};
+ghost use Rattle.mdp_wide.specs.declared.too_wide.Kind.TheVariants.{Compare};
 ghost use Rattle.mdp_spec.specs.Mdp.{states_of};
 ghost use Rattle.mdp_mean.specs.Code.{joining_in};
 ghost use Rattle.mdp_mean.specs.Faults.{placed_at, Answers};
@@ -9,7 +9,7 @@ ghost use Rattle.mdp_mean.specs.Terms.{written_moved, bound_by};
 
 use crate::errors::JoinError;
 use crate::joining::Joining;
-use mdp_elim::Kind;
+use mdp_wide::Kind;
 use mdp_num::{Frac, Wide};
 use mdp_rows::Dir;
 use std::alloc::Global;

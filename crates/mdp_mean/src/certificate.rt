@@ -6,7 +6,7 @@ ghost use Rattle.mdp_farkas.specs.Mean.{MeetsMean, IsMean};
 ghost use Rattle.mdp_policy_iteration.specs.Queries.{Solves};
 ghost use Rattle.mdp_mean.specs.Query.{plain, checked, Held};
 
-use mdp_elim::{Kind, Part, SolveError, TooWide};
+use mdp_wide::{Kind, Part, SolveError, TooWide};
 use mdp_farkas::{MeanCert, Verdict, holds_mean};
 use mdp_rows::{Dir, Model};
 

@@ -1,6 +1,6 @@
 ghost use Rattle.std.specs.Prelude.{◌≡◌, ◌<◌, length, [], ◌∷◌, Some};
 ghost use Rattle.std.specs.Result.{result_ok};
-ghost use Rattle.mdp_elim.specs.declared.too_wide.Kind.TheVariants.{Compare};
+ghost use Rattle.mdp_wide.specs.declared.too_wide.Kind.TheVariants.{Compare};
 ghost use Rattle.mdp_farkas.specs.Spread.{written_best};
 ghost use Rattle.mdp_rows.specs.declared.dir.Dir.TheVariants.{Max};
 ghost use Rattle.mdp_spec.specs.Mdp.{states_of, choices_at};
@@ -11,7 +11,7 @@ ghost use Rattle.mdp_mean.specs.Terms.{excess_over, excess_at, greater_excess};
 
 use crate::errors::JoinError;
 use crate::joining::Joining;
-use mdp_elim::Kind;
+use mdp_wide::Kind;
 use mdp_num::{Frac, Wide};
 use mdp_rows::Dir;
 use std::cmp::Ordering;

@@ -9,7 +9,7 @@ ghost use Rattle.mdp_mean.specs.Inners.{InnersEndSo};
 ghost use Rattle.mdp_mean.specs.Best.{AreBest};
 ghost use Rattle.mdp_mean.specs.PartsCode.{inners_in, IsEmpty, IsAdded};
 
-use mdp_elim::SolveError;
+use mdp_wide::SolveError;
 use mdp_gain::{Inner, solve_inner};
 use mdp_num::Frac;
 use mdp_parts::Ends;

@@ -1,6 +1,6 @@
 ghost use Rattle.std.specs.Prelude.{ℕ, List, ◌≡◌, None};
 ghost use Rattle.mdp_elim.specs.System.{Leaves};
-ghost use Rattle.mdp_elim.specs.declared.too_wide.Kind.TheVariants.{Compare};
+ghost use Rattle.mdp_wide.specs.declared.too_wide.Kind.TheVariants.{Compare};
 ghost use Rattle.mdp_mean.specs.Code.{joining_in, shown};
 ghost use Rattle.mdp_mean.specs.Faults.{placed_at, Answers};
 ghost use Rattle.mdp_mean.specs.Join.{policy_rows, written_join};
@@ -10,7 +10,7 @@ use crate::bound::bound_of;
 use crate::errors::JoinError;
 use crate::excess::greatest_excess;
 use crate::joining::Joining;
-use mdp_elim::Kind;
+use mdp_wide::Kind;
 use mdp_farkas::spread_of;
 use mdp_num::{Frac, Wide};
 use std::alloc::Global;

@@ -18,7 +18,7 @@ use crate::errors::JoinError;
 use crate::inners::Inners;
 use crate::join::joined;
 use crate::joining::Joining;
-use mdp_elim::{Part, SolveError, TooWide};
+use mdp_wide::{Part, SolveError, TooWide};
 use mdp_farkas::MeanCert;
 use mdp_num::Frac;
 use mdp_parts::Ends;

@@ -9,7 +9,7 @@ ghost use Rattle.mdp_mean.specs.Query.{plain, EndsSo};
 use crate::inners::all_inners;
 use crate::parts::{Parts, join_parts};
 use bumpalo::Bump;
-use mdp_elim::SolveError;
+use mdp_wide::SolveError;
 use mdp_farkas::MeanCert;
 use mdp_parts::end_components;
 use mdp_quot::Quotient;

@@ -10,7 +10,7 @@ use Rattle.mdp_num.specs.Canonical.{canonical_of}
 use Rattle.mdp_spec.specs.Mdp.{Entry, Choice, State, Mdp}
 use Rattle.mdp_elim.specs.Elimination.{divided_rest, plus_equation, eliminated, evaluated}
 use Rattle.mdp_elim.specs.System.{equation_of}
-use Rattle.mdp_elim.specs.declared.too_wide.Kind.TheVariants.{Evaluate, Compare}
+use Rattle.mdp_wide.specs.declared.too_wide.Kind.TheVariants.{Evaluate, Compare}
 use Rattle.mdp_text.specs.declared.error.CertKind.TheVariants.{Version, Shape, Number, Count, End}
 use Rattle.mdp_text.specs.Lines.{refused, next_line, nothing_behind}
 use Rattle.mdp_text.specs.Words.{words_behind, whole_of, whole_at}

@@ -3,7 +3,7 @@ use Rattle.std.proofs.Common.{◌≡◌, ℕ, zero, suc, ◌<◌, ◌≤◌, inl
 use Rattle.mdp_math.specs.Result.{◌>>=◌}
 use Rattle.mdp_math.proofs.Numbers.{last_or}
 use Rattle.mdp_num.specs.declared.errors.Wide.{Wide}
-use Rattle.mdp_elim.specs.declared.too_wide.Kind.{Kind}
+use Rattle.mdp_wide.specs.declared.too_wide.Kind.{Kind}
 use Rattle.mdp_policy_iteration.specs.Places.{Place}
 use Rattle.mdp_policy_iteration.proofs.Results.{ok_same, ok_part}
 use Rattle.mdp_policy.specs.Written.{in_turn}

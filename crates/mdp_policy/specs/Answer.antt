@@ -3,11 +3,11 @@ use Rattle.std.specs.Prelude.{◌≡◌, ℕ, Bool, List, Some, Result, Ok, Err}
 use Rattle.mdp_spec.specs.Mdp.{Mdp, states_of}
 use Rattle.mdp_spec.specs.Tree.{is_marked}
 use Rattle.mdp_num.specs.declared.errors.Wide.{Wide}
-use Rattle.mdp_elim.specs.declared.too_wide.Kind.{Kind}
-use Rattle.mdp_elim.specs.declared.too_wide.Part.TheVariants.{Whole}
-use Rattle.mdp_elim.specs.declared.too_wide.TooWide.{TooWide}
-use Rattle.mdp_elim.specs.declared.too_wide.SolveError.{SolveError}
-use Rattle.mdp_elim.specs.declared.too_wide.SolveError.TheVariants as solve
+use Rattle.mdp_wide.specs.declared.too_wide.Kind.{Kind}
+use Rattle.mdp_wide.specs.declared.too_wide.Part.TheVariants.{Whole}
+use Rattle.mdp_wide.specs.declared.too_wide.TooWide.{TooWide}
+use Rattle.mdp_wide.specs.declared.too_wide.SolveError.{SolveError}
+use Rattle.mdp_wide.specs.declared.too_wide.SolveError.TheVariants as solve
 use Rattle.mdp_graph.specs.Layers.{AreReached}
 use Rattle.mdp_graph.specs.Reach.{row_step}
 use Rattle.mdp_policy_iteration.specs.Candidates.{Best}

@@ -1,6 +1,6 @@
 ghost use Rattle.std.specs.Prelude.{◌≡◌, ◌<◌, length, Some, None, IfOk, IfErr};
 ghost use Rattle.mdp_spec.specs.Mdp.{states_of, choices_at};
-ghost use Rattle.mdp_elim.specs.declared.too_wide.Kind.TheVariants.{Compare};
+ghost use Rattle.mdp_wide.specs.declared.too_wide.Kind.TheVariants.{Compare};
 ghost use Rattle.mdp_policy_iteration.specs.Candidates.{is_better, judged};
 ghost use Rattle.mdp_policy.specs.Choices.{sum_of_choice, compared};
 ghost use Rattle.mdp_policy.specs.Written.{taken_at, change_at, best_of, first_change};
@@ -8,7 +8,7 @@ ghost use Rattle.mdp_policy.specs.Answer.{Answers, placed_at, shown};
 
 use crate::error::PlaceError;
 use crate::value::Change;
-use mdp_elim::Kind;
+use mdp_wide::Kind;
 use mdp_num::{Frac, Wide};
 use mdp_rows::{Dir, Marks, Model};
 use std::cmp::Ordering;

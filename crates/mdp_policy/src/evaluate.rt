@@ -6,7 +6,7 @@ ghost use Rattle.mdp_spec.specs.Row.{entries};
 ghost use Rattle.mdp_spec.specs.Tree.{IsPolicy, is_marked};
 ghost use Rattle.mdp_spec.specs.Written.{written_sum};
 ghost use Rattle.mdp_elim.specs.System.{Leaves};
-ghost use Rattle.mdp_elim.specs.declared.too_wide.Kind.TheVariants.{Evaluate};
+ghost use Rattle.mdp_wide.specs.declared.too_wide.Kind.TheVariants.{Evaluate};
 ghost use Rattle.mdp_policy_iteration.specs.Code.{plus_outer};
 ghost use Rattle.mdp_policy_iteration.specs.Path.{outer};
 ghost use Rattle.mdp_reach.specs.Query.{policy_rows};
@@ -14,7 +14,8 @@ ghost use Rattle.mdp_policy.specs.Written.{is_under_way, under_way, goal_value, 
 ghost use Rattle.mdp_policy.specs.Answer.{Answers, placed_at};
 
 use crate::error::PlaceError;
-use mdp_elim::{ElimError, Kind, solve_leaving};
+use mdp_elim::{ElimError, solve_leaving};
+use mdp_wide::Kind;
 use mdp_num::{Frac, Wide};
 use mdp_rows::{Marks, Model, PolicyRows, Row};
 use std::alloc::{AllocError, Global};

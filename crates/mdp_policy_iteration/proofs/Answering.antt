@@ -8,7 +8,7 @@ use Rattle.mdp_policy_iteration.specs.Candidates.{Best, compared}
 use Rattle.mdp_policy_iteration.specs.Path.{boundary, constant_by, evaluating, constant, comparing, then_compared, best_of, improvement}
 use Rattle.mdp_math.proofs.Numbers.{last_or}
 use Rattle.mdp_num.specs.declared.errors.Wide.{Wide}
-use Rattle.mdp_elim.specs.declared.too_wide.Kind.{Kind}
+use Rattle.mdp_wide.specs.declared.too_wide.Kind.{Kind}
 use Rattle.mdp_policy_iteration.specs.Places.{Place, at_place, up_to}
 use Rattle.mdp_policy_iteration.specs.Faults.{placed_at, Says, Answers}
 use Rattle.mdp_policy_iteration.specs.declared.errors.RoundError.{RoundError}

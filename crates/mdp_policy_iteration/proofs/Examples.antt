@@ -6,7 +6,7 @@ use Rattle.mdp_math.specs.Written.{written_add, written_mul, written_compare, na
 use Rattle.mdp_spec.specs.Mdp.{Entry}
 use Rattle.mdp_elim.specs.Elimination.{divided_rest, plus_equation, eliminated, evaluated}
 use Rattle.mdp_elim.specs.System.{equation_of}
-use Rattle.mdp_elim.specs.declared.too_wide.Kind.TheVariants.{Evaluate}
+use Rattle.mdp_wide.specs.declared.too_wide.Kind.TheVariants.{Evaluate}
 use Rattle.mdp_rows.specs.declared.dir.Dir.TheVariants.{Max, Min}
 use Rattle.mdp_policy_iteration.specs.Iteration.{iterated}
 use Rattle.mdp_policy_iteration.specs.Problem.{Problem, given, decision, Move, stop, go, Choice, plain}

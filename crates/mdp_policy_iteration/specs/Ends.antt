@@ -1,10 +1,10 @@
 -- What the code answers to a path.
 use Rattle.std.specs.Prelude.{◌≡◌, ℕ, ◌+◌, ◌-◌, ◌^◌, min, List, Some, Result, Ok, Err, Vec}
 use Rattle.std.specs.Global.{Global}
-use Rattle.mdp_elim.specs.declared.too_wide.Part.{Part}
-use Rattle.mdp_elim.specs.declared.too_wide.TooWide.{TooWide}
-use Rattle.mdp_elim.specs.declared.too_wide.SolveError.{SolveError}
-use Rattle.mdp_elim.specs.declared.too_wide.SolveError.TheVariants as solve
+use Rattle.mdp_wide.specs.declared.too_wide.Part.{Part}
+use Rattle.mdp_wide.specs.declared.too_wide.TooWide.{TooWide}
+use Rattle.mdp_wide.specs.declared.too_wide.SolveError.{SolveError}
+use Rattle.mdp_wide.specs.declared.too_wide.SolveError.TheVariants as solve
 use Rattle.mdp_policy_iteration.specs.Iteration.{Step, next, done, refused, EndsWith}
 use Rattle.mdp_policy_iteration.specs.Problem.{Problem}
 use Rattle.mdp_policy_iteration.specs.Path.{Round, Found, Refusal, path_step}

@@ -1,6 +1,6 @@
 -- Written places as errors of the code.
 use Rattle.std.specs.Prelude.{◌≡◌, ℕ, Result, Ok, Err}
-use Rattle.mdp_elim.specs.declared.too_wide.Kind.{Kind}
+use Rattle.mdp_wide.specs.declared.too_wide.Kind.{Kind}
 use Rattle.mdp_num.specs.declared.errors.Wide.{Wide}
 use Rattle.mdp_policy_iteration.specs.Places.{Place}
 use Rattle.mdp_policy_iteration.specs.declared.errors.RoundError.{RoundError}

@@ -9,7 +9,7 @@ use Rattle.mdp_spec.specs.Mdp.{Entry, value_at}
 use Rattle.mdp_spec.specs.Written.{written_sum}
 use Rattle.mdp_elim.specs.System.{is_active}
 use Rattle.mdp_elim.specs.Solve.{written_solution}
-use Rattle.mdp_elim.specs.declared.too_wide.Kind.TheVariants.{Evaluate, Compare}
+use Rattle.mdp_wide.specs.declared.too_wide.Kind.TheVariants.{Evaluate, Compare}
 use Rattle.mdp_policy_iteration.specs.Iteration.{Step, next, done, refused}
 use Rattle.mdp_policy_iteration.specs.Problem.{Problem, Move, stop, go, count, node_at, choices_at, choice_at, fits_by, taken, active_of, rows_of}
 use Rattle.mdp_policy_iteration.specs.Places.{Place, at_place, up_to, all_pass}

@@ -1,7 +1,7 @@
 -- Where a term is past width, and computations that end at the first such place.
 use Rattle.std.specs.Prelude.{ℕ, zero, suc, Bool, true, List, [], ◌∷◌, ◌++◌, Option, Some, None, Result, Ok, Err, if◌then◌else◌}
 use Rattle.mdp_math.specs.Result.{◌>>=◌}
-use Rattle.mdp_elim.specs.declared.too_wide.Kind.{Kind}
+use Rattle.mdp_wide.specs.declared.too_wide.Kind.{Kind}
 
 -- what was computed, and the node and the choice for which
 pub record Place : Type 0 where

@@ -1,22 +1,13 @@
 -- What a query ends with: an answer, or the first term past width in one of its parts.
 use Rattle.std.specs.Prelude.{◌≡◌, ℕ, List, Option, Some, Result, Ok, Err}
-use Rattle.mdp_elim.specs.declared.too_wide.Part.{Part}
-use Rattle.mdp_elim.specs.declared.too_wide.Kind.{Kind}
-use Rattle.mdp_elim.specs.declared.too_wide.Kind.TheVariants.{Check}
-use Rattle.mdp_elim.specs.declared.too_wide.TooWide.{TooWide}
-use Rattle.mdp_elim.specs.declared.too_wide.SolveError.{SolveError}
-use Rattle.mdp_elim.specs.declared.too_wide.SolveError.TheVariants as solve
+use Rattle.mdp_wide.specs.declared.too_wide.Part.{Part}
+use Rattle.mdp_wide.specs.declared.too_wide.Kind.{Kind}
+use Rattle.mdp_wide.specs.declared.too_wide.Kind.TheVariants.{Check}
+use Rattle.mdp_wide.specs.Term.{WideTerm, shown}
+use Rattle.mdp_wide.specs.declared.too_wide.SolveError.{SolveError}
+use Rattle.mdp_wide.specs.declared.too_wide.SolveError.TheVariants as solve
 use Rattle.mdp_policy_iteration.specs.Path.{Found, Refusal}
 use Rattle.mdp_policy_iteration.specs.Ends.{capped}
-
--- where: the part, the number of the round, that round's policy, what was computed, and the state and the choice where there is one
-pub record WideTerm : Type 0 where
-  pub part : Part
-  pub number : ℕ
-  pub policy : List ℕ
-  pub kind : Kind
-  pub state : Option ℕ
-  pub choice : Option ℕ
 
 -- the term at which a path is refused
 abbrev pub term_of : Part → Refusal → WideTerm
@@ -25,10 +16,6 @@ term_of part r = record { part = part; number = r.number; policy = r.policy; kin
 -- a term in the check of what was found
 abbrev pub term_of_check : Part → Found → Option ℕ → Option ℕ → WideTerm
 term_of_check part found state choice = record { part = part; number = found.number; policy = found.policy; kind = Check; state = state; choice = choice }
-
--- the term that the code names, of round n
-abbrev pub shown : TooWide → ℕ → WideTerm
-shown w n = record { part = w.part; number = n; policy = w.policy.items; kind = w.kind; state = w.state; choice = w.choice }
 
 -- what the code answers to a query that ends so: an answer, seen by a view; a term past width, a round above 2^64 - 1 given as 2^64 - 1; or want of
 -- memory, of which nothing is said

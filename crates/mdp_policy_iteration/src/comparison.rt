@@ -3,14 +3,14 @@ ghost use Rattle.std.specs.Result.{result_ok};
 ghost use Rattle.std.specs.List.{list_any};
 ghost use Rattle.mdp_policy_iteration.specs.Problem.{count, choices_at, choice_at};
 ghost use Rattle.mdp_policy_iteration.specs.Faults.{placed_at, Answers};
-ghost use Rattle.mdp_elim.specs.declared.too_wide.Kind.TheVariants.{Compare};
+ghost use Rattle.mdp_wide.specs.declared.too_wide.Kind.TheVariants.{Compare};
 ghost use Rattle.mdp_policy_iteration.specs.Code.{shown};
 ghost use Rattle.mdp_policy_iteration.specs.Candidates.{is_better, compared};
 ghost use Rattle.mdp_policy_iteration.specs.Path.{improvement, improvements, or_kept, improved};
 
 use crate::errors::RoundError;
 use crate::shortest_path::ShortestPath;
-use mdp_elim::Kind;
+use mdp_wide::Kind;
 use mdp_num::{Frac, Wide};
 use mdp_rows::Dir;
 use std::alloc::{AllocError, Global};

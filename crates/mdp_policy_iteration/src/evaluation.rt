@@ -1,7 +1,7 @@
 ghost use Rattle.std.specs.Prelude.{ℕ, List, [], ◌∷◌, ◌≡◌, ◌<◌, length, map, not, true, Ok, Err, IfOk, slice_index};
 ghost use Rattle.std.specs.Result.{result_ok};
 ghost use Rattle.mdp_elim.specs.System.{is_active, Leaves};
-ghost use Rattle.mdp_elim.specs.declared.too_wide.Kind.TheVariants.{Evaluate};
+ghost use Rattle.mdp_wide.specs.declared.too_wide.Kind.TheVariants.{Evaluate};
 ghost use Rattle.mdp_policy_iteration.specs.Problem.{IsPolicy, count, taken, active_of, rows_of};
 ghost use Rattle.mdp_policy_iteration.specs.Values.{CanLeave};
 ghost use Rattle.mdp_policy_iteration.specs.Path.{evaluating, fits, stop_value, boundary, outer, constant_by, constant, eliminated, filled_by, filled, values_of_rows, written_values};
@@ -16,7 +16,8 @@ use crate::errors::RoundError;
 use crate::loops::Loops;
 use crate::policy_chain::PolicyChain;
 use crate::shortest_path::ShortestPath;
-use mdp_elim::{ElimError, Kind, solve_leaving};
+use mdp_elim::{ElimError, solve_leaving};
+use mdp_wide::Kind;
 use mdp_num::{Frac, Memory, Wide};
 use mdp_rows::{Marks, Row, RowsOf};
 use std::alloc::{AllocError, Global};

@@ -2,7 +2,7 @@ ghost use Rattle.std.specs.Prelude.{◌≡◌};
 ghost use Rattle.mdp_policy_iteration.specs.Ends.{path_error, wide_of_part, error_of_part};
 
 use crate::errors::RoundError;
-use mdp_elim::{Kind, Part, SolveError, TooWide};
+use mdp_wide::{Kind, Part, SolveError, TooWide};
 use mdp_num::Frac;
 use std::alloc::AllocError;
 

@@ -1,12 +1,13 @@
 -- The end of a query, from that of its path.
 use Rattle.std.proofs.Common.{◌≡◌, ℕ, List, Result, Ok, Err, refl, sym, ◌∙◌, ap}
-use Rattle.mdp_elim.specs.declared.too_wide.Part.{Part}
+use Rattle.mdp_wide.specs.declared.too_wide.Part.{Part}
 use Rattle.mdp_policy_iteration.specs.Iteration.{EndsWith}
 use Rattle.mdp_policy_iteration.specs.Problem.{Problem}
 use Rattle.mdp_policy_iteration.specs.Path.{Found, Refusal, path_step}
 use Rattle.mdp_policy_iteration.specs.Laws.{first, IsSolvable, IsBest, HasOneEnd, EndsAtBest}
 use Rattle.mdp_policy_iteration.specs.Ends.{Ends, error_of_part}
-use Rattle.mdp_policy_iteration.specs.Queries.{WideTerm, term_of, Solves}
+use Rattle.mdp_wide.specs.Term.{WideTerm}
+use Rattle.mdp_policy_iteration.specs.Queries.{term_of, Solves}
 use Rattle.mdp_policy_iteration.specs.declared.solution.Solution.{Solution}
 use Rattle.mdp_policy_iteration.specs.declared.solution.PathError.{PathError}
 use Rattle.mdp_policy_iteration.specs.declared.solution.PathError.TheVariants as path

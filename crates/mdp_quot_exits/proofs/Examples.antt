@@ -11,7 +11,7 @@ use Rattle.mdp_rows.specs.declared.dir.Dir.{Dir}
 use Rattle.mdp_rows.specs.declared.dir.Dir.TheVariants.{Max, Min}
 use Rattle.mdp_elim.specs.Elimination.{divided_rest, plus_equation, eliminated, evaluated}
 use Rattle.mdp_elim.specs.System.{equation_of}
-use Rattle.mdp_elim.specs.declared.too_wide.Kind.TheVariants.{Compare}
+use Rattle.mdp_wide.specs.declared.too_wide.Kind.TheVariants.{Compare}
 use Rattle.mdp_ends.specs.Quotient.{exits_of}
 use Rattle.mdp_policy_iteration.specs.Iteration.{iterated}
 use Rattle.mdp_policy_iteration.specs.Path.{Found, Refusal, path_step}

@@ -1,6 +1,6 @@
 -- What the two queries end with.
 use Rattle.std.proofs.Common.{sym, subst}
-use Rattle.mdp_elim.specs.declared.too_wide.Part.TheVariants as part
+use Rattle.mdp_wide.specs.declared.too_wide.Part.TheVariants as part
 use Rattle.mdp_policy_iteration.specs.Path.{Found}
 use Rattle.mdp_policy_iteration.specs.Laws.{HasOneEnd, EndsAtBest}
 use Rattle.mdp_quot_exits.specs.Problem.{steps_problem, steps_start, outer_problem, outer_start}

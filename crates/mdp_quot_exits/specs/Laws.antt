@@ -4,7 +4,7 @@ use Rattle.mdp_math.specs.Rational.{ℚ, ◌≤ℚ◌}
 use Rattle.mdp_spec.specs.Mdp.{value_at}
 use Rattle.mdp_rows.specs.declared.dir.Dir.{Dir}
 use Rattle.mdp_rows.specs.Better.{IsAsGood}
-use Rattle.mdp_policy_iteration.specs.Queries.{WideTerm}
+use Rattle.mdp_wide.specs.Term.{WideTerm}
 use Rattle.mdp_quot.specs.Quotient.{Quotient}
 use Rattle.mdp_quot_exits.specs.OfModel.{IsOfModel}
 use Rattle.mdp_quot_exits.specs.Steps.{StepsEndSo, IsLongest, IsCounted}

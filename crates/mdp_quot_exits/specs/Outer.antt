@@ -4,10 +4,10 @@ use Rattle.mdp_math.specs.Rational.{ℚ}
 use Rattle.mdp_spec.specs.Mdp.{value_at}
 use Rattle.mdp_spec.specs.Row.{row_sum}
 use Rattle.mdp_rows.specs.declared.dir.Dir.{Dir}
-use Rattle.mdp_elim.specs.declared.too_wide.Part.TheVariants as part
+use Rattle.mdp_wide.specs.declared.too_wide.Part.TheVariants as part
 use Rattle.mdp_policy_iteration.specs.Path.{Found}
 use Rattle.mdp_rows.specs.Better.{IsAsGood}
-use Rattle.mdp_policy_iteration.specs.Queries.{WideTerm}
+use Rattle.mdp_wide.specs.Term.{WideTerm}
 use Rattle.mdp_quot.specs.Quotient.{Quotient, exits_at, row_of}
 use Rattle.mdp_quot_exits.specs.PathEnds.{PathEndsSo}
 use Rattle.mdp_quot_exits.specs.Problem.{component_of, outer_problem, outer_start}

@@ -1,11 +1,12 @@
 -- A query that is answered by the end of a path: its answer is seen in what was found, or the first term past width is one of a part of the query.
 use Rattle.std.specs.Prelude.{◌≡◌, ℕ, List, Result, Ok, Err}
-use Rattle.mdp_elim.specs.declared.too_wide.Part.{Part}
+use Rattle.mdp_wide.specs.declared.too_wide.Part.{Part}
 use Rattle.mdp_policy_iteration.specs.Iteration.{EndsWith}
 use Rattle.mdp_policy_iteration.specs.Problem.{Problem}
 use Rattle.mdp_policy_iteration.specs.Path.{Found, Refusal, path_step}
 use Rattle.mdp_policy_iteration.specs.Laws.{first}
-use Rattle.mdp_policy_iteration.specs.Queries.{WideTerm, term_of}
+use Rattle.mdp_wide.specs.Term.{WideTerm}
+use Rattle.mdp_policy_iteration.specs.Queries.{term_of}
 
 abbrev pub answered : {A : Type 0} → Part → (Found → A) → Result Found Refusal → Result A WideTerm
 answered part view (Ok found) = Ok (view found)

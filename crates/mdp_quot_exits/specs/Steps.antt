@@ -3,8 +3,8 @@ use Rattle.std.specs.Prelude.{◌≡◌, ℕ, ◌<◌, List, length, slice_index
 use Rattle.mdp_math.specs.Rational.{ℚ, of_int, ◌+ℚ◌, ◌≤ℚ◌}
 use Rattle.mdp_spec.specs.Mdp.{value_at}
 use Rattle.mdp_spec.specs.Row.{row_sum}
-use Rattle.mdp_elim.specs.declared.too_wide.Part.TheVariants.{Steps}
-use Rattle.mdp_policy_iteration.specs.Queries.{WideTerm}
+use Rattle.mdp_wide.specs.declared.too_wide.Part.TheVariants.{Steps}
+use Rattle.mdp_wide.specs.Term.{WideTerm}
 use Rattle.mdp_quot.specs.Quotient.{Quotient, IsChosen, exits_at, row_of}
 use Rattle.mdp_quot_exits.specs.PathEnds.{PathEndsSo}
 use Rattle.mdp_quot_exits.specs.Problem.{steps_problem, steps_start}

@@ -5,7 +5,7 @@ ghost use Rattle.mdp_quot_exits.specs.Problem.{steps_start};
 ghost use Rattle.mdp_quot_exits.specs.Steps.{StepsEndSo, IsLongest};
 
 use crate::steps_problem::StepsProblem;
-use mdp_elim::{Part, SolveError};
+use mdp_wide::{Part, SolveError};
 use mdp_num::Frac;
 use mdp_policy_iteration::improve;
 use mdp_quot::Quotient;

@@ -5,7 +5,7 @@ ghost use Rattle.mdp_quot_exits.specs.Problem.{component_of, first_choice, outer
 ghost use Rattle.mdp_quot_exits.specs.Outer.{HasGains, plain, OuterEndSo, IsBestOuter};
 
 use crate::outer_problem::OuterProblem;
-use mdp_elim::{Part, SolveError};
+use mdp_wide::{Part, SolveError};
 use mdp_num::Frac;
 use mdp_policy_iteration::improve;
 use mdp_quot::Quotient;

@@ -7,12 +7,13 @@ use Rattle.mdp_spec.proofs.Reach.{reach_max_of_rules, reach_min_of_rules}
 use Rattle.mdp_rows.specs.declared.dir.Dir.{Dir}
 use Rattle.mdp_rows.specs.declared.dir.Dir.TheVariants.{Max, Min}
 use Rattle.mdp_graph.specs.Laws.{RestStays, RowsFall, RowsStay, RestAvoids, RestMeets}
-use Rattle.mdp_elim.specs.declared.too_wide.Part.TheVariants.{Whole}
+use Rattle.mdp_wide.specs.declared.too_wide.Part.TheVariants.{Whole}
 use Rattle.mdp_policy_iteration.specs.Path.{Found, Refusal, path_step}
 use Rattle.mdp_policy_iteration.specs.Laws.{IsBestFrom, EndsAtBest, first}
 use Rattle.mdp_policy_iteration.specs.Iteration.{EndsWith}
 use Rattle.mdp_policy_iteration.specs.Ends.{Ends, error_of_part}
-use Rattle.mdp_policy_iteration.specs.Queries.{WideTerm, term_of_check}
+use Rattle.mdp_wide.specs.Term.{WideTerm}
+use Rattle.mdp_policy_iteration.specs.Queries.{term_of_check}
 use Rattle.mdp_policy_iteration.specs.declared.solution.PathError.{PathError}
 use Rattle.mdp_policy_iteration.specs.declared.solution.PathError.TheVariants as path
 use Rattle.mdp_farkas.specs.Verdict.{verdict_of}

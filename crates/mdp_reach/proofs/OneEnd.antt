@@ -16,7 +16,7 @@ use Rattle.mdp_graph.specs.Avoid.{keeps}
 use Rattle.mdp_policy_iteration.specs.Path.{Found, Refusal, path_step}
 use Rattle.mdp_policy_iteration.specs.Laws.{first}
 use Rattle.mdp_policy_iteration.specs.Iteration.{EndsWith}
-use Rattle.mdp_policy_iteration.specs.Queries.{WideTerm}
+use Rattle.mdp_wide.specs.Term.{WideTerm}
 use Rattle.mdp_policy_iteration.proofs.Iterations.{one_end}
 use Rattle.mdp_farkas.specs.Verdict.{verdict_of}
 use Rattle.mdp_farkas.specs.Reach.{reach_checks}

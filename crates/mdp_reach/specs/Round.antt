@@ -2,11 +2,11 @@
 use Rattle.std.specs.Prelude.{◌≡◌, ℕ, Bool, List, Result, Ok, Err}
 use Rattle.mdp_spec.specs.Mdp.{Mdp}
 use Rattle.mdp_rows.specs.declared.dir.Dir.{Dir}
-use Rattle.mdp_elim.specs.declared.too_wide.SolveError.{SolveError}
-use Rattle.mdp_elim.specs.declared.too_wide.SolveError.TheVariants as solve
+use Rattle.mdp_wide.specs.declared.too_wide.SolveError.{SolveError}
+use Rattle.mdp_wide.specs.declared.too_wide.SolveError.TheVariants as solve
 use Rattle.mdp_policy_iteration.specs.Ends.{capped}
 use Rattle.mdp_policy_iteration.specs.Path.{Found, Refusal}
-use Rattle.mdp_policy_iteration.specs.Queries.{WideTerm, shown}
+use Rattle.mdp_wide.specs.Term.{WideTerm, shown}
 use Rattle.mdp_reach.specs.declared.solve.ReachEnd.{ReachEnd}
 use Rattle.mdp_reach.specs.Query.{Answer, plain, EndsSo}
 

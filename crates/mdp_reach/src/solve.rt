@@ -10,7 +10,7 @@ ghost use Rattle.mdp_reach.specs.Round.{SolvesToEnd};
 use crate::problem::Reach;
 use crate::ranks::ranks_of;
 use crate::start::start_of;
-use mdp_elim::{Kind, Part, SolveError, TooWide};
+use mdp_wide::{Kind, Part, SolveError, TooWide};
 use mdp_farkas::{ReachCert, Verdict, holds_reach};
 use mdp_graph::{along_law, avoid_law, meet_law, reach_law};
 use mdp_policy_iteration::{Solution, improve};

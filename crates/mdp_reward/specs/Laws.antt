@@ -6,7 +6,7 @@ use Rattle.mdp_spec.specs.Row.{IsMdp}
 use Rattle.mdp_rows.specs.Negative.{has_negative}
 use Rattle.mdp_rows.specs.declared.dir.Dir.{Dir}
 use Rattle.mdp_rows.specs.declared.dir.Dir.TheVariants.{Max, Min}
-use Rattle.mdp_policy_iteration.specs.Queries.{WideTerm}
+use Rattle.mdp_wide.specs.Term.{WideTerm}
 use Rattle.mdp_farkas.specs.Reward.{IsReward}
 use Rattle.mdp_reward.specs.Query.{Answer, EndsSo}
 

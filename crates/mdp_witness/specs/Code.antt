@@ -1,11 +1,11 @@
 -- What the code answers.
 use Rattle.std.specs.Prelude.{◌≡◌, ℕ, Result, Ok, Err}
 use Rattle.mdp_math.specs.Rational.{ℚ}
-use Rattle.mdp_elim.specs.declared.too_wide.Part.TheVariants as part
-use Rattle.mdp_elim.specs.declared.too_wide.SolveError.{SolveError}
-use Rattle.mdp_elim.specs.declared.too_wide.SolveError.TheVariants as solve
+use Rattle.mdp_wide.specs.declared.too_wide.Part.TheVariants as part
+use Rattle.mdp_wide.specs.declared.too_wide.SolveError.{SolveError}
+use Rattle.mdp_wide.specs.declared.too_wide.SolveError.TheVariants as solve
 use Rattle.mdp_policy_iteration.specs.Ends.{capped}
-use Rattle.mdp_policy_iteration.specs.Queries.{shown}
+use Rattle.mdp_wide.specs.Term.{shown}
 use Rattle.mdp_subsystem_rules.specs.declared.flow.FlowCert.{FlowCert}
 use Rattle.mdp_subsystem_rules.specs.declared.floor.FloorCert.{FloorCert}
 use Rattle.mdp_witness.specs.Query.{PlainSubsystem, flow, floor, Refusal, below, too_wide}

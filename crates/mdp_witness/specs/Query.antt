@@ -10,9 +10,9 @@ use Rattle.mdp_math.specs.Rational.{ℚ}
 use Rattle.mdp_spec.specs.Mdp.{Mdp, states_of, value_at}
 use Rattle.mdp_rows.specs.declared.dir.Dir.{Dir}
 use Rattle.mdp_rows.specs.declared.dir.Dir.TheVariants.{Max, Min}
-use Rattle.mdp_elim.specs.declared.too_wide.Part.TheVariants as part
-use Rattle.mdp_elim.specs.declared.too_wide.Kind.TheVariants.{Evaluate, Compare, Check}
-use Rattle.mdp_policy_iteration.specs.Queries.{WideTerm}
+use Rattle.mdp_wide.specs.declared.too_wide.Part.TheVariants as part
+use Rattle.mdp_wide.specs.declared.too_wide.Kind.TheVariants.{Evaluate, Compare, Check}
+use Rattle.mdp_wide.specs.Term.{WideTerm}
 use Rattle.mdp_farkas.specs.Compare.{is_at_least}
 use Rattle.mdp_farkas.specs.Verdict.{verdict_of}
 use Rattle.mdp_farkas.specs.declared.verdict.Verdict.{Verdict}

@@ -7,7 +7,7 @@ use Rattle.mdp_spec.specs.Sub.{sub_of, policy_on}
 use Rattle.mdp_spec.specs.Tree.{IsPolicy}
 use Rattle.mdp_rows.specs.declared.dir.Dir.{Dir}
 use Rattle.mdp_rows.specs.declared.dir.Dir.TheVariants.{Max, Min}
-use Rattle.mdp_policy_iteration.specs.Queries.{WideTerm}
+use Rattle.mdp_wide.specs.Term.{WideTerm}
 use Rattle.mdp_subsystem_rules.specs.Flow.{flow_total}
 use Rattle.mdp_subsystem_rules.specs.FlowChecks.{HoldsFlow}
 use Rattle.mdp_subsystem_rules.specs.FloorChecks.{HoldsFloor}

@@ -13,7 +13,8 @@ ghost use Rattle.mdp_witness.specs.Code.{plain_flow, Answers};
 
 use crate::listing::{flows_of, listed, marks_at};
 use crate::subsystem::WitnessError;
-use mdp_elim::{ElimError, Kind, Part, TooWide};
+use mdp_elim::ElimError;
+use mdp_wide::{Kind, Part, TooWide};
 use mdp_farkas::{ReachCert, Verdict};
 use mdp_graph::avoid_law;
 use mdp_num::{Frac, Memory};

@@ -10,7 +10,7 @@ ghost use Rattle.mdp_witness.specs.Code.{plain_floor, in_floor, Answers};
 
 use crate::listing::{listed, marks_at, ranks_at, values_at};
 use crate::subsystem::WitnessError;
-use mdp_elim::{Part, SolveError, TooWide};
+use mdp_wide::{Part, SolveError, TooWide};
 use mdp_farkas::{ReachCert, Verdict};
 use mdp_graph::avoid_law;
 use mdp_num::{Frac, Memory};

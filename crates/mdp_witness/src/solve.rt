@@ -15,7 +15,7 @@ use crate::greatest::flow_witness;
 use crate::laws::witness_law;
 use crate::least::floor_witness;
 use crate::subsystem::{Subsystem, WitnessError};
-use mdp_elim::{Kind, Part, TooWide};
+use mdp_wide::{Kind, Part, TooWide};
 use mdp_farkas::ReachCert;
 use mdp_graph::avoid_law;
 use mdp_num::{Frac, Wide};

@@ -1,4 +1,4 @@
-use mdp_elim::{SolveError, TooWide};
+use mdp_wide::{SolveError, TooWide};
 use mdp_num::{Frac, Memory};
 use mdp_subsystem_rules::{FloorCert, FlowCert};
 use std::alloc::AllocError;

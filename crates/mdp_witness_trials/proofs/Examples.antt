@@ -10,7 +10,7 @@ use Rattle.mdp_spec.specs.Mdp.{Entry, Choice, State, Mdp, row_at}
 use Rattle.mdp_spec.specs.Tree.{is_marked}
 use Rattle.mdp_elim.specs.Elimination.{divided_rest, plus_equation, eliminated, evaluated}
 use Rattle.mdp_elim.specs.System.{equation_of}
-use Rattle.mdp_policy_iteration.specs.Queries.{WideTerm}
+use Rattle.mdp_wide.specs.Term.{WideTerm}
 use Rattle.mdp_reach.specs.Query.{Answer}
 use Rattle.mdp_rows.specs.declared.dir.Dir.TheVariants.{Max, Min}
 use Rattle.mdp_witness_trials.specs.declared.trial.Trial.TheVariants.{Goes, Needed, PastWidth}

@@ -5,14 +5,15 @@ use Rattle.mdp_spec.specs.Row.{IsMdp}
 use Rattle.mdp_spec.specs.Sub.{sub_of}
 use Rattle.mdp_spec.proofs.Subsystem.{sub-states}
 use Rattle.mdp_rows.specs.declared.dir.Dir.TheVariants.{Min}
-use Rattle.mdp_elim.specs.declared.too_wide.TooWide.{TooWide}
-use Rattle.mdp_elim.specs.declared.too_wide.SolveError.{SolveError}
-use Rattle.mdp_elim.specs.declared.too_wide.SolveError.TheVariants as solve
+use Rattle.mdp_wide.specs.declared.too_wide.TooWide.{TooWide}
+use Rattle.mdp_wide.specs.declared.too_wide.SolveError.{SolveError}
+use Rattle.mdp_wide.specs.declared.too_wide.SolveError.TheVariants as solve
 use Rattle.mdp_farkas.specs.declared.reach.ReachCert.{ReachCert}
 use Rattle.mdp_graph.specs.Laws.{RestMeets}
 use Rattle.mdp_policy_iteration.specs.Laws.{EndsAtBest}
 use Rattle.mdp_policy_iteration.specs.Ends.{capped}
-use Rattle.mdp_policy_iteration.specs.Queries.{WideTerm, shown, Solves}
+use Rattle.mdp_wide.specs.Term.{WideTerm, shown}
+use Rattle.mdp_policy_iteration.specs.Queries.{Solves}
 use Rattle.mdp_reach.specs.Query.{Answer, plain, EndsSo}
 use Rattle.mdp_witness_trials.specs.LeastEvaluation.{Evaluates}
 use Rattle.mdp_witness_trials.proofs.Lengths.{sized}

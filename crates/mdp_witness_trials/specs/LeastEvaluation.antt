@@ -4,7 +4,7 @@ use Rattle.mdp_math.specs.Rational.{ℚ}
 use Rattle.mdp_spec.specs.Mdp.{Mdp, value_at}
 use Rattle.mdp_spec.specs.Sub.{sub_of}
 use Rattle.mdp_rows.specs.declared.dir.Dir.TheVariants.{Min}
-use Rattle.mdp_policy_iteration.specs.Queries.{WideTerm}
+use Rattle.mdp_wide.specs.Term.{WideTerm}
 use Rattle.mdp_reach.specs.Query.{Answer, EndsSo}
 
 abbrev pub Evaluates : Mdp → List Bool → List Bool → Result Answer WideTerm → Type 0

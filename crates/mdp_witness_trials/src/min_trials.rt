@@ -7,7 +7,7 @@ ghost use Rattle.mdp_witness_trials.specs.StepCode.{IsStep};
 ghost use Rattle.mdp_witness_trials.specs.Trial.{AreLeft};
 
 use crate::trial::Trial;
-use mdp_elim::SolveError;
+use mdp_wide::SolveError;
 use mdp_farkas::ReachCert;
 use mdp_graph::avoid_law;
 use mdp_num::{Frac, Memory};

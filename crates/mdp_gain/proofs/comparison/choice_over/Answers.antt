@@ -3,7 +3,7 @@ use Rattle.std.proofs.lemmas.Result.{err_from_is_err_and, IfErr-at_err}
 use Rattle.mdp_math.specs.Rational.{ℚ}
 use Rattle.mdp_unichain.specs.Component.{choice_at}
 use Rattle.mdp_unichain.specs.Sums.{compared}
-use Rattle.mdp_elim.specs.declared.too_wide.Kind.TheVariants.{Compare}
+use Rattle.mdp_wide.specs.declared.too_wide.Kind.TheVariants.{Compare}
 use Rattle.mdp_gain.specs.Code.{component_in, shown}
 use Rattle.mdp_gain.proofs.Answering.{placed-err, says, answers_err, wide-over}
 use Rattle.mdp_gain.proofs.comparison.choice_over.Goals as goal

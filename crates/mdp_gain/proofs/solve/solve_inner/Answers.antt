@@ -1,6 +1,6 @@
 use Rattle.std.proofs.Common.{◌≡◌, ◌∙◌, ◌<◌, ℕ, List, Ok, Err, sym, subst, rules}
 use Rattle.std.specs.List.{All}
-use Rattle.mdp_elim.specs.declared.too_wide.SolveError.{SolveError}
+use Rattle.mdp_wide.specs.declared.too_wide.SolveError.{SolveError}
 use Rattle.mdp_policy_iteration.specs.Queries.{Solves}
 use Rattle.mdp_unichain.specs.Component.{count, is_state}
 use Rattle.mdp_unichain.specs.Part.{inner_component}

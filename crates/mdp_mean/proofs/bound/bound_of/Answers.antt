@@ -1,6 +1,6 @@
 use Rattle.std.proofs.Common.{◌∙◌, ◌+◌, Ok, Some, sym, ap, arith, slice_index}
 use Rattle.std.proofs.lemmas.Result.{err_from_is_err_and}
-use Rattle.mdp_elim.specs.declared.too_wide.Kind.TheVariants.{Compare}
+use Rattle.mdp_wide.specs.declared.too_wide.Kind.TheVariants.{Compare}
 use Rattle.mdp_spec.specs.Mdp.{states_of}
 use Rattle.mdp_policy_iteration.proofs.Answering.{up_to-more, up_to-refused}
 use Rattle.mdp_mean.specs.Code.{joining_in}

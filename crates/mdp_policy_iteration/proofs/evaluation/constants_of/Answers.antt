@@ -1,7 +1,7 @@
 use Rattle.std.proofs.Common.{◌∙◌, ◌+◌, Ok, length, sym, ap, arith, slice_index}
 use Rattle.std.proofs.lemmas.List.FromFn.{length-map-range_with_len}
 use Rattle.std.proofs.lemmas.Result.{err_from_is_err_and}
-use Rattle.mdp_elim.specs.declared.too_wide.Kind.TheVariants.{Evaluate}
+use Rattle.mdp_wide.specs.declared.too_wide.Kind.TheVariants.{Evaluate}
 use Rattle.mdp_policy_iteration.specs.Problem.{count}
 use Rattle.mdp_policy_iteration.specs.Path.{constant, evaluating}
 use Rattle.mdp_policy_iteration.proofs.Chain.{active-len}

@@ -1,6 +1,6 @@
 use Rattle.std.proofs.Common.{◌∙◌, ℕ, List, Err, length, sym, ap, subst}
 use Rattle.mdp_spec.specs.Tree.{IsPolicy}
-use Rattle.mdp_elim.specs.declared.too_wide.SolveError.{SolveError}
+use Rattle.mdp_wide.specs.declared.too_wide.SolveError.{SolveError}
 use Rattle.mdp_math.specs.Rational.{ℚ}
 use Rattle.mdp_reach.specs.Query.{AreRanks}
 use Rattle.mdp_reach.specs.Round.{SolvesToEnd}

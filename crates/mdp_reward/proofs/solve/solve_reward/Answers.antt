@@ -1,11 +1,12 @@
 use Rattle.std.proofs.Common.{◌≡◌, ◌∙◌, ℕ, List, Option, Ok, Err, Result, length, sym, ap, subst}
 use Rattle.mdp_math.specs.Rational.{ℚ}
 use Rattle.mdp_spec.specs.Tree.{IsPolicy}
-use Rattle.mdp_elim.specs.declared.too_wide.SolveError.{SolveError}
+use Rattle.mdp_wide.specs.declared.too_wide.SolveError.{SolveError}
 use Rattle.mdp_farkas.specs.Verdict.{verdict_of}
 use Rattle.mdp_farkas.specs.Reward.{reward_checks}
 use Rattle.mdp_farkas.specs.declared.verdict.Verdict.TheVariants.{Yes, No, Wide}
-use Rattle.mdp_policy_iteration.specs.Queries.{Solves, WideTerm}
+use Rattle.mdp_wide.specs.Term.{WideTerm}
+use Rattle.mdp_policy_iteration.specs.Queries.{Solves}
 use Rattle.mdp_reward.specs.Query.{Answer, plain, rewards_of, AreRanks, EndsSo}
 use Rattle.mdp_reward.proofs.Nodes.{reward-count}
 use Rattle.mdp_reward.proofs.Values.{reward-nonneg}

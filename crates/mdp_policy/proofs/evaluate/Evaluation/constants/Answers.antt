@@ -2,7 +2,7 @@ use Rattle.std.proofs.Common.{◌∙◌, ◌+◌, Ok, sym, ap, arith, slice_inde
 use Rattle.std.proofs.lemmas.Result.{err_from_is_err_and}
 use Rattle.std.specs.Result.{result_ok}
 use Rattle.mdp_spec.specs.Mdp.{states_of}
-use Rattle.mdp_elim.specs.declared.too_wide.Kind.TheVariants.{Evaluate}
+use Rattle.mdp_wide.specs.declared.too_wide.Kind.TheVariants.{Evaluate}
 use Rattle.mdp_policy_iteration.specs.Path.{evaluating}
 use Rattle.mdp_policy_iteration.specs.Places.{at_place}
 use Rattle.mdp_policy_iteration.proofs.Answering.{up_to-more, up_to-refused}

@@ -2,7 +2,7 @@ use Rattle.std.proofs.Common.{◌∙◌, List, sym, refl, ap, subst, Ok, Err, ar
 use Rattle.mdp_math.specs.Rational.{ℚ}
 use Rattle.mdp_math.specs.Written.{written_compare}
 use Rattle.mdp_spec.specs.Mdp.{value_at}
-use Rattle.mdp_policy_iteration.specs.Queries.{shown}
+use Rattle.mdp_wide.specs.Term.{shown}
 use Rattle.mdp_reach.specs.Query.{plain}
 use Rattle.mdp_witness_trials.specs.declared.trial.Trial.{Trial}
 use Rattle.mdp_witness_trials.specs.declared.trial.Trial.TheVariants.{PastWidth}

@@ -54,7 +54,7 @@ pub enum SolveError {
 
 impl From<AllocError> for SolveError {
     ghost use Rattle.std.specs.Prelude.{◌≡◌};
-    ghost use Rattle.mdp_elim.specs.declared.too_wide.SolveError.TheVariants as variant;
+    ghost use Rattle.mdp_wide.specs.declared.too_wide.SolveError.TheVariants as variant;
 
     ghost from_gives = { λ _ e. e ≡ variant.Memory };
 
@@ -65,7 +65,7 @@ impl From<AllocError> for SolveError {
 
 impl From<Memory> for SolveError {
     ghost use Rattle.std.specs.Prelude.{◌≡◌};
-    ghost use Rattle.mdp_elim.specs.declared.too_wide.SolveError.TheVariants as variant;
+    ghost use Rattle.mdp_wide.specs.declared.too_wide.SolveError.TheVariants as variant;
 
     ghost from_gives = { λ _ e. e ≡ variant.Memory };
 
