@@ -49,10 +49,6 @@ goal_part false p = ring rat_ring 1 (λ p. lit (pos 0)) (λ p. p ⊗ lit (pos 0)
 pub kept_part : (k : Bool) (x : ℚ) → k ≡ true → cond k x 0ℚ ≡ x
 kept_part k x e = ap (λ (b : Bool). cond b x 0ℚ) e
 
-kept_nonneg : (k : Bool) (x : ℚ) → 0ℚ ≤ℚ x → 0ℚ ≤ℚ cond k x 0ℚ
-kept_nonneg true x h = h
-kept_nonneg false x h = ≤ℚ_refl 0ℚ
-
 -- a claim on kept states, weighed by a kept state's value
 kept_weighed : (k : Bool) (x y z : ℚ) → 0ℚ ≤ℚ x → (k ≡ true → y ≤ℚ z) → cond k x 0ℚ *ℚ y ≤ℚ cond k x 0ℚ *ℚ z
 kept_weighed true x y z h claim = mul-le-mul_left_ℚ x y z h (claim refl)
