@@ -9,7 +9,7 @@ use Rattle.mdp_math.specs.Sum.{sum_of}
 use Rattle.mdp_math.proofs.Ring.{◌⊕◌, ◌⊗◌, ⊖, lit, ring}
 use Rattle.mdp_math.proofs.Laws.{rat_ring, zero-+ℚ, zero-*ℚ}
 use Rattle.mdp_math.proofs.Linear.{linear, equal, at_most, known}
-use Rattle.mdp_math.proofs.Order.{0ℚ, 1ℚ, ≤ℚ_refl, ≤ℚ_trans, ≤ℚ_of_eq, ≤ℚ_of_lt, mul-le-mul_left_ℚ, mul-nonneg, le_of_mul_left_ℚ, div-of_int, ratio-nonneg}
+use Rattle.mdp_math.proofs.Order.{0ℚ, 1ℚ, ≤ℚ_trans, ≤ℚ_of_eq, ≤ℚ_of_lt, mul-le-mul_left_ℚ, mul-nonneg, le_of_mul_left_ℚ, div-of_int, ratio-nonneg}
 use Rattle.mdp_math.proofs.Whole.{of_nat-pos, of_nat-suc}
 use Rattle.mdp_math.proofs.Sums.{sum_of-add, sum_of-same, sum_of-same_all, sum_of-le, sum_of-nonneg}
 use Rattle.mdp_spec.specs.Mdp.{Entry, Choice, Mdp, states_of, choices_at}
