@@ -14,10 +14,6 @@ use Rattle.mdp_rows.specs.declared.dir.Dir.TheVariants.{Max, Min}
 abbrev pub NoBetter : Dir → ℚ → ℚ → Type 0
 NoBetter dir x y = IsAsGood dir y x
 
-pub no_better_refl : (dir : Dir) (x : ℚ) → NoBetter dir x x
-no_better_refl Max x = ≤ℚ_refl x
-no_better_refl Min x = ≤ℚ_refl x
-
 pub no_better_of_eq : (dir : Dir) (x y : ℚ) → x ≡ y → NoBetter dir x y
 no_better_of_eq Max x y e = ≤ℚ_of_eq x y e
 no_better_of_eq Min x y e = ≤ℚ_of_eq y x (sym e)
