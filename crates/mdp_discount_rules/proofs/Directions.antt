@@ -4,7 +4,7 @@ use Rattle.mdp_math.specs.Rational.{ℚ, ◌+ℚ◌, ◌*ℚ◌, ◌≤ℚ◌, �
 use Rattle.mdp_math.specs.Sum.{sum_at, EachAt}
 use Rattle.mdp_math.proofs.Ring.{◌⊕◌, ◌⊗◌}
 use Rattle.mdp_math.proofs.Linear.{linear, known, at_most}
-use Rattle.mdp_math.proofs.Order.{0ℚ, ≤ℚ_refl, ≤ℚ_trans, ≤ℚ_of_eq, ≤ℚ_antisymm, mul-le-mul_left_ℚ}
+use Rattle.mdp_math.proofs.Order.{0ℚ, ≤ℚ_trans, ≤ℚ_of_eq, ≤ℚ_antisymm, mul-le-mul_left_ℚ}
 use Rattle.mdp_math.proofs.SumsAt.{sum_at-le, sum_at-weighted_le, sum_at-weighted_ge}
 use Rattle.mdp_rows.specs.declared.dir.Dir.{Dir}
 use Rattle.mdp_rows.specs.Better.{IsAsGood}
