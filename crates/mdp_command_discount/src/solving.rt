@@ -15,11 +15,11 @@ use mdp_discount::{discount_law, solve_discount};
 use mdp_discount_rules::{DiscountCert, Init};
 use mdp_discount_text::{discount_text_law, write_discount};
 use mdp_edge::Source;
-use mdp_wide::SolveError;
 use mdp_job::Refusal;
 use mdp_num::Frac;
 use mdp_rows::{Dir, Model, RowRule};
 use mdp_text::{all_narrow, all_short};
+use mdp_wide::SolveError;
 use std::alloc::Global;
 
 /// The value of the initial state is in width, and it isn't infinite where the line is one of a discounted reward.

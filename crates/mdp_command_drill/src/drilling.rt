@@ -10,7 +10,6 @@ use crate::line::drill_line;
 use mdp_cert::text_law;
 use mdp_command_solve::certificate_of;
 use mdp_drn::{DrnError, read};
-use mdp_wide::SolveError;
 use mdp_gen::{layered, layered_law};
 use mdp_graph::avoid_law;
 use mdp_job::Refusal;
@@ -18,6 +17,7 @@ use mdp_num::{Frac, Memory};
 use mdp_policy_iteration::path_law;
 use mdp_reach::solve_reach;
 use mdp_rows::{Dir, Model, RowRule};
+use mdp_wide::SolveError;
 use std::alloc::Global;
 
 /// The place of the label `goal` in each layered model.

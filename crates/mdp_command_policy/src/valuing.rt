@@ -16,10 +16,10 @@ use crate::laws::policy_law;
 use mdp_cert::CertError;
 use mdp_command::{read_model, read_second};
 use mdp_edge::Source;
-use mdp_wide::SolveError;
 use mdp_job::Refusal;
 use mdp_policy::{PolicyValue, read_policy, value_of, write_value};
 use mdp_rows::{Model, RowRule};
+use mdp_wide::SolveError;
 use std::alloc::Global;
 
 /// Whether each choice is one of its state.

@@ -8,10 +8,10 @@ ghost use Rattle.mdp_command_solve.specs.Solved.{IsMeanPrinted};
 use crate::certificate::mean_certificate_of;
 use mdp_cert::text_law;
 use mdp_command::certificate_text;
-use mdp_wide::SolveError;
 use mdp_job::Refusal;
 use mdp_mean::solve_mean;
 use mdp_rows::{Dir, Model};
+use mdp_wide::SolveError;
 use std::alloc::Global;
 
 /// The text of the certificate that solves a query of the mean payoff, or its refusal.

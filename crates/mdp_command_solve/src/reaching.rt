@@ -8,12 +8,12 @@ ghost use Rattle.mdp_command_solve.specs.Solved.{IsReachPrinted};
 use crate::certificate::certificate_of;
 use mdp_cert::text_law;
 use mdp_command::certificate_text;
-use mdp_wide::SolveError;
 use mdp_graph::avoid_law;
 use mdp_job::Refusal;
 use mdp_policy_iteration::path_law;
 use mdp_reach::solve_reach;
 use mdp_rows::{Dir, Model};
+use mdp_wide::SolveError;
 use std::alloc::Global;
 
 /// The text of the certificate that solves a query of reachability, or its refusal.

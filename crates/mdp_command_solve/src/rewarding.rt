@@ -8,10 +8,10 @@ ghost use Rattle.mdp_command_solve.specs.Solved.{IsRewardPrinted};
 use crate::certificate::reward_certificate_of;
 use mdp_cert::text_law;
 use mdp_command::certificate_text;
-use mdp_wide::SolveError;
 use mdp_job::Refusal;
 use mdp_reward::solve_reward;
 use mdp_rows::{Dir, Model};
+use mdp_wide::SolveError;
 use std::alloc::Global;
 
 /// The text of the certificate that solves a query of rewards until a goal, or its refusal: the name is looked up first, then the label, then it is

@@ -14,12 +14,12 @@ use crate::problem::Discounted;
 use crate::scaled::scaled_states;
 use bumpalo::Bump;
 use mdp_discount_rules::{DiscountCert, greatest_magnitude, holds_discount};
-use mdp_wide::{Kind, Part, SolveError, TooWide};
 use mdp_farkas::Verdict;
 use mdp_num::Frac;
 use mdp_policy_iteration::{PathError, Solution, WideAt, improve};
 use mdp_rows::{Dir, Model};
 use mdp_text::init_with;
+use mdp_wide::{Kind, Part, SolveError, TooWide};
 use std::alloc::Global;
 
 /// A policy and its values, of so many states.

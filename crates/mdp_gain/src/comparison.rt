@@ -11,9 +11,9 @@ ghost use Rattle.mdp_gain.specs.Faults.{placed_at, Answers};
 use crate::component::EndComponent;
 use crate::errors::RoundError;
 use crate::evaluation::Values;
-use mdp_wide::Kind;
 use mdp_num::{Frac, Wide};
 use mdp_rows::Dir;
+use mdp_wide::Kind;
 use std::alloc::Global;
 use std::cmp::Ordering;
 

@@ -15,9 +15,9 @@ ghost use Rattle.mdp_gain.specs.Faults.{placed_at, Answers};
 use crate::component::EndComponent;
 use crate::errors::RoundError;
 use mdp_elim::{ElimError, solution_law, solve_leaving};
-use mdp_wide::Kind;
 use mdp_num::{Frac, Wide};
 use mdp_rows::{Marks, PolicyRows};
+use mdp_wide::Kind;
 use std::alloc::{AllocError, Global};
 
 /// The gain and the biases of a policy: one bias for each state of the model, 0 outside the component.

@@ -14,11 +14,11 @@ use crate::component::EndComponent;
 use crate::inner::Inner;
 use crate::start::start_of;
 use mdp_elim::solution_law;
-use mdp_wide::{Part, SolveError};
 use mdp_num::Frac;
 use mdp_parts::Ends;
 use mdp_policy_iteration::{PathError, WideAt};
 use mdp_rows::{Dir, Model};
+use mdp_wide::{Part, SolveError};
 use std::alloc::{AllocError, Global};
 
 /// The states of the component, ascending.

@@ -17,9 +17,9 @@ ghost use Rattle.mdp_mean.specs.Terms.{constant_by};
 use crate::errors::JoinError;
 use crate::joining::Joining;
 use mdp_elim::{ElimError, solve_leaving};
-use mdp_wide::Kind;
 use mdp_num::{Frac, Wide};
 use mdp_rows::{Marks, PolicyRows, Row};
+use mdp_wide::Kind;
 use std::alloc::{AllocError, Global};
 
 /// `sum`, and where the target isn't active its value times the probability.

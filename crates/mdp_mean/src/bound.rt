@@ -9,9 +9,9 @@ ghost use Rattle.mdp_mean.specs.Terms.{written_moved, bound_by};
 
 use crate::errors::JoinError;
 use crate::joining::Joining;
-use mdp_wide::Kind;
 use mdp_num::{Frac, Wide};
 use mdp_rows::Dir;
+use mdp_wide::Kind;
 use std::alloc::Global;
 
 /// `value`, moved up by `by`, or for the least mean payoff down.

@@ -6,9 +6,9 @@ ghost use Rattle.mdp_farkas.specs.Mean.{MeetsMean, IsMean};
 ghost use Rattle.mdp_policy_iteration.specs.Queries.{Solves};
 ghost use Rattle.mdp_mean.specs.Query.{plain, checked, Held};
 
-use mdp_wide::{Kind, Part, SolveError, TooWide};
 use mdp_farkas::{MeanCert, Verdict, holds_mean};
 use mdp_rows::{Dir, Model};
+use mdp_wide::{Kind, Part, SolveError, TooWide};
 
 /// A certificate that meets the rules, where no term of its check is past width.
 pub(crate) fn held(model: &Model, m: u32, dir: Dir, cert: MeanCert) -> Result<MeanCert, SolveError>

@@ -1,5 +1,5 @@
-use mdp_wide::Kind;
 use mdp_num::Memory;
+use mdp_wide::Kind;
 use std::alloc::{AllocError, AllocFailed};
 
 /// Why values aren't joined.

@@ -11,9 +11,9 @@ ghost use Rattle.mdp_mean.specs.Terms.{excess_over, excess_at, greater_excess};
 
 use crate::errors::JoinError;
 use crate::joining::Joining;
-use mdp_wide::Kind;
 use mdp_num::{Frac, Wide};
 use mdp_rows::Dir;
+use mdp_wide::Kind;
 use std::cmp::Ordering;
 
 /// How much `earned` is above `value`, or for the least mean payoff below it.

@@ -9,11 +9,11 @@ ghost use Rattle.mdp_mean.specs.Inners.{InnersEndSo};
 ghost use Rattle.mdp_mean.specs.Best.{AreBest};
 ghost use Rattle.mdp_mean.specs.PartsCode.{inners_in, IsEmpty, IsAdded};
 
-use mdp_wide::SolveError;
 use mdp_gain::{Inner, solve_inner};
 use mdp_num::Frac;
 use mdp_parts::Ends;
 use mdp_rows::{Dir, Model};
+use mdp_wide::SolveError;
 use std::alloc::{AllocError, Global};
 
 /// The best gain of each end component, and for each state in one its bias and its choice, 0 for a state in none.

@@ -10,9 +10,9 @@ use crate::bound::bound_of;
 use crate::errors::JoinError;
 use crate::excess::greatest_excess;
 use crate::joining::Joining;
-use mdp_wide::Kind;
 use mdp_farkas::spread_of;
 use mdp_num::{Frac, Wide};
+use mdp_wide::Kind;
 use std::alloc::Global;
 
 /// A bound and a bias for each state, and their spread.

@@ -18,13 +18,13 @@ use crate::errors::JoinError;
 use crate::inners::Inners;
 use crate::join::joined;
 use crate::joining::Joining;
-use mdp_wide::{Part, SolveError, TooWide};
 use mdp_farkas::MeanCert;
 use mdp_num::Frac;
 use mdp_parts::Ends;
 use mdp_quot::Quotient;
 use mdp_quot_exits::Outer;
 use mdp_rows::{Dir, Marks, Model};
+use mdp_wide::{Part, SolveError, TooWide};
 use std::alloc::{AllocError, Global};
 
 /// What was found of the parts of a query: the end components and their best gains, the quotient, the best gains that can be come to over it, and the

@@ -9,12 +9,12 @@ ghost use Rattle.mdp_mean.specs.Query.{plain, EndsSo};
 use crate::inners::all_inners;
 use crate::parts::{Parts, join_parts};
 use bumpalo::Bump;
-use mdp_wide::SolveError;
 use mdp_farkas::MeanCert;
 use mdp_parts::end_components;
 use mdp_quot::Quotient;
 use mdp_quot_exits::{best_exits, longest};
 use mdp_rows::{Dir, Model};
+use mdp_wide::SolveError;
 use std::alloc::Global;
 
 /// The greatest or the least mean payoff from each state, under the reward name of place `m`, by policy iteration in each end component and over the

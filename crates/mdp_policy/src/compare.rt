@@ -8,9 +8,9 @@ ghost use Rattle.mdp_policy.specs.Answer.{Answers, placed_at, shown};
 
 use crate::error::PlaceError;
 use crate::value::Change;
-use mdp_wide::Kind;
 use mdp_num::{Frac, Wide};
 use mdp_rows::{Dir, Marks, Model};
+use mdp_wide::Kind;
 use std::cmp::Ordering;
 
 /// The values of a policy, to be compared with what the choices of each state are worth.

@@ -15,9 +15,9 @@ ghost use Rattle.mdp_policy.specs.Answer.{Answers, placed_at};
 
 use crate::error::PlaceError;
 use mdp_elim::{ElimError, solve_leaving};
-use mdp_wide::Kind;
 use mdp_num::{Frac, Wide};
 use mdp_rows::{Marks, Model, PolicyRows, Row};
+use mdp_wide::Kind;
 use std::alloc::{AllocError, Global};
 
 /// A policy, its goals, and the marks of the states from which it can reach one.

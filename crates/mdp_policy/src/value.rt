@@ -12,10 +12,10 @@ use crate::compare::Comparison;
 use crate::error::PlaceError;
 use crate::evaluate::Evaluation;
 use mdp_elim::solution_law;
-use mdp_wide::{Part, SolveError, TooWide};
 use mdp_graph::{along, along_law};
 use mdp_num::Frac;
 use mdp_rows::{Dir, Marks, Model, PolicyRows};
+use mdp_wide::{Part, SolveError, TooWide};
 use std::alloc::Global;
 
 /// A state, and a choice that is better there than the policy's.

@@ -10,9 +10,9 @@ ghost use Rattle.mdp_policy_iteration.specs.Path.{improvement, improvements, or_
 
 use crate::errors::RoundError;
 use crate::shortest_path::ShortestPath;
-use mdp_wide::Kind;
 use mdp_num::{Frac, Wide};
 use mdp_rows::Dir;
+use mdp_wide::Kind;
 use std::alloc::{AllocError, Global};
 use std::cmp::Ordering;
 

@@ -17,9 +17,9 @@ use crate::loops::Loops;
 use crate::policy_chain::PolicyChain;
 use crate::shortest_path::ShortestPath;
 use mdp_elim::{ElimError, solve_leaving};
-use mdp_wide::Kind;
 use mdp_num::{Frac, Memory, Wide};
 use mdp_rows::{Marks, Row, RowsOf};
+use mdp_wide::Kind;
 use std::alloc::{AllocError, Global};
 
 /// The active nodes of a policy: those that go on.

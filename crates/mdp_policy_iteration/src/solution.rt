@@ -2,8 +2,8 @@ ghost use Rattle.std.specs.Prelude.{◌≡◌};
 ghost use Rattle.mdp_policy_iteration.specs.Ends.{path_error, wide_of_part, error_of_part};
 
 use crate::errors::RoundError;
-use mdp_wide::{Kind, Part, SolveError, TooWide};
 use mdp_num::Frac;
+use mdp_wide::{Kind, Part, SolveError, TooWide};
 use std::alloc::AllocError;
 
 /// A best policy, with one choice per node, its round and its values. Rounds count from 0; one above 2^64 - 1 is given as 2^64 - 1.

@@ -5,10 +5,10 @@ ghost use Rattle.mdp_quot_exits.specs.Problem.{steps_start};
 ghost use Rattle.mdp_quot_exits.specs.Steps.{StepsEndSo, IsLongest};
 
 use crate::steps_problem::StepsProblem;
-use mdp_wide::{Part, SolveError};
 use mdp_num::Frac;
 use mdp_policy_iteration::improve;
 use mdp_quot::Quotient;
+use mdp_wide::{Part, SolveError};
 use std::alloc::{AllocError, Global};
 
 /// Exit 0 of each node.

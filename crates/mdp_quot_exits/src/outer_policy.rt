@@ -5,11 +5,11 @@ ghost use Rattle.mdp_quot_exits.specs.Problem.{component_of, first_choice, outer
 ghost use Rattle.mdp_quot_exits.specs.Outer.{HasGains, plain, OuterEndSo, IsBestOuter};
 
 use crate::outer_problem::OuterProblem;
-use mdp_wide::{Part, SolveError};
 use mdp_num::Frac;
 use mdp_policy_iteration::improve;
 use mdp_quot::Quotient;
 use mdp_rows::Dir;
+use mdp_wide::{Part, SolveError};
 use std::alloc::{AllocError, Global};
 
 /// What is best at each node: 0 where it stops, `1 + i` where it takes its exit `i`; and the gain that it comes to.

@@ -10,11 +10,11 @@ ghost use Rattle.mdp_reach.specs.Round.{SolvesToEnd};
 use crate::problem::Reach;
 use crate::ranks::ranks_of;
 use crate::start::start_of;
-use mdp_wide::{Kind, Part, SolveError, TooWide};
 use mdp_farkas::{ReachCert, Verdict, holds_reach};
 use mdp_graph::{along_law, avoid_law, meet_law, reach_law};
 use mdp_policy_iteration::{Solution, improve};
 use mdp_rows::{Dir, Marks, Model};
+use mdp_wide::{Kind, Part, SolveError, TooWide};
 use std::alloc::Global;
 
 /// What a query of reachability ends with: a certificate, and the round of its policy. Rounds count from 0; one above 2^64 - 1 is given as 2^64 - 1.

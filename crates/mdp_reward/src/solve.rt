@@ -11,11 +11,11 @@ use crate::problem::Reward;
 use crate::ranks::ranks_of;
 use crate::rewards::rewards_of;
 use crate::start::start_of;
-use mdp_wide::{Kind, Part, SolveError, TooWide};
 use mdp_farkas::{RewardCert, Verdict, holds_reward};
 use mdp_graph::{along_law, meet_law, rounds_law, sure_all_law};
 use mdp_policy_iteration::improve;
 use mdp_rows::{Dir, Marks, Model};
+use mdp_wide::{Kind, Part, SolveError, TooWide};
 use std::alloc::Global;
 
 /// The greatest or the least expected rewards until a goal, under the reward name of place `m`, by policy iteration: values (`None` is infinite), a

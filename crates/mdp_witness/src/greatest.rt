@@ -14,7 +14,6 @@ ghost use Rattle.mdp_witness.specs.Code.{plain_flow, Answers};
 use crate::listing::{flows_of, listed, marks_at};
 use crate::subsystem::WitnessError;
 use mdp_elim::ElimError;
-use mdp_wide::{Kind, Part, TooWide};
 use mdp_farkas::{ReachCert, Verdict};
 use mdp_graph::avoid_law;
 use mdp_num::{Frac, Memory};
@@ -22,6 +21,7 @@ use mdp_policy_iteration::path_law;
 use mdp_reach::query_law;
 use mdp_rows::{Dir, Marks, Model};
 use mdp_subsystem_rules::{FlowCert, holds_flow, listed_law, never_no_law};
+use mdp_wide::{Kind, Part, TooWide};
 use mdp_witness_trials::{MaxLeft, Policy, Query, kept_law};
 use std::alloc::Global;
 

@@ -10,7 +10,6 @@ ghost use Rattle.mdp_witness.specs.Code.{plain_floor, in_floor, Answers};
 
 use crate::listing::{listed, marks_at, ranks_at, values_at};
 use crate::subsystem::WitnessError;
-use mdp_wide::{Part, SolveError, TooWide};
 use mdp_farkas::{ReachCert, Verdict};
 use mdp_graph::avoid_law;
 use mdp_num::{Frac, Memory};
@@ -18,6 +17,7 @@ use mdp_policy_iteration::path_law;
 use mdp_reach::query_law;
 use mdp_rows::{Dir, Marks, Model};
 use mdp_subsystem_rules::{FloorCert, fewer_law, holds_floor, listed_law};
+use mdp_wide::{Part, SolveError, TooWide};
 use mdp_witness_trials::{MinLeft, Query, Subsystems, first_law, kept_law};
 use std::alloc::Global;
 

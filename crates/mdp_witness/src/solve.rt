@@ -15,13 +15,13 @@ use crate::greatest::flow_witness;
 use crate::laws::witness_law;
 use crate::least::floor_witness;
 use crate::subsystem::{Subsystem, WitnessError};
-use mdp_wide::{Kind, Part, TooWide};
 use mdp_farkas::ReachCert;
 use mdp_graph::avoid_law;
 use mdp_num::{Frac, Wide};
 use mdp_policy_iteration::path_law;
 use mdp_reach::{ReachEnd, solve_reach_to_end};
 use mdp_rows::{Dir, Marks, Model};
+use mdp_wide::{Kind, Part, TooWide};
 use std::alloc::Global;
 use std::cmp::Ordering;
 

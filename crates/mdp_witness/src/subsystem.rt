@@ -1,6 +1,6 @@
-use mdp_wide::{SolveError, TooWide};
 use mdp_num::{Frac, Memory};
 use mdp_subsystem_rules::{FloorCert, FlowCert};
+use mdp_wide::{SolveError, TooWide};
 use std::alloc::AllocError;
 
 /// A subsystem that reaches the threshold, with what shows it.

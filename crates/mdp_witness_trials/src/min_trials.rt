@@ -7,13 +7,13 @@ ghost use Rattle.mdp_witness_trials.specs.StepCode.{IsStep};
 ghost use Rattle.mdp_witness_trials.specs.Trial.{AreLeft};
 
 use crate::trial::Trial;
-use mdp_wide::SolveError;
 use mdp_farkas::ReachCert;
 use mdp_graph::avoid_law;
 use mdp_num::{Frac, Memory};
 use mdp_policy_iteration::path_law;
 use mdp_reach::solve_reach;
 use mdp_rows::{Dir, Marks, Model};
+use mdp_wide::SolveError;
 use std::alloc::Global;
 
 /// The subsystems of a model that are searched for the least probability of reaching a goal from `start`.
