@@ -11,9 +11,9 @@ use crate::words_error::WordsError;
 use itoa::Buffer;
 use mdp_cert::CertKind;
 use mdp_drn::DrnKind;
-use mdp_wide::{Kind, Part, TooWide};
 use mdp_farkas::{Fault, Rule};
 use mdp_num::{Frac, Memory};
+use mdp_wide::{Kind, Part, TooWide};
 use std::alloc::AllocError;
 
 /// An answer other than that the work was done, but for a fault of the sink.
@@ -125,6 +125,7 @@ fn words_word(error: WordsError) -> &'static str
         WordsError::Steps => "steps",
         WordsError::Factor => "factor",
         WordsError::Digits => "digits",
+        WordsError::Encoding => "encoding",
     }
 }
 
