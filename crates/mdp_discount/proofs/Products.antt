@@ -30,13 +30,6 @@ kept_by false e h = absurd (true≢false (sym h))
 pub kept-one : (e : Entry) (z : ℚ) → z ≡ 0ℚ → not (eq_ℚ e.prob z) ≡ true → e ∷ [] ≡ filter has_value (e ∷ [])
 kept-one e z is h = kept_by (has_value e) e (sym (ap (λ (w : ℚ). not (eq_ℚ e.prob w)) is) ∙ h)
 
-gone_by : (b : Bool) (e : Entry) → b ≡ false → [] ≡ cond b (e ∷ []) []
-gone_by true e h = absurd (true≢false h)
-gone_by false e h = refl
-
-pub gone-one : (e : Entry) (z : ℚ) → z ≡ 0ℚ → not (eq_ℚ e.prob z) ≡ false → [] ≡ filter has_value (e ∷ [])
-gone-one e z is h = gone_by (has_value e) e (sym (ap (λ (w : ℚ). not (eq_ℚ e.prob w)) is) ∙ h)
-
 -- the entries from place i on
 next-drop : {A : Type 0} (xs : List A) (i : ℕ) (d : A) → i < length xs → drop i xs ≡ get_or xs i d ∷ drop (suc i) xs
 next-drop [] i d h = absurd (omega arith)

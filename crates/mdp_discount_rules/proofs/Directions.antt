@@ -4,7 +4,7 @@ use Rattle.mdp_math.specs.Rational.{ℚ, ◌+ℚ◌, ◌*ℚ◌, ◌≤ℚ◌, �
 use Rattle.mdp_math.specs.Sum.{sum_at, EachAt}
 use Rattle.mdp_math.proofs.Ring.{◌⊕◌, ◌⊗◌}
 use Rattle.mdp_math.proofs.Linear.{linear, known, at_most}
-use Rattle.mdp_math.proofs.Order.{0ℚ, ≤ℚ_refl, ≤ℚ_trans, ≤ℚ_of_eq, ≤ℚ_antisymm, mul-le-mul_left_ℚ}
+use Rattle.mdp_math.proofs.Order.{0ℚ, ≤ℚ_trans, ≤ℚ_of_eq, ≤ℚ_antisymm, mul-le-mul_left_ℚ}
 use Rattle.mdp_math.proofs.SumsAt.{sum_at-le, sum_at-weighted_le, sum_at-weighted_ge}
 use Rattle.mdp_rows.specs.declared.dir.Dir.{Dir}
 use Rattle.mdp_rows.specs.Better.{IsAsGood}
@@ -13,10 +13,6 @@ use Rattle.mdp_rows.specs.declared.dir.Dir.TheVariants.{Max, Min}
 -- x is no better than y: at most y for the greatest, at least y for the least
 abbrev pub NoBetter : Dir → ℚ → ℚ → Type 0
 NoBetter dir x y = IsAsGood dir y x
-
-pub no_better_refl : (dir : Dir) (x : ℚ) → NoBetter dir x x
-no_better_refl Max x = ≤ℚ_refl x
-no_better_refl Min x = ≤ℚ_refl x
 
 pub no_better_of_eq : (dir : Dir) (x y : ℚ) → x ≡ y → NoBetter dir x y
 no_better_of_eq Max x y e = ≤ℚ_of_eq x y e

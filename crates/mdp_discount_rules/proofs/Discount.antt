@@ -149,9 +149,3 @@ module _ (m : Mdp) (r : ℕ) (dir : Dir) (f : ℚ) (known_ : IsMdp m) (factor : 
   pub discount_unique : (v w : List ℚ) (k l : ℚ) (policy other : List ℕ) (s : ℕ) → IsPolicy m policy → IsPolicy m other → DiscountBound dir m r f v k policy
       → DiscountBound dir m r f w l other → s < states_of m → value_at v s ≡ value_at w s
   discount_unique v w k l policy other s a b p q h = no_better_antisymm dir _ _ (discount_no_better v w k l policy other s a p q h) (discount_no_better w v l k other policy s b q p h)
-
-  -- so at most one list of values meets the rules
-  pub discount_rules_unique : (v w : List ℚ) (k l : ℚ) (policy other : List ℕ) (s : ℕ) → MeetsDiscount dir m r f v k policy → MeetsDiscount dir m r f w l other → s < states_of m
-      → value_at v s ≡ value_at w s
-  discount_rules_unique v w k l policy other s p q h =
-      discount_unique v w k l policy other s p.choices q.choices (discount_of_rules dir m r f v k policy known_ factor p) (discount_of_rules dir m r f w l other known_ factor q) h

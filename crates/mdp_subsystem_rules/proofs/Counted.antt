@@ -34,10 +34,6 @@ module _ (m : Mdp) (goals : List Bool) (kept : List ℕ) where
   pub line_values-at : (values : List ℚ) (s : ℕ) → s < states_of m → value_at (line_values m goals kept values) s ≡ line_value m goals kept values s
   line_values-at values s h = get_or-map-range_with_len (line_value m goals kept values) 0 (states_of m) s s 0ℚ h (omega arith)
 
-  pub line_value-at : (values : List ℚ) (i s : ℕ) → Ascends kept → length values ≡ length kept → i < length kept → get_or kept i 0 ≡ s → s < states_of m → is_marked goals s ≡ false
-      → line_value m goals kept values s ≡ value_at values i
-  line_value-at values i s ascends each l is h g = by_line (states_of m) goals kept values (of_int (pos 1)) 0ℚ 0ℚ i s ascends each l is h g
-
   pub value-goal : (values : List ℚ) (s : ℕ) → s < states_of m → is_marked goals s ≡ true → of_int (pos 1) ≡ value_at (line_values m goals kept values) s
   value-goal values s h g = sym (line_values-at values s h ∙ at_goal (states_of m) goals kept values (of_int (pos 1)) 0ℚ s g)
 
@@ -47,9 +43,6 @@ module _ (m : Mdp) (goals : List Bool) (kept : List ℕ) where
 
   pub value-none : (values : List ℚ) (s : ℕ) → s < states_of m → is_marked goals s ≡ false → is_listed kept s ≡ false → 0ℚ ≡ value_at (line_values m goals kept values) s
   value-none values s h g none_ = sym (line_values-at values s h ∙ by_none (states_of m) goals kept values (of_int (pos 1)) 0ℚ s h g none_)
-
-  pub rank-goal : (ranks : List ℕ) (s : ℕ) → is_marked goals s ≡ true → 0 ≡ line_rank m goals kept ranks s
-  rank-goal ranks s g = sym (at_goal (states_of m) goals kept ranks 0 0 s g)
 
   pub rank-line : (ranks : List ℕ) (d i s : ℕ) → Ascends kept → length ranks ≡ length kept → i < length kept → get_or kept i 0 ≡ s → s < states_of m → is_marked goals s ≡ false
       → get_or ranks i d ≡ line_rank m goals kept ranks s

@@ -9,7 +9,7 @@ use Rattle.mdp_math.specs.Sum.{sum_of}
 use Rattle.mdp_math.proofs.Ring.{◌⊕◌, ◌⊗◌, ⊖, lit, ring}
 use Rattle.mdp_math.proofs.Laws.{rat_ring, zero-+ℚ, zero-*ℚ}
 use Rattle.mdp_math.proofs.Linear.{linear, equal, at_most, known}
-use Rattle.mdp_math.proofs.Order.{0ℚ, 1ℚ, ≤ℚ_refl, ≤ℚ_trans, ≤ℚ_of_eq, ≤ℚ_of_lt, mul-le-mul_left_ℚ, mul-nonneg, le_of_mul_left_ℚ, div-of_int, ratio-nonneg}
+use Rattle.mdp_math.proofs.Order.{0ℚ, 1ℚ, ≤ℚ_trans, ≤ℚ_of_eq, ≤ℚ_of_lt, mul-le-mul_left_ℚ, mul-nonneg, le_of_mul_left_ℚ, div-of_int, ratio-nonneg}
 use Rattle.mdp_math.proofs.Whole.{of_nat-pos, of_nat-suc}
 use Rattle.mdp_math.proofs.Sums.{sum_of-add, sum_of-same, sum_of-same_all, sum_of-le, sum_of-nonneg}
 use Rattle.mdp_spec.specs.Mdp.{Entry, Choice, Mdp, states_of, choices_at}
@@ -48,10 +48,6 @@ goal_part false p = ring rat_ring 1 (λ p. lit (pos 0)) (λ p. p ⊗ lit (pos 0)
 
 pub kept_part : (k : Bool) (x : ℚ) → k ≡ true → cond k x 0ℚ ≡ x
 kept_part k x e = ap (λ (b : Bool). cond b x 0ℚ) e
-
-kept_nonneg : (k : Bool) (x : ℚ) → 0ℚ ≤ℚ x → 0ℚ ≤ℚ cond k x 0ℚ
-kept_nonneg true x h = h
-kept_nonneg false x h = ≤ℚ_refl 0ℚ
 
 -- a claim on kept states, weighed by a kept state's value
 kept_weighed : (k : Bool) (x y z : ℚ) → 0ℚ ≤ℚ x → (k ≡ true → y ≤ℚ z) → cond k x 0ℚ *ℚ y ≤ℚ cond k x 0ℚ *ℚ z
