@@ -6,14 +6,17 @@ use Rattle.mdp_spec.specs.Mdp.{Mdp}
 use Rattle.mdp_rows.specs.declared.dir.Dir.{Dir}
 use Rattle.mdp_drn.specs.FromSource.{HadLeft}
 use Rattle.mdp_job.specs.Job.{solve, witness, check, drill, horizon, policy, discount, discount_check, bounds, bounds_check, Asked, reads_model, reads_second}
-use Rattle.mdp_job.specs.Refusal.{PlainRefusal, no_job, model_text, query_size, query_reward, query_label, query_init, query_negative, query_steps, query_choice, too_wide, check_wide, horizon_wide}
-use Rattle.mdp_job.specs.Refusal.{denied, read_model, read_certificate, long_model, long_certificate, cert_text, policy_text, below, no_memory}
-use Rattle.mdp_job.specs.Status.{status_of}
+use Rattle.mdp_job.specs.Refusal.{PlainRefusal, read_model, read_certificate, no_memory}
 use Rattle.mdp_job.specs.declared.status.Status.{Status}
 use Rattle.mdp_job.specs.declared.status.Status.TheVariants as status
+use Rattle.mdp_command.proofs.Statuses.{refusal_status}
 use Rattle.mdp_command.specs.Files.{model_due, IsDueToModel}
 use Rattle.mdp_command.specs.Said.{Said, said_status}
 use Rattle.mdp_command.specs.Streams.{Input, Told, Output}
+use Rattle.mdp_command.specs.Written.{Wrote, EndsWith}
+use Rattle.mdp_checking.specs.Due.{IsCheckDue}
+use Rattle.mdp_checking.specs.declared.kind.CertificateKind.{CertificateKind}
+use Rattle.mdp_checking.specs.declared.kind.CertificateKind.TheVariants.{Exact, Discounted, Bounds}
 use Rattle.mdp_command_solve.specs.Due.{IsSolveDue}
 use Rattle.mdp_command_solve.specs.Laws.{IsDueOnce}
 use Rattle.mdp_command_witness.specs.Due.{IsWitnessDue}
@@ -23,39 +26,13 @@ use Rattle.mdp_command_horizon.specs.Due.{IsHorizonDue}
 use Rattle.mdp_command_policy.specs.Due.{IsPolicyDue}
 use Rattle.mdp_command_policy.proofs.Due.{policy_once}
 use Rattle.mdp_discount.proofs.OneEnd.{one_query_end}
-use Rattle.mdp_command_discount.specs.Due.{IsDiscountDue, IsDiscountCheckDue}
+use Rattle.mdp_command_discount.specs.Due.{IsDiscountDue}
 use Rattle.mdp_command_discount.proofs.Solved.{discount_once}
-use Rattle.mdp_command_bounds.specs.Due.{IsBoundsCheckDue}
 use Rattle.mdp_command_bounds_search.specs.Due.{IsLabelDue, IsBoundsDue}
 use Rattle.mdp_command_bounds_search.proofs.Solved.{never_too_wide}
-use Rattle.mdp_app.specs.Due.{check_due, IsDue}
-use Rattle.mdp_app.specs.Decided.{IsTextDecided, IsDecided, EndsWith}
+use Rattle.mdp_app.specs.Due.{IsDue}
+use Rattle.mdp_app.specs.Decided.{IsTextDecided, IsDecided}
 use Rattle.mdp_app.specs.Run.{IsFromBytes, HasCause, LeavesUnread, IsAnswered, IsWorkDone, IsDoneUnless, IsComplete}
-use Rattle.mdp_app.specs.Written.{Wrote}
-
--- no refusal ends a run with the work done
-refusal_status : (r : PlainRefusal) → status.Done ≡ status_of r → ⊥
-refusal_status (no_job e) h = cc
-refusal_status (model_text n kind) h = cc
-refusal_status query_size h = cc
-refusal_status query_reward h = cc
-refusal_status query_label h = cc
-refusal_status query_init h = cc
-refusal_status query_negative h = cc
-refusal_status query_steps h = cc
-refusal_status query_choice h = cc
-refusal_status (too_wide w) h = cc
-refusal_status (check_wide state choice) h = cc
-refusal_status (horizon_wide depth state choice) h = cc
-refusal_status (denied f) h = cc
-refusal_status read_model h = cc
-refusal_status read_certificate h = cc
-refusal_status long_model h = cc
-refusal_status long_certificate h = cc
-refusal_status (cert_text n kind) h = cc
-refusal_status (policy_text n kind) h = cc
-refusal_status (below v) h = cc
-refusal_status no_memory h = cc
 
 -- what is due doesn't depend on bytes that the job doesn't read
 had_told : (reads : Bool) (x : Input) (told had : List ℕ) → Told reads x told → HadLeft x.before had → (reads ≡ true) → had ≡ told
@@ -77,15 +54,10 @@ discounted_once : (dir : Dir) (name : List ℕ) (f : ℚ) (read : Result Mdp Pla
 discounted_once dir name f (Ok m) said again d e = discount_once one_query_end dir name f m said again d e
 discounted_once dir name f (Err r) said again d e = d ∙ sym e
 
-discount_checked_once : (other : List ℕ) (read : Result Mdp PlainRefusal) (said again : Said) → IsDueToModel (λ m. IsDiscountCheckDue m other) read said
-    → IsDueToModel (λ m. IsDiscountCheckDue m other) read again → said ≡ again
-discount_checked_once other (Ok m) said again d e = d ∙ sym e
-discount_checked_once other (Err r) said again d e = d ∙ sym e
-
-bounds_checked_once : (other : List ℕ) (read : Result Mdp PlainRefusal) (said again : Said) → IsDueToModel (λ m. IsBoundsCheckDue m other) read said
-    → IsDueToModel (λ m. IsBoundsCheckDue m other) read again → said ≡ again
-bounds_checked_once other (Ok m) said again d e = d ∙ sym e
-bounds_checked_once other (Err r) said again d e = d ∙ sym e
+checked_once : (wanted : Option CertificateKind) (other : List ℕ) (read : Result Mdp PlainRefusal) (said again : Said) → IsDueToModel (λ m. IsCheckDue wanted m other) read said
+    → IsDueToModel (λ m. IsCheckDue wanted m other) read again → said ≡ again
+checked_once wanted other (Ok m) said again d e = d ∙ sym e
+checked_once wanted other (Err r) said again d e = d ∙ sym e
 
 -- the one thing that is due is a text, with which the work is done
 done_of : (said : Said) (text : List ℕ) → said ≡ Ok text → said_status said ≡ status.Done
@@ -119,7 +91,9 @@ due_done once found (Ok (witness rule dir label threshold)) model second m s n t
     (subst (λ (x : List ℕ). IsDueToModel (IsWitnessDue dir label threshold) (model_due rule x) said) (had_told true model m n tm hn refl) due) due_text)
 due_done once found (Ok (check rule)) model second m s n t text said hn ht due tm ts due_text =
     done_of said text (
-    due ∙ ap (λ (x : List ℕ). check_due rule x t) (had_told true model m n tm hn refl) ∙ ap (λ (x : List ℕ). check_due rule m x) (had_told true second s t ts ht refl) ∙ sym due_text)
+    checked_once (Some Exact) s (model_due rule m) said (Ok text)
+    (subst (λ (x : List ℕ). IsDueToModel (λ k. IsCheckDue (Some Exact) k x) (model_due rule m) said) (had_told true second s t ts ht refl)
+    (subst (λ (x : List ℕ). IsDueToModel (λ k. IsCheckDue (Some Exact) k t) (model_due rule x) said) (had_told true model m n tm hn refl) due)) due_text)
 due_done once found (Ok (drill number layers width)) model second m s n t text said hn ht due tm ts due_text =
     done_of said text (
     due-once number layers width said (Ok text) due due_text)
@@ -138,17 +112,17 @@ due_done once found (Ok (discount rule dir name factor)) model second m s n t te
     (subst (λ (x : List ℕ). IsDueToModel (IsDiscountDue dir name factor) (model_due rule x) said) (had_told true model m n tm hn refl) due) due_text)
 due_done once found (Ok (discount_check rule)) model second m s n t text said hn ht due tm ts due_text =
     done_of said text (
-    discount_checked_once s (model_due rule m) said (Ok text)
-    (subst (λ (x : List ℕ). IsDueToModel (λ k. IsDiscountCheckDue k x) (model_due rule m) said) (had_told true second s t ts ht refl)
-    (subst (λ (x : List ℕ). IsDueToModel (λ k. IsDiscountCheckDue k t) (model_due rule x) said) (had_told true model m n tm hn refl) due)) due_text)
+    checked_once (Some Discounted) s (model_due rule m) said (Ok text)
+    (subst (λ (x : List ℕ). IsDueToModel (λ k. IsCheckDue (Some Discounted) k x) (model_due rule m) said) (had_told true second s t ts ht refl)
+    (subst (λ (x : List ℕ). IsDueToModel (λ k. IsCheckDue (Some Discounted) k t) (model_due rule x) said) (had_told true model m n tm hn refl) due)) due_text)
 due_done once found (Ok (bounds rule dir label digits)) model second m s n t text said hn ht due tm ts due_text =
     bounds_done dir label (model_due rule m) said text
     (subst (λ (x : List ℕ). IsDueToModel (IsBoundsDue dir label) (model_due rule x) said) (had_told true model m n tm hn refl) due) due_text
 due_done once found (Ok (bounds_check rule)) model second m s n t text said hn ht due tm ts due_text =
     done_of said text (
-    bounds_checked_once s (model_due rule m) said (Ok text)
-    (subst (λ (x : List ℕ). IsDueToModel (λ k. IsBoundsCheckDue k x) (model_due rule m) said) (had_told true second s t ts ht refl)
-    (subst (λ (x : List ℕ). IsDueToModel (λ k. IsBoundsCheckDue k t) (model_due rule x) said) (had_told true model m n tm hn refl) due)) due_text)
+    checked_once (Some Bounds) s (model_due rule m) said (Ok text)
+    (subst (λ (x : List ℕ). IsDueToModel (λ k. IsCheckDue (Some Bounds) k x) (model_due rule m) said) (had_told true second s t ts ht refl)
+    (subst (λ (x : List ℕ). IsDueToModel (λ k. IsCheckDue (Some Bounds) k t) (model_due rule x) said) (had_told true model m n tm hn refl) due)) due_text)
 due_done once found (Err e) model second m s n t text said hn ht due tm ts due_text = cc
 
 module _ (asked : Asked) (model second : Input) (out : Output) (ended : Status) where

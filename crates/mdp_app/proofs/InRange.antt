@@ -17,7 +17,7 @@ use Rattle.mdp_num.specs.declared.errors.NumeralError.{NumeralError}
 use Rattle.mdp_discount_rules.specs.Rules.{IsFactor}
 use Rattle.mdp_app.specs.InRange.{IsInRange, asked_for}
 use Rattle.mdp_job.specs.Job.{PlainJob, solve, witness, check, drill, horizon, policy, discount, Asked}
-use Rattle.mdp_job.specs.Words.{word_at, rule_of, dir_of, check_of, query_of, solve_of, whole_word, can_draw, drill_by, drill_with, drill_of}
+use Rattle.mdp_job.specs.Words.{rows_of, word_at, rule_of, dir_of, check_of, query_of, solve_of, whole_word, can_draw, drill_by, drill_with, drill_of}
 use Rattle.mdp_job.specs.Words.{threshold_by, threshold_of, witness_of, steps_of, horizon_of, policy_of, below_one, factor_of, discount_of}
 use Rattle.mdp_job.specs.Words.{discount_check_of, digits_of, bounds_of, bounds_check_of, job_of_texts, job_of}
 use Rattle.mdp_job.specs.declared.words_error.WordsError.{WordsError}
@@ -100,7 +100,7 @@ witness_in_range words =
     (bind (rule_of (word_at words 1)) _ (λ rule. bind (dir_of (word_at words 2)) _ (λ dir. bind_to (threshold_of (word_at words 4)) _ (λ threshold is. threshold_is (word_at words 4) threshold is)))) tt
 
 check_in_range : (words : List (List ℕ)) → IsInRange (check_of words)
-check_in_range words = either (length words == 3) _ (Err Number) (bind (rule_of (word_at words 1)) _ (λ rule. tt)) tt
+check_in_range words = bind (rows_of words) _ (λ rule. tt)
 
 horizon_in_range : (words : List (List ℕ)) → IsInRange (horizon_of words)
 horizon_in_range words =
@@ -117,7 +117,7 @@ discount_in_range words =
     (bind (rule_of (word_at words 1)) _ (λ rule. bind (dir_of (word_at words 2)) _ (λ dir. bind_to (factor_of (word_at words 4)) _ (λ factor is. factor_is (word_at words 4) factor is)))) tt
 
 discount_check_in_range : (words : List (List ℕ)) → IsInRange (discount_check_of words)
-discount_check_in_range words = either (length words == 3) _ (Err Number) (bind (rule_of (word_at words 1)) _ (λ rule. tt)) tt
+discount_check_in_range words = bind (rows_of words) _ (λ rule. tt)
 
 bounds_in_range : (words : List (List ℕ)) → IsInRange (bounds_of words)
 bounds_in_range words =
@@ -127,7 +127,7 @@ bounds_in_range words =
     (either (length words == 6) _ (Err Number) (bind (digits_of (word_at words 5)) _ (λ digits. tt)) tt) tt)))
 
 bounds_check_in_range : (words : List (List ℕ)) → IsInRange (bounds_check_of words)
-bounds_check_in_range words = either (length words == 3) _ (Err Number) (bind (rule_of (word_at words 1)) _ (λ rule. tt)) tt
+bounds_check_in_range words = bind (rows_of words) _ (λ rule. tt)
 
 texts_in_range : (words : List (List ℕ)) → IsInRange (job_of_texts words)
 texts_in_range [] = tt

@@ -1,4 +1,3 @@
-mod Accepting
 mod Deciding
 mod InRange
 mod Answering

@@ -10,9 +10,9 @@ use Rattle.mdp_job.specs.declared.status.Status.TheVariants.{Done, ReadFault, Wr
 use Rattle.mdp_command.specs.Read.{is_of_model}
 use Rattle.mdp_command.specs.Said.{Said}
 use Rattle.mdp_command.specs.Streams.{Input, HasFailed, IsStill, Told, Output}
+use Rattle.mdp_command.specs.Written.{WroteAll, Wrote}
 use Rattle.mdp_app.specs.Due.{IsDue, IsModelRead}
 use Rattle.mdp_app.specs.Shown.{IsShown}
-use Rattle.mdp_app.specs.Written.{WroteAll, Wrote}
 
 -- ---- why an answer may come
 
@@ -97,3 +97,10 @@ IsComplete asked model second out ended =
     (model_bytes second_bytes text : List ℕ) → Told (reads_model asked) model model_bytes → Told (reads_second asked) second second_bytes
     → IsDue asked model_bytes second_bytes (Ok text)
     → IsDoneUnless asked model second out ended
+
+-- ---- the whole
+
+pub record HasRun (asked : Asked) (model second : Input) (out : Output) (ended : Status) : Type 0 where
+  pub answer : IsAnswered asked model second out ended
+  pub done : ended ≡ Done → IsWorkDone asked model second out
+  pub complete : IsComplete asked model second out ended

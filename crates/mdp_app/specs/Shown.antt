@@ -1,27 +1,27 @@
 -- What is shown of the work of each command.
 use Rattle.std.specs.Prelude.{ℕ, List, Ok, Err}
 use Rattle.mdp_job.specs.Job.{solve, witness, check, drill, horizon, policy, discount, discount_check, bounds, bounds_check, Asked}
-use Rattle.mdp_command.specs.Accepted.{IsTrueClaim}
+use Rattle.mdp_command.specs.Accepted.{exact}
+use Rattle.mdp_checking.specs.Kinds.{discounted, between}
+use Rattle.mdp_checking.specs.Shown.{IsYes}
 use Rattle.mdp_command_solve.specs.Solved.{IsSolved}
 use Rattle.mdp_command_witness.specs.Shown.{IsWitnessShown}
 use Rattle.mdp_command_drill.specs.Drilled.{IsDrilled}
 use Rattle.mdp_command_horizon.specs.Shown.{IsHorizonShown}
 use Rattle.mdp_command_policy.specs.Shown.{IsPolicyShown}
-use Rattle.mdp_command_discount.specs.Accepted as discounted
 use Rattle.mdp_command_discount.specs.Shown.{IsDiscountSolved}
-use Rattle.mdp_command_bounds.specs.Accepted as between
 use Rattle.mdp_command_bounds_search.specs.Shown.{IsBoundsSolved}
 
 -- what is shown of the model's bytes, of those of the second file and of the text, where the work was done. Each command is a case
 abbrev pub IsShown : Asked → List ℕ → List ℕ → List ℕ → Type 0
 IsShown (Ok (solve rule dir query)) model second text = IsSolved rule dir query model text
 IsShown (Ok (witness rule dir label threshold)) model second text = IsWitnessShown rule dir label threshold model text
-IsShown (Ok (check rule)) model second text = IsTrueClaim rule model second
+IsShown (Ok (check rule)) model second text = IsYes exact rule model second text
 IsShown (Ok (drill number layers width)) model second text = IsDrilled number layers width text
 IsShown (Ok (horizon rule dir stay label steps)) model second text = IsHorizonShown rule dir stay label steps model text
 IsShown (Ok (policy rule label)) model second text = IsPolicyShown rule label model second text
 IsShown (Ok (discount rule dir name factor)) model second text = IsDiscountSolved rule dir name factor model text
-IsShown (Ok (discount_check rule)) model second text = discounted.IsTrueClaim rule model second
+IsShown (Ok (discount_check rule)) model second text = IsYes discounted rule model second text
 IsShown (Ok (bounds rule dir label digits)) model second text = IsBoundsSolved rule dir label model text
-IsShown (Ok (bounds_check rule)) model second text = between.IsTrueClaim rule model second
+IsShown (Ok (bounds_check rule)) model second text = IsYes between rule model second text
 IsShown (Err e) model second text = ⊥

@@ -1,24 +1,23 @@
-ghost use Rattle.std.specs.Prelude.{◌≡◌, Err};
-ghost use Rattle.mdp_job.specs.Refusal.{plain_refusal, no_memory};
-ghost use Rattle.mdp_job.specs.Words.{job_of};
+ghost use Rattle.std.specs.Fn.{FnReturnsAt};
+ghost use Rattle.std.specs.Prelude.{◌≡◌};
+ghost use Rattle.mdp_job.specs.Words.{job_of, model_path, second_path};
+ghost use Rattle.mdp_command.specs.Opened.{OnFiles};
 ghost use Rattle.mdp_command.specs.Said.{said};
 ghost use Rattle.mdp_command.specs.Streams.{input, output};
-ghost use Rattle.mdp_app.specs.Written.{WroteText, Wrote};
-ghost use Rattle.mdp_app.specs.Run.{IsAnswered, IsWorkDone, IsComplete};
-ghost use Rattle.mdp_app.specs.Decided.{IsDecided, EndsWith};
+ghost use Rattle.mdp_app.specs.Run.{IsAnswered, IsWorkDone, IsComplete, HasRun};
+ghost use Rattle.mdp_app.specs.Decided.{IsDecided};
 
-use crate::checking::check_files;
-use mdp_command_bounds::bounds_check_files;
+use mdp_checking::{CertificateKind, check_files};
+use mdp_command::written;
 use mdp_command_bounds_search::bounds_file;
-use mdp_command_discount::{discount_check_files, discount_file};
+use mdp_command_discount::discount_file;
 use mdp_command_drill::drill;
 use mdp_command_horizon::horizon_file;
 use mdp_command_policy::policy_file;
 use mdp_command_solve::{solve_file, solve_law};
 use mdp_command_witness::{witness_file, witness_step_law};
-use mdp_edge::{Sink, Source, WriteFault, write_all};
-use mdp_job::{Job, MEMORY_TEXT, Refusal, Status, job_of, push_refusal};
-use mdp_num::Memory;
+use mdp_edge::{Sink, Source};
+use mdp_job::{Job, Refusal, Status, job_of, paths_of};
 use std::alloc::Global;
 
 /// The answer to the words.
@@ -42,7 +41,9 @@ fn decided<S: Source, C: Source>(
             label,
             threshold,
         } => witness_file(alloc, rule, dir, label, threshold, model),
-        Job::Check { rule } => check_files(alloc, rule, model, second),
+        Job::Check { rule } => {
+            check_files(alloc, rule, Some(CertificateKind::Exact), model, second)
+        }
         Job::Drill {
             number,
             layers,
@@ -62,14 +63,18 @@ fn decided<S: Source, C: Source>(
             name,
             factor,
         } => discount_file(alloc, rule, dir, name, factor, model),
-        Job::DiscountCheck { rule } => discount_check_files(alloc, rule, model, second),
+        Job::DiscountCheck { rule } => {
+            check_files(alloc, rule, Some(CertificateKind::Discounted), model, second)
+        }
         Job::Bounds {
             rule,
             dir,
             label,
             digits,
         } => bounds_file(alloc, rule, dir, label, digits, model),
-        Job::BoundsCheck { rule } => bounds_check_files(alloc, rule, model, second),
+        Job::BoundsCheck { rule } => {
+            check_files(alloc, rule, Some(CertificateKind::Bounds), model, second)
+        }
     }
 }
 
@@ -100,40 +105,19 @@ pub fn run<S: Source, C: Source, K: Sink>(
     written(alloc, answer, out)
 }
 
-/// Says that there is no memory for the words, before they are judged.
-pub fn without_words<K: Sink>(out: &mut K) -> Status
-    ensures { Wrote result (output K.taken K.settled K.faults out.old out.new) (Err no_memory) }
+/// Opens the files that the words name, the model's and the second one, and runs the program on them.
+pub fn run_on_files<F: Source + Drop, O: Fn(&str) -> F, K: Sink>(
+    alloc: Global,
+    words: &[String],
+    open: O,
+    out: &mut K,
+) -> Status
+    requires { O.IsAlwaysCallable open }
+    ensures { OnFiles (FnReturnsAt O.Fn open) F.left F.faults (model_path words.now) (second_path words.now)
+        (λ model second. HasRun (job_of words.now) model second (output K.taken K.settled K.faults out.old out.new) result) }
 {
-    write_text(out, MEMORY_TEXT, Status::Memory)
-}
-
-/// Writes a text to end with a status.
-fn write_text<K: Sink>(out: &mut K, text: &[u8], status: Status) -> Status
-    ensures { WroteText result (output K.taken K.settled K.faults out.old out.new) status text.now }
-{
-    match write_all(out, text) {
-        Ok(()) => status,
-        Err(WriteFault) => Status::WriteFault,
-    }
-}
-
-/// Writes the answer's text, which is in memory before the first write.
-fn written<K: Sink>(alloc: Global, answer: Result<Vec<u8>, Refusal>, out: &mut K) -> Status
-    ensures { EndsWith result (output K.taken K.settled K.faults out.old out.new) (said answer) }
-{
-    match answer {
-        Ok(text) => write_text(out, &text, Status::Done),
-        Err(refusal) => write_refusal(alloc, &refusal, out),
-    }
-}
-
-/// Writes a refusal's line, or that of want of memory, which takes none.
-fn write_refusal<K: Sink>(alloc: Global, refusal: &Refusal, out: &mut K) -> Status
-    ensures { EndsWith result (output K.taken K.settled K.faults out.old out.new) (Err (plain_refusal refusal.now)) }
-{
-    let mut text = Vec::new(alloc);
-    match push_refusal(refusal, &mut text) {
-        Ok(()) => write_text(out, &text, refusal.status()),
-        Err(Memory) => write_text(out, MEMORY_TEXT, Status::Memory),
-    }
+    let paths = paths_of(words);
+    let mut model = open(paths.model);
+    let mut second = open(paths.second);
+    run(alloc, words, &mut model, &mut second, out)
 }

@@ -1,11 +1,11 @@
 //! What the rows in data/ can't say: pieces, faults and stores.
-use crate::opened;
-use crate::run::run;
-use mdp_edge::{ListSink, ListSource, read_all};
+use crate::run::{run, run_on_files};
+use mdp_edge::{ListSink, ListSource, StdSource};
 use mdp_gen::layered;
 use mdp_job::Status;
 use std::alloc::{AllocError, Global};
 use std::fs;
+use std::fs::File;
 use std::test::Fail;
 
 /// 0 init: [0 1] [1 1/3, 2 2/3]; 1 goal: [1 1]; 2: [2 1]
@@ -121,15 +121,21 @@ fn answers_write_faults(rt: HostRuntime) -> Result<(), Fail> {
     Ok(())
 }
 
-/// The files that the program opens, read through the adapters over std.
+/// The files that the words name, opened and read through the adapters over std.
 #[test]
 fn opens_files(rt: HostRuntime) -> Result<(), Fail> {
-    fs::write(&rt, "coin.drn", COIN.as_bytes())?;
-    let bytes = read_all(rt.alloc(), &mut opened(&rt, "coin.drn"), 1000)?;
-    assert_eq!(rt; bytes.as_slice(), COIN.as_bytes());
-    fs::remove_file(&rt, "coin.drn")?;
-    let missing = read_all(rt.alloc(), &mut opened(&rt, "missing.drn"), 1000);
-    assert!(rt; missing.is_err());
+    fs::write(&rt, "MODEL", COIN.as_bytes())?;
+    fs::write(&rt, "CERT", UPPER.as_bytes())?;
+    let open = |path: &str| StdSource::new(File::open(&rt, path).ok());
+    let words = words_of(rt.alloc(), &CHECK)?;
+    let mut out = sink(rt.alloc(), 100, 16, &[])?;
+    let end = run_on_files(rt.alloc(), &words, open, &mut out);
+    assert_eq!(rt; end, Status::Done);
+    assert_eq!(rt; out.bytes(), b"yes\n".as_slice());
+    fs::remove_file(&rt, "MODEL")?;
+    let end = run_on_files(rt.alloc(), &words, open, &mut out);
+    assert_eq!(rt; end, Status::ReadFault);
+    fs::remove_file(&rt, "CERT")?;
     Ok(())
 }
 

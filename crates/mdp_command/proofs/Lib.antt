@@ -1,2 +1,3 @@
 pub mod FileBytes
 pub mod Working
+pub mod Statuses

@@ -4,8 +4,6 @@ use Rattle.mdp_spec.specs.Mdp.{Mdp}
 use Rattle.mdp_rows.specs.declared.rule.RowRule.{RowRule}
 use Rattle.mdp_drn.specs.Outcome as drn
 use Rattle.mdp_drn.specs.Reading.{outcome}
-use Rattle.mdp_cert.specs.Cert.{Certificate}
-use Rattle.mdp_cert.specs.Reading as cert_text
 use Rattle.mdp_text.specs.declared.error.Refusal as cert_refusal
 use Rattle.mdp_job.specs.Refusal.{PlainRefusal, model_text, long_model, long_certificate, cert_text}
 use Rattle.mdp_command.specs.Said.{Said}
@@ -35,10 +33,7 @@ IsDueToModel due (Err refusal) said = said ≡ Err refusal
 abbrev pub second_due : List ℕ → Result (List ℕ) PlainRefusal
 second_due bytes = if nat_lt most_bytes (length bytes) then Err long_certificate else Ok bytes
 
-abbrev pub certificate_or_refusal : Result Certificate cert_refusal.Refusal → Result Certificate PlainRefusal
+-- what a text reads as, or the refusal of its line
+abbrev pub certificate_or_refusal : {A : Type 0} → Result A cert_refusal.Refusal → Result A PlainRefusal
 certificate_or_refusal (Ok c) = Ok c
 certificate_or_refusal (Err r) = Err (cert_text r.line r.kind)
-
--- the certificate of which a file's bytes are the text
-abbrev pub certificate_due : List ℕ → Result Certificate PlainRefusal
-certificate_due bytes = if nat_lt most_bytes (length bytes) then Err long_certificate else certificate_or_refusal (cert_text.outcome bytes)

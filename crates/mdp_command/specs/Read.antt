@@ -3,11 +3,7 @@ use Rattle.std.specs.Prelude.{◌≡◌, ◌⊎◌, Bool, true, false, List, ℕ
 use Rattle.mdp_spec.specs.Mdp.{Mdp}
 use Rattle.mdp_rows.specs.declared.rule.RowRule.{RowRule}
 use Rattle.mdp_drn.specs.FromSource.{HadLeft}
-use Rattle.mdp_cert.specs.Cert.{Certificate}
-use Rattle.mdp_cert.specs.Plain.{plain}
-use Rattle.mdp_cert.specs.declared.cert.Cert.{Cert}
-use Rattle.mdp_job.specs.Refusal.{PlainRefusal, plain_refusal, model_text, read_model, long_model, read_certificate, no_memory}
-use Rattle.mdp_job.specs.declared.refusal.Refusal.{Refusal}
+use Rattle.mdp_job.specs.Refusal.{PlainRefusal, model_text, read_model, long_model, read_certificate, no_memory}
 use Rattle.mdp_command.specs.Files.{model_due, IsDueToModel}
 use Rattle.mdp_command.specs.Said.{Said}
 use Rattle.mdp_command.specs.Streams.{Input, HasFailed, IsStill}
@@ -33,10 +29,6 @@ pub record IsSaidOfBytes (told : Option (List ℕ)) (due : List ℕ → Said →
 -- a file, where this is due to its bytes; or a fault that was counted, or want of memory
 abbrev pub IsReadAs : Input → (List ℕ → Said → Type 0) → PlainRefusal → Said → Type 0
 IsReadAs file due fault said = (IsSaidOfBytes file.before due said × IsStill file) ⊎ (((said ≡ Err fault) × HasFailed file) ⊎ (said ≡ Err no_memory))
-
-abbrev pub plain_certificate : Result Cert Refusal → Result Certificate PlainRefusal
-plain_certificate (Ok c) = Ok (plain c)
-plain_certificate (Err refusal) = Err (plain_refusal refusal)
 
 -- ---- a command that reads the model alone
 

@@ -2,12 +2,11 @@ ghost use Rattle.std.specs.Prelude.{◌≡◌, ◌⊎◌, Err, OnOk, IfOk};
 ghost use Rattle.std.specs.Io.KnownBytes.{IsAtEnd};
 ghost use Rattle.mdp_spec.specs.Row.{IsMdp};
 ghost use Rattle.mdp_job.specs.Refusal.{read_model, read_certificate};
-ghost use Rattle.mdp_command.specs.Files.{model_due, second_due, certificate_due};
-ghost use Rattle.mdp_command.specs.Read.{IsRead, plain_certificate};
+ghost use Rattle.mdp_command.specs.Files.{model_due, second_due};
+ghost use Rattle.mdp_command.specs.Read.{IsRead};
 ghost use Rattle.mdp_command.specs.Said.{said, plain_error};
 ghost use Rattle.mdp_command.specs.Streams.{input};
 
-use mdp_cert::{Cert, CertError, read_cert};
 use mdp_drn::{FromError, read_from};
 use mdp_edge::{InError, Source, read_all};
 use mdp_job::Refusal;
@@ -46,21 +45,5 @@ pub fn read_second<S: Source>(alloc: Global, source: &mut S) -> Result<Vec<u8>, 
         Err(InError::ReadFault) => Err(Refusal::ReadCertificate),
         Err(InError::Long) => Err(Refusal::LongCertificate),
         Err(InError::Memory) => Err(Refusal::Memory),
-    }
-}
-
-/// The certificate of which a source's bytes are the text.
-pub fn read_certificate<S: Source>(alloc: Global, source: &mut S) -> Result<Cert, Refusal>
-    ensures read { IsRead (input S.left S.faults source.old source.new) certificate_due read_certificate (plain_certificate result) }
-    ensures end { OnOk result (IsAtEnd (S.left source.new)) }
-{
-    let bytes = match read_second(alloc, source) {
-        Ok(bytes) => bytes,
-        Err(refusal) => return Err(refusal),
-    };
-    match read_cert(alloc, &bytes) {
-        Ok(cert) => Ok(cert),
-        Err(CertError::At { line, kind }) => Err(Refusal::CertText { line, kind }),
-        Err(CertError::Memory) => Err(Refusal::Memory),
     }
 }

@@ -8,11 +8,12 @@ use Rattle.mdp_bounds_text.specs.Cert.{Certificate}
 use Rattle.mdp_bounds_text.specs.Reading.{outcome}
 use Rattle.mdp_bounds_text.specs.Spelling.{text_of}
 use Rattle.mdp_check.specs.Bounds.{IsBoundsAccepted, IsBoundsTrue}
+use Rattle.mdp_command.specs.Accepted.{IsTrueClaimBy}
 use Rattle.mdp_command.specs.Files.{most_bytes}
 use Rattle.mdp_command.specs.Read.{IsWorkOnModel}
 use Rattle.mdp_command.specs.Said.{Said}
 use Rattle.mdp_command.specs.Streams.{Input}
-use Rattle.mdp_command_bounds.specs.Accepted.{IsTrueClaim}
+use Rattle.mdp_checking.specs.Kinds.{between}
 use Rattle.mdp_command_bounds_search.specs.Due.{IsBoundsDue}
 
 -- the text of a certificate of this claim for the model, which reads as it; all rules hold, and the claim is true
@@ -28,7 +29,7 @@ pub record IsBoundsPrinted (dir : Dir) (label : List ℕ) (m : Mdp) (text : List
 -- `bounds-check` accepts the text with the model's bytes, and its claim, which is this one, is true: the best probabilities lie between its lower and its
 -- upper values
 pub record IsBoundsSolved (rule : RowRule) (dir : Dir) (label : List ℕ) (model_bytes text : List ℕ) : Type 0 where
-  pub true_claim : IsTrueClaim rule model_bytes text
+  pub true_claim : IsTrueClaimBy between rule model_bytes text
   pub claim : true_claim.accepted.cert.claim ≡ reach dir label
   pub spelled : text ≡ text_of true_claim.accepted.cert
 

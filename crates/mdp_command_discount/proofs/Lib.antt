@@ -2,4 +2,3 @@ mod Examples
 pub mod TextLength
 pub mod Printing
 pub mod Solved
-pub mod Accepting

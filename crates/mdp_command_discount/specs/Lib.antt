@@ -1,4 +1,3 @@
 pub mod Due
-pub mod Accepted
 pub mod Shown
 pub mod Laws

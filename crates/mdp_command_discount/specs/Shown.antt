@@ -1,4 +1,4 @@
--- What is shown of the text that `discount` prints, and of a `yes` of `discount-check`.
+-- What is shown of the text that `discount` prints.
 use Rattle.std.specs.Prelude.{◌≡◌, ℕ, ◌≤◌, List, length, Ok}
 use Rattle.mdp_math.specs.Rational.{ℚ}
 use Rattle.mdp_spec.specs.Mdp.{Mdp}
@@ -8,12 +8,13 @@ use Rattle.mdp_discount_rules.specs.Cert.{Certificate}
 use Rattle.mdp_discount_rules.specs.Check.{IsAccepted, IsBound}
 use Rattle.mdp_discount_text.specs.Spelling.{text_of}
 use Rattle.mdp_discount_text.specs.Text.{outcome}
+use Rattle.mdp_command.specs.Accepted.{IsTrueClaimBy}
 use Rattle.mdp_command.specs.Files.{most_bytes}
-use Rattle.mdp_command.specs.Read.{IsWorkOnModel, IsWorkOnPair}
+use Rattle.mdp_command.specs.Read.{IsWorkOnModel}
 use Rattle.mdp_command.specs.Said.{Said}
 use Rattle.mdp_command.specs.Streams.{Input}
-use Rattle.mdp_command_discount.specs.Accepted.{IsTrueClaim}
-use Rattle.mdp_command_discount.specs.Due.{IsDiscountDue, IsDiscountCheckDue}
+use Rattle.mdp_checking.specs.Kinds.{discounted}
+use Rattle.mdp_command_discount.specs.Due.{IsDiscountDue}
 
 -- the claim is that of this direction, this name and this factor
 pub record ClaimsSo (dir : Dir) (name : List ℕ) (f : ℚ) (c : Certificate) : Type 0 where
@@ -34,14 +35,10 @@ pub record IsDiscountPrinted (dir : Dir) (name : List ℕ) (f : ℚ) (m : Mdp) (
 -- `discount-check` accepts the text with the model's bytes, and its claim, which is this one, is true: the values are the best ones, and the policy
 -- comes close to them
 pub record IsDiscountSolved (rule : RowRule) (dir : Dir) (name : List ℕ) (f : ℚ) (model_bytes text : List ℕ) : Type 0 where
-  pub true_claim : IsTrueClaim rule model_bytes text
+  pub true_claim : IsTrueClaimBy discounted rule model_bytes text
   pub claim : ClaimsSo dir name f true_claim.accepted.cert
   pub spelled : text ≡ text_of true_claim.accepted.cert
 
 -- discounted rewards of the model of a source: what is due to the bytes that it had, and what is shown of a text; or a fault, or want of memory
 abbrev pub IsDiscountRead : RowRule → Dir → List ℕ → ℚ → Input → Said → Type 0
 IsDiscountRead rule dir name f = IsWorkOnModel rule (IsDiscountDue dir name f) (IsDiscountSolved rule dir name f)
-
--- what `discount-check` makes of its files: what is due to their bytes, and what is shown of a `yes`; or a fault that was counted, or want of memory
-abbrev pub IsDiscountCheckRead : RowRule → Input → Input → Said → Type 0
-IsDiscountCheckRead rule = IsWorkOnPair rule IsDiscountCheckDue (λ model cert text. IsTrueClaim rule model cert)

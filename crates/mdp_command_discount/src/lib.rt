@@ -1,10 +1,8 @@
-//! The commands `discount` and `discount-check`: the best discounted rewards of a model with a certificate, and such a certificate held against a model.
+//! The command `discount`: the best discounted rewards of a model, with a certificate.
 #![tactic(auto)]
 
-mod checking;
 mod laws;
 mod solving;
 
-pub use checking::discount_check_files;
 pub use laws::discount_step_law;
 pub use solving::discount_file;

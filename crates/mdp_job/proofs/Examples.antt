@@ -8,12 +8,12 @@ use Rattle.mdp_num.specs.Numeral.{parts_of, numeral_of}
 use Rattle.mdp_num.specs.Value.{spelling}
 use Rattle.mdp_rows.specs.declared.rule.RowRule.TheVariants.{Exact, Scaled}
 use Rattle.mdp_rows.specs.declared.dir.Dir.TheVariants.{Max, Min}
-use Rattle.mdp_job.specs.Job.{reach, reward, mean, solve, witness, check, drill, horizon, policy, discount, discount_check, bounds, bounds_check}
+use Rattle.mdp_job.specs.Job.{reach, reward, mean, solve, witness, check, drill, horizon, policy, discount, discount_check, bounds, bounds_check, files_of}
 use Rattle.mdp_job.specs.Refusal.{no_job, query_init, below}
 use Rattle.mdp_job.specs.Status.{code_of, status_of}
 use Rattle.mdp_job.specs.Text.{text_of}
-use Rattle.mdp_job.specs.Words.{job_of_texts}
-use Rattle.mdp_job.specs.declared.words_error.WordsError.TheVariants.{Command, Number, Rows, Direction, Objective, Threshold, Drill, Steps, Factor, Digits}
+use Rattle.mdp_job.specs.Words.{job_of_texts, path_at}
+use Rattle.mdp_job.specs.declared.words_error.WordsError.TheVariants.{Command, Number, Rows, Direction, Objective, Threshold, Drill, Steps, Factor, Digits, Encoding}
 
 no_words : job_of_texts [] ≡ Err Command
 no_words = refl
@@ -30,6 +30,19 @@ other_rule = refl
 
 a_check : job_of_texts (codes "check" ∷ codes "m" ∷ codes "scaled" ∷ codes "c" ∷ []) ≡ Ok (check Scaled)
 a_check = refl
+
+-- the files of a check are its first and its third word
+model_of_check : path_at (codes "check" ∷ codes "m" ∷ codes "scaled" ∷ codes "c" ∷ []) (files_of (Ok (check Scaled))).model ≡ codes "m"
+model_of_check = refl
+
+cert_of_check : path_at (codes "check" ∷ codes "m" ∷ codes "scaled" ∷ codes "c" ∷ []) (files_of (Ok (check Scaled))).second ≡ codes "c"
+cert_of_check = refl
+
+no_second : path_at (codes "horizon" ∷ codes "m" ∷ []) None ≡ []
+no_second = refl
+
+encoding_text : text_of (no_job Encoding) ≡ codes "words encoding" ++ 10 ∷ []
+encoding_text = refl
 
 -- `solve`: fewer than five words, the row rule, the direction, the objective, and its number of words, in this order
 four_words : job_of_texts (codes "solve" ∷ codes "m" ∷ codes "EXACT" ∷ codes "best" ∷ []) ≡ Err Number

@@ -34,6 +34,7 @@ words_word words.Drill = codes "drill"
 words_word words.Steps = codes "steps"
 words_word words.Factor = codes "factor"
 words_word words.Digits = codes "digits"
+words_word words.Encoding = codes "encoding"
 
 unfoldable pub drn_word : DrnKind → List ℕ
 drn_word drn.Header = codes "header"

@@ -30,7 +30,7 @@ use Rattle.mdp_rows.specs.declared.dir.Dir.{Dir}
 use Rattle.mdp_rows.specs.declared.dir.Dir.TheVariants.{Max, Min}
 use Rattle.mdp_rows.specs.declared.rule.RowRule.{RowRule}
 use Rattle.mdp_rows.specs.declared.rule.RowRule.TheVariants.{Exact, Scaled}
-use Rattle.mdp_job.specs.Job.{PlainQuery, reach, reward, mean, solve, witness, check, drill, horizon, policy, discount, discount_check, bounds, bounds_check, Asked}
+use Rattle.mdp_job.specs.Job.{PlainQuery, reach, reward, mean, solve, witness, check, drill, horizon, policy, discount, discount_check, bounds, bounds_check, Asked, files_of}
 use Rattle.mdp_job.specs.declared.words_error.WordsError.{WordsError}
 use Rattle.mdp_job.specs.declared.words_error.WordsError.TheVariants.{Command, Number, Rows, Direction, Objective, Threshold, Drill, Steps, Factor, Digits}
 
@@ -45,9 +45,13 @@ rule_of word = if bytes_eq word (codes "exact") then Ok Exact else (if bytes_eq 
 abbrev pub dir_of : List ℕ → Result Dir WordsError
 dir_of word = if bytes_eq word (codes "max") then Ok Max else (if bytes_eq word (codes "min") then Ok Min else Err Direction)
 
+-- the row rule of the words MODEL ROWS CERT
+abbrev pub rows_of : List (List ℕ) → Result RowRule WordsError
+rows_of words = if length words == 3 then rule_of (word_at words 1) else Err Number
+
 -- the words behind `check`
 abbrev pub check_of : List (List ℕ) → Asked
-check_of words = if length words == 3 then (rule_of (word_at words 1) >>= λ rule. Ok (check rule)) else Err Number
+check_of words = rows_of words >>= λ rule. Ok (check rule)
 
 -- the words behind `solve`: how many there are at least, the row rule, the direction, the objective, and how many words that has
 abbrev pub reach_of : List (List ℕ) → Result PlainQuery WordsError
@@ -147,7 +151,7 @@ discount_of words =
 
 -- the words behind `discount-check`
 abbrev pub discount_check_of : List (List ℕ) → Asked
-discount_check_of words = if length words == 3 then (rule_of (word_at words 1) >>= λ rule. Ok (discount_check rule)) else Err Number
+discount_check_of words = rows_of words >>= λ rule. Ok (discount_check rule)
 
 -- whether the first byte is `0`
 abbrev pub begins_with_zero : List ℕ → Bool
@@ -179,7 +183,7 @@ bounds_of words =
 
 -- the words behind `bounds-check`
 abbrev pub bounds_check_of : List (List ℕ) → Asked
-bounds_check_of words = if length words == 3 then (rule_of (word_at words 1) >>= λ rule. Ok (bounds_check rule)) else Err Number
+bounds_check_of words = rows_of words >>= λ rule. Ok (bounds_check rule)
 
 -- the words behind a command that is neither `solve` nor `check` nor `drill`
 abbrev pub other_of : List ℕ → List (List ℕ) → Asked
@@ -206,3 +210,17 @@ job_of_texts (command ∷ words) = job_by command words
 
 abbrev pub job_of : List (String Global) → Asked
 job_of words = job_of_texts (map string_bytes words)
+
+-- ---- the files
+
+-- the word at a place, or the empty word
+abbrev pub path_at : List (List ℕ) → Option ℕ → List ℕ
+path_at words None = []
+path_at words (Some i) = word_at words i
+
+-- the names of the model's file and of the second one; the empty name where the job reads no such file
+abbrev pub model_path : List (String Global) → List ℕ
+model_path words = path_at (map string_bytes words) (files_of (job_of words)).model
+
+abbrev pub second_path : List (String Global) → List ℕ
+second_path words = path_at (map string_bytes words) (files_of (job_of words)).second

@@ -1,6 +1,7 @@
-ghost use Rattle.std.specs.Prelude.{◌≡◌};
+ghost use Rattle.std.specs.Prelude.{◌≡◌, map};
+ghost use Rattle.std.specs.String.{string_bytes};
 ghost use Rattle.mdp_job.specs.Job.{files_of};
-ghost use Rattle.mdp_job.specs.Words.{job_of};
+ghost use Rattle.mdp_job.specs.Words.{job_of, path_at, model_path, second_path};
 
 use crate::job::{Job, job_of};
 
@@ -39,5 +40,34 @@ pub fn files_of(words: &[String]) -> Files
             model: None,
             second: None,
         },
+    }
+}
+
+/// The names of the files of a job; the empty name where the job reads no such file.
+#[derive(Clone, Copy, Debug)]
+pub struct Paths<'a> {
+    pub model: &'a str,
+    pub second: &'a str,
+}
+
+/// The word at a place, or the empty word where there is none.
+fn path_at<'a>(words: &'a [String], place: Option<usize>) -> &'a str
+    ensures { result.now ≡ path_at (map string_bytes words.now) place }
+{
+    match place {
+        Some(place) if place < words.len() => words[place].as_str(),
+        _ => "",
+    }
+}
+
+/// The words that name the files of the job.
+pub fn paths_of<'a>(words: &'a [String]) -> Paths<'a>
+    ensures model { result.model.now ≡ model_path words.now }
+    ensures second { result.second.now ≡ second_path words.now }
+{
+    let files = files_of(words);
+    Paths {
+        model: path_at(words, files.model),
+        second: path_at(words, files.second),
     }
 }

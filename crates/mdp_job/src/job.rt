@@ -3,7 +3,7 @@ ghost use Rattle.std.specs.Result.{MatchResult};
 ghost use Rattle.std.specs.String.{string_bytes};
 ghost use Rattle.mdp_math.specs.Rational.{of_int, lt_ℚ};
 ghost use Rattle.mdp_job.specs.Job.{asked, plain_query};
-ghost use Rattle.mdp_job.specs.Words.{job_of, rule_of, dir_of, reach_of, reward_of, mean_of, query_of, solve_of, threshold_of, witness_of, check_of, drill_by};
+ghost use Rattle.mdp_job.specs.Words.{job_of, rule_of, dir_of, reach_of, reward_of, mean_of, query_of, solve_of, threshold_of, witness_of, rows_of, check_of, drill_by};
 ghost use Rattle.mdp_job.specs.Words.{drill_of, stay_of, steps_of, horizon_of, policy_of, factor_of, discount_of, discount_check_of, digits_of, bounds_query_of, bounds_digits_of, bounds_of};
 ghost use Rattle.mdp_job.specs.Words.{bounds_check_of, other_of, job_by};
 
@@ -213,14 +213,21 @@ fn witness_of<'a>(words: &'a [String]) -> Result<Job<'a>, WordsError>
     })
 }
 
-/// The job that the words behind `check` are.
-fn check_of<'a>(words: &'a [String]) -> Result<Job<'a>, WordsError>
-    ensures { asked result ≡ check_of (map string_bytes words.now) }
+/// The row rule of the words MODEL ROWS CERT, with which a certificate is held against a model.
+pub fn rows_of(words: &[String]) -> Result<RowRule, WordsError>
+    ensures { result ≡ rows_of (map string_bytes words.now) }
 {
     let [_, rows, _] = words else {
         return Err(WordsError::Number);
     };
-    let rule = rule_of(rows.as_str())?;
+    rule_of(rows.as_str())
+}
+
+/// The job that the words behind `check` are.
+fn check_of<'a>(words: &'a [String]) -> Result<Job<'a>, WordsError>
+    ensures { asked result ≡ check_of (map string_bytes words.now) }
+{
+    let rule = rows_of(words)?;
     Ok(Job::Check { rule })
 }
 
@@ -319,10 +326,7 @@ fn discount_of<'a>(words: &'a [String]) -> Result<Job<'a>, WordsError>
 fn discount_check_of<'a>(words: &'a [String]) -> Result<Job<'a>, WordsError>
     ensures { asked result ≡ discount_check_of (map string_bytes words.now) }
 {
-    let [_, rows, _] = words else {
-        return Err(WordsError::Number);
-    };
-    let rule = rule_of(rows.as_str())?;
+    let rule = rows_of(words)?;
     Ok(Job::DiscountCheck { rule })
 }
 
@@ -383,10 +387,7 @@ fn bounds_of<'a>(words: &'a [String]) -> Result<Job<'a>, WordsError>
 fn bounds_check_of<'a>(words: &'a [String]) -> Result<Job<'a>, WordsError>
     ensures { asked result ≡ bounds_check_of (map string_bytes words.now) }
 {
-    let [_, rows, _] = words else {
-        return Err(WordsError::Number);
-    };
-    let rule = rule_of(rows.as_str())?;
+    let rule = rows_of(words)?;
     Ok(Job::BoundsCheck { rule })
 }
 

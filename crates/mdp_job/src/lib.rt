@@ -8,8 +8,8 @@ mod refusal;
 mod status;
 mod words_error;
 
-pub use files::{Files, files_of};
-pub use job::{Job, Query, job_of};
+pub use files::{Files, Paths, files_of, paths_of};
+pub use job::{Job, Query, job_of, rows_of};
 pub use refusal::{MEMORY_TEXT, Refusal, push_refusal};
 pub use status::Status;
 pub use words_error::WordsError;

@@ -125,6 +125,7 @@ fn words_word(error: WordsError) -> &'static str
         WordsError::Steps => "steps",
         WordsError::Factor => "factor",
         WordsError::Digits => "digits",
+        WordsError::Encoding => "encoding",
     }
 }
 

@@ -21,4 +21,6 @@ pub enum WordsError {
     Factor = 9,
     /// The digits of `bounds` aren't a whole number from 1 to 30, without leading zeros.
     Digits = 10,
+    /// A word isn't UTF-8. It is answered before all others.
+    Encoding = 11,
 }

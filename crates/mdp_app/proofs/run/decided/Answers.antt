@@ -1,9 +1,7 @@
 use Rattle.std.proofs.Common.{refl, sym, ap, ◌∙◌}
 use Rattle.mdp_job.specs.Job.{plain_job}
 use Rattle.mdp_job.specs.declared.job.Job.{Job}
-use Rattle.mdp_command.specs.Files.{model_due}
 use Rattle.mdp_app.specs.InRange.{asked_for}
-use Rattle.mdp_app.proofs.Accepting.{check_due_by}
 use Rattle.mdp_app.proofs.Deciding.{refused_words, alone_decided, model_decided, pair_decided, decided_as}
 use Rattle.mdp_app.proofs.InRange.{in_range_of, can_draw_of}
 use Rattle.mdp_app.proofs.run.decided.Goals as goal
@@ -27,8 +25,8 @@ returns-in-Witness g c =
 pub returns-in-Check : goal.returns-in-Check
 returns-in-Check g c =
     decided_as _ _ _ _ _ (sym (ap (λ (job : Job). asked_for (plain_job job)) c.in-Check.is) ∙ c.in-Ok.ensures)
-    (pair_decided _ _ _ _ _ _ refl refl (λ bytes other said due. check_due_by other (model_due _ bytes) said due) (λ bytes other text shown. shown) (λ bytes read. read) _ c.check_files.ensures.read
-    c.check_files.ensures.model_first c.check_files.ensures.model_end c.check_files.ensures.cert_end)
+    (pair_decided _ _ _ _ _ _ refl refl (λ bytes other said due. due) (λ bytes other text shown. shown) (λ bytes read. read) _ c.check_files.ensures.read
+    c.check_files.ensures.unread c.check_files.ensures.model_end c.check_files.ensures.second_end)
 
 pub drill-requires-clause-some_layers : goal.drill-requires-clause-some_layers
 drill-requires-clause-some_layers g c = (can_draw_of c.in-Drill.number c.in-Drill.layers c.in-Drill.width (in_range_of c.args.words.now _ (sym (ap (λ (job : Job). asked_for (plain_job job)) c.in-Drill.is) ∙ c.in-Ok.ensures))).some_layers
@@ -69,8 +67,8 @@ returns-in-Discount g c =
 pub returns-in-DiscountCheck : goal.returns-in-DiscountCheck
 returns-in-DiscountCheck g c =
     decided_as _ _ _ _ _ (sym (ap (λ (job : Job). asked_for (plain_job job)) c.in-DiscountCheck.is) ∙ c.in-Ok.ensures)
-    (pair_decided _ _ _ _ _ _ refl refl (λ bytes other said due. due) (λ bytes other text shown. shown) (λ bytes read. read) _ c.discount_check_files.ensures.read
-    c.discount_check_files.ensures.unread c.discount_check_files.ensures.model_end c.discount_check_files.ensures.second_end)
+    (pair_decided _ _ _ _ _ _ refl refl (λ bytes other said due. due) (λ bytes other text shown. shown) (λ bytes read. read) _ c.check_files.ensures.read
+    c.check_files.ensures.unread c.check_files.ensures.model_end c.check_files.ensures.second_end)
 
 pub returns-in-Bounds : goal.returns-in-Bounds
 returns-in-Bounds g c =
@@ -80,5 +78,5 @@ returns-in-Bounds g c =
 pub returns-in-BoundsCheck : goal.returns-in-BoundsCheck
 returns-in-BoundsCheck g c =
     decided_as _ _ _ _ _ (sym (ap (λ (job : Job). asked_for (plain_job job)) c.in-BoundsCheck.is) ∙ c.in-Ok.ensures)
-    (pair_decided _ _ _ _ _ _ refl refl (λ bytes other said due. due) (λ bytes other text shown. shown) (λ bytes read. read) _ c.bounds_check_files.ensures.read
-    c.bounds_check_files.ensures.unread c.bounds_check_files.ensures.model_end c.bounds_check_files.ensures.second_end)
+    (pair_decided _ _ _ _ _ _ refl refl (λ bytes other said due. due) (λ bytes other text shown. shown) (λ bytes read. read) _ c.check_files.ensures.read
+    c.check_files.ensures.unread c.check_files.ensures.model_end c.check_files.ensures.second_end)

@@ -1,0 +1,116 @@
+-- What a run answers, from what was decided and what was written.
+use Rattle.std.proofs.Common.{◌≡◌, ◌⊎◌, ℕ, inl, inr, List, Option, Some, None, Result, Ok, Err, OnOk, IsTrue, refl, sym, ap, subst, ◌∙◌}
+use Rattle.std.specs.Io.KnownBytes.{IsAtEnd}
+use Rattle.mdp_spec.specs.Mdp.{Mdp}
+use Rattle.mdp_rows.specs.declared.rule.RowRule.{RowRule}
+use Rattle.mdp_drn.specs.FromSource.{HadLeft}
+use Rattle.mdp_job.specs.Refusal.{PlainRefusal, no_job, no_memory, read_model, read_certificate}
+use Rattle.mdp_job.specs.declared.status.Status.{Status}
+use Rattle.mdp_job.specs.declared.status.Status.TheVariants as status
+use Rattle.mdp_job.specs.declared.words_error.WordsError.{WordsError}
+use Rattle.mdp_command.proofs.Statuses.{done_text, ends_as}
+use Rattle.mdp_command.specs.Accepted.{AcceptedBy}
+use Rattle.mdp_command.specs.Answered.{yes_text}
+use Rattle.mdp_command.specs.Files.{model_due, IsDueToModel}
+use Rattle.mdp_command.specs.Read.{is_of_model}
+use Rattle.mdp_command.specs.Said.{Said, said_status}
+use Rattle.mdp_command.specs.Streams.{Input, Output}
+use Rattle.mdp_command.specs.Written.{WroteAll, Wrote, EndsWith}
+use Rattle.mdp_checking.specs.Due.{IsCheckDue}
+use Rattle.mdp_checking.specs.Kinds.{kind_of, checker_of}
+use Rattle.mdp_checking.specs.Laws.{YesIsAccepted}
+use Rattle.mdp_checking.specs.Shown.{IsCheckRead}
+use Rattle.mdp_checking.specs.declared.kind.CertificateKind.{CertificateKind}
+use Rattle.mdp_checker.specs.Run.{HasCause, IsDecided, IsAnswered, IsYesTrue, IsYesUnless, IsComplete}
+use Rattle.mdp_checker.specs.Words.{Asked}
+
+-- ---- what is decided
+
+pub words_decided : (asked : Asked) (e : WordsError) (model cert : Input) → Err e ≡ asked → model.same → cert.same → IsDecided asked model cert (Err (no_job e))
+words_decided asked e model cert is no_model no_cert =
+    subst (λ (x : Asked). IsDecided x model cert (Err (no_job e))) is (record { cause = record { says = inl refl; no_model = no_model; no_cert = no_cert }; ends = tt })
+
+both_ends : (said : Said) (P Q : Type 0) → OnOk said P → OnOk said Q → OnOk said (P × Q)
+both_ends (Ok text) P Q p q = (p, q)
+both_ends (Err r) P Q p q = tt
+
+pub check_decided : (asked : Asked) (rule : RowRule) (model cert : Input) (said : Said) → Ok rule ≡ asked → IsCheckRead None rule model cert said → (IsTrue (is_of_model said) → cert.same)
+    → OnOk said (IsAtEnd model.after) → OnOk said (IsAtEnd cert.after) → IsDecided asked model cert said
+check_decided asked rule model cert said is read unread model_end cert_end =
+    subst (λ (x : Asked). IsDecided x model cert said) is
+    (record { cause = record { read = read; unread = unread }; ends = both_ends said (IsAtEnd model.after) (IsAtEnd cert.after) model_end cert_end })
+
+-- ---- what is answered
+
+module _ (model cert : Input) (out : Output) (ended : Status) where
+  memory_cause : (asked : Asked) (said : Said) → HasCause asked model cert said → HasCause asked model cert (Err no_memory)
+  memory_cause (Ok rule) said cause = record { read = inr (inr (inr refl)); unread = λ h. cc }
+  memory_cause (Err e) said cause = record { says = inr refl; no_model = cause.no_model; no_cert = cause.no_cert }
+
+  pub answered : (asked : Asked) (said : Said) → IsDecided asked model cert said → EndsWith ended out said → IsAnswered asked model cert out ended
+  answered asked said d (inl w) = record { said = said; cause = d.cause; written = w }
+  answered asked said d (inr w) = record { said = Err no_memory; cause = memory_cause asked said d.cause; written = w }
+
+  -- ---- yes
+
+  yes_read : (rule : RowRule) (text : List ℕ) → IsCheckRead None rule model cert (Ok text) → IsAtEnd model.after → IsAtEnd cert.after → WroteAll out text → IsYesTrue (Ok rule) model cert out
+  yes_read rule text (inl from) model_end cert_end w = record {
+    rule = rule;
+    words = refl;
+    model_bytes = from.model_bytes;
+    cert_bytes = from.second_bytes;
+    had_model = from.had_model;
+    had_cert = from.had_second;
+    true_claim = from.shown.true_claim;
+    model_end = model_end;
+    cert_end = cert_end;
+    written = subst (λ (t : List ℕ). WroteAll out t) from.shown.yes w;
+  }
+  yes_read rule text (inr (inl failed)) model_end cert_end w = cc (failed.0)
+  yes_read rule text (inr (inr (inl failed))) model_end cert_end w = cc (failed.says)
+  yes_read rule text (inr (inr (inr memory))) model_end cert_end w = cc memory
+
+  no_text : (e : WordsError) (text : List ℕ) → (Ok text ≡ Err (no_job e)) ⊎ (Ok text ≡ Err no_memory) → ⊥
+  no_text e text (inl h) = cc h
+  no_text e text (inr h) = cc h
+
+  yes_text_true : (asked : Asked) (text : List ℕ) → IsDecided asked model cert (Ok text) → WroteAll out text → IsYesTrue asked model cert out
+  yes_text_true (Ok rule) text d w = yes_read rule text d.cause.read d.ends.0 d.ends.1 w
+  yes_text_true (Err e) text d w = absurd (no_text e text d.cause.says)
+
+  pub yes_true : (asked : Asked) (said : Said) → IsDecided asked model cert said → EndsWith ended out said → ended ≡ status.Done → IsYesTrue asked model cert out
+  yes_true asked said d w is =
+      let t = done_text ended out said w is in
+      yes_text_true asked t.0 (subst (λ (x : Said). IsDecided asked model cert x) t.2.0 d) t.2.1
+
+  -- ---- bytes that are accepted
+
+  said_once : (text : List ℕ) (read : Result Mdp PlainRefusal) (said again : Said) → IsDueToModel (λ m. IsCheckDue None m text) read said → IsDueToModel (λ m. IsCheckDue None m text) read again
+      → said ≡ again
+  said_once text (Ok m) said again d e = d ∙ sym e
+  said_once text (Err r) said again d e = d ∙ sym e
+
+  had : (told : Option (List ℕ)) (bytes found : List ℕ) → told ≡ Some bytes → HadLeft told found → found ≡ bytes
+  had told bytes found is h = subst (λ (t : Option (List ℕ)). HadLeft t found) is h
+
+  module _ (rule : RowRule) (model_bytes cert_bytes : List ℕ) (told : model.before ≡ Some model_bytes) (told_cert : cert.before ≡ Some cert_bytes)
+      (yes : IsDueToModel (λ m. IsCheckDue None m cert_bytes) (model_due rule model_bytes) (Ok yes_text)) where
+    by_cause : (said : Said) → Wrote ended out said → IsCheckRead None rule model cert said → IsYesUnless model cert out ended
+    by_cause said w (inl from) =
+        let due = subst (λ (x : List ℕ). IsDueToModel (λ m. IsCheckDue None m cert_bytes) (model_due rule x) said) (had model.before model_bytes from.model_bytes told from.had_model)
+        (subst (λ (x : List ℕ). IsDueToModel (λ m. IsCheckDue None m x) (model_due rule from.model_bytes) said) (had cert.before cert_bytes from.second_bytes told_cert from.had_second) from.is_due) in
+        ends_as ended out said status.Done (IsYesUnless model cert out ended) (ap said_status (said_once cert_bytes (model_due rule model_bytes) said (Ok yes_text) due yes)) w inl
+        (λ h. inr (inr (inr h)))
+    by_cause said w (inr (inl failed)) =
+        ends_as ended out said status.ReadFault (IsYesUnless model cert out ended) (ap said_status failed.0) w (λ e. inr (inr (inl (e, inl failed.1)))) (λ h. inr (inr (inr h)))
+    by_cause said w (inr (inr (inl failed))) =
+        ends_as ended out said status.ReadFault (IsYesUnless model cert out ended) (ap said_status failed.says) w (λ e. inr (inr (inl (e, inr failed.fault)))) (λ h. inr (inr (inr h)))
+    by_cause said w (inr (inr (inr memory))) =
+        ends_as ended out said status.Memory (IsYesUnless model cert out ended) (ap said_status memory) w (λ e. inr (inl e)) (λ h. inr (inr (inr h)))
+
+  pub complete : ((kind : CertificateKind) → YesIsAccepted (checker_of kind)) → (asked : Asked) → IsAnswered asked model cert out ended → IsComplete asked model cert out ended
+  complete accepts (Ok asked) a rule model_bytes cert_bytes is told told_cert holds =
+      let same : asked ≡ rule = cc is in
+      by_cause rule model_bytes cert_bytes told told_cert ((accepts (kind_of cert_bytes) rule model_bytes cert_bytes yes_text).1 (refl, holds)) a.said a.written
+      (subst (λ (r : RowRule). IsCheckRead None r model cert a.said) same a.cause.read)
+  complete accepts (Err e) a rule model_bytes cert_bytes is told told_cert holds = cc is

@@ -1,0 +1,88 @@
+-- What a run answers and why, and what is true where it says yes.
+use Rattle.std.specs.Prelude.{◌≡◌, ◌⊎◌, ℕ, List, Some, None, Ok, Err, OnOk, IsTrue}
+use Rattle.std.specs.Io.KnownBytes.{IsAtEnd}
+use Rattle.mdp_rows.specs.declared.rule.RowRule.{RowRule}
+use Rattle.mdp_drn.specs.FromSource.{HadLeft}
+use Rattle.mdp_edge.specs.Faults.{FaultCounted}
+use Rattle.mdp_job.specs.Refusal.{no_job, no_memory}
+use Rattle.mdp_job.specs.declared.status.Status.{Status}
+use Rattle.mdp_job.specs.declared.status.Status.TheVariants.{Done, ReadFault, WriteFault, Memory}
+use Rattle.mdp_job.specs.declared.words_error.WordsError.{WordsError}
+use Rattle.mdp_command.specs.Accepted.{AcceptedBy, IsTrueClaimBy}
+use Rattle.mdp_command.specs.Answered.{yes_text}
+use Rattle.mdp_command.specs.Read.{is_of_model}
+use Rattle.mdp_command.specs.Said.{Said}
+use Rattle.mdp_command.specs.Streams.{Input, HasFailed, Output}
+use Rattle.mdp_command.specs.Written.{WroteAll, Wrote}
+use Rattle.mdp_checking.specs.Kinds.{kind_of, checker_of}
+use Rattle.mdp_checking.specs.Shown.{IsCheckRead}
+use Rattle.mdp_checker.specs.Words.{Asked}
+
+-- ---- why an answer may come
+
+-- the words are refused, and no source is read
+pub record IsRefused (e : WordsError) (model cert : Input) (said : Said) : Type 0 where
+  pub says : (said ≡ Err (no_job e)) ⊎ (said ≡ Err no_memory)
+  pub no_model : model.same
+  pub no_cert : cert.same
+
+-- what is due to the bytes of the two sources, by the kind that the certificate's first line names; or a fault that was counted, or want of memory.
+-- Where the model is refused, the certificate isn't read
+pub record IsChecked (rule : RowRule) (model cert : Input) (said : Said) : Type 0 where
+  pub read : IsCheckRead None rule model cert said
+  pub unread : IsTrue (is_of_model said) → cert.same
+
+abbrev pub HasCause : Asked → Input → Input → Said → Type 0
+HasCause (Ok rule) model cert said = IsChecked rule model cert said
+HasCause (Err e) model cert said = IsRefused e model cert said
+
+-- what is decided before anything is written: an answer with its cause, and where it is a text, both sources are at their ends
+pub record IsDecided (asked : Asked) (model cert : Input) (said : Said) : Type 0 where
+  pub cause : HasCause asked model cert said
+  pub ends : OnOk said (IsAtEnd model.after × IsAtEnd cert.after)
+
+-- some answer has its cause, and was written
+pub record IsAnswered (asked : Asked) (model cert : Input) (out : Output) (ended : Status) : Type 0 where
+  pub said : Said
+  pub cause : HasCause asked model cert said
+  pub written : Wrote ended out said
+
+-- ---- yes
+
+-- `yes` was written, the bytes that the sources had left read as a model and as a certificate that is accepted for it, and the claim of the certificate
+-- is true of the model; both sources were read to their ends
+pub record IsYesTrue (asked : Asked) (model cert : Input) (out : Output) : Type 0 where
+  pub rule : RowRule
+  pub words : asked ≡ Ok rule
+  pub model_bytes : List ℕ
+  pub cert_bytes : List ℕ
+  pub had_model : HadLeft model.before model_bytes
+  pub had_cert : HadLeft cert.before cert_bytes
+  pub true_claim : IsTrueClaimBy (checker_of (kind_of cert_bytes)) rule model_bytes cert_bytes
+  pub model_end : IsAtEnd model.after
+  pub cert_end : IsAtEnd cert.after
+  pub written : WroteAll out yes_text
+
+-- ---- no other answer to bytes that are accepted
+
+-- yes is said, but for want of memory and for faults that were counted
+abbrev pub IsYesUnless : Input → Input → Output → Status → Type 0
+IsYesUnless model cert out ended =
+    (ended ≡ Done)
+    ⊎ ((ended ≡ Memory)
+    ⊎ (((ended ≡ ReadFault) × (HasFailed model ⊎ HasFailed cert))
+    ⊎ ((ended ≡ WriteFault) × FaultCounted out.faults_before out.faults_after)))
+
+-- where the bytes that the sources told are accepted
+abbrev pub IsComplete : Asked → Input → Input → Output → Status → Type 0
+IsComplete asked model cert out ended =
+    (rule : RowRule) (model_bytes cert_bytes : List ℕ) → asked ≡ Ok rule → model.before ≡ Some model_bytes → cert.before ≡ Some cert_bytes
+    → AcceptedBy (checker_of (kind_of cert_bytes)) rule model_bytes cert_bytes
+    → IsYesUnless model cert out ended
+
+-- ---- the whole
+
+pub record HasRun (asked : Asked) (model cert : Input) (out : Output) (ended : Status) : Type 0 where
+  pub answer : IsAnswered asked model cert out ended
+  pub done : ended ≡ Done → IsYesTrue asked model cert out
+  pub complete : IsComplete asked model cert out ended

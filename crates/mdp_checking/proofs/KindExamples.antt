@@ -1,0 +1,31 @@
+-- The kind that the first line of a text names.
+use Rattle.std.proofs.Common.{◌≡◌, [], ◌∷◌, ◌++◌, Some, refl}
+use Rattle.std.specs.Prelude.{codes}
+use Rattle.mdp_checking.specs.Kinds.{kind_of, chosen}
+use Rattle.mdp_checking.specs.declared.kind.CertificateKind.TheVariants.{Exact, Discounted, Bounds}
+
+of_discount : kind_of (codes "mdp-discount 1" ++ 10 ∷ codes "claim") ≡ Discounted
+of_discount = refl
+
+of_bounds : kind_of (codes "mdp-bounds 1" ++ 10 ∷ []) ≡ Bounds
+of_bounds = refl
+
+of_values : kind_of (codes "mdp-certificate 2" ++ 10 ∷ []) ≡ Exact
+of_values = refl
+
+-- another version, a line that isn't ended, and no line at all
+other_version : kind_of (codes "mdp-discount 2" ++ 10 ∷ []) ≡ Exact
+other_version = refl
+
+not_ended : kind_of (codes "mdp-bounds 1") ≡ Exact
+not_ended = refl
+
+longer_line : kind_of (codes "mdp-bounds 10" ++ 10 ∷ []) ≡ Exact
+longer_line = refl
+
+no_line : kind_of [] ≡ Exact
+no_line = refl
+
+-- a kind that is asked for comes before that of the text
+asked_for : chosen (Some Exact) (codes "mdp-bounds 1" ++ 10 ∷ []) ≡ Exact
+asked_for = refl

@@ -1,0 +1,4 @@
+mod BoundsExamples
+mod DiscountExamples
+mod KindExamples
+pub mod Accepting

@@ -1,0 +1,4 @@
+pub mod Kinds
+pub mod Due
+pub mod Shown
+pub mod Laws

@@ -1,0 +1,127 @@
+ghost use Rattle.std.specs.Prelude.{◌≡◌, ◌⊎◌, false, Err, OnOk, IsTrue};
+ghost use Rattle.std.specs.Io.KnownBytes.{IsAtEnd};
+ghost use Rattle.mdp_job.specs.Refusal.{no_memory, read_certificate};
+ghost use Rattle.mdp_command.specs.Accepted.{exact};
+ghost use Rattle.mdp_command.specs.Read.{IsReadAs, is_of_model};
+ghost use Rattle.mdp_command.specs.Said.{said};
+ghost use Rattle.mdp_command.specs.Streams.{input};
+ghost use Rattle.mdp_checking.specs.Due.{said_to_text, IsCheckDue};
+ghost use Rattle.mdp_checking.specs.Kinds.{as_answer, discounted, between, checker_of};
+ghost use Rattle.mdp_checking.specs.Shown.{IsCheckRead};
+
+use crate::kind::{CertificateKind, chosen};
+use crate::laws::check_law;
+use mdp_bounds_text::read_bounds;
+use mdp_cert::{CertError, read_cert};
+use mdp_check::{Answer, check, check_bounds};
+use mdp_command::{answered, read_model, read_second};
+use mdp_discount_rules::{DiscountAnswer, check_discount};
+use mdp_discount_text::read_discount;
+use mdp_edge::Source;
+use mdp_job::Refusal;
+use mdp_rows::{Model, RowRule};
+use std::alloc::Global;
+
+/// The answer to a certificate of discounted rewards as one of the checkers' common answers.
+fn as_answer(answer: DiscountAnswer) -> Answer
+    ensures { result ≡ as_answer answer }
+{
+    match answer {
+        DiscountAnswer::Yes => Answer::Yes,
+        DiscountAnswer::No(fault) => Answer::No(fault),
+        DiscountAnswer::Wide { state, choice } => Answer::Wide { state, choice },
+        DiscountAnswer::NoReward => Answer::NoReward,
+        DiscountAnswer::Size => Answer::Size,
+    }
+}
+
+/// Judges the text of a certificate of best values, of upper bounds or of a subsystem, then holds it against the model.
+fn of_exact(alloc: Global, model: &Model, bytes: &[u8]) -> Result<Vec<u8>, Refusal>
+    ensures due { (said result ≡ Err no_memory) ⊎ (said result ≡ said_to_text exact model.now bytes.now) }
+    ensures not_of_model { is_of_model (said result) ≡ false }
+{
+    match read_cert(alloc, bytes) {
+        Ok(cert) => answered(alloc, check(alloc, model, &cert)),
+        Err(CertError::At { line, kind }) => Err(Refusal::CertText { line, kind }),
+        Err(CertError::Memory) => Err(Refusal::Memory),
+    }
+}
+
+/// The same of a certificate of discounted rewards.
+fn of_discounted(alloc: Global, model: &Model, bytes: &[u8]) -> Result<Vec<u8>, Refusal>
+    ensures due { (said result ≡ Err no_memory) ⊎ (said result ≡ said_to_text discounted model.now bytes.now) }
+    ensures not_of_model { is_of_model (said result) ≡ false }
+{
+    match read_discount(alloc, bytes) {
+        Ok(cert) => answered(alloc, as_answer(check_discount(model, &cert))),
+        Err(CertError::At { line, kind }) => Err(Refusal::CertText { line, kind }),
+        Err(CertError::Memory) => Err(Refusal::Memory),
+    }
+}
+
+/// The same of a certificate of bounds.
+fn of_bounds(alloc: Global, model: &Model, bytes: &[u8]) -> Result<Vec<u8>, Refusal>
+    ensures due { (said result ≡ Err no_memory) ⊎ (said result ≡ said_to_text between model.now bytes.now) }
+    ensures not_of_model { is_of_model (said result) ≡ false }
+{
+    match read_bounds(alloc, bytes) {
+        Ok(cert) => answered(alloc, check_bounds(alloc, model, &cert)),
+        Err(CertError::At { line, kind }) => Err(Refusal::CertText { line, kind }),
+        Err(CertError::Memory) => Err(Refusal::Memory),
+    }
+}
+
+/// The same of a certificate of this kind.
+fn of_text(
+    alloc: Global,
+    kind: CertificateKind,
+    model: &Model,
+    bytes: &[u8],
+) -> Result<Vec<u8>, Refusal>
+    ensures due { (said result ≡ Err no_memory) ⊎ (said result ≡ said_to_text (checker_of kind) model.now bytes.now) }
+    ensures not_of_model { is_of_model (said result) ≡ false }
+{
+    match kind {
+        CertificateKind::Exact => of_exact(alloc, model, bytes),
+        CertificateKind::Discounted => of_discounted(alloc, model, bytes),
+        CertificateKind::Bounds => of_bounds(alloc, model, bytes),
+    }
+}
+
+/// Reads the certificate to its end and judges its text, then holds it against the model.
+fn of_source<C: Source>(
+    alloc: Global,
+    wanted: Option<CertificateKind>,
+    model: &Model,
+    second: &mut C,
+) -> Result<Vec<u8>, Refusal>
+    ensures read { IsReadAs (input C.left C.faults second.old second.new) (IsCheckDue wanted model.now) read_certificate (said result) }
+    ensures not_of_model { is_of_model (said result) ≡ false }
+    ensures end { OnOk (said result) (IsAtEnd (C.left second.new)) }
+{
+    match read_second(alloc, second) {
+        Ok(bytes) => of_text(alloc, chosen(wanted, &bytes), model, &bytes),
+        Err(refusal) => Err(refusal),
+    }
+}
+
+/// Reads the model to its end and judges its text, then the certificate, then holds the one against the other. The certificate is of the wanted kind, or
+/// of that which its first line names. The second source isn't read where the model is refused.
+pub fn check_files<S: Source, C: Source>(
+    alloc: Global,
+    rule: RowRule,
+    wanted: Option<CertificateKind>,
+    model: &mut S,
+    second: &mut C,
+) -> Result<Vec<u8>, Refusal>
+    ensures read { IsCheckRead wanted rule (input S.left S.faults model.old model.new) (input C.left C.faults second.old second.new) (said result) }
+    ensures unread { IsTrue (is_of_model (said result)) → second.new ≡ second.old }
+    ensures model_end { OnOk (said result) (IsAtEnd (S.left model.new)) }
+    ensures second_end { OnOk (said result) (IsAtEnd (C.left second.new)) }
+{
+    check_law();
+    match read_model(alloc, model, rule) {
+        Ok(model) => of_source(alloc, wanted, &model, second),
+        Err(refusal) => Err(refusal),
+    }
+}

@@ -1,4 +1,0 @@
-pub mod Due
-pub mod Accepted
-pub mod Shown
-pub mod Laws
