@@ -7,8 +7,6 @@
 
 mod checking;
 #[cfg(test)]
-mod command_tests;
-#[cfg(test)]
 mod hostile_tests;
 mod laws;
 mod run;

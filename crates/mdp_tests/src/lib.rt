@@ -8,8 +8,6 @@ mod graph_tests;
 #[cfg(test)]
 mod library_tests;
 #[cfg(test)]
-mod mean_tests;
-#[cfg(test)]
 mod models;
 #[cfg(test)]
 mod parts_tests;
