@@ -7,7 +7,7 @@ use mdp_graph::{
     Pass, along, may_avoid, may_reach, must_meet, rounds_outside, sure_all, sure_some,
 };
 use mdp_num::Memory;
-use mdp_rows::{Marks, Model, PolicyRows, Pred, Preds, preds_of};
+use mdp_rows::{Marks, Model, PolicyRows, Pred, Preds, RowsOf, preds_of};
 use std::alloc::{AllocError, Global};
 use std::test::Fail;
 
@@ -165,7 +165,7 @@ fn push_along(alloc: Global, model: &Model, policy: &[u32], out: &mut String) ->
     let goals = marked(alloc, model, "goal")?;
     let rows = PolicyRows { model, policy };
     let pass = along(alloc, &rows, &goals)?;
-    push_pass("along", &pass, model.states(), out)?;
+    push_pass("along", &pass, rows.count(), out)?;
     Ok(())
 }
 
