@@ -1,14 +1,12 @@
 ghost use Rattle.std.specs.Prelude.{◌≡◌, ◌<◌, ◌⊎◌, length, false, IsTrue, slice_index};
 ghost use Rattle.std.specs.List.{All, Any};
-ghost use Rattle.mdp_spec.specs.Mdp.{states_of};
-ghost use Rattle.mdp_spec.specs.Tree.{IsPolicy};
 ghost use Rattle.mdp_elim.specs.System.{is_active, row_of, Leaves};
 
-use crate::models::{marked, model_of, toward_goals};
+use crate::models::{marked, model_of};
 use mdp_elim::{Chain, ElimError, solve, visits};
-use mdp_graph::Pass;
+use mdp_graph::may_reach;
 use mdp_num::Frac;
-use mdp_rows::{Marks, Model, PolicyRows, RowsOf};
+use mdp_rows::{PolicyRows, RowsOf};
 use std::alloc::Global;
 use std::test::Fail;
 
@@ -75,40 +73,8 @@ fn fit(columns: &[Vec<Frac>], states: usize) -> bool
     columns.iter().all(|c| c.len() == states)
 }
 
-/// What `solve` answers on the rows of a policy; `None` where the chain doesn't leave its active states.
-fn solved_on(
-    alloc: Global,
-    model: &Model,
-    active: &Marks,
-    pass: &Pass,
-    columns: &[Vec<Frac>],
-) -> Option<Result<Vectors, ElimError>>
-    requires active { length active.now ≡ states_of model.now }
-    requires policy { IsPolicy model.now pass.now.choices.items }
-{
-    let rows = PolicyRows {
-        model,
-        policy: &pass.choices,
-    };
-    let states = rows.count() as usize;
-    if pass.ranks.len() != states || !fit(columns, states) {
-        return None;
-    }
-    if columns.is_empty() || columns.len() > 2 {
-        return None;
-    }
-    let chain = Chain {
-        rows: &rows,
-        active,
-        ranks: &pass.ranks,
-    };
-    if !leaves(&chain) {
-        return None;
-    }
-    Some(solve(alloc, &chain, columns))
-}
-
-/// The same on the first choices of a model, whose active states are labelled, as is the goal.
+/// What `solve` answers on the first choices of a model, whose active states are labelled, as is the goal; `None` where the chain doesn't leave its
+/// active states.
 fn solved(
     alloc: Global,
     text: &str,
@@ -116,41 +82,32 @@ fn solved(
 ) -> Result<Option<Result<Vectors, ElimError>>, Fail> {
     let model = model_of(alloc, text)?;
     let active = marked(alloc, &model, "active")?;
-    let pass = toward_goals(alloc, &model)?;
-    Ok(solved_on(alloc, &model, &active, &pass, columns))
-}
-
-/// What `visits` answers likewise; `None` also where the start isn't active.
-fn visited_on(
-    alloc: Global,
-    model: &Model,
-    active: &Marks,
-    pass: &Pass,
-    start: u32,
-) -> Option<Result<Vec<Frac>, ElimError>>
-    requires active { length active.now ≡ states_of model.now }
-    requires policy { IsPolicy model.now pass.now.choices.items }
-{
+    let goals = marked(alloc, &model, "goal")?;
+    let none = marked(alloc, &model, "none")?;
+    let pass = may_reach(alloc, &model, &goals, &none)?;
     let rows = PolicyRows {
-        model,
+        model: &model,
         policy: &pass.choices,
     };
-    let states = rows.count();
-    if pass.ranks.len() != states as usize || start >= states || !active.at(start) {
-        return None;
+    let states = rows.count() as usize;
+    if pass.ranks.len() != states || !fit(columns, states) {
+        return Ok(None);
+    }
+    if columns.is_empty() || columns.len() > 2 {
+        return Ok(None);
     }
     let chain = Chain {
         rows: &rows,
-        active,
+        active: &active,
         ranks: &pass.ranks,
     };
     if !leaves(&chain) {
-        return None;
+        return Ok(None);
     }
-    Some(visits(alloc, &chain, start))
+    Ok(Some(solve(alloc, &chain, columns)))
 }
 
-/// The same of a model's text.
+/// What `visits` answers likewise; `None` also where the start isn't active.
 fn visited(
     alloc: Global,
     text: &str,
@@ -158,8 +115,26 @@ fn visited(
 ) -> Result<Option<Result<Vec<Frac>, ElimError>>, Fail> {
     let model = model_of(alloc, text)?;
     let active = marked(alloc, &model, "active")?;
-    let pass = toward_goals(alloc, &model)?;
-    Ok(visited_on(alloc, &model, &active, &pass, start))
+    let goals = marked(alloc, &model, "goal")?;
+    let none = marked(alloc, &model, "none")?;
+    let pass = may_reach(alloc, &model, &goals, &none)?;
+    let rows = PolicyRows {
+        model: &model,
+        policy: &pass.choices,
+    };
+    let states = rows.count();
+    if pass.ranks.len() != states as usize || start >= states || !active.at(start) {
+        return Ok(None);
+    }
+    let chain = Chain {
+        rows: &rows,
+        active: &active,
+        ranks: &pass.ranks,
+    };
+    if !leaves(&chain) {
+        return Ok(None);
+    }
+    Ok(Some(visits(alloc, &chain, start)))
 }
 
 /// The text of a model whose states 0 to `length` - 1 stay with 2/3 and go to the next state with 1/3; state `length`, which isn't active, stays.

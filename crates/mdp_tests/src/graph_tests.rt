@@ -1,13 +1,12 @@
 ghost use Rattle.std.specs.Prelude.{◌≡◌, ◌<◌, length, IfOk};
 ghost use Rattle.mdp_spec.specs.Mdp.{states_of};
-ghost use Rattle.mdp_spec.specs.Tree.{IsPolicy};
 
-use crate::models::{marked, model_of, toward_goals};
+use crate::models::{marked, model_of};
 use mdp_graph::{
     Pass, along, may_avoid, may_reach, must_meet, rounds_outside, sure_all, sure_some,
 };
 use mdp_num::Memory;
-use mdp_rows::{Marks, Model, PolicyRows, Pred, Preds, RowsOf, preds_of};
+use mdp_rows::{Marks, Model, PolicyRows, Pred, Preds, preds_of};
 use std::alloc::{AllocError, Global};
 use std::test::Fail;
 
@@ -99,23 +98,18 @@ fn push_rounds(alloc: Global, model: &Model, goals: &Marks, out: &mut String) ->
     Ok(())
 }
 
-/// What each pass finds.
-fn push_found(alloc: Global, model: &Model, out: &mut String) -> Result<(), Fail> {
-    let goals = marked(alloc, model, "goal")?;
-    let blocked = marked(alloc, model, "blocked")?;
-    push_may(alloc, model, &goals, &blocked, out)?;
-    push_must(alloc, model, &goals, out)?;
-    push_avoid(alloc, model, &goals, out)?;
-    push_some(alloc, model, &goals, out)?;
-    push_all(alloc, model, &goals, out)?;
-    push_rounds(alloc, model, &goals, out)
-}
-
 /// What each pass finds on a model.
 fn found_in(alloc: Global, text: &str) -> Result<String, Fail> {
     let model = model_of(alloc, text)?;
+    let goals = marked(alloc, &model, "goal")?;
+    let blocked = marked(alloc, &model, "blocked")?;
     let mut found = String::new(alloc);
-    push_found(alloc, &model, &mut found)?;
+    push_may(alloc, &model, &goals, &blocked, &mut found)?;
+    push_must(alloc, &model, &goals, &mut found)?;
+    push_avoid(alloc, &model, &goals, &mut found)?;
+    push_some(alloc, &model, &goals, &mut found)?;
+    push_all(alloc, &model, &goals, &mut found)?;
+    push_rounds(alloc, &model, &goals, &mut found)?;
     Ok(found)
 }
 
@@ -158,25 +152,25 @@ fn finds_sets_of_states(rt: HostRuntime) -> Result<(), Fail> {
     Ok(())
 }
 
-/// The states that a policy leads to the goals.
-fn push_along(alloc: Global, model: &Model, policy: &[u32], out: &mut String) -> Result<(), Fail>
-    requires { IsPolicy model.now policy.now }
-{
-    let goals = marked(alloc, model, "goal")?;
-    let rows = PolicyRows { model, policy };
-    let pass = along(alloc, &rows, &goals)?;
-    push_pass("along", &pass, rows.count(), out)?;
-    Ok(())
-}
-
 /// The policy that `may_reach` finds, and the states that it leads to the goal.
 #[test]
 fn goes_along_rows(rt: HostRuntime) -> Result<(), Fail> {
     let model = model_of(rt.alloc(), FORK)?;
-    let may = toward_goals(rt.alloc(), &model)?;
+    let goals = marked(rt.alloc(), &model, "goal")?;
+    let none = marked(rt.alloc(), &model, "none")?;
+    let may = may_reach(rt.alloc(), &model, &goals, &none)?;
     assert_eq!(rt; may.choices.as_slice(), [0, 0, 0].as_slice());
+    let rows = PolicyRows {
+        model: &model,
+        policy: &may.choices,
+    };
     let mut found = String::new(rt.alloc());
-    push_along(rt.alloc(), &model, &may.choices, &mut found)?;
+    push_pass(
+        "along",
+        &along(rt.alloc(), &rows, &goals)?,
+        model.states(),
+        &mut found,
+    )?;
     assert_eq!(rt; found.as_str(), "along 1/0 0/0 -");
     Ok(())
 }

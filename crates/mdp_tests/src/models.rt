@@ -2,10 +2,8 @@
 
 ghost use Rattle.std.specs.Prelude.{◌≡◌, length, IfOk};
 ghost use Rattle.mdp_spec.specs.Mdp.{states_of};
-ghost use Rattle.mdp_spec.specs.Tree.{IsPolicy};
 
 use mdp_drn::read;
-use mdp_graph::{Pass, may_reach};
 use mdp_num::Memory;
 use mdp_rows::{Marks, Model, RowRule};
 use std::alloc::Global;
@@ -26,13 +24,4 @@ pub(crate) fn marked(alloc: Global, model: &Model, label: &str) -> Result<Marks,
         Some(place) => model.marks_of(alloc, place),
         None => Marks::empty(alloc, model.states()),
     }
-}
-
-/// The pass toward the goals. Its choices are a policy.
-pub(crate) fn toward_goals(alloc: Global, model: &Model) -> Result<Pass, Memory>
-    ensures { IfOk result (λ pass. IsPolicy model.now pass.choices.items) }
-{
-    let goals = marked(alloc, model, "goal")?;
-    let none = marked(alloc, model, "none")?;
-    may_reach(alloc, model, &goals, &none)
 }

@@ -57,35 +57,22 @@ fn push_exits(quotient: &Quotient<'_>, q: u32, out: &mut String) -> Result<(), A
     Ok(())
 }
 
-/// The nodes of the quotient by these end components, and their exits.
-fn push_quotient(alloc: Global, model: &Model, ends: &Ends, out: &mut String) -> Result<(), Fail>
-    requires { AreEndsOf model.now ends.now }
-{
-    let arena = Bump::new(alloc);
-    let quotient = Quotient::build(alloc, &arena, model, ends)?;
-    write!(out, ", {} nodes", quotient.nodes())?;
-    for q in 0..quotient.nodes() {
-        push_exits(&quotient, q, out)?;
-    }
-    Ok(())
-}
-
-/// The end components, and the quotient by them.
-fn push_ends(alloc: Global, model: &Model, out: &mut String) -> Result<(), Fail> {
-    let ends = end_components(alloc, model)?;
-    write!(out, ", {} ends", ends.count())?;
-    for s in 0..model.states() {
-        push_end(model, &ends, s, out)?;
-    }
-    push_quotient(alloc, model, &ends, out)
-}
-
 /// What is found in a model: strong components, end components, and the exits of the quotient.
 fn found_in(alloc: Global, text: &str) -> Result<String, Fail> {
     let model = model_of(alloc, text)?;
     let mut found = String::new(alloc);
     push_components(alloc, &model, &mut found)?;
-    push_ends(alloc, &model, &mut found)?;
+    let ends = end_components(alloc, &model)?;
+    write!(found, ", {} ends", ends.count())?;
+    for s in 0..model.states() {
+        push_end(&model, &ends, s, &mut found)?;
+    }
+    let arena = Bump::new(alloc);
+    let quotient = Quotient::build(alloc, &arena, &model, &ends)?;
+    write!(found, ", {} nodes", quotient.nodes())?;
+    for q in 0..quotient.nodes() {
+        push_exits(&quotient, q, &mut found)?;
+    }
     Ok(found)
 }
 
