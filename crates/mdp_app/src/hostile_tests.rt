@@ -91,6 +91,7 @@ fn answers_each_fault_of_a_model(rt: HostRuntime) -> Result<(), Fail> {
     for command in [
         SOLVE,
         POLICY,
+        &["check", "MODEL", "exact", "CERT"],
         &["witness", "MODEL", "exact", "max", "goal", "1/4"],
         &["horizon", "MODEL", "exact", "max", "-", "goal", "2"],
         &["discount", "MODEL", "exact", "max", "-", "1/2"],

@@ -1,7 +1,6 @@
 //! What the rows in data/ can't say: pieces, faults and stores.
 use crate::run::{run, run_on_files};
 use mdp_edge::{ListSink, ListSource, StdSource};
-use mdp_gen::layered;
 use mdp_job::Status;
 use std::alloc::{AllocError, Global};
 use std::fs;
@@ -51,17 +50,11 @@ pub(crate) fn words_of(alloc: Global, command: &[&str]) -> Result<Vec<String>, A
     Ok(words)
 }
 
-/// How a check of the bound ends, on sources that give so many bytes a call and fail at these calls, and what it writes.
-fn checked(
-    alloc: Global,
-    chunk: usize,
-    model_fails: &[u64],
-    cert_fails: &[u64],
-    out: &mut ListSink,
-) -> Result<Status, AllocError> {
+/// How a check of the bound ends, on sources that give so many bytes a call, and what it writes.
+fn checked(alloc: Global, chunk: usize, out: &mut ListSink) -> Result<Status, AllocError> {
     let words = words_of(alloc, &CHECK)?;
-    let mut model = source(alloc, COIN.as_bytes(), chunk, model_fails)?;
-    let mut cert = source(alloc, UPPER.as_bytes(), chunk, cert_fails)?;
+    let mut model = source(alloc, COIN.as_bytes(), chunk, &[])?;
+    let mut cert = source(alloc, UPPER.as_bytes(), chunk, &[])?;
     Ok(run(alloc, &words, &mut model, &mut cert, out))
 }
 
@@ -70,35 +63,8 @@ fn checked(
 fn reads_in_pieces(rt: HostRuntime) -> Result<(), Fail> {
     for chunk in [1, 7, 65_536] {
         let mut out = sink(rt.alloc(), 100, 16, &[])?;
-        assert_eq!(rt;
-            checked(rt.alloc(), chunk, &[], &[], &mut out)?,
-            Status::Done
-        );
+        assert_eq!(rt; checked(rt.alloc(), chunk, &mut out)?, Status::Done);
         assert_eq!(rt; out.bytes(), b"yes\n".as_slice(), "{chunk}");
-    }
-    Ok(())
-}
-
-/// Each one call of a source that fails.
-#[test]
-fn answers_each_read_fault(rt: HostRuntime) -> Result<(), Fail> {
-    let model_calls = (COIN.len() as u64).div_ceil(7) + 1;
-    let cert_calls = (UPPER.len() as u64).div_ceil(7) + 1;
-    for call in 0..model_calls {
-        let mut out = sink(rt.alloc(), 100, 16, &[])?;
-        let end = checked(rt.alloc(), 7, &[call], &[], &mut out)?;
-        assert_eq!(rt; end, Status::ReadFault);
-        assert_eq!(rt; out.bytes(), b"read-fault model\n".as_slice(), "{call}");
-    }
-    for call in 0..cert_calls {
-        let mut out = sink(rt.alloc(), 100, 16, &[])?;
-        let end = checked(rt.alloc(), 7, &[model_calls], &[call], &mut out)?;
-        assert_eq!(rt; end, Status::ReadFault);
-        assert_eq!(rt;
-            out.bytes(),
-            b"read-fault certificate\n".as_slice(),
-            "{call}"
-        );
     }
     Ok(())
 }
@@ -114,7 +80,7 @@ fn answers_write_faults(rt: HostRuntime) -> Result<(), Fail> {
         (3, 16, &[], "yes"),
     ] {
         let mut out = sink(rt.alloc(), room, chunk, fails)?;
-        let end = checked(rt.alloc(), 7, &[], &[], &mut out)?;
+        let end = checked(rt.alloc(), 7, &mut out)?;
         assert_eq!(rt; end, Status::WriteFault);
         assert_eq!(rt; out.bytes(), taken.as_bytes());
     }
@@ -136,34 +102,5 @@ fn opens_files(rt: HostRuntime) -> Result<(), Fail> {
     let end = run_on_files(rt.alloc(), &words, open, &mut out);
     assert_eq!(rt; end, Status::ReadFault);
     fs::remove_file(&rt, "CERT")?;
-    Ok(())
-}
-
-/// How a command ends on a model and a second source, and what it writes.
-fn written(
-    alloc: Global,
-    command: &[&str],
-    model: &[u8],
-    second: &[u8],
-) -> Result<(Status, ListSink), AllocError> {
-    let words = words_of(alloc, command)?;
-    let mut model = source(alloc, model, 65_536, &[])?;
-    let mut second = source(alloc, second, 65_536, &[])?;
-    let mut out = sink(alloc, 1 << 20, 65_536, &[])?;
-    let end = run(alloc, &words, &mut model, &mut second, &mut out);
-    Ok((end, out))
-}
-
-/// What `solve` writes on a generated model of 4,002 states is accepted by `check`, with the same model.
-#[test]
-fn accepts_what_is_solved(rt: HostRuntime) -> Result<(), Fail> {
-    let mut model = Vec::new(rt.alloc());
-    layered(7, 40, 100, &mut model)?;
-    let solve = ["solve", "MODEL", "exact", "max", "reach", "goal"];
-    let (end, found) = written(rt.alloc(), &solve, &model, b"")?;
-    assert_eq!(rt; end, Status::Done);
-    let (end, said) = written(rt.alloc(), &CHECK, &model, found.bytes())?;
-    assert_eq!(rt; end, Status::Done);
-    assert_eq!(rt; said.bytes(), b"yes\n".as_slice());
     Ok(())
 }

@@ -1,12 +1,12 @@
+//! The best gain of one end component.
+
 ghost use Rattle.std.specs.Prelude.{◌<◌, length};
 
 use crate::models::model_of;
-use mdp_farkas::MeanCert;
 use mdp_gain::solve_inner;
-use mdp_mean::solve_mean;
 use mdp_num::Frac;
 use mdp_parts::end_components;
-use mdp_rows::{Dir, Model};
+use mdp_rows::Dir;
 use std::alloc::{AllocError, Global};
 use std::test::Fail;
 
@@ -34,88 +34,6 @@ fn push_choices(choices: &[u32], out: &mut String) -> Result<(), AllocError> {
     for choice in choices {
         write!(out, " {choice}")?;
     }
-    Ok(())
-}
-
-/// What a certificate of the mean payoff says, in one line.
-fn push_cert(cert: &MeanCert, out: &mut String) -> Result<(), AllocError> {
-    push_list("gains", &cert.gains, out)?;
-    push_list(" bound", &cert.bound, out)?;
-    push_list(" bias", &cert.bias, out)?;
-    push_choices(&cert.choices, out)?;
-    out.push_str(" spread")?;
-    push_fraction(&cert.spread, out)
-}
-
-/// The best mean payoff of the first reward name of a model's text, which follows the type.
-fn solved(alloc: Global, text: &str, dir: Dir) -> Result<String, Fail> {
-    let model = model_of(alloc, text)?;
-    let mut found = String::new(alloc);
-    if model.names() > 0 {
-        push_cert(&solve_mean(alloc, &model, 0, dir)?, &mut found)?;
-    }
-    Ok(found)
-}
-
-/// A state that stays for 1 or takes a chance of 4 or nothing: for the greatest mean payoff it takes it, for the least one it stays.
-#[test]
-fn solves_the_mean_payoff(rt: HostRuntime) -> Result<(), Fail> {
-    let text =
-        "3\n@model\nstate 0\naction [1]\n0 : 1\naction [0]\n1 : 1/2\n2 : 1/2\nstate 1\naction [4]\n1 : 1\nstate 2\naction [0]\n2 : 1\n";
-    let greatest = solved(rt.alloc(), text, Dir::Max)?;
-    assert_eq!(rt;
-        greatest.as_str(),
-        "gains 2/1 4/1 0/1 bound 0/1 0/1 0/1 bias -2/1 0/1 0/1 choices 1 0 0 spread 2/1"
-    );
-    let least = solved(rt.alloc(), text, Dir::Min)?;
-    assert_eq!(rt;
-        least.as_str(),
-        "gains 1/1 4/1 0/1 bound -1/1 0/1 0/1 bias 0/1 0/1 0/1 choices 0 0 0 spread 1/1"
-    );
-    Ok(())
-}
-
-/// The best loop is away from the first policy's; two choices of one gain differ in bias; a gain below 0.
-#[test]
-fn solves_components(rt: HostRuntime) -> Result<(), Fail> {
-    let found = solved(rt.alloc(), AWAY, Dir::Max)?;
-    assert_eq!(rt;
-        found.as_str(),
-        "gains 3/1 3/1 bound -3/1 0/1 bias -3/1 0/1 choices 1 1 spread 3/1"
-    );
-    let tied =
-        "2\n@model\nstate 0\naction [1]\n1 : 1\naction [3]\n1 : 1\nstate 1\naction [3]\n0 : 1\naction [1]\n0 : 1\n";
-    let found = solved(rt.alloc(), tied, Dir::Max)?;
-    assert_eq!(rt;
-        found.as_str(),
-        "gains 3/1 3/1 bound 0/1 0/1 bias 0/1 0/1 choices 1 0 spread 0/1"
-    );
-    let below =
-        "2\n@model\nstate 0\naction [-1]\n0 : 1/2\n1 : 1/2\nstate 1\naction [-2]\n0 : 1/3\n1 : 2/3\n";
-    let found = solved(rt.alloc(), below, Dir::Max)?;
-    assert_eq!(rt;
-        found.as_str(),
-        "gains -8/5 -8/5 bound 0/1 -6/5 bias 0/1 -6/5 choices 0 0 spread 6/5"
-    );
-    Ok(())
-}
-
-/// The best of several loops at one state, and end components with states between them.
-#[test]
-fn solves_loops_and_states_between(rt: HostRuntime) -> Result<(), Fail> {
-    let loops = "1\n@model\nstate 0\naction [1]\n0 : 1\naction [-4]\n0 : 1\naction [2]\n0 : 1\n";
-    let found = solved(rt.alloc(), loops, Dir::Min)?;
-    assert_eq!(rt;
-        found.as_str(),
-        "gains -4/1 bound 0/1 bias 0/1 choices 1 spread 0/1"
-    );
-    let between =
-        "5\n@model\nstate 0\naction [1]\n0 : 1\naction\n1 : 1\nstate 1\naction\n2 : 1/2\n3 : 1/2\nstate 2\naction [1]\n2 : 1\nstate 3\naction [2]\n4 : 1\nstate 4\naction [6]\n3 : 1\n";
-    let found = solved(rt.alloc(), between, Dir::Max)?;
-    assert_eq!(rt;
-        found.as_str(),
-        "gains 5/2 5/2 1/1 4/1 4/1 bound 0/1 0/1 0/1 0/1 2/1 bias -5/1 -5/2 0/1 0/1 2/1 choices 1 0 0 0 0 spread 7/1"
-    );
     Ok(())
 }
 
