@@ -64,7 +64,13 @@ fn decided<S: Source, C: Source>(
             factor,
         } => discount_file(alloc, rule, dir, name, factor, model),
         Job::DiscountCheck { rule } => {
-            check_files(alloc, rule, Some(CertificateKind::Discounted), model, second)
+            check_files(
+                alloc,
+                rule,
+                Some(CertificateKind::Discounted),
+                model,
+                second,
+            )
         }
         Job::Bounds {
             rule,
