@@ -64,7 +64,13 @@ fn decided<S: Source, C: Source>(
             factor,
         } => discount_file(alloc, rule, dir, name, factor, model),
         Job::DiscountCheck { rule } => {
-            check_files(alloc, rule, Some(CertificateKind::Discounted), model, second)
+            check_files(
+                alloc,
+                rule,
+                Some(CertificateKind::Discounted),
+                model,
+                second,
+            )
         }
         Job::Bounds {
             rule,
@@ -109,15 +115,15 @@ pub fn run<S: Source, C: Source, K: Sink>(
 pub fn run_on_files<F: Source + Drop, O: Fn(&str) -> F, K: Sink>(
     alloc: Global,
     words: &[String],
-    open: O,
+    open_file: O,
     out: &mut K,
 ) -> Status
-    requires { O.IsAlwaysCallable open }
-    ensures { OnFiles (FnReturnsAt O.Fn open) F.left F.faults (model_path words.now) (second_path words.now)
+    requires { O.IsAlwaysCallable open_file }
+    ensures { OnFiles (FnReturnsAt O.Fn open_file) F.left F.faults (model_path words.now) (second_path words.now)
         (λ model second. HasRun (job_of words.now) model second (output K.taken K.settled K.faults out.old out.new) result) }
 {
     let paths = paths_of(words);
-    let mut model = open(paths.model);
-    let mut second = open(paths.second);
+    let mut model = open_file(paths.model);
+    let mut second = open_file(paths.second);
     run(alloc, words, &mut model, &mut second, out)
 }

@@ -9,18 +9,21 @@ use Rattle.mdp_job.specs.declared.status.Status.{Status}
 use Rattle.mdp_job.specs.declared.status.Status.TheVariants as status
 use Rattle.mdp_job.specs.declared.words_error.WordsError.{WordsError}
 use Rattle.mdp_command.proofs.Statuses.{done_text, ends_as}
-use Rattle.mdp_command.specs.Accepted.{AcceptedBy}
+use Rattle.mdp_command.specs.Accepted.{AcceptedBy, IsTrueClaimBy}
 use Rattle.mdp_command.specs.Answered.{yes_text}
 use Rattle.mdp_command.specs.Files.{model_due, IsDueToModel}
+use Rattle.mdp_command.specs.Meaning.{ClaimsTruly}
 use Rattle.mdp_command.specs.Read.{is_of_model}
 use Rattle.mdp_command.specs.Said.{Said, said_status}
 use Rattle.mdp_command.specs.Streams.{Input, Output}
 use Rattle.mdp_command.specs.Written.{WroteAll, Wrote, EndsWith}
 use Rattle.mdp_checking.specs.Due.{IsCheckDue}
-use Rattle.mdp_checking.specs.Kinds.{kind_of, checker_of}
+use Rattle.mdp_checking.specs.Kinds.{checker_of}
+use Rattle.mdp_checking.specs.Meanings.{kind_of, meaning_of}
 use Rattle.mdp_checking.specs.Laws.{YesIsAccepted}
 use Rattle.mdp_checking.specs.Shown.{IsCheckRead}
 use Rattle.mdp_checking.specs.declared.kind.CertificateKind.{CertificateKind}
+use Rattle.mdp_checking.specs.declared.kind.CertificateKind.TheVariants.{Exact, Discounted, Bounds}
 use Rattle.mdp_checker.specs.Run.{HasCause, IsDecided, IsAnswered, IsYesTrue, IsYesUnless, IsComplete}
 use Rattle.mdp_checker.specs.Words.{Asked}
 
@@ -39,6 +42,16 @@ pub check_decided : (asked : Asked) (rule : RowRule) (model cert : Input) (said 
 check_decided asked rule model cert said is read unread model_end cert_end =
     subst (λ (x : Asked). IsDecided x model cert said) is
     (record { cause = record { read = read; unread = unread }; ends = both_ends said (IsAtEnd model.after) (IsAtEnd cert.after) model_end cert_end })
+
+-- ---- what an accepted certificate means
+
+claims_truly : (kind : CertificateKind) (rule : RowRule) (model cert : List ℕ) → IsTrueClaimBy (checker_of kind) rule model cert → ClaimsTruly (meaning_of kind) rule model cert
+claims_truly Exact rule model cert t =
+    record { model = t.accepted.model; reads = t.accepted.reads; cert = t.accepted.cert; text = t.accepted.text; bound = t.bound }
+claims_truly Discounted rule model cert t =
+    record { model = t.accepted.model; reads = t.accepted.reads; cert = t.accepted.cert; text = t.accepted.text; bound = t.bound }
+claims_truly Bounds rule model cert t =
+    record { model = t.accepted.model; reads = t.accepted.reads; cert = t.accepted.cert; text = t.accepted.text; bound = t.bound }
 
 -- ---- what is answered
 
@@ -61,7 +74,7 @@ module _ (model cert : Input) (out : Output) (ended : Status) where
     cert_bytes = from.second_bytes;
     had_model = from.had_model;
     had_cert = from.had_second;
-    true_claim = from.shown.true_claim;
+    true_claim = claims_truly (kind_of from.second_bytes) rule from.model_bytes from.second_bytes from.shown.true_claim;
     model_end = model_end;
     cert_end = cert_end;
     written = subst (λ (t : List ℕ). WroteAll out t) from.shown.yes w;

@@ -8,13 +8,15 @@ use Rattle.mdp_job.specs.Refusal.{no_job, no_memory}
 use Rattle.mdp_job.specs.declared.status.Status.{Status}
 use Rattle.mdp_job.specs.declared.status.Status.TheVariants.{Done, ReadFault, WriteFault, Memory}
 use Rattle.mdp_job.specs.declared.words_error.WordsError.{WordsError}
-use Rattle.mdp_command.specs.Accepted.{AcceptedBy, IsTrueClaimBy}
+use Rattle.mdp_command.specs.Accepted.{AcceptedBy}
 use Rattle.mdp_command.specs.Answered.{yes_text}
+use Rattle.mdp_command.specs.Meaning.{ClaimsTruly}
 use Rattle.mdp_command.specs.Read.{is_of_model}
 use Rattle.mdp_command.specs.Said.{Said}
 use Rattle.mdp_command.specs.Streams.{Input, HasFailed, Output}
 use Rattle.mdp_command.specs.Written.{WroteAll, Wrote}
-use Rattle.mdp_checking.specs.Kinds.{kind_of, checker_of}
+use Rattle.mdp_checking.specs.Kinds.{checker_of}
+use Rattle.mdp_checking.specs.Meanings.{kind_of, meaning_of}
 use Rattle.mdp_checking.specs.Shown.{IsCheckRead}
 use Rattle.mdp_checker.specs.Words.{Asked}
 
@@ -49,8 +51,8 @@ pub record IsAnswered (asked : Asked) (model cert : Input) (out : Output) (ended
 
 -- ---- yes
 
--- `yes` was written, the bytes that the sources had left read as a model and as a certificate that is accepted for it, and the claim of the certificate
--- is true of the model; both sources were read to their ends
+-- `yes` was written, the bytes that the sources had left read as a model and as a certificate, and what the certificate claims is true of the model,
+-- whoever wrote it; both sources were read to their ends
 pub record IsYesTrue (asked : Asked) (model cert : Input) (out : Output) : Type 0 where
   pub rule : RowRule
   pub words : asked ≡ Ok rule
@@ -58,7 +60,7 @@ pub record IsYesTrue (asked : Asked) (model cert : Input) (out : Output) : Type 
   pub cert_bytes : List ℕ
   pub had_model : HadLeft model.before model_bytes
   pub had_cert : HadLeft cert.before cert_bytes
-  pub true_claim : IsTrueClaimBy (checker_of (kind_of cert_bytes)) rule model_bytes cert_bytes
+  pub true_claim : ClaimsTruly (meaning_of (kind_of cert_bytes)) rule model_bytes cert_bytes
   pub model_end : IsAtEnd model.after
   pub cert_end : IsAtEnd cert.after
   pub written : WroteAll out yes_text

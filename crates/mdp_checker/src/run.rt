@@ -74,15 +74,15 @@ fn paths_of<'a>(words: &'a [String]) -> Paths<'a>
 pub fn run_on_files<F: Source + Drop, O: Fn(&str) -> F, K: Sink>(
     alloc: Global,
     words: &[String],
-    open: O,
+    open_file: O,
     out: &mut K,
 ) -> Status
-    requires { O.IsAlwaysCallable open }
-    ensures { OnFiles (FnReturnsAt O.Fn open) F.left F.faults (model_path words.now) (cert_path words.now)
+    requires { O.IsAlwaysCallable open_file }
+    ensures { OnFiles (FnReturnsAt O.Fn open_file) F.left F.faults (model_path words.now) (cert_path words.now)
         (λ model cert. HasRun (asked words.now) model cert (output K.taken K.settled K.faults out.old out.new) result) }
 {
     let paths = paths_of(words);
-    let mut model = open(paths.model);
-    let mut cert = open(paths.second);
+    let mut model = open_file(paths.model);
+    let mut cert = open_file(paths.second);
     run(alloc, words, &mut model, &mut cert, out)
 }

@@ -1,7 +1,8 @@
 -- The kind that the first line of a text names.
 use Rattle.std.proofs.Common.{◌≡◌, [], ◌∷◌, ◌++◌, Some, refl}
 use Rattle.std.specs.Prelude.{codes}
-use Rattle.mdp_checking.specs.Kinds.{kind_of, chosen}
+use Rattle.mdp_checking.specs.Kinds.{chosen}
+use Rattle.mdp_checking.specs.Meanings.{kind_of}
 use Rattle.mdp_checking.specs.declared.kind.CertificateKind.TheVariants.{Exact, Discounted, Bounds}
 
 of_discount : kind_of (codes "mdp-discount 1" ++ 10 ∷ codes "claim") ≡ Discounted

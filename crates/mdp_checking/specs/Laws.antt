@@ -13,4 +13,4 @@ YesIsAccepted checker =
 
 -- the claim of a certificate that is accepted is true of the model
 abbrev pub AcceptedIsTrue : Checker → Type 0
-AcceptedIsTrue checker = (rule : RowRule) (model cert : List ℕ) (a : AcceptedBy checker rule model cert) → checker.IsBound a.model a.cert
+AcceptedIsTrue checker = (rule : RowRule) (model cert : List ℕ) (a : AcceptedBy checker rule model cert) → checker.meaning.IsBound a.model a.cert

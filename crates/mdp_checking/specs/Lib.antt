@@ -1,3 +1,4 @@
+pub mod Meanings
 pub mod Kinds
 pub mod Due
 pub mod Shown

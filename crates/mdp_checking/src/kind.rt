@@ -1,5 +1,6 @@
 ghost use Rattle.std.specs.Prelude.{◌≡◌};
-ghost use Rattle.mdp_checking.specs.Kinds.{begins_with, kind_of, chosen};
+ghost use Rattle.mdp_checking.specs.Kinds.{chosen};
+ghost use Rattle.mdp_checking.specs.Meanings.{begins_with, kind_of};
 
 /// The kinds of certificates. Each has its checker.
 #[derive(Clone, Copy, Debug, PartialEq, Eq)]

@@ -2,6 +2,7 @@ pub mod Said
 pub mod Streams
 pub mod Files
 pub mod Read
+pub mod Meaning
 pub mod Accepted
 pub mod Answered
 pub mod Written
