@@ -50,7 +50,7 @@ fn given_values(
 }
 
 /// The value of a state, in units and between 0 and 1.
-fn clamped(nodes: &Nodes, values: &[i128], one: i128, state: u32) -> i128 {
+fn clamped(nodes: &Nodes, values: &[Option<i128>], one: i128, state: u32) -> i128 {
     value_at(values, nodes.of(state))
         .unwrap_or(0)
         .max(0)
@@ -62,7 +62,7 @@ fn spread(
     alloc: Global,
     states: u32,
     nodes: &Nodes,
-    values: &[i128],
+    values: &[Option<i128>],
     one: i128,
 ) -> Result<Vec<i128>, AllocError> {
     (0..states)
@@ -72,7 +72,7 @@ fn spread(
 
 /// A value in units as a fraction.
 fn fraction_at(values: &[i128], one: i128, state: u32) -> Frac {
-    let value = value_at(values, state).unwrap_or(0);
+    let value = values.get(state as usize).copied().unwrap_or(0);
     match Frac::try_new(value, one) {
         Ok(fraction) => fraction,
         Err(_) => Frac::whole(0),
@@ -131,8 +131,16 @@ impl Search<'_> {
     fn solve(self, alloc: Global, bound: Bound) -> Result<Solution, AllocError> {
         let one = self.rows.one();
         let given = given_values(alloc, &self.decided.kinds, self.nodes, one)?;
-        let dir = self.dir;
-        solve(alloc, self.rows, &given, Task { dir, bound })
+        let anyway = match bound {
+            Bound::Lower => 0,
+            Bound::Upper => one,
+        };
+        let task = Task {
+            dir: self.dir,
+            bound,
+            anyway: Some(anyway),
+        };
+        solve(alloc, self.rows, &given, task)
     }
 
     /// The values of the states.

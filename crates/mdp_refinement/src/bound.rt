@@ -10,11 +10,12 @@ pub enum Bound {
     Upper,
 }
 
-/// A bound of the greatest or of the least value.
+/// A bound of the greatest or of the least value, with the value, in units, that is such a bound whatever the rows are, if there is one.
 #[derive(Clone, Copy, PartialEq, Eq)]
 pub struct Task {
     pub dir: Dir,
     pub bound: Bound,
+    pub anyway: Option<i128>,
 }
 
 impl Task {
