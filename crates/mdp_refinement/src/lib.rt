@@ -28,3 +28,4 @@ pub use nodes::Nodes;
 pub use rows::{Entry, Rows, Scale, WholeRow, value_at};
 pub use solving::{Solution, solve};
 pub use strong::{Components, strong_components};
+pub use whole::power_of_ten;
