@@ -7,6 +7,7 @@ ghost use Rattle.mdp_search_bounds.specs.Held.{HasRewardSizes, IsHeldReward};
 use crate::ladder::{Search, bounds_by};
 use crate::simplest::simplest_reward;
 use mdp_bounds::{RewardBoundsCert, Verdict, holds_bounds_reward};
+use mdp_near::near_reward;
 use mdp_num::Memory;
 use mdp_rows::{Dir, Marks, Model};
 use mdp_trivial_bounds::trivial_reward;
@@ -31,8 +32,15 @@ impl Search for Earning<'_, '_> {
 
     ghost is_held = { λ p cert. IsHeldReward p.dir p.model.now p.name p.goals.now cert };
 
-    fn near(&self, alloc: Global, _digits: u32) -> Result<RewardBoundsCert, Memory> {
-        trivial_reward(alloc, self.model, self.name, self.goals, self.dir)
+    fn near(&self, alloc: Global, digits: u32) -> Result<RewardBoundsCert, Memory> {
+        near_reward(
+            alloc,
+            self.model,
+            self.name,
+            self.goals,
+            self.dir,
+            digits,
+        )
     }
 
     fn simplest(
