@@ -395,8 +395,9 @@ pub fn near_reward(
     let is_open = are_open(alloc, states, &is_finite, &is_goal)?;
     let backward = Backward::new(alloc, model)?;
     let digits = digits.min(MOST_DIGITS);
+    let earning = Earning { model, name };
     let search = Search {
-        earning: Earning { model, name },
+        earning,
         backward: &backward,
         dir,
         digits,
