@@ -19,7 +19,7 @@ pub(crate) struct Earning<'a> {
 impl Earning<'_> {
     /// The flags of a state's choices: whether the reward is at most the limit.
     fn push_flags(self, flags: &mut ChoiceFlags, s: u32, limit: &Frac) -> Result<(), AllocError>
-        requires { s < states_of self.entry.model.now }
+        requires { s < states_of self.model.now }
     {
         for c in 0..self.model.choices(s) {
             let reward = self.model.reward(self.name, s, c);
@@ -50,7 +50,7 @@ impl Earning<'_> {
         is_finite: &[bool],
         s: u32,
     ) -> Result<(), AllocError>
-        requires { s < states_of self.entry.model.now }
+        requires { s < states_of self.model.now }
     {
         for c in 0..self.model.choices(s) {
             let row = self.model.row(s, c);

@@ -50,8 +50,8 @@ struct Outcome {
 
 /// The parts of a search. Open are the states of finite reward that are no goals.
 #[derive(Clone, Copy)]
-struct Search<'a> {
-    earning: Earning<'a>,
+struct Search<'m, 'a> {
+    earning: Earning<'m>,
     backward: &'a Backward,
     dir: Dir,
     digits: u32,
@@ -83,10 +83,16 @@ fn opposites(alloc: Global, flags: &[bool]) -> Result<Vec<bool>, AllocError> {
 
 /// The greater of two values; that which is there where one isn't.
 fn greater(a: Option<Frac>, b: Option<Frac>) -> Option<Frac> {
-    match (a, b) {
-        (Some(x), Some(y)) if x.order(&y) == Ordering::Greater => Some(x),
-        (_, Some(y)) => Some(y),
-        _ => a,
+    let Some(x) = a else {
+        return b;
+    };
+    let Some(y) = b else {
+        return a;
+    };
+    if x.order(&y) == Ordering::Greater {
+        a
+    } else {
+        b
     }
 }
 
@@ -116,7 +122,7 @@ fn listed(
         .collect(alloc)
 }
 
-impl Search<'_> {
+impl Search<'_, '_> {
     /// The number of states.
     fn states(self) -> u32 {
         self.earning.model.states()
@@ -265,7 +271,7 @@ impl Search<'_> {
     }
 }
 
-impl Search<'_> {
+impl Search<'_, '_> {
     /// Bounds of the greatest rewards. No choice of an open state leads to a state of infinite reward, and no end component is among the open states.
     fn greatest(self, alloc: Global) -> Result<Outcome, AllocError> {
         let parts = no_parts(alloc, self.earning.model)?;
@@ -395,8 +401,9 @@ pub fn near_reward(
     let is_open = are_open(alloc, states, &is_finite, &is_goal)?;
     let backward = Backward::new(alloc, model)?;
     let digits = digits.min(MOST_DIGITS);
+    let earning = Earning { model, name };
     let search = Search {
-        earning: Earning { model, name },
+        earning,
         backward: &backward,
         dir,
         digits,
