@@ -27,12 +27,7 @@ pub(crate) trait Search {
         ensures { IfOk result (is_sized self.now) };
 
     /// The simplest fractions between the bounds of a certificate, which the search proposed with so many digits, as exact values.
-    fn simplest(
-        &self,
-        alloc: Global,
-        cert: &Self::Cert,
-        digits: u32,
-    ) -> Result<Self::Cert, Memory>
+    fn simplest(&self, alloc: Global, cert: &Self::Cert, digits: u32) -> Result<Self::Cert, Memory>
         requires { is_sized self.now cert.now }
         ensures { IfOk result (is_sized self.now) };
 
@@ -88,11 +83,7 @@ fn held_exact_with_most<S: Search>(
 }
 
 /// What the search proposes with so many digits, where the rules say yes to it: first the simplest fractions between its bounds, as exact values.
-fn held_near<S: Search>(
-    alloc: Global,
-    search: &S,
-    digits: u32,
-) -> Result<Option<S::Cert>, Memory>
+fn held_near<S: Search>(alloc: Global, search: &S, digits: u32) -> Result<Option<S::Cert>, Memory>
     ensures { IfOk result (λ found. IfSome found (S.is_held search.now)) }
 {
     let cert = search.near(alloc, digits)?;

@@ -33,14 +33,7 @@ impl Search for Earning<'_, '_> {
     ghost is_held = { λ p cert. IsHeldReward p.dir p.model.now p.name p.goals.now cert };
 
     fn near(&self, alloc: Global, digits: u32) -> Result<RewardBoundsCert, Memory> {
-        near_reward(
-            alloc,
-            self.model,
-            self.name,
-            self.goals,
-            self.dir,
-            digits,
-        )
+        near_reward(alloc, self.model, self.name, self.goals, self.dir, digits)
     }
 
     fn simplest(

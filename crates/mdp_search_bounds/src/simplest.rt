@@ -7,8 +7,8 @@ ghost use Rattle.mdp_search_bounds.specs.Held.{HasReachSizes, HasRewardSizes, Ha
 use mdp_bounds::{MeanBoundsCert, ReachBoundsCert, RewardBoundsCert};
 use mdp_num::Frac;
 use mdp_rows::Model;
-use std::cmp::Ordering;
 use std::alloc::{AllocError, Global};
+use std::cmp::Ordering;
 
 /// How many terms of a continued fraction are looked at: fractions within 127 bits have fewer.
 const MOST_TERMS: u32 = 256;
