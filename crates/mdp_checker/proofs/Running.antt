@@ -94,7 +94,7 @@ module _ (model cert : Input) (out : Output) (ended : Status) where
   pub yes_true : (asked : Asked) (said : Said) → IsDecided asked model cert said → EndsWith ended out said → ended ≡ status.Done → IsYesTrue asked model cert out
   yes_true asked said d w is =
       let t = done_text ended out said w is in
-      yes_text_true asked t.0 (subst (λ (x : Said). IsDecided asked model cert x) t.2.0 d) t.2.1
+      yes_text_true asked t.0 (subst (λ (x : Said). IsDecided asked model cert x) t.1 d) t.2
 
   -- ---- bytes that are accepted
 

@@ -40,10 +40,10 @@ pub record IsSound (checker : Checker) : Type 0 where
   pub bound : (m : Mdp) (text : List ℕ) (c : checker.meaning.Certificate) → IsMdp m → checker.meaning.outcome text ≡ Ok c → checker.IsAccepted m c → checker.meaning.IsBound m c
 
 exact_is_sound : exactly.YesIsAccepted → exactly.AcceptedIsBound → IsSound exact
-exact_is_sound yes bound = record { yes = λ m text c mdp read. yes m c; bound = λ m text c mdp read holds. bound m c mdp holds }
+exact_is_sound accepts bound = record { yes = λ m text c mdp read. accepts m c; bound = λ m text c mdp read holds. bound m c mdp holds }
 
 bounds_are_sound : YesAcceptsBounds → AcceptedBoundsAreTrue → IsSound between
-bounds_are_sound yes bound = record { yes = λ m text c mdp read. yes m c mdp; bound = λ m text c mdp read holds. bound m c mdp holds }
+bounds_are_sound accepts bound = record { yes = λ m text c mdp read. accepts m c mdp; bound = λ m text c mdp read holds. bound m c mdp holds }
 
 as_yes : (a : DiscountAnswer) → as_answer a ≡ Yes → a ≡ discount_answer.Yes
 as_yes discount_answer.Yes e = refl
@@ -54,10 +54,10 @@ as_yes discount_answer.Size e = cc
 
 -- a certificate of discounted rewards that was read has a choice for each value, and a factor in range
 discounted_is_sound : IsReadFromText → discount.YesIsAccepted → discount.AcceptedIsBound → IsSound discounted
-discounted_is_sound from yes bound = record {
+discounted_is_sound from accepts bound = record {
   yes = λ m text c mdp read.
       let one_each = (fits text c read).one_each in
-      (λ e. (yes m c one_each).0 (as_yes _ e), λ holds. ap as_answer ((yes m c one_each).1 holds));
+      (λ e. (accepts m c one_each).0 (as_yes _ e), λ holds. ap as_answer ((accepts m c one_each).1 holds));
   bound = λ m text c mdp read holds. bound m c mdp (fits text c read).discount holds;
 }
   where
@@ -66,9 +66,9 @@ discounted_is_sound from yes bound = record {
 
 pub each_is_sound : exactly.YesIsAccepted → exactly.AcceptedIsBound → IsReadFromText → discount.YesIsAccepted → discount.AcceptedIsBound → YesAcceptsBounds → AcceptedBoundsAreTrue
     → (kind : CertificateKind) → IsSound (checker_of kind)
-each_is_sound yes bound from discount_yes discount_bound bounds_yes bounds_bound Exact = exact_is_sound yes bound
-each_is_sound yes bound from discount_yes discount_bound bounds_yes bounds_bound Discounted = discounted_is_sound from discount_yes discount_bound
-each_is_sound yes bound from discount_yes discount_bound bounds_yes bounds_bound Bounds = bounds_are_sound bounds_yes bounds_bound
+each_is_sound accepts bound from discount_yes discount_bound bounds_yes bounds_bound Exact = exact_is_sound accepts bound
+each_is_sound accepts bound from discount_yes discount_bound bounds_yes bounds_bound Discounted = discounted_is_sound from discount_yes discount_bound
+each_is_sound accepts bound from discount_yes discount_bound bounds_yes bounds_bound Bounds = bounds_are_sound bounds_yes bounds_bound
 
 -- ---- a text is due
 
@@ -186,6 +186,10 @@ short_is bytes text false e = cc e
 
 pub refused_is_due : (wanted : Option CertificateKind) (m : Mdp) (r : PlainRefusal) (bytes : List ℕ) → second_due bytes ≡ Err r → IsCheckDue wanted m bytes (Err r)
 refused_is_due wanted m r bytes e = sym (ap (λ (x : Result (List ℕ) PlainRefusal). x >>= (λ text. said_to_text (checker_for wanted bytes) m text)) e)
+
+pub by_kind : (kind given : CertificateKind) (m : Mdp) (text : List ℕ) (said : Said) → given ≡ kind → (said ≡ Err no_memory) ⊎ (said ≡ said_to_text (checker_of given) m text)
+    → (said ≡ Err no_memory) ⊎ (said ≡ said_to_text (checker_of kind) m text)
+by_kind kind given m text said is due = subst (λ (k : CertificateKind). (said ≡ Err no_memory) ⊎ (said ≡ said_to_text (checker_of k) m text)) is due
 
 pub read_is_due : (wanted : Option CertificateKind) (m : Mdp) (said : Said) (lent text : List ℕ) → lent ≡ text → (said ≡ Err no_memory) ⊎ (said ≡ said_to_text (checker_for wanted lent) m lent)
     → (said ≡ Err no_memory) ⊎ ((bytes : List ℕ) → second_due bytes ≡ Ok text → IsCheckDue wanted m bytes said)

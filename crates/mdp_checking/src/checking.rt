@@ -6,7 +6,7 @@ ghost use Rattle.mdp_command.specs.Read.{IsReadAs, is_of_model};
 ghost use Rattle.mdp_command.specs.Said.{said};
 ghost use Rattle.mdp_command.specs.Streams.{input};
 ghost use Rattle.mdp_checking.specs.Due.{said_to_text, IsCheckDue};
-ghost use Rattle.mdp_checking.specs.Kinds.{as_answer, discounted, between, checker_of};
+ghost use Rattle.mdp_checking.specs.Kinds.{as_answer, discounted, between, checker_for};
 ghost use Rattle.mdp_checking.specs.Shown.{IsCheckRead};
 
 use crate::kind::{CertificateKind, chosen};
@@ -71,17 +71,17 @@ fn of_bounds(alloc: Global, model: &Model, bytes: &[u8]) -> Result<Vec<u8>, Refu
     }
 }
 
-/// The same of a certificate of this kind.
+/// The same of a certificate of the wanted kind, or of that which its first line names.
 fn of_text(
     alloc: Global,
-    kind: CertificateKind,
+    wanted: Option<CertificateKind>,
     model: &Model,
     bytes: &[u8],
 ) -> Result<Vec<u8>, Refusal>
-    ensures due { (said result ≡ Err no_memory) ⊎ (said result ≡ said_to_text (checker_of kind) model.now bytes.now) }
+    ensures due { (said result ≡ Err no_memory) ⊎ (said result ≡ said_to_text (checker_for wanted bytes.now) model.now bytes.now) }
     ensures not_of_model { is_of_model (said result) ≡ false }
 {
-    match kind {
+    match chosen(wanted, bytes) {
         CertificateKind::Exact => of_exact(alloc, model, bytes),
         CertificateKind::Discounted => of_discounted(alloc, model, bytes),
         CertificateKind::Bounds => of_bounds(alloc, model, bytes),
@@ -100,7 +100,7 @@ fn of_source<C: Source>(
     ensures end { OnOk (said result) (IsAtEnd (C.left second.new)) }
 {
     match read_second(alloc, second) {
-        Ok(bytes) => of_text(alloc, chosen(wanted, &bytes), model, &bytes),
+        Ok(bytes) => of_text(alloc, wanted, model, &bytes),
         Err(refusal) => Err(refusal),
     }
 }
