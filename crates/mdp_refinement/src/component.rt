@@ -21,7 +21,8 @@ pub(crate) struct FloatRow {
     end: usize,
 }
 
-/// A strong component with more than one node, in floats: its rows that lead to no node outside whose value isn't known. Nodes are named by their places in it; an entry is the place of a node and its probability.
+/// A strong component with more than one node, in floats: its rows that lead to no node outside whose value isn't known. Nodes are named by their places in
+/// it; an entry is the place of a node and its probability.
 #[derive(Drop)]
 pub(crate) struct Component {
     pub(crate) nodes: Vec<u32>,

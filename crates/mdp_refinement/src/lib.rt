@@ -31,3 +31,4 @@ pub use recurrent::{EndGains, end_gains};
 pub use rows::{Entry, Rows, Scale, WholeRow, value_at};
 pub use solving::{Solution, solve};
 pub use strong::{Components, strong_components};
+pub use whole::power_of_ten;

@@ -263,10 +263,7 @@ impl Rows {
     /// Where the rows of a node begin and end.
     pub fn range_of(&self, node: u32) -> (usize, usize) {
         let place = node as usize;
-        (
-            self.start_of(place),
-            self.start_of(place.saturating_add(1)),
-        )
+        (self.start_of(place), self.start_of(place.saturating_add(1)))
     }
 
     /// A row by its place.

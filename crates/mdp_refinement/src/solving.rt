@@ -12,8 +12,8 @@ use crate::rows::{Rows, value_at};
 use crate::strong::{Components, strong_components};
 use std::alloc::{AllocError, Global};
 
-/// A value for each node, in units, if one was found, and the place of the row that it takes; none where it takes no row. It is full where no component
-/// was left to interval iteration, or to the value that is a bound anyway, for the numbers in it alone.
+/// A value for each node, in units, if one was found, and the place of the row that it takes; none where it takes no row. It is full where
+/// refinement came to an end in each component, and no number in it was past 128 bits.
 #[derive(Drop)]
 pub struct Solution {
     pub values: Vec<Option<i128>>,
@@ -127,7 +127,10 @@ impl Solver<'_> {
         let values = &mut self.solution.values;
         match refine(alloc, self.rows, component, self.task, start, values)? {
             Some(policy) => self.pick(component, &policy),
-            None => self.solve_by_intervals(component, outside.start(self.task.bound), start),
+            None if self.task.to_end => {
+                self.solve_by_intervals(component, outside.start(self.task.bound), start);
+            }
+            None => self.solution.is_full = false,
         }
         Ok(())
     }
@@ -226,6 +229,9 @@ pub fn solve(
     };
     for component in 0..components.count() {
         solver.solve_component(alloc, component)?;
+        if !solver.solution.is_full && !task.to_end {
+            break;
+        }
     }
     Ok(solver.solution)
 }
