@@ -72,7 +72,11 @@ impl Payoffs<'_> {
     /// How many choices a state has; none where there is no such state.
     pub(crate) fn choices(self, s: u32) -> u32 {
         let model = self.model;
-        if s < model.states() { model.choices(s) } else { 0 }
+        if s < model.states() {
+            model.choices(s)
+        } else {
+            0
+        }
     }
 
     /// Appends the row of a choice with its reward, if there is such a choice.

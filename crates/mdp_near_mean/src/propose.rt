@@ -10,8 +10,8 @@ use mdp_near::{
 };
 use mdp_num::Memory;
 use mdp_refinement::{
-    Bound, EndGains, Nodes, Rows, Scale, Solution, Task, end_gains, flag_at, number, number_at, power_of_ten,
-    put, solve, value_at,
+    Bound, EndGains, Nodes, Rows, Scale, Solution, Task, end_gains, flag_at, number, number_at,
+    power_of_ten, put, solve, value_at,
 };
 use mdp_rows::{Dir, Marks, Model};
 use std::alloc::{AllocError, Global};
@@ -271,7 +271,7 @@ fn all_ends(
 }
 
 /// What the search comes to in units of 10 to the power of -`digits`.
-fn outcome(alloc: Global, payoffs: Payoffs<'_>, digits: u32) -> Result<Outcome, Memory> {
+fn searched(alloc: Global, payoffs: Payoffs<'_>, digits: u32) -> Result<Outcome, Memory> {
     let model = payoffs.model;
     let backward = Backward::new(alloc, model)?;
     let nodes = Nodes::new(alloc, &all_ends(alloc, model, &backward)?)?;
@@ -328,7 +328,7 @@ pub fn near_mean(
     let states = model.states();
     let digits = digits.min(MOST_DIGITS);
     let one = power_of_ten(digits);
-    let found = outcome(alloc, Payoffs { model, name, dir }, digits)?;
+    let found = searched(alloc, Payoffs { model, name, dir }, digits)?;
     let (below, above) = match dir {
         Dir::Max => (&found.lower, &found.upper),
         Dir::Min => (&found.upper, &found.lower),

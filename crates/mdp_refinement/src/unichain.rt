@@ -52,10 +52,7 @@ impl Led {
 
 impl<'a> Unichain<'a> {
     /// The policy of each node's first row.
-    pub(crate) fn new(
-        alloc: Global,
-        component: &'a Component,
-    ) -> Result<Unichain<'a>, AllocError> {
+    pub(crate) fn new(alloc: Global, component: &'a Component) -> Result<Unichain<'a>, AllocError> {
         let mut policy = Vec::new(alloc);
         for place in 0..component.len() {
             policy.push(component.range_of(place).0)?;
