@@ -282,9 +282,10 @@ fn searched(alloc: Global, payoffs: Payoffs<'_>, digits: u32) -> Result<Outcome,
         room: payoffs.room().saturating_add(BIAS_ROOM),
     };
     let staying = payoffs.staying(alloc, &nodes)?;
-    let inner = payoffs.flagged_rows(alloc, &states, &staying, scale)?;
     let every = ChoiceFlags::all(alloc, model)?;
     let all = payoffs.flagged_rows(alloc, &states, &every, scale)?;
+    let mut inner = payoffs.flagged_rows(alloc, &states, &staying, scale)?;
+    inner.limit_to(&all);
     let found = end_gains(alloc, &inner, model.states())?;
     let bias = known_biases(alloc, &found)?;
     let gathered = Gathered {
