@@ -4,14 +4,14 @@ use std::alloc::{AllocError, Global};
 
 /// A flag for each choice of a model, state by state.
 #[derive(Drop)]
-pub(crate) struct ChoiceFlags {
+pub struct ChoiceFlags {
     starts: Vec<usize>,
     flags: Vec<bool>,
 }
 
 impl ChoiceFlags {
     /// No flag yet.
-    pub(crate) fn empty(alloc: Global) -> ChoiceFlags {
+    pub fn empty(alloc: Global) -> ChoiceFlags {
         ChoiceFlags {
             starts: Vec::new(alloc),
             flags: Vec::new(alloc),
@@ -19,19 +19,19 @@ impl ChoiceFlags {
     }
 
     /// Goes on to the next state, whose flags are pushed from now on.
-    pub(crate) fn push_state(&mut self) -> Result<(), AllocError> {
+    pub fn push_state(&mut self) -> Result<(), AllocError> {
         self.starts.push(self.flags.len())?;
         Ok(())
     }
 
     /// Appends the flag of the next choice of the last state.
-    pub(crate) fn push(&mut self, flag: bool) -> Result<(), AllocError> {
+    pub fn push(&mut self, flag: bool) -> Result<(), AllocError> {
         self.flags.push(flag)?;
         Ok(())
     }
 
     /// All choices of a model, flagged.
-    pub(crate) fn all(alloc: Global, model: &Model) -> Result<ChoiceFlags, AllocError> {
+    pub fn all(alloc: Global, model: &Model) -> Result<ChoiceFlags, AllocError> {
         let mut all = ChoiceFlags::empty(alloc);
         for s in 0..model.states() {
             all.push_state()?;
@@ -48,19 +48,19 @@ impl ChoiceFlags {
     }
 
     /// The flags of a state's choices.
-    pub(crate) fn of(&self, s: u32) -> &[bool] {
+    pub fn of(&self, s: u32) -> &[bool] {
         let from = self.start_of(s as usize);
         let to = self.start_of((s as usize).saturating_add(1));
         self.flags.get(from..to).unwrap_or(&[])
     }
 
     /// Whether a choice is flagged.
-    pub(crate) fn at(&self, s: u32, c: u32) -> bool {
+    pub fn at(&self, s: u32, c: u32) -> bool {
         flag_at(self.of(s), c)
     }
 
     /// Takes the flag from a choice. Whether it had it.
-    pub(crate) fn clear(&mut self, s: u32, c: u32) -> bool {
+    pub fn clear(&mut self, s: u32, c: u32) -> bool {
         let start = self.start_of(s as usize);
         match self.flags.get_mut(start.saturating_add(c as usize)) {
             Some(flag) if *flag => {

@@ -187,7 +187,7 @@ fn components_of(alloc: Global, model: &Model, left: &Left) -> Result<Components
 /// Each round takes the strong components of the choices that are left and forbids each choice that leaves its own, until none does (de Alfaro 1997).
 /// Between rounds a state that has no choice left takes from the others the choices that lead to it, so that states which fall away one after the other
 /// take no round each.
-pub(crate) fn ends_inside(
+pub fn ends_inside(
     alloc: Global,
     model: &Model,
     backward: &Backward,

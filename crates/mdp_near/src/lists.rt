@@ -8,7 +8,7 @@ use mdp_rows::Marks;
 use std::alloc::{AllocError, Global};
 
 /// The most digits that values are given.
-pub(crate) const MOST_DIGITS: u32 = 30;
+pub const MOST_DIGITS: u32 = 30;
 
 /// The marks, one truth value for each state.
 pub(crate) fn flags_of(alloc: Global, states: u32, marks: &Marks) -> Result<Vec<bool>, AllocError>
@@ -18,7 +18,7 @@ pub(crate) fn flags_of(alloc: Global, states: u32, marks: &Marks) -> Result<Vec<
 }
 
 /// A value in units as a fraction.
-pub(crate) fn fraction(value: i128, one: i128) -> Frac {
+pub fn fraction(value: i128, one: i128) -> Frac {
     match Frac::try_new(value, one) {
         Ok(fraction) => fraction,
         Err(_) => Frac::whole(0),
@@ -26,7 +26,7 @@ pub(crate) fn fraction(value: i128, one: i128) -> Frac {
 }
 
 /// A number for each state.
-pub(crate) fn numbers(alloc: Global, states: u32, values: &[u32]) -> Result<Vec<u32>, AllocError>
+pub fn numbers(alloc: Global, states: u32, values: &[u32]) -> Result<Vec<u32>, AllocError>
     ensures { IfOk result (λ list. length list.items ≡ states) }
 {
     (0..states).map(|s| number_at(values, s)).collect(alloc)

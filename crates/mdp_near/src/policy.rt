@@ -8,11 +8,11 @@ use std::alloc::{AllocError, Global};
 
 /// A model whose states are gathered in nodes, with the choices that may be taken within a node, if not all may.
 #[derive(Clone, Copy)]
-pub(crate) struct Gathered<'a> {
-    pub(crate) model: &'a Model,
-    pub(crate) backward: &'a Backward,
-    pub(crate) nodes: &'a Nodes,
-    pub(crate) inner: Option<&'a ChoiceFlags>,
+pub struct Gathered<'a> {
+    pub model: &'a Model,
+    pub backward: &'a Backward,
+    pub nodes: &'a Nodes,
+    pub inner: Option<&'a ChoiceFlags>,
 }
 
 impl Gathered<'_> {
@@ -100,7 +100,7 @@ fn start_routes(alloc: Global, given: &[u32]) -> Result<Routes, AllocError> {
 }
 
 /// The choice of each state: that which was picked for its node, where the node's other states are led to the one that has it; else the given one.
-pub(crate) fn policy_of(
+pub fn policy_of(
     alloc: Global,
     gathered: Gathered<'_>,
     rows: &Rows,

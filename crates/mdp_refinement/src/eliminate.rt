@@ -12,7 +12,7 @@ use std::mem;
 const MOST_PRODUCTS: usize = 20_000_000;
 
 /// Entries of a row or a column, each with a place.
-type Entries = Vec<(u32, f64)>;
+pub(crate) type Entries = Vec<(u32, f64)>;
 
 /// A node that was eliminated: what it gave to the nodes that were left, and what share of it each of those took.
 #[derive(Drop)]
@@ -201,22 +201,22 @@ fn counts_of(alloc: Global, lists: &[Vec<u32>]) -> Result<Vec<usize>, AllocError
 }
 
 impl System {
-    /// The rows of a policy, with all nodes waiting.
-    fn new(alloc: Global, component: &Component, policy: &[usize]) -> Result<System, AllocError> {
-        let rows = rows_of(alloc, component, policy)?;
+    /// These rows and what each gives to nodes outside, with all nodes waiting.
+    fn new(alloc: Global, rows: Vec<Entries>, exits: Vec<f64>) -> Result<System, AllocError> {
         let preds = preds_of(alloc, &rows)?;
         let counts = counts_of(alloc, &preds)?;
+        let nodes = rows.len();
         let mut system = System {
             rows,
             preds,
             counts,
-            exits: exits_of(alloc, component, policy)?,
-            is_gone: vec![in alloc; false; policy.len()]?,
+            exits,
+            is_gone: vec![in alloc; false; nodes]?,
             heap: BinaryHeap::new(alloc),
             merged: Vec::new(alloc),
             added: Vec::new(alloc),
         };
-        for node in 0..number(policy.len()) {
+        for node in 0..number(nodes) {
             system.push(node)?;
         }
         Ok(system)
@@ -360,16 +360,17 @@ impl System {
     }
 }
 
-/// Eliminates all nodes of a component under a policy.
-pub(crate) fn eliminated(
+/// Eliminates all nodes: of each its row, whose entries are ordered by target, and what it gives to nodes outside.
+pub(crate) fn eliminated_rows(
     alloc: Global,
-    component: &Component,
-    policy: &[usize],
+    rows: Vec<Entries>,
+    exits: Vec<f64>,
 ) -> Result<Elimination, AllocError> {
-    let mut system = System::new(alloc, component, policy)?;
+    let nodes = rows.len();
+    let mut system = System::new(alloc, rows, exits)?;
     let mut steps = Vec::new(alloc);
     let mut products = 0usize;
-    for _ in 0..policy.len() {
+    for _ in 0..nodes {
         let Some((node, more)) = system.next()? else {
             break;
         };
@@ -383,4 +384,15 @@ pub(crate) fn eliminated(
         }
     }
     Ok(Elimination::Done(Factors { steps }))
+}
+
+/// Eliminates all nodes of a component under a policy.
+pub(crate) fn eliminated(
+    alloc: Global,
+    component: &Component,
+    policy: &[usize],
+) -> Result<Elimination, AllocError> {
+    let rows = rows_of(alloc, component, policy)?;
+    let exits = exits_of(alloc, component, policy)?;
+    eliminated_rows(alloc, rows, exits)
 }

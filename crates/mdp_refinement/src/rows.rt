@@ -190,10 +190,22 @@ impl Rows {
         row: Row<'_>,
         reward: &Frac,
     ) -> Result<(), AllocError> {
-        let node = self.last_node();
-        if nodes.are_in(row.targets, node) {
+        if nodes.are_in(row.targets, self.last_node()) {
             return Ok(());
         }
+        self.push_any_row(nodes, state, choice, row, reward)
+    }
+
+    /// Appends the row of a choice, with its reward, to the last node, also one that stays in the node. One that is too wide is only noted.
+    pub fn push_any_row(
+        &mut self,
+        nodes: &Nodes,
+        state: u32,
+        choice: u32,
+        row: Row<'_>,
+        reward: &Frac,
+    ) -> Result<(), AllocError> {
+        let node = self.last_node();
         if let Some(numbers) = self.numbers_of(row, reward) {
             if self.take_entries(nodes, row, numbers.denominator)? {
                 return self.push_pending(state, choice, numbers);
@@ -224,6 +236,13 @@ impl Rows {
     pub fn set_reward(&mut self, place: usize, reward: i128) {
         if let Some(row) = self.rows.get_mut(place) {
             row.reward = reward;
+        }
+    }
+
+    /// Leaves to no node more digits than other rows of the same nodes do, so that its values can be put into those too.
+    pub fn limit_to(&mut self, other: &Rows) {
+        for (digits, most) in self.node_digits.iter_mut().zip(&other.node_digits) {
+            *digits = (*digits).min(*most);
         }
     }
 

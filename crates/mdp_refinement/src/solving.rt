@@ -198,7 +198,7 @@ fn first_solution(
 }
 
 /// The graph of the nodes: an edge for each entry.
-fn graph_of(alloc: Global, rows: &Rows, nodes: u32) -> Result<Graph, AllocError> {
+pub(crate) fn graph_of(alloc: Global, rows: &Rows, nodes: u32) -> Result<Graph, AllocError> {
     let mut graph = Graph::empty(alloc);
     for node in 0..nodes {
         graph.push_node()?;

@@ -6,6 +6,7 @@ ghost use Rattle.mdp_search_bounds.specs.Held.{HasMeanSizes, IsHeldMean};
 use crate::ladder::{Search, bounds_by};
 use crate::simplest::simplest_mean;
 use mdp_bounds::{MeanBoundsCert, Verdict, holds_bounds_mean};
+use mdp_near_mean::near_mean;
 use mdp_num::Memory;
 use mdp_rows::{Dir, Model};
 use mdp_trivial_bounds::trivial_mean;
@@ -27,8 +28,8 @@ impl Search for Averaging<'_> {
 
     ghost is_held = { λ p cert. IsHeldMean p.dir p.model.now p.name cert };
 
-    fn near(&self, alloc: Global, _digits: u32) -> Result<MeanBoundsCert, Memory> {
-        trivial_mean(alloc, self.model, self.name)
+    fn near(&self, alloc: Global, digits: u32) -> Result<MeanBoundsCert, Memory> {
+        near_mean(alloc, self.model, self.name, self.dir, digits)
     }
 
     fn simplest(

@@ -1,0 +1,109 @@
+//! The rows of choices that leave the nodes of end components.
+
+use crate::payoffs::Payoffs;
+use crate::values::gain_in_unit;
+use mdp_num::Frac;
+use mdp_refinement::{Bound, Nodes, Rows, Scale, WholeRow, value_at};
+use std::alloc::{AllocError, Global};
+
+/// Appends the rows of the choices of a state that leave its node, with their rewards or without.
+fn push_leaving(
+    rows: &mut Rows,
+    payoffs: Payoffs<'_>,
+    nodes: &Nodes,
+    s: u32,
+    is_earning: bool,
+) -> Result<(), AllocError> {
+    let model = payoffs.model;
+    if s >= model.states() {
+        return Ok(());
+    }
+    for c in 0..model.choices(s) {
+        let reward = if is_earning {
+            payoffs.reward(s, c)
+        } else {
+            Frac::whole(0)
+        };
+        rows.push_row(nodes, s, c, model.row(s, c), &reward)?;
+    }
+    Ok(())
+}
+
+/// The rows of the choices that leave their nodes, with their rewards or without, and before those of a node one that stops with the value of its first
+/// state, if that has one.
+pub(crate) fn leaving_rows(
+    alloc: Global,
+    payoffs: Payoffs<'_>,
+    nodes: &Nodes,
+    stops: &[Option<i128>],
+    is_earning: bool,
+    scale: Scale,
+) -> Result<Rows, AllocError> {
+    let mut rows = Rows::empty(alloc, nodes.count(), scale)?;
+    let mut last = None;
+    for s in nodes.order() {
+        let node = nodes.of(*s);
+        if last != Some(node) {
+            rows.push_node()?;
+            last = Some(node);
+            if let Some(value) = value_at(stops, *s) {
+                rows.push_stop(*s, 0, value)?;
+            }
+        }
+        push_leaving(&mut rows, payoffs, nodes, *s, is_earning)?;
+    }
+    Ok(rows)
+}
+
+/// What a choice earns over the bias and the gain of its state, in the row's denominator times its unit, rounded up. None past 128 bits, or where
+/// a value isn't known. `all` are the rows of all choices.
+fn earned_over(
+    all: &Rows,
+    row: &WholeRow,
+    bias: &[Option<i128>],
+    gain: Option<i128>,
+) -> Option<i128> {
+    let place = all.range_of(row.state).0.checked_add(row.choice as usize)?;
+    let own = all.row(place)?;
+    let excess = all.excess(own, bias, Bound::Upper)?;
+    let steps = gain_in_unit(gain?, own.unit, Bound::Upper)?;
+    excess.checked_sub(own.denominator.checked_mul(steps)?)
+}
+
+/// Gives the rows of a node as rewards what their choices earn over the bias and the gain of their states. Whether that was possible.
+fn offset_node(
+    rows: &mut Rows,
+    all: &Rows,
+    bias: &[Option<i128>],
+    node: u32,
+    gain: Option<i128>,
+) -> bool {
+    let (from, to) = rows.range_of(node);
+    for place in from..to {
+        let earned = match rows.row(place) {
+            Some(row) => earned_over(all, row, bias, gain),
+            None => None,
+        };
+        match earned {
+            Some(reward) => rows.set_reward(place, reward),
+            None => return false,
+        }
+    }
+    true
+}
+
+/// Gives the rows of all nodes as rewards what their choices earn over the bias and the gains of their states. Whether that was possible.
+pub(crate) fn offset_rows(
+    rows: &mut Rows,
+    all: &Rows,
+    nodes: &Nodes,
+    bias: &[Option<i128>],
+    gains: &[Option<i128>],
+) -> bool {
+    for node in 0..nodes.count() {
+        if !offset_node(rows, all, bias, node, value_at(gains, node)) {
+            return false;
+        }
+    }
+    true
+}

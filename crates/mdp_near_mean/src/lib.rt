@@ -1,0 +1,10 @@
+//! Bounds of mean payoffs, near to each other, proposed by a search. Nothing is promised of what it proposes but its lengths: it is to be held against the
+//! rules of mdp_bounds.
+#![tactic(auto)]
+
+mod leaving;
+mod payoffs;
+mod propose;
+mod values;
+
+pub use propose::near_mean;

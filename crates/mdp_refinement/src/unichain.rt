@@ -1,0 +1,372 @@
+//! Policies of an end component with one recurrent class, improved in floats until none has a greater gain (Howard 1960).
+
+use crate::component::{Component, FloatRow};
+use crate::eliminate::{Elimination, Entries, Factors, eliminated_rows};
+use crate::graph::Graph;
+use crate::lists::{flag_at, float_at, number, put};
+use crate::strong::{Components, strong_components};
+use std::alloc::{AllocError, Global};
+
+/// How many policies are tried.
+const MOST_POLICIES: usize = 200;
+
+/// What sums of floats may lose, as a part of the greatest value.
+const LOSS: f64 = 1e-12;
+
+/// The least advantage that counts where all values are 0.
+const LEAST_ADVANTAGE: f64 = 1e-300;
+
+/// A policy of an end component, a row for each node, and values relative to one node of its recurrent class.
+#[derive(Drop)]
+pub(crate) struct Unichain<'a> {
+    component: &'a Component,
+    policy: Vec<usize>,
+    values: Vec<f64>,
+}
+
+/// The nodes of a policy's recurrent classes: the strong components of its graph, and a node of each that it doesn't leave.
+#[derive(Drop)]
+struct Classes {
+    parts: Components,
+    references: Vec<u32>,
+}
+
+/// The nodes that are led to a class, in the order in which they were.
+#[derive(Drop)]
+struct Led {
+    is_led: Vec<bool>,
+    queue: Vec<u32>,
+}
+
+impl Led {
+    /// Takes in a node, unless it is in. Whether it was not.
+    fn take(&mut self, node: u32) -> Result<bool, AllocError> {
+        if flag_at(&self.is_led, node) {
+            return Ok(false);
+        }
+        put(&mut self.is_led, node, true);
+        self.queue.push(node)?;
+        Ok(true)
+    }
+}
+
+impl<'a> Unichain<'a> {
+    /// The policy of each node's first row.
+    pub(crate) fn new(alloc: Global, component: &'a Component) -> Result<Unichain<'a>, AllocError> {
+        let mut policy = Vec::new(alloc);
+        for place in 0..component.len() {
+            policy.push(component.range_of(place).0)?;
+        }
+        Ok(Unichain {
+            component,
+            policy,
+            values: vec![in alloc; 0.0; component.len()]?,
+        })
+    }
+
+    /// The row of each node.
+    pub(crate) fn policy(&self) -> &[usize] {
+        &self.policy
+    }
+
+    /// The relative values.
+    pub(crate) fn values(&self) -> &[f64] {
+        &self.values
+    }
+
+    /// The entries of the policy's row at a node.
+    fn entries_at(&self, node: u32) -> &[(u32, f64)] {
+        let chosen = self.policy.get(node as usize).copied();
+        match chosen.and_then(|place| self.component.rows.get(place)) {
+            Some(row) => self.component.entries_of(row),
+            None => &[],
+        }
+    }
+
+    /// Appends the edges of the policy's row at a node.
+    fn push_edges(&self, graph: &mut Graph, node: u32) -> Result<(), AllocError> {
+        for entry in self.entries_at(node) {
+            graph.push_edge(entry.0)?;
+        }
+        Ok(())
+    }
+
+    /// The strong components of the policy's graph.
+    fn parts(&self, alloc: Global) -> Result<Components, AllocError> {
+        let mut graph = Graph::empty(alloc);
+        for node in 0..number(self.policy.len()) {
+            graph.push_node()?;
+            self.push_edges(&mut graph, node)?;
+        }
+        let open = vec![in alloc; true; self.policy.len()]?;
+        strong_components(alloc, &graph, &open)
+    }
+
+    /// Whether the policy doesn't leave the component of a number.
+    fn is_closed(&self, parts: &Components, part: usize) -> bool {
+        parts.nodes_of(part).iter().all(|node| {
+            self.entries_at(*node)
+                .iter()
+                .all(|entry| parts.of(entry.0) == number(part))
+        })
+    }
+
+    /// The recurrent classes.
+    fn classes(&self, alloc: Global) -> Result<Classes, AllocError> {
+        let parts = self.parts(alloc)?;
+        let mut references = Vec::new(alloc);
+        for part in 0..parts.count() {
+            if self.is_closed(&parts, part) {
+                if let Some(first) = parts.nodes_of(part).first() {
+                    references.push(*first)?;
+                }
+            }
+        }
+        Ok(Classes { parts, references })
+    }
+
+    /// The policy's row at a node without its entries to reference nodes, and the probability of those.
+    fn row_without(
+        &self,
+        alloc: Global,
+        is_reference: &[bool],
+        node: u32,
+    ) -> Result<(Entries, f64), AllocError> {
+        let mut row = Vec::new(alloc);
+        if flag_at(is_reference, node) {
+            return Ok((row, 1.0));
+        }
+        let mut exit = 0.0;
+        for (target, prob) in self.entries_at(node) {
+            if flag_at(is_reference, *target) {
+                exit += *prob;
+            } else {
+                row.push((*target, *prob))?;
+            }
+        }
+        Ok((row, exit))
+    }
+
+    /// Eliminates the nodes under the policy, as if it ended at the reference nodes.
+    fn eliminated(&self, alloc: Global, references: &[u32]) -> Result<Option<Factors>, AllocError> {
+        let mut is_reference = vec![in alloc; false; self.policy.len()]?;
+        for node in references {
+            put(&mut is_reference, *node, true);
+        }
+        let mut rows = Vec::new(alloc);
+        let mut exits = Vec::new(alloc);
+        for node in 0..number(self.policy.len()) {
+            let (row, exit) = self.row_without(alloc, &is_reference, node)?;
+            rows.push(row)?;
+            exits.push(exit)?;
+        }
+        match eliminated_rows(alloc, rows, exits)? {
+            Elimination::Done(factors) => Ok(Some(factors)),
+            Elimination::Improper | Elimination::Dense => Ok(None),
+        }
+    }
+
+    /// What the policy's row at each node earns, less a gain; 0 at the reference nodes.
+    fn earned(
+        &self,
+        alloc: Global,
+        gains: &[f64],
+        gain: f64,
+        references: &[u32],
+    ) -> Result<Vec<f64>, AllocError> {
+        let mut earned = Vec::new(alloc);
+        for place in &self.policy {
+            earned.push(gains.get(*place).copied().unwrap_or(0.0) - gain)?;
+        }
+        for node in references {
+            put(&mut earned, *node, 0.0);
+        }
+        Ok(earned)
+    }
+
+    /// The sum of values over the policy's row at a node.
+    fn follow(&self, node: u32, values: &[f64]) -> f64 {
+        let mut total = 0.0;
+        for (target, prob) in self.entries_at(node) {
+            total += *prob * float_at(values, *target);
+        }
+        total
+    }
+
+    /// The gain of the class of each reference node: what is earned between two visits, over the steps that it takes.
+    fn gains_of(
+        &self,
+        alloc: Global,
+        gains: &[f64],
+        factors: &Factors,
+        references: &[u32],
+    ) -> Result<Vec<f64>, AllocError> {
+        let mut steps = vec![in alloc; 0.0; self.policy.len()]?;
+        let mut totals = vec![in alloc; 0.0; self.policy.len()]?;
+        let mut one_each = vec![in alloc; 1.0; self.policy.len()]?;
+        for node in references {
+            put(&mut one_each, *node, 0.0);
+        }
+        factors.solve(&mut one_each, &mut steps);
+        let mut earned = self.earned(alloc, gains, 0.0, references)?;
+        factors.solve(&mut earned, &mut totals);
+        let mut found = Vec::new(alloc);
+        for node in references {
+            let place = self.policy.get(*node as usize).copied().unwrap_or(0);
+            let own = gains.get(place).copied().unwrap_or(0.0);
+            let total = own + self.follow(*node, &totals);
+            found.push(total / (1.0 + self.follow(*node, &steps)))?;
+        }
+        Ok(found)
+    }
+
+    /// Leads to a node others, by the policy's rows alone or by any.
+    fn lead_to(&mut self, node: u32, led: &mut Led, keeps_policy: bool) -> Result<(), AllocError> {
+        for entry in self.component.leading_to(node) {
+            if let Some((place, before)) = self.component.owner_of(*entry) {
+                let is_chosen = self.policy.get(before as usize).copied() == Some(place);
+                if (is_chosen || !keeps_policy) && led.take(before)? {
+                    put(&mut self.policy, before, place);
+                }
+            }
+        }
+        Ok(())
+    }
+
+    /// Leads to the nodes that are led already all that can be, by the policy's rows alone or by any.
+    fn lead_all(&mut self, led: &mut Led, keeps_policy: bool) -> Result<(), AllocError> {
+        for place in 0..self.policy.len() {
+            let Some(node) = led.queue.get(place).copied() else {
+                break;
+            };
+            self.lead_to(node, led, keeps_policy)?;
+        }
+        Ok(())
+    }
+
+    /// Leads all nodes to the class of a reference node: those that the policy leads there keep their rows.
+    fn lead_to_class(
+        &mut self,
+        alloc: Global,
+        parts: &Components,
+        reference: u32,
+    ) -> Result<(), AllocError> {
+        let mut led = Led {
+            is_led: vec![in alloc; false; self.policy.len()]?,
+            queue: Vec::new(alloc),
+        };
+        for node in parts.nodes_of(parts.of(reference) as usize) {
+            led.take(*node)?;
+        }
+        self.lead_all(&mut led, true)?;
+        self.lead_all(&mut led, false)
+    }
+
+    /// A node of the recurrent class of greatest gain, to which all nodes are led. None where elimination fails.
+    fn joined(&mut self, alloc: Global, gains: &[f64]) -> Result<Option<u32>, AllocError> {
+        let classes = self.classes(alloc)?;
+        if let [only] = classes.references.as_slice() {
+            return Ok(Some(*only));
+        }
+        let Some(factors) = self.eliminated(alloc, &classes.references)? else {
+            return Ok(None);
+        };
+        let found = self.gains_of(alloc, gains, &factors, &classes.references)?;
+        let Some(reference) = greatest(&found, &classes.references) else {
+            return Ok(None);
+        };
+        self.lead_to_class(alloc, &classes.parts, reference)?;
+        Ok(Some(reference))
+    }
+
+    /// The values of the policy relative to a reference node of its only class, and its gain. None where elimination fails.
+    fn evaluate(
+        &mut self,
+        alloc: Global,
+        gains: &[f64],
+        reference: u32,
+    ) -> Result<Option<f64>, AllocError> {
+        let references = [reference];
+        let Some(factors) = self.eliminated(alloc, &references)? else {
+            return Ok(None);
+        };
+        let found = self.gains_of(alloc, gains, &factors, &references)?;
+        let gain = float_at(&found, 0);
+        let mut earned = self.earned(alloc, gains, gain, &references)?;
+        factors.solve(&mut earned, &mut self.values);
+        Ok(Some(gain))
+    }
+
+    /// What a row comes to over the value of its node.
+    fn advantage(&self, row: &FloatRow, gain: f64) -> f64 {
+        self.component.sum(row, gain, &self.values) - row.total * float_at(&self.values, row.node)
+    }
+
+    /// The row of the node at a place that has more advantage than the policy's, and most of all.
+    fn improved(&self, gains: &[f64], place: usize, least: f64) -> Option<usize> {
+        let chosen = self.policy.get(place).copied()?;
+        let own = self.component.rows.get(chosen)?;
+        let mut best = self.advantage(own, gains.get(chosen).copied()?) + least;
+        let mut better = None;
+        let (from, to) = self.component.range_of(place);
+        for at in from..to {
+            let row = self.component.rows.get(at)?;
+            let more = self.advantage(row, gains.get(at).copied()?);
+            if more > best {
+                best = more;
+                better = Some(at);
+            }
+        }
+        better
+    }
+
+    /// The greatest absolute value.
+    fn size(&self) -> f64 {
+        let mut size = 0.0f64;
+        for value in &self.values {
+            size = size.max(value.abs());
+        }
+        size
+    }
+
+    /// Improves the policy by the values. Whether it changed.
+    fn improve(&mut self, gains: &[f64], gain: f64) -> bool {
+        let least = LOSS * (self.size() + gain.abs()) + LEAST_ADVANTAGE;
+        let mut is_changed = false;
+        for place in 0..self.policy.len() {
+            if let Some(row) = self.improved(gains, place, least) {
+                put(&mut self.policy, number(place), row);
+                is_changed = true;
+            }
+        }
+        is_changed
+    }
+
+    /// Finds a policy of greatest gain, and its relative values, for rows that earn this. Whether elimination went through.
+    pub(crate) fn run(&mut self, alloc: Global, gains: &[f64]) -> Result<bool, AllocError> {
+        for _ in 0..MOST_POLICIES {
+            let Some(reference) = self.joined(alloc, gains)? else {
+                return Ok(false);
+            };
+            let Some(gain) = self.evaluate(alloc, gains, reference)? else {
+                return Ok(false);
+            };
+            if !self.improve(gains, gain) {
+                break;
+            }
+        }
+        Ok(true)
+    }
+}
+
+/// The node of the greatest of these values, the first of equal ones.
+fn greatest(values: &[f64], nodes: &[u32]) -> Option<u32> {
+    let mut best = None;
+    for (value, node) in values.iter().zip(nodes) {
+        match best {
+            Some((old, _)) if !(*value > old) => {}
+            _ => best = Some((*value, *node)),
+        }
+    }
+    best.map(|(_, node)| node)
+}
