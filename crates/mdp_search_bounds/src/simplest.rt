@@ -160,6 +160,38 @@ fn capped(value: Option<Frac>, upper: Option<Frac>) -> Option<Frac> {
     if upper.is_some() { value } else { None }
 }
 
+/// The simplest reward of each state.
+fn simplest_rewards(
+    alloc: Global,
+    states: u32,
+    lower: &[Option<Frac>],
+    upper: &[Option<Frac>],
+) -> Result<Vec<Option<Frac>>, AllocError>
+    requires lower { length lower.now ≡ states }
+    requires upper { length upper.now ≡ states }
+    ensures { IfOk result (λ values. length values.items ≡ states) }
+{
+    (0..states)
+        .map(|s| simplest_reward_between(lower[s as usize], upper[s as usize]))
+        .collect(alloc)
+}
+
+/// The values as upper ones: infinite where there is no finite upper bound.
+fn all_capped(
+    alloc: Global,
+    states: u32,
+    values: &[Option<Frac>],
+    upper: &[Option<Frac>],
+) -> Result<Vec<Option<Frac>>, AllocError>
+    requires values { length values.now ≡ states }
+    requires upper { length upper.now ≡ states }
+    ensures { IfOk result (λ capped. length capped.items ≡ states) }
+{
+    (0..states)
+        .map(|s| capped(values[s as usize], upper[s as usize]))
+        .collect(alloc)
+}
+
 /// The certificate with the simplest fractions between its finite bounds as lower and as upper values; infinite ones stay.
 pub(crate) fn simplest_reward(
     alloc: Global,
@@ -170,14 +202,8 @@ pub(crate) fn simplest_reward(
     ensures { IfOk result (HasRewardSizes model.now) }
 {
     let states = model.states();
-    let below = &cert.lower;
-    let above = &cert.upper;
-    let lower: Vec<Option<Frac>> = (0..states)
-        .map(|s| simplest_reward_between(below[s as usize], above[s as usize]))
-        .collect(alloc)?;
-    let upper = (0..states)
-        .map(|s| capped(lower[s as usize], above[s as usize]))
-        .collect(alloc)?;
+    let lower = simplest_rewards(alloc, states, &cert.lower, &cert.upper)?;
+    let upper = all_capped(alloc, states, &lower, &cert.upper)?;
     let choices = cert.choices.clone()?;
     let ranks = cert.ranks.clone()?;
     Ok(RewardBoundsCert {
