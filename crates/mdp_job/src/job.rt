@@ -4,7 +4,7 @@ ghost use Rattle.std.specs.String.{string_bytes};
 ghost use Rattle.mdp_math.specs.Rational.{of_int, lt_ℚ};
 ghost use Rattle.mdp_job.specs.Job.{asked, plain_query};
 ghost use Rattle.mdp_job.specs.Words.{job_of, rule_of, dir_of, reach_of, reward_of, mean_of, query_of, solve_of, threshold_of, witness_of, rows_of, check_of, drill_by};
-ghost use Rattle.mdp_job.specs.Words.{drill_of, stay_of, steps_of, horizon_of, policy_of, factor_of, discount_of, discount_check_of, digits_of, bounds_query_of, bounds_digits_of, bounds_of};
+ghost use Rattle.mdp_job.specs.Words.{drill_of, stay_of, steps_of, horizon_of, policy_of, chain_of, factor_of, discount_of, discount_check_of, digits_of, bounds_query_of, bounds_digits_of, bounds_of};
 ghost use Rattle.mdp_job.specs.Words.{bounds_check_of, other_of, job_by};
 
 use crate::digits::whole_word;
@@ -65,6 +65,10 @@ pub enum Job<'a> {
     Policy {
         rule: RowRule,
         label: &'a [u8],
+    },
+    /// `chain MODEL ROWS POLICY`: the model in which each state keeps only the choice that a given policy, or a certificate, names.
+    Chain {
+        rule: RowRule,
     },
     /// `discount MODEL ROWS DIR NAME FACTOR`: the best reward of this name, without end, where each step counts the factor less than the one before it;
     /// the factor is at least 0 and below 1.
@@ -270,6 +274,14 @@ fn horizon_of<'a>(words: &'a [String]) -> Result<Job<'a>, WordsError>
     })
 }
 
+/// The job that the words behind `chain` are.
+fn chain_of<'a>(words: &'a [String]) -> Result<Job<'a>, WordsError>
+    ensures { asked result ≡ chain_of (map string_bytes words.now) }
+{
+    let rule = rows_of(words)?;
+    Ok(Job::Chain { rule })
+}
+
 /// The job that the words behind `policy` are.
 fn policy_of<'a>(words: &'a [String]) -> Result<Job<'a>, WordsError>
     ensures { asked result ≡ policy_of (map string_bytes words.now) }
@@ -436,6 +448,7 @@ fn other_of<'a>(command: &str, words: &'a [String]) -> Result<Job<'a>, WordsErro
     match command {
         "horizon" => horizon_of(words),
         "policy" => policy_of(words),
+        "chain" => chain_of(words),
         "discount" => discount_of(words),
         "discount-check" => discount_check_of(words),
         "bounds" => bounds_of(words),
