@@ -4,12 +4,12 @@ use Rattle.std.specs.Io.KnownBytes.{IsAtEnd}
 use Rattle.mdp_spec.specs.Mdp.{Mdp}
 use Rattle.mdp_rows.specs.declared.rule.RowRule.{RowRule}
 use Rattle.mdp_drn.specs.FromSource.{HadLeft}
-use Rattle.mdp_job.specs.Refusal.{PlainRefusal, no_job, no_memory, read_model, read_certificate}
+use Rattle.mdp_job.specs.Refusal.{PlainRefusal, no_job, no_memory}
 use Rattle.mdp_job.specs.declared.status.Status.{Status}
 use Rattle.mdp_job.specs.declared.status.Status.TheVariants as status
 use Rattle.mdp_job.specs.declared.words_error.WordsError.{WordsError}
 use Rattle.mdp_command.proofs.Statuses.{done_text, ends_as}
-use Rattle.mdp_command.specs.Accepted.{AcceptedBy, IsTrueClaimBy}
+use Rattle.mdp_command.specs.Accepted.{IsTrueClaimBy}
 use Rattle.mdp_command.specs.Answered.{yes_text}
 use Rattle.mdp_command.specs.Files.{model_due, IsDueToModel}
 use Rattle.mdp_command.specs.Meaning.{ClaimsTruly}

@@ -21,7 +21,7 @@ use Rattle.mdp_discount_text.specs.Laws.{IsReadFromText}
 use Rattle.mdp_discount_text.specs.Text as discount_text
 use Rattle.mdp_job.specs.Refusal.{PlainRefusal, long_model, long_certificate, no_memory}
 use Rattle.mdp_command.proofs.Working.{read_of_due}
-use Rattle.mdp_command.specs.Accepted.{Checker, AcceptedBy, exact, IsTrueClaimBy}
+use Rattle.mdp_command.specs.Accepted.{Checker, AcceptedBy, exact}
 use Rattle.mdp_command.specs.Answered.{yes_text, said_of}
 use Rattle.mdp_command.specs.Files.{most_bytes, model_or_refusal, model_due, second_due, certificate_or_refusal, IsDueToModel}
 use Rattle.mdp_command.specs.Said.{Said}

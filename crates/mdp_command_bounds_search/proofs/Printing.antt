@@ -1,5 +1,5 @@
 -- What is shown of found bounds: their certificate is one of the query's claim, it is accepted for the model, and its text reads as it.
-use Rattle.std.proofs.Common.{◌≡◌, ℕ, ◌<◌, ◌≤◌, ◌⊎◌, inl, inr, Bool, true, false, cond, ◌&&◌, ◌||◌, not, eqb, nat_lt, List, [], ◌∷◌, length, get_or, Option, Some, None}
+use Rattle.std.proofs.Common.{◌≡◌, ℕ, ◌<◌, ◌≤◌, ◌⊎◌, inl, inr, Bool, true, false, cond, ◌&&◌, ◌||◌, not, eqb, List, [], ◌∷◌, length, get_or, Option, Some, None}
 use Rattle.std.proofs.Common.{Ok, Err, IfOk, refl, sym, ap, ap₂, subst, ◌∙◌, arith, eq-eqb, lt-ltb}
 use Rattle.std.specs.Prelude.{All, option_map}
 use Rattle.std.specs.List.{list_any}
@@ -23,7 +23,7 @@ use Rattle.mdp_bounds.specs.Reach.{IsReachBounds}
 use Rattle.mdp_bounds.specs.Reward.{IsRewardBounds}
 use Rattle.mdp_bounds.specs.Mean.{IsMeanBounds}
 use Rattle.mdp_text.proofs.InitialState.{initial_below}
-use Rattle.mdp_cert.specs.Cert.{PlainClaim, upper, reach, reward, mean, witness, are_names}
+use Rattle.mdp_cert.specs.Cert.{PlainClaim, upper, reach, reward, mean, witness}
 use Rattle.mdp_cert.specs.Claims.{reward_same}
 use Rattle.mdp_bounds_text.proofs.Bodies.{reach-counts, reward-counts, mean-counts}
 use Rattle.mdp_bounds_text.specs.Cert.{PlainBounds, probabilities, rewards, gains, Certificate, Fits, may_be, is_init_of, is_body_of}
@@ -31,7 +31,7 @@ use Rattle.mdp_bounds_text.specs.Laws.{IsReadBack}
 use Rattle.mdp_bounds_text.specs.Reading.{outcome}
 use Rattle.mdp_bounds_text.specs.Spelling.{text_of}
 use Rattle.mdp_check.specs.Bounds.{IsBoundsAccepted}
-use Rattle.mdp_check.specs.BoundsInitial.{has_bounds, bounds_init_check}
+use Rattle.mdp_check.specs.BoundsInitial.{bounds_init_check}
 use Rattle.mdp_check.specs.BoundsLaws.{AcceptedBoundsAreTrue}
 use Rattle.mdp_check.specs.Initial.{is_reward}
 use Rattle.mdp_job.specs.Job.{PlainQuery}

@@ -1,7 +1,6 @@
 -- What is due to `bounds` is never a term that is too wide, the best values lie between its values, and what is shown of its text.
 use Rattle.std.proofs.Common.{◌≡◌, ℕ, Bool, List, Option, Some, None, Ok, Err, IfOk, IsOk, refl, sym, ap, ap₂, subst, ◌∙◌}
 use Rattle.std.specs.Prelude.{option_map}
-use Rattle.mdp_math.specs.Rational.{ℚ}
 use Rattle.mdp_spec.specs.Between.{ReachMaxBetween, ReachMinBetween, RewardMaxBetween, RewardMinBetween}
 use Rattle.mdp_spec.specs.Labels.{place_of, marks_of}
 use Rattle.mdp_spec.specs.Mdp.{Mdp, states_of}
@@ -12,8 +11,7 @@ use Rattle.mdp_rows.specs.declared.rule.RowRule.{RowRule}
 use Rattle.mdp_cert.specs.Cert.{PlainClaim}
 use Rattle.mdp_bounds_text.specs.Cert.{PlainBounds, probabilities, rewards, gains, Certificate}
 use Rattle.mdp_bounds_text.specs.Spelling.{text_of}
-use Rattle.mdp_bounds_text.specs.declared.init.BoundsInit.{BoundsInit}
-use Rattle.mdp_check.specs.Bounds.{between_by, IsBoundsAccepted, IsBoundsTrue}
+use Rattle.mdp_check.specs.Bounds.{between_by, IsBoundsTrue}
 use Rattle.mdp_check.specs.BoundsLaws.{AcceptedBoundsAreTrue}
 use Rattle.mdp_check.specs.Check.{reward_place, goal_marks}
 use Rattle.mdp_job.specs.Job.{PlainQuery, reach, reward, mean}

@@ -16,7 +16,7 @@ use Rattle.mdp_cert.specs.Claims.{Value, fraction_value, reward_value, reward_te
 use Rattle.mdp_cert.specs.Runs.{Columns, Run, run, single, before_runs, longest_runs}
 use Rattle.mdp_cert.specs.Spelling.{claim_text, entry_text, run_text, run_lines, spread_text}
 use Rattle.mdp_bounds_text.proofs.Bodies.{reach-counts, reward-counts, mean-counts}
-use Rattle.mdp_bounds_text.specs.Cert.{PlainBounds, probabilities, rewards, gains, Certificate, Fits, may_be, is_init_of, is_body_of, IsInitInWidth, IsBodyInWidth}
+use Rattle.mdp_bounds_text.specs.Cert.{PlainBounds, probabilities, rewards, gains, Certificate, Fits, is_init_of, is_body_of, IsInitInWidth, IsBodyInWidth}
 use Rattle.mdp_bounds_text.specs.Entries.{ranked_columns, IsRankedInWidth, ranked_of, gains_columns, IsGainsInWidth, gains_of}
 use Rattle.mdp_bounds_text.specs.Spelling.{version_text, init_text, head_text, body_text, text_of}
 use Rattle.mdp_bounds_text.specs.declared.init.BoundsInit.{BoundsInit}
