@@ -1,0 +1,4 @@
+pub mod Chains
+pub mod Handed
+pub mod Trees
+pub mod Owned
