@@ -1,11 +1,10 @@
 -- What a run answers, from what was decided and what was written.
 use Rattle.std.proofs.Common.{◌≡◌, ℕ, inl, inr, Bool, true, false, List, Option, Some, None, Result, Ok, Err, IfOk, IsOk, refl, sym, ap, subst, ◌∙◌}
 use Rattle.mdp_math.specs.Rational.{ℚ}
-use Rattle.mdp_spec.specs.Labels.{place_of}
 use Rattle.mdp_spec.specs.Mdp.{Mdp}
 use Rattle.mdp_rows.specs.declared.dir.Dir.{Dir}
 use Rattle.mdp_drn.specs.FromSource.{HadLeft}
-use Rattle.mdp_job.specs.Job.{solve, witness, check, drill, horizon, policy, discount, discount_check, bounds, bounds_check, Asked, reads_model, reads_second}
+use Rattle.mdp_job.specs.Job.{PlainQuery, solve, witness, check, drill, horizon, policy, discount, discount_check, bounds, bounds_check, Asked, reads_model, reads_second}
 use Rattle.mdp_job.specs.Refusal.{PlainRefusal, no_job, model_text, query_size, query_reward, query_label, query_init, query_negative, query_steps, query_choice, too_wide, check_wide, horizon_wide}
 use Rattle.mdp_job.specs.Refusal.{denied, read_model, read_certificate, long_model, long_certificate, cert_text, policy_text, below, no_memory}
 use Rattle.mdp_job.specs.Status.{status_of}
@@ -26,7 +25,7 @@ use Rattle.mdp_discount.proofs.OneEnd.{one_query_end}
 use Rattle.mdp_command_discount.specs.Due.{IsDiscountDue, IsDiscountCheckDue}
 use Rattle.mdp_command_discount.proofs.Solved.{discount_once}
 use Rattle.mdp_command_bounds.specs.Due.{IsBoundsCheckDue}
-use Rattle.mdp_command_bounds_search.specs.Due.{IsLabelDue, IsBoundsDue}
+use Rattle.mdp_command_bounds_search.specs.Due.{claim_of, fault_of, IsDueBy, IsBoundsDue}
 use Rattle.mdp_command_bounds_search.proofs.Solved.{never_too_wide}
 use Rattle.mdp_app.specs.Due.{check_due, IsDue}
 use Rattle.mdp_app.specs.Decided.{IsTextDecided, IsDecided, EndsWith}
@@ -96,14 +95,14 @@ done_ok (Ok text) ok = refl
 done_ok (Err r) ok = cc ok
 
 -- more than one certificate of bounds may be due; but where a text is due, no refusal is
-bounds_done : (dir : Dir) (label : List ℕ) (read : Result Mdp PlainRefusal) (said : Said) (text : List ℕ) → IsDueToModel (IsBoundsDue dir label) read said
-    → IsDueToModel (IsBoundsDue dir label) read (Ok text) → said_status said ≡ status.Done
-bounds_done dir label (Ok m) said text d e = by (place_of label m.labels) refl e
+bounds_done : (dir : Dir) (query : PlainQuery) (read : Result Mdp PlainRefusal) (said : Said) (text : List ℕ) → IsDueToModel (IsBoundsDue dir query) read said
+    → IsDueToModel (IsBoundsDue dir query) read (Ok text) → said_status said ≡ status.Done
+bounds_done dir query (Ok m) said text d e = by (fault_of query m) refl e
   where
-    by : (found : Option ℕ) → place_of label m.labels ≡ found → IsLabelDue dir label m found (Ok text) → said_status said ≡ status.Done
-    by None found h = cc h
-    by (Some l) found h = done_ok said (never_too_wide dir label m l said found d)
-bounds_done dir label (Err r) said text d e = cc e
+    by : (fault : Option PlainRefusal) → fault_of query m ≡ fault → IsDueBy (claim_of dir query) m fault (Ok text) → said_status said ≡ status.Done
+    by (Some r) is h = cc h
+    by None is h = done_ok said (never_too_wide dir query m said is d)
+bounds_done dir query (Err r) said text d e = cc e
 
 -- where a text is due, the work is done with what is due
 due_done :
@@ -141,9 +140,9 @@ due_done once found (Ok (discount_check rule)) model second m s n t text said hn
     discount_checked_once s (model_due rule m) said (Ok text)
     (subst (λ (x : List ℕ). IsDueToModel (λ k. IsDiscountCheckDue k x) (model_due rule m) said) (had_told true second s t ts ht refl)
     (subst (λ (x : List ℕ). IsDueToModel (λ k. IsDiscountCheckDue k t) (model_due rule x) said) (had_told true model m n tm hn refl) due)) due_text)
-due_done once found (Ok (bounds rule dir label digits)) model second m s n t text said hn ht due tm ts due_text =
-    bounds_done dir label (model_due rule m) said text
-    (subst (λ (x : List ℕ). IsDueToModel (IsBoundsDue dir label) (model_due rule x) said) (had_told true model m n tm hn refl) due) due_text
+due_done once found (Ok (bounds rule dir query digits)) model second m s n t text said hn ht due tm ts due_text =
+    bounds_done dir query (model_due rule m) said text
+    (subst (λ (x : List ℕ). IsDueToModel (IsBoundsDue dir query) (model_due rule x) said) (had_told true model m n tm hn refl) due) due_text
 due_done once found (Ok (bounds_check rule)) model second m s n t text said hn ht due tm ts due_text =
     done_of said text (
     bounds_checked_once s (model_due rule m) said (Ok text)

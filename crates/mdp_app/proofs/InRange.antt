@@ -19,7 +19,7 @@ use Rattle.mdp_app.specs.InRange.{IsInRange, asked_for}
 use Rattle.mdp_job.specs.Job.{PlainJob, solve, witness, check, drill, horizon, policy, discount, Asked}
 use Rattle.mdp_job.specs.Words.{word_at, rule_of, dir_of, check_of, query_of, solve_of, whole_word, can_draw, drill_by, drill_with, drill_of}
 use Rattle.mdp_job.specs.Words.{threshold_by, threshold_of, witness_of, steps_of, horizon_of, policy_of, below_one, factor_of, discount_of}
-use Rattle.mdp_job.specs.Words.{discount_check_of, digits_of, bounds_of, bounds_check_of, job_of_texts, job_of}
+use Rattle.mdp_job.specs.Words.{discount_check_of, bounds_query_of, bounds_digits_of, bounds_of, bounds_check_of, job_of_texts, job_of}
 use Rattle.mdp_job.specs.declared.words_error.WordsError.{WordsError}
 use Rattle.mdp_job.specs.declared.words_error.WordsError.TheVariants.{Command, Number, Objective, Drill, Factor}
 
@@ -123,8 +123,7 @@ bounds_in_range : (words : List (List ℕ)) → IsInRange (bounds_of words)
 bounds_in_range words =
     either (nat_lt (length words) 6) (Err Number) _ tt
     (bind (rule_of (word_at words 1)) _ (λ rule. bind (dir_of (word_at words 2)) _ (λ dir.
-    either (bytes_eq (word_at words 3) (codes "reach")) _ (Err Objective)
-    (either (length words == 6) _ (Err Number) (bind (digits_of (word_at words 5)) _ (λ digits. tt)) tt) tt)))
+    bind (bounds_query_of words) _ (λ query. bind (bounds_digits_of words) _ (λ digits. tt)))))
 
 bounds_check_in_range : (words : List (List ℕ)) → IsInRange (bounds_check_of words)
 bounds_check_in_range words = either (length words == 3) _ (Err Number) (bind (rule_of (word_at words 1)) _ (λ rule. tt)) tt

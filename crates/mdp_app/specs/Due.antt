@@ -43,7 +43,7 @@ IsDue (Ok (horizon rule dir stay label steps)) model second said = IsDueToModel 
 IsDue (Ok (policy rule label)) model second said = IsDueToModel (λ m. IsPolicyDue label m second) (model_due rule model) said
 IsDue (Ok (discount rule dir name factor)) model second said = IsDueToModel (IsDiscountDue dir name factor) (model_due rule model) said
 IsDue (Ok (discount_check rule)) model second said = IsDueToModel (λ m. IsDiscountCheckDue m second) (model_due rule model) said
-IsDue (Ok (bounds rule dir label digits)) model second said = IsDueToModel (IsBoundsDue dir label) (model_due rule model) said
+IsDue (Ok (bounds rule dir query digits)) model second said = IsDueToModel (IsBoundsDue dir query) (model_due rule model) said
 IsDue (Ok (bounds_check rule)) model second said = IsDueToModel (λ m. IsBoundsCheckDue m second) (model_due rule model) said
 IsDue (Err e) model second said = said ≡ Err (no_job e)
 
@@ -57,6 +57,6 @@ IsModelRead (Ok (horizon rule dir stay label steps)) model = IsOk (model_due rul
 IsModelRead (Ok (policy rule label)) model = IsOk (model_due rule model)
 IsModelRead (Ok (discount rule dir name factor)) model = IsOk (model_due rule model)
 IsModelRead (Ok (discount_check rule)) model = IsOk (model_due rule model)
-IsModelRead (Ok (bounds rule dir label digits)) model = IsOk (model_due rule model)
+IsModelRead (Ok (bounds rule dir query digits)) model = IsOk (model_due rule model)
 IsModelRead (Ok (bounds_check rule)) model = IsOk (model_due rule model)
 IsModelRead (Err e) model = ⊥

@@ -15,7 +15,7 @@ IsInRange (Ok (horizon rule dir stay label steps)) = Unit {0}
 IsInRange (Ok (policy rule label)) = Unit {0}
 IsInRange (Ok (discount rule dir name factor)) = IsFactor factor
 IsInRange (Ok (discount_check rule)) = Unit {0}
-IsInRange (Ok (bounds rule dir label digits)) = Unit {0}
+IsInRange (Ok (bounds rule dir query digits)) = Unit {0}
 IsInRange (Ok (bounds_check rule)) = Unit {0}
 IsInRange (Err e) = Unit {0}
 

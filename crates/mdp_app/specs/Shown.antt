@@ -22,6 +22,6 @@ IsShown (Ok (horizon rule dir stay label steps)) model second text = IsHorizonSh
 IsShown (Ok (policy rule label)) model second text = IsPolicyShown rule label model second text
 IsShown (Ok (discount rule dir name factor)) model second text = IsDiscountSolved rule dir name factor model text
 IsShown (Ok (discount_check rule)) model second text = discounted.IsTrueClaim rule model second
-IsShown (Ok (bounds rule dir label digits)) model second text = IsBoundsSolved rule dir label model text
+IsShown (Ok (bounds rule dir query digits)) model second text = IsBoundsSolved rule dir query model text
 IsShown (Ok (bounds_check rule)) model second text = between.IsTrueClaim rule model second
 IsShown (Err e) model second text = ⊥

@@ -66,9 +66,9 @@ fn decided<S: Source, C: Source>(
         Job::Bounds {
             rule,
             dir,
-            label,
+            query,
             digits,
-        } => bounds_file(alloc, rule, dir, label, digits, model),
+        } => bounds_file(alloc, rule, dir, query, digits, model),
         Job::BoundsCheck { rule } => bounds_check_files(alloc, rule, model, second),
     }
 }

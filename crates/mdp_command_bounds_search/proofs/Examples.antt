@@ -1,18 +1,21 @@
--- What is due to `bounds`, computed. `draw` stays at 0, or moves to 1 with 1/3 and to 2 with 2/3; 1 is the goal. `both` has two initial states.
-use Rattle.std.proofs.Common.{◌≡◌, ℕ, List, [], ◌∷◌, Err, refl, pos, Some}
+-- What is due to `bounds`, computed. `draw` stays at 0, or moves to 1 with 1/3 and to 2 with 2/3; 1 is the goal. Each step costs 1, which is a loss of 1.
+-- `both` has two initial states.
+use Rattle.std.proofs.Common.{◌≡◌, ℕ, List, [], ◌∷◌, Err, refl, pos, Some, None}
 use Rattle.std.specs.Prelude.{codes}
 use Rattle.mdp_math.specs.Gcd.{gcd, gcd_with_fuel}
-use Rattle.mdp_math.specs.Rational.{ℚ, of_int, ratio, le_ℚ, lt_ℚ, ◌+ℚ◌, ◌*ℚ◌}
+use Rattle.mdp_math.specs.Rational.{ℚ, of_int, ratio, neg_ℚ, le_ℚ, lt_ℚ, ◌+ℚ◌, ◌*ℚ◌}
 use Rattle.mdp_math.specs.Written.{narrow, narrow_ℚ, written_add, written_mul}
 use Rattle.mdp_spec.specs.Mdp.{Entry, Choice, State, Mdp}
 use Rattle.mdp_rows.specs.declared.dir.Dir.TheVariants.{Max, Min}
 use Rattle.mdp_farkas.specs.declared.rule.Rule.TheVariants.{ValueOnEachChoice}
-use Rattle.mdp_bounds_text.specs.Cert.{Certificate}
+use Rattle.mdp_cert.specs.Cert as claim
+use Rattle.mdp_bounds_text.specs.Cert.{probabilities, rewards, gains, Certificate}
 use Rattle.mdp_bounds_text.specs.declared.init.BoundsInit.TheVariants.{Missing, Between}
 use Rattle.mdp_check.specs.Bounds.{bounds_answer_to}
 use Rattle.mdp_check.specs.declared.answer.Answer.TheVariants.{Yes, No}
-use Rattle.mdp_job.specs.Refusal.{PlainRefusal, query_label, query_size}
-use Rattle.mdp_command_bounds_search.specs.Certificate.{reach_certificate}
+use Rattle.mdp_job.specs.Job.{reach, reward, mean}
+use Rattle.mdp_job.specs.Refusal.{PlainRefusal, query_label, query_reward, query_negative, query_size}
+use Rattle.mdp_command_bounds_search.specs.Certificate.{certificate_of}
 use Rattle.mdp_command_bounds_search.specs.Due.{IsBoundsDue}
 
 abbrev whole : ℕ → ℚ
@@ -22,14 +25,14 @@ abbrev entry : ℕ → ℚ → Entry
 entry t p = record { target = t; prob = p }
 
 abbrev choice : List Entry → Choice
-choice row = record { row = row; rewards = [] }
+choice row = record { row = row; rewards = whole 1 ∷ neg_ℚ (whole 1) ∷ [] }
 
 abbrev state : List ℕ → List Choice → State
 state labels choices = record { labels = labels; choices = choices }
 
 abbrev drawn : List ℕ → Mdp
 drawn last = record {
-  names = [];
+  names = codes "cost" ∷ codes "gain" ∷ [];
   labels = codes "init" ∷ codes "goal" ∷ [];
   states =
       state (0 ∷ []) (choice (entry 0 (whole 1) ∷ []) ∷ choice (entry 1 (ratio (pos 1) 3) ∷ entry 2 (ratio (pos 2) 3) ∷ []) ∷ [])
@@ -45,7 +48,9 @@ abbrev both : Mdp
 both = drawn (0 ∷ [])
 
 abbrev bounds : Mdp → ℚ → ℚ → Certificate
-bounds m low high = reach_certificate Max (codes "goal") m (low ∷ whole 1 ∷ whole 0 ∷ []) (high ∷ whole 1 ∷ whole 0 ∷ []) (1 ∷ 0 ∷ 0 ∷ []) (1 ∷ 0 ∷ 0 ∷ [])
+bounds m low high =
+    certificate_of (claim.reach Max (codes "goal")) m
+    (probabilities (low ∷ whole 1 ∷ whole 0 ∷ []) (high ∷ whole 1 ∷ whole 0 ∷ []) (1 ∷ 0 ∷ 0 ∷ []) (1 ∷ 0 ∷ 0 ∷ []))
 
 -- the line `init` has both values of the one initial state; there is none where two states have the label
 line_init : (bounds draw (ratio (pos 1) 4) (ratio (pos 1) 2)).init ≡ Between 0 (Some (ratio (pos 1) 4)) (Some (ratio (pos 1) 2))
@@ -66,7 +71,8 @@ holds_without_init = refl
 -- 0 and 1 hold of any model
 says_nothing :
     bounds_answer_to draw
-    (reach_certificate Min (codes "goal") draw (whole 0 ∷ whole 1 ∷ whole 0 ∷ []) (whole 1 ∷ whole 1 ∷ whole 1 ∷ []) (0 ∷ 0 ∷ 0 ∷ []) (0 ∷ 0 ∷ 0 ∷ []))
+    (certificate_of (claim.reach Min (codes "goal")) draw
+    (probabilities (whole 0 ∷ whole 1 ∷ whole 0 ∷ []) (whole 1 ∷ whole 1 ∷ whole 1 ∷ []) (0 ∷ 0 ∷ 0 ∷ []) (0 ∷ 0 ∷ 0 ∷ [])))
     ≡ Yes
 unfolding gcd gcd_with_fuel of_int ratio le_ℚ lt_ℚ ◌+ℚ◌ ◌*ℚ◌ narrow narrow_ℚ written_add written_mul
 says_nothing = refl
@@ -76,14 +82,55 @@ upper_too_small : bounds_answer_to draw (bounds draw (ratio (pos 1) 4) (ratio (p
 unfolding gcd gcd_with_fuel of_int ratio le_ℚ lt_ℚ ◌+ℚ◌ ◌*ℚ◌ narrow narrow_ℚ written_add written_mul
 upper_too_small = refl
 
+-- the greatest cost until the goal is infinite at 0, where the policy stays, and at 2
+abbrev infinite_cost : Certificate
+infinite_cost =
+    certificate_of (claim.reward Max (codes "cost") (codes "goal")) draw
+    (rewards (None ∷ Some (whole 0) ∷ None ∷ []) (None ∷ Some (whole 0) ∷ None ∷ []) (0 ∷ 0 ∷ 0 ∷ []) (0 ∷ 0 ∷ 0 ∷ []))
+
+infinite_line : infinite_cost.init ≡ Between 0 None None
+infinite_line = refl
+
+infinite_holds : bounds_answer_to draw infinite_cost ≡ Yes
+unfolding gcd gcd_with_fuel of_int ratio le_ℚ lt_ℚ ◌+ℚ◌ ◌*ℚ◌ narrow narrow_ℚ written_add written_mul
+infinite_holds = refl
+
+-- each step gains -1 in the mean
+loss_holds :
+    bounds_answer_to draw
+    (certificate_of (claim.mean Min (codes "gain")) draw
+    (gains (neg_ℚ (whole 1) ∷ neg_ℚ (whole 1) ∷ neg_ℚ (whole 1) ∷ []) (neg_ℚ (whole 1) ∷ neg_ℚ (whole 1) ∷ neg_ℚ (whole 1) ∷ []) (whole 0 ∷ whole 0 ∷ whole 0 ∷ [])
+    (whole 0 ∷ whole 0 ∷ whole 0 ∷ []) (0 ∷ 0 ∷ 0 ∷ []) (whole 0)))
+    ≡ Yes
+unfolding gcd gcd_with_fuel of_int ratio neg_ℚ le_ℚ lt_ℚ ◌+ℚ◌ ◌*ℚ◌ narrow narrow_ℚ written_add written_mul
+loss_holds = refl
+
 -- ---- what is due
 
-unknown : IsBoundsDue Max (codes "done") draw (Err query_label)
+unknown : IsBoundsDue Max (reach (codes "done")) draw (Err query_label)
 unknown = refl
 
-unknown_alone : IsBoundsDue Max (codes "done") draw (Err query_size) → ⊥
+unknown_alone : IsBoundsDue Max (reach (codes "done")) draw (Err query_size) → ⊥
 unknown_alone d = cc d
 
--- no refusal is due, where the label is there
-no_refusal : (refusal : PlainRefusal) → IsBoundsDue Max (codes "goal") draw (Err refusal) → ⊥
+-- the reward's name is looked up before the label
+unknown_name : IsBoundsDue Max (reward (codes "time") (codes "done")) draw (Err query_reward)
+unknown_name = refl
+
+unknown_end : IsBoundsDue Max (reward (codes "gain") (codes "done")) draw (Err query_label)
+unknown_end = refl
+
+-- a reward until a label is at least 0, one of a mean payoff may be below
+below_zero : IsBoundsDue Min (reward (codes "gain") (codes "goal")) draw (Err query_negative)
+unfolding of_int neg_ℚ lt_ℚ ratio gcd gcd_with_fuel
+below_zero = refl
+
+unknown_mean : IsBoundsDue Max (mean (codes "time")) draw (Err query_reward)
+unknown_mean = refl
+
+-- no refusal is due to a query that fits the model
+no_refusal : (refusal : PlainRefusal) → IsBoundsDue Max (reach (codes "goal")) draw (Err refusal) → ⊥
 no_refusal refusal d = cc (d.spelled)
+
+no_mean_refusal : (refusal : PlainRefusal) → IsBoundsDue Max (mean (codes "gain")) draw (Err refusal) → ⊥
+no_mean_refusal refusal d = cc (d.spelled)

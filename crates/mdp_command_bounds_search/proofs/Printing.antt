@@ -1,36 +1,49 @@
--- What is shown of a found certificate: it is one of its claim, it is accepted for the model, and its text reads as it.
-use Rattle.std.proofs.Common.{◌≡◌, ℕ, ◌<◌, ◌≤◌, ◌^◌, ◌⊎◌, inl, inr, Bool, true, cond, ◌&&◌, List, [], length, get_or, Option, Some, None}
+-- What is shown of found bounds: their certificate is one of the query's claim, it is accepted for the model, and its text reads as it.
+use Rattle.std.proofs.Common.{◌≡◌, ℕ, ◌<◌, ◌≤◌, ◌⊎◌, inl, inr, Bool, true, false, cond, ◌&&◌, ◌||◌, not, eqb, nat_lt, List, [], ◌∷◌, length, get_or, Option, Some, None}
 use Rattle.std.proofs.Common.{Ok, Err, IfOk, refl, sym, ap, ap₂, subst, ◌∙◌, arith, eq-eqb, lt-ltb}
 use Rattle.std.specs.Prelude.{All, option_map}
+use Rattle.std.specs.List.{list_any}
 use Rattle.std.specs.Str.{bytes_eq}
+use Rattle.std.proofs.Math.ListN.{replicate}
+use Rattle.std.proofs.lemmas.Bool.{and_parts}
 use Rattle.std.proofs.lemmas.List.Elements.{All-get_or}
 use Rattle.std.proofs.lemmas.List.Quantifiers.{position-Some}
 use Rattle.std.proofs.lemmas.Slice.Eq.{bytes_eq-Decides}
 use Rattle.mdp_math.specs.Rational.{ℚ}
 use Rattle.mdp_num.specs.OrderView.{equal_decides}
+use Rattle.mdp_spec.specs.Bounds.{reward_at}
 use Rattle.mdp_spec.specs.Labels.{place_of, marks_of, initial_of}
 use Rattle.mdp_spec.specs.Mdp.{Mdp, states_of, value_at}
 use Rattle.mdp_spec.specs.Row.{IsMdp}
+use Rattle.mdp_rows.specs.Name.{IsName, IsRewardName}
 use Rattle.mdp_rows.specs.declared.dir.Dir.{Dir}
 use Rattle.mdp_farkas.specs.Initial.{init_fault, is_value}
 use Rattle.mdp_farkas.specs.declared.verdict.Verdict.TheVariants.{Yes}
 use Rattle.mdp_bounds.specs.Reach.{IsReachBounds}
+use Rattle.mdp_bounds.specs.Reward.{IsRewardBounds}
+use Rattle.mdp_bounds.specs.Mean.{IsMeanBounds}
 use Rattle.mdp_text.proofs.InitialState.{initial_below}
-use Rattle.mdp_cert.specs.Cert.{reach}
-use Rattle.mdp_bounds_text.specs.Cert.{probabilities, Certificate, Fits, is_init_of, is_body_of}
+use Rattle.mdp_cert.specs.Cert.{PlainClaim, upper, reach, reward, mean, witness, are_names}
+use Rattle.mdp_cert.specs.Claims.{reward_same}
+use Rattle.mdp_bounds_text.proofs.Bodies.{reach-counts, reward-counts, mean-counts}
+use Rattle.mdp_bounds_text.specs.Cert.{PlainBounds, probabilities, rewards, gains, Certificate, Fits, may_be, is_init_of, is_body_of}
 use Rattle.mdp_bounds_text.specs.Laws.{IsReadBack}
 use Rattle.mdp_bounds_text.specs.Reading.{outcome}
 use Rattle.mdp_bounds_text.specs.Spelling.{text_of}
 use Rattle.mdp_check.specs.Bounds.{IsBoundsAccepted}
-use Rattle.mdp_check.specs.BoundsInitial.{bounds_init_check}
+use Rattle.mdp_check.specs.BoundsInitial.{has_bounds, bounds_init_check}
 use Rattle.mdp_check.specs.BoundsLaws.{AcceptedBoundsAreTrue}
-use Rattle.mdp_job.specs.Refusal.{no_memory, query_label}
+use Rattle.mdp_check.specs.Initial.{is_reward}
+use Rattle.mdp_job.specs.Job.{PlainQuery}
+use Rattle.mdp_job.specs.Refusal.{PlainRefusal, no_memory}
 use Rattle.mdp_command.specs.Files.{most_bytes}
 use Rattle.mdp_command.specs.Said.{Said}
-use Rattle.mdp_command_bounds_search.specs.Certificate.{init_between, reach_certificate}
-use Rattle.mdp_command_bounds_search.specs.Due.{IsAcceptedText, IsLabelDue, IsBoundsDue}
+use Rattle.mdp_command_bounds_search.specs.Certificate.{HasValues, init_between, certificate_of, AreBounds}
+use Rattle.mdp_command_bounds_search.specs.Due.{claim_of, fault_of, IsAcceptedText, IsDueBy, IsBoundsDue}
 use Rattle.mdp_command_bounds_search.specs.Shown.{IsBoundsPrinted}
 use Rattle.mdp_command_bounds_search.proofs.TextLength.{text_short}
+
+-- ---- names
 
 -- what is found in a list of names is one of them
 pub found_among : (P : List ℕ → Type 0) (name : List ℕ) (names : List (List ℕ)) (l : ℕ) → place_of name names ≡ Some l → All P names → P name
@@ -38,100 +51,181 @@ found_among P name names l e h =
     let p = position-Some (bytes_eq name) names l [] e in
     subst P (sym ((bytes_eq-Decides name (get_or names l [])).0 p.1)) (All-get_or P names l [] p.0 h)
 
--- ---- the certificate has a text
+-- the name of a reward model is a name
+none_of : (bytes : List ℕ) → list_any (λ b. eqb b 32 || eqb b 9 || eqb b 13 || eqb b 34 || eqb b 10) bytes ≡ false → list_any (λ b. eqb b 34 || eqb b 10) bytes ≡ false
+none_of [] h = refl
+none_of (b ∷ bytes) h = by (eqb b 32) (eqb b 9) (eqb b 13) (eqb b 34) (eqb b 10) (list_any (λ b. eqb b 32 || eqb b 9 || eqb b 13 || eqb b 34 || eqb b 10) bytes) h (none_of bytes)
+  where
+    by : (p q r s t rest : Bool) → ((p || q || r || s || t) || rest) ≡ false → (rest ≡ false → list_any (λ b. eqb b 34 || eqb b 10) bytes ≡ false)
+        → ((s || t) || list_any (λ b. eqb b 34 || eqb b 10) bytes) ≡ false
+    by false false false false false rest h more = more h
+    by true q r s t rest h more = cc h
+    by false true r s t rest h more = cc h
+    by false false true s t rest h more = cc h
+    by false false false true t rest h more = cc h
+    by false false false false true rest h more = cc h
 
-pub init_inside : (dir : Dir) (label : List ℕ) (n : ℕ) (i : Option ℕ) (lower upper : List ℚ) → ((s : ℕ) → i ≡ Some s → s < n)
-    → is_init_of (reach dir label) n (init_between i lower upper) ≡ true
-init_inside dir label n None lower upper below = refl
-init_inside dir label n (Some s) lower upper below = ap (λ (b : Bool). b && true && true) (lt-ltb s n (below s refl))
+not-true : (b : Bool) → not b ≡ true → b ≡ false
+not-true false e = refl
+not-true true e = cc e
 
-pub body_entries : (dir : Dir) (label : List ℕ) (n states : ℕ) (lower upper : List ℚ) (choices ranks : List ℕ)
-    → n ≡ states → length lower ≡ states → length upper ≡ states → length choices ≡ states
-    → length ranks ≡ states → is_body_of (reach dir label) n (probabilities lower upper choices ranks) ≡ true
-body_entries dir label n states lower upper choices ranks e x y z w =
-    ap₂ (λ (a b : Bool). a && b)
-    (ap₂ (λ (a b : Bool). a && b)
-    (ap₂ (λ (a b : Bool). a && b) (eq-eqb (length lower) n (x ∙ sym e)) (eq-eqb (length upper) n (y ∙ sym e)))
-    (eq-eqb (length choices) n (z ∙ sym e)))
-    (eq-eqb (length ranks) n (w ∙ sym e))
+pub name_of_reward : (name : List ℕ) → IsRewardName name → IsName name
+name_of_reward name h = let p = and_parts _ _ h in ap₂ (λ (a b : Bool). a && not b) p.0 (none_of name (not-true _ p.1))
 
--- ---- the line `init`
+-- ---- a body has an entry per state
 
-value_there : (v : List ℚ) (s : ℕ) → s < length v → is_value v s (value_at v s) ≡ true
-value_there v s h = ap₂ (λ (a b : Bool). a && b) (lt-ltb s (length v) h) ((equal_decides (value_at v s) (value_at v s)).1 refl)
+pub values_of_body : (claim : PlainClaim) (n : ℕ) (body : PlainBounds) → is_body_of claim n body ≡ true → HasValues n body
+values_of_body claim n (probabilities lower upper choices ranks) e = let k = reach-counts claim n lower upper choices ranks e in (k.lower, k.upper)
+values_of_body claim n (rewards lower upper choices ranks) e = let k = reward-counts claim n lower upper choices ranks e in (k.lower, k.upper)
+values_of_body claim n (gains lower upper bound bias choices spread) e = let k = mean-counts claim n lower upper bound bias choices spread e in (k.lower, k.upper)
 
-init_holds : (o : Option ℕ) (lower upper : List ℚ) (choices ranks : List ℕ) → ((s : ℕ) → o ≡ Some s → s < length lower) → ((s : ℕ) → o ≡ Some s → s < length upper)
-    → bounds_init_check (init_between o lower upper) o (probabilities lower upper choices ranks) ≡ Yes
-init_holds None lower upper choices ranks below above = refl
-init_holds (Some s) lower upper choices ranks below above =
-    ap₂ (λ (a b : Bool). cond (a && b) Yes (init_fault (Some s))) (eq-eqb s s refl)
-    (ap₂ (λ (a b : Bool). a && b) (value_there lower s (below s refl)) (value_there upper s (above s refl)))
+four : (n a b c d : ℕ) → a ≡ n → b ≡ n → c ≡ n → d ≡ n → (eqb a n && eqb b n && eqb c n && eqb d n) ≡ true
+four n a b c d x y z w =
+    ap₂ (λ (p q : Bool). p && q) (ap₂ (λ (p q : Bool). p && q) (ap₂ (λ (p q : Bool). p && q) (eq-eqb a n x) (eq-eqb b n y)) (eq-eqb c n z)) (eq-eqb d n w)
 
--- ---- the text
-
--- the text of the program's certificate, which is this one
-pub text_of_same : (c d : Certificate) (said : Said) → c ≡ d → (said ≡ Err no_memory) ⊎ (said ≡ Ok (text_of c)) → (said ≡ Err no_memory) ⊎ (said ≡ Ok (text_of d))
-text_of_same c d said same e = subst (λ (x : Certificate). (said ≡ Err no_memory) ⊎ (said ≡ Ok (text_of x))) same e
-
--- ---- the certificate is accepted
-
-pub record HasSizes (n : ℕ) (lower upper : List ℚ) (choices ranks : List ℕ) : Type 0 where
-  pub lower_size : length lower ≡ n
-  pub upper_size : length upper ≡ n
-  pub choices_size : length choices ≡ n
-  pub ranks_size : length ranks ≡ n
-
-module _ (dir : Dir) (label : List ℕ) (m : Mdp) (l : ℕ) (found : place_of label m.labels ≡ Some l) (lower upper : List ℚ) (choices ranks : List ℕ)
-    (rules : IsReachBounds dir m (marks_of m l) lower upper choices ranks) (sizes : HasSizes (states_of m) lower upper choices ranks) where
-  abbrev cert : Certificate
-  cert = reach_certificate dir label m lower upper choices ranks
-
-  accepted : IsBoundsAccepted m cert
-  accepted = record {
-    states = refl;
-    entries = body_entries dir label (states_of m) (states_of m) lower upper choices ranks refl sizes.lower_size sizes.upper_size sizes.choices_size sizes.ranks_size;
+module _ (dir : Dir) (label : List ℕ) (m : Mdp) (l : ℕ) (known : All IsName m.labels) (found : place_of label m.labels ≡ Some l) where
+  -- bounds of the probabilities of reaching this label
+  pub reach_bounds : (goals : List Bool) (lower upper : List ℚ) (choices ranks : List ℕ) → goals ≡ marks_of m l → IsReachBounds dir m goals lower upper choices ranks
+      → length lower ≡ states_of m → length upper ≡ states_of m → length choices ≡ states_of m → length ranks ≡ states_of m
+      → AreBounds (reach dir label) m (probabilities lower upper choices ranks)
+  reach_bounds goals lower upper choices ranks same rules x y z w = record {
+    names = found_among IsName label m.labels l found known;
+    entries = four (states_of m) (length lower) (length upper) (length choices) (length ranks) x y z w;
     reward = 0;
     named = refl;
     goals = marks_of m l;
     marked = ap (option_map (marks_of m)) found;
-    init =
-        init_holds (initial_of m) lower upper choices ranks (λ s e. let lt = initial_below m s e in let n = sizes.lower_size in omega (arith, lt, n))
-        (λ s e. let lt = initial_below m s e in let n = sizes.upper_size in omega (arith, lt, n));
-    body = rules;
+    valid = subst (λ (g : List Bool). IsReachBounds dir m g lower upper choices ranks) same rules;
   }
 
-  -- ---- what is due
+  -- bounds of the rewards of this name until this label
+  pub reward_bounds : (name : List ℕ) (r : ℕ) → All IsRewardName m.names → place_of name m.names ≡ Some r → (goals : List Bool) (lower upper : List (Option ℚ)) (choices ranks : List ℕ)
+      → goals ≡ marks_of m l → IsRewardBounds dir m r goals lower upper choices ranks → length lower ≡ states_of m → length upper ≡ states_of m
+      → length choices ≡ states_of m → length ranks ≡ states_of m → AreBounds (reward dir name label) m (rewards lower upper choices ranks)
+  reward_bounds name r names named goals lower upper choices ranks same rules x y z w = record {
+    names = ap₂ (λ (p q : Bool). p && q) (name_of_reward name (found_among IsRewardName name m.names r named names)) (found_among IsName label m.labels l found known);
+    entries = four (states_of m) (length lower) (length upper) (length choices) (length ranks) x y z w;
+    reward = r;
+    named = named;
+    goals = marks_of m l;
+    marked = ap (option_map (marks_of m)) found;
+    valid = subst (λ (g : List Bool). IsRewardBounds dir m r g lower upper choices ranks) same rules;
+  }
 
-  due_text : (said : Said) → Fits cert → said ≡ Ok (text_of cert) → IsBoundsDue dir label m said
-  due_text said fits e =
-      let text : IsAcceptedText (reach dir label) m said = record { cert = cert; claimed = refl; fits = fits; accepted = accepted; spelled = e } in
-      subst (λ (o : Option ℕ). IsLabelDue dir label m o said) (sym found) text
+-- bounds of the mean payoffs of this name
+pub mean_bounds : (dir : Dir) (name : List ℕ) (m : Mdp) (r : ℕ) → All IsRewardName m.names → place_of name m.names ≡ Some r → (lower upper bound bias : List ℚ) (spread : ℚ) (choices : List ℕ)
+    → IsMeanBounds dir m r lower upper bound bias spread choices → length lower ≡ states_of m → length upper ≡ states_of m → length bound ≡ states_of m
+    → length bias ≡ states_of m → length choices ≡ states_of m → AreBounds (mean dir name) m (gains lower upper bound bias choices spread)
+mean_bounds dir name m r names named lower upper bound bias spread choices rules x y z w v = record {
+  names = name_of_reward name (found_among IsRewardName name m.names r named names);
+  entries = ap₂ (λ (p q : Bool). p && q) (four (states_of m) (length lower) (length upper) (length bound) (length bias) x y z w) (eq-eqb (length choices) (states_of m) v);
+  reward = r;
+  named = named;
+  goals = replicate (states_of m) false;
+  marked = refl;
+  valid = rules;
+}
 
-  pub text_due : (said : Said) → Fits cert → (said ≡ Err no_memory) ⊎ (said ≡ Ok (text_of cert)) → (said ≡ Err no_memory) ⊎ IsBoundsDue dir label m said
-  text_due said fits (inl memory) = inl memory
-  text_due said fits (inr e) = inr (due_text said fits e)
+-- ---- the line `init`
 
-  -- ---- what is shown
+value_there : (v : List ℚ) (s n : ℕ) → s < n → length v ≡ n → is_value v s (value_at v s) ≡ true
+value_there v s n lt size = ap₂ (λ (a b : Bool). a && b) (lt-ltb s (length v) (omega (arith, lt, size))) ((equal_decides (value_at v s) (value_at v s)).1 refl)
 
-  few : IsMdp m → length lower ≤ 2 ^ 20
-  few mdp = let n = sizes.lower_size in let k = mdp.few in omega (arith, n, k)
+same_reward : (v : Option ℚ) → reward_same v v ≡ true
+same_reward None = refl
+same_reward (Some x) = (equal_decides x x).1 refl
 
-  printed_text : IsMdp m → IsReadBack → AcceptedBoundsAreTrue → Fits cert → (text : List ℕ) → text ≡ text_of cert → IsBoundsPrinted dir label m text
+reward_there : (v : List (Option ℚ)) (s n : ℕ) → s < n → length v ≡ n → is_reward v s (reward_at v s) ≡ true
+reward_there v s n lt size = ap₂ (λ (a b : Bool). a && b) (lt-ltb s (length v) (omega (arith, lt, size))) (same_reward (reward_at v s))
+
+-- where the initial state has its values, the line is right
+right_line : (s : ℕ) (valued : Bool) → valued ≡ true → cond (eqb s s && valued) Yes (init_fault (Some s)) ≡ Yes
+right_line s valued e = ap₂ (λ (a b : Bool). cond (a && b) Yes (init_fault (Some s))) (eq-eqb s s refl) e
+
+init_holds : (n : ℕ) (o : Option ℕ) (body : PlainBounds) → HasValues n body → ((s : ℕ) → o ≡ Some s → s < n) → bounds_init_check (init_between o body) o body ≡ Yes
+init_holds n None body has below = refl
+init_holds n (Some s) (probabilities lower upper choices ranks) has below =
+    right_line s _ (ap₂ (λ (a b : Bool). a && b) (value_there lower s n (below s refl) has.0) (value_there upper s n (below s refl) has.1))
+init_holds n (Some s) (rewards lower upper choices ranks) has below =
+    right_line s _ (ap₂ (λ (a b : Bool). a && b) (reward_there lower s n (below s refl) has.0) (reward_there upper s n (below s refl) has.1))
+init_holds n (Some s) (gains lower upper bound bias choices spread) has below =
+    right_line s _ (ap₂ (λ (a b : Bool). a && b) (value_there lower s n (below s refl) has.0) (value_there upper s n (below s refl) has.1))
+
+may_be_reward : (dir : Dir) (name label : List ℕ) (v : Option ℚ) → may_be (reward dir name label) v ≡ true
+may_be_reward dir name label None = refl
+may_be_reward dir name label (Some x) = refl
+
+-- and it may stand in a certificate
+pub init_inside : (claim : PlainClaim) (n : ℕ) (o : Option ℕ) (body : PlainBounds) → is_body_of claim n body ≡ true → ((s : ℕ) → o ≡ Some s → s < n)
+    → is_init_of claim n (init_between o body) ≡ true
+init_inside claim n None body e below = refl
+init_inside claim n (Some s) (probabilities lower upper choices ranks) e below = ap (λ (b : Bool). b && true && true) (lt-ltb s n (below s refl))
+init_inside (upper label) n (Some s) (rewards lower high choices ranks) e below = absurd cc
+init_inside (reach dir label) n (Some s) (rewards lower high choices ranks) e below = absurd cc
+init_inside (reward dir name label) n (Some s) (rewards lower high choices ranks) e below =
+    ap₂ (λ (a b : Bool). a && b) (ap₂ (λ (a b : Bool). a && b) (lt-ltb s n (below s refl)) (may_be_reward dir name label (reward_at lower s))) (may_be_reward dir name label (reward_at high s))
+init_inside (mean dir name) n (Some s) (rewards lower high choices ranks) e below = absurd cc
+init_inside (witness dir label threshold) n (Some s) (rewards lower high choices ranks) e below = absurd cc
+init_inside claim n (Some s) (gains lower upper bound bias choices spread) e below = ap (λ (b : Bool). b && true && true) (lt-ltb s n (below s refl))
+
+-- ---- the certificate is accepted
+
+module _ (claim : PlainClaim) (m : Mdp) (body : PlainBounds) (bounds : AreBounds claim m body) where
+  accepted : IsBoundsAccepted m (certificate_of claim m body)
+  accepted = record {
+    states = refl;
+    entries = bounds.entries;
+    reward = bounds.reward;
+    named = bounds.named;
+    goals = bounds.goals;
+    marked = bounds.marked;
+    init = init_holds (states_of m) (initial_of m) body (values_of_body claim (states_of m) body bounds.entries) (initial_below m);
+    body = bounds.valid;
+  }
+
+  printed_text : IsMdp m → IsReadBack → AcceptedBoundsAreTrue → Fits (certificate_of claim m body) → (text : List ℕ) → text ≡ text_of (certificate_of claim m body)
+      → IsBoundsPrinted claim m text
   printed_text mdp back true_of fits text spelled = record {
-    cert = cert;
+    cert = certificate_of claim m body;
     claim = refl;
     spelled = spelled;
-    short = subst (λ (t : List ℕ). length t ≤ most_bytes) (sym spelled) (text_short dir label m lower upper choices ranks fits (few mdp));
-    reads = ap outcome spelled ∙ back cert fits;
+    short = subst (λ (t : List ℕ). length t ≤ most_bytes) (sym spelled) (text_short (certificate_of claim m body) fits);
+    reads = ap outcome spelled ∙ back (certificate_of claim m body) fits;
     holds = accepted;
-    bound = true_of m cert mdp accepted;
+    bound = true_of m (certificate_of claim m body) mdp accepted;
   }
 
-  pub printed : IsMdp m → IsReadBack → AcceptedBoundsAreTrue → Fits cert → (said : Said) → (said ≡ Err no_memory) ⊎ (said ≡ Ok (text_of cert))
-      → IfOk said (IsBoundsPrinted dir label m)
-  printed mdp back true_of fits (Ok text) (inl memory) = cc memory
-  printed mdp back true_of fits (Ok text) (inr e) = printed_text mdp back true_of fits text (cc e)
-  printed mdp back true_of fits (Err refusal) e = tt
+  -- what is said: the text, or that memory is wanting
+  abbrev IsTextOf : Certificate → Said → Type 0
+  IsTextOf c said = (said ≡ Err no_memory) ⊎ (said ≡ Ok (text_of c))
 
-pub unknown_due : (dir : Dir) (label : List ℕ) (m : Mdp) → place_of label m.labels ≡ None → IsBoundsDue dir label m (Err query_label)
-unknown_due dir label m e = subst (λ (o : Option ℕ). IsLabelDue dir label m o (Err query_label)) (sym e) refl
+  pub printed : IsMdp m → IsReadBack → AcceptedBoundsAreTrue → (c : Certificate) (said : Said) → c ≡ certificate_of claim m body → Fits c → IsTextOf c said
+      → IfOk said (IsBoundsPrinted claim m)
+  printed mdp back true_of c (Ok text) is fits (inl memory) = cc memory
+  printed mdp back true_of c (Ok text) is fits (inr e) = printed_text mdp back true_of (subst Fits is fits) text (let t : text ≡ text_of c = cc e in t ∙ ap text_of is)
+  printed mdp back true_of c (Err refusal) is fits e = tt
+
+  pub accepted_text : (c : Certificate) (said : Said) → c ≡ certificate_of claim m body → Fits c → said ≡ Ok (text_of c) → IsAcceptedText claim m said
+  accepted_text c said is fits e = record {
+    cert = certificate_of claim m body;
+    claimed = refl;
+    fits = subst Fits is fits;
+    accepted = accepted;
+    spelled = e ∙ ap (λ (x : Certificate). let s : Said = Ok (text_of x) in s) is;
+  }
+
+-- ---- what is due
+
+module _ (dir : Dir) (query : PlainQuery) (m : Mdp) where
+  pub text_due : (body : PlainBounds) → AreBounds (claim_of dir query) m body → fault_of query m ≡ None → (c : Certificate) (said : Said)
+      → c ≡ certificate_of (claim_of dir query) m body → Fits c → (said ≡ Err no_memory) ⊎ (said ≡ Ok (text_of c)) → (said ≡ Err no_memory) ⊎ IsBoundsDue dir query m said
+  text_due body bounds fitting c said is fits (inl memory) = inl memory
+  text_due body bounds fitting c said is fits (inr e) =
+      inr (subst (λ (o : Option PlainRefusal). IsDueBy (claim_of dir query) m o said) (sym fitting) (accepted_text (claim_of dir query) m body bounds c said is fits e))
+
+  refusal_due : (r : PlainRefusal) (said : Said) → said ≡ Err r → fault_of query m ≡ Some r → IsBoundsDue dir query m said
+  refusal_due r said is fault = subst (λ (o : Option PlainRefusal). IsDueBy (claim_of dir query) m o said) (sym fault) is
+
+  pub refused_due : (r : PlainRefusal) → (r ≡ no_memory) ⊎ (fault_of query m ≡ Some r) → (let said : Said = Err r in (said ≡ Err no_memory) ⊎ IsBoundsDue dir query m said)
+  refused_due r (inl memory) = inl (ap (λ (x : PlainRefusal). let said : Said = Err x in said) memory)
+  refused_due r (inr fault) = inr (refusal_due r (Err r) refl fault)

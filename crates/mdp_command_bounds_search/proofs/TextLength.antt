@@ -1,101 +1,152 @@
--- The text of a certificate of bounds of reaching a label has at most 2^30 bytes.
+-- The text of a certificate of bounds has at most 2^30 bytes.
 use Rattle.std.proofs.Common.{◌≡◌, ℕ, suc, ◌+◌, ◌*◌, ◌<◌, ◌≤◌, ◌^◌, Bool, true, false, cond, eqb, List, [], ◌∷◌, ◌++◌, length}
-use Rattle.std.proofs.Common.{codes, decimal, Some, None, refl, arith, lit<, ◌&&◌, nat_lt, ltb→lt, T, sym, subst}
+use Rattle.std.proofs.Common.{codes, decimal, Option, Some, None, refl, arith, lit<, ltb→lt, T, sym, subst}
 use Rattle.std.specs.List.{AllByRecursion as Each}
 use Rattle.std.proofs.lemmas.Bool.{and_parts}
 use Rattle.std.proofs.lemmas.List.{length-append}
 use Rattle.std.proofs.lemmas.List.Elements.{recursion_from_All}
 use Rattle.mdp_math.specs.Rational.{ℚ}
 use Rattle.mdp_num.specs.Value.{spelling, IsNarrow}
-use Rattle.mdp_spec.specs.Mdp.{Mdp}
-use Rattle.mdp_rows.specs.declared.dir.Dir.{Dir}
 use Rattle.mdp_text.proofs.Lengths.{number_short, spelling_short, blank_length, line_length, name_short, dir_length, quoted_length, states_short}
 use Rattle.mdp_text.specs.Spelling.{line, ◌␣◌, quoted, dir_text, states_text, end_text}
-use Rattle.mdp_cert.specs.Cert.{reach}
-use Rattle.mdp_cert.specs.Claims.{fraction_value}
-use Rattle.mdp_cert.specs.Runs.{Columns, Run, run, single, before_runs, longest_runs}
-use Rattle.mdp_cert.specs.Spelling.{claim_text, entry_text, run_text, run_lines}
 use Rattle.mdp_rows.specs.Name.{is_name}
-use Rattle.mdp_bounds_text.specs.Cert.{Certificate, Fits, may_be, is_init_of, IsInitInWidth}
-use Rattle.mdp_bounds_text.specs.Entries.{ranked_columns, IsRankedInWidth, ranked_of}
-use Rattle.mdp_bounds_text.specs.Spelling.{version_text, init_text, head_text, text_of}
+use Rattle.mdp_rows.specs.declared.dir.Dir.{Dir}
+use Rattle.mdp_cert.specs.Cert.{PlainClaim, upper, reach, reward, mean, witness, are_names, IsValueNarrow}
+use Rattle.mdp_cert.specs.Claims.{Value, fraction_value, reward_value, reward_text}
+use Rattle.mdp_cert.specs.Runs.{Columns, Run, run, single, before_runs, longest_runs}
+use Rattle.mdp_cert.specs.Spelling.{claim_text, entry_text, run_text, run_lines, spread_text}
+use Rattle.mdp_bounds_text.proofs.Bodies.{reach-counts, reward-counts, mean-counts}
+use Rattle.mdp_bounds_text.specs.Cert.{PlainBounds, probabilities, rewards, gains, Certificate, Fits, may_be, is_init_of, is_body_of, IsInitInWidth, IsBodyInWidth}
+use Rattle.mdp_bounds_text.specs.Entries.{ranked_columns, IsRankedInWidth, ranked_of, gains_columns, IsGainsInWidth, gains_of}
+use Rattle.mdp_bounds_text.specs.Spelling.{version_text, init_text, head_text, body_text, text_of}
 use Rattle.mdp_bounds_text.specs.declared.init.BoundsInit.{BoundsInit}
 use Rattle.mdp_bounds_text.specs.declared.init.BoundsInit.TheVariants.{Missing, Between}
 use Rattle.mdp_command.specs.Files.{most_bytes}
-use Rattle.mdp_command_bounds_search.specs.Certificate.{reach_certificate}
 
 -- ---- the lines before those of the states
 
-claim_short : (dir : Dir) (label : List ℕ) → is_name label ≡ true → length (claim_text (reach dir label)) ≤ 300
-claim_short dir label named =
-    let a = blank_length (codes "claim") (dir_text dir ␣ codes "reach" ␣ quoted label) in
-    let b = blank_length (dir_text dir) (codes "reach" ␣ quoted label) in
-    let c = blank_length (codes "reach") (quoted label) in
-    let d = dir_length dir in
-    let q = quoted_length label in
-    let n = name_short label named in
-    omega (arith, a, b, c, d, q, n)
+two_words : (dir : Dir) (word rest : List ℕ) → length (codes "claim" ␣ dir_text dir ␣ word ␣ rest) ≡ 5 + (1 + (3 + (1 + (length word + (1 + length rest)))))
+two_words dir word rest =
+    let a = blank_length (codes "claim") (dir_text dir ␣ word ␣ rest) in
+    let b = blank_length (dir_text dir) (word ␣ rest) in
+    let c = blank_length word rest in
+    let n = dir_length dir in
+    omega (arith, a, b, c, n)
 
--- of fractions in width
-init_line_short : (dir : Dir) (label : List ℕ) (n : ℕ) (init : BoundsInit) → n ≤ 2 ^ 20 → is_init_of (reach dir label) n init ≡ true → IsInitInWidth init
-    → length (init_text init) ≤ 200
-init_line_short dir label n Missing limit inside w = omega arith
-init_line_short dir label n (Between s (Some x) (Some y)) limit inside w =
+-- of a claim of bounds
+claim_short : (claim : PlainClaim) (n : ℕ) (body : PlainBounds) → is_body_of claim n body ≡ true → are_names claim ≡ true → length (claim_text claim) ≤ 600
+claim_short (upper label) n body e h = absurd cc
+claim_short (reach dir label) n body e h =
+    let a = two_words dir (codes "reach") (quoted label) in
+    let d = quoted_length label in
+    let l = name_short label h in
+    omega (arith, a, d, l)
+claim_short (reward dir name label) n body e h =
+    let a = two_words dir (codes "reward") (quoted name ␣ quoted label) in
+    let b = blank_length (quoted name) (quoted label) in
+    let c = quoted_length name in
+    let d = quoted_length label in
+    let names = and_parts (is_name name) (is_name label) h in
+    let x = name_short name names.0 in
+    let l = name_short label names.1 in
+    omega (arith, a, b, c, d, x, l)
+claim_short (mean dir name) n body e h =
+    let a = two_words dir (codes "mean") (quoted name) in
+    let d = quoted_length name in
+    let l = name_short name h in
+    omega (arith, a, d, l)
+claim_short (witness dir label threshold) n body e h = absurd cc
+
+reward_short : (v : Option ℚ) → IsValueNarrow v → length (reward_text v) ≤ 80
+reward_short None h = omega arith
+reward_short (Some x) h = spelling_short x h
+
+init_line_short : (claim : PlainClaim) (n : ℕ) (init : BoundsInit) → n ≤ 2 ^ 20 → is_init_of claim n init ≡ true → IsInitInWidth init → length (init_text init) ≤ 200
+init_line_short claim n Missing limit inside w = omega arith
+init_line_short claim n (Between s x y) limit inside w =
     let p : 2 ^ 20 < 2 ^ 32 = lit< tt in
     let below = ltb→lt s n (subst T (sym (and_parts _ _ (and_parts _ _ inside).0).0) tt) in
-    let a = blank_length (codes "init") (decimal s ␣ spelling x ␣ spelling y) in
-    let b = blank_length (decimal s) (spelling x ␣ spelling y) in
-    let c = blank_length (spelling x) (spelling y) in
+    let a = blank_length (codes "init") (decimal s ␣ reward_text x ␣ reward_text y) in
+    let b = blank_length (decimal s) (reward_text x ␣ reward_text y) in
+    let c = blank_length (reward_text x) (reward_text y) in
     let l = number_short s (omega (arith, limit, p, below)) in
-    let u = spelling_short x w.0 in
-    let v = spelling_short y w.1 in
+    let u = reward_short x w.0 in
+    let v = reward_short y w.1 in
     omega (arith, a, b, c, l, u, v)
-init_line_short dir label n (Between s None y) limit inside w =
-    cc ((and_parts (nat_lt s n) false (and_parts (nat_lt s n && false) (may_be (reach dir label) y) inside).0).1)
-init_line_short dir label n (Between s (Some x) None) limit inside w = cc ((and_parts (nat_lt s n && true) false inside).1)
 
 -- ---- the lines of the states
 
-ranked_short : (l u : ℚ) (c r : ℕ) → IsNarrow l → IsNarrow u → c < 2 ^ 32 → r < 2 ^ 32 → length (spelling l ␣ (spelling u ␣ (decimal c ␣ decimal r))) ≤ 260
+ranked_short : (l u : List ℕ) (c r : ℕ) → length l ≤ 80 → length u ≤ 80 → c < 2 ^ 32 → r < 2 ^ 32 → length (l ␣ (u ␣ (decimal c ␣ decimal r))) ≤ 340
 ranked_short l u c r hl hu hc hr =
-    let a = blank_length (spelling l) (spelling u ␣ (decimal c ␣ decimal r)) in
-    let b = blank_length (spelling u) (decimal c ␣ decimal r) in
+    let a = blank_length l (u ␣ (decimal c ␣ decimal r)) in
+    let b = blank_length u (decimal c ␣ decimal r) in
     let d = blank_length (decimal c) (decimal r) in
-    let w = spelling_short l hl in
-    let x = spelling_short u hu in
     let y = number_short c hc in
     let z = number_short r hr in
-    omega (arith, a, b, d, w, x, y, z)
+    omega (arith, a, b, d, hl, hu, y, z)
 
-ranked_width : (ls us : List ℚ) (cs rs : List ℕ) → Each IsNarrow ls → Each IsNarrow us → Each (λ c. c < 2 ^ 32) cs → Each (λ r. r < 2 ^ 32) rs
-    → Each (IsRankedInWidth IsNarrow) (ranked_of ls us cs rs)
-ranked_width (l ∷ ls) (u ∷ us) (c ∷ cs) (r ∷ rs) p q o n = (record { lower = p.0; upper = q.0; choice = o.0; rank = n.0 }, ranked_width ls us cs rs p.1 q.1 o.1 n.1)
-ranked_width [] us cs rs p q o n = tt
-ranked_width (l ∷ ls) [] cs rs p q o n = tt
-ranked_width (l ∷ ls) (u ∷ us) [] rs p q o n = tt
-ranked_width (l ∷ ls) (u ∷ us) (c ∷ cs) [] p q o n = tt
+gains_short : (l u a b : ℚ) (c : ℕ) → IsNarrow l → IsNarrow u → IsNarrow a → IsNarrow b → c < 2 ^ 32
+    → length (spelling l ␣ (spelling u ␣ (spelling a ␣ (spelling b ␣ decimal c)))) ≤ 340
+gains_short l u a b c hl hu ha hb hc =
+    let v = blank_length (spelling l) (spelling u ␣ (spelling a ␣ (spelling b ␣ decimal c))) in
+    let w = blank_length (spelling u) (spelling a ␣ (spelling b ␣ decimal c)) in
+    let x = blank_length (spelling a) (spelling b ␣ decimal c) in
+    let y = blank_length (spelling b) (decimal c) in
+    let p = spelling_short l hl in
+    let q = spelling_short u hu in
+    let r = spelling_short a ha in
+    let s = spelling_short b hb in
+    let n = number_short c hc in
+    omega (arith, v, w, x, y, p, q, r, s, n)
 
--- no more entries than lower values
-ranked_count : (ls us : List ℚ) (cs rs : List ℕ) → length (ranked_of ls us cs rs) ≤ length ls
-ranked_count (l ∷ ls) (u ∷ us) (c ∷ cs) (r ∷ rs) = let n = ranked_count ls us cs rs in omega (arith, n)
-ranked_count [] us cs rs = omega arith
-ranked_count (l ∷ ls) [] cs rs = omega arith
-ranked_count (l ∷ ls) (u ∷ us) [] rs = omega arith
-ranked_count (l ∷ ls) (u ∷ us) (c ∷ cs) [] = omega arith
+module _ {V : Type 0} (P : V → Type 0) where
+  ranked_width : (ls us : List V) (cs rs : List ℕ) → Each P ls → Each P us → Each (λ c. c < 2 ^ 32) cs → Each (λ r. r < 2 ^ 32) rs
+      → Each (IsRankedInWidth P) (ranked_of ls us cs rs)
+  ranked_width (l ∷ ls) (u ∷ us) (c ∷ cs) (r ∷ rs) p q o n = (record { lower = p.0; upper = q.0; choice = o.0; rank = n.0 }, ranked_width ls us cs rs p.1 q.1 o.1 n.1)
+  ranked_width [] us cs rs p q o n = tt
+  ranked_width (l ∷ ls) [] cs rs p q o n = tt
+  ranked_width (l ∷ ls) (u ∷ us) [] rs p q o n = tt
+  ranked_width (l ∷ ls) (u ∷ us) (c ∷ cs) [] p q o n = tt
+
+  -- no more entries than lower values
+  ranked_count : (ls us : List V) (cs rs : List ℕ) → length (ranked_of ls us cs rs) ≤ length ls
+  ranked_count (l ∷ ls) (u ∷ us) (c ∷ cs) (r ∷ rs) = let n = ranked_count ls us cs rs in omega (arith, n)
+  ranked_count [] us cs rs = omega arith
+  ranked_count (l ∷ ls) [] cs rs = omega arith
+  ranked_count (l ∷ ls) (u ∷ us) [] rs = omega arith
+  ranked_count (l ∷ ls) (u ∷ us) (c ∷ cs) [] = omega arith
+
+gains_width : (ls us zs bs : List ℚ) (cs : List ℕ) → Each IsNarrow ls → Each IsNarrow us → Each IsNarrow zs → Each IsNarrow bs → Each (λ c. c < 2 ^ 32) cs
+    → Each IsGainsInWidth (gains_of ls us zs bs cs)
+gains_width (l ∷ ls) (u ∷ us) (z ∷ zs) (b ∷ bs) (c ∷ cs) p q r o n =
+    (record { lower = p.0; upper = q.0; bound = r.0; bias = o.0; choice = n.0 }, gains_width ls us zs bs cs p.1 q.1 r.1 o.1 n.1)
+gains_width [] us zs bs cs p q r o n = tt
+gains_width (l ∷ ls) [] zs bs cs p q r o n = tt
+gains_width (l ∷ ls) (u ∷ us) [] bs cs p q r o n = tt
+gains_width (l ∷ ls) (u ∷ us) (z ∷ zs) [] cs p q r o n = tt
+gains_width (l ∷ ls) (u ∷ us) (z ∷ zs) (b ∷ bs) [] p q r o n = tt
+
+gains_count : (ls us zs bs : List ℚ) (cs : List ℕ) → length (gains_of ls us zs bs cs) ≤ length ls
+gains_count (l ∷ ls) (u ∷ us) (z ∷ zs) (b ∷ bs) (c ∷ cs) = let n = gains_count ls us zs bs cs in omega (arith, n)
+gains_count [] us zs bs cs = omega arith
+gains_count (l ∷ ls) [] zs bs cs = omega arith
+gains_count (l ∷ ls) (u ∷ us) [] bs cs = omega arith
+gains_count (l ∷ ls) (u ∷ us) (z ∷ zs) [] cs = omega arith
+gains_count (l ∷ ls) (u ∷ us) (z ∷ zs) (b ∷ bs) [] = omega arith
 
 -- the lines of the states, and the line `end`
 abbrev lines_of : {A : Type 0} → Columns A → List A → List ℕ
 lines_of k xs = run_lines k 0 (longest_runs k xs) ++ line end_text
 
--- of entries whose words have at most 260 bytes
-module _ {A : Type 0} (k : Columns A) (P : A → Type 0) (short : (x : A) → P x → length (entry_text k x) ≤ 260) where
+-- of entries whose words have at most 340 bytes
+module _ {A : Type 0} (k : Columns A) (P : A → Type 0) (short : (x : A) → P x → length (entry_text k x) ≤ 340) where
   abbrev state_text : ℕ → A → List ℕ
   state_text state x = codes "state" ␣ decimal state ␣ entry_text k x
 
   abbrev states_from : ℕ → ℕ → A → List ℕ
   states_from state more x = codes "run" ␣ decimal state ␣ decimal (state + more) ␣ entry_text k x
 
-  one_short : (state : ℕ) (x : A) → state < 2 ^ 32 → P x → length (state_text state x) ≤ 299
+  one_short : (state : ℕ) (x : A) → state < 2 ^ 32 → P x → length (state_text state x) ≤ 379
   one_short state x lt h =
       let a = blank_length (codes "state") (decimal state ␣ entry_text k x) in
       let b = blank_length (decimal state) (entry_text k x) in
@@ -103,7 +154,7 @@ module _ {A : Type 0} (k : Columns A) (P : A → Type 0) (short : (x : A) → P 
       let e = short x h in
       omega (arith, a, b, n, e)
 
-  many_short : (state more : ℕ) (x : A) → state + more < 2 ^ 32 → P x → length (states_from state more x) ≤ 299
+  many_short : (state more : ℕ) (x : A) → state + more < 2 ^ 32 → P x → length (states_from state more x) ≤ 379
   many_short state more x lt h =
       let a = blank_length (codes "run") (decimal state ␣ decimal (state + more) ␣ entry_text k x) in
       let b = blank_length (decimal state) (decimal (state + more) ␣ entry_text k x) in
@@ -113,11 +164,11 @@ module _ {A : Type 0} (k : Columns A) (P : A → Type 0) (short : (x : A) → P 
       let e = short x h in
       omega (arith, a, b, c, n, m, e)
 
-  either_short : (b : Bool) (x y : List ℕ) → length x ≤ 299 → length y ≤ 299 → length (line (cond b x y)) ≤ 300
+  either_short : (b : Bool) (x y : List ℕ) → length x ≤ 379 → length y ≤ 379 → length (line (cond b x y)) ≤ 380
   either_short true x y h l = let n = line_length x in omega (arith, n, h)
   either_short false x y h l = let n = line_length y in omega (arith, n, l)
 
-  run_short : (state : ℕ) (r : Run A) → state + r.more < 2 ^ 32 → P r.entry → length (line (run_text k state r)) ≤ 300
+  run_short : (state : ℕ) (r : Run A) → state + r.more < 2 ^ 32 → P r.entry → length (line (run_text k state r)) ≤ 380
   unfolding run_text
   run_short state r lt h =
       either_short (eqb r.more 0) (state_text state r.entry) (states_from state r.more r.entry) (one_short state r.entry (omega (arith, lt)) h) (many_short state r.more r.entry lt h)
@@ -131,7 +182,7 @@ module _ {A : Type 0} (k : Columns A) (P : A → Type 0) (short : (x : A) → P 
   AreInWidth [] = Unit {0}
   AreInWidth (r ∷ rs) = P r.entry × AreInWidth rs
 
-  lines_short : (state : ℕ) (rs : List (Run A)) → state + size rs ≤ 2 ^ 20 → AreInWidth rs → length (run_lines k state rs) ≤ 300 * size rs
+  lines_short : (state : ℕ) (rs : List (Run A)) → state + size rs ≤ 2 ^ 20 → AreInWidth rs → length (run_lines k state rs) ≤ 380 * size rs
   unfolding run_lines
   lines_short state [] h w = omega arith
   lines_short state (r ∷ rs) h w =
@@ -169,11 +220,11 @@ module _ {A : Type 0} (k : Columns A) (P : A → Type 0) (short : (x : A) → P 
   runs_width [] h = tt
   runs_width (x ∷ xs) h = before_width x (longest_runs k xs) h.0 (runs_width xs h.1)
 
-  states_lines_short : (xs : List A) → length xs ≤ 2 ^ 20 → Each P xs → length (run_lines k 0 (longest_runs k xs)) ≤ 300 * length xs
+  states_lines_short : (xs : List A) → length xs ≤ 2 ^ 20 → Each P xs → length (run_lines k 0 (longest_runs k xs)) ≤ 380 * length xs
   states_lines_short xs limit h = let n = runs_size xs in let l = lines_short 0 (longest_runs k xs) (omega (arith, n, limit)) (runs_width xs h) in omega (arith, n, l)
 
   -- with the line `end`
-  closed_short : (xs : List A) → length xs ≤ 2 ^ 20 → Each P xs → length (lines_of k xs) ≤ 300 * length xs + 4
+  closed_short : (xs : List A) → length xs ≤ 2 ^ 20 → Each P xs → length (lines_of k xs) ≤ 380 * length xs + 4
   closed_short xs limit h =
       let l = states_lines_short xs limit h in
       let a = length-append (run_lines k 0 (longest_runs k xs)) (line end_text) in
@@ -181,41 +232,67 @@ module _ {A : Type 0} (k : Columns A) (P : A → Type 0) (short : (x : A) → P 
 
 -- ---- the whole
 
-module _ (dir : Dir) (label : List ℕ) (m : Mdp) (lower upper : List ℚ) (choices ranks : List ℕ) (fits : Fits (reach_certificate dir label m lower upper choices ranks)) where
-  abbrev whole : Certificate
-  whole = reach_certificate dir label m lower upper choices ranks
+-- at most so many bytes for each state, and a line of the spread
+abbrev IsShort : ℕ → List ℕ → Type 0
+IsShort states lines = length lines ≤ 380 * states + 104
 
-  head_short : length (head_text whole) ≤ 800
+module _ (states : ℕ) (limit : states ≤ 2 ^ 20) where
+  ranked_lines_short : {V : Type 0} (k : Value V) (P : V → Type 0) → ((v : V) → P v → length (k.spell v) ≤ 80) → (ls us : List V) (cs rs : List ℕ) → length ls ≡ states
+      → Each P ls → Each P us → Each (λ c. c < 2 ^ 32) cs → Each (λ r. r < 2 ^ 32) rs → IsShort states (lines_of (ranked_columns k) (ranked_of ls us cs rs))
+  ranked_lines_short k P short ls us cs rs size p q o n =
+      let count = ranked_count P ls us cs rs in
+      let l = closed_short (ranked_columns k) (IsRankedInWidth P)
+      (λ x h. ranked_short (k.spell x.lower) (k.spell x.upper) x.choice x.rank (short x.lower h.lower) (short x.upper h.upper) h.choice h.rank)
+      (ranked_of ls us cs rs) (omega (arith, count, size, limit)) (ranked_width P ls us cs rs p q o n) in
+      omega (arith, l, count, size)
+
+  gains_lines_short : (ls us zs bs : List ℚ) (cs : List ℕ) (spread : ℚ) → length ls ≡ states → Each IsNarrow ls → Each IsNarrow us → Each IsNarrow zs → Each IsNarrow bs
+      → Each (λ c. c < 2 ^ 32) cs → IsNarrow spread → IsShort states (line (spread_text spread) ++ lines_of gains_columns (gains_of ls us zs bs cs))
+  gains_lines_short ls us zs bs cs spread size p q r o n narrow =
+      let count = gains_count ls us zs bs cs in
+      let lines = lines_of gains_columns (gains_of ls us zs bs cs) in
+      let l = closed_short gains_columns IsGainsInWidth (λ x h. gains_short x.lower x.upper x.bound x.bias x.choice h.lower h.upper h.bound h.bias h.choice)
+      (gains_of ls us zs bs cs) (omega (arith, count, size, limit)) (gains_width ls us zs bs cs p q r o n) in
+      let a = length-append (line (spread_text spread)) lines in
+      let b = line_length (spread_text spread) in
+      let d = blank_length (codes "spread") (spelling spread) in
+      let v = spelling_short spread narrow in
+      omega (arith, l, count, size, a, b, d, v)
+
+  body_short : (claim : PlainClaim) (body : PlainBounds) → is_body_of claim states body ≡ true → IsBodyInWidth body → IsShort states (body_text body)
+  body_short claim (probabilities ls us cs rs) e w =
+      ranked_lines_short fraction_value IsNarrow spelling_short ls us cs rs (let k = reach-counts claim states ls us cs rs e in k.lower)
+      (recursion_from_All IsNarrow ls w.0) (recursion_from_All IsNarrow us w.1) (recursion_from_All (λ c. c < 2 ^ 32) cs w.2) (recursion_from_All (λ r. r < 2 ^ 32) rs w.3)
+  body_short claim (rewards ls us cs rs) e w =
+      ranked_lines_short reward_value IsValueNarrow reward_short ls us cs rs (let k = reward-counts claim states ls us cs rs e in k.lower)
+      (recursion_from_All IsValueNarrow ls w.0) (recursion_from_All IsValueNarrow us w.1) (recursion_from_All (λ c. c < 2 ^ 32) cs w.2)
+      (recursion_from_All (λ r. r < 2 ^ 32) rs w.3)
+  body_short claim (gains ls us zs bs cs spread) e w =
+      gains_lines_short ls us zs bs cs spread (let k = mean-counts claim states ls us zs bs cs spread e in k.lower) (recursion_from_All IsNarrow ls w.0)
+      (recursion_from_All IsNarrow us w.1) (recursion_from_All IsNarrow zs w.2) (recursion_from_All IsNarrow bs w.3) (recursion_from_All (λ c. c < 2 ^ 32) cs w.4) w.5
+
+module _ (c : Certificate) (fits : Fits c) where
+  head_short : length (head_text c) ≤ 1000
   head_short =
       let limit = fits.limit in
       let p : 2 ^ 20 < 2 ^ 32 = lit< tt in
-      let a = length-append (line version_text) (line (claim_text whole.claim) ++ (line (states_text whole.states) ++ line (init_text whole.init))) in
-      let b = length-append (line (claim_text whole.claim)) (line (states_text whole.states) ++ line (init_text whole.init)) in
-      let c = length-append (line (states_text whole.states)) (line (init_text whole.init)) in
-      let d = line_length (claim_text whole.claim) in
-      let e = line_length (states_text whole.states) in
-      let f = line_length (init_text whole.init) in
-      let g = claim_short dir label fits.names in
-      let h = states_short whole.states (omega (arith, p, limit)) in
-      let i = init_line_short dir label whole.states whole.init limit fits.inside fits.init_width in
-      omega (arith, a, b, c, d, e, f, g, h, i)
+      let a = length-append (line version_text) (line (claim_text c.claim) ++ (line (states_text c.states) ++ line (init_text c.init))) in
+      let b = length-append (line (claim_text c.claim)) (line (states_text c.states) ++ line (init_text c.init)) in
+      let x = length-append (line (states_text c.states)) (line (init_text c.init)) in
+      let d = line_length (claim_text c.claim) in
+      let e = line_length (states_text c.states) in
+      let f = line_length (init_text c.init) in
+      let g = claim_short c.claim c.states c.body fits.entries fits.names in
+      let h = states_short c.states (omega (arith, p, limit)) in
+      let i = init_line_short c.claim c.states c.init limit fits.inside fits.init_width in
+      omega (arith, a, b, x, d, e, f, g, h, i)
 
-  lines_few : length lower ≤ 2 ^ 20 → length (lines_of (ranked_columns fraction_value) (ranked_of lower upper choices ranks)) ≤ 300 * 2 ^ 20 + 4
-  lines_few few =
-      let n = ranked_count lower upper choices ranks in
-      let w = fits.body_width in
-      let l = closed_short (ranked_columns fraction_value) (IsRankedInWidth IsNarrow) (λ x h. ranked_short x.lower x.upper x.choice x.rank h.lower h.upper h.choice h.rank)
-      (ranked_of lower upper choices ranks) (omega (arith, n, few))
-      (ranked_width lower upper choices ranks (recursion_from_All IsNarrow lower w.0) (recursion_from_All IsNarrow upper w.1)
-      (recursion_from_All (λ c. c < 2 ^ 32) choices w.2) (recursion_from_All (λ r. r < 2 ^ 32) ranks w.3)) in
-      omega (arith, n, few, l)
-
-  pub text_short : length lower ≤ 2 ^ 20 → length (text_of whole) ≤ most_bytes
+  pub text_short : length (text_of c) ≤ most_bytes
   unfolding text_of
-  text_short few =
-      let lines = lines_of (ranked_columns fraction_value) (ranked_of lower upper choices ranks) in
-      let a = length-append (head_text whole) lines in
+  text_short =
+      let a = length-append (head_text c) (body_text c.body) in
       let h = head_short in
-      let l = lines_few few in
-      let p : 300 * 2 ^ 20 + 1000 < 2 ^ 30 = lit< tt in
-      omega (arith, a, h, l, p)
+      let l = body_short c.states fits.limit c.claim c.body fits.entries fits.body_width in
+      let limit = fits.limit in
+      let p : 380 * 2 ^ 20 + 2000 < 2 ^ 30 = lit< tt in
+      omega (arith, a, h, l, limit, p)

@@ -1,24 +1,38 @@
 -- The certificate of bounds that the command makes of what its search finds.
-use Rattle.std.specs.Prelude.{ℕ, List, Option, Some, None}
-use Rattle.mdp_math.specs.Rational.{ℚ}
+use Rattle.std.specs.Prelude.{◌≡◌, ℕ, IsTrue, Bool, List, length, Option, Some, None}
+use Rattle.mdp_spec.specs.Bounds.{reward_at}
 use Rattle.mdp_spec.specs.Labels.{initial_of}
 use Rattle.mdp_spec.specs.Mdp.{Mdp, states_of, value_at}
-use Rattle.mdp_rows.specs.declared.dir.Dir.{Dir}
-use Rattle.mdp_cert.specs.Cert.{reach}
-use Rattle.mdp_bounds_text.specs.Cert.{probabilities, Certificate}
+use Rattle.mdp_cert.specs.Cert.{PlainClaim, are_names}
+use Rattle.mdp_bounds_text.specs.Cert.{PlainBounds, probabilities, rewards, gains, Certificate, is_body_of}
 use Rattle.mdp_bounds_text.specs.declared.init.BoundsInit.{BoundsInit}
 use Rattle.mdp_bounds_text.specs.declared.init.BoundsInit.TheVariants.{Missing, Between}
+use Rattle.mdp_check.specs.Bounds.{valid_bounds_by}
+use Rattle.mdp_check.specs.Check.{reward_place, goal_marks}
 
--- the initial state with its lower and its upper value, where there is one
-abbrev pub init_between : Option ℕ → List ℚ → List ℚ → BoundsInit
-init_between None lower upper = Missing
-init_between (Some s) lower upper = Between s (Some (value_at lower s)) (Some (value_at upper s))
+-- a lower and an upper value for each of so many states
+abbrev pub HasValues : ℕ → PlainBounds → Type 0
+HasValues n (probabilities lower upper choices ranks) = (length lower ≡ n) × (length upper ≡ n)
+HasValues n (rewards lower upper choices ranks) = (length lower ≡ n) × (length upper ≡ n)
+HasValues n (gains lower upper bound bias choices spread) = (length lower ≡ n) × (length upper ≡ n)
 
--- the claim of this label, with one lower value, one upper value, one choice and one rank for each state
-abbrev pub reach_certificate : Dir → List ℕ → Mdp → List ℚ → List ℚ → List ℕ → List ℕ → Certificate
-reach_certificate dir label m lower upper choices ranks = record {
-  claim = reach dir label;
-  states = states_of m;
-  init = init_between (initial_of m) lower upper;
-  body = probabilities lower upper choices ranks;
-}
+-- the initial state with its lower and its upper value, where there is one; of mean payoffs the gains are the values
+abbrev pub init_between : Option ℕ → PlainBounds → BoundsInit
+init_between None body = Missing
+init_between (Some s) (probabilities lower upper choices ranks) = Between s (Some (value_at lower s)) (Some (value_at upper s))
+init_between (Some s) (rewards lower upper choices ranks) = Between s (reward_at lower s) (reward_at upper s)
+init_between (Some s) (gains lower upper bound bias choices spread) = Between s (Some (value_at lower s)) (Some (value_at upper s))
+
+-- the certificate of a claim with this body
+abbrev pub certificate_of : PlainClaim → Mdp → PlainBounds → Certificate
+certificate_of claim m body = record { claim = claim; states = states_of m; init = init_between (initial_of m) body; body = body }
+
+-- a body of the claim's kind, with an entry for each state, that meets the rules of the claim; and the names of the claim are there
+pub record AreBounds (claim : PlainClaim) (m : Mdp) (body : PlainBounds) : Type 0 where
+  pub names : IsTrue (are_names claim)
+  pub entries : IsTrue (is_body_of claim (states_of m) body)
+  pub reward : ℕ
+  pub named : reward_place m claim ≡ Some reward
+  pub goals : List Bool
+  pub marked : goal_marks m claim ≡ Some goals
+  pub valid : valid_bounds_by m reward goals claim body

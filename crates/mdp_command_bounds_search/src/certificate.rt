@@ -1,58 +1,131 @@
-ghost use Rattle.std.specs.Prelude.{◌≡◌, length};
+ghost use Rattle.std.specs.Prelude.{◌≡◌, IfOk, All};
 ghost use Rattle.mdp_spec.specs.Labels.{initial_of};
 ghost use Rattle.mdp_spec.specs.Mdp.{states_of};
-ghost use Rattle.mdp_rows.specs.Name.{IsName};
-ghost use Rattle.mdp_bounds_text.specs.Cert.{Fits};
+ghost use Rattle.mdp_cert.specs.Cert.{plain_claim, IsValueNarrow};
+ghost use Rattle.mdp_bounds_text.specs.Cert.{plain_body, IsInitInWidth, IsBodyInWidth, Fits};
 ghost use Rattle.mdp_bounds_text.specs.Plain.{plain};
-ghost use Rattle.mdp_command_bounds_search.specs.Certificate.{init_between, reach_certificate};
+ghost use Rattle.mdp_job.specs.Job.{plain_query};
+ghost use Rattle.mdp_command_bounds_search.specs.Certificate.{HasValues, init_between, certificate_of, AreBounds};
+ghost use Rattle.mdp_command_bounds_search.specs.Due.{claim_of};
 
-use mdp_bounds::ReachBoundsCert;
 use mdp_bounds_text::{BoundsBody, BoundsCert, BoundsInit, Claim};
+use mdp_job::Query;
 use mdp_num::Frac;
 use mdp_rows::{Dir, Model};
 use mdp_text::{all_narrow, all_short};
+use std::alloc::{AllocError, Global};
 
-/// What the line `init` says of a model: its one initial state with that state's lower and upper value, or that there isn't exactly one.
-fn init_between(model: &Model, lower: &[Frac], upper: &[Frac]) -> BoundsInit
-    requires lower { length lower.now ≡ states_of model.now }
-    requires upper { length upper.now ≡ states_of model.now }
-    ensures { result ≡ init_between (initial_of model.now) lower.now upper.now }
+/// A fraction is in width.
+fn narrow(value: &Option<Frac>)
+    ensures { IsValueNarrow value.now }
 {
-    match model.initial() {
-        Some(state) => {
-            let least = lower[state as usize];
-            let greatest = upper[state as usize];
-            BoundsInit::Between(state, Some(least), Some(greatest))
-        }
-        None => BoundsInit::Missing,
+    if let Some(value) = value {
+        value.num();
     }
 }
 
-/// The certificate of bounds of the probability to reach a label, which has a text.
-pub(crate) fn reach_certificate(
-    model: &Model,
-    dir: Dir,
-    label: Vec<u8>,
-    bounds: ReachBoundsCert,
-) -> BoundsCert
-    requires name { IsName label.items }
-    requires lower { length bounds.lower.items ≡ states_of model.now }
-    requires upper { length bounds.upper.items ≡ states_of model.now }
-    requires choices { length bounds.choices.items ≡ states_of model.now }
-    requires ranks { length bounds.ranks.items ≡ states_of model.now }
-    ensures certificate { plain result ≡ reach_certificate dir label.items model.now bounds.lower.items bounds.upper.items bounds.choices.items bounds.ranks.items }
+/// Each fraction among these is in width.
+fn all_rewards_narrow(values: &[Option<Frac>])
+    ensures { All IsValueNarrow values.now }
+{
+    for value in values {
+        narrow(value);
+    }
+}
+
+/// The fractions of a line `init` are in width.
+fn init_narrow(init: &BoundsInit)
+    ensures { IsInitInWidth init.now }
+{
+    if let BoundsInit::Between(_, lower, upper) = init {
+        narrow(lower);
+        narrow(upper);
+    }
+}
+
+/// The numbers of a body are in width.
+fn body_narrow(body: &BoundsBody)
+    ensures { IsBodyInWidth (plain_body body.now) }
+{
+    match body {
+        BoundsBody::Reach(bounds) => {
+            all_narrow(&bounds.lower);
+            all_narrow(&bounds.upper);
+            all_short(&bounds.choices);
+            all_short(&bounds.ranks);
+        }
+        BoundsBody::Reward(bounds) => {
+            all_rewards_narrow(&bounds.lower);
+            all_rewards_narrow(&bounds.upper);
+            all_short(&bounds.choices);
+            all_short(&bounds.ranks);
+        }
+        BoundsBody::Mean(bounds) => {
+            all_narrow(&bounds.lower);
+            all_narrow(&bounds.upper);
+            all_narrow(&bounds.bound);
+            all_narrow(&bounds.bias);
+            all_short(&bounds.choices);
+            bounds.spread.num();
+        }
+    }
+}
+
+/// What the line `init` says of a model: its one initial state with that state's lower and upper value, or that there isn't exactly one.
+fn init_between(model: &Model, body: &BoundsBody) -> BoundsInit
+    requires { HasValues (states_of model.now) (plain_body body.now) }
+    ensures { result ≡ init_between (initial_of model.now) (plain_body body.now) }
+{
+    let Some(state) = model.initial() else {
+        return BoundsInit::Missing;
+    };
+    let s = state as usize;
+    match body {
+        BoundsBody::Reach(bounds) => {
+            BoundsInit::Between(state, Some(bounds.lower[s]), Some(bounds.upper[s]))
+        }
+        BoundsBody::Reward(bounds) => BoundsInit::Between(state, bounds.lower[s], bounds.upper[s]),
+        BoundsBody::Mean(bounds) => {
+            BoundsInit::Between(state, Some(bounds.lower[s]), Some(bounds.upper[s]))
+        }
+    }
+}
+
+/// The claim of a query.
+pub(crate) fn claim_of(alloc: Global, dir: Dir, query: Query<'_>) -> Result<Claim, AllocError>
+    ensures { IfOk result (λ claim. plain_claim claim ≡ claim_of dir (plain_query query.entry)) }
+{
+    match query {
+        Query::Reach { label } => {
+            let label = label.to_vec(alloc)?;
+            Ok(Claim::Reach { dir, label })
+        }
+        Query::Reward { name, label } => {
+            let name = name.to_vec(alloc)?;
+            let label = label.to_vec(alloc)?;
+            Ok(Claim::Reward { dir, name, label })
+        }
+        Query::Mean { name } => {
+            let name = name.to_vec(alloc)?;
+            Ok(Claim::Mean { dir, name })
+        }
+    }
+}
+
+/// The certificate of bounds of a claim, which has a text.
+pub(crate) fn certificate_of(model: &Model, claim: Claim, body: BoundsBody) -> BoundsCert
+    requires { AreBounds (plain_claim claim) model.now (plain_body body) }
+    ensures certificate { plain result ≡ certificate_of (plain_claim claim) model.now (plain_body body) }
     ensures fits { Fits (plain result) }
 {
     model.known();
-    all_narrow(&bounds.lower);
-    all_narrow(&bounds.upper);
-    all_short(&bounds.choices);
-    all_short(&bounds.ranks);
-    let init = init_between(model, &bounds.lower, &bounds.upper);
+    body_narrow(&body);
+    let init = init_between(model, &body);
+    init_narrow(&init);
     BoundsCert {
-        claim: Claim::Reach { dir, label },
+        claim,
         states: model.states(),
         init,
-        body: BoundsBody::Reach(bounds),
+        body,
     }
 }

@@ -2,8 +2,8 @@ ghost use Rattle.mdp_command_bounds_search.specs.Laws.{IsNeverTooWide, TextLiesB
 
 use mdp_check::bounds_checking_law;
 
-/// Laws of what is due to `bounds`: where the model has the label it's a text, and never a term that is too wide; and between the lower and the upper
-/// values of that text lie the greatest, or the least, probabilities, and those of its policy.
+/// Laws of what is due to `bounds`: where the query fits the model it's a text, and never a term that is too wide; and between the lower and the upper
+/// values of that text lie the greatest, or the least, probabilities, rewards until a label or mean payoffs, and those of its policy.
 pub fn bounds_search_law()
     ensures total { IsNeverTooWide }
     ensures between { TextLiesBetween }

@@ -1,6 +1,7 @@
-//! The command `bounds`: certified lower and upper bounds of the best probability of reaching a label, with a policy, for every model.
+//! The command `bounds`: certified lower and upper bounds of the best values of a query, with a policy, for every model.
 #![tactic(auto)]
 
+mod bounding;
 mod certificate;
 mod laws;
 mod searching;

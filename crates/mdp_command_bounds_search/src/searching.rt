@@ -2,20 +2,21 @@ ghost use Rattle.std.specs.Prelude.{◌≡◌, ◌⊎◌, Ok, Err, OnOk, IfOk};
 ghost use Rattle.std.specs.Io.KnownBytes.{IsAtEnd};
 ghost use Rattle.mdp_bounds_text.specs.Plain.{plain};
 ghost use Rattle.mdp_bounds_text.specs.Spelling.{text_of};
+ghost use Rattle.mdp_job.specs.Job.{plain_query};
 ghost use Rattle.mdp_job.specs.Refusal.{no_memory};
 ghost use Rattle.mdp_command.specs.Said.{said};
 ghost use Rattle.mdp_command.specs.Streams.{input};
-ghost use Rattle.mdp_command_bounds_search.specs.Due.{IsBoundsDue};
+ghost use Rattle.mdp_command_bounds_search.specs.Due.{claim_of, IsBoundsDue};
 ghost use Rattle.mdp_command_bounds_search.specs.Shown.{IsBoundsPrinted, IsBoundsRead};
 
-use crate::certificate::reach_certificate;
+use crate::bounding::bounds_of_query;
+use crate::certificate::{certificate_of, claim_of};
 use mdp_bounds_text::{BoundsCert, bounds_text_law, write_bounds};
 use mdp_check::bounds_checking_law;
 use mdp_command::read_model;
 use mdp_edge::Source;
-use mdp_job::Refusal;
+use mdp_job::{Query, Refusal};
 use mdp_rows::{Dir, Model, RowRule};
-use mdp_search_bounds::bounds_reach;
 use std::alloc::Global;
 
 /// The text of a certificate.
@@ -29,51 +30,47 @@ fn certificate_text(alloc: Global, cert: &BoundsCert) -> Result<Vec<u8>, Refusal
     }
 }
 
-/// The text of a certificate of bounds, or the refusal of a label that isn't there, which is looked up first.
-fn bounds_of_label(
+/// The text of a certificate of bounds of a query, or the refusal of a query that doesn't fit the model.
+fn bounds_text(
     alloc: Global,
     model: &Model,
     dir: Dir,
-    label: &[u8],
+    query: Query<'_>,
     digits: u32,
 ) -> Result<Vec<u8>, Refusal>
-    ensures due { (said result ≡ Err no_memory) ⊎ IsBoundsDue dir label.now model.now (said result) }
-    ensures printed { IfOk (said result) (IsBoundsPrinted dir label.now model.now) }
+    ensures due { (said result ≡ Err no_memory) ⊎ IsBoundsDue dir (plain_query query.entry) model.now (said result) }
+    ensures printed { IfOk (said result) (IsBoundsPrinted (claim_of dir (plain_query query.entry)) model.now) }
 {
     model.known();
     bounds_checking_law();
     bounds_text_law();
-    let Some(place) = model.label(label) else {
-        return Err(Refusal::QueryLabel);
+    let body = match bounds_of_query(alloc, model, dir, query, digits) {
+        Ok(body) => body,
+        Err(refusal) => return Err(refusal),
     };
-    let Ok(goals) = model.marks_of(alloc, place) else {
+    let Ok(claim) = claim_of(alloc, dir, query) else {
         return Err(Refusal::Memory);
     };
-    let Ok(bounds) = bounds_reach(alloc, model, &goals, dir, digits) else {
-        return Err(Refusal::Memory);
-    };
-    let Ok(label) = label.to_vec(alloc) else {
-        return Err(Refusal::Memory);
-    };
-    let cert = reach_certificate(model, dir, label, bounds);
+    let cert = certificate_of(model, claim, body);
     certificate_text(alloc, &cert)
 }
 
-/// Reads the model to its end and judges its text, then looks for lower and upper values between which the greatest, or the least, probabilities of
-/// reaching this label lie. There are such bounds for every model; with more digits the search tries for closer ones.
+/// Reads the model to its end and judges its text, then looks for lower and upper values between which the greatest, or the least, values of the query
+/// lie: probabilities, rewards until a label, or mean payoffs. There are such bounds for every model that the query fits; with more digits the search tries
+/// for closer ones.
 pub fn bounds_file<S: Source>(
     alloc: Global,
     rule: RowRule,
     dir: Dir,
-    label: &[u8],
+    query: Query<'_>,
     digits: u32,
     model: &mut S,
 ) -> Result<Vec<u8>, Refusal>
-    ensures read { IsBoundsRead rule dir label.now (input S.left S.faults model.old model.new) (said result) }
+    ensures read { IsBoundsRead rule dir (plain_query query.entry) (input S.left S.faults model.old model.new) (said result) }
     ensures end { OnOk (said result) (IsAtEnd (S.left model.new)) }
 {
     match read_model(alloc, model, rule) {
-        Ok(model) => bounds_of_label(alloc, &model, dir, label, digits),
+        Ok(model) => bounds_text(alloc, &model, dir, query, digits),
         Err(refusal) => Err(refusal),
     }
 }

@@ -184,10 +184,10 @@ discount_check_words : job_of_texts (codes "discount-check" ∷ codes "m" ∷ co
 discount_check_words = refl
 
 -- `bounds`: six words at least, the row rule, the direction, the objective, its number of words, then the digits
-a_bounds : job_of_texts (codes "bounds" ∷ codes "m" ∷ codes "exact" ∷ codes "min" ∷ codes "reach" ∷ codes "goal" ∷ codes "12" ∷ []) ≡ Ok (bounds Exact Min (codes "goal") 12)
+a_bounds : job_of_texts (codes "bounds" ∷ codes "m" ∷ codes "exact" ∷ codes "min" ∷ codes "reach" ∷ codes "goal" ∷ codes "12" ∷ []) ≡ Ok (bounds Exact Min (reach (codes "goal")) 12)
 a_bounds = refl
 
-most_digits : job_of_texts (codes "bounds" ∷ codes "m" ∷ codes "scaled" ∷ codes "max" ∷ codes "reach" ∷ codes "goal" ∷ codes "30" ∷ []) ≡ Ok (bounds Scaled Max (codes "goal") 30)
+most_digits : job_of_texts (codes "bounds" ∷ codes "m" ∷ codes "scaled" ∷ codes "max" ∷ codes "reach" ∷ codes "goal" ∷ codes "30" ∷ []) ≡ Ok (bounds Scaled Max (reach (codes "goal")) 30)
 most_digits = refl
 
 digits_past : job_of_texts (codes "bounds" ∷ codes "m" ∷ codes "exact" ∷ codes "max" ∷ codes "reach" ∷ codes "goal" ∷ codes "31" ∷ []) ≡ Err Digits
@@ -208,8 +208,25 @@ bounds_rows = refl
 bounds_direction : job_of_texts (codes "bounds" ∷ codes "m" ∷ codes "exact" ∷ codes "best" ∷ codes "visit" ∷ codes "goal" ∷ codes "0" ∷ []) ≡ Err Direction
 bounds_direction = refl
 
-bounds_objective : job_of_texts (codes "bounds" ∷ codes "m" ∷ codes "exact" ∷ codes "max" ∷ codes "reward" ∷ codes "-" ∷ codes "goal" ∷ codes "0" ∷ []) ≡ Err Objective
+bounds_objective : job_of_texts (codes "bounds" ∷ codes "m" ∷ codes "exact" ∷ codes "max" ∷ codes "visit" ∷ codes "-" ∷ codes "goal" ∷ codes "0" ∷ []) ≡ Err Objective
 bounds_objective = refl
+
+-- a reward has a name and a label before the digits, a mean payoff a name alone
+bounds_reward : job_of_texts (codes "bounds" ∷ codes "m" ∷ codes "exact" ∷ codes "max" ∷ codes "reward" ∷ codes "-" ∷ codes "goal" ∷ codes "6" ∷ []) ≡ Ok (bounds Exact Max (reward (codes "-") (codes "goal")) 6)
+bounds_reward = refl
+
+bounds_reward_words : job_of_texts (codes "bounds" ∷ codes "m" ∷ codes "exact" ∷ codes "max" ∷ codes "reward" ∷ codes "goal" ∷ codes "0" ∷ []) ≡ Err Number
+bounds_reward_words = refl
+
+bounds_mean : job_of_texts (codes "bounds" ∷ codes "m" ∷ codes "exact" ∷ codes "min" ∷ codes "mean" ∷ codes "-" ∷ codes "6" ∷ []) ≡ Ok (bounds Exact Min (mean (codes "-")) 6)
+bounds_mean = refl
+
+bounds_mean_words : job_of_texts (codes "bounds" ∷ codes "m" ∷ codes "exact" ∷ codes "min" ∷ codes "mean" ∷ codes "-" ∷ codes "goal" ∷ codes "0" ∷ []) ≡ Err Number
+bounds_mean_words = refl
+
+-- the digits come last
+bounds_reward_digits : job_of_texts (codes "bounds" ∷ codes "m" ∷ codes "exact" ∷ codes "max" ∷ codes "reward" ∷ codes "-" ∷ codes "goal" ∷ codes "0" ∷ []) ≡ Err Digits
+bounds_reward_digits = refl
 
 one_word_more : job_of_texts (codes "bounds" ∷ codes "m" ∷ codes "exact" ∷ codes "max" ∷ codes "reach" ∷ codes "goal" ∷ codes "0" ∷ codes "1" ∷ []) ≡ Err Number
 one_word_more = refl

@@ -33,8 +33,8 @@ pub data PlainJob : Type 0 where
   discount : RowRule → Dir → List ℕ → ℚ → PlainJob
   -- whether a certificate of discounted rewards holds
   discount_check : RowRule → PlainJob
-  -- bounds of the best probability, in the direction, of reaching a label, which are looked for with so many digits
-  bounds : RowRule → Dir → List ℕ → ℕ → PlainJob
+  -- bounds of the best values, in the direction, which are looked for with so many digits, and a policy
+  bounds : RowRule → Dir → PlainQuery → ℕ → PlainJob
   -- whether a certificate of bounds holds
   bounds_check : RowRule → PlainJob
 
@@ -58,7 +58,7 @@ plain_job (Horizon rule dir stay label steps) = horizon rule dir (option_map (λ
 plain_job (Policy rule label) = policy rule label.now
 plain_job (Discount rule dir name factor) = discount rule dir name.now factor
 plain_job (DiscountCheck rule) = discount_check rule
-plain_job (Bounds rule dir label digits) = bounds rule dir label.now digits
+plain_job (Bounds rule dir query digits) = bounds rule dir (plain_query query) digits
 plain_job (BoundsCheck rule) = bounds_check rule
 
 abbrev pub asked : Result Job WordsError → Asked
@@ -77,7 +77,7 @@ files_of (Ok (horizon rule dir stay label steps)) = record { model = Some 1; sec
 files_of (Ok (policy rule label)) = record { model = Some 1; second = Some 3 }
 files_of (Ok (discount rule dir name factor)) = record { model = Some 1; second = None }
 files_of (Ok (discount_check rule)) = record { model = Some 1; second = Some 3 }
-files_of (Ok (bounds rule dir label digits)) = record { model = Some 1; second = None }
+files_of (Ok (bounds rule dir query digits)) = record { model = Some 1; second = None }
 files_of (Ok (bounds_check rule)) = record { model = Some 1; second = Some 3 }
 files_of (Err e) = record { model = None; second = None }
 

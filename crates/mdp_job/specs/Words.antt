@@ -10,9 +10,11 @@
 --     discount MODEL ROWS DIR NAME FACTOR
 --     discount-check MODEL ROWS CERT
 --     bounds MODEL ROWS DIR reach LABEL DIGITS
+--     bounds MODEL ROWS DIR reward NAME LABEL DIGITS
+--     bounds MODEL ROWS DIR mean NAME DIGITS
 --     bounds-check MODEL ROWS CERT
 -- ROWS is `exact` or `scaled`, DIR `max` or `min`.
-use Rattle.std.specs.Prelude.{ℕ, ◌*◌, ◌-◌, ◌^◌, Bool, false, ◌&&◌, not, List, [], ◌∷◌, length, slice_index_or, map, Option, Some, None}
+use Rattle.std.specs.Prelude.{ℕ, ◌*◌, ◌-◌, ◌^◌, Bool, false, ◌&&◌, not, List, [], ◌∷◌, length, take, slice_index_or, map, Option, Some, None}
 use Rattle.std.specs.Prelude.{Result, Ok, Err, pos, ◌==◌, nat_lt, if◌then◌else◌, codes}
 use Rattle.std.specs.declared.string.String.{String}
 use Rattle.std.specs.Option.{ok_or}
@@ -161,16 +163,19 @@ few_digits None = Err Digits
 abbrev pub digits_of : List ℕ → Result ℕ WordsError
 digits_of word = if begins_with_zero word then Err Digits else few_digits (whole_word 2 word)
 
--- the words behind the objective `reach` of `bounds`: the label, then the digits
-abbrev pub bounds_reach_of : RowRule → Dir → List (List ℕ) → Asked
-bounds_reach_of rule dir words = if length words == 6 then (digits_of (word_at words 5) >>= λ digits. Ok (bounds rule dir (word_at words 4) digits)) else Err Number
+-- the words behind `bounds`: how many there are at least, the row rule, the direction, the query of all but the last one, as for `solve`, then the digits
+abbrev pub bounds_query_of : List (List ℕ) → Result PlainQuery WordsError
+bounds_query_of words = query_of (take (length words - 1) words)
 
-abbrev pub bounds_objective_of : RowRule → Dir → List (List ℕ) → Asked
-bounds_objective_of rule dir words = if bytes_eq (word_at words 3) (codes "reach") then bounds_reach_of rule dir words else Err Objective
+abbrev pub bounds_digits_of : List (List ℕ) → Result ℕ WordsError
+bounds_digits_of words = digits_of (word_at words (length words - 1))
 
--- the words behind `bounds`: how many there are at least, the row rule, the direction, the objective, and how many words that has
 abbrev pub bounds_of : List (List ℕ) → Asked
-bounds_of words = if nat_lt (length words) 6 then Err Number else (rule_of (word_at words 1) >>= (λ rule. dir_of (word_at words 2) >>= (λ dir. bounds_objective_of rule dir words)))
+bounds_of words =
+    if nat_lt (length words) 6 then Err Number
+    else (rule_of (word_at words 1)
+    >>= (λ rule. dir_of (word_at words 2)
+    >>= (λ dir. bounds_query_of words >>= (λ query. bounds_digits_of words >>= (λ digits. Ok (bounds rule dir query digits))))))
 
 -- the words behind `bounds-check`
 abbrev pub bounds_check_of : List (List ℕ) → Asked

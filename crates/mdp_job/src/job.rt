@@ -4,7 +4,7 @@ ghost use Rattle.std.specs.String.{string_bytes};
 ghost use Rattle.mdp_math.specs.Rational.{of_int, lt_ℚ};
 ghost use Rattle.mdp_job.specs.Job.{asked, plain_query};
 ghost use Rattle.mdp_job.specs.Words.{job_of, rule_of, dir_of, reach_of, reward_of, mean_of, query_of, solve_of, threshold_of, witness_of, check_of, drill_by};
-ghost use Rattle.mdp_job.specs.Words.{drill_of, stay_of, steps_of, horizon_of, policy_of, factor_of, discount_of, discount_check_of, digits_of, bounds_reach_of, bounds_objective_of, bounds_of};
+ghost use Rattle.mdp_job.specs.Words.{drill_of, stay_of, steps_of, horizon_of, policy_of, factor_of, discount_of, discount_check_of, digits_of, bounds_query_of, bounds_digits_of, bounds_of};
 ghost use Rattle.mdp_job.specs.Words.{bounds_check_of, other_of, job_by};
 
 use crate::digits::whole_word;
@@ -78,12 +78,13 @@ pub enum Job<'a> {
     DiscountCheck {
         rule: RowRule,
     },
-    /// `bounds MODEL ROWS DIR reach LABEL DIGITS`: a lower and an upper value for each state, between which the best probability, in the direction, of
-    /// reaching a state with the label lies, and a policy; the search tries for so many digits, from 1 to 30.
+    /// `bounds MODEL ROWS DIR reach LABEL DIGITS`, `bounds MODEL ROWS DIR reward NAME LABEL DIGITS` and `bounds MODEL ROWS DIR mean NAME DIGITS`: a lower
+    /// and an upper value for each state, between which the best value, in the direction, lies, and a policy; the search tries for so many digits, from 1
+    /// to 30.
     Bounds {
         rule: RowRule,
         dir: Dir,
-        label: &'a [u8],
+        query: Query<'a>,
         digits: u32,
     },
     /// `bounds-check MODEL ROWS CERT`: whether a certificate of bounds holds of the model, read under the row rule.
@@ -114,7 +115,7 @@ fn dir_of(word: &str) -> Result<Dir, WordsError>
     }
 }
 
-/// The query that the words behind `solve` name, where the objective is `reach`.
+/// The query that the words of `solve` or `bounds` name, where the objective is `reach`.
 fn reach_of<'a>(words: &'a [String]) -> Result<Query<'a>, WordsError>
     ensures { MatchResult result (λ q. reach_of (map string_bytes words.now) ≡ Ok (plain_query q)) (λ e. reach_of (map string_bytes words.now) ≡ Err e) }
 {
@@ -126,7 +127,7 @@ fn reach_of<'a>(words: &'a [String]) -> Result<Query<'a>, WordsError>
     })
 }
 
-/// The query that the words behind `solve` name, where the objective is `reward`.
+/// The query that the words of `solve` or `bounds` name, where the objective is `reward`.
 fn reward_of<'a>(words: &'a [String]) -> Result<Query<'a>, WordsError>
     ensures { MatchResult result (λ q. reward_of (map string_bytes words.now) ≡ Ok (plain_query q)) (λ e. reward_of (map string_bytes words.now) ≡ Err e) }
 {
@@ -139,7 +140,7 @@ fn reward_of<'a>(words: &'a [String]) -> Result<Query<'a>, WordsError>
     })
 }
 
-/// The query that the words behind `solve` name, where the objective is `mean`.
+/// The query that the words of `solve` or `bounds` name, where the objective is `mean`.
 fn mean_of<'a>(words: &'a [String]) -> Result<Query<'a>, WordsError>
     ensures { MatchResult result (λ q. mean_of (map string_bytes words.now) ≡ Ok (plain_query q)) (λ e. mean_of (map string_bytes words.now) ≡ Err e) }
 {
@@ -151,7 +152,7 @@ fn mean_of<'a>(words: &'a [String]) -> Result<Query<'a>, WordsError>
     })
 }
 
-/// The query that the words behind `solve` name.
+/// The query that the words behind `solve` name, or those behind `bounds` before the digits.
 fn query_of<'a>(words: &'a [String]) -> Result<Query<'a>, WordsError>
     requires { 3 < length words.now }
     ensures { MatchResult result (λ q. query_of (map string_bytes words.now) ≡ Ok (plain_query q)) (λ e. query_of (map string_bytes words.now) ≡ Err e) }
@@ -339,39 +340,23 @@ fn digits_of(word: &str) -> Result<u32, WordsError>
     }
 }
 
-/// The job that the words behind `bounds` are, where the objective is `reach`.
-fn bounds_reach_of<'a>(rule: RowRule, dir: Dir, words: &'a [String]) -> Result<Job<'a>, WordsError>
-    ensures { asked result ≡ bounds_reach_of rule dir (map string_bytes words.now) }
+/// The query of the words behind `bounds`: all but the last one, as behind `solve`.
+fn bounds_query_of<'a>(words: &'a [String]) -> Result<Query<'a>, WordsError>
+    requires { 4 < length words.now }
+    ensures { MatchResult result (λ q. bounds_query_of (map string_bytes words.now) ≡ Ok (plain_query q)) (λ e. bounds_query_of (map string_bytes words.now) ≡ Err e) }
 {
-    let [_, _, _, _, label, digits] = words else {
-        return Err(WordsError::Number);
-    };
-    let digits = digits_of(digits.as_str())?;
-    Ok(Job::Bounds {
-        rule,
-        dir,
-        label: label.as_bytes(),
-        digits,
-    })
+    query_of(&words[..words.len() - 1])
 }
 
-/// The job that the words behind `bounds` are, by their objective.
-fn bounds_objective_of<'a>(
-    rule: RowRule,
-    dir: Dir,
-    words: &'a [String],
-) -> Result<Job<'a>, WordsError>
-    requires { 3 < length words.now }
-    ensures { asked result ≡ bounds_objective_of rule dir (map string_bytes words.now) }
+/// The digits that the last of the words behind `bounds` writes.
+fn bounds_digits_of(words: &[String]) -> Result<u32, WordsError>
+    requires { 4 < length words.now }
+    ensures { result ≡ bounds_digits_of (map string_bytes words.now) }
 {
-    let objective = words[3].as_str();
-    if objective == "reach" {
-        return bounds_reach_of(rule, dir, words);
-    }
-    Err(WordsError::Objective)
+    digits_of(words[words.len() - 1].as_str())
 }
 
-/// The job that the words behind `bounds` are.
+/// The job that the words behind `bounds` are: a query as behind `solve`, then the digits.
 fn bounds_of<'a>(words: &'a [String]) -> Result<Job<'a>, WordsError>
     ensures { asked result ≡ bounds_of (map string_bytes words.now) }
 {
@@ -380,7 +365,18 @@ fn bounds_of<'a>(words: &'a [String]) -> Result<Job<'a>, WordsError>
     }
     let rule = rule_of(words[1].as_str())?;
     let dir = dir_of(words[2].as_str())?;
-    bounds_objective_of(rule, dir, words)
+    match bounds_query_of(words) {
+        Ok(query) => {
+            let digits = bounds_digits_of(words)?;
+            Ok(Job::Bounds {
+                rule,
+                dir,
+                query,
+                digits,
+            })
+        }
+        Err(error) => Err(error),
+    }
 }
 
 /// The job that the words behind `bounds-check` are.
@@ -462,7 +458,7 @@ fn job_by<'a>(command: &str, words: &'a [String]) -> Result<Job<'a>, WordsError>
 
 /// The job that the words are, or the first refusal: `Command`, then `Number`, `Rows`, `Direction` and `Objective`, and `Number` again where an
 /// objective has another number of words; for `drill` `Drill`, for `horizon` `Steps`, for `policy` `Objective` behind `Rows`, for `discount` `Factor`
-/// and for `witness` `Threshold` behind `Direction`, and for `bounds` `Digits` behind `Objective`. It takes no memory.
+/// and for `witness` `Threshold` behind `Direction`, and for `bounds` `Digits` behind all of these. It takes no memory.
 pub fn job_of<'a>(words: &'a [String]) -> Result<Job<'a>, WordsError>
     ensures { asked result ≡ job_of words.now }
 {

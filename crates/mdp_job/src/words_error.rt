@@ -9,7 +9,7 @@ pub enum WordsError {
     Rows = 3,
     /// The direction is neither `max` nor `min`.
     Direction = 4,
-    /// `solve` has another objective than `reach`, `reward` and `mean`, or `policy` or `bounds` another than `reach`.
+    /// `solve` or `bounds` has another objective than `reach`, `reward` and `mean`, or `policy` another than `reach`.
     Objective = 5,
     /// The threshold of `witness` isn't a numeral.
     Threshold = 6,

@@ -1,61 +1,57 @@
-//! The end components among the states whose value the graph doesn't decide.
+//! The end components that are to be one node each.
 
 ghost use Rattle.std.specs.Prelude.{◌≡◌, ◌<◌, length, IfOk};
 ghost use Rattle.mdp_spec.specs.Mdp.{states_of, choices_at};
 
 use crate::backward::Backward;
+use crate::choices::ChoiceFlags;
 use crate::decided::{Kind, kind_at};
 use mdp_graph::may_avoid;
 use mdp_num::Memory;
-use mdp_refinement::{Components, Graph, flag_at, number_at, put, strong_components};
+use mdp_refinement::{Components, Graph, flag_at, number, number_at, put, strong_components};
 use mdp_rows::{Dir, Marks, Model, Pred};
 use std::alloc::{AllocError, Global};
 
-/// The choices that are left, numbered state by state: which they are, how many each state has, and the states that have none, in the order in which
-/// they lost the last.
+/// The choices that are left, how many each state has, and the states that have none, in the order in which they lost the last.
 #[derive(Drop)]
 struct Left {
-    starts: Vec<usize>,
-    is_left: Vec<bool>,
+    choices: ChoiceFlags,
     counts: Vec<u32>,
     gone: Vec<u32>,
 }
 
+/// How many flags are set.
+fn count_set(flags: &[bool]) -> u32 {
+    number(flags.iter().filter(|flag| **flag).count())
+}
+
 impl Left {
-    /// All choices of a model.
-    fn all(alloc: Global, model: &Model) -> Result<Left, AllocError> {
-        let mut starts = Vec::new(alloc);
+    /// The flagged choices.
+    fn new(alloc: Global, model: &Model, choices: ChoiceFlags) -> Result<Left, AllocError> {
         let mut counts = Vec::new(alloc);
-        let mut total = 0usize;
+        let mut gone = Vec::new(alloc);
         for s in 0..model.states() {
-            starts.push(total)?;
-            counts.push(model.choices(s))?;
-            total = total.saturating_add(model.choices(s) as usize);
+            let count = count_set(choices.of(s));
+            counts.push(count)?;
+            if count == 0 {
+                gone.push(s)?;
+            }
         }
-        starts.push(total)?;
         Ok(Left {
-            starts,
-            is_left: vec![in alloc; true; total]?,
+            choices,
             counts,
-            gone: Vec::new(alloc),
+            gone,
         })
     }
 
     /// Whether each choice of a state is left.
     fn of(&self, s: u32) -> &[bool] {
-        let from = self.starts.get(s as usize).copied().unwrap_or(0);
-        let to = self.starts.get((s as usize).saturating_add(1)).copied();
-        self.is_left.get(from..to.unwrap_or(0)).unwrap_or(&[])
+        self.choices.of(s)
     }
 
     /// Forbids choice `c` of state `s`, if it is left.
     fn forbid(&mut self, s: u32, c: u32) -> Result<(), AllocError> {
-        let start = self.starts.get(s as usize).copied().unwrap_or(0);
-        let Some(is_left) = self.is_left.get_mut(start.saturating_add(c as usize)) else {
-            return Ok(());
-        };
-        if *is_left {
-            *is_left = false;
+        if self.choices.clear(s, c) {
             let count = number_at(&self.counts, s).saturating_sub(1);
             put(&mut self.counts, s, count);
             if count == 0 {
@@ -186,20 +182,21 @@ fn components_of(alloc: Global, model: &Model, left: &Left) -> Result<Components
     strong_components(alloc, &graph, &left.have_choice(alloc)?)
 }
 
-/// The maximal end component of each state, if it is in one, of those inside a set of states.
+/// The maximal end component of each state, if it is in one, of those inside a set of states by the flagged choices.
 ///
 /// Each round takes the strong components of the choices that are left and forbids each choice that leaves its own, until none does (de Alfaro 1997).
 /// Between rounds a state that has no choice left takes from the others the choices that lead to it, so that states which fall away one after the other
 /// take no round each.
-fn ends_inside(
+pub(crate) fn ends_inside(
     alloc: Global,
     model: &Model,
     backward: &Backward,
     inside: &Marks,
+    choices: ChoiceFlags,
 ) -> Result<Vec<Option<u32>>, AllocError>
     requires { length inside.now ≡ states_of model.now }
 {
-    let mut left = Left::all(alloc, model)?;
+    let mut left = Left::new(alloc, model, choices)?;
     left.keep_marked(model, inside)?;
     let mut spread = left.spread(backward, 0)?;
     let mut parts = components_of(alloc, model, &left)?;
@@ -231,6 +228,11 @@ fn is_any(states: u32, marks: &Marks) -> bool
     (0..states).any(|s| marks.at(s))
 }
 
+/// No end component at any state.
+pub(crate) fn no_parts(alloc: Global, model: &Model) -> Result<Vec<Option<u32>>, AllocError> {
+    vec![in alloc; None; model.states() as usize]
+}
+
 /// For each state the end component that is to be one node, if it is in one: the states of an end component have one greatest probability. For the least
 /// probability there is no end component where the graph doesn't decide the value.
 pub(crate) fn joined_parts(
@@ -245,8 +247,9 @@ pub(crate) fn joined_parts(
         let decided = Marks::from_values(are_decided(alloc, model.states(), kinds)?);
         let staying = may_avoid(alloc, model, &decided)?;
         if is_any(model.states(), &staying.marks) {
-            return Ok(ends_inside(alloc, model, backward, &staying.marks)?);
+            let all = ChoiceFlags::all(alloc, model)?;
+            return Ok(ends_inside(alloc, model, backward, &staying.marks, all)?);
         }
     }
-    Ok(vec![in alloc; None; model.states() as usize]?)
+    Ok(no_parts(alloc, model)?)
 }

@@ -1,17 +1,34 @@
 //! The policy that the search came to.
 
 use crate::backward::Backward;
+use crate::choices::ChoiceFlags;
 use mdp_refinement::{Nodes, Rows, WholeRow, flag_at, put};
 use mdp_rows::{Model, Pred};
 use std::alloc::{AllocError, Global};
 
-/// Whether a choice stays in the node of its state.
-fn stays(model: &Model, nodes: &Nodes, pred: Pred) -> bool {
-    if pred.state >= model.states() || pred.choice >= model.choices(pred.state) {
-        return false;
+/// A model whose states are gathered in nodes, with the choices that may be taken within a node, if not all may.
+#[derive(Clone, Copy)]
+pub(crate) struct Gathered<'a> {
+    pub(crate) model: &'a Model,
+    pub(crate) backward: &'a Backward,
+    pub(crate) nodes: &'a Nodes,
+    pub(crate) inner: Option<&'a ChoiceFlags>,
+}
+
+impl Gathered<'_> {
+    /// Whether a choice may be taken within the node of its state, and stays in it.
+    fn stays(self, pred: Pred) -> bool {
+        let model = self.model;
+        if pred.state >= model.states() || pred.choice >= model.choices(pred.state) {
+            return false;
+        }
+        let is_inner = match self.inner {
+            Some(inner) => inner.at(pred.state, pred.choice),
+            None => true,
+        };
+        let row = model.row(pred.state, pred.choice);
+        is_inner && self.nodes.are_in(row.targets, self.nodes.of(pred.state))
     }
-    let row = model.row(pred.state, pred.choice);
-    nodes.are_in(row.targets, nodes.of(pred.state))
 }
 
 /// A policy in the making, with the states that have their choice, in the order in which they got it.
@@ -41,17 +58,12 @@ impl Routes {
         Ok(())
     }
 
-    /// Leads to a state those that come to it by choices which stay in its node.
-    fn lead_to(
-        &mut self,
-        model: &Model,
-        nodes: &Nodes,
-        state: u32,
-        preds: &[Pred],
-    ) -> Result<(), AllocError> {
-        for pred in preds {
+    /// Leads to a state those that come to it by choices within its node.
+    fn lead_to(&mut self, gathered: Gathered<'_>, state: u32) -> Result<(), AllocError> {
+        let nodes = gathered.nodes;
+        for pred in gathered.backward.of(state) {
             let is_near = nodes.of(pred.state) == nodes.of(state);
-            if is_near && !flag_at(&self.has_choice, pred.state) && stays(model, nodes, *pred) {
+            if is_near && !flag_at(&self.has_choice, pred.state) && gathered.stays(*pred) {
                 self.choose(pred.state, pred.choice)?;
             }
         }
@@ -90,9 +102,7 @@ fn start_routes(alloc: Global, given: &[u32]) -> Result<Routes, AllocError> {
 /// The choice of each state: that which was picked for its node, where the node's other states are led to the one that has it; else the given one.
 pub(crate) fn policy_of(
     alloc: Global,
-    model: &Model,
-    backward: &Backward,
-    nodes: &Nodes,
+    gathered: Gathered<'_>,
     rows: &Rows,
     picks: &[Option<usize>],
     given: &[u32],
@@ -103,7 +113,7 @@ pub(crate) fn policy_of(
         let Some(state) = routes.queue.get(place).copied() else {
             break;
         };
-        routes.lead_to(model, nodes, state, backward.of(state))?;
+        routes.lead_to(gathered, state)?;
     }
     Ok(routes.policy)
 }

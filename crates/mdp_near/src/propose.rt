@@ -4,23 +4,14 @@ ghost use Rattle.mdp_spec.specs.Mdp.{states_of};
 use crate::backward::Backward;
 use crate::decided::{Decided, Kind, decide, kind_at};
 use crate::ends::joined_parts;
-use crate::policy::policy_of;
+use crate::lists::{MOST_DIGITS, flags_of, fraction, numbers};
+use crate::policy::{Gathered, policy_of};
 use crate::ranks::{max_ranks, min_ranks};
 use mdp_bounds::ReachBoundsCert;
 use mdp_num::{Frac, Memory};
-use mdp_refinement::{Bound, Nodes, Rows, Solution, Task, number_at, put, solve, value_at};
+use mdp_refinement::{Bound, Nodes, Rows, Solution, Task, put, solve, value_at};
 use mdp_rows::{Dir, Marks, Model};
 use std::alloc::{AllocError, Global};
-
-/// The most digits that values are given.
-const MOST_DIGITS: u32 = 30;
-
-/// The goals, one truth value for each state.
-fn goals_of(alloc: Global, states: u32, goals: &Marks) -> Result<Vec<bool>, AllocError>
-    requires { length goals.now ≡ states }
-{
-    (0..states).map(|s| goals.at(s)).collect(alloc)
-}
 
 /// Whether the value of each state is to be found.
 fn are_open(alloc: Global, kinds: &[Kind]) -> Result<Vec<bool>, AllocError> {
@@ -50,7 +41,7 @@ fn given_values(
 }
 
 /// The value of a state, in units and between 0 and 1.
-fn clamped(nodes: &Nodes, values: &[i128], one: i128, state: u32) -> i128 {
+fn clamped(nodes: &Nodes, values: &[Option<i128>], one: i128, state: u32) -> i128 {
     value_at(values, nodes.of(state))
         .unwrap_or(0)
         .max(0)
@@ -62,21 +53,12 @@ fn spread(
     alloc: Global,
     states: u32,
     nodes: &Nodes,
-    values: &[i128],
+    values: &[Option<i128>],
     one: i128,
 ) -> Result<Vec<i128>, AllocError> {
     (0..states)
         .map(|s| clamped(nodes, values, one, s))
         .collect(alloc)
-}
-
-/// A value in units as a fraction.
-fn fraction_at(values: &[i128], one: i128, state: u32) -> Frac {
-    let value = value_at(values, state).unwrap_or(0);
-    match Frac::try_new(value, one) {
-        Ok(fraction) => fraction,
-        Err(_) => Frac::whole(0),
-    }
 }
 
 /// The fractions of values in units.
@@ -89,15 +71,8 @@ fn fractions(
     ensures { IfOk result (λ list. length list.items ≡ states) }
 {
     (0..states)
-        .map(|s| fraction_at(values, one, s))
+        .map(|s| fraction(values.get(s as usize).copied().unwrap_or(0), one))
         .collect(alloc)
-}
-
-/// A number for each state.
-fn numbers(alloc: Global, states: u32, values: &[u32]) -> Result<Vec<u32>, AllocError>
-    ensures { IfOk result (λ list. length list.items ≡ states) }
-{
-    (0..states).map(|s| number_at(values, s)).collect(alloc)
 }
 
 /// Whether each value is 0.
@@ -131,8 +106,17 @@ impl Search<'_> {
     fn solve(self, alloc: Global, bound: Bound) -> Result<Solution, AllocError> {
         let one = self.rows.one();
         let given = given_values(alloc, &self.decided.kinds, self.nodes, one)?;
-        let dir = self.dir;
-        solve(alloc, self.rows, &given, Task { dir, bound })
+        let anyway = match bound {
+            Bound::Lower => 0,
+            Bound::Upper => one,
+        };
+        let task = Task {
+            dir: self.dir,
+            bound,
+            anyway: Some(anyway),
+            to_end: true,
+        };
+        solve(alloc, self.rows, &given, task)
     }
 
     /// The values of the states.
@@ -192,9 +176,12 @@ impl Search<'_> {
     fn policy(self, alloc: Global, picks: &[Option<usize>]) -> Result<Vec<u32>, AllocError> {
         policy_of(
             alloc,
-            self.model,
-            self.backward,
-            self.nodes,
+            Gathered {
+                model: self.model,
+                backward: self.backward,
+                nodes: self.nodes,
+                inner: None,
+            },
             self.rows,
             picks,
             &self.decided.choices,
@@ -245,7 +232,7 @@ pub fn near_reach(
     let nodes = Nodes::new(alloc, &parts)?;
     let is_open = are_open(alloc, &decided.kinds)?;
     let rows = Rows::new(alloc, model, &nodes, &is_open, digits.min(MOST_DIGITS))?;
-    let is_goal = goals_of(alloc, states, goals)?;
+    let is_goal = flags_of(alloc, states, goals)?;
     let search = Search {
         model,
         goals: &is_goal,

@@ -10,11 +10,14 @@ pub enum Bound {
     Upper,
 }
 
-/// A bound of the greatest or of the least value.
+/// A bound of the greatest or of the least value, with the value, in units, that is such a bound whatever the rows are, if there is one. The search goes on
+/// to the end, by interval iteration where refinement fails, or it ends where the first component can't be refined.
 #[derive(Clone, Copy, PartialEq, Eq)]
 pub struct Task {
     pub dir: Dir,
     pub bound: Bound,
+    pub anyway: Option<i128>,
+    pub to_end: bool,
 }
 
 impl Task {

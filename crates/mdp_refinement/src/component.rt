@@ -1,11 +1,12 @@
 use crate::convert::to_float;
 use crate::lists::{Groups, float_at, number, number_at, put};
-use crate::rows::{Rows, WholeRow};
+use crate::outside::{Outside, Widening};
+use crate::rows::{Rows, WholeRow, value_at};
 use crate::strong::Components;
 use std::alloc::{AllocError, Global};
 
-/// A row of a node of a component, in floats: `total` times the node's value is the sum of probability times value over the entries, and of what
-/// goes to nodes outside, with probability `exit`. The node's own entry is left out, so `total` is what remains of 1.
+/// A row of a node of a component, in floats: `total` times the node's value is the row's reward, the sum of probability times value over the entries,
+/// and what goes to nodes outside or stops, with probability `exit`. The node's own entry is left out, so `total` is what remains of 1.
 #[derive(Clone, Copy)]
 pub(crate) struct FloatRow {
     /// The place of the node in the component.
@@ -20,7 +21,8 @@ pub(crate) struct FloatRow {
     end: usize,
 }
 
-/// A strong component with more than one node, in floats. Nodes are named by their places in it; an entry is the place of a node and its probability.
+/// A strong component with more than one node, in floats: its rows that lead to no node outside whose value isn't known. Nodes are named by their places in
+/// it; an entry is the place of a node and its probability.
 #[derive(Drop)]
 pub(crate) struct Component {
     pub(crate) nodes: Vec<u32>,
@@ -30,6 +32,7 @@ pub(crate) struct Component {
     entries: Vec<(u32, f64)>,
     leading: Groups,
     owners: Vec<u32>,
+    pub(crate) outside: Option<Outside>,
 }
 
 /// Gathers the rows of a component.
@@ -38,33 +41,66 @@ struct Gathering<'a> {
     whole_rows: &'a Rows,
     components: &'a Components,
     number: u32,
+    values: &'a [Option<i128>],
     units: Vec<f64>,
     rows: Vec<FloatRow>,
     entries: Vec<(u32, f64)>,
     pending: Vec<(u32, f64)>,
+    outside: Widening,
 }
 
 impl Gathering<'_> {
+    /// Whether the row leads to no node outside whose value isn't known.
+    fn is_known(&self, row: &WholeRow) -> bool {
+        self.whole_rows.entries_of(row).iter().all(|entry| {
+            self.components.of(entry.node) == self.number
+                || value_at(self.values, entry.node).is_some()
+        })
+    }
+
     /// Takes the entries of a row that stay in the component into `pending`, ordered by place, and gives the probability that leaves.
     fn take_entries(&mut self, row: &WholeRow) -> Result<f64, AllocError> {
         self.pending.clear();
         let denominator = to_float(row.denominator);
-        let mut leaving = 0i128;
+        let mut leaving = row.denominator;
         for entry in self.whole_rows.entries_of(row) {
-            match self.components.place_in(self.number, entry.node) {
-                Some(_) if entry.node == row.node => {}
-                Some(place) => self
-                    .pending
-                    .push((place, to_float(entry.numerator) / denominator))?,
-                None => leaving = leaving.saturating_add(entry.numerator),
+            if let Some(place) = self.components.place_in(self.number, entry.node) {
+                leaving = leaving.saturating_sub(entry.numerator);
+                if entry.node != row.node {
+                    self.pending
+                        .push((place, to_float(entry.numerator) / denominator))?;
+                }
             }
         }
         self.pending.sort_by_key(|entry| entry.0)?;
         Ok(to_float(leaving) / denominator)
     }
 
+    /// Whether the row stops with a value that needs no rounding.
+    fn is_exact(&self, row: &WholeRow) -> bool {
+        let unit = self.whole_rows.unit_of(row.node);
+        row.is_stop() && row.reward.checked_rem(unit) == Some(0)
+    }
+
+    /// Takes in where a row leads out, or stops, and what it earns.
+    fn take_outside(&mut self, row: &WholeRow) {
+        if row.is_stop() {
+            self.outside.take(row.reward);
+            return;
+        }
+        self.outside.take_reward(row.reward);
+        for entry in self.whole_rows.entries_of(row) {
+            if self.components.of(entry.node) != self.number {
+                if let Some(value) = value_at(self.values, entry.node) {
+                    self.outside.take(value);
+                }
+            }
+        }
+    }
+
     /// Appends the row at a place, of the node at a place of the component.
     fn push(&mut self, node: u32, place: usize, row: &WholeRow) -> Result<(), AllocError> {
+        self.take_outside(row);
         let exit = self.take_entries(row)?;
         let first = self.entries.len();
         let mut total = exit;
@@ -74,7 +110,9 @@ impl Gathering<'_> {
             rounding += entry.1 * float_at(&self.units, entry.0);
             self.entries.push(*entry)?;
         }
-        rounding += total * float_at(&self.units, node);
+        if !self.is_exact(row) {
+            rounding += total * float_at(&self.units, node);
+        }
         self.rows.push(FloatRow {
             node,
             place,
@@ -93,7 +131,9 @@ impl Gathering<'_> {
         let (from, to) = whole_rows.range_of(node);
         for at in from..to {
             if let Some(row) = whole_rows.row(at) {
-                self.push(place, at, row)?;
+                if self.is_known(row) {
+                    self.push(place, at, row)?;
+                }
             }
         }
         Ok(())
@@ -163,16 +203,19 @@ impl Component {
         rows: &Rows,
         components: &Components,
         component: usize,
+        values: &[Option<i128>],
     ) -> Result<Component, AllocError> {
         let nodes = by_place(alloc, components, component)?;
         let mut gathering = Gathering {
             whole_rows: rows,
             components,
             number: number(component),
+            values,
             units: units_of(alloc, rows, &nodes)?,
             rows: Vec::new(alloc),
             entries: Vec::new(alloc),
             pending: Vec::new(alloc),
+            outside: Widening::empty(),
         };
         let starts = gathering.push_nodes(alloc, &nodes)?;
         let leading = leading_to(alloc, &gathering.entries, nodes.len())?;
@@ -185,6 +228,7 @@ impl Component {
             entries: gathering.entries,
             leading,
             owners,
+            outside: gathering.outside.outside(),
         })
     }
 

@@ -8,17 +8,23 @@ use crate::whole::quotient;
 /// How many entries are looked at in all.
 const MOST_ENTRIES: usize = 3_000_000;
 
-/// The best value of a node by its rows, rounded to its unit, and the place of the row that gives it. None past 128 bits.
+/// The best value of a node by its rows, rounded to its unit, and the place of the row that gives it. A row past 128 bits, or one that leads to a value
+/// which isn't known, is left out, or, where the bound is to hold on each row, there is no value.
 pub(crate) fn best_rounded(
     rows: &Rows,
     task: Task,
     node: u32,
-    values: &[i128],
+    values: &[Option<i128>],
 ) -> Option<(i128, usize)> {
     let (from, to) = rows.range_of(node);
     let mut best = None;
     for place in from..to {
-        let value = rows.rounded(rows.row(place)?, values, task.bound)?;
+        let Some(value) = rows.rounded(rows.row(place)?, values, task.bound) else {
+            if task.is_each() {
+                return None;
+            }
+            continue;
+        };
         match best {
             Some((old, _)) if !task.prefers(value, old) => {}
             _ => best = Some((value, place)),

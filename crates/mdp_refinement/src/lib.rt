@@ -4,6 +4,7 @@
 #![tactic(auto)]
 
 mod bound;
+mod choices;
 mod component;
 mod convert;
 mod correct;
@@ -13,6 +14,7 @@ mod intervals;
 mod leaving;
 mod lists;
 mod nodes;
+mod outside;
 mod refine;
 mod rows;
 mod solving;
@@ -23,6 +25,7 @@ pub use bound::{Bound, Task};
 pub use graph::Graph;
 pub use lists::{flag_at, number, number_at, put};
 pub use nodes::Nodes;
-pub use rows::{Entry, Rows, WholeRow, value_at};
+pub use rows::{Entry, Rows, Scale, WholeRow, value_at};
 pub use solving::{Solution, solve};
 pub use strong::{Components, strong_components};
+pub use whole::power_of_ten;

@@ -32,10 +32,10 @@ struct Setting<'a> {
 
 impl Setting<'_> {
     /// Sets the values of the component to 0.
-    fn clear(self, values: &mut [i128]) {
+    fn clear(self, values: &mut [Option<i128>]) {
         for node in &self.component.nodes {
             if let Some(value) = values.get_mut(*node as usize) {
-                *value = 0;
+                *value = Some(0);
             }
         }
     }
@@ -45,7 +45,7 @@ impl Setting<'_> {
     fn measure(
         self,
         policy: &[usize],
-        values: &[i128],
+        values: &[Option<i128>],
         room: f64,
         gains: &mut [f64],
     ) -> Option<bool> {
@@ -65,7 +65,7 @@ impl Setting<'_> {
     }
 
     /// Adds corrections to the values, rounded to the units. None where one is past 128 bits or not a number.
-    fn add(self, corrections: &[f64], values: &mut [i128]) -> Option<()> {
+    fn add(self, corrections: &[f64], values: &mut [Option<i128>]) -> Option<()> {
         for (place, node) in self.component.nodes.iter().enumerate() {
             let steps = nearest(
                 corrections.get(place).copied()? / self.component.units.get(place).copied()?,
@@ -73,7 +73,7 @@ impl Setting<'_> {
             let more = steps.checked_mul(self.rows.unit_of(*node))?;
             let sum = value_at(values, *node)?.checked_add(more)?;
             let slot = values.get_mut(*node as usize)?;
-            *slot = sum;
+            *slot = Some(sum);
         }
         Some(())
     }
@@ -86,7 +86,7 @@ pub(crate) fn refine(
     component: &Component,
     task: Task,
     start: &[usize],
-    values: &mut [i128],
+    values: &mut [Option<i128>],
 ) -> Result<Option<Vec<usize>>, AllocError> {
     let setting = Setting {
         rows,

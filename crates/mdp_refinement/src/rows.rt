@@ -1,11 +1,13 @@
 use crate::bound::Bound;
 use crate::convert::to_float;
-use crate::lists::{flag_at, number_at, put, start_at};
+use crate::lists::{flag_at, number, number_at, put};
 use crate::nodes::Nodes;
 use crate::whole::{
-    common_denominator, compare_scaled, digits_left, power_of_ten, quotient, times_multiple,
+    common_denominator, compare_scaled, digits_left, divided, is_narrow, power_of_ten, quotient,
+    times_multiple,
 };
-use mdp_rows::{Model, Row};
+use mdp_num::Frac;
+use mdp_rows::Row;
 use std::alloc::{AllocError, Global};
 use std::cmp::Ordering;
 
@@ -16,50 +18,78 @@ pub struct Entry {
     pub numerator: i128,
 }
 
-/// The row of a choice that leaves its node, in whole numbers: `denominator` times its value is the sum of `numerator` times value over its entries.
-/// Where values are divided by `unit`, no product is past width.
+/// The row of a choice that leaves its node, in whole numbers: `denominator` times its value is `reward` and the sum of `numerator` times value over its
+/// entries, where `reward` and the values are in units of the row, of which 1 is so many of those of all values. A row without entries stops: its
+/// reward is all. No product is past width, where values are no greater than the rows leave room for.
 #[derive(Clone, Copy)]
 pub struct WholeRow {
     pub state: u32,
     pub choice: u32,
     pub node: u32,
     pub denominator: i128,
+    pub reward: i128,
     pub unit: i128,
     first: usize,
     end: usize,
 }
 
-/// The rows of the choices that leave open nodes, node by node. Values are whole numbers in units of 10 to the power of -`digits`.
+impl WholeRow {
+    /// Whether the row has no entry.
+    pub fn is_stop(&self) -> bool {
+        self.first >= self.end
+    }
+}
+
+/// How values are written: in units of 10 to the power of -`digits`, with room for so many digits before the point.
+#[derive(Clone, Copy)]
+pub struct Scale {
+    pub digits: u32,
+    pub room: u32,
+}
+
+/// The rows of nodes, node by node, in the order in which they were pushed. Values are whole numbers in units of 10 to the power of -`digits`.
 #[derive(Drop)]
 pub struct Rows {
-    digits: u32,
+    scale: Scale,
     starts: Vec<usize>,
     rows: Vec<WholeRow>,
     entries: Vec<Entry>,
     node_digits: Vec<u32>,
     has_wide: Vec<bool>,
-}
-
-/// Rows in the making, with the entries of the row that is made now.
-#[derive(Drop)]
-struct Building<'a> {
-    model: &'a Model,
-    nodes: &'a Nodes,
-    rows: Rows,
     pending: Vec<Entry>,
 }
 
+/// The numbers of a row that is pushed now, but for its entries.
+#[derive(Clone, Copy)]
+struct Numbers {
+    denominator: i128,
+    reward: i128,
+    digits: u32,
+}
+
 impl Rows {
-    /// No row yet.
-    fn empty(alloc: Global, nodes: &Nodes, digits: u32) -> Result<Rows, AllocError> {
+    /// No row yet, of so many nodes.
+    pub fn empty(alloc: Global, nodes: u32, scale: Scale) -> Result<Rows, AllocError> {
         Ok(Rows {
-            digits,
+            scale,
             starts: Vec::new(alloc),
             rows: Vec::new(alloc),
             entries: Vec::new(alloc),
-            node_digits: vec![in alloc; digits; nodes.count() as usize]?,
-            has_wide: vec![in alloc; false; nodes.count() as usize]?,
+            node_digits: vec![in alloc; scale.digits; nodes as usize]?,
+            has_wide: vec![in alloc; false; nodes as usize]?,
+            pending: Vec::new(alloc),
         })
+    }
+
+    /// Goes on to the next node, whose rows are pushed from now on. The first call goes to node 0.
+    pub fn push_node(&mut self) -> Result<(), AllocError> {
+        self.starts.push(self.rows.len())?;
+        Ok(())
+    }
+
+    /// The node whose rows are pushed.
+    fn last_node(&self) -> u32 {
+        number(self.starts.len().saturating_sub(1))
     }
 
     /// Leaves so many digits to the nodes of the entries from a place on.
@@ -70,10 +100,29 @@ impl Rows {
         }
     }
 
-    /// Appends entries that are ordered by node, those of one node as one.
-    fn push_entries(&mut self, entries: &[Entry]) -> Result<(), AllocError> {
+    /// Takes the entries of a row into `pending`, ordered by node. Whether all could be taken.
+    fn take_entries(
+        &mut self,
+        nodes: &Nodes,
+        row: Row<'_>,
+        denominator: i128,
+    ) -> Result<bool, AllocError> {
+        self.pending.clear();
+        for (target, prob) in row.targets.iter().zip(row.probs) {
+            let Some(numerator) = times_multiple(prob, denominator) else {
+                return Ok(false);
+            };
+            let node = nodes.of(*target);
+            self.pending.push(Entry { node, numerator })?;
+        }
+        self.pending.sort_by_key(|entry| entry.node)?;
+        Ok(true)
+    }
+
+    /// Appends the entries of `pending`, those of one node as one.
+    fn push_entries(&mut self) -> Result<(), AllocError> {
         let mut last = None;
-        for entry in entries {
+        for entry in &self.pending {
             if last == Some(entry.node) {
                 if let Some(sum) = self.entries.last_mut() {
                     sum.numerator = sum.numerator.saturating_add(entry.numerator);
@@ -85,33 +134,24 @@ impl Rows {
         }
         Ok(())
     }
-}
 
-impl Building<'_> {
-    /// Takes the entries of a row into `pending`, ordered by node. Whether all could be taken.
-    fn take_entries(&mut self, row: Row<'_>, denominator: i128) -> Result<bool, AllocError> {
-        self.pending.clear();
-        for (target, prob) in row.targets.iter().zip(row.probs) {
-            let Some(numerator) = times_multiple(prob, denominator) else {
-                return Ok(false);
-            };
-            let node = self.nodes.of(*target);
-            self.pending.push(Entry { node, numerator })?;
+    /// The numbers of a row with this reward; none where it is too wide.
+    fn numbers_of(&self, row: Row<'_>, reward: &Frac) -> Option<Numbers> {
+        let denominator = common_denominator(reward.den(), row.probs)?;
+        let earned = times_multiple(reward, denominator)?;
+        if !is_narrow(earned) {
+            return None;
         }
-        self.pending.sort_by_key(|entry| entry.node)?;
-        Ok(true)
-    }
-
-    /// The row's denominator, with its entries in `pending`; none where it is too wide.
-    fn taken(&mut self, row: Row<'_>) -> Result<Option<i128>, AllocError> {
-        let Some(denominator) = common_denominator(row.probs) else {
-            return Ok(None);
-        };
-        if self.take_entries(row, denominator)? {
-            Ok(Some(denominator))
-        } else {
-            Ok(None)
-        }
+        let scale = self.scale;
+        let most = scale.digits.saturating_add(scale.room);
+        let digits = digits_left(denominator.max(earned.saturating_abs()), most)
+            .saturating_sub(scale.room)
+            .min(scale.digits);
+        Some(Numbers {
+            denominator,
+            reward: earned.checked_mul(power_of_ten(digits))?,
+            digits,
+        })
     }
 
     /// Appends the row whose entries are in `pending`. Where the row is too wide for all digits, its nodes get fewer.
@@ -119,101 +159,83 @@ impl Building<'_> {
         &mut self,
         state: u32,
         choice: u32,
-        denominator: i128,
+        numbers: Numbers,
     ) -> Result<(), AllocError> {
-        let rows = &mut self.rows;
-        let first = rows.entries.len();
-        rows.push_entries(&self.pending)?;
-        let digits = digits_left(denominator, rows.digits);
-        if digits < rows.digits {
-            rows.limit_from(first, digits);
+        let first = self.entries.len();
+        self.push_entries()?;
+        let digits = numbers.digits;
+        if digits < self.scale.digits {
+            self.limit_from(first, digits);
         }
         let row = WholeRow {
             state,
             choice,
-            node: self.nodes.of(state),
-            denominator,
-            unit: power_of_ten(rows.digits.saturating_sub(digits)),
+            node: self.last_node(),
+            denominator: numbers.denominator,
+            reward: numbers.reward,
+            unit: power_of_ten(self.scale.digits.saturating_sub(digits)),
             first,
-            end: rows.entries.len(),
+            end: self.entries.len(),
         };
-        rows.rows.push(row)?;
+        self.rows.push(row)?;
         Ok(())
     }
 
-    /// Appends the row of a choice. One that stays in its node is left out, and one that is too wide is only noted.
-    fn push(&mut self, row: Row<'_>, state: u32, choice: u32) -> Result<(), AllocError> {
-        let node = self.nodes.of(state);
-        if self.nodes.are_in(row.targets, node) {
+    /// Appends the row of a choice, with its reward, to the last node. One that stays in the node is left out, and one that is too wide is only noted.
+    pub fn push_row(
+        &mut self,
+        nodes: &Nodes,
+        state: u32,
+        choice: u32,
+        row: Row<'_>,
+        reward: &Frac,
+    ) -> Result<(), AllocError> {
+        let node = self.last_node();
+        if nodes.are_in(row.targets, node) {
             return Ok(());
         }
-        match self.taken(row)? {
-            Some(denominator) => self.push_pending(state, choice, denominator),
-            None => {
-                put(&mut self.rows.has_wide, node, true);
-                Ok(())
+        if let Some(numbers) = self.numbers_of(row, reward) {
+            if self.take_entries(nodes, row, numbers.denominator)? {
+                return self.push_pending(state, choice, numbers);
             }
         }
-    }
-
-    /// Appends the rows of a state.
-    fn push_state(&mut self, state: u32) -> Result<(), AllocError> {
-        let model = self.model;
-        if state < model.states() {
-            for choice in 0..model.choices(state) {
-                self.push(model.row(state, choice), state, choice)?;
-            }
-        }
+        put(&mut self.has_wide, node, true);
         Ok(())
     }
 
-    /// Appends the rows of the open states, node by node.
-    fn push_all(&mut self, is_open: &[bool]) -> Result<(), AllocError> {
-        let nodes = self.nodes;
-        let mut last = None;
-        for state in nodes.order() {
-            let node = nodes.of(*state);
-            if last != Some(node) {
-                self.rows.starts.push(self.rows.rows.len())?;
-                last = Some(node);
-            }
-            if flag_at(is_open, *state) {
-                self.push_state(*state)?;
-            }
-        }
-        self.rows.starts.push(self.rows.rows.len())?;
-        Ok(())
-    }
-}
-
-impl Rows {
-    /// The rows of the open states of a model, with values of so many digits.
-    pub fn new(
-        alloc: Global,
-        model: &Model,
-        nodes: &Nodes,
-        is_open: &[bool],
-        digits: u32,
-    ) -> Result<Rows, AllocError> {
-        let mut building = Building {
-            model,
-            nodes,
-            rows: Rows::empty(alloc, nodes, digits)?,
-            pending: Vec::new(alloc),
+    /// Appends a row that stops with a value, in units, to the last node.
+    pub fn push_stop(&mut self, state: u32, choice: u32, value: i128) -> Result<(), AllocError> {
+        let place = self.entries.len();
+        let row = WholeRow {
+            state,
+            choice,
+            node: self.last_node(),
+            denominator: 1,
+            reward: value,
+            unit: 1,
+            first: place,
+            end: place,
         };
-        building.push_all(is_open)?;
-        Ok(building.rows)
+        self.rows.push(row)?;
+        Ok(())
+    }
+
+    /// Gives the row at a place another reward, in the row's denominator times its unit.
+    pub fn set_reward(&mut self, place: usize, reward: i128) {
+        if let Some(row) = self.rows.get_mut(place) {
+            row.reward = reward;
+        }
     }
 
     /// The value 1 in units.
     pub fn one(&self) -> i128 {
-        power_of_ten(self.digits)
+        power_of_ten(self.scale.digits)
     }
 
     /// What the values of a node are multiples of.
     pub fn unit_of(&self, node: u32) -> i128 {
         let digits = number_at(&self.node_digits, node);
-        power_of_ten(self.digits.saturating_sub(digits))
+        power_of_ten(self.scale.digits.saturating_sub(digits))
     }
 
     /// Whether a row of the node was too wide to be kept.
@@ -221,13 +243,15 @@ impl Rows {
         flag_at(&self.has_wide, node)
     }
 
+    /// Where the rows of a node begin.
+    fn start_of(&self, node: usize) -> usize {
+        self.starts.get(node).copied().unwrap_or(self.rows.len())
+    }
+
     /// Where the rows of a node begin and end.
     pub fn range_of(&self, node: u32) -> (usize, usize) {
-        let from = start_at(&self.starts, node as usize);
-        (
-            from,
-            start_at(&self.starts, (node as usize).saturating_add(1)),
-        )
+        let place = node as usize;
+        (self.start_of(place), self.start_of(place.saturating_add(1)))
     }
 
     /// A row by its place.
@@ -255,9 +279,10 @@ impl Rows {
         }
     }
 
-    /// The sum of numerators times values in units of the row, but for the entry of the row's own node, whose numerator comes beside it.
-    fn sum_of_others(&self, row: &WholeRow, values: &[i128]) -> Option<(i128, i128)> {
-        let mut total = 0i128;
+    /// The reward and the sum of numerators times values in units of the row, but for the entry of the row's own node, whose numerator comes beside it.
+    /// None past 128 bits, or where a value isn't known.
+    fn sum_of_others(&self, row: &WholeRow, values: &[Option<i128>]) -> Option<(i128, i128)> {
+        let mut total = row.reward;
         let mut own = 0;
         for entry in self.entries_of(row) {
             if entry.node == row.node {
@@ -270,11 +295,22 @@ impl Rows {
         Some((total, own))
     }
 
-    /// How the row's value lies to that of its node. None past 128 bits.
-    pub(crate) fn gap(&self, row: &WholeRow, values: &[i128]) -> Option<Gap> {
+    /// What the row has over the value of its node, in the row's denominator times its unit, rounded so that it is a bound. None past 128 bits, or where
+    /// a value isn't known.
+    pub fn excess(&self, row: &WholeRow, values: &[Option<i128>], bound: Bound) -> Option<i128> {
         let (total, own) = self.sum_of_others(row, values)?;
         let others = row.denominator.checked_sub(own)?;
-        let (steps, rest) = split(value_at(values, row.node)?, row.unit)?;
+        let (steps, rest) = divided(value_at(values, row.node)?, row.unit)?;
+        let above = total.checked_sub(others.checked_mul(steps)?)?;
+        let less = others.checked_neg()?.checked_mul(rest)?;
+        above.checked_add(quotient(less, row.unit, bound)?)
+    }
+
+    /// How the row's value lies to that of its node. None past 128 bits, or where a value isn't known.
+    pub(crate) fn gap(&self, row: &WholeRow, values: &[Option<i128>]) -> Option<Gap> {
+        let (total, own) = self.sum_of_others(row, values)?;
+        let others = row.denominator.checked_sub(own)?;
+        let (steps, rest) = divided(value_at(values, row.node)?, row.unit)?;
         let excess = total.checked_sub(others.checked_mul(steps)?)?;
         let scaled = to_float(excess) * to_float(row.unit) - to_float(others) * to_float(rest);
         Some(Gap {
@@ -283,8 +319,14 @@ impl Rows {
         })
     }
 
-    /// The value that the row gives its node, its own entry solved for, rounded to a multiple of the node's unit. None past 128 bits.
-    pub(crate) fn rounded(&self, row: &WholeRow, values: &[i128], bound: Bound) -> Option<i128> {
+    /// The value that the row gives its node, its own entry solved for, rounded to a multiple of the node's unit. None past 128 bits,
+    /// or where a value isn't known.
+    pub(crate) fn rounded(
+        &self,
+        row: &WholeRow,
+        values: &[Option<i128>],
+        bound: Bound,
+    ) -> Option<i128> {
         let (total, own) = self.sum_of_others(row, values)?;
         let others = row.denominator.checked_sub(own)?;
         let unit = self.unit_of(row.node);
@@ -311,8 +353,7 @@ fn rounded_finely(
     finer: i128,
     bound: Bound,
 ) -> Option<i128> {
-    let mut value = total.checked_div(others)?;
-    let mut rest = total.checked_sub(value.checked_mul(others)?)?;
+    let (mut value, mut rest) = divided(total, others)?;
     let mut reached = unit;
     for _ in 0..36 {
         if reached <= finer {
@@ -332,20 +373,6 @@ fn rounded_finely(
     value.checked_mul(reached)
 }
 
-/// A value as a multiple of a unit, and the rest, which is at least 0.
-fn split(value: i128, unit: i128) -> Option<(i128, i128)> {
-    if unit == 1 {
-        return Some((value, 0));
-    }
-    let near = value.checked_div(unit)?;
-    let rest = value.checked_sub(near.checked_mul(unit)?)?;
-    if rest < 0 {
-        Some((near.checked_sub(1)?, rest.checked_add(unit)?))
-    } else {
-        Some((near, rest))
-    }
-}
-
 /// A value that is a multiple of a unit, in that unit.
 fn in_unit(value: i128, unit: i128) -> Option<i128> {
     if unit == 1 {
@@ -354,7 +381,10 @@ fn in_unit(value: i128, unit: i128) -> Option<i128> {
     value.checked_div(unit)
 }
 
-/// The value of a node, in units.
-pub fn value_at(values: &[i128], node: u32) -> Option<i128> {
-    values.get(node as usize).copied()
+/// The value of a node, in units; none where it isn't known.
+pub fn value_at(values: &[Option<i128>], node: u32) -> Option<i128> {
+    match values.get(node as usize).copied() {
+        Some(value) => value,
+        None => None,
+    }
 }

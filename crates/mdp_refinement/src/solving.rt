@@ -1,41 +1,37 @@
 //! The values of all nodes for one bound, component by component.
 
-use crate::bound::{Bound, Task};
+use crate::bound::Task;
 use crate::component::Component;
 use crate::graph::Graph;
 use crate::intervals::{best_rounded, sweep_exact};
 use crate::leaving::exit_policy;
 use crate::lists::{number, put};
+use crate::outside::Outside;
 use crate::refine::refine;
 use crate::rows::{Rows, value_at};
 use crate::strong::{Components, strong_components};
 use std::alloc::{AllocError, Global};
 
-/// A value for each node, in units, and the place of the row that it takes; none where it takes no row.
+/// A value for each node, in units, if one was found, and the place of the row that it takes; none where it takes no row. It is full where
+/// refinement came to an end in each component, and no number in it was past 128 bits.
 #[derive(Drop)]
 pub struct Solution {
-    pub values: Vec<i128>,
+    pub values: Vec<Option<i128>>,
     pub picks: Vec<Option<usize>>,
+    pub is_full: bool,
 }
 
 impl Solution {
     /// Gives a node a value.
     pub(crate) fn set_value(&mut self, node: u32, value: i128) {
-        put(&mut self.values, node, value);
+        put(&mut self.values, node, Some(value));
     }
 
     /// Gives a node a value and a row.
     pub(crate) fn settle(&mut self, node: u32, value: i128, pick: Option<usize>) {
-        put(&mut self.values, node, value);
+        put(&mut self.values, node, Some(value));
         put(&mut self.picks, node, pick);
     }
-}
-
-/// The least and the greatest value that leads out of a component.
-#[derive(Clone, Copy)]
-struct Outside {
-    least: i128,
-    greatest: i128,
 }
 
 /// The search for one bound.
@@ -47,55 +43,41 @@ struct Solver<'a> {
     solution: Solution,
 }
 
-/// The bound that holds whatever the rows are.
-fn trivial_value(bound: Bound, one: i128) -> i128 {
-    match bound {
-        Bound::Lower => 0,
-        Bound::Upper => one,
-    }
-}
-
 impl Solver<'_> {
     /// Gives a node the bound that holds anyway.
     fn give_up(&mut self, node: u32) {
-        let value = trivial_value(self.task.bound, self.rows.one());
-        self.solution.settle(node, value, None);
+        put(&mut self.solution.values, node, self.task.anyway);
+        put(&mut self.solution.picks, node, None);
+    }
+
+    /// Gives the nodes of a component the bounds that hold anyway.
+    fn give_up_all(&mut self, component: usize) {
+        let components = self.components;
+        for node in components.nodes_of(component) {
+            self.give_up(*node);
+        }
+    }
+
+    /// Whether a row of a component leads out of it to a value that isn't known.
+    fn leads_to_unknown(&self, component: usize) -> bool {
+        let components = self.components;
+        components.nodes_of(component).iter().any(|node| {
+            self.rows.edges_of(*node).iter().any(|entry| {
+                components.of(entry.node) != number(component)
+                    && value_at(&self.solution.values, entry.node).is_none()
+            })
+        })
     }
 
     /// A component with one node, exactly.
     fn solve_single(&mut self, node: u32) {
         match best_rounded(self.rows, self.task, node, &self.solution.values) {
             Some((value, place)) => self.solution.settle(node, value, Some(place)),
-            None => self.give_up(node),
-        }
-    }
-
-    /// The values that lead out of a component.
-    fn outside(&self, component: usize) -> Option<Outside> {
-        let mut outside = None;
-        for node in self.components.nodes_of(component) {
-            for entry in self.rows.edges_of(*node) {
-                let place = self.components.place_in(number(component), entry.node);
-                if place.is_none() {
-                    let value = value_at(&self.solution.values, entry.node)?;
-                    outside = Some(widened(outside, value));
-                }
+            None => {
+                self.solution.is_full = false;
+                self.give_up(node);
             }
         }
-        outside
-    }
-
-    /// The value of all nodes of a component, where one value alone leads out of it and is a multiple of their units.
-    fn same_value(&self, component: &Component, outside: Outside) -> Option<i128> {
-        if outside.least != outside.greatest {
-            return None;
-        }
-        for node in &component.nodes {
-            if outside.least.checked_rem(self.rows.unit_of(*node))? != 0 {
-                return None;
-            }
-        }
-        Some(outside.least)
     }
 
     /// Gives the nodes of a component the rows of a policy.
@@ -115,22 +97,18 @@ impl Solver<'_> {
     }
 
     /// A component by interval iteration, or by what holds anyway.
-    fn solve_by_intervals(&mut self, component: &Component, outside: Outside, start: &[usize]) {
-        let first = match self.task.bound {
-            Bound::Lower => outside.least,
-            Bound::Upper => outside.greatest,
-        };
+    fn solve_by_intervals(&mut self, component: &Component, first: Option<i128>, start: &[usize]) {
+        self.solution.is_full = false;
         self.pick(component, start);
         let nodes = &component.nodes;
-        if sweep_exact(self.rows, self.task, nodes, first, &mut self.solution).is_none() {
-            self.give_up_all(component);
-        }
-    }
-
-    /// Gives the nodes of a component the bounds that hold anyway.
-    fn give_up_all(&mut self, component: &Component) {
-        for node in &component.nodes {
-            self.give_up(*node);
+        let found = match first {
+            Some(first) => sweep_exact(self.rows, self.task, nodes, first, &mut self.solution),
+            None => None,
+        };
+        if found.is_none() {
+            for node in nodes {
+                self.give_up(*node);
+            }
         }
     }
 
@@ -142,26 +120,29 @@ impl Solver<'_> {
         outside: Outside,
         start: &[usize],
     ) -> Result<(), AllocError> {
-        if let Some(value) = self.same_value(component, outside) {
+        if let Some(value) = outside.same_value(self.rows, component) {
             self.solve_same(component, value, start);
             return Ok(());
         }
         let values = &mut self.solution.values;
         match refine(alloc, self.rows, component, self.task, start, values)? {
             Some(policy) => self.pick(component, &policy),
-            None => self.solve_by_intervals(component, outside, start),
+            None if self.task.to_end => {
+                self.solve_by_intervals(component, outside.start(self.task.bound), start);
+            }
+            None => self.solution.is_full = false,
         }
         Ok(())
     }
 
     /// A component with several nodes.
     fn solve_many(&mut self, alloc: Global, number: usize) -> Result<(), AllocError> {
-        let outside = self.outside(number);
-        let component = Component::new(alloc, self.rows, self.components, number)?;
-        match (exit_policy(alloc, &component)?, outside) {
+        let values = &self.solution.values;
+        let component = Component::new(alloc, self.rows, self.components, number, values)?;
+        match (exit_policy(alloc, &component)?, component.outside) {
             (Some(start), Some(outside)) => self.solve_leaving(alloc, &component, outside, &start),
             _ => {
-                self.give_up_all(&component);
+                self.give_up_all(number);
                 Ok(())
             }
         }
@@ -169,6 +150,10 @@ impl Solver<'_> {
 
     /// The component of this number, whose successors are solved.
     fn solve_component(&mut self, alloc: Global, number: usize) -> Result<(), AllocError> {
+        if self.task.is_each() && self.leads_to_unknown(number) {
+            self.give_up_all(number);
+            return Ok(());
+        }
         match self.components.nodes_of(number) {
             [node] => {
                 self.solve_single(*node);
@@ -176,20 +161,6 @@ impl Solver<'_> {
             }
             _ => self.solve_many(alloc, number),
         }
-    }
-}
-
-/// What leads out, with one more value.
-fn widened(outside: Option<Outside>, value: i128) -> Outside {
-    match outside {
-        Some(known) => Outside {
-            least: known.least.min(value),
-            greatest: known.greatest.max(value),
-        },
-        None => Outside {
-            least: value,
-            greatest: value,
-        },
     }
 }
 
@@ -213,15 +184,16 @@ fn open_nodes(
 fn first_solution(
     alloc: Global,
     given: &[Option<i128>],
-    trivial: i128,
+    anyway: Option<i128>,
 ) -> Result<Solution, AllocError> {
     let mut values = Vec::new(alloc);
     for value in given {
-        values.push(value.unwrap_or(trivial))?;
+        values.push(if value.is_some() { *value } else { anyway })?;
     }
     Ok(Solution {
         values,
         picks: vec![in alloc; None; given.len()]?,
+        is_full: true,
     })
 }
 
@@ -237,7 +209,8 @@ fn graph_of(alloc: Global, rows: &Rows, nodes: u32) -> Result<Graph, AllocError>
     Ok(graph)
 }
 
-/// Finds values that are to meet the bound on the rows, for the nodes that are not given theirs.
+/// Finds values that are to meet the bound on the rows, for the nodes that are not given theirs. A row that leads to a value which isn't known is left out
+/// where the bound is asked of a policy's rows, and leaves its own node without one where it is asked of each row.
 pub fn solve(
     alloc: Global,
     rows: &Rows,
@@ -247,7 +220,7 @@ pub fn solve(
     let open = open_nodes(alloc, rows, given, task)?;
     let graph = graph_of(alloc, rows, number(given.len()))?;
     let components = strong_components(alloc, &graph, &open)?;
-    let solution = first_solution(alloc, given, trivial_value(task.bound, rows.one()))?;
+    let solution = first_solution(alloc, given, task.anyway)?;
     let mut solver = Solver {
         rows,
         components: &components,
@@ -256,6 +229,9 @@ pub fn solve(
     };
     for component in 0..components.count() {
         solver.solve_component(alloc, component)?;
+        if !solver.solution.is_full && !task.to_end {
+            break;
+        }
     }
     Ok(solver.solution)
 }

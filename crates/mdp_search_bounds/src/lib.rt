@@ -2,9 +2,14 @@
 //! those that say nothing.
 #![tactic(auto)]
 
+mod ladder;
+mod mean;
 mod reach;
+mod reward;
 mod simplest;
 mod trivial;
 
+pub use mean::bounds_mean;
 pub use reach::bounds_reach;
+pub use reward::bounds_reward;
 pub use trivial::trivial_reach;

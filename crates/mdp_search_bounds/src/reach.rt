@@ -1,8 +1,9 @@
-ghost use Rattle.std.specs.Prelude.{◌≡◌, length, IfOk, IfSome};
+ghost use Rattle.std.specs.Prelude.{◌≡◌, length, IfOk};
 ghost use Rattle.mdp_spec.specs.Mdp.{states_of};
 ghost use Rattle.mdp_bounds.specs.Reach.{IsReachBounds};
-ghost use Rattle.mdp_search_bounds.specs.Held.{IsHeldReach};
+ghost use Rattle.mdp_search_bounds.specs.Held.{HasReachSizes, IsHeldReach};
 
+use crate::ladder::{Search, bounds_by};
 use crate::simplest::simplest_reach;
 use crate::trivial::trivial_reach;
 use mdp_bounds::{ReachBoundsCert, Verdict, holds_bounds_reach};
@@ -11,117 +12,49 @@ use mdp_num::Memory;
 use mdp_rows::{Dir, Marks, Model};
 use std::alloc::Global;
 
-/// The most digits that are tried.
-const MOST_DIGITS: u32 = 30;
+/// The search for bounds of the probability to reach a goal.
+#[derive(Clone, Copy)]
+struct Reaching<'m, 'g> {
+    model: &'m Model,
+    goals: &'g Marks,
+    dir: Dir,
+    ghost goals_each: { length goals.now ≡ states_of model.now },
+}
 
-/// The numbers of digits that are tried where more of them came to nothing that meets the rules.
-const FEWER_DIGITS: [u32; 5] = [12, 9, 6, 3, 0];
+impl Search for Reaching<'_, '_> {
+    type Cert = ReachBoundsCert;
 
-/// A certificate, where the rules say yes to it.
-fn held(model: &Model, goals: &Marks, dir: Dir, cert: ReachBoundsCert) -> Option<ReachBoundsCert>
-    requires goals { length goals.now ≡ states_of model.now }
-    requires lower { length cert.lower.items ≡ states_of model.now }
-    requires upper { length cert.upper.items ≡ states_of model.now }
-    requires choices { length cert.choices.items ≡ states_of model.now }
-    requires ranks { length cert.ranks.items ≡ states_of model.now }
-    ensures { IfSome result (IsHeldReach dir model.now goals.now) }
-{
-    match holds_bounds_reach(model, goals, dir, &cert) {
-        Verdict::Yes => Some(cert),
-        _ => None,
+    ghost is_sized = { λ p cert. HasReachSizes p.model.now cert };
+
+    ghost is_held = { λ p cert. IsHeldReach p.dir p.model.now p.goals.now cert };
+
+    fn near(&self, alloc: Global, digits: u32) -> Result<ReachBoundsCert, Memory> {
+        near_reach(alloc, self.model, self.goals, self.dir, digits)
     }
-}
 
-/// The simplest fractions between the bounds of a certificate, as exact values, where the rules say yes to them.
-fn held_exact(
-    alloc: Global,
-    model: &Model,
-    goals: &Marks,
-    dir: Dir,
-    cert: &ReachBoundsCert,
-) -> Result<Option<ReachBoundsCert>, Memory>
-    requires goals { length goals.now ≡ states_of model.now }
-    requires lower { length cert.now.lower.items ≡ states_of model.now }
-    requires upper { length cert.now.upper.items ≡ states_of model.now }
-    requires choices { length cert.now.choices.items ≡ states_of model.now }
-    requires ranks { length cert.now.ranks.items ≡ states_of model.now }
-    ensures { IfOk result (λ found. IfSome found (IsHeldReach dir model.now goals.now)) }
-{
-    let exact = simplest_reach(alloc, model.states(), cert)?;
-    Ok(held(model, goals, dir, exact))
-}
-
-/// The same of what the search proposes with the most digits, where these are more than so many.
-fn held_exact_with_most(
-    alloc: Global,
-    model: &Model,
-    goals: &Marks,
-    dir: Dir,
-    digits: u32,
-) -> Result<Option<ReachBoundsCert>, Memory>
-    requires { length goals.now ≡ states_of model.now }
-    ensures { IfOk result (λ found. IfSome found (IsHeldReach dir model.now goals.now)) }
-{
-    if digits >= MOST_DIGITS {
-        return Ok(None);
+    fn simplest(
+        &self,
+        alloc: Global,
+        cert: &ReachBoundsCert,
+        _digits: u32,
+    ) -> Result<ReachBoundsCert, Memory> {
+        let exact = simplest_reach(alloc, self.model, cert)?;
+        Ok(exact)
     }
-    let cert = near_reach(alloc, model, goals, dir, MOST_DIGITS)?;
-    held_exact(alloc, model, goals, dir, &cert)
-}
 
-/// What the search proposes with so many digits, where the rules say yes to it: first the simplest fractions between its bounds, as exact values.
-fn held_near(
-    alloc: Global,
-    model: &Model,
-    goals: &Marks,
-    dir: Dir,
-    digits: u32,
-) -> Result<Option<ReachBoundsCert>, Memory>
-    requires { length goals.now ≡ states_of model.now }
-    ensures { IfOk result (λ found. IfSome found (IsHeldReach dir model.now goals.now)) }
-{
-    let cert = near_reach(alloc, model, goals, dir, digits)?;
-    if let Some(exact) = held_exact(alloc, model, goals, dir, &cert)? {
-        return Ok(Some(exact));
+    fn holds(&self, cert: &ReachBoundsCert) -> bool {
+        matches!(
+            holds_bounds_reach(self.model, self.goals, self.dir, cert),
+            Verdict::Yes
+        )
     }
-    Ok(held(model, goals, dir, cert))
-}
 
-/// What the search proposes with fewer digits, the most of them for which the rules say yes to it.
-fn held_with_fewer(
-    alloc: Global,
-    model: &Model,
-    goals: &Marks,
-    dir: Dir,
-    digits: u32,
-) -> Result<Option<ReachBoundsCert>, Memory>
-    requires { length goals.now ≡ states_of model.now }
-    ensures { IfOk result (λ found. IfSome found (IsHeldReach dir model.now goals.now)) }
-{
-    for fewer in FEWER_DIGITS {
-        if fewer < digits {
-            if let Some(cert) = held_near(alloc, model, goals, dir, fewer)? {
-                return Ok(Some(cert));
-            }
+    fn trivial(&self, alloc: Global) -> Result<ReachBoundsCert, Memory> {
+        let cert = trivial_reach(alloc, self.model, self.goals)?;
+        match holds_bounds_reach(self.model, self.goals, self.dir, &cert) {
+            Verdict::Yes => Ok(cert),
+            _ => unreachable!(),
         }
-    }
-    Ok(None)
-}
-
-/// The bounds that say nothing: the rules say yes to them.
-fn held_trivial(
-    alloc: Global,
-    model: &Model,
-    goals: &Marks,
-    dir: Dir,
-) -> Result<ReachBoundsCert, Memory>
-    requires { length goals.now ≡ states_of model.now }
-    ensures { IfOk result (IsHeldReach dir model.now goals.now) }
-{
-    let cert = trivial_reach(alloc, model, goals)?;
-    match holds_bounds_reach(model, goals, dir, &cert) {
-        Verdict::Yes => Ok(cert),
-        _ => unreachable!(),
     }
 }
 
@@ -142,19 +75,6 @@ pub fn bounds_reach(
     ensures choices { IfOk result (λ cert. length cert.choices.items ≡ states_of model.now) }
     ensures ranks { IfOk result (λ cert. length cert.ranks.items ≡ states_of model.now) }
 {
-    let near = near_reach(alloc, model, goals, dir, digits)?;
-    if let Some(exact) = held_exact(alloc, model, goals, dir, &near)? {
-        return Ok(exact);
-    }
-    if let Some(exact) = held_exact_with_most(alloc, model, goals, dir, digits)? {
-        return Ok(exact);
-    }
-    if let Some(cert) = held(model, goals, dir, near) {
-        return Ok(cert);
-    }
-    if let Some(cert) = held_with_fewer(alloc, model, goals, dir, digits)? {
-        return Ok(cert);
-    }
-    let cert = held_trivial(alloc, model, goals, dir)?;
-    Ok(cert)
+    let search = Reaching { model, goals, dir };
+    bounds_by(alloc, &search, digits)
 }

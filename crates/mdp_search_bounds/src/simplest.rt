@@ -1,9 +1,13 @@
-//! The simplest fractions between bounds, by continued fractions (Kwek and Mehlhorn 2003).
+//! The simplest fractions between bounds, by continued fractions (Kwek and Mehlhorn 2003). Nothing rests on them: the rules judge what is made of them.
 
 ghost use Rattle.std.specs.Prelude.{◌≡◌, ◌<◌, length, IfOk};
+ghost use Rattle.mdp_spec.specs.Mdp.{states_of};
+ghost use Rattle.mdp_search_bounds.specs.Held.{HasReachSizes, HasRewardSizes, HasMeanSizes};
 
-use mdp_bounds::ReachBoundsCert;
+use mdp_bounds::{MeanBoundsCert, ReachBoundsCert, RewardBoundsCert};
 use mdp_num::Frac;
+use mdp_rows::Model;
+use std::cmp::Ordering;
 use std::alloc::{AllocError, Global};
 
 /// How many terms of a continued fraction are looked at: fractions within 127 bits have fewer.
@@ -23,6 +27,14 @@ impl Terms {
             num: value.num(),
             den: value.den(),
         }
+    }
+
+    /// The negation.
+    fn negated(self) -> Option<Terms> {
+        Some(Terms {
+            num: self.num.checked_neg()?,
+            den: self.den,
+        })
     }
 
     /// The greatest whole number that is at most a fraction of at least 0.
@@ -47,9 +59,9 @@ impl Terms {
 /// The fraction of least denominator from `lower` to `upper`, both at least 0, and of those the least. None where a term is past 128 bits.
 ///
 /// As long as both have the same whole part it is a term of the continued fraction, and it goes on with the reciprocals of the rests, in turned order.
-fn simplest_between(lower: &Frac, upper: &Frac) -> Option<Frac> {
-    let mut low = Terms::of(lower);
-    let mut high = Terms::of(upper);
+fn simplest_from(lower: Terms, upper: Terms) -> Option<Frac> {
+    let mut low = lower;
+    let mut high = upper;
     let mut before = Terms { num: 0, den: 1 };
     let mut last = Terms { num: 1, den: 0 };
     for _ in 0..MOST_TERMS {
@@ -81,44 +93,49 @@ fn simplest_between(lower: &Frac, upper: &Frac) -> Option<Frac> {
     None
 }
 
-/// The simplest fraction from the lower to the upper value of state `s`; the lower value where a term is past 128 bits.
-fn simplest_at(cert: &ReachBoundsCert, s: u32) -> Frac
-    requires lower { s < length cert.now.lower.items }
-    requires upper { s < length cert.now.upper.items }
-{
-    let lower = cert.lower[s as usize];
-    simplest_between(&lower, &cert.upper[s as usize]).unwrap_or(lower)
+/// The fraction of least denominator from `lower` to `upper`, and of those the one nearest to 0. None where a term is past 128 bits.
+fn simplest_terms(lower: Terms, upper: Terms) -> Option<Frac> {
+    if lower.num > 0 {
+        return simplest_from(lower, upper);
+    }
+    if upper.num >= 0 {
+        return Some(Frac::whole(0));
+    }
+    let magnitude = simplest_from(upper.negated()?, lower.negated()?)?;
+    Some(magnitude.negate())
+}
+
+/// The simplest fraction from a lower to an upper value; the lower value where a term is past 128 bits.
+fn simplest_between(lower: &Frac, upper: &Frac) -> Frac {
+    simplest_terms(Terms::of(lower), Terms::of(upper)).unwrap_or(*lower)
 }
 
 /// The simplest fraction of each state.
 fn simplest_values(
     alloc: Global,
     states: u32,
-    cert: &ReachBoundsCert,
+    lower: &[Frac],
+    upper: &[Frac],
 ) -> Result<Vec<Frac>, AllocError>
-    requires lower { length cert.now.lower.items ≡ states }
-    requires upper { length cert.now.upper.items ≡ states }
+    requires lower { length lower.now ≡ states }
+    requires upper { length upper.now ≡ states }
     ensures { IfOk result (λ values. length values.items ≡ states) }
 {
-    (0..states).map(|s| simplest_at(cert, s)).collect(alloc)
+    (0..states)
+        .map(|s| simplest_between(&lower[s as usize], &upper[s as usize]))
+        .collect(alloc)
 }
 
 /// The certificate with the simplest fractions between its bounds as lower and as upper values: where they are the exact values, the rules say yes to it.
 pub(crate) fn simplest_reach(
     alloc: Global,
-    states: u32,
+    model: &Model,
     cert: &ReachBoundsCert,
 ) -> Result<ReachBoundsCert, AllocError>
-    requires lower { length cert.now.lower.items ≡ states }
-    requires upper { length cert.now.upper.items ≡ states }
-    requires choices { length cert.now.choices.items ≡ states }
-    requires ranks { length cert.now.ranks.items ≡ states }
-    ensures lower { IfOk result (λ exact. length exact.lower.items ≡ states) }
-    ensures upper { IfOk result (λ exact. length exact.upper.items ≡ states) }
-    ensures choices { IfOk result (λ exact. length exact.choices.items ≡ states) }
-    ensures ranks { IfOk result (λ exact. length exact.ranks.items ≡ states) }
+    requires { HasReachSizes model.now cert.now }
+    ensures { IfOk result (HasReachSizes model.now) }
 {
-    let lower = simplest_values(alloc, states, cert)?;
+    let lower = simplest_values(alloc, model.states(), &cert.lower, &cert.upper)?;
     let upper = lower.clone()?;
     let choices = cert.choices.clone()?;
     let ranks = cert.ranks.clone()?;
@@ -127,5 +144,124 @@ pub(crate) fn simplest_reach(
         upper,
         choices,
         ranks,
+    })
+}
+
+/// The simplest fraction from a lower to an upper reward, where both are finite; else the lower one.
+fn simplest_reward_between(lower: Option<Frac>, upper: Option<Frac>) -> Option<Frac> {
+    match (lower, upper) {
+        (Some(least), Some(greatest)) => Some(simplest_between(&least, &greatest)),
+        _ => lower,
+    }
+}
+
+/// The value as an upper one, where there is a finite upper bound.
+fn capped(value: Option<Frac>, upper: Option<Frac>) -> Option<Frac> {
+    if upper.is_some() { value } else { None }
+}
+
+/// The certificate with the simplest fractions between its finite bounds as lower and as upper values; infinite ones stay.
+pub(crate) fn simplest_reward(
+    alloc: Global,
+    model: &Model,
+    cert: &RewardBoundsCert,
+) -> Result<RewardBoundsCert, AllocError>
+    requires { HasRewardSizes model.now cert.now }
+    ensures { IfOk result (HasRewardSizes model.now) }
+{
+    let states = model.states();
+    let below = &cert.lower;
+    let above = &cert.upper;
+    let lower: Vec<Option<Frac>> = (0..states)
+        .map(|s| simplest_reward_between(below[s as usize], above[s as usize]))
+        .collect(alloc)?;
+    let upper = (0..states)
+        .map(|s| capped(lower[s as usize], above[s as usize]))
+        .collect(alloc)?;
+    let choices = cert.choices.clone()?;
+    let ranks = cert.ranks.clone()?;
+    Ok(RewardBoundsCert {
+        lower,
+        upper,
+        choices,
+        ranks,
+    })
+}
+
+/// 10^-`digits`, for digits of at most 30.
+fn unit_of(digits: u32) -> Option<Frac> {
+    let den = 10i128.checked_pow(digits)?;
+    Frac::try_new(1, den).ok()
+}
+
+/// The simplest fraction from a value less the unit to the value plus the unit; the value where a term is past 128 bits.
+fn simplest_near(value: &Frac, unit: &Frac) -> Frac {
+    match (value.sub(unit), value.add(unit)) {
+        (Ok(lower), Ok(upper)) => {
+            simplest_terms(Terms::of(&lower), Terms::of(&upper)).unwrap_or(*value)
+        }
+        _ => *value,
+    }
+}
+
+/// The simplest fraction near each of these, as far as half of the digits.
+fn all_simplest_near(alloc: Global, values: &[Frac], digits: u32) -> Result<Vec<Frac>, AllocError>
+    ensures { IfOk result (λ simple. length simple.items ≡ length values.now) }
+{
+    let unit = unit_of(digits / 2).unwrap_or(Frac::whole(0));
+    values
+        .iter()
+        .map(|value| simplest_near(value, &unit))
+        .collect(alloc)
+}
+
+/// The greatest of the numbers, or for `Less` the least, and 0 of none.
+fn extreme(numbers: &[Frac], order: Ordering) -> Frac {
+    let mut best = match numbers.first() {
+        Some(first) => *first,
+        None => Frac::whole(0),
+    };
+    for number in numbers {
+        if number.order(&best) == order {
+            best = *number;
+        }
+    }
+    best
+}
+
+/// The greatest of the numbers less the least. None where that is past width.
+fn width_of(numbers: &[Frac]) -> Option<Frac> {
+    let greatest = extreme(numbers, Ordering::Greater);
+    greatest.sub(&extreme(numbers, Ordering::Less)).ok()
+}
+
+/// The greater of the widths of two columns. None where one of them is past width.
+fn spread_of(bound: &[Frac], bias: &[Frac]) -> Option<Frac> {
+    Some(extreme(&[width_of(bound)?, width_of(bias)?], Ordering::Greater))
+}
+
+/// The certificate with the simplest fractions between its gains as lower and as upper gains, and with the simplest relative values near its own.
+pub(crate) fn simplest_mean(
+    alloc: Global,
+    model: &Model,
+    cert: &MeanBoundsCert,
+    digits: u32,
+) -> Result<MeanBoundsCert, AllocError>
+    requires { HasMeanSizes model.now cert.now }
+    ensures { IfOk result (HasMeanSizes model.now) }
+{
+    let lower = simplest_values(alloc, model.states(), &cert.lower, &cert.upper)?;
+    let upper = lower.clone()?;
+    let bound = all_simplest_near(alloc, &cert.bound, digits)?;
+    let bias = all_simplest_near(alloc, &cert.bias, digits)?;
+    let choices = cert.choices.clone()?;
+    let spread = spread_of(&bound, &bias).unwrap_or(cert.spread);
+    Ok(MeanBoundsCert {
+        lower,
+        upper,
+        bound,
+        bias,
+        choices,
+        spread,
     })
 }

@@ -1,0 +1,111 @@
+ghost use Rattle.std.specs.Prelude.{◌≡◌, ◌⊎◌, Some, None, OnOk, IfOk, IfErr};
+ghost use Rattle.mdp_bounds_text.specs.Cert.{plain_body};
+ghost use Rattle.mdp_job.specs.Job.{plain_query, reach, reward, mean};
+ghost use Rattle.mdp_job.specs.Refusal.{plain_refusal, no_memory};
+ghost use Rattle.mdp_command_bounds_search.specs.Certificate.{AreBounds};
+ghost use Rattle.mdp_command_bounds_search.specs.Due.{claim_of, fault_of};
+
+use mdp_bounds_text::BoundsBody;
+use mdp_job::{Query, Refusal};
+use mdp_rows::{Dir, Model};
+use mdp_search_bounds::{bounds_mean, bounds_reach, bounds_reward};
+use std::alloc::Global;
+
+/// Bounds of the probabilities of reaching a label, or the refusal of a label that isn't there.
+fn bounds_of_label(
+    alloc: Global,
+    model: &Model,
+    dir: Dir,
+    label: &[u8],
+    digits: u32,
+) -> Result<BoundsBody, Refusal>
+    ensures fits { OnOk result (fault_of (reach label.now) model.now ≡ None) }
+    ensures found { IfOk result (λ body. AreBounds (claim_of dir (reach label.now)) model.now (plain_body body)) }
+    ensures refused { IfErr result (λ r. (plain_refusal r ≡ no_memory) ⊎ (fault_of (reach label.now) model.now ≡ Some (plain_refusal r))) }
+{
+    model.known();
+    let Some(place) = model.label(label) else {
+        return Err(Refusal::QueryLabel);
+    };
+    let Ok(goals) = model.marks_of(alloc, place) else {
+        return Err(Refusal::Memory);
+    };
+    match bounds_reach(alloc, model, &goals, dir, digits) {
+        Ok(bounds) => Ok(BoundsBody::Reach(bounds)),
+        Err(_) => Err(Refusal::Memory),
+    }
+}
+
+/// Bounds of the rewards of a name until a label, or the first refusal: the name is looked up first, then the label, then it is asked whether a reward of
+/// this name is below 0.
+fn bounds_of_reward(
+    alloc: Global,
+    model: &Model,
+    dir: Dir,
+    name: &[u8],
+    label: &[u8],
+    digits: u32,
+) -> Result<BoundsBody, Refusal>
+    ensures fits { OnOk result (fault_of (reward name.now label.now) model.now ≡ None) }
+    ensures found { IfOk result (λ body. AreBounds (claim_of dir (reward name.now label.now)) model.now (plain_body body)) }
+    ensures refused { IfErr result (λ r. (plain_refusal r ≡ no_memory) ⊎ (fault_of (reward name.now label.now) model.now ≡ Some (plain_refusal r))) }
+{
+    model.known();
+    let Some(reward) = model.reward_named(name) else {
+        return Err(Refusal::QueryReward);
+    };
+    let Some(place) = model.label(label) else {
+        return Err(Refusal::QueryLabel);
+    };
+    if model.negative(reward) {
+        return Err(Refusal::QueryNegative);
+    }
+    let Ok(goals) = model.marks_of(alloc, place) else {
+        return Err(Refusal::Memory);
+    };
+    match bounds_reward(alloc, model, reward, &goals, dir, digits) {
+        Ok(bounds) => Ok(BoundsBody::Reward(bounds)),
+        Err(_) => Err(Refusal::Memory),
+    }
+}
+
+/// Bounds of the mean payoffs of a name, or the refusal of a name that isn't there.
+fn bounds_of_mean(
+    alloc: Global,
+    model: &Model,
+    dir: Dir,
+    name: &[u8],
+    digits: u32,
+) -> Result<BoundsBody, Refusal>
+    ensures fits { OnOk result (fault_of (mean name.now) model.now ≡ None) }
+    ensures found { IfOk result (λ body. AreBounds (claim_of dir (mean name.now)) model.now (plain_body body)) }
+    ensures refused { IfErr result (λ r. (plain_refusal r ≡ no_memory) ⊎ (fault_of (mean name.now) model.now ≡ Some (plain_refusal r))) }
+{
+    model.known();
+    let Some(reward) = model.reward_named(name) else {
+        return Err(Refusal::QueryReward);
+    };
+    match bounds_mean(alloc, model, reward, dir, digits) {
+        Ok(bounds) => Ok(BoundsBody::Mean(bounds)),
+        Err(_) => Err(Refusal::Memory),
+    }
+}
+
+/// Bounds of a query, or its refusal.
+pub(crate) fn bounds_of_query(
+    alloc: Global,
+    model: &Model,
+    dir: Dir,
+    query: Query<'_>,
+    digits: u32,
+) -> Result<BoundsBody, Refusal>
+    ensures fits { OnOk result (fault_of (plain_query query.entry) model.now ≡ None) }
+    ensures found { IfOk result (λ body. AreBounds (claim_of dir (plain_query query.entry)) model.now (plain_body body)) }
+    ensures refused { IfErr result (λ r. (plain_refusal r ≡ no_memory) ⊎ (fault_of (plain_query query.entry) model.now ≡ Some (plain_refusal r))) }
+{
+    match query {
+        Query::Reach { label } => bounds_of_label(alloc, model, dir, label, digits),
+        Query::Reward { name, label } => bounds_of_reward(alloc, model, dir, name, label, digits),
+        Query::Mean { name } => bounds_of_mean(alloc, model, dir, name, digits),
+    }
+}

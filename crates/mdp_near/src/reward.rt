@@ -1,0 +1,416 @@
+ghost use Rattle.std.specs.Prelude.{◌≡◌, ◌<◌, length, IfOk};
+ghost use Rattle.mdp_spec.specs.Mdp.{states_of};
+
+use crate::backward::Backward;
+use crate::choices::ChoiceFlags;
+use crate::earning::Earning;
+use crate::ends::{ends_inside, no_parts};
+use crate::lists::{MOST_DIGITS, flags_of, fraction, numbers};
+use crate::policy::{Gathered, policy_of};
+use crate::ranks::max_ranks;
+use mdp_bounds::RewardBoundsCert;
+use mdp_num::{Frac, Memory};
+use mdp_refinement::{
+    Bound, Nodes, Rows, Scale, Solution, Task, flag_at, number_at, power_of_ten, put, solve,
+    value_at,
+};
+use mdp_reward::{Start, start_of};
+use mdp_rows::{Dir, Marks, Model};
+use std::alloc::{AllocError, Global};
+use std::cmp::Ordering;
+
+/// How many digits before the point the rows leave room for, one after the other, until the values have room.
+const ROOMS: [u32; 3] = [0, 4, 8];
+
+/// The room with which fewer digits are tried.
+const MOST_ROOM: u32 = 8;
+
+/// How many digits fewer are tried at a time.
+const FEWER_DIGITS: u32 = 3;
+
+/// How many of the digits of values a reward may have that is taken for 0, where those above 0 are too small to be seen.
+const UNSEEN_DIGITS: u32 = 4;
+
+/// What the solving of one bound came to, and of what nodes and rows.
+#[derive(Drop)]
+struct Attempt {
+    nodes: Nodes,
+    rows: Rows,
+    solution: Solution,
+}
+
+/// What the search came to: values, choices and ranks, for each state.
+#[derive(Drop)]
+struct Outcome {
+    lower: Vec<Option<Frac>>,
+    upper: Vec<Option<Frac>>,
+    choices: Vec<u32>,
+    ranks: Vec<u32>,
+}
+
+/// The parts of a search. Open are the states of finite reward that are no goals.
+#[derive(Clone, Copy)]
+struct Search<'a> {
+    earning: Earning<'a>,
+    backward: &'a Backward,
+    dir: Dir,
+    digits: u32,
+    is_goal: &'a [bool],
+    is_finite: &'a [bool],
+    is_open: &'a [bool],
+    start: &'a [u32],
+    known: &'a [u32],
+}
+
+/// Whether each state is of finite reward and no goal.
+fn are_open(
+    alloc: Global,
+    states: u32,
+    is_finite: &[bool],
+    is_goal: &[bool],
+) -> Result<Vec<bool>, AllocError>
+    ensures { IfOk result (λ list. length list.items ≡ states) }
+{
+    (0..states)
+        .map(|s| flag_at(is_finite, s) && !flag_at(is_goal, s))
+        .collect(alloc)
+}
+
+/// The opposite of each flag.
+fn opposites(alloc: Global, flags: &[bool]) -> Result<Vec<bool>, AllocError> {
+    flags.iter().map(|flag| !*flag).collect(alloc)
+}
+
+/// The greater of two values; that which is there where one isn't.
+fn greater(a: Option<Frac>, b: Option<Frac>) -> Option<Frac> {
+    match (a, b) {
+        (Some(x), Some(y)) if x.order(&y) == Ordering::Greater => Some(x),
+        (_, Some(y)) => Some(y),
+        _ => a,
+    }
+}
+
+/// The greater value of each state.
+fn greater_each(
+    alloc: Global,
+    values: &[Option<Frac>],
+    others: &[Option<Frac>],
+) -> Result<Vec<Option<Frac>>, AllocError> {
+    values
+        .iter()
+        .zip(others)
+        .map(|(a, b)| greater(*a, *b))
+        .collect(alloc)
+}
+
+/// A value for each state.
+fn listed(
+    alloc: Global,
+    states: u32,
+    values: &[Option<Frac>],
+) -> Result<Vec<Option<Frac>>, AllocError>
+    ensures { IfOk result (λ list. length list.items ≡ states) }
+{
+    (0..states)
+        .map(|s| values.get(s as usize).copied().unwrap_or(None))
+        .collect(alloc)
+}
+
+impl Search<'_> {
+    /// The number of states.
+    fn states(self) -> u32 {
+        self.earning.model.states()
+    }
+
+    /// The end components of open states by some choices.
+    fn parts(self, alloc: Global, choices: ChoiceFlags) -> Result<Vec<Option<u32>>, AllocError> {
+        let model = self.earning.model;
+        let is_open = are_open(alloc, model.states(), self.is_finite, self.is_goal)?;
+        let open = Marks::from_values(is_open);
+        ends_inside(alloc, model, self.backward, &open, choices)
+    }
+
+    /// The values of the nodes that are given: 0 at goals.
+    fn given(self, alloc: Global, nodes: &Nodes) -> Result<Vec<Option<i128>>, AllocError> {
+        let mut given = vec![in alloc; None; nodes.count() as usize]?;
+        for state in nodes.order() {
+            if flag_at(self.is_goal, *state) {
+                put(&mut given, nodes.of(*state), Some(0));
+            }
+        }
+        Ok(given)
+    }
+
+    /// Solves for a bound, with values of this scale.
+    fn attempt(
+        self,
+        alloc: Global,
+        parts: &[Option<u32>],
+        bound: Bound,
+        scale: Scale,
+        to_end: bool,
+    ) -> Result<Attempt, AllocError> {
+        let nodes = Nodes::new(alloc, parts)?;
+        let rows = self
+            .earning
+            .rows(alloc, &nodes, self.is_open, self.is_finite, scale)?;
+        let task = Task {
+            dir: self.dir,
+            bound,
+            anyway: match bound {
+                Bound::Lower => Some(0),
+                Bound::Upper => None,
+            },
+            to_end,
+        };
+        let solution = solve(alloc, &rows, &self.given(alloc, &nodes)?, task)?;
+        Ok(Attempt {
+            nodes,
+            rows,
+            solution,
+        })
+    }
+
+    /// Solves for a bound, if each component can be refined with values of this scale.
+    fn full_attempt(
+        self,
+        alloc: Global,
+        parts: &[Option<u32>],
+        bound: Bound,
+        scale: Scale,
+    ) -> Result<Option<Attempt>, AllocError> {
+        let attempt = self.attempt(alloc, parts, bound, scale, false)?;
+        if attempt.solution.is_full {
+            Ok(Some(attempt))
+        } else {
+            Ok(None)
+        }
+    }
+
+    /// Solves for a bound with fewer digits, the most for which each component can be refined.
+    fn with_fewer(
+        self,
+        alloc: Global,
+        parts: &[Option<u32>],
+        bound: Bound,
+    ) -> Result<Option<Attempt>, AllocError> {
+        let mut digits = self.digits;
+        for _ in 0..self.digits {
+            if digits == 0 {
+                break;
+            }
+            digits = digits.saturating_sub(FEWER_DIGITS);
+            let scale = Scale {
+                digits,
+                room: MOST_ROOM,
+            };
+            if let Some(attempt) = self.full_attempt(alloc, parts, bound, scale)? {
+                return Ok(Some(attempt));
+            }
+        }
+        Ok(None)
+    }
+
+    /// Solves for a bound: with all digits and the least room for which each component can be refined, or with fewer, or else as far as it goes.
+    fn solve(
+        self,
+        alloc: Global,
+        parts: &[Option<u32>],
+        bound: Bound,
+    ) -> Result<Attempt, AllocError> {
+        let digits = self.digits;
+        for room in ROOMS {
+            let scale = Scale { digits, room };
+            if let Some(attempt) = self.full_attempt(alloc, parts, bound, scale)? {
+                return Ok(attempt);
+            }
+        }
+        if let Some(attempt) = self.with_fewer(alloc, parts, bound)? {
+            return Ok(attempt);
+        }
+        self.attempt(alloc, parts, bound, Scale { digits, room: 0 }, true)
+    }
+
+    /// The value of a state, at least 0; none where its reward is infinite or no value was found.
+    fn value_of(self, attempt: &Attempt, state: u32) -> Option<Frac> {
+        if !flag_at(self.is_finite, state) {
+            return None;
+        }
+        let value = value_at(&attempt.solution.values, attempt.nodes.of(state))?;
+        Some(fraction(value.max(0), attempt.rows.one()))
+    }
+
+    /// The values of the states.
+    fn spread(self, alloc: Global, attempt: &Attempt) -> Result<Vec<Option<Frac>>, AllocError> {
+        (0..self.states())
+            .map(|s| self.value_of(attempt, s))
+            .collect(alloc)
+    }
+
+    /// The choices of the states that the picks of the nodes come to, by the inner choices within nodes.
+    fn policy(
+        self,
+        alloc: Global,
+        attempt: &Attempt,
+        inner: &ChoiceFlags,
+    ) -> Result<Vec<u32>, AllocError> {
+        let gathered = Gathered {
+            model: self.earning.model,
+            backward: self.backward,
+            nodes: &attempt.nodes,
+            inner: Some(inner),
+        };
+        let picks = &attempt.solution.picks;
+        policy_of(alloc, gathered, &attempt.rows, picks, self.start)
+    }
+}
+
+impl Search<'_> {
+    /// Bounds of the greatest rewards. No choice of an open state leads to a state of infinite reward, and no end component is among the open states.
+    fn greatest(self, alloc: Global) -> Result<Outcome, AllocError> {
+        let parts = no_parts(alloc, self.earning.model)?;
+        let low = self.solve(alloc, &parts, Bound::Lower)?;
+        let high = self.solve(alloc, &parts, Bound::Upper)?;
+        let none = ChoiceFlags::empty(alloc);
+        Ok(Outcome {
+            lower: self.spread(alloc, &low)?,
+            upper: self.spread(alloc, &high)?,
+            choices: self.policy(alloc, &low, &none)?,
+            ranks: numbers(alloc, self.states(), self.known)?,
+        })
+    }
+
+    /// Lower bounds of the least rewards. Where rewards are too small for the units, a policy that earns them for ever seems to earn nothing: then states of
+    /// an end component by such choices, and at last of any, share one value, and the greater bounds are taken.
+    fn least_lower(
+        self,
+        alloc: Global,
+        parts: &[Option<u32>],
+    ) -> Result<Vec<Option<Frac>>, AllocError> {
+        let first = self.solve(alloc, parts, Bound::Lower)?;
+        let mut lower = self.spread(alloc, &first)?;
+        if first.solution.is_full {
+            return Ok(lower);
+        }
+        let limit = fraction(1, power_of_ten(self.digits.saturating_sub(UNSEEN_DIGITS)));
+        let unseen = self.earning.choices_up_to(alloc, &limit)?;
+        let all = ChoiceFlags::all(alloc, self.earning.model)?;
+        for choices in [unseen, all] {
+            let wider = self.parts(alloc, choices)?;
+            let attempt = self.solve(alloc, &wider, Bound::Lower)?;
+            lower = greater_each(alloc, &lower, &self.spread(alloc, &attempt)?)?;
+            if attempt.solution.is_full {
+                break;
+            }
+        }
+        Ok(lower)
+    }
+
+    /// The ranks of states of finite reward along a policy, and the known ones of the others. None where the policy misses the goals from one.
+    fn ranks(self, alloc: Global, choices: &[u32]) -> Result<Option<Vec<u32>>, AllocError> {
+        let is_infinite = opposites(alloc, self.is_finite)?;
+        let found = max_ranks(alloc, self.backward, self.is_goal, choices, &is_infinite)?;
+        let Some(mut ranks) = found else {
+            return Ok(None);
+        };
+        for s in 0..self.states() {
+            if !flag_at(self.is_finite, s) {
+                put(&mut ranks, s, number_at(self.known, s));
+            }
+        }
+        Ok(Some(ranks))
+    }
+
+    /// Upper values that hold anyway: 0 at goals.
+    fn most(self, alloc: Global) -> Result<Vec<Option<Frac>>, AllocError> {
+        self.is_goal
+            .iter()
+            .map(|is_goal| if *is_goal { Some(Frac::whole(0)) } else { None })
+            .collect(alloc)
+    }
+
+    /// Bounds of the least rewards. The states of an end component by choices of reward 0 share one value.
+    fn least(self, alloc: Global) -> Result<Outcome, AllocError> {
+        let free = self.earning.choices_up_to(alloc, &Frac::whole(0))?;
+        let parts = self.parts(alloc, self.earning.choices_up_to(alloc, &Frac::whole(0))?)?;
+        let lower = self.least_lower(alloc, &parts)?;
+        let high = self.solve(alloc, &parts, Bound::Upper)?;
+        let choices = self.policy(alloc, &high, &free)?;
+        if let Some(ranks) = self.ranks(alloc, &choices)? {
+            let upper = self.spread(alloc, &high)?;
+            return Ok(Outcome {
+                lower,
+                upper,
+                choices,
+                ranks,
+            });
+        }
+        let choices = numbers(alloc, self.states(), self.start)?;
+        let ranks = self.ranks(alloc, &choices)?;
+        Ok(Outcome {
+            lower,
+            upper: self.most(alloc)?,
+            choices,
+            ranks: ranks.unwrap_or(Vec::new(alloc)),
+        })
+    }
+
+    /// Both bounds, a policy and ranks.
+    fn run(self, alloc: Global) -> Result<Outcome, AllocError> {
+        match self.dir {
+            Dir::Max => self.greatest(alloc),
+            Dir::Min => self.least(alloc),
+        }
+    }
+}
+
+/// Proposes bounds of the greatest or the least expected reward until a goal, under the reward name of place `name`, as multiples of 10 to the power of
+/// -`digits` where the rows allow it, with a policy and ranks. A lower value of none is infinite; an upper one of none bounds nothing.
+///
+/// The graph decides where the reward is infinite. Elsewhere components are solved, successors first, as for the probability to reach a goal.
+pub fn near_reward(
+    alloc: Global,
+    model: &Model,
+    name: u32,
+    goals: &Marks,
+    dir: Dir,
+    digits: u32,
+) -> Result<RewardBoundsCert, Memory>
+    requires name { name < length model.now.names }
+    requires goals { length goals.now ≡ states_of model.now }
+    ensures lower { IfOk result (λ cert. length cert.lower.items ≡ states_of model.now) }
+    ensures upper { IfOk result (λ cert. length cert.upper.items ≡ states_of model.now) }
+    ensures choices { IfOk result (λ cert. length cert.choices.items ≡ states_of model.now) }
+    ensures ranks { IfOk result (λ cert. length cert.ranks.items ≡ states_of model.now) }
+{
+    model.known();
+    let states = model.states();
+    let Start {
+        finite,
+        policy,
+        known,
+    } = start_of(alloc, model, goals, dir)?;
+    let is_goal = flags_of(alloc, states, goals)?;
+    let is_finite = flags_of(alloc, states, &finite)?;
+    let is_open = are_open(alloc, states, &is_finite, &is_goal)?;
+    let backward = Backward::new(alloc, model)?;
+    let digits = digits.min(MOST_DIGITS);
+    let search = Search {
+        earning: Earning { model, name },
+        backward: &backward,
+        dir,
+        digits,
+        is_goal: &is_goal,
+        is_finite: &is_finite,
+        is_open: &is_open,
+        start: &policy,
+        known: &known,
+    };
+    let outcome = search.run(alloc)?;
+    Ok(RewardBoundsCert {
+        lower: listed(alloc, states, &outcome.lower)?,
+        upper: listed(alloc, states, &outcome.upper)?,
+        choices: numbers(alloc, states, &outcome.choices)?,
+        ranks: numbers(alloc, states, &outcome.ranks)?,
+    })
+}

@@ -1,0 +1,77 @@
+ghost use Rattle.std.specs.Prelude.{◌≡◌, ◌<◌, length, IfOk};
+ghost use Rattle.mdp_spec.specs.Mdp.{states_of};
+ghost use Rattle.mdp_bounds.specs.Mean.{IsMeanBounds};
+ghost use Rattle.mdp_search_bounds.specs.Held.{HasMeanSizes, IsHeldMean};
+
+use crate::ladder::{Search, bounds_by};
+use crate::simplest::simplest_mean;
+use mdp_bounds::{MeanBoundsCert, Verdict, holds_bounds_mean};
+use mdp_num::Memory;
+use mdp_rows::{Dir, Model};
+use mdp_trivial_bounds::trivial_mean;
+use std::alloc::Global;
+
+/// The search for bounds of the mean payoff of a name.
+#[derive(Clone, Copy)]
+struct Averaging<'m> {
+    model: &'m Model,
+    name: u32,
+    dir: Dir,
+    ghost named: { name < length model.now.names },
+}
+
+impl Search for Averaging<'_> {
+    type Cert = MeanBoundsCert;
+
+    ghost is_sized = { λ p cert. HasMeanSizes p.model.now cert };
+
+    ghost is_held = { λ p cert. IsHeldMean p.dir p.model.now p.name cert };
+
+    fn near(&self, alloc: Global, _digits: u32) -> Result<MeanBoundsCert, Memory> {
+        trivial_mean(alloc, self.model, self.name)
+    }
+
+    fn simplest(
+        &self,
+        alloc: Global,
+        cert: &MeanBoundsCert,
+        digits: u32,
+    ) -> Result<MeanBoundsCert, Memory> {
+        let exact = simplest_mean(alloc, self.model, cert, digits)?;
+        Ok(exact)
+    }
+
+    fn holds(&self, cert: &MeanBoundsCert) -> bool {
+        matches!(
+            holds_bounds_mean(self.model, self.name, self.dir, cert),
+            Verdict::Yes
+        )
+    }
+
+    fn trivial(&self, alloc: Global) -> Result<MeanBoundsCert, Memory> {
+        trivial_mean(alloc, self.model, self.name)
+    }
+}
+
+/// Bounds of the greatest or the least mean payoff of the name of place `name`, in units of that reward, with a policy, two relative values for each
+/// state and their spread: exact gains, where the simplest fractions between the bounds that the search proposes, with so many digits or with the most,
+/// are such; else these bounds, with so many digits or fewer; else the least and the greatest reward. They always meet the rules. An `Err` is want of
+/// memory.
+pub fn bounds_mean(
+    alloc: Global,
+    model: &Model,
+    name: u32,
+    dir: Dir,
+    digits: u32,
+) -> Result<MeanBoundsCert, Memory>
+    requires { name < length model.now.names }
+    ensures rules { IfOk result (λ cert. IsMeanBounds dir model.now name cert.lower.items cert.upper.items cert.bound.items cert.bias.items cert.spread cert.choices.items) }
+    ensures lower { IfOk result (λ cert. length cert.lower.items ≡ states_of model.now) }
+    ensures upper { IfOk result (λ cert. length cert.upper.items ≡ states_of model.now) }
+    ensures bound { IfOk result (λ cert. length cert.bound.items ≡ states_of model.now) }
+    ensures bias { IfOk result (λ cert. length cert.bias.items ≡ states_of model.now) }
+    ensures choices { IfOk result (λ cert. length cert.choices.items ≡ states_of model.now) }
+{
+    let search = Averaging { model, name, dir };
+    bounds_by(alloc, &search, digits)
+}

@@ -1,0 +1,95 @@
+ghost use Rattle.std.specs.Prelude.{◌≡◌, ◌<◌, false, length, IfOk};
+ghost use Rattle.mdp_spec.specs.Mdp.{states_of};
+ghost use Rattle.mdp_rows.specs.Negative.{has_negative};
+ghost use Rattle.mdp_bounds.specs.Reward.{IsRewardBounds};
+ghost use Rattle.mdp_search_bounds.specs.Held.{HasRewardSizes, IsHeldReward};
+
+use crate::ladder::{Search, bounds_by};
+use crate::simplest::simplest_reward;
+use mdp_bounds::{RewardBoundsCert, Verdict, holds_bounds_reward};
+use mdp_near::near_reward;
+use mdp_num::Memory;
+use mdp_rows::{Dir, Marks, Model};
+use mdp_trivial_bounds::trivial_reward;
+use std::alloc::Global;
+
+/// The search for bounds of the reward of a name until a goal.
+#[derive(Clone, Copy)]
+struct Earning<'m, 'g> {
+    model: &'m Model,
+    name: u32,
+    goals: &'g Marks,
+    dir: Dir,
+    ghost named: { name < length model.now.names },
+    ghost goals_each: { length goals.now ≡ states_of model.now },
+    ghost none_negative: { has_negative model.now name ≡ false },
+}
+
+impl Search for Earning<'_, '_> {
+    type Cert = RewardBoundsCert;
+
+    ghost is_sized = { λ p cert. HasRewardSizes p.model.now cert };
+
+    ghost is_held = { λ p cert. IsHeldReward p.dir p.model.now p.name p.goals.now cert };
+
+    fn near(&self, alloc: Global, digits: u32) -> Result<RewardBoundsCert, Memory> {
+        near_reward(
+            alloc,
+            self.model,
+            self.name,
+            self.goals,
+            self.dir,
+            digits,
+        )
+    }
+
+    fn simplest(
+        &self,
+        alloc: Global,
+        cert: &RewardBoundsCert,
+        _digits: u32,
+    ) -> Result<RewardBoundsCert, Memory> {
+        let exact = simplest_reward(alloc, self.model, cert)?;
+        Ok(exact)
+    }
+
+    fn holds(&self, cert: &RewardBoundsCert) -> bool {
+        matches!(
+            holds_bounds_reward(self.model, self.name, self.goals, self.dir, cert),
+            Verdict::Yes
+        )
+    }
+
+    fn trivial(&self, alloc: Global) -> Result<RewardBoundsCert, Memory> {
+        trivial_reward(alloc, self.model, self.name, self.goals, self.dir)
+    }
+}
+
+/// Bounds of the greatest or the least reward of the name of place `name` until a goal, in units of that reward, with a policy and ranks: exact values,
+/// where the simplest fractions between the bounds that the search proposes, with so many digits or with the most, are such; else these bounds, with so
+/// many digits or fewer; else 0 and infinite. They always meet the rules. An `Err` is want of memory.
+pub fn bounds_reward(
+    alloc: Global,
+    model: &Model,
+    name: u32,
+    goals: &Marks,
+    dir: Dir,
+    digits: u32,
+) -> Result<RewardBoundsCert, Memory>
+    requires name { name < length model.now.names }
+    requires goals { length goals.now ≡ states_of model.now }
+    requires none_negative { has_negative model.now name ≡ false }
+    ensures rules { IfOk result (λ cert. IsRewardBounds dir model.now name goals.now cert.lower.items cert.upper.items cert.choices.items cert.ranks.items) }
+    ensures lower { IfOk result (λ cert. length cert.lower.items ≡ states_of model.now) }
+    ensures upper { IfOk result (λ cert. length cert.upper.items ≡ states_of model.now) }
+    ensures choices { IfOk result (λ cert. length cert.choices.items ≡ states_of model.now) }
+    ensures ranks { IfOk result (λ cert. length cert.ranks.items ≡ states_of model.now) }
+{
+    let search = Earning {
+        model,
+        name,
+        goals,
+        dir,
+    };
+    bounds_by(alloc, &search, digits)
+}
