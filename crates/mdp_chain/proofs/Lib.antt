@@ -2,3 +2,5 @@ pub mod Chains
 pub mod Handed
 pub mod Trees
 pub mod Owned
+pub mod Rewards
+mod Examples
