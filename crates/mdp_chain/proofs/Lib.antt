@@ -1,0 +1,6 @@
+pub mod Chains
+pub mod Handed
+pub mod Trees
+pub mod Owned
+pub mod Rewards
+mod Examples

@@ -1,0 +1,14 @@
+use Rattle.std.proofs.Common.{◌≡◌, IsTrue, drop}
+use Rattle.mdp_spec.specs.Mdp.{row_at}
+use Rattle.mdp_rows.specs.Draft.{has_state, has_choice}
+use Rattle.mdp_rows.specs.Head.{IsSameHead}
+use Rattle.mdp_rows.specs.Replay.{with_entries}
+use Rattle.mdp_chain.proofs.chain.give_entries.Given as goal
+
+abbrev pub invariant-loop-i : goal.invariant-loop-i
+invariant-loop-i l = record {
+  given : with_entries (drop l.i (row_at l.model l.s l.c)) l.builder ≡ with_entries (row_at l.model l.s l.c) l.fn.builder;
+  same : IsSameHead l.fn.builder l.builder;
+  state_open : IsTrue (has_state l.builder);
+  choice_open : IsTrue (has_choice l.builder);
+}

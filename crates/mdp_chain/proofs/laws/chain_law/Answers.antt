@@ -1,0 +1,17 @@
+use Rattle.mdp_chain.proofs.Chains.{is_chain}
+use Rattle.mdp_chain.proofs.Trees.{trees_are_own}
+use Rattle.mdp_chain.proofs.Owned.{reach_is_own, bounds_are_own, mean_is_own, bounded_is_own, discount_is_own}
+use Rattle.mdp_chain.proofs.Rewards.{reward_is_own}
+use Rattle.mdp_chain.proofs.laws.chain_law.Goals as goal
+
+pub returns : goal.returns
+returns c = record {
+  chain = is_chain;
+  trees = trees_are_own;
+  reach = reach_is_own;
+  bounds = bounds_are_own;
+  reward = reward_is_own;
+  mean = mean_is_own;
+  bounded = bounded_is_own;
+  discount = discount_is_own;
+}

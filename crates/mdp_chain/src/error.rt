@@ -1,0 +1,33 @@
+use mdp_num::Memory;
+use std::alloc::AllocError;
+
+/// Why there is no chain.
+#[derive(Clone, Copy, Debug, PartialEq, Eq)]
+pub enum ChainError {
+    /// At some state the choice isn't one of the state's.
+    NoChoice,
+    /// Memory was refused.
+    Memory,
+}
+
+impl From<AllocError> for ChainError {
+    ghost use Rattle.std.specs.Prelude.{◌≡◌};
+    ghost use Rattle.mdp_chain.specs.declared.error.ChainError.TheVariants as variant;
+
+    ghost from_gives = { λ _ e. e ≡ variant.Memory };
+
+    fn from(_error: AllocError) -> ChainError {
+        ChainError::Memory
+    }
+}
+
+impl From<Memory> for ChainError {
+    ghost use Rattle.std.specs.Prelude.{◌≡◌};
+    ghost use Rattle.mdp_chain.specs.declared.error.ChainError.TheVariants as variant;
+
+    ghost from_gives = { λ _ e. e ≡ variant.Memory };
+
+    fn from(_error: Memory) -> ChainError {
+        ChainError::Memory
+    }
+}
