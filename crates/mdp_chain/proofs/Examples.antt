@@ -1,5 +1,5 @@
 -- Small chains, computed.
-use Rattle.std.proofs.Common.{◌≡◌, ℕ, ◌≤◌, List, [], ◌∷◌, refl, pos, arith}
+use Rattle.std.proofs.Common.{◌≡◌, ℕ, List, [], ◌∷◌, refl, pos, arith}
 use Rattle.std.specs.Prelude.{codes}
 use Rattle.mdp_math.specs.Rational.{ℚ, of_int, ratio}
 use Rattle.mdp_spec.specs.Mdp.{Entry, Choice, State, Mdp}

@@ -12,14 +12,14 @@ use Rattle.mdp_spec.specs.Row.{IsMdp}
 use Rattle.mdp_spec.specs.Tree.{IsStrategy, IsPolicy, unfolded}
 use Rattle.mdp_spec.specs.Hit.{hit}
 use Rattle.mdp_spec.specs.Pay.{pay, Enters}
-use Rattle.mdp_spec.specs.Bounds.{part, reward_at, greatest_finite, infinite, MaxFinite, MaxInfinite, MaxValue, RewardMax, MinFinite, MinInfinite, MinValue, RewardMin}
+use Rattle.mdp_spec.specs.Bounds.{part, reward_at, greatest_finite, infinite, MaxFinite, MaxInfinite, MaxValue, MinFinite, MinInfinite, MinValue, RewardMin}
 use Rattle.mdp_spec.proofs.Keeping.{unfolded_is_strategy}
 use Rattle.mdp_spec.proofs.Values.{none_of_infinite, greatest_finite-nonneg}
 use Rattle.mdp_spec.proofs.Pays.{near_enough}
 use Rattle.mdp_spec.proofs.Trapped.{misses_of_enters}
 use Rattle.mdp_chain.specs.Chain.{chain_of}
 use Rattle.mdp_chain.specs.Laws.{RewardIsOwn}
-use Rattle.mdp_chain.specs.Own.{OwnFinite, OwnInfinite, OwnValue}
+use Rattle.mdp_chain.specs.Own.{OwnValue}
 use Rattle.mdp_chain.proofs.Chains.{chain_is_mdp}
 use Rattle.mdp_chain.proofs.Trees.{pays_kept}
 use Rattle.mdp_chain.proofs.Owned.{inside, tree_of, hit_same}
