@@ -8,7 +8,7 @@ use Rattle.mdp_num.specs.Numeral.{parts_of, numeral_of}
 use Rattle.mdp_num.specs.Value.{spelling}
 use Rattle.mdp_rows.specs.declared.rule.RowRule.TheVariants.{Exact, Scaled}
 use Rattle.mdp_rows.specs.declared.dir.Dir.TheVariants.{Max, Min}
-use Rattle.mdp_job.specs.Job.{reach, reward, mean, solve, witness, check, drill, horizon, policy, discount, discount_check, bounds, bounds_check}
+use Rattle.mdp_job.specs.Job.{reach, reward, mean, solve, witness, check, drill, horizon, policy, chain, discount, discount_check, bounds, bounds_check}
 use Rattle.mdp_job.specs.Refusal.{no_job, query_init, below}
 use Rattle.mdp_job.specs.Status.{code_of, status_of}
 use Rattle.mdp_job.specs.Text.{text_of}
@@ -123,6 +123,16 @@ policy_rows = refl
 
 policy_objective : job_of_texts (codes "policy" ∷ codes "m" ∷ codes "exact" ∷ codes "p" ∷ codes "reward" ∷ codes "goal" ∷ []) ≡ Err Objective
 policy_objective = refl
+
+-- `chain`: the number of words, then the row rule
+a_chain : job_of_texts (codes "chain" ∷ codes "m" ∷ codes "exact" ∷ codes "p" ∷ []) ≡ Ok (chain Exact)
+a_chain = refl
+
+chain_words : job_of_texts (codes "chain" ∷ codes "m" ∷ codes "EXACT" ∷ []) ≡ Err Number
+chain_words = refl
+
+chain_rows : job_of_texts (codes "chain" ∷ codes "m" ∷ codes "EXACT" ∷ codes "p" ∷ []) ≡ Err Rows
+chain_rows = refl
 
 -- `witness`: the number of words, the row rule, the direction, then the threshold
 a_witness : job_of_texts (codes "witness" ∷ codes "m" ∷ codes "exact" ∷ codes "min" ∷ codes "goal" ∷ codes "0.50" ∷ []) ≡ Ok (witness Exact Min (codes "goal") (ratio (pos 1) 2))

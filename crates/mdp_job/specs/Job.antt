@@ -6,7 +6,7 @@ use Rattle.mdp_rows.specs.declared.rule.RowRule.{RowRule}
 use Rattle.mdp_job.specs.declared.job.Query.{Query}
 use Rattle.mdp_job.specs.declared.job.Query.TheVariants as query
 use Rattle.mdp_job.specs.declared.job.Job.{Job}
-use Rattle.mdp_job.specs.declared.job.Job.TheVariants.{Bounds, BoundsCheck, Check, Discount, DiscountCheck, Drill, Horizon, Policy, Solve, Witness}
+use Rattle.mdp_job.specs.declared.job.Job.TheVariants.{Bounds, BoundsCheck, Chain, Check, Discount, DiscountCheck, Drill, Horizon, Policy, Solve, Witness}
 use Rattle.mdp_job.specs.declared.files.Files.{Files}
 use Rattle.mdp_job.specs.declared.words_error.WordsError.{WordsError}
 
@@ -29,6 +29,8 @@ pub data PlainJob : Type 0 where
   horizon : RowRule → Dir → Option (List ℕ) → List ℕ → ℕ → PlainJob
   -- the probabilities with which a given policy reaches a label, and where another choice is better
   policy : RowRule → List ℕ → PlainJob
+  -- the model in which each state keeps only the choice that a given policy names
+  chain : RowRule → PlainJob
   -- the best reward of a name, in the direction, each step discounted by the factor
   discount : RowRule → Dir → List ℕ → ℚ → PlainJob
   -- whether a certificate of discounted rewards holds
@@ -56,6 +58,7 @@ plain_job (Check rule) = check rule
 plain_job (Drill number layers width) = drill number layers width
 plain_job (Horizon rule dir stay label steps) = horizon rule dir (option_map (λ name. name.now) stay) label.now steps
 plain_job (Policy rule label) = policy rule label.now
+plain_job (Chain rule) = chain rule
 plain_job (Discount rule dir name factor) = discount rule dir name.now factor
 plain_job (DiscountCheck rule) = discount_check rule
 plain_job (Bounds rule dir query digits) = bounds rule dir (plain_query query) digits
@@ -75,6 +78,7 @@ files_of (Ok (check rule)) = record { model = Some 1; second = Some 3 }
 files_of (Ok (drill number layers width)) = record { model = None; second = None }
 files_of (Ok (horizon rule dir stay label steps)) = record { model = Some 1; second = None }
 files_of (Ok (policy rule label)) = record { model = Some 1; second = Some 3 }
+files_of (Ok (chain rule)) = record { model = Some 1; second = Some 3 }
 files_of (Ok (discount rule dir name factor)) = record { model = Some 1; second = None }
 files_of (Ok (discount_check rule)) = record { model = Some 1; second = Some 3 }
 files_of (Ok (bounds rule dir query digits)) = record { model = Some 1; second = None }

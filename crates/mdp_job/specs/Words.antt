@@ -7,6 +7,7 @@
 --     drill NUMBER LAYERS WIDTH
 --     horizon MODEL ROWS DIR A B STEPS
 --     policy MODEL ROWS POLICY reach LABEL
+--     chain MODEL ROWS POLICY
 --     discount MODEL ROWS DIR NAME FACTOR
 --     discount-check MODEL ROWS CERT
 --     bounds MODEL ROWS DIR reach LABEL DIGITS
@@ -30,7 +31,7 @@ use Rattle.mdp_rows.specs.declared.dir.Dir.{Dir}
 use Rattle.mdp_rows.specs.declared.dir.Dir.TheVariants.{Max, Min}
 use Rattle.mdp_rows.specs.declared.rule.RowRule.{RowRule}
 use Rattle.mdp_rows.specs.declared.rule.RowRule.TheVariants.{Exact, Scaled}
-use Rattle.mdp_job.specs.Job.{PlainQuery, reach, reward, mean, solve, witness, check, drill, horizon, policy, discount, discount_check, bounds, bounds_check, Asked}
+use Rattle.mdp_job.specs.Job.{PlainQuery, reach, reward, mean, solve, witness, check, drill, horizon, policy, chain, discount, discount_check, bounds, bounds_check, Asked}
 use Rattle.mdp_job.specs.declared.words_error.WordsError.{WordsError}
 use Rattle.mdp_job.specs.declared.words_error.WordsError.TheVariants.{Command, Number, Rows, Direction, Objective, Threshold, Drill, Steps, Factor, Digits}
 
@@ -129,6 +130,10 @@ policy_of words =
     then (rule_of (word_at words 1) >>= (λ rule. if bytes_eq (word_at words 3) (codes "reach") then Ok (policy rule (word_at words 4)) else Err Objective))
     else Err Number
 
+-- the words behind `chain`
+abbrev pub chain_of : List (List ℕ) → Asked
+chain_of words = if length words == 3 then (rule_of (word_at words 1) >>= λ rule. Ok (chain rule)) else Err Number
+
 -- a numeral below 1, as a value of a model's row is spelled
 abbrev pub below_one : Result ℚ NumeralError → Result ℚ WordsError
 below_one (Ok f) = if lt_ℚ f (of_int (pos 1)) then Ok f else Err Factor
@@ -186,10 +191,11 @@ abbrev pub other_of : List ℕ → List (List ℕ) → Asked
 other_of command words =
     if bytes_eq command (codes "horizon") then horizon_of words
     else (if bytes_eq command (codes "policy") then policy_of words
+    else (if bytes_eq command (codes "chain") then chain_of words
     else (if bytes_eq command (codes "discount") then discount_of words
     else (if bytes_eq command (codes "discount-check") then discount_check_of words
     else (if bytes_eq command (codes "bounds") then bounds_of words
-    else (if bytes_eq command (codes "bounds-check") then bounds_check_of words else Err Command)))))
+    else (if bytes_eq command (codes "bounds-check") then bounds_check_of words else Err Command))))))
 
 -- a command, and the words behind it
 abbrev pub job_by : List ℕ → List (List ℕ) → Asked

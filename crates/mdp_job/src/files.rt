@@ -29,6 +29,7 @@ pub fn files_of(words: &[String]) -> Files
         Ok(
             Job::Check { .. }
             | Job::Policy { .. }
+            | Job::Chain { .. }
             | Job::DiscountCheck { .. }
             | Job::BoundsCheck { .. },
         ) => Files {

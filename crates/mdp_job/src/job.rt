@@ -4,7 +4,7 @@ ghost use Rattle.std.specs.String.{string_bytes};
 ghost use Rattle.mdp_math.specs.Rational.{of_int, lt_ℚ};
 ghost use Rattle.mdp_job.specs.Job.{asked, plain_query};
 ghost use Rattle.mdp_job.specs.Words.{job_of, rule_of, dir_of, reach_of, reward_of, mean_of, query_of, solve_of, threshold_of, witness_of, check_of, drill_by};
-ghost use Rattle.mdp_job.specs.Words.{drill_of, stay_of, steps_of, horizon_of, policy_of, factor_of, discount_of, discount_check_of, digits_of, bounds_query_of, bounds_digits_of, bounds_of};
+ghost use Rattle.mdp_job.specs.Words.{drill_of, stay_of, steps_of, horizon_of, policy_of, chain_of, factor_of, discount_of, discount_check_of, digits_of, bounds_query_of, bounds_digits_of, bounds_of};
 ghost use Rattle.mdp_job.specs.Words.{bounds_check_of, other_of, job_by};
 
 use crate::digits::whole_word;
@@ -65,6 +65,11 @@ pub enum Job<'a> {
     Policy {
         rule: RowRule,
         label: &'a [u8],
+    },
+    /// `chain MODEL ROWS POLICY`: the model in which each state keeps only the choice that the policy names. POLICY is the text of a policy, or of a
+    /// certificate that names one.
+    Chain {
+        rule: RowRule,
     },
     /// `discount MODEL ROWS DIR NAME FACTOR`: the best reward of this name, without end, where each step counts the factor less than the one before it;
     /// the factor is at least 0 and below 1.
@@ -280,6 +285,17 @@ fn policy_of<'a>(words: &'a [String]) -> Result<Job<'a>, WordsError>
     })
 }
 
+/// The job that the words behind `chain` are.
+fn chain_of<'a>(words: &'a [String]) -> Result<Job<'a>, WordsError>
+    ensures { asked result ≡ chain_of (map string_bytes words.now) }
+{
+    let [_, rows, _] = words else {
+        return Err(WordsError::Number);
+    };
+    let rule = rule_of(rows.as_str())?;
+    Ok(Job::Chain { rule })
+}
+
 /// Whether a fraction is below 1.
 fn is_below_one(factor: &Frac) -> bool
     ensures { result ≡ lt_ℚ factor.now (of_int (pos 1)) }
@@ -435,6 +451,7 @@ fn other_of<'a>(command: &str, words: &'a [String]) -> Result<Job<'a>, WordsErro
     match command {
         "horizon" => horizon_of(words),
         "policy" => policy_of(words),
+        "chain" => chain_of(words),
         "discount" => discount_of(words),
         "discount-check" => discount_check_of(words),
         "bounds" => bounds_of(words),
