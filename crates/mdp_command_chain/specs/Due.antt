@@ -6,7 +6,7 @@ use Rattle.mdp_spec.specs.Tree.{IsPolicy}
 use Rattle.mdp_drn.specs.Lines.{begins_with}
 use Rattle.mdp_drn.specs.Writing.{text_of}
 use Rattle.mdp_text.specs.declared.error.Refusal as text
-use Rattle.mdp_cert.specs.Cert.{PlainBody, bounds, policy, rewards, gains, flow, floor}
+use Rattle.mdp_cert.specs.Cert.{PlainBody}
 use Rattle.mdp_cert.specs.Cert as cert
 use Rattle.mdp_cert.specs.Reading as cert_text
 use Rattle.mdp_bounds_text.specs.Cert.{PlainBounds}
@@ -24,12 +24,12 @@ use Rattle.mdp_chain.specs.Chain.{chain_of, NamesNoChoice}
 
 -- a certificate of an upper bound names none, and neither does one of a subsystem
 abbrev pub choices_of_body : PlainBody → Result (List ℕ) PlainRefusal
-choices_of_body (bounds values) = Err query_choice
-choices_of_body (policy values choices ranks) = Ok choices
-choices_of_body (rewards values choices ranks) = Ok choices
-choices_of_body (gains gain bound bias choices spread) = Ok choices
-choices_of_body (flow kept wide flows) = Err query_choice
-choices_of_body (floor kept wide values ranks) = Err query_choice
+choices_of_body (cert.bounds values) = Err query_choice
+choices_of_body (cert.policy values choices ranks) = Ok choices
+choices_of_body (cert.rewards values choices ranks) = Ok choices
+choices_of_body (cert.gains gain bound bias choices spread) = Ok choices
+choices_of_body (cert.flow kept wide flows) = Err query_choice
+choices_of_body (cert.floor kept wide values ranks) = Err query_choice
 
 abbrev pub choices_of_bounds : PlainBounds → List ℕ
 choices_of_bounds (bounds.probabilities low high choices ranks) = choices
