@@ -4,7 +4,7 @@ use Rattle.mdp_math.specs.Rational.{ℚ}
 use Rattle.mdp_spec.specs.Mdp.{Mdp}
 use Rattle.mdp_rows.specs.declared.dir.Dir.{Dir}
 use Rattle.mdp_drn.specs.FromSource.{HadLeft}
-use Rattle.mdp_job.specs.Job.{PlainQuery, solve, witness, check, drill, horizon, policy, discount, discount_check, bounds, bounds_check, Asked, reads_model, reads_second}
+use Rattle.mdp_job.specs.Job.{PlainQuery, solve, witness, check, drill, horizon, policy, chain, discount, discount_check, bounds, bounds_check, Asked, reads_model, reads_second}
 use Rattle.mdp_job.specs.Refusal.{PlainRefusal, read_model, read_certificate, no_memory}
 use Rattle.mdp_job.specs.declared.status.Status.{Status}
 use Rattle.mdp_job.specs.declared.status.Status.TheVariants as status
@@ -24,6 +24,8 @@ use Rattle.mdp_command_drill.proofs.Drilled.{due-once}
 use Rattle.mdp_command_horizon.specs.Due.{IsHorizonDue}
 use Rattle.mdp_command_policy.specs.Due.{IsPolicyDue}
 use Rattle.mdp_command_policy.proofs.Due.{policy_once}
+use Rattle.mdp_command_chain.specs.Due.{IsChainDue}
+use Rattle.mdp_command_chain.proofs.Due.{chain_once}
 use Rattle.mdp_discount.proofs.OneEnd.{one_query_end}
 use Rattle.mdp_command_discount.specs.Due.{IsDiscountDue}
 use Rattle.mdp_command_discount.proofs.Solved.{discount_once}
@@ -47,6 +49,10 @@ value_once : (label : List ℕ) (other : List ℕ) (read : Result Mdp PlainRefus
     → IsDueToModel (λ m. IsPolicyDue label m other) read again → said ≡ again
 value_once label other (Ok m) said again d e = policy_once label m other said again d e
 value_once label other (Err r) said again d e = d ∙ sym e
+
+made_once : (other : List ℕ) (read : Result Mdp PlainRefusal) (said again : Said) → IsDueToModel (λ m. IsChainDue m other) read said → IsDueToModel (λ m. IsChainDue m other) read again → said ≡ again
+made_once other (Ok m) said again d e = chain_once m other said again d e
+made_once other (Err r) said again d e = d ∙ sym e
 
 discounted_once : (dir : Dir) (name : List ℕ) (f : ℚ) (read : Result Mdp PlainRefusal) (said again : Said) → IsDueToModel (IsDiscountDue dir name f) read said
     → IsDueToModel (IsDiscountDue dir name f) read again → said ≡ again
@@ -105,6 +111,11 @@ due_done once found (Ok (policy rule label)) model second m s n t text said hn h
     value_once label s (model_due rule m) said (Ok text)
     (subst (λ (x : List ℕ). IsDueToModel (λ k. IsPolicyDue label k x) (model_due rule m) said) (had_told true second s t ts ht refl)
     (subst (λ (x : List ℕ). IsDueToModel (λ k. IsPolicyDue label k t) (model_due rule x) said) (had_told true model m n tm hn refl) due)) due_text)
+due_done once found (Ok (chain rule)) model second m s n t text said hn ht due tm ts due_text =
+    done_of said text (
+    made_once s (model_due rule m) said (Ok text)
+    (subst (λ (x : List ℕ). IsDueToModel (λ k. IsChainDue k x) (model_due rule m) said) (had_told true second s t ts ht refl)
+    (subst (λ (x : List ℕ). IsDueToModel (λ k. IsChainDue k t) (model_due rule x) said) (had_told true model m n tm hn refl) due)) due_text)
 due_done once found (Ok (discount rule dir name factor)) model second m s n t text said hn ht due tm ts due_text =
     done_of said text (
     discounted_once dir name factor (model_due rule m) said (Ok text)

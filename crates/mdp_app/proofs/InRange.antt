@@ -18,7 +18,7 @@ use Rattle.mdp_discount_rules.specs.Rules.{IsFactor}
 use Rattle.mdp_app.specs.InRange.{IsInRange, asked_for}
 use Rattle.mdp_job.specs.Job.{PlainJob, solve, witness, check, drill, horizon, policy, discount, Asked}
 use Rattle.mdp_job.specs.Words.{rows_of, word_at, rule_of, dir_of, check_of, query_of, solve_of, whole_word, can_draw, drill_by, drill_with, drill_of}
-use Rattle.mdp_job.specs.Words.{threshold_by, threshold_of, witness_of, steps_of, horizon_of, policy_of, below_one, factor_of, discount_of}
+use Rattle.mdp_job.specs.Words.{threshold_by, threshold_of, witness_of, steps_of, horizon_of, policy_of, chain_of, below_one, factor_of, discount_of}
 use Rattle.mdp_job.specs.Words.{discount_check_of, bounds_query_of, bounds_digits_of, bounds_of, bounds_check_of, job_of_texts, job_of}
 use Rattle.mdp_job.specs.declared.words_error.WordsError.{WordsError}
 use Rattle.mdp_job.specs.declared.words_error.WordsError.TheVariants.{Command, Number, Objective, Drill, Factor}
@@ -111,6 +111,9 @@ policy_in_range words =
     either (length words == 5) _ (Err Number)
     (bind (rule_of (word_at words 1)) _ (λ rule. either (bytes_eq (word_at words 3) (codes "reach")) (Ok (policy rule (word_at words 4))) (Err Objective) tt tt)) tt
 
+chain_in_range : (words : List (List ℕ)) → IsInRange (chain_of words)
+chain_in_range words = bind (rows_of words) _ (λ rule. tt)
+
 discount_in_range : (words : List (List ℕ)) → IsInRange (discount_of words)
 discount_in_range words =
     either (length words == 5) _ (Err Number)
@@ -134,10 +137,11 @@ texts_in_range (command ∷ words) =
     either (bytes_eq command (codes "solve")) (solve_of words) _ (solve_in_range words) (either (bytes_eq command (codes "witness")) (witness_of words) _ (witness_in_range words) (
     either (bytes_eq command (codes "check")) (check_of words) _ (check_in_range words) (
     either (bytes_eq command (codes "drill")) (drill_of words) _ (drill_in_range words) (either (bytes_eq command (codes "horizon")) (horizon_of words) _ (horizon_in_range words) (
-    either (bytes_eq command (codes "policy")) (policy_of words) _ (policy_in_range words) (either (bytes_eq command (codes "discount")) (discount_of words) _ (discount_in_range words) (
+    either (bytes_eq command (codes "policy")) (policy_of words) _ (policy_in_range words) (
+    either (bytes_eq command (codes "chain")) (chain_of words) _ (chain_in_range words) (either (bytes_eq command (codes "discount")) (discount_of words) _ (discount_in_range words) (
     either (bytes_eq command (codes "discount-check")) (discount_check_of words) _ (discount_check_in_range words) (
     either (bytes_eq command (codes "bounds")) (bounds_of words) _ (bounds_in_range words) (
-    either (bytes_eq command (codes "bounds-check")) (bounds_check_of words) (Err Command) (bounds_check_in_range words) tt)))))))))
+    either (bytes_eq command (codes "bounds-check")) (bounds_check_of words) (Err Command) (bounds_check_in_range words) tt))))))))))
 
 -- a job that words ask for
 pub in_range_of : (words : List (String Global)) (job : PlainJob) → asked_for job ≡ job_of words → IsInRange (asked_for job)

@@ -2,7 +2,7 @@
 use Rattle.std.specs.Prelude.{◌≡◌, true, Ok, Err, pos}
 use Rattle.mdp_math.specs.Rational.{of_int, ◌≤ℚ◌}
 use Rattle.mdp_discount_rules.specs.Rules.{IsFactor}
-use Rattle.mdp_job.specs.Job.{PlainJob, solve, witness, check, drill, horizon, policy, discount, discount_check, bounds, bounds_check, Asked}
+use Rattle.mdp_job.specs.Job.{PlainJob, solve, witness, check, drill, horizon, policy, chain, discount, discount_check, bounds, bounds_check, Asked}
 use Rattle.mdp_job.specs.Words.{can_draw}
 
 -- the numbers of a drill can be drawn, the factor of discounted rewards is from 0 on and below 1, and the threshold of a witness is at least 0
@@ -13,6 +13,7 @@ IsInRange (Ok (check rule)) = Unit {0}
 IsInRange (Ok (drill number layers width)) = can_draw number layers width ≡ true
 IsInRange (Ok (horizon rule dir stay label steps)) = Unit {0}
 IsInRange (Ok (policy rule label)) = Unit {0}
+IsInRange (Ok (chain rule)) = Unit {0}
 IsInRange (Ok (discount rule dir name factor)) = IsFactor factor
 IsInRange (Ok (discount_check rule)) = Unit {0}
 IsInRange (Ok (bounds rule dir query digits)) = Unit {0}

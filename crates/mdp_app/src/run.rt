@@ -10,6 +10,7 @@ ghost use Rattle.mdp_app.specs.Decided.{IsDecided};
 use mdp_checking::{CertificateKind, check_files};
 use mdp_command::written;
 use mdp_command_bounds_search::bounds_file;
+use mdp_command_chain::chain_file;
 use mdp_command_discount::discount_file;
 use mdp_command_drill::drill;
 use mdp_command_horizon::horizon_file;
@@ -57,6 +58,7 @@ fn decided<S: Source, C: Source>(
             steps,
         } => horizon_file(alloc, rule, dir, stay, label, steps, model),
         Job::Policy { rule, label } => policy_file(alloc, rule, label, model, second),
+        Job::Chain { rule } => chain_file(alloc, rule, model, second),
         Job::Discount {
             rule,
             dir,

@@ -56,6 +56,12 @@ returns-in-Policy g c =
     (pair_decided _ _ _ _ _ _ refl refl (λ bytes other said due. due) (λ bytes other text shown. shown) (λ bytes read. read) _ c.policy_file.ensures.read
     c.policy_file.ensures.unread c.policy_file.ensures.model_end c.policy_file.ensures.second_end)
 
+pub returns-in-Chain : goal.returns-in-Chain
+returns-in-Chain g c =
+    decided_as _ _ _ _ _ (sym (ap (λ (job : Job). asked_for (plain_job job)) c.in-Chain.is) ∙ c.in-Ok.ensures)
+    (pair_decided _ _ _ _ _ _ refl refl (λ bytes other said due. due) (λ bytes other text shown. shown) (λ bytes read. read) _ c.chain_file.ensures.read
+    c.chain_file.ensures.unread c.chain_file.ensures.model_end c.chain_file.ensures.second_end)
+
 pub discount_file-requires : goal.discount_file-requires
 discount_file-requires g c = in_range_of c.args.words.now _ (sym (ap (λ (job : Job). asked_for (plain_job job)) c.in-Discount.is) ∙ c.in-Ok.ensures)
 
