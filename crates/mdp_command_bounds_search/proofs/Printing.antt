@@ -23,7 +23,8 @@ use Rattle.mdp_bounds.specs.Reach.{IsReachBounds}
 use Rattle.mdp_bounds.specs.Reward.{IsRewardBounds}
 use Rattle.mdp_bounds.specs.Mean.{IsMeanBounds}
 use Rattle.mdp_text.proofs.InitialState.{initial_below}
-use Rattle.mdp_cert.specs.Cert.{PlainClaim, upper, reach, reward, mean, witness}
+use Rattle.mdp_cert.specs.Cert as certificate
+use Rattle.mdp_cert.specs.Cert.{PlainClaim, reach, reward, mean}
 use Rattle.mdp_cert.specs.Claims.{reward_same}
 use Rattle.mdp_bounds_text.proofs.Bodies.{reach-counts, reward-counts, mean-counts}
 use Rattle.mdp_bounds_text.specs.Cert.{PlainBounds, probabilities, rewards, gains, Certificate, Fits, may_be, is_init_of, is_body_of}
@@ -160,12 +161,12 @@ pub init_inside : (claim : PlainClaim) (n : ℕ) (o : Option ℕ) (body : PlainB
     → is_init_of claim n (init_between o body) ≡ true
 init_inside claim n None body e below = refl
 init_inside claim n (Some s) (probabilities lower upper choices ranks) e below = ap (λ (b : Bool). b && true && true) (lt-ltb s n (below s refl))
-init_inside (upper label) n (Some s) (rewards lower high choices ranks) e below = absurd cc
+init_inside (certificate.upper label) n (Some s) (rewards lower high choices ranks) e below = absurd cc
 init_inside (reach dir label) n (Some s) (rewards lower high choices ranks) e below = absurd cc
 init_inside (reward dir name label) n (Some s) (rewards lower high choices ranks) e below =
     ap₂ (λ (a b : Bool). a && b) (ap₂ (λ (a b : Bool). a && b) (lt-ltb s n (below s refl)) (may_be_reward dir name label (reward_at lower s))) (may_be_reward dir name label (reward_at high s))
 init_inside (mean dir name) n (Some s) (rewards lower high choices ranks) e below = absurd cc
-init_inside (witness dir label threshold) n (Some s) (rewards lower high choices ranks) e below = absurd cc
+init_inside (certificate.witness dir label threshold) n (Some s) (rewards lower high choices ranks) e below = absurd cc
 init_inside claim n (Some s) (gains lower upper bound bias choices spread) e below = ap (λ (b : Bool). b && true && true) (lt-ltb s n (below s refl))
 
 -- ---- the certificate is accepted
