@@ -1,0 +1,4 @@
+pub mod Due
+pub mod Named
+pub mod Shown
+pub mod Laws
