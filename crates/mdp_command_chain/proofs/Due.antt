@@ -1,11 +1,11 @@
 -- One thing is due to the chain of a policy.
-use Rattle.std.proofs.Common.{◌≡◌, ℕ, ◌⊎◌, inl, inr, Bool, true, false, List, length, Result, Ok, Err, refl, sym, ap, subst, ◌∙◌, arith}
+use Rattle.std.proofs.Common.{◌≡◌, ℕ, ◌⊎◌, inl, inr, Bool, true, false, List, length, Result, Ok, Err, refl, sym, ap, subst, eq-eqb, ◌∙◌, arith}
 use Rattle.std.specs.Prelude.{◌==◌}
 use Rattle.mdp_math.specs.Result.{◌>>=◌}
 use Rattle.mdp_spec.specs.Mdp.{Mdp, states_of}
 use Rattle.mdp_spec.specs.Tree.{IsPolicy}
 use Rattle.mdp_drn.specs.Writing.{text_of}
-use Rattle.mdp_job.specs.Refusal.{PlainRefusal, no_memory, query_choice}
+use Rattle.mdp_job.specs.Refusal.{PlainRefusal, no_memory}
 use Rattle.mdp_command.specs.Files.{second_due}
 use Rattle.mdp_command.specs.Said.{Said}
 use Rattle.mdp_chain.specs.Chain.{chain_of, NamesNoChoice}
@@ -35,9 +35,11 @@ chain_once m bytes said again d e = text_once m (choices_due bytes) said again d
 -- ---- what is due to a chain that was made
 
 pub made_due : (m made : Mdp) (policy : List ℕ) (said : Said) → made ≡ chain_of m policy → IsPolicy m policy → (said ≡ Err no_memory) ⊎ (said ≡ Ok (text_of made))
-    → (said ≡ Err no_memory) ⊎ IsChoiceDue m policy said
+    → (said ≡ Err no_memory) ⊎ IsSizeDue m policy (length policy == states_of m) said
 made_due m made policy said same is (inl memory) = inl memory
-made_due m made policy said same is (inr e) = inr (inl (is, e ∙ ap (λ (k : Mdp). let r : Said = Ok (text_of k) in r) same))
+made_due m made policy said same is (inr e) =
+    let due : IsChoiceDue m policy said = inl (is, e ∙ ap (λ (k : Mdp). let r : Said = Ok (text_of k) in r) same) in
+    inr (subst (λ (fits : Bool). IsSizeDue m policy fits said) (sym (eq-eqb (length policy) (states_of m) is.one_each)) due)
 
 -- ---- what is due to the bytes of a file, from what was read of it
 
@@ -53,13 +55,14 @@ read_is_due m said lent text same (inr due) =
 
 -- ---- what is due to choices that were read of a text
 
-pub names_due : (m : Mdp) (said : Said) (policy : List ℕ) (read : Result (List ℕ) PlainRefusal) → (Ok policy ≡ Err no_memory) ⊎ (Ok policy ≡ read)
-    → (said ≡ Err no_memory) ⊎ IsSizeDue m policy (length policy == states_of m) said → (said ≡ Err no_memory) ⊎ IsTextDue m read said
-names_due m said policy read (inl e) due = cc e
-names_due m said policy read (inr e) (inl memory) = inl memory
-names_due m said policy read (inr e) (inr due) = inr (subst (λ (x : Result (List ℕ) PlainRefusal). IsTextDue m x said) e due)
+pub names_due : (m : Mdp) (said : Said) (lent policy : List ℕ) (read : Result (List ℕ) PlainRefusal) → lent ≡ policy → (Ok policy ≡ Err no_memory) ⊎ (Ok policy ≡ read)
+    → (said ≡ Err no_memory) ⊎ IsSizeDue m lent (length lent == states_of m) said → (said ≡ Err no_memory) ⊎ IsTextDue m read said
+names_due m said lent policy read same (inl e) due = cc e
+names_due m said lent policy read same (inr e) (inl memory) = inl memory
+names_due m said lent policy read same (inr e) (inr due) =
+    inr (subst (λ (x : Result (List ℕ) PlainRefusal). IsTextDue m x said) e (subst (λ (p : List ℕ). IsSizeDue m p (length p == states_of m) said) same due))
 
-pub names_refused : (m : Mdp) (r : PlainRefusal) (read : Result (List ℕ) PlainRefusal) → (Err r ≡ Err no_memory) ⊎ (Err r ≡ read)
-    → (let said : Said = Err r in said ≡ Err no_memory) ⊎ IsTextDue m read (Err r)
-names_refused m r read (inl e) = inl (cc e)
-names_refused m r read (inr e) = inr (subst (λ (x : Result (List ℕ) PlainRefusal). IsTextDue m x (Err r)) e refl)
+pub names_refused : (m : Mdp) (said : Said) (r : PlainRefusal) (read : Result (List ℕ) PlainRefusal) → said ≡ Err r → (said ≡ Err no_memory) ⊎ (said ≡ read)
+    → (said ≡ Err no_memory) ⊎ IsTextDue m read said
+names_refused m said r read is (inl e) = inl e
+names_refused m said r read is (inr e) = inr (subst (λ (x : Result (List ℕ) PlainRefusal). IsTextDue m x said) (sym is ∙ e) is)

@@ -1,5 +1,5 @@
 -- Which choices a text names.
-use Rattle.std.proofs.Common.{◌≡◌, ℕ, true, false, List, [], ◌∷◌, Ok, Err, refl, pos}
+use Rattle.std.proofs.Common.{◌≡◌, true, false, [], ◌∷◌, Ok, Err, refl, pos}
 use Rattle.std.specs.Prelude.{codes}
 use Rattle.mdp_math.specs.Rational.{of_int}
 use Rattle.mdp_text.specs.declared.error.CertKind.TheVariants.{Version}

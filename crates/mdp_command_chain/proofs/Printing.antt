@@ -2,10 +2,8 @@
 use Rattle.std.proofs.Common.{◌≡◌, ℕ, ◌≤◌, inl, inr, Bool, true, false, nat_lt, List, length, Result, Ok, Err, IfOk, refl, sym, subst}
 use Rattle.std.specs.Prelude.{◌==◌}
 use Rattle.std.proofs.lemmas.Bool.{ltb-false}
-use Rattle.mdp_math.specs.Result.{◌>>=◌}
 use Rattle.mdp_spec.specs.Mdp.{Mdp, states_of}
 use Rattle.mdp_spec.specs.Tree.{IsPolicy}
-use Rattle.mdp_rows.specs.Limits.{IsModel}
 use Rattle.mdp_rows.specs.declared.rule.RowRule.{RowRule}
 use Rattle.mdp_rows.specs.declared.rule.RowRule.TheVariants.{Exact}
 use Rattle.mdp_drn.specs.Laws.{ReadsAsModel}
@@ -21,7 +19,7 @@ use Rattle.mdp_chain.specs.Laws.{KeepsChoices, TreesAreOwn}
 use Rattle.mdp_chain.proofs.Handed.{chain_is_model}
 use Rattle.mdp_command_chain.specs.Due.{choices_in, choices_due, IsChoiceDue, IsSizeDue, IsTextDue, IsChainDue}
 use Rattle.mdp_command_chain.specs.Laws.{TextIsChain}
-use Rattle.mdp_command_chain.specs.Shown.{IsChainPrinted, IsChainShown}
+use Rattle.mdp_command_chain.specs.Shown.{IsChainShown}
 
 short_second : (bytes text : List ℕ) (long : Bool) → nat_lt most_bytes (length bytes) ≡ long → second_due bytes ≡ Ok text → (length bytes ≤ most_bytes) × (bytes ≡ text)
 short_second bytes text true e is = cc (e, is)
