@@ -8,13 +8,14 @@ use Rattle.mdp_spec.specs.Tree.{IsStrategy, IsPolicy, unfolded}
 use Rattle.mdp_spec.specs.Hit.{hit}
 use Rattle.mdp_spec.specs.Pay.{total}
 use Rattle.mdp_spec.specs.Bounds.{part, whole}
-use Rattle.mdp_spec.specs.Between.{ReachMaxBetween, ReachMinBetween}
+use Rattle.mdp_spec.specs.Between.{ReachMaxBetween, ReachMinBetween, MeanMaxBetween, MeanMinBetween}
 use Rattle.mdp_spec.proofs.Keeping.{unfolded_is_strategy}
+use Rattle.mdp_spec.proofs.Mean.{mean_max_between, mean_min_between}
 use Rattle.mdp_horizon.specs.Until.{until, unfolded_steps, IsTable}
 use Rattle.mdp_horizon.proofs.Backward.{unfolded_steps_fits}
 use Rattle.mdp_discount_rules.specs.Disc.{disc}
 use Rattle.mdp_chain.specs.Chain.{chain_of}
-use Rattle.mdp_chain.specs.Laws.{ReachIsOwn, BoundsAreOwn, MeanIsOwn, BoundedIsOwn, DiscountIsOwn}
+use Rattle.mdp_chain.specs.Laws.{ReachIsOwn, ReachBoundsAreOwn, MeanIsOwn, MeanBoundsAreOwn, BoundedIsOwn, DiscountIsOwn}
 use Rattle.mdp_chain.specs.Own.{OwnReach, OwnMean, OwnBounded}
 use Rattle.mdp_chain.proofs.Chains.{chain-states, chain_is_mdp}
 use Rattle.mdp_chain.proofs.Trees.{hits_kept, totals_kept, untils_kept, discounts_kept}
@@ -56,26 +57,35 @@ module _ (m : Mdp) (policy other : List ℕ) (known : IsMdp m) (is : IsPolicy m 
       → total (chain_of m policy) r 1 n (unfolded (chain_of m policy) other n s) s ≡ total m r 1 n (unfolded m policy n s) s
   total_same r n s takes h = totals_kept r m policy known is 1 n (unfolded (chain_of m policy) other n s) s h (tree_of n s takes h)
 
-  mean_of : (r : ℕ) (g : List ℚ) (spread : ℚ) → IsPolicy (chain_of m policy) other
-      → ((n s : ℕ) → s < states_of (chain_of m policy) → whole n *ℚ value_at g s ≤ℚ total (chain_of m policy) r 1 n (unfolded (chain_of m policy) other n s) s +ℚ spread)
-      → ((n s : ℕ) → s < states_of (chain_of m policy) → total (chain_of m policy) r 1 n (unfolded (chain_of m policy) other n s) s ≤ℚ whole n *ℚ value_at g s +ℚ spread)
-      → OwnMean m r policy g spread
-  mean_of r g spread takes above below = record {
-    above = λ n s h. subst (λ (x : ℚ). whole n *ℚ value_at g s ≤ℚ x +ℚ spread) (total_same r n s takes h) (above n s (inside s h));
-    below = λ n s h. subst (λ (x : ℚ). x ≤ℚ whole n *ℚ value_at g s +ℚ spread) (total_same r n s takes h) (below n s (inside s h));
+  mean_of : (r : ℕ) (lower upper : List ℚ) (spread : ℚ) → IsPolicy (chain_of m policy) other
+      → ((n s : ℕ) → s < states_of m → whole n *ℚ value_at lower s ≤ℚ total (chain_of m policy) r 1 n (unfolded (chain_of m policy) other n s) s +ℚ spread)
+      → ((n s : ℕ) → s < states_of m → total (chain_of m policy) r 1 n (unfolded (chain_of m policy) other n s) s ≤ℚ whole n *ℚ value_at upper s +ℚ spread)
+      → OwnMean m r policy lower upper spread
+  mean_of r lower upper spread takes above below = record {
+    above = λ n s h. subst (λ (x : ℚ). whole n *ℚ value_at lower s ≤ℚ x +ℚ spread) (total_same r n s takes h) (above n s h);
+    below = λ n s h. subst (λ (x : ℚ). x ≤ℚ whole n *ℚ value_at upper s +ℚ spread) (total_same r n s takes h) (below n s h);
   }
 
 pub reach_is_own : ReachIsOwn
 reach_is_own m policy other goals z known is (inl r) = of_max m policy other known is goals z z (record { takes = r.takes; above = r.above; close = r.close })
 reach_is_own m policy other goals z known is (inr r) = of_min m policy other known is goals z z (record { takes = r.takes; below = r.below; close = r.close })
 
-pub bounds_are_own : BoundsAreOwn
-bounds_are_own m policy other goals lower upper known is (inl r) = of_max m policy other known is goals lower upper r
-bounds_are_own m policy other goals lower upper known is (inr r) = of_min m policy other known is goals lower upper r
+pub reach_bounds_are_own : ReachBoundsAreOwn
+reach_bounds_are_own m policy other goals lower upper known is (inl r) = of_max m policy other known is goals lower upper r
+reach_bounds_are_own m policy other goals lower upper known is (inr r) = of_min m policy other known is goals lower upper r
+
+pub mean_bounds_are_own : MeanBoundsAreOwn
+mean_bounds_are_own m policy other r lower upper spread known is (inl w) =
+    mean_of m policy other known is r lower upper spread w.takes (λ n s h. w.reached n s (inside m policy other known is s h))
+    (λ n s h. w.above n 1 (unfolded (chain_of m policy) other n s) s (inside m policy other known is s h) (tree_of m policy other known is n s w.takes h))
+mean_bounds_are_own m policy other r lower upper spread known is (inr w) =
+    mean_of m policy other known is r lower upper spread w.takes
+    (λ n s h. w.below n 1 (unfolded (chain_of m policy) other n s) s (inside m policy other known is s h) (tree_of m policy other known is n s w.takes h))
+    (λ n s h. w.reached n s (inside m policy other known is s h))
 
 pub mean_is_own : MeanIsOwn
-mean_is_own m policy other r g spread known is (inl w) = mean_of m policy other known is r g spread w.takes w.policy_above w.policy_below
-mean_is_own m policy other r g spread known is (inr w) = mean_of m policy other known is r g spread w.takes w.policy_above w.policy_below
+mean_is_own m policy other r g spread known is (inl w) = mean_bounds_are_own m policy other r g g spread known is (inl (mean_max_between (chain_of m policy) r g spread other w))
+mean_is_own m policy other r g spread known is (inr w) = mean_bounds_are_own m policy other r g g spread known is (inr (mean_min_between (chain_of m policy) r g spread other w))
 
 -- ---- bounded until
 

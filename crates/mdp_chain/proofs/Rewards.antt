@@ -12,14 +12,16 @@ use Rattle.mdp_spec.specs.Row.{IsMdp}
 use Rattle.mdp_spec.specs.Tree.{IsStrategy, IsPolicy, unfolded}
 use Rattle.mdp_spec.specs.Hit.{hit}
 use Rattle.mdp_spec.specs.Pay.{pay, Enters}
-use Rattle.mdp_spec.specs.Bounds.{part, reward_at, greatest_finite, infinite, MaxFinite, MaxInfinite, MaxValue, MinFinite, MinInfinite, MinValue, RewardMin}
+use Rattle.mdp_spec.specs.Bounds.{part, reward_at, greatest_finite, infinite, MaxInfinite, MinInfinite}
+use Rattle.mdp_spec.specs.Between.{MaxAtLeast, MaxLower, MaxUpper, MinAtLeast, MinLower, MinUpper, RewardMinBetween}
 use Rattle.mdp_spec.proofs.Keeping.{unfolded_is_strategy}
 use Rattle.mdp_spec.proofs.Values.{none_of_infinite, greatest_finite-nonneg}
 use Rattle.mdp_spec.proofs.Pays.{near_enough}
+use Rattle.mdp_spec.proofs.Reward.{reward_max_between, reward_min_between}
 use Rattle.mdp_spec.proofs.Trapped.{misses_of_enters}
 use Rattle.mdp_chain.specs.Chain.{chain_of}
-use Rattle.mdp_chain.specs.Laws.{RewardIsOwn}
-use Rattle.mdp_chain.specs.Own.{OwnValue}
+use Rattle.mdp_chain.specs.Laws.{RewardIsOwn, RewardBoundsAreOwn}
+use Rattle.mdp_chain.specs.Own.{OwnLower, OwnUpper}
 use Rattle.mdp_chain.proofs.Chains.{chain_is_mdp}
 use Rattle.mdp_chain.proofs.Trees.{pays_kept}
 use Rattle.mdp_chain.proofs.Owned.{inside, tree_of, hit_same}
@@ -30,14 +32,14 @@ clash h q hq missed met =
     let le : part q ≤ℚ part (suc q) = linear 3 (λ h a b. a) (λ h a b. b) (λ h a b. known (h ⊕ a) (lit (pos 1)) ∷ known (lit (pos 1)) (h ⊕ b) ∷ []) refl h (part q) (part (suc q)) missed met in
     let l : 1 * suc q ≤ 1 * q = le-ratio 1 1 q (suc q) hq (omega arith) le in omega (arith, l)
 
--- a policy that shows the least rewards and arrives never enters a state whose reward is infinite
-never_enters : (m : Mdp) (r : ℕ) (goals : List Bool) (policy : List ℕ) (v : List (Option ℚ)) (n s : ℕ) → IsMdp m → RewardMin m r goals policy v → s < states_of m
-    → ((k : ℕ) → 1 ≤ k → (n : ℕ) × (1ℚ ≤ℚ hit m goals 1 n (unfolded m policy n s) s +ℚ part k)) → Enters m goals (infinite v) n (unfolded m policy n s) s → ⊥
-never_enters m r goals policy v n s known_ rules h arrives enters =
+-- a policy that shows lower values of the least rewards and arrives never enters a state whose lower value is infinite
+never_enters : (m : Mdp) (r : ℕ) (goals : List Bool) (policy : List ℕ) (lower upper : List (Option ℚ)) (n s : ℕ) → IsMdp m → RewardMinBetween m r goals policy lower upper → s < states_of m
+    → ((k : ℕ) → 1 ≤ k → (n : ℕ) × (1ℚ ≤ℚ hit m goals 1 n (unfolded m policy n s) s +ℚ part k)) → Enters m goals (infinite lower) n (unfolded m policy n s) s → ⊥
+never_enters m r goals policy lower upper n s known_ rules h arrives enters =
     let missed =
-    misses_of_enters m goals policy known_ rules.takes (infinite v)
+    misses_of_enters m goals policy known_ rules.takes (infinite lower)
     (λ t l marked.
-    let value : MinValue m r goals policy v t None = subst (λ (o : Option ℚ). MinValue m r goals policy v t o) (none_of_infinite v t marked) (rules.value t l) in
+    let value : MinLower m r goals policy lower t None = subst (λ (o : Option ℚ). MinLower m r goals policy lower t o) (none_of_infinite lower t marked) (rules.at_least t l) in
     let q = MinInfinite.misses value in
     (part q.0, ratio-pos 1 q.0 (omega arith) q.1, λ d. q.2 d 1 (unfolded m policy d t) (unfolded_is_strategy m policy d t known_ rules.takes l)))
     n s h enters
@@ -68,38 +70,57 @@ module _ (m : Mdp) (policy other : List ℕ) (known_ : IsMdp m) (is : IsPolicy m
   tree : (n s : ℕ) → s < states_of m → IsStrategy (chain_of m policy) 1 n (unfolded (chain_of m policy) other n s) s
   tree n s h = tree_of m policy other known_ is n s takes h
 
-  of_max : (s : ℕ) → s < states_of m → (o : Option ℚ) → MaxValue (chain_of m policy) r goals other s o → OwnValue m r goals policy s o
-  of_max s h (Some x) c = record {
+  of_max_lower : (s : ℕ) → s < states_of m → (o : Option ℚ) → MaxLower (chain_of m policy) r goals other s o → OwnLower m r goals policy s o
+  of_max_lower s h (Some x) c = record {
     arrives = λ k hk.
-        let a = MaxFinite.arrives c k hk in
+        let a = MaxAtLeast.arrives c k hk in
         (a.0, subst (λ (w : ℚ). 1ℚ ≤ℚ w +ℚ part k) (met_same a.0 s h) (a.1 a.0 1 (unfolded (chain_of m policy) other a.0 s) (omega arith) (tree a.0 s h)));
-    below = λ n. subst (λ (w : ℚ). w ≤ℚ x) (pay_same n s h) (MaxFinite.above c n 1 (unfolded (chain_of m policy) other n s) (tree n s h));
-    close = λ k hk. let a = MaxFinite.close c k hk in (a.0, subst (λ (w : ℚ). x ≤ℚ w +ℚ part k) (pay_same a.0 s h) a.1);
+    close = λ k hk. let a = MaxAtLeast.close c k hk in (a.0, subst (λ (w : ℚ). x ≤ℚ w +ℚ part k) (pay_same a.0 s h) a.1);
   }
-  of_max s h None c = let q = MaxInfinite.misses c in (q.0, q.1, λ n. subst (λ (w : ℚ). w +ℚ part q.0 ≤ℚ 1ℚ) (met_same n s h) (q.2 n))
+  of_max_lower s h None c = let q = MaxInfinite.misses c in (q.0, q.1, λ n. subst (λ (w : ℚ). w +ℚ part q.0 ≤ℚ 1ℚ) (met_same n s h) (q.2 n))
 
-  module _ (v : List (Option ℚ)) (rules : RewardMin (chain_of m policy) r goals other v) where
-    comes_close : (s : ℕ) (x : ℚ) → s < states_of m → MinFinite (chain_of m policy) r goals other v s x → (k : ℕ) → 1 ≤ k → (n : ℕ) × (x ≤ℚ here n s +ℚ part k)
+  of_max_upper : (s : ℕ) → s < states_of m → (o : Option ℚ) → MaxUpper (chain_of m policy) r goals other s o → OwnUpper m r goals policy s o
+  of_max_upper s h (Some y) c = λ n. subst (λ (w : ℚ). w ≤ℚ y) (pay_same n s h) (c n 1 (unfolded (chain_of m policy) other n s) (tree n s h))
+  of_max_upper s h None c = tt
+
+  of_min_upper : (s : ℕ) → s < states_of m → (o : Option ℚ) → MinUpper (chain_of m policy) r goals other s o → OwnUpper m r goals policy s o
+  of_min_upper s h (Some y) c = λ n. subst (λ (w : ℚ). w ≤ℚ y) (pay_same n s h) (c n)
+  of_min_upper s h None c = tt
+
+  module _ (lower upper : List (Option ℚ)) (rules : RewardMinBetween (chain_of m policy) r goals other lower upper) where
+    comes_close : (s : ℕ) (x : ℚ) → s < states_of m → MinAtLeast (chain_of m policy) r goals other lower s x → (k : ℕ) → 1 ≤ k → (n : ℕ) × (x ≤ℚ here n s +ℚ part k)
     comes_close s x h c k hk =
-        let enough = near_enough (greatest_finite v) k (greatest_finite-nonneg v) hk in
-        let met = MinFinite.arrives c enough.0 enough.1 in
+        let enough = near_enough (greatest_finite lower) k (greatest_finite-nonneg lower) hk in
+        let met = MinAtLeast.arrives c enough.0 enough.1 in
         ⊎_elim
-        (λ enters. absurd (never_enters (chain_of m policy) r goals other v met.0 s (chain_is_mdp m policy is known_) rules (inside m policy other known_ is s h) (MinFinite.arrives c) enters))
+        (λ enters.
+        absurd (never_enters (chain_of m policy) r goals other lower upper met.0 s (chain_is_mdp m policy is known_) rules (inside m policy other known_ is s h) (MinAtLeast.arrives c) enters))
         (λ covered. (met.0, subst (λ (w : ℚ). x ≤ℚ w +ℚ part k) (pay_same met.0 s h) (enough.2 x (there met.0 s) (met_there met.0 s) covered met.1)))
-        (MinFinite.covered c met.0 1 (unfolded (chain_of m policy) other met.0 s) (tree met.0 s h))
+        (MinAtLeast.covered c met.0 1 (unfolded (chain_of m policy) other met.0 s) (tree met.0 s h))
 
-    of_min : (s : ℕ) → s < states_of m → (o : Option ℚ) → MinValue (chain_of m policy) r goals other v s o → OwnValue m r goals policy s o
-    of_min s h (Some x) c = record {
-      arrives = λ k hk. let a = MinFinite.arrives c k hk in (a.0, subst (λ (w : ℚ). 1ℚ ≤ℚ w +ℚ part k) (met_same a.0 s h) a.1);
-      below = λ n. subst (λ (w : ℚ). w ≤ℚ x) (pay_same n s h) (MinFinite.below c n);
+    of_min_lower : (s : ℕ) → s < states_of m → (o : Option ℚ) → MinLower (chain_of m policy) r goals other lower s o → OwnLower m r goals policy s o
+    of_min_lower s h (Some x) c = record {
+      arrives = λ k hk. let a = MinAtLeast.arrives c k hk in (a.0, subst (λ (w : ℚ). 1ℚ ≤ℚ w +ℚ part k) (met_same a.0 s h) a.1);
       close = comes_close s x h c;
     }
-    of_min s h None c =
+    of_min_lower s h None c =
         let q = MinInfinite.misses c in
         (q.0, q.1, λ n. subst (λ (w : ℚ). w +ℚ part q.0 ≤ℚ 1ℚ) (met_same n s h) (q.2 n 1 (unfolded (chain_of m policy) other n s) (tree n s h)))
 
+pub reward_bounds_are_own : RewardBoundsAreOwn
+reward_bounds_are_own m policy other r goals lower upper known_ is (inl w) =
+    λ s h.
+    let i = inside m policy other known_ is s h in (
+      of_max_lower m policy other known_ is r goals w.takes s h (reward_at lower s) (w.at_least s i),
+      of_max_upper m policy other known_ is r goals w.takes s h (reward_at upper s) (w.at_most s i),
+    )
+reward_bounds_are_own m policy other r goals lower upper known_ is (inr w) =
+    λ s h.
+    let i = inside m policy other known_ is s h in (
+      of_min_lower m policy other known_ is r goals w.takes lower upper w s h (reward_at lower s) (w.at_least s i),
+      of_min_upper m policy other known_ is r goals w.takes s h (reward_at upper s) (w.at_most s i),
+    )
+
 pub reward_is_own : RewardIsOwn
-reward_is_own m policy other r goals v known_ is (inl w) =
-    λ s h. of_max m policy other known_ is r goals w.takes s h (reward_at v s) (w.value s (inside m policy other known_ is s h))
-reward_is_own m policy other r goals v known_ is (inr w) =
-    λ s h. of_min m policy other known_ is r goals w.takes v w s h (reward_at v s) (w.value s (inside m policy other known_ is s h))
+reward_is_own m policy other r goals v known_ is (inl w) = reward_bounds_are_own m policy other r goals v v known_ is (inl (reward_max_between (chain_of m policy) r goals v other w))
+reward_is_own m policy other r goals v known_ is (inr w) = reward_bounds_are_own m policy other r goals v v known_ is (inr (reward_min_between (chain_of m policy) r goals v other w))

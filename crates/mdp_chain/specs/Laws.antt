@@ -5,7 +5,7 @@ use Rattle.mdp_spec.specs.Mdp.{Mdp}
 use Rattle.mdp_spec.specs.Row.{IsMdp}
 use Rattle.mdp_spec.specs.Tree.{IsPolicy}
 use Rattle.mdp_spec.specs.Bounds.{ReachMax, ReachMin, RewardMax, RewardMin, MeanMax, MeanMin}
-use Rattle.mdp_spec.specs.Between.{ReachMaxBetween, ReachMinBetween}
+use Rattle.mdp_spec.specs.Between.{ReachMaxBetween, ReachMinBetween, RewardMaxBetween, RewardMinBetween, MeanMaxBetween, MeanMinBetween}
 use Rattle.mdp_rows.specs.declared.dir.Dir.{Dir}
 use Rattle.mdp_horizon.specs.Bounds.{BoundedMax, BoundedMin}
 use Rattle.mdp_discount_rules.specs.Bounds.{DiscountBound}
@@ -30,20 +30,30 @@ ReachIsOwn =
     (m : Mdp) (policy other : List ℕ) (goals : List Bool) (z : List ℚ) → IsMdp m → IsPolicy m policy
     → ReachMax (chain_of m policy) goals z other ⊎ ReachMin (chain_of m policy) goals z other → OwnReach m goals policy z z
 
-abbrev pub BoundsAreOwn : Type 0
-BoundsAreOwn =
+abbrev pub ReachBoundsAreOwn : Type 0
+ReachBoundsAreOwn =
     (m : Mdp) (policy other : List ℕ) (goals : List Bool) (lower upper : List ℚ) → IsMdp m → IsPolicy m policy
     → ReachMaxBetween (chain_of m policy) goals lower upper other ⊎ ReachMinBetween (chain_of m policy) goals lower upper other → OwnReach m goals policy lower upper
 
 abbrev pub RewardIsOwn : Type 0
 RewardIsOwn =
     (m : Mdp) (policy other : List ℕ) (r : ℕ) (goals : List Bool) (v : List (Option ℚ)) → IsMdp m → IsPolicy m policy
-    → RewardMax (chain_of m policy) r goals other v ⊎ RewardMin (chain_of m policy) r goals other v → OwnReward m r goals policy v
+    → RewardMax (chain_of m policy) r goals other v ⊎ RewardMin (chain_of m policy) r goals other v → OwnReward m r goals policy v v
+
+abbrev pub RewardBoundsAreOwn : Type 0
+RewardBoundsAreOwn =
+    (m : Mdp) (policy other : List ℕ) (r : ℕ) (goals : List Bool) (lower upper : List (Option ℚ)) → IsMdp m → IsPolicy m policy
+    → RewardMaxBetween (chain_of m policy) r goals other lower upper ⊎ RewardMinBetween (chain_of m policy) r goals other lower upper → OwnReward m r goals policy lower upper
 
 abbrev pub MeanIsOwn : Type 0
 MeanIsOwn =
     (m : Mdp) (policy other : List ℕ) (r : ℕ) (g : List ℚ) (spread : ℚ) → IsMdp m → IsPolicy m policy
-    → MeanMax (chain_of m policy) r g spread other ⊎ MeanMin (chain_of m policy) r g spread other → OwnMean m r policy g spread
+    → MeanMax (chain_of m policy) r g spread other ⊎ MeanMin (chain_of m policy) r g spread other → OwnMean m r policy g g spread
+
+abbrev pub MeanBoundsAreOwn : Type 0
+MeanBoundsAreOwn =
+    (m : Mdp) (policy other : List ℕ) (r : ℕ) (lower upper : List ℚ) (spread : ℚ) → IsMdp m → IsPolicy m policy
+    → MeanMaxBetween (chain_of m policy) r lower upper spread other ⊎ MeanMinBetween (chain_of m policy) r lower upper spread other → OwnMean m r policy lower upper spread
 
 abbrev pub BoundedIsOwn : Type 0
 BoundedIsOwn =

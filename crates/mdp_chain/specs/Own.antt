@@ -43,27 +43,32 @@ pub record OwnReach (m : Mdp) (goals : List Bool) (policy : List ℕ) (lower upp
 
 -- ---- the reward of name r until a goal
 
--- a finite one: the policy arrives with probability 1, earns no more, and comes close to it
-pub record OwnFinite (m : Mdp) (r : ℕ) (goals : List Bool) (policy : List ℕ) (s : ℕ) (x : ℚ) : Type 0 where
+-- at a state with a finite lower value the policy arrives with probability 1, and comes close to it
+pub record OwnAtLeast (m : Mdp) (r : ℕ) (goals : List Bool) (policy : List ℕ) (s : ℕ) (x : ℚ) : Type 0 where
   pub arrives : (k : ℕ) → 1 ≤ k → (n : ℕ) × (of_int (pos 1) ≤ℚ hit m goals 1 n (unfolded m policy n s) s +ℚ part k)
-  pub below : (n : ℕ) → pay m r goals 1 n (unfolded m policy n s) s ≤ℚ x
   pub close : (k : ℕ) → 1 ≤ k → (n : ℕ) × (x ≤ℚ pay m r goals 1 n (unfolded m policy n s) s +ℚ part k)
 
--- an infinite one: the policy misses the goals with some chance
+-- at one with an infinite lower value it misses the goals with some chance
 abbrev pub OwnInfinite : Mdp → List Bool → List ℕ → ℕ → Type 0
 OwnInfinite m goals policy s = (q : ℕ) × (1 ≤ q) × ((n : ℕ) → hit m goals 1 n (unfolded m policy n s) s +ℚ part q ≤ℚ of_int (pos 1))
 
-abbrev pub OwnValue : Mdp → ℕ → List Bool → List ℕ → ℕ → Option ℚ → Type 0
-OwnValue m r goals policy s (Some x) = OwnFinite m r goals policy s x
-OwnValue m r goals policy s None = OwnInfinite m goals policy s
+abbrev pub OwnLower : Mdp → ℕ → List Bool → List ℕ → ℕ → Option ℚ → Type 0
+OwnLower m r goals policy s (Some x) = OwnAtLeast m r goals policy s x
+OwnLower m r goals policy s None = OwnInfinite m goals policy s
 
-abbrev pub OwnReward : Mdp → ℕ → List Bool → List ℕ → List (Option ℚ) → Type 0
-OwnReward m r goals policy v = (s : ℕ) → s < states_of m → OwnValue m r goals policy s (reward_at v s)
+-- it earns no more than a finite upper value
+abbrev pub OwnUpper : Mdp → ℕ → List Bool → List ℕ → ℕ → Option ℚ → Type 0
+OwnUpper m r goals policy s (Some y) = (n : ℕ) → pay m r goals 1 n (unfolded m policy n s) s ≤ℚ y
+OwnUpper m r goals policy s None = Unit {0}
 
--- ---- the mean payoff: what the policy earns in n steps differs from n times its gain by at most the spread
-pub record OwnMean (m : Mdp) (r : ℕ) (policy : List ℕ) (g : List ℚ) (spread : ℚ) : Type 0 where
-  pub above : (n s : ℕ) → s < states_of m → whole n *ℚ value_at g s ≤ℚ total m r 1 n (unfolded m policy n s) s +ℚ spread
-  pub below : (n s : ℕ) → s < states_of m → total m r 1 n (unfolded m policy n s) s ≤ℚ whole n *ℚ value_at g s +ℚ spread
+-- the reward that the policy earns lies between two values
+abbrev pub OwnReward : Mdp → ℕ → List Bool → List ℕ → List (Option ℚ) → List (Option ℚ) → Type 0
+OwnReward m r goals policy lower upper = (s : ℕ) → s < states_of m → OwnLower m r goals policy s (reward_at lower s) × OwnUpper m r goals policy s (reward_at upper s)
+
+-- ---- the mean payoff: up to the spread, what the policy earns in n steps lies between n times two gains
+pub record OwnMean (m : Mdp) (r : ℕ) (policy : List ℕ) (lower upper : List ℚ) (spread : ℚ) : Type 0 where
+  pub above : (n s : ℕ) → s < states_of m → whole n *ℚ value_at lower s ≤ℚ total m r 1 n (unfolded m policy n s) s +ℚ spread
+  pub below : (n s : ℕ) → s < states_of m → total m r 1 n (unfolded m policy n s) s ≤ℚ whole n *ℚ value_at upper s +ℚ spread
 
 -- ---- the probability of coming to a goal within n steps, by way of states of `stay` alone
 abbrev pub OwnBounded : Mdp → List Bool → List Bool → List ℕ → ℕ → List ℚ → Type 0

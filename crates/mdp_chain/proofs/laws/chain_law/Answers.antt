@@ -1,7 +1,7 @@
 use Rattle.mdp_chain.proofs.Chains.{is_chain}
 use Rattle.mdp_chain.proofs.Trees.{trees_are_own}
-use Rattle.mdp_chain.proofs.Owned.{reach_is_own, bounds_are_own, mean_is_own, bounded_is_own, discount_is_own}
-use Rattle.mdp_chain.proofs.Rewards.{reward_is_own}
+use Rattle.mdp_chain.proofs.Owned.{reach_is_own, reach_bounds_are_own, mean_is_own, mean_bounds_are_own, bounded_is_own, discount_is_own}
+use Rattle.mdp_chain.proofs.Rewards.{reward_is_own, reward_bounds_are_own}
 use Rattle.mdp_chain.proofs.laws.chain_law.Goals as goal
 
 pub returns : goal.returns
@@ -9,9 +9,11 @@ returns c = record {
   chain = is_chain;
   trees = trees_are_own;
   reach = reach_is_own;
-  bounds = bounds_are_own;
+  reach_bounds = reach_bounds_are_own;
   reward = reward_is_own;
+  reward_bounds = reward_bounds_are_own;
   mean = mean_is_own;
+  mean_bounds = mean_bounds_are_own;
   bounded = bounded_is_own;
   discount = discount_is_own;
 }
