@@ -31,9 +31,11 @@ struct Outcome {
 
 /// The parts of a search: the states as nodes of their own, and gathered in end components.
 #[derive(Clone, Copy)]
-struct Search<'a> {
-    payoffs: Payoffs<'a>,
-    gathered: Gathered<'a>,
+struct Search<'m, 'a> {
+    payoffs: Payoffs<'m>,
+    backward: &'a Backward,
+    nodes: &'a Nodes,
+    every: &'a ChoiceFlags,
     states: &'a Nodes,
     inner: &'a Rows,
     all: &'a Rows,
@@ -102,10 +104,10 @@ fn earn_over(rows: &mut Rows, gains: &[i128]) -> bool {
     true
 }
 
-impl Search<'_> {
+impl Search<'_, '_> {
     /// The gains of the nodes: to stop in an end component with its gain, or to leave it.
     fn gains(self, alloc: Global, bound: Bound) -> Result<(Rows, Solution), AllocError> {
-        let nodes = self.gathered.nodes;
+        let nodes = self.nodes;
         let stops = match bound {
             Bound::Lower => &self.found.lower,
             Bound::Upper => &self.found.upper,
@@ -122,7 +124,7 @@ impl Search<'_> {
 
     /// The value of each state's node, 0 where it isn't known.
     fn spread(self, alloc: Global, values: &[Option<i128>]) -> Result<Vec<i128>, AllocError> {
-        let nodes = self.gathered.nodes;
+        let nodes = self.nodes;
         let mut spread = Vec::new(alloc);
         for s in 0..self.payoffs.model.states() {
             spread.push(value_at(values, nodes.of(s)).unwrap_or(0))?;
@@ -136,7 +138,7 @@ impl Search<'_> {
         alloc: Global,
         gains: &[Option<i128>],
     ) -> Result<Vec<Option<i128>>, AllocError> {
-        let nodes = self.gathered.nodes;
+        let nodes = self.nodes;
         let mut rows = leaving_rows(alloc, self.payoffs, nodes, &[], true, self.scale)?;
         let given = given_ends(alloc, &rows, nodes.count())?;
         if !offset_rows(&mut rows, self.all, nodes, self.bias, gains) {
@@ -165,6 +167,23 @@ impl Search<'_> {
         Ok(policy)
     }
 
+    /// The policy that comes to the picks of the nodes, and stays in the other end components.
+    fn policy(
+        self,
+        alloc: Global,
+        rows: &Rows,
+        picks: &[Option<usize>],
+        inner: &[u32],
+    ) -> Result<Vec<u32>, AllocError> {
+        let gathered = Gathered {
+            model: self.payoffs.model,
+            backward: self.backward,
+            nodes: self.nodes,
+            inner: Some(self.every),
+        };
+        policy_of(alloc, gathered, rows, picks, inner)
+    }
+
     /// Appends for each choice of a state whether the policy takes it and doesn't stay.
     fn push_taken(
         self,
@@ -173,7 +192,7 @@ impl Search<'_> {
         is_stopping: &[bool],
         s: u32,
     ) -> Result<(), AllocError> {
-        let stops = flag_at(is_stopping, self.gathered.nodes.of(s));
+        let stops = flag_at(is_stopping, self.nodes.of(s));
         for c in 0..self.payoffs.choices(s) {
             flags.push(!stops && number_at(policy, s) == c)?;
         }
@@ -204,7 +223,7 @@ impl Search<'_> {
     ) -> Result<Vec<Option<i128>>, AllocError> {
         let mut given = vec![in alloc; None; self.bias.len()]?;
         for s in 0..self.payoffs.model.states() {
-            if flag_at(is_stopping, self.gathered.nodes.of(s)) {
+            if flag_at(is_stopping, self.nodes.of(s)) {
                 put(&mut given, s, value_at(self.bias, s));
             }
         }
@@ -237,7 +256,7 @@ impl Search<'_> {
         let (rows, low) = self.gains(alloc, Bound::Lower)?;
         let (picks, is_stopping) = split_picks(alloc, &rows, &low.picks)?;
         let inner = self.inner_policy(alloc)?;
-        let choices = policy_of(alloc, self.gathered, &rows, &picks, &inner)?;
+        let choices = self.policy(alloc, &rows, &picks, &inner)?;
         let lower = self.spread(alloc, &low.values)?;
         Ok(Outcome {
             upper: self.spread(alloc, &high.values)?,
@@ -288,15 +307,11 @@ fn searched(alloc: Global, payoffs: Payoffs<'_>, digits: u32) -> Result<Outcome,
     inner.limit_to(&all);
     let found = end_gains(alloc, &inner, model.states())?;
     let bias = known_biases(alloc, &found)?;
-    let gathered = Gathered {
-        model,
-        backward: &backward,
-        nodes: &nodes,
-        inner: None,
-    };
     let search = Search {
         payoffs,
-        gathered,
+        backward: &backward,
+        nodes: &nodes,
+        every: &every,
         states: &states,
         inner: &inner,
         all: &all,
