@@ -8,7 +8,7 @@ use Rattle.mdp_spec.specs.Tree.{IsStrategy, IsPolicy, unfolded}
 use Rattle.mdp_spec.specs.Hit.{hit}
 use Rattle.mdp_spec.specs.Pay.{total}
 use Rattle.mdp_spec.specs.Bounds.{part, whole}
-use Rattle.mdp_spec.specs.Between.{ReachMaxBetween, ReachMinBetween, MeanMaxBetween, MeanMinBetween}
+use Rattle.mdp_spec.specs.Between.{ReachMaxBetween, ReachMinBetween}
 use Rattle.mdp_spec.proofs.Keeping.{unfolded_is_strategy}
 use Rattle.mdp_spec.proofs.Mean.{mean_max_between, mean_min_between}
 use Rattle.mdp_horizon.specs.Until.{until, unfolded_steps, IsTable}
