@@ -73,8 +73,8 @@ returns-in-Discount g c =
 pub returns-in-DiscountCheck : goal.returns-in-DiscountCheck
 returns-in-DiscountCheck g c =
     decided_as _ _ _ _ _ (sym (ap (λ (job : Job). asked_for (plain_job job)) c.in-DiscountCheck.is) ∙ c.in-Ok.ensures)
-    (pair_decided _ _ _ _ _ _ refl refl (λ bytes other said due. due) (λ bytes other text shown. shown) (λ bytes read. read) _ c.check_files.ensures.read
-    c.check_files.ensures.unread c.check_files.ensures.model_end c.check_files.ensures.second_end)
+    (pair_decided _ _ _ _ _ _ refl refl (λ bytes other said due. due) (λ bytes other text shown. shown) (λ bytes read. read) _ c.check_files-in-DiscountCheck.ensures.read
+    c.check_files-in-DiscountCheck.ensures.unread c.check_files-in-DiscountCheck.ensures.model_end c.check_files-in-DiscountCheck.ensures.second_end)
 
 pub returns-in-Bounds : goal.returns-in-Bounds
 returns-in-Bounds g c =
@@ -84,5 +84,5 @@ returns-in-Bounds g c =
 pub returns-in-BoundsCheck : goal.returns-in-BoundsCheck
 returns-in-BoundsCheck g c =
     decided_as _ _ _ _ _ (sym (ap (λ (job : Job). asked_for (plain_job job)) c.in-BoundsCheck.is) ∙ c.in-Ok.ensures)
-    (pair_decided _ _ _ _ _ _ refl refl (λ bytes other said due. due) (λ bytes other text shown. shown) (λ bytes read. read) _ c.check_files.ensures.read
-    c.check_files.ensures.unread c.check_files.ensures.model_end c.check_files.ensures.second_end)
+    (pair_decided _ _ _ _ _ _ refl refl (λ bytes other said due. due) (λ bytes other text shown. shown) (λ bytes read. read) _ c.check_files-in-BoundsCheck.ensures.read
+    c.check_files-in-BoundsCheck.ensures.unread c.check_files-in-BoundsCheck.ensures.model_end c.check_files-in-BoundsCheck.ensures.second_end)
