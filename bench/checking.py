@@ -2,8 +2,8 @@
 """Measures the checker, bin/check, on a model of up to 2^20 states and certificates with a line for each of them.
 
 The model: each state but the last goes on to the next one or to the last, the goal, with one half each; each step costs 1. Its certificates are written
-here (neighbours have different ranks, so that each state has a line): the greatest probability of the goal (1), the least cost until the goal (2), both exact, and the same probability as bounds. The checker reads the
-model and the certificate, judges all rules and writes `yes`. Beside it `check` and `bounds-check` of bin/mdp, which call the same function, and
+here (neighbours have different ranks, so that each state has a line): the greatest probability of the goal (1), the least cost until the goal (2), both
+exact, and the same probability as bounds. The checker reads the model and the certificate, judges all rules and writes `yes`. Beside it `check` and `bounds-check` of bin/mdp, which call the same function, and
 tools/recheck, the second opinion in Python, where the model isn't too large for it.
 Usage: bench/checking.py [STATES ..] (2^16 and 2^20 if nothing is said).
 """
