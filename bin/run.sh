@@ -1,7 +1,7 @@
 # What bin/mdp and bin/check share: it runs a program with the words given. The caller has set
 #   name      its own name in bin/
 #   crate     the program's crate
-#   minutes   how long a first build takes
+#   took      what is known of the time of a first build
 #   meanings  what the words of the usage mean
 # and usage_of KIND COMMAND, which prints how the program is used, for a refusal `words KIND`.
 top=$(cd "$(dirname "${BASH_SOURCE[0]}")/.." && pwd)
@@ -56,7 +56,7 @@ follow() {
 build() {
   need python3 "on which rt runs"
   need rt "the toolchain that README.md names"
-  say "building the program. This proves it and all crates below it: a first build takes some $minutes minutes on four processors."
+  say "building the program. This proves it and all crates below it: $took."
   say "A later one proves only what changed and the crates above it."
   log=$(mktemp)
   began=$(mktemp)
