@@ -1,5 +1,7 @@
 pub mod Until
+pub mod Objective
 pub mod Bounds
+pub mod Between
 pub mod Choices
 pub mod Written
 pub mod Answer
