@@ -10,7 +10,7 @@ use Rattle.mdp_math.proofs.SumsAt.{sum_at-le, sum_at-sum_of, sum_at-weighted_le,
 use Rattle.mdp_spec.specs.Mdp.{Choice, Entry, Mdp, choices_at}
 use Rattle.mdp_spec.specs.Row.{IsRow}
 use Rattle.mdp_spec.specs.Unit.{count_at}
-use Rattle.mdp_spec.proofs.Hits.{share, mixed}
+use Rattle.mdp_spec.proofs.Hits.{share}
 use Rattle.mdp_spec.proofs.Keeping.{share-nonneg, share-pos, shares-total}
 use Rattle.mdp_spec.proofs.Rows.{row_weigh, nonneg_at}
 use Rattle.mdp_spec.proofs.Steps.{average}
@@ -112,24 +112,3 @@ average-no_better dir m u weights gain f s y hu adds each =
     (EachAt_mono (choices_at m s) (λ c x. 0 < weights c → NoBetter dir (gain x +ℚ sum_at x.row (λ e t. t.prob *ℚ f c e t)) y)
     (λ c x. 0ℚ <ℚ share u weights c → NoBetter dir (gain x +ℚ sum_at x.row (λ e t. t.prob *ℚ f c e t)) y)
     (λ c x q p. q (share-pos u weights c hu p)) each))
-
-module _ (m : Mdp) (u : ℕ) (weights : ℕ → ℕ) (f : ℕ → ℕ → Entry → ℚ) (s : ℕ) (y : ℚ) (hu : 1 ≤ u) (adds : count_at (choices_at m s) (λ c x. weights c) ≡ u) where
-  -- an average of sums is no better than y, where the sum of each choice of weight above 0 is no better
-  pub mixed-no_better : (dir : Dir) → EachAt (choices_at m s) (λ c x. 0 < weights c → NoBetter dir (sum_at x.row (λ e t. t.prob *ℚ f c e t)) y) → NoBetter dir (mixed m u weights f s) y
-  mixed-no_better dir each =
-      subst (λ (w : ℚ). NoBetter dir (mixed m u weights f s) w) (ap (λ (w : ℚ). w *ℚ y) (shares-total (choices_at m s) u weights hu adds) ∙ one-*ℚ y)
-      (no_better_weighted dir (choices_at m s) (λ c x. share u weights c) (λ c x. sum_at x.row (λ e t. t.prob *ℚ f c e t)) y
-      (EachAt_all (choices_at m s) (λ c x. 0ℚ ≤ℚ share u weights c) (λ c x. share-nonneg u weights c hu))
-      (EachAt_mono (choices_at m s) (λ c x. 0 < weights c → NoBetter dir (sum_at x.row (λ e t. t.prob *ℚ f c e t)) y)
-      (λ c x. 0ℚ <ℚ share u weights c → NoBetter dir (sum_at x.row (λ e t. t.prob *ℚ f c e t)) y)
-      (λ c x q p. q (share-pos u weights c hu p)) each))
-
-  -- and it is y, where each such sum is
-  pub mixed-is : EachAt (choices_at m s) (λ c x. 0 < weights c → sum_at x.row (λ e t. t.prob *ℚ f c e t) ≡ y) → mixed m u weights f s ≡ y
-  mixed-is each = ≤ℚ_antisymm (mixed m u weights f s) y (side Max) (side Min)
-    where
-      side : (dir : Dir) → NoBetter dir (mixed m u weights f s) y
-      side dir =
-          mixed-no_better dir
-          (EachAt_mono (choices_at m s) (λ c x. 0 < weights c → sum_at x.row (λ e t. t.prob *ℚ f c e t) ≡ y) (λ c x. 0 < weights c → NoBetter dir (sum_at x.row (λ e t. t.prob *ℚ f c e t)) y)
-          (λ c x q p. no_better_of_eq dir _ _ (q p)) each)

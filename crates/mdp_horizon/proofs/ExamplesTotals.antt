@@ -1,17 +1,24 @@
 -- Total rewards of a small model, and values that are missing, computed.
 use Rattle.std.proofs.Common.{◌≡◌, ℕ, List, [], ◌∷◌, Option, Some, None, refl, subst, arith, pos, negsuc}
 use Rattle.std.specs.Prelude.{codes}
+use Rattle.std.specs.Fmt.{digits}
 use Rattle.mdp_math.specs.Gcd.{gcd, gcd_with_fuel}
-use Rattle.mdp_math.specs.Rational.{ℚ, of_int, ratio, le_ℚ, ◌≤ℚ◌}
+use Rattle.mdp_math.specs.Rational.{ℚ, of_int, ratio, ◌+ℚ◌, ◌*ℚ◌, neg_ℚ, le_ℚ, ◌≤ℚ◌}
+use Rattle.mdp_math.specs.Written.{written_add, written_mul, written_compare, narrow, narrow_ℚ}
+use Rattle.mdp_num.specs.Value.{spelling}
 use Rattle.mdp_spec.specs.Mdp.{Entry, Choice, Mdp}
 use Rattle.mdp_spec.specs.Unit.{unit_of, scale_of}
 use Rattle.mdp_spec.specs.Pay.{total as total_of}
 use Rattle.mdp_spec.specs.Tree.{Fits}
+use Rattle.mdp_rows.specs.declared.dir.Dir.TheVariants.{Max, Min}
 use Rattle.mdp_horizon.specs.Until.{unfolded_steps}
 use Rattle.mdp_horizon.specs.Objective.{stops, ending, earns, value_of}
 use Rattle.mdp_horizon.specs.Objective.Objective.{until, total}
+use Rattle.mdp_horizon.specs.Bounds.{TotalMax}
 use Rattle.mdp_horizon.specs.Between.{Claimed, MaxBetween}
-use Rattle.mdp_horizon.proofs.Examples.{to, with, number, tries, all, lost_stays, goal}
+use Rattle.mdp_horizon.specs.Written.{written_total}
+use Rattle.mdp_horizon.specs.Spelling.{total_text}
+use Rattle.mdp_horizon.proofs.Examples.{to, with, number, tries, all, lost_stays, goal, answer}
 
 -- ---- total rewards, of both signs
 
@@ -49,6 +56,30 @@ money-from_one : value_of deal (total 0) 1 2 (unfolded_steps deal ((1 ∷ 0 ∷ 
 unfolding gcd gcd_with_fuel of_int ratio unit_of scale_of total_of
 money-from_one = refl
 
+-- ---- backward induction
+
+abbrev minus_one : ℚ
+minus_one = of_int (negsuc 0)
+
+-- with two steps left it is best to pay, and with one to rest: 3 from state 0, and from state 1 5 and then 1 or 5
+greatest : written_total Max deal 0 2 ≡ answer (number 3 ∷ number 8 ∷ []) pays_first
+unfolding written_add written_mul written_compare narrow narrow_ℚ ◌+ℚ◌ ◌*ℚ◌ neg_ℚ ratio of_int gcd gcd_with_fuel
+greatest = refl
+
+-- the least: to rest and then to pay loses 1
+least : written_total Min deal 0 2 ≡ answer (minus_one ∷ ratio (pos 13) 2 ∷ []) ((0 ∷ 0 ∷ []) ∷ (1 ∷ 0 ∷ []) ∷ [])
+unfolding written_add written_mul written_compare narrow narrow_ℚ ◌+ℚ◌ ◌*ℚ◌ neg_ℚ ratio of_int gcd gcd_with_fuel
+least = refl
+
+-- without a step nothing is earned
+no_step : written_total Max deal 0 0 ≡ answer (number 0 ∷ number 0 ∷ []) []
+unfolding of_int
+no_step = refl
+
+-- the model has two reward names, so none of place 2
+not_named : (z : List ℚ) (table : List (List ℕ)) → TotalMax deal 2 1 z table → ⊥
+not_named z table b = let l = b.named in absurd (omega (arith, l))
+
 -- what a choice earns; a total reward stops nowhere, and is 0 with no step left
 earned : (earns deal (total 0) 0 1 ≡ minus_two) × (stops deal (total 0) 0 ≡ None) × (ending deal (total 0) 1 ≡ number 0)
 earned = (refl, refl, refl)
@@ -75,3 +106,11 @@ two_no_upper lower table b =
 -- a list that is too short is no list of values
 not_for_each : (upper : List (Option ℚ)) (table : List (List ℕ)) → MaxBetween deal (total 0) 2 (None ∷ []) upper table → ⊥
 not_for_each upper table b = let e = b.one_each in cc
+
+-- ---- the text
+
+printed :
+    total_text Min (codes "money") deal (record { values = minus_one ∷ ratio (pos 13) 2 ∷ []; steps = (0 ∷ 0 ∷ []) ∷ (1 ∷ 0 ∷ []) ∷ [] })
+    ≡ codes "mdp-horizon 1\nclaim min reward \"money\" 2\nstates 2\ninit -\nstate 0 -1\nstate 1 13/2\nstep 2 0 0\nstep 1 1 0\nend\n"
+unfolding total_text spelling ratio of_int gcd gcd_with_fuel digits
+printed = refl

@@ -1,12 +1,12 @@
 -- The two halves of backward induction, for any objective, with values that may be missing. Values that cover each choice, step by step, are
 -- passed by no tree; values that the table's choices cover, step by step, are met by the tree that follows the table. Exact values do both.
-use Rattle.std.proofs.Common.{◌≡◌, ℕ, zero, suc, ◌<◌, ◌≤◌, Bool, false, cond, eqb, List, [], ◌∷◌, length, get_or, slice_index, Option, Some, None, refl, sym, ◌∙◌, ap, subst, arith}
+use Rattle.std.proofs.Common.{◌≡◌, ℕ, zero, suc, ◌<◌, ◌≤◌, false, cond, eqb, List, [], ◌∷◌, length, get_or, slice_index, Option, Some, None, refl, sym, ap, subst, arith}
 use Rattle.std.specs.List.{All}
 use Rattle.std.proofs.lemmas.List.Elements.{All-cons}
 use Rattle.mdp_math.specs.Rational.{ℚ, ◌+ℚ◌, ◌*ℚ◌}
 use Rattle.mdp_math.specs.Sum.{sum_at, EachAt}
 use Rattle.mdp_math.proofs.SumsAt.{EachAt_mono, EachAt_both, EachAt-from_All}
-use Rattle.mdp_spec.specs.Mdp.{Choice, Entry, Mdp, states_of, choices_at, choice_at, row_at, value_at}
+use Rattle.mdp_spec.specs.Mdp.{Choice, Mdp, states_of, choices_at, choice_at, row_at, value_at}
 use Rattle.mdp_spec.specs.Row.{IsRow, IsMdp, row_sum}
 use Rattle.mdp_spec.specs.Unit.{count_at}
 use Rattle.mdp_spec.specs.Tree.{Tree, Fits, IsPolicy, IsStrategy, is_marked, target_at}
@@ -22,7 +22,7 @@ use Rattle.mdp_horizon.specs.Until.{unfolded_steps, IsTable}
 use Rattle.mdp_horizon.specs.Objective.{Objective, stops, ending, gain_of, earns, value_of}
 use Rattle.mdp_horizon.specs.Between.{Claimed, MaxBetween, MinBetween}
 use Rattle.mdp_horizon.proofs.Claims.{claimed_mono, claimed_part}
-use Rattle.mdp_horizon.proofs.Directions.{NoBetter, no_better_of_eq, no_better_trans, no_better_add, other, turned, turned_back, row_sum-no_better, average-no_better}
+use Rattle.mdp_horizon.proofs.Directions.{NoBetter, no_better_trans, no_better_add, other, turned, turned_back, row_sum-no_better, average-no_better}
 use Rattle.mdp_horizon.proofs.Objectives.{value-stops, value-ends, value-node}
 
 -- ---- one step

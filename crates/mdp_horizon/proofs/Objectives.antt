@@ -1,17 +1,17 @@
 -- Each objective by the first step of the tree: a value where it stops or where the tree ends, and at any other state the average over the
 -- choices, by the weights, of what the choice earns and the sum over the row of probability times what comes behind.
-use Rattle.std.proofs.Common.{◌≡◌, ℕ, zero, suc, ◌<◌, ◌≤◌, ⊎_elim, Bool, true, false, cond, List, Option, Some, None, refl, sym, ◌∙◌, ap, pos}
+use Rattle.std.proofs.Common.{◌≡◌, ℕ, suc, ◌≤◌, ⊎_elim, Bool, true, false, cond, Some, None, refl, sym, ◌∙◌, ap}
 use Rattle.std.proofs.lemmas.Bool.{cases_Bool}
 use Rattle.mdp_math.specs.Rational.{ℚ, ◌+ℚ◌, ◌*ℚ◌}
-use Rattle.mdp_math.specs.Sum.{sum_at, EachAt}
+use Rattle.mdp_math.specs.Sum.{sum_at}
 use Rattle.mdp_math.proofs.Laws.{zero-+ℚ}
 use Rattle.mdp_math.proofs.Options.{Some_same}
 use Rattle.mdp_math.proofs.Order.{0ℚ, 1ℚ}
 use Rattle.mdp_math.proofs.SumsAt.{sum_at-same, EachAt_all}
-use Rattle.mdp_spec.specs.Mdp.{Choice, Entry, Mdp, choices_at}
+use Rattle.mdp_spec.specs.Mdp.{Entry, Mdp, choices_at}
 use Rattle.mdp_spec.specs.Row.{IsMdp}
 use Rattle.mdp_spec.specs.Tree.{Tree, is_marked}
-use Rattle.mdp_spec.specs.Tree.Tree.{leaf, node}
+use Rattle.mdp_spec.specs.Tree.Tree.{node}
 use Rattle.mdp_spec.proofs.Earnings.{total-end}
 use Rattle.mdp_spec.proofs.Hits.{share, mixed}
 use Rattle.mdp_spec.proofs.Steps.{average, total_goes}

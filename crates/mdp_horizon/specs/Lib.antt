@@ -4,6 +4,7 @@ pub mod Bounds
 pub mod Between
 pub mod Choices
 pub mod Written
+pub mod Code
 pub mod Answer
 pub mod Spelling
 pub mod Laws
