@@ -96,7 +96,8 @@ least_total_lies m r n z lower upper table other s known p q h =
 -- ---- what the code answers
 
 -- what holds of each answer of a computation holds of the code's answer to it
-answered : (result : Result Bounded HorizonError) (r : Result Answer Place) (F : Answer → Type 0) → Answers plain result r → ((a : Answer) → r ≡ Ok a → F a) → IfOk result (λ found. F (plain found))
+answered : (result : Result Bounded HorizonError) (r : Result Answer Place) (F : Answer → Type 0) → Answers plain result r
+    → ((a : Answer) → r ≡ Ok a → F a) → IfOk result (λ found. F (plain found))
 answered (Ok found) r F is each = each (plain found) is
 answered (Err e) r F is each = tt
 

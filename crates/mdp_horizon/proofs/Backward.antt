@@ -22,7 +22,8 @@ use Rattle.mdp_horizon.proofs.Halves.{IsCovering, IsFollowing, covering-bounds, 
 
 -- ---- the table's tree is a strategy tree
 
-pub unfolded_steps_fits : (m : Mdp) (n : ℕ) (table : List (List ℕ)) (s : ℕ) → IsMdp m → length table ≡ n → All (IsPolicy m) table → s < states_of m → Fits m 1 n (unfolded_steps m table s) s
+pub unfolded_steps_fits : (m : Mdp) (n : ℕ) (table : List (List ℕ)) (s : ℕ) → IsMdp m → length table ≡ n → All (IsPolicy m) table → s < states_of m
+    → Fits m 1 n (unfolded_steps m table s) s
 unfolded_steps_fits m zero [] s known e policies h = tt
 unfolded_steps_fits m zero (choices ∷ table) s known e policies h = absurd (omega arith)
 unfolded_steps_fits m (suc n) [] s known e policies h = absurd (omega arith)
@@ -33,7 +34,8 @@ unfolded_steps_fits m (suc n) (choices ∷ table) s known e policies h = (
       (λ c x. EachAt x.row (λ e y. Fits m 1 n (unfolded_steps m table (target_at m s c e)) y.target))
       (λ c x q.
       EachAt_mono x.row (λ e y. (target_at m s c e ≡ y.target) × (y.target < states_of m)) (λ e y. Fits m 1 n (unfolded_steps m table (target_at m s c e)) y.target)
-      (λ e y r. subst (λ (t : ℕ). Fits m 1 n (unfolded_steps m table t) y.target) (sym r.0) (unfolded_steps_fits m n table y.target known shorter (All-tail (IsPolicy m) choices table policies) r.1))
+      (λ e y r. subst (λ (t : ℕ). Fits m 1 n (unfolded_steps m table t) y.target) (sym r.0)
+      (unfolded_steps_fits m n table y.target known shorter (All-tail (IsPolicy m) choices table policies) r.1))
       (EachAt_both x.row (λ e y. target_at m s c e ≡ y.target) (λ e y. y.target < states_of m) (target_placed m s c x.row q.0.1) (targets_at (states_of m) x.row q.1)))
       (EachAt_both (choices_at m s) (λ c x. (c < length (choices_at m s)) × (row_at m s c ≡ x.row)) (λ c x. IsRow (states_of m) x.row) (placed m s) (rows_known m s known)),
 )

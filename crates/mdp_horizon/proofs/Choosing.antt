@@ -1,5 +1,6 @@
 -- Where the choice of a state is refused, and what the choice that is made says in exact numbers.
-use Rattle.std.proofs.Common.{◌≡◌, ℕ, suc, ◌-◌, ◌<◌, inl, inr, Bool, true, false, if◌then◌else◌, List, length, Option, Some, None, Result, Ok, Err, ◌∙◌, sym, ap, subst, arith}
+use Rattle.std.proofs.Common.{◌≡◌, ℕ, suc, ◌-◌, ◌<◌, inl, inr, Bool, true, false, if◌then◌else◌, List, length}
+use Rattle.std.proofs.Common.{Option, Some, None, Result, Ok, Err, ◌∙◌, sym, ap, subst, arith}
 use Rattle.mdp_math.specs.Rational.{ℚ}
 use Rattle.mdp_math.specs.Result.{◌>>=◌}
 use Rattle.mdp_math.specs.Written.{written_compare, cmp_ℚ}

@@ -87,7 +87,8 @@ no_better_product : (dir : Dir) (p x y : ℚ) → 0ℚ ≤ℚ p → NoBetter dir
 no_better_product Max p x y h q = mul-le-mul_left_ℚ p x y h q
 no_better_product Min p x y h q = mul-le-mul_left_ℚ p y x h q
 
-no_better_weighted : {A : Type 0} (dir : Dir) (xs : List A) (u v : ℕ → A → ℚ) (y : ℚ) → EachAt xs (λ k x. 0ℚ ≤ℚ u k x) → EachAt xs (λ k x. 0ℚ <ℚ u k x → NoBetter dir (v k x) y)
+no_better_weighted : {A : Type 0} (dir : Dir) (xs : List A) (u v : ℕ → A → ℚ) (y : ℚ) → EachAt xs (λ k x. 0ℚ ≤ℚ u k x)
+    → EachAt xs (λ k x. 0ℚ <ℚ u k x → NoBetter dir (v k x) y)
     → NoBetter dir (sum_at xs (λ k x. u k x *ℚ v k x)) (sum_at xs u *ℚ y)
 no_better_weighted Max xs u v y h b = sum_at-weighted_le xs u v y h b
 no_better_weighted Min xs u v y h b = sum_at-weighted_ge xs u v y h b
@@ -103,7 +104,8 @@ row_sum-no_better dir n row f z known each =
     (EachAt_both row (λ e y. 0ℚ ≤ℚ y.prob) (λ e y. NoBetter dir (f e y) (z y.target)) (nonneg_at n row known) each)))
 
 -- an average is no better than y, where each choice of weight above 0 is no better
-pub average-no_better : (dir : Dir) (m : Mdp) (u : ℕ) (weights : ℕ → ℕ) (gain : Choice → ℚ) (f : ℕ → ℕ → Entry → ℚ) (s : ℕ) (y : ℚ) → 1 ≤ u → count_at (choices_at m s) (λ c x. weights c) ≡ u
+pub average-no_better : (dir : Dir) (m : Mdp) (u : ℕ) (weights : ℕ → ℕ) (gain : Choice → ℚ) (f : ℕ → ℕ → Entry → ℚ) (s : ℕ) (y : ℚ) → 1 ≤ u
+    → count_at (choices_at m s) (λ c x. weights c) ≡ u
     → EachAt (choices_at m s) (λ c x. 0 < weights c → NoBetter dir (gain x +ℚ sum_at x.row (λ e t. t.prob *ℚ f c e t)) y) → NoBetter dir (average m u weights gain f s) y
 average-no_better dir m u weights gain f s y hu adds each =
     subst (λ (w : ℚ). NoBetter dir (average m u weights gain f s) w) (ap (λ (w : ℚ). w *ℚ y) (shares-total (choices_at m s) u weights hu adds) ∙ one-*ℚ y)

@@ -113,12 +113,14 @@ module _ (m : Mdp) (o : Objective) (known_ : IsMdp m) where
         (EachAt_both (choices_at m s) (λ c x. IsRow (states_of m) x.row) (λ c x. EachAt x.row (λ e t. Fits m u n (kids c e) t.target)) (rows_known m s known_) fits)
 
     -- one step more, by where the state stops and by the value that is claimed
-    step_covered : (n : ℕ) (z next : List (Option ℚ)) (weights : ℕ → ℕ) (kids : ℕ → ℕ → Tree) (s : ℕ) → s < states_of m → Fits m u (suc n) (node weights kids) s → CoversStep dir m o z next
+    step_covered : (n : ℕ) (z next : List (Option ℚ)) (weights : ℕ → ℕ) (kids : ℕ → ℕ → Tree) (s : ℕ) → s < states_of m → Fits m u (suc n) (node weights kids) s
+        → CoversStep dir m o z next
         → ((t : Tree) (v : ℕ) → v < states_of m → Fits m u n t v → Claimed (reward_at z v) (λ w. NoBetter dir (value_of m o u n t v) w))
         → (stop value : Option ℚ) → stops m o s ≡ stop → reward_at next s ≡ value → Claimed value (λ y. NoBetter dir (value_of m o u (suc n) (node weights kids) s) y)
     step_covered n z next weights kids s h fits step rest stop None st at = tt
     step_covered n z next weights kids s h fits step rest (Some x) (Some y) st at =
-        subst (λ (v : ℚ). NoBetter dir v y) (sym (value-stops m u hu o (suc n) (node weights kids) s x st)) (subst (λ (v : Option ℚ). Claimed v (λ y. NoBetter dir x y)) at (step.stopped s x h st))
+        subst (λ (v : ℚ). NoBetter dir v y) (sym (value-stops m u hu o (suc n) (node weights kids) s x st))
+        (subst (λ (v : Option ℚ). Claimed v (λ y. NoBetter dir x y)) at (step.stopped s x h st))
     step_covered n z next weights kids s h fits step rest None (Some y) st at =
         node-no_better dir u n z weights kids s y hu st fits.0 (kids_covered n z kids s fits.1 rest)
         (λ c l above. subst (λ (v : Option ℚ). Claimed v (λ y. StaysFinite m z s c × NoBetter dir (backed_up m o (finite_part z) s c) y)) at (step.each s c h st l))
@@ -154,7 +156,8 @@ module _ (m : Mdp) (o : Objective) (known_ : IsMdp m) where
         subst (λ (v : ℕ). Claimed (reward_at z t.target) (λ w. NoBetter (other dir) (value_of m o 1 n (unfolded_steps m table v) t.target) w)) (sym r.0)
         (claimed_mono (reward_at z t.target) (λ w. NoBetter dir w (value_of m o 1 n (unfolded_steps m table t.target) t.target))
         (λ w. NoBetter (other dir) (value_of m o 1 n (unfolded_steps m table t.target) t.target) w) (λ w p. turned dir w _ p) (rest t.target r.1)))
-        (EachAt_both x.row (λ e t. target_at m s c e ≡ t.target) (λ e t. t.target < states_of m) (target_placed m s c x.row (ap (λ (x : Choice). x.row) q.0.1)) (targets_at (states_of m) x.row q.1)))
+        (EachAt_both x.row (λ e t. target_at m s c e ≡ t.target) (λ e t. t.target < states_of m) (target_placed m s c x.row (ap (λ (x : Choice). x.row) q.0.1))
+        (targets_at (states_of m) x.row q.1)))
         (EachAt_both (choices_at m s) (λ c x. (c < length (choices_at m s)) × (choice_at m s c ≡ x)) (λ c x. IsRow (states_of m) x.row) (placed_choice m s) (rows_known m s known_))
 
     step_followed : (n : ℕ) (z next : List (Option ℚ)) (choices : List ℕ) (table : List (List ℕ)) (s : ℕ) → s < states_of m → FollowsStep dir m o z choices next

@@ -12,7 +12,8 @@ returns-in_err-placed c =
     let wide = placed-err c.args.depth c.args.s 0 c.sum.result c.in_err-placed.field-0.0 (sym c.placed.ensures ∙ c.in_err-placed.was) in
     let none = IfErr-at_err _ wide.step_is c.sum.ensures.wide in
     answers_err _ c.from_residual.result e.0 _ e.1
-    (says c.args.depth c.args.s 0 e.0 _ (e.2 ∙ wide.error_is) (first-refused c.args.self.dir c.args.self.model.now (plain_objective c.args.self.objective) c.args.depth c.args.values.now c.args.s none))
+    (says c.args.depth c.args.s 0 e.0 _ (e.2 ∙ wide.error_is)
+    (first-refused c.args.self.dir c.args.self.model.now (plain_objective c.args.self.objective) c.args.depth c.args.values.now c.args.s none))
 
 pub returns-in_err-leader : goal.returns-in_err-leader
 returns-in_err-leader c =
