@@ -1,53 +1,127 @@
--- What the values and the table of written backward induction mean, and that they are the only ones.
-use Rattle.std.proofs.Common.{ℕ, ◌<◌, Bool, List, subst, arith}
-use Rattle.mdp_math.specs.Rational.{ℚ, ◌≤ℚ◌}
-use Rattle.mdp_math.proofs.Order.{≤ℚ_antisymm}
-use Rattle.mdp_spec.specs.Mdp.{Mdp, states_of, value_at}
+-- What the values and the table of written backward induction mean, that they are the only ones, and that they lie between bounds.
+use Rattle.std.proofs.Common.{◌≡◌, ℕ, ◌<◌, Bool, List, length, Option, Ok, Result, Err, IfOk, subst}
+use Rattle.mdp_math.specs.Rational.{ℚ}
+use Rattle.mdp_spec.specs.Mdp.{Mdp}
 use Rattle.mdp_spec.specs.Row.{IsMdp}
-use Rattle.mdp_spec.specs.Tree.{IsStrategy}
+use Rattle.mdp_rows.specs.declared.dir.Dir.{Dir}
 use Rattle.mdp_rows.specs.declared.dir.Dir.TheVariants.{Max, Min}
-use Rattle.mdp_horizon.specs.Until.{unfolded_steps, IsTable}
-use Rattle.mdp_horizon.specs.Bounds.{BoundedMax, BoundedMin}
-use Rattle.mdp_horizon.specs.Laws.{AnswersAreGreatest, AnswersAreLeast, HasOneGreatest, HasOneLeast}
-use Rattle.mdp_horizon.proofs.Backward.{table_of_backward, until-no_better, unfolded_steps_fits, unfolded_steps-is}
-use Rattle.mdp_horizon.proofs.Exact.{written_is_backward}
+use Rattle.mdp_horizon.specs.Objective.{Objective}
+use Rattle.mdp_horizon.specs.Objective.Objective.{until, total}
+use Rattle.mdp_horizon.specs.Bounds.{BoundedMax, BoundedMin, TotalMax, TotalMin}
+use Rattle.mdp_horizon.specs.Between.{MaxBetween, MinBetween}
+use Rattle.mdp_horizon.specs.Laws.{AnswersAreGreatest, AnswersAreLeast, HasOneGreatest, HasOneLeast, TotalsAreGreatest, TotalsAreLeast, HasOneGreatestTotal, HasOneLeastTotal}
+use Rattle.mdp_horizon.specs.Laws.{GreatestLies, LeastLies, GreatestTotalLies, LeastTotalLies}
+use Rattle.mdp_horizon.specs.Written.{Answer, Place, written_values, written_until, written_total}
+use Rattle.mdp_horizon.specs.Answer.{Answers, plain}
+use Rattle.mdp_horizon.specs.declared.bounded.Bounded.{Bounded}
+use Rattle.mdp_horizon.specs.declared.error.HorizonError.{HorizonError}
+use Rattle.mdp_horizon.proofs.Backward.{IsBest, HasBounds, best_of_halves, best-one, best-bounded}
+use Rattle.mdp_horizon.proofs.Exact.{written_is_exact}
+
+-- ---- any objective
+
+best_of_written : (dir : Dir) (m : Mdp) (o : Objective) (n : ℕ) (a : Answer) → IsMdp m → written_values dir m o n ≡ Ok a → IsBest dir m o n a.values a.steps
+best_of_written dir m o n a known made = let halves = written_is_exact dir m o known n a made in best_of_halves dir m o known n a.values a.steps halves.0 halves.1
+
+max_bounds : (m : Mdp) (o : Objective) (n : ℕ) (lower upper : List (Option ℚ)) (table : List (List ℕ)) → MaxBetween m o n lower upper table → HasBounds Max m o n upper lower table
+max_bounds m o n lower upper table b = record { takes = b.takes; no_better = b.above; reached = b.reached }
+
+min_bounds : (m : Mdp) (o : Objective) (n : ℕ) (lower upper : List (Option ℚ)) (table : List (List ℕ)) → MinBetween m o n lower upper table → HasBounds Min m o n lower upper table
+min_bounds m o n lower upper table b = record { takes = b.takes; no_better = b.below; reached = b.reached }
+
+-- ---- a bounded until
+
+until_max_is : (m : Mdp) (stay goals : List Bool) (n : ℕ) (z : List ℚ) (table : List (List ℕ)) → BoundedMax m stay goals n z table → IsBest Max m (until stay goals) n z table
+until_max_is m stay goals n z table b = record { takes = b.takes; no_better = b.above; reached = b.reached }
+
+until_min_is : (m : Mdp) (stay goals : List Bool) (n : ℕ) (z : List ℚ) (table : List (List ℕ)) → BoundedMin m stay goals n z table → IsBest Min m (until stay goals) n z table
+until_min_is m stay goals n z table b = record { takes = b.takes; no_better = b.below; reached = b.reached }
 
 pub answers_are_greatest : AnswersAreGreatest
 answers_are_greatest m stay goals n a known made =
-    let b = written_is_backward Max m stay goals known n a made in
-    record {
-      takes = table_of_backward Max m stay goals n a.values a.steps b;
-      above = λ u t s h tree. until-no_better Max m stay goals known u (IsStrategy.mixes tree) n a.values a.steps t s h (IsStrategy.fits tree) b;
-      reached = λ s h. unfolded_steps-is Max m stay goals known n a.values a.steps s h b;
-    }
+    let b = best_of_written Max m (until stay goals) n a known made in record { takes = b.takes; above = b.no_better; reached = b.reached }
 
 pub answers_are_least : AnswersAreLeast
 answers_are_least m stay goals n a known made =
-    let b = written_is_backward Min m stay goals known n a made in
-    record {
-      takes = table_of_backward Min m stay goals n a.values a.steps b;
-      below = λ u t s h tree. until-no_better Min m stay goals known u (IsStrategy.mixes tree) n a.values a.steps t s h (IsStrategy.fits tree) b;
-      reached = λ s h. unfolded_steps-is Min m stay goals known n a.values a.steps s h b;
-    }
-
--- the table's tree is a strategy tree
-unfolded_steps_is_strategy : (m : Mdp) (n : ℕ) (table : List (List ℕ)) (s : ℕ) → IsMdp m → IsTable m n table → s < states_of m → IsStrategy m 1 n (unfolded_steps m table s) s
-unfolded_steps_is_strategy m n table s known is h = record { mixes = omega arith; fits = unfolded_steps_fits m n table s known is.one_each is.policies h }
-
-max_at_most : (m : Mdp) (stay goals : List Bool) (n : ℕ) (z w : List ℚ) (table other : List (List ℕ)) (s : ℕ)
-    → IsMdp m → BoundedMax m stay goals n z table → BoundedMax m stay goals n w other → s < states_of m → value_at z s ≤ℚ value_at w s
-max_at_most m stay goals n z w table other s known p q h =
-    subst (λ (x : ℚ). x ≤ℚ value_at w s) (p.reached s h) (q.above 1 (unfolded_steps m table s) s h (unfolded_steps_is_strategy m n table s known p.takes h))
-
-min_at_least : (m : Mdp) (stay goals : List Bool) (n : ℕ) (z w : List ℚ) (table other : List (List ℕ)) (s : ℕ)
-    → IsMdp m → BoundedMin m stay goals n z table → BoundedMin m stay goals n w other → s < states_of m → value_at w s ≤ℚ value_at z s
-min_at_least m stay goals n z w table other s known p q h =
-    subst (λ (x : ℚ). value_at w s ≤ℚ x) (p.reached s h) (q.below 1 (unfolded_steps m table s) s h (unfolded_steps_is_strategy m n table s known p.takes h))
+    let b = best_of_written Min m (until stay goals) n a known made in record { takes = b.takes; below = b.no_better; reached = b.reached }
 
 pub bounded_max_unique : HasOneGreatest
 bounded_max_unique m stay goals n z w table other s known p q h =
-    ≤ℚ_antisymm _ _ (max_at_most m stay goals n z w table other s known p q h) (max_at_most m stay goals n w z other table s known q p h)
+    best-one Max m (until stay goals) known n z table (until_max_is m stay goals n z table p) s h w other (until_max_is m stay goals n w other q)
 
 pub bounded_min_unique : HasOneLeast
 bounded_min_unique m stay goals n z w table other s known p q h =
-    ≤ℚ_antisymm _ _ (min_at_least m stay goals n w z other table s known q p h) (min_at_least m stay goals n z w table other s known p q h)
+    best-one Min m (until stay goals) known n z table (until_min_is m stay goals n z table p) s h w other (until_min_is m stay goals n w other q)
+
+pub greatest_lies : GreatestLies
+greatest_lies m stay goals n z lower upper table other s known p q h =
+    let b = best-bounded Max m (until stay goals) known n z table (until_max_is m stay goals n z table p) s h upper lower other (max_bounds m (until stay goals) n lower upper other q) in (b.1, b.0)
+
+pub least_lies : LeastLies
+least_lies m stay goals n z lower upper table other s known p q h =
+    best-bounded Min m (until stay goals) known n z table (until_min_is m stay goals n z table p) s h lower upper other (min_bounds m (until stay goals) n lower upper other q)
+
+-- ---- a total reward
+
+total_max_is : (m : Mdp) (r n : ℕ) (z : List ℚ) (table : List (List ℕ)) → TotalMax m r n z table → IsBest Max m (total r) n z table
+total_max_is m r n z table b = record { takes = b.takes; no_better = b.above; reached = b.reached }
+
+total_min_is : (m : Mdp) (r n : ℕ) (z : List ℚ) (table : List (List ℕ)) → TotalMin m r n z table → IsBest Min m (total r) n z table
+total_min_is m r n z table b = record { takes = b.takes; no_better = b.below; reached = b.reached }
+
+pub totals_are_greatest : TotalsAreGreatest
+totals_are_greatest m r n a known named made =
+    let b = best_of_written Max m (total r) n a known made in record { named = named; takes = b.takes; above = b.no_better; reached = b.reached }
+
+pub totals_are_least : TotalsAreLeast
+totals_are_least m r n a known named made =
+    let b = best_of_written Min m (total r) n a known made in record { named = named; takes = b.takes; below = b.no_better; reached = b.reached }
+
+pub total_max_unique : HasOneGreatestTotal
+total_max_unique m r n z w table other s known p q h =
+    best-one Max m (total r) known n z table (total_max_is m r n z table p) s h w other (total_max_is m r n w other q)
+
+pub total_min_unique : HasOneLeastTotal
+total_min_unique m r n z w table other s known p q h =
+    best-one Min m (total r) known n z table (total_min_is m r n z table p) s h w other (total_min_is m r n w other q)
+
+pub greatest_total_lies : GreatestTotalLies
+greatest_total_lies m r n z lower upper table other s known p q h =
+    let b = best-bounded Max m (total r) known n z table (total_max_is m r n z table p) s h upper lower other (max_bounds m (total r) n lower upper other q) in (b.1, b.0)
+
+pub least_total_lies : LeastTotalLies
+least_total_lies m r n z lower upper table other s known p q h =
+    best-bounded Min m (total r) known n z table (total_min_is m r n z table p) s h lower upper other (min_bounds m (total r) n lower upper other q)
+
+-- ---- what the code answers
+
+-- what holds of each answer of a computation holds of the code's answer to it
+answered : (result : Result Bounded HorizonError) (r : Result Answer Place) (F : Answer → Type 0) → Answers plain result r
+    → ((a : Answer) → r ≡ Ok a → F a) → IfOk result (λ found. F (plain found))
+answered (Ok found) r F is each = each (plain found) is
+answered (Err e) r F is each = tt
+
+module _ (m : Mdp) (known_ : IsMdp m) (n : ℕ) (dir : Dir) (result : Result Bounded HorizonError) where
+  pub until_max : (stay goals : List Bool) → Answers plain result (written_until dir m stay goals n) → dir ≡ Max
+      → IfOk result (λ found. BoundedMax m stay goals n (plain found).values (plain found).steps)
+  until_max stay goals is e =
+      answered result (written_until Max m stay goals n) (λ a. BoundedMax m stay goals n a.values a.steps)
+      (subst (λ (dir : Dir). Answers plain result (written_until dir m stay goals n)) e is) (λ a made. answers_are_greatest m stay goals n a known_ made)
+
+  pub until_min : (stay goals : List Bool) → Answers plain result (written_until dir m stay goals n) → dir ≡ Min
+      → IfOk result (λ found. BoundedMin m stay goals n (plain found).values (plain found).steps)
+  until_min stay goals is e =
+      answered result (written_until Min m stay goals n) (λ a. BoundedMin m stay goals n a.values a.steps)
+      (subst (λ (dir : Dir). Answers plain result (written_until dir m stay goals n)) e is) (λ a made. answers_are_least m stay goals n a known_ made)
+
+  pub total_max : (r : ℕ) → r < length m.names → Answers plain result (written_total dir m r n) → dir ≡ Max
+      → IfOk result (λ found. TotalMax m r n (plain found).values (plain found).steps)
+  total_max r named is e =
+      answered result (written_total Max m r n) (λ a. TotalMax m r n a.values a.steps)
+      (subst (λ (dir : Dir). Answers plain result (written_total dir m r n)) e is) (λ a made. totals_are_greatest m r n a known_ named made)
+
+  pub total_min : (r : ℕ) → r < length m.names → Answers plain result (written_total dir m r n) → dir ≡ Min
+      → IfOk result (λ found. TotalMin m r n (plain found).values (plain found).steps)
+  total_min r named is e =
+      answered result (written_total Min m r n) (λ a. TotalMin m r n a.values a.steps)
+      (subst (λ (dir : Dir). Answers plain result (written_total dir m r n)) e is) (λ a made. totals_are_least m r n a known_ named made)

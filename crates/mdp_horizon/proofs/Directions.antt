@@ -1,18 +1,19 @@
 -- No better: at most for the greatest, at least for the least. Its laws for both alike, up to averages over the choices of a state.
 use Rattle.std.proofs.Common.{◌≡◌, ℕ, ◌<◌, ◌≤◌, List, sym, ◌∙◌, ap, subst, Ordering, true, false, refl}
 use Rattle.std.specs.declared.cmp.Ordering.TheVariants.{Less, Equal, Greater}
-use Rattle.mdp_math.specs.Rational.{ℚ, ◌*ℚ◌, ◌≤ℚ◌, ◌<ℚ◌}
+use Rattle.mdp_math.specs.Rational.{ℚ, ◌+ℚ◌, ◌*ℚ◌, ◌≤ℚ◌, ◌<ℚ◌}
 use Rattle.mdp_math.specs.Sum.{sum_at, EachAt}
 use Rattle.mdp_math.specs.Written.{cmp_ℚ}
 use Rattle.mdp_math.proofs.Laws.{one-*ℚ}
-use Rattle.mdp_math.proofs.Order.{0ℚ, ≤ℚ_trans, ≤ℚ_of_eq, ≤ℚ_of_lt, ≤ℚ_antisymm, mul-le-mul_left_ℚ, lt_of_cmp, eq_of_cmp, gt_of_cmp}
+use Rattle.mdp_math.proofs.Order.{0ℚ, ≤ℚ_refl, ≤ℚ_trans, ≤ℚ_of_eq, ≤ℚ_of_lt, ≤ℚ_antisymm, add-le-add_ℚ, mul-le-mul_left_ℚ, lt_of_cmp, eq_of_cmp, gt_of_cmp}
 use Rattle.mdp_math.proofs.SumsAt.{sum_at-le, sum_at-sum_of, sum_at-weighted_le, sum_at-weighted_ge, EachAt_all, EachAt_mono, EachAt_both}
-use Rattle.mdp_spec.specs.Mdp.{Entry, Mdp, choices_at}
+use Rattle.mdp_spec.specs.Mdp.{Choice, Entry, Mdp, choices_at}
 use Rattle.mdp_spec.specs.Row.{IsRow}
 use Rattle.mdp_spec.specs.Unit.{count_at}
-use Rattle.mdp_spec.proofs.Hits.{share, mixed}
+use Rattle.mdp_spec.proofs.Hits.{share}
 use Rattle.mdp_spec.proofs.Keeping.{share-nonneg, share-pos, shares-total}
 use Rattle.mdp_spec.proofs.Rows.{row_weigh, nonneg_at}
+use Rattle.mdp_spec.proofs.Steps.{average}
 use Rattle.mdp_rows.specs.declared.dir.Dir.{Dir}
 use Rattle.mdp_rows.specs.declared.dir.Dir.TheVariants.{Max, Min}
 use Rattle.mdp_horizon.specs.Choices.{is_better}
@@ -26,9 +27,31 @@ pub no_better_of_eq : (dir : Dir) (x y : ℚ) → x ≡ y → NoBetter dir x y
 no_better_of_eq Max x y e = ≤ℚ_of_eq x y e
 no_better_of_eq Min x y e = ≤ℚ_of_eq y x (sym e)
 
+pub no_better_antisymm : (dir : Dir) (x y : ℚ) → NoBetter dir x y → NoBetter dir y x → x ≡ y
+no_better_antisymm Max x y p q = ≤ℚ_antisymm x y p q
+no_better_antisymm Min x y p q = ≤ℚ_antisymm x y q p
+
 pub no_better_trans : (dir : Dir) (x y z : ℚ) → NoBetter dir x y → NoBetter dir y z → NoBetter dir x z
 no_better_trans Max x y z p q = ≤ℚ_trans x y z p q
 no_better_trans Min x y z p q = ≤ℚ_trans z y x q p
+
+-- what is added to both
+pub no_better_add : (dir : Dir) (a x y : ℚ) → NoBetter dir x y → NoBetter dir (a +ℚ x) (a +ℚ y)
+no_better_add Max a x y p = add-le-add_ℚ a a x y (≤ℚ_refl a) p
+no_better_add Min a x y p = add-le-add_ℚ a a y x (≤ℚ_refl a) p
+
+-- the other direction
+abbrev pub other : Dir → Dir
+other Max = Min
+other Min = Max
+
+pub turned : (dir : Dir) (x y : ℚ) → NoBetter dir x y → NoBetter (other dir) y x
+turned Max x y p = p
+turned Min x y p = p
+
+pub turned_back : (dir : Dir) (x y : ℚ) → NoBetter (other dir) x y → NoBetter dir y x
+turned_back Max x y p = p
+turned_back Min x y p = p
 
 -- ---- the test of the comparison
 
@@ -64,7 +87,8 @@ no_better_product : (dir : Dir) (p x y : ℚ) → 0ℚ ≤ℚ p → NoBetter dir
 no_better_product Max p x y h q = mul-le-mul_left_ℚ p x y h q
 no_better_product Min p x y h q = mul-le-mul_left_ℚ p y x h q
 
-no_better_weighted : {A : Type 0} (dir : Dir) (xs : List A) (u v : ℕ → A → ℚ) (y : ℚ) → EachAt xs (λ k x. 0ℚ ≤ℚ u k x) → EachAt xs (λ k x. 0ℚ <ℚ u k x → NoBetter dir (v k x) y)
+no_better_weighted : {A : Type 0} (dir : Dir) (xs : List A) (u v : ℕ → A → ℚ) (y : ℚ) → EachAt xs (λ k x. 0ℚ ≤ℚ u k x)
+    → EachAt xs (λ k x. 0ℚ <ℚ u k x → NoBetter dir (v k x) y)
     → NoBetter dir (sum_at xs (λ k x. u k x *ℚ v k x)) (sum_at xs u *ℚ y)
 no_better_weighted Max xs u v y h b = sum_at-weighted_le xs u v y h b
 no_better_weighted Min xs u v y h b = sum_at-weighted_ge xs u v y h b
@@ -79,23 +103,14 @@ row_sum-no_better dir n row f z known each =
     (λ e y q. no_better_product dir y.prob (f e y) (z y.target) q.0 q.1)
     (EachAt_both row (λ e y. 0ℚ ≤ℚ y.prob) (λ e y. NoBetter dir (f e y) (z y.target)) (nonneg_at n row known) each)))
 
-module _ (m : Mdp) (u : ℕ) (weights : ℕ → ℕ) (f : ℕ → ℕ → Entry → ℚ) (s : ℕ) (y : ℚ) (hu : 1 ≤ u) (adds : count_at (choices_at m s) (λ c x. weights c) ≡ u) where
-  -- an average of sums is no better than y, where the sum of each choice of weight above 0 is no better
-  pub mixed-no_better : (dir : Dir) → EachAt (choices_at m s) (λ c x. 0 < weights c → NoBetter dir (sum_at x.row (λ e t. t.prob *ℚ f c e t)) y) → NoBetter dir (mixed m u weights f s) y
-  mixed-no_better dir each =
-      subst (λ (w : ℚ). NoBetter dir (mixed m u weights f s) w) (ap (λ (w : ℚ). w *ℚ y) (shares-total (choices_at m s) u weights hu adds) ∙ one-*ℚ y)
-      (no_better_weighted dir (choices_at m s) (λ c x. share u weights c) (λ c x. sum_at x.row (λ e t. t.prob *ℚ f c e t)) y
-      (EachAt_all (choices_at m s) (λ c x. 0ℚ ≤ℚ share u weights c) (λ c x. share-nonneg u weights c hu))
-      (EachAt_mono (choices_at m s) (λ c x. 0 < weights c → NoBetter dir (sum_at x.row (λ e t. t.prob *ℚ f c e t)) y)
-      (λ c x. 0ℚ <ℚ share u weights c → NoBetter dir (sum_at x.row (λ e t. t.prob *ℚ f c e t)) y)
-      (λ c x q p. q (share-pos u weights c hu p)) each))
-
-  -- and it is y, where each such sum is
-  pub mixed-is : EachAt (choices_at m s) (λ c x. 0 < weights c → sum_at x.row (λ e t. t.prob *ℚ f c e t) ≡ y) → mixed m u weights f s ≡ y
-  mixed-is each = ≤ℚ_antisymm (mixed m u weights f s) y (side Max) (side Min)
-    where
-      side : (dir : Dir) → NoBetter dir (mixed m u weights f s) y
-      side dir =
-          mixed-no_better dir
-          (EachAt_mono (choices_at m s) (λ c x. 0 < weights c → sum_at x.row (λ e t. t.prob *ℚ f c e t) ≡ y) (λ c x. 0 < weights c → NoBetter dir (sum_at x.row (λ e t. t.prob *ℚ f c e t)) y)
-          (λ c x q p. no_better_of_eq dir _ _ (q p)) each)
+-- an average is no better than y, where each choice of weight above 0 is no better
+pub average-no_better : (dir : Dir) (m : Mdp) (u : ℕ) (weights : ℕ → ℕ) (gain : Choice → ℚ) (f : ℕ → ℕ → Entry → ℚ) (s : ℕ) (y : ℚ) → 1 ≤ u
+    → count_at (choices_at m s) (λ c x. weights c) ≡ u
+    → EachAt (choices_at m s) (λ c x. 0 < weights c → NoBetter dir (gain x +ℚ sum_at x.row (λ e t. t.prob *ℚ f c e t)) y) → NoBetter dir (average m u weights gain f s) y
+average-no_better dir m u weights gain f s y hu adds each =
+    subst (λ (w : ℚ). NoBetter dir (average m u weights gain f s) w) (ap (λ (w : ℚ). w *ℚ y) (shares-total (choices_at m s) u weights hu adds) ∙ one-*ℚ y)
+    (no_better_weighted dir (choices_at m s) (λ c x. share u weights c) (λ c x. gain x +ℚ sum_at x.row (λ e t. t.prob *ℚ f c e t)) y
+    (EachAt_all (choices_at m s) (λ c x. 0ℚ ≤ℚ share u weights c) (λ c x. share-nonneg u weights c hu))
+    (EachAt_mono (choices_at m s) (λ c x. 0 < weights c → NoBetter dir (gain x +ℚ sum_at x.row (λ e t. t.prob *ℚ f c e t)) y)
+    (λ c x. 0ℚ <ℚ share u weights c → NoBetter dir (gain x +ℚ sum_at x.row (λ e t. t.prob *ℚ f c e t)) y)
+    (λ c x q p. q (share-pos u weights c hu p)) each))

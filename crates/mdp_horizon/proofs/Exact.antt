@@ -1,21 +1,24 @@
 -- Written backward induction is backward induction in exact numbers, where no term is past width.
-use Rattle.std.proofs.Common.{◌≡◌, ℕ, suc, ◌<◌, ⊎_elim, inl, inr, Bool, true, false, if◌then◌else◌, List, [], ◌∷◌}
-use Rattle.std.proofs.Common.{◌++◌, length, get_or, Result, Ok, Err, refl, sym, ◌∙◌, ap, ap₂, subst, arith, length-append}
-use Rattle.std.proofs.lemmas.Bool.{cases_Bool}
+use Rattle.std.proofs.Common.{◌≡◌, ℕ, suc, ◌<◌, inl, inr, List, [], ◌∷◌, ◌++◌, length, map, get_or, slice_index}
+use Rattle.std.proofs.Common.{Option, Some, None, Result, Ok, Err, refl, sym, ◌∙◌, ap, ap₂, subst, arith, length-append}
 use Rattle.std.proofs.lemmas.List.{get_or_append_left}
 use Rattle.std.proofs.lemmas.List.FromFn.{get_or-map-range_with_len, length-map-range_with_len}
 use Rattle.std.proofs.Math.Seq.{get_or-append_seam}
 use Rattle.mdp_math.specs.Rational.{ℚ}
 use Rattle.mdp_math.specs.Result.{◌>>=◌}
 use Rattle.mdp_math.proofs.Numbers.{last_or}
-use Rattle.mdp_math.proofs.Order.{0ℚ, 1ℚ}
+use Rattle.mdp_math.proofs.Order.{0ℚ}
 use Rattle.mdp_spec.specs.Mdp.{Mdp, states_of, choices_at, value_at}
 use Rattle.mdp_spec.specs.Row.{IsMdp}
-use Rattle.mdp_spec.specs.Tree.{is_marked}
+use Rattle.mdp_spec.specs.Bounds.{finite_part}
+use Rattle.mdp_spec.specs.RewardRules.{StaysFinite}
 use Rattle.mdp_rows.specs.declared.dir.Dir.{Dir}
+use Rattle.mdp_horizon.specs.Objective.{Objective, stops, ending}
 use Rattle.mdp_horizon.specs.Choices.{Best, best}
-use Rattle.mdp_horizon.specs.Written.{Place, Row, Answer, best_choice, backup, with_state, next_state, no_states, backups, end_value, ending, no_steps, with_step, next_step, written_until}
-use Rattle.mdp_horizon.proofs.Backward.{IsBackup, IsBackward}
+use Rattle.mdp_horizon.specs.Written.{Place, Row, Answer, best_choice, stopped_or, backup, with_state, next_state, no_states, backups, endings, no_steps, with_step, next_step, written_values}
+use Rattle.mdp_horizon.proofs.Directions.{NoBetter, no_better_of_eq}
+use Rattle.mdp_horizon.proofs.Claims.{claim_all, stays_finite-some, finite_part-some}
+use Rattle.mdp_horizon.proofs.Halves.{backed_up, CoversStep, FollowsStep, IsCovering, IsFollowing}
 use Rattle.mdp_horizon.proofs.Choosing.{IsBestOf, best_choice-is}
 use Rattle.mdp_horizon.proofs.Turns.{ok_same, ok_part, in_turn-keeps}
 
@@ -51,94 +54,100 @@ grown f n row x h e = record {
   ];
 }
 
-module _ (dir : Dir) (m : Mdp) (stay goals : List Bool) where
+module _ (dir : Dir) (m : Mdp) (o : Objective) where
   -- ---- all states
 
-  backups-are : (depth : ℕ) (z : List ℚ) (row : Row) → backups dir m stay goals depth z ≡ Ok row → AreOf (backup dir m stay goals depth z) (states_of m) row
+  backups-are : (depth : ℕ) (z : List ℚ) (row : Row) → backups dir m o depth z ≡ Ok row → AreOf (backup dir m o depth z) (states_of m) row
   backups-are depth z row made =
-      in_turn-keeps (next_state dir m stay goals depth z) (Ok no_states) (AreOf (backup dir m stay goals depth z)) (states_of m)
-      (λ b e. subst (AreOf (backup dir m stay goals depth z) 0) (ok_same no_states b e) (record { values = refl; choices = refl; at = λ s l. absurd (omega arith) }))
+      in_turn-keeps (next_state dir m o depth z) (Ok no_states) (AreOf (backup dir m o depth z)) (states_of m)
+      (λ b e. subst (AreOf (backup dir m o depth z) 0) (ok_same no_states b e) (record { values = refl; choices = refl; at = λ s l. absurd (omega arith) }))
       (λ n b c l h e.
-      let a = ok_part (backup dir m stay goals depth z n) (λ x. let r : Result Row Place = Ok (with_state b x) in r) c e in
-      subst (AreOf (backup dir m stay goals depth z) (suc n)) (ok_same (with_state b a.0) c a.2) (grown (backup dir m stay goals depth z) n b a.0 h a.1))
+      let a = ok_part (backup dir m o depth z n) (λ x. let r : Result Row Place = Ok (with_state b x) in r) c e in
+      subst (AreOf (backup dir m o depth z) (suc n)) (ok_same (with_state b a.0) c a.2) (grown (backup dir m o depth z) n b a.0 h a.1))
       (states_of m) row (omega arith) made
 
-  pub backups-length : (depth : ℕ) (z : List ℚ) (row : Row) → backups dir m stay goals depth z ≡ Ok row → length row.values ≡ states_of m
+  pub backups-length : (depth : ℕ) (z : List ℚ) (row : Row) → backups dir m o depth z ≡ Ok row → length row.values ≡ states_of m
   backups-length depth z row made = AreOf.values (backups-are depth z row made)
 
   -- a step, from where the code computes it
-  pub step_made : (n d : ℕ) (z : List ℚ) (a : Answer) (row : Row) → d ≡ suc n → z ≡ a.values → backups dir m stay goals d z ≡ Ok row → next_step dir m stay goals n a ≡ Ok (with_step a row)
+  pub step_made : (n d : ℕ) (z : List ℚ) (a : Answer) (row : Row) → d ≡ suc n → z ≡ a.values → backups dir m o d z ≡ Ok row → next_step dir m o n a ≡ Ok (with_step a row)
   step_made n d z a row e q made =
-      ap (λ (r : Result Row Place). let p : Result Answer Place = r >>= (λ x. Ok (with_step a x)) in p) (ap₂ (backups dir m stay goals) (sym e) (sym q) ∙ made)
+      ap (λ (r : Result Row Place). let p : Result Answer Place = r >>= (λ x. Ok (with_step a x)) in p) (ap₂ (backups dir m o) (sym e) (sym q) ∙ made)
 
-  pub step_refused : (n d : ℕ) (z : List ℚ) (a : Answer) (w : Place) → d ≡ suc n → z ≡ a.values → backups dir m stay goals d z ≡ Err w → next_step dir m stay goals n a ≡ Err w
+  pub step_refused : (n d : ℕ) (z : List ℚ) (a : Answer) (w : Place) → d ≡ suc n → z ≡ a.values → backups dir m o d z ≡ Err w → next_step dir m o n a ≡ Err w
   step_refused n d z a w e q made =
-      ap (λ (r : Result Row Place). let p : Result Answer Place = r >>= (λ x. Ok (with_step a x)) in p) (ap₂ (backups dir m stay goals) (sym e) (sym q) ∙ made)
+      ap (λ (r : Result Row Place). let p : Result Answer Place = r >>= (λ x. Ok (with_step a x)) in p) (ap₂ (backups dir m o) (sym e) (sym q) ∙ made)
 
   -- ---- one state
 
-  module _ (known_ : IsMdp m) (depth : ℕ) (z : List ℚ) (s : ℕ) (h : s < states_of m) (x : Best) (made : backup dir m stay goals depth z s ≡ Ok x) where
-    goal_by : (b : Bool) → b ≡ true → (other : Result Best Place) → (if b then Ok (best 1ℚ 0) else other) ≡ Ok x → best 1ℚ 0 ≡ x
-    goal_by true e other q = ok_same (best 1ℚ 0) x q
-    goal_by false e other q = cc
+  module _ (known_ : IsMdp m) (depth : ℕ) (z : List ℚ) (s : ℕ) (h : s < states_of m) (x : Best) (made : backup dir m o depth z s ≡ Ok x) where
+    by_stop : (stop : Option ℚ) → stops m o s ≡ stop → stopped_or stop (best_choice dir m o depth z s) ≡ Ok x
+    by_stop stop e = ap (λ (stop : Option ℚ). stopped_or stop (best_choice dir m o depth z s)) (sym e) ∙ made
 
-    other_by : (b : Bool) → b ≡ false → (one other : Result Best Place) → (if b then one else other) ≡ Ok x → other ≡ Ok x
-    other_by true e one other q = cc
-    other_by false e one other q = q
+    stopped : (y : ℚ) → stops m o s ≡ Some y → best y 0 ≡ x
+    stopped y e = ok_same (best y 0) x (by_stop (Some y) e)
 
-    stays_by : (b : Bool) → b ≡ true → (one other : Result Best Place) → (if b then one else other) ≡ Ok x → one ≡ Ok x
-    stays_by true e one other q = q
-    stays_by false e one other q = cc
+    chosen : stops m o s ≡ None → IsBestOf dir m o z s (length (choices_at m s)) x
+    chosen e = best_choice-is dir m o depth z s x (known_.choice s h) (by_stop None e)
 
-    at_goal : is_marked goals s ≡ true → best 1ℚ 0 ≡ x
-    at_goal g = goal_by (is_marked goals s) g _ made
-
-    no_goal : is_marked goals s ≡ false → (if is_marked stay s then best_choice dir m depth z s else Ok (best 0ℚ 0)) ≡ Ok x
-    no_goal g = other_by (is_marked goals s) g _ _ made
-
-    away : is_marked goals s ≡ false → is_marked stay s ≡ false → best 0ℚ 0 ≡ x
-    away g a = ok_same (best 0ℚ 0) x (other_by (is_marked stay s) a _ _ (no_goal g))
-
-    stays : is_marked goals s ≡ false → is_marked stay s ≡ true → IsBestOf dir m z s (length (choices_at m s)) x
-    stays g a = best_choice-is dir m depth z s x (known_.choice s h) (stays_by (is_marked stay s) a _ _ (no_goal g))
+    in_range_by : (stop : Option ℚ) → stops m o s ≡ stop → x.choice < length (choices_at m s)
+    in_range_by (Some y) e = subst (λ (b : Best). b.choice < length (choices_at m s)) (stopped y e) (known_.choice s h)
+    in_range_by None e = IsBestOf.inside (chosen e)
 
     in_range : x.choice < length (choices_at m s)
-    in_range =
-        ⊎_elim (λ g. subst (λ (b : Best). b.choice < length (choices_at m s)) (at_goal g) (known_.choice s h))
-        (λ g.
-        ⊎_elim (λ a. IsBestOf.inside (stays g a)) (λ a. subst (λ (b : Best). b.choice < length (choices_at m s)) (away g a) (known_.choice s h)) (cases_Bool (is_marked stay s)))
-        (cases_Bool (is_marked goals s))
+    in_range = in_range_by (stops m o s) refl
 
   -- ---- one step, and all steps
 
-  backups_back_up : IsMdp m → (depth : ℕ) (z : List ℚ) (row : Row) → backups dir m stay goals depth z ≡ Ok row → IsBackup dir m stay goals z row.choices row.values
-  backups_back_up known_ depth z row made =
-      let are = backups-are depth z row made in
-      record {
-        policy = record { one_each = are.choices; in_range = λ s h. in_range known_ depth z s h _ (are.at s h) };
-        at_goal = λ s h g. sym (ap Best.value (at_goal known_ depth z s h _ (are.at s h) g));
-        away = λ s h g a. sym (ap Best.value (away known_ depth z s h _ (are.at s h) g a));
-        reached = λ s h g a. IsBestOf.value (stays known_ depth z s h _ (are.at s h) g a);
-        covers = λ s c h g a l. IsBestOf.covers (stays known_ depth z s h _ (are.at s h) g a) c l;
-      }
+  module _ (known_ : IsMdp m) (depth : ℕ) (z : List ℚ) (row : Row) (made : backups dir m o depth z ≡ Ok row) where
+    are : AreOf (backup dir m o depth z) (states_of m) row
+    are = backups-are depth z row made
 
-  end_by : (b : Bool) (c : Bool) → b ≡ c → (if b then 1ℚ else 0ℚ) ≡ (if c then 1ℚ else 0ℚ)
-  end_by b c e = ap (λ (x : Bool). if x then 1ℚ else 0ℚ) e
+    -- the values of exact numbers as values that may be missing
+    backed_up_all : (s c : ℕ) → backed_up m o (finite_part (map Some z)) s c ≡ backed_up m o z s c
+    backed_up_all s c = ap (λ (z : List ℚ). backed_up m o z s c) (finite_part-some z)
 
-  ending-at : (s : ℕ) → s < states_of m → value_at (ending m goals) s ≡ end_value goals s
-  ending-at s h = get_or-map-range_with_len (end_value goals) 0 (states_of m) s s 0ℚ h (omega arith)
+    backups_cover : CoversStep dir m o (map Some z) (map Some row.values)
+    backups_cover = record {
+      stopped = λ s x h e.
+          claim_all row.values s (λ y. NoBetter dir x y) (no_better_of_eq dir _ _ (ap Best.value (stopped known_ depth z s h _ (are.at s h) x e)));
+      each = λ s c h e l.
+          claim_all row.values s (λ y. StaysFinite m (map Some z) s c × NoBetter dir (backed_up m o (finite_part (map Some z)) s c) y)
+          (stays_finite-some m z s c, subst (λ (w : ℚ). NoBetter dir w (value_at row.values s)) (sym (backed_up_all s c)) (IsBestOf.covers (chosen known_ depth z s h _ (are.at s h) e) c l));
+    }
 
-  pub length-ending : length (ending m goals) ≡ states_of m
-  length-ending = length-map-range_with_len (end_value goals) 0 (states_of m)
+    backups_follow : FollowsStep dir m o (map Some z) row.choices (map Some row.values)
+    backups_follow = record {
+      policy = record { one_each = are.choices; in_range = λ s h. in_range known_ depth z s h _ (are.at s h) };
+      stopped = λ s x h e.
+          claim_all row.values s (λ y. NoBetter dir y x) (no_better_of_eq dir _ _ (sym (ap Best.value (stopped known_ depth z s h _ (are.at s h) x e))));
+      taken = λ s h e.
+          claim_all row.values s
+          (λ y. StaysFinite m (map Some z) s (slice_index row.choices s) × NoBetter dir y (backed_up m o (finite_part (map Some z)) s (slice_index row.choices s))) (
+            stays_finite-some m z s (slice_index row.choices s),
+            no_better_of_eq dir _ _ (IsBestOf.value (chosen known_ depth z s h _ (are.at s h) e) ∙ sym (backed_up_all s (slice_index row.choices s))),
+          );
+    }
 
-  pub written_is_backward : IsMdp m → (n : ℕ) (a : Answer) → written_until dir m stay goals n ≡ Ok a → IsBackward dir m stay goals n a.values a.steps
-  written_is_backward known_ n a made =
-      in_turn-keeps (next_step dir m stay goals) (Ok (no_steps m goals)) (λ k b. IsBackward dir m stay goals k b.values b.steps) n
-      (λ b e. subst (λ (b : Answer). IsBackward dir m stay goals 0 b.values b.steps) (ok_same (no_steps m goals) b e) (record {
-        at_goal = λ s h g. ending-at s h ∙ end_by (is_marked goals s) true g;
-        away = λ s h g. ending-at s h ∙ end_by (is_marked goals s) false g;
-      }))
+  endings-at : (s : ℕ) → s < states_of m → value_at (endings m o) s ≡ ending m o s
+  endings-at s h = get_or-map-range_with_len (ending m o) 0 (states_of m) s s 0ℚ h (omega arith)
+
+  pub length-endings : length (endings m o) ≡ states_of m
+  length-endings = length-map-range_with_len (ending m o) 0 (states_of m)
+
+  -- both halves of n steps
+  abbrev pub AreExact : ℕ → Answer → Type 0
+  AreExact n a = IsCovering dir m o n (map Some a.values) × IsFollowing dir m o n (map Some a.values) a.steps
+
+  pub written_is_exact : IsMdp m → (n : ℕ) (a : Answer) → written_values dir m o n ≡ Ok a → AreExact n a
+  written_is_exact known_ n a made =
+      in_turn-keeps (next_step dir m o) (Ok (no_steps m o)) AreExact n
+      (λ b e. subst (AreExact 0) (ok_same (no_steps m o) b e) (
+        λ s h. claim_all (endings m o) s (λ y. NoBetter dir (ending m o s) y) (no_better_of_eq dir _ _ (sym (endings-at s h))),
+        λ s h. claim_all (endings m o) s (λ y. NoBetter dir y (ending m o s)) (no_better_of_eq dir _ _ (endings-at s h)),
+      ))
       (λ k b c l h e.
-      let p = ok_part (backups dir m stay goals (suc k) b.values) (λ row. let r : Result Answer Place = Ok (with_step b row) in r) c e in
-      subst (λ (b : Answer). IsBackward dir m stay goals (suc k) b.values b.steps) (ok_same (with_step b p.0) c p.2) (b.values, h, backups_back_up known_ (suc k) b.values p.0 p.1))
+      let p = ok_part (backups dir m o (suc k) b.values) (λ row. let r : Result Answer Place = Ok (with_step b row) in r) c e in
+      subst (AreExact (suc k)) (ok_same (with_step b p.0) c p.2)
+      ((map Some b.values, h.0, backups_cover known_ (suc k) b.values p.0 p.1), (map Some b.values, h.1, backups_follow known_ (suc k) b.values p.0 p.1)))
       n a (omega arith) made

@@ -15,39 +15,39 @@ use Rattle.mdp_horizon.specs.Bounds.{BoundedMax}
 use Rattle.mdp_horizon.specs.Written.{Place, Answer, written_until}
 use Rattle.mdp_horizon.specs.Spelling.{until_text}
 
-abbrev to : ℕ → ℚ → Entry
+abbrev pub to : ℕ → ℚ → Entry
 to t p = record { target = t; prob = p }
 
 abbrev by : List Entry → Choice
 by row = record { row = row; rewards = [] }
 
-abbrev with : List ℕ → List Choice → State
+abbrev pub with : List ℕ → List Choice → State
 with labels choices = record { labels = labels; choices = choices }
 
-abbrev number : ℕ → ℚ
+abbrev pub number : ℕ → ℚ
 number n = of_int (pos n)
 
 abbrev model_of : List State → Mdp
 model_of states = record { names = []; labels = codes "init" ∷ codes "goal" ∷ []; states = states }
 
 -- state 0 goes to the goal 1 with 1/3 and is lost in 2 with 2/3, or tries: it stays with 1/2, comes to the goal with 1/4 and is lost with 1/4
-abbrev tries : Mdp
+abbrev pub tries : Mdp
 tries = model_of
     (with (0 ∷ []) (by (to 1 (ratio (pos 1) 3) ∷ to 2 (ratio (pos 2) 3) ∷ []) ∷ by (to 0 (ratio (pos 1) 2) ∷ to 1 (ratio (pos 1) 4) ∷ to 2 (ratio (pos 1) 4) ∷ []) ∷ [])
     ∷ with (1 ∷ []) (by (to 1 (number 1) ∷ []) ∷ [])
     ∷ with [] (by (to 2 (number 1) ∷ []) ∷ [])
     ∷ [])
 
-abbrev all : List Bool
+abbrev pub all : List Bool
 all = true ∷ true ∷ true ∷ []
 
-abbrev lost_stays : List Bool
+abbrev pub lost_stays : List Bool
 lost_stays = false ∷ false ∷ true ∷ []
 
-abbrev goal : List Bool
+abbrev pub goal : List Bool
 goal = false ∷ true ∷ false ∷ []
 
-abbrev answer : List ℚ → List (List ℕ) → Result Answer Place
+abbrev pub answer : List ℚ → List (List ℕ) → Result Answer Place
 answer values steps = Ok (record { values = values; steps = steps })
 
 -- ---- backward induction

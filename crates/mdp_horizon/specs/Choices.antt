@@ -1,13 +1,14 @@
 -- The sums of a state's choices, made and compared by written arithmetic.
-use Rattle.std.specs.Prelude.{ℕ, Bool, true, false, List, Option, Some, pos, if◌then◌else◌}
+use Rattle.std.specs.Prelude.{ℕ, Bool, true, false, List, Option, Some, if◌then◌else◌}
 use Rattle.std.specs.declared.cmp.Ordering.{Ordering}
 use Rattle.std.specs.declared.cmp.Ordering.TheVariants.{Less, Equal, Greater}
-use Rattle.mdp_math.specs.Rational.{ℚ, of_int}
+use Rattle.mdp_math.specs.Rational.{ℚ}
 use Rattle.mdp_math.specs.Written.{written_compare, ◌>>=◌}
 use Rattle.mdp_spec.specs.Mdp.{Mdp, row_at}
 use Rattle.mdp_spec.specs.Written.{written_sum}
 use Rattle.mdp_rows.specs.declared.dir.Dir.{Dir}
 use Rattle.mdp_rows.specs.declared.dir.Dir.TheVariants.{Max, Min}
+use Rattle.mdp_horizon.specs.Objective.{Objective, earns}
 
 -- the value of a state, and the choice that has it
 pub record Best : Type 0 where
@@ -30,10 +31,10 @@ is_better Min Greater = false
 abbrev pub judged : Dir → ℕ → Best → ℚ → Option Best
 judged dir c leader sum = written_compare sum leader.value >>= (λ order. Some (if is_better dir order then best sum c else leader))
 
--- the sum of choice c of state s over the values z
-abbrev pub sum_of_choice : Mdp → List ℚ → ℕ → ℕ → Option ℚ
-sum_of_choice m z s c = written_sum z (of_int (pos 0)) (row_at m s c)
+-- what choice c of state s earns, and then its sum over the values z of the states behind it
+abbrev pub sum_of_choice : Mdp → Objective → List ℚ → ℕ → ℕ → Option ℚ
+sum_of_choice m o z s c = written_sum z (earns m o s c) (row_at m s c)
 
 -- choice c is summed up, and compared before the next one is
-abbrev pub compared : Dir → Mdp → List ℚ → ℕ → ℕ → Best → Option Best
-compared dir m z s c leader = sum_of_choice m z s c >>= judged dir c leader
+abbrev pub compared : Dir → Mdp → Objective → List ℚ → ℕ → ℕ → Best → Option Best
+compared dir m o z s c leader = sum_of_choice m o z s c >>= judged dir c leader

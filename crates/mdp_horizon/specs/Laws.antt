@@ -1,14 +1,17 @@
 -- What written backward induction means, and what its meaning fixes.
-use Rattle.std.specs.Prelude.{◌≡◌, ℕ, ◌<◌, Bool, true, List, Ok}
-use Rattle.mdp_math.specs.Rational.{ℚ}
+use Rattle.std.specs.Prelude.{◌≡◌, ℕ, ◌<◌, Bool, true, List, length, Option, Ok}
+use Rattle.mdp_math.specs.Rational.{ℚ, ◌≤ℚ◌}
 use Rattle.mdp_spec.specs.Mdp.{Mdp, states_of, value_at}
 use Rattle.mdp_spec.specs.Row.{IsMdp}
 use Rattle.mdp_spec.specs.Tree.{Tree, IsStrategy, is_marked}
 use Rattle.mdp_spec.specs.Hit.{hit}
+use Rattle.mdp_spec.specs.Bounds.{reward_at}
 use Rattle.mdp_rows.specs.declared.dir.Dir.TheVariants.{Max, Min}
-use Rattle.mdp_horizon.specs.Until.{until}
-use Rattle.mdp_horizon.specs.Bounds.{BoundedMax, BoundedMin}
-use Rattle.mdp_horizon.specs.Written.{Answer, written_until}
+use Rattle.mdp_horizon.specs.Until.{until as until_of}
+use Rattle.mdp_horizon.specs.Objective.Objective.{until, total}
+use Rattle.mdp_horizon.specs.Bounds.{BoundedMax, BoundedMin, TotalMax, TotalMin}
+use Rattle.mdp_horizon.specs.Between.{Claimed, MaxBetween, MinBetween}
+use Rattle.mdp_horizon.specs.Written.{Answer, written_until, written_total}
 
 abbrev pub AnswersAreGreatest : Type 0
 AnswersAreGreatest = (m : Mdp) (stay goals : List Bool) (n : ℕ) (a : Answer) → IsMdp m → written_until Max m stay goals n ≡ Ok a → BoundedMax m stay goals n a.values a.steps
@@ -31,4 +34,52 @@ HasOneLeast =
 abbrev pub IsHitWhereAllStay : Type 0
 IsHitWhereAllStay =
     (m : Mdp) (stay goals : List Bool) (u n : ℕ) (t : Tree) (s : ℕ)
-    → IsMdp m → ((v : ℕ) → v < states_of m → is_marked stay v ≡ true) → s < states_of m → IsStrategy m u n t s → until m stay goals u n t s ≡ hit m goals u n t s
+    → IsMdp m → ((v : ℕ) → v < states_of m → is_marked stay v ≡ true) → s < states_of m → IsStrategy m u n t s → until_of m stay goals u n t s ≡ hit m goals u n t s
+
+-- ---- total rewards
+
+abbrev pub TotalsAreGreatest : Type 0
+TotalsAreGreatest = (m : Mdp) (r n : ℕ) (a : Answer) → IsMdp m → r < length m.names → written_total Max m r n ≡ Ok a → TotalMax m r n a.values a.steps
+
+abbrev pub TotalsAreLeast : Type 0
+TotalsAreLeast = (m : Mdp) (r n : ℕ) (a : Answer) → IsMdp m → r < length m.names → written_total Min m r n ≡ Ok a → TotalMin m r n a.values a.steps
+
+abbrev pub HasOneGreatestTotal : Type 0
+HasOneGreatestTotal =
+    (m : Mdp) (r n : ℕ) (z w : List ℚ) (table other : List (List ℕ)) (s : ℕ)
+    → IsMdp m → TotalMax m r n z table → TotalMax m r n w other → s < states_of m → value_at z s ≡ value_at w s
+
+abbrev pub HasOneLeastTotal : Type 0
+HasOneLeastTotal =
+    (m : Mdp) (r n : ℕ) (z w : List ℚ) (table other : List (List ℕ)) (s : ℕ)
+    → IsMdp m → TotalMin m r n z table → TotalMin m r n w other → s < states_of m → value_at z s ≡ value_at w s
+
+-- ---- exact values between lower and upper ones
+
+-- x lies between two values that may be missing
+abbrev pub Lies : Option ℚ → Option ℚ → ℚ → Type 0
+Lies lower upper x = Claimed lower (λ y. y ≤ℚ x) × Claimed upper (λ y. x ≤ℚ y)
+
+abbrev pub GreatestLies : Type 0
+GreatestLies =
+    (m : Mdp) (stay goals : List Bool) (n : ℕ) (z : List ℚ) (lower upper : List (Option ℚ)) (table other : List (List ℕ)) (s : ℕ)
+    → IsMdp m → BoundedMax m stay goals n z table → MaxBetween m (until stay goals) n lower upper other → s < states_of m
+    → Lies (reward_at lower s) (reward_at upper s) (value_at z s)
+
+abbrev pub LeastLies : Type 0
+LeastLies =
+    (m : Mdp) (stay goals : List Bool) (n : ℕ) (z : List ℚ) (lower upper : List (Option ℚ)) (table other : List (List ℕ)) (s : ℕ)
+    → IsMdp m → BoundedMin m stay goals n z table → MinBetween m (until stay goals) n lower upper other → s < states_of m
+    → Lies (reward_at lower s) (reward_at upper s) (value_at z s)
+
+abbrev pub GreatestTotalLies : Type 0
+GreatestTotalLies =
+    (m : Mdp) (r n : ℕ) (z : List ℚ) (lower upper : List (Option ℚ)) (table other : List (List ℕ)) (s : ℕ)
+    → IsMdp m → TotalMax m r n z table → MaxBetween m (total r) n lower upper other → s < states_of m
+    → Lies (reward_at lower s) (reward_at upper s) (value_at z s)
+
+abbrev pub LeastTotalLies : Type 0
+LeastTotalLies =
+    (m : Mdp) (r n : ℕ) (z : List ℚ) (lower upper : List (Option ℚ)) (table other : List (List ℕ)) (s : ℕ)
+    → IsMdp m → TotalMin m r n z table → MinBetween m (total r) n lower upper other → s < states_of m
+    → Lies (reward_at lower s) (reward_at upper s) (value_at z s)

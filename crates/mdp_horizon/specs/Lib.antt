@@ -1,7 +1,10 @@
 pub mod Until
+pub mod Objective
 pub mod Bounds
+pub mod Between
 pub mod Choices
 pub mod Written
+pub mod Code
 pub mod Answer
 pub mod Spelling
 pub mod Laws

@@ -11,9 +11,12 @@ use Rattle.mdp_horizon.specs.Written.{Answer}
 abbrev pub version_text : List ℕ
 version_text = codes "mdp-horizon 1"
 
--- what was asked: from states of A to states of B, within so many steps
-abbrev pub claim_text : Dir → List ℕ → List ℕ → ℕ → List ℕ
-claim_text dir stay label steps = codes "claim" ␣ dir_text dir ␣ codes "until" ␣ quoted stay ␣ quoted label ␣ decimal steps
+-- what was asked, within so many steps: to come from states of A to states of B, or to earn by the reward name
+abbrev pub until_claim : Dir → List ℕ → List ℕ → ℕ → List ℕ
+until_claim dir stay label steps = codes "claim" ␣ dir_text dir ␣ codes "until" ␣ quoted stay ␣ quoted label ␣ decimal steps
+
+abbrev pub total_claim : Dir → List ℕ → ℕ → List ℕ
+total_claim dir name steps = codes "claim" ␣ dir_text dir ␣ codes "reward" ␣ quoted name ␣ decimal steps
 
 -- each choice behind one blank
 abbrev pub choice_words : List ℕ → List ℕ
@@ -27,10 +30,18 @@ abbrev pub step_lines : List (List ℕ) → List ℕ
 step_lines [] = []
 step_lines (choices ∷ steps) = line (step_text (suc (length steps)) choices) ++ step_lines steps
 
--- the lines before those of the states
-abbrev pub head_text : Dir → List ℕ → List ℕ → Mdp → Answer → List ℕ
-head_text dir stay label m a =
-    line version_text ++ (line (claim_text dir stay label (length a.steps)) ++ (line (states_text (states_of m)) ++ line (init_text (init_by (initial_of m) (λ s. Some (value_at a.values s))))))
+-- the number of states, the initial state, a line for each state and a line for each step
+abbrev pub answer_lines : Mdp → Answer → List ℕ
+answer_lines m a =
+    line (states_text (states_of m))
+    ++ (line (init_text (init_by (initial_of m) (λ s. Some (value_at a.values s)))) ++ (value_lines 0 a.values ++ (step_lines a.steps ++ line end_text)))
+
+-- the answer to a claim
+abbrev pub answer_text : List ℕ → Mdp → Answer → List ℕ
+answer_text claim m a = line version_text ++ (line claim ++ answer_lines m a)
 
 unfoldable pub until_text : Dir → List ℕ → List ℕ → Mdp → Answer → List ℕ
-until_text dir stay label m a = head_text dir stay label m a ++ (value_lines 0 a.values ++ (step_lines a.steps ++ line end_text))
+until_text dir stay label m a = answer_text (until_claim dir stay label (length a.steps)) m a
+
+unfoldable pub total_text : Dir → List ℕ → Mdp → Answer → List ℕ
+total_text dir name m a = answer_text (total_claim dir name (length a.steps)) m a

@@ -1,24 +1,25 @@
 ghost use Rattle.std.specs.Prelude.{◌≡◌, ◌<◌, ◌+◌, length, Some, None, IfOk, IfErr};
 ghost use Rattle.mdp_spec.specs.Mdp.{states_of, choices_at};
+ghost use Rattle.mdp_horizon.specs.Objective.{stops, ending, earns};
 ghost use Rattle.mdp_horizon.specs.Choices.{is_better, judged, sum_of_choice, compared};
-ghost use Rattle.mdp_horizon.specs.Written.{best_choice, backup, backups, end_value, ending};
+ghost use Rattle.mdp_horizon.specs.Written.{best_choice, backup, backups, endings};
+ghost use Rattle.mdp_horizon.specs.Code.{plain_objective, IsObjectiveOf, IsObjectiveOf-prop};
 ghost use Rattle.mdp_horizon.specs.Answer.{Answers, placed, shown, row_of};
 
 use crate::error::HorizonError;
+use crate::objective::Objective;
 use mdp_num::{Frac, Wide};
-use mdp_rows::{Dir, Marks, Model};
+use mdp_rows::{Dir, Model};
 use std::alloc::{AllocError, Global};
 use std::cmp::Ordering;
 
-/// A bounded until in a model: by way of the states that stay to a goal, with the greatest or the least probability.
+/// An objective on a model, and whether its greatest or its least values are wanted.
 #[derive(Clone, Copy)]
 pub(crate) struct Query<'a> {
     pub dir: Dir,
     pub model: &'a Model,
-    pub stay: &'a Marks,
-    pub goals: &'a Marks,
-    ghost stay_each: { length stay.now ≡ states_of model.now },
-    ghost goals_each: { length goals.now ≡ states_of model.now },
+    pub objective: Objective<'a>,
+    ghost fits: { IsObjectiveOf model.now (plain_objective objective) } by { IsObjectiveOf-prop model.now (plain_objective objective) },
 }
 
 /// The value of a state, and the choice that has it.
@@ -75,15 +76,63 @@ fn placed<T>(step: Result<T, Wide>, depth: u32, s: u32, c: u32) -> Result<T, Hor
 }
 
 impl Query<'_> {
-    /// The sum of choice `c` of state `s`.
+    /// What choice `c` of state `s` earns at once.
+    fn earns(self, s: u32, c: u32) -> Frac
+        requires state { s < states_of self.model.now }
+        requires choice { c < length (choices_at self.model.now s) }
+        ensures { result ≡ earns self.entry.model.now (plain_objective self.entry.objective) s c }
+    {
+        match self.objective {
+            Objective::Until { stay: _, goals: _ } => Frac::whole(0),
+            Objective::Total { name } => self.model.reward(name, s, c),
+        }
+    }
+
+    /// The value of state `s`, where nothing more happens there.
+    fn stops(self, s: u32) -> Option<Frac>
+        requires { s < states_of self.model.now }
+        ensures { result ≡ stops self.entry.model.now (plain_objective self.entry.objective) s }
+    {
+        match self.objective {
+            Objective::Until { stay, goals } => {
+                if goals.at(s) {
+                    Some(Frac::whole(1))
+                } else if stay.at(s) {
+                    None
+                } else {
+                    Some(Frac::whole(0))
+                }
+            }
+            Objective::Total { name: _ } => None,
+        }
+    }
+
+    /// The value of state `s` with no step left.
+    fn ending(self, s: u32) -> Frac
+        requires { s < states_of self.model.now }
+        ensures { result ≡ ending self.entry.model.now (plain_objective self.entry.objective) s }
+    {
+        match self.objective {
+            Objective::Until { stay: _, goals } => {
+                if goals.at(s) {
+                    Frac::whole(1)
+                } else {
+                    Frac::whole(0)
+                }
+            }
+            Objective::Total { name: _ } => Frac::whole(0),
+        }
+    }
+
+    /// The sum of choice `c` of state `s`: what it earns, and then by the values of the states behind it.
     fn sum(self, values: &[Frac], s: u32, c: u32) -> Result<Frac, Wide>
         requires state { s < states_of self.model.now }
         requires choice { c < length (choices_at self.model.now s) }
         requires values { length values.now ≡ states_of self.model.now }
-        ensures value { IfOk result (λ sum. sum_of_choice self.entry.model.now values.now s c ≡ Some sum) }
-        ensures wide { IfErr result (λ _. sum_of_choice self.entry.model.now values.now s c ≡ None) }
+        ensures value { IfOk result (λ sum. sum_of_choice self.entry.model.now (plain_objective self.entry.objective) values.now s c ≡ Some sum) }
+        ensures wide { IfErr result (λ _. sum_of_choice self.entry.model.now (plain_objective self.entry.objective) values.now s c ≡ None) }
     {
-        self.model.row(s, c).sum(&Frac::whole(0), values)
+        self.model.row(s, c).sum(&self.earns(s, c), values)
     }
 
     /// The leader after choice `c` of state `s` has been summed up and compared with it.
@@ -91,8 +140,8 @@ impl Query<'_> {
         requires state { s < states_of self.model.now }
         requires choice { c < length (choices_at self.model.now s) }
         requires values { length values.now ≡ states_of self.model.now }
-        ensures value { IfOk result (λ next. compared self.entry.dir self.entry.model.now values.now s c (shown leader) ≡ Some (shown next)) }
-        ensures wide { IfErr result (λ _. compared self.entry.dir self.entry.model.now values.now s c (shown leader) ≡ None) }
+        ensures value { IfOk result (λ next. compared self.entry.dir self.entry.model.now (plain_objective self.entry.objective) values.now s c (shown leader) ≡ Some (shown next)) }
+        ensures wide { IfErr result (λ _. compared self.entry.dir self.entry.model.now (plain_objective self.entry.objective) values.now s c (shown leader) ≡ None) }
     {
         let sum = self.sum(values, s, c)?;
         judged(self.dir, c, leader, sum)
@@ -102,7 +151,7 @@ impl Query<'_> {
     fn best_choice(self, values: &[Frac], depth: u32, s: u32) -> Result<Leader, HorizonError>
         requires state { s < states_of self.model.now }
         requires values { length values.now ≡ states_of self.model.now }
-        ensures { Answers shown result (best_choice self.entry.dir self.entry.model.now depth values.now s) }
+        ensures { Answers shown result (best_choice self.entry.dir self.entry.model.now (plain_objective self.entry.objective) depth values.now s) }
     {
         self.model.known();
         let mut leader = Leader {
@@ -119,21 +168,12 @@ impl Query<'_> {
     fn backup(self, values: &[Frac], depth: u32, s: u32) -> Result<Leader, HorizonError>
         requires state { s < states_of self.model.now }
         requires values { length values.now ≡ states_of self.model.now }
-        ensures { Answers shown result (backup self.entry.dir self.entry.model.now self.entry.stay.now self.entry.goals.now depth values.now s) }
+        ensures { Answers shown result (backup self.entry.dir self.entry.model.now (plain_objective self.entry.objective) depth values.now s) }
     {
-        if self.goals.at(s) {
-            return Ok(Leader {
-                value: Frac::whole(1),
-                choice: 0,
-            });
+        match self.stops(s) {
+            Some(value) => Ok(Leader { value, choice: 0 }),
+            None => self.best_choice(values, depth, s),
         }
-        if self.stay.at(s) {
-            return self.best_choice(values, depth, s);
-        }
-        Ok(Leader {
-            value: Frac::whole(0),
-            choice: 0,
-        })
     }
 
     /// The values of all states with `depth` steps left, from those with a step less, and their choices.
@@ -144,7 +184,7 @@ impl Query<'_> {
         depth: u32,
     ) -> Result<Backups, HorizonError>
         requires { length values.now ≡ states_of self.model.now }
-        ensures { Answers row_of result (backups self.entry.dir self.entry.model.now self.entry.stay.now self.entry.goals.now depth values.now) }
+        ensures { Answers row_of result (backups self.entry.dir self.entry.model.now (plain_objective self.entry.objective) depth values.now) }
     {
         let mut made = Backups {
             values: Vec::new(alloc),
@@ -158,25 +198,13 @@ impl Query<'_> {
         Ok(made)
     }
 
-    /// The value of state `s` with no step left.
-    fn end_value(self, s: u32) -> Frac
-        requires { s < states_of self.model.now }
-        ensures { result ≡ end_value self.entry.goals.now s }
-    {
-        if self.goals.at(s) {
-            Frac::whole(1)
-        } else {
-            Frac::whole(0)
-        }
-    }
-
     /// The values of all states with no step left.
-    pub(crate) fn ending(self, alloc: Global) -> Result<Vec<Frac>, AllocError>
-        ensures { IfOk result (λ values. values.items ≡ ending self.entry.model.now self.entry.goals.now) }
+    pub(crate) fn endings(self, alloc: Global) -> Result<Vec<Frac>, AllocError>
+        ensures { IfOk result (λ values. values.items ≡ endings self.entry.model.now (plain_objective self.entry.objective)) }
     {
         let mut values = Vec::new(alloc);
         for s in 0..self.model.states() {
-            values.push(self.end_value(s))?;
+            values.push(self.ending(s))?;
         }
         Ok(values)
     }

@@ -1,7 +1,7 @@
 use mdp_num::Frac;
 
-/// Probabilities of a bounded until, one for each state, and a choice of each state for each step: the list at place i has the choices with i
-/// steps done.
+/// The best values within a number of steps, one for each state, and a choice of each state for each step: the list at place i has the choices
+/// with i steps done.
 #[derive(Debug, Drop)]
 pub struct Bounded {
     pub values: Vec<Frac>,

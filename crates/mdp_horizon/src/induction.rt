@@ -1,13 +1,15 @@
-ghost use Rattle.std.specs.Prelude.{◌≡◌, ◌*◌, ◌≤◌, ◌^◌, length, IfOk};
+ghost use Rattle.std.specs.Prelude.{◌≡◌, ◌<◌, ◌*◌, ◌≤◌, ◌^◌, length, IfOk};
 ghost use Rattle.mdp_spec.specs.Mdp.{states_of};
 ghost use Rattle.mdp_rows.specs.declared.dir.Dir.TheVariants.{Max, Min};
-ghost use Rattle.mdp_horizon.specs.Bounds.{BoundedMax, BoundedMin};
-ghost use Rattle.mdp_horizon.specs.Written.{written_until};
+ghost use Rattle.mdp_horizon.specs.Bounds.{BoundedMax, BoundedMin, TotalMax, TotalMin};
+ghost use Rattle.mdp_horizon.specs.Written.{written_until, written_total};
 ghost use Rattle.mdp_horizon.specs.Answer.{Answers, plain};
 
 use crate::backup::Query;
 use crate::bounded::Bounded;
 use crate::error::HorizonError;
+use crate::objective::Objective;
+use crate::steps::values_within;
 use mdp_rows::{Dir, Marks, Model};
 use std::alloc::Global;
 
@@ -34,19 +36,32 @@ pub fn until(
     let query = Query {
         dir,
         model,
-        stay,
-        goals,
+        objective: Objective::Until { stay, goals },
     };
-    let mut values = query.ending(alloc)?;
-    let mut table = Vec::new(alloc);
-    for done in 0..steps {
-        let next = query.backups(alloc, &values, done + 1)?;
-        values = next.values;
-        table.push(next.choices)?;
-    }
-    table.reverse();
-    Ok(Bounded {
-        values,
-        steps: table,
-    })
+    values_within(alloc, query, steps)
+}
+
+/// The greatest or the least total rewards of the name of place `name` within so many steps, which may be below 0 too, by backward induction, and a
+/// choice of each state for each step. `Wide` is the first written term past width. Two rows of values are kept, and the table of choices.
+pub fn total(
+    alloc: Global,
+    model: &Model,
+    dir: Dir,
+    name: u32,
+    steps: u32,
+) -> Result<Bounded, HorizonError>
+    requires named { name < length model.now.names }
+    requires table { steps * states_of model.now ≤ 2 ^ 22 }
+    ensures written { Answers plain result (written_total dir model.now name steps) }
+    ensures one_each { IfOk result (λ found. length found.values.items ≡ states_of model.now) }
+    ensures max { dir ≡ Max → IfOk result (λ found. TotalMax model.now name steps (plain found).values (plain found).steps) }
+    ensures min { dir ≡ Min → IfOk result (λ found. TotalMin model.now name steps (plain found).values (plain found).steps) }
+{
+    model.known();
+    let rewards = Query {
+        dir,
+        model,
+        objective: Objective::Total { name },
+    };
+    values_within(alloc, rewards, steps)
 }

@@ -1,5 +1,5 @@
-//! Bounded until: the greatest and the least probability of coming to a goal within a number of steps, by way of given states, with a choice for
-//! each state and each step.
+//! The best values within a number of steps, with a choice for each state and each step: the greatest and the least probability of coming to a goal
+//! by way of given states, and the greatest and the least total reward.
 #![tactic(auto)]
 
 mod backup;
@@ -7,11 +7,16 @@ mod bounded;
 mod error;
 mod induction;
 mod laws;
+mod objective;
 mod push;
+mod steps;
+mod totals;
 mod write;
 
 pub use bounded::Bounded;
 pub use error::HorizonError;
-pub use induction::until;
-pub use laws::until_law;
+pub use induction::{total, until};
+pub use laws::{between_law, total_law, until_law};
+pub use push::push_steps;
+pub use totals::write_total;
 pub use write::write_until;

@@ -1,33 +1,13 @@
 ghost use Rattle.std.specs.Prelude.{◌≡◌, ◌++◌, length, OnOk, OnErr};
 ghost use Rattle.mdp_spec.specs.Mdp.{states_of};
 ghost use Rattle.mdp_text.specs.Answer.{Keeps};
-ghost use Rattle.mdp_horizon.specs.Spelling.{head_text, until_text};
+ghost use Rattle.mdp_horizon.specs.Spelling.{until_text};
 ghost use Rattle.mdp_horizon.specs.Answer.{plain};
 
 use crate::bounded::Bounded;
-use crate::push::{push_claim, push_steps, push_version};
+use crate::push::{push_answer, push_until, push_version};
 use mdp_num::Memory;
 use mdp_rows::{Dir, Model};
-use mdp_text::{init_with, push_end, push_init, push_number, push_values};
-
-/// Appends the lines before those of the states.
-fn push_head(
-    out: &mut Vec<u8>,
-    model: &Model,
-    dir: Dir,
-    stay: &[u8],
-    label: &[u8],
-    bounded: &Bounded,
-) -> Result<(), Memory>
-    requires { length bounded.now.values.items ≡ states_of model.now }
-    ensures text { OnOk result (out.new.items ≡ out.old.items ++ head_text dir stay.now label.now model.now (plain bounded.now)) }
-    ensures front { Keeps out.old.items out.new.items }
-{
-    push_version(out)?;
-    push_claim(out, dir, stay, label, bounded.steps.len() as u64)?;
-    push_number(out, u64::from(model.states()))?;
-    push_init(out, &init_with(model, &bounded.values))
-}
 
 /// Appends all lines; after `Memory` the text begins as before.
 #[tactic(auto, unfolding(crate::specs::Spelling::until_text))]
@@ -43,10 +23,9 @@ fn push_lines(
     ensures text { OnOk result (out.new.items ≡ out.old.items ++ until_text dir stay.now label.now model.now (plain bounded.now)) }
     ensures front { Keeps out.old.items out.new.items }
 {
-    push_head(out, model, dir, stay, label, bounded)?;
-    push_values(out, &bounded.values)?;
-    push_steps(out, &bounded.steps)?;
-    push_end(out)
+    push_version(out)?;
+    push_until(out, dir, stay, label, bounded.steps.len() as u64)?;
+    push_answer(out, model, bounded)
 }
 
 /// Appends the text of an answer: what was asked, the number of states, the initial state, a line for each state and a line for each step. `stay`

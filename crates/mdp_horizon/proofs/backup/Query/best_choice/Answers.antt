@@ -1,5 +1,6 @@
 use Rattle.std.proofs.Common.{◌∙◌, ◌-◌, sym, arith}
 use Rattle.std.proofs.lemmas.Result.{err_from_is_err_and, IfErr-at_err}
+use Rattle.mdp_horizon.specs.Code.{plain_objective}
 use Rattle.mdp_horizon.specs.Answer.{shown}
 use Rattle.mdp_horizon.proofs.Turns.{placed-err, says, answers_err}
 use Rattle.mdp_horizon.proofs.Choosing.{first-refused, choice-refused}
@@ -11,7 +12,8 @@ returns-in_err-placed c =
     let wide = placed-err c.args.depth c.args.s 0 c.sum.result c.in_err-placed.field-0.0 (sym c.placed.ensures ∙ c.in_err-placed.was) in
     let none = IfErr-at_err _ wide.step_is c.sum.ensures.wide in
     answers_err _ c.from_residual.result e.0 _ e.1
-    (says c.args.depth c.args.s 0 e.0 _ (e.2 ∙ wide.error_is) (first-refused c.args.self.dir c.args.self.model.now c.args.depth c.args.values.now c.args.s none))
+    (says c.args.depth c.args.s 0 e.0 _ (e.2 ∙ wide.error_is)
+    (first-refused c.args.self.dir c.args.self.model.now (plain_objective c.args.self.objective) c.args.depth c.args.values.now c.args.s none))
 
 pub returns-in_err-leader : goal.returns-in_err-leader
 returns-in_err-leader c =
@@ -20,5 +22,5 @@ returns-in_err-leader c =
     let none = IfErr-at_err _ wide.step_is c.compared.ensures.wide in
     answers_err _ c.from_residual-in_err-leader.result e.0 _ e.1
     (says c.args.depth c.args.s c.loop-c.c e.0 _ (e.2 ∙ wide.error_is)
-    (choice-refused c.args.self.dir c.args.self.model.now c.args.depth c.args.values.now c.args.s
+    (choice-refused c.args.self.dir c.args.self.model.now (plain_objective c.args.self.objective) c.args.depth c.args.values.now c.args.s
     (c.loop-c.c - 1) c.loop-c.c (shown c.loop-c.leader) c.loop-c.invariant none (omega arith) (omega arith)))
