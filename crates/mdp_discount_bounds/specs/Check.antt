@@ -1,0 +1,60 @@
+-- What holding a certificate of bounds of the discounted reward against a model answers, and what a yes means.
+use Rattle.std.specs.Prelude.{◌≡◌, ℕ, Bool, List, length, Option, Some, None, ◌&&◌, ◌==◌, nat_lt, if◌then◌else◌}
+use Rattle.mdp_math.specs.Rational.{ℚ}
+use Rattle.mdp_spec.specs.Mdp.{Mdp, states_of}
+use Rattle.mdp_spec.specs.Bounds.{reward_at}
+use Rattle.mdp_spec.specs.Labels.{place_of, initial_of}
+use Rattle.mdp_farkas.specs.Initial.{init_fault, state_check}
+use Rattle.mdp_farkas.specs.Verdict.{verdict_of}
+use Rattle.mdp_farkas.specs.declared.verdict.Verdict.{Verdict}
+use Rattle.mdp_farkas.specs.declared.verdict.Verdict.TheVariants as verdict
+use Rattle.mdp_cert.specs.Claims.{reward_same}
+use Rattle.mdp_bounds_text.specs.declared.init.BoundsInit.{BoundsInit}
+use Rattle.mdp_bounds_text.specs.declared.init.BoundsInit.TheVariants.{Missing, Between}
+use Rattle.mdp_discount_rules.specs.Check.{answer_of, then_verdict}
+use Rattle.mdp_discount_rules.specs.declared.answer.DiscountAnswer.{DiscountAnswer}
+use Rattle.mdp_discount_rules.specs.declared.answer.DiscountAnswer.TheVariants.{NoReward, Size}
+use Rattle.mdp_discount_bounds.specs.Between.{DiscountBetween}
+use Rattle.mdp_discount_bounds.specs.Cert.{Certificate}
+use Rattle.mdp_discount_bounds.specs.Checks.{discount_bounds_checks, IsDiscountBounds}
+
+-- ---- rule 1: the line `init`
+
+-- there is a value of state s, which may be missing, and it is this one
+abbrev pub is_value : List (Option ℚ) → ℕ → Option ℚ → Bool
+is_value v s x = nat_lt s (length v) && reward_same (reward_at v s) x
+
+-- the line names the model's one initial state and has its two values; it names none where there isn't exactly one
+abbrev pub init_check : BoundsInit → Option ℕ → List (Option ℚ) → List (Option ℚ) → Verdict
+init_check Missing None lower upper = verdict.Yes
+init_check Missing (Some t) lower upper = init_fault None
+init_check (Between s x y) initial lower upper = state_check s initial (is_value lower s x && is_value upper s y)
+
+-- ---- the answer
+
+abbrev pub checks_of : Mdp → ℕ → Certificate → Verdict
+checks_of m r c = verdict_of (discount_bounds_checks c.dir m r c.factor c.lower c.upper c.remainder c.choices)
+
+abbrev pub at_reward : Mdp → Certificate → Option ℕ → DiscountAnswer
+at_reward m c None = NoReward
+at_reward m c (Some r) = answer_of (then_verdict (init_check c.init (initial_of m) c.lower c.upper) (checks_of m r c))
+
+-- the numbers of states, then the reward model, then the rules in their order
+abbrev pub answer_to : Mdp → Certificate → DiscountAnswer
+answer_to m c = if length c.lower == states_of m then at_reward m c (place_of c.name m.names) else Size
+
+-- ---- what yes means
+
+-- the certificate belongs to the model and is valid: as many states, its reward name is there, and all rules hold
+pub record IsAccepted (m : Mdp) (c : Certificate) : Type 0 where
+  pub states : length c.lower ≡ states_of m
+  pub reward : ℕ
+  pub named : place_of c.name m.names ≡ Some reward
+  pub init : init_check c.init (initial_of m) c.lower c.upper ≡ verdict.Yes
+  pub rules : IsDiscountBounds c.dir m reward c.factor c.lower c.upper c.remainder c.choices
+
+-- the claim of the certificate is true of the model
+pub record IsBound (m : Mdp) (c : Certificate) : Type 0 where
+  pub reward : ℕ
+  pub named : place_of c.name m.names ≡ Some reward
+  pub holds : DiscountBetween c.dir m reward c.factor c.lower c.upper c.remainder c.choices
