@@ -4,13 +4,13 @@ use Rattle.mdp_farkas.specs.Verdict.{Check}
 use Rattle.mdp_subsystem_rules.specs.FloorChecks.{line_values, line_rank, value_checks, cover_checks, rank_checks}
 use Rattle.mdp_subsystem_rules.specs.FlowChecks.{kept_check}
 use Rattle.mdp_farkas.proofs.Objections.{halts, goes_on}
-use Rattle.mdp_subsystem_rules.proofs.floor.state_at.Goals as goal
+use Rattle.mdp_subsystem_rules.proofs.floor.Claimed.state_at.Goals as goal
 
 pub returns-in_err-covers_at : goal.returns-in_err-covers_at
 returns-in_err-covers_at c =
-    let m = c.args.model.now in
-    let goals = c.args.goals.now in
-    let cert = c.args.cert.now in
+    let m = c.args.self.model.now in
+    let goals = c.args.self.goals.now in
+    let cert = c.args.self.cert.now in
     let s = c.args.s in
     let value = c.args.value.now in
     let values = value_checks s value in
@@ -24,9 +24,9 @@ returns-in_err-covers_at c =
 
 pub returns-in_err-rank_at : goal.returns-in_err-rank_at
 returns-in_err-rank_at c =
-    let m = c.args.model.now in
-    let goals = c.args.goals.now in
-    let cert = c.args.cert.now in
+    let m = c.args.self.model.now in
+    let goals = c.args.self.goals.now in
+    let cert = c.args.self.cert.now in
     let s = c.args.s in
     let value = c.args.value.now in
     let values = value_checks s value in
@@ -41,9 +41,9 @@ returns-in_err-rank_at c =
 
 pub returns : goal.returns
 returns c =
-    let m = c.args.model.now in
-    let goals = c.args.goals.now in
-    let cert = c.args.cert.now in
+    let m = c.args.self.model.now in
+    let goals = c.args.self.goals.now in
+    let cert = c.args.self.cert.now in
     let s = c.args.s in
     let value = c.args.value.now in
     let values = value_checks s value in

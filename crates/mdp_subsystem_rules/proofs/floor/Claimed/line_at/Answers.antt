@@ -6,18 +6,18 @@ use Rattle.mdp_spec.specs.Mdp.{value_at}
 use Rattle.std.specs.List.{slice_index}
 use Rattle.mdp_subsystem_rules.specs.FloorChecks.{line_checks}
 use Rattle.mdp_farkas.specs.Verdict.{objection_to}
-use Rattle.mdp_subsystem_rules.proofs.floor.line_at.Goals as goal
+use Rattle.mdp_subsystem_rules.proofs.floor.Claimed.line_at.Goals as goal
 
 pub returns : goal.returns
 returns c =
-    let m = c.args.model.now in
-    let goals = c.args.goals.now in
-    let kept = c.args.cert.now.kept.items in
-    let values = c.args.cert.now.values.items in
-    let ranks = c.args.cert.now.ranks.items in
+    let m = c.args.self.model.now in
+    let goals = c.args.self.goals.now in
+    let kept = c.args.self.cert.now.kept.items in
+    let values = c.args.self.cert.now.values.items in
+    let ranks = c.args.self.cert.now.ranks.items in
     let i = c.args.i in
-    let line = c.requires.line in
-    let shape = c.requires.shape in
+    let line = c.requires in
+    let shape = c.args.self.shape in
     c.state_at.ensures
     ∙ ap (λ (s : ℕ). objection_to (line_checks m goals kept values ranks s c.index-2.result.now c.index-3.result.now)) (c.index.ensures ∙ get_or_default kept i c.index.result.now 0 line)
     ∙ ap (λ (x : ℚ). objection_to (line_checks m goals kept values ranks (slice_index kept i) x c.index-3.result.now))

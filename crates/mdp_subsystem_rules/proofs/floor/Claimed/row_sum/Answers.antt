@@ -5,11 +5,11 @@ use Rattle.mdp_math.specs.Rational.{ℚ}
 use Rattle.mdp_math.specs.Written.{written_mul}
 use Rattle.mdp_subsystem_rules.specs.FloorChecks.{line_values}
 use Rattle.mdp_subsystem_rules.proofs.Adding.{sum_stops}
-use Rattle.mdp_subsystem_rules.proofs.floor.row_sum.Goals as goal
+use Rattle.mdp_subsystem_rules.proofs.floor.Claimed.row_sum.Goals as goal
 
 pub returns-in_err-sum : goal.returns-in_err-sum
 returns-in_err-sum c =
-    let z = line_values c.args.model.now c.args.goals.now c.args.cert.now.kept.items c.args.cert.now.values.items in
+    let z = line_values c.args.self.model.now c.args.self.goals.now c.args.self.cert.now.kept.items c.args.self.cert.now.values.items in
     let ts = c.args.row.targets.now in
     let ps = c.args.row.probs.now in
     let h : c.loop-i.i < length ts = c.loop-i-test.true in
