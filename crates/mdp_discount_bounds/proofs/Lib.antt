@@ -7,4 +7,3 @@ pub mod Trivial
 pub mod Telling
 pub mod Saying
 pub mod Accepting
-mod Examples

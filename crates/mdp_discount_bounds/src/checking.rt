@@ -1,13 +1,12 @@
 ghost use Rattle.std.specs.Prelude.{◌≡◌, ◌↔◌};
-ghost use Rattle.mdp_cert.specs.Claims.{reward_same};
 ghost use Rattle.mdp_spec.specs.Labels.{initial_of};
 ghost use Rattle.mdp_discount_bounds.specs.Plain.{plain};
-ghost use Rattle.mdp_discount_bounds.specs.Check.{is_value, init_check, answer_to, IsAccepted, IsBound};
+ghost use Rattle.mdp_discount_bounds.specs.Check.{same_value, is_value, has_bounds, init_check, answer_to, IsAccepted, IsBound};
 
 use crate::bounds::DiscountBounds;
 use crate::cert::DiscountBoundsCert;
 use crate::holds::holds_bounds_discount;
-use mdp_bounds_text::BoundsInit;
+use crate::init::InitialBounds;
 use mdp_discount_rules::{DiscountAnswer, answer_of};
 use mdp_farkas::{Verdict, init_denied, state_verdict};
 use mdp_num::Frac;
@@ -15,7 +14,7 @@ use mdp_rows::Model;
 
 /// Whether two values are the same, either of which may be missing.
 fn is_same(x: &Option<Frac>, y: &Option<Frac>) -> bool
-    ensures { result ≡ reward_same x.now y.now }
+    ensures { result ≡ same_value x.now y.now }
 {
     match (x, y) {
         (Some(x), Some(y)) => x == y,
@@ -34,18 +33,22 @@ fn is_value(values: &[Option<Frac>], s: u32, value: &Option<Frac>) -> bool
     }
 }
 
+/// Whether the two values of the initial state are these.
+fn has_bounds(init: &InitialBounds, bounds: &DiscountBounds) -> bool
+    ensures { result ≡ has_bounds init.now bounds.now.lower.items bounds.now.upper.items }
+{
+    is_value(&bounds.lower, init.state, &init.lower)
+        && is_value(&bounds.upper, init.state, &init.upper)
+}
+
 /// Rule 1: the line `init` names the model's one initial state and has its two values; it names none where there isn't exactly one.
-fn init_verdict(model: &Model, init: &BoundsInit, bounds: &DiscountBounds) -> Verdict
+fn init_verdict(model: &Model, init: &Option<InitialBounds>, bounds: &DiscountBounds) -> Verdict
     ensures { result ≡ init_check init.now (initial_of model.now) bounds.now.lower.items bounds.now.upper.items }
 {
     match (init, model.initial()) {
-        (BoundsInit::Missing, None) => Verdict::Yes,
-        (BoundsInit::Missing, Some(_)) => init_denied(None),
-        (BoundsInit::Between(state, lower, upper), initial) => {
-            let has_values =
-                is_value(&bounds.lower, *state, lower) && is_value(&bounds.upper, *state, upper);
-            state_verdict(*state, initial, has_values)
-        }
+        (None, None) => Verdict::Yes,
+        (None, Some(_)) => init_denied(None),
+        (Some(init), initial) => state_verdict(init.state, initial, has_bounds(init, bounds)),
     }
 }
 

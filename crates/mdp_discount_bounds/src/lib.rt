@@ -7,6 +7,7 @@ mod cert;
 mod checking;
 mod half;
 mod holds;
+mod init;
 mod laws;
 mod remainder;
 
@@ -14,8 +15,8 @@ pub use bounds::DiscountBounds;
 pub use cert::DiscountBoundsCert;
 pub use checking::check_discount_bounds;
 pub use holds::holds_bounds_discount;
+pub use init::InitialBounds;
 pub use laws::{discount_bounds_law, discount_no_law};
-pub use mdp_bounds_text::BoundsInit;
 pub use mdp_discount_rules::DiscountAnswer;
 pub use mdp_farkas::Verdict;
 pub use remainder::greatest_magnitude;

@@ -1,7 +1,6 @@
 ghost use Rattle.std.specs.Prelude.{◌≡◌, ◌<◌, ◌↔◌, [], ◌∷◌, length};
 ghost use Rattle.std.specs.Result.{result_ok};
 ghost use Rattle.mdp_spec.specs.Mdp.{states_of, choices_at, value_at};
-ghost use Rattle.mdp_farkas.specs.Bellman.{stands};
 ghost use Rattle.mdp_farkas.specs.Verdict.{at_choices, objection_to, verdict_of, IsYes, IfYes};
 ghost use Rattle.mdp_discount_rules.specs.Bounds.{DiscountBound};
 ghost use Rattle.mdp_discount_rules.specs.Checks.{covers_check, reached_check, values_checks, checks_at, remainder_check, state_checks, discount_checks, IsDiscount};
@@ -10,21 +9,11 @@ use crate::cert::DiscountCert;
 use crate::earning::earned;
 use crate::remainder::greatest_magnitude;
 use mdp_farkas::{
-    Objection, Rule, Verdict, at_least, at_most, choice_at, each_below, each_choice, equal, judged,
-    judged_at, verdict_after,
+    Objection, Rule, Verdict, choice_at, each_below, each_choice, equal, judged, judged_at,
+    value_stands, verdict_after,
 };
 use mdp_num::{Frac, Wide};
 use mdp_rows::{Dir, Model};
-
-/// Whether a value is at least, or for the least values at most, a sum.
-fn value_stands(dir: Dir, value: &Frac, sum: &Frac) -> Result<bool, Wide>
-    ensures { result_ok result ≡ stands dir value.now sum.now }
-{
-    match dir {
-        Dir::Max => at_least(value, sum),
-        Dir::Min => at_most(value, sum),
-    }
-}
 
 /// Values, a policy and a remainder that are held against a model.
 #[derive(Clone, Copy)]
