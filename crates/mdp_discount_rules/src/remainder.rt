@@ -9,7 +9,7 @@ use mdp_num::{Frac, Wide};
 use std::cmp::Ordering;
 
 /// The magnitude of a number.
-fn magnitude(number: &Frac) -> Frac
+pub fn magnitude(number: &Frac) -> Frac
     ensures { result ≡ magnitude number.now }
 {
     if number.sign() < 0 {

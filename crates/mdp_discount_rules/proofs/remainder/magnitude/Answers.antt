@@ -2,7 +2,7 @@ use Rattle.std.proofs.Common.{◌∙◌, sym, rules, ⊎_elim, pos}
 use Rattle.std.specs.Prelude.{◌<ℤ◌}
 use Rattle.mdp_math.proofs.Order.{0ℚ, ≤ℚ_or_gt}
 use Rattle.mdp_discount_rules.proofs.Magnitudes.{magnitude-below, magnitude-above}
-use Rattle.mdp_discount_rules.proofs.magnitude.magnitude.Goals as goal
+use Rattle.mdp_discount_rules.proofs.remainder.magnitude.Goals as goal
 
 pub returns-then-sign-lt0 : goal.returns-then-sign-lt0
 returns-then-sign-lt0 c =
