@@ -40,15 +40,15 @@ need() {
   exit 70
 }
 
-# follow LOG: says each time a crate is done, and each minute, how far the build is; the log of rt has a line 'crate NAME: ..' at the end of each
+# follow LOG: says each time a crate is done, and each minute, how far the build is; tools/libraries writes a line 'crate NAME: N seconds' for each
 follow() {
   local all count=0 now minute=0 last
   all=$(crates | wc -l)
   while sleep 1 && kill -0 $$ 2>/dev/null; do
-    now=$(grep -c '^crate ' "$1")
+    now=$(grep -c '^crate .* seconds$' "$1")
     [ "$now" = "$count" ] && [ "$((SECONDS / 60))" = "$minute" ] && continue
     count=$now minute=$((SECONDS / 60))
-    last=$(sed -n 's/^crate \([a-z_]*\):.*/, \1 last/p' "$1" | tail -n 1)
+    last=$(sed -n 's/^crate \([a-z_]*\): .* seconds$/, \1 last/p' "$1" | tail -n 1)
     say "crates done: $count of at most $all$last; $SECONDS seconds so far"
   done
 }
@@ -61,7 +61,7 @@ build() {
   log=$(mktemp)
   began=$(mktemp)
   follow "$log" &
-  (cd "$top/crates/$crate" && rt run >"$log" 2>&1 </dev/null)
+  ("$top/tools/libraries" "$crate" && cd "$top/crates/$crate" && rt run) >"$log" 2>&1 </dev/null
   kill "$!" && wait "$!" 2>/dev/null
   if ! grep -q "^rt: running out/$crate" "$log"; then
     tail -n 20 "$log" >&2

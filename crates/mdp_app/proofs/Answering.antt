@@ -4,7 +4,8 @@ use Rattle.mdp_math.specs.Rational.{ℚ}
 use Rattle.mdp_spec.specs.Mdp.{Mdp}
 use Rattle.mdp_rows.specs.declared.dir.Dir.{Dir}
 use Rattle.mdp_drn.specs.FromSource.{HadLeft}
-use Rattle.mdp_job.specs.Job.{PlainQuery, solve, witness, check, drill, horizon, policy, chain, discount, discount_check, bounds, bounds_check, Asked, reads_model, reads_second}
+use Rattle.mdp_job.specs.Job.{PlainQuery, solve, witness, check, drill, horizon, horizon_reward, policy, chain, discount, discount_check, bounds, bounds_until}
+use Rattle.mdp_job.specs.Job.{bounds_total, bounds_discount, bounds_check, Asked, reads_model, reads_second}
 use Rattle.mdp_job.specs.Refusal.{PlainRefusal, read_model, read_certificate, no_memory}
 use Rattle.mdp_job.specs.declared.status.Status.{Status}
 use Rattle.mdp_job.specs.declared.status.Status.TheVariants as status
@@ -21,7 +22,7 @@ use Rattle.mdp_command_solve.specs.Laws.{IsDueOnce}
 use Rattle.mdp_command_witness.specs.Due.{IsWitnessDue}
 use Rattle.mdp_command_witness.specs.Laws as witnessed
 use Rattle.mdp_command_drill.proofs.Drilled.{due-once}
-use Rattle.mdp_command_horizon.specs.Due.{IsHorizonDue}
+use Rattle.mdp_command_horizon.specs.Due.{IsHorizonDue, IsHorizonRewardDue}
 use Rattle.mdp_command_policy.specs.Due.{IsPolicyDue}
 use Rattle.mdp_command_policy.proofs.Due.{policy_once}
 use Rattle.mdp_command_chain.specs.Due.{IsChainDue}
@@ -44,6 +45,11 @@ horizon_once : (dir : Dir) (stay : Option (List ℕ)) (label : List ℕ) (steps 
     → IsDueToModel (IsHorizonDue dir stay label steps) read again → said ≡ again
 horizon_once dir stay label steps (Ok m) said again d e = d ∙ sym e
 horizon_once dir stay label steps (Err r) said again d e = d ∙ sym e
+
+earned_once : (dir : Dir) (name : List ℕ) (steps : ℕ) (read : Result Mdp PlainRefusal) (said again : Said) → IsDueToModel (IsHorizonRewardDue dir name steps) read said
+    → IsDueToModel (IsHorizonRewardDue dir name steps) read again → said ≡ again
+earned_once dir name steps (Ok m) said again d e = d ∙ sym e
+earned_once dir name steps (Err r) said again d e = d ∙ sym e
 
 value_once : (label : List ℕ) (other : List ℕ) (read : Result Mdp PlainRefusal) (said again : Said) → IsDueToModel (λ m. IsPolicyDue label m other) read said
     → IsDueToModel (λ m. IsPolicyDue label m other) read again → said ≡ again
@@ -106,6 +112,10 @@ due_done once found (Ok (horizon rule dir stay label steps)) model second m s n 
     done_of said text (
     horizon_once dir stay label steps (model_due rule m) said (Ok text)
     (subst (λ (x : List ℕ). IsDueToModel (IsHorizonDue dir stay label steps) (model_due rule x) said) (had_told true model m n tm hn refl) due) due_text)
+due_done once found (Ok (horizon_reward rule dir name steps)) model second m s n t text said hn ht due tm ts due_text =
+    done_of said text (
+    earned_once dir name steps (model_due rule m) said (Ok text)
+    (subst (λ (x : List ℕ). IsDueToModel (IsHorizonRewardDue dir name steps) (model_due rule x) said) (had_told true model m n tm hn refl) due) due_text)
 due_done once found (Ok (policy rule label)) model second m s n t text said hn ht due tm ts due_text =
     done_of said text (
     value_once label s (model_due rule m) said (Ok text)

@@ -15,11 +15,14 @@ use Rattle.mdp_math.proofs.Order.{0ℚ, 1ℚ, ≤ℚ_refl, ratio-nonneg}
 use Rattle.mdp_num.specs.Numeral.{parts_of, terms_of, value_of, numeral_of}
 use Rattle.mdp_num.specs.declared.errors.NumeralError.{NumeralError}
 use Rattle.mdp_discount_rules.specs.Rules.{IsFactor}
+use Rattle.mdp_rows.specs.declared.dir.Dir.{Dir}
+use Rattle.mdp_rows.specs.declared.rule.RowRule.{RowRule}
 use Rattle.mdp_app.specs.InRange.{IsInRange, asked_for}
 use Rattle.mdp_job.specs.Job.{PlainJob, solve, witness, check, drill, horizon, policy, discount, Asked}
 use Rattle.mdp_job.specs.Words.{rows_of, word_at, rule_of, dir_of, check_of, query_of, solve_of, whole_word, can_draw, drill_by, drill_with, drill_of}
 use Rattle.mdp_job.specs.Words.{threshold_by, threshold_of, witness_of, steps_of, horizon_of, policy_of, chain_of, below_one, factor_of, discount_of}
-use Rattle.mdp_job.specs.Words.{discount_check_of, bounds_query_of, bounds_digits_of, bounds_of, bounds_check_of, job_of_texts, job_of}
+use Rattle.mdp_job.specs.Words.{until_within_of, reward_within_of, discount_check_of, digits_of, bounds_query_of, bounds_digits_of, bounds_best_of, bounds_until_of}
+use Rattle.mdp_job.specs.Words.{bounds_total_of, bounds_discount_of, bounds_by, bounds_of, bounds_check_of, job_of_texts, job_of}
 use Rattle.mdp_job.specs.declared.words_error.WordsError.{WordsError}
 use Rattle.mdp_job.specs.declared.words_error.WordsError.TheVariants.{Command, Number, Objective, Drill, Factor}
 
@@ -102,9 +105,16 @@ witness_in_range words =
 check_in_range : (words : List (List ℕ)) → IsInRange (check_of words)
 check_in_range words = bind (rows_of words) _ (λ rule. tt)
 
+within_in_range : (words : List (List ℕ)) → IsInRange (until_within_of words) × IsInRange (reward_within_of words)
+within_in_range words = (
+  bind (rule_of (word_at words 1)) _ (λ rule. bind (dir_of (word_at words 2)) _ (λ dir. bind (steps_of (word_at words 5)) _ (λ steps. tt))),
+  bind (rule_of (word_at words 1)) _ (λ rule. bind (dir_of (word_at words 2)) _ (λ dir. bind (steps_of (word_at words 5)) _ (λ steps. tt))),
+)
+
 horizon_in_range : (words : List (List ℕ)) → IsInRange (horizon_of words)
 horizon_in_range words =
-    either (length words == 6) _ (Err Number) (bind (rule_of (word_at words 1)) _ (λ rule. bind (dir_of (word_at words 2)) _ (λ dir. bind (steps_of (word_at words 5)) _ (λ steps. tt)))) tt
+    either (length words == 6) _ (Err Number)
+    (either (bytes_eq (word_at words 3) (codes "reward")) (reward_within_of words) (until_within_of words) (within_in_range words).1 (within_in_range words).0) tt
 
 policy_in_range : (words : List (List ℕ)) → IsInRange (policy_of words)
 policy_in_range words =
@@ -122,11 +132,33 @@ discount_in_range words =
 discount_check_in_range : (words : List (List ℕ)) → IsInRange (discount_check_of words)
 discount_check_in_range words = bind (rows_of words) _ (λ rule. tt)
 
+bounds_best_in_range : (rule : RowRule) (dir : Dir) (words : List (List ℕ)) → IsInRange (bounds_best_of rule dir words)
+bounds_best_in_range rule dir words = bind (bounds_query_of words) _ (λ query. bind (bounds_digits_of words) _ (λ digits. tt))
+
+bounds_until_in_range : (rule : RowRule) (dir : Dir) (words : List (List ℕ)) → IsInRange (bounds_until_of rule dir words)
+bounds_until_in_range rule dir words =
+    either (length words == 8) _ (Err Number) (bind (steps_of (word_at words 6)) _ (λ steps. bind (digits_of (word_at words 7)) _ (λ digits. tt))) tt
+
+bounds_total_in_range : (rule : RowRule) (dir : Dir) (words : List (List ℕ)) → IsInRange (bounds_total_of rule dir words)
+bounds_total_in_range rule dir words =
+    either (length words == 7) _ (Err Number) (bind (steps_of (word_at words 5)) _ (λ steps. bind (digits_of (word_at words 6)) _ (λ digits. tt))) tt
+
+bounds_discount_in_range : (rule : RowRule) (dir : Dir) (words : List (List ℕ)) → IsInRange (bounds_discount_of rule dir words)
+bounds_discount_in_range rule dir words =
+    either (length words == 7) _ (Err Number)
+    (bind_to (factor_of (word_at words 5)) _ (λ factor is. bind (digits_of (word_at words 6)) _ (λ digits. factor_is (word_at words 5) factor is))) tt
+
+bounds_by_in_range : (rule : RowRule) (dir : Dir) (words : List (List ℕ)) → IsInRange (bounds_by rule dir words)
+bounds_by_in_range rule dir words =
+    either (bytes_eq (word_at words 3) (codes "until")) (bounds_until_of rule dir words) _ (bounds_until_in_range rule dir words) (
+    either (bytes_eq (word_at words 3) (codes "total")) (bounds_total_of rule dir words) _ (bounds_total_in_range rule dir words) (
+    either (bytes_eq (word_at words 3) (codes "discount")) (bounds_discount_of rule dir words) (bounds_best_of rule dir words)
+    (bounds_discount_in_range rule dir words) (bounds_best_in_range rule dir words)))
+
 bounds_in_range : (words : List (List ℕ)) → IsInRange (bounds_of words)
 bounds_in_range words =
     either (nat_lt (length words) 6) (Err Number) _ tt
-    (bind (rule_of (word_at words 1)) _ (λ rule. bind (dir_of (word_at words 2)) _ (λ dir.
-    bind (bounds_query_of words) _ (λ query. bind (bounds_digits_of words) _ (λ digits. tt)))))
+    (bind (rule_of (word_at words 1)) _ (λ rule. bind (dir_of (word_at words 2)) _ (λ dir. bounds_by_in_range rule dir words)))
 
 bounds_check_in_range : (words : List (List ℕ)) → IsInRange (bounds_check_of words)
 bounds_check_in_range words = bind (rows_of words) _ (λ rule. tt)

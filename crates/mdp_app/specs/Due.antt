@@ -1,6 +1,7 @@
 -- What is due to the words, to the bytes of the model and to those of the second file. Each command is a case of `IsDue`.
 use Rattle.std.specs.Prelude.{◌≡◌, ℕ, List, Some, Ok, Err, IsOk}
-use Rattle.mdp_job.specs.Job.{solve, witness, check, drill, horizon, policy, chain, discount, discount_check, bounds, bounds_check, Asked}
+use Rattle.mdp_job.specs.Job.{solve, witness, check, drill, horizon, horizon_reward, policy, chain, discount, discount_check, bounds, bounds_until, bounds_total}
+use Rattle.mdp_job.specs.Job.{bounds_discount, bounds_check, Asked}
 use Rattle.mdp_job.specs.Refusal.{no_job}
 use Rattle.mdp_command.specs.Files.{model_due, IsDueToModel}
 use Rattle.mdp_command.specs.Said.{Said}
@@ -9,7 +10,7 @@ use Rattle.mdp_checking.specs.declared.kind.CertificateKind.TheVariants.{Exact, 
 use Rattle.mdp_command_solve.specs.Due.{IsSolveDue}
 use Rattle.mdp_command_witness.specs.Due.{IsWitnessDue}
 use Rattle.mdp_command_drill.specs.Due.{IsDrillDue}
-use Rattle.mdp_command_horizon.specs.Due.{IsHorizonDue}
+use Rattle.mdp_command_horizon.specs.Due.{IsHorizonDue, IsHorizonRewardDue}
 use Rattle.mdp_command_policy.specs.Due.{IsPolicyDue}
 use Rattle.mdp_command_chain.specs.Due.{IsChainDue}
 use Rattle.mdp_command_discount.specs.Due.{IsDiscountDue}
@@ -22,6 +23,7 @@ IsDue (Ok (witness rule dir label threshold)) model second said = IsDueToModel (
 IsDue (Ok (check rule)) model second said = IsDueToModel (λ m. IsCheckDue (Some Exact) m second) (model_due rule model) said
 IsDue (Ok (drill number layers width)) model second said = IsDrillDue number layers width said
 IsDue (Ok (horizon rule dir stay label steps)) model second said = IsDueToModel (IsHorizonDue dir stay label steps) (model_due rule model) said
+IsDue (Ok (horizon_reward rule dir name steps)) model second said = IsDueToModel (IsHorizonRewardDue dir name steps) (model_due rule model) said
 IsDue (Ok (policy rule label)) model second said = IsDueToModel (λ m. IsPolicyDue label m second) (model_due rule model) said
 IsDue (Ok (chain rule)) model second said = IsDueToModel (λ m. IsChainDue m second) (model_due rule model) said
 IsDue (Ok (discount rule dir name factor)) model second said = IsDueToModel (IsDiscountDue dir name factor) (model_due rule model) said
@@ -37,10 +39,14 @@ IsModelRead (Ok (witness rule dir label threshold)) model = IsOk (model_due rule
 IsModelRead (Ok (check rule)) model = IsOk (model_due rule model)
 IsModelRead (Ok (drill number layers width)) model = ⊥
 IsModelRead (Ok (horizon rule dir stay label steps)) model = IsOk (model_due rule model)
+IsModelRead (Ok (horizon_reward rule dir name steps)) model = IsOk (model_due rule model)
 IsModelRead (Ok (policy rule label)) model = IsOk (model_due rule model)
 IsModelRead (Ok (chain rule)) model = IsOk (model_due rule model)
 IsModelRead (Ok (discount rule dir name factor)) model = IsOk (model_due rule model)
 IsModelRead (Ok (discount_check rule)) model = IsOk (model_due rule model)
 IsModelRead (Ok (bounds rule dir query digits)) model = IsOk (model_due rule model)
+IsModelRead (Ok (bounds_until rule dir stay label steps digits)) model = IsOk (model_due rule model)
+IsModelRead (Ok (bounds_total rule dir name steps digits)) model = IsOk (model_due rule model)
+IsModelRead (Ok (bounds_discount rule dir name factor digits)) model = IsOk (model_due rule model)
 IsModelRead (Ok (bounds_check rule)) model = IsOk (model_due rule model)
 IsModelRead (Err e) model = ⊥

@@ -2,7 +2,8 @@
 use Rattle.std.specs.Prelude.{◌≡◌, true, Ok, Err, pos}
 use Rattle.mdp_math.specs.Rational.{of_int, ◌≤ℚ◌}
 use Rattle.mdp_discount_rules.specs.Rules.{IsFactor}
-use Rattle.mdp_job.specs.Job.{PlainJob, solve, witness, check, drill, horizon, policy, chain, discount, discount_check, bounds, bounds_check, Asked}
+use Rattle.mdp_job.specs.Job.{PlainJob, solve, witness, check, drill, horizon, horizon_reward, policy, chain, discount, discount_check, bounds}
+use Rattle.mdp_job.specs.Job.{bounds_until, bounds_total, bounds_discount, bounds_check, Asked}
 use Rattle.mdp_job.specs.Words.{can_draw}
 
 -- the numbers of a drill can be drawn, the factor of discounted rewards is from 0 on and below 1, and the threshold of a witness is at least 0
@@ -12,11 +13,15 @@ IsInRange (Ok (witness rule dir label threshold)) = of_int (pos 0) ≤ℚ thresh
 IsInRange (Ok (check rule)) = Unit {0}
 IsInRange (Ok (drill number layers width)) = can_draw number layers width ≡ true
 IsInRange (Ok (horizon rule dir stay label steps)) = Unit {0}
+IsInRange (Ok (horizon_reward rule dir name steps)) = Unit {0}
 IsInRange (Ok (policy rule label)) = Unit {0}
 IsInRange (Ok (chain rule)) = Unit {0}
 IsInRange (Ok (discount rule dir name factor)) = IsFactor factor
 IsInRange (Ok (discount_check rule)) = Unit {0}
 IsInRange (Ok (bounds rule dir query digits)) = Unit {0}
+IsInRange (Ok (bounds_until rule dir stay label steps digits)) = Unit {0}
+IsInRange (Ok (bounds_total rule dir name steps digits)) = Unit {0}
+IsInRange (Ok (bounds_discount rule dir name factor digits)) = IsFactor factor
 IsInRange (Ok (bounds_check rule)) = Unit {0}
 IsInRange (Err e) = Unit {0}
 

@@ -1,13 +1,15 @@
 -- What is shown of the work of each command.
-use Rattle.std.specs.Prelude.{ℕ, List, Ok, Err}
-use Rattle.mdp_job.specs.Job.{solve, witness, check, drill, horizon, policy, chain, discount, discount_check, bounds, bounds_check, Asked}
+use Rattle.std.specs.Prelude.{ℕ, List, Some, Ok, Err}
+use Rattle.mdp_job.specs.Job.{solve, witness, check, drill, horizon, horizon_reward, policy, chain, discount, discount_check, bounds, bounds_until, bounds_total}
+use Rattle.mdp_job.specs.Job.{bounds_discount, bounds_check, Asked}
 use Rattle.mdp_command.specs.Accepted.{exact}
-use Rattle.mdp_checking.specs.Kinds.{discounted, between}
+use Rattle.mdp_checking.specs.Kinds.{discounted, checker_for}
 use Rattle.mdp_checking.specs.Shown.{IsYes}
+use Rattle.mdp_checking.specs.declared.kind.CertificateKind.TheVariants.{Bounds}
 use Rattle.mdp_command_solve.specs.Solved.{IsSolved}
 use Rattle.mdp_command_witness.specs.Shown.{IsWitnessShown}
 use Rattle.mdp_command_drill.specs.Drilled.{IsDrilled}
-use Rattle.mdp_command_horizon.specs.Shown.{IsHorizonShown}
+use Rattle.mdp_command_horizon.specs.Shown.{IsHorizonShown, IsHorizonRewardShown}
 use Rattle.mdp_command_policy.specs.Shown.{IsPolicyShown}
 use Rattle.mdp_command_chain.specs.Shown.{IsChainShown}
 use Rattle.mdp_command_discount.specs.Shown.{IsDiscountSolved}
@@ -20,10 +22,11 @@ IsShown (Ok (witness rule dir label threshold)) model second text = IsWitnessSho
 IsShown (Ok (check rule)) model second text = IsYes exact rule model second text
 IsShown (Ok (drill number layers width)) model second text = IsDrilled number layers width text
 IsShown (Ok (horizon rule dir stay label steps)) model second text = IsHorizonShown rule dir stay label steps model text
+IsShown (Ok (horizon_reward rule dir name steps)) model second text = IsHorizonRewardShown rule dir name steps model text
 IsShown (Ok (policy rule label)) model second text = IsPolicyShown rule label model second text
 IsShown (Ok (chain rule)) model second text = IsChainShown rule model second text
 IsShown (Ok (discount rule dir name factor)) model second text = IsDiscountSolved rule dir name factor model text
 IsShown (Ok (discount_check rule)) model second text = IsYes discounted rule model second text
 IsShown (Ok (bounds rule dir query digits)) model second text = IsBoundsSolved rule dir query model text
-IsShown (Ok (bounds_check rule)) model second text = IsYes between rule model second text
+IsShown (Ok (bounds_check rule)) model second text = IsYes (checker_for (Some Bounds) second) rule model second text
 IsShown (Err e) model second text = ⊥

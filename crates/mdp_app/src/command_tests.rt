@@ -93,6 +93,11 @@ fn works_on_the_coin(rt: HostRuntime) -> Result<(), Fail> {
             "mdp-horizon 1\nclaim max until \"-\" \"goal\" 2\nstates 3\ninit 0 1/3\n",
         ),
         (
+            "bounds M exact max until - goal 2 6",
+            "",
+            "mdp-horizon-bounds 1\nclaim max until \"-\" \"goal\" 2\nstates 3\ninit 0 ",
+        ),
+        (
             "drill 0 1 1",
             "",
             "drill 0 1 1 states 3 choices 4 value 1 yes\n",
@@ -125,6 +130,18 @@ fn works_on_rewards(rt: HostRuntime) -> Result<(), Fail> {
         (
             "solve M exact min mean cost",
             "mdp-certificate 2\nclaim min mean \"cost\"\nstates 2\ninit 0 1\n",
+        ),
+        (
+            "horizon M exact max reward cost 2",
+            "mdp-horizon 1\nclaim max reward \"cost\" 2\nstates 2\ninit 0 5\n",
+        ),
+        (
+            "bounds M exact min total cost 2 6",
+            "mdp-horizon-bounds 1\nclaim min total \"cost\" 2\nstates 2\ninit 0 2 2\n",
+        ),
+        (
+            "bounds M exact max discount cost 1/2 6",
+            "mdp-bounds 1\nclaim max discount \"cost\" 1/2\nstates 2\ninit 0 ",
         ),
         (
             "discount M exact max cost 1/2",

@@ -97,6 +97,9 @@ fn answers_each_fault_of_a_model(rt: HostRuntime) -> Result<(), Fail> {
         &["discount", "MODEL", "exact", "max", "-", "1/2"],
         &["discount-check", "MODEL", "exact", "CERT"],
         &["bounds", "MODEL", "exact", "max", "reach", "goal", "6"],
+        &["horizon", "MODEL", "exact", "max", "reward", "-", "2"],
+        &["bounds", "MODEL", "exact", "max", "total", "-", "2", "6"],
+        &["bounds", "MODEL", "exact", "max", "discount", "-", "1/2", "6"],
         &["bounds-check", "MODEL", "exact", "CERT"],
     ] {
         for call in 0..calls_of(COIN) {

@@ -13,7 +13,7 @@ use mdp_command_bounds_search::bounds_file;
 use mdp_command_chain::chain_file;
 use mdp_command_discount::discount_file;
 use mdp_command_drill::drill;
-use mdp_command_horizon::horizon_file;
+use mdp_command_horizon::{horizon_file, horizon_reward_file};
 use mdp_command_policy::policy_file;
 use mdp_command_solve::{solve_file, solve_law};
 use mdp_command_witness::{witness_file, witness_step_law};
@@ -57,6 +57,12 @@ fn decided<S: Source, C: Source>(
             label,
             steps,
         } => horizon_file(alloc, rule, dir, stay, label, steps, model),
+        Job::HorizonReward {
+            rule,
+            dir,
+            name,
+            steps,
+        } => horizon_reward_file(alloc, rule, dir, name, steps, model),
         Job::Policy { rule, label } => policy_file(alloc, rule, label, model, second),
         Job::Chain { rule } => chain_file(alloc, rule, model, second),
         Job::Discount {

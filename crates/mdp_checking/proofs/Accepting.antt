@@ -13,6 +13,10 @@ use Rattle.mdp_check.specs.BoundsLaws.{YesAcceptsBounds, AcceptedBoundsAreTrue}
 use Rattle.mdp_check.specs.Laws as exactly
 use Rattle.mdp_check.specs.declared.answer.Answer.{Answer}
 use Rattle.mdp_check.specs.declared.answer.Answer.TheVariants.{Yes, No, Wide, NoReward, NoLabel, Size, Memory}
+use Rattle.mdp_discount_bounds.specs.Cert as between_cert
+use Rattle.mdp_discount_bounds.specs.Laws as discount_bounds
+use Rattle.mdp_discount_bounds_text.specs.Laws as between_text
+use Rattle.mdp_discount_bounds_text.specs.Reading as between_reading
 use Rattle.mdp_discount_rules.specs.Cert.{Certificate, Fits}
 use Rattle.mdp_discount_rules.specs.Laws as discount
 use Rattle.mdp_discount_rules.specs.declared.answer.DiscountAnswer.{DiscountAnswer}
@@ -26,11 +30,11 @@ use Rattle.mdp_command.specs.Answered.{yes_text, said_of}
 use Rattle.mdp_command.specs.Files.{most_bytes, model_or_refusal, model_due, second_due, certificate_or_refusal, IsDueToModel}
 use Rattle.mdp_command.specs.Said.{Said}
 use Rattle.mdp_checking.specs.Due.{said_to_text, check_due, IsCheckDue}
-use Rattle.mdp_checking.specs.Kinds.{as_answer, discounted, between, checker_of, chosen, checker_for}
+use Rattle.mdp_checking.specs.Kinds.{as_answer, discounted, between, discounted_between, checker_of, chosen, checker_for}
 use Rattle.mdp_checking.specs.Laws.{YesIsAccepted, AcceptedIsTrue}
 use Rattle.mdp_checking.specs.Shown.{IsYes}
 use Rattle.mdp_checking.specs.declared.kind.CertificateKind.{CertificateKind}
-use Rattle.mdp_checking.specs.declared.kind.CertificateKind.TheVariants.{Exact, Discounted, Bounds}
+use Rattle.mdp_checking.specs.declared.kind.CertificateKind.TheVariants.{Exact, Discounted, Bounds, DiscountedBounds}
 
 -- ---- what each checker keeps
 
@@ -64,11 +68,24 @@ discounted_is_sound from accepts bound = record {
     fits : (text : List ℕ) (c : Certificate) → discount_text.outcome text ≡ Ok c → Fits c
     fits text c read = ((from text c).0 read).0
 
+-- the same of bounds: two values and a choice for each state
+pub discounted_bounds_are_sound : between_text.IsReadFromText → discount_bounds.YesIsAccepted → discount_bounds.AcceptedIsBound → IsSound discounted_between
+discounted_bounds_are_sound from accepts bound = record {
+  yes = λ m text c mdp read.
+      let f = fits text c read in
+      (λ e. (accepts m c mdp f.one_above f.one_each).0 (as_yes _ e), λ holds. ap as_answer ((accepts m c mdp f.one_above f.one_each).1 holds));
+  bound = λ m text c mdp read holds. bound m c mdp (fits text c read).discount holds;
+}
+  where
+    fits : (text : List ℕ) (c : between_cert.Certificate) → between_reading.outcome text ≡ Ok c → between_cert.Fits c
+    fits text c read = ((from text c).0 read).0
+
 pub each_is_sound : exactly.YesIsAccepted → exactly.AcceptedIsBound → IsReadFromText → discount.YesIsAccepted → discount.AcceptedIsBound → YesAcceptsBounds → AcceptedBoundsAreTrue
-    → (kind : CertificateKind) → IsSound (checker_of kind)
-each_is_sound accepts bound from discount_yes discount_bound bounds_yes bounds_bound Exact = exact_is_sound accepts bound
-each_is_sound accepts bound from discount_yes discount_bound bounds_yes bounds_bound Discounted = discounted_is_sound from discount_yes discount_bound
-each_is_sound accepts bound from discount_yes discount_bound bounds_yes bounds_bound Bounds = bounds_are_sound bounds_yes bounds_bound
+    → IsSound discounted_between → (kind : CertificateKind) → IsSound (checker_of kind)
+each_is_sound accepts bound from discount_yes discount_bound bounds_yes bounds_bound between_sound Exact = exact_is_sound accepts bound
+each_is_sound accepts bound from discount_yes discount_bound bounds_yes bounds_bound between_sound Discounted = discounted_is_sound from discount_yes discount_bound
+each_is_sound accepts bound from discount_yes discount_bound bounds_yes bounds_bound between_sound Bounds = bounds_are_sound bounds_yes bounds_bound
+each_is_sound accepts bound from discount_yes discount_bound bounds_yes bounds_bound between_sound DiscountedBounds = between_sound
 
 -- ---- a text is due
 

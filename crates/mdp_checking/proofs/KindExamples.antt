@@ -1,15 +1,21 @@
--- The kind that the first line of a text names.
+-- The kind that the first line of a text names, and the second one of bounds.
 use Rattle.std.proofs.Common.{◌≡◌, [], ◌∷◌, ◌++◌, Some, refl}
 use Rattle.std.specs.Prelude.{codes}
 use Rattle.mdp_checking.specs.Kinds.{chosen}
 use Rattle.mdp_checking.specs.Meanings.{kind_of}
-use Rattle.mdp_checking.specs.declared.kind.CertificateKind.TheVariants.{Exact, Discounted, Bounds}
+use Rattle.mdp_checking.specs.declared.kind.CertificateKind.TheVariants.{Exact, Discounted, Bounds, DiscountedBounds}
 
 of_discount : kind_of (codes "mdp-discount 1" ++ 10 ∷ codes "claim") ≡ Discounted
 of_discount = refl
 
 of_bounds : kind_of (codes "mdp-bounds 1" ++ 10 ∷ []) ≡ Bounds
 of_bounds = refl
+
+of_discounted_bounds : kind_of (codes "mdp-bounds 1" ++ 10 ∷ codes "claim min discount " ++ 10 ∷ []) ≡ DiscountedBounds
+of_discounted_bounds = refl
+
+of_other_bounds : kind_of (codes "mdp-bounds 1" ++ 10 ∷ codes "claim min discounted " ++ 10 ∷ []) ≡ Bounds
+of_other_bounds = refl
 
 of_values : kind_of (codes "mdp-certificate 2" ++ 10 ∷ []) ≡ Exact
 of_values = refl
@@ -30,3 +36,7 @@ no_line = refl
 -- a kind that is asked for comes before that of the text
 asked_for : chosen (Some Exact) (codes "mdp-bounds 1" ++ 10 ∷ []) ≡ Exact
 asked_for = refl
+
+-- but bounds that are asked for are of the kind that their claim names
+asked_for_bounds : chosen (Some Bounds) (codes "mdp-bounds 1" ++ 10 ∷ codes "claim max discount " ++ 10 ∷ []) ≡ DiscountedBounds
+asked_for_bounds = refl

@@ -6,7 +6,7 @@ ghost use Rattle.mdp_command.specs.Read.{IsReadAs, is_of_model};
 ghost use Rattle.mdp_command.specs.Said.{said};
 ghost use Rattle.mdp_command.specs.Streams.{input};
 ghost use Rattle.mdp_checking.specs.Due.{said_to_text, IsCheckDue};
-ghost use Rattle.mdp_checking.specs.Kinds.{as_answer, discounted, between, checker_for};
+ghost use Rattle.mdp_checking.specs.Kinds.{as_answer, discounted, between, discounted_between, checker_for};
 ghost use Rattle.mdp_checking.specs.Shown.{IsCheckRead};
 
 use crate::kind::{CertificateKind, chosen};
@@ -15,6 +15,8 @@ use mdp_bounds_text::read_bounds;
 use mdp_cert::{CertError, read_cert};
 use mdp_check::{Answer, check, check_bounds};
 use mdp_command::{answered, read_model, read_second};
+use mdp_discount_bounds::check_discount_bounds;
+use mdp_discount_bounds_text::read_discount_bounds;
 use mdp_discount_rules::{DiscountAnswer, check_discount};
 use mdp_discount_text::read_discount;
 use mdp_edge::Source;
@@ -71,6 +73,18 @@ fn of_bounds(alloc: Global, model: &Model, bytes: &[u8]) -> Result<Vec<u8>, Refu
     }
 }
 
+/// The same of a certificate of bounds of discounted rewards.
+fn of_discounted_bounds(alloc: Global, model: &Model, bytes: &[u8]) -> Result<Vec<u8>, Refusal>
+    ensures due { (said result ≡ Err no_memory) ⊎ (said result ≡ said_to_text discounted_between model.now bytes.now) }
+    ensures not_of_model { is_of_model (said result) ≡ false }
+{
+    match read_discount_bounds(alloc, bytes) {
+        Ok(cert) => answered(alloc, as_answer(check_discount_bounds(model, &cert))),
+        Err(CertError::At { line, kind }) => Err(Refusal::CertText { line, kind }),
+        Err(CertError::Memory) => Err(Refusal::Memory),
+    }
+}
+
 /// The same of a certificate of the wanted kind, or of that which its first line names.
 fn of_text(
     alloc: Global,
@@ -85,6 +99,7 @@ fn of_text(
         CertificateKind::Exact => of_exact(alloc, model, bytes),
         CertificateKind::Discounted => of_discounted(alloc, model, bytes),
         CertificateKind::Bounds => of_bounds(alloc, model, bytes),
+        CertificateKind::DiscountedBounds => of_discounted_bounds(alloc, model, bytes),
     }
 }
 

@@ -1,6 +1,8 @@
 ghost use Rattle.std.specs.Prelude.{◌≡◌};
-ghost use Rattle.mdp_checking.specs.Kinds.{chosen};
-ghost use Rattle.mdp_checking.specs.Meanings.{begins_with, kind_of};
+ghost use Rattle.mdp_checking.specs.Kinds.{asked, chosen};
+ghost use Rattle.mdp_checking.specs.Meanings.{begins_with, bounds_kind, kind_of};
+
+use mdp_discount_bounds_text::is_discount_claim;
 
 /// The kinds of certificates. Each has its checker.
 #[derive(Clone, Copy, Debug, PartialEq, Eq)]
@@ -9,8 +11,10 @@ pub enum CertificateKind {
     Exact,
     /// Best discounted rewards.
     Discounted,
-    /// Lower and upper values, between which the best ones lie.
+    /// Lower and upper values of reach, reward or mean payoff, between which the best ones lie.
     Bounds,
+    /// Lower and upper values of discounted rewards.
+    DiscountedBounds,
 }
 
 /// Whether the bytes begin with these.
@@ -20,7 +24,18 @@ fn begins_with(bytes: &[u8], line: &[u8]) -> bool
     bytes.starts_with(line)
 }
 
-/// The kind that the first line of a text names; `Exact` where it names none.
+/// The kind of a certificate of bounds, by the claim in its second line.
+fn bounds_kind(bytes: &[u8]) -> CertificateKind
+    ensures { result ≡ bounds_kind bytes.now }
+{
+    if is_discount_claim(bytes) {
+        CertificateKind::DiscountedBounds
+    } else {
+        CertificateKind::Bounds
+    }
+}
+
+/// The kind that the first line of a text names, and of bounds the second line; `Exact` where the first line names none.
 pub fn kind_of(bytes: &[u8]) -> CertificateKind
     ensures { result ≡ kind_of bytes.now }
 {
@@ -28,9 +43,19 @@ pub fn kind_of(bytes: &[u8]) -> CertificateKind
         return CertificateKind::Discounted;
     }
     if begins_with(bytes, b"mdp-bounds 1\n") {
-        return CertificateKind::Bounds;
+        return bounds_kind(bytes);
     }
     CertificateKind::Exact
+}
+
+/// The kind that is asked for; of bounds that which the claim names.
+fn asked(kind: CertificateKind, bytes: &[u8]) -> CertificateKind
+    ensures { result ≡ asked kind bytes.now }
+{
+    match kind {
+        CertificateKind::Bounds => bounds_kind(bytes),
+        other => other,
+    }
 }
 
 /// The kind that is asked for, or else that of the text.
@@ -38,7 +63,7 @@ pub(crate) fn chosen(wanted: Option<CertificateKind>, bytes: &[u8]) -> Certifica
     ensures { result ≡ chosen wanted bytes.now }
 {
     match wanted {
-        Some(kind) => kind,
+        Some(kind) => asked(kind, bytes),
         None => kind_of(bytes),
     }
 }

@@ -3,6 +3,8 @@ ghost use Rattle.mdp_checking.specs.Laws.{YesIsAccepted, AcceptedIsTrue};
 ghost use Rattle.mdp_checking.specs.declared.kind.CertificateKind.{CertificateKind};
 
 use mdp_check::{bounds_checking_law, checking_law};
+use mdp_discount_bounds::discount_bounds_law;
+use mdp_discount_bounds_text::discount_bounds_text_law;
 use mdp_discount_rules::discount_rules_law;
 use mdp_discount_text::discount_text_law;
 use mdp_drn::model_law;
@@ -17,5 +19,7 @@ pub fn check_law()
     discount_rules_law();
     discount_text_law();
     bounds_checking_law();
+    discount_bounds_law();
+    discount_bounds_text_law();
     model_law();
 }

@@ -12,6 +12,8 @@ use Rattle.mdp_cert.specs.Reading as cert_text
 use Rattle.mdp_bounds_text.specs.Cert.{PlainBounds}
 use Rattle.mdp_bounds_text.specs.Cert as bounds
 use Rattle.mdp_bounds_text.specs.Reading as bounds_text
+use Rattle.mdp_discount_bounds.specs.Cert as discount_bounds
+use Rattle.mdp_discount_bounds_text.specs.Reading as discount_bounds_text
 use Rattle.mdp_discount_rules.specs.Cert as discount
 use Rattle.mdp_discount_text.specs.Text as discount_text
 use Rattle.mdp_policy.specs.Text.{policy_outcome}
@@ -48,15 +50,20 @@ abbrev pub in_discount : Result discount.Certificate text.Refusal → Result (Li
 in_discount (Ok c) = Ok c.choices
 in_discount (Err r) = Err (cert_text r.line r.kind)
 
+abbrev pub in_discount_bounds : Result discount_bounds.Certificate text.Refusal → Result (List ℕ) PlainRefusal
+in_discount_bounds (Ok c) = Ok c.choices
+in_discount_bounds (Err r) = Err (cert_text r.line r.kind)
+
 abbrev pub in_policy : Result (List ℕ) text.Refusal → Result (List ℕ) PlainRefusal
 in_policy (Ok choices) = Ok choices
 in_policy (Err r) = Err (policy_text r.line r.kind)
 
--- how the text begins says which it is; any other is to be a policy's
+-- how the text begins says which it is, of bounds with the claim in the second line; any other is to be a policy's
 abbrev pub choices_in : List ℕ → Result (List ℕ) PlainRefusal
 choices_in bytes =
     if begins_with (codes "mdp-certificate") bytes then in_certificate (cert_text.outcome bytes)
-    else (if begins_with (codes "mdp-bounds") bytes then in_bounds (bounds_text.outcome bytes)
+    else (if begins_with (codes "mdp-bounds") bytes
+    then (if discount_bounds_text.is_discount_claim bytes then in_discount_bounds (discount_bounds_text.outcome bytes) else in_bounds (bounds_text.outcome bytes))
     else (if begins_with (codes "mdp-discount") bytes then in_discount (discount_text.outcome bytes)
     else in_policy (policy_outcome bytes)))
 

@@ -3,14 +3,16 @@ ghost use Rattle.mdp_cert.specs.Cert as cert;
 ghost use Rattle.mdp_cert.specs.Reading as cert_text;
 ghost use Rattle.mdp_bounds_text.specs.Cert as bounds;
 ghost use Rattle.mdp_bounds_text.specs.Reading as bounds_text;
+ghost use Rattle.mdp_discount_bounds_text.specs.Reading as discount_bounds_text;
 ghost use Rattle.mdp_discount_text.specs.Text as discount_text;
 ghost use Rattle.mdp_policy.specs.Text.{policy_outcome};
-ghost use Rattle.mdp_command_chain.specs.Due.{choices_of_body, choices_of_bounds, in_certificate, in_bounds, in_discount, in_policy, choices_in};
+ghost use Rattle.mdp_command_chain.specs.Due.{choices_of_body, choices_of_bounds, in_certificate, in_bounds, in_discount, in_discount_bounds, in_policy, choices_in};
 ghost use Rattle.mdp_command.specs.Read.{is_of_model};
 ghost use Rattle.mdp_command_chain.specs.Named.{Names, named};
 
 use mdp_bounds_text::{BoundsBody, read_bounds};
 use mdp_cert::{Body, CertError, read_cert};
+use mdp_discount_bounds_text::{is_discount_claim, read_discount_bounds};
 use mdp_discount_text::read_discount;
 use mdp_job::Refusal;
 use mdp_policy::read_policy;
@@ -78,6 +80,18 @@ fn in_discount(alloc: Global, bytes: &[u8]) -> Result<Vec<u32>, Refusal>
     }
 }
 
+/// The choices that a certificate of bounds of discounted rewards names.
+fn in_discount_bounds(alloc: Global, bytes: &[u8]) -> Result<Vec<u32>, Refusal>
+    ensures named { Names result (in_discount_bounds (discount_bounds_text.outcome bytes.now)) }
+    ensures not_of_model { IfErr (named result) (λ e. is_of_model (Err e) ≡ false) }
+{
+    match read_discount_bounds(alloc, bytes) {
+        Ok(cert) => Ok(cert.bounds.choices),
+        Err(CertError::At { line, kind }) => Err(Refusal::CertText { line, kind }),
+        Err(CertError::Memory) => Err(Refusal::Memory),
+    }
+}
+
 /// The choices of a policy's text.
 fn in_policy(alloc: Global, bytes: &[u8]) -> Result<Vec<u32>, Refusal>
     ensures named { Names result (in_policy (policy_outcome bytes.now)) }
@@ -99,6 +113,9 @@ pub(crate) fn choices_in(alloc: Global, bytes: &[u8]) -> Result<Vec<u32>, Refusa
         return in_certificate(alloc, bytes);
     }
     if bytes.starts_with(b"mdp-bounds") {
+        if is_discount_claim(bytes) {
+            return in_discount_bounds(alloc, bytes);
+        }
         return in_bounds(alloc, bytes);
     }
     if bytes.starts_with(b"mdp-discount") {

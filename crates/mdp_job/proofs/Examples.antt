@@ -8,7 +8,8 @@ use Rattle.mdp_num.specs.Numeral.{parts_of, numeral_of}
 use Rattle.mdp_num.specs.Value.{spelling}
 use Rattle.mdp_rows.specs.declared.rule.RowRule.TheVariants.{Exact, Scaled}
 use Rattle.mdp_rows.specs.declared.dir.Dir.TheVariants.{Max, Min}
-use Rattle.mdp_job.specs.Job.{reach, reward, mean, solve, witness, check, drill, horizon, policy, chain, discount, discount_check, bounds, bounds_check, files_of}
+use Rattle.mdp_job.specs.Job.{reach, reward, mean, solve, witness, check, drill, horizon, horizon_reward, policy, chain, discount, discount_check, files_of}
+use Rattle.mdp_job.specs.Job.{bounds, bounds_until, bounds_total, bounds_discount, bounds_check}
 use Rattle.mdp_job.specs.Refusal.{no_job, query_init, below}
 use Rattle.mdp_job.specs.Status.{code_of, status_of}
 use Rattle.mdp_job.specs.Text.{text_of}
@@ -253,6 +254,40 @@ bounds_reward_digits = refl
 
 one_word_more : job_of_texts (codes "bounds" ∷ codes "m" ∷ codes "exact" ∷ codes "max" ∷ codes "reach" ∷ codes "goal" ∷ codes "0" ∷ codes "1" ∷ []) ≡ Err Number
 one_word_more = refl
+
+-- a deadline or a factor comes before the digits, and has its own refusal
+words_until : job_of_texts (codes "bounds" ∷ codes "m" ∷ codes "exact" ∷ codes "max" ∷ codes "until" ∷ codes "-" ∷ codes "goal" ∷ codes "100" ∷ codes "9" ∷ [])
+    ≡ Ok (bounds_until Exact Max None (codes "goal") 100 9)
+words_until = refl
+
+words_total : job_of_texts (codes "bounds" ∷ codes "m" ∷ codes "exact" ∷ codes "min" ∷ codes "total" ∷ codes "cost" ∷ codes "7" ∷ codes "9" ∷ [])
+    ≡ Ok (bounds_total Exact Min (codes "cost") 7 9)
+words_total = refl
+
+words_discount : job_of_texts (codes "bounds" ∷ codes "m" ∷ codes "exact" ∷ codes "max" ∷ codes "discount" ∷ codes "-" ∷ codes "0.50" ∷ codes "9" ∷ [])
+    ≡ Ok (bounds_discount Exact Max (codes "-") (ratio (pos 1) 2) 9)
+unfolding numeral_of parts_of lt_ℚ ratio of_int gcd gcd_with_fuel
+words_discount = refl
+
+until_number : job_of_texts (codes "bounds" ∷ codes "m" ∷ codes "exact" ∷ codes "max" ∷ codes "until" ∷ codes "-" ∷ codes "x" ∷ codes "0" ∷ []) ≡ Err Number
+until_number = refl
+
+until_steps : job_of_texts (codes "bounds" ∷ codes "m" ∷ codes "exact" ∷ codes "max" ∷ codes "until" ∷ codes "-" ∷ codes "goal" ∷ codes "x" ∷ codes "0" ∷ []) ≡ Err Steps
+until_steps = refl
+
+total_digits : job_of_texts (codes "bounds" ∷ codes "m" ∷ codes "exact" ∷ codes "max" ∷ codes "total" ∷ codes "-" ∷ codes "7" ∷ codes "0" ∷ []) ≡ Err Digits
+total_digits = refl
+
+discount_factor : job_of_texts (codes "bounds" ∷ codes "m" ∷ codes "exact" ∷ codes "max" ∷ codes "discount" ∷ codes "-" ∷ codes "1" ∷ codes "0" ∷ []) ≡ Err Factor
+unfolding numeral_of parts_of lt_ℚ ratio of_int gcd gcd_with_fuel
+discount_factor = refl
+
+-- `horizon` with the word `reward` in the place of a label
+a_horizon_reward : job_of_texts (codes "horizon" ∷ codes "m" ∷ codes "exact" ∷ codes "max" ∷ codes "reward" ∷ codes "cost" ∷ codes "30" ∷ []) ≡ Ok (horizon_reward Exact Max (codes "cost") 30)
+a_horizon_reward = refl
+
+horizon_reward_steps : job_of_texts (codes "horizon" ∷ codes "m" ∷ codes "exact" ∷ codes "max" ∷ codes "reward" ∷ codes "cost" ∷ codes "12345678" ∷ []) ≡ Err Steps
+horizon_reward_steps = refl
 
 digits_text : text_of (no_job Digits) ≡ codes "words digits" ++ 10 ∷ []
 digits_text = refl

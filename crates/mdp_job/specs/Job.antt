@@ -6,7 +6,8 @@ use Rattle.mdp_rows.specs.declared.rule.RowRule.{RowRule}
 use Rattle.mdp_job.specs.declared.job.Query.{Query}
 use Rattle.mdp_job.specs.declared.job.Query.TheVariants as query
 use Rattle.mdp_job.specs.declared.job.Job.{Job}
-use Rattle.mdp_job.specs.declared.job.Job.TheVariants.{Bounds, BoundsCheck, Chain, Check, Discount, DiscountCheck, Drill, Horizon, Policy, Solve, Witness}
+use Rattle.mdp_job.specs.declared.job.Job.TheVariants.{Bounds, BoundsCheck, BoundsDiscount, BoundsTotal, BoundsUntil, Chain, Check, Discount, DiscountCheck, Drill, Horizon, HorizonReward, Policy, Solve}
+use Rattle.mdp_job.specs.declared.job.Job.TheVariants.{Witness}
 use Rattle.mdp_job.specs.declared.files.Files.{Files}
 use Rattle.mdp_job.specs.declared.words_error.WordsError.{WordsError}
 
@@ -27,6 +28,8 @@ pub data PlainJob : Type 0 where
   drill : ℕ → ℕ → ℕ → PlainJob
   -- the best probability, in the direction, of reaching a label within so many steps, on a way that keeps to states of another label, or to any
   horizon : RowRule → Dir → Option (List ℕ) → List ℕ → ℕ → PlainJob
+  -- the best total of the rewards of a name, in the direction, within so many steps
+  horizon_reward : RowRule → Dir → List ℕ → ℕ → PlainJob
   -- the probabilities with which a given policy reaches a label, and where another choice is better
   policy : RowRule → List ℕ → PlainJob
   -- the model in which each state keeps only the choice that a given policy names
@@ -37,6 +40,10 @@ pub data PlainJob : Type 0 where
   discount_check : RowRule → PlainJob
   -- bounds of the best values, in the direction, which are looked for with so many digits, and a policy
   bounds : RowRule → Dir → PlainQuery → ℕ → PlainJob
+  -- bounds, of so many digits, of what `horizon`, `horizon_reward` and `discount` ask for
+  bounds_until : RowRule → Dir → Option (List ℕ) → List ℕ → ℕ → ℕ → PlainJob
+  bounds_total : RowRule → Dir → List ℕ → ℕ → ℕ → PlainJob
+  bounds_discount : RowRule → Dir → List ℕ → ℚ → ℕ → PlainJob
   -- whether a certificate of bounds holds
   bounds_check : RowRule → PlainJob
 
@@ -57,11 +64,15 @@ plain_job (Witness rule dir label threshold) = witness rule dir label.now thresh
 plain_job (Check rule) = check rule
 plain_job (Drill number layers width) = drill number layers width
 plain_job (Horizon rule dir stay label steps) = horizon rule dir (option_map (λ name. name.now) stay) label.now steps
+plain_job (HorizonReward rule dir name steps) = horizon_reward rule dir name.now steps
 plain_job (Policy rule label) = policy rule label.now
 plain_job (Chain rule) = chain rule
 plain_job (Discount rule dir name factor) = discount rule dir name.now factor
 plain_job (DiscountCheck rule) = discount_check rule
 plain_job (Bounds rule dir query digits) = bounds rule dir (plain_query query) digits
+plain_job (BoundsUntil rule dir stay label steps digits) = bounds_until rule dir (option_map (λ name. name.now) stay) label.now steps digits
+plain_job (BoundsTotal rule dir name steps digits) = bounds_total rule dir name.now steps digits
+plain_job (BoundsDiscount rule dir name factor digits) = bounds_discount rule dir name.now factor digits
 plain_job (BoundsCheck rule) = bounds_check rule
 
 abbrev pub asked : Result Job WordsError → Asked
@@ -77,11 +88,15 @@ files_of (Ok (witness rule dir label threshold)) = record { model = Some 1; seco
 files_of (Ok (check rule)) = record { model = Some 1; second = Some 3 }
 files_of (Ok (drill number layers width)) = record { model = None; second = None }
 files_of (Ok (horizon rule dir stay label steps)) = record { model = Some 1; second = None }
+files_of (Ok (horizon_reward rule dir name steps)) = record { model = Some 1; second = None }
 files_of (Ok (policy rule label)) = record { model = Some 1; second = Some 3 }
 files_of (Ok (chain rule)) = record { model = Some 1; second = Some 3 }
 files_of (Ok (discount rule dir name factor)) = record { model = Some 1; second = None }
 files_of (Ok (discount_check rule)) = record { model = Some 1; second = Some 3 }
 files_of (Ok (bounds rule dir query digits)) = record { model = Some 1; second = None }
+files_of (Ok (bounds_until rule dir stay label steps digits)) = record { model = Some 1; second = None }
+files_of (Ok (bounds_total rule dir name steps digits)) = record { model = Some 1; second = None }
+files_of (Ok (bounds_discount rule dir name factor digits)) = record { model = Some 1; second = None }
 files_of (Ok (bounds_check rule)) = record { model = Some 1; second = Some 3 }
 files_of (Err e) = record { model = None; second = None }
 

@@ -6,6 +6,7 @@
 --     check MODEL ROWS CERT
 --     drill NUMBER LAYERS WIDTH
 --     horizon MODEL ROWS DIR A B STEPS
+--     horizon MODEL ROWS DIR reward NAME STEPS
 --     policy MODEL ROWS POLICY reach LABEL
 --     chain MODEL ROWS POLICY
 --     discount MODEL ROWS DIR NAME FACTOR
@@ -13,6 +14,9 @@
 --     bounds MODEL ROWS DIR reach LABEL DIGITS
 --     bounds MODEL ROWS DIR reward NAME LABEL DIGITS
 --     bounds MODEL ROWS DIR mean NAME DIGITS
+--     bounds MODEL ROWS DIR until A B STEPS DIGITS
+--     bounds MODEL ROWS DIR total NAME STEPS DIGITS
+--     bounds MODEL ROWS DIR discount NAME FACTOR DIGITS
 --     bounds-check MODEL ROWS CERT
 -- ROWS is `exact` or `scaled`, DIR `max` or `min`.
 use Rattle.std.specs.Prelude.{ℕ, ◌*◌, ◌-◌, ◌^◌, Bool, false, ◌&&◌, not, List, [], ◌∷◌, length, take, slice_index_or, map, Option, Some, None}
@@ -31,7 +35,8 @@ use Rattle.mdp_rows.specs.declared.dir.Dir.{Dir}
 use Rattle.mdp_rows.specs.declared.dir.Dir.TheVariants.{Max, Min}
 use Rattle.mdp_rows.specs.declared.rule.RowRule.{RowRule}
 use Rattle.mdp_rows.specs.declared.rule.RowRule.TheVariants.{Exact, Scaled}
-use Rattle.mdp_job.specs.Job.{PlainQuery, reach, reward, mean, solve, witness, check, drill, horizon, policy, chain, discount, discount_check, bounds, bounds_check, Asked, files_of}
+use Rattle.mdp_job.specs.Job.{PlainQuery, reach, reward, mean, solve, witness, check, drill, horizon, horizon_reward, policy, chain, discount, discount_check}
+use Rattle.mdp_job.specs.Job.{bounds, bounds_until, bounds_total, bounds_discount, bounds_check, Asked, files_of}
 use Rattle.mdp_job.specs.declared.words_error.WordsError.{WordsError}
 use Rattle.mdp_job.specs.declared.words_error.WordsError.TheVariants.{Command, Number, Rows, Direction, Objective, Threshold, Drill, Steps, Factor, Digits}
 
@@ -118,14 +123,22 @@ stay_of word = if bytes_eq word (codes "-") then None else Some word
 abbrev pub steps_of : List ℕ → Result ℕ WordsError
 steps_of word = ok_or (whole_word 7 word) Steps
 
--- the words behind `horizon`
+-- the words behind `horizon`: the row rule, the direction, then the steps
+abbrev pub until_within_of : List (List ℕ) → Asked
+until_within_of words =
+    rule_of (word_at words 1)
+    >>= (λ rule. dir_of (word_at words 2)
+    >>= (λ dir. steps_of (word_at words 5) >>= (λ steps. Ok (horizon rule dir (stay_of (word_at words 3)) (word_at words 4) steps))))
+
+abbrev pub reward_within_of : List (List ℕ) → Asked
+reward_within_of words =
+    rule_of (word_at words 1)
+    >>= (λ rule. dir_of (word_at words 2) >>= (λ dir. steps_of (word_at words 5) >>= (λ steps. Ok (horizon_reward rule dir (word_at words 4) steps))))
+
+-- the word `reward` asks for a reward; any other word in its place is a label, or `-`
 abbrev pub horizon_of : List (List ℕ) → Asked
 horizon_of words =
-    if length words == 6
-    then (rule_of (word_at words 1)
-    >>= (λ rule. dir_of (word_at words 2)
-    >>= (λ dir. steps_of (word_at words 5) >>= (λ steps. Ok (horizon rule dir (stay_of (word_at words 3)) (word_at words 4) steps)))))
-    else Err Number
+    if length words == 6 then (if bytes_eq (word_at words 3) (codes "reward") then reward_within_of words else until_within_of words) else Err Number
 
 -- the words behind `policy`: the row rule, then the objective
 abbrev pub policy_of : List (List ℕ) → Asked
@@ -172,19 +185,46 @@ few_digits None = Err Digits
 abbrev pub digits_of : List ℕ → Result ℕ WordsError
 digits_of word = if begins_with_zero word then Err Digits else few_digits (whole_word 2 word)
 
--- the words behind `bounds`: how many there are at least, the row rule, the direction, the query of all but the last one, as for `solve`, then the digits
+-- the words behind `bounds`: how many there are at least, the row rule, the direction, the objective, how many words that has, and its own words; the
+-- digits come last. Where it is none of three, the query is that of all but the last word, as for `solve`
 abbrev pub bounds_query_of : List (List ℕ) → Result PlainQuery WordsError
 bounds_query_of words = query_of (take (length words - 1) words)
 
 abbrev pub bounds_digits_of : List (List ℕ) → Result ℕ WordsError
 bounds_digits_of words = digits_of (word_at words (length words - 1))
 
+abbrev pub bounds_best_of : RowRule → Dir → List (List ℕ) → Asked
+bounds_best_of rule dir words = bounds_query_of words >>= (λ query. bounds_digits_of words >>= (λ digits. Ok (bounds rule dir query digits)))
+
+abbrev pub bounds_until_of : RowRule → Dir → List (List ℕ) → Asked
+bounds_until_of rule dir words =
+    if length words == 8
+    then (steps_of (word_at words 6)
+    >>= (λ steps. digits_of (word_at words 7) >>= (λ digits. Ok (bounds_until rule dir (stay_of (word_at words 4)) (word_at words 5) steps digits))))
+    else Err Number
+
+abbrev pub bounds_total_of : RowRule → Dir → List (List ℕ) → Asked
+bounds_total_of rule dir words =
+    if length words == 7
+    then (steps_of (word_at words 5) >>= (λ steps. digits_of (word_at words 6) >>= (λ digits. Ok (bounds_total rule dir (word_at words 4) steps digits))))
+    else Err Number
+
+abbrev pub bounds_discount_of : RowRule → Dir → List (List ℕ) → Asked
+bounds_discount_of rule dir words =
+    if length words == 7
+    then (factor_of (word_at words 5) >>= (λ factor. digits_of (word_at words 6) >>= (λ digits. Ok (bounds_discount rule dir (word_at words 4) factor digits))))
+    else Err Number
+
+abbrev pub bounds_by : RowRule → Dir → List (List ℕ) → Asked
+bounds_by rule dir words =
+    if bytes_eq (word_at words 3) (codes "until") then bounds_until_of rule dir words
+    else (if bytes_eq (word_at words 3) (codes "total") then bounds_total_of rule dir words
+    else (if bytes_eq (word_at words 3) (codes "discount") then bounds_discount_of rule dir words else bounds_best_of rule dir words))
+
 abbrev pub bounds_of : List (List ℕ) → Asked
 bounds_of words =
     if nat_lt (length words) 6 then Err Number
-    else (rule_of (word_at words 1)
-    >>= (λ rule. dir_of (word_at words 2)
-    >>= (λ dir. bounds_query_of words >>= (λ query. bounds_digits_of words >>= (λ digits. Ok (bounds rule dir query digits))))))
+    else (rule_of (word_at words 1) >>= (λ rule. dir_of (word_at words 2) >>= (λ dir. bounds_by rule dir words)))
 
 -- the words behind `bounds-check`
 abbrev pub bounds_check_of : List (List ℕ) → Asked

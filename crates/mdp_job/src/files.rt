@@ -21,8 +21,12 @@ pub fn files_of(words: &[String]) -> Files
             Job::Solve { .. }
             | Job::Witness { .. }
             | Job::Horizon { .. }
+            | Job::HorizonReward { .. }
             | Job::Discount { .. }
-            | Job::Bounds { .. },
+            | Job::Bounds { .. }
+            | Job::BoundsUntil { .. }
+            | Job::BoundsTotal { .. }
+            | Job::BoundsDiscount { .. },
         ) => Files {
             model: Some(1),
             second: None,

@@ -4,7 +4,8 @@ ghost use Rattle.std.specs.String.{string_bytes};
 ghost use Rattle.mdp_math.specs.Rational.{of_int, lt_ℚ};
 ghost use Rattle.mdp_job.specs.Job.{asked, plain_query};
 ghost use Rattle.mdp_job.specs.Words.{job_of, rule_of, dir_of, reach_of, reward_of, mean_of, query_of, solve_of, threshold_of, witness_of, rows_of, check_of, drill_by};
-ghost use Rattle.mdp_job.specs.Words.{drill_of, stay_of, steps_of, horizon_of, policy_of, chain_of, factor_of, discount_of, discount_check_of, digits_of, bounds_query_of, bounds_digits_of, bounds_of};
+ghost use Rattle.mdp_job.specs.Words.{drill_of, stay_of, steps_of, until_within_of, reward_within_of, horizon_of, policy_of, chain_of, factor_of, discount_of, discount_check_of};
+ghost use Rattle.mdp_job.specs.Words.{digits_of, bounds_query_of, bounds_digits_of, bounds_best_of, bounds_until_of, bounds_total_of, bounds_discount_of, bounds_by, bounds_of};
 ghost use Rattle.mdp_job.specs.Words.{bounds_check_of, other_of, job_by};
 
 use crate::digits::whole_word;
@@ -60,6 +61,13 @@ pub enum Job<'a> {
         label: &'a [u8],
         steps: u32,
     },
+    /// `horizon MODEL ROWS DIR reward NAME STEPS`: the best total of the rewards of this name within so many steps.
+    HorizonReward {
+        rule: RowRule,
+        dir: Dir,
+        name: &'a [u8],
+        steps: u32,
+    },
     /// `policy MODEL ROWS POLICY reach LABEL`: the probabilities with which a given policy reaches a state with the label, and where another choice
     /// is better.
     Policy {
@@ -89,6 +97,31 @@ pub enum Job<'a> {
         rule: RowRule,
         dir: Dir,
         query: Query<'a>,
+        digits: u32,
+    },
+    /// `bounds MODEL ROWS DIR until A B STEPS DIGITS`: bounds of what `horizon MODEL ROWS DIR A B STEPS` asks for, of so many digits, from 1 to 30.
+    BoundsUntil {
+        rule: RowRule,
+        dir: Dir,
+        stay: Option<&'a [u8]>,
+        label: &'a [u8],
+        steps: u32,
+        digits: u32,
+    },
+    /// `bounds MODEL ROWS DIR total NAME STEPS DIGITS`: the same of `horizon MODEL ROWS DIR reward NAME STEPS`.
+    BoundsTotal {
+        rule: RowRule,
+        dir: Dir,
+        name: &'a [u8],
+        steps: u32,
+        digits: u32,
+    },
+    /// `bounds MODEL ROWS DIR discount NAME FACTOR DIGITS`: the same of `discount MODEL ROWS DIR NAME FACTOR`.
+    BoundsDiscount {
+        rule: RowRule,
+        dir: Dir,
+        name: &'a [u8],
+        factor: Frac,
         digits: u32,
     },
     /// `bounds-check MODEL ROWS CERT`: whether a certificate of bounds holds of the model, read under the row rule.
@@ -255,23 +288,50 @@ fn steps_of(word: &str) -> Result<u32, WordsError>
     }
 }
 
-/// The job that the words behind `horizon` are.
-fn horizon_of<'a>(words: &'a [String]) -> Result<Job<'a>, WordsError>
-    ensures { asked result ≡ horizon_of (map string_bytes words.now) }
+/// The job that the words behind `horizon` are, where they ask for a way to a label.
+fn until_within_of<'a>(words: &'a [String]) -> Result<Job<'a>, WordsError>
+    requires { 5 < length words.now }
+    ensures { asked result ≡ until_within_of (map string_bytes words.now) }
 {
-    let [_, rows, dir, stay, label, steps] = words else {
-        return Err(WordsError::Number);
-    };
-    let rule = rule_of(rows.as_str())?;
-    let dir = dir_of(dir.as_str())?;
-    let steps = steps_of(steps.as_str())?;
+    let rule = rule_of(words[1].as_str())?;
+    let dir = dir_of(words[2].as_str())?;
+    let steps = steps_of(words[5].as_str())?;
     Ok(Job::Horizon {
         rule,
         dir,
-        stay: stay_of(stay.as_str()),
-        label: label.as_bytes(),
+        stay: stay_of(words[3].as_str()),
+        label: words[4].as_bytes(),
         steps,
     })
+}
+
+/// The job that the words behind `horizon` are, where they ask for a reward.
+fn reward_within_of<'a>(words: &'a [String]) -> Result<Job<'a>, WordsError>
+    requires { 5 < length words.now }
+    ensures { asked result ≡ reward_within_of (map string_bytes words.now) }
+{
+    let rule = rule_of(words[1].as_str())?;
+    let dir = dir_of(words[2].as_str())?;
+    let steps = steps_of(words[5].as_str())?;
+    Ok(Job::HorizonReward {
+        rule,
+        dir,
+        name: words[4].as_bytes(),
+        steps,
+    })
+}
+
+/// The job that the words behind `horizon` are: the word `reward` asks for a reward, any other word in its place is a label, or `-`.
+fn horizon_of<'a>(words: &'a [String]) -> Result<Job<'a>, WordsError>
+    ensures { asked result ≡ horizon_of (map string_bytes words.now) }
+{
+    if words.len() != 6 {
+        return Err(WordsError::Number);
+    }
+    if words[3].as_str() == "reward" {
+        return reward_within_of(words);
+    }
+    until_within_of(words)
 }
 
 /// The job that the words behind `chain` are.
@@ -372,15 +432,11 @@ fn bounds_digits_of(words: &[String]) -> Result<u32, WordsError>
     digits_of(words[words.len() - 1].as_str())
 }
 
-/// The job that the words behind `bounds` are: a query as behind `solve`, then the digits.
-fn bounds_of<'a>(words: &'a [String]) -> Result<Job<'a>, WordsError>
-    ensures { asked result ≡ bounds_of (map string_bytes words.now) }
+/// The job of bounds that the words name, where they ask what the words behind `solve` ask for: that query, then the digits.
+fn bounds_best_of<'a>(rule: RowRule, dir: Dir, words: &'a [String]) -> Result<Job<'a>, WordsError>
+    requires { 5 < length words.now }
+    ensures { asked result ≡ bounds_best_of rule dir (map string_bytes words.now) }
 {
-    if words.len() < 6 {
-        return Err(WordsError::Number);
-    }
-    let rule = rule_of(words[1].as_str())?;
-    let dir = dir_of(words[2].as_str())?;
     match bounds_query_of(words) {
         Ok(query) => {
             let digits = bounds_digits_of(words)?;
@@ -393,6 +449,90 @@ fn bounds_of<'a>(words: &'a [String]) -> Result<Job<'a>, WordsError>
         }
         Err(error) => Err(error),
     }
+}
+
+/// The job of bounds that the words name, where the objective is `until`: two labels, the steps, then the digits.
+fn bounds_until_of<'a>(rule: RowRule, dir: Dir, words: &'a [String]) -> Result<Job<'a>, WordsError>
+    ensures { asked result ≡ bounds_until_of rule dir (map string_bytes words.now) }
+{
+    let [_, _, _, _, stay, label, steps, digits] = words else {
+        return Err(WordsError::Number);
+    };
+    let steps = steps_of(steps.as_str())?;
+    let digits = digits_of(digits.as_str())?;
+    Ok(Job::BoundsUntil {
+        rule,
+        dir,
+        stay: stay_of(stay.as_str()),
+        label: label.as_bytes(),
+        steps,
+        digits,
+    })
+}
+
+/// The job of bounds that the words name, where the objective is `total`: the reward's name, the steps, then the digits.
+fn bounds_total_of<'a>(rule: RowRule, dir: Dir, words: &'a [String]) -> Result<Job<'a>, WordsError>
+    ensures { asked result ≡ bounds_total_of rule dir (map string_bytes words.now) }
+{
+    let [_, _, _, _, name, steps, digits] = words else {
+        return Err(WordsError::Number);
+    };
+    let steps = steps_of(steps.as_str())?;
+    let digits = digits_of(digits.as_str())?;
+    Ok(Job::BoundsTotal {
+        rule,
+        dir,
+        name: name.as_bytes(),
+        steps,
+        digits,
+    })
+}
+
+/// The job of bounds that the words name, where the objective is `discount`: the reward's name, the factor, then the digits.
+fn bounds_discount_of<'a>(
+    rule: RowRule,
+    dir: Dir,
+    words: &'a [String],
+) -> Result<Job<'a>, WordsError>
+    ensures { asked result ≡ bounds_discount_of rule dir (map string_bytes words.now) }
+{
+    let [_, _, _, _, name, factor, digits] = words else {
+        return Err(WordsError::Number);
+    };
+    let factor = factor_of(factor.as_str())?;
+    let digits = digits_of(digits.as_str())?;
+    Ok(Job::BoundsDiscount {
+        rule,
+        dir,
+        name: name.as_bytes(),
+        factor,
+        digits,
+    })
+}
+
+/// The job of bounds that the words name, by the objective.
+fn bounds_by<'a>(rule: RowRule, dir: Dir, words: &'a [String]) -> Result<Job<'a>, WordsError>
+    requires { 5 < length words.now }
+    ensures { asked result ≡ bounds_by rule dir (map string_bytes words.now) }
+{
+    match words[3].as_str() {
+        "until" => bounds_until_of(rule, dir, words),
+        "total" => bounds_total_of(rule, dir, words),
+        "discount" => bounds_discount_of(rule, dir, words),
+        _ => bounds_best_of(rule, dir, words),
+    }
+}
+
+/// The job that the words behind `bounds` are.
+fn bounds_of<'a>(words: &'a [String]) -> Result<Job<'a>, WordsError>
+    ensures { asked result ≡ bounds_of (map string_bytes words.now) }
+{
+    if words.len() < 6 {
+        return Err(WordsError::Number);
+    }
+    let rule = rule_of(words[1].as_str())?;
+    let dir = dir_of(words[2].as_str())?;
+    bounds_by(rule, dir, words)
 }
 
 /// The job that the words behind `bounds-check` are.
@@ -472,7 +612,8 @@ fn job_by<'a>(command: &str, words: &'a [String]) -> Result<Job<'a>, WordsError>
 
 /// The job that the words are, or the first refusal: `Command`, then `Number`, `Rows`, `Direction` and `Objective`, and `Number` again where an
 /// objective has another number of words; for `drill` `Drill`, for `horizon` `Steps`, for `policy` `Objective` behind `Rows`, for `discount` `Factor`
-/// and for `witness` `Threshold` behind `Direction`, and for `bounds` `Digits` behind all of these. It takes no memory.
+/// and for `witness` `Threshold` behind `Direction`, and for `bounds` `Steps` or `Factor`, where the objective has one, and `Digits` behind all of
+/// these. It takes no memory.
 pub fn job_of<'a>(words: &'a [String]) -> Result<Job<'a>, WordsError>
     ensures { asked result ≡ job_of words.now }
 {

@@ -1,2 +1,3 @@
 mod PredCounts
 mod Entered
+mod RowCounts

@@ -152,6 +152,15 @@ fn finds_sets_of_states(rt: HostRuntime) -> Result<(), Fail> {
     Ok(())
 }
 
+/// The states from which rows lead to a goal.
+#[tactic(auto, using(crate::proofs::RowCounts::one_row_each))]
+fn along_rows(alloc: Global, rows: &PolicyRows<'_>, goals: &Marks) -> Result<Pass, Memory>
+    requires { length goals.now ≡ states_of rows.now.model.now }
+    ensures { IfOk result (λ pass. length pass.marks ≡ states_of rows.now.model.now) }
+{
+    along(alloc, rows, goals)
+}
+
 /// The policy that `may_reach` finds, and the states that it leads to the goal.
 #[test]
 fn goes_along_rows(rt: HostRuntime) -> Result<(), Fail> {
@@ -164,13 +173,9 @@ fn goes_along_rows(rt: HostRuntime) -> Result<(), Fail> {
         model: &model,
         policy: &may.choices,
     };
+    let pass = along_rows(rt.alloc(), &rows, &goals)?;
     let mut found = String::new(rt.alloc());
-    push_pass(
-        "along",
-        &along(rt.alloc(), &rows, &goals)?,
-        model.states(),
-        &mut found,
-    )?;
+    push_pass("along", &pass, model.states(), &mut found)?;
     assert_eq!(rt; found.as_str(), "along 1/0 0/0 -");
     Ok(())
 }

@@ -50,6 +50,11 @@ returns-in-Horizon g c =
     decided_as _ _ _ _ _ (sym (ap (λ (job : Job). asked_for (plain_job job)) c.in-Horizon.is) ∙ c.in-Ok.ensures)
     (model_decided _ _ _ _ _ _ refl refl (λ bytes other said due. due) (λ bytes other text shown. shown) refl refl _ c.horizon_file.ensures.read c.horizon_file.ensures.end)
 
+pub returns-in-HorizonReward : goal.returns-in-HorizonReward
+returns-in-HorizonReward g c =
+    decided_as _ _ _ _ _ (sym (ap (λ (job : Job). asked_for (plain_job job)) c.in-HorizonReward.is) ∙ c.in-Ok.ensures)
+    (model_decided _ _ _ _ _ _ refl refl (λ bytes other said due. due) (λ bytes other text shown. shown) refl refl _ c.horizon_reward_file.ensures.read c.horizon_reward_file.ensures.end)
+
 pub returns-in-Policy : goal.returns-in-Policy
 returns-in-Policy g c =
     decided_as _ _ _ _ _ (sym (ap (λ (job : Job). asked_for (plain_job job)) c.in-Policy.is) ∙ c.in-Ok.ensures)

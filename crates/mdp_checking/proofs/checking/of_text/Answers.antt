@@ -1,7 +1,7 @@
 use Rattle.std.proofs.Common.{sym, ◌∙◌}
 use Rattle.mdp_checking.proofs.Accepting.{by_kind}
 use Rattle.mdp_checking.specs.Kinds.{chosen}
-use Rattle.mdp_checking.specs.declared.kind.CertificateKind.TheVariants.{Exact, Discounted, Bounds}
+use Rattle.mdp_checking.specs.declared.kind.CertificateKind.TheVariants.{Exact, Discounted, Bounds, DiscountedBounds}
 use Rattle.mdp_checking.proofs.checking.of_text.Goals as goal
 
 pub returns-in-Exact-clause-due : goal.returns-in-Exact-clause-due
@@ -12,3 +12,7 @@ returns-in-Discounted-clause-due c = by_kind (chosen c.args.wanted c.args.bytes.
 
 pub returns-in-Bounds-clause-due : goal.returns-in-Bounds-clause-due
 returns-in-Bounds-clause-due c = by_kind (chosen c.args.wanted c.args.bytes.now) Bounds _ _ _ (sym c.in-Bounds.is ∙ c.chosen.ensures) c.of_bounds.ensures.due
+
+pub returns-in-DiscountedBounds-clause-due : goal.returns-in-DiscountedBounds-clause-due
+returns-in-DiscountedBounds-clause-due c =
+    by_kind (chosen c.args.wanted c.args.bytes.now) DiscountedBounds _ _ _ (sym c.in-DiscountedBounds.is ∙ c.chosen.ensures) c.of_discounted_bounds.ensures.due
