@@ -99,7 +99,9 @@ fn answers_each_fault_of_a_model(rt: HostRuntime) -> Result<(), Fail> {
         &["bounds", "MODEL", "exact", "max", "reach", "goal", "6"],
         &["horizon", "MODEL", "exact", "max", "reward", "-", "2"],
         &["bounds", "MODEL", "exact", "max", "total", "-", "2", "6"],
-        &["bounds", "MODEL", "exact", "max", "discount", "-", "1/2", "6"],
+        &[
+            "bounds", "MODEL", "exact", "max", "discount", "-", "1/2", "6",
+        ],
         &["bounds-check", "MODEL", "exact", "CERT"],
     ] {
         for call in 0..calls_of(COIN) {
