@@ -18,7 +18,7 @@ use Rattle.mdp_bounds.specs.Mean.{exact_best, exact_extreme, told_width, told_sp
 use Rattle.mdp_bounds.proofs.Sums.{plain_add-some}
 
 -- the best is as good as each
-best_covers : (dir : Dir) (best : ℚ) (xs : List ℚ) → (AsGood dir best (exact_best dir best xs)) × AllByRecursion (λ x. AsGood dir x (exact_best dir best xs)) xs
+pub best_covers : (dir : Dir) (best : ℚ) (xs : List ℚ) → (AsGood dir best (exact_best dir best xs)) × AllByRecursion (λ x. AsGood dir x (exact_best dir best xs)) xs
 best_covers dir best [] = (as_good_same dir best, tt)
 best_covers dir best (x ∷ xs) =
     let next : ℚ = cond (is_better dir (cmp_ℚ x best)) x best in
@@ -32,7 +32,7 @@ best_keeps dir Q best [] h each = h
 best_keeps dir Q best (x ∷ xs) h each =
     best_keeps dir Q (cond (is_better dir (cmp_ℚ x best)) x best) xs (either Q (is_better dir (cmp_ℚ x best)) x best each.0 h) each.1
 
-greatest_exact : (xs : List ℚ) → exact_extreme Max xs ≡ greatest xs
+pub greatest_exact : (xs : List ℚ) → exact_extreme Max xs ≡ greatest xs
 greatest_exact [] = refl
 greatest_exact (x ∷ xs) =
     let top = recursion_from_All (λ y. y ≤ℚ greatest (x ∷ xs)) (x ∷ xs) (greatest-ge (x ∷ xs)) in

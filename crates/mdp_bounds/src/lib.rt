@@ -12,9 +12,12 @@ mod reward;
 mod spread;
 mod sum;
 
+pub use compare::value_stands;
+pub use finite::finite_row_sum;
 pub use laws::{never_no_law, refuted_law, says_law};
 pub use mdp_farkas::{Fault, Verdict};
 pub use mdp_rows::Dir;
 pub use mean::{MeanBoundsCert, holds_bounds_mean};
 pub use reach::{ReachBoundsCert, holds_bounds_reach};
 pub use reward::{RewardBoundsCert, holds_bounds_reward};
+pub use sum::plain_sum;

@@ -14,10 +14,10 @@ use Rattle.mdp_discount_rules.specs.declared.answer.DiscountAnswer.TheVariants.{
 use Rattle.mdp_discount_rules.proofs.Discount.{discount_of_rules}
 use Rattle.mdp_discount_rules.proofs.DiscountRules.{discount_rules}
 
-place_below : (names : List (List ℕ)) (name : List ℕ) (r : ℕ) → place_of name names ≡ Some r → r < length names
+pub place_below : (names : List (List ℕ)) (name : List ℕ) (r : ℕ) → place_of name names ≡ Some r → r < length names
 place_below names name r e = (position-Some (bytes_eq name) names r [] e).0
 
-both-yes : (u v : Verdict) → answer_of (then_verdict u v) ≡ Yes → (u ≡ verdict.Yes) × (v ≡ verdict.Yes)
+pub both-yes : (u v : Verdict) → answer_of (then_verdict u v) ≡ Yes → (u ≡ verdict.Yes) × (v ≡ verdict.Yes)
 both-yes verdict.Yes verdict.Yes e = (refl, refl)
 both-yes verdict.Yes (verdict.No f) e = cc
 both-yes verdict.Yes (verdict.Wide s c) e = cc

@@ -1,5 +1,6 @@
 -- The rules of discounted reward bound what trees earn, and fix the values.
 use Rattle.std.proofs.Common.{◌≡◌, ℕ, suc, ◌<◌, ◌≤◌, ⊎_elim, false, true≢false, List, [], ◌∷◌, length, map, refl, sym, ◌∙◌, ap, subst, arith, pos}
+use Rattle.std.specs.List.{All}
 use Rattle.mdp_math.specs.Rational.{ℚ, ◌+ℚ◌, ◌*ℚ◌, neg_ℚ, inv_ℚ, ◌≤ℚ◌, ◌<ℚ◌}
 use Rattle.mdp_math.specs.Power.{pow_ℚ}
 use Rattle.mdp_math.specs.Extremes.{greatest}
@@ -15,7 +16,7 @@ use Rattle.mdp_spec.specs.Mdp.{Entry, Mdp, states_of, choices_at, choice_at, row
 use Rattle.mdp_spec.specs.Row.{IsRow, IsMdp}
 use Rattle.mdp_spec.specs.Unit.{reward_of}
 use Rattle.mdp_spec.specs.Tree.{Tree, IsPolicy, unfolded}
-use Rattle.mdp_spec.proofs.Keeping.{Keeps, HasChoice, Follows, keeps_of_Fits, keeps_unfolded, unfolded_fits}
+use Rattle.mdp_spec.proofs.Keeping.{Keeps, HasChoice, Follows, keeps_of_Fits, keeps_unfolded, unfolded_is_strategy}
 use Rattle.mdp_spec.proofs.Rows.{row_weigh}
 use Rattle.mdp_rows.specs.declared.dir.Dir.{Dir}
 use Rattle.mdp_rows.specs.declared.dir.Dir.TheVariants.{Max, Min}
@@ -23,7 +24,7 @@ use Rattle.mdp_discount_rules.specs.Disc.{disc}
 use Rattle.mdp_discount_rules.specs.Bounds.{BetterByAtMost, DiscountBound}
 use Rattle.mdp_discount_rules.specs.Rules.{IsFactor, discounted, magnitude, MeetsDiscount}
 use Rattle.mdp_discount_rules.proofs.Directions.{NoBetter, no_better_trans, no_better_of_eq, no_better_add, no_better_antisymm}
-use Rattle.mdp_discount_rules.proofs.Steps.{no_better_by_steps}
+use Rattle.mdp_discount_rules.proofs.Steps.{no_better_among}
 use Rattle.mdp_discount_rules.proofs.Discs.{disc-end, disc_goes}
 
 -- ---- what is left, by a direction
@@ -48,31 +49,37 @@ weigh_shifted n row z c known_ =
     ∙ ap (λ (w : ℚ). row_weigh z row +ℚ w)
     (weigh-const (λ (y : Entry). y.target) (λ (y : Entry). y.prob) c row ∙ ap (λ (w : ℚ). c *ℚ w) known_.distribution.total ∙ ring rat_ring 1 (λ c. c ⊗ lit (pos 1)) (λ c. c) refl c)
 
-module _ (m : Mdp) (r : ℕ) (f : ℚ) (known_ : IsMdp m) (factor : IsFactor f) (v : ℕ → ℚ) (k : ℚ)
-    (small : (s : ℕ) → s < states_of m → (v s ≤ℚ k) × (neg_ℚ (v s) ≤ℚ k)) where
-  -- where no choice that meets P is better than the value, no tree of these choices is better by more than is left
-  disc_by : (dir : Dir) (P : ℕ → ℕ → Type 0) (u : ℕ) → 1 ≤ u
-      → ((s c : ℕ) → s < states_of m → P s c → c < length (choices_at m s) → NoBetter dir (reward_of (choice_at m s c) r +ℚ f *ℚ row_weigh v (row_at m s c)) (v s))
-      → (n : ℕ) (t : Tree) (s : ℕ) → s < states_of m → Keeps m P u n t s → BetterByAtMost dir (pow_ℚ f n *ℚ k) (disc m r f u n t s) (v s)
-  disc_by dir P u hu covers n t s h keeps =
+-- the half on each choice that meets P, of the numbers v at the states C: a row of such a choice stays among C, and the choice is no better than the number.
+-- Where no number is farther than k from 0, no tree of these choices is better by more than is left
+module _ (m : Mdp) (r : ℕ) (f : ℚ) (known_ : IsMdp m) (factor : IsFactor f) (C : ℕ → Type 0) (v : ℕ → ℚ) (k : ℚ)
+    (small : (s : ℕ) → s < states_of m → C s → (v s ≤ℚ k) × (neg_ℚ (v s) ≤ℚ k)) where
+  pub half_by : (dir : Dir) (P : ℕ → ℕ → Type 0) (u : ℕ) → 1 ≤ u
+      → ((s c : ℕ) → s < states_of m → C s → P s c → c < length (choices_at m s)
+      → All (λ y. C y.target) (row_at m s c) × NoBetter dir (reward_of (choice_at m s c) r +ℚ f *ℚ row_weigh v (row_at m s c)) (v s))
+      → (n : ℕ) (t : Tree) (s : ℕ) → s < states_of m → C s → Keeps m P u n t s → BetterByAtMost dir (pow_ℚ f n *ℚ k) (disc m r f u n t s) (v s)
+  half_by dir P u hu covers n t s h claims keeps =
       better_by dir (disc m r f u n t s) (v s) (pow_ℚ f n) k
-      (no_better_by_steps dir m u known_ hu (λ s. false) P (λ x. reward_of x r) f factor.at_least_zero (λ n t s. disc m r f u n t s) (disc_goes m r f u known_ hu)
-      (λ n s. v s +ℚ pow_ℚ f n *ℚ signed dir k)
-      (λ n t s h e. absurd (true≢false (sym e)))
-      (λ t s h e.
+      (no_better_among dir m u known_ hu (λ s. false) P (λ x. reward_of x r) f factor.at_least_zero (λ n t s. disc m r f u n t s) (disc_goes m r f u known_ hu)
+      (λ n s. v s +ℚ pow_ℚ f n *ℚ signed dir k) C
+      (λ n t s h i e. absurd (true≢false (sym e)))
+      (λ t s h i e.
       subst (λ (x : ℚ). NoBetter dir x (v s +ℚ 1ℚ *ℚ signed dir k)) (sym (disc-end m r f u t s hu))
-      (subst (λ (x : ℚ). NoBetter dir 0ℚ x) (ring rat_ring 2 (λ v k. v ⊕ k) (λ v k. v ⊕ lit (pos 1) ⊗ k) refl (v s) (signed dir k)) (starts_by dir (v s) k (small s h).0 (small s h).1)))
-      (λ n s c h e ok i.
-      no_better_trans dir _ ((reward_of (choice_at m s c) r +ℚ f *ℚ row_weigh v (row_at m s c)) +ℚ pow_ℚ f (suc n) *ℚ signed dir k) _
-      (no_better_of_eq dir _ _
-      (ap (λ (w : ℚ). reward_of (choice_at m s c) r +ℚ f *ℚ w) (weigh_shifted (states_of m) (row_at m s c) v (pow_ℚ f n *ℚ signed dir k) (IsMdp.row known_ s c h i))
-      ∙ ring rat_ring 5 (λ r f w p k. r ⊕ f ⊗ (w ⊕ p ⊗ k)) (λ r f w p k. (r ⊕ f ⊗ w) ⊕ (f ⊗ p) ⊗ k) refl (reward_of (choice_at m s c) r) f (row_weigh v (row_at m s c)) (pow_ℚ f n) (signed dir k)))
-      (no_better_add dir _ (v s) (pow_ℚ f (suc n) *ℚ signed dir k) (covers s c h ok i)))
-      n t s h keeps)
+      (subst (λ (x : ℚ). NoBetter dir 0ℚ x) (ring rat_ring 2 (λ v k. v ⊕ k) (λ v k. v ⊕ lit (pos 1) ⊗ k) refl (v s) (signed dir k))
+      (starts_by dir (v s) k (small s h i).0 (small s h i).1)))
+      (λ n s c h i e ok l.
+      let now = covers s c h i ok l in (
+        now.0,
+        no_better_trans dir _ ((reward_of (choice_at m s c) r +ℚ f *ℚ row_weigh v (row_at m s c)) +ℚ pow_ℚ f (suc n) *ℚ signed dir k) _
+            (no_better_of_eq dir _ _
+            (ap (λ (w : ℚ). reward_of (choice_at m s c) r +ℚ f *ℚ w) (weigh_shifted (states_of m) (row_at m s c) v (pow_ℚ f n *ℚ signed dir k) (IsMdp.row known_ s c h l))
+            ∙ ring rat_ring 5 (λ r f w p k. r ⊕ f ⊗ (w ⊕ p ⊗ k)) (λ r f w p k. (r ⊕ f ⊗ w) ⊕ (f ⊗ p) ⊗ k) refl (reward_of (choice_at m s c) r) f (row_weigh v (row_at m s c)) (pow_ℚ f n) (signed dir k)))
+            (no_better_add dir _ (v s) (pow_ℚ f (suc n) *ℚ signed dir k) now.1),
+      ))
+      n t s h claims keeps)
 
 -- ---- the rules
 
-below_magnitude : (x : ℚ) → (x ≤ℚ magnitude x) × (neg_ℚ x ≤ℚ magnitude x)
+pub below_magnitude : (x : ℚ) → (x ≤ℚ magnitude x) × (neg_ℚ x ≤ℚ magnitude x)
 below_magnitude x = (greatest-ge (x ∷ neg_ℚ x ∷ []) 0 0ℚ (omega arith), greatest-ge (x ∷ neg_ℚ x ∷ []) 1 0ℚ (omega arith))
 
 below_greatest : (v : List ℚ) (k : ℚ) (s : ℕ) → k ≡ greatest (map magnitude v) → s < length v → (value_at v s ≤ℚ k) × (neg_ℚ (value_at v s) ≤ℚ k)
@@ -83,23 +90,19 @@ below_greatest v k s e h =
 pub discount_of_rules : (dir : Dir) (m : Mdp) (r : ℕ) (f : ℚ) (v : List ℚ) (remainder : ℚ) (policy : List ℕ) → IsMdp m → IsFactor f → MeetsDiscount dir m r f v remainder policy
     → DiscountBound dir m r f v remainder policy
 discount_of_rules dir m r f v remainder policy known_ factor rules =
-    let small : (s : ℕ) → s < states_of m → (value_at v s ≤ℚ remainder) × (neg_ℚ (value_at v s) ≤ℚ remainder) =
-    λ s h. below_greatest v remainder s rules.greatest_magnitude (subst (λ (n : ℕ). s < n) (sym rules.one_each) h)
-    in
-    let follows : (way : Dir) (s c : ℕ) → s < states_of m → Follows policy s c → c < length (choices_at m s)
-    → NoBetter way (reward_of (choice_at m s c) r +ℚ f *ℚ row_weigh (value_at v) (row_at m s c)) (value_at v s) =
-    λ way s c h is i. no_better_of_eq way _ _ (sym (subst (λ (d : ℕ). value_at v s ≡ discounted m r f s d v) (sym is) (rules.reached s h)))
+    let half = half_by m r f known_ factor (λ s. Unit {0}) (value_at v) remainder
+    (λ s h i. below_greatest v remainder s rules.greatest_magnitude (subst (λ (n : ℕ). s < n) (sym rules.one_each) h)) in
+    let follows : (way : Dir) (s c : ℕ) → s < states_of m → Unit {0} → Follows policy s c → c < length (choices_at m s)
+    → All (λ y. Unit {0}) (row_at m s c) × NoBetter way (reward_of (choice_at m s c) r +ℚ f *ℚ row_weigh (value_at v) (row_at m s c)) (value_at v s) =
+    λ way s c h i is l. (λ j d b. tt, no_better_of_eq way _ _ (sym (subst (λ (d : ℕ). value_at v s ≡ discounted m r f s d v) (sym is) (rules.reached s h))))
     in
     record {
       takes = rules.choices;
       named = rules.named;
       one_each = rules.one_each;
-      trees = λ n u t s h strategy. disc_by m r f known_ factor (value_at v) remainder small dir (HasChoice m) u strategy.mixes (λ s c h ok i. rules.covers s c h i) n t s h
-          (keeps_of_Fits m u n t s strategy.fits);
-      policy_above = λ n s h. disc_by m r f known_ factor (value_at v) remainder small Min (Follows policy) 1 (omega arith) (follows Min) n (unfolded m policy n s) s h
-          (keeps_unfolded m policy n s known_ rules.choices h);
-      policy_below = λ n s h. disc_by m r f known_ factor (value_at v) remainder small Max (Follows policy) 1 (omega arith) (follows Max) n (unfolded m policy n s) s h
-          (keeps_unfolded m policy n s known_ rules.choices h);
+      trees = λ n u t s h strategy. half dir (HasChoice m) u strategy.mixes (λ s c h i ok l. (λ j d b. tt, rules.covers s c h l)) n t s h tt (keeps_of_Fits m u n t s strategy.fits);
+      policy_above = λ n s h. half Min (Follows policy) 1 (omega arith) (follows Min) n (unfolded m policy n s) s h tt (keeps_unfolded m policy n s known_ rules.choices h);
+      policy_below = λ n s h. half Max (Follows policy) 1 (omega arith) (follows Max) n (unfolded m policy n s) s h tt (keeps_unfolded m policy n s known_ rules.choices h);
     }
 
 -- ---- there are no other values
@@ -119,33 +122,26 @@ power_below f c q factor hq = ⊎_elim
     ))
     (≤ℚ_or_gt c 0ℚ)
 
--- x is the policy's reward: near the one value v, and hardly better than the other value w
-no_better_limit : (dir : Dir) (f v w k l : ℚ) → IsFactor f → ((n : ℕ) → (x : ℚ) × (v ≤ℚ x +ℚ pow_ℚ f n *ℚ k) × (x ≤ℚ v +ℚ pow_ℚ f n *ℚ k) × BetterByAtMost dir (pow_ℚ f n *ℚ l) x w) → NoBetter dir v w
-no_better_limit Max f v w k l factor near =
-    le_of_bounds v w (λ q hq.
+-- a is at most b, where numbers x lie between them but for what is left
+pub le_limit : (f a b k l : ℚ) → IsFactor f → ((n : ℕ) → (x : ℚ) × (a ≤ℚ x +ℚ pow_ℚ f n *ℚ k) × (x ≤ℚ b +ℚ pow_ℚ f n *ℚ l)) → a ≤ℚ b
+le_limit f a b k l factor near =
+    le_of_bounds a b (λ q hq.
     let n = power_below f (k +ℚ l) q factor hq in
     let x = near n.0 in
-    linear 7 (λ v w x p k l q. v) (λ v w x p k l q. w ⊕ q) (λ v w x p k l q. known v (x ⊕ p ⊗ k) ∷ known x (w ⊕ p ⊗ l) ∷ known (p ⊗ (k ⊕ l)) q ∷ []) refl v w x.0 (pow_ℚ f n.0) k l q x.1 x.3 n.1)
-no_better_limit Min f v w k l factor near =
-    le_of_bounds w v (λ q hq.
-    let n = power_below f (k +ℚ l) q factor hq in
-    let x = near n.0 in
-    linear 7 (λ v w x p k l q. w) (λ v w x p k l q. v ⊕ q) (λ v w x p k l q. known w (x ⊕ p ⊗ l) ∷ known x (v ⊕ p ⊗ k) ∷ known (p ⊗ (k ⊕ l)) q ∷ []) refl v w x.0 (pow_ℚ f n.0) k l q x.3 x.2 n.1)
+    linear 7 (λ a b x p k l q. a) (λ a b x p k l q. b ⊕ q) (λ a b x p k l q. known a (x ⊕ p ⊗ k) ∷ known x (b ⊕ p ⊗ l) ∷ known (p ⊗ (k ⊕ l)) q ∷ []) refl a b x.0 (pow_ℚ f n.0) k l q x.1 x.2 n.1)
 
-module _ (m : Mdp) (r : ℕ) (dir : Dir) (f : ℚ) (known_ : IsMdp m) (factor : IsFactor f) where
-  discount_no_better : (v w : List ℚ) (k l : ℚ) (policy other : List ℕ) (s : ℕ) → IsPolicy m policy → DiscountBound dir m r f v k policy → DiscountBound dir m r f w l other
+module _ (m : Mdp) (r : ℕ) (f : ℚ) (known_ : IsMdp m) (factor : IsFactor f) where
+  discount_no_better : (dir : Dir) (v w : List ℚ) (k l : ℚ) (policy other : List ℕ) (s : ℕ) → IsPolicy m policy → DiscountBound dir m r f v k policy → DiscountBound dir m r f w l other
       → s < states_of m → NoBetter dir (value_at v s) (value_at w s)
-  discount_no_better v w k l policy other s choice p q h =
-      no_better_limit dir f (value_at v s) (value_at w s) k l factor
-      (λ n. (
-        disc m r f 1 n (unfolded m policy n s) s,
-        p.policy_above n s h,
-        p.policy_below n s h,
-        q.trees n 1 (unfolded m policy n s) s h
-            (record { mixes = omega arith; fits = unfolded_fits m policy n s known_ choice h }),
-      ))
+  discount_no_better Max v w k l policy other s choice p q h =
+      le_limit f (value_at v s) (value_at w s) k l factor
+      (λ n. (disc m r f 1 n (unfolded m policy n s) s, p.policy_above n s h, q.trees n 1 (unfolded m policy n s) s h (unfolded_is_strategy m policy n s known_ choice h)))
+  discount_no_better Min v w k l policy other s choice p q h =
+      le_limit f (value_at w s) (value_at v s) l k factor
+      (λ n. (disc m r f 1 n (unfolded m policy n s) s, q.trees n 1 (unfolded m policy n s) s h (unfolded_is_strategy m policy n s known_ choice h), p.policy_below n s h))
 
   -- the best discounted rewards are unique
-  pub discount_unique : (v w : List ℚ) (k l : ℚ) (policy other : List ℕ) (s : ℕ) → IsPolicy m policy → IsPolicy m other → DiscountBound dir m r f v k policy
+  pub discount_unique : (dir : Dir) (v w : List ℚ) (k l : ℚ) (policy other : List ℕ) (s : ℕ) → IsPolicy m policy → IsPolicy m other → DiscountBound dir m r f v k policy
       → DiscountBound dir m r f w l other → s < states_of m → value_at v s ≡ value_at w s
-  discount_unique v w k l policy other s a b p q h = no_better_antisymm dir _ _ (discount_no_better v w k l policy other s a p q h) (discount_no_better w v l k other policy s b q p h)
+  discount_unique dir v w k l policy other s a b p q h =
+      no_better_antisymm dir _ _ (discount_no_better dir v w k l policy other s a p q h) (discount_no_better dir w v l k other policy s b q p h)

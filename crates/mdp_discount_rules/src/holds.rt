@@ -1,31 +1,19 @@
-ghost use Rattle.std.specs.Prelude.{◌≡◌, ◌<◌, ◌↔◌, [], ◌∷◌, length, IfOk};
+ghost use Rattle.std.specs.Prelude.{◌≡◌, ◌<◌, ◌↔◌, [], ◌∷◌, length};
 ghost use Rattle.std.specs.Result.{result_ok};
 ghost use Rattle.mdp_spec.specs.Mdp.{states_of, choices_at, value_at};
-ghost use Rattle.mdp_farkas.specs.Bellman.{stands};
-ghost use Rattle.mdp_farkas.specs.Reach.{choice_exists};
 ghost use Rattle.mdp_farkas.specs.Verdict.{at_choices, objection_to, verdict_of, IsYes, IfYes};
 ghost use Rattle.mdp_discount_rules.specs.Bounds.{DiscountBound};
 ghost use Rattle.mdp_discount_rules.specs.Checks.{covers_check, reached_check, values_checks, checks_at, remainder_check, state_checks, discount_checks, IsDiscount};
 
 use crate::cert::DiscountCert;
 use crate::earning::earned;
-use crate::magnitude::greatest_magnitude;
+use crate::remainder::greatest_magnitude;
 use mdp_farkas::{
-    Objection, Rule, Verdict, at_least, at_most, each_below, each_choice, equal, judged, judged_at,
-    verdict_after,
+    Objection, Rule, Verdict, choice_at, each_below, each_choice, equal, judged, judged_at,
+    value_stands, verdict_after,
 };
 use mdp_num::{Frac, Wide};
 use mdp_rows::{Dir, Model};
-
-/// Whether a value is at least, or for the least values at most, a sum.
-fn value_stands(dir: Dir, value: &Frac, sum: &Frac) -> Result<bool, Wide>
-    ensures { result_ok result ≡ stands dir value.now sum.now }
-{
-    match dir {
-        Dir::Max => at_least(value, sum),
-        Dir::Min => at_most(value, sum),
-    }
-}
 
 /// Values, a policy and a remainder that are held against a model.
 #[derive(Clone, Copy)]
@@ -63,7 +51,7 @@ impl Claimed<'_> {
     }
 
     /// The value of state `s` against its choice `c`.
-    fn choice_at(self, s: u32, c: u32) -> Result<(), Objection>
+    fn covers_at(self, s: u32, c: u32) -> Result<(), Objection>
         requires state { s < states_of self.model.now }
         requires choice { c < length (choices_at self.model.now s) }
         ensures { result ≡ objection_to (covers_check self.entry.dir self.entry.model.now self.entry.name self.entry.factor.now self.entry.values.now s c ∷ []) }
@@ -76,7 +64,7 @@ impl Claimed<'_> {
         requires { s < states_of self.model.now }
         ensures { result ≡ objection_to (at_choices self.entry.model.now s (covers_check self.entry.dir self.entry.model.now self.entry.name self.entry.factor.now self.entry.values.now s)) }
     {
-        each_choice(self.model, s, |c| self.choice_at(s, c))
+        each_choice(self.model, s, |c| self.covers_at(s, c))
     }
 
     /// The value of state `s` against the policy's choice `c`.
@@ -88,26 +76,12 @@ impl Claimed<'_> {
         judged(self.is_reached(s, c), Rule::DiscountedOnPolicy, s, Some(c))
     }
 
-    /// Whether state `s` has the policy's choice.
-    fn exists_at(self, s: u32, choice: u32) -> Result<(), Objection>
-        requires { s < states_of self.model.now }
-        ensures exists { result ≡ objection_to (choice_exists self.entry.model.now s choice ∷ []) }
-        ensures below { IfOk result (λ u. choice < length (choices_at self.entry.model.now s)) }
-    {
-        judged(
-            Ok(choice < self.model.choices(s)),
-            Rule::ChoiceExists,
-            s,
-            Some(choice),
-        )
-    }
-
     /// The rules at state `s`, where the policy takes this choice.
     fn state_at(self, s: u32, choice: u32) -> Result<(), Objection>
         requires { s < states_of self.model.now }
         ensures { result ≡ objection_to (checks_at self.entry.dir self.entry.model.now self.entry.name self.entry.factor.now self.entry.values.now s choice) }
     {
-        self.exists_at(s, choice)?;
+        choice_at(self.model, s, choice)?;
         self.choices_of(s)?;
         self.policy_at(s, choice)
     }

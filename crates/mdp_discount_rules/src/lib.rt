@@ -7,14 +7,14 @@ mod checking;
 mod earning;
 mod holds;
 mod laws;
-mod magnitude;
+mod remainder;
 
-pub use answer::DiscountAnswer;
+pub use answer::{DiscountAnswer, answer_of};
 pub use cert::DiscountCert;
 pub use checking::check_discount;
 pub use earning::earned;
 pub use holds::holds_discount;
 pub use laws::discount_rules_law;
-pub use magnitude::greatest_magnitude;
 pub use mdp_farkas::Verdict;
 pub use mdp_text::Init;
+pub use remainder::{greatest_magnitude, magnitude};

@@ -76,7 +76,7 @@ best_keeps dir Q best (x ∷ xs) w e h each =
 
 -- ---- the greatest, the least, and the spread
 
-greatest_told : (xs : List ℚ) (w : ℚ) → Some w ≡ written_extreme Max xs → w ≡ greatest xs
+pub greatest_told : (xs : List ℚ) (w : ℚ) → Some w ≡ written_extreme Max xs → w ≡ greatest xs
 greatest_told [] w e = Some_same w 0ℚ e
 greatest_told (x ∷ xs) w e =
     let top = recursion_from_All (λ y. y ≤ℚ greatest (x ∷ xs)) (x ∷ xs) (greatest-ge (x ∷ xs)) in

@@ -13,7 +13,7 @@ use mdp_num::{Frac, Wide};
 use mdp_rows::{Dir, Model, Row};
 
 /// Whether a value is at least, or for the least values at most, a sum.
-pub(crate) fn value_stands(dir: Dir, value: &Frac, sum: &Frac) -> Result<bool, Wide>
+pub fn value_stands(dir: Dir, value: &Frac, sum: &Frac) -> Result<bool, Wide>
     ensures { result_ok result ≡ stands dir value.now sum.now }
 {
     match dir {

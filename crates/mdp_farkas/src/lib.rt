@@ -20,6 +20,7 @@ mod upper;
 mod verdict;
 mod walk;
 
+pub use bellman::value_stands;
 pub use compare::{at_least, at_most, equal};
 pub use finite::{finite_at, finite_sum, is_infinite_at, stays_finite_at};
 pub use infinite::infinite_state;

@@ -35,77 +35,183 @@ pub struct FloorCert {
     pub ranks: Vec<u32>,
 }
 
-/// What state `s` counts as: a goal as 1, a kept state as the value of its line, any other state as 0.
-fn value_of(model: &Model, goals: &Marks, cert: &FloorCert, s: u32) -> Frac
-    requires goals { length goals.now ≡ states_of model.now }
-    requires shape { IsFloorShape model.now cert.now.kept.items cert.now.wide.items cert.now.values.items cert.now.ranks.items }
-    requires state { s < states_of model.now }
-    ensures { result ≡ value_at (line_values model.now goals.now cert.now.kept.items cert.now.values.items) s }
-{
-    if goals.at(s) {
-        return Frac::whole(1);
-    }
-    match place_of(cert.kept.as_slice(), s) {
-        Some(line) => cert.values[line],
-        None => Frac::whole(0),
-    }
+/// Values and ranks of kept states that are held against a model.
+#[derive(Clone, Copy)]
+struct Claimed<'a> {
+    model: &'a Model,
+    goals: &'a Marks,
+    cert: &'a FloorCert,
+    ghost goals_each: { length goals.now ≡ states_of model.now },
+    ghost shape: { IsFloorShape model.now cert.now.kept.items cert.now.wide.items cert.now.values.items cert.now.ranks.items },
 }
 
-/// Which rank it counts with: a kept state with that of its line, any other state and a goal with 0.
-fn rank_of(model: &Model, goals: &Marks, cert: &FloorCert, s: u32) -> u32
-    requires goals { length goals.now ≡ states_of model.now }
-    requires shape { IsFloorShape model.now cert.now.kept.items cert.now.wide.items cert.now.values.items cert.now.ranks.items }
-    requires state { s < states_of model.now }
-    ensures { result ≡ line_rank model.now goals.now cert.now.kept.items cert.now.ranks.items s }
-{
-    if goals.at(s) {
-        return 0;
-    }
-    match place_of(cert.kept.as_slice(), s) {
-        Some(line) => cert.ranks[line],
-        None => 0,
-    }
-}
-
-/// The sum over a row of its probabilities times what its targets count as, added in the order of the targets. `Wide` where a written term of one
-/// of these operations is past width.
-fn row_sum(row: Row<'_>, model: &Model, goals: &Marks, cert: &FloorCert) -> Result<Frac, Wide>
-    requires goals { length goals.now ≡ states_of model.now }
-    requires shape { IsFloorShape model.now cert.now.kept.items cert.now.wide.items cert.now.values.items cert.now.ranks.items }
-    requires targets { All (λ t. t < states_of model.now) row.targets.now }
-    ensures { result_ok result ≡ written_sum (line_values model.now goals.now cert.now.kept.items cert.now.values.items) 0ℚ (entries row.entry.targets.now row.entry.probs.now) }
-{
-    let mut sum = Frac::whole(0);
-    for i in 0..row.targets.len() {
-        let term = row.probs[i].mul(&value_of(model, goals, cert, row.targets[i]))?;
-        sum = sum.add(&term)?;
-    }
-    Ok(sum)
-}
-
-/// Whether state `s` counts with a rank below this one.
-fn is_below(model: &Model, goals: &Marks, cert: &FloorCert, s: u32, rank: u32) -> bool
-    requires goals { length goals.now ≡ states_of model.now }
-    requires shape { IsFloorShape model.now cert.now.kept.items cert.now.wide.items cert.now.values.items cert.now.ranks.items }
-    requires state { s < states_of model.now }
-    ensures { result ≡ nat_lt (line_rank model.now goals.now cert.now.kept.items cert.now.ranks.items s) rank }
-{
-    rank_of(model, goals, cert, s) < rank
-}
-
-/// Whether some entry of a row leads to a rank below this one.
-fn row_falls(row: Row<'_>, model: &Model, goals: &Marks, cert: &FloorCert, rank: u32) -> bool
-    requires goals { length goals.now ≡ states_of model.now }
-    requires shape { IsFloorShape model.now cert.now.kept.items cert.now.wide.items cert.now.values.items cert.now.ranks.items }
-    requires targets { All (λ t. t < states_of model.now) row.targets.now }
-    ensures { result ≡ list_any (λ y. nat_lt (line_rank model.now goals.now cert.now.kept.items cert.now.ranks.items y.target) rank) (entries row.entry.targets.now row.entry.probs.now) }
-{
-    for t in row.targets {
-        if is_below(model, goals, cert, *t, rank) {
-            return true;
+impl Claimed<'_> {
+    /// What state `s` counts as: a goal as 1, a kept state as the value of its line, any other state as 0.
+    fn value_of(self, s: u32) -> Frac
+        requires { s < states_of self.model.now }
+        ensures { result ≡ value_at (line_values self.entry.model.now self.entry.goals.now self.entry.cert.now.kept.items self.entry.cert.now.values.items) s }
+    {
+        if self.goals.at(s) {
+            return Frac::whole(1);
+        }
+        match place_of(self.cert.kept.as_slice(), s) {
+            Some(line) => self.cert.values[line],
+            None => Frac::whole(0),
         }
     }
-    false
+
+    /// Which rank it counts with: a kept state with that of its line, any other state and a goal with 0.
+    fn rank_of(self, s: u32) -> u32
+        requires { s < states_of self.model.now }
+        ensures { result ≡ line_rank self.entry.model.now self.entry.goals.now self.entry.cert.now.kept.items self.entry.cert.now.ranks.items s }
+    {
+        if self.goals.at(s) {
+            return 0;
+        }
+        match place_of(self.cert.kept.as_slice(), s) {
+            Some(line) => self.cert.ranks[line],
+            None => 0,
+        }
+    }
+
+    /// The sum over a row of its probabilities times what its targets count as, added in the order of the targets. `Wide` where a written term of one
+    /// of these operations is past width.
+    fn row_sum(self, row: Row<'_>) -> Result<Frac, Wide>
+        requires { All (λ t. t < states_of self.model.now) row.targets.now }
+        ensures { result_ok result ≡ written_sum (line_values self.entry.model.now self.entry.goals.now self.entry.cert.now.kept.items self.entry.cert.now.values.items) 0ℚ (entries row.entry.targets.now row.entry.probs.now) }
+    {
+        let mut sum = Frac::whole(0);
+        for i in 0..row.targets.len() {
+            let term = row.probs[i].mul(&self.value_of(row.targets[i]))?;
+            sum = sum.add(&term)?;
+        }
+        Ok(sum)
+    }
+
+    /// Whether state `s` counts with a rank below this one.
+    fn is_below(self, s: u32, rank: u32) -> bool
+        requires { s < states_of self.model.now }
+        ensures { result ≡ nat_lt (line_rank self.entry.model.now self.entry.goals.now self.entry.cert.now.kept.items self.entry.cert.now.ranks.items s) rank }
+    {
+        self.rank_of(s) < rank
+    }
+
+    /// Whether some entry of a row leads to a rank below this one.
+    fn row_falls(self, row: Row<'_>, rank: u32) -> bool
+        requires { All (λ t. t < states_of self.model.now) row.targets.now }
+        ensures { result ≡ list_any (λ y. nat_lt (line_rank self.entry.model.now self.entry.goals.now self.entry.cert.now.kept.items self.entry.cert.now.ranks.items y.target) rank) (entries row.entry.targets.now row.entry.probs.now) }
+    {
+        for t in row.targets {
+            if self.is_below(*t, rank) {
+                return true;
+            }
+        }
+        false
+    }
+
+    /// Whether a value is at most that sum.
+    fn row_covers(self, row: Row<'_>, value: &Frac) -> Result<bool, Wide>
+        requires { All (λ t. t < states_of self.model.now) row.targets.now }
+        ensures { result_ok result ≡ sum_stands Min value.now (line_values self.entry.model.now self.entry.goals.now self.entry.cert.now.kept.items self.entry.cert.now.values.items) 0ℚ (entries row.entry.targets.now row.entry.probs.now) }
+    {
+        let sum = self.row_sum(row)?;
+        at_most(value, &sum)
+    }
+
+    /// The value of the kept state `s` is at most the sum over the row of its choice `c`.
+    fn cover_at(self, s: u32, value: &Frac, c: u32) -> Result<(), Objection>
+        requires state { s < states_of self.model.now }
+        requires choice { c < length (choices_at self.model.now s) }
+        ensures { result ≡ objection_to (cover_check self.entry.model.now (line_values self.entry.model.now self.entry.goals.now self.entry.cert.now.kept.items self.entry.cert.now.values.items) s value.now c ∷ []) }
+    {
+        let covers = self.row_covers(self.model.row(s, c), value);
+        judged(covers, Rule::ValueOnEachChoice, s, Some(c))
+    }
+
+    /// The same at each choice of the kept state `s`, where it is no goal.
+    fn covers_at(self, s: u32, value: &Frac) -> Result<(), Objection>
+        requires { s < states_of self.model.now }
+        ensures { result ≡ objection_to (cover_checks self.entry.model.now self.entry.goals.now (line_values self.entry.model.now self.entry.goals.now self.entry.cert.now.kept.items self.entry.cert.now.values.items) s value.now) }
+    {
+        if self.goals.at(s) {
+            return Ok(());
+        }
+        each_choice(self.model, s, |c| self.cover_at(s, value, c))
+    }
+
+    /// An entry of the row of choice `c` at the kept state `s` leads to a rank below this one.
+    fn fall_at(self, s: u32, rank: u32, c: u32) -> Result<(), Objection>
+        requires state { s < states_of self.model.now }
+        requires choice { c < length (choices_at self.model.now s) }
+        ensures { result ≡ objection_to (fall_check self.entry.model.now (line_rank self.entry.model.now self.entry.goals.now self.entry.cert.now.kept.items self.entry.cert.now.ranks.items) s rank c ∷ []) }
+    {
+        let falls = self.row_falls(self.model.row(s, c), rank);
+        judged(Ok(falls), Rule::RankFalls, s, Some(c))
+    }
+
+    /// An entry of the row of each choice at the kept state `s` leads to a rank below this one.
+    fn falls_at(self, s: u32, rank: u32) -> Result<(), Objection>
+        requires { s < states_of self.model.now }
+        ensures { result ≡ objection_to (at_choices self.entry.model.now s (fall_check self.entry.model.now (line_rank self.entry.model.now self.entry.goals.now self.entry.cert.now.kept.items self.entry.cert.now.ranks.items) s rank)) }
+    {
+        each_choice(self.model, s, |c| self.fall_at(s, rank, c))
+    }
+
+    /// The kept state `s` has rank 0 where it is a goal or has value 0; else an entry of each row leads to a smaller rank.
+    fn rank_at(self, s: u32, value: &Frac, rank: u32) -> Result<(), Objection>
+        requires { s < states_of self.model.now }
+        ensures { result ≡ objection_to (rank_checks self.entry.model.now self.entry.goals.now (line_rank self.entry.model.now self.entry.goals.now self.entry.cert.now.kept.items self.entry.cert.now.ranks.items) s value.now rank) }
+    {
+        if ends_at(self.goals, s, value) {
+            return judged(Ok(rank == 0), Rule::RankZero, s, None);
+        }
+        self.falls_at(s, rank)
+    }
+
+    /// The rules at the kept state `s` of this value and rank.
+    fn state_at(self, s: u32, value: &Frac, rank: u32) -> Result<(), Objection>
+        requires { s < states_of self.model.now }
+        ensures { result ≡ objection_to (line_checks self.entry.model.now self.entry.goals.now self.entry.cert.now.kept.items self.entry.cert.now.values.items self.entry.cert.now.ranks.items s value.now rank) }
+    {
+        probability_at(s, value)?;
+        self.covers_at(s, value)?;
+        self.rank_at(s, value, rank)?;
+        kept_at(self.goals, s)
+    }
+
+    /// The rules at the kept state of line `i`.
+    fn line_at(self, i: usize) -> Result<(), Objection>
+        requires { i < length self.cert.now.kept.items }
+        ensures { result ≡ objection_to (checks_of_line self.entry.model.now self.entry.goals.now self.entry.cert.now.kept.items self.entry.cert.now.values.items self.entry.cert.now.ranks.items i) }
+    {
+        let cert = self.cert;
+        self.state_at(cert.kept[i], &cert.values[i], cert.ranks[i])
+    }
+
+    /// The rules at each kept state.
+    fn each_line_at(self) -> Result<(), Objection>
+        ensures { result ≡ objection_to (each_line self.entry.model.now self.entry.goals.now self.entry.cert.now.kept.items self.entry.cert.now.values.items self.entry.cert.now.ranks.items) }
+    {
+        each_place(self.cert.kept.len(), |i| self.line_at(i))
+    }
+
+    /// What the start counts as is at least the threshold.
+    fn start_at(self, start: u32, threshold: &Frac) -> Result<(), Objection>
+        requires { start < states_of self.model.now }
+        ensures { result ≡ objection_to (start_check self.entry.model.now self.entry.goals.now start threshold.now self.entry.cert.now.kept.items self.entry.cert.now.values.items ∷ []) }
+    {
+        let reaches = at_least(&self.value_of(start), threshold);
+        judged_at(reaches, Rule::StartReachesThreshold, None, None)
+    }
+
+    /// All rules: those at each kept state, and that of the start.
+    fn walk(self, start: u32, threshold: &Frac) -> Result<(), Objection>
+        requires { start < states_of self.model.now }
+        ensures { result ≡ objection_to (floor_checks self.entry.model.now self.entry.goals.now start threshold.now self.entry.cert.now.kept.items self.entry.cert.now.values.items self.entry.cert.now.ranks.items) }
+    {
+        self.each_line_at()?;
+        self.start_at(start, threshold)
+    }
 }
 
 /// The value of the kept state `s` is from 0 to 1.
@@ -114,80 +220,6 @@ fn probability_at(s: u32, value: &Frac) -> Result<(), Objection>
 {
     judged(at_least(value, &Frac::whole(0)), Rule::Probability, s, None)?;
     judged(at_most(value, &Frac::whole(1)), Rule::Probability, s, None)
-}
-
-/// Whether a value is at most that sum.
-fn row_covers(
-    row: Row<'_>,
-    model: &Model,
-    goals: &Marks,
-    cert: &FloorCert,
-    value: &Frac,
-) -> Result<bool, Wide>
-    requires goals { length goals.now ≡ states_of model.now }
-    requires shape { IsFloorShape model.now cert.now.kept.items cert.now.wide.items cert.now.values.items cert.now.ranks.items }
-    requires targets { All (λ t. t < states_of model.now) row.targets.now }
-    ensures { result_ok result ≡ sum_stands Min value.now (line_values model.now goals.now cert.now.kept.items cert.now.values.items) 0ℚ (entries row.entry.targets.now row.entry.probs.now) }
-{
-    let sum = row_sum(row, model, goals, cert)?;
-    at_most(value, &sum)
-}
-
-/// The value of the kept state `s` is at most the sum over the row of its choice `c`.
-fn cover_at(
-    model: &Model,
-    goals: &Marks,
-    cert: &FloorCert,
-    s: u32,
-    value: &Frac,
-    c: u32,
-) -> Result<(), Objection>
-    requires goals { length goals.now ≡ states_of model.now }
-    requires shape { IsFloorShape model.now cert.now.kept.items cert.now.wide.items cert.now.values.items cert.now.ranks.items }
-    requires state { s < states_of model.now }
-    requires choice { c < length (choices_at model.now s) }
-    ensures { result ≡ objection_to (cover_check model.now (line_values model.now goals.now cert.now.kept.items cert.now.values.items) s value.now c ∷ []) }
-{
-    let covers = row_covers(model.row(s, c), model, goals, cert, value);
-    judged(covers, Rule::ValueOnEachChoice, s, Some(c))
-}
-
-/// The same at each choice of the kept state `s`, where it is no goal.
-fn covers_at(
-    model: &Model,
-    goals: &Marks,
-    cert: &FloorCert,
-    s: u32,
-    value: &Frac,
-) -> Result<(), Objection>
-    requires goals { length goals.now ≡ states_of model.now }
-    requires shape { IsFloorShape model.now cert.now.kept.items cert.now.wide.items cert.now.values.items cert.now.ranks.items }
-    requires state { s < states_of model.now }
-    ensures { result ≡ objection_to (cover_checks model.now goals.now (line_values model.now goals.now cert.now.kept.items cert.now.values.items) s value.now) }
-{
-    if goals.at(s) {
-        return Ok(());
-    }
-    each_choice(model, s, |c| cover_at(model, goals, cert, s, value, c))
-}
-
-/// An entry of the row of choice `c` at the kept state `s` leads to a rank below this one.
-fn fall_at(
-    model: &Model,
-    goals: &Marks,
-    cert: &FloorCert,
-    s: u32,
-    rank: u32,
-    c: u32,
-) -> Result<(), Objection>
-    requires goals { length goals.now ≡ states_of model.now }
-    requires shape { IsFloorShape model.now cert.now.kept.items cert.now.wide.items cert.now.values.items cert.now.ranks.items }
-    requires state { s < states_of model.now }
-    requires choice { c < length (choices_at model.now s) }
-    ensures { result ≡ objection_to (fall_check model.now (line_rank model.now goals.now cert.now.kept.items cert.now.ranks.items) s rank c ∷ []) }
-{
-    let falls = row_falls(model.row(s, c), model, goals, cert, rank);
-    judged(Ok(falls), Rule::RankFalls, s, Some(c))
 }
 
 /// Whether a number is above 0.
@@ -203,122 +235,6 @@ fn ends_at(goals: &Marks, s: u32, value: &Frac) -> bool
     ensures { result ≡ (is_marked goals.now s || not (lt_ℚ 0ℚ value.now)) }
 {
     goals.at(s) || !is_above_zero(value)
-}
-
-/// An entry of the row of each choice at the kept state `s` leads to a rank below this one.
-fn falls_at(
-    model: &Model,
-    goals: &Marks,
-    cert: &FloorCert,
-    s: u32,
-    rank: u32,
-) -> Result<(), Objection>
-    requires goals { length goals.now ≡ states_of model.now }
-    requires shape { IsFloorShape model.now cert.now.kept.items cert.now.wide.items cert.now.values.items cert.now.ranks.items }
-    requires state { s < states_of model.now }
-    ensures { result ≡ objection_to (at_choices model.now s (fall_check model.now (line_rank model.now goals.now cert.now.kept.items cert.now.ranks.items) s rank)) }
-{
-    each_choice(model, s, |c| fall_at(model, goals, cert, s, rank, c))
-}
-
-/// The kept state `s` has rank 0 where it is a goal or has value 0; else an entry of each row leads to a smaller rank.
-fn rank_at(
-    model: &Model,
-    goals: &Marks,
-    cert: &FloorCert,
-    s: u32,
-    value: &Frac,
-    rank: u32,
-) -> Result<(), Objection>
-    requires goals { length goals.now ≡ states_of model.now }
-    requires shape { IsFloorShape model.now cert.now.kept.items cert.now.wide.items cert.now.values.items cert.now.ranks.items }
-    requires state { s < states_of model.now }
-    ensures { result ≡ objection_to (rank_checks model.now goals.now (line_rank model.now goals.now cert.now.kept.items cert.now.ranks.items) s value.now rank) }
-{
-    if ends_at(goals, s, value) {
-        return judged(Ok(rank == 0), Rule::RankZero, s, None);
-    }
-    falls_at(model, goals, cert, s, rank)
-}
-
-/// The rules at the kept state `s` of this value and rank.
-fn state_at(
-    model: &Model,
-    goals: &Marks,
-    cert: &FloorCert,
-    s: u32,
-    value: &Frac,
-    rank: u32,
-) -> Result<(), Objection>
-    requires goals { length goals.now ≡ states_of model.now }
-    requires shape { IsFloorShape model.now cert.now.kept.items cert.now.wide.items cert.now.values.items cert.now.ranks.items }
-    requires state { s < states_of model.now }
-    ensures { result ≡ objection_to (line_checks model.now goals.now cert.now.kept.items cert.now.values.items cert.now.ranks.items s value.now rank) }
-{
-    probability_at(s, value)?;
-    covers_at(model, goals, cert, s, value)?;
-    rank_at(model, goals, cert, s, value, rank)?;
-    kept_at(goals, s)
-}
-
-/// The rules at the kept state of line `i`.
-fn line_at(model: &Model, goals: &Marks, cert: &FloorCert, i: usize) -> Result<(), Objection>
-    requires goals { length goals.now ≡ states_of model.now }
-    requires shape { IsFloorShape model.now cert.now.kept.items cert.now.wide.items cert.now.values.items cert.now.ranks.items }
-    requires line { i < length cert.now.kept.items }
-    ensures { result ≡ objection_to (checks_of_line model.now goals.now cert.now.kept.items cert.now.values.items cert.now.ranks.items i) }
-{
-    state_at(
-        model,
-        goals,
-        cert,
-        cert.kept[i],
-        &cert.values[i],
-        cert.ranks[i],
-    )
-}
-
-/// The rules at each kept state.
-fn each_line_at(model: &Model, goals: &Marks, cert: &FloorCert) -> Result<(), Objection>
-    requires goals { length goals.now ≡ states_of model.now }
-    requires shape { IsFloorShape model.now cert.now.kept.items cert.now.wide.items cert.now.values.items cert.now.ranks.items }
-    ensures { result ≡ objection_to (each_line model.now goals.now cert.now.kept.items cert.now.values.items cert.now.ranks.items) }
-{
-    each_place(cert.kept.len(), |i| line_at(model, goals, cert, i))
-}
-
-/// What the start counts as is at least the threshold.
-fn start_at(
-    model: &Model,
-    goals: &Marks,
-    start: u32,
-    threshold: &Frac,
-    cert: &FloorCert,
-) -> Result<(), Objection>
-    requires goals { length goals.now ≡ states_of model.now }
-    requires shape { IsFloorShape model.now cert.now.kept.items cert.now.wide.items cert.now.values.items cert.now.ranks.items }
-    requires start { start < states_of model.now }
-    ensures { result ≡ objection_to (start_check model.now goals.now start threshold.now cert.now.kept.items cert.now.values.items ∷ []) }
-{
-    let reaches = at_least(&value_of(model, goals, cert, start), threshold);
-    judged_at(reaches, Rule::StartReachesThreshold, None, None)
-}
-
-/// All rules: those at each kept state, and that of the start.
-fn floor_walk(
-    model: &Model,
-    goals: &Marks,
-    start: u32,
-    threshold: &Frac,
-    cert: &FloorCert,
-) -> Result<(), Objection>
-    requires goals { length goals.now ≡ states_of model.now }
-    requires shape { IsFloorShape model.now cert.now.kept.items cert.now.wide.items cert.now.values.items cert.now.ranks.items }
-    requires start { start < states_of model.now }
-    ensures { result ≡ objection_to (floor_checks model.now goals.now start threshold.now cert.now.kept.items cert.now.values.items cert.now.ranks.items) }
-{
-    each_line_at(model, goals, cert)?;
-    start_at(model, goals, start, threshold, cert)
 }
 
 /// Whether the values and ranks show that each policy of the subsystem with these kept states reaches a goal from the start with a probability of at
@@ -340,5 +256,6 @@ pub fn holds_floor(
     ensures sub_min { IfYes result (SubMin model.now goals.now (kept_marks (states_of model.now) cert.now.kept.items) start threshold) }
 {
     model.known();
-    verdict_after(floor_walk(model, goals, start, &threshold, cert))
+    let claimed = Claimed { model, goals, cert };
+    verdict_after(claimed.walk(start, &threshold))
 }

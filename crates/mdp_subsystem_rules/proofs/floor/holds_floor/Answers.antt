@@ -15,7 +15,7 @@ returns c =
     let v = c.verdict_after.result in
     let e : c.verdict_after.result
     ≡ verdict_of (floor_checks c.args.model.now c.args.goals.now c.args.start c.args.threshold c.args.cert.now.kept.items c.args.cert.now.values.items c.args.cert.now.ranks.items) =
-    c.verdict_after.ensures ∙ ap verdict c.floor_walk.ensures
+    c.verdict_after.ensures ∙ ap verdict c.walk.ensures
     in
     record {
       verdict = e;

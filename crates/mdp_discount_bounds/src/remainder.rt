@@ -1,0 +1,34 @@
+ghost use Rattle.std.specs.Prelude.{◌≡◌, map};
+ghost use Rattle.mdp_math.specs.Written.{cmp_ℚ};
+ghost use Rattle.mdp_farkas.specs.Spread.{is_better};
+ghost use Rattle.mdp_rows.specs.declared.dir.Dir.TheVariants.{Max};
+ghost use Rattle.mdp_spec.specs.Bounds.{finite_part};
+ghost use Rattle.std.specs.Prelude.{unwrap_or};
+ghost use Rattle.mdp_bounds.specs.Mean.{exact_best};
+ghost use Rattle.mdp_discount_rules.specs.Rules.{magnitude};
+ghost use Rattle.mdp_discount_bounds.specs.Rules.{greatest_magnitude};
+
+use mdp_discount_rules::magnitude;
+use mdp_num::Frac;
+use std::cmp::Ordering;
+
+/// The greatest of a first number and the magnitudes of these values; a missing one has magnitude 0.
+fn greatest_from(first: &Frac, values: &[Option<Frac>]) -> Frac
+    ensures { result ≡ exact_best Max first.now (map magnitude (finite_part values.now)) }
+{
+    let mut best = *first;
+    for value in values {
+        let next = magnitude(&value.unwrap_or(Frac::whole(0)));
+        if next.order(&best) == Ordering::Greater {
+            best = next;
+        }
+    }
+    best
+}
+
+/// The greatest magnitude of the values of both lists that aren't missing, 0 where there is none.
+pub fn greatest_magnitude(lower: &[Option<Frac>], upper: &[Option<Frac>]) -> Frac
+    ensures { result ≡ greatest_magnitude lower.now upper.now }
+{
+    greatest_from(&greatest_from(&Frac::whole(0), lower), upper)
+}

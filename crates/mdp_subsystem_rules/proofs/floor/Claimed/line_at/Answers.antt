@@ -1,0 +1,26 @@
+use Rattle.std.proofs.Common.{ℕ, ap, ◌∙◌, subst, sym, ◌<◌}
+use Rattle.std.proofs.lemmas.List.{get_or_default}
+use Rattle.mdp_math.specs.Rational.{ℚ}
+use Rattle.mdp_math.proofs.Order.{0ℚ}
+use Rattle.mdp_spec.specs.Mdp.{value_at}
+use Rattle.std.specs.List.{slice_index}
+use Rattle.mdp_subsystem_rules.specs.FloorChecks.{line_checks}
+use Rattle.mdp_farkas.specs.Verdict.{objection_to}
+use Rattle.mdp_subsystem_rules.proofs.floor.Claimed.line_at.Goals as goal
+
+pub returns : goal.returns
+returns c =
+    let m = c.args.self.model.now in
+    let goals = c.args.self.goals.now in
+    let kept = c.args.self.cert.now.kept.items in
+    let values = c.args.self.cert.now.values.items in
+    let ranks = c.args.self.cert.now.ranks.items in
+    let i = c.args.i in
+    let line = c.requires in
+    let shape = c.args.self.shape in
+    c.state_at.ensures
+    ∙ ap (λ (s : ℕ). objection_to (line_checks m goals kept values ranks s c.index-2.result.now c.index-3.result.now)) (c.index.ensures ∙ get_or_default kept i c.index.result.now 0 line)
+    ∙ ap (λ (x : ℚ). objection_to (line_checks m goals kept values ranks (slice_index kept i) x c.index-3.result.now))
+    (c.index-2.ensures ∙ get_or_default values i c.index-2.result.now 0ℚ (subst (λ (n : ℕ). i < n) (sym shape.one_value_each) line))
+    ∙ ap (λ (r : ℕ). objection_to (line_checks m goals kept values ranks (slice_index kept i) (value_at values i) r))
+    (c.index-3.ensures ∙ get_or_default ranks i c.index-3.result.now 0 (subst (λ (n : ℕ). i < n) (sym shape.one_rank_each) line))

@@ -1,0 +1,25 @@
+use Rattle.std.proofs.Common.{List, [], ◌∷◌}
+use Rattle.std.proofs.lemmas.Result.{err_from_is_err_and}
+use Rattle.mdp_farkas.specs.Verdict.{Check}
+use Rattle.mdp_subsystem_rules.specs.FloorChecks.{each_line, start_check}
+use Rattle.mdp_farkas.proofs.Objections.{halts, goes_on}
+use Rattle.mdp_subsystem_rules.proofs.floor.Claimed.walk.Goals as goal
+
+pub returns-in_err-each_line_at : goal.returns-in_err-each_line_at
+returns-in_err-each_line_at c =
+    let m = c.args.self.model.now in
+    let goals = c.args.self.goals.now in
+    let cert = c.args.self.cert.now in
+    let lines = each_line m goals cert.kept.items cert.values.items cert.ranks.items in
+    let starts : List Check = start_check m goals c.args.start c.args.threshold.now cert.kept.items cert.values.items ∷ [] in
+    let p = err_from_is_err_and c.from_residual.result c.from_residual.ensures.1 in
+    rw (p.1, p.2) (halts lines starts c.in_err-each_line_at.field-0.0 (c.in_err-each_line_at.ensures {u = tt}))
+
+pub returns : goal.returns
+returns c =
+    let m = c.args.self.model.now in
+    let goals = c.args.self.goals.now in
+    let cert = c.args.self.cert.now in
+    let lines = each_line m goals cert.kept.items cert.values.items cert.ranks.items in
+    let starts : List Check = start_check m goals c.args.start c.args.threshold.now cert.kept.items cert.values.items ∷ [] in
+    goes_on lines starts tt c.start_at.result (c.in_ok-each_line_at.ensures {u = tt}) c.start_at.ensures
