@@ -7,10 +7,10 @@ ghost use Rattle.mdp_search_discount_bounds.specs.Held.{HasDiscountSizes, IsHeld
 use crate::finite::finite_bounds;
 use crate::missing::missing_discount;
 use mdp_discount_bounds::{DiscountBounds, Verdict, greatest_magnitude, holds_bounds_discount};
+use mdp_ladder::{Search, all_capped, bounds_by, simplest_rewards};
 use mdp_near_discount::near_discount;
 use mdp_num::{Frac, Memory};
 use mdp_rows::{Dir, Model};
-use mdp_search_bounds::{Search, all_capped, bounds_by, simplest_rewards};
 use std::alloc::{AllocError, Global};
 
 /// The search for bounds of the discounted reward of a name.
