@@ -1,11 +1,11 @@
-ghost use Rattle.std.specs.Prelude.{◌≡◌, ◌<◌, ◌↔◌, length};
+ghost use Rattle.std.specs.Prelude.{◌≡◌, ◌<◌, ◌↔◌, length, [], ◌∷◌};
 ghost use Rattle.mdp_spec.specs.Mdp.{states_of};
 ghost use Rattle.mdp_farkas.specs.Verdict.{objection_to, verdict_of, IsYes, IfYes};
 ghost use Rattle.mdp_rows.specs.declared.dir.Dir.TheVariants.{Max, Min};
 ghost use Rattle.mdp_bounds.specs.Says.{covering_rewards};
 ghost use Rattle.mdp_discount_rules.specs.Rules.{IsFactor};
 ghost use Rattle.mdp_discount_bounds.specs.Between.{DiscountMaxBetween, DiscountMinBetween};
-ghost use Rattle.mdp_discount_bounds.specs.Checks.{bounds_at, state_checks, discount_bounds_checks, IsDiscountBounds, IsTrivialDiscount};
+ghost use Rattle.mdp_discount_bounds.specs.Checks.{remainder_check, bounds_at, state_checks, discount_bounds_checks, IsDiscountBounds, IsTrivialDiscount};
 
 use crate::bounds::DiscountBounds;
 use crate::half::Half;
@@ -97,6 +97,23 @@ fn bounds_at_states(
     })
 }
 
+/// The remainder is the greatest magnitude of the values.
+fn remainder_holds(
+    lower: &[Option<Frac>],
+    upper: &[Option<Frac>],
+    remainder: &Frac,
+) -> Result<(), Objection>
+    ensures { result ≡ objection_to (remainder_check lower.now upper.now remainder.now ∷ []) }
+{
+    let greatest = greatest_magnitude(lower, upper);
+    judged_at(
+        Ok(*remainder == greatest),
+        Rule::RemainderIsGreatest,
+        None,
+        None,
+    )
+}
+
 /// All rules: those at each state, and that of the remainder.
 fn bounds_walk(
     model: &Model,
@@ -122,12 +139,7 @@ fn bounds_walk(
         upper,
         bounds.choices.as_slice(),
     )?;
-    judged_at(
-        Ok(bounds.remainder == greatest_magnitude(lower, upper)),
-        Rule::RemainderIsGreatest,
-        None,
-        None,
-    )
+    remainder_holds(lower, upper, &bounds.remainder)
 }
 
 /// Whether the greatest, or the least, discounted rewards of the reward name of place `m` lie between the values, and those of the policy too: what

@@ -3,7 +3,6 @@ ghost use Rattle.mdp_math.specs.Written.{cmp_ℚ};
 ghost use Rattle.mdp_farkas.specs.Spread.{is_better};
 ghost use Rattle.mdp_rows.specs.declared.dir.Dir.TheVariants.{Max};
 ghost use Rattle.mdp_spec.specs.Bounds.{finite_part};
-ghost use Rattle.std.specs.Prelude.{unwrap_or};
 ghost use Rattle.mdp_bounds.specs.Mean.{exact_best};
 ghost use Rattle.mdp_discount_rules.specs.Rules.{magnitude};
 ghost use Rattle.mdp_discount_bounds.specs.Rules.{greatest_magnitude};

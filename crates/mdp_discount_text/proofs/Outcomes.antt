@@ -52,7 +52,7 @@ init-wide (Start s) k = absurd k
 
 -- ---- the line of the remainder
 
-remainder-found : (n : ℕ) (text : List ℕ) (k : ℚ) → remainder_at n text ≡ Ok k → (text ≡ remainder_text k) × IsNarrow k
+pub remainder-found : (n : ℕ) (text : List ℕ) (k : ℚ) → remainder_at n text ≡ Ok k → (text ≡ remainder_text k) × IsNarrow k
 unfolding remainder_at
 remainder-found n text k e =
     let one = bind_ok (words_behind (codes "remainder") 1 n text) (λ behind. frac_at n (first_of behind)) k e in
@@ -60,14 +60,14 @@ remainder-found n text k e =
     let v = frac-found n (first_of one.0) k one.2 in
     (t.0 ∙ ap (λ (ws : List (List ℕ)). join_with_byte 32 (codes "remainder" ∷ ws)) (one-word one.0 t.1) ∙ ap (λ (w : List ℕ). codes "remainder" ␣ w) v.0, v.1)
 
-remainder-again : (n : ℕ) (k : ℚ) → IsNarrow k → remainder_at n (remainder_text k) ≡ Ok k
+pub remainder-again : (n : ℕ) (k : ℚ) → IsNarrow k → remainder_at n (remainder_text k) ≡ Ok k
 unfolding remainder_at
 remainder-again n k narrow =
     let ws : words_behind (codes "remainder") 1 n (remainder_text k) ≡ Ok (spelling k ∷ []) =
     behind-again (codes "remainder") 1 n (spelling k ∷ []) refl refl (free-spelling 32 k (omega arith) narrow, tt) in
     rw ws (frac-again n k narrow)
 
-free-remainder : (k : ℚ) → IsNarrow k → Free 10 (remainder_text k)
+pub free-remainder : (k : ℚ) → IsNarrow k → Free 10 (remainder_text k)
 free-remainder k narrow = free-join 10 (codes "remainder" ∷ spelling k ∷ []) refl (refl, (free-spelling 10 k (omega arith) narrow, tt))
 
 -- ---- the lines before those of the states
@@ -198,7 +198,7 @@ cert-found bytes c e =
         → v ++ (c ++ (s ++ (i ++ (r ++ b)))) ≡ (v ++ (c ++ (s' ++ (i ++ r)))) ++ (l ++ line z')
     joined v c s s' i r b l f z z' p q u w x = rw (p, q, u, w, x, append-nil (line z')) (simp append_assoc)
 
-factor-test : (f : ℚ) → IsFactor f → is_factor f ≡ true
+pub factor-test : (f : ℚ) → IsFactor f → is_factor f ≡ true
 factor-test f h = sym (factor-yes f h.at_least_zero h.below_one)
 
 head-again : (c : Certificate) (n : ℕ) (rest : List ℕ) → Fits c

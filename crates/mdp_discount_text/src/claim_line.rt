@@ -12,10 +12,10 @@ use std::alloc::{AllocError, Global};
 
 /// What the line of the claim says.
 #[derive(Drop)]
-pub(crate) struct ClaimLine {
-    pub(crate) dir: Dir,
-    pub(crate) name: Vec<u8>,
-    pub(crate) factor: Frac,
+pub struct ClaimLine {
+    pub dir: Dir,
+    pub name: Vec<u8>,
+    pub factor: Frac,
 }
 
 /// The name before the first quote, and what stands behind that quote and a blank.
@@ -101,7 +101,7 @@ fn claim_of(alloc: Global, text: &[u8]) -> Result<Option<ClaimLine>, AllocError>
 
 /// The claim of this line.
 #[tactic(auto, unfolding(crate::specs::Text::claim_at))]
-pub(crate) fn claim_at(alloc: Global, line: u64, text: &[u8]) -> Result<ClaimLine, CertError>
+pub fn claim_at(alloc: Global, line: u64, text: &[u8]) -> Result<ClaimLine, CertError>
     ensures { MatchResult result (λ c. claim_at line text.now ≡ Ok (plain_claim c)) (λ e. Refuses e (claim_at line text.now)) }
 {
     match claim_of(alloc, text)? {

@@ -23,7 +23,7 @@ pub(crate) struct Head {
 
 /// The remainder of the line `remainder K`.
 #[tactic(auto, unfolding(crate::specs::Text::remainder_at))]
-fn remainder_at(line: u64, text: &[u8]) -> Result<Frac, Refusal>
+pub fn remainder_at(line: u64, text: &[u8]) -> Result<Frac, Refusal>
     ensures { result ≡ remainder_at line text.now }
 {
     let word = words_behind(line, text, b"remainder", 1)?;

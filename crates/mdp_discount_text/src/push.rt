@@ -19,7 +19,7 @@ pub(crate) fn push_version(out: &mut Vec<u8>) -> Result<(), Memory>
 }
 
 /// Appends the line of the claim.
-pub(crate) fn push_claim(
+pub fn push_claim(
     out: &mut Vec<u8>,
     dir: Dir,
     name: &[u8],
@@ -35,7 +35,7 @@ pub(crate) fn push_claim(
 }
 
 /// Appends the line of the remainder.
-pub(crate) fn push_remainder(out: &mut Vec<u8>, remainder: &Frac) -> Result<(), Memory>
+pub fn push_remainder(out: &mut Vec<u8>, remainder: &Frac) -> Result<(), Memory>
     ensures text { OnOk result (out.new.items ≡ out.old.items ++ line (remainder_text remainder.now)) }
     ensures front { Keeps out.old.items out.new.items }
 {

@@ -1,0 +1,23 @@
+use Rattle.std.proofs.Common.{◌≡◌, ap, ◌∙◌}
+use Rattle.mdp_farkas.specs.Verdict.{verdict, verdict_of}
+use Rattle.mdp_discount_bounds.specs.Checks.{discount_bounds_checks}
+use Rattle.mdp_discount_bounds.proofs.Rules.{bounds_rules, bounds_max, bounds_min}
+use Rattle.mdp_discount_bounds.proofs.Trivial.{trivial_yes}
+use Rattle.mdp_discount_bounds.proofs.holds.holds_bounds_discount.Goals as goal
+
+pub returns : goal.returns
+returns c =
+    let d = c.args.dir in
+    let m = c.args.model.now in
+    let r = c.args.m in
+    let f = c.args.factor.now in
+    let b = c.args.bounds.now in
+    let k = c.known.ensures.mdp in
+    let e = c.verdict_after.ensures ∙ ap verdict c.bounds_walk.ensures in
+    record {
+      verdict = e;
+      rules = bounds_rules d m r f b.lower.items b.upper.items b.remainder b.choices.items k c.verdict_after.result c.requires.name c.requires.lower c.requires.upper c.requires.choices e;
+      max = bounds_max d m r f b.lower.items b.upper.items b.remainder b.choices.items k c.verdict_after.result c.requires.name c.requires.lower c.requires.upper c.requires.choices e c.requires.factor;
+      min = bounds_min d m r f b.lower.items b.upper.items b.remainder b.choices.items k c.verdict_after.result c.requires.name c.requires.lower c.requires.upper c.requires.choices e c.requires.factor;
+      trivial = λ t. e ∙ trivial_yes m b.lower.items b.upper.items b.remainder b.choices.items t c.requires.lower c.requires.upper r f d;
+    }
