@@ -113,11 +113,7 @@ fn held_with_fewer<S: Search>(
 
 /// Bounds that meet the rules: exact values, where the simplest fractions between the bounds that the search proposes, with so many digits or with the
 /// most, are such; else these bounds, with so many digits or fewer; else those that say nothing.
-pub fn bounds_by<S: Search>(
-    alloc: Global,
-    search: &S,
-    digits: u32,
-) -> Result<S::Cert, Memory>
+pub fn bounds_by<S: Search>(alloc: Global, search: &S, digits: u32) -> Result<S::Cert, Memory>
     ensures { IfOk result (S.is_held search.now) }
 {
     let near = search.near(alloc, digits)?;

@@ -183,7 +183,11 @@ fn simplest_near(value: &Frac, unit: &Frac) -> Frac {
 }
 
 /// The simplest fraction near each of these, as far as half of the digits.
-pub fn all_simplest_near(alloc: Global, values: &[Frac], digits: u32) -> Result<Vec<Frac>, AllocError>
+pub fn all_simplest_near(
+    alloc: Global,
+    values: &[Frac],
+    digits: u32,
+) -> Result<Vec<Frac>, AllocError>
     ensures { IfOk result (λ simple. length simple.items ≡ length values.now) }
 {
     let unit = unit_of(digits / 2).unwrap_or(Frac::whole(0));

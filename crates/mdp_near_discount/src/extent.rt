@@ -40,6 +40,8 @@ pub fn extent_of(model: &Model, name: u32, factor: &Frac) -> Option<i128>
     if rest <= 0 {
         return None;
     }
-    let steps = above_rewards(model, name).checked_add(rest)?.checked_div(rest)?;
+    let steps = above_rewards(model, name)
+        .checked_add(rest)?
+        .checked_div(rest)?;
     den.checked_mul(steps)
 }

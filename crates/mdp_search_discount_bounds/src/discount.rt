@@ -51,14 +51,17 @@ impl Discounting<'_> {
     fn finite(self, alloc: Global) -> Result<Option<DiscountBounds>, Memory>
         ensures { IfOk result (λ found. IfSome found (IsHeldDiscount self.entry.dir self.entry.model.now self.entry.name self.entry.factor.now)) }
     {
-        let DiscountBounds {
-            lower,
-            upper,
+        let none = missing_discount(alloc, self.model)?;
+        let choices = none.choices;
+        let bounds = finite_bounds(
+            alloc,
+            self.model,
+            self.name,
+            self.factor,
+            &none.lower,
+            &none.upper,
             choices,
-            ..
-        } = missing_discount(alloc, self.model)?;
-        let model = self.model;
-        let bounds = finite_bounds(alloc, model, self.name, self.factor, lower, upper, choices)?;
+        )?;
         if self.holds(&bounds) {
             Ok(Some(bounds))
         } else {
@@ -77,8 +80,16 @@ impl Search for Discounting<'_> {
     fn near(&self, alloc: Global, digits: u32) -> Result<DiscountBounds, Memory> {
         let model = self.model;
         let near = near_discount(alloc, model, self.name, self.dir, self.factor, digits)?;
-        let (lower, upper, choices) = (near.lower, near.upper, near.choices);
-        let bounds = finite_bounds(alloc, model, self.name, self.factor, lower, upper, choices)?;
+        let choices = near.choices;
+        let bounds = finite_bounds(
+            alloc,
+            model,
+            self.name,
+            self.factor,
+            &near.lower,
+            &near.upper,
+            choices,
+        )?;
         Ok(bounds)
     }
 

@@ -17,19 +17,27 @@ fn extent(model: &Model, name: u32, factor: &Frac) -> Option<Frac>
     Frac::try_new(extent_of(model, name, factor)?, 1).ok()
 }
 
-/// The values; where all of them are missing, one value for all states.
+/// The opposite of a value.
+fn opposite(value: &Option<Frac>) -> Option<Frac> {
+    match value {
+        Some(value) => Some(value.negate()),
+        None => None,
+    }
+}
+
+/// A copy of the values; where all of them are missing, one value for all states.
 fn filled(
     alloc: Global,
-    values: Vec<Option<Frac>>,
-    value: Option<Frac>,
+    values: &[Option<Frac>],
+    value: &Option<Frac>,
 ) -> Result<Vec<Option<Frac>>, AllocError>
-    ensures { IfOk result (λ list. length list.items ≡ length values.items) }
+    ensures { IfOk result (λ list. length list.items ≡ length values.now) }
 {
-    if values.iter().any(|value| value.is_some()) {
-        return Ok(values);
-    }
-    let list = vec![in alloc; value; values.len()]?;
-    Ok(list)
+    let has_value = values.iter().any(|own| own.is_some());
+    values
+        .iter()
+        .map(|own| if has_value { *own } else { *value })
+        .collect(alloc)
 }
 
 /// Bounds of these values, with one number for all states in the place of lower values, and of upper ones, that are all missing.
@@ -38,23 +46,22 @@ pub(crate) fn finite_bounds(
     model: &Model,
     name: u32,
     factor: &Frac,
-    lower: Vec<Option<Frac>>,
-    upper: Vec<Option<Frac>>,
+    lower: &[Option<Frac>],
+    upper: &[Option<Frac>],
     choices: Vec<u32>,
 ) -> Result<DiscountBounds, AllocError>
     requires name { name < length model.now.names }
-    ensures lower { IfOk result (λ bounds. length bounds.lower.items ≡ length lower.items) }
-    ensures upper { IfOk result (λ bounds. length bounds.upper.items ≡ length upper.items) }
+    ensures lower { IfOk result (λ bounds. length bounds.lower.items ≡ length lower.now) }
+    ensures upper { IfOk result (λ bounds. length bounds.upper.items ≡ length upper.now) }
     ensures choices { IfOk result (λ bounds. bounds.choices.items ≡ choices.items) }
 {
     let most = extent(model, name, factor);
-    let least = most.map(|most| most.negate());
-    let lower = filled(alloc, lower, least)?;
-    let upper = filled(alloc, upper, most)?;
-    let remainder = greatest_magnitude(&lower, &upper);
+    let below = filled(alloc, lower, &opposite(&most))?;
+    let above = filled(alloc, upper, &most)?;
+    let remainder = greatest_magnitude(&below, &above);
     Ok(DiscountBounds {
-        lower,
-        upper,
+        lower: below,
+        upper: above,
         choices,
         remainder,
     })
