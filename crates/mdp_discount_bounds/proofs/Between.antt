@@ -14,7 +14,6 @@ use Rattle.mdp_spec.specs.Bounds.{reward_at, finite_part, infinite}
 use Rattle.mdp_spec.specs.RewardRules.{StaysFinite}
 use Rattle.mdp_spec.proofs.Values.{part_of_some, finite_of_some, infinite_of_none}
 use Rattle.mdp_spec.proofs.Keeping.{Keeps, HasChoice, Follows, keeps_of_Fits, keeps_unfolded}
-use Rattle.mdp_farkas.specs.Reach.{other}
 use Rattle.mdp_rows.specs.declared.dir.Dir.{Dir}
 use Rattle.mdp_rows.specs.declared.dir.Dir.TheVariants.{Max, Min}
 use Rattle.mdp_rows.specs.Better.{IsAsGood}
@@ -23,8 +22,7 @@ use Rattle.mdp_discount_rules.specs.Bounds.{BetterByAtMost}
 use Rattle.mdp_discount_rules.specs.Rules.{IsFactor}
 use Rattle.mdp_discount_rules.proofs.Directions.{NoBetter}
 use Rattle.mdp_discount_rules.proofs.Discount.{half_by}
-use Rattle.mdp_discount_bounds.specs.Rules.{left_for, Allows, MeetsDiscountBetween}
-use Rattle.mdp_discount_bounds.specs.Between.{DiscountBetween}
+use Rattle.mdp_discount_bounds.specs.Rules.{left_for, Allows}
 use Rattle.mdp_discount_bounds.specs.Laws.{RulesBetween}
 use Rattle.mdp_discount_bounds.proofs.Greatest.{lower_near, upper_near}
 
@@ -35,7 +33,7 @@ no_better_of_left Min x q g h = linear 3 (λ x q g. x) (λ x q g. g ⊕ q) (λ x
 
 module _ (m : Mdp) (r : ℕ) (f : ℚ) (known_ : IsMdp m) (factor : IsFactor f) (v : List (Option ℚ)) (k : ℚ)
     (small : (s : ℕ) → s < states_of m → (value_at (finite_part v) s ≤ℚ k) × (neg_ℚ (value_at (finite_part v) s) ≤ℚ k)) where
-  -- a value is missing
+  -- a state whose value is there
   abbrev IsThere : ℕ → Type 0
   IsThere s = is_marked (infinite v) s ≡ false
 
@@ -65,13 +63,15 @@ module _ (m : Mdp) (r : ℕ) (f : ℚ) (known_ : IsMdp m) (factor : IsFactor f) 
     half n t s h keeps = half_at n t s (reward_at v s) h keeps refl
 
   -- all trees, where the rules hold on each choice
-  pub each_half : (dir : Dir) → ((s c : ℕ) → s < states_of m → c < length (choices_at m s) → Allows dir m r f v s c) → (n u : ℕ) (t : Tree) (s : ℕ) → s < states_of m → IsStrategy m u n t s
+  pub each_half : (dir : Dir) → ((s c : ℕ) → s < states_of m → c < length (choices_at m s) → Allows dir m r f v s c)
+      → (n u : ℕ) (t : Tree) (s : ℕ) → s < states_of m → IsStrategy m u n t s
       → IfSome (reward_at v s) (λ x. BetterByAtMost dir (pow_ℚ f n *ℚ k) (disc m r f u n t s) x)
   each_half dir rules n u t s h strategy = half dir (HasChoice m) u strategy.mixes (λ s c h ok l. rules s c h l) n t s h (keeps_of_Fits m u n t s strategy.fits)
 
   -- the policy's trees, where they hold on its choices
   pub policy_half : (dir : Dir) (policy : List ℕ) (n s : ℕ) → s < states_of m → Keeps m (Follows policy) 1 n (unfolded m policy n s) s
-      → ((s : ℕ) → s < states_of m → Allows dir m r f v s (slice_index policy s)) → IfSome (reward_at v s) (λ x. BetterByAtMost dir (pow_ℚ f n *ℚ k) (disc m r f 1 n (unfolded m policy n s) s) x)
+      → ((s : ℕ) → s < states_of m → Allows dir m r f v s (slice_index policy s))
+      → IfSome (reward_at v s) (λ x. BetterByAtMost dir (pow_ℚ f n *ℚ k) (disc m r f 1 n (unfolded m policy n s) s) x)
   policy_half dir policy n s h keeps rules =
       half dir (Follows policy) 1 (omega arith) (λ s c h is l. subst (λ (c : ℕ). Allows dir m r f v s c) (sym is) (rules s h)) n (unfolded m policy n s) s h keeps
 

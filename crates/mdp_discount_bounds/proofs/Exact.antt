@@ -1,9 +1,8 @@
 -- Exact values lie between the bounds of the same query.
-use Rattle.std.proofs.Common.{◌≡◌, ℕ, ◌<◌, List, Option, Some, None}
+use Rattle.std.proofs.Common.{ℕ, Option, Some, None}
 use Rattle.std.specs.Option.{IfSome}
 use Rattle.mdp_math.specs.Rational.{ℚ, ◌≤ℚ◌}
-use Rattle.mdp_spec.specs.Mdp.{Mdp, states_of, value_at}
-use Rattle.mdp_spec.specs.Row.{IsMdp}
+use Rattle.mdp_spec.specs.Mdp.{value_at}
 use Rattle.mdp_spec.specs.Tree.{Tree, unfolded}
 use Rattle.mdp_spec.specs.Bounds.{reward_at}
 use Rattle.mdp_spec.proofs.Keeping.{unfolded_is_strategy}

@@ -45,12 +45,14 @@ module _ (k : ℚ) (lower upper : List (Option ℚ)) (e : k ≡ greatest_magnitu
   near =
       subst (λ (k : ℚ). AreNear k lower × AreNear k upper) (sym e)
       (both_near (greatest_magnitude lower upper) lower upper
-      (recursion_from_All (λ x. x ≤ℚ greatest_magnitude lower upper) (0ℚ ∷ map magnitude (finite_part (lower ++ upper))) (greatest-ge (0ℚ ∷ map magnitude (finite_part (lower ++ upper))))).1)
+      (recursion_from_All (λ x. x ≤ℚ greatest_magnitude lower upper) (0ℚ ∷ map magnitude (finite_part (lower ++ upper)))
+      (greatest-ge (0ℚ ∷ map magnitude (finite_part (lower ++ upper))))).1)
 
   near_at : (v : List (Option ℚ)) → AreNear k v → (s : ℕ) → s < length v → (value_at (finite_part v) s ≤ℚ k) × (neg_ℚ (value_at (finite_part v) s) ≤ℚ k)
   near_at v h s l =
       let x : ℚ = value_at (finite_part v) s in
-      let g : magnitude (value_at (finite_part v) s) ≤ℚ k = All-from_recursion (λ x. magnitude x ≤ℚ k) (finite_part v) h s 0ℚ (subst (λ (n : ℕ). s < n) (sym (length-map v (λ x. unwrap_or x 0ℚ))) l) in
+      let g : magnitude (value_at (finite_part v) s) ≤ℚ k =
+      All-from_recursion (λ x. magnitude x ≤ℚ k) (finite_part v) h s 0ℚ (subst (λ (n : ℕ). s < n) (sym (length-map v (λ x. unwrap_or x 0ℚ))) l) in
       (≤ℚ_trans x _ k (below_magnitude x).0 g, ≤ℚ_trans (neg_ℚ x) _ k (below_magnitude x).1 g)
 
   pub lower_near : (s : ℕ) → s < length lower → (value_at (finite_part lower) s ≤ℚ k) × (neg_ℚ (value_at (finite_part lower) s) ≤ℚ k)

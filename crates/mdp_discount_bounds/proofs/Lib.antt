@@ -7,3 +7,4 @@ pub mod Trivial
 pub mod Telling
 pub mod Saying
 pub mod Accepting
+mod Examples

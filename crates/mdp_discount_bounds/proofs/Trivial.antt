@@ -1,5 +1,5 @@
 -- Values that are all missing get yes on every model: each of their checks holds, and none makes a sum.
-use Rattle.std.proofs.Common.{◌≡◌, ℕ, ◌<◌, List, [], ◌∷◌, ◌++◌, length, map, slice_index, Option, Some, None, refl, sym, ap, subst, ◌∙◌, lt-ltb, arith}
+use Rattle.std.proofs.Common.{◌≡◌, ℕ, ◌<◌, List, [], ◌∷◌, ◌++◌, length, map, slice_index, Option, Some, None, sym, ap, subst, ◌∙◌, lt-ltb, arith}
 use Rattle.std.specs.List.{All, AllByRecursion}
 use Rattle.std.proofs.lemmas.List.Elements.{All-from_recursion, recursion_from_All}
 use Rattle.mdp_math.specs.Rational.{ℚ, ◌≤ℚ◌}
@@ -26,7 +26,8 @@ none_at : (v : List (Option ℚ)) (s : ℕ) → All (λ x. x ≡ None) v → s <
 none_at v s h l = h s (Some 0ℚ) l
 
 -- missing values have magnitude 0
-none_greater : (xs ys : List (Option ℚ)) → AllByRecursion (λ x. x ≡ None) xs → AllByRecursion (λ x. x ≡ None) ys → AllByRecursion (λ x. x ≤ℚ 0ℚ) (map magnitude (finite_part (xs ++ ys)))
+none_greater : (xs ys : List (Option ℚ)) → AllByRecursion (λ x. x ≡ None) xs → AllByRecursion (λ x. x ≡ None) ys
+    → AllByRecursion (λ x. x ≤ℚ 0ℚ) (map magnitude (finite_part (xs ++ ys)))
 none_greater [] [] h k = tt
 none_greater [] (Some y ∷ ys) h k = absurd cc
 none_greater [] (None ∷ ys) h k = (≤ℚ_of_eq (magnitude 0ℚ) 0ℚ (magnitude-above 0ℚ (≤ℚ_refl 0ℚ)), none_greater [] ys h k.1)

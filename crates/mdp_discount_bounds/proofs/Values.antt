@@ -21,7 +21,7 @@ use Rattle.mdp_rows.specs.Better.{IsAsGood}
 use Rattle.mdp_bounds.specs.Sum.{stands, plain_add, told_sum}
 use Rattle.mdp_bounds.proofs.Sums.{plain_add-some, told_sum-some, mapped_holds, mapped_sound}
 use Rattle.mdp_discount_bounds.specs.Rules.{left_for, Allows}
-use Rattle.mdp_discount_bounds.specs.Checks.{told_left, number_allows, value_allows, allows}
+use Rattle.mdp_discount_bounds.specs.Checks.{told_left, value_allows, allows}
 
 good_of : (dir : Dir) (x y : ℚ) → stands dir x y ≡ true → IsAsGood dir x y
 good_of Max x y h = le_of_test y x h

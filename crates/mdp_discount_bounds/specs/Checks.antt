@@ -7,7 +7,7 @@
 -- and at the end, at no state:
 --     rule 28  the remainder is the greatest magnitude of the values
 -- A value that is missing is asked nothing, and where a target has none no sum is made.
-use Rattle.std.specs.Prelude.{◌≡◌, ℕ, Bool, true, false, List, [], ◌∷◌, ◌++◌, length, slice_index, Option, Some, None, option_map, if◌then◌else◌}
+use Rattle.std.specs.Prelude.{◌≡◌, ℕ, Bool, true, false, List, [], ◌∷◌, ◌++◌, slice_index, Option, Some, None, option_map, if◌then◌else◌}
 use Rattle.std.specs.List.{All, flat_map, range_with_len}
 use Rattle.mdp_math.specs.Rational.{ℚ, neg_ℚ}
 use Rattle.mdp_math.specs.Written.{written_mul, ◌>>=◌}

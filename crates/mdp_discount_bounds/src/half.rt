@@ -43,11 +43,7 @@ impl Half<'_> {
             return Ok(false);
         }
         let left = self.left_for(s, c, value)?;
-        Ok(value_stands(
-            self.dir,
-            &left,
-            &self.model.reward(self.name, s, c),
-        ))
+        Ok(value_stands(self.dir, &left, &self.model.reward(self.name, s, c)))
     }
 
     /// Whether the value of state `s` is as good as what choice `c` earns, as a missing one is.

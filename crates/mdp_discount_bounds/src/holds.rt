@@ -84,16 +84,7 @@ fn bounds_at_states(
     ensures { result ≡ objection_to (state_checks dir model.now m factor.now lower.now upper.now choices.now) }
 {
     each_below(model.states(), |s| {
-        bounds_at_state(
-            model,
-            m,
-            dir,
-            factor,
-            lower,
-            upper,
-            s,
-            choices[s as usize],
-        )
+        bounds_at_state(model, m, dir, factor, lower, upper, s, choices[s as usize])
     })
 }
 

@@ -1,6 +1,5 @@
-use Rattle.std.proofs.Common.{◌≡◌, ap, ◌∙◌}
-use Rattle.mdp_farkas.specs.Verdict.{verdict, verdict_of}
-use Rattle.mdp_discount_bounds.specs.Checks.{discount_bounds_checks}
+use Rattle.std.proofs.Common.{ap, ◌∙◌}
+use Rattle.mdp_farkas.specs.Verdict.{verdict}
 use Rattle.mdp_discount_bounds.proofs.Rules.{bounds_rules, bounds_max, bounds_min}
 use Rattle.mdp_discount_bounds.proofs.Trivial.{trivial_yes}
 use Rattle.mdp_discount_bounds.proofs.holds.holds_bounds_discount.Goals as goal
@@ -13,11 +12,12 @@ returns c =
     let f = c.args.factor.now in
     let b = c.args.bounds.now in
     let k = c.known.ensures.mdp in
+    let q = c.requires in
     let e = c.verdict_after.ensures ∙ ap verdict c.bounds_walk.ensures in
     record {
       verdict = e;
-      rules = bounds_rules d m r f b.lower.items b.upper.items b.remainder b.choices.items k c.verdict_after.result c.requires.name c.requires.lower c.requires.upper c.requires.choices e;
-      max = bounds_max d m r f b.lower.items b.upper.items b.remainder b.choices.items k c.verdict_after.result c.requires.name c.requires.lower c.requires.upper c.requires.choices e c.requires.factor;
-      min = bounds_min d m r f b.lower.items b.upper.items b.remainder b.choices.items k c.verdict_after.result c.requires.name c.requires.lower c.requires.upper c.requires.choices e c.requires.factor;
+      rules = bounds_rules d m r f b.lower.items b.upper.items b.remainder b.choices.items k c.verdict_after.result q.name q.lower q.upper q.choices e;
+      max = bounds_max d m r f b.lower.items b.upper.items b.remainder b.choices.items k c.verdict_after.result q.name q.lower q.upper q.choices e q.factor;
+      min = bounds_min d m r f b.lower.items b.upper.items b.remainder b.choices.items k c.verdict_after.result q.name q.lower q.upper q.choices e q.factor;
       trivial = λ t. e ∙ trivial_yes m b.lower.items b.upper.items b.remainder b.choices.items t c.requires.lower c.requires.upper r f d;
     }

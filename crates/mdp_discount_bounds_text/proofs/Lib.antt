@@ -1,0 +1,5 @@
+pub mod Columns
+pub mod Entries
+pub mod Heads
+pub mod Outcomes
+mod Examples

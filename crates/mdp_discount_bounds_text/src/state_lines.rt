@@ -1,0 +1,103 @@
+ghost use Rattle.std.specs.Prelude.{◌≡◌, IfOk, map};
+ghost use Rattle.mdp_discount_bounds_text.specs.Entries.{between_columns, entries_of};
+
+use crate::entry::BoundsEntry;
+use crate::lower::{lower_of, push_lower};
+use mdp_cert::{Entry, Lists, Value};
+use mdp_discount_bounds::DiscountBounds;
+use mdp_num::{Frac, Memory};
+use mdp_text::{cut_word, only_word, push_word, reward_of, whole_of};
+use std::alloc::{AllocError, Global};
+
+/// The line of a state: two values and a choice.
+impl Entry for BoundsEntry {
+    ghost columns = { between_columns };
+
+    fn width() -> u8 {
+        3
+    }
+
+    fn read(text: &[u8]) -> Option<BoundsEntry> {
+        let (lower, others) = cut_word(text);
+        let (upper, choice) = cut_word(others);
+        Some(BoundsEntry {
+            lower: lower_of(lower)?,
+            upper: reward_of(upper)?,
+            choice: whole_of(only_word(choice))?,
+        })
+    }
+
+    fn push_words(&self, out: &mut Vec<u8>) -> Result<(), Memory> {
+        push_lower(out, &self.lower)?;
+        out.extend_from_slice(b" ")?;
+        self.upper.push_word(out)?;
+        push_word(out, u64::from(self.choice))
+    }
+
+    fn is_same(&self, other: &BoundsEntry) -> bool {
+        self.lower.is_same_value(&other.lower)
+            && self.upper.is_same_value(&other.upper)
+            && self.choice == other.choice
+    }
+}
+
+/// Bounds, lent to be written.
+#[derive(Drop)]
+pub(crate) struct LentBounds<'a> {
+    pub bounds: &'a DiscountBounds,
+}
+
+impl Lists for LentBounds<'_> {
+    type Item = BoundsEntry;
+
+    ghost entries = { λ c. entries_of c.bounds.now.lower.items c.bounds.now.upper.items c.bounds.now.choices.items };
+
+    fn entry(&self, state: u32) -> BoundsEntry {
+        let place = state as usize;
+        BoundsEntry {
+            lower: self.bounds.lower[place],
+            upper: self.bounds.upper[place],
+            choice: self.bounds.choices[place],
+        }
+    }
+}
+
+/// The lower values of these entries.
+fn lower_values(alloc: Global, entries: &[BoundsEntry]) -> Result<Vec<Option<Frac>>, AllocError>
+    ensures { IfOk result (λ v. v.items ≡ map (λ x. x.lower) entries.now) }
+{
+    entries.iter().map(|entry| entry.lower).collect(alloc)
+}
+
+/// The upper values of these entries.
+fn upper_values(alloc: Global, entries: &[BoundsEntry]) -> Result<Vec<Option<Frac>>, AllocError>
+    ensures { IfOk result (λ v. v.items ≡ map (λ x. x.upper) entries.now) }
+{
+    entries.iter().map(|entry| entry.upper).collect(alloc)
+}
+
+/// The choices of these entries.
+fn choices_of(alloc: Global, entries: &[BoundsEntry]) -> Result<Vec<u32>, AllocError>
+    ensures { IfOk result (λ v. v.items ≡ map (λ x. x.choice) entries.now) }
+{
+    entries.iter().map(|entry| entry.choice).collect(alloc)
+}
+
+/// The two values and the choices of these entries, with this remainder.
+pub(crate) fn bounds_of(
+    alloc: Global,
+    remainder: Frac,
+    entries: &[BoundsEntry],
+) -> Result<DiscountBounds, AllocError>
+    ensures lower { IfOk result (λ b. b.lower.items ≡ map (λ x. x.lower) entries.now) }
+    ensures upper { IfOk result (λ b. b.upper.items ≡ map (λ x. x.upper) entries.now) }
+    ensures choices { IfOk result (λ b. b.choices.items ≡ map (λ x. x.choice) entries.now) }
+    ensures remainder { IfOk result (λ b. b.remainder ≡ remainder) }
+{
+    Ok(DiscountBounds {
+        lower: lower_values(alloc, entries)?,
+        upper: upper_values(alloc, entries)?,
+        choices: choices_of(alloc, entries)?,
+        remainder,
+    })
+}

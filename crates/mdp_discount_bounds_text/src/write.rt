@@ -1,0 +1,117 @@
+ghost use Rattle.std.specs.Prelude.{◌≡◌, ◌++◌, ◌∷◌, Some, OnOk, OnErr};
+ghost use Rattle.mdp_text.specs.Answer.{Keeps};
+ghost use Rattle.mdp_text.specs.Spelling.{line};
+ghost use Rattle.mdp_cert.specs.declared.version.Version.TheVariants.{Two};
+ghost use Rattle.mdp_cert.specs.Claims.{reward_text};
+ghost use Rattle.mdp_cert.specs.Spelling.{closed_lines};
+ghost use Rattle.mdp_discount_bounds.specs.Plain.{plain};
+ghost use Rattle.mdp_discount_bounds_text.specs.Entries.{lower_text, between_columns, entries_of};
+ghost use Rattle.mdp_discount_bounds_text.specs.Spelling.{version_text, init_text, head_text, text_of};
+
+use crate::lower::push_lower;
+use crate::state_lines::LentBounds;
+use mdp_cert::{Value, Version, push_to_end};
+use mdp_discount_bounds::{DiscountBoundsCert, InitialBounds};
+use mdp_discount_text::{push_claim, push_remainder};
+use mdp_num::{Frac, Memory};
+use mdp_text::{push_number, push_whole};
+
+/// Appends the line of the version.
+fn push_version(out: &mut Vec<u8>) -> Result<(), Memory>
+    ensures text { OnOk result (out.new.items ≡ out.old.items ++ line version_text) }
+    ensures front { Keeps out.old.items out.new.items }
+{
+    out.extend_from_slice(b"mdp-bounds 1\n")?;
+    Ok(())
+}
+
+/// Appends a blank and a lower value.
+fn push_lower_word(out: &mut Vec<u8>, value: &Option<Frac>) -> Result<(), Memory>
+    ensures text { OnOk result (out.new.items ≡ out.old.items ++ (32 ∷ lower_text value.now)) }
+    ensures front { Keeps out.old.items out.new.items }
+{
+    out.extend_from_slice(b" ")?;
+    push_lower(out, value)
+}
+
+/// Appends a blank and an upper value.
+fn push_upper_word(out: &mut Vec<u8>, value: &Option<Frac>) -> Result<(), Memory>
+    ensures text { OnOk result (out.new.items ≡ out.old.items ++ (32 ∷ reward_text value.now)) }
+    ensures front { Keeps out.old.items out.new.items }
+{
+    out.extend_from_slice(b" ")?;
+    value.push_word(out)
+}
+
+/// Appends the line of a given initial state with its lower and its upper value.
+fn push_between(out: &mut Vec<u8>, init: &InitialBounds) -> Result<(), Memory>
+    ensures text { OnOk result (out.new.items ≡ out.old.items ++ line (init_text (Some init.now))) }
+    ensures front { Keeps out.old.items out.new.items }
+{
+    out.extend_from_slice(b"init ")?;
+    push_whole(out, u64::from(init.state))?;
+    push_lower_word(out, &init.lower)?;
+    push_upper_word(out, &init.upper)?;
+    out.extend_from_slice(b"\n")?;
+    Ok(())
+}
+
+/// Appends the line of the initial state.
+fn push_init(out: &mut Vec<u8>, init: &Option<InitialBounds>) -> Result<(), Memory>
+    ensures text { OnOk result (out.new.items ≡ out.old.items ++ line (init_text init.now)) }
+    ensures front { Keeps out.old.items out.new.items }
+{
+    match init {
+        Some(init) => push_between(out, init),
+        None => {
+            out.extend_from_slice(b"init -\n")?;
+            Ok(())
+        }
+    }
+}
+
+/// Appends the lines before those of the states.
+fn push_head(out: &mut Vec<u8>, cert: &DiscountBoundsCert) -> Result<(), Memory>
+    ensures text { OnOk result (out.new.items ≡ out.old.items ++ head_text (plain cert.now)) }
+    ensures front { Keeps out.old.items out.new.items }
+{
+    push_version(out)?;
+    push_claim(out, cert.dir, &cert.name, &cert.factor)?;
+    push_number(out, cert.bounds.lower.len() as u64)?;
+    push_init(out, &cert.init)?;
+    push_remainder(out, &cert.bounds.remainder)
+}
+
+/// Appends the lines of the states, with the line `end`.
+fn push_states(out: &mut Vec<u8>, cert: &DiscountBoundsCert) -> Result<(), Memory>
+    ensures text { let b = cert.now.bounds in OnOk result (out.new.items ≡ out.old.items ++ closed_lines Two between_columns (entries_of b.lower.items b.upper.items b.choices.items)) }
+    ensures front { Keeps out.old.items out.new.items }
+{
+    let bounds = &cert.bounds;
+    let states = cert.bounds.lower.len() as u32;
+    push_to_end(out, Version::Two, states, &LentBounds { bounds })
+}
+
+/// Appends all lines; after `Memory` the text begins as before.
+#[tactic(auto, unfolding(crate::specs::Spelling::text_of))]
+fn push_lines(out: &mut Vec<u8>, cert: &DiscountBoundsCert) -> Result<(), Memory>
+    ensures text { OnOk result (out.new.items ≡ out.old.items ++ text_of (plain cert.now)) }
+    ensures front { Keeps out.old.items out.new.items }
+{
+    push_head(out, cert)?;
+    push_states(out, cert)
+}
+
+/// Appends the text of a certificate of bounds of the discounted reward, with a line for each longest run of states with the same words. After
+/// `Memory` the text is as before.
+pub fn write_discount_bounds(cert: &DiscountBoundsCert, out: &mut Vec<u8>) -> Result<(), Memory>
+    ensures text { OnOk result (out.new.items ≡ out.old.items ++ text_of (plain cert.now)) }
+    ensures unchanged { OnErr result (out.new.items ≡ out.old.items) }
+{
+    let start = out.len();
+    let answer = push_lines(out, cert);
+    if answer.is_err() {
+        out.truncate(start);
+    }
+    answer
+}
