@@ -2,3 +2,6 @@ mod Examples
 pub mod TextLength
 pub mod Printing
 pub mod Solved
+pub mod DiscountLength
+pub mod DiscountPrinting
+pub mod DiscountSolved

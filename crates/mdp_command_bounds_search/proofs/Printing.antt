@@ -140,7 +140,7 @@ reward_there : (v : List (Option ℚ)) (s n : ℕ) → s < n → length v ≡ n 
 reward_there v s n lt size = ap₂ (λ (a b : Bool). a && b) (lt-ltb s (length v) (omega (arith, lt, size))) (same_reward (reward_at v s))
 
 -- where the initial state has its values, the line is right
-right_line : (s : ℕ) (valued : Bool) → valued ≡ true → cond (eqb s s && valued) Yes (init_fault (Some s)) ≡ Yes
+pub right_line : (s : ℕ) (valued : Bool) → valued ≡ true → cond (eqb s s && valued) Yes (init_fault (Some s)) ≡ Yes
 right_line s valued e = ap₂ (λ (a b : Bool). cond (a && b) Yes (init_fault (Some s))) (eq-eqb s s refl) e
 
 init_holds : (n : ℕ) (o : Option ℕ) (body : PlainBounds) → HasValues n body → ((s : ℕ) → o ≡ Some s → s < n) → bounds_init_check (init_between o body) o body ≡ Yes

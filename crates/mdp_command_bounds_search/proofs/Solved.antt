@@ -25,7 +25,7 @@ use Rattle.mdp_command_bounds_search.specs.Shown.{IsBoundsPrinted, IsBoundsSolve
 
 -- ---- never too wide
 
-text_is_ok : (said : Said) (text : List ℕ) → said ≡ Ok text → IsOk said
+pub text_is_ok : (said : Said) (text : List ℕ) → said ≡ Ok text → IsOk said
 text_is_ok said text e = subst (λ (s : Said). IsOk s) (sym e) refl
 
 pub never_too_wide : IsNeverTooWide

@@ -25,7 +25,7 @@ use Rattle.mdp_command.specs.Files.{most_bytes}
 
 -- ---- the lines before those of the states
 
-two_words : (dir : Dir) (word rest : List ℕ) → length (codes "claim" ␣ dir_text dir ␣ word ␣ rest) ≡ 5 + (1 + (3 + (1 + (length word + (1 + length rest)))))
+pub two_words : (dir : Dir) (word rest : List ℕ) → length (codes "claim" ␣ dir_text dir ␣ word ␣ rest) ≡ 5 + (1 + (3 + (1 + (length word + (1 + length rest)))))
 two_words dir word rest =
     let a = blank_length (codes "claim") (dir_text dir ␣ word ␣ rest) in
     let b = blank_length (dir_text dir) (word ␣ rest) in
@@ -135,7 +135,7 @@ gains_count (l ∷ ls) (u ∷ us) (z ∷ zs) [] cs = omega arith
 gains_count (l ∷ ls) (u ∷ us) (z ∷ zs) (b ∷ bs) [] = omega arith
 
 -- the lines of the states, and the line `end`
-abbrev lines_of : {A : Type 0} → Columns A → List A → List ℕ
+abbrev pub lines_of : {A : Type 0} → Columns A → List A → List ℕ
 lines_of k xs = run_lines k 0 (longest_runs k xs) ++ line end_text
 
 -- of entries whose words have at most 340 bytes
@@ -224,7 +224,7 @@ module _ {A : Type 0} (k : Columns A) (P : A → Type 0) (short : (x : A) → P 
   states_lines_short xs limit h = let n = runs_size xs in let l = lines_short 0 (longest_runs k xs) (omega (arith, n, limit)) (runs_width xs h) in omega (arith, n, l)
 
   -- with the line `end`
-  closed_short : (xs : List A) → length xs ≤ 2 ^ 20 → Each P xs → length (lines_of k xs) ≤ 380 * length xs + 4
+  pub closed_short : (xs : List A) → length xs ≤ 2 ^ 20 → Each P xs → length (lines_of k xs) ≤ 380 * length xs + 4
   closed_short xs limit h =
       let l = states_lines_short xs limit h in
       let a = length-append (run_lines k 0 (longest_runs k xs)) (line end_text) in

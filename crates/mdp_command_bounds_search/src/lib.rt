@@ -3,8 +3,11 @@
 
 mod bounding;
 mod certificate;
+mod discount_certificate;
+mod discounting;
 mod laws;
 mod searching;
 
-pub use laws::bounds_search_law;
+pub use discounting::bounds_discount_file;
+pub use laws::{bounds_discount_search_law, bounds_search_law};
 pub use searching::bounds_file;

@@ -16,7 +16,6 @@ mod reward;
 pub use backward::Backward;
 pub use choices::ChoiceFlags;
 pub use ends::ends_inside;
-pub use lists::{MOST_DIGITS, fraction, numbers};
 pub use policy::{Gathered, policy_of};
 pub use propose::near_reach;
 pub use reward::near_reward;

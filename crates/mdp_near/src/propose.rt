@@ -4,12 +4,14 @@ ghost use Rattle.mdp_spec.specs.Mdp.{states_of};
 use crate::backward::Backward;
 use crate::decided::{Decided, Kind, decide, kind_at};
 use crate::ends::joined_parts;
-use crate::lists::{MOST_DIGITS, flags_of, fraction, numbers};
+use crate::lists::flags_of;
 use crate::policy::{Gathered, policy_of};
 use crate::ranks::{max_ranks, min_ranks};
 use mdp_bounds::ReachBoundsCert;
 use mdp_num::{Frac, Memory};
-use mdp_refinement::{Bound, Nodes, Rows, Solution, Task, put, solve, value_at};
+use mdp_refinement::{
+    Bound, MOST_DIGITS, Nodes, Rows, Solution, Task, fraction, numbers, put, solve, value_at,
+};
 use mdp_rows::{Dir, Marks, Model};
 use std::alloc::{AllocError, Global};
 

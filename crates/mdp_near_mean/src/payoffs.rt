@@ -2,12 +2,9 @@
 
 use mdp_near::ChoiceFlags;
 use mdp_num::Frac;
-use mdp_refinement::{Nodes, Rows, Scale, power_of_ten};
+use mdp_refinement::{Nodes, Rows, Scale, above_magnitude, digits_of};
 use mdp_rows::{Dir, Model};
 use std::alloc::{AllocError, Global};
-
-/// The most digits before the point that room is left for.
-const MOST_ROOM: u32 = 30;
 
 /// A model with the rewards of one name, negated for the least mean payoff.
 #[derive(Clone, Copy)]
@@ -15,26 +12,6 @@ pub(crate) struct Payoffs<'a> {
     pub(crate) model: &'a Model,
     pub(crate) name: u32,
     pub(crate) dir: Dir,
-}
-
-/// A fraction's absolute value, rounded up.
-fn size_of(fraction: &Frac) -> i128 {
-    fraction
-        .num()
-        .saturating_abs()
-        .checked_div(fraction.den())
-        .unwrap_or(0)
-        .saturating_add(1)
-}
-
-/// How many digits a number has.
-fn digits_of(number: i128) -> u32 {
-    for digits in 0..MOST_ROOM {
-        if power_of_ten(digits) > number {
-            return digits;
-        }
-    }
-    MOST_ROOM
 }
 
 impl Payoffs<'_> {
@@ -55,7 +32,7 @@ impl Payoffs<'_> {
     fn size_at(self, s: u32) -> i128 {
         let mut size = 0i128;
         for c in 0..self.choices(s) {
-            size = size.max(size_of(&self.reward(s, c)));
+            size = size.max(above_magnitude(&self.reward(s, c)));
         }
         size
     }

@@ -5,13 +5,11 @@ use crate::leaving::{leaving_rows, offset_rows};
 use crate::payoffs::Payoffs;
 use crate::values::{fractions, gain_in_unit, width};
 use mdp_bounds::MeanBoundsCert;
-use mdp_near::{
-    Backward, ChoiceFlags, Gathered, MOST_DIGITS, ends_inside, fraction, numbers, policy_of,
-};
+use mdp_near::{Backward, ChoiceFlags, Gathered, ends_inside, policy_of};
 use mdp_num::Memory;
 use mdp_refinement::{
-    Bound, EndGains, Nodes, Rows, Scale, Solution, Task, end_gains, flag_at, number, number_at,
-    power_of_ten, put, solve, value_at,
+    Bound, EndGains, MOST_DIGITS, Nodes, Rows, Scale, Solution, Task, end_gains, flag_at, fraction,
+    number, number_at, numbers, power_of_ten, put, solve, value_at,
 };
 use mdp_rows::{Dir, Marks, Model};
 use std::alloc::{AllocError, Global};

@@ -2,9 +2,8 @@
 
 ghost use Rattle.std.specs.Prelude.{◌≡◌, length, IfOk};
 
-use mdp_near::fraction;
 use mdp_num::Frac;
-use mdp_refinement::Bound;
+use mdp_refinement::{Bound, fraction};
 use mdp_rows::Dir;
 use std::alloc::{AllocError, Global};
 

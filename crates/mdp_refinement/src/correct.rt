@@ -18,6 +18,12 @@ const WINDOW: usize = 20;
 /// How many entries are looked at in all where elimination takes too long.
 const MOST_ENTRIES: usize = 3_000_000;
 
+/// How many sweeps are made, and then three more, before values go on by what changes come to that shrink evenly.
+const EVEN_SWEEPS: usize = 17;
+
+/// By how much the ratios of changes may differ that shrink evenly, as a part of what the last one lacks of 1.
+const EVEN: f64 = 0.1;
+
 /// How many policies are tried.
 const MOST_POLICIES: usize = 200;
 
@@ -159,20 +165,43 @@ impl<'a> Corrector<'a> {
         change
     }
 
-    /// Sweeps until the changes are small. Whether they became so; it stops where a forecast says that they won't.
-    fn sweep_on(&mut self, gains: &[f64], sweeps: usize, greedy: &mut [usize]) -> bool {
+    /// Sets all values to 0.
+    fn clear(&mut self) {
         for value in self.values.iter_mut() {
             *value = 0.0;
         }
+    }
+
+    /// Sweeps until the changes are small, at most so many times. Whether they became so.
+    fn sweep_some(&mut self, gains: &[f64], sweeps: usize, greedy: &mut [usize]) -> bool {
+        for _ in 0..sweeps {
+            let change = self.sweep(gains, greedy);
+            if change.most <= change.enough(self.unit) {
+                return true;
+            }
+        }
+        false
+    }
+
+    /// Adds to each value this multiple of what it has over the one before.
+    fn go_on(&mut self, more: f64, before: &[f64]) {
+        for (value, old) in self.values.iter_mut().zip(before) {
+            *value += more * (*value - *old);
+        }
+    }
+
+    /// Sweeps until the changes are small. Whether they became so; it stops where a forecast says that they won't.
+    fn sweep_on(&mut self, gains: &[f64], greedy: &mut [usize]) -> bool {
+        self.clear();
         let mut last = f64::INFINITY;
-        for sweep in 0..sweeps {
+        for sweep in 0..FEW_SWEEPS {
             let change = self.sweep(gains, greedy);
             let enough = change.enough(self.unit);
             if change.most <= enough {
                 return true;
             }
-            if sweeps <= FEW_SWEEPS && sweep % WINDOW == WINDOW - 1 {
-                let windows = sweeps.saturating_sub(sweep) / WINDOW;
+            if sweep % WINDOW == WINDOW - 1 {
+                let windows = FEW_SWEEPS.saturating_sub(sweep) / WINDOW;
                 if last.is_finite() && !is_promising(change.most, last, enough, windows) {
                     return false;
                 }
@@ -182,17 +211,68 @@ impl<'a> Corrector<'a> {
         false
     }
 
-    /// Corrections by sweeps. Whether they came to an end.
-    fn by_sweeps(
+    /// Sweeps three times more. What all further changes come to, as a multiple of the last one, where they shrink evenly.
+    fn sweep_evenly(
+        &mut self,
+        gains: &[f64],
+        greedy: &mut [usize],
+        before: &mut [f64],
+    ) -> Option<f64> {
+        let first = self.sweep(gains, greedy).most;
+        let second = self.sweep(gains, greedy).most;
+        for (old, value) in before.iter_mut().zip(&self.values) {
+            *old = *value;
+        }
+        let third = self.sweep(gains, greedy).most;
+        let ratio = third / second;
+        let left = 1.0 - ratio;
+        if left > 0.0 && (ratio - second / first).abs() <= EVEN * left {
+            return Some(ratio / left);
+        }
+        None
+    }
+
+    /// Sweeps many times, and lets the values go on where changes shrink evenly.
+    fn sweep_far(
         &mut self,
         alloc: Global,
         gains: &[f64],
         sweeps: usize,
-    ) -> Result<bool, AllocError> {
+        greedy: &mut [usize],
+    ) -> Result<(), AllocError> {
+        let mut before = vec![in alloc; 0.0; self.values.len()]?;
+        self.clear();
+        for _ in 0..sweeps / WINDOW {
+            if self.sweep_some(gains, EVEN_SWEEPS, greedy) {
+                break;
+            }
+            if let Some(more) = self.sweep_evenly(gains, greedy, &mut before) {
+                self.go_on(more, &before);
+            }
+        }
+        self.sweep_some(gains, EVEN_SWEEPS, greedy);
+        Ok(())
+    }
+
+    /// Corrections by few sweeps. Whether they came to an end.
+    fn by_few_sweeps(&mut self, alloc: Global, gains: &[f64]) -> Result<bool, AllocError> {
         let mut greedy = self.start.clone()?;
-        let is_settled = self.sweep_on(gains, sweeps, &mut greedy);
+        let is_settled = self.sweep_on(gains, &mut greedy);
         self.policy = proper(alloc, self.component, &greedy, &self.start)?;
         Ok(is_settled)
+    }
+
+    /// Corrections by many sweeps.
+    fn by_many_sweeps(
+        &mut self,
+        alloc: Global,
+        gains: &[f64],
+        sweeps: usize,
+    ) -> Result<(), AllocError> {
+        let mut greedy = self.start.clone()?;
+        self.sweep_far(alloc, gains, sweeps, &mut greedy)?;
+        self.policy = proper(alloc, self.component, &greedy, &self.start)?;
+        Ok(())
     }
 
     /// How much a row gains over the value of its node, for whoever chooses.
@@ -242,15 +322,14 @@ impl<'a> Corrector<'a> {
         Ok(())
     }
 
-    /// Corrections by sweeps alone, where elimination takes too long.
-    fn by_many_sweeps(&mut self, alloc: Global, gains: &[f64]) -> Result<bool, AllocError> {
+    /// Corrections by sweeps alone from now on, since elimination takes too long.
+    fn give_up_policies(&mut self, alloc: Global, gains: &[f64]) -> Result<(), AllocError> {
         let sweeps = MOST_ENTRIES
             .checked_div(self.component.size())
             .unwrap_or(0)
-            .max(FEW_SWEEPS + 1);
+            .max(FEW_SWEEPS);
         self.way = Way::ManySweeps(sweeps);
-        self.by_sweeps(alloc, gains, sweeps)?;
-        Ok(true)
+        self.by_many_sweeps(alloc, gains, sweeps)
     }
 
     /// Has the factors of the policy at hand. An improper policy gives way to the last one that was proper.
@@ -279,7 +358,10 @@ impl<'a> Corrector<'a> {
             let factored = self.factor(alloc)?;
             match factored {
                 Factored::Failed => return Ok(false),
-                Factored::Dense => return self.by_many_sweeps(alloc, gains),
+                Factored::Dense => {
+                    self.give_up_policies(alloc, gains)?;
+                    return Ok(true);
+                }
                 _ => self.evaluate(alloc, gains)?,
             }
             if factored == Factored::Back || !self.improve(gains) {
@@ -293,7 +375,7 @@ impl<'a> Corrector<'a> {
     pub(crate) fn correct(&mut self, alloc: Global, gains: &[f64]) -> Result<bool, AllocError> {
         match self.way {
             Way::FewSweeps => {
-                if self.by_sweeps(alloc, gains, FEW_SWEEPS)? {
+                if self.by_few_sweeps(alloc, gains)? {
                     return Ok(true);
                 }
                 self.way = Way::Policies;
@@ -301,7 +383,7 @@ impl<'a> Corrector<'a> {
             }
             Way::Policies => self.by_policies(alloc, gains),
             Way::ManySweeps(sweeps) => {
-                self.by_sweeps(alloc, gains, sweeps)?;
+                self.by_many_sweeps(alloc, gains, sweeps)?;
                 Ok(true)
             }
         }

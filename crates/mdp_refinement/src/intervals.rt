@@ -39,7 +39,7 @@ fn rounded(value: i128, unit: i128, bound: Bound) -> Option<i128> {
 }
 
 /// The greatest unit of nodes.
-fn greatest_unit(rows: &Rows, nodes: &[u32]) -> i128 {
+pub(crate) fn greatest_unit(rows: &Rows, nodes: &[u32]) -> i128 {
     let mut greatest = 1i128;
     for node in nodes {
         greatest = greatest.max(rows.unit_of(*node));

@@ -1,9 +1,11 @@
-//! Iterative refinement: residuals in whole numbers, corrections in floats, until the rows hold in whole numbers.
+//! Iterative refinement: residuals in whole numbers, corrections in floats, until the rows hold in whole numbers. Where that takes too long and each row
+//! leaves its component, all values are moved so far that the rows hold.
 
 use crate::bound::Task;
 use crate::component::Component;
-use crate::convert::nearest;
+use crate::convert::{nearest, to_float};
 use crate::correct::Corrector;
+use crate::intervals::greatest_unit;
 use crate::rows::{Rows, value_at};
 use std::alloc::{AllocError, Global};
 
@@ -21,6 +23,20 @@ const GROWTH: f64 = 1.5;
 
 /// How many corrections are made at least: the first has only the digits of a float.
 const LEAST_ROUNDS: u32 = 2;
+
+/// How many moves are tried of all values of a component.
+const MOST_MOVES: u32 = 4;
+
+/// By how much a move is greater than the one before, and the first than what rows lack.
+const MOVE_GROWTH: f64 = 1.001;
+
+/// What rows that are to hold lack at most, if one lacks something, and what they give at least to nodes outside.
+#[derive(Clone, Copy)]
+struct Lack {
+    is_there: bool,
+    most: f64,
+    exit: f64,
+}
 
 /// What stays the same in all rounds.
 #[derive(Clone, Copy)]
@@ -52,16 +68,66 @@ impl Setting<'_> {
         let mut all_hold = true;
         for (at, row) in self.component.rows.iter().enumerate() {
             let gap = self.rows.gap(self.rows.row(row.place)?, values)?;
-            if self.task.is_broken(gap.order) {
-                let chosen = policy.get(row.node as usize).copied();
-                if self.task.is_each() || chosen == Some(at) {
-                    all_hold = false;
-                }
+            if self.task.is_broken(gap.order) && self.is_to_hold(policy, row.node, at) {
+                all_hold = false;
             }
             let gain = gains.get_mut(at)?;
             *gain = gap.size + self.task.side() * room * row.slack;
         }
         Some(all_hold)
+    }
+
+    /// Whether the row at a place is to hold.
+    fn is_to_hold(self, policy: &[usize], node: u32, at: usize) -> bool {
+        self.task.is_each() || policy.get(node as usize).copied() == Some(at)
+    }
+
+    /// What the rows that are to hold lack. None past 128 bits.
+    fn lack(self, policy: &[usize], values: &[Option<i128>]) -> Option<Lack> {
+        let mut lack = Lack {
+            is_there: false,
+            most: 0.0,
+            exit: 1.0,
+        };
+        for (at, row) in self.component.rows.iter().enumerate() {
+            if self.is_to_hold(policy, row.node, at) {
+                let gap = self.rows.gap(self.rows.row(row.place)?, values)?;
+                lack.is_there = lack.is_there || self.task.is_broken(gap.order);
+                lack.most = lack.most.max(gap.size * self.task.side());
+                lack.exit = lack.exit.min(row.exit);
+            }
+        }
+        Some(lack)
+    }
+
+    /// Moves all values of the component so far that the rows hold which lack this, in steps of the greatest unit. None where a row doesn't leave it.
+    fn move_all(self, lack: Lack, growth: f64, values: &mut [Option<i128>]) -> Option<()> {
+        if !(lack.exit > 0.0) {
+            return None;
+        }
+        let unit = greatest_unit(self.rows, &self.component.nodes);
+        let least = lack.most * growth / (lack.exit * to_float(unit));
+        let steps = nearest(self.task.side() * (least + 1.0))?;
+        let more = steps.checked_mul(unit)?;
+        for node in &self.component.nodes {
+            let slot = values.get_mut(*node as usize)?;
+            *slot = Some((*slot)?.checked_add(more)?);
+        }
+        Some(())
+    }
+
+    /// Moves the values until the rows hold that are to hold, where each of those leaves the component. Whether they do.
+    fn move_until(self, policy: &[usize], values: &mut [Option<i128>]) -> Option<bool> {
+        let mut growth = MOVE_GROWTH;
+        for _ in 0..MOST_MOVES {
+            let lack = self.lack(policy, values)?;
+            if !lack.is_there {
+                return Some(true);
+            }
+            self.move_all(lack, growth, values)?;
+            growth *= 2.0;
+        }
+        Some(false)
     }
 
     /// Adds corrections to the values, rounded to the units. None where one is past 128 bits or not a number.
@@ -114,6 +180,9 @@ pub(crate) fn refine(
         if setting.add(corrector.values(), values).is_none() {
             return Ok(None);
         }
+    }
+    if setting.move_until(corrector.policy(), values) == Some(true) {
+        return Ok(Some(corrector.into_policy()));
     }
     Ok(None)
 }

@@ -56,13 +56,13 @@ pub struct Rows {
     entries: Vec<Entry>,
     node_digits: Vec<u32>,
     has_wide: Vec<bool>,
-    pending: Vec<Entry>,
+    pub(crate) pending: Vec<Entry>,
 }
 
 /// The numbers of a row that is pushed now, but for its entries.
 #[derive(Clone, Copy)]
-struct Numbers {
-    denominator: i128,
+pub(crate) struct Numbers {
+    pub(crate) denominator: i128,
     reward: i128,
     digits: u32,
 }
@@ -101,7 +101,7 @@ impl Rows {
     }
 
     /// Takes the entries of a row into `pending`, ordered by node. Whether all could be taken.
-    fn take_entries(
+    pub(crate) fn take_entries(
         &mut self,
         nodes: &Nodes,
         row: Row<'_>,
@@ -137,7 +137,11 @@ impl Rows {
 
     /// The numbers of a row with this reward; none where it is too wide.
     fn numbers_of(&self, row: Row<'_>, reward: &Frac) -> Option<Numbers> {
-        let denominator = common_denominator(reward.den(), row.probs)?;
+        self.numbers_over(common_denominator(reward.den(), row.probs)?, reward)
+    }
+
+    /// The numbers of a row of this denominator, a multiple of that of its reward; none where it is too wide.
+    pub(crate) fn numbers_over(&self, denominator: i128, reward: &Frac) -> Option<Numbers> {
         let earned = times_multiple(reward, denominator)?;
         if !is_narrow(earned) {
             return None;
@@ -155,7 +159,7 @@ impl Rows {
     }
 
     /// Appends the row whose entries are in `pending`. Where the row is too wide for all digits, its nodes get fewer.
-    fn push_pending(
+    pub(crate) fn push_pending(
         &mut self,
         state: u32,
         choice: u32,
@@ -205,14 +209,19 @@ impl Rows {
         row: Row<'_>,
         reward: &Frac,
     ) -> Result<(), AllocError> {
-        let node = self.last_node();
         if let Some(numbers) = self.numbers_of(row, reward) {
             if self.take_entries(nodes, row, numbers.denominator)? {
                 return self.push_pending(state, choice, numbers);
             }
         }
-        put(&mut self.has_wide, node, true);
+        self.note_wide();
         Ok(())
+    }
+
+    /// Notes that a row of the last node is too wide.
+    pub(crate) fn note_wide(&mut self) {
+        let node = self.last_node();
+        put(&mut self.has_wide, node, true);
     }
 
     /// Appends a row that stops with a value, in units, to the last node.

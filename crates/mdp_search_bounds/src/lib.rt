@@ -2,7 +2,6 @@
 //! those that say nothing.
 #![tactic(auto)]
 
-mod ladder;
 mod mean;
 mod reach;
 mod reward;

@@ -3,9 +3,9 @@ ghost use Rattle.mdp_spec.specs.Mdp.{states_of};
 ghost use Rattle.mdp_bounds.specs.Mean.{IsMeanBounds};
 ghost use Rattle.mdp_search_bounds.specs.Held.{HasMeanSizes, IsHeldMean};
 
-use crate::ladder::{Search, bounds_by};
 use crate::simplest::simplest_mean;
 use mdp_bounds::{MeanBoundsCert, Verdict, holds_bounds_mean};
+use mdp_ladder::{Search, bounds_by};
 use mdp_near_mean::near_mean;
 use mdp_num::Memory;
 use mdp_rows::{Dir, Model};

@@ -3,10 +3,10 @@ ghost use Rattle.mdp_spec.specs.Mdp.{states_of};
 ghost use Rattle.mdp_bounds.specs.Reach.{IsReachBounds};
 ghost use Rattle.mdp_search_bounds.specs.Held.{HasReachSizes, IsHeldReach};
 
-use crate::ladder::{Search, bounds_by};
 use crate::simplest::simplest_reach;
 use crate::trivial::trivial_reach;
 use mdp_bounds::{ReachBoundsCert, Verdict, holds_bounds_reach};
+use mdp_ladder::{Search, bounds_by};
 use mdp_near::near_reach;
 use mdp_num::Memory;
 use mdp_rows::{Dir, Marks, Model};

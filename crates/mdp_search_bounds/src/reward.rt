@@ -4,9 +4,9 @@ ghost use Rattle.mdp_rows.specs.Negative.{has_negative};
 ghost use Rattle.mdp_bounds.specs.Reward.{IsRewardBounds};
 ghost use Rattle.mdp_search_bounds.specs.Held.{HasRewardSizes, IsHeldReward};
 
-use crate::ladder::{Search, bounds_by};
 use crate::simplest::simplest_reward;
 use mdp_bounds::{RewardBoundsCert, Verdict, holds_bounds_reward};
+use mdp_ladder::{Search, bounds_by};
 use mdp_near::near_reward;
 use mdp_num::Memory;
 use mdp_rows::{Dir, Marks, Model};

@@ -1,130 +1,14 @@
-//! The simplest fractions between bounds, by continued fractions (Kwek and Mehlhorn 2003). Nothing rests on them: the rules judge what is made of them.
+//! Certificates with the simplest fractions between their bounds as exact values. Nothing rests on them: the rules judge them.
 
-ghost use Rattle.std.specs.Prelude.{◌≡◌, ◌<◌, length, IfOk};
-ghost use Rattle.mdp_spec.specs.Mdp.{states_of};
+ghost use Rattle.std.specs.Prelude.{IfOk};
 ghost use Rattle.mdp_search_bounds.specs.Held.{HasReachSizes, HasRewardSizes, HasMeanSizes};
 
 use mdp_bounds::{MeanBoundsCert, ReachBoundsCert, RewardBoundsCert};
+use mdp_ladder::{all_capped, all_simplest_near, simplest_rewards, simplest_values};
 use mdp_num::Frac;
 use mdp_rows::Model;
 use std::alloc::{AllocError, Global};
 use std::cmp::Ordering;
-
-/// How many terms of a continued fraction are looked at: fractions within 127 bits have fewer.
-const MOST_TERMS: u32 = 256;
-
-/// A fraction in whole numbers, not in lowest terms.
-#[derive(Clone, Copy)]
-struct Terms {
-    num: i128,
-    den: i128,
-}
-
-impl Terms {
-    /// Those of a fraction in lowest terms.
-    fn of(value: &Frac) -> Terms {
-        Terms {
-            num: value.num(),
-            den: value.den(),
-        }
-    }
-
-    /// The negation.
-    fn negated(self) -> Option<Terms> {
-        Some(Terms {
-            num: self.num.checked_neg()?,
-            den: self.den,
-        })
-    }
-
-    /// The greatest whole number that is at most a fraction of at least 0.
-    fn floor(self) -> Option<i128> {
-        self.num.checked_div(self.den)
-    }
-
-    /// The numerator of what is left without a whole number.
-    fn rest(self, whole: i128) -> Option<i128> {
-        self.num.checked_sub(whole.checked_mul(self.den)?)
-    }
-
-    /// The convergent after this one, which comes after `before`, where the continued fraction goes on with a term.
-    fn next(self, before: Terms, term: i128) -> Option<Terms> {
-        Some(Terms {
-            num: self.num.checked_mul(term)?.checked_add(before.num)?,
-            den: self.den.checked_mul(term)?.checked_add(before.den)?,
-        })
-    }
-}
-
-/// The fraction of least denominator from `lower` to `upper`, both at least 0, and of those the least. None where a term is past 128 bits.
-///
-/// As long as both have the same whole part it is a term of the continued fraction, and it goes on with the reciprocals of the rests, in turned order.
-fn simplest_from(lower: Terms, upper: Terms) -> Option<Frac> {
-    let mut low = lower;
-    let mut high = upper;
-    let mut before = Terms { num: 0, den: 1 };
-    let mut last = Terms { num: 1, den: 0 };
-    for _ in 0..MOST_TERMS {
-        let whole = low.floor()?;
-        let rest = low.rest(whole)?;
-        let over = high.rest(whole)?;
-        if rest == 0 || over >= high.den {
-            let term = if rest == 0 {
-                whole
-            } else {
-                whole.checked_add(1)?
-            };
-            let simplest = last.next(before, term)?;
-            return Frac::try_new(simplest.num, simplest.den).ok();
-        }
-        let convergent = last.next(before, whole)?;
-        before = last;
-        last = convergent;
-        let reciprocal = Terms {
-            num: low.den,
-            den: rest,
-        };
-        low = Terms {
-            num: high.den,
-            den: over,
-        };
-        high = reciprocal;
-    }
-    None
-}
-
-/// The fraction of least denominator from `lower` to `upper`, and of those the one nearest to 0. None where a term is past 128 bits.
-fn simplest_terms(lower: Terms, upper: Terms) -> Option<Frac> {
-    if lower.num > 0 {
-        return simplest_from(lower, upper);
-    }
-    if upper.num >= 0 {
-        return Some(Frac::whole(0));
-    }
-    let magnitude = simplest_from(upper.negated()?, lower.negated()?)?;
-    Some(magnitude.negate())
-}
-
-/// The simplest fraction from a lower to an upper value; the lower value where a term is past 128 bits.
-fn simplest_between(lower: &Frac, upper: &Frac) -> Frac {
-    simplest_terms(Terms::of(lower), Terms::of(upper)).unwrap_or(*lower)
-}
-
-/// The simplest fraction of each state.
-fn simplest_values(
-    alloc: Global,
-    states: u32,
-    lower: &[Frac],
-    upper: &[Frac],
-) -> Result<Vec<Frac>, AllocError>
-    requires lower { length lower.now ≡ states }
-    requires upper { length upper.now ≡ states }
-    ensures { IfOk result (λ values. length values.items ≡ states) }
-{
-    (0..states)
-        .map(|s| simplest_between(&lower[s as usize], &upper[s as usize]))
-        .collect(alloc)
-}
 
 /// The certificate with the simplest fractions between its bounds as lower and as upper values: where they are the exact values, the rules say yes to it.
 pub(crate) fn simplest_reach(
@@ -147,51 +31,6 @@ pub(crate) fn simplest_reach(
     })
 }
 
-/// The simplest fraction from a lower to an upper reward, where both are finite; else the lower one.
-fn simplest_reward_between(lower: Option<Frac>, upper: Option<Frac>) -> Option<Frac> {
-    match (lower, upper) {
-        (Some(least), Some(greatest)) => Some(simplest_between(&least, &greatest)),
-        _ => lower,
-    }
-}
-
-/// The value as an upper one, where there is a finite upper bound.
-fn capped(value: Option<Frac>, upper: Option<Frac>) -> Option<Frac> {
-    if upper.is_some() { value } else { None }
-}
-
-/// The simplest reward of each state.
-fn simplest_rewards(
-    alloc: Global,
-    states: u32,
-    lower: &[Option<Frac>],
-    upper: &[Option<Frac>],
-) -> Result<Vec<Option<Frac>>, AllocError>
-    requires lower { length lower.now ≡ states }
-    requires upper { length upper.now ≡ states }
-    ensures { IfOk result (λ values. length values.items ≡ states) }
-{
-    (0..states)
-        .map(|s| simplest_reward_between(lower[s as usize], upper[s as usize]))
-        .collect(alloc)
-}
-
-/// The values as upper ones: infinite where there is no finite upper bound.
-fn all_capped(
-    alloc: Global,
-    states: u32,
-    values: &[Option<Frac>],
-    upper: &[Option<Frac>],
-) -> Result<Vec<Option<Frac>>, AllocError>
-    requires values { length values.now ≡ states }
-    requires upper { length upper.now ≡ states }
-    ensures { IfOk result (λ capped. length capped.items ≡ states) }
-{
-    (0..states)
-        .map(|s| capped(values[s as usize], upper[s as usize]))
-        .collect(alloc)
-}
-
 /// The certificate with the simplest fractions between its finite bounds as lower and as upper values; infinite ones stay.
 pub(crate) fn simplest_reward(
     alloc: Global,
@@ -212,33 +51,6 @@ pub(crate) fn simplest_reward(
         choices,
         ranks,
     })
-}
-
-/// 10^-`digits`, for digits of at most 30.
-fn unit_of(digits: u32) -> Option<Frac> {
-    let den = 10i128.checked_pow(digits)?;
-    Frac::try_new(1, den).ok()
-}
-
-/// The simplest fraction from a value less the unit to the value plus the unit; the value where a term is past 128 bits.
-fn simplest_near(value: &Frac, unit: &Frac) -> Frac {
-    match (value.sub(unit), value.add(unit)) {
-        (Ok(lower), Ok(upper)) => {
-            simplest_terms(Terms::of(&lower), Terms::of(&upper)).unwrap_or(*value)
-        }
-        _ => *value,
-    }
-}
-
-/// The simplest fraction near each of these, as far as half of the digits.
-fn all_simplest_near(alloc: Global, values: &[Frac], digits: u32) -> Result<Vec<Frac>, AllocError>
-    ensures { IfOk result (λ simple. length simple.items ≡ length values.now) }
-{
-    let unit = unit_of(digits / 2).unwrap_or(Frac::whole(0));
-    values
-        .iter()
-        .map(|value| simplest_near(value, &unit))
-        .collect(alloc)
 }
 
 /// The greatest of the numbers, or for `Less` the least, and 0 of none.

@@ -12,7 +12,7 @@ const MOST_DIGITS: u32 = 30;
 const FEWER_DIGITS: [u32; 5] = [12, 9, 6, 3, 0];
 
 /// A search for bounds of one model, under one objective and direction.
-pub(crate) trait Search {
+pub trait Search {
     /// A certificate of such bounds.
     type Cert: Drop;
 
@@ -113,11 +113,7 @@ fn held_with_fewer<S: Search>(
 
 /// Bounds that meet the rules: exact values, where the simplest fractions between the bounds that the search proposes, with so many digits or with the
 /// most, are such; else these bounds, with so many digits or fewer; else those that say nothing.
-pub(crate) fn bounds_by<S: Search>(
-    alloc: Global,
-    search: &S,
-    digits: u32,
-) -> Result<S::Cert, Memory>
+pub fn bounds_by<S: Search>(alloc: Global, search: &S, digits: u32) -> Result<S::Cert, Memory>
     ensures { IfOk result (S.is_held search.now) }
 {
     let near = search.near(alloc, digits)?;

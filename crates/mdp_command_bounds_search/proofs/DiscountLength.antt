@@ -1,0 +1,123 @@
+-- The text of a certificate of bounds of discounted rewards has at most 2^30 bytes.
+use Rattle.std.proofs.Common.{◌≡◌, ℕ, ◌+◌, ◌*◌, ◌<◌, ◌≤◌, ◌^◌, true, List, [], ◌∷◌, ◌++◌, length, codes, decimal, Option, Some, None, IfSome, arith, lit<, ltb→lt, T, sym, subst}
+use Rattle.std.specs.Prelude.{IsTrue}
+use Rattle.std.specs.List.{AllByRecursion as Each}
+use Rattle.std.proofs.lemmas.List.{length-append}
+use Rattle.std.proofs.lemmas.List.Elements.{recursion_from_All}
+use Rattle.mdp_math.specs.Rational.{ℚ}
+use Rattle.mdp_num.specs.Value.{spelling, IsNarrow}
+use Rattle.mdp_text.proofs.Lengths.{number_short, spelling_short, blank_length, line_length, name_short, quoted_length, states_short}
+use Rattle.mdp_text.specs.Spelling.{line, ◌␣◌, quoted, states_text}
+use Rattle.mdp_rows.specs.Name.{is_name}
+use Rattle.mdp_rows.specs.declared.dir.Dir.{Dir}
+use Rattle.mdp_cert.specs.Claims.{reward_text}
+use Rattle.mdp_discount_text.specs.Spelling.{claim_text, remainder_text}
+use Rattle.mdp_discount_bounds.specs.Cert.{Certificate, Fits, IsValueNarrow, is_init}
+use Rattle.mdp_discount_bounds.specs.declared.init.InitialBounds.{InitialBounds}
+use Rattle.mdp_discount_bounds_text.specs.Entries.{lower_text, between_columns, IsEntryInWidth, entries_of}
+use Rattle.mdp_discount_bounds_text.specs.Spelling.{version_text, init_text, head_text, text_of}
+use Rattle.mdp_command.specs.Files.{most_bytes}
+use Rattle.mdp_command_bounds_search.proofs.TextLength.{two_words, lines_of, closed_short}
+
+-- ---- the lines before those of the states
+
+claim_short : (dir : Dir) (name : List ℕ) (f : ℚ) → is_name name ≡ true → IsNarrow f → length (claim_text dir name f) ≤ 600
+claim_short dir name f named narrow =
+    let a = two_words dir (codes "discount") (quoted name ␣ spelling f) in
+    let b = blank_length (quoted name) (spelling f) in
+    let q = quoted_length name in
+    let n = name_short name named in
+    let s = spelling_short f narrow in
+    omega (arith, a, b, q, n, s)
+
+lower_short : (v : Option ℚ) → IsValueNarrow v → length (lower_text v) ≤ 80
+lower_short None h = omega arith
+lower_short (Some x) h = spelling_short x h
+
+upper_short : (v : Option ℚ) → IsValueNarrow v → length (reward_text v) ≤ 80
+upper_short None h = omega arith
+upper_short (Some x) h = spelling_short x h
+
+init_short : (n : ℕ) (init : Option InitialBounds) → n ≤ 2 ^ 20 → IsTrue (is_init n init) → IfSome init (λ i. IsValueNarrow i.lower × IsValueNarrow i.upper)
+    → length (init_text init) ≤ 200
+init_short n None limit inside w = omega arith
+init_short n (Some i) limit inside w =
+    let p : 2 ^ 20 < 2 ^ 32 = lit< tt in
+    let below = ltb→lt i.state n (subst T (sym inside) tt) in
+    let a = blank_length (codes "init") (decimal i.state ␣ lower_text i.lower ␣ reward_text i.upper) in
+    let b = blank_length (decimal i.state) (lower_text i.lower ␣ reward_text i.upper) in
+    let c = blank_length (lower_text i.lower) (reward_text i.upper) in
+    let l = number_short i.state (omega (arith, limit, p, below)) in
+    let u = lower_short i.lower w.0 in
+    let v = upper_short i.upper w.1 in
+    omega (arith, a, b, c, l, u, v)
+
+remainder_short : (x : ℚ) → IsNarrow x → length (remainder_text x) ≤ 100
+remainder_short x h = let a = blank_length (codes "remainder") (spelling x) in let s = spelling_short x h in omega (arith, a, s)
+
+-- ---- the lines of the states
+
+between_short : (l u : List ℕ) (c : ℕ) → length l ≤ 80 → length u ≤ 80 → c < 2 ^ 32 → length (l ␣ (u ␣ decimal c)) ≤ 340
+between_short l u c hl hu hc =
+    let a = blank_length l (u ␣ decimal c) in
+    let b = blank_length u (decimal c) in
+    let y = number_short c hc in
+    omega (arith, a, b, hl, hu, y)
+
+entries_width : (ls us : List (Option ℚ)) (cs : List ℕ) → Each IsValueNarrow ls → Each IsValueNarrow us → Each (λ c. c < 2 ^ 32) cs → Each IsEntryInWidth (entries_of ls us cs)
+entries_width (l ∷ ls) (u ∷ us) (c ∷ cs) p q o = (record { lower = p.0; upper = q.0; choice = o.0 }, entries_width ls us cs p.1 q.1 o.1)
+entries_width [] us cs p q o = tt
+entries_width (l ∷ ls) [] cs p q o = tt
+entries_width (l ∷ ls) (u ∷ us) [] p q o = tt
+
+entries_count : (ls us : List (Option ℚ)) (cs : List ℕ) → length (entries_of ls us cs) ≤ length ls
+entries_count (l ∷ ls) (u ∷ us) (c ∷ cs) = let n = entries_count ls us cs in omega (arith, n)
+entries_count [] us cs = omega arith
+entries_count (l ∷ ls) [] cs = omega arith
+entries_count (l ∷ ls) (u ∷ us) [] = omega arith
+
+-- ---- the whole
+
+module _ (c : Certificate) (fits : Fits c) where
+  head_short : length (head_text c) ≤ 1200
+  head_short =
+      let p : 2 ^ 20 < 2 ^ 32 = lit< tt in
+      let few = fits.limit in
+      let claim = claim_text c.dir c.name c.factor in
+      let states = states_text (length c.lower) in
+      let init = init_text c.init in
+      let remainder = remainder_text c.remainder in
+      let a = length-append (line version_text) (line claim ++ (line states ++ (line init ++ line remainder))) in
+      let b = length-append (line claim) (line states ++ (line init ++ line remainder)) in
+      let d = length-append (line states) (line init ++ line remainder) in
+      let e = length-append (line init) (line remainder) in
+      let f = line_length claim in
+      let g = line_length states in
+      let h = line_length init in
+      let i = line_length remainder in
+      let j = claim_short c.dir c.name c.factor fits.named fits.factor_width in
+      let k = states_short (length c.lower) (omega (arith, few, p)) in
+      let l = init_short (length c.lower) c.init few fits.inside fits.init_width in
+      let m = remainder_short c.remainder fits.remainder_width in
+      omega (arith, a, b, d, e, f, g, h, i, j, k, l, m)
+
+  lines_short : length (lines_of between_columns (entries_of c.lower c.upper c.choices)) ≤ 380 * length c.lower + 4
+  lines_short =
+      let few = fits.limit in
+      let count = entries_count c.lower c.upper c.choices in
+      let l = closed_short between_columns IsEntryInWidth
+      (λ x h. between_short (lower_text x.lower) (reward_text x.upper) x.choice (lower_short x.lower h.lower) (upper_short x.upper h.upper) h.choice)
+      (entries_of c.lower c.upper c.choices) (omega (arith, count, few))
+      (entries_width c.lower c.upper c.choices (recursion_from_All IsValueNarrow c.lower fits.lower_width) (recursion_from_All IsValueNarrow c.upper fits.upper_width)
+      (recursion_from_All (λ x. x < 2 ^ 32) c.choices fits.choices_width)) in
+      omega (arith, l, count)
+
+  pub text_short : length (text_of c) ≤ most_bytes
+  unfolding text_of
+  text_short =
+      let few = fits.limit in
+      let h = head_short in
+      let l = lines_short in
+      let a = length-append (head_text c) (lines_of between_columns (entries_of c.lower c.upper c.choices)) in
+      let p : 380 * 2 ^ 20 + 2000 < 2 ^ 30 = lit< tt in
+      omega (arith, a, h, l, few, p)

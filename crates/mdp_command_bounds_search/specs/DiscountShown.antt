@@ -1,0 +1,46 @@
+-- What is shown of the text that `bounds` of a discounted reward prints.
+use Rattle.std.specs.Prelude.{◌≡◌, ℕ, ◌≤◌, List, length, Ok}
+use Rattle.mdp_math.specs.Rational.{ℚ}
+use Rattle.mdp_spec.specs.Mdp.{Mdp}
+use Rattle.mdp_rows.specs.declared.dir.Dir.{Dir}
+use Rattle.mdp_rows.specs.declared.rule.RowRule.{RowRule}
+use Rattle.mdp_discount_bounds.specs.Cert.{Certificate}
+use Rattle.mdp_discount_bounds.specs.Check.{answer_to, IsAccepted, IsBound}
+use Rattle.mdp_discount_bounds_text.specs.Reading.{outcome}
+use Rattle.mdp_discount_bounds_text.specs.Spelling.{text_of}
+use Rattle.mdp_command.specs.Accepted.{Checker, IsTrueClaimBy}
+use Rattle.mdp_command.specs.Files.{most_bytes}
+use Rattle.mdp_command.specs.Read.{IsWorkOnModel}
+use Rattle.mdp_command.specs.Said.{Said}
+use Rattle.mdp_command.specs.Streams.{Input}
+use Rattle.mdp_checking.specs.Kinds.{as_answer}
+use Rattle.mdp_command_bounds_search.specs.DiscountDue.{ClaimsSo, IsDiscountBoundsDue}
+
+-- the checker of certificates of bounds of discounted rewards
+abbrev pub discounted_between : Checker
+discounted_between = record {
+  meaning = record { Certificate = Certificate; outcome = outcome; IsBound = IsBound };
+  answer_to = λ m c. as_answer (answer_to m c);
+  IsAccepted = IsAccepted;
+}
+
+-- the text of a certificate of this claim for the model, which reads as it; all rules hold, and the claim is true
+pub record IsDiscountBoundsPrinted (dir : Dir) (name : List ℕ) (f : ℚ) (m : Mdp) (text : List ℕ) : Type 0 where
+  pub cert : Certificate
+  pub claim : ClaimsSo dir name f cert
+  pub spelled : text ≡ text_of cert
+  pub short : length text ≤ most_bytes
+  pub reads : outcome text ≡ Ok cert
+  pub holds : IsAccepted m cert
+  pub bound : IsBound m cert
+
+-- the checker accepts the text with the model's bytes, and its claim, which is this one, is true: the best discounted rewards lie between its lower and
+-- its upper values
+pub record IsDiscountBoundsSolved (rule : RowRule) (dir : Dir) (name : List ℕ) (f : ℚ) (model_bytes text : List ℕ) : Type 0 where
+  pub true_claim : IsTrueClaimBy discounted_between rule model_bytes text
+  pub claim : ClaimsSo dir name f true_claim.accepted.cert
+  pub spelled : text ≡ text_of true_claim.accepted.cert
+
+-- bounds of discounted rewards of the model of a source: what is due to the bytes that it had, and what is shown of a text; or a fault, or want of memory
+abbrev pub IsDiscountBoundsRead : RowRule → Dir → List ℕ → ℚ → Input → Said → Type 0
+IsDiscountBoundsRead rule dir name f = IsWorkOnModel rule (IsDiscountBoundsDue dir name f) (IsDiscountBoundsSolved rule dir name f)

@@ -1,0 +1,82 @@
+ghost use Rattle.std.specs.Prelude.{◌≡◌, ◌⊎◌, Ok, Err, OnOk, IfOk};
+ghost use Rattle.std.specs.Io.KnownBytes.{IsAtEnd};
+ghost use Rattle.mdp_discount_rules.specs.Rules.{IsFactor};
+ghost use Rattle.mdp_discount_bounds.specs.Plain.{plain};
+ghost use Rattle.mdp_discount_bounds_text.specs.Spelling.{text_of};
+ghost use Rattle.mdp_job.specs.Refusal.{no_memory};
+ghost use Rattle.mdp_command.specs.Said.{said};
+ghost use Rattle.mdp_command.specs.Streams.{input};
+ghost use Rattle.mdp_command_bounds_search.specs.DiscountDue.{IsDiscountBoundsDue};
+ghost use Rattle.mdp_command_bounds_search.specs.DiscountShown.{IsDiscountBoundsPrinted, IsDiscountBoundsRead};
+
+use crate::discount_certificate::certificate_of;
+use mdp_command::read_model;
+use mdp_discount_bounds::{DiscountBoundsCert, discount_bounds_law};
+use mdp_discount_bounds_text::{discount_bounds_text_law, write_discount_bounds};
+use mdp_edge::Source;
+use mdp_job::Refusal;
+use mdp_num::Frac;
+use mdp_rows::{Dir, Model, RowRule};
+use mdp_search_discount_bounds::bounds_discount;
+use std::alloc::Global;
+
+/// The text of a certificate.
+fn certificate_text(alloc: Global, cert: &DiscountBoundsCert) -> Result<Vec<u8>, Refusal>
+    ensures { (said result ≡ Err no_memory) ⊎ (said result ≡ Ok (text_of (plain cert.now))) }
+{
+    let mut text = Vec::new(alloc);
+    match write_discount_bounds(cert, &mut text) {
+        Ok(()) => Ok(text),
+        Err(_) => Err(Refusal::Memory),
+    }
+}
+
+/// The text of a certificate of bounds of the discounted rewards of a name, or the refusal of a name that isn't there.
+fn bounds_named(
+    alloc: Global,
+    model: &Model,
+    dir: Dir,
+    name: &[u8],
+    factor: Frac,
+    digits: u32,
+) -> Result<Vec<u8>, Refusal>
+    requires { IsFactor factor }
+    ensures due { (said result ≡ Err no_memory) ⊎ IsDiscountBoundsDue dir name.now factor model.now (said result) }
+    ensures printed { IfOk (said result) (IsDiscountBoundsPrinted dir name.now factor model.now) }
+{
+    model.known();
+    discount_bounds_law();
+    discount_bounds_text_law();
+    let Some(place) = model.reward_named(name) else {
+        return Err(Refusal::QueryReward);
+    };
+    let Ok(bounds) = bounds_discount(alloc, model, place, dir, &factor, digits) else {
+        return Err(Refusal::Memory);
+    };
+    let Ok(cert) = certificate_of(alloc, model, place, dir, name, factor, bounds) else {
+        return Err(Refusal::Memory);
+    };
+    certificate_text(alloc, &cert)
+}
+
+/// Reads the model to its end and judges its text, then looks for lower and upper values between which the greatest, or the least, rewards of this name
+/// lie, where a step later counts `factor` times as much. There are such bounds for every model that has the name, though values may be missing; with more
+/// digits the search tries for closer ones. The factor is at least 0 and below 1.
+pub fn bounds_discount_file<S: Source>(
+    alloc: Global,
+    rule: RowRule,
+    dir: Dir,
+    name: &[u8],
+    factor: Frac,
+    digits: u32,
+    model: &mut S,
+) -> Result<Vec<u8>, Refusal>
+    requires { IsFactor factor }
+    ensures read { IsDiscountBoundsRead rule dir name.now factor (input S.left S.faults model.old model.new) (said result) }
+    ensures end { OnOk (said result) (IsAtEnd (S.left model.new)) }
+{
+    match read_model(alloc, model, rule) {
+        Ok(model) => bounds_named(alloc, &model, dir, name, factor, digits),
+        Err(refusal) => Err(refusal),
+    }
+}

@@ -1,0 +1,187 @@
+ghost use Rattle.std.specs.Prelude.{◌≡◌, ◌<◌, length, IfOk};
+ghost use Rattle.mdp_spec.specs.Mdp.{states_of};
+
+use crate::extent::extent_of;
+use mdp_num::{Frac, Memory};
+use mdp_refinement::{
+    Bound, Discount, MOST_DIGITS, Nodes, Rows, Scale, Solution, Task, digits_of, fraction, numbers,
+    put, solve, value_at,
+};
+use mdp_rows::{Dir, Model};
+use std::alloc::{AllocError, Global};
+
+/// How many digits fewer are tried at a time.
+const FEWER_DIGITS: u32 = 3;
+
+/// Proposed bounds of discounted rewards: a lower value, an upper one and a choice for each state. Where there is no value nothing is claimed.
+#[derive(Drop)]
+pub struct NearDiscount {
+    pub lower: Vec<Option<Frac>>,
+    pub upper: Vec<Option<Frac>>,
+    pub choices: Vec<u32>,
+}
+
+/// What the solving of one bound came to, and of what rows.
+#[derive(Drop)]
+struct Attempt {
+    rows: Rows,
+    solution: Solution,
+}
+
+/// The parts of a search: each state is a node, and behind them comes one where nothing more is earned.
+#[derive(Clone, Copy)]
+struct Search<'m, 'a> {
+    model: &'m Model,
+    name: u32,
+    dir: Dir,
+    discount: Discount<'m>,
+    digits: u32,
+    room: u32,
+    nodes: &'a Nodes,
+    ghost named: { name < length model.now.names },
+}
+
+impl Search<'_, '_> {
+    /// Appends the rows of a state's choices.
+    fn push_state(self, rows: &mut Rows, s: u32) -> Result<(), AllocError>
+        requires { s < states_of self.model.now }
+    {
+        let model = self.model;
+        for c in 0..model.choices(s) {
+            let reward = model.reward(self.name, s, c);
+            rows.push_discounted_row(self.nodes, s, c, model.row(s, c), &reward, self.discount)?;
+        }
+        Ok(())
+    }
+
+    /// The rows of all choices, for values of so many digits.
+    fn rows(self, alloc: Global, digits: u32) -> Result<Rows, AllocError> {
+        let scale = Scale {
+            digits,
+            room: self.room,
+        };
+        let mut rows = Rows::empty(alloc, self.nodes.count(), scale)?;
+        for s in 0..self.model.states() {
+            rows.push_node()?;
+            self.push_state(&mut rows, s)?;
+        }
+        rows.push_node()?;
+        Ok(rows)
+    }
+
+    /// Solves for a bound, with values of so many digits.
+    fn attempt(
+        self,
+        alloc: Global,
+        bound: Bound,
+        digits: u32,
+        to_end: bool,
+    ) -> Result<Attempt, AllocError> {
+        let rows = self.rows(alloc, digits)?;
+        let mut given = vec![in alloc; None; self.nodes.count() as usize]?;
+        put(&mut given, self.discount.end, Some(0));
+        let task = Task {
+            dir: self.dir,
+            bound,
+            anyway: None,
+            to_end,
+        };
+        let solution = solve(alloc, &rows, &given, task)?;
+        Ok(Attempt { rows, solution })
+    }
+
+    /// Solves for a bound with all digits, or with fewer, the most for which each component can be refined, or else as far as it goes.
+    fn solve(self, alloc: Global, bound: Bound) -> Result<Attempt, AllocError> {
+        let mut digits = self.digits;
+        for _ in 0..MOST_DIGITS {
+            let attempt = self.attempt(alloc, bound, digits, false)?;
+            if attempt.solution.is_full {
+                return Ok(attempt);
+            }
+            if digits == 0 {
+                break;
+            }
+            digits = digits.saturating_sub(FEWER_DIGITS);
+        }
+        self.attempt(alloc, bound, self.digits, true)
+    }
+}
+
+impl Attempt {
+    /// The value of a state, if one was found.
+    fn value_of(&self, s: u32) -> Option<Frac> {
+        let value = value_at(&self.solution.values, s)?;
+        Some(fraction(value, self.rows.one()))
+    }
+
+    /// The values of the states.
+    fn values(&self, alloc: Global, states: u32) -> Result<Vec<Option<Frac>>, AllocError>
+        ensures { IfOk result (λ list. length list.items ≡ states) }
+    {
+        (0..states).map(|s| self.value_of(s)).collect(alloc)
+    }
+
+    /// The choice of a row that was picked; the first where none was.
+    fn choice_of(&self, pick: Option<usize>) -> u32 {
+        match pick.and_then(|place| self.rows.row(place)) {
+            Some(row) => row.choice,
+            None => 0,
+        }
+    }
+
+    /// The choices of the nodes.
+    fn choices(&self, alloc: Global) -> Result<Vec<u32>, AllocError> {
+        self.solution
+            .picks
+            .iter()
+            .map(|pick| self.choice_of(*pick))
+            .collect(alloc)
+    }
+}
+
+/// Proposes bounds of the greatest or the least sums of rewards of the name of place `name` where a step later counts `factor` times as much, as multiples of
+/// 10 to the power of -`digits` where the rows allow it, with a policy.
+///
+/// In each row what a step later counts less leads to a node where nothing more is earned. So each policy leaves its component, and components are solved,
+/// successors first, as for the reward until a goal.
+pub fn near_discount(
+    alloc: Global,
+    model: &Model,
+    name: u32,
+    dir: Dir,
+    factor: &Frac,
+    digits: u32,
+) -> Result<NearDiscount, Memory>
+    requires name { name < length model.now.names }
+    ensures lower { IfOk result (λ near. length near.lower.items ≡ states_of model.now) }
+    ensures upper { IfOk result (λ near. length near.upper.items ≡ states_of model.now) }
+    ensures choices { IfOk result (λ near. length near.choices.items ≡ states_of model.now) }
+{
+    model.known();
+    let states = model.states();
+    let parts = vec![in alloc; None; (states as usize).saturating_add(1)]?;
+    let nodes = Nodes::new(alloc, &parts)?;
+    let search = Search {
+        model,
+        name,
+        dir,
+        discount: Discount {
+            factor,
+            end: states,
+        },
+        digits: digits.min(MOST_DIGITS),
+        room: digits_of(extent_of(model, name, factor).unwrap_or(i128::MAX)),
+        nodes: &nodes,
+    };
+    let low = search.solve(alloc, Bound::Lower)?;
+    let high = search.solve(alloc, Bound::Upper)?;
+    let choices = match dir {
+        Dir::Max => low.choices(alloc)?,
+        Dir::Min => high.choices(alloc)?,
+    };
+    Ok(NearDiscount {
+        lower: low.values(alloc, states)?,
+        upper: high.values(alloc, states)?,
+        choices: numbers(alloc, states, &choices)?,
+    })
+}
