@@ -7,15 +7,24 @@
     layers STATES     layers of 64 states with two choices each, whose probabilities have two decimals, to states of the next two layers; behind the last
                       one a goal, which leads to the first state: the least probability of a goal with care, the least expected cost until a goal, and the
                       greatest mean cost of a step
+    mean STATES       the last of these alone
+    random STATES     three choices each, to four states that are drawn from all: the greatest and the least mean cost of a step
+    random_7 STATES   the same with denominators of 7 digits, and rewards of three digits
 
-For each query: the states and transitions; the time of the whole program at DIGITS digits, reading and writing too, and the greatest finite gap between
-lower and upper; what `bounds-check` says, and its time; and the time of the iteration alone. For a probability that is interval iteration until its
-greatest gap is at most GAP (states to which the graph gives 0 are at 0 from the start, as its upper values would not fall there). For a reward it is
-value iteration from 0 until no value changes by more than GAP, for a mean payoff relative value iteration until the least and the greatest change are
-within GAP: these two bound nothing. LIMIT seconds end an iteration. The gap of `bounds` is about the expected number of steps times 10^-DIGITS.
+For each query: the states and transitions; the time of the whole program at DIGITS digits, reading and writing too, its peak memory for a transition, and
+the greatest finite gap between lower and upper; what `bounds-check` says, and its time; and the time of the iteration alone, over the states as they are
+numbered. For a probability that is interval iteration until its greatest gap is at most GAP (states to which the graph gives 0 are at 0 from the start,
+as its upper values would not fall there). For a reward it is value iteration from 0 until no value changes by more than GAP, and then upper values, GAP
+above, that are iterated too until they all fall, so that they are bounds; where they rise, it goes on from below to half of that change (optimistic value
+iteration, Hartmanns and Kaminski 2020). For a mean payoff it is relative value iteration until the least and the greatest change are within GAP. LIMIT
+seconds end an iteration.
+The gap is set beside the number of steps: for a probability or a reward the greatest expected number of steps, under the policy that was found, until a
+state whose value is decided (a goal, or lower = upper = 0 or 1), by an evaluation in floats. `gap over steps` is the gap in units of 10^-DIGITS over that
+number, for a mean payoff the gap in these units.
 Usage: bench/bounds.py [coin BOUND | roulette GOAL | layers STATES ..] (some of each if nothing is said). It needs gcc.
 """
 
+import os
 import pathlib
 import random
 import struct
@@ -33,11 +42,14 @@ from drn_model import Model  # noqa: E402
 
 PROGRAM = TOP / "bin" / "mdp"
 DIGITS, GAP, LIMIT, WIDTH = 12, "1e-6", 60, 64
-MODELS = "coin 2 coin 10 coin 50 roulette 100 roulette 1000 layers 1000 layers 10000 layers 100000"
+MODELS = "coin 2 coin 10 coin 50 roulette 100 roulette 1000 layers 1000 layers 10000 layers 100000 random 400 random 1000 random 2000 random_7 400 random_7 2000"
 QUERIES = {
     "coin": ["min reach heads", "max reward steps finished"],
     "roulette": ["max reach rich"],
     "layers": ["min reach careful", "min reward cost goal", "max mean cost"],
+    "mean": ["max mean cost"],
+    "random": ["max mean cost", "min mean cost"],
+    "random_7": ["max mean cost", "min mean cost"],
 }
 
 ITERATION = r"""
@@ -45,7 +57,12 @@ ITERATION = r"""
 #include <stdlib.h>
 #include <time.h>
 static void *numbers(FILE *f, int n, int size) { void *v = malloc((size_t)size * n + 1); if (fread(v, size, n, f) != (size_t)n) exit(1); return v; }
-static double backup(int s, int least, const int *first, const int *row, const int *to, const double *p, const double *reward, const double *x) {
+static int n, kind, least, *head, *first, *row, *to, *fixed;
+static double *p, *reward, *low, *high, worst = 1e300, limit;
+static long sweeps = 0;
+static clock_t start;
+static double spent(void) { return (double)(clock() - start) / CLOCKS_PER_SEC; }
+static double backup(int s, const double *x) {
     double best = least ? 1e300 : -1e300;
     for (int c = first[s]; c < first[s + 1]; c++) {
         double sum = reward[c];
@@ -54,37 +71,94 @@ static double backup(int s, int least, const int *first, const int *row, const i
     }
     return best;
 }
-int main(int argc, char **argv) {
-    FILE *f = fopen(argv[1], "rb");
-    double gap = atof(argv[2]), limit = atof(argv[3]), worst = 1e300;
-    int *head = numbers(f, 5, 4), n = head[0], kind = head[4];
-    int *first = numbers(f, n + 1, 4), *row = numbers(f, head[1] + 1, 4), *to = numbers(f, head[2], 4), *fixed = numbers(f, n, 4);
-    double *p = numbers(f, head[2], 8), *reward = numbers(f, head[1], 8), *low = calloc(n, 8), *high = calloc(n, 8);
-    if (kind == 0) for (int s = 0; s < n; s++) { low[s] = fixed[s] == 1; high[s] = fixed[s] != 0; }
-    clock_t start = clock();
-    long sweeps = 0;
-    while (worst > gap && (double)(clock() - start) / CLOCKS_PER_SEC < limit) {
-        double least = 1e300, greatest = -1e300;
+/* One sweep over the states that aren't fixed. The greatest rise and the greatest fall. */
+static void sweep(double *x, const int *order, double *rise, double *fall) {
+    *rise = *fall = 0;
+    for (int k = 0; k < n; k++) {
+        int s = order ? order[k] : k;
+        if (fixed[s] >= 0) continue;
+        double change = backup(s, x) - x[s];
+        x[s] += change;
+        if (change > *rise) *rise = change;
+        if (-change > *fall) *fall = -change;
+    }
+    sweeps++;
+}
+static void reach(double gap) {
+    for (int s = 0; s < n; s++) { low[s] = fixed[s] == 1; high[s] = fixed[s] != 0; }
+    while (worst > gap && spent() < limit) {
+        worst = 0;
         for (int s = 0; s < n; s++) {
-            double before = low[s], change;
-            if (kind == 2) {
-                high[s] = backup(s, head[3], first, row, to, p, reward, low);
-                change = high[s] - before;
-            } else if (fixed[s] >= 0) {
-                continue;
-            } else {
-                low[s] = backup(s, head[3], first, row, to, p, reward, low);
-                if (kind == 0) high[s] = backup(s, head[3], first, row, to, p, reward, high);
-                change = kind == 0 ? high[s] - low[s] : low[s] > before ? low[s] - before : before - low[s];
-            }
-            if (change < least) least = change;
-            if (change > greatest) greatest = change;
+            if (fixed[s] >= 0) continue;
+            low[s] = backup(s, low);
+            high[s] = backup(s, high);
+            if (high[s] - low[s] > worst) worst = high[s] - low[s];
         }
-        if (kind == 2) { double zero = high[0]; for (int s = 0; s < n; s++) low[s] = (low[s] + high[s] - zero) / 2; }
-        worst = kind == 2 ? greatest - least : greatest;
         sweeps++;
     }
-    printf("%.3f %ld %g\n", (double)(clock() - start) / CLOCKS_PER_SEC, sweeps, worst);
+}
+static void total(double gap) {
+    double enough = gap, rise, fall;
+    while (spent() < limit) {
+        do sweep(low, 0, &rise, &fall); while (rise > enough && spent() < limit);
+        for (int s = 0; s < n; s++) high[s] = low[s] + (fixed[s] < 0 ? gap : 0);
+        long most = sweeps / 10 + 10;
+        for (long k = 0; k < most && spent() < limit; k++) {
+            sweep(high, 0, &rise, &fall);
+            if (rise == 0 || fall == 0) break;
+        }
+        if (rise == 0) break;
+        enough /= 2;
+    }
+    if (rise == 0) { worst = 0; for (int s = 0; s < n; s++) if (high[s] - low[s] > worst) worst = high[s] - low[s]; }
+}
+static void mean(double gap) {
+    while (worst > gap && spent() < limit) {
+        double lowest = 1e300, greatest = -1e300;
+        for (int s = 0; s < n; s++) {
+            high[s] = backup(s, low);
+            double change = high[s] - low[s];
+            if (change < lowest) lowest = change;
+            if (change > greatest) greatest = change;
+        }
+        double zero = high[0];
+        for (int s = 0; s < n; s++) low[s] = (low[s] + high[s] - zero) / 2;
+        worst = greatest - lowest;
+        sweeps++;
+    }
+}
+/* The greatest value, from below, by sweeps in the order in which a search in depth leaves the states. */
+static void steps(double gap) {
+    int *order = malloc(4 * n + 4), *path = malloc(4 * n + 4), *next = malloc(4 * n + 4), done = 0;
+    char *met = calloc(n, 1);
+    for (int root = 0; root < n; root++) {
+        int depth = 0;
+        if (met[root]) continue;
+        met[root] = 1, next[root] = row[first[root]], path[depth++] = root;
+        while (depth) {
+            int s = path[depth - 1];
+            if (next[s] == row[first[s + 1]]) { order[done++] = s; depth--; continue; }
+            int t = to[next[s]++];
+            if (!met[t]) met[t] = 1, next[t] = row[first[t]], path[depth++] = t;
+        }
+    }
+    double rise, fall;
+    do {
+        sweep(low, order, &rise, &fall);
+        worst = 1;
+        for (int s = 0; s < n; s++) if (low[s] > worst) worst = low[s];
+    } while (rise > gap * worst && spent() < limit);
+}
+int main(int argc, char **argv) {
+    FILE *f = fopen(argv[1], "rb");
+    double gap = atof(argv[2]);
+    limit = atof(argv[3]);
+    head = numbers(f, 5, 4), n = head[0], least = head[3], kind = head[4];
+    first = numbers(f, n + 1, 4), row = numbers(f, head[1] + 1, 4), to = numbers(f, head[2], 4), fixed = numbers(f, n, 4);
+    p = numbers(f, head[2], 8), reward = numbers(f, head[1], 8), low = calloc(n, 8), high = calloc(n, 8);
+    start = clock();
+    if (kind == 0) reach(gap); else if (kind == 1) total(gap); else if (kind == 2) mean(gap); else steps(gap);
+    printf("%.3f %ld %g\n", spent(), sweeps, worst);
 }
 """
 
@@ -122,8 +196,27 @@ def packed(model, query):
             row.append(len(to))
         first.append(len(row) - 1)
     fixed = [1 if s in goals else 0 if s in zero else -1 for s in range(len(model.choices))]
-    numbers = [len(fixed), len(row) - 1, len(to), int(least), kind, *first, *row, *to, *fixed]
+    return laid(first, row, to, fixed, int(least), kind, probs, rewards)
+
+
+def laid(first, row, to, fixed, least, kind, probs, rewards):
+    numbers = [len(fixed), len(row) - 1, len(to), least, kind, *first, *row, *to, *fixed]
     return struct.pack(f"={len(numbers)}i{len(probs) + len(rewards)}d", *numbers, *probs, *rewards)
+
+
+def packed_policy(model, query, found):
+    """The policy that was found: one choice for each state, each a step, until a goal or a value that is 0 or 1 for sure."""
+    goals = model.labels[query[-1].encode()]
+    decided = ("0", "1") if query[1] == "reach" else ("inf",)
+    done = [s in goals or low == high and low in decided for s, (low, high, _) in enumerate(found)]
+    first, row, to, probs = [0], [0], [], []
+    for choices, (_, _, choice) in zip(model.choices, found, strict=True):
+        _, entries = choices[min(choice, len(choices) - 1)]
+        to += [target for target, _ in entries]
+        probs += [float(prob) for _, prob in entries]
+        row.append(len(to))
+        first.append(len(row) - 1)
+    return laid(first, row, to, [0 if d else -1 for d in done], 0, 3, probs, [1.0] * (len(row) - 1))
 
 
 def layers(states):
@@ -143,39 +236,81 @@ def layers(states):
         yield f"state {s} goal" + " careful" * (s == states - 1) + "\naction [0]\n0 : 1"
 
 
+def drawn(states, denominator):
+    """The text of a random model: random numbers from the number of states."""
+    draw = random.Random(states)
+    digits = len(str(denominator)) - 1
+    yield "\n".join(["@type: MDP", "@parameters", "", "@reward_models", "cost", "@nr_states", str(states), "@model"])
+    for s in range(states):
+        yield f"state {s}" + " init" * (s == 0)
+        for _ in range(3):
+            targets = sorted({draw.randrange(states) for _ in range(4)})
+            cuts = sorted(draw.sample(range(1, denominator), len(targets) - 1))
+            parts = [high - low for low, high in zip([0, *cuts], [*cuts, denominator])]
+            yield f"action [{draw.randrange(1000)}]"
+            yield from (f"{target} : 0.{part:0{digits}}" if part < denominator else f"{target} : 1" for target, part in zip(targets, parts))
+
+
 def text_of(kind, size):
-    if kind == "layers":
+    if kind in ("layers", "mean"):
         return ("\n".join(layers(int(size))) + "\n").encode()
+    if kind in ("random", "random_7"):
+        return ("\n".join(drawn(int(size), 100 if kind == "random" else 10**7)) + "\n").encode()
     script, words = {"coin": ("shared_coin.py", ["2", size]), "roulette": ("roulette.py", [str(int(size) // 2), size])}[kind]
     return subprocess.run([sys.executable, TOP / "examples" / script, *words], stdout=subprocess.PIPE, check=True).stdout
 
 
 def timed(words):
+    """What a command writes, its time in seconds, and its peak memory in bytes."""
     start = time.monotonic()
-    text = subprocess.run(words, stdout=subprocess.PIPE, check=False).stdout
-    return text, time.monotonic() - start
+    with subprocess.Popen(words, stdout=subprocess.PIPE) as process:
+        text = process.stdout.read()
+        _, _, usage = os.wait4(process.pid, 0)
+        process.returncode = 0
+    return text, time.monotonic() - start, usage.ru_maxrss * 1024
 
 
-def gap_of(text):
-    """The greatest finite gap, and how many lines have an infinite upper value with a finite lower one."""
-    pairs = [line.split(" ")[2 if line.startswith("state") else 3 :][:2] for line in text.decode().split("\n") if line.startswith(("state ", "run "))]
-    finite = [Fraction(high) - Fraction(low) for low, high in pairs if "inf" not in (low, high)]
-    return max(finite, default=0), sum(high == "inf" != low for low, high in pairs)
+def columns(text, place):
+    """For each state its lower and its upper value, and its choice, which stands at this place behind the number of a state."""
+    for line in text.decode().split("\n"):
+        name, *words = line.split(" ")
+        if name in ("state", "run"):
+            numbers = 2 if name == "run" else 1
+            times = int(words[1]) + 1 - int(words[0]) if name == "run" else 1
+            values = words[numbers:]
+            yield from [(values[0], values[1], int(values[place]))] * times
+
+
+def gap_of(found):
+    """The greatest finite gap, and how many upper values are infinite where the lower one is finite."""
+    finite = [Fraction(high) - Fraction(low) for low, high in {(low, high) for low, high, _ in found} if "inf" not in (low, high)]
+    return max(finite, default=0), sum(high == "inf" != low for low, high, _ in found)
+
+
+def iterated(folder, binary, gap):
+    return subprocess.run([folder / "iteration", binary, gap, str(LIMIT)], stdout=subprocess.PIPE, check=True, text=True).stdout.split()
 
 
 def measure(kind, size, query, path, folder):
     cert, binary = folder / "cert", folder / "packed"
-    text, seconds = timed([PROGRAM, "bounds", path, "exact", *query, str(DIGITS)])
+    text, seconds, memory = timed([PROGRAM, "bounds", path, "exact", *query, str(DIGITS)])
     cert.write_bytes(text)
-    said, checking = timed([PROGRAM, "bounds-check", path, "exact", cert])
+    said, checking, _ = timed([PROGRAM, "bounds-check", path, "exact", cert])
     model = Model(path.read_bytes(), False)
+    found = list(columns(text, 4 if query[1] == "mean" else 2))
+    gap, unbounded = gap_of(found)
+    if query[1] == "mean":
+        over = f"{float(gap * 10**DIGITS):.3g} units"
+    else:
+        binary.write_bytes(packed_policy(model, query, found))
+        spent, _, steps = iterated(folder, binary, "1e-9")
+        over = f"{'at least ' * (float(spent) >= LIMIT)}{float(steps):.4g} steps, gap over steps {float(gap * 10**DIGITS) / float(steps):.3g}"
     binary.write_bytes(packed(model, query))
-    iterated = subprocess.run([folder / "iteration", binary, GAP, str(LIMIT)], stdout=subprocess.PIPE, check=True, text=True).stdout.split()
+    iteration = iterated(folder, binary, GAP)
     transitions = sum(len(row) for choices in model.choices for _, row in choices)
-    gap, unbounded = gap_of(text)
-    print(f"{kind} {size}, {' '.join(query)}: {len(model.choices)} states, {transitions} transitions; bounds {seconds:.2f} s, gap {float(gap):.2e}"
-          + f" and {unbounded} upper values inf" * (unbounded > 0)
-          + f"; bounds-check {said.decode().strip()} in {checking:.2f} s; iteration {iterated[0]} s, {iterated[1]} sweeps, gap {iterated[2]}", flush=True)
+    print(f"{kind} {size}, {' '.join(query)}: {len(model.choices)} states, {transitions} transitions; bounds {seconds:.2f} s, {memory / transitions:.0f} B a transition,"
+          + f" gap {float(gap):.2e}, {over}" + f" and {unbounded} upper values inf" * (unbounded > 0)
+          + f"; bounds-check {said.decode().strip()} in {checking:.2f} s; iteration {iteration[0]} s, {iteration[1]} sweeps, gap {iteration[2]}", flush=True)
 
 
 def main():

@@ -19,8 +19,8 @@ use mdp_rows::{Dir, Marks, Model};
 use std::alloc::{AllocError, Global};
 use std::cmp::Ordering;
 
-/// How many digits before the point the rows leave room for, one after the other, until the values have room.
-const ROOMS: [u32; 3] = [0, 4, 8];
+/// How many digits before the point the rows leave room for, one after the other, until the values have room; at first for none.
+const ROOMS: [u32; 2] = [4, 8];
 
 /// The room with which fewer digits are tried.
 const MOST_ROOM: u32 = 8;
@@ -31,12 +31,43 @@ const FEWER_DIGITS: u32 = 3;
 /// How many of the digits of values a reward may have that is taken for 0, where those above 0 are too small to be seen.
 const UNSEEN_DIGITS: u32 = 4;
 
-/// What the solving of one bound came to, and of what nodes and rows.
+/// Nodes and their rows.
 #[derive(Drop)]
-struct Attempt {
+struct Laid {
     nodes: Nodes,
     rows: Rows,
+}
+
+/// What the solving of one bound came to, with nodes and rows of its own.
+#[derive(Drop)]
+struct Own {
+    laid: Laid,
     solution: Solution,
+}
+
+/// What the solving of one bound came to, with nodes and rows that are shared, unless it has its own.
+#[derive(Drop)]
+struct Attempt {
+    own: Option<Laid>,
+    solution: Solution,
+}
+
+impl Attempt {
+    /// With nodes and rows of its own.
+    fn of_own(found: Own) -> Attempt {
+        Attempt {
+            own: Some(found.laid),
+            solution: found.solution,
+        }
+    }
+
+    /// Its nodes and rows, or the shared ones.
+    fn laid<'a>(&'a self, shared: &'a Laid) -> &'a Laid {
+        match &self.own {
+            Some(laid) => laid,
+            None => shared,
+        }
+    }
 }
 
 /// What the search came to: values, choices and ranks, for each state.
@@ -147,19 +178,29 @@ impl Search<'_, '_> {
         Ok(given)
     }
 
-    /// Solves for a bound, with values of this scale.
-    fn attempt(
-        self,
-        alloc: Global,
-        parts: &[Option<u32>],
-        bound: Bound,
-        scale: Scale,
-        to_end: bool,
-    ) -> Result<Attempt, AllocError> {
+    /// The nodes and rows for values of this scale.
+    fn laid(self, alloc: Global, parts: &[Option<u32>], scale: Scale) -> Result<Laid, AllocError> {
         let nodes = Nodes::new(alloc, parts)?;
         let rows = self
             .earning
             .rows(alloc, &nodes, self.is_open, self.is_finite, scale)?;
+        Ok(Laid { nodes, rows })
+    }
+
+    /// The nodes and rows for values with all digits, without room before the point.
+    fn first(self, alloc: Global, parts: &[Option<u32>]) -> Result<Laid, AllocError> {
+        let digits = self.digits;
+        self.laid(alloc, parts, Scale { digits, room: 0 })
+    }
+
+    /// Solves for a bound.
+    fn solved(
+        self,
+        alloc: Global,
+        laid: &Laid,
+        bound: Bound,
+        to_end: bool,
+    ) -> Result<Solution, AllocError> {
         let task = Task {
             dir: self.dir,
             bound,
@@ -169,12 +210,7 @@ impl Search<'_, '_> {
             },
             to_end,
         };
-        let solution = solve(alloc, &rows, &self.given(alloc, &nodes)?, task)?;
-        Ok(Attempt {
-            nodes,
-            rows,
-            solution,
-        })
+        solve(alloc, &laid.rows, &self.given(alloc, &laid.nodes)?, task)
     }
 
     /// Solves for a bound, if each component can be refined with values of this scale.
@@ -184,10 +220,11 @@ impl Search<'_, '_> {
         parts: &[Option<u32>],
         bound: Bound,
         scale: Scale,
-    ) -> Result<Option<Attempt>, AllocError> {
-        let attempt = self.attempt(alloc, parts, bound, scale, false)?;
-        if attempt.solution.is_full {
-            Ok(Some(attempt))
+    ) -> Result<Option<Own>, AllocError> {
+        let laid = self.laid(alloc, parts, scale)?;
+        let solution = self.solved(alloc, &laid, bound, false)?;
+        if solution.is_full {
+            Ok(Some(Own { laid, solution }))
         } else {
             Ok(None)
         }
@@ -199,7 +236,7 @@ impl Search<'_, '_> {
         alloc: Global,
         parts: &[Option<u32>],
         bound: Bound,
-    ) -> Result<Option<Attempt>, AllocError> {
+    ) -> Result<Option<Own>, AllocError> {
         let mut digits = self.digits;
         for _ in 0..self.digits {
             if digits == 0 {
@@ -210,47 +247,67 @@ impl Search<'_, '_> {
                 digits,
                 room: MOST_ROOM,
             };
-            if let Some(attempt) = self.full_attempt(alloc, parts, bound, scale)? {
-                return Ok(Some(attempt));
+            if let Some(found) = self.full_attempt(alloc, parts, bound, scale)? {
+                return Ok(Some(found));
             }
         }
         Ok(None)
     }
 
-    /// Solves for a bound: with all digits and the least room for which each component can be refined, or with fewer, or else as far as it goes.
+    /// Solves for a bound: with all digits and the least room for which each component can be refined, or with fewer, or else as far as it goes. `first`
+    /// has the rows without room.
     fn solve(
         self,
         alloc: Global,
         parts: &[Option<u32>],
+        first: &Laid,
         bound: Bound,
     ) -> Result<Attempt, AllocError> {
         let digits = self.digits;
+        let solution = self.solved(alloc, first, bound, false)?;
+        if solution.is_full {
+            return Ok(Attempt {
+                own: None,
+                solution,
+            });
+        }
         for room in ROOMS {
             let scale = Scale { digits, room };
-            if let Some(attempt) = self.full_attempt(alloc, parts, bound, scale)? {
-                return Ok(attempt);
+            if let Some(found) = self.full_attempt(alloc, parts, bound, scale)? {
+                return Ok(Attempt::of_own(found));
             }
         }
-        if let Some(attempt) = self.with_fewer(alloc, parts, bound)? {
-            return Ok(attempt);
+        if let Some(found) = self.with_fewer(alloc, parts, bound)? {
+            return Ok(Attempt::of_own(found));
         }
-        self.attempt(alloc, parts, bound, Scale { digits, room: 0 }, true)
+        Ok(Attempt {
+            own: None,
+            solution: self.solved(alloc, first, bound, true)?,
+        })
     }
 
     /// The value of a state, at least 0; none where its reward is infinite or no value was found.
-    fn value_of(self, attempt: &Attempt, state: u32) -> Option<Frac> {
+    fn value_of(self, laid: &Laid, solution: &Solution, state: u32) -> Option<Frac> {
         if !flag_at(self.is_finite, state) {
             return None;
         }
-        let value = value_at(&attempt.solution.values, attempt.nodes.of(state))?;
-        Some(fraction(value.max(0), attempt.rows.one()))
+        let value = value_at(&solution.values, laid.nodes.of(state))?;
+        Some(fraction(value.max(0), laid.rows.one()))
     }
 
     /// The values of the states.
-    fn spread(self, alloc: Global, attempt: &Attempt) -> Result<Vec<Option<Frac>>, AllocError> {
-        (0..self.states())
-            .map(|s| self.value_of(attempt, s))
-            .collect(alloc)
+    fn spread(
+        self,
+        alloc: Global,
+        attempt: &Attempt,
+        first: &Laid,
+    ) -> Result<Vec<Option<Frac>>, AllocError> {
+        let laid = attempt.laid(first);
+        let mut values = Vec::new(alloc);
+        for s in 0..self.states() {
+            values.push(self.value_of(laid, &attempt.solution, s))?;
+        }
+        Ok(values)
     }
 
     /// The choices of the states that the picks of the nodes come to, by the inner choices within nodes.
@@ -258,16 +315,18 @@ impl Search<'_, '_> {
         self,
         alloc: Global,
         attempt: &Attempt,
+        first: &Laid,
         inner: &ChoiceFlags,
     ) -> Result<Vec<u32>, AllocError> {
+        let laid = attempt.laid(first);
         let gathered = Gathered {
             model: self.earning.model,
             backward: self.backward,
-            nodes: &attempt.nodes,
+            nodes: &laid.nodes,
             inner: Some(inner),
         };
         let picks = &attempt.solution.picks;
-        policy_of(alloc, gathered, &attempt.rows, picks, self.start)
+        policy_of(alloc, gathered, &laid.rows, picks, self.start)
     }
 }
 
@@ -275,13 +334,14 @@ impl Search<'_, '_> {
     /// Bounds of the greatest rewards. No choice of an open state leads to a state of infinite reward, and no end component is among the open states.
     fn greatest(self, alloc: Global) -> Result<Outcome, AllocError> {
         let parts = no_parts(alloc, self.earning.model)?;
-        let low = self.solve(alloc, &parts, Bound::Lower)?;
-        let high = self.solve(alloc, &parts, Bound::Upper)?;
+        let first = self.first(alloc, &parts)?;
+        let low = self.solve(alloc, &parts, &first, Bound::Lower)?;
+        let high = self.solve(alloc, &parts, &first, Bound::Upper)?;
         let none = ChoiceFlags::empty(alloc);
         Ok(Outcome {
-            lower: self.spread(alloc, &low)?,
-            upper: self.spread(alloc, &high)?,
-            choices: self.policy(alloc, &low, &none)?,
+            lower: self.spread(alloc, &low, &first)?,
+            upper: self.spread(alloc, &high, &first)?,
+            choices: self.policy(alloc, &low, &first, &none)?,
             ranks: numbers(alloc, self.states(), self.known)?,
         })
     }
@@ -292,10 +352,11 @@ impl Search<'_, '_> {
         self,
         alloc: Global,
         parts: &[Option<u32>],
+        first: &Laid,
     ) -> Result<Vec<Option<Frac>>, AllocError> {
-        let first = self.solve(alloc, parts, Bound::Lower)?;
-        let mut lower = self.spread(alloc, &first)?;
-        if first.solution.is_full {
+        let attempt = self.solve(alloc, parts, first, Bound::Lower)?;
+        let mut lower = self.spread(alloc, &attempt, first)?;
+        if attempt.solution.is_full {
             return Ok(lower);
         }
         let limit = fraction(1, power_of_ten(self.digits.saturating_sub(UNSEEN_DIGITS)));
@@ -303,8 +364,9 @@ impl Search<'_, '_> {
         let all = ChoiceFlags::all(alloc, self.earning.model)?;
         for choices in [unseen, all] {
             let wider = self.parts(alloc, choices)?;
-            let attempt = self.solve(alloc, &wider, Bound::Lower)?;
-            lower = greater_each(alloc, &lower, &self.spread(alloc, &attempt)?)?;
+            let laid = self.first(alloc, &wider)?;
+            let attempt = self.solve(alloc, &wider, &laid, Bound::Lower)?;
+            lower = greater_each(alloc, &lower, &self.spread(alloc, &attempt, &laid)?)?;
             if attempt.solution.is_full {
                 break;
             }
@@ -339,11 +401,12 @@ impl Search<'_, '_> {
     fn least(self, alloc: Global) -> Result<Outcome, AllocError> {
         let free = self.earning.choices_up_to(alloc, &Frac::whole(0))?;
         let parts = self.parts(alloc, self.earning.choices_up_to(alloc, &Frac::whole(0))?)?;
-        let lower = self.least_lower(alloc, &parts)?;
-        let high = self.solve(alloc, &parts, Bound::Upper)?;
-        let choices = self.policy(alloc, &high, &free)?;
+        let first = self.first(alloc, &parts)?;
+        let lower = self.least_lower(alloc, &parts, &first)?;
+        let high = self.solve(alloc, &parts, &first, Bound::Upper)?;
+        let choices = self.policy(alloc, &high, &first, &free)?;
         if let Some(ranks) = self.ranks(alloc, &choices)? {
-            let upper = self.spread(alloc, &high)?;
+            let upper = self.spread(alloc, &high, &first)?;
             return Ok(Outcome {
                 lower,
                 upper,

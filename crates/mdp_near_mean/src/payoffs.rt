@@ -97,36 +97,4 @@ impl Payoffs<'_> {
         }
         Ok(rows)
     }
-
-    /// Whether a choice stays in the node of its state.
-    fn stays(self, nodes: &Nodes, s: u32, c: u32) -> bool {
-        let model = self.model;
-        if s >= model.states() || c >= model.choices(s) {
-            return false;
-        }
-        nodes.are_in(model.row(s, c).targets, nodes.of(s))
-    }
-
-    /// Appends for each choice of a state whether it stays in the node.
-    fn push_staying(
-        self,
-        flags: &mut ChoiceFlags,
-        nodes: &Nodes,
-        s: u32,
-    ) -> Result<(), AllocError> {
-        for c in 0..self.choices(s) {
-            flags.push(self.stays(nodes, s, c))?;
-        }
-        Ok(())
-    }
-
-    /// Whether each choice stays in the node of its state.
-    pub(crate) fn staying(self, alloc: Global, nodes: &Nodes) -> Result<ChoiceFlags, AllocError> {
-        let mut flags = ChoiceFlags::empty(alloc);
-        for s in 0..self.model.states() {
-            flags.push_state()?;
-            self.push_staying(&mut flags, nodes, s)?;
-        }
-        Ok(flags)
-    }
 }

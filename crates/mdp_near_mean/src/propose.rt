@@ -35,7 +35,6 @@ struct Search<'m, 'a> {
     nodes: &'a Nodes,
     every: &'a ChoiceFlags,
     states: &'a Nodes,
-    inner: &'a Rows,
     all: &'a Rows,
     found: &'a EndGains,
     bias: &'a [Option<i128>],
@@ -159,7 +158,7 @@ impl Search<'_, '_> {
     fn inner_policy(self, alloc: Global) -> Result<Vec<u32>, AllocError> {
         let mut policy = Vec::new(alloc);
         for pick in &self.found.picks {
-            let row = pick.and_then(|place| self.inner.row(place));
+            let row = pick.and_then(|place| self.all.row(place));
             policy.push(row.map_or(0, |row| row.choice))?;
         }
         Ok(policy)
@@ -291,19 +290,17 @@ fn all_ends(
 fn searched(alloc: Global, payoffs: Payoffs<'_>, digits: u32) -> Result<Outcome, Memory> {
     let model = payoffs.model;
     let backward = Backward::new(alloc, model)?;
-    let nodes = Nodes::new(alloc, &all_ends(alloc, model, &backward)?)?;
+    let ends = all_ends(alloc, model, &backward)?;
+    let nodes = Nodes::new(alloc, &ends)?;
     let alone = vec![in alloc; None; model.states() as usize]?;
     let states = Nodes::new(alloc, &alone)?;
     let scale = Scale {
         digits,
         room: payoffs.room().saturating_add(BIAS_ROOM),
     };
-    let staying = payoffs.staying(alloc, &nodes)?;
     let every = ChoiceFlags::all(alloc, model)?;
     let all = payoffs.flagged_rows(alloc, &states, &every, scale)?;
-    let mut inner = payoffs.flagged_rows(alloc, &states, &staying, scale)?;
-    inner.limit_to(&all);
-    let found = end_gains(alloc, &inner, model.states())?;
+    let found = end_gains(alloc, &all, &ends)?;
     let bias = known_biases(alloc, &found)?;
     let search = Search {
         payoffs,
@@ -311,7 +308,6 @@ fn searched(alloc: Global, payoffs: Payoffs<'_>, digits: u32) -> Result<Outcome,
         nodes: &nodes,
         every: &every,
         states: &states,
-        inner: &inner,
         all: &all,
         found: &found,
         bias: &bias,
@@ -323,8 +319,8 @@ fn searched(alloc: Global, payoffs: Payoffs<'_>, digits: u32) -> Result<Outcome,
 /// Proposes bounds of the greatest or the least mean payoff of the reward name of place `name`, as multiples of 10 to the power of -`digits` where the
 /// rows allow it, with relative values and a policy.
 ///
-/// In each maximal end component policies are improved and their bias is refined, until the gains that it comes to are near to each other. Each end
-/// component is then one node, where one stops with its gain or leaves it. For the least mean payoff all rewards are negated.
+/// In each maximal end component a bias is refined until the gains that it comes to are near to each other. Each end component is then one node, where
+/// one stops with its gain or leaves it. For the least mean payoff all rewards are negated.
 pub fn near_mean(
     alloc: Global,
     model: &Model,

@@ -1,5 +1,5 @@
 use crate::convert::to_float;
-use crate::lists::{Groups, float_at, number, number_at, put};
+use crate::lists::{Groups, float_at, number};
 use crate::outside::{Outside, Widening};
 use crate::rows::{Rows, WholeRow, value_at};
 use crate::strong::Components;
@@ -22,7 +22,7 @@ pub(crate) struct FloatRow {
 }
 
 /// A strong component with more than one node, in floats: its rows that lead to no node outside whose value isn't known. Nodes are named by their places in
-/// it; an entry is the place of a node and its probability.
+/// it, mostly behind those that they lead to; an entry is the place of a node and its probability.
 #[derive(Drop)]
 pub(crate) struct Component {
     pub(crate) nodes: Vec<u32>,
@@ -30,8 +30,6 @@ pub(crate) struct Component {
     pub(crate) rows: Vec<FloatRow>,
     starts: Vec<usize>,
     entries: Vec<(u32, f64)>,
-    leading: Groups,
-    owners: Vec<u32>,
     pub(crate) outside: Option<Outside>,
 }
 
@@ -171,27 +169,20 @@ fn owners_of(alloc: Global, rows: &[FloatRow]) -> Result<Vec<u32>, AllocError> {
     Ok(owners)
 }
 
-/// The places of entries, grouped by the nodes that they lead to.
-fn leading_to(alloc: Global, entries: &[(u32, f64)], count: usize) -> Result<Groups, AllocError> {
+/// The node that each entry leads to.
+fn targets_of(alloc: Global, entries: &[(u32, f64)]) -> Result<Vec<u32>, AllocError> {
     let mut targets = Vec::new(alloc);
     for entry in entries {
         targets.push(entry.0)?;
     }
-    Groups::new(alloc, &targets, count)
+    Ok(targets)
 }
 
-/// The nodes of a component by their places.
-fn by_place(
-    alloc: Global,
-    components: &Components,
-    component: usize,
-) -> Result<Vec<u32>, AllocError> {
-    let members = components.nodes_of(component);
-    let mut nodes = vec![in alloc; 0; members.len()]?;
+/// A copy of a list of nodes.
+fn listed(alloc: Global, members: &[u32]) -> Result<Vec<u32>, AllocError> {
+    let mut nodes = Vec::new(alloc);
     for node in members {
-        if let Some(place) = components.place_in(number(component), *node) {
-            put(&mut nodes, place, *node);
-        }
+        nodes.push(*node)?;
     }
     Ok(nodes)
 }
@@ -205,7 +196,7 @@ impl Component {
         component: usize,
         values: &[Option<i128>],
     ) -> Result<Component, AllocError> {
-        let nodes = by_place(alloc, components, component)?;
+        let nodes = listed(alloc, components.nodes_of(component))?;
         let mut gathering = Gathering {
             whole_rows: rows,
             components,
@@ -218,16 +209,12 @@ impl Component {
             outside: Widening::empty(),
         };
         let starts = gathering.push_nodes(alloc, &nodes)?;
-        let leading = leading_to(alloc, &gathering.entries, nodes.len())?;
-        let owners = owners_of(alloc, &gathering.rows)?;
         Ok(Component {
             nodes,
             units: gathering.units,
             rows: gathering.rows,
             starts,
             entries: gathering.entries,
-            leading,
-            owners,
             outside: gathering.outside.outside(),
         })
     }
@@ -254,16 +241,11 @@ impl Component {
         self.entries.get(row.first..row.end).unwrap_or(&[])
     }
 
-    /// The places of the entries that lead to a node.
-    pub(crate) fn leading_to(&self, node: u32) -> &[usize] {
-        self.leading.of(node)
-    }
-
-    /// The place of the row that an entry is of, and the row's node.
-    pub(crate) fn owner_of(&self, entry: usize) -> Option<(usize, u32)> {
-        let place = number_at(&self.owners, number(entry)) as usize;
-        let row = self.rows.get(place)?;
-        Some((place, row.node))
+    /// The places of the rows that have an entry to each node.
+    pub(crate) fn leading(&self, alloc: Global) -> Result<Groups, AllocError> {
+        let owners = owners_of(alloc, &self.rows)?;
+        let targets = targets_of(alloc, &self.entries)?;
+        Groups::new(alloc, &targets, &owners, self.nodes.len())
     }
 
     /// The least unit of a node.

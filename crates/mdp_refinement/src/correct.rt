@@ -3,20 +3,12 @@
 use crate::component::{Component, FloatRow};
 use crate::eliminate::{Elimination, Factors, eliminated};
 use crate::leaving::proper;
-use crate::lists::{float_at, number, put};
+use crate::lists::{Groups, float_at, number, put};
+use crate::sweeps::{Change, FEW_SWEEPS, Forecast, Outlook, WINDOW, many_sweeps};
 use std::alloc::{AllocError, Global};
 
 /// Components of more nodes are swept before nodes are eliminated.
 const FEW_NODES: usize = 40;
-
-/// How many sweeps are tried before nodes are eliminated.
-const FEW_SWEEPS: usize = 400;
-
-/// How many sweeps a forecast is made from.
-const WINDOW: usize = 20;
-
-/// How many entries are looked at in all where elimination takes too long.
-const MOST_ENTRIES: usize = 3_000_000;
 
 /// How many sweeps are made, and then three more, before values go on by what changes come to that shrink evenly.
 const EVEN_SWEEPS: usize = 17;
@@ -26,9 +18,6 @@ const EVEN: f64 = 0.1;
 
 /// How many policies are tried.
 const MOST_POLICIES: usize = 200;
-
-/// A sweep that changes values by less than this part of a unit is the last.
-const SMALL_CHANGE: f64 = 1e-3;
 
 /// A row that gains less than this part of a unit is no better than the policy's.
 const SMALL_GAIN: f64 = 4e-3;
@@ -53,6 +42,7 @@ enum Way {
 #[derive(Drop)]
 pub(crate) struct Corrector<'a> {
     component: &'a Component,
+    leading: &'a Groups,
     sense: f64,
     unit: f64,
     way: Way,
@@ -63,43 +53,18 @@ pub(crate) struct Corrector<'a> {
     factors_policy: Vec<usize>,
 }
 
-/// The greatest change of a sweep, and the greatest value.
-#[derive(Clone, Copy)]
-struct Change {
-    most: f64,
-    size: f64,
-}
-
-impl Change {
-    /// What is small enough.
-    fn enough(self, unit: f64) -> f64 {
-        (unit * SMALL_CHANGE).max(self.size * SWEEP_LOSS)
-    }
-}
-
-/// Whether a change that shrinks from `last` to `most` in a window will be small enough within so many windows.
-fn is_promising(most: f64, last: f64, enough: f64, windows: usize) -> bool {
-    let ratio = most / last;
-    let mut left = most;
-    for _ in 0..windows {
-        if left <= enough {
-            return true;
-        }
-        left *= ratio;
-    }
-    left <= enough
-}
-
 impl<'a> Corrector<'a> {
     /// A search that begins with a policy from which each node leaves.
     pub(crate) fn new(
         alloc: Global,
         component: &'a Component,
+        leading: &'a Groups,
         sense: f64,
         start: &[usize],
     ) -> Result<Corrector<'a>, AllocError> {
         Ok(Corrector {
             component,
+            leading,
             sense,
             unit: component.least_unit(),
             way: if component.len() > FEW_NODES {
@@ -148,16 +113,11 @@ impl<'a> Corrector<'a> {
 
     /// Gives each node its best value in turn, and its row in `greedy`.
     fn sweep(&mut self, gains: &[f64], greedy: &mut [usize]) -> Change {
-        let mut change = Change {
-            most: 0.0,
-            size: 0.0,
-        };
+        let mut change = Change::none();
         for place in 0..self.values.len() {
             if let Some((value, row)) = self.best(gains, place) {
                 let node = number(place);
-                let old = float_at(&self.values, node);
-                change.most = change.most.max((value - old).abs());
-                change.size = change.size.max(value.abs());
+                change.take(float_at(&self.values, node), value);
                 put(&mut self.values, node, value);
                 put(greedy, node, row);
             }
@@ -176,7 +136,7 @@ impl<'a> Corrector<'a> {
     fn sweep_some(&mut self, gains: &[f64], sweeps: usize, greedy: &mut [usize]) -> bool {
         for _ in 0..sweeps {
             let change = self.sweep(gains, greedy);
-            if change.most <= change.enough(self.unit) {
+            if change.is_small(self.unit, SWEEP_LOSS) {
                 return true;
             }
         }
@@ -193,19 +153,13 @@ impl<'a> Corrector<'a> {
     /// Sweeps until the changes are small. Whether they became so; it stops where a forecast says that they won't.
     fn sweep_on(&mut self, gains: &[f64], greedy: &mut [usize]) -> bool {
         self.clear();
-        let mut last = f64::INFINITY;
+        let mut forecast = Forecast::new(FEW_SWEEPS, self.unit, SWEEP_LOSS);
         for sweep in 0..FEW_SWEEPS {
             let change = self.sweep(gains, greedy);
-            let enough = change.enough(self.unit);
-            if change.most <= enough {
-                return true;
-            }
-            if sweep % WINDOW == WINDOW - 1 {
-                let windows = FEW_SWEEPS.saturating_sub(sweep) / WINDOW;
-                if last.is_finite() && !is_promising(change.most, last, enough, windows) {
-                    return false;
-                }
-                last = change.most;
+            match forecast.after(sweep, change) {
+                Outlook::Settled => return true,
+                Outlook::Hopeless => return false,
+                Outlook::Open => {}
             }
         }
         false
@@ -218,12 +172,12 @@ impl<'a> Corrector<'a> {
         greedy: &mut [usize],
         before: &mut [f64],
     ) -> Option<f64> {
-        let first = self.sweep(gains, greedy).most;
-        let second = self.sweep(gains, greedy).most;
+        let first = self.sweep(gains, greedy).most();
+        let second = self.sweep(gains, greedy).most();
         for (old, value) in before.iter_mut().zip(&self.values) {
             *old = *value;
         }
-        let third = self.sweep(gains, greedy).most;
+        let third = self.sweep(gains, greedy).most();
         let ratio = third / second;
         let left = 1.0 - ratio;
         if left > 0.0 && (ratio - second / first).abs() <= EVEN * left {
@@ -258,7 +212,7 @@ impl<'a> Corrector<'a> {
     fn by_few_sweeps(&mut self, alloc: Global, gains: &[f64]) -> Result<bool, AllocError> {
         let mut greedy = self.start.clone()?;
         let is_settled = self.sweep_on(gains, &mut greedy);
-        self.policy = proper(alloc, self.component, &greedy, &self.start)?;
+        self.policy = proper(alloc, self.component, self.leading, &greedy, &self.start)?;
         Ok(is_settled)
     }
 
@@ -271,7 +225,7 @@ impl<'a> Corrector<'a> {
     ) -> Result<(), AllocError> {
         let mut greedy = self.start.clone()?;
         self.sweep_far(alloc, gains, sweeps, &mut greedy)?;
-        self.policy = proper(alloc, self.component, &greedy, &self.start)?;
+        self.policy = proper(alloc, self.component, self.leading, &greedy, &self.start)?;
         Ok(())
     }
 
@@ -324,10 +278,7 @@ impl<'a> Corrector<'a> {
 
     /// Corrections by sweeps alone from now on, since elimination takes too long.
     fn give_up_policies(&mut self, alloc: Global, gains: &[f64]) -> Result<(), AllocError> {
-        let sweeps = MOST_ENTRIES
-            .checked_div(self.component.size())
-            .unwrap_or(0)
-            .max(FEW_SWEEPS);
+        let sweeps = many_sweeps(self.component.size());
         self.way = Way::ManySweeps(sweeps);
         self.by_many_sweeps(alloc, gains, sweeps)
     }

@@ -61,6 +61,29 @@ impl Factors {
         }
     }
 
+    /// What comes to each node when it goes, of a mass that lies at the nodes and is passed on by their rows.
+    fn pass_down(&self, mass: &mut [f64]) {
+        for step in &self.steps {
+            let visits = float_at(mass, step.node) / step.pivot;
+            put(mass, step.node, visits);
+            for (node, prob) in &step.row {
+                add_at(mass, *node, visits * *prob);
+            }
+        }
+    }
+
+    /// Puts in the place of a mass at the nodes how often each node is visited, where the mass is passed on until it has left.
+    pub(crate) fn visit(&self, mass: &mut [f64]) {
+        self.pass_down(mass);
+        for step in self.steps.iter().rev() {
+            let mut more = 0.0;
+            for (node, share) in &step.column {
+                more += *share * float_at(mass, *node);
+            }
+            add_at(mass, step.node, more);
+        }
+    }
+
     /// Solves for the values of which each is its gain and what the policy's row makes of them. The gains are used up.
     pub(crate) fn solve(&self, gains: &mut [f64], values: &mut [f64]) {
         self.forward(gains);

@@ -1,7 +1,7 @@
 //! Policies by which each node leaves its component.
 
 use crate::component::Component;
-use crate::lists::number;
+use crate::lists::{Groups, number};
 use std::alloc::{AllocError, Global};
 
 /// Whether a policy, where there is one, takes this row at this node.
@@ -16,15 +16,21 @@ fn is_of(policy: Option<&[usize]>, node: u32, row: usize) -> bool {
 #[derive(Drop)]
 struct Leaving<'a> {
     component: &'a Component,
+    leading: &'a Groups,
     chosen: Vec<Option<usize>>,
     queue: Vec<u32>,
 }
 
 impl<'a> Leaving<'a> {
     /// A search with no way out yet.
-    fn new(alloc: Global, component: &'a Component) -> Result<Leaving<'a>, AllocError> {
+    fn new(
+        alloc: Global,
+        component: &'a Component,
+        leading: &'a Groups,
+    ) -> Result<Leaving<'a>, AllocError> {
         Ok(Leaving {
             component,
+            leading,
             chosen: vec![in alloc; None; component.len()]?,
             queue: Vec::new(alloc),
         })
@@ -44,10 +50,12 @@ impl<'a> Leaving<'a> {
     /// Leads the nodes that have an entry to this one, by the policy's rows or by all.
     fn lead_to(&mut self, target: u32, policy: Option<&[usize]>) -> Result<(), AllocError> {
         let component = self.component;
-        for entry in component.leading_to(target) {
-            if let Some((row, node)) = component.owner_of(*entry) {
-                if is_of(policy, node, row) {
-                    self.lead(node, row)?;
+        let leading = self.leading;
+        for place in leading.of(target) {
+            let at = *place as usize;
+            if let Some(row) = component.rows.get(at) {
+                if is_of(policy, row.node, at) {
+                    self.lead(row.node, at)?;
                 }
             }
         }
@@ -83,8 +91,9 @@ impl<'a> Leaving<'a> {
 pub(crate) fn exit_policy(
     alloc: Global,
     component: &Component,
+    leading: &Groups,
 ) -> Result<Option<Vec<usize>>, AllocError> {
-    let mut search = Leaving::new(alloc, component)?;
+    let mut search = Leaving::new(alloc, component, leading)?;
     for (place, row) in component.rows.iter().enumerate() {
         if row.exit > 0.0 {
             search.lead(row.node, place)?;
@@ -98,10 +107,11 @@ pub(crate) fn exit_policy(
 pub(crate) fn proper(
     alloc: Global,
     component: &Component,
+    leading: &Groups,
     policy: &[usize],
     other: &[usize],
 ) -> Result<Vec<usize>, AllocError> {
-    let mut search = Leaving::new(alloc, component)?;
+    let mut search = Leaving::new(alloc, component, leading)?;
     for (node, row) in policy.iter().enumerate() {
         if component.rows.get(*row).is_some_and(|row| row.exit > 0.0) {
             search.lead(number(node), *row)?;

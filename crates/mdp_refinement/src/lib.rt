@@ -3,6 +3,7 @@
 //! over the values is exact in whole numbers, and floats give corrections. Nothing is promised of what comes out: it is to be held against exact rules.
 #![tactic(auto)]
 
+mod biases;
 mod bound;
 mod choices;
 mod component;
@@ -18,10 +19,12 @@ mod nodes;
 mod outside;
 mod recurrent;
 mod refine;
+mod relative;
 mod rows;
 mod solving;
 mod states;
 mod strong;
+mod sweeps;
 mod unichain;
 mod whole;
 

@@ -1,21 +1,24 @@
 //! Gains and biases of end components. The gains are exact bounds for any bias: each row's reward, and what it makes of the bias over that of its node.
 
+use crate::biases::Biases;
 use crate::bound::Bound;
 use crate::component::Component;
 use crate::convert::{nearest, to_float};
-use crate::lists::put;
+use crate::graph::Graph;
+use crate::lists::{number, put};
 use crate::rows::{Rows, WholeRow, value_at};
-use crate::solving::graph_of;
 use crate::strong::{Components, strong_components};
-use crate::unichain::Unichain;
-use crate::whole::quotient;
+use crate::whole::{divided, quotient};
 use std::alloc::{AllocError, Global};
 
 /// How often a bias is corrected at most.
-const MOST_ROUNDS: u32 = 7;
+const MOST_ROUNDS: u32 = 12;
+
+/// How often it is corrected where the gains come no nearer.
+const LEAST_ROUNDS: u32 = 3;
 
 /// Gains that lie no further apart, in units, are near enough.
-const NEAR: i128 = 2;
+const NEAR: i128 = 3;
 
 /// For each node of an end component, in units: a bias, an upper gain and a lower one of its component, where they are known, and the place of the row
 /// that a policy takes whose gain is no less than the lower one.
@@ -39,6 +42,50 @@ impl Range {
     fn width(self) -> i128 {
         self.upper.saturating_sub(self.lower)
     }
+
+    /// Takes in the range of another node: the gains of all lie between.
+    fn widened(self, other: Range) -> Range {
+        Range {
+            upper: self.upper.max(other.upper),
+            lower: self.lower.min(other.lower),
+        }
+    }
+
+    /// Takes in the range of another row of the node: the best gain lies between.
+    fn raised(self, other: Range) -> Range {
+        Range {
+            upper: self.upper.max(other.upper),
+            lower: self.lower.max(other.lower),
+        }
+    }
+}
+
+/// What a row gains over the bias of its node, in units, and about how much that is over a gain.
+#[derive(Clone, Copy)]
+struct Gained {
+    range: Range,
+    over: f64,
+}
+
+/// What a row gains whose unit is that of all values. None past 128 bits.
+fn row_gained_finely(
+    rows: &Rows,
+    row: &WholeRow,
+    bias: &[Option<i128>],
+    gain: i128,
+) -> Option<Gained> {
+    let excess = rows.excess(row, bias, Bound::Lower)?;
+    let (lower, rest) = divided(excess, row.denominator)?;
+    let upper = if rest > 0 {
+        lower.checked_add(1)?
+    } else {
+        lower
+    };
+    let over = excess.checked_sub(row.denominator.checked_mul(gain)?)?;
+    Some(Gained {
+        range: Range { upper, lower },
+        over: to_float(over) / to_float(row.denominator),
+    })
 }
 
 /// What a row gains over the bias of its node, in units, rounded so that it is a bound. None past 128 bits.
@@ -56,6 +103,26 @@ fn float_gain(rows: &Rows, row: &WholeRow, bias: &[Option<i128>], gain: i128) ->
     Some(to_float(more) * to_float(row.unit) / to_float(row.denominator) - to_float(rest))
 }
 
+/// What a row gains. None past 128 bits.
+fn row_gained(rows: &Rows, row: &WholeRow, bias: &[Option<i128>], gain: i128) -> Option<Gained> {
+    if row.unit == 1 {
+        return row_gained_finely(rows, row, bias, gain);
+    }
+    let upper = gain_of(rows, row, bias, Bound::Upper)?;
+    let lower = gain_of(rows, row, bias, Bound::Lower)?;
+    Some(Gained {
+        range: Range { upper, lower },
+        over: float_gain(rows, row, bias, gain)?,
+    })
+}
+
+/// What all rows of a component gain over a gain, and of each node the row whose lower gain is the greatest.
+#[derive(Drop)]
+struct Measured {
+    gains: Vec<f64>,
+    policy: Vec<usize>,
+}
+
 /// An end component whose bias is refined.
 #[derive(Clone, Copy)]
 struct Refinement<'a> {
@@ -64,41 +131,44 @@ struct Refinement<'a> {
 }
 
 impl Refinement<'_> {
-    /// The greatest gain of a row. None past 128 bits.
-    fn upper(self, bias: &[Option<i128>]) -> Option<i128> {
-        let mut greatest = None;
-        for row in &self.component.rows {
-            let gain = gain_of(self.rows, self.rows.row(row.place)?, bias, Bound::Upper)?;
-            greatest = Some(greatest.map_or(gain, |old: i128| old.max(gain)));
-        }
-        greatest
+    /// Nothing measured yet.
+    fn unmeasured(self, alloc: Global) -> Result<Measured, AllocError> {
+        Ok(Measured {
+            gains: vec![in alloc; 0.0; self.component.rows.len()]?,
+            policy: vec![in alloc; 0; self.component.len()]?,
+        })
     }
 
-    /// The least gain of a policy's row. None past 128 bits.
-    fn lower(self, policy: &[usize], bias: &[Option<i128>]) -> Option<i128> {
-        let mut least = None;
-        for place in policy {
-            let row = self.component.rows.get(*place)?;
-            let gain = gain_of(self.rows, self.rows.row(row.place)?, bias, Bound::Lower)?;
-            least = Some(least.map_or(gain, |old: i128| old.min(gain)));
+    /// Measures the rows of a node over a bias. The range of its gain. None past 128 bits, or where it has no row.
+    fn measure_node(
+        self,
+        place: usize,
+        bias: &[Option<i128>],
+        gain: i128,
+        measured: &mut Measured,
+    ) -> Option<Range> {
+        let (from, to) = self.component.range_of(place);
+        let mut best: Option<Range> = None;
+        for at in from..to {
+            let row = self.component.rows.get(at)?;
+            let found = row_gained(self.rows, self.rows.row(row.place)?, bias, gain)?;
+            put(&mut measured.gains, number(at), found.over);
+            if best.is_none_or(|old| found.range.lower > old.lower) {
+                put(&mut measured.policy, number(place), at);
+            }
+            best = Some(best.map_or(found.range, |old| old.raised(found.range)));
         }
-        least
+        best
     }
 
-    /// The bounds that a bias and a policy come to.
-    fn range(self, policy: &[usize], bias: &[Option<i128>]) -> Option<Range> {
-        let upper = self.upper(bias)?;
-        let lower = self.lower(policy, bias)?;
-        Some(Range { upper, lower })
-    }
-
-    /// Puts what each row gains over the bias and over a gain. None past 128 bits.
-    fn measure(self, bias: &[Option<i128>], gain: i128, gains: &mut [f64]) -> Option<()> {
-        for (at, row) in self.component.rows.iter().enumerate() {
-            let slot = gains.get_mut(at)?;
-            *slot = float_gain(self.rows, self.rows.row(row.place)?, bias, gain)?;
+    /// Measures all rows over a bias. The range of the component's gain. None past 128 bits.
+    fn measure(self, bias: &[Option<i128>], gain: i128, measured: &mut Measured) -> Option<Range> {
+        let mut all: Option<Range> = None;
+        for place in 0..self.component.len() {
+            let own = self.measure_node(place, bias, gain, measured)?;
+            all = Some(all.map_or(own, |old| old.widened(own)));
         }
-        Some(())
+        all
     }
 
     /// Adds corrections to the bias, rounded to the units. None where one is past 128 bits or not a number.
@@ -113,19 +183,20 @@ impl Refinement<'_> {
         Some(())
     }
 
-    /// Corrects the bias once. Whether that was possible.
+    /// Corrects the bias once, for a gain. The next gain; none past 128 bits.
     fn correct(
         self,
         alloc: Global,
-        unichain: &mut Unichain<'_>,
+        biases: &mut Biases<'_>,
+        measured: &Measured,
         bias: &mut [Option<i128>],
         gain: i128,
-    ) -> Result<bool, AllocError> {
-        let mut gains = vec![in alloc; 0.0; self.component.rows.len()]?;
-        if self.measure(bias, gain, &mut gains).is_none() || !unichain.run(alloc, &gains)? {
-            return Ok(false);
+    ) -> Result<Option<i128>, AllocError> {
+        let more = biases.correct(alloc, &measured.gains)?;
+        if self.add(biases.values(), bias).is_none() {
+            return Ok(None);
         }
-        Ok(self.add(unichain.values(), bias).is_some())
+        Ok(nearest(more).and_then(|more| gain.checked_add(more)))
     }
 }
 
@@ -166,57 +237,85 @@ impl EndGains {
         bias: &mut [Option<i128>],
     ) -> Result<(), AllocError> {
         let refinement = Refinement { rows, component };
-        let mut unichain = Unichain::new(alloc, component)?;
+        let mut biases = Biases::new(alloc, component)?;
+        let mut measured = refinement.unmeasured(alloc)?;
         let mut width = i128::MAX;
         let mut gain = 0;
         for round in 0..MOST_ROUNDS {
-            let Some(range) = refinement.range(unichain.policy(), bias) else {
+            let Some(range) = refinement.measure(bias, gain, &mut measured) else {
                 break;
             };
-            if round > 2 && range.width() >= width {
-                break;
-            }
-            if range.width() < width {
+            let is_nearer = range.width() < width;
+            if is_nearer {
                 width = range.width();
-                self.keep(component, range, unichain.policy(), bias);
+                self.keep(component, range, &measured.policy, bias);
             }
-            if width == 0 || round > 1 && width <= NEAR {
+            if width <= NEAR || !is_nearer && round >= LEAST_ROUNDS {
                 break;
             }
-            if round > 0 {
-                gain = range.lower;
-            }
-            if !refinement.correct(alloc, &mut unichain, bias, gain)? {
+            let next = refinement.correct(alloc, &mut biases, &measured, bias, gain)?;
+            let Some(next) = next else {
                 break;
-            }
+            };
+            gain = next;
         }
         Ok(())
     }
 }
 
-/// Which nodes are to be solved: those that have rows, of which none was too wide.
-fn open_nodes(alloc: Global, rows: &Rows, nodes: u32) -> Result<Vec<bool>, AllocError> {
+/// The end component of a node, if it is in one.
+fn part_at(parts: &[Option<u32>], node: u32) -> Option<u32> {
+    match parts.get(node as usize).copied() {
+        Some(part) => part,
+        None => None,
+    }
+}
+
+/// Which nodes are to be solved: those of end components that have rows, of which none was too wide.
+fn open_nodes(alloc: Global, rows: &Rows, parts: &[Option<u32>]) -> Result<Vec<bool>, AllocError> {
     let mut open = Vec::new(alloc);
-    for node in 0..nodes {
-        open.push(!rows.has_wide(node) && !rows.rows_of(node).is_empty())?;
+    for (place, part) in parts.iter().enumerate() {
+        let node = number(place);
+        open.push(part.is_some() && !rows.has_wide(node) && !rows.rows_of(node).is_empty())?;
     }
     Ok(open)
 }
 
-/// The components of the open nodes.
-fn end_components(alloc: Global, rows: &Rows, nodes: u32) -> Result<Components, AllocError> {
-    let graph = graph_of(alloc, rows, nodes)?;
-    strong_components(alloc, &graph, &open_nodes(alloc, rows, nodes)?)
+/// The graph of the edges within end components.
+fn graph_within(alloc: Global, rows: &Rows, parts: &[Option<u32>]) -> Result<Graph, AllocError> {
+    let mut graph = Graph::empty(alloc);
+    for (place, part) in parts.iter().enumerate() {
+        graph.push_node()?;
+        for entry in rows.edges_of(number(place)) {
+            if part_at(parts, entry.node) == *part {
+                graph.push_edge(entry.node)?;
+            }
+        }
+    }
+    Ok(graph)
 }
 
-/// The greatest gains of end components, and biases for them. The rows are those of choices that stay in the maximal end component of their node, so that
-/// the components of the graph of all rows are the end components.
-pub fn end_gains(alloc: Global, rows: &Rows, nodes: u32) -> Result<EndGains, AllocError> {
-    let components = end_components(alloc, rows, nodes)?;
-    let mut bias = vec![in alloc; Some(0); nodes as usize]?;
-    let mut found = EndGains::empty(alloc, nodes as usize)?;
+/// The components of the open nodes.
+fn end_components(
+    alloc: Global,
+    rows: &Rows,
+    parts: &[Option<u32>],
+) -> Result<Components, AllocError> {
+    let graph = graph_within(alloc, rows, parts)?;
+    strong_components(alloc, &graph, &open_nodes(alloc, rows, parts)?)
+}
+
+/// The greatest gains of the maximal end components that nodes are in, and biases for them. The rows are those of all choices.
+pub fn end_gains(
+    alloc: Global,
+    rows: &Rows,
+    parts: &[Option<u32>],
+) -> Result<EndGains, AllocError> {
+    let components = end_components(alloc, rows, parts)?;
+    let mut bias = vec![in alloc; Some(0); parts.len()]?;
+    let mut found = EndGains::empty(alloc, parts.len())?;
     for place in 0..components.count() {
-        let component = Component::new(alloc, rows, &components, place, &bias)?;
+        let component = Component::new(alloc, rows, &components, place, &[])?;
         found.solve(alloc, rows, &component, &mut bias)?;
     }
     Ok(found)

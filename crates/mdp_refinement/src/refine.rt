@@ -2,17 +2,17 @@
 //! leaves its component, all values are moved so far that the rows hold.
 
 use crate::bound::Task;
-use crate::component::Component;
+use crate::component::{Component, FloatRow};
 use crate::convert::{nearest, to_float};
 use crate::correct::Corrector;
 use crate::intervals::greatest_unit;
-use crate::rows::{Rows, value_at};
+use crate::rows::{Gap, Rows, value_at};
 use std::alloc::{AllocError, Global};
 
 /// How many corrections are made at most.
 const MOST_ROUNDS: u32 = 14;
 
-/// From which correction on the rows are given more room.
+/// From which correction on the rows are given more room, and need not be near.
 const FIRST_ROOMY: u32 = 5;
 
 /// The room that rows are given first, as a multiple of what rounding may cost.
@@ -21,8 +21,19 @@ const FIRST_ROOM: f64 = 1.01;
 /// By how much the room grows with each correction.
 const GROWTH: f64 = 1.5;
 
-/// How many corrections are made at least: the first has only the digits of a float.
-const LEAST_ROUNDS: u32 = 2;
+/// A policy's row that has more over or under its node's value than this multiple of what rounding may cost isn't near enough.
+const LOOSE: f64 = 4.0;
+
+/// How the values of a component lie to its rows.
+#[derive(Clone, Copy, PartialEq, Eq)]
+enum Held {
+    /// A row that is to hold doesn't.
+    Broken,
+    /// All hold, but a policy's row isn't near to the value of its node.
+    Loosely,
+    /// All hold, and the policy's are near.
+    Tightly,
+}
 
 /// How many moves are tried of all values of a component.
 const MOST_MOVES: u32 = 4;
@@ -56,25 +67,35 @@ impl Setting<'_> {
         }
     }
 
-    /// Puts the gain of each row: what it has over its node's value, and room for rounding. Whether all rows hold that are to hold. None past
-    /// 128 bits.
+    /// How the values lie to rows of which one has such a gap and is the policy's, or not, where those before it are held so.
+    fn judge(self, before: Held, row: &FloatRow, gap: Gap, is_chosen: bool) -> Held {
+        if self.task.is_broken(gap.order) && (is_chosen || self.task.is_each()) {
+            return Held::Broken;
+        }
+        let is_loose = is_chosen && gap.size.abs() > LOOSE * row.slack;
+        if is_loose && before == Held::Tightly {
+            return Held::Loosely;
+        }
+        before
+    }
+
+    /// Puts the gain of each row: what it has over its node's value, and room for rounding. How the rows are held. None past 128 bits.
     fn measure(
         self,
         policy: &[usize],
         values: &[Option<i128>],
         room: f64,
         gains: &mut [f64],
-    ) -> Option<bool> {
-        let mut all_hold = true;
+    ) -> Option<Held> {
+        let mut held = Held::Tightly;
         for (at, row) in self.component.rows.iter().enumerate() {
             let gap = self.rows.gap(self.rows.row(row.place)?, values)?;
-            if self.task.is_broken(gap.order) && self.is_to_hold(policy, row.node, at) {
-                all_hold = false;
-            }
+            let is_chosen = policy.get(row.node as usize).copied() == Some(at);
+            held = self.judge(held, row, gap, is_chosen);
             let gain = gains.get_mut(at)?;
             *gain = gap.size + self.task.side() * room * row.slack;
         }
-        Some(all_hold)
+        Some(held)
     }
 
     /// Whether the row at a place is to hold.
@@ -151,7 +172,7 @@ pub(crate) fn refine(
     rows: &Rows,
     component: &Component,
     task: Task,
-    start: &[usize],
+    mut corrector: Corrector<'_>,
     values: &mut [Option<i128>],
 ) -> Result<Option<Vec<usize>>, AllocError> {
     let setting = Setting {
@@ -159,7 +180,6 @@ pub(crate) fn refine(
         component,
         task,
     };
-    let mut corrector = Corrector::new(alloc, component, task.sense(), start)?;
     let mut gains = vec![in alloc; 0.0; component.rows.len()]?;
     let mut room = FIRST_ROOM;
     setting.clear(values);
@@ -169,7 +189,8 @@ pub(crate) fn refine(
         }
         match setting.measure(corrector.policy(), values, room, &mut gains) {
             None => return Ok(None),
-            Some(all_hold) if all_hold && round >= LEAST_ROUNDS => {
+            Some(Held::Tightly) if round > 0 => return Ok(Some(corrector.into_policy())),
+            Some(Held::Loosely) if round >= FIRST_ROOMY => {
                 return Ok(Some(corrector.into_policy()));
             }
             Some(_) => {}

@@ -248,13 +248,6 @@ impl Rows {
         }
     }
 
-    /// Leaves to no node more digits than other rows of the same nodes do, so that its values can be put into those too.
-    pub fn limit_to(&mut self, other: &Rows) {
-        for (digits, most) in self.node_digits.iter_mut().zip(&other.node_digits) {
-            *digits = (*digits).min(*most);
-        }
-    }
-
     /// The value 1 in units.
     pub fn one(&self) -> i128 {
         power_of_ten(self.scale.digits)

@@ -2,10 +2,11 @@
 
 use crate::bound::Task;
 use crate::component::Component;
+use crate::correct::Corrector;
 use crate::graph::Graph;
 use crate::intervals::{best_rounded, sweep_exact};
 use crate::leaving::exit_policy;
-use crate::lists::{number, put};
+use crate::lists::{Groups, number, put};
 use crate::outside::Outside;
 use crate::refine::refine;
 use crate::rows::{Rows, value_at};
@@ -118,17 +119,20 @@ impl Solver<'_> {
         alloc: Global,
         component: &Component,
         outside: Outside,
+        leading: &Groups,
         start: &[usize],
     ) -> Result<(), AllocError> {
         if let Some(value) = outside.same_value(self.rows, component) {
             self.solve_same(component, value, start);
             return Ok(());
         }
+        let task = self.task;
+        let corrector = Corrector::new(alloc, component, leading, task.sense(), start)?;
         let values = &mut self.solution.values;
-        match refine(alloc, self.rows, component, self.task, start, values)? {
+        match refine(alloc, self.rows, component, task, corrector, values)? {
             Some(policy) => self.pick(component, &policy),
-            None if self.task.to_end => {
-                self.solve_by_intervals(component, outside.start(self.task.bound), start);
+            None if task.to_end => {
+                self.solve_by_intervals(component, outside.start(task.bound), start);
             }
             None => self.solution.is_full = false,
         }
@@ -139,8 +143,11 @@ impl Solver<'_> {
     fn solve_many(&mut self, alloc: Global, number: usize) -> Result<(), AllocError> {
         let values = &self.solution.values;
         let component = Component::new(alloc, self.rows, self.components, number, values)?;
-        match (exit_policy(alloc, &component)?, component.outside) {
-            (Some(start), Some(outside)) => self.solve_leaving(alloc, &component, outside, &start),
+        let leading = component.leading(alloc)?;
+        match (exit_policy(alloc, &component, &leading)?, component.outside) {
+            (Some(start), Some(outside)) => {
+                self.solve_leaving(alloc, &component, outside, &leading, &start)
+            }
             _ => {
                 self.give_up_all(number);
                 Ok(())
@@ -198,7 +205,7 @@ fn first_solution(
 }
 
 /// The graph of the nodes: an edge for each entry.
-pub(crate) fn graph_of(alloc: Global, rows: &Rows, nodes: u32) -> Result<Graph, AllocError> {
+fn graph_of(alloc: Global, rows: &Rows, nodes: u32) -> Result<Graph, AllocError> {
     let mut graph = Graph::empty(alloc);
     for node in 0..nodes {
         graph.push_node()?;

@@ -3,7 +3,7 @@
 use crate::component::{Component, FloatRow};
 use crate::eliminate::{Elimination, Entries, Factors, eliminated_rows};
 use crate::graph::Graph;
-use crate::lists::{flag_at, float_at, number, put};
+use crate::lists::{Groups, flag_at, float_at, number, put};
 use crate::strong::{Components, strong_components};
 use std::alloc::{AllocError, Global};
 
@@ -16,10 +16,14 @@ const LOSS: f64 = 1e-12;
 /// The least advantage that counts where all values are 0.
 const LEAST_ADVANTAGE: f64 = 1e-300;
 
+/// A node that is visited so many times as often as another one makes a better reference.
+const MUCH_MORE: f64 = 1e3;
+
 /// A policy of an end component, a row for each node, and values relative to one node of its recurrent class.
 #[derive(Drop)]
 pub(crate) struct Unichain<'a> {
     component: &'a Component,
+    leading: Groups,
     policy: Vec<usize>,
     values: Vec<f64>,
 }
@@ -51,22 +55,22 @@ impl Led {
 }
 
 impl<'a> Unichain<'a> {
-    /// The policy of each node's first row.
-    pub(crate) fn new(alloc: Global, component: &'a Component) -> Result<Unichain<'a>, AllocError> {
+    /// A policy to begin with.
+    pub(crate) fn new(
+        alloc: Global,
+        component: &'a Component,
+        first: &[usize],
+    ) -> Result<Unichain<'a>, AllocError> {
         let mut policy = Vec::new(alloc);
-        for place in 0..component.len() {
-            policy.push(component.range_of(place).0)?;
+        for row in first {
+            policy.push(*row)?;
         }
         Ok(Unichain {
             component,
+            leading: component.leading(alloc)?,
             policy,
             values: vec![in alloc; 0.0; component.len()]?,
         })
-    }
-
-    /// The row of each node.
-    pub(crate) fn policy(&self) -> &[usize] {
-        &self.policy
     }
 
     /// The relative values.
@@ -222,8 +226,9 @@ impl<'a> Unichain<'a> {
 
     /// Leads to a node others, by the policy's rows alone or by any.
     fn lead_to(&mut self, node: u32, led: &mut Led, keeps_policy: bool) -> Result<(), AllocError> {
-        for entry in self.component.leading_to(node) {
-            if let Some((place, before)) = self.component.owner_of(*entry) {
+        for row in self.leading.of(node) {
+            let place = *row as usize;
+            if let Some(before) = self.component.rows.get(place).map(|row| row.node) {
                 let is_chosen = self.policy.get(before as usize).copied() == Some(place);
                 if (is_chosen || !keeps_policy) && led.take(before)? {
                     put(&mut self.policy, before, place);
@@ -279,17 +284,56 @@ impl<'a> Unichain<'a> {
         Ok(Some(reference))
     }
 
-    /// The values of the policy relative to a reference node of its only class, and its gain. None where elimination fails.
+    /// The node that is visited most often between two visits of a reference node, where that is much more often; else that node.
+    fn often_visited(
+        &self,
+        alloc: Global,
+        factors: &Factors,
+        reference: u32,
+    ) -> Result<u32, AllocError> {
+        let mut visits = vec![in alloc; 0.0; self.policy.len()]?;
+        for (node, prob) in self.entries_at(reference) {
+            put(&mut visits, *node, *prob);
+        }
+        put(&mut visits, reference, 0.0);
+        factors.visit(&mut visits);
+        let mut best = (MUCH_MORE, reference);
+        for (place, times) in visits.iter().enumerate() {
+            if *times > best.0 {
+                best = (*times, number(place));
+            }
+        }
+        Ok(best.1)
+    }
+
+    /// The policy's factors with a reference node that is visited often, of its only class, and that node. None where elimination fails.
+    fn well_eliminated(
+        &self,
+        alloc: Global,
+        reference: u32,
+    ) -> Result<Option<(Factors, u32)>, AllocError> {
+        let Some(factors) = self.eliminated(alloc, &[reference])? else {
+            return Ok(None);
+        };
+        let better = self.often_visited(alloc, &factors, reference)?;
+        if better == reference {
+            return Ok(Some((factors, reference)));
+        }
+        let factors = self.eliminated(alloc, &[better])?;
+        Ok(factors.map(|factors| (factors, better)))
+    }
+
+    /// The values of the policy relative to a node of its only class, and its gain. None where elimination fails.
     fn evaluate(
         &mut self,
         alloc: Global,
         gains: &[f64],
         reference: u32,
     ) -> Result<Option<f64>, AllocError> {
-        let references = [reference];
-        let Some(factors) = self.eliminated(alloc, &references)? else {
+        let Some((factors, reference)) = self.well_eliminated(alloc, reference)? else {
             return Ok(None);
         };
+        let references = [reference];
         let found = self.gains_of(alloc, gains, &factors, &references)?;
         let gain = float_at(&found, 0);
         let mut earned = self.earned(alloc, gains, gain, &references)?;
@@ -342,20 +386,22 @@ impl<'a> Unichain<'a> {
         is_changed
     }
 
-    /// Finds a policy of greatest gain, and its relative values, for rows that earn this. Whether elimination went through.
-    pub(crate) fn run(&mut self, alloc: Global, gains: &[f64]) -> Result<bool, AllocError> {
+    /// Finds a policy of greatest gain, and its relative values, for rows that earn this. The gain; none where elimination fails.
+    pub(crate) fn run(&mut self, alloc: Global, gains: &[f64]) -> Result<Option<f64>, AllocError> {
+        let mut found = 0.0;
         for _ in 0..MOST_POLICIES {
             let Some(reference) = self.joined(alloc, gains)? else {
-                return Ok(false);
+                return Ok(None);
             };
             let Some(gain) = self.evaluate(alloc, gains, reference)? else {
-                return Ok(false);
+                return Ok(None);
             };
+            found = gain;
             if !self.improve(gains, gain) {
                 break;
             }
         }
-        Ok(true)
+        Ok(Some(found))
     }
 }
 

@@ -1,0 +1,90 @@
+//! Corrections of the bias of an end component, in floats: by sweeps or by policies.
+
+use crate::component::Component;
+use crate::relative::Relative;
+use crate::sweeps::{FEW_SWEEPS, many_sweeps};
+use crate::unichain::Unichain;
+use std::alloc::{AllocError, Global};
+
+/// Components of more nodes are swept before nodes are eliminated.
+const FEW_NODES: usize = 40;
+
+/// How corrections are found.
+#[derive(Clone, Copy, PartialEq, Eq)]
+enum Way {
+    /// By few sweeps, if a forecast says that they come to an end, else by policies.
+    FewSweeps,
+    /// By policies.
+    Policies,
+    /// By many sweeps, where elimination takes too long.
+    ManySweeps,
+}
+
+/// The search for corrections.
+#[derive(Drop)]
+pub(crate) struct Biases<'a> {
+    component: &'a Component,
+    way: Way,
+    sweeps: Relative<'a>,
+    policies: Option<Unichain<'a>>,
+}
+
+impl<'a> Biases<'a> {
+    /// A search that begins with the first row of each node.
+    pub(crate) fn new(alloc: Global, component: &'a Component) -> Result<Biases<'a>, AllocError> {
+        Ok(Biases {
+            component,
+            way: if component.len() > FEW_NODES {
+                Way::FewSweeps
+            } else {
+                Way::Policies
+            },
+            sweeps: Relative::new(alloc, component)?,
+            policies: None,
+        })
+    }
+
+    /// The corrections.
+    pub(crate) fn values(&self) -> &[f64] {
+        match &self.policies {
+            Some(policies) if self.way == Way::Policies => policies.values(),
+            _ => self.sweeps.values(),
+        }
+    }
+
+    /// The gain that goes with corrections by many sweeps.
+    fn by_many_sweeps(&mut self, gains: &[f64]) -> f64 {
+        self.sweeps.run(gains, many_sweeps(self.component.size()));
+        self.sweeps.gain()
+    }
+
+    /// The gain that goes with corrections by policies, or by many sweeps where elimination fails. The first policy has the rows of the sweeps.
+    fn by_policies(&mut self, alloc: Global, gains: &[f64]) -> Result<f64, AllocError> {
+        let mut policies = match self.policies.take() {
+            Some(policies) => policies,
+            None => Unichain::new(alloc, self.component, self.sweeps.best_rows())?,
+        };
+        let found = policies.run(alloc, gains)?;
+        self.policies = Some(policies);
+        if let Some(gain) = found {
+            return Ok(gain);
+        }
+        self.way = Way::ManySweeps;
+        self.sweeps.slow_down();
+        Ok(self.by_many_sweeps(gains))
+    }
+
+    /// Finds the corrections that rows which earn this come to. Their gain.
+    pub(crate) fn correct(&mut self, alloc: Global, gains: &[f64]) -> Result<f64, AllocError> {
+        if self.way == Way::ManySweeps {
+            return Ok(self.by_many_sweeps(gains));
+        }
+        if self.way == Way::FewSweeps {
+            if self.sweeps.run(gains, FEW_SWEEPS) {
+                return Ok(self.sweeps.gain());
+            }
+            self.way = Way::Policies;
+        }
+        self.by_policies(alloc, gains)
+    }
+}
