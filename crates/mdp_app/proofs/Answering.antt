@@ -1,6 +1,7 @@
 -- What a run answers, from what was decided and what was written.
 use Rattle.std.proofs.Common.{◌≡◌, ℕ, inl, inr, Bool, true, false, List, Option, Some, None, Result, Ok, Err, IfOk, IsOk, refl, sym, ap, subst, ◌∙◌}
 use Rattle.mdp_math.specs.Rational.{ℚ}
+use Rattle.mdp_spec.specs.Labels.{place_of}
 use Rattle.mdp_spec.specs.Mdp.{Mdp}
 use Rattle.mdp_rows.specs.declared.dir.Dir.{Dir}
 use Rattle.mdp_drn.specs.FromSource.{HadLeft}
@@ -23,6 +24,7 @@ use Rattle.mdp_command_witness.specs.Due.{IsWitnessDue}
 use Rattle.mdp_command_witness.specs.Laws as witnessed
 use Rattle.mdp_command_drill.proofs.Drilled.{due-once}
 use Rattle.mdp_command_horizon.specs.Due.{IsHorizonDue, IsHorizonRewardDue}
+use Rattle.mdp_command_horizon.specs.BoundsDue.{IsUntilBoundsDue, IsTotalBoundsDue}
 use Rattle.mdp_command_policy.specs.Due.{IsPolicyDue}
 use Rattle.mdp_command_policy.proofs.Due.{policy_once}
 use Rattle.mdp_command_chain.specs.Due.{IsChainDue}
@@ -30,6 +32,8 @@ use Rattle.mdp_command_chain.proofs.Due.{chain_once}
 use Rattle.mdp_discount.proofs.OneEnd.{one_query_end}
 use Rattle.mdp_command_discount.specs.Due.{IsDiscountDue}
 use Rattle.mdp_command_discount.proofs.Solved.{discount_once}
+use Rattle.mdp_command_bounds_search.specs.DiscountDue.{IsNamedDue, IsDiscountBoundsDue}
+use Rattle.mdp_command_bounds_search.proofs.DiscountSolved as discounting
 use Rattle.mdp_command_bounds_search.specs.Due.{claim_of, fault_of, IsDueBy, IsBoundsDue}
 use Rattle.mdp_command_bounds_search.proofs.Solved.{never_too_wide}
 use Rattle.mdp_app.specs.Due.{IsDue}
@@ -50,6 +54,16 @@ earned_once : (dir : Dir) (name : List ℕ) (steps : ℕ) (read : Result Mdp Pla
     → IsDueToModel (IsHorizonRewardDue dir name steps) read again → said ≡ again
 earned_once dir name steps (Ok m) said again d e = d ∙ sym e
 earned_once dir name steps (Err r) said again d e = d ∙ sym e
+
+until_bounds_once : (dir : Dir) (stay : Option (List ℕ)) (label : List ℕ) (steps digits : ℕ) (read : Result Mdp PlainRefusal) (said again : Said)
+    → IsDueToModel (IsUntilBoundsDue dir stay label steps digits) read said → IsDueToModel (IsUntilBoundsDue dir stay label steps digits) read again → said ≡ again
+until_bounds_once dir stay label steps digits (Ok m) said again d e = d ∙ sym e
+until_bounds_once dir stay label steps digits (Err r) said again d e = d ∙ sym e
+
+total_bounds_once : (dir : Dir) (name : List ℕ) (steps digits : ℕ) (read : Result Mdp PlainRefusal) (said again : Said)
+    → IsDueToModel (IsTotalBoundsDue dir name steps digits) read said → IsDueToModel (IsTotalBoundsDue dir name steps digits) read again → said ≡ again
+total_bounds_once dir name steps digits (Ok m) said again d e = d ∙ sym e
+total_bounds_once dir name steps digits (Err r) said again d e = d ∙ sym e
 
 value_once : (label : List ℕ) (other : List ℕ) (read : Result Mdp PlainRefusal) (said again : Said) → IsDueToModel (λ m. IsPolicyDue label m other) read said
     → IsDueToModel (λ m. IsPolicyDue label m other) read again → said ≡ again
@@ -87,6 +101,15 @@ bounds_done dir query (Ok m) said text d e = by (fault_of query m) refl e
     by (Some r) is h = cc h
     by None is h = done_ok said (never_too_wide dir query m said is d)
 bounds_done dir query (Err r) said text d e = cc e
+
+discount_bounds_done : (dir : Dir) (name : List ℕ) (f : ℚ) (read : Result Mdp PlainRefusal) (said : Said) (text : List ℕ) → IsDueToModel (IsDiscountBoundsDue dir name f) read said
+    → IsDueToModel (IsDiscountBoundsDue dir name f) read (Ok text) → said_status said ≡ status.Done
+discount_bounds_done dir name f (Ok m) said text d e = by (place_of name m.names) refl e
+  where
+    by : (place : Option ℕ) → place_of name m.names ≡ place → IsNamedDue dir name f m place (Ok text) → said_status said ≡ status.Done
+    by None is h = cc h
+    by (Some r) is h = done_ok said (discounting.never_too_wide dir name f m said r is d)
+discount_bounds_done dir name f (Err r) said text d e = cc e
 
 -- where a text is due, the work is done with what is due
 due_done :
@@ -138,6 +161,17 @@ due_done once found (Ok (discount_check rule)) model second m s n t text said hn
 due_done once found (Ok (bounds rule dir query digits)) model second m s n t text said hn ht due tm ts due_text =
     bounds_done dir query (model_due rule m) said text
     (subst (λ (x : List ℕ). IsDueToModel (IsBoundsDue dir query) (model_due rule x) said) (had_told true model m n tm hn refl) due) due_text
+due_done once found (Ok (bounds_until rule dir stay label steps digits)) model second m s n t text said hn ht due tm ts due_text =
+    done_of said text (
+    until_bounds_once dir stay label steps digits (model_due rule m) said (Ok text)
+    (subst (λ (x : List ℕ). IsDueToModel (IsUntilBoundsDue dir stay label steps digits) (model_due rule x) said) (had_told true model m n tm hn refl) due) due_text)
+due_done once found (Ok (bounds_total rule dir name steps digits)) model second m s n t text said hn ht due tm ts due_text =
+    done_of said text (
+    total_bounds_once dir name steps digits (model_due rule m) said (Ok text)
+    (subst (λ (x : List ℕ). IsDueToModel (IsTotalBoundsDue dir name steps digits) (model_due rule x) said) (had_told true model m n tm hn refl) due) due_text)
+due_done once found (Ok (bounds_discount rule dir name factor digits)) model second m s n t text said hn ht due tm ts due_text =
+    discount_bounds_done dir name factor (model_due rule m) said text
+    (subst (λ (x : List ℕ). IsDueToModel (IsDiscountBoundsDue dir name factor) (model_due rule x) said) (had_told true model m n tm hn refl) due) due_text
 due_done once found (Ok (bounds_check rule)) model second m s n t text said hn ht due tm ts due_text =
     done_of said text (
     checked_once (Some Bounds) s (model_due rule m) said (Ok text)

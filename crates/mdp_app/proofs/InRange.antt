@@ -1,5 +1,5 @@
--- What words that ask for a drill say of its numbers, those that ask for discounted rewards of their factor, and those that ask for a witness of their
--- threshold.
+-- What words that ask for a drill say of its numbers, those that ask for discounted rewards of their factor, those that ask for a witness of their
+-- threshold, and those that ask for bounds of their digits.
 use Rattle.std.proofs.Common.{◌≡◌, ℕ, zero, suc, ◌*◌, ◌-◌, ◌^◌, ◌≤◌, Bool, true, false, cond, not, nat_lt, List, [], ◌∷◌, length, map, Option, Some, None, Result, Ok, Err}
 use Rattle.std.proofs.Common.{refl, subst, T, sym, ltb→lt, arith, pos}
 use Rattle.std.specs.Prelude.{◌==◌, codes}
@@ -21,10 +21,10 @@ use Rattle.mdp_app.specs.InRange.{IsInRange, asked_for}
 use Rattle.mdp_job.specs.Job.{PlainJob, solve, witness, check, drill, horizon, policy, discount, Asked}
 use Rattle.mdp_job.specs.Words.{rows_of, word_at, rule_of, dir_of, check_of, query_of, solve_of, whole_word, can_draw, drill_by, drill_with, drill_of}
 use Rattle.mdp_job.specs.Words.{threshold_by, threshold_of, witness_of, steps_of, horizon_of, policy_of, chain_of, below_one, factor_of, discount_of}
-use Rattle.mdp_job.specs.Words.{until_within_of, reward_within_of, discount_check_of, digits_of, bounds_query_of, bounds_digits_of, bounds_best_of, bounds_until_of}
+use Rattle.mdp_job.specs.Words.{until_within_of, reward_within_of, discount_check_of, begins_with_zero, few_digits, digits_of, bounds_query_of, bounds_digits_of, bounds_best_of, bounds_until_of}
 use Rattle.mdp_job.specs.Words.{bounds_total_of, bounds_discount_of, bounds_by, bounds_of, bounds_check_of, job_of_texts, job_of}
 use Rattle.mdp_job.specs.declared.words_error.WordsError.{WordsError}
-use Rattle.mdp_job.specs.declared.words_error.WordsError.TheVariants.{Command, Number, Objective, Drill, Factor}
+use Rattle.mdp_job.specs.declared.words_error.WordsError.TheVariants.{Command, Number, Objective, Drill, Factor, Digits}
 
 -- ---- a factor
 
@@ -60,6 +60,23 @@ threshold_least (Ok x) least t e = let is : x ≡ t = cc e in subst (λ (y : ℚ
 threshold_is : (word : List ℕ) (t : ℚ) → threshold_of word ≡ Ok t → 0ℚ ≤ℚ t
 unfolding numeral_of
 threshold_is word t e = threshold_least (numeral_of word) (value-least (terms_of (parts_of word))) t e
+
+-- ---- digits
+
+few_by : (read : Option ℕ) (n : ℕ) → few_digits read ≡ Ok n → n ≤ 30
+few_by None n e = cc e
+few_by (Some k) n e = by (nat_lt 30 k) refl e
+  where
+    by : (b : Bool) → nat_lt 30 k ≡ b → cond b (Err Digits) (Ok k) ≡ Ok n → n ≤ 30
+    by true past same = cc same
+    by false few same = let is : k ≡ n = cc same in subst (λ (x : ℕ). x ≤ 30) is (ltb-false 30 k few)
+
+few_are : (word : List ℕ) (n : ℕ) → digits_of word ≡ Ok n → n ≤ 30
+few_are word n e = by (begins_with_zero word) e
+  where
+    by : (b : Bool) → cond b (Err Digits) (few_digits (whole_word 2 word)) ≡ Ok n → n ≤ 30
+    by true same = cc same
+    by false same = few_by (whole_word 2 word) n same
 
 -- ---- words
 
@@ -137,11 +154,11 @@ bounds_best_in_range rule dir words = bind (bounds_query_of words) _ (λ query. 
 
 bounds_until_in_range : (rule : RowRule) (dir : Dir) (words : List (List ℕ)) → IsInRange (bounds_until_of rule dir words)
 bounds_until_in_range rule dir words =
-    either (length words == 8) _ (Err Number) (bind (steps_of (word_at words 6)) _ (λ steps. bind (digits_of (word_at words 7)) _ (λ digits. tt))) tt
+    either (length words == 8) _ (Err Number) (bind (steps_of (word_at words 6)) _ (λ steps. bind_to (digits_of (word_at words 7)) _ (λ digits is. few_are (word_at words 7) digits is))) tt
 
 bounds_total_in_range : (rule : RowRule) (dir : Dir) (words : List (List ℕ)) → IsInRange (bounds_total_of rule dir words)
 bounds_total_in_range rule dir words =
-    either (length words == 7) _ (Err Number) (bind (steps_of (word_at words 5)) _ (λ steps. bind (digits_of (word_at words 6)) _ (λ digits. tt))) tt
+    either (length words == 7) _ (Err Number) (bind (steps_of (word_at words 5)) _ (λ steps. bind_to (digits_of (word_at words 6)) _ (λ digits is. few_are (word_at words 6) digits is))) tt
 
 bounds_discount_in_range : (rule : RowRule) (dir : Dir) (words : List (List ℕ)) → IsInRange (bounds_discount_of rule dir words)
 bounds_discount_in_range rule dir words =

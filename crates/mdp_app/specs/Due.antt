@@ -10,10 +10,12 @@ use Rattle.mdp_checking.specs.declared.kind.CertificateKind.TheVariants.{Exact, 
 use Rattle.mdp_command_solve.specs.Due.{IsSolveDue}
 use Rattle.mdp_command_witness.specs.Due.{IsWitnessDue}
 use Rattle.mdp_command_drill.specs.Due.{IsDrillDue}
+use Rattle.mdp_command_horizon.specs.BoundsDue.{IsUntilBoundsDue, IsTotalBoundsDue}
 use Rattle.mdp_command_horizon.specs.Due.{IsHorizonDue, IsHorizonRewardDue}
 use Rattle.mdp_command_policy.specs.Due.{IsPolicyDue}
 use Rattle.mdp_command_chain.specs.Due.{IsChainDue}
 use Rattle.mdp_command_discount.specs.Due.{IsDiscountDue}
+use Rattle.mdp_command_bounds_search.specs.DiscountDue.{IsDiscountBoundsDue}
 use Rattle.mdp_command_bounds_search.specs.Due.{IsBoundsDue}
 
 -- this is due to what the words ask for, to the model's bytes and to those of the second file
@@ -29,6 +31,9 @@ IsDue (Ok (chain rule)) model second said = IsDueToModel (λ m. IsChainDue m sec
 IsDue (Ok (discount rule dir name factor)) model second said = IsDueToModel (IsDiscountDue dir name factor) (model_due rule model) said
 IsDue (Ok (discount_check rule)) model second said = IsDueToModel (λ m. IsCheckDue (Some Discounted) m second) (model_due rule model) said
 IsDue (Ok (bounds rule dir query digits)) model second said = IsDueToModel (IsBoundsDue dir query) (model_due rule model) said
+IsDue (Ok (bounds_until rule dir stay label steps digits)) model second said = IsDueToModel (IsUntilBoundsDue dir stay label steps digits) (model_due rule model) said
+IsDue (Ok (bounds_total rule dir name steps digits)) model second said = IsDueToModel (IsTotalBoundsDue dir name steps digits) (model_due rule model) said
+IsDue (Ok (bounds_discount rule dir name factor digits)) model second said = IsDueToModel (IsDiscountBoundsDue dir name factor) (model_due rule model) said
 IsDue (Ok (bounds_check rule)) model second said = IsDueToModel (λ m. IsCheckDue (Some Bounds) m second) (model_due rule model) said
 IsDue (Err e) model second said = said ≡ Err (no_job e)
 

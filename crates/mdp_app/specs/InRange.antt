@@ -1,12 +1,13 @@
 -- The numbers of a job, which words give in range.
-use Rattle.std.specs.Prelude.{◌≡◌, true, Ok, Err, pos}
+use Rattle.std.specs.Prelude.{◌≡◌, ◌≤◌, true, Ok, Err, pos}
 use Rattle.mdp_math.specs.Rational.{of_int, ◌≤ℚ◌}
 use Rattle.mdp_discount_rules.specs.Rules.{IsFactor}
 use Rattle.mdp_job.specs.Job.{PlainJob, solve, witness, check, drill, horizon, horizon_reward, policy, chain, discount, discount_check, bounds}
 use Rattle.mdp_job.specs.Job.{bounds_until, bounds_total, bounds_discount, bounds_check, Asked}
 use Rattle.mdp_job.specs.Words.{can_draw}
 
--- the numbers of a drill can be drawn, the factor of discounted rewards is from 0 on and below 1, and the threshold of a witness is at least 0
+-- the numbers of a drill can be drawn, the factor of discounted rewards is from 0 on and below 1, the threshold of a witness is at least 0, and the digits
+-- of bounds within a deadline are 30 at most
 abbrev pub IsInRange : Asked → Type 0
 IsInRange (Ok (solve rule dir query)) = Unit {0}
 IsInRange (Ok (witness rule dir label threshold)) = of_int (pos 0) ≤ℚ threshold
@@ -19,8 +20,8 @@ IsInRange (Ok (chain rule)) = Unit {0}
 IsInRange (Ok (discount rule dir name factor)) = IsFactor factor
 IsInRange (Ok (discount_check rule)) = Unit {0}
 IsInRange (Ok (bounds rule dir query digits)) = Unit {0}
-IsInRange (Ok (bounds_until rule dir stay label steps digits)) = Unit {0}
-IsInRange (Ok (bounds_total rule dir name steps digits)) = Unit {0}
+IsInRange (Ok (bounds_until rule dir stay label steps digits)) = digits ≤ 30
+IsInRange (Ok (bounds_total rule dir name steps digits)) = digits ≤ 30
 IsInRange (Ok (bounds_discount rule dir name factor digits)) = IsFactor factor
 IsInRange (Ok (bounds_check rule)) = Unit {0}
 IsInRange (Err e) = Unit {0}

@@ -9,10 +9,12 @@ use Rattle.mdp_checking.specs.declared.kind.CertificateKind.TheVariants.{Bounds}
 use Rattle.mdp_command_solve.specs.Solved.{IsSolved}
 use Rattle.mdp_command_witness.specs.Shown.{IsWitnessShown}
 use Rattle.mdp_command_drill.specs.Drilled.{IsDrilled}
+use Rattle.mdp_command_horizon.specs.BoundsShown.{AreUntilBoundsShown, AreTotalBoundsShown}
 use Rattle.mdp_command_horizon.specs.Shown.{IsHorizonShown, IsHorizonRewardShown}
 use Rattle.mdp_command_policy.specs.Shown.{IsPolicyShown}
 use Rattle.mdp_command_chain.specs.Shown.{IsChainShown}
 use Rattle.mdp_command_discount.specs.Shown.{IsDiscountSolved}
+use Rattle.mdp_command_bounds_search.specs.DiscountShown.{IsDiscountBoundsSolved}
 use Rattle.mdp_command_bounds_search.specs.Shown.{IsBoundsSolved}
 
 -- what is shown of the model's bytes, of those of the second file and of the text, where the work was done. Each command is a case
@@ -28,5 +30,8 @@ IsShown (Ok (chain rule)) model second text = IsChainShown rule model second tex
 IsShown (Ok (discount rule dir name factor)) model second text = IsDiscountSolved rule dir name factor model text
 IsShown (Ok (discount_check rule)) model second text = IsYes discounted rule model second text
 IsShown (Ok (bounds rule dir query digits)) model second text = IsBoundsSolved rule dir query model text
+IsShown (Ok (bounds_until rule dir stay label steps digits)) model second text = AreUntilBoundsShown rule dir stay label steps model text
+IsShown (Ok (bounds_total rule dir name steps digits)) model second text = AreTotalBoundsShown rule dir name steps model text
+IsShown (Ok (bounds_discount rule dir name factor digits)) model second text = IsDiscountBoundsSolved rule dir name factor model text
 IsShown (Ok (bounds_check rule)) model second text = IsYes (checker_for (Some Bounds) second) rule model second text
 IsShown (Err e) model second text = ⊥

@@ -9,11 +9,13 @@ ghost use Rattle.mdp_app.specs.Decided.{IsDecided};
 
 use mdp_checking::{CertificateKind, check_files};
 use mdp_command::written;
-use mdp_command_bounds_search::bounds_file;
+use mdp_command_bounds_search::{bounds_discount_file, bounds_file};
 use mdp_command_chain::chain_file;
 use mdp_command_discount::discount_file;
 use mdp_command_drill::drill;
-use mdp_command_horizon::{horizon_file, horizon_reward_file};
+use mdp_command_horizon::{
+    horizon_file, horizon_reward_file, total_bounds_file, until_bounds_file,
+};
 use mdp_command_policy::policy_file;
 use mdp_command_solve::{solve_file, solve_law};
 use mdp_command_witness::{witness_file, witness_step_law};
@@ -86,6 +88,28 @@ fn decided<S: Source, C: Source>(
             query,
             digits,
         } => bounds_file(alloc, rule, dir, query, digits, model),
+        Job::BoundsUntil {
+            rule,
+            dir,
+            stay,
+            label,
+            steps,
+            digits,
+        } => until_bounds_file(alloc, rule, dir, stay, label, steps, digits, model),
+        Job::BoundsTotal {
+            rule,
+            dir,
+            name,
+            steps,
+            digits,
+        } => total_bounds_file(alloc, rule, dir, name, steps, digits, model),
+        Job::BoundsDiscount {
+            rule,
+            dir,
+            name,
+            factor,
+            digits,
+        } => bounds_discount_file(alloc, rule, dir, name, factor, digits, model),
         Job::BoundsCheck { rule } => {
             check_files(alloc, rule, Some(CertificateKind::Bounds), model, second)
         }

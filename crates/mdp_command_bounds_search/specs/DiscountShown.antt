@@ -5,24 +5,16 @@ use Rattle.mdp_spec.specs.Mdp.{Mdp}
 use Rattle.mdp_rows.specs.declared.dir.Dir.{Dir}
 use Rattle.mdp_rows.specs.declared.rule.RowRule.{RowRule}
 use Rattle.mdp_discount_bounds.specs.Cert.{Certificate}
-use Rattle.mdp_discount_bounds.specs.Check.{answer_to, IsAccepted, IsBound}
+use Rattle.mdp_discount_bounds.specs.Check.{IsAccepted, IsBound}
 use Rattle.mdp_discount_bounds_text.specs.Reading.{outcome}
 use Rattle.mdp_discount_bounds_text.specs.Spelling.{text_of}
-use Rattle.mdp_command.specs.Accepted.{Checker, IsTrueClaimBy}
+use Rattle.mdp_command.specs.Accepted.{IsTrueClaimBy}
 use Rattle.mdp_command.specs.Files.{most_bytes}
 use Rattle.mdp_command.specs.Read.{IsWorkOnModel}
 use Rattle.mdp_command.specs.Said.{Said}
 use Rattle.mdp_command.specs.Streams.{Input}
-use Rattle.mdp_checking.specs.Kinds.{as_answer}
+use Rattle.mdp_checking.specs.Kinds.{discounted_between}
 use Rattle.mdp_command_bounds_search.specs.DiscountDue.{ClaimsSo, IsDiscountBoundsDue}
-
--- the checker of certificates of bounds of discounted rewards
-abbrev pub discounted_between : Checker
-discounted_between = record {
-  meaning = record { Certificate = Certificate; outcome = outcome; IsBound = IsBound };
-  answer_to = λ m c. as_answer (answer_to m c);
-  IsAccepted = IsAccepted;
-}
 
 -- the text of a certificate of this claim for the model, which reads as it; all rules hold, and the claim is true
 pub record IsDiscountBoundsPrinted (dir : Dir) (name : List ℕ) (f : ℚ) (m : Mdp) (text : List ℕ) : Type 0 where

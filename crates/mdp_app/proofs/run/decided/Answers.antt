@@ -86,6 +86,30 @@ returns-in-Bounds g c =
     decided_as _ _ _ _ _ (sym (ap (λ (job : Job). asked_for (plain_job job)) c.in-Bounds.is) ∙ c.in-Ok.ensures)
     (model_decided _ _ _ _ _ _ refl refl (λ bytes other said due. due) (λ bytes other text shown. shown) refl refl _ c.bounds_file.ensures.read c.bounds_file.ensures.end)
 
+pub until_bounds_file-requires : goal.until_bounds_file-requires
+until_bounds_file-requires g c = in_range_of c.args.words.now _ (sym (ap (λ (job : Job). asked_for (plain_job job)) c.in-BoundsUntil.is) ∙ c.in-Ok.ensures)
+
+pub returns-in-BoundsUntil : goal.returns-in-BoundsUntil
+returns-in-BoundsUntil g c =
+    decided_as _ _ _ _ _ (sym (ap (λ (job : Job). asked_for (plain_job job)) c.in-BoundsUntil.is) ∙ c.in-Ok.ensures)
+    (model_decided _ _ _ _ _ _ refl refl (λ bytes other said due. due) (λ bytes other text shown. shown) refl refl _ c.until_bounds_file.ensures.read c.until_bounds_file.ensures.end)
+
+pub total_bounds_file-requires : goal.total_bounds_file-requires
+total_bounds_file-requires g c = in_range_of c.args.words.now _ (sym (ap (λ (job : Job). asked_for (plain_job job)) c.in-BoundsTotal.is) ∙ c.in-Ok.ensures)
+
+pub returns-in-BoundsTotal : goal.returns-in-BoundsTotal
+returns-in-BoundsTotal g c =
+    decided_as _ _ _ _ _ (sym (ap (λ (job : Job). asked_for (plain_job job)) c.in-BoundsTotal.is) ∙ c.in-Ok.ensures)
+    (model_decided _ _ _ _ _ _ refl refl (λ bytes other said due. due) (λ bytes other text shown. shown) refl refl _ c.total_bounds_file.ensures.read c.total_bounds_file.ensures.end)
+
+pub bounds_discount_file-requires : goal.bounds_discount_file-requires
+bounds_discount_file-requires g c = in_range_of c.args.words.now _ (sym (ap (λ (job : Job). asked_for (plain_job job)) c.in-BoundsDiscount.is) ∙ c.in-Ok.ensures)
+
+pub returns-in-BoundsDiscount : goal.returns-in-BoundsDiscount
+returns-in-BoundsDiscount g c =
+    decided_as _ _ _ _ _ (sym (ap (λ (job : Job). asked_for (plain_job job)) c.in-BoundsDiscount.is) ∙ c.in-Ok.ensures)
+    (model_decided _ _ _ _ _ _ refl refl (λ bytes other said due. due) (λ bytes other text shown. shown) refl refl _ c.bounds_discount_file.ensures.read c.bounds_discount_file.ensures.end)
+
 pub returns-in-BoundsCheck : goal.returns-in-BoundsCheck
 returns-in-BoundsCheck g c =
     decided_as _ _ _ _ _ (sym (ap (λ (job : Job). asked_for (plain_job job)) c.in-BoundsCheck.is) ∙ c.in-Ok.ensures)
