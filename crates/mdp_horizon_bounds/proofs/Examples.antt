@@ -1,0 +1,93 @@
+-- Small models, computed.
+use Rattle.std.proofs.Common.{◌≡◌, ℕ, Bool, true, false, List, [], ◌∷◌, Option, Some, None, refl, ℤ, pos, negsuc}
+use Rattle.std.specs.Prelude.{codes}
+use Rattle.std.specs.Fmt.{digits}
+use Rattle.mdp_math.specs.Gcd.{gcd, gcd_with_fuel}
+use Rattle.mdp_math.specs.Rational.{ℚ, of_int, ratio}
+use Rattle.mdp_math.specs.Written.{narrow, narrow_ℚ}
+use Rattle.mdp_num.specs.Value.{spelling}
+use Rattle.mdp_spec.specs.Mdp.{Entry, Choice, State, Mdp}
+use Rattle.mdp_rows.specs.declared.dir.Dir.TheVariants.{Max, Min}
+use Rattle.mdp_horizon.specs.Objective.Objective.{until, total}
+use Rattle.mdp_horizon_bounds.specs.Whole.{rounded}
+use Rattle.mdp_horizon_bounds.specs.Scaled.{scaled, divided, rounded_sum}
+use Rattle.mdp_horizon_bounds.specs.Columns.{Bounds, bounds_of}
+use Rattle.mdp_horizon_bounds.specs.Spelling.{bounds_text}
+use Rattle.mdp_horizon_bounds.specs.Spelling.PlainClaim.{until as until_claim, total as total_claim}
+
+abbrev to : ℕ → ℚ → Entry
+to t p = record { target = t; prob = p }
+
+abbrev by : ℚ → List Entry → Choice
+by reward row = record { row = row; rewards = reward ∷ [] }
+
+abbrev with : List ℕ → List Choice → State
+with labels choices = record { labels = labels; choices = choices }
+
+abbrev model_of : List State → Mdp
+model_of states = record { names = codes "pay" ∷ []; labels = codes "init" ∷ codes "goal" ∷ []; states = states }
+
+abbrev all : List Bool
+all = true ∷ true ∷ []
+
+abbrev goal : List Bool
+goal = false ∷ true ∷ []
+
+abbrev answer : List (Option ℚ) → List (Option ℚ) → List (List ℕ) → Bounds
+answer lower upper steps = record { lower = lower; upper = upper; steps = steps }
+
+-- ---- rounding
+
+-- 16/3 lies between 5 and 6, and -5/3 between -2 and -1
+rounds : (rounded Min (pos 16) (pos 3) ≡ pos 5) × (rounded Max (pos 16) (pos 3) ≡ pos 6) × (rounded Min (negsuc 4) (pos 3) ≡ negsuc 1) × (rounded Max (negsuc 4) (pos 3) ≡ negsuc 0)
+rounds = (refl, refl, refl, refl)
+
+-- state 0 comes to the goal with 1/3, and earns 1/3; the goal goes back, and earns -1/2
+abbrev thirds : Mdp
+thirds =
+    model_of
+    (with (0 ∷ []) (by (ratio (pos 1) 3) (to 0 (ratio (pos 2) 3) ∷ to 1 (ratio (pos 1) 3) ∷ []) ∷ [])
+    ∷ with (1 ∷ []) (by (ratio (negsuc 0) 2) (to 0 (of_int (pos 1)) ∷ []) ∷ [])
+    ∷ [])
+
+-- in two steps with 5/9: with one decimal place from 5/10 to 6/10
+rounded_outward : bounds_of Max (pos 10) thirds (until all goal) 2 ≡ answer (Some (ratio (pos 1) 2) ∷ Some (of_int (pos 1)) ∷ []) (Some (ratio (pos 3) 5) ∷ Some (of_int (pos 1)) ∷ []) ((0 ∷ 0 ∷ []) ∷ (0 ∷ 0 ∷ []) ∷ [])
+unfolding bounds_of rounded_sum narrow narrow_ℚ ratio of_int gcd gcd_with_fuel
+rounded_outward = refl
+
+-- without a step
+no_step : bounds_of Min (pos 10) thirds (until all goal) 0 ≡ answer (Some (of_int (pos 0)) ∷ Some (of_int (pos 1)) ∷ []) (Some (of_int (pos 0)) ∷ Some (of_int (pos 1)) ∷ []) []
+unfolding bounds_of rounded_sum narrow narrow_ℚ ratio of_int gcd gcd_with_fuel
+no_step = refl
+
+-- rewards of both signs: 1/3 in one step lies between 3/10 and 4/10, and -1/2 needs no rounding
+both_signs : bounds_of Max (pos 10) thirds (total 0) 1 ≡ answer (Some (ratio (pos 3) 10) ∷ Some (ratio (negsuc 0) 2) ∷ []) (Some (ratio (pos 2) 5) ∷ Some (ratio (negsuc 0) 2) ∷ []) ((0 ∷ 0 ∷ []) ∷ [])
+unfolding bounds_of rounded_sum narrow narrow_ℚ ratio of_int gcd gcd_with_fuel
+both_signs = refl
+
+-- ---- a row without room
+
+abbrev long : List Entry
+long = to 0 (ratio (pos 1) 85070591730234615865843651857942052864) ∷ to 1 (ratio (pos 85070591730234615865843651857942052863) 85070591730234615865843651857942052864) ∷ []
+
+abbrev column : List (Option ℤ)
+column = Some (pos 0) ∷ Some (pos 10) ∷ []
+
+-- its weights times 10 pass 127 bits, so it takes what is earned at once, 1/3, and the least or the greatest value of a target
+without_room : (divided Min column (scaled (pos 10) (ratio (pos 1) 3) long) ≡ None)
+    × (rounded_sum Min column (scaled (pos 10) (ratio (pos 1) 3) long) ≡ Some (pos 3)) × (rounded_sum Max column (scaled (pos 10) (ratio (pos 1) 3) long) ≡ Some (pos 14))
+unfolding rounded_sum narrow ratio of_int gcd gcd_with_fuel
+without_room = (refl, refl, refl)
+
+-- ---- the text
+
+printed :
+    bounds_text Max (until_claim (codes "-") (codes "goal")) thirds (answer (Some (ratio (pos 1) 2) ∷ None ∷ []) (Some (ratio (pos 3) 5) ∷ None ∷ []) ((0 ∷ 0 ∷ []) ∷ (0 ∷ 0 ∷ []) ∷ []))
+    ≡ codes "mdp-horizon-bounds 1\nclaim max until \"-\" \"goal\" 2\nstates 2\ninit 0 1/2 3/5\nstate 0 1/2 3/5\nstate 1 -inf inf\nstep 2 0 0\nstep 1 0 0\nend\n"
+unfolding bounds_text spelling ratio of_int gcd gcd_with_fuel digits
+printed = refl
+
+printed_short :
+    bounds_text Min (total_claim (codes "pay")) (model_of []) (answer [] [] []) ≡ codes "mdp-horizon-bounds 1\nclaim min total \"pay\" 0\nstates 0\ninit -\nend\n"
+unfolding bounds_text spelling ratio of_int gcd gcd_with_fuel digits
+printed_short = refl

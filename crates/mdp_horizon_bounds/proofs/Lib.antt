@@ -1,0 +1,14 @@
+pub mod Rounding
+pub mod Making
+pub mod Totals
+pub mod Units
+pub mod Covering
+pub mod Between
+pub mod More
+pub mod Fractions
+pub mod Ready
+pub mod Loops
+pub mod Probabilities
+pub mod ExactSums
+pub mod Steps
+mod Examples

@@ -1,0 +1,9 @@
+pub mod Whole
+pub mod Scaled
+pub mod Probability
+pub mod Exact
+pub mod Columns
+pub mod Code
+pub mod Answer
+pub mod Spelling
+pub mod Laws

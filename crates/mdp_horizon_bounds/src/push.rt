@@ -1,0 +1,182 @@
+ghost use Rattle.std.specs.Prelude.{◌≡◌, ◌<◌, ◌++◌, ◌∷◌, [], codes, decimal, length, OnOk};
+ghost use Rattle.mdp_num.specs.Value.{spelling};
+ghost use Rattle.mdp_spec.specs.Mdp.{states_of};
+ghost use Rattle.mdp_spec.specs.Labels.{initial_of};
+ghost use Rattle.mdp_text.specs.Answer.{Keeps};
+ghost use Rattle.mdp_text.specs.Spelling.{line, dir_text, quoted};
+ghost use Rattle.mdp_horizon_bounds.specs.Spelling.{version_text, claim_text, objective_text, plain_claim, lower_text, upper_text, start_text, init_text, state_text, state_lines};
+
+use crate::claim::Claim;
+use mdp_num::{Frac, Memory};
+use mdp_rows::{Dir, Model};
+use mdp_text::{push_fraction, push_fraction_end, push_whole};
+
+/// Appends the line of the version.
+pub(crate) fn push_version(out: &mut Vec<u8>) -> Result<(), Memory>
+    ensures text { OnOk result (out.new.items ≡ out.old.items ++ line version_text) }
+    ensures front { Keeps out.old.items out.new.items }
+{
+    out.extend_from_slice(b"mdp-horizon-bounds 1\n")?;
+    Ok(())
+}
+
+/// The word of a direction, with the blanks around it.
+fn front_of(dir: Dir) -> &'static [u8]
+    ensures { result.now ≡ codes "claim " ++ dir_text dir ++ codes " " }
+{
+    match dir {
+        Dir::Max => b"claim max ",
+        Dir::Min => b"claim min ",
+    }
+}
+
+/// Appends what was asked.
+fn push_objective(out: &mut Vec<u8>, claim: Claim<'_>) -> Result<(), Memory>
+    ensures text { OnOk result (out.new.items ≡ out.old.items ++ objective_text (plain_claim claim.entry)) }
+    ensures front { Keeps out.old.items out.new.items }
+{
+    match claim {
+        Claim::Until(stay, label) => {
+            out.extend_from_slice(b"until \"")?;
+            out.extend_from_slice(stay)?;
+            out.extend_from_slice(b"\" \"")?;
+            out.extend_from_slice(label)?;
+        }
+        Claim::Total(name) => {
+            out.extend_from_slice(b"total \"")?;
+            out.extend_from_slice(name)?;
+        }
+    }
+    out.extend_from_slice(b"\"")?;
+    Ok(())
+}
+
+/// Appends the line of the claim.
+pub(crate) fn push_claim(
+    out: &mut Vec<u8>,
+    dir: Dir,
+    claim: Claim<'_>,
+    steps: u64,
+) -> Result<(), Memory>
+    ensures text { OnOk result (out.new.items ≡ out.old.items ++ line (claim_text dir (plain_claim claim.entry) steps)) }
+    ensures front { Keeps out.old.items out.new.items }
+{
+    out.extend_from_slice(front_of(dir))?;
+    push_objective(out, claim)?;
+    out.extend_from_slice(b" ")?;
+    push_whole(out, steps)?;
+    out.extend_from_slice(b"\n")?;
+    Ok(())
+}
+
+/// Appends a blank and a lower value, `-inf` where it is missing.
+fn push_lower(out: &mut Vec<u8>, value: &Option<Frac>) -> Result<(), Memory>
+    ensures text { OnOk result (out.new.items ≡ out.old.items ++ (32 ∷ lower_text value.now)) }
+    ensures front { Keeps out.old.items out.new.items }
+{
+    match value {
+        Some(value) => push_fraction(out, value),
+        None => {
+            out.extend_from_slice(b" -inf")?;
+            Ok(())
+        }
+    }
+}
+
+/// Appends a blank, an upper value, `inf` where it is missing, and the line's end.
+fn push_upper(out: &mut Vec<u8>, value: &Option<Frac>) -> Result<(), Memory>
+    ensures text { OnOk result (out.new.items ≡ out.old.items ++ (32 ∷ (upper_text value.now ++ 10 ∷ []))) }
+    ensures front { Keeps out.old.items out.new.items }
+{
+    match value {
+        Some(value) => push_fraction_end(out, value),
+        None => {
+            out.extend_from_slice(b" inf\n")?;
+            Ok(())
+        }
+    }
+}
+
+/// Appends a state, its values and the line's end.
+fn push_values(
+    out: &mut Vec<u8>,
+    state: u64,
+    lower: &Option<Frac>,
+    upper: &Option<Frac>,
+) -> Result<(), Memory>
+    ensures text { OnOk result (out.new.items ≡ out.old.items ++ (decimal state ++ (32 ∷ (lower_text lower.now ++ (32 ∷ (upper_text upper.now ++ 10 ∷ [])))))) }
+    ensures front { Keeps out.old.items out.new.items }
+{
+    push_whole(out, state)?;
+    push_lower(out, lower)?;
+    push_upper(out, upper)
+}
+
+/// Appends the line of a given initial state.
+fn push_start(
+    out: &mut Vec<u8>,
+    state: u64,
+    lower: &Option<Frac>,
+    upper: &Option<Frac>,
+) -> Result<(), Memory>
+    ensures text { OnOk result (out.new.items ≡ out.old.items ++ line (start_text state lower.now upper.now)) }
+    ensures front { Keeps out.old.items out.new.items }
+{
+    out.extend_from_slice(b"init ")?;
+    push_values(out, state, lower, upper)
+}
+
+/// Appends the line of the initial state.
+pub(crate) fn push_init(
+    out: &mut Vec<u8>,
+    model: &Model,
+    lower: &[Option<Frac>],
+    upper: &[Option<Frac>],
+) -> Result<(), Memory>
+    requires lower { length lower.now ≡ states_of model.now }
+    requires upper { length upper.now ≡ states_of model.now }
+    ensures text { OnOk result (out.new.items ≡ out.old.items ++ line (init_text (initial_of model.now) lower.now upper.now)) }
+    ensures front { Keeps out.old.items out.new.items }
+{
+    match model.initial() {
+        Some(state) => {
+            let low = lower[state as usize];
+            let high = upper[state as usize];
+            push_start(out, u64::from(state), &low, &high)
+        }
+        None => {
+            out.extend_from_slice(b"init -\n")?;
+            Ok(())
+        }
+    }
+}
+
+/// Appends the line of a state.
+fn push_state(
+    out: &mut Vec<u8>,
+    state: u64,
+    lower: &Option<Frac>,
+    upper: &Option<Frac>,
+) -> Result<(), Memory>
+    ensures text { OnOk result (out.new.items ≡ out.old.items ++ line (state_text state lower.now upper.now)) }
+    ensures front { Keeps out.old.items out.new.items }
+{
+    out.extend_from_slice(b"state ")?;
+    push_values(out, state, lower, upper)
+}
+
+/// Appends a line for each state.
+pub(crate) fn push_states(
+    out: &mut Vec<u8>,
+    lower: &[Option<Frac>],
+    upper: &[Option<Frac>],
+) -> Result<(), Memory>
+    requires { length upper.now ≡ length lower.now }
+    ensures text { OnOk result (out.new.items ≡ out.old.items ++ state_lines 0 lower.now upper.now) }
+    ensures front { Keeps out.old.items out.new.items }
+{
+    for s in 0..lower.len() {
+        push_state(out, s as u64, &lower[s], &upper[s])?;
+    }
+    Ok(())
+}

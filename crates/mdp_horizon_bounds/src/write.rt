@@ -1,0 +1,74 @@
+ghost use Rattle.std.specs.Prelude.{◌≡◌, ◌++◌, length, OnOk, OnErr};
+ghost use Rattle.mdp_spec.specs.Mdp.{states_of};
+ghost use Rattle.mdp_text.specs.Answer.{Keeps};
+ghost use Rattle.mdp_horizon_bounds.specs.Spelling.{head_text, bounds_text, plain_claim};
+ghost use Rattle.mdp_horizon_bounds.specs.Answer.{plain};
+
+use crate::bounds::HorizonBounds;
+use crate::claim::Claim;
+use crate::push::{push_claim, push_init, push_states, push_version};
+use mdp_horizon::push_steps;
+use mdp_num::Memory;
+use mdp_rows::{Dir, Model};
+use mdp_text::{push_end, push_number};
+
+/// Appends the lines before those of the states.
+fn push_head(
+    out: &mut Vec<u8>,
+    model: &Model,
+    dir: Dir,
+    claim: Claim<'_>,
+    bounds: &HorizonBounds,
+) -> Result<(), Memory>
+    requires lower { length bounds.now.lower.items ≡ states_of model.now }
+    requires upper { length bounds.now.upper.items ≡ states_of model.now }
+    ensures text { OnOk result (out.new.items ≡ out.old.items ++ head_text dir (plain_claim claim.entry) model.now (plain bounds.now)) }
+    ensures front { Keeps out.old.items out.new.items }
+{
+    push_version(out)?;
+    push_claim(out, dir, claim, bounds.steps.len() as u64)?;
+    push_number(out, u64::from(model.states()))?;
+    push_init(out, model, &bounds.lower, &bounds.upper)
+}
+
+/// Appends all lines; after `Memory` the text begins as before.
+#[tactic(auto, unfolding(crate::specs::Spelling::bounds_text))]
+fn push_lines(
+    out: &mut Vec<u8>,
+    model: &Model,
+    dir: Dir,
+    claim: Claim<'_>,
+    bounds: &HorizonBounds,
+) -> Result<(), Memory>
+    requires lower { length bounds.now.lower.items ≡ states_of model.now }
+    requires upper { length bounds.now.upper.items ≡ states_of model.now }
+    ensures text { OnOk result (out.new.items ≡ out.old.items ++ bounds_text dir (plain_claim claim.entry) model.now (plain bounds.now)) }
+    ensures front { Keeps out.old.items out.new.items }
+{
+    push_head(out, model, dir, claim, bounds)?;
+    push_states(out, &bounds.lower, &bounds.upper)?;
+    push_steps(out, &bounds.steps)?;
+    push_end(out)
+}
+
+/// Appends the text of lower and upper values: what was asked, the number of states, the initial state, a line for each state and a line for each
+/// step. After `Memory` the text is as before.
+pub fn write_horizon_bounds(
+    model: &Model,
+    dir: Dir,
+    claim: Claim<'_>,
+    bounds: &HorizonBounds,
+    out: &mut Vec<u8>,
+) -> Result<(), Memory>
+    requires lower { length bounds.now.lower.items ≡ states_of model.now }
+    requires upper { length bounds.now.upper.items ≡ states_of model.now }
+    ensures text { OnOk result (out.new.items ≡ out.old.items ++ bounds_text dir (plain_claim claim.entry) model.now (plain bounds.now)) }
+    ensures unchanged { OnErr result (out.new.items ≡ out.old.items) }
+{
+    let start = out.len();
+    let answer = push_lines(out, model, dir, claim, bounds);
+    if answer.is_err() {
+        out.truncate(start);
+    }
+    answer
+}
