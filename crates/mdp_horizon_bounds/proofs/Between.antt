@@ -1,5 +1,5 @@
 -- What the bounds mean.
-use Rattle.std.proofs.Common.{◌≡◌, ◌∙◌, ℕ, zero, suc, ◌<◌, List, length, map, Option, Some, sym, ap, subst, arith, ℤ, pos, negsuc, ◌<ℤ◌}
+use Rattle.std.proofs.Common.{◌≡◌, ◌∙◌, ℕ, zero, suc, ◌<◌, List, length, map, Option, Some, refl, sym, ap, subst, arith, ℤ, pos, negsuc, ◌<ℤ◌}
 use Rattle.std.proofs.lemmas.Int.{ints}
 use Rattle.std.proofs.lemmas.List.{get_or-map, length-map}
 use Rattle.mdp_math.specs.Rational.{ℚ}
@@ -80,3 +80,9 @@ pub bounds-min_by : (dir : Dir) (one : ℤ) (m : Mdp) (o : Objective) (n : ℕ) 
 bounds-min_by dir (pos one) m o n b e h k q =
     subst (λ (b : Bounds). MinBetween m o n b.lower b.upper b.steps) (sym (q ∙ ap (λ (d : Dir). bounds_of d (pos one) m o n) e)) (bounds-min one m o n (omega (arith, ints)) k)
 bounds-min_by dir (negsuc one) m o n b e h k q = absurd (omega (arith, ints))
+
+-- and there is one of each for each state
+pub bounds-each : (dir : Dir) (one : ℤ) (m : Mdp) (o : Objective) (n : ℕ) (b : Bounds) → pos 0 <ℤ one → IsMdp m → b ≡ bounds_of dir one m o n
+    → (length b.lower ≡ states_of m) × (length b.upper ≡ states_of m)
+bounds-each Max one m o n b h k q = let r = bounds-max_by Max one m o n b refl h k q in (r.one_each, r.one_above)
+bounds-each Min one m o n b h k q = let r = bounds-min_by Min one m o n b refl h k q in (r.one_each, r.one_above)

@@ -120,6 +120,9 @@ pub fn until_bounds(
     requires goals_each { length goals.now ≡ states_of model.now }
     requires digits { digits ≤ 30 }
     requires table { steps * states_of model.now ≤ 2 ^ 22 }
+    ensures written { IfOk result (λ found. plain found ≡ bounds_of dir (pos (10 ^ digits)) model.now (until stay.now goals.now) steps) }
+    ensures lower { IfOk result (λ found. length found.lower.items ≡ states_of model.now) }
+    ensures upper { IfOk result (λ found. length found.upper.items ≡ states_of model.now) }
     ensures max { dir ≡ Max → IfOk result (λ found. MaxBetween model.now (until stay.now goals.now) steps (plain found).lower (plain found).upper (plain found).steps) }
     ensures min { dir ≡ Min → IfOk result (λ found. MinBetween model.now (until stay.now goals.now) steps (plain found).lower (plain found).upper (plain found).steps) }
 {
@@ -145,6 +148,9 @@ pub fn total_bounds(
     requires name { name < length model.now.names }
     requires digits { digits ≤ 30 }
     requires table { steps * states_of model.now ≤ 2 ^ 22 }
+    ensures written { IfOk result (λ found. plain found ≡ bounds_of dir (pos (10 ^ digits)) model.now (total name) steps) }
+    ensures lower { IfOk result (λ found. length found.lower.items ≡ states_of model.now) }
+    ensures upper { IfOk result (λ found. length found.upper.items ≡ states_of model.now) }
     ensures max { dir ≡ Max → IfOk result (λ found. MaxBetween model.now (total name) steps (plain found).lower (plain found).upper (plain found).steps) }
     ensures min { dir ≡ Min → IfOk result (λ found. MinBetween model.now (total name) steps (plain found).lower (plain found).upper (plain found).steps) }
 {
