@@ -1,5 +1,5 @@
--- A text that is due is that of best values; and the states that it speaks of.
-use Rattle.std.proofs.Common.{◌≡◌, ℕ, Bool, true, false, if◌then◌else◌, List, length, Option, Some, None, Result, Ok, Err, IfOk, replicate, refl, sym, ap, ◌∙◌}
+-- A text that is due is that of best values; the states that it speaks of; and why there is none.
+use Rattle.std.proofs.Common.{◌≡◌, ℕ, ◌*◌, ◌<◌, ◌⊎◌, inl, inr, Bool, true, false, if◌then◌else◌, nat_lt, List, length, Option, Some, None, Result, Ok, Err, IfOk, replicate, refl, sym, ap, ◌∙◌, subst}
 use Rattle.std.proofs.lemmas.List.{length-map, length-replicate}
 use Rattle.mdp_math.specs.Result.{◌>>=◌}
 use Rattle.mdp_spec.specs.Labels.{place_of, marks_of}
@@ -8,16 +8,21 @@ use Rattle.mdp_spec.specs.Row.{IsMdp}
 use Rattle.mdp_rows.specs.declared.dir.Dir.{Dir}
 use Rattle.mdp_rows.specs.declared.dir.Dir.TheVariants.{Max, Min}
 use Rattle.mdp_rows.specs.declared.rule.RowRule.{RowRule}
-use Rattle.mdp_horizon.specs.Laws.{AnswersAreGreatest, AnswersAreLeast}
-use Rattle.mdp_horizon.specs.Spelling.{until_text}
-use Rattle.mdp_horizon.specs.Written.{Place, Answer, written_until}
+use Rattle.mdp_check.proofs.Accepting.{below_names}
+use Rattle.mdp_horizon.specs.declared.error.HorizonError.{HorizonError}
+use Rattle.mdp_horizon.specs.declared.error.HorizonError.TheVariants as error
+use Rattle.mdp_horizon.specs.Answer.{Says}
+use Rattle.mdp_horizon.specs.Laws.{AnswersAreGreatest, AnswersAreLeast, TotalsAreGreatest, TotalsAreLeast}
+use Rattle.mdp_horizon.specs.Spelling.{until_text, total_text}
+use Rattle.mdp_horizon.specs.Written.{Place, Answer, written_until, written_total}
 use Rattle.mdp_horizon.proofs.Turns.{ok_same, ok_part}
-use Rattle.mdp_job.specs.Refusal.{query_steps}
+use Rattle.mdp_job.specs.Refusal.{PlainRefusal, query_steps, no_memory}
 use Rattle.mdp_command.specs.Files.{model_due}
 use Rattle.mdp_command.specs.Said.{Said}
 use Rattle.mdp_command.proofs.Working.{read_of_due}
-use Rattle.mdp_command_horizon.specs.Due.{marks_at, states_with, states_that_stay, stay_word, said_of_end, said_of_marks, IsHorizonDue}
-use Rattle.mdp_command_horizon.specs.Shown.{IsBest, IsHorizonPrinted, IsHorizonShown}
+use Rattle.mdp_command_horizon.specs.Code.{refused}
+use Rattle.mdp_command_horizon.specs.Due.{most_choices, said_of_end, said_within, marks_at, states_with, states_that_stay, stay_word, said_of_marks, IsHorizonDue, name_at, said_of_name, IsHorizonRewardDue}
+use Rattle.mdp_command_horizon.specs.Shown.{IsShownOf, IsBest, IsHorizonPrinted, IsHorizonShown, IsBestTotal, IsHorizonRewardPrinted, IsHorizonRewardShown}
 
 -- ---- one mark for each state
 
@@ -34,38 +39,72 @@ stay-each m (Some label) marks e = with-each m label marks e
 
 -- ---- what is due
 
+-- a text is that of an answer
+text_by : (f : Answer → List ℕ) (end : Result Answer Place) (text : List ℕ) → said_of_end f end ≡ Ok text → (a : Answer) × (end ≡ Ok a) × (text ≡ f a)
+text_by f (Ok a) text e = (a, refl, (let same : f a ≡ text = cc e in sym same))
+text_by f (Err p) text e = cc e
+
+not_long : (long : Bool) (said : Said) (text : List ℕ) → (if long then Err query_steps else said) ≡ Ok text → said ≡ Ok text
+not_long true said text e = cc e
+not_long false said text e = e
+
+text_within : (steps : ℕ) (m : Mdp) (f : Answer → List ℕ) (end : Result Answer Place) (text : List ℕ) → said_within steps m f end ≡ Ok text → (a : Answer) × (end ≡ Ok a) × (text ≡ f a)
+text_within steps m f end text e = text_by f end text (not_long (nat_lt most_choices (steps * states_of m)) (said_of_end f end) text e)
+
+-- an error is want of memory, or it says where the computation ended
+refused_by : (long : Bool) (f : Answer → List ℕ) (end : Result Answer Place) (e : HorizonError) → long ≡ false → Says e end
+    → ((let said : Said = Err (refused e) in said) ≡ Err no_memory) ⊎ ((let said : Said = Err (refused e) in said) ≡ (if long then Err query_steps else said_of_end f end))
+refused_by true f end e short says = cc
+refused_by false f end (error.Wide depth s c) short says = inr (ap (said_of_end f) (sym says))
+refused_by false f end error.Memory short says = inl refl
+
+pub refused_within : (steps : ℕ) (m : Mdp) (f : Answer → List ℕ) (end : Result Answer Place) (e : HorizonError) (r : PlainRefusal) → nat_lt most_choices (steps * states_of m) ≡ false → Says e end
+    → r ≡ refused e → ((let said : Said = Err r in said) ≡ Err no_memory) ⊎ ((let said : Said = Err r in said) ≡ said_within steps m f end)
+refused_within steps m f end e r short says is =
+    subst (λ (r : PlainRefusal). ((let said : Said = Err r in said) ≡ Err no_memory) ⊎ ((let said : Said = Err r in said) ≡ said_within steps m f end)) (sym is)
+    (refused_by (nat_lt most_choices (steps * states_of m)) f end e short says)
+
+-- ---- a bounded until
+
 module _ (greatest : AnswersAreGreatest) (least : AnswersAreLeast) (stay : Option (List ℕ)) (label : List ℕ) (steps : ℕ) (m : Mdp) (mdp : IsMdp m) (text : List ℕ) where
   best_of : (dir : Dir) (stays goals : List Bool) (a : Answer) → written_until dir m stays goals steps ≡ Ok a → IsBest dir m stays goals steps a
   best_of Max stays goals a made = greatest m stays goals steps a mdp made
   best_of Min stays goals a made = least m stays goals steps a mdp made
 
-  end_of : (dir : Dir) (stays goals : List Bool) → states_that_stay m stay ≡ Ok stays → states_with m label ≡ Ok goals → (end : Result Answer Place) → written_until dir m stays goals steps ≡ end
-      → said_of_end dir stay label m end ≡ Ok text → IsHorizonPrinted dir stay label steps m text
-  end_of dir stays goals s g (Err p) made e = cc e
-  end_of dir stays goals s g (Ok a) made e = record {
-    stays = stays;
-    stays_are = s;
-    goals = goals;
-    goals_are = g;
-    answer = a;
-    spelled = (let same : until_text dir (stay_word stay) label m a ≡ text = cc e in sym same);
-    best = best_of dir stays goals a made;
-  }
-
-  not_long : (long : Bool) (said : Said) → (if long then Err query_steps else said) ≡ Ok text → said ≡ Ok text
-  not_long true said e = cc e
-  not_long false said e = e
-
   pub printed_of_due : (dir : Dir) → IsHorizonDue dir stay label steps m (Ok text) → IsHorizonPrinted dir stay label steps m text
   printed_of_due dir due =
       let a = ok_part (states_that_stay m stay) (λ stays. states_with m label >>= (λ goals. said_of_marks dir stay label steps m stays goals)) text (sym due) in
       let b = ok_part (states_with m label) (λ goals. said_of_marks dir stay label steps m a.0 goals) text a.2 in
-      end_of dir a.0 b.0 a.1 b.1 (written_until dir m a.0 b.0 steps) refl (not_long _ _ b.2)
+      let c = text_within steps m (until_text dir (stay_word stay) label m) (written_until dir m a.0 b.0 steps) text b.2 in
+      record { stays = a.0; stays_are = a.1; goals = b.0; goals_are = b.1; answer = c.0; spelled = c.2; best = best_of dir a.0 b.0 c.0 c.1 }
+
+-- ---- the total reward of a name
+
+module _ (greatest : TotalsAreGreatest) (least : TotalsAreLeast) (name : List ℕ) (steps : ℕ) (m : Mdp) (mdp : IsMdp m) (text : List ℕ) where
+  best_total_of : (dir : Dir) (r : ℕ) (a : Answer) → r < length m.names → written_total dir m r steps ≡ Ok a → IsBestTotal dir m r steps a
+  best_total_of Max r a named made = greatest m r steps a mdp named made
+  best_total_of Min r a named made = least m r steps a mdp named made
+
+  printed_by : (dir : Dir) (place : Option ℕ) → place_of name m.names ≡ place → name_at place >>= said_of_name dir name steps m ≡ Ok text → IsHorizonRewardPrinted dir name steps m text
+  printed_by dir None e due = cc due
+  printed_by dir (Some r) e due =
+      let c = text_within steps m (total_text dir name m) (written_total dir m r steps) text due in
+      record { place = r; place_is = e; answer = c.0; spelled = c.2; best = best_total_of dir r c.0 (below_names name m.names r e) c.1 }
+
+  pub printed_of_reward_due : (dir : Dir) → IsHorizonRewardDue dir name steps m (Ok text) → IsHorizonRewardPrinted dir name steps m text
+  printed_of_reward_due dir due = printed_by dir (place_of name m.names) refl (sym due)
 
 -- ---- what is shown of the model's bytes
 
+shown_of : (IsPrinted : Mdp → List ℕ → Type 0) (rule : RowRule) (m : Mdp) (said : Said) → IfOk said (IsPrinted m) → (bytes : List ℕ) → model_due rule bytes ≡ Ok m
+    → IfOk said (IsShownOf IsPrinted rule bytes)
+shown_of IsPrinted rule m (Ok text) printed bytes is = let read = read_of_due rule bytes m is in record { short = read.0; model = m; reads = read.1; printed = printed }
+shown_of IsPrinted rule m (Err r) printed bytes is = tt
+
 pub shown : (rule : RowRule) (dir : Dir) (stay : Option (List ℕ)) (label : List ℕ) (steps : ℕ) (m : Mdp) (said : Said) → IfOk said (IsHorizonPrinted dir stay label steps m) → (bytes : List ℕ)
     → model_due rule bytes ≡ Ok m → IfOk said (IsHorizonShown rule dir stay label steps bytes)
-shown rule dir stay label steps m (Ok text) printed bytes is =
-    let read = read_of_due rule bytes m is in record { short = read.0; model = m; reads = read.1; printed = printed }
-shown rule dir stay label steps m (Err r) printed bytes is = tt
+shown rule dir stay label steps = shown_of (IsHorizonPrinted dir stay label steps) rule
+
+pub reward_shown : (rule : RowRule) (dir : Dir) (name : List ℕ) (steps : ℕ) (m : Mdp) (said : Said) → IfOk said (IsHorizonRewardPrinted dir name steps m) → (bytes : List ℕ)
+    → model_due rule bytes ≡ Ok m → IfOk said (IsHorizonRewardShown rule dir name steps bytes)
+reward_shown rule dir name steps = shown_of (IsHorizonRewardPrinted dir name steps) rule

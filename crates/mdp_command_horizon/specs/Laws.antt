@@ -1,13 +1,17 @@
--- A law of what is due to a bounded until, over the definitions alone.
+-- Laws of what is due to the command, over the definitions alone.
 use Rattle.std.specs.Prelude.{ℕ, List, Option, Ok}
 use Rattle.mdp_spec.specs.Mdp.{Mdp}
 use Rattle.mdp_spec.specs.Row.{IsMdp}
 use Rattle.mdp_rows.specs.declared.dir.Dir.{Dir}
-use Rattle.mdp_command_horizon.specs.Due.{IsHorizonDue}
-use Rattle.mdp_command_horizon.specs.Shown.{IsHorizonPrinted}
+use Rattle.mdp_command_horizon.specs.Due.{IsHorizonDue, IsHorizonRewardDue}
+use Rattle.mdp_command_horizon.specs.Shown.{IsHorizonPrinted, IsHorizonRewardPrinted}
 
 -- a text that is due is that of best values and a best table
 abbrev pub TextIsAnswer : Type 0
 TextIsAnswer =
     (dir : Dir) (stay : Option (List ℕ)) (label : List ℕ) (steps : ℕ) (m : Mdp) (text : List ℕ) → IsMdp m → IsHorizonDue dir stay label steps m (Ok text)
     → IsHorizonPrinted dir stay label steps m text
+
+abbrev pub RewardTextIsAnswer : Type 0
+RewardTextIsAnswer =
+    (dir : Dir) (name : List ℕ) (steps : ℕ) (m : Mdp) (text : List ℕ) → IsMdp m → IsHorizonRewardDue dir name steps m (Ok text) → IsHorizonRewardPrinted dir name steps m text

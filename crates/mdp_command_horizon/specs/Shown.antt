@@ -1,18 +1,28 @@
--- What is shown of the text that answers a bounded until.
-use Rattle.std.specs.Prelude.{◌≡◌, ℕ, ◌≤◌, Bool, List, length, Option, Ok}
+-- What is shown of the text that answers a bounded until, or a total reward.
+use Rattle.std.specs.Prelude.{◌≡◌, ℕ, ◌≤◌, Bool, List, length, Option, Some, Ok}
+use Rattle.mdp_spec.specs.Labels.{place_of}
 use Rattle.mdp_spec.specs.Mdp.{Mdp}
 use Rattle.mdp_rows.specs.declared.dir.Dir.{Dir}
 use Rattle.mdp_rows.specs.declared.dir.Dir.TheVariants.{Max, Min}
 use Rattle.mdp_rows.specs.declared.rule.RowRule.{RowRule}
 use Rattle.mdp_drn.specs.Reading.{Reads}
-use Rattle.mdp_horizon.specs.Bounds.{BoundedMax, BoundedMin}
-use Rattle.mdp_horizon.specs.Spelling.{until_text}
+use Rattle.mdp_horizon.specs.Bounds.{BoundedMax, BoundedMin, TotalMax, TotalMin}
+use Rattle.mdp_horizon.specs.Spelling.{until_text, total_text}
 use Rattle.mdp_horizon.specs.Written.{Answer}
 use Rattle.mdp_command.specs.Files.{most_bytes}
 use Rattle.mdp_command.specs.Read.{IsWorkOnModel}
 use Rattle.mdp_command.specs.Said.{Said}
 use Rattle.mdp_command.specs.Streams.{Input}
-use Rattle.mdp_command_horizon.specs.Due.{states_with, states_that_stay, stay_word, IsHorizonDue}
+use Rattle.mdp_command_horizon.specs.Due.{states_with, states_that_stay, stay_word, IsHorizonDue, IsHorizonRewardDue}
+
+-- the model's bytes read as a model for which the text is printed
+pub record IsShownOf (IsPrinted : Mdp → List ℕ → Type 0) (rule : RowRule) (model_bytes text : List ℕ) : Type 0 where
+  pub short : length model_bytes ≤ most_bytes
+  pub model : Mdp
+  pub reads : Reads model_bytes rule model
+  pub printed : IsPrinted model text
+
+-- ---- a bounded until
 
 -- the values are the greatest, or the least, probabilities within so many steps, and the tree that follows the table meets them
 abbrev pub IsBest : Dir → Mdp → List Bool → List Bool → ℕ → Answer → Type 0
@@ -30,12 +40,31 @@ pub record IsHorizonPrinted (dir : Dir) (stay : Option (List ℕ)) (label : List
   pub best : IsBest dir m stays goals steps answer
 
 -- the same of the model that the bytes read as
-pub record IsHorizonShown (rule : RowRule) (dir : Dir) (stay : Option (List ℕ)) (label : List ℕ) (steps : ℕ) (model_bytes text : List ℕ) : Type 0 where
-  pub short : length model_bytes ≤ most_bytes
-  pub model : Mdp
-  pub reads : Reads model_bytes rule model
-  pub printed : IsHorizonPrinted dir stay label steps model text
+abbrev pub IsHorizonShown : RowRule → Dir → Option (List ℕ) → List ℕ → ℕ → List ℕ → List ℕ → Type 0
+IsHorizonShown rule dir stay label steps = IsShownOf (IsHorizonPrinted dir stay label steps) rule
 
 -- a bounded until of the model of a source: what is due to the bytes that it had, and what is shown of a text; or a fault, or want of memory
 abbrev pub IsHorizonRead : RowRule → Dir → Option (List ℕ) → List ℕ → ℕ → Input → Said → Type 0
 IsHorizonRead rule dir stay label steps = IsWorkOnModel rule (IsHorizonDue dir stay label steps) (IsHorizonShown rule dir stay label steps)
+
+-- ---- the total reward of a name
+
+-- the values are the greatest, or the least, total rewards in so many steps, and the tree that follows the table earns them
+abbrev pub IsBestTotal : Dir → Mdp → ℕ → ℕ → Answer → Type 0
+IsBestTotal Max m r steps a = TotalMax m r steps a.values a.steps
+IsBestTotal Min m r steps a = TotalMin m r steps a.values a.steps
+
+-- the text of values and of a table that are best, for the reward name
+pub record IsHorizonRewardPrinted (dir : Dir) (name : List ℕ) (steps : ℕ) (m : Mdp) (text : List ℕ) : Type 0 where
+  pub place : ℕ
+  pub place_is : place_of name m.names ≡ Some place
+  pub answer : Answer
+  pub spelled : text ≡ total_text dir name m answer
+  pub best : IsBestTotal dir m place steps answer
+
+abbrev pub IsHorizonRewardShown : RowRule → Dir → List ℕ → ℕ → List ℕ → List ℕ → Type 0
+IsHorizonRewardShown rule dir name steps = IsShownOf (IsHorizonRewardPrinted dir name steps) rule
+
+-- the total reward of a name in the model of a source, as above
+abbrev pub IsHorizonRewardRead : RowRule → Dir → List ℕ → ℕ → Input → Said → Type 0
+IsHorizonRewardRead rule dir name steps = IsWorkOnModel rule (IsHorizonRewardDue dir name steps) (IsHorizonRewardShown rule dir name steps)

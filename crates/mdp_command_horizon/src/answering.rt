@@ -11,15 +11,13 @@ ghost use Rattle.mdp_command_horizon.specs.Shown.{IsHorizonPrinted, IsHorizonRea
 ghost use Rattle.mdp_command_horizon.specs.Code.{names_of};
 
 use crate::laws::horizon_law;
+use crate::tables::{is_too_long, refusal_of};
 use mdp_command::read_model;
 use mdp_edge::Source;
-use mdp_horizon::{Bounded, HorizonError, until, write_until};
+use mdp_horizon::{Bounded, until, write_until};
 use mdp_job::Refusal;
 use mdp_rows::{Dir, Marks, Model, RowRule};
 use std::alloc::Global;
-
-/// The most choices that a table may have, one for each state and each step.
-const MOST_CHOICES: u64 = 4_194_304;
 
 /// The states with this label.
 fn states_with(alloc: Global, model: &Model, label: &[u8]) -> Result<Marks, Refusal>
@@ -105,27 +103,13 @@ impl Asked<'_> {
         requires goals_each { length goals.now ≡ states_of model.now }
         ensures { (said result ≡ Err no_memory) ⊎ (said result ≡ said_of_marks self.entry.dir (names_of self.entry.stay) self.entry.label.now self.entry.steps model.now stays.now goals.now) }
     {
-        if u64::from(self.steps) * u64::from(model.states()) > MOST_CHOICES {
+        if is_too_long(model, self.steps) {
             return Err(Refusal::QuerySteps);
         }
-        let found = match until(alloc, model, self.dir, stays, goals, self.steps) {
-            Ok(found) => found,
-            Err(
-                HorizonError::Wide {
-                    depth,
-                    state,
-                    choice,
-                },
-            ) => {
-                return Err(Refusal::HorizonWide {
-                    depth,
-                    state,
-                    choice,
-                });
-            }
-            Err(HorizonError::Memory) => return Err(Refusal::Memory),
-        };
-        self.text_of(alloc, model, &found)
+        match until(alloc, model, self.dir, stays, goals, self.steps) {
+            Ok(found) => self.text_of(alloc, model, &found),
+            Err(error) => Err(refusal_of(error)),
+        }
     }
 
     /// The text for a model, or its refusal: the labels are looked up first.

@@ -1,10 +1,17 @@
-ghost use Rattle.mdp_command_horizon.specs.Laws.{TextIsAnswer};
+ghost use Rattle.mdp_command_horizon.specs.Laws.{TextIsAnswer, RewardTextIsAnswer};
 
-use mdp_horizon::until_law;
+use mdp_horizon::{total_law, until_law};
 
 /// A law of `horizon`: a text that is due spells values that are the greatest, or the least, probabilities, and a table whose tree meets them.
 pub fn horizon_law()
     ensures { TextIsAnswer }
 {
     until_law();
+}
+
+/// The same of `horizon` for a reward name: the values are the greatest, or the least, total rewards.
+pub fn horizon_reward_law()
+    ensures { RewardTextIsAnswer }
+{
+    total_law();
 }

@@ -1,0 +1,37 @@
+ghost use Rattle.std.specs.Prelude.{◌≡◌, ◌*◌, nat_lt};
+ghost use Rattle.mdp_spec.specs.Mdp.{states_of};
+ghost use Rattle.mdp_job.specs.Refusal.{plain_refusal};
+ghost use Rattle.mdp_command_horizon.specs.Due.{most_choices};
+ghost use Rattle.mdp_command_horizon.specs.Code.{refused};
+
+use mdp_horizon::HorizonError;
+use mdp_job::Refusal;
+use mdp_rows::Model;
+
+/// The most choices that a table may have, one for each state and each step.
+const MOST_CHOICES: u64 = 4_194_304;
+
+/// Whether the table of so many steps is too large.
+pub(crate) fn is_too_long(model: &Model, steps: u32) -> bool
+    ensures { result ≡ nat_lt most_choices (steps * states_of model.now) }
+{
+    u64::from(steps) * u64::from(model.states()) > MOST_CHOICES
+}
+
+/// Why there is no answer, as a refusal.
+pub(crate) fn refusal_of(error: HorizonError) -> Refusal
+    ensures { plain_refusal result ≡ refused error }
+{
+    match error {
+        HorizonError::Wide {
+            depth,
+            state,
+            choice,
+        } => Refusal::HorizonWide {
+            depth,
+            state,
+            choice,
+        },
+        HorizonError::Memory => Refusal::Memory,
+    }
+}
