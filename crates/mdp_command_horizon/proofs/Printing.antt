@@ -44,7 +44,7 @@ text_by : (f : Answer → List ℕ) (end : Result Answer Place) (text : List ℕ
 text_by f (Ok a) text e = (a, refl, (let same : f a ≡ text = cc e in sym same))
 text_by f (Err p) text e = cc e
 
-not_long : (long : Bool) (said : Said) (text : List ℕ) → (if long then Err query_steps else said) ≡ Ok text → said ≡ Ok text
+pub not_long : (long : Bool) (said : Said) (text : List ℕ) → (if long then Err query_steps else said) ≡ Ok text → said ≡ Ok text
 not_long true said text e = cc e
 not_long false said text e = e
 
@@ -96,7 +96,7 @@ module _ (greatest : TotalsAreGreatest) (least : TotalsAreLeast) (name : List �
 
 -- ---- what is shown of the model's bytes
 
-shown_of : (IsPrinted : Mdp → List ℕ → Type 0) (rule : RowRule) (m : Mdp) (said : Said) → IfOk said (IsPrinted m) → (bytes : List ℕ) → model_due rule bytes ≡ Ok m
+pub shown_of : (IsPrinted : Mdp → List ℕ → Type 0) (rule : RowRule) (m : Mdp) (said : Said) → IfOk said (IsPrinted m) → (bytes : List ℕ) → model_due rule bytes ≡ Ok m
     → IfOk said (IsShownOf IsPrinted rule bytes)
 shown_of IsPrinted rule m (Ok text) printed bytes is = let read = read_of_due rule bytes m is in record { short = read.0; model = m; reads = read.1; printed = printed }
 shown_of IsPrinted rule m (Err r) printed bytes is = tt

@@ -20,7 +20,7 @@ use mdp_rows::{Dir, Marks, Model, RowRule};
 use std::alloc::Global;
 
 /// The states with this label.
-fn states_with(alloc: Global, model: &Model, label: &[u8]) -> Result<Marks, Refusal>
+pub(crate) fn states_with(alloc: Global, model: &Model, label: &[u8]) -> Result<Marks, Refusal>
     ensures { (plain_error result ≡ Err no_memory) ⊎ (plain_error result ≡ states_with model.now label.now) }
 {
     let Some(place) = model.label(label) else {
@@ -43,7 +43,11 @@ fn all_states(alloc: Global, model: &Model) -> Result<Marks, Refusal>
 }
 
 /// The states that stay: those with a label, or every state.
-fn states_that_stay(alloc: Global, model: &Model, stay: Option<&[u8]>) -> Result<Marks, Refusal>
+pub(crate) fn states_that_stay(
+    alloc: Global,
+    model: &Model,
+    stay: Option<&[u8]>,
+) -> Result<Marks, Refusal>
     ensures { (plain_error result ≡ Err no_memory) ⊎ (plain_error result ≡ states_that_stay model.now (names_of stay.entry)) }
 {
     match stay {
@@ -53,7 +57,7 @@ fn states_that_stay(alloc: Global, model: &Model, stay: Option<&[u8]>) -> Result
 }
 
 /// The word for the states that stay.
-fn stay_word(stay: Option<&[u8]>) -> &[u8]
+pub(crate) fn stay_word(stay: Option<&[u8]>) -> &[u8]
     ensures { result.now ≡ stay_word (names_of stay.entry) }
 {
     match stay {

@@ -1,3 +1,4 @@
+ghost use Rattle.mdp_command_horizon.specs.BoundsLaws.{UntilTextIsBetween, TotalTextIsBetween};
 ghost use Rattle.mdp_command_horizon.specs.Laws.{TextIsAnswer, RewardTextIsAnswer};
 
 use mdp_horizon::{total_law, until_law};
@@ -15,3 +16,10 @@ pub fn horizon_reward_law()
 {
     total_law();
 }
+
+/// The same of `bounds` within a number of steps: a text that is due spells lower and upper values, between which the best ones lie, and a table that comes
+/// to the lower ones, or for the least doesn't pass the upper ones.
+pub fn horizon_bounds_law()
+    ensures until { UntilTextIsBetween }
+    ensures total { TotalTextIsBetween }
+{}

@@ -1,0 +1,57 @@
+-- What is shown of the text that answers `bounds` of a bounded until, or of a total reward.
+use Rattle.std.specs.Prelude.{◌≡◌, ℕ, List, Bool, Option, Some, Ok}
+use Rattle.mdp_spec.specs.Labels.{place_of}
+use Rattle.mdp_spec.specs.Mdp.{Mdp}
+use Rattle.mdp_rows.specs.declared.dir.Dir.{Dir}
+use Rattle.mdp_rows.specs.declared.dir.Dir.TheVariants.{Max, Min}
+use Rattle.mdp_rows.specs.declared.rule.RowRule.{RowRule}
+use Rattle.mdp_horizon.specs.Between.{MaxBetween, MinBetween}
+use Rattle.mdp_horizon.specs.Objective.{Objective}
+use Rattle.mdp_horizon.specs.Objective.Objective as objective
+use Rattle.mdp_horizon_bounds.specs.Columns.{Bounds}
+use Rattle.mdp_horizon_bounds.specs.Spelling.{bounds_text}
+use Rattle.mdp_horizon_bounds.specs.Spelling.PlainClaim as claim
+use Rattle.mdp_command.specs.Read.{IsWorkOnModel}
+use Rattle.mdp_command.specs.Said.{Said}
+use Rattle.mdp_command.specs.Streams.{Input}
+use Rattle.mdp_command_horizon.specs.BoundsDue.{IsUntilBoundsDue, IsTotalBoundsDue}
+use Rattle.mdp_command_horizon.specs.Due.{states_with, states_that_stay, stay_word}
+use Rattle.mdp_command_horizon.specs.Shown.{IsShownOf}
+
+-- the greatest, or the least, values within so many steps lie between the lower and the upper ones, and what the table comes to does
+abbrev pub AreBetween : Dir → Mdp → Objective → ℕ → Bounds → Type 0
+AreBetween Max m o steps b = MaxBetween m o steps b.lower b.upper b.steps
+AreBetween Min m o steps b = MinBetween m o steps b.lower b.upper b.steps
+
+-- the text of such bounds, by way of the states that stay to the states with the label
+pub record AreUntilBoundsPrinted (dir : Dir) (stay : Option (List ℕ)) (label : List ℕ) (steps : ℕ) (m : Mdp) (text : List ℕ) : Type 0 where
+  pub stays : List Bool
+  pub stays_are : states_that_stay m stay ≡ Ok stays
+  pub goals : List Bool
+  pub goals_are : states_with m label ≡ Ok goals
+  pub bounds : Bounds
+  pub spelled : text ≡ bounds_text dir (claim.until (stay_word stay) label) m bounds
+  pub between : AreBetween dir m (objective.until stays goals) steps bounds
+
+-- the same for the reward name
+pub record AreTotalBoundsPrinted (dir : Dir) (name : List ℕ) (steps : ℕ) (m : Mdp) (text : List ℕ) : Type 0 where
+  pub place : ℕ
+  pub place_is : place_of name m.names ≡ Some place
+  pub bounds : Bounds
+  pub spelled : text ≡ bounds_text dir (claim.total name) m bounds
+  pub between : AreBetween dir m (objective.total place) steps bounds
+
+-- the same of the model that the bytes read as
+abbrev pub AreUntilBoundsShown : RowRule → Dir → Option (List ℕ) → List ℕ → ℕ → List ℕ → List ℕ → Type 0
+AreUntilBoundsShown rule dir stay label steps = IsShownOf (AreUntilBoundsPrinted dir stay label steps) rule
+
+abbrev pub AreTotalBoundsShown : RowRule → Dir → List ℕ → ℕ → List ℕ → List ℕ → Type 0
+AreTotalBoundsShown rule dir name steps = IsShownOf (AreTotalBoundsPrinted dir name steps) rule
+
+-- bounds of the model of a source: what is due to the bytes that it had, and what is shown of a text; or a fault, or want of memory
+abbrev pub AreUntilBoundsRead : RowRule → Dir → Option (List ℕ) → List ℕ → ℕ → ℕ → Input → Said → Type 0
+AreUntilBoundsRead rule dir stay label steps digits =
+    IsWorkOnModel rule (IsUntilBoundsDue dir stay label steps digits) (AreUntilBoundsShown rule dir stay label steps)
+
+abbrev pub AreTotalBoundsRead : RowRule → Dir → List ℕ → ℕ → ℕ → Input → Said → Type 0
+AreTotalBoundsRead rule dir name steps digits = IsWorkOnModel rule (IsTotalBoundsDue dir name steps digits) (AreTotalBoundsShown rule dir name steps)
