@@ -1,5 +1,5 @@
--- A text that is due is that of best values; the states that it speaks of; and why there is none.
-use Rattle.std.proofs.Common.{◌≡◌, ℕ, ◌*◌, ◌<◌, ◌⊎◌, inl, inr, Bool, true, false, if◌then◌else◌, nat_lt, List, length, Option, Some, None, Result, Ok, Err, IfOk, replicate, refl, sym, ap, ◌∙◌, subst}
+-- A text that is due is that of best values; and the states that it speaks of.
+use Rattle.std.proofs.Common.{◌≡◌, ℕ, ◌*◌, ◌<◌, Bool, true, false, if◌then◌else◌, nat_lt, List, length, Option, Some, None, Result, Ok, Err, IfOk, replicate, refl, sym, ap, ◌∙◌}
 use Rattle.std.proofs.lemmas.List.{length-map, length-replicate}
 use Rattle.mdp_math.specs.Result.{◌>>=◌}
 use Rattle.mdp_spec.specs.Labels.{place_of, marks_of}
@@ -9,18 +9,14 @@ use Rattle.mdp_rows.specs.declared.dir.Dir.{Dir}
 use Rattle.mdp_rows.specs.declared.dir.Dir.TheVariants.{Max, Min}
 use Rattle.mdp_rows.specs.declared.rule.RowRule.{RowRule}
 use Rattle.mdp_check.proofs.Accepting.{below_names}
-use Rattle.mdp_horizon.specs.declared.error.HorizonError.{HorizonError}
-use Rattle.mdp_horizon.specs.declared.error.HorizonError.TheVariants as error
-use Rattle.mdp_horizon.specs.Answer.{Says}
 use Rattle.mdp_horizon.specs.Laws.{AnswersAreGreatest, AnswersAreLeast, TotalsAreGreatest, TotalsAreLeast}
 use Rattle.mdp_horizon.specs.Spelling.{until_text, total_text}
 use Rattle.mdp_horizon.specs.Written.{Place, Answer, written_until, written_total}
 use Rattle.mdp_horizon.proofs.Turns.{ok_same, ok_part}
-use Rattle.mdp_job.specs.Refusal.{PlainRefusal, query_steps, no_memory}
+use Rattle.mdp_job.specs.Refusal.{query_steps}
 use Rattle.mdp_command.specs.Files.{model_due}
 use Rattle.mdp_command.specs.Said.{Said}
 use Rattle.mdp_command.proofs.Working.{read_of_due}
-use Rattle.mdp_command_horizon.specs.Code.{refused}
 use Rattle.mdp_command_horizon.specs.Due.{most_choices, said_of_end, said_within, marks_at, states_with, states_that_stay, stay_word, said_of_marks, IsHorizonDue, name_at, said_of_name, IsHorizonRewardDue}
 use Rattle.mdp_command_horizon.specs.Shown.{IsShownOf, IsBest, IsHorizonPrinted, IsHorizonShown, IsBestTotal, IsHorizonRewardPrinted, IsHorizonRewardShown}
 
@@ -50,19 +46,6 @@ not_long false said text e = e
 
 text_within : (steps : ℕ) (m : Mdp) (f : Answer → List ℕ) (end : Result Answer Place) (text : List ℕ) → said_within steps m f end ≡ Ok text → (a : Answer) × (end ≡ Ok a) × (text ≡ f a)
 text_within steps m f end text e = text_by f end text (not_long (nat_lt most_choices (steps * states_of m)) (said_of_end f end) text e)
-
--- an error is want of memory, or it says where the computation ended
-refused_by : (long : Bool) (f : Answer → List ℕ) (end : Result Answer Place) (e : HorizonError) → long ≡ false → Says e end
-    → ((let said : Said = Err (refused e) in said) ≡ Err no_memory) ⊎ ((let said : Said = Err (refused e) in said) ≡ (if long then Err query_steps else said_of_end f end))
-refused_by true f end e short says = cc
-refused_by false f end (error.Wide depth s c) short says = inr (ap (said_of_end f) (sym says))
-refused_by false f end error.Memory short says = inl refl
-
-pub refused_within : (steps : ℕ) (m : Mdp) (f : Answer → List ℕ) (end : Result Answer Place) (e : HorizonError) (r : PlainRefusal) → nat_lt most_choices (steps * states_of m) ≡ false → Says e end
-    → r ≡ refused e → ((let said : Said = Err r in said) ≡ Err no_memory) ⊎ ((let said : Said = Err r in said) ≡ said_within steps m f end)
-refused_within steps m f end e r short says is =
-    subst (λ (r : PlainRefusal). ((let said : Said = Err r in said) ≡ Err no_memory) ⊎ ((let said : Said = Err r in said) ≡ said_within steps m f end)) (sym is)
-    (refused_by (nat_lt most_choices (steps * states_of m)) f end e short says)
 
 -- ---- a bounded until
 
