@@ -515,12 +515,17 @@ fn bounds_by<'a>(rule: RowRule, dir: Dir, words: &'a [String]) -> Result<Job<'a>
     requires { 5 < length words.now }
     ensures { asked result ≡ bounds_by rule dir (map string_bytes words.now) }
 {
-    match words[3].as_str() {
-        "until" => bounds_until_of(rule, dir, words),
-        "total" => bounds_total_of(rule, dir, words),
-        "discount" => bounds_discount_of(rule, dir, words),
-        _ => bounds_best_of(rule, dir, words),
+    let objective = words[3].as_str();
+    if objective == "until" {
+        return bounds_until_of(rule, dir, words);
     }
+    if objective == "total" {
+        return bounds_total_of(rule, dir, words);
+    }
+    if objective == "discount" {
+        return bounds_discount_of(rule, dir, words);
+    }
+    bounds_best_of(rule, dir, words)
 }
 
 /// The job that the words behind `bounds` are.
