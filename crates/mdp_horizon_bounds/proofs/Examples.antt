@@ -1,5 +1,6 @@
 -- Small models, computed.
-use Rattle.std.proofs.Common.{◌≡◌, ℕ, Bool, true, false, List, [], ◌∷◌, Option, Some, None, refl, ℤ, pos, negsuc}
+use Rattle.std.proofs.Common.{◌≡◌, ℕ, ◌*◌, Bool, true, false, List, [], ◌∷◌, Option, Some, None, refl, arith, ℤ, pos, negsuc, ◌<ℤ◌}
+use Rattle.std.proofs.lemmas.Int.{ints}
 use Rattle.std.specs.Prelude.{codes}
 use Rattle.std.specs.Fmt.{digits}
 use Rattle.mdp_math.specs.Gcd.{gcd, gcd_with_fuel}
@@ -12,6 +13,8 @@ use Rattle.mdp_horizon.specs.Objective.Objective.{until, total}
 use Rattle.mdp_horizon_bounds.specs.Whole.{rounded}
 use Rattle.mdp_horizon_bounds.specs.Scaled.{scaled, divided, rounded_sum}
 use Rattle.mdp_horizon_bounds.specs.Columns.{Bounds, bounds_of}
+use Rattle.mdp_horizon_bounds.specs.Exact.{HasRoom}
+use Rattle.mdp_horizon_bounds.specs.Gap.{IsNear, MeetWithin}
 use Rattle.mdp_horizon_bounds.specs.Spelling.{bounds_text}
 use Rattle.mdp_horizon_bounds.specs.Spelling.PlainClaim.{until as until_claim, total as total_claim}
 
@@ -78,6 +81,27 @@ without_room : (divided Min column (scaled (pos 10) (ratio (pos 1) 3) long) ≡ 
     × (rounded_sum Min column (scaled (pos 10) (ratio (pos 1) 3) long) ≡ Some (pos 3)) × (rounded_sum Max column (scaled (pos 10) (ratio (pos 1) 3) long) ≡ Some (pos 14))
 unfolding rounded_sum narrow ratio of_int gcd gcd_with_fuel
 without_room = (refl, refl, refl)
+
+-- ---- how near the columns come
+
+-- in two steps 6 tenths cover 5/9 and 5 follow it: 1 apart, at most 2 for each step
+near : MeetWithin Max (pos 10) thirds (until all goal) 2 (2 * 2) 0
+unfolding rounded_sum narrow narrow_ℚ ratio of_int gcd gcd_with_fuel
+near = (pos 6, pos 5, refl, refl, (omega (arith, ints), omega (arith, ints)))
+
+-- they don't meet
+not_nearer : IsNear 0 (pos 5) (pos 6) → ⊥
+not_nearer h = let p = h.1 in omega (arith, ints)
+
+-- the row of state 0 has room over a column
+roomy : HasRoom column (scaled (pos 10) (ratio (pos 1) 3) (to 0 (ratio (pos 2) 3) ∷ to 1 (ratio (pos 1) 3) ∷ []))
+unfolding narrow ratio of_int gcd gcd_with_fuel
+roomy = (omega (arith, ints), (pos 20, refl))
+
+-- the long one has none: it has no common denominator of 127 bits
+no_room : HasRoom column (scaled (pos 10) (ratio (pos 1) 3) long) → ⊥
+unfolding narrow ratio of_int gcd gcd_with_fuel
+no_room h = let p : pos 0 <ℤ pos 0 = h.0 in omega (arith, ints)
 
 -- ---- the text
 

@@ -10,5 +10,6 @@ pub mod Ready
 pub mod Loops
 pub mod Probabilities
 pub mod ExactSums
+pub mod Gap
 pub mod Steps
 mod Examples

@@ -2,6 +2,7 @@ pub mod Whole
 pub mod Scaled
 pub mod Probability
 pub mod Exact
+pub mod Gap
 pub mod Columns
 pub mod Code
 pub mod Answer

@@ -20,7 +20,7 @@ pub use bounds::HorizonBounds;
 pub use choice::{Scale, ScaledChoice, Term};
 pub use claim::Claim;
 pub use induction::{total_bounds, until_bounds};
-pub use laws::rounding_law;
+pub use laws::{gap_law, rounding_law};
 pub use leader::Leader;
 pub use objective::Objective;
 pub use scaling::scaled;

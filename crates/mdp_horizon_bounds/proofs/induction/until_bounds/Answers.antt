@@ -1,10 +1,11 @@
-use Rattle.std.proofs.Common.{sym, ap, subst, ◌∙◌, ℤ, pos, ◌<ℤ◌}
+use Rattle.std.proofs.Common.{sym, ap, subst, ◌∙◌, ℤ, pos, ◌<ℤ◌, ◌^◌}
 use Rattle.mdp_horizon_bounds.specs.Columns.{bounds_of}
 use mir.Syntax.{w128}
 use mir.Val.{to_z, of_z}
 use Rattle.mdp_num.proofs.Values.{result-bits}
 use Rattle.std.proofs.lemmas.Result.{IfOk-weaker}
 use Rattle.mdp_horizon.specs.Objective.Objective.{until}
+use Rattle.mdp_horizon_bounds.proofs.Gap.{gap_by}
 use Rattle.mdp_horizon_bounds.proofs.Between.{bounds-max_by, bounds-min_by, bounds-each}
 use Rattle.mdp_horizon_bounds.proofs.induction.until_bounds.Goals as goal
 
@@ -33,3 +34,10 @@ returns-clause-upper c = IfOk-weaker c.bounded.result _ _
     (λ found h.
     (bounds-each c.args.dir (to_z w128 (of_z w128 c.power_of_ten.result)) c.args.model.now (until c.args.stay.now c.args.goals.now) c.args.steps _
     (subst (λ (z : ℤ). pos 0 <ℤ z) (sym (result-bits c.power_of_ten.result c.power_of_ten.type_inv)) c.power_of_ten.ensures.positive) c.known.ensures.mdp h).1) c.bounded.ensures
+
+pub returns-clause-gap : goal.returns-clause-gap
+returns-clause-gap c = IfOk-weaker c.bounded.result _ _
+    (λ found h. gap_by c.args.dir (10 ^ c.args.digits) c.args.model.now (until c.args.stay.now c.args.goals.now) c.args.steps _
+    (subst (λ (z : ℤ). pos 0 <ℤ z) c.power_of_ten.ensures.value c.power_of_ten.ensures.positive) c.known.ensures.mdp
+    (h ∙ ap (λ (one : ℤ). bounds_of c.args.dir one c.args.model.now (until c.args.stay.now c.args.goals.now) c.args.steps) (result-bits c.power_of_ten.result c.power_of_ten.type_inv ∙ c.power_of_ten.ensures.value)))
+    c.bounded.ensures
