@@ -14,6 +14,7 @@ use Rattle.mdp_horizon_bounds.specs.Whole.{rounded}
 use Rattle.mdp_horizon_bounds.specs.Scaled.{scaled, divided, rounded_sum}
 use Rattle.mdp_horizon_bounds.specs.Columns.{Bounds, bounds_of}
 use Rattle.mdp_horizon_bounds.specs.Exact.{HasRoom}
+use Rattle.mdp_horizon_bounds.specs.Finite.{AreProbabilities}
 use Rattle.mdp_horizon_bounds.specs.Gap.{IsNear, MeetWithin}
 use Rattle.mdp_horizon_bounds.specs.Spelling.{bounds_text}
 use Rattle.mdp_horizon_bounds.specs.Spelling.PlainClaim.{until as until_claim, total as total_claim}
@@ -81,6 +82,18 @@ without_room : (divided Min column (scaled (pos 10) (ratio (pos 1) 3) long) ≡ 
     × (rounded_sum Min column (scaled (pos 10) (ratio (pos 1) 3) long) ≡ Some (pos 3)) × (rounded_sum Max column (scaled (pos 10) (ratio (pos 1) 3) long) ≡ Some (pos 14))
 unfolding rounded_sum narrow ratio of_int gcd gcd_with_fuel
 without_room = (refl, refl, refl)
+
+-- so its values are the least and the greatest probability, and they are there
+abbrev wide : Mdp
+wide = model_of (with (0 ∷ []) (by (of_int (pos 0)) long ∷ []) ∷ with (1 ∷ []) (by (of_int (pos 0)) (to 1 (of_int (pos 1)) ∷ []) ∷ []) ∷ [])
+
+wide_values : bounds_of Max (pos 10) wide (until all goal) 1 ≡ answer (Some (of_int (pos 0)) ∷ Some (of_int (pos 1)) ∷ []) (Some (of_int (pos 1)) ∷ Some (of_int (pos 1)) ∷ []) ((0 ∷ 0 ∷ []) ∷ [])
+unfolding bounds_of rounded_sum narrow narrow_ℚ ratio of_int gcd gcd_with_fuel
+wide_values = refl
+
+-- a value that is missing is no probability
+not_there : AreProbabilities 1 (None ∷ []) → ⊥
+not_there h = let p = (h 0 (omega arith)).1 in cc
 
 -- ---- how near the columns come
 

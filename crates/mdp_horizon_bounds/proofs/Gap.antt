@@ -1,9 +1,8 @@
 -- Where no row is wide, the covering and the following column come near.
-use Rattle.std.proofs.Common.{◌≡◌, ◌∙◌, ℕ, zero, suc, ◌+◌, ◌*◌, ◌<◌, Bool, true, false, if◌then◌else◌, List, [], ◌∷◌, map, length, slice_index_or, Option, Some, None, unwrap_or}
+use Rattle.std.proofs.Common.{◌≡◌, ◌∙◌, ℕ, zero, suc, ◌+◌, ◌*◌, ◌<◌, Bool, true, false, if◌then◌else◌, List, [], ◌∷◌, map, length, Option, Some, None, unwrap_or}
 use Rattle.std.proofs.Common.{refl, sym, ap, subst, arith, ℤ, pos, neg_ℤ, int_lt, ◌+ℤ◌, ◌<ℤ◌, ◌≤ℤ◌}
 use Rattle.std.proofs.lemmas.Int.{ints}
-use Rattle.std.proofs.lemmas.List.{get_or-map, length-map}
-use Rattle.std.proofs.lemmas.List.FromFn.{get_or-map-range_with_len}
+use Rattle.std.proofs.lemmas.List.{get_or-map}
 use Rattle.mdp_math.specs.Rational.{ℚ, of_int, ratio, ◌+ℚ◌, ◌-ℚ◌, ◌*ℚ◌, neg_ℚ, ◌≤ℚ◌, ◌<ℚ◌}
 use Rattle.mdp_math.specs.Written.{◌>>=◌}
 use Rattle.mdp_math.proofs.Laws.{of_int-+ℤ, is_of_int, rat_ring}
@@ -13,7 +12,7 @@ use Rattle.mdp_math.proofs.Ring.{◌⊕◌, ◌⊗◌, ⊖, lit, ring}
 use Rattle.mdp_math.proofs.SumsAt.{sum_at-sum_of, EachAt_mono}
 use Rattle.mdp_math.proofs.Whole.{of_nat-add}
 use Rattle.mdp_math.proofs.Written.{narrow_ℚ-some}
-use Rattle.mdp_spec.specs.Mdp.{Entry, Mdp, states_of, choices_at, choice_at, row_at, no_choice}
+use Rattle.mdp_spec.specs.Mdp.{Entry, Mdp, states_of, choices_at, choice_at, row_at}
 use Rattle.mdp_spec.specs.Row.{IsRow, IsMdp}
 use Rattle.mdp_spec.specs.Bounds.{reward_at}
 use Rattle.mdp_spec.proofs.Rows.{row_weigh, row_weigh-const, row_weigh-line, targets_at}
@@ -21,12 +20,12 @@ use Rattle.mdp_rows.specs.declared.dir.Dir.{Dir}
 use Rattle.mdp_rows.specs.declared.dir.Dir.TheVariants.{Max, Min}
 use Rattle.mdp_horizon.specs.Objective.{Objective, earns}
 use Rattle.mdp_horizon.proofs.Directions.{row_sum-no_better}
-use Rattle.mdp_horizon_bounds.specs.declared.leader.Leader.{Leader}
-use Rattle.mdp_horizon_bounds.specs.Whole.{in_units, whole_at, rounded, opposite, farther}
+use Rattle.mdp_horizon_bounds.specs.Whole.{in_units, whole_at, rounded, farther}
 use Rattle.mdp_horizon_bounds.specs.Scaled.{Scaled, scaled, total_of, divided, trivial, or_else, rounded_sum}
-use Rattle.mdp_horizon_bounds.specs.Columns.{stopped, ended, scaled_choice, scaled_state, no_scaled, covered_from, covered, is_ahead, judged, followed_from, followed, leader_or, cover_at, follow_at, cover, follow, shown, Bounds, bounds_of}
+use Rattle.mdp_horizon_bounds.specs.Columns.{ended, scaled_choice, cover, follow, shown, Bounds, bounds_of}
 use Rattle.mdp_horizon_bounds.specs.Exact.{HasRoom}
 use Rattle.mdp_horizon_bounds.specs.Gap.{NoneIsWide, IsNear, AreNear, MeetWithin, GapIsWithin}
+use Rattle.mdp_horizon_bounds.proofs.Both.{SumsAreBoth, next_both, ended_both}
 use Rattle.mdp_horizon_bounds.proofs.ExactSums.{if_true}
 use Rattle.mdp_horizon_bounds.proofs.Rounding.{of_int-neg}
 use Rattle.mdp_horizon_bounds.proofs.Steps.{cover_states, follow_states}
@@ -68,56 +67,6 @@ less_near u k j a b false true d e g h =
 farther_near : (dir : Dir) (u : ℕ) (k j a b : ℤ) → AreNear dir u k j → AreNear dir u a b → AreNear dir u (farther dir k a) (farther dir j b)
 farther_near Max u k j a b g h = greater_near u k j a b (int_lt k a) (int_lt j b) refl refl g h
 farther_near Min u k j a b g h = less_near u k j a b (int_lt a k) (int_lt b j) refl refl g h
-
--- ---- the best of several choices
-
-picked : (t : Bool) (c : ℕ) (leader : Leader) (b j : ℤ) → leader.value ≡ Some j → Leader.value (if t then record { value = Some b; choice = c } else leader) ≡ Some (if t then b else j)
-picked true c leader b j e = refl
-picked false c leader b j e = e
-
-judged_value : (dir : Dir) (c : ℕ) (leader : Leader) (b j : ℤ) → leader.value ≡ Some j → Leader.value (judged dir c leader (Some b)) ≡ Some (farther dir j b)
-judged_value Max c leader b j e =
-    ap (λ (o : Option ℤ). Leader.value (if is_ahead Max (Some b) o then record { value = Some b; choice = c } else leader)) e ∙ picked (int_lt j b) c leader b j e
-judged_value Min c leader b j e =
-    ap (λ (o : Option ℤ). Leader.value (if is_ahead Min (Some b) o then record { value = Some b; choice = c } else leader)) e ∙ picked (int_lt b j) c leader b j e
-
--- the two sums of a choice are there, and near
-abbrev SumsAreNear : Dir → ℕ → List (Option ℤ) → List (Option ℤ) → Scaled → Type 0
-SumsAreNear dir u covering following x = (k : ℤ) × (j : ℤ) × (rounded_sum dir covering x ≡ Some k) × (rounded_sum (opposite dir) following x ≡ Some j) × AreNear dir u k j
-
-module _ (dir : Dir) (u : ℕ) (covering following : List (Option ℤ)) where
-  rest_near : (xs : List Scaled) (c : ℕ) (far j : ℤ) (leader : Leader) → leader.value ≡ Some j → AreNear dir u far j
-      → ((i : ℕ) → i < length xs → SumsAreNear dir u covering following (slice_index_or xs i no_scaled))
-      → (k : ℤ) × (j : ℤ) × (covered_from dir covering far xs ≡ Some k) × (Leader.value (followed_from dir following c leader xs) ≡ Some j) × AreNear dir u k j
-  rest_near [] c far j leader e h all = (far, j, refl, e, h)
-  rest_near (x ∷ xs) c far j leader e h all =
-      let first = all 0 (omega arith) in
-      let rest =
-      rest_near xs (suc c) (farther dir far first.0) (farther dir j first.1) (judged dir c leader (rounded_sum (opposite dir) following x))
-      (ap (λ (o : Option ℤ). Leader.value (judged dir c leader o)) first.3 ∙ judged_value dir c leader first.1 j e)
-      (farther_near dir u far j first.0 first.1 h first.4) (λ i l. all (suc i) (omega arith))
-      in (
-        rest.0,
-        rest.1,
-        ap (λ (o : Option ℤ). (o >>= (λ k. let r : Option ℤ = Some (farther dir far k) in r)) >>= (λ far. covered_from dir covering far xs)) first.2 ∙ rest.2,
-        rest.3,
-        rest.4,
-      )
-
-  all_near : (xs : List Scaled) → 0 < length xs → ((i : ℕ) → i < length xs → SumsAreNear dir u covering following (slice_index_or xs i no_scaled))
-      → (k : ℤ) × (j : ℤ) × (covered dir covering xs ≡ Some k) × (Leader.value (followed dir following xs) ≡ Some j) × AreNear dir u k j
-  all_near [] some all = absurd (omega arith)
-  all_near (x ∷ xs) some all =
-      let first = all 0 (omega arith) in
-      let rest =
-      rest_near xs 1 first.0 first.1 (record { value = rounded_sum (opposite dir) following x; choice = 0 }) first.3 first.4 (λ i l. all (suc i) (omega arith))
-      in (rest.0, rest.1, ap (λ (o : Option ℤ). o >>= (λ far. covered_from dir covering far xs)) first.2 ∙ rest.2, rest.3, rest.4)
-
-  -- at a state that stops both are its value
-  state_near : (v : Option ℤ) (xs : List Scaled) → 0 < length xs → ((i : ℕ) → i < length xs → SumsAreNear dir u covering following (slice_index_or xs i no_scaled))
-      → (k : ℤ) × (j : ℤ) × (or_else v (covered dir covering xs) ≡ Some k) × (Leader.value (leader_or v (followed dir following xs)) ≡ Some j) × AreNear dir u k j
-  state_near None xs some all = all_near xs some all
-  state_near (Some k) xs some all = (k, k, refl, refl, same_near dir u k)
 
 -- ---- one choice
 
@@ -170,10 +119,10 @@ divided_with_room side column x room =
     (rounded side room.1.0 x.scale.common, is, ap (λ (o : Option ℤ). or_else o (trivial side column x)) is)
 
 -- whole numbers from numbers
-whole_le : (a b : ℤ) → of_int a ≤ℚ of_int b → a ≤ℤ b
+pub whole_le : (a b : ℤ) → of_int a ≤ℚ of_int b → a ≤ℤ b
 whole_le a b h = let p = is_le _ _ a b 1 1 (is_of_int a) (is_of_int b) h in omega (arith, ints)
 
-between_of : (a b : ℤ) (u : ℕ) → of_int b <ℚ of_int a +ℚ (of_int (pos u) +ℚ of_int (pos 2)) → b ≤ℤ (a +ℤ pos (suc u))
+pub between_of : (a b : ℤ) (u : ℕ) → of_int b <ℚ of_int a +ℚ (of_int (pos u) +ℚ of_int (pos 2)) → b ≤ℤ (a +ℤ pos (suc u))
 between_of a b u h =
     let d : ℤ = (a +ℤ pos (u + 2)) +ℤ neg_ℤ b in
     let is : of_int d ≡ (of_int a +ℚ (of_int (pos u) +ℚ of_int (pos 2))) +ℚ neg_ℚ (of_int b) =
@@ -216,7 +165,7 @@ rounded_near n u one start row low high known_ near room_low room_high =
 module _ (one : ℕ) (m : Mdp) (o : Objective) (known_ : IsMdp m) where
   choice_near : (dir : Dir) (n u : ℕ) (s c : ℕ) → s < states_of m → c < length (choices_at m s) → ((t : ℕ) → t < states_of m → MeetWithin dir (pos one) m o n u t)
       → HasRoom (cover dir (pos one) m o n) (scaled_choice (pos one) o (choice_at m s c)) → HasRoom (follow dir (pos one) m o n) (scaled_choice (pos one) o (choice_at m s c))
-      → SumsAreNear dir (suc u) (cover dir (pos one) m o n) (follow dir (pos one) m o n) (scaled_choice (pos one) o (choice_at m s c))
+      → SumsAreBoth dir (AreNear dir (suc u)) (cover dir (pos one) m o n) (follow dir (pos one) m o n) (scaled_choice (pos one) o (choice_at m s c))
   choice_near Max n u s c h l near room_cover room_follow =
       let r =
       rounded_near (states_of m) u one (earns m o s c) (row_at m s c) (follow Max (pos one) m o n) (cover Max (pos one) m o n) (known_.row s c h l)
@@ -230,28 +179,10 @@ module _ (one : ℕ) (m : Mdp) (o : Objective) (known_ : IsMdp m) where
 
   module _ (dir : Dir) where
     pub meet : (n : ℕ) → NoneIsWide dir (pos one) m o n → (s : ℕ) → s < states_of m → MeetWithin dir (pos one) m o n n s
-    meet zero wide s h =
-        let f = λ (s : ℕ). let v : Option ℤ = Some (ended (pos one) o s) in v in
-        let is : whole_at (cover dir (pos one) m o 0) s ≡ Some (ended (pos one) o s) = get_or-map-range_with_len f 0 (states_of m) s s (Some (pos 0)) h (omega arith) in
-        (ended (pos one) o s, ended (pos one) o s, is, is, same_near dir 0 (ended (pos one) o s))
+    meet zero wide s h = ended_both dir (AreNear dir 0) (pos one) m o s h (same_near dir 0 (ended (pos one) o s))
     meet (suc n) wide s h =
-        let some = known_.choice s h in
-        let long : length (scaled_state (pos one) m o s) ≡ length (choices_at m s) = length-map (choices_at m s) (scaled_choice (pos one) o) in
-        let all : (i : ℕ) → i < length (scaled_state (pos one) m o s)
-        → SumsAreNear dir (suc n) (cover dir (pos one) m o n) (follow dir (pos one) m o n) (slice_index_or (scaled_state (pos one) m o s) i no_scaled) =
-        λ i l.
-        let inside : i < length (choices_at m s) = omega (arith, long) in
-        let room = wide n s i (omega arith) h inside in
-        subst (SumsAreNear dir (suc n) (cover dir (pos one) m o n) (follow dir (pos one) m o n)) (sym (get_or-map (scaled_choice (pos one) o) (choices_at m s) i no_choice no_scaled inside))
-        (choice_near dir n n s i h inside (meet n (λ left s c l. wide left s c (omega arith))) room.0 room.1)
-        in
-        let r = state_near dir (suc n) (cover dir (pos one) m o n) (follow dir (pos one) m o n) (stopped (pos one) o s) (scaled_state (pos one) m o s) (omega (arith, long)) all in (
-          r.0,
-          r.1,
-          get_or-map-range_with_len (cover_at dir (pos one) m o (cover dir (pos one) m o n)) 0 (states_of m) s s (Some (pos 0)) h (omega arith) ∙ r.2,
-          get_or-map-range_with_len (λ s. Leader.value (follow_at dir (pos one) m o (follow dir (pos one) m o n) s)) 0 (states_of m) s s (Some (pos 0)) h (omega arith) ∙ r.3,
-          r.4,
-        )
+        next_both dir (AreNear dir (suc n)) (farther_near dir (suc n)) (pos one) m o known_ n s h (λ k e. same_near dir (suc n) k)
+        (λ c l. let room = wide n s c (omega arith) h l in choice_near dir n n s c h l (meet n (λ left s c l. wide left s c (omega arith))) room.0 room.1)
 
 pub columns_near : (dir : Dir) (one : ℕ) (m : Mdp) (o : Objective) (n s : ℕ) → 0 < one → IsMdp m → NoneIsWide dir (pos one) m o n → s < states_of m → MeetWithin dir (pos one) m o n (2 * n) s
 columns_near dir one m o n s above known_ wide h =

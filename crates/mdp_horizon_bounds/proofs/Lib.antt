@@ -10,6 +10,8 @@ pub mod Ready
 pub mod Loops
 pub mod Probabilities
 pub mod ExactSums
+pub mod Both
 pub mod Gap
+pub mod Finite
 pub mod Steps
 mod Examples

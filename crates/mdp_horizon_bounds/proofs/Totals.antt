@@ -180,7 +180,7 @@ rounded_start-is side one start k e =
     (ap of_int (narrow-some _ a.0 a.1).0 ∙ of_int-*ℤ start.num (pos one) ∙ ap (λ (x : ℚ). x *ℚ of_int (pos one)) (num-is start)
     ∙ ring rat_ring 3 (λ d s o. (d ⊗ s) ⊗ o) (λ d s o. d ⊗ (o ⊗ s)) refl (of_int (pos start.den)) start (of_int (pos one))))
 
-start_to-is : (side : Dir) (one : ℕ) (start : ℚ) (row : List Entry) → start_to side (scaled (pos one) start row) ≡ rounded_start side (pos one) start
+pub start_to-is : (side : Dir) (one : ℕ) (start : ℚ) (row : List Entry) → start_to side (scaled (pos one) start row) ≡ rounded_start side (pos one) start
 start_to-is Max one start row = refl
 start_to-is Min one start row = refl
 

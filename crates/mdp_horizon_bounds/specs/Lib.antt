@@ -3,6 +3,7 @@ pub mod Scaled
 pub mod Probability
 pub mod Exact
 pub mod Gap
+pub mod Finite
 pub mod Columns
 pub mod Code
 pub mod Answer

@@ -6,6 +6,7 @@ ghost use Rattle.mdp_horizon.specs.Objective.Objective.{until, total};
 ghost use Rattle.mdp_horizon.specs.Answer.{lists};
 ghost use Rattle.mdp_horizon_bounds.specs.Columns.{shown, cover, follow, table, bounds_of};
 ghost use Rattle.mdp_horizon_bounds.specs.Gap.{NoneIsWide, GapIsWithin};
+ghost use Rattle.mdp_horizon_bounds.specs.Finite.{AreProbabilities};
 ghost use Rattle.mdp_horizon_bounds.specs.Code.{plain_objective, IsAsked};
 ghost use Rattle.mdp_horizon_bounds.specs.Answer.{plain};
 
@@ -108,6 +109,7 @@ fn bounded(alloc: Global, query: Query<'_>, steps: u32) -> Result<HorizonBounds,
 /// Lower and upper values of the greatest or the least probability of coming to a goal within so many steps by way of states that stay, in units of
 /// 10^-digits, by backward induction in whole numbers that are rounded outward, and a choice of each state for each step, whose policy does no worse
 /// than the lower values (`Max`), or than the upper ones (`Min`). Where no row is wide, lower and upper values are at most 2 units apart for each step.
+/// Each value is there, from 0 to 1.
 pub fn until_bounds(
     alloc: Global,
     model: &Model,
@@ -126,6 +128,7 @@ pub fn until_bounds(
     ensures upper { IfOk result (λ found. length found.upper.items ≡ states_of model.now) }
     ensures max { dir ≡ Max → IfOk result (λ found. MaxBetween model.now (until stay.now goals.now) steps (plain found).lower (plain found).upper (plain found).steps) }
     ensures min { dir ≡ Min → IfOk result (λ found. MinBetween model.now (until stay.now goals.now) steps (plain found).lower (plain found).upper (plain found).steps) }
+    ensures finite { IfOk result (λ found. AreProbabilities (states_of model.now) (plain found).lower × AreProbabilities (states_of model.now) (plain found).upper) }
     ensures gap { IfOk result (λ found. NoneIsWide dir (pos (10 ^ digits)) model.now (until stay.now goals.now) steps → GapIsWithin (10 ^ digits) (2 * steps) model.now (plain found)) }
 {
     model.known();

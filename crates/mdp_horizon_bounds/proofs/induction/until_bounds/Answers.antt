@@ -5,6 +5,7 @@ use mir.Val.{to_z, of_z}
 use Rattle.mdp_num.proofs.Values.{result-bits}
 use Rattle.std.proofs.lemmas.Result.{IfOk-weaker}
 use Rattle.mdp_horizon.specs.Objective.Objective.{until}
+use Rattle.mdp_horizon_bounds.proofs.Finite.{finite_by}
 use Rattle.mdp_horizon_bounds.proofs.Gap.{gap_by}
 use Rattle.mdp_horizon_bounds.proofs.Between.{bounds-max_by, bounds-min_by, bounds-each}
 use Rattle.mdp_horizon_bounds.proofs.induction.until_bounds.Goals as goal
@@ -39,5 +40,11 @@ pub returns-clause-gap : goal.returns-clause-gap
 returns-clause-gap c = IfOk-weaker c.bounded.result _ _
     (λ found h. gap_by c.args.dir (10 ^ c.args.digits) c.args.model.now (until c.args.stay.now c.args.goals.now) c.args.steps _
     (subst (λ (z : ℤ). pos 0 <ℤ z) c.power_of_ten.ensures.value c.power_of_ten.ensures.positive) c.known.ensures.mdp
+    (h ∙ ap (λ (one : ℤ). bounds_of c.args.dir one c.args.model.now (until c.args.stay.now c.args.goals.now) c.args.steps) (result-bits c.power_of_ten.result c.power_of_ten.type_inv ∙ c.power_of_ten.ensures.value)))
+    c.bounded.ensures
+
+pub returns-clause-finite : goal.returns-clause-finite
+returns-clause-finite c = IfOk-weaker c.bounded.result _ _
+    (λ found h. finite_by c.args.dir c.args.digits c.args.model.now c.args.stay.now c.args.goals.now c.args.steps _ c.requires.digits c.known.ensures.mdp
     (h ∙ ap (λ (one : ℤ). bounds_of c.args.dir one c.args.model.now (until c.args.stay.now c.args.goals.now) c.args.steps) (result-bits c.power_of_ten.result c.power_of_ten.type_inv ∙ c.power_of_ten.ensures.value)))
     c.bounded.ensures
