@@ -19,12 +19,7 @@ pub(crate) fn push_version(out: &mut Vec<u8>) -> Result<(), Memory>
 }
 
 /// Appends the line of the claim.
-pub fn push_claim(
-    out: &mut Vec<u8>,
-    dir: Dir,
-    name: &[u8],
-    factor: &Frac,
-) -> Result<(), Memory>
+pub fn push_claim(out: &mut Vec<u8>, dir: Dir, name: &[u8], factor: &Frac) -> Result<(), Memory>
     ensures text { OnOk result (out.new.items ≡ out.old.items ++ line (claim_text dir name.now factor.now)) }
     ensures front { Keeps out.old.items out.new.items }
 {
