@@ -1,6 +1,7 @@
 -- The kind that the first line of a text names, and the second one of bounds.
 use Rattle.std.proofs.Common.{◌≡◌, [], ◌∷◌, ◌++◌, Some, refl}
 use Rattle.std.specs.Prelude.{codes}
+use Rattle.mdp_text.specs.Lines.{next_line}
 use Rattle.mdp_checking.specs.Kinds.{chosen}
 use Rattle.mdp_checking.specs.Meanings.{kind_of}
 use Rattle.mdp_checking.specs.declared.kind.CertificateKind.TheVariants.{Exact, Discounted, Bounds, DiscountedBounds}
@@ -9,12 +10,15 @@ of_discount : kind_of (codes "mdp-discount 1" ++ 10 ∷ codes "claim") ≡ Disco
 of_discount = refl
 
 of_bounds : kind_of (codes "mdp-bounds 1" ++ 10 ∷ []) ≡ Bounds
+unfolding next_line
 of_bounds = refl
 
 of_discounted_bounds : kind_of (codes "mdp-bounds 1" ++ 10 ∷ codes "claim min discount " ++ 10 ∷ []) ≡ DiscountedBounds
+unfolding next_line
 of_discounted_bounds = refl
 
 of_other_bounds : kind_of (codes "mdp-bounds 1" ++ 10 ∷ codes "claim min discounted " ++ 10 ∷ []) ≡ Bounds
+unfolding next_line
 of_other_bounds = refl
 
 of_values : kind_of (codes "mdp-certificate 2" ++ 10 ∷ []) ≡ Exact
@@ -39,4 +43,5 @@ asked_for = refl
 
 -- but bounds that are asked for are of the kind that their claim names
 asked_for_bounds : chosen (Some Bounds) (codes "mdp-bounds 1" ++ 10 ∷ codes "claim max discount " ++ 10 ∷ []) ≡ DiscountedBounds
+unfolding next_line
 asked_for_bounds = refl
