@@ -5,10 +5,10 @@ use Rattle.mdp_spec.specs.Labels.{place_of}
 use Rattle.mdp_spec.specs.Mdp.{Mdp, states_of}
 use Rattle.mdp_rows.specs.declared.dir.Dir.{Dir}
 use Rattle.mdp_horizon.specs.Objective.{Objective}
-use Rattle.mdp_horizon.specs.Objective.Objective as objective
+use Rattle.mdp_horizon.specs.Objective.Objective.{until as until_objective, total as total_objective}
 use Rattle.mdp_horizon_bounds.specs.Columns.{bounds_of}
 use Rattle.mdp_horizon_bounds.specs.Spelling.{PlainClaim, bounds_text}
-use Rattle.mdp_horizon_bounds.specs.Spelling.PlainClaim as claim
+use Rattle.mdp_horizon_bounds.specs.Spelling.PlainClaim.{until as until_claim, total as total_claim}
 use Rattle.mdp_job.specs.Refusal.{query_steps}
 use Rattle.mdp_command.specs.Said.{Said}
 use Rattle.mdp_command_horizon.specs.Due.{most_choices, states_with, states_that_stay, stay_word, name_at}
@@ -23,7 +23,7 @@ abbrev pub until_bounds_due : Dir → Option (List ℕ) → List ℕ → ℕ →
 until_bounds_due dir stay label steps digits m =
     states_that_stay m stay
     >>= (λ stays. states_with m label
-    >>= (λ goals. said_of_bounds dir (claim.until (stay_word stay) label) (objective.until stays goals) steps digits m))
+    >>= (λ goals. said_of_bounds dir (until_claim (stay_word stay) label) (until_objective stays goals) steps digits m))
 
 abbrev pub IsUntilBoundsDue : Dir → Option (List ℕ) → List ℕ → ℕ → ℕ → Mdp → Said → Type 0
 IsUntilBoundsDue dir stay label steps digits m said = said ≡ until_bounds_due dir stay label steps digits m
@@ -31,7 +31,7 @@ IsUntilBoundsDue dir stay label steps digits m said = said ≡ until_bounds_due 
 -- the name first, then the number of steps
 abbrev pub total_bounds_due : Dir → List ℕ → ℕ → ℕ → Mdp → Said
 total_bounds_due dir name steps digits m =
-    name_at (place_of name m.names) >>= (λ r. said_of_bounds dir (claim.total name) (objective.total r) steps digits m)
+    name_at (place_of name m.names) >>= (λ r. said_of_bounds dir (total_claim name) (total_objective r) steps digits m)
 
 abbrev pub IsTotalBoundsDue : Dir → List ℕ → ℕ → ℕ → Mdp → Said → Type 0
 IsTotalBoundsDue dir name steps digits m said = said ≡ total_bounds_due dir name steps digits m

@@ -7,10 +7,10 @@ use Rattle.mdp_rows.specs.declared.dir.Dir.TheVariants.{Max, Min}
 use Rattle.mdp_rows.specs.declared.rule.RowRule.{RowRule}
 use Rattle.mdp_horizon.specs.Between.{MaxBetween, MinBetween}
 use Rattle.mdp_horizon.specs.Objective.{Objective}
-use Rattle.mdp_horizon.specs.Objective.Objective as objective
+use Rattle.mdp_horizon.specs.Objective.Objective.{until as until_objective, total as total_objective}
 use Rattle.mdp_horizon_bounds.specs.Columns.{Bounds}
 use Rattle.mdp_horizon_bounds.specs.Spelling.{bounds_text}
-use Rattle.mdp_horizon_bounds.specs.Spelling.PlainClaim as claim
+use Rattle.mdp_horizon_bounds.specs.Spelling.PlainClaim.{until as until_claim, total as total_claim}
 use Rattle.mdp_command.specs.Read.{IsWorkOnModel}
 use Rattle.mdp_command.specs.Said.{Said}
 use Rattle.mdp_command.specs.Streams.{Input}
@@ -30,16 +30,16 @@ pub record AreUntilBoundsPrinted (dir : Dir) (stay : Option (List ℕ)) (label :
   pub goals : List Bool
   pub goals_are : states_with m label ≡ Ok goals
   pub bounds : Bounds
-  pub spelled : text ≡ bounds_text dir (claim.until (stay_word stay) label) m bounds
-  pub between : AreBetween dir m (objective.until stays goals) steps bounds
+  pub spelled : text ≡ bounds_text dir (until_claim (stay_word stay) label) m bounds
+  pub between : AreBetween dir m (until_objective stays goals) steps bounds
 
 -- the same for the reward name
 pub record AreTotalBoundsPrinted (dir : Dir) (name : List ℕ) (steps : ℕ) (m : Mdp) (text : List ℕ) : Type 0 where
   pub place : ℕ
   pub place_is : place_of name m.names ≡ Some place
   pub bounds : Bounds
-  pub spelled : text ≡ bounds_text dir (claim.total name) m bounds
-  pub between : AreBetween dir m (objective.total place) steps bounds
+  pub spelled : text ≡ bounds_text dir (total_claim name) m bounds
+  pub between : AreBetween dir m (total_objective place) steps bounds
 
 -- the same of the model that the bytes read as
 abbrev pub AreUntilBoundsShown : RowRule → Dir → Option (List ℕ) → List ℕ → ℕ → List ℕ → List ℕ → Type 0

@@ -1,20 +1,19 @@
-ghost use Rattle.std.specs.Prelude.{◌≡◌, ◌⊎◌, ◌<◌, ◌≤◌, length, Ok, Err, OnOk, IfOk};
+ghost use Rattle.std.specs.Prelude.{◌≡◌, ◌⊎◌, ◌<◌, ◌≤◌, length, Ok, Err, OnOk};
 ghost use Rattle.std.specs.Io.KnownBytes.{IsAtEnd};
 ghost use Rattle.mdp_spec.specs.Mdp.{states_of};
-ghost use Rattle.mdp_horizon.specs.Objective.Objective as objective;
+ghost use Rattle.mdp_horizon.specs.Objective.Objective.{until as until_objective, total as total_objective};
 ghost use Rattle.mdp_horizon_bounds.specs.Answer.{plain};
 ghost use Rattle.mdp_horizon_bounds.specs.Spelling.{plain_claim, bounds_text};
-ghost use Rattle.mdp_horizon_bounds.specs.Spelling.PlainClaim as claim;
+ghost use Rattle.mdp_horizon_bounds.specs.Spelling.PlainClaim.{until as until_claim, total as total_claim};
 ghost use Rattle.mdp_job.specs.Refusal.{no_memory};
 ghost use Rattle.mdp_command.specs.Said.{said};
 ghost use Rattle.mdp_command.specs.Streams.{input};
 ghost use Rattle.mdp_command_horizon.specs.BoundsDue.{said_of_bounds, IsUntilBoundsDue, IsTotalBoundsDue};
-ghost use Rattle.mdp_command_horizon.specs.BoundsShown.{AreUntilBoundsPrinted, AreTotalBoundsPrinted, AreUntilBoundsRead, AreTotalBoundsRead};
+ghost use Rattle.mdp_command_horizon.specs.BoundsShown.{AreUntilBoundsRead, AreTotalBoundsRead};
 ghost use Rattle.mdp_command_horizon.specs.Code.{names_of};
 ghost use Rattle.mdp_command_horizon.specs.Due.{stay_word};
 
 use crate::answering::{states_that_stay, states_with, stay_word};
-use crate::laws::horizon_bounds_law;
 use crate::tables::is_too_long;
 use mdp_command::read_model;
 use mdp_edge::Source;
@@ -43,7 +42,7 @@ impl Wanted {
     ) -> Result<Vec<u8>, Refusal>
         requires lower { length found.now.lower.items ≡ states_of model.now }
         requires upper { length found.now.upper.items ≡ states_of model.now }
-        ensures { (said result ≡ Err no_memory) ⊎ (said result ≡ Ok (bounds_text self.entry.dir (plain_claim claim.entry) model.now (plain found.now))) }
+        ensures { (said result ≡ Err no_memory) ⊎ (said result ≡ Ok (bounds_text self.dir (plain_claim claim.entry) model.now (plain found.now))) }
     {
         let mut text = Vec::new(alloc);
         match write_horizon_bounds(model, self.dir, claim, found, &mut text) {
@@ -65,7 +64,7 @@ impl Wanted {
         requires stays_each { length stays.now ≡ states_of model.now }
         requires goals_each { length goals.now ≡ states_of model.now }
         ensures { (said result ≡ Err no_memory)
-            ⊎ (said result ≡ said_of_bounds self.entry.dir (claim.until (stay_word (names_of stay.entry)) label.now) (objective.until stays.now goals.now) self.entry.steps self.entry.digits model.now) }
+            ⊎ (said result ≡ said_of_bounds self.dir (until_claim (stay_word (names_of stay.entry)) label.now) (until_objective stays.now goals.now) self.steps self.digits model.now) }
     {
         if is_too_long(model, self.steps) {
             return Err(Refusal::QuerySteps);
@@ -93,11 +92,9 @@ impl Wanted {
         stay: Option<&[u8]>,
         label: &[u8],
     ) -> Result<Vec<u8>, Refusal>
-        ensures due { (said result ≡ Err no_memory) ⊎ IsUntilBoundsDue self.entry.dir (names_of stay.entry) label.now self.entry.steps self.entry.digits model.now (said result) }
-        ensures printed { IfOk (said result) (AreUntilBoundsPrinted self.entry.dir (names_of stay.entry) label.now self.entry.steps model.now) }
+        ensures { (said result ≡ Err no_memory) ⊎ IsUntilBoundsDue self.dir (names_of stay.entry) label.now self.steps self.digits model.now (said result) }
     {
         model.known();
-        horizon_bounds_law();
         let stays = match states_that_stay(alloc, model, stay) {
             Ok(stays) => stays,
             Err(refusal) => return Err(refusal),
@@ -119,7 +116,7 @@ impl Wanted {
     ) -> Result<Vec<u8>, Refusal>
         requires { place < length model.now.names }
         ensures { (said result ≡ Err no_memory)
-            ⊎ (said result ≡ said_of_bounds self.entry.dir (claim.total name.now) (objective.total place) self.entry.steps self.entry.digits model.now) }
+            ⊎ (said result ≡ said_of_bounds self.dir (total_claim name.now) (total_objective place) self.steps self.digits model.now) }
     {
         if is_too_long(model, self.steps) {
             return Err(Refusal::QuerySteps);
@@ -132,11 +129,9 @@ impl Wanted {
 
     /// The text of a total reward for a model, or its refusal: the name is looked up first.
     fn total_in(self, alloc: Global, model: &Model, name: &[u8]) -> Result<Vec<u8>, Refusal>
-        ensures due { (said result ≡ Err no_memory) ⊎ IsTotalBoundsDue self.entry.dir name.now self.entry.steps self.entry.digits model.now (said result) }
-        ensures printed { IfOk (said result) (AreTotalBoundsPrinted self.entry.dir name.now self.entry.steps model.now) }
+        ensures { (said result ≡ Err no_memory) ⊎ IsTotalBoundsDue self.dir name.now self.steps self.digits model.now (said result) }
     {
         model.known();
-        horizon_bounds_law();
         match model.reward_named(name) {
             Some(place) => self.of_name(alloc, model, name, place),
             None => Err(Refusal::QueryReward),

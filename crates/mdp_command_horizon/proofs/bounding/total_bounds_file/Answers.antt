@@ -1,4 +1,5 @@
 use Rattle.mdp_command.proofs.Working.{model_refused, model_worked}
+use Rattle.mdp_command_horizon.proofs.BoundsPrinting.{total_printed}
 use Rattle.mdp_command_horizon.proofs.Printing.{shown_of}
 use Rattle.mdp_command_horizon.proofs.bounding.total_bounds_file.Goals as goal
 
@@ -6,4 +7,5 @@ pub returns-in-Err-clause-read : goal.returns-in-Err-clause-read
 returns-in-Err-clause-read g c = model_refused _ _ _ _ _ c.in-Err.ensures.read
 
 pub returns-in-Ok-clause-read : goal.returns-in-Ok-clause-read
-returns-in-Ok-clause-read g c = model_worked _ _ _ _ _ _ c.in-Ok.ensures.read c.total_in.ensures.due (shown_of _ _ _ _ c.total_in.ensures.printed)
+returns-in-Ok-clause-read g c =
+    model_worked _ _ _ _ _ _ c.in-Ok.ensures.read c.total_in.ensures (shown_of _ _ _ _ (total_printed _ _ _ _ _ c.in-Ok.ensures.mdp _ c.total_in.ensures))
