@@ -23,7 +23,7 @@ use Rattle.mdp_checking.specs.Meanings.{kind_of, meaning_of}
 use Rattle.mdp_checking.specs.Laws.{YesIsAccepted}
 use Rattle.mdp_checking.specs.Shown.{IsCheckRead}
 use Rattle.mdp_checking.specs.declared.kind.CertificateKind.{CertificateKind}
-use Rattle.mdp_checking.specs.declared.kind.CertificateKind.TheVariants.{Exact, Discounted, Bounds}
+use Rattle.mdp_checking.specs.declared.kind.CertificateKind.TheVariants.{Exact, Discounted, Bounds, DiscountedBounds}
 use Rattle.mdp_checker.specs.Run.{HasCause, IsDecided, IsAnswered, IsYesTrue, IsYesUnless, IsComplete}
 use Rattle.mdp_checker.specs.Words.{Asked}
 
@@ -51,6 +51,8 @@ claims_truly Exact rule model cert t =
 claims_truly Discounted rule model cert t =
     record { model = t.accepted.model; reads = t.accepted.reads; cert = t.accepted.cert; text = t.accepted.text; bound = t.bound }
 claims_truly Bounds rule model cert t =
+    record { model = t.accepted.model; reads = t.accepted.reads; cert = t.accepted.cert; text = t.accepted.text; bound = t.bound }
+claims_truly DiscountedBounds rule model cert t =
     record { model = t.accepted.model; reads = t.accepted.reads; cert = t.accepted.cert; text = t.accepted.text; bound = t.bound }
 
 -- ---- what is answered

@@ -86,7 +86,10 @@ fn in_discount_bounds(alloc: Global, bytes: &[u8]) -> Result<Vec<u32>, Refusal>
     ensures not_of_model { IfErr (named result) (λ e. is_of_model (Err e) ≡ false) }
 {
     match read_discount_bounds(alloc, bytes) {
-        Ok(cert) => Ok(cert.bounds.choices),
+        Ok(cert) => {
+            let bounds = cert.bounds;
+            Ok(bounds.choices)
+        }
         Err(CertError::At { line, kind }) => Err(Refusal::CertText { line, kind }),
         Err(CertError::Memory) => Err(Refusal::Memory),
     }
