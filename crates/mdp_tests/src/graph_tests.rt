@@ -153,12 +153,12 @@ fn finds_sets_of_states(rt: HostRuntime) -> Result<(), Fail> {
 }
 
 /// The states from which rows lead to a goal.
-#[tactic(auto, using(crate::proofs::RowCounts::one_row_each))]
 fn along_rows(alloc: Global, rows: &PolicyRows<'_>, goals: &Marks) -> Result<Pass, Memory>
-    requires { length goals.now ≡ states_of rows.now.model.now }
+    requires goals { length goals.now ≡ states_of rows.now.model.now }
     ensures { IfOk result (λ pass. length pass.marks ≡ states_of rows.now.model.now) }
 {
-    along(alloc, rows, goals)
+    let pass = along(alloc, rows, goals)?;
+    Ok(pass)
 }
 
 /// The policy that `may_reach` finds, and the states that it leads to the goal.
