@@ -72,7 +72,8 @@ module _ (m : Mdp) (r : ℕ) (f : ℚ) (known_ : IsMdp m) (factor : IsFactor f) 
         no_better_trans dir _ ((reward_of (choice_at m s c) r +ℚ f *ℚ row_weigh v (row_at m s c)) +ℚ pow_ℚ f (suc n) *ℚ signed dir k) _
             (no_better_of_eq dir _ _
             (ap (λ (w : ℚ). reward_of (choice_at m s c) r +ℚ f *ℚ w) (weigh_shifted (states_of m) (row_at m s c) v (pow_ℚ f n *ℚ signed dir k) (IsMdp.row known_ s c h l))
-            ∙ ring rat_ring 5 (λ r f w p k. r ⊕ f ⊗ (w ⊕ p ⊗ k)) (λ r f w p k. (r ⊕ f ⊗ w) ⊕ (f ⊗ p) ⊗ k) refl (reward_of (choice_at m s c) r) f (row_weigh v (row_at m s c)) (pow_ℚ f n) (signed dir k)))
+            ∙ ring rat_ring 5 (λ r f w p k. r ⊕ f ⊗ (w ⊕ p ⊗ k)) (λ r f w p k. (r ⊕ f ⊗ w) ⊕ (f ⊗ p) ⊗ k) refl
+            (reward_of (choice_at m s c) r) f (row_weigh v (row_at m s c)) (pow_ℚ f n) (signed dir k)))
             (no_better_add dir _ (v s) (pow_ℚ f (suc n) *ℚ signed dir k) now.1),
       ))
       n t s h claims keeps)
@@ -128,7 +129,8 @@ le_limit f a b k l factor near =
     le_of_bounds a b (λ q hq.
     let n = power_below f (k +ℚ l) q factor hq in
     let x = near n.0 in
-    linear 7 (λ a b x p k l q. a) (λ a b x p k l q. b ⊕ q) (λ a b x p k l q. known a (x ⊕ p ⊗ k) ∷ known x (b ⊕ p ⊗ l) ∷ known (p ⊗ (k ⊕ l)) q ∷ []) refl a b x.0 (pow_ℚ f n.0) k l q x.1 x.2 n.1)
+    linear 7 (λ a b x p k l q. a) (λ a b x p k l q. b ⊕ q) (λ a b x p k l q. known a (x ⊕ p ⊗ k) ∷ known x (b ⊕ p ⊗ l) ∷ known (p ⊗ (k ⊕ l)) q ∷ [])
+    refl a b x.0 (pow_ℚ f n.0) k l q x.1 x.2 n.1)
 
 module _ (m : Mdp) (r : ℕ) (f : ℚ) (known_ : IsMdp m) (factor : IsFactor f) where
   discount_no_better : (dir : Dir) (v w : List ℚ) (k l : ℚ) (policy other : List ℕ) (s : ℕ) → IsPolicy m policy → DiscountBound dir m r f v k policy → DiscountBound dir m r f w l other

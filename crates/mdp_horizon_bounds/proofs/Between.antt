@@ -19,12 +19,14 @@ use Rattle.mdp_horizon_bounds.proofs.Covering.{cover_length, follow_length, is_c
 
 module _ (one : ℕ) (above : 0 < one) (m : Mdp) (o : Objective) (known_ : IsMdp m) (dir : Dir) where
   -- what is claimed of a column is claimed of it as it is shown
-  shown_claim : (column : List (Option ℤ)) (s : ℕ) (f : ℚ → Type 0) → s < length column → Claimed (reward_at (fractions (pos one) column) s) f → Claimed (reward_at (map (shown (pos one)) column) s) f
+  shown_claim : (column : List (Option ℤ)) (s : ℕ) (f : ℚ → Type 0) → s < length column → Claimed (reward_at (fractions (pos one) column) s) f
+      → Claimed (reward_at (map (shown (pos one)) column) s) f
   shown_claim column s f h claim =
       subst (λ (w : Option ℚ). Claimed w f) (sym (get_or-map (shown (pos one)) column s (Some (pos 0)) (Some 0ℚ) h))
       (claimed_shown one (whole_at column s) f (subst (λ (w : Option ℚ). Claimed w f) (fraction_at one column s h) claim))
 
-  covers_shown : (z : List (Option ℚ)) (column : List (Option ℤ)) → states_of m ≡ length column → CoversStep dir m o z (fractions (pos one) column) → CoversStep dir m o z (map (shown (pos one)) column)
+  covers_shown : (z : List (Option ℚ)) (column : List (Option ℤ)) → states_of m ≡ length column → CoversStep dir m o z (fractions (pos one) column)
+      → CoversStep dir m o z (map (shown (pos one)) column)
   covers_shown z column e step = record {
     stopped = λ s x h st. shown_claim column s _ (omega (arith, e)) (step.stopped s x h st);
     each = λ s c h st l. shown_claim column s _ (omega (arith, e)) (step.each s c h st l);
@@ -71,12 +73,14 @@ bounds-min one m o n h k =
     (cover_shown_length one h m o k Min n) (follow_shown_length one h m o k Min n) (covering_shown one h m o k Min n) (following_shown one h m o k Min n)
 
 -- the same of what the code answers, for a direction and a number of units that are known
-pub bounds-max_by : (dir : Dir) (one : ℤ) (m : Mdp) (o : Objective) (n : ℕ) (b : Bounds) → dir ≡ Max → pos 0 <ℤ one → IsMdp m → b ≡ bounds_of dir one m o n → MaxBetween m o n b.lower b.upper b.steps
+pub bounds-max_by : (dir : Dir) (one : ℤ) (m : Mdp) (o : Objective) (n : ℕ) (b : Bounds) → dir ≡ Max → pos 0 <ℤ one → IsMdp m
+    → b ≡ bounds_of dir one m o n → MaxBetween m o n b.lower b.upper b.steps
 bounds-max_by dir (pos one) m o n b e h k q =
     subst (λ (b : Bounds). MaxBetween m o n b.lower b.upper b.steps) (sym (q ∙ ap (λ (d : Dir). bounds_of d (pos one) m o n) e)) (bounds-max one m o n (omega (arith, ints)) k)
 bounds-max_by dir (negsuc one) m o n b e h k q = absurd (omega (arith, ints))
 
-pub bounds-min_by : (dir : Dir) (one : ℤ) (m : Mdp) (o : Objective) (n : ℕ) (b : Bounds) → dir ≡ Min → pos 0 <ℤ one → IsMdp m → b ≡ bounds_of dir one m o n → MinBetween m o n b.lower b.upper b.steps
+pub bounds-min_by : (dir : Dir) (one : ℤ) (m : Mdp) (o : Objective) (n : ℕ) (b : Bounds) → dir ≡ Min → pos 0 <ℤ one → IsMdp m
+    → b ≡ bounds_of dir one m o n → MinBetween m o n b.lower b.upper b.steps
 bounds-min_by dir (pos one) m o n b e h k q =
     subst (λ (b : Bounds). MinBetween m o n b.lower b.upper b.steps) (sym (q ∙ ap (λ (d : Dir). bounds_of d (pos one) m o n) e)) (bounds-min one m o n (omega (arith, ints)) k)
 bounds-min_by dir (negsuc one) m o n b e h k q = absurd (omega (arith, ints))

@@ -12,7 +12,8 @@ use Rattle.mdp_horizon.specs.Objective.{Objective}
 use Rattle.mdp_horizon_bounds.specs.declared.leader.Leader.{Leader}
 use Rattle.mdp_horizon_bounds.specs.Whole.{whole_at, opposite, farther}
 use Rattle.mdp_horizon_bounds.specs.Scaled.{Scaled, or_else, rounded_sum}
-use Rattle.mdp_horizon_bounds.specs.Columns.{stopped, ended, scaled_choice, scaled_state, no_scaled, covered_from, covered, is_ahead, judged, followed_from, followed, leader_or, cover_at, follow_at, cover, follow}
+use Rattle.mdp_horizon_bounds.specs.Columns.{stopped, ended, scaled_choice, scaled_state, no_scaled, covered_from, covered, is_ahead}
+use Rattle.mdp_horizon_bounds.specs.Columns.{judged, followed_from, followed, leader_or, cover_at, follow_at, cover, follow}
 
 picked : (t : Bool) (c : ℕ) (leader : Leader) (b j : ℤ) → leader.value ≡ Some j → Leader.value (if t then record { value = Some b; choice = c } else leader) ≡ Some (if t then b else j)
 picked true c leader b j e = refl

@@ -22,7 +22,8 @@ use Rattle.mdp_horizon.proofs.Halves.{backed_up, CoversStep, FollowsStep, IsCove
 use Rattle.mdp_horizon_bounds.specs.declared.leader.Leader.{Leader}
 use Rattle.mdp_horizon_bounds.specs.Whole.{in_units, fractions, opposite, farther}
 use Rattle.mdp_horizon_bounds.specs.Scaled.{Scaled, or_else, rounded_sum}
-use Rattle.mdp_horizon_bounds.specs.Columns.{stopped, ended, scaled_choice, scaled_state, no_scaled, covered_with, covered_from, covered, is_ahead, judged, followed_from, followed, leader_or, cover_at, follow_at, end_column, cover_next, follow_next, choices_next, cover, follow, table}
+use Rattle.mdp_horizon_bounds.specs.Columns.{stopped, ended, scaled_choice, scaled_state, no_scaled, covered_with, covered_from, covered, is_ahead, judged, followed_from}
+use Rattle.mdp_horizon_bounds.specs.Columns.{followed, leader_or, cover_at, follow_at, end_column, cover_next, follow_next, choices_next, cover, follow, table}
 use Rattle.mdp_horizon_bounds.proofs.Totals.{exact, farther-both, IsTrivial, rounded_sum-is}
 use Rattle.mdp_horizon_bounds.proofs.Units.{in_units-is, units-one, units-zero, no_better_in_units, fraction_at, stays, backed_up-is}
 
@@ -37,7 +38,8 @@ covered_from-is dir column far k [] e = record { from = no_better_of_eq dir _ _ 
 covered_from-is dir column far k (x ∷ xs) e =
     let z = step_told (covered_with dir column far x) (λ j. covered_from dir column j xs) k (sym e) in
     let a = step_told (rounded_sum dir column x) (λ j. let o : Option ℤ = Some (farther dir far j) in o) z.0 z.1 in
-    let rest : IsCovered dir column xs (farther dir far a.0) k = covered_from-is dir column (farther dir far a.0) k xs (ap (λ (j : ℤ). covered_from dir column j xs) (sym (Some_same _ _ a.2)) ∙ sym z.2) in
+    let rest : IsCovered dir column xs (farther dir far a.0) k = covered_from-is dir column (farther dir far a.0) k xs
+    (ap (λ (j : ℤ). covered_from dir column j xs) (sym (Some_same _ _ a.2)) ∙ sym z.2) in
     let both = farther-both dir far a.0 in
     record {
       from = no_better_trans dir (of_int far) (of_int (farther dir far a.0)) (of_int k) both.0 rest.from;
@@ -67,7 +69,8 @@ pub record IsLed (dir : Dir) (column : List (Option ℤ)) (xs : List Scaled) (le
   pub inside : leader.choice < length xs
   pub value : leader.value ≡ rounded_sum (opposite dir) column (slice_index_or xs leader.choice no_scaled)
 
-judged-led : (dir : Dir) (column : List (Option ℤ)) (xs : List Scaled) (c : ℕ) (leader : Leader) (x : Scaled) (b : Bool) → IsLed dir column xs leader → c < length xs → slice_index_or xs c no_scaled ≡ x
+judged-led : (dir : Dir) (column : List (Option ℤ)) (xs : List Scaled) (c : ℕ) (leader : Leader) (x : Scaled) (b : Bool)
+    → IsLed dir column xs leader → c < length xs → slice_index_or xs c no_scaled ≡ x
     → IsLed dir column xs (if b then record { value = rounded_sum (opposite dir) column x; choice = c } else leader)
 judged-led dir column xs c leader x true h l e = record { inside = l; value = ap (rounded_sum (opposite dir) column) (sym e) }
 judged-led dir column xs c leader x false h l e = h
@@ -142,7 +145,8 @@ module _ (one : ℕ) (above : 0 < one) (m : Mdp) (o : Objective) (known_ : IsMdp
         fraction_at one (cover_next dir (pos one) m o column) s (omega (arith, length-map-range_with_len (cover_at dir (pos one) m o column) 0 (states_of m)))
         ∙ ap (option_map (in_units (pos one))) (get_or-map-range_with_len (cover_at dir (pos one) m o column) 0 (states_of m) s s (Some (pos 0)) h (omega arith))
 
-    follow_is : (s : ℕ) → s < states_of m → reward_at (fractions (pos one) (follow_next dir (pos one) m o column)) s ≡ option_map (in_units (pos one)) (Leader.value (follow_at dir (pos one) m o column s))
+    follow_is : (s : ℕ) → s < states_of m → reward_at (fractions (pos one) (follow_next dir (pos one) m o column)) s
+        ≡ option_map (in_units (pos one)) (Leader.value (follow_at dir (pos one) m o column s))
     follow_is s h =
         fraction_at one (follow_next dir (pos one) m o column) s (omega (arith, length-map-range_with_len (λ s. Leader.value (follow_at dir (pos one) m o column s)) 0 (states_of m)))
         ∙ ap (option_map (in_units (pos one))) (get_or-map-range_with_len (λ s. Leader.value (follow_at dir (pos one) m o column s)) 0 (states_of m) s s (Some (pos 0)) h (omega arith))
@@ -170,7 +174,8 @@ module _ (one : ℕ) (above : 0 < one) (m : Mdp) (o : Objective) (known_ : IsMdp
           (no_better_of_eq dir x (in_units (pos one) v.0) (sym v.2));
       each = λ s c h st l.
           subst (λ (w : Option ℚ). Claimed w (λ y. StaysFinite m (fractions (pos one) column) s c × NoBetter dir (backed_up m o (finite_part (fractions (pos one) column)) s c) y))
-          (sym (cover_is s h ∙ ap (λ (w : Option ℤ). option_map (in_units (pos one)) (or_else w (covered dir column (scaled_state (pos one) m o s)))) (none_stopped (stopped (pos one) o s) (stopped-is o s ∙ st))))
+          (sym (cover_is s h ∙ ap (λ (w : Option ℤ). option_map (in_units (pos one)) (or_else w (covered dir column (scaled_state (pos one) m o s))))
+          (none_stopped (stopped (pos one) o s) (stopped-is o s ∙ st))))
           (claim_of_option (covered dir column (scaled_state (pos one) m o s)) s c h l refl);
     }
 
@@ -182,7 +187,8 @@ module _ (one : ℕ) (above : 0 < one) (m : Mdp) (o : Objective) (known_ : IsMdp
     led s h = let some = known_.choice s h in followed-led dir column (scaled_state (pos one) m o s) (omega (arith, length-map (choices_at m s) (scaled_choice (pos one) o)))
 
     claim_of_leader : (leader : Leader) (v : Option ℤ) (s : ℕ) → s < states_of m → IsLed dir column (scaled_state (pos one) m o s) leader → leader.value ≡ v
-        → Claimed (option_map (in_units (pos one)) v) (λ y. StaysFinite m (fractions (pos one) column) s leader.choice × NoBetter dir y (backed_up m o (finite_part (fractions (pos one) column)) s leader.choice))
+        → Claimed (option_map (in_units (pos one)) v) (λ y. StaysFinite m (fractions (pos one) column) s leader.choice
+        × NoBetter dir y (backed_up m o (finite_part (fractions (pos one) column)) s leader.choice))
     claim_of_leader leader None s h l q = tt
     claim_of_leader leader (Some k) s h l q =
         let inside : leader.choice < length (choices_at m s) = omega (arith, l.inside, length-map (choices_at m s) (scaled_choice (pos one) o)) in
@@ -212,7 +218,8 @@ module _ (one : ℕ) (above : 0 < one) (m : Mdp) (o : Objective) (known_ : IsMdp
           subst (λ (w : Option ℚ). Claimed w (λ y. StaysFinite m (fractions (pos one) column) s (slice_index (choices_next dir (pos one) m o column) s)
           × NoBetter dir y (backed_up m o (finite_part (fractions (pos one) column)) s (slice_index (choices_next dir (pos one) m o column) s))))
           (sym (follow_is s h ∙ ap (λ (w : Option ℤ). option_map (in_units (pos one)) (Leader.value (leader_or w (followed dir column (scaled_state (pos one) m o s))))) none))
-          (subst (λ (c : ℕ). Claimed (option_map (in_units (pos one)) leader.value) (λ y. StaysFinite m (fractions (pos one) column) s c × NoBetter dir y (backed_up m o (finite_part (fractions (pos one) column)) s c))) (sym at)
+          (subst (λ (c : ℕ). Claimed (option_map (in_units (pos one)) leader.value)
+          (λ y. StaysFinite m (fractions (pos one) column) s c × NoBetter dir y (backed_up m o (finite_part (fractions (pos one) column)) s c))) (sym at)
           (claim_of_leader leader leader.value s h (led s h) refl));
     }
 

@@ -60,6 +60,7 @@ with_room side column x k room told =
 pub sum_is_within : (side : Dir) (column : List (Option ℤ)) (x : Scaled) (k : ℤ) → HasRoom column x → rounded_sum side column x ≡ Some k → SumIsWithin column x k
 sum_is_within side column x k room told one start row h r e =
     let d : IsRounded side one start row column k = divided-is side one start row column k (ap (divided side column) (sym e) ∙ with_room side column x k room told) in
-    let w : IsWithin (unit one) (exact one start row column *ℚ unit one) (of_int k *ℚ unit one) = within_one side (unit one) (exact one start row column) (of_int k) (ratio-pos 1 one (omega arith) h) d.beyond d.close in
+    let w : IsWithin (unit one) (exact one start row column *ℚ unit one) (of_int k *ℚ unit one) =
+    within_one side (unit one) (exact one start row column) (of_int k) (ratio-pos 1 one (omega arith) h) d.beyond d.close in
     subst (λ (y : ℚ). IsWithin (unit one) y (in_units (pos one) k)) (backed_up-is one (length column) start column row h refl r.in_range d.there)
     (subst (λ (y : ℚ). IsWithin (unit one) (exact one start row column *ℚ unit one) y) (sym (in_units-is one k h)) w)

@@ -55,7 +55,8 @@ thirds =
     ∷ [])
 
 -- in two steps with 5/9: with one decimal place from 5/10 to 6/10
-rounded_outward : bounds_of Max (pos 10) thirds (until all goal) 2 ≡ answer (Some (ratio (pos 1) 2) ∷ Some (of_int (pos 1)) ∷ []) (Some (ratio (pos 3) 5) ∷ Some (of_int (pos 1)) ∷ []) ((0 ∷ 0 ∷ []) ∷ (0 ∷ 0 ∷ []) ∷ [])
+rounded_outward : bounds_of Max (pos 10) thirds (until all goal) 2
+    ≡ answer (Some (ratio (pos 1) 2) ∷ Some (of_int (pos 1)) ∷ []) (Some (ratio (pos 3) 5) ∷ Some (of_int (pos 1)) ∷ []) ((0 ∷ 0 ∷ []) ∷ (0 ∷ 0 ∷ []) ∷ [])
 unfolding bounds_of rounded_sum narrow narrow_ℚ ratio of_int gcd gcd_with_fuel
 rounded_outward = refl
 
@@ -65,7 +66,8 @@ unfolding bounds_of rounded_sum narrow narrow_ℚ ratio of_int gcd gcd_with_fuel
 no_step = refl
 
 -- rewards of both signs: 1/3 in one step lies between 3/10 and 4/10, and -1/2 needs no rounding
-both_signs : bounds_of Max (pos 10) thirds (total 0) 1 ≡ answer (Some (ratio (pos 3) 10) ∷ Some (ratio (negsuc 0) 2) ∷ []) (Some (ratio (pos 2) 5) ∷ Some (ratio (negsuc 0) 2) ∷ []) ((0 ∷ 0 ∷ []) ∷ [])
+both_signs : bounds_of Max (pos 10) thirds (total 0) 1
+    ≡ answer (Some (ratio (pos 3) 10) ∷ Some (ratio (negsuc 0) 2) ∷ []) (Some (ratio (pos 2) 5) ∷ Some (ratio (negsuc 0) 2) ∷ []) ((0 ∷ 0 ∷ []) ∷ [])
 unfolding bounds_of rounded_sum narrow narrow_ℚ ratio of_int gcd gcd_with_fuel
 both_signs = refl
 
@@ -87,7 +89,8 @@ without_room = (refl, refl, refl)
 abbrev wide : Mdp
 wide = model_of (with (0 ∷ []) (by (of_int (pos 0)) long ∷ []) ∷ with (1 ∷ []) (by (of_int (pos 0)) (to 1 (of_int (pos 1)) ∷ []) ∷ []) ∷ [])
 
-wide_values : bounds_of Max (pos 10) wide (until all goal) 1 ≡ answer (Some (of_int (pos 0)) ∷ Some (of_int (pos 1)) ∷ []) (Some (of_int (pos 1)) ∷ Some (of_int (pos 1)) ∷ []) ((0 ∷ 0 ∷ []) ∷ [])
+wide_values : bounds_of Max (pos 10) wide (until all goal) 1
+    ≡ answer (Some (of_int (pos 0)) ∷ Some (of_int (pos 1)) ∷ []) (Some (of_int (pos 1)) ∷ Some (of_int (pos 1)) ∷ []) ((0 ∷ 0 ∷ []) ∷ [])
 unfolding bounds_of rounded_sum narrow narrow_ℚ ratio of_int gcd gcd_with_fuel
 wide_values = refl
 

@@ -1,5 +1,6 @@
 -- Values of a bounded until are there, from 0 to 1, whatever rows are wide.
-use Rattle.std.proofs.Common.{◌≡◌, ◌∙◌, ℕ, zero, suc, ◌+◌, ◌*◌, ◌<◌, ◌≤◌, ◌^◌, Bool, true, false, if◌then◌else◌, List, [], ◌∷◌, map, length, slice_index_or, Option, Some, None, unwrap_or}
+use Rattle.std.proofs.Common.{◌≡◌, ◌∙◌, ℕ, zero, suc, ◌+◌, ◌*◌, ◌<◌, ◌≤◌, ◌^◌, Bool, true}
+use Rattle.std.proofs.Common.{false, if◌then◌else◌, List, [], ◌∷◌, map, length, slice_index_or, Option, Some, None, unwrap_or}
 use Rattle.std.proofs.Common.{refl, sym, ap, subst, arith, ℤ, pos, negsuc, int_lt, ◌+ℤ◌, ◌≤ℤ◌}
 use Rattle.std.proofs.lemmas.Int.{ints}
 use Rattle.std.proofs.lemmas.List.{get_or-map}
@@ -57,7 +58,8 @@ farther_inside Min one x y p q = one_of one (int_lt y x) x y p q
 
 -- ---- the exact sum
 
-weighed_beyond : (dir : Dir) (n : ℕ) (row : List Entry) (column : List (Option ℤ)) (c : ℚ) → IsRow n row → ((t : ℕ) → t < n → NoBetter dir (number_at column t) c) → NoBetter dir (weighed column row) c
+weighed_beyond : (dir : Dir) (n : ℕ) (row : List Entry) (column : List (Option ℤ)) (c : ℚ) → IsRow n row
+    → ((t : ℕ) → t < n → NoBetter dir (number_at column t) c) → NoBetter dir (weighed column row) c
 weighed_beyond dir n row column c known_ h =
     subst (λ (x : ℚ). NoBetter dir (weighed column row) x) (row_weigh-const n row c known_)
     (subst (λ (x : ℚ). NoBetter dir x (row_weigh (λ v. c) row)) (sum_at-sum_of row (λ y. y.prob *ℚ number_at column y.target))

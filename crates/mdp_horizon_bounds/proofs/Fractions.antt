@@ -32,13 +32,15 @@ quotient-is n (pos d) h = refl
 quotient-is n (negsuc d) h = absurd (omega (arith, ints))
 
 -- what a quotient's denominator is
-pub beyond_told : (n : ℤ) (d : ℕ) (D : ℤ) (q : ℚ) (r : ℤ) → 0 < d → D ≡ pos d → (D ≢ pos 0 → Some q ≡ narrow_ℚ (quotient n D)) → r ≡ pos q.den → r ≡ pos (d / gcd (unsigned_abs n) d)
+pub beyond_told : (n : ℤ) (d : ℕ) (D : ℤ) (q : ℚ) (r : ℤ) → 0 < d → D ≡ pos d → (D ≢ pos 0 → Some q ≡ narrow_ℚ (quotient n D))
+    → r ≡ pos q.den → r ≡ pos (d / gcd (unsigned_abs n) d)
 beyond_told n d D q r h e told is =
     let some : D ≢ pos 0 = λ z. absurd (omega (arith, ints, sym e ∙ z)) in
     let same : q ≡ ratio n d = narrow_ℚ-some (ratio n d) q (told some ∙ ap (λ (z : ℤ). narrow_ℚ (quotient n z)) e) in
     is ∙ ap (λ (x : ℚ). pos x.den) same ∙ ap pos (den_of n d h)
 
-pub beyond_kept : (n : ℤ) (d : ℕ) (D : ℤ) → 0 < d → d < 2 ^ 127 → unsigned_abs n < 2 ^ 127 → D ≡ pos d → (D ≢ pos 0 → (let o : Option ℚ = None in o) ≡ narrow_ℚ (quotient n D)) → ⊥
+pub beyond_kept : (n : ℤ) (d : ℕ) (D : ℤ) → 0 < d → d < 2 ^ 127 → unsigned_abs n < 2 ^ 127 → D ≡ pos d
+    → (D ≢ pos 0 → (let o : Option ℚ = None in o) ≡ narrow_ℚ (quotient n D)) → ⊥
 beyond_kept n d D h k l e told =
     let some : D ≢ pos 0 = λ z. absurd (omega (arith, ints, sym e ∙ z)) in
     let none : (let o : Option ℚ = None in o) ≡ Some (ratio n d) = told some ∙ ap (λ (z : ℤ). narrow_ℚ (quotient n z)) e ∙ kept n d h l k in

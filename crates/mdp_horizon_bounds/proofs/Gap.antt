@@ -84,7 +84,8 @@ at_most n row low z known_ h =
     (EachAt_mono row (λ e y. y.target < n) (λ e y. number_at low y.target ≤ℚ z y.target) (λ e y l. h y.target l) (targets_at n row known_)))
 
 -- an average of the lower column and what is added to each
-raised : (n : ℕ) (row : List Entry) (low : List (Option ℤ)) (c : ℚ) → IsRow n row → row_weigh (λ v. 1ℚ *ℚ number_at low v +ℚ (0ℚ -ℚ neg_ℚ c)) row ≡ 1ℚ *ℚ weighed low row +ℚ (0ℚ -ℚ neg_ℚ c)
+raised : (n : ℕ) (row : List Entry) (low : List (Option ℤ)) (c : ℚ) → IsRow n row
+    → row_weigh (λ v. 1ℚ *ℚ number_at low v +ℚ (0ℚ -ℚ neg_ℚ c)) row ≡ 1ℚ *ℚ weighed low row +ℚ (0ℚ -ℚ neg_ℚ c)
 raised n row low c known_ =
     row_weigh-line n row 1ℚ (neg_ℚ c) (number_at low) (λ v. 0ℚ) known_
     ∙ ap (λ (x : ℚ). 1ℚ *ℚ weighed low row +ℚ (x -ℚ neg_ℚ c)) (row_weigh-const n row 0ℚ known_)
@@ -130,7 +131,8 @@ between_of a b u h =
     ∙ ap (λ (x : ℚ). x +ℚ of_int (neg_ℤ b)) (of_int-+ℤ a (pos (u + 2)) ∙ ap (λ (x : ℚ). of_int a +ℚ x) (of_nat-add u 2))
     ∙ ap (λ (x : ℚ). (of_int a +ℚ (of_int (pos u) +ℚ of_int (pos 2))) +ℚ x) (of_int-neg b)
     in
-    let p : pos 0 <ℤ d = strict_to (of_int d) d 1 (is_of_int d) (positive (of_int d) (subst (λ (x : ℚ). 0ℚ <ℚ x) (sym is) (sub-pos (of_int b) (of_int a +ℚ (of_int (pos u) +ℚ of_int (pos 2))) h))) in
+    let p : pos 0 <ℤ d = strict_to (of_int d) d 1 (is_of_int d)
+    (positive (of_int d) (subst (λ (x : ℚ). 0ℚ <ℚ x) (sym is) (sub-pos (of_int b) (of_int a +ℚ (of_int (pos u) +ℚ of_int (pos 2))) h))) in
     omega (arith, ints)
 
 -- sums over near columns, one rounded down and one up
@@ -191,7 +193,8 @@ columns_near dir one m o n s above known_ wide h =
 
 -- ---- as fractions
 
-shown_is : (one : ℕ) (column : List (Option ℤ)) (s : ℕ) (k : ℤ) (x : ℚ) → s < length column → whole_at column s ≡ Some k → reward_at (map (shown (pos one)) column) s ≡ Some x → x ≡ in_units (pos one) k
+shown_is : (one : ℕ) (column : List (Option ℤ)) (s : ℕ) (k : ℤ) (x : ℚ) → s < length column → whole_at column s ≡ Some k
+    → reward_at (map (shown (pos one)) column) s ≡ Some x → x ≡ in_units (pos one) k
 shown_is one column s k x h e told =
     narrow_ℚ-some (in_units (pos one) k) x (sym told ∙ get_or-map (shown (pos one)) column s (Some (pos 0)) (Some 0ℚ) h ∙ ap (shown (pos one)) e)
 
@@ -207,7 +210,8 @@ units_near one u a b h l =
     (subst (λ (x : ℚ). x ≤ℚ in_units (pos one) (a +ℤ pos u)) (sym (in_units-is one b h)) (no_better_in_units Max one (of_int b) (a +ℤ pos u) h (of_int-le b (a +ℤ pos u) l)))
 
 -- a lower and an upper column
-shown_near : (one u : ℕ) (low high : List (Option ℤ)) (s : ℕ) (a b : ℤ) (x y : ℚ) → 0 < one → s < length low → s < length high → whole_at low s ≡ Some a → whole_at high s ≡ Some b → IsNear u a b
+shown_near : (one u : ℕ) (low high : List (Option ℤ)) (s : ℕ) (a b : ℤ) (x y : ℚ) → 0 < one → s < length low → s < length high
+    → whole_at low s ≡ Some a → whole_at high s ≡ Some b → IsNear u a b
     → reward_at (map (shown (pos one)) low) s ≡ Some x → reward_at (map (shown (pos one)) high) s ≡ Some y → y ≤ℚ x +ℚ ratio (pos u) one
 shown_near one u low high s a b x y above inside within e f near p q =
     subst (λ (x : ℚ). y ≤ℚ x +ℚ ratio (pos u) one) (sym (shown_is one low s a x inside e p))
@@ -225,5 +229,6 @@ gap_is Min one m o n above known_ wide s x y h p q =
     (omega (arith, cover_states Min (pos one) m o n)) (omega (arith, follow_states Min (pos one) m o n)) r.2 r.3 r.4 p q
 
 -- the same of what the code answers
-pub gap_by : (dir : Dir) (one : ℕ) (m : Mdp) (o : Objective) (n : ℕ) (b : Bounds) → pos 0 <ℤ pos one → IsMdp m → b ≡ bounds_of dir (pos one) m o n → NoneIsWide dir (pos one) m o n → GapIsWithin one (2 * n) m b
+pub gap_by : (dir : Dir) (one : ℕ) (m : Mdp) (o : Objective) (n : ℕ) (b : Bounds) → pos 0 <ℤ pos one → IsMdp m → b ≡ bounds_of dir (pos one) m o n
+    → NoneIsWide dir (pos one) m o n → GapIsWithin one (2 * n) m b
 gap_by dir one m o n b above known_ e wide = subst (GapIsWithin one (2 * n) m) (sym e) (gap_is dir one m o n (omega (arith, ints)) known_ wide)

@@ -64,7 +64,8 @@ terms_step common ts ps i p terms t e l r q =
 
 -- ---- a state's choices
 
-pub covered_step : (dir : Dir) (column : List (Option ℤ)) (far : ℤ) (all : List Scaled) (c : ℕ) (x : Scaled) (o : Option ℤ) → drop c all ≡ x ∷ drop (c + 1) all → covered_with dir column far x ≡ o
+pub covered_step : (dir : Dir) (column : List (Option ℤ)) (far : ℤ) (all : List Scaled) (c : ℕ) (x : Scaled) (o : Option ℤ)
+    → drop c all ≡ x ∷ drop (c + 1) all → covered_with dir column far x ≡ o
     → covered_from dir column far (drop c all) ≡ (o >>= (λ far. covered_from dir column far (drop (c + 1) all)))
 covered_step dir column far all c x o e h = ap (covered_from dir column far) e ∙ ap (λ (o : Option ℤ). o >>= (λ far. covered_from dir column far (drop (c + 1) all))) h
 

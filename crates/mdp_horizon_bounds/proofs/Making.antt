@@ -84,7 +84,8 @@ pub record IsScale (one : ℕ) (start : ℚ) (row : List Entry) (sc : Scale) : T
 
 pub scale_in-is : (one : ℕ) (start : ℚ) (row : List Entry) (sc : Scale) → scale_in (pos one) start row ≡ Some sc → IsScale one start row sc
 scale_in-is one start row sc e =
-    let a = step_told (common_in (pos start.den) row) (λ common. scaled_start (pos one) start common >>= (λ whole. let o : Option Scale = Some (record { common = common; start = whole }) in o)) sc (sym e) in
+    let a = step_told (common_in (pos start.den) row)
+    (λ common. scaled_start (pos one) start common >>= (λ whole. let o : Option Scale = Some (record { common = common; start = whole }) in o)) sc (sym e) in
     let c : IsCommon start.den row a.0 = common_in-is start.den row a.0 (den-pos start) (sym a.1) in
     let f = step_told (scaled_start (pos one) start a.0) (λ whole. let o : Option Scale = Some (record { common = a.0; start = whole }) in o) sc a.2 in
     let b = step_told (narrow (start.num *ℤ int_div a.0 (pos start.den))) (λ part. narrow (part *ℤ pos one)) f.0 f.1 in

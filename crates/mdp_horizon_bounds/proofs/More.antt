@@ -9,10 +9,12 @@ pub more : {A : Type 0} (f : ℕ → A) (s : ℕ) (values : List A) (x : A) → 
 more f s values x e q = ap (λ xs. xs ++ x ∷ []) e ∙ ap (λ y. map f (range_with_len 0 s) ++ y ∷ []) q ∙ sym (map_more f s)
 
 -- as they are seen by g
-pub seen_more : {A B : Type 0} (g : A → B) (f : ℕ → B) (s : ℕ) (xs : List A) (x : A) → map g xs ≡ map f (range_with_len 0 s) → g x ≡ f s → map g (xs ++ x ∷ []) ≡ map f (range_with_len 0 (s + 1))
+pub seen_more : {A B : Type 0} (g : A → B) (f : ℕ → B) (s : ℕ) (xs : List A) (x : A) → map g xs ≡ map f (range_with_len 0 s)
+    → g x ≡ f s → map g (xs ++ x ∷ []) ≡ map f (range_with_len 0 (s + 1))
 seen_more g f s xs x e q = map_push g xs x ∙ more f s (map g xs) (g x) e q
 
-pub taken_more : {A B : Type 0} (f : A → B) (ys : List A) (c : ℕ) (d : A) (xs : List B) (x : B) → c < length ys → xs ≡ map f (take c ys) → x ≡ f (get_or ys c d) → xs ++ x ∷ [] ≡ map f (take (c + 1) ys)
+pub taken_more : {A B : Type 0} (f : A → B) (ys : List A) (c : ℕ) (d : A) (xs : List B) (x : B) → c < length ys → xs ≡ map f (take c ys)
+    → x ≡ f (get_or ys c d) → xs ++ x ∷ [] ≡ map f (take (c + 1) ys)
 taken_more f ys c d xs x l e q =
     ap (λ zs. zs ++ x ∷ []) e ∙ ap (λ y. map f (take c ys) ++ y ∷ []) q ∙ sym (map_push f (take c ys) (get_or ys c d)) ∙ sym (ap (map f) (take_more ys c d l))
 

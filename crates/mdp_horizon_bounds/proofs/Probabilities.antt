@@ -1,5 +1,6 @@
 -- A probability of a row is at most 1, so that its weight is at most the common denominator.
-use Rattle.std.proofs.Common.{◌≡◌, ◌∙◌, ℕ, zero, suc, ◌*◌, ◌/◌, ◌<◌, ◌≤◌, ◌^◌, List, [], ◌∷◌, length, get_or, refl, sym, ap, ap₂, subst, arith, div-le_self, div-mul-le_self, mul-le-mul_right}
+use Rattle.std.proofs.Common.{◌≡◌, ◌∙◌, ℕ, zero, suc, ◌*◌, ◌/◌, ◌<◌, ◌≤◌, ◌^◌, List, []}
+use Rattle.std.proofs.Common.{◌∷◌, length, get_or, refl, sym, ap, ap₂, subst, arith, div-le_self, div-mul-le_self, mul-le-mul_right}
 use Rattle.std.proofs.Common.{ℤ, pos, ◌*ℤ◌, int_div, unsigned_abs}
 use Rattle.std.proofs.lemmas.Int.{ints, unsigned_abs-mul, fits_signed_from_abs}
 use Rattle.std.specs.List.{All}
@@ -31,7 +32,8 @@ at_most_sum (x ∷ row) (suc i) d h l =
     ≤ℚ_trans (Entry.prob (get_or row i d)) (sum_of (λ x. x.prob) row) (x.prob +ℚ sum_of (λ x. x.prob) row) (at_most_sum row i d (All-tail (λ x. 0ℚ <ℚ x.prob) x row h) (omega arith))
     (linear 2 (λ x r. r) (λ x r. x ⊕ r) (λ x r. known (lit (pos 0)) x ∷ []) refl x.prob (sum_of (λ x. x.prob) row) (≤ℚ_of_lt 0ℚ x.prob (All-head (λ x. 0ℚ <ℚ x.prob) x row h)))
 
-prob_is : (ts : List ℕ) (ps : List ℚ) (i : ℕ) (p : ℚ) → length ts ≡ length ps → i < length ps → p ≡ get_or ps i p → Entry.prob (get_or (entries ts ps) i (record { target = 0; prob = p })) ≡ p
+prob_is : (ts : List ℕ) (ps : List ℚ) (i : ℕ) (p : ℚ) → length ts ≡ length ps → i < length ps → p ≡ get_or ps i p
+    → Entry.prob (get_or (entries ts ps) i (record { target = 0; prob = p })) ≡ p
 prob_is [] ps i p e l q = absurd (omega arith)
 prob_is (t ∷ ts) [] i p e l q = absurd (omega arith)
 prob_is (t ∷ ts) (x ∷ ps) zero p e l q = sym q

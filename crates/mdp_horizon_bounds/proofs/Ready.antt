@@ -44,13 +44,15 @@ module _ (one : ℤ) (m : Mdp) (o : Objective) where
       ∙ sym (ap (λ ys. get_or ys k (plain_choice d)) e)
       ∙ get_or-map plain_choice xs k d (plain_choice d) l
       in
-      subst (λ (x : Scaled). IsReady n x) same (subst (λ (n : ℕ). IsReady n (scaled_choice one o (choice_at m s k))) q (ready_row one (states_of m) (gain_of o (choice_at m s k)) (Choice.row (choice_at m s k)) row))
+      subst (λ (x : Scaled). IsReady n x) same (subst (λ (n : ℕ). IsReady n (scaled_choice one o (choice_at m s k))) q
+      (ready_row one (states_of m) (gain_of o (choice_at m s k)) (Choice.row (choice_at m s k)) row))
 
   -- the choices of state s among those of all states
   pub rows_length : (rows : List (Vec ScaledChoice Global)) → AreOf one m o rows → length rows ≡ states_of m
   rows_length rows e = sym (length-map rows (λ v. plain_choices (Vec.items v))) ∙ ap length e ∙ length-map-range_with_len (scaled_state one m o) 0 (states_of m)
 
-  pub rows_at : (rows : List (Vec ScaledChoice Global)) (s : ℕ) (v : Vec ScaledChoice Global) → AreOf one m o rows → s < states_of m → v ≡ get_or rows s v → plain_choices v.items ≡ scaled_state one m o s
+  pub rows_at : (rows : List (Vec ScaledChoice Global)) (s : ℕ) (v : Vec ScaledChoice Global) → AreOf one m o rows → s < states_of m
+      → v ≡ get_or rows s v → plain_choices v.items ≡ scaled_state one m o s
   rows_at rows s v e h q =
       ap (λ (v : Vec ScaledChoice Global). plain_choices v.items) q
       ∙ sym (get_or-map (λ v. plain_choices (Vec.items v)) rows s v [] (omega (arith, rows_length rows e)))

@@ -56,7 +56,8 @@ module _ (n : ℤ) (d : ℕ) (e : ℚ) (h : 0 < d) (is : of_int n ≡ of_int (po
       ⊎_elim
       (λ l. absurd (clash_ℚ (of_int n) (of_int n +ℚ 1ℚ)
       (linear_lt 1 (λ n. n) (λ n. n ⊕ lit (pos 1)) (λ n. lit (pos 1)) (λ n. []) refl (of_int n) one-pos)
-      (linear 4 (λ d q m e. m ⊕ lit (pos 1)) (λ d q m e. m) (λ d q m e. known (m ⊕ lit (pos 1)) ((q ⊕ lit (pos 1)) ⊗ d) ∷ known (d ⊗ (q ⊕ lit (pos 1))) (d ⊗ e) ∷ equal (⊖ (lit (pos 1))) m (d ⊗ e) ∷ []) refl
+      (linear 4 (λ d q m e. m ⊕ lit (pos 1)) (λ d q m e. m) (λ d q m e. known (m ⊕ lit (pos 1)) ((q ⊕ lit (pos 1)) ⊗ d) ∷
+      known (d ⊗ (q ⊕ lit (pos 1))) (d ⊗ e) ∷ equal (⊖ (lit (pos 1))) m (d ⊗ e) ∷ []) refl
       (of_int (pos d)) (of_int q) (of_int n) e
       (subst (λ (x : ℚ). x ≤ℚ (of_int q +ℚ 1ℚ) *ℚ of_int (pos d)) (of_int-+ℤ n (pos 1))
       (subst (λ (x : ℚ). of_int (n +ℤ pos 1) ≤ℚ x) (of_int-*ℤ (q +ℤ pos 1) (pos d) ∙ ap (λ (x : ℚ). x *ℚ of_int (pos d)) (of_int-+ℤ q (pos 1)))

@@ -20,7 +20,8 @@ use Rattle.mdp_horizon.proofs.Directions.{NoBetter, no_better_of_eq, no_better_t
 use Rattle.mdp_horizon_bounds.specs.declared.choice.Scale.{Scale}
 use Rattle.mdp_horizon_bounds.specs.declared.choice.Term.{Term}
 use Rattle.mdp_horizon_bounds.specs.Whole.{whole_at, rounded, farther}
-use Rattle.mdp_horizon_bounds.specs.Scaled.{no_scale, scale_in, scale_of, term_of, terms_of, rounded_start, scaled, total_with, total_of, divided, farthest_with, farthest_from, farthest, start_to, trivial, or_else, rounded_sum, no_term}
+use Rattle.mdp_horizon_bounds.specs.Scaled.{no_scale, scale_in, scale_of, term_of, terms_of, rounded_start, scaled, total_with, total_of}
+use Rattle.mdp_horizon_bounds.specs.Scaled.{divided, farthest_with, farthest_from, farthest, start_to, trivial, or_else, rounded_sum, no_term}
 use Rattle.mdp_horizon_bounds.proofs.Making.{AllDivide, weight-is, num-is, IsScale, scale_in-is}
 use Rattle.mdp_horizon_bounds.proofs.Rounding.{IsClose, rounded-beyond, rounded-close}
 

@@ -76,7 +76,8 @@ stays one n column (x ∷ row) e inside there =
 
 values_are : (one n : ℕ) (column : List (Option ℤ)) (row : List Entry) → 0 < one → n ≡ length column → All (λ x. x.target < n) row → AreThere column row
     → All (λ x. x.prob *ℚ value_at (finite_part (fractions (pos one) column)) x.target ≡ (x.prob *ℚ number_at column x.target) *ℚ unit one) row
-values_are one n column [] h e inside there = All-nil (λ x. Entry.prob x *ℚ value_at (finite_part (fractions (pos one) column)) (Entry.target x) ≡ (Entry.prob x *ℚ number_at column (Entry.target x)) *ℚ unit one)
+values_are one n column [] h e inside there = All-nil (λ x. Entry.prob x *ℚ value_at (finite_part (fractions (pos one) column)) (Entry.target x)
+    ≡ (Entry.prob x *ℚ number_at column (Entry.target x)) *ℚ unit one)
 values_are one n column (x ∷ row) h e inside there =
     All-cons (λ x. x.prob *ℚ value_at (finite_part (fractions (pos one) column)) x.target ≡ (x.prob *ℚ number_at column x.target) *ℚ unit one) x row
     (ap (λ (v : ℚ). x.prob *ℚ v)

@@ -78,7 +78,8 @@ impl Claimed<'_> {
     /// of these operations is past width.
     fn row_sum(self, row: Row<'_>) -> Result<Frac, Wide>
         requires { All (λ t. t < states_of self.model.now) row.targets.now }
-        ensures { result_ok result ≡ written_sum (line_values self.entry.model.now self.entry.goals.now self.entry.cert.now.kept.items self.entry.cert.now.values.items) 0ℚ (entries row.entry.targets.now row.entry.probs.now) }
+        ensures { result_ok result ≡ written_sum (line_values self.entry.model.now self.entry.goals.now self.entry.cert.now.kept.items self.entry.cert.now.values.items)
+            0ℚ (entries row.entry.targets.now row.entry.probs.now) }
     {
         let mut sum = Frac::whole(0);
         for i in 0..row.targets.len() {
@@ -99,7 +100,8 @@ impl Claimed<'_> {
     /// Whether some entry of a row leads to a rank below this one.
     fn row_falls(self, row: Row<'_>, rank: u32) -> bool
         requires { All (λ t. t < states_of self.model.now) row.targets.now }
-        ensures { result ≡ list_any (λ y. nat_lt (line_rank self.entry.model.now self.entry.goals.now self.entry.cert.now.kept.items self.entry.cert.now.ranks.items y.target) rank) (entries row.entry.targets.now row.entry.probs.now) }
+        ensures { result ≡ list_any (λ y. nat_lt (line_rank self.entry.model.now self.entry.goals.now self.entry.cert.now.kept.items self.entry.cert.now.ranks.items y.target) rank)
+            (entries row.entry.targets.now row.entry.probs.now) }
     {
         for t in row.targets {
             if self.is_below(*t, rank) {
@@ -112,7 +114,8 @@ impl Claimed<'_> {
     /// Whether a value is at most that sum.
     fn row_covers(self, row: Row<'_>, value: &Frac) -> Result<bool, Wide>
         requires { All (λ t. t < states_of self.model.now) row.targets.now }
-        ensures { result_ok result ≡ sum_stands Min value.now (line_values self.entry.model.now self.entry.goals.now self.entry.cert.now.kept.items self.entry.cert.now.values.items) 0ℚ (entries row.entry.targets.now row.entry.probs.now) }
+        ensures { result_ok result ≡ sum_stands Min value.now (line_values self.entry.model.now self.entry.goals.now self.entry.cert.now.kept.items self.entry.cert.now.values.items)
+            0ℚ (entries row.entry.targets.now row.entry.probs.now) }
     {
         let sum = self.row_sum(row)?;
         at_most(value, &sum)
@@ -122,7 +125,8 @@ impl Claimed<'_> {
     fn cover_at(self, s: u32, value: &Frac, c: u32) -> Result<(), Objection>
         requires state { s < states_of self.model.now }
         requires choice { c < length (choices_at self.model.now s) }
-        ensures { result ≡ objection_to (cover_check self.entry.model.now (line_values self.entry.model.now self.entry.goals.now self.entry.cert.now.kept.items self.entry.cert.now.values.items) s value.now c ∷ []) }
+        ensures { result ≡ objection_to (cover_check self.entry.model.now
+            (line_values self.entry.model.now self.entry.goals.now self.entry.cert.now.kept.items self.entry.cert.now.values.items) s value.now c ∷ []) }
     {
         let covers = self.row_covers(self.model.row(s, c), value);
         judged(covers, Rule::ValueOnEachChoice, s, Some(c))
@@ -131,7 +135,8 @@ impl Claimed<'_> {
     /// The same at each choice of the kept state `s`, where it is no goal.
     fn covers_at(self, s: u32, value: &Frac) -> Result<(), Objection>
         requires { s < states_of self.model.now }
-        ensures { result ≡ objection_to (cover_checks self.entry.model.now self.entry.goals.now (line_values self.entry.model.now self.entry.goals.now self.entry.cert.now.kept.items self.entry.cert.now.values.items) s value.now) }
+        ensures { result ≡ objection_to (cover_checks self.entry.model.now self.entry.goals.now
+            (line_values self.entry.model.now self.entry.goals.now self.entry.cert.now.kept.items self.entry.cert.now.values.items) s value.now) }
     {
         if self.goals.at(s) {
             return Ok(());
@@ -143,7 +148,8 @@ impl Claimed<'_> {
     fn fall_at(self, s: u32, rank: u32, c: u32) -> Result<(), Objection>
         requires state { s < states_of self.model.now }
         requires choice { c < length (choices_at self.model.now s) }
-        ensures { result ≡ objection_to (fall_check self.entry.model.now (line_rank self.entry.model.now self.entry.goals.now self.entry.cert.now.kept.items self.entry.cert.now.ranks.items) s rank c ∷ []) }
+        ensures { result ≡ objection_to (fall_check self.entry.model.now
+            (line_rank self.entry.model.now self.entry.goals.now self.entry.cert.now.kept.items self.entry.cert.now.ranks.items) s rank c ∷ []) }
     {
         let falls = self.row_falls(self.model.row(s, c), rank);
         judged(Ok(falls), Rule::RankFalls, s, Some(c))
@@ -152,7 +158,8 @@ impl Claimed<'_> {
     /// An entry of the row of each choice at the kept state `s` leads to a rank below this one.
     fn falls_at(self, s: u32, rank: u32) -> Result<(), Objection>
         requires { s < states_of self.model.now }
-        ensures { result ≡ objection_to (at_choices self.entry.model.now s (fall_check self.entry.model.now (line_rank self.entry.model.now self.entry.goals.now self.entry.cert.now.kept.items self.entry.cert.now.ranks.items) s rank)) }
+        ensures { result ≡ objection_to (at_choices self.entry.model.now s
+            (fall_check self.entry.model.now (line_rank self.entry.model.now self.entry.goals.now self.entry.cert.now.kept.items self.entry.cert.now.ranks.items) s rank)) }
     {
         each_choice(self.model, s, |c| self.fall_at(s, rank, c))
     }
@@ -160,7 +167,8 @@ impl Claimed<'_> {
     /// The kept state `s` has rank 0 where it is a goal or has value 0; else an entry of each row leads to a smaller rank.
     fn rank_at(self, s: u32, value: &Frac, rank: u32) -> Result<(), Objection>
         requires { s < states_of self.model.now }
-        ensures { result ≡ objection_to (rank_checks self.entry.model.now self.entry.goals.now (line_rank self.entry.model.now self.entry.goals.now self.entry.cert.now.kept.items self.entry.cert.now.ranks.items) s value.now rank) }
+        ensures { result ≡ objection_to (rank_checks self.entry.model.now self.entry.goals.now
+            (line_rank self.entry.model.now self.entry.goals.now self.entry.cert.now.kept.items self.entry.cert.now.ranks.items) s value.now rank) }
     {
         if ends_at(self.goals, s, value) {
             return judged(Ok(rank == 0), Rule::RankZero, s, None);
@@ -171,7 +179,8 @@ impl Claimed<'_> {
     /// The rules at the kept state `s` of this value and rank.
     fn state_at(self, s: u32, value: &Frac, rank: u32) -> Result<(), Objection>
         requires { s < states_of self.model.now }
-        ensures { result ≡ objection_to (line_checks self.entry.model.now self.entry.goals.now self.entry.cert.now.kept.items self.entry.cert.now.values.items self.entry.cert.now.ranks.items s value.now rank) }
+        ensures { result ≡ objection_to (line_checks self.entry.model.now self.entry.goals.now self.entry.cert.now.kept.items
+            self.entry.cert.now.values.items self.entry.cert.now.ranks.items s value.now rank) }
     {
         probability_at(s, value)?;
         self.covers_at(s, value)?;
@@ -207,7 +216,8 @@ impl Claimed<'_> {
     /// All rules: those at each kept state, and that of the start.
     fn walk(self, start: u32, threshold: &Frac) -> Result<(), Objection>
         requires { start < states_of self.model.now }
-        ensures { result ≡ objection_to (floor_checks self.entry.model.now self.entry.goals.now start threshold.now self.entry.cert.now.kept.items self.entry.cert.now.values.items self.entry.cert.now.ranks.items) }
+        ensures { result ≡ objection_to (floor_checks self.entry.model.now self.entry.goals.now start threshold.now
+            self.entry.cert.now.kept.items self.entry.cert.now.values.items self.entry.cert.now.ranks.items) }
     {
         self.each_line_at()?;
         self.start_at(start, threshold)

@@ -20,6 +20,7 @@ loop-i-preserved c =
     let ps = c.args.row.probs.now in
     let common = to_z w128 (of_z w128 c.args.common) in
     ap (λ (terms : List Term). terms ++ terms_of common (entries (drop (c.loop-i.i + 1) ts) (drop (c.loop-i.i + 1) ps))) (c.in_ok-push.ensures {u = tt}).items
-    ∙ sym (terms_step common ts ps c.loop-i.i (get_or ps c.loop-i.i c.index-row-i.result) c.loop-i.terms.items c.term_of.result c.args.row.same_length (omega arith) (ap (get_or ps c.loop-i.i) c.index-row-i.is)
+    ∙ sym (terms_step common ts ps c.loop-i.i (get_or ps c.loop-i.i c.index-row-i.result) c.loop-i.terms.items c.term_of.result
+    c.args.row.same_length (omega arith) (ap (get_or ps c.loop-i.i) c.index-row-i.is)
     c.term_of.ensures)
     ∙ c.loop-i.invariant

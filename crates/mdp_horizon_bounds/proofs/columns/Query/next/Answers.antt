@@ -27,7 +27,8 @@ loop-s-preserved c =
     let m = c.args.self.model.now in
     let o = plain_objective c.args.self.objective in
     record {
-      covers = (c.in_ok-push.ensures {u = tt}).items ∙ more (cover_at c.args.self.dir one m o c.args.cover.now) c.loop-s.s c.loop-s.made.cover.items c.cover_at.result c.loop-s.invariant.covers c.cover_at.ensures;
+      covers = (c.in_ok-push.ensures {u = tt}).items ∙ more (cover_at c.args.self.dir one m o c.args.cover.now) c.loop-s.s
+          c.loop-s.made.cover.items c.cover_at.result c.loop-s.invariant.covers c.cover_at.ensures;
       follows = (c.in_ok-push-2.ensures {u = tt}).items
           ∙ more (λ s. Leader.value (follow_at c.args.self.dir one m o c.args.follow.now s)) c.loop-s.s c.loop-s.made.follow.items (Leader.value c.follow_at-leader.result) c.loop-s.invariant.follows
           (ap Leader.value c.follow_at-leader.ensures);
