@@ -9,7 +9,8 @@ use mdp_num::Memory;
 use mdp_rows::{Model, RowRule};
 use std::alloc::Global;
 
-/// A reader that is given a text in pieces. It holds what the lines so far have spelled and the open line, and no other text.
+/// A reader that is given a text in pieces. It holds what the lines so far have spelled, the open line, and at most 16 texts of values, of at most 32
+/// bytes each, and no other text.
 #[derive(Drop)]
 pub struct Feed {
     alloc: Global,
@@ -87,7 +88,7 @@ impl Feed {
         }
     }
 
-    /// Takes the bytes up to a line feed, and the line feed. They needn't be copied where they are the whole line.
+    /// Takes the bytes up to a line feed, and the line feed. Bytes that are the whole line aren't copied.
     fn take_line(&mut self, bytes: &[u8])
         requires { IsOneLine bytes.now }
         ensures rule { self.new.rule ≡ self.old.rule }
