@@ -12,6 +12,7 @@ ghost use Rattle.mdp_drn.specs.Feeding.{Answers, Gives};
 use crate::body::Body;
 use crate::error::{DrnError, DrnKind};
 use crate::header::{Header, NextLine};
+use crate::kept_values::KeptValues;
 use crate::line::{content_of, is_comment};
 use mdp_rows::{Builder, Model, RowRule};
 use std::alloc::{AllocError, Global};
@@ -32,6 +33,7 @@ pub(crate) struct Document {
     pub(crate) rule: RowRule,
     lines: u64,
     part: Part,
+    values: KeptValues,
 }
 
 /// The names of the reward models: one, called `-`, where none is given.
@@ -82,6 +84,7 @@ impl Part {
     fn take_line(
         &mut self,
         alloc: Global,
+        values: &mut KeptValues,
         rule: RowRule,
         line: u64,
         text: &[u8],
@@ -107,7 +110,7 @@ impl Part {
             }
             Part::Model { choices: _, body } => {
                 if !text.is_empty() {
-                    body.take_line(alloc, line, text)?;
+                    body.take_line(alloc, values, line, text)?;
                 }
             }
         }
@@ -117,7 +120,7 @@ impl Part {
 
 impl Document {
     /// A document without lines.
-    pub(crate) fn new(rule: RowRule) -> Document
+    pub(crate) fn new(alloc: Global, rule: RowRule) -> Document
         ensures nothing { document_in result ≡ nothing_read }
         ensures rule { result.rule ≡ rule }
         ensures part { IsPart result.part }
@@ -129,6 +132,7 @@ impl Document {
                 header: Header::new(),
                 next: NextLine::AnyEntry,
             },
+            values: KeptValues::new(alloc),
         }
     }
 
@@ -157,7 +161,8 @@ impl Document {
         }
         let text = content_of(line);
         if !is_comment(text) {
-            self.part.take_line(alloc, self.rule, number, text)?;
+            self.part
+                .take_line(alloc, &mut self.values, self.rule, number, text)?;
         }
         self.lines = number;
         Ok(())
@@ -174,6 +179,7 @@ impl Document {
             rule: _,
             lines: _,
             part,
+            values: _,
         } = self;
         match part {
             Part::Header { header: _, next: _ } => Err(DrnError::At {

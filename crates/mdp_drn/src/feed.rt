@@ -1,4 +1,4 @@
-ghost use Rattle.std.specs.Prelude.{◌≡◌, ℕ, List, [], ◌∷◌, ◌++◌, IfOk};
+ghost use Rattle.std.specs.Prelude.{◌≡◌, ℕ, List, [], ◌∷◌, ◌++◌, IfOk, IsOk};
 ghost use Rattle.mdp_drn.specs.BodyView.{IsOneLine};
 ghost use Rattle.mdp_drn.specs.Reading.{outcome};
 ghost use Rattle.mdp_drn.specs.Feeding.{HasRead, Stays, Repeats, answer, Gives};
@@ -9,7 +9,8 @@ use mdp_num::Memory;
 use mdp_rows::{Model, RowRule};
 use std::alloc::Global;
 
-/// A reader that is given a text in pieces. It holds what the lines so far have spelled and the open line, and no other text.
+/// A reader that is given a text in pieces. It holds what the lines so far have spelled, the open line, and at most 16 texts of values, of at most 32
+/// bytes each, and no other text.
 #[derive(Drop)]
 pub struct Feed {
     alloc: Global,
@@ -35,14 +36,15 @@ impl std::marker::Model for Feed {
 }
 
 impl Feed {
-    /// A feed that has been given nothing.
+    /// A feed that has been given nothing. It asks for no memory yet, and is always given.
     pub fn new(alloc: Global, rule: RowRule) -> Result<Feed, Memory>
         ensures rule { IfOk result (λ feed. feed.rule ≡ rule) }
         ensures fed { IfOk result (λ feed. HasRead feed []) }
+        ensures given { IsOk result }
     {
         Ok(Feed {
             alloc,
-            document: Document::new(rule),
+            document: Document::new(alloc, rule),
             tail: Vec::new(alloc),
             refused: None,
         })
@@ -86,6 +88,27 @@ impl Feed {
         }
     }
 
+    /// Takes the bytes up to a line feed, and the line feed. Bytes that are the whole line aren't copied.
+    fn take_line(&mut self, bytes: &[u8])
+        requires { IsOneLine bytes.now }
+        ensures rule { self.new.rule ≡ self.old.rule }
+        ensures stays { Stays self.old.stand self.new.stand }
+        ensures fed { (before : List ℕ) → HasRead self.old before → HasRead self.new (before ++ (bytes.now ++ 10 ∷ [])) }
+    {
+        if !self.tail.is_empty() {
+            self.extend(bytes);
+            self.close_line();
+            return;
+        }
+        if self.refused.is_some() {
+            return;
+        }
+        match self.document.take_line(self.alloc, bytes) {
+            Ok(()) => {}
+            Err(refused) => self.refused = Some(refused),
+        }
+    }
+
     /// Takes the next piece of the text. A feed that refused, or ran out of memory, answers the same again from then on.
     pub fn push(&mut self, piece: &[u8]) -> Result<(), DrnError>
         ensures rule { self.new.rule ≡ self.old.rule }
@@ -96,8 +119,7 @@ impl Feed {
     {
         let mut rest = piece;
         'lines: while let Some(at) = rest.iter().position(|b| *b == b'\n') {
-            self.extend(&rest[..at]);
-            self.close_line();
+            self.take_line(&rest[..at]);
             rest = &rest[at + 1..];
         }
         self.extend(rest);

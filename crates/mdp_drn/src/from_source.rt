@@ -1,4 +1,4 @@
-ghost use Rattle.std.specs.Prelude.{◌≡◌, ◌⊎◌, ◌+◌, ◌<◌, ◌≤◌, ◌^◌, ℕ, List, length, IsErrOf};
+ghost use Rattle.std.specs.Prelude.{◌≡◌, ◌⊎◌, ◌+◌, ◌<◌, ◌≤◌, ◌^◌, ℕ, List, length, IsErrOf, IfSome};
 ghost use Rattle.std.specs.Io.KnownBytes.{IsAtEnd};
 ghost use Rattle.mdp_edge.specs.Faults.{FaultCounted};
 ghost use Rattle.mdp_edge.specs.Bytes.{GaveAtMost};
@@ -55,6 +55,10 @@ pub fn read_from<S: Source>(
     // What it reads are all the bytes that were left, at most `limit`; where the source doesn't tell them, some bytes.
     ensures read { IsRead result → (bytes : List ℕ) × HadLeft (S.left source.old) bytes × (length bytes ≤ limit) × ReadsAs result (outcome rule bytes) }
     ensures end { IsRead result → IsAtEnd (S.left source.new) }
+
+    // Each answer but that of a fault and `Long` comes at the end, and of more than `limit` bytes these two alone.
+    ensures ended { (IsErrOf result FromError.ReadFault ⊎ IsErrOf result FromError.Long) ⊎ IsAtEnd (S.left source.new) }
+    ensures too_long { IfSome (S.left source.old) (λ left. limit < length left → IsErrOf result FromError.ReadFault ⊎ IsErrOf result FromError.Long) }
 
     // An error leaves the bytes behind those that came, which are at most one piece more than the limit.
     ensures rest { GaveAtMost (S.left source.old) (S.left source.new) (limit + MOST_PIECE) }

@@ -11,6 +11,7 @@ mod feed;
 mod from_source;
 mod header;
 mod header_text;
+mod kept_values;
 mod labels;
 mod laws;
 mod laws_of_writing;

@@ -13,10 +13,11 @@ use crate::body::Body;
 use crate::brackets::{first_bracket, last_bracket};
 use crate::digits::{has_digits, number_of, split_digits};
 use crate::error::{DrnError, DrnKind};
+use crate::kept_values::KeptValues;
 use crate::labels::read_labels;
 use crate::line::{begins_blank, trim_start};
 use crate::line_error::LineError;
-use crate::values::{read_rewards, read_value};
+use crate::values::read_rewards;
 use mdp_num::Frac;
 use std::alloc::Global;
 
@@ -138,16 +139,16 @@ impl Body {
 
     /// Reads a target and its value.
     #[tactic(auto, unfolding(crate::specs::Body::entry_read))]
-    fn read_entry(&self, text: &[u8]) -> Result<(u32, Frac), DrnKind>
+    fn read_entry(&self, values: &mut KeptValues, text: &[u8]) -> Result<(u32, Frac), DrnKind>
         requires { IsBody self.now }
         ensures read { told entry_in result ≡ entry_read self.now.builder text.now }
         ensures within { IfOk result (λ x. IsWithinLimit x.1) }
         ensures choice { IfOk result (λ _. IsTrue (has_choice self.now.builder)) }
     {
-        if !has_digits(text) {
+        let (digits, behind) = split_digits(text);
+        if digits.is_empty() {
             return Err(DrnKind::Shape);
         }
-        let (digits, behind) = split_digits(text);
         let value = match value_text(trim_start(behind)) {
             Ok(value) => value,
             Err(kind) => return Err(kind),
@@ -163,13 +164,14 @@ impl Body {
         if self.builder.has_target(target) {
             return Err(DrnKind::Twice);
         }
-        match read_value(value) {
+        match values.read(value) {
             Ok(value) => Ok((target, value)),
             Err(kind) => Err(kind),
         }
     }
 
-    /// Takes a `state` line, from the number on.
+    /// Takes a `state` line, from the number on. It stands apart so that the code for a transition stays small, and so with `action` lines.
+    #[inline(never)]
     fn take_state(&mut self, alloc: Global, line: u64, behind: &[u8]) -> Result<(), DrnError>
         requires body { IsBody self.old }
         requires plain { IsOneLine behind.now }
@@ -189,6 +191,7 @@ impl Body {
     }
 
     /// Takes an `action` line, from behind the word on.
+    #[inline(never)]
     fn take_action(&mut self, alloc: Global, line: u64, rest: &[u8]) -> Result<(), DrnError>
         requires { IsBody self.old }
         ensures taken { Answers result (view self.new) (action_line (view self.old) line rest.now) }
@@ -205,12 +208,17 @@ impl Body {
     }
 
     /// Takes the line of a target and its value.
-    fn take_entry(&mut self, line: u64, text: &[u8]) -> Result<(), DrnError>
+    fn take_entry(
+        &mut self,
+        values: &mut KeptValues,
+        line: u64,
+        text: &[u8],
+    ) -> Result<(), DrnError>
         requires { IsBody self.old }
         ensures taken { Answers result (view self.new) (entry_line (view self.old) line text.now) }
         ensures body { OnOk result (IsBody self.new) }
     {
-        match self.read_entry(text) {
+        match self.read_entry(values, text) {
             Ok((target, value)) => self.add_entry(line, target, value),
             Err(kind) => Err(DrnError::At { line, kind }),
         }
@@ -221,6 +229,7 @@ impl Body {
     pub(crate) fn take_line(
         &mut self,
         alloc: Global,
+        values: &mut KeptValues,
         line: u64,
         text: &[u8],
     ) -> Result<(), DrnError>
@@ -234,7 +243,7 @@ impl Body {
         } else if is_action_line(text) {
             self.take_action(alloc, line, &text[6..])
         } else {
-            self.take_entry(line, text)
+            self.take_entry(values, line, text)
         }
     }
 }

@@ -13,7 +13,7 @@ use Rattle.mdp_drn.specs.Outcome.{◌>>=◌, Refusal}
 use Rattle.mdp_drn.specs.Reading.{Document}
 use Rattle.mdp_drn.specs.Reading.{named, longest_line, at_line, at_end, outcome}
 use Rattle.mdp_drn.specs.Feeding.{Refusing, Reading, stand_from, stand_of, stand_with, Fails}
-use Rattle.mdp_drn.proofs.PiecesFed.StandGrows.{stand-tail, stand-closed, end-reading, end-refusing, keeps}
+use Rattle.mdp_drn.proofs.PiecesFed.StandGrows.{stand-tail, stand-closed, stand-whole, end-reading, end-refusing, keeps}
 
 module _ (rule : RowRule) (d : Document) (tail : List ℕ) where
   abbrev pub Stood : Option DrnError → List ℕ → Type 0
@@ -53,6 +53,21 @@ module _ (rule : RowRule) (d : Document) (tail : List ℕ) where
   line-refused (Some f) xs e after now none at said = absurd cc
   line-refused None xs error.Memory after now none at said = tt
   line-refused None xs (error.At line kind) after now none at said = sym (stand-closed rule xs d tail at ∙ ap (λ (r : Result Document Refusal). stand_from r []) said)
+
+  -- a whole line, where no bytes of it came before
+  pub whole-taken : (refused : Option DrnError) (xs ys : List ℕ) (e : Document) → is_some refused ≡ false → Stood refused xs → All (λ b. is_line_feed b ≡ false) ys
+      → tail ≡ [] → at_line rule d ys ≡ Ok e → IfSome (stand_with refused e tail) (λ s. s ≡ stand_of rule (xs ++ (ys ++ 10 ∷ [])))
+  whole-taken (Some f) xs ys e none at plain empty said = absurd cc
+  whole-taken None xs ys e none at plain empty said =
+      ap (Reading e) empty
+      ∙ sym (stand-whole rule xs ys d plain (ap (Reading d) (sym empty) ∙ at) ∙ ap (λ (r : Result Document Refusal). stand_from r []) said)
+
+  pub whole-refused : (refused : Option DrnError) (xs ys : List ℕ) (e : DrnError) (after : Document) (now : List ℕ) → is_some refused ≡ false → Stood refused xs
+      → All (λ b. is_line_feed b ≡ false) ys → tail ≡ [] → Fails e (at_line rule d ys) → IfSome (stand_with (Some e) after now) (λ s. s ≡ stand_of rule (xs ++ (ys ++ 10 ∷ [])))
+  whole-refused (Some f) xs ys e after now none at plain empty said = absurd cc
+  whole-refused None xs ys error.Memory after now none at plain empty said = tt
+  whole-refused None xs ys (error.At line kind) after now none at plain empty said =
+      sym (stand-whole rule xs ys d plain (ap (Reading d) (sym empty) ∙ at) ∙ ap (λ (r : Result Document Refusal). stand_from r []) said)
 
   -- ---- the end
 

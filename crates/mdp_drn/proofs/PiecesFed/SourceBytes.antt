@@ -1,5 +1,5 @@
 -- The bytes that came from a source, and those that it had left.
-use Rattle.std.proofs.Common.{◌≡◌, ℕ, ◌<◌, List, [], ◌++◌, length, Option, Some, None, IfSome, ◌↔◌, sym, ◌∙◌, ap, arith, length-append}
+use Rattle.std.proofs.Common.{◌≡◌, ℕ, ◌<◌, ◌≤◌, List, [], ◌++◌, length, Option, Some, None, IfSome, ◌↔◌, sym, ◌∙◌, ap, arith, length-append}
 use Rattle.std.proofs.lemmas.List.{append-nil}
 use Rattle.mdp_edge.specs.Bytes.{Gave}
 use Rattle.mdp_drn.specs.FromSource.{HadLeft}
@@ -18,3 +18,12 @@ pub had_more : (before now : Option (List ℕ)) (bytes : List ℕ) (n : ℕ) →
 had_more None now bytes n gave more = (bytes, tt, more)
 had_more (Some left) None bytes n gave more = cc
 had_more (Some left) (Some rest) bytes n gave more = (bytes ++ rest, sym (told_same left (bytes ++ rest) gave), omega (arith, length-append bytes rest))
+
+-- with at most so many bytes left, nothing is shown of more
+pub not_more : (P : Type 0) (told : Option (List ℕ)) (bytes : List ℕ) (limit : ℕ) → HadLeft told bytes → length bytes ≤ limit → IfSome told (λ left. limit < length left → P)
+not_more P None bytes limit had few = tt
+not_more P (Some left) bytes limit had few = λ more. absurd (omega (arith, few, more, ap (λ (xs : List ℕ). length xs) had))
+
+pub holds_anyway : (P : Type 0) (told : Option (List ℕ)) (limit : ℕ) → P → IfSome told (λ left. limit < length left → P)
+holds_anyway P None limit p = tt
+holds_anyway P (Some left) limit p = λ more. p

@@ -147,3 +147,16 @@ keeps rule xs (y ∷ ys) s at = subst (λ (zs : List ℕ). Refusing s ≡ stand_
     by : (b : Bool) → is_line_feed y ≡ b → Refusing s ≡ stand_of rule (xs ++ y ∷ [])
     by true e = let is : y ≡ 10 = grind (arith, nat_tests) in subst (λ (c : ℕ). Refusing s ≡ stand_of rule (xs ++ c ∷ [])) (sym is) (sym (keeps-line rule xs s at))
     by false e = sym (keeps-tail rule xs (y ∷ []) s (All-one (λ b. is_line_feed b ≡ false) y e) at)
+
+-- a whole line, where no bytes of it came before
+pub stand-whole : (rule : RowRule) (xs ys : List ℕ) (d : Document) → All (λ b. is_line_feed b ≡ false) ys → Reading d [] ≡ stand_of rule xs
+    → stand_of rule (xs ++ (ys ++ 10 ∷ [])) ≡ stand_from (at_line rule d ys) []
+stand-whole rule xs ys d none at = subst (λ (zs : List ℕ). stand_of rule zs ≡ stand_from (at_line rule d ys) []) (append_assoc xs ys (10 ∷ [])) (by (ltb longest_line (length ys)) refl)
+  where
+    by : (b : Bool) → ltb longest_line (length ys) ≡ b → stand_of rule ((xs ++ ys) ++ 10 ∷ []) ≡ stand_from (at_line rule d ys) []
+    by true e =
+        keeps-line rule (xs ++ ys) (long d) (sym (stand-tail rule xs ys d [] none at ∙ stand_at-long d ys (ltb-true _ _ e)))
+        ∙ sym (ap (λ (r : Result Document Refusal). stand_from r []) (at_long rule d ys (ltb-true _ _ e)))
+    by false e =
+        stand-closed rule (xs ++ ys) d ys
+        (sym (stand-tail rule xs ys d [] none at ∙ ap (λ (b : Bool). cond b (Refusing (long d)) (Reading d ys)) e))

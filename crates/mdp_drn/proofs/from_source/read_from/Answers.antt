@@ -1,9 +1,9 @@
-use Rattle.std.proofs.Common.{◌≡◌, ◌+◌, ◌++◌, length, take, ◌∙◌, subst, arith, length-append, length-take}
+use Rattle.std.proofs.Common.{◌≡◌, inr, refl, ◌+◌, ◌++◌, length, take, ◌∙◌, subst, arith, length-append, length-take}
 use Rattle.mdp_edge.proofs.Pieces.{gave_both}
 use Rattle.mdp_rows.specs.declared.rule.RowRule.{RowRule}
 use Rattle.mdp_drn.specs.Reading.{outcome}
 use Rattle.mdp_drn.specs.FromSource.{ReadsAs}
-use Rattle.mdp_drn.proofs.PiecesFed.SourceBytes.{had_all, had_more}
+use Rattle.mdp_drn.proofs.PiecesFed.SourceBytes.{had_all, had_more, not_more, holds_anyway}
 use Rattle.mdp_drn.proofs.from_source.read_from.Goals as goal
 
 pub returns-then-count-eq0-clause-rest : goal.returns-then-count-eq0-clause-rest
@@ -49,3 +49,11 @@ returns-then-count-eq0-clause-read g c is =
 pub returns-clause-long : goal.returns-clause-long
 returns-clause-long g c is =
     let w = c.reading.invariant.read in had_more _ _ w.0 c.args.limit w.1 (omega (arith, w.2, c.reading-test.false))
+
+pub returns-then-count-eq0-clause-too_long : goal.returns-then-count-eq0-clause-too_long
+returns-then-count-eq0-clause-too_long g c =
+    let w = c.reading.invariant.read in
+    not_more _ _ w.0 c.args.limit (had_all _ _ w.0 c.in-Ok-read.count w.1 c.in-Ok-read.ensures.end c.if-count-eq0.true) (omega (arith, w.2, c.reading-test.true))
+
+pub returns-clause-too_long : goal.returns-clause-too_long
+returns-clause-too_long g c = holds_anyway _ _ c.args.limit (inr refl)
