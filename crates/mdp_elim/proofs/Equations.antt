@@ -1,5 +1,5 @@
 -- An equation that is divided, and one that is added to another, step by step.
-use Rattle.std.proofs.Common.{◌≡◌, ◌≢◌, ◌++◌, ℕ, zero, suc, length, take, get_or, ap, arith, List, Some, None, refl, sym, ◌∙◌, pos, negsuc, [], ◌∷◌}
+use Rattle.std.proofs.Common.{◌≡◌, ◌≢◌, ◌++◌, ℕ, zero, suc, length, take, get_or, ap, arith, List, Option, Some, None, refl, sym, ◌∙◌, pos, negsuc, [], ◌∷◌}
 use Rattle.std.specs.List.{remove}
 use Rattle.mdp_math.specs.Rational.{ℚ, neg_ℚ}
 use Rattle.mdp_math.specs.Written.{written_add, written_mul, ◌>>=◌}
@@ -12,6 +12,7 @@ use Rattle.mdp_spec.specs.Mdp.{Entry}
 use Rattle.mdp_spec.specs.Written.{written_sum}
 use Rattle.mdp_elim.specs.Equation.{Equation, Values, no_equation}
 use Rattle.mdp_elim.specs.Entries.{each, divided_entry, plus_row}
+use Rattle.mdp_elim.proofs.Zeros.{bind_none, bind_some}
 use Rattle.mdp_elim.specs.Elimination.{evaluated, divided_rest, plus_equation, divided, substituted, Eliminated, eliminated}
 
 pub one_less-nonzero : (p u : ℚ) → p ≢ 1ℚ → Some u ≡ written_sub 1ℚ p → u ≢ 0ℚ
@@ -40,34 +41,29 @@ module _ (p : ℚ) (e : Equation) where
       unfolding divided_rest
       divided_rest-some a b f h = rw (sym sub, row, sym f, sym h) refl
 
+abbrev whole : List Entry → ℚ → ℚ → Option Equation
+whole entries first second = Some (record { entries = entries; first = first; second = second })
+
 module _ (w : ℚ) (pivot e : Equation) where
   pub plus_equation-none_entries : plus_row w pivot.entries e.entries ≡ None → plus_equation w pivot e ≡ None
   unfolding plus_equation
   plus_equation-none_entries h = rw h refl
 
   module _ (entries : List Entry) (row : plus_row w pivot.entries e.entries ≡ Some entries) where
-    pub plus_equation-none_more : None ≡ written_mul w pivot.first → plus_equation w pivot e ≡ None
+    pub plus_equation-none_first : None ≡ (written_mul w pivot.first >>= written_add e.first) → plus_equation w pivot e ≡ None
     unfolding plus_equation
-    plus_equation-none_more h = rw (row, sym h) refl
+    plus_equation-none_first h = rw row (bind_none (written_mul w pivot.first) (written_add e.first) (λ first. written_mul w pivot.second >>= (λ also. written_add e.second also >>= (λ second. whole entries first second))) h)
 
-    module _ (more : ℚ) (mul : Some more ≡ written_mul w pivot.first) where
-      pub plus_equation-none_first : None ≡ written_add e.first more → plus_equation w pivot e ≡ None
+    module _ (first : ℚ) (add : Some first ≡ (written_mul w pivot.first >>= written_add e.first)) where
+      first_added : plus_equation w pivot e ≡ (written_mul w pivot.second >>= (λ also. written_add e.second also >>= (λ second. whole entries first second)))
       unfolding plus_equation
-      plus_equation-none_first h = rw (row, sym mul, sym h) refl
+      first_added = rw row (bind_some (written_mul w pivot.first) (written_add e.first) (λ x. written_mul w pivot.second >>= (λ also. written_add e.second also >>= (λ second. whole entries x second))) first add)
 
-      module _ (first : ℚ) (add : Some first ≡ written_add e.first more) where
-        pub plus_equation-none_also : None ≡ written_mul w pivot.second → plus_equation w pivot e ≡ None
-        unfolding plus_equation
-        plus_equation-none_also h = rw (row, sym mul, sym add, sym h) refl
+      pub plus_equation-none_second : None ≡ (written_mul w pivot.second >>= written_add e.second) → plus_equation w pivot e ≡ None
+      plus_equation-none_second h = first_added ∙ bind_none (written_mul w pivot.second) (written_add e.second) (whole entries first) h
 
-        module _ (also : ℚ) (mul_also : Some also ≡ written_mul w pivot.second) where
-          pub plus_equation-none_second : None ≡ written_add e.second also → plus_equation w pivot e ≡ None
-          unfolding plus_equation
-          plus_equation-none_second h = rw (row, sym mul, sym add, sym mul_also, sym h) refl
-
-          pub plus_equation-some : (second : ℚ) → Some second ≡ written_add e.second also → plus_equation w pivot e ≡ Some (record { entries = entries; first = first; second = second })
-          unfolding plus_equation
-          plus_equation-some second h = rw (row, sym mul, sym add, sym mul_also, sym h) refl
+      pub plus_equation-some : (second : ℚ) → Some second ≡ (written_mul w pivot.second >>= written_add e.second) → plus_equation w pivot e ≡ Some (record { entries = entries; first = first; second = second })
+      plus_equation-some second h = first_added ∙ bind_some (written_mul w pivot.second) (written_add e.second) (whole entries first) second h
 
 -- ---- a state that is eliminated
 

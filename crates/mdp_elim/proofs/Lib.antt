@@ -2,6 +2,7 @@ pub mod Merge
 pub mod Search
 pub mod InPlace
 pub mod Steps
+pub mod Zeros
 pub mod Equations
 pub mod Lists
 pub mod Targets

@@ -6,6 +6,7 @@ ghost use Rattle.mdp_math.specs.Rational.{of_int};
 ghost use Rattle.mdp_elim.specs.Entries.{Between, LeadsAt, StartsNew, place, entry_to, without, each, divided_entry, plus_row};
 
 use crate::errors::StepError;
+use crate::sums::plus_times;
 use mdp_num::{Frac, Wide};
 use std::alloc::Global;
 use std::marker::Model;
@@ -222,8 +223,7 @@ pub(crate) fn row_sum(row: &[Term], start: &Frac, values: &[Frac]) -> Result<Fra
 {
     let mut sum = *start;
     for x in row {
-        let term = x.factor().mul(&values[x.target() as usize])?;
-        sum = sum.add(&term)?;
+        sum = plus_times(&sum, &x.factor(), &values[x.target() as usize])?;
     }
     Ok(sum)
 }

@@ -6,6 +6,7 @@ ghost use Rattle.mdp_elim.specs.Elimination.{divided, divided_rest, plus_equatio
 
 use crate::entries::{Term, add_row, divide_row, row_sum, take_entry};
 use crate::errors::StepError;
+use crate::sums::{plus_times, quotient};
 use bumpalo::Bump;
 use mdp_num::{Frac, Wide};
 use std::alloc::{AllocError, AllocFailed, Global};
@@ -93,8 +94,8 @@ impl Equation {
     {
         let divisor = Frac::whole(1).sub(own)?;
         divide_row(&mut self.entries, &divisor)?;
-        let first = self.first.div(&divisor)?;
-        let second = self.second.div(&divisor)?;
+        let first = quotient(&self.first, &divisor)?;
+        let second = quotient(&self.second, &divisor)?;
         self.first = first;
         self.second = second;
         Ok(())
@@ -133,10 +134,8 @@ impl Equation {
         ensures wide { result ≡ Err StepError.Wide → plus_equation times.now other.now self.old ≡ None }
     {
         add_row(alloc, &mut self.entries, times, other.entries)?;
-        let more = times.mul(&other.first)?;
-        let first = self.first.add(&more)?;
-        let also = times.mul(&other.second)?;
-        let second = self.second.add(&also)?;
+        let first = plus_times(&self.first, times, &other.first)?;
+        let second = plus_times(&self.second, times, &other.second)?;
         self.first = first;
         self.second = second;
         Ok(())

@@ -8,6 +8,7 @@ mod equation;
 mod errors;
 mod laws;
 mod predecessors;
+mod sums;
 mod transposed;
 
 pub use chain::{Chain, solve, solve_leaving};

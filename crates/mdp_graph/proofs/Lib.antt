@@ -5,9 +5,12 @@ pub mod Certainty
 pub mod Cutting
 pub mod Dropping
 pub mod EdgeFacts
+pub mod EdgeLists
 mod Examples
 pub mod Falls
 pub mod GivingRanks
+pub mod FlatPieces
+pub mod FlatWaiting
 pub mod Growing
 pub mod LeftAfter
 pub mod LeftRanks

@@ -1,9 +1,9 @@
 -- Choices that stop waiting, one after the other.
-use Rattle.std.proofs.Common.{◌≡◌, ◌≢◌, inl, inr, ℕ, zero, suc, ◌+◌, ◌-◌, ◌<◌, Bool, true, false, ◌||◌, ◌&&◌, ◌==◌, not, cond, List, [], ◌∷◌, ◌++◌, length, map, take}
+use Rattle.std.proofs.Common.{◌≡◌, ◌≢◌, inl, inr, ℕ, zero, suc, ◌+◌, ◌-◌, ◌<◌, Bool, true, false, ◌||◌, ◌&&◌, ◌==◌, not, cond, List, [], ◌∷◌, ◌++◌, length, map, replicate, take}
 use Rattle.std.proofs.Common.{get_or, set, refl, sym, ap, ◌∙◌, arith, eq-eqb, Option, is_none}
 use Rattle.std.specs.List.{list_any, range_with_len}
 use Rattle.std.proofs.lemmas.Bool.{ne_eqb, false≢true, cases_eq}
-use Rattle.std.proofs.lemmas.List.{get_or-map, length-map, length-replicate, get_or-replicate, map-set, take_more, append-nil}
+use Rattle.std.proofs.lemmas.List.{get_or-map, length-map, length-replicate, get_or-replicate, get_or-set_other, length-set, map-set, take_more, append-nil}
 use Rattle.std.proofs.lemmas.List.Folds.{sum_by-replicate, list_any-append}
 use Rattle.std.proofs.lemmas.List.FromFn.{length-map-range_with_len, get_or-map-range_with_len}
 use Rattle.std.proofs.lemmas.List.Sums.{sum_by-cons, sum_by-set}
@@ -19,17 +19,23 @@ use Rattle.mdp_graph.proofs.RowSets.{list_any-at, list_any-by, enters-never}
 
 -- ---- before the first release
 
-counts_all : (m : Mdp) (xs : List ℕ) → map (λ s. length (choices_at m s)) xs ≡ map count_waiting (map (all_wait m) xs)
-counts_all m [] = refl
-counts_all m (x ∷ xs) =
-    let n = length (choices_at m x) in
+counts_all : (counts : List ℕ) → counts ≡ map count_waiting (map (λ n. replicate n true) counts)
+counts_all [] = refl
+counts_all (n ∷ counts) =
     let c = sum_by-replicate (λ (b : Bool). cond b 1 0) n true in
-    let here : n ≡ count_waiting (all_wait m x) = omega (arith, c) in
-    ap (λ k. k ∷ map (λ s. length (choices_at m s)) xs) here ∙ ap (λ (rest : List ℕ). count_waiting (all_wait m x) ∷ rest) (counts_all m xs)
+    let here : n ≡ count_waiting (replicate n true) = omega (arith, c) in
+    ap (λ k. k ∷ counts) here ∙ ap (λ (rest : List ℕ). count_waiting (replicate n true) ∷ rest) (counts_all counts)
 
-pub all_counted : (m : Mdp) (counts : List ℕ) (lists : List (List Bool)) (n : ℕ) → counts ≡ map (λ s. length (choices_at m s)) (range_with_len 0 n)
-    → lists ≡ map (all_wait m) (range_with_len 0 n) → counts ≡ map count_waiting lists
-all_counted m counts lists n e f = e ∙ counts_all m (range_with_len 0 n) ∙ sym (ap (map count_waiting) f)
+pub all_counted : (counts : List ℕ) (lists : List (List Bool)) → lists ≡ map (λ n. replicate n true) counts → counts ≡ map count_waiting lists
+all_counted counts lists e = counts_all counts ∙ sym (ap (map count_waiting) e)
+
+lists_all : (m : Mdp) (xs : List ℕ) → map (λ n. replicate n true) (map (λ s. length (choices_at m s)) xs) ≡ map (all_wait m) xs
+lists_all m [] = refl
+lists_all m (x ∷ xs) = ap (λ (rest : List (List Bool)). all_wait m x ∷ rest) (lists_all m xs)
+
+pub lists_by_counts : (m : Mdp) (counts : List ℕ) (lists : List (List Bool)) (n : ℕ) → lists ≡ map (λ k. replicate k true) counts
+    → counts ≡ map (λ s. length (choices_at m s)) (range_with_len 0 n) → lists ≡ map (all_wait m) (range_with_len 0 n)
+lists_by_counts m counts lists n e f = e ∙ ap (map (λ k. replicate k true)) f ∙ lists_all m (range_with_len 0 n)
 
 pub all_waiting : (m : Mdp) (lists : List (List Bool)) → lists ≡ map (all_wait m) (range_with_len 0 (states_of m)) → AreWaiting m (λ _. false) lists
 all_waiting m lists e =
@@ -86,6 +92,11 @@ count-zero (false ∷ row) =
     let same : count_waiting (false ∷ row) ≡ count_waiting row = omega (arith, a) in
     ap (λ k. k == 0) same ∙ count-zero row
 
+cleared : (row : List Bool) (c d : ℕ) → d ≡ c → get_or (set row c false) d false ≡ false
+cleared [] c d e = refl
+cleared (b ∷ row) zero d e = rw e refl
+cleared (b ∷ row) (suc c) d e = rw e (cleared row c c refl)
+
 -- one choice fewer
 count-released : (row : List Bool) (c : ℕ) → get_or row c false ≡ true → count_waiting (set row c false) ≡ count_waiting row - 1
 count-released row c e =
@@ -98,42 +109,94 @@ same-default [] i d e h = absurd (omega arith)
 same-default (x ∷ xs) zero d e h = refl
 same-default (x ∷ xs) (suc i) d e h = same-default xs i d e (omega arith)
 
--- row and count are those of state s as the code reads them, and choice c of s waits
-module _ (lists : List (List Bool)) (counts : List ℕ) (s c : ℕ) (seen row : List Bool) (count : ℕ) (counted : counts ≡ map count_waiting lists)
-    (h : s < length lists) (seen_is : seen ≡ get_or lists s seen)
-    (is : true ≡ get_or seen c false) (row_is : row ≡ get_or lists s row) (count_is : count ≡ get_or counts s count) where
-  row-here : row ≡ get_or lists s []
-  row-here = row_is ∙ same-default lists s row [] h
-
-  row-waits : get_or row c false ≡ true
-  row-waits = ap (λ (x : List Bool). get_or x c false) (row-here ∙ same-default lists s [] seen h ∙ sym seen_is) ∙ sym is
-
+-- the count is that of state s as the code reads it, and choice c of s waits
+module _ (lists : List (List Bool)) (counts : List ℕ) (s c count : ℕ) (counted : counts ≡ map count_waiting lists)
+    (h : s < length lists) (is : waits lists s c ≡ true) (count_is : count ≡ get_or counts s count) where
   many : length counts ≡ length lists
   many = ap length counted ∙ length-map lists count_waiting
 
-  count-here : count ≡ count_waiting row
+  count-here : count ≡ count_waiting (get_or lists s [])
   count-here =
       let none : List Bool = [] in
-      count_is ∙ same-default counts s count 0 (omega (arith, h, many)) ∙ ap (λ (x : List ℕ). get_or x s 0) counted ∙ get_or-map count_waiting lists s none 0 h ∙ sym (ap count_waiting row-here)
+      count_is ∙ same-default counts s count 0 (omega (arith, h, many)) ∙ ap (λ (x : List ℕ). get_or x s 0) counted ∙ get_or-map count_waiting lists s none 0 h
 
   pub some_counted : 0 < count
-  some_counted = let p = count-positive row c row-waits in omega (arith, p, count-here)
+  some_counted = let p = count-positive (get_or lists s []) c is in omega (arith, p, count-here)
 
-  less : count - 1 ≡ count_waiting (set row c false)
-  less = ap (λ k. k - 1) count-here ∙ sym (count-released row c row-waits)
+  less : count - 1 ≡ count_waiting (set (get_or lists s []) c false)
+  less = ap (λ k. k - 1) count-here ∙ sym (count-released (get_or lists s []) c is)
 
-  pub counted_less : (after : List Bool) → after ≡ set row c false → set counts s (count - 1) ≡ map count_waiting (set lists s after)
-  counted_less after e =
-      ap (λ (x : List ℕ). set x s (count - 1)) counted ∙ ap (λ k. set (map count_waiting lists) s k) (less ∙ sym (ap count_waiting e)) ∙ sym (map-set count_waiting lists s after)
+  pub counted_less : set counts s (count - 1) ≡ map count_waiting (set lists s (set (get_or lists s []) c false))
+  counted_less =
+      ap (λ (x : List ℕ). set x s (count - 1)) counted ∙ ap (λ k. set (map count_waiting lists) s k) less
+      ∙ sym (map-set count_waiting lists s (set (get_or lists s []) c false))
 
-  pub last_waited : (after : List Bool) → after ≡ set row c false → (left : ℕ) → left ≡ get_or (set counts s (count - 1)) s left
-      → (old : List (List Bool)) → lists ≡ old → (left == 0) ≡ (some_waits old s && not (some_waits (set lists s after) s))
-  last_waited after e left f old v =
-      let none : List Bool = [] in
-      let some : some_waits old s ≡ true = ap (λ (x : List (List Bool)). some_waits x s) (sym v) ∙ ap (list_any (λ b. b)) (sym row-here) ∙ true-some row c row-waits in
-      let now : get_or (set lists s after) s [] ≡ set row c false = get_or-set_at lists s s after none refl h ∙ e in
+  pub last_waited : (left : ℕ) → left ≡ get_or (set counts s (count - 1)) s left
+      → (left == 0) ≡ (some_waits lists s && not (some_waits (set lists s (set (get_or lists s []) c false)) s))
+  last_waited left f =
+      let now : get_or (set lists s (set (get_or lists s []) c false)) s [] ≡ set (get_or lists s []) c false
+      = get_or-set_at lists s s (set (get_or lists s []) c false) [] refl h in
       let left_is : left ≡ count - 1 = f ∙ get_or-set_at counts s s (count - 1) left refl (omega (arith, h, many)) in
-      ap (λ k. k == 0) (left_is ∙ less) ∙ count-zero (set row c false) ∙ sym (ap (λ b. b && not (some_waits (set lists s after) s)) some ∙ ap (λ (x : List Bool). not (list_any (λ b. b) x)) now)
+      ap (λ k. k == 0) (left_is ∙ less) ∙ count-zero (set (get_or lists s []) c false)
+      ∙ sym (ap (λ b. b && not (some_waits (set lists s (set (get_or lists s []) c false)) s)) (true-some (get_or lists s []) c is)
+      ∙ ap (λ (x : List Bool). not (list_any (λ b. b) x)) now)
+
+not_pair : (b p q : Bool) → p ≡ false → b ≡ (b && not ((q && p) || false))
+not_pair true p true e = rw e refl
+not_pair true p false e = refl
+not_pair false p q e = refl
+
+kept : (b p : Bool) → p ≡ false → b ≡ (b && not (p || false))
+kept true p e = rw e refl
+kept false p e = refl
+
+gone : (b p : Bool) → p ≡ true → false ≡ (b && not (p || false))
+gone true p e = rw e refl
+gone false p e = refl
+
+here : (s t c d : ℕ) → t ≡ s → d ≡ c → ((s == t) && (c == d)) ≡ true
+here s t c d e f = and-both _ _ (eq-eqb s t (sym e)) (eq-eqb c d (sym f))
+
+other_state : (s t c d : ℕ) → t ≢ s → ((s == t) && (c == d)) ≡ false
+other_state s t c d e = ap (λ b. b && (c == d)) (ne_eqb s t (λ q. e (sym q)))
+
+-- a choice that waits no longer
+pub released_one : (lists : List (List Bool)) (s c : ℕ) → s < length lists → AreReleased lists (set lists s (set (get_or lists s []) c false)) (pair s c ∷ [])
+released_one lists s c h =
+    let row : List Bool = get_or lists s [] in
+    let new : List (List Bool) = set lists s (set row c false) in
+    let there : (t : ℕ) → t ≡ s → get_or new t [] ≡ set row c false = λ t e. get_or-set_at lists s t (set row c false) [] e h in
+    let apart : (t : ℕ) → t ≢ s → get_or new t [] ≡ get_or lists t [] = λ t e. get_or-set_other lists s t (set row c false) [] e in
+    record {
+      count = length-set lists s (set row c false);
+      width = λ t. elim (cases_eq t s) [
+        | inl e ↦ ap length (there t e) ∙ length-set row c false ∙ ap (λ k. length (get_or lists k [])) (sym e)
+        | inr e ↦ ap length (apart t e)
+      ];
+      at = λ t d. elim (cases_eq t s) [
+        | inl e ↦ ap (λ (x : List Bool). get_or x d false) (there t e) ∙ elim (cases_eq d c) [
+          | inl f ↦ cleared row c d f ∙ gone (waits lists t d) ((s == t) && (c == d)) (here s t c d e f)
+          | inr f ↦ get_or-set_other row c d false false f ∙ ap (λ k. waits lists k d) (sym e)
+              ∙ not_pair (waits lists t d) (c == d) (s == t) (ne_eqb c d (λ q. f (sym q)))
+        ]
+        | inr e ↦ ap (λ (x : List Bool). get_or x d false) (apart t e) ∙ kept (waits lists t d) ((s == t) && (c == d)) (other_state s t c d e)
+      ];
+    }
+
+-- a choice that doesn't wait anyway
+pub released_before : (lists : List (List Bool)) (s c : ℕ) → waits lists s c ≡ false → AreReleased lists lists (pair s c ∷ [])
+released_before lists s c not_waiting = record {
+  count = refl;
+  width = λ t. refl;
+  at = λ t d. elim (cases_eq t s) [
+    | inl e ↦ elim (cases_eq d c) [
+      | inl f ↦ (let w : waits lists t d ≡ false = ap (λ k. waits lists k d) e ∙ ap (λ k. waits lists s k) f ∙ not_waiting in
+          w ∙ sym (ap (λ b. b && not (((s == t) && (c == d)) || false)) w))
+      | inr f ↦ not_pair (waits lists t d) (c == d) (s == t) (ne_eqb c d (λ q. f (sym q)))
+    ]
+    | inr e ↦ kept (waits lists t d) ((s == t) && (c == d)) (other_state s t c d e)
+  ];
+}
 
 -- ---- releases one after the other
 

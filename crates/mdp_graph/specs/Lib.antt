@@ -1,6 +1,7 @@
 pub mod Sets
 pub mod Layers
 pub mod Edges
+pub mod EdgeLists
 pub mod ListCode
 pub mod Ranking
 pub mod Choices
@@ -10,6 +11,7 @@ pub mod Settled
 pub mod Rounds
 pub mod Meet
 pub mod Waiting
+pub mod FlatWaiting
 pub mod Avoid
 pub mod SureAll
 pub mod Laws

@@ -2,39 +2,30 @@ ghost use Rattle.std.specs.Prelude.{◌≡◌, ◌<◌, ◌&&◌, ◌==◌, ℕ,
 ghost use Rattle.std.specs.List.{All, range_with_len};
 ghost use Rattle.mdp_spec.specs.Mdp.{states_of, choices_at};
 ghost use Rattle.mdp_rows.specs.Preds.{pair};
-ghost use Rattle.mdp_graph.specs.Waiting.{waits, some_waits, AreWaiting, AreWithin, AreReleased, AreMet, leading_to, all_wait};
+ghost use Rattle.mdp_graph.specs.Waiting.{waits, some_waits, AreWaiting, AreWithin, AreReleased, AreMet, leading_to};
 
-use crate::reach::all_true;
-use mdp_rows::{Marks, Model, Pred, Preds};
+use mdp_rows::{Model, Pred, Preds};
 use std::alloc::{AllocError, Global};
 
-/// The choices of each state that wait: those none of whose successors has a rank so far. Beside them, how many of the state's choices do.
+/// The choices of each state that wait: those none of whose successors has a rank so far. One truth value for each choice, state by state in
+/// one vector; where those of each state start, and at the end where the last ones end; and how many of each state's choices wait.
 #[derive(Drop)]
 pub(crate) struct Waiting {
-    choices: Vec<Marks>,
+    choices: Vec<bool>,
+    starts: Vec<usize>,
     counts: Vec<u32>,
 }
 
 impl std::marker::Model for Waiting {
-    ghost use Rattle.std.specs.Prelude.{◌≡◌, Bool, List, map};
-    ghost use Rattle.mdp_graph.specs.Waiting.{count_waiting};
+    ghost use Rattle.std.specs.Prelude.{Bool, List};
+    ghost use Rattle.mdp_rows.specs.Pieces.{pieces};
+    ghost use Rattle.mdp_graph.specs.FlatWaiting.{AreCounted};
 
     ghost Value = { List (List Bool) };
 
-    ghost view = { λ w. w.choices.items };
+    ghost view = { λ w. pieces w.choices.items w.starts.items };
 
-    ghost invariant = { λ w. w.counts.items ≡ map count_waiting w.choices.items };
-}
-
-/// One `true` for each choice of each state.
-fn all_choices(alloc: Global, model: &Model) -> Result<Vec<Marks>, AllocError>
-    ensures { IfOk result (λ lists. lists.items ≡ map (all_wait model.now) (range_with_len 0 (states_of model.now))) }
-{
-    let mut lists = Vec::with_capacity(alloc, model.states() as usize)?;
-    for s in 0..model.states() {
-        lists.push(all_true(alloc, model.choices(s))?)?;
-    }
-    Ok(lists)
+    ghost invariant = { λ w. AreCounted w.choices.items w.starts.items w.counts.items };
 }
 
 /// How many choices each state has.
@@ -49,9 +40,18 @@ impl Waiting {
     pub(crate) fn all(alloc: Global, model: &Model) -> Result<Waiting, AllocError>
         ensures { IfOk result (λ waiting. AreWaiting model.now (λ _. false) waiting) }
     {
+        let counts = choice_counts(alloc, model)?;
+        let mut choices = Vec::with_capacity(alloc, model.all_choices() as usize)?;
+        let mut starts = Vec::with_capacity(alloc, counts.len() + 1)?;
+        starts.push(0)?;
+        for count in &counts {
+            choices.resize(choices.len() + *count as usize, true)?;
+            starts.push(choices.len())?;
+        }
         Ok(Waiting {
-            choices: all_choices(alloc, model)?,
-            counts: choice_counts(alloc, model)?,
+            choices,
+            starts,
+            counts,
         })
     }
 
@@ -61,7 +61,7 @@ impl Waiting {
         requires choice { c < length (slice_index_or self.now s []) }
         ensures { result ≡ waits self.now s c }
     {
-        self.choices[s as usize].at(c)
+        self.choices[self.starts[s as usize] + c as usize]
     }
 
     /// Choice `c` of state `s` waits no longer. Whether it was the last of the state's choices that waited.
@@ -71,10 +71,11 @@ impl Waiting {
         ensures released { AreReleased self.old self.new (pair s c ∷ []) }
         ensures last { result ≡ (some_waits self.old s && not (some_waits self.new s)) }
     {
-        if !self.choices[s as usize].at(c) {
+        let place = self.starts[s as usize] + c as usize;
+        if !self.choices[place] {
             return false;
         }
-        self.choices[s as usize].set(c, false);
+        self.choices[place] = false;
         self.counts[s as usize] -= 1;
         self.counts[s as usize] == 0
     }

@@ -24,8 +24,8 @@ returns-in_err-divide_row-clause-wide c =
     (divided_rest-none_entries c.args.own.now _ c.in_ok-divisor.divisor (let h = c.in_ok-divisor.ensures {u = tt} in rw (c.whole.ensures) at h)
     (let h = (c.in_err-divide_row.ensures {u = tt}).wide in rw (c.deref_mut.ensures.value) at h)))
 
-pub div-requires : goal.div-requires
-div-requires c = one_less-nonzero c.args.own.now c.in_ok-divisor.divisor c.requires (let h = c.in_ok-divisor.ensures {u = tt} in rw (c.whole.ensures) at h)
+pub quotient-requires : goal.quotient-requires
+quotient-requires c = one_less-nonzero c.args.own.now c.in_ok-divisor.divisor c.requires (let h = c.in_ok-divisor.ensures {u = tt} in rw (c.whole.ensures) at h)
 
 pub returns-in_err-first-clause-wide : goal.returns-in_err-first-clause-wide
 returns-in_err-first-clause-wide c =
@@ -35,8 +35,8 @@ returns-in_err-first-clause-wide c =
     (divided_rest-none_first c.args.own.now _ c.in_ok-divisor.divisor (let h = c.in_ok-divisor.ensures {u = tt} in rw (c.whole.ensures) at h)
     c.divide_row.new.row (let h = (c.in_ok-divide_row.ensures {u = tt}).ok in rw (c.deref_mut.ensures.value) at h) (c.in_err-first.ensures {u = tt})))
 
-pub div-requires-2 : goal.div-requires-2
-div-requires-2 c = one_less-nonzero c.args.own.now c.in_ok-divisor.divisor c.requires (let h = c.in_ok-divisor.ensures {u = tt} in rw (c.whole.ensures) at h)
+pub quotient-requires-2 : goal.quotient-requires-2
+quotient-requires-2 c = one_less-nonzero c.args.own.now c.in_ok-divisor.divisor c.requires (let h = c.in_ok-divisor.ensures {u = tt} in rw (c.whole.ensures) at h)
 
 pub returns-in_err-second-clause-wide : goal.returns-in_err-second-clause-wide
 returns-in_err-second-clause-wide c =
