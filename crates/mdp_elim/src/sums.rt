@@ -11,6 +11,7 @@ pub(crate) fn plus_times(sum: &Frac, times: &Frac, value: &Frac) -> Result<Frac,
     ensures { result_ok result ≡ option_and_then (written_add sum.now) (written_mul times.now value.now) }
 {
     if value.sign() == 0 {
+        // (by a clause of `sign`)
         let _in_width = sum.sign();
         return Ok(*sum);
     }
