@@ -1,3 +1,1 @@
 mod PredCounts
-mod Entered
-mod RowCounts

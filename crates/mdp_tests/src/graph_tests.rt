@@ -2,11 +2,9 @@ ghost use Rattle.std.specs.Prelude.{◌≡◌, ◌<◌, length, IfOk};
 ghost use Rattle.mdp_spec.specs.Mdp.{states_of};
 
 use crate::models::{marked, model_of};
-use mdp_graph::{
-    Pass, along, may_avoid, may_reach, must_meet, rounds_outside, sure_all, sure_some,
-};
+use mdp_graph::{Pass, may_avoid, may_reach, must_meet, rounds_outside, sure_all, sure_some};
 use mdp_num::Memory;
-use mdp_rows::{Marks, Model, PolicyRows, Pred, Preds, preds_of};
+use mdp_rows::{Marks, Model, Pred, Preds, preds_of};
 use std::alloc::{AllocError, Global};
 use std::test::Fail;
 
@@ -149,34 +147,6 @@ fn finds_sets_of_states(rt: HostRuntime) -> Result<(), Fail> {
     ] {
         assert_eq!(rt; found_in(rt.alloc(), model)?.as_str(), found, "{model}");
     }
-    Ok(())
-}
-
-/// The states from which rows lead to a goal.
-fn along_rows(alloc: Global, rows: &PolicyRows<'_>, goals: &Marks) -> Result<Pass, Memory>
-    requires goals { length goals.now ≡ states_of rows.now.model.now }
-    ensures { IfOk result (λ pass. length pass.marks ≡ states_of rows.now.model.now) }
-{
-    let pass = along(alloc, rows, goals)?;
-    Ok(pass)
-}
-
-/// The policy that `may_reach` finds, and the states that it leads to the goal.
-#[test]
-fn goes_along_rows(rt: HostRuntime) -> Result<(), Fail> {
-    let model = model_of(rt.alloc(), FORK)?;
-    let goals = marked(rt.alloc(), &model, "goal")?;
-    let none = marked(rt.alloc(), &model, "none")?;
-    let may = may_reach(rt.alloc(), &model, &goals, &none)?;
-    assert_eq!(rt; may.choices.as_slice(), [0, 0, 0].as_slice());
-    let rows = PolicyRows {
-        model: &model,
-        policy: &may.choices,
-    };
-    let pass = along_rows(rt.alloc(), &rows, &goals)?;
-    let mut found = String::new(rt.alloc());
-    push_pass("along", &pass, model.states(), &mut found)?;
-    assert_eq!(rt; found.as_str(), "along 1/0 0/0 -");
     Ok(())
 }
 

@@ -2,8 +2,6 @@
 #![tactic(auto)]
 
 #[cfg(test)]
-mod elim_tests;
-#[cfg(test)]
 mod graph_tests;
 #[cfg(test)]
 mod library_tests;
