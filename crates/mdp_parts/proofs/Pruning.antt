@@ -1,9 +1,7 @@
 -- The choices that lead to a state without an allowed choice are forbidden, one after the other.
-use Rattle.std.proofs.Common.{◌≡◌, ◌⊎◌, inl, inr, ℕ, ◌+◌, ◌<◌, ◌≤◌, Bool, true, false, ◌&&◌, ◌==◌, List, [], ◌∷◌, ◌++◌, length, map, get_or, set, replicate, refl, sym, ap, ◌∙◌, arith}
+use Rattle.std.proofs.Common.{◌≡◌, ◌⊎◌, inl, inr, ℕ, ◌+◌, ◌<◌, ◌≤◌, Bool, true, false, ◌&&◌, ◌==◌, List, [], length, map, get_or, set, refl, sym, ap, ◌∙◌, arith}
 use Rattle.std.specs.List.{range_with_len}
-use Rattle.std.proofs.lemmas.Bool.{false≢true, cases_Bool, cases_eq, cases_lt, eq-eqb, and_parts}
-use Rattle.std.proofs.lemmas.List.{length-replicate, length-set, get_or-replicate, get_or-set_other}
-use Rattle.std.proofs.lemmas.Grind.{get_or-set_at}
+use Rattle.std.proofs.lemmas.Bool.{false≢true, cases_Bool, cases_eq, eq-eqb, and_parts}
 use Rattle.mdp_math.proofs.Booleans.{and-both, and-false}
 use Rattle.mdp_spec.specs.Mdp.{Mdp, states_of, choices_at, row_at}
 use Rattle.mdp_rows.specs.declared.preds.Pred.{Pred}
@@ -13,7 +11,6 @@ use Rattle.mdp_graph.proofs.PredLists.{led-in, list-is}
 use Rattle.mdp_graph.proofs.RowSets.{list_any-by}
 use Rattle.mdp_ends.specs.Rounds.{keeps_part}
 use Rattle.mdp_ends.proofs.Existing.{total_below, total-less}
-use Rattle.mdp_ends.proofs.NumberingFound.{length-more, at_before, at_last}
 use Rattle.mdp_ends.proofs.Walking.{stays-at}
 use Rattle.mdp_parts.specs.Allowed.{allowed_at, AreChoices}
 use Rattle.mdp_parts.specs.Losing.{IsLost, IsPruned, AreLosing}
@@ -35,66 +32,6 @@ module _ (m : Mdp) where
 
   pub lost_kept : (old new : List (List Bool)) → IsPruned m old new → (s : ℕ) → s < states_of m → IsLost m old s → IsLost m new s
   lost_kept old new p s h lost c l = still_false old new p s c h l (lost c l)
-
-  pub losing_kept : (old new : List (List Bool)) (first lost : List ℕ) → IsPruned m old new → AreLosing m old first lost → AreLosing m new first lost
-  losing_kept old new first lost p a = record {
-    count = a.count;
-    before = λ s c h l b. still_false old new p s c h l (a.before s c h l b);
-    below = a.below;
-    without = λ k h. lost_kept old new p (get_or lost k 0) (a.below k h) (a.without k h);
-  }
-
-  -- ---- a state is looked at
-
-  pub nothing_lost : (lists : List (List Bool)) (n : ℕ) → n ≡ states_of m → AreLosing m lists (replicate n 0) []
-  nothing_lost lists n e = record {
-    count = length-replicate {A = ℕ} n 0 ∙ e;
-    before = λ s c h l b. (let z : get_or (replicate n 0) s 0 ≡ 0 = get_or-replicate {A = ℕ} n s 0 0 (omega (arith, h, e)) in absurd (omega (arith, b, z)));
-    below = λ k h. absurd (omega (arith, h));
-    without = λ k h. absurd (omega (arith, h));
-  }
-
-  module _ (lists : List (List Bool)) (first lost : List ℕ) (a : AreLosing m lists first lost) (s r : ℕ) (hs : s < states_of m)
-      (none : (c : ℕ) → c < r → get_or first s 0 ≤ c → allowed_at lists s c ≡ false) where
-    pub looked_at : AreLosing m lists (set first s r) lost
-    looked_at = record {
-      count = length-set first s r ∙ a.count;
-      before = λ x c h l b. elim (cases_eq x s) [
-        | inr other ↦ (let z = get_or-set_other first s x r 0 other in a.before x c h l (omega (arith, b, z)))
-        | inl same ↦
-            (let z = get_or-set_at first s x r 0 same (omega (arith, hs, a.count)) in
-            ap (λ y. allowed_at lists y c) same ∙ (elim (cases_lt c (get_or first s 0)) [
-              | inl less ↦ sym (ap (λ y. allowed_at lists y c) same) ∙ a.before x c h l (let e = ap (λ y. get_or first y 0) same in omega (arith, less, e))
-              | inr more ↦ none c (omega (arith, b, z)) more
-            ]))
-      ];
-      below = a.below;
-      without = a.without;
-    }
-
-    pub lost_more : r ≡ length (choices_at m s) → AreLosing m lists (set first s r) (lost ++ s ∷ [])
-    lost_more all = record {
-      count = AreLosing.count looked_at;
-      before = AreLosing.before looked_at;
-      below = λ k h. elim (cases_lt k (length lost)) [
-        | inl less ↦ (let e = at_before lost s 0 k less in let b = a.below k less in omega (arith, e, b))
-        | inr more ↦ (let n = length-more lost s in let place : k ≡ length lost = omega (arith, h, more, n) in let e = ap (λ j. get_or (lost ++ s ∷ []) j 0) place ∙ at_last lost s 0 in omega (arith, e, hs))
-      ];
-      without = λ k h c l. elim (cases_lt k (length lost)) [
-        | inl less ↦
-            (let e = at_before lost s 0 k less in
-            ap (λ y. allowed_at lists y c) e ∙ a.without k less c (let z = ap (λ y. length (choices_at m y)) e in omega (arith, l, z)))
-        | inr more ↦
-            (let n = length-more lost s in
-            let place : k ≡ length lost = omega (arith, h, more, n) in
-            let e = ap (λ j. get_or (lost ++ s ∷ []) j 0) place ∙ at_last lost s 0 in
-            let d : c < length (choices_at m s) = (let z = ap (λ y. length (choices_at m y)) e in omega (arith, l, z)) in
-            ap (λ y. allowed_at lists y c) e ∙ (elim (cases_lt c (get_or first s 0)) [
-              | inl before ↦ a.before s c hs d before
-              | inr past ↦ none c (omega (arith, d, all)) past
-            ]))
-      ];
-    }
 
   -- ---- a choice is forbidden
 
@@ -156,16 +93,10 @@ module _ (m : Mdp) where
     pub losing : AreLosing m now first lost
     pub less : total_below m (allowed_at now) (states_of m) + length lost ≤ total_below m (allowed_at old) (states_of m) + length old_lost
 
-  pub into_begins : (old : List (List Bool)) (first lost : List ℕ) → AreChoices m old → AreLosing m old first lost → IsForbiddingInto old old first lost lost
-  into_begins old first lost a l = record { pruned = pruned_none old a; losing = l; less = omega arith }
-
   module _ (old now : List (List Bool)) (first old_lost lost : List ℕ) (a : IsForbiddingInto old now first old_lost lost) (s c t : ℕ) (hs : s < states_of m)
       (hc : c < length (choices_at m s)) (to : leads_to t (row_at m s c) ≡ true) (ht : t < states_of m) (none : IsLost m old t) where
     one_pruned : IsPruned m now (set now s (set (get_or now s []) c false))
     one_pruned = forbidden_pruned now (IsPruned.sizes a.pruned) s c t hs hc to ht (lost_kept old now a.pruned t ht none)
-
-    pub into_losing : (new : List (List Bool)) → new ≡ set now s (set (get_or now s []) c false) → AreLosing m new first lost
-    into_losing new e = rw e (losing_kept now (set now s (set (get_or now s []) c false)) first lost one_pruned a.losing)
 
     pub into_more : (new : List (List Bool)) (more_first more_lost : List ℕ) → new ≡ set now s (set (get_or now s []) c false) → allowed_at now s c ≡ true → AreLosing m new more_first more_lost
         → length more_lost ≤ length lost + 1 → IsForbiddingInto old new more_first old_lost more_lost
@@ -173,34 +104,6 @@ module _ (m : Mdp) where
       pruned = rw e (pruned_both old now (set now s (set (get_or now s []) c false)) a.pruned one_pruned);
       losing = l;
       less = (let k = forbidden_less now (IsPruned.sizes a.pruned) s c t hs hc to ht (lost_kept old now a.pruned t ht none) is in rw e (omega (arith, k, more, a.less)));
-    }
-
-  -- ---- the states that are lost, from the last on
-
-  module _ (allowed : List (List Bool)) (first lost rest : List ℕ) (t : ℕ) (a : AreLosing m allowed first lost) (e : lost ≡ rest ++ t ∷ []) where
-    at_end : get_or lost (length rest) 0 ≡ t
-    at_end = ap (λ (xs : List ℕ). get_or xs (length rest) 0) e ∙ at_last rest t 0
-
-    pub longer : length lost ≡ length rest + 1
-    longer = (let n = length-more rest t in let k = ap (λ (xs : List ℕ). length xs) e in omega (arith, n, k))
-
-    pub popped_below : t < states_of m
-    popped_below = let b = a.below (length rest) (omega (arith, longer)) in omega (arith, b, at_end)
-
-    pub popped_lost : IsLost m allowed t
-    popped_lost c l = ap (λ y. allowed_at allowed y c) (sym at_end) ∙ a.without (length rest) (omega (arith, longer)) c (let z = ap (λ y. length (choices_at m y)) at_end in omega (arith, l, z))
-
-    kept_at : (k : ℕ) → k < length rest → get_or lost k 0 ≡ get_or rest k 0
-    kept_at k h = ap (λ (xs : List ℕ). get_or xs k 0) e ∙ at_before rest t 0 k h
-
-    pub popped : AreLosing m allowed first rest
-    popped = record {
-      count = a.count;
-      before = a.before;
-      below = λ k h. (let b = a.below k (omega (arith, h, longer)) in let z = kept_at k h in omega (arith, b, z));
-      without = λ k h c l.
-          (let z = ap (λ y. length (choices_at m y)) (kept_at k h) in
-          ap (λ y. allowed_at allowed y c) (sym (kept_at k h)) ∙ a.without k (omega (arith, h, longer)) c (omega (arith, l, z)));
     }
 
   -- ---- in a round
