@@ -18,9 +18,6 @@ use Rattle.mdp_parts.specs.Round.{IsRound}
 use Rattle.mdp_parts.proofs.Forbidding.{forbidden_here, forbidden_there, forbidden_else, forbidden_sizes}
 
 module _ (m : Mdp) where
-  pub pruned_none : (lists : List (List Bool)) → AreChoices m lists → IsPruned m lists lists
-  pruned_none lists a = record { sizes = a; fewer = λ s c h l e. e; keeps = λ k. k }
-
   pub pruned_both : (a b c : List (List Bool)) → IsPruned m a b → IsPruned m b c → IsPruned m a c
   pruned_both a b c p q = record { sizes = q.sizes; fewer = λ s d h l e. p.fewer s d h l (q.fewer s d h l e); keeps = λ k. q.keeps (p.keeps k) }
 
