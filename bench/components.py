@@ -3,11 +3,13 @@
 
     a ring       state s goes on to state s + 1 and back to state 0, with one half each: one component of all states, so `components` goes over all
                  of it once, and `end_components` has one round
-    a chain      state s goes to the states s - 1 and s + 1 with one half each, and the last state stays: in each round of `end_components` the last
-                 state that is left drops out, so there are as many rounds as states
+    a chain      state s goes to the states s - 1 and s + 1 with one half each, and the last state stays: one state after the other drops out, all of
+                 them in the first round of `end_components`
+    waiting      the same chain, where each state may stay as well: each round takes one state from its component, which stays on as one of its own,
+                 so there are as many rounds as states. This is the worst case
 
-A small program beside the crates reads the models and times the calls (timer_program.py). Rounds grow with the states in the chain, and each round
-begins anew, so its time grows with the square: that is the stated way of `end_components`. Usage: bench/components.py
+A small program beside the crates reads the models and times the calls (timer_program.py). Each round goes over the whole model, so in the worst case
+the time grows with the square. Usage: bench/components.py
 """
 import sys
 
@@ -67,24 +69,32 @@ fn main(rt: HostRuntime) -> ExitCode {
 """
 
 
-def write_states(path, rows):
+def write_states(path, choices):
     with open(path, "w") as file:
-        file.write("@type: MDP\n@nr_states\n%d\n@model\n" % len(rows))
-        for s, row in enumerate(rows):
-            file.write("state %d\naction\n" % s)
-            file.writelines("%d : 1/%d\n" % (target, len(row)) for target in sorted(row))
+        file.write("@type: MDP\n@nr_states\n%d\n@model\n" % len(choices))
+        for s, rows in enumerate(choices):
+            file.write("state %d\n" % s)
+            for row in rows:
+                file.write("action\n")
+                file.writelines("%d : 1/%d\n" % (target, len(row)) for target in sorted(row))
 
 
 def write_ring(path, states):
-    write_states(path, [{s + 1, 0} for s in range(states - 1)] + [{0}])
+    write_states(path, [[{s + 1, 0}] for s in range(states - 1)] + [[{0}]])
 
 
 def write_chain(path, states):
-    write_states(path, [{max(s - 1, 0), s + 1} for s in range(states - 1)] + [{states - 1}])
+    write_states(path, [[{max(s - 1, 0), s + 1}] for s in range(states - 1)] + [[{states - 1}]])
+
+
+def write_waiting(path, states):
+    write_states(path, [[{max(s - 1, 0), s + 1}, {s}] for s in range(states - 1)] + [[{states - 1}]])
 
 
 def main():
-    models = [(write_ring, 10000), (write_ring, 100000), (write_ring, 1000000), (write_chain, 1000), (write_chain, 2000), (write_chain, 4000)]
+    models = [(write_ring, states) for states in (10000, 100000, 1000000)]
+    models += [(write_chain, states) for states in (1000, 2000, 4000, 100000)]
+    models += [(write_waiting, states) for states in (1000, 2000, 4000)]
     sys.exit(timer_program.run("component_timer", LIBRARIES, PROGRAM, models))
 
 

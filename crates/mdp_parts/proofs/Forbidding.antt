@@ -1,7 +1,7 @@
 -- A round of the search for the maximal end components while it goes on.
 use Rattle.std.proofs.Common.{◌≡◌, ◌⊎◌, inl, inr, ℕ, ◌+◌, ◌<◌, ◌≤◌, Bool, true, false, ◌&&◌, ◌==◌, List, [], length, get_or, set, refl, sym, ap, ◌∙◌, subst, arith}
 use Rattle.std.specs.List.{list_all}
-use Rattle.std.proofs.lemmas.Bool.{false≢true, cases_Bool, cases_eq, and_from, and_parts}
+use Rattle.std.proofs.lemmas.Bool.{false≢true, cases_Bool, cases_eq, and_from}
 use Rattle.std.proofs.lemmas.List.{length-set, get_or-set_other}
 use Rattle.std.proofs.lemmas.Grind.{get_or-set_at}
 use Rattle.mdp_math.specs.Rational.{ℚ}
@@ -12,7 +12,6 @@ use Rattle.mdp_graph.specs.Sets.{stays_in}
 use Rattle.mdp_ends.specs.Rounds.{keeps_part, still_allowed, KeepsEnds, IsSettled}
 use Rattle.mdp_ends.specs.Walks.{AreComponents}
 use Rattle.mdp_ends.proofs.RoundLaws.{round_kept}
-use Rattle.mdp_ends.proofs.Existing.{total_below, total-less}
 use Rattle.mdp_parts.specs.Allowed.{allowed_at, AreChoices}
 use Rattle.mdp_parts.specs.Round.{Leaves, IsForbidden, IsRound}
 use Rattle.mdp_graph.proofs.EdgeFacts.{all-as-stays}
@@ -193,13 +192,6 @@ module _ (m : Mdp) (parts : List ℕ) (old : List (List Bool)) where
 module _ (m : Mdp) (parts : List ℕ) (old new : List (List Bool)) (any : Bool) (r : IsRound m parts old new any) where
   pub round_keeps : IsMdp m → AreComponents m (allowed_at old) parts → KeepsEnds m (allowed_at old) → KeepsEnds m (allowed_at new)
   round_keeps ok comp keeps set chosen a s c h is l e = r.at s c h l ∙ round_kept m ok (allowed_at old) parts comp keeps set chosen a s c h is l e
-
-  pub round_less : any ≡ true → total_below m (allowed_at new) (states_of m) < total_below m (allowed_at old) (states_of m)
-  round_less q =
-      let w = r.some q in
-      let v = w.2 in
-      total-less m (allowed_at new) (allowed_at old) (states_of m) w.0 v.0 (λ s c h l e. let p = and_parts (allowed_at old s c) (keeps_part m parts s c) (sym (r.at s c h l) ∙ e) in p.0) w.1 v.1 v.2
-      (r.at w.0 v.0 w.1 v.1 ∙ ap (λ b. allowed_at old w.0 v.0 && b) v.3 ∙ and-false (allowed_at old w.0 v.0))
 
   pub round_settled : any ≡ false → IsSettled m (allowed_at old) parts
   round_settled q = r.none q

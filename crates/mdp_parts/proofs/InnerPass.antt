@@ -1,10 +1,9 @@
 -- A pass within a part, by inner choices.
-use Rattle.std.proofs.Common.{◌≡◌, inl, inr, ℕ, zero, suc, ◌<◌, Bool, true, false, ◌||◌, ◌&&◌, ◌==◌, nat_lt, lt-ltb}
+use Rattle.std.proofs.Common.{◌≡◌, ◌↔◌, inl, inr, ℕ, zero, suc, ◌<◌, Bool, true, false, ◌||◌, ◌&&◌, ◌==◌, nat_lt, lt-ltb}
 use Rattle.std.proofs.Common.{le-ltb, List, length, map, get_or, refl, sym, ap, ◌∙◌, subst, arith, Option, Some, None, is_some}
-use Rattle.std.specs.List.{list_any, range_with_len}
+use Rattle.std.specs.List.{list_any}
 use Rattle.std.proofs.lemmas.Bool.{false≢true, cases_Bool, and_from, eqb-true, eq-eqb}
 use Rattle.std.proofs.lemmas.List.{get_or-map, length-map}
-use Rattle.std.proofs.lemmas.List.FromFn.{get_or-map-range_with_len}
 use Rattle.mdp_math.specs.Rational.{ℚ}
 use Rattle.mdp_math.proofs.Booleans.{and-false}
 use Rattle.mdp_spec.specs.Mdp.{Mdp, states_of, choices_at, row_at}
@@ -14,13 +13,14 @@ use Rattle.mdp_graph.specs.Layers.{reached, rank_at, AreRanks, AreReached, AreLe
 use Rattle.mdp_graph.specs.Ranking.{AreRankedBy}
 use Rattle.mdp_graph.specs.Choices.{plain_rank, is_before, first_passing, AreLeast}
 use Rattle.mdp_graph.proofs.RowSets.{enters-by, enters-same, enters-never}
-use Rattle.mdp_ends.specs.Ends.{in_part, is_inside, count_of}
-use Rattle.mdp_ends.specs.Toward.{inner_step, target_in, inner_falls, IsToward}
+use Rattle.mdp_ends.specs.Ends.{is_inside}
+use Rattle.mdp_ends.specs.Toward.{inner_step, inner_falls}
 use Rattle.mdp_ends.proofs.Walking.{step-has, step-by, target-below}
 use Rattle.mdp_parts.specs.Targets.{AreTargets, AreReversed}
 use Rattle.mdp_parts.specs.Numbered.{AreSources}
 use Rattle.mdp_parts.specs.Inner.{may_fall_inside}
-use Rattle.mdp_ends.proofs.TowardLaws.{toward_marks}
+use Rattle.mdp_parts.specs.TowardTargets.{IsTowardTargets, HasTarget}
+use Rattle.mdp_parts.proofs.TowardParts.{marks_targets}
 use Rattle.mdp_parts.specs.Allowed.{allowed_at}
 use Rattle.mdp_parts.specs.FoundEnds.{FoundEnds, AreEndsOf}
 use Rattle.mdp_parts.proofs.ComponentsFound.{sources}
@@ -54,22 +54,8 @@ module _ (m : Mdp) (ok : IsMdp m) (ends : List (Option ℕ)) (inner : ℕ → �
       let z = step-has m inner (λ x. x == t) s (sym (src.leads s t hs ht) ∙ edge) in
       step-by m (is_inside m ends) set s z.0 z.1 z.2 (sym (are s z.0 hs z.2) ∙ z.3) z.4 (ap set (eqb-true z.1 t z.5) ∙ is)
 
-  pub inner_ranks : (first : List Bool) (i : ℕ) (target : List Bool) (ranks : List (Option ℕ)) → first ≡ map (target_in ends i target) (range_with_len 0 (states_of m))
-      → AreRankedBy back (marked first) (states_of m) ranks
-      → AreRanks (inner_step m ends) (target_in ends i target) (states_of m) ranks
-  inner_ranks first i target ranks is by =
-      let first_at : (s : ℕ) → s < states_of m → marked first s ≡ target_in ends i target s = λ s h. ap (λ (xs : List Bool). get_or xs s false) is
-      ∙ get_or-map-range_with_len (target_in ends i target) 0 (states_of m) s s false h (omega arith) in
-      ranked (inner_step m ends) (target_in ends i target) (states_of m) back ranks
-      (record {
-        count = by.count;
-        first_ranked = λ s h e. by.first_ranked s h (first_at s h ∙ e);
-        from = λ s r h e. (elim (by.from s r h e) [
-          | inl z ↦ inl (z.0, sym (first_at s h) ∙ z.1)
-          | inr z ↦ inr z
-        ]);
-        raised = by.raised;
-      }) along follows
+  pub inner_ranks : (first : List Bool) (ranks : List (Option ℕ)) → AreRankedBy back (marked first) (states_of m) ranks → AreRanks (inner_step m ends) (marked first) (states_of m) ranks
+  inner_ranks first ranks by = ranked (inner_step m ends) (marked first) (states_of m) back ranks by along follows
 
 -- ---- the marks and the plain ranks, state by state
 
@@ -122,8 +108,7 @@ module _ (step : (ℕ → Bool) → ℕ → Bool) (first : ℕ → Bool) (n : �
 
 -- ---- the choices
 
-module _ (m : Mdp) (ok : IsMdp m) (ends : List (Option ℕ)) (i : ℕ) (target : List Bool) (ranks : List (Option ℕ)) (a : AreRanks (inner_step m ends) (target_in ends i target) (states_of m) ranks)
-    (in_it : (s : ℕ) → s < states_of m → marked (map is_some ranks) s ≡ in_part ends i s) where
+module _ (m : Mdp) (ok : IsMdp m) (ends : List (Option ℕ)) (target : List Bool) (ranks : List (Option ℕ)) (a : AreRanks (inner_step m ends) (marked target) (states_of m) ranks) where
   place : (s : ℕ) → s < states_of m → s < length ranks
   place s h = omega (arith, h, a.count)
 
@@ -138,10 +123,10 @@ module _ (m : Mdp) (ok : IsMdp m) (ends : List (Option ℕ)) (i : ℕ) (target :
       ∙ rw (mark-is ranks t (omega (arith, l, a.count)), plain-is ranks t (omega (arith, l, a.count)), plain-is ranks s (omega (arith, h, a.count))) refl))
 
   -- a state of rank q + 1 has an inner choice to a state of rank at most q
-  by-step : (s q : ℕ) → s < states_of m → rank_at ranks s ≡ Some (suc q) → inner_step m ends (reached (inner_step m ends) (target_in ends i target) q) s ≡ true
+  by-step : (s q : ℕ) → s < states_of m → rank_at ranks s ≡ Some (suc q) → inner_step m ends (reached (inner_step m ends) (marked target) q) s ≡ true
       → (c : ℕ) × (c < length (choices_at m s)) × (may_fall_inside m ends ranks s c ≡ true)
   by-step s q h e stepped =
-      let z = step-has m (is_inside m ends) (reached (inner_step m ends) (target_in ends i target) q) s stepped in
+      let z = step-has m (is_inside m ends) (reached (inner_step m ends) (marked target) q) s stepped in
       let b = target-below m ok s z.0 z.1 h z.2 z.4 in
       let r = rank_of q (rank_at ranks z.1) (a.least q z.1 b ∙ z.5) in (
         z.0,
@@ -150,16 +135,16 @@ module _ (m : Mdp) (ok : IsMdp m) (ends : List (Option ℕ)) (i : ℕ) (target :
             (enters-by (λ t. is_before (plain_rank (rank_at ranks s)) (rank_at ranks t)) (row_at m s z.0) z.1 z.4 (rw (e, r.1) (lt-ltb r.0 (suc q) (omega (arith, r.2))))),
       )
 
-  some-falls : (s r : ℕ) → s < states_of m → rank_at ranks s ≡ Some r → target_in ends i target s ≡ false → (c : ℕ) × (c < length (choices_at m s)) × (may_fall_inside m ends ranks s c ≡ true)
+  some-falls : (s r : ℕ) → s < states_of m → rank_at ranks s ≡ Some r → marked target s ≡ false → (c : ℕ) × (c < length (choices_at m s)) × (may_fall_inside m ends ranks s c ≡ true)
   unfolding reached
   some-falls s zero h e not_target = absurd (false≢true (sym not_target ∙ sym (a.least 0 s h) ∙ at_most-some 0 0 (rank_at ranks s) e (omega arith)))
-  some-falls s (suc q) h e not_target = elim (cases_Bool (reached (inner_step m ends) (target_in ends i target) q s)) [
+  some-falls s (suc q) h e not_target = elim (cases_Bool (reached (inner_step m ends) (marked target) q s)) [
     | inl before ↦
         (let w = rank_of q (rank_at ranks s) (a.least q s h ∙ before) in
         let k : suc q ≡ w.0 = some-same (suc q) w.0 (rank_at ranks s) e w.1 in absurd (omega (arith, k, w.2)))
     | inr new ↦
         by-step s q h e
-        (sym (ap (λ b. b || inner_step m ends (reached (inner_step m ends) (target_in ends i target) q) s) new) ∙ sym (a.least (suc q) s h)
+        (sym (ap (λ b. b || inner_step m ends (reached (inner_step m ends) (marked target) q) s) new) ∙ sym (a.least (suc q) s h)
         ∙ at_most-some (suc q) (suc q) (rank_at ranks s) e (omega arith))
   ]
 
@@ -174,10 +159,7 @@ module _ (m : Mdp) (ok : IsMdp m) (ends : List (Option ℕ)) (i : ℕ) (target :
 
   target-zero : (s : ℕ) → s < states_of m → marked target s ≡ true → plain_rank (rank_at ranks s) ≡ 0
   unfolding reached
-  target-zero s h e = elim (cases_Bool (marked (map is_some ranks) s)) [
-    | inr out ↦ unmarked-zero s h out
-    | inl it ↦ (let w = rank_of 0 (rank_at ranks s) (a.least 0 s h ∙ and_from (in_part ends i s) (marked target s) (sym (in_it s h) ∙ it) e) in ap plain_rank w.1 ∙ omega (arith, w.2))
-  ]
+  target-zero s h e = let w = rank_of 0 (rank_at ranks s) (a.least 0 s h ∙ e) in ap plain_rank w.1 ∙ omega (arith, w.2)
 
   pub inner_choices : (choices : List ℕ) → choices ≡ first_passing m (may_fall_inside m ends ranks)
       → AreLeast m target (map is_some ranks) (inner_falls m ends (map is_some ranks) (map plain_rank ranks)) choices
@@ -193,7 +175,7 @@ module _ (m : Mdp) (ok : IsMdp m) (ends : List (Option ℕ)) (i : ℕ) (target :
         in_range = in_range;
         passes = λ s h e not_target.
             (let r = has_rank (rank_at ranks s) (sym (mark-is ranks s (place s h)) ∙ e) in
-            let w = some-falls s r.0 h r.1 (ap (λ b. in_part ends i s && b) not_target ∙ and-false (in_part ends i s)) in
+            let w = some-falls s r.0 h r.1 not_target in
             let l = IsFirst.least (first s h) w.0 w.1 w.2 in
             sym (falls-is s (get_or choices s 0) h (in_range s h)) ∙ l.0);
         least = λ s c h e k. (let l = IsFirst.least (first s h) c k (falls-is s c h k ∙ e) in l.1);
@@ -205,25 +187,21 @@ module _ (m : Mdp) (ok : IsMdp m) (ends : List (Option ℕ)) (i : ℕ) (target :
 
 -- ---- the pass
 
-module _ (m : Mdp) (ok : IsMdp m) (e : FoundEnds) (are : AreEndsOf m e) (i : ℕ) (below : i < count_of e.parts) (target : List Bool) (some : (s : ℕ) × (s < states_of m) ×
-    (in_part e.parts i s ≡ true) × (marked target s ≡ true))
-    (inner : List (List Bool)) (is : inner ≡ e.inner) (edges back : List (List ℕ)) (to : AreTargets m (allowed_at inner) edges) (rev : AreReversed edges back) (first : List Bool) (n k : ℕ)
-    (many : n ≡ states_of m) (all : k ≡ states_of m)
-    (firsts_are : first ≡ map (target_in e.parts i target) (range_with_len 0 n)) (ranks : List (Option ℕ)) (by : AreRankedBy back (marked first) k ranks) where
-  ranks_are : AreRanks (inner_step m e.parts) (target_in e.parts i target) (states_of m) ranks
+module _ (m : Mdp) (ok : IsMdp m) (e : FoundEnds) (are : AreEndsOf m e) (target : List Bool) (inner : List (List Bool)) (is : inner ≡ e.inner) (edges back : List (List ℕ))
+    (to : AreTargets m (allowed_at inner) edges) (rev : AreReversed edges back) (k : ℕ) (all : k ≡ states_of m) (ranks : List (Option ℕ)) (by : AreRankedBy back (marked target) k ranks) where
+  ranks_are : AreRanks (inner_step m e.parts) (marked target) (states_of m) ranks
   ranks_are =
       inner_ranks m ok e.parts (allowed_at inner) (λ s c h l. ap (λ (xs : List (List Bool)). allowed_at xs s c) is
-      ∙ are.inner s c h l) back (sources m (allowed_at inner) edges back to rev) first i target ranks
-      (firsts_are ∙ ap (λ j. map (target_in e.parts i target) (range_with_len 0 j)) many) (subst (λ (j : ℕ). AreRankedBy back (marked first) j ranks) all by)
+      ∙ are.inner s c h l) back (sources m (allowed_at inner) edges back to rev) target ranks
+      (subst (λ (j : ℕ). AreRankedBy back (marked target) j ranks) all by)
 
-  pub part_marked : (s : ℕ) → s < states_of m → marked (map is_some ranks) s ≡ in_part e.parts i s
-  part_marked = toward_marks m ok e.parts are.ends i below target (map is_some ranks) (reached_marks (inner_step m e.parts) (target_in e.parts i target)
-      (states_of m) ranks ranks_are) some.0 some.1 some.2 some.3
-
-  pub is_toward : (choices : List ℕ) (read : List (Option ℕ)) → read ≡ ranks → choices ≡ first_passing m (may_fall_inside m e.parts read)
-      → IsToward m e.parts i target (map is_some ranks) (map plain_rank ranks) choices
-  is_toward choices read same are_least = record {
-    reaches = reached_marks (inner_step m e.parts) (target_in e.parts i target) (states_of m) ranks ranks_are;
-    ranked = least_ranks (inner_step m e.parts) (target_in e.parts i target) (states_of m) ranks ranks_are;
-    chosen = inner_choices m ok e.parts i target ranks ranks_are part_marked choices (are_least ∙ ap (λ (xs : List (Option ℕ)). first_passing m (may_fall_inside m e.parts xs)) same);
+  pub is_toward_targets : (choices : List ℕ) (read : List (Option ℕ)) → read ≡ ranks → choices ≡ first_passing m (may_fall_inside m e.parts read)
+      → IsTowardTargets m e.parts target (map is_some ranks) (map plain_rank ranks) choices
+  is_toward_targets choices read same are_least = record {
+    reaches = reached_marks (inner_step m e.parts) (marked target) (states_of m) ranks ranks_are;
+    ranked = least_ranks (inner_step m e.parts) (marked target) (states_of m) ranks ranks_are;
+    chosen = inner_choices m ok e.parts target ranks ranks_are choices (are_least ∙ ap (λ (xs : List (Option ℕ)). first_passing m (may_fall_inside m e.parts xs)) same);
   }
+
+  pub has_target_marked : (s : ℕ) → s < states_of m → (marked (map is_some ranks) s ≡ true) ↔ HasTarget m e.parts target s
+  has_target_marked = marks_targets m ok e.parts are.ends target (map is_some ranks) (reached_marks (inner_step m e.parts) (marked target) (states_of m) ranks ranks_are)

@@ -10,3 +10,5 @@ mod Renumbering
 mod Searching
 mod TargetFacts
 mod Targeting
+mod TowardParts
+mod Pruning

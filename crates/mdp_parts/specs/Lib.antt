@@ -4,5 +4,7 @@ pub mod Targets
 pub mod Searched
 pub mod Numbered
 pub mod Round
+pub mod Losing
 pub mod Inner
+pub mod TowardTargets
 pub mod Laws

@@ -1,4 +1,4 @@
-ghost use Rattle.std.specs.Prelude.{◌≡◌, ◌<◌, ◌&&◌, ℕ, true, length, map, slice_index, slice_index_or, IfOk};
+ghost use Rattle.std.specs.Prelude.{◌≡◌, ◌<◌, ◌↔◌, ◌&&◌, ℕ, true, length, map, slice_index, slice_index_or, IfOk};
 ghost use Rattle.std.specs.List.{All, list_any, find, range_with_len};
 ghost use Rattle.mdp_spec.specs.Mdp.{states_of, choices_at};
 ghost use Rattle.mdp_graph.specs.Sets.{marked};
@@ -8,6 +8,7 @@ ghost use Rattle.mdp_ends.specs.Ends.{in_part, count_of};
 ghost use Rattle.mdp_ends.specs.Toward.{target_in, IsToward};
 ghost use Rattle.mdp_parts.specs.FoundEnds.{AreEndsOf};
 ghost use Rattle.mdp_parts.specs.Inner.{may_fall_inside};
+ghost use Rattle.mdp_parts.specs.TowardTargets.{IsTowardTargets, HasTarget};
 
 use crate::edges::Edges;
 use crate::ends::Ends;
@@ -99,6 +100,31 @@ fn least_choices(
         .collect(alloc)
 }
 
+/// A pass toward the targets by inner choices, over all end components at once. It marks exactly the targets and the states of the end components
+/// that hold one. Targets have rank 0. The choice of any other marked state is the least inner one that has a successor of smaller rank. The time
+/// grows with the entries.
+pub fn toward_targets(
+    alloc: Global,
+    model: &Model,
+    ends: &Ends,
+    target: &Marks,
+) -> Result<Pass, Memory>
+    requires ends { AreEndsOf model.now ends.now }
+    requires target { length target.now ≡ states_of model.now }
+    ensures toward { IfOk result (λ pass. IsTowardTargets model.now ends.now.parts target.now pass.marks pass.ranks.items pass.choices.items) }
+    ensures marks { IfOk result (λ pass. (s : ℕ) → s < states_of model.now → (marked pass.marks s ≡ true) ↔ HasTarget model.now ends.now.parts target.now s) }
+{
+    model.known();
+    let edges = Edges::targets(alloc, model, ends.choices())?;
+    let back = edges.reversed(alloc, model.states())?;
+    let ranks = ranks_by(alloc, &back, target, model.states())?;
+    Ok(Pass {
+        marks: marks_by(alloc, &ranks)?,
+        ranks: plain_numbers(alloc, &ranks)?,
+        choices: least_choices(alloc, model, ends, &ranks)?,
+    })
+}
+
 /// A pass over end component `i` toward the targets in it, by inner choices. It marks exactly the states of the component. Targets of the
 /// component have rank 0. The choice of any other state of it is the least inner one that has a successor of smaller rank.
 pub fn toward(
@@ -116,14 +142,7 @@ pub fn toward(
     ensures marks { IfOk result (λ pass. (s : ℕ) → s < states_of model.now → marked pass.marks s ≡ in_part ends.now.parts i s) }
 {
     model.known();
-    let edges = Edges::targets(alloc, model, ends.choices())?;
-    let back = edges.reversed(alloc, model.states())?;
     let values = targets_in(alloc, ends, i, target, model.states())?;
     let first = Marks::from_values(values);
-    let ranks = ranks_by(alloc, &back, &first, model.states())?;
-    Ok(Pass {
-        marks: marks_by(alloc, &ranks)?,
-        ranks: plain_numbers(alloc, &ranks)?,
-        choices: least_choices(alloc, model, ends, &ranks)?,
-    })
+    toward_targets(alloc, model, ends, &first)
 }

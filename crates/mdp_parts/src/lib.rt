@@ -7,6 +7,7 @@ mod edges;
 mod ends;
 mod inward;
 mod laws;
+mod losing;
 mod numbering;
 mod ranking;
 mod search;
@@ -14,7 +15,7 @@ mod strong;
 
 pub use allowed::Allowed;
 pub use ends::Ends;
-pub use inward::toward;
+pub use inward::{toward, toward_targets};
 pub use laws::ends_law;
 pub use search::end_components;
 pub use strong::components;

@@ -8,10 +8,11 @@ ghost use Rattle.mdp_parts.specs.Round.{some_allowed, key_of, IsRound, IsForbidd
 
 use crate::allowed::Allowed;
 use crate::ends::Ends;
+use crate::losing::forbid_losing;
 use crate::numbering::numbered;
 use crate::strong::components;
 use mdp_num::Memory;
-use mdp_rows::Model;
+use mdp_rows::{Model, preds_of};
 use std::alloc::{AllocError, Global};
 
 /// Whether all targets are in the part.
@@ -105,15 +106,19 @@ fn left_parts(
 
 /// All maximal end components of a model, numbered by their least states.
 ///
-/// Each round takes the strong components of the allowed choices and forbids each choice that leaves its own, until none does (de Alfaro 1997;
-/// Baier and Katoen 2008, section 10.6.3). A round takes time in proportion to the entries.
+/// Each round takes the strong components of the allowed choices and forbids each choice that leaves its own, and then, one after the other, those
+/// that lead to a state without an allowed choice, until no choice leaves (de Alfaro 1997; Baier and Katoen 2008, section 10.6.3). A round takes
+/// time in proportion to the entries. States that fall away one after the other take one round together. There are as many rounds as there are
+/// states in the worst case: where each round parts a component whose states all keep an allowed choice.
 pub fn end_components(alloc: Global, model: &Model) -> Result<Ends, Memory>
     ensures { IfOk result (λ ends. AreEndsOf model.now ends) }
 {
     model.known();
+    let preds = preds_of(alloc, model)?;
     let mut allowed = Allowed::all(alloc, model)?;
     let mut parts = components(alloc, model, &allowed)?;
     while forbid_leaving(&mut allowed, model, &parts) {
+        forbid_losing(alloc, model, &preds, &mut allowed)?;
         parts = components(alloc, model, &allowed)?;
     }
     let keys = left_parts(alloc, model, &allowed, &parts)?;

@@ -7,3 +7,4 @@ pub mod QuotientFound
 pub mod Selected
 pub mod LiftedFound
 mod Examples
+mod TowardTargets

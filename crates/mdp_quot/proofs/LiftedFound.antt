@@ -1,24 +1,25 @@
--- The choices toward the exits' states, node by node, and the policy that a policy of the nodes is lifted to.
-use Rattle.std.proofs.Common.{◌≡◌, ◌⊎◌, inl, inr, ℕ, suc, ◌+◌, ◌-◌, ◌<◌, Bool, true, false, cond, List, length, get_or, replicate, refl, sym, ap, ◌∙◌, arith, Option, Some, None}
-use Rattle.std.proofs.lemmas.Bool.{cases_Bool, cases_eq, cases_lt, false≢true, eq-eqb, ne_eqb, and_parts}
+-- The states of the exits that are taken, the choices toward them, and the policy that a policy of the nodes is lifted to.
+use Rattle.std.proofs.Common.{◌≡◌, ◌⊎◌, inl, inr, ℕ, suc, ◌+◌, ◌-◌, ◌<◌, Bool, true, false, cond, List, length, get_or, refl, sym, ap, ◌∙◌, arith, Option, Some, None}
+use Rattle.std.proofs.lemmas.Bool.{cases_eq, eq-eqb, ne_eqb}
 use Rattle.std.specs.Prelude.{slice_set}
-use Rattle.std.proofs.lemmas.List.{get_or_default, get_or_past, get_or-set_same, get_or-set_other, get_or-replicate, length-replicate}
+use Rattle.std.proofs.lemmas.List.{get_or_default, get_or-set_same, get_or-set_other, length-set}
 use Rattle.mdp_spec.specs.Mdp.{Mdp, states_of}
 use Rattle.mdp_spec.specs.Row.{IsMdp}
 use Rattle.mdp_rows.specs.declared.preds.Pred.{Pred}
 use Rattle.mdp_rows.specs.Preds.{pair}
 use Rattle.mdp_graph.specs.Sets.{marked}
+use Rattle.mdp_graph.specs.Choices.{AreLeast}
 use Rattle.mdp_ends.specs.Ends.{part_of, in_part, has_number, AreEnds}
 use Rattle.mdp_ends.specs.Quotient.{ShareAPart, nodes_in, exits_of}
 use Rattle.mdp_ends.specs.Selection.{exit_at}
-use Rattle.mdp_ends.specs.Toward.{choice_to, lifted_choice, IsOuter, IsToward}
+use Rattle.mdp_ends.specs.Toward.{choice_to, lifted_choice, IsOuter}
 use Rattle.mdp_ends.proofs.Exits.{exit_known, node-below}
-use Rattle.mdp_ends.proofs.Numbering.{some≢none}
 use Rattle.mdp_ends.proofs.RoundLaws.{number-has}
-use Rattle.mdp_ends.proofs.TowardOne.{toward-choice}
+use Rattle.mdp_parts.specs.TowardTargets.{IsTowardTargets}
 use Rattle.mdp_quot.proofs.NodesFound.{part-below}
+use Rattle.mdp_quot.proofs.TowardTargets.{targets_choice}
 use Rattle.mdp_quot.specs.Quotient.{Quotient, IsQuotient, exits_at}
-use Rattle.mdp_quot.specs.Lifting.{AreWays}
+use Rattle.mdp_quot.specs.Lifting.{AreTaken, AreWays}
 use Rattle.mdp_quot.proofs.Selected.{are_selected}
 use Rattle.mdp_quot.specs.Laws.{AreSelected}
 
@@ -41,60 +42,6 @@ module _ (m : Mdp) (parts : List (Option ℕ)) (as_many : length parts ≡ state
   pub exit-in : (n k : ℕ) → n < length q.exits → k < length (exits_at q n) → ((exit_at m parts q.nodes n k).state < states_of m) × (get_or q.nodes (exit_at m parts q.nodes n k).state 0 ≡ n)
   exit-in n k h l = let w = exit_known m parts q.nodes n k (omega (arith, l, many_exits n h)) in (w.0, w.2)
 
-  module _ (outer ways : List ℕ) (n : ℕ) (a : AreWays m parts q.nodes outer n ways) where
-    -- a node that stops
-    pub ways_stop : get_or outer n 0 ≡ 0 → AreWays m parts q.nodes outer (n + 1) ways
-    ways_stop stops = record {
-      count = a.count;
-      toward = λ s i k h low at o other. elim (cases_eq (get_or q.nodes s 0) n) [
-        | inl same ↦ (let e = ap (λ j. get_or outer j 0) same in absurd (omega (arith, o, stops, e)))
-        | inr less ↦ a.toward s i k h (omega (arith, low, less)) at o other
-      ];
-    }
-
-    -- a state in no end component
-    pub ways_single : get_or q.components n None ≡ None → AreWays m parts q.nodes outer (n + 1) ways
-    ways_single none = record {
-      count = a.count;
-      toward = λ s i k h low at o other. elim (cases_eq (get_or q.nodes s 0) n) [
-        | inl same ↦ absurd (some≢none i (sym at ∙ part-at s n h same ∙ none))
-        | inr less ↦ a.toward s i k h (omega (arith, low, less)) at o other
-      ];
-    }
-
-    -- an end component that takes exit k
-    pub ways_taken : (new choices : List ℕ) (marks : List Bool) (k i : ℕ) → n < length q.exits → k < length (exits_at q n) → get_or outer n 0 ≡ suc k → get_or q.components n None ≡ Some i
-        → length new ≡ length ways → ((s : ℕ) → s < length ways → get_or new s 0 ≡ cond (marked marks s) (get_or choices s 0) (get_or ways s 0))
-        → ((s : ℕ) → s < states_of m → marked marks s ≡ in_part parts i s)
-        → ((s : ℕ) → s < states_of m → in_part parts i s ≡ true → ((exit_at m parts q.nodes n k).state ≡ s → ⊥) → get_or choices s 0 ≡ choice_to m parts (exit_at m parts q.nodes n k).state s)
-        → AreWays m parts q.nodes outer (n + 1) new
-    ways_taken new choices marks k i hn l takes part count taken marks_are choices_are = record {
-      count = count ∙ a.count;
-      toward = λ s j k' h low at o other. elim (cases_eq (get_or q.nodes s 0) n) [
-        | inl same ↦ here s k' h same o other
-        | inr less ↦ there s h less ∙ a.toward s j k' h (omega (arith, low, less)) at o other
-      ];
-    } where
-      at_new : (s : ℕ) → s < states_of m → get_or new s 0 ≡ cond (in_part parts i s) (get_or choices s 0) (get_or ways s 0)
-      at_new s h = taken s (omega (arith, h, a.count)) ∙ ap (λ (b : Bool). cond b (get_or choices s 0) (get_or ways s 0)) (marks_are s h)
-
-      here : (s k' : ℕ) → s < states_of m → get_or q.nodes s 0 ≡ n → get_or outer (get_or q.nodes s 0) 0 ≡ suc k' → ((exit_at m parts q.nodes (get_or q.nodes s 0) k').state ≡ s → ⊥)
-          → get_or new s 0 ≡ choice_to m parts (exit_at m parts q.nodes (get_or q.nodes s 0) k').state s
-      here s k' h same o other =
-          let in_i : in_part parts i s ≡ true = in_part-by parts i s (part-at s n h same ∙ part) in
-          let kk : k ≡ k' = (let e = ap (λ j. get_or outer j 0) same in omega (arith, o, takes, e)) in
-          let e : (exit_at m parts q.nodes n k).state ≡ (exit_at m parts q.nodes (get_or q.nodes s 0) k').state = ap (λ j. (exit_at m parts q.nodes n j).state) kk ∙ ap (λ j. (exit_at m parts q.nodes j k').state) (sym same) in
-          at_new s h ∙ ap (λ (b : Bool). cond b (get_or choices s 0) (get_or ways s 0)) in_i ∙ choices_are s h in_i (λ z. other (sym e ∙ z)) ∙ ap (λ x. choice_to m parts x s) e
-
-      there : (s : ℕ) → s < states_of m → (get_or q.nodes s 0 ≡ n → ⊥) → get_or new s 0 ≡ get_or ways s 0
-      there s h other = elim (cases_Bool (in_part parts i s)) [
-        | inr out ↦ at_new s h ∙ ap (λ (b : Bool). cond b (get_or choices s 0) (get_or ways s 0)) out
-        | inl in_i ↦
-            (let x = exit-in n k hn l in
-            let same = (is.nodes.same s (exit_at m parts q.nodes n k).state (omega (arith, h, as_many)) (omega (arith, x.0, as_many))).1 (inr (i, number-has i (part_of parts s) in_i, part-at (exit_at m parts q.nodes n k).state n x.0 x.1 ∙ part)) in
-            absurd (other (same ∙ x.1)))
-      ]
-
   many_nodes : length q.exits ≡ nodes_in q.nodes
   many_nodes = let a = are_selected m parts q is in AreSelected.count a
 
@@ -103,6 +50,83 @@ module _ (m : Mdp) (parts : List (Option ℕ)) (as_many : length parts ≡ state
 
   pub exit-there : (outer : List ℕ) → IsOuter m parts q.nodes outer → (n k : ℕ) → n < length q.exits → get_or outer n 0 ≡ k + 1 → k < length (exits_at q n)
   exit-there outer o n k h e = let l = o.leaves n k (omega (arith, h, many_nodes)) (e ∙ omega arith) in omega (arith, l, many_exits n h)
+
+  pub exit-taken : (outer : List ℕ) → IsOuter m parts q.nodes outer → (n : ℕ) → n < length q.exits → 0 < get_or outer n 0 → get_or outer n 0 - 1 < length (exits_at q n)
+  exit-taken outer o n h some = exit-there outer o n (get_or outer n 0 - 1) h (omega (arith, some))
+
+  pub read-exit : (n k : ℕ) (xs : List Pred) (d : Pred) → n < length q.exits → k < length (exits_at q n) → xs ≡ exits_at q n → Pred.state (get_or xs k d) ≡ (exit_at m parts q.nodes n k).state
+  read-exit n k xs d h l e = ap (λ (x : Pred). x.state) (ap (λ (ys : List Pred). get_or ys k d) e ∙ exit_is n k d h l)
+
+  -- ---- the states of the exits that are taken
+
+  module _ (outer : List ℕ) where
+    module _ (n : ℕ) (states : List Bool) (a : AreTaken m parts q.nodes outer n states) where
+      -- a node that stops
+      pub taken_none : get_or outer n 0 ≡ 0 → AreTaken m parts q.nodes outer (n + 1) states
+      taken_none stops = record {
+        count = a.count;
+        taken = λ k j l takes. elim (cases_eq k n) [
+          | inl same ↦ (let e = ap (λ x. get_or outer x 0) same in absurd (omega (arith, e, stops, takes)))
+          | inr other ↦ a.taken k j (omega (arith, l, other)) takes
+        ];
+        from = a.from;
+      }
+
+      -- a node that takes an exit
+      pub taken_more : (j : ℕ) → n < length q.exits → j < length (exits_at q n) → get_or outer n 0 ≡ suc j → (x : ℕ) → x ≡ (exit_at m parts q.nodes n j).state
+          → AreTaken m parts q.nodes outer (n + 1) (slice_set states x true)
+      taken_more j hn l takes x is_x =
+          let w = exit-in n j hn l in
+          let hx : x < length states = omega (arith, w.0, is_x, a.count) in
+          record {
+            count = length-set states x true ∙ a.count;
+            taken = λ k i l t. (elim (cases_eq ((exit_at m parts q.nodes k i).state) x) [
+              | inl same ↦ ap (λ y. get_or (slice_set states x true) y false) same ∙ get_or-set_same states x true false hx
+              | inr differs ↦ get_or-set_other states x ((exit_at m parts q.nodes k i).state) true false differs ∙ (elim (cases_eq k n) [
+                | inr other ↦ a.taken k i (omega (arith, l, other)) t
+                | inl same ↦
+                    (let e = ap (λ y. get_or outer y 0) same in
+                    let ij : i ≡ j = omega (arith, e, takes, t) in
+                    absurd (differs (ap (λ y. (exit_at m parts q.nodes y i).state) same ∙ ap (λ y. (exit_at m parts q.nodes n y).state) ij ∙ sym is_x)))
+              ])
+            ]);
+            from = λ s is. (elim (cases_eq s x) [
+              | inr other ↦ a.from s (sym (get_or-set_other states x s true false other) ∙ is)
+              | inl same ↦
+                  (let node : get_or q.nodes s 0 ≡ n = ap (λ y. get_or q.nodes y 0) (same ∙ is_x) ∙ w.1 in (
+                    j,
+                    omega (arith, same, hx, a.count),
+                    ap (λ y. get_or outer y 0) node ∙ takes,
+                    ap (λ y. (exit_at m parts q.nodes y j).state) node ∙ sym (same ∙ is_x),
+                  ))
+            ]);
+          }
+
+  -- ---- the pass toward them
+
+  module _ (ok : IsMdp m) (are : AreEnds m parts) (outer : List ℕ) (o : IsOuter m parts q.nodes outer) (states marks : List Bool) (ranks choices : List ℕ) (a : AreTaken m parts q.nodes outer (length q.exits) states)
+      (pass : IsTowardTargets m parts states marks ranks choices) where
+    one_taken : (s t i k : ℕ) → s < states_of m → part_of parts s ≡ Some i → get_or outer (get_or q.nodes s 0) 0 ≡ suc k → marked states t ≡ true → part_of parts t ≡ Some i
+        → t ≡ (exit_at m parts q.nodes (get_or q.nodes s 0) k).state
+    one_taken s t i k h at takes is_t at_t =
+        let w = a.from t is_t in
+        let node : get_or q.nodes t 0 ≡ get_or q.nodes s 0 = (is.nodes.same t s (omega (arith, w.1, as_many)) (omega (arith, h, as_many))).1 (inr (i, at_t, at)) in
+        let e = ap (λ y. get_or outer y 0) node in
+        let jk : w.0 ≡ k = omega (arith, e, w.2, takes) in
+        sym w.3 ∙ ap (λ y. (exit_at m parts q.nodes y w.0).state) node ∙ ap (λ y. (exit_at m parts q.nodes (get_or q.nodes s 0) y).state) jk
+
+    pub ways_are : AreWays m parts q.nodes outer (length q.exits) choices
+    ways_are = record {
+      count = AreLeast.count pass.chosen;
+      toward = λ s i k h low at takes other.
+          (let n : ℕ = get_or q.nodes s 0 in
+          let l = exit-there outer o n k low (takes ∙ omega arith) in
+          let x = exit-in n k low l in
+          let z : ℕ = (exit_at m parts q.nodes n k).state in
+          let z_at : part_of parts z ≡ Some i = part-at z n x.0 x.1 ∙ sym (part-at s n h refl) ∙ at in
+          targets_choice m ok parts are states marks ranks choices pass i (part-below parts s are.numbered i at) z x.0 (in_part-by parts i z z_at) (a.taken n k low takes)
+          (λ t in_i is_t. one_taken s t i k h at takes is_t (number-has i (part_of parts t) in_i)) s h (in_part-by parts i s at) (λ e. other (sym e)));
+    }
 
   -- at the end: the choice of the lifted policy
   module _ (outer ways : List ℕ) (a : AreWays m parts q.nodes outer (length q.exits) ways) (s : ℕ) (h : s < states_of m) (low : get_or q.nodes s 0 < length q.exits) where
@@ -146,23 +170,3 @@ module _ (m : Mdp) (parts : List (Option ℕ)) (as_many : length parts ≡ state
 
       pub on-way : (Pred.state (get_or xs (get_or outer n 0 - 1) d) ≡ s → ⊥) → get_or ways s 0 ≡ lifted_choice m parts q.nodes s inner (get_or outer (get_or q.nodes s 0) 0)
       on-way other = lifted-way inner (get_or outer n 0 - 1) goes-on in-exits (λ e. other (ap (λ (x : Pred). x.state) found ∙ e))
-
--- ---- one state alone
-
-only-there : (n x s : ℕ) → marked (slice_set (replicate n false) x true) s ≡ true → s ≡ x
-only-there n x s e = elim (cases_eq s x) [
-  | inl same ↦ same
-  | inr other ↦ absurd (false≢true (sym (get_or-set_other (replicate n false) x s true false other ∙ nowhere) ∙ e))
-] where
-  nowhere : get_or (replicate n false) s false ≡ false
-  nowhere = elim (cases_lt s n) [ inl h ↦ get_or-replicate n s false false h | inr past ↦ get_or_past (replicate n false) s false (let l = length-replicate n false in omega (arith, l, past)) ]
-
-pub only-is : (n x : ℕ) (target : List Bool) → target ≡ slice_set (replicate n false) x true → x < n → marked target x ≡ true
-only-is n x target e h = ap (λ (xs : List Bool). marked xs x) e ∙ get_or-set_same (replicate n false) x true false (let l = length-replicate n false in omega (arith, l, h))
-
-pub toward_one : (m : Mdp) (ok : IsMdp m) (parts : List (Option ℕ)) (are : AreEnds m parts) (i x : ℕ) (target marks : List Bool) (ranks choices : List ℕ) → x < states_of m → part_of parts x ≡ Some i
-    → target ≡ slice_set (replicate (states_of m) false) x true → IsToward m parts i target marks ranks choices
-    → (s : ℕ) → s < states_of m → in_part parts i s ≡ true → (x ≡ s → ⊥) → get_or choices s 0 ≡ choice_to m parts x s
-toward_one m ok parts are i x target marks ranks choices hx part e pass s h in_i other =
-    toward-choice m ok parts are i (part-below parts x are.numbered i part) target marks ranks choices pass x hx (in_part-by parts i x part) (only-is (states_of m) x target e hx)
-    (λ t it. only-there (states_of m) x t (sym (ap (λ (xs : List Bool). marked xs t) e) ∙ (and_parts (in_part parts i t) (marked target t) it).1)) s h in_i (λ z. other (sym z))
