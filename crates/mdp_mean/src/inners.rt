@@ -122,8 +122,8 @@ fn solve_part(
     }
 }
 
-/// The best gains of all end components, or the first written term past width. Components are numbered by their least states, so one pass over all states
-/// finds a member of each.
+/// The best gains of all end components, or the first written term past width. Components are numbered by their least states, so one pass over
+/// all states finds a member of each.
 pub(crate) fn all_inners(
     alloc: Global,
     model: &Model,
