@@ -218,6 +218,38 @@ def earning(size):
     return made
 
 
+def staying_lines(states):
+    """Each state stays, so it is an end component by itself, and none is left."""
+    for s in range(states):
+        yield "state %d%s\naction [%d]\n%d : 1\n" % (s, " init" if s == 0 else "", s % 7, s)
+
+
+def staying(size):
+    def made(folder):
+        with open(folder + "/model.drn", "w") as file:
+            file.write(REWARDED % size)
+            file.writelines(staying_lines(size))
+        return ["solve", "model.drn", "exact", "max", "mean", "-"], "mdp-certificate 2"
+
+    return made
+
+
+def pair_lines(states):
+    """Two states each go to each other, so each pair is an end component, and none is left."""
+    for s in range(states):
+        yield "state %d%s\naction [%d]\n%d : 1\n" % (s, " init" if s == 0 else "", s % 7, s ^ 1)
+
+
+def pairs(size):
+    def made(folder):
+        with open(folder + "/model.drn", "w") as file:
+            file.write(REWARDED % size)
+            file.writelines(pair_lines(size))
+        return ["solve", "model.drn", "exact", "max", "mean", "-"], "mdp-certificate 2"
+
+    return made
+
+
 def needed(size):
     """A line: each state goes to the next one, and the last one is the goal, so no state can go."""
 
@@ -273,6 +305,12 @@ CASES = {
     "earning_500": earning(500),
     "earning_1000": earning(1000),
     "earning_2000": earning(2000),
+    "staying_10000": staying(10_000),
+    "staying_20000": staying(20_000),
+    "staying_100000": staying(100_000),
+    "pairs_500": pairs(500),
+    "pairs_1000": pairs(1000),
+    "pairs_2000": pairs(2000),
     "needed_500": needed(500),
     "needed_1000": needed(1000),
     "needed_2000": needed(2000),

@@ -12,3 +12,9 @@ mod Rounds
 mod Solving
 mod Starting
 mod Told
+mod OnlyColumns
+mod OnlySums
+mod OnlyState
+mod OnlyPath
+mod OnlyMakes
+mod OnlyAlone

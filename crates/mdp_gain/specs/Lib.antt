@@ -4,3 +4,5 @@ pub mod Laws
 pub mod Faults
 pub mod Classes
 pub mod Code
+pub mod OnlyTerms
+pub mod Only

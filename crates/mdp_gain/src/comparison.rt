@@ -18,7 +18,7 @@ use std::alloc::Global;
 use std::cmp::Ordering;
 
 /// Greater for the greatest gain, less for the least one.
-fn is_better(dir: Dir, order: Ordering) -> bool
+pub(crate) fn is_better(dir: Dir, order: Ordering) -> bool
     ensures { result ≡ is_better dir order }
 {
     match dir {
@@ -28,7 +28,7 @@ fn is_better(dir: Dir, order: Ordering) -> bool
 }
 
 /// A step at choice `c` of state `s`.
-fn at_choice<T>(step: Result<T, Wide>, s: u32, c: u32) -> Result<T, RoundError>
+pub(crate) fn at_choice<T>(step: Result<T, Wide>, s: u32, c: u32) -> Result<T, RoundError>
     ensures { result ≡ placed_at Compare s c step }
 {
     match step {
@@ -43,9 +43,9 @@ fn at_choice<T>(step: Result<T, Wide>, s: u32, c: u32) -> Result<T, RoundError>
 
 /// The best value at a state so far, and the choice that has it where it isn't the policy's own.
 #[derive(Clone, Copy)]
-struct Leader {
-    value: Frac,
-    choice: Option<u32>,
+pub(crate) struct Leader {
+    pub(crate) value: Frac,
+    pub(crate) choice: Option<u32>,
 }
 
 /// The leader after choice `c` of state `s` has been compared with it.
@@ -78,7 +78,7 @@ fn compared(
 }
 
 /// The choice that is taken, or the policy's own.
-fn or_kept(choice: Option<u32>, kept: u32) -> u32
+pub(crate) fn or_kept(choice: Option<u32>, kept: u32) -> u32
     ensures { result ≡ or_kept choice kept }
 {
     match choice {

@@ -11,10 +11,13 @@ mod evaluation;
 mod inner;
 mod laws;
 mod next_policy;
+mod only;
+mod only_path;
+mod only_round;
 mod round;
 mod solve;
 mod start;
 
 pub use inner::Inner;
 pub use laws::gain_law;
-pub use solve::solve_inner;
+pub use solve::{solve_inner, solve_inner_of};

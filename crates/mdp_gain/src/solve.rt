@@ -1,7 +1,7 @@
-ghost use Rattle.std.specs.Prelude.{◌≡◌, ◌<◌, length, map, filter, slice_index, IfOk};
+ghost use Rattle.std.specs.Prelude.{◌≡◌, ◌<◌, true, length, map, filter, slice_index, IfOk};
 ghost use Rattle.std.specs.List.{All, range_with_len};
 ghost use Rattle.mdp_spec.specs.Mdp.{value_at};
-ghost use Rattle.mdp_ends.specs.Ends.{count_of};
+ghost use Rattle.mdp_ends.specs.Ends.{count_of, in_part};
 ghost use Rattle.mdp_parts.specs.FoundEnds.{AreEndsOf};
 ghost use Rattle.mdp_policy_iteration.specs.Queries.{Solves};
 ghost use Rattle.mdp_unichain.specs.Component.{count, is_state};
@@ -12,6 +12,7 @@ ghost use Rattle.mdp_gain.specs.Best.{IsBestInner};
 use crate::best_policy::{Found, improve};
 use crate::component::EndComponent;
 use crate::inner::Inner;
+use crate::only::{is_only, solve_only};
 use crate::start::start_of;
 use mdp_elim::solution_law;
 use mdp_num::Frac;
@@ -121,4 +122,35 @@ pub fn solve_inner(
         Ok(found) => Ok(inner_of(alloc, states, &found)?),
         Err(error) => Err(at_states(alloc, &states, error).in_part(Part::Inner(i))),
     }
+}
+
+/// The same of the end component that holds state `s`. Where `s` is its only state, that takes time in proportion to the choices and entries of `s`.
+pub fn solve_inner_of(
+    alloc: Global,
+    model: &Model,
+    ends: &Ends,
+    i: u32,
+    s: u32,
+    m: u32,
+    dir: Dir,
+) -> Result<Inner, SolveError>
+    requires ends { AreEndsOf model.now ends.now }
+    requires part { i < count_of ends.now.parts }
+    requires state { in_part ends.now.parts i s ≡ true }
+    requires name { m < length model.now.names }
+    ensures path { Solves plain (EndsSo dir model.now ends.now.parts i m) result }
+    ensures best { IfOk result (λ found. IsBestInner dir model.now ends.now.parts i m (plain found)) }
+{
+    let component = EndComponent {
+        dir,
+        model,
+        ends,
+        number: i,
+        name: m,
+    };
+    component.known();
+    if is_only(&component, s) {
+        return solve_only(alloc, &component, s);
+    }
+    solve_inner(alloc, model, ends, i, m, dir)
 }

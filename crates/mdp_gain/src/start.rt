@@ -19,7 +19,7 @@ fn least_state(component: &EndComponent<'_, '_>) -> Option<u32>
 }
 
 /// The least choice of state `s` that is one of the component.
-fn least_choice(component: &EndComponent<'_, '_>, s: u32) -> Option<u32>
+pub(crate) fn least_choice(component: &EndComponent<'_, '_>, s: u32) -> Option<u32>
     requires given { IsGiven component.now }
     requires state { s < count (component_in component.now) }
     ensures { result ≡ find (λ c. (choice_at (component_in component.now) s c).inner) (range_with_len 0 (length (choices_at (component_in component.now) s))) }

@@ -1,0 +1,191 @@
+-- The path of an end component of one state, choice by choice.
+use Rattle.std.proofs.Common.{◌≡◌, ◌≢◌, ℕ, zero, suc, ◌+◌, ◌-◌, ◌<◌, ◌≤◌, ◌^◌, ◌⊎◌, min, inl, inr, Bool, true, false, if◌then◌else◌, List, [], ◌∷◌, length, map, filter, Option, Some, Result, Ok, Err, refl, sym, ◌∙◌, ap, subst, arith, pos}
+use Rattle.std.specs.List.{find, range_with_len}
+use Rattle.std.specs.Option.{unwrap_or}
+use Rattle.std.specs.Prelude.{slice_index}
+use Rattle.mdp_math.specs.Rational.{ℚ, of_int}
+use Rattle.mdp_math.proofs.Order.{0ℚ}
+use Rattle.mdp_elim.specs.Laws.{GivesSolutions}
+use Rattle.mdp_spec.specs.Mdp.{Mdp, states_of, value_at}
+use Rattle.mdp_rows.specs.declared.dir.Dir.{Dir}
+use Rattle.mdp_wide.specs.declared.too_wide.Kind.{Kind}
+use Rattle.mdp_wide.specs.declared.too_wide.Part.TheVariants.{Inner}
+use Rattle.mdp_wide.specs.Term.{WideTerm}
+use Rattle.mdp_ends.specs.Ends.{in_part}
+use Rattle.mdp_policy_iteration.specs.Iteration.{next, done, refused}
+use Rattle.mdp_policy_iteration.specs.Path.{Round, Refusal}
+use Rattle.mdp_policy_iteration.specs.Laws.{first}
+use Rattle.mdp_policy_iteration.specs.Ends.{error_of_part}
+use Rattle.mdp_policy_iteration.specs.Queries.{Solves}
+use Rattle.mdp_policy_iteration.specs.declared.solution.PathError.{PathError}
+use Rattle.mdp_policy_iteration.specs.declared.solution.PathError.TheVariants as error
+use Rattle.mdp_unichain.specs.Component.{Component, count, choices_at, choice_at, IsInner, row_by, IsPolicy, IsComponent}
+use Rattle.mdp_unichain.specs.Iteration.{EndsWith}
+use Rattle.mdp_unichain.specs.Part.{IsPart, members, inner_component}
+use Rattle.mdp_unichain.specs.Path as path
+use Rattle.mdp_unichain.specs.Path.{Found, IsStart}
+use Rattle.mdp_unichain.proofs.Ending.{better_left}
+use Rattle.mdp_unichain.proofs.Best.{inner_of_state}
+use Rattle.mdp_unichain.proofs.Improving.{inner-below}
+use Rattle.mdp_unichain.proofs.Parts.{member-below, part-state}
+use Rattle.mdp_unichain.proofs.Picking.{IsFirst}
+use Rattle.mdp_gain.specs.Only.{IsOnly, policy_of, values_of, Makes, Ends, IsErrorOf}
+use Rattle.mdp_gain.specs.Query.{Answer, answer_of, plain, EndsSo}
+use Rattle.mdp_gain.specs.declared.errors.RoundError.{RoundError}
+use Rattle.mdp_gain.specs.declared.errors.RoundError.TheVariants as fault
+use Rattle.mdp_gain.specs.declared.only_round.Settled.{Settled}
+use Rattle.mdp_gain.specs.declared.only_round.Turn.TheVariants as turn
+use Rattle.mdp_gain.proofs.Flagging.{find-or}
+use Rattle.mdp_gain.proofs.OnlyState.{policy-at, policy-is, only-reference, only-first}
+use Rattle.mdp_gain.proofs.OnlyColumns.{zeros}
+use Rattle.mdp_gain.proofs.OnlySums.{zero-at}
+use Rattle.mdp_gain.proofs.Rounds.{goes_on, ends_done, next_start, next_fewer}
+
+module _ (p : Component) (s : ℕ) (o : IsOnly p s) where
+  abbrev at : ℕ → ℕ → Round
+  at n c = record { number = n; policy = policy_of p s c }
+
+  starts : (c : ℕ) → IsInner p s c → IsStart p (policy_of p s c)
+  starts c i = record { is = policy-is p s o c i; reference = (s, only-reference p s o (row_by p (policy_of p s c))) }
+
+  module _ (known : IsComponent p) (gives : GivesSolutions) (n c d : ℕ) (i : IsInner p s c) (m : Makes p s n c (Ok (turn.Next d))) where
+    pub next-inner : IsInner p s d
+    next-inner =
+        subst (IsInner p s) (policy-at p s o d) (IsPolicy.inner (IsStart.is (next_start p known gives (at n c) (at (n + 1) d) (starts c i) m)) s (IsOnly.state o))
+
+    pub only-fewer : better_left p s (policy_of p s d) < better_left p s (policy_of p s c)
+    only-fewer =
+        next_fewer p known gives (at n c) (at (n + 1) d) (starts c i) m s s (only-reference p s o (row_by p (policy_of p s c))) (only-reference p s o (row_by p (policy_of p s d)))
+
+  -- ---- the end
+
+  abbrev Rest : ℕ → ℕ → ℕ → Type 0
+  Rest start n c = (r : Result Found Refusal) → EndsWith (path.Makes p) (at n c) r → EndsWith (path.Makes p) (first (policy_of p s start)) r
+
+  pub settled-ends : (start n c : ℕ) (found : Settled) → Rest start n c → Makes p s n c (Ok (turn.Done found)) → Ends p s start (Ok found)
+  settled-ends start n c found rest m =
+      rest (Ok (record { policy = policy_of p s found.choice; reference = s; values = values_of p found.gain }))
+      (ends_done p (at n c) (record { policy = policy_of p s found.choice; reference = s; values = values_of p found.gain }) m)
+
+  pub turned-on : (start n c d : ℕ) → Rest start n c → Makes p s n c (Ok (turn.Next d)) → Rest start (n + 1) d
+  turned-on start n c d rest m r e = rest r (goes_on p (at n c) (at (n + 1) d) r m e)
+
+  abbrev wide : ℕ → ℕ → Kind → ℕ → ℕ → Result Found Refusal
+  wide n c kind t d = Err (record { number = n; policy = policy_of p s c; place = record { kind = kind; node = t; choice = d } })
+
+  pub error-ends : (start n c round : ℕ) (e : RoundError) (x : PathError) → IsErrorOf e round c x → round ≡ min n (2 ^ 64 - 1) → Rest start n c → Makes p s n c (Err e) → Ends p s start (Err x)
+  error-ends start n c round (fault.Wide kind t d) (error.TooWide w) a capped rest m = (
+    n,
+    c,
+    a.0 ∙ capped,
+    a.1,
+    subst (λ (k : Kind). EndsWith (path.Makes p) (first (policy_of p s start)) (wide n c k w.node w.choice)) (sym a.2)
+        (subst (λ (u : ℕ). EndsWith (path.Makes p) (first (policy_of p s start)) (wide n c kind u w.choice)) (sym a.3)
+        (subst (λ (u : ℕ). EndsWith (path.Makes p) (first (policy_of p s start)) (wide n c kind t u)) (sym a.4)
+        (rest (wide n c kind t d) (1, (refused (record { number = n; policy = policy_of p s c; place = record { kind = kind; node = t; choice = d } }), m, refl))))),
+  )
+  error-ends start n c round (fault.Wide kind t d) error.Memory a capped rest m = tt
+  error-ends start n c round fault.Memory (error.TooWide w) a capped rest m = absurd a
+  error-ends start n c round fault.Memory error.Memory a capped rest m = tt
+
+-- ---- the start
+
+module _ (p : Component) (s : ℕ) (o : IsOnly p s) (start : ℕ) (is : start ≡ unwrap_or (find (λ c. (choice_at p s c).inner) (range_with_len 0 (length (choices_at p s)))) 0) where
+  start-first : IsFirst (λ c. (choice_at p s c).inner) (length (choices_at p s)) start
+  start-first =
+      let c = inner_of_state p s (IsOnly.state o) in
+      subst (λ (c : ℕ). IsFirst (λ c. (choice_at p s c).inner) (length (choices_at p s)) c) (sym is)
+      (find-or (λ c. (choice_at p s c).inner) (length (choices_at p s)) c.0 0 (inner-below p s c.0 c.1) c.1)
+
+  pub start-inner : IsInner p s start
+  start-inner = IsFirst.passes start-first
+
+  pub start-least : (d : ℕ) → IsInner p s d → start ≤ d
+  start-least d i = IsFirst.least start-first d (inner-below p s d i) i
+
+-- ---- the states of the part
+
+module _ (test : ℕ → Bool) where
+  filter_out : (a n : ℕ) → ((t : ℕ) → a ≤ t → test t ≡ false) → filter test (range_with_len a n) ≡ []
+  filter_out a zero h = refl
+  filter_out a (suc n) h =
+      ap (λ (b : Bool). if b then a ∷ filter test (range_with_len (a + 1) n) else filter test (range_with_len (a + 1) n)) (h a (omega arith))
+      ∙ filter_out (a + 1) n (λ t l. h t (omega arith))
+
+  module _ (s : ℕ) (here : test s ≡ true) (only : (t : ℕ) → test t ≡ true → t ≡ s) where
+    not_here : (t : ℕ) → t ≢ s → (b : Bool) → test t ≡ b → test t ≡ false
+    not_here t n true e = absurd (n (only t e))
+    not_here t n false e = e
+
+    filter_by : (a n : ℕ) (b : Bool) → test a ≡ b → a ≤ s → s < a + suc n → ((a + 1 ≤ s) → filter test (range_with_len (a + 1) n) ≡ s ∷ [])
+        → filter test (range_with_len a (suc n)) ≡ s ∷ []
+    filter_by a n true e l k later =
+        let same : a ≡ s = only a e in
+        ap (λ (b : Bool). if b then a ∷ filter test (range_with_len (a + 1) n) else filter test (range_with_len (a + 1) n)) e
+        ∙ ap (λ (xs : List ℕ). a ∷ xs) (filter_out (a + 1) n (λ t h. not_here t (λ q. omega (arith, h, q, same)) (test t) refl))
+        ∙ ap (λ (u : ℕ). u ∷ []) same
+    filter_by a n false e l k later =
+        ap (λ (b : Bool). if b then a ∷ filter test (range_with_len (a + 1) n) else filter test (range_with_len (a + 1) n)) e
+        ∙ later (after a (λ q. differ (sym e ∙ ap test q ∙ here)) l)
+      where
+        differ : (let b : Bool = false in b) ≡ true → ⊥
+        differ h = cc
+
+        after : (a : ℕ) → a ≢ s → a ≤ s → a + 1 ≤ s
+        after a h l = grind arith
+
+    filter-only : (a n : ℕ) → a ≤ s → s < a + n → filter test (range_with_len a n) ≡ s ∷ []
+    filter-only a zero l k = absurd (omega arith)
+    filter-only a (suc n) l k = filter_by a n (test a) refl l k (λ h. filter-only (a + 1) n h (omega arith))
+
+module _ (dir : Dir) (m : Mdp) (parts : List (Option ℕ)) (i r s : ℕ) (k : IsPart m parts i) (o : IsOnly (inner_component dir m parts i r) s) where
+  abbrev p : Component
+  p = inner_component dir m parts i r
+
+  member : (t : ℕ) → in_part parts i t ≡ true → t ≡ s
+  member t h = IsOnly.only o t (part-state m parts i k dir r t ∙ h)
+
+  own : in_part parts i s ≡ true
+  own = sym (part-state m parts i k dir r s) ∙ IsOnly.state o
+
+  members-only : members m parts i ≡ s ∷ []
+  members-only =
+      let l = member-below m parts i k s own in
+      filter-only (in_part parts i) s own member 0 (states_of m) (omega arith) (omega (arith, l))
+
+  module _ (start : ℕ) (inner : IsInner p s start) (least : (d : ℕ) → IsInner p s d → start ≤ d) where
+    abbrev answer : ℕ → ℚ → ℚ → Answer
+    answer c bias gain = record { states = s ∷ []; gain = gain; bias = bias ∷ []; choices = c ∷ [] }
+
+    pub answer-ends : (found : Settled) (a : Answer) → Ends p s start (Ok found) → a ≡ record { states = s ∷ []; gain = found.gain; bias = of_int (pos 0) ∷ []; choices = found.choice ∷ [] }
+        → EndsSo dir m parts i r (Ok a)
+    answer-ends found a h q = record {
+      start = policy_of p s start;
+      is_first = only-first p s o start inner least;
+      end = Ok (record { policy = policy_of p s found.choice; reference = s; values = values_of p found.gain });
+      path = h;
+      after =
+          ap (λ (x : Answer). (let y : Result Answer WideTerm = Ok x in y)) q
+          ∙ ap (λ (x : ℚ). (let y : Result Answer WideTerm = Ok (answer found.choice x found.gain) in y)) (sym (zero-at (count p) s))
+          ∙ ap (λ (c : ℕ). (let y : Result Answer WideTerm = Ok (answer c (value_at (zeros (count p)) s) found.gain) in y)) (sym (policy-at p s o found.choice))
+          ∙ ap (λ (ss : List ℕ). (let y : Result Answer WideTerm = Ok (answer_of ss (record { policy = policy_of p s found.choice; reference = s; values = values_of p found.gain })) in y)) (sym members-only);
+    }
+
+    abbrev term : ℕ → List ℕ → Kind → ℕ → ℕ → Result Answer WideTerm
+    term n policy kind t d = Err (record { part = Inner i; number = n; policy = policy; kind = kind; state = Some t; choice = Some d })
+
+    pub error-solves : (x : PathError) → Ends p s start (Err x) → Solves plain (EndsSo dir m parts i r) (Err (error_of_part (Inner i) x))
+    error-solves (error.TooWide w) h = (
+      h.0,
+      h.2,
+      record {
+        start = policy_of p s start;
+        is_first = only-first p s o start inner least;
+        end = Err (record { number = h.0; policy = policy_of p s h.1; place = record { kind = w.kind; node = w.node; choice = w.choice } });
+        path = h.4;
+        after =
+            ap (λ (xs : List ℕ). term h.0 xs w.kind w.node w.choice)
+            (h.3 ∙ ap (λ (c : ℕ). c ∷ []) (sym (policy-at p s o h.1)) ∙ ap (map (slice_index (policy_of p s h.1))) (sym members-only));
+      },
+    )
+    error-solves error.Memory h = tt

@@ -1,0 +1,21 @@
+use Rattle.std.proofs.Common.{◌∙◌, [], Ok, Result, sym, ap, arith}
+use Rattle.std.proofs.lemmas.Result.{err_from_is_err_and, IfErr-at_err}
+use Rattle.mdp_math.specs.Result.{◌>>=◌}
+use Rattle.mdp_wide.specs.declared.too_wide.Kind.TheVariants.{Compare}
+use Rattle.mdp_policy_iteration.specs.Candidates.{Best}
+use Rattle.mdp_policy_iteration.specs.Path.{or_kept}
+use Rattle.mdp_policy_iteration.specs.Places.{Place}
+use Rattle.mdp_gain.specs.Code.{component_in}
+use Rattle.mdp_gain.proofs.Answering.{placed-err, says, answers_err, wide-from}
+use Rattle.mdp_gain.proofs.only_round.choice_over.Goals as goal
+
+pub returns-in_err-best : goal.returns-in_err-best
+returns-in_err-best c =
+    let p = component_in c.args.component.now in
+    let e = err_from_is_err_and c.from_residual.result c.from_residual.ensures.1 in
+    let placed = placed-err Compare c.args.s c.loop-c.c c.compared.result c.in_err-best.field-0.0 (sym c.at_choice.ensures ∙ c.in_err-best.was) in
+    let none = IfErr-at_err _ placed.step_is c.compared.ensures.wide in
+    answers_err _ c.from_residual.result e.0 _ e.1
+    (says Compare c.args.s c.loop-c.c e.0 _ (e.2 ∙ placed.error_is)
+    (ap (λ (r : Result Best Place). r >>= (λ b. Ok (or_kept b.choice c.args.kept)))
+    (wide-from p [] c.args.s c.args.present c.loop-c.c _ c.loop-c.invariant none (omega arith))))

@@ -1,0 +1,74 @@
+-- An end component of one state: each of its policies takes one choice there, with bias 0.
+use Rattle.std.specs.Prelude.{◌≡◌, ℕ, ◌+◌, ◌==◌, Bool, not, ◌||◌, true, List, [], ◌∷◌, length, map, Result, Ok, Err, if◌then◌else◌, pos}
+use Rattle.std.specs.List.{list_all, range_with_len}
+use Rattle.mdp_math.specs.Rational.{ℚ, of_int}
+use Rattle.mdp_math.specs.Result.{◌>>=◌}
+use Rattle.mdp_spec.specs.Mdp.{Entry}
+use Rattle.mdp_policy_iteration.specs.Iteration.{next, done, refused}
+use Rattle.mdp_policy_iteration.specs.Places.{Place}
+use Rattle.mdp_policy_iteration.specs.Path.{or_kept}
+use Rattle.mdp_policy_iteration.specs.Laws.{first}
+use Rattle.mdp_policy_iteration.specs.Ends.{capped}
+use Rattle.mdp_policy_iteration.specs.declared.solution.PathError.{PathError}
+use Rattle.mdp_policy_iteration.specs.declared.solution.PathError.TheVariants as error
+use Rattle.mdp_unichain.specs.Component.{Component, count, choices_at, choice_at, is_state}
+use Rattle.mdp_unichain.specs.Written.{Values, best_of}
+use Rattle.mdp_unichain.specs.Iteration.{EndsWith}
+use Rattle.mdp_unichain.specs.Path as path
+use Rattle.mdp_gain.specs.declared.errors.RoundError.{RoundError}
+use Rattle.mdp_gain.specs.declared.errors.RoundError.TheVariants as fault
+use Rattle.mdp_gain.specs.declared.only_round.Settled.{Settled}
+use Rattle.mdp_gain.specs.declared.only_round.Turn.{Turn}
+use Rattle.mdp_gain.specs.declared.only_round.Turn.TheVariants as turn
+
+-- s is a state of the component, and there is no other
+pub record IsOnly (p : Component) (s : ℕ) : Type 0 where
+  pub state : is_state p s ≡ true
+  pub only : (t : ℕ) → is_state p t ≡ true → t ≡ s
+
+-- a row leads to s alone
+abbrev pub leads_to_only : ℕ → List Entry → Bool
+leads_to_only s row = list_all (λ y. y.target == s) row
+
+-- choice c of state s is none of the component, or stays at s
+abbrev pub stays : Component → ℕ → ℕ → Bool
+stays p s c = not (choice_at p s c).inner || leads_to_only s (choice_at p s c).row
+
+-- the policy that takes choice c of the only state
+abbrev pub policy_of : Component → ℕ → ℕ → List ℕ
+policy_of p s c = map (λ t. if t == s then c else 0) (range_with_len 0 (count p))
+
+-- its values with this gain
+abbrev pub values_of : Component → ℚ → Values
+values_of p gain = record { gain = gain; bias = map (λ t. of_int (pos 0)) (range_with_len 0 (count p)) }
+
+-- the choice of state s that is best, or the one that it has, where the present value is this and all biases are 0
+abbrev pub choice_over : Component → ℕ → ℕ → ℚ → Result ℕ Place
+choice_over p s kept present = best_of p [] s present (length (choices_at p s)) >>= (λ best. Ok (or_kept best.choice kept))
+
+-- round n of the policy that takes choice c: its end, the next choice, the place of the first term past width, or want of memory
+abbrev pub Makes : Component → ℕ → ℕ → ℕ → Result Turn RoundError → Type 0
+Makes p s n c (Ok (turn.Done found)) =
+    path.Makes p (record { number = n; policy = policy_of p s c })
+    (done (record { policy = policy_of p s found.choice; reference = s; values = values_of p found.gain }))
+Makes p s n c (Ok (turn.Next d)) = path.Makes p (record { number = n; policy = policy_of p s c }) (next (record { number = n + 1; policy = policy_of p s d }))
+Makes p s n c (Err (fault.Wide kind t d)) =
+    path.Makes p (record { number = n; policy = policy_of p s c })
+    (refused (record { number = n; policy = policy_of p s c; place = record { kind = kind; node = t; choice = d } }))
+Makes p s n c (Err fault.Memory) = Unit {0}
+
+-- the path's end, from a choice
+abbrev pub Ends : Component → ℕ → ℕ → Result Settled PathError → Type 0
+Ends p s start (Ok found) =
+    EndsWith (path.Makes p) (first (policy_of p s start)) (Ok (record { policy = policy_of p s found.choice; reference = s; values = values_of p found.gain }))
+Ends p s start (Err (error.TooWide w)) =
+    (n : ℕ) × (c : ℕ) × (w.round ≡ capped n) × (w.policy.items ≡ c ∷ [])
+    × EndsWith (path.Makes p) (first (policy_of p s start))
+    (Err (record { number = n; policy = policy_of p s c; place = record { kind = w.kind; node = w.node; choice = w.choice } }))
+Ends p s start (Err error.Memory) = Unit {0}
+
+-- the error of a round, with the round and its choice, or want of memory
+abbrev pub IsErrorOf : RoundError → ℕ → ℕ → PathError → Type 0
+IsErrorOf (fault.Wide kind t d) round c (error.TooWide w) = (w.round ≡ round) × (w.policy.items ≡ c ∷ []) × (w.kind ≡ kind) × (w.node ≡ t) × (w.choice ≡ d)
+IsErrorOf fault.Memory round c (error.TooWide w) = ⊥
+IsErrorOf e round c error.Memory = Unit {0}
