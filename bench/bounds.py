@@ -11,8 +11,8 @@
     random STATES     three choices each, to four states that are drawn from all: the greatest and the least mean cost of a step
     random_7 STATES   the same with denominators of 7 digits, and rewards of three digits
 
-For each query: the states and transitions; the time of the whole program at DIGITS digits, reading and writing too, its peak memory for a transition, and
-the greatest finite gap between lower and upper; what `bounds-check` says, and its time; and the time of the iteration alone, over the states as they are
+For each query: the states and transitions; the time of the whole program at DIGITS digits, reading and writing too, and of reading the model alone (a check
+of an empty certificate); its peak memory for a transition, and the greatest finite gap between lower and upper; what `bounds-check` says, and its time; and the time of the iteration alone, over the states as they are
 numbered. For probabilities and rewards that is interval iteration, until the greatest gap is at most GAP times the greatest value. For a probability it
 begins at 0 and 1 (states to which the graph gives 0 are at 0 from the start, as their upper values would not fall there). For a reward it begins at 0 and at
 a multiple of the greatest expected number of steps of any policy, which is doubled until a sweep raises it nowhere: then it is an upper bound, since all
@@ -296,6 +296,7 @@ def measure(kind, size, query, path, folder):
     cert, binary = folder / "cert", folder / "packed"
     text, seconds, memory = timed([PROGRAM, "bounds", path, "exact", *query, str(DIGITS)], folder)
     cert.write_bytes(text)
+    _, reading, _ = timed([PROGRAM, "bounds-check", path, "exact", "/dev/null"], folder)
     said, checking, _ = timed([PROGRAM, "bounds-check", path, "exact", cert], folder)
     model = Model(path.read_bytes(), False)
     found = list(columns(text, 4 if query[1] == "mean" else 2))
@@ -309,7 +310,7 @@ def measure(kind, size, query, path, folder):
     binary.write_bytes(packed(model, query))
     iteration = iterated(folder, binary, GAP)
     transitions = sum(len(row) for choices in model.choices for _, row in choices)
-    print(f"{kind} {size}, {' '.join(query)}: {len(model.choices)} states, {transitions} transitions; bounds {seconds:.2f} s, {memory / transitions:.0f} B a transition,"
+    print(f"{kind} {size}, {' '.join(query)}: {len(model.choices)} states, {transitions} transitions; bounds {seconds:.2f} s, reading {reading:.2f} s, {memory / transitions:.0f} B a transition,"
           + f" gap {float(gap):.2e}, {over}" + f" and {unbounded} upper values inf" * (unbounded > 0)
           + f"; bounds-check {said.decode().strip()} in {checking:.2f} s; iteration {iteration[0]} s, {iteration[1]} sweeps, gap {iteration[2]}", flush=True)
 
