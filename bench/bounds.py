@@ -11,16 +11,17 @@
     random STATES     three choices each, to four states that are drawn from all: the greatest and the least mean cost of a step
     random_7 STATES   the same with denominators of 7 digits, and rewards of three digits
 
-For each query: the states and transitions; the time of the whole program at DIGITS digits, reading and writing too, and of reading the model alone (a check
-of an empty certificate); its peak memory for a transition, and the greatest finite gap between lower and upper; what `bounds-check` says, and its time; and the time of the iteration alone, over the states as they are
-numbered. For probabilities and rewards that is interval iteration, until the greatest gap is at most GAP times the greatest value. For a probability it
-begins at 0 and 1 (states to which the graph gives 0 are at 0 from the start, as their upper values would not fall there). For a reward it begins at 0 and at
-a multiple of the greatest expected number of steps of any policy, which is doubled until a sweep raises it nowhere: then it is an upper bound, since all
-policies of these models reach a goal. For a mean payoff it is relative value iteration, where the gain lies between the least and the greatest change,
-until these are within GAP times the greatest one. LIMIT seconds end an iteration.
-The gap is set beside the number of steps: for a probability or a reward the greatest expected number of steps, under the policy that was found, until a
-state whose value is decided (a goal, or lower = upper = 0 or 1), by an evaluation in floats. What is printed is the gap in units of 10^-DIGITS over that
-number, for a mean payoff the gap in these units, and whether that is at most MOST.
+For each query: the states and transitions; the time of the whole program at DIGITS digits, reading and writing too, and of reading the model alone
+(a check of an empty certificate); its peak memory for a transition; the greatest finite gap between lower and upper; what `bounds-check` says, and
+its time; and the time of the iteration alone, over the states as they are numbered. For probabilities and rewards that is interval iteration, until
+the greatest gap is at most GAP times the greatest value. For a probability it begins at 0 and 1 (states to which the graph gives 0 are at 0 from the
+start, as their upper values would not fall there). For a reward it begins at 0 and at a multiple of the greatest expected number of steps of any
+policy, which is doubled until a sweep raises it nowhere: then it is an upper bound, since all policies of these models reach a goal. For a mean
+payoff it is relative value iteration, where the gain lies between the least and the greatest change, until these are within GAP times the greatest
+one. LIMIT seconds end an iteration.
+The gap is set beside the number of steps: for a probability or a reward the greatest expected number of steps, under the policy that was found,
+until a state whose value is decided (a goal, or lower = upper = 0 or 1), by an evaluation in floats. What is printed is the gap in units of
+10^-DIGITS over that number, for a mean payoff the gap in these units, and whether that is at most MOST.
 Usage: bench/bounds.py [coin BOUND | roulette GOAL | layers STATES ..] (some of each if nothing is said). It needs gcc and GNU time.
 """
 
@@ -41,7 +42,10 @@ from drn_model import Model  # noqa: E402
 
 PROGRAM = TOP / "bin" / "mdp"
 DIGITS, GAP, LIMIT, WIDTH, MOST = 12, "1e-6", 60, 64, 100
-MODELS = "coin 2 coin 10 coin 50 roulette 100 roulette 1000 layers 1000 layers 10000 layers 100000 random 400 random 1000 random 2000 random_7 400 random_7 2000"
+MODELS = (
+    "coin 2 coin 10 coin 50 roulette 100 roulette 1000 layers 1000 layers 10000 layers 100000 random 400 random 1000 random 2000 random 10000"
+    " random_7 400 random_7 2000"
+)
 QUERIES = {
     "coin": ["min reach heads", "max reward steps finished"],
     "roulette": ["max reach rich"],
@@ -310,9 +314,13 @@ def measure(kind, size, query, path, folder):
     binary.write_bytes(packed(model, query))
     iteration = iterated(folder, binary, GAP)
     transitions = sum(len(row) for choices in model.choices for _, row in choices)
-    print(f"{kind} {size}, {' '.join(query)}: {len(model.choices)} states, {transitions} transitions; bounds {seconds:.2f} s, reading {reading:.2f} s, {memory / transitions:.0f} B a transition,"
-          + f" gap {float(gap):.2e}, {over}" + f" and {unbounded} upper values inf" * (unbounded > 0)
-          + f"; bounds-check {said.decode().strip()} in {checking:.2f} s; iteration {iteration[0]} s, {iteration[1]} sweeps, gap {iteration[2]}", flush=True)
+    print(
+        f"{kind} {size}, {' '.join(query)}: {len(model.choices)} states, {transitions} transitions;",
+        f"bounds {seconds:.2f} s, reading {reading:.2f} s, {memory / transitions:.0f} B a transition, gap {float(gap):.2e},",
+        f"{over}{f' and {unbounded} upper values inf' * (unbounded > 0)};",
+        f"bounds-check {said.decode().strip()} in {checking:.2f} s; iteration {iteration[0]} s, {iteration[1]} sweeps, gap {iteration[2]}",
+        flush=True,
+    )
 
 
 def main():
