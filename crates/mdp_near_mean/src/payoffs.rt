@@ -85,31 +85,6 @@ impl Payoffs<'_> {
         Ok(())
     }
 
-    /// How many entries a state's rows have.
-    fn entries(self, s: u32) -> usize {
-        let model = self.model;
-        let mut entries = 0usize;
-        for c in 0..self.choices(s) {
-            if s < model.states() && c < model.choices(s) {
-                entries = entries.saturating_add(model.row(s, c).targets.len());
-            }
-        }
-        entries
-    }
-
-    /// How many choices and how many entries flagged states have.
-    fn sizes_at(self, is_kept: &[bool]) -> (usize, usize) {
-        let mut rows = 0usize;
-        let mut entries = 0usize;
-        for s in 0..self.model.states() {
-            if flag_at(is_kept, s) {
-                rows = rows.saturating_add(self.choices(s) as usize);
-                entries = entries.saturating_add(self.entries(s));
-            }
-        }
-        (rows, entries)
-    }
-
     /// The rows of all choices of flagged states, where each state is a node.
     pub(crate) fn rows_at(
         self,
@@ -118,8 +93,7 @@ impl Payoffs<'_> {
         scale: Scale,
     ) -> Result<Rows, AllocError> {
         let nodes = self.alone(alloc)?;
-        let (most_rows, most_entries) = self.sizes_at(is_kept);
-        let mut rows = Rows::with_capacity(alloc, nodes.count(), most_rows, most_entries, scale)?;
+        let mut rows = Rows::sized(alloc, self.model, nodes.count(), is_kept, scale)?;
         for s in 0..self.model.states() {
             rows.push_node()?;
             if flag_at(is_kept, s) {

@@ -98,7 +98,7 @@ impl Rows {
     }
 
     /// No row yet, of so many nodes, with memory for so many rows and so many entries.
-    pub fn with_capacity(
+    pub(crate) fn with_capacity(
         alloc: Global,
         nodes: u32,
         rows: usize,
