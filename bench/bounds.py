@@ -11,20 +11,20 @@
     random STATES     three choices each, to four states that are drawn from all: the greatest and the least mean cost of a step
     random_7 STATES   the same with denominators of 7 digits, and rewards of three digits
 
-For each query: the states and transitions; the time of the whole program at DIGITS digits, reading and writing too, its peak memory for a transition, and
-the greatest finite gap between lower and upper; what `bounds-check` says, and its time; and the time of the iteration alone, over the states as they are
-numbered. For a probability that is interval iteration until its greatest gap is at most GAP (states to which the graph gives 0 are at 0 from the start,
-as its upper values would not fall there). For a reward it is value iteration from 0 until no value changes by more than GAP, and then upper values, GAP
-above, that are iterated too until they all fall, so that they are bounds; where they rise, it goes on from below to half of that change (optimistic value
-iteration, Hartmanns and Kaminski 2020). For a mean payoff it is relative value iteration until the least and the greatest change are within GAP. LIMIT
-seconds end an iteration.
-The gap is set beside the number of steps: for a probability or a reward the greatest expected number of steps, under the policy that was found, until a
-state whose value is decided (a goal, or lower = upper = 0 or 1), by an evaluation in floats. `gap over steps` is the gap in units of 10^-DIGITS over that
-number, for a mean payoff the gap in these units.
-Usage: bench/bounds.py [coin BOUND | roulette GOAL | layers STATES ..] (some of each if nothing is said). It needs gcc.
+For each query: the states and transitions; the time of the whole program at DIGITS digits, reading and writing too, and of reading the model alone
+(a check of an empty certificate); its peak memory for a transition; the greatest finite gap between lower and upper; what `bounds-check` says, and
+its time; and the time of the iteration alone, over the states as they are numbered. For probabilities and rewards that is interval iteration, until
+the greatest gap is at most GAP times the greatest value. For a probability it begins at 0 and 1 (states to which the graph gives 0 are at 0 from the
+start, as their upper values would not fall there). For a reward it begins at 0 and at a multiple of the greatest expected number of steps of any
+policy, which is doubled until a sweep raises it nowhere: then it is an upper bound, since all policies of these models reach a goal. For a mean
+payoff it is relative value iteration, where the gain lies between the least and the greatest change, until these are within GAP times the greatest
+one. LIMIT seconds end an iteration.
+The gap is set beside the number of steps: for a probability or a reward the greatest expected number of steps, under the policy that was found,
+until a state whose value is decided (a goal, or lower = upper = 0 or 1), by an evaluation in floats. What is printed is the gap in units of
+10^-DIGITS over that number, for a mean payoff the gap in these units, and whether that is at most MOST.
+Usage: bench/bounds.py [coin BOUND | roulette GOAL | layers STATES ..] (some of each if nothing is said). It needs gcc and GNU time.
 """
 
-import os
 import pathlib
 import random
 import struct
@@ -41,8 +41,11 @@ sys.path.insert(0, str(TOP / "tools"))
 from drn_model import Model  # noqa: E402
 
 PROGRAM = TOP / "bin" / "mdp"
-DIGITS, GAP, LIMIT, WIDTH = 12, "1e-6", 60, 64
-MODELS = "coin 2 coin 10 coin 50 roulette 100 roulette 1000 layers 1000 layers 10000 layers 100000 random 400 random 1000 random 2000 random_7 400 random_7 2000"
+DIGITS, GAP, LIMIT, WIDTH, MOST = 12, "1e-6", 60, 64, 100
+MODELS = (
+    "coin 2 coin 10 coin 50 roulette 100 roulette 1000 layers 1000 layers 10000 layers 100000 random 400 random 1000 random 2000 random 10000"
+    " random_7 400 random_7 2000"
+)
 QUERIES = {
     "coin": ["min reach heads", "max reward steps finished"],
     "roulette": ["max reach rich"],
@@ -84,36 +87,41 @@ static void sweep(double *x, const int *order, double *rise, double *fall) {
     }
     sweeps++;
 }
+/* Sweeps over lower and upper values until all gaps are small beside the greatest value. */
+static void narrow(double gap) {
+    for (double size = 0; worst > gap * size && spent() < limit; sweeps++) {
+        worst = size = 0;
+        for (int s = 0; s < n; s++) {
+            if (fixed[s] < 0) low[s] = backup(s, low), high[s] = backup(s, high);
+            if (high[s] - low[s] > worst) worst = high[s] - low[s];
+            if (low[s] > size) size = low[s];
+        }
+    }
+}
 static void reach(double gap) {
     for (int s = 0; s < n; s++) { low[s] = fixed[s] == 1; high[s] = fixed[s] != 0; }
-    while (worst > gap && spent() < limit) {
-        worst = 0;
-        for (int s = 0; s < n; s++) {
-            if (fixed[s] >= 0) continue;
-            low[s] = backup(s, low);
-            high[s] = backup(s, high);
-            if (high[s] - low[s] > worst) worst = high[s] - low[s];
-        }
-        sweeps++;
-    }
+    narrow(gap);
+}
+/* Whether a sweep raises no value. */
+static int is_upper(const double *x) {
+    for (int s = 0; s < n; s++) if (fixed[s] < 0 && backup(s, x) > x[s]) return 0;
+    return 1;
 }
 static void total(double gap) {
-    double enough = gap, rise, fall;
-    while (spent() < limit) {
-        do sweep(low, 0, &rise, &fall); while (rise > enough && spent() < limit);
-        for (int s = 0; s < n; s++) high[s] = low[s] + (fixed[s] < 0 ? gap : 0);
-        long most = sweeps / 10 + 10;
-        for (long k = 0; k < most && spent() < limit; k++) {
-            sweep(high, 0, &rise, &fall);
-            if (rise == 0 || fall == 0) break;
-        }
-        if (rise == 0) break;
-        enough /= 2;
-    }
-    if (rise == 0) { worst = 0; for (int s = 0; s < n; s++) if (high[s] - low[s] > worst) worst = high[s] - low[s]; }
+    double rise, fall, *own = reward, *one = malloc(8 * head[1]), *most = calloc(n, 8), times = 1;
+    int least_sought = least;
+    for (int c = 0; c < head[1]; c++) one[c] = 1;
+    reward = one, least = 0;
+    do sweep(most, 0, &rise, &fall); while (rise > 0.5 && spent() < limit);
+    reward = own, least = least_sought;
+    do {
+        for (int s = 0; s < n; s++) high[s] = times * most[s];
+        times *= 2;
+    } while (!is_upper(high) && spent() < limit);
+    narrow(gap);
 }
 static void mean(double gap) {
-    while (worst > gap && spent() < limit) {
+    for (double size = 0; worst > gap * size && spent() < limit; sweeps++) {
         double lowest = 1e300, greatest = -1e300;
         for (int s = 0; s < n; s++) {
             high[s] = backup(s, low);
@@ -123,8 +131,7 @@ static void mean(double gap) {
         }
         double zero = high[0];
         for (int s = 0; s < n; s++) low[s] = (low[s] + high[s] - zero) / 2;
-        worst = greatest - lowest;
-        sweeps++;
+        worst = greatest - lowest, size = greatest;
     }
 }
 /* The greatest value, from below, by sweeps in the order in which a search in depth leaves the states. */
@@ -260,14 +267,12 @@ def text_of(kind, size):
     return subprocess.run([sys.executable, TOP / "examples" / script, *words], stdout=subprocess.PIPE, check=True).stdout
 
 
-def timed(words):
+def timed(words, folder):
     """What a command writes, its time in seconds, and its peak memory in bytes."""
+    peak = folder / "peak"
     start = time.monotonic()
-    with subprocess.Popen(words, stdout=subprocess.PIPE) as process:
-        text = process.stdout.read()
-        _, _, usage = os.wait4(process.pid, 0)
-        process.returncode = 0
-    return text, time.monotonic() - start, usage.ru_maxrss * 1024
+    text = subprocess.run(["time", "-f", "%M", "-o", peak, *words], stdout=subprocess.PIPE, check=False).stdout
+    return text, time.monotonic() - start, int(peak.read_text().split()[-1]) * 1024
 
 
 def columns(text, place):
@@ -293,24 +298,29 @@ def iterated(folder, binary, gap):
 
 def measure(kind, size, query, path, folder):
     cert, binary = folder / "cert", folder / "packed"
-    text, seconds, memory = timed([PROGRAM, "bounds", path, "exact", *query, str(DIGITS)])
+    text, seconds, memory = timed([PROGRAM, "bounds", path, "exact", *query, str(DIGITS)], folder)
     cert.write_bytes(text)
-    said, checking, _ = timed([PROGRAM, "bounds-check", path, "exact", cert])
+    _, reading, _ = timed([PROGRAM, "bounds-check", path, "exact", "/dev/null"], folder)
+    said, checking, _ = timed([PROGRAM, "bounds-check", path, "exact", cert], folder)
     model = Model(path.read_bytes(), False)
     found = list(columns(text, 4 if query[1] == "mean" else 2))
     gap, unbounded = gap_of(found)
-    if query[1] == "mean":
-        over = f"{float(gap * 10**DIGITS):.3g} units"
-    else:
+    units, steps, over = float(gap * 10**DIGITS), 1.0, ""
+    if query[1] != "mean":
         binary.write_bytes(packed_policy(model, query, found))
-        spent, _, steps = iterated(folder, binary, "1e-9")
-        over = f"{'at least ' * (float(spent) >= LIMIT)}{float(steps):.4g} steps, gap over steps {float(gap * 10**DIGITS) / float(steps):.3g}"
+        spent, _, steps = (float(word) for word in iterated(folder, binary, "1e-9"))
+        over = f" over {'at least ' * (spent >= LIMIT)}{steps:.4g} steps"
+    over = f"{units / steps:.3g} units{over}, at most {MOST}: {'yes' if units <= MOST * steps else 'no'}"
     binary.write_bytes(packed(model, query))
     iteration = iterated(folder, binary, GAP)
     transitions = sum(len(row) for choices in model.choices for _, row in choices)
-    print(f"{kind} {size}, {' '.join(query)}: {len(model.choices)} states, {transitions} transitions; bounds {seconds:.2f} s, {memory / transitions:.0f} B a transition,"
-          + f" gap {float(gap):.2e}, {over}" + f" and {unbounded} upper values inf" * (unbounded > 0)
-          + f"; bounds-check {said.decode().strip()} in {checking:.2f} s; iteration {iteration[0]} s, {iteration[1]} sweeps, gap {iteration[2]}", flush=True)
+    print(
+        f"{kind} {size}, {' '.join(query)}: {len(model.choices)} states, {transitions} transitions;",
+        f"bounds {seconds:.2f} s, reading {reading:.2f} s, {memory / transitions:.0f} B a transition, gap {float(gap):.2e},",
+        f"{over}{f' and {unbounded} upper values inf' * (unbounded > 0)};",
+        f"bounds-check {said.decode().strip()} in {checking:.2f} s; iteration {iteration[0]} s, {iteration[1]} sweeps, gap {iteration[2]}",
+        flush=True,
+    )
 
 
 def main():

@@ -71,7 +71,7 @@ impl Earning<'_> {
         is_finite: &[bool],
         scale: Scale,
     ) -> Result<Rows, AllocError> {
-        let mut rows = Rows::empty(alloc, nodes.count(), scale)?;
+        let mut rows = Rows::sized(alloc, self.model, nodes.count(), is_open, scale)?;
         let mut last = None;
         for s in nodes.order() {
             let node = nodes.of(*s);

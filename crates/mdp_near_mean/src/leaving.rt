@@ -56,16 +56,19 @@ pub(crate) fn leaving_rows(
 }
 
 /// What a choice earns over the bias and the gain of its state, in the row's denominator times its unit, rounded up. None past 128 bits, or where
-/// a value isn't known. `all` are the rows of all choices.
+/// a value isn't known. In `alone` each state is a node, with the rows of all its choices.
 fn earned_over(
-    all: &Rows,
+    alone: &Rows,
     row: &WholeRow,
     bias: &[Option<i128>],
     gain: Option<i128>,
 ) -> Option<i128> {
-    let place = all.range_of(row.state).0.checked_add(row.choice as usize)?;
-    let own = all.row(place)?;
-    let excess = all.excess(own, bias, Bound::Upper)?;
+    let place = alone
+        .range_of(row.state)
+        .0
+        .checked_add(row.choice as usize)?;
+    let own = alone.row(place)?;
+    let excess = alone.excess(own, bias, Bound::Upper)?;
     let steps = gain_in_unit(gain?, own.unit, Bound::Upper)?;
     excess.checked_sub(own.denominator.checked_mul(steps)?)
 }
@@ -73,7 +76,7 @@ fn earned_over(
 /// Gives the rows of a node as rewards what their choices earn over the bias and the gain of their states. Whether that was possible.
 fn offset_node(
     rows: &mut Rows,
-    all: &Rows,
+    alone: &Rows,
     bias: &[Option<i128>],
     node: u32,
     gain: Option<i128>,
@@ -81,7 +84,7 @@ fn offset_node(
     let (from, to) = rows.range_of(node);
     for place in from..to {
         let earned = match rows.row(place) {
-            Some(row) => earned_over(all, row, bias, gain),
+            Some(row) => earned_over(alone, row, bias, gain),
             None => None,
         };
         match earned {
@@ -95,13 +98,13 @@ fn offset_node(
 /// Gives the rows of all nodes as rewards what their choices earn over the bias and the gains of their states. Whether that was possible.
 pub(crate) fn offset_rows(
     rows: &mut Rows,
-    all: &Rows,
+    alone: &Rows,
     nodes: &Nodes,
     bias: &[Option<i128>],
     gains: &[Option<i128>],
 ) -> bool {
     for node in 0..nodes.count() {
-        if !offset_node(rows, all, bias, node, value_at(gains, node)) {
+        if !offset_node(rows, alone, bias, node, value_at(gains, node)) {
             return false;
         }
     }

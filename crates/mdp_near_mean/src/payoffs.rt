@@ -1,8 +1,7 @@
 //! The rows of choices with their rewards. For the least mean payoff the rewards are negated, so that the greatest is sought alone.
 
-use mdp_near::ChoiceFlags;
 use mdp_num::Frac;
-use mdp_refinement::{Nodes, Rows, Scale, above_magnitude, digits_of};
+use mdp_refinement::{Nodes, Rows, Scale, above_magnitude, digits_of, flag_at};
 use mdp_rows::{Dir, Model};
 use std::alloc::{AllocError, Global};
 
@@ -57,7 +56,13 @@ impl Payoffs<'_> {
     }
 
     /// Appends the row of a choice with its reward, if there is such a choice.
-    fn push(self, rows: &mut Rows, nodes: &Nodes, s: u32, c: u32) -> Result<(), AllocError> {
+    pub(crate) fn push(
+        self,
+        rows: &mut Rows,
+        nodes: &Nodes,
+        s: u32,
+        c: u32,
+    ) -> Result<(), AllocError> {
         let model = self.model;
         if s < model.states() && c < model.choices(s) {
             let reward = self.reward(s, c);
@@ -66,35 +71,41 @@ impl Payoffs<'_> {
         Ok(())
     }
 
-    /// Appends the rows of the flagged choices of a state.
-    fn push_flagged(
-        self,
-        rows: &mut Rows,
-        nodes: &Nodes,
-        flags: &ChoiceFlags,
-        s: u32,
-    ) -> Result<(), AllocError> {
+    /// Each state as a node of its own.
+    pub(crate) fn alone(self, alloc: Global) -> Result<Nodes, AllocError> {
+        let parts = vec![in alloc; None; self.model.states() as usize]?;
+        Nodes::new(alloc, &parts)
+    }
+
+    /// Appends the rows of all choices of a state.
+    fn push_each(self, rows: &mut Rows, nodes: &Nodes, s: u32) -> Result<(), AllocError> {
         for c in 0..self.choices(s) {
-            if flags.at(s, c) {
-                self.push(rows, nodes, s, c)?;
-            }
+            self.push(rows, nodes, s, c)?;
         }
         Ok(())
     }
 
-    /// The rows of the flagged choices, where each state is a node.
-    pub(crate) fn flagged_rows(
+    /// The rows of all choices of flagged states, where each state is a node.
+    pub(crate) fn rows_at(
         self,
         alloc: Global,
-        nodes: &Nodes,
-        flags: &ChoiceFlags,
+        is_kept: &[bool],
         scale: Scale,
     ) -> Result<Rows, AllocError> {
-        let mut rows = Rows::empty(alloc, nodes.count(), scale)?;
+        let nodes = self.alone(alloc)?;
+        let mut rows = Rows::sized(alloc, self.model, nodes.count(), is_kept, scale)?;
         for s in 0..self.model.states() {
             rows.push_node()?;
-            self.push_flagged(&mut rows, nodes, flags, s)?;
+            if flag_at(is_kept, s) {
+                self.push_each(&mut rows, &nodes, s)?;
+            }
         }
         Ok(rows)
+    }
+
+    /// The rows of all choices, where each state is a node.
+    pub(crate) fn all_rows(self, alloc: Global, scale: Scale) -> Result<Rows, AllocError> {
+        let every = vec![in alloc; true; self.model.states() as usize]?;
+        self.rows_at(alloc, &every, scale)
     }
 }

@@ -8,7 +8,7 @@ use mdp_bounds::MeanBoundsCert;
 use mdp_near::{Backward, ChoiceFlags, Gathered, ends_inside, policy_of};
 use mdp_num::Memory;
 use mdp_refinement::{
-    Bound, EndGains, MOST_DIGITS, Nodes, Rows, Scale, Solution, Task, end_gains, flag_at, fraction,
+    Bound, MOST_DIGITS, Nodes, Rows, Scale, Solution, Task, WholeRow, end_gains, flag_at, fraction,
     number, number_at, numbers, power_of_ten, put, solve, value_at,
 };
 use mdp_rows::{Dir, Marks, Model};
@@ -27,18 +27,32 @@ struct Outcome {
     choices: Vec<u32>,
 }
 
-/// The parts of a search: the states as nodes of their own, and gathered in end components.
+/// What is found of end components, for each state in units: a bias, 0 where none is known; an upper gain and a lower one, where they are known; and
+/// the choice that stays.
+#[derive(Drop)]
+struct Ends {
+    bias: Vec<Option<i128>>,
+    upper: Vec<Option<i128>>,
+    lower: Vec<Option<i128>>,
+    inner: Vec<u32>,
+}
+
+/// The parts of a search that all of its steps need: the states gathered in end components, and the biases and choices that were found in those.
 #[derive(Clone, Copy)]
 struct Search<'m, 'a> {
     payoffs: Payoffs<'m>,
-    backward: &'a Backward,
     nodes: &'a Nodes,
-    every: &'a ChoiceFlags,
-    states: &'a Nodes,
-    all: &'a Rows,
-    found: &'a EndGains,
     bias: &'a [Option<i128>],
+    inner: &'a [u32],
     scale: Scale,
+}
+
+/// The lower gains, the policy that comes to them, and at which nodes it stays.
+#[derive(Drop)]
+struct Lower {
+    gains: Vec<i128>,
+    choices: Vec<u32>,
+    is_stopping: Vec<bool>,
 }
 
 /// What is sought: values that are the greatest, of this bound.
@@ -80,6 +94,27 @@ fn split_picks(
     Ok((leaving, is_stopping))
 }
 
+/// Flags the states of rows.
+fn flag_states(rows: &[WholeRow], flags: &mut [bool]) {
+    for row in rows {
+        put(flags, row.state, true);
+    }
+}
+
+/// Which states have rows, of so many states.
+fn left_states(
+    alloc: Global,
+    rows: &Rows,
+    nodes: &Nodes,
+    states: usize,
+) -> Result<Vec<bool>, AllocError> {
+    let mut is_left = vec![in alloc; false; states]?;
+    for node in 0..nodes.count() {
+        flag_states(rows.rows_of(node), &mut is_left);
+    }
+    Ok(is_left)
+}
+
 /// Gives each row as reward what it earns over the gain of its node. Whether that was possible.
 fn earn_over(rows: &mut Rows, gains: &[i128]) -> bool {
     for (place, gain) in gains.iter().enumerate() {
@@ -101,32 +136,71 @@ fn earn_over(rows: &mut Rows, gains: &[i128]) -> bool {
     true
 }
 
+/// The policy that comes to the picks of the nodes, and takes the given choices in the other end components.
+fn led_policy<'x>(
+    alloc: Global,
+    model: &'x Model,
+    backward: &'x Backward,
+    nodes: &'x Nodes,
+    rows: &Rows,
+    picks: &[Option<usize>],
+    given: &[u32],
+) -> Result<Vec<u32>, AllocError> {
+    let gathered = Gathered {
+        model,
+        backward,
+        nodes,
+        inner: None,
+    };
+    policy_of(alloc, gathered, rows, picks, given)
+}
+
 impl Search<'_, '_> {
-    /// The gains of the nodes: to stop in an end component with its gain, or to leave it.
-    fn gains(self, alloc: Global, bound: Bound) -> Result<(Rows, Solution), AllocError> {
-        let nodes = self.nodes;
-        let stops = match bound {
-            Bound::Lower => &self.found.lower,
-            Bound::Upper => &self.found.upper,
-        };
+    /// The rows by which a node stops in its end component with one of these gains, or leaves it.
+    fn stopping_rows(self, alloc: Global, stops: Vec<Option<i128>>) -> Result<Rows, AllocError> {
         let scale = Scale {
             digits: self.scale.digits,
             room: self.scale.room.saturating_sub(BIAS_ROOM),
         };
-        let rows = leaving_rows(alloc, self.payoffs, nodes, stops, false, scale)?;
-        let given = vec![in alloc; None; nodes.count() as usize]?;
-        let solution = solve(alloc, &rows, &given, task(bound))?;
-        Ok((rows, solution))
+        leaving_rows(alloc, self.payoffs, self.nodes, &stops, false, scale)
+    }
+
+    /// The gains of the nodes: to stop in an end component with its gain, or to leave it.
+    fn gains(self, alloc: Global, rows: &Rows, bound: Bound) -> Result<Solution, AllocError> {
+        let given = vec![in alloc; None; self.nodes.count() as usize]?;
+        solve(alloc, rows, &given, task(bound))
     }
 
     /// The value of each state's node, 0 where it isn't known.
     fn spread(self, alloc: Global, values: &[Option<i128>]) -> Result<Vec<i128>, AllocError> {
         let nodes = self.nodes;
-        let mut spread = Vec::new(alloc);
-        for s in 0..self.payoffs.model.states() {
+        let states = self.payoffs.model.states();
+        let mut spread = Vec::with_capacity(alloc, states as usize)?;
+        for s in 0..states {
             spread.push(value_at(values, nodes.of(s)).unwrap_or(0))?;
         }
         Ok(spread)
+    }
+
+    /// Whether a state, as a node of its own, has a row that was too wide: the places of its others don't follow from their choices then, and may be
+    /// those of rows of states behind it.
+    fn has_wide(self, alone: &Rows) -> bool {
+        (0..self.payoffs.model.states()).any(|s| alone.has_wide(s))
+    }
+
+    /// Gives the rows as rewards what their choices earn over the bias and the gains of their states. Whether that was possible.
+    fn offset(
+        self,
+        alloc: Global,
+        rows: &mut Rows,
+        gains: &[Option<i128>],
+    ) -> Result<bool, AllocError> {
+        let is_left = left_states(alloc, rows, self.nodes, self.bias.len())?;
+        let mut alone = self.payoffs.rows_at(alloc, &is_left, self.scale)?;
+        if self.has_wide(&alone) {
+            alone = self.payoffs.all_rows(alloc, self.scale)?;
+        }
+        Ok(offset_rows(rows, &alone, self.nodes, self.bias, gains))
     }
 
     /// What is added to the biases of each node, so that the bound holds on the choices that leave it too.
@@ -138,7 +212,7 @@ impl Search<'_, '_> {
         let nodes = self.nodes;
         let mut rows = leaving_rows(alloc, self.payoffs, nodes, &[], true, self.scale)?;
         let given = given_ends(alloc, &rows, nodes.count())?;
-        if !offset_rows(&mut rows, self.all, nodes, self.bias, gains) {
+        if !self.offset(alloc, &mut rows, gains)? {
             return Ok(given);
         }
         Ok(solve(alloc, &rows, &given, task(Bound::Upper))?.values)
@@ -154,14 +228,14 @@ impl Search<'_, '_> {
         Ok(bound)
     }
 
-    /// The policy that stays in end components.
-    fn inner_policy(self, alloc: Global) -> Result<Vec<u32>, AllocError> {
-        let mut policy = Vec::new(alloc);
-        for pick in &self.found.picks {
-            let row = pick.and_then(|place| self.all.row(place));
-            policy.push(row.map_or(0, |row| row.choice))?;
-        }
-        Ok(policy)
+    /// The upper gains of the nodes.
+    fn upper_gains(
+        self,
+        alloc: Global,
+        stops: Vec<Option<i128>>,
+    ) -> Result<Vec<Option<i128>>, AllocError> {
+        let rows = self.stopping_rows(alloc, stops)?;
+        Ok(self.gains(alloc, &rows, Bound::Upper)?.values)
     }
 
     /// The policy that comes to the picks of the nodes, and stays in the other end components.
@@ -170,46 +244,37 @@ impl Search<'_, '_> {
         alloc: Global,
         rows: &Rows,
         picks: &[Option<usize>],
-        inner: &[u32],
-    ) -> Result<Vec<u32>, AllocError> {
-        let gathered = Gathered {
-            model: self.payoffs.model,
-            backward: self.backward,
-            nodes: self.nodes,
-            inner: Some(self.every),
-        };
-        policy_of(alloc, gathered, rows, picks, inner)
+    ) -> Result<Vec<u32>, Memory> {
+        let model = self.payoffs.model;
+        let backward = Backward::new(alloc, model)?;
+        let policy = led_policy(alloc, model, &backward, self.nodes, rows, picks, self.inner)?;
+        Ok(policy)
     }
 
-    /// Appends for each choice of a state whether the policy takes it and doesn't stay.
-    fn push_taken(
-        self,
-        flags: &mut ChoiceFlags,
-        policy: &[u32],
-        is_stopping: &[bool],
-        s: u32,
-    ) -> Result<(), AllocError> {
-        let stops = flag_at(is_stopping, self.nodes.of(s));
-        for c in 0..self.payoffs.choices(s) {
-            flags.push(!stops && number_at(policy, s) == c)?;
-        }
-        Ok(())
+    /// The lower gains and their policy.
+    fn lower(self, alloc: Global, stops: Vec<Option<i128>>) -> Result<Lower, Memory> {
+        let rows = self.stopping_rows(alloc, stops)?;
+        let low = self.gains(alloc, &rows, Bound::Lower)?;
+        let (picks, is_stopping) = split_picks(alloc, &rows, &low.picks)?;
+        Ok(Lower {
+            gains: self.spread(alloc, &low.values)?,
+            choices: self.policy(alloc, &rows, &picks)?,
+            is_stopping,
+        })
     }
 
-    /// The rows of the policy at the nodes that it leaves.
-    fn chain(
-        self,
-        alloc: Global,
-        policy: &[u32],
-        is_stopping: &[bool],
-    ) -> Result<Rows, AllocError> {
-        let mut flags = ChoiceFlags::empty(alloc);
+    /// The rows of the policy at the nodes that it leaves, where each state is a node.
+    fn chain(self, alloc: Global, low: &Lower) -> Result<Rows, AllocError> {
+        let states = self.payoffs.alone(alloc)?;
+        let mut rows = Rows::empty(alloc, states.count(), self.scale)?;
         for s in 0..self.payoffs.model.states() {
-            flags.push_state()?;
-            self.push_taken(&mut flags, policy, is_stopping, s)?;
+            rows.push_node()?;
+            if !flag_at(&low.is_stopping, self.nodes.of(s)) {
+                let choice = number_at(&low.choices, s);
+                self.payoffs.push(&mut rows, &states, s, choice)?;
+            }
         }
-        self.payoffs
-            .flagged_rows(alloc, self.states, &flags, self.scale)
+        Ok(rows)
     }
 
     /// The biases of the states where the policy stays.
@@ -227,93 +292,116 @@ impl Search<'_, '_> {
         Ok(given)
     }
 
-    /// The biases of a policy: those of the end components where it stays, and elsewhere such as its choices come to.
-    fn policy_bias(
-        self,
-        alloc: Global,
-        policy: &[u32],
-        is_stopping: &[bool],
-        gains: &[i128],
-    ) -> Result<Vec<i128>, AllocError> {
-        let mut rows = self.chain(alloc, policy, is_stopping)?;
-        let mut values = self.given_biases(alloc, is_stopping)?;
-        if earn_over(&mut rows, gains) {
+    /// The biases of the policy: those of the end components where it stays, and elsewhere such as its choices come to.
+    fn policy_bias(self, alloc: Global, low: &Lower) -> Result<Vec<i128>, AllocError> {
+        let mut rows = self.chain(alloc, low)?;
+        let mut values = self.given_biases(alloc, &low.is_stopping)?;
+        if earn_over(&mut rows, &low.gains) {
             values = solve(alloc, &rows, &values, task(Bound::Lower))?.values;
         }
-        let mut biases = Vec::new(alloc);
+        let mut biases = Vec::with_capacity(alloc, values.len())?;
         for value in &values {
             biases.push(value.unwrap_or(0))?;
         }
         Ok(biases)
     }
 
-    /// Gains, relative values and a policy.
-    fn run(self, alloc: Global) -> Result<Outcome, AllocError> {
-        let (_, high) = self.gains(alloc, Bound::Upper)?;
-        let (rows, low) = self.gains(alloc, Bound::Lower)?;
-        let (picks, is_stopping) = split_picks(alloc, &rows, &low.picks)?;
-        let inner = self.inner_policy(alloc)?;
-        let choices = self.policy(alloc, &rows, &picks, &inner)?;
-        let lower = self.spread(alloc, &low.values)?;
+    /// Gains, relative values and a policy, from the upper and the lower gains of end components.
+    fn run(
+        self,
+        alloc: Global,
+        above: Vec<Option<i128>>,
+        below: Vec<Option<i128>>,
+    ) -> Result<Outcome, Memory> {
+        let high = self.upper_gains(alloc, above)?;
+        let upper = self.spread(alloc, &high)?;
+        let bound = self.bound(alloc, &high)?;
+        let low = self.lower(alloc, below)?;
+        let bias = self.policy_bias(alloc, &low)?;
         Ok(Outcome {
-            upper: self.spread(alloc, &high.values)?,
-            bound: self.bound(alloc, &high.values)?,
-            bias: self.policy_bias(alloc, &choices, &is_stopping, &lower)?,
-            lower,
-            choices,
+            lower: low.gains,
+            upper,
+            bound,
+            bias,
+            choices: low.choices,
         })
     }
 }
 
-/// The biases that were found, 0 elsewhere.
-fn known_biases(alloc: Global, found: &EndGains) -> Result<Vec<Option<i128>>, AllocError> {
-    let mut biases = Vec::new(alloc);
-    for bias in &found.bias {
-        biases.push(Some(bias.unwrap_or(0)))?;
+/// The choices of the rows that stay in end components, the first one elsewhere.
+fn inner_policy(
+    alloc: Global,
+    all: &Rows,
+    picks: &[Option<usize>],
+) -> Result<Vec<u32>, AllocError> {
+    let mut policy = Vec::with_capacity(alloc, picks.len())?;
+    for pick in picks {
+        let row = pick.and_then(|place| all.row(place));
+        policy.push(row.map_or(0, |row| row.choice))?;
     }
-    Ok(biases)
+    Ok(policy)
+}
+
+/// What is found of the end components. The rows of all choices are needed for that alone.
+fn searched_ends(
+    alloc: Global,
+    payoffs: Payoffs<'_>,
+    parts: &[Option<u32>],
+    scale: Scale,
+) -> Result<Ends, AllocError> {
+    let all = payoffs.all_rows(alloc, scale)?;
+    let found = end_gains(alloc, &all, parts)?;
+    let inner = inner_policy(alloc, &all, &found.picks)?;
+    let mut bias = found.bias;
+    for value in bias.iter_mut() {
+        *value = Some(value.unwrap_or(0));
+    }
+    Ok(Ends {
+        bias,
+        upper: found.upper,
+        lower: found.lower,
+        inner,
+    })
 }
 
 /// The maximal end component of each state, if it is in one.
-fn all_ends(
-    alloc: Global,
-    model: &Model,
-    backward: &Backward,
-) -> Result<Vec<Option<u32>>, AllocError> {
+fn all_parts(alloc: Global, model: &Model) -> Result<Vec<Option<u32>>, Memory> {
     model.known();
+    let backward = Backward::new(alloc, model)?;
     let all = vec![in alloc; true; model.states() as usize]?;
     let choices = ChoiceFlags::all(alloc, model)?;
-    ends_inside(alloc, model, backward, &Marks::from_values(all), choices)
+    let inside = Marks::from_values(all);
+    Ok(ends_inside(alloc, model, &backward, &inside, choices)?)
 }
 
-/// What the search comes to in units of 10 to the power of -`digits`.
+/// The states gathered in end components, and what is found of those.
+fn gathered(alloc: Global, payoffs: Payoffs<'_>, scale: Scale) -> Result<(Nodes, Ends), Memory> {
+    let parts = all_parts(alloc, payoffs.model)?;
+    let ends = searched_ends(alloc, payoffs, &parts, scale)?;
+    Ok((Nodes::new(alloc, &parts)?, ends))
+}
+
+/// What the search comes to in units of 10 to the power of -`digits`. What a step alone needs is let go before the next one.
 fn searched(alloc: Global, payoffs: Payoffs<'_>, digits: u32) -> Result<Outcome, Memory> {
-    let model = payoffs.model;
-    let backward = Backward::new(alloc, model)?;
-    let ends = all_ends(alloc, model, &backward)?;
-    let nodes = Nodes::new(alloc, &ends)?;
-    let alone = vec![in alloc; None; model.states() as usize]?;
-    let states = Nodes::new(alloc, &alone)?;
     let scale = Scale {
         digits,
         room: payoffs.room().saturating_add(BIAS_ROOM),
     };
-    let every = ChoiceFlags::all(alloc, model)?;
-    let all = payoffs.flagged_rows(alloc, &states, &every, scale)?;
-    let found = end_gains(alloc, &all, &ends)?;
-    let bias = known_biases(alloc, &found)?;
+    let (nodes, ends) = gathered(alloc, payoffs, scale)?;
+    let Ends {
+        bias,
+        upper,
+        lower,
+        inner,
+    } = ends;
     let search = Search {
         payoffs,
-        backward: &backward,
         nodes: &nodes,
-        every: &every,
-        states: &states,
-        all: &all,
-        found: &found,
         bias: &bias,
+        inner: &inner,
         scale,
     };
-    Ok(search.run(alloc)?)
+    search.run(alloc, upper, lower)
 }
 
 /// Proposes bounds of the greatest or the least mean payoff of the reward name of place `name`, as multiples of 10 to the power of -`digits` where the

@@ -7,7 +7,43 @@ use mdp_num::Frac;
 use mdp_rows::Model;
 use std::alloc::{AllocError, Global};
 
+/// How many entries all choices of a state have.
+fn entries_of(model: &Model, state: u32) -> usize {
+    let mut entries = 0usize;
+    if state < model.states() {
+        for choice in 0..model.choices(state) {
+            entries = entries.saturating_add(model.row(state, choice).targets.len());
+        }
+    }
+    entries
+}
+
+/// How many choices and how many entries the flagged states have.
+fn sizes_of(model: &Model, is_kept: &[bool]) -> (usize, usize) {
+    let mut choices = 0usize;
+    let mut entries = 0usize;
+    for state in 0..model.states() {
+        if flag_at(is_kept, state) {
+            choices = choices.saturating_add(model.choices(state) as usize);
+            entries = entries.saturating_add(entries_of(model, state));
+        }
+    }
+    (choices, entries)
+}
+
 impl Rows {
+    /// No row yet, of so many nodes, with memory for the rows of all choices of flagged states.
+    pub fn sized(
+        alloc: Global,
+        model: &Model,
+        nodes: u32,
+        is_kept: &[bool],
+        scale: Scale,
+    ) -> Result<Rows, AllocError> {
+        let (choices, entries) = sizes_of(model, is_kept);
+        Rows::with_capacity(alloc, nodes, choices, entries, scale)
+    }
+
     /// Appends the rows of the choices of a state, without rewards.
     fn push_state(&mut self, model: &Model, nodes: &Nodes, state: u32) -> Result<(), AllocError> {
         if state < model.states() {
@@ -27,7 +63,8 @@ impl Rows {
         is_open: &[bool],
         digits: u32,
     ) -> Result<Rows, AllocError> {
-        let mut rows = Rows::empty(alloc, nodes.count(), Scale { digits, room: 0 })?;
+        let scale = Scale { digits, room: 0 };
+        let mut rows = Rows::sized(alloc, model, nodes.count(), is_open, scale)?;
         let mut last = None;
         for state in nodes.order() {
             let node = nodes.of(*state);

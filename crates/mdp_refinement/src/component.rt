@@ -4,6 +4,7 @@ use crate::outside::{Outside, Widening};
 use crate::rows::{Rows, WholeRow, value_at};
 use crate::strong::Components;
 use std::alloc::{AllocError, Global};
+use std::ops::Range;
 
 /// A row of a node of a component, in floats: `total` times the node's value is the row's reward, the sum of probability times value over the entries,
 /// and what goes to nodes outside or stops, with probability `exit`. The node's own entry is left out, so `total` is what remains of 1.
@@ -12,13 +13,25 @@ pub(crate) struct FloatRow {
     /// The place of the node in the component.
     pub(crate) node: u32,
     /// The place of the whole row.
-    pub(crate) place: usize,
+    place: u32,
+    first: u32,
+    end: u32,
     pub(crate) exit: f64,
     pub(crate) total: f64,
     /// What rounding of the values to their units may cost.
     pub(crate) slack: f64,
-    first: usize,
-    end: usize,
+}
+
+impl FloatRow {
+    /// The place of the whole row.
+    pub(crate) fn place(&self) -> usize {
+        self.place as usize
+    }
+
+    /// The places of its entries.
+    fn range(&self) -> Range<usize> {
+        self.first as usize..self.end as usize
+    }
 }
 
 /// A strong component with more than one node, in floats: its rows that lead to no node outside whose value isn't known. Nodes are named by their places in
@@ -63,10 +76,10 @@ impl Gathering<'_> {
         let mut leaving = row.denominator;
         for entry in self.whole_rows.entries_of(row) {
             if let Some(place) = self.components.place_in(self.number, entry.node) {
-                leaving = leaving.saturating_sub(entry.numerator);
+                leaving = leaving.saturating_sub(entry.numerator());
                 if entry.node != row.node {
                     self.pending
-                        .push((place, to_float(entry.numerator) / denominator))?;
+                        .push((place, to_float(entry.numerator()) / denominator))?;
                 }
             }
         }
@@ -100,7 +113,7 @@ impl Gathering<'_> {
     fn push(&mut self, node: u32, place: usize, row: &WholeRow) -> Result<(), AllocError> {
         self.take_outside(row);
         let exit = self.take_entries(row)?;
-        let first = self.entries.len();
+        let first = number(self.entries.len());
         let mut total = exit;
         let mut rounding = 0.0;
         for entry in &self.pending {
@@ -113,12 +126,12 @@ impl Gathering<'_> {
         }
         self.rows.push(FloatRow {
             node,
-            place,
+            place: number(place),
+            first,
+            end: number(self.entries.len()),
             exit,
             total,
             slack: rounding / 2.0,
-            first,
-            end: self.entries.len(),
         })?;
         Ok(())
     }
@@ -149,6 +162,17 @@ impl Gathering<'_> {
     }
 }
 
+/// How many rows and how many entries nodes have.
+fn sizes_of(rows: &Rows, nodes: &[u32]) -> (usize, usize) {
+    let mut most_rows = 0usize;
+    let mut most_entries = 0usize;
+    for node in nodes {
+        most_rows = most_rows.saturating_add(rows.rows_of(*node).len());
+        most_entries = most_entries.saturating_add(rows.edges_of(*node).len());
+    }
+    (most_rows, most_entries)
+}
+
 /// The units of nodes, in floats.
 fn units_of(alloc: Global, rows: &Rows, nodes: &[u32]) -> Result<Vec<f64>, AllocError> {
     let mut units = Vec::new(alloc);
@@ -162,7 +186,7 @@ fn units_of(alloc: Global, rows: &Rows, nodes: &[u32]) -> Result<Vec<f64>, Alloc
 fn owners_of(alloc: Global, rows: &[FloatRow]) -> Result<Vec<u32>, AllocError> {
     let mut owners = Vec::new(alloc);
     for (place, row) in rows.iter().enumerate() {
-        for _ in row.first..row.end {
+        for _ in row.range() {
             owners.push(number(place))?;
         }
     }
@@ -197,14 +221,15 @@ impl Component {
         values: &[Option<i128>],
     ) -> Result<Component, AllocError> {
         let nodes = listed(alloc, components.nodes_of(component))?;
+        let (most_rows, most_entries) = sizes_of(rows, &nodes);
         let mut gathering = Gathering {
             whole_rows: rows,
             components,
             number: number(component),
             values,
             units: units_of(alloc, rows, &nodes)?,
-            rows: Vec::new(alloc),
-            entries: Vec::new(alloc),
+            rows: Vec::with_capacity(alloc, most_rows)?,
+            entries: Vec::with_capacity(alloc, most_entries)?,
             pending: Vec::new(alloc),
             outside: Widening::empty(),
         };
@@ -238,7 +263,7 @@ impl Component {
 
     /// The entries of a row, ordered by place.
     pub(crate) fn entries_of(&self, row: &FloatRow) -> &[(u32, f64)] {
-        self.entries.get(row.first..row.end).unwrap_or(&[])
+        self.entries.get(row.range()).unwrap_or(&[])
     }
 
     /// The places of the rows that have an entry to each node.

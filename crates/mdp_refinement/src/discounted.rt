@@ -25,10 +25,7 @@ impl Discount<'_> {
     /// The entry of what goes to the end, where the factor's denominator is so many times in that of the row.
     fn rest(self, times: i128) -> Option<Entry> {
         let less = self.factor.den().checked_sub(self.factor.num())?;
-        Some(Entry {
-            node: self.end,
-            numerator: less.checked_mul(times)?,
-        })
+        Some(Entry::new(self.end, less.checked_mul(times)?))
     }
 }
 
@@ -36,8 +33,8 @@ impl Rows {
     /// Makes the entries of `pending` so many times as great. Whether that was possible.
     fn scale_pending(&mut self, times: i128) -> bool {
         for entry in self.pending.iter_mut() {
-            match entry.numerator.checked_mul(times) {
-                Some(scaled) => entry.numerator = scaled,
+            match entry.numerator().checked_mul(times) {
+                Some(scaled) => *entry = Entry::new(entry.node, scaled),
                 None => return false,
             }
         }

@@ -43,6 +43,14 @@ impl Range {
         self.upper.saturating_sub(self.lower)
     }
 
+    /// The gain that is this bound.
+    fn end(self, bound: Bound) -> i128 {
+        match bound {
+            Bound::Upper => self.upper,
+            Bound::Lower => self.lower,
+        }
+    }
+
     /// Takes in the range of another node: the gains of all lie between.
     fn widened(self, other: Range) -> Range {
         Range {
@@ -151,7 +159,7 @@ impl Refinement<'_> {
         let mut best: Option<Range> = None;
         for at in from..to {
             let row = self.component.rows.get(at)?;
-            let found = row_gained(self.rows, self.rows.row(row.place)?, bias, gain)?;
+            let found = row_gained(self.rows, self.rows.row(row.place())?, bias, gain)?;
             put(&mut measured.gains, number(at), found.over);
             if best.is_none_or(|old| found.range.lower > old.lower) {
                 put(&mut measured.policy, number(place), at);
@@ -200,45 +208,45 @@ impl Refinement<'_> {
     }
 }
 
-impl EndGains {
+/// Biases and rows of nodes, in the making, with the gains of components.
+#[derive(Drop)]
+struct Found {
+    bias: Vec<Option<i128>>,
+    picks: Vec<Option<usize>>,
+    ranges: Vec<Option<Range>>,
+}
+
+impl Found {
     /// Nothing known, of so many nodes.
-    fn empty(alloc: Global, nodes: usize) -> Result<EndGains, AllocError> {
-        Ok(EndGains {
+    fn empty(alloc: Global, nodes: usize) -> Result<Found, AllocError> {
+        Ok(Found {
             bias: vec![in alloc; None; nodes]?,
-            upper: vec![in alloc; None; nodes]?,
-            lower: vec![in alloc; None; nodes]?,
             picks: vec![in alloc; None; nodes]?,
+            ranges: Vec::new(alloc),
         })
     }
 
-    /// Gives the nodes of a component these gains, biases and rows.
-    fn keep(
-        &mut self,
-        component: &Component,
-        range: Range,
-        policy: &[usize],
-        bias: &[Option<i128>],
-    ) {
+    /// Gives the nodes of a component these biases and rows.
+    fn keep(&mut self, component: &Component, policy: &[usize], bias: &[Option<i128>]) {
         for (node, place) in component.nodes.iter().zip(policy) {
             put(&mut self.bias, *node, value_at(bias, *node));
-            put(&mut self.upper, *node, Some(range.upper));
-            put(&mut self.lower, *node, Some(range.lower));
-            let pick = component.rows.get(*place).map(|row| row.place);
+            let pick = component.rows.get(*place).map(|row| row.place());
             put(&mut self.picks, *node, pick);
         }
     }
 
-    /// Refines a bias of the component and keeps the nearest gains that it comes to.
+    /// Refines a bias of the component and keeps that of the nearest gains that it comes to. These gains.
     fn solve(
         &mut self,
         alloc: Global,
         rows: &Rows,
         component: &Component,
         bias: &mut [Option<i128>],
-    ) -> Result<(), AllocError> {
+    ) -> Result<Option<Range>, AllocError> {
         let refinement = Refinement { rows, component };
         let mut biases = Biases::new(alloc, component)?;
         let mut measured = refinement.unmeasured(alloc)?;
+        let mut nearest = None;
         let mut width = i128::MAX;
         let mut gain = 0;
         for round in 0..MOST_ROUNDS {
@@ -248,7 +256,8 @@ impl EndGains {
             let is_nearer = range.width() < width;
             if is_nearer {
                 width = range.width();
-                self.keep(component, range, &measured.policy, bias);
+                nearest = Some(range);
+                self.keep(component, &measured.policy, bias);
             }
             if width <= NEAR || !is_nearer && round >= LEAST_ROUNDS {
                 break;
@@ -259,7 +268,23 @@ impl EndGains {
             };
             gain = next;
         }
-        Ok(())
+        Ok(nearest)
+    }
+
+    /// A gain of each node: that of its component.
+    fn gains(
+        &self,
+        alloc: Global,
+        components: &Components,
+        bound: Bound,
+    ) -> Result<Vec<Option<i128>>, AllocError> {
+        let mut gains = Vec::with_capacity(alloc, self.bias.len())?;
+        for node in 0..self.bias.len() {
+            let place = components.of(number(node)) as usize;
+            let range = self.ranges.get(place).copied().and_then(|range| range);
+            gains.push(range.map(|range| range.end(bound)))?;
+        }
+        Ok(gains)
     }
 }
 
@@ -313,10 +338,16 @@ pub fn end_gains(
 ) -> Result<EndGains, AllocError> {
     let components = end_components(alloc, rows, parts)?;
     let mut bias = vec![in alloc; Some(0); parts.len()]?;
-    let mut found = EndGains::empty(alloc, parts.len())?;
+    let mut found = Found::empty(alloc, parts.len())?;
     for place in 0..components.count() {
         let component = Component::new(alloc, rows, &components, place, &[])?;
-        found.solve(alloc, rows, &component, &mut bias)?;
+        let range = found.solve(alloc, rows, &component, &mut bias)?;
+        found.ranges.push(range)?;
     }
-    Ok(found)
+    Ok(EndGains {
+        upper: found.gains(alloc, &components, Bound::Upper)?,
+        lower: found.gains(alloc, &components, Bound::Lower)?,
+        bias: found.bias,
+        picks: found.picks,
+    })
 }

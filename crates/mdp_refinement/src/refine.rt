@@ -89,7 +89,7 @@ impl Setting<'_> {
     ) -> Option<Held> {
         let mut held = Held::Tightly;
         for (at, row) in self.component.rows.iter().enumerate() {
-            let gap = self.rows.gap(self.rows.row(row.place)?, values)?;
+            let gap = self.rows.gap(self.rows.row(row.place())?, values)?;
             let is_chosen = policy.get(row.node as usize).copied() == Some(at);
             held = self.judge(held, row, gap, is_chosen);
             let gain = gains.get_mut(at)?;
@@ -112,7 +112,7 @@ impl Setting<'_> {
         };
         for (at, row) in self.component.rows.iter().enumerate() {
             if self.is_to_hold(policy, row.node, at) {
-                let gap = self.rows.gap(self.rows.row(row.place)?, values)?;
+                let gap = self.rows.gap(self.rows.row(row.place())?, values)?;
                 lack.is_there = lack.is_there || self.task.is_broken(gap.order);
                 lack.most = lack.most.max(gap.size * self.task.side());
                 lack.exit = lack.exit.min(row.exit);

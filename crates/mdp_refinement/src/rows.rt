@@ -11,11 +11,32 @@ use mdp_rows::Row;
 use std::alloc::{AllocError, Global};
 use std::cmp::Ordering;
 
-/// An entry of a row in whole numbers: the probability of the node is `numerator` over the row's denominator.
+/// An entry of a row in whole numbers: the probability of the node is `numerator` over the row's denominator. The numerator is kept in two halves, so that
+/// an entry takes 24 bytes.
 #[derive(Clone, Copy)]
 pub struct Entry {
     pub node: u32,
-    pub numerator: i128,
+    upper: i64,
+    lower: u64,
+}
+
+impl Entry {
+    /// An entry of a node.
+    pub(crate) fn new(node: u32, numerator: i128) -> Entry {
+        let upper = numerator.div_euclid(HALF);
+        let lower = numerator.rem_euclid(HALF);
+        Entry {
+            node,
+            upper: i64::try_from(upper).unwrap_or(0),
+            lower: u64::try_from(lower).unwrap_or(0),
+        }
+    }
+
+    /// The probability of the node, times the row's denominator.
+    pub fn numerator(&self) -> i128 {
+        let upper = i128::from(self.upper).wrapping_mul(HALF);
+        upper.wrapping_add(i128::from(self.lower))
+    }
 }
 
 /// The row of a choice that leaves its node, in whole numbers: `denominator` times its value is `reward` and the sum of `numerator` times value over its
@@ -39,6 +60,9 @@ impl WholeRow {
         self.first >= self.end
     }
 }
+
+/// 2 ^ 64.
+const HALF: i128 = 18_446_744_073_709_551_616;
 
 /// How values are written: in units of 10 to the power of -`digits`, with room for so many digits before the point.
 #[derive(Clone, Copy)]
@@ -70,11 +94,22 @@ pub(crate) struct Numbers {
 impl Rows {
     /// No row yet, of so many nodes.
     pub fn empty(alloc: Global, nodes: u32, scale: Scale) -> Result<Rows, AllocError> {
+        Rows::with_capacity(alloc, nodes, 0, 0, scale)
+    }
+
+    /// No row yet, of so many nodes, with memory for so many rows and so many entries.
+    pub(crate) fn with_capacity(
+        alloc: Global,
+        nodes: u32,
+        rows: usize,
+        entries: usize,
+        scale: Scale,
+    ) -> Result<Rows, AllocError> {
         Ok(Rows {
             scale,
-            starts: Vec::new(alloc),
-            rows: Vec::new(alloc),
-            entries: Vec::new(alloc),
+            starts: Vec::with_capacity(alloc, nodes as usize)?,
+            rows: Vec::with_capacity(alloc, rows)?,
+            entries: Vec::with_capacity(alloc, entries)?,
             node_digits: vec![in alloc; scale.digits; nodes as usize]?,
             has_wide: vec![in alloc; false; nodes as usize]?,
             pending: Vec::new(alloc),
@@ -113,7 +148,7 @@ impl Rows {
                 return Ok(false);
             };
             let node = nodes.of(*target);
-            self.pending.push(Entry { node, numerator })?;
+            self.pending.push(Entry::new(node, numerator))?;
         }
         self.pending.sort_by_key(|entry| entry.node)?;
         Ok(true)
@@ -125,7 +160,8 @@ impl Rows {
         for entry in &self.pending {
             if last == Some(entry.node) {
                 if let Some(sum) = self.entries.last_mut() {
-                    sum.numerator = sum.numerator.saturating_add(entry.numerator);
+                    let total = sum.numerator().saturating_add(entry.numerator());
+                    *sum = Entry::new(entry.node, total);
                 }
             } else {
                 self.entries.push(*entry)?;
@@ -307,10 +343,10 @@ impl Rows {
         let mut own = 0;
         for entry in self.entries_of(row) {
             if entry.node == row.node {
-                own = entry.numerator;
+                own = entry.numerator();
             } else {
                 let value = in_unit(value_at(values, entry.node)?, row.unit)?;
-                total = total.checked_add(entry.numerator.checked_mul(value)?)?;
+                total = total.checked_add(entry.numerator().checked_mul(value)?)?;
             }
         }
         Some((total, own))

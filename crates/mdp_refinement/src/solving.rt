@@ -84,7 +84,7 @@ impl Solver<'_> {
     /// Gives the nodes of a component the rows of a policy.
     fn pick(&mut self, component: &Component, policy: &[usize]) {
         for (node, row) in component.nodes.iter().zip(policy) {
-            let place = component.rows.get(*row).map(|row| row.place);
+            let place = component.rows.get(*row).map(|row| row.place());
             put(&mut self.solution.picks, *node, place);
         }
     }
