@@ -104,9 +104,10 @@ module _ (dir : Dir) (name : List ℕ) (f : ℚ) (m : Mdp) (r : ℕ) (found : pl
         (subst (λ (d : Dir). DiscountBound d m r f a.values a.remainder a.choices) (sym is.claim.direction) best);
   }
 
-  printed_text : IsReadBack → Fits a → DiscountBound dir m r f a.values a.remainder a.choices → (text : List ℕ) → text ≡ text_of a → IsDiscountPrinted dir name f m text
-  printed_text back fits best text spelled = record {
+  printed_text : IsReadBack → Fits a → EndsSo dir m r name f (Ok a) → DiscountBound dir m r f a.values a.remainder a.choices → (text : List ℕ) → text ≡ text_of a → IsDiscountPrinted dir name f m text
+  printed_text back fits ends best text spelled = record {
     cert = a;
+    computed = record { place = r; named = found; ends = ends };
     claim = is.claim;
     spelled = spelled;
     short = subst (λ (t : List ℕ). length t ≤ most_bytes) (sym spelled) (text_short a fits);
@@ -115,10 +116,10 @@ module _ (dir : Dir) (name : List ℕ) (f : ℚ) (m : Mdp) (r : ℕ) (found : pl
     bound = bounded best;
   }
 
-  pub printed : IsReadBack → Fits a → DiscountBound dir m r f a.values a.remainder a.choices → (said : Said) → (said ≡ Err no_memory) ⊎ (said ≡ Ok (text_of a)) → IfOk said (IsDiscountPrinted dir name f m)
-  printed back fits best (Ok text) (inl memory) = cc memory
-  printed back fits best (Ok text) (inr e) = printed_text back fits best text (cc e)
-  printed back fits best (Err refusal) e = tt
+  pub printed : IsReadBack → Fits a → EndsSo dir m r name f (Ok a) → DiscountBound dir m r f a.values a.remainder a.choices → (said : Said) → (said ≡ Err no_memory) ⊎ (said ≡ Ok (text_of a)) → IfOk said (IsDiscountPrinted dir name f m)
+  printed back fits ends best (Ok text) (inl memory) = cc memory
+  printed back fits ends best (Ok text) (inr e) = printed_text back fits ends best text (cc e)
+  printed back fits ends best (Err refusal) e = tt
 
 -- ---- what is due
 

@@ -74,6 +74,7 @@ printed_solved rule dir name f m bytes text is printed =
         };
         bound = printed.bound;
       };
+      computed = printed.computed;
       claim = printed.claim;
       spelled = printed.spelled;
     }

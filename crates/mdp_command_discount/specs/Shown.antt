@@ -1,9 +1,11 @@
 -- What is shown of the text that `discount` prints.
-use Rattle.std.specs.Prelude.{◌≡◌, ℕ, ◌≤◌, List, length, Ok}
+use Rattle.std.specs.Prelude.{◌≡◌, ℕ, ◌≤◌, List, length, Some, Ok}
 use Rattle.mdp_math.specs.Rational.{ℚ}
+use Rattle.mdp_spec.specs.Labels.{place_of}
 use Rattle.mdp_spec.specs.Mdp.{Mdp}
 use Rattle.mdp_rows.specs.declared.dir.Dir.{Dir}
 use Rattle.mdp_rows.specs.declared.rule.RowRule.{RowRule}
+use Rattle.mdp_discount.specs.Query.{EndsSo}
 use Rattle.mdp_discount_rules.specs.Cert.{Certificate}
 use Rattle.mdp_discount_rules.specs.Check.{IsAccepted, IsBound}
 use Rattle.mdp_discount_text.specs.Spelling.{text_of}
@@ -22,9 +24,16 @@ pub record ClaimsSo (dir : Dir) (name : List ℕ) (f : ℚ) (c : Certificate) : 
   pub named : c.name ≡ name
   pub discounted : c.factor ≡ f
 
--- the text of a certificate of this claim for the model, which reads as it; all rules hold, and the claim is true
+-- the query of the reward of this name ends with this certificate
+pub record IsComputed (dir : Dir) (name : List ℕ) (f : ℚ) (m : Mdp) (c : Certificate) : Type 0 where
+  pub place : ℕ
+  pub named : place_of name m.names ≡ Some place
+  pub ends : EndsSo dir m place name f (Ok c)
+
+-- the text of the computed certificate, of this claim for the model, which reads as it; all rules hold, and the claim is true
 pub record IsDiscountPrinted (dir : Dir) (name : List ℕ) (f : ℚ) (m : Mdp) (text : List ℕ) : Type 0 where
   pub cert : Certificate
+  pub computed : IsComputed dir name f m cert
   pub claim : ClaimsSo dir name f cert
   pub spelled : text ≡ text_of cert
   pub short : length text ≤ most_bytes
@@ -32,10 +41,11 @@ pub record IsDiscountPrinted (dir : Dir) (name : List ℕ) (f : ℚ) (m : Mdp) (
   pub holds : IsAccepted m cert
   pub bound : IsBound m cert
 
--- `discount-check` accepts the text with the model's bytes, and its claim, which is this one, is true: the values are the best ones, and the policy
--- comes close to them
+-- `discount-check` accepts the text of the computed certificate with the model's bytes, and its claim, which is this one, is true: the values are the
+-- best ones, and the policy comes close to them
 pub record IsDiscountSolved (rule : RowRule) (dir : Dir) (name : List ℕ) (f : ℚ) (model_bytes text : List ℕ) : Type 0 where
   pub true_claim : IsTrueClaimBy discounted rule model_bytes text
+  pub computed : IsComputed dir name f true_claim.accepted.model true_claim.accepted.cert
   pub claim : ClaimsSo dir name f true_claim.accepted.cert
   pub spelled : text ≡ text_of true_claim.accepted.cert
 

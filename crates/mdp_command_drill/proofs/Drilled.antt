@@ -61,6 +61,7 @@ module _ (number layers width : ℕ) (m : Mdp) (is : m ≡ layered_model number 
 
 -- what is known of an answer on a model
 pub record IsFound (m : Mdp) (marks : List Bool) (a : Answer) : Type 0 where
+  pub ends : EndsSo Max m marks (Ok a)
   pub rules : IsReach Max m marks a.values a.choices a.ranks
   pub greatest : ReachMax m marks a.values a.choices
   pub sizes : HasSizes (states_of m) a
@@ -75,6 +76,7 @@ module _ (states : HasStates) (choices : HasChoices) (number layers width : ℕ)
   greatest-due rows greatest text (Ok a, end, e) = record {
     answer = a;
     spelled = (let same : text ≡ line_of number layers width (layered_model number layers width) a = cc e in same) ∙ line-is a;
+    ends = end;
     labelled = refl;
     greatest = greatest (layered_model number layers width) (goals (layered_model number layers width)) a (rows number layers width shape) end;
   }
@@ -88,7 +90,7 @@ module _ (reads : TextReads) (short : TextIsShort) (rows : HasRows) (states : Ha
       let cert = certificate_of Max goal m a in
       let p = printed_by m cert refl (rows number layers width shape) back (accepted Max goal m 1 a refl f.rules f.sizes) f.fits (text_of cert) refl in
       record {
-        given = record { answer = a; spelled = e ∙ line-is states choices number layers width shape a; labelled = refl; greatest = f.greatest };
+        given = record { answer = a; spelled = e ∙ line-is states choices number layers width shape a; ends = f.ends; labelled = refl; greatest = f.greatest };
         solved = record {
           true_claim = record {
             accepted = record {

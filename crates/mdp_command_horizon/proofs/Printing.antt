@@ -59,7 +59,7 @@ module _ (greatest : AnswersAreGreatest) (least : AnswersAreLeast) (stay : Optio
       let a = ok_part (states_that_stay m stay) (λ stays. states_with m label >>= (λ goals. said_of_marks dir stay label steps m stays goals)) text (sym due) in
       let b = ok_part (states_with m label) (λ goals. said_of_marks dir stay label steps m a.0 goals) text a.2 in
       let c = text_within steps m (until_text dir (stay_word stay) label m) (written_until dir m a.0 b.0 steps) text b.2 in
-      record { stays = a.0; stays_are = a.1; goals = b.0; goals_are = b.1; answer = c.0; spelled = c.2; best = best_of dir a.0 b.0 c.0 c.1 }
+      record { stays = a.0; stays_are = a.1; goals = b.0; goals_are = b.1; answer = c.0; spelled = c.2; computed = c.1; best = best_of dir a.0 b.0 c.0 c.1 }
 
 -- ---- the total reward of a name
 
@@ -72,7 +72,7 @@ module _ (greatest : TotalsAreGreatest) (least : TotalsAreLeast) (name : List �
   printed_by dir None e due = cc due
   printed_by dir (Some r) e due =
       let c = text_within steps m (total_text dir name m) (written_total dir m r steps) text due in
-      record { place = r; place_is = e; answer = c.0; spelled = c.2; best = best_total_of dir r c.0 (below_names name m.names r e) c.1 }
+      record { place = r; place_is = e; answer = c.0; spelled = c.2; computed = c.1; best = best_total_of dir r c.0 (below_names name m.names r e) c.1 }
 
   pub printed_of_reward_due : (dir : Dir) → IsHorizonRewardDue dir name steps m (Ok text) → IsHorizonRewardPrinted dir name steps m text
   printed_of_reward_due dir due = printed_by dir (place_of name m.names) refl (sym due)

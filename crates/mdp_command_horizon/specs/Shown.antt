@@ -8,7 +8,7 @@ use Rattle.mdp_rows.specs.declared.rule.RowRule.{RowRule}
 use Rattle.mdp_drn.specs.Reading.{Reads}
 use Rattle.mdp_horizon.specs.Bounds.{BoundedMax, BoundedMin, TotalMax, TotalMin}
 use Rattle.mdp_horizon.specs.Spelling.{until_text, total_text}
-use Rattle.mdp_horizon.specs.Written.{Answer}
+use Rattle.mdp_horizon.specs.Written.{Answer, written_until, written_total}
 use Rattle.mdp_command.specs.Files.{most_bytes}
 use Rattle.mdp_command.specs.Read.{IsWorkOnModel}
 use Rattle.mdp_command.specs.Said.{Said}
@@ -29,7 +29,7 @@ abbrev pub IsBest : Dir → Mdp → List Bool → List Bool → ℕ → Answer �
 IsBest Max m stays goals steps a = BoundedMax m stays goals steps a.values a.steps
 IsBest Min m stays goals steps a = BoundedMin m stays goals steps a.values a.steps
 
--- the text of values and of a table that are best, by way of the states that stay to the states with the label
+-- the text of the computed values and table, which are best, by way of the states that stay to the states with the label
 pub record IsHorizonPrinted (dir : Dir) (stay : Option (List ℕ)) (label : List ℕ) (steps : ℕ) (m : Mdp) (text : List ℕ) : Type 0 where
   pub stays : List Bool
   pub stays_are : states_that_stay m stay ≡ Ok stays
@@ -37,6 +37,7 @@ pub record IsHorizonPrinted (dir : Dir) (stay : Option (List ℕ)) (label : List
   pub goals_are : states_with m label ≡ Ok goals
   pub answer : Answer
   pub spelled : text ≡ until_text dir (stay_word stay) label m answer
+  pub computed : written_until dir m stays goals steps ≡ Ok answer
   pub best : IsBest dir m stays goals steps answer
 
 -- the same of the model that the bytes read as
@@ -54,12 +55,13 @@ abbrev pub IsBestTotal : Dir → Mdp → ℕ → ℕ → Answer → Type 0
 IsBestTotal Max m r steps a = TotalMax m r steps a.values a.steps
 IsBestTotal Min m r steps a = TotalMin m r steps a.values a.steps
 
--- the text of values and of a table that are best, for the reward name
+-- the text of the computed values and table, which are best, for the reward name
 pub record IsHorizonRewardPrinted (dir : Dir) (name : List ℕ) (steps : ℕ) (m : Mdp) (text : List ℕ) : Type 0 where
   pub place : ℕ
   pub place_is : place_of name m.names ≡ Some place
   pub answer : Answer
   pub spelled : text ≡ total_text dir name m answer
+  pub computed : written_total dir m place steps ≡ Ok answer
   pub best : IsBestTotal dir m place steps answer
 
 abbrev pub IsHorizonRewardShown : RowRule → Dir → List ℕ → ℕ → List ℕ → List ℕ → Type 0

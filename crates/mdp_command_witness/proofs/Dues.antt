@@ -58,7 +58,7 @@ module _ (dir : Dir) (label : List ℕ) (threshold : ℚ) where
           let each = marks_each m l in
           let inside = initial_below m start initial in
           witness_of dir label threshold m l start named initial found.0
-          (is_witness m goals start threshold found.0 dir (holds dir m goals start threshold found.0 mdp each inside end) (sub_max dir m goals start threshold found.0 mdp each inside end)
+          (is_witness m goals start threshold found.0 dir end (holds dir m goals start threshold found.0 mdp each inside end) (sub_max dir m goals start threshold found.0 mdp each inside end)
           (sub_min dir m goals start threshold found.0 mdp each inside end) (policy dir m goals start threshold found.0 mdp each inside end)
           (needed_max dir m goals start threshold found.0 mdp each inside end) (needed_min dir m goals start threshold found.0 mdp each inside end)
           (wide_max dir m goals start threshold found.0 mdp each inside end) (wide_min dir m goals start threshold found.0 mdp each inside end)) text found.2

@@ -60,14 +60,14 @@ own_shape dir m found shape = subst (λ (d : Dir). HasShape d m found) (sym (dir
 
 module _ (m : Mdp) (goals : List Bool) (start : ℕ) (threshold : ℚ) (found : PlainSubsystem) where
   -- what it shows, by the direction
-  pub is_witness : (dir : Dir) → Holds dir m goals start threshold found → (dir ≡ Max → SubMax m goals (kept_in m found) start threshold)
+  pub is_witness : (dir : Dir) → EndsSo dir m goals start threshold (Ok found) → Holds dir m goals start threshold found → (dir ≡ Max → SubMax m goals (kept_in m found) start threshold)
       → (dir ≡ Min → SubMin m goals (kept_in m found) start threshold) → (dir ≡ Max → PolicyReaches m goals start threshold found)
       → (dir ≡ Max → AreNeeded (IsNeededMax m goals start threshold) m found) → (dir ≡ Min → AreNeeded (IsNeededMin m goals start threshold) m found)
       → (dir ≡ Max → MarksAreExactMax m goals start threshold found) → (dir ≡ Min → MarksAreExactMin m goals start threshold found) → IsWitness dir threshold m goals start found
-  is_witness Max rules sub_max sub_min policy needed_max needed_min wide_max wide_min =
-      record { rules = rules; reaches = sub_max refl; policy = policy refl; needed = needed_max refl; marks = wide_max refl }
-  is_witness Min rules sub_max sub_min policy needed_max needed_min wide_max wide_min =
-      record { rules = rules; reaches = sub_min refl; policy = tt; needed = needed_min refl; marks = wide_min refl }
+  is_witness Max ends rules sub_max sub_min policy needed_max needed_min wide_max wide_min =
+      record { ends = ends; rules = rules; reaches = sub_max refl; policy = policy refl; needed = needed_max refl; marks = wide_max refl }
+  is_witness Min ends rules sub_max sub_min policy needed_max needed_min wide_max wide_min =
+      record { ends = ends; rules = rules; reaches = sub_min refl; policy = tt; needed = needed_min refl; marks = wide_min refl }
 
 -- ---- its text
 

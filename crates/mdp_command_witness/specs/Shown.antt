@@ -15,7 +15,7 @@ use Rattle.mdp_command.specs.Files.{most_bytes}
 use Rattle.mdp_command.specs.Read.{IsWorkOnModel}
 use Rattle.mdp_command.specs.Said.{Said}
 use Rattle.mdp_command.specs.Streams.{Input}
-use Rattle.mdp_witness.specs.Query.{PlainSubsystem}
+use Rattle.mdp_witness.specs.Query.{PlainSubsystem, EndsSo}
 use Rattle.mdp_witness.specs.Shown.{kept_in, Holds, PolicyReaches, IsNeededMax, IsNeededMin, AreNeeded, MarksAreExactMax, MarksAreExactMin}
 use Rattle.mdp_command_witness.specs.Certificate.{certificate_of}
 use Rattle.mdp_command_witness.specs.Due.{IsWitnessDue}
@@ -40,9 +40,10 @@ abbrev pub MarksAreExact : Dir → Mdp → List Bool → ℕ → ℚ → PlainSu
 MarksAreExact Max = MarksAreExactMax
 MarksAreExact Min = MarksAreExactMin
 
--- what holds of a subsystem for these goals and this start: its rules, so it reaches the threshold; its policy does; no kept state that isn't marked as
--- wide can go; and which states are so marked
+-- what holds of a subsystem for these goals and this start: the query ends with it; its rules, so it reaches the threshold; its policy does; no kept
+-- state that isn't marked as wide can go; and which states are so marked
 pub record IsWitness (dir : Dir) (threshold : ℚ) (m : Mdp) (goals : List Bool) (start : ℕ) (found : PlainSubsystem) : Type 0 where
+  pub ends : EndsSo dir m goals start threshold (Ok found)
   pub rules : Holds dir m goals start threshold found
   pub reaches : Reaches dir m goals (kept_in m found) start threshold
   pub policy : PolicyComes dir m goals start threshold found

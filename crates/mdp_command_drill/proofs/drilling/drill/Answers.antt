@@ -58,6 +58,7 @@ returns-in-Ok-drill_line-clause-shown c =
     drilled law.reads law.short law.rows law.states law.choices c.text_law.ensures.back c.args.number c.args.layers c.args.width shape m c.in-Ok-marks_of.goals a c.in-Ok-drill_line.text.items
     c.in-Ok.ensures c.in-Ok-marks_of.ensures
     (record {
+      ends = c.in-Ok-solve_reach.ensures.path;
       rules = c.in-Ok-solve_reach.ensures.rules;
       greatest = c.in-Ok-solve_reach.ensures.max refl;
       sizes = answer_sizes Max m c.in-Ok-marks_of.goals a mdp c.path_law.ensures.best c.avoid_law.ensures.rest c.in-Ok-solve_reach.ensures.path;

@@ -53,7 +53,8 @@ returns-clause-printed c =
     subst (λ (g : List Bool). EndsSo dir m g c.args.start threshold (Ok found)) c.in-Ok.ensures c.in-Ok-witness.ensures.path in
     let witness : IsWitness dir threshold m (marks_of m c.args.place) c.args.start found =
     subst (λ (g : List Bool). IsWitness dir threshold m g c.args.start found) c.in-Ok.ensures
-    (is_witness m c.in-Ok.goals c.args.start threshold found dir c.in-Ok-witness.ensures.holds (λ e. c.in-Ok-witness.ensures.sub_max e) (λ e. c.in-Ok-witness.ensures.sub_min e)
+    (is_witness m c.in-Ok.goals c.args.start threshold found dir c.in-Ok-witness.ensures.path c.in-Ok-witness.ensures.holds
+    (λ e. c.in-Ok-witness.ensures.sub_max e) (λ e. c.in-Ok-witness.ensures.sub_min e)
     (λ e. c.in-Ok-witness.ensures.policy e) (λ e. c.in-Ok-witness.ensures.needed_max e) (λ e. c.in-Ok-witness.ensures.needed_min e)
     (λ e. c.in-Ok-witness.ensures.wide_max e) (λ e. c.in-Ok-witness.ensures.wide_min e)) in
     text_printed (IsWitnessPrinted dir label threshold m) (cert.plain c.certificate_of-cert.result) _
