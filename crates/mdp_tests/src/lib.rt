@@ -4,8 +4,6 @@
 #[cfg(test)]
 mod graph_tests;
 #[cfg(test)]
-mod library_tests;
-#[cfg(test)]
 mod mean_tests;
 #[cfg(test)]
 mod models;
