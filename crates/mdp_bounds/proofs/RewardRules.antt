@@ -245,10 +245,12 @@ module _ (m : Mdp) (known : IsMdp m) (r : ℕ) (goals : List Bool) (lower upper 
     ordered = order_of Max m r goals lower upper policy ranks h;
     upper_stays = λ s c t i.
         stays_of_test m upper ranks s c (Some_same _ _ (each_map_at Holds (stay_check m upper s) (length (choices_at m s)) c (high_stays Max m r goals lower upper policy ranks h s t) i));
-    covers = λ s c t i. each_earns Max m known r upper s t.0 (upper_nonneg Max m r goals lower upper policy ranks h) (nonneg_of Max m r goals lower upper policy ranks h) c (high_half Max m r goals lower upper policy ranks h s t) i refl;
+    covers = λ s c t i. each_earns Max m known r upper s t.0 (upper_nonneg Max m r goals lower upper policy ranks h)
+        (nonneg_of Max m r goals lower upper policy ranks h) c (high_half Max m r goals lower upper policy ranks h s t) i refl;
     stays = λ s c t i.
         stays_of_test m lower ranks s c (Some_same _ _ (each_map_at Holds (stay_check m lower s) (length (choices_at m s)) c (low_stays Max m r goals lower upper policy ranks h s t) i));
-    reached = λ s t. choice_earns Max m known r lower s t.0 (lower_nonneg Max m r goals lower upper policy ranks h) (nonneg_of Max m r goals lower upper policy ranks h) (slice_index policy s) (IsPolicy.in_range (choices_of Max m r goals lower upper policy ranks h each) s t.0) (low_half Max m r goals lower upper policy ranks h s t);
+    reached = λ s t. choice_earns Max m known r lower s t.0 (lower_nonneg Max m r goals lower upper policy ranks h) (nonneg_of Max m r goals lower upper policy ranks h)
+        (slice_index policy s) (IsPolicy.in_range (choices_of Max m r goals lower upper policy ranks h each) s t.0) (low_half Max m r goals lower upper policy ranks h s t);
     falls = λ s c t i.
         falls_of_test m lower ranks s c (Some_same _ _ (each_map_at Holds (rank_fall_check m ranks s) (length (choices_at m s)) c (low_falls Max m r goals lower upper policy ranks h s t) i));
     misses = λ s i. misses_of_test m lower ranks s (slice_index policy s) (Some_same _ _ (missing_at Max m r goals lower upper policy ranks h s i).0);
@@ -262,9 +264,11 @@ module _ (m : Mdp) (known : IsMdp m) (r : ℕ) (goals : List Bool) (lower upper 
     upper_values = upper_rewards Min m r goals lower upper policy ranks h;
     ordered = order_of Min m r goals lower upper policy ranks h;
     upper_stays = λ s t. stays_of_test m upper ranks s (slice_index policy s) (Some_same _ _ (high_stays Min m r goals lower upper policy ranks h s t).0);
-    reached = λ s t. choice_earns Min m known r upper s t.0 (upper_nonneg Min m r goals lower upper policy ranks h) (nonneg_of Min m r goals lower upper policy ranks h) (slice_index policy s) (IsPolicy.in_range (choices_of Min m r goals lower upper policy ranks h each) s t.0) (high_half Min m r goals lower upper policy ranks h s t);
+    reached = λ s t. choice_earns Min m known r upper s t.0 (upper_nonneg Min m r goals lower upper policy ranks h) (nonneg_of Min m r goals lower upper policy ranks h)
+        (slice_index policy s) (IsPolicy.in_range (choices_of Min m r goals lower upper policy ranks h each) s t.0) (high_half Min m r goals lower upper policy ranks h s t);
     stays = λ s t. stays_of_test m lower ranks s (slice_index policy s) (Some_same _ _ (low_stays Min m r goals lower upper policy ranks h s t).0);
-    covered = λ s c t i f. each_earns Min m known r lower s t.0 (lower_nonneg Min m r goals lower upper policy ranks h) (nonneg_of Min m r goals lower upper policy ranks h) c (low_half Min m r goals lower upper policy ranks h s t) i (test_of_stays m lower ranks s c f);
+    covered = λ s c t i f. each_earns Min m known r lower s t.0 (lower_nonneg Min m r goals lower upper policy ranks h)
+        (nonneg_of Min m r goals lower upper policy ranks h) c (low_half Min m r goals lower upper policy ranks h s t) i (test_of_stays m lower ranks s c f);
     falls = λ s t. falls_of_test m lower ranks s (slice_index policy s) (Some_same _ _ (low_falls Min m r goals lower upper policy ranks h s t).0);
     misses = λ s c t i.
         all_misses_of_test m lower ranks s c

@@ -1,5 +1,6 @@
 -- What was made of a file is what is due to the bytes that its source had.
-use Rattle.std.proofs.Common.{◌≡◌, ℕ, ◌+◌, ◌<◌, ◌≤◌, ◌⊎◌, inl, inr, Bool, cond, List, [], length, Option, Some, None, Result, Err, IfSome, refl, sym, ap, subst, ◌∙◌, lt-ltb, arith, nat_lt}
+use Rattle.std.proofs.Common.{◌≡◌, ℕ, ◌+◌, ◌<◌, ◌≤◌, ◌⊎◌, inl, inr, Bool, cond, List, [], length, Option}
+use Rattle.std.proofs.Common.{Some, None, Result, Err, IfSome, refl, sym, ap, subst, ◌∙◌, lt-ltb, arith, nat_lt}
 use Rattle.std.specs.Prelude.{replicate}
 use Rattle.std.proofs.lemmas.Bool.{le-ltb}
 use Rattle.std.proofs.lemmas.List.{length-replicate}

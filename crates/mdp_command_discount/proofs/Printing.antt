@@ -1,5 +1,6 @@
 -- What is shown of a solved query: its certificate belongs to the model, and its text reads as it.
-use Rattle.std.proofs.Common.{◌≡◌, ℕ, ◌<◌, ◌≤◌, ◌⊎◌, inl, inr, Bool, cond, ◌&&◌, List, [], length, Option, Some, None, Result, Ok, Err, IfOk, refl, sym, ap, ap₂, subst, ◌∙◌, eq-eqb, lt-ltb}
+use Rattle.std.proofs.Common.{◌≡◌, ℕ, ◌<◌, ◌≤◌, ◌⊎◌, inl, inr, Bool, cond, ◌&&◌, List, [], length, Option}
+use Rattle.std.proofs.Common.{Some, None, Result, Ok, Err, IfOk, refl, sym, ap, ap₂, subst, ◌∙◌, eq-eqb, lt-ltb}
 use Rattle.std.specs.Prelude.{slice_index_or}
 use Rattle.std.specs.Str.{bytes_eq}
 use Rattle.std.proofs.lemmas.List.Quantifiers.{position-Some}
@@ -116,7 +117,8 @@ module _ (dir : Dir) (name : List ℕ) (f : ℚ) (m : Mdp) (r : ℕ) (found : pl
     bound = bounded best;
   }
 
-  pub printed : IsReadBack → Fits a → EndsSo dir m r name f (Ok a) → DiscountBound dir m r f a.values a.remainder a.choices → (said : Said) → (said ≡ Err no_memory) ⊎ (said ≡ Ok (text_of a)) → IfOk said (IsDiscountPrinted dir name f m)
+  pub printed : IsReadBack → Fits a → EndsSo dir m r name f (Ok a) → DiscountBound dir m r f a.values a.remainder a.choices
+      → (said : Said) → (said ≡ Err no_memory) ⊎ (said ≡ Ok (text_of a)) → IfOk said (IsDiscountPrinted dir name f m)
   printed back fits ends best (Ok text) (inl memory) = cc memory
   printed back fits ends best (Ok text) (inr e) = printed_text back fits ends best text (cc e)
   printed back fits ends best (Err refusal) e = tt

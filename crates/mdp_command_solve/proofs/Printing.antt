@@ -139,7 +139,8 @@ mean_sizes Min m r a gains h = record { gains = gains; bound = h.spreads.bounds;
 -- ---- the certificate
 
 -- the line `init` is right of a body that has these values
-init_holds : (i : Option ℕ) (value : ℕ → Option ℚ) (body : PlainBody) → is_subsystem body ≡ false → ((s : ℕ) → i ≡ Some s → has_value body s (value s) ≡ true) → init_check (init_by i value) i body ≡ Yes
+init_holds : (i : Option ℕ) (value : ℕ → Option ℚ) (body : PlainBody) → is_subsystem body ≡ false
+    → ((s : ℕ) → i ≡ Some s → has_value body s (value s) ≡ true) → init_check (init_by i value) i body ≡ Yes
 init_holds None value body plain h = ap (λ (b : Bool). cond b (init_fault None) Yes) plain
 init_holds (Some s) value body plain h = by (value s) (h s refl)
   where
@@ -172,7 +173,8 @@ pub may_be_reward : (dir : Dir) (name label : List ℕ) (v : Option ℚ) → may
 may_be_reward dir name label None = refl
 may_be_reward dir name label (Some x) = refl
 
-inside_by : (claim : PlainClaim) → is_witness claim ≡ false → (i : Option ℕ) (value : ℕ → Option ℚ) (n : ℕ) → ((s : ℕ) → i ≡ Some s → (s < n) × (may_stand claim (value s) ≡ true)) → is_init_of claim n (init_by i value) ≡ true
+inside_by : (claim : PlainClaim) → is_witness claim ≡ false → (i : Option ℕ) (value : ℕ → Option ℚ) (n : ℕ)
+    → ((s : ℕ) → i ≡ Some s → (s < n) × (may_stand claim (value s) ≡ true)) → is_init_of claim n (init_by i value) ≡ true
 inside_by claim plain None value n h = ap not plain
 inside_by claim plain (Some s) value n h = by (value s) (h s refl).1
   where
@@ -183,7 +185,8 @@ inside_by claim plain (Some s) value n h = by (value s) (h s refl).1
     by None e = ap₂ (λ (a b : Bool). a && b) e below
     by (Some x) e = ap₂ (λ (a b : Bool). a && b) (ap not plain) below
 
-pub init_inside : (claim : PlainClaim) → is_witness claim ≡ false → (m : Mdp) (value : ℕ → Option ℚ) (n : ℕ) (init : Init) → n ≡ states_of m → ((s : ℕ) → may_stand claim (value s) ≡ true) → init ≡ init_by (initial_of m) value
+pub init_inside : (claim : PlainClaim) → is_witness claim ≡ false → (m : Mdp) (value : ℕ → Option ℚ) (n : ℕ) (init : Init)
+    → n ≡ states_of m → ((s : ℕ) → may_stand claim (value s) ≡ true) → init ≡ init_by (initial_of m) value
     → is_init_of claim n init ≡ true
 init_inside claim plain m value n init e may i =
     ap (is_init_of claim n) i ∙ inside_by claim plain (initial_of m) value n (λ s h. (let l = initial_below m s h in omega (arith, l, e), may s))
@@ -235,7 +238,8 @@ module _ (dir : Dir) (label : List ℕ) (m : Mdp) (l : ℕ) (a : Answer) (found 
     named = refl;
     goals = marks_of m l;
     marked = marks_found m label l found;
-    init = init_holds (initial_of m) _ (certificate.policy a.values a.choices a.ranks) refl (λ s e. reach_valued a.values a.choices a.ranks s (let lt = initial_below m s e in let n = sizes.values in omega (arith, lt, n)));
+    init = init_holds (initial_of m) _ (certificate.policy a.values a.choices a.ranks) refl
+        (λ s e. reach_valued a.values a.choices a.ranks s (let lt = initial_below m s e in let n = sizes.values in omega (arith, lt, n)));
     body = rules;
   }
 

@@ -1,5 +1,6 @@
 -- The text of a certificate whose claim is no subsystem's has at most 2^30 bytes.
-use Rattle.std.proofs.Common.{◌≡◌, ℕ, suc, ◌+◌, ◌*◌, ◌<◌, ◌≤◌, ◌^◌, Bool, true, false, cond, eqb, List, [], ◌∷◌, ◌++◌, length, codes, decimal, Option, Some, None, refl, arith, lit<}
+use Rattle.std.proofs.Common.{◌≡◌, ℕ, suc, ◌+◌, ◌*◌, ◌<◌, ◌≤◌, ◌^◌, Bool, true, false, cond, eqb}
+use Rattle.std.proofs.Common.{List, [], ◌∷◌, ◌++◌, length, codes, decimal, Option, Some, None, refl, arith, lit<}
 use Rattle.std.proofs.Common.{ltb→lt, T, sym, subst, not}
 use Rattle.std.specs.List.{AllByRecursion as Each}
 use Rattle.std.proofs.lemmas.Bool.{and_parts}
@@ -235,7 +236,8 @@ module _ (states : ℕ) (limit : states ≤ 2 ^ 20) where
       let y = sizes.choices in
       let z = sizes.ranks in
       let n = length-policies zs cs rs (omega (arith, x, y)) (omega (arith, x, z)) in
-      let l = closed_short (policy_columns k) (IsPolicyInWidth P) (λ p h. entry_short (k.spell p.value) p.choice p.rank (short p.value h.value) h.choice h.rank) (policies zs cs rs) (omega (arith, x, n, limit)) (entries_width P zs cs rs p q o) in
+      let l = closed_short (policy_columns k) (IsPolicyInWidth P) (λ p h. entry_short (k.spell p.value) p.choice p.rank (short p.value h.value) h.choice h.rank)
+      (policies zs cs rs) (omega (arith, x, n, limit)) (entries_width P zs cs rs p q o) in
       omega (arith, x, n, l)
 
   bounds_short : (zs : List ℚ) → length zs ≡ states → Each IsNarrow zs → length (lines_of bound_columns zs) ≤ 300 * states + 4
@@ -252,7 +254,8 @@ module _ (states : ℕ) (limit : states ≤ 2 ^ 20) where
       let z = sizes.biases in
       let w = sizes.choices in
       let count = Back.count (back gs zs bs cs (record { bounds = omega (arith, x, y); biases = omega (arith, x, z); choices = omega (arith, x, w) })) in
-      let l = closed_short mean_columns IsMeanInWidth (λ x h. means_short x.gain x.bound x.bias x.choice h.gain h.bound h.bias h.choice) (means gs zs bs cs) (omega (arith, x, count, limit)) (means_width gs zs bs cs p q o n) in
+      let l = closed_short mean_columns IsMeanInWidth (λ x h. means_short x.gain x.bound x.bias x.choice h.gain h.bound h.bias h.choice)
+      (means gs zs bs cs) (omega (arith, x, count, limit)) (means_width gs zs bs cs p q o n) in
       omega (arith, x, count, l)
 
 module _ (c : Certificate) (fits : Fits c) (plain : is_witness c.claim ≡ false) where

@@ -1,5 +1,6 @@
 -- The lists of a subsystem that have the shape that its rules ask for fit its claim.
-use Rattle.std.proofs.Common.{◌≡◌, ℕ, suc, ◌<◌, Bool, true, eqb, ◌&&◌, List, [], ◌∷◌, length, get_or, Option, Some, None, refl, sym, subst, ap₂, arith, eq-eqb, lt-ltb, pos, ℤ, ◌*ℤ◌, int_le, ◌∙◌}
+use Rattle.std.proofs.Common.{◌≡◌, ℕ, suc, ◌<◌, Bool, true, eqb, ◌&&◌, List, [], ◌∷◌, length, get_or, Option}
+use Rattle.std.proofs.Common.{Some, None, refl, sym, subst, ap₂, arith, eq-eqb, lt-ltb, pos, ℤ, ◌*ℤ◌, int_le, ◌∙◌}
 use Rattle.std.specs.List.{All}
 use Rattle.std.proofs.lemmas.List.Elements.{All-head, All-tail}
 use Rattle.mdp_math.specs.Rational.{ℚ, of_int, le_ℚ, ◌≤ℚ◌}
@@ -24,7 +25,8 @@ ascends-tail s kept a i j l h = a (suc i) (suc j) (omega arith) (omega arith)
 next_first : (s : ℕ) (kept : List ℕ) → Ascends (s ∷ kept) → (i : ℕ) → i < length kept → s < get_or kept i 0
 next_first s kept a i l = a 0 (suc i) (omega arith) (omega arith)
 
-kept_behind : (n : ℕ) (before : Option ℕ) (kept : List ℕ) → ((i : ℕ) → i < length kept → is_next before (get_or kept i 0) ≡ true) → Ascends kept → All (λ s. s < n) kept → are_kept n before kept ≡ true
+kept_behind : (n : ℕ) (before : Option ℕ) (kept : List ℕ) → ((i : ℕ) → i < length kept → is_next before (get_or kept i 0) ≡ true)
+    → Ascends kept → All (λ s. s < n) kept → are_kept n before kept ≡ true
 kept_behind n before [] next a inside = refl
 kept_behind n before (s ∷ kept) next a inside =
     ap₂ (λ (p q : Bool). p && q) (ap₂ (λ (p q : Bool). p && q) (next 0 (omega arith)) (lt-ltb s n (All-head (λ s. s < n) s kept inside)))

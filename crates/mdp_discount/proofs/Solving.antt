@@ -1,5 +1,6 @@
 -- The problem of the discounted reward is solvable from any policy, and what is found solves the discounted reward.
-use Rattle.std.proofs.Common.{◌≡◌, ◌⊎◌, inl, ℕ, zero, suc, ◌+◌, ◌<◌, ◌≤◌, Bool, true, false, List, [], ◌∷◌, length, take, replicate, refl, sym, ◌∙◌, ap, subst, arith, ltb, ltb-true, ltb-false}
+use Rattle.std.proofs.Common.{◌≡◌, ◌⊎◌, inl, ℕ, zero, suc, ◌+◌, ◌<◌, ◌≤◌, Bool, true, false, List, []}
+use Rattle.std.proofs.Common.{◌∷◌, length, take, replicate, refl, sym, ◌∙◌, ap, subst, arith, ltb, ltb-true, ltb-false}
 use Rattle.std.specs.Prelude.{slice_index, slice_index_or}
 use Rattle.std.specs.List.{Any}
 use Rattle.std.proofs.lemmas.List.{get_or-take, get_or-replicate, length-replicate}

@@ -27,10 +27,12 @@ average m u weights gain k f s = sum_at (choices_at m s) (λ c x. share u weight
 -- a number of trees that goes by the first step, at states that don't end
 abbrev pub GoesBy : Mdp → ℕ → (ℕ → Bool) → (Choice → ℚ) → ℚ → (ℕ → Tree → ℕ → ℚ) → Type 0
 GoesBy m u ends gain k V =
-    (n : ℕ) (weights : ℕ → ℕ) (kids : ℕ → ℕ → Tree) (s : ℕ) → s < states_of m → ends s ≡ false → V (suc n) (node weights kids) s ≡ average m u weights gain k (λ c e y. V n (kids c e) y.target) s
+    (n : ℕ) (weights : ℕ → ℕ) (kids : ℕ → ℕ → Tree) (s : ℕ) → s < states_of m → ends s ≡ false
+    → V (suc n) (node weights kids) s ≡ average m u weights gain k (λ c e y. V n (kids c e) y.target) s
 
 -- an average is no better than b, where each choice of weight above 0 is no better
-pub average-no_better : (dir : Dir) (m : Mdp) (u : ℕ) (weights : ℕ → ℕ) (gain : Choice → ℚ) (k : ℚ) (f : ℕ → ℕ → Entry → ℚ) (s : ℕ) (b : ℚ) → 1 ≤ u → count_at (choices_at m s) (λ c x. weights c) ≡ u
+pub average-no_better : (dir : Dir) (m : Mdp) (u : ℕ) (weights : ℕ → ℕ) (gain : Choice → ℚ) (k : ℚ)
+    (f : ℕ → ℕ → Entry → ℚ) (s : ℕ) (b : ℚ) → 1 ≤ u → count_at (choices_at m s) (λ c x. weights c) ≡ u
     → EachAt (choices_at m s) (λ c x. 0 < weights c → NoBetter dir (gain x +ℚ k *ℚ sum_at x.row (λ e y. y.prob *ℚ f c e y)) b) → NoBetter dir (average m u weights gain k f s) b
 average-no_better dir m u weights gain k f s b h adds each =
     subst (λ (w : ℚ). NoBetter dir (average m u weights gain k f s) w) (ap (λ (w : ℚ). w *ℚ b) (shares-total (choices_at m s) u weights h adds) ∙ one-*ℚ b)

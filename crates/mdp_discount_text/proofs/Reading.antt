@@ -43,7 +43,8 @@ onto-none (Ok p) = refl
 pub first-state : (states : ℕ) (p : Place) → onto [] [] (states_from (states - 0) 0 p) ≡ states_from states 0 p
 first-state states p = let all : states - 0 ≡ states = omega arith in rw all (onto-none (states_from states 0 p))
 
-pub next-state : (vs : List ℚ) (cs : List ℕ) (states s next : ℕ) (p q : Place) (text : List ℕ) (x : StateLine) → s < states → next ≡ suc s → next_line p ≡ Ok (text, q) → state_at s p.line text ≡ Ok x
+pub next-state : (vs : List ℚ) (cs : List ℕ) (states s next : ℕ) (p q : Place) (text : List ℕ) (x : StateLine)
+    → s < states → next ≡ suc s → next_line p ≡ Ok (text, q) → state_at s p.line text ≡ Ok x
     → onto vs cs (states_from (states - s) s p) ≡ onto (vs ++ x.value ∷ []) (cs ++ x.choice ∷ []) (states_from (states - next) next q)
 unfolding states_from
 next-state vs cs states s next p q text x lt e found said =

@@ -1,5 +1,6 @@
 -- The header: entries, each at most once, in any order, up to `@model`.
-use Rattle.std.specs.Prelude.{ℕ, ◌^◌, Bool, false, true, not, ◌||◌, ◌&&◌, is_some, List, [], ◌∷◌, length, drop, Option, Some, None, Result, Ok, Err, nat_lt, ◌==◌, if◌then◌else◌, filter, codes}
+use Rattle.std.specs.Prelude.{ℕ, ◌^◌, Bool, false, true, not, ◌||◌, ◌&&◌, is_some, List, [], ◌∷◌, length}
+use Rattle.std.specs.Prelude.{drop, Option, Some, None, Result, Ok, Err, nat_lt, ◌==◌, if◌then◌else◌, filter, codes}
 use Rattle.std.specs.List.{slice_split, list_any}
 use Rattle.std.specs.Str.{bytes_eq}
 use Rattle.mdp_num.specs.Digits.{is_digits, number}

@@ -1,5 +1,6 @@
 -- A term past width is at the step of an active state: the value of any other is 0, and no equation has an entry to it.
-use Rattle.std.proofs.Common.{◌≡◌, ℕ, zero, suc, ◌<◌, Bool, true, false, List, [], ◌∷◌, length, take, get_or, refl, sym, ◌∙◌, ap, subst, arith, Option, Some, None, Result, Ok, Err, if◌then◌else◌}
+use Rattle.std.proofs.Common.{◌≡◌, ℕ, zero, suc, ◌<◌, Bool, true, false, List, [], ◌∷◌, length, take, get_or}
+use Rattle.std.proofs.Common.{refl, sym, ◌∙◌, ap, subst, arith, Option, Some, None, Result, Ok, Err, if◌then◌else◌}
 use Rattle.std.proofs.lemmas.List.{length-take-le, get_or-take}
 use Rattle.mdp_math.specs.Rational.{ℚ}
 use Rattle.mdp_math.specs.Written.{◌>>=◌}
@@ -62,7 +63,8 @@ module _ (active : List Bool) where
         eliminated-some m equations no_equation (solved_none m (at equations m) (only.others m (omega (arith, len)) off)) (take m equations)
         (each-from (substituted m no_equation) no_equation (take m equations) (take m equations) refl
         (λ t l.
-        subst (λ (e : Equation). substituted m no_equation e ≡ Some e) (sym (get_or-take m equations t no_equation (omega (arith, l, below)))) (unchanged m no_equation (at equations t) off (only.lead t (omega (arith, len, l, below))))))
+        subst (λ (e : Equation). substituted m no_equation e ≡ Some e) (sym (get_or-take m equations t no_equation (omega (arith, l, below))))
+        (unchanged m no_equation (at equations t) off (only.lead t (omega (arith, len, l, below))))))
 
     stops_by : (b : Bool) → is_active active m ≡ b → eliminated m equations ≡ None → is_active active m ≡ true
     stops_by true e h = e
@@ -88,7 +90,8 @@ module _ (active : List Bool) where
       rest_at : (t : ℕ) → t < m → substituted m e.pivot (at equations t) ≡ Some (at e.rest t)
       rest_at t l =
           subst (λ (x : Eliminated). substituted m x.pivot (at equations t) ≡ Some (at x.rest t)) same
-          (subst (λ (x : Equation). substituted m parts.0 x ≡ Some (at rest_made.0 t)) (get_or-take m equations t no_equation l) (each_at (substituted m parts.0) no_equation (take m equations) rest_made.0 t rest_made.1 (omega (arith, l, below))))
+          (subst (λ (x : Equation). substituted m parts.0 x ≡ Some (at rest_made.0 t)) (get_or-take m equations t no_equation l)
+          (each_at (substituted m parts.0) no_equation (take m equations) rest_made.0 t rest_made.1 (omega (arith, l, below))))
 
       rest_only : OnlyActive e.rest
       rest_only = record {
@@ -97,7 +100,8 @@ module _ (active : List Bool) where
             substituted_none m e.pivot (at equations t) (at e.rest t) (only.others t (omega (arith, k, len)) off) (rest_at t k);
         lead = λ t l.
             let k : t < m = omega (arith, l, rest_len) in
-            targets-substituted IsOn m e.pivot (at equations t) (at e.rest t) (targets-solved IsOn m (at equations m) e.pivot (only.lead m (omega (arith, len))) pivot_made) (only.lead t (omega (arith, k, len))) (rest_at t k);
+            targets-substituted IsOn m e.pivot (at equations t) (at e.rest t)
+            (targets-solved IsOn m (at equations m) e.pivot (only.lead m (omega (arith, len))) pivot_made) (only.lead t (omega (arith, k, len))) (rest_at t k);
       }
 
       evaluates_by : (values : Values) (b : Bool) → is_active active m ≡ b → evaluated e.pivot values ≡ None → is_active active m ≡ true
@@ -112,11 +116,13 @@ module _ (active : List Bool) where
   last_by m s None f h = let e = err_same m s h in subst (Stops (suc m)) e (omega arith, f refl)
   last_by m s (Some v) f h = cc
 
-  then_by : (m s : ℕ) (r : Result Values ℕ) (g : Values → Option Values) → (r ≡ Err s → Stops m s) → ((v : Values) → g v ≡ None → IsOn m) → (r and_then (λ v. at_state m (g v))) ≡ Err s → Stops (suc m) s
+  then_by : (m s : ℕ) (r : Result Values ℕ) (g : Values → Option Values) → (r ≡ Err s → Stops m s)
+      → ((v : Values) → g v ≡ None → IsOn m) → (r and_then (λ v. at_state m (g v))) ≡ Err s → Stops (suc m) s
   then_by m s (Ok v) g f k h = last_by m s (g v) (k v) h
   then_by m s (Err t) g f k h = let a = f h in (omega (arith, a.0), a.1)
 
-  step_by : (m s : ℕ) (o : Option Eliminated) → (o ≡ None → IsOn m) → ((e : Eliminated) → o ≡ Some e → (solution m e.rest ≡ Err s → Stops m s) × ((v : Values) → evaluated e.pivot v ≡ None → IsOn m))
+  step_by : (m s : ℕ) (o : Option Eliminated) → (o ≡ None → IsOn m)
+      → ((e : Eliminated) → o ≡ Some e → (solution m e.rest ≡ Err s → Stops m s) × ((v : Values) → evaluated e.pivot v ≡ None → IsOn m))
       → (at_state m o and_then (λ e. solution m e.rest and_then (λ values. at_state m (evaluated e.pivot values)))) ≡ Err s → Stops (suc m) s
   step_by m s None f g h = let e = err_same m s h in subst (Stops (suc m)) e (omega arith, f refl)
   step_by m s (Some e) f g h = let k = g e refl in then_by m s (solution m e.rest) (evaluated e.pivot) k.0 k.1 h

@@ -16,7 +16,8 @@ use Rattle.mdp_elim.proofs.Zeros.{bind_none, bind_some}
 use Rattle.mdp_elim.specs.Elimination.{evaluated, divided_rest, plus_equation, divided, substituted, Eliminated, eliminated}
 
 pub one_less-nonzero : (p u : ℚ) → p ≢ 1ℚ → Some u ≡ written_sub 1ℚ p → u ≢ 0ℚ
-one_less-nonzero p u h e z = h (combine 2 (λ p u. p) (λ p u. lit (pos 1)) (λ p u. equal (lit (pos 1)) u (lit (pos 1) ⊕ ⊖ p) ∷ equal (lit (negsuc 0)) u (lit (pos 0)) ∷ []) refl p u (written_add-some 1ℚ (neg_ℚ p) u e) z)
+one_less-nonzero p u h e z = h (combine 2 (λ p u. p) (λ p u. lit (pos 1))
+    (λ p u. equal (lit (pos 1)) u (lit (pos 1) ⊕ ⊖ p) ∷ equal (lit (negsuc 0)) u (lit (pos 0)) ∷ []) refl p u (written_add-some 1ℚ (neg_ℚ p) u e) z)
 
 module _ (p : ℚ) (e : Equation) where
   pub divided_rest-none : None ≡ written_sub 1ℚ p → divided_rest p e ≡ None
@@ -52,7 +53,8 @@ module _ (w : ℚ) (pivot e : Equation) where
   module _ (entries : List Entry) (row : plus_row w pivot.entries e.entries ≡ Some entries) where
     pub plus_equation-none_first : None ≡ (written_mul w pivot.first >>= written_add e.first) → plus_equation w pivot e ≡ None
     unfolding plus_equation
-    plus_equation-none_first h = rw row (bind_none (written_mul w pivot.first) (written_add e.first) (λ first. written_mul w pivot.second >>= (λ also. written_add e.second also >>= (λ second. whole entries first second))) h)
+    plus_equation-none_first h = rw row (bind_none (written_mul w pivot.first) (written_add e.first)
+        (λ first. written_mul w pivot.second >>= (λ also. written_add e.second also >>= (λ second. whole entries first second))) h)
 
     module _ (first : ℚ) (add : Some first ≡ (written_mul w pivot.first >>= written_add e.first)) where
       first_added : plus_equation w pivot e ≡ (written_mul w pivot.second >>= (λ also. written_add e.second also >>= (λ second. whole entries first second)))

@@ -29,7 +29,8 @@ first_two = true ∷ true ∷ false ∷ []
 row_without : without 1 (to 0 (ratio (pos 1) 2) ∷ to 1 (ratio (pos 1) 4) ∷ []) ≡ to 0 (ratio (pos 1) 2) ∷ []
 row_without = refl
 
-transposed_row : transposed three ≡ (to 0 (ratio (pos 1) 2) ∷ to 1 (ratio (pos 1) 3) ∷ []) ∷ (to 0 (ratio (pos 1) 4) ∷ []) ∷ (to 0 (ratio (pos 1) 4) ∷ to 1 (ratio (pos 2) 3) ∷ to 2 (of_int (pos 1)) ∷ []) ∷ []
+transposed_row : transposed three ≡ (to 0 (ratio (pos 1) 2) ∷ to 1 (ratio (pos 1) 3) ∷ [])
+    ∷ (to 0 (ratio (pos 1) 4) ∷ []) ∷ (to 0 (ratio (pos 1) 4) ∷ to 1 (ratio (pos 2) 3) ∷ to 2 (of_int (pos 1)) ∷ []) ∷ []
 transposed_row = refl
 
 -- the column 0, 1, 0 gives 3/5, 6/5, 0
@@ -85,7 +86,8 @@ abbrev first_three : List Bool
 first_three = true ∷ true ∷ true ∷ false ∷ []
 
 -- x0 = 1 + x1/2, x1 = x2/2, x2 = x0/2
-ring_values : written_solution ring first_three ((of_int (pos 1) ∷ of_int (pos 0) ∷ of_int (pos 0) ∷ of_int (pos 0) ∷ []) ∷ []) ≡ Ok ((ratio (pos 8) 7 ∷ ratio (pos 2) 7 ∷ ratio (pos 4) 7 ∷ of_int (pos 0) ∷ []) ∷ [])
+ring_values : written_solution ring first_three ((of_int (pos 1) ∷ of_int (pos 0) ∷ of_int (pos 0) ∷ of_int (pos 0) ∷ []) ∷ [])
+    ≡ Ok ((ratio (pos 8) 7 ∷ ratio (pos 2) 7 ∷ ratio (pos 4) 7 ∷ of_int (pos 0) ∷ []) ∷ [])
 unfolding equation_of eliminated divided_rest plus_equation evaluated written_add written_mul narrow narrow_ℚ ◌+ℚ◌ ◌*ℚ◌ neg_ℚ inv_ℚ ratio of_int gcd gcd_with_fuel
 ring_values = refl
 

@@ -1,5 +1,6 @@
 -- The system of the transposed rows, as it is made, and that its values are the expected visits.
-use Rattle.std.proofs.Common.{◌≡◌, ◌≢◌, ℕ, suc, ◌⊎◌, inl, inr, map, eq-eqb, ◌+◌, ◌<◌, Bool, true, false, List, [], ◌∷◌, ◌++◌, length, drop, get_or, refl, sym, ◌∙◌, ap, ap₂, subst, arith, eqb, if◌then◌else◌, pos, zero-add, Result, Ok, Err}
+use Rattle.std.proofs.Common.{◌≡◌, ◌≢◌, ℕ, suc, ◌⊎◌, inl, inr, map, eq-eqb, ◌+◌, ◌<◌, Bool, true, false, List, [], ◌∷◌, ◌++◌}
+use Rattle.std.proofs.Common.{length, drop, get_or, refl, sym, ◌∙◌, ap, ap₂, subst, arith, eqb, if◌then◌else◌, pos, zero-add, Result, Ok, Err}
 use Rattle.std.specs.List.{flat_map, range_with_len}
 use Rattle.std.proofs.Math.ListN.{set}
 use Rattle.std.proofs.lemmas.Bool.{ne_eqb}
@@ -42,7 +43,8 @@ module _ (s t : ℕ) (ts : List ℕ) (ps : List ℚ) (i v : ℕ) (p : ℚ) (with
 -- ---- the active ones of them
 
 module _ (active : List Bool) where
-  append_by : (x : Entry) (xs ys : List Entry) (b : Bool) → inner active (xs ++ ys) ≡ inner active xs ++ inner active ys → (if b then x ∷ inner active (xs ++ ys) else inner active (xs ++ ys)) ≡ (if b then x ∷ inner active xs else inner active xs) ++ inner active ys
+  append_by : (x : Entry) (xs ys : List Entry) (b : Bool) → inner active (xs ++ ys) ≡ inner active xs ++ inner active ys
+      → (if b then x ∷ inner active (xs ++ ys) else inner active (xs ++ ys)) ≡ (if b then x ∷ inner active xs else inner active xs) ++ inner active ys
   append_by x xs ys true h = ap (λ (zs : List Entry). x ∷ zs) h
   append_by x xs ys false h = h
 
@@ -53,7 +55,8 @@ module _ (active : List Bool) where
   abbrev moved : ℕ → Entry → Entry
   moved t x = record { target = t; prob = x.prob }
 
-  all_by : (s t : ℕ) (x : Entry) (row : List Entry) (b : Bool) → is_active active t ≡ true → inner active (entries_into s t row) ≡ entries_into s t row → inner active (if b then moved t x ∷ entries_into s t row else entries_into s t row) ≡ (if b then moved t x ∷ entries_into s t row else entries_into s t row)
+  all_by : (s t : ℕ) (x : Entry) (row : List Entry) (b : Bool) → is_active active t ≡ true → inner active (entries_into s t row) ≡ entries_into s t row
+      → inner active (if b then moved t x ∷ entries_into s t row else entries_into s t row) ≡ (if b then moved t x ∷ entries_into s t row else entries_into s t row)
   all_by s t x row true a h = ap (λ (c : Bool). if c then moved t x ∷ inner active (entries_into s t row) else inner active (entries_into s t row)) a ∙ ap (λ (zs : List Entry). moved t x ∷ zs) h
   all_by s t x row false a h = h
 
@@ -61,7 +64,8 @@ module _ (active : List Bool) where
   inner-into s t [] a = refl
   inner-into s t (x ∷ row) a = all_by s t x row (eqb x.target s) a (inner-into s t row a)
 
-  none_by : (s t : ℕ) (x : Entry) (row : List Entry) (b : Bool) → is_active active t ≡ false → inner active (entries_into s t row) ≡ [] → inner active (if b then moved t x ∷ entries_into s t row else entries_into s t row) ≡ []
+  none_by : (s t : ℕ) (x : Entry) (row : List Entry) (b : Bool) → is_active active t ≡ false
+      → inner active (entries_into s t row) ≡ [] → inner active (if b then moved t x ∷ entries_into s t row else entries_into s t row) ≡ []
   none_by s t x row true a h = ap (λ (c : Bool). if c then moved t x ∷ inner active (entries_into s t row) else inner active (entries_into s t row)) a ∙ h
   none_by s t x row false a h = h
 
@@ -77,7 +81,8 @@ module _ (active : List Bool) where
 
     pub row-left : is_active active t ≡ false → terms ≡ inner active (flat_map f (range_with_len 0 (t + 1)))
     row-left a =
-        before ∙ sym (append-nil (inner active (flat_map f (range_with_len 0 t)))) ∙ ap (λ (ys : List Entry). inner active (flat_map f (range_with_len 0 t)) ++ ys) (sym (ap (inner active) is ∙ inner-into_none s t row a))
+        before ∙ sym (append-nil (inner active (flat_map f (range_with_len 0 t)))) ∙ ap
+        (λ (ys : List Entry). inner active (flat_map f (range_with_len 0 t)) ++ ys) (sym (ap (inner active) is ∙ inner-into_none s t row a))
         ∙ sym (inner-append (flat_map f (range_with_len 0 t)) (f t)) ∙ ap (inner active) (sym (flat_more f t))
 
 -- ---- the column of the start
@@ -93,14 +98,17 @@ one_at-other start s e = ap (λ (b : Bool). if b then of_int (pos 1) else of_int
 
 -- ---- the equations at first
 
-pub start-is : (start s : ℕ) (e : Equation) (es : List Entry) (a b : ℚ) → e ≡ (let x : Equation = record { entries = es; first = a; second = b } in x) → es ≡ [] → a ≡ one_at start s → b ≡ of_int (pos 0) → e ≡ start_equation start s
+pub start-is : (start s : ℕ) (e : Equation) (es : List Entry) (a b : ℚ) → e ≡ (let x : Equation = record { entries = es; first = a; second = b } in x)
+    → es ≡ [] → a ≡ one_at start s → b ≡ of_int (pos 0) → e ≡ start_equation start s
 start-is start s e es a b is p q r = is ∙ rw (p, q, r) refl
 
 -- ---- the rows are transposed one after the other
 
 module _ (active : List Bool) (t : ℕ) where
-  with_by : (row : List Entry) (s : ℕ) (e : Equation) (b : Bool) → entries_into s t row ≡ [] → (if b then (let x : Equation = record { entries = e.entries ++ entries_into s t row; first = e.first; second = e.second } in x) else e) ≡ e
-  with_by row s e true h = ap (λ (xs : List Entry). let x : Equation = record { entries = e.entries ++ xs; first = e.first; second = e.second } in x) h ∙ ap (λ (xs : List Entry). let x : Equation = record { entries = xs; first = e.first; second = e.second } in x) (append-nil e.entries)
+  with_by : (row : List Entry) (s : ℕ) (e : Equation) (b : Bool) → entries_into s t row ≡ []
+      → (if b then (let x : Equation = record { entries = e.entries ++ entries_into s t row; first = e.first; second = e.second } in x) else e) ≡ e
+  with_by row s e true h = ap (λ (xs : List Entry). let x : Equation = record { entries = e.entries ++ xs; first = e.first; second = e.second } in x) h
+      ∙ ap (λ (xs : List Entry). let x : Equation = record { entries = xs; first = e.first; second = e.second } in x) (append-nil e.entries)
   with_by row s e false h = refl
 
   -- no entry is left
@@ -115,8 +123,10 @@ module _ (active : List Bool) (t : ℕ) where
     abbrev pushed : Equation → Equation
     pushed e = record { entries = e.entries ++ (let x : Entry = record { target = t; prob = p } in x) ∷ []; first = e.first; second = e.second }
 
-    next_at : (s : ℕ) (b : Bool) → eqb v s ≡ b → entries_into s t (left i) ≡ (if b then (let x : Entry = record { target = t; prob = p } in x) ∷ entries_into s t (left (i + 1)) else entries_into s t (left (i + 1)))
-    next_at s b e = into-next s t ts ps i v p within same target prob ∙ ap (λ (c : Bool). if c then (let x : Entry = record { target = t; prob = p } in x) ∷ entries_into s t (left (i + 1)) else entries_into s t (left (i + 1))) e
+    next_at : (s : ℕ) (b : Bool) → eqb v s ≡ b → entries_into s t (left i)
+        ≡ (if b then (let x : Entry = record { target = t; prob = p } in x) ∷ entries_into s t (left (i + 1)) else entries_into s t (left (i + 1)))
+    next_at s b e = into-next s t ts ps i v p within same target prob ∙ ap
+        (λ (c : Bool). if c then (let x : Entry = record { target = t; prob = p } in x) ∷ entries_into s t (left (i + 1)) else entries_into s t (left (i + 1))) e
 
     -- a state to which it doesn't lead
     with_row-other : (s : ℕ) (e : Equation) → eqb v s ≡ false → with_row active t (left i) s e ≡ with_row active t (left (i + 1)) s e
@@ -135,18 +145,24 @@ module _ (active : List Bool) (t : ℕ) where
         ap (λ (b : Bool). if b then (let x : Equation = record { entries = e.entries ++ entries_into s t (left i); first = e.first; second = e.second } in x) else e) on
         ∙ ap (λ (xs : List Entry). let x : Equation = record { entries = xs; first = e.first; second = e.second } in x)
         (ap (λ (xs : List Entry). e.entries ++ xs) (next_at s true h) ∙ sym (append_assoc e.entries ((let x : Entry = record { target = t; prob = p } in x) ∷ []) (entries_into s t (left (i + 1)))))
-        ∙ sym (ap (λ (b : Bool). if b then (let x : Equation = record { entries = (e.entries ++ (let x : Entry = record { target = t; prob = p } in x) ∷ []) ++ entries_into s t (left (i + 1)); first = e.first; second = e.second } in x) else pushed e) on)
+        ∙ sym (ap (λ (b : Bool). if b then (let x : Equation
+        = record { entries = (e.entries ++ (let x : Entry = record { target = t; prob = p } in x) ∷ []) ++ entries_into s t (left (i + 1)); first = e.first; second = e.second } in x)
+        else pushed e) on)
 
     module _ (row : List Entry) (old : List Equation) (so_far : (s : ℕ) → with_row active t row s (at old s) ≡ with_row active t (left i) s (at now s)) where
-      put_by : (new : List Equation) (s : ℕ) → at new v ≡ pushed (at now v) → ((u : ℕ) → u ≢ v → at new u ≡ at now u) → is_active active v ≡ true → (s ≡ v) ⊎ (s ≢ v) → with_row active t row s (at old s) ≡ with_row active t (left (i + 1)) s (at new s)
+      put_by : (new : List Equation) (s : ℕ) → at new v ≡ pushed (at now v) → ((u : ℕ) → u ≢ v → at new u ≡ at now u)
+          → is_active active v ≡ true → (s ≡ v) ⊎ (s ≢ v) → with_row active t row s (at old s) ≡ with_row active t (left (i + 1)) s (at new s)
       put_by new s here others on (inl e) =
           so_far s ∙ with_row-here s (at now s) (eq-eqb v s (sym e)) (ap (is_active active) e ∙ on)
           ∙ ap (with_row active t (left (i + 1)) s) (ap (λ (n : ℕ). pushed (at now n)) e ∙ sym here ∙ ap (at new) (sym e))
       put_by new s here others on (inr n) = so_far s ∙ with_row-other s (at now s) (ne_eqb v s (λ e. n (sym e))) ∙ ap (with_row active t (left (i + 1)) s) (sym (others s n))
 
-      pub row_put : (e o : Equation) (x : Entry) → v < length now → e ≡ (let y : Equation = record { entries = o.entries ++ x ∷ []; first = o.first; second = o.second } in y) → o ≡ at now v → x ≡ (let y : Entry = record { target = t; prob = p } in y) → is_active active v ≡ true
+      pub row_put : (e o : Equation) (x : Entry) → v < length now → e ≡ (let y : Equation = record { entries = o.entries ++ x ∷ []; first = o.first; second = o.second } in y)
+          → o ≡ at now v → x ≡ (let y : Entry = record { target = t; prob = p } in y) → is_active active v ≡ true
           → (s : ℕ) → with_row active t row s (at old s) ≡ with_row active t (left (i + 1)) s (at (set now v e) s)
-      row_put e o x l is at_v term on s = put_by (set now v e) s (get_or-set_same now v e no_equation l ∙ is ∙ ap₂ (λ (a : Equation) (z : Entry). let y : Equation = record { entries = a.entries ++ z ∷ []; first = a.first; second = a.second } in y) at_v term) (λ u n. get_or-set_other now v u e no_equation n) on (one_or_two v s)
+      row_put e o x l is at_v term on s = put_by (set now v e) s (get_or-set_same now v e no_equation l ∙ is ∙ ap₂
+          (λ (a : Equation) (z : Entry). let y : Equation = record { entries = a.entries ++ z ∷ []; first = a.first; second = a.second } in y) at_v term)
+          (λ u n. get_or-set_other now v u e no_equation n) on (one_or_two v s)
 
       left_by : (s : ℕ) → is_active active v ≡ false → (s ≡ v) ⊎ (s ≢ v) → with_row active t row s (at old s) ≡ with_row active t (left (i + 1)) s (at now s)
       left_by s off (inl e) = so_far s ∙ with_row-off s (at now s) (ap (is_active active) e ∙ off)
@@ -160,22 +176,38 @@ module _ (rows : List (List Entry)) (active : List Bool) (start : ℕ) where
   into s u = entries_into s u (row_of rows u)
 
   kept_by : (t s : ℕ) → is_active active t ≡ true → (b : Bool)
-      → (if b then (let x : Equation = record { entries = Equation.entries (if b then (let y : Equation = record { entries = inner active (flat_map (into s) (range_with_len 0 t)); first = one_at start s; second = of_int (pos 0) } in y) else no_equation) ++ into s t; first = Equation.first (if b then (let y : Equation = record { entries = inner active (flat_map (into s) (range_with_len 0 t)); first = one_at start s; second = of_int (pos 0) } in y) else no_equation); second = Equation.second (if b then (let y : Equation = record { entries = inner active (flat_map (into s) (range_with_len 0 t)); first = one_at start s; second = of_int (pos 0) } in y) else no_equation) } in x)
+      → (if b then (let x : Equation = record {
+        entries = Equation.entries
+            (if b then (let y : Equation = record { entries = inner active (flat_map (into s) (range_with_len 0 t)); first = one_at start s; second = of_int (pos 0) } in y) else no_equation)
+            ++ into s t;
+        first = Equation.first (if b then (let y : Equation = record {
+          entries = inner active (flat_map (into s) (range_with_len 0 t));
+          first = one_at start s;
+          second = of_int (pos 0);
+        } in y) else no_equation);
+        second = Equation.second
+            (if b then (let y : Equation = record { entries = inner active (flat_map (into s) (range_with_len 0 t)); first = one_at start s; second = of_int (pos 0) } in y) else no_equation);
+      } in x)
       else (if b then (let y : Equation = record { entries = inner active (flat_map (into s) (range_with_len 0 t)); first = one_at start s; second = of_int (pos 0) } in y) else no_equation))
       ≡ (if b then (let y : Equation = record { entries = inner active (flat_map (into s) (range_with_len 0 (t + 1))); first = one_at start s; second = of_int (pos 0) } in y) else no_equation)
-  kept_by t s a true = ap (λ (xs : List Entry). let y : Equation = record { entries = xs; first = one_at start s; second = of_int (pos 0) } in y) (row-kept active (into s) s t (row_of rows t) refl (inner active (flat_map (into s) (range_with_len 0 t))) refl _ a refl)
+  kept_by t s a true = ap (λ (xs : List Entry). let y : Equation = record { entries = xs; first = one_at start s; second = of_int (pos 0) } in y)
+      (row-kept active (into s) s t (row_of rows t) refl (inner active (flat_map (into s) (range_with_len 0 t))) refl _ a refl)
   kept_by t s a false = refl
 
   pub visits_more : (t s : ℕ) → is_active active t ≡ true → with_row active t (row_of rows t) s (visits_below rows active start t s) ≡ visits_below rows active start (t + 1) s
   visits_more t s a = kept_by t s a (is_active active s)
 
   -- the row of t is put in
-  pub visits_put : (t n : ℕ) (row : List Entry) (old mid new : List Equation) → mid ≡ old → ((s : ℕ) → at new s ≡ with_row active t row s (at mid s)) → row ≡ row_of rows t → is_active active t ≡ true → ((s : ℕ) → s < n → at old s ≡ visits_below rows active start t s) → (s : ℕ) → s < n → at new s ≡ visits_below rows active start (t + 1) s
+  pub visits_put : (t n : ℕ) (row : List Entry) (old mid new : List Equation) → mid ≡ old → ((s : ℕ) → at new s ≡ with_row active t row s (at mid s))
+      → row ≡ row_of rows t → is_active active t ≡ true → ((s : ℕ) → s < n → at old s ≡ visits_below rows active start t s)
+      → (s : ℕ) → s < n → at new s ≡ visits_below rows active start (t + 1) s
   visits_put t n row old mid new m put is on so_far s l =
-      put s ∙ ap (λ (es : List Equation). with_row active t row s (at es s)) m ∙ ap (λ (r : List Entry). with_row active t r s (at old s)) is ∙ ap (with_row active t (row_of rows t) s) (so_far s l) ∙ visits_more t s on
+      put s ∙ ap (λ (es : List Equation). with_row active t row s (at es s)) m ∙ ap
+      (λ (r : List Entry). with_row active t r s (at old s)) is ∙ ap (with_row active t (row_of rows t) s) (so_far s l) ∙ visits_more t s on
 
   pub visits_same : (t s : ℕ) → is_active active t ≡ false → visits_below rows active start t s ≡ visits_below rows active start (t + 1) s
-  visits_same t s a = ap (λ (xs : List Entry). if is_active active s then (let y : Equation = record { entries = xs; first = one_at start s; second = of_int (pos 0) } in y) else no_equation) (row-left active (into s) s t (row_of rows t) refl (inner active (flat_map (into s) (range_with_len 0 t))) refl a)
+  visits_same t s a = ap (λ (xs : List Entry). if is_active active s then (let y : Equation = record { entries = xs; first = one_at start s; second = of_int (pos 0) } in y) else no_equation)
+      (row-left active (into s) s t (row_of rows t) refl (inner active (flat_map (into s) (range_with_len 0 t))) refl a)
 
   first_by : (s : ℕ) → is_active active start ≡ true → (b : Bool) → is_active active s ≡ b → (start_equation start s) ≡ (if b then start_equation start s else no_equation)
   first_by s on true a = refl
@@ -193,9 +225,12 @@ module _ (rows : List (List Entry)) (active : List Bool) (start : ℕ) where
     all_size : length active ≡ length (transposed rows)
     all_size = size ∙ sym (length-transposed rows)
 
-    system_by : (s : ℕ) → s < length rows → (b : Bool) → is_active active s ≡ b → (if b then (let y : Equation = record { entries = row_into rows s; first = one_at start s; second = of_int (pos 0) } in (let z : Equation = record { entries = inner active y.entries; first = y.first; second = y.second } in z)) else no_equation) ≡ at (system (transposed rows) active all_columns) s
+    system_by : (s : ℕ) → s < length rows → (b : Bool) → is_active active s ≡ b
+        → (if b then (let y : Equation = record { entries = row_into rows s; first = one_at start s; second = of_int (pos 0) }
+        in (let z : Equation = record { entries = inner active y.entries; first = y.first; second = y.second } in z)) else no_equation) ≡ at (system (transposed rows) active all_columns) s
     system_by s l true a =
-        ap₂ (λ (xs : List Entry) (q : ℚ). let y : Equation = record { entries = inner active xs; first = q; second = of_int (pos 0) } in y) (sym (row_of-transposed rows s l)) (sym (unit_column-at (length rows) start s l))
+        ap₂ (λ (xs : List Entry) (q : ℚ). let y : Equation = record { entries = inner active xs; first = q; second = of_int (pos 0) } in y)
+        (sym (row_of-transposed rows s l)) (sym (unit_column-at (length rows) start s l))
         ∙ sym (at_active (transposed rows) active all_size all_columns s a)
     system_by s l false a = sym (at_inactive (transposed rows) active all_size all_columns s a)
 
@@ -203,7 +238,8 @@ module _ (rows : List (List Entry)) (active : List Bool) (start : ℕ) where
     visits_all s l = system_by s l (is_active active s) refl
 
     -- the equations that come out
-    pub visits_system-is : (equations : List Equation) → length equations ≡ length rows → ((s : ℕ) → s < length rows → at equations s ≡ visits_below rows active start (length rows) s) → equations ≡ system (transposed rows) active all_columns
+    pub visits_system-is : (equations : List Equation) → length equations ≡ length rows
+        → ((s : ℕ) → s < length rows → at equations s ≡ visits_below rows active start (length rows) s) → equations ≡ system (transposed rows) active all_columns
     visits_system-is equations n h =
         ext_get_or no_equation equations (system (transposed rows) active all_columns) (n ∙ sym (length-system (transposed rows) active all_size all_columns ∙ length-transposed rows))
         (λ s l. let k : s < length rows = omega (arith, l, n) in h s k ∙ visits_all s k)
@@ -223,7 +259,8 @@ module _ (rows : List (List Entry)) (active : List Bool) (ranks : List ℕ) (kno
   row_lies : (s : ℕ) → s < length (transposed rows) → Between 0 (length (transposed rows)) (row_of (transposed rows) s)
   row_lies s l =
       let k : s < length rows = subst (λ n. s < n) (length-transposed rows) l in
-      subst (λ n. Between 0 n (row_of (transposed rows) s)) (sym (length-transposed rows)) (subst (Between 0 (length rows)) (sym (row_of-transposed rows s k)) (between-row_into rows s (row_between rows active ranks known size leaves)))
+      subst (λ n. Between 0 n (row_of (transposed rows) s)) (sym (length-transposed rows))
+      (subst (Between 0 (length rows)) (sym (row_of-transposed rows s k)) (between-row_into rows s (row_between rows active ranks known size leaves)))
 
   visits-down : LeadBelow (length (transposed rows)) (length (transposed rows)) (system (transposed rows) active columns)
   visits-down = down-system (transposed rows) active active-size columns row_lies
@@ -239,7 +276,8 @@ module _ (rows : List (List Entry)) (active : List Bool) (ranks : List ℕ) (kno
       all_pivots (is_active active) (length (transposed rows)) (λ s t. entry_at (λ x. x.target) (λ x. x.prob) (row_of rows t) s) (matrix (system (transposed rows) active columns))
       (λ s t a b. entry_is s t (active-below rows active size s a) (active-below rows active size t b) ∙ sym (matrix-active (transposed rows) active active-size columns s t a b))
       (λ s t b. matrix-inactive (transposed rows) active active-size columns s t b)
-      (subst (λ n. HasPivots (active_below (is_active active) n) (λ s t. entry_at (λ x. x.target) (λ x. x.prob) (row_of rows t) s)) (sym (length-transposed rows)) (chain_pivots_transposed rows active ranks known size leaves))
+      (subst (λ n. HasPivots (active_below (is_active active) n) (λ s t. entry_at (λ x. x.target) (λ x. x.prob) (row_of rows t) s))
+      (sym (length-transposed rows)) (chain_pivots_transposed rows active ranks known size leaves))
 
   pub visits-can : CanEliminate (length (system (transposed rows) active columns)) (system (transposed rows) active columns)
   visits-can =

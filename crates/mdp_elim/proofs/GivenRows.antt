@@ -11,4 +11,5 @@ use Rattle.mdp_spec.specs.Row.{entries}
 pub targets_below : (n : ℕ) (ts : List ℕ) (ps : List ℚ) → length ts ≡ length ps → All (λ x. x.target < n) (entries ts ps) → All (λ t. t < n) ts
 targets_below n [] ps e h = All-nil (λ t. t < n)
 targets_below n (t ∷ ts) [] e h = absurd (omega arith)
-targets_below n (t ∷ ts) (p ∷ ps) e h = All-cons (λ t. t < n) t ts (All-head (λ x. x.target < n) (let x : Entry = record { target = t; prob = p } in x) (entries ts ps) h) (targets_below n ts ps (omega arith) (All-tail (λ x. x.target < n) (let x : Entry = record { target = t; prob = p } in x) (entries ts ps) h))
+targets_below n (t ∷ ts) (p ∷ ps) e h = All-cons (λ t. t < n) t ts (All-head (λ x. x.target < n) (let x : Entry = record { target = t; prob = p } in x) (entries ts ps) h)
+    (targets_below n ts ps (omega arith) (All-tail (λ x. x.target < n) (let x : Entry = record { target = t; prob = p } in x) (entries ts ps) h))

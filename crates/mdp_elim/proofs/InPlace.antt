@@ -1,5 +1,6 @@
 -- An addition to an entry that a row has is made in place.
-use Rattle.std.proofs.Common.{◌≡◌, ℕ, zero, suc, ◌<◌, ◌≤◌, Bool, true, false, List, [], ◌∷◌, length, get_or, refl, sym, ◌∙◌, ap, subst, arith, eqb, nat_le, Option, Some, None, if◌then◌else◌, pos}
+use Rattle.std.proofs.Common.{◌≡◌, ℕ, zero, suc, ◌<◌, ◌≤◌, Bool, true, false, List, [], ◌∷◌, length, get_or}
+use Rattle.std.proofs.Common.{refl, sym, ◌∙◌, ap, subst, arith, eqb, nat_le, Option, Some, None, if◌then◌else◌, pos}
 use Rattle.std.proofs.Math.ListN.{set}
 use Rattle.std.proofs.lemmas.Bool.{le-leb}
 use Rattle.mdp_math.specs.Rational.{ℚ, of_int}

@@ -1,5 +1,6 @@
 -- Where the pivots of a system are above 0, each elimination can be made, and the values that come out solve the system.
-use Rattle.std.proofs.Common.{◌≡◌, ℕ, zero, suc, ◌<◌, ◌⊎◌, inl, inr, Bool, true, List, [], ◌∷◌, ◌++◌, length, Option, Some, None, Result, Ok, Err, refl, sym, ◌∙◌, ap, ap₂, subst, arith, eqb, if◌then◌else◌, pos, negsuc}
+use Rattle.std.proofs.Common.{◌≡◌, ℕ, zero, suc, ◌<◌, ◌⊎◌, inl, inr, Bool, true, List, [], ◌∷◌, ◌++◌, length, Option}
+use Rattle.std.proofs.Common.{Some, None, Result, Ok, Err, refl, sym, ◌∙◌, ap, ap₂, subst, arith, eqb, if◌then◌else◌, pos, negsuc}
 use Rattle.std.proofs.Math.Seq.{get_or-append_seam}
 use Rattle.std.proofs.lemmas.List.{get_or_append_left, length-append}
 use Rattle.mdp_math.specs.Rational.{ℚ, ◌+ℚ◌, ◌*ℚ◌, ◌-ℚ◌, inv_ℚ, ◌<ℚ◌}
@@ -41,7 +42,8 @@ pivots_same (suc n) q r e h = (
   subst (λ (x : ℚ). x <ℚ 1ℚ) (e n n (omega arith) (omega arith)) h.0,
   pivots_same n (pivoted q n) (pivoted r n)
       (λ t v l m.
-      ap₂ ◌+ℚ◌ (e t v (omega arith) (omega arith)) (ap₂ ◌*ℚ◌ (e t n (omega arith) (omega arith)) (ap₂ (λ (a b : ℚ). a *ℚ inv_ℚ (1ℚ -ℚ b)) (e n v (omega arith) (omega arith)) (e n n (omega arith) (omega arith)))))
+      ap₂ ◌+ℚ◌ (e t v (omega arith) (omega arith)) (ap₂ ◌*ℚ◌ (e t n (omega arith) (omega arith))
+      (ap₂ (λ (a b : ℚ). a *ℚ inv_ℚ (1ℚ -ℚ b)) (e n v (omega arith) (omega arith)) (e n n (omega arith) (omega arith)))))
       h.1,
 )
 
@@ -59,7 +61,8 @@ unit-below v s l = ap (λ (b : Bool). if b then 1ℚ else 0ℚ) (eqb-greater s v
 over-zero : (f : ℕ → ℚ) (low high : ℕ) (row : List Entry) → Between low high row → ((v : ℕ) → v < high → f v ≡ 0ℚ) → over f row ≡ 0ℚ
 over-zero f low high [] h e = refl
 over-zero f low high (x ∷ row) h e =
-    combine 3 (λ p a o. p ⊗ a ⊕ o) (λ p a o. lit (pos 0)) (λ p a o. equal p a (lit (pos 0)) ∷ equal (lit (pos 1)) o (lit (pos 0)) ∷ []) refl x.prob (f x.target) (over f row) (e x.target h.1) (over-zero f (suc x.target) high row h.2 e)
+    combine 3 (λ p a o. p ⊗ a ⊕ o) (λ p a o. lit (pos 0)) (λ p a o. equal p a (lit (pos 0)) ∷ equal (lit (pos 1)) o (lit (pos 0)) ∷ [])
+    refl x.prob (f x.target) (over f row) (e x.target h.1) (over-zero f (suc x.target) high row h.2 e)
 
 -- the entry at s
 matrix-at : (s : ℕ) (e : Equation) → Between 0 (suc s) e.entries → over (unit s) e.entries ≡ factor s e
@@ -151,20 +154,25 @@ module _ (s : ℕ) (xs : List ℚ) (x : ℚ) (len : length xs ≡ s) where
   row_old row b = over-same (value_at (xs ++ x ∷ [])) (value_at xs) 0 s row b value-old
 
   -- state s: p its factor at itself
-  solved_pivot : (p c d : ℚ) (rest pivot : List Entry) → p <ℚ 1ℚ → Between 0 s rest → Between 0 s pivot → ((f : ℕ → ℚ) → over f pivot ≡ over f rest *ℚ inv_ℚ (1ℚ -ℚ p)) → d ≡ c *ℚ inv_ℚ (1ℚ -ℚ p)
+  solved_pivot : (p c d : ℚ) (rest pivot : List Entry) → p <ℚ 1ℚ → Between 0 s rest → Between 0 s pivot
+      → ((f : ℕ → ℚ) → over f pivot ≡ over f rest *ℚ inv_ℚ (1ℚ -ℚ p)) → d ≡ c *ℚ inv_ℚ (1ℚ -ℚ p)
       → x ≡ d +ℚ over (value_at xs) pivot → value_at (xs ++ x ∷ []) s ≡ c +ℚ (p *ℚ value_at (xs ++ x ∷ []) s +ℚ over (value_at (xs ++ x ∷ [])) rest)
   solved_pivot p c d rest pivot lt br bp o e h =
       combine 9 (λ v x d o r p c i n. v) (λ v x d o r p c i n. c ⊕ (p ⊗ v ⊕ n))
-      (λ v x d o r p c i n. equal (lit (pos 1) ⊕ ⊖ p) v x ∷ equal (lit (pos 1) ⊕ ⊖ p) x (d ⊕ o) ∷ equal (lit (pos 1) ⊕ ⊖ p) d (c ⊗ i) ∷ equal (lit (pos 1) ⊕ ⊖ p) o (r ⊗ i) ∷ equal (c ⊕ r) ((lit (pos 1) ⊕ ⊖ p) ⊗ i) (lit (pos 1)) ∷ equal (lit (negsuc 0)) n r ∷ []) refl
+      (λ v x d o r p c i n. equal (lit (pos 1) ⊕ ⊖ p) v x ∷ equal (lit (pos 1) ⊕ ⊖ p) x (d ⊕ o) ∷ equal (lit (pos 1) ⊕ ⊖ p) d (c ⊗ i) ∷ equal
+      (lit (pos 1) ⊕ ⊖ p) o (r ⊗ i) ∷ equal (c ⊕ r) ((lit (pos 1) ⊕ ⊖ p) ⊗ i) (lit (pos 1)) ∷ equal (lit (negsuc 0)) n r ∷ []) refl
       (value_at (xs ++ x ∷ []) s) x d (over (value_at xs) pivot) (over (value_at xs) rest) p c (inv_ℚ (1ℚ -ℚ p)) (over (value_at (xs ++ x ∷ [])) rest)
       value-new h e (o (value_at xs)) (mul-inv_pos (1ℚ -ℚ p) (sub-pos p 1ℚ lt)) (row_old rest br)
 
   -- a smaller state: w its factor at s
-  solved_rest : (t : ℕ) (w c d k : ℚ) (rest pivot new : List Entry) → t < s → Between 0 s rest → Between 0 s pivot → Between 0 s new → ((f : ℕ → ℚ) → over f new ≡ over f rest +ℚ w *ℚ over f pivot) → d ≡ c +ℚ w *ℚ k
-      → x ≡ k +ℚ over (value_at xs) pivot → value_at xs t ≡ d +ℚ over (value_at xs) new → value_at (xs ++ x ∷ []) t ≡ c +ℚ (w *ℚ value_at (xs ++ x ∷ []) s +ℚ over (value_at (xs ++ x ∷ [])) rest)
+  solved_rest : (t : ℕ) (w c d k : ℚ) (rest pivot new : List Entry) → t < s → Between 0 s rest → Between 0 s pivot
+      → Between 0 s new → ((f : ℕ → ℚ) → over f new ≡ over f rest +ℚ w *ℚ over f pivot) → d ≡ c +ℚ w *ℚ k
+      → x ≡ k +ℚ over (value_at xs) pivot → value_at xs t ≡ d +ℚ over (value_at xs) new
+      → value_at (xs ++ x ∷ []) t ≡ c +ℚ (w *ℚ value_at (xs ++ x ∷ []) s +ℚ over (value_at (xs ++ x ∷ [])) rest)
   solved_rest t w c d k rest pivot new l br bp bn o e h i =
       combine 12 (λ a b v x d m r p w c k n. a) (λ a b v x d m r p w c k n. c ⊕ (w ⊗ v ⊕ n))
-      (λ a b v x d m r p w c k n. equal (lit (pos 1)) a b ∷ equal (lit (pos 1)) b (d ⊕ m) ∷ equal (lit (pos 1)) d (c ⊕ w ⊗ k) ∷ equal (lit (pos 1)) m (r ⊕ w ⊗ p) ∷ equal (⊖ w) x (k ⊕ p) ∷ equal (⊖ w) v x ∷ equal (lit (negsuc 0)) n r ∷ []) refl
+      (λ a b v x d m r p w c k n. equal (lit (pos 1)) a b ∷ equal (lit (pos 1)) b (d ⊕ m) ∷ equal (lit (pos 1)) d (c ⊕ w ⊗ k) ∷ equal
+      (lit (pos 1)) m (r ⊕ w ⊗ p) ∷ equal (⊖ w) x (k ⊕ p) ∷ equal (⊖ w) v x ∷ equal (lit (negsuc 0)) n r ∷ []) refl
       (value_at (xs ++ x ∷ []) t) (value_at xs t) (value_at (xs ++ x ∷ []) s) x d (over (value_at xs) new) (over (value_at xs) rest) (over (value_at xs) pivot) w c k (over (value_at (xs ++ x ∷ [])) rest)
       (value-old t l) i e (o (value_at xs)) h value-new (row_old rest br)
 
@@ -246,7 +254,8 @@ module _ (s : ℕ) (equations : List Equation) (e : Eliminated) (v values : Valu
   }
 
 -- the values that come out solve the system
-pub solution_solves : (n : ℕ) (equations : List Equation) (values : Values) → length equations ≡ n → LeadBelow n n equations → HasPivots (all_below n) (matrix equations) → solution n equations ≡ Ok values → Solved n equations values
+pub solution_solves : (n : ℕ) (equations : List Equation) (values : Values) → length equations ≡ n → LeadBelow n n equations
+    → HasPivots (all_below n) (matrix equations) → solution n equations ≡ Ok values → Solved n equations values
 solution_solves zero equations values len down h made =
     let same : no_values ≡ values = cc in
     subst (Solved 0 equations) same (record { first_len = refl; second_len = refl; first = λ t l. absurd (omega arith); second = λ t l. absurd (omega arith) })

@@ -1,5 +1,6 @@
 -- Where a chain leaves its active states, the pivots of its system are above 0.
-use Rattle.std.proofs.Common.{◌≡◌, ℕ, zero, suc, ◌+◌, ◌<◌, ◌≤◌, ◌⊎◌, inl, inr, Bool, true, false, List, [], ◌∷◌, length, get_or, Ok, refl, sym, ◌∙◌, ap, ap₂, subst, arith, eqb, nat_le, ◌&&◌, if◌then◌else◌, pos, zero-add, IsTrue}
+use Rattle.std.proofs.Common.{◌≡◌, ℕ, zero, suc, ◌+◌, ◌<◌, ◌≤◌, ◌⊎◌, inl, inr, Bool, true, false, List, [], ◌∷◌, length}
+use Rattle.std.proofs.Common.{get_or, Ok, refl, sym, ◌∙◌, ap, ap₂, subst, arith, eqb, nat_le, ◌&&◌, if◌then◌else◌, pos, zero-add, IsTrue}
 use Rattle.std.specs.List.{All, Any, filter}
 use Rattle.std.proofs.Math.ListN.{get_or-eq_default}
 use Rattle.std.proofs.lemmas.List.FromFn.{get_or-map-range_with_len, length-map-range_with_len}
@@ -32,15 +33,18 @@ use Rattle.mdp_elim.proofs.Law.{unit, matrix, all_below, Solved, can_eliminate, 
 -- ---- pivots over all numbers, from those over the active ones
 
 module _ (active : ℕ → Bool) where
-  all_pivots_by : (n : ℕ) (q r : ℕ → ℕ → ℚ) (b : Bool) → active n ≡ b → ((t v : ℕ) → active t ≡ true → active v ≡ true → q t v ≡ r t v) → ((t v : ℕ) → active v ≡ false → r t v ≡ 0ℚ)
-      → ((p o : ℕ → ℕ → ℚ) → ((t v : ℕ) → active t ≡ true → active v ≡ true → p t v ≡ o t v) → ((t v : ℕ) → active v ≡ false → o t v ≡ 0ℚ) → HasPivots (active_below active n) p → HasPivots (all_below n) o)
+  all_pivots_by : (n : ℕ) (q r : ℕ → ℕ → ℚ) (b : Bool) → active n ≡ b
+      → ((t v : ℕ) → active t ≡ true → active v ≡ true → q t v ≡ r t v) → ((t v : ℕ) → active v ≡ false → r t v ≡ 0ℚ)
+      → ((p o : ℕ → ℕ → ℚ) → ((t v : ℕ) → active t ≡ true → active v ≡ true → p t v ≡ o t v)
+      → ((t v : ℕ) → active v ≡ false → o t v ≡ 0ℚ) → HasPivots (active_below active n) p → HasPivots (all_below n) o)
       → HasPivots (if b then n ∷ active_below active n else active_below active n) q → HasPivots (all_below (suc n)) r
   all_pivots_by n q r true a same none ih h = (
     subst (λ (x : ℚ). x <ℚ 1ℚ) (same n n a a) h.0,
     ih (pivoted q n) (pivoted r n)
         (λ t v at av. ap₂ ◌+ℚ◌ (same t v at av) (ap₂ ◌*ℚ◌ (same t n at a) (ap₂ (λ (x y : ℚ). x *ℚ inv_ℚ (1ℚ -ℚ y)) (same n v a av) (same n n a a))))
         (λ t v av.
-        combine 4 (λ x w y i. x ⊕ w ⊗ (y ⊗ i)) (λ x w y i. lit (pos 0)) (λ x w y i. equal (lit (pos 1)) x (lit (pos 0)) ∷ equal (w ⊗ i) y (lit (pos 0)) ∷ []) refl (r t v) (r t n) (r n v) (inv_ℚ (1ℚ -ℚ r n n)) (none t v av) (none n v av))
+        combine 4 (λ x w y i. x ⊕ w ⊗ (y ⊗ i)) (λ x w y i. lit (pos 0)) (λ x w y i. equal (lit (pos 1)) x (lit (pos 0)) ∷ equal (w ⊗ i) y (lit (pos 0)) ∷ []) refl
+        (r t v) (r t n) (r n v) (inv_ℚ (1ℚ -ℚ r n n)) (none t v av) (none n v av))
         h.1,
   )
   all_pivots_by n q r false a same none ih h = (
@@ -50,11 +54,13 @@ module _ (active : ℕ → Bool) where
         same t v at av
         ∙ combine 4 (λ x w y i. x) (λ x w y i. x ⊕ w ⊗ (y ⊗ i)) (λ x w y i. equal (⊖ (y ⊗ i)) w (lit (pos 0)) ∷ []) refl (r t v) (r t n) (r n v) (inv_ℚ (1ℚ -ℚ r n n)) (none t n a))
         (λ t v av.
-        combine 4 (λ x w y i. x ⊕ w ⊗ (y ⊗ i)) (λ x w y i. lit (pos 0)) (λ x w y i. equal (lit (pos 1)) x (lit (pos 0)) ∷ equal (y ⊗ i) w (lit (pos 0)) ∷ []) refl (r t v) (r t n) (r n v) (inv_ℚ (1ℚ -ℚ r n n)) (none t v av) (none t n a))
+        combine 4 (λ x w y i. x ⊕ w ⊗ (y ⊗ i)) (λ x w y i. lit (pos 0)) (λ x w y i. equal (lit (pos 1)) x (lit (pos 0)) ∷ equal (y ⊗ i) w (lit (pos 0)) ∷ []) refl
+        (r t v) (r t n) (r n v) (inv_ℚ (1ℚ -ℚ r n n)) (none t v av) (none t n a))
         h,
   )
 
-  pub all_pivots : (n : ℕ) (q r : ℕ → ℕ → ℚ) → ((t v : ℕ) → active t ≡ true → active v ≡ true → q t v ≡ r t v) → ((t v : ℕ) → active v ≡ false → r t v ≡ 0ℚ) → HasPivots (active_below active n) q → HasPivots (all_below n) r
+  pub all_pivots : (n : ℕ) (q r : ℕ → ℕ → ℚ) → ((t v : ℕ) → active t ≡ true → active v ≡ true → q t v ≡ r t v)
+      → ((t v : ℕ) → active v ≡ false → r t v ≡ 0ℚ) → HasPivots (active_below active n) q → HasPivots (all_below n) r
   all_pivots zero q r same none h = tt
   all_pivots (suc n) q r same none h = all_pivots_by n q r (active n) refl same none (all_pivots n) h
 
@@ -76,7 +82,8 @@ between-row low high (x ∷ row) h k =
     let e : x.target + 1 ≡ suc x.target = omega arith in
     (leb-true low x.target a, All-head (λ y. y.target < high) x row k, between-row (suc x.target) high row (subst (λ n. IsTrue (ascends_from n row)) e b) (All-tail (λ y. y.target < high) x row k))
 
-filter_between : (p : Entry → Bool) (low high : ℕ) (x : Entry) (row : List Entry) (b : Bool) → Between low high (x ∷ row) → Between (suc x.target) high (filter p row) → Between low high (if b then x ∷ filter p row else filter p row)
+filter_between : (p : Entry → Bool) (low high : ℕ) (x : Entry) (row : List Entry) (b : Bool) → Between low high (x ∷ row)
+    → Between (suc x.target) high (filter p row) → Between low high (if b then x ∷ filter p row else filter p row)
 filter_between p low high x row true h k = (h.0, h.1, k)
 filter_between p low high x row false h k = between-lower (suc x.target) low high (filter p row) (omega (arith, h.0)) k
 
@@ -87,18 +94,22 @@ between-filter p low high (x ∷ row) h = filter_between p low high x row (p x) 
 -- ---- the entries to active states
 
 module _ (active : List Bool) where
-  inner_by : (f : ℕ → ℚ) (x : Entry) (row : List Entry) (b : Bool) → is_active active x.target ≡ b → ((v : ℕ) → is_active active v ≡ false → f v ≡ 0ℚ) → over f (inner active row) ≡ over f row → over f (if b then x ∷ inner active row else inner active row) ≡ over f (x ∷ row)
+  inner_by : (f : ℕ → ℚ) (x : Entry) (row : List Entry) (b : Bool) → is_active active x.target ≡ b → ((v : ℕ) → is_active active v ≡ false → f v ≡ 0ℚ)
+      → over f (inner active row) ≡ over f row → over f (if b then x ∷ inner active row else inner active row) ≡ over f (x ∷ row)
   inner_by f x row true e out h = ap (λ (o : ℚ). x.prob *ℚ f x.target +ℚ o) h
   inner_by f x row false e out h =
-      combine 4 (λ i o p k. i) (λ i o p k. p ⊗ k ⊕ o) (λ i o p k. equal (lit (pos 1)) i o ∷ equal (⊖ p) k (lit (pos 0)) ∷ []) refl (over f (inner active row)) (over f row) x.prob (f x.target) h (out x.target e)
+      combine 4 (λ i o p k. i) (λ i o p k. p ⊗ k ⊕ o) (λ i o p k. equal (lit (pos 1)) i o ∷ equal (⊖ p) k (lit (pos 0)) ∷ []) refl
+      (over f (inner active row)) (over f row) x.prob (f x.target) h (out x.target e)
 
   -- what is 0 at other states weighs the same in them
   pub over-inner : (f : ℕ → ℚ) (row : List Entry) → ((v : ℕ) → is_active active v ≡ false → f v ≡ 0ℚ) → over f (inner active row) ≡ over f row
   over-inner f [] out = refl
   over-inner f (x ∷ row) out = inner_by f x row (is_active active x.target) refl out (over-inner f row out)
 
-  none_by : (f : ℕ → ℚ) (x : Entry) (row : List Entry) (b : Bool) → is_active active x.target ≡ b → ((v : ℕ) → is_active active v ≡ true → f v ≡ 0ℚ) → over f (inner active row) ≡ 0ℚ → over f (if b then x ∷ inner active row else inner active row) ≡ 0ℚ
-  none_by f x row true e out h = combine 3 (λ o p k. p ⊗ k ⊕ o) (λ o p k. lit (pos 0)) (λ o p k. equal (lit (pos 1)) o (lit (pos 0)) ∷ equal p k (lit (pos 0)) ∷ []) refl (over f (inner active row)) x.prob (f x.target) h (out x.target e)
+  none_by : (f : ℕ → ℚ) (x : Entry) (row : List Entry) (b : Bool) → is_active active x.target ≡ b → ((v : ℕ) → is_active active v ≡ true → f v ≡ 0ℚ)
+      → over f (inner active row) ≡ 0ℚ → over f (if b then x ∷ inner active row else inner active row) ≡ 0ℚ
+  none_by f x row true e out h = combine 3 (λ o p k. p ⊗ k ⊕ o) (λ o p k. lit (pos 0))
+      (λ o p k. equal (lit (pos 1)) o (lit (pos 0)) ∷ equal p k (lit (pos 0)) ∷ []) refl (over f (inner active row)) x.prob (f x.target) h (out x.target e)
   none_by f x row false e out h = h
 
   -- what is 0 at active states weighs nothing in them
@@ -139,21 +150,25 @@ module _ (rows : List (List Entry)) (active : List Bool) (size : length active �
     pub length-system : length (system rows active columns) ≡ length rows
     length-system = length-map-range_with_len (equation_of rows active columns) 0 (length rows)
 
-    pub at_active : (s : ℕ) → is_active active s ≡ true → at (system rows active columns) s ≡ (let e : Equation = record { entries = inner active (row_of rows s); first = column_at columns 0 s; second = column_at columns 1 s } in e)
+    pub at_active : (s : ℕ) → is_active active s ≡ true → at (system rows active columns) s
+        ≡ (let e : Equation = record { entries = inner active (row_of rows s); first = column_at columns 0 s; second = column_at columns 1 s } in e)
     unfolding equation_of
-    at_active s a = at-system s (active-below s a) ∙ ap (λ (b : Bool). let e : Equation = record { entries = inner active (row_of rows s); first = column_at columns 0 s; second = column_at columns 1 s } in if b then e else no_equation) a
+    at_active s a = at-system s (active-below s a) ∙ ap (λ (b : Bool). let e : Equation
+        = record { entries = inner active (row_of rows s); first = column_at columns 0 s; second = column_at columns 1 s } in if b then e else no_equation) a
 
     past_or : (s : ℕ) → (length rows ≤ s) ⊎ (s < length rows) → is_active active s ≡ false → at (system rows active columns) s ≡ no_equation
     unfolding equation_of
     past_or s (inl l) a = get_or-eq_default (system rows active columns) no_equation (omega (arith, length-system))
-    past_or s (inr l) a = at-system s l ∙ ap (λ (b : Bool). let e : Equation = record { entries = inner active (row_of rows s); first = column_at columns 0 s; second = column_at columns 1 s } in if b then e else no_equation) a
+    past_or s (inr l) a = at-system s l ∙ ap (λ (b : Bool). let e : Equation
+        = record { entries = inner active (row_of rows s); first = column_at columns 0 s; second = column_at columns 1 s } in if b then e else no_equation) a
 
     pub at_inactive : (s : ℕ) → is_active active s ≡ false → at (system rows active columns) s ≡ no_equation
     at_inactive s a = past_or s (le_or (length rows) s) a
 
     -- the entries lie below the number of states, where those of the active rows do
     down_by : ((s : ℕ) → s < length rows → Between 0 (length rows) (row_of rows s)) → (s : ℕ) (b : Bool) → is_active active s ≡ b → Between 0 (length rows) (at (system rows active columns) s).entries
-    down_by between s true a = subst (λ (e : Equation). Between 0 (length rows) e.entries) (sym (at_active s a)) (between-filter (λ x. is_active active x.target) 0 (length rows) (row_of rows s) (between s (active-below s a)))
+    down_by between s true a = subst (λ (e : Equation). Between 0 (length rows) e.entries) (sym (at_active s a))
+        (between-filter (λ x. is_active active x.target) 0 (length rows) (row_of rows s) (between s (active-below s a)))
     down_by between s false a = subst (λ (e : Equation). Between 0 (length rows) e.entries) (sym (at_inactive s a)) tt
 
     pub down-system : ((s : ℕ) → s < length rows → Between 0 (length rows) (row_of rows s)) → LeadBelow (length rows) (length rows) (system rows active columns)
@@ -178,7 +193,8 @@ module _ (rows : List (List Entry)) (active : List Bool) (size : length active �
 
       second_outside : (s : ℕ) → (length rows ≤ s) ⊎ (s < length rows) → is_active active s ≡ false → value_at values.second s ≡ 0ℚ
       second_outside s (inl l) a = get_or-eq_default values.second 0ℚ (omega (arith, solved.second_len))
-      second_outside s (inr l) a = solved.second s l ∙ ap (λ (e : Equation). e.second +ℚ over (value_at values.second) e.entries) (at_inactive s a) ∙ ring rat_ring 0 (lit (pos 0) ⊕ lit (pos 0)) (lit (pos 0)) refl
+      second_outside s (inr l) a = solved.second s l ∙ ap (λ (e : Equation). e.second +ℚ over (value_at values.second) e.entries)
+          (at_inactive s a) ∙ ring rat_ring 0 (lit (pos 0) ⊕ lit (pos 0)) (lit (pos 0)) refl
 
       pub first_solves : IsSolution rows active (get_or columns 0 []) values.first
       first_solves = record {
@@ -230,11 +246,14 @@ module _ (rows : List (List Entry)) (active : List Bool) (ranks : List ℕ) (kno
           eps_at_most_one = floor.2;
           rank_positive = λ s a. rank-above s;
           rank_at_most = λ s a. (greatest_rank rank (length rows)).1 s (active-below rows active size s a);
-          entries = λ s row a ok. subst (λ (r : List Entry). All (λ x. 0ℚ ≤ℚ x.prob) r) (sym ok) (λ k d l. ≤ℚ_of_lt 0ℚ (Entry.prob (get_or (row_of rows s) k d)) ((row_known s (active-below rows active size s a)).distribution.positive k d l));
+          entries = λ s row a ok. subst (λ (r : List Entry). All (λ x. 0ℚ ≤ℚ x.prob) r) (sym ok)
+              (λ k d l. ≤ℚ_of_lt 0ℚ (Entry.prob (get_or (row_of rows s) k d)) ((row_known s (active-below rows active size s a)).distribution.positive k d l));
           mass = λ s row a ok. ≤ℚ_of_eq _ _ (ap (sum_of (λ x. x.prob)) ok ∙ (row_known s (active-below rows active size s a)).distribution.total);
           falls = λ s row a ok.
-              let any = Any-and (λ x. floor.0 ≤ℚ x.prob) (λ x. (is_active active x.target ≡ false) ⊎ (get_or ranks x.target 0 < get_or ranks s 0)) (row_of rows s) (floor.3 s [] (active-below rows active size s a)) (leaves.falls s (active-below rows active size s a) a) in
-              subst (λ (r : List Entry). Any (λ x. (floor.0 ≤ℚ x.prob) × ((is_active active x.target ≡ false) ⊎ (rank x.target < rank s))) r) (sym ok) (any.0, any.1, any.2, any.3, (any.4.0, rank_more s any.1 any.4.1));
+              let any = Any-and (λ x. floor.0 ≤ℚ x.prob) (λ x. (is_active active x.target ≡ false) ⊎ (get_or ranks x.target 0 < get_or ranks s 0))
+              (row_of rows s) (floor.3 s [] (active-below rows active size s a)) (leaves.falls s (active-below rows active size s a) a) in
+              subst (λ (r : List Entry). Any (λ x. (floor.0 ≤ℚ x.prob) × ((is_active active x.target ≡ false) ⊎ (rank x.target < rank s))) r)
+              (sym ok) (any.0, any.1, any.2, any.3, (any.4.0, rank_more s any.1 any.4.1));
         }
 
     pub chain_shrinks : Shrinks (λ x. x.target) (λ x. x.prob) (is_active active) Allowed
@@ -274,21 +293,25 @@ module _ (rows : List (List Entry)) (active : List Bool) (ranks : List ℕ) (kno
       pub system-divides : DividesByPositive (length rows) (system rows active columns)
       system-divides = divides_by_positive (length rows) (system rows active columns) system-len system-down system-pivots
 
-      each_one : (values : Values) → Solved (length rows) (system rows active columns) values → (n : ℕ) → (n ≡ 1) ⊎ (n ≡ 2) → (k : ℕ) → k < n → IsSolution rows active (get_or columns k []) (get_or (columns_of n values) k [])
+      each_one : (values : Values) → Solved (length rows) (system rows active columns) values → (n : ℕ)
+          → (n ≡ 1) ⊎ (n ≡ 2) → (k : ℕ) → k < n → IsSolution rows active (get_or columns k []) (get_or (columns_of n values) k [])
       each_one values solved n (inl one) k l =
           let e : 0 ≡ k = omega arith in
-          subst (λ m. IsSolution rows active (get_or columns k []) (get_or (columns_of m values) k [])) (sym one) (subst (λ j. IsSolution rows active (get_or columns j []) (get_or (columns_of 1 values) j [])) e (first_solves rows active size columns values solved))
+          subst (λ m. IsSolution rows active (get_or columns k []) (get_or (columns_of m values) k [])) (sym one)
+          (subst (λ j. IsSolution rows active (get_or columns j []) (get_or (columns_of 1 values) j [])) e (first_solves rows active size columns values solved))
       each_one values solved n (inr two) zero l = subst (λ m. IsSolution rows active (get_or columns 0 []) (get_or (columns_of m values) 0 [])) (sym two) (first_solves rows active size columns values solved)
       each_one values solved n (inr two) (suc k) l =
           let e : 1 ≡ suc k = omega arith in
-          subst (λ m. IsSolution rows active (get_or columns (suc k) []) (get_or (columns_of m values) (suc k) [])) (sym two) (subst (λ j. IsSolution rows active (get_or columns j []) (get_or (columns_of 2 values) j [])) e (second_solves rows active size columns values solved))
+          subst (λ m. IsSolution rows active (get_or columns (suc k) []) (get_or (columns_of m values) (suc k) [])) (sym two)
+          (subst (λ j. IsSolution rows active (get_or columns j []) (get_or (columns_of 2 values) j [])) e (second_solves rows active size columns values solved))
 
       columns-len : (values : Values) (n : ℕ) → (n ≡ 1) ⊎ (n ≡ 2) → length (columns_of n values) ≡ n
       columns-len values n (inl one) = subst (λ m. length (columns_of m values) ≡ m) (sym one) refl
       columns-len values n (inr two) = subst (λ m. length (columns_of m values) ≡ m) (sym two) refl
 
       -- the vectors that come out solve the systems
-      pub solve_each : (values : Values) → solution (length rows) (system rows active columns) ≡ Ok values → (length columns ≡ 1) ⊎ (length columns ≡ 2) → SolveEach rows active columns (columns_of (length columns) values)
+      pub solve_each : (values : Values) → solution (length rows) (system rows active columns) ≡ Ok values
+          → (length columns ≡ 1) ⊎ (length columns ≡ 2) → SolveEach rows active columns (columns_of (length columns) values)
       solve_each values made few = (
         columns-len values (length columns) few,
         each_one values (solution_solves (length rows) (system rows active columns) values system-len system-down system-pivots made) (length columns) few,

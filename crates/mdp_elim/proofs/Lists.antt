@@ -71,11 +71,13 @@ module _ (lists : List (SmallVec ℕ)) (v t : ℕ) (new : SmallVec ℕ) (within 
 
 -- ---- the lists of the states below t
 
-next_by : (lists more : List (SmallVec ℕ)) (equations : List Equation) (t u : ℕ) → ListsMore lists more → ((u : ℕ) → u < t → ListsTargets lists u (at equations u).entries) → ListsTargets more t (at equations t).entries → (u ≡ t) ⊎ (u ≢ t) → u < t + 1 → ListsTargets more u (at equations u).entries
+next_by : (lists more : List (SmallVec ℕ)) (equations : List Equation) (t u : ℕ) → ListsMore lists more → ((u : ℕ) → u < t → ListsTargets lists u (at equations u).entries)
+    → ListsTargets more t (at equations t).entries → (u ≡ t) ⊎ (u ≢ t) → u < t + 1 → ListsTargets more u (at equations u).entries
 next_by lists more equations t u kept h new (inl e) l = subst (λ (n : ℕ). ListsTargets more n (at equations n).entries) (sym e) new
 next_by lists more equations t u kept h new (inr e) l =
     let m : u < t = grind arith in
     λ k d i small inside. let n = kept.count in kept.keeps _ u (h u m k d i small (omega (arith, inside, n)))
 
-pub targets-next : (lists more : List (SmallVec ℕ)) (equations : List Equation) (t : ℕ) → ListsMore lists more → ((u : ℕ) → u < t → ListsTargets lists u (at equations u).entries) → ListsTargets more t (at equations t).entries → (u : ℕ) → u < t + 1 → ListsTargets more u (at equations u).entries
+pub targets-next : (lists more : List (SmallVec ℕ)) (equations : List Equation) (t : ℕ) → ListsMore lists more → ((u : ℕ) → u < t → ListsTargets lists u (at equations u).entries)
+    → ListsTargets more t (at equations t).entries → (u : ℕ) → u < t + 1 → ListsTargets more u (at equations u).entries
 targets-next lists more equations t kept h new u l = next_by lists more equations t u kept h new (one_or_two t u) l

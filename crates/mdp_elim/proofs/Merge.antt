@@ -1,7 +1,8 @@
 -- Two rows that are merged: an addition at a target leaves the entries to smaller states as they are.
 use Rattle.std.specs.Option.{unwrap_or, option_to_list, IsSome}
 use Rattle.std.proofs.Math.Seq.{drop-cons}
-use Rattle.std.proofs.Common.{◌≡◌, ◌≢◌, ℕ, zero, suc, ◌+◌, ◌<◌, ◌≤◌, Bool, true, false, List, [], ◌∷◌, ◌++◌, length, take, drop, get_or, refl, sym, ◌∙◌, ap, ap₂, subst, arith, eqb, nat_le, Option, Some, None, if◌then◌else◌, pos}
+use Rattle.std.proofs.Common.{◌≡◌, ◌≢◌, ℕ, zero, suc, ◌+◌, ◌<◌, ◌≤◌, Bool, true, false, List, [], ◌∷◌, ◌++◌, length, take}
+use Rattle.std.proofs.Common.{drop, get_or, refl, sym, ◌∙◌, ap, ap₂, subst, arith, eqb, nat_le, Option, Some, None, if◌then◌else◌, pos}
 use Rattle.std.proofs.lemmas.List.{append_assoc}
 use Rattle.std.proofs.lemmas.Bool.{le-leb}
 use Rattle.std.proofs.lemmas.Bool.Decides.{leb_tells}
@@ -111,7 +112,8 @@ plus_entry-split : (v : ℕ) (x : ℚ) (row : List Entry) → plus_entry v x row
 plus_entry-split v x row = ap (plus_entry v x) (sym (take_drop (place v row) row)) ∙ plus_entry-behind v x (take (place v row) row) (drop (place v row) row) (below-place v row)
 
 -- where all entries before i lead to smaller states, and the one at i doesn't, i is the place
-pub place_is : (v : ℕ) (row : List Entry) (i : ℕ) → ((k : ℕ) → k < i → nat_le v (get_or row k no_entry).target ≡ false) → (i < length row → nat_le v (get_or row i no_entry).target ≡ true) → i ≤ length row → place v row ≡ i
+pub place_is : (v : ℕ) (row : List Entry) (i : ℕ) → ((k : ℕ) → k < i → nat_le v (get_or row k no_entry).target ≡ false)
+    → (i < length row → nat_le v (get_or row i no_entry).target ≡ true) → i ≤ length row → place v row ≡ i
 place_is v [] i before here within = omega arith
 place_is v (y ∷ row) zero before here within = ap (λ (b : Bool). if b then 0 else suc (place v row)) (here (omega arith))
 place_is v (y ∷ row) (suc i) before here within =
@@ -194,14 +196,16 @@ module _ (w : ℚ) (x : Entry) (source rest sums : List Entry) (all : Option (Li
   no_sum : None ≡ written_add (or_zero (entry_to x.target here)) more → all ≡ None
   no_sum h = with_term ∙ ap (λ (o : Option ℚ). after sums (after front (o >>= (λ sum. Some (entry x.target sum ∷ without x.target here))) >>= plus_row w source)) (sym h)
 
-  next : (low high : ℕ) (sum : ℚ) → Some sum ≡ written_add (or_zero (entry_to x.target here)) more → Between low high (x ∷ source) → all ≡ after ((sums ++ front) ++ entry x.target sum ∷ []) (plus_row w source (without x.target here))
+  next : (low high : ℕ) (sum : ℚ) → Some sum ≡ written_add (or_zero (entry_to x.target here)) more → Between low high (x ∷ source)
+      → all ≡ after ((sums ++ front) ++ entry x.target sum ∷ []) (plus_row w source (without x.target here))
   next low high sum h k =
       let y = entry x.target sum in
       let behind = without x.target here in
       with_term
       ∙ ap (λ (o : Option ℚ). after sums (after front (o >>= (λ sum. Some (entry x.target sum ∷ behind))) >>= plus_row w source)) (sym h)
       ∙ ap (λ (xs : List Entry). after sums (plus_row w source xs)) (sym (append_assoc front (y ∷ []) behind))
-      ∙ ap (after sums) (plus_row-behind w high (suc x.target) (front ++ y ∷ []) source behind (below-append (suc x.target) front y (below-more x.target (suc x.target) front (omega arith) (below-place x.target rest)) (omega arith)) k.2)
+      ∙ ap (after sums) (plus_row-behind w high (suc x.target) (front ++ y ∷ []) source behind
+      (below-append (suc x.target) front y (below-more x.target (suc x.target) front (omega arith) (below-place x.target rest)) (omega arith)) k.2)
       ∙ after-after sums (front ++ y ∷ []) (plus_row w source behind)
       ∙ ap (λ (xs : List Entry). after xs (plus_row w source behind)) (sym (append_assoc sums front (y ∷ [])))
 
@@ -212,8 +216,10 @@ between-drop low high (suc j) [] h = tt
 between-drop low high (suc j) (x ∷ row) h = between-drop (suc x.target) high j row h.2
 
 -- as the loop of the code takes it
-module _ (w : ℚ) (source : List Entry) (j : ℕ) (x : Entry) (rest sums : List Entry) (all : Option (List Entry)) (within : j < length source) (is : x ≡ get_or source j x) (so_far : all ≡ after sums (plus_row w (drop j source) rest))
-    (t : ℕ) (p more : ℚ) (target : t ≡ x.target) (prob : p ≡ x.prob) (term : Some more ≡ written_mul w p) (old z : ℚ) (o : Option ℚ) (found : o ≡ entry_to t (drop (place t rest) rest)) (none : z ≡ of_int (pos 0)) (or : old ≡ unwrap_or o z) where
+module _ (w : ℚ) (source : List Entry) (j : ℕ) (x : Entry) (rest sums : List Entry) (all : Option (List Entry))
+    (within : j < length source) (is : x ≡ get_or source j x) (so_far : all ≡ after sums (plus_row w (drop j source) rest))
+    (t : ℕ) (p more : ℚ) (target : t ≡ x.target) (prob : p ≡ x.prob) (term : Some more ≡ written_mul w p) (old z : ℚ)
+    (o : Option ℚ) (found : o ≡ entry_to t (drop (place t rest) rest)) (none : z ≡ of_int (pos 0)) (or : old ≡ unwrap_or o z) where
   this : drop j source ≡ x ∷ drop (suc j) source
   this = drop-cons source j x within ∙ ap (λ y. y ∷ drop (suc j) source) (sym is)
 
@@ -229,7 +235,8 @@ module _ (w : ℚ) (source : List Entry) (j : ℕ) (x : Entry) (rest sums : List
   pub merge-no_sum : None ≡ written_add old more → all ≡ None
   merge-no_sum h = no_sum w x (drop (suc j) source) rest sums all so_far_this more term_is (h ∙ ap (λ (q : ℚ). written_add q more) old_is)
 
-  pub merge-next : (high : ℕ) (sum : ℚ) (before behind new : List Entry) (y : Entry) (u : ℕ) → Between 0 high source → Some sum ≡ written_add old more → before ≡ take (place t rest) rest → behind ≡ without t (drop (place t rest) rest) → u ≡ x.target → y ≡ entry u sum → new ≡ (sums ++ before) ++ y ∷ []
+  pub merge-next : (high : ℕ) (sum : ℚ) (before behind new : List Entry) (y : Entry) (u : ℕ) → Between 0 high source → Some sum ≡ written_add old more
+      → before ≡ take (place t rest) rest → behind ≡ without t (drop (place t rest) rest) → u ≡ x.target → y ≡ entry u sum → new ≡ (sums ++ before) ++ y ∷ []
       → all ≡ after new (plus_row w (drop (j + 1) source) behind)
   merge-next high sum before behind new y u k h b r v e n =
       let m : suc j ≡ j + 1 = omega arith in
@@ -291,7 +298,8 @@ none_empty s [] h = refl
 none_empty s (x ∷ row) h = absurd (omega arith)
 
 -- a row without an entry to s
-none_by : (s : ℕ) (x : Entry) (row : List Entry) (b c : Bool) → (if b then (if c then Some x.prob else None) else entry_to s row) ≡ None → (entry_to s row ≡ None → row ≡ without s row) → x ∷ row ≡ (if b then (if c then row else x ∷ row) else x ∷ without s row)
+none_by : (s : ℕ) (x : Entry) (row : List Entry) (b c : Bool) → (if b then (if c then Some x.prob else None) else entry_to s row) ≡ None
+    → (entry_to s row ≡ None → row ≡ without s row) → x ∷ row ≡ (if b then (if c then row else x ∷ row) else x ∷ without s row)
 none_by s x row true true h ih = cc
 none_by s x row true false h ih = refl
 none_by s x row false c h ih = ap (λ xs. x ∷ xs) (ih h)
@@ -300,7 +308,8 @@ pub without_none : (s : ℕ) (row : List Entry) → entry_to s row ≡ None → 
 without_none s [] h = refl
 without_none s (x ∷ row) h = none_by s x row (nat_le s x.target) (eqb x.target s) h (without_none s row)
 
-last_or : (s : ℕ) (front : List Entry) (y : Entry) (p : ℚ) → Between 0 (suc s) (front ++ y ∷ []) → Some p ≡ entry_to s (front ++ y ∷ []) → (b : Bool) → eqb y.target s ≡ b → front ≡ without s (front ++ y ∷ [])
+last_or : (s : ℕ) (front : List Entry) (y : Entry) (p : ℚ) → Between 0 (suc s) (front ++ y ∷ [])
+    → Some p ≡ entry_to s (front ++ y ∷ []) → (b : Bool) → eqb y.target s ≡ b → front ≡ without s (front ++ y ∷ [])
 last_or s front y p h e true t = sym (end_is 0 s front y h (let k : y.target ≡ s = grind arith in k)).1
 last_or s front y p h e false t =
     let l = last_high 0 s front y h in
@@ -315,7 +324,8 @@ nonempty : (s : ℕ) (p : ℚ) (row : List Entry) → Some p ≡ entry_to s row 
 nonempty s p [] h = cc
 nonempty s p (x ∷ row) h = omega arith
 
-pub without_popped : (s : ℕ) (row rest : List Entry) (o : Option Entry) (p : ℚ) → Between 0 (s + 1) row → row ≡ rest ++ option_to_list o → (0 < length row → IsSome o) → Some p ≡ entry_to s row → rest ≡ without s row
+pub without_popped : (s : ℕ) (row rest : List Entry) (o : Option Entry) (p : ℚ) → Between 0 (s + 1) row
+    → row ≡ rest ++ option_to_list o → (0 < length row → IsSome o) → Some p ≡ entry_to s row → rest ≡ without s row
 without_popped s row rest (Some y) p h is some e = without_last s rest y row p is (subst (λ n. Between 0 n row) (let e : s + 1 ≡ suc s = omega arith in e) h) e
 without_popped s row rest None p h is some e = absurd (let k : false ≡ true = some (nonempty s p row e) in cc)
 

@@ -1,5 +1,6 @@
 -- A chain that leaves its active states: its systems have exactly one solution, which written elimination gives.
-use Rattle.std.proofs.Common.{◌≡◌, ℕ, zero, suc, ◌+◌, ◌<◌, ◌≤◌, ◌⊎◌, inl, inr, Bool, true, false, List, [], ◌∷◌, length, map, get_or, Result, Ok, Err, refl, sym, ◌∙◌, ap, subst, arith, eqb, if◌then◌else◌, pos, zero-add}
+use Rattle.std.proofs.Common.{◌≡◌, ℕ, zero, suc, ◌+◌, ◌<◌, ◌≤◌, ◌⊎◌, inl, inr, Bool, true, false, List, [], ◌∷◌}
+use Rattle.std.proofs.Common.{length, map, get_or, Result, Ok, Err, refl, sym, ◌∙◌, ap, subst, arith, eqb, if◌then◌else◌, pos, zero-add}
 use Rattle.std.specs.List.{range_with_len}
 use Rattle.std.proofs.Math.ListN.{get_or-eq_default}
 use Rattle.std.proofs.lemmas.List.{ext_get_or}
@@ -53,10 +54,12 @@ same_vectors n x y p q h = ext_get_or 0ℚ x y (p ∙ sym q) (λ s l. h s)
 -- ---- sums over the active states
 
 module _ (active : ℕ → Bool) (g : ℕ → ℚ) (out : (v : ℕ) → active v ≡ false → g v ≡ 0ℚ) where
-  one_more : (n : ℕ) (b : Bool) → active n ≡ b → sum_of g (active_below active n) ≡ sum_of g (range_with_len 0 n) → sum_of g (if b then n ∷ active_below active n else active_below active n) ≡ sum_of g (range_with_len 0 n) +ℚ g n
+  one_more : (n : ℕ) (b : Bool) → active n ≡ b → sum_of g (active_below active n) ≡ sum_of g (range_with_len 0 n)
+      → sum_of g (if b then n ∷ active_below active n else active_below active n) ≡ sum_of g (range_with_len 0 n) +ℚ g n
   one_more n true a h = combine 3 (λ u v w. w ⊕ u) (λ u v w. v ⊕ w) (λ u v w. equal (lit (pos 1)) u v ∷ []) refl (sum_of g (active_below active n)) (sum_of g (range_with_len 0 n)) (g n) h
   one_more n false a h =
-      combine 3 (λ u v w. u) (λ u v w. v ⊕ w) (λ u v w. equal (lit (pos 1)) u v ∷ equal (lit (pos 1)) (lit (pos 0)) w ∷ []) refl (sum_of g (active_below active n)) (sum_of g (range_with_len 0 n)) (g n) h (sym (out n a))
+      combine 3 (λ u v w. u) (λ u v w. v ⊕ w) (λ u v w. equal (lit (pos 1)) u v ∷ equal (lit (pos 1)) (lit (pos 0)) w ∷ []) refl
+      (sum_of g (active_below active n)) (sum_of g (range_with_len 0 n)) (g n) h (sym (out n a))
 
   -- what is 0 at other numbers has the same sum over all numbers
   sum_active : (n : ℕ) → sum_of g (active_below active n) ≡ sum_of g (range_with_len 0 n)
@@ -92,14 +95,16 @@ module _ (rows : List (List Entry)) (active : List Bool) (ranks : List ℕ) (cha
       len = length-listed values (length rows);
       inside = λ s a.
           vector-at s ∙ solves.inside s a
-          ∙ ap (λ (u : ℚ). value_at column s +ℚ u) (sum_of-same (λ x. x.prob *ℚ values x.target) (λ x. x.prob *ℚ value_at vector x.target) (row_of rows s) (λ x. ap (λ (u : ℚ). x.prob *ℚ u) (sym (vector-at x.target))));
+          ∙ ap (λ (u : ℚ). value_at column s +ℚ u) (sum_of-same (λ x. x.prob *ℚ values x.target)
+          (λ x. x.prob *ℚ value_at vector x.target) (row_of rows s) (λ x. ap (λ (u : ℚ). x.prob *ℚ u) (sym (vector-at x.target))));
       outside = λ s a. vector-at s ∙ solves.outside s a;
     }
 
     solutions_equal : (x y : List ℚ) → IsSolution rows active column x → IsSolution rows active column y → x ≡ y
     solutions_equal x y p q =
         same_vectors (length rows) x y p.len q.len
-        (one_solution (chain_shrinks rows active ranks chain.distributions chain.marks chain.leaves) (length rows) (active-below rows active chain.marks) (row_of rows) (λ s a. refl) (value_at column) (value_at x) (value_at y)
+        (one_solution (chain_shrinks rows active ranks chain.distributions chain.marks chain.leaves) (length rows)
+        (active-below rows active chain.marks) (row_of rows) (λ s a. refl) (value_at column) (value_at x) (value_at y)
         (record { outside = p.outside; inside = p.inside }) (record { outside = q.outside; inside = q.inside }))
 
     exactly_one_solution : ExactlyOne (IsSolution rows active column)
@@ -129,14 +134,16 @@ module _ (rows : List (List Entry)) (active : List Bool) (ranks : List ℕ) (cha
     times-outside : (s : ℕ) → is_active active s ≡ false → times s ≡ 0ℚ
     times-outside s a = solution-outside left back (one_at start) s (λ k d l. other s (get_or left k d) a (active_below-all (is_active active) (length rows) k d l).0)
 
-    all_sum : (f : ℕ → ℚ) (s : ℕ) → ((v : ℕ) → is_active active v ≡ false → f v ≡ 0ℚ) → sum_of (λ t. back s t *ℚ f t) left ≡ sum_of (λ t. step rows t s *ℚ f t) (range_with_len 0 (length rows))
+    all_sum : (f : ℕ → ℚ) (s : ℕ) → ((v : ℕ) → is_active active v ≡ false → f v ≡ 0ℚ)
+        → sum_of (λ t. back s t *ℚ f t) left ≡ sum_of (λ t. step rows t s *ℚ f t) (range_with_len 0 (length rows))
     all_sum f s out =
         sum_active (is_active active) (λ t. back s t *ℚ f t)
         (λ v a. combine 2 (λ p x. p ⊗ x) (λ p x. lit (pos 0)) (λ p x. equal p x (lit (pos 0)) ∷ []) refl (back s v) (f v) (out v a)) (length rows)
 
     times-inside : (s : ℕ) → is_active active s ≡ true → times s ≡ one_at start s +ℚ sum_of (λ t. step rows t s *ℚ times t) (range_with_len 0 (length rows))
     times-inside s a =
-        All-contains (λ t. times t ≡ one_at start t +ℚ sum_of (λ v. back t v *ℚ times v) left) left s times-solve (active_below-contains (is_active active) (length rows) s a (active-below rows active chain.marks s a))
+        All-contains (λ t. times t ≡ one_at start t +ℚ sum_of (λ v. back t v *ℚ times v) left) left s times-solve
+        (active_below-contains (is_active active) (length rows) s a (active-below rows active chain.marks s a))
         ∙ ap (λ (u : ℚ). one_at start s +ℚ u) (all_sum times s times-outside)
 
     visits_vector : List ℚ
@@ -152,7 +159,8 @@ module _ (rows : List (List Entry)) (active : List Bool) (ranks : List ℕ) (cha
       len = length-listed times (length rows);
       inside = λ s a.
           visits_vector-at s ∙ times-inside s a
-          ∙ ap (λ (u : ℚ). one_at start s +ℚ u) (sum_of-same (λ t. step rows t s *ℚ times t) (λ t. step rows t s *ℚ value_at visits_vector t) (range_with_len 0 (length rows)) (λ t. ap (λ (u : ℚ). step rows t s *ℚ u) (sym (visits_vector-at t))));
+          ∙ ap (λ (u : ℚ). one_at start s +ℚ u) (sum_of-same (λ t. step rows t s *ℚ times t) (λ t. step rows t s *ℚ value_at visits_vector t)
+          (range_with_len 0 (length rows)) (λ t. ap (λ (u : ℚ). step rows t s *ℚ u) (sym (visits_vector-at t))));
       outside = λ s a. visits_vector-at s ∙ times-outside s a;
     }
 
@@ -205,4 +213,5 @@ gives_visits rows active ranks start y chain made =
     let v = kept_part Values.first (solution (length rows) equations) y made in
     let len = visits-len rows active ranks chain.distributions chain.marks chain.leaves start in
     subst (AreVisits rows active start) v.2
-    (are_visits rows active ranks chain.distributions chain.marks chain.leaves start equations refl v.0 (subst (λ (n : ℕ). solution n (system (transposed rows) active (unit_column (length rows) start ∷ [])) ≡ Ok v.0) (sym len) v.1))
+    (are_visits rows active ranks chain.distributions chain.marks chain.leaves start equations refl v.0
+    (subst (λ (n : ℕ). solution n (system (transposed rows) active (unit_column (length rows) start ∷ [])) ≡ Ok v.0) (sym len) v.1))

@@ -118,7 +118,8 @@ module _ (s : ℕ) (lists : List (SmallVec ℕ)) (equations : List Equation) (li
 -- ---- one state
 
 -- the equation of s is put into that of t, which is listed at the new targets
-module _ (s t : ℕ) (pivot : Equation) (below : Between 0 s pivot.entries) (lists more : List (SmallVec ℕ)) (old new : List Equation) (within : t < s) (linked : IsLinked s (s + 1) lists old) (kept : ListsMore lists more)
+module _ (s t : ℕ) (pivot : Equation) (below : Between 0 s pivot.entries) (lists more : List (SmallVec ℕ))
+    (old new : List Equation) (within : t < s) (linked : IsLinked s (s + 1) lists old) (kept : ListsMore lists more)
     (fresh : All (λ x. t < x.target → LeadsTo (at old t).entries x.target ⊎ IsListed more x.target t) pivot.entries) (put : IsPutAt s pivot t old new) (len : length new ≡ length old) where
   -- t is listed for v, where there is a list
   abbrev Known : ℕ → Type 0
@@ -208,7 +209,8 @@ module _ (s : ℕ) (pivot : Equation) (below : Between 0 s pivot.entries) (state
       }
 
   module _ (now : List Equation) (so_far : IsPutBelow s pivot states (length states) old now) (complete : (t : ℕ) → t < s → LeadsTo (at old t).entries s → Contains states t) where
-    put_by : (t : ℕ) → t < s → (o : Option ℚ) → entry_to s (at old t).entries ≡ o → (at now t ≡ at old t) ⊎ (substituted s pivot (at old t) ≡ Some (at now t)) → substituted s pivot (at old t) ≡ Some (at now t)
+    put_by : (t : ℕ) → t < s → (o : Option ℚ) → entry_to s (at old t).entries ≡ o
+        → (at now t ≡ at old t) ⊎ (substituted s pivot (at old t) ≡ Some (at now t)) → substituted s pivot (at old t) ≡ Some (at now t)
     put_by t l (Some p) e h =
         let c = complete t l (leads-entry s p (at old t).entries e) in
         subst (λ (n : ℕ). substituted s pivot (at old n) ≡ Some (at now n)) c.2 (so_far.done c.0 t c.1)
@@ -243,7 +245,8 @@ module _ (s : ℕ) (lists : List (SmallVec ℕ)) (equations : List Equation) (li
   pub rest_linked : IsLinked s (s + 1) (remove lists s) (remove equations s)
   rest_linked =
       subst (λ n. IsLinked s n (remove lists s) (remove equations s)) (sym more_is)
-      (subst (λ (ls : List (SmallVec ℕ)). IsLinked s (suc s) ls (remove equations s)) (sym lists_taken) (subst (λ (es : List Equation). IsLinked s (suc s) (take s lists) es) (sym equations_taken) (taken_linked s lists equations linked_suc)))
+      (subst (λ (ls : List (SmallVec ℕ)). IsLinked s (suc s) ls (remove equations s)) (sym lists_taken)
+      (subst (λ (es : List Equation). IsLinked s (suc s) (take s lists) es) (sym equations_taken) (taken_linked s lists equations linked_suc)))
 
   pub rest_complete : (t : ℕ) → t < s → LeadsTo (at (remove equations s) t).entries s → Contains (SmallVec.items (get_or lists s no_states)) t
   rest_complete t l h = taken_complete s lists equations linked_suc t l (subst (λ (es : List Equation). LeadsTo (at es t).entries s) equations_taken h)

@@ -42,7 +42,8 @@ some_same x y h = cc
 
 -- ---- the entry to s, and the others
 
-split_here : (f : ℕ → ℚ) (s : ℕ) (y : Entry) (row : List Entry) (c : Bool) → eqb y.target s ≡ c → over f (y ∷ row) ≡ or_zero (if c then Some y.prob else None) *ℚ f s +ℚ over f (if c then row else y ∷ row)
+split_here : (f : ℕ → ℚ) (s : ℕ) (y : Entry) (row : List Entry) (c : Bool) → eqb y.target s ≡ c
+    → over f (y ∷ row) ≡ or_zero (if c then Some y.prob else None) *ℚ f s +ℚ over f (if c then row else y ∷ row)
 split_here f s y row true e = let t : y.target ≡ s = grind arith in ap (λ n. y.prob *ℚ f n +ℚ over f row) t
 split_here f s y row false e = ring rat_ring 2 (λ o k. o) (λ o k. lit (pos 0) ⊗ k ⊕ o) refl (over f (y ∷ row)) (f s)
 
@@ -50,7 +51,8 @@ split_by : (f : ℕ → ℚ) (s : ℕ) (y : Entry) (row : List Entry) (b : Bool)
     → over f (y ∷ row) ≡ or_zero (if b then (if eqb y.target s then Some y.prob else None) else entry_to s row) *ℚ f s +ℚ over f (if b then (if eqb y.target s then row else y ∷ row) else y ∷ without s row)
 split_by f s y row true h = split_here f s y row (eqb y.target s) refl
 split_by f s y row false h =
-    ap (λ (o : ℚ). y.prob *ℚ f y.target +ℚ o) h ∙ ring rat_ring 3 (λ a b c. a ⊕ (b ⊕ c)) (λ a b c. b ⊕ (a ⊕ c)) refl (y.prob *ℚ f y.target) (or_zero (entry_to s row) *ℚ f s) (over f (without s row))
+    ap (λ (o : ℚ). y.prob *ℚ f y.target +ℚ o) h ∙ ring rat_ring 3 (λ a b c. a ⊕ (b ⊕ c))
+    (λ a b c. b ⊕ (a ⊕ c)) refl (y.prob *ℚ f y.target) (or_zero (entry_to s row) *ℚ f s) (over f (without s row))
 
 pub over-split : (f : ℕ → ℚ) (s : ℕ) (row : List Entry) → over f row ≡ or_zero (entry_to s row) *ℚ f s +ℚ over f (without s row)
 over-split f s [] = ring rat_ring 1 (λ k. lit (pos 0)) (λ k. lit (pos 0) ⊗ k ⊕ lit (pos 0)) refl (f s)
@@ -75,7 +77,8 @@ plus_here f v x y row new true e h =
     let p = some_part (written_add y.prob x) (λ sum. Some (entry v sum ∷ row)) new h in
     let t : v ≡ y.target = grind arith in
     ap (over f) (sym (some_same _ _ p.2))
-    ∙ combine 6 (λ s q x a b o. s ⊗ b ⊕ o) (λ s q x a b o. (q ⊗ a ⊕ o) ⊕ x ⊗ b) (λ s q x a b o. equal b s (q ⊕ x) ∷ equal q b a ∷ []) refl p.0 y.prob x (f y.target) (f v) (over f row) (written_add-some y.prob x p.0 (sym p.1)) (ap f t)
+    ∙ combine 6 (λ s q x a b o. s ⊗ b ⊕ o) (λ s q x a b o. (q ⊗ a ⊕ o) ⊕ x ⊗ b)
+    (λ s q x a b o. equal b s (q ⊕ x) ∷ equal q b a ∷ []) refl p.0 y.prob x (f y.target) (f v) (over f row) (written_add-some y.prob x p.0 (sym p.1)) (ap f t)
 plus_here f v x y row new false e h =
     let p = some_part (written_add 0ℚ x) (λ sum. Some (entry v sum ∷ y ∷ row)) new h in
     ap (over f) (sym (some_same _ _ p.2))
@@ -129,7 +132,8 @@ pub between-below : (low high : ℕ) (row : List Entry) → Between low high row
 between-below low high [] h = All-nil (λ x. x.target < high)
 between-below low high (x ∷ row) h = All-cons (λ x. x.target < high) x row h.1 (between-below (suc x.target) high row h.2)
 
-without_between : (low s : ℕ) (y : Entry) (row : List Entry) (b : Bool) → nat_le s y.target ≡ b → Between low (suc s) (y ∷ row) → (Between (suc y.target) (suc s) row → Between (suc y.target) s (without s row)) → Between low s (if b then (if eqb y.target s then row else y ∷ row) else y ∷ without s row)
+without_between : (low s : ℕ) (y : Entry) (row : List Entry) (b : Bool) → nat_le s y.target ≡ b → Between low (suc s) (y ∷ row)
+    → (Between (suc y.target) (suc s) row → Between (suc y.target) s (without s row)) → Between low s (if b then (if eqb y.target s then row else y ∷ row) else y ∷ without s row)
 without_between low s y row true e h ih =
     let l = leb-true s y.target e in
     let t : eqb y.target s ≡ true = let q : y.target ≡ s = omega (arith, h.1) in subst (λ n. eqb y.target n ≡ true) q (eqb-same y.target) in
@@ -152,7 +156,8 @@ plus_between_by : (low high v : ℕ) (x : ℚ) (y : Entry) (row new : List Entry
     → Between low high new
 plus_between_by low high v x y row new true e l g h ih p = plus_between_here (eqb y.target v) refl p
   where
-    plus_between_here : (c : Bool) → eqb y.target v ≡ c → (if c then (written_add y.prob x >>= (λ sum. Some (entry v sum ∷ row))) else (written_add 0ℚ x >>= (λ sum. Some (entry v sum ∷ y ∷ row)))) ≡ Some new → Between low high new
+    plus_between_here : (c : Bool) → eqb y.target v ≡ c → (if c then (written_add y.prob x >>= (λ sum. Some (entry v sum ∷ row))) else
+        (written_add 0ℚ x >>= (λ sum. Some (entry v sum ∷ y ∷ row)))) ≡ Some new → Between low high new
     plus_between_here true f q =
         let k = some_part (written_add y.prob x) (λ sum. Some (entry v sum ∷ row)) new q in
         let t : y.target ≡ v = grind arith in

@@ -1,5 +1,6 @@
 -- The transposed rows of a chain: their entries, where they lie, and the pivots of their system.
-use Rattle.std.proofs.Common.{◌≡◌, ℕ, zero, suc, ◌+◌, ◌<◌, ◌≤◌, inl, inr, Bool, true, false, List, [], ◌∷◌, ◌++◌, length, map, refl, sym, ◌∙◌, ap, ap₂, subst, arith, eqb, if◌then◌else◌, pos, zero-add}
+use Rattle.std.proofs.Common.{◌≡◌, ℕ, zero, suc, ◌+◌, ◌<◌, ◌≤◌, inl, inr, Bool, true, false, List, [], ◌∷◌}
+use Rattle.std.proofs.Common.{◌++◌, length, map, refl, sym, ◌∙◌, ap, ap₂, subst, arith, eqb, if◌then◌else◌, pos, zero-add}
 use Rattle.std.specs.List.{flat_map, range_with_len}
 use Rattle.std.proofs.lemmas.List.{append-nil}
 use Rattle.std.proofs.lemmas.List.FromFn.{map-range_with_len_more, get_or-map-range_with_len, length-map-range_with_len}
@@ -37,9 +38,12 @@ sum_more f n = ap (sum_of f) (range_more n) ∙ sum_of-append f (range_with_len 
 -- ---- what they weigh
 
 into_by : (f : ℕ → ℚ) (s t : ℕ) (x : Entry) (row : List Entry) (b : Bool) → over f (entries_into s t row) ≡ entry_at (λ x. x.target) (λ x. x.prob) row s *ℚ f t
-    → over f (if b then (let y : Entry = record { target = t; prob = x.prob } in y) ∷ entries_into s t row else entries_into s t row) ≡ ((if b then x.prob else 0ℚ) +ℚ entry_at (λ x. x.target) (λ x. x.prob) row s) *ℚ f t
-into_by f s t x row true h = combine 4 (λ o p e k. p ⊗ k ⊕ o) (λ o p e k. (p ⊕ e) ⊗ k) (λ o p e k. equal (lit (pos 1)) o (e ⊗ k) ∷ []) refl (over f (entries_into s t row)) x.prob (entry_at (λ x. x.target) (λ x. x.prob) row s) (f t) h
-into_by f s t x row false h = combine 3 (λ o e k. o) (λ o e k. (lit (pos 0) ⊕ e) ⊗ k) (λ o e k. equal (lit (pos 1)) o (e ⊗ k) ∷ []) refl (over f (entries_into s t row)) (entry_at (λ x. x.target) (λ x. x.prob) row s) (f t) h
+    → over f (if b then (let y : Entry = record { target = t; prob = x.prob } in y) ∷ entries_into s t row else entries_into s t row)
+    ≡ ((if b then x.prob else 0ℚ) +ℚ entry_at (λ x. x.target) (λ x. x.prob) row s) *ℚ f t
+into_by f s t x row true h = combine 4 (λ o p e k. p ⊗ k ⊕ o) (λ o p e k. (p ⊕ e) ⊗ k)
+    (λ o p e k. equal (lit (pos 1)) o (e ⊗ k) ∷ []) refl (over f (entries_into s t row)) x.prob (entry_at (λ x. x.target) (λ x. x.prob) row s) (f t) h
+into_by f s t x row false h = combine 3 (λ o e k. o) (λ o e k. (lit (pos 0) ⊕ e) ⊗ k)
+    (λ o e k. equal (lit (pos 1)) o (e ⊗ k) ∷ []) refl (over f (entries_into s t row)) (entry_at (λ x. x.target) (λ x. x.prob) row s) (f t) h
 
 over-entries_into : (f : ℕ → ℚ) (s t : ℕ) (row : List Entry) → over f (entries_into s t row) ≡ entry_at (λ x. x.target) (λ x. x.prob) row s *ℚ f t
 over-entries_into f s t [] = ring rat_ring 1 (λ k. lit (pos 0)) (λ k. lit (pos 0) ⊗ k) refl (f t)
@@ -57,7 +61,8 @@ none_into s t low high (x ∷ row) l h =
     ap (λ (b : Bool). if b then (let y : Entry = record { target = t; prob = x.prob } in y) ∷ entries_into s t row else entries_into s t row) (eqb-greater x.target s (omega (arith, h.0)))
     ∙ none_into s t (suc x.target) high row (omega (arith, h.0)) h.2
 
-one_by : (s t low high : ℕ) (x : Entry) (row : List Entry) (b : Bool) → eqb x.target s ≡ b → Between low high (x ∷ row) → Between t (suc t) (entries_into s t row) → Between t (suc t) (if b then (let y : Entry = record { target = t; prob = x.prob } in y) ∷ entries_into s t row else entries_into s t row)
+one_by : (s t low high : ℕ) (x : Entry) (row : List Entry) (b : Bool) → eqb x.target s ≡ b → Between low high (x ∷ row) → Between t (suc t) (entries_into s t row)
+    → Between t (suc t) (if b then (let y : Entry = record { target = t; prob = x.prob } in y) ∷ entries_into s t row else entries_into s t row)
 one_by s t low high x row true e h ih =
     let q : x.target ≡ s = grind arith in
     let none = none_into s t (suc x.target) high row (omega arith) h.2 in

@@ -115,7 +115,8 @@ substituted-is s pivot e new h = substituted_by s (entry_to s e.entries) pivot e
 -- ---- each equation below s
 
 module _ {A : Type 0} (f : A → Option A) (d : A) where
-  each_next : (x : A) (xs : List A) (t : ℕ) (y : A) (ys : List A) → t < suc (length xs) → f x ≡ Some y → ((k : ℕ) → k < length xs → f (get_or xs k d) ≡ Some (get_or ys k d)) → f (get_or (x ∷ xs) t d) ≡ Some (get_or (y ∷ ys) t d)
+  each_next : (x : A) (xs : List A) (t : ℕ) (y : A) (ys : List A) → t < suc (length xs) → f x ≡ Some y
+      → ((k : ℕ) → k < length xs → f (get_or xs k d) ≡ Some (get_or ys k d)) → f (get_or (x ∷ xs) t d) ≡ Some (get_or (y ∷ ys) t d)
   each_next x xs zero y ys l p q = p
   each_next x xs (suc t) y ys l p q = q t (omega arith)
 

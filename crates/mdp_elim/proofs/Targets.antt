@@ -1,5 +1,6 @@
 -- A fact about the targets of two rows holds of the targets of what elimination makes of them.
-use Rattle.std.proofs.Common.{◌≡◌, ℕ, zero, suc, ◌+◌, ◌<◌, ◌⊎◌, inl, inr, Bool, true, false, List, [], ◌∷◌, length, get_or, refl, sym, ◌∙◌, ap, subst, arith, eqb, nat_le, Option, Some, None, IfSome, if◌then◌else◌, pos}
+use Rattle.std.proofs.Common.{◌≡◌, ℕ, zero, suc, ◌+◌, ◌<◌, ◌⊎◌, inl, inr, Bool, true, false, List, [], ◌∷◌, length}
+use Rattle.std.proofs.Common.{get_or, refl, sym, ◌∙◌, ap, subst, arith, eqb, nat_le, Option, Some, None, IfSome, if◌then◌else◌, pos}
 use Rattle.std.specs.List.{All}
 use Rattle.std.specs.Option.{is_none}
 use Rattle.std.proofs.lemmas.List.{get_or_default}
@@ -30,14 +31,16 @@ some_same x y h = cc
 abbrev pub HoldsBefore : (ℕ → Type 0) → List Entry → ℕ → Type 0
 HoldsBefore Q row i = (k : ℕ) (d : Entry) → k < i → Q (Entry.target (get_or row k d))
 
-one_more : (Q : ℕ → Type 0) (row : List Entry) (i : ℕ) (x : Entry) → x ≡ get_or row i x → i < length row → HoldsBefore Q row i → Q x.target → (k : ℕ) (d : Entry) → k < i + 1 → (k < i) ⊎ (k ≡ i) → Q (Entry.target (get_or row k d))
+one_more : (Q : ℕ → Type 0) (row : List Entry) (i : ℕ) (x : Entry) → x ≡ get_or row i x → i < length row → HoldsBefore Q row i
+    → Q x.target → (k : ℕ) (d : Entry) → k < i + 1 → (k < i) ⊎ (k ≡ i) → Q (Entry.target (get_or row k d))
 one_more Q row i x is l h q k d m (inl a) = h k d a
 one_more Q row i x is l h q k d m (inr e) = subst (λ (n : ℕ). Q (Entry.target (get_or row n d))) (sym e) (subst (λ (y : Entry). Q y.target) (is ∙ get_or_default row i x d l) q)
 
 pub so_far-same : (Q : ℕ → Type 0) (row : List Entry) (i : ℕ) (x : Entry) → x ≡ get_or row i x → i < length row → HoldsBefore Q row i → Q x.target → HoldsBefore Q row (i + 1)
 so_far-same Q row i x is l h q k d m = one_more Q row i x is l h q k d m (before_or i k m)
 
-pub so_far-more : (P Q : ℕ → Type 0) → ((v : ℕ) → P v → Q v) → (row : List Entry) (i : ℕ) (x : Entry) → x ≡ get_or row i x → i < length row → HoldsBefore P row i → Q x.target → HoldsBefore Q row (i + 1)
+pub so_far-more : (P Q : ℕ → Type 0) → ((v : ℕ) → P v → Q v) → (row : List Entry) (i : ℕ) (x : Entry)
+    → x ≡ get_or row i x → i < length row → HoldsBefore P row i → Q x.target → HoldsBefore Q row (i + 1)
 so_far-more P Q f row i x is l h q = so_far-same Q row i x is l (λ k d m. f _ (h k d m)) q
 
 module _ (P : ℕ → Type 0) where
@@ -66,7 +69,8 @@ module _ (P : ℕ → Type 0) where
 
   plus_by : (v : ℕ) (x : ℚ) (y : Entry) (row new : List Entry) (b c : Bool) → P v → P y.target → Targets row → ((r : List Entry) → plus_entry v x row ≡ Some r → Targets r)
       → (if b
-      then (if c then (written_add y.prob x >>= (λ sum. Some ((let z : Entry = record { target = v; prob = sum } in z) ∷ row))) else (written_add (of_int (pos 0)) x >>= (λ sum. Some ((let z : Entry = record { target = v; prob = sum } in z) ∷ y ∷ row))))
+      then (if c then (written_add y.prob x >>= (λ sum. Some ((let z : Entry = record { target = v; prob = sum } in z) ∷ row))) else
+      (written_add (of_int (pos 0)) x >>= (λ sum. Some ((let z : Entry = record { target = v; prob = sum } in z) ∷ y ∷ row))))
       else (plus_entry v x row >>= (λ rest. Some (y ∷ rest)))) ≡ Some new
       → Targets new
   plus_by v x y row new true true p q h ih e = let k = some_part (written_add y.prob x) _ new e in subst Targets (some_same _ _ k.2) (p, h)
@@ -127,7 +131,8 @@ module _ (P : ℕ → Type 0) where
 leads_later : (v : ℕ) (x : Entry) (row : List Entry) → LeadsTo row v → LeadsTo (x ∷ row) v
 leads_later v x row h = (suc h.0, h.1, let l = h.2 in omega (arith, l), h.3, h.4)
 
-leads_by : (v : ℕ) (p : ℚ) (x : Entry) (row : List Entry) (b c : Bool) → eqb x.target v ≡ c → (if b then (if c then Some x.prob else None) else entry_to v row) ≡ Some p → (entry_to v row ≡ Some p → LeadsTo row v) → LeadsTo (x ∷ row) v
+leads_by : (v : ℕ) (p : ℚ) (x : Entry) (row : List Entry) (b c : Bool) → eqb x.target v ≡ c
+    → (if b then (if c then Some x.prob else None) else entry_to v row) ≡ Some p → (entry_to v row ≡ Some p → LeadsTo row v) → LeadsTo (x ∷ row) v
 leads_by v p x row true true e h ih = (0, x, omega arith, refl, grind arith)
 leads_by v p x row true false e h ih = cc
 leads_by v p x row false c e h ih = leads_later v x row (ih h)

@@ -55,7 +55,8 @@ plus_entry v x [] = do
   Some (record { target = v; prob = sum } ∷ [])
 plus_entry v x (y ∷ row) =
     if nat_le v y.target
-    then (if y.target == v then (written_add y.prob x >>= (λ sum. Some (record { target = v; prob = sum } ∷ row))) else (written_add (of_int (pos 0)) x >>= (λ sum. Some (record { target = v; prob = sum } ∷ y ∷ row))))
+    then (if y.target == v then (written_add y.prob x >>= (λ sum. Some (record { target = v; prob = sum } ∷ row))) else
+    (written_add (of_int (pos 0)) x >>= (λ sum. Some (record { target = v; prob = sum } ∷ y ∷ row))))
     else (plus_entry v x row >>= (λ rest. Some (y ∷ rest)))
 
 -- w times each entry, in their order, added to the entries of a row

@@ -33,7 +33,8 @@ HasPositivePivots =
 -- what written elimination gives for one or two columns are the solutions
 abbrev pub GivesSolutions : Type 0
 GivesSolutions =
-    (rows : List (List Entry)) (active : List Bool) (ranks : List ℕ) (columns xs : List (List ℚ)) → LeavingChain rows active ranks → (length columns ≡ 1) ⊎ (length columns ≡ 2) → written_solution rows active columns ≡ Ok xs
+    (rows : List (List Entry)) (active : List Bool) (ranks : List ℕ) (columns xs : List (List ℚ)) → LeavingChain rows active ranks
+    → (length columns ≡ 1) ⊎ (length columns ≡ 2) → written_solution rows active columns ≡ Ok xs
     → SolveEach rows active columns xs
 
 -- ---- expected visits
@@ -45,7 +46,8 @@ HasOneVisits = (rows : List (List Entry)) (active : List Bool) (ranks : List ℕ
 -- each division in the elimination of the transposed rows is by a number above 0
 abbrev pub HasPositivePivotsTransposed : Type 0
 HasPositivePivotsTransposed =
-    (rows : List (List Entry)) (active : List Bool) (ranks : List ℕ) (start : ℕ) → LeavingChain rows active ranks → DividesByPositive (length rows) (system (transposed rows) active (unit_column (length rows) start ∷ []))
+    (rows : List (List Entry)) (active : List Bool) (ranks : List ℕ) (start : ℕ) → LeavingChain rows active ranks
+    → DividesByPositive (length rows) (system (transposed rows) active (unit_column (length rows) start ∷ []))
 
 -- what written elimination gives are the expected visits
 abbrev pub GivesVisits : Type 0

@@ -39,7 +39,8 @@ start_equation start s = record { entries = []; first = one_at start s; second =
 
 -- the equation of state s by the rows of the active states below t
 abbrev pub visits_below : List (List Entry) → List Bool → ℕ → ℕ → ℕ → Equation
-visits_below rows active start t s = if is_active active s then record { entries = inner active (flat_map (λ u. entries_into s u (row_of rows u)) (range_with_len 0 t)); first = one_at start s; second = of_int (pos 0) } else no_equation
+visits_below rows active start t s = if is_active active s then
+    record { entries = inner active (flat_map (λ u. entries_into s u (row_of rows u)) (range_with_len 0 t)); first = one_at start s; second = of_int (pos 0) } else no_equation
 
 -- the values of the written elimination, or the first state with a term past width
 abbrev pub written_visits : List (List Entry) → List Bool → ℕ → Result (List ℚ) ℕ

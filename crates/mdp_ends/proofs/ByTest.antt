@@ -1,5 +1,6 @@
 -- Components and maximal end components of a given model, tested by computation.
-use Rattle.std.proofs.Common.{◌≡◌, ◌⊎◌, inl, inr, ℕ, suc, zero, ◌<◌, Bool, true, false, not, ◌||◌, ◌&&◌, ◌==◌, cond, List, length, get_or, map, refl, sym, ap, ◌∙◌, arith, Option, Some, None, is_some}
+use Rattle.std.proofs.Common.{◌≡◌, ◌⊎◌, inl, inr, ℕ, suc, zero, ◌<◌, Bool, true, false, not, ◌||◌, ◌&&◌, ◌==◌}
+use Rattle.std.proofs.Common.{cond, List, length, get_or, map, refl, sym, ap, ◌∙◌, arith, Option, Some, None, is_some}
 use Rattle.std.specs.List.{list_any, range_with_len}
 use Rattle.std.proofs.lemmas.Bool.{false≢true, cases_Bool, cases_eq, or_cases, or_left, or_right, and_parts, and_from, eqb-true, eq-eqb, not_from_true}
 use Rattle.mdp_spec.specs.Mdp.{Mdp, states_of, choices_at}
@@ -59,7 +60,8 @@ module _ (m : Mdp) (allowed : ℕ → ℕ → Bool) (parts : List ℕ) where
   has_test ends = each_below (λ s. agree (is_some (part_of ends s)) (list_any (allowed s) (range_with_len 0 (length (choices_at m s))))) (states_of m)
 
   unfoldable pub numbers_test : List (Option ℕ) → Bool
-  numbers_test ends = each_below (λ s. each_below (λ t. not (is_some (part_of ends s) && is_some (part_of ends t)) || agree (same_number (part_of ends s) (part_of ends t)) (get_or parts s 0 == get_or parts t 0)) (states_of m)) (states_of m)
+  numbers_test ends = each_below (λ s. each_below (λ t. not (is_some (part_of ends s) && is_some (part_of ends t)) || agree
+      (same_number (part_of ends s) (part_of ends t)) (get_or parts s 0 == get_or parts t 0)) (states_of m)) (states_of m)
 
   abbrev pub left_test : List (Option ℕ) → Bool
   left_test ends = has_test ends && numbers_test ends
@@ -82,7 +84,8 @@ module _ (m : Mdp) (allowed : ℕ → ℕ → Bool) (parts : List ℕ) where
   settled_by_test : settled_test ≡ true → IsSettled m allowed parts
   unfolding settled_test
   settled_by_test e = λ s c h l a.
-      (let w = each-at (λ c. not (allowed s c) || keeps_part m parts s c) (length (choices_at m s)) (each-at (λ s. each_below (λ c. not (allowed s c) || keeps_part m parts s c) (length (choices_at m s))) (states_of m) e s h) c l in
+      (let w = each-at (λ c. not (allowed s c) || keeps_part m parts s c) (length (choices_at m s))
+      (each-at (λ s. each_below (λ c. not (allowed s c) || keeps_part m parts s c) (length (choices_at m s))) (states_of m) e s h) c l in
       elim (or_cases (not (allowed s c)) (keeps_part m parts s c) w) [
         | inl out ↦ absurd (false≢true (sym (not_from_true (allowed s c) a) ∙ out))
         | inr kept ↦ kept
@@ -108,21 +111,26 @@ module _ (m : Mdp) (allowed : ℕ → ℕ → Bool) (parts : List ℕ) where
     first = (and_parts (has_test ends) (numbers_test ends) e).0
 
     has : (s : ℕ) → s < states_of m → is_some (part_of ends s) ≡ list_any (allowed s) (range_with_len 0 (length (choices_at m s)))
-    has s h = agreed (is_some (part_of ends s)) (list_any (allowed s) (range_with_len 0 (length (choices_at m s)))) (each-at (λ s. agree (is_some (part_of ends s)) (list_any (allowed s) (range_with_len 0 (length (choices_at m s))))) (states_of m) first s h)
+    has s h = agreed (is_some (part_of ends s)) (list_any (allowed s) (range_with_len 0 (length (choices_at m s))))
+        (each-at (λ s. agree (is_some (part_of ends s)) (list_any (allowed s) (range_with_len 0 (length (choices_at m s))))) (states_of m) first s h)
 
     second : numbers_test ends ≡ true
     second = (and_parts (has_test ends) (numbers_test ends) e).1
 
-    numbers : (s t i j : ℕ) → s < states_of m → t < states_of m → part_of ends s ≡ Some i → part_of ends t ≡ Some j → same_number (part_of ends s) (part_of ends t) ≡ (get_or parts s 0 == get_or parts t 0)
+    numbers : (s t i j : ℕ) → s < states_of m → t < states_of m → part_of ends s ≡ Some i
+        → part_of ends t ≡ Some j → same_number (part_of ends s) (part_of ends t) ≡ (get_or parts s 0 == get_or parts t 0)
     numbers s t i j hs ht es et = elim (or_cases (not (is_some (part_of ends s) && is_some (part_of ends t))) (agree (same_number (part_of ends s) (part_of ends t)) (get_or parts s 0 == get_or parts t 0))
         (each-at (λ t. not (is_some (part_of ends s) && is_some (part_of ends t)) || agree (same_number (part_of ends s) (part_of ends t)) (get_or parts s 0 == get_or parts t 0)) (states_of m)
-        (each-at (λ s. each_below (λ t. not (is_some (part_of ends s) && is_some (part_of ends t)) || agree (same_number (part_of ends s) (part_of ends t)) (get_or parts s 0 == get_or parts t 0)) (states_of m)) (states_of m) second s hs) t ht)) [
-          | inl out ↦ absurd (false≢true (sym (not_from_true (is_some (part_of ends s) && is_some (part_of ends t)) (and_from (is_some (part_of ends s)) (is_some (part_of ends t)) (ap is_some es) (ap is_some et))) ∙ out))
+        (each-at (λ s. each_below (λ t. not (is_some (part_of ends s) && is_some (part_of ends t)) || agree
+        (same_number (part_of ends s) (part_of ends t)) (get_or parts s 0 == get_or parts t 0)) (states_of m)) (states_of m) second s hs) t ht)) [
+          | inl out ↦ absurd (false≢true (sym (not_from_true (is_some (part_of ends s) && is_some (part_of ends t))
+              (and_from (is_some (part_of ends s)) (is_some (part_of ends t)) (ap is_some es) (ap is_some et))) ∙ out))
           | inr a ↦ agreed (same_number (part_of ends s) (part_of ends t)) (get_or parts s 0 == get_or parts t 0) a
         ]
 
 -- where one round forbids all that has to go, and components stay as they are
-pub ends_by_test : (m : Mdp) → IsMdp m → (parts : List ℕ) (ends : List (Option ℕ)) → length parts ≡ states_of m → is_numbered 0 (map Some parts) ≡ true → length ends ≡ states_of m → is_numbered 0 ends ≡ true
+pub ends_by_test : (m : Mdp) → IsMdp m → (parts : List ℕ) (ends : List (Option ℕ)) → length parts ≡ states_of m
+    → is_numbered 0 (map Some parts) ≡ true → length ends ≡ states_of m → is_numbered 0 ends ≡ true
     → components_test m (λ s c. true) parts ≡ true → components_test m (still_allowed m (λ s c. true) parts) parts ≡ true → settled_test m (still_allowed m (λ s c. true) parts) parts ≡ true
     → left_test m (still_allowed m (λ s c. true) parts) parts ends ≡ true → AreEnds m ends
 ends_by_test m ok parts ends count numbered as_many numbers first next settled left =

@@ -10,7 +10,8 @@ use Rattle.mdp_ends.proofs.Walking.{stays-by, step-has, step-by, here, one_more,
 use Rattle.mdp_ends.proofs.Saturating.{count_below, count-same, least_below, saturated}
 
 module _ (m : Mdp) (ok : IsMdp m) (chosen : ℕ → ℕ → Bool) where
-  pub chosen-rises : (p q : ℕ → Bool) → ((t : ℕ) → t < states_of m → p t ≡ true → q t ≡ true) → (s : ℕ) → s < states_of m → chosen_step m chosen p s ≡ true → chosen_step m chosen q s ≡ true
+  pub chosen-rises : (p q : ℕ → Bool) → ((t : ℕ) → t < states_of m → p t ≡ true → q t ≡ true)
+      → (s : ℕ) → s < states_of m → chosen_step m chosen p s ≡ true → chosen_step m chosen q s ≡ true
   chosen-rises p q more s h e =
       let w = step-has m chosen p s e in
       step-by m chosen q s w.0 w.1 w.2 w.3 w.4 (more w.1 (target-below m ok s w.0 w.1 h w.2 w.4) w.5)

@@ -1,5 +1,6 @@
 -- A search in depth, and the components in the order of its end.
-use Rattle.std.proofs.Common.{◌≡◌, ◌⊎◌, inl, inr, ℕ, suc, ◌<◌, ◌≤◌, Bool, true, false, not, ◌&&◌, ◌==◌, List, [], ◌∷◌, ◌++◌, length, get_or, refl, sym, ap, ◌∙◌, subst, arith}
+use Rattle.std.proofs.Common.{◌≡◌, ◌⊎◌, inl, inr, ℕ, suc, ◌<◌, ◌≤◌, Bool, true, false, not, ◌&&◌}
+use Rattle.std.proofs.Common.{◌==◌, List, [], ◌∷◌, ◌++◌, length, get_or, refl, sym, ap, ◌∙◌, subst, arith}
 use Rattle.std.proofs.lemmas.Bool.{false≢true, cases_eq, eq-eqb, not_from_false, false_from_ne_true, or_right, and_from}
 use Rattle.mdp_spec.specs.Mdp.{Mdp, states_of, choices_at, row_at}
 use Rattle.mdp_spec.specs.Row.{IsMdp}
@@ -47,22 +48,26 @@ module _ (m : Mdp) (ok : IsMdp m) (chosen : ℕ → ℕ → Bool) where
   To s t = Reaches m chosen s t
 
   -- what is done with reaches what isn't through the way
-  through : (way done : List ℕ) → IsSearching m chosen way done → (s t : ℕ) → s < states_of m → StandsIn s done → (StandsIn t done → ⊥) → To s t → (k : ℕ) × (k < length way) × To s (get_or way k 0) × To (get_or way k 0) t
+  through : (way done : List ℕ) → IsSearching m chosen way done → (s t : ℕ) → s < states_of m → StandsIn s done
+      → (StandsIn t done → ⊥) → To s t → (k : ℕ) × (k < length way) × To s (get_or way k 0) × To (get_or way k 0) t
   through way done a s t h is out w =
       walk_to m ok chosen t (λ x. StandsIn x done → (k : ℕ) × (k < length way) × To x (get_or way k 0) × To (get_or way k 0) t) (λ it. absurd (out it))
-      (λ x c y hx l e to hy rest known it. elim (a.met it.0 c y it.1 (subst (λ z. c < length (choices_at m z)) (sym it.2) l) (subst (λ z. chosen z c ≡ true) (sym it.2) e) (subst (λ z. leads_to y (row_at m z c) ≡ true) (sym it.2) to)) [
+      (λ x c y hx l e to hy rest known it. elim (a.met it.0 c y it.1 (subst (λ z. c < length (choices_at m z)) (sym it.2) l)
+      (subst (λ z. chosen z c ≡ true) (sym it.2) e) (subst (λ z. leads_to y (row_at m z c) ≡ true) (sym it.2) to)) [
         | inl y_done ↦ (let v = known y_done in (v.0, v.1, one_more m chosen x c y (get_or way v.0 0) l e to v.2, v.3))
         | inr y_way ↦ (y_way.0, y_way.1, subst (λ z. To x z) (sym y_way.2) (one_more m chosen x c y y l e to (here m chosen y)), subst (λ z. To z t) (sym y_way.2) rest)
       ]) s h w is
 
   -- ---- a state that wasn't met is put on the way: at its begin, or where the last one leads to it
 
-  pub pushed : (way done : List ℕ) (g : ℕ) → IsSearching m chosen way done → g < states_of m → (StandsIn g done → ⊥) → ((k : ℕ) → k < length way → To (get_or way k 0) g) → IsSearching m chosen (way ++ g ∷ []) done
+  pub pushed : (way done : List ℕ) (g : ℕ) → IsSearching m chosen way done → g < states_of m → (StandsIn g done → ⊥)
+      → ((k : ℕ) → k < length way → To (get_or way k 0) g) → IsSearching m chosen (way ++ g ∷ []) done
   pushed way done g a hg out led = record {
     way_below = λ k h. (elim (place_cases way g k h) [ inl old ↦ (let l = a.way_below k old.0 in omega (arith, l, old.1)) | inr new ↦ omega (arith, hg, new.1) ]);
     done_below = a.done_below;
     goes = λ j k le h. (elim (place_cases way g k h) as (λ _. To (get_or (way ++ g ∷ []) j 0) (get_or (way ++ g ∷ []) k 0)) [
-      | inl old ↦ (let l : j < length way = omega (arith, le, old.0) in subst (λ z. To (get_or (way ++ g ∷ []) j 0) z) (sym old.1) (subst (λ z. To z (get_or way k 0)) (sym (at_before way g 0 j l)) (a.goes j k le old.0)))
+      | inl old ↦ (let l : j < length way = omega (arith, le, old.0) in subst (λ z. To (get_or (way ++ g ∷ []) j 0) z)
+          (sym old.1) (subst (λ z. To z (get_or way k 0)) (sym (at_before way g 0 j l)) (a.goes j k le old.0)))
       | inr new ↦ (elim (place_cases way g j (omega (arith, le, h))) as (λ _. To (get_or (way ++ g ∷ []) j 0) (get_or (way ++ g ∷ []) k 0)) [
         | inl first ↦ subst (λ z. To (get_or (way ++ g ∷ []) j 0) z) (sym new.1) (subst (λ z. To z g) (sym first.1) (led j first.0))
         | inr both ↦ subst (λ z. To (get_or (way ++ g ∷ []) j 0) z) (sym new.1) (subst (λ z. To z g) (sym both.1) (here m chosen g))
@@ -73,11 +78,12 @@ module _ (m : Mdp) (ok : IsMdp m) (chosen : ℕ → ℕ → Bool) where
       | inl old ↦ kept f k k h old.0 (omega arith) (subst (λ z. To (get_or done f 0) z) old.1 w)
       | inr new ↦ (let v = through way done a (get_or done f 0) g (a.done_below f h) (f, h, refl) out (subst (λ z. To (get_or done f 0) z) new.1 w) in kept f v.0 k h v.1 (omega (arith, v.1, new.0)) v.2)
     ]);
-    later = λ f i h l w. (elim (a.later f i h l w) as (λ _. To (get_or done i 0) (get_or done f 0) ⊎ ((h : ℕ) × (i < h) × (h < length done) × AreJoined m chosen (get_or done f 0) (get_or done h 0)) ⊎ ((k : ℕ) × (k < length (way ++ g ∷ [])) × AreJoined m chosen (get_or done f 0) (get_or (way ++ g ∷ []) k 0))) [
-      | inl back ↦ inl back
-      | inr (inl v) ↦ inr (inl v)
-      | inr (inr v) ↦ inr (inr (v.0, omega (arith, v.1, length-more way g), subst (λ z. AreJoined m chosen (get_or done f 0) z) (sym (at_before way g 0 v.0 v.1)) v.2))
-    ]);
+    later = λ f i h l w. (elim (a.later f i h l w) as (λ _. To (get_or done i 0) (get_or done f 0) ⊎ ((h : ℕ) × (i < h) × (h < length done) × AreJoined m chosen
+        (get_or done f 0) (get_or done h 0)) ⊎ ((k : ℕ) × (k < length (way ++ g ∷ [])) × AreJoined m chosen (get_or done f 0) (get_or (way ++ g ∷ []) k 0))) [
+          | inl back ↦ inl back
+          | inr (inl v) ↦ inr (inl v)
+          | inr (inr v) ↦ inr (inr (v.0, omega (arith, v.1, length-more way g), subst (λ z. AreJoined m chosen (get_or done f 0) z) (sym (at_before way g 0 v.0 v.1)) v.2))
+        ]);
   } where
     kept : (f k n : ℕ) → f < length done → k < length way → k ≤ n → To (get_or done f 0) (get_or way k 0) → (j : ℕ) × (j ≤ n) × AreJoined m chosen (get_or done f 0) (get_or (way ++ g ∷ []) j 0)
     kept f k n h l le w = let v = a.held f k h l w in (v.0, omega (arith, v.1, le), subst (λ z. AreJoined m chosen (get_or done f 0) z) (sym (at_before way g 0 v.0 (omega (arith, v.1, l)))) v.2)
@@ -159,8 +165,10 @@ module _ (m : Mdp) (ok : IsMdp m) (chosen : ℕ → ℕ → Bool) where
       later = λ f i h l w. later_all f i (place_cases done g f h) (place_cases done g i l) w;
     } where
       later_all : (f i : ℕ) → ((f < length done) × (get_or (done ++ g ∷ []) f 0 ≡ get_or done f 0)) ⊎ ((f ≡ length done) × (get_or (done ++ g ∷ []) f 0 ≡ g))
-          → ((i < length done) × (get_or (done ++ g ∷ []) i 0 ≡ get_or done i 0)) ⊎ ((i ≡ length done) × (get_or (done ++ g ∷ []) i 0 ≡ g)) → To (get_or (done ++ g ∷ []) f 0) (get_or (done ++ g ∷ []) i 0)
-          → To (get_or (done ++ g ∷ []) i 0) (get_or (done ++ g ∷ []) f 0) ⊎ ((h : ℕ) × (i < h) × (h < length (done ++ g ∷ [])) × AreJoined m chosen (get_or (done ++ g ∷ []) f 0) (get_or (done ++ g ∷ []) h 0))
+          → ((i < length done) × (get_or (done ++ g ∷ []) i 0 ≡ get_or done i 0)) ⊎ ((i ≡ length done) × (get_or (done ++ g ∷ []) i 0 ≡ g))
+          → To (get_or (done ++ g ∷ []) f 0) (get_or (done ++ g ∷ []) i 0)
+          → To (get_or (done ++ g ∷ []) i 0) (get_or (done ++ g ∷ []) f 0) ⊎
+          ((h : ℕ) × (i < h) × (h < length (done ++ g ∷ [])) × AreJoined m chosen (get_or (done ++ g ∷ []) f 0) (get_or (done ++ g ∷ []) h 0))
           ⊎ ((k : ℕ) × (k < length way) × AreJoined m chosen (get_or (done ++ g ∷ []) f 0) (get_or way k 0))
       later_all f i (inl p) (inl q) w = rw (p.1, q.1) (later_old f i p.0 q.0 (rw (p.1, q.1) at w))
       later_all f i (inl p) (inr q) w = elim (later_g f p.0 (rw (p.1, q.1) at w)) [
@@ -172,17 +180,20 @@ module _ (m : Mdp) (ok : IsMdp m) (chosen : ℕ → ℕ → Bool) where
 
   -- ---- at the end of the search, from the last state that is done with to the first: of those that are left, those that reach it are its component
 
-  pub component_by_order : (done : List ℕ) → IsSearching m chosen [] done → (taken : ℕ → Bool) → ((s t : ℕ) → s < states_of m → t < states_of m → AreJoined m chosen s t → taken t ≡ true → taken s ≡ true)
+  pub component_by_order : (done : List ℕ) → IsSearching m chosen [] done → (taken : ℕ → Bool)
+      → ((s t : ℕ) → s < states_of m → t < states_of m → AreJoined m chosen s t → taken t ≡ true → taken s ≡ true)
       → (g : ℕ) → g < length done → ((h : ℕ) → g < h → h < length done → taken (get_or done h 0) ≡ true)
       → (s : ℕ) → StandsIn s done → taken s ≡ false → To s (get_or done g 0) → AreJoined m chosen s (get_or done g 0)
-  component_by_order done a taken whole g h after s is left w = subst (λ z. AreJoined m chosen z (get_or done g 0)) is.2 (elim (a.later is.0 g is.1 h (subst (λ z. To z (get_or done g 0)) (sym is.2) w)) as (λ _. AreJoined m chosen (get_or done is.0 0) (get_or done g 0)) [
-    | inl back ↦ (subst (λ z. To z (get_or done g 0)) (sym is.2) w, back)
-    | inr (inl v) ↦ absurd (false≢true (sym left ∙ ap taken (sym is.2) ∙ whole (get_or done is.0 0) (get_or done v.0 0) (a.done_below is.0 is.1) (a.done_below v.0 v.2) v.3 (after v.0 v.1 v.2)))
-    | inr (inr v) ↦ absurd (omega (arith, v.1))
-  ])
+  component_by_order done a taken whole g h after s is left w = subst (λ z. AreJoined m chosen z (get_or done g 0)) is.2
+      (elim (a.later is.0 g is.1 h (subst (λ z. To z (get_or done g 0)) (sym is.2) w)) as (λ _. AreJoined m chosen (get_or done is.0 0) (get_or done g 0)) [
+        | inl back ↦ (subst (λ z. To z (get_or done g 0)) (sym is.2) w, back)
+        | inr (inl v) ↦ absurd (false≢true (sym left ∙ ap taken (sym is.2) ∙ whole (get_or done is.0 0) (get_or done v.0 0) (a.done_below is.0 is.1) (a.done_below v.0 v.2) v.3 (after v.0 v.1 v.2)))
+        | inr (inr v) ↦ absurd (omega (arith, v.1))
+      ])
 
   -- and each of these reaches it through states that are left
-  pub left_walk : (taken : ℕ → Bool) → ((s t : ℕ) → s < states_of m → t < states_of m → AreJoined m chosen s t → taken t ≡ true → taken s ≡ true) → (r : ℕ) → r < states_of m → taken r ≡ false → (s : ℕ) → s < states_of m → AreJoined m chosen s r
+  pub left_walk : (taken : ℕ → Bool) → ((s t : ℕ) → s < states_of m → t < states_of m → AreJoined m chosen s t → taken t ≡ true → taken s ≡ true)
+      → (r : ℕ) → r < states_of m → taken r ≡ false → (s : ℕ) → s < states_of m → AreJoined m chosen s r
       → (k : ℕ) × (reached (λ set x. not (taken x) && chosen_step m chosen set x) (λ x. x == r) k s ≡ true)
   unfolding reached
   left_walk taken whole r hr left s h j =
@@ -191,6 +202,8 @@ module _ (m : Mdp) (ok : IsMdp m) (chosen : ℕ → ℕ → Bool) where
       (let on = known (and_then m ok chosen r x y hr back (one_more m chosen x c y y l e to (here m chosen y))) in
       let free : not (taken x) ≡ true = not_from_false (taken x) (false_from_ne_true (taken x) (λ it. false≢true (sym left ∙ whole r x hr hx (back, one_more m chosen x c y r l e to rest) it))) in (
         suc on.0,
-        or_right (reached (λ set x. not (taken x) && chosen_step m chosen set x) (λ x. x == r) on.0 x) (not (taken x) && chosen_step m chosen (reached (λ set x. not (taken x) && chosen_step m chosen set x) (λ x. x == r) on.0) x)
-            (and_from (not (taken x)) (chosen_step m chosen (reached (λ set x. not (taken x) && chosen_step m chosen set x) (λ x. x == r) on.0) x) free (step-by m chosen (reached (λ set x. not (taken x) && chosen_step m chosen set x) (λ x. x == r) on.0) x c y l e to on.1)),
+        or_right (reached (λ set x. not (taken x) && chosen_step m chosen set x) (λ x. x == r) on.0 x)
+            (not (taken x) && chosen_step m chosen (reached (λ set x. not (taken x) && chosen_step m chosen set x) (λ x. x == r) on.0) x)
+            (and_from (not (taken x)) (chosen_step m chosen (reached (λ set x. not (taken x) && chosen_step m chosen set x) (λ x. x == r) on.0) x) free
+            (step-by m chosen (reached (λ set x. not (taken x) && chosen_step m chosen set x) (λ x. x == r) on.0) x c y l e to on.1)),
       ))) s h j.0 j.1

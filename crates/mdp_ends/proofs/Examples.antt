@@ -36,7 +36,12 @@ quarter = ratio (pos 1) 4
 -- ---- state 0 stays, or goes on to states 1 and 2, which stay: three parts
 
 abbrev three_parts : Mdp
-three_parts = record { names = []; labels = []; states = state (choice (entry 0 one ∷ []) ∷ choice (entry 1 half ∷ entry 2 half ∷ []) ∷ []) ∷ state (choice (entry 1 one ∷ []) ∷ []) ∷ state (choice (entry 2 one ∷ []) ∷ []) ∷ [] }
+three_parts = record {
+  names = [];
+  labels = [];
+  states = state (choice (entry 0 one ∷ []) ∷ choice (entry 1 half ∷ entry 2 half ∷ []) ∷ [])
+      ∷ state (choice (entry 1 one ∷ []) ∷ []) ∷ state (choice (entry 2 one ∷ []) ∷ []) ∷ [];
+}
 
 abbrev three_ends : List (Option ℕ)
 three_ends = Some 0 ∷ Some 1 ∷ Some 2 ∷ []
@@ -57,7 +62,12 @@ three_row = refl
 -- ---- states 0 and 1 go to one another, and state 0 may leave to state 2
 
 abbrev two_parts : Mdp
-two_parts = record { names = []; labels = []; states = state (choice (entry 1 one ∷ []) ∷ choice (entry 2 one ∷ []) ∷ []) ∷ state (choice (entry 0 one ∷ []) ∷ []) ∷ state (choice (entry 2 one ∷ []) ∷ []) ∷ [] }
+two_parts = record {
+  names = [];
+  labels = [];
+  states = state (choice (entry 1 one ∷ []) ∷ choice (entry 2 one ∷ []) ∷ [])
+      ∷ state (choice (entry 0 one ∷ []) ∷ []) ∷ state (choice (entry 2 one ∷ []) ∷ []) ∷ [];
+}
 
 abbrev two_ends : List (Option ℕ)
 two_ends = Some 0 ∷ Some 0 ∷ Some 1 ∷ []
@@ -78,7 +88,12 @@ two_row = refl
 -- ---- state 0 is in no part
 
 abbrev splits : Mdp
-splits = record { names = []; labels = []; states = state (choice (entry 1 half ∷ entry 2 half ∷ []) ∷ choice (entry 0 half ∷ entry 1 quarter ∷ entry 2 quarter ∷ []) ∷ []) ∷ state (choice (entry 1 one ∷ []) ∷ []) ∷ state (choice (entry 2 one ∷ []) ∷ []) ∷ [] }
+splits = record {
+  names = [];
+  labels = [];
+  states = state (choice (entry 1 half ∷ entry 2 half ∷ []) ∷ choice (entry 0 half ∷ entry 1 quarter ∷ entry 2 quarter ∷ []) ∷ [])
+      ∷ state (choice (entry 1 one ∷ []) ∷ []) ∷ state (choice (entry 2 one ∷ []) ∷ []) ∷ [];
+}
 
 abbrev split_ends : List (Option ℕ)
 split_ends = None ∷ Some 0 ∷ Some 1 ∷ []
@@ -134,7 +149,12 @@ row_halves = record {
 row_quarters : IsRow 3 (entry 0 half ∷ entry 1 quarter ∷ entry 2 quarter ∷ [])
 unfolding gcd gcd_with_fuel ratio of_int ◌+ℚ◌ lt_ℚ
 row_quarters = record {
-  distribution = record { ascending = refl; positive = All-from_recursion (λ x. of_int (pos 0) <ℚ x.prob) (entry 0 half ∷ entry 1 quarter ∷ entry 2 quarter ∷ []) (record { lt = tt }, (record { lt = tt }, (record { lt = tt }, tt))); total = refl };
+  distribution = record {
+    ascending = refl;
+    positive = All-from_recursion (λ x. of_int (pos 0) <ℚ x.prob)
+        (entry 0 half ∷ entry 1 quarter ∷ entry 2 quarter ∷ []) (record { lt = tt }, (record { lt = tt }, (record { lt = tt }, tt)));
+    total = refl;
+  };
   in_range = All-from_recursion (λ x. x.target < 3) (entry 0 half ∷ entry 1 quarter ∷ entry 2 quarter ∷ []) (omega arith, (omega arith, (omega arith, tt)));
 }
 

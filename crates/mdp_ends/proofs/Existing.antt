@@ -1,5 +1,6 @@
 -- Each model has its list of maximal end components, and each end component lies in one of them.
-use Rattle.std.proofs.Common.{◌≡◌, ◌⊎◌, inl, inr, ℕ, suc, zero, ◌+◌, ◌<◌, ◌≤◌, ◌↔◌, Bool, true, false, not, ◌&&◌, ◌==◌, List, [], ◌∷◌, length, get_or, map, refl, sym, ap, ◌∙◌, subst, arith, Option, Some, None}
+use Rattle.std.proofs.Common.{◌≡◌, ◌⊎◌, inl, inr, ℕ, suc, zero, ◌+◌, ◌<◌, ◌≤◌, ◌↔◌, Bool, true, false, not, ◌&&◌}
+use Rattle.std.proofs.Common.{◌==◌, List, [], ◌∷◌, length, get_or, map, refl, sym, ap, ◌∙◌, subst, arith, Option, Some, None}
 use Rattle.std.specs.List.{list_any, range_with_len}
 use Rattle.std.proofs.lemmas.Bool.{false≢true, cases_Bool, cases_eq, cases_lt, and_parts, and_from, and_right, eqb-true, eq-eqb, not-true, not_from_false}
 use Rattle.std.proofs.lemmas.List.{get_or-map, length-map}
@@ -28,7 +29,8 @@ all_some (None ∷ xs) h = absurd (h 0 (omega arith) refl)
 all_some (Some i ∷ xs) h = ap (λ (ys : List (Option ℕ)). Some i ∷ ys) (all_some xs (λ s l e. h (suc s) (omega (arith, l)) e))
 
 -- numbers for all states, as a list of numbers
-module _ (same : ℕ → ℕ → Bool) (refl_at : (s : ℕ) → same s s ≡ true) (sym_at : (s t : ℕ) → same s t ≡ true → same t s ≡ true) (n : ℕ) (trans_at : (s t u : ℕ) → s < n → t < n → u < n → same s t ≡ true → same t u ≡ true → same s u ≡ true) where
+module _ (same : ℕ → ℕ → Bool) (refl_at : (s : ℕ) → same s s ≡ true) (sym_at : (s t : ℕ) → same s t ≡ true → same t s ≡ true)
+    (n : ℕ) (trans_at : (s t u : ℕ) → s < n → t < n → u < n → same s t ≡ true → same t u ≡ true → same s u ≡ true) where
   pub numbers_for_all : (parts : List ℕ) × (length parts ≡ n) × ((s t : ℕ) → s < n → t < n → (get_or parts s 0 ≡ get_or parts t 0) ↔ (same s t ≡ true)) × (is_numbered 0 (map Some parts) ≡ true)
   numbers_for_all =
       let w = numbers_exist (λ _. true) same refl_at sym_at n trans_at n (omega arith) in
@@ -62,7 +64,8 @@ module _ (m : Mdp) where
       let k = count-more (a n) (b n) (length (choices_at m n)) (λ c u e. h n c (omega arith) u e) in
       omega (arith, l, k)
 
-  pub total-less : (a b : ℕ → ℕ → Bool) (n s c : ℕ) → ((s c : ℕ) → s < n → c < length (choices_at m s) → a s c ≡ true → b s c ≡ true) → s < n → c < length (choices_at m s) → b s c ≡ true → a s c ≡ false → total_below a n < total_below b n
+  pub total-less : (a b : ℕ → ℕ → Bool) (n s c : ℕ) → ((s c : ℕ) → s < n → c < length (choices_at m s) → a s c ≡ true → b s c ≡ true)
+      → s < n → c < length (choices_at m s) → b s c ≡ true → a s c ≡ false → total_below a n < total_below b n
   unfolding total_below
   total-less a b zero s c h hs hc e f = absurd (omega (arith, hs))
   total-less a b (suc n) s c h hs hc e f = elim (cases_eq s n) [
@@ -100,7 +103,8 @@ module _ (m : Mdp) (ok : IsMdp m) where
       (λ s t u hs ht hu e f.
       (let p = and_parts (reaches m ok allowed s t) (reaches m ok allowed t s) e in
       let q = and_parts (reaches m ok allowed t u) (reaches m ok allowed u t) f in
-      and_from (reaches m ok allowed s u) (reaches m ok allowed u s) (reaches_by m ok allowed s u hs (and_then m ok allowed s t u hs (n, p.0) (n, q.0))) (reaches_by m ok allowed u s hu (and_then m ok allowed u t s hu (n, q.1) (n, p.1))))) in (
+      and_from (reaches m ok allowed s u) (reaches m ok allowed u s) (reaches_by m ok allowed s u hs (and_then m ok allowed s t u hs (n, p.0) (n, q.0)))
+      (reaches_by m ok allowed u s hu (and_then m ok allowed u t s hu (n, q.1) (n, p.1))))) in (
         w.0,
         record {
           count = w.1;
@@ -149,21 +153,23 @@ module _ (m : Mdp) (ok : IsMdp m) where
 
   -- a round forbids nothing, or fewer choices are allowed after it
   round : (allowed : ℕ → ℕ → Bool) (parts : List ℕ) → IsSettled m allowed parts ⊎ (total_below m (still_allowed m allowed parts) (states_of m) < total_below m allowed (states_of m))
-  round allowed parts = elim (find_below (leaving allowed parts) (states_of m)) as (λ _. IsSettled m allowed parts ⊎ (total_below m (still_allowed m allowed parts) (states_of m) < total_below m allowed (states_of m))) [
-    | inr none ↦ inl (λ s c h l e. elim (cases_Bool (keeps_part m parts s c)) [
-      | inl kept ↦ kept
-      | inr out ↦
-          absurd
-          (false≢true
-          (sym (none s h) ∙ range-any (λ c. allowed s c && not (keeps_part m parts s c)) (length (choices_at m s)) c l (and_from (allowed s c) (not (keeps_part m parts s c)) e (not_from_false (keeps_part m parts s c) out))))
-    ])
-    | inl w ↦
-        (let c = any-range (λ c. allowed w.0 c && not (keeps_part m parts w.0 c)) (length (choices_at m w.0)) w.2 in
-        let p = and_parts (allowed w.0 c.0) (not (keeps_part m parts w.0 c.0)) c.2 in
-        inr
-        (total-less m (still_allowed m allowed parts) allowed (states_of m) w.0 c.0 (λ s c h l e. (let q = and_parts (allowed s c) (keeps_part m parts s c) e in q.0)) w.1 c.1 p.0
-        (and_right (allowed w.0 c.0) (keeps_part m parts w.0 c.0) (not-true (keeps_part m parts w.0 c.0) p.1))))
-  ]
+  round allowed parts = elim (find_below (leaving allowed parts) (states_of m)) as
+      (λ _. IsSettled m allowed parts ⊎ (total_below m (still_allowed m allowed parts) (states_of m) < total_below m allowed (states_of m))) [
+        | inr none ↦ inl (λ s c h l e. elim (cases_Bool (keeps_part m parts s c)) [
+          | inl kept ↦ kept
+          | inr out ↦
+              absurd
+              (false≢true
+              (sym (none s h) ∙ range-any (λ c. allowed s c && not (keeps_part m parts s c)) (length (choices_at m s)) c l
+              (and_from (allowed s c) (not (keeps_part m parts s c)) e (not_from_false (keeps_part m parts s c) out))))
+        ])
+        | inl w ↦
+            (let c = any-range (λ c. allowed w.0 c && not (keeps_part m parts w.0 c)) (length (choices_at m w.0)) w.2 in
+            let p = and_parts (allowed w.0 c.0) (not (keeps_part m parts w.0 c.0)) c.2 in
+            inr
+            (total-less m (still_allowed m allowed parts) allowed (states_of m) w.0 c.0 (λ s c h l e. (let q = and_parts (allowed s c) (keeps_part m parts s c) e in q.0)) w.1 c.1 p.0
+            (and_right (allowed w.0 c.0) (keeps_part m parts w.0 c.0) (not-true (keeps_part m parts w.0 c.0) p.1))))
+      ]
 
   pub search : (b : ℕ) (allowed : ℕ → ℕ → Bool) → KeepsEnds m allowed → total_below m allowed (states_of m) ≤ b → (ends : List (Option ℕ)) × AreEnds m ends
   search zero allowed keeps small = let w = components_exist allowed in elim (round allowed w.0) as (λ _. (ends : List (Option ℕ)) × AreEnds m ends) [
@@ -196,7 +202,8 @@ module _ (m : Mdp) (ok : IsMdp m) where
         )
 
     -- the maximal end components are the parts
-    pub maximal_is_part : (set : ℕ → Bool) (chosen : ℕ → ℕ → Bool) → IsMaximal m set chosen → (i : ℕ) × (i < count_of ends) × IsWithin m set chosen (in_part ends i) (is_inside m ends) × IsWithin m (in_part ends i) (is_inside m ends) set chosen
+    pub maximal_is_part : (set : ℕ → Bool) (chosen : ℕ → ℕ → Bool) → IsMaximal m set chosen
+        → (i : ℕ) × (i < count_of ends) × IsWithin m set chosen (in_part ends i) (is_inside m ends) × IsWithin m (in_part ends i) (is_inside m ends) set chosen
     maximal_is_part set chosen a =
         let w = within_part set chosen a.is_end in
         let part = are.maximal w.0 w.1 in

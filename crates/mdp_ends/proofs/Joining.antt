@@ -34,10 +34,12 @@ module _ (m : Mdp) (ok : IsMdp m) (ends : List (Option ℕ)) (are : AreEnds m en
   pub over-node_row : (f : ℕ → ℚ) (s c : ℕ) → s < states_of m → c < length (choices_at m s) → over f (node_row m nodes s c) ≡ over (λ t. f (node t)) (row_at m s c)
   over-node_row f s c h l =
       let row = ok.row s c h l in
-      over-merged (nodes_in nodes) node (row_at m s c) f (probs_nonneg (states_of m) (row_at m s c) row) (λ k x u. node_of-below m ok ends are nodes numbered (Entry.target (get_or (row_at m s c) k x)) (row.in_range k x u))
+      over-merged (nodes_in nodes) node (row_at m s c) f (probs_nonneg (states_of m) (row_at m s c) row)
+      (λ k x u. node_of-below m ok ends are nodes numbered (Entry.target (get_or (row_at m s c) k x)) (row.in_range k x u))
 
   -- inner choices stay in their node
-  pub over-inside : (f : ℕ → ℚ) (s c i : ℕ) → s < states_of m → c < length (choices_at m s) → is_inside m ends s c ≡ true → part_of ends s ≡ Some i → over (λ t. f (node t)) (row_at m s c) ≡ f (node s)
+  pub over-inside : (f : ℕ → ℚ) (s c i : ℕ) → s < states_of m → c < length (choices_at m s)
+      → is_inside m ends s c ≡ true → part_of ends s ≡ Some i → over (λ t. f (node t)) (row_at m s c) ≡ f (node s)
   over-inside f s c i h l is e =
       let row = ok.row s c h l in
       weigh-same (λ (y : Entry). y.target) (λ (y : Entry). y.prob) (λ t. f (node t)) (λ t. f (node s)) (row_at m s c)
@@ -82,7 +84,8 @@ module _ (m : Mdp) (ok : IsMdp m) (ends : List (Option ℕ)) (are : AreEnds m en
           (let p = part_inside s c is in
           linear 9 (λ r b o i g h d n w. r ⊕ b) (λ r b o i g h d n w. g ⊕ (h ⊕ d ⊗ n))
           (λ r b o i g h d n w. equal (lit (pos 1)) b (o ⊕ d ⊗ w) ∷ known i g ∷ known (r ⊕ o) (i ⊕ h) ∷ equal d w n ∷ []) refl
-          (reward s c) (over (λ t. bias t +ℚ excess *ℚ steps (node t)) (row_at m s c)) (over bias (row_at m s c)) (inner p.0) (gain (node s)) (bias s) excess (steps (node s)) (over (λ t. steps (node t)) (row_at m s c))
+          (reward s c) (over (λ t. bias t +ℚ excess *ℚ steps (node t)) (row_at m s c)) (over bias (row_at m s c))
+          (inner p.0) (gain (node s)) (bias s) excess (steps (node s)) (over (λ t. steps (node t)) (row_at m s c))
           (over-bound bias steps excess (row_at m s c)) (j.at_part s p.0 h p.1) (j.bias_inside s c p.0 (h, l, is) p.1) (over-inside steps s c p.0 h l is p.1))
       | inr out ↦
           linear 8 (λ r b o g h d n w. r ⊕ b) (λ r b o g h d n w. g ⊕ (h ⊕ d ⊗ n))
@@ -110,7 +113,8 @@ module _ (m : Mdp) (ok : IsMdp m) (ends : List (Option ℕ)) (are : AreEnds m en
           (let p = part_inside s c is in
           linear 9 (λ r b o i g h d n w. g ⊕ (h ⊕ ⊖ (d ⊗ n))) (λ r b o i g h d n w. r ⊕ b)
           (λ r b o i g h d n w. equal (lit (negsuc 0)) b (o ⊕ ⊖ (d ⊗ w)) ∷ known g i ∷ known (i ⊕ h) (r ⊕ o) ∷ equal d w n ∷ []) refl
-          (reward s c) (over (λ t. bias t -ℚ excess *ℚ steps (node t)) (row_at m s c)) (over bias (row_at m s c)) (inner p.0) (gain (node s)) (bias s) excess (steps (node s)) (over (λ t. steps (node t)) (row_at m s c))
+          (reward s c) (over (λ t. bias t -ℚ excess *ℚ steps (node t)) (row_at m s c)) (over bias (row_at m s c))
+          (inner p.0) (gain (node s)) (bias s) excess (steps (node s)) (over (λ t. steps (node t)) (row_at m s c))
           (over-bound_less bias steps excess (row_at m s c)) (j.at_part s p.0 h p.1) (j.bias_inside s c p.0 (h, l, is) p.1) (over-inside steps s c p.0 h l is p.1))
       | inr out ↦
           linear 8 (λ r b o g h d n w. g ⊕ (h ⊕ ⊖ (d ⊗ n))) (λ r b o g h d n w. r ⊕ b)

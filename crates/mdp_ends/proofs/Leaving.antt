@@ -1,5 +1,6 @@
 -- Every selection of exits leaves.
-use Rattle.std.proofs.Common.{◌≡◌, inl, inr, ℕ, suc, ◌<◌, Bool, true, false, not, ◌||◌, ◌&&◌, ◌==◌, nat_le, List, [], ◌∷◌, length, get_or, refl, sym, ap, ◌∙◌, subst, arith, Option, Some}
+use Rattle.std.proofs.Common.{◌≡◌, inl, inr, ℕ, suc, ◌<◌, Bool, true, false, not, ◌||◌, ◌&&◌, ◌==◌, nat_le}
+use Rattle.std.proofs.Common.{List, [], ◌∷◌, length, get_or, refl, sym, ap, ◌∙◌, subst, arith, Option, Some}
 use Rattle.std.specs.List.{range_with_len, All}
 use Rattle.std.proofs.lemmas.Bool.{false≢true, cases_Bool, or_cases, or_left, or_right, and_parts, and_from, eqb-true, eq-eqb, not-true, not_from_false, cond-false, le-leb}
 use Rattle.std.proofs.lemmas.List.FromFn.{length-range_with_len, get_or-range_with_len, length-map-range_with_len, get_or-map-range_with_len}
@@ -46,7 +47,8 @@ module _ (m : Mdp) (ok : IsMdp m) (ends : List (Option ℕ)) (are : AreEnds m en
 
   -- a set of nodes with an exit at each, closed under these exits' rows
   module _ (set : ℕ → Bool) (exit : ℕ → Pred)
-      (is_exit : (q : ℕ) → q < nodes_in nodes → set q ≡ true → (Pred.state (exit q) < states_of m) × (Pred.choice (exit q) < length (choices_at m (Pred.state (exit q)))) × (node (Pred.state (exit q)) ≡ q) × (is_inside m ends (Pred.state (exit q)) (Pred.choice (exit q)) ≡ false))
+      (is_exit : (q : ℕ) → q < nodes_in nodes → set q ≡ true → (Pred.state (exit q) < states_of m) × (Pred.choice (exit q) < length (choices_at m (Pred.state (exit q)))) ×
+      (node (Pred.state (exit q)) ≡ q) × (is_inside m ends (Pred.state (exit q)) (Pred.choice (exit q)) ≡ false))
       (closed : (q t : ℕ) → q < nodes_in nodes → set q ≡ true → leads_to t (row_at m (Pred.state (exit q)) (Pred.choice (exit q))) ≡ true → set (node t) ≡ true) where
     abbrev states : ℕ → Bool
     states s = set (node s)
@@ -91,7 +93,8 @@ module _ (m : Mdp) (ok : IsMdp m) (ends : List (Option ℕ)) (are : AreEnds m en
           (let p = and_parts (Pred.state (exit (node s)) == s) (Pred.choice (exit (node s)) == c) outer in
           let es = eqb-true (Pred.state (exit (node s))) s p.0 in
           let ec = eqb-true (Pred.choice (exit (node s))) c p.1 in
-          stays-by states (row_at m s c) (λ t to. closed (node s) t (node_of-below s h) is (subst (λ x. leads_to t (row_at m x (Pred.choice (exit (node s)))) ≡ true) (sym es) (subst (λ d. leads_to t (row_at m s d) ≡ true) (sym ec) to))))
+          stays-by states (row_at m s c) (λ t to. closed (node s) t (node_of-below s h) is
+          (subst (λ x. leads_to t (row_at m x (Pred.choice (exit (node s)))) ≡ true) (sym es) (subst (λ d. leads_to t (row_at m s d) ≡ true) (sym ec) to))))
     ]
 
     pub no_closed_set : (q : ℕ) → q < nodes_in nodes → set q ≡ true → ⊥
@@ -119,7 +122,8 @@ module _ (m : Mdp) (ok : IsMdp m) (ends : List (Option ℕ)) (are : AreEnds m en
         (has-number i (part_of ends s) es) (inner.is_end.joined s x hs k.0 (has-number i (part_of ends s) es) (has-number i (part_of ends x) ex)) in
         let rx = reaches_by m ok chosen s x hs walk in
         let stays = e.closed x c k.0 rx k.1 (chosen_exit s hs low.2 k.2) in
-        let inside : is_inside m ends x c ≡ true = inside-by m ends x c i ex (stays-by (in_part ends i) (row_at m x c) (λ t to. part.2 t (target-below m ok x c t k.0 k.1 to) (stays-at (reaches m ok chosen s) (row_at m x c) t stays to))) in
+        let inside : is_inside m ends x c ≡ true = inside-by m ends x c i ex
+        (stays-by (in_part ends i) (row_at m x c) (λ t to. part.2 t (target-below m ok x c t k.0 k.1 to) (stays-at (reaches m ok chosen s) (row_at m x c) t stays to))) in
         false≢true (sym k.3 ∙ inside)
 
 -- ---- the rows of exits and of a selection are distributions over the nodes
@@ -222,7 +226,8 @@ module _ (m : Mdp) (ok : IsMdp m) (ends : List (Option ℕ)) (are : AreEnds m en
         (All-map (IsRow count) (selected_row m ends nodes selected) (range_with_len 0 count)
         (λ k d l. (let z : k < count = omega (arith, l, length-range_with_len 0 count) in selected_row-is (get_or (range_with_len 0 count) k d) (omega (arith, z, get_or-range_with_len 0 count k d z)))))
 
-    taken-is : (q : ℕ) → q < count → is_exitless m ends nodes q ≡ false → (get_or selected q 0 < length (exits_of m ends nodes q)) × (get_or (selected_rows m ends nodes selected) q [] ≡ exit_row m ends nodes q (get_or selected q 0))
+    taken-is : (q : ℕ) → q < count → is_exitless m ends nodes q ≡ false
+        → (get_or selected q 0 < length (exits_of m ends nodes q)) × (get_or (selected_rows m ends nodes selected) q [] ≡ exit_row m ends nodes q (get_or selected q 0))
     taken-is q h some =
         (has_exit q h some, row_is q h ∙ cond-false (is_exitless m ends nodes q) (record { target = q; prob = 1ℚ } ∷ []) (exit_row m ends nodes q (get_or selected q 0)) some)
 

@@ -1,5 +1,6 @@
 -- A policy of the nodes leaves the nodes that don't stop, and the policy that it is lifted to leaves their states.
-use Rattle.std.proofs.Common.{◌≡◌, ◌⊎◌, inl, inr, ℕ, suc, zero, ◌+◌, ◌*◌, ◌<◌, ◌≤◌, Bool, true, false, not, ◌&&◌, ◌==◌, nat_lt, List, [], length, get_or, map, refl, sym, ap, ◌∙◌, subst, arith, Option, Some}
+use Rattle.std.proofs.Common.{◌≡◌, ◌⊎◌, inl, inr, ℕ, suc, zero, ◌+◌, ◌*◌, ◌<◌, ◌≤◌, Bool, true, false, not, ◌&&◌}
+use Rattle.std.proofs.Common.{◌==◌, nat_lt, List, [], length, get_or, map, refl, sym, ap, ◌∙◌, subst, arith, Option, Some}
 use Rattle.std.proofs.Math.Nat.{mul-le-mul_right}
 use Rattle.std.specs.List.{range_with_len, All, Any}
 use Rattle.std.proofs.lemmas.Bool.{false≢true, cases_eq, or_cases, and_parts, and_from, eqb-true, ne_eqb, eq-eqb, not-true, ltb-true, lt-ltb, cond-true, cond-false}
@@ -34,10 +35,12 @@ layer_rank : ((ℕ → Bool) → ℕ → Bool) → (ℕ → Bool) → ℕ → �
 layer_rank step first n q = first_below (λ k. reached step first k q) (suc n)
 
 -- a state of a later layer has a step into the layer before its own
-layers_fall : (step : (ℕ → Bool) → ℕ → Bool) (first : ℕ → Bool) (n q : ℕ) → reached step first n q ≡ true → first q ≡ false → (r : ℕ) × (layer_rank step first n q ≡ suc r) × (r < suc n) × (step (reached step first r) q ≡ true)
+layers_fall : (step : (ℕ → Bool) → ℕ → Bool) (first : ℕ → Bool) (n q : ℕ) → reached step first n q ≡ true
+    → first q ≡ false → (r : ℕ) × (layer_rank step first n q ≡ suc r) × (r < suc n) × (step (reached step first r) q ≡ true)
 unfolding layer_rank reached
 layers_fall step first n q e out = let w = first-found (λ k. reached step first k q) (suc n) n (omega arith) e in at (first_below (λ k. reached step first k q) (suc n)) refl w.0 w.1 where
-  at : (k : ℕ) → first_below (λ k. reached step first k q) (suc n) ≡ k → k < suc n → reached step first k q ≡ true → (r : ℕ) × (first_below (λ k. reached step first k q) (suc n) ≡ suc r) × (r < suc n) × (step (reached step first r) q ≡ true)
+  at : (k : ℕ) → first_below (λ k. reached step first k q) (suc n) ≡ k → k < suc n → reached step first k q ≡ true
+      → (r : ℕ) × (first_below (λ k. reached step first k q) (suc n) ≡ suc r) × (r < suc n) × (step (reached step first r) q ≡ true)
   at zero same l it = absurd (false≢true (sym out ∙ it))
   at (suc r) same l it = elim (or_cases (reached step first r q) (step (reached step first r) q) it) [
     | inl before ↦ (let le = first-least (λ k. reached step first k q) (suc n) r (omega (arith, l)) before in absurd (omega (arith, le, same)))
@@ -131,7 +134,8 @@ module _ (m : Mdp) (ok : IsMdp m) (ends : List (Option ℕ)) (are : AreEnds m en
 
   within_node : (s t : ℕ) → node t ≡ node s → rank_to m ends (Pred.state (exit_of (node s))) t < rank_to m ends (Pred.state (exit_of (node s))) s → state_rank t < state_rank s
   unfolding state_rank
-  within_node s t same lower = subst (λ r. node_rank r * (states_of m + 2) + rank_to m ends (Pred.state (exit_of r)) t < node_rank (node s) * (states_of m + 2) + rank_to m ends (Pred.state (exit_of (node s))) s) (sym same) (omega (arith, lower))
+  within_node s t same lower = subst (λ r. node_rank r * (states_of m + 2) + rank_to m ends (Pred.state (exit_of r)) t < node_rank
+      (node s) * (states_of m + 2) + rank_to m ends (Pred.state (exit_of (node s))) s) (sym same) (omega (arith, lower))
 
   module _ (inner : List ℕ) where
     abbrev pub policy : List ℕ

@@ -1,5 +1,6 @@
 -- Rows merged by node: distributions, which lead where the row leads, and over which values of nodes sum as over the row.
-use Rattle.std.proofs.Common.{◌≡◌, inl, inr, ℕ, suc, zero, ◌+◌, ◌<◌, ◌≤◌, Bool, true, not, ◌==◌, nat_le, cond, List, [], ◌∷◌, get_or, map, filter, refl, sym, ap, ◌∙◌, subst, arith, pos}
+use Rattle.std.proofs.Common.{◌≡◌, inl, inr, ℕ, suc, zero, ◌+◌, ◌<◌, ◌≤◌, Bool, true, not, ◌==◌, nat_le}
+use Rattle.std.proofs.Common.{cond, List, [], ◌∷◌, get_or, map, filter, refl, sym, ap, ◌∙◌, subst, arith, pos}
 use Rattle.std.specs.List.{range_with_len, All}
 use Rattle.std.proofs.lemmas.Bool.{false≢true, cases_Bool, cases_eq, or_cases, or_left, or_right, and_from, eqb-true, eq-eqb, ne_eqb, le-leb, not_from_false, not-true}
 use Rattle.std.proofs.lemmas.List.Elements.{All-filter, All-map, filter_passes}
@@ -36,7 +37,8 @@ term-same p f v q same = ap (λ b. cond b p 0ℚ *ℚ f q) (eq-eqb v q same) ∙
 no_term : (p : ℚ) (f : ℕ → ℚ) (v a n : ℕ) → v < a → sum_of (term_at p f v) (range_with_len a n) ≡ 0ℚ
 no_term p f v a zero h = refl
 no_term p f v a (suc n) h =
-    ap (λ (x : ℚ). x +ℚ sum_of (term_at p f v) (range_with_len (a + 1) n)) (term-other p f v a (λ e. omega (arith, e, h))) ∙ zero-+ℚ (sum_of (term_at p f v) (range_with_len (a + 1) n)) ∙ no_term p f v (a + 1) n (omega (arith, h))
+    ap (λ (x : ℚ). x +ℚ sum_of (term_at p f v) (range_with_len (a + 1) n)) (term-other p f v a (λ e. omega (arith, e, h)))
+    ∙ zero-+ℚ (sum_of (term_at p f v) (range_with_len (a + 1) n)) ∙ no_term p f v (a + 1) n (omega (arith, h))
 
 one_term : (p : ℚ) (f : ℕ → ℚ) (v a n : ℕ) → a ≤ v → v < a + n → sum_of (term_at p f v) (range_with_len a n) ≡ p *ℚ f v
 one_term p f v a zero low high = absurd (omega (arith, low, high))
@@ -171,11 +173,13 @@ module _ (n : ℕ) (node : ℕ → ℕ) (row : List Entry) where
       let w = mass-has (λ t. node t == q) row (led mass 0 n q l) in
       (w.0, w.1, eqb-true (node w.0) q w.2)
 
-  pub merged-stays : (set : ℕ → Bool) → All (λ x. 0ℚ <ℚ x.prob) row → ((t : ℕ) → leads_to t row ≡ true → node t < n) → stays_in set (merged n node row) ≡ true → (t : ℕ) → leads_to t row ≡ true → set (node t) ≡ true
+  pub merged-stays : (set : ℕ → Bool) → All (λ x. 0ℚ <ℚ x.prob) row → ((t : ℕ) → leads_to t row ≡ true → node t < n)
+      → stays_in set (merged n node row) ≡ true → (t : ℕ) → leads_to t row ≡ true → set (node t) ≡ true
   merged-stays set positive h stays t l = stays-at set (merged n node row) (node t) stays (merged-leads t positive l (h t l))
 
   -- values of nodes sum as over the row
-  pub over-merged : (f : ℕ → ℚ) → All (λ x. 0ℚ ≤ℚ x.prob) row → All (λ x. node x.target < n) row → sum_of (λ y. y.prob *ℚ f y.target) (merged n node row) ≡ sum_of (λ x. x.prob *ℚ f (node x.target)) row
+  pub over-merged : (f : ℕ → ℚ) → All (λ x. 0ℚ ≤ℚ x.prob) row → All (λ x. node x.target < n) row
+      → sum_of (λ y. y.prob *ℚ f y.target) (merged n node row) ≡ sum_of (λ x. x.prob *ℚ f (node x.target)) row
   unfolding term_at
   over-merged f nonneg h =
       sum-above f (map (at mass) (range_with_len 0 n)) (All-map (λ (y : Entry). 0ℚ ≤ℚ y.prob) (at mass) (range_with_len 0 n) (λ k d l. mass-nonneg (λ t. node t == get_or (range_with_len 0 n) k d) row nonneg))

@@ -1,5 +1,6 @@
 -- Numbers of parts in the order of their least states.
-use Rattle.std.proofs.Common.{◌≡◌, ◌⊎◌, inl, inr, ℕ, suc, zero, ◌+◌, ◌<◌, ◌≤◌, true, false, ◌&&◌, ◌==◌, nat_lt, List, [], ◌∷◌, length, get_or, refl, sym, ap, ◌∙◌, arith, Option, Some, None, is_some}
+use Rattle.std.proofs.Common.{◌≡◌, ◌⊎◌, inl, inr, ℕ, suc, zero, ◌+◌, ◌<◌, ◌≤◌, true, false, ◌&&◌, ◌==◌, nat_lt}
+use Rattle.std.proofs.Common.{List, [], ◌∷◌, length, get_or, refl, sym, ap, ◌∙◌, arith, Option, Some, None, is_some}
 use Rattle.std.proofs.lemmas.Bool.{false≢true, eqb-true, ltb-true, cases_Bool, cases_eq, or_cases, and_parts}
 use Rattle.mdp_ends.specs.Numbers.{is_numbered, count_from}
 

@@ -1,5 +1,6 @@
 -- States can be numbered by a test of whether two are in one part.
-use Rattle.std.proofs.Common.{◌≡◌, ◌⊎◌, inl, inr, ℕ, suc, zero, ◌+◌, ◌<◌, ◌≤◌, ◌↔◌, Bool, true, false, ◌&&◌, ◌==◌, nat_lt, List, [], ◌∷◌, ◌++◌, length, get_or, refl, sym, ap, ◌∙◌, arith, Option, Some, None}
+use Rattle.std.proofs.Common.{◌≡◌, ◌⊎◌, inl, inr, ℕ, suc, zero, ◌+◌, ◌<◌, ◌≤◌, ◌↔◌, Bool, true, false, ◌&&◌, ◌==◌}
+use Rattle.std.proofs.Common.{nat_lt, List, [], ◌∷◌, ◌++◌, length, get_or, refl, sym, ap, ◌∙◌, arith, Option, Some, None}
 use Rattle.std.proofs.lemmas.Bool.{false≢true, cases_Bool, cases_eq, or_left, or_right, and_parts, and_from, eq-eqb, lt-ltb}
 use Rattle.mdp_ends.specs.Numbers.{is_numbered, count_from}
 use Rattle.mdp_ends.proofs.Numbering.{head_cases, some-same, some≢none, case-number, numbered-below}
@@ -22,7 +23,8 @@ pub numbered-none : (next : ℕ) (xs : List (Option ℕ)) → is_numbered next x
 numbered-none next [] e = refl
 numbered-none next (None ∷ xs) e = numbered-none next xs e
 numbered-none next (Some j ∷ xs) e = elim (head_cases next j xs e) [
-  | inl old ↦ or_left (nat_lt j next && is_numbered next (xs ++ None ∷ [])) ((j == next) && is_numbered (next + 1) (xs ++ None ∷ [])) (and_from (nat_lt j next) (is_numbered next (xs ++ None ∷ [])) old.0 (numbered-none next xs old.2))
+  | inl old ↦ or_left (nat_lt j next && is_numbered next (xs ++ None ∷ [])) ((j == next) && is_numbered (next + 1) (xs ++ None ∷ []))
+      (and_from (nat_lt j next) (is_numbered next (xs ++ None ∷ [])) old.0 (numbered-none next xs old.2))
   | inr new ↦
       or_right (nat_lt j next && is_numbered next (xs ++ None ∷ [])) ((j == next) && is_numbered (next + 1) (xs ++ None ∷ []))
       (and_from (j == next) (is_numbered (next + 1) (xs ++ None ∷ [])) (eq-eqb j next new.1) (numbered-none (next + 1) xs new.2))
@@ -58,7 +60,8 @@ at_last (y ∷ xs) x d = at_last xs x d
 
 -- ---- the numbers of the states that have one
 
-module _ (has : ℕ → Bool) (same : ℕ → ℕ → Bool) (refl_at : (s : ℕ) → same s s ≡ true) (sym_at : (s t : ℕ) → same s t ≡ true → same t s ≡ true) (limit : ℕ) (trans_at : (s t u : ℕ) → s < limit → t < limit → u < limit → same s t ≡ true → same t u ≡ true → same s u ≡ true) where
+module _ (has : ℕ → Bool) (same : ℕ → ℕ → Bool) (refl_at : (s : ℕ) → same s s ≡ true) (sym_at : (s t : ℕ) → same s t ≡ true → same t s ≡ true)
+    (limit : ℕ) (trans_at : (s t u : ℕ) → s < limit → t < limit → u < limit → same s t ≡ true → same t u ≡ true → same s u ≡ true) where
   pub record AreNumbers (n : ℕ) (xs : List (Option ℕ)) : Type 0 where
     pub count : length xs ≡ n
     pub numbered : is_numbered 0 xs ≡ true
@@ -143,7 +146,8 @@ module _ (has : ℕ → Bool) (same : ℕ → ℕ → Bool) (refl_at : (s : ℕ)
         )
       ])
     ] where
-      known : has n ≡ true → (t : ℕ) → t < n → (has t ≡ true) × (same t n ≡ true) → (get_or xs t None ≡ None) ⊎ ((i : ℕ) × (get_or xs t None ≡ Some i)) → (ys : List (Option ℕ)) × AreNumbers (suc n) ys
+      known : has n ≡ true → (t : ℕ) → t < n → (has t ≡ true) × (same t n ≡ true)
+          → (get_or xs t None ≡ None) ⊎ ((i : ℕ) × (get_or xs t None ≡ Some i)) → (ys : List (Option ℕ)) × AreNumbers (suc n) ys
       known within t h p (inl none) = absurd (false≢true (sym (a.none t h none) ∙ p.0))
       known within t h p (inr w) = (
         xs ++ Some w.0 ∷ [],

@@ -1,5 +1,6 @@
 -- Components, maximal end components and nodes have one numbering each.
-use Rattle.std.proofs.Common.{◌≡◌, inl, inr, ℕ, suc, zero, ◌+◌, ◌<◌, ◌≤◌, ◌↔◌, Bool, true, ◌&&◌, ◌==◌, nat_lt, List, [], ◌∷◌, ◌++◌, length, get_or, map, refl, sym, ap, ◌∙◌, subst, arith, Option, Some, None}
+use Rattle.std.proofs.Common.{◌≡◌, inl, inr, ℕ, suc, zero, ◌+◌, ◌<◌, ◌≤◌, ◌↔◌, Bool, true, ◌&&◌, ◌==◌, nat_lt, List}
+use Rattle.std.proofs.Common.{[], ◌∷◌, ◌++◌, length, get_or, map, refl, sym, ap, ◌∙◌, subst, arith, Option, Some, None}
 use Rattle.std.proofs.lemmas.Bool.{or_left, or_right, and_from, eq-eqb, cases_lt}
 use Rattle.std.proofs.lemmas.List.{get_or-map, length-map}
 use Rattle.mdp_spec.specs.Mdp.{Mdp, states_of}
@@ -52,9 +53,11 @@ moved_one (z ∷ zs) ws w = ap (λ (ys : List (Option ℕ)). z ∷ ys) (moved_on
 
 pub record NumberAlike (xs ys : List (Option ℕ)) : Type 0 where
   pub none : (s : ℕ) → s < length xs → (get_or xs s None ≡ None) ↔ (get_or ys s None ≡ None)
-  pub same : (s t i j k l : ℕ) → s < length xs → t < length xs → get_or xs s None ≡ Some i → get_or xs t None ≡ Some j → get_or ys s None ≡ Some k → get_or ys t None ≡ Some l → (i ≡ j) ↔ (k ≡ l)
+  pub same : (s t i j k l : ℕ) → s < length xs → t < length xs → get_or xs s None ≡ Some i
+      → get_or xs t None ≡ Some j → get_or ys s None ≡ Some k → get_or ys t None ≡ Some l → (i ≡ j) ↔ (k ≡ l)
 
-next_same : (zs xs ys : List (Option ℕ)) (i j : ℕ) → is_numbered 0 (zs ++ Some i ∷ xs) ≡ true → is_numbered 0 (zs ++ Some j ∷ ys) ≡ true → NumberAlike (zs ++ Some i ∷ xs) (zs ++ Some j ∷ ys) → i ≡ j
+next_same : (zs xs ys : List (Option ℕ)) (i j : ℕ) → is_numbered 0 (zs ++ Some i ∷ xs) ≡ true
+    → is_numbered 0 (zs ++ Some j ∷ ys) ≡ true → NumberAlike (zs ++ Some i ∷ xs) (zs ++ Some j ∷ ys) → i ≡ j
 next_same zs xs ys i j first second alike =
     let low = numbered-bound 0 zs xs i first in
     let high = numbered-bound 0 zs ys j second in
@@ -63,12 +66,14 @@ next_same zs xs ys i j first second alike =
     elim (cases_lt i (count_from 0 zs)) [
       | inl old ↦
           (let w = numbered-has 0 zs i whole (omega arith) old in
-          let k = alike.same (length zs) w.0 i i j i here (omega (arith, here, w.1)) (at_place zs xs (Some i)) (at_before zs (Some i ∷ xs) w.0 w.1 ∙ w.2) (at_place zs ys (Some j)) (at_before zs (Some j ∷ ys) w.0 w.1 ∙ w.2) in
+          let k = alike.same (length zs) w.0 i i j i here (omega (arith, here, w.1)) (at_place zs xs (Some i))
+          (at_before zs (Some i ∷ xs) w.0 w.1 ∙ w.2) (at_place zs ys (Some j)) (at_before zs (Some j ∷ ys) w.0 w.1 ∙ w.2) in
           sym (k.0 refl))
       | inr new ↦ (elim (cases_lt j (count_from 0 zs)) [
         | inl old ↦
             (let w = numbered-has 0 zs j whole (omega arith) old in
-            let k = alike.same (length zs) w.0 i j j j here (omega (arith, here, w.1)) (at_place zs xs (Some i)) (at_before zs (Some i ∷ xs) w.0 w.1 ∙ w.2) (at_place zs ys (Some j)) (at_before zs (Some j ∷ ys) w.0 w.1 ∙ w.2) in
+            let k = alike.same (length zs) w.0 i j j j here (omega (arith, here, w.1)) (at_place zs xs (Some i))
+            (at_before zs (Some i ∷ xs) w.0 w.1 ∙ w.2) (at_place zs ys (Some j)) (at_before zs (Some j ∷ ys) w.0 w.1 ∙ w.2) in
             k.1 refl)
         | inr later ↦ omega (arith, low, high, new, later)
       ])
@@ -135,11 +140,13 @@ both_ways p q = ((λ a. q.1 (p.0 a)), (λ c. p.1 (q.0 c)))
 
 pub one_components : (m : Mdp) (allowed : ℕ → ℕ → Bool) (xs ys : List ℕ) → AreComponents m allowed xs → AreComponents m allowed ys → xs ≡ ys
 one_components m allowed xs ys a b =
-    one_plain xs ys (a.count ∙ sym b.count) a.numbered b.numbered (λ s t hs ht. both_ways (a.same s t (omega (arith, hs, a.count)) (omega (arith, ht, a.count))) (b.same s t (omega (arith, hs, a.count)) (omega (arith, ht, a.count))))
+    one_plain xs ys (a.count ∙ sym b.count) a.numbered b.numbered
+    (λ s t hs ht. both_ways (a.same s t (omega (arith, hs, a.count)) (omega (arith, ht, a.count))) (b.same s t (omega (arith, hs, a.count)) (omega (arith, ht, a.count))))
 
 pub one_nodes : (ends : List (Option ℕ)) (xs ys : List ℕ) → AreNodes ends xs → AreNodes ends ys → xs ≡ ys
 one_nodes ends xs ys a b =
-    one_plain xs ys (a.count ∙ sym b.count) a.numbered b.numbered (λ s t hs ht. both_ways (a.same s t (omega (arith, hs, a.count)) (omega (arith, ht, a.count))) (b.same s t (omega (arith, hs, a.count)) (omega (arith, ht, a.count))))
+    one_plain xs ys (a.count ∙ sym b.count) a.numbered b.numbered
+    (λ s t hs ht. both_ways (a.same s t (omega (arith, hs, a.count)) (omega (arith, ht, a.count))) (b.same s t (omega (arith, hs, a.count)) (omega (arith, ht, a.count))))
 
 -- ---- maximal end components
 
@@ -171,5 +178,6 @@ one_ends m xs ys a b =
         | inr some ↦ (let w = same_part m ys xs b a s s some.0 h h some.1 some.1 in absurd (some≢none w.0 (sym w.1 ∙ e)))
       ]
 
-      together : (xs ys : List (Option ℕ)) → AreEnds m xs → AreEnds m ys → (s t i k l : ℕ) → s < states_of m → t < states_of m → part_of xs s ≡ Some i → part_of xs t ≡ Some i → part_of ys s ≡ Some k → part_of ys t ≡ Some l → k ≡ l
+      together : (xs ys : List (Option ℕ)) → AreEnds m xs → AreEnds m ys → (s t i k l : ℕ) → s < states_of m → t < states_of m
+          → part_of xs s ≡ Some i → part_of xs t ≡ Some i → part_of ys s ≡ Some k → part_of ys t ≡ Some l → k ≡ l
       together xs ys a b s t i k l hs ht es et fs ft = let w = same_part m xs ys a b s t i hs ht es et in some-same k w.0 (sym fs ∙ w.1) ∙ sym (some-same l w.0 (sym ft ∙ w.2))

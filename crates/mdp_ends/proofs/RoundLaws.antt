@@ -35,7 +35,8 @@ all_kept m = λ set chosen a s c h is l e. refl
 
 module _ (m : Mdp) (ok : IsMdp m) (allowed : ℕ → ℕ → Bool) (parts : List ℕ) (comp : AreComponents m allowed parts) (keeps : KeepsEnds m allowed) where
   -- the states of an end component are in one component of what is allowed
-  pub within_one : (set : ℕ → Bool) (chosen : ℕ → ℕ → Bool) → IsEnd m set chosen → (s t : ℕ) → s < states_of m → t < states_of m → set s ≡ true → set t ≡ true → get_or parts s 0 ≡ get_or parts t 0
+  pub within_one : (set : ℕ → Bool) (chosen : ℕ → ℕ → Bool) → IsEnd m set chosen → (s t : ℕ)
+      → s < states_of m → t < states_of m → set s ≡ true → set t ≡ true → get_or parts s 0 ≡ get_or parts t 0
   within_one set chosen a s t hs ht is it =
       let w = comp.same s t hs ht in
       w.1 (moved m ok set chosen allowed a.closed (keeps set chosen a) s t hs is (a.joined s t hs ht is it), moved m ok set chosen allowed a.closed (keeps set chosen a) t s ht it (a.joined t s ht hs it is))
@@ -48,10 +49,12 @@ module _ (m : Mdp) (ok : IsMdp m) (allowed : ℕ → ℕ → Bool) (parts : List
 
 -- ---- a part that is an end component is maximal, where each end component lies in a part
 
-module _ (m : Mdp) (ok : IsMdp m) (ends : List (Option ℕ)) (each : (set : ℕ → Bool) (chosen : ℕ → ℕ → Bool) → IsEnd m set chosen → (i : ℕ) × (i < count_of ends) × ((s : ℕ) → s < states_of m → set s ≡ true → in_part ends i s ≡ true)) where
+module _ (m : Mdp) (ok : IsMdp m) (ends : List (Option ℕ)) (each : (set : ℕ → Bool) (chosen : ℕ → ℕ → Bool) → IsEnd m set chosen
+    → (i : ℕ) × (i < count_of ends) × ((s : ℕ) → s < states_of m → set s ≡ true → in_part ends i s ≡ true)) where
   pub maximal_by_each : (i : ℕ) → IsEnd m (in_part ends i) (is_inside m ends) → IsMaximal m (in_part ends i) (is_inside m ends)
   maximal_by_each i a = record { is_end = a; greatest = greatest } where
-    contained : (big : ℕ → Bool) (more : ℕ → ℕ → Bool) → IsEnd m big more → IsWithin m (in_part ends i) (is_inside m ends) big more → (t : ℕ) → t < states_of m → big t ≡ true → in_part ends i t ≡ true
+    contained : (big : ℕ → Bool) (more : ℕ → ℕ → Bool) → IsEnd m big more
+        → IsWithin m (in_part ends i) (is_inside m ends) big more → (t : ℕ) → t < states_of m → big t ≡ true → in_part ends i t ≡ true
     contained big more b w t h is =
         let v = each big more b in
         let x = a.some in
@@ -69,7 +72,8 @@ module _ (m : Mdp) (ok : IsMdp m) (ends : List (Option ℕ)) (each : (set : ℕ 
 
 -- ---- the end of the search
 
-module _ (m : Mdp) (ok : IsMdp m) (allowed : ℕ → ℕ → Bool) (parts : List ℕ) (comp : AreComponents m allowed parts) (keeps : KeepsEnds m allowed) (settled : IsSettled m allowed parts) (ends : List (Option ℕ)) (left : AreLeft m allowed parts ends) where
+module _ (m : Mdp) (ok : IsMdp m) (allowed : ℕ → ℕ → Bool) (parts : List ℕ) (comp : AreComponents m allowed parts)
+    (keeps : KeepsEnds m allowed) (settled : IsSettled m allowed parts) (ends : List (Option ℕ)) (left : AreLeft m allowed parts ends) where
   abbrev HasChoice : ℕ → Type 0
   HasChoice s = (c : ℕ) × (c < length (choices_at m s)) × (allowed s c ≡ true)
 

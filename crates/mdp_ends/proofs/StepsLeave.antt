@@ -48,10 +48,12 @@ module _ (m : Mdp) (ok : IsMdp m) (ends : List (Option ℕ)) (are : AreEnds m en
           (let hq = node_of-below m ok ends are nodes numbered s h in
           elim (cases_Bool (is_exitless m ends nodes (get_or nodes s 0))) [
             | inl none ↦ exitless-part s h none
-            | inr some ↦ (let z : get_or steps_policy (get_or nodes s 0) 0 ≡ suc (get_or selected (get_or nodes s 0) 0) = policy-at (get_or nodes s 0) hq ∙ cond-false (is_exitless m ends nodes (get_or nodes s 0)) 0 (suc (get_or selected (get_or nodes s 0) 0)) some in absurd (omega (arith, z, e)))
+            | inr some ↦ (let z : get_or steps_policy (get_or nodes s 0) 0 ≡ suc (get_or selected (get_or nodes s 0) 0) = policy-at (get_or nodes s 0) hq
+                ∙ cond-false (is_exitless m ends nodes (get_or nodes s 0)) 0 (suc (get_or selected (get_or nodes s 0) 0)) some in absurd (omega (arith, z, e)))
           ]);
     }
 
     -- so every selection leaves its nodes that have exits
-    pub steps_leave : Leaves (outer_rows m ok ends are nodes numbered steps_policy steps_outer) (active_nodes m ok ends are nodes numbered steps_policy steps_outer) (node_ranks m ok ends are nodes numbered steps_policy steps_outer)
+    pub steps_leave : Leaves (outer_rows m ok ends are nodes numbered steps_policy steps_outer)
+        (active_nodes m ok ends are nodes numbered steps_policy steps_outer) (node_ranks m ok ends are nodes numbered steps_policy steps_outer)
     steps_leave = outer_leaves m ok ends are nodes numbered steps_policy steps_outer

@@ -17,7 +17,8 @@ use Rattle.mdp_ends.proofs.Closing.{chosen-rises}
 use Rattle.mdp_ends.proofs.ByTest.{each_below, agree, each-at, agreed}
 
 -- what is reached from one state of the first set is reached from the set
-pub wider : (step : (ℕ → Bool) → ℕ → Bool) (rises : (p q : ℕ → Bool) → ((t : ℕ) → p t ≡ true → q t ≡ true) → (s : ℕ) → step p s ≡ true → step q s ≡ true) (first second : ℕ → Bool) → ((s : ℕ) → first s ≡ true → second s ≡ true)
+pub wider : (step : (ℕ → Bool) → ℕ → Bool) (rises : (p q : ℕ → Bool) → ((t : ℕ) → p t ≡ true → q t ≡ true) → (s : ℕ)
+    → step p s ≡ true → step q s ≡ true) (first second : ℕ → Bool) → ((s : ℕ) → first s ≡ true → second s ≡ true)
     → (k s : ℕ) → reached step first k s ≡ true → reached step second k s ≡ true
 unfolding reached
 wider step rises first second more zero s e = more s e
@@ -47,7 +48,8 @@ module _ (m : Mdp) (ok : IsMdp m) (ends : List (Option ℕ)) (are : AreEnds m en
     | inr stepped ↦ (let w = step-has m (is_inside m ends) (reached (inner_step m ends) (target_in ends i target) k) s stepped in inner_into s w.0 w.1 w.3 w.4 (reached_in k w.1 w.5))
   ]
 
-  part_reached : (x : ℕ) → x < states_of m → in_part ends i x ≡ true → marked target x ≡ true → (s : ℕ) → s < states_of m → in_part ends i s ≡ true → (k : ℕ) × (reached (inner_step m ends) (target_in ends i target) k s ≡ true)
+  part_reached : (x : ℕ) → x < states_of m → in_part ends i x ≡ true → marked target x ≡ true → (s : ℕ)
+      → s < states_of m → in_part ends i s ≡ true → (k : ℕ) × (reached (inner_step m ends) (target_in ends i target) k s ≡ true)
   part_reached x hx ix tx s h is =
       let part = are.maximal i below in
       let walk = part.is_end.joined s x h hx is ix in (
@@ -72,7 +74,8 @@ module _ (m : Mdp) (ok : IsMdp m) (ends : List (Option ℕ)) (are : AreEnds m en
 -- ---- reached states and ranks, tested
 
 module _ (m : Mdp) (ok : IsMdp m) (chosen : ℕ → ℕ → Bool) (first : ℕ → Bool) where
-  pub reached_by_test : (marks : List Bool) → length marks ≡ states_of m → each_below (λ s. agree (marked marks s) (reached (chosen_step m chosen) first (states_of m) s)) (states_of m) ≡ true → AreReached (chosen_step m chosen) first (states_of m) marks
+  pub reached_by_test : (marks : List Bool) → length marks ≡ states_of m
+      → each_below (λ s. agree (marked marks s) (reached (chosen_step m chosen) first (states_of m) s)) (states_of m) ≡ true → AreReached (chosen_step m chosen) first (states_of m) marks
   reached_by_test marks count e = record {
     count = count;
     marks_reached = λ s h.
@@ -83,22 +86,26 @@ module _ (m : Mdp) (ok : IsMdp m) (chosen : ℕ → ℕ → Bool) (first : ℕ �
   }
 
   -- ranks that are reached, and before which nothing is
-  pub ranks_by_test : (marks : List Bool) (ranks : List ℕ) → length ranks ≡ states_of m → each_below (λ s. not (marked marks s) || reached (chosen_step m chosen) first (get_or ranks s 0) s) (states_of m) ≡ true
-      → each_below (λ s. each_below (λ k. not (reached (chosen_step m chosen) first k s)) (get_or ranks s 0)) (states_of m) ≡ true → each_below (λ s. marked marks s || (get_or ranks s 0 == 0)) (states_of m) ≡ true
+  pub ranks_by_test : (marks : List Bool) (ranks : List ℕ) → length ranks ≡ states_of m
+      → each_below (λ s. not (marked marks s) || reached (chosen_step m chosen) first (get_or ranks s 0) s) (states_of m) ≡ true
+      → each_below (λ s. each_below (λ k. not (reached (chosen_step m chosen) first k s)) (get_or ranks s 0)) (states_of m) ≡ true
+      → each_below (λ s. marked marks s || (get_or ranks s 0 == 0)) (states_of m) ≡ true
       → AreLeastRanks (chosen_step m chosen) first (states_of m) marks ranks
   ranks_by_test marks ranks count e f g = record {
     count = count;
-    reaches = λ s h it. (elim (or_cases (not (marked marks s)) (reached (chosen_step m chosen) first (get_or ranks s 0) s) (each-at (λ s. not (marked marks s) || reached (chosen_step m chosen) first (get_or ranks s 0) s) (states_of m) e s h)) [
-      | inl out ↦ absurd (false≢true (sym (not_from_true (marked marks s) it) ∙ out))
-      | inr is ↦ is
-    ]);
+    reaches = λ s h it. (elim (or_cases (not (marked marks s)) (reached (chosen_step m chosen) first (get_or ranks s 0) s)
+        (each-at (λ s. not (marked marks s) || reached (chosen_step m chosen) first (get_or ranks s 0) s) (states_of m) e s h)) [
+          | inl out ↦ absurd (false≢true (sym (not_from_true (marked marks s) it) ∙ out))
+          | inr is ↦ is
+        ]);
     least = λ s k h is. (elim (cases_lt k (get_or ranks s 0)) [
       | inr le ↦ le
       | inl less ↦
           absurd
           (false≢true
           (sym (not_from_true (reached (chosen_step m chosen) first k s) is)
-          ∙ each-at (λ k. not (reached (chosen_step m chosen) first k s)) (get_or ranks s 0) (each-at (λ s. each_below (λ k. not (reached (chosen_step m chosen) first k s)) (get_or ranks s 0)) (states_of m) f s h) k less))
+          ∙ each-at (λ k. not (reached (chosen_step m chosen) first k s)) (get_or ranks s 0)
+          (each-at (λ s. each_below (λ k. not (reached (chosen_step m chosen) first k s)) (get_or ranks s 0)) (states_of m) f s h) k less))
     ]);
     zero = λ s h out. (elim (or_cases (marked marks s) (get_or ranks s 0 == 0) (each-at (λ s. marked marks s || (get_or ranks s 0 == 0)) (states_of m) g s h)) [
       | inl it ↦ absurd (false≢true (sym out ∙ it))

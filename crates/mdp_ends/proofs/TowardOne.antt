@@ -15,7 +15,8 @@ use Rattle.mdp_ends.proofs.Closing.{reaches_by}
 use Rattle.mdp_ends.proofs.TowardLaws.{wider, steps_rise, toward_marks}
 use Rattle.mdp_ends.proofs.Firsts.{first-least, first-found}
 
-module _ (m : Mdp) (ok : IsMdp m) (ends : List (Option ℕ)) (are : AreEnds m ends) (i : ℕ) (below : i < count_of ends) (target marks : List Bool) (ranks choices : List ℕ) (pass : IsToward m ends i target marks ranks choices)
+module _ (m : Mdp) (ok : IsMdp m) (ends : List (Option ℕ)) (are : AreEnds m ends) (i : ℕ) (below : i < count_of ends)
+    (target marks : List Bool) (ranks choices : List ℕ) (pass : IsToward m ends i target marks ranks choices)
     (x : ℕ) (hx : x < states_of m) (x_in : in_part ends i x ≡ true) (x_is : marked target x ≡ true) (alone : (s : ℕ) → target_in ends i target s ≡ true → s ≡ x) where
   to_x : (k s : ℕ) → reached (inner_step m ends) (target_in ends i target) k s ≡ true → comes_to m (is_inside m ends) x k s ≡ true
   to_x = wider (inner_step m ends) (steps_rise m ok ends are i below target) (target_in ends i target) (λ s. s == x) (λ s e. eq-eqb s x (alone s e))

@@ -85,7 +85,8 @@ step-has m chosen set s e =
     let z = enters-at set (row_at m s w.0) p.1 in
     (w.0, z.0, w.1, p.0, z.1, z.2)
 
-pub step-by : (m : Mdp) (chosen : ℕ → ℕ → Bool) (set : ℕ → Bool) (s c t : ℕ) → c < length (choices_at m s) → chosen s c ≡ true → leads_to t (row_at m s c) ≡ true → set t ≡ true → chosen_step m chosen set s ≡ true
+pub step-by : (m : Mdp) (chosen : ℕ → ℕ → Bool) (set : ℕ → Bool) (s c t : ℕ) → c < length (choices_at m s)
+    → chosen s c ≡ true → leads_to t (row_at m s c) ≡ true → set t ≡ true → chosen_step m chosen set s ≡ true
 step-by m chosen set s c t l e to is =
     range-any (λ c. chosen s c && can_enter set (row_at m s c)) (length (choices_at m s)) c l (and_from (chosen s c) (can_enter set (row_at m s c)) e (enters-by set (row_at m s c) t to is))
 
@@ -105,7 +106,8 @@ module _ (m : Mdp) (ok : IsMdp m) where
 
   -- what holds at the end of a walk and is kept backwards along its steps holds at its start
   pub walk_to : (chosen : ℕ → ℕ → Bool) (t : ℕ) (P : ℕ → Type 0) → P t
-      → ((s c x : ℕ) → s < states_of m → c < length (choices_at m s) → chosen s c ≡ true → leads_to x (row_at m s c) ≡ true → x < states_of m → Reaches m chosen x t → P x → P s) → (s : ℕ) → s < states_of m → Reaches m chosen s t → P s
+      → ((s c x : ℕ) → s < states_of m → c < length (choices_at m s) → chosen s c ≡ true → leads_to x (row_at m s c) ≡ true
+      → x < states_of m → Reaches m chosen x t → P x → P s) → (s : ℕ) → s < states_of m → Reaches m chosen s t → P s
   unfolding reached
   walk_to chosen t P last step s h w = go w.0 s h w.1 where
     go : (k s : ℕ) → s < states_of m → comes_to m chosen t k s ≡ true → P s
@@ -121,12 +123,14 @@ module _ (m : Mdp) (ok : IsMdp m) where
   and_then chosen s t u h w v = walk_to chosen t (λ x. Reaches m chosen x u) v (λ x c y hx l e to hy way v. one_more m chosen x c y u l e to v) s h w
 
   -- a walk stays in a set that is closed under the chosen choices, and is one by the choices that are chosen in it
-  pub stays_along : (set : ℕ → Bool) (chosen : ℕ → ℕ → Bool) → ((s c : ℕ) → s < states_of m → set s ≡ true → c < length (choices_at m s) → chosen s c ≡ true → stays_in set (row_at m s c) ≡ true)
+  pub stays_along : (set : ℕ → Bool) (chosen : ℕ → ℕ → Bool)
+      → ((s c : ℕ) → s < states_of m → set s ≡ true → c < length (choices_at m s) → chosen s c ≡ true → stays_in set (row_at m s c) ≡ true)
       → (s t : ℕ) → s < states_of m → set s ≡ true → Reaches m chosen s t → set t ≡ true
   stays_along set chosen closed s t h is w =
       walk_to chosen t (λ x. set x ≡ true → set t ≡ true) (λ is. is) (λ x c y hx l e to hy way known is. known (stays-at set (row_at m x c) y (closed x c hx is l e) to)) s h w is
 
-  pub moved : (set : ℕ → Bool) (chosen more : ℕ → ℕ → Bool) → ((s c : ℕ) → s < states_of m → set s ≡ true → c < length (choices_at m s) → chosen s c ≡ true → stays_in set (row_at m s c) ≡ true)
+  pub moved : (set : ℕ → Bool) (chosen more : ℕ → ℕ → Bool)
+      → ((s c : ℕ) → s < states_of m → set s ≡ true → c < length (choices_at m s) → chosen s c ≡ true → stays_in set (row_at m s c) ≡ true)
       → ((s c : ℕ) → s < states_of m → set s ≡ true → c < length (choices_at m s) → chosen s c ≡ true → more s c ≡ true)
       → (s t : ℕ) → s < states_of m → set s ≡ true → Reaches m chosen s t → Reaches m more s t
   moved set chosen more closed within s t h is w =

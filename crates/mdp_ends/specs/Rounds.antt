@@ -7,7 +7,8 @@ use Rattle.mdp_ends.specs.Ends.{IsEnd, part_of}
 
 -- the choices of each end component are allowed
 abbrev pub KeepsEnds : Mdp → (ℕ → ℕ → Bool) → Type 0
-KeepsEnds m allowed = (set : ℕ → Bool) (chosen : ℕ → ℕ → Bool) → IsEnd m set chosen → (s c : ℕ) → s < states_of m → set s ≡ true → c < length (choices_at m s) → chosen s c ≡ true → allowed s c ≡ true
+KeepsEnds m allowed = (set : ℕ → Bool) (chosen : ℕ → ℕ → Bool) → IsEnd m set chosen → (s c : ℕ)
+    → s < states_of m → set s ≡ true → c < length (choices_at m s) → chosen s c ≡ true → allowed s c ≡ true
 
 -- choice c of state s doesn't leave the part of s
 abbrev pub keeps_part : Mdp → List ℕ → ℕ → ℕ → Bool

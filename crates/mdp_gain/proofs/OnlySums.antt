@@ -1,5 +1,6 @@
 -- Written sums of biases that are 0.
-use Rattle.std.proofs.Common.{◌≡◌, ℕ, ◌+◌, ◌<◌, ◌≤◌, ◌⊎◌, inl, inr, List, [], ◌∷◌, length, drop, get_or, if◌then◌else◌, Option, Some, None, refl, sym, ◌∙◌, ap, arith, zero-add, pos}
+use Rattle.std.proofs.Common.{◌≡◌, ℕ, ◌+◌, ◌<◌, ◌≤◌, ◌⊎◌, inl, inr, List, [], ◌∷◌, length, drop}
+use Rattle.std.proofs.Common.{get_or, if◌then◌else◌, Option, Some, None, refl, sym, ◌∙◌, ap, arith, zero-add, pos}
 use Rattle.std.proofs.Math.ListN.{get_or-eq_default}
 use Rattle.std.proofs.lemmas.List.FromFn.{get_or-map-range_with_len, length-map-range_with_len}
 use Rattle.mdp_math.specs.Rational.{ℚ, of_int, ◌+ℚ◌}

@@ -1,5 +1,6 @@
 -- Choices that wait, state by state in one list.
-use Rattle.std.proofs.Common.{◌≡◌, ℕ, ◌+◌, ◌-◌, ◌<◌, ◌≤◌, Bool, true, false, List, [], ◌∷◌, ◌++◌, length, map, take, replicate, get_or, set, refl, sym, ap, ap₂, ◌∙◌, arith, length-append}
+use Rattle.std.proofs.Common.{◌≡◌, ℕ, ◌+◌, ◌-◌, ◌<◌, ◌≤◌, Bool, true, false, List, [], ◌∷◌, ◌++◌}
+use Rattle.std.proofs.Common.{length, map, take, replicate, get_or, set, refl, sym, ap, ap₂, ◌∙◌, arith, length-append}
 use Rattle.std.proofs.lemmas.List.{get_or_default, take_more, length-replicate, map-append, take_all}
 use Rattle.mdp_rows.specs.Pieces.{piece, pieces, ArePlaces}
 use Rattle.mdp_rows.proofs.Flat.Pieces.{AreNext, next_places, piece_is, piece_len}

@@ -1,5 +1,6 @@
 -- A forest that grows, and one that is cut.
-use Rattle.std.proofs.Common.{◌≡◌, inl, inr, ℕ, zero, suc, ◌<◌, ◌≤◌, Bool, true, false, ◌||◌, ◌&&◌, ◌==◌, not, cond, List, [], ◌∷◌, length, get_or, sym, ap, subst, ◌∙◌, arith, Option, Some, None, is_some, is_none}
+use Rattle.std.proofs.Common.{◌≡◌, inl, inr, ℕ, zero, suc, ◌<◌, ◌≤◌, Bool, true, false, ◌||◌, ◌&&◌, ◌==◌, not, cond}
+use Rattle.std.proofs.Common.{List, [], ◌∷◌, length, get_or, sym, ap, subst, ◌∙◌, arith, Option, Some, None, is_some, is_none}
 use Rattle.std.specs.List.{All}
 use Rattle.std.proofs.lemmas.Bool.{false≢true, cases_Bool, eqb-true}
 use Rattle.mdp_spec.specs.Mdp.{Mdp, states_of, choices_at, row_at}

@@ -206,7 +206,8 @@ meeting_seen step first n respects ranks layer k l new given_now none_yet seen g
     subst (λ (j : ℕ). IsMeeting step first n new next j) e more
 
 -- where a marked state has its rank from
-pub step_below : (step : (ℕ → Bool) → ℕ → Bool) (first : ℕ → Bool) (n : ℕ) (ranks : List (Option ℕ)) → AreRanks step first n ranks → (s r : ℕ) → s < n → rank_at ranks s ≡ Some r → first s ≡ false
+pub step_below : (step : (ℕ → Bool) → ℕ → Bool) (first : ℕ → Bool) (n : ℕ) (ranks : List (Option ℕ))
+    → AreRanks step first n ranks → (s r : ℕ) → s < n → rank_at ranks s ≡ Some r → first s ≡ false
     → (q : ℕ) × (r ≡ suc q) × (step (reached step first q) s ≡ true)
 unfolding reached
 step_below step first n ranks a s zero h e not_first = absurd (false≢true (sym not_first ∙ sym (a.least 0 s h) ∙ at_most-some 0 0 (rank_at ranks s) e (omega arith)))

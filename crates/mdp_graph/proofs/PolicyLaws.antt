@@ -1,5 +1,6 @@
 -- What the marks, ranks and choices of the passes mean for policies and for rows.
-use Rattle.std.proofs.Common.{◌≡◌, inl, inr, ℕ, suc, zero, ◌+◌, ◌<◌, ◌≤◌, Bool, true, false, not, ◌||◌, ◌&&◌, nat_lt, lt-ltb, ltb-true, List, [], length, get_or, refl, sym, ap, ◌∙◌, arith}
+use Rattle.std.proofs.Common.{◌≡◌, inl, inr, ℕ, suc, zero, ◌+◌, ◌<◌, ◌≤◌, Bool, true, false, not, ◌||◌}
+use Rattle.std.proofs.Common.{◌&&◌, nat_lt, lt-ltb, ltb-true, List, [], length, get_or, refl, sym, ap, ◌∙◌, arith}
 use Rattle.std.proofs.lemmas.Bool.{false≢true, cases_Bool, cases_eq}
 use Rattle.mdp_spec.specs.Mdp.{Mdp, Choice, no_choice, states_of, choices_at, row_at}
 use Rattle.mdp_spec.specs.Row.{IsMdp}

@@ -70,7 +70,8 @@ enters edges (x ∷ layer) s t m e = among-append s (get_or edges x []) (predece
 pub record IsLayered (edges : List (List ℕ)) (first : ℕ → Bool) (n : ℕ) (ranks : List (Option ℕ)) (layer : List ℕ) (k : ℕ) : Type 0 where
   pub count : length ranks ≡ n
   pub first_ranked : (s : ℕ) → s < n → first s ≡ true → rank_at ranks s ≡ Some 0
-  pub from : (s r : ℕ) → s < n → rank_at ranks s ≡ Some r → ((r ≡ 0) × (first s ≡ true)) ⊎ ((t : ℕ) × (q : ℕ) × (t < n) × (has_edge edges s t ≡ true) × (rank_at ranks t ≡ Some q) × (r ≡ q + 1))
+  pub from : (s r : ℕ) → s < n → rank_at ranks s ≡ Some r → ((r ≡ 0) × (first s ≡ true)) ⊎
+      ((t : ℕ) × (q : ℕ) × (t < n) × (has_edge edges s t ≡ true) × (rank_at ranks t ≡ Some q) × (r ≡ q + 1))
   pub top : (s r : ℕ) → s < n → rank_at ranks s ≡ Some r → r ≤ k
   pub raised : (s t j : ℕ) → s < n → t < n → is_among t layer ≡ false → has_edge edges s t ≡ true → at_most j (rank_at ranks t) ≡ true → at_most (j + 1) (rank_at ranks s) ≡ true
   pub last : (t : ℕ) → is_among t layer ≡ true → rank_at ranks t ≡ Some k

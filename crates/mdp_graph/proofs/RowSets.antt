@@ -97,7 +97,8 @@ stays-more p q (x ∷ row) n range more e =
     and-both (q x.target) (stays_in q row) (more x.target (range 0 x (omega arith)) (and-left (p x.target) (stays_in p row) e))
     (stays-more p q row n (λ k d l. range (suc k) d (omega arith)) more (and-right (p x.target) (stays_in p row) e))
 
-pub stays-outside : (p q : ℕ → Bool) (row : List Entry) (n : ℕ) → All (λ x. x.target < n) row → ((t : ℕ) → t < n → p t ≡ false → q t ≡ true) → can_enter p row ≡ false → stays_in q row ≡ true
+pub stays-outside : (p q : ℕ → Bool) (row : List Entry) (n : ℕ) → All (λ x. x.target < n) row
+    → ((t : ℕ) → t < n → p t ≡ false → q t ≡ true) → can_enter p row ≡ false → stays_in q row ≡ true
 stays-outside p q [] n range out e = refl
 stays-outside p q (x ∷ row) n range out e =
     and-both (q x.target) (stays_in q row) (out x.target (range 0 x (omega arith)) (or-left_false (p x.target) (can_enter p row) e))

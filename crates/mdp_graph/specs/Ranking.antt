@@ -9,7 +9,8 @@ use Rattle.mdp_graph.specs.Layers.{rank_at, at_most}
 pub record AreRankedBy (edges : List (List ℕ)) (first : ℕ → Bool) (n : ℕ) (ranks : List (Option ℕ)) : Type 0 where
   pub count : length ranks ≡ n
   pub first_ranked : (s : ℕ) → s < n → first s ≡ true → rank_at ranks s ≡ Some 0
-  pub from : (s r : ℕ) → s < n → rank_at ranks s ≡ Some r → ((r ≡ 0) × (first s ≡ true)) ⊎ ((t : ℕ) × (q : ℕ) × (t < n) × (has_edge edges s t ≡ true) × (rank_at ranks t ≡ Some q) × (r ≡ q + 1))
+  pub from : (s r : ℕ) → s < n → rank_at ranks s ≡ Some r → ((r ≡ 0) × (first s ≡ true)) ⊎
+      ((t : ℕ) × (q : ℕ) × (t < n) × (has_edge edges s t ≡ true) × (rank_at ranks t ≡ Some q) × (r ≡ q + 1))
   pub raised : (s t k : ℕ) → s < n → t < n → has_edge edges s t ≡ true → at_most k (rank_at ranks t) ≡ true → at_most (k + 1) (rank_at ranks s) ≡ true
 
 -- a rank is given to the states that have none yet

@@ -262,7 +262,8 @@ pub(crate) fn attach_all(
     requires attached { (t : ℕ) → is_among t first.items ≡ true → attached goals.now ways.old.items t ≡ true }
     ensures forest { OnOk result (IsForest model.now goals.now allowed.now ways.new.items (λ _. false)) }
     ensures kept { OnOk result ((s : ℕ) → attached goals.now ways.old.items s ≡ true → attached goals.now ways.new.items s ≡ true) }
-    ensures closed { OnOk result ((states : List ℕ) → IsClosed model.now goals.now allowed.now ways.old.items states (λ t. is_among t first.items) → IsClosed model.now goals.now allowed.now ways.new.items states (λ _. false)) }
+    ensures closed { OnOk result ((states : List ℕ) → IsClosed model.now goals.now allowed.now ways.old.items states
+        (λ t. is_among t first.items) → IsClosed model.now goals.now allowed.now ways.new.items states (λ _. false)) }
 {
     model.known();
     let mut layer = first;

@@ -98,7 +98,8 @@ module _ (active : ℕ → Bool) (k : ℕ) (a : ℚ) (f : ℕ → ℚ) where
     | inr l ↦ picked_later n (active n) l (picked n l out)
   ]
 
-  one_sum_by : (n : ℕ) (b : Bool) → active k ≡ b → ((s : ℕ) → active s ≡ true → s < n) → ((v : ℕ) → active v ≡ false → f v ≡ 0ℚ) → sum_of (one_term k a f) (active_below active n) ≡ a *ℚ f k
+  one_sum_by : (n : ℕ) (b : Bool) → active k ≡ b → ((s : ℕ) → active s ≡ true → s < n)
+      → ((v : ℕ) → active v ≡ false → f v ≡ 0ℚ) → sum_of (one_term k a f) (active_below active n) ≡ a *ℚ f k
   one_sum_by n true e bound out = picked n (bound k e) out
   one_sum_by n false e bound out = elim (le_or n k) as (λ _. sum_of (one_term k a f) (active_below active n) ≡ a *ℚ f k) [
     | inl l ↦ missed n l ∙ ring rat_ring 1 (λ a. lit (pos 0)) (λ a. a ⊗ lit (pos 0)) refl a ∙ ap (λ (u : ℚ). a *ℚ u) (sym (out k e))

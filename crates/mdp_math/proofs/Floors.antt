@@ -28,7 +28,8 @@ small_for_all P down (x ∷ xs) h =
     (m.0, m.1, ≤ℚ_trans m.0 a.0 1ℚ m.2 a.2, All-cons (λ y. P y m.0) x xs (down x m.0 a.0 m.2 a.3) (λ k d l. down (get_or xs k d) m.0 b.0 m.3 (b.3 k d l)))
 
 -- and for each number below n
-pub small_for_below : (P : ℕ → ℚ → Type 0) → ((s : ℕ) (d e : ℚ) → d ≤ℚ e → P s e → P s d) → (n : ℕ) → ((s : ℕ) → s < n → ForSmall (P s)) → ForSmall (λ e. (s : ℕ) → s < n → P s e)
+pub small_for_below : (P : ℕ → ℚ → Type 0) → ((s : ℕ) (d e : ℚ) → d ≤ℚ e → P s e → P s d)
+    → (n : ℕ) → ((s : ℕ) → s < n → ForSmall (P s)) → ForSmall (λ e. (s : ℕ) → s < n → P s e)
 small_for_below P down zero h = (1ℚ, one-pos, ≤ℚ_refl 1ℚ, λ s l. absurd (omega arith))
 small_for_below P down (suc n) h =
     let a = h n (omega arith) in

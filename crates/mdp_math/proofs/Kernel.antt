@@ -107,7 +107,8 @@ module _ {A : Type 0} (index : A → ℕ) (entry : A → ℚ) where
       (All-head (λ y. 0ℚ ≤ℚ entry y) x row p) (h (index x)) (weigh-le_mass f row (All-tail (λ y. 0ℚ ≤ℚ entry y) x row p) h)
 
   -- and less, where it is less at an entry of at least e
-  pub weigh-below_mass : (f : ℕ → ℚ) (e g : ℚ) (row : List A) → All (λ x. 0ℚ ≤ℚ entry x) row → ((v : ℕ) → f v ≤ℚ 1ℚ) → 0ℚ ≤ℚ g → Any (λ x. (e ≤ℚ entry x) × (f (index x) +ℚ g ≤ℚ 1ℚ)) row
+  pub weigh-below_mass : (f : ℕ → ℚ) (e g : ℚ) (row : List A) → All (λ x. 0ℚ ≤ℚ entry x) row
+      → ((v : ℕ) → f v ≤ℚ 1ℚ) → 0ℚ ≤ℚ g → Any (λ x. (e ≤ℚ entry x) × (f (index x) +ℚ g ≤ℚ 1ℚ)) row
       → weigh index entry f row +ℚ e *ℚ g ≤ℚ sum_of entry row
   weigh-below_mass f e g [] p h k any = absurd (Any-none (λ x. (e ≤ℚ entry x) × (f (index x) +ℚ g ≤ℚ 1ℚ)) any)
   weigh-below_mass f e g (x ∷ row) p h k any =
@@ -125,7 +126,8 @@ module _ {A : Type 0} (index : A → ℕ) (entry : A → ℚ) where
       ]
 
   -- above 0, where a positive entry leads to a positive number
-  pub weigh-pos : (f : ℕ → ℚ) (row : List A) → All (λ x. 0ℚ ≤ℚ entry x) row → ((v : ℕ) → 0ℚ ≤ℚ f v) → Any (λ x. (0ℚ <ℚ entry x) × (0ℚ <ℚ f (index x))) row → 0ℚ <ℚ weigh index entry f row
+  pub weigh-pos : (f : ℕ → ℚ) (row : List A) → All (λ x. 0ℚ ≤ℚ entry x) row → ((v : ℕ) → 0ℚ ≤ℚ f v)
+      → Any (λ x. (0ℚ <ℚ entry x) × (0ℚ <ℚ f (index x))) row → 0ℚ <ℚ weigh index entry f row
   weigh-pos f [] p h any = absurd (Any-none (λ x. (0ℚ <ℚ entry x) × (0ℚ <ℚ f (index x))) any)
   weigh-pos f (x ∷ row) p h any =
       let head : 0ℚ ≤ℚ entry x = All-head (λ y. 0ℚ ≤ℚ entry y) x row p in
@@ -182,7 +184,8 @@ module _ {A : Type 0} (index : A → ℕ) (entry : A → ℚ) where
   any_later P x row h = (suc h.0, h.1, omega (arith, h.2), h.3, h.4)
 
   -- a row that weighs more than m times its mass has a number above m, and a row that weighs less has one below
-  pub weigh-some_above : (f : ℕ → ℚ) (m : ℚ) (row : List A) → All (λ x. 0ℚ ≤ℚ entry x) row → m *ℚ sum_of entry row <ℚ weigh index entry f row → Any (λ x. (0ℚ <ℚ entry x) × (m <ℚ f (index x))) row
+  pub weigh-some_above : (f : ℕ → ℚ) (m : ℚ) (row : List A) → All (λ x. 0ℚ ≤ℚ entry x) row
+      → m *ℚ sum_of entry row <ℚ weigh index entry f row → Any (λ x. (0ℚ <ℚ entry x) × (m <ℚ f (index x))) row
   weigh-some_above f m [] p h = absurd (clash_ℚ (m *ℚ 0ℚ) 0ℚ h (≤ℚ_of_eq _ _ (ring rat_ring 1 (λ m. lit (pos 0)) (λ m. m ⊗ lit (pos 0)) refl m)))
   weigh-some_above f m (x ∷ row) p h =
       let p1 : 0ℚ ≤ℚ entry x = All-head (λ y. 0ℚ ≤ℚ entry y) x row p in

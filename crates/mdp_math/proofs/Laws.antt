@@ -118,7 +118,8 @@ pub +ℚ_assoc : (x y z : ℚ) → (x +ℚ y) +ℚ z ≡ x +ℚ (y +ℚ z)
 +ℚ_assoc x y z = same_is ((x +ℚ y) +ℚ z) (x +ℚ (y +ℚ z)) _ _ _ _
     (is_add _ _ _ _ _ _ (is_add _ _ _ _ _ _ (is_self x) (is_self y)) (is_self z))
     (is_add _ _ _ _ _ _ (is_self x) (is_add _ _ _ _ _ _ (is_self y) (is_self z)))
-    (ring₆ int_ring (λ a c e b d f. ((a ⊗ d ⊕ c ⊗ b) ⊗ f ⊕ e ⊗ (b ⊗ d)) ⊗ (b ⊗ (d ⊗ f))) (λ a c e b d f. (a ⊗ (d ⊗ f) ⊕ (c ⊗ f ⊕ e ⊗ d) ⊗ b) ⊗ ((b ⊗ d) ⊗ f)) refl x.num y.num z.num
+    (ring₆ int_ring (λ a c e b d f. ((a ⊗ d ⊕ c ⊗ b) ⊗ f ⊕ e ⊗ (b ⊗ d)) ⊗ (b ⊗ (d ⊗ f)))
+    (λ a c e b d f. (a ⊗ (d ⊗ f) ⊕ (c ⊗ f ⊕ e ⊗ d) ⊗ b) ⊗ ((b ⊗ d) ⊗ f)) refl x.num y.num z.num
     (pos x.den) (pos y.den) (pos z.den))
 
 pub +ℚ_comm : (x y : ℚ) → x +ℚ y ≡ y +ℚ x

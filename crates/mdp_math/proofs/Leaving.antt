@@ -49,7 +49,8 @@ module _ {A : Type 0} {index : A → ℕ} {entry : A → ℚ} {active : ℕ → 
       (shrinks-step (λ v. c *ℚ K.weight v) c s row hc (λ v. ≤ℚ_refl (c *ℚ K.weight v)) a ok)
 
   -- and of several rows, each with a weight of at least 0
-  pub shrinks-mixed : {C : Type 0} (cs : List C) (u : ℕ → C → ℚ) (row : ℕ → C → List A) (g : ℕ → C → ℕ → A → ℚ) (c : ℚ) (s : ℕ) → 0ℚ ≤ℚ c → active s ≡ true → EachAt cs (λ j y. 0ℚ ≤ℚ u j y)
+  pub shrinks-mixed : {C : Type 0} (cs : List C) (u : ℕ → C → ℚ) (row : ℕ → C → List A) (g : ℕ → C → ℕ → A → ℚ) (c : ℚ) (s : ℕ)
+      → 0ℚ ≤ℚ c → active s ≡ true → EachAt cs (λ j y. 0ℚ ≤ℚ u j y)
       → EachAt cs (λ j y. 0ℚ <ℚ u j y → Allowed s (row j y) × EachAt (row j y) (λ k x. g j y k x ≤ℚ c *ℚ K.weight (index x)))
       → sum_at cs (λ j y. u j y *ℚ sum_at (row j y) (λ k x. entry x *ℚ g j y k x)) ≤ℚ sum_at cs u *ℚ ((K.rate *ℚ c) *ℚ K.weight s)
   shrinks-mixed cs u row g c s hc a nonneg h =

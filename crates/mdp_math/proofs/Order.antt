@@ -1,5 +1,6 @@
 -- The order of ℚ, and the reciprocal.
-use Rattle.std.proofs.Common.{◌≡◌, ◌≢◌, ℕ, zero, suc, ◌+◌, ◌*◌, ◌<◌, ◌≤◌, ◌⊎◌, inl, inr, refl, sym, ◌∙◌, ap, subst, arith, ℤ, pos, negsuc, ◌+ℤ◌, ◌*ℤ◌, neg_ℤ, mul-pos, ◌≤ℤ◌, ◌<ℤ◌}
+use Rattle.std.proofs.Common.{◌≡◌, ◌≢◌, ℕ, zero, suc, ◌+◌, ◌*◌, ◌<◌, ◌≤◌, ◌⊎◌, inl, inr, refl, sym}
+use Rattle.std.proofs.Common.{◌∙◌, ap, subst, arith, ℤ, pos, negsuc, ◌+ℤ◌, ◌*ℤ◌, neg_ℤ, mul-pos, ◌≤ℤ◌, ◌<ℤ◌}
 use Rattle.std.proofs.lemmas.Int.{ints, by_lt_z}
 use borrow.Author.Differences.{up, down, same_out, product_is, le_out, lt_out, at_most_in, below_in}
 use Rattle.mdp_math.specs.Written.{cmp_ℚ}
@@ -179,10 +180,12 @@ pub ≤ℚ_trans : (x y z : ℚ) → x ≤ℚ y → y ≤ℚ z → x ≤ℚ z
 ≤ℚ_trans x y z h k = le_by x z ((y -ℚ x) +ℚ (z -ℚ y)) (add-nonneg _ _ (sub-nonneg x y h) (sub-nonneg y z k)) (ring₃ rat_ring (λ x y z. z ⊕ ⊖ x) (λ x y z. (y ⊕ ⊖ x) ⊕ (z ⊕ ⊖ y)) refl x y z)
 
 pub <ℚ-≤ℚ_trans : (x y z : ℚ) → x <ℚ y → y ≤ℚ z → x <ℚ z
-<ℚ-≤ℚ_trans x y z h k = lt_by x z ((y -ℚ x) +ℚ (z -ℚ y)) (add-pos-nonneg _ _ (sub-pos x y h) (sub-nonneg y z k)) (ring₃ rat_ring (λ x y z. z ⊕ ⊖ x) (λ x y z. (y ⊕ ⊖ x) ⊕ (z ⊕ ⊖ y)) refl x y z)
+<ℚ-≤ℚ_trans x y z h k = lt_by x z ((y -ℚ x) +ℚ (z -ℚ y)) (add-pos-nonneg _ _ (sub-pos x y h) (sub-nonneg y z k))
+    (ring₃ rat_ring (λ x y z. z ⊕ ⊖ x) (λ x y z. (y ⊕ ⊖ x) ⊕ (z ⊕ ⊖ y)) refl x y z)
 
 pub ≤ℚ-<ℚ_trans : (x y z : ℚ) → x ≤ℚ y → y <ℚ z → x <ℚ z
-≤ℚ-<ℚ_trans x y z h k = lt_by x z ((z -ℚ y) +ℚ (y -ℚ x)) (add-pos-nonneg _ _ (sub-pos y z k) (sub-nonneg x y h)) (ring₃ rat_ring (λ x y z. z ⊕ ⊖ x) (λ x y z. (z ⊕ ⊖ y) ⊕ (y ⊕ ⊖ x)) refl x y z)
+≤ℚ-<ℚ_trans x y z h k = lt_by x z ((z -ℚ y) +ℚ (y -ℚ x)) (add-pos-nonneg _ _ (sub-pos y z k) (sub-nonneg x y h))
+    (ring₃ rat_ring (λ x y z. z ⊕ ⊖ x) (λ x y z. (z ⊕ ⊖ y) ⊕ (y ⊕ ⊖ x)) refl x y z)
 
 pub ≤ℚ_of_lt : (x y : ℚ) → x <ℚ y → x ≤ℚ y
 ≤ℚ_of_lt x y h = across_le x y (let p = lt_across x y h in omega (arith, ints))

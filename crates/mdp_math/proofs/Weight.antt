@@ -73,7 +73,8 @@ weight_of-below d true m n h k c =
     linear 2 (λ p q. (lit (pos 1) ⊕ ⊖ q) ⊕ p) (λ p q. lit (pos 1)) (λ p q. known p q ∷ []) refl (pow_ℚ d n) (pow_ℚ d m) (pow_ℚ-antitone d m n h k l)
 
 -- the row of a number of rank n + 1, with d = eps / 2
-row_shrinks : (e d m w p q : ℚ) → e ≡ of_int (pos 2) *ℚ d → w +ℚ e *ℚ p ≤ℚ m → m ≤ℚ 1ℚ → q ≤ℚ d *ℚ p → 0ℚ ≤ℚ q → 0ℚ ≤ℚ d *ℚ p → w ≤ℚ (1ℚ -ℚ q) *ℚ (1ℚ -ℚ d *ℚ p)
+row_shrinks : (e d m w p q : ℚ) → e ≡ of_int (pos 2) *ℚ d → w +ℚ e *ℚ p ≤ℚ m → m ≤ℚ 1ℚ
+    → q ≤ℚ d *ℚ p → 0ℚ ≤ℚ q → 0ℚ ≤ℚ d *ℚ p → w ≤ℚ (1ℚ -ℚ q) *ℚ (1ℚ -ℚ d *ℚ p)
 row_shrinks e d m w p q twice row mass small hq hp =
     linear 6 (λ e d m w p q. w) (λ e d m w p q. (lit (pos 1) ⊕ ⊖ q) ⊗ (lit (pos 1) ⊕ ⊖ (d ⊗ p)))
     (λ e d m w p q. equal p (lit (pos 2) ⊗ d) e ∷ known (w ⊕ e ⊗ p) m ∷ known m (lit (pos 1)) ∷ known q (d ⊗ p) ∷ at_most q (lit (pos 0)) (d ⊗ p) ∷ []) refl

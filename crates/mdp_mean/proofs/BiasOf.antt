@@ -1,5 +1,6 @@
 -- The written bias solves the policy's equation where nodes are left, and is the inner one elsewhere.
-use Rattle.std.proofs.Common.{◌≡◌, ℕ, ◌<◌, inl, Bool, true, false, not, if◌then◌else◌, List, [], ◌∷◌, length, map, get_or, Some, Result, Ok, Err, refl, sym, ap, ap₂, ◌∙◌, subst, arith, pos, negsuc, zero-add}
+use Rattle.std.proofs.Common.{◌≡◌, ℕ, ◌<◌, inl, Bool, true, false, not, if◌then◌else◌, List, [], ◌∷◌, length, map, get_or}
+use Rattle.std.proofs.Common.{Some, Result, Ok, Err, refl, sym, ap, ap₂, ◌∙◌, subst, arith, pos, negsuc, zero-add}
 use Rattle.std.specs.List.{range_with_len}
 use Rattle.std.specs.Prelude.{slice_index, slice_index_or}
 use Rattle.std.proofs.lemmas.List.FromFn.{get_or-map-range_with_len, length-map-range_with_len}

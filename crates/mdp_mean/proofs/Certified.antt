@@ -57,7 +57,8 @@ module _ (dir : Dir) (m : Mdp) (r : ℕ) (has : HasReward m r) (gain_best : gain
     join-by j (Err e) d rules n h = absurd (ok_no_err a _ h)
     join-by j (Ok y) d rules n h = held-yes j.dir j.model j.name n (answer_of j y) a (checked j.dir j.model j.name (answer_of j y)) refl (rules y refl) h
 
-    steps-by : (o : outer.Answer) → outer.OuterEndSo dir q x.gains (Ok o) → (s : Result (List ℚ) WideTerm) → StepsEndSo q s → AfterSteps dir m r parts q x o s (Ok a) → IsMean dir m r a.gains a.bound a.bias a.spread a.choices
+    steps-by : (o : outer.Answer) → outer.OuterEndSo dir q x.gains (Ok o) → (s : Result (List ℚ) WideTerm)
+        → StepsEndSo q s → AfterSteps dir m r parts q x o s (Ok a) → IsMean dir m r a.gains a.bound a.bias a.spread a.choices
     steps-by o exits (Err w) ends h = absurd (ok_no_err a w h)
     steps-by o exits (Ok n) ends h =
         let of_model : IsOfModel q = record { m = m; parts = parts; model = has.model; ends = are; quotient = is } in
@@ -68,7 +69,8 @@ module _ (dir : Dir) (m : Mdp) (r : ℕ) (has : HasReward m r) (gain_best : gain
     outer-by (Err w) ends h = absurd (ok_no_err a w h)
     outer-by (Ok o) ends h = steps-by o ends h.0 h.1 h.2
 
-  inners-by : (parts : List (Option ℕ)) → AreEnds m parts → (x : Result Inners WideTerm) → InnersEndSo dir m parts r x → AfterInners dir m r parts x (Ok a) → IsMean dir m r a.gains a.bound a.bias a.spread a.choices
+  inners-by : (parts : List (Option ℕ)) → AreEnds m parts → (x : Result Inners WideTerm) → InnersEndSo dir m parts r x
+      → AfterInners dir m r parts x (Ok a) → IsMean dir m r a.gains a.bound a.bias a.spread a.choices
   inners-by parts are (Err w) ends h = absurd (ok_no_err a w h)
   inners-by parts are (Ok x) ends h = outer-by parts are x ends h.0 h.1 h.2.0 h.2.1 h.2.2
 

@@ -1,5 +1,6 @@
 -- The written excess is at least 0 and at least that of each exit, and the bound is the inner bias, moved by it for each step.
-use Rattle.std.proofs.Common.{◌≡◌, ℕ, zero, suc, ◌<◌, inl, inr, Bool, true, false, true≢false, if◌then◌else◌, List, [], ◌∷◌, length, get_or, Some, Result, Ok, Err, refl, sym, ap, ◌∙◌, subst, arith, pos, negsuc}
+use Rattle.std.proofs.Common.{◌≡◌, ℕ, zero, suc, ◌<◌, inl, inr, Bool, true, false, true≢false, if◌then◌else◌, List, [], ◌∷◌}
+use Rattle.std.proofs.Common.{length, get_or, Some, Result, Ok, Err, refl, sym, ap, ◌∙◌, subst, arith, pos, negsuc}
 use Rattle.std.specs.declared.cmp.Ordering.{Ordering}
 use Rattle.std.specs.declared.cmp.Ordering.TheVariants.{Less, Equal, Greater}
 use Rattle.mdp_math.specs.Rational.{ℚ, ◌+ℚ◌, ◌-ℚ◌, ◌*ℚ◌, ◌≤ℚ◌}

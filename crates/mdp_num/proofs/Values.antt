@@ -1,5 +1,6 @@
 -- What the value of a fraction is.
-use Rattle.std.proofs.Common.{◌≡◌, ℕ, ◌/◌, ◌<◌, ◌≤◌, ◌^◌, ◌-◌, Bool, false, ◌⊎◌, inl, inr, sym, ◌∙◌, ap, ap₂, subst, arith, ℤ, pos, ◌<ℤ◌, ◌*ℤ◌, int_div, unsigned_abs, List, [], ◌∷◌, Some, None}
+use Rattle.std.proofs.Common.{◌≡◌, ℕ, ◌/◌, ◌<◌, ◌≤◌, ◌^◌, ◌-◌, Bool, false, ◌⊎◌, inl, inr, sym, ◌∙◌, ap}
+use Rattle.std.proofs.Common.{ap₂, subst, arith, ℤ, pos, ◌<ℤ◌, ◌*ℤ◌, int_div, unsigned_abs, List, [], ◌∷◌, Some, None}
 use Rattle.std.proofs.lemmas.Int.{ints, fits_signed_from_abs}
 use Rattle.std.proofs.Common.{to_z, of_z, to_z-of_z}
 use mir.Syntax.{w128}

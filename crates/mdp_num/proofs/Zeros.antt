@@ -1,5 +1,6 @@
 -- Digits: the zeros at the end of two parts, and numbers up to a cap.
-use Rattle.std.proofs.Common.{◌≡◌, ℕ, suc, ◌+◌, ◌-◌, ◌*◌, ◌<◌, ◌≤◌, Bool, true, false, cond, eqb, List, [], ◌∷◌, ◌++◌, length, take, reverse, get_or, min, refl, sym, ap, ◌∙◌, inl, inr, arith}
+use Rattle.std.proofs.Common.{◌≡◌, ℕ, suc, ◌+◌, ◌-◌, ◌*◌, ◌<◌, ◌≤◌, Bool, true, false, cond, eqb, List, []}
+use Rattle.std.proofs.Common.{◌∷◌, ◌++◌, length, take, reverse, get_or, min, refl, sym, ap, ◌∙◌, inl, inr, arith}
 use Rattle.std.specs.List.{prefix_len, suffix_len}
 use Rattle.std.proofs.lemmas.List.{reverse-append, length-reverse, length-append, append-nil, take-append-le, take_more}
 use Rattle.std.proofs.lemmas.List.Folds.{prefix_len-append}

@@ -18,7 +18,8 @@ IsSign false sign = (sign ≡ []) ⊎ (sign ≡ 43 ∷ [])
 -- an `e` or `E`, a sign and digits, which may be missing
 abbrev pub IsExponent : Bool → List ℕ → List ℕ → Type 0
 IsExponent negative digits text =
-    ((negative ≡ false) × (digits ≡ []) × (text ≡ [])) ⊎ ((mark : ℕ) × (sign : List ℕ) × ((mark ≡ 101) ⊎ (mark ≡ 69)) × IsSign negative sign × IsDigits digits × (text ≡ mark ∷ (sign ++ digits)))
+    ((negative ≡ false) × (digits ≡ []) × (text ≡ [])) ⊎
+    ((mark : ℕ) × (sign : List ℕ) × ((mark ≡ 101) ⊎ (mark ≡ 69)) × IsSign negative sign × IsDigits digits × (text ≡ mark ∷ (sign ++ digits)))
 
 -- the text spells the parts
 abbrev pub Spells : Parts → List ℕ → Type 0

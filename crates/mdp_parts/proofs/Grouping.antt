@@ -30,7 +30,8 @@ pub record IsTaking (back : List (List ℕ)) (root number : ℕ) (old now : List
   pub kept : (s i : ℕ) → s < length old → rank_at old s ≡ Some i → rank_at now s ≡ Some i
   pub fresh : (s i : ℕ) → s < length old → rank_at old s ≡ None → rank_at now s ≡ Some i → i ≡ number
   pub root_taken : rank_at now root ≡ Some number
-  pub open_at : (s t : ℕ) → s < length old → t < length old → has_edge back s t ≡ true → rank_at old t ≡ None → rank_at now t ≡ Some number → is_among t layer ≡ false → rank_at now s ≡ None → ⊥
+  pub open_at : (s t : ℕ) → s < length old → t < length old → has_edge back s t ≡ true → rank_at old t ≡ None
+      → rank_at now t ≡ Some number → is_among t layer ≡ false → rank_at now s ≡ None → ⊥
   pub least : (set : ℕ → Bool) → set root ≡ true → ((s t : ℕ) → s < length old → t < length old → has_edge back s t ≡ true → set t ≡ true → set s ≡ true)
       → (s : ℕ) → s < length old → rank_at old s ≡ None → rank_at now s ≡ Some number → set s ≡ true
   pub listed : (t : ℕ) → is_among t layer ≡ true → (t < length old) × (rank_at old t ≡ None) × (rank_at now t ≡ Some number)

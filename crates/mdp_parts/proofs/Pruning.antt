@@ -76,8 +76,10 @@ module _ (m : Mdp) where
 
   -- ---- the choices that lead to a state
 
-  pub pred_at : (preds : List (List Pred)) → preds ≡ map (preds_to m) (range_with_len 0 (states_of m)) → (t : ℕ) → t < states_of m → (xs : List Pred) → xs ≡ get_or preds t [] → (i : ℕ) (d : Pred) → i < length xs
-      → (Pred.state (get_or xs i d) < states_of m) × (Pred.choice (get_or xs i d) < length (choices_at m (Pred.state (get_or xs i d)))) × (leads_to t (row_at m (Pred.state (get_or xs i d)) (Pred.choice (get_or xs i d))) ≡ true)
+  pub pred_at : (preds : List (List Pred)) → preds ≡ map (preds_to m) (range_with_len 0 (states_of m)) → (t : ℕ)
+      → t < states_of m → (xs : List Pred) → xs ≡ get_or preds t [] → (i : ℕ) (d : Pred) → i < length xs
+      → (Pred.state (get_or xs i d) < states_of m) × (Pred.choice (get_or xs i d) < length (choices_at m (Pred.state (get_or xs i d)))) ×
+      (leads_to t (row_at m (Pred.state (get_or xs i d)) (Pred.choice (get_or xs i d))) ≡ true)
   pred_at preds are t h xs e i d l =
       led-in m t (Pred.state (get_or xs i d)) (Pred.choice (get_or xs i d))
       (sym (ap (λ (ys : List Pred). is_one_of ys (Pred.state (get_or xs i d)) (Pred.choice (get_or xs i d))) (e ∙ list-is m preds are t h))

@@ -63,7 +63,8 @@ module _ (keys : List (Option ℕ)) (limit : ℕ) where
   module _ (n : ℕ) (given numbers : List (Option ℕ)) (count : ℕ) (a : IsRenumbering keys limit n given numbers count) where
     -- a state with the number o, where the numbers of the keys are those of `more`
     next_state : (more : List (Option ℕ)) (o : Option ℕ) (total : ℕ) → length more ≡ limit → is_numbered 0 (numbers ++ o ∷ []) ≡ true → count_from 0 (numbers ++ o ∷ []) ≡ total → total ≤ n + 1
-        → ((s : ℕ) → s < n → given_of given (rank_at keys s) ≡ given_of more (rank_at keys s)) → o ≡ given_of more (rank_at keys n) → ((k j : ℕ) → rank_at given k ≡ Some j → rank_at more k ≡ Some j)
+        → ((s : ℕ) → s < n → given_of given (rank_at keys s) ≡ given_of more (rank_at keys s))
+        → o ≡ given_of more (rank_at keys n) → ((k j : ℕ) → rank_at given k ≡ Some j → rank_at more k ≡ Some j)
         → ((k : ℕ) → rank_at keys n ≡ Some k → (j : ℕ) × (rank_at more k ≡ Some j)) → ((k l j : ℕ) → rank_at more k ≡ Some j → rank_at more l ≡ Some j → k ≡ l)
         → ((k j : ℕ) → rank_at more k ≡ Some j → j < total) → IsRenumbering keys limit (n + 1) more (numbers ++ o ∷ []) total
     next_state more o total size in_order counted few same is kept last differ below = record {

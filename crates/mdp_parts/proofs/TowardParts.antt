@@ -60,7 +60,8 @@ module _ (m : Mdp) (ok : IsMdp m) (ends : List (Option ℕ)) (are : AreEnds m en
 
 -- ---- the targets of one component alone
 
-module _ (m : Mdp) (ok : IsMdp m) (ends : List (Option ℕ)) (are : AreEnds m ends) (i : ℕ) (below : i < count_of ends) (target : List Bool) (some : (s : ℕ) × (s < states_of m) × (in_part ends i s ≡ true) × (marked target s ≡ true))
+module _ (m : Mdp) (ok : IsMdp m) (ends : List (Option ℕ)) (are : AreEnds m ends) (i : ℕ) (below : i < count_of ends)
+    (target : List Bool) (some : (s : ℕ) × (s < states_of m) × (in_part ends i s ≡ true) × (marked target s ≡ true))
     (first marks : List Bool) (ranks choices : List ℕ) (is : first ≡ map (target_in ends i target) (range_with_len 0 (states_of m))) (pass : IsTowardTargets m ends first marks ranks choices) where
   first-at : (s : ℕ) → marked first s ≡ target_in ends i target s
   first-at s = ap (λ (xs : List Bool). get_or xs s false) is ∙ elim (cases_lt s (states_of m)) as (λ _. get_or (map (target_in ends i target) (range_with_len 0 (states_of m))) s false ≡ target_in ends i target s) [

@@ -81,7 +81,8 @@ impl Losing {
         requires losing { AreLosing model.now allowed.old self.old.first.items self.old.lost.items }
         ensures pruned { OnOk result (IsPruned model.now allowed.old allowed.new) }
         ensures losing { OnOk result (AreLosing model.now allowed.new self.new.first.items self.new.lost.items) }
-        ensures less { OnOk result (total_below model.now (allowed_at allowed.new) (states_of model.now) + length self.new.lost.items ≤ total_below model.now (allowed_at allowed.old) (states_of model.now) + length self.old.lost.items) }
+        ensures less { OnOk result (total_below model.now (allowed_at allowed.new) (states_of model.now) + length
+            self.new.lost.items ≤ total_below model.now (allowed_at allowed.old) (states_of model.now) + length self.old.lost.items) }
     {
         for pred in preds.of(t) {
             if allowed.at(pred.state, pred.choice) {

@@ -71,7 +71,8 @@ looping = refl
 -- and state 1, a goal, has no change
 abbrev three_ways : Mdp
 three_ways = model_of
-    (with (0 ∷ []) (by (to 1 (number 1) ∷ []) ∷ by (to 1 (ratio (pos 1) 2) ∷ to 2 (ratio (pos 1) 2) ∷ []) ∷ by (to 1 (ratio (pos 1) 4) ∷ to 2 (ratio (pos 3) 4) ∷ []) ∷ by (to 2 (number 1) ∷ []) ∷ [])
+    (with (0 ∷ []) (by (to 1 (number 1) ∷ []) ∷ by (to 1 (ratio (pos 1) 2) ∷ to 2 (ratio (pos 1) 2) ∷ []) ∷ by
+    (to 1 (ratio (pos 1) 4) ∷ to 2 (ratio (pos 3) 4) ∷ []) ∷ by (to 2 (number 1) ∷ []) ∷ [])
     ∷ with (1 ∷ []) (by (to 1 (number 1) ∷ []) ∷ by (to 2 (number 1) ∷ []) ∷ [])
     ∷ stays 2 []
     ∷ [])

@@ -1,6 +1,7 @@
 -- What the written comparison says in exact numbers: a choice that improves a node is a candidate, it is better than the node's value, and no
 -- candidate is better than it; where none improves a node, no candidate is better than its value.
-use Rattle.std.proofs.Common.{◌≡◌, ℕ, zero, suc, ◌<◌, ◌≤◌, inl, inr, Bool, true, false, if◌then◌else◌, List, [], ◌∷◌, length, get_or, Option, Some, None, Ok, refl, sym, ◌∙◌, ap, subst, arith, pos}
+use Rattle.std.proofs.Common.{◌≡◌, ℕ, zero, suc, ◌<◌, ◌≤◌, inl, inr, Bool, true, false, if◌then◌else◌, List, []}
+use Rattle.std.proofs.Common.{◌∷◌, length, get_or, Option, Some, None, Ok, refl, sym, ◌∙◌, ap, subst, arith, pos}
 use Rattle.mdp_math.specs.Rational.{ℚ, ◌+ℚ◌, ◌≤ℚ◌, ◌<ℚ◌}
 use Rattle.mdp_math.specs.Written.{written_add, written_mul, written_compare, cmp_ℚ, ◌>>=◌}
 use Rattle.mdp_math.proofs.Written.{written_add-some, written_mul-some, written_compare-some}

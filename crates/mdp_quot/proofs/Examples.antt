@@ -84,7 +84,8 @@ splits = record {
   names = [];
   labels = [];
   states =
-      state (choice (entry 1 half ∷ entry 2 half ∷ []) ∷ choice (entry 0 half ∷ entry 1 quarter ∷ entry 2 quarter ∷ []) ∷ []) ∷ state (choice (entry 1 one ∷ []) ∷ []) ∷ state (choice (entry 2 one ∷ []) ∷ []) ∷ [];
+      state (choice (entry 1 half ∷ entry 2 half ∷ []) ∷ choice (entry 0 half ∷ entry 1 quarter ∷ entry 2 quarter ∷ []) ∷ [])
+      ∷ state (choice (entry 1 one ∷ []) ∷ []) ∷ state (choice (entry 2 one ∷ []) ∷ []) ∷ [];
 }
 
 abbrev split_parts : List (Option ℕ)

@@ -1,5 +1,6 @@
 -- The entries of a row to any set of targets add up within width.
-use Rattle.std.proofs.Common.{◌≡◌, inl, inr, ℕ, zero, suc, ◌+◌, ◌*◌, ◌/◌, ◌<◌, ◌≤◌, Bool, false, cond, List, [], ◌∷◌, length, take, get_or, refl, sym, ap, ap₂, ◌∙◌, subst, arith, ℤ, pos, ◌+ℤ◌, ◌*ℤ◌, ◌≤ℤ◌, unsigned_abs, Some}
+use Rattle.std.proofs.Common.{◌≡◌, inl, inr, ℕ, zero, suc, ◌+◌, ◌*◌, ◌/◌, ◌<◌, ◌≤◌, Bool, false, cond, List, [], ◌∷◌}
+use Rattle.std.proofs.Common.{length, take, get_or, refl, sym, ap, ap₂, ◌∙◌, subst, arith, ℤ, pos, ◌+ℤ◌, ◌*ℤ◌, ◌≤ℤ◌, unsigned_abs, Some}
 use Rattle.std.specs.Int.{◌∣◌}
 use Rattle.std.specs.List.{All}
 use Rattle.std.proofs.lemmas.Bool.{cases_Bool}
@@ -54,7 +55,8 @@ num_of : (x : ℚ) → IsPart x → (n : ℕ) × (x.num ≡ pos n) × (n ≤ x.d
 num_of x p =
     let z : pos 0 ≤ℤ x.num = nonneg x p.nonneg in
     let e : x.num ≡ pos (unsigned_abs x.num) = omega (arith, ints) in
-    let l : (x.num *ℤ pos 1) ≤ℤ (pos 1 *ℤ pos x.den) = subst (λ (k : ℕ). (x.num *ℤ pos k) ≤ℤ (pos 1 *ℤ pos x.den)) (den-of_int (pos 1)) (subst (λ (k : ℤ). (x.num *ℤ pos (1ℚ).den) ≤ℤ (k *ℤ pos x.den)) (num-of_int (pos 1)) (le_across x 1ℚ p.most)) in
+    let l : (x.num *ℤ pos 1) ≤ℤ (pos 1 *ℤ pos x.den) = subst (λ (k : ℕ). (x.num *ℤ pos k) ≤ℤ (pos 1 *ℤ pos x.den))
+    (den-of_int (pos 1)) (subst (λ (k : ℤ). (x.num *ℤ pos (1ℚ).den) ≤ℤ (k *ℤ pos x.den)) (num-of_int (pos 1)) (le_across x 1ℚ p.most)) in
     (unsigned_abs x.num, e, omega (arith, ints))
 
 -- a numerator of a part over a common denominator is at most that
@@ -102,7 +104,8 @@ module _ (x y : ℚ) (d : ℕ) (p : IsPart x) (q : IsPart y) (pd : 0 < d) (dx : 
   den-sum =
       let e : (x +ℚ y).den ≡ below / gcd (left.value + right.value) below = ap (λ (z : ℚ). z.den) sum_is ∙ den-ratio_signed false (left.value + right.value) below (common_den-pos x y) in
       subst (λ (k : ℕ). k ∣ d) (sym e)
-      (dvd_trans _ (subst (λ (k : ℕ). (below / gcd (left.value + right.value) below) ∣ k) (mul-div_cancel' (gcd (left.value + right.value) below) (gcd_is (left.value + right.value) below).1) (dvd-mul_left (below / gcd (left.value + right.value) below) (gcd (left.value + right.value) below))) below-divides)
+      (dvd_trans _ (subst (λ (k : ℕ). (below / gcd (left.value + right.value) below) ∣ k) (mul-div_cancel' (gcd (left.value + right.value) below) (gcd_is (left.value + right.value) below).1)
+      (dvd-mul_left (below / gcd (left.value + right.value) below) (gcd (left.value + right.value) below))) below-divides)
 
   pub sum_fits : d ≤ limit → written_add x y ≡ Some (x +ℚ y)
   unfolding below
@@ -115,7 +118,8 @@ module _ (x y : ℚ) (d : ℕ) (p : IsPart x) (q : IsPart y) (pd : 0 < d) (dx : 
       let e : ℚ.num (x +ℚ y) ≡ signed false (n / gcd n below) = ap (λ (z : ℚ). z.num) sum_is ∙ num-ratio_signed false n below (common_den-pos x y) in
       let hn = div-le_self n (gcd n below) in
       sym
-      (written_add-by x y (pos left.value) (pos right.value) (pos n) (pos below) (sym (ap narrow left.is ∙ narrow-kept (pos left.value) (omega (arith, hl, h)))) (sym (ap narrow right.is ∙ narrow-kept (pos right.value) (omega (arith, hr, h))))
+      (written_add-by x y (pos left.value) (pos right.value) (pos n) (pos below) (sym (ap narrow left.is ∙ narrow-kept (pos left.value) (omega (arith, hl, h))))
+      (sym (ap narrow right.is ∙ narrow-kept (pos right.value) (omega (arith, hr, h))))
       (sym (narrow-kept (pos n) (omega (arith, hl, hr, h)))) (sym (narrow-kept (pos below) (omega (arith, hb, h)))))
       ∙ ap narrow_ℚ (ap (λ (z : ℤ). ratio z below) (signed_self (pos n)) ∙ sym sum_is)
       ∙ narrow_ℚ-kept (x +ℚ y) (let k = ap unsigned_abs e in omega (arith, k, hn, hl, hr, h)) (omega (arith, hd, h))
@@ -129,10 +133,12 @@ record IsSmall (row : List Entry) (k : ℕ) : Type 0 where
   dens : EachAt row (λ e x. x.prob.den ∣ k)
 
 total-tail : (x : Entry) (row : List Entry) → 0ℚ ≤ℚ x.prob → sum_of (λ y. y.prob) row ≤ℚ sum_of (λ y. y.prob) (x ∷ row)
-total-tail x row h = subst (λ (z : ℚ). z ≤ℚ sum_of (λ (y : Entry). y.prob) (x ∷ row)) (zero-+ℚ (sum_of (λ (y : Entry). y.prob) row)) (add-le-add_ℚ 0ℚ x.prob (sum_of (λ (y : Entry). y.prob) row) (sum_of (λ (y : Entry). y.prob) row) h (≤ℚ_refl (sum_of (λ (y : Entry). y.prob) row)))
+total-tail x row h = subst (λ (z : ℚ). z ≤ℚ sum_of (λ (y : Entry). y.prob) (x ∷ row)) (zero-+ℚ (sum_of (λ (y : Entry). y.prob) row))
+    (add-le-add_ℚ 0ℚ x.prob (sum_of (λ (y : Entry). y.prob) row) (sum_of (λ (y : Entry). y.prob) row) h (≤ℚ_refl (sum_of (λ (y : Entry). y.prob) row)))
 
 total-head : (x : Entry) (row : List Entry) → All (λ y. 0ℚ ≤ℚ y.prob) row → x.prob ≤ℚ sum_of (λ y. y.prob) (x ∷ row)
-total-head x row h = subst (λ (z : ℚ). z ≤ℚ sum_of (λ (y : Entry). y.prob) (x ∷ row)) (+ℚ_comm x.prob 0ℚ ∙ zero-+ℚ x.prob) (add-le-add_ℚ x.prob x.prob 0ℚ (sum_of (λ (y : Entry). y.prob) row) (≤ℚ_refl x.prob) (sum_of-nonneg (λ (y : Entry). y.prob) row h))
+total-head x row h = subst (λ (z : ℚ). z ≤ℚ sum_of (λ (y : Entry). y.prob) (x ∷ row)) (+ℚ_comm x.prob 0ℚ ∙ zero-+ℚ x.prob)
+    (add-le-add_ℚ x.prob x.prob 0ℚ (sum_of (λ (y : Entry). y.prob) row) (≤ℚ_refl x.prob) (sum_of-nonneg (λ (y : Entry). y.prob) row h))
 
 small-tail : (x : Entry) (row : List Entry) (k : ℕ) → IsSmall (x ∷ row) k → IsSmall row k
 small-tail x row k h = record {
@@ -169,7 +175,8 @@ taken_part set row k i h = record {
   taken_le [] (suc i) z = ≤ℚ_refl 0ℚ
   taken_le (x ∷ row) zero z = sum_of-nonneg (λ (y : Entry). y.prob) (x ∷ row) z
   taken_le (x ∷ row) (suc i) z =
-      add-le-add_ℚ (cond (set x.target) x.prob 0ℚ) x.prob (mass_in set (take i row)) (sum_of (λ (y : Entry). y.prob) row) (part_le x (All-head (λ (y : Entry). 0ℚ ≤ℚ y.prob) x row z)) (taken_le row i (All-tail (λ (y : Entry). 0ℚ ≤ℚ y.prob) x row z))
+      add-le-add_ℚ (cond (set x.target) x.prob 0ℚ) x.prob (mass_in set (take i row)) (sum_of (λ (y : Entry). y.prob) row)
+      (part_le x (All-head (λ (y : Entry). 0ℚ ≤ℚ y.prob) x row z)) (taken_le row i (All-tail (λ (y : Entry). 0ℚ ≤ℚ y.prob) x row z))
 
 zero-den : (k : ℕ) → (0ℚ).den ∣ k
 zero-den k = subst (λ (n : ℕ). n ∣ k) (sym (den-of_int (pos 0))) (one-dvd k)
@@ -192,6 +199,10 @@ pub entry_fits : (set : ℕ → Bool) (row : List Entry) (i : ℕ) (e : Entry) �
     → written_add (mass_in set (take i row)) (Entry.prob (get_or row i e)) ≡ Some (mass_in set (take i row) +ℚ Entry.prob (get_or row i e))
 entry_fits set row i e d h l =
     let k : ℕ = row_den row in
-    let small : IsSmall row k = record { nonneg = λ j y z. ≤ℚ_of_lt 0ℚ (Entry.prob (get_or row j y)) (d.positive j y z); most = subst (λ (z : ℚ). z ≤ℚ 1ℚ) (sym d.total) (≤ℚ_refl 1ℚ); dens = row-divides row k (dvd_refl k) } in
+    let small : IsSmall row k = record {
+      nonneg = λ j y z. ≤ℚ_of_lt 0ℚ (Entry.prob (get_or row j y)) (d.positive j y z);
+      most = subst (λ (z : ℚ). z ≤ℚ 1ℚ) (sym d.total) (≤ℚ_refl 1ℚ);
+      dens = row-divides row k (dvd_refl k);
+    } in
     let w = entry_part row k i e small l in
     sum_fits (mass_in set (take i row)) (Entry.prob (get_or row i e)) k (taken_part set row k i small) w.0 (row_den-pos row) (taken-den set row k i (row_den-pos row) small) w.1 h

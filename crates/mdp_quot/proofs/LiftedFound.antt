@@ -134,9 +134,11 @@ module _ (m : Mdp) (parts : List (Option ℕ)) (as_many : length parts ≡ state
     lifted-stop inner e = ap (lifted_choice m parts q.nodes s inner) (sym e)
 
     module _ (inner k : ℕ) (takes : get_or outer (get_or q.nodes s 0) 0 ≡ suc k) (l : k < length (exits_at q (get_or q.nodes s 0))) where
-      pub lifted-exit : (exit_at m parts q.nodes (get_or q.nodes s 0) k).state ≡ s → (exit_at m parts q.nodes (get_or q.nodes s 0) k).choice ≡ lifted_choice m parts q.nodes s inner (get_or outer (get_or q.nodes s 0) 0)
+      pub lifted-exit : (exit_at m parts q.nodes (get_or q.nodes s 0) k).state ≡ s
+          → (exit_at m parts q.nodes (get_or q.nodes s 0) k).choice ≡ lifted_choice m parts q.nodes s inner (get_or outer (get_or q.nodes s 0) 0)
       lifted-exit same =
-          sym (ap (λ (b : Bool). cond b (exit_at m parts q.nodes (get_or q.nodes s 0) k).choice (choice_to m parts (exit_at m parts q.nodes (get_or q.nodes s 0) k).state s)) (eq-eqb (exit_at m parts q.nodes (get_or q.nodes s 0) k).state s same))
+          sym (ap (λ (b : Bool). cond b (exit_at m parts q.nodes (get_or q.nodes s 0) k).choice (choice_to m parts (exit_at m parts q.nodes (get_or q.nodes s 0) k).state s))
+          (eq-eqb (exit_at m parts q.nodes (get_or q.nodes s 0) k).state s same))
           ∙ ap (lifted_choice m parts q.nodes s inner) (sym takes)
 
       pub lifted-way : ((exit_at m parts q.nodes (get_or q.nodes s 0) k).state ≡ s → ⊥) → get_or ways s 0 ≡ lifted_choice m parts q.nodes s inner (get_or outer (get_or q.nodes s 0) 0)
@@ -148,7 +150,8 @@ module _ (m : Mdp) (parts : List (Option ℕ)) (as_many : length parts ≡ state
             by_part (inl same) = absurd (other (sym same))
             by_part (inr w) =
                 a.toward s w.0 k h low w.1 takes other
-                ∙ sym (ap (λ (b : Bool). cond b (exit_at m parts q.nodes (get_or q.nodes s 0) k).choice (choice_to m parts (exit_at m parts q.nodes (get_or q.nodes s 0) k).state s)) (ne_eqb (exit_at m parts q.nodes (get_or q.nodes s 0) k).state s other))
+                ∙ sym (ap (λ (b : Bool). cond b (exit_at m parts q.nodes (get_or q.nodes s 0) k).choice (choice_to m parts (exit_at m parts q.nodes (get_or q.nodes s 0) k).state s))
+                (ne_eqb (exit_at m parts q.nodes (get_or q.nodes s 0) k).state s other))
                 ∙ ap (lifted_choice m parts q.nodes s inner) (sym takes)
 
     -- as the code has it

@@ -1,5 +1,6 @@
 -- One more state has its node, and the nodes of all states.
-use Rattle.std.proofs.Common.{◌≡◌, ◌⊎◌, inl, inr, ℕ, ◌+◌, ◌<◌, ◌≤◌, Bool, true, nat_lt, cond, List, [], ◌∷◌, ◌++◌, length, get_or, map, replicate, refl, sym, ap, ◌∙◌, arith, Option, Some, None, IfSome}
+use Rattle.std.proofs.Common.{◌≡◌, ◌⊎◌, inl, inr, ℕ, ◌+◌, ◌<◌, ◌≤◌, Bool, true, nat_lt, cond, List, [], ◌∷◌}
+use Rattle.std.proofs.Common.{◌++◌, length, get_or, map, replicate, refl, sym, ap, ◌∙◌, arith, Option, Some, None, IfSome}
 use Rattle.std.proofs.lemmas.Bool.{cases_Bool, cases_eq, cases_lt, lt-ltb, le-ltb}
 use Rattle.std.proofs.lemmas.List.{get_or-map, map-append, get_or-replicate, length-replicate, get_or_past, get_or_default}
 use Rattle.std.specs.List.{All}
@@ -51,7 +52,8 @@ module _ (parts : List (Option ℕ)) (n : ℕ) (nodes : List ℕ) (components fi
         few = omega (arith, a.few);
         room = a.room;
         part = λ s h. elim (cases_eq s n) [
-          | inl same ↦ ap (λ k. get_or components (get_or (nodes ++ q ∷ []) k 0) None) same ∙ ap (λ k. get_or components k None) (new_at q ∙ sym w.3) ∙ a.part w.0 w.1 ∙ w.2 ∙ sym is ∙ ap (part_of parts) (sym same)
+          | inl same ↦ ap (λ k. get_or components (get_or (nodes ++ q ∷ []) k 0) None) same ∙ ap
+              (λ k. get_or components k None) (new_at q ∙ sym w.3) ∙ a.part w.0 w.1 ∙ w.2 ∙ sym is ∙ ap (part_of parts) (sym same)
           | inr other ↦ (let l : s < n = omega (arith, h, other) in ap (λ k. get_or components k None) (old_at q s l) ∙ a.part s l)
         ];
         given = λ j r e'. (let v = a.given j r e' in (v.0, omega (arith, v.1), v.2, old_at q v.0 v.1 ∙ v.3));
@@ -105,7 +107,8 @@ module _ (parts : List (Option ℕ)) (n : ℕ) (nodes : List ℕ) (components fi
     room = room ∙ a.room;
     part = λ s h. elim (cases_eq s n) [
       | inl same ↦
-          ap (λ k. get_or (components ++ part_of parts n ∷ []) (get_or (nodes ++ length components ∷ []) k 0) None) same ∙ ap (λ k. get_or (components ++ part_of parts n ∷ []) k None) (new_at (length components)) ∙ at_last components (part_of parts n) None
+          ap (λ k. get_or (components ++ part_of parts n ∷ []) (get_or (nodes ++ length components ∷ []) k 0) None) same ∙ ap
+          (λ k. get_or (components ++ part_of parts n ∷ []) k None) (new_at (length components)) ∙ at_last components (part_of parts n) None
           ∙ ap (part_of parts) (sym same)
       | inr other ↦
           (let l : s < n = omega (arith, h, other) in
@@ -121,7 +124,11 @@ module _ (parts : List (Option ℕ)) (n : ℕ) (nodes : List ℕ) (components fi
           ])
     ];
     single = λ s t hs ht none e. elim (cases_eq s n) [
-      | inl same ↦ (elim (cases_eq t n) [ inl last ↦ same ∙ sym last | inr also ↦ absurd (not_old t (omega (arith, ht, also)) (sym e ∙ ap (λ k. get_or (nodes ++ length components ∷ []) k 0) same ∙ new_at (length components))) ])
+      | inl same ↦ (elim (cases_eq t n) [
+        | inl last ↦ same ∙ sym last
+        | inr also ↦ absurd
+            (not_old t (omega (arith, ht, also)) (sym e ∙ ap (λ k. get_or (nodes ++ length components ∷ []) k 0) same ∙ new_at (length components)))
+      ])
       | inr other ↦
           (let ls : s < n = omega (arith, hs, other) in
           elim (cases_eq t n) [
@@ -152,7 +159,8 @@ module _ (parts : List (Option ℕ)) (n : ℕ) (nodes : List ℕ) (components fi
       by_number (inl none) = inr (λ e. some≢none j (sym e ∙ none))
       by_number (inr w) = elim (cases_eq w.0 j) [ inl same ↦ inl (w.1 ∙ ap Some same) | inr other ↦ inr (λ e. other (some-same w.0 j (sym w.1 ∙ e))) ]
 
-    from_more : (j r : ℕ) → get_or more j None ≡ Some r → (part_of parts n ≡ Some j) ⊎ (part_of parts n ≡ Some j → ⊥) → (s : ℕ) × (s < n + 1) × (part_of parts s ≡ Some j) × (get_or (nodes ++ length components ∷ []) s 0 ≡ r)
+    from_more : (j r : ℕ) → get_or more j None ≡ Some r → (part_of parts n ≡ Some j) ⊎ (part_of parts n ≡ Some j → ⊥)
+        → (s : ℕ) × (s < n + 1) × (part_of parts s ≡ Some j) × (get_or (nodes ++ length components ∷ []) s 0 ≡ r)
     from_more j r e (inl it) = (n, omega arith, it, new_at (length components) ∙ some-same (length components) r (sym (here j it) ∙ e))
     from_more j r e (inr not_it) = let v = a.given j r (sym (there j not_it) ∙ e) in (v.0, omega (arith, v.1), v.2, old_at (length components) v.0 v.1 ∙ v.3)
 

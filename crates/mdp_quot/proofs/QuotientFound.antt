@@ -1,5 +1,6 @@
 -- The parts that were found are the quotient, and it has the shape that each quotient keeps.
-use Rattle.std.proofs.Common.{◌≡◌, ℕ, suc, ◌<◌, ◌≤◌, ◌^◌, Bool, true, false, ◌==◌, nat_le, cond, List, [], ◌∷◌, length, get_or, map, refl, sym, ap, ap₂, ◌∙◌, subst, arith, Option, None}
+use Rattle.std.proofs.Common.{◌≡◌, ℕ, suc, ◌<◌, ◌≤◌, ◌^◌, Bool, true, false, ◌==◌, nat_le, cond, List, []}
+use Rattle.std.proofs.Common.{◌∷◌, length, get_or, map, refl, sym, ap, ap₂, ◌∙◌, subst, arith, Option, None}
 use Rattle.std.specs.List.{range_with_len, flat_map, All}
 use Rattle.std.proofs.lemmas.Bool.{ne_eqb, and_from, le-leb}
 use Rattle.std.proofs.lemmas.List.{length-map, get_or-map, get_or_default}
@@ -66,7 +67,8 @@ all_choices m =
 
 pub lists-choices : (m : Mdp) (parts : List (Option ℕ)) (nodes : List ℕ) (n : ℕ) (lists : List (List Pred)) → AreExits m parts nodes n (choices_below m (states_of m)) lists → All (All (IsChoice m)) lists
 lists-choices m parts nodes n lists a k d l =
-    subst (λ (xs : List Pred). All (IsChoice m) xs) (sym (a.each k (omega (arith, l, a.count))) ∙ get_or_default lists k [] d l) (All-filter (is_exit m parts nodes k) (IsChoice m) (choices_below m (states_of m)) (all_choices m))
+    subst (λ (xs : List Pred). All (IsChoice m) xs) (sym (a.each k (omega (arith, l, a.count))) ∙ get_or_default lists k [] d l)
+    (All-filter (is_exit m parts nodes k) (IsChoice m) (choices_below m (states_of m)) (all_choices m))
 
 -- ---- the quotient
 
@@ -76,7 +78,8 @@ module _ (m : Mdp) (parts : List (Option ℕ)) (nodes : List ℕ) (components fi
   exits_found =
       fill_by_all (exits_of m parts nodes) lists (nodes_in nodes) [] (x.count ∙ sym a.next) (λ k h. x.each k (omega (arith, h, a.next)))
 
-  pub quotient_found : (q : Quotient) → q.nodes ≡ nodes → q.components ≡ components → q.exits ≡ lists → q.rows ≡ map (λ k. rows_by m nodes k (get_or lists k [])) (range_with_len 0 (length lists)) → IsQuotient m parts q
+  pub quotient_found : (q : Quotient) → q.nodes ≡ nodes → q.components ≡ components → q.exits ≡ lists
+      → q.rows ≡ map (λ k. rows_by m nodes k (get_or lists k [])) (range_with_len 0 (length lists)) → IsQuotient m parts q
   quotient_found q en ec ee er = record {
     nodes = subst (λ (ns : List ℕ). AreNodes parts ns) (sym en) (all_numbered parts (states_of m) nodes components first a as_many);
     count = ap length ec ∙ sym a.next ∙ ap nodes_in (sym en);
@@ -88,7 +91,8 @@ module _ (m : Mdp) (parts : List (Option ℕ)) (nodes : List ℕ) (components fi
     rows_found =
         fill_by_all (node_rows m parts nodes) (map (λ k. rows_by m nodes k (get_or lists k [])) (range_with_len 0 (length lists))) (nodes_in nodes) []
         (length-map-range_with_len (λ k. rows_by m nodes k (get_or lists k [])) 0 (length lists) ∙ x.count ∙ sym a.next)
-        (λ k h. get_or-map-range_with_len (λ k. rows_by m nodes k (get_or lists k [])) 0 (length lists) k k [] (omega (arith, h, a.next, x.count)) (omega arith) ∙ ap (rows_by m nodes k) (x.each k (omega (arith, h, a.next))))
+        (λ k h. get_or-map-range_with_len (λ k. rows_by m nodes k (get_or lists k [])) 0 (length lists) k k []
+        (omega (arith, h, a.next, x.count)) (omega arith) ∙ ap (rows_by m nodes k) (x.each k (omega (arith, h, a.next))))
 
 -- ---- the shape
 
@@ -100,7 +104,8 @@ record HasRows (n : ℕ) (exits : List Pred) (rows : List (List Entry)) : Type 0
 no_exits : (m : Mdp) (nodes : List ℕ) (n k : ℕ) → k < n → HasRows n [] (loop_row k ∷ [])
 no_exits m nodes n k h = record { some = omega arith; each = omega arith; are = λ i l. (let z : 0 ≡ i = omega (arith, l) in subst (λ j. IsRow n (get_or (loop_row k ∷ []) j [])) z (loop_is n k h)) }
 
-rows_shape : (m : Mdp) (nodes : List ℕ) (n k : ℕ) (exits : List Pred) → k < n → ((x : Pred) → IsChoice m x → IsRow n (node_row m nodes x.state x.choice)) → All (IsChoice m) exits → HasRows n exits (rows_by m nodes k exits)
+rows_shape : (m : Mdp) (nodes : List ℕ) (n k : ℕ) (exits : List Pred) → k < n
+    → ((x : Pred) → IsChoice m x → IsRow n (node_row m nodes x.state x.choice)) → All (IsChoice m) exits → HasRows n exits (rows_by m nodes k exits)
 rows_shape m nodes n k [] h are all = no_exits m nodes n k h
 rows_shape m nodes n k (x ∷ exits) h are all =
     let e : (length (x ∷ exits) == 0) ≡ false = ne_eqb (length (x ∷ exits)) 0 (λ z. omega (arith, z)) in
@@ -139,7 +144,8 @@ module _ (m : Mdp) (ok : IsMdp m) (parts : List (Option ℕ)) (are : AreEnds m p
 
 -- ---- a row where it lies
 
-pub row_in-at : (node_of : List ℕ) (xs : List Node) (q i : ℕ) (x : Node) (r : Row) → q < length xs → x ≡ get_or xs q x → i < length x.rows.now → r ≡ get_or x.rows.now i r → row_in r ≡ row_of (quotient_in node_of xs) q i
+pub row_in-at : (node_of : List ℕ) (xs : List Node) (q i : ℕ) (x : Node) (r : Row) → q < length xs → x ≡ get_or xs q x
+    → i < length x.rows.now → r ≡ get_or x.rows.now i r → row_in r ≡ row_of (quotient_in node_of xs) q i
 row_in-at node_of xs q i x r h is l at =
     ap row_in at ∙ sym (get_or-map row_in x.rows.now i r [] l) ∙ ap (λ (y : Node). get_or (rows_in y) i []) is ∙ ap (λ (rows : List (List Entry)). get_or rows i []) (sym (get_or-map rows_in xs q x [] h))
 

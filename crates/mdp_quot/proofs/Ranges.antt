@@ -55,7 +55,8 @@ first_is p a n x xs up h l = elim (cases_eq x a) [
 later : (p : ℕ → Bool) (a n : ℕ) (xs : List ℕ) → p a ≡ false → AreThose p a (suc n) xs → AreThose p (a + 1) n xs
 later p a n xs out h = record {
   once = λ q l u e. h.once q (omega (arith, l)) (omega (arith, u)) e;
-  within = λ q l. (let w = h.within q l in elim (cases_eq q a) as (λ _. (a + 1 ≤ q) × (q < a + 1 + n) × (p q ≡ true)) [ inl same ↦ absurd (false≢true (sym out ∙ ap p (sym same) ∙ w.2)) | inr other ↦ (omega (arith, w.0, other), omega (arith, w.1), w.2) ]);
+  within = λ q l. (let w = h.within q l in elim (cases_eq q a) as (λ _. (a + 1 ≤ q) × (q < a + 1 + n) × (p q ≡ true))
+      [ inl same ↦ absurd (false≢true (sym out ∙ ap p (sym same) ∙ w.2)) | inr other ↦ (omega (arith, w.0, other), omega (arith, w.1), w.2) ]);
 }
 
 rest : (p : ℕ → Bool) (a n : ℕ) (xs : List ℕ) → p a ≡ true → AreThose p a (suc n) (a ∷ xs) → AreThose p (a + 1) n xs

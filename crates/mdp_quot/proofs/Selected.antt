@@ -35,7 +35,8 @@ module _ (q : Quotient) (s : IsShaped q) (chosen : List ℕ) (c : IsChosen q cho
   pub chosen_are_rows : AreRows (chosen_rows q chosen)
   chosen_are_rows k d l =
       let h : k < length q.exits = omega (arith, l, length-chosen_rows) in
-      subst (λ (row : List Entry). IsRow (length (chosen_rows q chosen)) row) (sym (chosen_rows-at k d h)) (subst (λ n. IsRow n (row_of q k (get_or chosen k 0))) (sym length-chosen_rows) (s.are_rows k (get_or chosen k 0) h (chosen-in k h)))
+      subst (λ (row : List Entry). IsRow (length (chosen_rows q chosen)) row) (sym (chosen_rows-at k d h))
+      (subst (λ n. IsRow n (row_of q k (get_or chosen k 0))) (sym length-chosen_rows) (s.are_rows k (get_or chosen k 0) h (chosen-in k h)))
 
 -- ---- in the quotient of a model
 

@@ -1,5 +1,6 @@
 -- The sums of a row's entries to each node: none yet, one entry more, and the merged row that they make.
-use Rattle.std.proofs.Common.{◌≡◌, ◌≢◌, ◌⊎◌, inl, inr, ℕ, zero, suc, ◌+◌, ◌<◌, ◌≤◌, Bool, true, false, not, ◌==◌, cond, List, [], ◌∷◌, ◌++◌, length, take, get_or, map, filter, refl, sym, ap, ap₂, ◌∙◌, subst, arith, Some, None, is_some}
+use Rattle.std.proofs.Common.{◌≡◌, ◌≢◌, ◌⊎◌, inl, inr, ℕ, zero, suc, ◌+◌, ◌<◌, ◌≤◌, Bool, true, false, not, ◌==◌, cond, List}
+use Rattle.std.proofs.Common.{[], ◌∷◌, ◌++◌, length, take, get_or, map, filter, refl, sym, ap, ap₂, ◌∙◌, subst, arith, Some, None, is_some}
 use Rattle.std.specs.List.{range_with_len, All}
 use Rattle.std.specs.List.Sorted.{IsNonDecreasing}
 use Rattle.std.specs.Prelude.{slice_set}
@@ -59,7 +60,8 @@ no_sums n node sums e zeros = record { count = e; each = λ q h. zeros q h; belo
 -- ---- one more entry
 
 pub mass-more : (set : ℕ → Bool) (row : List Entry) (x : Entry) → mass_in set (row ++ x ∷ []) ≡ mass_in set row +ℚ cond (set x.target) x.prob 0ℚ
-mass-more set row x = sum_of-append (λ (y : Entry). cond (set y.target) y.prob 0ℚ) row (x ∷ []) ∙ ap (λ (z : ℚ). mass_in set row +ℚ z) (+ℚ_comm (cond (set x.target) x.prob 0ℚ) 0ℚ ∙ zero-+ℚ (cond (set x.target) x.prob 0ℚ))
+mass-more set row x = sum_of-append (λ (y : Entry). cond (set y.target) y.prob 0ℚ) row (x ∷ []) ∙ ap
+    (λ (z : ℚ). mass_in set row +ℚ z) (+ℚ_comm (cond (set x.target) x.prob 0ℚ) 0ℚ ∙ zero-+ℚ (cond (set x.target) x.prob 0ℚ))
 
 not_le : (x : ℚ) → 0ℚ <ℚ x → le_ℚ x 0ℚ ≡ false
 not_le x h = elim (cases_Bool (le_ℚ x 0ℚ)) [ inl e ↦ absurd (clash_ℚ 0ℚ x h (le_of_test x 0ℚ e)) | inr e ↦ e ]
@@ -74,7 +76,8 @@ module _ (node : ℕ → ℕ) (row : List Entry) (x : Entry) (nonneg : All (λ y
       ∙ +ℚ_comm (mass_at node row q) 0ℚ ∙ zero-+ℚ (mass_at node row q)
 
   here-positive : le_ℚ (mass_at node (row ++ x ∷ []) (node x.target)) 0ℚ ≡ false
-  here-positive = not_le (mass_at node (row ++ x ∷ []) (node x.target)) (subst (λ (z : ℚ). 0ℚ <ℚ z) (+ℚ_comm x.prob (mass_at node row (node x.target)) ∙ sym mass-here) (add-pos-nonneg x.prob (mass_at node row (node x.target)) positive (mass-nonneg (λ t. node t == node x.target) row nonneg)))
+  here-positive = not_le (mass_at node (row ++ x ∷ []) (node x.target)) (subst (λ (z : ℚ). 0ℚ <ℚ z) (+ℚ_comm x.prob (mass_at node row (node x.target)) ∙ sym mass-here)
+      (add-pos-nonneg x.prob (mass_at node row (node x.target)) positive (mass-nonneg (λ t. node t == node x.target) row nonneg)))
 
   pub sums_more : (n : ℕ) (sums new : List ℚ) (seen more : List ℕ) → AreSums n node row sums seen → node x.target < n
       → new ≡ slice_set sums (node x.target) (value_at sums (node x.target) +ℚ x.prob)
@@ -82,10 +85,11 @@ module _ (node : ℕ → ℕ) (row : List Entry) (x : Entry) (nonneg : All (λ y
       → (value_at sums (node x.target) ≢ 0ℚ → more ≡ seen) → AreSums n node (row ++ x ∷ []) new more
   sums_more n sums new seen more a low is first later = record {
     count = ap length is ∙ length-set sums (node x.target) (value_at sums (node x.target) +ℚ x.prob) ∙ a.count;
-    each = λ q h. ap (λ (zs : List ℚ). value_at zs q) is ∙ (elim (cases_eq (node x.target) q) as (λ _. value_at (slice_set sums (node x.target) (value_at sums (node x.target) +ℚ x.prob)) q ≡ mass_at node (row ++ x ∷ []) q) [
-      | inl same ↦ subst (λ k. value_at (slice_set sums (node x.target) (value_at sums (node x.target) +ℚ x.prob)) k ≡ mass_at node (row ++ x ∷ []) k) same here
-      | inr other ↦ get_or-set_other sums (node x.target) q (value_at sums (node x.target) +ℚ x.prob) 0ℚ (λ e. other (sym e)) ∙ a.each q h ∙ sym (mass-there q other)
-    ]);
+    each = λ q h. ap (λ (zs : List ℚ). value_at zs q) is
+        ∙ (elim (cases_eq (node x.target) q) as (λ _. value_at (slice_set sums (node x.target) (value_at sums (node x.target) +ℚ x.prob)) q ≡ mass_at node (row ++ x ∷ []) q) [
+          | inl same ↦ subst (λ k. value_at (slice_set sums (node x.target) (value_at sums (node x.target) +ℚ x.prob)) k ≡ mass_at node (row ++ x ∷ []) k) same here
+          | inr other ↦ get_or-set_other sums (node x.target) q (value_at sums (node x.target) +ℚ x.prob) 0ℚ (λ e. other (sym e)) ∙ a.each q h ∙ sym (mass-there q other)
+        ]);
     below = elim cases [
       | inl empty ↦ subst (λ (qs : List ℕ). All (λ q. q < n) qs) (sym (more-first empty)) (All-push (λ q. q < n) seen (node x.target) a.below low)
       | inr full ↦ subst (λ (qs : List ℕ). All (λ q. q < n) qs) (sym (more-later full)) a.below
@@ -102,7 +106,8 @@ module _ (node : ℕ → ℕ) (row : List Entry) (x : Entry) (nonneg : All (λ y
     cases = cases_Bool (le_ℚ (mass_at node row (node x.target)) 0ℚ)
 
     more-first : le_ℚ (mass_at node row (node x.target)) 0ℚ ≡ true → more ≡ seen ++ node x.target ∷ []
-    more-first empty = first (a.each (node x.target) low ∙ ≤ℚ_antisymm (mass_at node row (node x.target)) 0ℚ (le_of_test (mass_at node row (node x.target)) 0ℚ empty) (mass-nonneg (λ t. node t == node x.target) row nonneg))
+    more-first empty = first (a.each (node x.target) low ∙ ≤ℚ_antisymm (mass_at node row (node x.target)) 0ℚ
+        (le_of_test (mass_at node row (node x.target)) 0ℚ empty) (mass-nonneg (λ t. node t == node x.target) row nonneg))
 
     more-later : le_ℚ (mass_at node row (node x.target)) 0ℚ ≡ false → more ≡ seen
     more-later full = later (λ z. ne-zero_of_pos (mass_at node row (node x.target)) (gt_of_test (mass_at node row (node x.target)) 0ℚ full) (sym (a.each (node x.target) low) ∙ z))
@@ -183,7 +188,8 @@ module _ (n : ℕ) (node : ℕ → ℕ) (ts : List ℕ) (ps : List ℚ) (i : ℕ
       let x : Entry = record { target = 0; prob = 0ℚ } in
       let fits = entry_fits (λ t. node t == node (get_or ts i 0)) (entries ts ps) i x d width (let l = length-entries ts ps e in omega (arith, l, h)) in
       let is : Entry.prob (get_or (entries ts ps) i x) ≡ get_or ps i 0ℚ = ap (λ (y : Entry). y.prob) (entry_at ts ps i x e h) in
-      some≢none _ (sym fits ∙ ap (written_add (mass_at node (take i (entries ts ps)) (node (get_or ts i 0)))) is ∙ ap (λ (z : ℚ). written_add z (get_or ps i 0ℚ)) (sym (a.each (node (get_or ts i 0)) low)) ∙ wide)
+      some≢none _ (sym fits ∙ ap (written_add (mass_at node (take i (entries ts ps)) (node (get_or ts i 0)))) is
+      ∙ ap (λ (z : ℚ). written_add z (get_or ps i 0ℚ)) (sym (a.each (node (get_or ts i 0)) low)) ∙ wide)
 
   pub entry_more : (sums new : List ℚ) (seen more : List ℕ) → length ts ≡ length ps → IsDistribution (entries ts ps) → AreSums n node (take i (entries ts ps)) sums seen
       → i < length ts → node (get_or ts i 0) < n
@@ -195,7 +201,8 @@ module _ (n : ℕ) (node : ℕ → ℕ) (ts : List ℕ) (ps : List ℚ) (i : ℕ
       let l : i < length (entries ts ps) = (let k = length-entries ts ps e in omega (arith, k, h)) in
       let positive : 0ℚ <ℚ get_or ps i 0ℚ = subst (λ (y : Entry). 0ℚ <ℚ y.prob) (entry_at ts ps i x e h) (d.positive i x l) in
       subst (λ (row : List Entry). AreSums n node row new more) (sym (take_more (entries ts ps) i x l ∙ ap (λ (y : Entry). take i (entries ts ps) ++ y ∷ []) (entry_at ts ps i x e h)))
-      (sums_more node (take i (entries ts ps)) x (All-take (λ (y : Entry). 0ℚ ≤ℚ y.prob) i (entries ts ps) (λ k y z. ≤ℚ_of_lt 0ℚ (Entry.prob (get_or (entries ts ps) k y)) (d.positive k y z))) positive n sums new seen more a low is first later)
+      (sums_more node (take i (entries ts ps)) x (All-take (λ (y : Entry). 0ℚ ≤ℚ y.prob) i (entries ts ps)
+      (λ k y z. ≤ℚ_of_lt 0ℚ (Entry.prob (get_or (entries ts ps) k y)) (d.positive k y z))) positive n sums new seen more a low is first later)
 
 -- ---- behind a row
 
@@ -208,7 +215,8 @@ module _ (n : ℕ) (node : ℕ → ℕ) (row : List Entry) (sums : List ℚ) (se
   sorted-row d h = subst (λ (xs : List Entry). IsRow n xs) (sym (merged_is n node row sums seen sorted a moved up)) (merged_row n node row d h)
 
   -- sums of 0 at these nodes are all sums
-  pub sums_cleared : (new : List ℚ) → length new ≡ length sums → All (λ x. 0ℚ ≤ℚ x.prob) row → ((k : ℕ) → k < length sorted → value_at new (get_or sorted k 0) ≡ 0ℚ) → ((q : ℕ) → value_at sums q ≡ 0ℚ → value_at new q ≡ 0ℚ) → IsClear n new []
+  pub sums_cleared : (new : List ℚ) → length new ≡ length sums → All (λ x. 0ℚ ≤ℚ x.prob) row
+      → ((k : ℕ) → k < length sorted → value_at new (get_or sorted k 0) ≡ 0ℚ) → ((q : ℕ) → value_at sums q ≡ 0ℚ → value_at new q ≡ 0ℚ) → IsClear n new []
   sums_cleared new e nonneg cleared same = record { count = e ∙ a.count; zeros = zero_at; none = refl } where
     zero_in : (q : ℕ) → q < n → value_at new q ≡ 0ℚ
     zero_in q h = elim (cases_Bool (le_ℚ (mass_at node row q) 0ℚ)) as (λ _. value_at new q ≡ 0ℚ) [

@@ -71,7 +71,8 @@ fn push_state(
     requires state { s < states_of model.now }
     requires nodes { length nodes.now ≡ states_of model.now }
     requires below { All (λ k. k < length lists.old.items) nodes.now }
-    ensures { OnOk result ((choices : List Pred) → AreExits model.now ends.now.parts nodes.now (length lists.old.items) choices lists.old.items → AreExits model.now ends.now.parts nodes.now (length lists.old.items) (choices ++ choices_of model.now s) lists.new.items) }
+    ensures { OnOk result ((choices : List Pred) → AreExits model.now ends.now.parts nodes.now (length lists.old.items) choices lists.old.items
+        → AreExits model.now ends.now.parts nodes.now (length lists.old.items) (choices ++ choices_of model.now s) lists.new.items) }
 {
     let node = nodes[s as usize] as usize;
     for c in 0..model.choices(s) {

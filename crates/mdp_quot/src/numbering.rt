@@ -52,7 +52,8 @@ impl Numbering {
     fn add(&mut self, part: Option<u32>) -> Result<(), AllocError>
         requires part { IfSome part (λ i. i < length self.old.first.items) }
         requires few { length self.old.components.items < 2 ^ 32 }
-        ensures { OnOk result ((parts : List (Option ℕ)) (n : ℕ) → IsNumbering parts n self.old.nodes.items self.old.components.items self.old.first.items → part ≡ part_of parts n → IsNumbering parts (n + 1) self.new.nodes.items self.new.components.items self.new.first.items) }
+        ensures { OnOk result ((parts : List (Option ℕ)) (n : ℕ) → IsNumbering parts n self.old.nodes.items self.old.components.items self.old.first.items
+            → part ≡ part_of parts n → IsNumbering parts (n + 1) self.new.nodes.items self.new.components.items self.new.first.items) }
     {
         match self.known(part) {
             Some(node) => self.nodes.push(node)?,

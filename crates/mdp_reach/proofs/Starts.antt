@@ -81,7 +81,8 @@ module _ (test : ℕ → Bool) where
   first_true-le zero = omega arith
   first_true-le (suc k) = at_most_by (test (first_true test k)) k (first_true test k) (first_true-le k)
 
-  least_by : (b : Bool) (k j i : ℕ) → test i ≡ b → test j ≡ true → j ≤ suc k → i ≤ k → (j ≤ k → (i ≤ j) × (test i ≡ true)) → ((if b then i else suc k) ≤ j) × (test (if b then i else suc k) ≡ true)
+  least_by : (b : Bool) (k j i : ℕ) → test i ≡ b → test j ≡ true → j ≤ suc k → i ≤ k
+      → (j ≤ k → (i ≤ j) × (test i ≡ true)) → ((if b then i else suc k) ≤ j) × (test (if b then i else suc k) ≡ true)
   least_by true k j i e t l m h = (least_of (le_or (suc k) j), e)
     where
       least_of : (suc k ≤ j) ⊎ (j < suc k) → i ≤ j

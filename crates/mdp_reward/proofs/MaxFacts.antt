@@ -1,6 +1,7 @@
 -- What the passes of the greatest reward say: goals are finite, each choice of a transient state leads to finite states alone and to a smaller rank,
 -- and the policy at infinite states leads, with some chance, to states that it never leaves.
-use Rattle.std.proofs.Common.{◌≡◌, ℕ, zero, suc, ◌<◌, ◌⊎◌, inl, inr, Bool, true, false, not, ◌||◌, ◌&&◌, nat_lt, List, length, refl, sym, ◌∙◌, ap, subst, arith, zero-add, if◌then◌else◌}
+use Rattle.std.proofs.Common.{◌≡◌, ℕ, zero, suc, ◌<◌, ◌⊎◌, inl, inr, Bool, true, false, not, ◌||◌}
+use Rattle.std.proofs.Common.{◌&&◌, nat_lt, List, length, refl, sym, ◌∙◌, ap, subst, arith, zero-add, if◌then◌else◌}
 use Rattle.std.specs.List.{All, Any}
 use Rattle.std.specs.Prelude.{slice_index}
 use Rattle.std.proofs.lemmas.List.FromFn.{get_or-map-range_with_len, length-map-range_with_len}

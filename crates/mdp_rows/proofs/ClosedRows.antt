@@ -4,7 +4,8 @@ pub mod Parts
 pub mod Quotients
 pub mod Scaling
 pub mod Within
-use Rattle.std.proofs.Common.{◌≡◌, ◌≢◌, ℕ, ◌+◌, ◌*◌, ◌/◌, ◌<◌, ◌≤◌, Bool, true, false, ◌&&◌, T, lt-ltb, le-ltb, eqb, eq-eqb, List, pos, refl, sym, ap, subst, ◌∙◌, arith, if◌then◌else◌}
+use Rattle.std.proofs.Common.{◌≡◌, ◌≢◌, ℕ, ◌+◌, ◌*◌, ◌/◌, ◌<◌, ◌≤◌, Bool, true, false, ◌&&◌, T}
+use Rattle.std.proofs.Common.{lt-ltb, le-ltb, eqb, eq-eqb, List, pos, refl, sym, ap, subst, ◌∙◌, arith, if◌then◌else◌}
 use Rattle.std.specs.Prelude.{Result, Ok, Err}
 use Rattle.mdp_math.specs.Rational.{ℚ, ratio, le_ℚ, ◌≤ℚ◌}
 use Rattle.mdp_math.proofs.Order.{ratio-le, le-ratio}

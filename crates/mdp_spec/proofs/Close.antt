@@ -50,7 +50,8 @@ at_leaf z h w is le weight =
     z h w half is le (sym half_twice) two-nonneg weight
 
 -- x is what the row weighs of the bounds less the values, y of the weights, v of the values; r is the rate, and q its power so far
-at_node : (x y w v z r q : ℚ) → x ≡ (q *ℚ of_int (pos 2)) *ℚ y -ℚ v → 0ℚ ≤ℚ q *ℚ of_int (pos 2) → y ≤ℚ r *ℚ w → z ≤ℚ v → neg_ℚ 1ℚ *ℚ 0ℚ +ℚ x ≤ℚ ((r *ℚ q) *ℚ of_int (pos 2)) *ℚ w -ℚ z
+at_node : (x y w v z r q : ℚ) → x ≡ (q *ℚ of_int (pos 2)) *ℚ y -ℚ v → 0ℚ ≤ℚ q *ℚ of_int (pos 2)
+    → y ≤ℚ r *ℚ w → z ≤ℚ v → neg_ℚ 1ℚ *ℚ 0ℚ +ℚ x ≤ℚ ((r *ℚ q) *ℚ of_int (pos 2)) *ℚ w -ℚ z
 at_node x y w v z r q is nonneg shrinks le =
     linear 7 (λ x y w v z r q. (⊖ (lit (pos 1)) ⊗ lit (pos 0)) ⊕ x) (λ x y w v z r q. ((r ⊗ q) ⊗ lit (pos 2)) ⊗ w ⊕ ⊖ z)
     (λ x y w v z r q. equal (lit (pos 1)) x ((q ⊗ lit (pos 2)) ⊗ y ⊕ ⊖ v) ∷ at_most (q ⊗ lit (pos 2)) y (r ⊗ w) ∷ known z v ∷ []) refl x y w v z r q is nonneg shrinks le

@@ -89,7 +89,8 @@ module _ (m : Mdp) (goals : List Bool) (known_ : IsMdp m) (P : ℕ → ℕ → T
     (no_goal : (s : ℕ) → s < states_of m → is_marked goals s ≡ true → inside s ≡ false)
     (at_choice : (s c : ℕ) → s < states_of m → inside s ≡ true → P s c → c < length (choices_at m s)
     → Any (λ y. (inside y.target ≡ true) × (rank y.target < rank s)) (row_at m s c) ⊎ All (λ y. (inside y.target ≡ true) × (rank y.target ≡ rank s)) (row_at m s c)) where
-  pub misses_by_ranks : (s : ℕ) → s < states_of m → inside s ≡ true → (q : ℕ) × (1 ≤ q) × ((n u : ℕ) (t : Tree) → 1 ≤ u → Keeps m P u n t s → hit m goals u n t s +ℚ ratio (pos 1) q ≤ℚ 1ℚ)
+  pub misses_by_ranks : (s : ℕ) → s < states_of m → inside s ≡ true
+      → (q : ℕ) × (1 ≤ q) × ((n u : ℕ) (t : Tree) → 1 ≤ u → Keeps m P u n t s → hit m goals u n t s +ℚ ratio (pos 1) q ≤ℚ 1ℚ)
   misses_by_ranks s h i =
       let small = smallest_prob m known_ in
       let p : 0ℚ ≤ℚ small.0 = ≤ℚ_of_lt 0ℚ small.0 small.1 in (

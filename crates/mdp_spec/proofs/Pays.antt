@@ -71,7 +71,8 @@ module _ (m : Mdp) (r : ℕ) (goals : List Bool) (u : ℕ) (known_ : IsMdp m) (h
       n t s ok)
 
 -- how near to 1 a hit has to be, for `most` on the other paths to come to at most 1/k
-pub near_enough : (most : ℚ) (k : ℕ) → 0ℚ ≤ℚ most → 1 ≤ k → (q : ℕ) × (1 ≤ q) × ((x p h : ℚ) → x ≤ℚ p +ℚ most *ℚ (1ℚ -ℚ h) → 1ℚ ≤ℚ h +ℚ ratio (pos 1) q → x ≤ℚ p +ℚ ratio (pos 1) k)
+pub near_enough : (most : ℚ) (k : ℕ) → 0ℚ ≤ℚ most → 1 ≤ k
+    → (q : ℕ) × (1 ≤ q) × ((x p h : ℚ) → x ≤ℚ p +ℚ most *ℚ (1ℚ -ℚ h) → 1ℚ ≤ℚ h +ℚ ratio (pos 1) q → x ≤ℚ p +ℚ ratio (pos 1) k)
 near_enough most k hm hk =
     let positive : 0ℚ <ℚ most +ℚ 1ℚ = linear_lt 1 (λ c. lit (pos 0)) (λ c. c ⊕ lit (pos 1)) (λ c. lit (pos 1)) (λ c. known (lit (pos 0)) c ∷ []) refl most one-pos hm in
     let hi : 0ℚ <ℚ inv_ℚ (most +ℚ 1ℚ) = inv-pos (most +ℚ 1ℚ) positive in

@@ -49,7 +49,8 @@ abbrev pub row_weigh : (ℕ → ℚ) → List Entry → ℚ
 row_weigh z row = weigh (λ (y : Entry). y.target) (λ (y : Entry). y.prob) z row
 
 -- a sum over a row of numbers that are at most z at the entries' targets
-pub row_sum-le : (k : ℕ) (row : List Entry) (f : ℕ → Entry → ℚ) (z : ℕ → ℚ) → IsRow k row → EachAt row (λ e y. f e y ≤ℚ z y.target) → sum_at row (λ e y. y.prob *ℚ f e y) ≤ℚ row_weigh z row
+pub row_sum-le : (k : ℕ) (row : List Entry) (f : ℕ → Entry → ℚ) (z : ℕ → ℚ) → IsRow k row
+    → EachAt row (λ e y. f e y ≤ℚ z y.target) → sum_at row (λ e y. y.prob *ℚ f e y) ≤ℚ row_weigh z row
 row_sum-le k row f z known each =
     subst (λ (w : ℚ). sum_at row (λ e y. y.prob *ℚ f e y) ≤ℚ w) (sum_at-sum_of row (λ y. y.prob *ℚ z y.target))
     (sum_at-le row (λ e y. y.prob *ℚ f e y) (λ e y. y.prob *ℚ z y.target)

@@ -90,7 +90,8 @@ average-add m u weights gain more f g s =
     (sum_at x.row (λ e y. y.prob *ℚ g c e y))
     ∙ ap (λ (w : ℚ). share u weights c *ℚ ((gain x +ℚ more x) +ℚ w)) (sym (row_added x.row (f c) (g c)))))
 
-pub goes-scale : (m : Mdp) (u : ℕ) (ends : ℕ → Bool) (a : ℚ) (gain : Choice → ℚ) (V : ℕ → Tree → ℕ → ℚ) → GoesBy m u ends gain V → GoesBy m u ends (λ x. a *ℚ gain x) (λ n t s. a *ℚ V n t s)
+pub goes-scale : (m : Mdp) (u : ℕ) (ends : ℕ → Bool) (a : ℚ) (gain : Choice → ℚ) (V : ℕ → Tree → ℕ → ℚ)
+    → GoesBy m u ends gain V → GoesBy m u ends (λ x. a *ℚ gain x) (λ n t s. a *ℚ V n t s)
 goes-scale m u ends a gain V goes n weights kids s e =
     ap (λ (w : ℚ). a *ℚ w) (goes n weights kids s e) ∙ average-scale m u weights a gain (λ c e y. V n (kids c e) y.target) s
 

@@ -1,6 +1,7 @@
 -- A subsystem of a model is a model: it has the states of the model, the choices of each kept state and goal, and a loop at any other state. A
 -- policy of the model, read on it, is a policy there.
-use Rattle.std.proofs.Common.{◌≡◌, ℕ, zero, suc, ◌+◌, ◌≤◌, ◌<◌, ⊎_elim, Bool, true, false, ◌||◌, ◌&&◌, le-leb, cond, List, [], ◌∷◌, length, get_or, pos, refl, sym, ap, subst, ◌∙◌, arith}
+use Rattle.std.proofs.Common.{◌≡◌, ℕ, zero, suc, ◌+◌, ◌≤◌, ◌<◌, ⊎_elim, Bool, true, false, ◌||◌, ◌&&◌, le-leb}
+use Rattle.std.proofs.Common.{cond, List, [], ◌∷◌, length, get_or, pos, refl, sym, ap, subst, ◌∙◌, arith}
 use Rattle.std.proofs.lemmas.List.{get_or_past}
 use Rattle.std.proofs.lemmas.List.Elements.{All-from_recursion}
 use Rattle.std.proofs.lemmas.Bool.{cases_Bool}

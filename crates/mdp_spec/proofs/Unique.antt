@@ -145,7 +145,8 @@ module _ (m : Mdp) (r : ℕ) (goals : List Bool) (known_ : IsMdp m) where
         clash (hit m goals 1 met.0 (unfolded m other met.0 s) s) missed.0 missed.1
         (missed.2 met.0 1 (unfolded m other met.0 s) (unfolded_is_strategy m other met.0 s known_ two.takes h)) met.1
 
-    min_order : (s : ℕ) (o q p : Option ℚ) → s < states_of m → MinLower m r goals policy lower s o → MinLower m r goals other low s q → MinUpper m r goals other s p → (q ≡ None → p ≡ None) → AtMost o p
+    min_order : (s : ℕ) (o q p : Option ℚ) → s < states_of m → MinLower m r goals policy lower s o
+        → MinLower m r goals other low s q → MinUpper m r goals other s p → (q ≡ None → p ≡ None) → AtMost o p
     min_order s (Some x) (Some w) (Some y) h a c b order = min_le s x w y h a c b
     min_order s None (Some w) (Some y) h a c b order = min_clash s w h a c
     min_order s (Some x) None (Some y) h a c b order = absurd (some_none y (order refl))

@@ -44,7 +44,8 @@ known_choices m s known = EachAt_both (choices_at m s) (λ c x. (c < length (cho
 known_entries : (m : Mdp) (s c : ℕ) (row : List Entry) → row_at m s c ≡ row → IsRow (states_of m) row → EachAt row (λ e y. (target_at m s c e ≡ y.target) × (y.target < states_of m))
 known_entries m s c row same known = EachAt_both row (λ e y. target_at m s c e ≡ y.target) (λ e y. y.target < states_of m) (target_placed m s c row same) (targets_at (states_of m) row known)
 
-pub followed_fits : (m : Mdp) (choose : ℕ → ℕ → ℕ) (n s : ℕ) → IsMdp m → ((d v : ℕ) → v < states_of m → choose d v < length (choices_at m v)) → s < states_of m → Fits m 1 n (followed m choose n s) s
+pub followed_fits : (m : Mdp) (choose : ℕ → ℕ → ℕ) (n s : ℕ) → IsMdp m
+    → ((d v : ℕ) → v < states_of m → choose d v < length (choices_at m v)) → s < states_of m → Fits m 1 n (followed m choose n s) s
 followed_fits m choose zero s known choice h = tt
 followed_fits m choose (suc n) s known choice h = (
   count_at-one (choices_at m s) (choose n s) (choice n s h),

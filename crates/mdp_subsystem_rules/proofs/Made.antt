@@ -182,7 +182,8 @@ module _ (m : Mdp) (goals kept : List Bool) (policy : List ℕ) (start : ℕ) (y
   visits_each = kept_flows (IsFlow m kept) policy y (range_with_len 0 (states_of m)) (All-range (λ s. lt_ℚ 0ℚ (value_at y s) ≡ true → IsFlow m kept (visit_flow policy y s)) (states_of m) is_flow)
 
   -- the visits' flows meet the rules, at each threshold that they bring to the goals
-  pub flow_of_visits : (threshold : ℚ) → ((s : ℕ) → s < states_of m → is_marked kept s ≡ true → is_marked goals s ≡ false) → threshold ≤ℚ flow_value m goals (visit_flows (states_of m) policy y) start
+  pub flow_of_visits : (threshold : ℚ) → ((s : ℕ) → s < states_of m → is_marked kept s ≡ true → is_marked goals s ≡ false)
+      → threshold ≤ℚ flow_value m goals (visit_flows (states_of m) policy y) start
       → MeetsFlow m goals kept (visit_flows (states_of m) policy y) start threshold
   flow_of_visits threshold no_goal reached = record {
     no_goal = no_goal;

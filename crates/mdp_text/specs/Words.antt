@@ -1,5 +1,6 @@
 -- The words of a line, what stands behind a front of a text, and the numbers that words are.
-use Rattle.std.specs.Prelude.{ℕ, suc, ◌^◌, ℤ, pos, negsuc, Bool, ◌&&◌, List, [], ◌∷◌, length, take, drop, codes, Option, Some, None, option_and_then, option_map, Result, Ok, nat_lt, ◌==◌, if◌then◌else◌}
+use Rattle.std.specs.Prelude.{ℕ, suc, ◌^◌, ℤ, pos, negsuc, Bool, ◌&&◌, List, [], ◌∷◌, length, take}
+use Rattle.std.specs.Prelude.{drop, codes, Option, Some, None, option_and_then, option_map, Result, Ok, nat_lt, ◌==◌, if◌then◌else◌}
 use Rattle.std.specs.List.{slice_split}
 use Rattle.std.specs.Str.{bytes_eq}
 use Rattle.mdp_math.specs.Rational.{ℚ}

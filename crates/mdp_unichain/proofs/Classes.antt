@@ -101,7 +101,8 @@ one_reference states row t u h k = let a = h.least u k.leads in let b = k.least 
 -- ---- a change of rows that touches no closed class
 
 -- the same rows make the same class
-pub class-same : (states : ℕ → Bool) (row other : ℕ → List Entry) (class : ℕ → Bool) → ((s : ℕ) → class s ≡ true → row s ≡ other s) → IsClosedClass states row class → IsClosedClass states other class
+pub class-same : (states : ℕ → Bool) (row other : ℕ → List Entry) (class : ℕ → Bool)
+    → ((s : ℕ) → class s ≡ true → row s ≡ other s) → IsClosedClass states row class → IsClosedClass states other class
 class-same states row other class same c = record {
   some = c.some;
   states = c.states;

@@ -1,5 +1,6 @@
 -- A state is in a closed class or in none, and which: so there is a next policy. And a policy of which all states lead to one has a reference.
-use Rattle.std.proofs.Common.{◌≡◌, ◌≢◌, ℕ, zero, suc, ◌<◌, ◌≤◌, ◌⊎◌, inl, inr, Bool, true, false, not, ◌&&◌, eqb, if◌then◌else◌, List, length, map, refl, sym, ◌∙◌, ap, subst, arith, zero-add}
+use Rattle.std.proofs.Common.{◌≡◌, ◌≢◌, ℕ, zero, suc, ◌<◌, ◌≤◌, ◌⊎◌, inl, inr, Bool, true, false, not}
+use Rattle.std.proofs.Common.{◌&&◌, eqb, if◌then◌else◌, List, length, map, refl, sym, ◌∙◌, ap, subst, arith, zero-add}
 use Rattle.std.specs.List.{All, Any, range_with_len}
 use Rattle.std.specs.Prelude.{slice_index}
 use Rattle.std.proofs.lemmas.List.FromFn.{get_or-map-range_with_len, length-map-range_with_len}

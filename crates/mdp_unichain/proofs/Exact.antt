@@ -1,5 +1,6 @@
 -- Written evaluation gives the gain and the bias, where no term is past width.
-use Rattle.std.proofs.Common.{◌≡◌, ℕ, ◌<◌, ◌≤◌, ◌⊎◌, inl, inr, Bool, true, false, if◌then◌else◌, List, [], ◌∷◌, length, map, Some, Result, Ok, Err, refl, sym, ◌∙◌, ap, ap₂, subst, arith, pos}
+use Rattle.std.proofs.Common.{◌≡◌, ℕ, ◌<◌, ◌≤◌, ◌⊎◌, inl, inr, Bool, true, false, if◌then◌else◌, List, [], ◌∷◌}
+use Rattle.std.proofs.Common.{length, map, Some, Result, Ok, Err, refl, sym, ◌∙◌, ap, ap₂, subst, arith, pos}
 use Rattle.std.proofs.Common.{negsuc, zero-add, rules}
 use Rattle.std.specs.List.{Any, range_with_len}
 use Rattle.std.specs.Prelude.{slice_index, slice_index_or}

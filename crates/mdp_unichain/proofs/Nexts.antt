@@ -343,7 +343,8 @@ module _ (p : Component) (known : IsComponent p) (class : ℕ → Bool) (u : ℕ
     go_kept s (inl h) (inl k) i = refl
     go_kept s (inl h) (inr k) i = absurd (clash_test (class s) i k)
 
-    go_toward : (s : ℕ) (a : (is_state p s ≡ true) ⊎ (is_state p s ≡ false)) (b : (class s ≡ true) ⊎ (class s ≡ false)) → is_state p s ≡ true → class s ≡ false → IsNearest p rank_of s (go_by s a b)
+    go_toward : (s : ℕ) (a : (is_state p s ≡ true) ⊎ (is_state p s ≡ false)) (b : (class s ≡ true) ⊎ (class s ≡ false))
+        → is_state p s ≡ true → class s ≡ false → IsNearest p rank_of s (go_by s a b)
     unfolding go_by
     go_toward s (inr o) b h k = absurd (clash_test (is_state p s) h o)
     go_toward s (inl h) (inl k) i j = absurd (clash_test (class s) k j)

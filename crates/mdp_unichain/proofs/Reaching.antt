@@ -1,5 +1,6 @@
 -- Search in a finite chain: all its states lead to t, or some of them form a closed set without t. And each closed set holds a closed class.
-use Rattle.std.proofs.Common.{◌≡◌, ◌≢◌, ℕ, zero, suc, ◌<◌, ◌≤◌, ◌⊎◌, inl, inr, Bool, true, false, not, ◌&&◌, ◌||◌, eqb, if◌then◌else◌, List, [], ◌∷◌, refl, sym, ◌∙◌, ap, subst, arith}
+use Rattle.std.proofs.Common.{◌≡◌, ◌≢◌, ℕ, zero, suc, ◌<◌, ◌≤◌, ◌⊎◌, inl, inr, Bool, true, false, not}
+use Rattle.std.proofs.Common.{◌&&◌, ◌||◌, eqb, if◌then◌else◌, List, [], ◌∷◌, refl, sym, ◌∙◌, ap, subst, arith}
 use Rattle.std.specs.List.{All, Any}
 use Rattle.std.proofs.lemmas.List.Elements.{All-nil, All-cons}
 use Rattle.mdp_math.proofs.Numbers.{last_or, le_or, eqb-same}
@@ -202,7 +203,8 @@ module _ (states : ℕ → Bool) (n : ℕ) (row : ℕ → List Entry) (chain : I
         | inr q ↦ ends reached f q
       ]
     where
-      decide : (s : ℕ) (b : Bool) → left reached s ≡ b → ((left reached s ≡ true) × Any (λ y. reached y.target ≡ true) (row s)) ⊎ (left reached s ≡ true → All (λ y. reached y.target ≡ false) (row s))
+      decide : (s : ℕ) (b : Bool) → left reached s ≡ b
+          → ((left reached s ≡ true) × Any (λ y. reached y.target ≡ true) (row s)) ⊎ (left reached s ≡ true → All (λ y. reached y.target ≡ false) (row s))
       decide s false e = inr (λ h. absurd (clash_test (left reached s) h e))
       decide s true e =
           elim (any_or_all (λ y. reached y.target) (row s)) as

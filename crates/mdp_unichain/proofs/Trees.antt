@@ -74,7 +74,8 @@ module _ (m : Mdp) (r u : ℕ) (known_ : IsMdp m) (hu : 1 ≤ u) (inner : ℕ �
       (λ n s d h e ok i.
       subst (λ (w : ℚ). sign *ℚ reward_of (mdp.choice_at m s d) r +ℚ w ≤ℚ whole (suc n) *ℚ (sign *ℚ g s) +ℚ (sign *ℚ a s -ℚ c))
       (sym (row_weigh-line (states_of m) (row_at m s d) (whole n) c (λ v. sign *ℚ g v) (λ v. sign *ℚ a v) (IsMdp.row known_ s d h i)))
-      (subst (λ (w : ℚ). sign *ℚ reward_of (mdp.choice_at m s d) r +ℚ (whole n *ℚ w +ℚ (row_weigh (λ v. sign *ℚ a v) (row_at m s d) -ℚ c)) ≤ℚ whole (suc n) *ℚ (sign *ℚ g s) +ℚ (sign *ℚ a s -ℚ c))
+      (subst (λ (w : ℚ). sign *ℚ reward_of (mdp.choice_at m s d) r
+      +ℚ (whole n *ℚ w +ℚ (row_weigh (λ v. sign *ℚ a v) (row_at m s d) -ℚ c)) ≤ℚ whole (suc n) *ℚ (sign *ℚ g s) +ℚ (sign *ℚ a s -ℚ c))
       (sym (row_weigh-scale (row_at m s d) sign g))
       (subst (λ (w : ℚ). sign *ℚ reward_of (mdp.choice_at m s d) r +ℚ (whole n *ℚ (sign *ℚ row_weigh g (row_at m s d)) +ℚ (w -ℚ c)) ≤ℚ whole (suc n) *ℚ (sign *ℚ g s) +ℚ (sign *ℚ a s -ℚ c))
       (sym (row_weigh-scale (row_at m s d) sign a))

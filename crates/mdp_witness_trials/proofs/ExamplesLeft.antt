@@ -1,5 +1,6 @@
 -- The small model of the other examples: its values meet the rules, so the laws speak of its first sets and of what its trials leave.
-use Rattle.std.proofs.Common.{◌≡◌, ℕ, zero, suc, ◌+◌, ◌<◌, ◌⊎◌, inl, inr, Bool, true, false, true≢false, ◌&&◌, nat_le, le-leb, ◌∙◌, List, [], ◌∷◌, length, get_or, refl, sym, ap, subst, arith}
+use Rattle.std.proofs.Common.{◌≡◌, ℕ, zero, suc, ◌+◌, ◌<◌, ◌⊎◌, inl, inr, Bool, true, false, true≢false, ◌&&◌}
+use Rattle.std.proofs.Common.{nat_le, le-leb, ◌∙◌, List, [], ◌∷◌, length, get_or, refl, sym, ap, subst, arith}
 use Rattle.std.proofs.lemmas.List.Elements.{All-from_recursion}
 use Rattle.std.specs.List.{Any}
 use Rattle.mdp_math.specs.Gcd.{gcd, gcd_with_fuel}

@@ -155,7 +155,8 @@ module _ (goals : List Bool) (z : List ℚ) where
   within_put f t s set true e o h k = subst (λ (v : ℕ). set v ≡ true) (sym (eqb-true s t e)) o
   within_put f t s set false e o h k = h s k
 
-  within_by : (f : Front) (t : ℕ) (set : ℕ → Bool) (b : Bool) → test f t ≡ b → t < length f.found → (is_open goals z t ≡ true → set t ≡ true) → ((v : ℕ) → is_marked f.found v ≡ true → set v ≡ true)
+  within_by : (f : Front) (t : ℕ) (set : ℕ → Bool) (b : Bool) → test f t ≡ b → t < length f.found
+      → (is_open goals z t ≡ true → set t ≡ true) → ((v : ℕ) → is_marked f.found v ≡ true → set v ≡ true)
       → (s : ℕ) → is_marked (after f t b).found s ≡ true → set s ≡ true
   within_by f t set true e l o h s k =
       within_put f t s set (eqb s t) refl (o (and-left (is_open goals z t) (not (is_marked f.found t)) e)) h (sym (set-at f.found t s true l) ∙ k)

@@ -1,5 +1,6 @@
 -- Trials, from the greatest state down: what holds when those from x on have been made, and that one more keeps it.
-use Rattle.std.proofs.Common.{rules, ◌≡◌, ℕ, zero, suc, ◌+◌, ◌<◌, ◌≤◌, inl, inr, Bool, true, false, cond, eqb, ◌&&◌, nat_lt, List, length, Result, Ok, refl, sym, ◌∙◌, ap, subst, arith, map}
+use Rattle.std.proofs.Common.{rules, ◌≡◌, ℕ, zero, suc, ◌+◌, ◌<◌, ◌≤◌, inl, inr, Bool, true, false, cond}
+use Rattle.std.proofs.Common.{eqb, ◌&&◌, nat_lt, List, length, Result, Ok, refl, sym, ◌∙◌, ap, subst, arith, map}
 use Rattle.std.specs.List.{range_with_len}
 use Rattle.std.specs.Prelude.{replicate}
 use Rattle.std.proofs.Math.ListN.{set}

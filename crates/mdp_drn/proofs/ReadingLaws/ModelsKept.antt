@@ -1,5 +1,6 @@
 -- What a text reads as keeps all that a model keeps: each line makes of what keeps it what keeps it too.
-use Rattle.std.proofs.Common.{◌≡◌, ℕ, ◌+◌, Bool, true, false, not, cond, eqb, ltb, leb, List, [], ◌∷◌, length, map, drop, refl, sym, ap, subst, ◌∙◌, arith, Option, Some, None, Result, Ok, Err, IfOk, pos, codes, is_some, eqb-true, ◌&&◌}
+use Rattle.std.proofs.Common.{◌≡◌, ℕ, ◌+◌, Bool, true, false, not, cond, eqb, ltb, leb, List, [], ◌∷◌, length, map, drop, refl}
+use Rattle.std.proofs.Common.{sym, ap, subst, ◌∙◌, arith, Option, Some, None, Result, Ok, Err, IfOk, pos, codes, is_some, eqb-true, ◌&&◌}
 use Rattle.std.specs.Prelude.{replicate}
 use Rattle.std.specs.List.{All, slice_split, onto_first, prefix_len}
 use Rattle.std.specs.Char.{is_ascii_digit}

@@ -1,5 +1,6 @@
 -- What a label makes of a draft.
-use Rattle.std.proofs.Common.{◌≡◌, ◌≢◌, ℕ, ◌+◌, ◌<◌, ◌≤◌, Bool, false, ◌||◌, List, length, Option, None, refl, sym, ap, ◌∙◌, arith, leb, le-leb, ltb, lt-ltb, le-ltb, if◌then◌else◌}
+use Rattle.std.proofs.Common.{◌≡◌, ◌≢◌, ℕ, ◌+◌, ◌<◌, ◌≤◌, Bool, false, ◌||◌, List, length, Option}
+use Rattle.std.proofs.Common.{None, refl, sym, ap, ◌∙◌, arith, leb, le-leb, ltb, lt-ltb, le-ltb, if◌then◌else◌}
 use Rattle.std.specs.Prelude.{Result, Ok, Err}
 use Rattle.std.specs.Global.{Vec}
 use Rattle.std.specs.List.{position_or_len}

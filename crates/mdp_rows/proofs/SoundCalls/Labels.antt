@@ -24,7 +24,8 @@ ascend_cons low l places h a = and-both (ltb low (l + 1)) (places_ascend (l + 1)
 
 -- ---- one place more
 
-place_by : (P : List ℕ → Type 0) (l k : ℕ) (places : List ℕ) (a b : Bool) → eqb l k ≡ a → ltb l k ≡ b → (l ≡ k → P (k ∷ places)) → (l < k → P (l ∷ k ∷ places)) → (k < l → P (k ∷ with_place l places))
+place_by : (P : List ℕ → Type 0) (l k : ℕ) (places : List ℕ) (a b : Bool) → eqb l k ≡ a → ltb l k ≡ b
+    → (l ≡ k → P (k ∷ places)) → (l < k → P (l ∷ k ∷ places)) → (k < l → P (k ∷ with_place l places))
     → P (if a then k ∷ places else (if b then l ∷ k ∷ places else k ∷ with_place l places))
 place_by P l k places true b e f here before behind = here (eqb-is l k e)
 place_by P l k places false true e f here before behind = before (ltb-true l k f)
@@ -32,7 +33,8 @@ place_by P l k places false false e f here before behind =
     behind (let n = eqb-false l k e in let m = ltb-false l k f in let d : l ≡ k → ⊥ = n in omega (arith, d))
 
 -- it stands there, or goes before the first place, or behind it
-pub place_cases : (P : List ℕ → Type 0) (l k : ℕ) (places : List ℕ) → (l ≡ k → P (k ∷ places)) → (l < k → P (l ∷ k ∷ places)) → (k < l → P (k ∷ with_place l places)) → P (with_place l (k ∷ places))
+pub place_cases : (P : List ℕ → Type 0) (l k : ℕ) (places : List ℕ) → (l ≡ k → P (k ∷ places))
+    → (l < k → P (l ∷ k ∷ places)) → (k < l → P (k ∷ with_place l places)) → P (with_place l (k ∷ places))
 place_cases P l k places here before behind = place_by P l k places (eqb l k) (ltb l k) refl refl here before behind
 
 pub ascend-with : (low l : ℕ) (places : List ℕ) → low ≤ l → IsTrue (places_ascend low places) → IsTrue (places_ascend low (with_place l places))

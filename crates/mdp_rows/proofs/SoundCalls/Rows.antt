@@ -96,7 +96,8 @@ ascends-scaled q low (x ∷ row) a =
 
 -- ---- the values are positive
 
-positive_head : (b : Bool) (x : Entry) (rest : List Entry) → (b ≡ false → 0ℚ <ℚ x.prob) → AllByRecursion (λ y. 0ℚ <ℚ y.prob) rest → AllByRecursion (λ y. 0ℚ <ℚ y.prob) (cond (not b) (x ∷ rest) rest)
+positive_head : (b : Bool) (x : Entry) (rest : List Entry) → (b ≡ false → 0ℚ <ℚ x.prob)
+    → AllByRecursion (λ y. 0ℚ <ℚ y.prob) rest → AllByRecursion (λ y. 0ℚ <ℚ y.prob) (cond (not b) (x ∷ rest) rest)
 positive_head true x rest h all = all
 positive_head false x rest h all = (h refl, all)
 

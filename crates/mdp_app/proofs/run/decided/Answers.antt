@@ -29,16 +29,20 @@ returns-in-Check g c =
     c.check_files.ensures.unread c.check_files.ensures.model_end c.check_files.ensures.second_end)
 
 pub drill-requires-clause-some_layers : goal.drill-requires-clause-some_layers
-drill-requires-clause-some_layers g c = (can_draw_of c.in-Drill.number c.in-Drill.layers c.in-Drill.width (in_range_of c.args.words.now _ (sym (ap (λ (job : Job). asked_for (plain_job job)) c.in-Drill.is) ∙ c.in-Ok.ensures))).some_layers
+drill-requires-clause-some_layers g c = (can_draw_of c.in-Drill.number c.in-Drill.layers c.in-Drill.width
+    (in_range_of c.args.words.now _ (sym (ap (λ (job : Job). asked_for (plain_job job)) c.in-Drill.is) ∙ c.in-Ok.ensures))).some_layers
 
 pub drill-requires-clause-few_layers : goal.drill-requires-clause-few_layers
-drill-requires-clause-few_layers g c = (can_draw_of c.in-Drill.number c.in-Drill.layers c.in-Drill.width (in_range_of c.args.words.now _ (sym (ap (λ (job : Job). asked_for (plain_job job)) c.in-Drill.is) ∙ c.in-Ok.ensures))).few_layers
+drill-requires-clause-few_layers g c = (can_draw_of c.in-Drill.number c.in-Drill.layers c.in-Drill.width
+    (in_range_of c.args.words.now _ (sym (ap (λ (job : Job). asked_for (plain_job job)) c.in-Drill.is) ∙ c.in-Ok.ensures))).few_layers
 
 pub drill-requires-clause-some_width : goal.drill-requires-clause-some_width
-drill-requires-clause-some_width g c = (can_draw_of c.in-Drill.number c.in-Drill.layers c.in-Drill.width (in_range_of c.args.words.now _ (sym (ap (λ (job : Job). asked_for (plain_job job)) c.in-Drill.is) ∙ c.in-Ok.ensures))).some_width
+drill-requires-clause-some_width g c = (can_draw_of c.in-Drill.number c.in-Drill.layers c.in-Drill.width
+    (in_range_of c.args.words.now _ (sym (ap (λ (job : Job). asked_for (plain_job job)) c.in-Drill.is) ∙ c.in-Ok.ensures))).some_width
 
 pub drill-requires-clause-few_states : goal.drill-requires-clause-few_states
-drill-requires-clause-few_states g c = (can_draw_of c.in-Drill.number c.in-Drill.layers c.in-Drill.width (in_range_of c.args.words.now _ (sym (ap (λ (job : Job). asked_for (plain_job job)) c.in-Drill.is) ∙ c.in-Ok.ensures))).few_states
+drill-requires-clause-few_states g c = (can_draw_of c.in-Drill.number c.in-Drill.layers c.in-Drill.width
+    (in_range_of c.args.words.now _ (sym (ap (λ (job : Job). asked_for (plain_job job)) c.in-Drill.is) ∙ c.in-Ok.ensures))).few_states
 
 pub returns-in-Drill : goal.returns-in-Drill
 returns-in-Drill g c =

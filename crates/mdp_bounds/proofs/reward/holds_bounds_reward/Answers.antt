@@ -14,13 +14,15 @@ returns c =
     let high = c.args.cert.now.upper.items in
     let policy = c.args.cert.now.choices.items in
     let ranks = c.args.cert.now.ranks.items in
-    let e : c.verdict_after.result ≡ verdict_of (reward_bounds_checks c.args.dir c.args.model.now c.args.m c.args.goals.now c.args.cert.now.lower.items c.args.cert.now.upper.items c.args.cert.now.choices.items c.args.cert.now.ranks.items) =
+    let e : c.verdict_after.result ≡ verdict_of (reward_bounds_checks c.args.dir c.args.model.now c.args.m c.args.goals.now
+    c.args.cert.now.lower.items c.args.cert.now.upper.items c.args.cert.now.choices.items c.args.cert.now.ranks.items) =
     c.verdict_after.ensures
     ∙ ap verdict c.reward_bounds_at_states-walk.ensures
     ∙ ap (λ x. verdict_of (reward_bounds_checks c.args.dir c.args.model.now c.args.m c.args.goals.now x c.as_slice-2.result.now c.as_slice-3.result.now c.as_slice-4.result.now)) c.as_slice.ensures.value
     ∙ ap (λ x. verdict_of (reward_bounds_checks c.args.dir c.args.model.now c.args.m c.args.goals.now c.args.cert.now.lower.items x c.as_slice-3.result.now c.as_slice-4.result.now)) c.as_slice-2.ensures.value
     ∙ ap (λ x. verdict_of (reward_bounds_checks c.args.dir c.args.model.now c.args.m c.args.goals.now c.args.cert.now.lower.items c.args.cert.now.upper.items x c.as_slice-4.result.now)) c.as_slice-3.ensures.value
-    ∙ ap (λ x. verdict_of (reward_bounds_checks c.args.dir c.args.model.now c.args.m c.args.goals.now c.args.cert.now.lower.items c.args.cert.now.upper.items c.args.cert.now.choices.items x)) c.as_slice-4.ensures.value
+    ∙ ap (λ x. verdict_of (reward_bounds_checks c.args.dir c.args.model.now c.args.m c.args.goals.now c.args.cert.now.lower.items c.args.cert.now.upper.items c.args.cert.now.choices.items x))
+    c.as_slice-4.ensures.value
     in
     let rules =
     reward_bounds_rules m c.known.ensures.mdp c.args.m goals low high policy ranks c.args.dir c.verdict_after.result

@@ -10,4 +10,5 @@ returns-in-Max c =
 
 pub returns-in-Min : goal.returns-in-Min
 returns-in-Min c =
-    subst (λ (d : Dir). c.earnings_at_state.result ≡ objection_to (half_checks (lower_on_each d) c.args.dir c.args.model.now c.args.m c.args.values.now c.args.s c.args.choice)) (sym c.in-Min.is) c.earnings_at_state.ensures
+    subst (λ (d : Dir). c.earnings_at_state.result ≡ objection_to (half_checks (lower_on_each d) c.args.dir c.args.model.now c.args.m c.args.values.now c.args.s c.args.choice))
+    (sym c.in-Min.is) c.earnings_at_state.ensures

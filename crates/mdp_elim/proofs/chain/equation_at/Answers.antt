@@ -7,4 +7,5 @@ pub returns-then-not-at : goal.returns-then-not-at
 returns-then-not-at g c = equation_of-inactive _ _ _ c.args.s c.new-then-not-at.result _ _ _ (search rules) c.new-then-not-at.ensures c.new.ensures.items c.whole.ensures c.whole-then-not-at.ensures
 
 pub returns : goal.returns
-returns g c = equation_of-active _ _ _ c.args.s c.new-2.result _ _ _ (search rules) c.new-2.ensures (c.in_ok-terms.ensures {u = tt} ∙ ap (inner c.args.active.now) c.row.ensures.row) c.constant.ensures c.constant-2.ensures
+returns g c = equation_of-active _ _ _ c.args.s c.new-2.result _ _ _ (search rules)
+    c.new-2.ensures (c.in_ok-terms.ensures {u = tt} ∙ ap (inner c.args.active.now) c.row.ensures.row) c.constant.ensures c.constant-2.ensures

@@ -14,12 +14,14 @@ loop-i-preserved c =
       | then-at+in_ok-push w ↦
           let is : c.if-at.terms.items ≡ w.push.new.self.items = search rules in
           rw is
-          (inner-kept c.args.active.now c.args.row.targets.now c.args.row.probs.now c.loop-i.i (get_or c.args.row.targets.now c.loop-i.i 0) (get_or c.args.row.probs.now c.loop-i.i w.index-row-i.result) (omega arith) c.args.row.same_length
+          (inner-kept c.args.active.now c.args.row.targets.now c.args.row.probs.now c.loop-i.i (get_or c.args.row.targets.now c.loop-i.i 0)
+          (get_or c.args.row.probs.now c.loop-i.i w.index-row-i.result) (omega arith) c.args.row.same_length
           t (get_or_default c.args.row.probs.now c.loop-i.i w.index-row-i.result _ l) c.loop-i.terms.items _ c.loop-i.invariant
           w.push.new.self.items (search rules) ((w.in_ok-push.ensures {u = tt}).items ∙ ap (λ (x : Entry). c.loop-i.terms.items ++ x ∷ []) w.new.ensures))
       | else-at w ↦
           let is : c.if-at.terms.items ≡ c.loop-i.terms.items = search rules in
           rw is
-          (inner-left c.args.active.now c.args.row.targets.now c.args.row.probs.now c.loop-i.i (get_or c.args.row.targets.now c.loop-i.i 0) (get_or c.args.row.probs.now c.loop-i.i 0ℚ) (omega arith) c.args.row.same_length
+          (inner-left c.args.active.now c.args.row.targets.now c.args.row.probs.now c.loop-i.i
+          (get_or c.args.row.targets.now c.loop-i.i 0) (get_or c.args.row.probs.now c.loop-i.i 0ℚ) (omega arith) c.args.row.same_length
           t (get_or_default c.args.row.probs.now c.loop-i.i 0ℚ _ l) c.loop-i.terms.items _ c.loop-i.invariant (search rules))
     ]

@@ -29,7 +29,8 @@ returns-in_err-values-clause-place g c = λ s h.
     let is = (c.in_ok-system.ensures {u = tt}).value in
     let len = ap length is ∙ system-len (g.R.RowsOf.rows c.args.rows.now) c.args.active.now c.requires.leaves.0 c.known.ensures c.requires.active c.requires.leaves.1 _ in
     let p : c.solve_system.result ≡ Err (whole_error.Wide s) = search rules in
-    wide_active c.args.active.now (g.R.RowsOf.rows c.args.rows.now) _ c.requires.active s (solution-of (g.R.RowsOf.rows c.args.rows.now) c.args.active.now _ c.in_ok-system.system.items _ is len refl _ (c.solve_system.ensures.wide s p))
+    wide_active c.args.active.now (g.R.RowsOf.rows c.args.rows.now) _ c.requires.active s
+    (solution-of (g.R.RowsOf.rows c.args.rows.now) c.args.active.now _ c.in_ok-system.system.items _ is len refl _ (c.solve_system.ensures.wide s p))
 
 pub solve_system-requires-clause-down : goal.solve_system-requires-clause-down
 solve_system-requires-clause-down g c =
@@ -40,7 +41,9 @@ pub returns-clause-value : goal.returns-clause-value
 returns-clause-value g c =
     let is = (c.in_ok-system.ensures {u = tt}).value in
     let len = ap length is ∙ system-len (g.R.RowsOf.rows c.args.rows.now) c.args.active.now c.requires.leaves.0 c.known.ensures c.requires.active c.requires.leaves.1 _ in
-    written_solution-ok (g.R.RowsOf.rows c.args.rows.now) c.args.active.now _ c.in_ok-system.system.items (length c.args.columns.now) is len (sym (length-map c.args.columns.now _)) (record { first = c.in_ok-values.values.first.items; second = c.in_ok-values.values.second.items }) _ (c.in_ok-values.ensures {u = tt}).ok (c.in_ok-answers.ensures {u = tt})
+    written_solution-ok (g.R.RowsOf.rows c.args.rows.now) c.args.active.now _ c.in_ok-system.system.items (length c.args.columns.now) is len
+    (sym (length-map c.args.columns.now _)) (record { first = c.in_ok-values.values.first.items; second = c.in_ok-values.values.second.items }) _
+    (c.in_ok-values.ensures {u = tt}).ok (c.in_ok-answers.ensures {u = tt})
 
 pub returns-clause-solves : goal.returns-clause-solves
 returns-clause-solves g c =
@@ -48,6 +51,7 @@ returns-clause-solves g c =
     let len = ap length is ∙ system-len (g.R.RowsOf.rows c.args.rows.now) c.args.active.now c.requires.leaves.0 c.known.ensures c.requires.active c.requires.leaves.1 _ in
     let n = length-map c.args.columns.now (λ x. x.items) in
     let made = solution-of (g.R.RowsOf.rows c.args.rows.now) c.args.active.now _ c.in_ok-system.system.items (length c.args.columns.now) is len (sym n) _ (c.in_ok-values.ensures {u = tt}).ok in
-    let each = solve_each (g.R.RowsOf.rows c.args.rows.now) c.args.active.now c.requires.leaves.0 c.known.ensures c.requires.active c.requires.leaves.1 _ (record { first = c.in_ok-values.values.first.items; second = c.in_ok-values.values.second.items }) made (subst (λ m. (m ≡ 1) ⊎ (m ≡ 2)) (sym n) c.requires.some_columns) in
+    let each = solve_each (g.R.RowsOf.rows c.args.rows.now) c.args.active.now c.requires.leaves.0 c.known.ensures c.requires.active c.requires.leaves.1 _
+    (record { first = c.in_ok-values.values.first.items; second = c.in_ok-values.values.second.items }) made (subst (λ m. (m ≡ 1) ⊎ (m ≡ 2)) (sym n) c.requires.some_columns) in
     subst (λ (xs : List (List ℚ)). SolveEach (g.R.RowsOf.rows c.args.rows.now) c.args.active.now (map (λ x. x.items) c.args.columns.now) xs)
     (ap (λ m. columns_of m (record { first = c.in_ok-values.values.first.items; second = c.in_ok-values.values.second.items })) n ∙ sym (c.in_ok-answers.ensures {u = tt})) each

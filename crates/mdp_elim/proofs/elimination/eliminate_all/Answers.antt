@@ -26,9 +26,11 @@ loop-s-preserved c =
     let more = can_step c.loop-s.s (c.loop-s.s - 1) n c.loop-s.left.equations.items c.loop-s.done.items e c.loop-s.invariant.can h in
     let push = (c.in_ok-push.ensures {u = tt}).items in
     record {
-      same = c.loop-s.invariant.same ∙ all_step c.loop-s.s (c.loop-s.s - 1) n c.loop-s.left.equations.items c.loop-s.done.items e h ∙ ap (λ (es : List spec.Equation). finish (c.loop-s.s - 1) es (solution (c.loop-s.s - 1) c.eliminate.new.self.equations.items)) (sym push);
+      same = c.loop-s.invariant.same ∙ all_step c.loop-s.s (c.loop-s.s - 1) n c.loop-s.left.equations.items c.loop-s.done.items e h
+          ∙ ap (λ (es : List spec.Equation). finish (c.loop-s.s - 1) es (solution (c.loop-s.s - 1) c.eliminate.new.self.equations.items)) (sym push);
       can = more.1;
       linked = l;
-      down = subst (λ (es : List spec.Equation). LeadDown (c.loop-s.s - 1) es) (sym push) (down_step c.loop-s.s (c.loop-s.s - 1) n c.loop-s.left.equations.items c.loop-s.done.items c.in_ok-pivot.pivot more.0 c.loop-s.invariant.down);
+      down = subst (λ (es : List spec.Equation). LeadDown (c.loop-s.s - 1) es) (sym push)
+          (down_step c.loop-s.s (c.loop-s.s - 1) n c.loop-s.left.equations.items c.loop-s.done.items c.in_ok-pivot.pivot more.0 c.loop-s.invariant.down);
       count = omega (arith, ap length push, length-append c.loop-s.done.items (c.in_ok-pivot.pivot ∷ []), c.loop-s.invariant.count);
     }

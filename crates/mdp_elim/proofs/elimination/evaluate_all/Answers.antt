@@ -18,7 +18,8 @@ returns-in_err-placed-clause-wide c = λ s h.
     let p : c.placed.result ≡ Err (whole_error.Wide s) = search rules in
     let w = placed-wide c.loop-equation.s s c.evaluate.result (sym c.placed.ensures ∙ p) in
     let l : c.loop-equation.waiting.items ≡ c.pop.new.self.items ++ c.in-Some.equation ∷ [] = rw c.in-Some.is at c.pop.ensures.items in
-    c.loop-equation.invariant.same ∙ ap (λ (es : List spec.Equation). finish c.loop-equation.s es (Ok (record { first = c.loop-equation.first.items; second = c.loop-equation.second.items }))) l ∙ finish-stop c.loop-equation.s c.pop.new.self.items c.in-Some.equation _ (c.evaluate.ensures.wide w.0) ∙ ap Err w.1
+    c.loop-equation.invariant.same ∙ ap (λ (es : List spec.Equation). finish c.loop-equation.s es (Ok (record { first = c.loop-equation.first.items; second = c.loop-equation.second.items }))) l
+    ∙ finish-stop c.loop-equation.s c.pop.new.self.items c.in-Some.equation _ (c.evaluate.ensures.wide w.0) ∙ ap Err w.1
 
 pub loop-equation-preserved : goal.loop-equation-preserved
 loop-equation-preserved c =

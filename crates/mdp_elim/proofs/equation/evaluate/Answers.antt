@@ -17,6 +17,7 @@ returns-in_err-y-clause-wide c = λ _.
 
 pub returns-clause-ok : goal.returns-clause-ok
 returns-clause-ok c =
-    subst (λ (e : spec.Equation). evaluated e (record { first = c.args.first.now.items; second = c.args.second.now.items }) ≡ Some (record { first = c.args.first.now.items ++ c.in_ok-x.x ∷ []; second = c.args.second.now.items ++ c.in_ok-y.y ∷ [] })) c.equation.view_is
+    subst (λ (e : spec.Equation). evaluated e (record { first = c.args.first.now.items; second = c.args.second.now.items }) ≡ Some
+    (record { first = c.args.first.now.items ++ c.in_ok-x.x ∷ []; second = c.args.second.now.items ++ c.in_ok-y.y ∷ [] })) c.equation.view_is
     (evaluated-some _ _ c.in_ok-x.x (let h = c.in_ok-x.ensures {u = tt} in rw (c.deref.ensures.value) at h) c.in_ok-y.y (let h = c.in_ok-y.ensures {u = tt} in rw (c.deref-2.ensures.value) at h))
     ∙ ap₂ (λ (a b : List ℚ). let v : spec.Values = record { first = a; second = b } in Some v) (sym (c.in_ok-push.ensures {u = tt}).items) (sym (c.in_ok-push-2.ensures {u = tt}).items)

@@ -24,7 +24,8 @@ loop-i-preserved c =
           rw w.equations-is
           (record {
             count = length-set c.loop-i.equations v w.push.new.self ∙ c.loop-i.invariant.count;
-            row = row_put c.args.active.now c.args.t ts ps i v p (omega arith) c.args.row.same_length target (get_or_default ps i w.index-row-i.result p l) c.loop-i.equations (entries ts ps) c.args.equations.now c.loop-i.invariant.row
+            row = row_put c.args.active.now c.args.t ts ps i v p (omega arith) c.args.row.same_length target
+                (get_or_default ps i w.index-row-i.result p l) c.loop-i.equations (entries ts ps) c.args.equations.now c.loop-i.invariant.row
                 w.push.new.self _ w.new.result inside (w.in_ok-push.ensures {u = tt}) (get_or_default c.loop-i.equations v _ spec.no_equation inside) w.new.ensures on;
           })
       | else-at w ↦
@@ -32,6 +33,7 @@ loop-i-preserved c =
           rw w.equations-is
           (record {
             count = c.loop-i.invariant.count;
-            row = row_left c.args.active.now c.args.t ts ps i v (get_or ps i 0ℚ) (omega arith) c.args.row.same_length target (get_or_default ps i 0ℚ _ l) c.loop-i.equations (entries ts ps) c.args.equations.now c.loop-i.invariant.row off;
+            row = row_left c.args.active.now c.args.t ts ps i v (get_or ps i 0ℚ) (omega arith) c.args.row.same_length target
+                (get_or_default ps i 0ℚ _ l) c.loop-i.equations (entries ts ps) c.args.equations.now c.loop-i.invariant.row off;
           })
     ]

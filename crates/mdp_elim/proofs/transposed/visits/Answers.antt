@@ -19,17 +19,21 @@ solve_system-requires-clause-down g c =
 pub returns-in_err-first-clause-place : goal.returns-in_err-first-clause-place
 returns-in_err-first-clause-place g c = λ s h.
     let p : c.solve_system.result ≡ Err (whole_error.Wide s) = search rules in
-    visits-place (g.R.RowsOf.rows c.args.chain.now.rows.now) c.args.chain.now.active.now c.args.chain.now.ranks.now c.known.ensures c.requires.active c.requires.leaves c.args.start c.in_ok-system.system.items (c.in_ok-system.ensures {u = tt}).value s (c.solve_system.ensures.wide s p)
+    visits-place (g.R.RowsOf.rows c.args.chain.now.rows.now) c.args.chain.now.active.now c.args.chain.now.ranks.now c.known.ensures c.requires.active
+    c.requires.leaves c.args.start c.in_ok-system.system.items (c.in_ok-system.ensures {u = tt}).value s (c.solve_system.ensures.wide s p)
 
 pub returns-in_err-first-clause-wide : goal.returns-in_err-first-clause-wide
 returns-in_err-first-clause-wide g c = λ s h.
     let p : c.solve_system.result ≡ Err (whole_error.Wide s) = search rules in
-    written_visits-err (g.R.RowsOf.rows c.args.chain.now.rows.now) c.args.chain.now.active.now c.args.chain.now.ranks.now c.known.ensures c.requires.active c.requires.leaves c.args.start c.in_ok-system.system.items (c.in_ok-system.ensures {u = tt}).value s (c.solve_system.ensures.wide s p)
+    written_visits-err (g.R.RowsOf.rows c.args.chain.now.rows.now) c.args.chain.now.active.now c.args.chain.now.ranks.now c.known.ensures c.requires.active
+    c.requires.leaves c.args.start c.in_ok-system.system.items (c.in_ok-system.ensures {u = tt}).value s (c.solve_system.ensures.wide s p)
 
 pub returns-clause-value : goal.returns-clause-value
 returns-clause-value g c =
-    written_visits-ok (g.R.RowsOf.rows c.args.chain.now.rows.now) c.args.chain.now.active.now c.args.chain.now.ranks.now c.known.ensures c.requires.active c.requires.leaves c.args.start c.in_ok-system.system.items (c.in_ok-system.ensures {u = tt}).value _ (c.in_ok-first.ensures {u = tt}).ok
+    written_visits-ok (g.R.RowsOf.rows c.args.chain.now.rows.now) c.args.chain.now.active.now c.args.chain.now.ranks.now c.known.ensures c.requires.active
+    c.requires.leaves c.args.start c.in_ok-system.system.items (c.in_ok-system.ensures {u = tt}).value _ (c.in_ok-first.ensures {u = tt}).ok
 
 pub returns-clause-solves : goal.returns-clause-solves
 returns-clause-solves g c =
-    are_visits (g.R.RowsOf.rows c.args.chain.now.rows.now) c.args.chain.now.active.now c.args.chain.now.ranks.now c.known.ensures c.requires.active c.requires.leaves c.args.start c.in_ok-system.system.items (c.in_ok-system.ensures {u = tt}).value _ (c.in_ok-first.ensures {u = tt}).ok
+    are_visits (g.R.RowsOf.rows c.args.chain.now.rows.now) c.args.chain.now.active.now c.args.chain.now.ranks.now c.known.ensures c.requires.active
+    c.requires.leaves c.args.start c.in_ok-system.system.items (c.in_ok-system.ensures {u = tt}).value _ (c.in_ok-first.ensures {u = tt}).ok

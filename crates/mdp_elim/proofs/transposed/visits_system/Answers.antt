@@ -15,7 +15,8 @@ loop-t-init g c =
     let n : length c.in_ok-equations.equations.items ≡ length (g.R.RowsOf.rows c.args.chain.now.rows.now) = ap length is ∙ length-map-range_with_len (start_equation c.args.start) 0 _ ∙ c.count.ensures in
     record {
       count = n;
-      rows = λ s l. ap (λ (es : List spec.Equation). at es s) is ∙ visits_first (g.R.RowsOf.rows c.args.chain.now.rows.now) c.args.chain.now.active.now c.args.start c.count.result s c.requires.start (omega (arith, l, c.count.ensures));
+      rows = λ s l. ap (λ (es : List spec.Equation). at es s) is ∙ visits_first (g.R.RowsOf.rows c.args.chain.now.rows.now)
+          c.args.chain.now.active.now c.args.start c.count.result s c.requires.start (omega (arith, l, c.count.ensures));
     }
 
 pub loop-t-preserved : goal.loop-t-preserved
@@ -26,8 +27,10 @@ loop-t-preserved g c = elim c.if-at.branch [
       rw (w.equations-is)
       (record {
         count = ap length same ∙ put.count ∙ ap length w.deref_mut.ensures.value ∙ c.loop-t.invariant.count;
-        rows = subst (λ (es : List spec.Equation). (s : ℕ) → s < length (g.R.RowsOf.rows c.args.chain.now.rows.now) → at es s ≡ visits_below (g.R.RowsOf.rows c.args.chain.now.rows.now) c.args.chain.now.active.now c.args.start (c.loop-t.t + 1) s) (sym same)
-            (visits_put (g.R.RowsOf.rows c.args.chain.now.rows.now) c.args.chain.now.active.now c.args.start c.loop-t.t (length (g.R.RowsOf.rows c.args.chain.now.rows.now)) (entries w.row.result.targets.now w.row.result.probs.now) c.loop-t.equations.items w.deref_mut.result.now w.push_row.new.equations
+        rows = subst (λ (es : List spec.Equation). (s : ℕ) → s < length (g.R.RowsOf.rows c.args.chain.now.rows.now)
+            → at es s ≡ visits_below (g.R.RowsOf.rows c.args.chain.now.rows.now) c.args.chain.now.active.now c.args.start (c.loop-t.t + 1) s) (sym same)
+            (visits_put (g.R.RowsOf.rows c.args.chain.now.rows.now) c.args.chain.now.active.now c.args.start c.loop-t.t (length (g.R.RowsOf.rows c.args.chain.now.rows.now))
+            (entries w.row.result.targets.now w.row.result.probs.now) c.loop-t.equations.items w.deref_mut.result.now w.push_row.new.equations
             w.deref_mut.ensures.value put.row w.row.ensures.row (search rules) c.loop-t.invariant.rows);
       })
   | else-at w ↦

@@ -7,7 +7,8 @@ use Rattle.mdp_graph.proofs.forest.cut_choices.Goals as goal
 
 pub cut-requires : goal.cut-requires
 cut-requires c = λ s d e.
-    (let h = from_part _ c.args.preds.now c.args.fell.now c.loop-t.t-index c.loop-t-test.true c.requires.from s d (sym (ap (λ (x : List Pred). is_one_of x s d) c.of.ensures) ∙ e) in omega (arith, h, c.loop-t.invariant.count))
+    (let h = from_part _ c.args.preds.now c.args.fell.now c.loop-t.t-index c.loop-t-test.true c.requires.from s d
+    (sym (ap (λ (x : List Pred). is_one_of x s d) c.of.ensures) ∙ e) in omega (arith, h, c.loop-t.invariant.count))
 
 pub loop-t-preserved : goal.loop-t-preserved
 loop-t-preserved c =

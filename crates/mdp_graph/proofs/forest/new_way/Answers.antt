@@ -29,7 +29,8 @@ loop-c-preserved c = λ d t h w l q. elim (cases_eq d c.loop-c.c) [
   | inl same ↦ (elim c.if-at.branch [
     | then-at+in_default u ↦
         u.attached_target.ensures.none u.in_default.is t
-        (sym (leads-as-among u.row.result.targets.now u.row.result.probs.now t u.row.result.same_length) ∙ ap (leads_to t) u.row.ensures.row ∙ ap (λ j. leads_to t (row_at c.args.model.now c.args.s j)) (sym same) ∙ q)
+        (sym (leads-as-among u.row.result.targets.now u.row.result.probs.now t u.row.result.same_length) ∙ ap
+        (leads_to t) u.row.ensures.row ∙ ap (λ j. leads_to t (row_at c.args.model.now c.args.s j)) (sym same) ∙ q)
     | else-at u ↦ absurd (false≢true (sym u.if-at.false ∙ c.at.ensures ∙ ap (waits c.args.allowed.now c.args.s) (sym same) ∙ w))
   ])
 ]

@@ -73,13 +73,16 @@ invariant_of-join c =
       found = c.requires.ends.count;
       width = c.requires.ends.width;
       inside = c.requires.ends.inner;
-      chosen = subst (λ (xs : List ℕ). IsPolicy m xs) (sym (c.deref-5.ensures.value ∙ policy)) (policy-is c.args.dir c.args.model.now c.known.ensures.mdp c.args.m P.ends.now.parts c.requires.ends.ends P.quotient.now c.requires.quotient (inners_in P.inner.now) c.requires.inner
+      chosen = subst (λ (xs : List ℕ). IsPolicy m xs) (sym (c.deref-5.ensures.value ∙ policy))
+          (policy-is c.args.dir c.args.model.now c.known.ensures.mdp c.args.m P.ends.now.parts c.requires.ends.ends P.quotient.now c.requires.quotient (inners_in P.inner.now) c.requires.inner
           (outer.plain P.outer.now) c.requires.outer P.steps.now c.requires.steps);
       marks = ap length active ∙ marks-len c.args.dir c.args.model.now c.known.ensures.mdp c.args.m P.ends.now.parts c.requires.ends.ends P.quotient.now c.requires.quotient (inners_in P.inner.now) c.requires.inner
           (outer.plain P.outer.now) c.requires.outer P.steps.now c.requires.steps;
-      gain_each = ap length (c.deref-6.ensures.value ∙ gains) ∙ gains-len c.args.dir c.args.model.now c.known.ensures.mdp c.args.m P.ends.now.parts c.requires.ends.ends P.quotient.now c.requires.quotient (inners_in P.inner.now) c.requires.inner
+      gain_each = ap length (c.deref-6.ensures.value ∙ gains) ∙ gains-len c.args.dir c.args.model.now c.known.ensures.mdp
+          c.args.m P.ends.now.parts c.requires.ends.ends P.quotient.now c.requires.quotient (inners_in P.inner.now) c.requires.inner
           (outer.plain P.outer.now) c.requires.outer P.steps.now c.requires.steps;
-      steps_each = ap length (c.deref-7.ensures.value ∙ steps) ∙ steps-len c.args.dir c.args.model.now c.known.ensures.mdp c.args.m P.ends.now.parts c.requires.ends.ends P.quotient.now c.requires.quotient (inners_in P.inner.now) c.requires.inner
+      steps_each = ap length (c.deref-7.ensures.value ∙ steps) ∙ steps-len c.args.dir c.args.model.now c.known.ensures.mdp
+          c.args.m P.ends.now.parts c.requires.ends.ends P.quotient.now c.requires.quotient (inners_in P.inner.now) c.requires.inner
           (outer.plain P.outer.now) c.requires.outer P.steps.now c.requires.steps;
       bias_each = ap length c.deref-8.ensures.value ∙ c.requires.inner.bias_each;
     }
@@ -98,7 +101,8 @@ joined-requires c =
     same-joining k c.deref-5.result.now c.in_ok-active.active c.deref-6.result.now c.deref-7.result.now c.deref-8.result.now (c.deref-5.ensures.value ∙ policy) active (c.deref-6.ensures.value ∙ gains)
     (c.deref-7.ensures.value ∙ steps) c.deref-8.ensures.value in
     record {
-      leaves = subst (λ (j : Joining). (ranks : List ℕ) × Leaves (policy_rows j) j.active ranks) (sym same) (can_leave c.args.dir c.args.model.now c.known.ensures.mdp c.args.m P.ends.now.parts c.requires.ends.ends P.quotient.now c.requires.quotient (inners_in P.inner.now) c.requires.inner
+      leaves = subst (λ (j : Joining). (ranks : List ℕ) × Leaves (policy_rows j) j.active ranks) (sym same)
+          (can_leave c.args.dir c.args.model.now c.known.ensures.mdp c.args.m P.ends.now.parts c.requires.ends.ends P.quotient.now c.requires.quotient (inners_in P.inner.now) c.requires.inner
           (outer.plain P.outer.now) c.requires.outer P.steps.now c.requires.steps);
     }
 
@@ -134,7 +138,8 @@ held-requires-clause-rules c =
     let made : written_join k ≡ Ok (shown c.in-Ok.values) = ap written_join (sym same) ∙ c.in-Ok.ensures {u = tt} in
     let v = shown c.in-Ok.values in
     subst (λ (g : List ℚ). MeetsMean c.args.dir m c.args.m g v.bound v.bias v.spread c.in_ok-policy.policy.items) (sym gains)
-    (subst (λ (xs : List ℕ). MeetsMean c.args.dir m c.args.m k.gains v.bound v.bias v.spread xs) (sym policy) (meets c.args.dir c.args.model.now c.known.ensures.mdp c.args.m P.ends.now.parts c.requires.ends.ends P.quotient.now c.requires.quotient (inners_in P.inner.now) c.requires.inner
+    (subst (λ (xs : List ℕ). MeetsMean c.args.dir m c.args.m k.gains v.bound v.bias v.spread xs) (sym policy)
+    (meets c.args.dir c.args.model.now c.known.ensures.mdp c.args.m P.ends.now.parts c.requires.ends.ends P.quotient.now c.requires.quotient (inners_in P.inner.now) c.requires.inner
     (outer.plain P.outer.now) c.requires.outer P.steps.now c.requires.steps c.requires.name v made))
 
 pub returns-clause-join : goal.returns-clause-join

@@ -15,13 +15,15 @@ toward_targets-requires-clause-target c =
 pub returns-clause-toward : goal.returns-clause-toward
 returns-clause-toward c =
     IfOk-weaker c.toward_targets.result _ _ (λ (pass : Pass) a.
-    is_toward c.args.model.now c.known.ensures.mdp c.args.ends.now.parts c.requires.ends.ends c.args.i c.requires.part c.args.target.now c.requires.some c.from_values-first.result pass.marks pass.ranks.items pass.choices.items
+    is_toward c.args.model.now c.known.ensures.mdp c.args.ends.now.parts c.requires.ends.ends c.args.i c.requires.part
+    c.args.target.now c.requires.some c.from_values-first.result pass.marks pass.ranks.items pass.choices.items
     (c.from_values-first.ensures ∙ c.in_ok-values.ensures ∙ ap (λ n. map (target_in c.args.ends.now.parts c.args.i c.args.target.now) (range_with_len 0 n)) c.states.ensures) a)
     c.toward_targets.ensures.toward
 
 pub returns-clause-marks : goal.returns-clause-marks
 returns-clause-marks c =
     IfOk-weaker c.toward_targets.result _ _ (λ (pass : Pass) a.
-    part_marked c.args.model.now c.known.ensures.mdp c.args.ends.now.parts c.requires.ends.ends c.args.i c.requires.part c.args.target.now c.requires.some c.from_values-first.result pass.marks pass.ranks.items pass.choices.items
+    part_marked c.args.model.now c.known.ensures.mdp c.args.ends.now.parts c.requires.ends.ends c.args.i c.requires.part
+    c.args.target.now c.requires.some c.from_values-first.result pass.marks pass.ranks.items pass.choices.items
     (c.from_values-first.ensures ∙ c.in_ok-values.ensures ∙ ap (λ n. map (target_in c.args.ends.now.parts c.args.i c.args.target.now) (range_with_len 0 n)) c.states.ensures) a)
     c.toward_targets.ensures.toward

@@ -23,7 +23,8 @@ loop-preds-preserved c =
     (xs : List ℕ). IsRound c.args.model.now xs c.loop-preds.allowed c.forbid_leaving.new.allowed c.forbid_leaving.result) c.deref.ensures.value c.forbid_leaving.ensures in
     record {
       sizes = IsPruned.sizes c.in_ok-forbid_losing.ensures;
-      keeps = IsPruned.keeps c.in_ok-forbid_losing.ensures (round_keeps c.args.model.now c.loop-preds.parts.items c.loop-preds.allowed c.forbid_leaving.new.allowed c.forbid_leaving.result r c.known.ensures.mdp a.parts a.keeps);
+      keeps = IsPruned.keeps c.in_ok-forbid_losing.ensures (round_keeps c.args.model.now c.loop-preds.parts.items
+          c.loop-preds.allowed c.forbid_leaving.new.allowed c.forbid_leaving.result r c.known.ensures.mdp a.parts a.keeps);
       parts = c.in_ok-parts-2.ensures;
     }
 

@@ -7,4 +7,5 @@ use Rattle.mdp_quot.proofs.build.loop_row.Goals as goal
 pub invariant_of-result-clause-distribution : goal.invariant_of-result-clause-distribution
 invariant_of-result-clause-distribution c =
     subst (λ (ts : List ℕ). IsDistribution (entries ts c.in_ok-probs.probs.now)) (sym c.in_ok-targets.ensures)
-    (subst (λ (ps : List ℚ). IsDistribution (entries (c.args.node ∷ []) ps)) (sym c.in_ok-probs.ensures) (subst (λ (p : ℚ). IsDistribution (entries (c.args.node ∷ []) (p ∷ []))) (sym c.whole.ensures) (loop_distribution c.args.node)))
+    (subst (λ (ps : List ℚ). IsDistribution (entries (c.args.node ∷ []) ps)) (sym c.in_ok-probs.ensures)
+    (subst (λ (p : ℚ). IsDistribution (entries (c.args.node ∷ []) (p ∷ []))) (sym c.whole.ensures) (loop_distribution c.args.node)))

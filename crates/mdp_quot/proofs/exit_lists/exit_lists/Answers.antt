@@ -13,5 +13,7 @@ kept P Q k n e f p = subst Q e (f (subst P (sym e) p))
 pub loop-s-preserved : goal.loop-s-preserved
 loop-s-preserved c =
     state_more c.args.model.now c.args.ends.now.parts c.args.nodes.now c.args.count c.loop-s.s _
-    (kept (λ n. AreExits c.args.model.now c.args.ends.now.parts c.args.nodes.now n (choices_below c.args.model.now c.loop-s.s) c.loop-s.lists.items) (λ n. AreExits c.args.model.now c.args.ends.now.parts c.args.nodes.now n (choices_below c.args.model.now c.loop-s.s ++ choices_of c.args.model.now c.loop-s.s) c.push_state.new.lists.items) _ _ c.loop-s.invariant.count
+    (kept (λ n. AreExits c.args.model.now c.args.ends.now.parts c.args.nodes.now n (choices_below c.args.model.now c.loop-s.s) c.loop-s.lists.items)
+    (λ n. AreExits c.args.model.now c.args.ends.now.parts c.args.nodes.now n
+    (choices_below c.args.model.now c.loop-s.s ++ choices_of c.args.model.now c.loop-s.s) c.push_state.new.lists.items) _ _ c.loop-s.invariant.count
     (c.in_ok-push_state.ensures (choices_below c.args.model.now c.loop-s.s)) c.loop-s.invariant)

@@ -12,23 +12,27 @@ use Rattle.mdp_quot.proofs.exit_lists.push_state.Goals.{then-not-inside+in_ok-pu
 
 pub loop-c-preserved : goal.loop-c-preserved
 loop-c-preserved c =
-    let is : c.inside.result ≡ is_inside c.args.model.now c.args.ends.now.parts c.args.s c.loop-c.c = c.inside.ensures ∙ c.requires.ends.inner c.args.s c.loop-c.c c.requires.state (omega (arith, c.loop-c-test.true, c.choices-c-end.ensures)) in
+    let is : c.inside.result ≡ is_inside c.args.model.now c.args.ends.now.parts c.args.s c.loop-c.c
+    = c.inside.ensures ∙ c.requires.ends.inner c.args.s c.loop-c.c c.requires.state (omega (arith, c.loop-c-test.true, c.choices-c-end.ensures)) in
     let low : get_or c.args.nodes.now c.args.s 0 < length c.args.lists.now.items = c.requires.below c.args.s 0 (omega (arith, c.requires.state, c.requires.nodes)) in
     elim c.if-not-inside.branch [
       | then-not-inside+in_ok-push w ↦
           rw w.lists-is (
             length-set c.loop-c.lists.items (get_or c.args.nodes.now c.args.s 0) w.push.new.self ∙ c.loop-c.invariant.0,
             λ choices a. choice_more c.args.model.now c.args.ends.now.parts c.args.nodes.now (length c.args.lists.now.items) c.args.s c.loop-c.c choices _
-                (exit_more c.args.model.now c.args.ends.now.parts c.args.nodes.now (length c.args.lists.now.items) (choices ++ first_choices c.args.s c.loop-c.c) c.loop-c.lists.items (c.loop-c.invariant.1 choices a) (pair c.args.s c.loop-c.c) _ (sym is ∙ w.if-not-inside.true) low
+                (exit_more c.args.model.now c.args.ends.now.parts c.args.nodes.now (length c.args.lists.now.items)
+                (choices ++ first_choices c.args.s c.loop-c.c) c.loop-c.lists.items (c.loop-c.invariant.1 choices a) (pair c.args.s c.loop-c.c) _ (sym is ∙ w.if-not-inside.true) low
                 (ap (λ (ys : List Pred). slice_set c.loop-c.lists.items (get_or c.args.nodes.now c.args.s 0) ys)
                 (w.in_ok-push.ensures
-                ∙ ap (λ (ys : List Pred). ys ++ pair c.args.s c.loop-c.c ∷ []) (w.index_mut.ensures.value ∙ get_or_default c.loop-c.lists.items (get_or c.args.nodes.now c.args.s 0) w.index_mut.result.now [] (omega (arith, low, c.loop-c.invariant.0)))))),
+                ∙ ap (λ (ys : List Pred). ys ++ pair c.args.s c.loop-c.c ∷ [])
+                (w.index_mut.ensures.value ∙ get_or_default c.loop-c.lists.items (get_or c.args.nodes.now c.args.s 0) w.index_mut.result.now [] (omega (arith, low, c.loop-c.invariant.0)))))),
           )
       | else-not-inside w ↦
           rw w.lists-is (
             c.loop-c.invariant.0,
             λ choices a. choice_more c.args.model.now c.args.ends.now.parts c.args.nodes.now (length c.args.lists.now.items) c.args.s c.loop-c.c choices _
-                (inside_more c.args.model.now c.args.ends.now.parts c.args.nodes.now (length c.args.lists.now.items) (choices ++ first_choices c.args.s c.loop-c.c) c.loop-c.lists.items (c.loop-c.invariant.1 choices a) (pair c.args.s c.loop-c.c) (sym is ∙ w.if-not-inside.false)),
+                (inside_more c.args.model.now c.args.ends.now.parts c.args.nodes.now (length c.args.lists.now.items)
+                (choices ++ first_choices c.args.s c.loop-c.c) c.loop-c.lists.items (c.loop-c.invariant.1 choices a) (pair c.args.s c.loop-c.c) (sym is ∙ w.if-not-inside.false)),
           )
     ]
 

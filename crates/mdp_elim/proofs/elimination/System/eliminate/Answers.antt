@@ -13,49 +13,63 @@ use Rattle.mdp_elim.proofs.elimination.System.eliminate.Goals as goal
 
 pub returns-in_err-divide-clause-wide : goal.returns-in_err-divide-clause-wide
 returns-in_err-divide-clause-wide c = λ _.
-    let at_s : c.remove-equation.result ≡ at c.args.self.now.equations.items c.args.s = c.remove-equation.ensures.value ∙ get_or_default c.args.self.now.equations.items c.args.s _ spec.no_equation (omega (arith, c.requires.linked.count)) in
+    let at_s : c.remove-equation.result ≡ at c.args.self.now.equations.items c.args.s = c.remove-equation.ensures.value
+    ∙ get_or_default c.args.self.now.equations.items c.args.s _ spec.no_equation (omega (arith, c.requires.linked.count)) in
     eliminated-none_pivot c.args.s c.args.self.now.equations.items (subst (λ (e : spec.Equation). divided c.args.s e ≡ None) at_s (c.in_err-divide.ensures {u = tt}).wide)
 
 pub substitute_in_each-requires-clause-linked : goal.substitute_in_each-requires-clause-linked
 substitute_in_each-requires-clause-linked c =
     subst (λ (ls : List (SmallVec ℕ)). IsLinked c.args.s (c.args.s + 1) ls c.remove-equation.new.self.items) (sym c.remove-states.ensures.items)
-    (subst (λ (es : List spec.Equation). IsLinked c.args.s (c.args.s + 1) (remove c.args.self.now.lists.items c.args.s) es) (sym c.remove-equation.ensures.items) (rest_linked c.args.s c.args.self.now.lists.items c.args.self.now.equations.items c.requires.linked))
+    (subst (λ (es : List spec.Equation). IsLinked c.args.s (c.args.s + 1) (remove c.args.self.now.lists.items c.args.s) es)
+    (sym c.remove-equation.ensures.items) (rest_linked c.args.s c.args.self.now.lists.items c.args.self.now.equations.items c.requires.linked))
 
 pub substitute_in_each-requires-clause-pivot : goal.substitute_in_each-requires-clause-pivot
 substitute_in_each-requires-clause-pivot c =
-    let at_s : c.remove-equation.result ≡ at c.args.self.now.equations.items c.args.s = c.remove-equation.ensures.value ∙ get_or_default c.args.self.now.equations.items c.args.s _ spec.no_equation (omega (arith, c.requires.linked.count)) in
-    let made : divided c.args.s (at c.args.self.now.equations.items c.args.s) ≡ Some c.divide.new.self = subst (λ (e : spec.Equation). divided c.args.s e ≡ Some c.divide.new.self) at_s (c.in_ok-divide.ensures {u = tt}).ok in
+    let at_s : c.remove-equation.result ≡ at c.args.self.now.equations.items c.args.s = c.remove-equation.ensures.value
+    ∙ get_or_default c.args.self.now.equations.items c.args.s _ spec.no_equation (omega (arith, c.requires.linked.count)) in
+    let made : divided c.args.s (at c.args.self.now.equations.items c.args.s) ≡ Some c.divide.new.self = subst
+    (λ (e : spec.Equation). divided c.args.s e ≡ Some c.divide.new.self) at_s (c.in_ok-divide.ensures {u = tt}).ok in
     let is : c.in_ok-pivot.pivot ≡ c.divide.new.self = c.in_ok-pivot.ensures {u = tt} in
     subst (λ (e : spec.Equation). Between 0 c.args.s e.entries) (sym is) (pivot_below c.args.s c.args.self.now.lists.items c.args.self.now.equations.items c.requires.linked c.divide.new.self made)
 
 pub substitute_in_each-requires-clause-smaller : goal.substitute_in_each-requires-clause-smaller
 substitute_in_each-requires-clause-smaller c =
-    let list : c.remove-states.result ≡ get_or c.args.self.now.lists.items c.args.s no_states = c.remove-states.ensures.value ∙ get_or_default c.args.self.now.lists.items c.args.s _ no_states (omega (arith, c.requires.linked.as_many)) in
+    let list : c.remove-states.result ≡ get_or c.args.self.now.lists.items c.args.s no_states = c.remove-states.ensures.value
+    ∙ get_or_default c.args.self.now.lists.items c.args.s _ no_states (omega (arith, c.requires.linked.as_many)) in
     let same : c.deref.result.now ≡ SmallVec.items (get_or c.args.self.now.lists.items c.args.s no_states) = c.deref.ensures ∙ ap SmallVec.items list in
-    subst (λ (xs : List ℕ). All (λ t. t < c.args.s) xs) (sym same) (taken_smaller c.args.s c.args.self.now.lists.items c.args.self.now.equations.items (linked_suc c.args.s c.args.self.now.lists.items c.args.self.now.equations.items c.requires.linked))
+    subst (λ (xs : List ℕ). All (λ t. t < c.args.s) xs) (sym same)
+    (taken_smaller c.args.s c.args.self.now.lists.items c.args.self.now.equations.items (linked_suc c.args.s c.args.self.now.lists.items c.args.self.now.equations.items c.requires.linked))
 
 pub returns-in_err-substitute_in_each-clause-wide : goal.returns-in_err-substitute_in_each-clause-wide
 returns-in_err-substitute_in_each-clause-wide c = λ h.
     let w : c.substitute_in_each.result ≡ Err error.Wide = search rules in
-    let at_s : c.remove-equation.result ≡ at c.args.self.now.equations.items c.args.s = c.remove-equation.ensures.value ∙ get_or_default c.args.self.now.equations.items c.args.s _ spec.no_equation (omega (arith, c.requires.linked.count)) in
+    let at_s : c.remove-equation.result ≡ at c.args.self.now.equations.items c.args.s = c.remove-equation.ensures.value
+    ∙ get_or_default c.args.self.now.equations.items c.args.s _ spec.no_equation (omega (arith, c.requires.linked.count)) in
     let is : c.in_ok-pivot.pivot ≡ c.divide.new.self = c.in_ok-pivot.ensures {u = tt} in
-    let made : divided c.args.s (at c.args.self.now.equations.items c.args.s) ≡ Some c.in_ok-pivot.pivot = subst (λ (e : spec.Equation). divided c.args.s e ≡ Some c.divide.new.self) at_s (c.in_ok-divide.ensures {u = tt}).ok ∙ ap Some (sym is) in
+    let made : divided c.args.s (at c.args.self.now.equations.items c.args.s) ≡ Some c.in_ok-pivot.pivot = subst
+    (λ (e : spec.Equation). divided c.args.s e ≡ Some c.divide.new.self) at_s (c.in_ok-divide.ensures {u = tt}).ok ∙ ap Some (sym is) in
     whole_none c.args.s c.args.self.now.lists.items c.args.self.now.equations.items c.requires.linked c.in_ok-pivot.pivot made
     (subst (λ (es : List spec.Equation). each (substituted c.args.s c.in_ok-pivot.pivot) es ≡ None) c.remove-equation.ensures.items (c.substitute_in_each.ensures.wide w))
 
 pub returns-clause-ok : goal.returns-clause-ok
 returns-clause-ok c =
-    let at_s : c.remove-equation.result ≡ at c.args.self.now.equations.items c.args.s = c.remove-equation.ensures.value ∙ get_or_default c.args.self.now.equations.items c.args.s _ spec.no_equation (omega (arith, c.requires.linked.count)) in
+    let at_s : c.remove-equation.result ≡ at c.args.self.now.equations.items c.args.s = c.remove-equation.ensures.value
+    ∙ get_or_default c.args.self.now.equations.items c.args.s _ spec.no_equation (omega (arith, c.requires.linked.count)) in
     let is : c.in_ok-pivot.pivot ≡ c.divide.new.self = c.in_ok-pivot.ensures {u = tt} in
-    let made : divided c.args.s (at c.args.self.now.equations.items c.args.s) ≡ Some c.in_ok-pivot.pivot = subst (λ (e : spec.Equation). divided c.args.s e ≡ Some c.divide.new.self) at_s (c.in_ok-divide.ensures {u = tt}).ok ∙ ap Some (sym is) in
+    let made : divided c.args.s (at c.args.self.now.equations.items c.args.s) ≡ Some c.in_ok-pivot.pivot = subst
+    (λ (e : spec.Equation). divided c.args.s e ≡ Some c.divide.new.self) at_s (c.in_ok-divide.ensures {u = tt}).ok ∙ ap Some (sym is) in
     whole c.args.s c.args.self.now.lists.items c.args.self.now.equations.items c.requires.linked c.in_ok-pivot.pivot made c.substitute_in_each.new.self.equations.items
-    (subst (λ (es : List spec.Equation). each (substituted c.args.s c.in_ok-pivot.pivot) es ≡ Some c.substitute_in_each.new.self.equations.items) c.remove-equation.ensures.items (c.in_ok-substitute_in_each.ensures {u = tt}).ok)
+    (subst (λ (es : List spec.Equation). each (substituted c.args.s c.in_ok-pivot.pivot) es ≡ Some c.substitute_in_each.new.self.equations.items)
+    c.remove-equation.ensures.items (c.in_ok-substitute_in_each.ensures {u = tt}).ok)
 
 pub returns-clause-linked : goal.returns-clause-linked
 returns-clause-linked c =
-    let at_s : c.remove-equation.result ≡ at c.args.self.now.equations.items c.args.s = c.remove-equation.ensures.value ∙ get_or_default c.args.self.now.equations.items c.args.s _ spec.no_equation (omega (arith, c.requires.linked.count)) in
+    let at_s : c.remove-equation.result ≡ at c.args.self.now.equations.items c.args.s = c.remove-equation.ensures.value
+    ∙ get_or_default c.args.self.now.equations.items c.args.s _ spec.no_equation (omega (arith, c.requires.linked.count)) in
     let is : c.in_ok-pivot.pivot ≡ c.divide.new.self = c.in_ok-pivot.ensures {u = tt} in
-    let made : divided c.args.s (at c.args.self.now.equations.items c.args.s) ≡ Some c.in_ok-pivot.pivot = subst (λ (e : spec.Equation). divided c.args.s e ≡ Some c.divide.new.self) at_s (c.in_ok-divide.ensures {u = tt}).ok ∙ ap Some (sym is) in
+    let made : divided c.args.s (at c.args.self.now.equations.items c.args.s) ≡ Some c.in_ok-pivot.pivot = subst
+    (λ (e : spec.Equation). divided c.args.s e ≡ Some c.divide.new.self) at_s (c.in_ok-divide.ensures {u = tt}).ok ∙ ap Some (sym is) in
     whole_linked c.args.s c.args.self.now.lists.items c.args.self.now.equations.items c.requires.linked c.in_ok-pivot.pivot made c.substitute_in_each.new.self.equations.items
-    (subst (λ (es : List spec.Equation). each (substituted c.args.s c.in_ok-pivot.pivot) es ≡ Some c.substitute_in_each.new.self.equations.items) c.remove-equation.ensures.items (c.in_ok-substitute_in_each.ensures {u = tt}).ok)
+    (subst (λ (es : List spec.Equation). each (substituted c.args.s c.in_ok-pivot.pivot) es ≡ Some c.substitute_in_each.new.self.equations.items)
+    c.remove-equation.ensures.items (c.in_ok-substitute_in_each.ensures {u = tt}).ok)
     c.substitute_in_each.new.self.lists.items (c.in_ok-substitute_in_each.ensures {u = tt}).linked

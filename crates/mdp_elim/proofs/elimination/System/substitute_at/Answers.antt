@@ -28,11 +28,13 @@ returns-clause-linked c =
     let kept : ListsMore lists more = subst (λ (ls : List (SmallVec ℕ)). ListsMore ls more) c.deref_mut.ensures.value (c.in_ok-list_new.ensures {u = tt}).more in
     let fresh : All (λ x. t < x.target → LeadsTo (at old t).entries x.target ⊎ IsListed more x.target t) c.args.pivot.now.entries =
     subst (λ (source : List Entry). All (λ x. t < x.target → LeadsTo (at old t).entries x.target ⊎ IsListed more x.target t) source) c.entries-2.ensures
-    (subst (λ (row : List Entry). All (λ x. t < x.target → LeadsTo row x.target ⊎ IsListed more x.target t) c.entries-2.result.now) (c.entries.ensures ∙ ap spec.Equation.entries is) (c.in_ok-list_new.ensures {u = tt}).listed) in
+    (subst (λ (row : List Entry). All (λ x. t < x.target → LeadsTo row x.target ⊎ IsListed more x.target t) c.entries-2.result.now)
+    (c.entries.ensures ∙ ap spec.Equation.entries is) (c.in_ok-list_new.ensures {u = tt}).listed) in
     let same = with_items_is c.args.self.now.lists more (omega (arith, kept.count)) in
     on_ok_weaker c.substitute.result
     (λ h.
     subst (λ (ls : List (SmallVec ℕ)). IsLinked c.args.s (c.args.s + 1) ls (set old t c.substitute.new.self)) (sym same)
     (put_linked c.args.s t c.args.pivot.now c.requires.pivot lists more old (set old t c.substitute.new.self) c.requires.state c.requires.linked kept fresh
-    (put_at c.args.s t c.args.pivot.now old c.substitute.new.self within (subst (λ (e : spec.Equation). substituted c.args.s c.args.pivot.now e ≡ Some c.substitute.new.self) is h)) (length-set old t c.substitute.new.self)))
+    (put_at c.args.s t c.args.pivot.now old c.substitute.new.self within (subst (λ (e : spec.Equation). substituted c.args.s c.args.pivot.now e ≡ Some c.substitute.new.self) is h))
+    (length-set old t c.substitute.new.self)))
     c.substitute.ensures.ok

@@ -25,4 +25,5 @@ returns-clause-ok c =
     let e : c.args.s + 1 ≡ suc c.args.s = omega arith in
     let n : c.loop-t.t-index ≡ length c.args.states.now = omega (arith, c.loop-t.auto.t-index-end, c.loop-t-test.false) in
     put_all c.args.s c.args.pivot.now c.requires.pivot c.args.states.now c.args.self.now.equations.items (subst (λ n. LeadBelow c.args.s n c.args.self.now.equations.items) e c.requires.linked.down)
-    c.loop-t.self.equations.items (subst (λ j. IsPutBelow c.args.s c.args.pivot.now c.args.states.now j c.args.self.now.equations.items c.loop-t.self.equations.items) n c.loop-t.invariant.put) c.requires.complete c.requires.linked.count (c.loop-t.invariant.linked.count ∙ sym c.requires.linked.count)
+    c.loop-t.self.equations.items (subst (λ j. IsPutBelow c.args.s c.args.pivot.now c.args.states.now j c.args.self.now.equations.items c.loop-t.self.equations.items) n c.loop-t.invariant.put)
+    c.requires.complete c.requires.linked.count (c.loop-t.invariant.linked.count ∙ sym c.requires.linked.count)

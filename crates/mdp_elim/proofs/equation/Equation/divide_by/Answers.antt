@@ -49,7 +49,10 @@ returns-in_err-second-clause-wide c =
 pub returns-clause-ok : goal.returns-clause-ok
 returns-clause-ok c =
     let same = with_items_is c.self.inside.entries c.divide_row.new.row (omega arith) in
-    subst (λ (e : spec.Equation). divided_rest c.args.own.now e ≡ Some (record { entries = (with_items c.self.inside.entries c.divide_row.new.row).items; first = c.in_ok-first.first; second = c.in_ok-second.second })) c.self.view_is
-    (subst (λ (xs : List Entry). divided_rest c.args.own.now (record { entries = c.self.inside.entries.items; first = c.self.inside.first; second = c.self.inside.second }) ≡ Some (record { entries = xs; first = c.in_ok-first.first; second = c.in_ok-second.second })) (sym same)
+    subst (λ (e : spec.Equation). divided_rest c.args.own.now e ≡ Some
+    (record { entries = (with_items c.self.inside.entries c.divide_row.new.row).items; first = c.in_ok-first.first; second = c.in_ok-second.second })) c.self.view_is
+    (subst (λ (xs : List Entry). divided_rest c.args.own.now (record { entries = c.self.inside.entries.items; first = c.self.inside.first; second = c.self.inside.second })
+    ≡ Some (record { entries = xs; first = c.in_ok-first.first; second = c.in_ok-second.second })) (sym same)
     (divided_rest-some c.args.own.now _ c.in_ok-divisor.divisor (let h = c.in_ok-divisor.ensures {u = tt} in rw (c.whole.ensures) at h)
-    c.divide_row.new.row (let h = (c.in_ok-divide_row.ensures {u = tt}).ok in rw (c.deref_mut.ensures.value) at h) c.in_ok-first.first c.in_ok-second.second (c.in_ok-first.ensures {u = tt}) (c.in_ok-second.ensures {u = tt})))
+    c.divide_row.new.row (let h = (c.in_ok-divide_row.ensures {u = tt}).ok in rw (c.deref_mut.ensures.value) at h)
+    c.in_ok-first.first c.in_ok-second.second (c.in_ok-first.ensures {u = tt}) (c.in_ok-second.ensures {u = tt})))

@@ -31,5 +31,6 @@ pub returns-clause-ok : goal.returns-clause-ok
 returns-clause-ok c =
     let row : plus_row c.args.times.now c.other.inside.entries.now c.self.inside.entries.items ≡ Some c.add_row.new.row.items = (c.in_ok-add_row.ensures {u = tt}).ok in
     subst (λ (e : spec.Equation). plus_equation c.args.times.now c.args.other.now e ≡ Some (record { entries = c.add_row.new.row.items; first = c.in_ok-first.first; second = c.in_ok-second.second })) c.self.view_is
-    (subst (λ (o : spec.Equation). plus_equation c.args.times.now o (record { entries = c.self.inside.entries.items; first = c.self.inside.first; second = c.self.inside.second }) ≡ Some (record { entries = c.add_row.new.row.items; first = c.in_ok-first.first; second = c.in_ok-second.second })) c.other.view_is
+    (subst (λ (o : spec.Equation). plus_equation c.args.times.now o (record { entries = c.self.inside.entries.items; first = c.self.inside.first; second = c.self.inside.second })
+    ≡ Some (record { entries = c.add_row.new.row.items; first = c.in_ok-first.first; second = c.in_ok-second.second })) c.other.view_is
     (plus_equation-some c.args.times.now _ _ _ row _ (c.in_ok-first.ensures {u = tt}) _ (c.in_ok-second.ensures {u = tt})))

@@ -21,7 +21,8 @@ index_mut-requires c = omega (arith, choice_there _ _ _ _ c.args.s c.args.c _ c.
 
 pub returns-then-not-index-clause-released : goal.returns-then-not-index-clause-released
 returns-then-not-index-clause-released c =
-    released_before c.args.self.now c.args.s c.args.c (sym (choice_read _ _ _ _ c.args.s c.args.c _ c.self.invariant c.self.view_is c.requires.state c.requires.choice c.index.ensures _ c.index-2.ensures) ∙ c.if-not-index.true)
+    released_before c.args.self.now c.args.s c.args.c (sym (choice_read _ _ _ _ c.args.s c.args.c _ c.self.invariant
+    c.self.view_is c.requires.state c.requires.choice c.index.ensures _ c.index-2.ensures) ∙ c.if-not-index.true)
 
 pub overflow_sub-index_mut : goal.overflow_sub-index_mut
 overflow_sub-index_mut c =
@@ -52,4 +53,5 @@ returns-clause-last c =
     rw (choice_set _ _ _ _ c.args.s c.args.c _ c.self.invariant c.self.view_is c.requires.state c.requires.choice c.index.ensures false)
     (last_waited c.args.self.now c.self.inside.counts.items c.args.s c.args.c _
     (count_there _ _ _ _ c.args.s c.self.invariant c.self.view_is c.requires.state) c.requires.state
-    (sym (choice_read _ _ _ _ c.args.s c.args.c _ c.self.invariant c.self.view_is c.requires.state c.requires.choice c.index.ensures _ c.index-2.ensures) ∙ c.if-not-index.false) c.index_mut-2.ensures.value _ c.index-3.ensures)
+    (sym (choice_read _ _ _ _ c.args.s c.args.c _ c.self.invariant c.self.view_is c.requires.state c.requires.choice c.index.ensures _ c.index-2.ensures) ∙ c.if-not-index.false)
+    c.index_mut-2.ensures.value _ c.index-3.ensures)

@@ -15,5 +15,6 @@ returns-in_ok-open-in-None c = λ parts n a is.
     subst (λ (xs : List (Option ℕ)). IsNumbering parts (n + 1) c.open.new.self.nodes.items xs c.open.new.self.first.items)
     (sym (c.in_ok-open-in-None.ensures.components ∙ ap (λ (o : Option ℕ). c.args.self.now.components.items ++ o ∷ []) is))
     (subst (λ (xs : List ℕ). IsNumbering parts (n + 1) xs (c.args.self.now.components.items ++ part_of parts n ∷ []) c.open.new.self.first.items) (sym c.in_ok-open-in-None.ensures.nodes)
-    (new_more parts n c.args.self.now.nodes.items c.args.self.now.components.items c.args.self.now.first.items a c.open.new.self.first.items (λ i e. c.in-None.ensures.none refl i (is ∙ e)) c.in_ok-open-in-None.ensures.room
+    (new_more parts n c.args.self.now.nodes.items c.args.self.now.components.items c.args.self.now.first.items a
+    c.open.new.self.first.items (λ i e. c.in-None.ensures.none refl i (is ∙ e)) c.in_ok-open-in-None.ensures.room
     (λ i e. c.in_ok-open-in-None.ensures.given i (is ∙ e)) (λ j no. c.in_ok-open-in-None.ensures.others j (λ e. no (sym is ∙ e)))))

@@ -23,19 +23,23 @@ all_nodes-requires-clause-below c = below_by _ _ _ _ refl c.in_ok-numbering.ensu
 
 pub all_nodes-requires-clause-exits : goal.all_nodes-requires-clause-exits
 all_nodes-requires-clause-exits c =
-    subst (λ (lists : List (List Pred)). All (All (IsChoice c.args.model.now)) lists) (sym c.deref-2.ensures.value) (lists-choices c.args.model.now c.args.ends.now.parts c.deref.result.now c.len-count.result c.in_ok-lists.lists.items c.in_ok-lists.ensures)
+    subst (λ (lists : List (List Pred)). All (All (IsChoice c.args.model.now)) lists) (sym c.deref-2.ensures.value)
+    (lists-choices c.args.model.now c.args.ends.now.parts c.deref.result.now c.len-count.result c.in_ok-lists.lists.items c.in_ok-lists.ensures)
 
 pub from_parts-requires : goal.from_parts-requires
 from_parts-requires c =
     let i = c.in_ok-numbering.ensures in
-    let x : AreExits c.args.model.now c.args.ends.now.parts c.in_ok-numbering.numbering.nodes.items (length c.in_ok-numbering.numbering.components.items) (choices_below c.args.model.now (states_of c.args.model.now)) c.in_ok-lists.lists.items =
+    let x : AreExits c.args.model.now c.args.ends.now.parts c.in_ok-numbering.numbering.nodes.items
+    (length c.in_ok-numbering.numbering.components.items) (choices_below c.args.model.now (states_of c.args.model.now)) c.in_ok-lists.lists.items =
     subst (λ n. AreExits c.args.model.now c.args.ends.now.parts c.in_ok-numbering.numbering.nodes.items n (choices_below c.args.model.now (states_of c.args.model.now)) c.in_ok-lists.lists.items) c.len-count.ensures
-    (subst (λ (ns : List ℕ). AreExits c.args.model.now c.args.ends.now.parts ns c.len-count.result (choices_below c.args.model.now (states_of c.args.model.now)) c.in_ok-lists.lists.items) c.deref.ensures.value c.in_ok-lists.ensures)
+    (subst (λ (ns : List ℕ). AreExits c.args.model.now c.args.ends.now.parts ns c.len-count.result
+    (choices_below c.args.model.now (states_of c.args.model.now)) c.in_ok-lists.lists.items) c.deref.ensures.value c.in_ok-lists.ensures)
     in
     let nodes : c.in_ok-nodes-2.nodes.now ≡ c.in_ok-nodes.nodes.items = c.in_ok-nodes-2.ensures ∙ c.deref-4.ensures.value in
     let q : Quotient = quotient_in c.in_ok-node_of.node_of.now c.in_ok-nodes-2.nodes.now in
     let is : IsQuotient c.args.model.now c.args.ends.now.parts q =
-    quotient_found c.args.model.now c.args.ends.now.parts c.in_ok-numbering.numbering.nodes.items c.in_ok-numbering.numbering.components.items c.in_ok-numbering.numbering.first.items c.in_ok-lists.lists.items c.requires.ends.count i x q
+    quotient_found c.args.model.now c.args.ends.now.parts c.in_ok-numbering.numbering.nodes.items
+    c.in_ok-numbering.numbering.components.items c.in_ok-numbering.numbering.first.items c.in_ok-lists.lists.items c.requires.ends.count i x q
     (c.in_ok-node_of.ensures ∙ c.deref-3.ensures.value)
     (ap (λ (xs : List Node). map (λ (y : Node). y.component) xs) nodes ∙ c.in_ok-nodes.ensures.components)
     (ap (λ (xs : List Node). map (λ (y : Node). y.exits.now) xs) nodes ∙ c.in_ok-nodes.ensures.exits ∙ c.deref-2.ensures.value)
@@ -48,14 +52,17 @@ from_parts-requires c =
 pub returns : goal.returns
 returns c =
     let i = c.in_ok-numbering.ensures in
-    let x : AreExits c.args.model.now c.args.ends.now.parts c.in_ok-numbering.numbering.nodes.items (length c.in_ok-numbering.numbering.components.items) (choices_below c.args.model.now (states_of c.args.model.now)) c.in_ok-lists.lists.items =
+    let x : AreExits c.args.model.now c.args.ends.now.parts c.in_ok-numbering.numbering.nodes.items
+    (length c.in_ok-numbering.numbering.components.items) (choices_below c.args.model.now (states_of c.args.model.now)) c.in_ok-lists.lists.items =
     subst (λ n. AreExits c.args.model.now c.args.ends.now.parts c.in_ok-numbering.numbering.nodes.items n (choices_below c.args.model.now (states_of c.args.model.now)) c.in_ok-lists.lists.items) c.len-count.ensures
-    (subst (λ (ns : List ℕ). AreExits c.args.model.now c.args.ends.now.parts ns c.len-count.result (choices_below c.args.model.now (states_of c.args.model.now)) c.in_ok-lists.lists.items) c.deref.ensures.value c.in_ok-lists.ensures)
+    (subst (λ (ns : List ℕ). AreExits c.args.model.now c.args.ends.now.parts ns c.len-count.result
+    (choices_below c.args.model.now (states_of c.args.model.now)) c.in_ok-lists.lists.items) c.deref.ensures.value c.in_ok-lists.ensures)
     in
     let nodes : c.in_ok-nodes-2.nodes.now ≡ c.in_ok-nodes.nodes.items = c.in_ok-nodes-2.ensures ∙ c.deref-4.ensures.value in
     let q : Quotient = quotient_in c.in_ok-node_of.node_of.now c.in_ok-nodes-2.nodes.now in
     subst (λ (r : Quotient). IsQuotient c.args.model.now c.args.ends.now.parts r) (sym c.from_parts.ensures)
-    (quotient_found c.args.model.now c.args.ends.now.parts c.in_ok-numbering.numbering.nodes.items c.in_ok-numbering.numbering.components.items c.in_ok-numbering.numbering.first.items c.in_ok-lists.lists.items c.requires.ends.count i x q
+    (quotient_found c.args.model.now c.args.ends.now.parts c.in_ok-numbering.numbering.nodes.items
+    c.in_ok-numbering.numbering.components.items c.in_ok-numbering.numbering.first.items c.in_ok-lists.lists.items c.requires.ends.count i x q
     (c.in_ok-node_of.ensures ∙ c.deref-3.ensures.value)
     (ap (λ (xs : List Node). map (λ (y : Node). y.component) xs) nodes ∙ c.in_ok-nodes.ensures.components)
     (ap (λ (xs : List Node). map (λ (y : Node). y.exits.now) xs) nodes ∙ c.in_ok-nodes.ensures.exits ∙ c.deref-2.ensures.value)

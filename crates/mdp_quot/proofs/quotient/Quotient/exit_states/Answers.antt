@@ -13,7 +13,8 @@ bounds-outer-q c =
 
 pub bounds-exits-taken : goal.bounds-exits-taken
 bounds-exits-taken c =
-    let l = exit-taken c.args.model.now c.args.ends.now.parts c.requires.ends.ends.count c.args.self.now c.requires.quotient c.args.outer.now c.requires.outer c.loop-q.q (omega (arith, c.loop-q-test.true, c.nodes-q-end.ensures)) (omega (arith, c.if-taken-gt0.true)) in
+    let l = exit-taken c.args.model.now c.args.ends.now.parts c.requires.ends.ends.count c.args.self.now c.requires.quotient c.args.outer.now
+    c.requires.outer c.loop-q.q (omega (arith, c.loop-q-test.true, c.nodes-q-end.ensures)) (omega (arith, c.if-taken-gt0.true)) in
     let e = ap length c.exits-exits.ensures in
     omega (arith, l, e)
 
@@ -36,7 +37,9 @@ loop-q-preserved c =
       | then-taken-gt0 w ↦
           (let l = exit-taken c.args.model.now c.args.ends.now.parts c.requires.ends.ends.count c.args.self.now c.requires.quotient c.args.outer.now c.requires.outer n h (omega (arith, w.if-taken-gt0.true)) in
           rw (w.states-is, w.set.ensures)
-          (taken_more c.args.model.now c.args.ends.now.parts c.requires.ends.ends.count c.args.self.now c.requires.quotient c.args.outer.now n c.loop-q.states c.loop-q.invariant k h l (omega (arith, w.if-taken-gt0.true)) _
+          (taken_more c.args.model.now c.args.ends.now.parts c.requires.ends.ends.count c.args.self.now
+          c.requires.quotient c.args.outer.now n c.loop-q.states c.loop-q.invariant k h l (omega (arith, w.if-taken-gt0.true)) _
           (read-exit c.args.model.now c.args.ends.now.parts c.requires.ends.ends.count c.args.self.now c.requires.quotient n k w.exits-exits.result.now (pair 0 0) h l w.exits-exits.ensures)))
-      | else-taken-gt0 w ↦ rw w.states-is (taken_none c.args.model.now c.args.ends.now.parts c.requires.ends.ends.count c.args.self.now c.requires.quotient c.args.outer.now n c.loop-q.states c.loop-q.invariant (omega (arith, w.if-taken-gt0.false)))
+      | else-taken-gt0 w ↦ rw w.states-is (taken_none c.args.model.now c.args.ends.now.parts c.requires.ends.ends.count
+          c.args.self.now c.requires.quotient c.args.outer.now n c.loop-q.states c.loop-q.invariant (omega (arith, w.if-taken-gt0.false)))
     ]

@@ -19,17 +19,20 @@ clear-requires c =
     subst (λ n. All (λ q. q < n) c.sort.new.self.items) (sym c.in_ok-add_row.ensures.count)
     (sorted-below _ _ _ _ _ _ c.in_ok-add_row.ensures c.in_ok-sort.ensures.permutation (IsNonDecreasingBy-from_sort (λ x. x) _ c.in_ok-sort.ensures.sorted))
 
-laid : (ts sorted found : List ℕ) (ps probs : List ℚ) (sums gone : List ℚ) (xs : List Entry) → ts ≡ sorted → ps ≡ probs → probs ≡ map (value_at gone) found → gone ≡ sums → found ≡ sorted → entries sorted (map (value_at sums) sorted) ≡ xs → entries ts ps ≡ xs
+laid : (ts sorted found : List ℕ) (ps probs : List ℚ) (sums gone : List ℚ) (xs : List Entry) → ts ≡ sorted → ps ≡ probs
+    → probs ≡ map (value_at gone) found → gone ≡ sums → found ≡ sorted → entries sorted (map (value_at sums) sorted) ≡ xs → entries ts ps ≡ xs
 laid ts sorted found ps probs sums gone xs a b c d e f = ap₂ entries a (b ∙ c ∙ ap₂ (λ (zs : List ℚ) (qs : List ℕ). map (value_at zs) qs) d e) ∙ f
 
 pub returns-clause-row : goal.returns-clause-row
 returns-clause-row c =
-    laid _ c.sort.new.self.items _ _ _ c.add_row.new.self.sums.items _ _ (c.in_ok-targets.ensures ∙ c.deref-3.ensures.value) (c.in_ok-probs-2.ensures ∙ c.deref-4.ensures.value) c.in_ok-probs.ensures c.deref.ensures.value c.deref-2.ensures.value
+    laid _ c.sort.new.self.items _ _ _ c.add_row.new.self.sums.items _ _ (c.in_ok-targets.ensures ∙ c.deref-3.ensures.value)
+    (c.in_ok-probs-2.ensures ∙ c.deref-4.ensures.value) c.in_ok-probs.ensures c.deref.ensures.value c.deref-2.ensures.value
     (merged_is _ _ _ _ _ _ c.in_ok-add_row.ensures c.in_ok-sort.ensures.permutation (IsNonDecreasingBy-from_sort (λ x. x) _ c.in_ok-sort.ensures.sorted))
 
 pub invariant_of-result-clause-distribution : goal.invariant_of-result-clause-distribution
 invariant_of-result-clause-distribution c =
-    let e = laid _ c.sort.new.self.items _ _ _ c.add_row.new.self.sums.items _ _ (c.in_ok-targets.ensures ∙ c.deref-3.ensures.value) (c.in_ok-probs-2.ensures ∙ c.deref-4.ensures.value) c.in_ok-probs.ensures c.deref.ensures.value c.deref-2.ensures.value refl in
+    let e = laid _ c.sort.new.self.items _ _ _ c.add_row.new.self.sums.items _ _ (c.in_ok-targets.ensures ∙ c.deref-3.ensures.value)
+    (c.in_ok-probs-2.ensures ∙ c.deref-4.ensures.value) c.in_ok-probs.ensures c.deref.ensures.value c.deref-2.ensures.value refl in
     subst IsDistribution (sym e)
     (IsRow.distribution (sorted-row _ _ _ _ _ _ c.in_ok-add_row.ensures c.in_ok-sort.ensures.permutation (IsNonDecreasingBy-from_sort (λ x. x) _ c.in_ok-sort.ensures.sorted) c.args.row.distribution
     (nodes_below _ c.args.nodes.now c.args.row.targets.now c.args.row.probs.now c.args.row.same_length c.requires.targets c.requires.nodes)))
@@ -37,7 +40,8 @@ invariant_of-result-clause-distribution c =
 pub returns-clause-clear : goal.returns-clause-clear
 returns-clause-clear c =
     subst (λ (qs : List ℕ). IsClear (length c.args.self.now.sums.items) c.clear.new.self.sums.items qs) (sym c.clear.ensures.none)
-    (sums_cleared _ _ _ _ _ _ c.in_ok-add_row.ensures c.in_ok-sort.ensures.permutation (IsNonDecreasingBy-from_sort (λ x. x) _ c.in_ok-sort.ensures.sorted) _ c.clear.ensures.count (probs_nonneg _ c.args.row.distribution) c.clear.ensures.cleared c.clear.ensures.same)
+    (sums_cleared _ _ _ _ _ _ c.in_ok-add_row.ensures c.in_ok-sort.ensures.permutation (IsNonDecreasingBy-from_sort (λ x. x) _ c.in_ok-sort.ensures.sorted) _
+    c.clear.ensures.count (probs_nonneg _ c.args.row.distribution) c.clear.ensures.cleared c.clear.ensures.same)
 
 pub returns-clause-in_range : goal.returns-clause-in_range
 returns-clause-in_range c =
