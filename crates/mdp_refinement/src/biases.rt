@@ -9,11 +9,18 @@ use std::alloc::{AllocError, Global};
 /// Components of more nodes are swept before nodes are eliminated.
 const FEW_NODES: usize = 40;
 
+/// The part of a change that slow sweeps keep, and the slowest.
+const SLOW: f64 = 0.75;
+
+const SLOWEST: f64 = 0.5;
+
 /// How corrections are found.
 #[derive(Clone, Copy, PartialEq, Eq)]
 enum Way {
-    /// By few sweeps, if a forecast says that they come to an end, else by policies.
+    /// By few sweeps, if a forecast says that they come to an end, else by slower ones.
     FewSweeps,
+    /// By few sweeps that keep a part of each change, if a forecast says that they come to an end, else by policies.
+    SlowSweeps,
     /// By policies.
     Policies,
     /// By many sweeps, where elimination takes too long.
@@ -70,7 +77,7 @@ impl<'a> Biases<'a> {
             return Ok(gain);
         }
         self.way = Way::ManySweeps;
-        self.sweeps.slow_down();
+        self.sweeps.slow_down(SLOWEST);
         Ok(self.by_many_sweeps(gains))
     }
 
@@ -80,6 +87,13 @@ impl<'a> Biases<'a> {
             return Ok(self.by_many_sweeps(gains));
         }
         if self.way == Way::FewSweeps {
+            if self.sweeps.run(gains, FEW_SWEEPS) {
+                return Ok(self.sweeps.gain());
+            }
+            self.sweeps.slow_down(SLOW);
+            self.way = Way::SlowSweeps;
+        }
+        if self.way == Way::SlowSweeps {
             if self.sweeps.run(gains, FEW_SWEEPS) {
                 return Ok(self.sweeps.gain());
             }

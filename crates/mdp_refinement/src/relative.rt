@@ -51,9 +51,9 @@ impl<'a> Relative<'a> {
         })
     }
 
-    /// Half of what a sweep changes is kept from now on, so that a chain with a period settles too.
-    pub(crate) fn slow_down(&mut self) {
-        self.pace = 0.5;
+    /// This part of what a sweep changes is kept from now on, so that a chain with a period, or nearly one, settles too.
+    pub(crate) fn slow_down(&mut self, pace: f64) {
+        self.pace = pace;
     }
 
     /// The values, relative to that of the last node.

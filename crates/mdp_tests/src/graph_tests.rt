@@ -9,12 +9,10 @@ use std::alloc::{AllocError, Global};
 use std::test::Fail;
 
 /// State 0 goes to 1 and 2, which stay; 2 is the goal.
-const SPLITS: &str =
-    "3\n@model\nstate 0\naction\n1:1/2\n2:1/2\nstate 1\naction\n1:1\nstate 2 goal\naction\n2:1\n";
+const SPLITS: &str = "| 1:1/2 2:1/2;| 1:1;*| 2:1";
 
 /// State 0 goes to 1 and 2, or may also come back; 1 is the goal.
-const FORK: &str =
-    "3\n@model\nstate 0\naction\n1:1/2\n2:1/2\naction\n0:1/2\n1:1/4\n2:1/4\nstate 1 goal\naction\n1:1\nstate 2\naction\n2:1\n";
+const FORK: &str = "| 1:1/2 2:1/2| 0:1/2 1:1/4 2:1/4;*| 1:1;| 2:1";
 
 /// Appends the rank and the choice of each state, or `-` where the state isn't marked and both are 0.
 fn push_pass(name: &str, pass: &Pass, states: u32, out: &mut String) -> Result<(), AllocError>
@@ -119,19 +117,24 @@ fn finds_sets_of_states(rt: HostRuntime) -> Result<(), Fail> {
             SPLITS,
             "may 1/0 - 0/0, must 1/0 - 0/0, avoid - 0/0 -, some - - 0/0, all - - 0/0, rounds 2 1 0",
         ),
+        // the same without a goal
+        (
+            "| 1:1/2 2:1/2;| 1:1;| 2:1",
+            "may - - -, must - - -, avoid 0/0 0/0 0/0, some - - -, all - - -, rounds 1 1 1",
+        ),
         // the first choice misses the goal, the second leads to it
         (
-            "3\n@model\nstate 0\naction\n1:1\naction\n2:1\nstate 1\naction\n1:1\nstate 2 goal\naction\n2:1\n",
+            "| 1:1| 2:1;| 1:1;*| 2:1",
             "may 1/1 - 0/0, must - - 0/0, avoid 0/0 0/0 -, some 1/1 - 0/0, all - - 0/0, rounds 0 1 0",
         ),
         // a choice that stays
         (
-            "2\n@model\nstate 0\naction\n0:1\naction\n1:1\nstate 1 goal\naction\n1:1\n",
+            "| 0:1| 1:1;*| 1:1",
             "may 1/1 0/0, must - 0/0, avoid 0/0 -, some 1/1 0/0, all - 0/0, rounds 0 0",
         ),
         // a goal that is left again
         (
-            "3\n@model\nstate 0\naction\n1:1\nstate 1 goal\naction\n2:1\nstate 2\naction\n2:1\n",
+            "| 1:1;*| 2:1;| 2:1",
             "may 1/0 0/0 -, must 1/0 0/0 -, avoid - - 0/0, some 1/0 0/0 -, all 1/0 0/0 -, rounds 0 0 1",
         ),
         // a second choice that may come back, and a trap
@@ -141,7 +144,7 @@ fn finds_sets_of_states(rt: HostRuntime) -> Result<(), Fail> {
         ),
         // the way over state 1 is blocked, and so is the goal, which is one all the same
         (
-            "4\n@model\nstate 0\naction\n1:1\naction\n2:1\nstate 1 blocked\naction\n3:1\nstate 2\naction\n3:1\nstate 3 goal blocked\naction\n3:1\n",
+            "| 1:1| 2:1;!| 3:1;| 3:1;*!| 3:1",
             "may 2/1 - 1/0 0/0, must 2/0 1/0 1/0 0/0, avoid - - - -, some 2/0 1/0 1/0 0/0, all 2/0 1/0 1/0 0/0, rounds 0 0 0 0",
         ),
     ] {

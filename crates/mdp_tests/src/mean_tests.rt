@@ -11,8 +11,7 @@ use std::alloc::{AllocError, Global};
 use std::test::Fail;
 
 /// State 0 stays for 1 or goes to 1, which goes back or stays for 3.
-const AWAY: &str =
-    "2\n@model\nstate 0\naction [1]\n0 : 1\naction\n1 : 1\nstate 1\naction\n0 : 1\naction [3]\n1 : 1\n";
+const AWAY: &str = "|[1] 0:1| 1:1;| 0:1|[3] 1:1";
 
 /// Appends a blank and a fraction.
 fn push_fraction(value: &Frac, out: &mut String) -> Result<(), AllocError> {

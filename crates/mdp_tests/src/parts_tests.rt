@@ -82,27 +82,27 @@ fn finds_end_components(rt: HostRuntime) -> Result<(), Fail> {
     for (model, found) in [
         // three loops, and a chance to leave the first
         (
-            "3\n@model\nstate 0\naction\n0:1\naction\n1:1/2\n2:1/2\nstate 1\naction\n1:1\nstate 2\naction\n2:1\n",
+            "| 0:1| 1:1/2 2:1/2;| 1:1;| 2:1",
             "components 0 1 2, 3 ends 0 in out 1 in 2 in, 3 nodes, node 0 by 0/1: 1 1/2 2 1/2",
         ),
         // two states that go round, and a way out
         (
-            "3\n@model\nstate 0\naction\n1:1\naction\n2:1\nstate 1\naction\n0:1\nstate 2\naction\n2:1\n",
+            "| 1:1| 2:1;| 0:1;| 2:1",
             "components 0 0 1, 2 ends 0 in out 0 in 1 in, 2 nodes, node 0 by 0/1: 1 1/1",
         ),
         // a state that comes back by chance alone is in none
         (
-            "3\n@model\nstate 0\naction\n1:1/2\n2:1/2\naction\n0:1/2\n1:1/4\n2:1/4\nstate 1\naction\n1:1\nstate 2\naction\n2:1\n",
+            "| 1:1/2 2:1/2| 0:1/2 1:1/4 2:1/4;| 1:1;| 2:1",
             "components 0 1 2, 2 ends - out out 0 in 1 in, 3 nodes, node 0 by 0/0: 1 1/2 2 1/2, node 0 by 0/1: 0 1/2 1 1/4 2 1/4",
         ),
         // two that only a way joins
         (
-            "2\n@model\nstate 0\naction\n0:1\naction\n1:1\nstate 1\naction\n1:1\n",
+            "| 0:1| 1:1;| 1:1",
             "components 0 1, 2 ends 0 in out 1 in, 2 nodes, node 0 by 0/1: 1 1/1",
         ),
         // a merged row: both targets are in one node
         (
-            "3\n@model\nstate 0\naction\n1:1/3\n2:2/3\nstate 1\naction\n2:1\nstate 2\naction\n1:1\n",
+            "| 1:1/3 2:2/3;| 2:1;| 1:1",
             "components 0 1 1, 1 ends - out 0 in 0 in, 2 nodes, node 0 by 0/0: 1 1/1",
         ),
     ] {

@@ -8,26 +8,14 @@ fn text_of(alloc: Global, version: &str, lines: &str) -> Result<String, Fail> {
 }
 
 /// The lines of a certificate in version 2 and in version 1.
-const BOTH: [(&str, &str); 5] = [
+const BOTH: [(&str, &str); 2] = [
     (
-        "claim max reach \"one\"\nstates 5\ninit 0 1/6\nstate 0 1/6 0 3\nrun 1 3 0 0 0\nstate 4 1 0 0\n",
-        "claim max reach \"one\"\nstates 5\ninit 0 1/6\nstate 0 1/6 0 3\nstate 1 0 0 0\nstate 2 0 0 0\nstate 3 0 0 0\nstate 4 1 0 0\n",
+        "claim min reach \"is done\"\nstates 3\ninit -\nstate 0 0 0 1\nrun 1 2 0 0 0\n",
+        "claim min reach \"is done\"\nstates 3\ninit -\nstate 0 0 0 1\nstate 1 0 0 0\nstate 2 0 0 0\n",
     ),
     (
-        "claim upper reach \"goal\"\nstates 3\ninit 0 1\nrun 0 2 1\n",
-        "claim upper reach \"goal\"\nstates 3\ninit 0 1\nstate 0 1\nstate 1 1\nstate 2 1\n",
-    ),
-    (
-        "claim min reach \"is done\"\nstates 2\ninit -\nstate 0 0 0 1\nstate 1 0 0 0\n",
-        "claim min reach \"is done\"\nstates 2\ninit -\nstate 0 0 0 1\nstate 1 0 0 0\n",
-    ),
-    (
-        "claim max reward \"my costs\" \"goal\"\nstates 4\ninit 0 inf\nrun 0 1 inf 0 0\nstate 2 1/2 0 1\nstate 3 0 0 0\n",
-        "claim max reward \"my costs\" \"goal\"\nstates 4\ninit 0 inf\nstate 0 inf 0 0\nstate 1 inf 0 0\nstate 2 1/2 0 1\nstate 3 0 0 0\n",
-    ),
-    (
-        "claim min mean \"-\"\nstates 3\ninit 0 1/2\nspread 1/2\nstate 0 1/2 0 0 0\nrun 1 2 1/2 -1/2 -1/2 0\n",
-        "claim min mean \"-\"\nstates 3\ninit 0 1/2\nspread 1/2\nstate 0 1/2 0 0 0\nstate 1 1/2 -1/2 -1/2 0\nstate 2 1/2 -1/2 -1/2 0\n",
+        "claim min mean \"-\"\nstates 2\ninit 0 1/2\nspread 0\nrun 0 1 1/2 0 0 0\n",
+        "claim min mean \"-\"\nstates 2\ninit 0 1/2\nspread 0\nstate 0 1/2 0 0 0\nstate 1 1/2 0 0 0\n",
     ),
 ];
 

@@ -15,7 +15,6 @@ fn spells_refusals(rt: HostRuntime) -> Result<(), Fail> {
     };
     for (refusal, text, code) in [
         (Refusal::Words(WordsError::Rows), "> words rows\n", 2),
-        (Refusal::Words(WordsError::Factor), "> words factor\n", 2),
         (
             Refusal::Model {
                 line: u64::MAX,
@@ -24,48 +23,11 @@ fn spells_refusals(rt: HostRuntime) -> Result<(), Fail> {
             "> model line 18446744073709551615 row-sum\n",
             3,
         ),
-        (Refusal::QueryReward, "> query reward\n", 4),
-        (Refusal::QueryLabel, "> query label\n", 4),
-        (Refusal::QueryInit, "> query init\n", 4),
         (Refusal::Below(Frac::whole(2)), "> below 2\n", 11),
-        (
-            Refusal::Words(WordsError::Threshold),
-            "> words threshold\n",
-            2,
-        ),
-        (Refusal::QueryNegative, "> query negative\n", 4),
-        (
-            Refusal::CheckWide {
-                state: Some(0),
-                choice: Some(1),
-            },
-            "> too-wide check state 0 choice 1\n",
-            5,
-        ),
         (
             Refusal::Denied(denied),
             "> denied rule 20 state - choice -\n",
             1,
-        ),
-        (Refusal::QuerySteps, "> query steps\n", 4),
-        (Refusal::QueryChoice, "> query choice\n", 4),
-        (
-            Refusal::HorizonWide {
-                depth: 2,
-                state: 0,
-                choice: 1,
-            },
-            "> too-wide horizon depth 2 state 0 choice 1\n",
-            5,
-        ),
-        (Refusal::ReadModel, "> read-fault model\n", 6),
-        (
-            Refusal::CertText {
-                line: 5,
-                kind: CertKind::Number,
-            },
-            "> cert line 5 number\n",
-            9,
         ),
         (
             Refusal::PolicyText {
@@ -75,7 +37,6 @@ fn spells_refusals(rt: HostRuntime) -> Result<(), Fail> {
             "> policy line 6 end\n",
             9,
         ),
-        (Refusal::LongCertificate, "> long certificate\n", 10),
         (Refusal::Memory, "> memory\n", 8),
     ] {
         let mut out = b"> ".to_vec(rt.alloc())?;
