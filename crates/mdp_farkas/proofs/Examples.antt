@@ -1,17 +1,21 @@
 -- Verdicts, computed, on a model of three states: state 0 has a loop, and a choice that goes on to 1 with 1/3 and to 2 with 2/3; 1 is the
 -- goal, and 2 is left nowhere.
-use Rattle.std.proofs.Common.{◌≡◌, ℕ, ◌+◌, ◌^◌, Bool, true, false, List, [], ◌∷◌, refl, pos, Option, Some, None}
+use Rattle.std.proofs.Common.{◌≡◌, ℕ, ◌+◌, ◌^◌, ◌∙◌, Bool, true, false, true≢false, List, [], ◌∷◌, refl, sym, pos, Option, Some, None, arith}
 use Rattle.mdp_math.specs.Gcd.{gcd, gcd_with_fuel}
-use Rattle.mdp_math.specs.Rational.{ℚ, of_int, ratio, lt_ℚ, ◌+ℚ◌, ◌*ℚ◌}
+use Rattle.mdp_math.specs.Rational.{ℚ, of_int, ratio, le_ℚ, lt_ℚ, ◌+ℚ◌, ◌*ℚ◌}
 use Rattle.mdp_math.specs.Written.{narrow, narrow_ℚ, written_add, written_mul, written_compare}
-use Rattle.mdp_spec.specs.Mdp.{Entry, Choice, Mdp}
+use Rattle.mdp_math.proofs.Extremes.{le_of_test, test_of_le}
+use Rattle.mdp_spec.specs.Mdp.{Entry, Choice, Mdp, row_at}
+use Rattle.mdp_spec.specs.Row.{row_sum}
 use Rattle.mdp_farkas.specs.Verdict.{verdict_of}
 use Rattle.mdp_farkas.specs.Upper.{upper_checks}
 use Rattle.mdp_farkas.specs.Reach.{reach_checks}
+use Rattle.mdp_farkas.specs.Says.{UpperSays, ReachSays}
+use Rattle.mdp_farkas.proofs.ReachTelling.{upper_refuted, reach_refuted}
 use Rattle.mdp_rows.specs.declared.dir.Dir.TheVariants.{Max, Min}
 use Rattle.mdp_farkas.specs.declared.verdict.Verdict.{Verdict}
 use Rattle.mdp_farkas.specs.declared.verdict.Verdict.TheVariants.{Yes, No, Wide}
-use Rattle.mdp_farkas.specs.declared.rule.Rule.TheVariants.{ChoiceExists, GoalValue, Probability, RankFalls, RankZero, ValueOnEachChoice}
+use Rattle.mdp_farkas.specs.declared.rule.Rule.TheVariants.{BiasOnPolicy, ChoiceExists, GoalValue, Probability, RankFalls, RankZero, ValueOnEachChoice}
 use Rattle.mdp_farkas.specs.declared.rule.Rule.TheVariants.{ValueOnPolicy}
 use Rattle.mdp_farkas.specs.declared.rule.Rule.{Rule}
 
@@ -102,3 +106,47 @@ above_one = refl
 wide : verdict_of (upper_checks three goals (one ∷ one ∷ ratio (pos 1) (2 ^ 126 + 1) ∷ [])) ≡ Wide (Some 0) (Some 1)
 unfolding gcd gcd_with_fuel ratio of_int ◌+ℚ◌ ◌*ℚ◌ narrow narrow_ℚ written_add written_mul written_compare
 wide = refl
+
+-- ---- what the rules say, in exact numbers
+
+-- at state 0 the value 1/3 is at least the sum over the row of its second choice, and 1/4 isn't
+abbrev upper_says : ℚ → Rule → Option ℕ → Option ℕ → Type 0
+upper_says x = UpperSays three goals (x ∷ one ∷ zero_ ∷ [])
+
+abbrev at_least_row : ℚ → Bool
+at_least_row x = le_ℚ (row_sum (row_at three 0 1) (x ∷ one ∷ zero_ ∷ [])) x
+
+third_passes : at_least_row third ≡ true
+unfolding gcd gcd_with_fuel ratio of_int le_ℚ ◌+ℚ◌ ◌*ℚ◌
+third_passes = refl
+
+quarter_fails : at_least_row (ratio (pos 1) 4) ≡ false
+unfolding gcd gcd_with_fuel ratio of_int le_ℚ ◌+ℚ◌ ◌*ℚ◌
+quarter_fails = refl
+
+third_said : upper_says third ValueOnEachChoice (Some 0) (Some 1)
+third_said = λ l g i. le_of_test _ _ third_passes
+
+quarter_refused : upper_says (ratio (pos 1) 4) ValueOnEachChoice (Some 0) (Some 1) → ⊥
+quarter_refused says = true≢false (sym (test_of_le _ _ (says (omega arith) refl (omega arith))) ∙ quarter_fails)
+
+-- which is what the no says
+quarter_refuted : upper_says (ratio (pos 1) 4) ValueOnEachChoice (Some 0) (Some 1) → ⊥
+quarter_refuted = upper_refuted three goals (ratio (pos 1) 4 ∷ one ∷ zero_ ∷ []) (record { rule = ValueOnEachChoice; state = Some 0; choice = Some 1 }) no_upper
+
+-- of a policy that takes the loop at state 0, with the value 1
+abbrev loop_says : Rule → Option ℕ → Option ℕ → Type 0
+loop_says = ReachSays Max three goals (one ∷ one ∷ zero_ ∷ []) (0 ∷ 0 ∷ 0 ∷ []) (1 ∷ 0 ∷ 0 ∷ [])
+
+loop_refuted : loop_says RankFalls (Some 0) (Some 0) → ⊥
+loop_refuted = reach_refuted Max three goals (one ∷ one ∷ zero_ ∷ []) (0 ∷ 0 ∷ 0 ∷ []) (1 ∷ 0 ∷ 0 ∷ []) (record { rule = RankFalls; state = Some 0; choice = Some 0 }) loop_alone
+
+-- nothing is said of a choice that the policy doesn't take, of a state that isn't there, or by a rule of mean payoffs
+not_taken : loop_says RankFalls (Some 0) (Some 1)
+not_taken = λ l g p e. absurd (omega arith)
+
+no_state : loop_says Probability (Some 3) None
+no_state = λ l. absurd (omega arith)
+
+no_rule_of_reach : loop_says BiasOnPolicy (Some 0) (Some 0)
+no_rule_of_reach = tt

@@ -1,13 +1,17 @@
 -- Verdicts on mean payoffs, computed, on four models: `turns` goes to and fro between 0 and 1 and earns 1 at 0; `gamble` stays at 0 for 1 in
 -- each step, or moves to 1, which earns 4 in each step, or to 2, which earns nothing, with 1/2 each; `leave` earns 1 in each step, and 5 once
 -- on the way from 0 to 1; `pay` loses 1 in each step at 0, or 5 once on the way to 1, which loses 1/2 in each step.
-use Rattle.std.proofs.Common.{◌≡◌, ℕ, ◌+◌, ◌^◌, List, [], ◌∷◌, refl, pos, Option, Some, None}
+use Rattle.std.proofs.Common.{◌≡◌, ℕ, ◌+◌, ◌^◌, ◌∙◌, Bool, true, false, true≢false, List, [], ◌∷◌, refl, sym, pos, Option, Some, None, arith}
 use Rattle.mdp_math.specs.Gcd.{gcd, gcd_with_fuel}
-use Rattle.mdp_math.specs.Rational.{ℚ, of_int, ratio, neg_ℚ, ◌+ℚ◌, ◌*ℚ◌}
+use Rattle.mdp_math.specs.Rational.{ℚ, of_int, ratio, le_ℚ, neg_ℚ, ◌+ℚ◌, ◌*ℚ◌}
 use Rattle.mdp_math.specs.Written.{narrow, narrow_ℚ, written_add, written_mul, written_compare}
-use Rattle.mdp_spec.specs.Mdp.{Entry, Choice, State, Mdp}
+use Rattle.mdp_math.proofs.Extremes.{le_of_test, test_of_le}
+use Rattle.mdp_spec.specs.Mdp.{Entry, Choice, State, Mdp, row_at}
+use Rattle.mdp_spec.specs.Row.{row_sum}
 use Rattle.mdp_farkas.specs.Verdict.{verdict_of}
 use Rattle.mdp_farkas.specs.Mean.{mean_checks}
+use Rattle.mdp_farkas.specs.Says.{MeanSays}
+use Rattle.mdp_farkas.proofs.MeanTelling.{mean_refuted}
 use Rattle.mdp_rows.specs.declared.dir.Dir.TheVariants.{Max, Min}
 use Rattle.mdp_farkas.specs.declared.verdict.Verdict.{Verdict}
 use Rattle.mdp_farkas.specs.declared.verdict.Verdict.TheVariants.{Yes, No, Wide}
@@ -127,3 +131,47 @@ wide :
     ≡ Wide None None
 unfolding gcd gcd_with_fuel ratio of_int neg_ℚ ◌+ℚ◌ ◌*ℚ◌ narrow narrow_ℚ written_add written_mul written_compare
 wide = refl
+
+-- ---- what the rules say, in exact numbers
+
+abbrev gambling_says : ℚ → ℚ → Rule → Option ℕ → Option ℕ → Type 0
+gambling_says gain bias =
+    MeanSays Max gamble 0 (gain ∷ number 4 ∷ number 0 ∷ []) (number 0 ∷ number 0 ∷ number 0 ∷ []) (bias ∷ number 0 ∷ number 0 ∷ []) (number 2) (1 ∷ 0 ∷ 0 ∷ [])
+
+abbrev at_least_gains : ℚ → Bool
+at_least_gains gain = le_ℚ (row_sum (row_at gamble 0 1) (gain ∷ number 4 ∷ number 0 ∷ [])) gain
+
+two_passes : at_least_gains (number 2) ≡ true
+unfolding gcd gcd_with_fuel ratio of_int le_ℚ ◌+ℚ◌ ◌*ℚ◌
+two_passes = refl
+
+one_fails : at_least_gains (number 1) ≡ false
+unfolding gcd gcd_with_fuel ratio of_int le_ℚ ◌+ℚ◌ ◌*ℚ◌
+one_fails = refl
+
+-- the gain 2 is at least what the gamble leads to, and 1 isn't
+two_said : gambling_says (number 2) (minus 2 1) GainOnEachChoice (Some 0) (Some 1)
+two_said = λ l i. le_of_test _ _ two_passes
+
+one_refused : gambling_says (number 1) (minus 2 1) GainOnEachChoice (Some 0) (Some 1) → ⊥
+one_refused says = true≢false (sym (test_of_le _ _ (says (omega arith) (omega arith))) ∙ one_fails)
+
+-- which is what the no says; and so of the bias, and of the spread
+one_refuted : gambling_says (number 1) (minus 2 1) GainOnEachChoice (Some 0) (Some 1) → ⊥
+one_refuted =
+    mean_refuted Max gamble 0 (number 1 ∷ number 4 ∷ number 0 ∷ []) (number 0 ∷ number 0 ∷ number 0 ∷ []) (minus 2 1 ∷ number 0 ∷ number 0 ∷ []) (number 2) (1 ∷ 0 ∷ 0 ∷ [])
+    (record { rule = GainOnEachChoice; state = Some 0; choice = Some 1 }) gain_too_small
+
+bias_refuted : gambling_says (number 2) (minus 1 1) BiasOnPolicy (Some 0) (Some 1) → ⊥
+bias_refuted =
+    mean_refuted Max gamble 0 (number 2 ∷ number 4 ∷ number 0 ∷ []) (number 0 ∷ number 0 ∷ number 0 ∷ []) (minus 1 1 ∷ number 0 ∷ number 0 ∷ []) (number 2) (1 ∷ 0 ∷ 0 ∷ [])
+    (record { rule = BiasOnPolicy; state = Some 0; choice = Some 1 }) another_bias
+
+spread_refuted : MeanSays Max turns 0 (two (over 1 2) (over 1 2)) (two (number 0) (minus 1 2)) (two (number 0) (minus 1 2)) (number 1) (0 ∷ 0 ∷ []) SpreadIsGreatest None None → ⊥
+spread_refuted =
+    mean_refuted Max turns 0 (two (over 1 2) (over 1 2)) (two (number 0) (minus 1 2)) (two (number 0) (minus 1 2)) (number 1) (0 ∷ 0 ∷ [])
+    (record { rule = SpreadIsGreatest; state = None; choice = None }) too_wide_spread
+
+-- nothing is said of a choice that the policy doesn't take
+not_taken : gambling_says (number 2) (minus 1 1) BiasOnPolicy (Some 0) (Some 0)
+not_taken = λ l e. absurd (omega arith)

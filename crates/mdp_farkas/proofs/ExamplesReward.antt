@@ -1,12 +1,16 @@
 -- Verdicts on rewards, computed, on four models: `wait` waits at 0 for nothing or goes to the goal 1 for 3; `trap` goes from 0 to 1, which is left
 -- nowhere, or to the goal 2 for 4; `arrived` has a goal alone; `loss` goes on to a goal that earns -1.
-use Rattle.std.proofs.Common.{◌≡◌, ℕ, ◌+◌, ◌^◌, Bool, true, false, List, [], ◌∷◌, refl, pos, negsuc, Option, Some, None}
+use Rattle.std.proofs.Common.{◌≡◌, ℕ, ◌+◌, ◌^◌, ◌∙◌, Bool, true, false, true≢false, List, [], ◌∷◌, refl, sym, pos, negsuc, Option, Some, None, arith}
 use Rattle.mdp_math.specs.Gcd.{gcd, gcd_with_fuel}
-use Rattle.mdp_math.specs.Rational.{ℚ, of_int, ratio, ◌+ℚ◌, ◌*ℚ◌}
+use Rattle.mdp_math.specs.Rational.{ℚ, of_int, ratio, le_ℚ, ◌+ℚ◌, ◌*ℚ◌}
 use Rattle.mdp_math.specs.Written.{narrow, narrow_ℚ, written_add, written_mul, written_compare}
+use Rattle.mdp_math.proofs.Extremes.{le_of_test, test_of_le}
 use Rattle.mdp_spec.specs.Mdp.{Choice, State, Mdp}
+use Rattle.mdp_spec.specs.RewardRules.{backup}
 use Rattle.mdp_farkas.specs.Verdict.{verdict_of}
 use Rattle.mdp_farkas.specs.Reward.{reward_checks}
+use Rattle.mdp_farkas.specs.Says.{RewardSays}
+use Rattle.mdp_farkas.proofs.RewardTelling.{reward_refuted}
 use Rattle.mdp_rows.specs.declared.dir.Dir.{Dir}
 use Rattle.mdp_rows.specs.declared.dir.Dir.TheVariants.{Max, Min}
 use Rattle.mdp_farkas.specs.declared.verdict.Verdict.{Verdict}
@@ -135,3 +139,42 @@ negative = refl
 wide : verdict_of (reward_checks Max (model (state (to 0 (ratio (pos 1) 3) ∷ []) ∷ [])) 0 (false ∷ []) (Some (ratio (pos 1) (2 ^ 126 + 1)) ∷ []) (0 ∷ []) (0 ∷ [])) ≡ Wide (Some 0) (Some 0)
 unfolding gcd gcd_with_fuel ratio of_int ◌+ℚ◌ ◌*ℚ◌ narrow narrow_ℚ written_add written_mul written_compare
 wide = refl
+
+-- ---- what the rules say, in exact numbers
+
+-- of state 0 of `wait`, where the policy goes to the goal
+abbrev waiting_says : Dir → Option ℚ → ℕ → Rule → Option ℕ → Option ℕ → Type 0
+waiting_says dir x rank = RewardSays dir wait 0 second (x ∷ value 0 ∷ []) (1 ∷ 0 ∷ []) (rank ∷ 0 ∷ [])
+
+-- 4 isn't at most what going to the goal earns
+four_refuted : waiting_says Min (value 4) 1 RewardOnEachChoice (Some 0) (Some 1) → ⊥
+four_refuted = reward_refuted Min wait 0 second (value 4 ∷ value 0 ∷ []) (1 ∷ 0 ∷ []) (1 ∷ 0 ∷ []) (record { rule = RewardOnEachChoice; state = Some 0; choice = Some 1 }) too_great
+
+abbrev at_least_earned : ℕ → Bool
+at_least_earned x = le_ℚ (backup wait 0 0 1 (number x ∷ number 0 ∷ [])) (number x)
+
+three_passes : at_least_earned 3 ≡ true
+unfolding gcd gcd_with_fuel ratio of_int le_ℚ ◌+ℚ◌ ◌*ℚ◌
+three_passes = refl
+
+two_fails : at_least_earned 2 ≡ false
+unfolding gcd gcd_with_fuel ratio of_int le_ℚ ◌+ℚ◌ ◌*ℚ◌
+two_fails = refl
+
+-- 3 is at least what the policy's choice earns, and 2 isn't
+three_said : waiting_says Min (value 3) 1 RewardOnPolicy (Some 0) (Some 1)
+three_said = λ t e. le_of_test _ _ three_passes
+
+two_refused : waiting_says Min (value 2) 1 RewardOnPolicy (Some 0) (Some 1) → ⊥
+two_refused says = true≢false (sym (test_of_le _ _ (says (omega arith, refl, refl) refl)) ∙ two_fails)
+
+-- the rank doesn't fall along the loop, which counts for the greatest reward alone
+loop_refuted : waiting_says Max (value 3) 1 FiniteRankFalls (Some 0) (Some 0) → ⊥
+loop_refuted = reward_refuted Max wait 0 second (value 3 ∷ value 0 ∷ []) (1 ∷ 0 ∷ []) (1 ∷ 0 ∷ []) (record { rule = FiniteRankFalls; state = Some 0; choice = Some 0 }) waits_for_ever
+
+loop_not_taken : waiting_says Min (value 3) 1 FiniteRankFalls (Some 0) (Some 0)
+loop_not_taken = λ t e. absurd (omega arith)
+
+-- a policy that goes to the goal doesn't miss it
+arrives_refuted : waiting_says Max None 0 PolicyMisses (Some 0) (Some 1) → ⊥
+arrives_refuted = reward_refuted Max wait 0 second (None ∷ value 0 ∷ []) (1 ∷ 0 ∷ []) (0 ∷ 0 ∷ []) (record { rule = PolicyMisses; state = Some 0; choice = Some 1 }) doesnt_miss

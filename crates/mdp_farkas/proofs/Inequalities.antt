@@ -1,13 +1,14 @@
 -- What Bellman's inequality by written operations says of the numbers.
 use Rattle.std.proofs.Common.{◌≡◌, ℕ, true, List, Some, sym, subst}
 use Rattle.std.specs.Option.{IsSome}
-use Rattle.mdp_math.specs.Rational.{ℚ, ◌+ℚ◌, ◌≤ℚ◌}
+use Rattle.mdp_math.specs.Rational.{ℚ, ◌+ℚ◌}
 use Rattle.mdp_spec.specs.Mdp.{Entry, Mdp, row_at, value_at}
 use Rattle.mdp_spec.specs.Row.{row_sum}
 use Rattle.mdp_spec.specs.Written.{written_sum}
 use Rattle.mdp_math.proofs.Laws.{zero-+ℚ}
 use Rattle.mdp_farkas.specs.Compare.{0ℚ}
 use Rattle.mdp_farkas.specs.Bellman.{stands, sum_stands, stands_at}
+use Rattle.mdp_farkas.specs.Says.{IsBound}
 use Rattle.mdp_rows.specs.declared.dir.Dir.{Dir}
 use Rattle.mdp_rows.specs.declared.dir.Dir.TheVariants.{Max, Min}
 use Rattle.mdp_farkas.proofs.Comparing.{le_of_at_least, at_least_of_le, le_of_at_most, at_most_of_le}
@@ -15,8 +16,7 @@ use Rattle.mdp_farkas.proofs.Asking.{asked_holds, asked_sound}
 use Rattle.mdp_farkas.proofs.Summing.{written_sum-some}
 
 abbrev pub Stands : Dir → ℚ → ℚ → Type 0
-Stands Max value sum = sum ≤ℚ value
-Stands Min value sum = value ≤ℚ sum
+Stands dir value sum = IsBound dir value sum
 
 stands_of : (dir : Dir) (x y : ℚ) → stands dir x y ≡ Some true → Stands dir x y
 stands_of Max x y h = le_of_at_least x y h

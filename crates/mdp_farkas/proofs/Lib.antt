@@ -11,7 +11,14 @@ pub mod Tests
 pub mod RewardRules
 pub mod Spreading
 pub mod MeanRules
+pub mod Telling
+mod ReachTelling
+mod RewardTelling
+mod MeanTelling
+mod Saying
+mod Places
 mod Named
+mod Numbers
 mod Examples
 mod ExamplesReward
 mod ExamplesMean

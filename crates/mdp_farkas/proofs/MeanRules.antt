@@ -57,7 +57,7 @@ module _ (m : Mdp) (r : ℕ) (g : List ℚ) (s c : ℕ) where
       sum_stands_of dir (value_at g s +ℚ value_at a s) a reward (row_at m s c)
       (asked_holds (λ step. sum_stands dir step a reward (row_at m s c)) (value_at g s +ℚ value_at a s) (written_step g a s) (λ v e. written_add-some (value_at g s) (value_at a s) v e) h)
 
-  of_bound : (dir : Dir) (a : List ℚ) → Stands dir (value_at g s +ℚ value_at a s) (backup m r s c a) → IsSome (bound_stands dir m r g a s c) → bound_stands dir m r g a s c ≡ Some true
+  pub of_bound : (dir : Dir) (a : List ℚ) → Stands dir (value_at g s +ℚ value_at a s) (backup m r s c a) → IsSome (bound_stands dir m r g a s c) → bound_stands dir m r g a s c ≡ Some true
   of_bound dir a le w =
       asked_sound (λ step. sum_stands dir step a reward (row_at m s c)) (value_at g s +ℚ value_at a s) (written_step g a s) (λ v e. written_add-some (value_at g s) (value_at a s) v e)
       (λ i. of_sum_stands dir (value_at g s +ℚ value_at a s) a reward (row_at m s c) le i) w
@@ -65,7 +65,7 @@ module _ (m : Mdp) (r : ℕ) (g : List ℚ) (s c : ℕ) where
   keeps_of : keeps_gain m g s c ≡ Some true → row_sum (row_at m s c) g ≡ value_at g s
   keeps_of h = sym (sum_equal (value_at g s) g 0ℚ m s c h ∙ zero-+ℚ (row_sum (row_at m s c) g))
 
-  of_keeps : row_sum (row_at m s c) g ≡ value_at g s → IsSome (keeps_gain m g s c) → keeps_gain m g s c ≡ Some true
+  pub of_keeps : row_sum (row_at m s c) g ≡ value_at g s → IsSome (keeps_gain m g s c) → keeps_gain m g s c ≡ Some true
   of_keeps e w = equal_sum (value_at g s) g 0ℚ m s c (sym (zero-+ℚ (row_sum (row_at m s c) g) ∙ e)) w
 
   earns_of : (b : List ℚ) → earns_gain m r g b s c ≡ Some true → backup m r s c b ≡ value_at g s +ℚ value_at b s
@@ -74,7 +74,7 @@ module _ (m : Mdp) (r : ℕ) (g : List ℚ) (s c : ℕ) where
       (asked_holds (λ step. option_and_then (is_equal step) (written_sum b reward (row_at m s c))) (value_at g s +ℚ value_at b s) (written_step g b s)
       (λ v e. written_add-some (value_at g s) (value_at b s) v e) h))
 
-  of_earns : (b : List ℚ) → backup m r s c b ≡ value_at g s +ℚ value_at b s → IsSome (earns_gain m r g b s c) → earns_gain m r g b s c ≡ Some true
+  pub of_earns : (b : List ℚ) → backup m r s c b ≡ value_at g s +ℚ value_at b s → IsSome (earns_gain m r g b s c) → earns_gain m r g b s c ≡ Some true
   of_earns b e w =
       asked_sound (λ step. option_and_then (is_equal step) (written_sum b reward (row_at m s c))) (value_at g s +ℚ value_at b s) (written_step g b s)
       (λ v e. written_add-some (value_at g s) (value_at b s) v e) (λ i. equal_sum (value_at g s +ℚ value_at b s) b reward m s c (sym e) i) w

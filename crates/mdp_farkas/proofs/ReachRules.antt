@@ -41,12 +41,12 @@ no_end_of true l e f = absurd (true≢false e)
 no_end_of false true e f = refl
 no_end_of false false e f = absurd (true≢false (sym f))
 
-of_end : (g l : Bool) → (g || not l) ≡ true → (g ≡ true) ⊎ (l ≡ false)
+pub of_end : (g l : Bool) → (g || not l) ≡ true → (g ≡ true) ⊎ (l ≡ false)
 of_end true l e = inl refl
 of_end false true e = absurd (true≢false (sym e))
 of_end false false e = inr refl
 
-of_no_end : (g l : Bool) → (g || not l) ≡ false → (g ≡ false) × (l ≡ true)
+pub of_no_end : (g l : Bool) → (g || not l) ≡ false → (g ≡ false) × (l ≡ true)
 of_no_end true l e = absurd (true≢false e)
 of_no_end false true e = (refl, refl)
 of_no_end false false e = absurd (true≢false e)

@@ -36,7 +36,7 @@ use Rattle.mdp_farkas.proofs.Tests.{or-parts, or-first, or-second, all_passed, a
 some_nonneg : (o : Option ℚ) (x : ℚ) → o ≡ Some x → is_nonneg o ≡ Some true → 0ℚ ≤ℚ x
 some_nonneg o x e h = le_of_at_least x 0ℚ (subst (λ (o : Option ℚ). is_nonneg o ≡ Some true) e h)
 
-nonneg_sound : (o : Option ℚ) → ((x : ℚ) → o ≡ Some x → 0ℚ ≤ℚ x) → IsSome (is_nonneg o) → is_nonneg o ≡ Some true
+pub nonneg_sound : (o : Option ℚ) → ((x : ℚ) → o ≡ Some x → 0ℚ ≤ℚ x) → IsSome (is_nonneg o) → is_nonneg o ≡ Some true
 nonneg_sound None h w = refl
 nonneg_sound (Some x) h w = at_least_of_le x 0ℚ (h x refl) w
 
@@ -44,7 +44,7 @@ zero_of_test : (o : Option ℚ) → is_zero o ≡ Some true → o ≡ Some 0ℚ
 zero_of_test None h = absurd (true≢false (sym (Some_same _ _ h)))
 zero_of_test (Some x) h = ap Some (same_of_equal x 0ℚ h)
 
-zero_sound : (o : Option ℚ) → o ≡ Some 0ℚ → IsSome (is_zero o) → is_zero o ≡ Some true
+pub zero_sound : (o : Option ℚ) → o ≡ Some 0ℚ → IsSome (is_zero o) → is_zero o ≡ Some true
 zero_sound o e = subst (λ (o : Option ℚ). IsSome (is_zero o) → is_zero o ≡ Some true) (sym e) (λ w. equal_of_same 0ℚ 0ℚ refl w)
 
 -- ---- tests of rows

@@ -9,3 +9,4 @@ pub mod Upper
 pub mod Verdict
 pub mod RuleNumber
 pub mod Initial
+pub mod Says

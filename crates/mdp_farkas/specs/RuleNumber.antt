@@ -1,5 +1,5 @@
 -- The number of a rule, by which the program names it.
-use Rattle.std.specs.Prelude.{ℕ}
+use Rattle.std.specs.Prelude.{◌≡◌, ℕ, ◌≤◌, ◌↔◌}
 use Rattle.mdp_farkas.specs.declared.rule.Rule.{Rule}
 use Rattle.mdp_farkas.specs.declared.rule.Rule.TheVariants.{InitialState, ChoiceExists, Probability, GoalValue, ValueOnEachChoice, ValueOnPolicy}
 use Rattle.mdp_farkas.specs.declared.rule.Rule.TheVariants.{RankZero, RankFalls, RewardValue, FiniteTargets, RewardOnEachChoice, RewardOnPolicy}
@@ -36,3 +36,11 @@ number_of RewardNotNegative = 25
 number_of DiscountedOnEachChoice = 26
 number_of DiscountedOnPolicy = 27
 number_of RemainderIsGreatest = 28
+
+-- each rule has a number of its own
+abbrev pub OneRuleEach : Type 0
+OneRuleEach = (a b : Rule) → number_of a ≡ number_of b → a ≡ b
+
+-- the numbers of the rules are those from 1 to 28
+abbrev pub NumbersFromOne : Type 0
+NumbersFromOne = (n : ℕ) → ((rule : Rule) × (number_of rule ≡ n)) ↔ ((1 ≤ n) × (n ≤ 28))

@@ -1,4 +1,7 @@
+ghost use Rattle.mdp_farkas.specs.RuleNumber.{OneRuleEach, NumbersFromOne};
 ghost use Rattle.mdp_farkas.specs.Laws.{NoIsFalse, UpperNeverNo, ReachNeverNo, RewardNeverNo, MeanNeverNo};
+ghost use Rattle.mdp_farkas.specs.Laws.{UpperNoRefutes, ReachNoRefutes, RewardNoRefutes, MeanNoRefutes};
+ghost use Rattle.mdp_farkas.specs.Laws.{UpperSaysAll, ReachSaysAll, RewardSaysAll, MeanSaysAll};
 
 /// What a no means: a check of the named rule at the named place is false; and a certificate that meets its rules in exact numbers is never
 /// answered no, but with yes or with a term past width.
@@ -8,4 +11,26 @@ pub fn never_no_law()
     ensures reach { ReachNeverNo }
     ensures reward { RewardNeverNo }
     ensures mean { MeanNeverNo }
+{}
+
+/// What a no means: the named state is one of the model, and what the named rule says of that state and choice is false in exact numbers.
+pub fn refuted_law()
+    ensures upper { UpperNoRefutes }
+    ensures reach { ReachNoRefutes }
+    ensures reward { RewardNoRefutes }
+    ensures mean { MeanNoRefutes }
+{}
+
+/// What the rules say of all places is together what they ask: no more, and no less.
+pub fn says_law()
+    ensures upper { UpperSaysAll }
+    ensures reach { ReachSaysAll }
+    ensures reward { RewardSaysAll }
+    ensures mean { MeanSaysAll }
+{}
+
+/// Each rule has a number of its own, and the numbers are those from 1 to 28.
+pub fn numbers_law()
+    ensures one_each { OneRuleEach }
+    ensures all { NumbersFromOne }
 {}

@@ -25,7 +25,7 @@ pub use compare::{at_least, at_most, equal};
 pub use finite::{finite_at, finite_sum, is_infinite_at, stays_finite_at};
 pub use infinite::infinite_state;
 pub use initial::{init_denied, is_value, state_verdict};
-pub use laws::never_no_law;
+pub use laws::{never_no_law, numbers_law, refuted_law, says_law};
 pub use mdp_rows::Dir;
 pub use mean::{MeanCert, holds_mean};
 pub use ranks::rank_at_state;
