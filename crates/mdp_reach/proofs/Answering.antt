@@ -1,7 +1,7 @@
 -- What the parts of a query make together: the end of the query, and that an answer is right.
-use Rattle.std.proofs.Common.{◌≡◌, ℕ, List, Bool, Option, Result, Ok, Err, refl, subst}
+use Rattle.std.proofs.Common.{◌≡◌, ℕ, List, Bool, length, Option, Result, Ok, Err, refl, subst}
 use Rattle.mdp_math.specs.Rational.{ℚ}
-use Rattle.mdp_spec.specs.Mdp.{Mdp}
+use Rattle.mdp_spec.specs.Mdp.{Mdp, states_of}
 use Rattle.mdp_spec.specs.Row.{IsMdp}
 use Rattle.mdp_spec.proofs.Reach.{reach_max_of_rules, reach_min_of_rules}
 use Rattle.mdp_rows.specs.declared.dir.Dir.{Dir}
@@ -37,6 +37,11 @@ pub meets-reach : (dir : Dir) (m : Mdp) (goals marks : List Bool) (start policy 
     → MeetsReach dir m goals x policy ranks
 meets-reach Max m goals marks start policy ranks x model s found along rest falls stays avoids = meets-max m goals marks start policy ranks x model s found along rest falls stays
 meets-reach Min m goals marks start policy ranks x model s found meet rest falls stays avoids = meets-min m goals marks start policy ranks x model s found meet avoids
+
+-- each state has a rank
+pub ranks-count : (dir : Dir) (m : Mdp) (goals : List Bool) (x : List ℚ) (policy ranks : List ℕ) → AreRanks dir m goals x policy ranks → length ranks ≡ states_of m
+ranks-count Max m goals x policy ranks are = are.least.count
+ranks-count Min m goals x policy ranks are = are.least.count
 
 -- ---- the end of a query, from that of its path
 

@@ -1,5 +1,5 @@
 -- Paths of reachability, computed.
-use Rattle.std.proofs.Common.{◌≡◌, ℕ, [], ◌∷◌, List, Bool, true, false, Some, Result, Ok, Err, refl, pos}
+use Rattle.std.proofs.Common.{◌≡◌, ℕ, [], ◌∷◌, List, Bool, true, false, Some, Result, Ok, Err, refl, arith, pos}
 use Rattle.mdp_math.specs.Gcd.{gcd, gcd_with_fuel}
 use Rattle.mdp_math.specs.Rational.{ℚ, of_int, ratio, ◌+ℚ◌, ◌*ℚ◌, neg_ℚ, inv_ℚ}
 use Rattle.mdp_math.specs.Written.{written_add, written_mul, written_compare, narrow, narrow_ℚ}
@@ -11,6 +11,7 @@ use Rattle.mdp_policy_iteration.specs.Iteration.{iterated}
 use Rattle.mdp_policy_iteration.specs.Path.{Found, Refusal, evaluating, path_step}
 use Rattle.mdp_policy_iteration.specs.Laws.{first}
 use Rattle.mdp_reach.specs.Problem.{reach_problem}
+use Rattle.mdp_reach.specs.Query.{HasOneEach}
 use Rattle.mdp_reach.specs.Round.{last_round}
 
 abbrev to : ℕ → ℚ → Entry
@@ -75,3 +76,10 @@ last_of_four = refl
 
 last_of_refusal : last_round (Err (record { number = 2; policy = 0 ∷ []; place = evaluating (0 ∷ []) 0 })) ≡ 2
 last_of_refusal = refl
+
+-- an answer has one of each for each state, and a list that is too short is refused
+each_of_three : HasOneEach waits (record { values = of_int (pos 0) ∷ of_int (pos 1) ∷ of_int (pos 0) ∷ []; choices = 0 ∷ 0 ∷ 0 ∷ []; ranks = 0 ∷ 0 ∷ 0 ∷ [] })
+each_of_three = record { values = refl; choices = refl; ranks = refl }
+
+no_third_rank : HasOneEach waits (record { values = of_int (pos 0) ∷ of_int (pos 1) ∷ of_int (pos 0) ∷ []; choices = 0 ∷ 0 ∷ 0 ∷ []; ranks = 0 ∷ 0 ∷ [] }) → ⊥
+no_third_rank h = omega (arith, h.ranks)

@@ -7,5 +7,8 @@ pub mod Rows
 pub mod MaxRules
 pub mod MinRules
 pub mod OneEnd
+pub mod Settling
+pub mod Rising
 pub mod Answering
+pub mod AnEnd
 mod Examples

@@ -14,9 +14,17 @@ use Rattle.mdp_reach.specs.Round.{EndsWithRound}
 abbrev pub HasOneEnd : Type 0
 HasOneEnd = (dir : Dir) (m : Mdp) (goals : List Bool) (r q : Result Answer WideTerm) → EndsSo dir m goals r → EndsSo dir m goals q → q ≡ r
 
--- and its path ends in one round
+-- it has one for each model
+abbrev pub HasAnEnd : Type 0
+HasAnEnd = (dir : Dir) (m : Mdp) (goals : List Bool) → IsMdp m → (r : Result Answer WideTerm) × EndsSo dir m goals r
+
+-- its path ends in one round at most
 abbrev pub HasOneRound : Type 0
 HasOneRound = (dir : Dir) (m : Mdp) (goals : List Bool) (n k : ℕ) (r q : Result Answer WideTerm) → EndsWithRound dir m goals n r → EndsWithRound dir m goals k q → (k ≡ n) × (q ≡ r)
+
+-- and in some round
+abbrev pub HasARound : Type 0
+HasARound = (dir : Dir) (m : Mdp) (goals : List Bool) → IsMdp m → (n : ℕ) × (r : Result Answer WideTerm) × EndsWithRound dir m goals n r
 
 -- an answer meets the rules of certificates, and no term of its check is past width
 abbrev pub AnswersMeetRules : Type 0

@@ -4,7 +4,7 @@ ghost use Rattle.mdp_spec.specs.Bounds.{ReachMax, ReachMin};
 ghost use Rattle.mdp_rows.specs.declared.dir.Dir.TheVariants.{Max, Min};
 ghost use Rattle.mdp_farkas.specs.Reach.{IsReach};
 ghost use Rattle.mdp_policy_iteration.specs.Queries.{Solves};
-ghost use Rattle.mdp_reach.specs.Query.{plain, EndsSo};
+ghost use Rattle.mdp_reach.specs.Query.{plain, HasOneEach, EndsSo};
 ghost use Rattle.mdp_reach.specs.Round.{SolvesToEnd};
 
 use crate::problem::Reach;
@@ -34,6 +34,7 @@ pub fn solve_reach_to_end(
 ) -> Result<ReachEnd, SolveError>
     requires { length goals.now ≡ states_of model.now }
     ensures path { SolvesToEnd dir model.now goals.now result }
+    ensures each { IfOk result (λ end. HasOneEach model.now (plain end.cert)) }
     ensures rules { IfOk result (λ end. IsReach dir model.now goals.now end.cert.values.items end.cert.choices.items end.cert.ranks.items) }
     ensures max { dir ≡ Max → IfOk result (λ end. ReachMax model.now goals.now end.cert.values.items end.cert.choices.items) }
     ensures min { dir ≡ Min → IfOk result (λ end. ReachMin model.now goals.now end.cert.values.items end.cert.choices.items) }
@@ -90,6 +91,7 @@ pub fn solve_reach(
 ) -> Result<ReachCert, SolveError>
     requires { length goals.now ≡ states_of model.now }
     ensures path { Solves plain (EndsSo dir model.now goals.now) result }
+    ensures each { IfOk result (λ cert. HasOneEach model.now (plain cert)) }
     ensures rules { IfOk result (λ cert. IsReach dir model.now goals.now cert.values.items cert.choices.items cert.ranks.items) }
     ensures max { dir ≡ Max → IfOk result (λ cert. ReachMax model.now goals.now cert.values.items cert.choices.items) }
     ensures min { dir ≡ Min → IfOk result (λ cert. ReachMin model.now goals.now cert.values.items cert.choices.items) }

@@ -1,5 +1,5 @@
 -- Paths of rewards until a goal, computed, and what the checks of certificates say of their ends.
-use Rattle.std.proofs.Common.{◌≡◌, ℕ, [], ◌∷◌, List, Bool, true, false, Some, None, Result, Ok, refl, pos}
+use Rattle.std.proofs.Common.{◌≡◌, ℕ, [], ◌∷◌, List, Bool, true, false, Some, None, Result, Ok, refl, arith, pos}
 use Rattle.mdp_math.specs.Gcd.{gcd, gcd_with_fuel}
 use Rattle.mdp_math.specs.Rational.{ℚ, of_int, ratio, ◌+ℚ◌, ◌*ℚ◌, neg_ℚ, inv_ℚ}
 use Rattle.mdp_math.specs.Written.{written_add, written_mul, written_compare, narrow, narrow_ℚ}
@@ -19,7 +19,7 @@ use Rattle.mdp_farkas.specs.Reward.{reward_checks}
 use Rattle.mdp_farkas.specs.declared.verdict.Fault.{Fault}
 use Rattle.mdp_farkas.specs.declared.verdict.Verdict.TheVariants.{Yes, No}
 use Rattle.mdp_reward.specs.Problem.{may_take, is_transient, reward_problem}
-use Rattle.mdp_reward.specs.Query.{split, unmarked, rewards_of}
+use Rattle.mdp_reward.specs.Query.{split, unmarked, rewards_of, HasOneEach}
 use Rattle.mdp_farkas.specs.declared.rule.Rule.TheVariants.{FiniteRankFalls}
 
 abbrev to : ℕ → ℚ → Entry
@@ -140,3 +140,11 @@ least_late : iterated (path_step (reward_problem Min late 0 goal_2 (true ∷ tru
     Some (let e : Result Found Refusal = Ok (record { number = 1; policy = 0 ∷ 0 ∷ 0 ∷ []; values = whole 2 ∷ whole 1 ∷ whole 0 ∷ [] }) in e)
 unfolding equation_of eliminated divided_rest plus_equation evaluated written_add written_mul written_compare narrow narrow_ℚ ◌+ℚ◌ ◌*ℚ◌ neg_ℚ inv_ℚ ratio of_int gcd gcd_with_fuel
 least_late = refl
+
+-- ---- an answer has one of each for each state, and a list that is too short is refused
+
+each_of_two : HasOneEach loops (record { values = Some (whole 3) ∷ Some (whole 0) ∷ []; choices = 1 ∷ 0 ∷ []; ranks = 1 ∷ 0 ∷ [] })
+each_of_two = record { values = refl; choices = refl; ranks = refl }
+
+no_second_rank : HasOneEach loops (record { values = Some (whole 3) ∷ Some (whole 0) ∷ []; choices = 1 ∷ 0 ∷ []; ranks = 1 ∷ [] }) → ⊥
+no_second_rank h = omega (arith, h.ranks)

@@ -20,6 +20,10 @@ pub record HasRewards (m : Mdp) (r : ℕ) : Type 0 where
   pub named : r < length m.names
   pub none_negative : has_negative m r ≡ false
 
+-- it has one for each such model
+abbrev pub HasAnEnd : Type 0
+HasAnEnd = (dir : Dir) (m : Mdp) (r : ℕ) (goals : List Bool) → HasRewards m r → (q : Result Answer WideTerm) × EndsSo dir m r goals q
+
 -- an answer meets the rules of certificates, and no term of its check is past width
 abbrev pub AnswersMeetRules : Type 0
 AnswersMeetRules =

@@ -1,5 +1,5 @@
 -- The query of the greatest or the least reward of name r until a goal: its start, its path, its certificate.
-use Rattle.std.specs.Prelude.{◌≡◌, ℕ, Bool, not, List, map, slice_index, if◌then◌else◌, Option, Some, None, Result, Ok, Err}
+use Rattle.std.specs.Prelude.{◌≡◌, ℕ, Bool, not, List, length, map, slice_index, if◌then◌else◌, Option, Some, None, Result, Ok, Err}
 use Rattle.std.specs.List.{range_with_len}
 use Rattle.mdp_math.specs.Rational.{ℚ}
 use Rattle.mdp_spec.specs.Mdp.{Mdp, Entry, states_of, row_at, value_at}
@@ -106,6 +106,12 @@ pub record Answer : Type 0 where
   pub values : List (Option ℚ)
   pub choices : List ℕ
   pub ranks : List ℕ
+
+-- one of each for each state
+pub record HasOneEach (m : Mdp) (a : Answer) : Type 0 where
+  pub values : length a.values ≡ states_of m
+  pub choices : length a.choices ≡ states_of m
+  pub ranks : length a.ranks ≡ states_of m
 
 abbrev pub plain : RewardCert → Answer
 plain cert = record { values = cert.values.items; choices = cert.choices.items; ranks = cert.ranks.items }

@@ -5,7 +5,7 @@ ghost use Rattle.mdp_rows.specs.Negative.{has_negative};
 ghost use Rattle.mdp_rows.specs.declared.dir.Dir.TheVariants.{Max, Min};
 ghost use Rattle.mdp_farkas.specs.Reward.{IsReward};
 ghost use Rattle.mdp_policy_iteration.specs.Queries.{Solves};
-ghost use Rattle.mdp_reward.specs.Query.{plain, EndsSo};
+ghost use Rattle.mdp_reward.specs.Query.{plain, HasOneEach, EndsSo};
 
 use crate::problem::Reward;
 use crate::ranks::ranks_of;
@@ -31,6 +31,7 @@ pub fn solve_reward(
     requires goals { length goals.now ≡ states_of model.now }
     requires none_negative { has_negative model.now m ≡ false }
     ensures path { Solves plain (EndsSo dir model.now m goals.now) result }
+    ensures each { IfOk result (λ cert. HasOneEach model.now (plain cert)) }
     ensures rules { IfOk result (λ cert. IsReward dir model.now m goals.now cert.values.items cert.choices.items cert.ranks.items) }
     ensures max { dir ≡ Max → IfOk result (λ cert. RewardMax model.now m goals.now cert.choices.items cert.values.items) }
     ensures min { dir ≡ Min → IfOk result (λ cert. RewardMin model.now m goals.now cert.choices.items cert.values.items) }

@@ -8,7 +8,7 @@ use Rattle.mdp_reach.proofs.Nodes.{reach-count}
 use Rattle.mdp_reach.proofs.Starts.{start-solvable, start-choices, start-marks}
 use Rattle.mdp_reach.proofs.Kept.{found-policy}
 use Rattle.mdp_farkas.proofs.ReachRules.{reach_never_no}
-use Rattle.mdp_reach.proofs.Answering.{meets-reach, ends-refused, ends-answered, ends-wide}
+use Rattle.mdp_reach.proofs.Answering.{meets-reach, ranks-count, ends-refused, ends-answered, ends-wide}
 use Rattle.mdp_reach.proofs.solve.solve_reach_to_end.Goals as goal
 
 pub invariant_of-problem : goal.invariant_of-problem
@@ -60,6 +60,16 @@ returns-in-Yes-clause-path c =
       ends-answered dir m goals marks start (c.in_ok-start.ensures {u = tt}) end.0 c.in-Ok.found.policy.items c.in_ok-ranks.ranks.items c.in-Ok.found.values.items end.2 are
           (sym c.in-Yes.is ∙ c.holds_reach.ensures.verdict),
     )
+
+pub returns-in-Yes-clause-each : goal.returns-in-Yes-clause-each
+returns-in-Yes-clause-each c =
+    let count = reach-count c.args.dir c.args.model.now c.args.goals.now c.in_ok-start.start.marks in
+    let best = (c.in-Ok.ensures {u = tt}).best.best in
+    record {
+      values = best.values.len ∙ count;
+      choices = best.is.one_each ∙ count;
+      ranks = ranks-count c.args.dir c.args.model.now c.args.goals.now c.deref-2.result.now c.deref.result.now c.in_ok-ranks.ranks.items (c.in_ok-ranks.ensures {u = tt});
+    }
 
 pub unreachable-requires : goal.unreachable-requires
 unreachable-requires c =

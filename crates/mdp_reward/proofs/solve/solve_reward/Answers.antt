@@ -86,6 +86,15 @@ returns-in-Yes-clause-path c =
     (ends-answered dir m c.args.m goals finite start known (c.in_ok-start.ensures {u = tt}) end.0 policy ranks x end.2 are
     (subst (λ (v : List (Option ℚ)). Yes ≡ verdict_of (reward_checks dir m c.args.m goals v policy ranks)) values (sym c.in-Yes.is ∙ c.holds_reward.ensures.verdict)))
 
+pub returns-in-Yes-clause-each : goal.returns-in-Yes-clause-each
+returns-in-Yes-clause-each c = record {
+  values = ap length (c.in_ok-rewards_of.ensures {u = tt}) ∙ rewards-len c.args.model.now c.args.goals.now c.in_ok-start.start.finite c.deref-2.result.now;
+  choices = (c.in-Ok.ensures {u = tt}).best.best.is.one_each ∙ reward-count c.args.dir c.args.model.now c.args.m c.args.goals.now c.in_ok-start.start.finite;
+  ranks = ranks-count c.args.dir c.args.model.now c.args.goals.now c.in_ok-start.start.finite c.in_ok-start.start.known.items c.deref.result.now c.in_ok-ranks.ranks.items
+      (start-known c.args.dir c.args.model.now c.args.goals.now c.in_ok-start.start.finite c.in_ok-start.start.policy.items c.in_ok-start.start.known.items c.known.ensures.mdp
+      (c.in_ok-start.ensures {u = tt})) (c.in_ok-ranks.ensures {u = tt});
+}
+
 pub unreachable-requires : goal.unreachable-requires
 unreachable-requires c =
     let dir = c.args.dir in
