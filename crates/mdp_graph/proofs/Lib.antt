@@ -36,3 +36,5 @@ pub mod Steps
 pub mod StepsInside
 pub mod SureSome
 pub mod Taking
+pub mod Settling
+pub mod Rising

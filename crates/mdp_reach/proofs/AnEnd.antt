@@ -34,10 +34,10 @@ use Rattle.mdp_reach.specs.Problem.{reach_problem}
 use Rattle.mdp_reach.specs.Query.{Answer, none_blocked, policy_rows, ending, IsMaxStart, IsMinStart, IsStart, AreMaxRanks, AreMinRanks, AreRanks, Held, EndsSo}
 use Rattle.mdp_reach.specs.Round.{last_round}
 use Rattle.mdp_reach.proofs.Answering.{meets-reach}
-use Rattle.mdp_reach.proofs.Rising.{may_rises, must_rises, row_rises, ways_exist}
+use Rattle.mdp_graph.proofs.Rising.{may_rises, must_rises, row_rises, ways_exist}
 use Rattle.mdp_reach.proofs.Kept.{found-policy}
 use Rattle.mdp_reach.proofs.Rows.{row-known}
-use Rattle.mdp_reach.proofs.Settling.{ranks_exist}
+use Rattle.mdp_graph.proofs.Settling.{ranks_exist}
 use Rattle.mdp_reach.proofs.Starts.{start-solvable, start-choices}
 
 module _ (m : Mdp) (ok : IsMdp m) (goals : List Bool) where

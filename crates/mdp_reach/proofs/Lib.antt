@@ -7,8 +7,6 @@ pub mod Rows
 pub mod MaxRules
 pub mod MinRules
 pub mod OneEnd
-pub mod Settling
-pub mod Rising
 pub mod Answering
 pub mod AnEnd
 mod Examples

@@ -37,9 +37,9 @@ use Rattle.mdp_reward.specs.Problem.{reward_problem}
 use Rattle.mdp_reward.specs.Query.{Answer, split, unmarked, IsMaxStart, IsMinStart, IsStart, policy_rows, rewards_of, AreMinRanks, AreRanks, Held, EndsSo}
 use Rattle.mdp_reward.proofs.Answering.{PassLaws, meets-reward}
 use Rattle.mdp_reward.proofs.Kept.{found-policy}
-use Rattle.mdp_reward.proofs.Rising.{may_rises, must_rises, row_rises, inside_rises, ways_exist}
+use Rattle.mdp_graph.proofs.Rising.{may_rises, must_rises, row_rises, inside_rises, ways_exist}
 use Rattle.mdp_reward.proofs.Rows.{row-known}
-use Rattle.mdp_reward.proofs.Settling.{ranks_exist}
+use Rattle.mdp_graph.proofs.Settling.{ranks_exist}
 use Rattle.mdp_reward.proofs.SomeRounds.{rounds_exist}
 use Rattle.mdp_reward.proofs.Starts.{start-solvable, start-choices}
 use Rattle.mdp_reward.proofs.Values.{reward-nonneg}

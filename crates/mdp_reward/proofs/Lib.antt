@@ -12,8 +12,6 @@ pub mod MaxRules
 pub mod MinRules
 pub mod Rounds
 pub mod OneEnd
-pub mod Settling
-pub mod Rising
 pub mod SomeRounds
 pub mod Answering
 pub mod AnEnd

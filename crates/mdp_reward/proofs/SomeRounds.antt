@@ -15,9 +15,9 @@ use Rattle.mdp_graph.proofs.LeftAfter.{stays-alike}
 use Rattle.mdp_graph.proofs.Passes.{has_rank}
 use Rattle.mdp_graph.proofs.Reached.{rank_of, at_most-some}
 use Rattle.mdp_graph.proofs.StepsInside.{reached-more}
-use Rattle.mdp_reward.proofs.Rising.{inside_rises}
+use Rattle.mdp_graph.proofs.Rising.{inside_rises}
 use Rattle.mdp_reward.proofs.Rows.{lt_of_test}
-use Rattle.mdp_reward.proofs.Settling.{NoneOrLeast, least_below, ranks_exist, settles}
+use Rattle.mdp_graph.proofs.Settling.{NoneOrLeast, least_below, ranks_exist, settles}
 
 not_false : (b : Bool) → not b ≡ false → b ≡ true
 not_false b e = sym (not-not b) ∙ ap not e

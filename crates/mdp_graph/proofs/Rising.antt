@@ -1,5 +1,6 @@
 -- The steps of the passes lead from more states where they may lead to more, and the choices of shortest ways exist.
-use Rattle.std.proofs.Common.{◌≡◌, ℕ, ◌<◌, Bool, true, ◌&&◌, not, List, [], map, replicate, Option, is_some, refl, ◌∙◌, ap}
+use Rattle.std.proofs.Common.{◌≡◌, ℕ, ◌<◌, Bool, true, ◌&&◌, not, List, [], map, replicate}
+use Rattle.std.proofs.Common.{Option, is_some, refl, ◌∙◌, ap}
 use Rattle.std.specs.Prelude.{slice_index_or}
 use Rattle.std.specs.List.{All}
 use Rattle.mdp_math.proofs.Booleans.{and-left, and-right, and-both}
@@ -10,9 +11,11 @@ use Rattle.mdp_graph.specs.Layers.{rank_at, AreRanks}
 use Rattle.mdp_graph.specs.Choices.{plain_rank, is_before, may_fall, first_passing, AreLeast}
 use Rattle.mdp_graph.specs.Reach.{may_step, row_step, falls}
 use Rattle.mdp_graph.specs.Meet.{must_step}
+use Rattle.mdp_graph.specs.Sure.{inside_step}
 use Rattle.mdp_graph.proofs.Passes.{least_choices, falls-is}
 use Rattle.mdp_graph.proofs.RowSets.{list_any-at, list_any-by, list_all-at, list_all-by, enters-at, enters-by, stays-everywhere}
-use Rattle.mdp_reach.proofs.Settling.{Rises}
+use Rattle.mdp_graph.proofs.StepsInside.{step-more}
+use Rattle.mdp_graph.proofs.Settling.{Rises}
 
 -- ---- steps lead from more states where they may lead to more
 
@@ -36,6 +39,9 @@ module _ (m : Mdp) (ok : IsMdp m) where
       list_all-by (λ (x : Choice). can_enter q x.row) (choices_at m s) no_choice
       (λ c k. (let row = ok.row s c h k in
       enters-rise p q (states_of m) (row_at m s c) row.in_range more (list_all-at (λ (x : Choice). can_enter p x.row) (choices_at m s) no_choice e c k)))
+
+  pub inside_rises : (inside : ℕ → Bool) → Rises (inside_step m inside) (states_of m)
+  inside_rises inside p q more s h e = step-more m ok inside inside p q (λ t l f. f) more s h e
 
   -- ---- the choices of shortest ways
 
