@@ -97,6 +97,35 @@ next-better : IsBetter Max best.gain start_values.gain
 unfolding lt_ℚ of_int
 next-better = record { lt = tt }
 
+-- ---- a step on which the gain stays and a bias rises: state 1 can only go to state 0, and earns nothing or 1
+
+abbrev back : Mdp
+back = record {
+  names = [] ∷ [];
+  labels = [];
+  states =
+      state (choice 0 (of_int (pos 1)) ∷ choice 1 (of_int (pos 0)) ∷ [])
+      ∷ state (choice 0 (of_int (pos 0)) ∷ choice 0 (of_int (pos 1)) ∷ [])
+      ∷ [];
+}
+
+abbrev greatest_of_back : Component
+greatest_of_back = inner_component Max back both 0 0
+
+back-evaluated : written_values greatest_of_back (0 ∷ 0 ∷ []) 0 ≡ Ok start_values
+unfolding equation_of eliminated divided_rest plus_equation evaluated written_add written_mul written_compare narrow narrow_ℚ ◌+ℚ◌ ◌*ℚ◌ neg_ℚ inv_ℚ ratio of_int gcd gcd_with_fuel
+back-evaluated = refl
+
+-- state 1, which changes, is in no closed class of the improved policy
+back-improved : written_improved greatest_of_back (0 ∷ 0 ∷ []) start_values ≡ Ok (0 ∷ 1 ∷ [])
+unfolding written_add written_mul written_compare narrow narrow_ℚ ◌+ℚ◌ ◌*ℚ◌ neg_ℚ ratio of_int gcd gcd_with_fuel
+back-improved = refl
+
+-- so that is the next policy. Its gain is 1 again, and the bias of state 1 is 0 in place of -1
+back-next : written_values greatest_of_back (0 ∷ 1 ∷ []) 0 ≡ Ok (record { gain = of_int (pos 1); bias = of_int (pos 0) ∷ of_int (pos 0) ∷ [] })
+unfolding equation_of eliminated divided_rest plus_equation evaluated written_add written_mul written_compare narrow narrow_ℚ ◌+ℚ◌ ◌*ℚ◌ neg_ℚ inv_ℚ ratio of_int gcd gcd_with_fuel
+back-next = refl
+
 -- ---- the least gain is 0: each state goes to the other one
 
 abbrev least : Answer
