@@ -1,13 +1,18 @@
 -- Small components, computed. In the first, state 0 stays and earns 1 or goes to state 1 and earns nothing; state 1 goes to state 0 and earns nothing or
 -- stays and earns 3. Its best gain is 3, and its least gain 0. In the second, one state stays and earns -2, -1 or -3: its best gain is -1.
-use Rattle.std.proofs.Common.{◌≡◌, ℕ, true, false, List, [], ◌∷◌, Option, Some, refl, pos, negsuc}
+use Rattle.std.proofs.Common.{◌≡◌, ℕ, true, false, List, [], ◌∷◌, Option, Some, Ok, refl, pos, negsuc}
 use Rattle.mdp_math.specs.Gcd.{gcd, gcd_with_fuel}
-use Rattle.mdp_math.specs.Rational.{ℚ, of_int, ratio, ◌+ℚ◌, ◌*ℚ◌}
+use Rattle.mdp_math.specs.Rational.{ℚ, of_int, ratio, ◌+ℚ◌, ◌*ℚ◌, neg_ℚ, inv_ℚ, lt_ℚ}
+use Rattle.mdp_math.specs.Written.{written_add, written_mul, written_compare, narrow, narrow_ℚ}
 use Rattle.mdp_spec.specs.Mdp.{Choice, State, Mdp}
+use Rattle.mdp_elim.specs.Elimination.{divided_rest, plus_equation, eliminated, evaluated}
+use Rattle.mdp_elim.specs.System.{equation_of}
 use Rattle.mdp_ends.specs.Ends.{count_of}
 use Rattle.mdp_rows.specs.declared.dir.Dir.TheVariants.{Max}
-use Rattle.mdp_unichain.specs.Component.{is_state}
+use Rattle.mdp_rows.specs.Better.{IsBetter}
+use Rattle.mdp_unichain.specs.Component.{Component, is_state}
 use Rattle.mdp_unichain.specs.Part.{members, inner_component}
+use Rattle.mdp_unichain.specs.Written.{Values, written_values, written_improved}
 use Rattle.mdp_gain.specs.Query.{Answer, answer_of}
 use Rattle.mdp_gain.specs.Best.{bias_at, taken_at, worth_of}
 
@@ -64,6 +69,62 @@ best-earns = (refl, refl)
 best-others : (worth_of two_states 0 (bias_at best) 0 0 ≡ of_int (negsuc 1)) × (worth_of two_states 0 (bias_at best) 1 0 ≡ of_int (negsuc 2))
 unfolding gcd gcd_with_fuel of_int ratio ◌+ℚ◌ ◌*ℚ◌
 best-others = (refl, refl)
+
+-- ---- the first step of its path: the start takes choice 0 at both states, stays at state 0 and earns 1
+
+abbrev greatest_of_two : Component
+greatest_of_two = inner_component Max two_states both 0 0
+
+-- a start at state 1 is behind by the step that earns nothing
+abbrev start_values : Values
+start_values = record { gain = of_int (pos 1); bias = of_int (pos 0) ∷ of_int (negsuc 0) ∷ [] }
+
+start-evaluated : written_values greatest_of_two (0 ∷ 0 ∷ []) 0 ≡ Ok start_values
+unfolding equation_of eliminated divided_rest plus_equation evaluated written_add written_mul written_compare narrow narrow_ℚ ◌+ℚ◌ ◌*ℚ◌ neg_ℚ inv_ℚ ratio of_int gcd gcd_with_fuel
+start-evaluated = refl
+
+-- under these values it is better to stay at state 1, and at no other state is a choice better
+start-improved : written_improved greatest_of_two (0 ∷ 0 ∷ []) start_values ≡ Ok (0 ∷ 1 ∷ [])
+unfolding written_add written_mul written_compare narrow narrow_ℚ ◌+ℚ◌ ◌*ℚ◌ neg_ℚ ratio of_int gcd gcd_with_fuel
+start-improved = refl
+
+-- so state 0 goes there. The gain of this policy is 3, and better
+next-evaluated : written_values greatest_of_two (1 ∷ 1 ∷ []) 1 ≡ Ok (record { gain = best.gain; bias = best.bias })
+unfolding equation_of eliminated divided_rest plus_equation evaluated written_add written_mul written_compare narrow narrow_ℚ ◌+ℚ◌ ◌*ℚ◌ neg_ℚ inv_ℚ ratio of_int gcd gcd_with_fuel
+next-evaluated = refl
+
+next-better : IsBetter Max best.gain start_values.gain
+unfolding lt_ℚ of_int
+next-better = record { lt = tt }
+
+-- ---- a step on which the gain stays and a bias rises: state 1 can only go to state 0, and earns nothing or 1
+
+abbrev back : Mdp
+back = record {
+  names = [] ∷ [];
+  labels = [];
+  states =
+      state (choice 0 (of_int (pos 1)) ∷ choice 1 (of_int (pos 0)) ∷ [])
+      ∷ state (choice 0 (of_int (pos 0)) ∷ choice 0 (of_int (pos 1)) ∷ [])
+      ∷ [];
+}
+
+abbrev greatest_of_back : Component
+greatest_of_back = inner_component Max back both 0 0
+
+back-evaluated : written_values greatest_of_back (0 ∷ 0 ∷ []) 0 ≡ Ok start_values
+unfolding equation_of eliminated divided_rest plus_equation evaluated written_add written_mul written_compare narrow narrow_ℚ ◌+ℚ◌ ◌*ℚ◌ neg_ℚ inv_ℚ ratio of_int gcd gcd_with_fuel
+back-evaluated = refl
+
+-- state 1, which changes, is in no closed class of the improved policy
+back-improved : written_improved greatest_of_back (0 ∷ 0 ∷ []) start_values ≡ Ok (0 ∷ 1 ∷ [])
+unfolding written_add written_mul written_compare narrow narrow_ℚ ◌+ℚ◌ ◌*ℚ◌ neg_ℚ ratio of_int gcd gcd_with_fuel
+back-improved = refl
+
+-- so that is the next policy. Its gain is 1 again, and the bias of state 1 is 0 in place of -1
+back-next : written_values greatest_of_back (0 ∷ 1 ∷ []) 0 ≡ Ok (record { gain = of_int (pos 1); bias = of_int (pos 0) ∷ of_int (pos 0) ∷ [] })
+unfolding equation_of eliminated divided_rest plus_equation evaluated written_add written_mul written_compare narrow narrow_ℚ ◌+ℚ◌ ◌*ℚ◌ neg_ℚ inv_ℚ ratio of_int gcd gcd_with_fuel
+back-next = refl
 
 -- ---- the least gain is 0: each state goes to the other one
 

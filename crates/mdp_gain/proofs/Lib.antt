@@ -6,6 +6,7 @@ mod Examples
 mod Flagging
 mod GainLaws
 mod Given
+mod Improving
 mod Listed
 mod NextPolicy
 mod Rounds

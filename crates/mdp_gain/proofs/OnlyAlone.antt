@@ -1,6 +1,6 @@
 -- A state of an end component at which each choice of the component stays is its only state.
 use Rattle.std.proofs.Common.{◌≡◌, ◌≢◌, ℕ, ◌<◌, ◌⊎◌, inl, inr, Bool, true, false, not, ◌&&◌, ◌||◌}
-use Rattle.std.proofs.Common.{◌==◌, List, [], ◌∷◌, length, Option, refl, sym, ◌∙◌, ap, subst, arith, zero-add}
+use Rattle.std.proofs.Common.{◌==◌, List, [], ◌∷◌, length, Option, refl, sym, ◌∙◌, ap, arith, zero-add}
 use Rattle.std.specs.List.{All, Any, list_all, range_with_len}
 use Rattle.std.proofs.lemmas.Bool.{eqb-true}
 use Rattle.std.proofs.lemmas.List.FromFn.{length-range_with_len, get_or-range_with_len}
@@ -11,7 +11,7 @@ use Rattle.mdp_spec.specs.Row.{entries}
 use Rattle.mdp_graph.proofs.RowSets.{list_all-at}
 use Rattle.mdp_rows.specs.declared.dir.Dir.{Dir}
 use Rattle.mdp_ends.specs.Ends.{in_part}
-use Rattle.mdp_unichain.specs.Component.{Component, Choice, choices_at, choice_at, IsInner, is_state, CanReach, IsComponent}
+use Rattle.mdp_unichain.specs.Component.{Component, choices_at, choice_at, IsInner, is_state, CanReach, IsComponent}
 use Rattle.mdp_unichain.specs.Part.{IsPart, inner_component}
 use Rattle.mdp_unichain.proofs.Chains.{same_or_other}
 use Rattle.mdp_unichain.proofs.Improving.{inner-below}

@@ -1,7 +1,7 @@
 -- What a round of an end component of one state makes.
-use Rattle.std.proofs.Common.{◌≡◌, ◌≢◌, ℕ, List, Result, Ok, Err, sym, ◌∙◌, ap, subst}
+use Rattle.std.proofs.Common.{◌≡◌, ◌≢◌, ℕ, Result, Ok, Err, sym, ap, subst}
 use Rattle.mdp_math.specs.Rational.{ℚ}
-use Rattle.mdp_unichain.specs.Component.{Component, IsInner, row_by, IsPolicy, IsComponent, is_state}
+use Rattle.mdp_unichain.specs.Component.{Component, IsInner, row_by, IsPolicy, IsComponent}
 use Rattle.mdp_unichain.specs.Improvement.{IsImproved}
 use Rattle.mdp_unichain.specs.Written.{Values, written_values, written_improved}
 use Rattle.mdp_unichain.proofs.Compares.{improves_exactly}

@@ -1,11 +1,10 @@
 -- The path of an end component of one state, choice by choice.
-use Rattle.std.proofs.Common.{◌≡◌, ◌≢◌, ℕ, zero, suc, ◌+◌, ◌-◌, ◌<◌, ◌≤◌, ◌^◌, ◌⊎◌, min, inl, inr, Bool, true, false, if◌then◌else◌}
+use Rattle.std.proofs.Common.{◌≡◌, ◌≢◌, ℕ, zero, suc, ◌+◌, ◌-◌, ◌<◌, ◌≤◌, ◌^◌, min, Bool, true, false, if◌then◌else◌}
 use Rattle.std.proofs.Common.{List, [], ◌∷◌, length, map, filter, Option, Some, Result, Ok, Err, refl, sym, ◌∙◌, ap, subst, arith, pos}
 use Rattle.std.specs.List.{find, range_with_len}
 use Rattle.std.specs.Option.{unwrap_or}
 use Rattle.std.specs.Prelude.{slice_index}
 use Rattle.mdp_math.specs.Rational.{ℚ, of_int}
-use Rattle.mdp_math.proofs.Order.{0ℚ}
 use Rattle.mdp_elim.specs.Laws.{GivesSolutions}
 use Rattle.mdp_spec.specs.Mdp.{Mdp, states_of, value_at}
 use Rattle.mdp_rows.specs.declared.dir.Dir.{Dir}
@@ -13,7 +12,7 @@ use Rattle.mdp_wide.specs.declared.too_wide.Kind.{Kind}
 use Rattle.mdp_wide.specs.declared.too_wide.Part.TheVariants.{Inner}
 use Rattle.mdp_wide.specs.Term.{WideTerm}
 use Rattle.mdp_ends.specs.Ends.{in_part}
-use Rattle.mdp_policy_iteration.specs.Iteration.{next, done, refused}
+use Rattle.mdp_policy_iteration.specs.Iteration.{refused}
 use Rattle.mdp_policy_iteration.specs.Path.{Round, Refusal}
 use Rattle.mdp_policy_iteration.specs.Laws.{first}
 use Rattle.mdp_policy_iteration.specs.Ends.{error_of_part}

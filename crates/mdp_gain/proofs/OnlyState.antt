@@ -1,8 +1,8 @@
 -- An end component of one state: its policies, its values, and its improved choices.
 use Rattle.std.proofs.Common.{◌≡◌, ◌≢◌, ℕ, zero, suc, ◌+◌, ◌<◌, ◌≤◌, ◌⊎◌, inl, inr, Bool, true, false, not, ◌&&◌, ◌==◌, eqb, if◌then◌else◌, List}
-use Rattle.std.proofs.Common.{[], ◌∷◌, ◌++◌, length, map, Some, None, Result, Ok, Err, pos, refl, sym, ◌∙◌, ap, ap₂, subst, arith, zero-add}
-use Rattle.std.specs.List.{All, Any, list_all, range_with_len}
-use Rattle.std.specs.Prelude.{slice_index, slice_index_or}
+use Rattle.std.proofs.Common.{[], ◌∷◌, ◌++◌, length, map, Result, Ok, Err, pos, refl, sym, ◌∙◌, ap, subst, arith, zero-add}
+use Rattle.std.specs.List.{range_with_len}
+use Rattle.std.specs.Prelude.{slice_index}
 use Rattle.std.specs.Result.{result_ok}
 use Rattle.std.proofs.Math.ListN.{get_or-eq_default}
 use Rattle.std.proofs.lemmas.Bool.{eq-eqb, ne_eqb}
@@ -14,9 +14,9 @@ use Rattle.mdp_math.proofs.Lists.{map_more}
 use Rattle.mdp_math.proofs.Numbers.{le_or, eqb-same}
 use Rattle.mdp_math.proofs.Order.{0ℚ}
 use Rattle.mdp_num.specs.declared.errors.Wide.{Wide}
-use Rattle.mdp_spec.specs.Mdp.{Entry, value_at}
+use Rattle.mdp_spec.specs.Mdp.{Entry}
 use Rattle.mdp_elim.specs.System.{is_active}
-use Rattle.mdp_wide.specs.declared.too_wide.Kind.TheVariants.{Evaluate, Compare}
+use Rattle.mdp_wide.specs.declared.too_wide.Kind.TheVariants.{Evaluate}
 use Rattle.mdp_policy_iteration.specs.Places.{Place, at_place, up_to}
 use Rattle.mdp_policy_iteration.specs.Candidates.{Best}
 use Rattle.mdp_policy_iteration.specs.Path.{evaluating, placed, comparing, or_kept}
@@ -38,7 +38,7 @@ use Rattle.mdp_gain.specs.OnlyTerms.{ratio_of}
 use Rattle.mdp_gain.specs.declared.errors.RoundError.{RoundError}
 use Rattle.mdp_gain.specs.declared.errors.RoundError.TheVariants as fault
 use Rattle.mdp_gain.proofs.OnlyColumns.{zeros, no-solution}
-use Rattle.mdp_gain.proofs.OnlySums.{zero-at, zeros-sum, zeros-ratio, zeros-compared}
+use Rattle.mdp_gain.proofs.OnlySums.{zero-at, zeros-ratio, zeros-compared}
 use Rattle.mdp_gain.proofs.Told.{bias-zero}
 
 -- ---- lists of answers

@@ -3,7 +3,7 @@ use Rattle.std.proofs.Common.{◌≡◌, ℕ, ◌+◌, ◌<◌, ◌≤◌, ◌�
 use Rattle.std.proofs.Common.{get_or, if◌then◌else◌, Option, Some, None, refl, sym, ◌∙◌, ap, arith, zero-add, pos}
 use Rattle.std.proofs.Math.ListN.{get_or-eq_default}
 use Rattle.std.proofs.lemmas.List.FromFn.{get_or-map-range_with_len, length-map-range_with_len}
-use Rattle.mdp_math.specs.Rational.{ℚ, of_int, ◌+ℚ◌}
+use Rattle.mdp_math.specs.Rational.{ℚ, ◌+ℚ◌}
 use Rattle.mdp_math.specs.Sum.{sum_of}
 use Rattle.mdp_math.specs.Written.{written_add, written_mul, ◌>>=◌}
 use Rattle.mdp_math.proofs.Numbers.{le_or}
@@ -17,7 +17,7 @@ use Rattle.mdp_spec.specs.Row.{entries}
 use Rattle.mdp_spec.specs.Written.{written_sum}
 use Rattle.mdp_rows.specs.declared.dir.Dir.{Dir}
 use Rattle.mdp_policy_iteration.specs.Candidates.{Best, judged}
-use Rattle.mdp_unichain.specs.Component.{Component, Choice, choice_at, row_by, reward_by, chosen}
+use Rattle.mdp_unichain.specs.Component.{Component, Choice, chosen}
 use Rattle.mdp_unichain.specs.Sums.{written_ratio, compared}
 use Rattle.mdp_unichain.specs.Evaluation.{mean}
 use Rattle.mdp_policy_iteration.proofs.OuterSums.{entries_next}

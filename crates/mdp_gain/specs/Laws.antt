@@ -1,4 +1,4 @@
--- What a query of the best gain of an end component ends with, and what a best gain says of all policies and trees of the component.
+-- What a query of the best gain of an end component ends with, what each step of its path does, and what a best gain says of all policies and trees of the component.
 use Rattle.std.specs.Prelude.{◌≡◌, ℕ, ◌<◌, ◌≤◌, true, List, Option, Result, Ok}
 use Rattle.mdp_math.specs.Rational.{ℚ, ◌+ℚ◌, ◌*ℚ◌, ◌≤ℚ◌}
 use Rattle.mdp_spec.specs.Mdp.{Mdp, states_of}
@@ -8,13 +8,17 @@ use Rattle.mdp_spec.specs.Bounds.{whole}
 use Rattle.mdp_rows.specs.declared.dir.Dir.{Dir}
 use Rattle.mdp_rows.specs.declared.dir.Dir.TheVariants.{Max, Min}
 use Rattle.mdp_ends.specs.Ends.{in_part}
+use Rattle.mdp_policy_iteration.specs.Iteration.{next}
+use Rattle.mdp_policy_iteration.specs.Path.{Round}
 use Rattle.mdp_wide.specs.Term.{WideTerm}
 use Rattle.mdp_rows.specs.Better.{IsAsGood}
 pub use Rattle.mdp_unichain.specs.Part.{IsPart}
 use Rattle.mdp_unichain.specs.Model.{Takes}
 use Rattle.mdp_unichain.specs.Improvement.{IsEvaluated}
+use Rattle.mdp_unichain.specs.Path.{Makes}
 use Rattle.mdp_gain.specs.Query.{Answer, is_inner, inner_component, EndsSo}
 use Rattle.mdp_gain.specs.Best.{IsBestInner}
+use Rattle.mdp_gain.specs.Improvement.{IsRound, ImprovesTo}
 
 -- a query has exactly one end
 abbrev pub HasOneEnd : Type 0
@@ -52,3 +56,15 @@ NoTreeEarnsLess =
     (m : Mdp) (parts : List (Option ℕ)) (i r : ℕ) (a : Answer) → IsPart m parts i → IsBestInner Min m parts i r a
     → (spread : ℚ) × ((n u : ℕ) (t : Tree) (s : ℕ) → 1 ≤ u → s < states_of m → in_part parts i s ≡ true → Takes m (is_inner m parts i) u n t s
     → whole n *ℚ a.gain ≤ℚ total m r u n t s +ℚ spread)
+
+-- each step of a query's path leads to a better policy
+abbrev pub StepImproves : Type 0
+StepImproves =
+    (dir : Dir) (m : Mdp) (parts : List (Option ℕ)) (i r : ℕ) (a b : Round) → IsPart m parts i → IsRound dir m parts i r a
+    → Makes (inner_component dir m parts i r) a (next b) → ImprovesTo (inner_component dir m parts i r) a b
+
+-- no policy comes twice on a query's path: two rounds with one policy are one round
+abbrev pub NoPolicyTwice : Type 0
+NoPolicyTwice =
+    (dir : Dir) (m : Mdp) (parts : List (Option ℕ)) (i r : ℕ) (a b : Round) → IsPart m parts i → IsRound dir m parts i r a → IsRound dir m parts i r b
+    → b.policy ≡ a.policy → b ≡ a

@@ -1,5 +1,6 @@
 pub mod Query
 pub mod Best
+pub mod Improvement
 pub mod Laws
 pub mod Faults
 pub mod Classes

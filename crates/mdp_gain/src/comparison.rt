@@ -1,6 +1,6 @@
 ghost use Rattle.std.specs.Prelude.{◌≡◌, ◌<◌, length, Some, None, IfOk, IfErr};
 ghost use Rattle.mdp_wide.specs.declared.too_wide.Kind.TheVariants.{Compare};
-ghost use Rattle.mdp_policy_iteration.specs.Candidates.{is_better};
+ghost use Rattle.mdp_policy_iteration.specs.Candidates.{is_better, judged};
 ghost use Rattle.mdp_policy_iteration.specs.Path.{or_kept};
 ghost use Rattle.mdp_unichain.specs.Component.{count, choices_at, choice_at, IsPolicy};
 ghost use Rattle.mdp_unichain.specs.Sums.{compared};
@@ -18,7 +18,7 @@ use std::alloc::Global;
 use std::cmp::Ordering;
 
 /// Greater for the greatest gain, less for the least one.
-pub(crate) fn is_better(dir: Dir, order: Ordering) -> bool
+fn is_better(dir: Dir, order: Ordering) -> bool
     ensures { result ≡ is_better dir order }
 {
     match dir {
@@ -48,6 +48,21 @@ pub(crate) struct Leader {
     pub(crate) choice: Option<u32>,
 }
 
+/// The leader after choice `c`, which is worth `sum`, has been compared with it.
+pub(crate) fn judged(dir: Dir, c: u32, sum: Frac, best: Leader) -> Result<Leader, Wide>
+    ensures value { IfOk result (λ next. judged dir c (shown best) sum ≡ Some (shown next)) }
+    ensures wide { IfErr result (λ _. judged dir c (shown best) sum ≡ None) }
+{
+    let order = sum.compare(&best.value)?;
+    if is_better(dir, order) {
+        return Ok(Leader {
+            value: sum,
+            choice: Some(c),
+        });
+    }
+    Ok(best)
+}
+
 /// The leader after choice `c` of state `s` has been compared with it.
 fn compared(
     component: &EndComponent<'_, '_>,
@@ -67,14 +82,7 @@ fn compared(
         return Ok(best);
     }
     let sum = component.row(s, c).sum(&component.reward(s, c), bias)?;
-    let order = sum.compare(&best.value)?;
-    if is_better(component.dir, order) {
-        return Ok(Leader {
-            value: sum,
-            choice: Some(c),
-        });
-    }
-    Ok(best)
+    judged(component.dir, c, sum, best)
 }
 
 /// The choice that is taken, or the policy's own.

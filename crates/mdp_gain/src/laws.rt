@@ -1,4 +1,4 @@
-ghost use Rattle.mdp_gain.specs.Laws.{HasOneEnd, AnswersAreBest, HasOneGain, NoPolicyIsBetter, NoTreeEarnsMore, NoTreeEarnsLess};
+ghost use Rattle.mdp_gain.specs.Laws.{HasOneEnd, AnswersAreBest, HasOneGain, NoPolicyIsBetter, NoTreeEarnsMore, NoTreeEarnsLess, StepImproves, NoPolicyTwice};
 
 use mdp_elim::solution_law;
 
@@ -11,6 +11,15 @@ pub fn gain_law()
     ensures policies { NoPolicyIsBetter }
     ensures more { NoTreeEarnsMore }
     ensures less { NoTreeEarnsLess }
+{
+    solution_law();
+}
+
+/// Each step of the path of such a query improves the policy: its gain is better, or its gain is the same and its bias is worse nowhere and better
+/// somewhere. So no policy comes twice.
+pub fn improvement_law()
+    ensures step { StepImproves }
+    ensures none_twice { NoPolicyTwice }
 {
     solution_law();
 }

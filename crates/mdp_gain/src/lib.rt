@@ -19,5 +19,5 @@ mod solve;
 mod start;
 
 pub use inner::Inner;
-pub use laws::gain_law;
+pub use laws::{gain_law, improvement_law};
 pub use solve::{solve_inner, solve_inner_of};

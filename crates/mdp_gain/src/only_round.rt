@@ -11,7 +11,7 @@ ghost use Rattle.mdp_gain.specs.Faults.{placed_at, Answers};
 ghost use Rattle.mdp_gain.specs.Only.{IsOnly, policy_of, values_of, choice_over, Makes};
 ghost use Rattle.mdp_gain.specs.OnlyTerms.{plus_zero, ratio_of};
 
-use crate::comparison::{Leader, at_choice, is_better, or_kept};
+use crate::comparison::{Leader, at_choice, judged, or_kept};
 use crate::component::EndComponent;
 use crate::errors::RoundError;
 use mdp_elim::solution_law;
@@ -104,14 +104,7 @@ fn compared(component: &EndComponent<'_, '_>, s: u32, c: u32, best: Leader) -> R
         return Ok(best);
     }
     let sum = zero_sum(component.row(s, c), &component.reward(s, c))?;
-    let order = sum.compare(&best.value)?;
-    if is_better(component.dir, order) {
-        return Ok(Leader {
-            value: sum,
-            choice: Some(c),
-        });
-    }
-    Ok(best)
+    judged(component.dir, c, sum, best)
 }
 
 /// The choice of state `s` that is best where it is better than `present`, or the one that it has.

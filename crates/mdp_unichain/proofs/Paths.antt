@@ -72,7 +72,7 @@ module _ (p : Component) (known : IsComponent p) (gives : GivesSolutions) where
   evaluation_one a t (Err place) s q k h j = h ∙ sym j
   evaluation_one a t (Ok v) s q k h j = comparison_one a t v (written_improved p a.policy v) s q k refl h j
 
-  one : (a : Round) (s q : Step Round Found Refusal) → P a → Makes p a s → Makes p a q → s ≡ q
+  pub one : (a : Round) (s q : Step Round Found Refusal) → P a → Makes p a s → Makes p a q → s ≡ q
   one a s q k h j =
       let e : j.0 ≡ h.0 = one_reference (is_state p) (row_by p a.policy) j.0 h.0 j.1 h.1 in
       evaluation_one a h.0 (written_values p a.policy h.0) s q k h.2 (subst (λ (t : ℕ). AfterEvaluation p a t (written_values p a.policy t) q) e j.2)

@@ -1,9 +1,8 @@
-use Rattle.std.proofs.Common.{◌≡◌, ◌∙◌, ◌≤◌, ℕ, Ok, Err, Option, Result, sym, ap, subst, rules}
+use Rattle.std.proofs.Common.{◌≡◌, ◌∙◌, ℕ, Ok, Err, Option, Result, sym, ap, subst, rules}
 use Rattle.std.specs.Option.{unwrap_or}
 use Rattle.mdp_wide.specs.declared.too_wide.SolveError.{SolveError}
 use Rattle.mdp_policy_iteration.specs.Queries.{Solves}
 use Rattle.mdp_policy_iteration.specs.declared.solution.PathError.{PathError}
-use Rattle.mdp_unichain.specs.Component.{choices_at, choice_at, IsInner}
 use Rattle.mdp_unichain.proofs.Improving.{state-below}
 use Rattle.mdp_gain.specs.Code.{component_in}
 use Rattle.mdp_gain.specs.Only.{IsOnly, Ends}

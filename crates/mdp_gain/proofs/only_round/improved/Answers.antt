@@ -1,4 +1,4 @@
-use Rattle.std.proofs.Common.{◌≡◌, ◌∙◌, Ok, Option, Some, None, Result, sym, ap}
+use Rattle.std.proofs.Common.{◌≡◌, ◌∙◌, Ok, Option, Some, None, sym, ap}
 use Rattle.std.specs.Result.{result_ok}
 use Rattle.std.proofs.lemmas.Result.{err_from_is_err_and}
 use Rattle.mdp_math.specs.Rational.{ℚ}

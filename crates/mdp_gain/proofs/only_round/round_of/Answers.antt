@@ -1,4 +1,3 @@
-use Rattle.std.proofs.Common.{◌≡◌, sym}
 use Rattle.std.proofs.lemmas.Result.{err_from_is_err_and}
 use Rattle.mdp_unichain.proofs.Parts.{part-component}
 use Rattle.mdp_gain.specs.Code.{component_in}
