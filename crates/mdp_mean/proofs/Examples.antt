@@ -1,7 +1,7 @@
 -- Joins, computed, on models whose every state is an end component: `gamble` stays at 0 for 1 in each step, or moves to 1, which earns 4 in each step, or
 -- to 2, which earns nothing, with 1/2 each; `leave` earns 1 in each step, and 5 once on the way from 0 to 1; `pay` loses 1 in each step at 0, or 5 once
 -- on the way to 1, which loses 1/2 in each step; `free` earns 1 in each step, and nothing on the way from 0 to 1.
-use Rattle.std.proofs.Common.{◌≡◌, ℕ, ◌^◌, List, [], ◌∷◌, refl, map, pos, Option, Some, Result, Ok, Err}
+use Rattle.std.proofs.Common.{◌≡◌, ℕ, ◌^◌, ◌-◌, List, [], ◌∷◌, refl, map, pos, Option, Some, Result, Ok, Err}
 use Rattle.std.specs.List.{range_with_len}
 use Rattle.mdp_math.specs.Gcd.{gcd, gcd_with_fuel}
 use Rattle.mdp_math.specs.Rational.{ℚ, of_int, ratio, neg_ℚ, inv_ℚ, ◌+ℚ◌, ◌*ℚ◌}
@@ -15,8 +15,10 @@ use Rattle.mdp_rows.specs.declared.dir.Dir.TheVariants.{Max, Min}
 use Rattle.mdp_ends.specs.Quotient.{exits_of}
 use Rattle.mdp_ends.specs.Toward.{first_below}
 use Rattle.mdp_quot.specs.Quotient.{Quotient, node_rows}
+use Rattle.mdp_farkas.specs.declared.verdict.Verdict.TheVariants.{Wide}
+use Rattle.mdp_mean.specs.Terms.{Joining}
 use Rattle.mdp_mean.specs.Join.{Joined, Place, place, written_join}
-use Rattle.mdp_mean.specs.Query.{joining}
+use Rattle.mdp_mean.specs.Query.{joining, answer_of, checked}
 
 abbrev number : ℕ → ℚ
 number n = of_int (pos n)
@@ -113,3 +115,39 @@ wide_excess = refl
 wide_bias : of_two Max far (two (minus (2 ^ 126) 1) (minus (2 ^ 126) 1)) (1 ∷ 0 ∷ []) (two (minus (2 ^ 126) 1) (minus (2 ^ 126) 1)) ≡ (let r : Result Joined Place = Err (place Evaluate 0 1) in r)
 unfolding equation_of eliminated divided_rest plus_equation evaluated written_add written_mul written_compare narrow narrow_ℚ ◌+ℚ◌ ◌*ℚ◌ neg_ℚ inv_ℚ ratio of_int gcd gcd_with_fuel first_below
 wide_bias = refl
+
+-- ---- a join in width whose check is too wide: three states with the gain 2^126, and on the way to the next one 2^126 - 1 more
+
+abbrev row_of_three : Mdp
+row_of_three = model
+    (state (to 0 (number (2 ^ 126)) ∷ to 1 (number (2 ^ 127 - 1)) ∷ [])
+    ∷ state (to 1 (number (2 ^ 126)) ∷ to 2 (number (2 ^ 127 - 1)) ∷ [])
+    ∷ state (to 2 (number (2 ^ 126)) ∷ [])
+    ∷ [])
+
+abbrev three : ℚ → ℚ → ℚ → List ℚ
+three x y z = x ∷ y ∷ z ∷ []
+
+abbrev of_three : Joining
+of_three =
+    let parts = Some 0 ∷ Some 1 ∷ Some 2 ∷ [] in
+    let gains = three (number (2 ^ 126)) (number (2 ^ 126)) (number (2 ^ 126)) in
+    joining Max row_of_three 0 parts (quotient row_of_three (0 ∷ 1 ∷ 2 ∷ []) parts)
+    (record { gains = gains; bias = three (number 0) (number 0) (number 0); choices = 0 ∷ 0 ∷ 0 ∷ [] }) (record { policy = 0 ∷ 0 ∷ 0 ∷ []; values = gains })
+    (three (number 2) (number 1) (number 0))
+
+abbrev joined_three : Joined
+joined_three = record {
+  bound = three (number (2 ^ 127 - 2)) (number (2 ^ 126 - 1)) (number 0);
+  bias = three (number 0) (number 0) (number 0);
+  spread = number (2 ^ 127 - 2);
+}
+
+in_width : written_join of_three ≡ Ok joined_three
+unfolding equation_of eliminated divided_rest plus_equation evaluated written_add written_mul written_compare narrow narrow_ℚ ◌+ℚ◌ ◌*ℚ◌ neg_ℚ inv_ℚ ratio of_int gcd gcd_with_fuel
+in_width = refl
+
+-- gain and bound together
+wide_check : checked Max row_of_three 0 (answer_of of_three joined_three) ≡ Wide (Some 0) (Some 0)
+unfolding written_add written_mul written_compare narrow narrow_ℚ ◌+ℚ◌ ◌*ℚ◌ neg_ℚ inv_ℚ ratio of_int gcd gcd_with_fuel
+wide_check = refl

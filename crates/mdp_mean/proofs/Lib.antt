@@ -7,5 +7,9 @@ mod Meets
 mod Adding
 mod Passing
 pub mod OneEnd
+mod Joinings
 mod Certified
+mod InnersExist
+mod QuotientExists
+mod HasEnd
 mod Examples

@@ -35,10 +35,10 @@ use Rattle.mdp_mean.specs.Laws.{HasReward}
 pub same_list : {A : Type 0} (n : ℕ) (xs ys : List A) (d : A) → length xs ≡ n → length ys ≡ n → ((s : ℕ) → s < n → slice_index_or xs s d ≡ slice_index_or ys s d) → xs ≡ ys
 same_list n xs ys d e f h = fill_by_all (λ s. slice_index_or ys s d) xs n d e h ∙ sym (fill_by_all (λ s. slice_index_or ys s d) ys n d f (λ s l. refl))
 
-ok_is : {A R : Type 0} (x y : A) → (let r : Result A R = Ok x in r) ≡ Ok y → x ≡ y
+pub ok_is : {A R : Type 0} (x y : A) → (let r : Result A R = Ok x in r) ≡ Ok y → x ≡ y
 ok_is x y e = cc
 
-ok_no_err : {A R : Type 0} (x : A) (y : R) → (let r : Result A R = Ok x in r) ≡ Err y → ⊥
+pub ok_no_err : {A R : Type 0} (x : A) (y : R) → (let r : Result A R = Ok x in r) ≡ Err y → ⊥
 ok_no_err x y e = cc
 
 -- ---- the end components

@@ -104,6 +104,20 @@ abbrev pub AfterInners : Dir → Mdp → ℕ → List (Option ℕ) → Result In
 AfterInners dir m r parts (Err w) p = p ≡ Err w
 AfterInners dir m r parts (Ok x) p = (q : Quotient) × IsQuotient m parts q × AfterQuotient dir m r parts x q p
 
+-- what is joined in the query: each of its parts ends with an answer, and these are put together
+pub record IsJoining (dir : Dir) (m : Mdp) (r : ℕ) (j : Joining) : Type 0 where
+  pub parts : List (Option ℕ)
+  pub are_ends : AreEnds m parts
+  pub inner : Inners
+  pub inner_ends : InnersEndSo dir m parts r (Ok inner)
+  pub quotient : Quotient
+  pub is_quotient : IsQuotient m parts quotient
+  pub exits : outer.Answer
+  pub exits_end : OuterEndSo dir quotient inner.gains (Ok exits)
+  pub steps : List ℚ
+  pub steps_end : StepsEndSo quotient (Ok steps)
+  pub is : j ≡ joining dir m r parts quotient inner exits steps
+
 -- the query ends so
 pub record EndsSo (dir : Dir) (m : Mdp) (r : ℕ) (p : Result Answer WideTerm) : Type 0 where
   pub parts : List (Option ℕ)

@@ -1,5 +1,8 @@
 -- Small quotients, computed.
-use Rattle.std.proofs.Common.{◌≡◌, ℕ, List, [], ◌∷◌, Option, Some, None, Result, Ok, Err, ◌^◌, false, refl, ap, arith, pos}
+use Rattle.std.proofs.Common.{◌≡◌, ◌⊎◌, inl, inr, ℕ, ◌<◌, List, [], ◌∷◌, Option, Some, None, Result, Ok, Err, ◌^◌, true, false, true≢false}
+use Rattle.std.proofs.Common.{refl, sym, ap, subst, arith, pos}
+use Rattle.std.specs.List.{Any}
+use Rattle.std.specs.Prelude.{slice_index, slice_index_or}
 use Rattle.std.proofs.lemmas.Bool.{false≢true}
 use Rattle.mdp_math.specs.Gcd.{gcd, gcd_with_fuel}
 use Rattle.mdp_math.specs.Rational.{ℚ, of_int, ratio, ◌+ℚ◌, ◌*ℚ◌, neg_ℚ, inv_ℚ, le_ℚ}
@@ -10,7 +13,7 @@ use Rattle.mdp_rows.specs.Preds.{pair}
 use Rattle.mdp_rows.specs.declared.dir.Dir.{Dir}
 use Rattle.mdp_rows.specs.declared.dir.Dir.TheVariants.{Max, Min}
 use Rattle.mdp_elim.specs.Elimination.{divided_rest, plus_equation, eliminated, evaluated}
-use Rattle.mdp_elim.specs.System.{equation_of}
+use Rattle.mdp_elim.specs.System.{equation_of, is_active}
 use Rattle.mdp_wide.specs.declared.too_wide.Kind.TheVariants.{Compare}
 use Rattle.mdp_ends.specs.Quotient.{exits_of}
 use Rattle.mdp_policy_iteration.specs.Iteration.{iterated}
@@ -21,6 +24,7 @@ use Rattle.mdp_quot.specs.Quotient.{Quotient, node_rows, loop_row}
 use Rattle.mdp_quot_exits.specs.Problem.{steps_problem, steps_start, outer_problem, outer_start}
 use Rattle.mdp_quot_exits.specs.Steps.{IsLongest, IsCounted}
 use Rattle.mdp_quot_exits.specs.Outer.{IsOuterPolicy, IsBestOuter, HasGains}
+use Rattle.mdp_quot_exits.specs.Laws.{LeavesWithOneValue}
 
 abbrev to : ℕ → ℚ → Entry
 to t p = record { target = t; prob = p }
@@ -173,3 +177,24 @@ no_candidate = refl
 -- and starts with its first exit
 first_exit : outer_start of_between ≡ 0 ∷ 1 ∷ 0 ∷ []
 first_exit = refl
+
+-- ---- a node whose one exit leads back to it is never left: it is no quotient of a model
+
+abbrev of_loop : Quotient
+of_loop = record { nodes = 0 ∷ []; components = None ∷ []; exits = (pair 0 0 ∷ []) ∷ []; rows = (loop_row 0 ∷ []) ∷ [] }
+
+abbrev Falls : List ℕ → Entry → Type 0
+Falls ranks x = (is_active (true ∷ []) x.target ≡ false) ⊎ (slice_index ranks x.target < slice_index ranks 0)
+
+no_fall : (ranks : List ℕ) → Falls ranks (to 0 (whole 1)) → ⊥
+no_fall ranks (inl e) = true≢false e
+no_fall ranks (inr l) = absurd (omega (arith, l))
+
+none_falls : (ranks : List ℕ) → Any (Falls ranks) (loop_row 0) → ⊥
+none_falls ranks w =
+    let first : w.0 ≡ 0 = (let l : w.0 < 1 = w.2 in omega (arith, l)) in
+    let is : to 0 (whole 1) ≡ w.1 = subst (λ k. slice_index_or (loop_row 0) k w.1 ≡ w.1) first w.3 in
+    no_fall ranks (subst (λ (x : Entry). Falls ranks x) (sym is) w.4)
+
+never_left : LeavesWithOneValue (steps_problem of_loop) (0 ∷ []) → ⊥
+never_left h = none_falls h.0.0 (h.0.2.falls 0 (omega arith) refl)

@@ -10,4 +10,5 @@ pub mod Ending
 pub mod Queries
 pub mod OuterOfAll
 pub mod StepsOfAll
+mod Leaving
 mod Examples

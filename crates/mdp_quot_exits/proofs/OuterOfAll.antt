@@ -36,7 +36,7 @@ module _ (dir : Dir) (q : Quotient) (gains : List ℚ) where
     candidate_by k zero l e = ap is_some (o.stops k l e).1
     candidate_by k (suc i) l e = refl
 
-    policy-is : IsPolicy p policy
+    pub policy-is : IsPolicy p policy
     policy-is = record {
       one_each = o.count ∙ sym (outer-count dir q gains);
       candidate = λ k l.

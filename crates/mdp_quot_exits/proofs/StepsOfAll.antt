@@ -10,7 +10,7 @@ use Rattle.mdp_policy_iteration.specs.Problem.{Problem, Node, Choice, worth, cou
 use Rattle.mdp_policy_iteration.specs.Values.{IsValue}
 use Rattle.mdp_policy_iteration.specs.Laws.{IsBest}
 use Rattle.mdp_policy_iteration.proofs.Optimal.{best_of_all}
-use Rattle.mdp_quot.specs.Quotient.{Quotient}
+use Rattle.mdp_quot.specs.Quotient.{Quotient, IsChosen}
 use Rattle.mdp_quot_exits.specs.OfModel.{IsOfModel}
 use Rattle.mdp_quot_exits.specs.Problem.{steps_by, steps_node, steps_problem}
 use Rattle.mdp_quot_exits.specs.Steps.{after_exit, IsLongest, IsCounted}
@@ -52,6 +52,18 @@ module _ (q : Quotient) where
     }
 
   -- ---- chosen exits
+
+  module _ (chosen : List ℕ) (c : IsChosen q chosen) where
+    candidate_by : (k : ℕ) (b : Bool) → k < length q.exits → is_exitless q k ≡ b → IsCandidate (steps_by q k b) (get_or chosen k 0)
+    candidate_by k true l e = tt
+    candidate_by k false l e = can_by k (get_or chosen k 0) (c.at k l (positive (exit_count q k) e))
+
+    pub chosen-policy : IsPolicy p chosen
+    chosen-policy = record {
+      one_each = c.count ∙ sym (steps-count q);
+      candidate = λ k l.
+          subst (λ (n : Node). IsCandidate n (get_or chosen k 0)) (sym (steps-at q k l)) (candidate_by k (is_exitless q k) (below k l) refl);
+    }
 
   module _ (chosen : List ℕ) (x : List ℚ) (c : IsCounted q chosen x) where
     chosen_by : (k : ℕ) (b : Bool) → k < length q.exits → is_exitless q k ≡ b

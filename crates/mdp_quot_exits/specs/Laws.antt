@@ -2,11 +2,15 @@
 use Rattle.std.specs.Prelude.{◌≡◌, ℕ, ◌<◌, List, length, Result, Ok}
 use Rattle.mdp_math.specs.Rational.{ℚ, ◌≤ℚ◌}
 use Rattle.mdp_spec.specs.Mdp.{value_at}
+use Rattle.mdp_elim.specs.Laws.{ExactlyOne}
+use Rattle.mdp_policy_iteration.specs.Problem.{Problem}
+use Rattle.mdp_policy_iteration.specs.Values.{IsValue, CanLeave}
 use Rattle.mdp_rows.specs.declared.dir.Dir.{Dir}
 use Rattle.mdp_rows.specs.Better.{IsAsGood}
 use Rattle.mdp_wide.specs.Term.{WideTerm}
-use Rattle.mdp_quot.specs.Quotient.{Quotient}
+use Rattle.mdp_quot.specs.Quotient.{Quotient, IsChosen}
 use Rattle.mdp_quot_exits.specs.OfModel.{IsOfModel}
+use Rattle.mdp_quot_exits.specs.Problem.{steps_problem, outer_problem}
 use Rattle.mdp_quot_exits.specs.Steps.{StepsEndSo, IsLongest, IsCounted}
 use Rattle.mdp_quot_exits.specs.Outer.{Answer, OuterEndSo, IsOuterPolicy, IsWorth, IsBestOuter}
 
@@ -42,3 +46,15 @@ abbrev pub NoneIsBetter : Type 0
 NoneIsBetter =
     (dir : Dir) (q : Quotient) (gains : List ℚ) (a b : Answer) → IsOfModel q → IsBestOuter dir q gains a → IsOuterPolicy q b.policy → IsWorth q gains b
     → (k : ℕ) → k < length q.exits → IsAsGood dir (value_at a.values k) (value_at b.values k)
+
+-- the policy leaves its active nodes: from each of them its chain comes to a node that stops; so the system of its values has exactly one solution
+abbrev pub LeavesWithOneValue : Problem → List ℕ → Type 0
+LeavesWithOneValue p policy = CanLeave p policy × ExactlyOne (IsValue p policy)
+
+-- so does each choice of exits, and each policy of exits
+abbrev pub ChosenExitsLeave : Type 0
+ChosenExitsLeave = (q : Quotient) (chosen : List ℕ) → IsOfModel q → IsChosen q chosen → LeavesWithOneValue (steps_problem q) chosen
+
+abbrev pub OuterPoliciesLeave : Type 0
+OuterPoliciesLeave =
+    (dir : Dir) (q : Quotient) (gains : List ℚ) (policy : List ℕ) → IsOfModel q → IsOuterPolicy q policy → LeavesWithOneValue (outer_problem dir q gains) policy

@@ -1,6 +1,7 @@
 use Rattle.mdp_quot_exits.proofs.Queries.{steps_once, outer_once, steps_end, outer_end, steps_are_longest, outer_is_best}
 use Rattle.mdp_quot_exits.proofs.OuterOfAll.{none_is_better}
 use Rattle.mdp_quot_exits.proofs.StepsOfAll.{none_takes_more}
+use Rattle.mdp_quot_exits.proofs.Leaving.{chosen_exits_leave, outer_policies_leave}
 use Rattle.mdp_quot_exits.proofs.laws.exits_law.Goals as goal
 
 pub returns-clause-longest_once : goal.returns-clause-longest_once
@@ -26,3 +27,9 @@ returns-clause-none_longer c = none_takes_more
 
 pub returns-clause-none_better : goal.returns-clause-none_better
 returns-clause-none_better c = none_is_better
+
+pub returns-clause-longest_leaves : goal.returns-clause-longest_leaves
+returns-clause-longest_leaves c = chosen_exits_leave c.evaluation_law.ensures.one_value
+
+pub returns-clause-outer_leaves : goal.returns-clause-outer_leaves
+returns-clause-outer_leaves c = outer_policies_leave c.evaluation_law.ensures.one_value
