@@ -2,11 +2,9 @@
 
 ghost use Rattle.std.specs.Prelude.{◌≡◌, true, IfOk, IfSome};
 
+use crate::proposed::MOST_DIGITS;
 use mdp_num::Memory;
 use std::alloc::Global;
-
-/// The most digits that are tried.
-const MOST_DIGITS: u32 = 30;
 
 /// The numbers of digits that are tried where more of them came to nothing that meets the rules.
 const FEWER_DIGITS: [u32; 5] = [12, 9, 6, 3, 0];

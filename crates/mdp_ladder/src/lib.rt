@@ -1,9 +1,11 @@
-//! What searches for bounds share, whatever the objective: the order in which bounds are tried until the rules say yes, and the simplest fractions between
-//! bounds.
+//! What searches for bounds share, whatever the objective: the order in which bounds are tried until the rules say yes, the simplest fractions between
+//! bounds, and how what is proposed becomes fractions and lists.
 #![tactic(auto)]
 
 mod ladder;
+mod proposed;
 mod simplest;
 
 pub use ladder::{Search, bounds_by};
+pub use proposed::{MOST_DIGITS, fraction, numbers};
 pub use simplest::{all_capped, all_simplest_near, simplest_rewards, simplest_values};

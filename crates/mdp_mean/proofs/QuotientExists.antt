@@ -1,69 +1,21 @@
 -- Each model has the quotient by its end components.
-use Rattle.std.proofs.Common.{◌≡◌, ◌⊎◌, inl, inr, ℕ, ◌<◌, ◌≤◌, ◌==◌, ◌||◌, Bool, true, false, List, length, map}
-use Rattle.std.proofs.Common.{Option, Some, None, refl, sym, ap, ◌∙◌, arith, zero-add}
+use Rattle.std.proofs.Common.{◌≡◌, ◌⊎◌, inl, inr, ℕ, ◌<◌, ◌≤◌, List, length, map, Option, None, refl, sym, ap, ◌∙◌, arith, zero-add}
 use Rattle.std.specs.List.{range_with_len}
 use Rattle.std.specs.Prelude.{slice_index, slice_index_or}
-use Rattle.std.proofs.lemmas.Bool.{false≢true, or_cases, or_left, or_right, eqb-true, eq-eqb}
 use Rattle.std.proofs.lemmas.List.FromFn.{get_or-map-range_with_len, length-map-range_with_len}
 use Rattle.mdp_math.proofs.Numbers.{le_or}
 use Rattle.mdp_spec.specs.Mdp.{Mdp}
-use Rattle.mdp_ends.specs.Ends.{part_of, has_number, AreEnds}
+use Rattle.mdp_ends.specs.Ends.{part_of, AreEnds}
 use Rattle.mdp_ends.specs.Quotient.{ShareAPart, AreNodes, nodes_in, exits_of}
-use Rattle.mdp_ends.proofs.Numbering.{some-same}
-use Rattle.mdp_ends.proofs.RoundLaws.{has-number, number-has}
-use Rattle.mdp_ends.proofs.Existing.{numbers_for_all}
+use Rattle.mdp_ends.proofs.ByTest.{nodes_exist}
 use Rattle.mdp_ends.proofs.Exits.{node-below, node-has}
 use Rattle.mdp_quot.specs.Quotient.{Quotient, IsQuotient, node_rows}
 
 -- ---- the nodes
 
-abbrev shares : Option ℕ → Option ℕ → Bool
-shares None o = false
-shares (Some i) o = has_number i o
-
-share-cases : (o p : Option ℕ) → shares o p ≡ true → (i : ℕ) × (o ≡ Some i) × (p ≡ Some i)
-share-cases None p e = absurd (false≢true e)
-share-cases (Some i) p e = (i, refl, number-has i p e)
-
 module _ (parts : List (Option ℕ)) where
   abbrev IsOneNode : ℕ → ℕ → Type 0
   IsOneNode s t = (s ≡ t) ⊎ ShareAPart parts s t
-
-  abbrev one_node : ℕ → ℕ → Bool
-  one_node s t = (s == t) || shares (part_of parts s) (part_of parts t)
-
-  node-cases : (s t : ℕ) → one_node s t ≡ true → IsOneNode s t
-  node-cases s t e = elim (or_cases (s == t) (shares (part_of parts s) (part_of parts t)) e) as (λ _. IsOneNode s t) [
-    | inl is ↦ inl (eqb-true s t is)
-    | inr share ↦ inr (share-cases (part_of parts s) (part_of parts t) share)
-  ]
-
-  node-by : (s t : ℕ) → IsOneNode s t → one_node s t ≡ true
-  node-by s t (inl is) = or_left (s == t) (shares (part_of parts s) (part_of parts t)) (eq-eqb s t is)
-  node-by s t (inr w) =
-      or_right (s == t) (shares (part_of parts s) (part_of parts t)) (ap (λ o. shares o (part_of parts t)) w.1 ∙ has-number w.0 (part_of parts t) w.2)
-
-  node-back : (s t : ℕ) → IsOneNode s t → IsOneNode t s
-  node-back s t (inl e) = inl (sym e)
-  node-back s t (inr w) = inr (w.0, w.2, w.1)
-
-  node-on : (s t u : ℕ) → IsOneNode s t → IsOneNode t u → IsOneNode s u
-  node-on s t u (inl e) (inl f) = inl (e ∙ f)
-  node-on s t u (inl e) (inr w) = inr (w.0, ap (part_of parts) e ∙ w.1, w.2)
-  node-on s t u (inr v) (inl f) = inr (v.0, v.1, ap (part_of parts) (sym f) ∙ v.2)
-  node-on s t u (inr v) (inr w) = let same = some-same v.0 w.0 (sym v.2 ∙ w.1) in inr (v.0, v.1, w.2 ∙ ap Some (sym same))
-
-  nodes-exist : (nodes : List ℕ) × AreNodes parts nodes
-  nodes-exist =
-      let w = numbers_for_all one_node (λ s. node-by s s (inl refl)) (λ s t e. node-by t s (node-back s t (node-cases s t e))) (length parts)
-      (λ s t u hs ht hu e f. node-by s u (node-on s t u (node-cases s t e) (node-cases t u f))) in (
-        w.0,
-        record {
-          count = w.1;
-          same = λ s t hs ht. (let v = w.2 s t hs ht in ((λ e. node-cases s t (v.0 e)), (λ j. v.1 (node-by s t j))));
-          numbered = w.3;
-        },
-      )
 
   one_part : (s t : ℕ) → IsOneNode s t → part_of parts s ≡ part_of parts t
   one_part s t (inl e) = ap (part_of parts) e
@@ -95,7 +47,7 @@ module _ (parts : List (Option ℕ)) where
 
 pub quotient_exists : (m : Mdp) (parts : List (Option ℕ)) → AreEnds m parts → (q : Quotient) × IsQuotient m parts q
 quotient_exists m parts ends =
-    let w = nodes-exist parts in
+    let w = nodes_exist parts in
     let nodes : List ℕ = w.0 in (
       record {
         nodes = nodes;

@@ -8,10 +8,9 @@ use crate::lists::flags_of;
 use crate::policy::{Gathered, policy_of};
 use crate::ranks::{max_ranks, min_ranks};
 use mdp_bounds::ReachBoundsCert;
+use mdp_ladder::{MOST_DIGITS, fraction, numbers};
 use mdp_num::{Frac, Memory};
-use mdp_refinement::{
-    Bound, MOST_DIGITS, Nodes, Rows, Solution, Task, fraction, numbers, put, solve, value_at,
-};
+use mdp_refinement::{Bound, Nodes, Rows, Solution, Task, put, solve, value_at};
 use mdp_rows::{Dir, Marks, Model};
 use std::alloc::{AllocError, Global};
 

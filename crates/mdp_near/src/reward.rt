@@ -9,10 +9,11 @@ use crate::lists::flags_of;
 use crate::policy::{Gathered, policy_of};
 use crate::ranks::max_ranks;
 use mdp_bounds::RewardBoundsCert;
+use mdp_ladder::{MOST_DIGITS, fraction, numbers};
 use mdp_num::{Frac, Memory};
 use mdp_refinement::{
-    Bound, MOST_DIGITS, Nodes, Rows, Scale, Solution, Task, flag_at, fraction, number_at, numbers,
-    power_of_ten, put, solve, value_at,
+    Bound, Nodes, Rows, Scale, Solution, Task, flag_at, number_at, power_of_ten, put, solve,
+    value_at,
 };
 use mdp_reward::{Start, start_of};
 use mdp_rows::{Dir, Marks, Model};

@@ -2,10 +2,10 @@ ghost use Rattle.std.specs.Prelude.{◌≡◌, ◌<◌, length, IfOk};
 ghost use Rattle.mdp_spec.specs.Mdp.{states_of};
 
 use crate::extent::extent_of;
+use mdp_ladder::{MOST_DIGITS, fraction, numbers};
 use mdp_num::{Frac, Memory};
 use mdp_refinement::{
-    Bound, Discount, MOST_DIGITS, Nodes, Rows, Scale, Solution, Task, digits_of, fraction, numbers,
-    put, solve, value_at,
+    Bound, Discount, Nodes, Rows, Scale, Solution, Task, digits_of, put, solve, value_at,
 };
 use mdp_rows::{Dir, Model};
 use std::alloc::{AllocError, Global};

@@ -5,11 +5,12 @@ use crate::leaving::{leaving_rows, offset_rows};
 use crate::payoffs::Payoffs;
 use crate::values::{fractions, gain_in_unit, width};
 use mdp_bounds::MeanBoundsCert;
+use mdp_ladder::{MOST_DIGITS, fraction, numbers};
 use mdp_near::{Backward, ChoiceFlags, Gathered, ends_inside, policy_of};
 use mdp_num::Memory;
 use mdp_refinement::{
-    Bound, MOST_DIGITS, Nodes, Rows, Scale, Solution, Task, WholeRow, end_gains, flag_at, fraction,
-    number, number_at, numbers, power_of_ten, put, solve, value_at,
+    Bound, Nodes, Rows, Scale, Solution, Task, WholeRow, end_gains, flag_at, number, number_at,
+    power_of_ten, put, solve, value_at,
 };
 use mdp_rows::{Dir, Marks, Model};
 use std::alloc::{AllocError, Global};

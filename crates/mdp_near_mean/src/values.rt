@@ -2,8 +2,9 @@
 
 ghost use Rattle.std.specs.Prelude.{◌≡◌, length, IfOk};
 
+use mdp_ladder::fraction;
 use mdp_num::Frac;
-use mdp_refinement::{Bound, fraction};
+use mdp_refinement::Bound;
 use mdp_rows::Dir;
 use std::alloc::{AllocError, Global};
 

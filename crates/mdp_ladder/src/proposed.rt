@@ -1,0 +1,26 @@
+//! What searches propose, as fractions and lists.
+
+ghost use Rattle.std.specs.Prelude.{◌≡◌, length, IfOk};
+
+use mdp_num::Frac;
+use std::alloc::{AllocError, Global};
+
+/// The most digits behind the point that bounds are sought with.
+pub const MOST_DIGITS: u32 = 30;
+
+/// A value in units of 1 over `one` as a fraction; 0 where that is none in width.
+pub fn fraction(value: i128, one: i128) -> Frac {
+    match Frac::try_new(value, one) {
+        Ok(fraction) => fraction,
+        Err(_) => Frac::whole(0),
+    }
+}
+
+/// A number for each state: that of its place, or `u32::MAX` where there is none.
+pub fn numbers(alloc: Global, states: u32, values: &[u32]) -> Result<Vec<u32>, AllocError>
+    ensures each { IfOk result (λ list. length list.items ≡ states) }
+{
+    (0..states)
+        .map(|s| values.get(s as usize).copied().unwrap_or(u32::MAX))
+        .collect(alloc)
+}
