@@ -1,5 +1,4 @@
 pub mod Comparing
-pub mod Telling
 pub mod Sums
 pub mod Values
 pub mod Halves

@@ -20,7 +20,7 @@ use Rattle.mdp_bounds.proofs.Gains.{of_gain, of_bound}
 use Rattle.mdp_bounds.proofs.Spreading.{told_spread-some}
 use Rattle.mdp_bounds.proofs.Sums.{mapped_sound}
 use Rattle.mdp_bounds.proofs.ReachTelling.{stands_of_bound}
-use Rattle.mdp_bounds.proofs.Telling.{refuted, Tells, tells_first, tells_one, tells_append, tells_flat, tells_map}
+use Rattle.mdp_farkas.proofs.Telling.{refuted, Tells, tells_first, tells_one, tells_append, tells_flat, tells_map}
 
 module _ (dir : Dir) (m : Mdp) (known : IsMdp m) (r : ℕ) (lower upper a b : List ℚ) (spread : ℚ) (policy : List ℕ) where
   abbrev Refutes : Fault → Type 0

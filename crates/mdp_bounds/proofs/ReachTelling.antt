@@ -25,7 +25,7 @@ use Rattle.mdp_farkas.proofs.Tests.{or-parts}
 use Rattle.mdp_bounds.specs.Reach.{covering, followed, goal_check, values_at, bound_check, policy_check, cover_at, follow_at, bounds_at, bounds_checks}
 use Rattle.mdp_bounds.specs.Says.{IsBound, IsChoice, LeadsOn, IsProbability, IsRowBound, ReachSays}
 use Rattle.mdp_bounds.proofs.Values.{of_stands_at}
-use Rattle.mdp_bounds.proofs.Telling.{refuted, Tells, tells_first, tells_one, tells_append, tells_if, tells_flat, tells_map}
+use Rattle.mdp_farkas.proofs.Telling.{refuted, Tells, tells_first, tells_one, tells_append, tells_if, tells_flat, tells_map}
 
 pub stands_of_bound : (dir : Dir) (x y : ℚ) → IsBound dir x y → Stands dir x y
 stands_of_bound Max x y h = h

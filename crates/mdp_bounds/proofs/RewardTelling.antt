@@ -26,7 +26,7 @@ use Rattle.mdp_bounds.specs.Says.{IsChoice, IsTaken, IsRewardValue, StaysAt, IsS
 use Rattle.mdp_bounds.proofs.Earnings.{nonneg_true, zero_true, earning_sound}
 use Rattle.mdp_bounds.proofs.RewardRules.{implies}
 use Rattle.mdp_bounds.proofs.ReachTelling.{stands_of_bound}
-use Rattle.mdp_bounds.proofs.Telling.{refuted, Tells, tells_none, tells_first, tells_one, tells_append, tells_if, tells_flat, tells_map}
+use Rattle.mdp_farkas.proofs.Telling.{refuted, Tells, tells_none, tells_first, tells_one, tells_append, tells_if, tells_flat, tells_map}
 
 -- ---- one value, whatever is shown of a fault
 

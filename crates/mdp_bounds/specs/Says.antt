@@ -1,17 +1,17 @@
 -- What each rule of bounds says of a place, in exact numbers: of a state, of a choice c of a state where the rule looks at one, or of no place.
 -- A rule that is asked of both values of a state says of both what it says of one. A rule that is never asked at such a place says nothing.
-use Rattle.std.specs.Prelude.{◌≡◌, ℕ, ◌<◌, ◌⊎◌, Bool, true, false, List, length, slice_index, Option, Some, None}
-use Rattle.std.specs.List.{Any}
+use Rattle.std.specs.Prelude.{◌≡◌, ℕ, ◌<◌, ◌⊎◌, Bool, true, false, List, slice_index, Option, Some, None}
 use Rattle.mdp_math.specs.Rational.{ℚ, ◌+ℚ◌, ◌≤ℚ◌, ◌<ℚ◌}
-use Rattle.mdp_spec.specs.Mdp.{Mdp, states_of, choices_at, choice_at, row_at, value_at}
-use Rattle.mdp_spec.specs.Row.{row_sum}
+use Rattle.mdp_spec.specs.Mdp.{Mdp, states_of, choice_at, value_at}
 use Rattle.mdp_spec.specs.Unit.{reward_of}
 use Rattle.mdp_spec.specs.Tree.{is_marked}
-use Rattle.mdp_spec.specs.Bounds.{reward_at, finite_part, infinite}
-use Rattle.mdp_spec.specs.RewardRules.{backup, IsInfinite, IsTransient, StaysFinite, Falls, FallsInfinite, StaysInfinite}
+use Rattle.mdp_spec.specs.Bounds.{infinite}
+use Rattle.mdp_spec.specs.RewardRules.{backup, IsInfinite, IsTransient, StaysFinite, Falls}
 use Rattle.mdp_spec.specs.MeanRules.{spread_of}
 use Rattle.mdp_farkas.specs.Compare.{0ℚ, 1ℚ}
 use Rattle.mdp_farkas.specs.Reach.{other}
+pub use Rattle.mdp_farkas.specs.Says.{IsBound, IsChoice, IsTaken, IsAsked, IsRowBound, IsProbability, LeadsOn, IsRewardValue, IsSeen, IsEarningBound}
+pub use Rattle.mdp_farkas.specs.Says.{Misses, MayMiss}
 use Rattle.mdp_bounds.specs.Reach.{covering, followed}
 use Rattle.mdp_rows.specs.declared.dir.Dir.{Dir}
 use Rattle.mdp_rows.specs.declared.dir.Dir.TheVariants.{Max, Min}
@@ -20,36 +20,7 @@ use Rattle.mdp_farkas.specs.declared.rule.Rule.TheVariants.{ChoiceExists, Probab
 use Rattle.mdp_farkas.specs.declared.rule.Rule.TheVariants.{RewardValue, FiniteTargets, RewardOnEachChoice, RewardOnPolicy, FiniteRankFalls, PolicyMisses, EachChoiceMisses}
 use Rattle.mdp_farkas.specs.declared.rule.Rule.TheVariants.{RewardNotNegative, GainOnEachChoice, BoundOnEachChoice, GainOnPolicy, BiasOnPolicy, SpreadIsGreatest}
 
--- a bound of a number: at least that for Max, at most for Min
-abbrev pub IsBound : Dir → ℚ → ℚ → Type 0
-IsBound Max bound x = x ≤ℚ bound
-IsBound Min bound x = bound ≤ℚ x
-
--- c is a choice of state s; the policy takes it there
-abbrev pub IsChoice : Mdp → ℕ → ℕ → Type 0
-IsChoice m s c = c < length (choices_at m s)
-
-abbrev pub IsTaken : List ℕ → ℕ → ℕ → Type 0
-IsTaken policy s c = c ≡ slice_index policy s
-
--- the policy's choice for Max, each choice for Min
-abbrev pub IsAsked : Dir → Mdp → List ℕ → ℕ → ℕ → Type 0
-IsAsked Max m policy s c = IsTaken policy s c
-IsAsked Min m policy s c = IsChoice m s c
-
--- the value of state s is a bound of the sum over the row of choice c
-abbrev pub IsRowBound : Dir → Mdp → List ℚ → ℕ → ℕ → Type 0
-IsRowBound dir m z s c = IsBound dir (value_at z s) (row_sum (row_at m s c) z)
-
 -- ---- reaching a goal
-
-abbrev pub IsProbability : ℚ → Type 0
-IsProbability x = (0ℚ ≤ℚ x) × (x ≤ℚ 1ℚ)
-
--- an entry of the row of choice c at s leads to a smaller rank, and for the greatest probability to a value above 0
-abbrev pub LeadsOn : Dir → Mdp → List ℚ → List ℕ → ℕ → ℕ → Type 0
-LeadsOn Max m z ranks s c = Any (λ y. (0ℚ <ℚ value_at z y.target) × (slice_index ranks y.target < slice_index ranks s)) (row_at m s c)
-LeadsOn Min m z ranks s c = Any (λ y. slice_index ranks y.target < slice_index ranks s) (row_at m s c)
 
 module _ (dir : Dir) (m : Mdp) (goals : List Bool) (lower upper : List ℚ) (policy ranks : List ℕ) where
   -- what the rule says of this state, and of this choice
@@ -73,23 +44,9 @@ abbrev pub covering_rewards : Dir → List (Option ℚ) → List (Option ℚ) �
 covering_rewards Max lower upper = upper
 covering_rewards Min lower upper = lower
 
--- a finite value is at least 0, and a goal has the value 0 and rank 0
-abbrev pub IsRewardValue : List Bool → List (Option ℚ) → List ℕ → ℕ → Type 0
-IsRewardValue goals v ranks s =
-    ((x : ℚ) → reward_at v s ≡ Some x → 0ℚ ≤ℚ x) × (is_marked goals s ≡ true → (reward_at v s ≡ Some 0ℚ) × (slice_index ranks s ≡ 0))
-
 -- at a state of finite value that is no goal each choice, and for the least reward the policy's, leads to finite values only
 abbrev pub StaysAt : Dir → Mdp → List Bool → List (Option ℚ) → List ℕ → ℕ → ℕ → Type 0
 StaysAt dir m goals v policy s c = IsTransient m goals v s → IsAsked (other dir) m policy s c → StaysFinite m v s c
-
--- the least reward looks only at the choices that lead to finite values
-abbrev pub IsSeen : Dir → Mdp → List (Option ℚ) → ℕ → ℕ → Type 0
-IsSeen Max m v s c = Unit {0}
-IsSeen Min m v s c = StaysFinite m v s c
-
--- the value of state s is a bound of what choice c earns
-abbrev pub IsEarningBound : Dir → Mdp → ℕ → List (Option ℚ) → ℕ → ℕ → Type 0
-IsEarningBound dir m r v s c = IsBound dir (value_at (finite_part v) s) (backup m r s c (finite_part v))
 
 module _ (dir : Dir) (m : Mdp) (r : ℕ) (goals : List Bool) (lower upper : List (Option ℚ)) (policy ranks : List ℕ) where
   -- what the rule says of this state, and of this choice
@@ -103,10 +60,8 @@ module _ (dir : Dir) (m : Mdp) (r : ℕ) (goals : List Bool) (lower upper : List
   RewardSays RewardOnPolicy (Some s) (Some c) =
       let v = covering_rewards (other dir) lower upper in IsTransient m goals v s → IsTaken policy s c → IsEarningBound (other dir) m r v s c
   RewardSays FiniteRankFalls (Some s) (Some c) = IsTransient m goals lower s → IsAsked (other dir) m policy s c → Falls m ranks s c
-  RewardSays PolicyMisses (Some s) (Some c) =
-      dir ≡ Max → IsInfinite m lower s → IsTaken policy s c → ((slice_index ranks s ≡ 0) × StaysInfinite m lower ranks 0 s c) ⊎ FallsInfinite m lower ranks s c
-  RewardSays EachChoiceMisses (Some s) (Some c) =
-      dir ≡ Min → IsInfinite m lower s → IsChoice m s c → FallsInfinite m lower ranks s c ⊎ StaysInfinite m lower ranks (slice_index ranks s) s c
+  RewardSays PolicyMisses (Some s) (Some c) = dir ≡ Max → IsInfinite m lower s → IsTaken policy s c → Misses m lower ranks s c
+  RewardSays EachChoiceMisses (Some s) (Some c) = dir ≡ Min → IsInfinite m lower s → IsChoice m s c → MayMiss m lower ranks s c
   RewardSays RewardNotNegative (Some s) (Some c) = s < states_of m → IsChoice m s c → 0ℚ ≤ℚ reward_of (choice_at m s c) r
   RewardSays rule state choice = Unit {0}
 

@@ -10,7 +10,7 @@ use Rattle.mdp_farkas.specs.Reach.{other, choice_exists}
 use Rattle.mdp_rows.specs.declared.dir.Dir.{Dir}
 use Rattle.mdp_farkas.specs.declared.verdict.Fault.{Fault}
 use Rattle.mdp_bounds.specs.Says.{IsChoice, covering_rewards}
-use Rattle.mdp_bounds.proofs.Telling.{refuted, Tells, tells_first, tells_one, tells_append, tells_flat, tells_map}
+use Rattle.mdp_farkas.proofs.Telling.{refuted, Tells, tells_first, tells_one, tells_append, tells_flat, tells_map}
 use Rattle.mdp_discount_bounds.specs.Rules.{Allows, greatest_magnitude}
 use Rattle.mdp_discount_bounds.specs.Checks.{each_check, policy_check, remainder_check, bounds_at, state_checks, discount_bounds_checks}
 use Rattle.mdp_discount_bounds.specs.Says.{DiscountSays}
