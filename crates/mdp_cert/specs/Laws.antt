@@ -1,5 +1,5 @@
 -- Certificates and their texts.
-use Rattle.std.specs.Prelude.{◌≡◌, ◌↔◌, ◌⊎◌, ℕ, zero, suc, ◌-◌, ◌<◌, true, List, [], ◌++◌, length, Result, Ok, Err, nat_lt, if◌then◌else◌}
+use Rattle.std.specs.Prelude.{◌≡◌, ◌↔◌, ◌⊎◌, ℕ, zero, suc, ◌-◌, ◌<◌, true, List, [], ◌++◌, length, drop, Result, Ok, Err, nat_lt, if◌then◌else◌}
 use Rattle.std.specs.List.{position_or_len, before_first, after_first}
 use Rattle.mdp_text.specs.declared.error.CertKind.TheVariants.{End}
 use Rattle.mdp_text.specs.declared.error.Refusal.{Refusal}
@@ -20,6 +20,10 @@ IsReadFromText = (bytes : List ℕ) (c : Certificate) → (outcome bytes ≡ Ok 
 -- both texts of a certificate are read as that certificate
 abbrev pub IsReadBack : Type 0
 IsReadBack = (c : Certificate) → Fits c → (outcome (text_of c) ≡ Ok c) × (outcome (old_text_of c) ≡ Ok c)
+
+-- the bytes behind those from before are read as this certificate
+abbrev pub ReadsBack : List ℕ → List ℕ → Certificate → Type 0
+ReadsBack old new c = outcome (drop (length old) new) ≡ Ok c
 
 -- no two texts are the same: not those of two certificates, and not the two of one
 abbrev pub IsOneText : Type 0

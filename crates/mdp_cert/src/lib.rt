@@ -35,6 +35,7 @@ mod state_lines;
 mod upper_lines;
 mod values;
 mod version;
+mod widths;
 mod write;
 
 pub use body::Body;

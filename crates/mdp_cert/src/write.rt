@@ -1,6 +1,7 @@
 ghost use Rattle.std.specs.Prelude.{◌≡◌, ◌++◌, ◌+◌, ◌<◌, OnOk, OnErr, length, drop};
 ghost use Rattle.mdp_cert.specs.Cert.{plain_body};
 ghost use Rattle.mdp_cert.specs.Plain.{plain};
+ghost use Rattle.mdp_cert.specs.Laws.{ReadsBack};
 ghost use Rattle.mdp_text.specs.Spelling.{line};
 ghost use Rattle.mdp_cert.specs.Spelling.{state_lines, closed_lines, head_text, body_text, version_text, text_in, text_of, old_text_of};
 ghost use Rattle.mdp_text.specs.Answer.{Keeps};
@@ -9,6 +10,7 @@ ghost use Rattle.mdp_cert.specs.Answer.{same_next, more_same, more_in};
 use crate::body::Body;
 use crate::cert::Cert;
 use crate::entries::{Entry, Lists};
+use crate::laws::text_law;
 use crate::listed::push_listed;
 use crate::push::{push_claim, push_run, push_spread};
 use crate::version::Version;
@@ -152,15 +154,21 @@ fn write_in(version: Version, cert: &Cert, out: &mut Vec<u8>) -> Result<(), Memo
 /// before.
 pub fn write_cert(cert: &Cert, out: &mut Vec<u8>) -> Result<(), Memory>
     ensures text { OnOk result (out.new.items ≡ out.old.items ++ text_of (plain cert.now)) }
+    ensures reads_back { OnOk result (ReadsBack out.old.items out.new.items (plain cert.now)) }
     ensures unchanged { OnErr result (out.new.items ≡ out.old.items) }
 {
+    cert.known();
+    text_law();
     write_in(Version::Two, cert, out)
 }
 
 /// Appends the certificate's text in version 1, with a line for each state. After `Memory` the text is as before.
 pub fn write_old(cert: &Cert, out: &mut Vec<u8>) -> Result<(), Memory>
     ensures text { OnOk result (out.new.items ≡ out.old.items ++ old_text_of (plain cert.now)) }
+    ensures reads_back { OnOk result (ReadsBack out.old.items out.new.items (plain cert.now)) }
     ensures unchanged { OnErr result (out.new.items ≡ out.old.items) }
 {
+    cert.known();
+    text_law();
     write_in(Version::One, cert, out)
 }

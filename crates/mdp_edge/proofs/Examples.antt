@@ -1,18 +1,25 @@
 -- The definitions, computed on small values.
-use Rattle.std.proofs.Common.{◌≡◌, zero, suc, [], ◌∷◌, Some, None, refl, arith, lit≤, lit<}
+use Rattle.std.proofs.Common.{◌≡◌, ◌+◌, zero, suc, inl, inr, [], ◌∷◌, Some, None, refl, arith, lit≤, lit<}
 use Rattle.mdp_edge.specs.Faults.{FaultCounted, last_count}
 use Rattle.mdp_edge.specs.Bytes.{Gave, GaveAtMost, TookPrefix, TookAll}
 use Rattle.mdp_edge.specs.Plan.{plan_of, FailsNext, after_call}
 use Rattle.mdp_edge.specs.Kinds.{Listed, Stored, after_read, after_failed_read, after_write, after_flush, after_failed_call}
 
+-- a rise counts, and so does a count at its type's end
 counted_one : FaultCounted 0 1
-counted_one = lit≤ tt
-
-stayed : FaultCounted 1 1 → ⊥
-stayed counted = omega arith
+counted_one = inl (lit< tt)
 
 at_the_end : FaultCounted last_count last_count
-at_the_end = lit≤ tt
+at_the_end = inr refl
+
+-- a count that stands anywhere else doesn't, below its type's end or above
+stayed : FaultCounted 1 1 → ⊥
+stayed (inl rose) = omega arith
+stayed (inr at_end) = omega arith
+
+stayed_above : FaultCounted (last_count + 1) (last_count + 1) → ⊥
+stayed_above (inl rose) = omega arith
+stayed_above (inr at_end) = omega arith
 
 -- of the bytes 1, 2, 3 a source gave 1 and 2
 gave_two : Gave (Some (1 ∷ 2 ∷ 3 ∷ [])) (Some (3 ∷ [])) (1 ∷ 2 ∷ [])

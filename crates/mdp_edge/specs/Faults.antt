@@ -1,5 +1,5 @@
 -- Counts of faults.
-use Rattle.std.specs.Prelude.{ℕ, ◌+◌, ◌-◌, ◌^◌, ◌≤◌, min}
+use Rattle.std.specs.Prelude.{◌≡◌, ◌⊎◌, ℕ, ◌+◌, ◌-◌, ◌^◌, ◌<◌, min}
 
 -- the greatest number that a count of 64 bits can hold
 abbrev pub last_count : ℕ
@@ -11,4 +11,4 @@ one_more count = min (count + 1) last_count
 
 -- a fault was counted: the count is greater than before, or stands at its type's end
 abbrev pub FaultCounted : ℕ → ℕ → Type 0
-FaultCounted before now = one_more before ≤ now
+FaultCounted before now = (before < now) ⊎ (now ≡ last_count)

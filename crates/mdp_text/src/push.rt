@@ -1,4 +1,4 @@
-ghost use Rattle.std.specs.Prelude.{◌≡◌, ◌++◌, ◌∷◌, [], decimal, OnOk};
+ghost use Rattle.std.specs.Prelude.{◌≡◌, ◌++◌, ◌∷◌, [], take, decimal, OnOk, OnErr};
 ghost use Rattle.mdp_num.specs.Value.{spelling};
 ghost use Rattle.mdp_text.specs.declared.init.Init.TheVariants.{Finite, Infinite, Start};
 ghost use Rattle.mdp_text.specs.Answer.{Keeps};
@@ -8,18 +8,30 @@ use crate::init::Init;
 use itoa::Buffer;
 use mdp_num::{Frac, Memory};
 
-/// Appends a whole number in decimal. After `Memory` the text begins as before, as after each call here.
+/// Ends a call that appended parts. After `Memory` it cuts the text back to where it began.
+fn or_cut_back(out: &mut Vec<u8>, start: usize, answer: Result<(), Memory>) -> Result<(), Memory>
+    ensures same { result ≡ answer }
+    ensures kept { OnOk answer (out.new.items ≡ out.old.items) }
+    ensures cut { OnErr answer (out.new.items ≡ take start out.old.items) }
+{
+    if answer.is_err() {
+        out.truncate(start);
+    }
+    answer
+}
+
+/// Appends a whole number in decimal. After `Memory` the text is as before, as after each call here that isn't private.
 pub fn push_whole(out: &mut Vec<u8>, number: u64) -> Result<(), Memory>
     ensures text { OnOk result (out.new.items ≡ out.old.items ++ decimal number) }
-    ensures front { Keeps out.old.items out.new.items }
+    ensures unchanged { OnErr result (out.new.items ≡ out.old.items) }
 {
     let mut buffer = Buffer::new();
     out.extend_from_slice(buffer.format(number).as_bytes())?;
     Ok(())
 }
 
-/// Appends a blank and the whole number.
-pub fn push_word(out: &mut Vec<u8>, number: u64) -> Result<(), Memory>
+/// Appends a blank and the whole number, in parts.
+fn append_word(out: &mut Vec<u8>, number: u64) -> Result<(), Memory>
     ensures text { OnOk result (out.new.items ≡ out.old.items ++ (32 ∷ decimal number)) }
     ensures front { Keeps out.old.items out.new.items }
 {
@@ -27,8 +39,18 @@ pub fn push_word(out: &mut Vec<u8>, number: u64) -> Result<(), Memory>
     push_whole(out, number)
 }
 
-/// Appends a blank and the fraction.
-pub fn push_fraction(out: &mut Vec<u8>, value: &Frac) -> Result<(), Memory>
+/// Appends a blank and the whole number.
+pub fn push_word(out: &mut Vec<u8>, number: u64) -> Result<(), Memory>
+    ensures text { OnOk result (out.new.items ≡ out.old.items ++ (32 ∷ decimal number)) }
+    ensures unchanged { OnErr result (out.new.items ≡ out.old.items) }
+{
+    let start = out.len();
+    let answer = append_word(out, number);
+    or_cut_back(out, start, answer)
+}
+
+/// Appends a blank and the fraction, in parts.
+fn append_fraction(out: &mut Vec<u8>, value: &Frac) -> Result<(), Memory>
     ensures text { OnOk result (out.new.items ≡ out.old.items ++ (32 ∷ spelling value.now)) }
     ensures front { Keeps out.old.items out.new.items }
 {
@@ -36,8 +58,18 @@ pub fn push_fraction(out: &mut Vec<u8>, value: &Frac) -> Result<(), Memory>
     value.push_text(out)
 }
 
-/// Appends a blank, the fraction and the line's end.
-pub fn push_fraction_end(out: &mut Vec<u8>, value: &Frac) -> Result<(), Memory>
+/// Appends a blank and the fraction.
+pub fn push_fraction(out: &mut Vec<u8>, value: &Frac) -> Result<(), Memory>
+    ensures text { OnOk result (out.new.items ≡ out.old.items ++ (32 ∷ spelling value.now)) }
+    ensures unchanged { OnErr result (out.new.items ≡ out.old.items) }
+{
+    let start = out.len();
+    let answer = append_fraction(out, value);
+    or_cut_back(out, start, answer)
+}
+
+/// Appends a blank, the fraction and the line's end, in parts.
+fn append_fraction_end(out: &mut Vec<u8>, value: &Frac) -> Result<(), Memory>
     ensures text { OnOk result (out.new.items ≡ out.old.items ++ (32 ∷ (spelling value.now ++ 10 ∷ []))) }
     ensures front { Keeps out.old.items out.new.items }
 {
@@ -46,8 +78,18 @@ pub fn push_fraction_end(out: &mut Vec<u8>, value: &Frac) -> Result<(), Memory>
     Ok(())
 }
 
-/// Appends the line of the number of states.
-pub fn push_number(out: &mut Vec<u8>, states: u64) -> Result<(), Memory>
+/// Appends a blank, the fraction and the line's end.
+pub fn push_fraction_end(out: &mut Vec<u8>, value: &Frac) -> Result<(), Memory>
+    ensures text { OnOk result (out.new.items ≡ out.old.items ++ (32 ∷ (spelling value.now ++ 10 ∷ []))) }
+    ensures unchanged { OnErr result (out.new.items ≡ out.old.items) }
+{
+    let start = out.len();
+    let answer = append_fraction_end(out, value);
+    or_cut_back(out, start, answer)
+}
+
+/// Appends the line of the number of states, in parts.
+fn append_number(out: &mut Vec<u8>, states: u64) -> Result<(), Memory>
     ensures text { OnOk result (out.new.items ≡ out.old.items ++ line (states_text states)) }
     ensures front { Keeps out.old.items out.new.items }
 {
@@ -55,6 +97,16 @@ pub fn push_number(out: &mut Vec<u8>, states: u64) -> Result<(), Memory>
     push_word(out, states)?;
     out.extend_from_slice(b"\n")?;
     Ok(())
+}
+
+/// Appends the line of the number of states.
+pub fn push_number(out: &mut Vec<u8>, states: u64) -> Result<(), Memory>
+    ensures text { OnOk result (out.new.items ≡ out.old.items ++ line (states_text states)) }
+    ensures unchanged { OnErr result (out.new.items ≡ out.old.items) }
+{
+    let start = out.len();
+    let answer = append_number(out, states);
+    or_cut_back(out, start, answer)
 }
 
 /// Appends the line of a given initial state and its value.
@@ -89,8 +141,8 @@ fn push_start(out: &mut Vec<u8>, state: u32) -> Result<(), Memory>
     Ok(())
 }
 
-/// Appends the line of the initial state.
-pub fn push_init(out: &mut Vec<u8>, init: &Init) -> Result<(), Memory>
+/// Appends the line of the initial state, in parts.
+fn append_init(out: &mut Vec<u8>, init: &Init) -> Result<(), Memory>
     ensures text { OnOk result (out.new.items ≡ out.old.items ++ line (init_text init.now)) }
     ensures front { Keeps out.old.items out.new.items }
 {
@@ -105,6 +157,16 @@ pub fn push_init(out: &mut Vec<u8>, init: &Init) -> Result<(), Memory>
     }
 }
 
+/// Appends the line of the initial state.
+pub fn push_init(out: &mut Vec<u8>, init: &Init) -> Result<(), Memory>
+    ensures text { OnOk result (out.new.items ≡ out.old.items ++ line (init_text init.now)) }
+    ensures unchanged { OnErr result (out.new.items ≡ out.old.items) }
+{
+    let start = out.len();
+    let answer = append_init(out, init);
+    or_cut_back(out, start, answer)
+}
+
 /// Appends the line of a state and its value.
 fn push_value(out: &mut Vec<u8>, state: u64, value: &Frac) -> Result<(), Memory>
     ensures text { OnOk result (out.new.items ≡ out.old.items ++ line (value_text state value.now)) }
@@ -115,8 +177,8 @@ fn push_value(out: &mut Vec<u8>, state: u64, value: &Frac) -> Result<(), Memory>
     push_fraction_end(out, value)
 }
 
-/// Appends a line for each state, with its value.
-pub fn push_values(out: &mut Vec<u8>, values: &[Frac]) -> Result<(), Memory>
+/// Appends a line for each state, with its value, in parts.
+fn append_values(out: &mut Vec<u8>, values: &[Frac]) -> Result<(), Memory>
     ensures text { OnOk result (out.new.items ≡ out.old.items ++ value_lines 0 values.now) }
     ensures front { Keeps out.old.items out.new.items }
 {
@@ -126,10 +188,20 @@ pub fn push_values(out: &mut Vec<u8>, values: &[Frac]) -> Result<(), Memory>
     Ok(())
 }
 
+/// Appends a line for each state, with its value.
+pub fn push_values(out: &mut Vec<u8>, values: &[Frac]) -> Result<(), Memory>
+    ensures text { OnOk result (out.new.items ≡ out.old.items ++ value_lines 0 values.now) }
+    ensures unchanged { OnErr result (out.new.items ≡ out.old.items) }
+{
+    let start = out.len();
+    let answer = append_values(out, values);
+    or_cut_back(out, start, answer)
+}
+
 /// Appends the line `end`.
 pub fn push_end(out: &mut Vec<u8>) -> Result<(), Memory>
     ensures text { OnOk result (out.new.items ≡ out.old.items ++ line end_text) }
-    ensures front { Keeps out.old.items out.new.items }
+    ensures unchanged { OnErr result (out.new.items ≡ out.old.items) }
 {
     out.extend_from_slice(b"end\n")?;
     Ok(())

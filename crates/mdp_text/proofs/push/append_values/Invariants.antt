@@ -1,7 +1,7 @@
 use Rattle.std.proofs.Common.{◌≡◌, ◌++◌, drop}
 use Rattle.mdp_text.specs.Answer.{Keeps}
 use Rattle.mdp_text.specs.Spelling.{value_lines}
-use Rattle.mdp_text.proofs.push.push_values.Given as goal
+use Rattle.mdp_text.proofs.push.append_values.Given as goal
 
 abbrev pub invariant-loop-s : goal.invariant-loop-s
 invariant-loop-s l = record {

@@ -1,6 +1,6 @@
 use Rattle.std.specs.List.{AllWithin}
 use Rattle.mdp_cert.specs.Cert.{IsFlowInWidth}
-use Rattle.mdp_command_witness.proofs.certificate.all_flows_narrow.Given as goal
+use Rattle.mdp_cert.proofs.widths.all_flows_narrow.Given as goal
 
 abbrev pub invariant-loop-flow : goal.invariant-loop-flow
 invariant-loop-flow l = AllWithin IsFlowInWidth l.flows 0 l.flow-index
