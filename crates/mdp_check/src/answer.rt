@@ -15,10 +15,10 @@ pub enum Answer {
         state: Option<u32>,
         choice: Option<u32>,
     },
-    /// The claim's reward model isn't in the model.
-    NoReward,
     /// The claim's label isn't in the model.
     NoLabel,
+    /// The claim's reward model isn't in the model.
+    NoReward,
     /// The certificate has another number of states than the model.
     Size,
     /// Memory was refused.

@@ -1,36 +1,17 @@
-ghost use Rattle.std.specs.Prelude.{◌≡◌, ◌<◌, Some, length, All};
+ghost use Rattle.std.specs.Prelude.{◌≡◌, ◌<◌, Some, length};
 ghost use Rattle.mdp_spec.specs.Mdp.{states_of};
 ghost use Rattle.mdp_rows.specs.Name.{IsName};
 ghost use Rattle.mdp_reach.specs.Query as query;
 ghost use Rattle.mdp_reward.specs.Query as rewarded;
 ghost use Rattle.mdp_mean.specs.Query as averaged;
-ghost use Rattle.mdp_cert.specs.Cert.{IsValueNarrow, Fits};
+ghost use Rattle.mdp_cert.specs.Cert.{Fits};
 ghost use Rattle.mdp_cert.specs.Plain.{plain};
 ghost use Rattle.mdp_command_solve.specs.Due.{certificate_of, reward_certificate_of, mean_certificate_of};
 
 use mdp_cert::{Body, Cert, Claim};
 use mdp_farkas::{MeanCert, ReachCert, RewardCert};
-use mdp_num::Frac;
 use mdp_rows::{Dir, Model};
-use mdp_text::{all_narrow, all_short, init_with, init_with_rewards};
-
-/// A fraction is in width.
-fn narrow(value: &Option<Frac>)
-    ensures { IsValueNarrow value.now }
-{
-    if let Some(value) = value {
-        value.num();
-    }
-}
-
-/// Each fraction among these is in width.
-fn all_rewards_narrow(values: &[Option<Frac>])
-    ensures { All IsValueNarrow values.now }
-{
-    for value in values {
-        narrow(value);
-    }
-}
+use mdp_text::{init_with, init_with_rewards};
 
 /// The certificate of an answer to a query of reachability, which has a text.
 pub fn certificate_of(model: &Model, dir: Dir, label: Vec<u8>, answer: ReachCert) -> Cert
@@ -42,16 +23,15 @@ pub fn certificate_of(model: &Model, dir: Dir, label: Vec<u8>, answer: ReachCert
     ensures fits { Fits (plain result) }
 {
     model.known();
-    all_narrow(&answer.values);
-    all_short(&answer.choices);
-    all_short(&answer.ranks);
     let init = init_with(model, &answer.values);
-    Cert {
+    let cert = Cert {
         claim: Claim::Reach { dir, label },
         states: model.states(),
         init,
         body: Body::Reach(answer),
-    }
+    };
+    cert.known();
+    cert
 }
 
 /// The certificate of an answer to a query of rewards, which has a text.
@@ -71,16 +51,15 @@ pub fn reward_certificate_of(
     ensures fits { Fits (plain result) }
 {
     model.known();
-    all_rewards_narrow(&answer.values);
-    all_short(&answer.choices);
-    all_short(&answer.ranks);
     let init = init_with_rewards(model, &answer.values);
-    Cert {
+    let cert = Cert {
         claim: Claim::Reward { dir, name, label },
         states: model.states(),
         init,
         body: Body::Reward(answer),
-    }
+    };
+    cert.known();
+    cert
 }
 
 /// The certificate of an answer to a query of the mean payoff, which has a text; the value of the initial state is its gain.
@@ -94,16 +73,13 @@ pub fn mean_certificate_of(model: &Model, dir: Dir, name: Vec<u8>, answer: MeanC
     ensures fits { Fits (plain result) }
 {
     model.known();
-    all_narrow(&answer.gains);
-    all_narrow(&answer.bound);
-    all_narrow(&answer.bias);
-    all_short(&answer.choices);
-    answer.spread.num();
     let init = init_with(model, &answer.gains);
-    Cert {
+    let cert = Cert {
         claim: Claim::Mean { dir, name },
         states: model.states(),
         init,
         body: Body::Mean(answer),
-    }
+    };
+    cert.known();
+    cert
 }

@@ -1,10 +1,10 @@
-ghost use Rattle.std.specs.Prelude.{◌≡◌, ◌<◌, All, pos};
+ghost use Rattle.std.specs.Prelude.{◌≡◌, ◌<◌, pos};
 ghost use Rattle.mdp_math.specs.Rational.{◌≤ℚ◌, of_int};
 ghost use Rattle.mdp_spec.specs.Mdp.{states_of};
 ghost use Rattle.mdp_rows.specs.Name.{IsName};
 ghost use Rattle.mdp_rows.specs.declared.dir.Dir.TheVariants.{Max, Min};
 ghost use Rattle.mdp_subsystem_rules.specs.Shape.{IsFlowShape, IsFloorShape};
-ghost use Rattle.mdp_cert.specs.Cert.{IsFlowInWidth, Fits};
+ghost use Rattle.mdp_cert.specs.Cert.{Fits};
 ghost use Rattle.mdp_cert.specs.Plain.{plain};
 ghost use Rattle.mdp_witness.specs.Code as witness;
 ghost use Rattle.mdp_witness.specs.Code.{plain_flow, plain_floor};
@@ -14,19 +14,9 @@ ghost use Rattle.mdp_command_witness.specs.Certificate.{dir_of, certificate_of};
 use mdp_cert::{Body, Cert, Claim};
 use mdp_num::Frac;
 use mdp_rows::{Dir, Model};
-use mdp_subsystem_rules::{FloorCert, Flow, FlowCert};
-use mdp_text::{Init, all_narrow, all_short};
+use mdp_subsystem_rules::{FloorCert, FlowCert};
+use mdp_text::Init;
 use mdp_witness::Subsystem;
-
-/// Each flow is in width, as its type keeps it.
-fn all_flows_narrow(flows: &[Flow])
-    ensures { All IsFlowInWidth flows.now }
-{
-    for flow in flows {
-        let _choice = flow.choice;
-        flow.amount.num();
-    }
-}
 
 /// The certificate of a subsystem on which some policy reaches the threshold, which has a text.
 fn flow_certificate_of(
@@ -44,9 +34,7 @@ fn flow_certificate_of(
     ensures fits { Fits (plain result) }
 {
     model.known();
-    threshold.num();
-    all_flows_narrow(&found.flows);
-    Cert {
+    let cert = Cert {
         claim: Claim::Witness {
             dir: Dir::Max,
             label,
@@ -55,7 +43,9 @@ fn flow_certificate_of(
         states: model.states(),
         init: Init::Start(start),
         body: Body::Flow(found),
-    }
+    };
+    cert.known();
+    cert
 }
 
 /// The certificate of a subsystem on which each policy reaches the threshold, which has a text.
@@ -74,10 +64,7 @@ fn floor_certificate_of(
     ensures fits { Fits (plain result) }
 {
     model.known();
-    threshold.num();
-    all_narrow(&found.values);
-    all_short(&found.ranks);
-    Cert {
+    let cert = Cert {
         claim: Claim::Witness {
             dir: Dir::Min,
             label,
@@ -86,7 +73,9 @@ fn floor_certificate_of(
         states: model.states(),
         init: Init::Start(start),
         body: Body::Floor(found),
-    }
+    };
+    cert.known();
+    cert
 }
 
 /// The certificate of a subsystem that was found, which has a text.

@@ -3,8 +3,8 @@ use Rattle.mdp_rows.specs.declared.dir.Dir.TheVariants.{Max}
 use Rattle.mdp_command_witness.proofs.Fitting.{flow_fits, start_fits, threshold_fits}
 use Rattle.mdp_command_witness.proofs.certificate.flow_certificate_of.Goals as goal
 
-pub invariant_of-result : goal.invariant_of-result
-invariant_of-result c = record {
+pub invariant_of-cert : goal.invariant_of-cert
+invariant_of-cert c = record {
   some = let e = c.states.ensures in let l = c.known.ensures.mdp.some in omega (arith, e, l);
   limit = let e = c.states.ensures in let l = c.known.ensures.mdp.few in omega (arith, e, l);
   names = c.requires.name;
