@@ -1,7 +1,6 @@
 -- The written bias solves the policy's equation where nodes are left, and is the inner one elsewhere.
-use Rattle.std.proofs.Common.{◌≡◌, ℕ, ◌<◌, inl, Bool, true, false, not, if◌then◌else◌, List, [], ◌∷◌, length, map, get_or}
-use Rattle.std.proofs.Common.{Some, Result, Ok, Err, refl, sym, ap, ap₂, ◌∙◌, subst, arith, pos, negsuc, zero-add}
-use Rattle.std.specs.List.{range_with_len}
+use Rattle.std.proofs.Common.{◌≡◌, ℕ, ◌<◌, inl, Bool, true, false, not, if◌then◌else◌, List, [], ◌∷◌, length}
+use Rattle.std.proofs.Common.{Some, Result, Ok, Err, refl, sym, ap, ◌∙◌, subst, arith, pos, zero-add}
 use Rattle.std.specs.Prelude.{slice_index, slice_index_or}
 use Rattle.std.proofs.lemmas.List.FromFn.{get_or-map-range_with_len, length-map-range_with_len}
 use Rattle.mdp_math.specs.Rational.{ℚ, ◌+ℚ◌, ◌-ℚ◌, ◌*ℚ◌}
@@ -9,7 +8,7 @@ use Rattle.mdp_math.specs.Kernel.{weigh}
 use Rattle.mdp_math.proofs.Laws.{zero-+ℚ}
 use Rattle.mdp_math.proofs.Options.{step_told}
 use Rattle.mdp_math.proofs.Written.{written_add-some}
-use Rattle.mdp_math.proofs.Ring.{◌⊕◌, ◌⊗◌, ⊖, lit}
+use Rattle.mdp_math.proofs.Ring.{◌⊕◌, ◌⊗◌, lit}
 use Rattle.mdp_math.proofs.Linear.{combine, equal}
 use Rattle.mdp_math.proofs.Kernel.{weigh-same}
 use Rattle.mdp_spec.specs.Mdp.{Entry, states_of, row_at, value_at}
@@ -25,7 +24,7 @@ use Rattle.mdp_policy_iteration.proofs.Results.{ok_same, ok_part, place_part, Is
 use Rattle.mdp_farkas.specs.Compare.{0ℚ}
 use Rattle.mdp_farkas.proofs.Summing.{written_sum-some}
 use Rattle.mdp_mean.specs.Terms.{Joining, reward_at, constant_by}
-use Rattle.mdp_mean.specs.Join.{Place, evaluating, constant, policy_rows, placed, eliminated, filled_by, filled, solved, written_bias}
+use Rattle.mdp_mean.specs.Join.{evaluating, constant, policy_rows, placed, eliminated, filled_by, filled, solved, written_bias}
 
 -- the values of active states, and others elsewhere
 abbrev mixed : List Bool → List ℚ → List ℚ → ℕ → ℚ

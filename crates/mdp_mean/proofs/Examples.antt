@@ -2,7 +2,6 @@
 -- to 2, which earns nothing, with 1/2 each; `leave` earns 1 in each step, and 5 once on the way from 0 to 1; `pay` loses 1 in each step at 0, or 5 once
 -- on the way to 1, which loses 1/2 in each step; `free` earns 1 in each step, and nothing on the way from 0 to 1.
 use Rattle.std.proofs.Common.{◌≡◌, ℕ, ◌^◌, ◌-◌, List, [], ◌∷◌, refl, map, pos, Option, Some, Result, Ok, Err}
-use Rattle.std.specs.List.{range_with_len}
 use Rattle.mdp_math.specs.Gcd.{gcd, gcd_with_fuel}
 use Rattle.mdp_math.specs.Rational.{ℚ, of_int, ratio, neg_ℚ, inv_ℚ, ◌+ℚ◌, ◌*ℚ◌}
 use Rattle.mdp_math.specs.Written.{narrow, narrow_ℚ, written_add, written_mul, written_compare}

@@ -1,7 +1,7 @@
 -- What the rules of the mean payoff say of the lists of a certificate.
-use Rattle.std.proofs.Common.{◌≡◌, ℕ, List, length}
+use Rattle.std.proofs.Common.{ℕ, List}
 use Rattle.mdp_math.specs.Rational.{ℚ}
-use Rattle.mdp_spec.specs.Mdp.{Mdp, states_of}
+use Rattle.mdp_spec.specs.Mdp.{Mdp}
 use Rattle.mdp_spec.specs.MeanRules.{HasSpread}
 use Rattle.mdp_spec.specs.Tree.{IsPolicy}
 use Rattle.mdp_farkas.specs.Mean.{MeetsMean}

@@ -1,14 +1,14 @@
 -- A query has one end at most.
-use Rattle.std.proofs.Common.{◌≡◌, ◌⊎◌, inl, inr, ℕ, ◌<◌, List, length, map, get_or, Option, Some, None, Result, Ok, Err, refl, sym, ap, ◌∙◌, subst, arith}
+use Rattle.std.proofs.Common.{◌≡◌, inl, inr, ℕ, ◌<◌, List, length, map, get_or, Option, None, Result, Ok, Err, refl, sym, ap, ◌∙◌, subst, arith}
 use Rattle.std.specs.List.{range_with_len}
 use Rattle.std.specs.Prelude.{slice_index, slice_index_or}
-use Rattle.std.proofs.lemmas.List.FromFn.{fill_by_all, length-map-range_with_len}
+use Rattle.std.proofs.lemmas.List.FromFn.{fill_by_all}
 use Rattle.mdp_math.specs.Rational.{ℚ}
 use Rattle.mdp_math.proofs.Numbers.{le_or}
 use Rattle.mdp_spec.specs.Mdp.{Mdp, states_of, value_at}
 use Rattle.mdp_rows.specs.declared.dir.Dir.{Dir}
 use Rattle.mdp_wide.specs.Term.{WideTerm}
-use Rattle.mdp_ends.specs.Ends.{part_of, in_part, count_of, AreEnds}
+use Rattle.mdp_ends.specs.Ends.{part_of, count_of, AreEnds}
 use Rattle.mdp_ends.specs.Quotient.{nodes_in}
 use Rattle.mdp_ends.proofs.Numbering.{case-number, numbered-below}
 use Rattle.mdp_ends.proofs.RoundLaws.{has-number}

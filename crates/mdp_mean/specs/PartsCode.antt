@@ -1,5 +1,5 @@
 -- The solved parts, as the code holds them.
-use Rattle.std.specs.Prelude.{◌≡◌, ℕ, List, [], ◌∷◌, ◌++◌, length, Option, slice_index, pos}
+use Rattle.std.specs.Prelude.{◌≡◌, ℕ, [], ◌∷◌, ◌++◌, length, slice_index, pos}
 use Rattle.mdp_math.specs.Rational.{of_int}
 use Rattle.mdp_spec.specs.Mdp.{Mdp, value_at}
 use Rattle.mdp_gain.specs.Query.{Answer}

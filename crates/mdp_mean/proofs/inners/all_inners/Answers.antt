@@ -5,7 +5,7 @@ use Rattle.mdp_gain.specs.Query.{members, plain}
 use Rattle.mdp_gain.specs.Query as inner
 use Rattle.mdp_mean.specs.Inners.{InnersEndSo}
 use Rattle.mdp_mean.specs.PartsCode.{inners_in}
-use Rattle.mdp_mean.proofs.Adding.{Keeps, keeps-none, keeps-one, keeps-all, refused-at, members-below}
+use Rattle.mdp_mean.proofs.Adding.{Keeps, keeps-one, refused-at, members-below}
 use Rattle.mdp_mean.proofs.Passing.{solves-err, passed-on}
 use Rattle.mdp_mean.proofs.inners.all_inners.Goals as goal
 

@@ -1,4 +1,4 @@
-use Rattle.std.proofs.Common.{◌≡◌, ◌∙◌, ◌<◌, ℕ, List, Ok, Err, length, map, sym, ap, ap₂, subst, arith, slice_index}
+use Rattle.std.proofs.Common.{◌≡◌, ◌∙◌, ◌<◌, ℕ, List, Ok, Err, length, sym, ap, ap₂, subst, slice_index}
 use Rattle.mdp_math.specs.Rational.{ℚ}
 use Rattle.mdp_spec.specs.Tree.{IsPolicy}
 use Rattle.mdp_elim.specs.System.{Leaves}
@@ -9,9 +9,9 @@ use Rattle.mdp_quot.specs.Lifting.{IsInner}
 use Rattle.mdp_quot_exits.proofs.InModel.{node_below}
 use Rattle.mdp_farkas.specs.Mean.{MeetsMean}
 use Rattle.mdp_mean.specs.Terms.{Joining}
-use Rattle.mdp_mean.specs.Join.{Place, Joined, policy_rows, written_join}
+use Rattle.mdp_mean.specs.Join.{policy_rows, written_join}
 use Rattle.mdp_mean.specs.Code.{shown}
-use Rattle.mdp_mean.specs.Faults.{Answers, Says}
+use Rattle.mdp_mean.specs.Faults.{Says}
 use Rattle.mdp_mean.specs.PartsCode.{inners_in, joining_of}
 use Rattle.mdp_mean.specs.Query.{Answer, plain, at_nodes, leaving, JoinEndsSo}
 use Rattle.mdp_quot_exits.specs.Outer as outer

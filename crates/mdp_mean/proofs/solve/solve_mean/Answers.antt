@@ -8,7 +8,7 @@ use Rattle.mdp_quot_exits.specs.Outer as outer
 use Rattle.mdp_quot_exits.specs.Steps.{StepsEndSo}
 use Rattle.mdp_quot_exits.proofs.InModel.{gains-each}
 use Rattle.mdp_mean.specs.Inners.{InnersEndSo}
-use Rattle.mdp_mean.specs.PartsCode.{inners_in, joining_of}
+use Rattle.mdp_mean.specs.PartsCode.{inners_in}
 use Rattle.mdp_mean.specs.Query.{plain, joining, JoinEndsSo, EndsSo}
 use Rattle.mdp_mean.proofs.Passing.{solves-err, passed-on, goes-through, ends-inner, ends-outer, ends-steps, ends-join}
 use Rattle.mdp_mean.proofs.solve.solve_mean.Goals as goal
