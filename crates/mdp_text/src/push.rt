@@ -23,6 +23,7 @@ fn or_cut_back(out: &mut Vec<u8>, start: usize, answer: Result<(), Memory>) -> R
 /// Appends a whole number in decimal. After `Memory` the text is as before, as after each call here that isn't private.
 pub fn push_whole(out: &mut Vec<u8>, number: u64) -> Result<(), Memory>
     ensures text { OnOk result (out.new.items ≡ out.old.items ++ decimal number) }
+    ensures front { Keeps out.old.items out.new.items }
     ensures unchanged { OnErr result (out.new.items ≡ out.old.items) }
 {
     let mut buffer = Buffer::new();
@@ -42,6 +43,7 @@ fn append_word(out: &mut Vec<u8>, number: u64) -> Result<(), Memory>
 /// Appends a blank and the whole number.
 pub fn push_word(out: &mut Vec<u8>, number: u64) -> Result<(), Memory>
     ensures text { OnOk result (out.new.items ≡ out.old.items ++ (32 ∷ decimal number)) }
+    ensures front { Keeps out.old.items out.new.items }
     ensures unchanged { OnErr result (out.new.items ≡ out.old.items) }
 {
     let start = out.len();
@@ -61,6 +63,7 @@ fn append_fraction(out: &mut Vec<u8>, value: &Frac) -> Result<(), Memory>
 /// Appends a blank and the fraction.
 pub fn push_fraction(out: &mut Vec<u8>, value: &Frac) -> Result<(), Memory>
     ensures text { OnOk result (out.new.items ≡ out.old.items ++ (32 ∷ spelling value.now)) }
+    ensures front { Keeps out.old.items out.new.items }
     ensures unchanged { OnErr result (out.new.items ≡ out.old.items) }
 {
     let start = out.len();
@@ -81,6 +84,7 @@ fn append_fraction_end(out: &mut Vec<u8>, value: &Frac) -> Result<(), Memory>
 /// Appends a blank, the fraction and the line's end.
 pub fn push_fraction_end(out: &mut Vec<u8>, value: &Frac) -> Result<(), Memory>
     ensures text { OnOk result (out.new.items ≡ out.old.items ++ (32 ∷ (spelling value.now ++ 10 ∷ []))) }
+    ensures front { Keeps out.old.items out.new.items }
     ensures unchanged { OnErr result (out.new.items ≡ out.old.items) }
 {
     let start = out.len();
@@ -102,6 +106,7 @@ fn append_number(out: &mut Vec<u8>, states: u64) -> Result<(), Memory>
 /// Appends the line of the number of states.
 pub fn push_number(out: &mut Vec<u8>, states: u64) -> Result<(), Memory>
     ensures text { OnOk result (out.new.items ≡ out.old.items ++ line (states_text states)) }
+    ensures front { Keeps out.old.items out.new.items }
     ensures unchanged { OnErr result (out.new.items ≡ out.old.items) }
 {
     let start = out.len();
@@ -160,6 +165,7 @@ fn append_init(out: &mut Vec<u8>, init: &Init) -> Result<(), Memory>
 /// Appends the line of the initial state.
 pub fn push_init(out: &mut Vec<u8>, init: &Init) -> Result<(), Memory>
     ensures text { OnOk result (out.new.items ≡ out.old.items ++ line (init_text init.now)) }
+    ensures front { Keeps out.old.items out.new.items }
     ensures unchanged { OnErr result (out.new.items ≡ out.old.items) }
 {
     let start = out.len();
@@ -191,6 +197,7 @@ fn append_values(out: &mut Vec<u8>, values: &[Frac]) -> Result<(), Memory>
 /// Appends a line for each state, with its value.
 pub fn push_values(out: &mut Vec<u8>, values: &[Frac]) -> Result<(), Memory>
     ensures text { OnOk result (out.new.items ≡ out.old.items ++ value_lines 0 values.now) }
+    ensures front { Keeps out.old.items out.new.items }
     ensures unchanged { OnErr result (out.new.items ≡ out.old.items) }
 {
     let start = out.len();
@@ -201,6 +208,7 @@ pub fn push_values(out: &mut Vec<u8>, values: &[Frac]) -> Result<(), Memory>
 /// Appends the line `end`.
 pub fn push_end(out: &mut Vec<u8>) -> Result<(), Memory>
     ensures text { OnOk result (out.new.items ≡ out.old.items ++ line end_text) }
+    ensures front { Keeps out.old.items out.new.items }
     ensures unchanged { OnErr result (out.new.items ≡ out.old.items) }
 {
     out.extend_from_slice(b"end\n")?;
