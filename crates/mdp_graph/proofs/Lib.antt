@@ -38,3 +38,4 @@ pub mod SureSome
 pub mod Taking
 pub mod Settling
 pub mod Rising
+pub mod OnePass

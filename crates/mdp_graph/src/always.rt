@@ -11,7 +11,7 @@ use crate::pass::{Pass, marks_by, plain_ranks, zeros};
 use crate::reach::may_reach;
 use mdp_num::Memory;
 use mdp_rows::{Marks, Model};
-use std::alloc::{AllocError, Global};
+use std::alloc::Global;
 
 /// Takes the ranks of the marked states away.
 fn drop_ranks(ranks: &mut Vec<Option<u32>>, marks: &Marks, states: u32)

@@ -1,4 +1,4 @@
-ghost use Rattle.std.specs.Prelude.{◌≡◌, ◌<◌, ◌==◌, ℕ, false, None, [], length, map, replicate, slice_index_or, IfOk};
+ghost use Rattle.std.specs.Prelude.{◌≡◌, ◌<◌, ◌==◌, ℕ, false, [], length, map, slice_index_or, IfOk};
 ghost use Rattle.std.specs.List.{All, range_with_len};
 ghost use Rattle.mdp_spec.specs.Mdp.{states_of};
 ghost use Rattle.mdp_graph.specs.Sets.{marked};
@@ -8,7 +8,7 @@ ghost use Rattle.mdp_graph.specs.Sure.{inside_step, IsGreatestSure, stays_and_fa
 ghost use Rattle.mdp_graph.specs.Settled.{IsSettled};
 ghost use Rattle.mdp_graph.specs.Rounds.{AreRounds};
 ghost use Rattle.mdp_graph.specs.Waiting.{leading_to};
-ghost use Rattle.mdp_graph.specs.Forest.{IsCut, AreFrom, AreKnown, IsUncut, IsForest, AreWide, all_preds, IsAttaching};
+ghost use Rattle.mdp_graph.specs.Forest.{AreFrom, AreKnown, IsUncut, IsForest, AreWide, all_preds, IsAttaching};
 
 use crate::forest::{
     Way, attach_all, cut_below, cut_choices, found_ways, no_ways, take_found, unattached,

@@ -1,6 +1,6 @@
 ghost use Rattle.std.specs.Prelude.{◌≡◌, ◌<◌, ◌||◌, ◌&&◌, ℕ, List, true, false, not, None, Some, [], length, replicate, slice_index, slice_index_or, IfOk, OnOk};
 ghost use Rattle.std.specs.List.{All};
-ghost use Rattle.mdp_spec.specs.Mdp.{states_of, choices_at};
+ghost use Rattle.mdp_spec.specs.Mdp.{states_of};
 ghost use Rattle.mdp_rows.specs.Preds.{is_among};
 ghost use Rattle.mdp_graph.specs.Waiting.{leading_to, AreWithin};
 ghost use Rattle.mdp_graph.specs.Forest.{uses, attached, IsCut, AreFrom, AreKnown, IsPruned, IsForest, IsClosed, IsFound, IsGrown, IsTaken, IsFoundWay, HasFound};

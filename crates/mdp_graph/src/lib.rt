@@ -23,6 +23,8 @@ pub use laws::{
 };
 pub use meet::must_meet;
 pub use pass::Pass;
+pub use predecessors::{Edges, Predecessors};
+pub use ranking::{give_rank, next_layer, no_ranks, ranks_by};
 pub use reach::{along, may_reach};
 pub use rounds::rounds_outside;
 pub use sure::sure_some;

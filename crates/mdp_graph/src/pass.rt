@@ -1,4 +1,4 @@
-ghost use Rattle.std.specs.Prelude.{◌≡◌, ◌<◌, ◌&&◌, ℕ, length, map, is_some, replicate, slice_index, IfOk};
+ghost use Rattle.std.specs.Prelude.{◌≡◌, ◌<◌, ◌&&◌, length, map, is_some, replicate, IfOk};
 ghost use Rattle.std.specs.List.{All, list_any, find, range_with_len};
 ghost use Rattle.mdp_spec.specs.Mdp.{states_of, choices_at};
 ghost use Rattle.mdp_graph.specs.Sets.{marked};

@@ -9,8 +9,8 @@ use crate::predecessors::Predecessors;
 use mdp_rows::Marks;
 use std::alloc::{AllocError, Global};
 
-/// Gives `rank` to those of the states that have none yet, and appends them to `list`.
-pub(crate) fn give_rank(
+/// Gives `rank`, or any number, to those of the states that have none yet, and appends them to `list`.
+pub fn give_rank(
     ranks: &mut Vec<Option<u32>>,
     list: &mut Vec<u32>,
     states: &[u32],
@@ -28,8 +28,8 @@ pub(crate) fn give_rank(
     Ok(())
 }
 
-/// Gives `rank` to those states without a rank that have an edge to a state of `layer`. Answers these states.
-fn next_layer(
+/// Gives `rank`, or any number, to those states without one that have an edge to a state of `layer`. Answers these states.
+pub fn next_layer(
     alloc: Global,
     preds: &Predecessors,
     ranks: &mut Vec<Option<u32>>,
@@ -66,15 +66,15 @@ pub(crate) fn marked_states(
     Ok(list)
 }
 
-/// So many states without a rank.
-pub(crate) fn no_ranks(alloc: Global, states: u32) -> Result<Vec<Option<u32>>, AllocError>
+/// So many states without a rank, or any number.
+pub fn no_ranks(alloc: Global, states: u32) -> Result<Vec<Option<u32>>, AllocError>
     ensures { IfOk result (λ ranks. ranks.items ≡ replicate states None) }
 {
     vec![in alloc; None; states as usize]
 }
 
 /// The least ranks by which states reach the marked ones along edges; none where they don't.
-pub(crate) fn ranks_by(
+pub fn ranks_by(
     alloc: Global,
     preds: &Predecessors,
     first: &Marks,

@@ -3,6 +3,7 @@ mod Arriving
 mod ComponentsFound
 mod EndsFound
 mod Examples
+mod FlatAllowed
 mod Forbidding
 mod Grouping
 mod InnerPass

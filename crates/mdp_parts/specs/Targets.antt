@@ -1,9 +1,15 @@
 -- The states that each state leads to by chosen choices, as lists, and the same edges the other way round.
-use Rattle.std.specs.Prelude.{◌≡◌, ℕ, ◌<◌, ◌==◌, Bool, List, [], length, slice_index_or}
+use Rattle.std.specs.Prelude.{◌≡◌, ℕ, ◌<◌, ◌==◌, Bool, List, [], ◌++◌, length, slice_index_or}
 use Rattle.mdp_spec.specs.Mdp.{Mdp, states_of}
 use Rattle.mdp_rows.specs.Preds.{is_among}
 use Rattle.mdp_graph.specs.Edges.{AreEdges, has_edge}
 use Rattle.mdp_ends.specs.Walks.{chosen_step}
+
+-- the states that state s leads to were appended to a list
+pub record HasTargets (m : Mdp) (chosen : ℕ → ℕ → Bool) (s : ℕ) (old new : List ℕ) : Type 0 where
+  pub list : List ℕ
+  pub longer : new ≡ old ++ list
+  pub leads : (t : ℕ) → is_among t list ≡ chosen_step m chosen (λ x. x == t) s
 
 -- each state's list holds the states that it leads to
 pub record AreTargets (m : Mdp) (chosen : ℕ → ℕ → Bool) (edges : List (List ℕ)) : Type 0 where

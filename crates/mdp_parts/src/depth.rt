@@ -4,7 +4,7 @@ ghost use Rattle.mdp_graph.specs.Sets.{marked};
 ghost use Rattle.mdp_graph.specs.Edges.{AreEdges};
 ghost use Rattle.mdp_parts.specs.Searched.{AreMet, IsFirstUnmet, IsSearch, IsOrder, work_left};
 
-use crate::edges::Edges;
+use mdp_graph::Predecessors;
 use mdp_rows::Marks;
 use std::alloc::{AllocError, Global};
 
@@ -65,7 +65,7 @@ impl Search {
     }
 
     /// Goes on with the last state on the way: to the first of its targets that wasn't met; where there is none, the state is done with.
-    fn go_on(&mut self, edges: &Edges, top: u32) -> Result<(), AllocError>
+    fn go_on(&mut self, edges: &Predecessors, top: u32) -> Result<(), AllocError>
         requires edges { AreEdges (length edges.now) edges.now }
         requires some { 0 < length self.old.way.items }
         requires last { top ≡ slice_index self.old.way.items (length self.old.way.items - 1) }
@@ -89,7 +89,7 @@ impl Search {
     }
 
     /// Searches from `root` until nothing is left that it leads to and that wasn't met. The way is a stack on the heap.
-    fn explore(&mut self, edges: &Edges, root: u32) -> Result<(), AllocError>
+    fn explore(&mut self, edges: &Predecessors, root: u32) -> Result<(), AllocError>
         requires edges { AreEdges (length edges.now) edges.now }
         requires root { root < length edges.now }
         requires unmet { marked self.old.met root ≡ false }
@@ -110,7 +110,11 @@ impl Search {
 }
 
 /// The states in the order in which a search in depth is done with them.
-pub(crate) fn depth_order(alloc: Global, edges: &Edges, states: u32) -> Result<Vec<u32>, AllocError>
+pub(crate) fn depth_order(
+    alloc: Global,
+    edges: &Predecessors,
+    states: u32,
+) -> Result<Vec<u32>, AllocError>
     requires states { length edges.now ≡ states }
     requires edges { AreEdges (length edges.now) edges.now }
     ensures { IfOk result (λ order. IsOrder edges.now order.items) }

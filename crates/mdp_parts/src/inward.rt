@@ -1,4 +1,4 @@
-ghost use Rattle.std.specs.Prelude.{◌≡◌, ◌<◌, ◌↔◌, ◌&&◌, ℕ, true, length, map, slice_index, slice_index_or, IfOk};
+ghost use Rattle.std.specs.Prelude.{◌≡◌, ◌<◌, ◌↔◌, ◌&&◌, ℕ, true, length, map, IfOk};
 ghost use Rattle.std.specs.List.{All, list_any, find, range_with_len};
 ghost use Rattle.mdp_spec.specs.Mdp.{states_of, choices_at};
 ghost use Rattle.mdp_graph.specs.Sets.{marked};
@@ -10,10 +10,10 @@ ghost use Rattle.mdp_parts.specs.FoundEnds.{AreEndsOf};
 ghost use Rattle.mdp_parts.specs.Inner.{may_fall_inside};
 ghost use Rattle.mdp_parts.specs.TowardTargets.{IsTowardTargets, HasTarget};
 
-use crate::edges::Edges;
+use crate::edges::{edges_of, reversed};
 use crate::ends::Ends;
-use crate::ranking::{marks_by, plain_numbers, ranks_by};
-use mdp_graph::Pass;
+use crate::ranking::{marks_by, plain_numbers};
+use mdp_graph::{Pass, ranks_by};
 use mdp_num::Memory;
 use mdp_rows::{Marks, Model};
 use std::alloc::{AllocError, Global};
@@ -115,8 +115,8 @@ pub fn toward_targets(
     ensures marks { IfOk result (λ pass. (s : ℕ) → s < states_of model.now → (marked pass.marks s ≡ true) ↔ HasTarget model.now ends.now.parts target.now s) }
 {
     model.known();
-    let edges = Edges::targets(alloc, model, ends.choices())?;
-    let back = edges.reversed(alloc, model.states())?;
+    let edges = edges_of(alloc, model, ends.choices())?;
+    let back = reversed(alloc, &edges, model.states())?;
     let ranks = ranks_by(alloc, &back, target, model.states())?;
     Ok(Pass {
         marks: marks_by(alloc, &ranks)?,

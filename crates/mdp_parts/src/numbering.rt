@@ -1,19 +1,18 @@
-ghost use Rattle.std.specs.Prelude.{◌≡◌, ◌<◌, ◌≤◌, ◌^◌, ℕ, None, Some, length, slice_index, slice_index_or, IfOk, OnOk};
+ghost use Rattle.std.specs.Prelude.{◌≡◌, ◌<◌, ◌^◌, ℕ, None, Some, length, slice_index, IfOk, OnOk};
 ghost use Rattle.mdp_graph.specs.Edges.{AreEdges};
 ghost use Rattle.mdp_graph.specs.Layers.{rank_at};
 ghost use Rattle.mdp_ends.specs.Numbers.{count_from};
 ghost use Rattle.mdp_ends.specs.DepthFirst.{StandsIn};
 ghost use Rattle.mdp_parts.specs.Numbered.{IsTaken, AreGrouped, IsRenumbered};
 
-use crate::edges::Edges;
-use crate::ranking::{give_number, next_layer, no_numbers};
+use mdp_graph::{Predecessors, give_rank, next_layer, no_ranks};
 use std::alloc::{AllocError, Global};
 
 /// Gives `number` to `root` and to the states without a number that lead to it through such states. The time grows with the entries of their
 /// lists.
 fn take_back(
     alloc: Global,
-    back: &Edges,
+    back: &Predecessors,
     numbers: &mut Vec<Option<u32>>,
     root: u32,
     number: u32,
@@ -24,7 +23,7 @@ fn take_back(
     ensures { OnOk result (IsTaken back.now root number numbers.old.items numbers.new.items) }
 {
     let mut layer = Vec::new(alloc);
-    give_number(numbers, &mut layer, &[root], number)?;
+    give_rank(numbers, &mut layer, &[root], number)?;
     while !layer.is_empty() {
         layer = next_layer(alloc, back, numbers, &layer, number)?;
     }
@@ -34,7 +33,7 @@ fn take_back(
 /// A number for each state, by searches backwards from the last state of the order to the first, each of which takes the states that are left.
 pub(crate) fn group_back(
     alloc: Global,
-    back: &Edges,
+    back: &Predecessors,
     order: &[u32],
     states: u32,
 ) -> Result<Vec<Option<u32>>, AllocError>
@@ -43,7 +42,7 @@ pub(crate) fn group_back(
     requires all { (s : ℕ) → s < states → StandsIn s order.now }
     ensures { IfOk result (λ numbers. AreGrouped back.now order.now states numbers.items) }
 {
-    let mut numbers = no_numbers(alloc, states)?;
+    let mut numbers = no_ranks(alloc, states)?;
     let mut number = 0;
     for k in (0..order.len()).rev() {
         let root = order[k];
@@ -73,7 +72,7 @@ pub(crate) fn numbered(
     ensures numbers { IfOk result (λ n. IsRenumbered keys.now n.numbers.items) }
     ensures count { IfOk result (λ n. n.count ≡ count_from 0 n.numbers.items) }
 {
-    let mut given = no_numbers(alloc, limit)?;
+    let mut given = no_ranks(alloc, limit)?;
     let mut numbers = Vec::with_capacity(alloc, keys.len())?;
     let mut count = 0;
     for key in keys {

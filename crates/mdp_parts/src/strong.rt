@@ -1,10 +1,10 @@
-ghost use Rattle.std.specs.Prelude.{◌≡◌, IfOk};
+ghost use Rattle.std.specs.Prelude.{IfOk};
 ghost use Rattle.mdp_ends.specs.Walks.{AreComponents};
 ghost use Rattle.mdp_parts.specs.Allowed.{allowed_at, AreChoices};
 
 use crate::allowed::Allowed;
 use crate::depth::depth_order;
-use crate::edges::Edges;
+use crate::edges::{edges_of, reversed};
 use crate::numbering::{group_back, numbered};
 use crate::ranking::plain_numbers;
 use mdp_num::Memory;
@@ -21,8 +21,8 @@ pub fn components(alloc: Global, model: &Model, allowed: &Allowed) -> Result<Vec
     ensures { IfOk result (λ parts. AreComponents model.now (allowed_at allowed.now) parts.items) }
 {
     model.known();
-    let edges = Edges::targets(alloc, model, allowed)?;
-    let back = edges.reversed(alloc, model.states())?;
+    let edges = edges_of(alloc, model, allowed)?;
+    let back = reversed(alloc, &edges, model.states())?;
     let order = depth_order(alloc, &edges, model.states())?;
     let groups = group_back(alloc, &back, &order, model.states())?;
     let numbering = numbered(alloc, &groups, model.states())?;

@@ -2,19 +2,16 @@
 use Rattle.std.proofs.Common.{◌≡◌, ℕ, ◌<◌, Bool, true, false, not, ◌&&◌, List, length, Option, Some, None, refl, sym, ◌∙◌, ap, arith, zero-add, if◌then◌else◌, pos}
 use Rattle.std.specs.Prelude.{slice_index_or, is_some, unwrap_or}
 use Rattle.std.proofs.lemmas.List.{get_or-map, length-map}
-use Rattle.std.proofs.lemmas.List.FromFn.{get_or-map-range_with_len, length-map-range_with_len, fill_by_all}
+use Rattle.std.proofs.lemmas.List.FromFn.{get_or-map-range_with_len, length-map-range_with_len}
 use Rattle.mdp_math.specs.Rational.{ℚ, of_int}
 use Rattle.mdp_math.proofs.Order.{0ℚ}
 use Rattle.mdp_spec.specs.Mdp.{Mdp, states_of, value_at}
 use Rattle.mdp_spec.specs.Tree.{is_marked}
 use Rattle.mdp_spec.specs.Bounds.{reward_at, finite_part, infinite}
 use Rattle.mdp_spec.specs.RewardRules.{IsInfinite, IsTransient}
+use Rattle.mdp_graph.proofs.OnePass.{same_list}
 use Rattle.mdp_reward.specs.Problem.{is_transient}
 use Rattle.mdp_reward.specs.Query.{reward_by, rewards_of}
-
--- lists that are the same at each state
-pub same_list : {A : Type 0} (n : ℕ) (xs ys : List A) (d : A) → length xs ≡ n → length ys ≡ n → ((s : ℕ) → s < n → slice_index_or xs s d ≡ slice_index_or ys s d) → xs ≡ ys
-same_list n xs ys d e f h = fill_by_all (λ s. slice_index_or ys s d) xs n d e h ∙ sym (fill_by_all (λ s. slice_index_or ys s d) ys n d f (λ s l. refl))
 
 module _ (m : Mdp) (goals finite : List Bool) (x : List ℚ) where
   abbrev v : List (Option ℚ)

@@ -8,7 +8,7 @@ use Rattle.mdp_math.proofs.Numbers.{le_or}
 use Rattle.mdp_spec.specs.Mdp.{Mdp, states_of}
 use Rattle.mdp_graph.specs.Rounds.{AreRounds, left_after, CanStay}
 use Rattle.mdp_reward.proofs.Rows.{lt_of_test}
-use Rattle.mdp_reward.proofs.Certificate.{same_list}
+use Rattle.mdp_graph.proofs.OnePass.{same_list}
 
 -- a state of round a is left after i rounds
 abbrev left : ℕ → ℕ → Bool
