@@ -17,7 +17,8 @@ use Rattle.mdp_farkas.specs.Verdict.{Check, InWidth, at_choices}
 use Rattle.mdp_farkas.specs.Compare.{is_equal}
 use Rattle.mdp_farkas.specs.Bellman as bellman
 use Rattle.mdp_farkas.specs.Reach.{other}
-use Rattle.mdp_farkas.specs.Spread.{is_better, written_best, written_extreme, written_width, written_spread}
+use Rattle.mdp_rows.specs.Better.{is_better}
+use Rattle.mdp_farkas.specs.Spread.{written_best, written_extreme, written_width, written_spread}
 use Rattle.mdp_farkas.specs.Mean as mean
 use Rattle.mdp_farkas.specs.Mean.{mean_checks_at, state_checks, mean_checks, MeetsMean, IsMean}
 use Rattle.mdp_rows.specs.declared.dir.Dir.{Dir}

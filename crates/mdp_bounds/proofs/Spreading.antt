@@ -10,7 +10,7 @@ use Rattle.mdp_math.proofs.Options.{Some_same, step_told}
 use Rattle.mdp_math.proofs.Order.{≤ℚ_antisymm}
 use Rattle.mdp_math.proofs.Extremes.{least-le, least-ge, greatest-ge, greatest-le}
 use Rattle.mdp_spec.specs.MeanRules.{width_of, spread_of}
-use Rattle.mdp_farkas.specs.Spread.{is_better}
+use Rattle.mdp_rows.specs.Better.{is_better}
 use Rattle.mdp_farkas.proofs.Spreading.{AsGood, as_good_same, taken, either}
 use Rattle.mdp_rows.specs.declared.dir.Dir.{Dir}
 use Rattle.mdp_rows.specs.declared.dir.Dir.TheVariants.{Max, Min}

@@ -21,7 +21,7 @@ use Rattle.mdp_spec.specs.BetweenRules.{MeetsMeanMaxBetween, MeetsMeanMinBetween
 use Rattle.mdp_farkas.specs.Compare.{0ℚ}
 use Rattle.mdp_farkas.specs.Verdict.{Check, InWidth, at_choice, at_choices}
 use Rattle.mdp_farkas.specs.Reach.{choice_exists, other}
-use Rattle.mdp_farkas.specs.Spread.{is_better}
+use Rattle.mdp_rows.specs.Better.{is_better}
 use Rattle.mdp_rows.specs.declared.dir.Dir.{Dir}
 use Rattle.mdp_rows.specs.declared.dir.Dir.TheVariants.{Max, Min}
 use Rattle.mdp_bounds.specs.Sum.{stands, plain_add, told_sum}

@@ -1,23 +1,18 @@
 ghost use Rattle.std.specs.Prelude.{◌≡◌};
 ghost use Rattle.std.specs.Result.{result_ok};
 ghost use Rattle.mdp_math.specs.Written.{cmp_ℚ};
-ghost use Rattle.mdp_farkas.specs.Spread.{is_better};
+ghost use Rattle.mdp_rows.specs.Better.{is_better};
 ghost use Rattle.mdp_bounds.specs.Mean.{exact_best, exact_extreme, told_width, told_spread};
 
 use crate::sum::plain_sum;
 use mdp_num::{Frac, Wide};
 use mdp_rows::Dir;
-use std::cmp::Ordering;
 
 /// Whether a number is better than the best one: greater, or less.
 fn improves(dir: Dir, number: &Frac, best: &Frac) -> bool
     ensures { result ≡ is_better dir (cmp_ℚ number.now best.now) }
 {
-    let order = number.order(best);
-    match dir {
-        Dir::Max => order == Ordering::Greater,
-        Dir::Min => order == Ordering::Less,
-    }
+    dir.is_better(number.order(best))
 }
 
 /// The greatest, or the least, of a first number and these.

@@ -11,7 +11,7 @@ use Rattle.mdp_math.proofs.Extremes.{greatest-ge}
 use Rattle.mdp_spec.specs.Mdp.{value_at}
 use Rattle.mdp_spec.specs.Bounds.{finite_part}
 use Rattle.mdp_farkas.specs.Compare.{0ℚ}
-use Rattle.mdp_farkas.specs.Spread.{is_better}
+use Rattle.mdp_rows.specs.Better.{is_better}
 use Rattle.mdp_rows.specs.declared.dir.Dir.TheVariants.{Max}
 use Rattle.mdp_bounds.specs.Mean.{exact_best}
 use Rattle.mdp_bounds.proofs.Spreading.{greatest_exact}

@@ -1,6 +1,4 @@
 ghost use Rattle.std.specs.Prelude.{◌≡◌, map};
-ghost use Rattle.mdp_math.specs.Written.{cmp_ℚ};
-ghost use Rattle.mdp_farkas.specs.Spread.{is_better};
 ghost use Rattle.mdp_rows.specs.declared.dir.Dir.TheVariants.{Max};
 ghost use Rattle.mdp_spec.specs.Bounds.{finite_part};
 ghost use Rattle.mdp_bounds.specs.Mean.{exact_best};

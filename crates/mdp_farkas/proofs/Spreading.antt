@@ -15,7 +15,8 @@ use Rattle.mdp_math.proofs.Extremes.{least-le, least-ge, greatest-ge, greatest-l
 use Rattle.mdp_num.specs.Written.{written_sub}
 use Rattle.mdp_spec.specs.MeanRules.{width_of, spread_of}
 use Rattle.mdp_farkas.specs.Compare.{0ℚ}
-use Rattle.mdp_farkas.specs.Spread.{is_better, written_best, written_extreme, written_width, written_spread}
+use Rattle.mdp_rows.specs.Better.{is_better}
+use Rattle.mdp_farkas.specs.Spread.{written_best, written_extreme, written_width, written_spread}
 use Rattle.mdp_rows.specs.declared.dir.Dir.{Dir}
 use Rattle.mdp_rows.specs.declared.dir.Dir.TheVariants.{Max, Min}
 

@@ -1,22 +1,12 @@
 -- The spread of two lists of values, by written operations: the greater of their ranges.
-use Rattle.std.specs.Prelude.{Bool, true, false, List, [], ◌∷◌, Option, Some, if◌then◌else◌}
-use Rattle.std.specs.declared.cmp.Ordering.{Ordering}
-use Rattle.std.specs.declared.cmp.Ordering.TheVariants.{Less, Equal, Greater}
+use Rattle.std.specs.Prelude.{List, [], ◌∷◌, Option, Some, if◌then◌else◌}
 use Rattle.mdp_math.specs.Rational.{ℚ}
 use Rattle.mdp_math.specs.Written.{written_compare, ◌>>=◌}
 use Rattle.mdp_num.specs.Written.{written_sub}
 use Rattle.mdp_farkas.specs.Compare.{0ℚ}
 use Rattle.mdp_rows.specs.declared.dir.Dir.{Dir}
+use Rattle.mdp_rows.specs.Better.{is_better}
 use Rattle.mdp_rows.specs.declared.dir.Dir.TheVariants.{Max, Min}
-
--- whether a number that compares so with the best one is better
-abbrev pub is_better : Dir → Ordering → Bool
-is_better Max Less = false
-is_better Max Equal = false
-is_better Max Greater = true
-is_better Min Less = true
-is_better Min Equal = false
-is_better Min Greater = false
 
 -- the best of these, from a first one on: each is compared with the best before it
 abbrev pub written_best : Dir → ℚ → List ℚ → Option ℚ

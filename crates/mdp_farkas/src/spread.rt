@@ -1,20 +1,9 @@
-ghost use Rattle.std.specs.Prelude.{◌≡◌, [], ◌∷◌};
+ghost use Rattle.std.specs.Prelude.{◌≡◌};
 ghost use Rattle.std.specs.Result.{result_ok};
-ghost use Rattle.mdp_farkas.specs.Spread.{is_better, written_best, written_extreme, written_width, written_spread};
+ghost use Rattle.mdp_farkas.specs.Spread.{written_best, written_extreme, written_width, written_spread};
 
 use mdp_num::{Frac, Wide};
 use mdp_rows::Dir;
-use std::cmp::Ordering;
-
-/// Whether a number that compares so with the best one is better: greater, or less.
-fn improves(dir: Dir, order: Ordering) -> bool
-    ensures { result ≡ is_better dir order }
-{
-    match dir {
-        Dir::Max => order == Ordering::Greater,
-        Dir::Min => order == Ordering::Less,
-    }
-}
 
 /// The greatest, or the least, of a first number and these, each compared with the best before it. `Wide` where a written term is past
 /// width.
@@ -23,7 +12,7 @@ fn best_from(dir: Dir, first: &Frac, numbers: &[Frac]) -> Result<Frac, Wide>
 {
     let mut best = *first;
     for number in numbers {
-        if improves(dir, number.compare(&best)?) {
+        if dir.is_better(number.compare(&best)?) {
             best = *number;
         }
     }

@@ -1,9 +1,7 @@
--- What the errors of the code say of computations that are refused.
-use Rattle.std.proofs.Common.{◌≡◌, ℕ, zero, suc, ◌<◌, ◌≤◌, ◌⊎◌, inl, inr, List, length, Some, None, Result, Ok, Err, refl, sym, ◌∙◌, ap, subst, arith}
+-- Where the comparison of the choices of a state is refused.
+use Rattle.std.proofs.Common.{◌≡◌, ℕ, zero, suc, ◌<◌, ◌≤◌, ◌⊎◌, inl, inr, List, length, Some, None, Result, Ok, Err, sym, ◌∙◌, ap, arith}
 use Rattle.mdp_math.specs.Rational.{ℚ}
 use Rattle.mdp_math.specs.Result.{◌>>=◌}
-use Rattle.mdp_num.specs.declared.errors.Wide.{Wide}
-use Rattle.mdp_wide.specs.declared.too_wide.Kind.{Kind}
 use Rattle.mdp_policy_iteration.specs.Places.{Place, at_place}
 use Rattle.mdp_policy_iteration.specs.Candidates.{Best}
 use Rattle.std.specs.Prelude.{slice_index}
@@ -11,44 +9,6 @@ use Rattle.mdp_policy_iteration.specs.Path.{comparing, or_kept}
 use Rattle.mdp_unichain.specs.Component.{Component, choices_at, choice_at}
 use Rattle.mdp_unichain.specs.Sums.{compared}
 use Rattle.mdp_unichain.specs.Written.{then_compared, best_of, choice_over}
-use Rattle.mdp_gain.specs.Faults.{placed_at, Says, Answers}
-use Rattle.mdp_gain.specs.declared.errors.RoundError.{RoundError}
-use Rattle.mdp_gain.specs.declared.errors.RoundError.TheVariants as fault
-
--- an error of a step: its term is past width, and the error names the place
-pub record IsPlaced {A : Type 0} (kind : Kind) (s c : ℕ) (step : Result A Wide) (e : RoundError) : Type 0 where
-  pub cause : Wide
-  pub step_is : step ≡ Err cause
-  pub error_is : e ≡ fault.Wide kind s c
-
-pub placed-err : {A : Type 0} (kind : Kind) (s c : ℕ) (step : Result A Wide) (e : RoundError) → placed_at kind s c step ≡ Err e → IsPlaced kind s c step e
-placed-err kind s c (Ok x) e h = cc
-placed-err kind s c (Err w) e h = record { cause = w; step_is = refl; error_is = cc }
-
-pub placed-ok : {A : Type 0} (kind : Kind) (s c : ℕ) (step : Result A Wide) (x : A) → placed_at kind s c step ≡ Ok x → step ≡ Ok x
-placed-ok kind s c (Ok y) x h = cc
-placed-ok kind s c (Err w) x h = cc
-
--- a placed error says so
-pub says : {B : Type 0} (kind : Kind) (s c : ℕ) (e : RoundError) (r : Result B Place) → e ≡ fault.Wide kind s c → r ≡ Err (let w : Place = record { kind = kind; node = s; choice = c } in w)
-    → Says e r
-says kind s c e r q h = subst (λ (e : RoundError). Says e r) (sym q) h
-
--- what a computation is refused at, another one that begins with it is refused at
-pub Says-then : {A B : Type 0} (e : RoundError) (r : Result A Place) (q : Result B Place) → ((w : Place) → r ≡ Err w → q ≡ Err w) → Says e r → Says e q
-Says-then (fault.Wide kind s c) r q h k = h (record { kind = kind; node = s; choice = c }) k
-Says-then fault.Memory r q h k = tt
-
--- an error that is returned
-pub answers_err : {A B : Type 0} (f : A → B) (result : Result A RoundError) (e : RoundError) (r : Result B Place) → result ≡ Err e → Says e r → Answers f result r
-answers_err f result e r q h = subst (λ (x : Result _ RoundError). Answers f x r) (sym q) h
-
-pub says_of : {A B : Type 0} (f : A → B) (result : Result A RoundError) (e : RoundError) (r : Result B Place) → Answers f result r → result ≡ Err e → Says e r
-says_of f (Ok x) e r h q = cc
-says_of f (Err d) e r h q = let same : d ≡ e = cc in subst (λ (e : RoundError). Says e r) same h
-
-pub says_same : {B : Type 0} (d e : RoundError) (r : Result B Place) → d ≡ e → Says e r → Says d r
-says_same d e r q h = subst (λ (e : RoundError). Says e r) (sym q) h
 
 -- ---- the comparison at a node
 

@@ -6,10 +6,10 @@ use Rattle.mdp_unichain.specs.Improvement.{IsImproved}
 use Rattle.mdp_unichain.specs.Written.{Values, written_values, written_improved}
 use Rattle.mdp_unichain.proofs.Compares.{improves_exactly}
 use Rattle.mdp_gain.specs.Code as code
-use Rattle.mdp_gain.specs.Faults.{Says}
+use Rattle.mdp_policy_iteration.specs.Faults.{Says}
 use Rattle.mdp_gain.specs.Only.{IsOnly, policy_of, values_of, Makes}
-use Rattle.mdp_gain.specs.declared.errors.RoundError.{RoundError}
-use Rattle.mdp_gain.specs.declared.errors.RoundError.TheVariants as fault
+use Rattle.mdp_policy_iteration.specs.declared.errors.RoundError.{RoundError}
+use Rattle.mdp_policy_iteration.specs.declared.errors.RoundError.TheVariants as fault
 use Rattle.mdp_gain.specs.declared.only_round.Turn.{Turn}
 use Rattle.mdp_gain.specs.declared.only_round.Turn.TheVariants as turn
 use Rattle.mdp_gain.proofs.OnlyState.{policy-at, policy-is, only-reference, only-next, only-changed}

@@ -31,8 +31,8 @@ use Rattle.mdp_unichain.proofs.Parts.{member-below, part-state}
 use Rattle.mdp_unichain.proofs.Picking.{IsFirst}
 use Rattle.mdp_gain.specs.Only.{IsOnly, policy_of, values_of, Makes, Ends, IsErrorOf}
 use Rattle.mdp_gain.specs.Query.{Answer, answer_of, plain, EndsSo}
-use Rattle.mdp_gain.specs.declared.errors.RoundError.{RoundError}
-use Rattle.mdp_gain.specs.declared.errors.RoundError.TheVariants as fault
+use Rattle.mdp_policy_iteration.specs.declared.errors.RoundError.{RoundError}
+use Rattle.mdp_policy_iteration.specs.declared.errors.RoundError.TheVariants as fault
 use Rattle.mdp_gain.specs.declared.only_round.Settled.{Settled}
 use Rattle.mdp_gain.specs.declared.only_round.Turn.TheVariants as turn
 use Rattle.mdp_gain.proofs.Flagging.{find-or}

@@ -32,11 +32,11 @@ use Rattle.mdp_unichain.specs.Written.{rows_of, row_or_loop, active_of, columns_
 use Rattle.mdp_unichain.proofs.Chains.{same_number}
 use Rattle.mdp_unichain.proofs.Improving.{state-below}
 use Rattle.mdp_unichain.proofs.Reaching.{clash_test}
-use Rattle.mdp_gain.specs.Faults.{placed_at, Answers}
+use Rattle.mdp_policy_iteration.specs.Faults.{placed_at, Answers}
 use Rattle.mdp_gain.specs.Only.{IsOnly, policy_of, values_of, choice_over}
 use Rattle.mdp_gain.specs.OnlyTerms.{ratio_of}
-use Rattle.mdp_gain.specs.declared.errors.RoundError.{RoundError}
-use Rattle.mdp_gain.specs.declared.errors.RoundError.TheVariants as fault
+use Rattle.mdp_policy_iteration.specs.declared.errors.RoundError.{RoundError}
+use Rattle.mdp_policy_iteration.specs.declared.errors.RoundError.TheVariants as fault
 use Rattle.mdp_gain.proofs.OnlyColumns.{zeros, no-solution}
 use Rattle.mdp_gain.proofs.OnlySums.{zero-at, zeros-ratio, zeros-compared}
 use Rattle.mdp_gain.proofs.Told.{bias-zero}

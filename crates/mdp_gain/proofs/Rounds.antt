@@ -21,9 +21,9 @@ use Rattle.mdp_unichain.proofs.Ending.{better_left, next_by}
 use Rattle.mdp_unichain.proofs.Nexts.{exact_is_next}
 use Rattle.mdp_unichain.proofs.Paths.{Goes_on, evaluation_next, now, imp, after, keeps, some_changed}
 use Rattle.mdp_gain.specs.Code.{Makes, Ends, HasEntries, path_error}
-use Rattle.mdp_gain.specs.Faults.{Says}
-use Rattle.mdp_gain.specs.declared.errors.RoundError.{RoundError}
-use Rattle.mdp_gain.specs.declared.errors.RoundError.TheVariants as fault
+use Rattle.mdp_policy_iteration.specs.Faults.{Says}
+use Rattle.mdp_policy_iteration.specs.declared.errors.RoundError.{RoundError}
+use Rattle.mdp_policy_iteration.specs.declared.errors.RoundError.TheVariants as fault
 use Rattle.mdp_gain.specs.declared.round.RoundEnd.{RoundEnd}
 
 -- ---- one round

@@ -16,7 +16,7 @@ use Rattle.mdp_unichain.specs.Component.{Component, is_state}
 use Rattle.mdp_unichain.specs.Evaluation.{active, mean}
 use Rattle.mdp_unichain.specs.Sums.{written_bias}
 use Rattle.mdp_unichain.specs.Written.{bias_of}
-use Rattle.mdp_gain.specs.Faults.{placed_at, Answers}
+use Rattle.mdp_policy_iteration.specs.Faults.{placed_at, Answers}
 
 -- a sum from 1 that is at least 1 isn't 0
 pub not_zero : (z : List ℚ) (row : List Entry) (v : ℚ) → 1ℚ ≤ℚ 1ℚ +ℚ mean row (value_at z) → written_sum z 1ℚ row ≡ Some v → v ≡ 0ℚ → ⊥

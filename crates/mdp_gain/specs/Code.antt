@@ -6,7 +6,6 @@ use Rattle.mdp_graph.specs.Sets.{marked}
 use Rattle.mdp_ends.specs.Ends.{count_of}
 use Rattle.mdp_parts.specs.FoundEnds.{AreEndsOf}
 use Rattle.mdp_policy_iteration.specs.Iteration.{next, done, refused}
-use Rattle.mdp_policy_iteration.specs.Candidates.{Best}
 use Rattle.mdp_policy_iteration.specs.Laws.{first}
 use Rattle.mdp_policy_iteration.specs.Ends.{capped}
 use Rattle.mdp_policy_iteration.specs.declared.solution.PathError.{PathError}
@@ -18,10 +17,9 @@ use Rattle.mdp_unichain.specs.Path as path
 use Rattle.mdp_gain.specs.Query.{Answer, answer_of, inner_component}
 use Rattle.mdp_gain.specs.declared.component.EndComponent.{EndComponent}
 use Rattle.mdp_gain.specs.declared.evaluation.Values.{Values}
-use Rattle.mdp_gain.specs.declared.comparison.Leader.{Leader}
 use Rattle.mdp_gain.specs.declared.best_policy.Found.{Found}
-use Rattle.mdp_gain.specs.declared.errors.RoundError.{RoundError}
-use Rattle.mdp_gain.specs.declared.errors.RoundError.TheVariants as fault
+use Rattle.mdp_policy_iteration.specs.declared.errors.RoundError.{RoundError}
+use Rattle.mdp_policy_iteration.specs.declared.errors.RoundError.TheVariants as fault
 use Rattle.mdp_gain.specs.declared.round.RoundEnd.{RoundEnd}
 use Rattle.mdp_gain.specs.declared.round.RoundEnd.TheVariants as end
 
@@ -32,10 +30,6 @@ component_in p = inner_component p.dir p.model.now p.ends.now.parts p.number p.n
 -- the gain and the biases, as the code holds them
 abbrev pub values_in : Values → written.Values
 values_in v = record { gain = v.gain; bias = v.bias.items }
-
--- the best value so far, as the code holds it
-abbrev pub shown : Leader → Best
-shown leader = record { value = leader.value; choice = leader.choice }
 
 -- one list at the marked states, another at the others
 abbrev pub joined : List Bool → List ℕ → List ℕ → List ℕ

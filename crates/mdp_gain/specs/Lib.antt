@@ -2,7 +2,6 @@ pub mod Query
 pub mod Best
 pub mod Improvement
 pub mod Laws
-pub mod Faults
 pub mod Classes
 pub mod Code
 pub mod OnlyTerms

@@ -1,14 +1,12 @@
-ghost use Rattle.std.specs.Prelude.{◌≡◌};
 ghost use Rattle.mdp_unichain.specs.Path.{IsStart};
-ghost use Rattle.mdp_gain.specs.Code.{IsGiven, component_in, path_error, Ends, HasEntries};
+ghost use Rattle.mdp_gain.specs.Code.{IsGiven, component_in, Ends, HasEntries};
 
 use crate::classes::reference;
 use crate::component::EndComponent;
-use crate::errors::RoundError;
 use crate::evaluation::Values;
 use crate::round::{RoundEnd, round_of};
 use mdp_elim::solution_law;
-use mdp_policy_iteration::{PathError, WideAt};
+use mdp_policy_iteration::{PathError, path_error};
 use std::alloc::Global;
 
 /// The last policy of the path, with its gain and biases.
@@ -16,26 +14,6 @@ use std::alloc::Global;
 pub(crate) struct Found {
     pub(crate) policy: Vec<u32>,
     pub(crate) values: Values,
-}
-
-/// The error of a round, with the round and its policy.
-fn path_error(error: RoundError, round: u64, policy: Vec<u32>) -> PathError
-    ensures { result ≡ path_error error round policy }
-{
-    match error {
-        RoundError::Wide {
-            kind,
-            state,
-            choice,
-        } => PathError::TooWide(WideAt {
-            round,
-            policy,
-            kind,
-            node: state,
-            choice,
-        }),
-        RoundError::Memory => PathError::Memory,
-    }
 }
 
 /// Policy iteration from a start policy (Howard 1960): the last policy of the path, or the first term past width. A round above 2^64 - 1 is given as

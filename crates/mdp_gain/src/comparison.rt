@@ -1,67 +1,18 @@
 ghost use Rattle.std.specs.Prelude.{◌≡◌, ◌<◌, length, Some, None, IfOk, IfErr};
-ghost use Rattle.mdp_wide.specs.declared.too_wide.Kind.TheVariants.{Compare};
-ghost use Rattle.mdp_policy_iteration.specs.Candidates.{is_better, judged};
+ghost use Rattle.mdp_policy_iteration.specs.Candidates.{judged};
 ghost use Rattle.mdp_policy_iteration.specs.Path.{or_kept};
 ghost use Rattle.mdp_unichain.specs.Component.{count, choices_at, choice_at, IsPolicy};
 ghost use Rattle.mdp_unichain.specs.Sums.{compared};
 ghost use Rattle.mdp_unichain.specs.Written.{choice_over, improved_choice, improved_at, written_improved};
-ghost use Rattle.mdp_gain.specs.Code.{IsGiven, component_in, values_in, shown};
-ghost use Rattle.mdp_gain.specs.Faults.{placed_at, Answers};
+ghost use Rattle.mdp_gain.specs.Code.{IsGiven, component_in, values_in};
+ghost use Rattle.mdp_policy_iteration.specs.Code.{shown};
+ghost use Rattle.mdp_policy_iteration.specs.Faults.{Answers};
 
 use crate::component::EndComponent;
-use crate::errors::RoundError;
 use crate::evaluation::Values;
 use mdp_num::{Frac, Wide};
-use mdp_rows::Dir;
-use mdp_wide::Kind;
+use mdp_policy_iteration::{Leader, RoundError, at_choice, judged};
 use std::alloc::Global;
-use std::cmp::Ordering;
-
-/// Greater for the greatest gain, less for the least one.
-fn is_better(dir: Dir, order: Ordering) -> bool
-    ensures { result ≡ is_better dir order }
-{
-    match dir {
-        Dir::Max => order == Ordering::Greater,
-        Dir::Min => order == Ordering::Less,
-    }
-}
-
-/// A step at choice `c` of state `s`.
-pub(crate) fn at_choice<T>(step: Result<T, Wide>, s: u32, c: u32) -> Result<T, RoundError>
-    ensures { result ≡ placed_at Compare s c step }
-{
-    match step {
-        Ok(value) => Ok(value),
-        Err(Wide) => Err(RoundError::Wide {
-            kind: Kind::Compare,
-            state: s,
-            choice: c,
-        }),
-    }
-}
-
-/// The best value at a state so far, and the choice that has it where it isn't the policy's own.
-#[derive(Clone, Copy)]
-pub(crate) struct Leader {
-    pub(crate) value: Frac,
-    pub(crate) choice: Option<u32>,
-}
-
-/// The leader after choice `c`, which is worth `sum`, has been compared with it.
-pub(crate) fn judged(dir: Dir, c: u32, sum: Frac, best: Leader) -> Result<Leader, Wide>
-    ensures value { IfOk result (λ next. judged dir c (shown best) sum ≡ Some (shown next)) }
-    ensures wide { IfErr result (λ _. judged dir c (shown best) sum ≡ None) }
-{
-    let order = sum.compare(&best.value)?;
-    if is_better(dir, order) {
-        return Ok(Leader {
-            value: sum,
-            choice: Some(c),
-        });
-    }
-    Ok(best)
-}
 
 /// The leader after choice `c` of state `s` has been compared with it.
 fn compared(
@@ -82,7 +33,7 @@ fn compared(
         return Ok(best);
     }
     let sum = component.row(s, c).sum(&component.reward(s, c), bias)?;
-    judged(component.dir, c, sum, best)
+    judged(component.dir, c, best, sum)
 }
 
 /// The choice that is taken, or the policy's own.

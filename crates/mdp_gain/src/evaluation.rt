@@ -1,4 +1,4 @@
-ghost use Rattle.std.specs.Prelude.{◌≡◌, ◌<◌, length, map, slice_index, pos, IfOk};
+ghost use Rattle.std.specs.Prelude.{◌≡◌, ◌<◌, length, map, pos, IfOk};
 ghost use Rattle.std.specs.Result.{result_ok};
 ghost use Rattle.std.specs.List.{All};
 ghost use Rattle.mdp_math.specs.Rational.{of_int, ◌+ℚ◌, ◌≤ℚ◌};
@@ -10,12 +10,12 @@ ghost use Rattle.mdp_unichain.specs.Evaluation.{active, mean};
 ghost use Rattle.mdp_unichain.specs.Sums.{written_ratio, written_bias};
 ghost use Rattle.mdp_unichain.specs.Written.{active_of, rewards_of, ones_of, written_columns, bias_of, written_bias_list, written_values};
 ghost use Rattle.mdp_gain.specs.Code.{IsGiven, component_in, values_in};
-ghost use Rattle.mdp_gain.specs.Faults.{placed_at, Answers};
+ghost use Rattle.mdp_policy_iteration.specs.Faults.{Answers};
 
 use crate::component::EndComponent;
-use crate::errors::RoundError;
 use mdp_elim::{ElimError, solution_law, solve_leaving};
 use mdp_num::{Frac, Wide};
+use mdp_policy_iteration::{RoundError, at_node};
 use mdp_rows::{Marks, PolicyRows};
 use mdp_wide::Kind;
 use std::alloc::{AllocError, Global};
@@ -109,7 +109,7 @@ fn columns(
         Ok(solutions) => Ok(solutions),
         Err(ElimError::Wide { state }) => Err(RoundError::Wide {
             kind: Kind::Evaluate,
-            state,
+            node: state,
             choice: policy[state as usize],
         }),
         Err(ElimError::Memory) => Err(RoundError::Memory),
@@ -148,21 +148,6 @@ fn bias(gain: &Frac, x: &Frac, y: &Frac) -> Result<Frac, Wide>
     x.sub(&paid)
 }
 
-/// A step for state `s`.
-fn at_state<T>(step: Result<T, Wide>, policy: &[u32], s: u32) -> Result<T, RoundError>
-    requires { s < length policy.now }
-    ensures { result ≡ placed_at Evaluate s (slice_index policy.now s) step }
-{
-    match step {
-        Ok(value) => Ok(value),
-        Err(Wide) => Err(RoundError::Wide {
-            kind: Kind::Evaluate,
-            state: s,
-            choice: policy[s as usize],
-        }),
-    }
-}
-
 /// The bias of state `s` to a gain: 0 at `t` and outside the component.
 fn bias_at(
     component: &EndComponent<'_, '_>,
@@ -183,7 +168,7 @@ fn bias_at(
     if !is_active(component, t, s) {
         return Ok(Frac::whole(0));
     }
-    at_state(bias(gain, &x[s as usize], &y[s as usize]), policy, s)
+    at_node(bias(gain, &x[s as usize], &y[s as usize]), policy, s)
 }
 
 /// The biases to a gain.
@@ -227,7 +212,7 @@ pub(crate) fn evaluate(
     solution_law();
     let columns = columns(alloc, component, policy, t)?;
     let (x, y) = (&columns[0], &columns[1]);
-    let gain = at_state(ratio(component, policy, t, x, y), policy, t)?;
+    let gain = at_node(ratio(component, policy, t, x, y), policy, t)?;
     let bias = biases(alloc, component, policy, t, &gain, x, y)?;
     Ok(Values { gain, bias })
 }

@@ -6,7 +6,6 @@ mod best_policy;
 mod classes;
 mod comparison;
 mod component;
-mod errors;
 mod evaluation;
 mod inner;
 mod laws;

@@ -1,13 +1,11 @@
-ghost use Rattle.std.specs.Prelude.{◌≡◌};
 ghost use Rattle.mdp_unichain.specs.Component.{IsInner};
 ghost use Rattle.mdp_gain.specs.Code.{IsGiven, component_in};
 ghost use Rattle.mdp_gain.specs.Only.{IsOnly, IsErrorOf, Ends};
 
 use crate::component::EndComponent;
-use crate::errors::RoundError;
 use crate::only_round::{Settled, Turn, round_of};
 use mdp_elim::solution_law;
-use mdp_policy_iteration::{PathError, WideAt};
+use mdp_policy_iteration::{PathError, RoundError, WideAt};
 use std::alloc::Global;
 
 /// The error of a round, with the round and its choice.
@@ -16,7 +14,7 @@ fn path_error(alloc: Global, error: RoundError, round: u64, choice: u32) -> Path
 {
     let RoundError::Wide {
         kind,
-        state,
+        node,
         choice: wide,
     } = error
     else {
@@ -27,7 +25,7 @@ fn path_error(alloc: Global, error: RoundError, round: u64, choice: u32) -> Path
             round,
             policy,
             kind,
-            node: state,
+            node,
             choice: wide,
         }),
         Err(_) => PathError::Memory,

@@ -6,16 +6,17 @@ ghost use Rattle.mdp_wide.specs.declared.too_wide.Kind.TheVariants.{Evaluate};
 ghost use Rattle.mdp_unichain.specs.Component.{count, choices_at, choice_at, IsInner};
 ghost use Rattle.mdp_unichain.specs.Sums.{compared};
 ghost use Rattle.mdp_unichain.specs.Written.{written_values, written_improved};
-ghost use Rattle.mdp_gain.specs.Code.{IsGiven, component_in, shown};
-ghost use Rattle.mdp_gain.specs.Faults.{placed_at, Answers};
+ghost use Rattle.mdp_gain.specs.Code.{IsGiven, component_in};
+ghost use Rattle.mdp_policy_iteration.specs.Code.{shown};
+ghost use Rattle.mdp_policy_iteration.specs.Faults.{placed_at, Answers};
 ghost use Rattle.mdp_gain.specs.Only.{IsOnly, policy_of, values_of, choice_over, Makes};
 ghost use Rattle.mdp_gain.specs.OnlyTerms.{plus_zero, ratio_of};
 
-use crate::comparison::{Leader, at_choice, judged, or_kept};
+use crate::comparison::or_kept;
 use crate::component::EndComponent;
-use crate::errors::RoundError;
 use mdp_elim::solution_law;
 use mdp_num::{Frac, Wide};
+use mdp_policy_iteration::{Leader, RoundError, at_choice, judged};
 use mdp_rows::Row;
 use mdp_wide::Kind;
 
@@ -75,7 +76,7 @@ fn at_evaluation(step: Result<Frac, Wide>, s: u32, c: u32) -> Result<Frac, Round
         Ok(value) => Ok(value),
         Err(Wide) => Err(RoundError::Wide {
             kind: Kind::Evaluate,
-            state: s,
+            node: s,
             choice: c,
         }),
     }
@@ -104,7 +105,7 @@ fn compared(component: &EndComponent<'_, '_>, s: u32, c: u32, best: Leader) -> R
         return Ok(best);
     }
     let sum = zero_sum(component.row(s, c), &component.reward(s, c))?;
-    judged(component.dir, c, sum, best)
+    judged(component.dir, c, best, sum)
 }
 
 /// The choice of state `s` that is best where it is better than `present`, or the one that it has.

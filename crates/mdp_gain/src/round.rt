@@ -6,10 +6,10 @@ ghost use Rattle.mdp_gain.specs.Code.{IsGiven, component_in, Makes, HasBiases};
 
 use crate::comparison::improved;
 use crate::component::EndComponent;
-use crate::errors::RoundError;
 use crate::evaluation::{Values, evaluate};
 use crate::next_policy::next_policy;
 use mdp_elim::solution_law;
+use mdp_policy_iteration::RoundError;
 use std::alloc::Global;
 
 /// What a round makes.

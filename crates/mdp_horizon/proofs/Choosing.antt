@@ -11,7 +11,8 @@ use Rattle.mdp_spec.specs.Mdp.{Mdp, choices_at, row_at}
 use Rattle.mdp_rows.specs.declared.dir.Dir.{Dir}
 use Rattle.mdp_farkas.proofs.Summing.{written_sum-some}
 use Rattle.mdp_horizon.specs.Objective.{Objective, earns}
-use Rattle.mdp_horizon.specs.Choices.{Best, best, is_better, judged, sum_of_choice, compared}
+use Rattle.mdp_rows.specs.Better.{is_better}
+use Rattle.mdp_horizon.specs.Choices.{Best, best, judged, sum_of_choice, compared}
 use Rattle.mdp_horizon.specs.Written.{Place, at_place, in_turn, first_choice, next_choice, best_choice}
 use Rattle.mdp_horizon.proofs.Directions.{NoBetter, no_better_of_eq, no_better_trans, better_of_test, worse_of_test}
 use Rattle.mdp_horizon.proofs.Halves.{backed_up}

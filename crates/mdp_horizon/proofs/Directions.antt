@@ -16,7 +16,7 @@ use Rattle.mdp_spec.proofs.Rows.{row_weigh, nonneg_at}
 use Rattle.mdp_spec.proofs.Steps.{average}
 use Rattle.mdp_rows.specs.declared.dir.Dir.{Dir}
 use Rattle.mdp_rows.specs.declared.dir.Dir.TheVariants.{Max, Min}
-use Rattle.mdp_horizon.specs.Choices.{is_better}
+use Rattle.mdp_rows.specs.Better.{is_better}
 
 -- x is no better than y
 abbrev pub NoBetter : Dir → ℚ → ℚ → Type 0

@@ -1,13 +1,11 @@
 -- The sums of a state's choices, made and compared by written arithmetic.
-use Rattle.std.specs.Prelude.{ℕ, Bool, true, false, List, Option, Some, if◌then◌else◌}
-use Rattle.std.specs.declared.cmp.Ordering.{Ordering}
-use Rattle.std.specs.declared.cmp.Ordering.TheVariants.{Less, Equal, Greater}
+use Rattle.std.specs.Prelude.{ℕ, List, Option, Some, if◌then◌else◌}
 use Rattle.mdp_math.specs.Rational.{ℚ}
 use Rattle.mdp_math.specs.Written.{written_compare, ◌>>=◌}
 use Rattle.mdp_spec.specs.Mdp.{Mdp, row_at}
 use Rattle.mdp_spec.specs.Written.{written_sum}
 use Rattle.mdp_rows.specs.declared.dir.Dir.{Dir}
-use Rattle.mdp_rows.specs.declared.dir.Dir.TheVariants.{Max, Min}
+use Rattle.mdp_rows.specs.Better.{is_better}
 use Rattle.mdp_horizon.specs.Objective.{Objective, earns}
 
 -- the value of a state, and the choice that has it
@@ -17,15 +15,6 @@ pub record Best : Type 0 where
 
 abbrev pub best : ℚ → ℕ → Best
 best value choice = record { value = value; choice = choice }
-
--- greater for Max, less for Min
-abbrev pub is_better : Dir → Ordering → Bool
-is_better Max Less = false
-is_better Max Equal = false
-is_better Max Greater = true
-is_better Min Less = true
-is_better Min Equal = false
-is_better Min Greater = false
 
 -- the sum of choice c takes the place of the best one where it is strictly better
 abbrev pub judged : Dir → ℕ → Best → ℚ → Option Best

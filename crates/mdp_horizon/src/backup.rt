@@ -1,7 +1,7 @@
-ghost use Rattle.std.specs.Prelude.{◌≡◌, ◌<◌, ◌+◌, length, Some, None, IfOk, IfErr};
+ghost use Rattle.std.specs.Prelude.{◌≡◌, ◌<◌, length, Some, None, IfOk, IfErr};
 ghost use Rattle.mdp_spec.specs.Mdp.{states_of, choices_at};
 ghost use Rattle.mdp_horizon.specs.Objective.{stops, ending, earns};
-ghost use Rattle.mdp_horizon.specs.Choices.{is_better, judged, sum_of_choice, compared};
+ghost use Rattle.mdp_horizon.specs.Choices.{judged, sum_of_choice, compared};
 ghost use Rattle.mdp_horizon.specs.Written.{best_choice, backup, backups, endings};
 ghost use Rattle.mdp_horizon.specs.Code.{plain_objective, IsObjectiveOf, IsObjectiveOf-prop};
 ghost use Rattle.mdp_horizon.specs.Answer.{Answers, placed, shown, row_of};
@@ -11,7 +11,6 @@ use crate::objective::Objective;
 use mdp_num::{Frac, Wide};
 use mdp_rows::{Dir, Model};
 use std::alloc::{AllocError, Global};
-use std::cmp::Ordering;
 
 /// An objective on a model, and whether its greatest or its least values are wanted.
 #[derive(Clone, Copy)]
@@ -36,23 +35,13 @@ pub(crate) struct Backups {
     pub choices: Vec<u32>,
 }
 
-/// Greater for the greatest values, less for the least ones.
-fn is_better(dir: Dir, order: Ordering) -> bool
-    ensures { result ≡ is_better dir order }
-{
-    match dir {
-        Dir::Max => order == Ordering::Greater,
-        Dir::Min => order == Ordering::Less,
-    }
-}
-
 /// The leader after the sum of choice `c` has been compared with it.
 fn judged(dir: Dir, c: u32, leader: Leader, sum: Frac) -> Result<Leader, Wide>
     ensures value { IfOk result (λ next. judged dir c (shown leader) sum ≡ Some (shown next)) }
     ensures wide { IfErr result (λ _. judged dir c (shown leader) sum ≡ None) }
 {
     let order = sum.compare(&leader.value)?;
-    if is_better(dir, order) {
+    if dir.is_better(order) {
         return Ok(Leader {
             value: sum,
             choice: c,

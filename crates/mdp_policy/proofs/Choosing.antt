@@ -15,7 +15,8 @@ use Rattle.mdp_spec.specs.Row.{row_sum}
 use Rattle.mdp_spec.specs.Tree.{is_marked}
 use Rattle.mdp_rows.specs.declared.dir.Dir.{Dir}
 use Rattle.mdp_rows.specs.declared.dir.Dir.TheVariants.{Max, Min}
-use Rattle.mdp_policy_iteration.specs.Candidates.{is_better, Best, judged}
+use Rattle.mdp_rows.specs.Better.{is_better}
+use Rattle.mdp_policy_iteration.specs.Candidates.{Best, judged}
 use Rattle.mdp_policy_iteration.specs.Path.{comparing}
 use Rattle.mdp_policy_iteration.specs.Places.{Place}
 use Rattle.mdp_policy_iteration.proofs.Results.{ok_same, ok_part, place_part}

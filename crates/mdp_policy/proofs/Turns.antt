@@ -1,15 +1,12 @@
 -- Computations that go on in turn until one is refused, and what the code answers of them.
-use Rattle.std.proofs.Common.{◌≡◌, ℕ, zero, suc, ◌<◌, ◌≤◌, inl, inr, Result, Ok, Err, refl, sym, ◌∙◌, ap, subst, arith}
+use Rattle.std.proofs.Common.{◌≡◌, ℕ, zero, suc, ◌<◌, ◌≤◌, inl, inr, Result, Ok, Err, sym, ◌∙◌, ap, subst, arith}
 use Rattle.mdp_math.specs.Result.{◌>>=◌}
 use Rattle.mdp_math.proofs.Numbers.{last_or}
-use Rattle.mdp_num.specs.declared.errors.Wide.{Wide}
-use Rattle.mdp_wide.specs.declared.too_wide.Kind.{Kind}
 use Rattle.mdp_policy_iteration.specs.Places.{Place}
 use Rattle.mdp_policy_iteration.proofs.Results.{ok_same, ok_part}
 use Rattle.mdp_policy.specs.Written.{in_turn}
-use Rattle.mdp_policy.specs.Answer.{Says, Answers, placed_at}
-use Rattle.mdp_policy.specs.declared.error.PlaceError.{PlaceError}
-use Rattle.mdp_policy.specs.declared.error.PlaceError.TheVariants as error
+use Rattle.mdp_policy_iteration.specs.Faults.{Answers}
+use Rattle.mdp_policy_iteration.specs.declared.errors.RoundError.{RoundError}
 
 module _ {A R : Type 0} (f : ℕ → A → Result A R) (start : A) where
   -- one more
@@ -42,44 +39,9 @@ module _ {A R : Type 0} (f : ℕ → A → Result A R) (start : A) where
 
 -- ---- errors
 
--- an error of a step: its term is past width, and the error names the place
-pub record IsPlaced {A : Type 0} (kind : Kind) (s c : ℕ) (step : Result A Wide) (e : PlaceError) : Type 0 where
-  pub cause : Wide
-  pub step_is : step ≡ Err cause
-  pub error_is : e ≡ error.Wide kind s c
+pub answers_ok : {A B : Type 0} (f : A → B) (result : Result A RoundError) (x : A) (r : Result B Place) → result ≡ Ok x → r ≡ Ok (f x) → Answers f result r
+answers_ok f result x r q h = subst (λ (y : Result _ RoundError). Answers f y r) (sym q) h
 
-pub placed-err : {A : Type 0} (kind : Kind) (s c : ℕ) (step : Result A Wide) (e : PlaceError) → placed_at kind s c step ≡ Err e → IsPlaced kind s c step e
-placed-err kind s c (Ok x) e h = cc
-placed-err kind s c (Err w) e h = record { cause = w; step_is = refl; error_is = cc }
-
-pub placed-ok : {A : Type 0} (kind : Kind) (s c : ℕ) (step : Result A Wide) (x : A) → placed_at kind s c step ≡ Ok x → step ≡ Ok x
-placed-ok kind s c (Ok y) x h = cc
-placed-ok kind s c (Err w) x h = cc
-
--- a placed error says so
-pub says : {B : Type 0} (kind : Kind) (s c : ℕ) (e : PlaceError) (r : Result B Place) → e ≡ error.Wide kind s c
-    → r ≡ Err (let w : Place = record { kind = kind; node = s; choice = c } in w) → Says e r
-says kind s c e r q h = subst (λ (e : PlaceError). Says e r) (sym q) h
-
--- what a computation is refused at, another one that begins with it is refused at
-pub says_then : {A B : Type 0} (e : PlaceError) (r : Result A Place) (q : Result B Place) → ((w : Place) → r ≡ Err w → q ≡ Err w) → Says e r → Says e q
-says_then (error.Wide kind s c) r q h k = h (record { kind = kind; node = s; choice = c }) k
-says_then error.Memory r q h k = tt
-
--- an error that is returned
-pub answers_err : {A B : Type 0} (f : A → B) (result : Result A PlaceError) (e : PlaceError) (r : Result B Place) → result ≡ Err e → Says e r → Answers f result r
-answers_err f result e r q h = subst (λ (x : Result _ PlaceError). Answers f x r) (sym q) h
-
-pub answers_ok : {A B : Type 0} (f : A → B) (result : Result A PlaceError) (x : A) (r : Result B Place) → result ≡ Ok x → r ≡ Ok (f x) → Answers f result r
-answers_ok f result x r q h = subst (λ (y : Result _ PlaceError). Answers f y r) (sym q) h
-
-pub ok_of : {A B : Type 0} (f : A → B) (result : Result A PlaceError) (x : A) (r : Result B Place) → Answers f result r → result ≡ Ok x → r ≡ Ok (f x)
+pub ok_of : {A B : Type 0} (f : A → B) (result : Result A RoundError) (x : A) (r : Result B Place) → Answers f result r → result ≡ Ok x → r ≡ Ok (f x)
 ok_of f (Ok y) x r h q = let same : y ≡ x = cc in subst (λ (y : _). r ≡ Ok (f y)) same h
 ok_of f (Err e) x r h q = cc
-
-pub says_of : {A B : Type 0} (f : A → B) (result : Result A PlaceError) (e : PlaceError) (r : Result B Place) → Answers f result r → result ≡ Err e → Says e r
-says_of f (Ok x) e r h q = cc
-says_of f (Err d) e r h q = let same : d ≡ e = cc in subst (λ (e : PlaceError). Says e r) same h
-
-pub says_same : {B : Type 0} (d e : PlaceError) (r : Result B Place) → d ≡ e → Says e r → Says d r
-says_same d e r q h = subst (λ (e : PlaceError). Says e r) (sym q) h

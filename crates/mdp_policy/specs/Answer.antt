@@ -2,41 +2,18 @@
 use Rattle.std.specs.Prelude.{◌≡◌, ℕ, Bool, List, Some, Result, Ok, Err}
 use Rattle.mdp_spec.specs.Mdp.{Mdp, states_of}
 use Rattle.mdp_spec.specs.Tree.{is_marked}
-use Rattle.mdp_num.specs.declared.errors.Wide.{Wide}
-use Rattle.mdp_wide.specs.declared.too_wide.Kind.{Kind}
 use Rattle.mdp_wide.specs.declared.too_wide.Part.TheVariants.{Whole}
 use Rattle.mdp_wide.specs.declared.too_wide.TooWide.{TooWide}
 use Rattle.mdp_wide.specs.declared.too_wide.SolveError.{SolveError}
 use Rattle.mdp_wide.specs.declared.too_wide.SolveError.TheVariants as solve
 use Rattle.mdp_graph.specs.Layers.{AreReached}
 use Rattle.mdp_graph.specs.Reach.{row_step}
-use Rattle.mdp_policy_iteration.specs.Candidates.{Best}
 use Rattle.mdp_policy_iteration.specs.Places.{Place}
 use Rattle.mdp_reach.specs.Query.{policy_rows}
 use Rattle.mdp_policy.specs.Written.{Answer, written_value}
-use Rattle.mdp_policy.specs.declared.error.PlaceError.{PlaceError}
-use Rattle.mdp_policy.specs.declared.error.PlaceError.TheVariants as error
+use Rattle.mdp_policy_iteration.specs.declared.errors.RoundError.{RoundError}
+use Rattle.mdp_policy_iteration.specs.declared.errors.RoundError.TheVariants as error
 use Rattle.mdp_policy.specs.declared.value.PolicyValue.{PolicyValue}
-use Rattle.mdp_policy.specs.declared.compare.Leader.{Leader}
-
--- an error says that a computation ends at its place; want of memory says nothing
-abbrev pub Says : {B : Type 0} → PlaceError → Result B Place → Type 0
-Says (error.Wide kind s c) r = r ≡ Err (record { kind = kind; node = s; choice = c })
-Says error.Memory r = Unit {0}
-
--- what the code answers to a computation: its value seen by f, its place, or want of memory
-abbrev pub Answers : {A B : Type 0} → (A → B) → Result A PlaceError → Result B Place → Type 0
-Answers f (Ok x) r = r ≡ Ok (f x)
-Answers f (Err e) r = Says e r
-
--- a step for a choice of a state
-abbrev pub placed_at : {A : Type 0} → Kind → ℕ → ℕ → Result A Wide → Result A PlaceError
-placed_at kind s c (Ok x) = Ok x
-placed_at kind s c (Err e) = Err (error.Wide kind s c)
-
--- the best value so far, as the code holds it
-abbrev pub shown : Leader → Best
-shown leader = record { value = leader.value; choice = leader.choice }
 
 abbrev pub plain : PolicyValue → Answer
 plain v = record { values = v.values.items; up = v.up; down = v.down }
@@ -66,7 +43,7 @@ Gives m goals policy (Err (solve.TooWide w)) = (place : Place) × IsTermAt polic
 Gives m goals policy (Err solve.Memory) = Unit {0}
 
 -- the error of a place as that of a query
-abbrev pub Named : List ℕ → PlaceError → SolveError → Type 0
+abbrev pub Named : List ℕ → RoundError → SolveError → Type 0
 Named policy (error.Wide kind s c) (solve.TooWide w) = IsTermAt policy (record { kind = kind; node = s; choice = c }) w
 Named policy (error.Wide kind s c) solve.Memory = Unit {0}
 Named policy error.Memory (solve.TooWide w) = ⊥

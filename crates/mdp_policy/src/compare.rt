@@ -1,17 +1,14 @@
 ghost use Rattle.std.specs.Prelude.{◌≡◌, ◌<◌, length, Some, None, IfOk, IfErr};
 ghost use Rattle.mdp_spec.specs.Mdp.{states_of, choices_at};
-ghost use Rattle.mdp_wide.specs.declared.too_wide.Kind.TheVariants.{Compare};
-ghost use Rattle.mdp_policy_iteration.specs.Candidates.{is_better, judged};
 ghost use Rattle.mdp_policy.specs.Choices.{sum_of_choice, compared};
 ghost use Rattle.mdp_policy.specs.Written.{taken_at, change_at, best_of, first_change};
-ghost use Rattle.mdp_policy.specs.Answer.{Answers, placed_at, shown};
+ghost use Rattle.mdp_policy_iteration.specs.Faults.{Answers};
+ghost use Rattle.mdp_policy_iteration.specs.Code.{shown};
 
-use crate::error::PlaceError;
 use crate::value::Change;
 use mdp_num::{Frac, Wide};
+use mdp_policy_iteration::{Leader, RoundError, at_choice, judged};
 use mdp_rows::{Dir, Marks, Model};
-use mdp_wide::Kind;
-use std::cmp::Ordering;
 
 /// The values of a policy, to be compared with what the choices of each state are worth.
 #[derive(Clone, Copy)]
@@ -22,52 +19,6 @@ pub(crate) struct Comparison<'m, 'v> {
     pub values: &'v [Frac],
     ghost goals_each: { length goals.now ≡ states_of model.now },
     ghost values_each: { length values.now ≡ states_of model.now },
-}
-
-/// The best value at a state so far, and the choice that has it where it isn't the state's own.
-#[derive(Clone, Copy)]
-pub(crate) struct Leader {
-    pub value: Frac,
-    pub choice: Option<u32>,
-}
-
-/// Greater for the greatest values, less for the least ones.
-fn is_better(dir: Dir, order: Ordering) -> bool
-    ensures { result ≡ is_better dir order }
-{
-    match dir {
-        Dir::Max => order == Ordering::Greater,
-        Dir::Min => order == Ordering::Less,
-    }
-}
-
-/// The leader after the sum of choice `c` has been compared with it.
-fn judged(dir: Dir, c: u32, leader: Leader, sum: Frac) -> Result<Leader, Wide>
-    ensures value { IfOk result (λ next. judged dir c (shown leader) sum ≡ Some (shown next)) }
-    ensures wide { IfErr result (λ _. judged dir c (shown leader) sum ≡ None) }
-{
-    let order = sum.compare(&leader.value)?;
-    if is_better(dir, order) {
-        return Ok(Leader {
-            value: sum,
-            choice: Some(c),
-        });
-    }
-    Ok(leader)
-}
-
-/// A step at choice `c` of state `s`.
-fn at_choice<T>(step: Result<T, Wide>, s: u32, c: u32) -> Result<T, PlaceError>
-    ensures { result ≡ placed_at Compare s c step }
-{
-    match step {
-        Ok(value) => Ok(value),
-        Err(Wide) => Err(PlaceError::Wide {
-            kind: Kind::Compare,
-            state: s,
-            choice: c,
-        }),
-    }
 }
 
 /// The change at state `s`, where a choice is taken there.
@@ -103,7 +54,7 @@ impl Comparison<'_, '_> {
     }
 
     /// The leader after all choices of state `s`, from the state's own value on.
-    fn best(self, s: u32) -> Result<Leader, PlaceError>
+    fn best(self, s: u32) -> Result<Leader, RoundError>
         requires { s < states_of self.model.now }
         ensures { Answers shown result (best_of self.entry.dir self.entry.model.now self.entry.values.now s (length (choices_at self.entry.model.now s))) }
     {
@@ -118,7 +69,7 @@ impl Comparison<'_, '_> {
     }
 
     /// The choice that is taken at state `s`, where it is no goal and one is.
-    fn taken(self, s: u32) -> Result<Option<u32>, PlaceError>
+    fn taken(self, s: u32) -> Result<Option<u32>, RoundError>
         requires { s < states_of self.model.now }
         ensures { Answers (λ choice. choice) result (taken_at self.entry.dir self.entry.model.now self.entry.goals.now self.entry.values.now s) }
     {
@@ -130,7 +81,7 @@ impl Comparison<'_, '_> {
     }
 
     /// The first state at which a choice is taken, and the choice.
-    pub(crate) fn first_change(self) -> Result<Option<Change>, PlaceError>
+    pub(crate) fn first_change(self) -> Result<Option<Change>, RoundError>
         ensures { Answers (λ change. change) result (first_change self.entry.dir self.entry.model.now self.entry.goals.now self.entry.values.now (states_of self.entry.model.now)) }
     {
         for s in 0..self.model.states() {

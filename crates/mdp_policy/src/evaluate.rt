@@ -1,22 +1,17 @@
-ghost use Rattle.std.specs.Prelude.{ℕ, List, [], ◌∷◌, ◌≡◌, ◌<◌, length, slice_index, map, Ok, IfOk};
+ghost use Rattle.std.specs.Prelude.{ℕ, List, [], ◌∷◌, ◌≡◌, ◌<◌, length, Ok, IfOk};
 ghost use Rattle.std.specs.Result.{result_ok};
-ghost use Rattle.std.specs.List.{All};
 ghost use Rattle.mdp_spec.specs.Mdp.{states_of};
-ghost use Rattle.mdp_spec.specs.Row.{entries};
-ghost use Rattle.mdp_spec.specs.Tree.{IsPolicy, is_marked};
-ghost use Rattle.mdp_spec.specs.Written.{written_sum};
+ghost use Rattle.mdp_spec.specs.Tree.{IsPolicy};
 ghost use Rattle.mdp_elim.specs.System.{Leaves};
 ghost use Rattle.mdp_wide.specs.declared.too_wide.Kind.TheVariants.{Evaluate};
-ghost use Rattle.mdp_policy_iteration.specs.Code.{plus_outer};
-ghost use Rattle.mdp_policy_iteration.specs.Path.{outer};
 ghost use Rattle.mdp_reach.specs.Query.{policy_rows};
 ghost use Rattle.mdp_policy.specs.Written.{is_under_way, under_way, goal_value, goal_values, constant_of, constants, value_by, values_by, eliminated, evaluated};
-ghost use Rattle.mdp_policy.specs.Answer.{Answers, placed_at};
+ghost use Rattle.mdp_policy_iteration.specs.Faults.{Answers};
 
-use crate::error::PlaceError;
 use mdp_elim::{ElimError, solve_leaving};
 use mdp_num::{Frac, Wide};
-use mdp_rows::{Marks, Model, PolicyRows, Row};
+use mdp_policy_iteration::{RoundError, at_node, outer_sum};
+use mdp_rows::{Marks, Model, PolicyRows};
 use mdp_wide::Kind;
 use std::alloc::{AllocError, Global};
 
@@ -30,53 +25,6 @@ pub(crate) struct Evaluation<'m, 'k> {
     ghost goals_each: { length goals.now ≡ states_of model.now },
     ghost marks_each: { length marks.now ≡ states_of model.now },
     ghost chosen: { IsPolicy model.now policy.now },
-}
-
-/// `sum`, and where the target isn't active its value times the probability.
-fn plus_outer(
-    sum: &Frac,
-    target: u32,
-    prob: &Frac,
-    active: &Marks,
-    values: &[Frac],
-) -> Result<Frac, Wide>
-    requires active { target < length active.now }
-    requires values { target < length values.now }
-    ensures { result_ok result ≡ plus_outer active.now values.now sum.now target prob.now }
-{
-    if active.at(target) {
-        return Ok(*sum);
-    }
-    let term = prob.mul(&values[target as usize])?;
-    sum.add(&term)
-}
-
-/// The sum over the entries to states that aren't active.
-fn outer_sum(row: Row<'_>, active: &Marks, start: &Frac, values: &[Frac]) -> Result<Frac, Wide>
-    requires active { All (λ t. t < length active.now) row.targets.now }
-    requires values { All (λ t. t < length values.now) row.targets.now }
-    ensures { result_ok result ≡ written_sum values.now start.now (outer active.now (entries row.entry.targets.now row.entry.probs.now)) }
-{
-    let mut sum = *start;
-    for i in 0..row.targets.len() {
-        sum = plus_outer(&sum, row.targets[i], &row.probs[i], active, values)?;
-    }
-    Ok(sum)
-}
-
-/// A step for state `s`.
-fn at_state<T>(step: Result<T, Wide>, policy: &[u32], s: u32) -> Result<T, PlaceError>
-    requires { s < length policy.now }
-    ensures { result ≡ placed_at Evaluate s (slice_index policy.now s) step }
-{
-    match step {
-        Ok(value) => Ok(value),
-        Err(Wide) => Err(PlaceError::Wide {
-            kind: Kind::Evaluate,
-            state: s,
-            choice: policy[s as usize],
-        }),
-    }
 }
 
 impl Evaluation<'_, '_> {
@@ -137,14 +85,14 @@ impl Evaluation<'_, '_> {
     }
 
     /// The constants of all states.
-    fn constants(self, alloc: Global, active: &Marks) -> Result<Vec<Frac>, PlaceError>
+    fn constants(self, alloc: Global, active: &Marks) -> Result<Vec<Frac>, RoundError>
         requires { active.now ≡ under_way self.model.now self.goals.now self.marks.now }
         ensures { Answers (λ constants. constants.items) result (constants self.entry.model.now self.entry.goals.now self.entry.marks.now self.entry.policy.now) }
     {
         let values = self.goal_values(alloc)?;
         let mut constants = Vec::new(alloc);
         for s in 0..self.model.states() {
-            let constant = at_state(self.constant_of(active, &values, s), self.policy, s)?;
+            let constant = at_node(self.constant_of(active, &values, s), self.policy, s)?;
             constants.push(constant)?;
         }
         Ok(constants)
@@ -181,7 +129,7 @@ impl Evaluation<'_, '_> {
         alloc: Global,
         active: &Marks,
         constants: Vec<Frac>,
-    ) -> Result<Vec<Frac>, PlaceError>
+    ) -> Result<Vec<Frac>, RoundError>
         requires leaves { (ranks : List ℕ) × Leaves (policy_rows self.model.now self.policy.now) active.now ranks }
         requires active { active.now ≡ under_way self.model.now self.goals.now self.marks.now }
         requires constants { length constants.items ≡ states_of self.model.now }
@@ -199,17 +147,17 @@ impl Evaluation<'_, '_> {
                 let mut solutions = solutions;
                 Ok(solutions.remove(0))
             }
-            Err(ElimError::Wide { state }) => Err(PlaceError::Wide {
+            Err(ElimError::Wide { state }) => Err(RoundError::Wide {
                 kind: Kind::Evaluate,
-                state,
+                node: state,
                 choice: self.policy[state as usize],
             }),
-            Err(ElimError::Memory) => Err(PlaceError::Memory),
+            Err(ElimError::Memory) => Err(RoundError::Memory),
         }
     }
 
     /// The values of the policy.
-    pub(crate) fn values(self, alloc: Global) -> Result<Vec<Frac>, PlaceError>
+    pub(crate) fn values(self, alloc: Global) -> Result<Vec<Frac>, RoundError>
         requires { (ranks : List ℕ) × Leaves (policy_rows self.model.now self.policy.now) (under_way self.model.now self.goals.now self.marks.now) ranks }
         ensures { Answers (λ values. values.items) result (evaluated self.entry.model.now self.entry.goals.now self.entry.marks.now self.entry.policy.now) }
     {

@@ -2,7 +2,6 @@
 #![tactic(auto)]
 
 mod compare;
-mod error;
 mod evaluate;
 mod laws;
 mod push;

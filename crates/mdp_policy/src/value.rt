@@ -6,14 +6,15 @@ ghost use Rattle.mdp_elim.specs.System.{Leaves};
 ghost use Rattle.mdp_reach.specs.Query.{policy_rows};
 ghost use Rattle.mdp_policy.specs.Bounds.{PolicyBound, SomeTreePasses, DeepTreesStayBelow};
 ghost use Rattle.mdp_policy.specs.Written.{under_way, written_value};
-ghost use Rattle.mdp_policy.specs.Answer.{Answers, Gives, plain, Named};
+ghost use Rattle.mdp_policy_iteration.specs.Faults.{Answers};
+ghost use Rattle.mdp_policy.specs.Answer.{Gives, plain, Named};
 
 use crate::compare::Comparison;
-use crate::error::PlaceError;
 use crate::evaluate::Evaluation;
 use mdp_elim::solution_law;
 use mdp_graph::{along, along_law};
 use mdp_num::Frac;
+use mdp_policy_iteration::RoundError;
 use mdp_rows::{Dir, Marks, Model, PolicyRows};
 use mdp_wide::{Part, SolveError, TooWide};
 use std::alloc::Global;
@@ -34,15 +35,10 @@ pub struct PolicyValue {
 }
 
 /// The error at its place, with the policy.
-fn named(alloc: Global, error: PlaceError, policy: &[u32]) -> SolveError
+fn named(alloc: Global, error: RoundError, policy: &[u32]) -> SolveError
     ensures { Named policy.now error result }
 {
-    let PlaceError::Wide {
-        kind,
-        state,
-        choice,
-    } = error
-    else {
+    let RoundError::Wide { kind, node, choice } = error else {
         return SolveError::Memory;
     };
     match policy.to_vec(alloc) {
@@ -51,7 +47,7 @@ fn named(alloc: Global, error: PlaceError, policy: &[u32]) -> SolveError
             round: 0,
             policy,
             kind,
-            state: Some(state),
+            state: Some(node),
             choice: Some(choice),
         }),
         Err(_) => SolveError::Memory,
@@ -59,7 +55,7 @@ fn named(alloc: Global, error: PlaceError, policy: &[u32]) -> SolveError
 }
 
 /// The values, and then the first changes.
-fn evaluated(alloc: Global, evaluation: Evaluation<'_, '_>) -> Result<PolicyValue, PlaceError>
+fn evaluated(alloc: Global, evaluation: Evaluation<'_, '_>) -> Result<PolicyValue, RoundError>
     requires { (ranks : List ℕ) × Leaves (policy_rows evaluation.model.now evaluation.policy.now) (under_way evaluation.model.now evaluation.goals.now evaluation.marks.now) ranks }
     ensures { Answers plain result (written_value evaluation.entry.model.now evaluation.entry.goals.now evaluation.entry.marks.now evaluation.entry.policy.now) }
 {

@@ -14,7 +14,8 @@ use Rattle.mdp_spec.specs.Mdp.{Entry, value_at}
 use Rattle.mdp_spec.specs.Row.{row_sum}
 use Rattle.mdp_spec.specs.Written.{written_sum}
 use Rattle.mdp_policy_iteration.specs.Problem.{Problem, Move, stop, go, Choice, count, choices_at, choice_at, worth, written_worth, IsProblem}
-use Rattle.mdp_policy_iteration.specs.Candidates.{is_better, Best, judged, compared}
+use Rattle.mdp_rows.specs.Better.{is_better}
+use Rattle.mdp_policy_iteration.specs.Candidates.{Best, judged, compared}
 use Rattle.mdp_policy_iteration.specs.Path.{comparing, then_compared, best_of, improvement, improvements}
 use Rattle.mdp_policy_iteration.proofs.Turned.{turn, better_of_test, worse_of_test}
 use Rattle.mdp_policy_iteration.proofs.Results.{ok_same, ok_part, place_part, IsUpTo, up_to-is}

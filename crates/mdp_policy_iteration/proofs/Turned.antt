@@ -14,7 +14,7 @@ use Rattle.mdp_spec.specs.Row.{row_sum}
 use Rattle.mdp_rows.specs.declared.dir.Dir.{Dir}
 use Rattle.mdp_rows.specs.declared.dir.Dir.TheVariants.{Max, Min}
 use Rattle.mdp_rows.specs.Better.{IsBetter, IsAsGood}
-use Rattle.mdp_policy_iteration.specs.Candidates.{is_better}
+use Rattle.mdp_rows.specs.Better.{is_better}
 
 abbrev pub turn : Dir → ℚ → ℚ
 turn Max x = x

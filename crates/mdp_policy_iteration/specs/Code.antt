@@ -9,7 +9,7 @@ use Rattle.std.proofs.Props.{props}
 use Rattle.mdp_policy_iteration.specs.Problem.{Problem, Node, given, decision, Move, count, move_by, fits_by, node_at, IsCandidate, IsPolicy}
 use Rattle.mdp_policy_iteration.specs.Candidates.{Best}
 use Rattle.mdp_policy_iteration.specs.Path.{fits}
-use Rattle.mdp_policy_iteration.specs.declared.comparison.Leader.{Leader}
+use Rattle.mdp_policy_iteration.specs.declared.leader.Leader.{Leader}
 
 -- the node has choice c, or its value is given
 abbrev pub CanTake : Node → ℕ → Type 0

@@ -1,7 +1,6 @@
 -- What a query ends with: an answer, or the first term past width in one of its parts.
-use Rattle.std.specs.Prelude.{◌≡◌, ℕ, List, Option, Some, Result, Ok, Err}
+use Rattle.std.specs.Prelude.{◌≡◌, ℕ, Option, Some, Result, Ok, Err}
 use Rattle.mdp_wide.specs.declared.too_wide.Part.{Part}
-use Rattle.mdp_wide.specs.declared.too_wide.Kind.{Kind}
 use Rattle.mdp_wide.specs.declared.too_wide.Kind.TheVariants.{Check}
 use Rattle.mdp_wide.specs.Term.{WideTerm, shown}
 use Rattle.mdp_wide.specs.declared.too_wide.SolveError.{SolveError}

@@ -1,51 +1,17 @@
-ghost use Rattle.std.specs.Prelude.{ℕ, ◌≡◌, ◌<◌, length, is_some, Some, None, IfOk, IfErr};
-ghost use Rattle.std.specs.Result.{result_ok};
+ghost use Rattle.std.specs.Prelude.{◌≡◌, ◌<◌, length, is_some, Some, None, IfOk, IfErr};
 ghost use Rattle.std.specs.List.{list_any};
 ghost use Rattle.mdp_policy_iteration.specs.Problem.{count, choices_at, choice_at};
-ghost use Rattle.mdp_policy_iteration.specs.Faults.{placed_at, Answers};
-ghost use Rattle.mdp_wide.specs.declared.too_wide.Kind.TheVariants.{Compare};
+ghost use Rattle.mdp_policy_iteration.specs.Faults.{Answers};
 ghost use Rattle.mdp_policy_iteration.specs.Code.{shown};
-ghost use Rattle.mdp_policy_iteration.specs.Candidates.{is_better, compared};
+ghost use Rattle.mdp_policy_iteration.specs.Candidates.{compared};
 ghost use Rattle.mdp_policy_iteration.specs.Path.{improvement, improvements, or_kept, improved};
 
 use crate::errors::RoundError;
+use crate::leader::{Leader, judged};
+use crate::placing::at_choice;
 use crate::shortest_path::ShortestPath;
 use mdp_num::{Frac, Wide};
-use mdp_rows::Dir;
-use mdp_wide::Kind;
 use std::alloc::{AllocError, Global};
-use std::cmp::Ordering;
-
-/// Greater for the greatest values, less for the least ones.
-fn is_better(dir: Dir, order: Ordering) -> bool
-    ensures { result ≡ is_better dir order }
-{
-    match dir {
-        Dir::Max => order == Ordering::Greater,
-        Dir::Min => order == Ordering::Less,
-    }
-}
-
-/// A step at choice `c` of node `s`.
-fn at_choice<T>(step: Result<T, Wide>, s: u32, c: u32) -> Result<T, RoundError>
-    ensures { result ≡ placed_at Compare s c step }
-{
-    match step {
-        Ok(value) => Ok(value),
-        Err(Wide) => Err(RoundError::Wide {
-            kind: Kind::Compare,
-            node: s,
-            choice: c,
-        }),
-    }
-}
-
-/// The best value at a node so far, and the choice that has it where it isn't the node's own.
-#[derive(Clone, Copy)]
-struct Leader {
-    value: Frac,
-    choice: Option<u32>,
-}
 
 /// The leader after choice `c` of node `s` has been compared with it.
 fn compared<P: ShortestPath>(
@@ -65,14 +31,7 @@ fn compared<P: ShortestPath>(
         return Ok(best);
     }
     let sum = problem.worth(s, c, values)?;
-    let order = sum.compare(&best.value)?;
-    if is_better(problem.dir(), order) {
-        return Ok(Leader {
-            value: sum,
-            choice: Some(c),
-        });
-    }
-    Ok(best)
+    judged(problem.dir(), c, best, sum)
 }
 
 /// The choice that improves node `s`, where there is one.

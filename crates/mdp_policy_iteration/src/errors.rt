@@ -2,10 +2,10 @@ use mdp_num::Memory;
 use mdp_wide::Kind;
 use std::alloc::{AllocError, AllocFailed};
 
-/// Why a round isn't finished.
+/// Why a computation over nodes, or over states, isn't finished.
 #[derive(Clone, Copy, Debug, PartialEq, Eq)]
-pub(crate) enum RoundError {
-    /// A term is past width: what was computed, and the node and the choice for which.
+pub enum RoundError {
+    /// A term is past width: what was computed, and the node or state and the choice for which.
     Wide { kind: Kind, node: u32, choice: u32 },
     /// Memory was refused.
     Memory,

@@ -1,24 +1,22 @@
-ghost use Rattle.std.specs.Prelude.{ℕ, List, [], ◌∷◌, ◌≡◌, ◌<◌, length, map, not, true, Ok, Err, IfOk, slice_index};
+ghost use Rattle.std.specs.Prelude.{[], ◌∷◌, ◌≡◌, ◌<◌, length, true, Ok, Err, IfOk};
 ghost use Rattle.std.specs.Result.{result_ok};
-ghost use Rattle.mdp_elim.specs.System.{is_active, Leaves};
 ghost use Rattle.mdp_wide.specs.declared.too_wide.Kind.TheVariants.{Evaluate};
-ghost use Rattle.mdp_policy_iteration.specs.Problem.{IsPolicy, count, taken, active_of, rows_of};
+ghost use Rattle.mdp_policy_iteration.specs.Problem.{IsPolicy, count, taken, active_of};
 ghost use Rattle.mdp_policy_iteration.specs.Values.{CanLeave};
-ghost use Rattle.mdp_policy_iteration.specs.Path.{evaluating, fits, stop_value, boundary, outer, constant_by, constant, eliminated, filled_by, filled, values_of_rows, written_values};
+ghost use Rattle.mdp_policy_iteration.specs.Path.{evaluating, fits, stop_value, boundary, constant_by, constant, eliminated, filled_by, filled, values_of_rows, written_values};
 ghost use Rattle.mdp_policy_iteration.specs.Places.{up_to, all_pass};
-ghost use Rattle.mdp_policy_iteration.specs.Faults.{placed_at, Answers};
-ghost use Rattle.mdp_spec.specs.Written.{written_sum};
-ghost use Rattle.mdp_spec.specs.Row.{entries};
-ghost use Rattle.mdp_policy_iteration.specs.Code.{RowsFit, plus_outer};
-ghost use Rattle.std.specs.List.{All, range_with_len};
+ghost use Rattle.mdp_policy_iteration.specs.Faults.{Answers};
+ghost use Rattle.mdp_policy_iteration.specs.Code.{RowsFit};
 
 use crate::errors::RoundError;
 use crate::loops::Loops;
+use crate::outer::outer_sum;
+use crate::placing::at_node;
 use crate::policy_chain::PolicyChain;
 use crate::shortest_path::ShortestPath;
 use mdp_elim::{ElimError, solve_leaving};
 use mdp_num::{Frac, Memory, Wide};
-use mdp_rows::{Marks, Row, RowsOf};
+use mdp_rows::Marks;
 use mdp_wide::Kind;
 use std::alloc::{AllocError, Global};
 
@@ -68,38 +66,6 @@ fn stop_values<P: ShortestPath>(
     Ok(values)
 }
 
-/// `sum`, and where the target isn't active its value times the probability.
-fn plus_outer(
-    sum: &Frac,
-    target: u32,
-    prob: &Frac,
-    active: &Marks,
-    values: &[Frac],
-) -> Result<Frac, Wide>
-    requires active { target < length active.now }
-    requires values { target < length values.now }
-    ensures { result_ok result ≡ plus_outer active.now values.now sum.now target prob.now }
-{
-    if active.at(target) {
-        return Ok(*sum);
-    }
-    let term = prob.mul(&values[target as usize])?;
-    sum.add(&term)
-}
-
-/// `start`, and for each entry to a node that isn't active its probability times the value of its target.
-fn outer_sum(row: Row<'_>, active: &Marks, start: &Frac, values: &[Frac]) -> Result<Frac, Wide>
-    requires active { All (λ t. t < length active.now) row.targets.now }
-    requires values { All (λ t. t < length values.now) row.targets.now }
-    ensures { result_ok result ≡ written_sum values.now start.now (outer active.now (entries row.entry.targets.now row.entry.probs.now)) }
-{
-    let mut sum = *start;
-    for i in 0..row.targets.len() {
-        sum = plus_outer(&sum, row.targets[i], &row.probs[i], active, values)?;
-    }
-    Ok(sum)
-}
-
 /// The constant of node `s`: what it earns, and the sum over its entries to nodes that stop.
 fn constant_at<P: ShortestPath>(
     problem: &P,
@@ -121,21 +87,6 @@ fn constant_at<P: ShortestPath>(
     }
     let amount = problem.amount(s, choice);
     outer_sum(problem.row(s, choice), active, &amount, values)
-}
-
-/// A step for node `s`.
-fn at_node<T>(step: Result<T, Wide>, policy: &[u32], s: u32) -> Result<T, RoundError>
-    requires { s < length policy.now }
-    ensures { result ≡ placed_at Evaluate s (slice_index policy.now s) step }
-{
-    match step {
-        Ok(value) => Ok(value),
-        Err(Wide) => Err(RoundError::Wide {
-            kind: Kind::Evaluate,
-            node: s,
-            choice: policy[s as usize],
-        }),
-    }
 }
 
 /// The constants of all nodes.

@@ -72,8 +72,8 @@ impl From<AllocError> for PathError {
     }
 }
 
-/// The error of a round, with the round and its policy.
-pub(crate) fn path_error(error: RoundError, round: u64, policy: Vec<u32>) -> PathError
+/// The error of a round as that of a path, with the number of the round and its policy.
+pub fn path_error(error: RoundError, round: u64, policy: Vec<u32>) -> PathError
     ensures { result ≡ path_error error round policy }
 {
     match error {

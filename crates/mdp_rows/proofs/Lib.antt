@@ -8,3 +8,4 @@ pub mod Queries
 pub mod NegativeRewards
 pub mod ReplayStates
 pub mod SoundCalls
+pub mod FoundNames

@@ -35,3 +35,4 @@ pub use preds::{Pred, Preds, preds_of};
 pub use row::Row;
 pub use rows_of::RowsOf;
 pub use rule::RowRule;
+pub use subsystem::{give_choice, give_labels, names_of, zeros_of};

@@ -17,8 +17,8 @@ use crate::rule::RowRule;
 use mdp_num::{Frac, Memory};
 use std::alloc::{AllocError, Global};
 
-/// The reward names once more.
-fn names_of(alloc: Global, model: &Model) -> Result<Vec<Vec<u8>>, AllocError>
+/// The reward names of a model once more, as a builder takes them.
+pub fn names_of(alloc: Global, model: &Model) -> Result<Vec<Vec<u8>>, AllocError>
     ensures { IfOk result (λ names. map (λ n. n.items) names.items ≡ model.now.names) }
 {
     let mut names = Vec::new(alloc);
@@ -28,8 +28,8 @@ fn names_of(alloc: Global, model: &Model) -> Result<Vec<Vec<u8>>, AllocError>
     Ok(names)
 }
 
-/// A reward of 0 for each name.
-fn zeros_of(alloc: Global, model: &Model) -> Result<Vec<Frac>, AllocError>
+/// A reward of 0 for each reward name of a model: what a state that is handed to a builder earns, where its choices have all of the reward.
+pub fn zeros_of(alloc: Global, model: &Model) -> Result<Vec<Frac>, AllocError>
     ensures { IfOk result (λ zeros. zeros.items ≡ no_rewards model.now.names) }
 {
     vec![in alloc; Frac::whole(0); model.names() as usize]
@@ -49,8 +49,8 @@ fn rewards_of(alloc: Global, model: &Model, s: u32, c: u32) -> Result<Vec<Frac>,
     Ok(rewards)
 }
 
-/// Gives the open state the labels of state `s`.
-fn give_labels(builder: &mut Builder, model: &Model, s: u32) -> Result<(), Memory>
+/// Gives the open state of a builder the labels of state `s` of a model. Each refusal is answered as want of memory.
+pub fn give_labels(builder: &mut Builder, model: &Model, s: u32) -> Result<(), Memory>
     requires state { s < states_of model.now }
     requires open { IsTrue (has_state builder.old) }
     ensures given { OnOk result (with_labels model.now.labels (state_at model.now s).labels builder.old ≡ Ok builder.new) }
@@ -87,8 +87,8 @@ fn give_entries(builder: &mut Builder, model: &Model, s: u32, c: u32) -> Result<
     Ok(())
 }
 
-/// Gives the open state choice `c` of state `s`.
-fn give_choice(
+/// Gives the open state of a builder choice `c` of state `s` of a model, with its rewards and its row. Each refusal is answered as want of memory.
+pub fn give_choice(
     alloc: Global,
     builder: &mut Builder,
     model: &Model,

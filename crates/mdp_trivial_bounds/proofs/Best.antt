@@ -10,7 +10,7 @@ use Rattle.mdp_spec.specs.Unit.{reward_of}
 use Rattle.mdp_rows.specs.Better.{IsAsGood}
 use Rattle.mdp_rows.specs.declared.dir.Dir.{Dir}
 use Rattle.mdp_rows.specs.declared.dir.Dir.TheVariants.{Max, Min}
-use Rattle.mdp_farkas.specs.Spread.{is_better}
+use Rattle.mdp_rows.specs.Better.{is_better}
 use Rattle.mdp_farkas.proofs.Spreading.{AsGood, as_good_same, taken}
 use Rattle.mdp_trivial_bounds.specs.Extent.{IsAsGoodAt, IsAsGoodBelow, IsEarned}
 

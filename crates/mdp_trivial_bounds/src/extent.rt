@@ -1,23 +1,18 @@
 ghost use Rattle.std.specs.Prelude.{◌≡◌, ◌<◌, ◌⊎◌, length};
 ghost use Rattle.mdp_math.specs.Written.{cmp_ℚ};
 ghost use Rattle.mdp_spec.specs.Mdp.{states_of, choices_at};
-ghost use Rattle.mdp_farkas.specs.Spread.{is_better};
+ghost use Rattle.mdp_rows.specs.Better.{is_better};
 ghost use Rattle.mdp_rows.specs.Better.{IsAsGood};
 ghost use Rattle.mdp_trivial_bounds.specs.Extent.{IsAsGoodAt, IsAsGoodBelow, IsEarned, IsExtreme};
 
 use mdp_num::Frac;
 use mdp_rows::{Dir, Model};
-use std::cmp::Ordering;
 
 /// Whether a number is better than the best one: greater, or for `Min` less.
 fn improves(dir: Dir, number: &Frac, best: &Frac) -> bool
     ensures { result ≡ is_better dir (cmp_ℚ number.now best.now) }
 {
-    let order = number.order(best);
-    match dir {
-        Dir::Max => order == Ordering::Greater,
-        Dir::Min => order == Ordering::Less,
-    }
+    dir.is_better(number.order(best))
 }
 
 /// The greater, or for `Min` the lesser, of two numbers.

@@ -13,7 +13,8 @@ use Rattle.mdp_spec.specs.Mdp.{value_at}
 use Rattle.mdp_unichain.specs.Component.{Component, Choice, count, choices_at, choice_at, is_state, IsInner, IsPolicy}
 use Rattle.mdp_unichain.specs.Improvement.{worth, IsBetterChoice, NoneBetterAt, IsImproved}
 use Rattle.mdp_policy_iteration.specs.Places.{Place}
-use Rattle.mdp_policy_iteration.specs.Candidates.{is_better, Best, judged}
+use Rattle.mdp_rows.specs.Better.{is_better}
+use Rattle.mdp_policy_iteration.specs.Candidates.{Best, judged}
 use Rattle.mdp_policy_iteration.specs.Path.{comparing, or_kept}
 use Rattle.mdp_unichain.specs.Sums.{written_worth, compared}
 use Rattle.mdp_unichain.specs.Written.{then_compared, best_of, Values, present_of, choice_over, improved_choice, improved_at}

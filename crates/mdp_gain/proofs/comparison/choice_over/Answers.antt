@@ -4,8 +4,10 @@ use Rattle.mdp_math.specs.Rational.{ℚ}
 use Rattle.mdp_unichain.specs.Component.{choice_at}
 use Rattle.mdp_unichain.specs.Sums.{compared}
 use Rattle.mdp_wide.specs.declared.too_wide.Kind.TheVariants.{Compare}
-use Rattle.mdp_gain.specs.Code.{component_in, shown}
-use Rattle.mdp_gain.proofs.Answering.{placed-err, says, answers_err, wide-over}
+use Rattle.mdp_gain.specs.Code.{component_in}
+use Rattle.mdp_policy_iteration.specs.Code.{shown}
+use Rattle.mdp_policy_iteration.proofs.Answering.{placed-err, says, answers_err}
+use Rattle.mdp_gain.proofs.Answering.{wide-over}
 use Rattle.mdp_gain.proofs.comparison.choice_over.Goals as goal
 
 pub returns-in_err-best : goal.returns-in_err-best

@@ -5,7 +5,7 @@ use Rattle.mdp_policy_iteration.proofs.Answering.{up_to-more, up_to-refused}
 use Rattle.mdp_unichain.specs.Component.{count}
 use Rattle.mdp_unichain.specs.Written.{improved_at}
 use Rattle.mdp_gain.specs.Code.{component_in, values_in}
-use Rattle.mdp_gain.proofs.Answering.{Says-then, says_of, says_same, answers_err}
+use Rattle.mdp_policy_iteration.proofs.Answering.{Says-then, says_of, says_same, answers_err}
 use Rattle.mdp_gain.proofs.comparison.improved.Goals as goal
 
 pub loop-s-preserved : goal.loop-s-preserved

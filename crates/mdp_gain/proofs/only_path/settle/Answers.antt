@@ -2,7 +2,7 @@ use Rattle.std.proofs.Common.{◌≡◌, ◌+◌, Ok, Err, Result, subst, arith,
 use Rattle.mdp_unichain.proofs.Parts.{part-component}
 use Rattle.mdp_gain.specs.Code.{component_in}
 use Rattle.mdp_gain.specs.Only.{Makes}
-use Rattle.mdp_gain.specs.declared.errors.RoundError.{RoundError}
+use Rattle.mdp_policy_iteration.specs.declared.errors.RoundError.{RoundError}
 use Rattle.mdp_gain.specs.declared.only_round.Turn.{Turn}
 use Rattle.mdp_gain.specs.declared.only_round.Turn.TheVariants as turn
 use Rattle.mdp_gain.proofs.OnlyPath.{next-inner, only-fewer, settled-ends, turned-on, error-ends}

@@ -6,7 +6,8 @@ use Rattle.mdp_policy_iteration.specs.Candidates.{Best}
 use Rattle.mdp_policy_iteration.specs.Path.{or_kept}
 use Rattle.mdp_policy_iteration.specs.Places.{Place}
 use Rattle.mdp_gain.specs.Code.{component_in}
-use Rattle.mdp_gain.proofs.Answering.{placed-err, says, answers_err, wide-from}
+use Rattle.mdp_policy_iteration.proofs.Answering.{placed-err, says, answers_err}
+use Rattle.mdp_gain.proofs.Answering.{wide-from}
 use Rattle.mdp_gain.proofs.only_round.choice_over.Goals as goal
 
 pub returns-in_err-best : goal.returns-in_err-best

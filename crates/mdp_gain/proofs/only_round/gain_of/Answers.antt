@@ -3,9 +3,9 @@ use Rattle.mdp_math.specs.Rational.{ℚ}
 use Rattle.mdp_unichain.specs.Written.{written_values}
 use Rattle.mdp_unichain.proofs.Improving.{state-below, inner-below}
 use Rattle.mdp_gain.specs.Code.{component_in}
-use Rattle.mdp_gain.specs.Faults.{Answers}
+use Rattle.mdp_policy_iteration.specs.Faults.{Answers}
 use Rattle.mdp_gain.specs.Only.{IsOnly, policy_of, values_of}
-use Rattle.mdp_gain.specs.declared.errors.RoundError.{RoundError}
+use Rattle.mdp_policy_iteration.specs.declared.errors.RoundError.{RoundError}
 use Rattle.mdp_gain.proofs.OnlyState.{gain-told}
 use Rattle.mdp_gain.proofs.only_round.gain_of.Goals as goal
 

@@ -11,7 +11,7 @@ use Rattle.mdp_policy_iteration.specs.Places.{at_place}
 use Rattle.mdp_unichain.proofs.Improving.{state-below}
 use Rattle.mdp_gain.specs.Code.{component_in}
 use Rattle.mdp_gain.specs.Only.{IsOnly, policy_of, choice_over}
-use Rattle.mdp_gain.proofs.Answering.{placed-err, placed-ok, says, answers_err}
+use Rattle.mdp_policy_iteration.proofs.Answering.{placed-err, placed-ok, says, answers_err}
 use Rattle.mdp_gain.proofs.OnlyState.{answers_mapped, improved-is}
 use Rattle.mdp_gain.proofs.only_round.improved.Goals as goal
 

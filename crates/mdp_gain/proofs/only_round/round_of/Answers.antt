@@ -2,7 +2,7 @@ use Rattle.std.proofs.lemmas.Result.{err_from_is_err_and}
 use Rattle.mdp_unichain.proofs.Parts.{part-component}
 use Rattle.mdp_gain.specs.Code.{component_in}
 use Rattle.mdp_gain.specs.Only.{values_of}
-use Rattle.mdp_gain.proofs.Answering.{says_of, says_same}
+use Rattle.mdp_policy_iteration.proofs.Answering.{says_of, says_same}
 use Rattle.mdp_gain.proofs.OnlyMakes.{makes-err, values-refused, improved-refused, turn-done, turn-next}
 use Rattle.mdp_gain.proofs.only_round.round_of.Goals as goal
 

@@ -3,7 +3,7 @@ use Rattle.std.proofs.lemmas.Result.{err_from_is_err_and}
 use Rattle.mdp_unichain.specs.Improvement.{IsImproved}
 use Rattle.mdp_unichain.proofs.Compares.{improves_exactly}
 use Rattle.mdp_gain.specs.Code.{component_in, values_in}
-use Rattle.mdp_gain.proofs.Answering.{says_of, says_same}
+use Rattle.mdp_policy_iteration.proofs.Answering.{says_of, says_same}
 use Rattle.mdp_gain.proofs.Rounds.{values_refused, improved_refused, makes_err, round_done, round_next}
 use Rattle.mdp_gain.proofs.round.round_of.Goals as goal
 

@@ -5,8 +5,9 @@ use Rattle.mdp_wide.specs.declared.too_wide.Kind.TheVariants.{Compare}
 use Rattle.mdp_policy_iteration.specs.Path.{comparing}
 use Rattle.mdp_policy_iteration.specs.Places.{at_place}
 use Rattle.mdp_policy.specs.Written.{next_choice, own}
-use Rattle.mdp_policy.specs.Answer.{shown}
-use Rattle.mdp_policy.proofs.Turns.{in_turn-refused, placed-err, says, answers_err}
+use Rattle.mdp_policy_iteration.specs.Code.{shown}
+use Rattle.mdp_policy_iteration.proofs.Answering.{placed-err, says, answers_err}
+use Rattle.mdp_policy.proofs.Turns.{in_turn-refused}
 use Rattle.mdp_policy.proofs.compare.Comparison.best.Goals as goal
 
 pub returns-in_err-leader : goal.returns-in_err-leader

@@ -1,6 +1,6 @@
 use Rattle.std.proofs.Common.{◌≡◌, Ok}
 use Rattle.mdp_policy.specs.Written.{best_of}
-use Rattle.mdp_policy.specs.Answer.{shown}
+use Rattle.mdp_policy_iteration.specs.Code.{shown}
 use Rattle.mdp_policy.proofs.compare.Comparison.best.Given as goal
 
 abbrev pub invariant-loop-c : goal.invariant-loop-c

@@ -2,7 +2,7 @@ use Rattle.std.proofs.Common.{◌≡◌, drop}
 use Rattle.mdp_spec.specs.Row.{entries}
 use Rattle.mdp_spec.specs.Written.{written_sum}
 use Rattle.mdp_policy_iteration.specs.Path.{outer}
-use Rattle.mdp_policy_iteration.proofs.evaluation.outer_sum.Given as goal
+use Rattle.mdp_policy_iteration.proofs.outer.outer_sum.Given as goal
 
 abbrev pub invariant-loop-i : goal.invariant-loop-i
 invariant-loop-i l =
