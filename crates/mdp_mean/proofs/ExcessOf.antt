@@ -18,7 +18,8 @@ use Rattle.mdp_ends.specs.Ends.{is_inside}
 use Rattle.mdp_ends.specs.Join.{IsAsGood, moved_by}
 use Rattle.mdp_policy_iteration.proofs.Results.{ok_same, ok_part, place_part, up_to-is}
 use Rattle.mdp_farkas.specs.Compare.{0ℚ}
-use Rattle.mdp_farkas.specs.Spread.{is_better, written_best}
+use Rattle.mdp_rows.specs.Better.{is_better}
+use Rattle.mdp_farkas.specs.Spread.{written_best}
 use Rattle.mdp_farkas.proofs.Summing.{written_sum-some}
 use Rattle.mdp_rows.specs.declared.dir.Dir.{Dir}
 use Rattle.mdp_rows.specs.declared.dir.Dir.TheVariants.{Max, Min}

@@ -1,8 +1,7 @@
 -- A query has one end at most.
-use Rattle.std.proofs.Common.{◌≡◌, inl, inr, ℕ, ◌<◌, List, length, map, get_or, Option, None, Result, Ok, Err, refl, sym, ap, ◌∙◌, subst, arith}
+use Rattle.std.proofs.Common.{◌≡◌, inl, inr, ℕ, ◌<◌, List, map, get_or, Option, None, Result, Ok, Err, sym, ap, ◌∙◌, subst, arith}
 use Rattle.std.specs.List.{range_with_len}
 use Rattle.std.specs.Prelude.{slice_index, slice_index_or}
-use Rattle.std.proofs.lemmas.List.FromFn.{fill_by_all}
 use Rattle.mdp_math.specs.Rational.{ℚ}
 use Rattle.mdp_math.proofs.Numbers.{le_or}
 use Rattle.mdp_spec.specs.Mdp.{Mdp, states_of, value_at}
@@ -25,15 +24,13 @@ use Rattle.mdp_quot_exits.specs.Laws.{StepsHaveOneEnd, OuterHasOneEnd}
 use Rattle.mdp_farkas.specs.Compare.{0ℚ}
 use Rattle.mdp_farkas.specs.declared.verdict.Verdict.{Verdict}
 use Rattle.mdp_farkas.specs.declared.verdict.Verdict.TheVariants.{Yes, No, Wide}
+use Rattle.mdp_graph.proofs.OnePass.{same_list}
 use Rattle.mdp_mean.specs.Terms.{Joining}
 use Rattle.mdp_mean.specs.Join.{Place, Joined, written_join}
 use Rattle.mdp_mean.specs.Inners.{Inners, AreAnswers, AreInners, IsRefused, InnersEndSo}
 use Rattle.mdp_mean.specs.Query as query
-use Rattle.mdp_mean.specs.Query.{Held, AfterJoin, JoinEndsSo, joining, AfterSteps, AfterOuter, AfterQuotient, AfterInners, EndsSo}
+use Rattle.mdp_mean.specs.Query.{Held, AfterJoin, joining, AfterSteps, AfterOuter, AfterQuotient, AfterInners, EndsSo}
 use Rattle.mdp_mean.specs.Laws.{HasReward}
-
-pub same_list : {A : Type 0} (n : ℕ) (xs ys : List A) (d : A) → length xs ≡ n → length ys ≡ n → ((s : ℕ) → s < n → slice_index_or xs s d ≡ slice_index_or ys s d) → xs ≡ ys
-same_list n xs ys d e f h = fill_by_all (λ s. slice_index_or ys s d) xs n d e h ∙ sym (fill_by_all (λ s. slice_index_or ys s d) ys n d f (λ s l. refl))
 
 pub ok_is : {A R : Type 0} (x y : A) → (let r : Result A R = Ok x in r) ≡ Ok y → x ≡ y
 ok_is x y e = cc

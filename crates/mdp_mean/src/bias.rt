@@ -1,14 +1,9 @@
 ghost use Rattle.std.specs.Prelude.{ℕ, List, [], ◌∷◌, ◌≡◌, ◌<◌, length, Some, IfOk, slice_index};
 ghost use Rattle.std.specs.Result.{result_ok};
-ghost use Rattle.std.specs.List.{All};
 ghost use Rattle.mdp_elim.specs.System.{is_active, Leaves};
 ghost use Rattle.mdp_wide.specs.declared.too_wide.Kind.TheVariants.{Evaluate};
-ghost use Rattle.mdp_policy_iteration.specs.Code.{plus_outer};
-ghost use Rattle.mdp_policy_iteration.specs.Path.{outer};
 ghost use Rattle.mdp_policy_iteration.specs.Places.{up_to};
 ghost use Rattle.mdp_spec.specs.Mdp.{states_of};
-ghost use Rattle.mdp_spec.specs.Row.{entries};
-ghost use Rattle.mdp_spec.specs.Written.{written_sum};
 ghost use Rattle.mdp_mean.specs.Code.{joining_in};
 ghost use Rattle.mdp_mean.specs.Faults.{placed_at, Answers};
 ghost use Rattle.mdp_mean.specs.Join.{constant, policy_rows, eliminated, filled_by, filled, written_bias};
@@ -18,41 +13,10 @@ use crate::errors::JoinError;
 use crate::joining::Joining;
 use mdp_elim::{ElimError, solve_leaving};
 use mdp_num::{Frac, Wide};
-use mdp_rows::{Marks, PolicyRows, Row};
+use mdp_policy_iteration::outer_sum;
+use mdp_rows::PolicyRows;
 use mdp_wide::Kind;
 use std::alloc::{AllocError, Global};
-
-/// `sum`, and where the target isn't active its value times the probability.
-fn plus_outer(
-    sum: &Frac,
-    target: u32,
-    prob: &Frac,
-    active: &Marks,
-    values: &[Frac],
-) -> Result<Frac, Wide>
-    requires active { target < length active.now }
-    requires values { target < length values.now }
-    ensures { result_ok result ≡ plus_outer active.now values.now sum.now target prob.now }
-{
-    if active.at(target) {
-        return Ok(*sum);
-    }
-    let term = prob.mul(&values[target as usize])?;
-    sum.add(&term)
-}
-
-/// `start`, and for each entry to a state that isn't active its probability times the value of its target.
-fn outer_sum(row: Row<'_>, active: &Marks, start: &Frac, values: &[Frac]) -> Result<Frac, Wide>
-    requires active { All (λ t. t < length active.now) row.targets.now }
-    requires values { All (λ t. t < length values.now) row.targets.now }
-    ensures { result_ok result ≡ written_sum values.now start.now (outer active.now (entries row.entry.targets.now row.entry.probs.now)) }
-{
-    let mut sum = *start;
-    for i in 0..row.targets.len() {
-        sum = plus_outer(&sum, row.targets[i], &row.probs[i], active, values)?;
-    }
-    Ok(sum)
-}
 
 /// The constant of the equation of state `s`: its reward less its gain, and the sum over its entries to states that aren't active.
 fn constant_at(join: &Joining<'_>, s: u32) -> Result<Frac, Wide>

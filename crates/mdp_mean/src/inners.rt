@@ -1,16 +1,16 @@
-ghost use Rattle.std.specs.Prelude.{ℕ, ◌≡◌, ◌<◌, true, length, slice_index, IfOk, IfSome, OnOk};
-ghost use Rattle.mdp_spec.specs.Mdp.{states_of, value_at};
-ghost use Rattle.mdp_ends.specs.Ends.{count_of, in_part};
+ghost use Rattle.std.specs.Prelude.{ℕ, ◌≡◌, ◌<◌, length, slice_index, IfOk, OnOk};
+ghost use Rattle.mdp_spec.specs.Mdp.{value_at};
 ghost use Rattle.mdp_parts.specs.FoundEnds.{AreEndsOf};
 ghost use Rattle.mdp_policy_iteration.specs.Queries.{Solves};
-ghost use Rattle.mdp_gain.specs.Best.{IsBestInner, entry_of};
-ghost use Rattle.mdp_gain.specs.Query.{plain, EndsSo};
+ghost use Rattle.mdp_gain.specs.Best.{entry_of};
+ghost use Rattle.mdp_gain.specs.Query.{plain};
 ghost use Rattle.mdp_mean.specs.Inners.{InnersEndSo};
 ghost use Rattle.mdp_mean.specs.Best.{AreBest};
 ghost use Rattle.mdp_mean.specs.PartsCode.{inners_in, IsEmpty, IsAdded};
 
-use mdp_gain::{Inner, solve_inner, solve_inner_of};
+use mdp_gain::Inner;
 use mdp_num::Frac;
+use mdp_part_model::{members_of, solve_alone};
 use mdp_parts::Ends;
 use mdp_rows::{Dir, Model};
 use mdp_wide::SolveError;
@@ -75,55 +75,7 @@ impl Inners {
     }
 }
 
-/// Whether state `s` is in end component `i`.
-fn is_in(ends: &Ends, i: u32, s: u32) -> bool
-    requires { s < length ends.now.parts }
-    ensures { result ≡ in_part ends.now.parts i s }
-{
-    match ends.of(s) {
-        Some(j) => j == i,
-        None => false,
-    }
-}
-
-/// The first state of end component `i` from `from` on.
-fn member_from(model: &Model, ends: &Ends, i: u32, from: u32) -> Option<u32>
-    requires { AreEndsOf model.now ends.now }
-    ensures { IfSome result (λ s. in_part ends.now.parts i s ≡ true) }
-{
-    for s in from..model.states() {
-        if is_in(ends, i, s) {
-            return Some(s);
-        }
-    }
-    None
-}
-
-/// The best gain of end component `i`, of which a state is given where one was found.
-fn solve_part(
-    alloc: Global,
-    model: &Model,
-    ends: &Ends,
-    i: u32,
-    member: Option<u32>,
-    m: u32,
-    dir: Dir,
-) -> Result<Inner, SolveError>
-    requires ends { AreEndsOf model.now ends.now }
-    requires part { i < count_of ends.now.parts }
-    requires member { IfSome member (λ s. in_part ends.now.parts i s ≡ true) }
-    requires name { m < length model.now.names }
-    ensures path { Solves plain (EndsSo dir model.now ends.now.parts i m) result }
-    ensures best { IfOk result (λ found. IsBestInner dir model.now ends.now.parts i m (plain found)) }
-{
-    match member {
-        Some(s) => solve_inner_of(alloc, model, ends, i, s, m, dir),
-        None => solve_inner(alloc, model, ends, i, m, dir),
-    }
-}
-
-/// The best gains of all end components, or the first written term past width. Components are numbered by their least states, so one pass over
-/// all states finds a member of each.
+/// The best gains of all end components, or the first written term past width. One pass over all states sorts them into their end components.
 pub(crate) fn all_inners(
     alloc: Global,
     model: &Model,
@@ -137,13 +89,11 @@ pub(crate) fn all_inners(
     ensures best { IfOk result (λ x. AreBest dir model.now ends.now.parts m (inners_in x)) }
 {
     model.known();
+    let members = members_of(alloc, model, ends)?;
     let mut inners = Inners::none(alloc, model.states())?;
-    let mut least = 0;
     for i in 0..ends.count() {
-        let member = member_from(model, ends, i, least);
-        let found = solve_part(alloc, model, ends, i, member, m, dir)?;
+        let found = solve_alone(alloc, model, ends, &members, i, m, dir)?;
         inners.add(&found)?;
-        least = member.unwrap_or(least);
     }
     Ok(inners)
 }
