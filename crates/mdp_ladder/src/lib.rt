@@ -7,5 +7,5 @@ mod proposed;
 mod simplest;
 
 pub use ladder::{Search, bounds_by};
-pub use proposed::{MOST_DIGITS, fraction, numbers};
+pub use proposed::{MOST_DIGITS, fraction, fractions, listed, numbers};
 pub use simplest::{all_capped, all_simplest_near, simplest_rewards, simplest_values};

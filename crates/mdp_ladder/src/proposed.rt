@@ -24,3 +24,30 @@ pub fn numbers(alloc: Global, states: u32, values: &[u32]) -> Result<Vec<u32>, A
         .map(|s| values.get(s as usize).copied().unwrap_or(u32::MAX))
         .collect(alloc)
 }
+
+/// The fractions of values in units of 1 over `one`, one for each state; 0 where there is none.
+pub fn fractions(
+    alloc: Global,
+    states: u32,
+    values: &[i128],
+    one: i128,
+) -> Result<Vec<Frac>, AllocError>
+    ensures each { IfOk result (λ list. length list.items ≡ states) }
+{
+    (0..states)
+        .map(|s| fraction(values.get(s as usize).copied().unwrap_or(0), one))
+        .collect(alloc)
+}
+
+/// A value for each state, or none: those given, and none where there is none.
+pub fn listed(
+    alloc: Global,
+    states: u32,
+    values: &[Option<Frac>],
+) -> Result<Vec<Option<Frac>>, AllocError>
+    ensures each { IfOk result (λ list. length list.items ≡ states) }
+{
+    (0..states)
+        .map(|s| values.get(s as usize).copied().unwrap_or(None))
+        .collect(alloc)
+}

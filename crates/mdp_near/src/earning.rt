@@ -1,4 +1,4 @@
-ghost use Rattle.std.specs.Prelude.{◌≡◌, ◌<◌, length};
+ghost use Rattle.std.specs.Prelude.{◌<◌, length};
 ghost use Rattle.mdp_spec.specs.Mdp.{states_of};
 
 use crate::choices::ChoiceFlags;

@@ -1,5 +1,5 @@
 //! Bounds of the probability to reach a goal, and of the expected reward until then, near to each other, proposed by searches. Nothing is promised of what
-//! they propose but its lengths: it is to be held against the rules of mdp_bounds.
+//! they propose: it is to be checked against the rules of mdp_bounds.
 #![tactic(auto)]
 
 mod backward;
@@ -17,5 +17,5 @@ pub use backward::Backward;
 pub use choices::ChoiceFlags;
 pub use ends::ends_inside;
 pub use policy::{Gathered, policy_of};
-pub use propose::near_reach;
-pub use reward::near_reward;
+pub use propose::{NearReach, near_reach};
+pub use reward::{NearReward, near_reward};

@@ -1,4 +1,4 @@
-ghost use Rattle.std.specs.Prelude.{◌≡◌, length, IfOk};
+ghost use Rattle.std.specs.Prelude.{◌≡◌, length};
 ghost use Rattle.mdp_spec.specs.Mdp.{states_of};
 
 use crate::backward::Backward;
@@ -7,9 +7,8 @@ use crate::ends::joined_parts;
 use crate::lists::flags_of;
 use crate::policy::{Gathered, policy_of};
 use crate::ranks::{max_ranks, min_ranks};
-use mdp_bounds::ReachBoundsCert;
-use mdp_ladder::{MOST_DIGITS, fraction, numbers};
-use mdp_num::{Frac, Memory};
+use mdp_ladder::MOST_DIGITS;
+use mdp_num::Memory;
 use mdp_refinement::{Bound, Nodes, Rows, Solution, Task, put, solve, value_at};
 use mdp_rows::{Dir, Marks, Model};
 use std::alloc::{AllocError, Global};
@@ -62,32 +61,20 @@ fn spread(
         .collect(alloc)
 }
 
-/// The fractions of values in units.
-fn fractions(
-    alloc: Global,
-    states: u32,
-    values: &[i128],
-    one: i128,
-) -> Result<Vec<Frac>, AllocError>
-    ensures { IfOk result (λ list. length list.items ≡ states) }
-{
-    (0..states)
-        .map(|s| fraction(values.get(s as usize).copied().unwrap_or(0), one))
-        .collect(alloc)
-}
-
 /// Whether each value is 0.
 fn are_zero(alloc: Global, values: &[i128]) -> Result<Vec<bool>, AllocError> {
     values.iter().map(|value| *value == 0).collect(alloc)
 }
 
-/// What the search came to: values in units, choices and ranks, for each state.
+/// Proposed bounds of probabilities: for each state a lower and an upper value in units of 1 over `one`, a choice and a rank. Nothing is promised of them, nor
+/// of how many there are.
 #[derive(Drop)]
-struct Outcome {
-    lower: Vec<i128>,
-    upper: Vec<i128>,
-    choices: Vec<u32>,
-    ranks: Vec<u32>,
+pub struct NearReach {
+    pub one: i128,
+    pub lower: Vec<i128>,
+    pub upper: Vec<i128>,
+    pub choices: Vec<u32>,
+    pub ranks: Vec<u32>,
 }
 
 /// The parts of a search.
@@ -190,7 +177,7 @@ impl Search<'_> {
     }
 
     /// Both bounds, a policy and ranks.
-    fn run(self, alloc: Global) -> Result<Outcome, Memory> {
+    fn run(self, alloc: Global) -> Result<NearReach, Memory> {
         let low = self.solve(alloc, Bound::Lower)?;
         let high = self.solve(alloc, Bound::Upper)?;
         let choices = match self.dir {
@@ -199,7 +186,8 @@ impl Search<'_> {
         };
         let upper = self.spread(alloc, &high)?;
         let (lower, ranks) = self.ranked(alloc, self.spread(alloc, &low)?, &choices)?;
-        Ok(Outcome {
+        Ok(NearReach {
+            one: self.rows.one(),
             lower,
             upper,
             choices,
@@ -219,12 +207,8 @@ pub fn near_reach(
     goals: &Marks,
     dir: Dir,
     digits: u32,
-) -> Result<ReachBoundsCert, Memory>
+) -> Result<NearReach, Memory>
     requires goals { length goals.now ≡ states_of model.now }
-    ensures lower { IfOk result (λ cert. length cert.lower.items ≡ states_of model.now) }
-    ensures upper { IfOk result (λ cert. length cert.upper.items ≡ states_of model.now) }
-    ensures choices { IfOk result (λ cert. length cert.choices.items ≡ states_of model.now) }
-    ensures ranks { IfOk result (λ cert. length cert.ranks.items ≡ states_of model.now) }
 {
     let states = model.states();
     let decided = decide(alloc, model, goals, dir)?;
@@ -243,11 +227,5 @@ pub fn near_reach(
         nodes: &nodes,
         rows: &rows,
     };
-    let outcome = search.run(alloc)?;
-    Ok(ReachBoundsCert {
-        lower: fractions(alloc, states, &outcome.lower, rows.one())?,
-        upper: fractions(alloc, states, &outcome.upper, rows.one())?,
-        choices: numbers(alloc, states, &outcome.choices)?,
-        ranks: numbers(alloc, states, &outcome.ranks)?,
-    })
+    search.run(alloc)
 }

@@ -8,7 +8,6 @@ use crate::ends::{ends_inside, no_parts};
 use crate::lists::flags_of;
 use crate::policy::{Gathered, policy_of};
 use crate::ranks::max_ranks;
-use mdp_bounds::RewardBoundsCert;
 use mdp_ladder::{MOST_DIGITS, fraction, numbers};
 use mdp_num::{Frac, Memory};
 use mdp_refinement::{
@@ -71,13 +70,14 @@ impl Attempt {
     }
 }
 
-/// What the search came to: values, choices and ranks, for each state.
+/// Proposed bounds of rewards: for each state a lower and an upper value, a choice and a rank. A lower value of none is infinite; an upper one of none bounds
+/// nothing. Nothing is promised of them, nor of how many there are.
 #[derive(Drop)]
-struct Outcome {
-    lower: Vec<Option<Frac>>,
-    upper: Vec<Option<Frac>>,
-    choices: Vec<u32>,
-    ranks: Vec<u32>,
+pub struct NearReward {
+    pub lower: Vec<Option<Frac>>,
+    pub upper: Vec<Option<Frac>>,
+    pub choices: Vec<u32>,
+    pub ranks: Vec<u32>,
 }
 
 /// The parts of a search. Open are the states of finite reward that are no goals.
@@ -138,19 +138,6 @@ fn greater_each(
         .iter()
         .zip(others)
         .map(|(a, b)| greater(*a, *b))
-        .collect(alloc)
-}
-
-/// A value for each state.
-fn listed(
-    alloc: Global,
-    states: u32,
-    values: &[Option<Frac>],
-) -> Result<Vec<Option<Frac>>, AllocError>
-    ensures { IfOk result (λ list. length list.items ≡ states) }
-{
-    (0..states)
-        .map(|s| values.get(s as usize).copied().unwrap_or(None))
         .collect(alloc)
 }
 
@@ -333,13 +320,13 @@ impl Search<'_, '_> {
 
 impl Search<'_, '_> {
     /// Bounds of the greatest rewards. No choice of an open state leads to a state of infinite reward, and no end component is among the open states.
-    fn greatest(self, alloc: Global) -> Result<Outcome, AllocError> {
+    fn greatest(self, alloc: Global) -> Result<NearReward, AllocError> {
         let parts = no_parts(alloc, self.earning.model)?;
         let first = self.first(alloc, &parts)?;
         let low = self.solve(alloc, &parts, &first, Bound::Lower)?;
         let high = self.solve(alloc, &parts, &first, Bound::Upper)?;
         let none = ChoiceFlags::empty(alloc);
-        Ok(Outcome {
+        Ok(NearReward {
             lower: self.spread(alloc, &low, &first)?,
             upper: self.spread(alloc, &high, &first)?,
             choices: self.policy(alloc, &low, &first, &none)?,
@@ -399,7 +386,7 @@ impl Search<'_, '_> {
     }
 
     /// Bounds of the least rewards. The states of an end component by choices of reward 0 share one value.
-    fn least(self, alloc: Global) -> Result<Outcome, AllocError> {
+    fn least(self, alloc: Global) -> Result<NearReward, AllocError> {
         let free = self.earning.choices_up_to(alloc, &Frac::whole(0))?;
         let parts = self.parts(alloc, self.earning.choices_up_to(alloc, &Frac::whole(0))?)?;
         let first = self.first(alloc, &parts)?;
@@ -408,7 +395,7 @@ impl Search<'_, '_> {
         let choices = self.policy(alloc, &high, &first, &free)?;
         if let Some(ranks) = self.ranks(alloc, &choices)? {
             let upper = self.spread(alloc, &high, &first)?;
-            return Ok(Outcome {
+            return Ok(NearReward {
                 lower,
                 upper,
                 choices,
@@ -417,7 +404,7 @@ impl Search<'_, '_> {
         }
         let choices = numbers(alloc, self.states(), self.start)?;
         let ranks = self.ranks(alloc, &choices)?;
-        Ok(Outcome {
+        Ok(NearReward {
             lower,
             upper: self.most(alloc)?,
             choices,
@@ -426,7 +413,7 @@ impl Search<'_, '_> {
     }
 
     /// Both bounds, a policy and ranks.
-    fn run(self, alloc: Global) -> Result<Outcome, AllocError> {
+    fn run(self, alloc: Global) -> Result<NearReward, AllocError> {
         match self.dir {
             Dir::Max => self.greatest(alloc),
             Dir::Min => self.least(alloc),
@@ -445,13 +432,9 @@ pub fn near_reward(
     goals: &Marks,
     dir: Dir,
     digits: u32,
-) -> Result<RewardBoundsCert, Memory>
+) -> Result<NearReward, Memory>
     requires name { name < length model.now.names }
     requires goals { length goals.now ≡ states_of model.now }
-    ensures lower { IfOk result (λ cert. length cert.lower.items ≡ states_of model.now) }
-    ensures upper { IfOk result (λ cert. length cert.upper.items ≡ states_of model.now) }
-    ensures choices { IfOk result (λ cert. length cert.choices.items ≡ states_of model.now) }
-    ensures ranks { IfOk result (λ cert. length cert.ranks.items ≡ states_of model.now) }
 {
     model.known();
     let states = model.states();
@@ -477,11 +460,6 @@ pub fn near_reward(
         start: &policy,
         known: &known,
     };
-    let outcome = search.run(alloc)?;
-    Ok(RewardBoundsCert {
-        lower: listed(alloc, states, &outcome.lower)?,
-        upper: listed(alloc, states, &outcome.upper)?,
-        choices: numbers(alloc, states, &outcome.choices)?,
-        ranks: numbers(alloc, states, &outcome.ranks)?,
-    })
+    let near = search.run(alloc)?;
+    Ok(near)
 }

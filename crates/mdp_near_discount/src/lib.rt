@@ -1,5 +1,5 @@
-//! Bounds of the best discounted rewards of a model, near to each other, proposed by a search. Nothing is promised of what it proposes but its lengths: it is
-//! to be held against the rules of bounds of discounted rewards.
+//! Bounds of the best discounted rewards of a model, near to each other, proposed by a search. Nothing is promised of what it proposes: it is to be
+//! checked against the rules of bounds of discounted rewards.
 #![tactic(auto)]
 
 mod extent;

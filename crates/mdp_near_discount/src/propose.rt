@@ -1,8 +1,8 @@
-ghost use Rattle.std.specs.Prelude.{◌≡◌, ◌<◌, length, IfOk};
+ghost use Rattle.std.specs.Prelude.{◌<◌, length};
 ghost use Rattle.mdp_spec.specs.Mdp.{states_of};
 
 use crate::extent::extent_of;
-use mdp_ladder::{MOST_DIGITS, fraction, numbers};
+use mdp_ladder::{MOST_DIGITS, fraction};
 use mdp_num::{Frac, Memory};
 use mdp_refinement::{
     Bound, Discount, Nodes, Rows, Scale, Solution, Task, digits_of, put, solve, value_at,
@@ -13,7 +13,8 @@ use std::alloc::{AllocError, Global};
 /// How many digits fewer are tried at a time.
 const FEWER_DIGITS: u32 = 3;
 
-/// Proposed bounds of discounted rewards: a lower value, an upper one and a choice for each state. Where there is no value nothing is claimed.
+/// Proposed bounds of discounted rewards: a lower value, an upper one and a choice for each state. Where there is no value nothing is claimed. Nothing is promised
+/// of them, nor of how many there are.
 #[derive(Drop)]
 pub struct NearDiscount {
     pub lower: Vec<Option<Frac>>,
@@ -115,9 +116,7 @@ impl Attempt {
     }
 
     /// The values of the states.
-    fn values(&self, alloc: Global, states: u32) -> Result<Vec<Option<Frac>>, AllocError>
-        ensures { IfOk result (λ list. length list.items ≡ states) }
-    {
+    fn values(&self, alloc: Global, states: u32) -> Result<Vec<Option<Frac>>, AllocError> {
         (0..states).map(|s| self.value_of(s)).collect(alloc)
     }
 
@@ -153,9 +152,6 @@ pub fn near_discount(
     digits: u32,
 ) -> Result<NearDiscount, Memory>
     requires name { name < length model.now.names }
-    ensures lower { IfOk result (λ near. length near.lower.items ≡ states_of model.now) }
-    ensures upper { IfOk result (λ near. length near.upper.items ≡ states_of model.now) }
-    ensures choices { IfOk result (λ near. length near.choices.items ≡ states_of model.now) }
 {
     model.known();
     let states = model.states();
@@ -182,6 +178,6 @@ pub fn near_discount(
     Ok(NearDiscount {
         lower: low.values(alloc, states)?,
         upper: high.values(alloc, states)?,
-        choices: numbers(alloc, states, &choices)?,
+        choices,
     })
 }

@@ -1,5 +1,5 @@
-//! Bounds of mean payoffs, near to each other, proposed by a search. Nothing is promised of what it proposes but its lengths: it is to be held against the
-//! rules of mdp_bounds.
+//! Bounds of mean payoffs, near to each other, proposed by a search. Nothing is promised of what it proposes: it is to be checked against the rules of
+//! mdp_bounds.
 #![tactic(auto)]
 
 mod leaving;
@@ -7,4 +7,4 @@ mod payoffs;
 mod propose;
 mod values;
 
-pub use propose::near_mean;
+pub use propose::{NearMean, near_mean};

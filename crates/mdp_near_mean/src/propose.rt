@@ -1,13 +1,9 @@
-ghost use Rattle.std.specs.Prelude.{◌≡◌, length, IfOk};
-ghost use Rattle.mdp_spec.specs.Mdp.{states_of};
-
 use crate::leaving::{leaving_rows, offset_rows};
 use crate::payoffs::Payoffs;
-use crate::values::{fractions, gain_in_unit, width};
-use mdp_bounds::MeanBoundsCert;
-use mdp_ladder::{MOST_DIGITS, fraction, numbers};
+use crate::values::{gain_in_unit, turn, width};
+use mdp_ladder::{MOST_DIGITS, fraction};
 use mdp_near::{Backward, ChoiceFlags, Gathered, ends_inside, policy_of};
-use mdp_num::Memory;
+use mdp_num::{Frac, Memory};
 use mdp_refinement::{
     Bound, Nodes, Rows, Scale, Solution, Task, WholeRow, end_gains, flag_at, number, number_at,
     power_of_ten, put, solve, value_at,
@@ -405,6 +401,52 @@ fn searched(alloc: Global, payoffs: Payoffs<'_>, digits: u32) -> Result<Outcome,
     search.run(alloc, upper, lower)
 }
 
+/// Proposed bounds of mean payoffs: for each state a lower and an upper gain, two relative values (the bound and the bias), all in units of 1 over `one`, and a
+/// choice; and the spread of the relative values. Nothing is promised of them, nor of how many there are.
+#[derive(Drop)]
+pub struct NearMean {
+    pub one: i128,
+    pub lower: Vec<i128>,
+    pub upper: Vec<i128>,
+    pub bound: Vec<i128>,
+    pub bias: Vec<i128>,
+    pub choices: Vec<u32>,
+    pub spread: Frac,
+}
+
+impl NearMean {
+    /// What a search for the greatest mean payoff came to, as one for this direction.
+    fn turned(found: Outcome, dir: Dir, one: i128) -> NearMean {
+        let spread = fraction(width(&found.bound).max(width(&found.bias)), one);
+        let Outcome {
+            lower,
+            upper,
+            bound,
+            bias,
+            choices,
+        } = found;
+        let (mut lower, mut upper) = match dir {
+            Dir::Max => (lower, upper),
+            Dir::Min => (upper, lower),
+        };
+        let mut bound = bound;
+        let mut bias = bias;
+        turn(&mut lower, dir);
+        turn(&mut upper, dir);
+        turn(&mut bound, dir);
+        turn(&mut bias, dir);
+        NearMean {
+            one,
+            lower,
+            upper,
+            bound,
+            bias,
+            choices,
+            spread,
+        }
+    }
+}
+
 /// Proposes bounds of the greatest or the least mean payoff of the reward name of place `name`, as multiples of 10 to the power of -`digits` where the
 /// rows allow it, with relative values and a policy.
 ///
@@ -416,28 +458,9 @@ pub fn near_mean(
     name: u32,
     dir: Dir,
     digits: u32,
-) -> Result<MeanBoundsCert, Memory>
-    ensures lower { IfOk result (λ cert. length cert.lower.items ≡ states_of model.now) }
-    ensures upper { IfOk result (λ cert. length cert.upper.items ≡ states_of model.now) }
-    ensures bound { IfOk result (λ cert. length cert.bound.items ≡ states_of model.now) }
-    ensures bias { IfOk result (λ cert. length cert.bias.items ≡ states_of model.now) }
-    ensures choices { IfOk result (λ cert. length cert.choices.items ≡ states_of model.now) }
-{
+) -> Result<NearMean, Memory> {
     model.known();
-    let states = model.states();
     let digits = digits.min(MOST_DIGITS);
-    let one = power_of_ten(digits);
     let found = searched(alloc, Payoffs { model, name, dir }, digits)?;
-    let (below, above) = match dir {
-        Dir::Max => (&found.lower, &found.upper),
-        Dir::Min => (&found.upper, &found.lower),
-    };
-    Ok(MeanBoundsCert {
-        lower: fractions(alloc, states, below, dir, one)?,
-        upper: fractions(alloc, states, above, dir, one)?,
-        bound: fractions(alloc, states, &found.bound, dir, one)?,
-        bias: fractions(alloc, states, &found.bias, dir, one)?,
-        choices: numbers(alloc, states, &found.choices)?,
-        spread: fraction(width(&found.bound).max(width(&found.bias)), one),
-    })
+    Ok(NearMean::turned(found, dir, power_of_ten(digits)))
 }

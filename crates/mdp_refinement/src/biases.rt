@@ -15,7 +15,7 @@ const SLOW: f64 = 0.75;
 const SLOWEST: f64 = 0.5;
 
 /// How corrections are found.
-#[derive(Clone, Copy, PartialEq, Eq)]
+#[derive(Clone, Copy)]
 enum Way {
     /// By few sweeps, if a forecast says that they come to an end, else by slower ones.
     FewSweeps,
@@ -53,8 +53,8 @@ impl<'a> Biases<'a> {
 
     /// The corrections.
     pub(crate) fn values(&self) -> &[f64] {
-        match &self.policies {
-            Some(policies) if self.way == Way::Policies => policies.values(),
+        match (&self.policies, self.way) {
+            (Some(policies), Way::Policies) => policies.values(),
             _ => self.sweeps.values(),
         }
     }
@@ -81,24 +81,32 @@ impl<'a> Biases<'a> {
         Ok(self.by_many_sweeps(gains))
     }
 
+    /// The gain that goes with corrections by slow sweeps, or by policies where these don't come to an end.
+    fn by_slow_sweeps(&mut self, alloc: Global, gains: &[f64]) -> Result<f64, AllocError> {
+        if self.sweeps.run(gains, FEW_SWEEPS) {
+            return Ok(self.sweeps.gain());
+        }
+        self.way = Way::Policies;
+        self.by_policies(alloc, gains)
+    }
+
+    /// The gain that goes with corrections by few sweeps, or by slow ones where these don't come to an end.
+    fn by_few_sweeps(&mut self, alloc: Global, gains: &[f64]) -> Result<f64, AllocError> {
+        if self.sweeps.run(gains, FEW_SWEEPS) {
+            return Ok(self.sweeps.gain());
+        }
+        self.sweeps.slow_down(SLOW);
+        self.way = Way::SlowSweeps;
+        self.by_slow_sweeps(alloc, gains)
+    }
+
     /// Finds the corrections that rows which earn this come to. Their gain.
     pub(crate) fn correct(&mut self, alloc: Global, gains: &[f64]) -> Result<f64, AllocError> {
-        if self.way == Way::ManySweeps {
-            return Ok(self.by_many_sweeps(gains));
+        match self.way {
+            Way::FewSweeps => self.by_few_sweeps(alloc, gains),
+            Way::SlowSweeps => self.by_slow_sweeps(alloc, gains),
+            Way::Policies => self.by_policies(alloc, gains),
+            Way::ManySweeps => Ok(self.by_many_sweeps(gains)),
         }
-        if self.way == Way::FewSweeps {
-            if self.sweeps.run(gains, FEW_SWEEPS) {
-                return Ok(self.sweeps.gain());
-            }
-            self.sweeps.slow_down(SLOW);
-            self.way = Way::SlowSweeps;
-        }
-        if self.way == Way::SlowSweeps {
-            if self.sweeps.run(gains, FEW_SWEEPS) {
-                return Ok(self.sweeps.gain());
-            }
-            self.way = Way::Policies;
-        }
-        self.by_policies(alloc, gains)
     }
 }

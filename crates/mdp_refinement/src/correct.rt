@@ -315,7 +315,7 @@ impl<'a> Corrector<'a> {
                 }
                 _ => self.evaluate(alloc, gains)?,
             }
-            if factored == Factored::Back || !self.improve(gains) {
+            if matches!(factored, Factored::Back) || !self.improve(gains) {
                 break;
             }
         }
@@ -342,7 +342,7 @@ impl<'a> Corrector<'a> {
 }
 
 /// How the factors of a policy came to be at hand.
-#[derive(Clone, Copy, PartialEq, Eq)]
+#[derive(Clone, Copy)]
 enum Factored {
     Same,
     New,

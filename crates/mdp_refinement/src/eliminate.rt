@@ -383,6 +383,38 @@ impl System {
     }
 }
 
+/// How the elimination of all nodes ends.
+#[derive(Clone, Copy)]
+enum End {
+    /// All have gone.
+    Done,
+    /// A node doesn't leave.
+    Improper,
+    /// There are too many products.
+    Dense,
+}
+
+impl System {
+    /// Eliminates all nodes, of which there are so many, and appends the steps.
+    fn eliminate_all(&mut self, nodes: usize, steps: &mut Vec<Step>) -> Result<End, AllocError> {
+        let mut products = 0usize;
+        for _ in 0..nodes {
+            let Some((node, more)) = self.next()? else {
+                break;
+            };
+            products = products.saturating_add(more);
+            if products > MOST_PRODUCTS {
+                return Ok(End::Dense);
+            }
+            match self.eliminate(node)? {
+                Some(step) => steps.push(step)?,
+                None => return Ok(End::Improper),
+            }
+        }
+        Ok(End::Done)
+    }
+}
+
 /// Eliminates all nodes: of each its row, whose entries are ordered by target, and what it gives to nodes outside.
 pub(crate) fn eliminated_rows(
     alloc: Global,
@@ -392,21 +424,11 @@ pub(crate) fn eliminated_rows(
     let nodes = rows.len();
     let mut system = System::new(alloc, rows, exits)?;
     let mut steps = Vec::new(alloc);
-    let mut products = 0usize;
-    for _ in 0..nodes {
-        let Some((node, more)) = system.next()? else {
-            break;
-        };
-        products = products.saturating_add(more);
-        if products > MOST_PRODUCTS {
-            return Ok(Elimination::Dense);
-        }
-        match system.eliminate(node)? {
-            Some(step) => steps.push(step)?,
-            None => return Ok(Elimination::Improper),
-        }
+    match system.eliminate_all(nodes, &mut steps)? {
+        End::Done => Ok(Elimination::Done(Factors { steps })),
+        End::Improper => Ok(Elimination::Improper),
+        End::Dense => Ok(Elimination::Dense),
     }
-    Ok(Elimination::Done(Factors { steps }))
 }
 
 /// Eliminates all nodes of a component under a policy.

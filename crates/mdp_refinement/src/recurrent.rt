@@ -68,6 +68,40 @@ impl Range {
     }
 }
 
+/// The nearest bounds of a gain so far, and the gain for which the bias is corrected next.
+#[derive(Clone, Copy)]
+struct Nearest {
+    range: Option<Range>,
+    width: i128,
+    gain: i128,
+}
+
+impl Nearest {
+    /// No bounds yet.
+    fn none() -> Nearest {
+        Nearest {
+            range: None,
+            width: i128::MAX,
+            gain: 0,
+        }
+    }
+
+    /// Takes in bounds. Whether they are nearer than those before.
+    fn take(&mut self, range: Range) -> bool {
+        let is_nearer = range.width() < self.width;
+        if is_nearer {
+            self.width = range.width();
+            self.range = Some(range);
+        }
+        is_nearer
+    }
+
+    /// Whether the bounds are near enough, or come no nearer from some round on.
+    fn is_enough(&self, is_nearer: bool, round: u32) -> bool {
+        self.width <= NEAR || !is_nearer && round >= LEAST_ROUNDS
+    }
+}
+
 /// What a row gains over the bias of its node, in units, and about how much that is over a gain.
 #[derive(Clone, Copy)]
 struct Gained {
@@ -235,6 +269,35 @@ impl Found {
         }
     }
 
+    /// Corrects a bias until the gains that it comes to are near to each other or come no nearer, and keeps that of the nearest ones.
+    fn refine(
+        &mut self,
+        alloc: Global,
+        refinement: Refinement<'_>,
+        biases: &mut Biases<'_>,
+        measured: &mut Measured,
+        bias: &mut [Option<i128>],
+    ) -> Result<Option<Range>, AllocError> {
+        let mut nearest = Nearest::none();
+        for round in 0..MOST_ROUNDS {
+            let Some(range) = refinement.measure(bias, nearest.gain, measured) else {
+                break;
+            };
+            let is_nearer = nearest.take(range);
+            if is_nearer {
+                self.keep(refinement.component, &measured.policy, bias);
+            }
+            if nearest.is_enough(is_nearer, round) {
+                break;
+            }
+            match refinement.correct(alloc, biases, measured, bias, nearest.gain)? {
+                Some(next) => nearest.gain = next,
+                None => break,
+            }
+        }
+        Ok(nearest.range)
+    }
+
     /// Refines a bias of the component and keeps that of the nearest gains that it comes to. These gains.
     fn solve(
         &mut self,
@@ -246,29 +309,7 @@ impl Found {
         let refinement = Refinement { rows, component };
         let mut biases = Biases::new(alloc, component)?;
         let mut measured = refinement.unmeasured(alloc)?;
-        let mut nearest = None;
-        let mut width = i128::MAX;
-        let mut gain = 0;
-        for round in 0..MOST_ROUNDS {
-            let Some(range) = refinement.measure(bias, gain, &mut measured) else {
-                break;
-            };
-            let is_nearer = range.width() < width;
-            if is_nearer {
-                width = range.width();
-                nearest = Some(range);
-                self.keep(component, &measured.policy, bias);
-            }
-            if width <= NEAR || !is_nearer && round >= LEAST_ROUNDS {
-                break;
-            }
-            let next = refinement.correct(alloc, &mut biases, &measured, bias, gain)?;
-            let Some(next) = next else {
-                break;
-            };
-            gain = next;
-        }
-        Ok(nearest)
+        self.refine(alloc, refinement, &mut biases, &mut measured, bias)
     }
 
     /// A gain of each node: that of its component.

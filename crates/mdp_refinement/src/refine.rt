@@ -25,7 +25,7 @@ const GROWTH: f64 = 1.5;
 const LOOSE: f64 = 4.0;
 
 /// How the values of a component lie to its rows.
-#[derive(Clone, Copy, PartialEq, Eq)]
+#[derive(Clone, Copy)]
 enum Held {
     /// A row that is to hold doesn't.
     Broken,
@@ -73,7 +73,7 @@ impl Setting<'_> {
             return Held::Broken;
         }
         let is_loose = is_chosen && gap.size.abs() > LOOSE * row.slack;
-        if is_loose && before == Held::Tightly {
+        if is_loose && matches!(before, Held::Tightly) {
             return Held::Loosely;
         }
         before
@@ -166,6 +166,74 @@ impl Setting<'_> {
     }
 }
 
+/// How the rounds of a refinement end.
+#[derive(Clone, Copy)]
+enum End {
+    /// The rows hold that are to hold.
+    Held,
+    /// A number is past 128 bits, or no correction is found.
+    Failed,
+    /// They don't hold yet.
+    Open,
+}
+
+impl End {
+    /// How a round ends that finds the rows held so.
+    fn of(held: Option<Held>, round: u32) -> End {
+        match held {
+            None => End::Failed,
+            Some(Held::Tightly) if round > 0 => End::Held,
+            Some(Held::Loosely) if round >= FIRST_ROOMY => End::Held,
+            Some(_) => End::Open,
+        }
+    }
+}
+
+impl Setting<'_> {
+    /// Corrects the values once.
+    fn correct(
+        self,
+        alloc: Global,
+        corrector: &mut Corrector<'_>,
+        gains: &[f64],
+        values: &mut [Option<i128>],
+    ) -> Result<End, AllocError> {
+        if !corrector.correct(alloc, gains)? {
+            return Ok(End::Failed);
+        }
+        match self.add(corrector.values(), values) {
+            Some(()) => Ok(End::Open),
+            None => Ok(End::Failed),
+        }
+    }
+
+    /// Measures the rows and corrects the values by turns.
+    fn rounds(
+        self,
+        alloc: Global,
+        corrector: &mut Corrector<'_>,
+        gains: &mut [f64],
+        values: &mut [Option<i128>],
+    ) -> Result<End, AllocError> {
+        let mut room = FIRST_ROOM;
+        for round in 0..MOST_ROUNDS {
+            if round >= FIRST_ROOMY {
+                room *= GROWTH;
+            }
+            let held = self.measure(corrector.policy(), values, room, gains);
+            match End::of(held, round) {
+                End::Open => {}
+                end => return Ok(end),
+            }
+            match self.correct(alloc, corrector, gains, values)? {
+                End::Open => {}
+                end => return Ok(end),
+            }
+        }
+        Ok(End::Open)
+    }
+}
+
 /// Values of a component that meet the bound on the rows, and the policy for it. None where the search finds none; the values are changed then too.
 pub(crate) fn refine(
     alloc: Global,
@@ -181,28 +249,13 @@ pub(crate) fn refine(
         task,
     };
     let mut gains = vec![in alloc; 0.0; component.rows.len()]?;
-    let mut room = FIRST_ROOM;
     setting.clear(values);
-    for round in 0..MOST_ROUNDS {
-        if round >= FIRST_ROOMY {
-            room *= GROWTH;
-        }
-        match setting.measure(corrector.policy(), values, room, &mut gains) {
-            None => return Ok(None),
-            Some(Held::Tightly) if round > 0 => return Ok(Some(corrector.into_policy())),
-            Some(Held::Loosely) if round >= FIRST_ROOMY => {
-                return Ok(Some(corrector.into_policy()));
-            }
-            Some(_) => {}
-        }
-        if !corrector.correct(alloc, &gains)? {
-            return Ok(None);
-        }
-        if setting.add(corrector.values(), values).is_none() {
-            return Ok(None);
-        }
-    }
-    if setting.move_until(corrector.policy(), values) == Some(true) {
+    let is_held = match setting.rounds(alloc, &mut corrector, &mut gains, values)? {
+        End::Held => true,
+        End::Failed => false,
+        End::Open => setting.move_until(corrector.policy(), values) == Some(true),
+    };
+    if is_held {
         return Ok(Some(corrector.into_policy()));
     }
     Ok(None)

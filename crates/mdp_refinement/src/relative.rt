@@ -135,12 +135,17 @@ impl<'a> Relative<'a> {
         Some((chosen, steps))
     }
 
-    /// What the best rows earn over the gain, by the row, as far as the shares tell. These come nearer by one step of the chain.
-    fn earned(&mut self, gains: &[f64]) -> f64 {
+    /// Makes the shares the visits, and all shares 0.
+    fn begin_visits(&mut self) {
         mem::swap(&mut self.visits, &mut self.shares);
         for share in self.shares.iter_mut() {
             *share = 0.0;
         }
+    }
+
+    /// What the best rows earn over the gain, by the row, as far as the shares tell. These come nearer by one step of the chain.
+    fn earned(&mut self, gains: &[f64]) -> f64 {
+        self.begin_visits();
         let mut total = 0.0;
         let mut steps = 0.0;
         for node in (0..number(self.visits.len())).rev() {

@@ -129,41 +129,75 @@ impl<'a> Unichain<'a> {
         Ok(Classes { parts, references })
     }
 
-    /// The policy's row at a node without its entries to reference nodes, and the probability of those.
+    /// Which nodes are reference nodes.
+    fn flagged(&self, alloc: Global, references: &[u32]) -> Result<Vec<bool>, AllocError> {
+        let mut is_reference = vec![in alloc; false; self.policy.len()]?;
+        for node in references {
+            put(&mut is_reference, *node, true);
+        }
+        Ok(is_reference)
+    }
+
+    /// The policy's row at a node without its entries to reference nodes; none at a reference node.
     fn row_without(
         &self,
         alloc: Global,
         is_reference: &[bool],
         node: u32,
-    ) -> Result<(Entries, f64), AllocError> {
+    ) -> Result<Entries, AllocError> {
         let mut row = Vec::new(alloc);
         if flag_at(is_reference, node) {
-            return Ok((row, 1.0));
+            return Ok(row);
+        }
+        for entry in self.entries_at(node) {
+            if !flag_at(is_reference, entry.0) {
+                row.push(*entry)?;
+            }
+        }
+        Ok(row)
+    }
+
+    /// The policy's rows without their entries to reference nodes.
+    fn rows_without(
+        &self,
+        alloc: Global,
+        is_reference: &[bool],
+    ) -> Result<Vec<Entries>, AllocError> {
+        let mut rows = Vec::new(alloc);
+        for node in 0..number(self.policy.len()) {
+            rows.push(self.row_without(alloc, is_reference, node)?)?;
+        }
+        Ok(rows)
+    }
+
+    /// The probability of the entries to reference nodes of the policy's row at a node; 1 at a reference node.
+    fn exit_at(&self, is_reference: &[bool], node: u32) -> f64 {
+        if flag_at(is_reference, node) {
+            return 1.0;
         }
         let mut exit = 0.0;
         for (target, prob) in self.entries_at(node) {
             if flag_at(is_reference, *target) {
                 exit += *prob;
-            } else {
-                row.push((*target, *prob))?;
             }
         }
-        Ok((row, exit))
+        exit
+    }
+
+    /// The probability of the entries to reference nodes of each of the policy's rows.
+    fn exits(&self, alloc: Global, is_reference: &[bool]) -> Result<Vec<f64>, AllocError> {
+        let mut exits = Vec::new(alloc);
+        for node in 0..number(self.policy.len()) {
+            exits.push(self.exit_at(is_reference, node))?;
+        }
+        Ok(exits)
     }
 
     /// Eliminates the nodes under the policy, as if it ended at the reference nodes.
     fn eliminated(&self, alloc: Global, references: &[u32]) -> Result<Option<Factors>, AllocError> {
-        let mut is_reference = vec![in alloc; false; self.policy.len()]?;
-        for node in references {
-            put(&mut is_reference, *node, true);
-        }
-        let mut rows = Vec::new(alloc);
-        let mut exits = Vec::new(alloc);
-        for node in 0..number(self.policy.len()) {
-            let (row, exit) = self.row_without(alloc, &is_reference, node)?;
-            rows.push(row)?;
-            exits.push(exit)?;
-        }
+        let is_reference = self.flagged(alloc, references)?;
+        let rows = self.rows_without(alloc, &is_reference)?;
+        let exits = self.exits(alloc, &is_reference)?;
         match eliminated_rows(alloc, rows, exits)? {
             Elimination::Done(factors) => Ok(Some(factors)),
             Elimination::Improper | Elimination::Dense => Ok(None),
@@ -197,6 +231,34 @@ impl<'a> Unichain<'a> {
         total
     }
 
+    /// One step at each node but the reference nodes.
+    fn one_each(&self, alloc: Global, references: &[u32]) -> Result<Vec<f64>, AllocError> {
+        let mut one_each = vec![in alloc; 1.0; self.policy.len()]?;
+        for node in references {
+            put(&mut one_each, *node, 0.0);
+        }
+        Ok(one_each)
+    }
+
+    /// The values that go with these constants.
+    fn solved(
+        &self,
+        alloc: Global,
+        factors: &Factors,
+        constants: &mut [f64],
+    ) -> Result<Vec<f64>, AllocError> {
+        let mut values = vec![in alloc; 0.0; self.policy.len()]?;
+        factors.solve(constants, &mut values);
+        Ok(values)
+    }
+
+    /// The gain of a reference node's class, from what is earned and the number of steps until a reference node.
+    fn gain_at(&self, gains: &[f64], node: u32, totals: &[f64], steps: &[f64]) -> f64 {
+        let place = self.policy.get(node as usize).copied().unwrap_or(0);
+        let own = gains.get(place).copied().unwrap_or(0.0);
+        (own + self.follow(node, totals)) / (1.0 + self.follow(node, steps))
+    }
+
     /// The gain of the class of each reference node: what is earned between two visits, over the steps that it takes.
     fn gains_of(
         &self,
@@ -205,21 +267,13 @@ impl<'a> Unichain<'a> {
         factors: &Factors,
         references: &[u32],
     ) -> Result<Vec<f64>, AllocError> {
-        let mut steps = vec![in alloc; 0.0; self.policy.len()]?;
-        let mut totals = vec![in alloc; 0.0; self.policy.len()]?;
-        let mut one_each = vec![in alloc; 1.0; self.policy.len()]?;
-        for node in references {
-            put(&mut one_each, *node, 0.0);
-        }
-        factors.solve(&mut one_each, &mut steps);
+        let mut one_each = self.one_each(alloc, references)?;
+        let steps = self.solved(alloc, factors, &mut one_each)?;
         let mut earned = self.earned(alloc, gains, 0.0, references)?;
-        factors.solve(&mut earned, &mut totals);
+        let totals = self.solved(alloc, factors, &mut earned)?;
         let mut found = Vec::new(alloc);
         for node in references {
-            let place = self.policy.get(*node as usize).copied().unwrap_or(0);
-            let own = gains.get(place).copied().unwrap_or(0.0);
-            let total = own + self.follow(*node, &totals);
-            found.push(total / (1.0 + self.follow(*node, &steps)))?;
+            found.push(self.gain_at(gains, *node, &totals, &steps))?;
         }
         Ok(found)
     }

@@ -5,7 +5,7 @@ ghost use Rattle.mdp_search_bounds.specs.Held.{HasMeanSizes, IsHeldMean};
 
 use crate::simplest::simplest_mean;
 use mdp_bounds::{MeanBoundsCert, Verdict, holds_bounds_mean};
-use mdp_ladder::{Search, bounds_by};
+use mdp_ladder::{Search, bounds_by, fractions, numbers};
 use mdp_near_mean::near_mean;
 use mdp_num::Memory;
 use mdp_rows::{Dir, Model};
@@ -29,7 +29,16 @@ impl Search for Averaging<'_> {
     ghost is_held = { λ p cert. IsHeldMean p.dir p.model.now p.name cert };
 
     fn near(&self, alloc: Global, digits: u32) -> Result<MeanBoundsCert, Memory> {
-        near_mean(alloc, self.model, self.name, self.dir, digits)
+        let near = near_mean(alloc, self.model, self.name, self.dir, digits)?;
+        let states = self.model.states();
+        Ok(MeanBoundsCert {
+            lower: fractions(alloc, states, &near.lower, near.one)?,
+            upper: fractions(alloc, states, &near.upper, near.one)?,
+            bound: fractions(alloc, states, &near.bound, near.one)?,
+            bias: fractions(alloc, states, &near.bias, near.one)?,
+            choices: numbers(alloc, states, &near.choices)?,
+            spread: near.spread,
+        })
     }
 
     fn simplest(

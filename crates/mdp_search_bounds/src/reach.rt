@@ -6,7 +6,7 @@ ghost use Rattle.mdp_search_bounds.specs.Held.{HasReachSizes, IsHeldReach};
 use crate::simplest::simplest_reach;
 use crate::trivial::trivial_reach;
 use mdp_bounds::{ReachBoundsCert, Verdict, holds_bounds_reach};
-use mdp_ladder::{Search, bounds_by};
+use mdp_ladder::{Search, bounds_by, fractions, numbers};
 use mdp_near::near_reach;
 use mdp_num::Memory;
 use mdp_rows::{Dir, Marks, Model};
@@ -29,7 +29,14 @@ impl Search for Reaching<'_, '_> {
     ghost is_held = { λ p cert. IsHeldReach p.dir p.model.now p.goals.now cert };
 
     fn near(&self, alloc: Global, digits: u32) -> Result<ReachBoundsCert, Memory> {
-        near_reach(alloc, self.model, self.goals, self.dir, digits)
+        let near = near_reach(alloc, self.model, self.goals, self.dir, digits)?;
+        let states = self.model.states();
+        Ok(ReachBoundsCert {
+            lower: fractions(alloc, states, &near.lower, near.one)?,
+            upper: fractions(alloc, states, &near.upper, near.one)?,
+            choices: numbers(alloc, states, &near.choices)?,
+            ranks: numbers(alloc, states, &near.ranks)?,
+        })
     }
 
     fn simplest(

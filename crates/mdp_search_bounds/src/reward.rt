@@ -6,7 +6,7 @@ ghost use Rattle.mdp_search_bounds.specs.Held.{HasRewardSizes, IsHeldReward};
 
 use crate::simplest::simplest_reward;
 use mdp_bounds::{RewardBoundsCert, Verdict, holds_bounds_reward};
-use mdp_ladder::{Search, bounds_by};
+use mdp_ladder::{Search, bounds_by, listed, numbers};
 use mdp_near::near_reward;
 use mdp_num::Memory;
 use mdp_rows::{Dir, Marks, Model};
@@ -33,7 +33,14 @@ impl Search for Earning<'_, '_> {
     ghost is_held = { λ p cert. IsHeldReward p.dir p.model.now p.name p.goals.now cert };
 
     fn near(&self, alloc: Global, digits: u32) -> Result<RewardBoundsCert, Memory> {
-        near_reward(alloc, self.model, self.name, self.goals, self.dir, digits)
+        let near = near_reward(alloc, self.model, self.name, self.goals, self.dir, digits)?;
+        let states = self.model.states();
+        Ok(RewardBoundsCert {
+            lower: listed(alloc, states, &near.lower)?,
+            upper: listed(alloc, states, &near.upper)?,
+            choices: numbers(alloc, states, &near.choices)?,
+            ranks: numbers(alloc, states, &near.ranks)?,
+        })
     }
 
     fn simplest(

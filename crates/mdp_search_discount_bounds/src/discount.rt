@@ -7,7 +7,7 @@ ghost use Rattle.mdp_search_discount_bounds.specs.Held.{HasDiscountSizes, IsHeld
 use crate::finite::finite_bounds;
 use crate::missing::missing_discount;
 use mdp_discount_bounds::{DiscountBounds, Verdict, greatest_magnitude, holds_bounds_discount};
-use mdp_ladder::{Search, all_capped, bounds_by, simplest_rewards};
+use mdp_ladder::{Search, all_capped, bounds_by, listed, numbers, simplest_rewards};
 use mdp_near_discount::near_discount;
 use mdp_num::{Frac, Memory};
 use mdp_rows::{Dir, Model};
@@ -80,14 +80,16 @@ impl Search for Discounting<'_> {
     fn near(&self, alloc: Global, digits: u32) -> Result<DiscountBounds, Memory> {
         let model = self.model;
         let near = near_discount(alloc, model, self.name, self.dir, self.factor, digits)?;
-        let choices = near.choices;
+        let lower = listed(alloc, model.states(), &near.lower)?;
+        let upper = listed(alloc, model.states(), &near.upper)?;
+        let choices = numbers(alloc, model.states(), &near.choices)?;
         let bounds = finite_bounds(
             alloc,
             model,
             self.name,
             self.factor,
-            &near.lower,
-            &near.upper,
+            &lower,
+            &upper,
             choices,
         )?;
         Ok(bounds)

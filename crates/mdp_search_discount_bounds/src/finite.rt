@@ -1,7 +1,6 @@
 //! Bounds of all states by one number, which no discounted reward passes.
 
 ghost use Rattle.std.specs.Prelude.{◌≡◌, ◌<◌, length, IfOk};
-ghost use Rattle.mdp_spec.specs.Mdp.{states_of};
 
 use mdp_discount_bounds::{DiscountBounds, greatest_magnitude};
 use mdp_near_discount::extent_of;
