@@ -21,7 +21,7 @@ const TAKES: &str = "mdp-policy 1\nstates 3\nchoose 0 1\nchoose 1 0\nchoose 2 0\
 
 /// Rows that add to 0.999999.
 const THIRDS: &str =
-    "@type: MDP\n@parameters\n\n@reward_models\n\n@nr_states\n4\n@model\nstate 0 init\naction a\n1 : 0.333333\n2 : 0.333333\n3 : 0.333333\nstate 1 goal\naction a\n1 : 1\nstate 2\naction a\n2 : 1\nstate 3\naction a\n3 : 1\n";
+    "@type: MDP\n@nr_states\n4\n@model\nstate 0 init\naction\n1 : 0.333333\n2 : 0.333333\n3 : 0.333333\nstate 1 goal\naction\n1 : 1\nstate 2\naction\n2 : 1\nstate 3\naction\n3 : 1\n";
 
 /// The words of a solve, and of a policy's value.
 const SOLVE: &[&str] = &["solve", "MODEL", "exact", "max", "reach", "goal"];
@@ -141,7 +141,7 @@ fn answers_each_fault_of_a_second_file(rt: HostRuntime) -> Result<(), Fail> {
 #[test]
 fn refuses_in_pieces(rt: HostRuntime) -> Result<(), Fail> {
     for (text, due) in [
-        (THIRDS, "model line 10 row-sum\n"),
+        (THIRDS, "model line 6 row-sum\n"),
         (
             "@type: MDP\n@nr_states\n1\n@model\nstate 0\naction\n0 : 1/",
             "model line 7 number\n",

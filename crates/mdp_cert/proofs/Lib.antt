@@ -14,3 +14,4 @@ pub mod Places
 pub mod Parts
 pub mod FirstBroken
 mod Examples
+pub mod RunLengths

@@ -17,7 +17,8 @@ use Rattle.mdp_discount_bounds.specs.declared.init.InitialBounds.{InitialBounds}
 use Rattle.mdp_discount_bounds_text.specs.Entries.{lower_text, between_columns, IsEntryInWidth, entries_of}
 use Rattle.mdp_discount_bounds_text.specs.Spelling.{version_text, init_text, head_text, text_of}
 use Rattle.mdp_command.specs.Files.{most_bytes}
-use Rattle.mdp_command_bounds_search.proofs.TextLength.{two_words, lines_of, closed_short}
+use Rattle.mdp_cert.proofs.RunLengths.{lines_of, closed_short}
+use Rattle.mdp_command_bounds_search.proofs.TextLength.{two_words}
 
 -- ---- the lines before those of the states
 

@@ -1,20 +1,15 @@
 -- What is shown of found bounds: their certificate is one of the query's claim, it is accepted for the model, and its text reads as it.
-use Rattle.std.proofs.Common.{◌≡◌, ℕ, ◌<◌, ◌≤◌, ◌⊎◌, inl, inr, Bool, true, false, cond, ◌&&◌, ◌||◌, not, eqb, List, [], ◌∷◌, length, get_or, Option, Some, None}
+use Rattle.std.proofs.Common.{◌≡◌, ℕ, ◌<◌, ◌≤◌, ◌⊎◌, inl, inr, Bool, true, false, cond, ◌&&◌, eqb, List, length, Option, Some, None}
 use Rattle.std.proofs.Common.{Ok, Err, IfOk, refl, sym, ap, ap₂, subst, ◌∙◌, arith, eq-eqb, lt-ltb}
 use Rattle.std.specs.Prelude.{All, option_map}
-use Rattle.std.specs.List.{list_any}
-use Rattle.std.specs.Str.{bytes_eq}
 use Rattle.std.proofs.Math.ListN.{replicate}
-use Rattle.std.proofs.lemmas.Bool.{and_parts}
-use Rattle.std.proofs.lemmas.List.Elements.{All-get_or}
-use Rattle.std.proofs.lemmas.List.Quantifiers.{position-Some}
-use Rattle.std.proofs.lemmas.Slice.Eq.{bytes_eq-Decides}
 use Rattle.mdp_math.specs.Rational.{ℚ}
 use Rattle.mdp_num.specs.OrderView.{equal_decides}
 use Rattle.mdp_spec.specs.Bounds.{reward_at}
 use Rattle.mdp_spec.specs.Labels.{place_of, marks_of, initial_of}
 use Rattle.mdp_spec.specs.Mdp.{Mdp, states_of, value_at}
 use Rattle.mdp_spec.specs.Row.{IsMdp}
+use Rattle.mdp_rows.proofs.FoundNames.{found_among, name_of_reward}
 use Rattle.mdp_rows.specs.Name.{IsName, IsRewardName}
 use Rattle.mdp_rows.specs.declared.dir.Dir.{Dir}
 use Rattle.mdp_farkas.specs.Initial.{init_fault, is_value}
@@ -43,35 +38,6 @@ use Rattle.mdp_command_bounds_search.specs.Certificate.{HasValues, init_between,
 use Rattle.mdp_command_bounds_search.specs.Due.{claim_of, fault_of, IsAcceptedText, IsDueBy, IsBoundsDue}
 use Rattle.mdp_command_bounds_search.specs.Shown.{IsBoundsPrinted}
 use Rattle.mdp_command_bounds_search.proofs.TextLength.{text_short}
-
--- ---- names
-
--- what is found in a list of names is one of them
-pub found_among : (P : List ℕ → Type 0) (name : List ℕ) (names : List (List ℕ)) (l : ℕ) → place_of name names ≡ Some l → All P names → P name
-found_among P name names l e h =
-    let p = position-Some (bytes_eq name) names l [] e in
-    subst P (sym ((bytes_eq-Decides name (get_or names l [])).0 p.1)) (All-get_or P names l [] p.0 h)
-
--- the name of a reward model is a name
-none_of : (bytes : List ℕ) → list_any (λ b. eqb b 32 || eqb b 9 || eqb b 13 || eqb b 34 || eqb b 10) bytes ≡ false → list_any (λ b. eqb b 34 || eqb b 10) bytes ≡ false
-none_of [] h = refl
-none_of (b ∷ bytes) h = by (eqb b 32) (eqb b 9) (eqb b 13) (eqb b 34) (eqb b 10) (list_any (λ b. eqb b 32 || eqb b 9 || eqb b 13 || eqb b 34 || eqb b 10) bytes) h (none_of bytes)
-  where
-    by : (p q r s t rest : Bool) → ((p || q || r || s || t) || rest) ≡ false → (rest ≡ false → list_any (λ b. eqb b 34 || eqb b 10) bytes ≡ false)
-        → ((s || t) || list_any (λ b. eqb b 34 || eqb b 10) bytes) ≡ false
-    by false false false false false rest h more = more h
-    by true q r s t rest h more = cc h
-    by false true r s t rest h more = cc h
-    by false false true s t rest h more = cc h
-    by false false false true t rest h more = cc h
-    by false false false false true rest h more = cc h
-
-not-true : (b : Bool) → not b ≡ true → b ≡ false
-not-true false e = refl
-not-true true e = cc e
-
-pub name_of_reward : (name : List ℕ) → IsRewardName name → IsName name
-name_of_reward name h = let p = and_parts _ _ h in ap₂ (λ (a b : Bool). a && not b) p.0 (none_of name (not-true _ p.1))
 
 -- ---- a body has an entry per state
 

@@ -1,14 +1,8 @@
 -- What is shown of a solved query: its answer has an entry per state, and its certificate belongs to the model.
-use Rattle.std.proofs.Common.{◌≡◌, ℕ, ◌<◌, ◌≤◌, ◌⊎◌, inl, inr, Bool, true, false, cond, ◌&&◌, ◌||◌, not, eqb, nat_lt, List, [], ◌∷◌, length, get_or, Option, Some, None}
+use Rattle.std.proofs.Common.{◌≡◌, ℕ, ◌<◌, ◌≤◌, ◌⊎◌, inl, inr, Bool, true, false, cond, ◌&&◌, not, eqb, nat_lt, List, length, Option, Some, None}
 use Rattle.std.proofs.Common.{Result, Ok, Err, IfOk, refl, sym, ap, ap₂, subst, ◌∙◌, arith, eq-eqb, lt-ltb}
-use Rattle.std.specs.Prelude.{All, option_map}
-use Rattle.std.specs.List.{list_any}
+use Rattle.std.specs.Prelude.{option_map}
 use Rattle.std.proofs.Math.ListN.{replicate}
-use Rattle.std.specs.Str.{bytes_eq}
-use Rattle.std.proofs.lemmas.Bool.{and_parts}
-use Rattle.std.proofs.lemmas.List.Elements.{All-get_or}
-use Rattle.std.proofs.lemmas.List.Quantifiers.{position-Some}
-use Rattle.std.proofs.lemmas.Slice.Eq.{bytes_eq-Decides}
 use Rattle.std.proofs.lemmas.List.FromFn.{length-map-range_with_len}
 use Rattle.mdp_math.specs.Rational.{ℚ}
 use Rattle.mdp_num.specs.OrderView.{equal_decides}
@@ -16,7 +10,6 @@ use Rattle.mdp_spec.specs.Bounds.{reward_at}
 use Rattle.mdp_spec.specs.Labels.{place_of, marks_of, initial_of}
 use Rattle.mdp_spec.specs.Mdp.{Mdp, states_of, value_at}
 use Rattle.mdp_spec.specs.Row.{IsMdp}
-use Rattle.mdp_rows.specs.Name.{IsName, IsRewardName}
 use Rattle.mdp_rows.specs.declared.dir.Dir.{Dir}
 use Rattle.mdp_rows.specs.declared.dir.Dir.TheVariants.{Max, Min}
 use Rattle.mdp_graph.specs.Laws.{RestMeets}
@@ -285,35 +278,6 @@ module _ (dir : Dir) (name : List ℕ) (m : Mdp) (r : ℕ) (a : averaged.Answer)
 
   pub mean_printed : IsMdp m → IsReadBack → (text : List ℕ) → Fits (mean_certificate_of dir name m a) → text ≡ text_of (mean_certificate_of dir name m a) → IsMeanPrinted dir name m text
   mean_printed mdp back text fits spelled = printed_by m (mean_certificate_of dir name m a) refl mdp back mean_accepted fits text spelled
-
--- ---- names
-
--- what is found in a list of names is one of them
-pub found_among : (P : List ℕ → Type 0) (name : List ℕ) (names : List (List ℕ)) (l : ℕ) → place_of name names ≡ Some l → All P names → P name
-found_among P name names l e h =
-    let p = position-Some (bytes_eq name) names l [] e in
-    subst P (sym ((bytes_eq-Decides name (get_or names l [])).0 p.1)) (All-get_or P names l [] p.0 h)
-
--- the name of a reward model is a name
-none_of : (bytes : List ℕ) → list_any (λ b. eqb b 32 || eqb b 9 || eqb b 13 || eqb b 34 || eqb b 10) bytes ≡ false → list_any (λ b. eqb b 34 || eqb b 10) bytes ≡ false
-none_of [] h = refl
-none_of (b ∷ bytes) h = by (eqb b 32) (eqb b 9) (eqb b 13) (eqb b 34) (eqb b 10) (list_any (λ b. eqb b 32 || eqb b 9 || eqb b 13 || eqb b 34 || eqb b 10) bytes) h (none_of bytes)
-  where
-    by : (p q r s t rest : Bool) → ((p || q || r || s || t) || rest) ≡ false → (rest ≡ false → list_any (λ b. eqb b 34 || eqb b 10) bytes ≡ false)
-        → ((s || t) || list_any (λ b. eqb b 34 || eqb b 10) bytes) ≡ false
-    by false false false false false rest h more = more h
-    by true q r s t rest h more = cc h
-    by false true r s t rest h more = cc h
-    by false false true s t rest h more = cc h
-    by false false false true t rest h more = cc h
-    by false false false false true rest h more = cc h
-
-not-true : (b : Bool) → not b ≡ true → b ≡ false
-not-true false e = refl
-not-true true e = cc e
-
-pub name_of_reward : (name : List ℕ) → IsRewardName name → IsName name
-name_of_reward name h = let p = and_parts _ _ h in ap₂ (λ (a b : Bool). a && not b) p.0 (none_of name (not-true _ p.1))
 
 -- ---- what is said
 

@@ -1,6 +1,6 @@
 -- The text of a certificate whose claim is no subsystem's has at most 2^30 bytes.
-use Rattle.std.proofs.Common.{◌≡◌, ℕ, suc, ◌+◌, ◌*◌, ◌<◌, ◌≤◌, ◌^◌, Bool, true, false, cond, eqb}
-use Rattle.std.proofs.Common.{List, [], ◌∷◌, ◌++◌, length, codes, decimal, Option, Some, None, refl, arith, lit<}
+use Rattle.std.proofs.Common.{◌≡◌, ℕ, ◌+◌, ◌*◌, ◌<◌, ◌≤◌, ◌^◌, Bool, true, false}
+use Rattle.std.proofs.Common.{List, [], ◌∷◌, ◌++◌, length, codes, decimal, Option, Some, None, arith, lit<}
 use Rattle.std.proofs.Common.{ltb→lt, T, sym, subst, not}
 use Rattle.std.specs.List.{AllByRecursion as Each}
 use Rattle.std.proofs.lemmas.Bool.{and_parts}
@@ -13,12 +13,12 @@ use Rattle.mdp_rows.specs.declared.dir.Dir.{Dir}
 use Rattle.mdp_text.specs.declared.init.Init.{Init}
 use Rattle.mdp_text.specs.declared.init.Init.TheVariants.{Missing, Finite, Infinite, Start}
 use Rattle.mdp_subsystem_rules.specs.declared.flow.Flow.{Flow}
+use Rattle.mdp_cert.proofs.RunLengths.{lines_of, closed_short}
 use Rattle.mdp_cert.specs.Cert.{PlainClaim, upper, reach, reward, mean, witness, are_names, may_be_infinite, is_witness, IsValueNarrow, IsBodyInWidth, Certificate, Fits}
 use Rattle.mdp_cert.specs.Cert.{PlainBody, bounds, policy, rewards, gains, flow, floor, is_init_of, is_body_of}
 use Rattle.mdp_cert.specs.Claims.{Value, fraction_value, reward_value, reward_text, bound_columns, policy_columns, IsPolicyInWidth, policies, mean_columns, IsMeanInWidth, means}
-use Rattle.mdp_cert.specs.Runs.{Columns, Run, run, single, before_runs, longest_runs}
-use Rattle.mdp_text.specs.Spelling.{line, ◌␣◌, quoted, dir_text, states_text, init_text, end_text}
-use Rattle.mdp_cert.specs.Spelling.{claim_text, head_text, entry_text, run_text, run_lines, spread_text, text_in, text_of}
+use Rattle.mdp_text.specs.Spelling.{line, ◌␣◌, quoted, dir_text, states_text, init_text}
+use Rattle.mdp_cert.specs.Spelling.{claim_text, head_text, spread_text, text_in, text_of}
 use Rattle.mdp_text.proofs.Lengths.{number_short, spelling_short, blank_length, line_length, name_short, dir_length, quoted_length, states_short, IsShortInit, init_short}
 use Rattle.mdp_cert.proofs.Growth.{bounds-entries, Entries, policy-entries, reward-entries, MeanEntries, gains-entries}
 use Rattle.mdp_cert.proofs.Means.{Back, back}
@@ -66,7 +66,7 @@ claim_short (witness dir label threshold) plain h = cc plain
 
 -- ---- the lines of the states
 
-entry_short : (word : List ℕ) (c r : ℕ) → length word ≤ 80 → c < 2 ^ 32 → r < 2 ^ 32 → length (word ␣ (decimal c ␣ decimal r)) ≤ 260
+entry_short : (word : List ℕ) (c r : ℕ) → length word ≤ 80 → c < 2 ^ 32 → r < 2 ^ 32 → length (word ␣ (decimal c ␣ decimal r)) ≤ 340
 entry_short word c r hv hc hr =
     let a = blank_length word (decimal c ␣ decimal r) in
     let b = blank_length (decimal c) (decimal r) in
@@ -74,7 +74,7 @@ entry_short word c r hv hc hr =
     let z = number_short r hr in
     omega (arith, a, b, hv, y, z)
 
-means_short : (g z b : ℚ) (c : ℕ) → IsNarrow g → IsNarrow z → IsNarrow b → c < 2 ^ 32 → length (spelling g ␣ (spelling z ␣ (spelling b ␣ decimal c))) ≤ 260
+means_short : (g z b : ℚ) (c : ℕ) → IsNarrow g → IsNarrow z → IsNarrow b → c < 2 ^ 32 → length (spelling g ␣ (spelling z ␣ (spelling b ␣ decimal c))) ≤ 340
 means_short g z b c hg hz hb hc =
     let x = blank_length (spelling g) (spelling z ␣ (spelling b ␣ decimal c)) in
     let y = blank_length (spelling z) (spelling b ␣ decimal c) in
@@ -105,102 +105,6 @@ reward_short : (v : Option ℚ) → IsValueNarrow v → length (reward_text v) �
 reward_short None h = omega arith
 reward_short (Some x) h = spelling_short x h
 
--- the lines of the states, and the line `end`
-abbrev lines_of : {A : Type 0} → Columns A → List A → List ℕ
-lines_of k xs = run_lines k 0 (longest_runs k xs) ++ line end_text
-
--- of entries whose words have at most 260 bytes
-module _ {A : Type 0} (k : Columns A) (P : A → Type 0) (short : (x : A) → P x → length (entry_text k x) ≤ 260) where
-  abbrev state_text : ℕ → A → List ℕ
-  state_text state x = codes "state" ␣ decimal state ␣ entry_text k x
-
-  abbrev states_from : ℕ → ℕ → A → List ℕ
-  states_from state more x = codes "run" ␣ decimal state ␣ decimal (state + more) ␣ entry_text k x
-
-  one_short : (state : ℕ) (x : A) → state < 2 ^ 32 → P x → length (state_text state x) ≤ 299
-  one_short state x lt h =
-      let a = blank_length (codes "state") (decimal state ␣ entry_text k x) in
-      let b = blank_length (decimal state) (entry_text k x) in
-      let n = number_short state lt in
-      let e = short x h in
-      omega (arith, a, b, n, e)
-
-  many_short : (state more : ℕ) (x : A) → state + more < 2 ^ 32 → P x → length (states_from state more x) ≤ 299
-  many_short state more x lt h =
-      let a = blank_length (codes "run") (decimal state ␣ decimal (state + more) ␣ entry_text k x) in
-      let b = blank_length (decimal state) (decimal (state + more) ␣ entry_text k x) in
-      let c = blank_length (decimal (state + more)) (entry_text k x) in
-      let n = number_short state (omega (arith, lt)) in
-      let m = number_short (state + more) lt in
-      let e = short x h in
-      omega (arith, a, b, c, n, m, e)
-
-  either_short : (b : Bool) (x y : List ℕ) → length x ≤ 299 → length y ≤ 299 → length (line (cond b x y)) ≤ 300
-  either_short true x y h l = let n = line_length x in omega (arith, n, h)
-  either_short false x y h l = let n = line_length y in omega (arith, n, l)
-
-  run_short : (state : ℕ) (r : Run A) → state + r.more < 2 ^ 32 → P r.entry → length (line (run_text k state r)) ≤ 300
-  unfolding run_text
-  run_short state r lt h =
-      either_short (eqb r.more 0) (state_text state r.entry) (states_from state r.more r.entry) (one_short state r.entry (omega (arith, lt)) h) (many_short state r.more r.entry lt h)
-
-  -- the states that the lines stand for
-  abbrev size : List (Run A) → ℕ
-  size [] = 0
-  size (r ∷ rs) = r.more + 1 + size rs
-
-  abbrev AreInWidth : List (Run A) → Type 0
-  AreInWidth [] = Unit {0}
-  AreInWidth (r ∷ rs) = P r.entry × AreInWidth rs
-
-  lines_short : (state : ℕ) (rs : List (Run A)) → state + size rs ≤ 2 ^ 20 → AreInWidth rs → length (run_lines k state rs) ≤ 300 * size rs
-  unfolding run_lines
-  lines_short state [] h w = omega arith
-  lines_short state (r ∷ rs) h w =
-      let p : 2 ^ 20 < 2 ^ 32 = lit< tt in
-      let a = run_short state r (omega (arith, h, p)) w.0 in
-      let b = lines_short (state + r.more + 1) rs (omega (arith, h)) w.1 in
-      let e = length-append (line (run_text k state r)) (run_lines k (state + r.more + 1) rs) in
-      omega (arith, a, b, e)
-
-  -- ---- the longest runs
-
-  before_size : (x : A) (rs : List (Run A)) → size (before_runs k x rs) ≡ size rs + 1
-  before_size x [] = refl
-  before_size x (r ∷ rs) = by (k.same x r.entry)
-    where
-      by : (b : Bool) → size (cond b (run x (suc r.more) ∷ rs) (single x ∷ r ∷ rs)) ≡ r.more + 1 + size rs + 1
-      by true = omega arith
-      by false = omega arith
-
-  before_width : (x : A) (rs : List (Run A)) → P x → AreInWidth rs → AreInWidth (before_runs k x rs)
-  before_width x [] h w = (h, tt)
-  before_width x (r ∷ rs) h w = by (k.same x r.entry)
-    where
-      by : (b : Bool) → AreInWidth (cond b (run x (suc r.more) ∷ rs) (single x ∷ r ∷ rs))
-      by true = (h, w.1)
-      by false = (h, w)
-
-  runs_size : (xs : List A) → size (longest_runs k xs) ≡ length xs
-  unfolding longest_runs
-  runs_size [] = refl
-  runs_size (x ∷ xs) = let a = before_size x (longest_runs k xs) in let b = runs_size xs in omega (arith, a, b)
-
-  runs_width : (xs : List A) → Each P xs → AreInWidth (longest_runs k xs)
-  unfolding longest_runs
-  runs_width [] h = tt
-  runs_width (x ∷ xs) h = before_width x (longest_runs k xs) h.0 (runs_width xs h.1)
-
-  states_lines_short : (xs : List A) → length xs ≤ 2 ^ 20 → Each P xs → length (run_lines k 0 (longest_runs k xs)) ≤ 300 * length xs
-  states_lines_short xs limit h = let n = runs_size xs in let l = lines_short 0 (longest_runs k xs) (omega (arith, n, limit)) (runs_width xs h) in omega (arith, n, l)
-
-  -- with the line `end`
-  closed_short : (xs : List A) → length xs ≤ 2 ^ 20 → Each P xs → length (lines_of k xs) ≤ 300 * length xs + 4
-  closed_short xs limit h =
-      let l = states_lines_short xs limit h in
-      let a = length-append (run_lines k 0 (longest_runs k xs)) (line end_text) in
-      omega (arith, l, a)
-
 -- ---- the whole
 
 inside_short : (claim : PlainClaim) (n : ℕ) (init : Init) → n ≤ 2 ^ 20 → is_init_of claim n init ≡ true → IsShortInit init
@@ -230,7 +134,7 @@ no_floor (witness dir label threshold) n kept wide zs rs plain h = cc plain
 module _ (states : ℕ) (limit : states ≤ 2 ^ 20) where
   three_short :
       {V : Type 0} (k : Value V) (P : V → Type 0) → ((v : V) → P v → length (k.spell v) ≤ 80) → (zs : List V) (cs rs : List ℕ) → Entries states zs cs rs → Each P zs → Each (λ c. c < 2 ^ 32) cs
-      → Each (λ r. r < 2 ^ 32) rs → length (lines_of (policy_columns k) (policies zs cs rs)) ≤ 300 * states + 4
+      → Each (λ r. r < 2 ^ 32) rs → length (lines_of (policy_columns k) (policies zs cs rs)) ≤ 380 * states + 4
   three_short k P short zs cs rs sizes p q o =
       let x = sizes.values in
       let y = sizes.choices in
@@ -240,14 +144,14 @@ module _ (states : ℕ) (limit : states ≤ 2 ^ 20) where
       (policies zs cs rs) (omega (arith, x, n, limit)) (entries_width P zs cs rs p q o) in
       omega (arith, x, n, l)
 
-  bounds_short : (zs : List ℚ) → length zs ≡ states → Each IsNarrow zs → length (lines_of bound_columns zs) ≤ 300 * states + 4
+  bounds_short : (zs : List ℚ) → length zs ≡ states → Each IsNarrow zs → length (lines_of bound_columns zs) ≤ 380 * states + 4
   bounds_short zs x w =
       let l = closed_short bound_columns IsNarrow (λ v n. let s = spelling_short v n in omega (arith, s)) zs (omega (arith, x, limit)) w in
       omega (arith, x, l)
 
   means_lines_short :
       (gs zs bs : List ℚ) (cs : List ℕ) → MeanEntries states gs zs bs cs → Each IsNarrow gs → Each IsNarrow zs → Each IsNarrow bs → Each (λ c. c < 2 ^ 32) cs
-      → length (lines_of mean_columns (means gs zs bs cs)) ≤ 300 * states + 4
+      → length (lines_of mean_columns (means gs zs bs cs)) ≤ 380 * states + 4
   means_lines_short gs zs bs cs sizes p q o n =
       let x = sizes.gains in
       let y = sizes.bounds in
@@ -273,17 +177,17 @@ module _ (c : Certificate) (fits : Fits c) (plain : is_witness c.claim ≡ false
       let h = init_short c.init (inside_short c.claim c.states c.init limit fits.inside) fits.init_width in
       omega (arith, a, b, x, d, e, f, g, h)
 
-  whole_short : (lines : List ℕ) → length lines ≤ 300 * c.states + 104 → length (line (codes "mdp-certificate 2") ++ (head_text c ++ lines)) ≤ 2 ^ 30
+  whole_short : (lines : List ℕ) → length lines ≤ 380 * c.states + 104 → length (line (codes "mdp-certificate 2") ++ (head_text c ++ lines)) ≤ 2 ^ 30
   whole_short lines k =
       let a = length-append (line (codes "mdp-certificate 2")) (head_text c ++ lines) in
       let b = length-append (head_text c) lines in
       let h = head_short in
       let limit = fits.limit in
-      let p : 300 * 2 ^ 20 + 1000 < 2 ^ 30 = lit< tt in
+      let p : 380 * 2 ^ 20 + 1000 < 2 ^ 30 = lit< tt in
       omega (arith, a, b, h, k, limit, p)
 
   -- behind the line of the spread
-  spread_lines_short : (spread : ℚ) (lines : List ℕ) → IsNarrow spread → length lines ≤ 300 * c.states + 4 → length (line (spread_text spread) ++ lines) ≤ 300 * c.states + 104
+  spread_lines_short : (spread : ℚ) (lines : List ℕ) → IsNarrow spread → length lines ≤ 380 * c.states + 4 → length (line (spread_text spread) ++ lines) ≤ 380 * c.states + 104
   spread_lines_short spread lines narrow l =
       let a = length-append (line (spread_text spread)) lines in
       let b = line_length (spread_text spread) in
@@ -291,7 +195,7 @@ module _ (c : Certificate) (fits : Fits c) (plain : is_witness c.claim ≡ false
       let v = spelling_short spread narrow in
       omega (arith, a, b, d, v, l)
 
-  plain_lines_short : (lines : List ℕ) → length lines ≤ 300 * c.states + 4 → length lines ≤ 300 * c.states + 104
+  plain_lines_short : (lines : List ℕ) → length lines ≤ 380 * c.states + 4 → length lines ≤ 380 * c.states + 104
   plain_lines_short lines l = omega (arith, l)
 
   by_body : (body : PlainBody) → is_body_of c.claim c.states body ≡ true → IsBodyInWidth body → length (text_of (record c { body = body })) ≤ 2 ^ 30

@@ -1,11 +1,6 @@
 -- What is shown of the text of a witness, and what is due.
-use Rattle.std.proofs.Common.{◌≡◌, ℕ, ◌≤◌, ◌⊎◌, inl, inr, Bool, List, [], length, get_or, Some, Ok, Err, IfOk, refl, sym, ap, subst, ◌∙◌}
-use Rattle.std.specs.Prelude.{All}
-use Rattle.std.specs.Str.{bytes_eq}
+use Rattle.std.proofs.Common.{◌≡◌, ℕ, ◌≤◌, ◌⊎◌, inl, inr, Bool, List, length, Some, Ok, Err, IfOk, refl, sym, ap, subst, ◌∙◌}
 use Rattle.std.proofs.lemmas.List.{length-map}
-use Rattle.std.proofs.lemmas.List.Elements.{All-get_or}
-use Rattle.std.proofs.lemmas.List.Quantifiers.{position-Some}
-use Rattle.std.proofs.lemmas.Slice.Eq.{bytes_eq-Decides}
 use Rattle.mdp_math.specs.Rational.{ℚ}
 use Rattle.mdp_spec.specs.Bounds.{SubMax, SubMin}
 use Rattle.mdp_spec.specs.Labels.{place_of, marks_of, initial_of}
@@ -34,13 +29,7 @@ use Rattle.mdp_command_witness.proofs.Accepting.{witness_accepted}
 use Rattle.mdp_command_witness.proofs.Few.{few_flows}
 use Rattle.mdp_command_witness.proofs.TextLength.{witness_text_short}
 
--- ---- names
-
--- what is found in a list of names is one of them
-pub found_among : (P : List ℕ → Type 0) (name : List ℕ) (names : List (List ℕ)) (l : ℕ) → place_of name names ≡ Some l → All P names → P name
-found_among P name names l e h =
-    let p = position-Some (bytes_eq name) names l [] e in
-    subst P (sym ((bytes_eq-Decides name (get_or names l [])).0 p.1)) (All-get_or P names l [] p.0 h)
+-- ---- marks
 
 -- a mark for each state
 pub marks_each : (m : Mdp) (l : ℕ) → length (marks_of m l) ≡ states_of m

@@ -236,7 +236,9 @@ bounds_objective : job_of_texts (codes "bounds" ∷ codes "m" ∷ codes "exact" 
 bounds_objective = refl
 
 -- a reward has a name and a label before the digits, a mean payoff a name alone
-bounds_reward : job_of_texts (codes "bounds" ∷ codes "m" ∷ codes "exact" ∷ codes "max" ∷ codes "reward" ∷ codes "-" ∷ codes "goal" ∷ codes "6" ∷ []) ≡ Ok (bounds Exact Max (reward (codes "-") (codes "goal")) 6)
+bounds_reward :
+    job_of_texts (codes "bounds" ∷ codes "m" ∷ codes "exact" ∷ codes "max" ∷ codes "reward" ∷ codes "-" ∷ codes "goal" ∷ codes "6" ∷ [])
+    ≡ Ok (bounds Exact Max (reward (codes "-") (codes "goal")) 6)
 bounds_reward = refl
 
 bounds_reward_words : job_of_texts (codes "bounds" ∷ codes "m" ∷ codes "exact" ∷ codes "max" ∷ codes "reward" ∷ codes "goal" ∷ codes "0" ∷ []) ≡ Err Number

@@ -49,7 +49,8 @@ module _ (m : Mdp) (parts : List (Option ℕ)) (nodes : List ℕ) (n : ℕ) (cho
         (λ _. get_or (slice_set lists (get_or nodes x.state 0) (get_or lists (get_or nodes x.state 0) [] ++ x ∷ [])) k [] ≡ filter (is_exit m parts nodes k) (choices ++ x ∷ [])) [
           | inl same ↦ subst (λ q. get_or (slice_set lists (get_or nodes x.state 0) (get_or lists (get_or nodes x.state 0) [] ++ x ∷ [])) q [] ≡ filter (is_exit m parts nodes q) (choices ++ x ∷ [])) same here
           | inr other ↦
-              get_or-set_other lists (get_or nodes x.state 0) k (get_or lists (get_or nodes x.state 0) [] ++ x ∷ []) [] (λ z. other (sym z)) ∙ a.each k h ∙ sym (append-nil (filter (is_exit m parts nodes k) choices))
+              get_or-set_other lists (get_or nodes x.state 0) k (get_or lists (get_or nodes x.state 0) [] ++ x ∷ []) [] (λ z. other (sym z)) ∙ a.each k h
+              ∙ sym (append-nil (filter (is_exit m parts nodes k) choices))
               ∙ sym (kept-more k false (ap (λ b. b && not (is_inside m parts x.state x.choice)) (ne_eqb (get_or nodes x.state 0) k other)))
         ]);
   } where

@@ -6,7 +6,8 @@ use Rattle.mdp_cert.specs.Plain.{plain}
 use Rattle.mdp_cert.specs.Spelling.{text_of}
 use Rattle.mdp_command_solve.specs.Due.{mean_certificate_of}
 use Rattle.mdp_command_solve.specs.Solved.{IsMeanPrinted}
-use Rattle.mdp_command_solve.proofs.Printing.{found_among, name_of_reward, mean_sizes, mean_printed, text_printed}
+use Rattle.mdp_rows.proofs.FoundNames.{found_among, name_of_reward}
+use Rattle.mdp_command_solve.proofs.Printing.{mean_sizes, mean_printed, text_printed}
 use Rattle.mdp_command_solve.proofs.averaging.solve_payoff.Goals as goal
 
 pub mean_certificate_of-cert-requires-clause-name : goal.mean_certificate_of-cert-requires-clause-name

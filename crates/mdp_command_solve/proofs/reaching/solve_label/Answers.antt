@@ -7,7 +7,8 @@ use Rattle.mdp_cert.specs.Plain.{plain}
 use Rattle.mdp_cert.specs.Spelling.{text_of}
 use Rattle.mdp_command_solve.specs.Due.{certificate_of}
 use Rattle.mdp_command_solve.specs.Solved.{IsReachPrinted}
-use Rattle.mdp_command_solve.proofs.Printing.{found_among, answer_sizes, printed, text_printed}
+use Rattle.mdp_rows.proofs.FoundNames.{found_among}
+use Rattle.mdp_command_solve.proofs.Printing.{answer_sizes, printed, text_printed}
 use Rattle.mdp_command_solve.proofs.reaching.solve_label.Goals as goal
 
 pub certificate_of-cert-requires-clause-name : goal.certificate_of-cert-requires-clause-name

@@ -7,7 +7,8 @@ use Rattle.mdp_cert.specs.Plain.{plain}
 use Rattle.mdp_cert.specs.Spelling.{text_of}
 use Rattle.mdp_command_solve.specs.Due.{reward_certificate_of}
 use Rattle.mdp_command_solve.specs.Solved.{IsRewardPrinted}
-use Rattle.mdp_command_solve.proofs.Printing.{found_among, name_of_reward, reward_ranks, reward_printed, text_printed}
+use Rattle.mdp_rows.proofs.FoundNames.{found_among, name_of_reward}
+use Rattle.mdp_command_solve.proofs.Printing.{reward_ranks, reward_printed, text_printed}
 use Rattle.mdp_command_solve.proofs.rewarding.solve_named.Goals as goal
 
 pub reward_certificate_of-cert-requires-clause-name : goal.reward_certificate_of-cert-requires-clause-name

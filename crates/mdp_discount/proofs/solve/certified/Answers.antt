@@ -8,7 +8,8 @@ use Rattle.mdp_discount_rules.specs.Checks.{written_greatest}
 use Rattle.mdp_discount_rules.proofs.Greatest.{written_greatest-some}
 use Rattle.mdp_discount_rules.proofs.DiscountRules.{discount_never_no}
 use Rattle.mdp_text.proofs.InitialState.{initial_below}
-use Rattle.mdp_discount_rules.proofs.Names.{name_of_reward, init-inside}
+use Rattle.mdp_rows.proofs.FoundNames.{name_of_reward}
+use Rattle.mdp_discount_rules.proofs.Names.{init-inside}
 use Rattle.mdp_discount.proofs.solve.certified.Goals as goal
 
 pub invariant_of-cert : goal.invariant_of-cert

@@ -10,7 +10,8 @@ use Rattle.mdp_witness.specs.Query.{EndsSo}
 use Rattle.mdp_command_witness.specs.Certificate.{certificate_of}
 use Rattle.mdp_command_witness.specs.Shown.{IsWitness, IsWitnessPrinted}
 use Rattle.mdp_text.proofs.InitialState.{initial_below}
-use Rattle.mdp_command_witness.proofs.Printing.{found_among, dir_is, is_witness, printed, text_printed, text_due}
+use Rattle.mdp_rows.proofs.FoundNames.{found_among}
+use Rattle.mdp_command_witness.proofs.Printing.{dir_is, is_witness, printed, text_printed, text_due}
 use Rattle.mdp_command_witness.proofs.searching.Asked.from_start.Goals as goal
 
 pub witness-requires-clause-start : goal.witness-requires-clause-start
