@@ -239,8 +239,9 @@ fn follow_bounds(
     }
 }
 
-/// The rules at state `s`, where the policy takes this choice.
-fn mean_bounds_at_state(
+/// The rules at state `s`, where the policy takes this choice: the first that fails, or the first sum past width. Gains and relative values are one per
+/// state.
+pub fn mean_bounds_at_state(
     model: &Model,
     m: u32,
     dir: Dir,

@@ -220,8 +220,8 @@ fn follow_bounds(
     }
 }
 
-/// The rules at state `s`, where the policy takes this choice.
-fn bounds_at_state(
+/// The rules at state `s`, where the policy takes this choice: the first that fails, or the first sum past width. One value and one rank per state.
+pub fn reach_bounds_at_state(
     model: &Model,
     goals: &Marks,
     dir: Dir,
@@ -262,7 +262,7 @@ fn bounds_at_states(
     ensures { result ≡ objection_to (bounds_checks dir model.now goals.now lower.now upper.now choices.now ranks.now) }
 {
     each_below(model.states(), |s| {
-        bounds_at_state(
+        reach_bounds_at_state(
             model,
             goals,
             dir,

@@ -294,8 +294,9 @@ fn upper_at_state(
     upper_place(model, m, goals, dir, values, ranks, s, choice)
 }
 
-/// The rules at state `s`, where the policy takes this choice.
-fn reward_bounds_at_state(
+/// The rules at state `s`, where the policy takes this choice: the first that fails, or the first sum past width. One value and one rank per state, none
+/// for an infinite value.
+pub fn reward_bounds_at_state(
     model: &Model,
     m: u32,
     goals: &Marks,

@@ -31,8 +31,9 @@ fn covering<'a>(
     }
 }
 
-/// The rules at state `s`, where the policy takes this choice.
-fn bounds_at_state(
+/// The rules at state `s`, where the policy takes this choice: the first that fails, or the first written term past width. One value per state, none where
+/// nothing is claimed.
+pub fn discount_bounds_at_state(
     model: &Model,
     m: u32,
     dir: Dir,
@@ -84,7 +85,7 @@ fn bounds_at_states(
     ensures { result ≡ objection_to (state_checks dir model.now m factor.now lower.now upper.now choices.now) }
 {
     each_below(model.states(), |s| {
-        bounds_at_state(model, m, dir, factor, lower, upper, s, choices[s as usize])
+        discount_bounds_at_state(model, m, dir, factor, lower, upper, s, choices[s as usize])
     })
 }
 

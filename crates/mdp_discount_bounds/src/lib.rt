@@ -14,7 +14,7 @@ mod remainder;
 pub use bounds::DiscountBounds;
 pub use cert::DiscountBoundsCert;
 pub use checking::check_discount_bounds;
-pub use holds::holds_bounds_discount;
+pub use holds::{discount_bounds_at_state, holds_bounds_discount};
 pub use init::InitialBounds;
 pub use laws::{discount_bounds_law, discount_no_law};
 pub use mdp_discount_rules::DiscountAnswer;

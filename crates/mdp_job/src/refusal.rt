@@ -9,10 +9,10 @@ ghost use Rattle.mdp_wide.specs.Term.{shown};
 use crate::status::Status;
 use crate::words_error::WordsError;
 use itoa::Buffer;
-use mdp_cert::CertKind;
 use mdp_drn::DrnKind;
 use mdp_farkas::{Fault, Rule};
 use mdp_num::{Frac, Memory};
+use mdp_text::CertKind;
 use mdp_wide::{Kind, Part, TooWide};
 use std::alloc::AllocError;
 

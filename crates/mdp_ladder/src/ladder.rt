@@ -2,8 +2,10 @@
 
 ghost use Rattle.std.specs.Prelude.{◌≡◌, true, IfOk, IfSome};
 
+use crate::few::{Few, all_flags};
 use crate::proposed::MOST_DIGITS;
 use mdp_num::Memory;
+use mdp_rows::Model;
 use std::alloc::Global;
 
 /// The numbers of digits that are tried where more of them came to nothing that meets the rules.
@@ -11,6 +13,9 @@ const FEWER_DIGITS: [u32; 5] = [12, 9, 6, 3, 0];
 
 /// A search for bounds of one model, under one objective and direction.
 pub trait Search {
+    /// What the search proposes.
+    type Near: Drop;
+
     /// A certificate of such bounds.
     type Cert: Drop;
 
@@ -20,14 +25,31 @@ pub trait Search {
     // The certificate has, and meets the rules.
     ghost is_held: { Self → Self.Cert → Type 0 };
 
+    /// The model.
+    fn model(&self) -> &Model;
+
     /// What the search proposes with so many digits.
-    fn near(&self, alloc: Global, digits: u32) -> Result<Self::Cert, Memory>
+    fn near(&self, alloc: Global, digits: u32) -> Result<Self::Near, Memory>;
+
+    /// The same with more digits than those of what it proposed before, with which it may begin.
+    fn nearer(&self, alloc: Global, digits: u32, before: &Self::Near) -> Result<Self::Near, Memory>;
+
+    /// The bounds that it proposed.
+    fn proposed(&self, alloc: Global, near: &Self::Near) -> Result<Self::Cert, Memory>
         ensures { IfOk result (is_sized self.now) };
 
-    /// The simplest fractions between the bounds of a certificate, which the search proposed with so many digits, as exact values.
-    fn simplest(&self, alloc: Global, cert: &Self::Cert, digits: u32) -> Result<Self::Cert, Memory>
-        requires { is_sized self.now cert.now }
+    /// The simplest fractions between the bounds that it proposed, as exact values, at the flagged states.
+    fn simplest(
+        &self,
+        alloc: Global,
+        near: &Self::Near,
+        is_sought: &[bool],
+    ) -> Result<Self::Cert, Memory>
         ensures { IfOk result (is_sized self.now) };
+
+    /// Whether the rules say yes to a certificate at a state, or there is no such state.
+    fn holds_at(&self, cert: &Self::Cert, s: u32) -> bool
+        requires { is_sized self.now cert.now };
 
     /// Whether the rules say yes to a certificate.
     fn holds(&self, cert: &Self::Cert) -> bool
@@ -51,24 +73,48 @@ fn held<S: Search>(search: &S, cert: S::Cert) -> Option<S::Cert>
     }
 }
 
-/// The simplest fractions between the bounds of a certificate, as exact values, where the rules say yes to them.
+/// Whether the rules say yes to a certificate at each of these states.
+fn holds_at_each<S: Search>(search: &S, cert: &S::Cert, states: &[u32]) -> bool
+    requires { S.is_sized search.now cert.now }
+{
+    states.iter().all(|s| search.holds_at(cert, *s))
+}
+
+/// The simplest fractions between the bounds that the search proposed, as exact values, where the rules say yes to them: first at a few states.
 fn held_exact<S: Search>(
     alloc: Global,
     search: &S,
-    cert: &S::Cert,
-    digits: u32,
+    near: &S::Near,
 ) -> Result<Option<S::Cert>, Memory>
-    requires { S.is_sized search.now cert.now }
     ensures { IfOk result (λ found. IfSome found (S.is_held search.now)) }
 {
-    let exact = search.simplest(alloc, cert, digits)?;
+    let few = Few::of(alloc, search.model())?;
+    let first = search.simplest(alloc, near, &few.is_needed)?;
+    if !holds_at_each(search, &first, &few.states) {
+        return Ok(None);
+    }
+    let all = all_flags(alloc, search.model())?;
+    let exact = search.simplest(alloc, near, &all)?;
     Ok(held(search, exact))
 }
 
-/// The same of what the search proposes with the most digits, where these are more than so many.
+/// The bounds that the search proposed, where the rules say yes to them.
+fn held_proposed<S: Search>(
+    alloc: Global,
+    search: &S,
+    near: &S::Near,
+) -> Result<Option<S::Cert>, Memory>
+    ensures { IfOk result (λ found. IfSome found (S.is_held search.now)) }
+{
+    let cert = search.proposed(alloc, near)?;
+    Ok(held(search, cert))
+}
+
+/// The same of what the search proposes with the most digits, where these are more than those of what it proposed before.
 fn held_exact_with_most<S: Search>(
     alloc: Global,
     search: &S,
+    near: &S::Near,
     digits: u32,
 ) -> Result<Option<S::Cert>, Memory>
     ensures { IfOk result (λ found. IfSome found (S.is_held search.now)) }
@@ -76,19 +122,19 @@ fn held_exact_with_most<S: Search>(
     if digits >= MOST_DIGITS {
         return Ok(None);
     }
-    let cert = search.near(alloc, MOST_DIGITS)?;
-    held_exact(alloc, search, &cert, MOST_DIGITS)
+    let more = search.nearer(alloc, MOST_DIGITS, near)?;
+    held_exact(alloc, search, &more)
 }
 
 /// What the search proposes with so many digits, where the rules say yes to it: first the simplest fractions between its bounds, as exact values.
 fn held_near<S: Search>(alloc: Global, search: &S, digits: u32) -> Result<Option<S::Cert>, Memory>
     ensures { IfOk result (λ found. IfSome found (S.is_held search.now)) }
 {
-    let cert = search.near(alloc, digits)?;
-    if let Some(exact) = held_exact(alloc, search, &cert, digits)? {
+    let near = search.near(alloc, digits)?;
+    if let Some(exact) = held_exact(alloc, search, &near)? {
         return Ok(Some(exact));
     }
-    Ok(held(search, cert))
+    held_proposed(alloc, search, &near)
 }
 
 /// What the search proposes with fewer digits, the most of them for which the rules say yes to it.
@@ -115,13 +161,13 @@ pub fn bounds_by<S: Search>(alloc: Global, search: &S, digits: u32) -> Result<S:
     ensures { IfOk result (S.is_held search.now) }
 {
     let near = search.near(alloc, digits)?;
-    if let Some(exact) = held_exact(alloc, search, &near, digits)? {
+    if let Some(exact) = held_exact(alloc, search, &near)? {
         return Ok(exact);
     }
-    if let Some(exact) = held_exact_with_most(alloc, search, digits)? {
+    if let Some(exact) = held_exact_with_most(alloc, search, &near, digits)? {
         return Ok(exact);
     }
-    if let Some(cert) = held(search, near) {
+    if let Some(cert) = held_proposed(alloc, search, &near)? {
         return Ok(cert);
     }
     if let Some(cert) = held_with_fewer(alloc, search, digits)? {

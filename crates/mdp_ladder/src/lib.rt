@@ -2,10 +2,11 @@
 //! bounds, and how what is proposed becomes fractions and lists.
 #![tactic(auto)]
 
+mod few;
 mod ladder;
 mod proposed;
 mod simplest;
 
 pub use ladder::{Search, bounds_by};
 pub use proposed::{MOST_DIGITS, fraction, fractions, listed, numbers};
-pub use simplest::{all_capped, all_simplest_near, simplest_rewards, simplest_values};
+pub use simplest::{all_capped, simplest_near_values, simplest_rewards, simplest_values};

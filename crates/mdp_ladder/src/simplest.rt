@@ -2,6 +2,7 @@
 
 ghost use Rattle.std.specs.Prelude.{◌≡◌, length, IfOk};
 
+use crate::proposed::fraction;
 use mdp_num::Frac;
 use std::alloc::{AllocError, Global};
 
@@ -105,24 +106,56 @@ fn simplest_between(lower: &Frac, upper: &Frac) -> Frac {
     simplest_terms(Terms::of(lower), Terms::of(upper)).unwrap_or(*lower)
 }
 
-/// The simplest fraction of each state from its lower to its upper value.
+/// The simplest fraction from a lower to an upper value in units of 1 over `one`; the lower value where a term is past 128 bits.
+fn simplest_of_units(lower: i128, upper: i128, one: i128) -> Frac {
+    let low = Terms {
+        num: lower,
+        den: one,
+    };
+    let high = Terms {
+        num: upper,
+        den: one,
+    };
+    match simplest_terms(low, high) {
+        Some(simplest) => simplest,
+        None => fraction(lower, one),
+    }
+}
+
+/// The value of a state, 0 where there is none.
+fn value_of(values: &[i128], s: u32) -> i128 {
+    values.get(s as usize).copied().unwrap_or(0)
+}
+
+/// Whether a state is flagged.
+fn is_flagged(flags: &[bool], s: u32) -> bool {
+    flags.get(s as usize).copied().unwrap_or(false)
+}
+
+/// The simplest fraction of each flagged state from its lower to its upper value, in units of 1 over `one`; 0 of the others.
 pub fn simplest_values(
     alloc: Global,
     states: u32,
-    lower: &[Frac],
-    upper: &[Frac],
+    lower: &[i128],
+    upper: &[i128],
+    one: i128,
+    is_sought: &[bool],
 ) -> Result<Vec<Frac>, AllocError>
-    requires lower { length lower.now ≡ states }
-    requires upper { length upper.now ≡ states }
     ensures { IfOk result (λ values. length values.items ≡ states) }
 {
     (0..states)
-        .map(|s| simplest_between(&lower[s as usize], &upper[s as usize]))
+        .map(|s| {
+            if is_flagged(is_sought, s) {
+                simplest_of_units(value_of(lower, s), value_of(upper, s), one)
+            } else {
+                Frac::whole(0)
+            }
+        })
         .collect(alloc)
 }
 
 /// The simplest fraction from a lower to an upper value, where both are there; else the lower one.
-fn simplest_reward_between(lower: Option<Frac>, upper: Option<Frac>) -> Option<Frac> {
+fn simplest_reward(lower: Option<Frac>, upper: Option<Frac>) -> Option<Frac> {
     match (lower, upper) {
         (Some(least), Some(greatest)) => Some(simplest_between(&least, &greatest)),
         _ => lower,
@@ -134,19 +167,29 @@ fn capped(value: Option<Frac>, upper: Option<Frac>) -> Option<Frac> {
     if upper.is_some() { value } else { None }
 }
 
-/// The simplest fraction of each state from its lower to its upper value; the lower one where one of them is missing.
+/// The reward of a state; none where it is infinite, or there is no such state.
+fn reward_of(rewards: &[Option<Frac>], s: u32) -> Option<Frac> {
+    rewards.get(s as usize).copied().unwrap_or(None)
+}
+
+/// The simplest fraction of each flagged state from its lower to its upper value; the lower one where one of them is missing, and none of the others.
 pub fn simplest_rewards(
     alloc: Global,
     states: u32,
     lower: &[Option<Frac>],
     upper: &[Option<Frac>],
+    is_sought: &[bool],
 ) -> Result<Vec<Option<Frac>>, AllocError>
-    requires lower { length lower.now ≡ states }
-    requires upper { length upper.now ≡ states }
     ensures { IfOk result (λ values. length values.items ≡ states) }
 {
     (0..states)
-        .map(|s| simplest_reward_between(lower[s as usize], upper[s as usize]))
+        .map(|s| {
+            if is_flagged(is_sought, s) {
+                simplest_reward(reward_of(lower, s), reward_of(upper, s))
+            } else {
+                None
+            }
+        })
         .collect(alloc)
 }
 
@@ -157,42 +200,47 @@ pub fn all_capped(
     values: &[Option<Frac>],
     upper: &[Option<Frac>],
 ) -> Result<Vec<Option<Frac>>, AllocError>
-    requires values { length values.now ≡ states }
-    requires upper { length upper.now ≡ states }
     ensures { IfOk result (λ capped. length capped.items ≡ states) }
 {
     (0..states)
-        .map(|s| capped(values[s as usize], upper[s as usize]))
+        .map(|s| capped(reward_of(values, s), reward_of(upper, s)))
         .collect(alloc)
 }
 
-/// 10^-`digits`, for digits of at most 30.
-fn unit_of(digits: u32) -> Option<Frac> {
-    let den = 10i128.checked_pow(digits)?;
-    Frac::try_new(1, den).ok()
-}
-
-/// The simplest fraction from a value less the unit to the value plus the unit; the value where a term is past 128 bits.
-fn simplest_near(value: &Frac, unit: &Frac) -> Frac {
-    match (value.sub(unit), value.add(unit)) {
-        (Ok(lower), Ok(upper)) => {
-            simplest_terms(Terms::of(&lower), Terms::of(&upper)).unwrap_or(*value)
-        }
-        _ => *value,
+/// The simplest fraction that lies within so many units of a value in units of 1 over `one`; the value where a term is past 128 bits.
+fn simplest_near(value: i128, room: i128, one: i128) -> Frac {
+    match (value.checked_sub(room), value.checked_add(room)) {
+        (Some(lower), Some(upper)) => simplest_of_units(lower, upper, one),
+        _ => fraction(value, one),
     }
 }
 
-/// The simplest fraction near each of these, as far as half of the digits.
-pub fn all_simplest_near(
+/// The simplest fraction near the value of each flagged state, as far as half of the digits; 0 of the others. The values are in units of 1 over `one`, which
+/// is 10 to the power of `digits`.
+pub fn simplest_near_values(
     alloc: Global,
-    values: &[Frac],
+    states: u32,
+    values: &[i128],
+    one: i128,
     digits: u32,
+    is_sought: &[bool],
 ) -> Result<Vec<Frac>, AllocError>
-    ensures { IfOk result (λ simple. length simple.items ≡ length values.now) }
+    ensures { IfOk result (λ simple. length simple.items ≡ states) }
 {
-    let unit = unit_of(digits / 2).unwrap_or(Frac::whole(0));
-    values
-        .iter()
-        .map(|value| simplest_near(value, &unit))
+    let room = room_of(digits);
+    (0..states)
+        .map(|s| {
+            if is_flagged(is_sought, s) {
+                simplest_near(value_of(values, s), room, one)
+            } else {
+                Frac::whole(0)
+            }
+        })
         .collect(alloc)
+}
+
+/// How many units of 10^-`digits` are 10 to the power of minus half of the digits.
+fn room_of(digits: u32) -> i128 {
+    let half = digits / 2;
+    10i128.checked_pow(digits - half).unwrap_or(0)
 }

@@ -229,7 +229,7 @@ fn is_any(states: u32, marks: &Marks) -> bool
 }
 
 /// No end component at any state.
-pub(crate) fn no_parts(alloc: Global, model: &Model) -> Result<Vec<Option<u32>>, AllocError> {
+pub fn no_parts(alloc: Global, model: &Model) -> Result<Vec<Option<u32>>, AllocError> {
     vec![in alloc; None; model.states() as usize]
 }
 

@@ -1,21 +1,22 @@
-//! Bounds of the probability to reach a goal, and of the expected reward until then, near to each other, proposed by searches. Nothing is promised of what
-//! they propose: it is to be checked against the rules of mdp_bounds.
+//! Bounds of the probability to reach a goal, near to each other, proposed by a search, and what the searches for other bounds share with it. Nothing is
+//! promised of what it proposes: it is to be checked against the rules of mdp_bounds.
 #![tactic(auto)]
 
 mod backward;
+mod choice_rows;
 mod choices;
 mod decided;
-mod earning;
 mod ends;
 mod lists;
 mod policy;
 mod propose;
 mod ranks;
-mod reward;
 
 pub use backward::Backward;
+pub use choice_rows::{choice_row, sized_rows};
 pub use choices::ChoiceFlags;
-pub use ends::ends_inside;
+pub use ends::{ends_inside, no_parts};
+pub use lists::flags_of;
 pub use policy::{Gathered, policy_of};
 pub use propose::{NearReach, near_reach};
-pub use reward::{NearReward, near_reward};
+pub use ranks::max_ranks;

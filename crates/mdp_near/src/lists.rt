@@ -6,7 +6,7 @@ use mdp_rows::Marks;
 use std::alloc::{AllocError, Global};
 
 /// The marks, one truth value for each state.
-pub(crate) fn flags_of(alloc: Global, states: u32, marks: &Marks) -> Result<Vec<bool>, AllocError>
+pub fn flags_of(alloc: Global, states: u32, marks: &Marks) -> Result<Vec<bool>, AllocError>
     requires { length marks.now ≡ states }
 {
     (0..states).map(|s| marks.at(s)).collect(alloc)

@@ -2,6 +2,7 @@ ghost use Rattle.std.specs.Prelude.{◌≡◌, length};
 ghost use Rattle.mdp_spec.specs.Mdp.{states_of};
 
 use crate::backward::Backward;
+use crate::choice_rows::open_rows;
 use crate::decided::{Decided, Kind, decide, kind_at};
 use crate::ends::joined_parts;
 use crate::lists::flags_of;
@@ -99,7 +100,7 @@ impl Search<'_> {
             Bound::Upper => one,
         };
         let task = Task {
-            dir: self.dir,
+            is_max: self.dir == Dir::Max,
             bound,
             anyway: Some(anyway),
             to_end: true,
@@ -216,7 +217,7 @@ pub fn near_reach(
     let parts = joined_parts(alloc, model, &backward, &decided.kinds, dir)?;
     let nodes = Nodes::new(alloc, &parts)?;
     let is_open = are_open(alloc, &decided.kinds)?;
-    let rows = Rows::new(alloc, model, &nodes, &is_open, digits.min(MOST_DIGITS))?;
+    let rows = open_rows(alloc, model, &nodes, &is_open, digits.min(MOST_DIGITS))?;
     let is_goal = flags_of(alloc, states, goals)?;
     let search = Search {
         model,

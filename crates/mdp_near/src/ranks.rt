@@ -76,7 +76,7 @@ fn start_ranking<'a>(
 
 /// The ranks for the greatest value: the least numbers of steps from each state to a goal by a policy, past no state of value 0. None where a state of
 /// another value has none.
-pub(crate) fn max_ranks(
+pub fn max_ranks(
     alloc: Global,
     backward: &Backward,
     goals: &[bool],

@@ -5,7 +5,7 @@ use crate::extent::extent_of;
 use mdp_ladder::{MOST_DIGITS, fraction};
 use mdp_num::{Frac, Memory};
 use mdp_refinement::{
-    Bound, Discount, Nodes, Rows, Scale, Solution, Task, digits_of, put, solve, value_at,
+    Bound, ChoiceRow, Discount, Nodes, Rows, Scale, Solution, Task, digits_of, put, solve, value_at,
 };
 use mdp_rows::{Dir, Model};
 use std::alloc::{AllocError, Global};
@@ -50,7 +50,14 @@ impl Search<'_, '_> {
         let model = self.model;
         for c in 0..model.choices(s) {
             let reward = model.reward(self.name, s, c);
-            rows.push_discounted_row(self.nodes, s, c, model.row(s, c), &reward, self.discount)?;
+            let row = model.row(s, c);
+            let row = ChoiceRow {
+                state: s,
+                choice: c,
+                targets: row.targets,
+                probs: row.probs,
+            };
+            rows.push_discounted_row(self.nodes, row, &reward, self.discount)?;
         }
         Ok(())
     }
@@ -82,7 +89,7 @@ impl Search<'_, '_> {
         let mut given = vec![in alloc; None; self.nodes.count() as usize]?;
         put(&mut given, self.discount.end, Some(0));
         let task = Task {
-            dir: self.dir,
+            is_max: self.dir == Dir::Max,
             bound,
             anyway: None,
             to_end,

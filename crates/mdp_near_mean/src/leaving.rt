@@ -2,6 +2,7 @@
 
 use crate::payoffs::Payoffs;
 use crate::values::gain_in_unit;
+use mdp_near::choice_row;
 use mdp_num::Frac;
 use mdp_refinement::{Bound, Nodes, Rows, Scale, WholeRow, value_at};
 use std::alloc::{AllocError, Global};
@@ -19,12 +20,15 @@ fn push_leaving(
         return Ok(());
     }
     for c in 0..model.choices(s) {
-        let reward = if is_earning {
-            payoffs.reward(s, c)
-        } else {
-            Frac::whole(0)
-        };
-        rows.push_row(nodes, s, c, model.row(s, c), &reward)?;
+        let row = choice_row(model, s, c);
+        if !nodes.are_in(row.targets, nodes.of(s)) {
+            let reward = if is_earning {
+                payoffs.reward(s, c)
+            } else {
+                Frac::whole(0)
+            };
+            rows.push_row(nodes, row, &reward)?;
+        }
     }
     Ok(())
 }

@@ -1,9 +1,19 @@
 //! The rows of choices with their rewards. For the least mean payoff the rewards are negated, so that the greatest is sought alone.
 
+use mdp_near::{choice_row, sized_rows};
 use mdp_num::Frac;
 use mdp_refinement::{Nodes, Rows, Scale, above_magnitude, digits_of, flag_at};
 use mdp_rows::{Dir, Model};
 use std::alloc::{AllocError, Global};
+
+/// The greatest denominator of fractions, and at least 1.
+fn greatest_denominator(fractions: &[Frac]) -> i128 {
+    let mut greatest = 1i128;
+    for fraction in fractions {
+        greatest = greatest.max(fraction.den());
+    }
+    greatest
+}
 
 /// A model with the rewards of one name, negated for the least mean payoff.
 #[derive(Clone, Copy)]
@@ -45,6 +55,27 @@ impl Payoffs<'_> {
         digits_of(size)
     }
 
+    /// The greatest denominator of a probability of a state's choices, and at least 1.
+    fn denominator_at(self, s: u32) -> i128 {
+        let model = self.model;
+        let mut greatest = 1i128;
+        if s < model.states() {
+            for c in 0..model.choices(s) {
+                greatest = greatest.max(greatest_denominator(model.row(s, c).probs));
+            }
+        }
+        greatest
+    }
+
+    /// How many digits the greatest denominator of a probability has.
+    pub(crate) fn denominator_digits(self) -> u32 {
+        let mut greatest = 1i128;
+        for s in 0..self.model.states() {
+            greatest = greatest.max(self.denominator_at(s));
+        }
+        digits_of(greatest)
+    }
+
     /// How many choices a state has; none where there is no such state.
     pub(crate) fn choices(self, s: u32) -> u32 {
         let model = self.model;
@@ -66,7 +97,7 @@ impl Payoffs<'_> {
         let model = self.model;
         if s < model.states() && c < model.choices(s) {
             let reward = self.reward(s, c);
-            rows.push_any_row(nodes, s, c, model.row(s, c), &reward)?;
+            rows.push_any_row(nodes, choice_row(model, s, c), &reward)?;
         }
         Ok(())
     }
@@ -93,7 +124,7 @@ impl Payoffs<'_> {
         scale: Scale,
     ) -> Result<Rows, AllocError> {
         let nodes = self.alone(alloc)?;
-        let mut rows = Rows::sized(alloc, self.model, nodes.count(), is_kept, scale)?;
+        let mut rows = sized_rows(alloc, self.model, nodes.count(), is_kept, scale)?;
         for s in 0..self.model.states() {
             rows.push_node()?;
             if flag_at(is_kept, s) {

@@ -14,6 +14,12 @@ use std::alloc::{AllocError, Global};
 /// By how many digits more before the point biases have room for than rewards.
 const BIAS_ROOM: u32 = 4;
 
+/// How many digits a row has room for, before and behind the point.
+const MOST_ROOM: u32 = 37;
+
+/// No fewer digits than these are sought so that rows need no coarser units.
+const LEAST_FITTING: u32 = 24;
+
 /// What the search came to, for each state: gains and relative values in units, and choices.
 #[derive(Drop)]
 struct Outcome {
@@ -55,7 +61,7 @@ struct Lower {
 /// What is sought: values that are the greatest, of this bound.
 fn task(bound: Bound) -> Task {
     Task {
-        dir: Dir::Max,
+        is_max: true,
         bound,
         anyway: None,
         to_end: true,
@@ -339,15 +345,63 @@ fn inner_policy(
     Ok(policy)
 }
 
+/// What a search begins with: the end component of each state, if it is in one, and in units biases, and gains or none.
+#[derive(Drop)]
+struct First {
+    parts: Vec<Option<u32>>,
+    bias: Vec<Option<i128>>,
+    gains: Vec<i128>,
+}
+
+/// A value of another search in units that are so many times less, with its sign turned or not; 0 past 128 bits.
+fn scaled(value: i128, times: i128, dir: Dir) -> i128 {
+    let scaled = value.checked_mul(times).unwrap_or(0);
+    match dir {
+        Dir::Max => scaled,
+        Dir::Min => scaled.checked_neg().unwrap_or(0),
+    }
+}
+
+impl First {
+    /// The end components of a model, and biases of 0.
+    fn empty(alloc: Global, model: &Model) -> Result<First, Memory> {
+        Ok(First {
+            parts: all_parts(alloc, model)?,
+            bias: vec![in alloc; Some(0); model.states() as usize]?,
+            gains: Vec::new(alloc),
+        })
+    }
+
+    /// What another search proposed, in units of 1 over `one`.
+    fn of(alloc: Global, near: &NearMean, one: i128, dir: Dir) -> Result<First, AllocError> {
+        let times = one.checked_div(near.one).unwrap_or(0);
+        let mut bias = Vec::with_capacity(alloc, near.bound.len())?;
+        for value in &near.bound {
+            bias.push(Some(scaled(*value, times, dir)))?;
+        }
+        let mut gains = Vec::with_capacity(alloc, near.lower.len())?;
+        for gain in &near.lower {
+            gains.push(scaled(*gain, times, dir))?;
+        }
+        Ok(First {
+            parts: near.parts.clone()?,
+            bias,
+            gains,
+        })
+    }
+}
+
 /// What is found of the end components. The rows of all choices are needed for that alone.
 fn searched_ends(
     alloc: Global,
     payoffs: Payoffs<'_>,
-    parts: &[Option<u32>],
     scale: Scale,
+    parts: &[Option<u32>],
+    bias: Vec<Option<i128>>,
+    gains: &[i128],
 ) -> Result<Ends, AllocError> {
     let all = payoffs.all_rows(alloc, scale)?;
-    let found = end_gains(alloc, &all, parts)?;
+    let found = end_gains(alloc, &all, parts, bias, gains)?;
     let inner = inner_policy(alloc, &all, &found.picks)?;
     let mut bias = found.bias;
     for value in bias.iter_mut() {
@@ -371,20 +425,32 @@ fn all_parts(alloc: Global, model: &Model) -> Result<Vec<Option<u32>>, Memory> {
     Ok(ends_inside(alloc, model, &backward, &inside, choices)?)
 }
 
-/// The states gathered in end components, and what is found of those.
-fn gathered(alloc: Global, payoffs: Payoffs<'_>, scale: Scale) -> Result<(Nodes, Ends), Memory> {
-    let parts = all_parts(alloc, payoffs.model)?;
-    let ends = searched_ends(alloc, payoffs, &parts, scale)?;
-    Ok((Nodes::new(alloc, &parts)?, ends))
+/// How values are written with so many digits, or a few fewer where no row need then be in coarser units.
+fn scale_for(payoffs: Payoffs<'_>, digits: u32) -> Scale {
+    let room = payoffs.room().saturating_add(BIAS_ROOM);
+    let fitting = MOST_ROOM
+        .saturating_sub(room)
+        .saturating_sub(payoffs.denominator_digits());
+    Scale {
+        digits: if fitting < LEAST_FITTING {
+            digits
+        } else {
+            digits.min(fitting)
+        },
+        room,
+    }
 }
 
-/// What the search comes to in units of 10 to the power of -`digits`. What a step alone needs is let go before the next one.
-fn searched(alloc: Global, payoffs: Payoffs<'_>, digits: u32) -> Result<Outcome, Memory> {
-    let scale = Scale {
-        digits,
-        room: payoffs.room().saturating_add(BIAS_ROOM),
-    };
-    let (nodes, ends) = gathered(alloc, payoffs, scale)?;
+/// What the search comes to with values of this scale, and the end component of each state. What a step alone needs is let go before the next one.
+fn searched(
+    alloc: Global,
+    payoffs: Payoffs<'_>,
+    scale: Scale,
+    first: First,
+) -> Result<(Outcome, Vec<Option<u32>>), Memory> {
+    let First { parts, bias, gains } = first;
+    let ends = searched_ends(alloc, payoffs, scale, &parts, bias, &gains)?;
+    let nodes = Nodes::new(alloc, &parts)?;
     let Ends {
         bias,
         upper,
@@ -398,13 +464,15 @@ fn searched(alloc: Global, payoffs: Payoffs<'_>, digits: u32) -> Result<Outcome,
         inner: &inner,
         scale,
     };
-    search.run(alloc, upper, lower)
+    Ok((search.run(alloc, upper, lower)?, parts))
 }
 
-/// Proposed bounds of mean payoffs: for each state a lower and an upper gain, two relative values (the bound and the bias), all in units of 1 over `one`, and a
-/// choice; and the spread of the relative values. Nothing is promised of them, nor of how many there are.
+/// Proposed bounds of mean payoffs: for each state a lower and an upper gain, two relative values (the bound and the bias), all in units of 1 over `one`, which
+/// is 10 to the power of `digits`, and a choice; and the spread of the relative values. Nothing is promised of them, nor of how many there are. A search with more digits begins with them.
 #[derive(Drop)]
 pub struct NearMean {
+    parts: Vec<Option<u32>>,
+    pub digits: u32,
     pub one: i128,
     pub lower: Vec<i128>,
     pub upper: Vec<i128>,
@@ -416,7 +484,8 @@ pub struct NearMean {
 
 impl NearMean {
     /// What a search for the greatest mean payoff came to, as one for this direction.
-    fn turned(found: Outcome, dir: Dir, one: i128) -> NearMean {
+    fn turned(found: Outcome, parts: Vec<Option<u32>>, dir: Dir, digits: u32) -> NearMean {
+        let one = power_of_ten(digits);
         let spread = fraction(width(&found.bound).max(width(&found.bias)), one);
         let Outcome {
             lower,
@@ -436,6 +505,8 @@ impl NearMean {
         turn(&mut bound, dir);
         turn(&mut bias, dir);
         NearMean {
+            parts,
+            digits,
             one,
             lower,
             upper,
@@ -451,16 +522,23 @@ impl NearMean {
 /// rows allow it, with relative values and a policy.
 ///
 /// In each maximal end component a bias is refined until the gains that it comes to are near to each other. Each end component is then one node, where
-/// one stops with its gain or leaves it. For the least mean payoff all rewards are negated.
+/// one stops with its gain or leaves it. For the least mean payoff all rewards are negated. The search begins with what another one of the same model
+/// proposed, if there was one.
 pub fn near_mean(
     alloc: Global,
     model: &Model,
     name: u32,
     dir: Dir,
     digits: u32,
+    before: Option<&NearMean>,
 ) -> Result<NearMean, Memory> {
     model.known();
-    let digits = digits.min(MOST_DIGITS);
-    let found = searched(alloc, Payoffs { model, name, dir }, digits)?;
-    Ok(NearMean::turned(found, dir, power_of_ten(digits)))
+    let payoffs = Payoffs { model, name, dir };
+    let scale = scale_for(payoffs, digits.min(MOST_DIGITS));
+    let first = match before {
+        Some(near) => First::of(alloc, near, power_of_ten(scale.digits), dir)?,
+        None => First::empty(alloc, model)?,
+    };
+    let (found, parts) = searched(alloc, payoffs, scale, first)?;
+    Ok(NearMean::turned(found, parts, dir, scale.digits))
 }

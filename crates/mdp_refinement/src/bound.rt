@@ -1,6 +1,5 @@
 //! Which bound is sought, and what it asks of the choices.
 
-use mdp_rows::Dir;
 use std::cmp::Ordering;
 
 /// A bound from below or from above.
@@ -14,7 +13,8 @@ pub enum Bound {
 /// to the end, by interval iteration where refinement fails, or it ends where the first component can't be refined.
 #[derive(Clone, Copy, PartialEq, Eq)]
 pub struct Task {
-    pub dir: Dir,
+    /// Whether the greatest value is sought, and not the least.
+    pub is_max: bool,
     pub bound: Bound,
     pub anyway: Option<i128>,
     pub to_end: bool,
@@ -23,9 +23,10 @@ pub struct Task {
 impl Task {
     /// Whether the bound is to hold on each choice, and not on the policy's alone.
     pub fn is_each(self) -> bool {
-        match self.dir {
-            Dir::Max => self.bound == Bound::Upper,
-            Dir::Min => self.bound == Bound::Lower,
+        if self.is_max {
+            self.bound == Bound::Upper
+        } else {
+            self.bound == Bound::Lower
         }
     }
 
@@ -39,17 +40,15 @@ impl Task {
 
     /// 1 where greater values are better, -1 where less are.
     pub fn sense(self) -> f64 {
-        match self.dir {
-            Dir::Max => 1.0,
-            Dir::Min => -1.0,
-        }
+        if self.is_max { 1.0 } else { -1.0 }
     }
 
     /// Whether a value is better than another, for whoever chooses.
     pub fn prefers(self, value: i128, other: i128) -> bool {
-        match self.dir {
-            Dir::Max => value > other,
-            Dir::Min => value < other,
+        if self.is_max {
+            value > other
+        } else {
+            value < other
         }
     }
 

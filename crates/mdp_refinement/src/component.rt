@@ -83,7 +83,7 @@ impl Gathering<'_> {
                 }
             }
         }
-        self.pending.sort_by_key(|entry| entry.0)?;
+        self.pending.sort_unstable_by_key(|entry| entry.0);
         Ok(to_float(leaving) / denominator)
     }
 

@@ -117,7 +117,7 @@ impl<'a> Corrector<'a> {
         for place in 0..self.values.len() {
             if let Some((value, row)) = self.best(gains, place) {
                 let node = number(place);
-                change.take(float_at(&self.values, node), value);
+                change.take(float_at(&self.values, node), value, 0.0);
                 put(&mut self.values, node, value);
                 put(greedy, node, row);
             }

@@ -1,10 +1,9 @@
 //! Rows of choices where a step later counts less. What it counts less goes to a node where nothing more is earned, so that each row leaves its component.
 
 use crate::nodes::Nodes;
-use crate::rows::{Entry, Numbers, Rows};
+use crate::rows::{ChoiceRow, Entry, Numbers, Rows};
 use crate::whole::common_denominator;
 use mdp_num::Frac;
-use mdp_rows::Row;
 use std::alloc::AllocError;
 
 /// How much a step later counts: `factor` times as much, where that is at least 0 and below 1. What is left of each probability goes to the node `end`,
@@ -17,7 +16,7 @@ pub struct Discount<'a> {
 
 impl Discount<'_> {
     /// The denominator of a row with this reward; none past width.
-    fn denominator_of(self, row: Row<'_>, reward: &Frac) -> Option<i128> {
+    fn denominator_of(self, row: ChoiceRow<'_>, reward: &Frac) -> Option<i128> {
         let steps = common_denominator(1, row.probs)?;
         common_denominator(steps.checked_mul(self.factor.den())?, &[*reward])
     }
@@ -45,7 +44,7 @@ impl Rows {
     fn take_discounted(
         &mut self,
         nodes: &Nodes,
-        row: Row<'_>,
+        row: ChoiceRow<'_>,
         numbers: Numbers,
         discount: Discount<'_>,
     ) -> Result<bool, AllocError> {
@@ -67,9 +66,7 @@ impl Rows {
     pub fn push_discounted_row(
         &mut self,
         nodes: &Nodes,
-        state: u32,
-        choice: u32,
-        row: Row<'_>,
+        row: ChoiceRow<'_>,
         reward: &Frac,
         discount: Discount<'_>,
     ) -> Result<(), AllocError> {
@@ -78,7 +75,7 @@ impl Rows {
             .and_then(|denominator| self.numbers_over(denominator, reward));
         if let Some(numbers) = numbers {
             if self.take_discounted(nodes, row, numbers, discount)? {
-                return self.push_pending(state, choice, numbers);
+                return self.push_pending(row, numbers);
             }
         }
         self.note_wide();

@@ -5,7 +5,7 @@
 
 mod biases;
 mod bound;
-mod choices;
+mod chain;
 mod component;
 mod convert;
 mod correct;
@@ -33,7 +33,7 @@ pub use graph::Graph;
 pub use lists::{flag_at, number, number_at, put};
 pub use nodes::Nodes;
 pub use recurrent::{EndGains, end_gains};
-pub use rows::{Entry, Rows, Scale, WholeRow, value_at};
+pub use rows::{ChoiceRow, Entry, Rows, Scale, WholeRow, value_at};
 pub use solving::{Solution, solve};
 pub use strong::{Components, strong_components};
 pub use whole::{above_magnitude, digits_of, power_of_ten};

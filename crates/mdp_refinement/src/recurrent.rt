@@ -5,8 +5,9 @@ use crate::bound::Bound;
 use crate::component::Component;
 use crate::convert::{nearest, to_float};
 use crate::graph::Graph;
-use crate::lists::{number, put};
-use crate::rows::{Rows, WholeRow, value_at};
+use crate::intervals::greatest_unit;
+use crate::lists::{float_at, number, put};
+use crate::rows::{Excess, Rows, WholeRow, value_at};
 use crate::strong::{Components, strong_components};
 use crate::whole::{divided, quotient};
 use std::alloc::{AllocError, Global};
@@ -17,7 +18,7 @@ const MOST_ROUNDS: u32 = 12;
 /// How often it is corrected where the gains come no nearer.
 const LEAST_ROUNDS: u32 = 3;
 
-/// Gains that lie no further apart, in units, are near enough.
+/// Gains that lie no further apart than so many of the greatest units of nodes are near enough.
 const NEAR: i128 = 3;
 
 /// For each node of an end component, in units: a bias, an upper gain and a lower one of its component, where they are known, and the place of the row
@@ -73,16 +74,18 @@ impl Range {
 struct Nearest {
     range: Option<Range>,
     width: i128,
+    near: i128,
     gain: i128,
 }
 
 impl Nearest {
-    /// No bounds yet.
-    fn none() -> Nearest {
+    /// No bounds yet, of values whose greatest unit is this. The bias is first corrected for a gain.
+    fn none(unit: i128, gain: i128) -> Nearest {
         Nearest {
             range: None,
             width: i128::MAX,
-            gain: 0,
+            near: unit.saturating_mul(NEAR),
+            gain,
         }
     }
 
@@ -98,7 +101,7 @@ impl Nearest {
 
     /// Whether the bounds are near enough, or come no nearer from some round on.
     fn is_enough(&self, is_nearer: bool, round: u32) -> bool {
-        self.width <= NEAR || !is_nearer && round >= LEAST_ROUNDS
+        self.width <= self.near || !is_nearer && round >= LEAST_ROUNDS
     }
 }
 
@@ -109,60 +112,114 @@ struct Gained {
     over: f64,
 }
 
-/// What a row gains whose unit is that of all values. None past 128 bits.
-fn row_gained_finely(
-    rows: &Rows,
-    row: &WholeRow,
-    bias: &[Option<i128>],
+/// A gain in units of rows: so many of these, and a rest that is at least 0 and less.
+#[derive(Clone, Copy)]
+struct SplitGain {
     gain: i128,
-) -> Option<Gained> {
-    let excess = rows.excess(row, bias, Bound::Lower)?;
-    let (lower, rest) = divided(excess, row.denominator)?;
-    let upper = if rest > 0 {
-        lower.checked_add(1)?
-    } else {
-        lower
-    };
-    let over = excess.checked_sub(row.denominator.checked_mul(gain)?)?;
-    Some(Gained {
-        range: Range { upper, lower },
-        over: to_float(over) / to_float(row.denominator),
-    })
+    unit: i128,
+    steps: i128,
+    rest: i128,
 }
 
-/// What a row gains over the bias of its node, in units, rounded so that it is a bound. None past 128 bits.
-fn gain_of(rows: &Rows, row: &WholeRow, bias: &[Option<i128>], bound: Bound) -> Option<i128> {
-    let excess = rows.excess(row, bias, bound)?;
-    quotient(excess, row.denominator, bound)?.checked_mul(row.unit)
-}
+impl SplitGain {
+    /// A gain in rows of this unit; none where that is 0.
+    fn new(gain: i128, unit: i128) -> Option<SplitGain> {
+        let (steps, rest) = divided(gain, unit)?;
+        Some(SplitGain {
+            gain,
+            unit,
+            steps,
+            rest,
+        })
+    }
 
-/// What a row gains over the bias of its node and over a gain, in floats. None past 128 bits.
-fn float_gain(rows: &Rows, row: &WholeRow, bias: &[Option<i128>], gain: i128) -> Option<f64> {
-    let excess = rows.excess(row, bias, Bound::Lower)?;
-    let steps = gain.checked_div(row.unit)?;
-    let rest = gain.checked_sub(steps.checked_mul(row.unit)?)?;
-    let more = excess.checked_sub(row.denominator.checked_mul(steps)?)?;
-    Some(to_float(more) * to_float(row.unit) / to_float(row.denominator) - to_float(rest))
+    /// The same gain in rows of another unit.
+    fn in_unit(self, unit: i128) -> Option<SplitGain> {
+        if unit == self.unit {
+            Some(self)
+        } else {
+            SplitGain::new(self.gain, unit)
+        }
+    }
+
+    /// What a row has over its denominator times the gain, where it has so much over the bias of its node. None past 128 bits.
+    fn over(self, row: &WholeRow, excess: i128) -> Option<i128> {
+        excess.checked_sub(row.denominator.checked_mul(self.steps)?)
+    }
+
+    /// The gain that is so many units of a row more. None past 128 bits.
+    fn plus(self, row: &WholeRow, more: i128) -> Option<i128> {
+        self.steps.checked_add(more)?.checked_mul(row.unit)
+    }
+
+    /// The bounds of a gain that lies from so much to so much over this one, in the row's denominator. None past 128 bits.
+    fn range(self, row: &WholeRow, least: i128, most: i128) -> Option<Range> {
+        let (lower, rest) = divided(least, row.denominator)?;
+        let upper = if most == least {
+            lower.checked_add(i128::from(rest > 0))?
+        } else {
+            quotient(most, row.denominator, Bound::Upper)?
+        };
+        Some(Range {
+            upper: self.plus(row, upper)?,
+            lower: self.plus(row, lower)?,
+        })
+    }
 }
 
 /// What a row gains. None past 128 bits.
-fn row_gained(rows: &Rows, row: &WholeRow, bias: &[Option<i128>], gain: i128) -> Option<Gained> {
-    if row.unit == 1 {
-        return row_gained_finely(rows, row, bias, gain);
-    }
-    let upper = gain_of(rows, row, bias, Bound::Upper)?;
-    let lower = gain_of(rows, row, bias, Bound::Lower)?;
+fn row_gained(
+    rows: &Rows,
+    row: &WholeRow,
+    bias: &[Option<i128>],
+    gain: SplitGain,
+) -> Option<Gained> {
+    let excess = rows.exact_excess(row, bias)?;
+    let gain = gain.in_unit(row.unit)?;
+    let least = gain.over(row, excess.rounded(Bound::Lower)?)?;
+    let most = if excess.is_whole() {
+        least
+    } else {
+        gain.over(row, excess.rounded(Bound::Upper)?)?
+    };
+    let over = to_float(least) * to_float(row.unit) / to_float(row.denominator);
     Some(Gained {
-        range: Range { upper, lower },
-        over: float_gain(rows, row, bias, gain)?,
+        range: gain.range(row, least, most)?,
+        over: over - to_float(gain.rest),
     })
 }
 
-/// What all rows of a component gain over a gain, and of each node the row whose lower gain is the greatest.
+/// What all rows of a component gain over a gain, and of each node the row whose lower gain is the greatest. A row that lies far behind is due again only when
+/// corrections have moved the gains of rows so far that it may have come up: `moved` is by how much in all, and `dues` where each row is due.
 #[derive(Drop)]
 struct Measured {
     gains: Vec<f64>,
     policy: Vec<usize>,
+    dues: Vec<f64>,
+    moved: f64,
+}
+
+impl Measured {
+    /// Whether a row is the one that its node takes, or may have come up.
+    fn is_due(&self, node: u32, at: usize) -> bool {
+        self.policy.get(node as usize).copied() == Some(at)
+            || !(self.moved < float_at(&self.dues, number(at)))
+    }
+
+    /// Notes what a row gains over the gain.
+    fn note(&mut self, at: usize, over: f64) {
+        put(&mut self.gains, number(at), over);
+        put(&mut self.dues, number(at), self.moved - over / 2.0);
+    }
+
+    /// Notes corrections of the bias and of the gain: the gain of a row changes by twice the greatest of the former and the latter at most.
+    fn note_moves(&mut self, corrections: &[f64], more: f64) {
+        let mut most = 0.0f64;
+        for correction in corrections {
+            most = most.max(correction.abs());
+        }
+        self.moved += 2.0 * most + more.abs();
+    }
 }
 
 /// An end component whose bias is refined.
@@ -170,6 +227,7 @@ struct Measured {
 struct Refinement<'a> {
     rows: &'a Rows,
     component: &'a Component,
+    unit: i128,
 }
 
 impl Refinement<'_> {
@@ -178,33 +236,45 @@ impl Refinement<'_> {
         Ok(Measured {
             gains: vec![in alloc; 0.0; self.component.rows.len()]?,
             policy: vec![in alloc; 0; self.component.len()]?,
+            dues: vec![in alloc; 0.0; self.component.rows.len()]?,
+            moved: 0.0,
         })
     }
 
-    /// Measures the rows of a node over a bias. The range of its gain. None past 128 bits, or where it has no row.
+    /// Measures the rows of a node over a bias that are due. The range of its gain. None past 128 bits, or where it has no row.
     fn measure_node(
         self,
         place: usize,
         bias: &[Option<i128>],
-        gain: i128,
+        gain: SplitGain,
         measured: &mut Measured,
     ) -> Option<Range> {
+        let node = number(place);
         let (from, to) = self.component.range_of(place);
-        let mut best: Option<Range> = None;
+        let mut best: Option<(Range, usize)> = None;
         for at in from..to {
+            if !measured.is_due(node, at) {
+                continue;
+            }
             let row = self.component.rows.get(at)?;
             let found = row_gained(self.rows, self.rows.row(row.place())?, bias, gain)?;
-            put(&mut measured.gains, number(at), found.over);
-            if best.is_none_or(|old| found.range.lower > old.lower) {
-                put(&mut measured.policy, number(place), at);
-            }
-            best = Some(best.map_or(found.range, |old| old.raised(found.range)));
+            measured.note(at, found.over);
+            best = match best {
+                Some((old, chosen)) if found.range.lower <= old.lower => {
+                    Some((old.raised(found.range), chosen))
+                }
+                Some((old, _)) => Some((old.raised(found.range), at)),
+                None => Some((found.range, at)),
+            };
         }
-        best
+        let (range, chosen) = best?;
+        put(&mut measured.policy, node, chosen);
+        Some(range)
     }
 
     /// Measures all rows over a bias. The range of the component's gain. None past 128 bits.
     fn measure(self, bias: &[Option<i128>], gain: i128, measured: &mut Measured) -> Option<Range> {
+        let gain = SplitGain::new(gain, self.unit)?;
         let mut all: Option<Range> = None;
         for place in 0..self.component.len() {
             let own = self.measure_node(place, bias, gain, measured)?;
@@ -230,11 +300,12 @@ impl Refinement<'_> {
         self,
         alloc: Global,
         biases: &mut Biases<'_>,
-        measured: &Measured,
+        measured: &mut Measured,
         bias: &mut [Option<i128>],
         gain: i128,
     ) -> Result<Option<i128>, AllocError> {
         let more = biases.correct(alloc, &measured.gains)?;
+        measured.note_moves(biases.values(), more);
         if self.add(biases.values(), bias).is_none() {
             return Ok(None);
         }
@@ -277,8 +348,9 @@ impl Found {
         biases: &mut Biases<'_>,
         measured: &mut Measured,
         bias: &mut [Option<i128>],
+        gain: i128,
     ) -> Result<Option<Range>, AllocError> {
-        let mut nearest = Nearest::none();
+        let mut nearest = Nearest::none(refinement.unit, gain);
         for round in 0..MOST_ROUNDS {
             let Some(range) = refinement.measure(bias, nearest.gain, measured) else {
                 break;
@@ -305,11 +377,17 @@ impl Found {
         rows: &Rows,
         component: &Component,
         bias: &mut [Option<i128>],
+        gain: i128,
     ) -> Result<Option<Range>, AllocError> {
-        let refinement = Refinement { rows, component };
+        let unit = greatest_unit(rows, &component.nodes);
+        let refinement = Refinement {
+            rows,
+            component,
+            unit,
+        };
         let mut biases = Biases::new(alloc, component)?;
         let mut measured = refinement.unmeasured(alloc)?;
-        self.refine(alloc, refinement, &mut biases, &mut measured, bias)
+        self.refine(alloc, refinement, &mut biases, &mut measured, bias, gain)
     }
 
     /// A gain of each node: that of its component.
@@ -371,18 +449,28 @@ fn end_components(
     strong_components(alloc, &graph, &open_nodes(alloc, rows, parts)?)
 }
 
-/// The greatest gains of the maximal end components that nodes are in, and biases for them. The rows are those of all choices.
+/// The gain of a component that a search begins with: that of its first node.
+fn first_gain(component: &Component, gains: &[i128]) -> i128 {
+    let first = component.nodes.first().copied().unwrap_or(0);
+    gains.get(first as usize).copied().unwrap_or(0)
+}
+
+/// The greatest gains of the maximal end components that nodes are in, and biases for them. The rows are those of all choices. The search begins with such
+/// biases and gains of the nodes, in units; a gain that isn't there is 0.
 pub fn end_gains(
     alloc: Global,
     rows: &Rows,
     parts: &[Option<u32>],
+    first_bias: Vec<Option<i128>>,
+    first_gains: &[i128],
 ) -> Result<EndGains, AllocError> {
     let components = end_components(alloc, rows, parts)?;
-    let mut bias = vec![in alloc; Some(0); parts.len()]?;
+    let mut bias = first_bias;
     let mut found = Found::empty(alloc, parts.len())?;
     for place in 0..components.count() {
         let component = Component::new(alloc, rows, &components, place, &[])?;
-        let range = found.solve(alloc, rows, &component, &mut bias)?;
+        let gain = first_gain(&component, first_gains);
+        let range = found.solve(alloc, rows, &component, &mut bias, gain)?;
         found.ranges.push(range)?;
     }
     Ok(EndGains {

@@ -1,9 +1,11 @@
 //! Relative values of an end component by sweeps: relative value iteration (Puterman 1994, section 8.5) in the manner of Gauss and Seidel. Each node in
-//! turn gets its best value, from new values of the nodes before it and old ones of the others.
+//! turn gets its best value, from new values of the nodes before it and old ones of the others. Between such sweeps others follow the best rows alone
+//! (modified policy iteration, section 8.7).
 
+use crate::chain::{Chain, Visits};
 use crate::component::{Component, FloatRow};
-use crate::lists::{add_at, float_at, number, put};
-use crate::sweeps::{Change, Forecast, Outlook};
+use crate::lists::{float_at, number, put};
+use crate::sweeps::{Change, Forecast, Outlook, WINDOW};
 use std::alloc::{AllocError, Global};
 use std::mem;
 
@@ -11,11 +13,17 @@ use std::mem;
 const LEAST_TOTAL: f64 = 0.125;
 
 /// A sweep that changes values by less than this part of the greatest one, or of the gain, is the last: the rest is left to the next correction.
-const LOSS: f64 = 1e-10;
+const LOSS: f64 = 1e-12;
 
-/// Sweeps over an end component, with the values and the rows that they have come to. A sweep is a step of a chain that takes the best rows and goes on
-/// until it comes to a node whose value is an old one. The gain is what the chain earns by the row in the long run: from sweep to sweep the shares
-/// come nearer to how often it begins at each node.
+/// How many steps of the chain the shares take once the best rows are steady.
+const FEW_STEPS: u32 = 8;
+
+/// How many sweeps follow the best rows before all are tried again, where the last such sweep changed some.
+const FEW_FOLLOWING: usize = 3;
+
+/// Sweeps over an end component, with the values and the rows that they have come to, and the chain of these. Shares come near to how often the chain begins
+/// at each node in the long run, and rows are then taken so many times in a step, `steps`. By such shares the changes of a sweep add up to what the gain lacks
+/// in so many steps, as far as the values or the shares are right: the error is the product of both.
 #[derive(Drop)]
 pub(crate) struct Relative<'a> {
     component: &'a Component,
@@ -23,8 +31,11 @@ pub(crate) struct Relative<'a> {
     gain: f64,
     values: Vec<f64>,
     best_rows: Vec<usize>,
-    shares: Vec<f64>,
-    visits: Vec<f64>,
+    is_steady: bool,
+    chain: Chain,
+    visits: Visits,
+    steps: f64,
+    steps_left: u32,
 }
 
 /// The first row of each node.
@@ -46,8 +57,14 @@ impl<'a> Relative<'a> {
             gain: 0.0,
             values: vec![in alloc; 0.0; nodes]?,
             best_rows: first_rows(alloc, component)?,
-            shares: vec![in alloc; 1.0; nodes]?,
-            visits: vec![in alloc; 0.0; nodes]?,
+            is_steady: false,
+            chain: Chain::empty(alloc),
+            visits: Visits {
+                shares: vec![in alloc; 1.0; nodes]?,
+                visits: vec![in alloc; 0.0; nodes]?,
+            },
+            steps: 1.0,
+            steps_left: FEW_STEPS,
         })
     }
 
@@ -71,15 +88,10 @@ impl<'a> Relative<'a> {
         &self.best_rows
     }
 
-    /// How often a row is taken at a time: until it leaves its node, but for slow ones.
-    fn repeats(&self, row: &FloatRow) -> f64 {
-        self.pace / row.total.max(LEAST_TOTAL)
-    }
-
-    /// What a row that earns so much over the gain makes of its node's value.
+    /// What a row that earns so much over the gain makes of its node's value. It is taken until it leaves its node, but for slow ones.
     fn value_of(&self, row: &FloatRow, earned: f64, old: f64) -> f64 {
         let more = self.component.sum(row, earned, &self.values) - row.total * old;
-        old + more * self.repeats(row)
+        old + more * self.pace / row.total.max(LEAST_TOTAL)
     }
 
     /// The best value of the node at a place, and the row that gives it.
@@ -97,64 +109,62 @@ impl<'a> Relative<'a> {
         best
     }
 
-    /// Gives each node its best value in turn.
+    /// Makes a row the best one of a node.
+    fn prefer(&mut self, node: u32, row: usize) {
+        if let Some(best) = self.best_rows.get_mut(node as usize) {
+            if *best != row {
+                *best = row;
+                self.is_steady = false;
+                self.steps_left = FEW_STEPS;
+            }
+        }
+    }
+
+    /// Gives each node its best value in turn. The best rows are steady where each stays.
     fn sweep(&mut self, gains: &[f64]) -> Change {
         let mut change = Change::none();
-        change.take(self.gain, self.gain);
+        change.take(self.gain, self.gain, 0.0);
+        self.is_steady = true;
         for place in 0..self.values.len() {
             let node = number(place);
             let old = float_at(&self.values, node);
             if let Some((value, row)) = self.best(gains, place, old) {
-                change.take(old, value);
+                change.take(old, value, float_at(&self.visits.shares, node));
                 put(&mut self.values, node, value);
-                put(&mut self.best_rows, node, row);
+                self.prefer(node, row);
             }
         }
         change
     }
 
-    /// Passes the visits of a node on by its best row: to nodes before it as visits, to others as shares. The row, and how often it is taken.
-    fn pass_on(&mut self, node: u32) -> Option<(usize, f64)> {
-        let component = self.component;
-        let chosen = self.best_rows.get(node as usize).copied()?;
-        let row = component.rows.get(chosen)?;
-        let visits = float_at(&self.visits, node);
-        let steps = visits * self.repeats(row);
-        for (target, prob) in component.entries_of(row) {
-            if *target < node {
-                add_at(&mut self.visits, *target, steps * *prob);
-            } else {
-                add_at(&mut self.shares, *target, steps * *prob);
-            }
-        }
-        add_at(
-            &mut self.shares,
-            node,
-            (visits - steps * row.total).max(0.0),
-        );
-        Some((chosen, steps))
+    /// Sweeps over all rows, and takes the best ones for the chain.
+    fn sweep_all(&mut self, gains: &[f64]) -> Result<Change, AllocError> {
+        let change = self.sweep(gains);
+        let rows = &self.best_rows;
+        self.chain
+            .take(self.component, rows, gains, self.pace, LEAST_TOTAL)?;
+        Ok(change)
     }
 
-    /// Makes the shares the visits, and all shares 0.
-    fn begin_visits(&mut self) {
-        mem::swap(&mut self.visits, &mut self.shares);
-        for share in self.shares.iter_mut() {
+    /// Lets the shares take a step of the chain, if more are to come. Makes the shares the visits, and all shares 0, and passes the visits on.
+    fn step_shares(&mut self) {
+        if self.steps_left == 0 {
+            return;
+        }
+        self.steps_left = self.steps_left.saturating_sub(1);
+        mem::swap(&mut self.visits.visits, &mut self.visits.shares);
+        for share in self.visits.shares.iter_mut() {
             *share = 0.0;
         }
+        self.steps = self.chain.pass_all(&mut self.visits);
     }
 
-    /// What the best rows earn over the gain, by the row, as far as the shares tell. These come nearer by one step of the chain.
-    fn earned(&mut self, gains: &[f64]) -> f64 {
-        self.begin_visits();
-        let mut total = 0.0;
-        let mut steps = 0.0;
-        for node in (0..number(self.visits.len())).rev() {
-            if let Some((row, times)) = self.pass_on(node) {
-                total += times * (gains.get(row).copied().unwrap_or(0.0) - self.gain);
-                steps += times;
-            }
+    /// Brings the gain nearer by a sweep's change.
+    fn correct_gain(&mut self, change: Change) {
+        self.step_shares();
+        if self.steps > 0.0 {
+            self.gain += change.drift() / self.steps;
         }
-        if steps > 0.0 { total / steps } else { 0.0 }
     }
 
     /// Makes the values relative to that of the last node.
@@ -165,23 +175,38 @@ impl<'a> Relative<'a> {
         }
     }
 
-    /// Sweeps until the changes are small, for rows that earn this. Whether they became so; it stops where a forecast says that they won't.
-    pub(crate) fn run(&mut self, gains: &[f64], sweeps: usize) -> bool {
+    /// Sets the values and the gain to 0.
+    fn clear(&mut self) {
         self.gain = 0.0;
         for value in self.values.iter_mut() {
             *value = 0.0;
         }
+    }
+
+    /// Sweeps until the changes are small, for rows that earn this. Whether they became so; it stops where a forecast says that they won't.
+    pub(crate) fn run(&mut self, gains: &[f64], sweeps: usize) -> Result<bool, AllocError> {
+        self.clear();
         let mut forecast = Forecast::new(sweeps, self.component.least_unit(), LOSS);
+        let mut following = 0;
         for sweep in 0..sweeps {
-            let change = self.sweep(gains);
-            self.gain += self.earned(gains);
+            let tries_all = following == 0;
+            let change = if tries_all {
+                following = WINDOW;
+                self.sweep_all(gains)?
+            } else {
+                self.chain
+                    .sweep(self.gain, &mut self.values, &self.visits.shares)
+            };
+            self.correct_gain(change);
             self.shift();
-            match forecast.after(sweep, change) {
-                Outlook::Settled => return true,
-                Outlook::Hopeless => return false,
-                Outlook::Open => {}
-            }
+            following = match forecast.after(sweep, change) {
+                Outlook::Settled if tries_all => return Ok(true),
+                Outlook::Settled => 0,
+                Outlook::Hopeless => return Ok(false),
+                Outlook::Open if self.is_steady => following.saturating_sub(1),
+                Outlook::Open => following.min(FEW_FOLLOWING).saturating_sub(1),
+            };
         }
-        false
+        Ok(false)
     }
 }

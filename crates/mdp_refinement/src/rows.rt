@@ -3,11 +3,10 @@ use crate::convert::to_float;
 use crate::lists::{flag_at, number, number_at, put};
 use crate::nodes::Nodes;
 use crate::whole::{
-    common_denominator, compare_scaled, digits_left, divided, is_narrow, power_of_ten, quotient,
-    times_multiple,
+    common_denominator, compare_scaled, digits_left, divided, greatest_with_digits, is_narrow,
+    power_of_ten, quotient, times_multiple,
 };
 use mdp_num::Frac;
-use mdp_rows::Row;
 use std::alloc::{AllocError, Global};
 use std::cmp::Ordering;
 
@@ -16,19 +15,18 @@ use std::cmp::Ordering;
 #[derive(Clone, Copy)]
 pub struct Entry {
     pub node: u32,
-    upper: i64,
+    upper: u64,
     lower: u64,
 }
 
 impl Entry {
-    /// An entry of a node.
+    /// An entry of a node. The numerator is at least 0.
     pub(crate) fn new(node: u32, numerator: i128) -> Entry {
-        let upper = numerator.div_euclid(HALF);
-        let lower = numerator.rem_euclid(HALF);
+        let size = numerator.unsigned_abs();
         Entry {
             node,
-            upper: i64::try_from(upper).unwrap_or(0),
-            lower: u64::try_from(lower).unwrap_or(0),
+            upper: u64::try_from(size >> 64).unwrap_or(0),
+            lower: u64::try_from(size & LOWER_HALF).unwrap_or(0),
         }
     }
 
@@ -37,6 +35,15 @@ impl Entry {
         let upper = i128::from(self.upper).wrapping_mul(HALF);
         upper.wrapping_add(i128::from(self.lower))
     }
+}
+
+/// A choice of a state as a model has it: the states that it leads to, and their probabilities, one each.
+#[derive(Clone, Copy)]
+pub struct ChoiceRow<'a> {
+    pub state: u32,
+    pub choice: u32,
+    pub targets: &'a [u32],
+    pub probs: &'a [Frac],
 }
 
 /// The row of a choice that leaves its node, in whole numbers: `denominator` times its value is `reward` and the sum of `numerator` times value over its
@@ -64,6 +71,12 @@ impl WholeRow {
 /// 2 ^ 64.
 const HALF: i128 = 18_446_744_073_709_551_616;
 
+/// 2 ^ 64 - 1.
+const LOWER_HALF: u128 = 18_446_744_073_709_551_615;
+
+/// Where two numbers of 128 bits begin with so many zeros together, their product is below 2 ^ 126.
+const ZEROS_OF_NARROW: u32 = 130;
+
 /// How values are written: in units of 10 to the power of -`digits`, with room for so many digits before the point.
 #[derive(Clone, Copy)]
 pub struct Scale {
@@ -71,10 +84,13 @@ pub struct Scale {
     pub room: u32,
 }
 
-/// The rows of nodes, node by node, in the order in which they were pushed. Values are whole numbers in units of 10 to the power of -`digits`.
+/// The rows of nodes, node by node, in the order in which they were pushed. Values are whole numbers in units of 10 to the power of -`digits`, and `one` is 1
+/// in these. A row none of whose numbers is above `most` keeps all digits.
 #[derive(Drop)]
 pub struct Rows {
     scale: Scale,
+    one: i128,
+    most: i128,
     starts: Vec<usize>,
     rows: Vec<WholeRow>,
     entries: Vec<Entry>,
@@ -98,7 +114,7 @@ impl Rows {
     }
 
     /// No row yet, of so many nodes, with memory for so many rows and so many entries.
-    pub(crate) fn with_capacity(
+    pub fn with_capacity(
         alloc: Global,
         nodes: u32,
         rows: usize,
@@ -107,6 +123,8 @@ impl Rows {
     ) -> Result<Rows, AllocError> {
         Ok(Rows {
             scale,
+            one: power_of_ten(scale.digits),
+            most: greatest_with_digits(scale.digits.saturating_add(scale.room)),
             starts: Vec::with_capacity(alloc, nodes as usize)?,
             rows: Vec::with_capacity(alloc, rows)?,
             entries: Vec::with_capacity(alloc, entries)?,
@@ -139,7 +157,7 @@ impl Rows {
     pub(crate) fn take_entries(
         &mut self,
         nodes: &Nodes,
-        row: Row<'_>,
+        row: ChoiceRow<'_>,
         denominator: i128,
     ) -> Result<bool, AllocError> {
         self.pending.clear();
@@ -150,7 +168,7 @@ impl Rows {
             let node = nodes.of(*target);
             self.pending.push(Entry::new(node, numerator))?;
         }
-        self.pending.sort_by_key(|entry| entry.node)?;
+        self.pending.sort_unstable_by_key(|entry| entry.node);
         Ok(true)
     }
 
@@ -172,7 +190,7 @@ impl Rows {
     }
 
     /// The numbers of a row with this reward; none where it is too wide.
-    fn numbers_of(&self, row: Row<'_>, reward: &Frac) -> Option<Numbers> {
+    fn numbers_of(&self, row: ChoiceRow<'_>, reward: &Frac) -> Option<Numbers> {
         self.numbers_over(common_denominator(reward.den(), row.probs)?, reward)
     }
 
@@ -182,23 +200,38 @@ impl Rows {
         if !is_narrow(earned) {
             return None;
         }
-        let scale = self.scale;
-        let most = scale.digits.saturating_add(scale.room);
-        let digits = digits_left(denominator.max(earned.saturating_abs()), most)
-            .saturating_sub(scale.room)
-            .min(scale.digits);
+        let digits = self.digits_for(denominator, earned.saturating_abs());
         Some(Numbers {
             denominator,
-            reward: earned.checked_mul(power_of_ten(digits))?,
+            reward: earned.checked_mul(self.power_of(digits))?,
             digits,
         })
+    }
+
+    /// How many digits a row keeps: its denominator times a value, and what it earns, are to stay in width.
+    fn digits_for(&self, denominator: i128, earned: i128) -> u32 {
+        let scale = self.scale;
+        if denominator <= self.most && earned <= self.most {
+            return scale.digits;
+        }
+        digits_left(denominator, scale.digits.saturating_add(scale.room))
+            .saturating_sub(scale.room)
+            .min(digits_left(earned, scale.digits))
+    }
+
+    /// 10 to the power of so many digits.
+    fn power_of(&self, digits: u32) -> i128 {
+        if digits == self.scale.digits {
+            self.one
+        } else {
+            power_of_ten(digits)
+        }
     }
 
     /// Appends the row whose entries are in `pending`. Where the row is too wide for all digits, its nodes get fewer.
     pub(crate) fn push_pending(
         &mut self,
-        state: u32,
-        choice: u32,
+        of: ChoiceRow<'_>,
         numbers: Numbers,
     ) -> Result<(), AllocError> {
         let first = self.entries.len();
@@ -208,8 +241,8 @@ impl Rows {
             self.limit_from(first, digits);
         }
         let row = WholeRow {
-            state,
-            choice,
+            state: of.state,
+            choice: of.choice,
             node: self.last_node(),
             denominator: numbers.denominator,
             reward: numbers.reward,
@@ -225,29 +258,25 @@ impl Rows {
     pub fn push_row(
         &mut self,
         nodes: &Nodes,
-        state: u32,
-        choice: u32,
-        row: Row<'_>,
+        row: ChoiceRow<'_>,
         reward: &Frac,
     ) -> Result<(), AllocError> {
         if nodes.are_in(row.targets, self.last_node()) {
             return Ok(());
         }
-        self.push_any_row(nodes, state, choice, row, reward)
+        self.push_any_row(nodes, row, reward)
     }
 
     /// Appends the row of a choice, with its reward, to the last node, also one that stays in the node. One that is too wide is only noted.
     pub fn push_any_row(
         &mut self,
         nodes: &Nodes,
-        state: u32,
-        choice: u32,
-        row: Row<'_>,
+        row: ChoiceRow<'_>,
         reward: &Frac,
     ) -> Result<(), AllocError> {
         if let Some(numbers) = self.numbers_of(row, reward) {
             if self.take_entries(nodes, row, numbers.denominator)? {
-                return self.push_pending(state, choice, numbers);
+                return self.push_pending(row, numbers);
             }
         }
         self.note_wide();
@@ -286,7 +315,7 @@ impl Rows {
 
     /// The value 1 in units.
     pub fn one(&self) -> i128 {
-        power_of_ten(self.scale.digits)
+        self.one
     }
 
     /// What the values of a node are multiples of.
@@ -337,8 +366,27 @@ impl Rows {
     }
 
     /// The reward and the sum of numerators times values in units of the row, but for the entry of the row's own node, whose numerator comes beside it.
-    /// None past 128 bits, or where a value isn't known.
+    /// None past 128 bits, or where a value isn't known. As numerators come to the denominator at most, the sum is in width where each value times that is.
     fn sum_of_others(&self, row: &WholeRow, values: &[Option<i128>]) -> Option<(i128, i128)> {
+        let zeros = row.denominator.unsigned_abs().leading_zeros();
+        let mut total = 0i128;
+        let mut own = 0;
+        for entry in self.entries_of(row) {
+            if entry.node == row.node {
+                own = entry.numerator();
+            } else {
+                let value = in_unit(value_at(values, entry.node)?, row.unit)?;
+                if value.unsigned_abs().leading_zeros().saturating_add(zeros) < ZEROS_OF_NARROW {
+                    return self.wide_sum_of_others(row, values);
+                }
+                total = total.wrapping_add(entry.numerator().wrapping_mul(value));
+            }
+        }
+        Some((row.reward.checked_add(total)?, own))
+    }
+
+    /// The same where a product may be past width: each step is checked.
+    fn wide_sum_of_others(&self, row: &WholeRow, values: &[Option<i128>]) -> Option<(i128, i128)> {
         let mut total = row.reward;
         let mut own = 0;
         for entry in self.entries_of(row) {
@@ -355,12 +403,23 @@ impl Rows {
     /// What the row has over the value of its node, in the row's denominator times its unit, rounded so that it is a bound. None past 128 bits, or where
     /// a value isn't known.
     pub fn excess(&self, row: &WholeRow, values: &[Option<i128>], bound: Bound) -> Option<i128> {
+        self.exact_excess(row, values)?.rounded(bound)
+    }
+
+    /// What the row has over the value of its node, exactly. None past 128 bits, or where a value isn't known.
+    pub(crate) fn exact_excess(&self, row: &WholeRow, values: &[Option<i128>]) -> Option<Excess> {
         let (total, own) = self.sum_of_others(row, values)?;
         let others = row.denominator.checked_sub(own)?;
         let (steps, rest) = divided(value_at(values, row.node)?, row.unit)?;
-        let above = total.checked_sub(others.checked_mul(steps)?)?;
-        let less = others.checked_neg()?.checked_mul(rest)?;
-        above.checked_add(quotient(less, row.unit, bound)?)
+        Some(Excess {
+            above: total.checked_sub(others.checked_mul(steps)?)?,
+            less: if rest == 0 {
+                0
+            } else {
+                others.checked_mul(rest)?
+            },
+            unit: row.unit,
+        })
     }
 
     /// How the row's value lies to that of its node. None past 128 bits, or where a value isn't known.
@@ -392,6 +451,30 @@ impl Rows {
         }
         let steps = in_unit(unit, row.unit)?;
         quotient(total, others.checked_mul(steps)?, bound)?.checked_mul(unit)
+    }
+}
+
+/// What a row has over the value of its node, in the row's denominator times its unit: `above`, less the part `less` of that unit.
+#[derive(Clone, Copy)]
+pub(crate) struct Excess {
+    above: i128,
+    less: i128,
+    unit: i128,
+}
+
+impl Excess {
+    /// Whether it is a whole number.
+    pub(crate) fn is_whole(self) -> bool {
+        self.less == 0
+    }
+
+    /// It is rounded so that it is a bound. None past 128 bits.
+    pub(crate) fn rounded(self, bound: Bound) -> Option<i128> {
+        if self.less == 0 {
+            return Some(self.above);
+        }
+        self.above
+            .checked_add(quotient(self.less.checked_neg()?, self.unit, bound)?)
     }
 }
 

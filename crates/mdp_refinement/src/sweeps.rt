@@ -20,11 +20,12 @@ pub(crate) fn many_sweeps(entries: usize) -> usize {
         .max(FEW_SWEEPS + 1)
 }
 
-/// The greatest change of a sweep, and the greatest value.
+/// The greatest change of a sweep, the greatest value, and the sum of all changes times the shares of the nodes.
 #[derive(Clone, Copy)]
 pub(crate) struct Change {
     most: f64,
     size: f64,
+    drift: f64,
 }
 
 impl Change {
@@ -33,18 +34,26 @@ impl Change {
         Change {
             most: 0.0,
             size: 0.0,
+            drift: 0.0,
         }
     }
 
-    /// Takes in the change of a value.
-    pub(crate) fn take(&mut self, old: f64, new: f64) {
-        self.most = self.most.max((new - old).abs());
+    /// Takes in the change of a value of a node that has this share.
+    pub(crate) fn take(&mut self, old: f64, new: f64, share: f64) {
+        let more = new - old;
+        self.most = self.most.max(more.abs());
         self.size = self.size.max(new.abs());
+        self.drift += share * more;
     }
 
     /// The greatest change.
     pub(crate) fn most(self) -> f64 {
         self.most
+    }
+
+    /// The sum of all changes times shares.
+    pub(crate) fn drift(self) -> f64 {
+        self.drift
     }
 
     /// Whether the greatest change is small enough.

@@ -4,9 +4,9 @@ ghost use Rattle.mdp_bounds.specs.Mean.{IsMeanBounds};
 ghost use Rattle.mdp_search_bounds.specs.Held.{HasMeanSizes, IsHeldMean};
 
 use crate::simplest::simplest_mean;
-use mdp_bounds::{MeanBoundsCert, Verdict, holds_bounds_mean};
+use mdp_bounds::{MeanBoundsCert, Verdict, holds_bounds_mean, mean_bounds_at_state};
 use mdp_ladder::{Search, bounds_by, fractions, numbers};
-use mdp_near_mean::near_mean;
+use mdp_near_mean::{NearMean, near_mean};
 use mdp_num::Memory;
 use mdp_rows::{Dir, Model};
 use mdp_trivial_bounds::trivial_mean;
@@ -22,14 +22,27 @@ struct Averaging<'m> {
 }
 
 impl Search for Averaging<'_> {
+    type Near = NearMean;
+
     type Cert = MeanBoundsCert;
 
     ghost is_sized = { λ p cert. HasMeanSizes p.model.now cert };
 
     ghost is_held = { λ p cert. IsHeldMean p.dir p.model.now p.name cert };
 
-    fn near(&self, alloc: Global, digits: u32) -> Result<MeanBoundsCert, Memory> {
-        let near = near_mean(alloc, self.model, self.name, self.dir, digits)?;
+    fn model(&self) -> &Model {
+        self.model
+    }
+
+    fn near(&self, alloc: Global, digits: u32) -> Result<NearMean, Memory> {
+        near_mean(alloc, self.model, self.name, self.dir, digits, None)
+    }
+
+    fn nearer(&self, alloc: Global, digits: u32, before: &NearMean) -> Result<NearMean, Memory> {
+        near_mean(alloc, self.model, self.name, self.dir, digits, Some(before))
+    }
+
+    fn proposed(&self, alloc: Global, near: &NearMean) -> Result<MeanBoundsCert, Memory> {
         let states = self.model.states();
         Ok(MeanBoundsCert {
             lower: fractions(alloc, states, &near.lower, near.one)?,
@@ -44,11 +57,27 @@ impl Search for Averaging<'_> {
     fn simplest(
         &self,
         alloc: Global,
-        cert: &MeanBoundsCert,
-        digits: u32,
+        near: &NearMean,
+        is_sought: &[bool],
     ) -> Result<MeanBoundsCert, Memory> {
-        let exact = simplest_mean(alloc, self.model, cert, digits)?;
+        let exact = simplest_mean(alloc, self.model, near, is_sought)?;
         Ok(exact)
+    }
+
+    fn holds_at(&self, cert: &MeanBoundsCert, s: u32) -> bool {
+        s >= self.model.states()
+            || mean_bounds_at_state(
+                self.model,
+                self.name,
+                self.dir,
+                &cert.lower,
+                &cert.upper,
+                &cert.bound,
+                &cert.bias,
+                s,
+                cert.choices[s as usize],
+            )
+            .is_ok()
     }
 
     fn holds(&self, cert: &MeanBoundsCert) -> bool {

@@ -5,9 +5,9 @@ ghost use Rattle.mdp_search_bounds.specs.Held.{HasReachSizes, IsHeldReach};
 
 use crate::simplest::simplest_reach;
 use crate::trivial::trivial_reach;
-use mdp_bounds::{ReachBoundsCert, Verdict, holds_bounds_reach};
+use mdp_bounds::{ReachBoundsCert, Verdict, holds_bounds_reach, reach_bounds_at_state};
 use mdp_ladder::{Search, bounds_by, fractions, numbers};
-use mdp_near::near_reach;
+use mdp_near::{NearReach, near_reach};
 use mdp_num::Memory;
 use mdp_rows::{Dir, Marks, Model};
 use std::alloc::Global;
@@ -22,14 +22,27 @@ struct Reaching<'m, 'g> {
 }
 
 impl Search for Reaching<'_, '_> {
+    type Near = NearReach;
+
     type Cert = ReachBoundsCert;
 
     ghost is_sized = { λ p cert. HasReachSizes p.model.now cert };
 
     ghost is_held = { λ p cert. IsHeldReach p.dir p.model.now p.goals.now cert };
 
-    fn near(&self, alloc: Global, digits: u32) -> Result<ReachBoundsCert, Memory> {
-        let near = near_reach(alloc, self.model, self.goals, self.dir, digits)?;
+    fn model(&self) -> &Model {
+        self.model
+    }
+
+    fn near(&self, alloc: Global, digits: u32) -> Result<NearReach, Memory> {
+        near_reach(alloc, self.model, self.goals, self.dir, digits)
+    }
+
+    fn nearer(&self, alloc: Global, digits: u32, _before: &NearReach) -> Result<NearReach, Memory> {
+        self.near(alloc, digits)
+    }
+
+    fn proposed(&self, alloc: Global, near: &NearReach) -> Result<ReachBoundsCert, Memory> {
         let states = self.model.states();
         Ok(ReachBoundsCert {
             lower: fractions(alloc, states, &near.lower, near.one)?,
@@ -42,11 +55,26 @@ impl Search for Reaching<'_, '_> {
     fn simplest(
         &self,
         alloc: Global,
-        cert: &ReachBoundsCert,
-        _digits: u32,
+        near: &NearReach,
+        is_sought: &[bool],
     ) -> Result<ReachBoundsCert, Memory> {
-        let exact = simplest_reach(alloc, self.model, cert)?;
+        let exact = simplest_reach(alloc, self.model, near, is_sought)?;
         Ok(exact)
+    }
+
+    fn holds_at(&self, cert: &ReachBoundsCert, s: u32) -> bool {
+        s >= self.model.states()
+            || reach_bounds_at_state(
+                self.model,
+                self.goals,
+                self.dir,
+                &cert.lower,
+                &cert.upper,
+                &cert.ranks,
+                s,
+                cert.choices[s as usize],
+            )
+            .is_ok()
     }
 
     fn holds(&self, cert: &ReachBoundsCert) -> bool {

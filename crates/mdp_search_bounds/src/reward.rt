@@ -4,10 +4,10 @@ ghost use Rattle.mdp_rows.specs.Negative.{has_negative};
 ghost use Rattle.mdp_bounds.specs.Reward.{IsRewardBounds};
 ghost use Rattle.mdp_search_bounds.specs.Held.{HasRewardSizes, IsHeldReward};
 
-use crate::simplest::simplest_reward;
-use mdp_bounds::{RewardBoundsCert, Verdict, holds_bounds_reward};
+use crate::simplest::simplest_rewards_of;
+use mdp_bounds::{RewardBoundsCert, Verdict, holds_bounds_reward, reward_bounds_at_state};
 use mdp_ladder::{Search, bounds_by, listed, numbers};
-use mdp_near::near_reward;
+use mdp_near_reward::{NearReward, near_reward};
 use mdp_num::Memory;
 use mdp_rows::{Dir, Marks, Model};
 use mdp_trivial_bounds::trivial_reward;
@@ -26,14 +26,32 @@ struct Earning<'m, 'g> {
 }
 
 impl Search for Earning<'_, '_> {
+    type Near = NearReward;
+
     type Cert = RewardBoundsCert;
 
     ghost is_sized = { λ p cert. HasRewardSizes p.model.now cert };
 
     ghost is_held = { λ p cert. IsHeldReward p.dir p.model.now p.name p.goals.now cert };
 
-    fn near(&self, alloc: Global, digits: u32) -> Result<RewardBoundsCert, Memory> {
-        let near = near_reward(alloc, self.model, self.name, self.goals, self.dir, digits)?;
+    fn model(&self) -> &Model {
+        self.model
+    }
+
+    fn near(&self, alloc: Global, digits: u32) -> Result<NearReward, Memory> {
+        near_reward(alloc, self.model, self.name, self.goals, self.dir, digits)
+    }
+
+    fn nearer(
+        &self,
+        alloc: Global,
+        digits: u32,
+        _before: &NearReward,
+    ) -> Result<NearReward, Memory> {
+        self.near(alloc, digits)
+    }
+
+    fn proposed(&self, alloc: Global, near: &NearReward) -> Result<RewardBoundsCert, Memory> {
         let states = self.model.states();
         Ok(RewardBoundsCert {
             lower: listed(alloc, states, &near.lower)?,
@@ -46,11 +64,27 @@ impl Search for Earning<'_, '_> {
     fn simplest(
         &self,
         alloc: Global,
-        cert: &RewardBoundsCert,
-        _digits: u32,
+        near: &NearReward,
+        is_sought: &[bool],
     ) -> Result<RewardBoundsCert, Memory> {
-        let exact = simplest_reward(alloc, self.model, cert)?;
+        let exact = simplest_rewards_of(alloc, self.model, near, is_sought)?;
         Ok(exact)
+    }
+
+    fn holds_at(&self, cert: &RewardBoundsCert, s: u32) -> bool {
+        s >= self.model.states()
+            || reward_bounds_at_state(
+                self.model,
+                self.name,
+                self.goals,
+                self.dir,
+                &cert.lower,
+                &cert.upper,
+                &cert.ranks,
+                s,
+                cert.choices[s as usize],
+            )
+            .is_ok()
     }
 
     fn holds(&self, cert: &RewardBoundsCert) -> bool {

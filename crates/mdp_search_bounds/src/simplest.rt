@@ -4,25 +4,30 @@ ghost use Rattle.std.specs.Prelude.{IfOk};
 ghost use Rattle.mdp_search_bounds.specs.Held.{HasReachSizes, HasRewardSizes, HasMeanSizes};
 
 use mdp_bounds::{MeanBoundsCert, ReachBoundsCert, RewardBoundsCert};
-use mdp_ladder::{all_capped, all_simplest_near, simplest_rewards, simplest_values};
+use mdp_ladder::{all_capped, numbers, simplest_near_values, simplest_rewards, simplest_values};
+use mdp_near::NearReach;
+use mdp_near_mean::NearMean;
+use mdp_near_reward::NearReward;
 use mdp_num::Frac;
 use mdp_rows::Model;
 use std::alloc::{AllocError, Global};
 use std::cmp::Ordering;
 
-/// The certificate with the simplest fractions between its bounds as lower and as upper values: where they are the exact values, the rules say yes to it.
+/// The certificate with the simplest fractions between proposed bounds as lower and as upper values, at the states where they are sought: where they are the
+/// exact values, the rules say yes to it.
 pub(crate) fn simplest_reach(
     alloc: Global,
     model: &Model,
-    cert: &ReachBoundsCert,
+    near: &NearReach,
+    is_sought: &[bool],
 ) -> Result<ReachBoundsCert, AllocError>
-    requires { HasReachSizes model.now cert.now }
     ensures { IfOk result (HasReachSizes model.now) }
 {
-    let lower = simplest_values(alloc, model.states(), &cert.lower, &cert.upper)?;
+    let states = model.states();
+    let lower = simplest_values(alloc, states, &near.lower, &near.upper, near.one, is_sought)?;
     let upper = lower.clone()?;
-    let choices = cert.choices.clone()?;
-    let ranks = cert.ranks.clone()?;
+    let choices = numbers(alloc, states, &near.choices)?;
+    let ranks = numbers(alloc, states, &near.ranks)?;
     Ok(ReachBoundsCert {
         lower,
         upper,
@@ -31,20 +36,21 @@ pub(crate) fn simplest_reach(
     })
 }
 
-/// The certificate with the simplest fractions between its finite bounds as lower and as upper values; infinite ones stay.
-pub(crate) fn simplest_reward(
+/// The certificate with the simplest fractions between proposed finite bounds as lower and as upper values, at the states where they are sought; infinite ones
+/// stay.
+pub(crate) fn simplest_rewards_of(
     alloc: Global,
     model: &Model,
-    cert: &RewardBoundsCert,
+    near: &NearReward,
+    is_sought: &[bool],
 ) -> Result<RewardBoundsCert, AllocError>
-    requires { HasRewardSizes model.now cert.now }
     ensures { IfOk result (HasRewardSizes model.now) }
 {
     let states = model.states();
-    let lower = simplest_rewards(alloc, states, &cert.lower, &cert.upper)?;
-    let upper = all_capped(alloc, states, &lower, &cert.upper)?;
-    let choices = cert.choices.clone()?;
-    let ranks = cert.ranks.clone()?;
+    let lower = simplest_rewards(alloc, states, &near.lower, &near.upper, is_sought)?;
+    let upper = all_capped(alloc, states, &lower, &near.upper)?;
+    let choices = numbers(alloc, states, &near.choices)?;
+    let ranks = numbers(alloc, states, &near.ranks)?;
     Ok(RewardBoundsCert {
         lower,
         upper,
@@ -78,22 +84,24 @@ fn spread_of(bound: &[Frac], bias: &[Frac]) -> Option<Frac> {
     Some(extreme(&[width_of(bound)?, width_of(bias)?], Ordering::Greater))
 }
 
-/// The certificate with the simplest fractions between its gains as lower and as upper gains, and with the simplest relative values near its own.
+/// The certificate with the simplest fractions between proposed gains as lower and as upper gains, and with the simplest relative values near the proposed
+/// ones, at the states where they are sought.
 pub(crate) fn simplest_mean(
     alloc: Global,
     model: &Model,
-    cert: &MeanBoundsCert,
-    digits: u32,
+    near: &NearMean,
+    is_sought: &[bool],
 ) -> Result<MeanBoundsCert, AllocError>
-    requires { HasMeanSizes model.now cert.now }
     ensures { IfOk result (HasMeanSizes model.now) }
 {
-    let lower = simplest_values(alloc, model.states(), &cert.lower, &cert.upper)?;
+    let states = model.states();
+    let (one, digits) = (near.one, near.digits);
+    let lower = simplest_values(alloc, states, &near.lower, &near.upper, one, is_sought)?;
     let upper = lower.clone()?;
-    let bound = all_simplest_near(alloc, &cert.bound, digits)?;
-    let bias = all_simplest_near(alloc, &cert.bias, digits)?;
-    let choices = cert.choices.clone()?;
-    let spread = spread_of(&bound, &bias).unwrap_or(cert.spread);
+    let bound = simplest_near_values(alloc, states, &near.bound, one, digits, is_sought)?;
+    let bias = simplest_near_values(alloc, states, &near.bias, one, digits, is_sought)?;
+    let choices = numbers(alloc, states, &near.choices)?;
+    let spread = spread_of(&bound, &bias).unwrap_or(near.spread);
     Ok(MeanBoundsCert {
         lower,
         upper,

@@ -6,9 +6,11 @@ ghost use Rattle.mdp_search_discount_bounds.specs.Held.{HasDiscountSizes, IsHeld
 
 use crate::finite::finite_bounds;
 use crate::missing::missing_discount;
-use mdp_discount_bounds::{DiscountBounds, Verdict, greatest_magnitude, holds_bounds_discount};
+use mdp_discount_bounds::{
+    DiscountBounds, Verdict, discount_bounds_at_state, greatest_magnitude, holds_bounds_discount,
+};
 use mdp_ladder::{Search, all_capped, bounds_by, listed, numbers, simplest_rewards};
-use mdp_near_discount::near_discount;
+use mdp_near_discount::{NearDiscount, near_discount};
 use mdp_num::{Frac, Memory};
 use mdp_rows::{Dir, Model};
 use std::alloc::{AllocError, Global};
@@ -24,17 +26,18 @@ struct Discounting<'m> {
     ghost discounted: { IsFactor factor.now },
 }
 
-/// The bounds with the simplest fractions between lower and upper values as both; where one of the two is missing it stays so.
+/// The bounds with the simplest fractions between lower and upper values as both, at the flagged states; where one of the two is missing it stays so.
 fn simplest_bounds(
     alloc: Global,
     model: &Model,
     bounds: &DiscountBounds,
+    is_sought: &[bool],
 ) -> Result<DiscountBounds, AllocError>
     requires { HasDiscountSizes model.now bounds.now }
     ensures { IfOk result (HasDiscountSizes model.now) }
 {
     let states = model.states();
-    let lower = simplest_rewards(alloc, states, &bounds.lower, &bounds.upper)?;
+    let lower = simplest_rewards(alloc, states, &bounds.lower, &bounds.upper, is_sought)?;
     let upper = all_capped(alloc, states, &lower, &bounds.upper)?;
     let choices = bounds.choices.clone()?;
     let remainder = greatest_magnitude(&lower, &upper);
@@ -71,15 +74,33 @@ impl Discounting<'_> {
 }
 
 impl Search for Discounting<'_> {
+    type Near = NearDiscount;
+
     type Cert = DiscountBounds;
 
     ghost is_sized = { λ p bounds. HasDiscountSizes p.model.now bounds };
 
     ghost is_held = { λ p bounds. IsHeldDiscount p.dir p.model.now p.name p.factor.now bounds };
 
-    fn near(&self, alloc: Global, digits: u32) -> Result<DiscountBounds, Memory> {
+    fn model(&self) -> &Model {
+        self.model
+    }
+
+    fn near(&self, alloc: Global, digits: u32) -> Result<NearDiscount, Memory> {
+        near_discount(alloc, self.model, self.name, self.dir, self.factor, digits)
+    }
+
+    fn nearer(
+        &self,
+        alloc: Global,
+        digits: u32,
+        _before: &NearDiscount,
+    ) -> Result<NearDiscount, Memory> {
+        self.near(alloc, digits)
+    }
+
+    fn proposed(&self, alloc: Global, near: &NearDiscount) -> Result<DiscountBounds, Memory> {
         let model = self.model;
-        let near = near_discount(alloc, model, self.name, self.dir, self.factor, digits)?;
         let lower = listed(alloc, model.states(), &near.lower)?;
         let upper = listed(alloc, model.states(), &near.upper)?;
         let choices = numbers(alloc, model.states(), &near.choices)?;
@@ -98,11 +119,27 @@ impl Search for Discounting<'_> {
     fn simplest(
         &self,
         alloc: Global,
-        bounds: &DiscountBounds,
-        _digits: u32,
+        near: &NearDiscount,
+        is_sought: &[bool],
     ) -> Result<DiscountBounds, Memory> {
-        let exact = simplest_bounds(alloc, self.model, bounds)?;
+        let bounds = self.proposed(alloc, near)?;
+        let exact = simplest_bounds(alloc, self.model, &bounds, is_sought)?;
         Ok(exact)
+    }
+
+    fn holds_at(&self, bounds: &DiscountBounds, s: u32) -> bool {
+        s >= self.model.states()
+            || discount_bounds_at_state(
+                self.model,
+                self.name,
+                self.dir,
+                self.factor,
+                &bounds.lower,
+                &bounds.upper,
+                s,
+                bounds.choices[s as usize],
+            )
+            .is_ok()
     }
 
     fn holds(&self, bounds: &DiscountBounds) -> bool {

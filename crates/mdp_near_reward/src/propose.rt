@@ -1,14 +1,11 @@
 ghost use Rattle.std.specs.Prelude.{◌≡◌, ◌<◌, length, IfOk};
 ghost use Rattle.mdp_spec.specs.Mdp.{states_of};
 
-use crate::backward::Backward;
-use crate::choices::ChoiceFlags;
 use crate::earning::Earning;
-use crate::ends::{ends_inside, no_parts};
-use crate::lists::flags_of;
-use crate::policy::{Gathered, policy_of};
-use crate::ranks::max_ranks;
 use mdp_ladder::{MOST_DIGITS, fraction, numbers};
+use mdp_near::{
+    Backward, ChoiceFlags, Gathered, ends_inside, flags_of, max_ranks, no_parts, policy_of,
+};
 use mdp_num::{Frac, Memory};
 use mdp_refinement::{
     Bound, Nodes, Rows, Scale, Solution, Task, flag_at, number_at, power_of_ten, put, solve,
@@ -190,7 +187,7 @@ impl Search<'_, '_> {
         to_end: bool,
     ) -> Result<Solution, AllocError> {
         let task = Task {
-            dir: self.dir,
+            is_max: self.dir == Dir::Max,
             bound,
             anyway: match bound {
                 Bound::Lower => Some(0),

@@ -4,7 +4,7 @@ use Rattle.mdp_farkas.specs.Reach.{choice_exists, rank_checks}
 use Rattle.mdp_bounds.specs.Reach.{covering, followed, cover_at, follow_at}
 use Rattle.mdp_farkas.specs.Verdict.{Check}
 use Rattle.mdp_farkas.proofs.Objections.{halts, goes_on}
-use Rattle.mdp_bounds.proofs.reach.bounds_at_state.Goals as goal
+use Rattle.mdp_bounds.proofs.reach.reach_bounds_at_state.Goals as goal
 
 pub returns-in_err-cover_bounds : goal.returns-in_err-cover_bounds
 returns-in_err-cover_bounds c =

@@ -1,7 +1,7 @@
 ghost use Rattle.std.specs.Prelude.{◌<◌, length};
 ghost use Rattle.mdp_spec.specs.Mdp.{states_of};
 
-use crate::choices::ChoiceFlags;
+use mdp_near::{ChoiceFlags, choice_row, sized_rows};
 use mdp_num::Frac;
 use mdp_refinement::{Nodes, Rows, Scale, flag_at};
 use mdp_rows::Model;
@@ -53,10 +53,10 @@ impl Earning<'_> {
         requires { s < states_of self.model.now }
     {
         for c in 0..self.model.choices(s) {
-            let row = self.model.row(s, c);
+            let row = choice_row(self.model, s, c);
             if row.targets.iter().all(|t| flag_at(is_finite, *t)) {
                 let reward = self.model.reward(self.name, s, c);
-                rows.push_row(nodes, s, c, row, &reward)?;
+                rows.push_row(nodes, row, &reward)?;
             }
         }
         Ok(())
@@ -71,7 +71,7 @@ impl Earning<'_> {
         is_finite: &[bool],
         scale: Scale,
     ) -> Result<Rows, AllocError> {
-        let mut rows = Rows::sized(alloc, self.model, nodes.count(), is_open, scale)?;
+        let mut rows = sized_rows(alloc, self.model, nodes.count(), is_open, scale)?;
         let mut last = None;
         for s in nodes.order() {
             let node = nodes.of(*s);

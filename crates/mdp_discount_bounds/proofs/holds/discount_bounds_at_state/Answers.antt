@@ -7,7 +7,7 @@ use Rattle.mdp_farkas.specs.Verdict.{Check, at_choices, objection_to}
 use Rattle.mdp_farkas.proofs.Objections.{halts, goes_on}
 use Rattle.mdp_bounds.specs.Says.{covering_rewards}
 use Rattle.mdp_discount_bounds.specs.Checks.{each_check, policy_check}
-use Rattle.mdp_discount_bounds.proofs.holds.bounds_at_state.Goals as goal
+use Rattle.mdp_discount_bounds.proofs.holds.discount_bounds_at_state.Goals as goal
 
 pub returns-in_err-on_each : goal.returns-in_err-on_each
 returns-in_err-on_each c =

@@ -1,6 +1,6 @@
 use Rattle.std.proofs.Common.{◌∙◌, sym}
 use Rattle.mdp_reward.proofs.Starts.{start-finite}
-use Rattle.mdp_near.proofs.reward.near_reward.Goals as goal
+use Rattle.mdp_near_reward.proofs.propose.near_reward.Goals as goal
 
 pub flags_of-requires-2 : goal.flags_of-requires-2
 flags_of-requires-2 c =

@@ -1,0 +1,139 @@
+//! The chain that a row for each node of a component makes: these rows alone, one after the other, so that sweeps along them read no other.
+
+use crate::component::{Component, FloatRow};
+use crate::lists::{add_at, float_at, number, put};
+use crate::sweeps::Change;
+use std::alloc::{AllocError, Global};
+
+/// The row of a node: `total` times the node's value is what it earns and the sum over its entries, and it is taken so often at a time. Its entries stand
+/// behind those of the node before, up to `end`.
+#[derive(Clone, Copy)]
+struct Link {
+    end: usize,
+    total: f64,
+    repeats: f64,
+    earned: f64,
+}
+
+/// A row of each node.
+#[derive(Drop)]
+pub(crate) struct Chain {
+    links: Vec<Link>,
+    entries: Vec<(u32, f64)>,
+}
+
+/// How often each node is begun at, and how often it comes to be visited in a sweep.
+#[derive(Drop)]
+pub(crate) struct Visits {
+    pub(crate) shares: Vec<f64>,
+    pub(crate) visits: Vec<f64>,
+}
+
+impl Chain {
+    /// No row yet.
+    pub(crate) fn empty(alloc: Global) -> Chain {
+        Chain {
+            links: Vec::new(alloc),
+            entries: Vec::new(alloc),
+        }
+    }
+
+    /// Appends the row of the next node, which earns this and is taken so often at a time.
+    fn push(
+        &mut self,
+        component: &Component,
+        row: &FloatRow,
+        earned: f64,
+        repeats: f64,
+    ) -> Result<(), AllocError> {
+        for entry in component.entries_of(row) {
+            self.entries.push(*entry)?;
+        }
+        self.links.push(Link {
+            end: self.entries.len(),
+            total: row.total,
+            repeats,
+            earned,
+        })?;
+        Ok(())
+    }
+
+    /// Takes these rows of a component, which earn `gains`, in the place of those before. Each is taken `pace` times until it leaves its node, where that
+    /// is no slower than `least`.
+    pub(crate) fn take(
+        &mut self,
+        component: &Component,
+        rows: &[usize],
+        gains: &[f64],
+        pace: f64,
+        least: f64,
+    ) -> Result<(), AllocError> {
+        self.links.clear();
+        self.entries.clear();
+        for at in rows {
+            if let Some(row) = component.rows.get(*at) {
+                let earned = gains.get(*at).copied().unwrap_or(0.0);
+                self.push(component, row, earned, pace / row.total.max(least))?;
+            }
+        }
+        Ok(())
+    }
+
+    /// The entries from a place on, up to the end of a row.
+    fn entries_from(&self, first: usize, link: Link) -> &[(u32, f64)] {
+        self.entries.get(first..link.end).unwrap_or(&[])
+    }
+
+    /// Gives each node in turn the value that its row makes of the values, where the gain is this. The change, with that of each node counted by its share.
+    pub(crate) fn sweep(&self, gain: f64, values: &mut [f64], shares: &[f64]) -> Change {
+        let mut change = Change::none();
+        change.take(gain, gain, 0.0);
+        let mut first = 0usize;
+        for (place, link) in self.links.iter().enumerate() {
+            let node = number(place);
+            let old = float_at(values, node);
+            let mut more = link.earned - gain - link.total * old;
+            for (target, prob) in self.entries_from(first, *link) {
+                more += *prob * float_at(values, *target);
+            }
+            let value = old + more * link.repeats;
+            change.take(old, value, float_at(shares, node));
+            put(values, node, value);
+            first = link.end;
+        }
+        change
+    }
+
+    /// Where the entries of the node at a place begin.
+    fn start_of(&self, place: usize) -> usize {
+        match place.checked_sub(1) {
+            Some(before) => self.links.get(before).map_or(0, |link| link.end),
+            None => 0,
+        }
+    }
+
+    /// Passes the visits of a node on by its row: to nodes before it as visits, to others as shares. How often the row is taken.
+    fn pass_on(&self, node: u32, link: Link, visits: &mut Visits) -> f64 {
+        let own = float_at(&visits.visits, node);
+        let steps = own * link.repeats;
+        for (target, prob) in self.entries_from(self.start_of(node as usize), link) {
+            if *target < node {
+                add_at(&mut visits.visits, *target, steps * *prob);
+            } else {
+                add_at(&mut visits.shares, *target, steps * *prob);
+            }
+        }
+        let stays = (own - steps * link.total).max(0.0);
+        add_at(&mut visits.shares, node, stays);
+        steps
+    }
+
+    /// Passes all visits on: a step of the chain that goes on until it comes to a node whose value is an old one in a sweep. How often rows are taken in all.
+    pub(crate) fn pass_all(&self, visits: &mut Visits) -> f64 {
+        let mut steps = 0.0;
+        for (place, link) in self.links.iter().enumerate().rev() {
+            steps += self.pass_on(number(place), *link, visits);
+        }
+        steps
+    }
+}
