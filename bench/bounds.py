@@ -10,6 +10,8 @@
     mean STATES       the last of these alone
     random STATES     three choices each, to four states that are drawn from all: the greatest and the least mean cost of a step
     random_7 STATES   the same with denominators of 7 digits, and rewards of three digits
+    halves STATES     two halves of three choices a state, each to four states of its half, that are left with 10^-6: the same queries,
+                      and the least expected cost until the last state
 
 For each query: the states and transitions; the processor time of the whole program at DIGITS digits, reading and writing too, and of reading the model
 alone (a check of an empty certificate); its peak memory for a transition; the greatest finite gap between lower and upper; what `bounds-check` says, and
@@ -44,7 +46,7 @@ PROGRAM = TOP / "out" / "mdp"
 DIGITS, LIMIT, WIDTH, MOST, TIMES = 9, 60, 64, 100, 3
 MODELS = (
     "coin 2 coin 10 coin 50 roulette 100 roulette 1000 layers 1000 layers 10000 layers 100000 random 400 random 1000 random 2000 random 10000"
-    " random_7 400 random_7 2000"
+    " random_7 400 random_7 2000 halves 2000"
 )
 QUERIES = {
     "coin": ["min reach heads", "max reward steps finished"],
@@ -53,6 +55,7 @@ QUERIES = {
     "mean": ["max mean cost"],
     "random": ["max mean cost", "min mean cost"],
     "random_7": ["max mean cost", "min mean cost"],
+    "halves": ["max mean cost", "min mean cost", "min reward cost goal"],
 }
 
 
@@ -98,9 +101,29 @@ def drawn(states, denominator):
             yield from (f"{target} : 0.{part:0{digits}}" if part < denominator else f"{target} : 1" for target, part in zip(targets, parts))
 
 
+def slow_halves(states):
+    """The text of a model of two halves: random numbers from the number of states."""
+    draw = random.Random(states)
+    half = states // 2
+    yield "\n".join(["@type: MDP", "@parameters", "", "@reward_models", "cost", "@nr_states", str(states), "@model"])
+    for s in range(states):
+        own = s // half * half
+        yield f"state {s}" + " init" * (s == 0) + " goal" * (s == states - 1)
+        for _ in range(3):
+            inner = sorted({own + draw.randrange(half) for _ in range(4)})
+            cuts = sorted(draw.sample(range(1, 100), len(inner) - 1))
+            row = {target: (high - low) * 10**4 for target, low, high in zip(inner, [0, *cuts], [*cuts, 100])}
+            row[inner[0]] -= 1
+            row[half - own + draw.randrange(half)] = 1
+            yield f"action [{draw.randrange(1000)}]"
+            yield from (f"{target} : 0.{part:06}" for target, part in sorted(row.items()))
+
+
 def text_of(kind, size):
     if kind in ("layers", "mean"):
         return ("\n".join(layers(int(size))) + "\n").encode()
+    if kind == "halves":
+        return ("\n".join(slow_halves(int(size))) + "\n").encode()
     if kind in ("random", "random_7"):
         return ("\n".join(drawn(int(size), 100 if kind == "random" else 10**7)) + "\n").encode()
     script, words = {"coin": ("shared_coin.py", ["2", size]), "roulette": ("roulette.py", [str(int(size) // 2), size])}[kind]

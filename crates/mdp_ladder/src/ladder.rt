@@ -31,8 +31,15 @@ pub trait Search {
     /// What the search proposes with so many digits.
     fn near(&self, alloc: Global, digits: u32) -> Result<Self::Near, Memory>;
 
-    /// The same with more digits than those of what it proposed before, with which it may begin.
-    fn nearer(&self, alloc: Global, digits: u32, before: &Self::Near) -> Result<Self::Near, Memory>;
+    /// The same with more digits than those of what it proposed before. It may begin with that, and take over what that keeps for such a search alone.
+    fn nearer(
+        &self,
+        alloc: Global,
+        digits: u32,
+        _before: &mut Self::Near,
+    ) -> Result<Self::Near, Memory> {
+        self.near(alloc, digits)
+    }
 
     /// The bounds that it proposed.
     fn proposed(&self, alloc: Global, near: &Self::Near) -> Result<Self::Cert, Memory>
@@ -114,7 +121,7 @@ fn held_proposed<S: Search>(
 fn held_exact_with_most<S: Search>(
     alloc: Global,
     search: &S,
-    near: &S::Near,
+    near: &mut S::Near,
     digits: u32,
 ) -> Result<Option<S::Cert>, Memory>
     ensures { IfOk result (λ found. IfSome found (S.is_held search.now)) }
@@ -160,11 +167,11 @@ fn held_with_fewer<S: Search>(
 pub fn bounds_by<S: Search>(alloc: Global, search: &S, digits: u32) -> Result<S::Cert, Memory>
     ensures { IfOk result (S.is_held search.now) }
 {
-    let near = search.near(alloc, digits)?;
+    let mut near = search.near(alloc, digits)?;
     if let Some(exact) = held_exact(alloc, search, &near)? {
         return Ok(exact);
     }
-    if let Some(exact) = held_exact_with_most(alloc, search, &near, digits)? {
+    if let Some(exact) = held_exact_with_most(alloc, search, &mut near, digits)? {
         return Ok(exact);
     }
     if let Some(cert) = held_proposed(alloc, search, &near)? {

@@ -10,7 +10,7 @@ use crate::policy::{Gathered, policy_of};
 use crate::ranks::{max_ranks, min_ranks};
 use mdp_ladder::MOST_DIGITS;
 use mdp_num::Memory;
-use mdp_refinement::{Bound, Nodes, Rows, Solution, Task, put, solve, value_at};
+use mdp_refinement::{Bound, Nodes, Rows, Solution, Task, Value, put, solve, value_at};
 use mdp_rows::{Dir, Marks, Model};
 use std::alloc::{AllocError, Global};
 
@@ -28,13 +28,13 @@ fn given_values(
     kinds: &[Kind],
     nodes: &Nodes,
     one: i128,
-) -> Result<Vec<Option<i128>>, AllocError> {
-    let mut given = vec![in alloc; None; nodes.count() as usize]?;
+) -> Result<Vec<Value>, AllocError> {
+    let mut given = vec![in alloc; Value::none(); nodes.count() as usize]?;
     for state in nodes.order() {
         let value = match kind_at(kinds, *state) {
-            Kind::Never => Some(0),
-            Kind::Surely => Some(one),
-            Kind::Between => None,
+            Kind::Never => Value::known(0),
+            Kind::Surely => Value::known(one),
+            Kind::Between => Value::none(),
         };
         put(&mut given, nodes.of(*state), value);
     }
@@ -42,7 +42,7 @@ fn given_values(
 }
 
 /// The value of a state, in units and between 0 and 1.
-fn clamped(nodes: &Nodes, values: &[Option<i128>], one: i128, state: u32) -> i128 {
+fn clamped(nodes: &Nodes, values: &[Value], one: i128, state: u32) -> i128 {
     value_at(values, nodes.of(state))
         .unwrap_or(0)
         .max(0)
@@ -54,7 +54,7 @@ fn spread(
     alloc: Global,
     states: u32,
     nodes: &Nodes,
-    values: &[Option<i128>],
+    values: &[Value],
     one: i128,
 ) -> Result<Vec<i128>, AllocError> {
     (0..states)

@@ -5,7 +5,8 @@ use crate::extent::extent_of;
 use mdp_ladder::{MOST_DIGITS, fraction};
 use mdp_num::{Frac, Memory};
 use mdp_refinement::{
-    Bound, ChoiceRow, Discount, Nodes, Rows, Scale, Solution, Task, digits_of, put, solve, value_at,
+    Bound, ChoiceRow, Discount, Nodes, Rows, Scale, Solution, Task, Value, digits_of, put, solve,
+    value_at,
 };
 use mdp_rows::{Dir, Model};
 use std::alloc::{AllocError, Global};
@@ -86,8 +87,8 @@ impl Search<'_, '_> {
         to_end: bool,
     ) -> Result<Attempt, AllocError> {
         let rows = self.rows(alloc, digits)?;
-        let mut given = vec![in alloc; None; self.nodes.count() as usize]?;
-        put(&mut given, self.discount.end, Some(0));
+        let mut given = vec![in alloc; Value::none(); self.nodes.count() as usize]?;
+        put(&mut given, self.discount.end, Value::known(0));
         let task = Task {
             is_max: self.dir == Dir::Max,
             bound,

@@ -4,7 +4,7 @@ use crate::payoffs::Payoffs;
 use crate::values::gain_in_unit;
 use mdp_near::choice_row;
 use mdp_num::Frac;
-use mdp_refinement::{Bound, Nodes, Rows, Scale, WholeRow, value_at};
+use mdp_refinement::{Bound, Nodes, Rows, Scale, Value, WholeRow, value_at};
 use std::alloc::{AllocError, Global};
 
 /// Appends the rows of the choices of a state that leave its node, with their rewards or without.
@@ -39,7 +39,7 @@ pub(crate) fn leaving_rows(
     alloc: Global,
     payoffs: Payoffs<'_>,
     nodes: &Nodes,
-    stops: &[Option<i128>],
+    stops: &[Value],
     is_earning: bool,
     scale: Scale,
 ) -> Result<Rows, AllocError> {
@@ -61,19 +61,14 @@ pub(crate) fn leaving_rows(
 
 /// What a choice earns over the bias and the gain of its state, in the row's denominator times its unit, rounded up. None past 128 bits, or where
 /// a value isn't known. In `alone` each state is a node, with the rows of all its choices.
-fn earned_over(
-    alone: &Rows,
-    row: &WholeRow,
-    bias: &[Option<i128>],
-    gain: Option<i128>,
-) -> Option<i128> {
+fn earned_over(alone: &Rows, row: &WholeRow, bias: &[Value], gain: Option<i128>) -> Option<i128> {
     let place = alone
         .range_of(row.state)
         .0
         .checked_add(row.choice as usize)?;
     let own = alone.row(place)?;
     let excess = alone.excess(own, bias, Bound::Upper)?;
-    let steps = gain_in_unit(gain?, own.unit, Bound::Upper)?;
+    let steps = gain_in_unit(gain?, own.unit(), Bound::Upper)?;
     excess.checked_sub(own.denominator.checked_mul(steps)?)
 }
 
@@ -81,7 +76,7 @@ fn earned_over(
 fn offset_node(
     rows: &mut Rows,
     alone: &Rows,
-    bias: &[Option<i128>],
+    bias: &[Value],
     node: u32,
     gain: Option<i128>,
 ) -> bool {
@@ -104,8 +99,8 @@ pub(crate) fn offset_rows(
     rows: &mut Rows,
     alone: &Rows,
     nodes: &Nodes,
-    bias: &[Option<i128>],
-    gains: &[Option<i128>],
+    bias: &[Value],
+    gains: &[Value],
 ) -> bool {
     for node in 0..nodes.count() {
         if !offset_node(rows, alone, bias, node, value_at(gains, node)) {

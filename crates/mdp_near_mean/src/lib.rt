@@ -7,4 +7,4 @@ mod payoffs;
 mod propose;
 mod values;
 
-pub use propose::{NearMean, near_mean};
+pub use propose::{NearMean, near_mean, nearer_mean};

@@ -5,11 +5,12 @@ use mdp_ladder::{MOST_DIGITS, fraction};
 use mdp_near::{Backward, ChoiceFlags, Gathered, ends_inside, policy_of};
 use mdp_num::{Frac, Memory};
 use mdp_refinement::{
-    Bound, Nodes, Rows, Scale, Solution, Task, WholeRow, end_gains, flag_at, number, number_at,
-    power_of_ten, put, solve, value_at,
+    Bound, EndSearch, First, Nodes, Rows, Scale, Solution, Task, Value, WholeRow, flag_at, number,
+    number_at, power_of_ten, put, solve, value_at,
 };
 use mdp_rows::{Dir, Marks, Model};
 use std::alloc::{AllocError, Global};
+use std::mem;
 
 /// By how many digits more before the point biases have room for than rewards.
 const BIAS_ROOM: u32 = 4;
@@ -34,9 +35,9 @@ struct Outcome {
 /// the choice that stays.
 #[derive(Drop)]
 struct Ends {
-    bias: Vec<Option<i128>>,
-    upper: Vec<Option<i128>>,
-    lower: Vec<Option<i128>>,
+    bias: Vec<Value>,
+    upper: Vec<Value>,
+    lower: Vec<Value>,
     inner: Vec<u32>,
 }
 
@@ -44,8 +45,9 @@ struct Ends {
 #[derive(Clone, Copy)]
 struct Search<'m, 'a> {
     payoffs: Payoffs<'m>,
+    parts: &'a [Option<u32>],
     nodes: &'a Nodes,
-    bias: &'a [Option<i128>],
+    bias: &'a [Value],
     inner: &'a [u32],
     scale: Scale,
 }
@@ -69,11 +71,15 @@ fn task(bound: Bound) -> Task {
 }
 
 /// Values of nodes, 0 for those that have rows.
-fn given_ends(alloc: Global, rows: &Rows, nodes: u32) -> Result<Vec<Option<i128>>, AllocError> {
+fn given_ends(alloc: Global, rows: &Rows, nodes: u32) -> Result<Vec<Value>, AllocError> {
     let mut given = Vec::new(alloc);
     for node in 0..nodes {
         let is_open = !rows.rows_of(node).is_empty() || rows.has_wide(node);
-        given.push(if is_open { None } else { Some(0) })?;
+        given.push(if is_open {
+            Value::none()
+        } else {
+            Value::known(0)
+        })?;
     }
     Ok(given)
 }
@@ -128,7 +134,7 @@ fn earn_over(rows: &mut Rows, gains: &[i128]) -> bool {
         if row.node as usize != place {
             continue;
         }
-        let reward = gain_in_unit(*gain, row.unit, Bound::Lower)
+        let reward = gain_in_unit(*gain, row.unit(), Bound::Lower)
             .and_then(|steps| row.denominator.checked_mul(steps))
             .and_then(|over| row.reward.checked_sub(over));
         match reward {
@@ -160,7 +166,7 @@ fn led_policy<'x>(
 
 impl Search<'_, '_> {
     /// The rows by which a node stops in its end component with one of these gains, or leaves it.
-    fn stopping_rows(self, alloc: Global, stops: Vec<Option<i128>>) -> Result<Rows, AllocError> {
+    fn stopping_rows(self, alloc: Global, stops: Vec<Value>) -> Result<Rows, AllocError> {
         let scale = Scale {
             digits: self.scale.digits,
             room: self.scale.room.saturating_sub(BIAS_ROOM),
@@ -170,12 +176,12 @@ impl Search<'_, '_> {
 
     /// The gains of the nodes: to stop in an end component with its gain, or to leave it.
     fn gains(self, alloc: Global, rows: &Rows, bound: Bound) -> Result<Solution, AllocError> {
-        let given = vec![in alloc; None; self.nodes.count() as usize]?;
+        let given = vec![in alloc; Value::none(); self.nodes.count() as usize]?;
         solve(alloc, rows, &given, task(bound))
     }
 
     /// The value of each state's node, 0 where it isn't known.
-    fn spread(self, alloc: Global, values: &[Option<i128>]) -> Result<Vec<i128>, AllocError> {
+    fn spread(self, alloc: Global, values: &[Value]) -> Result<Vec<i128>, AllocError> {
         let nodes = self.nodes;
         let states = self.payoffs.model.states();
         let mut spread = Vec::with_capacity(alloc, states as usize)?;
@@ -192,12 +198,7 @@ impl Search<'_, '_> {
     }
 
     /// Gives the rows as rewards what their choices earn over the bias and the gains of their states. Whether that was possible.
-    fn offset(
-        self,
-        alloc: Global,
-        rows: &mut Rows,
-        gains: &[Option<i128>],
-    ) -> Result<bool, AllocError> {
+    fn offset(self, alloc: Global, rows: &mut Rows, gains: &[Value]) -> Result<bool, AllocError> {
         let is_left = left_states(alloc, rows, self.nodes, self.bias.len())?;
         let mut alone = self.payoffs.rows_at(alloc, &is_left, self.scale)?;
         if self.has_wide(&alone) {
@@ -207,11 +208,7 @@ impl Search<'_, '_> {
     }
 
     /// What is added to the biases of each node, so that the bound holds on the choices that leave it too.
-    fn offsets(
-        self,
-        alloc: Global,
-        gains: &[Option<i128>],
-    ) -> Result<Vec<Option<i128>>, AllocError> {
+    fn offsets(self, alloc: Global, gains: &[Value]) -> Result<Vec<Value>, AllocError> {
         let nodes = self.nodes;
         let mut rows = leaving_rows(alloc, self.payoffs, nodes, &[], true, self.scale)?;
         let given = given_ends(alloc, &rows, nodes.count())?;
@@ -222,23 +219,53 @@ impl Search<'_, '_> {
     }
 
     /// The bound: the bias of each state and the offset of its node.
-    fn bound(self, alloc: Global, gains: &[Option<i128>]) -> Result<Vec<i128>, AllocError> {
+    fn bound(self, alloc: Global, gains: &[Value]) -> Result<Vec<i128>, AllocError> {
         let offsets = self.offsets(alloc, gains)?;
         let mut bound = self.spread(alloc, &offsets)?;
         for (value, bias) in bound.iter_mut().zip(self.bias) {
-            *value = value.saturating_add(bias.unwrap_or(0));
+            *value = value.saturating_add(bias.units().unwrap_or(0));
         }
         Ok(bound)
     }
 
     /// The upper gains of the nodes.
-    fn upper_gains(
-        self,
-        alloc: Global,
-        stops: Vec<Option<i128>>,
-    ) -> Result<Vec<Option<i128>>, AllocError> {
+    fn upper_gains(self, alloc: Global, stops: Vec<Value>) -> Result<Vec<Value>, AllocError> {
         let rows = self.stopping_rows(alloc, stops)?;
         Ok(self.gains(alloc, &rows, Bound::Upper)?.values)
+    }
+
+    /// Whether a state lies in an end component.
+    fn is_in_end(self, s: u32) -> bool {
+        match self.parts.get(s as usize) {
+            Some(part) => part.is_some(),
+            None => false,
+        }
+    }
+
+    /// Whether a row was picked of a state in an end component: others of it may have to be led there then.
+    fn leaves_end(self, rows: &Rows, picks: &[Option<usize>]) -> bool {
+        for pick in picks {
+            if let Some(row) = pick.and_then(|place| rows.row(place)) {
+                if self.is_in_end(row.state) {
+                    return true;
+                }
+            }
+        }
+        false
+    }
+
+    /// The choices that lead to each state, where one that was picked leaves an end component; else none, as none is needed.
+    fn backward(
+        self,
+        alloc: Global,
+        rows: &Rows,
+        picks: &[Option<usize>],
+    ) -> Result<Backward, AllocError> {
+        if self.leaves_end(rows, picks) {
+            Backward::new(alloc, self.payoffs.model)
+        } else {
+            Ok(Backward::empty(alloc))
+        }
     }
 
     /// The policy that comes to the picks of the nodes, and stays in the other end components.
@@ -249,13 +276,13 @@ impl Search<'_, '_> {
         picks: &[Option<usize>],
     ) -> Result<Vec<u32>, Memory> {
         let model = self.payoffs.model;
-        let backward = Backward::new(alloc, model)?;
+        let backward = self.backward(alloc, rows, picks)?;
         let policy = led_policy(alloc, model, &backward, self.nodes, rows, picks, self.inner)?;
         Ok(policy)
     }
 
     /// The lower gains and their policy.
-    fn lower(self, alloc: Global, stops: Vec<Option<i128>>) -> Result<Lower, Memory> {
+    fn lower(self, alloc: Global, stops: Vec<Value>) -> Result<Lower, Memory> {
         let rows = self.stopping_rows(alloc, stops)?;
         let low = self.gains(alloc, &rows, Bound::Lower)?;
         let (picks, is_stopping) = split_picks(alloc, &rows, &low.picks)?;
@@ -281,15 +308,11 @@ impl Search<'_, '_> {
     }
 
     /// The biases of the states where the policy stays.
-    fn given_biases(
-        self,
-        alloc: Global,
-        is_stopping: &[bool],
-    ) -> Result<Vec<Option<i128>>, AllocError> {
-        let mut given = vec![in alloc; None; self.bias.len()]?;
+    fn given_biases(self, alloc: Global, is_stopping: &[bool]) -> Result<Vec<Value>, AllocError> {
+        let mut given = vec![in alloc; Value::none(); self.bias.len()]?;
         for s in 0..self.payoffs.model.states() {
             if flag_at(is_stopping, self.nodes.of(s)) {
-                put(&mut given, s, value_at(self.bias, s));
+                put(&mut given, s, Value::of(value_at(self.bias, s)));
             }
         }
         Ok(given)
@@ -304,18 +327,13 @@ impl Search<'_, '_> {
         }
         let mut biases = Vec::with_capacity(alloc, values.len())?;
         for value in &values {
-            biases.push(value.unwrap_or(0))?;
+            biases.push(value.units().unwrap_or(0))?;
         }
         Ok(biases)
     }
 
     /// Gains, relative values and a policy, from the upper and the lower gains of end components.
-    fn run(
-        self,
-        alloc: Global,
-        above: Vec<Option<i128>>,
-        below: Vec<Option<i128>>,
-    ) -> Result<Outcome, Memory> {
+    fn run(self, alloc: Global, above: Vec<Value>, below: Vec<Value>) -> Result<Outcome, Memory> {
         let high = self.upper_gains(alloc, above)?;
         let upper = self.spread(alloc, &high)?;
         let bound = self.bound(alloc, &high)?;
@@ -345,67 +363,87 @@ fn inner_policy(
     Ok(policy)
 }
 
-/// What a search begins with: the end component of each state, if it is in one, and in units biases, and gains or none.
+/// Of how many states there are, nodes are few that are at most one part.
+const FEW_PARTS: u32 = 4;
+
+/// What a search begins with: the end component of each state, if it is in one, the search for their gains, if another one left it, and in units biases and
+/// gains, each to be taken so many times.
 #[derive(Drop)]
-struct First {
+struct Beginning<'a> {
     parts: Vec<Option<u32>>,
-    bias: Vec<Option<i128>>,
-    gains: Vec<i128>,
+    ends: Option<EndSearch>,
+    first: First<'a>,
 }
 
-/// A value of another search in units that are so many times less, with its sign turned or not; 0 past 128 bits.
-fn scaled(value: i128, times: i128, dir: Dir) -> i128 {
-    let scaled = value.checked_mul(times).unwrap_or(0);
+/// A number, with its sign turned for the least mean payoff.
+fn signed(times: i128, dir: Dir) -> i128 {
     match dir {
-        Dir::Max => scaled,
-        Dir::Min => scaled.checked_neg().unwrap_or(0),
+        Dir::Max => times,
+        Dir::Min => times.saturating_neg(),
     }
 }
 
-impl First {
+impl<'a> Beginning<'a> {
     /// The end components of a model, and biases of 0.
-    fn empty(alloc: Global, model: &Model) -> Result<First, Memory> {
-        Ok(First {
+    fn empty(alloc: Global, model: &Model) -> Result<Beginning<'a>, Memory> {
+        let bias = vec![in alloc; Value::known(0); model.states() as usize]?;
+        Ok(Beginning {
             parts: all_parts(alloc, model)?,
-            bias: vec![in alloc; Some(0); model.states() as usize]?,
-            gains: Vec::new(alloc),
+            ends: None,
+            first: First {
+                bias,
+                gains: &[],
+                times: 1,
+            },
         })
     }
 
-    /// What another search proposed, in units of 1 over `one`.
-    fn of(alloc: Global, near: &NearMean, one: i128, dir: Dir) -> Result<First, AllocError> {
-        let times = one.checked_div(near.one).unwrap_or(0);
+    /// What another search proposed, in units of 1 over `one`. What that one proposed stays with it, and all else is taken from it.
+    fn of(
+        alloc: Global,
+        near: &'a mut NearMean,
+        one: i128,
+        dir: Dir,
+    ) -> Result<Beginning<'a>, AllocError> {
+        let times = signed(one.checked_div(near.one).unwrap_or(0), dir);
         let mut bias = Vec::with_capacity(alloc, near.bound.len())?;
         for value in &near.bound {
-            bias.push(Some(scaled(*value, times, dir)))?;
+            bias.push(Value::known(value.checked_mul(times).unwrap_or(0)))?;
         }
-        let mut gains = Vec::with_capacity(alloc, near.lower.len())?;
-        for gain in &near.lower {
-            gains.push(scaled(*gain, times, dir))?;
-        }
-        Ok(First {
-            parts: near.parts.clone()?,
-            bias,
-            gains,
+        Ok(Beginning {
+            parts: mem::replace(&mut near.parts, Vec::new(alloc)),
+            ends: near.ends.take(),
+            first: First {
+                bias,
+                gains: &near.lower,
+                times,
+            },
         })
     }
 }
 
-/// What is found of the end components. The rows of all choices are needed for that alone.
-fn searched_ends(
+/// The search for the gains of end components, for values of this scale: one that another search left, or a new one.
+fn end_search(
     alloc: Global,
     payoffs: Payoffs<'_>,
     scale: Scale,
     parts: &[Option<u32>],
-    bias: Vec<Option<i128>>,
-    gains: &[i128],
-) -> Result<Ends, AllocError> {
-    let all = payoffs.all_rows(alloc, scale)?;
-    let found = end_gains(alloc, &all, parts, bias, gains)?;
-    let inner = inner_policy(alloc, &all, &found.picks)?;
+    left: Option<EndSearch>,
+) -> Result<EndSearch, AllocError> {
+    if let Some(mut ends) = left {
+        ends.rescale(scale);
+        return Ok(ends);
+    }
+    EndSearch::new(alloc, payoffs.all_rows(alloc, scale)?, parts)
+}
+
+/// What is found of the end components.
+fn searched_ends(alloc: Global, search: &EndSearch, first: First<'_>) -> Result<Ends, AllocError> {
+    let found = search.gains(alloc, first)?;
+    let inner = inner_policy(alloc, search.rows(), &found.picks)?;
     let mut bias = found.bias;
     for value in bias.iter_mut() {
-        *value = Some(value.unwrap_or(0));
+        *value = Value::known(value.units().unwrap_or(0));
     }
     Ok(Ends {
         bias,
@@ -441,30 +479,41 @@ fn scale_for(payoffs: Payoffs<'_>, digits: u32) -> Scale {
     }
 }
 
-/// What the search comes to with values of this scale, and the end component of each state. What a step alone needs is let go before the next one.
+/// The search for gains, where nodes are few for so many states. Where they are many, the other steps need memory for rows of all of them, and it is let go.
+fn kept(search: EndSearch, nodes: u32, states: u32) -> Option<EndSearch> {
+    if nodes <= states / FEW_PARTS {
+        Some(search)
+    } else {
+        None
+    }
+}
+
+/// What the search comes to with values of this scale, the end component of each state, and the search for their gains, if it is kept.
 fn searched(
     alloc: Global,
     payoffs: Payoffs<'_>,
     scale: Scale,
-    first: First,
-) -> Result<(Outcome, Vec<Option<u32>>), Memory> {
-    let First { parts, bias, gains } = first;
-    let ends = searched_ends(alloc, payoffs, scale, &parts, bias, &gains)?;
+    beginning: Beginning<'_>,
+) -> Result<(Outcome, Vec<Option<u32>>, Option<EndSearch>), Memory> {
+    let Beginning { parts, ends, first } = beginning;
     let nodes = Nodes::new(alloc, &parts)?;
+    let search = end_search(alloc, payoffs, scale, &parts, ends)?;
     let Ends {
         bias,
         upper,
         lower,
         inner,
-    } = ends;
+    } = searched_ends(alloc, &search, first)?;
+    let left = kept(search, nodes.count(), payoffs.model.states());
     let search = Search {
         payoffs,
+        parts: &parts,
         nodes: &nodes,
         bias: &bias,
         inner: &inner,
         scale,
     };
-    Ok((search.run(alloc, upper, lower)?, parts))
+    Ok((search.run(alloc, upper, lower)?, parts, left))
 }
 
 /// Proposed bounds of mean payoffs: for each state a lower and an upper gain, two relative values (the bound and the bias), all in units of 1 over `one`, which
@@ -472,6 +521,7 @@ fn searched(
 #[derive(Drop)]
 pub struct NearMean {
     parts: Vec<Option<u32>>,
+    ends: Option<EndSearch>,
     pub digits: u32,
     pub one: i128,
     pub lower: Vec<i128>,
@@ -484,7 +534,13 @@ pub struct NearMean {
 
 impl NearMean {
     /// What a search for the greatest mean payoff came to, as one for this direction.
-    fn turned(found: Outcome, parts: Vec<Option<u32>>, dir: Dir, digits: u32) -> NearMean {
+    fn turned(
+        found: Outcome,
+        parts: Vec<Option<u32>>,
+        ends: Option<EndSearch>,
+        dir: Dir,
+        digits: u32,
+    ) -> NearMean {
         let one = power_of_ten(digits);
         let spread = fraction(width(&found.bound).max(width(&found.bias)), one);
         let Outcome {
@@ -506,6 +562,7 @@ impl NearMean {
         turn(&mut bias, dir);
         NearMean {
             parts,
+            ends,
             digits,
             one,
             lower,
@@ -518,27 +575,48 @@ impl NearMean {
     }
 }
 
+/// What a search that begins so proposes.
+fn proposed(
+    alloc: Global,
+    payoffs: Payoffs<'_>,
+    scale: Scale,
+    beginning: Beginning<'_>,
+) -> Result<NearMean, Memory> {
+    let (found, parts, ends) = searched(alloc, payoffs, scale, beginning)?;
+    Ok(NearMean::turned(found, parts, ends, payoffs.dir, scale.digits))
+}
+
 /// Proposes bounds of the greatest or the least mean payoff of the reward name of place `name`, as multiples of 10 to the power of -`digits` where the
 /// rows allow it, with relative values and a policy.
 ///
 /// In each maximal end component a bias is refined until the gains that it comes to are near to each other. Each end component is then one node, where
-/// one stops with its gain or leaves it. For the least mean payoff all rewards are negated. The search begins with what another one of the same model
-/// proposed, if there was one.
+/// one stops with its gain or leaves it. For the least mean payoff all rewards are negated.
 pub fn near_mean(
     alloc: Global,
     model: &Model,
     name: u32,
     dir: Dir,
     digits: u32,
-    before: Option<&NearMean>,
 ) -> Result<NearMean, Memory> {
     model.known();
     let payoffs = Payoffs { model, name, dir };
     let scale = scale_for(payoffs, digits.min(MOST_DIGITS));
-    let first = match before {
-        Some(near) => First::of(alloc, near, power_of_ten(scale.digits), dir)?,
-        None => First::empty(alloc, model)?,
-    };
-    let (found, parts) = searched(alloc, payoffs, scale, first)?;
-    Ok(NearMean::turned(found, parts, dir, scale.digits))
+    let beginning = Beginning::empty(alloc, model)?;
+    proposed(alloc, payoffs, scale, beginning)
+}
+
+/// The same with more digits than those of what was proposed before for the model, the name and the direction: the search begins with that, and takes over
+/// what it keeps for such a search alone.
+pub fn nearer_mean(
+    alloc: Global,
+    model: &Model,
+    name: u32,
+    dir: Dir,
+    digits: u32,
+    before: &mut NearMean,
+) -> Result<NearMean, Memory> {
+    let payoffs = Payoffs { model, name, dir };
+    let scale = scale_for(payoffs, digits.min(MOST_DIGITS));
+    let beginning = Beginning::of(alloc, before, power_of_ten(scale.digits), dir)?;
+    proposed(alloc, payoffs, scale, beginning)
 }

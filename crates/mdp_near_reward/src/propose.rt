@@ -8,7 +8,7 @@ use mdp_near::{
 };
 use mdp_num::{Frac, Memory};
 use mdp_refinement::{
-    Bound, Nodes, Rows, Scale, Solution, Task, flag_at, number_at, power_of_ten, put, solve,
+    Bound, Nodes, Rows, Scale, Solution, Task, Value, flag_at, number_at, power_of_ten, put, solve,
     value_at,
 };
 use mdp_reward::{Start, start_of};
@@ -153,11 +153,11 @@ impl Search<'_, '_> {
     }
 
     /// The values of the nodes that are given: 0 at goals.
-    fn given(self, alloc: Global, nodes: &Nodes) -> Result<Vec<Option<i128>>, AllocError> {
-        let mut given = vec![in alloc; None; nodes.count() as usize]?;
+    fn given(self, alloc: Global, nodes: &Nodes) -> Result<Vec<Value>, AllocError> {
+        let mut given = vec![in alloc; Value::none(); nodes.count() as usize]?;
         for state in nodes.order() {
             if flag_at(self.is_goal, *state) {
-                put(&mut given, nodes.of(*state), Some(0));
+                put(&mut given, nodes.of(*state), Value::known(0));
             }
         }
         Ok(given)

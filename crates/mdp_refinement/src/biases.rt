@@ -60,8 +60,9 @@ impl<'a> Biases<'a> {
     }
 
     /// The gain that goes with corrections by many sweeps.
-    fn by_many_sweeps(&mut self, gains: &[f64]) -> Result<f64, AllocError> {
-        self.sweeps.run(gains, many_sweeps(self.component.size()))?;
+    fn by_many_sweeps(&mut self, alloc: Global, gains: &[f64]) -> Result<f64, AllocError> {
+        self.sweeps
+            .run(alloc, gains, many_sweeps(self.component.size()))?;
         Ok(self.sweeps.gain())
     }
 
@@ -78,12 +79,12 @@ impl<'a> Biases<'a> {
         }
         self.way = Way::ManySweeps;
         self.sweeps.slow_down(SLOWEST);
-        self.by_many_sweeps(gains)
+        self.by_many_sweeps(alloc, gains)
     }
 
     /// The gain that goes with corrections by slow sweeps, or by policies where these don't come to an end.
     fn by_slow_sweeps(&mut self, alloc: Global, gains: &[f64]) -> Result<f64, AllocError> {
-        if self.sweeps.run(gains, FEW_SWEEPS)? {
+        if self.sweeps.run(alloc, gains, FEW_SWEEPS)? {
             return Ok(self.sweeps.gain());
         }
         self.way = Way::Policies;
@@ -92,7 +93,7 @@ impl<'a> Biases<'a> {
 
     /// The gain that goes with corrections by few sweeps, or by slow ones where these don't come to an end.
     fn by_few_sweeps(&mut self, alloc: Global, gains: &[f64]) -> Result<f64, AllocError> {
-        if self.sweeps.run(gains, FEW_SWEEPS)? {
+        if self.sweeps.run(alloc, gains, FEW_SWEEPS)? {
             return Ok(self.sweeps.gain());
         }
         self.sweeps.slow_down(SLOW);
@@ -106,7 +107,7 @@ impl<'a> Biases<'a> {
             Way::FewSweeps => self.by_few_sweeps(alloc, gains),
             Way::SlowSweeps => self.by_slow_sweeps(alloc, gains),
             Way::Policies => self.by_policies(alloc, gains),
-            Way::ManySweeps => self.by_many_sweeps(gains),
+            Way::ManySweeps => self.by_many_sweeps(alloc, gains),
         }
     }
 }

@@ -11,7 +11,7 @@ pub enum Bound {
 
 /// A bound of the greatest or of the least value, with the value, in units, that is such a bound whatever the rows are, if there is one. The search goes on
 /// to the end, by interval iteration where refinement fails, or it ends where the first component can't be refined.
-#[derive(Clone, Copy, PartialEq, Eq)]
+#[derive(Clone, Copy)]
 pub struct Task {
     /// Whether the greatest value is sought, and not the least.
     pub is_max: bool,

@@ -1,9 +1,12 @@
 //! The chain that a row for each node of a component makes: these rows alone, one after the other, so that sweeps along them read no other.
 
+use crate::coarse::{Counted, Grouping};
 use crate::component::{Component, FloatRow};
+use crate::equations::Equations;
 use crate::lists::{add_at, float_at, number, put};
 use crate::sweeps::Change;
 use std::alloc::{AllocError, Global};
+use std::mem;
 
 /// The row of a node: `total` times the node's value is what it earns and the sum over its entries, and it is taken so often at a time. Its entries stand
 /// behind those of the node before, up to `end`.
@@ -27,6 +30,34 @@ pub(crate) struct Chain {
 pub(crate) struct Visits {
     pub(crate) shares: Vec<f64>,
     pub(crate) visits: Vec<f64>,
+}
+
+/// What a node's row has over its value and the gain, from values in which that of the node is `own`.
+fn lacking(link: Link, entries: &[(u32, f64)], gain: f64, own: f64, values: &[f64]) -> f64 {
+    let mut more = link.earned - gain - link.total * own;
+    for (target, prob) in entries {
+        more += *prob * float_at(values, *target);
+    }
+    more
+}
+
+impl Visits {
+    /// Each of so many nodes is begun at once.
+    pub(crate) fn each_once(alloc: Global, nodes: usize) -> Result<Visits, AllocError> {
+        Ok(Visits {
+            shares: vec![in alloc; 1.0; nodes]?,
+            visits: vec![in alloc; 0.0; nodes]?,
+        })
+    }
+
+    /// Makes the shares the visits, and all shares 0, and passes the visits on along a chain. How often rows are taken in all.
+    pub(crate) fn step(&mut self, chain: &Chain) -> f64 {
+        mem::swap(&mut self.visits, &mut self.shares);
+        for share in self.shares.iter_mut() {
+            *share = 0.0;
+        }
+        chain.pass_all(self)
+    }
 }
 
 impl Chain {
@@ -92,16 +123,57 @@ impl Chain {
         for (place, link) in self.links.iter().enumerate() {
             let node = number(place);
             let old = float_at(values, node);
-            let mut more = link.earned - gain - link.total * old;
-            for (target, prob) in self.entries_from(first, *link) {
-                more += *prob * float_at(values, *target);
-            }
+            let more = lacking(*link, self.entries_from(first, *link), gain, old, values);
             let value = old + more * link.repeats;
             change.take(old, value, float_at(shares, node));
             put(values, node, value);
             first = link.end;
         }
         change
+    }
+
+    /// Gives each node in turn the value that its row makes of the values, where the gain is this. By how much each value changed.
+    pub(crate) fn changes(
+        &self,
+        alloc: Global,
+        gain: f64,
+        values: &mut [f64],
+    ) -> Result<Vec<f64>, AllocError> {
+        let mut changes = Vec::with_capacity(alloc, values.len())?;
+        for value in values.iter() {
+            changes.push(*value)?;
+        }
+        self.sweep(gain, values, &[]);
+        for (change, value) in changes.iter_mut().zip(values.iter()) {
+            *change = *value - *change;
+        }
+        Ok(changes)
+    }
+
+    /// The equations of groups of nodes, with this gain or none. Each node counts as often as its row is taken.
+    pub(crate) fn equations(
+        &self,
+        alloc: Global,
+        grouping: &Grouping,
+        gain: Option<f64>,
+        values: &[f64],
+        visits: &[f64],
+    ) -> Result<Equations, AllocError> {
+        let mut equations = grouping.equations(alloc, gain.is_some())?;
+        let spent = gain.unwrap_or(0.0);
+        let mut first = 0usize;
+        for (place, link) in self.links.iter().enumerate() {
+            let node = number(place);
+            let entries = self.entries_from(first, *link);
+            let counted = Counted {
+                weight: float_at(visits, node) * link.repeats,
+                lacking: lacking(*link, entries, spent, float_at(values, node), values),
+                total: link.total,
+            };
+            grouping.add_row(&mut equations, node, counted, entries);
+            first = link.end;
+        }
+        Ok(equations)
     }
 
     /// Where the entries of the node at a place begin.
@@ -129,7 +201,7 @@ impl Chain {
     }
 
     /// Passes all visits on: a step of the chain that goes on until it comes to a node whose value is an old one in a sweep. How often rows are taken in all.
-    pub(crate) fn pass_all(&self, visits: &mut Visits) -> f64 {
+    fn pass_all(&self, visits: &mut Visits) -> f64 {
         let mut steps = 0.0;
         for (place, link) in self.links.iter().enumerate().rev() {
             steps += self.pass_on(number(place), *link, visits);

@@ -1,8 +1,9 @@
-use crate::convert::to_float;
-use crate::lists::{Groups, float_at, number};
+use crate::convert::{nearest, to_float};
+use crate::lists::{Groups, float_at, number, put};
 use crate::outside::{Outside, Widening};
-use crate::rows::{Rows, WholeRow, value_at};
+use crate::rows::{Rows, WholeRow};
 use crate::strong::Components;
+use crate::value::{Value, value_at};
 use std::alloc::{AllocError, Global};
 use std::ops::Range;
 
@@ -52,7 +53,7 @@ struct Gathering<'a> {
     whole_rows: &'a Rows,
     components: &'a Components,
     number: u32,
-    values: &'a [Option<i128>],
+    values: &'a [Value],
     units: Vec<f64>,
     rows: Vec<FloatRow>,
     entries: Vec<(u32, f64)>,
@@ -61,18 +62,14 @@ struct Gathering<'a> {
 }
 
 impl Gathering<'_> {
-    /// Whether the row leads to no node outside whose value isn't known.
-    fn is_known(&self, row: &WholeRow) -> bool {
-        self.whole_rows.entries_of(row).iter().all(|entry| {
-            self.components.of(entry.node) == self.number
-                || value_at(self.values, entry.node).is_some()
-        })
-    }
-
-    /// Takes the entries of a row that stay in the component into `pending`, ordered by place, and gives the probability that leaves.
-    fn take_entries(&mut self, row: &WholeRow) -> Result<f64, AllocError> {
+    /// Takes the entries of a row that stay in the component into `pending`, and gives the denominator of the row less what stays. None where the row leads to
+    /// a node outside whose value isn't known.
+    fn take_inside(
+        &mut self,
+        row: &WholeRow,
+        denominator: f64,
+    ) -> Result<Option<i128>, AllocError> {
         self.pending.clear();
-        let denominator = to_float(row.denominator);
         let mut leaving = row.denominator;
         for entry in self.whole_rows.entries_of(row) {
             if let Some(place) = self.components.place_in(self.number, entry.node) {
@@ -81,10 +78,23 @@ impl Gathering<'_> {
                     self.pending
                         .push((place, to_float(entry.numerator()) / denominator))?;
                 }
+            } else if value_at(self.values, entry.node).is_none() {
+                return Ok(None);
             }
         }
+        Ok(Some(leaving))
+    }
+
+    /// Takes the entries of a row that stay in the component into `pending`, ordered by place, and gives the probability that leaves. None where the row leads
+    /// to a node outside whose value isn't known.
+    fn take_entries(&mut self, row: &WholeRow) -> Result<Option<f64>, AllocError> {
+        let denominator = to_float(row.denominator);
+        let Some(leaving) = self.take_inside(row, denominator)? else {
+            return Ok(None);
+        };
         self.pending.sort_unstable_by_key(|entry| entry.0);
-        Ok(to_float(leaving) / denominator)
+        self.take_outside(row, leaving);
+        Ok(Some(to_float(leaving) / denominator))
     }
 
     /// Whether the row stops with a value that needs no rounding.
@@ -93,13 +103,20 @@ impl Gathering<'_> {
         row.is_stop() && row.reward.checked_rem(unit) == Some(0)
     }
 
-    /// Takes in where a row leads out, or stops, and what it earns.
-    fn take_outside(&mut self, row: &WholeRow) {
+    /// Takes in where a row leads out, or stops, and what it earns, where so much of its denominator leads out.
+    fn take_outside(&mut self, row: &WholeRow, leaving: i128) {
         if row.is_stop() {
             self.outside.take(row.reward);
             return;
         }
         self.outside.take_reward(row.reward);
+        if leaving != 0 {
+            self.take_values_outside(row);
+        }
+    }
+
+    /// Takes in the values of the nodes outside to which a row leads.
+    fn take_values_outside(&mut self, row: &WholeRow) {
         for entry in self.whole_rows.entries_of(row) {
             if self.components.of(entry.node) != self.number {
                 if let Some(value) = value_at(self.values, entry.node) {
@@ -109,10 +126,11 @@ impl Gathering<'_> {
         }
     }
 
-    /// Appends the row at a place, of the node at a place of the component.
+    /// Appends the row at a place, of the node at a place of the component, if it leads to no node outside whose value isn't known.
     fn push(&mut self, node: u32, place: usize, row: &WholeRow) -> Result<(), AllocError> {
-        self.take_outside(row);
-        let exit = self.take_entries(row)?;
+        let Some(exit) = self.take_entries(row)? else {
+            return Ok(());
+        };
         let first = number(self.entries.len());
         let mut total = exit;
         let mut rounding = 0.0;
@@ -142,9 +160,7 @@ impl Gathering<'_> {
         let (from, to) = whole_rows.range_of(node);
         for at in from..to {
             if let Some(row) = whole_rows.row(at) {
-                if self.is_known(row) {
-                    self.push(place, at, row)?;
-                }
+                self.push(place, at, row)?;
             }
         }
         Ok(())
@@ -218,7 +234,7 @@ impl Component {
         rows: &Rows,
         components: &Components,
         component: usize,
-        values: &[Option<i128>],
+        values: &[Value],
     ) -> Result<Component, AllocError> {
         let nodes = listed(alloc, components.nodes_of(component))?;
         let (most_rows, most_entries) = sizes_of(rows, &nodes);
@@ -242,6 +258,37 @@ impl Component {
             entries: gathering.entries,
             outside: gathering.outside.outside(),
         })
+    }
+
+    /// Takes the units of its nodes from rows that were written for another scale. What rounding may cost stays that of the first scale.
+    pub(crate) fn rescale(&mut self, rows: &Rows) {
+        for (unit, node) in self.units.iter_mut().zip(&self.nodes) {
+            *unit = to_float(rows.unit_of(*node));
+        }
+    }
+
+    /// Adds a correction to the value of the node at a place, rounded to its unit. None where it is past 128 bits or not a number.
+    fn add_at(
+        &self,
+        rows: &Rows,
+        place: usize,
+        correction: f64,
+        values: &mut [Value],
+    ) -> Option<()> {
+        let node = self.nodes.get(place).copied()?;
+        let steps = nearest(correction / self.units.get(place).copied()?)?;
+        let more = steps.checked_mul(rows.unit_of(node))?;
+        let sum = value_at(values, node)?.checked_add(more)?;
+        put(values, node, Value::known(sum));
+        Some(())
+    }
+
+    /// Adds corrections to the values of its nodes, rounded to their units. None where one is past 128 bits or not a number.
+    pub(crate) fn add(&self, rows: &Rows, corrections: &[f64], values: &mut [Value]) -> Option<()> {
+        for (place, correction) in corrections.iter().enumerate() {
+            self.add_at(rows, place, *correction, values)?;
+        }
+        Some(())
     }
 
     /// How many nodes there are.

@@ -1,10 +1,12 @@
 //! Corrections of the values of a component, in floats: the best values that gains come to, by sweeps or by policies.
 
+use crate::chain::{Chain, Visits};
+use crate::coarse::Grouping;
 use crate::component::{Component, FloatRow};
 use crate::eliminate::{Elimination, Factors, eliminated};
 use crate::leaving::proper;
 use crate::lists::{Groups, float_at, number, put};
-use crate::sweeps::{Change, FEW_SWEEPS, Forecast, Outlook, WINDOW, many_sweeps};
+use crate::sweeps::{Change, FEW_SWEEPS, Forecast, Outlook, Progress, WINDOW, many_sweeps};
 use std::alloc::{AllocError, Global};
 
 /// Components of more nodes are swept before nodes are eliminated.
@@ -21,6 +23,12 @@ const MOST_POLICIES: usize = 200;
 
 /// A row that gains less than this part of a unit is no better than the policy's.
 const SMALL_GAIN: f64 = 4e-3;
+
+/// The part of a row that leads on is taken for no less than this, where values are corrected by groups.
+const LEAST_TOTAL: f64 = 1e-9;
+
+/// How many steps the chain of the rows takes before nodes are counted by their visits.
+const FEW_STEPS: u32 = 8;
 
 /// What sums of floats may lose, as a part of the greatest value, in a sweep and in an improvement.
 const SWEEP_LOSS: f64 = 1e-14;
@@ -51,6 +59,7 @@ pub(crate) struct Corrector<'a> {
     values: Vec<f64>,
     factors: Option<Factors>,
     factors_policy: Vec<usize>,
+    grouping: Grouping,
 }
 
 impl<'a> Corrector<'a> {
@@ -77,6 +86,7 @@ impl<'a> Corrector<'a> {
             values: vec![in alloc; 0.0; component.len()]?,
             factors: None,
             factors_policy: Vec::new(alloc),
+            grouping: Grouping::new(alloc, component.len())?,
         })
     }
 
@@ -150,19 +160,47 @@ impl<'a> Corrector<'a> {
         }
     }
 
-    /// Sweeps until the changes are small. Whether they became so; it stops where a forecast says that they won't.
-    fn sweep_on(&mut self, gains: &[f64], greedy: &mut [usize]) -> bool {
+    /// Corrects the values by groups of nodes whose values change alike in a sweep along these rows.
+    fn correct_groups(
+        &mut self,
+        alloc: Global,
+        gains: &[f64],
+        greedy: &[usize],
+    ) -> Result<(), AllocError> {
+        let mut chain = Chain::empty(alloc);
+        chain.take(self.component, greedy, gains, 1.0, LEAST_TOTAL)?;
+        let mut visits = Visits::each_once(alloc, greedy.len())?;
+        for _ in 0..FEW_STEPS {
+            visits.step(&chain);
+        }
+        self.grouping
+            .correct(alloc, &chain, &visits, &mut None, &mut self.values)
+    }
+
+    /// Sweeps until the changes are small. Whether they became so. Where a forecast says that they won't, groups of nodes are corrected; it stops where that
+    /// makes the changes hardly smaller.
+    fn sweep_on(
+        &mut self,
+        alloc: Global,
+        gains: &[f64],
+        greedy: &mut [usize],
+    ) -> Result<bool, AllocError> {
         self.clear();
         let mut forecast = Forecast::new(FEW_SWEEPS, self.unit, SWEEP_LOSS);
+        let mut progress = Progress::none();
         for sweep in 0..FEW_SWEEPS {
             let change = self.sweep(gains, greedy);
             match forecast.after(sweep, change) {
-                Outlook::Settled => return true,
-                Outlook::Hopeless => return false,
+                Outlook::Settled => return Ok(true),
+                Outlook::Hopeless if progress.goes_on(change.most()) => {
+                    self.correct_groups(alloc, gains, greedy)?;
+                    forecast.begin_anew();
+                }
+                Outlook::Hopeless => return Ok(false),
                 Outlook::Open => {}
             }
         }
-        false
+        Ok(false)
     }
 
     /// Sweeps three times more. What all further changes come to, as a multiple of the last one, where they shrink evenly.
@@ -211,7 +249,7 @@ impl<'a> Corrector<'a> {
     /// Corrections by few sweeps. Whether they came to an end.
     fn by_few_sweeps(&mut self, alloc: Global, gains: &[f64]) -> Result<bool, AllocError> {
         let mut greedy = self.start.clone()?;
-        let is_settled = self.sweep_on(gains, &mut greedy);
+        let is_settled = self.sweep_on(alloc, gains, &mut greedy)?;
         self.policy = proper(alloc, self.component, self.leading, &greedy, &self.start)?;
         Ok(is_settled)
     }

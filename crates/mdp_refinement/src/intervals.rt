@@ -1,8 +1,9 @@
 //! Interval iteration in whole numbers: from values that surely meet the bound, each step keeps the rows.
 
 use crate::bound::{Bound, Task};
-use crate::rows::{Rows, value_at};
+use crate::rows::Rows;
 use crate::solving::Solution;
+use crate::value::{Value, value_at};
 use crate::whole::quotient;
 
 /// How many entries are looked at in all.
@@ -14,7 +15,7 @@ pub(crate) fn best_rounded(
     rows: &Rows,
     task: Task,
     node: u32,
-    values: &[Option<i128>],
+    values: &[Value],
 ) -> Option<(i128, usize)> {
     let (from, to) = rows.range_of(node);
     let mut best = None;

@@ -7,8 +7,9 @@ use crate::convert::{nearest, to_float};
 use crate::graph::Graph;
 use crate::intervals::greatest_unit;
 use crate::lists::{float_at, number, put};
-use crate::rows::{Excess, Rows, WholeRow, value_at};
+use crate::rows::{Excess, Rows, Scale, WholeRow};
 use crate::strong::{Components, strong_components};
+use crate::value::{Value, value_at};
 use crate::whole::{divided, quotient};
 use std::alloc::{AllocError, Global};
 
@@ -25,9 +26,9 @@ const NEAR: i128 = 3;
 /// that a policy takes whose gain is no less than the lower one.
 #[derive(Drop)]
 pub struct EndGains {
-    pub bias: Vec<Option<i128>>,
-    pub upper: Vec<Option<i128>>,
-    pub lower: Vec<Option<i128>>,
+    pub bias: Vec<Value>,
+    pub upper: Vec<Value>,
+    pub lower: Vec<Value>,
     pub picks: Vec<Option<usize>>,
 }
 
@@ -149,7 +150,7 @@ impl SplitGain {
 
     /// The gain that is so many units of a row more. None past 128 bits.
     fn plus(self, row: &WholeRow, more: i128) -> Option<i128> {
-        self.steps.checked_add(more)?.checked_mul(row.unit)
+        self.steps.checked_add(more)?.checked_mul(row.unit())
     }
 
     /// The bounds of a gain that lies from so much to so much over this one, in the row's denominator. None past 128 bits.
@@ -167,22 +168,16 @@ impl SplitGain {
     }
 }
 
-/// What a row gains. None past 128 bits.
-fn row_gained(
-    rows: &Rows,
-    row: &WholeRow,
-    bias: &[Option<i128>],
-    gain: SplitGain,
-) -> Option<Gained> {
-    let excess = rows.exact_excess(row, bias)?;
-    let gain = gain.in_unit(row.unit)?;
+/// What a row gains that has so much over the bias of its node. None past 128 bits.
+fn row_gained(row: &WholeRow, excess: Excess, gain: SplitGain) -> Option<Gained> {
+    let gain = gain.in_unit(row.unit())?;
     let least = gain.over(row, excess.rounded(Bound::Lower)?)?;
     let most = if excess.is_whole() {
         least
     } else {
         gain.over(row, excess.rounded(Bound::Upper)?)?
     };
-    let over = to_float(least) * to_float(row.unit) / to_float(row.denominator);
+    let over = to_float(least) * to_float(row.unit()) / to_float(row.denominator);
     Some(Gained {
         range: gain.range(row, least, most)?,
         over: over - to_float(gain.rest),
@@ -190,13 +185,15 @@ fn row_gained(
 }
 
 /// What all rows of a component gain over a gain, and of each node the row whose lower gain is the greatest. A row that lies far behind is due again only when
-/// corrections have moved the gains of rows so far that it may have come up: `moved` is by how much in all, and `dues` where each row is due.
+/// corrections have moved the gains of rows so far that it may have come up: `moved` is by how much in all, and `dues` where each row is due. The bias is 0 at
+/// all nodes until it is corrected, or is another one from the start.
 #[derive(Drop)]
 struct Measured {
     gains: Vec<f64>,
     policy: Vec<usize>,
     dues: Vec<f64>,
     moved: f64,
+    is_zero: bool,
 }
 
 impl Measured {
@@ -219,6 +216,7 @@ impl Measured {
             most = most.max(correction.abs());
         }
         self.moved += 2.0 * most + more.abs();
+        self.is_zero = false;
     }
 }
 
@@ -231,21 +229,31 @@ struct Refinement<'a> {
 }
 
 impl Refinement<'_> {
-    /// Nothing measured yet.
-    fn unmeasured(self, alloc: Global) -> Result<Measured, AllocError> {
+    /// Nothing measured yet, over a bias that is 0 or not.
+    fn unmeasured(self, alloc: Global, is_zero: bool) -> Result<Measured, AllocError> {
         Ok(Measured {
             gains: vec![in alloc; 0.0; self.component.rows.len()]?,
             policy: vec![in alloc; 0; self.component.len()]?,
             dues: vec![in alloc; 0.0; self.component.rows.len()]?,
             moved: 0.0,
+            is_zero,
         })
+    }
+
+    /// What a row has over the bias of its node. None past 128 bits.
+    fn excess(self, row: &WholeRow, bias: &[Value], is_zero: bool) -> Option<Excess> {
+        if is_zero {
+            Some(self.rows.excess_of_zero(row))
+        } else {
+            self.rows.exact_excess(row, bias)
+        }
     }
 
     /// Measures the rows of a node over a bias that are due. The range of its gain. None past 128 bits, or where it has no row.
     fn measure_node(
         self,
         place: usize,
-        bias: &[Option<i128>],
+        bias: &[Value],
         gain: SplitGain,
         measured: &mut Measured,
     ) -> Option<Range> {
@@ -256,8 +264,9 @@ impl Refinement<'_> {
             if !measured.is_due(node, at) {
                 continue;
             }
-            let row = self.component.rows.get(at)?;
-            let found = row_gained(self.rows, self.rows.row(row.place())?, bias, gain)?;
+            let row = self.rows.row(self.component.rows.get(at)?.place())?;
+            let excess = self.excess(row, bias, measured.is_zero)?;
+            let found = row_gained(row, excess, gain)?;
             measured.note(at, found.over);
             best = match best {
                 Some((old, chosen)) if found.range.lower <= old.lower => {
@@ -273,7 +282,7 @@ impl Refinement<'_> {
     }
 
     /// Measures all rows over a bias. The range of the component's gain. None past 128 bits.
-    fn measure(self, bias: &[Option<i128>], gain: i128, measured: &mut Measured) -> Option<Range> {
+    fn measure(self, bias: &[Value], gain: i128, measured: &mut Measured) -> Option<Range> {
         let gain = SplitGain::new(gain, self.unit)?;
         let mut all: Option<Range> = None;
         for place in 0..self.component.len() {
@@ -283,30 +292,19 @@ impl Refinement<'_> {
         all
     }
 
-    /// Adds corrections to the bias, rounded to the units. None where one is past 128 bits or not a number.
-    fn add(self, corrections: &[f64], bias: &mut [Option<i128>]) -> Option<()> {
-        for (place, node) in self.component.nodes.iter().enumerate() {
-            let unit = self.component.units.get(place).copied()?;
-            let steps = nearest(corrections.get(place).copied()? / unit)?;
-            let more = steps.checked_mul(self.rows.unit_of(*node))?;
-            let sum = value_at(bias, *node)?.checked_add(more)?;
-            put(bias, *node, Some(sum));
-        }
-        Some(())
-    }
-
     /// Corrects the bias once, for a gain. The next gain; none past 128 bits.
     fn correct(
         self,
         alloc: Global,
         biases: &mut Biases<'_>,
         measured: &mut Measured,
-        bias: &mut [Option<i128>],
+        bias: &mut [Value],
         gain: i128,
     ) -> Result<Option<i128>, AllocError> {
         let more = biases.correct(alloc, &measured.gains)?;
         measured.note_moves(biases.values(), more);
-        if self.add(biases.values(), bias).is_none() {
+        let component = self.component;
+        if component.add(self.rows, biases.values(), bias).is_none() {
             return Ok(None);
         }
         Ok(nearest(more).and_then(|more| gain.checked_add(more)))
@@ -316,7 +314,7 @@ impl Refinement<'_> {
 /// Biases and rows of nodes, in the making, with the gains of components.
 #[derive(Drop)]
 struct Found {
-    bias: Vec<Option<i128>>,
+    bias: Vec<Value>,
     picks: Vec<Option<usize>>,
     ranges: Vec<Option<Range>>,
 }
@@ -325,16 +323,16 @@ impl Found {
     /// Nothing known, of so many nodes.
     fn empty(alloc: Global, nodes: usize) -> Result<Found, AllocError> {
         Ok(Found {
-            bias: vec![in alloc; None; nodes]?,
+            bias: vec![in alloc; Value::none(); nodes]?,
             picks: vec![in alloc; None; nodes]?,
             ranges: Vec::new(alloc),
         })
     }
 
     /// Gives the nodes of a component these biases and rows.
-    fn keep(&mut self, component: &Component, policy: &[usize], bias: &[Option<i128>]) {
+    fn keep(&mut self, component: &Component, policy: &[usize], bias: &[Value]) {
         for (node, place) in component.nodes.iter().zip(policy) {
-            put(&mut self.bias, *node, value_at(bias, *node));
+            put(&mut self.bias, *node, Value::of(value_at(bias, *node)));
             let pick = component.rows.get(*place).map(|row| row.place());
             put(&mut self.picks, *node, pick);
         }
@@ -347,7 +345,7 @@ impl Found {
         refinement: Refinement<'_>,
         biases: &mut Biases<'_>,
         measured: &mut Measured,
-        bias: &mut [Option<i128>],
+        bias: &mut [Value],
         gain: i128,
     ) -> Result<Option<Range>, AllocError> {
         let mut nearest = Nearest::none(refinement.unit, gain);
@@ -376,8 +374,7 @@ impl Found {
         alloc: Global,
         rows: &Rows,
         component: &Component,
-        bias: &mut [Option<i128>],
-        gain: i128,
+        first: &mut First<'_>,
     ) -> Result<Option<Range>, AllocError> {
         let unit = greatest_unit(rows, &component.nodes);
         let refinement = Refinement {
@@ -385,8 +382,10 @@ impl Found {
             component,
             unit,
         };
+        let gain = first.gain_of(component);
         let mut biases = Biases::new(alloc, component)?;
-        let mut measured = refinement.unmeasured(alloc)?;
+        let mut measured = refinement.unmeasured(alloc, first.gains.is_empty())?;
+        let bias = &mut first.bias;
         self.refine(alloc, refinement, &mut biases, &mut measured, bias, gain)
     }
 
@@ -396,12 +395,12 @@ impl Found {
         alloc: Global,
         components: &Components,
         bound: Bound,
-    ) -> Result<Vec<Option<i128>>, AllocError> {
+    ) -> Result<Vec<Value>, AllocError> {
         let mut gains = Vec::with_capacity(alloc, self.bias.len())?;
         for node in 0..self.bias.len() {
             let place = components.of(number(node)) as usize;
             let range = self.ranges.get(place).copied().and_then(|range| range);
-            gains.push(range.map(|range| range.end(bound)))?;
+            gains.push(Value::of(range.map(|range| range.end(bound))))?;
         }
         Ok(gains)
     }
@@ -449,34 +448,98 @@ fn end_components(
     strong_components(alloc, &graph, &open_nodes(alloc, rows, parts)?)
 }
 
-/// The gain of a component that a search begins with: that of its first node.
-fn first_gain(component: &Component, gains: &[i128]) -> i128 {
-    let first = component.nodes.first().copied().unwrap_or(0);
-    gains.get(first as usize).copied().unwrap_or(0)
+/// What a search for gains begins with, for each node in units: biases, and gains, each to be taken so many times; 0 where there are no gains.
+#[derive(Drop)]
+pub struct First<'a> {
+    pub bias: Vec<Value>,
+    pub gains: &'a [i128],
+    pub times: i128,
 }
 
-/// The greatest gains of the maximal end components that nodes are in, and biases for them. The rows are those of all choices. The search begins with such
-/// biases and gains of the nodes, in units; a gain that isn't there is 0.
-pub fn end_gains(
+impl First<'_> {
+    /// The gain of a component: that of its first node.
+    fn gain_of(&self, component: &Component) -> i128 {
+        let node = component.nodes.first().copied().unwrap_or(0);
+        let gain = self.gains.get(node as usize).copied().unwrap_or(0);
+        gain.checked_mul(self.times).unwrap_or(0)
+    }
+}
+
+/// A search for the gains of maximal end components: the rows of all choices of nodes, the strong components, and, where there is one alone, that in floats.
+#[derive(Drop)]
+pub struct EndSearch {
+    rows: Rows,
+    components: Components,
+    only: Option<Component>,
+}
+
+/// The component in floats, where there is one alone.
+fn only_component(
     alloc: Global,
     rows: &Rows,
-    parts: &[Option<u32>],
-    first_bias: Vec<Option<i128>>,
-    first_gains: &[i128],
-) -> Result<EndGains, AllocError> {
-    let components = end_components(alloc, rows, parts)?;
-    let mut bias = first_bias;
-    let mut found = Found::empty(alloc, parts.len())?;
-    for place in 0..components.count() {
-        let component = Component::new(alloc, rows, &components, place, &[])?;
-        let gain = first_gain(&component, first_gains);
-        let range = found.solve(alloc, rows, &component, &mut bias, gain)?;
-        found.ranges.push(range)?;
+    components: &Components,
+) -> Result<Option<Component>, AllocError> {
+    if components.count() == 1 {
+        Ok(Some(Component::new(alloc, rows, components, 0, &[])?))
+    } else {
+        Ok(None)
     }
-    Ok(EndGains {
-        upper: found.gains(alloc, &components, Bound::Upper)?,
-        lower: found.gains(alloc, &components, Bound::Lower)?,
-        bias: found.bias,
-        picks: found.picks,
-    })
+}
+
+impl EndSearch {
+    /// A search over the rows of all choices, none of which stops, of nodes of which each may be in an end component.
+    pub fn new(alloc: Global, rows: Rows, parts: &[Option<u32>]) -> Result<EndSearch, AllocError> {
+        let components = end_components(alloc, &rows, parts)?;
+        let only = only_component(alloc, &rows, &components)?;
+        Ok(EndSearch {
+            rows,
+            components,
+            only,
+        })
+    }
+
+    /// The rows.
+    pub fn rows(&self) -> &Rows {
+        &self.rows
+    }
+
+    /// The same search for values of another scale.
+    pub fn rescale(&mut self, scale: Scale) {
+        self.rows.rescale(scale);
+        if let Some(only) = &mut self.only {
+            only.rescale(&self.rows);
+        }
+    }
+
+    /// The greatest gains of a component.
+    fn solve(
+        &self,
+        alloc: Global,
+        found: &mut Found,
+        place: usize,
+        first: &mut First<'_>,
+    ) -> Result<Option<Range>, AllocError> {
+        if let Some(only) = &self.only {
+            return found.solve(alloc, &self.rows, only, first);
+        }
+        let component = Component::new(alloc, &self.rows, &self.components, place, &[])?;
+        found.solve(alloc, &self.rows, &component, first)
+    }
+
+    /// The greatest gains of the maximal end components that nodes are in, and biases for them.
+    pub fn gains(&self, alloc: Global, first: First<'_>) -> Result<EndGains, AllocError> {
+        let components = &self.components;
+        let mut first = first;
+        let mut found = Found::empty(alloc, first.bias.len())?;
+        for place in 0..components.count() {
+            let range = self.solve(alloc, &mut found, place, &mut first)?;
+            found.ranges.push(range)?;
+        }
+        Ok(EndGains {
+            upper: found.gains(alloc, components, Bound::Upper)?,
+            lower: found.gains(alloc, components, Bound::Lower)?,
+            bias: found.bias,
+            picks: found.picks,
+        })
+    }
 }

@@ -6,7 +6,8 @@ use crate::component::{Component, FloatRow};
 use crate::convert::{nearest, to_float};
 use crate::correct::Corrector;
 use crate::intervals::greatest_unit;
-use crate::rows::{Gap, Rows, value_at};
+use crate::rows::{Gap, Rows};
+use crate::value::Value;
 use std::alloc::{AllocError, Global};
 
 /// How many corrections are made at most.
@@ -59,10 +60,10 @@ struct Setting<'a> {
 
 impl Setting<'_> {
     /// Sets the values of the component to 0.
-    fn clear(self, values: &mut [Option<i128>]) {
+    fn clear(self, values: &mut [Value]) {
         for node in &self.component.nodes {
             if let Some(value) = values.get_mut(*node as usize) {
-                *value = Some(0);
+                *value = Value::known(0);
             }
         }
     }
@@ -83,7 +84,7 @@ impl Setting<'_> {
     fn measure(
         self,
         policy: &[usize],
-        values: &[Option<i128>],
+        values: &[Value],
         room: f64,
         gains: &mut [f64],
     ) -> Option<Held> {
@@ -104,7 +105,7 @@ impl Setting<'_> {
     }
 
     /// What the rows that are to hold lack. None past 128 bits.
-    fn lack(self, policy: &[usize], values: &[Option<i128>]) -> Option<Lack> {
+    fn lack(self, policy: &[usize], values: &[Value]) -> Option<Lack> {
         let mut lack = Lack {
             is_there: false,
             most: 0.0,
@@ -122,7 +123,7 @@ impl Setting<'_> {
     }
 
     /// Moves all values of the component so far that the rows hold which lack this, in steps of the greatest unit. None where a row doesn't leave it.
-    fn move_all(self, lack: Lack, growth: f64, values: &mut [Option<i128>]) -> Option<()> {
+    fn move_all(self, lack: Lack, growth: f64, values: &mut [Value]) -> Option<()> {
         if !(lack.exit > 0.0) {
             return None;
         }
@@ -132,13 +133,13 @@ impl Setting<'_> {
         let more = steps.checked_mul(unit)?;
         for node in &self.component.nodes {
             let slot = values.get_mut(*node as usize)?;
-            *slot = Some((*slot)?.checked_add(more)?);
+            *slot = Value::known(slot.units()?.checked_add(more)?);
         }
         Some(())
     }
 
     /// Moves the values until the rows hold that are to hold, where each of those leaves the component. Whether they do.
-    fn move_until(self, policy: &[usize], values: &mut [Option<i128>]) -> Option<bool> {
+    fn move_until(self, policy: &[usize], values: &mut [Value]) -> Option<bool> {
         let mut growth = MOVE_GROWTH;
         for _ in 0..MOST_MOVES {
             let lack = self.lack(policy, values)?;
@@ -149,20 +150,6 @@ impl Setting<'_> {
             growth *= 2.0;
         }
         Some(false)
-    }
-
-    /// Adds corrections to the values, rounded to the units. None where one is past 128 bits or not a number.
-    fn add(self, corrections: &[f64], values: &mut [Option<i128>]) -> Option<()> {
-        for (place, node) in self.component.nodes.iter().enumerate() {
-            let steps = nearest(
-                corrections.get(place).copied()? / self.component.units.get(place).copied()?,
-            )?;
-            let more = steps.checked_mul(self.rows.unit_of(*node))?;
-            let sum = value_at(values, *node)?.checked_add(more)?;
-            let slot = values.get_mut(*node as usize)?;
-            *slot = Some(sum);
-        }
-        Some(())
     }
 }
 
@@ -196,12 +183,12 @@ impl Setting<'_> {
         alloc: Global,
         corrector: &mut Corrector<'_>,
         gains: &[f64],
-        values: &mut [Option<i128>],
+        values: &mut [Value],
     ) -> Result<End, AllocError> {
         if !corrector.correct(alloc, gains)? {
             return Ok(End::Failed);
         }
-        match self.add(corrector.values(), values) {
+        match self.component.add(self.rows, corrector.values(), values) {
             Some(()) => Ok(End::Open),
             None => Ok(End::Failed),
         }
@@ -213,7 +200,7 @@ impl Setting<'_> {
         alloc: Global,
         corrector: &mut Corrector<'_>,
         gains: &mut [f64],
-        values: &mut [Option<i128>],
+        values: &mut [Value],
     ) -> Result<End, AllocError> {
         let mut room = FIRST_ROOM;
         for round in 0..MOST_ROUNDS {
@@ -241,7 +228,7 @@ pub(crate) fn refine(
     component: &Component,
     task: Task,
     mut corrector: Corrector<'_>,
-    values: &mut [Option<i128>],
+    values: &mut [Value],
 ) -> Result<Option<Vec<usize>>, AllocError> {
     let setting = Setting {
         rows,

@@ -3,11 +3,11 @@
 //! (modified policy iteration, section 8.7).
 
 use crate::chain::{Chain, Visits};
+use crate::coarse::Grouping;
 use crate::component::{Component, FloatRow};
 use crate::lists::{float_at, number, put};
-use crate::sweeps::{Change, Forecast, Outlook, WINDOW};
+use crate::sweeps::{Change, Forecast, Outlook, Progress, WINDOW};
 use std::alloc::{AllocError, Global};
-use std::mem;
 
 /// The part of a row that leads on is taken for no less than this, so that a row which stays at its node may be taken.
 const LEAST_TOTAL: f64 = 0.125;
@@ -15,11 +15,11 @@ const LEAST_TOTAL: f64 = 0.125;
 /// A sweep that changes values by less than this part of the greatest one, or of the gain, is the last: the rest is left to the next correction.
 const LOSS: f64 = 1e-12;
 
-/// How many steps of the chain the shares take once the best rows are steady.
+/// How many steps of the chain the shares take once the best rows are steady. Before that they take one with each change of the rows.
 const FEW_STEPS: u32 = 8;
 
 /// How many sweeps follow the best rows before all are tried again, where the last such sweep changed some.
-const FEW_FOLLOWING: usize = 3;
+const FEW_FOLLOWING: usize = 2;
 
 /// Sweeps over an end component, with the values and the rows that they have come to, and the chain of these. Shares come near to how often the chain begins
 /// at each node in the long run, and rows are then taken so many times in a step, `steps`. By such shares the changes of a sweep add up to what the gain lacks
@@ -36,6 +36,7 @@ pub(crate) struct Relative<'a> {
     visits: Visits,
     steps: f64,
     steps_left: u32,
+    grouping: Grouping,
 }
 
 /// The first row of each node.
@@ -65,6 +66,7 @@ impl<'a> Relative<'a> {
             },
             steps: 1.0,
             steps_left: FEW_STEPS,
+            grouping: Grouping::new(alloc, nodes)?,
         })
     }
 
@@ -146,22 +148,17 @@ impl<'a> Relative<'a> {
         Ok(change)
     }
 
-    /// Lets the shares take a step of the chain, if more are to come. Makes the shares the visits, and all shares 0, and passes the visits on.
+    /// Lets the shares take a step of the chain, if more are to come.
     fn step_shares(&mut self) {
         if self.steps_left == 0 {
             return;
         }
         self.steps_left = self.steps_left.saturating_sub(1);
-        mem::swap(&mut self.visits.visits, &mut self.visits.shares);
-        for share in self.visits.shares.iter_mut() {
-            *share = 0.0;
-        }
-        self.steps = self.chain.pass_all(&mut self.visits);
+        self.steps = self.visits.step(&self.chain);
     }
 
     /// Brings the gain nearer by a sweep's change.
     fn correct_gain(&mut self, change: Change) {
-        self.step_shares();
         if self.steps > 0.0 {
             self.gain += change.drift() / self.steps;
         }
@@ -183,28 +180,59 @@ impl<'a> Relative<'a> {
         }
     }
 
-    /// Sweeps until the changes are small, for rows that earn this. Whether they became so; it stops where a forecast says that they won't.
-    pub(crate) fn run(&mut self, gains: &[f64], sweeps: usize) -> Result<bool, AllocError> {
+    /// Sweeps along the chain, and corrects the values and the gain by groups of nodes whose values changed alike.
+    fn correct_groups(&mut self, alloc: Global) -> Result<(), AllocError> {
+        let mut gain = Some(self.gain);
+        let (chain, visits) = (&self.chain, &self.visits);
+        self.grouping
+            .correct(alloc, chain, visits, &mut gain, &mut self.values)?;
+        self.gain = gain.unwrap_or(self.gain);
+        Ok(())
+    }
+
+    /// Sweeps over all rows or along the chain, and brings the gain nearer.
+    fn sweep_once(&mut self, gains: &[f64], tries_all: bool) -> Result<Change, AllocError> {
+        let change = if tries_all {
+            self.sweep_all(gains)?
+        } else {
+            self.chain
+                .sweep(self.gain, &mut self.values, &self.visits.shares)
+        };
+        if tries_all || self.is_steady {
+            self.step_shares();
+        }
+        self.correct_gain(change);
+        self.shift();
+        Ok(change)
+    }
+
+    /// Sweeps until the changes are small, for rows that earn this. Whether they became so. Where a forecast says that they won't, groups of nodes are corrected;
+    /// it stops where that makes the changes hardly smaller.
+    pub(crate) fn run(
+        &mut self,
+        alloc: Global,
+        gains: &[f64],
+        sweeps: usize,
+    ) -> Result<bool, AllocError> {
         self.clear();
         let mut forecast = Forecast::new(sweeps, self.component.least_unit(), LOSS);
-        let mut following = 0;
+        let mut following = 0usize;
+        let mut progress = Progress::none();
         for sweep in 0..sweeps {
             let tries_all = following == 0;
-            let change = if tries_all {
-                following = WINDOW;
-                self.sweep_all(gains)?
-            } else {
-                self.chain
-                    .sweep(self.gain, &mut self.values, &self.visits.shares)
-            };
-            self.correct_gain(change);
-            self.shift();
+            let change = self.sweep_once(gains, tries_all)?;
+            let left = if tries_all { WINDOW } else { following }.saturating_sub(1);
             following = match forecast.after(sweep, change) {
                 Outlook::Settled if tries_all => return Ok(true),
                 Outlook::Settled => 0,
+                Outlook::Hopeless if progress.goes_on(change.most()) => {
+                    self.correct_groups(alloc)?;
+                    forecast.begin_anew();
+                    0
+                }
                 Outlook::Hopeless => return Ok(false),
-                Outlook::Open if self.is_steady => following.saturating_sub(1),
-                Outlook::Open => following.min(FEW_FOLLOWING).saturating_sub(1),
+                Outlook::Open if self.is_steady => left,
+                Outlook::Open => left.min(FEW_FOLLOWING),
             };
         }
         Ok(false)

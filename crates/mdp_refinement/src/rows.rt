@@ -2,6 +2,7 @@ use crate::bound::Bound;
 use crate::convert::to_float;
 use crate::lists::{flag_at, number, number_at, put};
 use crate::nodes::Nodes;
+use crate::value::{Value, value_at};
 use crate::whole::{
     common_denominator, compare_scaled, digits_left, divided, greatest_with_digits, is_narrow,
     power_of_ten, quotient, times_multiple,
@@ -54,9 +55,9 @@ pub struct WholeRow {
     pub state: u32,
     pub choice: u32,
     pub node: u32,
+    lost: u32,
     pub denominator: i128,
     pub reward: i128,
-    pub unit: i128,
     first: usize,
     end: usize,
 }
@@ -65,6 +66,15 @@ impl WholeRow {
     /// Whether the row has no entry.
     pub fn is_stop(&self) -> bool {
         self.first >= self.end
+    }
+
+    /// How many units of all values a unit of the row is: 10 to the power of the digits that it doesn't keep.
+    pub fn unit(&self) -> i128 {
+        if self.lost == 0 {
+            1
+        } else {
+            power_of_ten(self.lost)
+        }
     }
 }
 
@@ -145,9 +155,9 @@ impl Rows {
         number(self.starts.len().saturating_sub(1))
     }
 
-    /// Leaves so many digits to the nodes of the entries from a place on.
-    fn limit_from(&mut self, first: usize, digits: u32) {
-        for entry in self.entries.get(first..).unwrap_or(&[]) {
+    /// Leaves so many digits to the nodes of the entries from a place to another.
+    fn limit(&mut self, first: usize, end: usize, digits: u32) {
+        for entry in self.entries.get(first..end).unwrap_or(&[]) {
             let least = number_at(&self.node_digits, entry.node).min(digits);
             put(&mut self.node_digits, entry.node, least);
         }
@@ -236,19 +246,20 @@ impl Rows {
     ) -> Result<(), AllocError> {
         let first = self.entries.len();
         self.push_entries()?;
-        let digits = numbers.digits;
-        if digits < self.scale.digits {
-            self.limit_from(first, digits);
+        let end = self.entries.len();
+        let lost = self.scale.digits.saturating_sub(numbers.digits);
+        if lost > 0 {
+            self.limit(first, end, numbers.digits);
         }
         let row = WholeRow {
             state: of.state,
             choice: of.choice,
             node: self.last_node(),
+            lost,
             denominator: numbers.denominator,
             reward: numbers.reward,
-            unit: power_of_ten(self.scale.digits.saturating_sub(digits)),
             first,
-            end: self.entries.len(),
+            end,
         };
         self.rows.push(row)?;
         Ok(())
@@ -296,9 +307,9 @@ impl Rows {
             state,
             choice,
             node: self.last_node(),
+            lost: 0,
             denominator: 1,
             reward: value,
-            unit: 1,
             first: place,
             end: place,
         };
@@ -310,6 +321,65 @@ impl Rows {
     pub fn set_reward(&mut self, place: usize, reward: i128) {
         if let Some(row) = self.rows.get_mut(place) {
             row.reward = reward;
+        }
+    }
+
+    /// Writes a row for a scale of more digits by taking its reward so many times, where that is at most `most` and the row kept all digits and keeps them.
+    /// Whether it did.
+    fn lengthen_row(&mut self, place: usize, times: i128, most: i128) -> bool {
+        let most_denominator = self.most;
+        match self.rows.get_mut(place) {
+            Some(row) if row.lost == 0 && row.denominator <= most_denominator => {
+                if row.reward.saturating_abs() > most {
+                    return false;
+                }
+                row.reward = row.reward.saturating_mul(times);
+                true
+            }
+            _ => false,
+        }
+    }
+
+    /// Writes a row for the scale, which was written for values of so many digits.
+    fn rescale_row(&mut self, place: usize, digits: u32) {
+        let Some(row) = self.rows.get(place).copied() else {
+            return;
+        };
+        let earned = row
+            .reward
+            .checked_div(power_of_ten(digits.saturating_sub(row.lost)))
+            .unwrap_or(0);
+        let kept = self.digits_for(row.denominator, earned.saturating_abs());
+        let lost = self.scale.digits.saturating_sub(kept);
+        if lost > 0 {
+            self.limit(row.first, row.end, kept);
+        }
+        let reward = earned.checked_mul(self.power_of(kept)).unwrap_or(0);
+        if let Some(slot) = self.rows.get_mut(place) {
+            slot.reward = reward;
+            slot.lost = lost;
+        }
+    }
+
+    /// Writes all rows for values of another scale. There is to be none that stops.
+    pub(crate) fn rescale(&mut self, scale: Scale) {
+        let digits = self.scale.digits;
+        self.scale = scale;
+        self.one = power_of_ten(scale.digits);
+        self.most = greatest_with_digits(scale.digits.saturating_add(scale.room));
+        for left in self.node_digits.iter_mut() {
+            *left = scale.digits;
+        }
+        let times = power_of_ten(scale.digits.saturating_sub(digits));
+        let most = if scale.digits < digits {
+            -1
+        } else {
+            self.most.saturating_mul(power_of_ten(digits))
+        };
+        for place in 0..self.rows.len() {
+            if !self.lengthen_row(place, times, most) {
+                self.rescale_row(place, digits);
+            }
         }
     }
 
@@ -367,15 +437,16 @@ impl Rows {
 
     /// The reward and the sum of numerators times values in units of the row, but for the entry of the row's own node, whose numerator comes beside it.
     /// None past 128 bits, or where a value isn't known. As numerators come to the denominator at most, the sum is in width where each value times that is.
-    fn sum_of_others(&self, row: &WholeRow, values: &[Option<i128>]) -> Option<(i128, i128)> {
+    fn sum_of_others(&self, row: &WholeRow, values: &[Value]) -> Option<(i128, i128)> {
         let zeros = row.denominator.unsigned_abs().leading_zeros();
+        let unit = row.unit();
         let mut total = 0i128;
         let mut own = 0;
         for entry in self.entries_of(row) {
             if entry.node == row.node {
                 own = entry.numerator();
             } else {
-                let value = in_unit(value_at(values, entry.node)?, row.unit)?;
+                let value = in_unit(value_at(values, entry.node)?, unit)?;
                 if value.unsigned_abs().leading_zeros().saturating_add(zeros) < ZEROS_OF_NARROW {
                     return self.wide_sum_of_others(row, values);
                 }
@@ -386,14 +457,15 @@ impl Rows {
     }
 
     /// The same where a product may be past width: each step is checked.
-    fn wide_sum_of_others(&self, row: &WholeRow, values: &[Option<i128>]) -> Option<(i128, i128)> {
+    fn wide_sum_of_others(&self, row: &WholeRow, values: &[Value]) -> Option<(i128, i128)> {
+        let unit = row.unit();
         let mut total = row.reward;
         let mut own = 0;
         for entry in self.entries_of(row) {
             if entry.node == row.node {
                 own = entry.numerator();
             } else {
-                let value = in_unit(value_at(values, entry.node)?, row.unit)?;
+                let value = in_unit(value_at(values, entry.node)?, unit)?;
                 total = total.checked_add(entry.numerator().checked_mul(value)?)?;
             }
         }
@@ -402,15 +474,15 @@ impl Rows {
 
     /// What the row has over the value of its node, in the row's denominator times its unit, rounded so that it is a bound. None past 128 bits, or where
     /// a value isn't known.
-    pub fn excess(&self, row: &WholeRow, values: &[Option<i128>], bound: Bound) -> Option<i128> {
+    pub fn excess(&self, row: &WholeRow, values: &[Value], bound: Bound) -> Option<i128> {
         self.exact_excess(row, values)?.rounded(bound)
     }
 
     /// What the row has over the value of its node, exactly. None past 128 bits, or where a value isn't known.
-    pub(crate) fn exact_excess(&self, row: &WholeRow, values: &[Option<i128>]) -> Option<Excess> {
+    pub(crate) fn exact_excess(&self, row: &WholeRow, values: &[Value]) -> Option<Excess> {
         let (total, own) = self.sum_of_others(row, values)?;
         let others = row.denominator.checked_sub(own)?;
-        let (steps, rest) = divided(value_at(values, row.node)?, row.unit)?;
+        let (steps, rest) = divided(value_at(values, row.node)?, row.unit())?;
         Some(Excess {
             above: total.checked_sub(others.checked_mul(steps)?)?,
             less: if rest == 0 {
@@ -418,38 +490,42 @@ impl Rows {
             } else {
                 others.checked_mul(rest)?
             },
-            unit: row.unit,
+            unit: row.unit(),
         })
     }
 
+    /// What the row has over the value of its node, where all values are 0.
+    pub(crate) fn excess_of_zero(&self, row: &WholeRow) -> Excess {
+        Excess {
+            above: row.reward,
+            less: 0,
+            unit: row.unit(),
+        }
+    }
+
     /// How the row's value lies to that of its node. None past 128 bits, or where a value isn't known.
-    pub(crate) fn gap(&self, row: &WholeRow, values: &[Option<i128>]) -> Option<Gap> {
+    pub(crate) fn gap(&self, row: &WholeRow, values: &[Value]) -> Option<Gap> {
         let (total, own) = self.sum_of_others(row, values)?;
         let others = row.denominator.checked_sub(own)?;
-        let (steps, rest) = divided(value_at(values, row.node)?, row.unit)?;
+        let (steps, rest) = divided(value_at(values, row.node)?, row.unit())?;
         let excess = total.checked_sub(others.checked_mul(steps)?)?;
-        let scaled = to_float(excess) * to_float(row.unit) - to_float(others) * to_float(rest);
+        let scaled = to_float(excess) * to_float(row.unit()) - to_float(others) * to_float(rest);
         Some(Gap {
-            order: compare_scaled(excess, row.unit, others, rest),
+            order: compare_scaled(excess, row.unit(), others, rest),
             size: scaled / to_float(row.denominator),
         })
     }
 
     /// The value that the row gives its node, its own entry solved for, rounded to a multiple of the node's unit. None past 128 bits,
     /// or where a value isn't known.
-    pub(crate) fn rounded(
-        &self,
-        row: &WholeRow,
-        values: &[Option<i128>],
-        bound: Bound,
-    ) -> Option<i128> {
+    pub(crate) fn rounded(&self, row: &WholeRow, values: &[Value], bound: Bound) -> Option<i128> {
         let (total, own) = self.sum_of_others(row, values)?;
         let others = row.denominator.checked_sub(own)?;
         let unit = self.unit_of(row.node);
-        if unit < row.unit {
-            return rounded_finely(total, others, row.unit, unit, bound);
+        if unit < row.unit() {
+            return rounded_finely(total, others, row.unit(), unit, bound);
         }
-        let steps = in_unit(unit, row.unit)?;
+        let steps = in_unit(unit, row.unit())?;
         quotient(total, others.checked_mul(steps)?, bound)?.checked_mul(unit)
     }
 }
@@ -519,12 +595,4 @@ fn in_unit(value: i128, unit: i128) -> Option<i128> {
         return Some(value);
     }
     value.checked_div(unit)
-}
-
-/// The value of a node, in units; none where it isn't known.
-pub fn value_at(values: &[Option<i128>], node: u32) -> Option<i128> {
-    match values.get(node as usize).copied() {
-        Some(value) => value,
-        None => None,
-    }
 }

@@ -9,15 +9,16 @@ use crate::leaving::exit_policy;
 use crate::lists::{Groups, number, put};
 use crate::outside::Outside;
 use crate::refine::refine;
-use crate::rows::{Rows, value_at};
+use crate::rows::Rows;
 use crate::strong::{Components, strong_components};
+use crate::value::{Value, value_at};
 use std::alloc::{AllocError, Global};
 
 /// A value for each node, in units, if one was found, and the place of the row that it takes; none where it takes no row. It is full where
 /// refinement came to an end in each component, and no number in it was past 128 bits.
 #[derive(Drop)]
 pub struct Solution {
-    pub values: Vec<Option<i128>>,
+    pub values: Vec<Value>,
     pub picks: Vec<Option<usize>>,
     pub is_full: bool,
 }
@@ -25,12 +26,12 @@ pub struct Solution {
 impl Solution {
     /// Gives a node a value.
     pub(crate) fn set_value(&mut self, node: u32, value: i128) {
-        put(&mut self.values, node, Some(value));
+        put(&mut self.values, node, Value::known(value));
     }
 
     /// Gives a node a value and a row.
     pub(crate) fn settle(&mut self, node: u32, value: i128, pick: Option<usize>) {
-        put(&mut self.values, node, Some(value));
+        put(&mut self.values, node, Value::known(value));
         put(&mut self.picks, node, pick);
     }
 }
@@ -47,7 +48,7 @@ struct Solver<'a> {
 impl Solver<'_> {
     /// Gives a node the bound that holds anyway.
     fn give_up(&mut self, node: u32) {
-        put(&mut self.solution.values, node, self.task.anyway);
+        put(&mut self.solution.values, node, Value::of(self.task.anyway));
         put(&mut self.solution.picks, node, None);
     }
 
@@ -175,14 +176,14 @@ impl Solver<'_> {
 fn open_nodes(
     alloc: Global,
     rows: &Rows,
-    given: &[Option<i128>],
+    given: &[Value],
     task: Task,
 ) -> Result<Vec<bool>, AllocError> {
     let mut open = Vec::new(alloc);
     for (place, value) in given.iter().enumerate() {
         let node = number(place);
         let is_kept = !(task.is_each() && rows.has_wide(node));
-        open.push(value.is_none() && is_kept && !rows.rows_of(node).is_empty())?;
+        open.push(!value.is_known() && is_kept && !rows.rows_of(node).is_empty())?;
     }
     Ok(open)
 }
@@ -190,12 +191,16 @@ fn open_nodes(
 /// The given values, and elsewhere those that hold anyway.
 fn first_solution(
     alloc: Global,
-    given: &[Option<i128>],
+    given: &[Value],
     anyway: Option<i128>,
 ) -> Result<Solution, AllocError> {
     let mut values = Vec::new(alloc);
     for value in given {
-        values.push(if value.is_some() { *value } else { anyway })?;
+        values.push(if value.is_known() {
+            *value
+        } else {
+            Value::of(anyway)
+        })?;
     }
     Ok(Solution {
         values,
@@ -221,7 +226,7 @@ fn graph_of(alloc: Global, rows: &Rows, nodes: u32) -> Result<Graph, AllocError>
 pub fn solve(
     alloc: Global,
     rows: &Rows,
-    given: &[Option<i128>],
+    given: &[Value],
     task: Task,
 ) -> Result<Solution, AllocError> {
     let open = open_nodes(alloc, rows, given, task)?;

@@ -1,5 +1,10 @@
 //! How much sweeps change values, and whether they will come to an end.
 
+/// To which part corrections of groups are to bring the changes, and how many are made in which they don't: groups are split by each.
+const SMALLER: f64 = 0.5;
+
+const MOST_TRIES: u32 = 4;
+
 /// How many sweeps are tried where a forecast is made.
 pub(crate) const FEW_SWEEPS: usize = 400;
 
@@ -111,6 +116,11 @@ impl Forecast {
         }
     }
 
+    /// Forgets what changes were so far.
+    pub(crate) fn begin_anew(&mut self) {
+        self.last = f64::INFINITY;
+    }
+
     /// Whether the sweep that ends a window forecasts no end.
     fn is_hopeless(&mut self, sweep: usize, most: f64, enough: f64) -> bool {
         let last = self.last;
@@ -130,5 +140,33 @@ impl Forecast {
             return Outlook::Hopeless;
         }
         Outlook::Open
+    }
+}
+
+/// How corrections of groups come forward.
+#[derive(Clone, Copy)]
+pub(crate) struct Progress {
+    enough: f64,
+    tries_left: u32,
+}
+
+impl Progress {
+    /// None made yet.
+    pub(crate) fn none() -> Progress {
+        Progress {
+            enough: f64::INFINITY,
+            tries_left: MOST_TRIES,
+        }
+    }
+
+    /// Whether to make another one, where the greatest change of a sweep is so much.
+    pub(crate) fn goes_on(&mut self, most: f64) -> bool {
+        if most < self.enough {
+            self.enough = most * SMALLER;
+            self.tries_left = MOST_TRIES;
+        }
+        let goes_on = self.tries_left > 0;
+        self.tries_left = self.tries_left.saturating_sub(1);
+        goes_on
     }
 }

@@ -6,7 +6,7 @@ ghost use Rattle.mdp_search_bounds.specs.Held.{HasMeanSizes, IsHeldMean};
 use crate::simplest::simplest_mean;
 use mdp_bounds::{MeanBoundsCert, Verdict, holds_bounds_mean, mean_bounds_at_state};
 use mdp_ladder::{Search, bounds_by, fractions, numbers};
-use mdp_near_mean::{NearMean, near_mean};
+use mdp_near_mean::{NearMean, near_mean, nearer_mean};
 use mdp_num::Memory;
 use mdp_rows::{Dir, Model};
 use mdp_trivial_bounds::trivial_mean;
@@ -35,11 +35,16 @@ impl Search for Averaging<'_> {
     }
 
     fn near(&self, alloc: Global, digits: u32) -> Result<NearMean, Memory> {
-        near_mean(alloc, self.model, self.name, self.dir, digits, None)
+        near_mean(alloc, self.model, self.name, self.dir, digits)
     }
 
-    fn nearer(&self, alloc: Global, digits: u32, before: &NearMean) -> Result<NearMean, Memory> {
-        near_mean(alloc, self.model, self.name, self.dir, digits, Some(before))
+    fn nearer(
+        &self,
+        alloc: Global,
+        digits: u32,
+        before: &mut NearMean,
+    ) -> Result<NearMean, Memory> {
+        nearer_mean(alloc, self.model, self.name, self.dir, digits, before)
     }
 
     fn proposed(&self, alloc: Global, near: &NearMean) -> Result<MeanBoundsCert, Memory> {

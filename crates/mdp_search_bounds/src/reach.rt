@@ -38,10 +38,6 @@ impl Search for Reaching<'_, '_> {
         near_reach(alloc, self.model, self.goals, self.dir, digits)
     }
 
-    fn nearer(&self, alloc: Global, digits: u32, _before: &NearReach) -> Result<NearReach, Memory> {
-        self.near(alloc, digits)
-    }
-
     fn proposed(&self, alloc: Global, near: &NearReach) -> Result<ReachBoundsCert, Memory> {
         let states = self.model.states();
         Ok(ReachBoundsCert {

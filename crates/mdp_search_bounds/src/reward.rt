@@ -42,15 +42,6 @@ impl Search for Earning<'_, '_> {
         near_reward(alloc, self.model, self.name, self.goals, self.dir, digits)
     }
 
-    fn nearer(
-        &self,
-        alloc: Global,
-        digits: u32,
-        _before: &NearReward,
-    ) -> Result<NearReward, Memory> {
-        self.near(alloc, digits)
-    }
-
     fn proposed(&self, alloc: Global, near: &NearReward) -> Result<RewardBoundsCert, Memory> {
         let states = self.model.states();
         Ok(RewardBoundsCert {

@@ -90,15 +90,6 @@ impl Search for Discounting<'_> {
         near_discount(alloc, self.model, self.name, self.dir, self.factor, digits)
     }
 
-    fn nearer(
-        &self,
-        alloc: Global,
-        digits: u32,
-        _before: &NearDiscount,
-    ) -> Result<NearDiscount, Memory> {
-        self.near(alloc, digits)
-    }
-
     fn proposed(&self, alloc: Global, near: &NearDiscount) -> Result<DiscountBounds, Memory> {
         let model = self.model;
         let lower = listed(alloc, model.states(), &near.lower)?;

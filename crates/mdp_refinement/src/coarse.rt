@@ -1,0 +1,192 @@
+//! Corrections that are one number for all nodes of a group, where sweeps come forward slowly: nodes whose values change alike are in a group, and the
+//! equations of all groups are solved at once (adaptive aggregation, Bertsekas and Castañon 1989).
+
+use crate::chain::{Chain, Visits};
+use crate::equations::Equations;
+use crate::lists::{float_at, number_at, put};
+use std::alloc::{AllocError, Global};
+use std::num::saturating_f64_to_i64;
+
+/// In how many parts the range of changes is divided, also as a float, and the last part.
+const PARTS: usize = 16;
+
+const PARTS_IN_FLOAT: f64 = 16.0;
+
+const LAST_PART: usize = 15;
+
+/// How many groups there are at most. It is no less than the number of parts.
+const MOST_GROUPS: u32 = 128;
+
+/// What has no number yet.
+const NO_NUMBER: u32 = u32::MAX;
+
+/// The least of some changes, and how wide a part of their range is.
+#[derive(Clone, Copy)]
+struct Spread {
+    least: f64,
+    width: f64,
+}
+
+impl Spread {
+    /// That of these changes.
+    fn of(changes: &[f64]) -> Spread {
+        let mut least = f64::INFINITY;
+        let mut most = f64::NEG_INFINITY;
+        for change in changes {
+            least = least.min(*change);
+            most = most.max(*change);
+        }
+        Spread {
+            least,
+            width: (most - least) / PARTS_IN_FLOAT,
+        }
+    }
+
+    /// The part in which a change lies.
+    fn part(self, change: f64) -> usize {
+        let part = saturating_f64_to_i64((change - self.least) / self.width);
+        usize::try_from(part).unwrap_or(0).min(LAST_PART)
+    }
+}
+
+/// Gives out the numbers of groups, one for each group of before and part.
+#[derive(Drop)]
+struct Numbering {
+    numbers: Vec<u32>,
+    next: u32,
+}
+
+impl Numbering {
+    /// No number given out yet, where there are so many groups before.
+    fn new(alloc: Global, groups: u32) -> Result<Numbering, AllocError> {
+        let places = (groups as usize).saturating_mul(PARTS);
+        Ok(Numbering {
+            numbers: vec![in alloc; NO_NUMBER; places]?,
+            next: 0,
+        })
+    }
+
+    /// The number of the nodes of a group that lie in a part.
+    fn number_of(&mut self, group: u32, part: usize) -> u32 {
+        let place = (group as usize).saturating_mul(PARTS).saturating_add(part);
+        match self.numbers.get_mut(place) {
+            Some(number) if *number == NO_NUMBER => {
+                *number = self.next;
+                self.next = self.next.saturating_add(1);
+                *number
+            }
+            Some(number) => *number,
+            None => 0,
+        }
+    }
+}
+
+/// A node's row: how often it counts, what it has over its node's value and the gain, and what `total` is in it.
+#[derive(Clone, Copy)]
+pub(crate) struct Counted {
+    pub(crate) weight: f64,
+    pub(crate) lacking: f64,
+    pub(crate) total: f64,
+}
+
+/// The groups of nodes.
+#[derive(Drop)]
+pub(crate) struct Grouping {
+    groups: Vec<u32>,
+    count: u32,
+}
+
+impl Grouping {
+    /// So many nodes in one group.
+    pub(crate) fn new(alloc: Global, nodes: usize) -> Result<Grouping, AllocError> {
+        Ok(Grouping {
+            groups: vec![in alloc; 0; nodes]?,
+            count: 1,
+        })
+    }
+
+    /// The group of a node.
+    fn of(&self, node: u32) -> usize {
+        number_at(&self.groups, node) as usize
+    }
+
+    /// Splits each group into those of its nodes whose changes lie in one part of the range.
+    fn split_each(&mut self, alloc: Global, changes: &[f64]) -> Result<(), AllocError> {
+        let spread = Spread::of(changes);
+        let mut numbering = Numbering::new(alloc, self.count)?;
+        for (group, change) in self.groups.iter_mut().zip(changes) {
+            *group = numbering.number_of(*group, spread.part(*change));
+        }
+        self.count = numbering.next;
+        Ok(())
+    }
+
+    /// Puts all nodes into one group.
+    fn join(&mut self) {
+        for group in self.groups.iter_mut() {
+            *group = 0;
+        }
+        self.count = 1;
+    }
+
+    /// Splits each group into those of its nodes whose values changed alike, by these changes. Where that makes too many, all nodes are one group before.
+    pub(crate) fn split(&mut self, alloc: Global, changes: &[f64]) -> Result<(), AllocError> {
+        self.split_each(alloc, changes)?;
+        if self.count > MOST_GROUPS {
+            self.join();
+            self.split_each(alloc, changes)?;
+        }
+        Ok(())
+    }
+
+    /// The equations of the groups, all of whose numbers are 0.
+    pub(crate) fn equations(&self, alloc: Global, has_gain: bool) -> Result<Equations, AllocError> {
+        Equations::empty(alloc, self.count as usize, has_gain)
+    }
+
+    /// Adds a node's row with these entries to the equation of its group.
+    pub(crate) fn add_row(
+        &self,
+        equations: &mut Equations,
+        node: u32,
+        counted: Counted,
+        entries: &[(u32, f64)],
+    ) {
+        let own = self.of(node);
+        let weight = counted.weight;
+        equations.add_gain(own, weight, counted.lacking);
+        equations.add_factor(own, own, weight * counted.total);
+        for (target, prob) in entries {
+            equations.add_factor(own, self.of(*target), -(weight * *prob));
+        }
+    }
+
+    /// Adds to each value the correction of its group.
+    fn add(&self, corrections: &[f64], values: &mut [f64]) {
+        for (value, group) in values.iter_mut().zip(&self.groups) {
+            *value += float_at(corrections, *group);
+        }
+    }
+
+    /// Sweeps along a chain once, and adds corrections by groups of nodes whose values changed alike to the values and to the gain, if there is one. Each node
+    /// counts as often as its row is taken.
+    pub(crate) fn correct(
+        &mut self,
+        alloc: Global,
+        chain: &Chain,
+        visits: &Visits,
+        gain: &mut Option<f64>,
+        values: &mut [f64],
+    ) -> Result<(), AllocError> {
+        let changes = chain.changes(alloc, gain.unwrap_or(0.0), values)?;
+        self.split(alloc, &changes)?;
+        let mut equations = chain.equations(alloc, self, *gain, values, &visits.visits)?;
+        let mut corrections = equations.solve(alloc)?;
+        if let Some(gain) = gain {
+            *gain += float_at(&corrections, 0);
+            put(&mut corrections, 0, 0.0);
+        }
+        self.add(&corrections, values);
+        Ok(())
+    }
+}
