@@ -8,6 +8,7 @@ pub mod Laws
 pub mod Order
 pub mod Linear
 pub mod Written
+pub mod Shared
 pub mod Numbers
 pub mod Whole
 pub mod Division

@@ -182,18 +182,18 @@ fn components_of(alloc: Global, model: &Model, left: &Left) -> Result<Components
     strong_components(alloc, &graph, &left.have_choice(alloc)?)
 }
 
-/// The maximal end component of each state, if it is in one, of those inside a set of states by the flagged choices.
+/// The maximal end components inside a set of states by the flagged choices.
 ///
 /// Each round takes the strong components of the choices that are left and forbids each choice that leaves its own, until none does (de Alfaro 1997).
 /// Between rounds a state that has no choice left takes from the others the choices that lead to it, so that states which fall away one after the other
 /// take no round each.
-pub fn ends_inside(
+pub fn end_components(
     alloc: Global,
     model: &Model,
     backward: &Backward,
     inside: &Marks,
     choices: ChoiceFlags,
-) -> Result<Vec<Option<u32>>, AllocError>
+) -> Result<Components, AllocError>
     requires { length inside.now ≡ states_of model.now }
 {
     let mut left = Left::new(alloc, model, choices)?;
@@ -207,9 +207,32 @@ pub fn ends_inside(
         spread = left.spread(backward, spread)?;
         parts = components_of(alloc, model, &left)?;
     }
+    Ok(parts)
+}
+
+/// The component of each state, if it is in one.
+pub fn parts_in(
+    alloc: Global,
+    model: &Model,
+    parts: &Components,
+) -> Result<Vec<Option<u32>>, AllocError> {
     (0..model.states())
-        .map(|s| part_of(&parts, s))
+        .map(|s| part_of(parts, s))
         .collect(alloc)
+}
+
+/// The maximal end component of each state, if it is in one, of those inside a set of states by the flagged choices.
+pub fn ends_inside(
+    alloc: Global,
+    model: &Model,
+    backward: &Backward,
+    inside: &Marks,
+    choices: ChoiceFlags,
+) -> Result<Vec<Option<u32>>, AllocError>
+    requires { length inside.now ≡ states_of model.now }
+{
+    let parts = end_components(alloc, model, backward, inside, choices)?;
+    parts_in(alloc, model, &parts)
 }
 
 /// Whether the graph decides the value, for each state.

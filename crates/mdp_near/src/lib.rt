@@ -15,7 +15,7 @@ mod ranks;
 pub use backward::Backward;
 pub use choice_rows::{choice_row, sized_rows};
 pub use choices::ChoiceFlags;
-pub use ends::{ends_inside, no_parts};
+pub use ends::{end_components, ends_inside, no_parts, parts_in};
 pub use lists::flags_of;
 pub use policy::{Gathered, policy_of};
 pub use propose::{NearReach, near_reach};

@@ -2,11 +2,11 @@ use crate::leaving::{leaving_rows, offset_rows};
 use crate::payoffs::Payoffs;
 use crate::values::{gain_in_unit, turn, width};
 use mdp_ladder::{MOST_DIGITS, fraction};
-use mdp_near::{Backward, ChoiceFlags, Gathered, ends_inside, policy_of};
+use mdp_near::{Backward, ChoiceFlags, Gathered, end_components, parts_in, policy_of};
 use mdp_num::{Frac, Memory};
 use mdp_refinement::{
-    Bound, EndSearch, First, Nodes, Rows, Scale, Solution, Task, Value, WholeRow, flag_at, number,
-    number_at, power_of_ten, put, solve, value_at,
+    Bound, Components, EndSearch, First, Nodes, Rows, Scale, Solution, Task, Value, WholeRow,
+    flag_at, number, number_at, power_of_ten, put, solve, value_at,
 };
 use mdp_rows::{Dir, Marks, Model};
 use std::alloc::{AllocError, Global};
@@ -366,11 +366,12 @@ fn inner_policy(
 /// Of how many states there are, nodes are few that are at most one part.
 const FEW_PARTS: u32 = 4;
 
-/// What a search begins with: the end component of each state, if it is in one, the search for their gains, if another one left it, and in units biases and
-/// gains, each to be taken so many times.
+/// What a search begins with: the end component of each state, if it is in one, these components, if they are at hand, the search for their gains, if another
+/// one left it, and in units biases and gains, each to be taken so many times.
 #[derive(Drop)]
 struct Beginning<'a> {
     parts: Vec<Option<u32>>,
+    components: Option<Components>,
     ends: Option<EndSearch>,
     first: First<'a>,
 }
@@ -387,8 +388,10 @@ impl<'a> Beginning<'a> {
     /// The end components of a model, and biases of 0.
     fn empty(alloc: Global, model: &Model) -> Result<Beginning<'a>, Memory> {
         let bias = vec![in alloc; Value::known(0); model.states() as usize]?;
+        let components = all_components(alloc, model)?;
         Ok(Beginning {
-            parts: all_parts(alloc, model)?,
+            parts: parts_in(alloc, model, &components)?,
+            components: Some(components),
             ends: None,
             first: First {
                 bias,
@@ -412,6 +415,7 @@ impl<'a> Beginning<'a> {
         }
         Ok(Beginning {
             parts: mem::replace(&mut near.parts, Vec::new(alloc)),
+            components: None,
             ends: near.ends.take(),
             first: First {
                 bias,
@@ -428,17 +432,22 @@ fn end_search(
     payoffs: Payoffs<'_>,
     scale: Scale,
     parts: &[Option<u32>],
+    components: Option<Components>,
     left: Option<EndSearch>,
 ) -> Result<EndSearch, AllocError> {
     if let Some(mut ends) = left {
         ends.rescale(scale);
         return Ok(ends);
     }
-    EndSearch::new(alloc, payoffs.all_rows(alloc, scale)?, parts)
+    EndSearch::new(alloc, payoffs.all_rows(alloc, scale)?, parts, components)
 }
 
 /// What is found of the end components.
-fn searched_ends(alloc: Global, search: &EndSearch, first: First<'_>) -> Result<Ends, AllocError> {
+fn searched_ends(
+    alloc: Global,
+    search: &mut EndSearch,
+    first: First<'_>,
+) -> Result<Ends, AllocError> {
     let found = search.gains(alloc, first)?;
     let inner = inner_policy(alloc, search.rows(), &found.picks)?;
     let mut bias = found.bias;
@@ -453,14 +462,14 @@ fn searched_ends(alloc: Global, search: &EndSearch, first: First<'_>) -> Result<
     })
 }
 
-/// The maximal end component of each state, if it is in one.
-fn all_parts(alloc: Global, model: &Model) -> Result<Vec<Option<u32>>, Memory> {
+/// The maximal end components of a model.
+fn all_components(alloc: Global, model: &Model) -> Result<Components, Memory> {
     model.known();
     let backward = Backward::new(alloc, model)?;
     let all = vec![in alloc; true; model.states() as usize]?;
     let choices = ChoiceFlags::all(alloc, model)?;
     let inside = Marks::from_values(all);
-    Ok(ends_inside(alloc, model, &backward, &inside, choices)?)
+    Ok(end_components(alloc, model, &backward, &inside, choices)?)
 }
 
 /// How values are written with so many digits, or a few fewer where no row need then be in coarser units.
@@ -495,15 +504,20 @@ fn searched(
     scale: Scale,
     beginning: Beginning<'_>,
 ) -> Result<(Outcome, Vec<Option<u32>>, Option<EndSearch>), Memory> {
-    let Beginning { parts, ends, first } = beginning;
+    let Beginning {
+        parts,
+        components,
+        ends,
+        first,
+    } = beginning;
     let nodes = Nodes::new(alloc, &parts)?;
-    let search = end_search(alloc, payoffs, scale, &parts, ends)?;
+    let mut search = end_search(alloc, payoffs, scale, &parts, components, ends)?;
     let Ends {
         bias,
         upper,
         lower,
         inner,
-    } = searched_ends(alloc, &search, first)?;
+    } = searched_ends(alloc, &mut search, first)?;
     let left = kept(search, nodes.count(), payoffs.model.states());
     let search = Search {
         payoffs,

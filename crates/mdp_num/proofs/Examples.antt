@@ -1,19 +1,20 @@
 -- Worked rows, by computation.
-use Rattle.std.proofs.Common.{◌≡◌, ℕ, ◌<◌, ◌-◌, ◌^◌, ◌/◌, false, not, ◌||◌, cond, eqb, List, [], ◌∷◌, Option, Some, None, Ok, Err, refl, sym, ap, subst, ◌∙◌, arith, lit<}
+use Rattle.std.proofs.Common.{◌≡◌, ℕ, ◌<◌, ◌-◌, ◌^◌, ◌/◌, ◌%◌, false, not, ◌||◌, cond, eqb, List, [], ◌∷◌, Option, Some, None, Ok, Err, refl, sym, ap, subst, ◌∙◌, arith, lit<}
 use Rattle.std.proofs.Common.{ℤ, pos, negsuc, ◌+ℤ◌, ◌*ℤ◌, unsigned_abs}
 use Rattle.std.specs.Prelude.{codes}
 use Rattle.std.proofs.lemmas.Fmt.{decimal_digit}
-use Rattle.mdp_math.specs.Gcd.{gcd, gcd-mod, gcd-zero, gcd-one_right}
+use Rattle.mdp_math.specs.Gcd.{gcd, gcd_comm, gcd-mod, gcd-zero, gcd-one_right}
 use Rattle.mdp_math.specs.Rational.{ℚ, ratio, of_int, ◌+ℚ◌}
 use Rattle.mdp_math.specs.Written.{narrow, narrow_ℚ, written_add, ◌>>=◌}
 use Rattle.mdp_math.proofs.Laws.{same_is, is_ratio, num-ratio, den-ratio}
 use Rattle.mdp_math.proofs.Written.{narrow_ℚ-kept, narrow_ℚ-past_num}
-use Rattle.mdp_num.specs.Value.{quotient, spelling}
+use Rattle.mdp_num.specs.Value.{quotient, spelling, IsOver}
 use Rattle.mdp_num.specs.Numeral.{numeral_of, parts_of, limit}
 use Rattle.mdp_num.specs.Canonical.{canonical_of}
 use Rattle.mdp_num.specs.declared.errors.NumeralError.{NumeralError}
 use Rattle.mdp_num.specs.declared.errors.NumeralError.TheVariants.{Shape, ZeroDen, Large}
 use Rattle.mdp_num.proofs.Meaning.{ratio_same}
+use Rattle.mdp_num.proofs.Over.{over-whole}
 
 -- ---- numerals
 
@@ -192,3 +193,17 @@ past = refl
 nothing : canonical_of [] ≡ None
 unfolding canonical_of
 nothing = refl
+
+-- ---- numbers over other denominators
+
+-- 1/2 is 3/6
+half_of_six : IsOver (ratio (pos 1) 2) 6 (pos 3)
+half_of_six = record { long = record { sfits = lit< tt }; same = ratio_same 1 2 3 6 (lit< tt) (lit< tt) refl }
+
+-- but no n/3
+half_of_three : (n : ℤ) → IsOver (ratio (pos 1) 2) 3 n → ⊥
+half_of_three n o =
+    let e : 3 % ℚ.den (ratio (pos 1) 2) ≡ 0 = over-whole (ratio (pos 1) 2) n 3 (lit< tt) o.same in
+    let d : ℚ.den (ratio (pos 1) 2) ≡ 2 = den-ratio (pos 1) 2 (lit< tt) (gcd_comm 1 2 ∙ gcd-one_right 2) in
+    let f : 3 % 2 ≡ 0 = ap (λ (k : ℕ). 3 % k) (sym d) ∙ e in
+    omega (arith, f)

@@ -101,6 +101,10 @@ den-bits f x e i = back-den f i ∙ sym (pos-den-value f i) ∙ ap (λ (z : ℚ)
 pub result-bits : (z : ℤ) → mag z < 2 ^ 127 → to_z w128 (of_z w128 z) ≡ z
 result-bits z h = to_z-of_z {w = w128} (record { sfits = h })
 
+-- a number that is read without its sign
+pub whole-bits : (z : ℤ) (d n : ℕ) → mag z < 2 ^ 127 → z ≡ pos d → n ≡ unsigned_abs (to_z w128 (of_z w128 z)) → n ≡ d
+whole-bits z d n h e f = f ∙ ap unsigned_abs (result-bits z h ∙ e)
+
 -- a common divisor is positive
 pub divisor-positive : (a b : ℕ) (z : ℤ) → 0 < b → z ≡ pos (gcd a b) → pos 0 <ℤ z
 divisor-positive a b z h e = subst (λ (k : ℤ). pos 0 <ℤ k) (sym e) (let p : 0 < gcd a b = gcd-pos a b h in omega (arith, ints))

@@ -8,6 +8,9 @@ use crate::sweeps::Change;
 use std::alloc::{AllocError, Global};
 use std::mem;
 
+/// How many steps shares or visits take along a chain until they are near enough to those of the long run.
+pub(crate) const FEW_STEPS: u32 = 8;
+
 /// The row of a node: `total` times the node's value is what it earns and the sum over its entries, and it is taken so often at a time. Its entries stand
 /// behind those of the node before, up to `end`.
 #[derive(Clone, Copy)]

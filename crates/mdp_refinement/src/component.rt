@@ -329,6 +329,15 @@ impl Component {
         least
     }
 
+    /// The greatest unit of a node.
+    pub(crate) fn greatest_unit(&self) -> f64 {
+        let mut greatest = 0.0f64;
+        for unit in &self.units {
+            greatest = greatest.max(*unit);
+        }
+        greatest
+    }
+
     /// What a row makes of a gain and of values within the component.
     pub(crate) fn sum(&self, row: &FloatRow, gain: f64, values: &[f64]) -> f64 {
         let mut total = gain;

@@ -1,6 +1,6 @@
 //! Corrections of the values of a component, in floats: the best values that gains come to, by sweeps or by policies.
 
-use crate::chain::{Chain, Visits};
+use crate::chain::{Chain, FEW_STEPS, Visits};
 use crate::coarse::Grouping;
 use crate::component::{Component, FloatRow};
 use crate::eliminate::{Elimination, Factors, eliminated};
@@ -26,9 +26,6 @@ const SMALL_GAIN: f64 = 4e-3;
 
 /// The part of a row that leads on is taken for no less than this, where values are corrected by groups.
 const LEAST_TOTAL: f64 = 1e-9;
-
-/// How many steps the chain of the rows takes before nodes are counted by their visits.
-const FEW_STEPS: u32 = 8;
 
 /// What sums of floats may lose, as a part of the greatest value, in a sweep and in an improvement.
 const SWEEP_LOSS: f64 = 1e-14;

@@ -22,6 +22,12 @@ const LEAST_ROUNDS: u32 = 3;
 /// Gains that lie no further apart than so many of the greatest units of nodes are near enough.
 const NEAR: i128 = 3;
 
+/// What floats may lose when they follow a correction, as a part of it.
+const BLUR: f64 = 1e-11;
+
+/// By how many of the greatest units of nodes more they may be wrong for a search that goes on in smaller units.
+const SCALED_UNITS: f64 = 8.0;
+
 /// For each node of an end component, in units: a bias, an upper gain and a lower one of its component, where they are known, and the place of the row
 /// that a policy takes whose gain is no less than the lower one.
 #[derive(Drop)]
@@ -184,40 +190,66 @@ fn row_gained(row: &WholeRow, excess: Excess, gain: SplitGain) -> Option<Gained>
     })
 }
 
-/// What all rows of a component gain over a gain, and of each node the row whose lower gain is the greatest. A row that lies far behind is due again only when
-/// corrections have moved the gains of rows so far that it may have come up: `moved` is by how much in all, and `dues` where each row is due. The bias is 0 at
-/// all nodes until it is corrected, or is another one from the start.
+/// About how much each row of a component gains over a gain, in units, where corrections were followed in floats; and by how much that may be wrong.
 #[derive(Drop)]
-struct Measured {
+struct Estimate {
     gains: Vec<f64>,
-    policy: Vec<usize>,
-    dues: Vec<f64>,
-    moved: f64,
-    is_zero: bool,
+    blur: f64,
 }
 
-impl Measured {
-    /// Whether a row is the one that its node takes, or may have come up.
-    fn is_due(&self, node: u32, at: usize) -> bool {
-        self.policy.get(node as usize).copied() == Some(at)
-            || !(self.moved < float_at(&self.dues, number(at)))
+impl Estimate {
+    /// Nothing known of so many rows.
+    fn none(alloc: Global, rows: usize) -> Result<Estimate, AllocError> {
+        Ok(Estimate {
+            gains: vec![in alloc; 0.0; rows]?,
+            blur: 0.0,
+        })
     }
 
-    /// Notes what a row gains over the gain.
-    fn note(&mut self, at: usize, over: f64) {
-        put(&mut self.gains, number(at), over);
-        put(&mut self.dues, number(at), self.moved - over / 2.0);
+    /// What a row must gain, of those from a place to another, so that it may be the best of them.
+    fn least_of(&self, from: usize, to: usize) -> f64 {
+        let mut most = f64::NEG_INFINITY;
+        for gain in self.gains.get(from..to).unwrap_or(&[]) {
+            most = most.max(*gain);
+        }
+        most - self.blur
     }
 
-    /// Notes corrections of the bias and of the gain: the gain of a row changes by twice the greatest of the former and the latter at most.
-    fn note_moves(&mut self, corrections: &[f64], more: f64) {
+    /// Whether a row may be the best of rows of which one must gain so much.
+    fn is_due(&self, at: usize, least: f64) -> bool {
+        !(float_at(&self.gains, number(at)) < least)
+    }
+
+    /// Follows corrections of the bias and of the gain. Biases were rounded to units of at most `unit`.
+    fn follow(&mut self, component: &Component, corrections: &[f64], more: f64, unit: f64) {
+        for (gain, row) in self.gains.iter_mut().zip(&component.rows) {
+            *gain += component.sum(row, -more, corrections)
+                - row.total * float_at(corrections, row.node);
+        }
         let mut most = 0.0f64;
         for correction in corrections {
             most = most.max(correction.abs());
         }
-        self.moved += 2.0 * most + more.abs();
-        self.is_zero = false;
+        self.blur += BLUR * (2.0 * most + more.abs()) + 2.0 * unit;
     }
+
+    /// Gives what a search came to, whose bounds lie so near to each other, in units of which there are so many times more.
+    fn scale(&mut self, times: f64, unit: f64) {
+        for gain in self.gains.iter_mut() {
+            *gain *= times;
+        }
+        self.blur = (self.blur + SCALED_UNITS * unit) * times;
+    }
+}
+
+/// What rows of a component gain over a gain: those that may be the best of their node, exactly. Of each node the row whose lower gain is the greatest. The bias
+/// is 0 at all nodes until it is corrected, or is another one from the start. `is_kept` in the end, where the bias that was measured last is the one to keep.
+#[derive(Drop)]
+struct Measured {
+    estimate: Estimate,
+    policy: Vec<usize>,
+    is_zero: bool,
+    is_kept: bool,
 }
 
 /// An end component whose bias is refined.
@@ -229,14 +261,18 @@ struct Refinement<'a> {
 }
 
 impl Refinement<'_> {
-    /// Nothing measured yet, over a bias that is 0 or not.
-    fn unmeasured(self, alloc: Global, is_zero: bool) -> Result<Measured, AllocError> {
+    /// Nothing measured yet, over a bias that is 0 or not, but an estimate.
+    fn unmeasured(
+        self,
+        alloc: Global,
+        estimate: Estimate,
+        is_zero: bool,
+    ) -> Result<Measured, AllocError> {
         Ok(Measured {
-            gains: vec![in alloc; 0.0; self.component.rows.len()]?,
+            estimate,
             policy: vec![in alloc; 0; self.component.len()]?,
-            dues: vec![in alloc; 0.0; self.component.rows.len()]?,
-            moved: 0.0,
             is_zero,
+            is_kept: false,
         })
     }
 
@@ -249,7 +285,7 @@ impl Refinement<'_> {
         }
     }
 
-    /// Measures the rows of a node over a bias that are due. The range of its gain. None past 128 bits, or where it has no row.
+    /// Measures the rows of a node over a bias that may be the best. The range of its gain. None past 128 bits, or where it has no row.
     fn measure_node(
         self,
         place: usize,
@@ -259,15 +295,16 @@ impl Refinement<'_> {
     ) -> Option<Range> {
         let node = number(place);
         let (from, to) = self.component.range_of(place);
+        let least = measured.estimate.least_of(from, to);
         let mut best: Option<(Range, usize)> = None;
         for at in from..to {
-            if !measured.is_due(node, at) {
+            if !measured.estimate.is_due(at, least) {
                 continue;
             }
             let row = self.rows.row(self.component.rows.get(at)?.place())?;
             let excess = self.excess(row, bias, measured.is_zero)?;
             let found = row_gained(row, excess, gain)?;
-            measured.note(at, found.over);
+            put(&mut measured.estimate.gains, number(at), found.over);
             best = match best {
                 Some((old, chosen)) if found.range.lower <= old.lower => {
                     Some((old.raised(found.range), chosen))
@@ -301,9 +338,13 @@ impl Refinement<'_> {
         bias: &mut [Value],
         gain: i128,
     ) -> Result<Option<i128>, AllocError> {
-        let more = biases.correct(alloc, &measured.gains)?;
-        measured.note_moves(biases.values(), more);
+        let more = biases.correct(alloc, &measured.estimate.gains)?;
         let component = self.component;
+        let unit = to_float(self.unit);
+        measured.is_zero = false;
+        measured
+            .estimate
+            .follow(component, biases.values(), more, unit);
         if component.add(self.rows, biases.values(), bias).is_none() {
             return Ok(None);
         }
@@ -358,6 +399,7 @@ impl Found {
                 self.keep(refinement.component, &measured.policy, bias);
             }
             if nearest.is_enough(is_nearer, round) {
+                measured.is_kept = is_nearer;
                 break;
             }
             match refinement.correct(alloc, biases, measured, bias, nearest.gain)? {
@@ -368,14 +410,15 @@ impl Found {
         Ok(nearest.range)
     }
 
-    /// Refines a bias of the component and keeps that of the nearest gains that it comes to. These gains.
+    /// Refines a bias of the component and keeps that of the nearest gains that it comes to. These gains, and what is known of the rows over that bias.
     fn solve(
         &mut self,
         alloc: Global,
         rows: &Rows,
         component: &Component,
         first: &mut First<'_>,
-    ) -> Result<Option<Range>, AllocError> {
+        estimate: Estimate,
+    ) -> Result<(Option<Range>, Option<Estimate>), AllocError> {
         let unit = greatest_unit(rows, &component.nodes);
         let refinement = Refinement {
             rows,
@@ -384,9 +427,15 @@ impl Found {
         };
         let gain = first.gain_of(component);
         let mut biases = Biases::new(alloc, component)?;
-        let mut measured = refinement.unmeasured(alloc, first.gains.is_empty())?;
+        let mut measured = refinement.unmeasured(alloc, estimate, first.gains.is_empty())?;
         let bias = &mut first.bias;
-        self.refine(alloc, refinement, &mut biases, &mut measured, bias, gain)
+        let range = self.refine(alloc, refinement, &mut biases, &mut measured, bias, gain)?;
+        let known = if measured.is_kept {
+            Some(measured.estimate)
+        } else {
+            None
+        };
+        Ok((range, known))
     }
 
     /// A gain of each node: that of its component.
@@ -438,8 +487,13 @@ fn graph_within(alloc: Global, rows: &Rows, parts: &[Option<u32>]) -> Result<Gra
     Ok(graph)
 }
 
+/// Whether a row of some node was too wide.
+fn is_any_wide(rows: &Rows, nodes: usize) -> bool {
+    (0..number(nodes)).any(|node| rows.has_wide(node))
+}
+
 /// The components of the open nodes.
-fn end_components(
+fn open_components(
     alloc: Global,
     rows: &Rows,
     parts: &[Option<u32>],
@@ -465,32 +519,76 @@ impl First<'_> {
     }
 }
 
+/// The component in floats, where there is one alone, and what another search knew of its rows.
+#[derive(Drop)]
+struct Only {
+    component: Component,
+    known: Option<Estimate>,
+}
+
+impl Only {
+    /// The only component, of which nothing is known.
+    fn new(alloc: Global, rows: &Rows, components: &Components) -> Result<Only, AllocError> {
+        Ok(Only {
+            component: Component::new(alloc, rows, components, 0, &[])?,
+            known: None,
+        })
+    }
+
+    /// Goes on with values of which there are so many times more units.
+    fn rescale(&mut self, rows: &Rows, times: f64) {
+        let unit = self.component.greatest_unit();
+        if let Some(known) = &mut self.known {
+            known.scale(times, unit);
+        }
+        self.component.rescale(rows);
+    }
+
+    /// The greatest gains of the component.
+    fn solve(
+        &mut self,
+        alloc: Global,
+        rows: &Rows,
+        found: &mut Found,
+        first: &mut First<'_>,
+    ) -> Result<Option<Range>, AllocError> {
+        let component = &self.component;
+        let estimate = match self.known.take() {
+            Some(known) => known,
+            None => Estimate::none(alloc, component.rows.len())?,
+        };
+        let (range, known) = found.solve(alloc, rows, component, first, estimate)?;
+        self.known = known;
+        Ok(range)
+    }
+}
+
 /// A search for the gains of maximal end components: the rows of all choices of nodes, the strong components, and, where there is one alone, that in floats.
 #[derive(Drop)]
 pub struct EndSearch {
     rows: Rows,
     components: Components,
-    only: Option<Component>,
-}
-
-/// The component in floats, where there is one alone.
-fn only_component(
-    alloc: Global,
-    rows: &Rows,
-    components: &Components,
-) -> Result<Option<Component>, AllocError> {
-    if components.count() == 1 {
-        Ok(Some(Component::new(alloc, rows, components, 0, &[])?))
-    } else {
-        Ok(None)
-    }
+    only: Option<Only>,
 }
 
 impl EndSearch {
-    /// A search over the rows of all choices, none of which stops, of nodes of which each may be in an end component.
-    pub fn new(alloc: Global, rows: Rows, parts: &[Option<u32>]) -> Result<EndSearch, AllocError> {
-        let components = end_components(alloc, &rows, parts)?;
-        let only = only_component(alloc, &rows, &components)?;
+    /// A search over the rows of all choices, none of which stops, of nodes of which each may be in an end component. The strong components of these may be
+    /// known; those where a row was too wide are sought once more.
+    pub fn new(
+        alloc: Global,
+        rows: Rows,
+        parts: &[Option<u32>],
+        known: Option<Components>,
+    ) -> Result<EndSearch, AllocError> {
+        let components = match known {
+            Some(components) if !is_any_wide(&rows, parts.len()) => components,
+            _ => open_components(alloc, &rows, parts)?,
+        };
+        let only = if components.count() == 1 {
+            Some(Only::new(alloc, &rows, &components)?)
+        } else {
+            None
+        };
         Ok(EndSearch {
             rows,
             components,
@@ -505,39 +603,42 @@ impl EndSearch {
 
     /// The same search for values of another scale.
     pub fn rescale(&mut self, scale: Scale) {
+        let before = to_float(self.rows.one());
         self.rows.rescale(scale);
+        let times = to_float(self.rows.one()) / before;
         if let Some(only) = &mut self.only {
-            only.rescale(&self.rows);
+            only.rescale(&self.rows, times);
         }
     }
 
     /// The greatest gains of a component.
     fn solve(
-        &self,
+        &mut self,
         alloc: Global,
         found: &mut Found,
         place: usize,
         first: &mut First<'_>,
     ) -> Result<Option<Range>, AllocError> {
-        if let Some(only) = &self.only {
-            return found.solve(alloc, &self.rows, only, first);
+        if let Some(only) = &mut self.only {
+            return only.solve(alloc, &self.rows, found, first);
         }
         let component = Component::new(alloc, &self.rows, &self.components, place, &[])?;
-        found.solve(alloc, &self.rows, &component, first)
+        let estimate = Estimate::none(alloc, component.rows.len())?;
+        let (range, _) = found.solve(alloc, &self.rows, &component, first, estimate)?;
+        Ok(range)
     }
 
     /// The greatest gains of the maximal end components that nodes are in, and biases for them.
-    pub fn gains(&self, alloc: Global, first: First<'_>) -> Result<EndGains, AllocError> {
-        let components = &self.components;
+    pub fn gains(&mut self, alloc: Global, first: First<'_>) -> Result<EndGains, AllocError> {
         let mut first = first;
         let mut found = Found::empty(alloc, first.bias.len())?;
-        for place in 0..components.count() {
+        for place in 0..self.components.count() {
             let range = self.solve(alloc, &mut found, place, &mut first)?;
             found.ranges.push(range)?;
         }
         Ok(EndGains {
-            upper: found.gains(alloc, components, Bound::Upper)?,
-            lower: found.gains(alloc, components, Bound::Lower)?,
+            upper: found.gains(alloc, &self.components, Bound::Upper)?,
+            lower: found.gains(alloc, &self.components, Bound::Lower)?,
             bias: found.bias,
             picks: found.picks,
         })

@@ -2,7 +2,7 @@
 //! turn gets its best value, from new values of the nodes before it and old ones of the others. Between such sweeps others follow the best rows alone
 //! (modified policy iteration, section 8.7).
 
-use crate::chain::{Chain, Visits};
+use crate::chain::{Chain, FEW_STEPS, Visits};
 use crate::coarse::Grouping;
 use crate::component::{Component, FloatRow};
 use crate::lists::{float_at, number, put};
@@ -15,15 +15,13 @@ const LEAST_TOTAL: f64 = 0.125;
 /// A sweep that changes values by less than this part of the greatest one, or of the gain, is the last: the rest is left to the next correction.
 const LOSS: f64 = 1e-12;
 
-/// How many steps of the chain the shares take once the best rows are steady. Before that they take one with each change of the rows.
-const FEW_STEPS: u32 = 8;
-
 /// How many sweeps follow the best rows before all are tried again, where the last such sweep changed some.
 const FEW_FOLLOWING: usize = 2;
 
 /// Sweeps over an end component, with the values and the rows that they have come to, and the chain of these. Shares come near to how often the chain begins
 /// at each node in the long run, and rows are then taken so many times in a step, `steps`. By such shares the changes of a sweep add up to what the gain lacks
-/// in so many steps, as far as the values or the shares are right: the error is the product of both.
+/// in so many steps, as far as the values or the shares are right: the error is the product of both. The shares take a few steps once the best rows are steady,
+/// and before that one with each change of the rows.
 #[derive(Drop)]
 pub(crate) struct Relative<'a> {
     component: &'a Component,
@@ -32,6 +30,7 @@ pub(crate) struct Relative<'a> {
     values: Vec<f64>,
     best_rows: Vec<usize>,
     is_steady: bool,
+    is_taken: bool,
     chain: Chain,
     visits: Visits,
     steps: f64,
@@ -59,6 +58,7 @@ impl<'a> Relative<'a> {
             values: vec![in alloc; 0.0; nodes]?,
             best_rows: first_rows(alloc, component)?,
             is_steady: false,
+            is_taken: false,
             chain: Chain::empty(alloc),
             visits: Visits {
                 shares: vec![in alloc; 1.0; nodes]?,
@@ -139,12 +139,15 @@ impl<'a> Relative<'a> {
         change
     }
 
-    /// Sweeps over all rows, and takes the best ones for the chain.
+    /// Sweeps over all rows, and takes the best ones for the chain where they changed.
     fn sweep_all(&mut self, gains: &[f64]) -> Result<Change, AllocError> {
         let change = self.sweep(gains);
-        let rows = &self.best_rows;
-        self.chain
-            .take(self.component, rows, gains, self.pace, LEAST_TOTAL)?;
+        if !self.is_taken || !self.is_steady {
+            let rows = &self.best_rows;
+            self.chain
+                .take(self.component, rows, gains, self.pace, LEAST_TOTAL)?;
+            self.is_taken = true;
+        }
         Ok(change)
     }
 
@@ -172,9 +175,10 @@ impl<'a> Relative<'a> {
         }
     }
 
-    /// Sets the values and the gain to 0.
+    /// Sets the values and the gain to 0, for rows that earn something else.
     fn clear(&mut self) {
         self.gain = 0.0;
+        self.is_taken = false;
         for value in self.values.iter_mut() {
             *value = 0.0;
         }

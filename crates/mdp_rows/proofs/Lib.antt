@@ -9,3 +9,4 @@ pub mod NegativeRewards
 pub mod ReplayStates
 pub mod SoundCalls
 pub mod FoundNames
+pub mod ShortSums
