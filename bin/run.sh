@@ -61,7 +61,7 @@ build() {
   log=$(mktemp)
   began=$(mktemp)
   follow "$log" &
-  ("$top/tools/libraries" "$crate" && cd "$top/crates/$crate" && rt run) >"$log" 2>&1 </dev/null
+  ("$top/tools/libraries" "$crate" && cd "$top/crates/$crate" && rt run --jobs "$("$top/tools/libraries" --jobs)") >"$log" 2>&1 </dev/null
   kill "$!" && wait "$!" 2>/dev/null
   if ! grep -q "^rt: running out/$crate" "$log"; then
     tail -n 20 "$log" >&2

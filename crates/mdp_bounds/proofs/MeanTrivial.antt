@@ -1,13 +1,13 @@
 -- The least and the greatest reward, with bound, bias and spread 0, get yes on every model: each of their checks holds, and none makes a sum of
 -- numbers that aren't 0.
 use Rattle.std.proofs.Common.{◌≡◌, ℕ, ◌<◌, Bool, true, false, List, [], ◌∷◌, length, slice_index, Option, Some, None, refl, sym}
-use Rattle.std.proofs.Common.{ap, ap₂, subst, ◌∙◌, lt-ltb, pos, subst, if◌then◌else◌, option_map}
+use Rattle.std.proofs.Common.{zero, suc, arith, ap, ap₂, subst, ◌∙◌, lt-ltb, pos, subst, if◌then◌else◌, option_map}
 use Rattle.std.specs.List.{All, AllByRecursion, list_all}
 use Rattle.std.specs.Option.{option_and_then}
 use Rattle.std.proofs.lemmas.List.Elements.{recursion_from_All}
 use Rattle.mdp_math.specs.Rational.{ℚ, neg_ℚ, ◌<ℚ◌}
 use Rattle.mdp_math.specs.Written.{written_add}
-use Rattle.mdp_math.proofs.Booleans.{and-both}
+use Rattle.mdp_math.proofs.Booleans.{and-both, and-left, and-right}
 use Rattle.mdp_math.proofs.Ring.{⊖, lit, ring}
 use Rattle.mdp_math.proofs.Laws.{rat_ring}
 use Rattle.mdp_math.proofs.Order.{≤ℚ_of_eq, <ℚ_irrefl}
@@ -63,12 +63,18 @@ module _ (n : ℕ) (z : List ℚ) (v : ℚ) (same : (t : ℕ) → t < n → valu
       ∙ ap (λ (u : ℚ). plain_add start u) (first_same row known)
       ∙ e)
 
+-- numbers that all pass the test are one
+pub one_by_test : (x : ℚ) (xs : List ℚ) → list_all (eq_ℚ x) xs ≡ true → (s : ℕ) → s < length xs → value_at xs s ≡ x
+one_by_test x [] e s h = absurd (omega (arith, h))
+one_by_test x (y ∷ ys) e zero h = sym ((equal_decides x y).0 (and-left (eq_ℚ x y) (list_all (eq_ℚ x) ys) e))
+one_by_test x (y ∷ ys) e (suc s) h = one_by_test x ys (and-right (eq_ℚ x y) (list_all (eq_ℚ x) ys) e) s (omega (arith, h))
+
 stands_same : (dir : Dir) (x v : ℚ) → x ≡ v → Stands dir x v
 stands_same Max x v e = ≤ℚ_of_eq v x (sym e)
 stands_same Min x v e = ≤ℚ_of_eq x v e
 
 module _ (m : Mdp) (known : IsMdp m) (r s c : ℕ) (l : s < states_of m) (i : c < length (choices_at m s)) where
-  gain_trivial : (dir : Dir) (g : List ℚ) (v : ℚ) → ((t : ℕ) → t < states_of m → value_at g t ≡ v) → gain_stands dir m g s c ≡ Some true
+  pub gain_trivial : (dir : Dir) (g : List ℚ) (v : ℚ) → ((t : ℕ) → t < states_of m → value_at g t ≡ v) → gain_stands dir m g s c ≡ Some true
   gain_trivial dir g v same =
       ap (λ (o : Option ℚ). option_map (stands dir (value_at g s)) o) (same_told (states_of m) g v same (row_at m s c) 0ℚ v (known.row s c l i) (plain_zero_left v))
       ∙ ap Some (of_stands dir (value_at g s) v (stands_same dir (value_at g s) v (same s l)))

@@ -30,6 +30,10 @@ use Rattle.mdp_farkas.specs.declared.rule.Rule.TheVariants.{BiasOnPolicy, BoundO
 
 -- ---- gains and what choices earn
 
+-- all are the first one
+abbrev pub AreOne : List ℚ → Type 0
+AreOne g = (s : ℕ) → s < length g → value_at g s ≡ value_at g 0
+
 abbrev pub gain_stands : Dir → Mdp → List ℚ → ℕ → ℕ → Option Bool
 gain_stands dir m g s c = option_map (stands dir (value_at g s)) (told_sum g 0ℚ (row_at m s c))
 

@@ -1,12 +1,14 @@
-ghost use Rattle.std.specs.Prelude.{◌≡◌, ◌<◌, ◌↔◌, length, [], ◌∷◌, slice_index};
+ghost use Rattle.std.specs.Prelude.{◌≡◌, ◌<◌, ◌↔◌, IsTrue, length, [], ◌∷◌, slice_index};
+ghost use Rattle.std.specs.List.{list_all};
 ghost use Rattle.std.specs.Result.{result_ok};
 ghost use Rattle.mdp_spec.specs.Mdp.{states_of, choices_at};
 ghost use Rattle.mdp_spec.specs.Between.{MeanMaxBetween, MeanMinBetween};
 ghost use Rattle.mdp_bounds.specs.Reach.{covering, followed};
+ghost use Rattle.mdp_num.specs.Equal.{eq_ℚ};
 ghost use Rattle.mdp_farkas.specs.Mean.{IsMean};
 ghost use Rattle.mdp_farkas.specs.Verdict.{objection_to, verdict_of, at_choices, IsYes, IfYes};
 ghost use Rattle.mdp_rows.specs.declared.dir.Dir.TheVariants.{Max, Min};
-ghost use Rattle.mdp_bounds.specs.Mean.{gain_stands, gain_check, told_step, bound_stands, relative_check, spread_check, gains_cover, gains_follow};
+ghost use Rattle.mdp_bounds.specs.Mean.{AreOne, gain_stands, gain_check, told_step, bound_stands, relative_check, spread_check, gains_cover, gains_follow};
 ghost use Rattle.mdp_bounds.specs.Mean.{mean_bounds_at, state_bounds_checks, mean_bounds_checks, IsMeanBounds, IsTrivialMean};
 
 use crate::compare::value_stands;
@@ -31,23 +33,75 @@ pub struct MeanBoundsCert {
     pub spread: Frac,
 }
 
+/// Gains, one for each state. `are_one` is set only where all are one number: then the sum over each row is that number too.
+#[derive(Clone, Copy)]
+struct Gains<'a> {
+    values: &'a [Frac],
+    are_one: bool,
+    ghost one: { IsTrue are_one → AreOne values.now },
+}
+
+/// Whether all have this value.
+fn are_all(values: &[Frac], value: &Frac) -> bool
+    ensures { result ≡ list_all (eq_ℚ value.now) values.now }
+{
+    values.iter().all(|other| *value == *other)
+}
+
+/// Whether all are one number.
+fn are_one(values: &[Frac]) -> bool
+    ensures { IsTrue result → AreOne values.now }
+{
+    if values.is_empty() {
+        return true;
+    }
+    are_all(values, &values[0])
+}
+
+impl<'a> Gains<'a> {
+    /// These gains, of which nothing is known.
+    fn any(values: &'a [Frac]) -> Gains<'a>
+        ensures { result.values.now ≡ values.now }
+    {
+        Gains {
+            values,
+            are_one: false,
+        }
+    }
+
+    /// These gains, after a look whether they are one number.
+    fn new(values: &'a [Frac]) -> Gains<'a>
+        ensures { result.values.now ≡ values.now }
+    {
+        Gains {
+            values,
+            are_one: are_one(values),
+        }
+    }
+}
+
 /// Whether the upper gain of state `s` is at least, or the lower one at most, the sum of the gains over the row of its choice `c`.
-fn gain_stands_at(model: &Model, dir: Dir, gains: &[Frac], s: u32, c: u32) -> Result<bool, Wide>
-    requires gains { length gains.now ≡ states_of model.now }
+fn gain_stands_at(model: &Model, dir: Dir, gains: Gains<'_>, s: u32, c: u32) -> Result<bool, Wide>
+    requires gains { length gains.values.now ≡ states_of model.now }
     requires state { s < states_of model.now }
     requires choice { c < length (choices_at model.now s) }
-    ensures { result_ok result ≡ gain_stands dir model.now gains.now s c }
+    ensures { result_ok result ≡ gain_stands dir model.now gains.entry.values.now s c }
 {
+    if gains.are_one {
+        model.known();
+        return Ok(true);
+    }
+    let gains = gains.values;
     let sum = row_sum(model.row(s, c), &Frac::whole(0), gains)?;
     Ok(value_stands(dir, &gains[s as usize], &sum))
 }
 
 /// That of state `s` and its choice `c`.
-fn gain_at(model: &Model, dir: Dir, gains: &[Frac], s: u32, c: u32) -> Result<(), Objection>
-    requires gains { length gains.now ≡ states_of model.now }
+fn gain_at(model: &Model, dir: Dir, gains: Gains<'_>, s: u32, c: u32) -> Result<(), Objection>
+    requires gains { length gains.values.now ≡ states_of model.now }
     requires state { s < states_of model.now }
     requires choice { c < length (choices_at model.now s) }
-    ensures { result ≡ objection_to (gain_check dir model.now gains.now s c ∷ []) }
+    ensures { result ≡ objection_to (gain_check dir model.now gains.entry.values.now s c ∷ []) }
 {
     judged(
         gain_stands_at(model, dir, gains, s, c),
@@ -58,21 +112,21 @@ fn gain_at(model: &Model, dir: Dir, gains: &[Frac], s: u32, c: u32) -> Result<()
 }
 
 /// The same of each choice.
-fn gains_at_state(model: &Model, dir: Dir, gains: &[Frac], s: u32) -> Result<(), Objection>
-    requires gains { length gains.now ≡ states_of model.now }
+fn gains_at_state(model: &Model, dir: Dir, gains: Gains<'_>, s: u32) -> Result<(), Objection>
+    requires gains { length gains.values.now ≡ states_of model.now }
     requires state { s < states_of model.now }
-    ensures { result ≡ objection_to (at_choices model.now s (gain_check dir model.now gains.now s)) }
+    ensures { result ≡ objection_to (at_choices model.now s (gain_check dir model.now gains.entry.values.now s)) }
 {
     each_choice(model, s, |c| gain_at(model, dir, gains, s, c))
 }
 
 /// The gain and a relative value of state `s` together.
-fn step_at(gains: &[Frac], relative: &[Frac], s: u32) -> Result<Frac, Wide>
-    requires gains { s < length gains.now }
+fn step_at(gains: Gains<'_>, relative: &[Frac], s: u32) -> Result<Frac, Wide>
+    requires gains { s < length gains.values.now }
     requires relative { s < length relative.now }
-    ensures { result_ok result ≡ told_step gains.now relative.now s }
+    ensures { result_ok result ≡ told_step gains.entry.values.now relative.now s }
 {
-    plain_sum(&gains[s as usize], &relative[s as usize])
+    plain_sum(&gains.values[s as usize], &relative[s as usize])
 }
 
 /// Whether the upper gain and the bound of state `s` together are at least, or the lower one and the bound at most, what its choice `c` earns by
@@ -81,17 +135,17 @@ fn bound_stands_at(
     model: &Model,
     m: u32,
     dir: Dir,
-    gains: &[Frac],
+    gains: Gains<'_>,
     bound: &[Frac],
     s: u32,
     c: u32,
 ) -> Result<bool, Wide>
     requires name { m < length model.now.names }
-    requires gains { length gains.now ≡ states_of model.now }
+    requires gains { length gains.values.now ≡ states_of model.now }
     requires bound { length bound.now ≡ states_of model.now }
     requires state { s < states_of model.now }
     requires choice { c < length (choices_at model.now s) }
-    ensures { result_ok result ≡ bound_stands dir model.now m gains.now bound.now s c }
+    ensures { result_ok result ≡ bound_stands dir model.now m gains.entry.values.now bound.now s c }
 {
     let step = step_at(gains, bound, s)?;
     let sum = row_sum(model.row(s, c), &model.reward(m, s, c), bound)?;
@@ -103,17 +157,17 @@ fn bound_at(
     model: &Model,
     m: u32,
     dir: Dir,
-    gains: &[Frac],
+    gains: Gains<'_>,
     bound: &[Frac],
     s: u32,
     c: u32,
 ) -> Result<(), Objection>
     requires name { m < length model.now.names }
-    requires gains { length gains.now ≡ states_of model.now }
+    requires gains { length gains.values.now ≡ states_of model.now }
     requires bound { length bound.now ≡ states_of model.now }
     requires state { s < states_of model.now }
     requires choice { c < length (choices_at model.now s) }
-    ensures { result ≡ objection_to (relative_check dir model.now m gains.now bound.now s c ∷ []) }
+    ensures { result ≡ objection_to (relative_check dir model.now m gains.entry.values.now bound.now s c ∷ []) }
 {
     judged(
         bound_stands_at(model, m, dir, gains, bound, s, c),
@@ -128,15 +182,15 @@ fn bounds_at_state(
     model: &Model,
     m: u32,
     dir: Dir,
-    gains: &[Frac],
+    gains: Gains<'_>,
     bound: &[Frac],
     s: u32,
 ) -> Result<(), Objection>
     requires name { m < length model.now.names }
-    requires gains { length gains.now ≡ states_of model.now }
+    requires gains { length gains.values.now ≡ states_of model.now }
     requires bound { length bound.now ≡ states_of model.now }
     requires state { s < states_of model.now }
-    ensures { result ≡ objection_to (at_choices model.now s (relative_check dir model.now m gains.now bound.now s)) }
+    ensures { result ≡ objection_to (at_choices model.now s (relative_check dir model.now m gains.entry.values.now bound.now s)) }
 {
     each_choice(model, s, |c| bound_at(model, m, dir, gains, bound, s, c))
 }
@@ -154,15 +208,15 @@ fn cover_at_state(
     model: &Model,
     m: u32,
     dir: Dir,
-    gains: &[Frac],
+    gains: Gains<'_>,
     bound: &[Frac],
     s: u32,
 ) -> Result<(), Objection>
     requires name { m < length model.now.names }
-    requires gains { length gains.now ≡ states_of model.now }
+    requires gains { length gains.values.now ≡ states_of model.now }
     requires bound { length bound.now ≡ states_of model.now }
     requires state { s < states_of model.now }
-    ensures { result ≡ objection_to (gains_cover dir model.now m gains.now bound.now s) }
+    ensures { result ≡ objection_to (gains_cover dir model.now m gains.entry.values.now bound.now s) }
 {
     gains_at_state(model, dir, gains, s)?;
     bounds_at_state(model, m, dir, gains, bound, s)
@@ -173,17 +227,17 @@ fn cover_bounds(
     model: &Model,
     m: u32,
     dir: Dir,
-    lower: &[Frac],
-    upper: &[Frac],
+    lower: Gains<'_>,
+    upper: Gains<'_>,
     bound: &[Frac],
     s: u32,
 ) -> Result<(), Objection>
     requires name { m < length model.now.names }
-    requires lower { length lower.now ≡ states_of model.now }
-    requires upper { length upper.now ≡ states_of model.now }
+    requires lower { length lower.values.now ≡ states_of model.now }
+    requires upper { length upper.values.now ≡ states_of model.now }
     requires bound { length bound.now ≡ states_of model.now }
     requires state { s < states_of model.now }
-    ensures { result ≡ objection_to (gains_cover dir model.now m (covering dir lower.now upper.now) bound.now s) }
+    ensures { result ≡ objection_to (gains_cover dir model.now m (covering dir lower.entry.values.now upper.entry.values.now) bound.now s) }
 {
     match dir {
         Dir::Max => cover_at_state(model, m, Dir::Max, upper, bound, s),
@@ -196,17 +250,17 @@ fn follow_at_state(
     model: &Model,
     m: u32,
     dir: Dir,
-    gains: &[Frac],
+    gains: Gains<'_>,
     bias: &[Frac],
     s: u32,
     choice: u32,
 ) -> Result<(), Objection>
     requires name { m < length model.now.names }
-    requires gains { length gains.now ≡ states_of model.now }
+    requires gains { length gains.values.now ≡ states_of model.now }
     requires bias { length bias.now ≡ states_of model.now }
     requires state { s < states_of model.now }
     requires choice { choice < length (choices_at model.now s) }
-    ensures { result ≡ objection_to (gains_follow dir model.now m gains.now bias.now s choice) }
+    ensures { result ≡ objection_to (gains_follow dir model.now m gains.entry.values.now bias.now s choice) }
 {
     let keeps = gain_stands_at(model, reversed(dir), gains, s, choice);
     judged(keeps, Rule::GainOnPolicy, s, Some(choice))?;
@@ -219,24 +273,49 @@ fn follow_bounds(
     model: &Model,
     m: u32,
     dir: Dir,
-    lower: &[Frac],
-    upper: &[Frac],
+    lower: Gains<'_>,
+    upper: Gains<'_>,
     bias: &[Frac],
     s: u32,
     choice: u32,
 ) -> Result<(), Objection>
     requires name { m < length model.now.names }
-    requires lower { length lower.now ≡ states_of model.now }
-    requires upper { length upper.now ≡ states_of model.now }
+    requires lower { length lower.values.now ≡ states_of model.now }
+    requires upper { length upper.values.now ≡ states_of model.now }
     requires bias { length bias.now ≡ states_of model.now }
     requires state { s < states_of model.now }
     requires choice { choice < length (choices_at model.now s) }
-    ensures { result ≡ objection_to (gains_follow dir model.now m (followed dir lower.now upper.now) bias.now s choice) }
+    ensures { result ≡ objection_to (gains_follow dir model.now m (followed dir lower.entry.values.now upper.entry.values.now) bias.now s choice) }
 {
     match dir {
         Dir::Max => follow_at_state(model, m, Dir::Max, lower, bias, s, choice),
         Dir::Min => follow_at_state(model, m, Dir::Min, upper, bias, s, choice),
     }
+}
+
+/// The rules at state `s`, where the policy takes this choice: the first that fails, or the first sum past width.
+fn rules_at_state(
+    model: &Model,
+    m: u32,
+    dir: Dir,
+    lower: Gains<'_>,
+    upper: Gains<'_>,
+    bound: &[Frac],
+    bias: &[Frac],
+    s: u32,
+    choice: u32,
+) -> Result<(), Objection>
+    requires name { m < length model.now.names }
+    requires lower { length lower.values.now ≡ states_of model.now }
+    requires upper { length upper.values.now ≡ states_of model.now }
+    requires bound { length bound.now ≡ states_of model.now }
+    requires bias { length bias.now ≡ states_of model.now }
+    requires state { s < states_of model.now }
+    ensures { result ≡ objection_to (mean_bounds_at dir model.now m lower.entry.values.now upper.entry.values.now bound.now bias.now s choice) }
+{
+    choice_at(model, s, choice)?;
+    cover_bounds(model, m, dir, lower, upper, bound, s)?;
+    follow_bounds(model, m, dir, lower, upper, bias, s, choice)
 }
 
 /// The rules at state `s`, where the policy takes this choice: the first that fails, or the first sum past width. Gains and relative values are one per
@@ -260,9 +339,17 @@ pub fn mean_bounds_at_state(
     requires state { s < states_of model.now }
     ensures { result ≡ objection_to (mean_bounds_at dir model.now m lower.now upper.now bound.now bias.now s choice) }
 {
-    choice_at(model, s, choice)?;
-    cover_bounds(model, m, dir, lower, upper, bound, s)?;
-    follow_bounds(model, m, dir, lower, upper, bias, s, choice)
+    rules_at_state(
+        model,
+        m,
+        dir,
+        Gains::any(lower),
+        Gains::any(upper),
+        bound,
+        bias,
+        s,
+        choice,
+    )
 }
 
 /// The rules at each state, from 0 on.
@@ -284,8 +371,10 @@ fn mean_bounds_at_states(
     requires choices { length choices.now ≡ states_of model.now }
     ensures { result ≡ objection_to (state_bounds_checks dir model.now m lower.now upper.now bound.now bias.now choices.now) }
 {
+    let lower = Gains::new(lower);
+    let upper = Gains::new(upper);
     each_below(model.states(), |s| {
-        mean_bounds_at_state(
+        rules_at_state(
             model,
             m,
             dir,
