@@ -1,4 +1,4 @@
-use mdp_num::read_canonical;
+use mdp_num::{Frac, read_canonical};
 use std::test::Fail;
 
 const WIDTH: i128 = 170141183460469231731687303715884105727;
@@ -21,5 +21,14 @@ fn reads_back_what_it_prints(rt: HostRuntime) -> Result<(), Fail> {
         fraction.push_text(&mut out)?;
         assert_eq!(rt; out.as_slice(), text.as_bytes());
     }
+    Ok(())
+}
+
+#[test]
+fn shares_denominators(rt: HostRuntime) -> Result<(), Fail> {
+    let half = read_canonical(b"1/2").ok_or("not read")?;
+    assert_eq!(rt; (half.over(6), half.over(3)), (Some(3), None));
+    assert_eq!(rt; half.common_multiple(9), Some(18));
+    assert!(rt; Frac::of_terms(9, 18) == half);
     Ok(())
 }
