@@ -502,6 +502,22 @@ fn open_components(
     strong_components(alloc, &graph, &open_nodes(alloc, rows, parts)?)
 }
 
+/// The components of the open nodes, which may be known, unless a row was too wide.
+fn sought_components(
+    alloc: Global,
+    rows: &Rows,
+    parts: &[Option<u32>],
+    known: Option<Components>,
+) -> Result<Components, AllocError> {
+    if is_any_wide(rows, parts.len()) {
+        return open_components(alloc, rows, parts);
+    }
+    match known {
+        Some(components) => Ok(components),
+        None => open_components(alloc, rows, parts),
+    }
+}
+
 /// What a search for gains begins with, for each node in units: biases, and gains, each to be taken so many times; 0 where there are no gains.
 #[derive(Drop)]
 pub struct First<'a> {
@@ -580,10 +596,7 @@ impl EndSearch {
         parts: &[Option<u32>],
         known: Option<Components>,
     ) -> Result<EndSearch, AllocError> {
-        let components = match known {
-            Some(components) if !is_any_wide(&rows, parts.len()) => components,
-            _ => open_components(alloc, &rows, parts)?,
-        };
+        let components = sought_components(alloc, &rows, parts, known)?;
         let only = if components.count() == 1 {
             Some(Only::new(alloc, &rows, &components)?)
         } else {
