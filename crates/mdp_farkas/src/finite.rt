@@ -9,7 +9,7 @@ ghost use Rattle.mdp_spec.specs.Written.{written_sum};
 ghost use Rattle.mdp_farkas.specs.Reward.{stays_finite};
 
 use mdp_num::{Frac, Wide};
-use mdp_rows::{Model, Row};
+use mdp_rows::{Model, Row, ValuesOf};
 
 /// Whether the value of state `s` is infinite.
 pub fn is_infinite_at(values: &[Option<Frac>], s: u32) -> bool
@@ -27,18 +27,27 @@ pub fn finite_at(values: &[Option<Frac>], s: u32) -> Frac
     values[s as usize].unwrap_or(Frac::whole(0))
 }
 
+/// Values of which an infinite one counts as 0.
+#[derive(Clone, Copy)]
+struct FiniteParts<'a> {
+    values: &'a [Option<Frac>],
+}
+
+impl ValuesOf for FiniteParts<'_> {
+    ghost values = { λ v. finite_part v.values.now };
+
+    fn value_of(&self, t: u32) -> Frac {
+        finite_at(self.values, t)
+    }
+}
+
 /// `start`, and for each entry of the row its probability times the value of its target (0 where that is infinite), added in the order of
 /// the targets. `Wide` where a written term of one of these operations is past width.
 pub fn finite_sum(row: Row<'_>, start: &Frac, values: &[Option<Frac>]) -> Result<Frac, Wide>
     requires { All (λ t. t < length values.now) row.targets.now }
     ensures { result_ok result ≡ written_sum (finite_part values.now) start.now (entries row.entry.targets.now row.entry.probs.now) }
 {
-    let mut sum = *start;
-    for i in 0..row.targets.len() {
-        let term = row.probs[i].mul(&finite_at(values, row.targets[i]))?;
-        sum = sum.add(&term)?;
-    }
-    Ok(sum)
+    row.sum_over(start, &FiniteParts { values })
 }
 
 /// Whether the values of all targets are finite.

@@ -3,8 +3,8 @@ use Rattle.std.proofs.Common.{◌≡◌, ℕ, ◌+◌, ◌*◌, ◌<◌, ◌^◌
 use lib.Signed.{mag}
 use mir.Syntax.{w128}
 use Rattle.std.proofs.lemmas.Int.{fits_signed_from_abs}
-use Rattle.std.proofs.lemmas.List.{drop_more, get_or_default}
-use Rattle.mdp_math.specs.Rational.{ℚ, of_int, ratio}
+use Rattle.std.proofs.lemmas.List.{drop_more}
+use Rattle.mdp_math.specs.Rational.{ℚ, ratio}
 use Rattle.mdp_math.specs.Written.{narrow, written_add, written_mul, ◌>>=◌}
 use Rattle.mdp_math.proofs.IntegerRing.{int_ring}
 use Rattle.mdp_math.proofs.Laws.{is_ratio, same_is}
@@ -48,12 +48,11 @@ sum-read a b n l h k p q e =
     (written_add-ratios a b l h p q r.1 k ∙ ap (λ (z : ℤ). Some (ratio z l)) (sym m), subst (λ (z : ℤ). unsigned_abs z < 2 ^ 127) (sym m) r.1)
 
 -- the written sum of a row takes its next entry
-pub written_sum-step : (z : List ℚ) (ts : List ℕ) (ps : List ℚ) (i : ℕ) (p v acc term next : ℚ) → i < length ts → length ts ≡ length ps → get_or ts i 0 < length z
-    → v ≡ get_or z (get_or ts i 0) v → written_mul (get_or ps i p) v ≡ Some term → written_add acc term ≡ Some next
+pub written_sum-step : (z : List ℚ) (ts : List ℕ) (ps : List ℚ) (i : ℕ) (p v acc term next : ℚ) → i < length ts → length ts ≡ length ps
+    → v ≡ value_at z (get_or ts i 0) → written_mul (get_or ps i p) v ≡ Some term → written_add acc term ≡ Some next
     → written_sum z acc (entries (drop i ts) (drop i ps)) ≡ written_sum z next (entries (drop (i + 1) ts) (drop (i + 1) ps))
-written_sum-step z ts ps i p v acc term next h e r f m a =
+written_sum-step z ts ps i p v acc term next h e f m a =
     let row = entries (drop (i + 1) ts) (drop (i + 1) ps) in
-    let value : value_at z (get_or ts i 0) ≡ v = get_or_default z (get_or ts i 0) (of_int (pos 0)) v r ∙ sym f in
     ap₂ (λ (us : List ℕ) (qs : List ℚ). written_sum z acc (entries us qs)) (drop_more ts i 0 h) (drop_more ps i p (subst (λ (n : ℕ). i < n) e h))
-    ∙ ap (λ (o : Option ℚ). o >>= λ t. written_add acc t >>= λ s. written_sum z s row) (ap (λ (x : ℚ). written_mul (get_or ps i p) x) value ∙ m)
+    ∙ ap (λ (o : Option ℚ). o >>= λ t. written_add acc t >>= λ s. written_sum z s row) (ap (λ (x : ℚ). written_mul (get_or ps i p) x) (sym f) ∙ m)
     ∙ ap (λ (o : Option ℚ). o >>= λ s. written_sum z s row) a

@@ -23,6 +23,7 @@ mod rows_of;
 mod rule;
 mod subsystem;
 mod terms;
+mod values_of;
 
 pub use builder::Builder;
 pub use dir::Dir;
@@ -36,3 +37,4 @@ pub use row::Row;
 pub use rows_of::RowsOf;
 pub use rule::RowRule;
 pub use subsystem::{give_choice, give_labels, names_of, zeros_of};
+pub use values_of::ValuesOf;

@@ -5,6 +5,7 @@ ghost use Rattle.mdp_math.specs.Written.{written_mul};
 ghost use Rattle.mdp_spec.specs.Written.{written_sum};
 ghost use Rattle.mdp_spec.specs.Row.{entries, IsDistribution};
 
+use crate::values_of::{GivenValues, ValuesOf};
 use mdp_num::{Frac, Wide, plus, times};
 
 /// A row that is lent: target states, strictly ascending, and their probabilities, which are above 0 and add to 1.
@@ -72,27 +73,27 @@ impl Denominators {
 
 impl Row<'_> {
     /// The least denominators that the probabilities share, and that `start` and the values of the targets share; none where they are long.
-    fn denominators(self, start: &Frac, values: &[Frac]) -> Option<Denominators>
-        requires { All (λ t. t < length values.now) self.targets.now }
+    fn denominators<V: ValuesOf>(self, start: &Frac, values: &V) -> Option<Denominators>
+        requires { All (λ t. t < length (V.values values.now)) self.targets.now }
     {
         let mut probs = 1;
         let mut others = start.common_multiple(1)?;
         for i in 0..self.targets.len() {
             probs = self.probs[i].common_multiple(probs)?;
-            others = values[self.targets[i] as usize].common_multiple(others)?;
+            others = values.value_of(self.targets[i]).common_multiple(others)?;
         }
         Denominators::new(probs, others)
     }
 
     /// The sum where all terms have numerators of 64 bits over shared denominators; none elsewhere.
-    fn short_sum(self, start: &Frac, values: &[Frac]) -> Option<Frac>
-        requires { All (λ t. t < length values.now) self.targets.now }
-        ensures { IfSome result (λ sum. written_sum values.now start.now (entries self.entry.targets.now self.entry.probs.now) ≡ Some sum) }
+    fn short_sum<V: ValuesOf>(self, start: &Frac, values: &V) -> Option<Frac>
+        requires { All (λ t. t < length (V.values values.now)) self.targets.now }
+        ensures { IfSome result (λ sum. written_sum (V.values values.now) start.now (entries self.entry.targets.now self.entry.probs.now) ≡ Some sum) }
     {
         let shared = self.denominators(start, values)?;
         let mut sum = shared.numerator(start)?;
         for i in 0..self.targets.len() {
-            let term = shared.term(&self.probs[i], &values[self.targets[i] as usize])?;
+            let term = shared.term(&self.probs[i], &values.value_of(self.targets[i]))?;
             let Ok(next) = plus(sum, term) else {
                 return None;
             };
@@ -102,13 +103,13 @@ impl Row<'_> {
     }
 
     /// The sum, term by term.
-    fn long_sum(self, start: &Frac, values: &[Frac]) -> Result<Frac, Wide>
-        requires { All (λ t. t < length values.now) self.targets.now }
-        ensures { result_ok result ≡ written_sum values.now start.now (entries self.entry.targets.now self.entry.probs.now) }
+    fn long_sum<V: ValuesOf>(self, start: &Frac, values: &V) -> Result<Frac, Wide>
+        requires { All (λ t. t < length (V.values values.now)) self.targets.now }
+        ensures { result_ok result ≡ written_sum (V.values values.now) start.now (entries self.entry.targets.now self.entry.probs.now) }
     {
         let mut sum = *start;
         for i in 0..self.targets.len() {
-            let term = self.probs[i].mul(&values[self.targets[i] as usize])?;
+            let term = self.probs[i].mul(&values.value_of(self.targets[i]))?;
             sum = sum.add(&term)?;
         }
         Ok(sum)
@@ -116,13 +117,21 @@ impl Row<'_> {
 
     /// `start`, and for each entry its probability times the value of its target, added in the order of the targets. `Wide` where a
     /// written term of one of these operations is past width.
-    pub fn sum(self, start: &Frac, values: &[Frac]) -> Result<Frac, Wide>
-        requires { All (λ t. t < length values.now) self.targets.now }
-        ensures { result_ok result ≡ written_sum values.now start.now (entries self.entry.targets.now self.entry.probs.now) }
+    pub fn sum_over<V: ValuesOf>(self, start: &Frac, values: &V) -> Result<Frac, Wide>
+        requires { All (λ t. t < length (V.values values.now)) self.targets.now }
+        ensures { result_ok result ≡ written_sum (V.values values.now) start.now (entries self.entry.targets.now self.entry.probs.now) }
     {
         match self.short_sum(start, values) {
             Some(sum) => Ok(sum),
             None => self.long_sum(start, values),
         }
+    }
+
+    /// The same over a list of values.
+    pub fn sum(self, start: &Frac, values: &[Frac]) -> Result<Frac, Wide>
+        requires { All (λ t. t < length values.now) self.targets.now }
+        ensures { result_ok result ≡ written_sum values.now start.now (entries self.entry.targets.now self.entry.probs.now) }
+    {
+        self.sum_over(start, &GivenValues { values })
     }
 }

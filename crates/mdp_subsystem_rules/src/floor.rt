@@ -23,7 +23,7 @@ use mdp_farkas::{
     Objection, Rule, Verdict, at_least, at_most, each_choice, judged, judged_at, verdict_after,
 };
 use mdp_num::{Frac, Wide};
-use mdp_rows::{Marks, Model, Row};
+use mdp_rows::{Marks, Model, Row, ValuesOf};
 
 /// Values and ranks that are said to show that each policy of a subsystem reaches a goal with a probability of at least a threshold: the states that
 /// are kept, strictly ascending, and for each whether it was kept since a number was too wide to try without it, its value and its rank.
@@ -45,9 +45,17 @@ struct Claimed<'a> {
     ghost shape: { IsFloorShape model.now cert.now.kept.items cert.now.wide.items cert.now.values.items cert.now.ranks.items },
 }
 
+impl ValuesOf for Claimed<'_> {
+    ghost values = { λ c. line_values c.model.now c.goals.now c.cert.now.kept.items c.cert.now.values.items };
+
+    fn value_of(&self, t: u32) -> Frac {
+        self.counted(t)
+    }
+}
+
 impl Claimed<'_> {
     /// What state `s` counts as: a goal as 1, a kept state as the value of its line, any other state as 0.
-    fn value_of(self, s: u32) -> Frac
+    fn counted(self, s: u32) -> Frac
         requires { s < states_of self.model.now }
         ensures { result ≡ value_at (line_values self.entry.model.now self.entry.goals.now self.entry.cert.now.kept.items self.entry.cert.now.values.items) s }
     {
@@ -81,12 +89,7 @@ impl Claimed<'_> {
         ensures { result_ok result ≡ written_sum (line_values self.entry.model.now self.entry.goals.now self.entry.cert.now.kept.items self.entry.cert.now.values.items)
             0ℚ (entries row.entry.targets.now row.entry.probs.now) }
     {
-        let mut sum = Frac::whole(0);
-        for i in 0..row.targets.len() {
-            let term = row.probs[i].mul(&self.value_of(row.targets[i]))?;
-            sum = sum.add(&term)?;
-        }
-        Ok(sum)
+        row.sum_over(&Frac::whole(0), &self)
     }
 
     /// Whether state `s` counts with a rank below this one.
@@ -209,7 +212,7 @@ impl Claimed<'_> {
         requires { start < states_of self.model.now }
         ensures { result ≡ objection_to (start_check self.entry.model.now self.entry.goals.now start threshold.now self.entry.cert.now.kept.items self.entry.cert.now.values.items ∷ []) }
     {
-        let reaches = at_least(&self.value_of(start), threshold);
+        let reaches = at_least(&self.counted(start), threshold);
         judged_at(reaches, Rule::StartReachesThreshold, None, None)
     }
 

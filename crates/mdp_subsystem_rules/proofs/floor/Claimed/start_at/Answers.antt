@@ -13,4 +13,4 @@ returns c =
     ∙ ap (λ (holds : Option Bool). objection_to (record { rule = StartReachesThreshold; state = None; choice = None; holds = holds } ∷ []))
     (c.at_least-reaches.ensures
     ∙ ap (λ (x : ℚ). is_at_least x c.args.threshold.now)
-    (c.value_of.ensures ∙ line_values-at c.args.self.model.now c.args.self.goals.now cert.kept.items cert.values.items c.args.start c.requires))
+    (c.counted.ensures ∙ line_values-at c.args.self.model.now c.args.self.goals.now cert.kept.items cert.values.items c.args.start c.requires))

@@ -1,7 +1,7 @@
 use Rattle.std.proofs.Common.{ℕ, ◌<◌, List, length, get_or, sym, ap, subst, ◌∙◌}
 use Rattle.mdp_subsystem_rules.specs.Kept.{is_listed}
 use Rattle.mdp_subsystem_rules.proofs.Counted.{value-goal, value-line, value-none}
-use Rattle.mdp_subsystem_rules.proofs.floor.Claimed.value_of.Goals as goal
+use Rattle.mdp_subsystem_rules.proofs.floor.Claimed.counted.Goals as goal
 
 pub returns-then-at : goal.returns-then-at
 returns-then-at c =
