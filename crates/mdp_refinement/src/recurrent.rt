@@ -233,7 +233,7 @@ impl Estimate {
         self.blur += BLUR * (2.0 * most + more.abs()) + 2.0 * unit;
     }
 
-    /// Gives what a search came to, whose bounds lie so near to each other, in units of which there are so many times more.
+    /// Goes over to units of which there are so many times more. Before, the greatest unit of a node was `unit`.
     fn scale(&mut self, times: f64, unit: f64) {
         for gain in self.gains.iter_mut() {
             *gain *= times;
