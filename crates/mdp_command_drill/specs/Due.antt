@@ -1,5 +1,5 @@
 -- What is due to a drill: the greatest probability of reaching the goal of a layered model.
-use Rattle.std.specs.Prelude.{◌≡◌, ℕ, Bool, List, ◌∷◌, ◌++◌, length, sum_by, Result, Ok, Err, decimal, codes}
+use Rattle.std.specs.Prelude.{◌≡◌, ℕ, Bool, List, ◌++◌, length, sum_by, Result, Ok, Err, decimal, codes}
 use Rattle.mdp_math.specs.Rational.{ℚ}
 use Rattle.mdp_num.specs.Value.{spelling}
 use Rattle.mdp_spec.specs.Labels.{marks_of}
@@ -25,9 +25,13 @@ drill_text number layers width states choices value =
     line (codes "drill " ++ decimal number ++ codes " " ++ decimal layers ++ codes " " ++ decimal width ++ codes " states " ++ decimal states ++ codes " choices " ++ decimal choices
     ++ codes " value " ++ spelling value ++ codes " yes")
 
+-- the line of an answer, in a model's own numbers
+abbrev pub text_of_answer : ℕ → ℕ → ℕ → Mdp → Answer → List ℕ
+text_of_answer number layers width m a = drill_text number layers width (states_of m) (sum_by (λ x. length x.choices) m.states) (value_at a.values 0)
+
 -- what is said of an end of the query; a term past width is said as `solve` says it
 abbrev pub said_of_end : ℕ → ℕ → ℕ → Mdp → Result Answer WideTerm → Said
-said_of_end number layers width m (Ok a) = Ok (drill_text number layers width (states_of m) (sum_by (λ x. length x.choices) m.states) (value_at a.values 0))
+said_of_end number layers width m (Ok a) = Ok (text_of_answer number layers width m a)
 said_of_end number layers width m (Err w) = solve.said_of_end Max (codes "goal") m (Err w)
 
 -- the query with the goal of the layered model ends, and this is said of its end

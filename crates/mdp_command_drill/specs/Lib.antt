@@ -1,4 +1,5 @@
 pub mod Due
+pub mod Found
 pub mod Pieces
 pub mod Drilled
 pub mod Laws
