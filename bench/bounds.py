@@ -10,6 +10,8 @@
     mean STATES       the last of these alone
     random STATES     three choices each, to four states that are drawn from all: the greatest and the least mean cost of a step
     random_7 STATES   the same with denominators of 7 digits, and rewards of three digits
+    square SIDE       a walk on a square of SIDE by SIDE states: a fair step to one of the neighbours, or one with drawn weights: the greatest and the least
+                      mean cost of a step, and the least expected cost until the last state
     halves STATES     two halves of three choices a state, each to four states of its half, that are left with 10^-6: the same queries,
                       and the least expected cost until the last state
 
@@ -46,7 +48,7 @@ PROGRAM = TOP / "out" / "mdp"
 DIGITS, LIMIT, WIDTH, MOST, TIMES = 9, 60, 64, 100, 3
 MODELS = (
     "coin 2 coin 10 coin 50 roulette 100 roulette 1000 layers 1000 layers 10000 layers 100000 random 400 random 1000 random 2000 random 10000"
-    " random_7 400 random_7 2000 halves 2000"
+    " random_7 400 random_7 2000 halves 2000 square 100"
 )
 QUERIES = {
     "coin": ["min reach heads", "max reward steps finished"],
@@ -56,6 +58,7 @@ QUERIES = {
     "random": ["max mean cost", "min mean cost"],
     "random_7": ["max mean cost", "min mean cost"],
     "halves": ["max mean cost", "min mean cost", "min reward cost goal"],
+    "square": ["max mean cost", "min mean cost", "min reward cost goal"],
 }
 
 
@@ -119,11 +122,27 @@ def slow_halves(states):
             yield from (f"{target} : 0.{part:06}" for target, part in sorted(row.items()))
 
 
+def square(side):
+    """The text of a walk on a square: random numbers from the length of its side."""
+    draw = random.Random(side)
+    yield "\n".join(["@type: MDP", "@parameters", "", "@reward_models", "cost", "@nr_states", str(side * side), "@model"])
+    for s in range(side * side):
+        x, y = divmod(s, side)
+        beside = [min(x + 1, side - 1) * side + y, max(x - 1, 0) * side + y, x * side + min(y + 1, side - 1), x * side + max(y - 1, 0)]
+        yield f"state {s}" + " init" * (s == 0) + " goal" * (s == side * side - 1)
+        for weights in ([1] * 4, [draw.randrange(1, 10) for _ in range(4)]):
+            row = {target: sum(weight for weight, other in zip(weights, beside) if other == target) for target in sorted(beside)}
+            yield f"action [{draw.randrange(1000)}]"
+            yield from (f"{target} : {part}/{sum(weights)}" for target, part in row.items())
+
+
 def text_of(kind, size):
     if kind in ("layers", "mean"):
         return ("\n".join(layers(int(size))) + "\n").encode()
     if kind == "halves":
         return ("\n".join(slow_halves(int(size))) + "\n").encode()
+    if kind == "square":
+        return ("\n".join(square(int(size))) + "\n").encode()
     if kind in ("random", "random_7"):
         return ("\n".join(drawn(int(size), 100 if kind == "random" else 10**7)) + "\n").encode()
     script, words = {"coin": ("shared_coin.py", ["2", size]), "roulette": ("roulette.py", [str(int(size) // 2), size])}[kind]

@@ -1,7 +1,7 @@
 -- The least common multiple is a multiple of both numbers, and above 0 where both are.
 use Rattle.std.proofs.Common.{◌≡◌, ℕ, ◌*◌, ◌/◌, ◌<◌, ◌≤◌, sym, ◌∙◌, ap, subst, arith, mul_comm}
 use Rattle.std.specs.Int.{◌∣◌}
-use Rattle.std.proofs.Math.Nat.{dvd-mul_left, dvd-mul_right, mul-div_cancel', div-mul_cancel, one-le-mul, le_of_dvd, dvd_of_mul-dvd-mul_left, dvd_antisymm, dvd_refl}
+use Rattle.std.proofs.Math.Nat.{dvd-mul_left, dvd-mul_right, mul-div_cancel', div-mul_cancel, div_self, one-le-mul, le_of_dvd, dvd_of_mul-dvd-mul_left, dvd_antisymm, dvd_refl}
 use Rattle.mdp_math.specs.Gcd.{gcd, gcd_is, gcd_comm, gcd-pos, gcd-reduced, gcd-one_right, gauss, lcm}
 use Rattle.mdp_math.specs.Rational.{quotient-pos}
 
@@ -58,3 +58,9 @@ pub lcm-multiple : (a b : ℕ) → 0 < b → b ∣ a → lcm a b ≡ a
 lcm-multiple a b h d =
     let e : gcd a b ≡ b = dvd_antisymm (gcd_is a b).1 ((gcd_is a b).2 b d (dvd_refl b)) in
     ap (λ (g : ℕ). a / g * b) e ∙ div-mul_cancel b d
+
+-- and so for a number that divides another one, it is the other
+pub lcm-factor : (a b : ℕ) → 0 < a → a ∣ b → lcm a b ≡ b
+lcm-factor a b h d =
+    let e : gcd a b ≡ a = dvd_antisymm (gcd_is a b).0 ((gcd_is a b).2 a (dvd_refl a) d) in
+    ap (λ (g : ℕ). a / g * b) e ∙ ap (λ (k : ℕ). k * b) (div_self h) ∙ omega arith

@@ -472,19 +472,36 @@ fn all_components(alloc: Global, model: &Model) -> Result<Components, Memory> {
     Ok(end_components(alloc, model, &backward, &inside, choices)?)
 }
 
-/// How values are written with so many digits, or a few fewer where no row need then be in coarser units.
-fn scale_for(payoffs: Payoffs<'_>, digits: u32) -> Scale {
-    let room = payoffs.room().saturating_add(BIAS_ROOM);
-    let fitting = MOST_ROOM
-        .saturating_sub(room)
-        .saturating_sub(payoffs.denominator_digits());
-    Scale {
-        digits: if fitting < LEAST_FITTING {
-            digits
-        } else {
-            digits.min(fitting)
-        },
-        room,
+/// How many digits values of a model have before the point, and how many behind it where no row need be in coarser units.
+#[derive(Clone, Copy)]
+struct Widths {
+    room: u32,
+    fitting: u32,
+}
+
+impl Widths {
+    /// Those of the values that these rewards lead to.
+    fn of(payoffs: Payoffs<'_>) -> Widths {
+        let room = payoffs.room().saturating_add(BIAS_ROOM);
+        Widths {
+            room,
+            fitting: MOST_ROOM
+                .saturating_sub(room)
+                .saturating_sub(payoffs.denominator_digits()),
+        }
+    }
+
+    /// How values are written with so many digits, or a few fewer where no row need then be in coarser units.
+    fn scale(self, digits: u32) -> Scale {
+        let digits = digits.min(MOST_DIGITS);
+        Scale {
+            digits: if self.fitting < LEAST_FITTING {
+                digits
+            } else {
+                digits.min(self.fitting)
+            },
+            room: self.room,
+        }
     }
 }
 
@@ -534,6 +551,7 @@ fn searched(
 /// is 10 to the power of `digits`, and a choice; and the spread of the relative values. Nothing is promised of them, nor of how many there are. A search with more digits begins with them.
 #[derive(Drop)]
 pub struct NearMean {
+    widths: Widths,
     parts: Vec<Option<u32>>,
     ends: Option<EndSearch>,
     pub digits: u32,
@@ -550,6 +568,7 @@ impl NearMean {
     /// What a search for the greatest mean payoff came to, as one for this direction.
     fn turned(
         found: Outcome,
+        widths: Widths,
         parts: Vec<Option<u32>>,
         ends: Option<EndSearch>,
         dir: Dir,
@@ -575,6 +594,7 @@ impl NearMean {
         turn(&mut bound, dir);
         turn(&mut bias, dir);
         NearMean {
+            widths,
             parts,
             ends,
             digits,
@@ -593,11 +613,13 @@ impl NearMean {
 fn proposed(
     alloc: Global,
     payoffs: Payoffs<'_>,
+    widths: Widths,
     scale: Scale,
     beginning: Beginning<'_>,
 ) -> Result<NearMean, Memory> {
     let (found, parts, ends) = searched(alloc, payoffs, scale, beginning)?;
-    Ok(NearMean::turned(found, parts, ends, payoffs.dir, scale.digits))
+    let dir = payoffs.dir;
+    Ok(NearMean::turned(found, widths, parts, ends, dir, scale.digits))
 }
 
 /// Proposes bounds of the greatest or the least mean payoff of the reward name of place `name`, as multiples of 10 to the power of -`digits` where the
@@ -614,9 +636,10 @@ pub fn near_mean(
 ) -> Result<NearMean, Memory> {
     model.known();
     let payoffs = Payoffs { model, name, dir };
-    let scale = scale_for(payoffs, digits.min(MOST_DIGITS));
+    let widths = Widths::of(payoffs);
+    let scale = widths.scale(digits);
     let beginning = Beginning::empty(alloc, model)?;
-    proposed(alloc, payoffs, scale, beginning)
+    proposed(alloc, payoffs, widths, scale, beginning)
 }
 
 /// The same with more digits than those of what was proposed before for the model, the name and the direction: the search begins with that, and takes over
@@ -630,7 +653,8 @@ pub fn nearer_mean(
     before: &mut NearMean,
 ) -> Result<NearMean, Memory> {
     let payoffs = Payoffs { model, name, dir };
-    let scale = scale_for(payoffs, digits.min(MOST_DIGITS));
+    let widths = before.widths;
+    let scale = widths.scale(digits);
     let beginning = Beginning::of(alloc, before, power_of_ten(scale.digits), dir)?;
-    proposed(alloc, payoffs, scale, beginning)
+    proposed(alloc, payoffs, widths, scale, beginning)
 }

@@ -322,13 +322,70 @@ impl Search<'_, '_> {
         let first = self.first(alloc, &parts)?;
         let low = self.solve(alloc, &parts, &first, Bound::Lower)?;
         let high = self.solve(alloc, &parts, &first, Bound::Upper)?;
+        self.greatest_of(alloc, &first, &low, &high)
+    }
+
+    /// Bounds of the greatest rewards that two attempts come to.
+    fn greatest_of(
+        self,
+        alloc: Global,
+        first: &Laid,
+        low: &Attempt,
+        high: &Attempt,
+    ) -> Result<NearReward, AllocError> {
         let none = ChoiceFlags::empty(alloc);
+        let choices = self.policy(alloc, low, first, &none)?;
+        let lower = self.spread(alloc, low, first)?;
+        let upper = self.spread(alloc, high, first)?;
         Ok(NearReward {
-            lower: self.spread(alloc, &low, &first)?,
-            upper: self.spread(alloc, &high, &first)?,
-            choices: self.policy(alloc, &low, &first, &none)?,
+            lower,
+            upper,
+            choices,
             ranks: numbers(alloc, self.states(), self.known)?,
         })
+    }
+
+    /// Lower bounds of the least rewards, where the states of each part share one value. Whether each component could be refined.
+    fn lower_in(
+        self,
+        alloc: Global,
+        parts: &[Option<u32>],
+        first: &Laid,
+    ) -> Result<(Vec<Option<Frac>>, bool), AllocError> {
+        let attempt = self.solve(alloc, parts, first, Bound::Lower)?;
+        let lower = self.spread(alloc, &attempt, first)?;
+        Ok((lower, attempt.solution.is_full))
+    }
+
+    /// The greater ones of these lower bounds and those where the states of an end component by some choices share one value. Whether each component could
+    /// be refined.
+    fn raised(
+        self,
+        alloc: Global,
+        lower: &[Option<Frac>],
+        choices: ChoiceFlags,
+    ) -> Result<(Vec<Option<Frac>>, bool), AllocError> {
+        let parts = self.parts(alloc, choices)?;
+        let first = self.first(alloc, &parts)?;
+        let (other, is_full) = self.lower_in(alloc, &parts, &first)?;
+        Ok((greater_each(alloc, lower, &other)?, is_full))
+    }
+
+    /// Greater lower bounds than these, by choices that earn too little to be seen, and at last by all.
+    fn raised_twice(
+        self,
+        alloc: Global,
+        lower: &[Option<Frac>],
+    ) -> Result<Vec<Option<Frac>>, AllocError> {
+        let limit = fraction(1, power_of_ten(self.digits.saturating_sub(UNSEEN_DIGITS)));
+        let unseen = self.earning.choices_up_to(alloc, &limit)?;
+        let (raised, is_full) = self.raised(alloc, lower, unseen)?;
+        if is_full {
+            return Ok(raised);
+        }
+        let all = ChoiceFlags::all(alloc, self.earning.model)?;
+        let (raised, _) = self.raised(alloc, &raised, all)?;
+        Ok(raised)
     }
 
     /// Lower bounds of the least rewards. Where rewards are too small for the units, a policy that earns them for ever seems to earn nothing: then states of
@@ -339,24 +396,11 @@ impl Search<'_, '_> {
         parts: &[Option<u32>],
         first: &Laid,
     ) -> Result<Vec<Option<Frac>>, AllocError> {
-        let attempt = self.solve(alloc, parts, first, Bound::Lower)?;
-        let mut lower = self.spread(alloc, &attempt, first)?;
-        if attempt.solution.is_full {
+        let (lower, is_full) = self.lower_in(alloc, parts, first)?;
+        if is_full {
             return Ok(lower);
         }
-        let limit = fraction(1, power_of_ten(self.digits.saturating_sub(UNSEEN_DIGITS)));
-        let unseen = self.earning.choices_up_to(alloc, &limit)?;
-        let all = ChoiceFlags::all(alloc, self.earning.model)?;
-        for choices in [unseen, all] {
-            let wider = self.parts(alloc, choices)?;
-            let laid = self.first(alloc, &wider)?;
-            let attempt = self.solve(alloc, &wider, &laid, Bound::Lower)?;
-            lower = greater_each(alloc, &lower, &self.spread(alloc, &attempt, &laid)?)?;
-            if attempt.solution.is_full {
-                break;
-            }
-        }
-        Ok(lower)
+        self.raised_twice(alloc, &lower)
     }
 
     /// The ranks of states of finite reward along a policy, and the known ones of the others. None where the policy misses the goals from one.
@@ -382,23 +426,13 @@ impl Search<'_, '_> {
             .collect(alloc)
     }
 
-    /// Bounds of the least rewards. The states of an end component by choices of reward 0 share one value.
-    fn least(self, alloc: Global) -> Result<NearReward, AllocError> {
-        let free = self.earning.choices_up_to(alloc, &Frac::whole(0))?;
-        let parts = self.parts(alloc, self.earning.choices_up_to(alloc, &Frac::whole(0))?)?;
-        let first = self.first(alloc, &parts)?;
-        let lower = self.least_lower(alloc, &parts, &first)?;
-        let high = self.solve(alloc, &parts, &first, Bound::Upper)?;
-        let choices = self.policy(alloc, &high, &first, &free)?;
-        if let Some(ranks) = self.ranks(alloc, &choices)? {
-            let upper = self.spread(alloc, &high, &first)?;
-            return Ok(NearReward {
-                lower,
-                upper,
-                choices,
-                ranks,
-            });
-        }
+    /// The choices of reward 0.
+    fn free(self, alloc: Global) -> Result<ChoiceFlags, AllocError> {
+        self.earning.choices_up_to(alloc, &Frac::whole(0))
+    }
+
+    /// These lower bounds, with upper ones and the policy to begin with, which hold anyway.
+    fn with_start(self, alloc: Global, lower: Vec<Option<Frac>>) -> Result<NearReward, AllocError> {
         let choices = numbers(alloc, self.states(), self.start)?;
         let ranks = self.ranks(alloc, &choices)?;
         Ok(NearReward {
@@ -407,6 +441,35 @@ impl Search<'_, '_> {
             choices,
             ranks: ranks.unwrap_or(Vec::new(alloc)),
         })
+    }
+
+    /// These lower bounds, with the upper ones and the policy that an attempt comes to, unless that misses the goals.
+    fn with_upper(
+        self,
+        alloc: Global,
+        lower: Vec<Option<Frac>>,
+        first: &Laid,
+        high: &Attempt,
+    ) -> Result<NearReward, AllocError> {
+        let choices = self.policy(alloc, high, first, &self.free(alloc)?)?;
+        let Some(ranks) = self.ranks(alloc, &choices)? else {
+            return self.with_start(alloc, lower);
+        };
+        Ok(NearReward {
+            lower,
+            upper: self.spread(alloc, high, first)?,
+            choices,
+            ranks,
+        })
+    }
+
+    /// Bounds of the least rewards. The states of an end component by choices of reward 0 share one value.
+    fn least(self, alloc: Global) -> Result<NearReward, AllocError> {
+        let parts = self.parts(alloc, self.free(alloc)?)?;
+        let first = self.first(alloc, &parts)?;
+        let lower = self.least_lower(alloc, &parts, &first)?;
+        let high = self.solve(alloc, &parts, &first, Bound::Upper)?;
+        self.with_upper(alloc, lower, &first, &high)
     }
 
     /// Both bounds, a policy and ranks.

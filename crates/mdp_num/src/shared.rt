@@ -20,6 +20,9 @@ impl Frac {
         if number % den == 0 {
             return Some(number);
         }
+        if den % number == 0 {
+            return Some(den);
+        }
         (number / small_divisor(number, den)).checked_mul(den)
     }
 

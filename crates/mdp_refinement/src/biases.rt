@@ -1,9 +1,9 @@
 //! Corrections of the bias of an end component, in floats: by sweeps or by policies.
 
 use crate::component::Component;
-use crate::relative::Relative;
+use crate::relative::{Followed, Relative};
 use crate::sweeps::{FEW_SWEEPS, many_sweeps};
-use crate::unichain::Unichain;
+use crate::unichain::{Evaluated, Unichain};
 use std::alloc::{AllocError, Global};
 
 /// Components of more nodes are swept before nodes are eliminated.
@@ -27,6 +27,29 @@ enum Way {
     ManySweeps,
 }
 
+/// What a search for corrections leaves to one that goes on in smaller units.
+#[derive(Drop)]
+pub(crate) struct Left {
+    way: Way,
+    followed: Followed,
+    evaluated: Option<Evaluated>,
+}
+
+impl Left {
+    /// Nothing yet: a search begins with the first row of each node.
+    pub(crate) fn none(alloc: Global, component: &Component) -> Result<Left, AllocError> {
+        Ok(Left {
+            way: if component.len() > FEW_NODES {
+                Way::FewSweeps
+            } else {
+                Way::Policies
+            },
+            followed: Followed::first(alloc, component)?,
+            evaluated: None,
+        })
+    }
+}
+
 /// The search for corrections.
 #[derive(Drop)]
 pub(crate) struct Biases<'a> {
@@ -37,18 +60,39 @@ pub(crate) struct Biases<'a> {
 }
 
 impl<'a> Biases<'a> {
-    /// A search that begins with the first row of each node.
-    pub(crate) fn new(alloc: Global, component: &'a Component) -> Result<Biases<'a>, AllocError> {
+    /// A search that goes on from what another one left.
+    pub(crate) fn new(
+        alloc: Global,
+        component: &'a Component,
+        left: Left,
+    ) -> Result<Biases<'a>, AllocError> {
+        let Left {
+            way,
+            followed,
+            evaluated,
+        } = left;
+        let policies = match evaluated {
+            Some(evaluated) => Some(Unichain::known(alloc, component, evaluated)?),
+            None => None,
+        };
         Ok(Biases {
             component,
-            way: if component.len() > FEW_NODES {
-                Way::FewSweeps
-            } else {
-                Way::Policies
-            },
-            sweeps: Relative::new(alloc, component)?,
-            policies: None,
+            way,
+            sweeps: Relative::new(alloc, component, followed)?,
+            policies,
         })
+    }
+
+    /// What it leaves.
+    pub(crate) fn into_left(self) -> Left {
+        Left {
+            way: self.way,
+            followed: self.sweeps.into_followed(),
+            evaluated: match self.policies {
+                Some(policies) => policies.into_evaluated(),
+                None => None,
+            },
+        }
     }
 
     /// The corrections.

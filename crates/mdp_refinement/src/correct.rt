@@ -3,7 +3,7 @@
 use crate::chain::{Chain, FEW_STEPS, Visits};
 use crate::coarse::Grouping;
 use crate::component::{Component, FloatRow};
-use crate::eliminate::{Elimination, Factors, eliminated};
+use crate::eliminate::{Elimination, Factors, eliminated, most_products};
 use crate::leaving::proper;
 use crate::lists::{Groups, float_at, number, put};
 use crate::sweeps::{Change, FEW_SWEEPS, Forecast, Outlook, Progress, WINDOW, many_sweeps};
@@ -56,6 +56,7 @@ pub(crate) struct Corrector<'a> {
     values: Vec<f64>,
     factors: Option<Factors>,
     factors_policy: Vec<usize>,
+    products_left: usize,
     grouping: Grouping,
 }
 
@@ -83,6 +84,7 @@ impl<'a> Corrector<'a> {
             values: vec![in alloc; 0.0; component.len()]?,
             factors: None,
             factors_policy: Vec::new(alloc),
+            products_left: most_products(component.len()),
             grouping: Grouping::new(alloc, component.len())?,
         })
     }
@@ -323,8 +325,9 @@ impl<'a> Corrector<'a> {
         if self.factors.is_some() && self.factors_policy == self.policy {
             return Ok(Factored::Same);
         }
-        match eliminated(alloc, self.component, &self.policy)? {
+        match eliminated(alloc, self.component, &self.policy, self.products_left)? {
             Elimination::Done(factors) => {
+                self.products_left = self.products_left.saturating_sub(factors.products());
                 self.factors = Some(factors);
                 self.factors_policy = self.policy.clone()?;
                 Ok(Factored::New)

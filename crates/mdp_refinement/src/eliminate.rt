@@ -8,8 +8,15 @@ use std::cmp::Reverse;
 use std::collections::BinaryHeap;
 use std::mem;
 
-/// How many products an elimination may take.
-const MOST_PRODUCTS: usize = 20_000_000;
+/// How many products the eliminations of a search may take in all: so many for each node, but no fewer and no more than these.
+const PRODUCTS_OF_NODE: usize = 50_000;
+
+const LEAST_PRODUCTS: usize = 200_000_000;
+
+const MOST_PRODUCTS: usize = 4_000_000_000;
+
+/// Where each of the nodes that are left takes so many products, all take about this part of the product of both numbers.
+const PART_OF_ALL: usize = 3;
 
 /// Entries of a row or a column, each with a place.
 pub(crate) type Entries = Vec<(u32, f64)>;
@@ -33,13 +40,27 @@ pub(crate) enum Elimination {
     Dense,
 }
 
-/// The steps of an elimination, by which systems are solved.
+/// The steps of an elimination, by which systems are solved, and how many products it took.
 #[derive(Drop)]
 pub(crate) struct Factors {
     steps: Vec<Step>,
+    products: usize,
+}
+
+/// How many products the eliminations of a search may take, for so many nodes.
+pub(crate) fn most_products(nodes: usize) -> usize {
+    nodes
+        .saturating_mul(PRODUCTS_OF_NODE)
+        .max(LEAST_PRODUCTS)
+        .min(MOST_PRODUCTS)
 }
 
 impl Factors {
+    /// How many products the elimination took.
+    pub(crate) fn products(&self) -> usize {
+        self.products
+    }
+
     /// Brings gains forward through the steps.
     fn forward(&self, gains: &mut [f64]) {
         for step in &self.steps {
@@ -386,8 +407,8 @@ impl System {
 /// How the elimination of all nodes ends.
 #[derive(Clone, Copy)]
 enum End {
-    /// All have gone.
-    Done,
+    /// All have gone, with so many products.
+    Done(usize),
     /// A node doesn't leave.
     Improper,
     /// There are too many products.
@@ -395,49 +416,57 @@ enum End {
 }
 
 impl System {
-    /// Eliminates all nodes, of which there are so many, and appends the steps.
-    fn eliminate_all(&mut self, nodes: usize, steps: &mut Vec<Step>) -> Result<End, AllocError> {
+    /// Eliminates all nodes, of which there are so many, and appends the steps. It ends once it is seen that this takes more than so many products.
+    fn eliminate_all(
+        &mut self,
+        nodes: usize,
+        most: usize,
+        steps: &mut Vec<Step>,
+    ) -> Result<End, AllocError> {
         let mut products = 0usize;
-        for _ in 0..nodes {
+        for gone in 0..nodes {
             let Some((node, more)) = self.next()? else {
                 break;
             };
-            products = products.saturating_add(more);
-            if products > MOST_PRODUCTS {
+            let left = nodes.saturating_sub(gone);
+            if products.saturating_add(more.saturating_mul(left) / PART_OF_ALL) > most {
                 return Ok(End::Dense);
             }
+            products = products.saturating_add(more);
             match self.eliminate(node)? {
                 Some(step) => steps.push(step)?,
                 None => return Ok(End::Improper),
             }
         }
-        Ok(End::Done)
+        Ok(End::Done(products))
     }
 }
 
-/// Eliminates all nodes: of each its row, whose entries are ordered by target, and what it gives to nodes outside.
+/// Eliminates all nodes: of each its row, whose entries are ordered by target, and what it gives to nodes outside. It may take so many products.
 pub(crate) fn eliminated_rows(
     alloc: Global,
     rows: Vec<Entries>,
     exits: Vec<f64>,
+    most: usize,
 ) -> Result<Elimination, AllocError> {
     let nodes = rows.len();
     let mut system = System::new(alloc, rows, exits)?;
     let mut steps = Vec::new(alloc);
-    match system.eliminate_all(nodes, &mut steps)? {
-        End::Done => Ok(Elimination::Done(Factors { steps })),
+    match system.eliminate_all(nodes, most, &mut steps)? {
+        End::Done(products) => Ok(Elimination::Done(Factors { steps, products })),
         End::Improper => Ok(Elimination::Improper),
         End::Dense => Ok(Elimination::Dense),
     }
 }
 
-/// Eliminates all nodes of a component under a policy.
+/// Eliminates all nodes of a component under a policy. It may take so many products.
 pub(crate) fn eliminated(
     alloc: Global,
     component: &Component,
     policy: &[usize],
+    most: usize,
 ) -> Result<Elimination, AllocError> {
     let rows = rows_of(alloc, component, policy)?;
     let exits = exits_of(alloc, component, policy)?;
-    eliminated_rows(alloc, rows, exits)
+    eliminated_rows(alloc, rows, exits, most)
 }

@@ -1,6 +1,6 @@
 //! Gains and biases of end components. The gains are exact bounds for any bias: each row's reward, and what it makes of the bias over that of its node.
 
-use crate::biases::Biases;
+use crate::biases::{Biases, Left};
 use crate::bound::Bound;
 use crate::component::Component;
 use crate::convert::{nearest, to_float};
@@ -352,6 +352,24 @@ impl Refinement<'_> {
     }
 }
 
+/// What a search leaves to one that goes on in smaller units: about how much rows gain over the bias that it kept, if it measured that last, and what the
+/// search for corrections left.
+#[derive(Drop)]
+struct Known {
+    estimate: Option<Estimate>,
+    left: Left,
+}
+
+impl Known {
+    /// Nothing of a component.
+    fn none(alloc: Global, component: &Component) -> Result<Known, AllocError> {
+        Ok(Known {
+            estimate: None,
+            left: Left::none(alloc, component)?,
+        })
+    }
+}
+
 /// Biases and rows of nodes, in the making, with the gains of components.
 #[derive(Drop)]
 struct Found {
@@ -410,15 +428,15 @@ impl Found {
         Ok(nearest.range)
     }
 
-    /// Refines a bias of the component and keeps that of the nearest gains that it comes to. These gains, and what is known of the rows over that bias.
+    /// Refines a bias of the component, from what is known and what another search left, and keeps that of the nearest gains that it comes to.
     fn solve(
         &mut self,
         alloc: Global,
         rows: &Rows,
         component: &Component,
         first: &mut First<'_>,
-        estimate: Estimate,
-    ) -> Result<(Option<Range>, Option<Estimate>), AllocError> {
+        known: Known,
+    ) -> Result<(Option<Range>, Known), AllocError> {
         let unit = greatest_unit(rows, &component.nodes);
         let refinement = Refinement {
             rows,
@@ -426,14 +444,21 @@ impl Found {
             unit,
         };
         let gain = first.gain_of(component);
-        let mut biases = Biases::new(alloc, component)?;
+        let mut biases = Biases::new(alloc, component, known.left)?;
+        let estimate = match known.estimate {
+            Some(estimate) => estimate,
+            None => Estimate::none(alloc, component.rows.len())?,
+        };
         let mut measured = refinement.unmeasured(alloc, estimate, first.gains.is_empty())?;
         let bias = &mut first.bias;
         let range = self.refine(alloc, refinement, &mut biases, &mut measured, bias, gain)?;
-        let known = if measured.is_kept {
-            Some(measured.estimate)
-        } else {
-            None
+        let known = Known {
+            estimate: if measured.is_kept {
+                Some(measured.estimate)
+            } else {
+                None
+            },
+            left: biases.into_left(),
         };
         Ok((range, known))
     }
@@ -535,11 +560,11 @@ impl First<'_> {
     }
 }
 
-/// The component in floats, where there is one alone, and what another search knew of its rows.
+/// The component in floats, where there is one alone, and what another search left.
 #[derive(Drop)]
 struct Only {
     component: Component,
-    known: Option<Estimate>,
+    known: Option<Known>,
 }
 
 impl Only {
@@ -554,8 +579,12 @@ impl Only {
     /// Goes on with values of which there are so many times more units.
     fn rescale(&mut self, rows: &Rows, times: f64) {
         let unit = self.component.greatest_unit();
-        if let Some(known) = &mut self.known {
-            known.scale(times, unit);
+        if let Some(estimate) = self
+            .known
+            .as_mut()
+            .and_then(|known| known.estimate.as_mut())
+        {
+            estimate.scale(times, unit);
         }
         self.component.rescale(rows);
     }
@@ -569,12 +598,12 @@ impl Only {
         first: &mut First<'_>,
     ) -> Result<Option<Range>, AllocError> {
         let component = &self.component;
-        let estimate = match self.known.take() {
+        let known = match self.known.take() {
             Some(known) => known,
-            None => Estimate::none(alloc, component.rows.len())?,
+            None => Known::none(alloc, component)?,
         };
-        let (range, known) = found.solve(alloc, rows, component, first, estimate)?;
-        self.known = known;
+        let (range, known) = found.solve(alloc, rows, component, first, known)?;
+        self.known = Some(known);
         Ok(range)
     }
 }
@@ -636,8 +665,8 @@ impl EndSearch {
             return only.solve(alloc, &self.rows, found, first);
         }
         let component = Component::new(alloc, &self.rows, &self.components, place, &[])?;
-        let estimate = Estimate::none(alloc, component.rows.len())?;
-        let (range, _) = found.solve(alloc, &self.rows, &component, first, estimate)?;
+        let known = Known::none(alloc, &component)?;
+        let (range, _) = found.solve(alloc, &self.rows, &component, first, known)?;
         Ok(range)
     }
 

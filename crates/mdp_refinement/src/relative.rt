@@ -15,26 +15,36 @@ const LEAST_TOTAL: f64 = 0.125;
 /// A sweep that changes values by less than this part of the greatest one, or of the gain, is the last: the rest is left to the next correction.
 const LOSS: f64 = 1e-12;
 
+/// A row that earns less than the best one by more than so many times the greatest value isn't tried.
+const FAR: f64 = 64.0;
+
 /// How many sweeps follow the best rows before all are tried again, where the last such sweep changed some.
 const FEW_FOLLOWING: usize = 2;
 
-/// Sweeps over an end component, with the values and the rows that they have come to, and the chain of these. Shares come near to how often the chain begins
-/// at each node in the long run, and rows are then taken so many times in a step, `steps`. By such shares the changes of a sweep add up to what the gain lacks
-/// in so many steps, as far as the values or the shares are right: the error is the product of both. The shares take a few steps once the best rows are steady,
-/// and before that one with each change of the rows.
+/// The rows that sweeps have come to, and which part of what they change is kept. Shares come near to how often the chain of these rows begins at each node
+/// in the long run, and rows are then taken so many times in a step, `steps`. By such shares the changes of a sweep add up to what the gain lacks in so many
+/// steps, as far as the values or the shares are right: the error is the product of both. The shares take a few steps once the best rows are steady, and
+/// before that one with each change of the rows.
 #[derive(Drop)]
-pub(crate) struct Relative<'a> {
-    component: &'a Component,
+pub(crate) struct Followed {
     pace: f64,
-    gain: f64,
-    values: Vec<f64>,
     best_rows: Vec<usize>,
-    is_steady: bool,
-    is_taken: bool,
-    chain: Chain,
     visits: Visits,
     steps: f64,
     steps_left: u32,
+}
+
+/// Sweeps over an end component, with the values and the rows that they have come to, and the chain of these. No value was greater than `size` in the last one.
+#[derive(Drop)]
+pub(crate) struct Relative<'a> {
+    component: &'a Component,
+    followed: Followed,
+    gain: f64,
+    values: Vec<f64>,
+    size: f64,
+    is_steady: bool,
+    is_taken: bool,
+    chain: Chain,
     grouping: Grouping,
 }
 
@@ -47,32 +57,48 @@ fn first_rows(alloc: Global, component: &Component) -> Result<Vec<usize>, AllocE
     Ok(first)
 }
 
+impl Followed {
+    /// The first row of each node.
+    pub(crate) fn first(alloc: Global, component: &Component) -> Result<Followed, AllocError> {
+        Ok(Followed {
+            pace: 1.0,
+            best_rows: first_rows(alloc, component)?,
+            visits: Visits::each_once(alloc, component.len())?,
+            steps: 1.0,
+            steps_left: FEW_STEPS,
+        })
+    }
+}
+
 impl<'a> Relative<'a> {
-    /// Before the first sweep.
-    pub(crate) fn new(alloc: Global, component: &'a Component) -> Result<Relative<'a>, AllocError> {
+    /// Before the first sweep, from rows that others have come to.
+    pub(crate) fn new(
+        alloc: Global,
+        component: &'a Component,
+        followed: Followed,
+    ) -> Result<Relative<'a>, AllocError> {
         let nodes = component.len();
         Ok(Relative {
             component,
-            pace: 1.0,
+            followed,
             gain: 0.0,
             values: vec![in alloc; 0.0; nodes]?,
-            best_rows: first_rows(alloc, component)?,
+            size: f64::INFINITY,
             is_steady: false,
             is_taken: false,
             chain: Chain::empty(alloc),
-            visits: Visits {
-                shares: vec![in alloc; 1.0; nodes]?,
-                visits: vec![in alloc; 0.0; nodes]?,
-            },
-            steps: 1.0,
-            steps_left: FEW_STEPS,
             grouping: Grouping::new(alloc, nodes)?,
         })
     }
 
+    /// The rows that they have come to, to keep.
+    pub(crate) fn into_followed(self) -> Followed {
+        self.followed
+    }
+
     /// This part of what a sweep changes is kept from now on, so that a chain with a period, or nearly one, settles too.
     pub(crate) fn slow_down(&mut self, pace: f64) {
-        self.pace = pace;
+        self.followed.pace = pace;
     }
 
     /// The values, relative to that of the last node.
@@ -87,22 +113,35 @@ impl<'a> Relative<'a> {
 
     /// The row of each node.
     pub(crate) fn best_rows(&self) -> &[usize] {
-        &self.best_rows
+        &self.followed.best_rows
     }
 
     /// What a row that earns so much over the gain makes of its node's value. It is taken until it leaves its node, but for slow ones.
     fn value_of(&self, row: &FloatRow, earned: f64, old: f64) -> f64 {
         let more = self.component.sum(row, earned, &self.values) - row.total * old;
-        old + more * self.pace / row.total.max(LEAST_TOTAL)
+        old + more * self.followed.pace / row.total.max(LEAST_TOTAL)
+    }
+
+    /// What a row of the node at a place is to earn so that it may be better than the one that was best, where values are no greater than in the last sweep.
+    fn least_due(&self, gains: &[f64], place: usize) -> f64 {
+        match self.followed.best_rows.get(place) {
+            Some(row) => gains.get(*row).copied().unwrap_or(0.0) - FAR * self.size,
+            None => f64::NEG_INFINITY,
+        }
     }
 
     /// The best value of the node at a place, and the row that gives it.
     fn best(&self, gains: &[f64], place: usize, old: f64) -> Option<(f64, usize)> {
         let (from, to) = self.component.range_of(place);
+        let least = self.least_due(gains, place);
         let mut best = None;
         for at in from..to {
+            let earned = gains.get(at).copied()?;
+            if earned < least {
+                continue;
+            }
             let row = self.component.rows.get(at)?;
-            let value = self.value_of(row, gains.get(at).copied()? - self.gain, old);
+            let value = self.value_of(row, earned - self.gain, old);
             match best {
                 Some((most, _)) if !(value > most) => {}
                 _ => best = Some((value, at)),
@@ -113,11 +152,11 @@ impl<'a> Relative<'a> {
 
     /// Makes a row the best one of a node.
     fn prefer(&mut self, node: u32, row: usize) {
-        if let Some(best) = self.best_rows.get_mut(node as usize) {
+        if let Some(best) = self.followed.best_rows.get_mut(node as usize) {
             if *best != row {
                 *best = row;
                 self.is_steady = false;
-                self.steps_left = FEW_STEPS;
+                self.followed.steps_left = FEW_STEPS;
             }
         }
     }
@@ -131,7 +170,7 @@ impl<'a> Relative<'a> {
             let node = number(place);
             let old = float_at(&self.values, node);
             if let Some((value, row)) = self.best(gains, place, old) {
-                change.take(old, value, float_at(&self.visits.shares, node));
+                change.take(old, value, float_at(&self.followed.visits.shares, node));
                 put(&mut self.values, node, value);
                 self.prefer(node, row);
             }
@@ -143,9 +182,8 @@ impl<'a> Relative<'a> {
     fn sweep_all(&mut self, gains: &[f64]) -> Result<Change, AllocError> {
         let change = self.sweep(gains);
         if !self.is_taken || !self.is_steady {
-            let rows = &self.best_rows;
-            self.chain
-                .take(self.component, rows, gains, self.pace, LEAST_TOTAL)?;
+            let rows = &self.followed.best_rows;
+            self.chain.take(self.component, rows, gains, self.followed.pace, LEAST_TOTAL)?;
             self.is_taken = true;
         }
         Ok(change)
@@ -153,17 +191,17 @@ impl<'a> Relative<'a> {
 
     /// Lets the shares take a step of the chain, if more are to come.
     fn step_shares(&mut self) {
-        if self.steps_left == 0 {
+        if self.followed.steps_left == 0 {
             return;
         }
-        self.steps_left = self.steps_left.saturating_sub(1);
-        self.steps = self.visits.step(&self.chain);
+        self.followed.steps_left = self.followed.steps_left.saturating_sub(1);
+        self.followed.steps = self.followed.visits.step(&self.chain);
     }
 
     /// Brings the gain nearer by a sweep's change.
     fn correct_gain(&mut self, change: Change) {
-        if self.steps > 0.0 {
-            self.gain += change.drift() / self.steps;
+        if self.followed.steps > 0.0 {
+            self.gain += change.drift() / self.followed.steps;
         }
     }
 
@@ -178,6 +216,7 @@ impl<'a> Relative<'a> {
     /// Sets the values and the gain to 0, for rows that earn something else.
     fn clear(&mut self) {
         self.gain = 0.0;
+        self.size = f64::INFINITY;
         self.is_taken = false;
         for value in self.values.iter_mut() {
             *value = 0.0;
@@ -187,7 +226,7 @@ impl<'a> Relative<'a> {
     /// Sweeps along the chain, and corrects the values and the gain by groups of nodes whose values changed alike.
     fn correct_groups(&mut self, alloc: Global) -> Result<(), AllocError> {
         let mut gain = Some(self.gain);
-        let (chain, visits) = (&self.chain, &self.visits);
+        let (chain, visits) = (&self.chain, &self.followed.visits);
         self.grouping
             .correct(alloc, chain, visits, &mut gain, &mut self.values)?;
         self.gain = gain.unwrap_or(self.gain);
@@ -200,8 +239,9 @@ impl<'a> Relative<'a> {
             self.sweep_all(gains)?
         } else {
             self.chain
-                .sweep(self.gain, &mut self.values, &self.visits.shares)
+                .sweep(self.gain, &mut self.values, &self.followed.visits.shares)
         };
+        self.size = change.size();
         if tries_all || self.is_steady {
             self.step_shares();
         }

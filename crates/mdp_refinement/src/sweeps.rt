@@ -56,6 +56,11 @@ impl Change {
         self.most
     }
 
+    /// The greatest value.
+    pub(crate) fn size(self) -> f64 {
+        self.size
+    }
+
     /// The sum of all changes times shares.
     pub(crate) fn drift(self) -> f64 {
         self.drift

@@ -1,7 +1,7 @@
 //! Policies of an end component with one recurrent class, improved in floats until none has a greater gain (Howard 1960).
 
 use crate::component::{Component, FloatRow};
-use crate::eliminate::{Elimination, Entries, Factors, eliminated_rows};
+use crate::eliminate::{Elimination, Entries, Factors, eliminated_rows, most_products};
 use crate::graph::Graph;
 use crate::lists::{Groups, flag_at, float_at, number, put};
 use crate::strong::{Components, strong_components};
@@ -19,13 +19,24 @@ const LEAST_ADVANTAGE: f64 = 1e-300;
 /// A node that is visited so many times as often as another one makes a better reference.
 const MUCH_MORE: f64 = 1e3;
 
-/// A policy of an end component, a row for each node, and values relative to one node of its recurrent class.
+/// A policy of an end component, a row for each node, and values relative to one node of its recurrent class; the policy that was evaluated last; and how
+/// many products eliminations may still take.
 #[derive(Drop)]
 pub(crate) struct Unichain<'a> {
     component: &'a Component,
     leading: Groups,
     policy: Vec<usize>,
     values: Vec<f64>,
+    evaluated: Option<Evaluated>,
+    products_left: usize,
+}
+
+/// A policy with one recurrent class, and its factors as if it ended at a reference node of that.
+#[derive(Drop)]
+pub(crate) struct Evaluated {
+    policy: Vec<usize>,
+    factors: Factors,
+    reference: u32,
 }
 
 /// The nodes of a policy's recurrent classes: the strong components of its graph, and a node of each that it doesn't leave.
@@ -70,7 +81,25 @@ impl<'a> Unichain<'a> {
             leading: component.leading(alloc)?,
             policy,
             values: vec![in alloc; 0.0; component.len()]?,
+            evaluated: None,
+            products_left: most_products(component.len()),
         })
+    }
+
+    /// Begins with a policy that was evaluated.
+    pub(crate) fn known(
+        alloc: Global,
+        component: &'a Component,
+        evaluated: Evaluated,
+    ) -> Result<Unichain<'a>, AllocError> {
+        let mut found = Unichain::new(alloc, component, &evaluated.policy)?;
+        found.evaluated = Some(evaluated);
+        Ok(found)
+    }
+
+    /// The policy that was evaluated last, to keep.
+    pub(crate) fn into_evaluated(self) -> Option<Evaluated> {
+        self.evaluated
     }
 
     /// The relative values.
@@ -194,12 +223,19 @@ impl<'a> Unichain<'a> {
     }
 
     /// Eliminates the nodes under the policy, as if it ended at the reference nodes.
-    fn eliminated(&self, alloc: Global, references: &[u32]) -> Result<Option<Factors>, AllocError> {
+    fn eliminated(
+        &mut self,
+        alloc: Global,
+        references: &[u32],
+    ) -> Result<Option<Factors>, AllocError> {
         let is_reference = self.flagged(alloc, references)?;
         let rows = self.rows_without(alloc, &is_reference)?;
         let exits = self.exits(alloc, &is_reference)?;
-        match eliminated_rows(alloc, rows, exits)? {
-            Elimination::Done(factors) => Ok(Some(factors)),
+        match eliminated_rows(alloc, rows, exits, self.products_left)? {
+            Elimination::Done(factors) => {
+                self.products_left = self.products_left.saturating_sub(factors.products());
+                Ok(Some(factors))
+            }
             Elimination::Improper | Elimination::Dense => Ok(None),
         }
     }
@@ -321,11 +357,23 @@ impl<'a> Unichain<'a> {
         self.lead_all(&mut led, false)
     }
 
+    /// The reference node of the policy that was evaluated last, where it is in the component of a node; else that node.
+    fn reference_in(&self, parts: &Components, node: u32) -> u32 {
+        let Some(evaluated) = &self.evaluated else {
+            return node;
+        };
+        if parts.of(evaluated.reference) == parts.of(node) {
+            evaluated.reference
+        } else {
+            node
+        }
+    }
+
     /// A node of the recurrent class of greatest gain, to which all nodes are led. None where elimination fails.
     fn joined(&mut self, alloc: Global, gains: &[f64]) -> Result<Option<u32>, AllocError> {
         let classes = self.classes(alloc)?;
         if let [only] = classes.references.as_slice() {
-            return Ok(Some(*only));
+            return Ok(Some(self.reference_in(&classes.parts, *only)));
         }
         let Some(factors) = self.eliminated(alloc, &classes.references)? else {
             return Ok(None);
@@ -362,7 +410,7 @@ impl<'a> Unichain<'a> {
 
     /// The policy's factors with a reference node that is visited often, of its only class, and that node. None where elimination fails.
     fn well_eliminated(
-        &self,
+        &mut self,
         alloc: Global,
         reference: u32,
     ) -> Result<Option<(Factors, u32)>, AllocError> {
@@ -377,6 +425,23 @@ impl<'a> Unichain<'a> {
         Ok(factors.map(|factors| (factors, better)))
     }
 
+    /// The policy with factors, which are at hand where it was evaluated last. None where elimination fails.
+    fn factored(&mut self, alloc: Global, reference: u32) -> Result<Option<Evaluated>, AllocError> {
+        if let Some(evaluated) = self.evaluated.take() {
+            if evaluated.policy == self.policy {
+                return Ok(Some(evaluated));
+            }
+        }
+        let Some((factors, reference)) = self.well_eliminated(alloc, reference)? else {
+            return Ok(None);
+        };
+        Ok(Some(Evaluated {
+            policy: self.policy.clone()?,
+            factors,
+            reference,
+        }))
+    }
+
     /// The values of the policy relative to a node of its only class, and its gain. None where elimination fails.
     fn evaluate(
         &mut self,
@@ -384,14 +449,16 @@ impl<'a> Unichain<'a> {
         gains: &[f64],
         reference: u32,
     ) -> Result<Option<f64>, AllocError> {
-        let Some((factors, reference)) = self.well_eliminated(alloc, reference)? else {
+        let Some(evaluated) = self.factored(alloc, reference)? else {
             return Ok(None);
         };
-        let references = [reference];
-        let found = self.gains_of(alloc, gains, &factors, &references)?;
+        let factors = &evaluated.factors;
+        let references = [evaluated.reference];
+        let found = self.gains_of(alloc, gains, factors, &references)?;
         let gain = float_at(&found, 0);
         let mut earned = self.earned(alloc, gains, gain, &references)?;
         factors.solve(&mut earned, &mut self.values);
+        self.evaluated = Some(evaluated);
         Ok(Some(gain))
     }
 
@@ -440,22 +507,23 @@ impl<'a> Unichain<'a> {
         is_changed
     }
 
-    /// Finds a policy of greatest gain, and its relative values, for rows that earn this. The gain; none where elimination fails.
+    /// Finds a policy of greatest gain, or one that was evaluated last before elimination failed, and its relative values, for rows that earn this. Its gain;
+    /// none where no policy was evaluated.
     pub(crate) fn run(&mut self, alloc: Global, gains: &[f64]) -> Result<Option<f64>, AllocError> {
-        let mut found = 0.0;
+        let mut found = None;
         for _ in 0..MOST_POLICIES {
             let Some(reference) = self.joined(alloc, gains)? else {
-                return Ok(None);
+                break;
             };
             let Some(gain) = self.evaluate(alloc, gains, reference)? else {
-                return Ok(None);
+                break;
             };
-            found = gain;
+            found = Some(gain);
             if !self.improve(gains, gain) {
                 break;
             }
         }
-        Ok(Some(found))
+        Ok(found)
     }
 }
 

@@ -18,7 +18,8 @@ returns-in_default-try_from-clause-none c = λ n o.
     c.in_default-try_from.ensures (subst (FitsSigned w64) (sym (result-bits c.num.result c.num.type_inv ∙ c.num.ensures.value)) (over-fits c.args.self.now n c.args.den c.requires o.same o.long))
 
 pub returns-then-den-own-ne0-clause-none : goal.returns-then-den-own-ne0-clause-none
-returns-then-den-own-ne0-clause-none c = λ n o. c.if-den-own-ne0.true (ap (λ (k : ℕ). c.args.den % k) (whole-bits _ _ _ c.den.type_inv c.den.ensures.value c.in-Ok.ensures.1) ∙ over-whole c.args.self.now n c.args.den c.requires o.same)
+returns-then-den-own-ne0-clause-none c = λ n o.
+    c.if-den-own-ne0.true (ap (λ (k : ℕ). c.args.den % k) (whole-bits _ _ _ c.den.type_inv c.den.ensures.value c.in-Ok.ensures.1) ∙ over-whole c.args.self.now n c.args.den c.requires o.same)
 
 pub overflow_mul-from : goal.overflow_mul-from
 overflow_mul-from c = (product-bits _ _ _ _ _ (numerator-bits _ _ _ _ c.num.type_inv c.num.ensures.value c.in-Ok-try_from.ensures.0 c.in-Ok-try_from.ensures.1 c.from.type_inv c.from.ensures)
