@@ -48,7 +48,7 @@ fn writes(
     head: &str,
 ) -> Result<bool, AllocError> {
     let (status, out) = ended(alloc, command, model, second.as_bytes())?;
-    Ok(status == Status::Done && out.bytes().starts_with(head.as_bytes()))
+    Ok(matches!(status, Status::Done) && out.bytes().starts_with(head.as_bytes()))
 }
 
 /// The commands whose model is the coin. `drill` reads none.
@@ -161,9 +161,9 @@ fn works_on_rewards(rt: HostRuntime) -> Result<(), Fail> {
 #[test]
 fn accepts_what_is_discounted(rt: HostRuntime) -> Result<(), Fail> {
     let (end, found) = ended(rt.alloc(), "discount M exact max cost 1/2", PAID, b"")?;
-    assert_eq!(rt; end, Status::Done);
+    assert!(rt; matches!(end, Status::Done));
     let (end, said) = ended(rt.alloc(), "discount-check M exact C", PAID, found.bytes())?;
-    assert_eq!(rt; end, Status::Done);
+    assert!(rt; matches!(end, Status::Done));
     assert_eq!(rt; said.bytes(), b"yes\n".as_slice());
     Ok(())
 }

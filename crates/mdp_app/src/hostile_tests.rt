@@ -76,11 +76,11 @@ fn answers_each_write_fault(rt: HostRuntime) -> Result<(), Fail> {
         (40, 9, 40),
     ] {
         let mut out = sink(rt.alloc(), room, 16, &[call])?;
-        assert_eq!(rt; solved(rt.alloc(), FORK, 7, &mut out)?, Status::WriteFault);
+        assert!(rt; matches!(solved(rt.alloc(), FORK, 7, &mut out)?, Status::WriteFault));
         assert_eq!(rt; Some(out.bytes()), FORKED.as_bytes().get(..taken), "{call}");
     }
     let mut out = sink(rt.alloc(), 200, 16, &[8])?;
-    assert_eq!(rt; solved(rt.alloc(), FORK, 7, &mut out)?, Status::Done);
+    assert!(rt; matches!(solved(rt.alloc(), FORK, 7, &mut out)?, Status::Done));
     assert_eq!(rt; out.bytes(), FORKED.as_bytes());
     Ok(())
 }
@@ -107,7 +107,7 @@ fn answers_each_fault_of_a_model(rt: HostRuntime) -> Result<(), Fail> {
         for call in 0..calls_of(COIN) {
             let mut out = sink(rt.alloc(), 200, 16, &[])?;
             let end = ended(rt.alloc(), command, &[call], &[], &mut out)?;
-            assert_eq!(rt; end, Status::ReadFault, "{call}");
+            assert!(rt; matches!(end, Status::ReadFault), "{call}");
             assert_eq!(rt; out.bytes(), b"read-fault model\n".as_slice(), "{call}");
         }
     }
@@ -126,7 +126,7 @@ fn answers_each_fault_of_a_second_file(rt: HostRuntime) -> Result<(), Fail> {
         for call in 0..calls_of(TAKES) {
             let mut out = sink(rt.alloc(), 200, 16, &[])?;
             let end = ended(rt.alloc(), command, &[], &[call], &mut out)?;
-            assert_eq!(rt; end, Status::ReadFault, "{call}");
+            assert!(rt; matches!(end, Status::ReadFault), "{call}");
             assert_eq!(rt;
                 out.bytes(),
                 b"read-fault certificate\n".as_slice(),
@@ -162,7 +162,7 @@ fn refuses_in_pieces(rt: HostRuntime) -> Result<(), Fail> {
     ] {
         for chunk in [1, 7, 65_536] {
             let mut out = sink(rt.alloc(), 40, 16, &[])?;
-            assert_eq!(rt; solved(rt.alloc(), text, chunk, &mut out)?, Status::Model);
+            assert!(rt; matches!(solved(rt.alloc(), text, chunk, &mut out)?, Status::Model));
             assert_eq!(rt; out.bytes(), due.as_bytes(), "{chunk}");
         }
     }
@@ -176,17 +176,29 @@ const PAST: &str =
 /// Fed byte by byte, a text is refused by the push that ends the line of the refusal, and from then on.
 #[test]
 fn refuses_byte_by_byte(rt: HostRuntime) -> Result<(), Fail> {
-    let refusal = DrnError::At {
-        line: 7,
-        kind: DrnKind::TooMany,
-    };
     let mut feed = Feed::new(rt.alloc(), RowRule::Exact)?;
     for piece in PAST.as_bytes().chunks(1).take(58) {
-        assert_eq!(rt; feed.push(piece), Ok(()));
+        assert!(rt; feed.push(piece).is_ok());
     }
     for piece in PAST.as_bytes().chunks(1).skip(58) {
-        assert_eq!(rt; feed.push(piece), Err(refusal));
+        assert!(rt;
+            matches!(
+                feed.push(piece),
+                Err(DrnError::At {
+                    line: 7,
+                    kind: DrnKind::TooMany
+                })
+            )
+        );
     }
-    assert_eq!(rt; feed.finish().err(), Some(refusal));
+    assert!(rt;
+        matches!(
+            feed.finish(),
+            Err(DrnError::At {
+                line: 7,
+                kind: DrnKind::TooMany
+            })
+        )
+    );
     Ok(())
 }

@@ -63,7 +63,7 @@ fn checked(alloc: Global, chunk: usize, out: &mut ListSink) -> Result<Status, Al
 fn reads_in_pieces(rt: HostRuntime) -> Result<(), Fail> {
     for chunk in [1, 7, 65_536] {
         let mut out = sink(rt.alloc(), 100, 16, &[])?;
-        assert_eq!(rt; checked(rt.alloc(), chunk, &mut out)?, Status::Done);
+        assert!(rt; matches!(checked(rt.alloc(), chunk, &mut out)?, Status::Done));
         assert_eq!(rt; out.bytes(), b"yes\n".as_slice(), "{chunk}");
     }
     Ok(())
@@ -81,7 +81,7 @@ fn answers_write_faults(rt: HostRuntime) -> Result<(), Fail> {
     ] {
         let mut out = sink(rt.alloc(), room, chunk, fails)?;
         let end = checked(rt.alloc(), 7, &mut out)?;
-        assert_eq!(rt; end, Status::WriteFault);
+        assert!(rt; matches!(end, Status::WriteFault));
         assert_eq!(rt; out.bytes(), taken.as_bytes());
     }
     Ok(())
@@ -96,11 +96,11 @@ fn opens_files(rt: HostRuntime) -> Result<(), Fail> {
     let words = words_of(rt.alloc(), &CHECK)?;
     let mut out = sink(rt.alloc(), 100, 16, &[])?;
     let end = run_on_files(rt.alloc(), &words, open, &mut out);
-    assert_eq!(rt; end, Status::Done);
+    assert!(rt; matches!(end, Status::Done));
     assert_eq!(rt; out.bytes(), b"yes\n".as_slice());
     fs::remove_file(&rt, "MODEL")?;
     let end = run_on_files(rt.alloc(), &words, open, &mut out);
-    assert_eq!(rt; end, Status::ReadFault);
+    assert!(rt; matches!(end, Status::ReadFault));
     fs::remove_file(&rt, "CERT")?;
     Ok(())
 }

@@ -23,7 +23,7 @@ use mdp_rows::{Dir, Model};
 
 /// Lower and upper gains and a memoryless policy, between which the greatest or the least mean payoffs are said to lie: two gains, a bound, a
 /// bias and a choice per state, and the spread of bounds and biases.
-#[derive(Debug, Drop)]
+#[derive(Drop)]
 pub struct MeanBoundsCert {
     pub lower: Vec<Frac>,
     pub upper: Vec<Frac>,

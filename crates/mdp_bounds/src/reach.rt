@@ -20,7 +20,7 @@ use mdp_rows::{Dir, Marks, Model};
 
 /// Lower and upper values, a memoryless policy and ranks, between which the greatest or the least probabilities of reaching a goal are said
 /// to lie: one per state.
-#[derive(Debug, Drop)]
+#[derive(Drop)]
 pub struct ReachBoundsCert {
     pub lower: Vec<Frac>,
     pub upper: Vec<Frac>,

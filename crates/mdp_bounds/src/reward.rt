@@ -19,7 +19,7 @@ use mdp_rows::{Dir, Marks, Model};
 
 /// Lower and upper rewards until a goal, a memoryless policy and ranks, between which the greatest or the least rewards are said to lie: one of
 /// each per state. A value of none is infinite; an infinite upper value above a finite lower one claims no upper bound.
-#[derive(Debug, Drop)]
+#[derive(Drop)]
 pub struct RewardBoundsCert {
     pub lower: Vec<Option<Frac>>,
     pub upper: Vec<Option<Frac>>,

@@ -1,7 +1,7 @@
 use mdp_bounds::{MeanBoundsCert, ReachBoundsCert, RewardBoundsCert};
 
 /// What a certificate of bounds says of each state.
-#[derive(Debug, Drop)]
+#[derive(Drop)]
 pub enum BoundsBody {
     /// A lower and an upper value, the policy's choice and a rank.
     Reach(ReachBoundsCert),

@@ -8,7 +8,7 @@ use mdp_cert::Claim;
 
 /// A certificate of bounds: its claim, which is one of reach, reward or mean in a direction, the number of states, from 1 to 2^20, the initial state
 /// with its lower and its upper value, and a body of the claim's kind with an entry per state.
-#[derive(Debug, Drop)]
+#[derive(Drop)]
 pub struct BoundsCert {
     pub claim: Claim,
     pub states: u32,

@@ -2,7 +2,7 @@ use mdp_farkas::{MeanCert, ReachCert, RewardCert, UpperCert};
 use mdp_subsystem_rules::{FloorCert, FlowCert};
 
 /// What a certificate says of each state, or of each kept state of a subsystem.
-#[derive(Debug, Drop)]
+#[derive(Drop)]
 pub enum Body {
     /// An upper bound.
     Upper(UpperCert),

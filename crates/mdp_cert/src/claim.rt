@@ -3,7 +3,7 @@ use mdp_rows::Dir;
 
 /// What a certificate says of a model. A label and the name of a reward model are names: 1 to 255 bytes without `"` and line feed. A threshold is
 /// at least 0.
-#[derive(Debug, Drop)]
+#[derive(Drop)]
 pub enum Claim {
     /// The values bound the probability of reaching the label from above, under each policy.
     Upper {

@@ -2,7 +2,7 @@ use mdp_num::Memory;
 use std::alloc::AllocError;
 
 /// Why there is no chain.
-#[derive(Clone, Copy, Debug, PartialEq, Eq)]
+#[derive(Clone, Copy)]
 pub enum ChainError {
     /// At some state the choice isn't one of the state's.
     NoChoice,

@@ -4,7 +4,7 @@ ghost use Rattle.mdp_check.specs.Check.{answer_of};
 use mdp_farkas::{Fault, Verdict};
 
 /// What the checker says of a certificate.
-#[derive(Clone, Copy, Debug, PartialEq, Eq)]
+#[derive(Clone, Copy)]
 pub enum Answer {
     /// The certificate holds: its claim is true of the model.
     Yes,

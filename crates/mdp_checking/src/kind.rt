@@ -5,7 +5,7 @@ ghost use Rattle.mdp_checking.specs.Meanings.{begins_with, bounds_kind, kind_of}
 use mdp_discount_bounds_text::is_discount_claim;
 
 /// The kinds of certificates. Each has its checker.
-#[derive(Clone, Copy, Debug, PartialEq, Eq)]
+#[derive(Clone, Copy)]
 pub enum CertificateKind {
     /// Best values of reach, reward or mean payoff, upper bounds, and subsystems.
     Exact,

@@ -12,7 +12,7 @@ use mdp_rows::Dir;
 /// `factor` times as much, lie between the values, and those of the policy too; with two values and a choice for each state, from 1 to 2^20 of them. The
 /// factor is at least 0 and below 1; the name has 1 to 255 bytes without `"` and line feed; the initial state is one of the states, and there is none where
 /// the model has none or more than one.
-#[derive(Debug, Drop)]
+#[derive(Drop)]
 pub struct DiscountBoundsCert {
     pub dir: Dir,
     pub name: Vec<u8>,

@@ -4,7 +4,7 @@ ghost use Rattle.mdp_discount_rules.specs.Check.{answer_of};
 use mdp_farkas::{Fault, Verdict};
 
 /// What holding a certificate of the discounted reward against a model says.
-#[derive(Clone, Copy, Debug, PartialEq, Eq)]
+#[derive(Clone, Copy)]
 pub enum DiscountAnswer {
     /// The certificate holds: its claim is true of the model.
     Yes,

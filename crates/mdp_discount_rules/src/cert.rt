@@ -11,7 +11,7 @@ use mdp_text::Init;
 /// `factor` times as much, with a value and a choice for each state, from 1 to 2^20 of them. After n steps no policy is better than the values by
 /// more than `remainder` times `factor` to the n. The factor is at least 0 and below 1; the name has 1 to 255 bytes without `"` and line feed; the
 /// initial state is one of the states, and its value isn't infinite.
-#[derive(Debug, Drop)]
+#[derive(Drop)]
 pub struct DiscountCert {
     pub dir: Dir,
     pub name: Vec<u8>,

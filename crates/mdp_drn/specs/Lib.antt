@@ -7,6 +7,7 @@ pub mod FromSource
 pub mod Header
 pub mod HeaderView
 pub mod HeldCode
+pub mod Kinds
 pub mod Labels
 pub mod Laws
 pub mod Lines

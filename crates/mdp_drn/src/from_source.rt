@@ -11,10 +11,11 @@ use crate::feed::Feed;
 use mdp_edge::{MOST_PIECE, Source};
 use mdp_rows::{Model, RowRule};
 use std::alloc::Global;
+use std::fmt;
 use thiserror::Error;
 
 /// Why a source gave no model.
-#[derive(Clone, Copy, Debug, PartialEq, Eq, Error)]
+#[derive(Clone, Copy, Error)]
 pub enum FromError {
     /// The source failed.
     #[error("read-fault")]
@@ -28,6 +29,13 @@ pub enum FromError {
     /// Memory was refused.
     #[error("memory was refused")]
     Memory,
+}
+
+/// As it is shown.
+impl fmt::Debug for FromError {
+    fn fmt<W: fmt::Write>(&self, f: &mut fmt::Formatter<W>) -> fmt::Result {
+        write!(f, "{self}")
+    }
 }
 
 /// What the feed comes to at the end of the source.

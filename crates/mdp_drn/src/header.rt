@@ -22,14 +22,14 @@ const MAX_STATES: u32 = 1_048_576;
 const MAX_CHOICES: u32 = 4_194_304;
 
 /// What a file is of: Markov decision processes and Markov chains are read.
-#[derive(Clone, Copy, Debug, PartialEq, Eq)]
+#[derive(Clone, Copy)]
 pub(crate) enum ModelType {
     Mdp,
     Dtmc,
 }
 
 /// What the next line may be.
-#[derive(Clone, Copy, Debug, PartialEq, Eq)]
+#[derive(Clone, Copy)]
 pub(crate) enum NextLine {
     AnyEntry,
     BlankLine,
@@ -56,7 +56,7 @@ impl NextLine {
 }
 
 /// The entries of the header so far; a number that is still to come is 0.
-#[derive(Debug, Drop)]
+#[derive(Drop)]
 pub(crate) struct Header {
     pub(crate) model_type: Option<ModelType>,
     pub(crate) has_value_type: bool,

@@ -5,7 +5,7 @@ use crate::error::{DrnError, DrnKind};
 use std::alloc::{AllocError, AllocFailed};
 
 /// Why a part of a line wasn't read.
-#[derive(Clone, Copy, Debug)]
+#[derive(Clone, Copy)]
 pub(crate) enum LineError {
     Kind(DrnKind),
     Memory,

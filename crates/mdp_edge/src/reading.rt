@@ -10,7 +10,7 @@ use std::alloc::Global;
 pub const MOST_PIECE: usize = 4096;
 
 /// Why the bytes of a source could not be read to their end.
-#[derive(Clone, Copy, Debug, PartialEq, Eq)]
+#[derive(Clone, Copy)]
 pub enum InError {
     /// The source failed.
     ReadFault = 1,

@@ -5,7 +5,7 @@ ghost use Rattle.mdp_edge.specs.Bytes.{TookAll, TookPrefix};
 use crate::sink::Sink;
 
 /// A sink failed before it had taken and settled all that was to be written.
-#[derive(Clone, Copy, Debug, PartialEq, Eq)]
+#[derive(Clone, Copy)]
 pub struct WriteFault;
 
 /// Writes all the bytes in order, and flushes the sink. Where the sink fails, it has taken some of them from the front.

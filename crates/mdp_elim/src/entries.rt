@@ -12,7 +12,7 @@ use std::alloc::Global;
 use std::marker::Model;
 
 /// An entry of an equation: a factor of the value of its target.
-#[derive(Clone, Copy, Debug)]
+#[derive(Clone, Copy)]
 pub(crate) struct Term {
     target: u32,
     factor: Frac,

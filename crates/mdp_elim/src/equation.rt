@@ -14,7 +14,7 @@ use std::marker::Model;
 
 /// The value of a state is a constant, and the sum of the entries' factors times the values of their targets. There are two constants, for two
 /// systems with the same entries.
-#[derive(Drop, Debug)]
+#[derive(Drop)]
 pub(crate) struct Equation {
     entries: Vec<Term>,
     first: Frac,
@@ -33,7 +33,7 @@ impl Model for Equation {
 }
 
 /// The equation of an eliminated state, with its final entries in an arena.
-#[derive(Drop, Debug)]
+#[derive(Drop)]
 pub(crate) struct Solved<'a> {
     entries: &'a [Term],
     first: Frac,

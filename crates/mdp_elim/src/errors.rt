@@ -2,7 +2,7 @@ use mdp_num::{Memory, Wide};
 use std::alloc::{AllocError, AllocFailed};
 
 /// Why a system isn't solved.
-#[derive(Clone, Copy, Debug, PartialEq, Eq)]
+#[derive(Clone, Copy)]
 pub enum ElimError {
     /// At this state a term is past width.
     Wide { state: u32 },
@@ -33,7 +33,7 @@ impl<T: Drop> From<AllocFailed<T>> for ElimError {
 }
 
 /// Why one step isn't made.
-#[derive(Clone, Copy, Debug, PartialEq, Eq)]
+#[derive(Clone, Copy)]
 pub(crate) enum StepError {
     /// A term is past width.
     Wide,

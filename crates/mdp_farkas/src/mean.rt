@@ -19,7 +19,7 @@ use mdp_rows::{Dir, Model};
 
 /// Gains and a memoryless policy that are said to be the greatest or the least mean payoffs: a gain, a bound, a bias and a choice per state, and the
 /// spread of bounds and biases.
-#[derive(Debug, Drop)]
+#[derive(Drop)]
 pub struct MeanCert {
     pub gains: Vec<Frac>,
     pub bound: Vec<Frac>,

@@ -15,7 +15,7 @@ use mdp_num::Frac;
 use mdp_rows::{Dir, Marks, Model};
 
 /// Values, a memoryless policy and ranks that are said to be the greatest or the least probabilities of reaching a goal: one per state.
-#[derive(Debug, Drop)]
+#[derive(Drop)]
 pub struct ReachCert {
     pub values: Vec<Frac>,
     pub choices: Vec<u32>,

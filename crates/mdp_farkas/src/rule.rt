@@ -2,7 +2,7 @@ ghost use Rattle.std.specs.Prelude.{◌≡◌};
 ghost use Rattle.mdp_farkas.specs.RuleNumber.{number_of};
 
 /// A rule of certificates, of bounds, of subsystems or of discounted rewards. docs/certificates.md has each.
-#[derive(Clone, Copy, Debug, PartialEq, Eq)]
+#[derive(Clone, Copy)]
 pub enum Rule {
     /// The line `init` names the model's one initial state and its value.
     InitialState,

@@ -13,7 +13,7 @@ use mdp_num::Frac;
 use mdp_rows::{Dir, Marks, Model};
 
 /// Values that are said to bound the probability of reaching a goal from above: one per state.
-#[derive(Debug, Drop)]
+#[derive(Drop)]
 pub struct UpperCert {
     pub values: Vec<Frac>,
 }

@@ -6,7 +6,7 @@ use crate::rule::Rule;
 use mdp_num::Wide;
 
 /// A rule that is false, and where: the state and the choice looked at, where the rule has them.
-#[derive(Clone, Copy, Debug, PartialEq, Eq)]
+#[derive(Clone, Copy)]
 pub struct Fault {
     pub rule: Rule,
     pub state: Option<u32>,
@@ -14,7 +14,7 @@ pub struct Fault {
 }
 
 /// What the rules say of a certificate.
-#[derive(Clone, Copy, Debug, PartialEq, Eq)]
+#[derive(Clone, Copy)]
 pub enum Verdict {
     /// All rules hold.
     Yes,

@@ -94,7 +94,7 @@ pub fn may_avoid(alloc: Global, model: &Model, goals: &Marks) -> Result<Pass, Me
 }
 
 /// The states that some policy keeps from the goals, and those that each policy brings to one.
-#[derive(Drop, Debug)]
+#[derive(Drop)]
 pub struct AvoidingAndMeeting {
     pub avoiding: Pass,
     pub meeting: Pass,

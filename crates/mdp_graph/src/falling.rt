@@ -104,7 +104,7 @@ pub(crate) fn falling_rounds(
 }
 
 /// The greatest sure set, with ranks and choices, and the rounds of the states outside.
-#[derive(Drop, Debug)]
+#[derive(Drop)]
 pub struct SureRounds {
     pub pass: Pass,
     pub rounds: Vec<u32>,

@@ -10,7 +10,7 @@ use mdp_rows::{Marks, Model};
 use std::alloc::{AllocError, Global};
 
 /// What a pass finds: which states are marked, and for each state a rank and a choice. Both are 0 where the state isn't marked.
-#[derive(Drop, Debug)]
+#[derive(Drop)]
 pub struct Pass {
     pub marks: Marks,
     pub ranks: Vec<u32>,

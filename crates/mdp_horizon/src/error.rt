@@ -2,7 +2,7 @@ use mdp_num::Memory;
 use std::alloc::{AllocError, AllocFailed};
 
 /// Why there are no values.
-#[derive(Clone, Copy, Debug, PartialEq, Eq)]
+#[derive(Clone, Copy)]
 pub enum HorizonError {
     /// A written term is past width: with how many steps left, at which state, and for which choice.
     Wide { depth: u32, state: u32, choice: u32 },

@@ -3,10 +3,8 @@ use Rattle.std.specs.Prelude.{ℕ, List, [], ◌∷◌, ◌++◌, Option, Some, 
 use Rattle.std.specs.List.{flat_map}
 use Rattle.mdp_math.specs.Rational.{ℚ}
 use Rattle.mdp_num.specs.Value.{spelling}
-use Rattle.mdp_text.specs.declared.error.CertKind.{CertKind}
-use Rattle.mdp_text.specs.declared.error.CertKind.TheVariants as cert
-use Rattle.mdp_drn.specs.declared.error.DrnKind.{DrnKind}
-use Rattle.mdp_drn.specs.declared.error.DrnKind.TheVariants as drn
+use Rattle.mdp_text.specs.Kinds.{cert_word}
+use Rattle.mdp_drn.specs.Kinds.{drn_word}
 use Rattle.mdp_wide.specs.declared.too_wide.Kind.{Kind}
 use Rattle.mdp_wide.specs.declared.too_wide.Kind.TheVariants.{Evaluate, Compare, Check}
 use Rattle.mdp_wide.specs.declared.too_wide.Part.{Part}
@@ -35,37 +33,6 @@ words_word words.Steps = codes "steps"
 words_word words.Factor = codes "factor"
 words_word words.Digits = codes "digits"
 words_word words.Encoding = codes "encoding"
-
-unfoldable pub drn_word : DrnKind → List ℕ
-drn_word drn.Header = codes "header"
-drn_word drn.Type = codes "type"
-drn_word drn.Parametric = codes "parametric"
-drn_word drn.Number = codes "number"
-drn_word drn.Large = codes "large"
-drn_word drn.Order = codes "order"
-drn_word drn.Count = codes "count"
-drn_word drn.Reward = codes "reward"
-drn_word drn.Target = codes "target"
-drn_word drn.Twice = codes "twice"
-drn_word drn.RowSum = codes "row-sum"
-drn_word drn.RowWide = codes "row-wide"
-drn_word drn.NoChoice = codes "no-choice"
-drn_word drn.Label = codes "label"
-drn_word drn.TooMany = codes "too-many"
-drn_word drn.Shape = codes "shape"
-drn_word drn.Negative = codes "negative"
-drn_word drn.LongLine = codes "long-line"
-drn_word drn.End = codes "end"
-drn_word drn.Choices = codes "choices"
-
-abbrev pub cert_word : CertKind → List ℕ
-cert_word cert.Version = codes "version"
-cert_word cert.Claim = codes "claim"
-cert_word cert.Number = codes "number"
-cert_word cert.Shape = codes "shape"
-cert_word cert.Count = codes "count"
-cert_word cert.End = codes "end"
-cert_word cert.Run = codes "run"
 
 -- a number, or `-`
 abbrev pub number_or_dash : Option ℕ → List ℕ

@@ -6,7 +6,7 @@ ghost use Rattle.mdp_job.specs.Words.{job_of, path_at, model_path, second_path};
 use crate::job::{Job, job_of};
 
 /// The places of the words that name the files of a job, counted from 0. None where the job reads no such file.
-#[derive(Clone, Copy, Debug, PartialEq, Eq)]
+#[derive(Clone, Copy)]
 pub struct Files {
     pub model: Option<usize>,
     pub second: Option<usize>,
@@ -49,7 +49,7 @@ pub fn files_of(words: &[String]) -> Files
 }
 
 /// The names of the files of a job; the empty name where the job reads no such file.
-#[derive(Clone, Copy, Debug)]
+#[derive(Clone, Copy)]
 pub struct Paths<'a> {
     pub model: &'a str,
     pub second: &'a str,

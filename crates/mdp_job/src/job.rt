@@ -14,7 +14,7 @@ use mdp_num::{Frac, read_numeral};
 use mdp_rows::{Dir, RowRule};
 
 /// What is to be solved.
-#[derive(Clone, Copy, Debug, PartialEq, Eq)]
+#[derive(Clone, Copy)]
 pub enum Query<'a> {
     /// The probability of reaching a state with this label.
     Reach { label: &'a [u8] },
@@ -25,7 +25,7 @@ pub enum Query<'a> {
 }
 
 /// What the words ask for.
-#[derive(Clone, Copy, Debug, PartialEq, Eq)]
+#[derive(Clone, Copy)]
 pub enum Job<'a> {
     /// `solve MODEL ROWS DIR reach LABEL`, `solve MODEL ROWS DIR reward NAME LABEL` and `solve MODEL ROWS DIR mean NAME`: the best values in the
     /// direction, with a policy and a certificate.

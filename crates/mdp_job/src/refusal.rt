@@ -1,7 +1,7 @@
 ghost use Rattle.std.specs.Prelude.{◌≡◌, ◌≤◌, ◌++◌, length, take, decimal, codes, OnOk, OnErr};
 ghost use Rattle.mdp_job.specs.Refusal.{plain_refusal, no_job};
 ghost use Rattle.mdp_job.specs.Status.{status_of};
-ghost use Rattle.mdp_job.specs.Text.{text_of, words_word, drn_word, cert_word, at_line, place_text, number_or_dash, below_text};
+ghost use Rattle.mdp_job.specs.Text.{text_of, words_word, at_line, place_text, number_or_dash, below_text};
 ghost use Rattle.mdp_job.specs.Text.{rule_text, denied_text, wide_text, depth_text, horizon_text, part_word, kind_word, policy_words, too_wide_text};
 ghost use Rattle.mdp_num.specs.Value.{spelling};
 ghost use Rattle.mdp_wide.specs.Term.{shown};
@@ -17,7 +17,7 @@ use mdp_wide::{Kind, Part, TooWide};
 use std::alloc::AllocError;
 
 /// An answer other than that the work was done, but for a fault of the sink.
-#[derive(Debug, Drop)]
+#[derive(Drop)]
 pub enum Refusal {
     /// The words are no job.
     Words(WordsError),
@@ -126,50 +126,6 @@ fn words_word(error: WordsError) -> &'static str
         WordsError::Factor => "factor",
         WordsError::Digits => "digits",
         WordsError::Encoding => "encoding",
-    }
-}
-
-/// The word for why a text is no model.
-#[tactic(auto, unfolding(crate::specs::Text::drn_word))]
-fn drn_word(kind: DrnKind) -> &'static str
-    ensures { result.now ≡ drn_word kind }
-{
-    match kind {
-        DrnKind::Header => "header",
-        DrnKind::Type => "type",
-        DrnKind::Parametric => "parametric",
-        DrnKind::Number => "number",
-        DrnKind::Large => "large",
-        DrnKind::Order => "order",
-        DrnKind::Count => "count",
-        DrnKind::Reward => "reward",
-        DrnKind::Target => "target",
-        DrnKind::Twice => "twice",
-        DrnKind::RowSum => "row-sum",
-        DrnKind::RowWide => "row-wide",
-        DrnKind::NoChoice => "no-choice",
-        DrnKind::Label => "label",
-        DrnKind::TooMany => "too-many",
-        DrnKind::Shape => "shape",
-        DrnKind::Negative => "negative",
-        DrnKind::LongLine => "long-line",
-        DrnKind::End => "end",
-        DrnKind::Choices => "choices",
-    }
-}
-
-/// The word for why a text is no certificate.
-fn cert_word(kind: CertKind) -> &'static str
-    ensures { result.now ≡ cert_word kind }
-{
-    match kind {
-        CertKind::Version => "version",
-        CertKind::Claim => "claim",
-        CertKind::Number => "number",
-        CertKind::Shape => "shape",
-        CertKind::Count => "count",
-        CertKind::End => "end",
-        CertKind::Run => "run",
     }
 }
 
@@ -373,7 +329,7 @@ fn push_parts(refusal: &Refusal, out: &mut Vec<u8>) -> Result<(), AllocError>
 {
     match refusal {
         Refusal::Words(error) => push_words(*error, out),
-        Refusal::Model { line, kind } => push_at("model", *line, drn_word(*kind), out),
+        Refusal::Model { line, kind } => push_at("model", *line, kind.word(), out),
         Refusal::QuerySize => out.extend_from_slice(b"query size\n"),
         Refusal::QueryReward => out.extend_from_slice(b"query reward\n"),
         Refusal::QueryLabel => out.extend_from_slice(b"query label\n"),
@@ -393,8 +349,8 @@ fn push_parts(refusal: &Refusal, out: &mut Vec<u8>) -> Result<(), AllocError>
         Refusal::ReadCertificate => out.extend_from_slice(b"read-fault certificate\n"),
         Refusal::LongModel => out.extend_from_slice(b"long model\n"),
         Refusal::LongCertificate => out.extend_from_slice(b"long certificate\n"),
-        Refusal::CertText { line, kind } => push_at("cert", *line, cert_word(*kind), out),
-        Refusal::PolicyText { line, kind } => push_at("policy", *line, cert_word(*kind), out),
+        Refusal::CertText { line, kind } => push_at("cert", *line, kind.word(), out),
+        Refusal::PolicyText { line, kind } => push_at("policy", *line, kind.word(), out),
         Refusal::Below(value) => push_below(value, out),
         Refusal::Memory => out.extend_from_slice(MEMORY_TEXT),
     }

@@ -1,5 +1,5 @@
 /// Why words are no job. The first of these whose condition holds is answered.
-#[derive(Clone, Copy, Debug, PartialEq, Eq)]
+#[derive(Clone, Copy)]
 pub enum WordsError {
     /// There is no word, or the first one is no command.
     Command = 1,

@@ -3,7 +3,7 @@ use mdp_wide::Kind;
 use std::alloc::{AllocError, AllocFailed};
 
 /// Why values aren't joined.
-#[derive(Clone, Copy, Debug, PartialEq, Eq)]
+#[derive(Clone, Copy)]
 pub(crate) enum JoinError {
     /// A term is past width: what was computed, and the state and the choice for which, where there is one.
     Wide {

@@ -1,11 +1,11 @@
 use std::alloc::AllocError;
 
 /// A term of a result is past width.
-#[derive(Clone, Copy, Debug, PartialEq, Eq)]
+#[derive(Clone, Copy)]
 pub struct Wide;
 
 /// Memory was refused.
-#[derive(Clone, Copy, Debug, PartialEq, Eq)]
+#[derive(Clone, Copy)]
 pub struct Memory;
 
 impl From<AllocError> for Memory {
@@ -15,7 +15,7 @@ impl From<AllocError> for Memory {
 }
 
 /// Why two whole numbers make no fraction.
-#[derive(Clone, Copy, Debug, PartialEq, Eq)]
+#[derive(Clone, Copy)]
 pub enum NumError {
     /// The denominator is 0.
     ZeroDen = 1,
@@ -24,7 +24,7 @@ pub enum NumError {
 }
 
 /// Why a text is no numeral, or one that is too large.
-#[derive(Clone, Copy, Debug, PartialEq, Eq)]
+#[derive(Clone, Copy)]
 pub enum NumeralError {
     /// The text isn't of the grammar.
     Shape = 1,

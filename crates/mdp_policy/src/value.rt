@@ -20,14 +20,14 @@ use mdp_wide::{Part, SolveError, TooWide};
 use std::alloc::Global;
 
 /// A state, and a choice that is better there than the policy's.
-#[derive(Clone, Copy, Debug, PartialEq, Eq)]
+#[derive(Clone, Copy)]
 pub struct Change {
     pub state: u32,
     pub choice: u32,
 }
 
 /// The probabilities with which a policy reaches a goal, one for each state; the first change that raises one, and the first that lowers one.
-#[derive(Debug, Drop)]
+#[derive(Drop)]
 pub struct PolicyValue {
     pub values: Vec<Frac>,
     pub up: Option<Change>,

@@ -3,7 +3,7 @@ use mdp_wide::Kind;
 use std::alloc::{AllocError, AllocFailed};
 
 /// Why a computation over nodes, or over states, isn't finished.
-#[derive(Clone, Copy, Debug, PartialEq, Eq)]
+#[derive(Clone, Copy)]
 pub enum RoundError {
     /// A term is past width: what was computed, and the node or state and the choice for which.
     Wide { kind: Kind, node: u32, choice: u32 },

@@ -7,7 +7,7 @@ use mdp_wide::{Kind, Part, SolveError, TooWide};
 use std::alloc::AllocError;
 
 /// A best policy, with one choice per node, its round and its values. Rounds count from 0; one above 2^64 - 1 is given as 2^64 - 1.
-#[derive(Debug, Drop)]
+#[derive(Drop)]
 pub struct Solution {
     pub round: u64,
     pub policy: Vec<u32>,
@@ -15,7 +15,7 @@ pub struct Solution {
 }
 
 /// Where a written term is past width: the round, that round's policy, what was computed, and the node and the choice for which.
-#[derive(Debug, Drop)]
+#[derive(Drop)]
 pub struct WideAt {
     pub round: u64,
     pub policy: Vec<u32>,
@@ -41,7 +41,7 @@ impl WideAt {
 }
 
 /// Why a path has no best policy.
-#[derive(Debug, Drop)]
+#[derive(Drop)]
 pub enum PathError {
     /// A term is past width.
     TooWide(WideAt),

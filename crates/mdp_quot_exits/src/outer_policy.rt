@@ -13,7 +13,7 @@ use mdp_wide::{Part, SolveError};
 use std::alloc::{AllocError, Global};
 
 /// What is best at each node: 0 where it stops, `1 + i` where it takes its exit `i`; and the gain that it comes to.
-#[derive(Debug, Drop)]
+#[derive(Drop)]
 pub struct Outer {
     pub policy: Vec<u32>,
     pub values: Vec<Frac>,

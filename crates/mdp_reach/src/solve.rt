@@ -18,7 +18,7 @@ use mdp_wide::{Kind, Part, SolveError, TooWide};
 use std::alloc::Global;
 
 /// What a query of reachability ends with: a certificate, and the round of its policy. Rounds count from 0; one above 2^64 - 1 is given as 2^64 - 1.
-#[derive(Debug, Drop)]
+#[derive(Drop)]
 pub struct ReachEnd {
     pub cert: ReachCert,
     pub round: u64,

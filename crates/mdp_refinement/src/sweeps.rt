@@ -91,7 +91,7 @@ fn is_promising(most: f64, last: f64, enough: f64, windows: usize) -> bool {
 }
 
 /// Whether to go on with sweeps.
-#[derive(Clone, Copy, PartialEq, Eq)]
+#[derive(Clone, Copy)]
 pub(crate) enum Outlook {
     /// The last one changed little enough.
     Settled,

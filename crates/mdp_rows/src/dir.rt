@@ -4,7 +4,7 @@ ghost use Rattle.mdp_rows.specs.Better.{is_better};
 use std::cmp::Ordering;
 
 /// Whether the greatest or the least probability over all policies is meant.
-#[derive(Clone, Copy, Debug, PartialEq, Eq)]
+#[derive(Clone, Copy, PartialEq, Eq)]
 pub enum Dir {
     Max,
     Min,

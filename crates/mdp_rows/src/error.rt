@@ -1,5 +1,5 @@
 /// Why a builder refuses. States and choices are numbered from 0; a choice is numbered within its state.
-#[derive(Clone, Copy, Debug, PartialEq, Eq)]
+#[derive(Clone, Copy)]
 pub enum RowsError {
     /// The row's values don't add to 1, or under `Scaled` differ from 1 by more than 1/1000.
     RowSum { state: u32, choice: u32 },

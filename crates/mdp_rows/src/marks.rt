@@ -4,7 +4,7 @@ use mdp_num::Memory;
 use std::alloc::Global;
 
 /// One truth value per state.
-#[derive(Drop, Debug)]
+#[derive(Drop)]
 pub struct Marks {
     items: Vec<bool>,
 }

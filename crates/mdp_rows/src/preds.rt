@@ -8,7 +8,7 @@ use mdp_num::Memory;
 use std::alloc::{AllocError, Global};
 
 /// A choice of a state: both are numbered from 0.
-#[derive(Clone, Copy, Debug, PartialEq, Eq)]
+#[derive(Clone, Copy)]
 pub struct Pred {
     pub state: u32,
     pub choice: u32,

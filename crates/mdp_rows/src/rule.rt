@@ -1,5 +1,5 @@
 /// How the values of a row are taken.
-#[derive(Clone, Copy, Debug, PartialEq, Eq)]
+#[derive(Clone, Copy)]
 pub enum RowRule {
     /// They add to 1.
     Exact,

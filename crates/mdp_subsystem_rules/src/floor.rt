@@ -27,7 +27,7 @@ use mdp_rows::{Marks, Model, Row, ValuesOf};
 
 /// Values and ranks that are said to show that each policy of a subsystem reaches a goal with a probability of at least a threshold: the states that
 /// are kept, strictly ascending, and for each whether it was kept since a number was too wide to try without it, its value and its rank.
-#[derive(Debug, Drop)]
+#[derive(Drop)]
 pub struct FloorCert {
     pub kept: Vec<u32>,
     pub wide: Vec<bool>,

@@ -18,7 +18,7 @@ use mdp_rows::{Marks, Model};
 use std::alloc::Global;
 
 /// How much of a flow takes a choice of a state.
-#[derive(Clone, Copy, Debug)]
+#[derive(Clone, Copy)]
 pub struct Flow {
     pub state: u32,
     pub choice: u32,
@@ -27,7 +27,7 @@ pub struct Flow {
 
 /// A flow that is said to show that a subsystem reaches a goal with a probability of at least a threshold: the states that are kept, strictly
 /// ascending, for each whether it was kept since a number was too wide to try without it, and the flows, strictly ascending by state and choice.
-#[derive(Debug, Drop)]
+#[derive(Drop)]
 pub struct FlowCert {
     pub kept: Vec<u32>,
     pub wide: Vec<bool>,

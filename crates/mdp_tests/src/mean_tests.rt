@@ -51,7 +51,9 @@ fn solved_within(alloc: Global, text: &str, dir: Dir) -> Result<String, Fail> {
     let ends = end_components(alloc, &model)?;
     let mut found = String::new(alloc);
     if model.names() > 0 && ends.count() > 0 {
-        let inner = solve_inner(alloc, &model, &ends, 0, 0, dir)?;
+        let inner = solve_inner(alloc, &model, &ends, 0, 0, dir)
+            .ok()
+            .ok_or("refused")?;
         push_inner(&inner, &mut found)?;
     }
     Ok(found)
@@ -65,7 +67,9 @@ fn solved_alone(alloc: Global, text: &str) -> Result<String, Fail> {
     let mut found = String::new(alloc);
     if model.names() > 0 {
         for i in 0..ends.count() {
-            let inner = solve_alone(alloc, &model, &ends, &members, i, 0, Dir::Max)?;
+            let inner = solve_alone(alloc, &model, &ends, &members, i, 0, Dir::Max)
+                .ok()
+                .ok_or("refused")?;
             push_numbers("states", &inner.states, &mut found)?;
             found.push_str(" ")?;
             push_inner(&inner, &mut found)?;

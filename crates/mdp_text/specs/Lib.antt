@@ -1,5 +1,6 @@
 pub mod Lines
 pub mod Words
 pub mod Heads
+pub mod Kinds
 pub mod Spelling
 pub mod Answer

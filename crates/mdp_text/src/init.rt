@@ -1,7 +1,7 @@
 use mdp_num::Frac;
 
 /// What the line `init` says.
-#[derive(Clone, Copy, Debug)]
+#[derive(Clone, Copy)]
 pub enum Init {
     /// The model has no initial state, or more than one.
     Missing,

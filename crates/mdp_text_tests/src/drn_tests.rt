@@ -31,7 +31,7 @@ fn writes_what_it_reads(rt: HostRuntime) -> Result<(), Fail> {
 fn reads_in_pieces(rt: HostRuntime) -> Result<(), Fail> {
     let mut feed = Feed::new(rt.alloc(), RowRule::Exact)?;
     for piece in CHAIN.as_bytes().chunks(7) {
-        assert_eq!(rt; feed.push(piece), Ok(()));
+        assert!(rt; feed.push(piece).is_ok());
     }
     let model = feed.finish()?;
     assert_eq!(rt; (model.states(), model.label(b"goal")), (2, Some(1)));
@@ -40,16 +40,36 @@ fn reads_in_pieces(rt: HostRuntime) -> Result<(), Fail> {
 
 #[test]
 fn stays_refused(rt: HostRuntime) -> Result<(), Fail> {
-    let refusal = DrnError::At {
-        line: 14,
-        kind: Choices,
-    };
     let mut feed = Feed::new(rt.alloc(), RowRule::Exact)?;
-    assert_eq!(rt; feed.push(CHAIN.as_bytes()), Ok(()));
-    assert_eq!(rt; feed.push(b"action"), Ok(()));
-    assert_eq!(rt; feed.push(b"\n"), Err(refusal));
-    assert_eq!(rt; feed.push(b"1 : 1\n"), Err(refusal));
-    assert_eq!(rt; feed.finish().err(), Some(refusal));
+    assert!(rt; feed.push(CHAIN.as_bytes()).is_ok());
+    assert!(rt; feed.push(b"action").is_ok());
+    assert!(rt;
+        matches!(
+            feed.push(b"\n"),
+            Err(DrnError::At {
+                line: 14,
+                kind: Choices
+            })
+        )
+    );
+    assert!(rt;
+        matches!(
+            feed.push(b"1 : 1\n"),
+            Err(DrnError::At {
+                line: 14,
+                kind: Choices
+            })
+        )
+    );
+    assert!(rt;
+        matches!(
+            feed.finish(),
+            Err(DrnError::At {
+                line: 14,
+                kind: Choices
+            })
+        )
+    );
     Ok(())
 }
 
@@ -68,11 +88,13 @@ fn states_from(alloc: Global, fails: &[u64], limit: u32) -> Result<u32, FromErro
 
 #[test]
 fn reads_from_a_source(rt: HostRuntime) -> Result<(), Fail> {
-    assert_eq!(rt; states_from(rt.alloc(), &[], 127), Ok(2));
-    assert_eq!(rt; states_from(rt.alloc(), &[], 126), Err(FromError::Long));
-    assert_eq!(rt;
-        states_from(rt.alloc(), &[5], 127),
-        Err(FromError::ReadFault)
+    assert!(rt; matches!(states_from(rt.alloc(), &[], 127), Ok(2)));
+    assert!(rt; matches!(states_from(rt.alloc(), &[], 126), Err(FromError::Long)));
+    assert!(rt;
+        matches!(
+            states_from(rt.alloc(), &[5], 127),
+            Err(FromError::ReadFault)
+        )
     );
     Ok(())
 }

@@ -1,5 +1,5 @@
 //! A call that fails for another reason than an interruption is not made again.
-use mdp_edge::{Failed, Sink, Source, StdSink, StdSource};
+use mdp_edge::{Sink, Source, StdSink, StdSource};
 use std::io;
 use std::io::{ErrorKind, Read, Write};
 
@@ -43,9 +43,9 @@ fn failures(rt: HostRuntime) {
     let has_failed = false;
     let mut buf = [0; 4];
     let mut source = StdSource::new(Some(FailsOnce { has_failed }));
-    assert_eq!(rt; source.read(&mut buf), Err(Failed));
+    assert!(rt; source.read(&mut buf).is_err());
     let mut sink = StdSink::new(FailsOnce { has_failed });
-    assert_eq!(rt; sink.write(b"ab"), Err(Failed));
+    assert!(rt; sink.write(b"ab").is_err());
     let mut sink = StdSink::new(FailsOnce { has_failed });
     assert!(rt; sink.flush().is_err());
 }

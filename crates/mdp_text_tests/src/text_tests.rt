@@ -29,35 +29,50 @@ fn kinds_have_numbers_and_texts(rt: HostRuntime) -> Result<(), Fail> {
 
 #[test]
 fn lines_are_cut(rt: HostRuntime) -> Result<(), Fail> {
-    let end = Refusal { kind: End, line: 2 };
-    let (first, rest) = next_line(1, b"one\ntwo")?;
+    let (first, rest) = next_line(1, b"one\ntwo").map_err(CertError::from)?;
     assert_eq!(rt; first, b"one".as_slice());
     assert_eq!(rt; rest, b"two".as_slice());
-    assert_eq!(rt; next_line(2, rest).err(), Some(end));
-    assert_eq!(rt; nothing_behind(2, rest).err(), Some(end));
-    assert_eq!(rt; is_line(Shape, b"two", 2, rest).err(), None);
-    assert_eq!(rt; refuse_if(End, 2, true).err(), Some(end));
+    assert!(rt; matches!(next_line(2, rest), Err(Refusal { kind: End, line: 2 })));
+    assert!(rt; matches!(nothing_behind(2, rest), Err(Refusal { kind: End, line: 2 })));
+    assert!(rt; is_line(Shape, b"two", 2, rest).is_ok());
+    assert!(rt; matches!(refuse_if(End, 2, true), Err(Refusal { kind: End, line: 2 })));
     Ok(())
 }
 
 #[test]
 fn words_are_read(rt: HostRuntime) -> Result<(), Fail> {
-    let shape = Refusal {
-        kind: Shape,
-        line: 6,
-    };
-    let number = Refusal {
-        kind: Number,
-        line: 6,
-    };
-    let behind = words_behind(6, b"keep 7 1/3", b"keep", 2)?;
+    let behind = words_behind(6, b"keep 7 1/3", b"keep", 2).map_err(CertError::from)?;
     let (state, behind) = cut_word(behind);
-    assert_eq!(rt; whole_at(6, state)?, 7);
-    let third = frac_at(6, only_word(behind))?;
+    assert_eq!(rt; whole_at(6, state).ok(), Some(7));
+    let third = frac_at(6, only_word(behind)).map_err(CertError::from)?;
     assert_eq!(rt; (third.num(), third.den()), (1, 3));
-    assert_eq!(rt; words_behind(6, b"keep 7", b"keep", 2).err(), Some(shape));
-    assert_eq!(rt; whole_at(6, b"-1").err(), Some(number));
-    assert_eq!(rt; frac_at(6, b"2/6").err(), Some(number));
+    assert!(rt;
+        matches!(
+            words_behind(6, b"keep 7", b"keep", 2),
+            Err(Refusal {
+                kind: Shape,
+                line: 6
+            })
+        )
+    );
+    assert!(rt;
+        matches!(
+            whole_at(6, b"-1"),
+            Err(Refusal {
+                kind: Number,
+                line: 6
+            })
+        )
+    );
+    assert!(rt;
+        matches!(
+            frac_at(6, b"2/6"),
+            Err(Refusal {
+                kind: Number,
+                line: 6
+            })
+        )
+    );
     assert!(rt; whole_of(b"4294967296").is_none());
     assert!(rt; matches!(reward_of(b"inf"), Some(None)));
     assert!(rt; begins_with(b"run 0 1", b"run") && !begins_with(b"runs 0", b"run"));
@@ -68,20 +83,41 @@ fn words_are_read(rt: HostRuntime) -> Result<(), Fail> {
 
 #[test]
 fn heads_are_read_and_written(rt: HostRuntime) -> Result<(), Fail> {
-    let count = Refusal {
-        kind: Count,
-        line: 3,
-    };
-    assert_eq!(rt; states_at(3, b"states 1048576")?, 1_048_576);
-    assert_eq!(rt; states_at(3, b"states 0").err(), Some(count));
-    assert_eq!(rt; valued_at(true, 2, 3, b"init 2 0").err(), Some(count));
+    assert_eq!(rt; states_at(3, b"states 1048576").ok(), Some(1_048_576));
+    assert!(rt;
+        matches!(
+            states_at(3, b"states 0"),
+            Err(Refusal {
+                kind: Count,
+                line: 3
+            })
+        )
+    );
+    assert!(rt;
+        matches!(
+            valued_at(true, 2, 3, b"init 2 0"),
+            Err(Refusal {
+                kind: Count,
+                line: 3
+            })
+        )
+    );
     let mut text = Vec::new(rt.alloc());
     push_number(&mut text, 2)?;
-    push_init(&mut text, &valued_at(false, 2, 4, b"init -")?)?;
-    push_init(&mut text, &valued_at(false, 2, 4, b"init 1 1/3")?)?;
+    push_init(
+        &mut text,
+        &valued_at(false, 2, 4, b"init -").map_err(CertError::from)?,
+    )?;
+    push_init(
+        &mut text,
+        &valued_at(false, 2, 4, b"init 1 1/3").map_err(CertError::from)?,
+    )?;
     push_init(&mut text, &init_of(1, None))?;
-    push_init(&mut text, &start_at(2, 4, b"init 0")?)?;
-    let half = frac_at(5, b"1/2")?;
+    push_init(
+        &mut text,
+        &start_at(2, 4, b"init 0").map_err(CertError::from)?,
+    )?;
+    let half = frac_at(5, b"1/2").map_err(CertError::from)?;
     push_values(&mut text, &[half, half])?;
     push_whole(&mut text, 9)?;
     push_word(&mut text, 8)?;

@@ -2,7 +2,7 @@ use mdp_num::Memory;
 use std::alloc::AllocError;
 
 /// The part of a computation whose policies are evaluated.
-#[derive(Clone, Copy, Debug, PartialEq, Eq)]
+#[derive(Clone, Copy)]
 pub enum Part {
     /// All states of the model.
     Whole,
@@ -21,7 +21,7 @@ pub enum Part {
 }
 
 /// What was computed.
-#[derive(Clone, Copy, Debug, PartialEq, Eq)]
+#[derive(Clone, Copy)]
 pub enum Kind {
     /// The values of a policy.
     Evaluate,
@@ -33,7 +33,7 @@ pub enum Kind {
 
 /// Where a term is past width: the part, the round from 0, that round's policy, with one choice per state, what was computed, and the state and
 /// choice where there is one.
-#[derive(Debug, Drop)]
+#[derive(Drop)]
 pub struct TooWide {
     pub part: Part,
     pub round: u64,
@@ -44,7 +44,7 @@ pub struct TooWide {
 }
 
 /// Why a query isn't solved.
-#[derive(Debug, Drop)]
+#[derive(Drop)]
 pub enum SolveError {
     /// A term is past width.
     TooWide(TooWide),

@@ -4,7 +4,7 @@ use mdp_wide::{SolveError, TooWide};
 use std::alloc::AllocError;
 
 /// A subsystem that reaches the threshold, with what shows it.
-#[derive(Debug, Drop)]
+#[derive(Drop)]
 pub enum Subsystem {
     /// Some policy reaches it.
     Max(FlowCert),
@@ -13,7 +13,7 @@ pub enum Subsystem {
 }
 
 /// Why there is no subsystem.
-#[derive(Debug, Drop)]
+#[derive(Drop)]
 pub enum WitnessError {
     /// The best probability, which is less than the threshold.
     Below(Frac),

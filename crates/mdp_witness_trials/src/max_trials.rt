@@ -16,7 +16,7 @@ use std::alloc::Global;
 
 /// What the trials for the greatest probability leave: the states that stay, those of them that are marked as wide, and the evaluation of the
 /// set that is left.
-#[derive(Debug, Drop)]
+#[derive(Drop)]
 pub struct MaxLeft {
     /// Whether each state stays, one mark per state.
     pub kept: Marks,

@@ -31,7 +31,7 @@ pub struct Subsystems<'m, 'g> {
 
 /// What the trials for the least probability leave: the states that stay, those of them that are marked as wide, and the answer to the query of
 /// the subsystem that is left.
-#[derive(Debug, Drop)]
+#[derive(Drop)]
 pub struct MinLeft {
     /// Whether each state stays, one mark per state.
     pub kept: Marks,

@@ -7,7 +7,7 @@ use mdp_rows::Marks;
 use std::cmp::Ordering;
 
 /// What a trial says of its state.
-#[derive(Clone, Copy, Debug, PartialEq, Eq)]
+#[derive(Clone, Copy)]
 pub enum Trial {
     /// Without the state the value is still at least the threshold.
     Goes,

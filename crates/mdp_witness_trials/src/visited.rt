@@ -35,7 +35,7 @@ pub struct Policy<'m, 'g, 'p, 'r> {
 }
 
 /// What the evaluation of a set gives: how often each state is visited, and the probability to come to a goal through states of the set.
-#[derive(Debug, Drop)]
+#[derive(Drop)]
 pub struct Visited {
     /// How often each state is visited, one number per state; 0 outside the set.
     pub visits: Vec<Frac>,

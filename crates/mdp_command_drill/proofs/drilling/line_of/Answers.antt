@@ -35,4 +35,5 @@ returns-clause-fits c =
     let name : c.in_ok-label.label.items ≡ codes "goal" = search rules in
     let cert : plain c.certificate_of-cert.result ≡ certificate_of Max (codes "goal") m a = c.certificate_of-cert.ensures.certificate ∙ ap (λ (t : List ℕ). certificate_of Max t m a) name in
     let fits : Fits (certificate_of Max (codes "goal") m a) = subst Fits cert c.certificate_of-cert.ensures.fits in
-    ok-weaker (λ (t : Vec ℕ). t.items ≡ drill_text c.args.number c.args.layers c.args.width _ _ _) (λ (t : Vec ℕ). Fits (certificate_of Max (codes "goal") m a)) c.drill_line.result (λ t e. fits) c.drill_line.ensures
+    ok-weaker (λ (t : Vec ℕ). t.items ≡ drill_text c.args.number c.args.layers c.args.width _ _ _) (λ (t : Vec ℕ). Fits (certificate_of Max (codes "goal") m a))
+    c.drill_line.result (λ t e. fits) c.drill_line.ensures
