@@ -91,8 +91,13 @@ struct Search<'a> {
 }
 
 impl Search<'_> {
-    /// The values of the nodes for one bound.
-    fn solve(self, alloc: Global, bound: Bound) -> Result<Solution, AllocError> {
+    /// The values of the nodes for one bound, by what was found for the other.
+    fn solve(
+        self,
+        alloc: Global,
+        bound: Bound,
+        other: Option<&Solution>,
+    ) -> Result<Solution, AllocError> {
         let one = self.rows.one();
         let given = given_values(alloc, &self.decided.kinds, self.nodes, one)?;
         let anyway = match bound {
@@ -105,7 +110,7 @@ impl Search<'_> {
             anyway: Some(anyway),
             to_end: true,
         };
-        solve(alloc, self.rows, &given, task)
+        solve(alloc, self.rows, &given, task, other)
     }
 
     /// The values of the states.
@@ -179,8 +184,8 @@ impl Search<'_> {
 
     /// Both bounds, a policy and ranks.
     fn run(self, alloc: Global) -> Result<NearReach, Memory> {
-        let low = self.solve(alloc, Bound::Lower)?;
-        let high = self.solve(alloc, Bound::Upper)?;
+        let low = self.solve(alloc, Bound::Lower, None)?;
+        let high = self.solve(alloc, Bound::Upper, Some(&low))?;
         let choices = match self.dir {
             Dir::Max => self.policy(alloc, &low.picks)?,
             Dir::Min => self.policy(alloc, &high.picks)?,

@@ -78,13 +78,14 @@ impl Search<'_, '_> {
         Ok(rows)
     }
 
-    /// Solves for a bound, with values of so many digits.
+    /// Solves for a bound, with values of so many digits, by what was found for the other, if its values have as many.
     fn attempt(
         self,
         alloc: Global,
         bound: Bound,
         digits: u32,
         to_end: bool,
+        other: Option<&Attempt>,
     ) -> Result<Attempt, AllocError> {
         let rows = self.rows(alloc, digits)?;
         let mut given = vec![in alloc; Value::none(); self.nodes.count() as usize]?;
@@ -95,15 +96,25 @@ impl Search<'_, '_> {
             anyway: None,
             to_end,
         };
-        let solution = solve(alloc, &rows, &given, task)?;
+        let other = match other {
+            Some(found) if found.rows.one() == rows.one() => Some(&found.solution),
+            _ => None,
+        };
+        let solution = solve(alloc, &rows, &given, task, other)?;
         Ok(Attempt { rows, solution })
     }
 
-    /// Solves for a bound with all digits, or with fewer, the most for which each component can be refined, or else as far as it goes.
-    fn solve(self, alloc: Global, bound: Bound) -> Result<Attempt, AllocError> {
+    /// Solves for a bound with all digits, or with fewer, the most for which each component can be refined, or else as far as it goes; by what was found
+    /// for the other.
+    fn solve(
+        self,
+        alloc: Global,
+        bound: Bound,
+        other: Option<&Attempt>,
+    ) -> Result<Attempt, AllocError> {
         let mut digits = self.digits;
         for _ in 0..MOST_DIGITS {
-            let attempt = self.attempt(alloc, bound, digits, false)?;
+            let attempt = self.attempt(alloc, bound, digits, false, other)?;
             if attempt.solution.is_full {
                 return Ok(attempt);
             }
@@ -112,7 +123,7 @@ impl Search<'_, '_> {
             }
             digits = digits.saturating_sub(FEWER_DIGITS);
         }
-        self.attempt(alloc, bound, self.digits, true)
+        self.attempt(alloc, bound, self.digits, true, other)
     }
 }
 
@@ -177,8 +188,8 @@ pub fn near_discount(
         room: digits_of(extent_of(model, name, factor).unwrap_or(i128::MAX)),
         nodes: &nodes,
     };
-    let low = search.solve(alloc, Bound::Lower)?;
-    let high = search.solve(alloc, Bound::Upper)?;
+    let low = search.solve(alloc, Bound::Lower, None)?;
+    let high = search.solve(alloc, Bound::Upper, Some(&low))?;
     let choices = match dir {
         Dir::Max => low.choices(alloc)?,
         Dir::Min => high.choices(alloc)?,

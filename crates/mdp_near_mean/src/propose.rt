@@ -177,7 +177,7 @@ impl Search<'_, '_> {
     /// The gains of the nodes: to stop in an end component with its gain, or to leave it.
     fn gains(self, alloc: Global, rows: &Rows, bound: Bound) -> Result<Solution, AllocError> {
         let given = vec![in alloc; Value::none(); self.nodes.count() as usize]?;
-        solve(alloc, rows, &given, task(bound))
+        solve(alloc, rows, &given, task(bound), None)
     }
 
     /// The value of each state's node, 0 where it isn't known.
@@ -215,7 +215,7 @@ impl Search<'_, '_> {
         if !self.offset(alloc, &mut rows, gains)? {
             return Ok(given);
         }
-        Ok(solve(alloc, &rows, &given, task(Bound::Upper))?.values)
+        Ok(solve(alloc, &rows, &given, task(Bound::Upper), None)?.values)
     }
 
     /// The bound: the bias of each state and the offset of its node.
@@ -323,7 +323,7 @@ impl Search<'_, '_> {
         let mut rows = self.chain(alloc, low)?;
         let mut values = self.given_biases(alloc, &low.is_stopping)?;
         if earn_over(&mut rows, &low.gains) {
-            values = solve(alloc, &rows, &values, task(Bound::Lower))?.values;
+            values = solve(alloc, &rows, &values, task(Bound::Lower), None)?.values;
         }
         let mut biases = Vec::with_capacity(alloc, values.len())?;
         for value in &values {

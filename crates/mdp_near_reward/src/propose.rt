@@ -58,6 +58,14 @@ impl Attempt {
         }
     }
 
+    /// What it came to, if by the shared nodes and rows.
+    fn shared(&self) -> Option<&Solution> {
+        match self.own {
+            Some(_) => None,
+            None => Some(&self.solution),
+        }
+    }
+
     /// Its nodes and rows, or the shared ones.
     fn laid<'a>(&'a self, shared: &'a Laid) -> &'a Laid {
         match &self.own {
@@ -178,13 +186,14 @@ impl Search<'_, '_> {
         self.laid(alloc, parts, Scale { digits, room: 0 })
     }
 
-    /// Solves for a bound.
+    /// Solves for a bound, by what was found for the other.
     fn solved(
         self,
         alloc: Global,
         laid: &Laid,
         bound: Bound,
         to_end: bool,
+        other: Option<&Solution>,
     ) -> Result<Solution, AllocError> {
         let task = Task {
             is_max: self.dir == Dir::Max,
@@ -195,7 +204,8 @@ impl Search<'_, '_> {
             },
             to_end,
         };
-        solve(alloc, &laid.rows, &self.given(alloc, &laid.nodes)?, task)
+        let given = self.given(alloc, &laid.nodes)?;
+        solve(alloc, &laid.rows, &given, task, other)
     }
 
     /// Solves for a bound, if each component can be refined with values of this scale.
@@ -207,7 +217,7 @@ impl Search<'_, '_> {
         scale: Scale,
     ) -> Result<Option<Own>, AllocError> {
         let laid = self.laid(alloc, parts, scale)?;
-        let solution = self.solved(alloc, &laid, bound, false)?;
+        let solution = self.solved(alloc, &laid, bound, false, None)?;
         if solution.is_full {
             Ok(Some(Own { laid, solution }))
         } else {
@@ -240,16 +250,17 @@ impl Search<'_, '_> {
     }
 
     /// Solves for a bound: with all digits and the least room for which each component can be refined, or with fewer, or else as far as it goes. `first`
-    /// has the rows without room.
+    /// has the rows without room, by which the other bound may have been found.
     fn solve(
         self,
         alloc: Global,
         parts: &[Option<u32>],
         first: &Laid,
         bound: Bound,
+        other: Option<&Solution>,
     ) -> Result<Attempt, AllocError> {
         let digits = self.digits;
-        let solution = self.solved(alloc, first, bound, false)?;
+        let solution = self.solved(alloc, first, bound, false, other)?;
         if solution.is_full {
             return Ok(Attempt {
                 own: None,
@@ -267,7 +278,7 @@ impl Search<'_, '_> {
         }
         Ok(Attempt {
             own: None,
-            solution: self.solved(alloc, first, bound, true)?,
+            solution: self.solved(alloc, first, bound, true, other)?,
         })
     }
 
@@ -320,8 +331,8 @@ impl Search<'_, '_> {
     fn greatest(self, alloc: Global) -> Result<NearReward, AllocError> {
         let parts = no_parts(alloc, self.earning.model)?;
         let first = self.first(alloc, &parts)?;
-        let low = self.solve(alloc, &parts, &first, Bound::Lower)?;
-        let high = self.solve(alloc, &parts, &first, Bound::Upper)?;
+        let low = self.solve(alloc, &parts, &first, Bound::Lower, None)?;
+        let high = self.solve(alloc, &parts, &first, Bound::Upper, low.shared())?;
         self.greatest_of(alloc, &first, &low, &high)
     }
 
@@ -352,7 +363,7 @@ impl Search<'_, '_> {
         parts: &[Option<u32>],
         first: &Laid,
     ) -> Result<(Vec<Option<Frac>>, bool), AllocError> {
-        let attempt = self.solve(alloc, parts, first, Bound::Lower)?;
+        let attempt = self.solve(alloc, parts, first, Bound::Lower, None)?;
         let lower = self.spread(alloc, &attempt, first)?;
         Ok((lower, attempt.solution.is_full))
     }
@@ -393,11 +404,11 @@ impl Search<'_, '_> {
     fn least_lower(
         self,
         alloc: Global,
-        parts: &[Option<u32>],
         first: &Laid,
+        low: &Attempt,
     ) -> Result<Vec<Option<Frac>>, AllocError> {
-        let (lower, is_full) = self.lower_in(alloc, parts, first)?;
-        if is_full {
+        let lower = self.spread(alloc, low, first)?;
+        if low.solution.is_full {
             return Ok(lower);
         }
         self.raised_twice(alloc, &lower)
@@ -467,8 +478,9 @@ impl Search<'_, '_> {
     fn least(self, alloc: Global) -> Result<NearReward, AllocError> {
         let parts = self.parts(alloc, self.free(alloc)?)?;
         let first = self.first(alloc, &parts)?;
-        let lower = self.least_lower(alloc, &parts, &first)?;
-        let high = self.solve(alloc, &parts, &first, Bound::Upper)?;
+        let low = self.solve(alloc, &parts, &first, Bound::Lower, None)?;
+        let lower = self.least_lower(alloc, &first, &low)?;
+        let high = self.solve(alloc, &parts, &first, Bound::Upper, low.shared())?;
         self.with_upper(alloc, lower, &first, &high)
     }
 

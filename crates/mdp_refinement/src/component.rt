@@ -308,6 +308,17 @@ impl Component {
         (from, to.unwrap_or(0))
     }
 
+    /// Which of the rows of the node at a place stands at this place of all rows.
+    pub(crate) fn row_of(&self, place: usize, pick: usize) -> Option<usize> {
+        let (from, to) = self.range_of(place);
+        for at in from..to {
+            if self.rows.get(at)?.place() == pick {
+                return Some(at);
+            }
+        }
+        None
+    }
+
     /// The entries of a row, ordered by place.
     pub(crate) fn entries_of(&self, row: &FloatRow) -> &[(u32, f64)] {
         self.entries.get(row.range()).unwrap_or(&[])

@@ -6,8 +6,9 @@ use crate::component::{Component, FloatRow};
 use crate::convert::{nearest, to_float};
 use crate::correct::Corrector;
 use crate::intervals::greatest_unit;
+use crate::lists::put;
 use crate::rows::{Gap, Rows};
-use crate::value::Value;
+use crate::value::{Value, value_at};
 use std::alloc::{AllocError, Global};
 
 /// How many corrections are made at most.
@@ -59,12 +60,11 @@ struct Setting<'a> {
 }
 
 impl Setting<'_> {
-    /// Sets the values of the component to 0.
-    fn clear(self, values: &mut [Value]) {
+    /// Sets the values of the component to these where they are known, and else to 0.
+    fn begin(self, first: &[Value], values: &mut [Value]) {
         for node in &self.component.nodes {
-            if let Some(value) = values.get_mut(*node as usize) {
-                *value = Value::known(0);
-            }
+            let value = value_at(first, *node).unwrap_or(0);
+            put(values, *node, Value::known(value));
         }
     }
 
@@ -221,12 +221,14 @@ impl Setting<'_> {
     }
 }
 
-/// Values of a component that meet the bound on the rows, and the policy for it. None where the search finds none; the values are changed then too.
+/// Values of a component that meet the bound on the rows, and the policy for it; the search begins with the first values. None where it finds none; the
+/// values are changed then too.
 pub(crate) fn refine(
     alloc: Global,
     rows: &Rows,
     component: &Component,
     task: Task,
+    first: &[Value],
     mut corrector: Corrector<'_>,
     values: &mut [Value],
 ) -> Result<Option<Vec<usize>>, AllocError> {
@@ -236,7 +238,7 @@ pub(crate) fn refine(
         task,
     };
     let mut gains = vec![in alloc; 0.0; component.rows.len()]?;
-    setting.clear(values);
+    setting.begin(first, values);
     let is_held = match setting.rounds(alloc, &mut corrector, &mut gains, values)? {
         End::Held => true,
         End::Failed => false,

@@ -5,7 +5,7 @@ use crate::component::Component;
 use crate::correct::Corrector;
 use crate::graph::Graph;
 use crate::intervals::{best_rounded, sweep_exact};
-use crate::leaving::exit_policy;
+use crate::leaving::{exit_policy, proper};
 use crate::lists::{Groups, number, put};
 use crate::outside::Outside;
 use crate::refine::refine;
@@ -36,12 +36,30 @@ impl Solution {
     }
 }
 
-/// The search for one bound.
+/// The rows of a component's nodes that were picked; none where one of them has none.
+fn picked(
+    alloc: Global,
+    component: &Component,
+    picks: &[Option<usize>],
+) -> Result<Option<Vec<usize>>, AllocError> {
+    let mut policy = Vec::new(alloc);
+    for (place, node) in component.nodes.iter().enumerate() {
+        let pick = picks.get(*node as usize).copied().unwrap_or(None);
+        match pick.and_then(|pick| component.row_of(place, pick)) {
+            Some(row) => policy.push(row)?,
+            None => return Ok(None),
+        }
+    }
+    Ok(Some(policy))
+}
+
+/// The search for one bound, which may begin with what that for the other came to.
 #[derive(Drop)]
 struct Solver<'a> {
     rows: &'a Rows,
     components: &'a Components,
     task: Task,
+    other: Option<&'a Solution>,
     solution: Solution,
 }
 
@@ -129,8 +147,12 @@ impl Solver<'_> {
         }
         let task = self.task;
         let corrector = Corrector::new(alloc, component, leading, task.sense(), start)?;
+        let first = match self.other {
+            Some(other) => other.values.as_slice(),
+            None => &[],
+        };
         let values = &mut self.solution.values;
-        match refine(alloc, self.rows, component, task, corrector, values)? {
+        match refine(alloc, self.rows, component, task, first, corrector, values)? {
             Some(policy) => self.pick(component, &policy),
             None if task.to_end => {
                 self.solve_by_intervals(component, outside.start(task.bound), start);
@@ -140,13 +162,31 @@ impl Solver<'_> {
         Ok(())
     }
 
+    /// The policy to begin with: that of the other bound, changed to this one where it doesn't leave the component, or else this one.
+    fn start(
+        &self,
+        alloc: Global,
+        component: &Component,
+        leading: &Groups,
+        exit: Vec<usize>,
+    ) -> Result<Vec<usize>, AllocError> {
+        let Some(other) = self.other else {
+            return Ok(exit);
+        };
+        match picked(alloc, component, &other.picks)? {
+            Some(policy) => proper(alloc, component, leading, &policy, &exit),
+            None => Ok(exit),
+        }
+    }
+
     /// A component with several nodes.
     fn solve_many(&mut self, alloc: Global, number: usize) -> Result<(), AllocError> {
         let values = &self.solution.values;
         let component = Component::new(alloc, self.rows, self.components, number, values)?;
         let leading = component.leading(alloc)?;
         match (exit_policy(alloc, &component, &leading)?, component.outside) {
-            (Some(start), Some(outside)) => {
+            (Some(exit), Some(outside)) => {
+                let start = self.start(alloc, &component, &leading, exit)?;
                 self.solve_leaving(alloc, &component, outside, &leading, &start)
             }
             _ => {
@@ -222,12 +262,14 @@ fn graph_of(alloc: Global, rows: &Rows, nodes: u32) -> Result<Graph, AllocError>
 }
 
 /// Finds values that are to meet the bound on the rows, for the nodes that are not given theirs. A row that leads to a value which isn't known is left out
-/// where the bound is asked of a policy's rows, and leaves its own node without one where it is asked of each row.
+/// where the bound is asked of a policy's rows, and leaves its own node without one where it is asked of each row. The search begins with the values and
+/// the policy of the other bound, where what that came to on the same rows is handed in.
 pub fn solve(
     alloc: Global,
     rows: &Rows,
     given: &[Value],
     task: Task,
+    other: Option<&Solution>,
 ) -> Result<Solution, AllocError> {
     let open = open_nodes(alloc, rows, given, task)?;
     let graph = graph_of(alloc, rows, number(given.len()))?;
@@ -237,6 +279,7 @@ pub fn solve(
         rows,
         components: &components,
         task,
+        other,
         solution,
     };
     for component in 0..components.count() {
