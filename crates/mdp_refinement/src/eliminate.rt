@@ -2,6 +2,7 @@
 //! Taksar and Heyman 1985), so that it keeps its digits however slowly the chain leaves. The nodes go in the order of least fill (Markowitz 1957).
 
 use crate::component::Component;
+use crate::dense::Matrix;
 use crate::lists::{add_at, flag_at, float_at, number, put};
 use std::alloc::{AllocError, Global};
 use std::cmp::Reverse;
@@ -18,16 +19,23 @@ const MOST_PRODUCTS: usize = 4_000_000_000;
 /// Where each of the nodes that are left takes so many products, all take about this part of the product of both numbers.
 const PART_OF_ALL: usize = 3;
 
+/// Where a node takes at least one in so many of the products that it would take if each had an entry to all others, the nodes that are left go by rows that
+/// list all probabilities.
+const PART_OF_DENSE: usize = 8;
+
+/// So many products of such rows take about as long as one of rows that list their entries.
+const DENSE_PRODUCTS: usize = 8;
+
 /// Entries of a row or a column, each with a place.
 pub(crate) type Entries = Vec<(u32, f64)>;
 
 /// A node that was eliminated: what it gave to the nodes that were left, and what share of it each of those took.
 #[derive(Drop)]
-struct Step {
-    node: u32,
-    pivot: f64,
-    row: Entries,
-    column: Entries,
+pub(crate) struct Step {
+    pub(crate) node: u32,
+    pub(crate) pivot: f64,
+    pub(crate) row: Entries,
+    pub(crate) column: Entries,
 }
 
 /// What an elimination comes to.
@@ -112,7 +120,8 @@ impl Factors {
     }
 }
 
-/// The rows that are left.
+/// The rows that are left. Each node that is left waits in the queue with the number of products in `queued`, and may stand there with greater ones, which
+/// count no more.
 #[derive(Drop)]
 struct System {
     rows: Vec<Entries>,
@@ -120,71 +129,69 @@ struct System {
     counts: Vec<usize>,
     exits: Vec<f64>,
     is_gone: Vec<bool>,
-    heap: BinaryHeap<Reverse<(usize, u32)>>,
+    queue: BinaryHeap<Reverse<(usize, u32)>>,
+    queued: Vec<usize>,
     merged: Entries,
-    added: Vec<u32>,
+    missing: Entries,
 }
 
-/// The probability that a row, ordered by target, gives to a target.
-fn entry_of(row: &[(u32, f64)], target: u32) -> f64 {
+/// Takes the entry to a target out of a row, which is ordered by target. Its probability.
+fn take_entry(row: &mut Entries, target: u32) -> f64 {
     match row.binary_search_by_key(&target, |entry| entry.0) {
-        Ok(place) => row.get(place).copied().unwrap_or((0, 0.0)).1,
+        Ok(place) => row.remove(place).1,
         Err(_) => 0.0,
     }
 }
 
-/// Appends the entries of a row from a place on, as long as they lead to nodes below a limit, but for the one to `gone`. The place behind them.
-fn copy_below(
-    own: &[(u32, f64)],
-    from: usize,
-    limit: u32,
-    gone: u32,
-    merged: &mut Entries,
-) -> Result<usize, AllocError> {
-    let mut next = from;
+/// The first place from one on at which an entry leads to a target or to a later node.
+fn place_of(own: &[(u32, f64)], from: usize, target: u32) -> usize {
+    let mut place = from;
     for entry in own.get(from..).unwrap_or(&[]) {
-        if entry.0 >= limit {
+        if entry.0 >= target {
             break;
         }
-        if entry.0 != gone {
-            merged.push(*entry)?;
-        }
-        next = next.saturating_add(1);
+        place = place.saturating_add(1);
     }
-    Ok(next)
+    place
 }
 
-/// Puts the row `own` of node `own_node` into `merged`, with `share` times `row` in the place of its entry to `gone`. Targets that are new to it are
-/// put into `added`. What would lead to the node itself is left out.
-fn merge(
-    own: &[(u32, f64)],
+/// Adds `share` times `row` to the entries of the row `own` of node `own_node`. The entries to targets that are new to it are put into `missing`; what would
+/// lead to the node itself is left out.
+fn add_row(
+    own: &mut [(u32, f64)],
     own_node: u32,
     row: &[(u32, f64)],
-    gone: u32,
     share: f64,
-    merged: &mut Entries,
-    added: &mut Vec<u32>,
+    missing: &mut Entries,
 ) -> Result<(), AllocError> {
-    merged.clear();
-    added.clear();
+    missing.clear();
     let mut next = 0usize;
     for (target, prob) in row {
-        next = copy_below(own, next, *target, gone, merged)?;
-        if *target == own_node {
-            continue;
+        next = place_of(own, next, *target);
+        match own.get_mut(next) {
+            Some(entry) if entry.0 == *target => entry.1 += share * *prob,
+            _ if *target != own_node => missing.push((*target, share * *prob))?,
+            _ => {}
         }
-        let mut sum = share * *prob;
-        let has_entry = own.get(next).is_some_and(|first| first.0 == *target);
-        if has_entry {
-            sum += own.get(next).map_or(0.0, |first| first.1);
-            next = next.saturating_add(1);
-        } else {
-            added.push(*target)?;
-        }
-        merged.push((*target, sum))?;
     }
-    copy_below(own, next, u32::MAX, gone, merged)?;
     Ok(())
+}
+
+/// Puts the entries of two rows without a common target into one, ordered by target.
+fn merge(
+    own: &[(u32, f64)],
+    missing: &[(u32, f64)],
+    merged: &mut Entries,
+) -> Result<(), AllocError> {
+    merged.clear();
+    let mut next = 0usize;
+    for entry in missing {
+        let end = place_of(own, next, entry.0);
+        merged.extend_from_slice(own.get(next..end).unwrap_or(&[]))?;
+        merged.push(*entry)?;
+        next = end;
+    }
+    merged.extend_from_slice(own.get(next..).unwrap_or(&[]))
 }
 
 /// The entries of a policy's row at each node.
@@ -256,12 +263,13 @@ impl System {
             counts,
             exits,
             is_gone: vec![in alloc; false; nodes]?,
-            heap: BinaryHeap::new(alloc),
+            queue: BinaryHeap::new(alloc),
+            queued: vec![in alloc; usize::MAX; nodes]?,
             merged: Vec::new(alloc),
-            added: Vec::new(alloc),
+            missing: Vec::new(alloc),
         };
         for node in 0..number(nodes) {
-            system.push(node)?;
+            system.push_fewer(node)?;
         }
         Ok(system)
     }
@@ -273,16 +281,30 @@ impl System {
         entries.saturating_mul(preds)
     }
 
-    /// Puts a node into the queue, by its products.
-    fn push(&mut self, node: u32) -> Result<(), AllocError> {
+    /// The products with which a node waits in the queue.
+    fn queued(&self, node: u32) -> usize {
+        self.queued.get(node as usize).copied().unwrap_or(0)
+    }
+
+    /// Has a node wait with so many products.
+    fn push(&mut self, node: u32, key: usize) -> Result<(), AllocError> {
+        put(&mut self.queued, node, key);
+        self.queue.push(Reverse((key, node)))?;
+        Ok(())
+    }
+
+    /// Has a node wait with the products that it takes now, if these are fewer.
+    fn push_fewer(&mut self, node: u32) -> Result<(), AllocError> {
         let key = self.key(node);
-        self.heap.push(Reverse((key, node)))?;
+        if key < self.queued(node) {
+            self.push(node, key)?;
+        }
         Ok(())
     }
 
     /// Notes that a node has a row to one more.
     fn note_added(&mut self, pred: u32) -> Result<(), AllocError> {
-        for target in &self.added {
+        for (target, _) in &self.missing {
             if let Some(list) = self.preds.get_mut(*target as usize) {
                 list.push(pred)?;
             }
@@ -304,17 +326,12 @@ impl System {
         let Some(own) = self.rows.get_mut(pred as usize) else {
             return Ok(0.0);
         };
-        let share = entry_of(own.as_slice(), gone) / pivot;
-        merge(
-            own.as_slice(),
-            pred,
-            row,
-            gone,
-            share,
-            &mut self.merged,
-            &mut self.added,
-        )?;
-        mem::swap(own, &mut self.merged);
+        let share = take_entry(own, gone) / pivot;
+        add_row(own, pred, row, share, &mut self.missing)?;
+        if !self.missing.is_empty() {
+            merge(own.as_slice(), self.missing.as_slice(), &mut self.merged)?;
+            mem::swap(own, &mut self.merged);
+        }
         let exit = float_at(&self.exits, gone);
         add_at(&mut self.exits, pred, share * exit);
         self.note_added(pred)?;
@@ -375,7 +392,7 @@ impl System {
         self.uncount(&row);
         let column = self.fold_all(node, &row, &preds, pivot)?;
         for (pred, _) in &column {
-            self.push(*pred)?;
+            self.push_fewer(*pred)?;
         }
         Ok(Some(Step {
             node,
@@ -388,17 +405,17 @@ impl System {
     /// The node to go next, and its products; none where all have gone. Nodes whose products have become more wait longer.
     fn next(&mut self) -> Result<Option<(u32, usize)>, AllocError> {
         for _ in 0..usize::MAX {
-            let Some(Reverse((key, node))) = self.heap.pop() else {
+            let Some(Reverse((key, node))) = self.queue.pop() else {
                 break;
             };
-            if flag_at(&self.is_gone, node) {
+            if flag_at(&self.is_gone, node) || key != self.queued(node) {
                 continue;
             }
             let now = self.key(node);
             if now <= key {
                 return Ok(Some((node, now)));
             }
-            self.heap.push(Reverse((now, node)))?;
+            self.push(node, now)?;
         }
         Ok(None)
     }
@@ -416,6 +433,39 @@ enum End {
 }
 
 impl System {
+    /// The nodes that are left.
+    fn left(&self, alloc: Global) -> Result<Vec<u32>, AllocError> {
+        let mut left = Vec::new(alloc);
+        for node in 0..number(self.rows.len()) {
+            if !flag_at(&self.is_gone, node) {
+                left.push(node)?;
+            }
+        }
+        Ok(left)
+    }
+
+    /// Eliminates the nodes that are left, of which there are so many, most of them with an entry to most others, after so many products.
+    fn eliminate_rest(
+        &mut self,
+        left: usize,
+        products: usize,
+        most: usize,
+        steps: &mut Vec<Step>,
+    ) -> Result<End, AllocError> {
+        let alloc = *self.rows.allocator();
+        let all = left.saturating_mul(left).saturating_mul(left) / PART_OF_ALL;
+        let products = products.saturating_add(all / DENSE_PRODUCTS);
+        if products > most {
+            return Ok(End::Dense);
+        }
+        let mut matrix = Matrix::new(alloc, self.left(alloc)?, &self.rows, &self.exits)?;
+        if matrix.eliminate_all(alloc, steps)? {
+            Ok(End::Done(products))
+        } else {
+            Ok(End::Improper)
+        }
+    }
+
     /// Eliminates all nodes, of which there are so many, and appends the steps. It ends once it is seen that this takes more than so many products.
     fn eliminate_all(
         &mut self,
@@ -429,6 +479,9 @@ impl System {
                 break;
             };
             let left = nodes.saturating_sub(gone);
+            if more.saturating_mul(PART_OF_DENSE) >= left.saturating_mul(left) {
+                return self.eliminate_rest(left, products, most, steps);
+            }
             if products.saturating_add(more.saturating_mul(left) / PART_OF_ALL) > most {
                 return Ok(End::Dense);
             }

@@ -10,6 +10,7 @@ mod coarse;
 mod component;
 mod convert;
 mod correct;
+mod dense;
 mod discounted;
 mod eliminate;
 mod equations;

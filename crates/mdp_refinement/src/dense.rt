@@ -1,0 +1,147 @@
+//! Elimination of the last nodes of a component, where most have an entry to most others: a row is the list of all probabilities, so that a product takes a
+//! fraction of the time that one of two lists of entries takes.
+
+use crate::eliminate::{Entries, Step};
+use crate::lists::{add_at, float_at, number, number_at, put};
+use std::alloc::{AllocError, Global};
+use std::mem;
+
+/// The nodes that are left; for each the probabilities that it gives to them, in their order, and what it gives to nodes outside.
+#[derive(Drop)]
+pub(crate) struct Matrix {
+    nodes: Vec<u32>,
+    rows: Vec<Vec<f64>>,
+    exits: Vec<f64>,
+}
+
+/// The probabilities of entries, each at the place of its node, of so many places.
+fn listed(
+    alloc: Global,
+    entries: &[(u32, f64)],
+    places: &[u32],
+    count: usize,
+) -> Result<Vec<f64>, AllocError> {
+    let mut row = vec![in alloc; 0.0; count]?;
+    for (node, prob) in entries {
+        put(&mut row, number_at(places, *node), *prob);
+    }
+    Ok(row)
+}
+
+/// Adds to each sum so many times the number at its place.
+fn add_times(sums: &mut [f64], times: f64, numbers: &[f64]) {
+    for (sum, number) in sums.iter_mut().zip(numbers) {
+        *sum += times * *number;
+    }
+}
+
+/// The sum of numbers.
+fn sum_of(numbers: &[f64]) -> f64 {
+    let mut sum = 0.0;
+    for number in numbers {
+        sum += *number;
+    }
+    sum
+}
+
+impl Matrix {
+    /// These nodes, of all those with rows and exits; no row has an entry to another node.
+    pub(crate) fn new(
+        alloc: Global,
+        nodes: Vec<u32>,
+        rows: &[Entries],
+        exits: &[f64],
+    ) -> Result<Matrix, AllocError> {
+        let mut places = vec![in alloc; u32::MAX; rows.len()]?;
+        for (place, node) in nodes.iter().enumerate() {
+            put(&mut places, *node, number(place));
+        }
+        let mut matrix = Matrix {
+            nodes: Vec::new(alloc),
+            rows: Vec::new(alloc),
+            exits: Vec::new(alloc),
+        };
+        for node in &nodes {
+            let entries = match rows.get(*node as usize) {
+                Some(entries) => entries.as_slice(),
+                None => &[],
+            };
+            matrix
+                .rows
+                .push(listed(alloc, entries, &places, nodes.len())?)?;
+            matrix.exits.push(float_at(exits, *node))?;
+        }
+        matrix.nodes = nodes;
+        Ok(matrix)
+    }
+
+    /// The entries of probabilities to the nodes from a place on, but for those of 0.
+    fn entries(&self, alloc: Global, from: usize, probs: &[f64]) -> Result<Entries, AllocError> {
+        let mut entries = Vec::new(alloc);
+        let nodes = self.nodes.get(from..).unwrap_or(&[]);
+        for (node, prob) in nodes.iter().zip(probs) {
+            if *prob > 0.0 {
+                entries.push((*node, *prob))?;
+            }
+        }
+        Ok(entries)
+    }
+
+    /// Puts the row of the node at a place, what it gives to those behind it, into the row at another place. The share that this takes.
+    fn fold_into(&mut self, other: usize, place: usize, given: &[f64], pivot: f64) -> f64 {
+        let Some(row) = self.rows.get_mut(other) else {
+            return 0.0;
+        };
+        let share = row.get(place).copied().unwrap_or(0.0) / pivot;
+        if share > 0.0 {
+            if let Some(sums) = row.as_mut_slice().get_mut(place.saturating_add(1)..) {
+                add_times(sums, share, given);
+            }
+            let exit = float_at(&self.exits, number(place));
+            add_at(&mut self.exits, number(other), share * exit);
+        }
+        share
+    }
+
+    /// Eliminates the node at a place, before which all have gone; none where it doesn't leave.
+    fn eliminate(&mut self, alloc: Global, place: usize) -> Result<Option<Step>, AllocError> {
+        let Some(row) = self.rows.get_mut(place) else {
+            return Ok(None);
+        };
+        let row = mem::replace(row, Vec::new(alloc));
+        let behind = place.saturating_add(1);
+        let given = row.get(behind..).unwrap_or(&[]);
+        let pivot = float_at(&self.exits, number(place)) + sum_of(given);
+        if !(pivot > 0.0) {
+            return Ok(None);
+        }
+        let mut column = Vec::new(alloc);
+        for other in behind..self.rows.len() {
+            let share = self.fold_into(other, place, given, pivot);
+            if share > 0.0 {
+                column.push((number_at(&self.nodes, number(other)), share))?;
+            }
+        }
+        Ok(Some(Step {
+            node: number_at(&self.nodes, number(place)),
+            pivot,
+            row: self.entries(alloc, behind, given)?,
+            column,
+        }))
+    }
+
+    /// Eliminates all nodes and appends the steps. Whether each leaves.
+    pub(crate) fn eliminate_all(
+        &mut self,
+        alloc: Global,
+        steps: &mut Vec<Step>,
+    ) -> Result<bool, AllocError> {
+        for place in 0..self.rows.len() {
+            match self.eliminate(alloc, place)? {
+                Some(step) => steps.push(step)?,
+                None => return Ok(false),
+            }
+        }
+        Ok(true)
+    }
+}
