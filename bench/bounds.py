@@ -12,6 +12,7 @@
     random_7 STATES   the same with denominators of 7 digits, and rewards of three digits
     square SIDE       a walk on a square of SIDE by SIDE states: a fair step to one of the neighbours, or one with drawn weights: the greatest and the least
                       mean cost of a step, and the least expected cost until the last state
+    cube SIDE         the same in a cube
     halves STATES     two halves of three choices a state, each to four states of its half, that are left with 10^-6: the same queries,
                       and the least expected cost until the last state
 
@@ -59,6 +60,7 @@ QUERIES = {
     "random_7": ["max mean cost", "min mean cost"],
     "halves": ["max mean cost", "min mean cost", "min reward cost goal"],
     "square": ["max mean cost", "min mean cost", "min reward cost goal"],
+    "cube": ["max mean cost", "min mean cost", "min reward cost goal"],
 }
 
 
@@ -122,15 +124,16 @@ def slow_halves(states):
             yield from (f"{target} : 0.{part:06}" for target, part in sorted(row.items()))
 
 
-def square(side):
-    """The text of a walk on a square: random numbers from the length of its side."""
+def walk(side, dimensions):
+    """The text of a walk on a square, or in a cube: random numbers from the length of its side."""
     draw = random.Random(side)
-    yield "\n".join(["@type: MDP", "@parameters", "", "@reward_models", "cost", "@nr_states", str(side * side), "@model"])
-    for s in range(side * side):
-        x, y = divmod(s, side)
-        beside = [min(x + 1, side - 1) * side + y, max(x - 1, 0) * side + y, x * side + min(y + 1, side - 1), x * side + max(y - 1, 0)]
-        yield f"state {s}" + " init" * (s == 0) + " goal" * (s == side * side - 1)
-        for weights in ([1] * 4, [draw.randrange(1, 10) for _ in range(4)]):
+    states = side**dimensions
+    yield "\n".join(["@type: MDP", "@parameters", "", "@reward_models", "cost", "@nr_states", str(states), "@model"])
+    for s in range(states):
+        steps = [(side**place, s // side**place % side) for place in reversed(range(dimensions))]
+        beside = [other for step, at in steps for other in (s + step * (at < side - 1), s - step * (at > 0))]
+        yield f"state {s}" + " init" * (s == 0) + " goal" * (s == states - 1)
+        for weights in ([1] * len(beside), [draw.randrange(1, 10) for _ in beside]):
             row = {target: sum(weight for weight, other in zip(weights, beside) if other == target) for target in sorted(beside)}
             yield f"action [{draw.randrange(1000)}]"
             yield from (f"{target} : {part}/{sum(weights)}" for target, part in row.items())
@@ -141,8 +144,8 @@ def text_of(kind, size):
         return ("\n".join(layers(int(size))) + "\n").encode()
     if kind == "halves":
         return ("\n".join(slow_halves(int(size))) + "\n").encode()
-    if kind == "square":
-        return ("\n".join(square(int(size))) + "\n").encode()
+    if kind in ("square", "cube"):
+        return ("\n".join(walk(int(size), {"square": 2, "cube": 3}[kind])) + "\n").encode()
     if kind in ("random", "random_7"):
         return ("\n".join(drawn(int(size), 100 if kind == "random" else 10**7)) + "\n").encode()
     script, words = {"coin": ("shared_coin.py", ["2", size]), "roulette": ("roulette.py", [str(int(size) // 2), size])}[kind]
@@ -219,6 +222,8 @@ def measure(kind, size, query, path, folder):
 
 def main():
     words = sys.argv[1:] or MODELS.split()
+    if len(words) % 2 or any(kind not in QUERIES for kind in words[::2]):
+        sys.exit(__doc__)
     # builds the program where it isn't built; what is measured is the program itself
     subprocess.run([TOP / "bin" / "mdp"], stdout=subprocess.DEVNULL, stderr=subprocess.DEVNULL, check=False)
     with tempfile.TemporaryDirectory() as name:

@@ -176,7 +176,9 @@ const PAST: &str =
 /// Fed byte by byte, a text is refused by the push that ends the line of the refusal, and from then on.
 #[test]
 fn refuses_byte_by_byte(rt: HostRuntime) -> Result<(), Fail> {
-    let mut feed = Feed::new(rt.alloc(), RowRule::Exact)?;
+    let Ok(mut feed) = Feed::new(rt.alloc(), RowRule::Exact) else {
+        return Err(Fail::from("memory"));
+    };
     for piece in PAST.as_bytes().chunks(1).take(58) {
         assert!(rt; feed.push(piece).is_ok());
     }

@@ -42,7 +42,9 @@ fn push_may(
     requires goals { length goals.now ≡ states_of model.now }
     requires blocked { length blocked.now ≡ states_of model.now }
 {
-    let pass = may_reach(alloc, model, goals, blocked)?;
+    let Ok(pass) = may_reach(alloc, model, goals, blocked) else {
+        return Err(Fail::from("memory"));
+    };
     push_pass("may", &pass, model.states(), out)?;
     Ok(())
 }
@@ -51,7 +53,9 @@ fn push_may(
 fn push_must(alloc: Global, model: &Model, goals: &Marks, out: &mut String) -> Result<(), Fail>
     requires { length goals.now ≡ states_of model.now }
 {
-    let pass = must_meet(alloc, model, goals)?;
+    let Ok(pass) = must_meet(alloc, model, goals) else {
+        return Err(Fail::from("memory"));
+    };
     push_pass(", must", &pass, model.states(), out)?;
     Ok(())
 }
@@ -60,7 +64,9 @@ fn push_must(alloc: Global, model: &Model, goals: &Marks, out: &mut String) -> R
 fn push_avoid(alloc: Global, model: &Model, goals: &Marks, out: &mut String) -> Result<(), Fail>
     requires { length goals.now ≡ states_of model.now }
 {
-    let pass = may_avoid(alloc, model, goals)?;
+    let Ok(pass) = may_avoid(alloc, model, goals) else {
+        return Err(Fail::from("memory"));
+    };
     push_pass(", avoid", &pass, model.states(), out)?;
     Ok(())
 }
@@ -69,7 +75,9 @@ fn push_avoid(alloc: Global, model: &Model, goals: &Marks, out: &mut String) -> 
 fn push_some(alloc: Global, model: &Model, goals: &Marks, out: &mut String) -> Result<(), Fail>
     requires { length goals.now ≡ states_of model.now }
 {
-    let pass = sure_some(alloc, model, goals)?;
+    let Ok(pass) = sure_some(alloc, model, goals) else {
+        return Err(Fail::from("memory"));
+    };
     push_pass(", some", &pass, model.states(), out)?;
     Ok(())
 }
@@ -78,7 +86,9 @@ fn push_some(alloc: Global, model: &Model, goals: &Marks, out: &mut String) -> R
 fn push_all(alloc: Global, model: &Model, goals: &Marks, out: &mut String) -> Result<(), Fail>
     requires { length goals.now ≡ states_of model.now }
 {
-    let pass = sure_all(alloc, model, goals)?;
+    let Ok(pass) = sure_all(alloc, model, goals) else {
+        return Err(Fail::from("memory"));
+    };
     push_pass(", all", &pass, model.states(), out)?;
     Ok(())
 }
@@ -87,8 +97,11 @@ fn push_all(alloc: Global, model: &Model, goals: &Marks, out: &mut String) -> Re
 fn push_rounds(alloc: Global, model: &Model, goals: &Marks, out: &mut String) -> Result<(), Fail>
     requires { length goals.now ≡ states_of model.now }
 {
+    let Ok(rounds) = rounds_outside(alloc, model, goals) else {
+        return Err(Fail::from("memory"));
+    };
     out.push_str(", rounds")?;
-    for round in &rounds_outside(alloc, model, goals)? {
+    for round in &rounds {
         write!(out, " {round}")?;
     }
     Ok(())
@@ -97,8 +110,12 @@ fn push_rounds(alloc: Global, model: &Model, goals: &Marks, out: &mut String) ->
 /// What each pass finds on a model.
 fn found_in(alloc: Global, text: &str) -> Result<String, Fail> {
     let model = model_of(alloc, text)?;
-    let goals = marked(alloc, &model, "goal")?;
-    let blocked = marked(alloc, &model, "blocked")?;
+    let Ok(goals) = marked(alloc, &model, "goal") else {
+        return Err(Fail::from("memory"));
+    };
+    let Ok(blocked) = marked(alloc, &model, "blocked") else {
+        return Err(Fail::from("memory"));
+    };
     let mut found = String::new(alloc);
     push_may(alloc, &model, &goals, &blocked, &mut found)?;
     push_must(alloc, &model, &goals, &mut found)?;
@@ -175,7 +192,9 @@ fn push_leading(preds: &Preds, t: u32, out: &mut String) -> Result<(), AllocErro
 #[test]
 fn lists_predecessors(rt: HostRuntime) -> Result<(), Fail> {
     let model = model_of(rt.alloc(), FORK)?;
-    let preds = predecessors(rt.alloc(), &model)?;
+    let Ok(preds) = predecessors(rt.alloc(), &model) else {
+        return Err(Fail::from("memory"));
+    };
     let mut found = String::new(rt.alloc());
     for t in 0..model.states() {
         push_leading(&preds, t, &mut found)?;

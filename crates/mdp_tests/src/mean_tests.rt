@@ -48,7 +48,9 @@ fn push_inner(inner: &Inner, out: &mut String) -> Result<(), AllocError> {
 /// The best gain of the first end component, under the first reward name.
 fn solved_within(alloc: Global, text: &str, dir: Dir) -> Result<String, Fail> {
     let model = model_of(alloc, text)?;
-    let ends = end_components(alloc, &model)?;
+    let Ok(ends) = end_components(alloc, &model) else {
+        return Err(Fail::from("memory"));
+    };
     let mut found = String::new(alloc);
     if model.names() > 0 && ends.count() > 0 {
         let inner = solve_inner(alloc, &model, &ends, 0, 0, dir)
@@ -62,7 +64,9 @@ fn solved_within(alloc: Global, text: &str, dir: Dir) -> Result<String, Fail> {
 /// The greatest gain of each end component, under the first reward name.
 fn solved_alone(alloc: Global, text: &str) -> Result<String, Fail> {
     let model = model_of(alloc, text)?;
-    let ends = end_components(alloc, &model)?;
+    let Ok(ends) = end_components(alloc, &model) else {
+        return Err(Fail::from("memory"));
+    };
     let members = members_of(alloc, &model, &ends)?;
     let mut found = String::new(alloc);
     if model.names() > 0 {

@@ -12,9 +12,14 @@ use std::test::Fail;
 
 /// The number of each state's strong component.
 fn push_components(alloc: Global, model: &Model, out: &mut String) -> Result<(), Fail> {
-    let all = Allowed::all(alloc, model)?;
+    let Ok(all) = Allowed::all(alloc, model) else {
+        return Err(Fail::from("memory"));
+    };
+    let Ok(numbers) = components(alloc, model, &all) else {
+        return Err(Fail::from("memory"));
+    };
     out.push_str("components")?;
-    for number in &components(alloc, model, &all)? {
+    for number in &numbers {
         write!(out, " {number}")?;
     }
     Ok(())
@@ -62,13 +67,17 @@ fn found_in(alloc: Global, text: &str) -> Result<String, Fail> {
     let model = model_of(alloc, text)?;
     let mut found = String::new(alloc);
     push_components(alloc, &model, &mut found)?;
-    let ends = end_components(alloc, &model)?;
+    let Ok(ends) = end_components(alloc, &model) else {
+        return Err(Fail::from("memory"));
+    };
     write!(found, ", {} ends", ends.count())?;
     for s in 0..model.states() {
         push_end(&model, &ends, s, &mut found)?;
     }
     let arena = Bump::new(alloc);
-    let quotient = Quotient::build(alloc, &arena, &model, &ends)?;
+    let Ok(quotient) = Quotient::build(alloc, &arena, &model, &ends) else {
+        return Err(Fail::from("memory"));
+    };
     write!(found, ", {} nodes", quotient.nodes())?;
     for q in 0..quotient.nodes() {
         push_exits(&quotient, q, &mut found)?;

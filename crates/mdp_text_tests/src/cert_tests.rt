@@ -27,10 +27,10 @@ fn reads_and_writes_both_versions(rt: HostRuntime) -> Result<(), Fail> {
         for text in [&new, &old] {
             let cert = read_cert(rt.alloc(), text.as_bytes())?;
             let mut written = Vec::new(rt.alloc());
-            write_cert(&cert, &mut written)?;
+            assert!(rt; write_cert(&cert, &mut written).is_ok());
             assert_eq!(rt; written.as_slice(), new.as_bytes());
             let mut written = Vec::new(rt.alloc());
-            write_old(&cert, &mut written)?;
+            assert!(rt; write_old(&cert, &mut written).is_ok());
             assert_eq!(rt; written.as_slice(), old.as_bytes());
         }
     }

@@ -21,7 +21,7 @@ fn writes_what_it_reads(rt: HostRuntime) -> Result<(), Fail> {
     for text in [CHAIN, WRITTEN] {
         let model = read(rt.alloc(), text.as_bytes(), RowRule::Exact)?;
         let mut written = Vec::new(rt.alloc());
-        write(&model, &mut written)?;
+        assert!(rt; write(&model, &mut written).is_ok());
         assert_eq!(rt; written.as_slice(), WRITTEN.as_bytes());
     }
     Ok(())
@@ -29,7 +29,9 @@ fn writes_what_it_reads(rt: HostRuntime) -> Result<(), Fail> {
 
 #[test]
 fn reads_in_pieces(rt: HostRuntime) -> Result<(), Fail> {
-    let mut feed = Feed::new(rt.alloc(), RowRule::Exact)?;
+    let Ok(mut feed) = Feed::new(rt.alloc(), RowRule::Exact) else {
+        return Err(Fail::from("memory"));
+    };
     for piece in CHAIN.as_bytes().chunks(7) {
         assert!(rt; feed.push(piece).is_ok());
     }
@@ -40,7 +42,9 @@ fn reads_in_pieces(rt: HostRuntime) -> Result<(), Fail> {
 
 #[test]
 fn stays_refused(rt: HostRuntime) -> Result<(), Fail> {
-    let mut feed = Feed::new(rt.alloc(), RowRule::Exact)?;
+    let Ok(mut feed) = Feed::new(rt.alloc(), RowRule::Exact) else {
+        return Err(Fail::from("memory"));
+    };
     assert!(rt; feed.push(CHAIN.as_bytes()).is_ok());
     assert!(rt; feed.push(b"action").is_ok());
     assert!(rt;

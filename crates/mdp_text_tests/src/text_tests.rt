@@ -103,27 +103,21 @@ fn heads_are_read_and_written(rt: HostRuntime) -> Result<(), Fail> {
         )
     );
     let mut text = Vec::new(rt.alloc());
-    push_number(&mut text, 2)?;
-    push_init(
-        &mut text,
-        &valued_at(false, 2, 4, b"init -").map_err(CertError::from)?,
-    )?;
-    push_init(
-        &mut text,
-        &valued_at(false, 2, 4, b"init 1 1/3").map_err(CertError::from)?,
-    )?;
-    push_init(&mut text, &init_of(1, None))?;
-    push_init(
-        &mut text,
-        &start_at(2, 4, b"init 0").map_err(CertError::from)?,
-    )?;
+    let missing = valued_at(false, 2, 4, b"init -").map_err(CertError::from)?;
+    let given = valued_at(false, 2, 4, b"init 1 1/3").map_err(CertError::from)?;
+    let start = start_at(2, 4, b"init 0").map_err(CertError::from)?;
     let half = frac_at(5, b"1/2").map_err(CertError::from)?;
-    push_values(&mut text, &[half, half])?;
-    push_whole(&mut text, 9)?;
-    push_word(&mut text, 8)?;
-    push_fraction(&mut text, &half)?;
-    push_fraction_end(&mut text, &half)?;
-    push_end(&mut text)?;
+    assert!(rt; push_number(&mut text, 2).is_ok());
+    assert!(rt; push_init(&mut text, &missing).is_ok());
+    assert!(rt; push_init(&mut text, &given).is_ok());
+    assert!(rt; push_init(&mut text, &init_of(1, None)).is_ok());
+    assert!(rt; push_init(&mut text, &start).is_ok());
+    assert!(rt; push_values(&mut text, &[half, half]).is_ok());
+    assert!(rt; push_whole(&mut text, 9).is_ok());
+    assert!(rt; push_word(&mut text, 8).is_ok());
+    assert!(rt; push_fraction(&mut text, &half).is_ok());
+    assert!(rt; push_fraction_end(&mut text, &half).is_ok());
+    assert!(rt; push_end(&mut text).is_ok());
     let due =
         b"states 2\ninit -\ninit 1 1/3\ninit 1 inf\ninit 0\nstate 0 1/2\nstate 1 1/2\n9 8 1/2 1/2\nend\n";
     assert_eq!(rt; text.as_slice(), due.as_slice());
