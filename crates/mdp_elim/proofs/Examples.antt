@@ -1,13 +1,18 @@
 -- Computations of the definitions.
-use Rattle.std.proofs.Common.{◌≡◌, ℕ, ◌-◌, ◌^◌, List, [], ◌∷◌, Bool, true, false, Ok, Err, refl, subst, pos}
+use Rattle.std.proofs.Common.{◌≡◌, ℕ, zero, suc, ◌<◌, ◌-◌, ◌^◌, List, [], ◌∷◌, Bool, true, false, Some, Ok, Err, refl, subst, pos, arith}
+use Rattle.std.specs.List.{All}
 use Rattle.mdp_math.specs.Gcd.{gcd, gcd_with_fuel}
 use Rattle.mdp_math.specs.Rational.{ℚ, of_int, ratio, ◌+ℚ◌, ◌*ℚ◌, neg_ℚ, inv_ℚ, ◌-ℚ◌, ◌<ℚ◌}
 use Rattle.mdp_math.specs.Written.{written_add, written_mul, narrow, narrow_ℚ}
 use Rattle.mdp_math.proofs.Order.{<ℚ_irrefl}
 use Rattle.mdp_spec.specs.Mdp.{Entry}
 use Rattle.mdp_elim.specs.Equation.{Equation}
-use Rattle.mdp_elim.specs.Entries.{without}
-use Rattle.mdp_elim.specs.Elimination.{divided_rest, plus_equation, eliminated, evaluated, DividesByPositive}
+use Rattle.mdp_elim.specs.Entries.{Between, without}
+use Rattle.mdp_elim.specs.Elimination.{divided_rest, plus_equation, eliminated, evaluated, solution, DividesByPositive}
+use Rattle.mdp_elim.specs.Predecessors.{at}
+use Rattle.mdp_elim.specs.Kept.{Kept, IsKept, HasValue, DifferAt, solved_at}
+use Rattle.mdp_elim.proofs.Targets.{from_targets}
+use Rattle.mdp_rows.specs.Preds.{is_among}
 use Rattle.mdp_elim.specs.System.{equation_of}
 use Rattle.mdp_elim.specs.Solve.{written_solution}
 use Rattle.mdp_elim.specs.Visits.{transposed, written_visits}
@@ -135,3 +140,94 @@ difference = refl
 stays_refused : DividesByPositive 1 stays → ⊥
 unfolding stays
 stays_refused h = <ℚ_irrefl (of_int (pos 0)) (subst (λ (x : ℚ). of_int (pos 0) <ℚ x) difference (h.0 (of_int (pos 1)) refl))
+
+-- ---- kept equations and values
+
+abbrev half : ℚ
+half = ratio (pos 1) 2
+
+abbrev quarter : ℚ
+quarter = ratio (pos 1) 4
+
+abbrev equal_to : List Entry → ℚ → ℚ → Equation
+equal_to entries first second = record { entries = entries; first = first; second = second }
+
+-- x0 = 1 + x2/2, x1 = 1 + x0/2, x2 = 1 + x0/2, and with the constants 0, 0, 3 in their place
+abbrev before : List Equation
+before = equal_to (to 2 half ∷ []) (of_int (pos 1)) (of_int (pos 0)) ∷ equal_to (to 0 half ∷ []) (of_int (pos 1)) (of_int (pos 0)) ∷ equal_to (to 0 half ∷ []) (of_int (pos 1)) (of_int (pos 3)) ∷ []
+
+-- now x1 = 1 + x1/2 + x2/4
+abbrev after : List Equation
+after =
+    equal_to (to 2 half ∷ []) (of_int (pos 1)) (of_int (pos 0))
+    ∷ equal_to (to 1 half ∷ to 2 quarter ∷ []) (of_int (pos 1)) (of_int (pos 0))
+    ∷ equal_to (to 0 half ∷ []) (of_int (pos 1)) (of_int (pos 3))
+    ∷ []
+
+-- x0 = 2, x1 = 1 + x0/2, x2 = 1 + x0/2
+abbrev kept_before : Kept
+kept_before = record {
+  solved = equal_to [] (of_int (pos 2)) (of_int (pos 2)) ∷ equal_to (to 0 half ∷ []) (of_int (pos 1)) (of_int (pos 0)) ∷ equal_to (to 0 half ∷ []) (of_int (pos 1)) (of_int (pos 3)) ∷ [];
+  first = of_int (pos 2) ∷ of_int (pos 2) ∷ of_int (pos 2) ∷ [];
+  second = of_int (pos 2) ∷ of_int (pos 1) ∷ of_int (pos 4) ∷ [];
+}
+
+-- x1 = 5/2 + x0/4; the others stay
+abbrev kept_after : Kept
+kept_after = record {
+  solved = equal_to [] (of_int (pos 2)) (of_int (pos 2)) ∷ equal_to (to 0 quarter ∷ []) (ratio (pos 5) 2) (ratio (pos 3) 2) ∷ equal_to (to 0 half ∷ []) (of_int (pos 1)) (of_int (pos 3)) ∷ [];
+  first = of_int (pos 2) ∷ of_int (pos 3) ∷ of_int (pos 2) ∷ [];
+  second = of_int (pos 2) ∷ of_int (pos 2) ∷ of_int (pos 4) ∷ [];
+}
+
+-- what holds of the three states
+each_of_three : (P : ℕ → Type 0) → P 0 → P 1 → P 2 → (s : ℕ) → s < 3 → P s
+each_of_three P a b c zero l = a
+each_of_three P a b c (suc zero) l = b
+each_of_three P a b c (suc (suc zero)) l = c
+each_of_three P a b c (suc (suc (suc s))) l = absurd (omega arith)
+
+is_kept_before : IsKept before kept_before
+unfolding divided_rest plus_equation eliminated evaluated written_add written_mul narrow narrow_ℚ ◌+ℚ◌ ◌*ℚ◌ neg_ℚ inv_ℚ ratio of_int gcd gcd_with_fuel
+is_kept_before = record {
+  solved = record {
+    count = refl;
+    each = each_of_three (λ s. solved_at kept_before.solved 3 s (at before s) ≡ Some (at kept_before.solved s)) refl refl refl;
+    down = each_of_three (λ s. Between 0 s (at kept_before.solved s).entries) tt (omega arith, omega arith, tt) (omega arith, omega arith, tt);
+  };
+  first = record { count = refl; each = each_of_three (HasValue Equation.first kept_before.solved kept_before.first) refl refl refl };
+  second = record { count = refl; each = each_of_three (HasValue Equation.second kept_before.solved kept_before.second) refl refl refl };
+}
+
+is_kept_after : IsKept after kept_after
+unfolding divided_rest plus_equation eliminated evaluated written_add written_mul narrow narrow_ℚ ◌+ℚ◌ ◌*ℚ◌ neg_ℚ inv_ℚ ratio of_int gcd gcd_with_fuel
+is_kept_after = record {
+  solved = record {
+    count = refl;
+    each = each_of_three (λ s. solved_at kept_after.solved 3 s (at after s) ≡ Some (at kept_after.solved s)) refl refl refl;
+    down = each_of_three (λ s. Between 0 s (at kept_after.solved s).entries) tt (omega arith, omega arith, tt) (omega arith, omega arith, tt);
+  };
+  first = record { count = refl; each = each_of_three (HasValue Equation.first kept_after.solved kept_after.first) refl refl refl };
+  second = record { count = refl; each = each_of_three (HasValue Equation.second kept_after.solved kept_after.second) refl refl refl };
+}
+
+-- elimination gives the same values
+eliminated_after : solution 3 after ≡ Ok (record { first = kept_after.first; second = kept_after.second })
+unfolding divided_rest plus_equation eliminated evaluated written_add written_mul narrow narrow_ℚ ◌+ℚ◌ ◌*ℚ◌ neg_ℚ inv_ℚ ratio of_int gcd gcd_with_fuel
+eliminated_after = refl
+
+-- they differ at state 1 alone, and no other state leads to it
+differ_at_one : DifferAt (1 ∷ []) before after
+differ_at_one = record {
+  count = refl;
+  same = each_of_three (λ t. is_among t (1 ∷ []) ≡ false → at after t ≡ at before t) (λ h. refl) (λ h. cc) (λ h. refl);
+  closed = each_of_three (λ t. is_among t (1 ∷ []) ≡ false → All (λ x. is_among x.target (1 ∷ []) ≡ false) (at after t).entries)
+      (λ h. from_targets (λ u. is_among u (1 ∷ []) ≡ false) (to 2 half ∷ []) (refl, tt)) (λ h. cc) (λ h. from_targets (λ u. is_among u (1 ∷ []) ≡ false) (to 0 half ∷ []) (refl, tt));
+}
+
+-- they don't differ at state 1 alone where state 0 leads to it
+abbrev leads_to_one : List Equation
+leads_to_one = equal_to (to 1 half ∷ []) (of_int (pos 1)) (of_int (pos 0)) ∷ equal_to (to 0 half ∷ []) (of_int (pos 1)) (of_int (pos 0)) ∷ equal_to [] (of_int (pos 1)) (of_int (pos 3)) ∷ []
+
+not_closed : DifferAt (1 ∷ []) leads_to_one leads_to_one → ⊥
+not_closed h = let k : true ≡ false = h.closed 0 (omega arith) refl 0 (to 0 half) (omega arith) in cc

@@ -144,7 +144,7 @@ module _ (rows : List (List Entry)) (active : List Bool) (size : length active �
   ]
 
   module _ (columns : List (List ℚ)) where
-    at-system : (s : ℕ) → s < length rows → at (system rows active columns) s ≡ equation_of rows active columns s
+    pub at-system : (s : ℕ) → s < length rows → at (system rows active columns) s ≡ equation_of rows active columns s
     at-system s l = get_or-map-range_with_len (equation_of rows active columns) 0 (length rows) s s no_equation l (zero-add s)
 
     pub length-system : length (system rows active columns) ≡ length rows
@@ -272,14 +272,14 @@ module _ (rows : List (List Entry)) (active : List Bool) (ranks : List ℕ) (kno
       pub system-len : length (system rows active columns) ≡ length rows
       system-len = length-system rows active size columns
 
-      system-down : LeadBelow (length rows) (length rows) (system rows active columns)
+      pub system-down : LeadBelow (length rows) (length rows) (system rows active columns)
       system-down = down-system rows active size columns row_between
 
       -- its entries lie below its length
       pub system-leads : LeadBelow (length (system rows active columns)) (length (system rows active columns)) (system rows active columns)
       system-leads = subst (λ n. LeadBelow n n (system rows active columns)) (sym system-len) system-down
 
-      system-pivots : HasPivots (all_below (length rows)) (matrix (system rows active columns))
+      pub system-pivots : HasPivots (all_below (length rows)) (matrix (system rows active columns))
       system-pivots =
           all_pivots (is_active active) (length rows) (λ s. entry_at (λ x. x.target) (λ x. x.prob) (row_of rows s)) (matrix (system rows active columns))
           (λ t v at av. sym (over-unit active v (row_of rows t)) ∙ sym (matrix-active rows active size columns t v at av))

@@ -19,3 +19,11 @@ pub mod Expected
 pub mod OneSolution
 mod Examples
 pub mod GivenRows
+pub mod Reach
+pub mod PutIn
+pub mod OneByOne
+pub mod Dividing
+pub mod Others
+pub mod Solving
+pub mod Evaluating
+pub mod KeptSolution

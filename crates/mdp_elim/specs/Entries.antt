@@ -26,6 +26,14 @@ abbrev pub Between : ℕ → ℕ → List Entry → Type 0
 Between low high [] = Unit {0}
 Between low high (x ∷ row) = (low ≤ x.target) × (x.target < high) × Between (suc x.target) high row
 
+-- one more than the last target, or low where there is no entry
+abbrev pub reach_from : ℕ → List Entry → ℕ
+reach_from low [] = low
+reach_from low (x ∷ row) = reach_from (suc x.target) row
+
+abbrev pub reach : List Entry → ℕ
+reach row = reach_from 0 row
+
 -- the entry at place i leads to v
 abbrev pub LeadsAt : ℕ → List Entry → ℕ → Type 0
 LeadsAt v row i = (i < length row) × HoldsAt (λ x. x.target ≡ v) row i

@@ -7,4 +7,5 @@ pub mod Finish
 pub mod System
 pub mod Solve
 pub mod Visits
+pub mod Kept
 pub mod Laws

@@ -49,7 +49,7 @@ fn constant(columns: &[Vec<Frac>], k: usize, s: u32) -> Frac
 }
 
 /// The equation of a state.
-fn equation_at<R: RowsOf>(
+pub(crate) fn equation_at<R: RowsOf>(
     alloc: Global,
     rows: &R,
     active: &Marks,

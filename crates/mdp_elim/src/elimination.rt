@@ -86,7 +86,7 @@ impl System {
 }
 
 /// Names the state of a step.
-fn placed<T>(step: Result<T, StepError>, state: u32) -> Result<T, ElimError>
+pub(crate) fn placed<T>(step: Result<T, StepError>, state: u32) -> Result<T, ElimError>
     ensures { result ≡ placed state step }
 {
     match step {

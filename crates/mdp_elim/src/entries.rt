@@ -1,9 +1,9 @@
-ghost use Rattle.std.specs.Prelude.{ℕ, ◌≡◌, ◌≢◌, ◌<◌, ◌+◌, length, take, drop, Some, None, OnOk, OnErr, IfOk, IfSome, pos};
+ghost use Rattle.std.specs.Prelude.{ℕ, ◌≡◌, ◌≢◌, ◌<◌, ◌≤◌, ◌+◌, length, take, drop, Some, None, OnOk, OnErr, IfOk, IfSome, pos};
 ghost use Rattle.std.specs.List.{All};
 ghost use Rattle.std.specs.Result.{result_ok};
 ghost use Rattle.mdp_spec.specs.Written.{written_sum};
 ghost use Rattle.mdp_math.specs.Rational.{of_int};
-ghost use Rattle.mdp_elim.specs.Entries.{Between, LeadsAt, StartsNew, place, entry_to, without, each, divided_entry, plus_row};
+ghost use Rattle.mdp_elim.specs.Entries.{Between, LeadsAt, reach, StartsNew, place, entry_to, without, each, divided_entry, plus_row};
 
 use crate::errors::StepError;
 use crate::sums::plus_times;
@@ -72,6 +72,18 @@ fn last_entry(row: &[Term], s: u32) -> Option<Frac>
 {
     match row.split_last() {
         Some((x, _)) if x.target() == s => Some(x.factor()),
+        _ => None,
+    }
+}
+
+/// The greatest target above `low` of a row whose targets ascend.
+#[tactic(auto, using(crate::proofs::Reach::reach_found, crate::proofs::Reach::reach_empty))]
+pub(crate) fn greatest_above(row: &[Term], low: u32) -> Option<u32>
+    ensures some { IfSome result (λ s. (low < s) × (reach row.now ≡ s + 1)) }
+    ensures none { result ≡ None → reach row.now ≤ low + 1 }
+{
+    match row.split_last() {
+        Some((x, _)) if x.target() > low => Some(x.target()),
         _ => None,
     }
 }

@@ -1,6 +1,7 @@
 ghost use Rattle.std.specs.Prelude.{ℕ, ◌≡◌, ◌≢◌, ◌<◌, ◌+◌, ◌++◌, ◌∷◌, [], length, Some, None, OnOk, OnErr, IfOk, pos};
 ghost use Rattle.std.specs.List.{All};
 ghost use Rattle.mdp_math.specs.Rational.{of_int};
+ghost use Rattle.mdp_spec.specs.Written.{written_sum};
 ghost use Rattle.mdp_elim.specs.Entries.{Between, entry_to};
 ghost use Rattle.mdp_elim.specs.Elimination.{divided, divided_rest, plus_equation, substituted, evaluated};
 
@@ -57,6 +58,18 @@ impl Solved<'_> {
         ensures { result.now ≡ self.now.entries }
     {
         self.entries
+    }
+
+    /// The value of the state in both systems, by the values of smaller states.
+    pub(crate) fn sums(&self, first: &[Frac], second: &[Frac]) -> Result<(Frac, Frac), StepError>
+        requires { All (λ x. (x.target < length first.now) × (x.target < length second.now)) self.now.entries }
+        ensures first { IfOk result (λ v. written_sum first.now self.now.first self.now.entries ≡ Some v.0) }
+        ensures second { IfOk result (λ v. written_sum second.now self.now.second self.now.entries ≡ Some v.1) }
+        ensures wide { result ≡ Err StepError.Wide → evaluated self.now (record { first = first.now; second = second.now }) ≡ None }
+    {
+        let x = row_sum(self.entries, &self.first, first)?;
+        let y = row_sum(self.entries, &self.second, second)?;
+        Ok((x, y))
     }
 }
 
@@ -126,6 +139,17 @@ impl Equation {
         })
     }
 
+    /// The same equation, with its entries as a slice of this one.
+    pub(crate) fn lent(&self) -> Solved<'_>
+        ensures { result ≡ self.now }
+    {
+        Solved {
+            entries: &self.entries,
+            first: self.first,
+            second: self.second,
+        }
+    }
+
     /// Adds so many times another equation.
     fn plus(&mut self, alloc: Global, times: &Frac, other: &Solved<'_>) -> Result<(), StepError>
         requires ascend { (high : ℕ) × Between 0 high self.old.entries }
@@ -171,8 +195,7 @@ pub(crate) fn evaluate(
     ensures ok { OnOk result (evaluated equation.now (record { first = first.old.items; second = second.old.items }) ≡ Some (record { first = first.new.items; second = second.new.items })) }
     ensures wide { result ≡ Err StepError.Wide → evaluated equation.now (record { first = first.old.items; second = second.old.items }) ≡ None }
 {
-    let x = row_sum(equation.entries, &equation.first, first)?;
-    let y = row_sum(equation.entries, &equation.second, second)?;
+    let (x, y) = equation.sums(first, second)?;
     first.push(x)?;
     second.push(y)?;
     Ok(())

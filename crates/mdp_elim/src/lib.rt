@@ -6,6 +6,7 @@ mod elimination;
 mod entries;
 mod equation;
 mod errors;
+mod keeping;
 mod laws;
 mod predecessors;
 mod sums;
@@ -13,5 +14,6 @@ mod transposed;
 
 pub use chain::{Chain, solve, solve_leaving};
 pub use errors::ElimError;
+pub use keeping::Kept;
 pub use laws::{solution_law, visits_law};
 pub use transposed::visits;

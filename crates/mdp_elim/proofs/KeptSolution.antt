@@ -1,0 +1,35 @@
+-- What is kept of a system is its solution.
+use Rattle.std.proofs.Common.{◌≡◌, ℕ, List, length, Ok, Some, refl, sym, ◌∙◌, ap, subst, arith, inr}
+use Rattle.mdp_elim.specs.Equation.{Equation}
+use Rattle.mdp_elim.specs.Elimination.{solution}
+use Rattle.mdp_elim.specs.Predecessors.{at}
+use Rattle.mdp_elim.specs.Kept.{Kept, AreSolved, IsKept, HasRoom, DifferAt, CanServe, solved_at, values_by}
+use Rattle.mdp_elim.proofs.OneByOne.{solution-solved}
+use Rattle.mdp_elim.proofs.Evaluating.{values-all}
+
+module _ (equations : List Equation) where
+  -- the values by the solved equations
+  pub solved-solution : (solved : List Equation) (n : ℕ) → length equations ≡ n → AreSolved equations solved → solution n equations ≡ values_by solved (length solved)
+  solved-solution solved n len is =
+      let z : n ≡ length solved = sym len ∙ sym is.count in
+      solution-solved solved equations n len
+      (λ s l. subst (λ m. solved_at solved m s (at equations s) ≡ Some (at solved s)) len (is.each s (omega (arith, l, len))))
+      ∙ ap (values_by solved) z
+
+  pub kept-solution : (k : Kept) → IsKept equations k → solution (length equations) equations ≡ Ok (record { first = k.first; second = k.second })
+  kept-solution k is =
+      solved-solution k.solved (length equations) refl is.solved
+      ∙ values-all k.solved k.first k.second (λ s l. is.solved.down s (let c = is.solved.count in omega (arith, l, c))) is.first.count is.second.count is.first is.second
+
+-- it has room for the system
+pub kept-room : (equations : List Equation) (n : ℕ) (k : Kept) → n ≡ length equations → IsKept equations k → HasRoom n k
+kept-room equations n k e is = record {
+  solved = is.solved.count ∙ sym e;
+  first = is.first.count ∙ is.solved.count ∙ sym e;
+  second = is.second.count ∙ is.solved.count ∙ sym e;
+  down = λ s l. is.solved.down s (omega (arith, l, e));
+}
+
+-- and serves one that differs at some states
+pub kept-serves : (states : List ℕ) (old new : List Equation) (k : Kept) → IsKept old k → DifferAt states old new → CanServe states new k
+kept-serves states old new k is differ = record { room = kept-room old (length new) k differ.count is; others = inr (old, is, differ) }
