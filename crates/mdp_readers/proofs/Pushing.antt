@@ -1,0 +1,47 @@
+-- One more choice in the lists of the nodes whose values it reads.
+use Rattle.std.proofs.Common.{◌≡◌, inl, inr, ℕ, ◌+◌, ◌<◌, Bool, true, false, ◌||◌, ◌&&◌, ◌==◌, List, [], ◌∷◌, ◌++◌, length, get_or, take}
+use Rattle.std.proofs.Common.{refl, sym, ap, ◌∙◌, subst, arith, eq-eqb}
+use Rattle.std.specs.Prelude.{slice_set}
+use Rattle.std.specs.List.{list_any}
+use Rattle.std.proofs.lemmas.Bool.{cases_eq, ne_eqb}
+use Rattle.std.proofs.lemmas.List.{length-set, get_or-set_same, get_or-set_other}
+use Rattle.std.proofs.lemmas.List.Folds.{list_any-append, list_any_more}
+use Rattle.mdp_math.proofs.Booleans.{or-false, and-false, and-true}
+use Rattle.mdp_rows.specs.Preds.{is_among}
+use Rattle.mdp_rows.specs.declared.preds.Pred.{Pred}
+use Rattle.mdp_readers.specs.Readers.{is_choice, reads}
+
+-- this choice now also reads the values of these nodes
+pub record IsPushed (old new : List (List Pred)) (reader : Pred) (nodes : List ℕ) : Type 0 where
+  pub count : length new ≡ length old
+  pub at : (s c t : ℕ) → t < length old → reads new s c t ≡ (reads old s c t || (is_choice s c reader && is_among t nodes))
+
+spread : (a b m e : Bool) → ((a || (b && m)) || (b && e)) ≡ (a || (b && (m || e)))
+spread true b m e = refl
+spread false true m e = refl
+spread false false m e = refl
+
+pushed-at : (now new : List (List Pred)) (reader : Pred) (x : ℕ) → x < length now → new ≡ slice_set now x (get_or now x [] ++ reader ∷ [])
+    → (s c t : ℕ) → reads new s c t ≡ (reads now s c t || (is_choice s c reader && (x == t)))
+pushed-at now new reader x h is s c t = ap (λ (ls : List (List Pred)). reads ls s c t) is ∙ (elim (cases_eq x t) [
+  | inl same ↦ subst (λ k. reads (slice_set now x (get_or now x [] ++ reader ∷ [])) s c k ≡ (reads now s c k || (is_choice s c reader && (x == k)))) same here
+  | inr other ↦
+      ap (λ (ps : List Pred). list_any (is_choice s c) ps) (get_or-set_other now x t (get_or now x [] ++ reader ∷ []) [] (λ e. other (sym e)))
+      ∙ sym (ap (λ b. reads now s c t || (is_choice s c reader && b)) (ne_eqb x t other) ∙ ap (λ b. reads now s c t || b) (and-false (is_choice s c reader)) ∙ or-false (reads now s c t))
+]) where
+  here : reads (slice_set now x (get_or now x [] ++ reader ∷ [])) s c x ≡ (reads now s c x || (is_choice s c reader && (x == x)))
+  here =
+      ap (λ (ps : List Pred). list_any (is_choice s c) ps) (get_or-set_same now x (get_or now x [] ++ reader ∷ []) [] h)
+      ∙ list_any-append (is_choice s c) (get_or now x []) (reader ∷ [])
+      ∙ ap (λ b. reads now s c x || b) (or-false (is_choice s c reader) ∙ sym (ap (λ b. is_choice s c reader && b) (eq-eqb x x refl) ∙ and-true (is_choice s c reader)))
+
+pub one_pushed : (old now new : List (List Pred)) (reader : Pred) (nodes : List ℕ) (i : ℕ) → IsPushed old now reader (take i nodes) → i < length nodes → get_or nodes i 0 < length old
+    → new ≡ slice_set now (get_or nodes i 0) (get_or now (get_or nodes i 0) [] ++ reader ∷ []) → IsPushed old new reader (take (i + 1) nodes)
+one_pushed old now new reader nodes i p h l is = record {
+  count = ap length is ∙ length-set now (get_or nodes i 0) (get_or now (get_or nodes i 0) [] ++ reader ∷ []) ∙ p.count;
+  at = λ s c t k.
+      pushed-at now new reader (get_or nodes i 0) (omega (arith, l, p.count)) is s c t
+      ∙ ap (λ b. b || (is_choice s c reader && (get_or nodes i 0 == t))) (p.at s c t k)
+      ∙ spread (reads old s c t) (is_choice s c reader) (is_among t (take i nodes)) (get_or nodes i 0 == t)
+      ∙ ap (λ b. reads old s c t || (is_choice s c reader && b)) (sym (list_any_more (λ x. x == t) nodes i 0 h));
+}
