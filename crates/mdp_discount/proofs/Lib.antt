@@ -5,4 +5,5 @@ pub mod Products
 pub mod Solving
 pub mod Ending
 pub mod OneEnd
+pub mod Reading
 mod Examples

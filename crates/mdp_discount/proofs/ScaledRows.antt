@@ -60,6 +60,18 @@ discounted-sum n f row x =
     ∙ ap₂ (λ (a b : ℚ). a +ℚ b) (sum-scaled f (λ e. value_at x e.target) row (λ e. refl))
     (ring rat_ring 1 (λ y. y ⊕ lit (pos 0)) (λ y. y) refl ((1ℚ -ℚ f) *ℚ value_at x n))
 
+-- ---- what holds of each scaled entry that has a value, and of what is left
+
+module _ (n : ℕ) (f : ℚ) (P : Entry → Type 0) (last : P (left_over n f)) where
+  each_by : (b : Bool) (e : Entry) (es : List Entry) → has_value (scaled f e) ≡ b → (has_value (scaled f e) ≡ true → P (scaled f e)) → AllByRecursion P (es ++ left_over n f ∷ [])
+      → AllByRecursion P (cond b (scaled f e ∷ es) es ++ left_over n f ∷ [])
+  each_by true e es v h k = (h v, k)
+  each_by false e es v h k = k
+
+  pub discounted-each : (row : List Entry) → AllByRecursion (λ e. has_value (scaled f e) ≡ true → P (scaled f e)) row → AllByRecursion P (scaled_entries f row ++ left_over n f ∷ [])
+  discounted-each [] h = (last, tt)
+  discounted-each (e ∷ row) h = each_by (has_value (scaled f e)) e (scaled_entries f row) refl h.0 (discounted-each row h.1)
+
 -- ---- a distribution
 
 module _ (n : ℕ) (f : ℚ) (factor : IsFactor f) where
@@ -88,16 +100,6 @@ module _ (n : ℕ) (f : ℚ) (factor : IsFactor f) where
       (λ none. absurd (zero-value (scaled f e) v (ap (λ (x : ℚ). x *ℚ e.prob) (sym none) ∙ ring rat_ring 1 (λ p. lit (pos 0) ⊗ p) (λ p. lit (pos 0)) refl e.prob)))
       (lt_or_eq_ℚ 0ℚ f factor.at_least_zero)
 
-  module _ (P : Entry → Type 0) (last : P (left_over n f)) where
-    each_by : (b : Bool) (e : Entry) (es : List Entry) → has_value (scaled f e) ≡ b → (has_value (scaled f e) ≡ true → P (scaled f e)) → AllByRecursion P (es ++ left_over n f ∷ [])
-        → AllByRecursion P (cond b (scaled f e ∷ es) es ++ left_over n f ∷ [])
-    each_by true e es v h k = (h v, k)
-    each_by false e es v h k = k
-
-    each : (row : List Entry) → AllByRecursion (λ e. has_value (scaled f e) ≡ true → P (scaled f e)) row → AllByRecursion P (scaled_entries f row ++ left_over n f ∷ [])
-    each [] h = (last, tt)
-    each (e ∷ row) h = each_by (has_value (scaled f e)) e (scaled_entries f row) refl h.0 (each row h.1)
-
   mono : (P Q : Entry → Type 0) → ((e : Entry) → P e → Q e) → (row : List Entry) → AllByRecursion P row → AllByRecursion Q row
   mono P Q h [] k = tt
   mono P Q h (e ∷ row) k = (h e k.0, mono P Q h row k.1)
@@ -120,13 +122,13 @@ module _ (n : ℕ) (f : ℚ) (factor : IsFactor f) where
           ascending = ascends row 0 0 (omega arith) (omega arith) up.ascending below;
           positive =
               All-from_recursion (λ e. 0ℚ <ℚ e.prob) (discounted_row n f row)
-              (each (λ e. 0ℚ <ℚ e.prob) left-pos row
+              (discounted-each n f (λ e. 0ℚ <ℚ e.prob) left-pos row
               (mono (λ e. 0ℚ <ℚ e.prob) (λ e. has_value (scaled f e) ≡ true → 0ℚ <ℚ f *ℚ e.prob) (λ e p v. value-pos e p v) row (recursion_from_All (λ e. 0ℚ <ℚ e.prob) row up.positive)));
           total = total row up.total;
         };
         in_range =
             All-from_recursion (λ e. e.target < n + 1) (discounted_row n f row)
-            (each (λ e. e.target < n + 1) (omega arith) row (mono (λ e. e.target < n) (λ e. has_value (scaled f e) ≡ true → e.target < n + 1) (λ e p v. omega (arith, p)) row below));
+            (discounted-each n f (λ e. e.target < n + 1) (omega arith) row (mono (λ e. e.target < n) (λ e. has_value (scaled f e) ≡ true → e.target < n + 1) (λ e p v. omega (arith, p)) row below));
       }
 
 -- the last entry leads to the node behind the states

@@ -72,6 +72,10 @@ impl ShortestPath for Discounted<'_, '_, '_> {
         earned(self.model, self.name, &self.factor, s, c, values)
     }
 
+    fn reads(&self, s: u32, c: u32) -> &[u32] {
+        self.model.row(s, c).targets
+    }
+
     fn goes_on(&self, s: u32, _c: u32) -> bool {
         s < self.model.states()
     }

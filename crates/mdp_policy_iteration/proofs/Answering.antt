@@ -1,6 +1,6 @@
 -- Where a computation over numbers is refused, and what the errors of the code say of it.
-use Rattle.std.proofs.Common.{◌≡◌, ℕ, zero, suc, ◌<◌, ◌≤◌, ◌⊎◌, inl, inr, Bool, List, [], ◌∷◌, ◌++◌}
-use Rattle.std.proofs.Common.{length, Option, Some, None, Result, Ok, Err, refl, sym, ◌∙◌, ap, ap₂, subst, arith}
+use Rattle.std.proofs.Common.{◌≡◌, ℕ, zero, suc, ◌<◌, ◌≤◌, ◌⊎◌, inl, inr, List, [], ◌∷◌, ◌++◌}
+use Rattle.std.proofs.Common.{length, Option, Some, None, Result, Ok, Err, refl, sym, ◌∙◌, ap, subst, arith}
 use Rattle.std.specs.Result.{result_ok}
 use Rattle.mdp_math.specs.Rational.{ℚ}
 use Rattle.mdp_math.specs.Result.{◌>>=◌}
@@ -72,18 +72,14 @@ pub Says-then : {A B : Type 0} (e : RoundError) (r : Result A Place) (q : Result
 Says-then (fault.Wide kind s c) r q h k = h (record { kind = kind; node = s; choice = c }) k
 Says-then fault.Memory r q h k = tt
 
--- ---- the constant of a node, from what was computed with the active nodes and the stopping values
+-- ---- the constant of a node, from what was computed
 
-module _ (p : Problem) (policy : List ℕ) (s : ℕ) (active : List Bool) (values : List ℚ) (ea : active ≡ active_of p policy) (ev : values ≡ boundary p policy) (step : Result ℚ Wide)
-    (told : result_ok step ≡ constant_by active values (taken p policy s)) where
-  by_definition : result_ok step ≡ constant_by (active_of p policy) (boundary p policy) (taken p policy s)
-  by_definition = told ∙ ap₂ (λ (a : List Bool) (v : List ℚ). constant_by a v (taken p policy s)) ea ev
-
+module _ (p : Problem) (policy : List ℕ) (s : ℕ) (step : Result ℚ Wide) (told : result_ok step ≡ constant_by (active_of p policy) (boundary p policy) (taken p policy s)) where
   pub constant-ok : (x : ℚ) → step ≡ Ok x → constant p policy s ≡ Ok x
-  constant-ok x e = ap (at_place (evaluating policy s)) (sym by_definition ∙ ap result_ok e)
+  constant-ok x e = ap (at_place (evaluating policy s)) (sym told ∙ ap result_ok e)
 
   pub constant-err : (w : Wide) → step ≡ Err w → constant p policy s ≡ Err (evaluating policy s)
-  constant-err w e = ap (at_place (evaluating policy s)) (sym by_definition ∙ ap result_ok e)
+  constant-err w e = ap (at_place (evaluating policy s)) (sym told ∙ ap result_ok e)
 
 -- an error that is returned
 pub answers_err : {A B : Type 0} (f : A → B) (result : Result A RoundError) (e : RoundError) (r : Result B Place) → result ≡ Err e → Says e r → Answers f result r

@@ -22,7 +22,7 @@ use Rattle.mdp_policy_iteration.proofs.Results.{ok_same, ok_part, place_part, Is
 
 -- ---- a sum that is told is exact
 
-some_part : {A B : Type 0} (o : Option A) (g : A → Option B) (y : B) → (o >>= g) ≡ Some y → (x : A) × (o ≡ Some x) × (g x ≡ Some y)
+pub some_part : {A B : Type 0} (o : Option A) (g : A → Option B) (y : B) → (o >>= g) ≡ Some y → (x : A) × (o ≡ Some x) × (g x ≡ Some y)
 some_part None g y h = cc
 some_part (Some x) g y h = (x, refl, h)
 

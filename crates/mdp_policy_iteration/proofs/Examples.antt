@@ -1,5 +1,5 @@
 -- Paths, computed.
-use Rattle.std.proofs.Common.{◌≡◌, ℕ, ◌^◌, [], ◌∷◌, true, Some, Result, Ok, Err, refl, pos}
+use Rattle.std.proofs.Common.{◌≡◌, ℕ, ◌^◌, List, [], ◌∷◌, true, Some, None, Result, Ok, Err, refl, pos}
 use Rattle.mdp_math.specs.Gcd.{gcd, gcd_with_fuel}
 use Rattle.mdp_math.specs.Rational.{ℚ, of_int, ratio, ◌+ℚ◌, ◌*ℚ◌, neg_ℚ, inv_ℚ}
 use Rattle.mdp_math.specs.Written.{written_add, written_mul, written_compare, narrow, narrow_ℚ}
@@ -8,18 +8,20 @@ use Rattle.mdp_elim.specs.Elimination.{divided_rest, plus_equation, eliminated, 
 use Rattle.mdp_elim.specs.System.{equation_of}
 use Rattle.mdp_wide.specs.declared.too_wide.Kind.TheVariants.{Evaluate}
 use Rattle.mdp_rows.specs.declared.dir.Dir.TheVariants.{Max, Min}
-use Rattle.mdp_policy_iteration.specs.Iteration.{iterated}
+use Rattle.mdp_rows.specs.declared.preds.Pred.{Pred}
+use Rattle.mdp_policy_iteration.specs.Iteration.{Step, iterated, next, done}
 use Rattle.mdp_policy_iteration.specs.Problem.{Problem, given, decision, Move, stop, go, Choice, plain}
-use Rattle.mdp_policy_iteration.specs.Path.{Found, Refusal, path_step}
+use Rattle.mdp_policy_iteration.specs.Path.{Round, Found, Refusal, path_step}
+use Rattle.mdp_policy_iteration.specs.Changes.{change_at, spread, nodes_of, step_by}
 use Rattle.mdp_policy_iteration.specs.Laws.{first}
 
-abbrev to : ℕ → ℚ → Entry
+abbrev pub to : ℕ → ℚ → Entry
 to t p = record { target = t; prob = p }
 
-abbrev may : Move → Choice
+abbrev pub may : Move → Choice
 may m = plain true m
 
-abbrev whole : ℕ → ℚ
+abbrev pub whole : ℕ → ℚ
 whole n = of_int (pos n)
 
 -- node 0 stops with 1/2, or goes to 1 with 3/4 and to 2 with 1/4; node 1 is worth 1, and node 2 is worth 0
@@ -55,3 +57,30 @@ refuses : iterated (path_step too_much) 1 (first (0 ∷ 0 ∷ [])) ≡ Some
     (let r : Result Found Refusal = Err (record { number = 0; policy = 0 ∷ 0 ∷ []; place = record { kind = Evaluate; node = 0; choice = 0 } }) in r)
 unfolding equation_of eliminated divided_rest plus_equation evaluated written_add written_mul written_compare narrow narrow_ℚ ◌+ℚ◌ ◌*ℚ◌ neg_ℚ inv_ℚ ratio of_int gcd gcd_with_fuel
 refuses = refl
+
+-- ---- changes
+
+-- node 0 takes choice 4, and node 2 takes choice 1
+abbrev two_changes : List Pred
+two_changes = record { state = 0; choice = 4 } ∷ record { state = 2; choice = 1 } ∷ []
+
+spread_of_three : spread 3 two_changes ≡ Some 4 ∷ None ∷ Some 1 ∷ []
+spread_of_three = refl
+
+has_a_change : change_at two_changes 2 ≡ Some 1
+has_a_change = refl
+
+has_no_change : change_at two_changes 1 ≡ None
+has_no_change = refl
+
+where_they_are : nodes_of two_changes ≡ 0 ∷ 2 ∷ []
+where_they_are = refl
+
+-- with no change the path ends
+no_change_ends : step_by 5 (3 ∷ 3 ∷ 3 ∷ []) (whole 1 ∷ whole 0 ∷ whole 2 ∷ []) [] ≡
+    (let s : Step Round Found Refusal = done (record { number = 5; policy = 3 ∷ 3 ∷ 3 ∷ []; values = whole 1 ∷ whole 0 ∷ whole 2 ∷ [] }) in s)
+no_change_ends = refl
+
+-- else the next round's policy has them
+changes_go_on : step_by 5 (3 ∷ 3 ∷ 3 ∷ []) [] two_changes ≡ (let s : Step Round Found Refusal = next (record { number = 6; policy = 4 ∷ 3 ∷ 1 ∷ [] }) in s)
+changes_go_on = refl

@@ -17,4 +17,18 @@ pub mod OuterSums
 pub mod Solving
 pub mod RoundFacts
 pub mod Walking
+pub mod Rounds
+pub mod AllNodes
+pub mod Scopes
+pub mod Collected
+pub mod Unchanged
+pub mod Taken
+pub mod Listing
+pub mod Chosen
+pub mod Reading
+pub mod NodesAmong
+pub mod UpTo
+pub mod Elsewhere
+pub mod EvaluatedAgain
 mod Examples
+mod ExamplesKept

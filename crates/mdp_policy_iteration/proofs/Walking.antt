@@ -1,30 +1,34 @@
 -- A round of the loop as a step of the path.
-use Rattle.std.proofs.Common.{◌≡◌, ℕ, ◌+◌, ◌-◌, ◌^◌, min, List, Result, Ok, Err, Vec, Global, sym, subst}
-use Rattle.mdp_num.specs.declared.frac.Frac.{Frac}
+use Rattle.std.proofs.Common.{◌≡◌, ◌≢◌, ℕ, ◌+◌, ◌-◌, ◌^◌, min, List, [], ◌∷◌, length, Result, Ok, Err, Vec, Global, refl, sym, ◌∙◌, ap, subst}
+use Rattle.mdp_math.specs.Rational.{ℚ}
+use Rattle.mdp_rows.specs.declared.preds.Pred.{Pred}
 use Rattle.mdp_policy_iteration.specs.Iteration.{next, done, EndsWith}
 use Rattle.mdp_policy_iteration.specs.Problem.{Problem}
 use Rattle.mdp_policy_iteration.specs.Places.{Place}
-use Rattle.mdp_policy_iteration.specs.Path.{Found, Refusal, path_step}
+use Rattle.mdp_policy_iteration.specs.Path.{Found, Refusal, improved, path_step}
+use Rattle.mdp_policy_iteration.specs.Changes.{spread, step_by}
 use Rattle.mdp_policy_iteration.specs.Ends.{Makes, Ends, path_error}
 use Rattle.mdp_policy_iteration.specs.Laws.{first}
 use Rattle.mdp_policy_iteration.proofs.Iterations.{ends-refused}
 use Rattle.mdp_policy_iteration.specs.declared.errors.RoundError.{RoundError}
 use Rattle.mdp_policy_iteration.specs.declared.errors.RoundError.TheVariants as fault
-use Rattle.mdp_policy_iteration.specs.declared.round.RoundEnd.{RoundEnd}
-use Rattle.mdp_policy_iteration.specs.declared.round.RoundEnd.TheVariants as end
 
-module _ (p : Problem) (n : ℕ) (now policy : List ℕ) (result : Result RoundEnd RoundError) (same : now ≡ policy) (made : Makes n now result (path_step p (record { number = n; policy = now }))) where
-  made_at : (r : Result RoundEnd RoundError) → result ≡ r → Makes n policy r (path_step p (record { number = n; policy = policy }))
+-- where there are changes, the path goes on
+pub next_by : (n : ℕ) (policy : List ℕ) (values : List ℚ) (changes : List Pred) → changes ≢ []
+    → step_by n policy values changes ≡ next (record { number = n + 1; policy = improved policy (spread (length policy) changes) })
+next_by n policy values [] some = absurd (some refl)
+next_by n policy values (c ∷ changes) some = refl
+
+module _ (p : Problem) (n : ℕ) (now policy : List ℕ) (values : List ℚ) (result : Result (Vec Pred Global) RoundError) (same : now ≡ policy)
+    (made : Makes n now values result (path_step p (record { number = n; policy = now }))) where
+  made_at : (r : Result (Vec Pred Global) RoundError) → result ≡ r → Makes n policy values r (path_step p (record { number = n; policy = policy }))
   made_at r e =
-      subst (λ (policy : List ℕ). Makes n policy r (path_step p (record { number = n; policy = policy }))) same
-      (subst (λ (r : Result RoundEnd RoundError). Makes n now r (path_step p (record { number = n; policy = now }))) e made)
+      subst (λ (policy : List ℕ). Makes n policy values r (path_step p (record { number = n; policy = policy }))) same
+      (subst (λ (r : Result (Vec Pred Global) RoundError). Makes n now values r (path_step p (record { number = n; policy = now }))) e made)
 
-  pub done_at : (values : Vec Frac Global) → result ≡ Ok (end.Done values)
-      → path_step p (record { number = n; policy = policy }) ≡ done (record { number = n; policy = policy; values = values.items })
-  done_at values e = made_at (Ok (end.Done values)) e
-
-  pub next_at : (after : Vec ℕ Global) → result ≡ Ok (end.Next after) → path_step p (record { number = n; policy = policy }) ≡ next (record { number = n + 1; policy = after.items })
-  next_at after e = made_at (Ok (end.Next after)) e
+  pub done_at : (changes : Vec Pred Global) → result ≡ Ok changes → changes.items ≡ []
+      → path_step p (record { number = n; policy = policy }) ≡ done (record { number = n; policy = policy; values = values })
+  done_at changes e none = made_at (Ok changes) e ∙ ap (step_by n policy values) none
 
   -- an error is the path's end, where the path goes on with this round
   pub ends_by : (start : List ℕ) (round : ℕ) (held : Vec ℕ Global) (e : RoundError) → held.items ≡ policy → round ≡ min n (2 ^ 64 - 1)

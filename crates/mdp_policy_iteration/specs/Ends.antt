@@ -1,30 +1,30 @@
 -- What the code answers to a path.
-use Rattle.std.specs.Prelude.{◌≡◌, ℕ, ◌+◌, ◌-◌, ◌^◌, min, List, Some, Result, Ok, Err, Vec}
+use Rattle.std.specs.Prelude.{◌≡◌, ℕ, ◌-◌, ◌^◌, min, List, Some, Result, Ok, Err, Vec}
 use Rattle.std.specs.Global.{Global}
+use Rattle.mdp_math.specs.Rational.{ℚ}
+use Rattle.mdp_rows.specs.declared.preds.Pred.{Pred}
 use Rattle.mdp_wide.specs.declared.too_wide.Part.{Part}
 use Rattle.mdp_wide.specs.declared.too_wide.TooWide.{TooWide}
 use Rattle.mdp_wide.specs.declared.too_wide.SolveError.{SolveError}
 use Rattle.mdp_wide.specs.declared.too_wide.SolveError.TheVariants as solve
-use Rattle.mdp_policy_iteration.specs.Iteration.{Step, next, done, refused, EndsWith}
+use Rattle.mdp_policy_iteration.specs.Iteration.{Step, refused, EndsWith}
 use Rattle.mdp_policy_iteration.specs.Problem.{Problem}
 use Rattle.mdp_policy_iteration.specs.Path.{Round, Found, Refusal, path_step}
 use Rattle.mdp_policy_iteration.specs.Laws.{first}
 use Rattle.mdp_policy_iteration.specs.declared.errors.RoundError.{RoundError}
 use Rattle.mdp_policy_iteration.specs.declared.errors.RoundError.TheVariants as fault
-use Rattle.mdp_policy_iteration.specs.declared.round.RoundEnd.{RoundEnd}
-use Rattle.mdp_policy_iteration.specs.declared.round.RoundEnd.TheVariants as end
+use Rattle.mdp_policy_iteration.specs.Changes.{step_by}
 use Rattle.mdp_policy_iteration.specs.declared.solution.Solution.{Solution}
 use Rattle.mdp_policy_iteration.specs.declared.solution.WideAt.{WideAt}
 use Rattle.mdp_policy_iteration.specs.declared.solution.PathError.{PathError}
 use Rattle.mdp_policy_iteration.specs.declared.solution.PathError.TheVariants as path
 
--- round n of a policy: its end, the next policy, the place of the first term past width, or want of memory
-abbrev pub Makes : ℕ → List ℕ → Result RoundEnd RoundError → Step Round Found Refusal → Type 0
-Makes n policy (Ok (end.Done values)) step = step ≡ done (record { number = n; policy = policy; values = values.items })
-Makes n policy (Ok (end.Next after)) step = step ≡ next (record { number = n + 1; policy = after.items })
-Makes n policy (Err (fault.Wide kind s c)) step =
+-- round n of a policy with these values: its changes, of which there are none at its end; the place of the first term past width; or want of memory
+abbrev pub Makes : ℕ → List ℕ → List ℚ → Result (Vec Pred Global) RoundError → Step Round Found Refusal → Type 0
+Makes n policy values (Ok changes) step = step ≡ step_by n policy values changes.items
+Makes n policy values (Err (fault.Wide kind s c)) step =
     step ≡ refused (record { number = n; policy = policy; place = record { kind = kind; node = s; choice = c } })
-Makes n policy (Err fault.Memory) step = Unit {0}
+Makes n policy values (Err fault.Memory) step = Unit {0}
 
 -- the error of a round, with the round and its policy
 abbrev pub path_error : RoundError → ℕ → Vec ℕ Global → PathError

@@ -6,6 +6,11 @@ pub mod Candidates
 pub mod Path
 pub mod Laws
 pub mod Code
+pub mod Reads
+pub mod ReadersOf
+pub mod Evaluated
+pub mod Changes
+pub mod Scope
 pub mod Faults
 pub mod Ends
 pub mod Queries

@@ -1,13 +1,87 @@
-ghost use Rattle.std.specs.Prelude.{IfOk};
+ghost use Rattle.std.specs.Prelude.{◌≡◌, ◌≢◌, ◌<◌, [], length, Ok, IfOk};
+ghost use Rattle.std.specs.List.{All, range_with_len};
+ghost use Rattle.mdp_policy_iteration.specs.Problem.{count};
+ghost use Rattle.mdp_policy_iteration.specs.Path.{improved, improvements};
 ghost use Rattle.mdp_policy_iteration.specs.Laws.{IsSolvable, IsBestFrom};
+ghost use Rattle.mdp_policy_iteration.specs.Changes.{Ascend, IsChangeOf, spread, nodes_of};
+ghost use Rattle.mdp_policy_iteration.specs.Evaluated.{IsEvaluated};
 ghost use Rattle.mdp_policy_iteration.specs.Ends.{Ends};
 
+use crate::comparison::take_changes;
+use crate::evaluation::Evaluation;
 use crate::loops::Loops;
-use crate::round::{RoundEnd, round_of};
+use crate::readers::readers_of;
+use crate::round::round_of;
+use crate::scope::Scope;
 use crate::shortest_path::ShortestPath;
 use crate::solution::{PathError, Solution, path_error};
 use mdp_elim::solution_law;
-use std::alloc::Global;
+use mdp_rows::{Marks, Pred};
+use std::alloc::{AllocError, Global};
+
+/// All nodes.
+fn all_nodes(alloc: Global, count: u32) -> Result<Vec<u32>, AllocError>
+    ensures { IfOk result (λ nodes. nodes.items ≡ range_with_len 0 count) }
+{
+    let mut nodes = Vec::with_capacity(alloc, count as usize)?;
+    for s in 0..count {
+        nodes.push(s)?;
+    }
+    Ok(nodes)
+}
+
+/// The policy with these changes.
+fn next_policy(mut policy: Vec<u32>, changes: &[Pred]) -> Vec<u32>
+    requires in_range { All (λ x. x.state < length policy.items) changes.now }
+    requires ascend { Ascend (nodes_of changes.now) }
+    ensures { result.items ≡ improved policy.items (spread (length policy.items) changes.now) }
+{
+    take_changes(&mut policy, changes);
+    policy
+}
+
+/// The rest of the path from a first policy, whose evaluation and whose changes are given: from round to round only nodes that come to a change are evaluated
+/// anew, and choices are compared only at these and at nodes with a choice that leads to one of them.
+fn improve_further<P: ShortestPath>(
+    alloc: Global,
+    problem: &P,
+    loops: &Loops,
+    start: Vec<u32>,
+    mut evaluation: Evaluation,
+    mut changes: Vec<Pred>,
+) -> Result<Solution, PathError>
+    requires solvable { IsSolvable (P.problem problem.now) start.items }
+    requires loops { length loops.now.nodes.items ≡ count (P.problem problem.now) }
+    requires evaluated { IsEvaluated (P.problem problem.now) start.items evaluation }
+    requires some { changes.items ≢ [] }
+    requires changes { improvements (P.problem problem.now) evaluation.values ≡ Ok (spread (count (P.problem problem.now)) changes.items) }
+    requires each { All (IsChangeOf (P.problem problem.now)) changes.items }
+    requires ascend { Ascend (nodes_of changes.items) }
+    ensures path { Ends (P.problem problem.now) start.items result }
+    ensures best { IfOk result (λ found. IsBestFrom (P.problem problem.now) start.items found.policy.items found.values.items) }
+{
+    solution_law();
+    let readers = readers_of(alloc, problem)?;
+    let mut marks = Marks::empty(alloc, problem.count())?;
+    let mut policy = start;
+    let mut round = 0u64;
+    'rounds: loop {
+        policy = next_policy(policy, &changes);
+        round = round.saturating_add(1);
+        let scope = Scope::of_changes(alloc, problem, &readers, &policy, &changes, &mut marks)?;
+        match round_of(alloc, problem, &policy, loops, &mut evaluation, &scope) {
+            Ok(next) if next.is_empty() => {
+                return Ok(Solution {
+                    round,
+                    policy,
+                    values: evaluation.into_values(),
+                });
+            }
+            Ok(next) => changes = next,
+            Err(error) => return Err(path_error(error, round, policy)),
+        }
+    }
+}
 
 /// Policy iteration from a start policy (Howard 1960): the last policy of the path, its round and its values, or the first term past width.
 pub fn improve<P: ShortestPath>(
@@ -21,22 +95,18 @@ pub fn improve<P: ShortestPath>(
 {
     solution_law();
     let loops = Loops::new(alloc, problem.count())?;
-    let mut policy = start;
-    let mut round = 0u64;
-    'rounds: loop {
-        match round_of(alloc, problem, &policy, &loops) {
-            Ok(RoundEnd::Done(values)) => {
-                return Ok(Solution {
-                    round,
-                    policy,
-                    values,
-                });
-            }
-            Ok(RoundEnd::Next(next)) => {
-                policy = next;
-                round = round.saturating_add(1);
-            }
-            Err(error) => return Err(path_error(error, round, policy)),
-        }
+    let scope = Scope {
+        affected: all_nodes(alloc, problem.count())?,
+        compared: all_nodes(alloc, problem.count())?,
+    };
+    let mut evaluation = Evaluation::new(alloc, problem.count())?;
+    match round_of(alloc, problem, &start, &loops, &mut evaluation, &scope) {
+        Ok(changes) if changes.is_empty() => Ok(Solution {
+            round: 0,
+            policy: start,
+            values: evaluation.into_values(),
+        }),
+        Ok(changes) => improve_further(alloc, problem, &loops, start, evaluation, changes),
+        Err(error) => Err(path_error(error, 0, start)),
     }
 }

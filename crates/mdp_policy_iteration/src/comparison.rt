@@ -1,16 +1,19 @@
-ghost use Rattle.std.specs.Prelude.{◌≡◌, ◌<◌, length, is_some, Some, None, IfOk, IfErr};
-ghost use Rattle.std.specs.List.{list_any};
+ghost use Rattle.std.specs.Prelude.{◌≡◌, ◌<◌, ℕ, false, length, Some, None, Ok, IfOk, IfErr};
+ghost use Rattle.std.specs.List.{All};
+ghost use Rattle.mdp_rows.specs.Preds.{is_among};
 ghost use Rattle.mdp_policy_iteration.specs.Problem.{count, choices_at, choice_at};
 ghost use Rattle.mdp_policy_iteration.specs.Faults.{Answers};
 ghost use Rattle.mdp_policy_iteration.specs.Code.{shown};
 ghost use Rattle.mdp_policy_iteration.specs.Candidates.{compared};
-ghost use Rattle.mdp_policy_iteration.specs.Path.{improvement, improvements, or_kept, improved};
+ghost use Rattle.mdp_policy_iteration.specs.Path.{improvement, improvements, improved};
+ghost use Rattle.mdp_policy_iteration.specs.Changes.{Ascend, IsChangeOf, nodes_of, spread};
 
 use crate::errors::RoundError;
 use crate::leader::{Leader, judged};
 use crate::placing::at_choice;
 use crate::shortest_path::ShortestPath;
 use mdp_num::{Frac, Wide};
+use mdp_rows::Pred;
 use std::alloc::{AllocError, Global};
 
 /// The leader after choice `c` of node `s` has been compared with it.
@@ -54,52 +57,44 @@ fn improvement<P: ShortestPath>(
     Ok(best.choice)
 }
 
-/// For each node the choice that improves it, where there is one.
+/// The choices that improve these nodes, which ascend, each with its node, where no other node is improved.
 pub(crate) fn improvements<P: ShortestPath>(
     alloc: Global,
     problem: &P,
     values: &[Frac],
-) -> Result<Vec<Option<u32>>, RoundError>
-    requires { length values.now ≡ count (P.problem problem.now) }
-    ensures { Answers (λ choices. choices.items) result (improvements (P.problem problem.now) values.now) }
+    nodes: &[u32],
+) -> Result<Vec<Pred>, RoundError>
+    requires values { length values.now ≡ count (P.problem problem.now) }
+    requires in_range { All (λ s. s < count (P.problem problem.now)) nodes.now }
+    requires ascend { Ascend nodes.now }
+    requires others { (s : ℕ) → s < count (P.problem problem.now) → is_among s nodes.now ≡ false → improvement (P.problem problem.now) values.now s ≡ Ok None }
+    ensures answers { Answers (λ changes. spread (count (P.problem problem.now)) changes.items) result (improvements (P.problem problem.now) values.now) }
+    ensures each { IfOk result (λ changes. All (IsChangeOf (P.problem problem.now)) changes.items) }
+    ensures ascend { IfOk result (λ changes. Ascend (nodes_of changes.items)) }
 {
-    let mut choices = Vec::new(alloc);
-    for s in 0..problem.count() {
-        let choice = improvement(problem, values, s)?;
-        choices.push(choice)?;
+    let mut changes = Vec::new(alloc);
+    for s in nodes {
+        if let Some(choice) = improvement(problem, values, *s)? {
+            changes.push(Pred { state: *s, choice })?;
+        }
     }
-    Ok(choices)
+    Ok(changes)
 }
 
-/// The choice that is taken, or the policy's own.
-fn or_kept(choice: Option<u32>, kept: u32) -> u32
-    ensures { result ≡ or_kept choice kept }
+/// Takes changes, whose nodes ascend: each of these nodes has the choice of its change.
+pub(crate) fn take_changes(policy: &mut [u32], changes: &[Pred])
+    requires in_range { All (λ x. x.state < length policy.old) changes.now }
+    requires ascend { Ascend (nodes_of changes.now) }
+    ensures { policy.new ≡ improved policy.old (spread (length policy.old) changes.now) }
 {
-    match choice {
-        Some(taken) => taken,
-        None => kept,
+    for change in changes {
+        policy[change.state as usize] = change.choice;
     }
 }
 
-/// The choices that are taken, and the policy's own elsewhere.
-pub(crate) fn improved(
-    alloc: Global,
-    policy: &[u32],
-    choices: &[Option<u32>],
-) -> Result<Vec<u32>, AllocError>
-    requires { length choices.now ≡ length policy.now }
-    ensures { IfOk result (λ next. next.items ≡ improved policy.now choices.now) }
+/// The nodes of changes.
+pub(crate) fn changed_nodes(alloc: Global, changes: &[Pred]) -> Result<Vec<u32>, AllocError>
+    ensures { IfOk result (λ nodes. nodes.items ≡ nodes_of changes.now) }
 {
-    let mut next = Vec::new(alloc);
-    for s in 0..policy.len() {
-        next.push(or_kept(choices[s], policy[s]))?;
-    }
-    Ok(next)
-}
-
-/// Whether some node is improved.
-pub(crate) fn any_taken(choices: &[Option<u32>]) -> bool
-    ensures { result ≡ list_any is_some choices.now }
-{
-    choices.iter().any(|choice| choice.is_some())
+    changes.iter().map(|change| change.state).collect(alloc)
 }

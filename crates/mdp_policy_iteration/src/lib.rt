@@ -11,7 +11,9 @@ mod loops;
 mod outer;
 mod placing;
 mod policy_chain;
+mod readers;
 mod round;
+mod scope;
 mod shortest_path;
 mod solution;
 

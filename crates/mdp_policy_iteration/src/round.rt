@@ -1,43 +1,47 @@
-ghost use Rattle.std.specs.Prelude.{ℕ, ◌≡◌, length};
+ghost use Rattle.std.specs.Prelude.{ℕ, ◌≡◌, ◌<◌, length, Ok, OnOk, IfOk};
+ghost use Rattle.std.specs.List.{All};
 ghost use Rattle.mdp_policy_iteration.specs.Problem.{IsPolicy, count};
 ghost use Rattle.mdp_policy_iteration.specs.Values.{CanLeave};
-ghost use Rattle.mdp_policy_iteration.specs.Path.{path_step};
+ghost use Rattle.mdp_policy_iteration.specs.Path.{improvements, path_step};
+ghost use Rattle.mdp_policy_iteration.specs.Changes.{Ascend, IsChangeOf, spread, nodes_of};
+ghost use Rattle.mdp_policy_iteration.specs.Evaluated.{IsEvaluated, CanServe};
+ghost use Rattle.mdp_policy_iteration.specs.Scope.{NoneImprovesElsewhere};
 ghost use Rattle.mdp_policy_iteration.specs.Ends.{Makes};
 
-use crate::comparison::{any_taken, improved, improvements};
+use crate::comparison::improvements;
 use crate::errors::RoundError;
-use crate::evaluation::evaluate;
+use crate::evaluation::Evaluation;
 use crate::loops::Loops;
+use crate::scope::Scope;
 use crate::shortest_path::ShortestPath;
-use mdp_num::Frac;
+use mdp_rows::Pred;
 use std::alloc::Global;
 
-/// What a round makes.
-#[derive(Drop)]
-pub(crate) enum RoundEnd {
-    /// No choice is better: the values of the policy.
-    Done(Vec<Frac>),
-    /// The next policy.
-    Next(Vec<u32>),
-}
-
-/// One round of a policy: its values, and the choices that improve it.
+/// One round of a policy: it is evaluated at the affected nodes of the scope, and choices are compared at the compared ones. A node that isn't affected has the
+/// value of the round before, and no choice improves a node that isn't compared. The changes; where there are none the path ends.
 pub(crate) fn round_of<P: ShortestPath>(
     alloc: Global,
     problem: &P,
     policy: &[u32],
     loops: &Loops,
-) -> Result<RoundEnd, RoundError>
+    evaluation: &mut Evaluation,
+    scope: &Scope,
+) -> Result<Vec<Pred>, RoundError>
     requires policy { IsPolicy (P.problem problem.now) policy.now }
     requires leaves { CanLeave (P.problem problem.now) policy.now }
     requires loops { length loops.now.nodes.items ≡ count (P.problem problem.now) }
-    ensures { (n : ℕ) → Makes n policy.now result (path_step (P.problem problem.now) (record { number = n; policy = policy.now })) }
+    requires affected_below { All (λ s. s < count (P.problem problem.now)) scope.now.affected }
+    requires affected_ascend { Ascend scope.now.affected }
+    requires compared_below { All (λ s. s < count (P.problem problem.now)) scope.now.compared }
+    requires compared_ascend { Ascend scope.now.compared }
+    requires serves { CanServe (P.problem problem.now) scope.now.affected policy.now evaluation.old }
+    requires others { NoneImprovesElsewhere (P.problem problem.now) scope.now evaluation.old.values }
+    ensures evaluated { OnOk result (IsEvaluated (P.problem problem.now) policy.now evaluation.new) }
+    ensures changes { IfOk result (λ changes. improvements (P.problem problem.now) evaluation.new.values ≡ Ok (spread (count (P.problem problem.now)) changes.items)) }
+    ensures each { IfOk result (λ changes. All (IsChangeOf (P.problem problem.now)) changes.items) }
+    ensures ascend { IfOk result (λ changes. Ascend (nodes_of changes.items)) }
+    ensures step { (n : ℕ) → Makes n policy.now evaluation.new.values result (path_step (P.problem problem.now) (record { number = n; policy = policy.now })) }
 {
-    let values = evaluate(alloc, problem, policy, loops)?;
-    let choices = improvements(alloc, problem, &values)?;
-    if any_taken(&choices) {
-        let next = improved(alloc, policy, &choices)?;
-        return Ok(RoundEnd::Next(next));
-    }
-    Ok(RoundEnd::Done(values))
+    evaluation.evaluate(alloc, problem, policy, loops, &scope.affected)?;
+    improvements(alloc, problem, evaluation.values(), &scope.compared)
 }

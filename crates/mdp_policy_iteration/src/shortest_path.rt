@@ -4,6 +4,7 @@ ghost use Rattle.std.specs.Result.{result_ok};
 ghost use Rattle.mdp_spec.specs.Row.{entries};
 ghost use Rattle.mdp_policy_iteration.specs.Problem.{Problem, IsProblem, count, node_at, choices_at, choice_at, goes_on, amount, row_from};
 ghost use Rattle.mdp_policy_iteration.specs.Code.{CanTake, move_at, fits_at};
+ghost use Rattle.mdp_policy_iteration.specs.Reads.{Reads};
 
 use mdp_num::{Frac, Wide};
 use mdp_rows::{Dir, Row};
@@ -43,6 +44,12 @@ pub trait ShortestPath {
         requires choice { c < length (choices_at (problem self.now) s) }
         requires values { length values.now ≡ count (problem self.now) }
         ensures { result_ok result ≡ (choice_at (problem self.now) s c).written values.now };
+
+    /// The nodes that choice `c` of node `s` leads to, and on whose values its worth depends. Nodes whose value is given may be missing.
+    fn reads(&self, s: u32, c: u32) -> &[u32]
+        requires node { s < count (problem self.now) }
+        requires choice { c < length (choices_at (problem self.now) s) }
+        ensures { Reads (problem self.now) s c result.now };
 
     /// Whether choice `c` goes on from node `s`. A node whose value is given doesn't.
     fn goes_on(&self, s: u32, c: u32) -> bool

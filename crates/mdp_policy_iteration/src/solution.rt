@@ -2,7 +2,7 @@ ghost use Rattle.std.specs.Prelude.{◌≡◌};
 ghost use Rattle.mdp_policy_iteration.specs.Ends.{path_error, wide_of_part, error_of_part};
 
 use crate::errors::RoundError;
-use mdp_num::Frac;
+use mdp_num::{Frac, Memory};
 use mdp_wide::{Kind, Part, SolveError, TooWide};
 use std::alloc::AllocError;
 
@@ -68,6 +68,17 @@ impl From<AllocError> for PathError {
     ghost from_gives = { λ _ e. e ≡ variant.Memory };
 
     fn from(_error: AllocError) -> PathError {
+        PathError::Memory
+    }
+}
+
+impl From<Memory> for PathError {
+    ghost use Rattle.std.specs.Prelude.{◌≡◌};
+    ghost use Rattle.mdp_policy_iteration.specs.declared.solution.PathError.TheVariants as variant;
+
+    ghost from_gives = { λ _ e. e ≡ variant.Memory };
+
+    fn from(_error: Memory) -> PathError {
         PathError::Memory
     }
 }

@@ -64,6 +64,14 @@ impl ShortestPath for OuterProblem<'_, '_, '_> {
         }
     }
 
+    fn reads(&self, s: u32, c: u32) -> &[u32] {
+        if c == 0 {
+            &[]
+        } else {
+            self.quotient.row(s, c - 1).targets
+        }
+    }
+
     fn goes_on(&self, _s: u32, c: u32) -> bool {
         c > 0
     }

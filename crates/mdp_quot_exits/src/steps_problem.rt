@@ -53,6 +53,10 @@ impl ShortestPath for StepsProblem<'_, '_> {
         row.sum(&Frac::whole(1), values)
     }
 
+    fn reads(&self, s: u32, c: u32) -> &[u32] {
+        self.quotient.row(s, c).targets
+    }
+
     fn goes_on(&self, s: u32, _c: u32) -> bool {
         self.has_exits(s)
     }

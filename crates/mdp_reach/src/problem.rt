@@ -78,6 +78,10 @@ impl ShortestPath for Reach<'_, '_, '_> {
         self.model.row(s, c).sum(&Frac::whole(0), values)
     }
 
+    fn reads(&self, s: u32, c: u32) -> &[u32] {
+        self.model.row(s, c).targets
+    }
+
     fn goes_on(&self, s: u32, _c: u32) -> bool {
         self.decides(s)
     }

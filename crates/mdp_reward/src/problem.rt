@@ -85,6 +85,10 @@ impl ShortestPath for Reward<'_, '_, '_> {
         row.sum(&self.model.reward(self.name, s, c), values)
     }
 
+    fn reads(&self, s: u32, c: u32) -> &[u32] {
+        self.model.row(s, c).targets
+    }
+
     fn goes_on(&self, s: u32, _c: u32) -> bool {
         self.decides(s)
     }

@@ -1,0 +1,178 @@
+use Rattle.std.proofs.Common.{replicate, false, ◌≡◌, ◌∙◌, ◌+◌, ℕ, List, Ok, Err, refl, sym, ap, subst, arith, rules, length}
+use Rattle.mdp_math.specs.Rational.{ℚ}
+use Rattle.mdp_rows.specs.declared.preds.Pred.{Pred}
+use Rattle.mdp_policy_iteration.specs.Problem.{IsPolicy}
+use Rattle.mdp_policy_iteration.specs.Values.{CanLeave}
+use Rattle.mdp_policy_iteration.specs.Path.{Round, Found, Refusal, improved, path_step}
+use Rattle.mdp_policy_iteration.specs.Iteration.{Step, done}
+use Rattle.mdp_policy_iteration.specs.Changes.{Ascend, spread, nodes_of}
+use Rattle.mdp_policy_iteration.specs.Evaluated.{IsEvaluated, CanServe}
+use Rattle.mdp_policy_iteration.specs.Scope.{IsScope}
+use Rattle.mdp_policy_iteration.specs.Ends.{Ends}
+use Rattle.mdp_policy_iteration.specs.declared.solution.PathError.{PathError}
+use Rattle.mdp_policy_iteration.proofs.Iterations.{ends-done}
+use Rattle.mdp_policy_iteration.proofs.Ending.{start-keeps, done-best}
+use Rattle.mdp_policy_iteration.proofs.Walking.{done_at, ends_by}
+use Rattle.mdp_policy_iteration.proofs.Rounds.{is_none, is_some, keeps-on, rest-on, serves-on, unimproved}
+use Rattle.mdp_policy_iteration.proofs.best_policy.improve_further.Goals as goal
+
+pub rounds-init : goal.rounds-init
+rounds-init g c =
+    let p = g.P.ShortestPath.problem c.args.problem.now in
+    record {
+      marks = c.in_ok-marks.ensures {u = tt} ∙ ap (λ n. replicate n false) c.count.ensures;
+      stands = (
+        0,
+        omega arith,
+        record {
+          keeps = start-keeps p c.args.start.items c.requires.solvable;
+          evaluated = c.requires.evaluated;
+          some = c.requires.some;
+          improving = c.requires.changes;
+          each = c.requires.each;
+          ascend = c.requires.ascend;
+          rest = λ r h. h;
+        },
+      );
+    }
+
+pub next_policy-policy-requires-clause-ascend : goal.next_policy-policy-requires-clause-ascend
+next_policy-policy-requires-clause-ascend g c = subst (λ (xs : List Pred). Ascend (nodes_of xs)) (sym c.deref.ensures.value) c.rounds.invariant.stands.2.ascend
+
+pub of_changes-requires-clause-policy : goal.of_changes-requires-clause-policy
+of_changes-requires-clause-policy g c =
+    let p = g.P.ShortestPath.problem c.args.problem.now in
+    let next : c.next_policy-policy.result.items ≡ improved c.rounds.policy.items (spread (length c.rounds.policy.items) c.rounds.changes.items) =
+    c.next_policy-policy.ensures ∙ ap (λ (xs : List Pred). improved c.rounds.policy.items (spread (length c.rounds.policy.items) xs)) c.deref.ensures.value in
+    let k = keeps-on p c.args.start.items c.rounds.invariant.stands.0 c.rounds.policy.items c.rounds.evaluation c.rounds.changes.items c.rounds.invariant.stands.2
+    c.next_policy-policy.result.items next c.requires.solvable.problem c.requires.solvable.keeps c.solution_law.ensures.solves in
+    subst (λ (xs : List ℕ). IsPolicy p xs) (sym c.deref-in-rounds.ensures.value) k.0.is
+
+pub round_of-requires-clause-policy : goal.round_of-requires-clause-policy
+round_of-requires-clause-policy g c =
+    let p = g.P.ShortestPath.problem c.args.problem.now in
+    let next : c.next_policy-policy.result.items ≡ improved c.rounds.policy.items (spread (length c.rounds.policy.items) c.rounds.changes.items) =
+    c.next_policy-policy.ensures ∙ ap (λ (xs : List Pred). improved c.rounds.policy.items (spread (length c.rounds.policy.items) xs)) c.deref.ensures.value in
+    let k = keeps-on p c.args.start.items c.rounds.invariant.stands.0 c.rounds.policy.items c.rounds.evaluation c.rounds.changes.items c.rounds.invariant.stands.2
+    c.next_policy-policy.result.items next c.requires.solvable.problem c.requires.solvable.keeps c.solution_law.ensures.solves in
+    subst (λ (xs : List ℕ). IsPolicy p xs) (sym c.deref-in-rounds-3.ensures.value) k.0.is
+
+pub round_of-requires-clause-leaves : goal.round_of-requires-clause-leaves
+round_of-requires-clause-leaves g c =
+    let p = g.P.ShortestPath.problem c.args.problem.now in
+    let next : c.next_policy-policy.result.items ≡ improved c.rounds.policy.items (spread (length c.rounds.policy.items) c.rounds.changes.items) =
+    c.next_policy-policy.ensures ∙ ap (λ (xs : List Pred). improved c.rounds.policy.items (spread (length c.rounds.policy.items) xs)) c.deref.ensures.value in
+    let k = keeps-on p c.args.start.items c.rounds.invariant.stands.0 c.rounds.policy.items c.rounds.evaluation c.rounds.changes.items c.rounds.invariant.stands.2
+    c.next_policy-policy.result.items next c.requires.solvable.problem c.requires.solvable.keeps c.solution_law.ensures.solves in
+    subst (λ (xs : List ℕ). CanLeave p xs) (sym c.deref-in-rounds-3.ensures.value) k.0.leaves
+
+pub round_of-requires-clause-serves : goal.round_of-requires-clause-serves
+round_of-requires-clause-serves g c =
+    let p = g.P.ShortestPath.problem c.args.problem.now in
+    let next : c.next_policy-policy.result.items ≡ improved c.rounds.policy.items (spread (length c.rounds.policy.items) c.rounds.changes.items) =
+    c.next_policy-policy.ensures ∙ ap (λ (xs : List Pred). improved c.rounds.policy.items (spread (length c.rounds.policy.items) xs)) c.deref.ensures.value in
+    let is : IsScope p c.next_policy-policy.result.items c.rounds.changes.items c.in_ok-scope.scope =
+    subst (λ (xs : List ℕ). IsScope p xs c.rounds.changes.items c.in_ok-scope.scope) c.deref-in-rounds.ensures.value
+    (subst (λ (xs : List Pred). IsScope p c.deref-in-rounds.result.now xs c.in_ok-scope.scope) c.deref-in-rounds-2.ensures.value (c.in_ok-scope.ensures {u = tt}).scope) in
+    subst (λ (xs : List ℕ). CanServe p c.in_ok-scope.scope.affected xs c.rounds.evaluation) (sym c.deref-in-rounds-3.ensures.value)
+    (serves-on p c.args.start.items c.rounds.invariant.stands.0 c.rounds.policy.items c.rounds.evaluation c.rounds.changes.items c.rounds.invariant.stands.2
+    c.next_policy-policy.result.items next c.in_ok-scope.scope is)
+
+pub round_of-requires-clause-others : goal.round_of-requires-clause-others
+round_of-requires-clause-others g c =
+    let p = g.P.ShortestPath.problem c.args.problem.now in
+    let next : c.next_policy-policy.result.items ≡ improved c.rounds.policy.items (spread (length c.rounds.policy.items) c.rounds.changes.items) =
+    c.next_policy-policy.ensures ∙ ap (λ (xs : List Pred). improved c.rounds.policy.items (spread (length c.rounds.policy.items) xs)) c.deref.ensures.value in
+    let is : IsScope p c.next_policy-policy.result.items c.rounds.changes.items c.in_ok-scope.scope =
+    subst (λ (xs : List ℕ). IsScope p xs c.rounds.changes.items c.in_ok-scope.scope) c.deref-in-rounds.ensures.value
+    (subst (λ (xs : List Pred). IsScope p c.deref-in-rounds.result.now xs c.in_ok-scope.scope) c.deref-in-rounds-2.ensures.value (c.in_ok-scope.ensures {u = tt}).scope) in
+    unimproved p c.args.start.items c.rounds.invariant.stands.0 c.rounds.policy.items c.rounds.evaluation c.rounds.changes.items c.rounds.invariant.stands.2
+    c.next_policy-policy.result.items next c.in_ok-scope.scope is
+
+pub returns-in-Ok-clause-path : goal.returns-in-Ok-clause-path
+returns-in-Ok-clause-path g c =
+    let p = g.P.ShortestPath.problem c.args.problem.now in
+    let n = c.rounds.invariant.stands.0 in
+    let next : c.next_policy-policy.result.items ≡ improved c.rounds.policy.items (spread (length c.rounds.policy.items) c.rounds.changes.items) =
+    c.next_policy-policy.ensures ∙ ap (λ (xs : List Pred). improved c.rounds.policy.items (spread (length c.rounds.policy.items) xs)) c.deref.ensures.value in
+    let a : Round = record { number = n + 1; policy = c.next_policy-policy.result.items } in
+    let found : Found = record { number = n + 1; policy = c.next_policy-policy.result.items; values = c.into_values.result.items } in
+    let was : c.round_of.result ≡ Ok c.in-Ok.next = search rules in
+    let none = is_none c.in-Ok.next.len c.in-Ok.next.items c.is_empty.result c.is_empty.ensures c.if-is_empty.true c.in-Ok.next.ok.0 in
+    let step : path_step p a ≡ done found =
+    done_at p (n + 1) c.deref-in-rounds-3.result.now c.next_policy-policy.result.items c.round_of.new.evaluation.values c.round_of.result c.deref-in-rounds-3.ensures.value
+    (c.round_of.ensures.step (n + 1)) c.in-Ok.next was none
+    ∙ ap (λ (values : List ℚ). let s : Step Round Found Refusal = done (record { number = n + 1; policy = c.next_policy-policy.result.items; values = values }) in s)
+    (sym c.into_values.ensures) in
+    let rest = rest-on p c.args.start.items n c.rounds.policy.items c.rounds.evaluation c.rounds.changes.items c.rounds.invariant.stands.2 c.next_policy-policy.result.items next in
+    (n + 1, omega (arith, c.rounds.invariant.stands.1, c.saturating_add-round.ensures), rest (Ok found) (ends-done (path_step p) a found step))
+
+pub returns-in-Ok-clause-best : goal.returns-in-Ok-clause-best
+returns-in-Ok-clause-best g c =
+    let p = g.P.ShortestPath.problem c.args.problem.now in
+    let n = c.rounds.invariant.stands.0 in
+    let next : c.next_policy-policy.result.items ≡ improved c.rounds.policy.items (spread (length c.rounds.policy.items) c.rounds.changes.items) =
+    c.next_policy-policy.ensures ∙ ap (λ (xs : List Pred). improved c.rounds.policy.items (spread (length c.rounds.policy.items) xs)) c.deref.ensures.value in
+    let a : Round = record { number = n + 1; policy = c.next_policy-policy.result.items } in
+    let found : Found = record { number = n + 1; policy = c.next_policy-policy.result.items; values = c.into_values.result.items } in
+    let was : c.round_of.result ≡ Ok c.in-Ok.next = search rules in
+    let none = is_none c.in-Ok.next.len c.in-Ok.next.items c.is_empty.result c.is_empty.ensures c.if-is_empty.true c.in-Ok.next.ok.0 in
+    let step : path_step p a ≡ done found =
+    done_at p (n + 1) c.deref-in-rounds-3.result.now c.next_policy-policy.result.items c.round_of.new.evaluation.values c.round_of.result c.deref-in-rounds-3.ensures.value
+    (c.round_of.ensures.step (n + 1)) c.in-Ok.next was none
+    ∙ ap (λ (values : List ℚ). let s : Step Round Found Refusal = done (record { number = n + 1; policy = c.next_policy-policy.result.items; values = values }) in s)
+    (sym c.into_values.ensures) in
+    let k = keeps-on p c.args.start.items n c.rounds.policy.items c.rounds.evaluation c.rounds.changes.items c.rounds.invariant.stands.2
+    c.next_policy-policy.result.items next c.requires.solvable.problem c.requires.solvable.keeps c.solution_law.ensures.solves in
+    done-best p c.args.start.items c.requires.solvable.problem c.requires.solvable.keeps c.solution_law.ensures.solves a found k.0 step
+
+pub returns-in-Err-clause-path : goal.returns-in-Err-clause-path
+returns-in-Err-clause-path g c =
+    let p = g.P.ShortestPath.problem c.args.problem.now in
+    let n = c.rounds.invariant.stands.0 in
+    let next : c.next_policy-policy.result.items ≡ improved c.rounds.policy.items (spread (length c.rounds.policy.items) c.rounds.changes.items) =
+    c.next_policy-policy.ensures ∙ ap (λ (xs : List Pred). improved c.rounds.policy.items (spread (length c.rounds.policy.items) xs)) c.deref.ensures.value in
+    let rest = rest-on p c.args.start.items n c.rounds.policy.items c.rounds.evaluation c.rounds.changes.items c.rounds.invariant.stands.2 c.next_policy-policy.result.items next in
+    let was : c.round_of.result ≡ Err c.in-Err.error = search rules in
+    subst (λ (e : PathError). Ends p c.args.start.items (Err e)) (sym c.path_error.ensures)
+    (ends_by p (n + 1) c.deref-in-rounds-3.result.now c.next_policy-policy.result.items c.round_of.new.evaluation.values c.round_of.result c.deref-in-rounds-3.ensures.value
+    (c.round_of.ensures.step (n + 1)) c.args.start.items c.saturating_add-round.result c.next_policy-policy.result c.in-Err.error refl
+    (omega (arith, c.rounds.invariant.stands.1, c.saturating_add-round.ensures)) rest was)
+
+pub rounds-smaller : goal.rounds-smaller
+rounds-smaller g c =
+    let p = g.P.ShortestPath.problem c.args.problem.now in
+    let n = c.rounds.invariant.stands.0 in
+    let next : c.next_policy-policy.result.items ≡ improved c.rounds.policy.items (spread (length c.rounds.policy.items) c.rounds.changes.items) =
+    c.next_policy-policy.ensures ∙ ap (λ (xs : List Pred). improved c.rounds.policy.items (spread (length c.rounds.policy.items) xs)) c.deref.ensures.value in
+    let k = keeps-on p c.args.start.items n c.rounds.policy.items c.rounds.evaluation c.rounds.changes.items c.rounds.invariant.stands.2
+    c.next_policy-policy.result.items next c.requires.solvable.problem c.requires.solvable.keeps c.solution_law.ensures.solves in
+    k.1
+
+pub rounds-preserved : goal.rounds-preserved
+rounds-preserved g c =
+    let p = g.P.ShortestPath.problem c.args.problem.now in
+    let n = c.rounds.invariant.stands.0 in
+    let next : c.next_policy-policy.result.items ≡ improved c.rounds.policy.items (spread (length c.rounds.policy.items) c.rounds.changes.items) =
+    c.next_policy-policy.ensures ∙ ap (λ (xs : List Pred). improved c.rounds.policy.items (spread (length c.rounds.policy.items) xs)) c.deref.ensures.value in
+    let k = keeps-on p c.args.start.items n c.rounds.policy.items c.rounds.evaluation c.rounds.changes.items c.rounds.invariant.stands.2
+    c.next_policy-policy.result.items next c.requires.solvable.problem c.requires.solvable.keeps c.solution_law.ensures.solves in
+    let rest = rest-on p c.args.start.items n c.rounds.policy.items c.rounds.evaluation c.rounds.changes.items c.rounds.invariant.stands.2 c.next_policy-policy.result.items next in
+    let was : c.round_of.result ≡ Ok c.in-Ok.next = search rules in
+    let made = c.in-Ok.ensures in
+    record {
+      marks = (c.in_ok-scope.ensures {u = tt}).marks ∙ c.rounds.invariant.marks;
+      stands = (
+        n + 1,
+        omega (arith, c.rounds.invariant.stands.1, c.saturating_add-round.ensures),
+        record {
+          keeps = k.0;
+          evaluated = subst (λ (xs : List ℕ). IsEvaluated p xs c.round_of.new.evaluation) c.deref-in-rounds-3.ensures.value made.evaluated;
+          some = is_some c.in-Ok.next.len c.in-Ok.next.items c.is_empty.result c.is_empty.ensures c.if-is_empty.false c.in-Ok.next.ok.0;
+          improving = made.changes;
+          each = made.each;
+          ascend = made.ascend;
+          rest = rest;
+        },
+      );
+    }

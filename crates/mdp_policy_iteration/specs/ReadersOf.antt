@@ -1,0 +1,25 @@
+-- The choices of a problem by the nodes whose values they read.
+use Rattle.std.specs.Prelude.{◌≡◌, ℕ, ◌<◌, true, List, length, ◌⊎◌}
+use Rattle.mdp_rows.specs.Preds.{is_among}
+use Rattle.mdp_rows.specs.declared.preds.Pred.{Pred}
+use Rattle.mdp_readers.specs.Readers.{reads}
+use Rattle.mdp_policy_iteration.specs.Problem.{Problem, count, choices_at}
+use Rattle.mdp_policy_iteration.specs.Reads.{Reads}
+
+-- for each node the choices whose worth depends on its value
+pub record AreReaders (p : Problem) (readers : List (List Pred)) : Type 0 where
+  pub each_node : length readers ≡ count p
+  pub choices : (s c t : ℕ) → reads readers s c t ≡ true → (s < count p) × (c < length (choices_at p s))
+  pub complete :
+      (s c : ℕ) → s < count p → c < length (choices_at p s) → (nodes : List ℕ) × Reads p s c nodes × ((t : ℕ) → is_among t nodes ≡ true → reads readers s c t ≡ true)
+
+-- choice d of node t comes before choice c of node s
+abbrev pub IsBefore : ℕ → ℕ → ℕ → ℕ → Type 0
+IsBefore s c t d = (t < s) ⊎ ((t ≡ s) × (d < c))
+
+-- the same of those choices alone that come before choice c of node s
+pub record AreReadersTo (p : Problem) (s c : ℕ) (readers : List (List Pred)) : Type 0 where
+  pub each_node : length readers ≡ count p
+  pub choices : (t d v : ℕ) → reads readers t d v ≡ true → (t < count p) × (d < length (choices_at p t))
+  pub complete :
+      (t d : ℕ) → IsBefore s c t d → d < length (choices_at p t) → (nodes : List ℕ) × Reads p t d nodes × ((v : ℕ) → is_among v nodes ≡ true → reads readers t d v ≡ true)
