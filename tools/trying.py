@@ -1,0 +1,34 @@
+"""What tools/try_bounds and tools/try_rounds share: they run the program, read its texts, and write models."""
+
+import math
+import pathlib
+import subprocess
+from fractions import Fraction
+
+TOP = pathlib.Path(__file__).resolve().parent.parent
+INFINITE = {"inf": math.inf, "-inf": -math.inf}
+
+
+def run(*words):
+    """What the program writes on these words, and its status."""
+    ended = subprocess.run([TOP / "bin" / "mdp", *words], cwd=TOP, stdout=subprocess.PIPE, stderr=subprocess.DEVNULL, check=False)
+    return ended.stdout, ended.returncode
+
+
+def columns(text, count):
+    """The first words behind the number of each state in a certificate, as numbers."""
+    for line in text.decode().split("\n"):
+        name, *words = line.split(" ")
+        if name in ("state", "run"):
+            first, last, behind = (int(words[0]), int(words[1]), 2) if name == "run" else (int(words[0]), int(words[0]), 1)
+            yield from [tuple(INFINITE[word] if word in INFINITE else Fraction(word) for word in words[behind : behind + count])] * (last + 1 - first)
+
+
+def drn(states):
+    """A model in DRN with the reward name `cost`: for each state its labels, and its choices as a reward and entries."""
+    lines = ["@type: MDP", "@parameters", "", "@reward_models", "cost", "@nr_states", len(states), "@nr_choices", sum(len(choices) for _, choices in states), "@model"]
+    for number, (labels, choices) in enumerate(states):
+        lines.append(f"state {number} {labels}".strip())
+        for reward, entries in choices:
+            lines += [f"action [{reward}]", *(f"{target} : {value}" for target, value in sorted(entries.items()))]
+    return "\n".join(map(str, lines)) + "\n"
