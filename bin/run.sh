@@ -12,8 +12,12 @@ say() { echo "bin/$name: $*" >&2; }
 
 # ---- the build
 
-# crates: the program's crate and those of this repository that it stands on
-crates() { sed -n "s/^$crate: */$crate /p" "$top/crates.txt" | tr ' ' '\n' | grep '^mdp_'; }
+# crates: the program's crate, those of this repository that it stands on, and those that these stand on; crates.txt lists the lowest first
+crates() {
+  tac "$top/crates.txt" | awk -F '[: ]+' -v program="$crate" '
+    BEGIN { needed[program] }
+    $1 in needed { print $1; for (i = 2; i <= NF; i++) if ($i ~ /^mdp_/) needed[$i] }'
+}
 
 is_fresh() {
   local folders=() each folder
