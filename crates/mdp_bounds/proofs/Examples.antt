@@ -7,6 +7,7 @@ use Rattle.mdp_math.proofs.Extremes.{le_of_test, test_of_le}
 use Rattle.mdp_spec.specs.Mdp.{Entry, Choice, Mdp, row_at}
 use Rattle.mdp_spec.specs.Row.{row_sum}
 use Rattle.mdp_spec.specs.RewardRules.{backup}
+use Rattle.mdp_spec.proofs.Small.{entry, half, number, third}
 use Rattle.mdp_farkas.specs.Verdict.{verdict_of}
 use Rattle.mdp_farkas.specs.Upper.{upper_checks}
 use Rattle.mdp_bounds.specs.Sum.{plain_add, told_sum}
@@ -19,18 +20,6 @@ use Rattle.mdp_bounds.specs.Reward.{reward_bounds_checks}
 use Rattle.mdp_bounds.specs.Mean.{mean_bounds_checks}
 use Rattle.mdp_farkas.specs.declared.rule.Rule.TheVariants.{BiasOnPolicy, BoundOnEachChoice, RewardOnPolicy, RewardValue, ValueOnEachChoice, ValueOnPolicy}
 use Rattle.mdp_farkas.specs.declared.rule.Rule.{Rule}
-
-abbrev entry : ℕ → ℚ → Entry
-entry t p = record { target = t; prob = p }
-
-abbrev whole : ℕ → ℚ
-whole n = of_int (pos n)
-
-abbrev half : ℚ
-half = ratio (pos 1) 2
-
-abbrev third : ℚ
-third = ratio (pos 1) 3
 
 -- a number of which a third has a denominator past width
 abbrev narrowest : ℚ
@@ -64,9 +53,9 @@ three = record {
   names = [];
   labels = [];
   states =
-      record { labels = []; choices = row (entry 0 (whole 1) ∷ []) ∷ row (entry 1 third ∷ entry 2 (ratio (pos 2) 3) ∷ []) ∷ [] }
-      ∷ record { labels = []; choices = row (entry 1 (whole 1) ∷ []) ∷ [] }
-      ∷ record { labels = []; choices = row (entry 2 (whole 1) ∷ []) ∷ [] }
+      record { labels = []; choices = row (entry 0 (number 1) ∷ []) ∷ row (entry 1 third ∷ entry 2 (ratio (pos 2) 3) ∷ []) ∷ [] }
+      ∷ record { labels = []; choices = row (entry 1 (number 1) ∷ []) ∷ [] }
+      ∷ record { labels = []; choices = row (entry 2 (number 1) ∷ []) ∷ [] }
       ∷ [];
 }
 
@@ -75,19 +64,19 @@ goals = false ∷ true ∷ false ∷ []
 
 abbrev reached : ℚ → ℚ → ℚ → Verdict
 reached low high last =
-    verdict_of (bounds_checks Max three goals (low ∷ whole 1 ∷ whole 0 ∷ []) (high ∷ whole 1 ∷ last ∷ []) (1 ∷ 0 ∷ 0 ∷ []) (1 ∷ 0 ∷ 0 ∷ []))
+    verdict_of (bounds_checks Max three goals (low ∷ number 1 ∷ number 0 ∷ []) (high ∷ number 1 ∷ last ∷ []) (1 ∷ 0 ∷ 0 ∷ []) (1 ∷ 0 ∷ 0 ∷ []))
 
 -- the greatest probability, 1/3 at state 0, lies between 1/4 and 1/2
-between : reached (ratio (pos 1) 4) half (whole 0) ≡ Yes
+between : reached (ratio (pos 1) 4) half (number 0) ≡ Yes
 unfolding gcd gcd_with_fuel ratio of_int le_ℚ lt_ℚ ◌+ℚ◌ ◌*ℚ◌ narrow narrow_ℚ written_add written_mul
 between = refl
 
 -- 1/2 is no lower value, and 1/4 no upper one
-lower_too_great : reached half (whole 1) (whole 0) ≡ fault ValueOnPolicy 0 (Some 1)
+lower_too_great : reached half (number 1) (number 0) ≡ fault ValueOnPolicy 0 (Some 1)
 unfolding gcd gcd_with_fuel ratio of_int le_ℚ lt_ℚ ◌+ℚ◌ ◌*ℚ◌ narrow narrow_ℚ written_add written_mul
 lower_too_great = refl
 
-upper_too_small : reached (ratio (pos 1) 4) (ratio (pos 1) 4) (whole 0) ≡ fault ValueOnEachChoice 0 (Some 1)
+upper_too_small : reached (ratio (pos 1) 4) (ratio (pos 1) 4) (number 0) ≡ fault ValueOnEachChoice 0 (Some 1)
 unfolding gcd gcd_with_fuel ratio of_int le_ℚ lt_ℚ ◌+ℚ◌ ◌*ℚ◌ narrow narrow_ℚ written_add written_mul
 upper_too_small = refl
 
@@ -96,21 +85,21 @@ wide : reached third half narrowest ≡ Wide (Some 0) (Some 1)
 unfolding gcd gcd_with_fuel ratio of_int le_ℚ lt_ℚ ◌+ℚ◌ ◌*ℚ◌ narrow narrow_ℚ written_add written_mul
 wide = refl
 
-no_sum : reached third (whole 1) narrowest ≡ Yes
+no_sum : reached third (number 1) narrowest ≡ Yes
 unfolding gcd gcd_with_fuel ratio of_int le_ℚ lt_ℚ ◌+ℚ◌ ◌*ℚ◌ narrow narrow_ℚ written_add written_mul
 no_sum = refl
 
 -- by written terms the same upper bounds are too wide
-written_too_wide : verdict_of (upper_checks three goals (whole 1 ∷ whole 1 ∷ narrowest ∷ [])) ≡ Wide (Some 0) (Some 1)
+written_too_wide : verdict_of (upper_checks three goals (number 1 ∷ number 1 ∷ narrowest ∷ [])) ≡ Wide (Some 0) (Some 1)
 unfolding gcd gcd_with_fuel ratio of_int lt_ℚ ◌+ℚ◌ ◌*ℚ◌ narrow narrow_ℚ written_add written_mul written_compare
 written_too_wide = refl
 
 -- what the rule of a no says there: the lower value is at most the sum over the row, which 1/4 is and 1/2 isn't
 abbrev at_most_row : ℚ → Bool
-at_most_row low = le_ℚ low (row_sum (row_at three 0 1) (low ∷ whole 1 ∷ whole 0 ∷ []))
+at_most_row low = le_ℚ low (row_sum (row_at three 0 1) (low ∷ number 1 ∷ number 0 ∷ []))
 
 abbrev reach_says : ℚ → Rule → Option ℕ → Option ℕ → Type 0
-reach_says low = ReachSays Max three goals (low ∷ whole 1 ∷ whole 0 ∷ []) (whole 1 ∷ whole 1 ∷ whole 0 ∷ []) (1 ∷ 0 ∷ 0 ∷ []) (1 ∷ 0 ∷ 0 ∷ [])
+reach_says low = ReachSays Max three goals (low ∷ number 1 ∷ number 0 ∷ []) (number 1 ∷ number 1 ∷ number 0 ∷ []) (1 ∷ 0 ∷ 0 ∷ []) (1 ∷ 0 ∷ 0 ∷ [])
 
 quarter_passes : at_most_row (ratio (pos 1) 4) ≡ true
 unfolding gcd gcd_with_fuel ratio of_int le_ℚ ◌+ℚ◌ ◌*ℚ◌
@@ -134,7 +123,7 @@ no_rule_of_reach : reach_says half BiasOnPolicy (Some 0) (Some 1)
 no_rule_of_reach = tt
 
 -- the exact probabilities, as lower and as upper values
-exactly : reached third third (whole 0) ≡ Yes
+exactly : reached third third (number 0) ≡ Yes
 unfolding gcd gcd_with_fuel ratio of_int le_ℚ lt_ℚ ◌+ℚ◌ ◌*ℚ◌ narrow narrow_ℚ written_add written_mul
 exactly = refl
 
@@ -165,58 +154,58 @@ trial = record {
   names = [] ∷ [];
   labels = [];
   states =
-      record { labels = []; choices = record { row = entry 0 half ∷ entry 1 half ∷ []; rewards = whole 1 ∷ [] } ∷ [] }
-      ∷ record { labels = []; choices = record { row = entry 1 (whole 1) ∷ []; rewards = whole 0 ∷ [] } ∷ [] }
+      record { labels = []; choices = record { row = entry 0 half ∷ entry 1 half ∷ []; rewards = number 1 ∷ [] } ∷ [] }
+      ∷ record { labels = []; choices = record { row = entry 1 (number 1) ∷ []; rewards = number 0 ∷ [] } ∷ [] }
       ∷ [];
 }
 
 abbrev costs : Option ℚ → Option ℚ → Verdict
-costs low high = verdict_of (reward_bounds_checks Max trial 0 (false ∷ true ∷ []) (low ∷ Some (whole 0) ∷ []) (high ∷ Some (whole 0) ∷ []) (0 ∷ 0 ∷ []) (1 ∷ 0 ∷ []))
+costs low high = verdict_of (reward_bounds_checks Max trial 0 (false ∷ true ∷ []) (low ∷ Some (number 0) ∷ []) (high ∷ Some (number 0) ∷ []) (0 ∷ 0 ∷ []) (1 ∷ 0 ∷ []))
 
 -- two trials are expected
-costs_between : costs (Some (whole 1)) (Some (whole 3)) ≡ Yes
+costs_between : costs (Some (number 1)) (Some (number 3)) ≡ Yes
 unfolding gcd gcd_with_fuel ratio of_int le_ℚ ◌+ℚ◌ ◌*ℚ◌ narrow narrow_ℚ written_add written_mul
 costs_between = refl
 
-costs_less : costs (Some (whole 3)) None ≡ fault RewardOnPolicy 0 (Some 0)
+costs_less : costs (Some (number 3)) None ≡ fault RewardOnPolicy 0 (Some 0)
 unfolding gcd gcd_with_fuel ratio of_int le_ℚ ◌+ℚ◌ ◌*ℚ◌ narrow narrow_ℚ written_add written_mul
 costs_less = refl
 
-costs_something : costs (Some (whole 0)) None ≡ Yes
+costs_something : costs (Some (number 0)) None ≡ Yes
 unfolding gcd gcd_with_fuel ratio of_int le_ℚ ◌+ℚ◌ ◌*ℚ◌ narrow narrow_ℚ written_add written_mul
 costs_something = refl
 
 -- an infinite lower value above a finite upper one
-costs_ordered : costs None (Some (whole 3)) ≡ fault RewardValue 0 None
+costs_ordered : costs None (Some (number 3)) ≡ fault RewardValue 0 None
 unfolding gcd gcd_with_fuel ratio of_int le_ℚ ◌+ℚ◌ ◌*ℚ◌ narrow narrow_ℚ written_add written_mul
 costs_ordered = refl
 
-costs_exactly : costs (Some (whole 2)) (Some (whole 2)) ≡ Yes
+costs_exactly : costs (Some (number 2)) (Some (number 2)) ≡ Yes
 unfolding gcd gcd_with_fuel ratio of_int le_ℚ ◌+ℚ◌ ◌*ℚ◌ narrow narrow_ℚ written_add written_mul
 costs_exactly = refl
 
 -- what the rules of those no say: a lower value is at most what the policy's choice earns, and is infinite only where the upper one is
 abbrev costs_say : Option ℚ → Option ℚ → Rule → Option ℕ → Option ℕ → Type 0
-costs_say low high = RewardSays Max trial 0 (false ∷ true ∷ []) (low ∷ Some (whole 0) ∷ []) (high ∷ Some (whole 0) ∷ []) (0 ∷ 0 ∷ []) (1 ∷ 0 ∷ [])
+costs_say low high = RewardSays Max trial 0 (false ∷ true ∷ []) (low ∷ Some (number 0) ∷ []) (high ∷ Some (number 0) ∷ []) (0 ∷ 0 ∷ []) (1 ∷ 0 ∷ [])
 
 abbrev at_most_earned : ℚ → Bool
-at_most_earned low = le_ℚ low (backup trial 0 0 0 (low ∷ whole 0 ∷ []))
+at_most_earned low = le_ℚ low (backup trial 0 0 0 (low ∷ number 0 ∷ []))
 
-one_passes : at_most_earned (whole 1) ≡ true
+one_passes : at_most_earned (number 1) ≡ true
 unfolding gcd gcd_with_fuel ratio of_int le_ℚ ◌+ℚ◌ ◌*ℚ◌
 one_passes = refl
 
-three_fails : at_most_earned (whole 3) ≡ false
+three_fails : at_most_earned (number 3) ≡ false
 unfolding gcd gcd_with_fuel ratio of_int le_ℚ ◌+ℚ◌ ◌*ℚ◌
 three_fails = refl
 
-one_said : costs_say (Some (whole 1)) None RewardOnPolicy (Some 0) (Some 0)
+one_said : costs_say (Some (number 1)) None RewardOnPolicy (Some 0) (Some 0)
 one_said = λ t e. le_of_test _ _ one_passes
 
-three_refused : costs_say (Some (whole 3)) None RewardOnPolicy (Some 0) (Some 0) → ⊥
+three_refused : costs_say (Some (number 3)) None RewardOnPolicy (Some 0) (Some 0) → ⊥
 three_refused says = true≢false (sym (test_of_le _ _ (says (omega arith, refl, refl) refl)) ∙ three_fails)
 
-order_refused : costs_say None (Some (whole 3)) RewardValue (Some 0) None → ⊥
+order_refused : costs_say None (Some (number 3)) RewardValue (Some 0) None → ⊥
 order_refused says = true≢false (sym ((says (omega arith)).0 refl))
 
 -- ---- mean payoff: a state with two loops, of reward 1 and 3
@@ -226,11 +215,11 @@ loops = record {
   names = [] ∷ [];
   labels = [];
   states =
-      record { labels = []; choices = record { row = entry 0 (whole 1) ∷ []; rewards = whole 1 ∷ [] } ∷ record { row = entry 0 (whole 1) ∷ []; rewards = whole 3 ∷ [] } ∷ [] } ∷ [];
+      record { labels = []; choices = record { row = entry 0 (number 1) ∷ []; rewards = number 1 ∷ [] } ∷ record { row = entry 0 (number 1) ∷ []; rewards = number 3 ∷ [] } ∷ [] } ∷ [];
 }
 
 abbrev earns : ℕ → ℕ → ℕ → Verdict
-earns low high choice = verdict_of (mean_bounds_checks Max loops 0 (whole low ∷ []) (whole high ∷ []) (whole 0 ∷ []) (whole 0 ∷ []) (whole 0) (choice ∷ []))
+earns low high choice = verdict_of (mean_bounds_checks Max loops 0 (number low ∷ []) (number high ∷ []) (number 0 ∷ []) (number 0 ∷ []) (number 0) (choice ∷ []))
 
 earns_trivially : earns 1 3 0 ≡ Yes
 unfolding gcd gcd_with_fuel ratio of_int le_ℚ neg_ℚ ◌+ℚ◌ ◌*ℚ◌ narrow narrow_ℚ written_add written_mul
@@ -250,10 +239,10 @@ earns_exactly = refl
 
 -- what the rule of that no says: the lower gain and the bias are at most what the policy's choice earns by the bias
 abbrev earns_say : ℕ → Rule → Option ℕ → Option ℕ → Type 0
-earns_say low = MeanSays Max loops 0 (whole low ∷ []) (whole 3 ∷ []) (whole 0 ∷ []) (whole 0 ∷ []) (whole 0) (0 ∷ [])
+earns_say low = MeanSays Max loops 0 (number low ∷ []) (number 3 ∷ []) (number 0 ∷ []) (number 0 ∷ []) (number 0) (0 ∷ [])
 
 abbrev at_most_step : ℕ → Bool
-at_most_step low = le_ℚ (whole low +ℚ whole 0) (backup loops 0 0 0 (whole 0 ∷ []))
+at_most_step low = le_ℚ (number low +ℚ number 0) (backup loops 0 0 0 (number 0 ∷ []))
 
 one_steps : at_most_step 1 ≡ true
 unfolding gcd gcd_with_fuel ratio of_int le_ℚ ◌+ℚ◌ ◌*ℚ◌

@@ -7,6 +7,7 @@ use Rattle.mdp_math.specs.Rational.{ℚ, ratio}
 use Rattle.mdp_rows.specs.declared.dir.Dir.TheVariants.{Max, Min}
 use Rattle.mdp_num.specs.Value.{spelling}
 use Rattle.mdp_num.specs.Canonical.{canonical_of}
+use Rattle.mdp_spec.proofs.Small.{half}
 use Rattle.mdp_text.specs.declared.error.CertKind.TheVariants.{Version, Claim, Number, Shape, Count, End, Run}
 use Rattle.mdp_text.specs.Heads.{states_at}
 use Rattle.mdp_text.specs.Lines.{refused, next_line, nothing_behind}
@@ -26,9 +27,6 @@ one = ratio (pos 1) 1
 
 abbrev none : ℚ
 none = ratio (pos 0) 1
-
-abbrev half : ℚ
-half = ratio (pos 1) 2
 
 abbrev two : ℚ
 two = ratio (pos 2) 1

@@ -9,6 +9,7 @@ use Rattle.mdp_rows.specs.declared.dir.Dir.TheVariants.{Max, Min}
 use Rattle.mdp_subsystem_rules.specs.declared.flow.Flow.{Flow}
 use Rattle.mdp_num.specs.Value.{spelling}
 use Rattle.mdp_num.specs.Canonical.{canonical_of}
+use Rattle.mdp_spec.proofs.Small.{half, quarter}
 use Rattle.mdp_text.specs.declared.init.Init.{Init}
 use Rattle.mdp_text.specs.declared.init.Init.TheVariants.{Missing, Finite, Infinite, Start}
 use Rattle.mdp_text.specs.declared.error.CertKind.TheVariants as kind
@@ -74,9 +75,6 @@ unfolding text_in run_text run_lines longest_runs spelling ratio gcd gcd_with_fu
 one-written = refl
 
 -- ---- the greatest probabilities of reaching the goal, and a policy
-
-abbrev half : ℚ
-half = ratio (pos 1) 2
 
 abbrev half-of-four : Certificate
 half-of-four = record {
@@ -511,9 +509,6 @@ claims-read = record {
 
 abbrev witness-of : Dir → ℚ → PlainBody → Certificate
 witness-of dir t body = record { claim = witness dir (codes "goal") t; states = 4; init = Start 0; body = body }
-
-abbrev quarter : ℚ
-quarter = ratio (pos 1) 4
 
 abbrev sent : ℕ → ℕ → ℚ → Flow
 sent state choice amount = record { state = state; choice = choice; amount = amount }

@@ -1,38 +1,27 @@
 -- Small chains, computed.
 use Rattle.std.proofs.Common.{◌≡◌, ℕ, List, [], ◌∷◌, refl, pos, arith}
 use Rattle.std.specs.Prelude.{codes}
-use Rattle.mdp_math.specs.Rational.{ℚ, of_int, ratio}
+use Rattle.mdp_math.specs.Rational.{of_int}
 use Rattle.mdp_spec.specs.Mdp.{Entry, Choice, State, Mdp}
+use Rattle.mdp_spec.proofs.Small.{entry, half, labelled, one}
 use Rattle.mdp_chain.specs.Chain.{chain_of, NamesNoChoice}
-
-abbrev to : ℕ → ℚ → Entry
-to t p = record { target = t; prob = p }
 
 abbrev by : List Entry → ℕ → Choice
 by row reward = record { row = row; rewards = of_int (pos reward) ∷ [] }
 
-abbrev with : List ℕ → List Choice → State
-with labels choices = record { labels = labels; choices = choices }
-
 abbrev model_of : List State → Mdp
 model_of states = record { names = codes "cost" ∷ []; labels = codes "init" ∷ codes "goal" ∷ []; states = states }
 
-abbrev one : ℚ
-one = of_int (pos 1)
-
-abbrev half : ℚ
-half = ratio (pos 1) 2
-
 -- state 0 goes to the goal 1 at a cost of 3, or tosses a coin at a cost of 1 until it falls right
 abbrev tries : Mdp
-tries = model_of (with (0 ∷ []) (by (to 1 one ∷ []) 3 ∷ by (to 0 half ∷ to 1 half ∷ []) 1 ∷ []) ∷ with (1 ∷ []) (by (to 1 one ∷ []) 0 ∷ []) ∷ [])
+tries = model_of (labelled (0 ∷ []) (by (entry 1 one ∷ []) 3 ∷ by (entry 0 half ∷ entry 1 half ∷ []) 1 ∷ []) ∷ labelled (1 ∷ []) (by (entry 1 one ∷ []) 0 ∷ []) ∷ [])
 
 -- the chain of the policy that goes, and that of the policy that tosses: names and labels stay, and the one choice has its rewards
-goes : chain_of tries (0 ∷ 0 ∷ []) ≡ model_of (with (0 ∷ []) (by (to 1 one ∷ []) 3 ∷ []) ∷ with (1 ∷ []) (by (to 1 one ∷ []) 0 ∷ []) ∷ [])
+goes : chain_of tries (0 ∷ 0 ∷ []) ≡ model_of (labelled (0 ∷ []) (by (entry 1 one ∷ []) 3 ∷ []) ∷ labelled (1 ∷ []) (by (entry 1 one ∷ []) 0 ∷ []) ∷ [])
 unfolding chain_of
 goes = refl
 
-tosses : chain_of tries (1 ∷ 0 ∷ []) ≡ model_of (with (0 ∷ []) (by (to 0 half ∷ to 1 half ∷ []) 1 ∷ []) ∷ with (1 ∷ []) (by (to 1 one ∷ []) 0 ∷ []) ∷ [])
+tosses : chain_of tries (1 ∷ 0 ∷ []) ≡ model_of (labelled (0 ∷ []) (by (entry 0 half ∷ entry 1 half ∷ []) 1 ∷ []) ∷ labelled (1 ∷ []) (by (entry 1 one ∷ []) 0 ∷ []) ∷ [])
 unfolding chain_of
 tosses = refl
 

@@ -4,6 +4,7 @@ use Rattle.std.specs.Prelude.{codes}
 use Rattle.mdp_math.specs.Gcd.{gcd, gcd_with_fuel}
 use Rattle.mdp_math.specs.Rational.{ℚ, of_int, ratio, le_ℚ, lt_ℚ, neg_ℚ, ◌+ℚ◌, ◌*ℚ◌}
 use Rattle.mdp_math.specs.Written.{narrow, narrow_ℚ, written_add, written_mul}
+use Rattle.mdp_spec.proofs.Small.{half, nought, one}
 use Rattle.mdp_rows.specs.declared.dir.Dir.TheVariants.{Max, Min}
 use Rattle.mdp_farkas.specs.declared.rule.Rule.{Rule}
 use Rattle.mdp_farkas.specs.declared.rule.Rule.TheVariants.{BiasOnPolicy, InitialState, RewardOnPolicy, ValueOnEachChoice, ValueOnPolicy}
@@ -11,7 +12,7 @@ use Rattle.mdp_cert.specs.Cert.{reach, reward, mean}
 use Rattle.mdp_bounds_text.specs.Cert.{probabilities, rewards, gains, Certificate}
 use Rattle.mdp_bounds_text.specs.declared.init.BoundsInit.{BoundsInit}
 use Rattle.mdp_bounds_text.specs.declared.init.BoundsInit.TheVariants.{Missing, Between}
-use Rattle.mdp_check.proofs.Examples.{three, two, turns, zero_, one, half}
+use Rattle.mdp_check.proofs.Examples.{three, two, turns}
 use Rattle.mdp_check.specs.Bounds.{bounds_answer_to}
 use Rattle.mdp_check.specs.declared.answer.Answer.{Answer}
 use Rattle.mdp_check.specs.declared.answer.Answer.TheVariants.{Yes, No, Wide, NoReward, NoLabel, Size}
@@ -32,18 +33,18 @@ reaches label init low high last = record {
   claim = reach Max label;
   states = 3;
   init = init;
-  body = probabilities (low ∷ one ∷ zero_ ∷ []) (high ∷ one ∷ last ∷ []) (1 ∷ 0 ∷ 0 ∷ []) (1 ∷ 0 ∷ 0 ∷ []);
+  body = probabilities (low ∷ one ∷ nought ∷ []) (high ∷ one ∷ last ∷ []) (1 ∷ 0 ∷ 0 ∷ []) (1 ∷ 0 ∷ 0 ∷ []);
 }
 
-between : bounds_answer_to three (reaches (codes "goal") (at_init quarter half) quarter half zero_) ≡ Yes
+between : bounds_answer_to three (reaches (codes "goal") (at_init quarter half) quarter half nought) ≡ Yes
 unfolding gcd gcd_with_fuel ratio of_int le_ℚ lt_ℚ ◌+ℚ◌ ◌*ℚ◌ narrow narrow_ℚ written_add written_mul
 between = refl
 
-lower_too_great : bounds_answer_to three (reaches (codes "goal") (at_init half one) half one zero_) ≡ fault ValueOnPolicy (Some 0) (Some 1)
+lower_too_great : bounds_answer_to three (reaches (codes "goal") (at_init half one) half one nought) ≡ fault ValueOnPolicy (Some 0) (Some 1)
 unfolding gcd gcd_with_fuel ratio of_int le_ℚ lt_ℚ ◌+ℚ◌ ◌*ℚ◌ narrow narrow_ℚ written_add written_mul
 lower_too_great = refl
 
-upper_too_small : bounds_answer_to three (reaches (codes "goal") (at_init zero_ quarter) zero_ quarter zero_) ≡ fault ValueOnEachChoice (Some 0) (Some 1)
+upper_too_small : bounds_answer_to three (reaches (codes "goal") (at_init nought quarter) nought quarter nought) ≡ fault ValueOnEachChoice (Some 0) (Some 1)
 unfolding gcd gcd_with_fuel ratio of_int le_ℚ lt_ℚ ◌+ℚ◌ ◌*ℚ◌ narrow narrow_ℚ written_add written_mul
 upper_too_small = refl
 
@@ -53,22 +54,22 @@ unfolding gcd gcd_with_fuel ratio of_int le_ℚ lt_ℚ ◌+ℚ◌ ◌*ℚ◌ nar
 wide = refl
 
 -- rule 1: both values stand in the line `init`, and the state
-other_lower : bounds_answer_to three (reaches (codes "goal") (at_init zero_ half) quarter half zero_) ≡ fault InitialState (Some 0) None
+other_lower : bounds_answer_to three (reaches (codes "goal") (at_init nought half) quarter half nought) ≡ fault InitialState (Some 0) None
 unfolding gcd gcd_with_fuel ratio of_int
 other_lower = refl
 
-other_upper : bounds_answer_to three (reaches (codes "goal") (at_init quarter one) quarter half zero_) ≡ fault InitialState (Some 0) None
+other_upper : bounds_answer_to three (reaches (codes "goal") (at_init quarter one) quarter half nought) ≡ fault InitialState (Some 0) None
 unfolding gcd gcd_with_fuel ratio of_int
 other_upper = refl
 
-other_state : bounds_answer_to three (reaches (codes "goal") (Between 1 (Some one) (Some one)) quarter half zero_) ≡ fault InitialState (Some 1) None
+other_state : bounds_answer_to three (reaches (codes "goal") (Between 1 (Some one) (Some one)) quarter half nought) ≡ fault InitialState (Some 1) None
 unfolding gcd gcd_with_fuel ratio of_int
 other_state = refl
 
-no_init : bounds_answer_to three (reaches (codes "goal") Missing quarter half zero_) ≡ fault InitialState None None
+no_init : bounds_answer_to three (reaches (codes "goal") Missing quarter half nought) ≡ fault InitialState None None
 no_init = refl
 
-no_label : bounds_answer_to three (reaches (codes "done") (at_init quarter half) quarter half zero_) ≡ NoLabel
+no_label : bounds_answer_to three (reaches (codes "done") (at_init quarter half) quarter half nought) ≡ NoLabel
 no_label = refl
 
 -- ---- rewards until a goal
@@ -79,7 +80,7 @@ earns low high = record {
   claim = reward Min (codes "-") (codes "goal");
   states = 2;
   init = Between 0 low high;
-  body = rewards (low ∷ Some zero_ ∷ []) (high ∷ Some zero_ ∷ []) (1 ∷ 0 ∷ []) (1 ∷ 0 ∷ []);
+  body = rewards (low ∷ Some nought ∷ []) (high ∷ Some nought ∷ []) (1 ∷ 0 ∷ []) (1 ∷ 0 ∷ []);
 }
 
 -- an infinite upper value claims no upper bound
@@ -119,11 +120,11 @@ turning low high = record {
   claim = mean Max (codes "-");
   states = 2;
   init = at_init low high;
-  body = gains (low ∷ low ∷ []) (high ∷ high ∷ []) (zero_ ∷ zero_ ∷ []) (zero_ ∷ zero_ ∷ []) (0 ∷ 0 ∷ []) zero_;
+  body = gains (low ∷ low ∷ []) (high ∷ high ∷ []) (nought ∷ nought ∷ []) (nought ∷ nought ∷ []) (0 ∷ 0 ∷ []) nought;
 }
 
 -- the least and the greatest reward are always bounds
-turning_trivially : bounds_answer_to turns (turning zero_ one) ≡ Yes
+turning_trivially : bounds_answer_to turns (turning nought one) ≡ Yes
 unfolding gcd gcd_with_fuel ratio of_int le_ℚ neg_ℚ ◌+ℚ◌ ◌*ℚ◌ narrow narrow_ℚ written_add written_mul
 turning_trivially = refl
 

@@ -6,6 +6,7 @@ use Rattle.mdp_math.specs.Gcd.{gcd, gcd_with_fuel}
 use Rattle.mdp_math.specs.Rational.{ℚ, of_int, ratio, lt_ℚ, neg_ℚ, ◌+ℚ◌, ◌*ℚ◌}
 use Rattle.mdp_math.specs.Written.{narrow, narrow_ℚ, written_add, written_mul, written_compare}
 use Rattle.mdp_spec.specs.Mdp.{Entry, Choice, Mdp}
+use Rattle.mdp_spec.proofs.Small.{entry, half, nought, one, third}
 use Rattle.mdp_rows.specs.declared.dir.Dir.{Dir}
 use Rattle.mdp_rows.specs.declared.dir.Dir.TheVariants.{Max, Min}
 use Rattle.mdp_text.specs.declared.init.Init.{Init}
@@ -18,15 +19,6 @@ use Rattle.mdp_farkas.specs.declared.rule.Rule.TheVariants.{StartReachesThreshol
 
 abbrev row : List Entry → Choice
 row entries = record { row = entries; rewards = [] }
-
-abbrev entry : ℕ → ℚ → Entry
-entry t p = record { target = t; prob = p }
-
-abbrev pub zero_ : ℚ
-zero_ = of_int (pos 0)
-
-abbrev pub one : ℚ
-one = of_int (pos 1)
 
 abbrev pub three : Mdp
 three = record {
@@ -43,26 +35,26 @@ abbrev upper_of : List ℕ → Init → List ℚ → Certificate
 upper_of label init values = record { claim = upper label; states = 3; init = init; body = bounds values }
 
 -- 1 bounds state 0
-bounded : answer_to three (upper_of (codes "goal") (Finite 0 one) (one ∷ one ∷ zero_ ∷ [])) ≡ Yes
+bounded : answer_to three (upper_of (codes "goal") (Finite 0 one) (one ∷ one ∷ nought ∷ [])) ≡ Yes
 unfolding gcd gcd_with_fuel ratio of_int ◌+ℚ◌ ◌*ℚ◌ narrow narrow_ℚ written_add written_mul written_compare
 bounded = refl
 
 -- the loop alone carries the value 1 at state 0, so its rank doesn't fall
 loop_alone :
-    answer_to three (record { claim = reach Max (codes "goal"); states = 3; init = Finite 0 one; body = policy (one ∷ one ∷ zero_ ∷ []) (0 ∷ 0 ∷ 0 ∷ []) (1 ∷ 0 ∷ 0 ∷ []) })
+    answer_to three (record { claim = reach Max (codes "goal"); states = 3; init = Finite 0 one; body = policy (one ∷ one ∷ nought ∷ []) (0 ∷ 0 ∷ 0 ∷ []) (1 ∷ 0 ∷ 0 ∷ []) })
     ≡ No (record { rule = RankFalls; state = Some 0; choice = Some 0 })
 unfolding gcd gcd_with_fuel ratio of_int lt_ℚ ◌+ℚ◌ ◌*ℚ◌ narrow narrow_ℚ written_add written_mul written_compare
 loop_alone = refl
 
 -- rule 1 comes before the others
-no_init : answer_to three (upper_of (codes "goal") Missing (zero_ ∷ zero_ ∷ zero_ ∷ [])) ≡ No (record { rule = InitialState; state = None; choice = None })
+no_init : answer_to three (upper_of (codes "goal") Missing (nought ∷ nought ∷ nought ∷ [])) ≡ No (record { rule = InitialState; state = None; choice = None })
 no_init = refl
 
-other_value : answer_to three (upper_of (codes "goal") (Finite 0 zero_) (one ∷ one ∷ zero_ ∷ [])) ≡ No (record { rule = InitialState; state = Some 0; choice = None })
+other_value : answer_to three (upper_of (codes "goal") (Finite 0 nought) (one ∷ one ∷ nought ∷ [])) ≡ No (record { rule = InitialState; state = Some 0; choice = None })
 unfolding of_int
 other_value = refl
 
-no_label : answer_to three (upper_of (codes "done") (Finite 0 one) (one ∷ one ∷ zero_ ∷ [])) ≡ NoLabel
+no_label : answer_to three (upper_of (codes "done") (Finite 0 one) (one ∷ one ∷ nought ∷ [])) ≡ NoLabel
 no_label = refl
 
 -- the numbers of states come before the label
@@ -88,8 +80,8 @@ two = record {
   names = codes "-" ∷ [];
   labels = codes "init" ∷ codes "goal" ∷ [];
   states =
-      record { labels = 0 ∷ []; choices = paid (entry 0 one ∷ []) zero_ ∷ paid (entry 1 one ∷ []) three_ ∷ [] }
-      ∷ record { labels = 1 ∷ []; choices = paid (entry 1 one ∷ []) zero_ ∷ [] }
+      record { labels = 0 ∷ []; choices = paid (entry 0 one ∷ []) nought ∷ paid (entry 1 one ∷ []) three_ ∷ [] }
+      ∷ record { labels = 1 ∷ []; choices = paid (entry 1 one ∷ []) nought ∷ [] }
       ∷ [];
 }
 
@@ -98,27 +90,27 @@ reward_of_two dir name init values choices ranks =
     record { claim = reward dir name (codes "goal"); states = 2; init = init; body = rewards values choices ranks }
 
 -- the least reward is 3: the loop pays nothing and doesn't arrive
-least : answer_to two (reward_of_two Min (codes "-") (Finite 0 three_) (Some three_ ∷ Some zero_ ∷ []) (1 ∷ 0 ∷ []) (1 ∷ 0 ∷ [])) ≡ Yes
+least : answer_to two (reward_of_two Min (codes "-") (Finite 0 three_) (Some three_ ∷ Some nought ∷ []) (1 ∷ 0 ∷ []) (1 ∷ 0 ∷ [])) ≡ Yes
 unfolding gcd gcd_with_fuel ratio of_int ◌+ℚ◌ ◌*ℚ◌ narrow narrow_ℚ written_add written_mul written_compare
 least = refl
 
 -- the greatest is infinite: the loop misses the goal
-greatest : answer_to two (reward_of_two Max (codes "-") (Infinite 0) (None ∷ Some zero_ ∷ []) (0 ∷ 0 ∷ []) (0 ∷ 0 ∷ [])) ≡ Yes
+greatest : answer_to two (reward_of_two Max (codes "-") (Infinite 0) (None ∷ Some nought ∷ []) (0 ∷ 0 ∷ []) (0 ∷ 0 ∷ [])) ≡ Yes
 unfolding gcd gcd_with_fuel ratio of_int ◌+ℚ◌ ◌*ℚ◌ narrow narrow_ℚ written_add written_mul written_compare
 greatest = refl
 
 -- and not 3
-greatest_three : answer_to two (reward_of_two Max (codes "-") (Finite 0 three_) (Some three_ ∷ Some zero_ ∷ []) (1 ∷ 0 ∷ []) (1 ∷ 0 ∷ []))
+greatest_three : answer_to two (reward_of_two Max (codes "-") (Finite 0 three_) (Some three_ ∷ Some nought ∷ []) (1 ∷ 0 ∷ []) (1 ∷ 0 ∷ []))
     ≡ No (record { rule = FiniteRankFalls; state = Some 0; choice = Some 0 })
 unfolding gcd gcd_with_fuel ratio of_int ◌+ℚ◌ ◌*ℚ◌ narrow narrow_ℚ written_add written_mul written_compare
 greatest_three = refl
 
 -- rule 1: an infinite value stands in the line `init` where the state's value is infinite, and only there
-infinite_init : answer_to two (reward_of_two Min (codes "-") (Infinite 0) (Some three_ ∷ Some zero_ ∷ []) (1 ∷ 0 ∷ []) (1 ∷ 0 ∷ []))
+infinite_init : answer_to two (reward_of_two Min (codes "-") (Infinite 0) (Some three_ ∷ Some nought ∷ []) (1 ∷ 0 ∷ []) (1 ∷ 0 ∷ []))
     ≡ No (record { rule = InitialState; state = Some 0; choice = None })
 infinite_init = refl
 
-finite_init : answer_to two (reward_of_two Max (codes "-") (Finite 0 three_) (None ∷ Some zero_ ∷ []) (0 ∷ 0 ∷ []) (0 ∷ 0 ∷ []))
+finite_init : answer_to two (reward_of_two Max (codes "-") (Finite 0 three_) (None ∷ Some nought ∷ []) (0 ∷ 0 ∷ []) (0 ∷ 0 ∷ []))
     ≡ No (record { rule = InitialState; state = Some 0; choice = None })
 finite_init = refl
 
@@ -140,9 +132,6 @@ other_body = refl
 
 -- ---- mean payoffs
 
-abbrev pub half : ℚ
-half = ratio (pos 1) 2
-
 abbrev below_half : ℚ
 below_half = ratio (negsuc 0) 2
 
@@ -151,7 +140,7 @@ abbrev pub turns : Mdp
 turns = record {
   names = codes "-" ∷ [];
   labels = codes "init" ∷ [];
-  states = record { labels = 0 ∷ []; choices = paid (entry 1 one ∷ []) one ∷ [] } ∷ record { labels = []; choices = paid (entry 0 one ∷ []) zero_ ∷ [] } ∷ [];
+  states = record { labels = 0 ∷ []; choices = paid (entry 1 one ∷ []) one ∷ [] } ∷ record { labels = []; choices = paid (entry 0 one ∷ []) nought ∷ [] } ∷ [];
 }
 
 abbrev mean_of_two : List ℕ → Init → List ℚ → List ℚ → List ℚ → List ℕ → ℚ → Certificate
@@ -159,17 +148,17 @@ mean_of_two name init gain bound bias choices spread =
     record { claim = mean Max name; states = 2; init = init; body = gains gain bound bias choices spread }
 
 -- so the mean payoff is 1/2; no label is asked for
-mean_half : answer_to turns (mean_of_two (codes "-") (Finite 0 half) (half ∷ half ∷ []) (zero_ ∷ below_half ∷ []) (zero_ ∷ below_half ∷ []) (0 ∷ 0 ∷ []) half) ≡ Yes
+mean_half : answer_to turns (mean_of_two (codes "-") (Finite 0 half) (half ∷ half ∷ []) (nought ∷ below_half ∷ []) (nought ∷ below_half ∷ []) (0 ∷ 0 ∷ []) half) ≡ Yes
 unfolding gcd gcd_with_fuel ratio of_int neg_ℚ ◌+ℚ◌ ◌*ℚ◌ narrow narrow_ℚ written_add written_mul written_compare
 mean_half = refl
 
 -- another gain in the line `init`
-mean_init : answer_to turns (mean_of_two (codes "-") (Finite 0 one) (half ∷ half ∷ []) (zero_ ∷ below_half ∷ []) (zero_ ∷ below_half ∷ []) (0 ∷ 0 ∷ []) half)
+mean_init : answer_to turns (mean_of_two (codes "-") (Finite 0 one) (half ∷ half ∷ []) (nought ∷ below_half ∷ []) (nought ∷ below_half ∷ []) (0 ∷ 0 ∷ []) half)
     ≡ No (record { rule = InitialState; state = Some 0; choice = None })
 unfolding ratio of_int gcd gcd_with_fuel
 mean_init = refl
 
-mean_of_none : answer_to turns (mean_of_two (codes "costs") (Finite 0 half) (half ∷ half ∷ []) (zero_ ∷ below_half ∷ []) (zero_ ∷ below_half ∷ []) (0 ∷ 0 ∷ []) half) ≡ NoReward
+mean_of_none : answer_to turns (mean_of_two (codes "costs") (Finite 0 half) (half ∷ half ∷ []) (nought ∷ below_half ∷ []) (nought ∷ below_half ∷ []) (0 ∷ 0 ∷ []) half) ≡ NoReward
 mean_of_none = refl
 
 -- a step from 0 to 1 pays 5, and the loops pay 1: without it in the bound, the gain 1 is refused
@@ -183,19 +172,16 @@ once = record {
       ∷ [];
 }
 
-mean_once : answer_to once (mean_of_two (codes "-") (Finite 0 one) (one ∷ one ∷ []) (of_int (pos 4) ∷ zero_ ∷ []) (zero_ ∷ zero_ ∷ []) (0 ∷ 0 ∷ []) (of_int (pos 4))) ≡ Yes
+mean_once : answer_to once (mean_of_two (codes "-") (Finite 0 one) (one ∷ one ∷ []) (of_int (pos 4) ∷ nought ∷ []) (nought ∷ nought ∷ []) (0 ∷ 0 ∷ []) (of_int (pos 4))) ≡ Yes
 unfolding gcd gcd_with_fuel ratio of_int neg_ℚ ◌+ℚ◌ ◌*ℚ◌ narrow narrow_ℚ written_add written_mul written_compare
 mean_once = refl
 
-mean_without_bound : answer_to once (mean_of_two (codes "-") (Finite 0 one) (one ∷ one ∷ []) (zero_ ∷ zero_ ∷ []) (zero_ ∷ zero_ ∷ []) (0 ∷ 0 ∷ []) zero_)
+mean_without_bound : answer_to once (mean_of_two (codes "-") (Finite 0 one) (one ∷ one ∷ []) (nought ∷ nought ∷ []) (nought ∷ nought ∷ []) (0 ∷ 0 ∷ []) nought)
     ≡ No (record { rule = BoundOnEachChoice; state = Some 0; choice = Some 1 })
 unfolding gcd gcd_with_fuel ratio of_int neg_ℚ ◌+ℚ◌ ◌*ℚ◌ narrow narrow_ℚ written_add written_mul written_compare
 mean_without_bound = refl
 
 -- ---- subsystems of the model of three states: state 0 alone is kept
-
-abbrev third : ℚ
-third = ratio (pos 1) 3
 
 -- all that comes to state 0 takes this choice of it
 abbrev one_flow : ℕ → List ℕ → Init → ℕ → ℚ → Certificate
@@ -239,7 +225,7 @@ abbrev one_floor : ℚ → ℕ → ℚ → Certificate
 one_floor value rank t =
     record { claim = witness Min (codes "goal") t; states = 3; init = Start 0; body = floor (0 ∷ []) (false ∷ []) (value ∷ []) (rank ∷ []) }
 
-floor_zero : answer_to three (one_floor zero_ 0 zero_) ≡ Yes
+floor_zero : answer_to three (one_floor nought 0 nought) ≡ Yes
 unfolding gcd gcd_with_fuel ratio of_int lt_ℚ ◌+ℚ◌ ◌*ℚ◌ narrow narrow_ℚ written_add written_mul written_compare
 floor_zero = refl
 
@@ -247,6 +233,6 @@ floor_third : answer_to three (one_floor third 1 third) ≡ No (record { rule = 
 unfolding gcd gcd_with_fuel ratio of_int lt_ℚ ◌+ℚ◌ ◌*ℚ◌ narrow narrow_ℚ written_add written_mul written_compare
 floor_third = refl
 
-floor_below : answer_to three (one_floor zero_ 0 third) ≡ No (record { rule = StartReachesThreshold; state = None; choice = None })
+floor_below : answer_to three (one_floor nought 0 third) ≡ No (record { rule = StartReachesThreshold; state = None; choice = None })
 unfolding gcd gcd_with_fuel ratio of_int lt_ℚ ◌+ℚ◌ ◌*ℚ◌ narrow narrow_ℚ written_add written_mul written_compare
 floor_below = refl

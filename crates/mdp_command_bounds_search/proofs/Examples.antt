@@ -5,7 +5,8 @@ use Rattle.std.specs.Prelude.{codes}
 use Rattle.mdp_math.specs.Gcd.{gcd, gcd_with_fuel}
 use Rattle.mdp_math.specs.Rational.{ℚ, of_int, ratio, neg_ℚ, le_ℚ, lt_ℚ, ◌+ℚ◌, ◌*ℚ◌}
 use Rattle.mdp_math.specs.Written.{narrow, narrow_ℚ, written_add, written_mul}
-use Rattle.mdp_spec.specs.Mdp.{Entry, Choice, State, Mdp}
+use Rattle.mdp_spec.specs.Mdp.{Entry, Choice, Mdp}
+use Rattle.mdp_spec.proofs.Small.{entry, labelled, number}
 use Rattle.mdp_rows.specs.declared.dir.Dir.TheVariants.{Max, Min}
 use Rattle.mdp_farkas.specs.declared.rule.Rule.TheVariants.{ValueOnEachChoice}
 use Rattle.mdp_cert.specs.Cert as claim
@@ -18,26 +19,17 @@ use Rattle.mdp_job.specs.Refusal.{PlainRefusal, query_label, query_reward, query
 use Rattle.mdp_command_bounds_search.specs.Certificate.{certificate_of}
 use Rattle.mdp_command_bounds_search.specs.Due.{IsBoundsDue}
 
-abbrev whole : ℕ → ℚ
-whole n = of_int (pos n)
-
-abbrev entry : ℕ → ℚ → Entry
-entry t p = record { target = t; prob = p }
-
 abbrev choice : List Entry → Choice
-choice row = record { row = row; rewards = whole 1 ∷ neg_ℚ (whole 1) ∷ [] }
-
-abbrev state : List ℕ → List Choice → State
-state labels choices = record { labels = labels; choices = choices }
+choice row = record { row = row; rewards = number 1 ∷ neg_ℚ (number 1) ∷ [] }
 
 abbrev drawn : List ℕ → Mdp
 drawn last = record {
   names = codes "cost" ∷ codes "gain" ∷ [];
   labels = codes "init" ∷ codes "goal" ∷ [];
   states =
-      state (0 ∷ []) (choice (entry 0 (whole 1) ∷ []) ∷ choice (entry 1 (ratio (pos 1) 3) ∷ entry 2 (ratio (pos 2) 3) ∷ []) ∷ [])
-      ∷ state (1 ∷ []) (choice (entry 1 (whole 1) ∷ []) ∷ [])
-      ∷ state last (choice (entry 2 (whole 1) ∷ []) ∷ [])
+      labelled (0 ∷ []) (choice (entry 0 (number 1) ∷ []) ∷ choice (entry 1 (ratio (pos 1) 3) ∷ entry 2 (ratio (pos 2) 3) ∷ []) ∷ [])
+      ∷ labelled (1 ∷ []) (choice (entry 1 (number 1) ∷ []) ∷ [])
+      ∷ labelled last (choice (entry 2 (number 1) ∷ []) ∷ [])
       ∷ [];
 }
 
@@ -50,7 +42,7 @@ both = drawn (0 ∷ [])
 abbrev bounds : Mdp → ℚ → ℚ → Certificate
 bounds m low high =
     certificate_of (claim.reach Max (codes "goal")) m
-    (probabilities (low ∷ whole 1 ∷ whole 0 ∷ []) (high ∷ whole 1 ∷ whole 0 ∷ []) (1 ∷ 0 ∷ 0 ∷ []) (1 ∷ 0 ∷ 0 ∷ []))
+    (probabilities (low ∷ number 1 ∷ number 0 ∷ []) (high ∷ number 1 ∷ number 0 ∷ []) (1 ∷ 0 ∷ 0 ∷ []) (1 ∷ 0 ∷ 0 ∷ []))
 
 -- the line `init` has both values of the one initial state; there is none where two states have the label
 line_init : (bounds draw (ratio (pos 1) 4) (ratio (pos 1) 2)).init ≡ Between 0 (Some (ratio (pos 1) 4)) (Some (ratio (pos 1) 2))
@@ -72,7 +64,7 @@ holds_without_init = refl
 says_nothing :
     bounds_answer_to draw
     (certificate_of (claim.reach Min (codes "goal")) draw
-    (probabilities (whole 0 ∷ whole 1 ∷ whole 0 ∷ []) (whole 1 ∷ whole 1 ∷ whole 1 ∷ []) (0 ∷ 0 ∷ 0 ∷ []) (0 ∷ 0 ∷ 0 ∷ [])))
+    (probabilities (number 0 ∷ number 1 ∷ number 0 ∷ []) (number 1 ∷ number 1 ∷ number 1 ∷ []) (0 ∷ 0 ∷ 0 ∷ []) (0 ∷ 0 ∷ 0 ∷ [])))
     ≡ Yes
 unfolding gcd gcd_with_fuel of_int ratio le_ℚ lt_ℚ ◌+ℚ◌ ◌*ℚ◌ narrow narrow_ℚ written_add written_mul
 says_nothing = refl
@@ -86,7 +78,7 @@ upper_too_small = refl
 abbrev infinite_cost : Certificate
 infinite_cost =
     certificate_of (claim.reward Max (codes "cost") (codes "goal")) draw
-    (rewards (None ∷ Some (whole 0) ∷ None ∷ []) (None ∷ Some (whole 0) ∷ None ∷ []) (0 ∷ 0 ∷ 0 ∷ []) (0 ∷ 0 ∷ 0 ∷ []))
+    (rewards (None ∷ Some (number 0) ∷ None ∷ []) (None ∷ Some (number 0) ∷ None ∷ []) (0 ∷ 0 ∷ 0 ∷ []) (0 ∷ 0 ∷ 0 ∷ []))
 
 infinite_line : infinite_cost.init ≡ Between 0 None None
 infinite_line = refl
@@ -99,8 +91,8 @@ infinite_holds = refl
 loss_holds :
     bounds_answer_to draw
     (certificate_of (claim.mean Min (codes "gain")) draw
-    (gains (neg_ℚ (whole 1) ∷ neg_ℚ (whole 1) ∷ neg_ℚ (whole 1) ∷ []) (neg_ℚ (whole 1) ∷ neg_ℚ (whole 1) ∷ neg_ℚ (whole 1) ∷ []) (whole 0 ∷ whole 0 ∷ whole 0 ∷ [])
-    (whole 0 ∷ whole 0 ∷ whole 0 ∷ []) (0 ∷ 0 ∷ 0 ∷ []) (whole 0)))
+    (gains (neg_ℚ (number 1) ∷ neg_ℚ (number 1) ∷ neg_ℚ (number 1) ∷ []) (neg_ℚ (number 1) ∷ neg_ℚ (number 1) ∷ neg_ℚ (number 1) ∷ []) (number 0 ∷ number 0 ∷ number 0 ∷ [])
+    (number 0 ∷ number 0 ∷ number 0 ∷ []) (0 ∷ 0 ∷ 0 ∷ []) (number 0)))
     ≡ Yes
 unfolding gcd gcd_with_fuel of_int ratio neg_ℚ le_ℚ lt_ℚ ◌+ℚ◌ ◌*ℚ◌ narrow narrow_ℚ written_add written_mul
 loss_holds = refl

@@ -3,9 +3,10 @@ use Rattle.std.proofs.Common.{◌≡◌, ℕ, ◌+◌, ◌^◌, List, [], ◌∷
 use Rattle.std.specs.Fmt.{digits}
 use Rattle.std.specs.Prelude.{codes}
 use Rattle.mdp_math.specs.Gcd.{gcd, gcd_with_fuel}
-use Rattle.mdp_math.specs.Rational.{ℚ, of_int, ratio}
+use Rattle.mdp_math.specs.Rational.{of_int, ratio}
 use Rattle.mdp_num.specs.Value.{spelling}
 use Rattle.mdp_spec.specs.Mdp.{Choice, State, Mdp}
+use Rattle.mdp_spec.proofs.Small.{half}
 use Rattle.mdp_rows.specs.declared.dir.Dir.TheVariants.{Max, Min}
 use Rattle.mdp_wide.specs.declared.too_wide.Kind.TheVariants.{Evaluate}
 use Rattle.mdp_wide.specs.declared.too_wide.Part.TheVariants as part
@@ -17,9 +18,6 @@ use Rattle.mdp_job.specs.Refusal.{query_label, query_init}
 use Rattle.mdp_witness.specs.Query.{PlainSubsystem, flow, floor, below, too_wide}
 use Rattle.mdp_command_witness.specs.Certificate.{dir_of, certificate_of}
 use Rattle.mdp_command_witness.specs.Due.{said_of_end, IsWitnessDue, IsStepDue}
-
-abbrev half : ℚ
-half = ratio (pos 1) 2
 
 abbrev to : ℕ → Choice
 to t = record { row = record { target = t; prob = of_int (pos 1) } ∷ []; rewards = [] }

@@ -1,19 +1,10 @@
 -- Discounted rows, computed.
-use Rattle.std.proofs.Common.{◌≡◌, ℕ, [], ◌∷◌, refl, pos}
+use Rattle.std.proofs.Common.{◌≡◌, [], ◌∷◌, refl}
 use Rattle.mdp_math.specs.Gcd.{gcd, gcd_with_fuel}
 use Rattle.mdp_math.specs.Rational.{ℚ, of_int, ratio, neg_ℚ, ◌+ℚ◌, ◌*ℚ◌, le_ℚ}
 use Rattle.mdp_math.specs.Written.{narrow, narrow_ℚ, written_add, written_mul, written_compare}
-use Rattle.mdp_spec.specs.Mdp.{Entry}
+use Rattle.mdp_spec.proofs.Small.{entry, number, over}
 use Rattle.mdp_discount.specs.Problem.{discounted_row}
-
-abbrev number : ℕ → ℚ
-number n = of_int (pos n)
-
-abbrev over : ℕ → ℕ → ℚ
-over n d = ratio (pos n) d
-
-abbrev entry : ℕ → ℚ → Entry
-entry t p = record { target = t; prob = p }
 
 halved : discounted_row 2 (over 1 2) (entry 0 (over 1 2) ∷ entry 1 (over 1 2) ∷ []) ≡ entry 0 (over 1 4) ∷ entry 1 (over 1 4) ∷ entry 2 (over 1 2) ∷ []
 unfolding gcd gcd_with_fuel of_int ratio neg_ℚ le_ℚ ◌+ℚ◌ ◌*ℚ◌ narrow narrow_ℚ written_add written_mul written_compare

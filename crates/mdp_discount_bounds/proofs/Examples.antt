@@ -1,11 +1,12 @@
 -- Verdicts on bounds of discounted rewards, computed. `wait` stays at 0 for 1 in each step, or moves to 1, which earns 3 in each step: under the factor
 -- 1/2 the greatest rewards are 3 and 6. `puterman` is the example with two states of Puterman 1994, section 3.1: 5 at 0, where half the time one stays,
 -- or 10 at once, and -1 in each step at 1; its least rewards are 6 and -2.
-use Rattle.std.proofs.Common.{◌≡◌, ℕ, List, [], ◌∷◌, Option, refl, pos, Some, None}
+use Rattle.std.proofs.Common.{◌≡◌, ℕ, List, [], ◌∷◌, Option, refl, Some, None}
 use Rattle.mdp_math.specs.Gcd.{gcd, gcd_with_fuel}
 use Rattle.mdp_math.specs.Rational.{ℚ, of_int, ratio, neg_ℚ, ◌+ℚ◌, ◌*ℚ◌, le_ℚ}
 use Rattle.mdp_math.specs.Written.{narrow, narrow_ℚ, written_add, written_mul}
-use Rattle.mdp_spec.specs.Mdp.{Entry, Choice, State, Mdp}
+use Rattle.mdp_spec.specs.Mdp.{Mdp}
+use Rattle.mdp_spec.proofs.Small.{entry, half, model, number, state, to, wait}
 use Rattle.mdp_farkas.specs.Verdict.{verdict_of}
 use Rattle.mdp_farkas.specs.declared.verdict.Verdict.{Verdict}
 use Rattle.mdp_farkas.specs.declared.verdict.Verdict.TheVariants.{Yes, No}
@@ -14,27 +15,6 @@ use Rattle.mdp_rows.specs.declared.dir.Dir.TheVariants.{Max, Min}
 use Rattle.mdp_farkas.specs.declared.rule.Rule.{Rule}
 use Rattle.mdp_farkas.specs.declared.rule.Rule.TheVariants.{ChoiceExists, DiscountedOnEachChoice, DiscountedOnPolicy, RemainderIsGreatest}
 use Rattle.mdp_discount_bounds.specs.Checks.{discount_bounds_checks}
-
-abbrev number : ℕ → ℚ
-number n = of_int (pos n)
-
-abbrev half : ℚ
-half = ratio (pos 1) 2
-
-abbrev entry : ℕ → ℚ → Entry
-entry t p = record { target = t; prob = p }
-
-abbrev to : ℕ → ℚ → Choice
-to t reward = record { row = entry t (number 1) ∷ []; rewards = reward ∷ [] }
-
-abbrev state : List Choice → State
-state choices = record { labels = []; choices = choices }
-
-abbrev model : List State → Mdp
-model states = record { names = (45 ∷ []) ∷ []; labels = []; states = states }
-
-abbrev wait : Mdp
-wait = model (state (to 0 (number 1) ∷ to 1 (number 0) ∷ []) ∷ state (to 1 (number 3) ∷ []) ∷ [])
 
 abbrev puterman : Mdp
 puterman = model

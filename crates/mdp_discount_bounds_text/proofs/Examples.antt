@@ -7,6 +7,7 @@ use Rattle.mdp_math.specs.Rational.{ℚ, of_int, ratio, le_ℚ, lt_ℚ}
 use Rattle.mdp_rows.specs.declared.dir.Dir.TheVariants.{Max}
 use Rattle.mdp_num.specs.Value.{spelling}
 use Rattle.mdp_num.specs.Canonical.{canonical_of}
+use Rattle.mdp_spec.proofs.Small.{half}
 use Rattle.mdp_text.specs.declared.error.CertKind.TheVariants.{Version, Claim, Number, Shape, Count, End, Run}
 use Rattle.mdp_text.specs.Heads.{states_at}
 use Rattle.mdp_text.specs.Lines.{refused, next_line, nothing_behind}
@@ -19,9 +20,6 @@ use Rattle.mdp_discount_text.specs.Text.{claim_to, claim_of, claim_at, remainder
 use Rattle.mdp_discount_bounds.specs.Cert.{Certificate}
 use Rattle.mdp_discount_bounds_text.specs.Spelling.{text_of}
 use Rattle.mdp_discount_bounds_text.specs.Reading.{between_at, init_at, head_from, outcome, is_discount_claim}
-
-abbrev half : ℚ
-half = ratio (pos 1) 2
 
 abbrev some : ℕ → Option ℚ
 some n = Some (ratio (pos n) 1)

@@ -4,7 +4,8 @@ use Rattle.std.proofs.Common.{◌≡◌, ℕ, List, [], ◌∷◌, refl, pos, So
 use Rattle.mdp_math.specs.Gcd.{gcd, gcd_with_fuel}
 use Rattle.mdp_math.specs.Rational.{ℚ, of_int, ratio, neg_ℚ, ◌+ℚ◌, ◌*ℚ◌, le_ℚ}
 use Rattle.mdp_math.specs.Written.{narrow, narrow_ℚ, written_add, written_mul, written_compare}
-use Rattle.mdp_spec.specs.Mdp.{Entry, Choice, State, Mdp}
+use Rattle.mdp_spec.specs.Mdp.{Mdp}
+use Rattle.mdp_spec.proofs.Small.{entry, model, number, over, state, to, wait}
 use Rattle.mdp_farkas.specs.Verdict.{verdict_of}
 use Rattle.mdp_farkas.specs.declared.verdict.Verdict.{Verdict}
 use Rattle.mdp_farkas.specs.declared.verdict.Verdict.TheVariants.{Yes, No}
@@ -13,29 +14,8 @@ use Rattle.mdp_rows.specs.declared.dir.Dir.TheVariants.{Max, Min}
 use Rattle.mdp_discount_rules.specs.Checks.{discount_checks}
 use Rattle.mdp_farkas.specs.declared.rule.Rule.TheVariants.{ChoiceExists, DiscountedOnEachChoice, DiscountedOnPolicy, RemainderIsGreatest}
 
-abbrev number : ℕ → ℚ
-number n = of_int (pos n)
-
 abbrev minus : ℕ → ℚ
 minus n = neg_ℚ (of_int (pos n))
-
-abbrev over : ℕ → ℕ → ℚ
-over n d = ratio (pos n) d
-
-abbrev entry : ℕ → ℚ → Entry
-entry t p = record { target = t; prob = p }
-
-abbrev to : ℕ → ℚ → Choice
-to t reward = record { row = entry t (number 1) ∷ []; rewards = reward ∷ [] }
-
-abbrev state : List Choice → State
-state choices = record { labels = []; choices = choices }
-
-abbrev model : List State → Mdp
-model states = record { names = (45 ∷ []) ∷ []; labels = []; states = states }
-
-abbrev wait : Mdp
-wait = model (state (to 0 (number 1) ∷ to 1 (number 0) ∷ []) ∷ state (to 1 (number 3) ∷ []) ∷ [])
 
 abbrev puterman : Mdp
 puterman = model

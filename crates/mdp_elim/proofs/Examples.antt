@@ -6,6 +6,7 @@ use Rattle.mdp_math.specs.Rational.{ℚ, of_int, ratio, ◌+ℚ◌, ◌*ℚ◌, 
 use Rattle.mdp_math.specs.Written.{written_add, written_mul, narrow, narrow_ℚ}
 use Rattle.mdp_math.proofs.Order.{<ℚ_irrefl}
 use Rattle.mdp_spec.specs.Mdp.{Entry}
+use Rattle.mdp_spec.proofs.Small.{entry, half, quarter}
 use Rattle.mdp_elim.specs.Equation.{Equation}
 use Rattle.mdp_elim.specs.Entries.{Between, without}
 use Rattle.mdp_elim.specs.Elimination.{divided_rest, plus_equation, eliminated, evaluated, solution, DividesByPositive}
@@ -17,25 +18,22 @@ use Rattle.mdp_elim.specs.System.{equation_of}
 use Rattle.mdp_elim.specs.Solve.{written_solution}
 use Rattle.mdp_elim.specs.Visits.{transposed, written_visits}
 
-abbrev to : ℕ → ℚ → Entry
-to t p = record { target = t; prob = p }
-
 -- three states: 0 stays with 1/2 and goes to 1 and 2 with 1/4 each, 1 goes to 0 with 1/3 and to 2 with 2/3, and 2 stays
 abbrev three : List (List Entry)
 three =
-    (to 0 (ratio (pos 1) 2) ∷ to 1 (ratio (pos 1) 4) ∷ to 2 (ratio (pos 1) 4) ∷ [])
-    ∷ (to 0 (ratio (pos 1) 3) ∷ to 2 (ratio (pos 2) 3) ∷ [])
-    ∷ (to 2 (of_int (pos 1)) ∷ [])
+    (entry 0 (ratio (pos 1) 2) ∷ entry 1 (ratio (pos 1) 4) ∷ entry 2 (ratio (pos 1) 4) ∷ [])
+    ∷ (entry 0 (ratio (pos 1) 3) ∷ entry 2 (ratio (pos 2) 3) ∷ [])
+    ∷ (entry 2 (of_int (pos 1)) ∷ [])
     ∷ []
 
 abbrev first_two : List Bool
 first_two = true ∷ true ∷ false ∷ []
 
-row_without : without 1 (to 0 (ratio (pos 1) 2) ∷ to 1 (ratio (pos 1) 4) ∷ []) ≡ to 0 (ratio (pos 1) 2) ∷ []
+row_without : without 1 (entry 0 (ratio (pos 1) 2) ∷ entry 1 (ratio (pos 1) 4) ∷ []) ≡ entry 0 (ratio (pos 1) 2) ∷ []
 row_without = refl
 
-transposed_row : transposed three ≡ (to 0 (ratio (pos 1) 2) ∷ to 1 (ratio (pos 1) 3) ∷ [])
-    ∷ (to 0 (ratio (pos 1) 4) ∷ []) ∷ (to 0 (ratio (pos 1) 4) ∷ to 1 (ratio (pos 2) 3) ∷ to 2 (of_int (pos 1)) ∷ []) ∷ []
+transposed_row : transposed three ≡ (entry 0 (ratio (pos 1) 2) ∷ entry 1 (ratio (pos 1) 3) ∷ [])
+    ∷ (entry 0 (ratio (pos 1) 4) ∷ []) ∷ (entry 0 (ratio (pos 1) 4) ∷ entry 1 (ratio (pos 2) 3) ∷ entry 2 (of_int (pos 1)) ∷ []) ∷ []
 transposed_row = refl
 
 -- the column 0, 1, 0 gives 3/5, 6/5, 0
@@ -57,9 +55,9 @@ three_visits = refl
 -- state 0 goes to 1 with 1/10^36 and otherwise to 2
 abbrev small_step : List (List Entry)
 small_step =
-    (to 1 (ratio (pos 1) (10 ^ 36)) ∷ to 2 (ratio (pos (10 ^ 36 - 1)) (10 ^ 36)) ∷ [])
-    ∷ (to 2 (of_int (pos 1)) ∷ [])
-    ∷ (to 2 (of_int (pos 1)) ∷ [])
+    (entry 1 (ratio (pos 1) (10 ^ 36)) ∷ entry 2 (ratio (pos (10 ^ 36 - 1)) (10 ^ 36)) ∷ [])
+    ∷ (entry 2 (of_int (pos 1)) ∷ [])
+    ∷ (entry 2 (of_int (pos 1)) ∷ [])
     ∷ []
 
 -- with 1/10 at state 1 the product 1/10^37 is in width
@@ -81,10 +79,10 @@ no_constants = refl
 -- a ring: 0 goes to 1, 1 to 2 and 2 to 0 with 1/2 each, and otherwise to 3
 abbrev ring : List (List Entry)
 ring =
-    (to 1 (ratio (pos 1) 2) ∷ to 3 (ratio (pos 1) 2) ∷ [])
-    ∷ (to 2 (ratio (pos 1) 2) ∷ to 3 (ratio (pos 1) 2) ∷ [])
-    ∷ (to 0 (ratio (pos 1) 2) ∷ to 3 (ratio (pos 1) 2) ∷ [])
-    ∷ (to 3 (of_int (pos 1)) ∷ [])
+    (entry 1 (ratio (pos 1) 2) ∷ entry 3 (ratio (pos 1) 2) ∷ [])
+    ∷ (entry 2 (ratio (pos 1) 2) ∷ entry 3 (ratio (pos 1) 2) ∷ [])
+    ∷ (entry 0 (ratio (pos 1) 2) ∷ entry 3 (ratio (pos 1) 2) ∷ [])
+    ∷ (entry 3 (of_int (pos 1)) ∷ [])
     ∷ []
 
 abbrev first_three : List Bool
@@ -103,7 +101,7 @@ ring_visits = refl
 
 -- state 0 stays with 2/3, and otherwise goes to 1
 abbrev one_loop : List (List Entry)
-one_loop = (to 0 (ratio (pos 2) 3) ∷ to 1 (ratio (pos 1) 3) ∷ []) ∷ (to 1 (of_int (pos 1)) ∷ []) ∷ []
+one_loop = (entry 0 (ratio (pos 2) 3) ∷ entry 1 (ratio (pos 1) 3) ∷ []) ∷ (entry 1 (of_int (pos 1)) ∷ []) ∷ []
 
 loop_value : written_solution one_loop (true ∷ false ∷ []) ((of_int (pos 1) ∷ of_int (pos 0) ∷ []) ∷ []) ≡ Ok ((of_int (pos 3) ∷ of_int (pos 0) ∷ []) ∷ [])
 unfolding equation_of eliminated divided_rest plus_equation evaluated written_add written_mul narrow narrow_ℚ ◌+ℚ◌ ◌*ℚ◌ neg_ℚ inv_ℚ ratio of_int gcd gcd_with_fuel
@@ -116,9 +114,9 @@ loop_visits = refl
 -- state 1 stays with all but 1/10^36, so its constant is divided by 1/10^36
 abbrev long_stay : List (List Entry)
 long_stay =
-    (to 0 (ratio (pos 1) 2) ∷ to 2 (ratio (pos 1) 2) ∷ [])
-    ∷ (to 1 (ratio (pos (10 ^ 36 - 1)) (10 ^ 36)) ∷ to 2 (ratio (pos 1) (10 ^ 36)) ∷ [])
-    ∷ (to 2 (of_int (pos 1)) ∷ [])
+    (entry 0 (ratio (pos 1) 2) ∷ entry 2 (ratio (pos 1) 2) ∷ [])
+    ∷ (entry 1 (ratio (pos (10 ^ 36 - 1)) (10 ^ 36)) ∷ entry 2 (ratio (pos 1) (10 ^ 36)) ∷ [])
+    ∷ (entry 2 (of_int (pos 1)) ∷ [])
     ∷ []
 
 quotient_in_width : written_solution long_stay first_two ((of_int (pos 1) ∷ of_int (pos 100) ∷ of_int (pos 0) ∷ []) ∷ []) ≡ Ok ((of_int (pos 2) ∷ of_int (pos (10 ^ 38)) ∷ of_int (pos 0) ∷ []) ∷ [])
@@ -131,7 +129,7 @@ quotient_past_width = refl
 
 -- a state that only stays would be divided by 0
 stays : List Equation
-stays = record { entries = to 0 (of_int (pos 1)) ∷ []; first = of_int (pos 0); second = of_int (pos 0) } ∷ []
+stays = record { entries = entry 0 (of_int (pos 1)) ∷ []; first = of_int (pos 0); second = of_int (pos 0) } ∷ []
 
 difference : of_int (pos 1) -ℚ of_int (pos 1) ≡ of_int (pos 0)
 unfolding ◌+ℚ◌ neg_ℚ ratio of_int gcd gcd_with_fuel
@@ -143,31 +141,25 @@ stays_refused h = <ℚ_irrefl (of_int (pos 0)) (subst (λ (x : ℚ). of_int (pos
 
 -- ---- kept equations and values
 
-abbrev half : ℚ
-half = ratio (pos 1) 2
-
-abbrev quarter : ℚ
-quarter = ratio (pos 1) 4
-
 abbrev equal_to : List Entry → ℚ → ℚ → Equation
 equal_to entries first second = record { entries = entries; first = first; second = second }
 
 -- x0 = 1 + x2/2, x1 = 1 + x0/2, x2 = 1 + x0/2, and with the constants 0, 0, 3 in their place
 abbrev before : List Equation
-before = equal_to (to 2 half ∷ []) (of_int (pos 1)) (of_int (pos 0)) ∷ equal_to (to 0 half ∷ []) (of_int (pos 1)) (of_int (pos 0)) ∷ equal_to (to 0 half ∷ []) (of_int (pos 1)) (of_int (pos 3)) ∷ []
+before = equal_to (entry 2 half ∷ []) (of_int (pos 1)) (of_int (pos 0)) ∷ equal_to (entry 0 half ∷ []) (of_int (pos 1)) (of_int (pos 0)) ∷ equal_to (entry 0 half ∷ []) (of_int (pos 1)) (of_int (pos 3)) ∷ []
 
 -- now x1 = 1 + x1/2 + x2/4
 abbrev after : List Equation
 after =
-    equal_to (to 2 half ∷ []) (of_int (pos 1)) (of_int (pos 0))
-    ∷ equal_to (to 1 half ∷ to 2 quarter ∷ []) (of_int (pos 1)) (of_int (pos 0))
-    ∷ equal_to (to 0 half ∷ []) (of_int (pos 1)) (of_int (pos 3))
+    equal_to (entry 2 half ∷ []) (of_int (pos 1)) (of_int (pos 0))
+    ∷ equal_to (entry 1 half ∷ entry 2 quarter ∷ []) (of_int (pos 1)) (of_int (pos 0))
+    ∷ equal_to (entry 0 half ∷ []) (of_int (pos 1)) (of_int (pos 3))
     ∷ []
 
 -- x0 = 2, x1 = 1 + x0/2, x2 = 1 + x0/2
 abbrev kept_before : Kept
 kept_before = record {
-  solved = equal_to [] (of_int (pos 2)) (of_int (pos 2)) ∷ equal_to (to 0 half ∷ []) (of_int (pos 1)) (of_int (pos 0)) ∷ equal_to (to 0 half ∷ []) (of_int (pos 1)) (of_int (pos 3)) ∷ [];
+  solved = equal_to [] (of_int (pos 2)) (of_int (pos 2)) ∷ equal_to (entry 0 half ∷ []) (of_int (pos 1)) (of_int (pos 0)) ∷ equal_to (entry 0 half ∷ []) (of_int (pos 1)) (of_int (pos 3)) ∷ [];
   first = of_int (pos 2) ∷ of_int (pos 2) ∷ of_int (pos 2) ∷ [];
   second = of_int (pos 2) ∷ of_int (pos 1) ∷ of_int (pos 4) ∷ [];
 }
@@ -175,7 +167,7 @@ kept_before = record {
 -- x1 = 5/2 + x0/4; the others stay
 abbrev kept_after : Kept
 kept_after = record {
-  solved = equal_to [] (of_int (pos 2)) (of_int (pos 2)) ∷ equal_to (to 0 quarter ∷ []) (ratio (pos 5) 2) (ratio (pos 3) 2) ∷ equal_to (to 0 half ∷ []) (of_int (pos 1)) (of_int (pos 3)) ∷ [];
+  solved = equal_to [] (of_int (pos 2)) (of_int (pos 2)) ∷ equal_to (entry 0 quarter ∷ []) (ratio (pos 5) 2) (ratio (pos 3) 2) ∷ equal_to (entry 0 half ∷ []) (of_int (pos 1)) (of_int (pos 3)) ∷ [];
   first = of_int (pos 2) ∷ of_int (pos 3) ∷ of_int (pos 2) ∷ [];
   second = of_int (pos 2) ∷ of_int (pos 2) ∷ of_int (pos 4) ∷ [];
 }
@@ -222,12 +214,12 @@ differ_at_one = record {
   count = refl;
   same = each_of_three (λ t. is_among t (1 ∷ []) ≡ false → at after t ≡ at before t) (λ h. refl) (λ h. cc) (λ h. refl);
   closed = each_of_three (λ t. is_among t (1 ∷ []) ≡ false → All (λ x. is_among x.target (1 ∷ []) ≡ false) (at after t).entries)
-      (λ h. from_targets (λ u. is_among u (1 ∷ []) ≡ false) (to 2 half ∷ []) (refl, tt)) (λ h. cc) (λ h. from_targets (λ u. is_among u (1 ∷ []) ≡ false) (to 0 half ∷ []) (refl, tt));
+      (λ h. from_targets (λ u. is_among u (1 ∷ []) ≡ false) (entry 2 half ∷ []) (refl, tt)) (λ h. cc) (λ h. from_targets (λ u. is_among u (1 ∷ []) ≡ false) (entry 0 half ∷ []) (refl, tt));
 }
 
 -- they don't differ at state 1 alone where state 0 leads to it
 abbrev leads_to_one : List Equation
-leads_to_one = equal_to (to 1 half ∷ []) (of_int (pos 1)) (of_int (pos 0)) ∷ equal_to (to 0 half ∷ []) (of_int (pos 1)) (of_int (pos 0)) ∷ equal_to [] (of_int (pos 1)) (of_int (pos 3)) ∷ []
+leads_to_one = equal_to (entry 1 half ∷ []) (of_int (pos 1)) (of_int (pos 0)) ∷ equal_to (entry 0 half ∷ []) (of_int (pos 1)) (of_int (pos 0)) ∷ equal_to [] (of_int (pos 1)) (of_int (pos 3)) ∷ []
 
 not_closed : DifferAt (1 ∷ []) leads_to_one leads_to_one → ⊥
-not_closed h = let k : true ≡ false = h.closed 0 (omega arith) refl 0 (to 0 half) (omega arith) in cc
+not_closed h = let k : true ≡ false = h.closed 0 (omega arith) refl 0 (entry 0 half) (omega arith) in cc

@@ -1,13 +1,14 @@
 -- Verdicts on mean payoffs, computed, on four models: `turns` goes to and fro between 0 and 1 and earns 1 at 0; `gamble` stays at 0 for 1 in
 -- each step, or moves to 1, which earns 4 in each step, or to 2, which earns nothing, with 1/2 each; `leave` earns 1 in each step, and 5 once
 -- on the way from 0 to 1; `pay` loses 1 in each step at 0, or 5 once on the way to 1, which loses 1/2 in each step.
-use Rattle.std.proofs.Common.{◌≡◌, ℕ, ◌+◌, ◌^◌, ◌∙◌, Bool, true, false, true≢false, List, [], ◌∷◌, refl, sym, pos, Option, Some, None, arith}
+use Rattle.std.proofs.Common.{◌≡◌, ℕ, ◌+◌, ◌^◌, ◌∙◌, Bool, true, false, true≢false, List, [], ◌∷◌, refl, sym, Option, Some, None, arith}
 use Rattle.mdp_math.specs.Gcd.{gcd, gcd_with_fuel}
 use Rattle.mdp_math.specs.Rational.{ℚ, of_int, ratio, le_ℚ, neg_ℚ, ◌+ℚ◌, ◌*ℚ◌}
 use Rattle.mdp_math.specs.Written.{narrow, narrow_ℚ, written_add, written_mul, written_compare}
 use Rattle.mdp_math.proofs.Extremes.{le_of_test, test_of_le}
-use Rattle.mdp_spec.specs.Mdp.{Entry, Choice, State, Mdp, row_at}
+use Rattle.mdp_spec.specs.Mdp.{Mdp, row_at}
 use Rattle.mdp_spec.specs.Row.{row_sum}
+use Rattle.mdp_spec.proofs.Small.{gamble, leave, minus, model, number, over, pay, state, to}
 use Rattle.mdp_farkas.specs.Verdict.{verdict_of}
 use Rattle.mdp_farkas.specs.Mean.{mean_checks}
 use Rattle.mdp_farkas.specs.Says.{MeanSays}
@@ -18,44 +19,8 @@ use Rattle.mdp_farkas.specs.declared.verdict.Verdict.TheVariants.{Yes, No, Wide}
 use Rattle.mdp_farkas.specs.declared.rule.Rule.TheVariants.{BiasOnPolicy, BoundOnEachChoice, ChoiceExists, GainOnEachChoice, GainOnPolicy, SpreadIsGreatest}
 use Rattle.mdp_farkas.specs.declared.rule.Rule.{Rule}
 
--- n, n/d and -n/d
-abbrev number : ℕ → ℚ
-number n = of_int (pos n)
-
-abbrev over : ℕ → ℕ → ℚ
-over n d = ratio (pos n) d
-
-abbrev minus : ℕ → ℕ → ℚ
-minus n d = neg_ℚ (ratio (pos n) d)
-
-abbrev entry : ℕ → ℚ → Entry
-entry t p = record { target = t; prob = p }
-
--- a choice that leads to t alone
-abbrev to : ℕ → ℚ → Choice
-to t reward = record { row = entry t (number 1) ∷ []; rewards = reward ∷ [] }
-
-abbrev state : List Choice → State
-state choices = record { labels = []; choices = choices }
-
-abbrev model : List State → Mdp
-model states = record { names = (45 ∷ []) ∷ []; labels = []; states = states }
-
 abbrev turns : Mdp
 turns = model (state (to 1 (number 1) ∷ []) ∷ state (to 0 (number 0) ∷ []) ∷ [])
-
-abbrev gamble : Mdp
-gamble = model
-    (state (to 0 (number 1) ∷ record { row = entry 1 (over 1 2) ∷ entry 2 (over 1 2) ∷ []; rewards = number 0 ∷ [] } ∷ [])
-    ∷ state (to 1 (number 4) ∷ [])
-    ∷ state (to 2 (number 0) ∷ [])
-    ∷ [])
-
-abbrev leave : Mdp
-leave = model (state (to 0 (number 1) ∷ to 1 (number 5) ∷ []) ∷ state (to 1 (number 1) ∷ []) ∷ [])
-
-abbrev pay : Mdp
-pay = model (state (to 0 (minus 1 1) ∷ to 1 (minus 5 1) ∷ []) ∷ state (to 1 (minus 1 2) ∷ []) ∷ [])
 
 abbrev two : ℚ → ℚ → List ℚ
 two x y = x ∷ y ∷ []

@@ -5,8 +5,9 @@ use Rattle.mdp_math.specs.Gcd.{gcd, gcd_with_fuel}
 use Rattle.mdp_math.specs.Rational.{ℚ, of_int, ratio, le_ℚ, ◌+ℚ◌, ◌*ℚ◌}
 use Rattle.mdp_math.specs.Written.{narrow, narrow_ℚ, written_add, written_mul, written_compare}
 use Rattle.mdp_math.proofs.Extremes.{le_of_test, test_of_le}
-use Rattle.mdp_spec.specs.Mdp.{Choice, State, Mdp}
+use Rattle.mdp_spec.specs.Mdp.{Choice, Mdp}
 use Rattle.mdp_spec.specs.RewardRules.{backup}
+use Rattle.mdp_spec.proofs.Small.{model, number, state}
 use Rattle.mdp_farkas.specs.Verdict.{verdict_of}
 use Rattle.mdp_farkas.specs.Reward.{reward_checks}
 use Rattle.mdp_farkas.specs.Says.{RewardSays}
@@ -19,21 +20,11 @@ use Rattle.mdp_farkas.specs.declared.rule.Rule.TheVariants.{ChoiceExists, EachCh
 use Rattle.mdp_farkas.specs.declared.rule.Rule.TheVariants.{RewardOnEachChoice, RewardOnPolicy, RewardValue}
 use Rattle.mdp_farkas.specs.declared.rule.Rule.{Rule}
 
--- the number n, a value, and a choice that leads to t alone
-abbrev number : ℕ → ℚ
-number n = of_int (pos n)
-
 abbrev value : ℕ → Option ℚ
 value n = Some (number n)
 
 abbrev to : ℕ → ℚ → Choice
 to t reward = record { row = record { target = t; prob = number 1 } ∷ []; rewards = reward ∷ [] }
-
-abbrev state : List Choice → State
-state choices = record { labels = []; choices = choices }
-
-abbrev model : List State → Mdp
-model states = record { names = (45 ∷ []) ∷ []; labels = []; states = states }
 
 abbrev wait : Mdp
 wait = model (state (to 0 (number 0) ∷ to 1 (number 3) ∷ []) ∷ state (to 1 (number 0) ∷ []) ∷ [])

@@ -4,7 +4,8 @@ use Rattle.std.proofs.Common.{◌≡◌, ℕ, true, false, List, [], ◌∷◌, 
 use Rattle.mdp_math.specs.Gcd.{gcd, gcd_with_fuel}
 use Rattle.mdp_math.specs.Rational.{ℚ, of_int, ratio, ◌+ℚ◌, ◌*ℚ◌, neg_ℚ, inv_ℚ, lt_ℚ}
 use Rattle.mdp_math.specs.Written.{written_add, written_mul, written_compare, narrow, narrow_ℚ}
-use Rattle.mdp_spec.specs.Mdp.{Choice, State, Mdp}
+use Rattle.mdp_spec.specs.Mdp.{Choice, Mdp}
+use Rattle.mdp_spec.proofs.Small.{state}
 use Rattle.mdp_elim.specs.Elimination.{divided_rest, plus_equation, eliminated, evaluated}
 use Rattle.mdp_elim.specs.System.{equation_of}
 use Rattle.mdp_ends.specs.Ends.{count_of}
@@ -18,9 +19,6 @@ use Rattle.mdp_gain.specs.Best.{bias_at, taken_at, worth_of}
 
 abbrev choice : ℕ → ℚ → Choice
 choice t reward = record { row = record { target = t; prob = of_int (pos 1) } ∷ []; rewards = reward ∷ [] }
-
-abbrev state : List Choice → State
-state choices = record { labels = []; choices = choices }
 
 abbrev two_states : Mdp
 two_states = record {

@@ -6,26 +6,15 @@ use Rattle.mdp_math.specs.Gcd.{gcd, gcd_with_fuel}
 use Rattle.mdp_math.specs.Rational.{ℚ, of_int, ratio, ◌+ℚ◌, ◌*ℚ◌, neg_ℚ, le_ℚ, ◌≤ℚ◌}
 use Rattle.mdp_math.specs.Written.{written_add, written_mul, written_compare, narrow, narrow_ℚ}
 use Rattle.mdp_num.specs.Value.{spelling}
-use Rattle.mdp_spec.specs.Mdp.{Entry, Choice, State, Mdp}
+use Rattle.mdp_spec.specs.Mdp.{State, Mdp}
 use Rattle.mdp_spec.specs.Unit.{unit_of}
 use Rattle.mdp_spec.specs.Tree.{Fits, unfolded}
+use Rattle.mdp_spec.proofs.Small.{choice, entry, labelled, number}
 use Rattle.mdp_rows.specs.declared.dir.Dir.TheVariants.{Max, Min}
 use Rattle.mdp_horizon.specs.Until.{until, unfolded_steps, IsTable}
 use Rattle.mdp_horizon.specs.Bounds.{BoundedMax}
 use Rattle.mdp_horizon.specs.Written.{Place, Answer, written_until}
 use Rattle.mdp_horizon.specs.Spelling.{until_text}
-
-abbrev pub to : ℕ → ℚ → Entry
-to t p = record { target = t; prob = p }
-
-abbrev by : List Entry → Choice
-by row = record { row = row; rewards = [] }
-
-abbrev pub with : List ℕ → List Choice → State
-with labels choices = record { labels = labels; choices = choices }
-
-abbrev pub number : ℕ → ℚ
-number n = of_int (pos n)
 
 abbrev model_of : List State → Mdp
 model_of states = record { names = []; labels = codes "init" ∷ codes "goal" ∷ []; states = states }
@@ -33,9 +22,9 @@ model_of states = record { names = []; labels = codes "init" ∷ codes "goal" �
 -- state 0 goes to the goal 1 with 1/3 and is lost in 2 with 2/3, or tries: it stays with 1/2, comes to the goal with 1/4 and is lost with 1/4
 abbrev pub tries : Mdp
 tries = model_of
-    (with (0 ∷ []) (by (to 1 (ratio (pos 1) 3) ∷ to 2 (ratio (pos 2) 3) ∷ []) ∷ by (to 0 (ratio (pos 1) 2) ∷ to 1 (ratio (pos 1) 4) ∷ to 2 (ratio (pos 1) 4) ∷ []) ∷ [])
-    ∷ with (1 ∷ []) (by (to 1 (number 1) ∷ []) ∷ [])
-    ∷ with [] (by (to 2 (number 1) ∷ []) ∷ [])
+    (labelled (0 ∷ []) (choice (entry 1 (ratio (pos 1) 3) ∷ entry 2 (ratio (pos 2) 3) ∷ []) ∷ choice (entry 0 (ratio (pos 1) 2) ∷ entry 1 (ratio (pos 1) 4) ∷ entry 2 (ratio (pos 1) 4) ∷ []) ∷ [])
+    ∷ labelled (1 ∷ []) (choice (entry 1 (number 1) ∷ []) ∷ [])
+    ∷ labelled [] (choice (entry 2 (number 1) ∷ []) ∷ [])
     ∷ [])
 
 abbrev pub all : List Bool
@@ -74,7 +63,7 @@ away = refl
 
 -- of two choices that are equally good the first is taken
 abbrev same_twice : Mdp
-same_twice = model_of (with [] (by (to 1 (number 1) ∷ []) ∷ by (to 1 (number 1) ∷ []) ∷ []) ∷ with [] (by (to 1 (number 1) ∷ []) ∷ []) ∷ [])
+same_twice = model_of (labelled [] (choice (entry 1 (number 1) ∷ []) ∷ choice (entry 1 (number 1) ∷ []) ∷ []) ∷ labelled [] (choice (entry 1 (number 1) ∷ []) ∷ []) ∷ [])
 
 first_of_equals : written_until Max same_twice (true ∷ true ∷ []) (false ∷ true ∷ []) 1 ≡ answer (number 1 ∷ number 1 ∷ []) ((0 ∷ 0 ∷ []) ∷ [])
 unfolding written_add written_mul written_compare narrow narrow_ℚ ◌+ℚ◌ ◌*ℚ◌ neg_ℚ ratio of_int gcd gcd_with_fuel
@@ -84,8 +73,8 @@ first_of_equals = refl
 abbrev rarely_stays : Mdp
 rarely_stays =
     model_of
-    (with [] (by (to 0 (ratio (pos 1) 1208925819614629174706176) ∷ to 1 (ratio (pos 1208925819614629174706175) 1208925819614629174706176) ∷ []) ∷ [])
-    ∷ with [] (by (to 1 (number 1) ∷ []) ∷ []) ∷ [])
+    (labelled [] (choice (entry 0 (ratio (pos 1) 1208925819614629174706176) ∷ entry 1 (ratio (pos 1208925819614629174706175) 1208925819614629174706176) ∷ []) ∷ [])
+    ∷ labelled [] (choice (entry 1 (number 1) ∷ []) ∷ []) ∷ [])
 
 past_width : written_until Max rarely_stays (true ∷ true ∷ []) (false ∷ true ∷ []) 3 ≡ (let r : Result Answer Place = Err (record { depth = 2; state = 0; choice = 0 }) in r)
 unfolding written_add written_mul written_compare narrow narrow_ℚ ◌+ℚ◌ ◌*ℚ◌ neg_ℚ ratio of_int gcd gcd_with_fuel

@@ -10,6 +10,7 @@ use Rattle.mdp_spec.specs.Mdp.{Entry, Choice, Mdp}
 use Rattle.mdp_spec.specs.Unit.{unit_of, scale_of}
 use Rattle.mdp_spec.specs.Pay.{total as total_of}
 use Rattle.mdp_spec.specs.Tree.{Fits}
+use Rattle.mdp_spec.proofs.Small.{entry, labelled, number}
 use Rattle.mdp_rows.specs.declared.dir.Dir.TheVariants.{Max, Min}
 use Rattle.mdp_horizon.specs.Until.{unfolded_steps}
 use Rattle.mdp_horizon.specs.Objective.{stops, ending, earns, value_of}
@@ -18,7 +19,7 @@ use Rattle.mdp_horizon.specs.Bounds.{TotalMax}
 use Rattle.mdp_horizon.specs.Between.{Claimed, MaxBetween}
 use Rattle.mdp_horizon.specs.Written.{written_total}
 use Rattle.mdp_horizon.specs.Spelling.{total_text}
-use Rattle.mdp_horizon.proofs.Examples.{to, with, number, tries, all, lost_stays, goal, answer}
+use Rattle.mdp_horizon.proofs.Examples.{tries, all, lost_stays, goal, answer}
 
 -- ---- total rewards, of both signs
 
@@ -34,8 +35,8 @@ deal = record {
   names = codes "money" ∷ codes "days" ∷ [];
   labels = [];
   states =
-      with [] (earning (to 0 (number 1) ∷ []) (number 1 ∷ number 1 ∷ []) ∷ earning (to 1 (number 1) ∷ []) (minus_two ∷ number 1 ∷ []) ∷ [])
-      ∷ with [] (earning (to 0 (ratio (pos 1) 2) ∷ to 1 (ratio (pos 1) 2) ∷ []) (number 5 ∷ number 1 ∷ []) ∷ [])
+      labelled [] (earning (entry 0 (number 1) ∷ []) (number 1 ∷ number 1 ∷ []) ∷ earning (entry 1 (number 1) ∷ []) (minus_two ∷ number 1 ∷ []) ∷ [])
+      ∷ labelled [] (earning (entry 0 (ratio (pos 1) 2) ∷ entry 1 (ratio (pos 1) 2) ∷ []) (number 5 ∷ number 1 ∷ []) ∷ [])
       ∷ [];
 }
 

@@ -8,6 +8,7 @@ use Rattle.mdp_math.specs.Rational.{ℚ, of_int, ratio}
 use Rattle.mdp_math.specs.Written.{narrow, narrow_ℚ}
 use Rattle.mdp_num.specs.Value.{spelling}
 use Rattle.mdp_spec.specs.Mdp.{Entry, Choice, State, Mdp}
+use Rattle.mdp_spec.proofs.Small.{entry, labelled}
 use Rattle.mdp_rows.specs.declared.dir.Dir.TheVariants.{Max, Min}
 use Rattle.mdp_horizon.specs.Objective.Objective.{until, total}
 use Rattle.mdp_horizon_bounds.specs.Whole.{rounded}
@@ -19,14 +20,8 @@ use Rattle.mdp_horizon_bounds.specs.Gap.{IsNear, MeetWithin}
 use Rattle.mdp_horizon_bounds.specs.Spelling.{bounds_text}
 use Rattle.mdp_horizon_bounds.specs.Spelling.PlainClaim.{until as until_claim, total as total_claim}
 
-abbrev to : ℕ → ℚ → Entry
-to t p = record { target = t; prob = p }
-
 abbrev by : ℚ → List Entry → Choice
 by reward row = record { row = row; rewards = reward ∷ [] }
-
-abbrev with : List ℕ → List Choice → State
-with labels choices = record { labels = labels; choices = choices }
 
 abbrev model_of : List State → Mdp
 model_of states = record { names = codes "pay" ∷ []; labels = codes "init" ∷ codes "goal" ∷ []; states = states }
@@ -50,8 +45,8 @@ rounds = (refl, refl, refl, refl)
 abbrev thirds : Mdp
 thirds =
     model_of
-    (with (0 ∷ []) (by (ratio (pos 1) 3) (to 0 (ratio (pos 2) 3) ∷ to 1 (ratio (pos 1) 3) ∷ []) ∷ [])
-    ∷ with (1 ∷ []) (by (ratio (negsuc 0) 2) (to 0 (of_int (pos 1)) ∷ []) ∷ [])
+    (labelled (0 ∷ []) (by (ratio (pos 1) 3) (entry 0 (ratio (pos 2) 3) ∷ entry 1 (ratio (pos 1) 3) ∷ []) ∷ [])
+    ∷ labelled (1 ∷ []) (by (ratio (negsuc 0) 2) (entry 0 (of_int (pos 1)) ∷ []) ∷ [])
     ∷ [])
 
 -- in two steps with 5/9: with one decimal place from 5/10 to 6/10
@@ -74,7 +69,7 @@ both_signs = refl
 -- ---- a row without room
 
 abbrev long : List Entry
-long = to 0 (ratio (pos 1) 85070591730234615865843651857942052864) ∷ to 1 (ratio (pos 85070591730234615865843651857942052863) 85070591730234615865843651857942052864) ∷ []
+long = entry 0 (ratio (pos 1) 85070591730234615865843651857942052864) ∷ entry 1 (ratio (pos 85070591730234615865843651857942052863) 85070591730234615865843651857942052864) ∷ []
 
 abbrev column : List (Option ℤ)
 column = Some (pos 0) ∷ Some (pos 10) ∷ []
@@ -87,7 +82,7 @@ without_room = (refl, refl, refl)
 
 -- so its values are the least and the greatest probability, and they are there
 abbrev wide : Mdp
-wide = model_of (with (0 ∷ []) (by (of_int (pos 0)) long ∷ []) ∷ with (1 ∷ []) (by (of_int (pos 0)) (to 1 (of_int (pos 1)) ∷ []) ∷ []) ∷ [])
+wide = model_of (labelled (0 ∷ []) (by (of_int (pos 0)) long ∷ []) ∷ labelled (1 ∷ []) (by (of_int (pos 0)) (entry 1 (of_int (pos 1)) ∷ []) ∷ []) ∷ [])
 
 wide_values : bounds_of Max (pos 10) wide (until all goal) 1
     ≡ answer (Some (of_int (pos 0)) ∷ Some (of_int (pos 1)) ∷ []) (Some (of_int (pos 1)) ∷ Some (of_int (pos 1)) ∷ []) ((0 ∷ 0 ∷ []) ∷ [])
@@ -110,7 +105,7 @@ not_nearer : IsNear 0 (pos 5) (pos 6) → ⊥
 not_nearer h = let p = h.1 in omega (arith, ints)
 
 -- the row of state 0 has room over a column
-roomy : HasRoom column (scaled (pos 10) (ratio (pos 1) 3) (to 0 (ratio (pos 2) 3) ∷ to 1 (ratio (pos 1) 3) ∷ []))
+roomy : HasRoom column (scaled (pos 10) (ratio (pos 1) 3) (entry 0 (ratio (pos 2) 3) ∷ entry 1 (ratio (pos 1) 3) ∷ []))
 unfolding narrow ratio of_int gcd gcd_with_fuel
 roomy = (omega (arith, ints), (pos 20, refl))
 

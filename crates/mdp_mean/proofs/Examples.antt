@@ -1,11 +1,12 @@
 -- Joins, computed, on models whose every state is an end component: `gamble` stays at 0 for 1 in each step, or moves to 1, which earns 4 in each step, or
 -- to 2, which earns nothing, with 1/2 each; `leave` earns 1 in each step, and 5 once on the way from 0 to 1; `pay` loses 1 in each step at 0, or 5 once
 -- on the way to 1, which loses 1/2 in each step; `free` earns 1 in each step, and nothing on the way from 0 to 1.
-use Rattle.std.proofs.Common.{◌≡◌, ℕ, ◌^◌, ◌-◌, List, [], ◌∷◌, refl, map, pos, Option, Some, Result, Ok, Err}
+use Rattle.std.proofs.Common.{◌≡◌, ℕ, ◌^◌, ◌-◌, List, [], ◌∷◌, refl, map, Option, Some, Result, Ok, Err}
 use Rattle.mdp_math.specs.Gcd.{gcd, gcd_with_fuel}
 use Rattle.mdp_math.specs.Rational.{ℚ, of_int, ratio, neg_ℚ, inv_ℚ, ◌+ℚ◌, ◌*ℚ◌}
 use Rattle.mdp_math.specs.Written.{narrow, narrow_ℚ, written_add, written_mul, written_compare}
-use Rattle.mdp_spec.specs.Mdp.{Entry, Choice, State, Mdp}
+use Rattle.mdp_spec.specs.Mdp.{Mdp}
+use Rattle.mdp_spec.proofs.Small.{gamble, leave, minus, model, number, over, pay, state, to}
 use Rattle.mdp_elim.specs.Elimination.{divided_rest, plus_equation, eliminated, evaluated}
 use Rattle.mdp_elim.specs.System.{equation_of}
 use Rattle.mdp_wide.specs.declared.too_wide.Kind.TheVariants.{Evaluate, Compare}
@@ -18,41 +19,6 @@ use Rattle.mdp_farkas.specs.declared.verdict.Verdict.TheVariants.{Wide}
 use Rattle.mdp_mean.specs.Terms.{Joining}
 use Rattle.mdp_mean.specs.Join.{Joined, Place, place, written_join}
 use Rattle.mdp_mean.specs.Query.{joining, answer_of, checked}
-
-abbrev number : ℕ → ℚ
-number n = of_int (pos n)
-
-abbrev over : ℕ → ℕ → ℚ
-over n d = ratio (pos n) d
-
-abbrev minus : ℕ → ℕ → ℚ
-minus n d = neg_ℚ (ratio (pos n) d)
-
-abbrev entry : ℕ → ℚ → Entry
-entry t p = record { target = t; prob = p }
-
--- a choice that leads to t alone
-abbrev to : ℕ → ℚ → Choice
-to t reward = record { row = entry t (number 1) ∷ []; rewards = reward ∷ [] }
-
-abbrev state : List Choice → State
-state choices = record { labels = []; choices = choices }
-
-abbrev model : List State → Mdp
-model states = record { names = (45 ∷ []) ∷ []; labels = []; states = states }
-
-abbrev gamble : Mdp
-gamble = model
-    (state (to 0 (number 1) ∷ record { row = entry 1 (over 1 2) ∷ entry 2 (over 1 2) ∷ []; rewards = number 0 ∷ [] } ∷ [])
-    ∷ state (to 1 (number 4) ∷ [])
-    ∷ state (to 2 (number 0) ∷ [])
-    ∷ [])
-
-abbrev leave : Mdp
-leave = model (state (to 0 (number 1) ∷ to 1 (number 5) ∷ []) ∷ state (to 1 (number 1) ∷ []) ∷ [])
-
-abbrev pay : Mdp
-pay = model (state (to 0 (minus 1 1) ∷ to 1 (minus 5 1) ∷ []) ∷ state (to 1 (minus 1 2) ∷ []) ∷ [])
 
 abbrev free : Mdp
 free = model (state (to 0 (number 1) ∷ to 1 (number 0) ∷ []) ∷ state (to 1 (number 1) ∷ []) ∷ [])

@@ -1,28 +1,17 @@
 -- The model of one end component alone, computed.
-use Rattle.std.proofs.Common.{◌≡◌, ℕ, true, false, List, [], ◌∷◌, Option, Some, refl, pos}
-use Rattle.mdp_math.specs.Rational.{ℚ, of_int, ratio}
-use Rattle.mdp_spec.specs.Mdp.{Entry, Choice, State, Mdp}
+use Rattle.std.proofs.Common.{◌≡◌, ℕ, true, false, List, [], ◌∷◌, Option, Some, refl}
+use Rattle.mdp_math.specs.Rational.{ℚ}
+use Rattle.mdp_spec.specs.Mdp.{Entry, Choice, Mdp}
+use Rattle.mdp_spec.proofs.Small.{entry, half, labelled, number}
 use Rattle.mdp_unichain.specs.Part.{members, is_inner}
 use Rattle.mdp_part_model.specs.Alone.{only_name, place_in, alone}
-
-abbrev entry : ℕ → ℚ → Entry
-entry t p = record { target = t; prob = p }
 
 -- two rewards
 abbrev choice : List Entry → ℚ → ℚ → Choice
 choice row x y = record { row = row; rewards = x ∷ y ∷ [] }
 
-abbrev state : List ℕ → List Choice → State
-state labels choices = record { labels = labels; choices = choices }
-
-abbrev whole : ℕ → ℚ
-whole n = of_int (pos n)
-
 abbrev one : ℚ
-one = whole 1
-
-abbrev half : ℚ
-half = ratio (pos 1) 2
+one = number 1
 
 abbrev name_a : List ℕ
 name_a = 97 ∷ []
@@ -36,10 +25,10 @@ abbrev two_pairs : Mdp
 two_pairs = record {
   names = name_a ∷ name_b ∷ [];
   labels = name_a ∷ [];
-  states = state [] (choice (entry 2 one ∷ []) (whole 1) (whole 2) ∷ [])
-      ∷ state (0 ∷ []) (choice (entry 1 half ∷ entry 3 half ∷ []) (whole 3) (whole 4) ∷ choice (entry 0 half ∷ entry 3 half ∷ []) (whole 5) (whole 6) ∷ [])
-      ∷ state [] (choice (entry 0 one ∷ []) (whole 7) (whole 8) ∷ [])
-      ∷ state (0 ∷ []) (choice (entry 1 one ∷ []) (whole 9) (whole 10) ∷ [])
+  states = labelled [] (choice (entry 2 one ∷ []) (number 1) (number 2) ∷ [])
+      ∷ labelled (0 ∷ []) (choice (entry 1 half ∷ entry 3 half ∷ []) (number 3) (number 4) ∷ choice (entry 0 half ∷ entry 3 half ∷ []) (number 5) (number 6) ∷ [])
+      ∷ labelled [] (choice (entry 0 one ∷ []) (number 7) (number 8) ∷ [])
+      ∷ labelled (0 ∷ []) (choice (entry 1 one ∷ []) (number 9) (number 10) ∷ [])
       ∷ [];
 }
 
@@ -62,10 +51,10 @@ pair_alone : alone two_pairs two_parts 1 1 ≡ record {
   labels = [];
   states = record {
     labels = [];
-    choices = record { row = entry 0 half ∷ entry 1 half ∷ []; rewards = whole 4 ∷ [] } ∷ record { row = entry 2 one ∷ []; rewards = whole 6 ∷ [] } ∷ [];
+    choices = record { row = entry 0 half ∷ entry 1 half ∷ []; rewards = number 4 ∷ [] } ∷ record { row = entry 2 one ∷ []; rewards = number 6 ∷ [] } ∷ [];
   }
-      ∷ record { labels = []; choices = record { row = entry 0 one ∷ []; rewards = whole 10 ∷ [] } ∷ [] }
-      ∷ record { labels = []; choices = record { row = entry 2 one ∷ []; rewards = whole 0 ∷ [] } ∷ [] }
+      ∷ record { labels = []; choices = record { row = entry 0 one ∷ []; rewards = number 10 ∷ [] } ∷ [] }
+      ∷ record { labels = []; choices = record { row = entry 2 one ∷ []; rewards = number 0 ∷ [] } ∷ [] }
       ∷ [];
 }
 pair_alone = refl
@@ -80,8 +69,8 @@ abbrev one_way : Mdp
 one_way = record {
   names = name_a ∷ name_b ∷ [];
   labels = [];
-  states = state [] (choice (entry 0 one ∷ []) (whole 1) (whole 2) ∷ choice (entry 1 one ∷ []) (whole 3) (whole 4) ∷ [])
-      ∷ state [] (choice (entry 1 one ∷ []) (whole 5) (whole 6) ∷ [])
+  states = labelled [] (choice (entry 0 one ∷ []) (number 1) (number 2) ∷ choice (entry 1 one ∷ []) (number 3) (number 4) ∷ [])
+      ∷ labelled [] (choice (entry 1 one ∷ []) (number 5) (number 6) ∷ [])
       ∷ [];
 }
 
@@ -93,9 +82,9 @@ first_alone : alone one_way way_parts 0 0 ≡ record {
   labels = [];
   states = record {
     labels = [];
-    choices = record { row = entry 0 one ∷ []; rewards = whole 1 ∷ [] } ∷ record { row = entry 1 one ∷ []; rewards = whole 3 ∷ [] } ∷ [];
+    choices = record { row = entry 0 one ∷ []; rewards = number 1 ∷ [] } ∷ record { row = entry 1 one ∷ []; rewards = number 3 ∷ [] } ∷ [];
   }
-      ∷ record { labels = []; choices = record { row = entry 1 one ∷ []; rewards = whole 0 ∷ [] } ∷ [] }
+      ∷ record { labels = []; choices = record { row = entry 1 one ∷ []; rewards = number 0 ∷ [] } ∷ [] }
       ∷ [];
 }
 first_alone = refl
@@ -104,8 +93,8 @@ first_alone = refl
 last_alone : alone one_way way_parts 1 0 ≡ record {
   names = only_name ∷ [];
   labels = [];
-  states = record { labels = []; choices = record { row = entry 0 one ∷ []; rewards = whole 5 ∷ [] } ∷ [] }
-      ∷ record { labels = []; choices = record { row = entry 1 one ∷ []; rewards = whole 0 ∷ [] } ∷ [] }
+  states = record { labels = []; choices = record { row = entry 0 one ∷ []; rewards = number 5 ∷ [] } ∷ [] }
+      ∷ record { labels = []; choices = record { row = entry 1 one ∷ []; rewards = number 0 ∷ [] } ∷ [] }
       ∷ [];
 }
 last_alone = refl

@@ -1,8 +1,9 @@
 -- Small cases, computed: what the definitions say, and what they refuse.
-use Rattle.std.proofs.Common.{◌≡◌, ℕ, true, false, List, [], ◌∷◌, map, refl, pos, Some, None}
+use Rattle.std.proofs.Common.{◌≡◌, ℕ, true, false, [], ◌∷◌, map, refl, pos, Some, None}
 use Rattle.std.specs.List.{range_with_len}
 use Rattle.mdp_math.specs.Rational.{of_int}
-use Rattle.mdp_spec.specs.Mdp.{Choice, State, Mdp}
+use Rattle.mdp_spec.specs.Mdp.{Choice, Mdp}
+use Rattle.mdp_spec.proofs.Small.{state}
 use Rattle.mdp_graph.specs.Choices.{first_passing}
 use Rattle.mdp_ends.specs.Ends.{is_inside, count_of}
 use Rattle.mdp_ends.specs.Numbers.{is_numbered, count_from}
@@ -15,9 +16,6 @@ use Rattle.mdp_parts.specs.Round.{key_of}
 
 abbrev sure_to : ℕ → Choice
 sure_to t = record { row = record { target = t; prob = of_int (pos 1) } ∷ []; rewards = [] }
-
-abbrev state : List Choice → State
-state choices = record { labels = []; choices = choices }
 
 -- states 0 and 1 go to one another, and state 0 may go on to state 2, which stays
 abbrev leaving : Mdp

@@ -7,7 +7,8 @@ use Rattle.mdp_math.specs.Rational.{ℚ, of_int, ratio, ◌+ℚ◌, ◌*ℚ◌, 
 use Rattle.mdp_math.specs.Written.{written_add, written_mul, written_compare, narrow, narrow_ℚ}
 use Rattle.mdp_num.specs.Value.{spelling}
 use Rattle.mdp_num.specs.Canonical.{canonical_of}
-use Rattle.mdp_spec.specs.Mdp.{Entry, Choice, State, Mdp}
+use Rattle.mdp_spec.specs.Mdp.{State, Mdp}
+use Rattle.mdp_spec.proofs.Small.{choice, entry, labelled, number}
 use Rattle.mdp_elim.specs.Elimination.{divided_rest, plus_equation, eliminated, evaluated}
 use Rattle.mdp_elim.specs.System.{equation_of}
 use Rattle.mdp_wide.specs.declared.too_wide.Kind.TheVariants.{Evaluate, Compare}
@@ -20,27 +21,15 @@ use Rattle.mdp_policy.specs.Spelling.{changes_text, value_text}
 use Rattle.mdp_policy.specs.Text.{policy_text, choose_at, choices_from, policy_outcome}
 use Rattle.mdp_policy.specs.declared.value.Change.{Change}
 
-abbrev to : ℕ → ℚ → Entry
-to t p = record { target = t; prob = p }
-
-abbrev by : List Entry → Choice
-by row = record { row = row; rewards = [] }
-
-abbrev with : List ℕ → List Choice → State
-with labels choices = record { labels = labels; choices = choices }
-
-abbrev number : ℕ → ℚ
-number n = of_int (pos n)
-
 abbrev model_of : List State → Mdp
 model_of states = record { names = []; labels = codes "init" ∷ codes "goal" ∷ []; states = states }
 
 abbrev stays : ℕ → List ℕ → State
-stays s labels = with labels (by (to s (number 1) ∷ []) ∷ [])
+stays s labels = labelled labels (choice (entry s (number 1) ∷ []) ∷ [])
 
 -- state 0 loops, or goes to the goal 1 with 1/3 and is lost in 2 with 2/3
 abbrev goes : Mdp
-goes = model_of (with (0 ∷ []) (by (to 0 (number 1) ∷ []) ∷ by (to 1 (ratio (pos 1) 3) ∷ to 2 (ratio (pos 2) 3) ∷ []) ∷ []) ∷ stays 1 (1 ∷ []) ∷ stays 2 [] ∷ [])
+goes = model_of (labelled (0 ∷ []) (choice (entry 0 (number 1) ∷ []) ∷ choice (entry 1 (ratio (pos 1) 3) ∷ entry 2 (ratio (pos 2) 3) ∷ []) ∷ []) ∷ stays 1 (1 ∷ []) ∷ stays 2 [] ∷ [])
 
 abbrev goal : List Bool
 goal = false ∷ true ∷ false ∷ []
@@ -71,9 +60,9 @@ looping = refl
 -- and state 1, a goal, has no change
 abbrev three_ways : Mdp
 three_ways = model_of
-    (with (0 ∷ []) (by (to 1 (number 1) ∷ []) ∷ by (to 1 (ratio (pos 1) 2) ∷ to 2 (ratio (pos 1) 2) ∷ []) ∷ by
-    (to 1 (ratio (pos 1) 4) ∷ to 2 (ratio (pos 3) 4) ∷ []) ∷ by (to 2 (number 1) ∷ []) ∷ [])
-    ∷ with (1 ∷ []) (by (to 1 (number 1) ∷ []) ∷ by (to 2 (number 1) ∷ []) ∷ [])
+    (labelled (0 ∷ []) (choice (entry 1 (number 1) ∷ []) ∷ choice (entry 1 (ratio (pos 1) 2) ∷ entry 2 (ratio (pos 1) 2) ∷ []) ∷ choice
+    (entry 1 (ratio (pos 1) 4) ∷ entry 2 (ratio (pos 3) 4) ∷ []) ∷ choice (entry 2 (number 1) ∷ []) ∷ [])
+    ∷ labelled (1 ∷ []) (choice (entry 1 (number 1) ∷ []) ∷ choice (entry 2 (number 1) ∷ []) ∷ [])
     ∷ stays 2 []
     ∷ [])
 
@@ -83,7 +72,7 @@ middle = refl
 
 -- 1/10^20 and 1/3^60 add up past width: in the evaluation where the policy takes that choice, in the comparison where it takes the other
 abbrev past_width : Mdp
-past_width = model_of (with (0 ∷ []) (by (to 1 (number 1) ∷ []) ∷ by (to 1 (ratio (pos 1) (10 ^ 20)) ∷ to 2 (ratio (pos 1) (3 ^ 60)) ∷ []) ∷ []) ∷ stays 1 (1 ∷ []) ∷ stays 2 (1 ∷ []) ∷ [])
+past_width = model_of (labelled (0 ∷ []) (choice (entry 1 (number 1) ∷ []) ∷ choice (entry 1 (ratio (pos 1) (10 ^ 20)) ∷ entry 2 (ratio (pos 1) (3 ^ 60)) ∷ []) ∷ []) ∷ stays 1 (1 ∷ []) ∷ stays 2 (1 ∷ []) ∷ [])
 
 abbrev goals : List Bool
 goals = false ∷ true ∷ true ∷ []

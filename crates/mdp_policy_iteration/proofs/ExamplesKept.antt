@@ -1,5 +1,5 @@
 -- Three nodes, computed: what a choice reads, what is kept of a policy's evaluation, and the scope of a change.
-use Rattle.std.proofs.Common.{◌≡◌, ◌⊎◌, inl, inr, ℕ, zero, suc, ◌<◌, List, [], ◌∷◌, true, false, Some, None, Ok, refl, pos, arith}
+use Rattle.std.proofs.Common.{◌≡◌, ◌⊎◌, inl, inr, ℕ, zero, suc, ◌<◌, List, [], ◌∷◌, true, false, Some, None, Ok, refl, arith}
 use Rattle.std.specs.List.{All}
 use Rattle.std.specs.Prelude.{slice_index}
 use Rattle.std.proofs.lemmas.Bool.{false≢true}
@@ -8,6 +8,7 @@ use Rattle.mdp_math.specs.Gcd.{gcd, gcd_with_fuel}
 use Rattle.mdp_math.specs.Rational.{ℚ, of_int, ratio, ◌+ℚ◌, ◌*ℚ◌, neg_ℚ, inv_ℚ}
 use Rattle.mdp_math.specs.Written.{written_add, written_mul, written_compare, narrow, narrow_ℚ}
 use Rattle.mdp_spec.specs.Mdp.{Entry, value_at}
+use Rattle.mdp_spec.proofs.Small.{entry, half, number}
 use Rattle.mdp_rows.specs.Preds.{is_among, pair}
 use Rattle.mdp_rows.specs.declared.dir.Dir.TheVariants.{Max}
 use Rattle.mdp_elim.specs.Equation.{Equation, no_equation}
@@ -25,18 +26,15 @@ use Rattle.mdp_policy_iteration.specs.Evaluated.{Evaluation, IsEvaluated, Differ
 use Rattle.mdp_policy_iteration.specs.Scope.{IsScope}
 use Rattle.mdp_policy_iteration.proofs.Reading.{reads-by}
 use Rattle.mdp_policy_iteration.proofs.AllNodes.{all-below, all-ascend}
-use Rattle.mdp_policy_iteration.proofs.Examples.{to, may, whole}
-
-abbrev half : ℚ
-half = ratio (pos 1) 2
+use Rattle.mdp_policy_iteration.proofs.Examples.{may}
 
 -- node 0 goes to 1 and 2 with 1/2 each, or to 2; node 1 stops with 1/2, or goes to 2; node 2 is worth 1
 abbrev three : Problem
 three = record {
   dir = Max;
   nodes =
-      decision (may (go (whole 0) (to 1 half ∷ to 2 half ∷ [])) ∷ may (go (whole 0) (to 2 (whole 1) ∷ [])) ∷ [])
-      ∷ decision (may (stop half) ∷ may (go (whole 0) (to 2 (whole 1) ∷ [])) ∷ []) ∷ given (whole 1) ∷ [];
+      decision (may (go (number 0) (entry 1 half ∷ entry 2 half ∷ [])) ∷ may (go (number 0) (entry 2 (number 1) ∷ [])) ∷ [])
+      ∷ decision (may (stop half) ∷ may (go (number 0) (entry 2 (number 1) ∷ [])) ∷ []) ∷ given (number 1) ∷ [];
 }
 
 -- an entry to none of these nodes
@@ -54,13 +52,13 @@ each_of_three P a b c (suc (suc (suc s))) l = absurd (omega arith)
 both-read : Reads three 0 0 (1 ∷ [])
 both-read =
     reads-by three 0 0 (1 ∷ []) (All-from_recursion (λ t. t < 3) (1 ∷ []) (omega arith, tt)) (choice_at three 0 0) refl
-    (All-from_recursion (λ x. (is_among x.target (1 ∷ []) ≡ true) ⊎ IsGiven three x.target) (to 1 half ∷ to 2 half ∷ []) (inl refl, (inr (whole 1, refl), tt)))
-    (λ x y agree. written_sum-agree x y (whole 0) (to 1 half ∷ to 2 half ∷ [])
-    (All-from_recursion (λ e. value_at x e.target ≡ value_at y e.target) (to 1 half ∷ to 2 half ∷ []) (agree.listed 1 refl, (agree.fixed 2 (whole 1, refl), tt))))
+    (All-from_recursion (λ x. (is_among x.target (1 ∷ []) ≡ true) ⊎ IsGiven three x.target) (entry 1 half ∷ entry 2 half ∷ []) (inl refl, (inr (number 1, refl), tt)))
+    (λ x y agree. written_sum-agree x y (number 0) (entry 1 half ∷ entry 2 half ∷ [])
+    (All-from_recursion (λ e. value_at x e.target ≡ value_at y e.target) (entry 1 half ∷ entry 2 half ∷ []) (agree.listed 1 refl, (agree.fixed 2 (number 1, refl), tt))))
 
 -- choice 0 of node 0 leads to node 1, which isn't given: so node 1 is listed
 lists-one : (nodes : List ℕ) → Reads three 0 0 nodes → is_among 1 nodes ≡ true
-lists-one nodes h = elim (h.row 0 (to 1 half) (omega arith)) as (λ _. is_among 1 nodes ≡ true) [ inl e ↦ e | inr g ↦ absurd (let e = g.1 in cc) ]
+lists-one nodes h = elim (h.row 0 (entry 1 half) (omega arith)) as (λ _. is_among 1 nodes ≡ true) [ inl e ↦ e | inr g ↦ absurd (let e = g.1 in cc) ]
 
 not-nothing : Reads three 0 0 [] → ⊥
 not-nothing h = false≢true (lists-one [] h)
@@ -76,13 +74,13 @@ goes = 0 ∷ 1 ∷ 0 ∷ []
 abbrev by_goes : Evaluation
 by_goes = record {
   active = true ∷ true ∷ false ∷ [];
-  constants = half ∷ whole 1 ∷ whole 0 ∷ [];
+  constants = half ∷ number 1 ∷ number 0 ∷ [];
   kept = record {
-    solved = (let one : Equation = record { entries = []; first = whole 1; second = whole 0 } in one ∷ one ∷ no_equation ∷ []);
-    first = whole 1 ∷ whole 1 ∷ whole 0 ∷ [];
-    second = whole 0 ∷ whole 0 ∷ whole 0 ∷ [];
+    solved = (let one : Equation = record { entries = []; first = number 1; second = number 0 } in one ∷ one ∷ no_equation ∷ []);
+    first = number 1 ∷ number 1 ∷ number 0 ∷ [];
+    second = number 0 ∷ number 0 ∷ number 0 ∷ [];
   };
-  values = whole 1 ∷ whole 1 ∷ whole 1 ∷ [];
+  values = number 1 ∷ number 1 ∷ number 1 ∷ [];
 }
 
 is_evaluated : IsEvaluated three goes by_goes
@@ -109,12 +107,12 @@ differ-at_0 : DifferAt three (0 ∷ []) goes (1 ∷ 1 ∷ 0 ∷ [])
 differ-at_0 = record {
   same = each_of_three (λ s. is_among s (0 ∷ []) ≡ false → slice_index (1 ∷ 1 ∷ 0 ∷ []) s ≡ slice_index goes s) (λ h. cc) (λ h. refl) (λ h. refl);
   closed = each_of_three (λ s. is_among s (0 ∷ []) ≡ false → All (IsOut (0 ∷ [])) (row_from s (taken three (1 ∷ 1 ∷ 0 ∷ []) s))) (λ h. cc)
-      (λ h. All-from_recursion (IsOut (0 ∷ [])) (to 2 (whole 1) ∷ []) (refl, tt)) (λ h. All-from_recursion (IsOut (0 ∷ [])) (to 2 (whole 1) ∷ []) (refl, tt));
+      (λ h. All-from_recursion (IsOut (0 ∷ [])) (entry 2 (number 1) ∷ []) (refl, tt)) (λ h. All-from_recursion (IsOut (0 ∷ [])) (entry 2 (number 1) ∷ []) (refl, tt));
 }
 
 -- it and the policy by which node 1 stops differ at node 1, but node 0 leads to it
 not-closed : DifferAt three (1 ∷ []) (0 ∷ 0 ∷ 0 ∷ []) goes → ⊥
-not-closed h = let e : true ≡ false = h.closed 0 (omega arith) refl 0 (to 1 half) (omega arith) in cc
+not-closed h = let e : true ≡ false = h.closed 0 (omega arith) refl 0 (entry 1 half) (omega arith) in cc
 
 -- the scope of a change at node 1, to which node 0 comes
 scope-goes : IsScope three goes (pair 1 1 ∷ []) (record { affected = 0 ∷ 1 ∷ []; compared = 0 ∷ 1 ∷ [] })
@@ -125,24 +123,24 @@ scope-goes = record {
   compared_ascend = all-ascend 2;
   changed = All-from_recursion (λ x. is_among x.state (0 ∷ 1 ∷ []) ≡ true) (pair 1 1 ∷ []) (refl, tt);
   closed = each_of_three (λ s. is_among s (0 ∷ 1 ∷ []) ≡ false → All (IsOut (0 ∷ 1 ∷ [])) (row_from s (taken three goes s))) (λ h. cc) (λ h. cc)
-      (λ h. All-from_recursion (IsOut (0 ∷ 1 ∷ [])) (to 2 (whole 1) ∷ []) (refl, tt));
+      (λ h. All-from_recursion (IsOut (0 ∷ 1 ∷ [])) (entry 2 (number 1) ∷ []) (refl, tt));
   within = λ s h. h;
   unread = λ x y agree. each_of_three (λ s. is_among s (0 ∷ 1 ∷ []) ≡ false → improvement three x s ≡ improvement three y s) (λ h. cc) (λ h. cc) (λ h. refl);
 }
 
 -- so node 1 alone isn't what is affected
 not-affected : IsScope three goes (pair 1 1 ∷ []) (record { affected = 1 ∷ []; compared = 0 ∷ 1 ∷ [] }) → ⊥
-not-affected h = let e : true ≡ false = h.closed 0 (omega arith) refl 0 (to 1 half) (omega arith) in cc
+not-affected h = let e : true ≡ false = h.closed 0 (omega arith) refl 0 (entry 1 half) (omega arith) in cc
 
 -- where node 0 goes to 2 no other node comes to node 1; but choice 0 of node 0 reads node 1, so node 0 is compared
 not-compared : IsScope three (1 ∷ 1 ∷ 0 ∷ []) (pair 1 1 ∷ []) (record { affected = 1 ∷ []; compared = 1 ∷ [] }) → ⊥
 unfolding written_add written_mul written_compare narrow narrow_ℚ ◌+ℚ◌ ◌*ℚ◌ neg_ℚ inv_ℚ ratio of_int gcd gcd_with_fuel
 not-compared h =
-    let same = h.unread (whole 1 ∷ whole 0 ∷ whole 1 ∷ []) (whole 1 ∷ whole 2 ∷ whole 1 ∷ []) agree 0 (omega arith) refl in
-    let x : improvement three (whole 1 ∷ whole 0 ∷ whole 1 ∷ []) 0 ≡ Ok None = refl in
-    let y : improvement three (whole 1 ∷ whole 2 ∷ whole 1 ∷ []) 0 ≡ Ok (Some 0) = refl in cc
+    let same = h.unread (number 1 ∷ number 0 ∷ number 1 ∷ []) (number 1 ∷ number 2 ∷ number 1 ∷ []) agree 0 (omega arith) refl in
+    let x : improvement three (number 1 ∷ number 0 ∷ number 1 ∷ []) 0 ≡ Ok None = refl in
+    let y : improvement three (number 1 ∷ number 2 ∷ number 1 ∷ []) 0 ≡ Ok (Some 0) = refl in cc
   where
-    agree : (t : ℕ) → is_among t (1 ∷ []) ≡ false → value_at (whole 1 ∷ whole 0 ∷ whole 1 ∷ []) t ≡ value_at (whole 1 ∷ whole 2 ∷ whole 1 ∷ []) t
+    agree : (t : ℕ) → is_among t (1 ∷ []) ≡ false → value_at (number 1 ∷ number 0 ∷ number 1 ∷ []) t ≡ value_at (number 1 ∷ number 2 ∷ number 1 ∷ []) t
     agree zero e = refl
     agree (suc zero) e = cc
     agree (suc (suc t)) e = refl

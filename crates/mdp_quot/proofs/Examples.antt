@@ -1,30 +1,13 @@
 -- Small models, computed.
-use Rattle.std.proofs.Common.{◌≡◌, ℕ, ◌==◌, length, List, [], ◌∷◌, refl, sym, ap, arith, ◌%◌, pos, Option, Some, None}
+use Rattle.std.proofs.Common.{◌≡◌, ℕ, ◌==◌, length, List, [], ◌∷◌, refl, sym, ap, arith, ◌%◌, Option, Some, None}
 use Rattle.std.proofs.lemmas.Bool.{false≢true}
 use Rattle.mdp_math.specs.Gcd.{gcd, gcd_with_fuel}
 use Rattle.mdp_math.specs.Rational.{ℚ, of_int, ratio, ◌+ℚ◌, le_ℚ}
-use Rattle.mdp_spec.specs.Mdp.{Entry, Choice, State, Mdp}
+use Rattle.mdp_spec.specs.Mdp.{Entry, Mdp}
+use Rattle.mdp_spec.proofs.Small.{choice, entry, half, one, quarter, state}
 use Rattle.mdp_rows.specs.Preds.{pair}
 use Rattle.mdp_ends.specs.Quotient.{exits_of, nodes_in, merged, node_row}
 use Rattle.mdp_quot.specs.Quotient.{Quotient, IsChosen, node_rows, chosen_rows, loop_row}
-
-abbrev entry : ℕ → ℚ → Entry
-entry t p = record { target = t; prob = p }
-
-abbrev choice : List Entry → Choice
-choice row = record { row = row; rewards = [] }
-
-abbrev state : List Choice → State
-state choices = record { labels = []; choices = choices }
-
-abbrev one : ℚ
-one = of_int (pos 1)
-
-abbrev half : ℚ
-half = ratio (pos 1) 2
-
-abbrev quarter : ℚ
-quarter = ratio (pos 1) 4
 
 -- ---- state 0 stays, or goes on to states 1 and 2, which stay: three end components, three nodes
 

@@ -8,7 +8,8 @@ use Rattle.mdp_math.specs.Gcd.{gcd, gcd_with_fuel}
 use Rattle.mdp_math.specs.Rational.{ℚ, of_int, ratio, ◌+ℚ◌, ◌*ℚ◌, neg_ℚ, inv_ℚ, le_ℚ}
 use Rattle.mdp_math.specs.Written.{written_add, written_mul, written_compare, narrow, narrow_ℚ}
 use Rattle.mdp_math.proofs.Extremes.{test_of_le}
-use Rattle.mdp_spec.specs.Mdp.{Entry, Choice, State, Mdp}
+use Rattle.mdp_spec.specs.Mdp.{Entry, Choice, Mdp}
+use Rattle.mdp_spec.proofs.Small.{bare, choice, entry, half, number, state}
 use Rattle.mdp_rows.specs.Preds.{pair}
 use Rattle.mdp_rows.specs.declared.dir.Dir.{Dir}
 use Rattle.mdp_rows.specs.declared.dir.Dir.TheVariants.{Max, Min}
@@ -26,26 +27,8 @@ use Rattle.mdp_quot_exits.specs.Steps.{IsLongest, IsCounted}
 use Rattle.mdp_quot_exits.specs.Outer.{IsOuterPolicy, IsBestOuter, HasGains}
 use Rattle.mdp_quot_exits.specs.Laws.{LeavesWithOneValue}
 
-abbrev to : ℕ → ℚ → Entry
-to t p = record { target = t; prob = p }
-
-abbrev whole : ℕ → ℚ
-whole n = of_int (pos n)
-
-abbrev half : ℚ
-half = ratio (pos 1) 2
-
-abbrev choice : List Entry → Choice
-choice row = record { row = row; rewards = [] }
-
-abbrev state : List Choice → State
-state choices = record { labels = []; choices = choices }
-
-abbrev model_of : List State → Mdp
-model_of states = record { names = []; labels = []; states = states }
-
 abbrev stays : ℕ → Choice
-stays s = choice (to s (whole 1) ∷ [])
+stays s = choice (entry s (number 1) ∷ [])
 
 abbrev three_nodes : List ℕ
 three_nodes = 0 ∷ 1 ∷ 2 ∷ []
@@ -63,65 +46,65 @@ outer_path dir q gains rounds = iterated (path_step (outer_problem dir q gains))
 -- ---- state 0 stays, or goes to states 1 and 2, which stay: three end components, and one exit
 
 abbrev parts : Mdp
-parts = model_of (state (stays 0 ∷ choice (to 1 half ∷ to 2 half ∷ []) ∷ []) ∷ state (stays 1 ∷ []) ∷ state (stays 2 ∷ []) ∷ [])
+parts = bare (state (stays 0 ∷ choice (entry 1 half ∷ entry 2 half ∷ []) ∷ []) ∷ state (stays 1 ∷ []) ∷ state (stays 2 ∷ []) ∷ [])
 
 abbrev of_parts : Quotient
 of_parts = record {
   nodes = three_nodes;
   components = Some 0 ∷ Some 1 ∷ Some 2 ∷ [];
   exits = (pair 0 1 ∷ []) ∷ [] ∷ [] ∷ [];
-  rows = ((to 1 half ∷ to 2 half ∷ []) ∷ []) ∷ (loop_row 1 ∷ []) ∷ (loop_row 2 ∷ []) ∷ [];
+  rows = ((entry 1 half ∷ entry 2 half ∷ []) ∷ []) ∷ (loop_row 1 ∷ []) ∷ (loop_row 2 ∷ []) ∷ [];
 }
 
 of_parts_is : (exits_of parts (Some 0 ∷ Some 1 ∷ Some 2 ∷ []) three_nodes 0 ≡ pair 0 1 ∷ [])
-    × (node_rows parts (Some 0 ∷ Some 1 ∷ Some 2 ∷ []) three_nodes 0 ≡ (to 1 half ∷ to 2 half ∷ []) ∷ [])
+    × (node_rows parts (Some 0 ∷ Some 1 ∷ Some 2 ∷ []) three_nodes 0 ≡ (entry 1 half ∷ entry 2 half ∷ []) ∷ [])
 unfolding ratio of_int ◌+ℚ◌ gcd gcd_with_fuel le_ℚ
 of_parts_is = (refl, refl)
 
 -- one exit can be taken from node 0
-one_exit : Ends (steps_path of_parts 1) 0 (0 ∷ 0 ∷ 0 ∷ []) (whole 1 ∷ whole 0 ∷ whole 0 ∷ [])
+one_exit : Ends (steps_path of_parts 1) 0 (0 ∷ 0 ∷ 0 ∷ []) (number 1 ∷ number 0 ∷ number 0 ∷ [])
 unfolding equation_of eliminated divided_rest plus_equation evaluated written_add written_mul written_compare narrow narrow_ℚ ◌+ℚ◌ ◌*ℚ◌ neg_ℚ inv_ℚ ratio of_int gcd gcd_with_fuel
 one_exit = refl
 
 -- none is too few
-too_few : IsLongest of_parts (whole 0 ∷ whole 0 ∷ whole 0 ∷ []) → ⊥
+too_few : IsLongest of_parts (number 0 ∷ number 0 ∷ number 0 ∷ []) → ⊥
 unfolding le_ℚ ◌+ℚ◌ ◌*ℚ◌ ratio of_int gcd gcd_with_fuel
-too_few h = false≢true (test_of_le (whole 1) (whole 0) (h.each 0 0 (omega arith) (omega arith)))
+too_few h = false≢true (test_of_le (number 1) (number 0) (h.each 0 0 (omega arith) (omega arith)))
 
 -- where exit 0 is taken one exit is counted; and there is no exit 1
-not_counted : IsCounted of_parts (0 ∷ 0 ∷ 0 ∷ []) (whole 0 ∷ whole 0 ∷ whole 0 ∷ []) → ⊥
+not_counted : IsCounted of_parts (0 ∷ 0 ∷ 0 ∷ []) (number 0 ∷ number 0 ∷ number 0 ∷ []) → ⊥
 unfolding le_ℚ ◌+ℚ◌ ◌*ℚ◌ ratio of_int gcd gcd_with_fuel
-not_counted c = false≢true (ap (le_ℚ (whole 1)) (c.some 0 (omega arith) (omega arith)))
+not_counted c = false≢true (ap (le_ℚ (number 1)) (c.some 0 (omega arith) (omega arith)))
 
 no_exit_1 : (x : List ℚ) → IsCounted of_parts (1 ∷ 0 ∷ 0 ∷ []) x → ⊥
 no_exit_1 x c = absurd (omega (arith, c.policy.at 0 (omega arith) (omega arith)))
 
 -- gains 1, 4 and 0: the exit comes to 2, which is better than to stop with 1
-goes_on : Ends (outer_path Max of_parts (whole 1 ∷ whole 4 ∷ whole 0 ∷ []) 2) 1 (1 ∷ 0 ∷ 0 ∷ []) (whole 2 ∷ whole 4 ∷ whole 0 ∷ [])
+goes_on : Ends (outer_path Max of_parts (number 1 ∷ number 4 ∷ number 0 ∷ []) 2) 1 (1 ∷ 0 ∷ 0 ∷ []) (number 2 ∷ number 4 ∷ number 0 ∷ [])
 unfolding equation_of eliminated divided_rest plus_equation evaluated written_add written_mul written_compare narrow narrow_ℚ ◌+ℚ◌ ◌*ℚ◌ neg_ℚ inv_ℚ ratio of_int gcd gcd_with_fuel
 goes_on = refl
 
 -- so to stop there isn't best
-not_best : IsBestOuter Max of_parts (whole 1 ∷ whole 4 ∷ whole 0 ∷ []) (record { policy = 0 ∷ 0 ∷ 0 ∷ []; values = whole 1 ∷ whole 4 ∷ whole 0 ∷ [] }) → ⊥
+not_best : IsBestOuter Max of_parts (number 1 ∷ number 4 ∷ number 0 ∷ []) (record { policy = 0 ∷ 0 ∷ 0 ∷ []; values = number 1 ∷ number 4 ∷ number 0 ∷ [] }) → ⊥
 unfolding le_ℚ ◌+ℚ◌ ◌*ℚ◌ ratio of_int gcd gcd_with_fuel
-not_best b = false≢true (test_of_le (whole 2) (whole 1) (b.exit 0 0 (omega arith) (omega arith)))
+not_best b = false≢true (test_of_le (number 2) (number 1) (b.exit 0 0 (omega arith) (omega arith)))
 
 -- to stop with 3 is better
-stops : Ends (outer_path Max of_parts (whole 3 ∷ whole 4 ∷ whole 0 ∷ []) 1) 0 (0 ∷ 0 ∷ 0 ∷ []) (whole 3 ∷ whole 4 ∷ whole 0 ∷ [])
+stops : Ends (outer_path Max of_parts (number 3 ∷ number 4 ∷ number 0 ∷ []) 1) 0 (0 ∷ 0 ∷ 0 ∷ []) (number 3 ∷ number 4 ∷ number 0 ∷ [])
 unfolding equation_of eliminated divided_rest plus_equation evaluated written_add written_mul written_compare narrow narrow_ℚ ◌+ℚ◌ ◌*ℚ◌ neg_ℚ inv_ℚ ratio of_int gcd gcd_with_fuel
 stops = refl
 
 -- where the least gain is meant it is the other way round
-least_stops : Ends (outer_path Min of_parts (whole 1 ∷ whole 4 ∷ whole 0 ∷ []) 1) 0 (0 ∷ 0 ∷ 0 ∷ []) (whole 1 ∷ whole 4 ∷ whole 0 ∷ [])
+least_stops : Ends (outer_path Min of_parts (number 1 ∷ number 4 ∷ number 0 ∷ []) 1) 0 (0 ∷ 0 ∷ 0 ∷ []) (number 1 ∷ number 4 ∷ number 0 ∷ [])
 unfolding equation_of eliminated divided_rest plus_equation evaluated written_add written_mul written_compare narrow narrow_ℚ ◌+ℚ◌ ◌*ℚ◌ neg_ℚ inv_ℚ ratio of_int gcd gcd_with_fuel
 least_stops = refl
 
-least_goes_on : Ends (outer_path Min of_parts (whole 3 ∷ whole 4 ∷ whole 0 ∷ []) 2) 1 (1 ∷ 0 ∷ 0 ∷ []) (whole 2 ∷ whole 4 ∷ whole 0 ∷ [])
+least_goes_on : Ends (outer_path Min of_parts (number 3 ∷ number 4 ∷ number 0 ∷ []) 2) 1 (1 ∷ 0 ∷ 0 ∷ []) (number 2 ∷ number 4 ∷ number 0 ∷ [])
 unfolding equation_of eliminated divided_rest plus_equation evaluated written_add written_mul written_compare narrow narrow_ℚ ◌+ℚ◌ ◌*ℚ◌ neg_ℚ inv_ℚ ratio of_int gcd gcd_with_fuel
 least_goes_on = refl
 
 -- half of 2^-126 is past width: the comparison of node 0 ends at entry 1
-past_width : outer_path Max of_parts (whole 1 ∷ ratio (pos 1) (2 ^ 126) ∷ whole 0 ∷ []) 1 ≡ Some
+past_width : outer_path Max of_parts (number 1 ∷ ratio (pos 1) (2 ^ 126) ∷ number 0 ∷ []) 1 ≡ Some
     (let r : Result Found Refusal = Err (record { number = 0; policy = 0 ∷ 0 ∷ 0 ∷ []; place = record { kind = Compare; node = 0; choice = 1 } }) in r)
 unfolding equation_of eliminated divided_rest plus_equation evaluated written_add written_mul written_compare narrow narrow_ℚ ◌+ℚ◌ ◌*ℚ◌ neg_ℚ inv_ℚ ratio of_int gcd gcd_with_fuel
 past_width = refl
@@ -131,39 +114,39 @@ no_second : IsOuterPolicy of_parts (2 ∷ 0 ∷ 0 ∷ []) → ⊥
 no_second o = absurd (omega (arith, o.exits 0 1 (omega arith) refl))
 
 -- the third end component has a gain too
-no_gain : HasGains of_parts (whole 1 ∷ whole 4 ∷ []) → ⊥
+no_gain : HasGains of_parts (number 1 ∷ number 4 ∷ []) → ⊥
 no_gain h = absurd (omega (arith, h 2 2 (omega arith) refl))
 
 -- ---- state 0 stays, or goes to state 1, which is in no end component: it goes back or to state 2, which stays
 
 abbrev between : Mdp
-between = model_of (state (stays 0 ∷ choice (to 1 (whole 1) ∷ []) ∷ []) ∷ state (choice (to 0 half ∷ to 2 half ∷ []) ∷ []) ∷ state (stays 2 ∷ []) ∷ [])
+between = bare (state (stays 0 ∷ choice (entry 1 (number 1) ∷ []) ∷ []) ∷ state (choice (entry 0 half ∷ entry 2 half ∷ []) ∷ []) ∷ state (stays 2 ∷ []) ∷ [])
 
 abbrev of_between : Quotient
 of_between = record {
   nodes = three_nodes;
   components = Some 0 ∷ None ∷ Some 1 ∷ [];
   exits = (pair 0 1 ∷ []) ∷ (pair 1 0 ∷ []) ∷ [] ∷ [];
-  rows = ((to 1 (whole 1) ∷ []) ∷ []) ∷ ((to 0 half ∷ to 2 half ∷ []) ∷ []) ∷ (loop_row 2 ∷ []) ∷ [];
+  rows = ((entry 1 (number 1) ∷ []) ∷ []) ∷ ((entry 0 half ∷ entry 2 half ∷ []) ∷ []) ∷ (loop_row 2 ∷ []) ∷ [];
 }
 
 of_between_is : (exits_of between (Some 0 ∷ None ∷ Some 1 ∷ []) three_nodes 1 ≡ pair 1 0 ∷ [])
-    × (node_rows between (Some 0 ∷ None ∷ Some 1 ∷ []) three_nodes 1 ≡ (to 0 half ∷ to 2 half ∷ []) ∷ [])
+    × (node_rows between (Some 0 ∷ None ∷ Some 1 ∷ []) three_nodes 1 ≡ (entry 0 half ∷ entry 2 half ∷ []) ∷ [])
 unfolding ratio of_int ◌+ℚ◌ gcd gcd_with_fuel le_ℚ
 of_between_is = (refl, refl)
 
 -- the longest stay: from node 0 one exit, then from node 1 one, and with 1/2 all again
-long_stay : Ends (steps_path of_between 1) 0 (0 ∷ 0 ∷ 0 ∷ []) (whole 4 ∷ whole 3 ∷ whole 0 ∷ [])
+long_stay : Ends (steps_path of_between 1) 0 (0 ∷ 0 ∷ 0 ∷ []) (number 4 ∷ number 3 ∷ number 0 ∷ [])
 unfolding equation_of eliminated divided_rest plus_equation evaluated written_add written_mul written_compare narrow narrow_ℚ ◌+ℚ◌ ◌*ℚ◌ neg_ℚ inv_ℚ ratio of_int gcd gcd_with_fuel
 long_stay = refl
 
 -- at first node 0 stops with 1, and node 1 is worth 3/2; then both come to the gain 2 of node 2
-comes_through : Ends (outer_path Max of_between (whole 1 ∷ whole 2 ∷ []) 2) 1 (1 ∷ 1 ∷ 0 ∷ []) (whole 2 ∷ whole 2 ∷ whole 2 ∷ [])
+comes_through : Ends (outer_path Max of_between (number 1 ∷ number 2 ∷ []) 2) 1 (1 ∷ 1 ∷ 0 ∷ []) (number 2 ∷ number 2 ∷ number 2 ∷ [])
 unfolding equation_of eliminated divided_rest plus_equation evaluated written_add written_mul written_compare narrow narrow_ℚ ◌+ℚ◌ ◌*ℚ◌ neg_ℚ inv_ℚ ratio of_int gcd gcd_with_fuel
 comes_through = refl
 
 -- at equal gains each node keeps what it does
-keeps : Ends (outer_path Max of_between (whole 2 ∷ whole 2 ∷ []) 1) 0 (0 ∷ 1 ∷ 0 ∷ []) (whole 2 ∷ whole 2 ∷ whole 2 ∷ [])
+keeps : Ends (outer_path Max of_between (number 2 ∷ number 2 ∷ []) 1) 0 (0 ∷ 1 ∷ 0 ∷ []) (number 2 ∷ number 2 ∷ number 2 ∷ [])
 unfolding equation_of eliminated divided_rest plus_equation evaluated written_add written_mul written_compare narrow narrow_ℚ ◌+ℚ◌ ◌*ℚ◌ neg_ℚ inv_ℚ ratio of_int gcd gcd_with_fuel
 keeps = refl
 
@@ -171,7 +154,7 @@ keeps = refl
 no_stop : IsOuterPolicy of_between (0 ∷ 0 ∷ 0 ∷ []) → ⊥
 no_stop o = let w = o.stops 1 (omega arith) refl in cc
 
-no_candidate : (choice_at (outer_problem Max of_between (whole 1 ∷ whole 2 ∷ [])) 1 0).candidate ≡ false
+no_candidate : (choice_at (outer_problem Max of_between (number 1 ∷ number 2 ∷ [])) 1 0).candidate ≡ false
 no_candidate = refl
 
 -- and starts with its first exit
@@ -186,14 +169,14 @@ of_loop = record { nodes = 0 ∷ []; components = None ∷ []; exits = (pair 0 0
 abbrev Falls : List ℕ → Entry → Type 0
 Falls ranks x = (is_active (true ∷ []) x.target ≡ false) ⊎ (slice_index ranks x.target < slice_index ranks 0)
 
-no_fall : (ranks : List ℕ) → Falls ranks (to 0 (whole 1)) → ⊥
+no_fall : (ranks : List ℕ) → Falls ranks (entry 0 (number 1)) → ⊥
 no_fall ranks (inl e) = true≢false e
 no_fall ranks (inr l) = absurd (omega (arith, l))
 
 none_falls : (ranks : List ℕ) → Any (Falls ranks) (loop_row 0) → ⊥
 none_falls ranks w =
     let first : w.0 ≡ 0 = (let l : w.0 < 1 = w.2 in omega (arith, l)) in
-    let is : to 0 (whole 1) ≡ w.1 = subst (λ k. slice_index_or (loop_row 0) k w.1 ≡ w.1) first w.3 in
+    let is : entry 0 (number 1) ≡ w.1 = subst (λ k. slice_index_or (loop_row 0) k w.1 ≡ w.1) first w.3 in
     no_fall ranks (subst (λ (x : Entry). Falls ranks x) (sym is) w.4)
 
 never_left : LeavesWithOneValue (steps_problem of_loop) (0 ∷ []) → ⊥

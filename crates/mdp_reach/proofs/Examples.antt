@@ -3,7 +3,8 @@ use Rattle.std.proofs.Common.{◌≡◌, ℕ, [], ◌∷◌, List, Bool, true, f
 use Rattle.mdp_math.specs.Gcd.{gcd, gcd_with_fuel}
 use Rattle.mdp_math.specs.Rational.{ℚ, of_int, ratio, ◌+ℚ◌, ◌*ℚ◌, neg_ℚ, inv_ℚ}
 use Rattle.mdp_math.specs.Written.{written_add, written_mul, written_compare, narrow, narrow_ℚ}
-use Rattle.mdp_spec.specs.Mdp.{Mdp, State, Choice, Entry}
+use Rattle.mdp_spec.specs.Mdp.{Mdp, State, Choice}
+use Rattle.mdp_spec.proofs.Small.{bare, choice, entry, state}
 use Rattle.mdp_elim.specs.Elimination.{divided_rest, plus_equation, eliminated, evaluated}
 use Rattle.mdp_elim.specs.System.{equation_of}
 use Rattle.mdp_rows.specs.declared.dir.Dir.TheVariants.{Max, Min}
@@ -14,24 +15,12 @@ use Rattle.mdp_reach.specs.Problem.{reach_problem}
 use Rattle.mdp_reach.specs.Query.{HasOneEach}
 use Rattle.mdp_reach.specs.Round.{last_round}
 
-abbrev to : ℕ → ℚ → Entry
-to t p = record { target = t; prob = p }
-
-abbrev by : List Entry → Choice
-by row = record { row = row; rewards = [] }
-
-abbrev with : List Choice → State
-with choices = record { labels = []; choices = choices }
-
-abbrev model_of : List State → Mdp
-model_of states = record { names = []; labels = []; states = states }
-
 abbrev stays : ℕ → State
-stays s = with (by (to s (of_int (pos 1)) ∷ []) ∷ [])
+stays s = state (choice (entry s (of_int (pos 1)) ∷ []) ∷ [])
 
 -- state 0 stays, or goes to the goal 1 with 1/3 and to 2 with 2/3, where it stays
 abbrev waits : Mdp
-waits = model_of (with (by (to 0 (of_int (pos 1)) ∷ []) ∷ by (to 1 (ratio (pos 1) 3) ∷ to 2 (ratio (pos 2) 3) ∷ []) ∷ []) ∷ stays 1 ∷ stays 2 ∷ [])
+waits = bare (state (choice (entry 0 (of_int (pos 1)) ∷ []) ∷ choice (entry 1 (ratio (pos 1) 3) ∷ entry 2 (ratio (pos 2) 3) ∷ []) ∷ []) ∷ stays 1 ∷ stays 2 ∷ [])
 
 abbrev goal_1 : List Bool
 goal_1 = false ∷ true ∷ false ∷ []
@@ -50,14 +39,14 @@ avoids = refl
 
 -- the goal 3 with probability n/d, and else 4, where it stays
 abbrev tries : ℕ → ℕ → ℕ → Choice
-tries n k d = by (to 3 (ratio (pos n) d) ∷ to 4 (ratio (pos k) d) ∷ [])
+tries n k d = choice (entry 3 (ratio (pos n) d) ∷ entry 4 (ratio (pos k) d) ∷ [])
 
 abbrev goes_to : ℕ → Choice
-goes_to t = by (to t (of_int (pos 1)) ∷ [])
+goes_to t = choice (entry t (of_int (pos 1)) ∷ [])
 
 -- state 2 tries with 1/2 or with 3/4; state 1 tries with 5/8 or goes to 2; state 0 tries with 11/16 or goes to 1
 abbrev late : Mdp
-late = model_of (with (tries 11 5 16 ∷ goes_to 1 ∷ []) ∷ with (tries 5 3 8 ∷ goes_to 2 ∷ []) ∷ with (tries 1 1 2 ∷ tries 3 1 4 ∷ []) ∷ stays 3 ∷ stays 4 ∷ [])
+late = bare (state (tries 11 5 16 ∷ goes_to 1 ∷ []) ∷ state (tries 5 3 8 ∷ goes_to 2 ∷ []) ∷ state (tries 1 1 2 ∷ tries 3 1 4 ∷ []) ∷ stays 3 ∷ stays 4 ∷ [])
 
 -- each round changes one choice, from 2 back to 0
 four_rounds :

@@ -13,13 +13,14 @@ use Rattle.mdp_math.proofs.Order.{0ℚ}
 use Rattle.mdp_num.specs.Numeral.{limit}
 use Rattle.mdp_spec.specs.Mdp.{Entry, Choice, Mdp, choices_at, row_at}
 use Rattle.mdp_spec.specs.Row.{IsRow, IsMdp}
+use Rattle.mdp_spec.proofs.Small.{entry, half, one, third, two_thirds}
 use Rattle.mdp_rows.specs.Name.{IsName, IsRewardName}
 use Rattle.mdp_rows.specs.Limits.{in_order_of_sight, HasSmallTerms, IsChoiceWithin, IsStateWithin, IsModel}
 use Rattle.mdp_rows.proofs.SoundCalls.Rewards.{small_by}
 use Rattle.mdp_rows.specs.Draft.{Draft, new_draft, ◌>>=◌, closed_row, kept_sum, after_state, after_label, after_choice, after_entry, after_finish}
 use Rattle.mdp_rows.specs.GivenRow.{in_order}
 use Rattle.mdp_rows.specs.Negative.{has_negative}
-use Rattle.mdp_rows.proofs.Examples.Words.{one, third, two_thirds, half, minus_half, cost, init, goal, to, of_states}
+use Rattle.mdp_rows.proofs.Examples.Words.{minus_half, cost, init, goal, of_states}
 use Rattle.mdp_rows.specs.Replay.{replayed}
 use Rattle.mdp_rows.specs.declared.error.RowsError.{RowsError}
 use Rattle.mdp_rows.specs.declared.error.RowsError.TheVariants.{RowSum, RowWide, Twice, NoChoice, TooMany, Target, Large, Count}
@@ -37,8 +38,8 @@ label name d = after_label d name
 abbrev choice : ℚ → Draft → Result Draft RowsError
 choice reward d = after_choice d (reward ∷ [])
 
-abbrev entry : ℕ → ℚ → Draft → Result Draft RowsError
-entry target value d = after_entry d target value
+abbrev add_entry : ℕ → ℚ → Draft → Result Draft RowsError
+add_entry target value d = after_entry d target value
 
 abbrev draft : ℕ → RowRule → Result Draft RowsError
 draft states rule = Ok (new_draft states rule (cost ∷ []))
@@ -47,14 +48,14 @@ draft states rule = Ok (new_draft states rule (cost ∷ []))
 
 abbrev made : Result Mdp RowsError
 made =
-    draft 2 Exact >>= state half >>= label init >>= choice one >>= entry 1 two_thirds >>= entry 0 third >>= choice 0ℚ >>= entry 1 one
-    >>= state 0ℚ >>= label goal >>= label init >>= choice (of_int (pos 2)) >>= entry 0 0ℚ >>= entry 1 one >>= after_finish
+    draft 2 Exact >>= state half >>= label init >>= choice one >>= add_entry 1 two_thirds >>= add_entry 0 third >>= choice 0ℚ >>= add_entry 1 one
+    >>= state 0ℚ >>= label goal >>= label init >>= choice (of_int (pos 2)) >>= add_entry 0 0ℚ >>= add_entry 1 one >>= after_finish
 
 abbrev mixed : List Entry
-mixed = to 0 third ∷ to 1 two_thirds ∷ []
+mixed = entry 0 third ∷ entry 1 two_thirds ∷ []
 
 abbrev sure : List Entry
-sure = to 1 one ∷ []
+sure = entry 1 one ∷ []
 
 abbrev first_choices : List Choice
 first_choices = record { row = mixed; rewards = ratio (pos 3) 2 ∷ [] } ∷ record { row = sure; rewards = half ∷ [] } ∷ []
@@ -77,10 +78,10 @@ two-replayed = refl
 
 -- a cost of -1/2 behind one of 1/2 is 0, and behind none it is below 0
 abbrev paid : ℚ → Result Mdp RowsError
-paid own = draft 1 Exact >>= state own >>= choice minus_half >>= entry 0 one >>= after_finish
+paid own = draft 1 Exact >>= state own >>= choice minus_half >>= add_entry 0 one >>= after_finish
 
 abbrev earns : ℚ → Mdp
-earns reward = record { names = cost ∷ []; labels = []; states = record { labels = []; choices = record { row = to 0 one ∷ []; rewards = reward ∷ [] } ∷ [] } ∷ [] }
+earns reward = record { names = cost ∷ []; labels = []; states = record { labels = []; choices = record { row = entry 0 one ∷ []; rewards = reward ∷ [] } ∷ [] } ∷ [] }
 
 half-cancels : paid half ≡ Ok (earns 0ℚ)
 unfolding gcd gcd_with_fuel ratio of_int ◌+ℚ◌ le_ℚ narrow narrow_ℚ written_add
@@ -194,7 +195,7 @@ abbrev near_third : ℚ
 near_third = ratio (pos 333333) 1000000
 
 abbrev three_of : ℚ → List Entry
-three_of x = to 0 x ∷ to 1 x ∷ to 2 x ∷ []
+three_of x = entry 0 x ∷ entry 1 x ∷ entry 2 x ∷ []
 
 -- 0.333333 three times adds to 0.999999
 thirds-refused : closed_row Exact 0 0 (three_of near_third) ≡ Err (RowSum 0 0)
@@ -220,28 +221,28 @@ unfolding of_int le_ℚ
 none-refused = refl
 
 -- 1/10^36 and 1/(10^36 - 1) have no common denominator within the limit, and don't add to 1
-wide-first : closed_row Exact 0 0 (to 0 (ratio (pos 1) limit) ∷ to 1 (ratio (pos 1) 999999999999999999999999999999999999) ∷ []) ≡ Err (RowWide 0 0)
+wide-first : closed_row Exact 0 0 (entry 0 (ratio (pos 1) limit) ∷ entry 1 (ratio (pos 1) 999999999999999999999999999999999999) ∷ []) ≡ Err (RowWide 0 0)
 unfolding gcd gcd_with_fuel ratio of_int ◌+ℚ◌ le_ℚ
 wide-first = refl
 
 -- 1/10^36 and 1 have one, but not 1/(10^36 + 1) and 10^36/(10^36 + 1)
-wide-scaled : closed_row Scaled 0 0 (to 0 (ratio (pos 1) limit) ∷ to 1 one ∷ []) ≡ Err (RowWide 0 0)
+wide-scaled : closed_row Scaled 0 0 (entry 0 (ratio (pos 1) limit) ∷ entry 1 one ∷ []) ≡ Err (RowWide 0 0)
 unfolding gcd gcd_with_fuel ratio of_int inv_ℚ ◌+ℚ◌ ◌*ℚ◌ le_ℚ
 wide-scaled = refl
 
 -- ---- what the calls refuse
 
 -- the second choice of state 1 ends the first, whose row adds to 2/3
-row-refused : (draft 2 Exact >>= state 0ℚ >>= choice 0ℚ >>= entry 1 one >>= state 0ℚ >>= choice 0ℚ >>= entry 0 two_thirds >>= choice 0ℚ) ≡ Err (RowSum 1 0)
+row-refused : (draft 2 Exact >>= state 0ℚ >>= choice 0ℚ >>= add_entry 1 one >>= state 0ℚ >>= choice 0ℚ >>= add_entry 0 two_thirds >>= choice 0ℚ) ≡ Err (RowSum 1 0)
 unfolding gcd gcd_with_fuel ratio of_int ◌+ℚ◌ le_ℚ narrow narrow_ℚ written_add
 row-refused = refl
 
 -- an entry of value 0 stands until its row ends
-zero-twice : (draft 2 Exact >>= state 0ℚ >>= choice 0ℚ >>= entry 1 0ℚ >>= entry 0 third >>= entry 1 two_thirds) ≡ Err Twice
+zero-twice : (draft 2 Exact >>= state 0ℚ >>= choice 0ℚ >>= add_entry 1 0ℚ >>= add_entry 0 third >>= add_entry 1 two_thirds) ≡ Err Twice
 unfolding gcd gcd_with_fuel ratio of_int ◌+ℚ◌ narrow narrow_ℚ written_add
 zero-twice = refl
 
-past-target : (draft 2 Exact >>= state 0ℚ >>= choice 0ℚ >>= entry 2 one) ≡ Err Target
+past-target : (draft 2 Exact >>= state 0ℚ >>= choice 0ℚ >>= add_entry 2 one) ≡ Err Target
 unfolding gcd gcd_with_fuel ratio of_int ◌+ℚ◌ narrow narrow_ℚ written_add
 past-target = refl
 
@@ -270,11 +271,11 @@ no-choice = refl
 no-choice_at_end : (draft 1 Exact >>= state 0ℚ >>= after_finish) ≡ Err (NoChoice 0)
 no-choice_at_end = refl
 
-too-few : (draft 2 Exact >>= state 0ℚ >>= choice 0ℚ >>= entry 0 one >>= after_finish) ≡ Err Count
+too-few : (draft 2 Exact >>= state 0ℚ >>= choice 0ℚ >>= add_entry 0 one >>= after_finish) ≡ Err Count
 unfolding gcd gcd_with_fuel ratio of_int ◌+ℚ◌ le_ℚ narrow narrow_ℚ written_add
 too-few = refl
 
-too-many : (draft 1 Exact >>= state 0ℚ >>= choice 0ℚ >>= entry 0 one >>= state 0ℚ) ≡ Err Count
+too-many : (draft 1 Exact >>= state 0ℚ >>= choice 0ℚ >>= add_entry 0 one >>= state 0ℚ) ≡ Err Count
 unfolding gcd gcd_with_fuel ratio of_int ◌+ℚ◌ le_ℚ narrow narrow_ℚ written_add
 too-many = refl
 
@@ -298,8 +299,8 @@ too-often = refl
 
 -- ---- entries given in other orders
 
-descending : in_order (to 2 third ∷ to 1 half ∷ to 0 one ∷ []) ≡ to 0 one ∷ to 1 half ∷ to 2 third ∷ []
+descending : in_order (entry 2 third ∷ entry 1 half ∷ entry 0 one ∷ []) ≡ entry 0 one ∷ entry 1 half ∷ entry 2 third ∷ []
 descending = refl
 
-first_last : in_order (to 1 half ∷ to 2 third ∷ to 0 one ∷ []) ≡ to 0 one ∷ to 1 half ∷ to 2 third ∷ []
+first_last : in_order (entry 1 half ∷ entry 2 third ∷ entry 0 one ∷ []) ≡ entry 0 one ∷ entry 1 half ∷ entry 2 third ∷ []
 first_last = refl

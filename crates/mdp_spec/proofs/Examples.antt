@@ -13,23 +13,12 @@ use Rattle.mdp_spec.specs.Hit.{hit}
 use Rattle.mdp_spec.specs.Pay.{pay, total, Enters}
 use Rattle.mdp_spec.specs.Sub.{sub_of, policy_on}
 use Rattle.mdp_spec.specs.Written.{written_sum}
+use Rattle.mdp_spec.proofs.Small.{entry, one, third, two_thirds}
 
 -- ---- a model of three states: state 0 has a loop, and a choice that goes on to 1 with 1/3 and to 2 with 2/3; 1 and 2 are left nowhere
 
-abbrev pub entry : ℕ → ℚ → Entry
-entry t p = record { target = t; prob = p }
-
 abbrev pub choice : List Entry → List ℚ → Choice
 choice row rewards = record { row = row; rewards = rewards }
-
-abbrev pub third : ℚ
-third = ratio (pos 1) 3
-
-abbrev pub two_thirds : ℚ
-two_thirds = ratio (pos 2) 3
-
-abbrev pub one : ℚ
-one = of_int (pos 1)
 
 -- the label of place 0 is `init`, that of place 1 is `goal`
 abbrev pub three : Mdp

@@ -11,29 +11,30 @@ use Rattle.mdp_spec.specs.Between.{ReachMaxBetween, ReachMinBetween, RewardMaxBe
 use Rattle.mdp_spec.specs.BetweenRules.{MeetsReachMaxBetween}
 use Rattle.mdp_spec.proofs.Reach.{reach_max_between_of_rules, reach_max_lies, reach_min_lies}
 use Rattle.mdp_spec.proofs.Unique.{reward_max_lies, reward_min_lies, mean_max_lies}
-use Rattle.mdp_spec.proofs.Examples.{entry, one, third, three, goals}
-use Rattle.mdp_spec.proofs.ExamplesBounds.{below_3, zero_ℚ, goes_on, policy_three, three_model, greatest_chances, three_max, least_chances, loops, three_min}
-use Rattle.mdp_spec.proofs.ExamplesRules.{number, trip, trip_model, most, pays, trip_most, least, tries, trip_least, job, job_model, gains, job_gains}
+use Rattle.mdp_spec.proofs.Examples.{three, goals}
+use Rattle.mdp_spec.proofs.ExamplesBounds.{below_3, goes_on, policy_three, three_model, greatest_chances, three_max, least_chances, loops, three_min}
+use Rattle.mdp_spec.proofs.ExamplesRules.{trip, trip_model, most, pays, trip_most, least, tries, trip_least, job, job_model, gains, job_gains}
+use Rattle.mdp_spec.proofs.Small.{entry, nought, number, one, third}
 
 -- ---- the greatest probability from state 0, 1/3, lies between 1/4 and 1/2
 
 abbrev quarter : List ℚ
-quarter = ratio (pos 1) 4 ∷ one ∷ zero_ℚ ∷ []
+quarter = ratio (pos 1) 4 ∷ one ∷ nought ∷ []
 
 abbrev half : List ℚ
-half = ratio (pos 1) 2 ∷ one ∷ zero_ℚ ∷ []
+half = ratio (pos 1) 2 ∷ one ∷ nought ∷ []
 
 between_rules : MeetsReachMaxBetween three goals quarter half goes_on (1 ∷ 0 ∷ 0 ∷ [])
 unfolding gcd gcd_with_fuel ratio of_int ◌+ℚ◌ ◌*ℚ◌ le_ℚ lt_ℚ
 between_rules = record {
   choices = policy_three;
   lower_values = record {
-    at_least_zero = below_3 (λ s. zero_ℚ ≤ℚ value_at quarter s) (record { le = tt }) (record { le = tt }) (record { le = tt });
+    at_least_zero = below_3 (λ s. nought ≤ℚ value_at quarter s) (record { le = tt }) (record { le = tt }) (record { le = tt });
     at_most_one = below_3 (λ s. value_at quarter s ≤ℚ one) (record { le = tt }) (record { le = tt }) (record { le = tt });
     at_goal = below_3 (λ s. is_marked goals s ≡ true → value_at quarter s ≡ one) (λ g. absurd (true≢false (sym g))) (λ g. refl) (λ g. absurd (true≢false (sym g)));
   };
   upper_values = record {
-    at_least_zero = below_3 (λ s. zero_ℚ ≤ℚ value_at half s) (record { le = tt }) (record { le = tt }) (record { le = tt });
+    at_least_zero = below_3 (λ s. nought ≤ℚ value_at half s) (record { le = tt }) (record { le = tt }) (record { le = tt });
     at_most_one = below_3 (λ s. value_at half s ≤ℚ one) (record { le = tt }) (record { le = tt }) (record { le = tt });
     at_goal = below_3 (λ s. is_marked goals s ≡ true → value_at half s ≡ one) (λ g. absurd (true≢false (sym g))) (λ g. refl) (λ g. absurd (true≢false (sym g)));
   };
@@ -43,8 +44,8 @@ between_rules = record {
       (λ g. record { le = tt }) (λ g. absurd (true≢false g)) (λ g. record { le = tt });
   ends = λ s h which. ranks s h which;
   falls = below_3
-      (λ s. is_marked goals s ≡ false → zero_ℚ <ℚ value_at quarter s
-      → Any (λ y. (zero_ℚ <ℚ value_at quarter y.target) × (slice_index (1 ∷ 0 ∷ 0 ∷ []) y.target < slice_index (1 ∷ 0 ∷ 0 ∷ []) s)) (row_at three s (slice_index goes_on s)))
+      (λ s. is_marked goals s ≡ false → nought <ℚ value_at quarter s
+      → Any (λ y. (nought <ℚ value_at quarter y.target) × (slice_index (1 ∷ 0 ∷ 0 ∷ []) y.target < slice_index (1 ∷ 0 ∷ 0 ∷ []) s)) (row_at three s (slice_index goes_on s)))
       (λ g p. (0, entry 1 third, omega arith, refl, (record { lt = tt }, omega arith)))
       (λ g p. absurd (true≢false g)) (λ g p. absurd p.lt);
 }
@@ -58,9 +59,9 @@ between_rules = record {
     covered (suc (suc zero)) (suc c) h g l = absurd (omega arith)
     covered (suc (suc (suc s))) c h g l = absurd (omega arith)
 
-    ranks : (s : ℕ) → s < 3 → (is_marked goals s ≡ true) ⊎ (value_at quarter s ≡ zero_ℚ) → slice_index (1 ∷ 0 ∷ 0 ∷ []) s ≡ 0
+    ranks : (s : ℕ) → s < 3 → (is_marked goals s ≡ true) ⊎ (value_at quarter s ≡ nought) → slice_index (1 ∷ 0 ∷ 0 ∷ []) s ≡ 0
     ranks zero h (inl g) = absurd (true≢false (sym g))
-    ranks zero h (inr e) = let h : ratio (pos 1) 4 ≤ℚ zero_ℚ = ≤ℚ_of_eq (ratio (pos 1) 4) zero_ℚ e in absurd h.le
+    ranks zero h (inr e) = let h : ratio (pos 1) 4 ≤ℚ nought = ≤ℚ_of_eq (ratio (pos 1) 4) nought e in absurd h.le
     ranks (suc zero) h which = refl
     ranks (suc (suc zero)) h which = refl
     ranks (suc (suc (suc s))) h which = absurd (omega arith)
@@ -83,7 +84,7 @@ quarter_no_upper lower policy b =
 quarter_no_least : (upper : List ℚ) (policy : List ℕ) → ReachMinBetween three goals quarter upper policy → ⊥
 unfolding gcd gcd_with_fuel ratio of_int le_ℚ
 quarter_no_least upper policy b =
-    let h : ratio (pos 1) 4 ≤ℚ zero_ℚ = (reach_min_lies three goals three_model quarter upper least_chances policy loops 0 b three_min (omega arith)).0 in h.le
+    let h : ratio (pos 1) 4 ≤ℚ nought = (reach_min_lies three goals three_model quarter upper least_chances policy loops 0 b three_min (omega arith)).0 in h.le
 
 abbrev trip_goals : List Bool
 trip_goals = false ∷ true ∷ false ∷ false ∷ []

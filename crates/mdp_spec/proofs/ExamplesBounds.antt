@@ -20,7 +20,8 @@ use Rattle.mdp_spec.specs.Bounds.{ReachMax, ReachMin, RewardMax, RewardMin, MaxF
 use Rattle.mdp_spec.proofs.Keeping.{unfolded_is_strategy}
 use Rattle.mdp_spec.proofs.Reach.{reach_max_of_rules, reach_min_of_rules, reach_max_unique, reach_min_unique, above_of_rules}
 use Rattle.mdp_spec.proofs.Subsystem.{loop_is_row, sub-states, sub_is_mdp, policy_on_sub}
-use Rattle.mdp_spec.proofs.Examples.{entry, choice, one, third, three, goals}
+use Rattle.mdp_spec.proofs.Examples.{choice, three, goals}
+use Rattle.mdp_spec.proofs.Small.{entry, nought, one, third}
 
 pub below_3 : (P : ℕ → Type 0) → P 0 → P 1 → P 2 → (s : ℕ) → s < 3 → P s
 below_3 P a b c zero h = a
@@ -32,9 +33,6 @@ below_2 : (P : ℕ → Type 0) → P 0 → P 1 → (s : ℕ) → s < 2 → P s
 below_2 P a b zero h = a
 below_2 P a b (suc zero) h = b
 below_2 P a b (suc (suc s)) h = absurd (omega arith)
-
-abbrev pub zero_ℚ : ℚ
-zero_ℚ = of_int (pos 0)
 
 -- ---- policies. In the model `three` of Examples state 0 has two choices, and 1 and 2 have one each
 
@@ -79,7 +77,7 @@ no_such_name v g spread policy = (
 goes_on_row : IsRow 3 (row_at three 0 1)
 unfolding gcd gcd_with_fuel ratio of_int ◌+ℚ◌ lt_ℚ
 goes_on_row = record {
-  distribution = record { ascending = refl; positive = All-from_recursion (λ x. zero_ℚ <ℚ x.prob) (row_at three 0 1) (record { lt = tt }, (record { lt = tt }, tt)); total = refl };
+  distribution = record { ascending = refl; positive = All-from_recursion (λ x. nought <ℚ x.prob) (row_at three 0 1) (record { lt = tt }, (record { lt = tt }, tt)); total = refl };
   in_range = All-from_recursion (λ x. x.target < 3) (row_at three 0 1) (omega arith, (omega arith, tt));
 }
 
@@ -99,14 +97,14 @@ three_model = record { some = omega arith; few = omega arith; choice = below_3 (
 -- ---- the greatest probabilities: 1/3 from state 0, by going on
 
 abbrev pub greatest_chances : List ℚ
-greatest_chances = third ∷ one ∷ zero_ℚ ∷ []
+greatest_chances = third ∷ one ∷ nought ∷ []
 
 max_rules : MeetsReachMax three goals greatest_chances goes_on (1 ∷ 0 ∷ 0 ∷ [])
 unfolding gcd gcd_with_fuel ratio of_int ◌+ℚ◌ ◌*ℚ◌ le_ℚ lt_ℚ
 max_rules = record {
   choices = policy_three;
   probabilities = record {
-    at_least_zero = below_3 (λ s. zero_ℚ ≤ℚ value_at greatest_chances s) (record { le = tt }) (record { le = tt }) (record { le = tt });
+    at_least_zero = below_3 (λ s. nought ≤ℚ value_at greatest_chances s) (record { le = tt }) (record { le = tt }) (record { le = tt });
     at_most_one = below_3 (λ s. value_at greatest_chances s ≤ℚ one) (record { le = tt }) (record { le = tt }) (record { le = tt });
     at_goal = below_3 (λ s. is_marked goals s ≡ true → value_at greatest_chances s ≡ one) (λ g. absurd (true≢false (sym g))) (λ g. refl) (λ g. absurd (true≢false (sym g)));
   };
@@ -116,8 +114,8 @@ max_rules = record {
       (λ g. record { le = tt }) (λ g. absurd (true≢false g)) (λ g. record { le = tt });
   ends = λ s h which. ranks s h which;
   falls = below_3
-      (λ s. is_marked goals s ≡ false → zero_ℚ <ℚ value_at greatest_chances s
-      → Any (λ y. (zero_ℚ <ℚ value_at greatest_chances y.target) × (slice_index (1 ∷ 0 ∷ 0 ∷ []) y.target < slice_index (1 ∷ 0 ∷ 0 ∷ []) s)) (row_at three s (slice_index goes_on s)))
+      (λ s. is_marked goals s ≡ false → nought <ℚ value_at greatest_chances s
+      → Any (λ y. (nought <ℚ value_at greatest_chances y.target) × (slice_index (1 ∷ 0 ∷ 0 ∷ []) y.target < slice_index (1 ∷ 0 ∷ 0 ∷ []) s)) (row_at three s (slice_index goes_on s)))
       (λ g p. (0, entry 1 third, omega arith, refl, (record { lt = tt }, omega arith)))
       (λ g p. absurd (true≢false g)) (λ g p. absurd p.lt);
 }
@@ -131,9 +129,9 @@ max_rules = record {
     covered (suc (suc zero)) (suc c) h g l = absurd (omega arith)
     covered (suc (suc (suc s))) c h g l = absurd (omega arith)
 
-    ranks : (s : ℕ) → s < 3 → (is_marked goals s ≡ true) ⊎ (value_at greatest_chances s ≡ zero_ℚ) → slice_index (1 ∷ 0 ∷ 0 ∷ []) s ≡ 0
+    ranks : (s : ℕ) → s < 3 → (is_marked goals s ≡ true) ⊎ (value_at greatest_chances s ≡ nought) → slice_index (1 ∷ 0 ∷ 0 ∷ []) s ≡ 0
     ranks zero h (inl g) = absurd (true≢false (sym g))
-    ranks zero h (inr e) = let h : third ≤ℚ zero_ℚ = ≤ℚ_of_eq third zero_ℚ e in absurd h.le
+    ranks zero h (inr e) = let h : third ≤ℚ nought = ≤ℚ_of_eq third nought e in absurd h.le
     ranks (suc zero) h which = refl
     ranks (suc (suc zero)) h which = refl
     ranks (suc (suc (suc s))) h which = absurd (omega arith)
@@ -142,15 +140,15 @@ pub three_max : ReachMax three goals greatest_chances goes_on
 three_max = reach_max_of_rules three goals greatest_chances goes_on (1 ∷ 0 ∷ 0 ∷ []) three_model max_rules
 
 -- nothing comes close to 1/2, so no policy meets the bound with it
-not_half : (policy : List ℕ) → ReachMax three goals (ratio (pos 1) 2 ∷ one ∷ zero_ℚ ∷ []) policy → ⊥
+not_half : (policy : List ℕ) → ReachMax three goals (ratio (pos 1) 2 ∷ one ∷ nought ∷ []) policy → ⊥
 unfolding gcd gcd_with_fuel ratio of_int le_ℚ
 not_half policy b =
     let h : ratio (pos 1) 2 ≤ℚ third = ≤ℚ_of_eq (ratio (pos 1) 2) third
-    (reach_max_unique three goals three_model (ratio (pos 1) 2 ∷ one ∷ zero_ℚ ∷ []) greatest_chances policy goes_on 0 b three_max (omega arith)) in
+    (reach_max_unique three goals three_model (ratio (pos 1) 2 ∷ one ∷ nought ∷ []) greatest_chances policy goes_on 0 b three_max (omega arith)) in
     h.le
 
 -- 1/4 is passed by the tree that goes on
-not_quarter : (policy : List ℕ) → ReachMax three goals (ratio (pos 1) 4 ∷ one ∷ zero_ℚ ∷ []) policy → ⊥
+not_quarter : (policy : List ℕ) → ReachMax three goals (ratio (pos 1) 4 ∷ one ∷ nought ∷ []) policy → ⊥
 unfolding gcd gcd_with_fuel ratio of_int le_ℚ unit_of hit
 not_quarter policy b =
     let h : hit three goals 1 1 (unfolded three goes_on 1 0) 0 ≤ℚ ratio (pos 1) 4 = b.above.above 1 1 (unfolded three goes_on 1 0) 0 (omega arith)
@@ -166,14 +164,14 @@ policy_loops : IsPolicy three loops
 policy_loops = record { one_each = refl; in_range = below_3 (λ s. slice_index loops s < length (choices_at three s)) (omega arith) (omega arith) (omega arith) }
 
 abbrev pub least_chances : List ℚ
-least_chances = zero_ℚ ∷ one ∷ zero_ℚ ∷ []
+least_chances = nought ∷ one ∷ nought ∷ []
 
 min_rules : MeetsReachMin three goals least_chances loops loops
 unfolding gcd gcd_with_fuel ratio of_int ◌+ℚ◌ ◌*ℚ◌ le_ℚ lt_ℚ
 min_rules = record {
   choices = policy_loops;
   probabilities = record {
-    at_least_zero = below_3 (λ s. zero_ℚ ≤ℚ value_at least_chances s) (record { le = tt }) (record { le = tt }) (record { le = tt });
+    at_least_zero = below_3 (λ s. nought ≤ℚ value_at least_chances s) (record { le = tt }) (record { le = tt }) (record { le = tt });
     at_most_one = below_3 (λ s. value_at least_chances s ≤ℚ one) (record { le = tt }) (record { le = tt }) (record { le = tt });
     at_goal = below_3 (λ s. is_marked goals s ≡ true → value_at least_chances s ≡ one) (λ g. absurd (true≢false (sym g))) (λ g. refl) (λ g. absurd (true≢false (sym g)));
   };
@@ -183,7 +181,7 @@ min_rules = record {
       (λ g. absurd (true≢false g)) (λ g. record { le = tt });
   ends = λ s h which. below_3 (λ s. slice_index loops s ≡ 0) refl refl refl s h;
   falls = λ s c h g p l.
-      below_3 (λ s. is_marked goals s ≡ false → zero_ℚ <ℚ value_at least_chances s → Any (λ y. slice_index loops y.target < slice_index loops s) (row_at three s c)) (λ g p. absurd p.lt)
+      below_3 (λ s. is_marked goals s ≡ false → nought <ℚ value_at least_chances s → Any (λ y. slice_index loops y.target < slice_index loops s) (row_at three s c)) (λ g p. absurd p.lt)
       (λ g p. absurd (true≢false g)) (λ g p. absurd p.lt) s h g p;
 }
   where
@@ -202,7 +200,7 @@ three_min = reach_min_of_rules three goals least_chances loops loops three_model
 -- the greatest probabilities aren't the least ones, and no policy makes them so
 not_greatest : (policy : List ℕ) → ReachMin three goals greatest_chances policy → ⊥
 unfolding gcd gcd_with_fuel ratio of_int le_ℚ
-not_greatest policy b = let h : third ≤ℚ zero_ℚ = ≤ℚ_of_eq third zero_ℚ (reach_min_unique three goals three_model greatest_chances least_chances policy loops 0 b three_min (omega arith)) in h.le
+not_greatest policy b = let h : third ≤ℚ nought = ≤ℚ_of_eq third nought (reach_min_unique three goals three_model greatest_chances least_chances policy loops 0 b three_min (omega arith)) in h.le
 
 -- ---- a model where state 0 goes to the goal 1 and earns 1 by that. A policy that takes a seventh choice would lose all paths, and make 0 the
 -- least probability
@@ -211,7 +209,7 @@ abbrev goes : Mdp
 goes = record {
   names = (99 ∷ []) ∷ [];
   labels = [];
-  states = record { labels = []; choices = choice (entry 1 one ∷ []) (one ∷ []) ∷ [] } ∷ record { labels = []; choices = choice (entry 1 one ∷ []) (zero_ℚ ∷ []) ∷ [] } ∷ [];
+  states = record { labels = []; choices = choice (entry 1 one ∷ []) (one ∷ []) ∷ [] } ∷ record { labels = []; choices = choice (entry 1 one ∷ []) (nought ∷ []) ∷ [] } ∷ [];
 }
 
 abbrev goal : List Bool
@@ -234,34 +232,34 @@ policy_goes = record { one_each = refl; in_range = below_2 (λ s. slice_index (0
 first_tree : IsStrategy goes 1 1 (unfolded goes (0 ∷ 0 ∷ []) 1 0) 0
 first_tree = unfolded_is_strategy goes (0 ∷ 0 ∷ []) 1 0 goes_model policy_goes (omega arith)
 
-lost : hit goes goal 1 1 (unfolded goes (7 ∷ 7 ∷ []) 1 0) 0 ≡ zero_ℚ
+lost : hit goes goal 1 1 (unfolded goes (7 ∷ 7 ∷ []) 1 0) 0 ≡ nought
 unfolding gcd gcd_with_fuel ratio of_int unit_of hit
 lost = refl
 
-not_lost : ReachMin goes goal (zero_ℚ ∷ one ∷ []) (7 ∷ 7 ∷ []) → ⊥
+not_lost : ReachMin goes goal (nought ∷ one ∷ []) (7 ∷ 7 ∷ []) → ⊥
 not_lost b = let h = b.takes.in_range 0 (omega arith) in omega (arith, h)
 
 -- ---- rewards
 
 -- the greatest finite value is computed, and a value past the last state isn't taken for one
-greatest_finite-three : greatest_finite (Some one ∷ None ∷ Some (of_int (pos 3)) ∷ Some zero_ℚ ∷ []) ≡ of_int (pos 3)
+greatest_finite-three : greatest_finite (Some one ∷ None ∷ Some (of_int (pos 3)) ∷ Some nought ∷ []) ≡ of_int (pos 3)
 unfolding of_int le_ℚ
 greatest_finite-three = refl
 
-greatest_finite-none : greatest_finite (None ∷ None ∷ []) ≡ zero_ℚ
+greatest_finite-none : greatest_finite (None ∷ None ∷ []) ≡ nought
 unfolding of_int le_ℚ
 greatest_finite-none = refl
 
-not_padded : (policy : List ℕ) → RewardMin goes 0 goal policy (Some one ∷ Some zero_ℚ ∷ Some (of_int (pos 100)) ∷ []) → ⊥
+not_padded : (policy : List ℕ) → RewardMin goes 0 goal policy (Some one ∷ Some nought ∷ Some (of_int (pos 100)) ∷ []) → ⊥
 not_padded policy b = let e = b.one_each in omega (arith, e)
 
 -- of the one tree of depth 1, which earns 1 and arrives: 5 is more than the least reward, and 0 less than the greatest
-five_too_much : (policy : List ℕ) → RewardMin goes 0 goal policy (Some (of_int (pos 5)) ∷ Some zero_ℚ ∷ []) → ⊥
+five_too_much : (policy : List ℕ) → RewardMin goes 0 goal policy (Some (of_int (pos 5)) ∷ Some nought ∷ []) → ⊥
 unfolding gcd gcd_with_fuel ratio of_int ◌+ℚ◌ ◌*ℚ◌ neg_ℚ le_ℚ unit_of scale_of hit pay
 five_too_much policy b = covers (MinFinite.covered (b.value 0 (omega arith)) 1 1 (unfolded goes (0 ∷ 0 ∷ []) 1 0) first_tree)
   where
-    covers : Enters goes goal (infinite (Some (of_int (pos 5)) ∷ Some zero_ℚ ∷ [])) 1 (unfolded goes (0 ∷ 0 ∷ []) 1 0) 0
-        ⊎ (of_int (pos 5) ≤ℚ pay goes 0 goal 1 1 (unfolded goes (0 ∷ 0 ∷ []) 1 0) 0 +ℚ greatest_finite (Some (of_int (pos 5)) ∷ Some zero_ℚ ∷ []) *ℚ
+    covers : Enters goes goal (infinite (Some (of_int (pos 5)) ∷ Some nought ∷ [])) 1 (unfolded goes (0 ∷ 0 ∷ []) 1 0) 0
+        ⊎ (of_int (pos 5) ≤ℚ pay goes 0 goal 1 1 (unfolded goes (0 ∷ 0 ∷ []) 1 0) 0 +ℚ greatest_finite (Some (of_int (pos 5)) ∷ Some nought ∷ []) *ℚ
         (one -ℚ hit goes goal 1 1 (unfolded goes (0 ∷ 0 ∷ []) 1 0) 0))
         → ⊥
     covers (inl (inl e)) = true≢false (sym e)
@@ -270,28 +268,28 @@ five_too_much policy b = covers (MinFinite.covered (b.value 0 (omega arith)) 1 1
     covers (inl (inr (g, inr n))) = n
     covers (inr h) = h.le
 
-none_too_little : (policy : List ℕ) → RewardMax goes 0 goal policy (Some zero_ℚ ∷ Some zero_ℚ ∷ []) → ⊥
+none_too_little : (policy : List ℕ) → RewardMax goes 0 goal policy (Some nought ∷ Some nought ∷ []) → ⊥
 unfolding gcd gcd_with_fuel ratio of_int le_ℚ unit_of scale_of pay
 none_too_little policy b =
-    let h : pay goes 0 goal 1 1 (unfolded goes (0 ∷ 0 ∷ []) 1 0) 0 ≤ℚ zero_ℚ = MaxFinite.above (b.value 0 (omega arith)) 1 1 (unfolded goes (0 ∷ 0 ∷ []) 1 0) first_tree in
+    let h : pay goes 0 goal 1 1 (unfolded goes (0 ∷ 0 ∷ []) 1 0) 0 ≤ℚ nought = MaxFinite.above (b.value 0 (omega arith)) 1 1 (unfolded goes (0 ∷ 0 ∷ []) 1 0) first_tree in
     h.le
 
 -- ---- mean payoff: the gains are 0, and since 1 is earned at first, a spread of 1/2 is too small for both directions
 
-not_spread_max : (policy : List ℕ) → MeanMax goes 0 (zero_ℚ ∷ zero_ℚ ∷ []) (ratio (pos 1) 2) policy → ⊥
+not_spread_max : (policy : List ℕ) → MeanMax goes 0 (nought ∷ nought ∷ []) (ratio (pos 1) 2) policy → ⊥
 unfolding gcd gcd_with_fuel ratio of_int ◌+ℚ◌ ◌*ℚ◌ le_ℚ unit_of scale_of total
 not_spread_max policy b =
-    let h : total goes 0 1 1 (unfolded goes (0 ∷ 0 ∷ []) 1 0) 0 ≤ℚ whole 1 *ℚ zero_ℚ +ℚ ratio (pos 1) 2 = b.above 1 1 (unfolded goes (0 ∷ 0 ∷ []) 1 0) 0 (omega arith) first_tree in
+    let h : total goes 0 1 1 (unfolded goes (0 ∷ 0 ∷ []) 1 0) 0 ≤ℚ whole 1 *ℚ nought +ℚ ratio (pos 1) 2 = b.above 1 1 (unfolded goes (0 ∷ 0 ∷ []) 1 0) 0 (omega arith) first_tree in
     h.le
 
-not_spread_min : MeanMin goes 0 (zero_ℚ ∷ zero_ℚ ∷ []) (ratio (pos 1) 2) (0 ∷ 0 ∷ []) → ⊥
+not_spread_min : MeanMin goes 0 (nought ∷ nought ∷ []) (ratio (pos 1) 2) (0 ∷ 0 ∷ []) → ⊥
 unfolding gcd gcd_with_fuel ratio of_int ◌+ℚ◌ ◌*ℚ◌ le_ℚ unit_of scale_of total
 not_spread_min b =
-    let h : total goes 0 1 1 (unfolded goes (0 ∷ 0 ∷ []) 1 0) 0 ≤ℚ whole 1 *ℚ zero_ℚ +ℚ ratio (pos 1) 2 = b.policy_below 1 0 (omega arith) in
+    let h : total goes 0 1 1 (unfolded goes (0 ∷ 0 ∷ []) 1 0) 0 ≤ℚ whole 1 *ℚ nought +ℚ ratio (pos 1) 2 = b.policy_below 1 0 (omega arith) in
     h.le
 
 -- a gain of 1 with a spread of 1 is too great: after three steps the tree has earned 1, and not 2
-not_gain : (policy : List ℕ) → MeanMin goes 0 (one ∷ zero_ℚ ∷ []) one policy → ⊥
+not_gain : (policy : List ℕ) → MeanMin goes 0 (one ∷ nought ∷ []) one policy → ⊥
 unfolding gcd gcd_with_fuel ratio of_int ◌+ℚ◌ ◌*ℚ◌ le_ℚ unit_of scale_of total
 not_gain policy b =
     let h : whole 3 *ℚ one ≤ℚ total goes 0 1 3 (unfolded goes (0 ∷ 0 ∷ []) 3 0) 0 +ℚ one = b.below 3 1 (unfolded goes (0 ∷ 0 ∷ []) 3 0) 0 (omega arith)
@@ -319,25 +317,25 @@ sub_max_kept = record {
 }
 
 -- with none kept, state 0 loops: no tree passes 0, and 1/2 is out of reach
-none_kept_above : Above (sub_of goes goal []) goal (zero_ℚ ∷ one ∷ [])
+none_kept_above : Above (sub_of goes goal []) goal (nought ∷ one ∷ [])
 unfolding gcd gcd_with_fuel ratio of_int ◌+ℚ◌ ◌*ℚ◌ le_ℚ sub_of
 none_kept_above =
-    above_of_rules (sub_of goes goal []) goal (zero_ℚ ∷ one ∷ []) (sub_is_mdp goes goal [] goes_model)
+    above_of_rules (sub_of goes goal []) goal (nought ∷ one ∷ []) (sub_is_mdp goes goal [] goes_model)
     (record {
-      at_least_zero = below_2 (λ s. zero_ℚ ≤ℚ value_at (zero_ℚ ∷ one ∷ []) s) (record { le = tt }) (record { le = tt });
-      at_most_one = below_2 (λ s. value_at (zero_ℚ ∷ one ∷ []) s ≤ℚ one) (record { le = tt }) (record { le = tt });
-      at_goal = below_2 (λ s. is_marked goal s ≡ true → value_at (zero_ℚ ∷ one ∷ []) s ≡ one) (λ g. absurd (true≢false (sym g))) (λ g. refl);
+      at_least_zero = below_2 (λ s. nought ≤ℚ value_at (nought ∷ one ∷ []) s) (record { le = tt }) (record { le = tt });
+      at_most_one = below_2 (λ s. value_at (nought ∷ one ∷ []) s ≤ℚ one) (record { le = tt }) (record { le = tt });
+      at_goal = below_2 (λ s. is_marked goal s ≡ true → value_at (nought ∷ one ∷ []) s ≡ one) (λ g. absurd (true≢false (sym g))) (λ g. refl);
     })
     covered
   where
     covered : (s c : ℕ) → s < 2 → is_marked goal s ≡ false → c < length (choices_at (sub_of goes goal []) s)
-        → row_sum (row_at (sub_of goes goal []) s c) (zero_ℚ ∷ one ∷ []) ≤ℚ value_at (zero_ℚ ∷ one ∷ []) s
+        → row_sum (row_at (sub_of goes goal []) s c) (nought ∷ one ∷ []) ≤ℚ value_at (nought ∷ one ∷ []) s
     covered zero zero h g l = record { le = tt }
     covered zero (suc c) h g l = absurd (omega arith)
     covered (suc zero) c h g l = absurd (true≢false g)
     covered (suc (suc s)) c h g l = absurd (omega arith)
 
-half_at_most_quarter : (x : ℚ) → ratio (pos 1) 2 ≤ℚ x +ℚ ratio (pos 1) 4 → x ≤ℚ zero_ℚ → ⊥
+half_at_most_quarter : (x : ℚ) → ratio (pos 1) 2 ≤ℚ x +ℚ ratio (pos 1) 4 → x ≤ℚ nought → ⊥
 unfolding gcd gcd_with_fuel ratio of_int le_ℚ
 half_at_most_quarter x h k =
     let less : ratio (pos 1) 2 ≤ℚ ratio (pos 1) 4 = linear 3 (λ x t q. t) (λ x t q. q) (λ x t q. known t (x ⊕ q) ∷ known x (lit (pos 0)) ∷ []) refl x (ratio (pos 1) 2) (ratio (pos 1) 4) h k in

@@ -17,18 +17,10 @@ use Rattle.mdp_spec.proofs.Subsystem.{loop_is_row}
 use Rattle.mdp_spec.proofs.Reward.{reward_max_of_rules, reward_min_of_rules}
 use Rattle.mdp_spec.proofs.Mean.{mean_max_of_rules}
 use Rattle.mdp_spec.proofs.Unique.{reward_max_unique, reward_min_unique, mean_max_unique}
-
-abbrev entry : ℕ → ℚ → Entry
-entry t p = record { target = t; prob = p }
+use Rattle.mdp_spec.proofs.Small.{entry, number, state}
 
 abbrev choice : List Entry → ℚ → Choice
 choice row reward = record { row = row; rewards = reward ∷ [] }
-
-abbrev state : List Choice → State
-state choices = record { labels = []; choices = choices }
-
-abbrev pub number : ℕ → ℚ
-number n = of_int (pos n)
 
 abbrev model : List State → Mdp
 model states = record { names = (99 ∷ []) ∷ []; labels = []; states = states }

@@ -6,11 +6,12 @@ use Rattle.std.proofs.lemmas.List.Elements.{All-from_recursion}
 use Rattle.mdp_math.specs.Gcd.{gcd, gcd_with_fuel}
 use Rattle.mdp_math.specs.Rational.{ℚ, of_int, ratio, le_ℚ, lt_ℚ, ◌+ℚ◌, ◌*ℚ◌, ◌≤ℚ◌, ◌<ℚ◌}
 use Rattle.mdp_math.proofs.Order.{0ℚ, <ℚ_irrefl, clash_ℚ}
-use Rattle.mdp_spec.specs.Mdp.{Entry, Choice, State, Mdp, states_of, choices_at, row_at, value_at}
+use Rattle.mdp_spec.specs.Mdp.{Mdp, states_of, choices_at, row_at, value_at}
 use Rattle.mdp_spec.specs.Tree.{is_marked}
 use Rattle.mdp_spec.specs.Unit.{unit_of}
 use Rattle.mdp_spec.specs.Hit.{hit}
 use Rattle.mdp_spec.specs.Sub.{sub_of, policy_on}
+use Rattle.mdp_spec.proofs.Small.{choice, entry, half, one, state}
 use Rattle.mdp_subsystem_rules.specs.Kept.{kept_marks, spread}
 use Rattle.mdp_subsystem_rules.specs.Listed.{listed, marks_at, values_at, ranks_at}
 use Rattle.mdp_subsystem_rules.specs.Visits.{visit_flows}
@@ -18,21 +19,6 @@ use Rattle.mdp_subsystem_rules.specs.Policy.{hit_on}
 use Rattle.mdp_subsystem_rules.specs.Floor.{counted_value, counted_rank, counted_sum, MeetsFloor}
 use Rattle.mdp_subsystem_rules.specs.declared.flow.Flow.{Flow}
 use Rattle.mdp_subsystem_rules.specs.Flow.{IsFlow, MeetsFlow, outflow, inflow, goal_flow, flow_total, source, goal_source}
-
-abbrev entry : ℕ → ℚ → Entry
-entry t p = record { target = t; prob = p }
-
-abbrev choice : List Entry → Choice
-choice row = record { row = row; rewards = [] }
-
-abbrev state : List Choice → State
-state choices = record { labels = []; choices = choices }
-
-abbrev half : ℚ
-half = ratio (pos 1) 2
-
-abbrev one : ℚ
-one = of_int (pos 1)
 
 abbrev four : Mdp
 four = record {

@@ -4,7 +4,8 @@ use Rattle.std.proofs.Common.{◌≡◌, ℕ, ◌+◌, ◌^◌, Bool, true, fals
 use Rattle.mdp_math.specs.Gcd.{gcd, gcd_with_fuel}
 use Rattle.mdp_math.specs.Rational.{ℚ, of_int, ratio, lt_ℚ, ◌+ℚ◌, ◌*ℚ◌}
 use Rattle.mdp_math.specs.Written.{narrow, narrow_ℚ, written_add, written_mul, written_compare}
-use Rattle.mdp_spec.specs.Mdp.{Entry, Choice, State, Mdp}
+use Rattle.mdp_spec.specs.Mdp.{Mdp}
+use Rattle.mdp_spec.proofs.Small.{choice, entry, half, nought, one, state, third, two, two_thirds}
 use Rattle.mdp_farkas.specs.Verdict.{verdict_of}
 use Rattle.mdp_farkas.specs.declared.verdict.Verdict.{Verdict}
 use Rattle.mdp_farkas.specs.declared.verdict.Verdict.TheVariants.{Yes, No, Wide}
@@ -14,33 +15,6 @@ use Rattle.mdp_subsystem_rules.specs.FlowChecks.{flow_checks}
 use Rattle.mdp_farkas.specs.declared.rule.Rule.TheVariants.{ChoiceExists, FlowsBalance, FlowsReachGoals, Probability, RankFalls, RankZero}
 use Rattle.mdp_farkas.specs.declared.rule.Rule.TheVariants.{StartReachesThreshold, StateIsKept, ValueOnEachChoice}
 use Rattle.mdp_farkas.specs.declared.rule.Rule.{Rule}
-
-abbrev entry : ℕ → ℚ → Entry
-entry t p = record { target = t; prob = p }
-
-abbrev choice : List Entry → Choice
-choice row = record { row = row; rewards = [] }
-
-abbrev state : List Choice → State
-state choices = record { labels = []; choices = choices }
-
-abbrev nought : ℚ
-nought = of_int (pos 0)
-
-abbrev one : ℚ
-one = of_int (pos 1)
-
-abbrev two : ℚ
-two = of_int (pos 2)
-
-abbrev half : ℚ
-half = ratio (pos 1) 2
-
-abbrev third : ℚ
-third = ratio (pos 1) 3
-
-abbrev two_thirds : ℚ
-two_thirds = ratio (pos 2) 3
 
 -- half of it is past width
 abbrev tiny : ℚ

@@ -1,10 +1,11 @@
 -- The bounds that say nothing of a small model, computed, and what the rules say of others.
-use Rattle.std.proofs.Common.{◌≡◌, ℕ, ◌∙◌, Bool, true, false, true≢false, List, [], ◌∷◌, Some, None, refl, sym, pos, arith}
+use Rattle.std.proofs.Common.{◌≡◌, ℕ, ◌∙◌, Bool, true, false, true≢false, List, [], ◌∷◌, Some, None, refl, sym, arith}
 use Rattle.mdp_math.specs.Gcd.{gcd, gcd_with_fuel}
 use Rattle.mdp_math.specs.Rational.{ℚ, of_int, ratio, le_ℚ, lt_ℚ, neg_ℚ, ◌+ℚ◌, ◌*ℚ◌}
 use Rattle.mdp_math.specs.Written.{narrow, narrow_ℚ, written_add, written_mul}
 use Rattle.mdp_math.proofs.Extremes.{test_of_le}
-use Rattle.mdp_spec.specs.Mdp.{Mdp, State, Choice, Entry}
+use Rattle.mdp_spec.specs.Mdp.{Mdp, Choice, Entry}
+use Rattle.mdp_spec.proofs.Small.{number, state}
 use Rattle.mdp_rows.specs.declared.dir.Dir.{Dir}
 use Rattle.mdp_rows.specs.declared.dir.Dir.TheVariants.{Max, Min}
 use Rattle.mdp_farkas.specs.Verdict.{verdict_of}
@@ -16,24 +17,18 @@ use Rattle.mdp_bounds.specs.Mean.{mean_bounds_checks}
 use Rattle.mdp_trivial_bounds.specs.Extent.{IsExtreme}
 use Rattle.mdp_trivial_bounds.specs.Values.{zeros_of}
 
-abbrev whole : ℕ → ℚ
-whole n = of_int (pos n)
-
 -- a choice that leads to one state, with a reward
 abbrev goes : ℕ → ℕ → Choice
-goes t reward = record { row = (let e : Entry = record { target = t; prob = whole 1 } in e) ∷ []; rewards = whole reward ∷ [] }
-
-abbrev with : List Choice → State
-with choices = record { labels = []; choices = choices }
+goes t reward = record { row = (let e : Entry = record { target = t; prob = number 1 } in e) ∷ []; rewards = number reward ∷ [] }
 
 -- state 0 stays for 0, or goes to the goal 1 for 3
 abbrev loops : Mdp
-loops = record { names = [] ∷ []; labels = []; states = with (goes 0 0 ∷ goes 1 3 ∷ []) ∷ with (goes 1 0 ∷ []) ∷ [] }
+loops = record { names = [] ∷ []; labels = []; states = state (goes 0 0 ∷ goes 1 3 ∷ []) ∷ state (goes 1 0 ∷ []) ∷ [] }
 
 abbrev goal_1 : List Bool
 goal_1 = false ∷ true ∷ []
 
-zeros_at_goal : zeros_of 2 goal_1 ≡ None ∷ Some (whole 0) ∷ []
+zeros_at_goal : zeros_of 2 goal_1 ≡ None ∷ Some (number 0) ∷ []
 zeros_at_goal = refl
 
 -- ---- the reward until the goal, with bounds that are 0 at these states
@@ -59,7 +54,7 @@ least_finite = refl
 
 abbrev paid : Dir → ℕ → ℕ → Verdict
 paid dir low high =
-    verdict_of (mean_bounds_checks dir loops 0 (whole low ∷ whole low ∷ []) (whole high ∷ whole high ∷ []) (whole 0 ∷ whole 0 ∷ []) (whole 0 ∷ whole 0 ∷ []) (whole 0) (0 ∷ 0 ∷ []))
+    verdict_of (mean_bounds_checks dir loops 0 (number low ∷ number low ∷ []) (number high ∷ number high ∷ []) (number 0 ∷ number 0 ∷ []) (number 0 ∷ number 0 ∷ []) (number 0) (0 ∷ 0 ∷ []))
 
 greatest_mean : paid Max 0 3 ≡ Yes
 unfolding gcd gcd_with_fuel ratio of_int le_ℚ lt_ℚ neg_ℚ ◌+ℚ◌ ◌*ℚ◌ narrow narrow_ℚ written_add written_mul
@@ -74,9 +69,9 @@ too_small : paid Max 0 2 ≡ No (record { rule = BoundOnEachChoice; state = Some
 unfolding gcd gcd_with_fuel ratio of_int le_ℚ lt_ℚ neg_ℚ ◌+ℚ◌ ◌*ℚ◌ narrow narrow_ℚ written_add written_mul
 too_small = refl
 
-three_above : le_ℚ (whole 3) (whole 2) ≡ false
+three_above : le_ℚ (number 3) (number 2) ≡ false
 unfolding gcd gcd_with_fuel ratio of_int le_ℚ
 three_above = refl
 
-not_greatest : IsExtreme Max loops 0 (whole 2) → ⊥
+not_greatest : IsExtreme Max loops 0 (number 2) → ⊥
 not_greatest is = true≢false (sym (test_of_le _ _ (is.as_each 0 1 (omega arith) (omega arith))) ∙ three_above)

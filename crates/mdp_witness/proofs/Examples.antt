@@ -5,6 +5,7 @@ use Rattle.std.proofs.Common.{◌≡◌, true, false, [], ◌∷◌, Some, None,
 use Rattle.mdp_math.specs.Gcd.{gcd, gcd_with_fuel}
 use Rattle.mdp_math.specs.Rational.{ℚ, of_int, ratio, lt_ℚ, ◌+ℚ◌, ◌*ℚ◌, neg_ℚ, inv_ℚ}
 use Rattle.mdp_math.specs.Written.{written_add, written_mul, written_compare, narrow, narrow_ℚ}
+use Rattle.mdp_spec.proofs.Small.{half, nought, one, three_quarters}
 use Rattle.mdp_elim.specs.Elimination.{divided_rest, plus_equation, eliminated, evaluated}
 use Rattle.mdp_elim.specs.System.{equation_of}
 use Rattle.mdp_wide.specs.declared.too_wide.Part.TheVariants as part
@@ -14,7 +15,7 @@ use Rattle.mdp_farkas.specs.declared.verdict.Verdict.TheVariants.{Yes, No, Wide}
 use Rattle.mdp_reach.specs.Query.{Answer}
 use Rattle.mdp_witness_trials.specs.Evaluation.{Visited, visited, visited_value}
 use Rattle.mdp_witness_trials.specs.Trial.{trial_set, trial_of, is_wide}
-use Rattle.mdp_witness_trials.proofs.Examples.{nought, one, half, three_quarters, five, goals, greatest, least, best, worst, two_states, three_states, start_alone, no_states, first_max, left}
+use Rattle.mdp_witness_trials.proofs.Examples.{five, goals, greatest, least, best, worst, two_states, three_states, start_alone, no_states, first_max, left}
 use Rattle.mdp_witness.specs.Query.{PlainSubsystem, flow, floor, Refusal, below, too_wide, visiting, in_floor, flow_of, floor_of, verdict_on, FlowHeld, FloorHeld}
 use Rattle.mdp_witness.specs.Query.{AfterComparison, FromFirst}
 use Rattle.mdp_witness.specs.Shown.{kept_of, kept_in, HasShape, Holds}

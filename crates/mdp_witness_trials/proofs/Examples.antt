@@ -1,13 +1,14 @@
 -- The first set, the evaluations and the trials of a small model, computed. State 0 goes to 1 and to the goal 3 with 1/2 each, or by its second choice
 -- to 2; states 1 and 2 go to 3 and to 4 with 1/2 each; states 3 and 4 are left nowhere. From 0 the goal is reached with 3/4 at most and 1/2 at least.
-use Rattle.std.proofs.Common.{◌≡◌, ℕ, zero, suc, ◌<◌, Bool, true, false, List, [], ◌∷◌, Result, Ok, Err, refl, subst, arith, pos}
+use Rattle.std.proofs.Common.{◌≡◌, ℕ, zero, suc, ◌<◌, Bool, true, false, List, [], ◌∷◌, Result, Ok, Err, refl, subst, arith}
 use Rattle.std.proofs.lemmas.List.Elements.{All-from_recursion}
 use Rattle.std.specs.List.{All}
 use Rattle.mdp_math.specs.Gcd.{gcd, gcd_with_fuel}
 use Rattle.mdp_math.specs.Rational.{ℚ, of_int, ratio, lt_ℚ, ◌+ℚ◌, ◌*ℚ◌, neg_ℚ, inv_ℚ}
 use Rattle.mdp_math.specs.Written.{written_add, written_mul, written_compare, narrow, narrow_ℚ}
-use Rattle.mdp_spec.specs.Mdp.{Entry, Choice, State, Mdp, row_at}
+use Rattle.mdp_spec.specs.Mdp.{Entry, State, Mdp, row_at}
 use Rattle.mdp_spec.specs.Tree.{is_marked}
+use Rattle.mdp_spec.proofs.Small.{choice, entry, half, nought, one, state, three_quarters}
 use Rattle.mdp_elim.specs.Elimination.{divided_rest, plus_equation, eliminated, evaluated}
 use Rattle.mdp_elim.specs.System.{equation_of}
 use Rattle.mdp_wide.specs.Term.{WideTerm}
@@ -19,36 +20,15 @@ use Rattle.mdp_witness_trials.specs.First.{is_open, followed, IsClosed, IsFirst}
 use Rattle.mdp_witness_trials.specs.LeastEvaluation.{value_from}
 use Rattle.mdp_witness_trials.specs.Trial.{trial_set, without, trial_of, stays, is_wide, IsTried, AreLeft}
 
-abbrev pub to : ℕ → ℚ → Entry
-to t p = record { target = t; prob = p }
-
-abbrev pub by : List Entry → Choice
-by row = record { row = row; rewards = [] }
-
-abbrev pub with : List Choice → State
-with choices = record { labels = []; choices = choices }
-
-abbrev pub nought : ℚ
-nought = of_int (pos 0)
-
-abbrev pub one : ℚ
-one = of_int (pos 1)
-
-abbrev pub half : ℚ
-half = ratio (pos 1) 2
-
-abbrev pub three_quarters : ℚ
-three_quarters = ratio (pos 3) 4
-
 abbrev pub falls : State
-falls = with (by (to 3 half ∷ to 4 half ∷ []) ∷ [])
+falls = state (choice (entry 3 half ∷ entry 4 half ∷ []) ∷ [])
 
 abbrev pub five : Mdp
 five = record {
   names = [];
   labels = [];
   states =
-      with (by (to 1 half ∷ to 3 half ∷ []) ∷ by (to 2 one ∷ []) ∷ []) ∷ falls ∷ falls ∷ with (by (to 3 one ∷ []) ∷ []) ∷ with (by (to 4 one ∷ []) ∷ []) ∷ [];
+      state (choice (entry 1 half ∷ entry 3 half ∷ []) ∷ choice (entry 2 one ∷ []) ∷ []) ∷ falls ∷ falls ∷ state (choice (entry 3 one ∷ []) ∷ []) ∷ state (choice (entry 4 one ∷ []) ∷ []) ∷ [];
 }
 
 abbrev pub goals : List Bool
@@ -100,10 +80,10 @@ closed_max = record { has_start = λ e. refl; has_next = next }
     next : (s : ℕ) → s < 5 → is_marked two_states s ≡ true → All (λ c. All (Enters greatest two_states) (row_at five s c)) (followed Max five best s)
     next zero l h =
         All-from_recursion (λ c. All (Enters greatest two_states) (row_at five 0 c)) (0 ∷ [])
-        (All-from_recursion (Enters greatest two_states) (to 1 half ∷ to 3 half ∷ []) (λ e. refl, (λ e. cc, tt)), tt)
+        (All-from_recursion (Enters greatest two_states) (entry 1 half ∷ entry 3 half ∷ []) (λ e. refl, (λ e. cc, tt)), tt)
     next (suc zero) l h =
         All-from_recursion (λ c. All (Enters greatest two_states) (row_at five 1 c)) (0 ∷ [])
-        (All-from_recursion (Enters greatest two_states) (to 3 half ∷ to 4 half ∷ []) (λ e. cc, (λ e. cc, tt)), tt)
+        (All-from_recursion (Enters greatest two_states) (entry 3 half ∷ entry 4 half ∷ []) (λ e. cc, (λ e. cc, tt)), tt)
     next (suc (suc zero)) l h = cc
     next (suc (suc (suc zero))) l h = cc
     next (suc (suc (suc (suc zero)))) l h = cc
@@ -123,7 +103,7 @@ first_max = record { one_each = refl; is_open = opened; closed = closed_max; lea
 
     within : (set : ℕ → Bool) → IsClosed Max five goals greatest best 0 set → (s : ℕ) → s < 5 → is_marked two_states s ≡ true → set s ≡ true
     within set closed zero l h = closed.has_start refl
-    within set closed (suc zero) l h = closed.has_next 0 (omega arith) (closed.has_start refl) 0 0 (omega arith) 0 (to 0 one) (omega arith) refl
+    within set closed (suc zero) l h = closed.has_next 0 (omega arith) (closed.has_start refl) 0 0 (omega arith) 0 (entry 0 one) (omega arith) refl
     within set closed (suc (suc zero)) l h = cc
     within set closed (suc (suc (suc zero))) l h = cc
     within set closed (suc (suc (suc (suc zero)))) l h = cc
@@ -141,14 +121,14 @@ first_min = record { one_each = refl; is_open = opened; closed = record { has_st
     opened (suc (suc (suc (suc zero)))) l h = cc
     opened (suc (suc (suc (suc (suc s))))) l h = absurd (omega arith)
 
-    falling : All (Enters least three_states) (to 3 half ∷ to 4 half ∷ [])
-    falling = All-from_recursion (Enters least three_states) (to 3 half ∷ to 4 half ∷ []) (λ e. cc, (λ e. cc, tt))
+    falling : All (Enters least three_states) (entry 3 half ∷ entry 4 half ∷ [])
+    falling = All-from_recursion (Enters least three_states) (entry 3 half ∷ entry 4 half ∷ []) (λ e. cc, (λ e. cc, tt))
 
     next : (s : ℕ) → s < 5 → is_marked three_states s ≡ true → All (λ c. All (Enters least three_states) (row_at five s c)) (followed Min five worst s)
     next zero l h =
         All-from_recursion (λ c. All (Enters least three_states) (row_at five 0 c)) (0 ∷ 1 ∷ []) (
-          All-from_recursion (Enters least three_states) (to 1 half ∷ to 3 half ∷ []) (λ e. refl, (λ e. cc, tt)),
-          (All-from_recursion (Enters least three_states) (to 2 one ∷ []) (λ e. refl, tt), tt),
+          All-from_recursion (Enters least three_states) (entry 1 half ∷ entry 3 half ∷ []) (λ e. refl, (λ e. cc, tt)),
+          (All-from_recursion (Enters least three_states) (entry 2 one ∷ []) (λ e. refl, tt), tt),
         )
     next (suc zero) l h = All-from_recursion (λ c. All (Enters least three_states) (row_at five 1 c)) (0 ∷ []) (falling, tt)
     next (suc (suc zero)) l h = All-from_recursion (λ c. All (Enters least three_states) (row_at five 2 c)) (0 ∷ []) (falling, tt)
@@ -158,8 +138,8 @@ first_min = record { one_each = refl; is_open = opened; closed = record { has_st
 
     within : (set : ℕ → Bool) → IsClosed Min five goals least worst 0 set → (s : ℕ) → s < 5 → is_marked three_states s ≡ true → set s ≡ true
     within set closed zero l h = closed.has_start refl
-    within set closed (suc zero) l h = closed.has_next 0 (omega arith) (closed.has_start refl) 0 0 (omega arith) 0 (to 0 one) (omega arith) refl
-    within set closed (suc (suc zero)) l h = closed.has_next 0 (omega arith) (closed.has_start refl) 1 0 (omega arith) 0 (to 0 one) (omega arith) refl
+    within set closed (suc zero) l h = closed.has_next 0 (omega arith) (closed.has_start refl) 0 0 (omega arith) 0 (entry 0 one) (omega arith) refl
+    within set closed (suc (suc zero)) l h = closed.has_next 0 (omega arith) (closed.has_start refl) 1 0 (omega arith) 0 (entry 0 one) (omega arith) refl
     within set closed (suc (suc (suc zero))) l h = cc
     within set closed (suc (suc (suc (suc zero)))) l h = cc
     within set closed (suc (suc (suc (suc (suc s))))) l h = absurd (omega arith)
@@ -170,7 +150,7 @@ not_reached is = let e : false ≡ true = is.least (is_marked two_states) closed
 
 not_closed : FirstMin two_states → ⊥
 unfolding lt_ℚ ratio of_int gcd gcd_with_fuel
-not_closed is = let e : false ≡ true = is.closed.has_next 0 (omega arith) refl 1 0 (omega arith) 0 (to 0 one) (omega arith) refl in cc
+not_closed is = let e : false ≡ true = is.closed.has_next 0 (omega arith) refl 1 0 (omega arith) 0 (entry 0 one) (omega arith) refl in cc
 
 -- ---- the evaluation of a set
 

@@ -13,6 +13,7 @@ use Rattle.mdp_spec.specs.Rules.{AreProbabilities, MeetsReachMax, MeetsReachMin}
 use Rattle.mdp_spec.specs.Sub.{policy_on}
 use Rattle.mdp_spec.specs.Tree.{IsPolicy, is_marked}
 use Rattle.mdp_spec.proofs.Subsystem.{loop_is_row}
+use Rattle.mdp_spec.proofs.Small.{entry, half, nought, one, three_quarters}
 use Rattle.mdp_subsystem_rules.specs.Flow.{flow_value}
 use Rattle.mdp_subsystem_rules.specs.Policy.{FallsShort}
 use Rattle.mdp_subsystem_rules.specs.Visits.{visit_flows}
@@ -25,7 +26,7 @@ use Rattle.mdp_witness_trials.proofs.FirstMin.{floor, can_be_least_first}
 use Rattle.mdp_witness_trials.proofs.Kept.{kept_flow}
 use Rattle.mdp_witness_trials.proofs.Needed.{max_needed}
 use Rattle.mdp_witness_trials.proofs.Values.{can_be_first}
-use Rattle.mdp_witness_trials.proofs.Examples.{to, nought, one, half, three_quarters, five, goals, greatest, least, best, worst, two_states, three_states, start_alone, no_states, first_max, first_min, left}
+use Rattle.mdp_witness_trials.proofs.Examples.{five, goals, greatest, least, best, worst, two_states, three_states, start_alone, no_states, first_max, first_min, left}
 
 below_5 : (P : ℕ → Type 0) → P 0 → P 1 → P 2 → P 3 → P 4 → (s : ℕ) → s < 5 → P s
 below_5 P a b c d e zero h = a
@@ -52,15 +53,15 @@ each_choice P a b c d e f (suc (suc (suc (suc (suc s))))) k h l = absurd (omega 
 
 -- ---- it is a model
 
-two_ways : (s t : ℕ) → s < t → t < 5 → IsRow 5 (to s half ∷ to t half ∷ [])
+two_ways : (s t : ℕ) → s < t → t < 5 → IsRow 5 (entry s half ∷ entry t half ∷ [])
 unfolding gcd gcd_with_fuel ratio of_int ◌+ℚ◌ lt_ℚ
 two_ways s t l h = record {
   distribution = record {
     ascending = ap (λ (b : Bool). b && (nat_le (s + 1) t && true)) (le-leb 0 s (omega arith)) ∙ ap (λ (b : Bool). b && true) (le-leb (s + 1) t (omega arith));
-    positive = All-from_recursion (λ x. nought <ℚ x.prob) (to s half ∷ to t half ∷ []) (record { lt = tt }, (record { lt = tt }, tt));
+    positive = All-from_recursion (λ x. nought <ℚ x.prob) (entry s half ∷ entry t half ∷ []) (record { lt = tt }, (record { lt = tt }, tt));
     total = refl;
   };
-  in_range = All-from_recursion (λ x. x.target < 5) (to s half ∷ to t half ∷ []) (omega arith, (omega arith, tt));
+  in_range = All-from_recursion (λ x. x.target < 5) (entry s half ∷ entry t half ∷ []) (omega arith, (omega arith, tt));
 }
 
 five_model : IsMdp five
@@ -129,8 +130,8 @@ max_rules = record {
   falls =
       below_5 (λ s. is_marked goals s ≡ false → nought <ℚ value_at greatest s
       → Any (λ y. (nought <ℚ value_at greatest y.target) × (get_or max_ranks y.target 0 < get_or max_ranks s 0)) (row_at five s (get_or best s 0)))
-      (λ g p. (1, to 3 half, omega arith, refl, (record { lt = tt }, omega arith))) (λ g p. (0, to 3 half, omega arith, refl, (record { lt = tt }, omega arith)))
-      (λ g p. (0, to 3 half, omega arith, refl, (record { lt = tt }, omega arith))) (λ g p. absurd (true≢false g)) (λ g p. absurd p.lt);
+      (λ g p. (1, entry 3 half, omega arith, refl, (record { lt = tt }, omega arith))) (λ g p. (0, entry 3 half, omega arith, refl, (record { lt = tt }, omega arith)))
+      (λ g p. (0, entry 3 half, omega arith, refl, (record { lt = tt }, omega arith))) (λ g p. absurd (true≢false g)) (λ g p. absurd p.lt);
 }
 
 min_rules : MeetsReachMin five goals least worst min_ranks
@@ -149,8 +150,8 @@ min_rules = record {
       (ends_at half 1 false refl refl) (λ w. refl) (λ w. refl);
   falls = λ s c h g p l.
       each_choice (λ s c. is_marked goals s ≡ false → nought <ℚ value_at least s → Any (λ y. get_or min_ranks y.target 0 < get_or min_ranks s 0) (row_at five s c))
-      (λ g p. (0, to 1 half, omega arith, refl, omega arith)) (λ g p. (0, to 2 one, omega arith, refl, omega arith)) (λ g p. (0, to 3 half, omega arith, refl, omega arith))
-      (λ g p. (0, to 3 half, omega arith, refl, omega arith)) (λ g p. absurd (true≢false g)) (λ g p. absurd p.lt) s c h l g p;
+      (λ g p. (0, entry 1 half, omega arith, refl, omega arith)) (λ g p. (0, entry 2 one, omega arith, refl, omega arith)) (λ g p. (0, entry 3 half, omega arith, refl, omega arith))
+      (λ g p. (0, entry 3 half, omega arith, refl, omega arith)) (λ g p. absurd (true≢false g)) (λ g p. absurd p.lt) s c h l g p;
 }
 
 -- ---- the first sets can be tried, at the values from 0

@@ -6,6 +6,7 @@ use Rattle.mdp_math.specs.Rational.{ℚ, of_int, ratio, neg_ℚ, ◌+ℚ◌, ◌
 use Rattle.mdp_math.specs.Written.{narrow, narrow_ℚ, written_add}
 use Rattle.mdp_num.specs.Numeral.{numeral_of, parts_of}
 use Rattle.mdp_spec.specs.Mdp.{Mdp, State, Choice, Entry}
+use Rattle.mdp_spec.proofs.Small.{half, labelled, number}
 use Rattle.mdp_rows.specs.declared.rule.RowRule.TheVariants.{Exact, Scaled}
 use Rattle.mdp_drn.specs.declared.error.DrnKind.TheVariants as kind
 use Rattle.mdp_drn.specs.Values.{value_of, reward_of, rewards_in}
@@ -37,18 +38,12 @@ entry target value = record { target = target; prob = value }
 abbrev choice : List ℚ → List Entry → Choice
 choice rewards row = record { row = row; rewards = rewards }
 
-abbrev state : List ℕ → List Choice → State
-state labels choices = record { labels = labels; choices = choices }
-
-abbrev whole : ℕ → ℚ
-whole n = of_int (pos n)
-
 abbrev no_reward : List ℚ
-no_reward = whole 0 ∷ []
+no_reward = number 0 ∷ []
 
 -- a state with one loop
 abbrev loop : List ℕ → ℕ → State
-loop labels s = state labels (choice no_reward (entry s (whole 1) ∷ []) ∷ [])
+loop labels s = labelled labels (choice no_reward (entry s (number 1) ∷ []) ∷ [])
 
 abbrev dash : List (List ℕ)
 dash = codes "-" ∷ []
@@ -70,7 +65,7 @@ scaled_thirds : Reads (thirds (codes "0.333333")) Scaled (record {
   names = dash;
   labels = codes "init" ∷ codes "goal" ∷ [];
   states =
-      state (0 ∷ []) (choice no_reward (entry 1 (ratio (pos 1) 3) ∷ entry 2 (ratio (pos 1) 3) ∷ entry 3 (ratio (pos 1) 3) ∷ []) ∷ [])
+      labelled (0 ∷ []) (choice no_reward (entry 1 (ratio (pos 1) 3) ∷ entry 2 (ratio (pos 1) 3) ∷ entry 3 (ratio (pos 1) 3) ∷ []) ∷ [])
       ∷ loop (1 ∷ []) 1 ∷ loop [] 2 ∷ loop [] 3 ∷ [];
 })
 unfolding computed
@@ -103,7 +98,7 @@ three : Reads (file (codes "3")) Exact (record {
   names = dash;
   labels = codes "init" ∷ codes "goal" ∷ [];
   states =
-      state (0 ∷ []) (choice no_reward (entry 0 (whole 1) ∷ []) ∷ choice no_reward (entry 1 (ratio (pos 1) 3) ∷ entry 2 (ratio (pos 2) 3) ∷ []) ∷ [])
+      labelled (0 ∷ []) (choice no_reward (entry 0 (number 1) ∷ []) ∷ choice no_reward (entry 1 (ratio (pos 1) 3) ∷ entry 2 (ratio (pos 2) 3) ∷ []) ∷ [])
       ∷ loop (1 ∷ []) 1 ∷ loop [] 2 ∷ [];
 })
 unfolding computed
@@ -145,15 +140,15 @@ empty = refl
 abbrev rich_text : List ℕ
 rich_text =
     codes "// made by hand\r\n@type:MDP\r\n@value_type: double\n@reward_models\nfirst  second\n\n@nr_states\n\n2\n@model\n"
-    ++ codes "state 0 [1/2, 2]\"is done\" init init\r\n//[s=0]\n\taction left [0.5,1]\n\t\t1:5e-1\n\t\t0 : 0.5\n"
-    ++ codes "state 1[ ]\n\n\taction [name] []\n1 : 1.0\n0\t:\t0"
+    ++ codes "labelled 0 [1/2, 2]\"is done\" init init\r\n//[s=0]\n\taction left [0.5,1]\n\t\t1:5e-1\n\t\t0 : 0.5\n"
+    ++ codes "labelled 1[ ]\n\n\taction [name] []\n1 : 1.0\n0\t:\t0"
 
 rich : Reads rich_text Exact (record {
   names = codes "first" ∷ codes "second" ∷ [];
   labels = codes "is done" ∷ codes "init" ∷ [];
   states =
-      state (0 ∷ 1 ∷ []) (choice (whole 1 ∷ whole 3 ∷ []) (entry 0 (ratio (pos 1) 2) ∷ entry 1 (ratio (pos 1) 2) ∷ []) ∷ [])
-      ∷ state [] (choice (whole 0 ∷ whole 0 ∷ []) (entry 1 (whole 1) ∷ []) ∷ []) ∷ [];
+      labelled (0 ∷ 1 ∷ []) (choice (number 1 ∷ number 3 ∷ []) (entry 0 (ratio (pos 1) 2) ∷ entry 1 (ratio (pos 1) 2) ∷ []) ∷ [])
+      ∷ labelled [] (choice (number 0 ∷ number 0 ∷ []) (entry 1 (number 1) ∷ []) ∷ []) ∷ [];
 })
 unfolding computed
 rich = refl
@@ -164,44 +159,44 @@ abbrev two : List ℕ → List ℕ
 two rest = codes "@type: MDP\n@nr_states\n2\n@model\n" ++ rest
 
 -- a row is closed before the next state or action is judged, and a state before the next state
-row_before_shape : Refused (two (codes "state 0\naction\n0 : 1/2\nstate 1x\n")) Exact kind.RowSum 6
+row_before_shape : Refused (two (codes "labelled 0\naction\n0 : 1/2\nstate 1x\n")) Exact kind.RowSum 6
 unfolding computed
 row_before_shape = refl
 
-choice_before_order : Refused (two (codes "state 0\nstate 0\n")) Exact kind.NoChoice 5
+choice_before_order : Refused (two (codes "labelled 0\nstate 0\n")) Exact kind.NoChoice 5
 unfolding computed
 choice_before_order = refl
 
 -- but `state1` and `state -1` are no such lines
-not_closed : Refused (two (codes "state 0\naction\n0 : 1/2\nstate -1\n")) Exact kind.Shape 8
+not_closed : Refused (two (codes "labelled 0\naction\n0 : 1/2\nstate -1\n")) Exact kind.Shape 8
 unfolding computed
 not_closed = refl
 
 -- a zero counts as an entry
-twice_zero : Refused (two (codes "state 0\naction\n0 : 0\n0 : 1\n")) Exact kind.Twice 8
+twice_zero : Refused (two (codes "labelled 0\naction\n0 : 0\n0 : 1\n")) Exact kind.Twice 8
 unfolding computed
 twice_zero = refl
 
 -- the target is judged before the value
-target_first : Refused (two (codes "state 0\naction\n99 : abc\n")) Exact kind.Target 7
+target_first : Refused (two (codes "labelled 0\naction\n99 : abc\n")) Exact kind.Target 7
 unfolding computed
 target_first = refl
 
 -- a bracket of an action runs from its last `[`
-last_bracket : Refused (two (codes "state 0\naction [1]]\n")) Exact kind.Number 6
+last_bracket : Refused (two (codes "labelled 0\naction [1]]\n")) Exact kind.Number 6
 unfolding computed
 last_bracket = refl
 
 -- the bracket of a state ends at its first `]`
-first_bracket : Refused (two (codes "state 0 [1]] \"\n")) Exact kind.Label 5
+first_bracket : Refused (two (codes "labelled 0 [1]] \"\n")) Exact kind.Label 5
 unfolding computed
 first_bracket = refl
 
-negative : Refused (two (codes "state 0\naction\n0 : -0.5\n")) Exact kind.Negative 7
+negative : Refused (two (codes "labelled 0\naction\n0 : -0.5\n")) Exact kind.Negative 7
 unfolding computed
 negative = refl
 
-order : Refused (two (codes "state 1\n")) Exact kind.Order 5
+order : Refused (two (codes "labelled 1\n")) Exact kind.Order 5
 unfolding computed
 order = refl
 
@@ -233,33 +228,30 @@ numbered = refl
 abbrev chain : List ℕ → List ℕ
 chain rest = codes "@type: DTMC\n@nr_states\n2\n@model\n" ++ rest
 
-abbrev half : ℚ
-half = ratio (pos 1) 2
-
 -- each state has one choice
-one_choice_each : Reads (chain (codes "state 0 init\naction\n0 : 1/2\n1 : 1/2\nstate 1\naction\n1 : 1\n")) Exact (record {
+one_choice_each : Reads (chain (codes "labelled 0 init\naction\n0 : 1/2\n1 : 1/2\nstate 1\naction\n1 : 1\n")) Exact (record {
   names = dash;
   labels = codes "init" ∷ [];
-  states = state (0 ∷ []) (choice no_reward (entry 0 half ∷ entry 1 half ∷ []) ∷ []) ∷ loop [] 1 ∷ [];
+  states = labelled (0 ∷ []) (choice no_reward (entry 0 half ∷ entry 1 half ∷ []) ∷ []) ∷ loop [] 1 ∷ [];
 })
 unfolding computed
 one_choice_each = refl
 
-second_choice : Refused (chain (codes "state 0\naction\n0 : 1\nstate 1\naction\n1 : 1\naction\n1 : 1\n")) Exact kind.Choices 11
+second_choice : Refused (chain (codes "labelled 0\naction\n0 : 1\nstate 1\naction\n1 : 1\naction\n1 : 1\n")) Exact kind.Choices 11
 unfolding computed
 second_choice = refl
 
 -- the row before is closed first, and the bracket is judged first
-row_before_choices : Refused (chain (codes "state 0\naction\n0 : 1/2\naction\n")) Exact kind.RowSum 6
+row_before_choices : Refused (chain (codes "labelled 0\naction\n0 : 1/2\naction\n")) Exact kind.RowSum 6
 unfolding computed
 row_before_choices = refl
 
-bracket_before_choices : Refused (chain (codes "state 0\naction\n0 : 1\naction [x]\n")) Exact kind.Number 8
+bracket_before_choices : Refused (chain (codes "labelled 0\naction\n0 : 1\naction [x]\n")) Exact kind.Number 8
 unfolding computed
 bracket_before_choices = refl
 
 -- too large a sum comes behind it
-choices_before_large : Refused (chain (codes "state 0 [1e36]\naction\n0 : 1\naction [1]\n")) Exact kind.Choices 8
+choices_before_large : Refused (chain (codes "labelled 0 [1e36]\naction\n0 : 1\naction [1]\n")) Exact kind.Choices 8
 unfolding computed
 choices_before_large = refl
 
@@ -269,13 +261,13 @@ abbrev with_reward : List ℕ → List ℕ
 with_reward value = codes "@type: MDP\n@nr_states\n1\n@model\nstate 0\naction [" ++ value ++ codes "]\n0 : 1"
 
 abbrev loop_of : ℚ → Mdp
-loop_of reward = record { names = dash; labels = []; states = state [] (choice (reward ∷ []) (entry 0 (whole 1) ∷ []) ∷ []) ∷ [] }
+loop_of reward = record { names = dash; labels = []; states = labelled [] (choice (reward ∷ []) (entry 0 (number 1) ∷ []) ∷ []) ∷ [] }
 
 minus_half : Reads (with_reward (codes "-1/2")) Exact (loop_of (ratio (negsuc 0) 2))
 unfolding computed
 minus_half = refl
 
-minus_zero : Reads (with_reward (codes "-0")) Exact (loop_of (whole 0))
+minus_zero : Reads (with_reward (codes "-0")) Exact (loop_of (number 0))
 unfolding computed
 minus_zero = refl
 
@@ -307,15 +299,15 @@ least = refl
 both_signs : Reads (codes "@type: MDP\n@reward_models\ncost gain\n@nr_states\n1\n@model\nstate 0 [-1,2]\naction [1, -3/2]\n0 : 1") Exact (record {
   names = codes "cost" ∷ codes "gain" ∷ [];
   labels = [];
-  states = state [] (choice (whole 0 ∷ half ∷ []) (entry 0 (whole 1) ∷ []) ∷ []) ∷ [];
+  states = labelled [] (choice (number 0 ∷ half ∷ []) (entry 0 (number 1) ∷ []) ∷ []) ∷ [];
 })
 unfolding computed
 both_signs = refl
 
-large_sum : Refused (two (codes "state 0 [1e36]\naction [1]\n")) Exact kind.Large 6
+large_sum : Refused (two (codes "labelled 0 [1e36]\naction [1]\n")) Exact kind.Large 6
 unfolding computed
 large_sum = refl
 
-large_sum_below : Refused (two (codes "state 0 [-1e36]\naction [-1]\n")) Exact kind.Large 6
+large_sum_below : Refused (two (codes "labelled 0 [-1e36]\naction [-1]\n")) Exact kind.Large 6
 unfolding computed
 large_sum_below = refl

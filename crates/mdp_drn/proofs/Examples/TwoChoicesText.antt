@@ -2,13 +2,11 @@
 use Rattle.std.proofs.Common.{◌≡◌, ℕ, List, [], ◌∷◌, ◌++◌, codes, lit<, pos}
 use Rattle.std.proofs.lemmas.Fmt.{decimal_digit}
 use Rattle.mdp_math.specs.Gcd.{gcd, gcd_with_fuel}
-use Rattle.mdp_math.specs.Rational.{ℚ, of_int, ratio}
+use Rattle.mdp_math.specs.Rational.{of_int, ratio}
 use Rattle.mdp_num.specs.Value.{spelling}
 use Rattle.mdp_spec.specs.Mdp.{Entry, Choice, Mdp}
+use Rattle.mdp_spec.proofs.Small.{entry}
 use Rattle.mdp_drn.specs.Writing.{text_of}
-
-abbrev to : ℕ → ℚ → Entry
-to target prob = record { target = target; prob = prob }
 
 abbrev choice : List Entry → Choice
 choice row = record { row = row; rewards = of_int (pos 0) ∷ [] }
@@ -21,10 +19,10 @@ model = record {
   states =
       record {
         labels = 0 ∷ [];
-        choices = choice (to 1 (ratio (pos 1) 2) ∷ to 2 (ratio (pos 1) 2) ∷ []) ∷ choice (to 0 (ratio (pos 1) 2) ∷ to 1 (ratio (pos 1) 4) ∷ to 2 (ratio (pos 1) 4) ∷ []) ∷ [];
+        choices = choice (entry 1 (ratio (pos 1) 2) ∷ entry 2 (ratio (pos 1) 2) ∷ []) ∷ choice (entry 0 (ratio (pos 1) 2) ∷ entry 1 (ratio (pos 1) 4) ∷ entry 2 (ratio (pos 1) 4) ∷ []) ∷ [];
       }
-      ∷ record { labels = 1 ∷ []; choices = choice (to 1 (of_int (pos 1)) ∷ []) ∷ [] }
-      ∷ record { labels = []; choices = choice (to 2 (of_int (pos 1)) ∷ []) ∷ [] }
+      ∷ record { labels = 1 ∷ []; choices = choice (entry 1 (of_int (pos 1)) ∷ []) ∷ [] }
+      ∷ record { labels = []; choices = choice (entry 2 (of_int (pos 1)) ∷ []) ∷ [] }
       ∷ [];
 }
 

@@ -7,23 +7,24 @@ use Rattle.mdp_math.specs.Written.{narrow, narrow_ℚ, written_add}
 use Rattle.mdp_math.proofs.Order.{0ℚ}
 use Rattle.mdp_spec.specs.Mdp.{Entry, Choice, State, Mdp}
 use Rattle.mdp_spec.specs.Sub.{sub_of}
+use Rattle.mdp_spec.proofs.Small.{entry, half, one, quarter}
 use Rattle.mdp_rows.specs.Replay.{replayed}
-use Rattle.mdp_rows.proofs.Examples.Words.{one, half, quarter, to, of_states}
+use Rattle.mdp_rows.proofs.Examples.Words.{of_states}
 
 abbrev choice : List Entry → Choice
 choice row = record { row = row; rewards = one ∷ [] }
 
 abbrev loop : ℕ → Choice
-loop s = record { row = to s one ∷ []; rewards = 0ℚ ∷ [] }
+loop s = record { row = entry s one ∷ []; rewards = 0ℚ ∷ [] }
 
 abbrev first : State
-first = record { labels = 0 ∷ []; choices = choice (to 1 half ∷ to 2 half ∷ []) ∷ choice (to 0 half ∷ to 1 quarter ∷ to 2 quarter ∷ []) ∷ [] }
+first = record { labels = 0 ∷ []; choices = choice (entry 1 half ∷ entry 2 half ∷ []) ∷ choice (entry 0 half ∷ entry 1 quarter ∷ entry 2 quarter ∷ []) ∷ [] }
 
 abbrev reached : State
-reached = record { labels = 1 ∷ []; choices = choice (to 1 one ∷ []) ∷ [] }
+reached = record { labels = 1 ∷ []; choices = choice (entry 1 one ∷ []) ∷ [] }
 
 abbrev away : State
-away = record { labels = []; choices = choice (to 2 one ∷ []) ∷ [] }
+away = record { labels = []; choices = choice (entry 2 one ∷ []) ∷ [] }
 
 abbrev three : Mdp
 three = of_states (first ∷ reached ∷ away ∷ [])
