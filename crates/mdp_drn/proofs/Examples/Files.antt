@@ -6,7 +6,7 @@ use Rattle.mdp_math.specs.Rational.{ℚ, of_int, ratio, neg_ℚ, ◌+ℚ◌, ◌
 use Rattle.mdp_math.specs.Written.{narrow, narrow_ℚ, written_add}
 use Rattle.mdp_num.specs.Numeral.{numeral_of, parts_of}
 use Rattle.mdp_spec.specs.Mdp.{Mdp, State, Choice, Entry}
-use Rattle.mdp_spec.proofs.Small.{half, labelled, number}
+use Rattle.mdp_spec.proofs.Small.{entry, half, labelled, number}
 use Rattle.mdp_rows.specs.declared.rule.RowRule.TheVariants.{Exact, Scaled}
 use Rattle.mdp_drn.specs.declared.error.DrnKind.TheVariants as kind
 use Rattle.mdp_drn.specs.Values.{value_of, reward_of, rewards_in}
@@ -31,9 +31,6 @@ unfolding lines numbers
 computed = tt
 
 -- ---- how models are written below
-
-abbrev entry : ℕ → ℚ → Entry
-entry target value = record { target = target; prob = value }
 
 abbrev choice : List ℚ → List Entry → Choice
 choice rewards row = record { row = row; rewards = rewards }
@@ -140,8 +137,8 @@ empty = refl
 abbrev rich_text : List ℕ
 rich_text =
     codes "// made by hand\r\n@type:MDP\r\n@value_type: double\n@reward_models\nfirst  second\n\n@nr_states\n\n2\n@model\n"
-    ++ codes "labelled 0 [1/2, 2]\"is done\" init init\r\n//[s=0]\n\taction left [0.5,1]\n\t\t1:5e-1\n\t\t0 : 0.5\n"
-    ++ codes "labelled 1[ ]\n\n\taction [name] []\n1 : 1.0\n0\t:\t0"
+    ++ codes "state 0 [1/2, 2]\"is done\" init init\r\n//[s=0]\n\taction left [0.5,1]\n\t\t1:5e-1\n\t\t0 : 0.5\n"
+    ++ codes "state 1[ ]\n\n\taction [name] []\n1 : 1.0\n0\t:\t0"
 
 rich : Reads rich_text Exact (record {
   names = codes "first" ∷ codes "second" ∷ [];
@@ -159,44 +156,44 @@ abbrev two : List ℕ → List ℕ
 two rest = codes "@type: MDP\n@nr_states\n2\n@model\n" ++ rest
 
 -- a row is closed before the next state or action is judged, and a state before the next state
-row_before_shape : Refused (two (codes "labelled 0\naction\n0 : 1/2\nstate 1x\n")) Exact kind.RowSum 6
+row_before_shape : Refused (two (codes "state 0\naction\n0 : 1/2\nstate 1x\n")) Exact kind.RowSum 6
 unfolding computed
 row_before_shape = refl
 
-choice_before_order : Refused (two (codes "labelled 0\nstate 0\n")) Exact kind.NoChoice 5
+choice_before_order : Refused (two (codes "state 0\nstate 0\n")) Exact kind.NoChoice 5
 unfolding computed
 choice_before_order = refl
 
 -- but `state1` and `state -1` are no such lines
-not_closed : Refused (two (codes "labelled 0\naction\n0 : 1/2\nstate -1\n")) Exact kind.Shape 8
+not_closed : Refused (two (codes "state 0\naction\n0 : 1/2\nstate -1\n")) Exact kind.Shape 8
 unfolding computed
 not_closed = refl
 
 -- a zero counts as an entry
-twice_zero : Refused (two (codes "labelled 0\naction\n0 : 0\n0 : 1\n")) Exact kind.Twice 8
+twice_zero : Refused (two (codes "state 0\naction\n0 : 0\n0 : 1\n")) Exact kind.Twice 8
 unfolding computed
 twice_zero = refl
 
 -- the target is judged before the value
-target_first : Refused (two (codes "labelled 0\naction\n99 : abc\n")) Exact kind.Target 7
+target_first : Refused (two (codes "state 0\naction\n99 : abc\n")) Exact kind.Target 7
 unfolding computed
 target_first = refl
 
 -- a bracket of an action runs from its last `[`
-last_bracket : Refused (two (codes "labelled 0\naction [1]]\n")) Exact kind.Number 6
+last_bracket : Refused (two (codes "state 0\naction [1]]\n")) Exact kind.Number 6
 unfolding computed
 last_bracket = refl
 
 -- the bracket of a state ends at its first `]`
-first_bracket : Refused (two (codes "labelled 0 [1]] \"\n")) Exact kind.Label 5
+first_bracket : Refused (two (codes "state 0 [1]] \"\n")) Exact kind.Label 5
 unfolding computed
 first_bracket = refl
 
-negative : Refused (two (codes "labelled 0\naction\n0 : -0.5\n")) Exact kind.Negative 7
+negative : Refused (two (codes "state 0\naction\n0 : -0.5\n")) Exact kind.Negative 7
 unfolding computed
 negative = refl
 
-order : Refused (two (codes "labelled 1\n")) Exact kind.Order 5
+order : Refused (two (codes "state 1\n")) Exact kind.Order 5
 unfolding computed
 order = refl
 
@@ -229,7 +226,7 @@ abbrev chain : List ℕ → List ℕ
 chain rest = codes "@type: DTMC\n@nr_states\n2\n@model\n" ++ rest
 
 -- each state has one choice
-one_choice_each : Reads (chain (codes "labelled 0 init\naction\n0 : 1/2\n1 : 1/2\nstate 1\naction\n1 : 1\n")) Exact (record {
+one_choice_each : Reads (chain (codes "state 0 init\naction\n0 : 1/2\n1 : 1/2\nstate 1\naction\n1 : 1\n")) Exact (record {
   names = dash;
   labels = codes "init" ∷ [];
   states = labelled (0 ∷ []) (choice no_reward (entry 0 half ∷ entry 1 half ∷ []) ∷ []) ∷ loop [] 1 ∷ [];
@@ -237,21 +234,21 @@ one_choice_each : Reads (chain (codes "labelled 0 init\naction\n0 : 1/2\n1 : 1/2
 unfolding computed
 one_choice_each = refl
 
-second_choice : Refused (chain (codes "labelled 0\naction\n0 : 1\nstate 1\naction\n1 : 1\naction\n1 : 1\n")) Exact kind.Choices 11
+second_choice : Refused (chain (codes "state 0\naction\n0 : 1\nstate 1\naction\n1 : 1\naction\n1 : 1\n")) Exact kind.Choices 11
 unfolding computed
 second_choice = refl
 
 -- the row before is closed first, and the bracket is judged first
-row_before_choices : Refused (chain (codes "labelled 0\naction\n0 : 1/2\naction\n")) Exact kind.RowSum 6
+row_before_choices : Refused (chain (codes "state 0\naction\n0 : 1/2\naction\n")) Exact kind.RowSum 6
 unfolding computed
 row_before_choices = refl
 
-bracket_before_choices : Refused (chain (codes "labelled 0\naction\n0 : 1\naction [x]\n")) Exact kind.Number 8
+bracket_before_choices : Refused (chain (codes "state 0\naction\n0 : 1\naction [x]\n")) Exact kind.Number 8
 unfolding computed
 bracket_before_choices = refl
 
 -- too large a sum comes behind it
-choices_before_large : Refused (chain (codes "labelled 0 [1e36]\naction\n0 : 1\naction [1]\n")) Exact kind.Choices 8
+choices_before_large : Refused (chain (codes "state 0 [1e36]\naction\n0 : 1\naction [1]\n")) Exact kind.Choices 8
 unfolding computed
 choices_before_large = refl
 
@@ -304,10 +301,10 @@ both_signs : Reads (codes "@type: MDP\n@reward_models\ncost gain\n@nr_states\n1\
 unfolding computed
 both_signs = refl
 
-large_sum : Refused (two (codes "labelled 0 [1e36]\naction [1]\n")) Exact kind.Large 6
+large_sum : Refused (two (codes "state 0 [1e36]\naction [1]\n")) Exact kind.Large 6
 unfolding computed
 large_sum = refl
 
-large_sum_below : Refused (two (codes "labelled 0 [-1e36]\naction [-1]\n")) Exact kind.Large 6
+large_sum_below : Refused (two (codes "state 0 [-1e36]\naction [-1]\n")) Exact kind.Large 6
 unfolding computed
 large_sum_below = refl
