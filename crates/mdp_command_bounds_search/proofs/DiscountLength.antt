@@ -17,6 +17,7 @@ use Rattle.mdp_discount_bounds.specs.declared.init.InitialBounds.{InitialBounds}
 use Rattle.mdp_discount_bounds_text.specs.Entries.{lower_text, between_columns, IsEntryInWidth, entries_of}
 use Rattle.mdp_discount_bounds_text.specs.Spelling.{version_text, init_text, head_text, text_of}
 use Rattle.mdp_command.specs.Files.{most_bytes}
+use Rattle.mdp_command.proofs.HeadLengths.{five_lines}
 use Rattle.mdp_cert.proofs.RunLengths.{lines_of, closed_short}
 use Rattle.mdp_command_bounds_search.proofs.TextLength.{two_words}
 
@@ -84,23 +85,12 @@ module _ (c : Certificate) (fits : Fits c) where
   head_short =
       let p : 2 ^ 20 < 2 ^ 32 = lit< tt in
       let few = fits.limit in
-      let claim = claim_text c.dir c.name c.factor in
-      let states = states_text (length c.lower) in
-      let init = init_text c.init in
-      let remainder = remainder_text c.remainder in
-      let a = length-append (line version_text) (line claim ++ (line states ++ (line init ++ line remainder))) in
-      let b = length-append (line claim) (line states ++ (line init ++ line remainder)) in
-      let d = length-append (line states) (line init ++ line remainder) in
-      let e = length-append (line init) (line remainder) in
-      let f = line_length claim in
-      let g = line_length states in
-      let h = line_length init in
-      let i = line_length remainder in
-      let j = claim_short c.dir c.name c.factor fits.named fits.factor_width in
-      let k = states_short (length c.lower) (omega (arith, few, p)) in
-      let l = init_short (length c.lower) c.init few fits.inside fits.init_width in
-      let m = remainder_short c.remainder fits.remainder_width in
-      omega (arith, a, b, d, e, f, g, h, i, j, k, l, m)
+      let a = claim_short c.dir c.name c.factor fits.named fits.factor_width in
+      let b = states_short (length c.lower) (omega (arith, few, p)) in
+      let d = init_short (length c.lower) c.init few fits.inside fits.init_width in
+      let e = remainder_short c.remainder fits.remainder_width in
+      let all = five_lines version_text (claim_text c.dir c.name c.factor) (states_text (length c.lower)) (init_text c.init) (remainder_text c.remainder) in
+      omega (arith, a, b, d, e, all)
 
   lines_short : length (lines_of between_columns (entries_of c.lower c.upper c.choices)) ≤ 380 * length c.lower + 4
   lines_short =

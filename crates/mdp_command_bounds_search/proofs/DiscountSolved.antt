@@ -10,7 +10,8 @@ use Rattle.mdp_discount_rules.specs.Rules.{IsFactor}
 use Rattle.mdp_discount_bounds.specs.Between.{DiscountBetween}
 use Rattle.mdp_discount_bounds.specs.Laws.{AcceptedIsBound}
 use Rattle.mdp_discount_bounds_text.specs.Spelling.{text_of}
-use Rattle.mdp_command.proofs.Working.{read_of_due}
+use Rattle.mdp_checking.specs.Kinds.{discounted_between}
+use Rattle.mdp_command.proofs.TrueClaims.{true_claim_of}
 use Rattle.mdp_command.specs.Files.{model_due}
 use Rattle.mdp_command.specs.Said.{Said}
 use Rattle.mdp_command_bounds_search.specs.DiscountDue.{IsAcceptedText, IsNamedDue}
@@ -55,20 +56,8 @@ text_lies_between true_of dir name f m text mdp factor due = by_name true_of dir
 printed_solved : (rule : RowRule) (dir : Dir) (name : List ℕ) (f : ℚ) (m : Mdp) (bytes text : List ℕ) → model_due rule bytes ≡ Ok m
     → IsDiscountBoundsPrinted dir name f m text → IsDiscountBoundsSolved rule dir name f bytes text
 printed_solved rule dir name f m bytes text is printed =
-    let read = read_of_due rule bytes m is in
     record {
-      true_claim = record {
-        accepted = record {
-          short_model = read.0;
-          short_cert = printed.short;
-          model = m;
-          reads = read.1;
-          cert = printed.cert;
-          text = printed.reads;
-          holds = printed.holds;
-        };
-        bound = printed.bound;
-      };
+      true_claim = true_claim_of discounted_between rule m bytes text printed.cert is printed.short printed.reads printed.holds printed.bound;
       claim = printed.claim;
       spelled = printed.spelled;
     }

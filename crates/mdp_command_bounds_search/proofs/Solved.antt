@@ -16,7 +16,8 @@ use Rattle.mdp_check.specs.BoundsLaws.{AcceptedBoundsAreTrue}
 use Rattle.mdp_check.specs.Check.{reward_place, goal_marks}
 use Rattle.mdp_job.specs.Job.{PlainQuery, reach, reward, mean}
 use Rattle.mdp_job.specs.Refusal.{PlainRefusal}
-use Rattle.mdp_command.proofs.Working.{read_of_due}
+use Rattle.mdp_checking.specs.Kinds.{between}
+use Rattle.mdp_command.proofs.TrueClaims.{true_claim_of}
 use Rattle.mdp_command.specs.Files.{model_due}
 use Rattle.mdp_command.specs.Said.{Said}
 use Rattle.mdp_command_bounds_search.specs.Due.{claim_of, fault_of, IsDueBy, IsAcceptedText}
@@ -95,20 +96,8 @@ text_lies_between true_of dir query m text mdp due = by_fault true_of dir query 
 printed_solved : (rule : RowRule) (dir : Dir) (query : PlainQuery) (m : Mdp) (bytes text : List ℕ) → model_due rule bytes ≡ Ok m → IsBoundsPrinted (claim_of dir query) m text
     → IsBoundsSolved rule dir query bytes text
 printed_solved rule dir query m bytes text is printed =
-    let read = read_of_due rule bytes m is in
     record {
-      true_claim = record {
-        accepted = record {
-          short_model = read.0;
-          short_cert = printed.short;
-          model = m;
-          reads = read.1;
-          cert = printed.cert;
-          text = printed.reads;
-          holds = printed.holds;
-        };
-        bound = printed.bound;
-      };
+      true_claim = true_claim_of between rule m bytes text printed.cert is printed.short printed.reads printed.holds printed.bound;
       claim = printed.claim;
       spelled = printed.spelled;
     }

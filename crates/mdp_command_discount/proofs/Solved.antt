@@ -13,7 +13,8 @@ use Rattle.mdp_discount_rules.specs.Cert.{Certificate}
 use Rattle.mdp_discount.specs.Laws.{HasOneEnd, CanAsk, AnswersMeetRules, AnswersAreBest}
 use Rattle.mdp_discount.specs.Query.{EndsSo}
 use Rattle.mdp_discount_rules.specs.Rules.{IsFactor}
-use Rattle.mdp_command.proofs.Working.{read_of_due}
+use Rattle.mdp_checking.specs.Kinds.{discounted}
+use Rattle.mdp_command.proofs.TrueClaims.{true_claim_of}
 use Rattle.mdp_command.specs.Files.{model_due}
 use Rattle.mdp_command.specs.Said.{Said}
 use Rattle.mdp_command_discount.specs.Due.{said_of_end, IsNamedDue}
@@ -60,20 +61,8 @@ text_is_answer rules best dir name f m text mdp factor d = at_name rules best di
 printed_solved : (rule : RowRule) (dir : Dir) (name : List ℕ) (f : ℚ) (m : Mdp) (bytes text : List ℕ) → model_due rule bytes ≡ Ok m → IsDiscountPrinted dir name f m text
     → IsDiscountSolved rule dir name f bytes text
 printed_solved rule dir name f m bytes text is printed =
-    let read = read_of_due rule bytes m is in
     record {
-      true_claim = record {
-        accepted = record {
-          short_model = read.0;
-          short_cert = printed.short;
-          model = m;
-          reads = read.1;
-          cert = printed.cert;
-          text = printed.reads;
-          holds = printed.holds;
-        };
-        bound = printed.bound;
-      };
+      true_claim = true_claim_of discounted rule m bytes text printed.cert is printed.short printed.reads printed.holds printed.bound;
       computed = printed.computed;
       claim = printed.claim;
       spelled = printed.spelled;

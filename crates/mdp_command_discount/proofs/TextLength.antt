@@ -16,6 +16,7 @@ use Rattle.mdp_text.specs.Heads.{IsInitInWidth}
 use Rattle.mdp_discount_rules.specs.Cert.{is_init, IsInitNarrow, Certificate, Fits}
 use Rattle.mdp_discount_text.specs.Spelling.{version_text, claim_text, remainder_text, state_text, state_lines, head_text, text_of}
 use Rattle.mdp_command.specs.Files.{most_bytes}
+use Rattle.mdp_command.proofs.HeadLengths.{five_lines}
 
 -- ---- the lines before those of the states
 
@@ -80,23 +81,12 @@ module _ (c : Certificate) (fits : Fits c) where
   head_short =
       let p : 2 ^ 20 < 2 ^ 32 = lit< tt in
       let few = fits.limit in
-      let claim = claim_text c.dir c.name c.factor in
-      let states = states_text (length c.values) in
-      let init = init_text c.init in
-      let remainder = remainder_text c.remainder in
-      let a = length-append (line version_text) (line claim ++ (line states ++ (line init ++ line remainder))) in
-      let b = length-append (line claim) (line states ++ (line init ++ line remainder)) in
-      let d = length-append (line states) (line init ++ line remainder) in
-      let e = length-append (line init) (line remainder) in
-      let f = line_length claim in
-      let g = line_length states in
-      let h = line_length init in
-      let i = line_length remainder in
-      let j = claim_short c.dir c.name c.factor fits.named fits.factor_width in
-      let k = states_short (length c.values) (omega (arith, few, p)) in
-      let l = init_short c.init (start_inside (length c.values) c.init few fits.inside fits.init_width) (in_width c.init fits.init_width) in
-      let m = remainder_short c.remainder fits.remainder_width in
-      omega (arith, a, b, d, e, f, g, h, i, j, k, l, m)
+      let a = claim_short c.dir c.name c.factor fits.named fits.factor_width in
+      let b = states_short (length c.values) (omega (arith, few, p)) in
+      let d = init_short c.init (start_inside (length c.values) c.init few fits.inside fits.init_width) (in_width c.init fits.init_width) in
+      let e = remainder_short c.remainder fits.remainder_width in
+      let all = five_lines version_text (claim_text c.dir c.name c.factor) (states_text (length c.values)) (init_text c.init) (remainder_text c.remainder) in
+      omega (arith, a, b, d, e, all)
 
   pub text_short : length (text_of c) ≤ most_bytes
   unfolding text_of

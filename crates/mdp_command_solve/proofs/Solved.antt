@@ -25,6 +25,8 @@ use Rattle.mdp_cert.specs.Cert.{PlainClaim}
 use Rattle.mdp_job.specs.Job.{PlainQuery, reach, reward, mean}
 use Rattle.mdp_job.specs.Refusal.{PlainRefusal}
 use Rattle.mdp_command.proofs.Working.{read_of_due}
+use Rattle.mdp_command.specs.Accepted.{exact}
+use Rattle.mdp_command.proofs.TrueClaims.{true_claim_of}
 use Rattle.mdp_command.specs.Files.{model_due}
 use Rattle.mdp_command.specs.Said.{Said}
 use Rattle.mdp_command_solve.specs.Due.{said_of_end, said_of_reward_end, said_of_mean_end, IsReachDue, IsRewardEnd, IsRewardDue, IsMeanDue, IsQueryDue, IsSolveDue}
@@ -175,20 +177,8 @@ module _ (rules : mean_law.AnswersMeetRules) (greatest : mean_law.AnswersAreGrea
 
 pub printed_solved : (rule : RowRule) (claimed : PlainClaim) (m : Mdp) (bytes text : List ℕ) → model_due rule bytes ≡ Ok m → IsClaimPrinted claimed m text → IsClaimSolved rule claimed bytes text
 printed_solved rule claimed m bytes text is printed =
-    let read = read_of_due rule bytes m is in
     record {
-      true_claim = record {
-        accepted = record {
-          short_model = read.0;
-          short_cert = printed.short;
-          model = m;
-          reads = read.1;
-          cert = printed.cert;
-          text = printed.reads;
-          holds = printed.holds;
-        };
-        bound = printed.bound;
-      };
+      true_claim = true_claim_of exact rule m bytes text printed.cert is printed.short printed.reads printed.holds printed.bound;
       claim = printed.claim;
       spelled = printed.spelled;
     }

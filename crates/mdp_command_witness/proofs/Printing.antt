@@ -18,7 +18,8 @@ use Rattle.mdp_check.proofs.Accepting.{accepted_is_bound}
 use Rattle.mdp_job.specs.Refusal.{no_memory}
 use Rattle.mdp_command.specs.Files.{most_bytes, model_due}
 use Rattle.mdp_command.specs.Said.{Said}
-use Rattle.mdp_command.proofs.Working.{read_of_due}
+use Rattle.mdp_command.specs.Accepted.{exact}
+use Rattle.mdp_command.proofs.TrueClaims.{true_claim_of}
 use Rattle.mdp_witness.specs.Query.{PlainSubsystem, flow, floor, EndsSo}
 use Rattle.mdp_witness.specs.Shown.{kept_in, HasShape, Holds, PolicyReaches, IsNeededMax, IsNeededMin, AreNeeded, MarksAreExactMax, MarksAreExactMin}
 use Rattle.mdp_command_witness.specs.Certificate.{dir_of, certificate_of}
@@ -102,20 +103,8 @@ text_due dir label threshold m l start found c said end is (inr e) = inr (Ok fou
 pub shown : (rule : RowRule) (dir : Dir) (label : List ℕ) (threshold : ℚ) (m : Mdp) (said : Said) → IfOk said (IsWitnessPrinted dir label threshold m) → (bytes : List ℕ)
     → model_due rule bytes ≡ Ok m → IfOk said (IsWitnessShown rule dir label threshold bytes)
 shown rule dir label threshold m (Ok text) printed bytes is =
-    let read = read_of_due rule bytes m is in
     record {
-      true_claim = record {
-        accepted = record {
-          short_model = read.0;
-          short_cert = printed.short;
-          model = m;
-          reads = read.1;
-          cert = certificate_of dir label threshold printed.spells.start m printed.spells.found;
-          text = printed.reads;
-          holds = printed.holds;
-        };
-        bound = printed.bound;
-      };
+      true_claim = true_claim_of exact rule m bytes text (certificate_of dir label threshold printed.spells.start m printed.spells.found) is printed.short printed.reads printed.holds printed.bound;
       spells = printed.spells;
       cert = refl;
     }
