@@ -5,8 +5,8 @@ use Rattle.mdp_spec.specs.Mdp.{Mdp, states_of}
 use Rattle.mdp_rows.specs.declared.dir.Dir.{Dir}
 use Rattle.mdp_wide.specs.declared.too_wide.Part.TheVariants.{Whole}
 use Rattle.mdp_wide.specs.declared.too_wide.TooWide.{TooWide}
-use Rattle.mdp_wide.specs.declared.too_wide.SolveError.{SolveError}
-use Rattle.mdp_wide.specs.declared.too_wide.SolveError.TheVariants as solve
+use Rattle.mdp_wide.specs.Errors.{SolveError}
+use Rattle.mdp_wide.specs.declared.unfinished.Unfinished.TheVariants as error
 use Rattle.mdp_policy_iteration.specs.Iteration.{EndsWith}
 use Rattle.mdp_policy_iteration.specs.Path.{Found, Refusal, path_step}
 use Rattle.mdp_policy_iteration.specs.Laws.{first}
@@ -15,7 +15,6 @@ use Rattle.mdp_wide.specs.Term.{shown}
 use Rattle.mdp_policy_iteration.specs.Queries.{Solves, term_of}
 use Rattle.mdp_policy_iteration.specs.declared.solution.Solution.{Solution}
 use Rattle.mdp_policy_iteration.specs.declared.solution.WideAt.{WideAt}
-use Rattle.mdp_policy_iteration.specs.declared.solution.PathError.TheVariants as path
 use Rattle.mdp_discount.specs.Problem.{discount_problem}
 use Rattle.mdp_discount_rules.specs.Plain.{plain}
 use Rattle.mdp_discount.specs.Query.{start_of, AfterFound, EndsSo}
@@ -36,9 +35,9 @@ module _ (dir : Dir) (m : Mdp) (r : ℕ) (f : ℚ) (start : List ℕ) (same : st
     ap₂ (λ (p : List ℕ) (v : List ℚ). let x : Found = record { number = h.0; policy = p; values = v } in x) policy values,
   )
 
-  pub path-wide : (wide : WideAt) (cut : TooWide) → Ends (discount_problem dir m r f) start (Err (path.TooWide wide)) → cut.round ≡ wide.round
+  pub path-wide : (wide : WideAt) (cut : TooWide) → Ends (discount_problem dir m r f) start (Err (error.TooWide wide)) → cut.round ≡ wide.round
       → ((n : ℕ) → shown cut n ≡ term_of Whole (record { number = n; policy = take (states_of m) wide.policy.items; place = record { kind = wide.kind; node = wide.node; choice = wide.choice } }))
-      → PathEnds dir m r f (Err (solve.TooWide cut))
+      → PathEnds dir m r f (Err (error.TooWide cut))
   path-wide wide cut h round term = (
     h.0,
     round ∙ h.1,
@@ -50,15 +49,15 @@ module _ (dir : Dir) (m : Mdp) (r : ℕ) (f : ℚ) (start : List ℕ) (same : st
 module _ (dir : Dir) (m : Mdp) (r : ℕ) (name : List ℕ) (f : ℚ) where
   -- a refused path ends the query
   pub ends-refused : (e : SolveError) → PathEnds dir m r f (Err e) → Solves plain (EndsSo dir m r name f) (Err e)
-  ends-refused (solve.TooWide w) h = (h.0, h.1, record { end = Err h.2; path = h.3; after = ap Err h.4 })
-  ends-refused solve.Memory h = tt
+  ends-refused (error.TooWide w) h = (h.0, h.1, record { end = Err h.2; path = h.3; after = ap Err h.4 })
+  ends-refused error.Memory h = tt
 
   -- and what follows the path's end is what the query ends with
   pub ends-after : (found : Solution) (result : Result DiscountCert SolveError) → PathEnds dir m r f (Ok found)
       → ((n : ℕ) → found.round ≡ capped n → Solves plain (AfterFound dir m r name f (found_of n found)) result) → Solves plain (EndsSo dir m r name f) result
   ends-after found (Ok cert) h after =
       record { end = Ok h.2; path = h.3; after = subst (λ (x : Found). AfterFound dir m r name f x (Ok (plain cert))) h.4 (after h.0 h.1) }
-  ends-after found (Err (solve.TooWide w)) h after =
+  ends-after found (Err (error.TooWide w)) h after =
       let a = after h.0 h.1 in
       (a.0, a.1, record { end = Ok h.2; path = h.3; after = subst (λ (x : Found). AfterFound dir m r name f x (Err (shown w a.0))) h.4 a.2 })
-  ends-after found (Err solve.Memory) h after = tt
+  ends-after found (Err error.Memory) h after = tt

@@ -5,9 +5,8 @@ use Rattle.std.specs.List.{All}
 use Rattle.mdp_elim.specs.Equation.{Equation, Values}
 use Rattle.mdp_elim.specs.Elimination.{CanEliminate, evaluated, at_state, ◌and_then◌, eliminated, Eliminated, solution}
 use Rattle.mdp_elim.specs.Finish.{finish, LeadDown, placed}
-use Rattle.mdp_elim.specs.declared.errors.StepError.{StepError}
-use Rattle.mdp_elim.specs.declared.errors.StepError.TheVariants as step_error
-use Rattle.mdp_elim.specs.declared.errors.ElimError.TheVariants as whole_error
+use Rattle.mdp_elim.specs.Errors.{StepError}
+use Rattle.mdp_wide.specs.declared.unfinished.Unfinished.TheVariants as error
 
 then_then : (r : Result Values ℕ) (f g : Values → Result Values ℕ) → ((r and_then f) and_then g) ≡ (r and_then (λ v. f v and_then g))
 then_then (Ok v) f g = refl
@@ -79,12 +78,12 @@ module _ (n s : ℕ) (same : n ≡ suc s) (left done : List Equation) where
   pub down_step : (e : Equation) → All (λ x. x.target < s) e.entries → LeadDown n done → LeadDown s (done ++ e ∷ [])
   down_step e h k = lead_down-more s done e h (subst (λ m. LeadDown m done) (sym one_more) k)
 
-pub placed-wide : {A : Type 0} → (state s : ℕ) (step : Result A StepError) → placed state step ≡ Err (whole_error.Wide s) → (step ≡ Err step_error.Wide) × (state ≡ s)
+pub placed-wide : {A : Type 0} → (state s : ℕ) (step : Result A StepError) → placed state step ≡ Err (error.TooWide s) → (step ≡ Err (error.TooWide tt)) × (state ≡ s)
 placed-wide state s (Ok x) h = cc
-placed-wide state s (Err step_error.Wide) h = (refl, cc)
-placed-wide state s (Err step_error.Memory) h = cc
+placed-wide state s (Err (error.TooWide _)) h = (refl, cc)
+placed-wide state s (Err error.Memory) h = cc
 
 pub placed-ok : {A : Type 0} → (state : ℕ) (x : A) (step : Result A StepError) → placed state step ≡ Ok x → step ≡ Ok x
 placed-ok state x (Ok y) h = cc
-placed-ok state x (Err step_error.Wide) h = cc
-placed-ok state x (Err step_error.Memory) h = cc
+placed-ok state x (Err (error.TooWide _)) h = cc
+placed-ok state x (Err error.Memory) h = cc

@@ -223,34 +223,31 @@ module _ (s : ℕ) (equations : List Equation) (e : Eliminated) (v values : Valu
   others_down : (t : ℕ) → t < suc s → Between 0 s (without s (at equations t).entries)
   others_down t l = between-without 0 s (at equations t).entries (down t l)
 
-  first_at : (t : ℕ) → (t ≡ s) ⊎ (t < s) → value_at (v.first ++ ev.x ∷ []) t ≡ (at equations t).first +ℚ over (value_at (v.first ++ ev.x ∷ [])) (at equations t).entries
-  first_at t (inl q) =
-      subst (λ (k : ℕ). value_at (v.first ++ ev.x ∷ []) k ≡ (at equations k).first +ℚ over (value_at (v.first ++ ev.x ∷ [])) (at equations k).entries) (sym q)
-      (solved_pivot s v.first ev.x solved.first_len (factor s (at equations s)) (at equations s).first e.pivot.first (without s (at equations s).entries) e.pivot.entries
-      below (others_down s (omega arith)) (pivot-down s equations e down is) is.pivot.entries is.pivot.first ev.first_is
-      ∙ ap (λ (o : ℚ). (at equations s).first +ℚ o) (sym (over-split (value_at (v.first ++ ev.x ∷ [])) s (at equations s).entries)))
-  first_at t (inr l) =
-      solved_rest s v.first ev.x solved.first_len t (factor s (at equations t)) (at equations t).first (at e.rest t).first e.pivot.first (without s (at equations t).entries) e.pivot.entries (at e.rest t).entries
-      l (others_down t (omega arith)) (pivot-down s equations e down is) (rest-down s equations e down is t l) (is.rest t l).entries (is.rest t l).first ev.first_is (solved.first t l)
-      ∙ ap (λ (o : ℚ). (at equations t).first +ℚ o) (sym (over-split (value_at (v.first ++ ev.x ∷ [])) s (at equations t).entries))
-
-  second_at : (t : ℕ) → (t ≡ s) ⊎ (t < s) → value_at (v.second ++ ev.y ∷ []) t ≡ (at equations t).second +ℚ over (value_at (v.second ++ ev.y ∷ [])) (at equations t).entries
-  second_at t (inl q) =
-      subst (λ (k : ℕ). value_at (v.second ++ ev.y ∷ []) k ≡ (at equations k).second +ℚ over (value_at (v.second ++ ev.y ∷ [])) (at equations k).entries) (sym q)
-      (solved_pivot s v.second ev.y solved.second_len (factor s (at equations s)) (at equations s).second e.pivot.second (without s (at equations s).entries) e.pivot.entries
-      below (others_down s (omega arith)) (pivot-down s equations e down is) is.pivot.entries is.pivot.second ev.second_is
-      ∙ ap (λ (o : ℚ). (at equations s).second +ℚ o) (sym (over-split (value_at (v.second ++ ev.y ∷ [])) s (at equations s).entries)))
-  second_at t (inr l) =
-      solved_rest s v.second ev.y solved.second_len t (factor s (at equations t)) (at equations t).second (at e.rest t).second e.pivot.second (without s (at equations t).entries) e.pivot.entries (at e.rest t).entries
-      l (others_down t (omega arith)) (pivot-down s equations e down is) (rest-down s equations e down is t l) (is.rest t l).entries (is.rest t l).second ev.second_is (solved.second t l)
-      ∙ ap (λ (o : ℚ). (at equations t).second +ℚ o) (sym (over-split (value_at (v.second ++ ev.y ∷ [])) s (at equations t).entries))
+  -- one column of both: the values below s, and that of s
+  module _ (constant : Equation → ℚ) (xs : List ℚ) (x : ℚ) (len : length xs ≡ s) (pivot_is : constant e.pivot ≡ constant (at equations s) *ℚ inv_ℚ (1ℚ -ℚ factor s (at equations s)))
+      (rest_is : (t : ℕ) → t < s → constant (at e.rest t) ≡ constant (at equations t) +ℚ factor s (at equations t) *ℚ constant e.pivot)
+      (x_is : x ≡ constant e.pivot +ℚ over (value_at xs) e.pivot.entries)
+      (solves : (t : ℕ) → t < s → value_at xs t ≡ constant (at e.rest t) +ℚ over (value_at xs) (at e.rest t).entries) where
+    column_at : (t : ℕ) → (t ≡ s) ⊎ (t < s) → value_at (xs ++ x ∷ []) t ≡ constant (at equations t) +ℚ over (value_at (xs ++ x ∷ [])) (at equations t).entries
+    column_at t (inl q) =
+        subst (λ (k : ℕ). value_at (xs ++ x ∷ []) k ≡ constant (at equations k) +ℚ over (value_at (xs ++ x ∷ [])) (at equations k).entries) (sym q)
+        (solved_pivot s xs x len (factor s (at equations s)) (constant (at equations s)) (constant e.pivot) (without s (at equations s).entries) e.pivot.entries
+        below (others_down s (omega arith)) (pivot-down s equations e down is) is.pivot.entries pivot_is x_is
+        ∙ ap (λ (o : ℚ). constant (at equations s) +ℚ o) (sym (over-split (value_at (xs ++ x ∷ [])) s (at equations s).entries)))
+    column_at t (inr l) =
+        solved_rest s xs x len t (factor s (at equations t)) (constant (at equations t)) (constant (at e.rest t)) (constant e.pivot)
+        (without s (at equations t).entries) e.pivot.entries (at e.rest t).entries
+        l (others_down t (omega arith)) (pivot-down s equations e down is) (rest-down s equations e down is t l) (is.rest t l).entries (rest_is t l) x_is (solves t l)
+        ∙ ap (λ (o : ℚ). constant (at equations t) +ℚ o) (sym (over-split (value_at (xs ++ x ∷ [])) s (at equations t).entries))
 
   solved_more : Solved (suc s) equations values
   solved_more = record {
     first_len = push_len v.first values.first ev.x s ev.first solved.first_len;
     second_len = push_len v.second values.second ev.y s ev.second solved.second_len;
-    first = λ t l. subst (λ (zs : List ℚ). value_at zs t ≡ (at equations t).first +ℚ over (value_at zs) (at equations t).entries) (sym ev.first) (first_at t (last_or s t l));
-    second = λ t l. subst (λ (zs : List ℚ). value_at zs t ≡ (at equations t).second +ℚ over (value_at zs) (at equations t).entries) (sym ev.second) (second_at t (last_or s t l));
+    first = λ t l. subst (λ (zs : List ℚ). value_at zs t ≡ (at equations t).first +ℚ over (value_at zs) (at equations t).entries) (sym ev.first)
+        (column_at (λ (a : Equation). a.first) v.first ev.x solved.first_len is.pivot.first (λ t l. (is.rest t l).first) ev.first_is solved.first t (last_or s t l));
+    second = λ t l. subst (λ (zs : List ℚ). value_at zs t ≡ (at equations t).second +ℚ over (value_at zs) (at equations t).entries) (sym ev.second)
+        (column_at (λ (a : Equation). a.second) v.second ev.y solved.second_len is.pivot.second (λ t l. (is.rest t l).second) ev.second_is solved.second t (last_or s t l));
   }
 
 -- the values that come out solve the system

@@ -186,35 +186,34 @@ module _ (rows : List (List Entry)) (active : List Bool) (size : length active �
 
     -- ---- the solution
 
-    module _ (values : Values) (solved : Solved (length rows) (system rows active columns) values) where
-      first_outside : (s : ℕ) → (length rows ≤ s) ⊎ (s < length rows) → is_active active s ≡ false → value_at values.first s ≡ 0ℚ
-      first_outside s (inl l) a = get_or-eq_default values.first 0ℚ (omega (arith, solved.first_len))
-      first_outside s (inr l) a = solved.first s l ∙ ap (λ (e : Equation). e.first +ℚ over (value_at values.first) e.entries) (at_inactive s a) ∙ ring rat_ring 0 (lit (pos 0) ⊕ lit (pos 0)) (lit (pos 0)) refl
+    -- one column: the constants of the active equations
+    module _ (i : ℕ) (constant : Equation → ℚ) (xs : List ℚ) (len : length xs ≡ length rows)
+        (solves : (s : ℕ) → s < length rows → value_at xs s ≡ constant (at (system rows active columns) s) +ℚ over (value_at xs) (at (system rows active columns) s).entries)
+        (is_column : (s : ℕ) → constant (let e : Equation = record { entries = inner active (row_of rows s); first = column_at columns 0 s; second = column_at columns 1 s } in e) ≡ column_at columns i s)
+        (is_none : constant no_equation ≡ 0ℚ) where
+      outside_by : (s : ℕ) → (length rows ≤ s) ⊎ (s < length rows) → is_active active s ≡ false → value_at xs s ≡ 0ℚ
+      outside_by s (inl l) a = get_or-eq_default xs 0ℚ (omega (arith, len))
+      outside_by s (inr l) a =
+          solves s l ∙ ap (λ (e : Equation). constant e +ℚ over (value_at xs) e.entries) (at_inactive s a)
+          ∙ ap (λ (o : ℚ). o +ℚ over (value_at xs) no_equation.entries) is_none ∙ ring rat_ring 0 (lit (pos 0) ⊕ lit (pos 0)) (lit (pos 0)) refl
 
-      second_outside : (s : ℕ) → (length rows ≤ s) ⊎ (s < length rows) → is_active active s ≡ false → value_at values.second s ≡ 0ℚ
-      second_outside s (inl l) a = get_or-eq_default values.second 0ℚ (omega (arith, solved.second_len))
-      second_outside s (inr l) a = solved.second s l ∙ ap (λ (e : Equation). e.second +ℚ over (value_at values.second) e.entries)
-          (at_inactive s a) ∙ ring rat_ring 0 (lit (pos 0) ⊕ lit (pos 0)) (lit (pos 0)) refl
-
-      pub first_solves : IsSolution rows active (get_or columns 0 []) values.first
-      first_solves = record {
-        len = solved.first_len;
+      column_solves : IsSolution rows active (get_or columns i []) xs
+      column_solves = record {
+        len = len;
         inside = λ s a.
-            solved.first s (active-below s a)
-            ∙ ap (λ (e : Equation). e.first +ℚ over (value_at values.first) e.entries) (at_active s a)
-            ∙ ap (λ (o : ℚ). column_at columns 0 s +ℚ o) (over-inner active (value_at values.first) (row_of rows s) (λ v f. first_outside v (le_or (length rows) v) f));
-        outside = λ s a. first_outside s (le_or (length rows) s) a;
+            solves s (active-below s a)
+            ∙ ap (λ (e : Equation). constant e +ℚ over (value_at xs) e.entries) (at_active s a)
+            ∙ ap (λ (o : ℚ). o +ℚ over (value_at xs) (inner active (row_of rows s))) (is_column s)
+            ∙ ap (λ (o : ℚ). column_at columns i s +ℚ o) (over-inner active (value_at xs) (row_of rows s) (λ v f. outside_by v (le_or (length rows) v) f));
+        outside = λ s a. outside_by s (le_or (length rows) s) a;
       }
+
+    module _ (values : Values) (solved : Solved (length rows) (system rows active columns) values) where
+      pub first_solves : IsSolution rows active (get_or columns 0 []) values.first
+      first_solves = column_solves 0 (λ (e : Equation). e.first) values.first solved.first_len solved.first (λ s. refl) refl
 
       pub second_solves : IsSolution rows active (get_or columns 1 []) values.second
-      second_solves = record {
-        len = solved.second_len;
-        inside = λ s a.
-            solved.second s (active-below s a)
-            ∙ ap (λ (e : Equation). e.second +ℚ over (value_at values.second) e.entries) (at_active s a)
-            ∙ ap (λ (o : ℚ). column_at columns 1 s +ℚ o) (over-inner active (value_at values.second) (row_of rows s) (λ v f. second_outside v (le_or (length rows) v) f));
-        outside = λ s a. second_outside s (le_or (length rows) s) a;
-      }
+      second_solves = column_solves 1 (λ (e : Equation). e.second) values.second solved.second_len solved.second (λ s. refl) refl
 
 -- ---- the chain
 

@@ -3,10 +3,8 @@ use Rattle.std.specs.Prelude.{ℕ, ◌+◌, ◌<◌, List, [], ◌∷◌, length
 use Rattle.std.specs.List.{All}
 use Rattle.mdp_elim.specs.Equation.{Equation, Values}
 use Rattle.mdp_elim.specs.Elimination.{evaluated, at_state, ◌and_then◌}
-use Rattle.mdp_elim.specs.declared.errors.ElimError as whole
-use Rattle.mdp_elim.specs.declared.errors.ElimError.TheVariants as whole_error
-use Rattle.mdp_elim.specs.declared.errors.StepError as step
-use Rattle.mdp_elim.specs.declared.errors.StepError.TheVariants as step_error
+use Rattle.mdp_elim.specs.Errors.{ElimError, StepError}
+use Rattle.mdp_wide.specs.declared.unfinished.Unfinished.TheVariants as error
 
 -- they are evaluated from the least state on
 abbrev pub finish : ℕ → List Equation → Result Values ℕ → Result Values ℕ
@@ -19,7 +17,7 @@ LeadDown m [] = Unit {0}
 LeadDown m (e ∷ done) = All (λ x. x.target < m + length done) e.entries × LeadDown m done
 
 -- an error of a step at state s
-abbrev pub placed : {A : Type 0} → ℕ → Result A step.StepError → Result A whole.ElimError
+abbrev pub placed : {A : Type 0} → ℕ → Result A StepError → Result A ElimError
 placed s (Ok x) = Ok x
-placed s (Err step_error.Wide) = Err (whole_error.Wide s)
-placed s (Err step_error.Memory) = Err whole_error.Memory
+placed s (Err (error.TooWide _)) = Err (error.TooWide s)
+placed s (Err error.Memory) = Err error.Memory

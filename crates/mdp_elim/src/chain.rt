@@ -10,6 +10,7 @@ use crate::equation::Equation;
 use crate::errors::ElimError;
 use mdp_num::Frac;
 use mdp_rows::{Marks, Row, RowsOf};
+use mdp_wide::Unfinished;
 use std::alloc::{AllocError, Global};
 
 /// A chain: one row per state. The value of a state that isn't active is 0. The ranks say how each active state leaves: by an entry to a state
@@ -115,8 +116,8 @@ pub fn solve_leaving<R: RowsOf>(
     requires some_columns { (length columns.now ≡ 1) ⊎ (length columns.now ≡ 2) }
     requires columns { All (λ c. length c.items ≡ length (R.rows rows.now)) columns.now }
     ensures value { IfOk result (λ xs. written_solution (R.rows rows.now) active.now (map (λ c. c.items) columns.now) ≡ Ok (map (λ x. x.items) xs.items)) }
-    ensures wide { (s : ℕ) → result ≡ Err (ElimError.Wide s) → written_solution (R.rows rows.now) active.now (map (λ c. c.items) columns.now) ≡ Err s }
-    ensures place { (s : ℕ) → result ≡ Err (ElimError.Wide s) → (s < length (R.rows rows.now)) × (is_active active.now s ≡ true) }
+    ensures wide { (s : ℕ) → result ≡ Err (Unfinished.TooWide s) → written_solution (R.rows rows.now) active.now (map (λ c. c.items) columns.now) ≡ Err s }
+    ensures place { (s : ℕ) → result ≡ Err (Unfinished.TooWide s) → (s < length (R.rows rows.now)) × (is_active active.now s ≡ true) }
     ensures solves { IfOk result (λ xs. SolveEach (R.rows rows.now) active.now (map (λ c. c.items) columns.now) (map (λ x. x.items) xs.items)) }
 {
     rows.known();
@@ -137,8 +138,8 @@ pub fn solve<R: RowsOf>(
     requires some_columns { (length columns.now ≡ 1) ⊎ (length columns.now ≡ 2) }
     requires columns { All (λ c. length c.items ≡ length (R.rows chain.now.rows.now)) columns.now }
     ensures value { IfOk result (λ xs. written_solution (R.rows chain.now.rows.now) chain.now.active.now (map (λ c. c.items) columns.now) ≡ Ok (map (λ x. x.items) xs.items)) }
-    ensures wide { (s : ℕ) → result ≡ Err (ElimError.Wide s) → written_solution (R.rows chain.now.rows.now) chain.now.active.now (map (λ c. c.items) columns.now) ≡ Err s }
-    ensures place { (s : ℕ) → result ≡ Err (ElimError.Wide s) → (s < length (R.rows chain.now.rows.now)) × (is_active chain.now.active.now s ≡ true) }
+    ensures wide { (s : ℕ) → result ≡ Err (Unfinished.TooWide s) → written_solution (R.rows chain.now.rows.now) chain.now.active.now (map (λ c. c.items) columns.now) ≡ Err s }
+    ensures place { (s : ℕ) → result ≡ Err (Unfinished.TooWide s) → (s < length (R.rows chain.now.rows.now)) × (is_active chain.now.active.now s ≡ true) }
     ensures solves { IfOk result (λ xs. SolveEach (R.rows chain.now.rows.now) chain.now.active.now (map (λ c. c.items) columns.now) (map (λ x. x.items) xs.items)) }
 {
     solve_leaving(alloc, chain.rows, chain.active, columns)

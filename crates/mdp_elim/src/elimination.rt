@@ -11,6 +11,7 @@ use crate::errors::{ElimError, StepError};
 use crate::predecessors::{States, list_new, predecessors};
 use bumpalo::Bump;
 use mdp_num::Frac;
+use mdp_wide::Unfinished;
 use std::alloc::Global;
 
 /// The equations of the states that aren't eliminated, and for each of these the smaller states with an entry to it.
@@ -34,7 +35,7 @@ impl System {
         requires state { t < s }
         ensures ok { OnOk result (IsPutAt s pivot.now t self.old.equations.items self.new.equations.items) }
         ensures linked { OnOk result (IsLinked s (s + 1) self.new.lists.items self.new.equations.items) }
-        ensures wide { result ≡ Err StepError.Wide → substituted s pivot.now (at self.old.equations.items t) ≡ None }
+        ensures wide { result ≡ Err (Unfinished.TooWide tt) → substituted s pivot.now (at self.old.equations.items t) ≡ None }
     {
         let equation = &mut self.equations[t as usize];
         list_new(&mut self.lists, t, equation.entries(), pivot.entries())?;
@@ -55,7 +56,7 @@ impl System {
         requires complete { (t : ℕ) → t < s → LeadsTo (at self.old.equations.items t).entries s → Contains states.now t }
         ensures ok { OnOk result (each (substituted s pivot.now) self.old.equations.items ≡ Some self.new.equations.items) }
         ensures linked { OnOk result (IsLinked s (s + 1) self.new.lists.items self.new.equations.items) }
-        ensures wide { result ≡ Err StepError.Wide → each (substituted s pivot.now) self.old.equations.items ≡ None }
+        ensures wide { result ≡ Err (Unfinished.TooWide tt) → each (substituted s pivot.now) self.old.equations.items ≡ None }
     {
         for t in states {
             self.substitute_at(alloc, pivot, s, *t)?;
@@ -74,7 +75,7 @@ impl System {
         requires pivot { entry_to s (at self.old.equations.items s).entries ≢ Some (of_int (pos 1)) }
         ensures ok { IfOk result (λ pivot. eliminated s self.old.equations.items ≡ Some (record { pivot = pivot; rest = self.new.equations.items })) }
         ensures linked { OnOk result (IsLinked s s self.new.lists.items self.new.equations.items) }
-        ensures wide { result ≡ Err StepError.Wide → eliminated s self.old.equations.items ≡ None }
+        ensures wide { result ≡ Err (Unfinished.TooWide tt) → eliminated s self.old.equations.items ≡ None }
     {
         let mut equation = self.equations.remove(s as usize);
         let states = self.lists.remove(s as usize);
@@ -91,7 +92,7 @@ pub(crate) fn placed<T>(step: Result<T, StepError>, state: u32) -> Result<T, Eli
 {
     match step {
         Ok(value) => Ok(value),
-        Err(StepError::Wide) => Err(ElimError::Wide { state }),
+        Err(StepError::TooWide(())) => Err(ElimError::TooWide(state)),
         Err(StepError::Memory) => Err(ElimError::Memory),
     }
 }
@@ -108,7 +109,7 @@ fn eliminate_all<'a>(
     ensures ok { IfOk result (λ done. solution (length equations.items) equations.items ≡ finish 0 done.items (Ok no_values)) }
     ensures down { IfOk result (λ done. LeadDown 0 done.items) }
     ensures count { IfOk result (λ done. length done.items ≡ length equations.items) }
-    ensures wide { (s : ℕ) → result ≡ Err (ElimError.Wide s) → solution (length equations.items) equations.items ≡ Err s }
+    ensures wide { (s : ℕ) → result ≡ Err (Unfinished.TooWide s) → solution (length equations.items) equations.items ≡ Err s }
 {
     let lists = predecessors(alloc, &equations)?;
     let mut s = equations.len() as u32;
@@ -135,7 +136,7 @@ fn evaluate_all(alloc: Global, solved: Vec<Solved<'_>>) -> Result<Values, ElimEr
     requires down { LeadDown 0 solved.items }
     ensures ok { IfOk result (λ v. finish 0 solved.entry.items (Ok no_values) ≡ Ok (record { first = v.first.items; second = v.second.items })) }
     ensures count { IfOk result (λ v. (length v.first.items ≡ length solved.entry.items) × (length v.second.items ≡ length solved.entry.items)) }
-    ensures wide { (s : ℕ) → result ≡ Err (ElimError.Wide s) → finish 0 solved.entry.items (Ok no_values) ≡ Err s }
+    ensures wide { (s : ℕ) → result ≡ Err (Unfinished.TooWide s) → finish 0 solved.entry.items (Ok no_values) ≡ Err s }
 {
     let mut waiting = solved;
     let mut first = Vec::new(alloc);
@@ -156,7 +157,7 @@ pub(crate) fn solve_system(alloc: Global, equations: Vec<Equation>) -> Result<Va
     requires can { CanEliminate (length equations.items) equations.items }
     ensures ok { IfOk result (λ v. solution (length equations.items) equations.items ≡ Ok (record { first = v.first.items; second = v.second.items })) }
     ensures count { IfOk result (λ v. (length v.first.items ≡ length equations.items) × (length v.second.items ≡ length equations.items)) }
-    ensures wide { (s : ℕ) → result ≡ Err (ElimError.Wide s) → solution (length equations.items) equations.items ≡ Err s }
+    ensures wide { (s : ℕ) → result ≡ Err (Unfinished.TooWide s) → solution (length equations.items) equations.items ≡ Err s }
 {
     let arena = Bump::new(alloc);
     let solved = eliminate_all(alloc, &arena, equations)?;

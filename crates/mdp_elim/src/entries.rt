@@ -8,6 +8,7 @@ ghost use Rattle.mdp_elim.specs.Entries.{Between, LeadsAt, reach, StartsNew, pla
 use crate::errors::StepError;
 use crate::sums::plus_times;
 use mdp_num::{Frac, Wide};
+use mdp_wide::Unfinished;
 use std::alloc::Global;
 use std::marker::Model;
 
@@ -170,7 +171,7 @@ fn merged(
 ) -> Result<Vec<Term>, StepError>
     requires { (high : ℕ) × Between 0 high source.now }
     ensures ok { IfOk result (λ sums. plus_row times.now source.now row.now ≡ Some sums.items) }
-    ensures wide { result ≡ Err StepError.Wide → plus_row times.now source.now row.now ≡ None }
+    ensures wide { result ≡ Err (Unfinished.TooWide tt) → plus_row times.now source.now row.now ≡ None }
 {
     let mut sums = Vec::new(alloc);
     sums.reserve(row.len() + source.len())?;
@@ -219,7 +220,7 @@ pub(crate) fn add_row(
     requires row { (high : ℕ) × Between 0 high row.old.items }
     requires source { (high : ℕ) × Between 0 high source.now }
     ensures ok { OnOk result (plus_row times.now source.now row.old.items ≡ Some row.new.items) }
-    ensures wide { result ≡ Err StepError.Wide → plus_row times.now source.now row.old.items ≡ None }
+    ensures wide { result ≡ Err (Unfinished.TooWide tt) → plus_row times.now source.now row.old.items ≡ None }
 {
     let left = add_known(row, times, source)?;
     if !left.is_empty() {

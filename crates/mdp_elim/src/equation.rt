@@ -10,6 +10,7 @@ use crate::errors::StepError;
 use crate::sums::{plus_times, quotient};
 use bumpalo::Bump;
 use mdp_num::{Frac, Wide};
+use mdp_wide::Unfinished;
 use std::alloc::{AllocError, AllocFailed, Global};
 use std::marker::Model;
 
@@ -65,7 +66,7 @@ impl Solved<'_> {
         requires { All (λ x. (x.target < length first.now) × (x.target < length second.now)) self.now.entries }
         ensures first { IfOk result (λ v. written_sum first.now self.now.first self.now.entries ≡ Some v.0) }
         ensures second { IfOk result (λ v. written_sum second.now self.now.second self.now.entries ≡ Some v.1) }
-        ensures wide { result ≡ Err StepError.Wide → evaluated self.now (record { first = first.now; second = second.now }) ≡ None }
+        ensures wide { result ≡ Err (Unfinished.TooWide tt) → evaluated self.now (record { first = first.now; second = second.now }) ≡ None }
     {
         let x = row_sum(self.entries, &self.first, first)?;
         let y = row_sum(self.entries, &self.second, second)?;
@@ -155,7 +156,7 @@ impl Equation {
         requires ascend { (high : ℕ) × Between 0 high self.old.entries }
         requires other { (high : ℕ) × Between 0 high other.now.entries }
         ensures ok { OnOk result (plus_equation times.now other.now self.old ≡ Some self.new) }
-        ensures wide { result ≡ Err StepError.Wide → plus_equation times.now other.now self.old ≡ None }
+        ensures wide { result ≡ Err (Unfinished.TooWide tt) → plus_equation times.now other.now self.old ≡ None }
     {
         add_row(alloc, &mut self.entries, times, other.entries)?;
         let first = plus_times(&self.first, times, &other.first)?;
@@ -175,7 +176,7 @@ impl Equation {
         requires below { Between 0 (s + 1) self.old.entries }
         requires pivot { Between 0 s pivot.now.entries }
         ensures ok { OnOk result (substituted s pivot.now self.old ≡ Some self.new) }
-        ensures wide { result ≡ Err StepError.Wide → substituted s pivot.now self.old ≡ None }
+        ensures wide { result ≡ Err (Unfinished.TooWide tt) → substituted s pivot.now self.old ≡ None }
     {
         match take_entry(&mut self.entries, s) {
             Some(times) => self.plus(alloc, &times, pivot),
@@ -193,7 +194,7 @@ pub(crate) fn evaluate(
     requires { All (λ x. (x.target < length first.old.items) × (x.target < length second.old.items)) equation.now.entries }
     ensures more { OnOk result ((length first.new.items ≡ length first.old.items + 1) × (length second.new.items ≡ length second.old.items + 1)) }
     ensures ok { OnOk result (evaluated equation.now (record { first = first.old.items; second = second.old.items }) ≡ Some (record { first = first.new.items; second = second.new.items })) }
-    ensures wide { result ≡ Err StepError.Wide → evaluated equation.now (record { first = first.old.items; second = second.old.items }) ≡ None }
+    ensures wide { result ≡ Err (Unfinished.TooWide tt) → evaluated equation.now (record { first = first.old.items; second = second.old.items }) ≡ None }
 {
     let (x, y) = equation.sums(first, second)?;
     first.push(x)?;

@@ -18,6 +18,7 @@ use crate::equation::Equation;
 use crate::errors::ElimError;
 use mdp_num::Frac;
 use mdp_rows::{Marks, RowsOf};
+use mdp_wide::Unfinished;
 use std::alloc::{AllocError, Global};
 use std::marker::Model;
 
@@ -50,7 +51,7 @@ fn put_in(
     requires below { Between 0 (length solved.now) equation.old.entries }
     ensures ok { OnOk result (put_in solved.now (suc low) (length solved.now - suc low) equation.old ≡ Some equation.new) }
     ensures below { OnOk result (Between 0 (low + 1) equation.new.entries) }
-    ensures wide { (s : ℕ) → result ≡ Err (ElimError.Wide s) → StopsAbove solved.now low equation.old s }
+    ensures wide { (s : ℕ) → result ≡ Err (Unfinished.TooWide s) → StopsAbove solved.now low equation.old s }
 {
     while let Some(s) = greatest_above(equation.entries(), low) {
         placed(equation.substitute(alloc, &solved[s as usize].lent(), s), s)?;
@@ -70,12 +71,12 @@ fn solve_row(
     requires below { Between 0 (length solved.old) equation.entries }
     requires can { (sum : spec.Equation) → put_in solved.old (suc t) (length solved.old - suc t) equation ≡ Some sum → entry_to t sum.entries ≢ Some (of_int (pos 1)) }
     ensures ok { OnOk result (IsTried solved.old solved.new t equation None None) }
-    ensures wide { (s : ℕ) → result ≡ Err (ElimError.Wide s) → IsTried solved.old solved.new t equation None (Some s) }
+    ensures wide { (s : ℕ) → result ≡ Err (Unfinished.TooWide s) → IsTried solved.old solved.new t equation None (Some s) }
 {
     let mut equation = equation;
     put_in(alloc, solved, &mut equation, t)?;
     if equation.divide(t).is_err() {
-        return Err(ElimError::Wide { state: t });
+        return Err(ElimError::TooWide(t));
     }
     solved[t as usize] = equation;
     Ok(())
@@ -104,7 +105,7 @@ fn solve_state(
     };
     match step {
         Ok(()) => Ok(wide),
-        Err(ElimError::Wide { state }) => Ok(Some(state)),
+        Err(ElimError::TooWide(state)) => Ok(Some(state)),
         Err(ElimError::Memory) => Err(AllocError),
     }
 }
@@ -128,7 +129,7 @@ fn solve_states<R: RowsOf>(
     requires others { StaySolved states.now (system (R.rows rows.now) active.now (map (λ c. c.items) columns.now)) solved.old }
     ensures ok { OnOk result (AreSolved (system (R.rows rows.now) active.now (map (λ c. c.items) columns.now)) solved.new) }
     ensures others { OnOk result ((u : ℕ) → is_among u states.now ≡ false → at solved.new u ≡ at solved.old u) }
-    ensures wide { (s : ℕ) → result ≡ Err (ElimError.Wide s) → solution (length (R.rows rows.now)) (system (R.rows rows.now) active.now (map (λ c. c.items) columns.now)) ≡ Err s }
+    ensures wide { (s : ℕ) → result ≡ Err (Unfinished.TooWide s) → solution (length (R.rows rows.now)) (system (R.rows rows.now) active.now (map (λ c. c.items) columns.now)) ≡ Err s }
 {
     rows.known();
     let mut wide = None;
@@ -139,7 +140,7 @@ fn solve_states<R: RowsOf>(
         wide = solve_state(alloc, solved, equation, states[i], wide)?;
     }
     match wide {
-        Some(state) => Err(ElimError::Wide { state }),
+        Some(state) => Err(ElimError::TooWide(state)),
         None => Ok(()),
     }
 }
@@ -163,7 +164,7 @@ fn evaluate_states(
     ensures second { OnOk result (AreValues (λ e. e.second) solved.now second.new) }
     ensures others { OnOk result ((s : ℕ) → is_among s states.now ≡ false → value_at first.new s ≡ value_at first.old s) }
     ensures ok { OnOk result (values_by solved.now (length solved.now) ≡ Ok (record { first = first.new; second = second.new })) }
-    ensures wide { (s : ℕ) → result ≡ Err (ElimError.Wide s) → values_by solved.now (length solved.now) ≡ Err s }
+    ensures wide { (s : ℕ) → result ≡ Err (Unfinished.TooWide s) → values_by solved.now (length solved.now) ≡ Err s }
 {
     for t in states {
         let (x, y) = placed(solved[*t as usize].lent().sums(first, second), *t)?;
@@ -218,7 +219,7 @@ impl Kept {
         ensures kept { OnOk result (IsKept (system (R.rows rows.now) active.now (map (λ c. c.items) columns.now)) self.new) }
         ensures value { OnOk result (solution (length (R.rows rows.now)) (system (R.rows rows.now) active.now (map (λ c. c.items) columns.now)) ≡ Ok (record { first = self.new.first; second = self.new.second })) }
         ensures others { OnOk result ((s : ℕ) → is_among s states.now ≡ false → value_at self.new.first s ≡ value_at self.old.first s) }
-        ensures wide { (s : ℕ) → result ≡ Err (ElimError.Wide s) → solution (length (R.rows rows.now)) (system (R.rows rows.now) active.now (map (λ c. c.items) columns.now)) ≡ Err s }
+        ensures wide { (s : ℕ) → result ≡ Err (Unfinished.TooWide s) → solution (length (R.rows rows.now)) (system (R.rows rows.now) active.now (map (λ c. c.items) columns.now)) ≡ Err s }
     {
         rows.known();
         solve_states(alloc, rows, active, columns, states, &mut self.solved)?;

@@ -12,6 +12,7 @@ use crate::equation::Equation;
 use crate::errors::ElimError;
 use mdp_num::Frac;
 use mdp_rows::{Marks, Row, RowsOf};
+use mdp_wide::Unfinished;
 use std::alloc::{AllocError, Global};
 
 /// 1 at the start, 0 at any other state.
@@ -90,8 +91,8 @@ pub fn visits<R: RowsOf>(
     requires leaves { Leaves (R.rows chain.now.rows.now) chain.now.active.now chain.now.ranks.now }
     requires start { is_active chain.now.active.now start ≡ true }
     ensures value { IfOk result (λ y. written_visits (R.rows chain.now.rows.now) chain.now.active.now start ≡ Ok y.items) }
-    ensures wide { (s : ℕ) → result ≡ Err (ElimError.Wide s) → written_visits (R.rows chain.now.rows.now) chain.now.active.now start ≡ Err s }
-    ensures place { (s : ℕ) → result ≡ Err (ElimError.Wide s) → (s < length (R.rows chain.now.rows.now)) × (is_active chain.now.active.now s ≡ true) }
+    ensures wide { (s : ℕ) → result ≡ Err (Unfinished.TooWide s) → written_visits (R.rows chain.now.rows.now) chain.now.active.now start ≡ Err s }
+    ensures place { (s : ℕ) → result ≡ Err (Unfinished.TooWide s) → (s < length (R.rows chain.now.rows.now)) × (is_active chain.now.active.now s ≡ true) }
     ensures solves { IfOk result (λ y. AreVisits (R.rows chain.now.rows.now) chain.now.active.now start y.items) }
 {
     chain.rows.known();

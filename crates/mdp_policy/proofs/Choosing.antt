@@ -1,6 +1,5 @@
 -- What the choice that is taken at a state says in exact numbers, and what it says where none is taken.
-use Rattle.std.proofs.Common.{◌≡◌, ℕ, suc, ◌<◌, inl, inr, Bool, true, false, if◌then◌else◌, List, length, Option, Some, None, Result, Ok, refl, ◌∙◌, sym, ap, subst, arith, Ordering}
-use Rattle.std.specs.declared.cmp.Ordering.TheVariants.{Less, Equal, Greater}
+use Rattle.std.proofs.Common.{◌≡◌, ℕ, suc, ◌<◌, inl, inr, Bool, true, false, if◌then◌else◌, List, length, Option, Some, None, Result, Ok, refl, ◌∙◌, sym, ap, subst, arith}
 use Rattle.std.specs.Option.{is_some}
 use Rattle.mdp_math.specs.Rational.{ℚ}
 use Rattle.mdp_math.specs.Result.{◌>>=◌}
@@ -8,24 +7,25 @@ use Rattle.mdp_math.specs.Written.{written_compare, cmp_ℚ}
 use Rattle.mdp_math.proofs.Laws.{zero-+ℚ}
 use Rattle.mdp_math.proofs.Numbers.{last_or}
 use Rattle.mdp_math.proofs.Options.{Some_same, step_told}
-use Rattle.mdp_math.proofs.Order.{0ℚ, ≤ℚ_trans, ≤ℚ_of_lt, ≤ℚ_of_eq, ≤ℚ-<ℚ_trans, lt_of_cmp, eq_of_cmp, gt_of_cmp}
+use Rattle.mdp_math.proofs.Order.{0ℚ, ≤ℚ_trans, ≤ℚ_of_lt, ≤ℚ_of_eq, ≤ℚ-<ℚ_trans}
 use Rattle.mdp_math.proofs.Written.{written_compare-some}
 use Rattle.mdp_spec.specs.Mdp.{Mdp, states_of, choices_at, row_at, value_at}
 use Rattle.mdp_spec.specs.Row.{row_sum}
 use Rattle.mdp_spec.specs.Tree.{is_marked}
 use Rattle.mdp_rows.specs.declared.dir.Dir.{Dir}
 use Rattle.mdp_rows.specs.declared.dir.Dir.TheVariants.{Max, Min}
-use Rattle.mdp_rows.specs.Better.{is_better}
+use Rattle.mdp_rows.specs.Better.{is_better, IsBetter}
 use Rattle.mdp_policy_iteration.specs.Candidates.{Best, judged}
 use Rattle.mdp_policy_iteration.specs.Path.{comparing}
 use Rattle.mdp_policy_iteration.specs.Places.{Place}
+use Rattle.mdp_policy_iteration.proofs.Turned.{better_by, worse_by}
 use Rattle.mdp_policy_iteration.proofs.Results.{ok_same, ok_part, place_part}
 use Rattle.mdp_farkas.proofs.Summing.{written_sum-some}
 use Rattle.mdp_policy.specs.Choices.{sum_of_choice, compared}
 use Rattle.mdp_policy.specs.Written.{next_choice, own, best_of, taken_at, change_at, next_state, first_change}
 use Rattle.mdp_policy.specs.declared.value.Change.{Change}
 use Rattle.mdp_policy.proofs.Turns.{in_turn-keeps, in_turn-kept, in_turn-more}
-use Rattle.mdp_policy.proofs.Values.{NoBetter, Better, IsBetterChoice}
+use Rattle.mdp_policy.proofs.Values.{NoBetter, IsBetterChoice}
 
 -- ---- better and no better
 
@@ -34,37 +34,21 @@ no_better_of_eq Max x y e = ≤ℚ_of_eq x y e
 no_better_of_eq Min x y e = ≤ℚ_of_eq y x (sym e)
 
 -- x is no better than y, of which z is better
-no_better_then : (dir : Dir) (x y z : ℚ) → NoBetter dir x y → Better dir z y → NoBetter dir x z
+no_better_then : (dir : Dir) (x y z : ℚ) → NoBetter dir x y → IsBetter dir z y → NoBetter dir x z
 no_better_then Max x y z p q = ≤ℚ_trans x y z p (≤ℚ_of_lt y z q)
 no_better_then Min x y z p q = ≤ℚ_trans z y x (≤ℚ_of_lt z y q) p
 
 -- z is better than y, which is better than x
-better_then : (dir : Dir) (x y z : ℚ) → Better dir y x → Better dir z y → Better dir z x
+better_then : (dir : Dir) (x y z : ℚ) → IsBetter dir y x → IsBetter dir z y → IsBetter dir z x
 better_then Max x y z p q = ≤ℚ-<ℚ_trans x y z (≤ℚ_of_lt x y p) q
 better_then Min x y z p q = ≤ℚ-<ℚ_trans z y x (≤ℚ_of_lt z y q) p
-
-better_by : (dir : Dir) (x y : ℚ) (o : Ordering) → cmp_ℚ x y ≡ o → is_better dir o ≡ true → Better dir x y
-better_by Max x y Less e h = cc
-better_by Max x y Equal e h = cc
-better_by Max x y Greater e h = gt_of_cmp x y e
-better_by Min x y Less e h = lt_of_cmp x y e
-better_by Min x y Equal e h = cc
-better_by Min x y Greater e h = cc
-
-worse_by : (dir : Dir) (x y : ℚ) (o : Ordering) → cmp_ℚ x y ≡ o → is_better dir o ≡ false → NoBetter dir x y
-worse_by Max x y Less e h = ≤ℚ_of_lt x y (lt_of_cmp x y e)
-worse_by Max x y Equal e h = ≤ℚ_of_eq x y (eq_of_cmp x y e)
-worse_by Max x y Greater e h = cc
-worse_by Min x y Less e h = cc
-worse_by Min x y Equal e h = ≤ℚ_of_eq y x (sym (eq_of_cmp x y e))
-worse_by Min x y Greater e h = ≤ℚ_of_lt y x (gt_of_cmp x y e)
 
 -- ---- a state
 
 -- whether a choice is taken: a better one, or the state's own value still leads
 abbrev IsLed : Dir → Mdp → List ℚ → ℕ → ℕ → ℚ → Option ℕ → Type 0
 IsLed dir m x s k v None = v ≡ value_at x s
-IsLed dir m x s k v (Some c) = (c < k) × (v ≡ row_sum (row_at m s c) x) × Better dir v (value_at x s)
+IsLed dir m x s k v (Some c) = (c < k) × (v ≡ row_sum (row_at m s c) x) × IsBetter dir v (value_at x s)
 
 -- of the first k choices none is better than the best value so far
 record IsBestOf (dir : Dir) (m : Mdp) (x : List ℚ) (s k : ℕ) (b : Best) : Type 0 where
@@ -75,8 +59,8 @@ led_longer : (dir : Dir) (m : Mdp) (x : List ℚ) (s k : ℕ) (v : ℚ) (o : Opt
 led_longer dir m x s k v None h = h
 led_longer dir m x s k v (Some c) h = (omega (arith, h.0), h.1, h.2)
 
-led_better : (dir : Dir) (m : Mdp) (x : List ℚ) (s k : ℕ) (v w : ℚ) (o : Option ℕ) → IsLed dir m x s k v o → Better dir w v → Better dir w (value_at x s)
-led_better dir m x s k v w None h b = subst (λ (y : ℚ). Better dir w y) h b
+led_better : (dir : Dir) (m : Mdp) (x : List ℚ) (s k : ℕ) (v w : ℚ) (o : Option ℕ) → IsLed dir m x s k v o → IsBetter dir w v → IsBetter dir w (value_at x s)
+led_better dir m x s k v w None h b = subst (λ (y : ℚ). IsBetter dir w y) h b
 led_better dir m x s k v w (Some c) h b = better_then dir (value_at x s) v w h.2 b
 
 module _ (dir : Dir) (m : Mdp) (x : List ℚ) (s : ℕ) where
@@ -94,7 +78,7 @@ module _ (dir : Dir) (m : Mdp) (x : List ℚ) (s : ℕ) where
   judged_by : (k : ℕ) (b after : Best) (v : ℚ) (t : Bool) → IsBestOf dir m x s k b → v ≡ row_sum (row_at m s k) x → is_better dir (cmp_ℚ v b.value) ≡ t
       → (if t then (let w : Best = record { value = v; choice = Some k } in w) else b) ≡ after → IsBestOf dir m x s (suc k) after
   judged_by k b after v true h e test made =
-      let better : Better dir v b.value = better_by dir v b.value (cmp_ℚ v b.value) refl test in
+      let better : IsBetter dir v b.value = better_by dir v b.value (cmp_ℚ v b.value) refl test in
       subst (IsBestOf dir m x s (suc k)) made (record {
         led = (omega arith, e, led_better dir m x s k b.value v b.choice h.led better);
         covers = more_covered k v (λ c l. no_better_then dir _ b.value v (h.covers c l) better) (no_better_of_eq dir _ _ (sym e));
@@ -129,12 +113,12 @@ module _ (dir : Dir) (m : Mdp) (goals : List Bool) (x : List ℚ) where
   -- what is taken at one state
   abbrev TakenSo : ℕ → Option ℕ → Type 0
   TakenSo s None = is_marked goals s ≡ false → (c : ℕ) → c < length (choices_at m s) → NoBetter dir (row_sum (row_at m s c) x) (value_at x s)
-  TakenSo s (Some c) = (is_marked goals s ≡ false) × (c < length (choices_at m s)) × Better dir (row_sum (row_at m s c) x) (value_at x s)
+  TakenSo s (Some c) = (is_marked goals s ≡ false) × (c < length (choices_at m s)) × IsBetter dir (row_sum (row_at m s c) x) (value_at x s)
 
   led_taken : (s : ℕ) (v : ℚ) (o : Option ℕ) → is_marked goals s ≡ false → IsLed dir m x s (length (choices_at m s)) v o
       → ((c : ℕ) → c < length (choices_at m s) → NoBetter dir (row_sum (row_at m s c) x) v) → TakenSo s o
   led_taken s v None g led covers = λ _ c l. subst (λ (y : ℚ). NoBetter dir (row_sum (row_at m s c) x) y) led (covers c l)
-  led_taken s v (Some c) g led covers = (g, led.0, subst (λ (y : ℚ). Better dir y (value_at x s)) led.1 led.2)
+  led_taken s v (Some c) g led covers = (g, led.0, subst (λ (y : ℚ). IsBetter dir y (value_at x s)) led.1 led.2)
 
   taken_by : (s : ℕ) (g : Bool) (choice : Option ℕ) → is_marked goals s ≡ g
       → (let r : Result (Option ℕ) Place = if g then Ok None else (best_of dir m x s (length (choices_at m s)) >>= (λ best. Ok best.choice)) in r) ≡ Ok choice → TakenSo s choice

@@ -6,12 +6,11 @@ use Rattle.std.specs.Prelude.{slice_index, slice_index_or, ◌&&◌}
 use Rattle.std.proofs.Math.ListN.{get_or-eq_default}
 use Rattle.std.proofs.lemmas.List.FromFn.{get_or-map-range_with_len, length-map-range_with_len}
 use Rattle.std.proofs.lemmas.List.{get_or_default}
-use Rattle.mdp_math.specs.Rational.{ℚ, ◌+ℚ◌, ◌*ℚ◌}
+use Rattle.mdp_math.specs.Rational.{ℚ, ◌+ℚ◌}
 use Rattle.mdp_math.proofs.Booleans.{false_of_not}
 use Rattle.mdp_math.proofs.Numbers.{le_or}
-use Rattle.mdp_math.proofs.Ring.{◌⊕◌, ◌⊗◌, ⊖, lit, ring}
+use Rattle.mdp_math.proofs.Ring.{◌⊕◌, lit, ring}
 use Rattle.mdp_math.proofs.Laws.{rat_ring}
-use Rattle.mdp_math.proofs.Linear.{combine, equal}
 use Rattle.mdp_math.proofs.Order.{0ℚ, 1ℚ}
 use Rattle.mdp_math.proofs.Kernel.{weigh-same, weigh-add}
 use Rattle.mdp_spec.specs.Mdp.{Entry, Mdp, states_of, row_at, value_at}
@@ -28,6 +27,7 @@ use Rattle.mdp_graph.specs.Laws.{RowsFall, RowsStay}
 use Rattle.mdp_policy_iteration.specs.Path.{outer, evaluating, placed}
 use Rattle.mdp_policy_iteration.specs.Places.{Place, up_to}
 use Rattle.mdp_policy_iteration.proofs.Compares.{written_sum-is}
+use Rattle.mdp_policy_iteration.proofs.Exact.{outer-same}
 use Rattle.mdp_policy_iteration.proofs.Results.{ok_same, ok_part, place_part, IsUpTo, up_to-is}
 use Rattle.mdp_reach.specs.Query.{policy_rows, AreMaxRanks}
 use Rattle.mdp_reach.proofs.Rows.{row-known, goal-along, row-falls, row-stays}
@@ -50,20 +50,6 @@ along_ranks m goals policy marks ranks reached least = record {
   reached = subst (λ (k : ℕ). AreReached (row_step (policy_rows m policy)) (is_marked goals) k marks) (policy_rows-len m policy) reached;
   least = subst (λ (k : ℕ). AreLeastRanks (row_step (policy_rows m policy)) (is_marked goals) k marks ranks) (policy_rows-len m policy) least;
 }
-
--- ---- the entries to states that aren't active weigh as much as all, where the values are 0 at active ones
-
-module _ (active : List Bool) (z : List ℚ) (zero_at : (s : ℕ) → is_active active s ≡ true → value_at z s ≡ 0ℚ) where
-  outer_by : (y : Entry) (row : List Entry) (b : Bool) → is_active active y.target ≡ b → row_sum (outer active row) z ≡ row_sum row z
-      → row_sum (if not b then y ∷ outer active row else outer active row) z ≡ row_sum (y ∷ row) z
-  outer_by y row false e h = ap (λ (o : ℚ). y.prob *ℚ value_at z y.target +ℚ o) h
-  outer_by y row true e h =
-      combine 4 (λ i o p k. i) (λ i o p k. p ⊗ k ⊕ o) (λ i o p k. equal (lit (pos 1)) i o ∷ equal (⊖ p) k (lit (pos 0)) ∷ []) refl (row_sum (outer active row) z) (row_sum row z) y.prob
-      (value_at z y.target) h (zero_at y.target e)
-
-  outer-same : (row : List Entry) → row_sum (outer active row) z ≡ row_sum row z
-  outer-same [] = refl
-  outer-same (y ∷ row) = outer_by y row (is_active active y.target) refl (outer-same row)
 
 if_true : {A : Type 0} (b : Bool) (x y : A) → b ≡ true → (if b then x else y) ≡ x
 if_true b x y e = ap (λ (c : Bool). if c then x else y) e

@@ -6,7 +6,7 @@ use Rattle.mdp_policy_iteration.specs.Places.{Place}
 use Rattle.mdp_policy_iteration.proofs.Results.{ok_same, ok_part}
 use Rattle.mdp_policy.specs.Written.{in_turn}
 use Rattle.mdp_policy_iteration.specs.Faults.{Answers}
-use Rattle.mdp_policy_iteration.specs.declared.errors.RoundError.{RoundError}
+use Rattle.mdp_policy_iteration.specs.Errors.{RoundError}
 
 module _ {A R : Type 0} (f : ℕ → A → Result A R) (start : A) where
   -- one more

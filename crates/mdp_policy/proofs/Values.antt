@@ -27,6 +27,7 @@ use Rattle.mdp_spec.proofs.Above.{hit-le_by}
 use Rattle.mdp_spec.proofs.Close.{RowsShrink, deficit-le, deficit-fades}
 use Rattle.mdp_spec.proofs.Ranks.{shrinks_of_ranks}
 use Rattle.mdp_spec.proofs.Reach.{above_of_rules, all_three, third}
+use Rattle.mdp_rows.specs.Better.{IsBetter, IsAsGood}
 use Rattle.mdp_rows.specs.declared.dir.Dir.{Dir}
 use Rattle.mdp_rows.specs.declared.dir.Dir.TheVariants.{Max, Min}
 use Rattle.mdp_policy.specs.Bounds.{PolicyBound, SomeTreePasses, DeepTreesStayBelow}
@@ -58,19 +59,14 @@ pub record MeetsPolicyValue (m : Mdp) (goals : List Bool) (z : List ℚ) (policy
 
 -- x is no better than y; it is better
 abbrev pub NoBetter : Dir → ℚ → ℚ → Type 0
-NoBetter Max x y = x ≤ℚ y
-NoBetter Min x y = y ≤ℚ x
-
-abbrev pub Better : Dir → ℚ → ℚ → Type 0
-Better Max x y = y <ℚ x
-Better Min x y = x <ℚ y
+NoBetter dir x y = IsAsGood dir y x
 
 -- choice c at s, which is no goal, sums up to a better value than s has
 pub record IsBetterChoice (dir : Dir) (m : Mdp) (goals : List Bool) (z : List ℚ) (s c : ℕ) : Type 0 where
   pub state : s < states_of m
   pub no_goal : is_marked goals s ≡ false
   pub choice : c < length (choices_at m s)
-  pub better : Better dir (row_sum (row_at m s c) z) (value_at z s)
+  pub better : IsBetter dir (row_sum (row_at m s c) z) (value_at z s)
 
 -- no choice of a state that is no goal does
 abbrev pub NoneIsBetter : Dir → Mdp → List Bool → List ℚ → Type 0

@@ -4,15 +4,14 @@ use Rattle.mdp_spec.specs.Mdp.{Mdp, states_of}
 use Rattle.mdp_spec.specs.Tree.{is_marked}
 use Rattle.mdp_wide.specs.declared.too_wide.Part.TheVariants.{Whole}
 use Rattle.mdp_wide.specs.declared.too_wide.TooWide.{TooWide}
-use Rattle.mdp_wide.specs.declared.too_wide.SolveError.{SolveError}
-use Rattle.mdp_wide.specs.declared.too_wide.SolveError.TheVariants as solve
+use Rattle.mdp_wide.specs.Errors.{SolveError}
+use Rattle.mdp_wide.specs.declared.unfinished.Unfinished.TheVariants as error
 use Rattle.mdp_graph.specs.Layers.{AreReached}
 use Rattle.mdp_graph.specs.Reach.{row_step}
 use Rattle.mdp_policy_iteration.specs.Places.{Place}
 use Rattle.mdp_reach.specs.Query.{policy_rows}
 use Rattle.mdp_policy.specs.Written.{Answer, written_value}
-use Rattle.mdp_policy_iteration.specs.declared.errors.RoundError.{RoundError}
-use Rattle.mdp_policy_iteration.specs.declared.errors.RoundError.TheVariants as error
+use Rattle.mdp_policy_iteration.specs.Errors.{RoundError}
 use Rattle.mdp_policy.specs.declared.value.PolicyValue.{PolicyValue}
 
 abbrev pub plain : PolicyValue → Answer
@@ -39,12 +38,12 @@ pub record IsTermAt (policy : List ℕ) (place : Place) (w : TooWide) : Type 0 w
 -- what is answered: the value, the first term past width, or want of memory
 abbrev pub Gives : Mdp → List Bool → List ℕ → Result PolicyValue SolveError → Type 0
 Gives m goals policy (Ok v) = IsValueOf m goals policy (Ok (plain v))
-Gives m goals policy (Err (solve.TooWide w)) = (place : Place) × IsTermAt policy place w × IsValueOf m goals policy (Err place)
-Gives m goals policy (Err solve.Memory) = Unit {0}
+Gives m goals policy (Err (error.TooWide w)) = (place : Place) × IsTermAt policy place w × IsValueOf m goals policy (Err place)
+Gives m goals policy (Err error.Memory) = Unit {0}
 
 -- the error of a place as that of a query
 abbrev pub Named : List ℕ → RoundError → SolveError → Type 0
-Named policy (error.Wide kind s c) (solve.TooWide w) = IsTermAt policy (record { kind = kind; node = s; choice = c }) w
-Named policy (error.Wide kind s c) solve.Memory = Unit {0}
-Named policy error.Memory (solve.TooWide w) = ⊥
-Named policy error.Memory solve.Memory = Unit {0}
+Named policy (error.TooWide place) (error.TooWide w) = IsTermAt policy place w
+Named policy (error.TooWide place) error.Memory = Unit {0}
+Named policy error.Memory (error.TooWide w) = ⊥
+Named policy error.Memory error.Memory = Unit {0}

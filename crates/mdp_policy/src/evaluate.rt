@@ -10,7 +10,7 @@ ghost use Rattle.mdp_policy_iteration.specs.Faults.{Answers};
 
 use mdp_elim::{ElimError, solve_leaving};
 use mdp_num::{Frac, Wide};
-use mdp_policy_iteration::{RoundError, at_node, outer_sum};
+use mdp_policy_iteration::{NodePlace, RoundError, at_node, outer_sum};
 use mdp_rows::{Marks, Model, PolicyRows};
 use mdp_wide::Kind;
 use std::alloc::{AllocError, Global};
@@ -147,11 +147,11 @@ impl Evaluation<'_, '_> {
                 let mut solutions = solutions;
                 Ok(solutions.remove(0))
             }
-            Err(ElimError::Wide { state }) => Err(RoundError::Wide {
+            Err(ElimError::TooWide(state)) => Err(RoundError::TooWide(NodePlace {
                 kind: Kind::Evaluate,
                 node: state,
                 choice: self.policy[state as usize],
-            }),
+            })),
             Err(ElimError::Memory) => Err(RoundError::Memory),
         }
     }

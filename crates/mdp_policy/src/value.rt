@@ -14,7 +14,7 @@ use crate::evaluate::Evaluation;
 use mdp_elim::solution_law;
 use mdp_graph::{along, along_law};
 use mdp_num::Frac;
-use mdp_policy_iteration::RoundError;
+use mdp_policy_iteration::{NodePlace, RoundError};
 use mdp_rows::{Dir, Marks, Model, PolicyRows};
 use mdp_wide::{Part, SolveError, TooWide};
 use std::alloc::Global;
@@ -38,7 +38,7 @@ pub struct PolicyValue {
 fn named(alloc: Global, error: RoundError, policy: &[u32]) -> SolveError
     ensures { Named policy.now error result }
 {
-    let RoundError::Wide { kind, node, choice } = error else {
+    let RoundError::TooWide(NodePlace { kind, node, choice }) = error else {
         return SolveError::Memory;
     };
     match policy.to_vec(alloc) {

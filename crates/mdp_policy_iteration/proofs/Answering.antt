@@ -12,8 +12,8 @@ use Rattle.mdp_num.specs.declared.errors.Wide.{Wide}
 use Rattle.mdp_wide.specs.declared.too_wide.Kind.{Kind}
 use Rattle.mdp_policy_iteration.specs.Places.{Place, at_place, up_to}
 use Rattle.mdp_policy_iteration.specs.Faults.{placed_at, Says, Answers}
-use Rattle.mdp_policy_iteration.specs.declared.errors.RoundError.{RoundError}
-use Rattle.mdp_policy_iteration.specs.declared.errors.RoundError.TheVariants as fault
+use Rattle.mdp_policy_iteration.specs.Errors.{RoundError}
+use Rattle.mdp_wide.specs.declared.unfinished.Unfinished.TheVariants as fault
 
 module _ {A R : Type 0} (f : ℕ → Result A R) where
   abbrev after_next : ℕ → Result (List A) R → Result (List A) R
@@ -42,7 +42,7 @@ module _ {A R : Type 0} (f : ℕ → Result A R) where
 pub record IsPlaced {A : Type 0} (kind : Kind) (s c : ℕ) (step : Result A Wide) (e : RoundError) : Type 0 where
   pub cause : Wide
   pub step_is : step ≡ Err cause
-  pub error_is : e ≡ fault.Wide kind s c
+  pub error_is : e ≡ fault.TooWide (record { kind = kind; node = s; choice = c })
 
 pub placed-err : {A : Type 0} (kind : Kind) (s c : ℕ) (step : Result A Wide) (e : RoundError) → placed_at kind s c step ≡ Err e → IsPlaced kind s c step e
 placed-err kind s c (Ok x) e h = cc
@@ -60,7 +60,7 @@ pub at_place-err : {A R : Type 0} (r : R) (o : Option A) → o ≡ None → at_p
 at_place-err r o e = ap (at_place r) e
 
 -- a placed error says so
-pub says : {B : Type 0} (kind : Kind) (s c : ℕ) (e : RoundError) (r : Result B Place) → e ≡ fault.Wide kind s c → r ≡ Err (let w : Place = record { kind = kind; node = s; choice = c } in w)
+pub says : {B : Type 0} (kind : Kind) (s c : ℕ) (e : RoundError) (r : Result B Place) → e ≡ fault.TooWide (record { kind = kind; node = s; choice = c }) → r ≡ Err (record { kind = kind; node = s; choice = c })
     → Says e r
 says kind s c e r q h = subst (λ (e : RoundError). Says e r) (sym q) h
 
@@ -69,7 +69,7 @@ says_memory e r q = subst (λ (e : RoundError). Says e r) (sym q) tt
 
 -- what a computation is refused at, another one that begins with it is refused at
 pub Says-then : {A B : Type 0} (e : RoundError) (r : Result A Place) (q : Result B Place) → ((w : Place) → r ≡ Err w → q ≡ Err w) → Says e r → Says e q
-Says-then (fault.Wide kind s c) r q h k = h (record { kind = kind; node = s; choice = c }) k
+Says-then (fault.TooWide place) r q h k = h place k
 Says-then fault.Memory r q h k = tt
 
 -- ---- the constant of a node, from what was computed

@@ -38,7 +38,7 @@ module _ (active : List Bool) (z : List ℚ) (zero_at : (s : ℕ) → is_active 
       combine 4 (λ i o p k. i) (λ i o p k. p ⊗ k ⊕ o) (λ i o p k. equal (lit (pos 1)) i o ∷ equal (⊖ p) k (lit (pos 0)) ∷ []) refl (row_sum (outer active row) z) (row_sum row z) y.prob
       (value_at z y.target) h (zero_at y.target e)
 
-  outer-same : (row : List Entry) → row_sum (outer active row) z ≡ row_sum row z
+  pub outer-same : (row : List Entry) → row_sum (outer active row) z ≡ row_sum row z
   outer-same [] = refl
   outer-same (y ∷ row) = outer_by y row (is_active active y.target) refl (outer-same row)
 

@@ -18,8 +18,8 @@ use Rattle.mdp_policy_iteration.specs.Path.{placed, filled_by, filled, written_v
 use Rattle.mdp_policy_iteration.specs.Changes.{IsChangeOf, change_at, spread, step_by}
 use Rattle.mdp_policy_iteration.specs.Faults.{Says, Answers}
 use Rattle.mdp_policy_iteration.specs.Ends.{Makes}
-use Rattle.mdp_policy_iteration.specs.declared.errors.RoundError.{RoundError}
-use Rattle.mdp_policy_iteration.specs.declared.errors.RoundError.TheVariants as fault
+use Rattle.mdp_policy_iteration.specs.Errors.{RoundError}
+use Rattle.mdp_wide.specs.declared.unfinished.Unfinished.TheVariants as fault
 use Rattle.mdp_policy_iteration.proofs.Results.{ok_same, ok_part}
 
 module _ (p : Problem) (policy : List ℕ) where
@@ -35,7 +35,7 @@ module _ (p : Problem) (policy : List ℕ) where
 
   -- the values have a term past width
   pub makes_values : (n : ℕ) (y : List ℚ) (e : RoundError) → Says e (written_values p policy) → Makes n policy y (Err e) (path_step p (round n))
-  makes_values n y (fault.Wide kind s c) h = ap (after_evaluation p (round n)) h
+  makes_values n y (fault.TooWide place) h = ap (after_evaluation p (round n)) h
   makes_values n y fault.Memory h = tt
 
   module _ (x : List ℚ) (values : written_values p policy ≡ Ok x) where
@@ -44,7 +44,7 @@ module _ (p : Problem) (policy : List ℕ) where
 
     -- a comparison has one
     pub makes_choices : (n : ℕ) (y : List ℚ) (e : RoundError) → Says e (improvements p x) → Makes n policy y (Err e) (path_step p (round n))
-    makes_choices n y (fault.Wide kind s c) h = stepped n ∙ ap (after_comparison (round n) x) h
+    makes_choices n y (fault.TooWide place) h = stepped n ∙ ap (after_comparison (round n) x) h
     makes_choices n y fault.Memory h = tt
 
     abbrev made : ℕ → List (Option ℕ) → Bool → Step Round Found Refusal

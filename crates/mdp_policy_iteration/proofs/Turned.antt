@@ -58,7 +58,7 @@ as_good_turned Min x y h = linear 2 (λ x y. x) (λ x y. y) (λ x y. known (⊖ 
 
 -- ---- the test of the comparison
 
-better_by : (d : Dir) (x y : ℚ) (o : Ordering) → cmp_ℚ x y ≡ o → is_better d o ≡ true → IsBetter d x y
+pub better_by : (d : Dir) (x y : ℚ) (o : Ordering) → cmp_ℚ x y ≡ o → is_better d o ≡ true → IsBetter d x y
 better_by Max x y Less e h = cc
 better_by Max x y Equal e h = cc
 better_by Max x y Greater e h = gt_of_cmp x y e
@@ -66,7 +66,7 @@ better_by Min x y Less e h = lt_of_cmp x y e
 better_by Min x y Equal e h = cc
 better_by Min x y Greater e h = cc
 
-worse_by : (d : Dir) (x y : ℚ) (o : Ordering) → cmp_ℚ x y ≡ o → is_better d o ≡ false → IsAsGood d y x
+pub worse_by : (d : Dir) (x y : ℚ) (o : Ordering) → cmp_ℚ x y ≡ o → is_better d o ≡ false → IsAsGood d y x
 worse_by Max x y Less e h = ≤ℚ_of_lt x y (lt_of_cmp x y e)
 worse_by Max x y Equal e h = ≤ℚ_of_eq x y (eq_of_cmp x y e)
 worse_by Max x y Greater e h = cc

@@ -4,14 +4,13 @@ use Rattle.mdp_math.specs.Rational.{ℚ}
 use Rattle.mdp_rows.specs.declared.preds.Pred.{Pred}
 use Rattle.mdp_policy_iteration.specs.Iteration.{next, done, EndsWith}
 use Rattle.mdp_policy_iteration.specs.Problem.{Problem}
-use Rattle.mdp_policy_iteration.specs.Places.{Place}
 use Rattle.mdp_policy_iteration.specs.Path.{Found, Refusal, improved, path_step}
 use Rattle.mdp_policy_iteration.specs.Changes.{spread, step_by}
 use Rattle.mdp_policy_iteration.specs.Ends.{Makes, Ends, path_error}
 use Rattle.mdp_policy_iteration.specs.Laws.{first}
 use Rattle.mdp_policy_iteration.proofs.Iterations.{ends-refused}
-use Rattle.mdp_policy_iteration.specs.declared.errors.RoundError.{RoundError}
-use Rattle.mdp_policy_iteration.specs.declared.errors.RoundError.TheVariants as fault
+use Rattle.mdp_policy_iteration.specs.Errors.{RoundError}
+use Rattle.mdp_wide.specs.declared.unfinished.Unfinished.TheVariants as fault
 
 -- where there are changes, the path goes on
 pub next_by : (n : ℕ) (policy : List ℕ) (values : List ℚ) (changes : List Pred) → changes ≢ []
@@ -34,12 +33,11 @@ module _ (p : Problem) (n : ℕ) (now policy : List ℕ) (values : List ℚ) (re
   pub ends_by : (start : List ℕ) (round : ℕ) (held : Vec ℕ Global) (e : RoundError) → held.items ≡ policy → round ≡ min n (2 ^ 64 - 1)
       → ((r : Result Found Refusal) → EndsWith (path_step p) (record { number = n; policy = policy }) r → EndsWith (path_step p) (first start) r) → result ≡ Err e
       → Ends p start (Err (path_error e round held))
-  ends_by start round held (fault.Wide kind s c) q m rest h =
-      let place : Place = record { kind = kind; node = s; choice = c } in (
-        n,
-        m,
-        subst (λ (policy : List ℕ). EndsWith (path_step p) (first start) (let e : Result Found Refusal = Err (record { number = n; policy = policy; place = place }) in e)) (sym q)
-            (rest (Err (record { number = n; policy = policy; place = place }))
-            (ends-refused (path_step p) (record { number = n; policy = policy }) (record { number = n; policy = policy; place = place }) (made_at (Err (fault.Wide kind s c)) h))),
-      )
+  ends_by start round held (fault.TooWide place) q m rest h = (
+    n,
+    m,
+    subst (λ (policy : List ℕ). EndsWith (path_step p) (first start) (let e : Result Found Refusal = Err (record { number = n; policy = policy; place = place }) in e)) (sym q)
+        (rest (Err (record { number = n; policy = policy; place = place }))
+        (ends-refused (path_step p) (record { number = n; policy = policy }) (record { number = n; policy = policy; place = place }) (made_at (Err (fault.TooWide place)) h))),
+  )
   ends_by start round held fault.Memory q m rest h = tt

@@ -3,17 +3,17 @@ use Rattle.std.specs.Prelude.{◌≡◌, ℕ, Result, Ok, Err}
 use Rattle.mdp_wide.specs.declared.too_wide.Kind.{Kind}
 use Rattle.mdp_num.specs.declared.errors.Wide.{Wide}
 use Rattle.mdp_policy_iteration.specs.Places.{Place}
-use Rattle.mdp_policy_iteration.specs.declared.errors.RoundError.{RoundError}
-use Rattle.mdp_policy_iteration.specs.declared.errors.RoundError.TheVariants as fault
+use Rattle.mdp_policy_iteration.specs.Errors.{RoundError}
+use Rattle.mdp_wide.specs.declared.unfinished.Unfinished.TheVariants as fault
 
 -- a step for a choice of a node
 abbrev pub placed_at : {A : Type 0} → Kind → ℕ → ℕ → Result A Wide → Result A RoundError
 placed_at kind s c (Ok x) = Ok x
-placed_at kind s c (Err e) = Err (fault.Wide kind s c)
+placed_at kind s c (Err e) = Err (fault.TooWide (record { kind = kind; node = s; choice = c }))
 
 -- an error says that a computation ends at its place; want of memory says nothing
 abbrev pub Says : {B : Type 0} → RoundError → Result B Place → Type 0
-Says (fault.Wide kind s c) r = r ≡ Err (record { kind = kind; node = s; choice = c })
+Says (fault.TooWide place) r = r ≡ Err place
 Says fault.Memory r = Unit {0}
 
 -- what the code answers to a computation: its value seen by f, its place, or want of memory

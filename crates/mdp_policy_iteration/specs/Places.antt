@@ -1,13 +1,11 @@
 -- Where a term is past width, and computations that end at the first such place.
 use Rattle.std.specs.Prelude.{ℕ, zero, suc, Bool, true, List, [], ◌∷◌, ◌++◌, Option, Some, None, Result, Ok, Err, if◌then◌else◌}
 use Rattle.mdp_math.specs.Result.{◌>>=◌}
-use Rattle.mdp_wide.specs.declared.too_wide.Kind.{Kind}
+use Rattle.mdp_policy_iteration.specs.declared.errors.NodePlace.{NodePlace}
 
 -- what was computed, and the node and the choice for which
-pub record Place : Type 0 where
-  pub kind : Kind
-  pub node : ℕ
-  pub choice : ℕ
+abbrev pub Place : Type 0
+Place = NodePlace
 
 -- what can be made, or that a term is past width at r
 abbrev pub at_place : {A R : Type 0} → R → Option A → Result A R

@@ -3,8 +3,8 @@ use Rattle.std.specs.Prelude.{◌≡◌, ℕ, Option, Some, Result, Ok, Err}
 use Rattle.mdp_wide.specs.declared.too_wide.Part.{Part}
 use Rattle.mdp_wide.specs.declared.too_wide.Kind.TheVariants.{Check}
 use Rattle.mdp_wide.specs.Term.{WideTerm, shown}
-use Rattle.mdp_wide.specs.declared.too_wide.SolveError.{SolveError}
-use Rattle.mdp_wide.specs.declared.too_wide.SolveError.TheVariants as solve
+use Rattle.mdp_wide.specs.Errors.{SolveError}
+use Rattle.mdp_wide.specs.declared.unfinished.Unfinished.TheVariants as solve
 use Rattle.mdp_policy_iteration.specs.Path.{Found, Refusal}
 use Rattle.mdp_policy_iteration.specs.Ends.{capped}
 

@@ -4,8 +4,8 @@ ghost use Rattle.mdp_policy_iteration.specs.Problem.{count};
 ghost use Rattle.mdp_policy_iteration.specs.Path.{improved, improvements};
 ghost use Rattle.mdp_policy_iteration.specs.Laws.{IsSolvable, IsBestFrom};
 ghost use Rattle.mdp_policy_iteration.specs.Changes.{Ascend, IsChangeOf, spread, nodes_of};
-ghost use Rattle.mdp_policy_iteration.specs.Evaluated.{IsEvaluated};
-ghost use Rattle.mdp_policy_iteration.specs.Ends.{Ends};
+ghost use Rattle.mdp_policy_iteration.specs.Evaluated.{HasRoom, IsEvaluated};
+ghost use Rattle.mdp_policy_iteration.specs.Ends.{Ends, EndsWithLast};
 
 use crate::comparison::take_changes;
 use crate::evaluation::Evaluation;
@@ -40,6 +40,13 @@ fn next_policy(mut policy: Vec<u32>, changes: &[Pred]) -> Vec<u32>
     policy
 }
 
+/// The last policy of a path, and its round.
+#[derive(Drop)]
+pub(crate) struct Last {
+    pub(crate) round: u64,
+    pub(crate) policy: Vec<u32>,
+}
+
 /// The rest of the path from a first policy, whose evaluation and whose changes are given: from round to round only nodes that come to a change are evaluated
 /// anew, and choices are compared only at these and at nodes with a choice that leads to one of them.
 fn improve_further<P: ShortestPath>(
@@ -47,18 +54,18 @@ fn improve_further<P: ShortestPath>(
     problem: &P,
     loops: &Loops,
     start: Vec<u32>,
-    mut evaluation: Evaluation,
+    evaluation: &mut Evaluation,
     mut changes: Vec<Pred>,
-) -> Result<Solution, PathError>
+) -> Result<Last, PathError>
     requires solvable { IsSolvable (P.problem problem.now) start.items }
     requires loops { length loops.now.nodes.items ≡ count (P.problem problem.now) }
-    requires evaluated { IsEvaluated (P.problem problem.now) start.items evaluation }
+    requires evaluated { IsEvaluated (P.problem problem.now) start.items evaluation.old }
     requires some { changes.items ≢ [] }
-    requires changes { improvements (P.problem problem.now) evaluation.values ≡ Ok (spread (count (P.problem problem.now)) changes.items) }
+    requires changes { improvements (P.problem problem.now) evaluation.old.values ≡ Ok (spread (count (P.problem problem.now)) changes.items) }
     requires each { All (IsChangeOf (P.problem problem.now)) changes.items }
     requires ascend { Ascend (nodes_of changes.items) }
-    ensures path { Ends (P.problem problem.now) start.items result }
-    ensures best { IfOk result (λ found. IsBestFrom (P.problem problem.now) start.items found.policy.items found.values.items) }
+    ensures path { EndsWithLast (P.problem problem.now) start.items evaluation.new.values result }
+    ensures best { IfOk result (λ last. IsBestFrom (P.problem problem.now) start.items last.policy.items evaluation.new.values) }
 {
     solution_law();
     let readers = readers_of(alloc, problem)?;
@@ -69,17 +76,39 @@ fn improve_further<P: ShortestPath>(
         policy = next_policy(policy, &changes);
         round = round.saturating_add(1);
         let scope = Scope::of_changes(alloc, problem, &readers, &policy, &changes, &mut marks)?;
-        match round_of(alloc, problem, &policy, loops, &mut evaluation, &scope) {
-            Ok(next) if next.is_empty() => {
-                return Ok(Solution {
-                    round,
-                    policy,
-                    values: evaluation.into_values(),
-                });
-            }
+        match round_of(alloc, problem, &policy, loops, evaluation, &scope) {
+            Ok(next) if next.is_empty() => return Ok(Last { round, policy }),
             Ok(next) => changes = next,
             Err(error) => return Err(path_error(error, round, policy)),
         }
+    }
+}
+
+/// The path from a start policy, with room for an evaluation, which is then that of its last policy.
+fn last_of<P: ShortestPath>(
+    alloc: Global,
+    problem: &P,
+    start: Vec<u32>,
+    evaluation: &mut Evaluation,
+) -> Result<Last, PathError>
+    requires solvable { IsSolvable (P.problem problem.now) start.items }
+    requires room { HasRoom (count (P.problem problem.now)) evaluation.old }
+    ensures path { EndsWithLast (P.problem problem.now) start.items evaluation.new.values result }
+    ensures best { IfOk result (λ last. IsBestFrom (P.problem problem.now) start.items last.policy.items evaluation.new.values) }
+{
+    solution_law();
+    let loops = Loops::new(alloc, problem.count())?;
+    let scope = Scope {
+        affected: all_nodes(alloc, problem.count())?,
+        compared: all_nodes(alloc, problem.count())?,
+    };
+    match round_of(alloc, problem, &start, &loops, evaluation, &scope) {
+        Ok(changes) if changes.is_empty() => Ok(Last {
+            round: 0,
+            policy: start,
+        }),
+        Ok(changes) => improve_further(alloc, problem, &loops, start, evaluation, changes),
+        Err(error) => Err(path_error(error, 0, start)),
     }
 }
 
@@ -93,20 +122,13 @@ pub fn improve<P: ShortestPath>(
     ensures path { Ends (P.problem problem.now) start.items result }
     ensures best { IfOk result (λ found. IsBestFrom (P.problem problem.now) start.items found.policy.items found.values.items) }
 {
-    solution_law();
-    let loops = Loops::new(alloc, problem.count())?;
-    let scope = Scope {
-        affected: all_nodes(alloc, problem.count())?,
-        compared: all_nodes(alloc, problem.count())?,
-    };
     let mut evaluation = Evaluation::new(alloc, problem.count())?;
-    match round_of(alloc, problem, &start, &loops, &mut evaluation, &scope) {
-        Ok(changes) if changes.is_empty() => Ok(Solution {
-            round: 0,
-            policy: start,
+    match last_of(alloc, problem, start, &mut evaluation) {
+        Ok(last) => Ok(Solution {
+            round: last.round,
+            policy: last.policy,
             values: evaluation.into_values(),
         }),
-        Ok(changes) => improve_further(alloc, problem, &loops, start, evaluation, changes),
-        Err(error) => Err(path_error(error, 0, start)),
+        Err(error) => Err(error),
     }
 }

@@ -15,7 +15,7 @@ ghost use Rattle.mdp_policy_iteration.specs.Code.{RowsFit};
 ghost use Rattle.mdp_policy_iteration.specs.Changes.{Ascend};
 ghost use Rattle.mdp_policy_iteration.specs.Evaluated.{StopsWith, equations_of, HasRoom, IsEvaluated, CanServe};
 
-use crate::errors::RoundError;
+use crate::errors::{NodePlace, RoundError};
 use crate::loops::Loops;
 use crate::outer::outer_sum;
 use crate::placing::at_node;
@@ -96,11 +96,11 @@ fn check_rows_at<P: ShortestPath>(
     for s in nodes {
         let choice = policy[*s as usize];
         if !problem.fits(*s, choice) {
-            return Err(RoundError::Wide {
+            return Err(RoundError::TooWide(NodePlace {
                 kind: Kind::Evaluate,
                 node: *s,
                 choice,
-            });
+            }));
         }
     }
     Ok(())
@@ -183,11 +183,11 @@ fn solve_at<P: ShortestPath>(
 {
     match kept.solve_again(alloc, rows, active, slice::from_ref(constants), nodes) {
         Ok(()) => Ok(()),
-        Err(ElimError::Wide { state }) => Err(RoundError::Wide {
+        Err(ElimError::TooWide(state)) => Err(RoundError::TooWide(NodePlace {
             kind: Kind::Evaluate,
             node: state,
             choice: rows.policy[state as usize],
-        }),
+        })),
         Err(ElimError::Memory) => Err(RoundError::Memory),
     }
 }

@@ -18,10 +18,10 @@ mod shortest_path;
 mod solution;
 
 pub use best_policy::improve;
-pub use errors::RoundError;
+pub use errors::{NodePlace, RoundError};
 pub use laws::{evaluation_law, path_law, step_law};
 pub use leader::{Leader, judged};
 pub use outer::outer_sum;
 pub use placing::{at_choice, at_node};
 pub use shortest_path::ShortestPath;
-pub use solution::{PathError, Solution, WideAt, path_error};
+pub use solution::{PathError, Solution, WideAt, in_part, path_error};

@@ -2,7 +2,7 @@ ghost use Rattle.std.specs.Prelude.{◌≡◌, ◌<◌, length, slice_index};
 ghost use Rattle.mdp_wide.specs.declared.too_wide.Kind.TheVariants.{Evaluate, Compare};
 ghost use Rattle.mdp_policy_iteration.specs.Faults.{placed_at};
 
-use crate::errors::RoundError;
+use crate::errors::{NodePlace, RoundError};
 use mdp_num::Wide;
 use mdp_wide::Kind;
 
@@ -13,11 +13,11 @@ pub fn at_node<T>(step: Result<T, Wide>, policy: &[u32], s: u32) -> Result<T, Ro
 {
     match step {
         Ok(value) => Ok(value),
-        Err(Wide) => Err(RoundError::Wide {
+        Err(Wide) => Err(RoundError::TooWide(NodePlace {
             kind: Kind::Evaluate,
             node: s,
             choice: policy[s as usize],
-        }),
+        })),
     }
 }
 
@@ -27,10 +27,10 @@ pub fn at_choice<T>(step: Result<T, Wide>, s: u32, c: u32) -> Result<T, RoundErr
 {
     match step {
         Ok(value) => Ok(value),
-        Err(Wide) => Err(RoundError::Wide {
+        Err(Wide) => Err(RoundError::TooWide(NodePlace {
             kind: Kind::Compare,
             node: s,
             choice: c,
-        }),
+        })),
     }
 }

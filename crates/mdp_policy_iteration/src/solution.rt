@@ -2,9 +2,8 @@ ghost use Rattle.std.specs.Prelude.{◌≡◌};
 ghost use Rattle.mdp_policy_iteration.specs.Ends.{path_error, wide_of_part, error_of_part};
 
 use crate::errors::RoundError;
-use mdp_num::{Frac, Memory};
-use mdp_wide::{Kind, Part, SolveError, TooWide};
-use std::alloc::AllocError;
+use mdp_num::Frac;
+use mdp_wide::{Kind, Part, SolveError, TooWide, Unfinished};
 
 /// A best policy, with one choice per node, its round and its values. Rounds count from 0; one above 2^64 - 1 is given as 2^64 - 1.
 #[derive(Drop)]
@@ -41,45 +40,15 @@ impl WideAt {
 }
 
 /// Why a path has no best policy.
-#[derive(Drop)]
-pub enum PathError {
-    /// A term is past width.
-    TooWide(WideAt),
-    /// Memory was refused.
-    Memory,
-}
+pub type PathError = Unfinished<WideAt>;
 
-impl PathError {
-    /// The same error as one of a part of a query.
-    pub fn in_part(self, part: Part) -> SolveError
-        ensures { result ≡ error_of_part part self }
-    {
-        match self {
-            PathError::TooWide(wide) => SolveError::TooWide(wide.in_part(part)),
-            PathError::Memory => SolveError::Memory,
-        }
-    }
-}
-
-impl From<AllocError> for PathError {
-    ghost use Rattle.std.specs.Prelude.{◌≡◌};
-    ghost use Rattle.mdp_policy_iteration.specs.declared.solution.PathError.TheVariants as variant;
-
-    ghost from_gives = { λ _ e. e ≡ variant.Memory };
-
-    fn from(_error: AllocError) -> PathError {
-        PathError::Memory
-    }
-}
-
-impl From<Memory> for PathError {
-    ghost use Rattle.std.specs.Prelude.{◌≡◌};
-    ghost use Rattle.mdp_policy_iteration.specs.declared.solution.PathError.TheVariants as variant;
-
-    ghost from_gives = { λ _ e. e ≡ variant.Memory };
-
-    fn from(_error: Memory) -> PathError {
-        PathError::Memory
+/// The error of a path as one of a part of a query.
+pub fn in_part(error: PathError, part: Part) -> SolveError
+    ensures { result ≡ error_of_part part error }
+{
+    match error {
+        PathError::TooWide(wide) => SolveError::TooWide(wide.in_part(part)),
+        PathError::Memory => SolveError::Memory,
     }
 }
 
@@ -88,12 +57,12 @@ pub fn path_error(error: RoundError, round: u64, policy: Vec<u32>) -> PathError
     ensures { result ≡ path_error error round policy }
 {
     match error {
-        RoundError::Wide { kind, node, choice } => PathError::TooWide(WideAt {
+        RoundError::TooWide(place) => PathError::TooWide(WideAt {
             round,
             policy,
-            kind,
-            node,
-            choice,
+            kind: place.kind,
+            node: place.node,
+            choice: place.choice,
         }),
         RoundError::Memory => PathError::Memory,
     }

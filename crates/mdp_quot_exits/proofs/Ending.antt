@@ -9,8 +9,8 @@ use Rattle.mdp_policy_iteration.specs.Ends.{Ends, error_of_part}
 use Rattle.mdp_wide.specs.Term.{WideTerm}
 use Rattle.mdp_policy_iteration.specs.Queries.{term_of, Solves}
 use Rattle.mdp_policy_iteration.specs.declared.solution.Solution.{Solution}
-use Rattle.mdp_policy_iteration.specs.declared.solution.PathError.{PathError}
-use Rattle.mdp_policy_iteration.specs.declared.solution.PathError.TheVariants as path
+use Rattle.mdp_policy_iteration.specs.Errors.{PathError}
+use Rattle.mdp_wide.specs.declared.unfinished.Unfinished.TheVariants as path
 use Rattle.mdp_policy_iteration.proofs.Iterations.{one_end}
 use Rattle.mdp_quot_exits.specs.PathEnds.{answered, PathEndsSo}
 

@@ -6,7 +6,7 @@ ghost use Rattle.mdp_quot_exits.specs.Steps.{StepsEndSo, IsLongest};
 
 use crate::steps_problem::StepsProblem;
 use mdp_num::Frac;
-use mdp_policy_iteration::improve;
+use mdp_policy_iteration::{improve, in_part};
 use mdp_quot::Quotient;
 use mdp_wide::{Part, SolveError};
 use std::alloc::{AllocError, Global};
@@ -33,6 +33,6 @@ pub fn longest(alloc: Global, quotient: &Quotient<'_>) -> Result<Vec<Frac>, Solv
     let problem = StepsProblem { quotient };
     match improve(alloc, &problem, first) {
         Ok(found) => Ok(found.values),
-        Err(error) => Err(error.in_part(Part::Steps)),
+        Err(error) => Err(in_part(error, Part::Steps)),
     }
 }

@@ -6,7 +6,7 @@ ghost use Rattle.mdp_quot_exits.specs.Outer.{HasGains, plain, OuterEndSo, IsBest
 
 use crate::outer_problem::OuterProblem;
 use mdp_num::Frac;
-use mdp_policy_iteration::improve;
+use mdp_policy_iteration::{improve, in_part};
 use mdp_quot::Quotient;
 use mdp_rows::Dir;
 use mdp_wide::{Part, SolveError};
@@ -66,6 +66,6 @@ pub fn best_exits(
             policy: found.policy,
             values: found.values,
         }),
-        Err(error) => Err(error.in_part(Part::Outer)),
+        Err(error) => Err(in_part(error, Part::Outer)),
     }
 }

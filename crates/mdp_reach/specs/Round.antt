@@ -2,8 +2,8 @@
 use Rattle.std.specs.Prelude.{◌≡◌, ℕ, Bool, List, Result, Ok, Err}
 use Rattle.mdp_spec.specs.Mdp.{Mdp}
 use Rattle.mdp_rows.specs.declared.dir.Dir.{Dir}
-use Rattle.mdp_wide.specs.declared.too_wide.SolveError.{SolveError}
-use Rattle.mdp_wide.specs.declared.too_wide.SolveError.TheVariants as solve
+use Rattle.mdp_wide.specs.Errors.{SolveError}
+use Rattle.mdp_wide.specs.declared.unfinished.Unfinished.TheVariants as solve
 use Rattle.mdp_policy_iteration.specs.Ends.{capped}
 use Rattle.mdp_policy_iteration.specs.Path.{Found, Refusal}
 use Rattle.mdp_wide.specs.Term.{WideTerm, shown}

@@ -12,7 +12,7 @@ use crate::ranks::ranks_of;
 use crate::start::start_of;
 use mdp_farkas::{ReachCert, Verdict, holds_reach};
 use mdp_graph::{along_law, avoid_law, meet_law, reach_law};
-use mdp_policy_iteration::{Solution, improve};
+use mdp_policy_iteration::{Solution, improve, in_part};
 use mdp_rows::{Dir, Marks, Model};
 use mdp_wide::{Kind, Part, SolveError, TooWide};
 use std::alloc::Global;
@@ -59,7 +59,7 @@ pub fn solve_reach_to_end(
         values,
     } = match improve(alloc, &problem, first) {
         Ok(found) => found,
-        Err(error) => return Err(error.in_part(Part::Whole)),
+        Err(error) => return Err(in_part(error, Part::Whole)),
     };
     let ranks = ranks_of(alloc, model, goals, dir, &policy, &values)?;
     let cert = ReachCert {

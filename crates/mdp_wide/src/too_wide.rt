@@ -1,5 +1,4 @@
-use mdp_num::Memory;
-use std::alloc::AllocError;
+use crate::unfinished::Unfinished;
 
 /// The part of a computation whose policies are evaluated.
 #[derive(Clone, Copy)]
@@ -44,32 +43,4 @@ pub struct TooWide {
 }
 
 /// Why a query isn't solved.
-#[derive(Drop)]
-pub enum SolveError {
-    /// A term is past width.
-    TooWide(TooWide),
-    /// Memory was refused.
-    Memory,
-}
-
-impl From<AllocError> for SolveError {
-    ghost use Rattle.std.specs.Prelude.{◌≡◌};
-    ghost use Rattle.mdp_wide.specs.declared.too_wide.SolveError.TheVariants as variant;
-
-    ghost from_gives = { λ _ e. e ≡ variant.Memory };
-
-    fn from(_error: AllocError) -> SolveError {
-        SolveError::Memory
-    }
-}
-
-impl From<Memory> for SolveError {
-    ghost use Rattle.std.specs.Prelude.{◌≡◌};
-    ghost use Rattle.mdp_wide.specs.declared.too_wide.SolveError.TheVariants as variant;
-
-    ghost from_gives = { λ _ e. e ≡ variant.Memory };
-
-    fn from(_error: Memory) -> SolveError {
-        SolveError::Memory
-    }
-}
+pub type SolveError = Unfinished<TooWide>;

@@ -2,7 +2,7 @@ use Rattle.std.proofs.Common.{◌≡◌, ◌∙◌, ℕ, ◌+◌, List, Err, tak
 use Rattle.mdp_math.specs.Rational.{ℚ}
 use Rattle.mdp_policy_iteration.specs.Laws.{IsSolvable}
 use Rattle.mdp_policy_iteration.specs.Ends.{Ends}
-use Rattle.mdp_policy_iteration.specs.declared.solution.PathError.{PathError}
+use Rattle.mdp_policy_iteration.specs.Errors.{PathError}
 use Rattle.mdp_wide.specs.declared.too_wide.Part.TheVariants.{Whole}
 use Rattle.mdp_policy_iteration.specs.Queries.{term_of}
 use Rattle.mdp_discount.specs.Problem.{discount_problem}

@@ -2,7 +2,7 @@ use Rattle.std.proofs.Common.{◌≡◌, ◌⊎◌, sym, ap, subst, ◌∙◌, r
 use Rattle.std.proofs.lemmas.List.{length-map}
 use Rattle.mdp_math.specs.Rational.{ℚ}
 use Rattle.mdp_elim.specs.Equation as spec
-use Rattle.mdp_elim.specs.declared.errors.ElimError.TheVariants as whole_error
+use Rattle.mdp_wide.specs.declared.unfinished.Unfinished.TheVariants as error
 use Rattle.mdp_elim.specs.Elimination.{CanEliminate}
 use Rattle.mdp_elim.specs.System.{SolveEach}
 use Rattle.mdp_elim.specs.Solve.{columns_of}
@@ -21,14 +21,14 @@ pub returns-in_err-values-clause-wide : goal.returns-in_err-values-clause-wide
 returns-in_err-values-clause-wide g c = λ s h.
     let is = (c.in_ok-system.ensures {u = tt}).value in
     let len = ap length is ∙ system-len (g.R.RowsOf.rows c.args.rows.now) c.args.active.now c.requires.leaves.0 c.known.ensures c.requires.active c.requires.leaves.1 _ in
-    let p : c.solve_system.result ≡ Err (whole_error.Wide s) = search rules in
+    let p : c.solve_system.result ≡ Err (error.TooWide s) = search rules in
     written_solution-err (g.R.RowsOf.rows c.args.rows.now) c.args.active.now _ c.in_ok-system.system.items _ is len refl s (c.solve_system.ensures.wide s p)
 
 pub returns-in_err-values-clause-place : goal.returns-in_err-values-clause-place
 returns-in_err-values-clause-place g c = λ s h.
     let is = (c.in_ok-system.ensures {u = tt}).value in
     let len = ap length is ∙ system-len (g.R.RowsOf.rows c.args.rows.now) c.args.active.now c.requires.leaves.0 c.known.ensures c.requires.active c.requires.leaves.1 _ in
-    let p : c.solve_system.result ≡ Err (whole_error.Wide s) = search rules in
+    let p : c.solve_system.result ≡ Err (error.TooWide s) = search rules in
     wide_active c.args.active.now (g.R.RowsOf.rows c.args.rows.now) _ c.requires.active s
     (solution-of (g.R.RowsOf.rows c.args.rows.now) c.args.active.now _ c.in_ok-system.system.items _ is len refl _ (c.solve_system.ensures.wide s p))
 

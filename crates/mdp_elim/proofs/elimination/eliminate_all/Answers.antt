@@ -2,7 +2,7 @@ use Rattle.std.proofs.Common.{◌≡◌, ◌∙◌, ◌-◌, suc, List, [], ◌�
 use Rattle.std.proofs.lemmas.List.{length-append}
 use Rattle.std.proofs.lemmas.Result.{MatchResult-at_ok}
 use Rattle.mdp_elim.specs.Equation as spec
-use Rattle.mdp_elim.specs.declared.errors.ElimError.TheVariants as whole_error
+use Rattle.mdp_wide.specs.declared.unfinished.Unfinished.TheVariants as error
 use Rattle.mdp_elim.specs.Elimination.{Eliminated, eliminated, solution}
 use Rattle.mdp_elim.specs.Finish.{finish, LeadDown}
 use Rattle.mdp_elim.specs.Predecessors.{IsLinked}
@@ -11,7 +11,7 @@ use Rattle.mdp_elim.proofs.elimination.eliminate_all.Goals as goal
 
 pub returns-in_err-pivot-clause-wide : goal.returns-in_err-pivot-clause-wide
 returns-in_err-pivot-clause-wide c = λ s h.
-    let p : c.placed.result ≡ Err (whole_error.Wide s) = search rules in
+    let p : c.placed.result ≡ Err (error.TooWide s) = search rules in
     let w = placed-wide (c.loop-s.s - 1) s c.eliminate.result (sym c.placed.ensures ∙ p) in
     let n : c.loop-s.s ≡ suc (c.loop-s.s - 1) = omega arith in
     c.loop-s.invariant.same ∙ all_stop c.loop-s.s (c.loop-s.s - 1) n c.loop-s.left.equations.items c.loop-s.done.items (c.eliminate.ensures.wide w.0) ∙ ap Err w.1

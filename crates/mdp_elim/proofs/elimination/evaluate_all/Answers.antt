@@ -2,7 +2,7 @@ use Rattle.std.proofs.Common.{◌≡◌, ◌∙◌, ◌++◌, ◌∷◌, [], Lis
 use Rattle.std.proofs.lemmas.List.{length-append}
 use Rattle.std.proofs.lemmas.Result.{MatchResult-at_ok}
 use Rattle.mdp_elim.specs.Equation as spec
-use Rattle.mdp_elim.specs.declared.errors.ElimError.TheVariants as whole_error
+use Rattle.mdp_wide.specs.declared.unfinished.Unfinished.TheVariants as error
 use Rattle.mdp_elim.specs.Finish.{finish, LeadDown}
 use Rattle.mdp_elim.proofs.Finish.{finish-step, finish-stop, lead_down-last, placed-wide, placed-ok}
 use Rattle.mdp_elim.proofs.elimination.evaluate_all.Goals as goal
@@ -15,7 +15,7 @@ evaluate-requires c =
 
 pub returns-in_err-placed-clause-wide : goal.returns-in_err-placed-clause-wide
 returns-in_err-placed-clause-wide c = λ s h.
-    let p : c.placed.result ≡ Err (whole_error.Wide s) = search rules in
+    let p : c.placed.result ≡ Err (error.TooWide s) = search rules in
     let w = placed-wide c.loop-equation.s s c.evaluate.result (sym c.placed.ensures ∙ p) in
     let l : c.loop-equation.waiting.items ≡ c.pop.new.self.items ++ c.in-Some.equation ∷ [] = rw c.in-Some.is at c.pop.ensures.items in
     c.loop-equation.invariant.same ∙ ap (λ (es : List spec.Equation). finish c.loop-equation.s es (Ok (record { first = c.loop-equation.first.items; second = c.loop-equation.second.items }))) l

@@ -2,7 +2,7 @@ use Rattle.std.proofs.Common.{◌≡◌, ◌<◌, ◌≤◌, ◌+◌, ◌∙◌,
 use Rattle.std.proofs.Math.ListN.{set}
 use Rattle.std.proofs.lemmas.List.{get_or_default}
 use Rattle.std.proofs.lemmas.Result.{MatchResult-at_ok}
-use Rattle.mdp_elim.specs.declared.errors.ElimError.TheVariants as whole_error
+use Rattle.mdp_wide.specs.declared.unfinished.Unfinished.TheVariants as error
 use Rattle.mdp_elim.proofs.Finish.{placed-wide, placed-ok}
 use Rattle.mdp_spec.specs.Written.{written_sum}
 use Rattle.mdp_elim.specs.Equation as spec
@@ -37,7 +37,7 @@ returns-in_err-x-clause-wide c = λ s h.
     let t = get_or c.args.states.now c.loop-t.t-index 0 in
     let within : get_or c.args.states.now c.loop-t.t-index 0 < length c.args.solved.now = c.requires.in_range c.loop-t.t-index 0 c.loop-t-test.true in
     let is : c.lent.result ≡ at c.args.solved.now t = c.lent.ensures ∙ c.index-solved-t.is ∙ get_or_default c.args.solved.now t _ spec.no_equation within in
-    let p : c.placed.result ≡ Err (whole_error.Wide s) = search rules in
+    let p : c.placed.result ≡ Err (error.TooWide s) = search rules in
     let w = placed-wide (get_or c.args.states.now c.loop-t.t-index 0) s c.sums.result (sym c.placed.ensures ∙ p) in
     values-stop c.args.solved.now c.loop-t.first c.loop-t.second c.requires.down c.loop-t.invariant.first.count c.loop-t.invariant.second.count t within
     (smaller_have c.args.states.now c.args.solved.now c.requires.down c.requires.outside c.requires.ascend c.loop-t.t-index t refl c.loop-t-test.true within (λ e. e.first) c.loop-t.first c.loop-t.invariant.first)

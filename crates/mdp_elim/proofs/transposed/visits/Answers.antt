@@ -1,6 +1,6 @@
 use Rattle.std.proofs.Common.{◌≡◌, sym, subst, List, length, Err, rules}
 use Rattle.mdp_elim.specs.Equation as spec
-use Rattle.mdp_elim.specs.declared.errors.ElimError.TheVariants as whole_error
+use Rattle.mdp_wide.specs.declared.unfinished.Unfinished.TheVariants as error
 use Rattle.mdp_elim.specs.Elimination.{CanEliminate}
 use Rattle.mdp_elim.specs.Predecessors.{LeadBelow}
 use Rattle.mdp_elim.proofs.Expected.{visits-can, visits-leads, visits-place, written_visits-ok, written_visits-err, are_visits}
@@ -18,13 +18,13 @@ solve_system-requires-clause-down g c =
 
 pub returns-in_err-first-clause-place : goal.returns-in_err-first-clause-place
 returns-in_err-first-clause-place g c = λ s h.
-    let p : c.solve_system.result ≡ Err (whole_error.Wide s) = search rules in
+    let p : c.solve_system.result ≡ Err (error.TooWide s) = search rules in
     visits-place (g.R.RowsOf.rows c.args.chain.now.rows.now) c.args.chain.now.active.now c.args.chain.now.ranks.now c.known.ensures c.requires.active
     c.requires.leaves c.args.start c.in_ok-system.system.items (c.in_ok-system.ensures {u = tt}).value s (c.solve_system.ensures.wide s p)
 
 pub returns-in_err-first-clause-wide : goal.returns-in_err-first-clause-wide
 returns-in_err-first-clause-wide g c = λ s h.
-    let p : c.solve_system.result ≡ Err (whole_error.Wide s) = search rules in
+    let p : c.solve_system.result ≡ Err (error.TooWide s) = search rules in
     written_visits-err (g.R.RowsOf.rows c.args.chain.now.rows.now) c.args.chain.now.active.now c.args.chain.now.ranks.now c.known.ensures c.requires.active
     c.requires.leaves c.args.start c.in_ok-system.system.items (c.in_ok-system.ensures {u = tt}).value s (c.solve_system.ensures.wide s p)
 

@@ -3,6 +3,7 @@ use Rattle.mdp_policy.specs.Answer.{plain}
 use Rattle.mdp_policy.proofs.Solving.{policy_rows-len, along_ranks, policy_leaves}
 use Rattle.mdp_policy.proofs.Facts.{IsValued, written_valued}
 use Rattle.mdp_policy.proofs.value.value_of.Goals as goal
+use Rattle.mdp_policy.proofs.value.value_of.Goals.{In-Ok}
 
 pub along-requires : goal.along-requires
 along-requires c = record { target = c.requires.goals ∙ sym (policy_rows-len c.args.model.now c.args.policy.now) }
@@ -24,47 +25,27 @@ evaluated-requires c =
           (along_ranks m c.args.goals.now c.args.policy.now pass.marks pass.ranks.items e.marks e.ranks) c.along_law.ensures.falls c.along_law.ensures.rest,
     )
 
-pub returns-in-Ok-clause-bound : goal.returns-in-Ok-clause-bound
-returns-in-Ok-clause-bound c =
+-- the value that was found, and its changes
+valued : (c : In-Ok) → IsValued c.args.model.now c.args.goals.now c.args.policy.now (plain c.in-Ok.value)
+valued c =
     let m = c.args.model.now in
     let pass = c.in_ok-pass.pass in
     let e = c.in_ok-pass.ensures {u = tt} in
-    IsValued.bound (written_valued m c.args.goals.now c.args.policy.now pass.ranks.items c.known.ensures.mdp c.requires.policy
+    written_valued m c.args.goals.now c.args.policy.now pass.ranks.items c.known.ensures.mdp c.requires.policy
     (along_ranks m c.args.goals.now c.args.policy.now pass.marks pass.ranks.items e.marks e.ranks) c.along_law.ensures.falls c.along_law.ensures.rest c.solution_law.ensures.solves
-    (plain c.in-Ok.value) (c.in-Ok.ensures {u = tt}))
+    (plain c.in-Ok.value) (c.in-Ok.ensures {u = tt})
+
+pub returns-in-Ok-clause-bound : goal.returns-in-Ok-clause-bound
+returns-in-Ok-clause-bound c = (valued (goal.at.returns-in-Ok-clause-bound c).In-Ok).bound
 
 pub returns-in-Ok-clause-each : goal.returns-in-Ok-clause-each
-returns-in-Ok-clause-each c =
-    let m = c.args.model.now in
-    let pass = c.in_ok-pass.pass in
-    let e = c.in_ok-pass.ensures {u = tt} in
-    IsValued.each (written_valued m c.args.goals.now c.args.policy.now pass.ranks.items c.known.ensures.mdp c.requires.policy
-    (along_ranks m c.args.goals.now c.args.policy.now pass.marks pass.ranks.items e.marks e.ranks) c.along_law.ensures.falls c.along_law.ensures.rest c.solution_law.ensures.solves
-    (plain c.in-Ok.value) (c.in-Ok.ensures {u = tt}))
+returns-in-Ok-clause-each c = (valued (goal.at.returns-in-Ok-clause-each c).In-Ok).each
 
 pub returns-in-Ok-clause-none_up : goal.returns-in-Ok-clause-none_up
-returns-in-Ok-clause-none_up c =
-    let m = c.args.model.now in
-    let pass = c.in_ok-pass.pass in
-    let e = c.in_ok-pass.ensures {u = tt} in
-    IsValued.none_up (written_valued m c.args.goals.now c.args.policy.now pass.ranks.items c.known.ensures.mdp c.requires.policy
-    (along_ranks m c.args.goals.now c.args.policy.now pass.marks pass.ranks.items e.marks e.ranks) c.along_law.ensures.falls c.along_law.ensures.rest c.solution_law.ensures.solves
-    (plain c.in-Ok.value) (c.in-Ok.ensures {u = tt}))
+returns-in-Ok-clause-none_up c = (valued (goal.at.returns-in-Ok-clause-none_up c).In-Ok).none_up
 
 pub returns-in-Ok-clause-up : goal.returns-in-Ok-clause-up
-returns-in-Ok-clause-up c =
-    let m = c.args.model.now in
-    let pass = c.in_ok-pass.pass in
-    let e = c.in_ok-pass.ensures {u = tt} in
-    IsValued.up (written_valued m c.args.goals.now c.args.policy.now pass.ranks.items c.known.ensures.mdp c.requires.policy
-    (along_ranks m c.args.goals.now c.args.policy.now pass.marks pass.ranks.items e.marks e.ranks) c.along_law.ensures.falls c.along_law.ensures.rest c.solution_law.ensures.solves
-    (plain c.in-Ok.value) (c.in-Ok.ensures {u = tt}))
+returns-in-Ok-clause-up c = (valued (goal.at.returns-in-Ok-clause-up c).In-Ok).up
 
 pub returns-in-Ok-clause-down : goal.returns-in-Ok-clause-down
-returns-in-Ok-clause-down c =
-    let m = c.args.model.now in
-    let pass = c.in_ok-pass.pass in
-    let e = c.in_ok-pass.ensures {u = tt} in
-    IsValued.down (written_valued m c.args.goals.now c.args.policy.now pass.ranks.items c.known.ensures.mdp c.requires.policy
-    (along_ranks m c.args.goals.now c.args.policy.now pass.marks pass.ranks.items e.marks e.ranks) c.along_law.ensures.falls c.along_law.ensures.rest c.solution_law.ensures.solves
-    (plain c.in-Ok.value) (c.in-Ok.ensures {u = tt}))
+returns-in-Ok-clause-down c = (valued (goal.at.returns-in-Ok-clause-down c).In-Ok).down

@@ -1,81 +1,19 @@
-use Rattle.std.proofs.Common.{◌≡◌, ◌∙◌, ◌<◌, ℕ, List, Ok, Err, refl, sym, ap, subst, inl, true≢false, arith, rules}
-use Rattle.std.specs.List.{All, range_with_len}
+use Rattle.std.proofs.Common.{List, sym, subst}
 use Rattle.mdp_math.specs.Rational.{ℚ}
-use Rattle.mdp_rows.specs.Preds.{is_among}
-use Rattle.mdp_policy_iteration.specs.Problem.{count}
-use Rattle.mdp_policy_iteration.specs.Iteration.{Step, done}
-use Rattle.mdp_policy_iteration.specs.Path.{Round, Found, Refusal, path_step}
-use Rattle.mdp_policy_iteration.specs.Laws.{first}
-use Rattle.mdp_policy_iteration.specs.Changes.{Ascend}
 use Rattle.mdp_policy_iteration.specs.Evaluated.{HasRoom}
-use Rattle.mdp_policy_iteration.specs.Ends.{Ends}
-use Rattle.mdp_policy_iteration.specs.declared.solution.PathError.{PathError}
-use Rattle.mdp_policy_iteration.proofs.AllNodes.{all-below, all-ascend, all-among}
-use Rattle.mdp_policy_iteration.proofs.Ending.{start-keeps, done-best}
-use Rattle.mdp_policy_iteration.proofs.Iterations.{ends-done}
-use Rattle.mdp_policy_iteration.proofs.Rounds.{is_none}
-use Rattle.mdp_policy_iteration.proofs.Walking.{done_at, ends_by}
+use Rattle.mdp_policy_iteration.specs.Laws.{IsBestFrom}
+use Rattle.mdp_policy_iteration.specs.Ends.{IsLast}
 use Rattle.mdp_policy_iteration.proofs.best_policy.improve.Goals as goal
 
-pub round_of-requires-clause-affected_below : goal.round_of-requires-clause-affected_below
-round_of-requires-clause-affected_below g c =
-    let p = g.P.ShortestPath.problem c.args.problem.now in
-    let is = c.in_ok-all_nodes.ensures {u = tt} ∙ ap (range_with_len 0) c.count-2.ensures in
-    subst (λ (xs : List ℕ). All (λ s. s < count p) xs) (sym is) (all-below (count p))
-
-pub round_of-requires-clause-affected_ascend : goal.round_of-requires-clause-affected_ascend
-round_of-requires-clause-affected_ascend g c = subst Ascend (sym (c.in_ok-all_nodes.ensures {u = tt})) (all-ascend c.count-2.result)
-
-pub round_of-requires-clause-compared_below : goal.round_of-requires-clause-compared_below
-round_of-requires-clause-compared_below g c =
-    let p = g.P.ShortestPath.problem c.args.problem.now in
-    let is = c.in_ok-all_nodes-2.ensures {u = tt} ∙ ap (range_with_len 0) c.count-3.ensures in
-    subst (λ (xs : List ℕ). All (λ s. s < count p) xs) (sym is) (all-below (count p))
-
-pub round_of-requires-clause-compared_ascend : goal.round_of-requires-clause-compared_ascend
-round_of-requires-clause-compared_ascend g c = subst Ascend (sym (c.in_ok-all_nodes-2.ensures {u = tt})) (all-ascend c.count-3.result)
-
-pub round_of-requires-clause-serves : goal.round_of-requires-clause-serves
-round_of-requires-clause-serves g c =
-    let p = g.P.ShortestPath.problem c.args.problem.now in
-    let is = c.in_ok-all_nodes.ensures {u = tt} ∙ ap (range_with_len 0) c.count-2.ensures in
-    record {
-      room = subst (λ n. HasRoom n c.in_ok-evaluation.evaluation) c.count-4.ensures (c.in_ok-evaluation.ensures {u = tt});
-      others = inl (λ s l. ap (is_among s) is ∙ all-among (count p) s l);
-    }
-
-pub round_of-requires-clause-others : goal.round_of-requires-clause-others
-round_of-requires-clause-others g c = λ x agree s l out.
-    let p = g.P.ShortestPath.problem c.args.problem.now in
-    let is = c.in_ok-all_nodes-2.ensures {u = tt} ∙ ap (range_with_len 0) c.count-3.ensures in
-    absurd (true≢false (sym (ap (is_among s) is ∙ all-among (count p) s l) ∙ out))
+pub last_of-requires-clause-room : goal.last_of-requires-clause-room
+last_of-requires-clause-room g c = subst (λ n. HasRoom n c.in_ok-evaluation.evaluation) c.count.ensures (c.in_ok-evaluation.ensures {u = tt})
 
 pub returns-in-Ok-clause-path : goal.returns-in-Ok-clause-path
 returns-in-Ok-clause-path g c =
-    let p = g.P.ShortestPath.problem c.args.problem.now in
-    let found : Found = record { number = 0; policy = c.args.start.items; values = c.into_values.result.items } in
-    let was : c.round_of.result ≡ Ok c.in-Ok.changes = search rules in
-    let none = is_none c.in-Ok.changes.len c.in-Ok.changes.items c.is_empty.result c.is_empty.ensures c.if-is_empty.true c.in-Ok.changes.ok.0 in
-    let step : path_step p (first c.args.start.items) ≡ done found =
-    done_at p 0 c.deref.result.now c.args.start.items c.round_of.new.evaluation.values c.round_of.result c.deref.ensures.value (c.round_of.ensures.step 0) c.in-Ok.changes was none
-    ∙ ap (λ (values : List ℚ). let s : Step Round Found Refusal = done (record { number = 0; policy = c.args.start.items; values = values }) in s) (sym c.into_values.ensures) in
-    (0, omega arith, ends-done (path_step p) (first c.args.start.items) found step)
+    subst (λ (values : List ℚ). IsLast (g.P.ShortestPath.problem c.args.problem.now) c.args.start.items c.in-Ok.last.round c.in-Ok.last.policy.items values) (sym c.into_values.ensures)
+    (c.in-Ok.ensures {u = tt}).path
 
 pub returns-in-Ok-clause-best : goal.returns-in-Ok-clause-best
 returns-in-Ok-clause-best g c =
-    let p = g.P.ShortestPath.problem c.args.problem.now in
-    let found : Found = record { number = 0; policy = c.args.start.items; values = c.into_values.result.items } in
-    let was : c.round_of.result ≡ Ok c.in-Ok.changes = search rules in
-    let none = is_none c.in-Ok.changes.len c.in-Ok.changes.items c.is_empty.result c.is_empty.ensures c.if-is_empty.true c.in-Ok.changes.ok.0 in
-    let step : path_step p (first c.args.start.items) ≡ done found =
-    done_at p 0 c.deref.result.now c.args.start.items c.round_of.new.evaluation.values c.round_of.result c.deref.ensures.value (c.round_of.ensures.step 0) c.in-Ok.changes was none
-    ∙ ap (λ (values : List ℚ). let s : Step Round Found Refusal = done (record { number = 0; policy = c.args.start.items; values = values }) in s) (sym c.into_values.ensures) in
-    done-best p c.args.start.items c.requires.problem c.requires.keeps c.solution_law.ensures.solves (first c.args.start.items) found (start-keeps p c.args.start.items c.requires) step
-
-pub returns-clause-path : goal.returns-clause-path
-returns-clause-path g c =
-    let p = g.P.ShortestPath.problem c.args.problem.now in
-    let was : c.round_of.result ≡ Err c.in-Err.error = search rules in
-    subst (λ (e : PathError). Ends p c.args.start.items (Err e)) (sym c.path_error.ensures)
-    (ends_by p 0 c.deref.result.now c.args.start.items c.round_of.new.evaluation.values c.round_of.result c.deref.ensures.value (c.round_of.ensures.step 0)
-    c.args.start.items 0 c.args.start c.in-Err.error refl (omega arith) (λ r h. h) was)
+    subst (λ (values : List ℚ). IsBestFrom (g.P.ShortestPath.problem c.args.problem.now) c.args.start.items c.in-Ok.last.policy.items values) (sym c.into_values.ensures)
+    (c.in-Ok.ensures {u = tt}).best

@@ -1,20 +1,62 @@
-use Rattle.std.proofs.Common.{replicate, false, ◌≡◌, ◌∙◌, ◌+◌, ℕ, List, Ok, Err, refl, sym, ap, subst, arith, rules, length}
-use Rattle.mdp_math.specs.Rational.{ℚ}
+use Rattle.std.proofs.Common.{replicate, false, ◌≡◌, ◌∙◌, ◌+◌, ◌<◌, ℕ, List, Result, Ok, Err, refl, sym, ap, subst, arith, rules, length}
 use Rattle.mdp_rows.specs.declared.preds.Pred.{Pred}
-use Rattle.mdp_policy_iteration.specs.Problem.{IsPolicy}
+use Rattle.mdp_policy_iteration.specs.Problem.{Problem, IsPolicy}
 use Rattle.mdp_policy_iteration.specs.Values.{CanLeave}
 use Rattle.mdp_policy_iteration.specs.Path.{Round, Found, Refusal, improved, path_step}
-use Rattle.mdp_policy_iteration.specs.Iteration.{Step, done}
+use Rattle.mdp_policy_iteration.specs.Iteration.{Step, done, EndsWith}
+use Rattle.mdp_policy_iteration.specs.Laws.{first}
 use Rattle.mdp_policy_iteration.specs.Changes.{Ascend, spread, nodes_of}
 use Rattle.mdp_policy_iteration.specs.Evaluated.{IsEvaluated, CanServe}
 use Rattle.mdp_policy_iteration.specs.Scope.{IsScope}
-use Rattle.mdp_policy_iteration.specs.Ends.{Ends}
-use Rattle.mdp_policy_iteration.specs.declared.solution.PathError.{PathError}
+use Rattle.mdp_policy_iteration.specs.Ends.{IsRefused}
+use Rattle.mdp_policy_iteration.specs.Errors.{PathError}
 use Rattle.mdp_policy_iteration.proofs.Iterations.{ends-done}
-use Rattle.mdp_policy_iteration.proofs.Ending.{start-keeps, done-best}
+use Rattle.mdp_policy_iteration.proofs.Ending.{Keeps, better_left, start-keeps, done-best}
 use Rattle.mdp_policy_iteration.proofs.Walking.{done_at, ends_by}
 use Rattle.mdp_policy_iteration.proofs.Rounds.{is_none, is_some, keeps-on, rest-on, serves-on, unimproved}
+use Rattle.mdp_policy_iteration.proofs.best_policy.improve_further.Given.{Over}
+use Rattle.mdp_policy_iteration.proofs.best_policy.improve_further.Goals.{After-marks-in-rounds-1, After-drop-changes-in-Ok, After-scope-in-rounds-1}
 use Rattle.mdp_policy_iteration.proofs.best_policy.improve_further.Goals as goal
+
+abbrev after : ℕ → List ℕ → Round
+after n policy = record { number = n + 1; policy = policy }
+
+-- the next policy is the present one with its changes
+module _ (g : Over) (c : After-marks-in-rounds-1 g) where
+  abbrev p : Problem
+  p = g.P.ShortestPath.problem c.args.problem.now
+
+  next : c.next_policy-policy.result.items ≡ improved c.rounds.policy.items (spread (length c.rounds.policy.items) c.rounds.changes.items)
+  next = c.next_policy-policy.ensures ∙ ap (λ (xs : List Pred). improved c.rounds.policy.items (spread (length c.rounds.policy.items) xs)) c.deref.ensures.value
+
+  kept : Keeps p c.args.start.items c.next_policy-policy.result.items
+      × (better_left p c.args.start.items c.next_policy-policy.result.items < better_left p c.args.start.items c.rounds.policy.items)
+  kept =
+      keeps-on p c.args.start.items c.rounds.invariant.stands.0 c.rounds.policy.items c.rounds.evaluation c.rounds.changes.items c.rounds.invariant.stands.2
+      c.next_policy-policy.result.items next c.requires.solvable.problem c.requires.solvable.keeps c.solution_law.ensures.solves
+
+  rest : (r : Result Found Refusal) → EndsWith (path_step p) (after c.rounds.invariant.stands.0 c.next_policy-policy.result.items) r → EndsWith (path_step p) (first c.args.start.items) r
+  rest =
+      rest-on p c.args.start.items c.rounds.invariant.stands.0 c.rounds.policy.items c.rounds.evaluation c.rounds.changes.items c.rounds.invariant.stands.2
+      c.next_policy-policy.result.items next
+
+-- its scope
+scope_is : (g : Over) (c : After-scope-in-rounds-1 g) → IsScope (g.P.ShortestPath.problem c.args.problem.now) c.next_policy-policy.result.items c.rounds.changes.items c.in_ok-scope.scope
+scope_is g c =
+    let p = g.P.ShortestPath.problem c.args.problem.now in
+    subst (λ (xs : List ℕ). IsScope p xs c.rounds.changes.items c.in_ok-scope.scope) c.deref-in-rounds.ensures.value
+    (subst (λ (xs : List Pred). IsScope p c.deref-in-rounds.result.now xs c.in_ok-scope.scope) c.deref-in-rounds-2.ensures.value (c.in_ok-scope.ensures {u = tt}).scope)
+
+-- where it has no changes, the path ends with it
+stepped : (g : Over) (c : After-drop-changes-in-Ok g) → path_step (g.P.ShortestPath.problem c.args.problem.now) (after c.rounds.invariant.stands.0 c.next_policy-policy.result.items)
+    ≡ (let s : Step Round Found Refusal = done (record { number = c.rounds.invariant.stands.0 + 1; policy = c.next_policy-policy.result.items; values = c.round_of.new.evaluation.values }) in s)
+stepped g c =
+    let p = g.P.ShortestPath.problem c.args.problem.now in
+    let n = c.rounds.invariant.stands.0 in
+    let was : c.round_of.result ≡ Ok c.in-Ok.next = search rules in
+    let none = is_none c.in-Ok.next.len c.in-Ok.next.items c.is_empty.result c.is_empty.ensures c.if-is_empty.true c.in-Ok.next.ok.0 in
+    done_at p (n + 1) c.deref-in-rounds-3.result.now c.next_policy-policy.result.items c.round_of.new.evaluation.values c.round_of.result c.deref-in-rounds-3.ensures.value
+    (c.round_of.ensures.step (n + 1)) c.in-Ok.next was none
 
 pub rounds-init : goal.rounds-init
 rounds-init g c =
@@ -42,123 +84,63 @@ next_policy-policy-requires-clause-ascend g c = subst (λ (xs : List Pred). Asce
 pub of_changes-requires-clause-policy : goal.of_changes-requires-clause-policy
 of_changes-requires-clause-policy g c =
     let p = g.P.ShortestPath.problem c.args.problem.now in
-    let next : c.next_policy-policy.result.items ≡ improved c.rounds.policy.items (spread (length c.rounds.policy.items) c.rounds.changes.items) =
-    c.next_policy-policy.ensures ∙ ap (λ (xs : List Pred). improved c.rounds.policy.items (spread (length c.rounds.policy.items) xs)) c.deref.ensures.value in
-    let k = keeps-on p c.args.start.items c.rounds.invariant.stands.0 c.rounds.policy.items c.rounds.evaluation c.rounds.changes.items c.rounds.invariant.stands.2
-    c.next_policy-policy.result.items next c.requires.solvable.problem c.requires.solvable.keeps c.solution_law.ensures.solves in
-    subst (λ (xs : List ℕ). IsPolicy p xs) (sym c.deref-in-rounds.ensures.value) k.0.is
+    subst (λ (xs : List ℕ). IsPolicy p xs) (sym c.deref-in-rounds.ensures.value) (kept g c).0.is
 
 pub round_of-requires-clause-policy : goal.round_of-requires-clause-policy
 round_of-requires-clause-policy g c =
     let p = g.P.ShortestPath.problem c.args.problem.now in
-    let next : c.next_policy-policy.result.items ≡ improved c.rounds.policy.items (spread (length c.rounds.policy.items) c.rounds.changes.items) =
-    c.next_policy-policy.ensures ∙ ap (λ (xs : List Pred). improved c.rounds.policy.items (spread (length c.rounds.policy.items) xs)) c.deref.ensures.value in
-    let k = keeps-on p c.args.start.items c.rounds.invariant.stands.0 c.rounds.policy.items c.rounds.evaluation c.rounds.changes.items c.rounds.invariant.stands.2
-    c.next_policy-policy.result.items next c.requires.solvable.problem c.requires.solvable.keeps c.solution_law.ensures.solves in
-    subst (λ (xs : List ℕ). IsPolicy p xs) (sym c.deref-in-rounds-3.ensures.value) k.0.is
+    subst (λ (xs : List ℕ). IsPolicy p xs) (sym c.deref-in-rounds-3.ensures.value) (kept g (goal.at.round_of-requires-clause-policy g c).After-marks-in-rounds-1).0.is
 
 pub round_of-requires-clause-leaves : goal.round_of-requires-clause-leaves
 round_of-requires-clause-leaves g c =
     let p = g.P.ShortestPath.problem c.args.problem.now in
-    let next : c.next_policy-policy.result.items ≡ improved c.rounds.policy.items (spread (length c.rounds.policy.items) c.rounds.changes.items) =
-    c.next_policy-policy.ensures ∙ ap (λ (xs : List Pred). improved c.rounds.policy.items (spread (length c.rounds.policy.items) xs)) c.deref.ensures.value in
-    let k = keeps-on p c.args.start.items c.rounds.invariant.stands.0 c.rounds.policy.items c.rounds.evaluation c.rounds.changes.items c.rounds.invariant.stands.2
-    c.next_policy-policy.result.items next c.requires.solvable.problem c.requires.solvable.keeps c.solution_law.ensures.solves in
-    subst (λ (xs : List ℕ). CanLeave p xs) (sym c.deref-in-rounds-3.ensures.value) k.0.leaves
+    subst (λ (xs : List ℕ). CanLeave p xs) (sym c.deref-in-rounds-3.ensures.value) (kept g (goal.at.round_of-requires-clause-leaves g c).After-marks-in-rounds-1).0.leaves
 
 pub round_of-requires-clause-serves : goal.round_of-requires-clause-serves
 round_of-requires-clause-serves g c =
     let p = g.P.ShortestPath.problem c.args.problem.now in
-    let next : c.next_policy-policy.result.items ≡ improved c.rounds.policy.items (spread (length c.rounds.policy.items) c.rounds.changes.items) =
-    c.next_policy-policy.ensures ∙ ap (λ (xs : List Pred). improved c.rounds.policy.items (spread (length c.rounds.policy.items) xs)) c.deref.ensures.value in
-    let is : IsScope p c.next_policy-policy.result.items c.rounds.changes.items c.in_ok-scope.scope =
-    subst (λ (xs : List ℕ). IsScope p xs c.rounds.changes.items c.in_ok-scope.scope) c.deref-in-rounds.ensures.value
-    (subst (λ (xs : List Pred). IsScope p c.deref-in-rounds.result.now xs c.in_ok-scope.scope) c.deref-in-rounds-2.ensures.value (c.in_ok-scope.ensures {u = tt}).scope) in
     subst (λ (xs : List ℕ). CanServe p c.in_ok-scope.scope.affected xs c.rounds.evaluation) (sym c.deref-in-rounds-3.ensures.value)
     (serves-on p c.args.start.items c.rounds.invariant.stands.0 c.rounds.policy.items c.rounds.evaluation c.rounds.changes.items c.rounds.invariant.stands.2
-    c.next_policy-policy.result.items next c.in_ok-scope.scope is)
+    c.next_policy-policy.result.items (next g (goal.at.round_of-requires-clause-serves g c).After-marks-in-rounds-1) c.in_ok-scope.scope (scope_is g c))
 
 pub round_of-requires-clause-others : goal.round_of-requires-clause-others
 round_of-requires-clause-others g c =
     let p = g.P.ShortestPath.problem c.args.problem.now in
-    let next : c.next_policy-policy.result.items ≡ improved c.rounds.policy.items (spread (length c.rounds.policy.items) c.rounds.changes.items) =
-    c.next_policy-policy.ensures ∙ ap (λ (xs : List Pred). improved c.rounds.policy.items (spread (length c.rounds.policy.items) xs)) c.deref.ensures.value in
-    let is : IsScope p c.next_policy-policy.result.items c.rounds.changes.items c.in_ok-scope.scope =
-    subst (λ (xs : List ℕ). IsScope p xs c.rounds.changes.items c.in_ok-scope.scope) c.deref-in-rounds.ensures.value
-    (subst (λ (xs : List Pred). IsScope p c.deref-in-rounds.result.now xs c.in_ok-scope.scope) c.deref-in-rounds-2.ensures.value (c.in_ok-scope.ensures {u = tt}).scope) in
     unimproved p c.args.start.items c.rounds.invariant.stands.0 c.rounds.policy.items c.rounds.evaluation c.rounds.changes.items c.rounds.invariant.stands.2
-    c.next_policy-policy.result.items next c.in_ok-scope.scope is
+    c.next_policy-policy.result.items (next g (goal.at.round_of-requires-clause-others g c).After-marks-in-rounds-1) c.in_ok-scope.scope (scope_is g c)
 
 pub returns-in-Ok-clause-path : goal.returns-in-Ok-clause-path
 returns-in-Ok-clause-path g c =
     let p = g.P.ShortestPath.problem c.args.problem.now in
     let n = c.rounds.invariant.stands.0 in
-    let next : c.next_policy-policy.result.items ≡ improved c.rounds.policy.items (spread (length c.rounds.policy.items) c.rounds.changes.items) =
-    c.next_policy-policy.ensures ∙ ap (λ (xs : List Pred). improved c.rounds.policy.items (spread (length c.rounds.policy.items) xs)) c.deref.ensures.value in
-    let a : Round = record { number = n + 1; policy = c.next_policy-policy.result.items } in
-    let found : Found = record { number = n + 1; policy = c.next_policy-policy.result.items; values = c.into_values.result.items } in
-    let was : c.round_of.result ≡ Ok c.in-Ok.next = search rules in
-    let none = is_none c.in-Ok.next.len c.in-Ok.next.items c.is_empty.result c.is_empty.ensures c.if-is_empty.true c.in-Ok.next.ok.0 in
-    let step : path_step p a ≡ done found =
-    done_at p (n + 1) c.deref-in-rounds-3.result.now c.next_policy-policy.result.items c.round_of.new.evaluation.values c.round_of.result c.deref-in-rounds-3.ensures.value
-    (c.round_of.ensures.step (n + 1)) c.in-Ok.next was none
-    ∙ ap (λ (values : List ℚ). let s : Step Round Found Refusal = done (record { number = n + 1; policy = c.next_policy-policy.result.items; values = values }) in s)
-    (sym c.into_values.ensures) in
-    let rest = rest-on p c.args.start.items n c.rounds.policy.items c.rounds.evaluation c.rounds.changes.items c.rounds.invariant.stands.2 c.next_policy-policy.result.items next in
-    (n + 1, omega (arith, c.rounds.invariant.stands.1, c.saturating_add-round.ensures), rest (Ok found) (ends-done (path_step p) a found step))
+    let found : Found = record { number = n + 1; policy = c.next_policy-policy.result.items; values = c.round_of.new.evaluation.values } in
+    (n + 1, omega (arith, c.rounds.invariant.stands.1, c.saturating_add-round.ensures), rest g (goal.at.returns-in-Ok-clause-path g c).After-marks-in-rounds-1 (Ok found) (ends-done (path_step p) (after n c.next_policy-policy.result.items) found (stepped g c)))
 
 pub returns-in-Ok-clause-best : goal.returns-in-Ok-clause-best
 returns-in-Ok-clause-best g c =
-    let p = g.P.ShortestPath.problem c.args.problem.now in
     let n = c.rounds.invariant.stands.0 in
-    let next : c.next_policy-policy.result.items ≡ improved c.rounds.policy.items (spread (length c.rounds.policy.items) c.rounds.changes.items) =
-    c.next_policy-policy.ensures ∙ ap (λ (xs : List Pred). improved c.rounds.policy.items (spread (length c.rounds.policy.items) xs)) c.deref.ensures.value in
-    let a : Round = record { number = n + 1; policy = c.next_policy-policy.result.items } in
-    let found : Found = record { number = n + 1; policy = c.next_policy-policy.result.items; values = c.into_values.result.items } in
-    let was : c.round_of.result ≡ Ok c.in-Ok.next = search rules in
-    let none = is_none c.in-Ok.next.len c.in-Ok.next.items c.is_empty.result c.is_empty.ensures c.if-is_empty.true c.in-Ok.next.ok.0 in
-    let step : path_step p a ≡ done found =
-    done_at p (n + 1) c.deref-in-rounds-3.result.now c.next_policy-policy.result.items c.round_of.new.evaluation.values c.round_of.result c.deref-in-rounds-3.ensures.value
-    (c.round_of.ensures.step (n + 1)) c.in-Ok.next was none
-    ∙ ap (λ (values : List ℚ). let s : Step Round Found Refusal = done (record { number = n + 1; policy = c.next_policy-policy.result.items; values = values }) in s)
-    (sym c.into_values.ensures) in
-    let k = keeps-on p c.args.start.items n c.rounds.policy.items c.rounds.evaluation c.rounds.changes.items c.rounds.invariant.stands.2
-    c.next_policy-policy.result.items next c.requires.solvable.problem c.requires.solvable.keeps c.solution_law.ensures.solves in
-    done-best p c.args.start.items c.requires.solvable.problem c.requires.solvable.keeps c.solution_law.ensures.solves a found k.0 step
+    done-best (g.P.ShortestPath.problem c.args.problem.now) c.args.start.items c.requires.solvable.problem c.requires.solvable.keeps c.solution_law.ensures.solves
+    (after n c.next_policy-policy.result.items) (record { number = n + 1; policy = c.next_policy-policy.result.items; values = c.round_of.new.evaluation.values })
+    (kept g (goal.at.returns-in-Ok-clause-best g c).After-marks-in-rounds-1).0 (stepped g c)
 
 pub returns-in-Err-clause-path : goal.returns-in-Err-clause-path
 returns-in-Err-clause-path g c =
     let p = g.P.ShortestPath.problem c.args.problem.now in
     let n = c.rounds.invariant.stands.0 in
-    let next : c.next_policy-policy.result.items ≡ improved c.rounds.policy.items (spread (length c.rounds.policy.items) c.rounds.changes.items) =
-    c.next_policy-policy.ensures ∙ ap (λ (xs : List Pred). improved c.rounds.policy.items (spread (length c.rounds.policy.items) xs)) c.deref.ensures.value in
-    let rest = rest-on p c.args.start.items n c.rounds.policy.items c.rounds.evaluation c.rounds.changes.items c.rounds.invariant.stands.2 c.next_policy-policy.result.items next in
     let was : c.round_of.result ≡ Err c.in-Err.error = search rules in
-    subst (λ (e : PathError). Ends p c.args.start.items (Err e)) (sym c.path_error.ensures)
+    subst (λ (e : PathError). IsRefused p c.args.start.items e) (sym c.path_error.ensures)
     (ends_by p (n + 1) c.deref-in-rounds-3.result.now c.next_policy-policy.result.items c.round_of.new.evaluation.values c.round_of.result c.deref-in-rounds-3.ensures.value
     (c.round_of.ensures.step (n + 1)) c.args.start.items c.saturating_add-round.result c.next_policy-policy.result c.in-Err.error refl
-    (omega (arith, c.rounds.invariant.stands.1, c.saturating_add-round.ensures)) rest was)
+    (omega (arith, c.rounds.invariant.stands.1, c.saturating_add-round.ensures)) (rest g (goal.at.returns-in-Err-clause-path g c).After-marks-in-rounds-1) was)
 
 pub rounds-smaller : goal.rounds-smaller
-rounds-smaller g c =
-    let p = g.P.ShortestPath.problem c.args.problem.now in
-    let n = c.rounds.invariant.stands.0 in
-    let next : c.next_policy-policy.result.items ≡ improved c.rounds.policy.items (spread (length c.rounds.policy.items) c.rounds.changes.items) =
-    c.next_policy-policy.ensures ∙ ap (λ (xs : List Pred). improved c.rounds.policy.items (spread (length c.rounds.policy.items) xs)) c.deref.ensures.value in
-    let k = keeps-on p c.args.start.items n c.rounds.policy.items c.rounds.evaluation c.rounds.changes.items c.rounds.invariant.stands.2
-    c.next_policy-policy.result.items next c.requires.solvable.problem c.requires.solvable.keeps c.solution_law.ensures.solves in
-    k.1
+rounds-smaller g c = (kept g (goal.at.rounds-smaller g c).After-marks-in-rounds-1).1
 
 pub rounds-preserved : goal.rounds-preserved
 rounds-preserved g c =
     let p = g.P.ShortestPath.problem c.args.problem.now in
     let n = c.rounds.invariant.stands.0 in
-    let next : c.next_policy-policy.result.items ≡ improved c.rounds.policy.items (spread (length c.rounds.policy.items) c.rounds.changes.items) =
-    c.next_policy-policy.ensures ∙ ap (λ (xs : List Pred). improved c.rounds.policy.items (spread (length c.rounds.policy.items) xs)) c.deref.ensures.value in
-    let k = keeps-on p c.args.start.items n c.rounds.policy.items c.rounds.evaluation c.rounds.changes.items c.rounds.invariant.stands.2
-    c.next_policy-policy.result.items next c.requires.solvable.problem c.requires.solvable.keeps c.solution_law.ensures.solves in
-    let rest = rest-on p c.args.start.items n c.rounds.policy.items c.rounds.evaluation c.rounds.changes.items c.rounds.invariant.stands.2 c.next_policy-policy.result.items next in
-    let was : c.round_of.result ≡ Ok c.in-Ok.next = search rules in
+    let before = (goal.at.rounds-preserved g c).After-marks-in-rounds-1 in
     let made = c.in-Ok.ensures in
     record {
       marks = (c.in_ok-scope.ensures {u = tt}).marks ∙ c.rounds.invariant.marks;
@@ -166,13 +148,13 @@ rounds-preserved g c =
         n + 1,
         omega (arith, c.rounds.invariant.stands.1, c.saturating_add-round.ensures),
         record {
-          keeps = k.0;
+          keeps = (kept g before).0;
           evaluated = subst (λ (xs : List ℕ). IsEvaluated p xs c.round_of.new.evaluation) c.deref-in-rounds-3.ensures.value made.evaluated;
           some = is_some c.in-Ok.next.len c.in-Ok.next.items c.is_empty.result c.is_empty.ensures c.if-is_empty.false c.in-Ok.next.ok.0;
           improving = made.changes;
           each = made.each;
           ascend = made.ascend;
-          rest = rest;
+          rest = rest g before;
         },
       );
     }

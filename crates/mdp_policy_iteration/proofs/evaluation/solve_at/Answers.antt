@@ -17,7 +17,7 @@ solve_again-requires-clause-in_range g c = λ k d l.
 
 pub bounds-rows-state : goal.bounds-rows-state
 bounds-rows-state g c =
-    let l = solution-below _ _ _ (c.in-Err-Wide.ensures.wide c.in-Err-Wide.state (search rules)) in
+    let l = solution-below _ _ _ (c.in-Err-TooWide.ensures.wide c.in-Err-TooWide.state (search rules)) in
     let n = rows-len (g.P.ShortestPath.problem c.args.rows.now.problem.now) c.args.rows.now.policy.now in
     let m = c.args.rows.now.is.one_each in
     omega arith

@@ -1,6 +1,6 @@
 use Rattle.std.proofs.Common.{ℕ, List, Ok, Err, refl, sym, subst}
 use Rattle.mdp_math.specs.Rational.{ℚ}
-use Rattle.mdp_wide.specs.declared.too_wide.SolveError.{SolveError}
+use Rattle.mdp_wide.specs.Errors.{SolveError}
 use Rattle.mdp_wide.specs.declared.too_wide.Part.TheVariants as part
 use Rattle.mdp_policy_iteration.specs.Path.{Found}
 use Rattle.mdp_policy_iteration.specs.Laws.{IsSolvable}

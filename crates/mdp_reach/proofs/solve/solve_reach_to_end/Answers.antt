@@ -1,6 +1,6 @@
 use Rattle.std.proofs.Common.{◌∙◌, ℕ, List, Err, length, sym, ap, subst}
 use Rattle.mdp_spec.specs.Tree.{IsPolicy}
-use Rattle.mdp_wide.specs.declared.too_wide.SolveError.{SolveError}
+use Rattle.mdp_wide.specs.Errors.{SolveError}
 use Rattle.mdp_math.specs.Rational.{ℚ}
 use Rattle.mdp_reach.specs.Query.{AreRanks}
 use Rattle.mdp_reach.specs.Round.{SolvesToEnd}
@@ -10,6 +10,7 @@ use Rattle.mdp_reach.proofs.Kept.{found-policy}
 use Rattle.mdp_farkas.proofs.ReachRules.{reach_never_no}
 use Rattle.mdp_reach.proofs.Answering.{meets-reach, ranks-count, ends-refused, ends-answered, ends-wide}
 use Rattle.mdp_reach.proofs.solve.solve_reach_to_end.Goals as goal
+use Rattle.mdp_reach.proofs.solve.solve_reach_to_end.Goals.{After-cert-1}
 
 pub invariant_of-problem : goal.invariant_of-problem
 invariant_of-problem c = record {
@@ -44,21 +45,20 @@ holds_reach-requires-clause-values c = (c.in-Ok.ensures {u = tt}).best.best.valu
 pub holds_reach-requires-clause-choices : goal.holds_reach-requires-clause-choices
 holds_reach-requires-clause-choices c = (c.in-Ok.ensures {u = tt}).best.best.is.one_each ∙ reach-count c.args.dir c.args.model.now c.args.goals.now c.in_ok-start.start.marks
 
+-- the certificate has the ranks of what was found
+are_ranks : (c : After-cert-1) → AreRanks c.args.dir c.args.model.now c.args.goals.now c.in-Ok.found.values.items c.in-Ok.found.policy.items c.in_ok-ranks.ranks.items
+are_ranks c =
+    subst (λ (x : List ℚ). AreRanks c.args.dir c.args.model.now c.args.goals.now x c.in-Ok.found.policy.items c.in_ok-ranks.ranks.items) c.deref-2.ensures.value
+    (subst (λ (policy : List ℕ). AreRanks c.args.dir c.args.model.now c.args.goals.now c.deref-2.result.now policy c.in_ok-ranks.ranks.items) c.deref.ensures.value
+    (c.in_ok-ranks.ensures {u = tt}))
+
 pub returns-in-Yes-clause-path : goal.returns-in-Yes-clause-path
 returns-in-Yes-clause-path c =
-    let dir = c.args.dir in
-    let m = c.args.model.now in
-    let goals = c.args.goals.now in
-    let marks = c.in_ok-start.start.marks in
-    let start = c.in_ok-start.start.choices.items in
-    let are : AreRanks dir m goals c.in-Ok.found.values.items c.in-Ok.found.policy.items c.in_ok-ranks.ranks.items =
-    subst (λ (x : List ℚ). AreRanks dir m goals x c.in-Ok.found.policy.items c.in_ok-ranks.ranks.items) c.deref-2.ensures.value
-    (subst (λ (policy : List ℕ). AreRanks dir m goals c.deref-2.result.now policy c.in_ok-ranks.ranks.items) c.deref.ensures.value (c.in_ok-ranks.ensures {u = tt})) in
     let end = (c.in-Ok.ensures {u = tt}).path in (
       end.0,
       end.1,
-      ends-answered dir m goals marks start (c.in_ok-start.ensures {u = tt}) end.0 c.in-Ok.found.policy.items c.in_ok-ranks.ranks.items c.in-Ok.found.values.items end.2 are
-          (sym c.in-Yes.is ∙ c.holds_reach.ensures.verdict),
+      ends-answered c.args.dir c.args.model.now c.args.goals.now c.in_ok-start.start.marks c.in_ok-start.start.choices.items (c.in_ok-start.ensures {u = tt}) end.0 c.in-Ok.found.policy.items c.in_ok-ranks.ranks.items c.in-Ok.found.values.items end.2
+          (are_ranks (goal.at.returns-in-Yes-clause-path c).After-cert-1) (sym c.in-Yes.is ∙ c.holds_reach.ensures.verdict),
     )
 
 pub returns-in-Yes-clause-each : goal.returns-in-Yes-clause-each
@@ -73,32 +73,16 @@ returns-in-Yes-clause-each c =
 
 pub unreachable-requires : goal.unreachable-requires
 unreachable-requires c =
-    let dir = c.args.dir in
-    let m = c.args.model.now in
-    let goals = c.args.goals.now in
-    let marks = c.in_ok-start.start.marks in
-    let start = c.in_ok-start.start.choices.items in
-    let are : AreRanks dir m goals c.in-Ok.found.values.items c.in-Ok.found.policy.items c.in_ok-ranks.ranks.items =
-    subst (λ (x : List ℚ). AreRanks dir m goals x c.in-Ok.found.policy.items c.in_ok-ranks.ranks.items) c.deref-2.ensures.value
-    (subst (λ (policy : List ℕ). AreRanks dir m goals c.deref-2.result.now policy c.in_ok-ranks.ranks.items) c.deref.ensures.value (c.in_ok-ranks.ensures {u = tt})) in
-    reach_never_no m goals c.in-Ok.found.values.items c.in-Ok.found.policy.items c.in_ok-ranks.ranks.items dir
-    (meets-reach dir m goals marks start c.in-Ok.found.policy.items c.in_ok-ranks.ranks.items c.in-Ok.found.values.items c.known.ensures.mdp (c.in_ok-start.ensures {u = tt})
-    (c.in-Ok.ensures {u = tt}).best are c.reach_law.ensures.rest c.along_law.ensures.falls c.along_law.ensures.rest c.meet_law.ensures.rest)
+    reach_never_no c.args.model.now c.args.goals.now c.in-Ok.found.values.items c.in-Ok.found.policy.items c.in_ok-ranks.ranks.items c.args.dir
+    (meets-reach c.args.dir c.args.model.now c.args.goals.now c.in_ok-start.start.marks c.in_ok-start.start.choices.items c.in-Ok.found.policy.items c.in_ok-ranks.ranks.items c.in-Ok.found.values.items c.known.ensures.mdp (c.in_ok-start.ensures {u = tt}) (c.in-Ok.ensures {u = tt}).best
+    (are_ranks (goal.at.unreachable-requires c).After-cert-1) c.reach_law.ensures.rest c.along_law.ensures.falls c.along_law.ensures.rest c.meet_law.ensures.rest)
     c.in-No.field-0 (sym c.holds_reach.ensures.verdict ∙ c.in-No.is)
 
 pub returns-clause-path : goal.returns-clause-path
 returns-clause-path c =
-    let dir = c.args.dir in
-    let m = c.args.model.now in
-    let goals = c.args.goals.now in
-    let marks = c.in_ok-start.start.marks in
-    let start = c.in_ok-start.start.choices.items in
-    let are : AreRanks dir m goals c.in-Ok.found.values.items c.in-Ok.found.policy.items c.in_ok-ranks.ranks.items =
-    subst (λ (x : List ℚ). AreRanks dir m goals x c.in-Ok.found.policy.items c.in_ok-ranks.ranks.items) c.deref-2.ensures.value
-    (subst (λ (policy : List ℕ). AreRanks dir m goals c.deref-2.result.now policy c.in_ok-ranks.ranks.items) c.deref.ensures.value (c.in_ok-ranks.ensures {u = tt})) in
     let end = (c.in-Ok.ensures {u = tt}).path in (
       end.0,
       end.1,
-      ends-wide dir m goals marks start (c.in_ok-start.ensures {u = tt}) end.0 c.in-Ok.found.policy.items c.in_ok-ranks.ranks.items c.in-Ok.found.values.items end.2 are
-          c.in-Wide.state c.in-Wide.choice (sym c.in-Wide.is ∙ c.holds_reach.ensures.verdict),
+      ends-wide c.args.dir c.args.model.now c.args.goals.now c.in_ok-start.start.marks c.in_ok-start.start.choices.items (c.in_ok-start.ensures {u = tt}) end.0 c.in-Ok.found.policy.items c.in_ok-ranks.ranks.items c.in-Ok.found.values.items end.2
+          (are_ranks (goal.at.returns-clause-path c).After-cert-1) c.in-Wide.state c.in-Wide.choice (sym c.in-Wide.is ∙ c.holds_reach.ensures.verdict),
     )

@@ -2,14 +2,15 @@ use Rattle.std.proofs.Common.{◌≡◌, ◌∙◌, ◌<◌, ◌+◌, ℕ, List,
 use Rattle.std.specs.List.{All, remove}
 use Rattle.std.proofs.lemmas.List.{get_or_default}
 use Rattle.smallvec.specs.SmallVec.{SmallVec}
-use Rattle.mdp_elim.specs.declared.errors.StepError.TheVariants as error
+use Rattle.mdp_wide.specs.declared.unfinished.Unfinished.TheVariants as error
 use Rattle.mdp_elim.specs.Equation as spec
-use Rattle.mdp_elim.specs.Entries.{Between, each}
+use Rattle.mdp_elim.specs.Entries.{each}
 use Rattle.mdp_elim.specs.Elimination.{divided, substituted}
 use Rattle.mdp_elim.specs.Predecessors.{no_states, at, IsLinked}
 use Rattle.mdp_elim.proofs.Equations.{eliminated-none_pivot}
 use Rattle.mdp_elim.proofs.Putting.{linked_suc, rest_linked, taken_smaller, pivot_below, whole, whole_linked, whole_none}
 use Rattle.mdp_elim.proofs.elimination.System.eliminate.Goals as goal
+use Rattle.mdp_elim.proofs.elimination.System.eliminate.Goals.{After-deref}
 
 pub returns-in_err-divide-clause-wide : goal.returns-in_err-divide-clause-wide
 returns-in_err-divide-clause-wide c = λ _.
@@ -23,14 +24,15 @@ substitute_in_each-requires-clause-linked c =
     (subst (λ (es : List spec.Equation). IsLinked c.args.s (c.args.s + 1) (remove c.args.self.now.lists.items c.args.s) es)
     (sym c.remove-equation.ensures.items) (rest_linked c.args.s c.args.self.now.lists.items c.args.self.now.equations.items c.requires.linked))
 
-pub substitute_in_each-requires-clause-pivot : goal.substitute_in_each-requires-clause-pivot
-substitute_in_each-requires-clause-pivot c =
+-- the pivot is the equation of s, divided
+made : (c : After-deref) → divided c.args.s (at c.args.self.now.equations.items c.args.s) ≡ Some c.in_ok-pivot.pivot
+made c =
     let at_s : c.remove-equation.result ≡ at c.args.self.now.equations.items c.args.s = c.remove-equation.ensures.value
     ∙ get_or_default c.args.self.now.equations.items c.args.s _ spec.no_equation (omega (arith, c.requires.linked.count)) in
-    let made : divided c.args.s (at c.args.self.now.equations.items c.args.s) ≡ Some c.divide.new.self = subst
-    (λ (e : spec.Equation). divided c.args.s e ≡ Some c.divide.new.self) at_s (c.in_ok-divide.ensures {u = tt}).ok in
-    let is : c.in_ok-pivot.pivot ≡ c.divide.new.self = c.in_ok-pivot.ensures {u = tt} in
-    subst (λ (e : spec.Equation). Between 0 c.args.s e.entries) (sym is) (pivot_below c.args.s c.args.self.now.lists.items c.args.self.now.equations.items c.requires.linked c.divide.new.self made)
+    subst (λ (e : spec.Equation). divided c.args.s e ≡ Some c.divide.new.self) at_s (c.in_ok-divide.ensures {u = tt}).ok ∙ ap Some (sym (c.in_ok-pivot.ensures {u = tt}))
+
+pub substitute_in_each-requires-clause-pivot : goal.substitute_in_each-requires-clause-pivot
+substitute_in_each-requires-clause-pivot c = pivot_below c.args.s c.args.self.now.lists.items c.args.self.now.equations.items c.requires.linked c.in_ok-pivot.pivot (made c)
 
 pub substitute_in_each-requires-clause-smaller : goal.substitute_in_each-requires-clause-smaller
 substitute_in_each-requires-clause-smaller c =
@@ -42,34 +44,19 @@ substitute_in_each-requires-clause-smaller c =
 
 pub returns-in_err-substitute_in_each-clause-wide : goal.returns-in_err-substitute_in_each-clause-wide
 returns-in_err-substitute_in_each-clause-wide c = λ h.
-    let w : c.substitute_in_each.result ≡ Err error.Wide = search rules in
-    let at_s : c.remove-equation.result ≡ at c.args.self.now.equations.items c.args.s = c.remove-equation.ensures.value
-    ∙ get_or_default c.args.self.now.equations.items c.args.s _ spec.no_equation (omega (arith, c.requires.linked.count)) in
-    let is : c.in_ok-pivot.pivot ≡ c.divide.new.self = c.in_ok-pivot.ensures {u = tt} in
-    let made : divided c.args.s (at c.args.self.now.equations.items c.args.s) ≡ Some c.in_ok-pivot.pivot = subst
-    (λ (e : spec.Equation). divided c.args.s e ≡ Some c.divide.new.self) at_s (c.in_ok-divide.ensures {u = tt}).ok ∙ ap Some (sym is) in
-    whole_none c.args.s c.args.self.now.lists.items c.args.self.now.equations.items c.requires.linked c.in_ok-pivot.pivot made
+    let w : c.substitute_in_each.result ≡ Err (error.TooWide tt) = search rules in
+    whole_none c.args.s c.args.self.now.lists.items c.args.self.now.equations.items c.requires.linked c.in_ok-pivot.pivot (made (goal.at.returns-in_err-substitute_in_each-clause-wide c).After-deref)
     (subst (λ (es : List spec.Equation). each (substituted c.args.s c.in_ok-pivot.pivot) es ≡ None) c.remove-equation.ensures.items (c.substitute_in_each.ensures.wide w))
 
 pub returns-clause-ok : goal.returns-clause-ok
 returns-clause-ok c =
-    let at_s : c.remove-equation.result ≡ at c.args.self.now.equations.items c.args.s = c.remove-equation.ensures.value
-    ∙ get_or_default c.args.self.now.equations.items c.args.s _ spec.no_equation (omega (arith, c.requires.linked.count)) in
-    let is : c.in_ok-pivot.pivot ≡ c.divide.new.self = c.in_ok-pivot.ensures {u = tt} in
-    let made : divided c.args.s (at c.args.self.now.equations.items c.args.s) ≡ Some c.in_ok-pivot.pivot = subst
-    (λ (e : spec.Equation). divided c.args.s e ≡ Some c.divide.new.self) at_s (c.in_ok-divide.ensures {u = tt}).ok ∙ ap Some (sym is) in
-    whole c.args.s c.args.self.now.lists.items c.args.self.now.equations.items c.requires.linked c.in_ok-pivot.pivot made c.substitute_in_each.new.self.equations.items
+    whole c.args.s c.args.self.now.lists.items c.args.self.now.equations.items c.requires.linked c.in_ok-pivot.pivot (made (goal.at.returns-clause-ok c).After-deref) c.substitute_in_each.new.self.equations.items
     (subst (λ (es : List spec.Equation). each (substituted c.args.s c.in_ok-pivot.pivot) es ≡ Some c.substitute_in_each.new.self.equations.items)
     c.remove-equation.ensures.items (c.in_ok-substitute_in_each.ensures {u = tt}).ok)
 
 pub returns-clause-linked : goal.returns-clause-linked
 returns-clause-linked c =
-    let at_s : c.remove-equation.result ≡ at c.args.self.now.equations.items c.args.s = c.remove-equation.ensures.value
-    ∙ get_or_default c.args.self.now.equations.items c.args.s _ spec.no_equation (omega (arith, c.requires.linked.count)) in
-    let is : c.in_ok-pivot.pivot ≡ c.divide.new.self = c.in_ok-pivot.ensures {u = tt} in
-    let made : divided c.args.s (at c.args.self.now.equations.items c.args.s) ≡ Some c.in_ok-pivot.pivot = subst
-    (λ (e : spec.Equation). divided c.args.s e ≡ Some c.divide.new.self) at_s (c.in_ok-divide.ensures {u = tt}).ok ∙ ap Some (sym is) in
-    whole_linked c.args.s c.args.self.now.lists.items c.args.self.now.equations.items c.requires.linked c.in_ok-pivot.pivot made c.substitute_in_each.new.self.equations.items
+    whole_linked c.args.s c.args.self.now.lists.items c.args.self.now.equations.items c.requires.linked c.in_ok-pivot.pivot (made (goal.at.returns-clause-linked c).After-deref) c.substitute_in_each.new.self.equations.items
     (subst (λ (es : List spec.Equation). each (substituted c.args.s c.in_ok-pivot.pivot) es ≡ Some c.substitute_in_each.new.self.equations.items)
     c.remove-equation.ensures.items (c.in_ok-substitute_in_each.ensures {u = tt}).ok)
     c.substitute_in_each.new.self.lists.items (c.in_ok-substitute_in_each.ensures {u = tt}).linked

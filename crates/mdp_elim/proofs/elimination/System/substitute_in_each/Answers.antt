@@ -1,12 +1,12 @@
 use Rattle.std.proofs.Common.{◌≡◌, ◌∙◌, ◌+◌, Err, length, suc, sym, subst, rules, arith}
-use Rattle.mdp_elim.specs.declared.errors.StepError.TheVariants as error
+use Rattle.mdp_wide.specs.declared.unfinished.Unfinished.TheVariants as error
 use Rattle.mdp_elim.specs.Predecessors.{LeadBelow}
 use Rattle.mdp_elim.proofs.Putting.{IsPutBelow, put_stop, put_next, put_all}
 use Rattle.mdp_elim.proofs.elimination.System.substitute_in_each.Goals as goal
 
 pub returns-in_err-substitute_at-clause-wide : goal.returns-in_err-substitute_at-clause-wide
 returns-in_err-substitute_at-clause-wide c = λ h.
-    let w : c.substitute_at.result ≡ Err error.Wide = search rules in
+    let w : c.substitute_at.result ≡ Err (error.TooWide tt) = search rules in
     let e : c.args.s + 1 ≡ suc c.args.s = omega arith in
     put_stop c.args.s c.args.pivot.now c.requires.pivot c.args.states.now c.args.self.now.equations.items (subst (λ n. LeadBelow c.args.s n c.args.self.now.equations.items) e c.requires.linked.down)
     c.loop-t.t-index _ c.loop-t.self.equations.items c.loop-t-test.true c.requires.smaller c.loop-t.invariant.put c.requires.linked.count (c.substitute_at.ensures.wide w)

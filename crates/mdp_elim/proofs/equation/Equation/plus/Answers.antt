@@ -1,5 +1,5 @@
 use Rattle.std.proofs.Common.{◌≡◌, None, Some, Err, subst, rules}
-use Rattle.mdp_elim.specs.declared.errors.StepError.TheVariants as error
+use Rattle.mdp_wide.specs.declared.unfinished.Unfinished.TheVariants as error
 use Rattle.mdp_elim.specs.Equation as spec
 use Rattle.mdp_elim.specs.Entries.{plus_row}
 use Rattle.mdp_elim.specs.Elimination.{plus_equation}
@@ -8,7 +8,7 @@ use Rattle.mdp_elim.proofs.equation.Equation.plus.Goals as goal
 
 pub returns-in_err-add_row-clause-wide : goal.returns-in_err-add_row-clause-wide
 returns-in_err-add_row-clause-wide c = λ h.
-    let w : c.add_row.result ≡ Err error.Wide = search rules in
+    let w : c.add_row.result ≡ Err (error.TooWide tt) = search rules in
     subst (λ (e : spec.Equation). plus_equation c.args.times.now c.args.other.now e ≡ None) c.self.view_is
     (subst (λ (o : spec.Equation). plus_equation c.args.times.now o (record { entries = c.self.inside.entries.items; first = c.self.inside.first; second = c.self.inside.second }) ≡ None) c.other.view_is
     (plus_equation-none_entries c.args.times.now _ _ (c.add_row.ensures.wide w)))

@@ -17,7 +17,7 @@ returns-in-Ok-clause-count c =
 
 pub bounds-self-state : goal.bounds-self-state
 bounds-self-state c =
-    let l = written_solution-below _ _ _ c.in-Err-Wide.state ((c.in-Err-Wide.ensures {u = tt}).wide c.in-Err-Wide.state (search rules)) in
+    let l = written_solution-below _ _ _ c.in-Err-TooWide.state ((c.in-Err-TooWide.ensures {u = tt}).wide c.in-Err-TooWide.state (search rules)) in
     let n = policy_rows-len c.args.self.model.now c.args.self.policy.now in
     let m = c.args.self.chosen.one_each in
     omega arith
