@@ -24,6 +24,9 @@ halts xs ys e stands = ap (λ (r : Result (Unit {0}) Objection). r >>= (λ ok. o
 pub goes_on : (xs ys : List Check) (u : Unit {0}) (r : Result (Unit {0}) Objection) → Ok u ≡ objection_to xs → r ≡ objection_to ys → r ≡ objection_to (xs ++ ys)
 goes_on xs ys u r none rest = rest ∙ ap (λ (r : Result (Unit {0}) Objection). r >>= (λ ok. objection_to ys)) none ∙ sym (objection_to-append xs ys)
 
+-- a walk over parts of which a `?` may end each
+pub ruleset walked = (halts, goes_on)
+
 -- one of two parts, by a test
 pub by_test : (b : Bool) (xs ys : List Check) (r : Result (Unit {0}) Objection) → b ≡ false → r ≡ objection_to ys → r ≡ objection_to (cond b xs ys)
 by_test true xs ys r e stands = absurd (true≢false e)

@@ -31,12 +31,12 @@ use Rattle.mdp_farkas.proofs.UpperRules.{values_at, probabilities_of, rest_of, v
 
 -- ---- tests
 
-end_of : (g l : Bool) → (g ≡ true) ⊎ (l ≡ false) → (g || not l) ≡ true
+pub end_of : (g l : Bool) → (g ≡ true) ⊎ (l ≡ false) → (g || not l) ≡ true
 end_of true l h = refl
 end_of false true h = ⊎_elim (λ e. e) (λ e. sym e) h
 end_of false false h = refl
 
-no_end_of : (g l : Bool) → g ≡ false → l ≡ true → (g || not l) ≡ false
+pub no_end_of : (g l : Bool) → g ≡ false → l ≡ true → (g || not l) ≡ false
 no_end_of true l e f = absurd (true≢false e)
 no_end_of false true e f = refl
 no_end_of false false e f = absurd (true≢false (sym f))

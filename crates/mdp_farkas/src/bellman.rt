@@ -2,10 +2,12 @@ ghost use Rattle.std.specs.Prelude.{◌≡◌, ◌<◌, length, [], ◌∷◌, A
 ghost use Rattle.std.specs.Result.{result_ok};
 ghost use Rattle.mdp_spec.specs.Mdp.{states_of, choices_at};
 ghost use Rattle.mdp_spec.specs.Row.{entries};
-ghost use Rattle.mdp_farkas.specs.Bellman.{stands, sum_stands, stands_at, bound_check, bound_checks};
-ghost use Rattle.mdp_farkas.specs.Verdict.{objection_to};
+ghost use Rattle.mdp_farkas.specs.Bellman.{stands, sum_stands, stands_at};
+ghost use Rattle.mdp_farkas.specs.Reach.{policy_check};
+ghost use Rattle.mdp_farkas.specs.Verdict.{at_choice, at_choices, objection_to};
 
 use crate::compare::{at_least, at_most};
+use crate::reach::reversed;
 use crate::rule::Rule;
 use crate::verdict::{Objection, judged};
 use crate::walk::each_choice;
@@ -37,53 +39,59 @@ pub(crate) fn row_stands(
     value_stands(dir, value, &sum)
 }
 
-/// Whether the value of state `s` is at least, or for the least values at most, the sum over the row of its choice `c`.
-pub(crate) fn choice_stands(
-    model: &Model,
-    dir: Dir,
-    values: &[Frac],
-    s: u32,
-    c: u32,
-) -> Result<bool, Wide>
-    requires values { length values.now ≡ states_of model.now }
-    requires state { s < states_of model.now }
-    requires choice { c < length (choices_at model.now s) }
-    ensures { result_ok result ≡ stands_at dir model.now values.now s c }
-{
-    row_stands(
-        model.row(s, c),
-        dir,
-        &values[s as usize],
-        &Frac::whole(0),
-        values,
-    )
+/// A number for each state, held against the rows of a model.
+#[derive(Clone, Copy)]
+pub(crate) struct Held<'a> {
+    pub dir: Dir,
+    pub model: &'a Model,
+    pub values: &'a [Frac],
+    pub ghost one_each: { length values.now ≡ states_of model.now },
 }
 
-/// Bellman's inequality at state `s` and its choice `c`: the value is at least, or for the least probability at most, the sum over the row.
-fn bound_at(model: &Model, dir: Dir, values: &[Frac], s: u32, c: u32) -> Result<(), Objection>
-    requires values { length values.now ≡ states_of model.now }
-    requires state { s < states_of model.now }
-    requires choice { c < length (choices_at model.now s) }
-    ensures { result ≡ objection_to (bound_check dir model.now values.now s c ∷ []) }
-{
-    judged(
-        choice_stands(model, dir, values, s, c),
-        Rule::ValueOnEachChoice,
-        s,
-        Some(c),
-    )
-}
+impl Held<'_> {
+    /// Whether the value of state `s` is at least, or for the least values at most, the sum over the row of its choice `c`.
+    fn stands(self, dir: Dir, s: u32, c: u32) -> Result<bool, Wide>
+        requires state { s < states_of self.model.now }
+        requires choice { c < length (choices_at self.model.now s) }
+        ensures { result_ok result ≡ stands_at dir self.entry.model.now self.entry.values.now s c }
+    {
+        row_stands(
+            self.model.row(s, c),
+            dir,
+            &self.values[s as usize],
+            &Frac::whole(0),
+            self.values,
+        )
+    }
 
-/// The inequality at each choice of state `s`.
-pub(crate) fn bounds_at_state(
-    model: &Model,
-    dir: Dir,
-    values: &[Frac],
-    s: u32,
-) -> Result<(), Objection>
-    requires values { length values.now ≡ states_of model.now }
-    requires state { s < states_of model.now }
-    ensures { result ≡ objection_to (bound_checks dir model.now values.now s) }
-{
-    each_choice(model, s, |c| bound_at(model, dir, values, s, c))
+    /// Bellman's inequality at state `s` and its choice `c`, as this rule asks it.
+    fn meets(self, rule: Rule, s: u32, c: u32) -> Result<(), Objection>
+        requires state { s < states_of self.model.now }
+        requires choice { c < length (choices_at self.model.now s) }
+        ensures { result ≡ objection_to (at_choice rule s c (stands_at self.entry.dir self.entry.model.now self.entry.values.now s c) ∷ []) }
+    {
+        judged(self.stands(self.dir, s, c), rule, s, Some(c))
+    }
+
+    /// The inequality at each choice of state `s`.
+    pub(crate) fn meets_on_each(self, rule: Rule, s: u32) -> Result<(), Objection>
+        requires { s < states_of self.model.now }
+        ensures { result ≡ objection_to (at_choices self.entry.model.now s (λ c. at_choice rule s c (stands_at self.entry.dir self.entry.model.now self.entry.values.now s c))) }
+    {
+        each_choice(self.model, s, |c| self.meets(rule, s, c))
+    }
+
+    /// The inequality the other way round, for the choice of the policy.
+    pub(crate) fn meets_on_policy(self, s: u32, choice: u32) -> Result<(), Objection>
+        requires state { s < states_of self.model.now }
+        requires choice { choice < length (choices_at self.model.now s) }
+        ensures { result ≡ objection_to (policy_check self.entry.dir self.entry.model.now self.entry.values.now s choice ∷ []) }
+    {
+        judged(
+            self.stands(reversed(self.dir), s, choice),
+            Rule::ValueOnPolicy,
+            s,
+            Some(choice),
+        )
+    }
 }

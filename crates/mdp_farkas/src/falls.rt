@@ -3,7 +3,7 @@ ghost use Rattle.std.specs.List.{list_all, list_any};
 ghost use Rattle.mdp_spec.specs.Bounds.{infinite};
 ghost use Rattle.mdp_spec.specs.Mdp.{states_of, choices_at};
 ghost use Rattle.mdp_spec.specs.Tree.{is_marked};
-ghost use Rattle.mdp_farkas.specs.Reward.{falls, falls_infinite, stays_infinite};
+ghost use Rattle.mdp_farkas.specs.Reward.{falls};
 
 use crate::finite::is_infinite_at;
 use mdp_num::Frac;
@@ -18,7 +18,12 @@ fn some_falls(targets: &[u32], ranks: &[u32], rank: u32) -> bool
 }
 
 /// Whether a target has an infinite value and a rank below `rank`.
-fn some_falls_infinite(targets: &[u32], values: &[Option<Frac>], ranks: &[u32], rank: u32) -> bool
+pub(crate) fn some_falls_infinite(
+    targets: &[u32],
+    values: &[Option<Frac>],
+    ranks: &[u32],
+    rank: u32,
+) -> bool
     requires values { All (λ t. t < length values.now) targets.now }
     requires ranks { length ranks.now ≡ length values.now }
     ensures { result ≡ list_any (λ t. is_marked (infinite values.now) t && nat_lt (slice_index ranks.now t) rank) targets.now }
@@ -27,7 +32,12 @@ fn some_falls_infinite(targets: &[u32], values: &[Option<Frac>], ranks: &[u32], 
 }
 
 /// Whether all targets have an infinite value and this rank.
-fn all_stay_infinite(targets: &[u32], values: &[Option<Frac>], ranks: &[u32], rank: u32) -> bool
+pub(crate) fn all_stay_infinite(
+    targets: &[u32],
+    values: &[Option<Frac>],
+    ranks: &[u32],
+    rank: u32,
+) -> bool
     requires values { All (λ t. t < length values.now) targets.now }
     requires ranks { length ranks.now ≡ length values.now }
     ensures { result ≡ list_all (λ t. is_marked (infinite values.now) t && (slice_index ranks.now t == rank)) targets.now }
@@ -43,38 +53,4 @@ pub(crate) fn falls_at(model: &Model, ranks: &[u32], s: u32, c: u32) -> bool
     ensures { result ≡ falls model.now ranks.now s c }
 {
     some_falls(model.row(s, c).targets, ranks, ranks[s as usize])
-}
-
-/// Whether an entry of the row of choice `c` at state `s` leads to an infinite value of smaller rank.
-pub(crate) fn falls_infinite_at(
-    model: &Model,
-    values: &[Option<Frac>],
-    ranks: &[u32],
-    s: u32,
-    c: u32,
-) -> bool
-    requires values { length values.now ≡ states_of model.now }
-    requires ranks { length ranks.now ≡ states_of model.now }
-    requires state { s < states_of model.now }
-    requires choice { c < length (choices_at model.now s) }
-    ensures { result ≡ falls_infinite model.now values.now ranks.now s c }
-{
-    some_falls_infinite(model.row(s, c).targets, values, ranks, ranks[s as usize])
-}
-
-/// Whether each entry of the row of choice `c` at state `s` leads to an infinite value of the rank of `s`.
-pub(crate) fn stays_infinite_at(
-    model: &Model,
-    values: &[Option<Frac>],
-    ranks: &[u32],
-    s: u32,
-    c: u32,
-) -> bool
-    requires values { length values.now ≡ states_of model.now }
-    requires ranks { length ranks.now ≡ states_of model.now }
-    requires state { s < states_of model.now }
-    requires choice { c < length (choices_at model.now s) }
-    ensures { result ≡ stays_infinite model.now values.now ranks.now s c }
-{
-    all_stay_infinite(model.row(s, c).targets, values, ranks, ranks[s as usize])
 }

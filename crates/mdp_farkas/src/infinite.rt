@@ -1,67 +1,75 @@
 ghost use Rattle.std.specs.Prelude.{◌≡◌, ◌<◌, length, [], ◌∷◌};
 ghost use Rattle.mdp_spec.specs.Mdp.{states_of, choices_at};
-ghost use Rattle.mdp_farkas.specs.Reward.{miss_check, all_miss_check, infinite_checks};
+ghost use Rattle.mdp_farkas.specs.Reward.{falls_infinite, stays_infinite, miss_check, all_miss_check, infinite_checks};
 ghost use Rattle.mdp_farkas.specs.Verdict.{objection_to, at_choices};
 
-use crate::falls::{falls_infinite_at, stays_infinite_at};
+use crate::falls::{all_stay_infinite, some_falls_infinite};
 use crate::rule::Rule;
 use crate::verdict::{Objection, judged};
 use crate::walk::each_choice;
 use mdp_num::Frac;
 use mdp_rows::{Dir, Model};
 
-/// An entry of the row of the policy's choice leads to an infinite value of smaller rank; or the rank is 0, and each entry leads to an
-/// infinite value of rank 0.
-fn policy_misses(
-    model: &Model,
-    values: &[Option<Frac>],
-    ranks: &[u32],
-    s: u32,
-    choice: u32,
-) -> Result<(), Objection>
-    requires values { length values.now ≡ states_of model.now }
-    requires ranks { length ranks.now ≡ states_of model.now }
-    requires state { s < states_of model.now }
-    requires choice { choice < length (choices_at model.now s) }
-    ensures { result ≡ objection_to (miss_check model.now values.now ranks.now s choice ∷ []) }
-{
-    let misses = falls_infinite_at(model, values, ranks, s, choice)
-        || (ranks[s as usize] == 0 && stays_infinite_at(model, values, ranks, s, choice));
-    judged(Ok(misses), Rule::PolicyMisses, s, Some(choice))
+/// Values and ranks that are held against a model, at states of infinite value.
+#[derive(Clone, Copy)]
+struct Missing<'a> {
+    model: &'a Model,
+    values: &'a [Option<Frac>],
+    ranks: &'a [u32],
+    ghost values_each: { length values.now ≡ states_of model.now },
+    ghost ranks_each: { length ranks.now ≡ states_of model.now },
 }
 
-/// An entry of the row of choice `c` leads to an infinite value of smaller rank, or each entry to one of this rank.
-fn choice_misses(
-    model: &Model,
-    values: &[Option<Frac>],
-    ranks: &[u32],
-    s: u32,
-    c: u32,
-) -> Result<(), Objection>
-    requires values { length values.now ≡ states_of model.now }
-    requires ranks { length ranks.now ≡ states_of model.now }
-    requires state { s < states_of model.now }
-    requires choice { c < length (choices_at model.now s) }
-    ensures { result ≡ objection_to (all_miss_check model.now values.now ranks.now s c ∷ []) }
-{
-    let misses = falls_infinite_at(model, values, ranks, s, c)
-        || stays_infinite_at(model, values, ranks, s, c);
-    judged(Ok(misses), Rule::EachChoiceMisses, s, Some(c))
-}
+impl Missing<'_> {
+    /// Whether an entry of the row of choice `c` at state `s` leads to an infinite value of smaller rank.
+    fn falls(self, s: u32, c: u32) -> bool
+        requires state { s < states_of self.model.now }
+        requires choice { c < length (choices_at self.model.now s) }
+        ensures { result ≡ falls_infinite self.entry.model.now self.entry.values.now self.entry.ranks.now s c }
+    {
+        let targets = self.model.row(s, c).targets;
+        some_falls_infinite(targets, self.values, self.ranks, self.ranks[s as usize])
+    }
 
-/// Each choice misses the goals with some chance.
-fn choices_miss(
-    model: &Model,
-    values: &[Option<Frac>],
-    ranks: &[u32],
-    s: u32,
-) -> Result<(), Objection>
-    requires values { length values.now ≡ states_of model.now }
-    requires ranks { length ranks.now ≡ states_of model.now }
-    requires state { s < states_of model.now }
-    ensures { result ≡ objection_to (at_choices model.now s (all_miss_check model.now values.now ranks.now s)) }
-{
-    each_choice(model, s, |c| choice_misses(model, values, ranks, s, c))
+    /// Whether each entry of the row of choice `c` at state `s` leads to an infinite value of the rank of `s`.
+    fn stays(self, s: u32, c: u32) -> bool
+        requires state { s < states_of self.model.now }
+        requires choice { c < length (choices_at self.model.now s) }
+        ensures { result ≡ stays_infinite self.entry.model.now self.entry.values.now self.entry.ranks.now s c }
+    {
+        let targets = self.model.row(s, c).targets;
+        all_stay_infinite(targets, self.values, self.ranks, self.ranks[s as usize])
+    }
+
+    /// An entry of the row of the policy's choice leads to an infinite value of smaller rank; or the rank is 0, and each entry leads to an infinite
+    /// value of rank 0.
+    fn policy_misses(self, s: u32, choice: u32) -> Result<(), Objection>
+        requires state { s < states_of self.model.now }
+        requires choice { choice < length (choices_at self.model.now s) }
+        ensures { result ≡ objection_to (miss_check self.entry.model.now self.entry.values.now self.entry.ranks.now s choice ∷ []) }
+    {
+        let misses = self.falls(s, choice)
+            || (self.ranks[s as usize] == 0 && self.stays(s, choice));
+        judged(Ok(misses), Rule::PolicyMisses, s, Some(choice))
+    }
+
+    /// An entry of the row of choice `c` leads to an infinite value of smaller rank, or each entry to one of this rank.
+    fn choice_misses(self, s: u32, c: u32) -> Result<(), Objection>
+        requires state { s < states_of self.model.now }
+        requires choice { c < length (choices_at self.model.now s) }
+        ensures { result ≡ objection_to (all_miss_check self.entry.model.now self.entry.values.now self.entry.ranks.now s c ∷ []) }
+    {
+        let misses = self.falls(s, c) || self.stays(s, c);
+        judged(Ok(misses), Rule::EachChoiceMisses, s, Some(c))
+    }
+
+    /// Each choice misses the goals with some chance.
+    fn choices_miss(self, s: u32) -> Result<(), Objection>
+        requires { s < states_of self.model.now }
+        ensures { result ≡ objection_to (at_choices self.entry.model.now s (all_miss_check self.entry.model.now self.entry.values.now self.entry.ranks.now s)) }
+    {
+        each_choice(self.model, s, |c| self.choice_misses(s, c))
+    }
 }
 
 /// The rules at state `s`, whose value is infinite.
@@ -79,8 +87,13 @@ pub fn infinite_state(
     requires choice { choice < length (choices_at model.now s) }
     ensures { result ≡ objection_to (infinite_checks dir model.now values.now ranks.now s choice) }
 {
+    let missing = Missing {
+        model,
+        values,
+        ranks,
+    };
     match dir {
-        Dir::Max => policy_misses(model, values, ranks, s, choice),
-        Dir::Min => choices_miss(model, values, ranks, s),
+        Dir::Max => missing.policy_misses(s, choice),
+        Dir::Min => missing.choices_miss(s),
     }
 }

@@ -1,4 +1,4 @@
-ghost use Rattle.std.specs.Prelude.{◌≡◌, ◌<◌, ◌↔◌, length, [], ◌∷◌};
+ghost use Rattle.std.specs.Prelude.{◌≡◌, ◌<◌, ◌↔◌, length, [], ◌∷◌, ◌++◌};
 ghost use Rattle.std.specs.Result.{result_ok};
 ghost use Rattle.mdp_spec.specs.Mdp.{states_of, choices_at};
 ghost use Rattle.mdp_spec.specs.Bounds.{MeanMax, MeanMin};
@@ -7,7 +7,7 @@ ghost use Rattle.mdp_farkas.specs.Mean.{spread_check, mean_checks_at, state_chec
 ghost use Rattle.mdp_farkas.specs.Verdict.{objection_to, verdict_of, at_choices, IsYes, IfYes};
 ghost use Rattle.mdp_rows.specs.declared.dir.Dir.TheVariants.{Max, Min};
 
-use crate::bellman::{choice_stands, row_stands};
+use crate::bellman::{Held, row_stands};
 use crate::compare::equal;
 use crate::reach::choice_at;
 use crate::rule::Rule;
@@ -28,28 +28,21 @@ pub struct MeanCert {
     pub spread: Frac,
 }
 
-/// The gain of state `s` is at least, or for the least mean payoff at most, the sum of the gains over the row of its choice `c`.
-fn gain_at(model: &Model, dir: Dir, gains: &[Frac], s: u32, c: u32) -> Result<(), Objection>
-    requires gains { length gains.now ≡ states_of model.now }
-    requires state { s < states_of model.now }
-    requires choice { c < length (choices_at model.now s) }
-    ensures { result ≡ objection_to (gain_check dir model.now gains.now s c ∷ []) }
-{
-    judged(
-        choice_stands(model, dir, gains, s, c),
-        Rule::GainOnEachChoice,
-        s,
-        Some(c),
-    )
-}
-
-/// The same of each choice.
-fn gains_at_state(model: &Model, dir: Dir, gains: &[Frac], s: u32) -> Result<(), Objection>
-    requires gains { length gains.now ≡ states_of model.now }
-    requires state { s < states_of model.now }
-    ensures { result ≡ objection_to (at_choices model.now s (gain_check dir model.now gains.now s)) }
-{
-    each_choice(model, s, |c| gain_at(model, dir, gains, s, c))
+/// Gains, a policy and two relative values that are held against a model.
+#[derive(Clone, Copy)]
+struct Claimed<'a> {
+    dir: Dir,
+    model: &'a Model,
+    name: u32,
+    gains: &'a [Frac],
+    bound: &'a [Frac],
+    bias: &'a [Frac],
+    choices: &'a [u32],
+    ghost named: { name < length model.now.names },
+    ghost gains_each: { length gains.now ≡ states_of model.now },
+    ghost bound_each: { length bound.now ≡ states_of model.now },
+    ghost bias_each: { length bias.now ≡ states_of model.now },
+    ghost choices_each: { length choices.now ≡ states_of model.now },
 }
 
 /// The gain and a relative value of state `s` together.
@@ -61,198 +54,147 @@ fn step_at(gains: &[Frac], relative: &[Frac], s: u32) -> Result<Frac, Wide>
     gains[s as usize].add(&relative[s as usize])
 }
 
-/// Whether the gain and the bound of state `s` together are at least, or for the least mean payoff at most, what its choice `c` earns by the
-/// bound: its reward and the sum over its row.
-fn bound_stands_at(
-    model: &Model,
-    m: u32,
-    dir: Dir,
-    gains: &[Frac],
-    bound: &[Frac],
-    s: u32,
-    c: u32,
-) -> Result<bool, Wide>
-    requires name { m < length model.now.names }
-    requires gains { length gains.now ≡ states_of model.now }
-    requires bound { length bound.now ≡ states_of model.now }
-    requires state { s < states_of model.now }
-    requires choice { c < length (choices_at model.now s) }
-    ensures { result_ok result ≡ bound_stands dir model.now m gains.now bound.now s c }
-{
-    let step = step_at(gains, bound, s)?;
-    row_stands(model.row(s, c), dir, &step, &model.reward(m, s, c), bound)
+impl Claimed<'_> {
+    /// The gain of state `s` is at least, or for the least mean payoff at most, the sum of the gains over the row of each choice.
+    fn gains_at(self, s: u32) -> Result<(), Objection>
+        requires { s < states_of self.model.now }
+        ensures { result ≡ objection_to (at_choices self.entry.model.now s (gain_check self.entry.dir self.entry.model.now self.entry.gains.now s)) }
+    {
+        let held = Held {
+            dir: self.dir,
+            model: self.model,
+            values: self.gains,
+        };
+        held.meets_on_each(Rule::GainOnEachChoice, s)
+    }
+
+    /// Whether the gain and the bound of state `s` together are at least, or for the least mean payoff at most, what its choice `c` earns by the
+    /// bound: its reward and the sum over its row.
+    fn bound_stands(self, s: u32, c: u32) -> Result<bool, Wide>
+        requires state { s < states_of self.model.now }
+        requires choice { c < length (choices_at self.model.now s) }
+        ensures { result_ok result ≡ bound_stands self.entry.dir self.entry.model.now self.entry.name self.entry.gains.now self.entry.bound.now s c }
+    {
+        let step = step_at(self.gains, self.bound, s)?;
+        let reward = self.model.reward(self.name, s, c);
+        row_stands(self.model.row(s, c), self.dir, &step, &reward, self.bound)
+    }
+
+    /// That of state `s` and its choice `c`.
+    fn bound_at(self, s: u32, c: u32) -> Result<(), Objection>
+        requires state { s < states_of self.model.now }
+        requires choice { c < length (choices_at self.model.now s) }
+        ensures { result ≡ objection_to (relative_check self.entry.dir self.entry.model.now self.entry.name self.entry.gains.now self.entry.bound.now s c ∷ []) }
+    {
+        judged(self.bound_stands(s, c), Rule::BoundOnEachChoice, s, Some(c))
+    }
+
+    /// The same of each choice.
+    fn bounds_at(self, s: u32) -> Result<(), Objection>
+        requires { s < states_of self.model.now }
+        ensures { result ≡ objection_to (at_choices self.entry.model.now s (relative_check self.entry.dir self.entry.model.now self.entry.name self.entry.gains.now self.entry.bound.now s)) }
+    {
+        each_choice(self.model, s, |c| self.bound_at(s, c))
+    }
+
+    /// Whether the gain of state `s` is the sum of the gains over the row of its choice `c`.
+    fn keeps_gain(self, s: u32, c: u32) -> Result<bool, Wide>
+        requires state { s < states_of self.model.now }
+        requires choice { c < length (choices_at self.model.now s) }
+        ensures { result_ok result ≡ keeps_gain self.entry.model.now self.entry.gains.now s c }
+    {
+        let sum = self.model.row(s, c).sum(&Frac::whole(0), self.gains)?;
+        equal(&self.gains[s as usize], &sum)
+    }
+
+    /// Whether the gain and the bias of state `s` together are what its choice `c` earns by the bias.
+    fn earns_gain(self, s: u32, c: u32) -> Result<bool, Wide>
+        requires state { s < states_of self.model.now }
+        requires choice { c < length (choices_at self.model.now s) }
+        ensures { result_ok result ≡ earns_gain self.entry.model.now self.entry.name self.entry.gains.now self.entry.bias.now s c }
+    {
+        let step = step_at(self.gains, self.bias, s)?;
+        let reward = self.model.reward(self.name, s, c);
+        let sum = self.model.row(s, c).sum(&reward, self.bias)?;
+        equal(&step, &sum)
+    }
+
+    /// The policy's choice keeps the gain of state `s`, and earns it in each step.
+    fn policy_at(self, s: u32, choice: u32) -> Result<(), Objection>
+        requires state { s < states_of self.model.now }
+        requires choice { choice < length (choices_at self.model.now s) }
+        ensures { result ≡ objection_to (policy_gain_check self.entry.model.now self.entry.gains.now s choice ∷ policy_bias_check self.entry.model.now self.entry.name self.entry.gains.now self.entry.bias.now s choice ∷ []) }
+    {
+        judged(
+            self.keeps_gain(s, choice),
+            Rule::GainOnPolicy,
+            s,
+            Some(choice),
+        )?;
+        judged(
+            self.earns_gain(s, choice),
+            Rule::BiasOnPolicy,
+            s,
+            Some(choice),
+        )
+    }
+
+    /// The rules for gain, bound and bias of state `s`.
+    #[tactic(auto, using(crate::proofs::Objections::walked))]
+    fn rules_at(self, s: u32, choice: u32) -> Result<(), Objection>
+        requires state { s < states_of self.model.now }
+        requires choice { choice < length (choices_at self.model.now s) }
+        ensures { result ≡ objection_to (at_choices self.entry.model.now s (gain_check self.entry.dir self.entry.model.now self.entry.gains.now s)
+            ++ (at_choices self.entry.model.now s (relative_check self.entry.dir self.entry.model.now self.entry.name self.entry.gains.now self.entry.bound.now s)
+            ++ policy_gain_check self.entry.model.now self.entry.gains.now s choice ∷ policy_bias_check self.entry.model.now self.entry.name self.entry.gains.now self.entry.bias.now s choice ∷ [])) }
+    {
+        self.gains_at(s)?;
+        self.bounds_at(s)?;
+        self.policy_at(s, choice)
+    }
+
+    /// The rules at state `s`, where the policy takes this choice.
+    fn state_at(self, s: u32, choice: u32) -> Result<(), Objection>
+        requires { s < states_of self.model.now }
+        ensures { result ≡ objection_to (mean_checks_at self.entry.dir self.entry.model.now self.entry.name self.entry.gains.now self.entry.bound.now self.entry.bias.now s choice) }
+    {
+        choice_at(self.model, s, choice)?;
+        self.rules_at(s, choice)
+    }
+
+    /// The rules at each state, from 0 on.
+    fn states(self) -> Result<(), Objection>
+        ensures { result ≡ objection_to (state_checks self.entry.dir self.entry.model.now self.entry.name self.entry.gains.now self.entry.bound.now self.entry.bias.now self.entry.choices.now) }
+    {
+        each_below(
+            self.model.states(),
+            |s| self.state_at(s, self.choices[s as usize]),
+        )
+    }
+
+    /// The spread is that of bounds and biases.
+    fn spread_at(self, spread: &Frac) -> Result<(), Objection>
+        ensures { result ≡ objection_to (spread_check self.entry.bound.now self.entry.bias.now spread.now ∷ []) }
+    {
+        let holds = spread_holds(self.bound, self.bias, spread);
+        judged_at(holds, Rule::SpreadIsGreatest, None, None)
+    }
+
+    /// All rules: those at each state, and that of the spread.
+    fn walk(self, spread: &Frac) -> Result<(), Objection>
+        ensures { result ≡ objection_to (mean_checks self.entry.dir self.entry.model.now self.entry.name self.entry.gains.now self.entry.bound.now self.entry.bias.now spread.now self.entry.choices.now) }
+    {
+        self.states()?;
+        self.spread_at(spread)
+    }
 }
 
-/// That of state `s` and its choice `c`.
-fn bound_at(
-    model: &Model,
-    m: u32,
-    dir: Dir,
-    gains: &[Frac],
-    bound: &[Frac],
-    s: u32,
-    c: u32,
-) -> Result<(), Objection>
-    requires name { m < length model.now.names }
-    requires gains { length gains.now ≡ states_of model.now }
-    requires bound { length bound.now ≡ states_of model.now }
-    requires state { s < states_of model.now }
-    requires choice { c < length (choices_at model.now s) }
-    ensures { result ≡ objection_to (relative_check dir model.now m gains.now bound.now s c ∷ []) }
-{
-    judged(
-        bound_stands_at(model, m, dir, gains, bound, s, c),
-        Rule::BoundOnEachChoice,
-        s,
-        Some(c),
-    )
-}
-
-/// The same of each choice.
-fn bounds_at_state(
-    model: &Model,
-    m: u32,
-    dir: Dir,
-    gains: &[Frac],
-    bound: &[Frac],
-    s: u32,
-) -> Result<(), Objection>
-    requires name { m < length model.now.names }
-    requires gains { length gains.now ≡ states_of model.now }
-    requires bound { length bound.now ≡ states_of model.now }
-    requires state { s < states_of model.now }
-    ensures { result ≡ objection_to (at_choices model.now s (relative_check dir model.now m gains.now bound.now s)) }
-{
-    each_choice(model, s, |c| bound_at(model, m, dir, gains, bound, s, c))
-}
-
-/// Whether the gain of state `s` is the sum of the gains over the row of its choice `c`.
-fn keeps_gain_at(model: &Model, gains: &[Frac], s: u32, c: u32) -> Result<bool, Wide>
-    requires gains { length gains.now ≡ states_of model.now }
-    requires state { s < states_of model.now }
-    requires choice { c < length (choices_at model.now s) }
-    ensures { result_ok result ≡ keeps_gain model.now gains.now s c }
-{
-    let sum = model.row(s, c).sum(&Frac::whole(0), gains)?;
-    equal(&gains[s as usize], &sum)
-}
-
-/// Whether the gain and the bias of state `s` together are what its choice `c` earns by the bias.
-fn earns_gain_at(
-    model: &Model,
-    m: u32,
-    gains: &[Frac],
-    bias: &[Frac],
-    s: u32,
-    c: u32,
-) -> Result<bool, Wide>
-    requires name { m < length model.now.names }
-    requires gains { length gains.now ≡ states_of model.now }
-    requires bias { length bias.now ≡ states_of model.now }
-    requires state { s < states_of model.now }
-    requires choice { c < length (choices_at model.now s) }
-    ensures { result_ok result ≡ earns_gain model.now m gains.now bias.now s c }
-{
-    let step = step_at(gains, bias, s)?;
-    let sum = model.row(s, c).sum(&model.reward(m, s, c), bias)?;
-    equal(&step, &sum)
-}
-
-/// The policy's choice keeps the gain of state `s`, and earns it in each step.
-fn policy_at(
-    model: &Model,
-    m: u32,
-    gains: &[Frac],
-    bias: &[Frac],
-    s: u32,
-    choice: u32,
-) -> Result<(), Objection>
-    requires name { m < length model.now.names }
-    requires gains { length gains.now ≡ states_of model.now }
-    requires bias { length bias.now ≡ states_of model.now }
-    requires state { s < states_of model.now }
-    requires choice { choice < length (choices_at model.now s) }
-    ensures { result ≡ objection_to (policy_gain_check model.now gains.now s choice ∷ policy_bias_check model.now m gains.now bias.now s choice ∷ []) }
-{
-    let keeps = keeps_gain_at(model, gains, s, choice);
-    judged(keeps, Rule::GainOnPolicy, s, Some(choice))?;
-    let earns = earns_gain_at(model, m, gains, bias, s, choice);
-    judged(earns, Rule::BiasOnPolicy, s, Some(choice))
-}
-
-/// The rules at state `s`, where the policy takes this choice.
-fn mean_at_state(
-    model: &Model,
-    m: u32,
-    dir: Dir,
-    gains: &[Frac],
-    bound: &[Frac],
-    bias: &[Frac],
-    s: u32,
-    choice: u32,
-) -> Result<(), Objection>
-    requires name { m < length model.now.names }
-    requires gains { length gains.now ≡ states_of model.now }
-    requires bound { length bound.now ≡ states_of model.now }
-    requires bias { length bias.now ≡ states_of model.now }
-    requires state { s < states_of model.now }
-    ensures { result ≡ objection_to (mean_checks_at dir model.now m gains.now bound.now bias.now s choice) }
-{
-    choice_at(model, s, choice)?;
-    gains_at_state(model, dir, gains, s)?;
-    bounds_at_state(model, m, dir, gains, bound, s)?;
-    policy_at(model, m, gains, bias, s, choice)
-}
-
-/// The rules at each state, from 0 on.
-fn mean_at_states(
-    model: &Model,
-    m: u32,
-    dir: Dir,
-    gains: &[Frac],
-    bound: &[Frac],
-    bias: &[Frac],
-    choices: &[u32],
-) -> Result<(), Objection>
-    requires name { m < length model.now.names }
-    requires gains { length gains.now ≡ states_of model.now }
-    requires bound { length bound.now ≡ states_of model.now }
-    requires bias { length bias.now ≡ states_of model.now }
-    requires choices { length choices.now ≡ states_of model.now }
-    ensures { result ≡ objection_to (state_checks dir model.now m gains.now bound.now bias.now choices.now) }
-{
-    each_below(model.states(), |s| {
-        mean_at_state(model, m, dir, gains, bound, bias, s, choices[s as usize])
-    })
-}
-
-/// The spread is that of bounds and biases.
+/// Whether the spread is that of bounds and biases.
 fn spread_holds(bound: &[Frac], bias: &[Frac], spread: &Frac) -> Result<bool, Wide>
     ensures { result_ok result ≡ (spread_check bound.now bias.now spread.now).holds }
 {
     let widest = spread_of(bound, bias)?;
     equal(spread, &widest)
-}
-
-/// All rules: those at each state, and that of the spread.
-fn mean_walk(model: &Model, m: u32, dir: Dir, cert: &MeanCert) -> Result<(), Objection>
-    requires name { m < length model.now.names }
-    requires gains { length cert.now.gains.items ≡ states_of model.now }
-    requires bound { length cert.now.bound.items ≡ states_of model.now }
-    requires bias { length cert.now.bias.items ≡ states_of model.now }
-    requires choices { length cert.now.choices.items ≡ states_of model.now }
-    ensures { result ≡ objection_to (mean_checks dir model.now m cert.now.gains.items cert.now.bound.items cert.now.bias.items cert.now.spread cert.now.choices.items) }
-{
-    let gains = cert.gains.as_slice();
-    let bound = cert.bound.as_slice();
-    let bias = cert.bias.as_slice();
-    mean_at_states(model, m, dir, gains, bound, bias, cert.choices.as_slice())?;
-    judged_at(
-        spread_holds(bound, bias, &cert.spread),
-        Rule::SpreadIsGreatest,
-        None,
-        None,
-    )
 }
 
 /// Whether the gains are the greatest, or the least, mean payoffs of the reward name of place `m`, and the policy one that earns them: what
@@ -270,5 +212,14 @@ pub fn holds_mean(model: &Model, m: u32, dir: Dir, cert: &MeanCert) -> Verdict
     ensures min { dir ≡ Min → IfYes result (MeanMin model.now m cert.now.gains.items cert.now.spread cert.now.choices.items) }
 {
     model.known();
-    verdict_after(mean_walk(model, m, dir, cert))
+    let claimed = Claimed {
+        dir,
+        model,
+        name: m,
+        gains: cert.gains.as_slice(),
+        bound: cert.bound.as_slice(),
+        bias: cert.bias.as_slice(),
+        choices: cert.choices.as_slice(),
+    };
+    verdict_after(claimed.walk(&cert.spread))
 }

@@ -4,9 +4,8 @@ ghost use Rattle.mdp_math.specs.Rational.{lt_ℚ};
 ghost use Rattle.mdp_spec.specs.Mdp.{states_of, choices_at, row_at};
 ghost use Rattle.mdp_spec.specs.Row.{entries};
 ghost use Rattle.mdp_farkas.specs.Compare.{0ℚ};
-ghost use Rattle.mdp_farkas.specs.Reach.{ends, leads_down, rank_check, fall_check, fall_checks, rank_checks};
-ghost use Rattle.mdp_farkas.specs.Verdict.{objection_to};
-ghost use Rattle.mdp_rows.specs.declared.dir.Dir.TheVariants.{Min};
+ghost use Rattle.mdp_farkas.specs.Reach.{ends, leads_down, fall_check, rank_checks};
+ghost use Rattle.mdp_farkas.specs.Verdict.{at_choices, objection_to};
 
 use crate::rule::Rule;
 use crate::verdict::{Objection, judged};
@@ -30,66 +29,62 @@ fn ends_at(goals: &Marks, values: &[Frac], s: u32) -> bool
     goals.at(s) || !is_above_zero(&values[s as usize])
 }
 
-/// Whether a state leads on from state `s`: its rank is smaller, and for the greatest probability its value is above 0.
-fn leads_on(dir: Dir, values: &[Frac], ranks: &[u32], s: u32, target: u32) -> bool
-    requires state { s < length ranks.now }
-    requires target { target < length values.now }
-    requires ranks { length ranks.now ≡ length values.now }
-    ensures { result ≡ leads_down dir values.now ranks.now s target }
-{
-    let lower = ranks[target as usize] < ranks[s as usize];
-    match dir {
-        Dir::Max => lower && is_above_zero(&values[target as usize]),
-        Dir::Min => lower,
-    }
+/// Values and ranks that are held against a model.
+#[derive(Clone, Copy)]
+struct Ranked<'a> {
+    dir: Dir,
+    model: &'a Model,
+    values: &'a [Frac],
+    ranks: &'a [u32],
+    ghost values_each: { length values.now ≡ states_of model.now },
+    ghost ranks_each: { length ranks.now ≡ states_of model.now },
 }
 
-/// Whether some entry of the row leads on from state `s`.
-fn row_leads_on(row: Row<'_>, dir: Dir, values: &[Frac], ranks: &[u32], s: u32) -> bool
-    requires state { s < length ranks.now }
-    requires targets { All (λ t. t < length values.now) row.targets.now }
-    requires ranks { length ranks.now ≡ length values.now }
-    ensures { result ≡ list_any (λ y. leads_down dir values.now ranks.now s y.target) (entries row.entry.targets.now row.entry.probs.now) }
-{
-    for t in row.targets {
-        if leads_on(dir, values, ranks, s, *t) {
-            return true;
+impl Ranked<'_> {
+    /// Whether a state leads on from state `s`: its rank is smaller, and for the greatest probability its value is above 0.
+    fn leads_on(self, s: u32, target: u32) -> bool
+        requires state { s < states_of self.model.now }
+        requires target { target < states_of self.model.now }
+        ensures { result ≡ leads_down self.entry.dir self.entry.values.now self.entry.ranks.now s target }
+    {
+        let lower = self.ranks[target as usize] < self.ranks[s as usize];
+        match self.dir {
+            Dir::Max => lower && is_above_zero(&self.values[target as usize]),
+            Dir::Min => lower,
         }
     }
-    false
-}
 
-/// An entry of the row of choice `c` leads on from state `s`.
-fn fall_at(
-    model: &Model,
-    dir: Dir,
-    values: &[Frac],
-    ranks: &[u32],
-    s: u32,
-    c: u32,
-) -> Result<(), Objection>
-    requires values { length values.now ≡ states_of model.now }
-    requires ranks { length ranks.now ≡ states_of model.now }
-    requires state { s < states_of model.now }
-    requires choice { c < length (choices_at model.now s) }
-    ensures { result ≡ objection_to (fall_check dir model.now values.now ranks.now s c ∷ []) }
-{
-    judged(
-        Ok(row_leads_on(model.row(s, c), dir, values, ranks, s)),
-        Rule::RankFalls,
-        s,
-        Some(c),
-    )
-}
+    /// Whether some entry of the row leads on from state `s`.
+    fn row_leads_on(self, row: Row<'_>, s: u32) -> bool
+        requires state { s < states_of self.model.now }
+        requires targets { All (λ t. t < states_of self.model.now) row.targets.now }
+        ensures { result ≡ list_any (λ y. leads_down self.entry.dir self.entry.values.now self.entry.ranks.now s y.target) (entries row.entry.targets.now row.entry.probs.now) }
+    {
+        for t in row.targets {
+            if self.leads_on(s, *t) {
+                return true;
+            }
+        }
+        false
+    }
 
-/// An entry of the row of each choice leads on from state `s`.
-fn falls_at_choices(model: &Model, values: &[Frac], ranks: &[u32], s: u32) -> Result<(), Objection>
-    requires values { length values.now ≡ states_of model.now }
-    requires ranks { length ranks.now ≡ states_of model.now }
-    requires state { s < states_of model.now }
-    ensures { result ≡ objection_to (fall_checks Min model.now values.now ranks.now s 0) }
-{
-    each_choice(model, s, |c| fall_at(model, Dir::Min, values, ranks, s, c))
+    /// An entry of the row of choice `c` leads on from state `s`.
+    fn fall_at(self, s: u32, c: u32) -> Result<(), Objection>
+        requires state { s < states_of self.model.now }
+        requires choice { c < length (choices_at self.model.now s) }
+        ensures { result ≡ objection_to (fall_check self.entry.dir self.entry.model.now self.entry.values.now self.entry.ranks.now s c ∷ []) }
+    {
+        let falls = self.row_leads_on(self.model.row(s, c), s);
+        judged(Ok(falls), Rule::RankFalls, s, Some(c))
+    }
+
+    /// An entry of the row of each choice leads on from state `s`.
+    fn falls_at(self, s: u32) -> Result<(), Objection>
+        requires { s < states_of self.model.now }
+        ensures { result ≡ objection_to (at_choices self.entry.model.now s (fall_check self.entry.dir self.entry.model.now self.entry.values.now self.entry.ranks.now s)) }
+    {
+        each_choice(self.model, s, |c| self.fall_at(s, c))
+    }
 }
 
 /// State `s` has rank 0 where it is a goal or has value 0; else its row, or for the least probability each row, leads on from it.
@@ -112,8 +107,14 @@ pub fn rank_at_state(
     if ends_at(goals, values, s) {
         return judged(Ok(ranks[s as usize] == 0), Rule::RankZero, s, None);
     }
+    let ranked = Ranked {
+        dir,
+        model,
+        values,
+        ranks,
+    };
     match dir {
-        Dir::Max => fall_at(model, dir, values, ranks, s, choice),
-        Dir::Min => falls_at_choices(model, values, ranks, s),
+        Dir::Max => ranked.fall_at(s, choice),
+        Dir::Min => ranked.falls_at(s),
     }
 }

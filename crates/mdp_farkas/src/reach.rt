@@ -1,11 +1,12 @@
-ghost use Rattle.std.specs.Prelude.{◌≡◌, ◌<◌, ◌↔◌, length, [], ◌∷◌, slice_index};
+ghost use Rattle.std.specs.Prelude.{◌≡◌, ◌<◌, ◌↔◌, length, [], ◌∷◌, ◌++◌};
 ghost use Rattle.mdp_spec.specs.Mdp.{states_of, choices_at};
-ghost use Rattle.mdp_farkas.specs.Reach.{choice_exists, other, policy_check, value_checks, reach_at, reach_checks, IsReach};
+ghost use Rattle.mdp_farkas.specs.Bellman.{bound_checks};
+ghost use Rattle.mdp_farkas.specs.Reach.{choice_exists, other, policy_check, value_checks, rank_checks, reach_at, reach_checks, IsReach};
 ghost use Rattle.mdp_farkas.specs.Verdict.{objection_to, verdict_of, IsYes, IfYes};
 ghost use Rattle.mdp_rows.specs.declared.dir.Dir.TheVariants.{Max, Min};
 ghost use Rattle.mdp_spec.specs.Bounds.{ReachMax, ReachMin};
 
-use crate::bellman::{bounds_at_state, choice_stands};
+use crate::bellman::Held;
 use crate::ranks::rank_at_state;
 use crate::rule::Rule;
 use crate::upper::{goal_at, probability_at};
@@ -45,89 +46,90 @@ pub fn choice_at(model: &Model, s: u32, choice: u32) -> Result<(), Objection>
     )
 }
 
-/// Bellman's inequality the other way round, for the choice of the policy.
-fn policy_meets(
-    model: &Model,
+/// Values, a policy and ranks that are held against a model.
+#[derive(Clone, Copy)]
+struct Claimed<'a> {
     dir: Dir,
-    values: &[Frac],
-    s: u32,
-    choice: u32,
-) -> Result<(), Objection>
-    requires values { length values.now ≡ states_of model.now }
-    requires state { s < states_of model.now }
-    requires choice { choice < length (choices_at model.now s) }
-    ensures { result ≡ objection_to (policy_check dir model.now values.now s choice ∷ []) }
-{
-    judged(
-        choice_stands(model, reversed(dir), values, s, choice),
-        Rule::ValueOnPolicy,
-        s,
-        Some(choice),
-    )
+    model: &'a Model,
+    goals: &'a Marks,
+    values: &'a [Frac],
+    choices: &'a [u32],
+    ranks: &'a [u32],
+    ghost goals_each: { length goals.now ≡ states_of model.now },
+    ghost values_each: { length values.now ≡ states_of model.now },
+    ghost choices_each: { length choices.now ≡ states_of model.now },
+    ghost ranks_each: { length ranks.now ≡ states_of model.now },
 }
 
-/// The value of state `s` is 1 at a goal; else Bellman's inequality holds, and for the policy's choice the other way round too.
-fn value_at_state(
-    model: &Model,
-    goals: &Marks,
-    dir: Dir,
-    values: &[Frac],
-    s: u32,
-    choice: u32,
-) -> Result<(), Objection>
-    requires goals { length goals.now ≡ states_of model.now }
-    requires values { length values.now ≡ states_of model.now }
-    requires state { s < states_of model.now }
-    requires choice { choice < length (choices_at model.now s) }
-    ensures { result ≡ objection_to (value_checks dir model.now goals.now values.now s choice) }
-{
-    if goals.at(s) {
-        return goal_at(values, s);
+impl Claimed<'_> {
+    /// Bellman's inequality at each choice of state `s`, and the other way round for the policy's.
+    #[tactic(auto, using(crate::proofs::Objections::walked))]
+    fn sums_at(self, s: u32, choice: u32) -> Result<(), Objection>
+        requires state { s < states_of self.model.now }
+        requires choice { choice < length (choices_at self.model.now s) }
+        ensures { result ≡ objection_to (bound_checks self.entry.dir self.entry.model.now self.entry.values.now s ++ policy_check self.entry.dir self.entry.model.now self.entry.values.now s choice ∷ []) }
+    {
+        let held = Held {
+            dir: self.dir,
+            model: self.model,
+            values: self.values,
+        };
+        held.meets_on_each(Rule::ValueOnEachChoice, s)?;
+        held.meets_on_policy(s, choice)
     }
-    bounds_at_state(model, dir, values, s)?;
-    policy_meets(model, dir, values, s, choice)
-}
 
-/// The rules at state `s`, where the policy takes this choice.
-fn reach_at_state(
-    model: &Model,
-    goals: &Marks,
-    dir: Dir,
-    values: &[Frac],
-    ranks: &[u32],
-    s: u32,
-    choice: u32,
-) -> Result<(), Objection>
-    requires goals { length goals.now ≡ states_of model.now }
-    requires values { length values.now ≡ states_of model.now }
-    requires ranks { length ranks.now ≡ states_of model.now }
-    requires state { s < states_of model.now }
-    ensures { result ≡ objection_to (reach_at dir model.now goals.now values.now ranks.now s choice) }
-{
-    choice_at(model, s, choice)?;
-    probability_at(values, s)?;
-    value_at_state(model, goals, dir, values, s, choice)?;
-    rank_at_state(model, goals, dir, values, ranks, s, choice)
-}
+    /// The value of state `s` is 1 at a goal; else it stands so to the sums.
+    fn value_at(self, s: u32, choice: u32) -> Result<(), Objection>
+        requires state { s < states_of self.model.now }
+        requires choice { choice < length (choices_at self.model.now s) }
+        ensures { result ≡ objection_to (value_checks self.entry.dir self.entry.model.now self.entry.goals.now self.entry.values.now s choice) }
+    {
+        if self.goals.at(s) {
+            goal_at(self.values, s)
+        } else {
+            self.sums_at(s, choice)
+        }
+    }
 
-/// The rules at each state, from 0 on.
-fn reach_at_states(
-    model: &Model,
-    goals: &Marks,
-    dir: Dir,
-    values: &[Frac],
-    choices: &[u32],
-    ranks: &[u32],
-) -> Result<(), Objection>
-    requires goals { length goals.now ≡ states_of model.now }
-    requires values { length values.now ≡ states_of model.now }
-    requires choices { length choices.now ≡ states_of model.now }
-    requires ranks { length ranks.now ≡ states_of model.now }
-    ensures { result ≡ objection_to (reach_checks dir model.now goals.now values.now choices.now ranks.now) }
-{
-    each_below(model.states(), |s| {
-        reach_at_state(model, goals, dir, values, ranks, s, choices[s as usize])
-    })
+    /// The rules for the value and the rank of state `s`.
+    #[tactic(auto, using(crate::proofs::Objections::walked))]
+    fn place_at(self, s: u32, choice: u32) -> Result<(), Objection>
+        requires state { s < states_of self.model.now }
+        requires choice { choice < length (choices_at self.model.now s) }
+        ensures { result ≡ objection_to (value_checks self.entry.dir self.entry.model.now self.entry.goals.now self.entry.values.now s choice
+            ++ rank_checks self.entry.dir self.entry.model.now self.entry.goals.now self.entry.values.now self.entry.ranks.now s choice) }
+    {
+        self.value_at(s, choice)?;
+        rank_at_state(
+            self.model,
+            self.goals,
+            self.dir,
+            self.values,
+            self.ranks,
+            s,
+            choice,
+        )
+    }
+
+    /// The rules at state `s`, where the policy takes this choice.
+    fn state_at(self, s: u32, choice: u32) -> Result<(), Objection>
+        requires { s < states_of self.model.now }
+        ensures { result ≡ objection_to (reach_at self.entry.dir self.entry.model.now self.entry.goals.now self.entry.values.now self.entry.ranks.now s choice) }
+    {
+        choice_at(self.model, s, choice)?;
+        probability_at(self.values, s)?;
+        self.place_at(s, choice)
+    }
+
+    /// The rules at each state, from 0 on.
+    fn states(self) -> Result<(), Objection>
+        ensures { result ≡ objection_to (reach_checks self.entry.dir self.entry.model.now self.entry.goals.now self.entry.values.now self.entry.choices.now self.entry.ranks.now) }
+    {
+        each_below(
+            self.model.states(),
+            |s| self.state_at(s, self.choices[s as usize]),
+        )
+    }
 }
 
 /// Whether the values are a Farkas certificate of the greatest, or the least, probabilities, and the policy one that comes close to them:
@@ -144,13 +146,13 @@ pub fn holds_reach(model: &Model, goals: &Marks, dir: Dir, cert: &ReachCert) -> 
     ensures min { dir ≡ Min → IfYes result (ReachMin model.now goals.now cert.now.values.items cert.now.choices.items) }
 {
     model.known();
-    let walk = reach_at_states(
+    let claimed = Claimed {
+        dir,
         model,
         goals,
-        dir,
-        cert.values.as_slice(),
-        cert.choices.as_slice(),
-        cert.ranks.as_slice(),
-    );
-    verdict_after(walk)
+        values: cert.values.as_slice(),
+        choices: cert.choices.as_slice(),
+        ranks: cert.ranks.as_slice(),
+    };
+    verdict_after(claimed.states())
 }

@@ -1,18 +1,20 @@
-ghost use Rattle.std.specs.Prelude.{◌≡◌, ◌<◌, ◌↔◌, length, [], ◌∷◌};
+ghost use Rattle.std.specs.Prelude.{◌≡◌, ◌<◌, ◌↔◌, length, [], ◌∷◌, ◌++◌, if◌then◌else◌};
 ghost use Rattle.std.specs.Result.{result_ok};
 ghost use Rattle.mdp_spec.specs.Mdp.{states_of, choices_at};
 ghost use Rattle.mdp_spec.specs.Bounds.{RewardMax, RewardMin};
 ghost use Rattle.mdp_farkas.specs.Reward.{is_nonneg, is_zero, nonneg_check, goal_checks, place_checks, sign_check, sign_checks};
-ghost use Rattle.mdp_farkas.specs.Reward.{reward_checks_at, reward_checks, IsReward};
+ghost use Rattle.mdp_farkas.specs.Reward.{earning_stands, is_looked_at, earning_check, earning_checks, policy_earning_check, rank_fall_checks};
+ghost use Rattle.mdp_farkas.specs.Reward.{transient_checks, reward_checks_at, reward_checks, IsReward};
 ghost use Rattle.mdp_farkas.specs.Verdict.{objection_to, verdict_of, IsYes, IfYes};
 ghost use Rattle.mdp_rows.specs.declared.dir.Dir.TheVariants.{Max, Min};
 
+use crate::bellman::value_stands;
 use crate::compare::{at_least, equal};
-use crate::finite::is_infinite_at;
+use crate::finite::{finite_at, finite_sum, is_infinite_at};
 use crate::infinite::infinite_state;
-use crate::reach::choice_at;
+use crate::reach::{choice_at, reversed};
 use crate::rule::Rule;
-use crate::transient::transient_state;
+use crate::transient::{is_held_against, rank_falls_at_state, stays_at_state};
 use crate::verdict::{Objection, Verdict, judged, verdict_after};
 use crate::walk::{each_below, each_choice};
 use mdp_num::{Frac, Wide};
@@ -47,130 +49,175 @@ fn equal_to_zero(value: Option<Frac>) -> Result<bool, Wide>
     }
 }
 
-/// The value of state `s` is at least 0.
-fn nonneg_at(values: &[Option<Frac>], s: u32) -> Result<(), Objection>
-    requires { s < length values.now }
-    ensures { result ≡ objection_to (nonneg_check values.now s ∷ []) }
-{
-    judged(
-        at_least_zero(values[s as usize]),
-        Rule::RewardValue,
-        s,
-        None,
-    )
-}
-
-/// The goal `s` has the value 0 and rank 0.
-fn goal_state(values: &[Option<Frac>], ranks: &[u32], s: u32) -> Result<(), Objection>
-    requires values { s < length values.now }
-    requires ranks { s < length ranks.now }
-    ensures { result ≡ objection_to (goal_checks values.now ranks.now s) }
-{
-    judged(
-        equal_to_zero(values[s as usize]),
-        Rule::RewardValue,
-        s,
-        None,
-    )?;
-    judged(Ok(ranks[s as usize] == 0), Rule::RewardValue, s, None)
-}
-
-/// The rules of a goal, of a state of infinite value or of another one, as state `s` is.
-fn place_at(
-    model: &Model,
-    m: u32,
-    goals: &Marks,
+/// Rewards, a policy and ranks that are held against a model.
+#[derive(Clone, Copy)]
+struct Claimed<'a> {
     dir: Dir,
-    values: &[Option<Frac>],
-    ranks: &[u32],
-    s: u32,
-    choice: u32,
-) -> Result<(), Objection>
-    requires name { m < length model.now.names }
-    requires goals { length goals.now ≡ states_of model.now }
-    requires values { length values.now ≡ states_of model.now }
-    requires ranks { length ranks.now ≡ states_of model.now }
-    requires state { s < states_of model.now }
-    requires choice { choice < length (choices_at model.now s) }
-    ensures { result ≡ objection_to (place_checks dir model.now m goals.now values.now ranks.now s choice) }
-{
-    if goals.at(s) {
-        goal_state(values, ranks, s)
-    } else if is_infinite_at(values, s) {
-        infinite_state(model, dir, values, ranks, s, choice)
-    } else {
-        transient_state(model, m, dir, values, ranks, s, choice)
+    model: &'a Model,
+    name: u32,
+    goals: &'a Marks,
+    values: &'a [Option<Frac>],
+    choices: &'a [u32],
+    ranks: &'a [u32],
+    ghost named: { name < length model.now.names },
+    ghost goals_each: { length goals.now ≡ states_of model.now },
+    ghost values_each: { length values.now ≡ states_of model.now },
+    ghost choices_each: { length choices.now ≡ states_of model.now },
+    ghost ranks_each: { length ranks.now ≡ states_of model.now },
+}
+
+impl Claimed<'_> {
+    /// The value of state `s` is at least 0.
+    fn nonneg_at(self, s: u32) -> Result<(), Objection>
+        requires { s < states_of self.model.now }
+        ensures { result ≡ objection_to (nonneg_check self.entry.values.now s ∷ []) }
+    {
+        let holds = at_least_zero(self.values[s as usize]);
+        judged(holds, Rule::RewardValue, s, None)
     }
-}
 
-/// The reward of choice `c` is at least 0.
-fn sign_at(model: &Model, m: u32, s: u32, c: u32) -> Result<(), Objection>
-    requires name { m < length model.now.names }
-    requires state { s < states_of model.now }
-    requires choice { c < length (choices_at model.now s) }
-    ensures { result ≡ objection_to (sign_check model.now m s c ∷ []) }
-{
-    judged(
-        at_least(&model.reward(m, s, c), &Frac::whole(0)),
-        Rule::RewardNotNegative,
-        s,
-        Some(c),
-    )
-}
+    /// The goal `s` has the value 0 and rank 0.
+    fn goal_at(self, s: u32) -> Result<(), Objection>
+        requires { s < states_of self.model.now }
+        ensures { result ≡ objection_to (goal_checks self.entry.values.now self.entry.ranks.now s) }
+    {
+        let is_zero = equal_to_zero(self.values[s as usize]);
+        judged(is_zero, Rule::RewardValue, s, None)?;
+        judged(Ok(self.ranks[s as usize] == 0), Rule::RewardValue, s, None)
+    }
 
-/// The same of each choice.
-fn signs_at_state(model: &Model, m: u32, s: u32) -> Result<(), Objection>
-    requires name { m < length model.now.names }
-    requires state { s < states_of model.now }
-    ensures { result ≡ objection_to (sign_checks model.now m s) }
-{
-    each_choice(model, s, |c| sign_at(model, m, s, c))
-}
+    /// Whether the value of state `s` is at least, or for the least reward at most, what its choice `c` earns: its reward and the sum over its row.
+    fn earning_stands(self, dir: Dir, s: u32, c: u32) -> Result<bool, Wide>
+        requires state { s < states_of self.model.now }
+        requires choice { c < length (choices_at self.model.now s) }
+        ensures { result_ok result ≡ earning_stands dir self.entry.model.now self.entry.name self.entry.values.now s c }
+    {
+        let reward = self.model.reward(self.name, s, c);
+        let sum = finite_sum(self.model.row(s, c), &reward, self.values)?;
+        value_stands(dir, &finite_at(self.values, s), &sum)
+    }
 
-/// The rules at state `s`, where the policy takes this choice.
-fn reward_at_state(
-    model: &Model,
-    m: u32,
-    goals: &Marks,
-    dir: Dir,
-    values: &[Option<Frac>],
-    ranks: &[u32],
-    s: u32,
-    choice: u32,
-) -> Result<(), Objection>
-    requires name { m < length model.now.names }
-    requires goals { length goals.now ≡ states_of model.now }
-    requires values { length values.now ≡ states_of model.now }
-    requires ranks { length ranks.now ≡ states_of model.now }
-    requires state { s < states_of model.now }
-    ensures { result ≡ objection_to (reward_checks_at dir model.now m goals.now values.now ranks.now s choice) }
-{
-    choice_at(model, s, choice)?;
-    nonneg_at(values, s)?;
-    place_at(model, m, goals, dir, values, ranks, s, choice)?;
-    signs_at_state(model, m, s)
-}
+    /// Bellman's inequality at state `s` and its choice `c`, where that counts.
+    fn earning_at(self, s: u32, c: u32) -> Result<(), Objection>
+        requires state { s < states_of self.model.now }
+        requires choice { c < length (choices_at self.model.now s) }
+        ensures { result ≡ objection_to (if is_looked_at self.entry.dir self.entry.model.now self.entry.values.now s c then earning_check self.entry.dir self.entry.model.now self.entry.name self.entry.values.now s c ∷ [] else []) }
+    {
+        if !is_held_against(self.model, self.dir, self.values, s, c) {
+            return Ok(());
+        }
+        let stands = self.earning_stands(self.dir, s, c);
+        judged(stands, Rule::RewardOnEachChoice, s, Some(c))
+    }
 
-/// The rules at each state, from 0 on.
-fn reward_at_states(
-    model: &Model,
-    m: u32,
-    goals: &Marks,
-    dir: Dir,
-    values: &[Option<Frac>],
-    choices: &[u32],
-    ranks: &[u32],
-) -> Result<(), Objection>
-    requires name { m < length model.now.names }
-    requires goals { length goals.now ≡ states_of model.now }
-    requires values { length values.now ≡ states_of model.now }
-    requires choices { length choices.now ≡ states_of model.now }
-    requires ranks { length ranks.now ≡ states_of model.now }
-    ensures { result ≡ objection_to (reward_checks dir model.now m goals.now values.now choices.now ranks.now) }
-{
-    each_below(model.states(), |s| {
-        reward_at_state(model, m, goals, dir, values, ranks, s, choices[s as usize])
-    })
+    /// The inequality at each choice of state `s` that counts.
+    fn earnings_at(self, s: u32) -> Result<(), Objection>
+        requires { s < states_of self.model.now }
+        ensures { result ≡ objection_to (earning_checks self.entry.dir self.entry.model.now self.entry.name self.entry.values.now s) }
+    {
+        each_below(self.model.choices(s), |c| self.earning_at(s, c))
+    }
+
+    /// Bellman's inequality the other way round, for the choice of the policy.
+    fn policy_earns(self, s: u32, choice: u32) -> Result<(), Objection>
+        requires state { s < states_of self.model.now }
+        requires choice { choice < length (choices_at self.model.now s) }
+        ensures { result ≡ objection_to (policy_earning_check self.entry.dir self.entry.model.now self.entry.name self.entry.values.now s choice ∷ []) }
+    {
+        let stands = self.earning_stands(reversed(self.dir), s, choice);
+        judged(stands, Rule::RewardOnPolicy, s, Some(choice))
+    }
+
+    /// What the policy earns at state `s`, and that ranks fall there.
+    fn policy_at(self, s: u32, choice: u32) -> Result<(), Objection>
+        requires state { s < states_of self.model.now }
+        requires choice { choice < length (choices_at self.model.now s) }
+        ensures { result ≡ objection_to (policy_earning_check self.entry.dir self.entry.model.now self.entry.name self.entry.values.now s choice ∷ rank_fall_checks self.entry.dir self.entry.model.now self.entry.ranks.now s choice) }
+    {
+        self.policy_earns(s, choice)?;
+        rank_falls_at_state(self.model, self.dir, self.ranks, s, choice)
+    }
+
+    /// The rules at state `s`, which is no goal and has a finite value.
+    #[tactic(auto, using(crate::proofs::Objections::walked))]
+    fn transient_at(self, s: u32, choice: u32) -> Result<(), Objection>
+        requires state { s < states_of self.model.now }
+        requires choice { choice < length (choices_at self.model.now s) }
+        ensures { result ≡ objection_to (transient_checks self.entry.dir self.entry.model.now self.entry.name self.entry.values.now self.entry.ranks.now s choice) }
+    {
+        stays_at_state(self.model, self.dir, self.values, s, choice)?;
+        self.earnings_at(s)?;
+        self.policy_at(s, choice)
+    }
+
+    /// The rules of a goal, of a state of infinite value or of another one, as state `s` is.
+    fn place_at(self, s: u32, choice: u32) -> Result<(), Objection>
+        requires state { s < states_of self.model.now }
+        requires choice { choice < length (choices_at self.model.now s) }
+        ensures { result ≡ objection_to (place_checks self.entry.dir self.entry.model.now self.entry.name self.entry.goals.now self.entry.values.now self.entry.ranks.now s choice) }
+    {
+        if self.goals.at(s) {
+            self.goal_at(s)
+        } else if is_infinite_at(self.values, s) {
+            infinite_state(self.model, self.dir, self.values, self.ranks, s, choice)
+        } else {
+            self.transient_at(s, choice)
+        }
+    }
+
+    /// The reward of choice `c` is at least 0.
+    fn sign_at(self, s: u32, c: u32) -> Result<(), Objection>
+        requires state { s < states_of self.model.now }
+        requires choice { c < length (choices_at self.model.now s) }
+        ensures { result ≡ objection_to (sign_check self.entry.model.now self.entry.name s c ∷ []) }
+    {
+        let reward = self.model.reward(self.name, s, c);
+        judged(
+            at_least(&reward, &Frac::whole(0)),
+            Rule::RewardNotNegative,
+            s,
+            Some(c),
+        )
+    }
+
+    /// The same of each choice.
+    fn signs_at(self, s: u32) -> Result<(), Objection>
+        requires { s < states_of self.model.now }
+        ensures { result ≡ objection_to (sign_checks self.entry.model.now self.entry.name s) }
+    {
+        each_choice(self.model, s, |c| self.sign_at(s, c))
+    }
+
+    /// The rules for the value and the rank of state `s`, and for its rewards.
+    #[tactic(auto, using(crate::proofs::Objections::walked))]
+    fn rules_at(self, s: u32, choice: u32) -> Result<(), Objection>
+        requires state { s < states_of self.model.now }
+        requires choice { choice < length (choices_at self.model.now s) }
+        ensures { result ≡ objection_to (place_checks self.entry.dir self.entry.model.now self.entry.name self.entry.goals.now self.entry.values.now self.entry.ranks.now s choice ++ sign_checks self.entry.model.now self.entry.name s) }
+    {
+        self.place_at(s, choice)?;
+        self.signs_at(s)
+    }
+
+    /// The rules at state `s`, where the policy takes this choice.
+    fn state_at(self, s: u32, choice: u32) -> Result<(), Objection>
+        requires { s < states_of self.model.now }
+        ensures { result ≡ objection_to (reward_checks_at self.entry.dir self.entry.model.now self.entry.name self.entry.goals.now self.entry.values.now self.entry.ranks.now s choice) }
+    {
+        choice_at(self.model, s, choice)?;
+        self.nonneg_at(s)?;
+        self.rules_at(s, choice)
+    }
+
+    /// The rules at each state, from 0 on.
+    fn states(self) -> Result<(), Objection>
+        ensures { result ≡ objection_to (reward_checks self.entry.dir self.entry.model.now self.entry.name self.entry.goals.now self.entry.values.now self.entry.choices.now self.entry.ranks.now) }
+    {
+        each_below(
+            self.model.states(),
+            |s| self.state_at(s, self.choices[s as usize]),
+        )
+    }
 }
 
 /// Whether the values are the greatest, or the least, rewards of the name of place `m` until a goal, and the policy one that comes close to
@@ -188,14 +235,14 @@ pub fn holds_reward(model: &Model, m: u32, goals: &Marks, dir: Dir, cert: &Rewar
     ensures min { dir ≡ Min → IfYes result (RewardMin model.now m goals.now cert.now.choices.items cert.now.values.items) }
 {
     model.known();
-    let walk = reward_at_states(
-        model,
-        m,
-        goals,
+    let claimed = Claimed {
         dir,
-        cert.values.as_slice(),
-        cert.choices.as_slice(),
-        cert.ranks.as_slice(),
-    );
-    verdict_after(walk)
+        model,
+        name: m,
+        goals,
+        values: cert.values.as_slice(),
+        choices: cert.choices.as_slice(),
+        ranks: cert.ranks.as_slice(),
+    };
+    verdict_after(claimed.states())
 }

@@ -4,7 +4,7 @@ ghost use Rattle.mdp_farkas.specs.Upper.{probability_checks, goal_check, upper_a
 ghost use Rattle.mdp_farkas.specs.Verdict.{objection_to, verdict_of, IsYes, IfYes};
 ghost use Rattle.mdp_spec.specs.Bounds.{Above};
 
-use crate::bellman::bounds_at_state;
+use crate::bellman::Held;
 use crate::compare::{at_least, at_most, equal};
 use crate::rule::Rule;
 use crate::verdict::{Objection, Verdict, judged, verdict_after};
@@ -57,7 +57,12 @@ fn upper_at_state(model: &Model, goals: &Marks, values: &[Frac], s: u32) -> Resu
     if goals.at(s) {
         goal_at(values, s)
     } else {
-        bounds_at_state(model, Dir::Max, values, s)
+        let held = Held {
+            dir: Dir::Max,
+            model,
+            values,
+        };
+        held.meets_on_each(Rule::ValueOnEachChoice, s)
     }
 }
 

@@ -1,4 +1,5 @@
-use Rattle.std.proofs.Common.{◌≡◌, ap, ◌∙◌}
+use Rattle.std.proofs.Common.{◌≡◌, ℕ, List, ap, ◌∙◌}
+use Rattle.mdp_math.specs.Rational.{ℚ}
 use Rattle.mdp_farkas.specs.Reach.{reach_checks}
 use Rattle.mdp_farkas.specs.Verdict.{verdict, verdict_of}
 use Rattle.mdp_farkas.proofs.ReachRules.{reach_rules, reach_max, reach_min}
@@ -11,13 +12,12 @@ returns c =
     let z = c.args.cert.now.values.items in
     let policy = c.args.cert.now.choices.items in
     let ranks = c.args.cert.now.ranks.items in
-    let e : c.verdict_after.result ≡ verdict_of
-    (reach_checks c.args.dir c.args.model.now c.args.goals.now c.args.cert.now.values.items c.args.cert.now.choices.items c.args.cert.now.ranks.items) =
+    let e : c.verdict_after.result ≡ verdict_of (reach_checks c.args.dir m goals z policy ranks) =
     c.verdict_after.ensures
-    ∙ ap verdict c.reach_at_states-walk.ensures
-    ∙ ap (λ z. verdict_of (reach_checks c.args.dir c.args.model.now c.args.goals.now z c.as_slice-2.result.now c.as_slice-3.result.now)) c.as_slice.ensures.value
-    ∙ ap (λ p. verdict_of (reach_checks c.args.dir c.args.model.now c.args.goals.now c.args.cert.now.values.items p c.as_slice-3.result.now)) c.as_slice-2.ensures.value
-    ∙ ap (λ r. verdict_of (reach_checks c.args.dir c.args.model.now c.args.goals.now c.args.cert.now.values.items c.args.cert.now.choices.items r)) c.as_slice-3.ensures.value
+    ∙ ap verdict c.states.ensures
+    ∙ ap (λ (z : List ℚ). verdict_of (reach_checks c.args.dir m goals z c.as_slice-2.result.now c.as_slice-3.result.now)) c.as_slice.ensures.value
+    ∙ ap (λ (p : List ℕ). verdict_of (reach_checks c.args.dir m goals z p c.as_slice-3.result.now)) c.as_slice-2.ensures.value
+    ∙ ap (λ (r : List ℕ). verdict_of (reach_checks c.args.dir m goals z policy r)) c.as_slice-3.ensures.value
     in
     record {
       verdict = e;

@@ -1,4 +1,5 @@
-use Rattle.std.proofs.Common.{◌≡◌, ap, ◌∙◌}
+use Rattle.std.proofs.Common.{◌≡◌, ℕ, Option, List, ap, ◌∙◌}
+use Rattle.mdp_math.specs.Rational.{ℚ}
 use Rattle.mdp_farkas.specs.Reward.{reward_checks}
 use Rattle.mdp_farkas.specs.Verdict.{verdict, verdict_of}
 use Rattle.mdp_farkas.proofs.RewardRules.{reward_rules, reward_max, reward_min}
@@ -11,13 +12,12 @@ returns c =
     let v = c.args.cert.now.values.items in
     let policy = c.args.cert.now.choices.items in
     let ranks = c.args.cert.now.ranks.items in
-    let e : c.verdict_after.result ≡ verdict_of
-    (reward_checks c.args.dir c.args.model.now c.args.m c.args.goals.now c.args.cert.now.values.items c.args.cert.now.choices.items c.args.cert.now.ranks.items) =
+    let e : c.verdict_after.result ≡ verdict_of (reward_checks c.args.dir m c.args.m goals v policy ranks) =
     c.verdict_after.ensures
-    ∙ ap verdict c.reward_at_states-walk.ensures
-    ∙ ap (λ v. verdict_of (reward_checks c.args.dir c.args.model.now c.args.m c.args.goals.now v c.as_slice-2.result.now c.as_slice-3.result.now)) c.as_slice.ensures.value
-    ∙ ap (λ p. verdict_of (reward_checks c.args.dir c.args.model.now c.args.m c.args.goals.now c.args.cert.now.values.items p c.as_slice-3.result.now)) c.as_slice-2.ensures.value
-    ∙ ap (λ k. verdict_of (reward_checks c.args.dir c.args.model.now c.args.m c.args.goals.now c.args.cert.now.values.items c.args.cert.now.choices.items k)) c.as_slice-3.ensures.value
+    ∙ ap verdict c.states.ensures
+    ∙ ap (λ (v : List (Option ℚ)). verdict_of (reward_checks c.args.dir m c.args.m goals v c.as_slice-2.result.now c.as_slice-3.result.now)) c.as_slice.ensures.value
+    ∙ ap (λ (p : List ℕ). verdict_of (reward_checks c.args.dir m c.args.m goals v p c.as_slice-3.result.now)) c.as_slice-2.ensures.value
+    ∙ ap (λ (k : List ℕ). verdict_of (reward_checks c.args.dir m c.args.m goals v policy k)) c.as_slice-3.ensures.value
     in
     record {
       verdict = e;

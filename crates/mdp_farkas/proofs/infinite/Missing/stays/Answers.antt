@@ -2,10 +2,10 @@ use Rattle.std.proofs.Common.{ℕ, ◌==◌, ◌&&◌, slice_index, ◌∙◌}
 use Rattle.mdp_spec.specs.Bounds.{infinite}
 use Rattle.mdp_spec.specs.Tree.{is_marked}
 use Rattle.mdp_farkas.proofs.Entries.{all_of_row}
-use Rattle.mdp_farkas.proofs.falls.stays_infinite_at.Goals as goal
+use Rattle.mdp_farkas.proofs.infinite.Missing.stays.Goals as goal
 
 pub returns : goal.returns
 returns c =
     c.all_stay_infinite.ensures
-    ∙ all_of_row (λ (t : ℕ). is_marked (infinite c.args.values.now) t && (slice_index c.args.ranks.now t == slice_index c.args.ranks.now c.args.s))
+    ∙ all_of_row (λ (t : ℕ). is_marked (infinite c.args.self.values.now) t && (slice_index c.args.self.ranks.now t == slice_index c.args.self.ranks.now c.args.s))
     c.row.result.targets.now c.row.result.probs.now _ c.row.result.same_length c.row.ensures.row

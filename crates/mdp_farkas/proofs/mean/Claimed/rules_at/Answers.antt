@@ -1,0 +1,16 @@
+use Rattle.std.proofs.Common.{[], ◌∷◌, ◌++◌, List}
+use Rattle.mdp_farkas.specs.Mean.{gain_check, relative_check, policy_gain_check, policy_bias_check}
+use Rattle.mdp_farkas.specs.Verdict.{Check, at_choices}
+use Rattle.mdp_farkas.proofs.Objections.{goes_on}
+use Rattle.mdp_farkas.proofs.mean.Claimed.rules_at.Goals as goal
+
+pub returns : goal.returns
+returns c =
+    let x = c.args.self in
+    let m = x.model.now in
+    let g = x.gains.now in
+    let gains = at_choices m c.args.s (gain_check x.dir m g c.args.s) in
+    let bounds = at_choices m c.args.s (relative_check x.dir m x.name g x.bound.now c.args.s) in
+    let policy : List Check = policy_gain_check m g c.args.s c.args.choice ∷ policy_bias_check m x.name g x.bias.now c.args.s c.args.choice ∷ [] in
+    goes_on gains (bounds ++ policy) tt c.policy_at.result (c.in_ok-gains_at.ensures {u = tt})
+    (goes_on bounds policy tt c.policy_at.result (c.in_ok-bounds_at.ensures {u = tt}) c.policy_at.ensures)
