@@ -1,7 +1,7 @@
 -- A subsystem of a model is a model.
 pub mod Handing
 use Rattle.std.proofs.Common.{◌≡◌, ℕ, zero, suc, ◌+◌, ◌≤◌, ◌<◌, ◌^◌, Bool, true, false, ◌||◌, ◌&&◌, le-leb}
-use Rattle.std.proofs.Common.{List, [], ◌∷◌, length, map, drop, get_or, pos, refl, sym, ap, subst, ◌∙◌, arith}
+use Rattle.std.proofs.Common.{List, [], ◌∷◌, length, map, sum_by, drop, get_or, pos, refl, sym, ap, subst, ◌∙◌, arith}
 use Rattle.std.specs.List.{All, AllByRecursion}
 use Rattle.std.proofs.lemmas.Int.{ints}
 use Rattle.std.specs.Prelude.{Result, Ok}
@@ -146,26 +146,17 @@ module _ (names : List (List ℕ)) (stays : ℕ → Bool) where
   closed-cut n s [] h all = tt
   closed-cut n s (x ∷ states) h all = (closed_state n names s x (stays s) (omega arith) all.0, closed-cut n (suc s) states (omega arith) all.1)
 
-  choices-cut : (n s : ℕ) (states : List State) → AllByRecursion (IsClosedState n (length names)) states → choice_count (cut_from names s states stays) ≤ choice_count states
-  choices-cut n s [] all = omega arith
-  choices-cut n s (x ∷ states) all =
+  -- what no state has more of when it is cut, all states together don't have more of
+  total-cut : (of : List Choice → ℕ) → ((n s : ℕ) (x : State) → IsClosedState n (length names) x → of (State.choices (cut_state names s x (stays s))) ≤ of x.choices) → (n s : ℕ) (states : List State)
+      → AllByRecursion (IsClosedState n (length names)) states → sum_by (λ x. of x.choices) (cut_from names s states stays) ≤ sum_by (λ x. of x.choices) states
+  total-cut of fewer n s [] all = omega arith
+  total-cut of fewer n s (x ∷ states) all =
       let y : State = cut_state names s x (stays s) in
       let rest : List State = cut_from names (suc s) states stays in
-      let a : choice_count (y ∷ rest) ≡ length y.choices + choice_count rest = sum_by-cons (λ (z : State). length z.choices) y rest in
-      let b : choice_count (x ∷ states) ≡ length x.choices + choice_count states = sum_by-cons (λ (z : State). length z.choices) x states in
-      let f : length y.choices ≤ length x.choices = fewer_choices n names s x (stays s) all.0 in
-      let g : choice_count rest ≤ choice_count states = choices-cut n (suc s) states all.1 in
-      omega (arith, a, b, f, g)
-
-  entries-cut : (n s : ℕ) (states : List State) → AllByRecursion (IsClosedState n (length names)) states → entry_count (cut_from names s states stays) ≤ entry_count states
-  entries-cut n s [] all = omega arith
-  entries-cut n s (x ∷ states) all =
-      let y : State = cut_state names s x (stays s) in
-      let rest : List State = cut_from names (suc s) states stays in
-      let a : entry_count (y ∷ rest) ≡ row_count y.choices + entry_count rest = sum_by-cons (λ (z : State). row_count z.choices) y rest in
-      let b : entry_count (x ∷ states) ≡ row_count x.choices + entry_count states = sum_by-cons (λ (z : State). row_count z.choices) x states in
-      let f : row_count y.choices ≤ row_count x.choices = fewer_entries n names s x (stays s) all.0 in
-      let g : entry_count rest ≤ entry_count states = entries-cut n (suc s) states all.1 in
+      let a = sum_by-cons (λ (z : State). of z.choices) y rest in
+      let b = sum_by-cons (λ (z : State). of z.choices) x states in
+      let f = fewer n s x all.0 in
+      let g = total-cut of fewer n (suc s) states all.1 in
       omega (arith, a, b, f, g)
 
 -- ---- the model
@@ -190,8 +181,8 @@ sub_is_model m goals kept ok =
     subst (λ (k : ℕ). All (IsClosedState k (length m.names)) states) (sym n)
     (All-from_recursion (IsClosedState (states_of m) (length m.names)) states (closed-cut m.names stays (states_of m) 0 m.states (omega arith) closed))
     in
-    let fewer : choice_count states ≤ choice_count m.states = choices-cut m.names stays (states_of m) 0 m.states closed in
-    let less : entry_count states ≤ entry_count m.states = entries-cut m.names stays (states_of m) 0 m.states closed in
+    let fewer : choice_count states ≤ choice_count m.states = total-cut m.names stays length (λ n s x. fewer_choices n m.names s x (stays s)) (states_of m) 0 m.states closed in
+    let less : entry_count states ≤ entry_count m.states = total-cut m.names stays row_count (λ n s x. fewer_entries n m.names s x (stays s)) (states_of m) 0 m.states closed in
     let some = ok.mdp.some in
     let few = ok.mdp.few in
     record {

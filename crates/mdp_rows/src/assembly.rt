@@ -1,5 +1,5 @@
 ghost use Rattle.std.specs.Prelude.{◌≡◌, ◌⊎◌, ◌≤◌, None, Some, IfOk, IfErr, OnOk, OnErr, length, map, nat_le};
-ghost use Rattle.std.specs.List.{position, position_or_len};
+ghost use Rattle.std.specs.List.{position_or_len};
 ghost use Rattle.std.specs.Option.{IfSome};
 ghost use Rattle.mdp_num.specs.Meaning.{IsWithinLimit};
 ghost use Rattle.mdp_rows.specs.Draft.{new_draft, choice_closed, state_closed, all_closed, state_opened, choice_opened, finished};
@@ -19,7 +19,7 @@ use crate::marks::Marks;
 use crate::open_row::{sort_row, unmark};
 use crate::rewards::add_rewards;
 use crate::rule::RowRule;
-use mdp_num::{Frac, Memory};
+use mdp_num::Frac;
 use std::alloc::{AllocError, Global};
 use std::marker::Model;
 
@@ -57,20 +57,16 @@ pub struct Assembly {
     refused: Option<RowsError>,
 }
 
-fn first_from(places: &[u32], label: u32) -> Option<usize>
-    ensures { result ≡ position (λ k. nat_le label k) places.now }
-{
-    places.iter().position(|place| *place >= label)
-}
-
 /// Where a label's place stands among ascending ones, or would stand.
 fn place_of_label(places: &[u32], label: u32) -> usize
     ensures { result ≡ position_or_len (λ k. nat_le label k) places.now }
 {
-    match first_from(places, label) {
-        Some(place) => place,
-        None => places.len(),
+    for i in 0..places.len() {
+        if places[i] >= label {
+            return i;
+        }
     }
+    places.len()
 }
 
 /// Adds the label's place, where it isn't there. On `Err` the places are as before.
@@ -265,36 +261,6 @@ impl Assembly {
         Ok(())
     }
 
-    fn empty(
-        alloc: Global,
-        states: u32,
-        rule: RowRule,
-        names: Vec<Vec<u8>>,
-    ) -> Result<Assembly, AllocError>
-        requires some { 1 ≤ states }
-        requires few { states ≤ max_states }
-        requires names { AreRewardNames (map (λ n. n.items) names.items) }
-        ensures { IfOk result (λ builder. builder ≡ new_draft states rule (map (λ n. n.items) names.items)) }
-    {
-        Ok(Assembly {
-            announced: states,
-            rule,
-            choices: Choices::new(alloc, names)?,
-            starts: vec![in alloc; 0]?,
-            first_choice: 0,
-            labels: Labels::new(alloc)?,
-            stage: Stage::Between,
-            rewards: Vec::new(alloc),
-            places: Vec::new(alloc),
-            label_calls: 0,
-            sums: Vec::new(alloc),
-            row: Vec::new(alloc),
-            targets: Marks::from_values(vec![in alloc; false; states as usize]?),
-            entries: 0,
-            refused: None,
-        })
-    }
-
     /// The model of the states that are closed.
     fn into_model(self) -> Result<crate::model::Model, RowsError>
         requires closed { self.state ≡ None }
@@ -331,13 +297,29 @@ impl Assembly {
         states: u32,
         rule: RowRule,
         names: Vec<Vec<u8>>,
-    ) -> Result<Assembly, Memory>
+    ) -> Result<Assembly, AllocError>
         requires some { 1 ≤ states }
         requires few { states ≤ max_states }
         requires names { AreRewardNames (map (λ n. n.items) names.items) }
         ensures { IfOk result (λ builder. builder ≡ new_draft states rule (map (λ n. n.items) names.items)) }
     {
-        Ok(Assembly::empty(alloc, states, rule, names)?)
+        Ok(Assembly {
+            announced: states,
+            rule,
+            choices: Choices::new(alloc, names)?,
+            starts: vec![in alloc; 0]?,
+            first_choice: 0,
+            labels: Labels::new(alloc)?,
+            stage: Stage::Between,
+            rewards: Vec::new(alloc),
+            places: Vec::new(alloc),
+            label_calls: 0,
+            sums: Vec::new(alloc),
+            row: Vec::new(alloc),
+            targets: Marks::from_values(vec![in alloc; false; states as usize]?),
+            entries: 0,
+            refused: None,
+        })
     }
 
     /// Whether a state is open, so that a label or a choice may come.

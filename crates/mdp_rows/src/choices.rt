@@ -22,7 +22,12 @@ use std::marker::Model;
 fn place_in(names: &[Vec<u8>], name: &[u8]) -> Option<usize>
     ensures { result ≡ position (λ v. bytes_eq name.now v.items) names.now }
 {
-    names.iter().position(|other| name == other.as_slice())
+    for i in 0..names.len() {
+        if name == names[i].as_slice() {
+            return Some(i);
+        }
+    }
+    None
 }
 
 /// The choices of all states one after the other: their rows, and the rewards of all of them in one vector, one for each name.

@@ -1,6 +1,6 @@
 use Rattle.std.proofs.Common.{refl, ◌∙◌}
 use Rattle.mdp_rows.proofs.Assembled.New.{new_is, is_new}
-use Rattle.mdp_rows.proofs.assembly.Assembly.empty.Goals as goal
+use Rattle.mdp_rows.proofs.assembly.Assembly.new.Goals as goal
 
 pub invariant_of-result : goal.invariant_of-result
 invariant_of-result c =
