@@ -3,7 +3,6 @@ pub mod Calls
 pub mod ClosedRows
 pub mod CutModels
 mod Examples
-pub mod FirstPlaces
 pub mod Flat
 pub mod Queries
 pub mod NegativeRewards

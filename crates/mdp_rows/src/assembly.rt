@@ -1,5 +1,5 @@
 ghost use Rattle.std.specs.Prelude.{◌≡◌, ◌⊎◌, ◌≤◌, None, Some, IfOk, IfErr, OnOk, OnErr, length, map, nat_le};
-ghost use Rattle.std.specs.List.{position_or_len};
+ghost use Rattle.std.specs.List.{position, position_or_len};
 ghost use Rattle.std.specs.Option.{IfSome};
 ghost use Rattle.mdp_num.specs.Meaning.{IsWithinLimit};
 ghost use Rattle.mdp_rows.specs.Draft.{new_draft, choice_closed, state_closed, all_closed, state_opened, choice_opened, finished};
@@ -57,16 +57,20 @@ pub struct Assembly {
     refused: Option<RowsError>,
 }
 
+fn first_from(places: &[u32], label: u32) -> Option<usize>
+    ensures { result ≡ position (λ k. nat_le label k) places.now }
+{
+    places.iter().position(|place| *place >= label)
+}
+
 /// Where a label's place stands among ascending ones, or would stand.
 fn place_of_label(places: &[u32], label: u32) -> usize
     ensures { result ≡ position_or_len (λ k. nat_le label k) places.now }
 {
-    for i in 0..places.len() {
-        if places[i] >= label {
-            return i;
-        }
+    match first_from(places, label) {
+        Some(place) => place,
+        None => places.len(),
     }
-    places.len()
 }
 
 /// Adds the label's place, where it isn't there. On `Err` the places are as before.

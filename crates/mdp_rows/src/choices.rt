@@ -22,12 +22,7 @@ use std::marker::Model;
 fn place_in(names: &[Vec<u8>], name: &[u8]) -> Option<usize>
     ensures { result ≡ position (λ v. bytes_eq name.now v.items) names.now }
 {
-    for i in 0..names.len() {
-        if name == names[i].as_slice() {
-            return Some(i);
-        }
-    }
-    None
+    names.iter().position(|other| name == other.as_slice())
 }
 
 /// The choices of all states one after the other: their rows, and the rewards of all of them in one vector, one for each name.

@@ -1,8 +1,6 @@
 use Rattle.std.proofs.Common.{◌≡◌, sym, ap, ◌∙◌, arith, get_or}
-use Rattle.std.specs.Prelude.{nat_le}
 use Rattle.mdp_rows.specs.Draft.{with_place}
-use Rattle.mdp_rows.proofs.Assembled.Places.{place_in, put, with_present, with_absent}
-use Rattle.mdp_rows.proofs.FirstPlaces.{place-le}
+use Rattle.mdp_rows.proofs.Assembled.Places.{place_in, put, with_present, with_absent, place-le}
 use Rattle.mdp_rows.proofs.assembly.add_place.Goals.{else-place-len-via-then-place-len+else-index-label, else-place-len-via-else-place-len}
 use Rattle.mdp_rows.proofs.assembly.add_place.Goals as goal
 
@@ -16,7 +14,7 @@ returns-then-index-label-clause-added c =
 pub insert-requires : goal.insert-requires
 insert-requires c =
     let p = rw c.deref.ensures.value at c.place_of_label-place.ensures in
-    let k = place-le (λ k. nat_le c.args.label k) c.args.places.now.items in
+    let k = place-le c.args.label c.args.places.now.items in
     omega (arith, p, k)
 
 pub returns-clause-added : goal.returns-clause-added
