@@ -4,6 +4,8 @@ pub mod Joined
 pub mod Feeds
 pub mod Fronts
 pub mod States
+pub mod HeadLines
+pub mod Exact
 pub mod InitialState
 pub mod Lengths
 mod Examples

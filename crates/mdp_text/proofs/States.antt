@@ -1,5 +1,5 @@
--- The line of the number of states is read exactly where it is its text.
-use Rattle.std.proofs.Common.{◌≡◌, ℕ, ◌<◌, ◌≤◌, ◌^◌, false, eqb, ltb, ◌||◌, List, [], ◌∷◌, length, decimal, Result, Ok, refl, ap, ◌∙◌, arith}
+-- The line of the number of states is read exactly where it is its text. So many words, one by one.
+use Rattle.std.proofs.Common.{◌≡◌, ℕ, ◌<◌, ◌≤◌, ◌^◌, false, eqb, ltb, ◌||◌, List, [], ◌∷◌, length, drop, decimal, Result, Ok, refl, ap, ◌∙◌, arith}
 use Rattle.std.specs.Prelude.{codes}
 use Rattle.std.specs.List.{join_with_byte}
 use Rattle.std.proofs.lemmas.Bool.Decides.{nat_tests}
@@ -23,6 +23,19 @@ pub one-word : (ws : List (List ℕ)) → length ws ≡ 1 → ws ≡ first_of ws
 one-word [] e = absurd (omega arith)
 one-word (w ∷ []) e = refl
 one-word (w ∷ v ∷ ws) e = absurd (omega arith)
+
+pub two-words : (ws : List (List ℕ)) → length ws ≡ 2 → ws ≡ first_of ws ∷ first_of (drop 1 ws) ∷ []
+two-words [] e = absurd (omega arith)
+two-words (w ∷ ws) e = ap (λ (us : List (List ℕ)). w ∷ us) (one-word ws (omega arith))
+
+pub three-words : (ws : List (List ℕ)) → length ws ≡ 3 → ws ≡ first_of ws ∷ first_of (drop 1 ws) ∷ first_of (drop 1 (drop 1 ws)) ∷ []
+three-words [] e = absurd (omega arith)
+three-words (w ∷ ws) e = ap (λ (us : List (List ℕ)). w ∷ us) (two-words ws (omega arith))
+
+pub four-words : (ws : List (List ℕ)) → length ws ≡ 4
+    → ws ≡ first_of ws ∷ first_of (drop 1 ws) ∷ first_of (drop 1 (drop 1 ws)) ∷ first_of (drop 1 (drop 1 (drop 1 ws))) ∷ []
+four-words [] e = absurd (omega arith)
+four-words (w ∷ ws) e = ap (λ (us : List (List ℕ)). w ∷ us) (three-words ws (omega arith))
 
 pub states-found : (n : ℕ) (text : List ℕ) (states : ℕ) → states_at n text ≡ Ok states → (text ≡ states_text states) × (0 < states) × (states ≤ 2 ^ 20)
 unfolding states_at
