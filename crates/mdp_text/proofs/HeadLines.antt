@@ -45,7 +45,6 @@ module _ {C I : Type 0} (claim_at : ℕ → List ℕ → Result C Refusal) (init
     pub is : IsHead h
 
   pub head-found : AreForms → (p : Place) (h : Head C I) (q : Place) → head_by claim_at init_at p ≡ Ok (h, q) → FoundHead p h q
-  unfolding head_by
   head-found are p h q e =
       let one = bind_ok (line_by claim_at p) (with-claim init_at) (h, q) e in
       let two = bind_ok (line_by states_at one.0.1) (with-states init_at one.0.0) (h, q) one.2 in
@@ -58,7 +57,8 @@ module _ {C I : Type 0} (claim_at : ℕ → List ℕ → Result C Refusal) (init
       let states = states-found one.0.1.line s.text two.0.0 s.said in
       let init = are.init_found one.0.0 two.0.0 two.0.1.line i.text three.0.0 i.said in
       subst (λ (r : Head C I × Place). FoundHead p r.0 r.1) same (record {
-        text = joined _ _ _ _ _ _ _ _ _ _ c.is.front s.is.front i.is.front claim.0 states.0 init.0;
+        text = joined p.rest one.0.1.rest two.0.1.rest three.0.1.rest c.text s.text i.text (claim_text one.0.0) (states_text two.0.0) (init_text three.0.0)
+            c.is.front s.is.front i.is.front claim.0 states.0 init.0;
         is = record { some = states.1; limit = states.2; claim = claim.1; init = init.1 };
       })
     where
@@ -67,7 +67,6 @@ module _ {C I : Type 0} (claim_at : ℕ → List ℕ → Result C Refusal) (init
           rw (p, q, r, i, j, k) (sym (append_assoc (line x) (line y ++ line z) d ∙ ap (λ (w : List ℕ). line x ++ w) (append_assoc (line y) (line z) d)))
 
   pub head-again : AreForms → (n : ℕ) (h : Head C I) (rest : List ℕ) → IsHead h → head_by claim_at init_at (place n (lines-of-head h ++ rest)) ≡ Ok (h, place (n + 1 + 1 + 1) rest)
-  unfolding head_by
   head-again are n h rest ok =
       let i : List ℕ = line (init_text h.init) ++ rest in
       rw (

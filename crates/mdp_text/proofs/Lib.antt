@@ -2,6 +2,7 @@ pub mod Pieces
 pub mod Cuts
 pub mod Joined
 pub mod Feeds
+pub mod Behind
 pub mod Fronts
 pub mod States
 pub mod HeadLines

@@ -57,7 +57,7 @@ pub record Head (C I : Type 0) : Type 0 where
   pub init : I
 
 -- these three lines, where the lines of claim and init are judged so; the form of the line `init` may be the claim's
-unfoldable pub head_by : {C I : Type 0} → (ℕ → List ℕ → Result C Refusal) → (C → ℕ → ℕ → List ℕ → Result I Refusal) → Place → Result (Head C I × Place) Refusal
+abbrev pub head_by : {C I : Type 0} → (ℕ → List ℕ → Result C Refusal) → (C → ℕ → ℕ → List ℕ → Result I Refusal) → Place → Result (Head C I × Place) Refusal
 head_by claim_at init_at p = do
   claim ← line_by claim_at p
   states ← line_by states_at claim.1
