@@ -1,6 +1,6 @@
 -- The lines of a body are read exactly where they are the lines of what is read.
 use Rattle.std.proofs.Common.{◌≡◌, ℕ, ◌+◌, ◌<◌, ◌≤◌, ◌^◌, true, eqb, ◌&&◌, List, [], ◌∷◌, ◌++◌, length, map, Option}
-use Rattle.std.proofs.Common.{Result, Ok, refl, sym, ap, subst, ◌∙◌, append_assoc}
+use Rattle.std.proofs.Common.{Result, Ok, refl, sym, ap, subst, ◌∙◌}
 use Rattle.std.specs.List.{All}
 use Rattle.std.proofs.lemmas.Bool.{and_parts}
 use Rattle.std.proofs.lemmas.List.{length-map}
@@ -8,18 +8,17 @@ use Rattle.mdp_math.specs.Rational.{ℚ}
 use Rattle.mdp_num.specs.Value.{IsNarrow}
 use Rattle.mdp_rows.specs.declared.dir.Dir.{Dir}
 use Rattle.mdp_text.specs.declared.error.Refusal.{Refusal}
-use Rattle.mdp_text.specs.Lines.{◌>>=◌, Place, place, line_by}
-use Rattle.mdp_text.specs.Spelling.{line}
+use Rattle.mdp_text.specs.Lines.{◌>>=◌, Place, place}
 use Rattle.mdp_text.proofs.Cuts.{same-number, number-same}
-use Rattle.mdp_text.proofs.Feeds.{ok-is, bind_ok, judged-found, judged-again}
+use Rattle.mdp_text.proofs.Feeds.{ok-is, bind_ok}
 use Rattle.mdp_cert.specs.declared.version.Version.TheVariants.{Two}
 use Rattle.mdp_cert.specs.Cert.{PlainClaim, upper, reach, reward, mean, witness, IsValueNarrow}
 use Rattle.mdp_cert.specs.Claims.{Value, fraction_value, reward_value}
-use Rattle.mdp_cert.specs.Spelling.{spread_text, closed_lines}
-use Rattle.mdp_cert.specs.Reading.{entries_to_end, spread_at}
+use Rattle.mdp_cert.specs.Spelling.{closed_lines}
+use Rattle.mdp_cert.specs.Reading.{entries_to_end}
 use Rattle.mdp_cert.proofs.Columns.{IsValue, fraction-is_value, reward-is_value}
 use Rattle.mdp_cert.proofs.Bodies.{Each, closed-found, closed-again}
-use Rattle.mdp_cert.proofs.Parts.{each-all, all-each, free-spread, spread-found, spread-again}
+use Rattle.mdp_cert.proofs.Parts.{all-each, all-of, spread-entries-found, spread-entries-again}
 use Rattle.mdp_bounds_text.specs.declared.ranked_entry.RankedEntry.{RankedEntry}
 use Rattle.mdp_bounds_text.specs.declared.gains_entry.GainsEntry.{GainsEntry}
 use Rattle.mdp_bounds_text.specs.Cert.{PlainBounds, probabilities, rewards, gains, is_body_of, IsBodyInWidth}
@@ -49,22 +48,6 @@ ranked-counts states ls us cs rs e =
     record { lower = number-same _ states v.0; upper = number-same _ states v.1; choices = number-same _ states u.1; ranks = number-same _ states t.1 }
 
 module _ {V : Type 0} (k : Value V) (IsInWidth : V → Type 0) (is : IsValue k IsInWidth) (states : ℕ) (limit : states ≤ 2 ^ 20) where
-  lower-width : (xs : List (RankedEntry V)) → Each (IsRankedInWidth IsInWidth) xs → Each IsInWidth (map (λ x. x.lower) xs)
-  lower-width [] h = tt
-  lower-width (x ∷ xs) h = (h.0.lower, lower-width xs h.1)
-
-  upper-width : (xs : List (RankedEntry V)) → Each (IsRankedInWidth IsInWidth) xs → Each IsInWidth (map (λ x. x.upper) xs)
-  upper-width [] h = tt
-  upper-width (x ∷ xs) h = (h.0.upper, upper-width xs h.1)
-
-  choices-width : (xs : List (RankedEntry V)) → Each (IsRankedInWidth IsInWidth) xs → Each (λ c. c < 2 ^ 32) (map (λ x. x.choice) xs)
-  choices-width [] h = tt
-  choices-width (x ∷ xs) h = (h.0.choice, choices-width xs h.1)
-
-  ranks-width : (xs : List (RankedEntry V)) → Each (IsRankedInWidth IsInWidth) xs → Each (λ r. r < 2 ^ 32) (map (λ x. x.rank) xs)
-  ranks-width [] h = tt
-  ranks-width (x ∷ xs) h = (h.0.rank, ranks-width xs h.1)
-
   ranked-width : (ls us : List V) (cs rs : List ℕ) → Each IsInWidth ls → Each IsInWidth us → Each (λ c. c < 2 ^ 32) cs → Each (λ r. r < 2 ^ 32) rs
       → Each (IsRankedInWidth IsInWidth) (ranked_of ls us cs rs)
   ranked-width (l ∷ ls) (u ∷ us) (c ∷ cs) (r ∷ rs) p q o t = (record { lower = p.0; upper = q.0; choice = o.0; rank = t.0 }, ranked-width ls us cs rs p.1 q.1 o.1 t.1)
@@ -85,10 +68,10 @@ module _ {V : Type 0} (k : Value V) (IsInWidth : V → Type 0) (is : IsValue k I
         text = f.text ∙ ap (λ (ys : List (RankedEntry V)). closed_lines Two (ranked_columns k) ys ++ q.rest) (sym (ranked.ranked-of xs));
         entries = rw (each V (λ x. x.lower), each V (λ x. x.upper), each ℕ (λ x. x.choice), each ℕ (λ x. x.rank)) refl;
         width = (
-          each-all IsInWidth _ (lower-width xs f.width),
-          each-all IsInWidth _ (upper-width xs f.width),
-          each-all (λ c. c < 2 ^ 32) _ (choices-width xs f.width),
-          each-all (λ r. r < 2 ^ 32) _ (ranks-width xs f.width),
+          all-of (IsRankedInWidth IsInWidth) IsInWidth (λ x. x.lower) (λ x h. h.lower) xs f.width,
+          all-of (IsRankedInWidth IsInWidth) IsInWidth (λ x. x.upper) (λ x h. h.upper) xs f.width,
+          all-of (IsRankedInWidth IsInWidth) (λ c. c < 2 ^ 32) (λ x. x.choice) (λ x h. h.choice) xs f.width,
+          all-of (IsRankedInWidth IsInWidth) (λ r. r < 2 ^ 32) (λ x. x.rank) (λ x h. h.rank) xs f.width,
         );
       }
 
@@ -96,39 +79,18 @@ module _ {V : Type 0} (k : Value V) (IsInWidth : V → Type 0) (is : IsValue k I
   record AgainRanked (n : ℕ) (ls us : List V) (cs rs rest : List ℕ) : Type 0 where
     line : ℕ
     read : entries_to_end Two (ranked_columns k) states (place n (closed_lines Two (ranked_columns k) (ranked_of ls us cs rs) ++ rest)) ≡ Ok (ranked_of ls us cs rs, place line rest)
-    back : ranked.Back ls us cs rs
+    back : ranked.lists-of (ranked_of ls us cs rs) ≡ (ls, us, cs, rs)
 
   ranked-again : (n : ℕ) (ls us : List V) (cs rs rest : List ℕ) → (eqb (length ls) states && eqb (length us) states && eqb (length cs) states && eqb (length rs) states) ≡ true
       → All IsInWidth ls × All IsInWidth us × All (λ c. c < 2 ^ 32) cs × All (λ r. r < 2 ^ 32) rs → AgainRanked n ls us cs rs rest
   ranked-again n ls us cs rs rest ok width =
       let l = ranked-counts states ls us cs rs ok in
-      let b = ranked.back states ls us cs rs l in
       let r =
-      closed-again (ranked_columns k) (IsRankedInWidth IsInWidth) (ranked-is_columns k IsInWidth is) states limit Two n (ranked_of ls us cs rs) rest (b.count ∙ l.lower)
+      closed-again (ranked_columns k) (IsRankedInWidth IsInWidth) (ranked-is_columns k IsInWidth is) states limit Two n (ranked_of ls us cs rs) rest (ranked.count states ls us cs rs l)
       (ranked-width ls us cs rs (all-each IsInWidth ls width.0) (all-each IsInWidth us width.1) (all-each (λ c. c < 2 ^ 32) cs width.2) (all-each (λ r. r < 2 ^ 32) rs width.3)) in
-      record { line = r.0; read = r.1; back = b }
+      record { line = r.0; read = r.1; back = ranked.back states ls us cs rs l }
 
 -- ---- mean payoffs
-
-lower-gains : (xs : List GainsEntry) → Each IsGainsInWidth xs → Each IsNarrow (map (λ x. x.lower) xs)
-lower-gains [] h = tt
-lower-gains (x ∷ xs) h = (h.0.lower, lower-gains xs h.1)
-
-upper-gains : (xs : List GainsEntry) → Each IsGainsInWidth xs → Each IsNarrow (map (λ x. x.upper) xs)
-upper-gains [] h = tt
-upper-gains (x ∷ xs) h = (h.0.upper, upper-gains xs h.1)
-
-bounds-width : (xs : List GainsEntry) → Each IsGainsInWidth xs → Each IsNarrow (map (λ x. x.bound) xs)
-bounds-width [] h = tt
-bounds-width (x ∷ xs) h = (h.0.bound, bounds-width xs h.1)
-
-biases-width : (xs : List GainsEntry) → Each IsGainsInWidth xs → Each IsNarrow (map (λ x. x.bias) xs)
-biases-width [] h = tt
-biases-width (x ∷ xs) h = (h.0.bias, biases-width xs h.1)
-
-gains-choices : (xs : List GainsEntry) → Each IsGainsInWidth xs → Each (λ c. c < 2 ^ 32) (map (λ x. x.choice) xs)
-gains-choices [] h = tt
-gains-choices (x ∷ xs) h = (h.0.choice, gains-choices xs h.1)
 
 gains-width : (ls us zs bs : List ℚ) (cs : List ℕ) → Each IsNarrow ls → Each IsNarrow us → Each IsNarrow zs → Each IsNarrow bs → Each (λ c. c < 2 ^ 32) cs
     → Each IsGainsInWidth (gains_of ls us zs bs cs)
@@ -152,39 +114,28 @@ gains-counts states ls us zs bs cs e =
       choices = number-same _ states t.1;
     }
 
-abbrev gains-behind : ℕ → ℚ × Place → Result (PlainBounds × Place) Refusal
-gains-behind states spread = entries_to_end Two gains_columns states spread.1 >>= λ xs. Ok (mean_body spread.0 xs.0, xs.1)
-
 mean-found : (dir : Dir) (name : List ℕ) (states : ℕ) (p : Place) (b : PlainBounds) (q : Place) → states ≤ 2 ^ 20 → body_from (mean dir name) states p ≡ Ok (b, q)
     → FoundBody (mean dir name) states p b q
 unfolding body_from
 mean-found dir name states p b q limit e =
-    let spread = bind_ok (line_by spread_at p) (gains-behind states) (b, q) e in
-    let all = bind_ok (entries_to_end Two gains_columns states spread.0.1) (λ xs. Ok (mean_body spread.0.0 xs.0, xs.1)) (b, q) spread.2 in
-    let xs = all.0.0 in
-    let same : (let r : PlainBounds × Place = (mean_body spread.0.0 xs, all.0.1) in r) ≡ (b, q) = ok-is _ _ all.2 in
-    let j = judged-found spread_at p spread.0.0 spread.0.1 spread.1 in
-    let k = spread-found p.line j.text spread.0.0 j.said in
-    let f = closed-found gains_columns IsGainsInWidth gains-is_columns states limit Two spread.0.1 xs all.0.1 all.1 in
+    let s = spread-entries-found gains_columns IsGainsInWidth gains-is_columns states limit Two mean_body p b q e in
+    let xs = s.1 in
+    let f = s.3 in
     let each : (X : Type 0) (g : GainsEntry → X) → eqb (length (map g xs)) states ≡ true = λ X g. same-number _ states (length-map xs g ∙ f.count) in
-    subst (λ (r : PlainBounds × Place). FoundBody (mean dir name) states p r.0 r.1) same (record {
-      text = joined p.rest j.text (spread_text spread.0.0) spread.0.1.rest (closed_lines Two gains_columns xs) (closed_lines Two gains_columns (gains_of _ _ _ _ _)) all.0.1.rest
-          j.is.front k.0 f.text (ap (λ (ys : List GainsEntry). closed_lines Two gains_columns ys) (sym (gained.gains-of xs)));
+    subst (λ (c : PlainBounds). FoundBody (mean dir name) states p c q) s.2 (record {
+      text = f.text _ (gained.gains-of xs);
       fits = record {
         entries = rw (each ℚ (λ x. x.lower), each ℚ (λ x. x.upper), each ℚ (λ x. x.bound), each ℚ (λ x. x.bias), each ℕ (λ x. x.choice)) refl;
         width = (
-          each-all IsNarrow _ (lower-gains xs f.width),
-          each-all IsNarrow _ (upper-gains xs f.width),
-          each-all IsNarrow _ (bounds-width xs f.width),
-          each-all IsNarrow _ (biases-width xs f.width),
-          each-all (λ c. c < 2 ^ 32) _ (gains-choices xs f.width),
-          k.1,
+          all-of IsGainsInWidth IsNarrow (λ x. x.lower) (λ x h. h.lower) xs f.width,
+          all-of IsGainsInWidth IsNarrow (λ x. x.upper) (λ x h. h.upper) xs f.width,
+          all-of IsGainsInWidth IsNarrow (λ x. x.bound) (λ x h. h.bound) xs f.width,
+          all-of IsGainsInWidth IsNarrow (λ x. x.bias) (λ x h. h.bias) xs f.width,
+          all-of IsGainsInWidth (λ c. c < 2 ^ 32) (λ x. x.choice) (λ x h. h.choice) xs f.width,
+          f.narrow,
         );
       };
     })
-  where
-    joined : (a t u r c d z : List ℕ) → a ≡ line t ++ r → t ≡ u → r ≡ c ++ z → c ≡ d → a ≡ (line u ++ d) ++ z
-    joined a t u r c d z p q o e = rw (p, q, o, e) (sym (append_assoc (line u) d z))
 
 mean-again : (dir : Dir) (name : List ℕ) (states n : ℕ) (ls us zs bs : List ℚ) (cs : List ℕ) (k : ℚ) (rest : List ℕ) → states ≤ 2 ^ 20
     → FitsBody (mean dir name) states (gains ls us zs bs cs k)
@@ -192,22 +143,14 @@ mean-again : (dir : Dir) (name : List ℕ) (states n : ℕ) (ls us zs bs : List 
 unfolding body_from
 mean-again dir name states n ls us zs bs cs k rest limit ok =
     let l = gains-counts states ls us zs bs cs ok.entries in
-    let b = gained.back states ls us zs bs cs l in
     let r =
-    closed-again gains_columns IsGainsInWidth gains-is_columns states limit Two (n + 1) (gains_of ls us zs bs cs) rest (b.count ∙ l.lower)
+    spread-entries-again gains_columns IsGainsInWidth gains-is_columns states limit Two mean_body n k (gains_of ls us zs bs cs) rest ok.width.5 (gained.count states ls us zs bs cs l)
     (gains-width ls us zs bs cs (all-each IsNarrow ls ok.width.0) (all-each IsNarrow us ok.width.1) (all-each IsNarrow zs ok.width.2) (all-each IsNarrow bs ok.width.3)
     (all-each (λ c. c < 2 ^ 32) cs ok.width.4)) in (
       r.0,
-      ap (λ (t : List ℕ). line_by spread_at (place n t) >>= gains-behind states) (append_assoc (line (spread_text k)) (closed_lines Two gains_columns (gains_of ls us zs bs cs)) rest)
-          ∙ ap (λ (q : Result (ℚ × Place) Refusal). q >>= gains-behind states)
-          (judged-again spread_at n (spread_text k) (closed_lines Two gains_columns (gains_of ls us zs bs cs) ++ rest) k (free-spread k ok.width.5) (spread-again n k ok.width.5))
-          ∙ ap (λ (q : Result (List GainsEntry × Place) Refusal). q >>= λ xs. let z : Result (PlainBounds × Place) Refusal = Ok (mean_body k xs.0, xs.1) in z) r.1
-          ∙ ap (λ (c : PlainBounds). let z : Result (PlainBounds × Place) Refusal = Ok (c, place r.0 rest) in z)
-          (parts _ _ _ _ _ _ _ _ _ _ b.lower b.upper b.bounds b.biases b.choices),
+      r.1
+          ∙ ap (λ (t : gained.Lists). let z : Result (PlainBounds × Place) Refusal = Ok (gains t.0 t.1 t.2 t.3 t.4 k, place r.0 rest) in z) (gained.back states ls us zs bs cs l),
     )
-  where
-    parts : (a b c d e f g h : List ℚ) (i j : List ℕ) → a ≡ b → c ≡ d → e ≡ f → g ≡ h → i ≡ j → gains a c e g i k ≡ gains b d f h j k
-    parts a b c d e f g h i j p q o r t = rw (p, q, o, r, t) refl
 
 -- ---- by the claim
 
@@ -244,11 +187,8 @@ reach-again states n ls us cs rs rest limit ok width =
     let r = ranked-again fraction_value IsNarrow fraction-is_value states limit n ls us cs rs rest ok width in (
       r.line,
       ap (λ (q : Result (List (RankedEntry ℚ) × Place) Refusal). q >>= reach-of) r.read
-          ∙ ap (read-as r.line rest) (parts _ _ _ _ _ _ _ _ r.back.lower r.back.upper r.back.choices r.back.ranks),
+          ∙ ap (λ (t : ranked.Lists ℚ). read-as r.line rest (probabilities t.0 t.1 t.2 t.3)) r.back,
     )
-  where
-    parts : (a b c d : List ℚ) (e f g h : List ℕ) → a ≡ b → c ≡ d → e ≡ f → g ≡ h → probabilities a c e g ≡ probabilities b d f h
-    parts a b c d e f g h p q o t = rw (p, q, o, t) refl
 
 reward-again : (states n : ℕ) (ls us : List (Option ℚ)) (cs rs rest : List ℕ) → states ≤ 2 ^ 20
     → (eqb (length ls) states && eqb (length us) states && eqb (length cs) states && eqb (length rs) states) ≡ true → IsBodyInWidth (rewards ls us cs rs)
@@ -257,11 +197,8 @@ reward-again states n ls us cs rs rest limit ok width =
     let r = ranked-again reward_value IsValueNarrow reward-is_value states limit n ls us cs rs rest ok width in (
       r.line,
       ap (λ (q : Result (List (RankedEntry (Option ℚ)) × Place) Refusal). q >>= reward-of) r.read
-          ∙ ap (read-as r.line rest) (parts _ _ _ _ _ _ _ _ r.back.lower r.back.upper r.back.choices r.back.ranks),
+          ∙ ap (λ (t : ranked.Lists (Option ℚ)). read-as r.line rest (rewards t.0 t.1 t.2 t.3)) r.back,
     )
-  where
-    parts : (a b c d : List (Option ℚ)) (e f g h : List ℕ) → a ≡ b → c ≡ d → e ≡ f → g ≡ h → rewards a c e g ≡ rewards b d f h
-    parts a b c d e f g h p q o t = rw (p, q, o, t) refl
 
 pub body-again : (claim : PlainClaim) (states n : ℕ) (b : PlainBounds) (rest : List ℕ) → states ≤ 2 ^ 20 → FitsBody claim states b
     → (m : ℕ) × (body_from claim states (place n (body_text b ++ rest)) ≡ Ok (b, place m rest))

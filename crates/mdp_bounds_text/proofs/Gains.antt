@@ -1,5 +1,6 @@
 -- Lists of lower and upper gains, bounds, biases and choices as one list of entries.
-use Rattle.std.proofs.Common.{◌≡◌, ℕ, zero, suc, ◌<◌, List, [], ◌∷◌, length, map, get_or, refl, sym, ap, subst, arith}
+use Rattle.std.proofs.Common.{◌≡◌, ℕ, zero, suc, ◌<◌, List, [], ◌∷◌, length, map, get_or, refl, sym, ap, subst, ◌∙◌, arith}
+use Rattle.std.proofs.lemmas.List.{length-map}
 use Rattle.mdp_math.specs.Rational.{ℚ}
 use Rattle.mdp_bounds_text.specs.declared.gains_entry.GainsEntry.{GainsEntry}
 use Rattle.mdp_bounds_text.specs.Entries.{gains_of}
@@ -41,33 +42,27 @@ pub record Count (states : ℕ) (ls us zs bs : List ℚ) (cs : List ℕ) : Type 
   pub biases : length bs ≡ states
   pub choices : length cs ≡ states
 
--- the lists of the entries
-pub record Back (ls us zs bs : List ℚ) (cs : List ℕ) : Type 0 where
-  pub count : length (gains_of ls us zs bs cs) ≡ length ls
-  pub lower : map (λ x. x.lower) (gains_of ls us zs bs cs) ≡ ls
-  pub upper : map (λ x. x.upper) (gains_of ls us zs bs cs) ≡ us
-  pub bounds : map (λ x. x.bound) (gains_of ls us zs bs cs) ≡ zs
-  pub biases : map (λ x. x.bias) (gains_of ls us zs bs cs) ≡ bs
-  pub choices : map (λ x. x.choice) (gains_of ls us zs bs cs) ≡ cs
+abbrev pub Lists : Type 0
+Lists = List ℚ × List ℚ × List ℚ × List ℚ × List ℕ
 
-as-many : (ls us zs bs : List ℚ) (cs : List ℕ) → Count (length ls) ls us zs bs cs → Back ls us zs bs cs
-as-many [] [] [] [] [] h = record { count = refl; lower = refl; upper = refl; bounds = refl; biases = refl; choices = refl }
+-- the lists of entries
+abbrev pub lists-of : List GainsEntry → Lists
+lists-of xs = (map (λ x. x.lower) xs, map (λ x. x.upper) xs, map (λ x. x.bound) xs, map (λ x. x.bias) xs, map (λ x. x.choice) xs)
+
+as-many : (ls us zs bs : List ℚ) (cs : List ℕ) → Count (length ls) ls us zs bs cs → lists-of (gains_of ls us zs bs cs) ≡ (ls, us, zs, bs, cs)
+as-many [] [] [] [] [] h = refl
 as-many (l ∷ ls) (u ∷ us) (z ∷ zs) (b ∷ bs) (c ∷ cs) h =
-    let p =
-    as-many ls us zs bs cs
-    (record { lower = refl; upper = omega (arith, h.upper); bounds = omega (arith, h.bounds); biases = omega (arith, h.biases); choices = omega (arith, h.choices) }) in
-    record {
-      count = ap suc p.count;
-      lower = ap (λ (xs : List ℚ). l ∷ xs) p.lower;
-      upper = ap (λ (xs : List ℚ). u ∷ xs) p.upper;
-      bounds = ap (λ (xs : List ℚ). z ∷ xs) p.bounds;
-      biases = ap (λ (xs : List ℚ). b ∷ xs) p.biases;
-      choices = ap (λ (xs : List ℕ). c ∷ xs) p.choices;
-    }
+    ap (λ (t : Lists). let r : Lists = (l ∷ t.0, u ∷ t.1, z ∷ t.2, b ∷ t.3, c ∷ t.4) in r)
+    (as-many ls us zs bs cs
+    (record { lower = refl; upper = omega (arith, h.upper); bounds = omega (arith, h.bounds); biases = omega (arith, h.biases); choices = omega (arith, h.choices) }))
 as-many ls us zs bs cs h = absurd (omega (arith, h.upper, h.bounds, h.biases, h.choices))
 
-pub back : (states : ℕ) (ls us zs bs : List ℚ) (cs : List ℕ) → Count states ls us zs bs cs → Back ls us zs bs cs
+pub back : (states : ℕ) (ls us zs bs : List ℚ) (cs : List ℕ) → Count states ls us zs bs cs → lists-of (gains_of ls us zs bs cs) ≡ (ls, us, zs, bs, cs)
 back states ls us zs bs cs h = as-many ls us zs bs cs (subst (λ (n : ℕ). Count n ls us zs bs cs) (sym h.lower) h)
+
+pub count : (states : ℕ) (ls us zs bs : List ℚ) (cs : List ℕ) → Count states ls us zs bs cs → length (gains_of ls us zs bs cs) ≡ states
+count states ls us zs bs cs h =
+    sym (length-map (gains_of ls us zs bs cs) (λ (x : GainsEntry). x.lower)) ∙ ap (λ (t : Lists). length t.0) (back states ls us zs bs cs h) ∙ h.lower
 
 pub gains-of : (xs : List GainsEntry)
     → gains_of (map (λ x. x.lower) xs) (map (λ x. x.upper) xs) (map (λ x. x.bound) xs) (map (λ x. x.bias) xs) (map (λ x. x.choice) xs) ≡ xs

@@ -1,6 +1,6 @@
 -- The lines of claim, states and init are read exactly where they are the texts of what is read.
 use Rattle.std.proofs.Common.{◌≡◌, ℕ, ◌+◌, ◌<◌, ◌≤◌, ◌^◌, Bool, true, false, not, cond, ltb, ◌&&◌, List, [], ◌∷◌, ◌++◌}
-use Rattle.std.proofs.Common.{length, drop, decimal, Option, Some, None, Result, Ok, refl, sym, ap, subst, ◌∙◌, append_assoc, arith}
+use Rattle.std.proofs.Common.{length, drop, decimal, Option, Some, None, Result, Ok, refl, ap, subst, ◌∙◌, arith}
 use Rattle.std.specs.Prelude.{codes}
 use Rattle.std.specs.List.{join_with_byte}
 use Rattle.std.specs.Str.{bytes_eq}
@@ -9,15 +9,16 @@ use Rattle.std.proofs.lemmas.Bool.Decides.{nat_tests}
 use Rattle.mdp_math.specs.Rational.{ℚ}
 use Rattle.mdp_text.specs.declared.error.CertKind.TheVariants.{Claim, Number, Count}
 use Rattle.mdp_text.specs.declared.error.Refusal.{Refusal}
-use Rattle.mdp_text.specs.Heads.{states_at, init_parse}
-use Rattle.mdp_text.specs.Lines.{◌>>=◌, refuse_if, Place, place, line_by}
+use Rattle.mdp_text.specs.Heads.{init_parse}
+use Rattle.mdp_text.specs.Lines.{◌>>=◌, refuse_if, Place, place}
 use Rattle.mdp_text.specs.Words.{first_of, words_behind, whole_at}
-use Rattle.mdp_text.specs.Spelling.{◌␣◌, line, states_text}
+use Rattle.mdp_text.specs.Spelling.{◌␣◌}
 use Rattle.mdp_text.proofs.Pieces.{Free}
 use Rattle.mdp_text.proofs.Cuts.{bytes_same}
-use Rattle.mdp_text.proofs.Feeds.{bind_ok, ok-is, refuse_ok, found_ok, judged-found, judged-again, whole-found, whole-again}
+use Rattle.mdp_text.proofs.Feeds.{bind_ok, ok-is, refuse_ok, found_ok, whole-found, whole-again}
 use Rattle.mdp_text.proofs.Joined.{free-join, free-whole, behind-again, behind-text}
-use Rattle.mdp_text.proofs.States.{states-found, states-again, free-states}
+use Rattle.mdp_text.proofs.States.{three-words}
+use Rattle.mdp_text.proofs.HeadLines as heads
 use Rattle.mdp_cert.specs.Cert.{PlainClaim, upper, reach, reward, mean, witness, are_names, may_be_infinite, IsValueNarrow}
 use Rattle.mdp_cert.specs.Claims.{reward_text}
 use Rattle.mdp_cert.specs.Spelling.{claim_text}
@@ -29,7 +30,7 @@ use Rattle.mdp_bounds_text.specs.declared.init.BoundsInit.{BoundsInit}
 use Rattle.mdp_bounds_text.specs.declared.init.BoundsInit.TheVariants.{Missing, Between}
 use Rattle.mdp_bounds_text.specs.Cert.{is_of_bounds, may_be, is_init_of, IsInitInWidth}
 use Rattle.mdp_bounds_text.specs.Spelling.{init_text}
-use Rattle.mdp_bounds_text.specs.Reading.{bounds_claim_at, init_value_at, between_at, init_at, Head, head_from}
+use Rattle.mdp_bounds_text.specs.Reading.{bounds_claim_at, init_value_at, between_at, init_at, BoundsHead, head_from}
 
 -- ---- the claim
 
@@ -65,13 +66,6 @@ bounds-claim-again n c h = rw (claim-again n c h.right, h.bounds) refl
 
 -- ---- the initial state
 
-three-words : (ws : List (List ℕ)) → length ws ≡ 3 → ws ≡ first_of ws ∷ first_of (drop 1 ws) ∷ first_of (drop 1 (drop 1 ws)) ∷ []
-three-words [] e = absurd (omega arith)
-three-words (w ∷ []) e = absurd (omega arith)
-three-words (w ∷ v ∷ []) e = absurd (omega arith)
-three-words (w ∷ v ∷ u ∷ []) e = refl
-three-words (w ∷ v ∷ u ∷ t ∷ ws) e = absurd (omega arith)
-
 allowed-may : (claim : PlainClaim) (v : Option ℚ) → IsAllowed (may_be_infinite claim) v → may_be claim v ≡ true
 allowed-may claim None h = h
 allowed-may claim (Some x) h = refl
@@ -95,9 +89,9 @@ init-lower infinite states n behind state = init_value_at infinite n (first_of (
 abbrev init-state : Bool → ℕ → ℕ → List (List ℕ) → Result BoundsInit Refusal
 init-state infinite states n behind = whole_at n (first_of behind) >>= init-lower infinite states n behind
 
-record IsInit (claim : PlainClaim) (states : ℕ) (init : BoundsInit) : Type 0 where
-  inside : is_init_of claim states init ≡ true
-  width : IsInitInWidth init
+pub record IsInit (claim : PlainClaim) (states : ℕ) (init : BoundsInit) : Type 0 where
+  pub inside : is_init_of claim states init ≡ true
+  pub width : IsInitInWidth init
 
 between-is : (claim : PlainClaim) (states state : ℕ) (low high : Option ℚ) → ltb state states ≡ true → may_be claim low ≡ true → may_be claim high ≡ true
     → IsValueNarrow low → IsValueNarrow high → IsInit claim states (Between state low high)
@@ -182,67 +176,29 @@ free-init claim states (Between state low high) limit h =
 
 -- ---- the three lines
 
-pub record IsHead (h : Head) : Type 0 where
-  pub some : 0 < h.states
-  pub limit : h.states ≤ 2 ^ 20
-  pub claim : IsBoundsClaim h.claim
-  pub inside : is_init_of h.claim h.states h.init ≡ true
-  pub width : IsInitInWidth h.init
+abbrev form-of-init : PlainClaim → ℕ → ℕ → List ℕ → Result BoundsInit Refusal
+form-of-init claim = init_at (may_be_infinite claim)
 
-abbrev pub lines-of-head : Head → List ℕ
-lines-of-head h = line (claim_text h.claim) ++ (line (states_text h.states) ++ line (init_text h.init))
+abbrev pub IsHead : BoundsHead → Type 0
+IsHead = heads.IsHead bounds_claim_at form-of-init claim_text init_text IsBoundsClaim IsInit
 
-abbrev head-end : PlainClaim → ℕ → BoundsInit × Place → Result (Head × Place) Refusal
-head-end claim states init = Ok (record { claim = claim; states = states; init = init.0 }, init.1)
+abbrev pub lines-of-head : BoundsHead → List ℕ
+lines-of-head = heads.lines-of-head bounds_claim_at form-of-init claim_text init_text IsBoundsClaim IsInit
 
-abbrev head-init : PlainClaim → ℕ × Place → Result (Head × Place) Refusal
-head-init claim states = line_by (init_at (may_be_infinite claim) states.0) states.1 >>= head-end claim states.0
+forms : heads.AreForms bounds_claim_at form-of-init claim_text init_text IsBoundsClaim IsInit
+forms = record {
+  claim_found = bounds-claim-found;
+  claim_again = bounds-claim-again;
+  claim_free = λ c h. free-claim c h.right;
+  init_found = init-found;
+  init_again = init-again;
+  init_free = free-init;
+}
 
-abbrev head-states : PlainClaim × Place → Result (Head × Place) Refusal
-head-states claim = line_by states_at claim.1 >>= head-init claim.0
-
-pub record FoundHead (p : Place) (h : Head) (q : Place) : Type 0 where
-  pub text : p.rest ≡ lines-of-head h ++ q.rest
-  pub is : IsHead h
-
-pub head-found : (p : Place) (h : Head) (q : Place) → head_from p ≡ Ok (h, q) → FoundHead p h q
+pub head-found : (p : Place) (h : BoundsHead) (q : Place) → head_from p ≡ Ok (h, q) → heads.FoundHead bounds_claim_at form-of-init claim_text init_text IsBoundsClaim IsInit p h q
 unfolding head_from
-head-found p h q e =
-    let one = bind_ok (line_by bounds_claim_at p) head-states (h, q) e in
-    let two = bind_ok (line_by states_at one.0.1) (head-init one.0.0) (h, q) one.2 in
-    let three = bind_ok (line_by (init_at (may_be_infinite one.0.0) two.0.0) two.0.1) (head-end one.0.0 two.0.0) (h, q) two.2 in
-    let same : (let r : Head × Place = (record { claim = one.0.0; states = two.0.0; init = three.0.0 }, three.0.1) in r) ≡ (h, q) = ok-is _ _ three.2 in
-    let c = judged-found bounds_claim_at p one.0.0 one.0.1 one.1 in
-    let s = judged-found states_at one.0.1 two.0.0 two.0.1 two.1 in
-    let i = judged-found (init_at (may_be_infinite one.0.0) two.0.0) two.0.1 three.0.0 three.0.1 three.1 in
-    let claim = bounds-claim-found p.line c.text one.0.0 c.said in
-    let states = states-found one.0.1.line s.text two.0.0 s.said in
-    let init = init-found one.0.0 two.0.0 two.0.1.line i.text three.0.0 i.said in
-    subst (λ (r : Head × Place). FoundHead p r.0 r.1) same (record {
-      text = joined _ _ _ _ _ _ _ _ _ _ c.is.front s.is.front i.is.front claim.0 states.0 init.0;
-      is = record { some = states.1; limit = states.2; claim = claim.1; inside = init.1.inside; width = init.1.width };
-    })
-  where
-    joined : (a b c d t u v x y z : List ℕ) → a ≡ line t ++ b → b ≡ line u ++ c → c ≡ line v ++ d → t ≡ x → u ≡ y → v ≡ z → a ≡ (line x ++ (line y ++ line z)) ++ d
-    joined a b c d t u v x y z p q r i j k =
-        rw (p, q, r, i, j, k) (sym (append_assoc (line x) (line y ++ line z) d ∙ ap (λ (w : List ℕ). line x ++ w) (append_assoc (line y) (line z) d)))
+head-found p h q e = heads.head-found bounds_claim_at form-of-init claim_text init_text IsBoundsClaim IsInit forms p h q e
 
-pub head-again : (n : ℕ) (h : Head) (rest : List ℕ) → IsHead h → head_from (place n (lines-of-head h ++ rest)) ≡ Ok (h, place (n + 1 + 1 + 1) rest)
+pub head-again : (n : ℕ) (h : BoundsHead) (rest : List ℕ) → IsHead h → head_from (place n (lines-of-head h ++ rest)) ≡ Ok (h, place (n + 1 + 1 + 1) rest)
 unfolding head_from
-head-again n h rest ok =
-    let is : IsInit h.claim h.states h.init = record { inside = ok.inside; width = ok.width } in
-    let i : List ℕ = line (init_text h.init) ++ rest in
-    rw (
-      append_assoc (line (claim_text h.claim)) (line (states_text h.states) ++ line (init_text h.init)) rest,
-      append_assoc (line (states_text h.states)) (line (init_text h.init)) rest,
-    ) (
-    ap (λ (r : Result (PlainClaim × Place) Refusal). r >>= head-states)
-    (judged-again bounds_claim_at n (claim_text h.claim) (line (states_text h.states) ++ i) h.claim (free-claim h.claim ok.claim.right)
-    (bounds-claim-again n h.claim ok.claim))
-    ∙ ap (λ (r : Result (ℕ × Place) Refusal). r >>= head-init h.claim)
-    (judged-again states_at (n + 1) (states_text h.states) i h.states (free-states h.states ok.limit)
-    (states-again (n + 1) h.states ok.some ok.limit))
-    ∙ ap (λ (r : Result (BoundsInit × Place) Refusal). r >>= head-end h.claim h.states)
-    (judged-again (init_at (may_be_infinite h.claim) h.states) (n + 1 + 1) (init_text h.init) rest h.init (free-init h.claim h.states h.init ok.limit is)
-    (init-again h.claim h.states (n + 1 + 1) h.init ok.limit is))
-    )
+head-again n h rest is = heads.head-again bounds_claim_at form-of-init claim_text init_text IsBoundsClaim IsInit forms n h rest is

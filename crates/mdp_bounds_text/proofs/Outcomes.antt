@@ -5,38 +5,37 @@ use Rattle.mdp_text.specs.declared.error.CertKind.TheVariants.{Version}
 use Rattle.mdp_text.specs.declared.error.Refusal.{Refusal}
 use Rattle.mdp_text.specs.Lines.{◌>>=◌, is_line, Place, place, line_by, nothing_behind}
 use Rattle.mdp_text.specs.Spelling.{line}
-use Rattle.mdp_text.proofs.Feeds.{bind_ok, ok-is, judged-found, judged-again, due-line, due-again}
+use Rattle.mdp_text.proofs.Feeds.{bind_ok, ok-is, judged-found, judged-again, due-line, due-again, nothing-found}
+use Rattle.mdp_text.proofs.Exact.{FoundText}
 use Rattle.mdp_num.specs.Value.{IsNarrow}
 use Rattle.mdp_cert.specs.Cert.{PlainClaim, upper, reach, reward, mean, witness, IsValueNarrow}
 use Rattle.mdp_cert.specs.Claims.{fraction_value, reward_value}
 use Rattle.mdp_cert.proofs.Columns.{fraction-is_value, reward-is_value, same-words}
-use Rattle.mdp_cert.proofs.Parts.{nothing-found}
 use Rattle.mdp_bounds_text.specs.Entries.{ranked_columns, IsRankedInWidth, gains_columns, IsGainsInWidth}
 use Rattle.mdp_bounds_text.proofs.Columns.{ranked-is_columns, gains-is_columns}
 use Rattle.mdp_bounds_text.specs.Cert.{PlainBounds, Certificate, is_of_bounds, is_body_of, Fits}
 use Rattle.mdp_bounds_text.specs.Spelling.{version_text, body_text, text_of}
-use Rattle.mdp_bounds_text.specs.Reading.{Head, head_from, body_from, outcome}
-use Rattle.mdp_bounds_text.specs.Laws.{IsReadFromText, IsReadBack, IsOneText, AreSameWords}
+use Rattle.mdp_bounds_text.specs.Reading.{BoundsHead, head_from, body_from, outcome}
+use Rattle.mdp_bounds_text.specs.Laws.{AreSameWords}
 use Rattle.mdp_bounds_text.proofs.Heads.{right-claim, IsHead, lines-of-head, head-found, head-again}
 use Rattle.mdp_bounds_text.proofs.Bodies.{FitsBody, body-found, body-again}
 
-abbrev whole : Head → PlainBounds → Certificate
+abbrev whole : BoundsHead → PlainBounds → Certificate
 whole h b = record { claim = h.claim; states = h.states; init = h.init; body = b }
 
-abbrev after-body : Head → PlainBounds × Place → Result Certificate Refusal
+abbrev after-body : BoundsHead → PlainBounds × Place → Result Certificate Refusal
 after-body h body = nothing_behind body.1 >>= λ nothing. Ok (whole h body.0)
 
-abbrev after-head : Head × Place → Result Certificate Refusal
+abbrev after-head : BoundsHead × Place → Result Certificate Refusal
 after-head head = body_from head.0.claim head.0.states head.1 >>= after-body head.0
 
 abbrev after-version : (Unit {0}) × Place → Result Certificate Refusal
 after-version version = head_from version.1 >>= after-head
 
-record FoundCert (bytes : List ℕ) (c : Certificate) : Type 0 where
-  text : bytes ≡ text_of c
-  fits : Fits c
+abbrev pub FoundCert : List ℕ → Certificate → Type 0
+FoundCert = FoundText outcome Fits text_of
 
-cert-found : (bytes : List ℕ) (c : Certificate) → outcome bytes ≡ Ok c → FoundCert bytes c
+pub cert-found : (bytes : List ℕ) (c : Certificate) → outcome bytes ≡ Ok c → FoundCert bytes c
 unfolding outcome text_of
 cert-found bytes c e =
     let one = bind_ok (line_by (is_line Version version_text) (place 1 bytes)) after-version c e in
@@ -55,9 +54,9 @@ cert-found bytes c e =
         some = h.is.some;
         limit = h.is.limit;
         names = h.is.claim.right.names;
-        inside = h.is.inside;
+        inside = h.is.init.inside;
         entries = b.fits.entries;
-        init_width = h.is.width;
+        init_width = h.is.init.width;
         body_width = b.fits.width;
       };
     })
@@ -73,29 +72,20 @@ of-bounds (reward dir name label) states b e = refl
 of-bounds (mean dir name) states b e = refl
 of-bounds (witness dir label threshold) states b e = absurd cc
 
-cert-again : (c : Certificate) → Fits c → outcome (text_of c) ≡ Ok c
+pub cert-again : (c : Certificate) → Fits c → outcome (text_of c) ≡ Ok c
 unfolding outcome text_of nothing_behind
 cert-again c fits =
-    let h : Head = record { claim = c.claim; states = c.states; init = c.init } in
+    let h : BoundsHead = record { claim = c.claim; states = c.states; init = c.init } in
     let claim = right-claim c.claim (of-bounds c.claim c.states c.body fits.entries) fits.names in
-    let head : IsHead h = record { some = fits.some; limit = fits.limit; claim = claim; inside = fits.inside; width = fits.init_width } in
+    let head : IsHead h = record { some = fits.some; limit = fits.limit; claim = claim; init = record { inside = fits.inside; width = fits.init_width } } in
     let body : FitsBody c.claim c.states c.body = record { entries = fits.entries; width = fits.body_width } in
     let b = body-again c.claim c.states (1 + 1 + 1 + 1 + 1) c.body [] fits.limit body in
     ap (λ (t : List ℕ). line_by (is_line Version version_text) (place 1 t) >>= after-version) (append_assoc (line version_text) (lines-of-head h) (body_text c.body))
     ∙ ap (λ (r : Result (Unit {0} × Place) Refusal). r >>= after-version)
     (judged-again (is_line Version version_text) 1 version_text (lines-of-head h ++ body_text c.body) tt refl (due-again Version 1 version_text))
-    ∙ ap (λ (r : Result (Head × Place) Refusal). r >>= after-head) (head-again (1 + 1) h (body_text c.body) head)
+    ∙ ap (λ (r : Result (BoundsHead × Place) Refusal). r >>= after-head) (head-again (1 + 1) h (body_text c.body) head)
     ∙ ap (λ (t : List ℕ). body_from c.claim c.states (place (1 + 1 + 1 + 1 + 1) t) >>= after-body h) (sym (append-nil (body_text c.body)))
     ∙ ap (λ (r : Result (PlainBounds × Place) Refusal). r >>= after-body h) b.1
-
-pub read-from-text : IsReadFromText
-read-from-text bytes c = (λ e. (let f = cert-found bytes c e in (f.fits, f.text)), λ p. ap outcome p.1 ∙ cert-again c p.0)
-
-pub read-back : IsReadBack
-read-back c fits = cert-again c fits
-
-pub one-text : IsOneText
-one-text c d p q e = ok-is c d (sym (cert-again c p) ∙ ap outcome e ∙ cert-again d q)
 
 pub are-same-words : AreSameWords
 are-same-words = record {

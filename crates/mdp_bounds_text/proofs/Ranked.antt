@@ -1,5 +1,6 @@
 -- Lists of lower and upper values, choices and ranks as one list of entries.
-use Rattle.std.proofs.Common.{◌≡◌, ℕ, zero, suc, ◌<◌, List, [], ◌∷◌, length, map, get_or, refl, sym, ap, subst, arith}
+use Rattle.std.proofs.Common.{◌≡◌, ℕ, zero, suc, ◌<◌, List, [], ◌∷◌, length, map, get_or, refl, sym, ap, subst, ◌∙◌, arith}
+use Rattle.std.proofs.lemmas.List.{length-map}
 use Rattle.mdp_bounds_text.specs.declared.ranked_entry.RankedEntry.{RankedEntry}
 use Rattle.mdp_bounds_text.specs.Entries.{ranked_of}
 
@@ -32,29 +33,26 @@ pub record Count {V : Type 0} (states : ℕ) (ls us : List V) (cs rs : List ℕ)
   pub choices : length cs ≡ states
   pub ranks : length rs ≡ states
 
--- the lists of the entries
-pub record Back {V : Type 0} (ls us : List V) (cs rs : List ℕ) : Type 0 where
-  pub count : length (ranked_of ls us cs rs) ≡ length ls
-  pub lower : map (λ x. x.lower) (ranked_of ls us cs rs) ≡ ls
-  pub upper : map (λ x. x.upper) (ranked_of ls us cs rs) ≡ us
-  pub choices : map (λ x. x.choice) (ranked_of ls us cs rs) ≡ cs
-  pub ranks : map (λ x. x.rank) (ranked_of ls us cs rs) ≡ rs
+abbrev pub Lists : Type 0 → Type 0
+Lists V = List V × List V × List ℕ × List ℕ
 
-as-many : {V : Type 0} (ls us : List V) (cs rs : List ℕ) → Count (length ls) ls us cs rs → Back ls us cs rs
-as-many [] [] [] [] h = record { count = refl; lower = refl; upper = refl; choices = refl; ranks = refl }
+-- the lists of entries
+abbrev pub lists-of : {V : Type 0} → List (RankedEntry V) → Lists V
+lists-of xs = (map (λ x. x.lower) xs, map (λ x. x.upper) xs, map (λ x. x.choice) xs, map (λ x. x.rank) xs)
+
+as-many : {V : Type 0} (ls us : List V) (cs rs : List ℕ) → Count (length ls) ls us cs rs → lists-of (ranked_of ls us cs rs) ≡ (ls, us, cs, rs)
+as-many [] [] [] [] h = refl
 as-many {V} (l ∷ ls) (u ∷ us) (c ∷ cs) (r ∷ rs) h =
-    let p = as-many ls us cs rs (record { lower = refl; upper = omega (arith, h.upper); choices = omega (arith, h.choices); ranks = omega (arith, h.ranks) }) in
-    record {
-      count = ap suc p.count;
-      lower = ap (λ (xs : List V). l ∷ xs) p.lower;
-      upper = ap (λ (xs : List V). u ∷ xs) p.upper;
-      choices = ap (λ (xs : List ℕ). c ∷ xs) p.choices;
-      ranks = ap (λ (xs : List ℕ). r ∷ xs) p.ranks;
-    }
+    ap (λ (t : Lists V). let q : Lists V = (l ∷ t.0, u ∷ t.1, c ∷ t.2, r ∷ t.3) in q)
+    (as-many ls us cs rs (record { lower = refl; upper = omega (arith, h.upper); choices = omega (arith, h.choices); ranks = omega (arith, h.ranks) }))
 as-many ls us cs rs h = absurd (omega (arith, h.upper, h.choices, h.ranks))
 
-pub back : {V : Type 0} (states : ℕ) (ls us : List V) (cs rs : List ℕ) → Count states ls us cs rs → Back ls us cs rs
+pub back : {V : Type 0} (states : ℕ) (ls us : List V) (cs rs : List ℕ) → Count states ls us cs rs → lists-of (ranked_of ls us cs rs) ≡ (ls, us, cs, rs)
 back states ls us cs rs h = as-many ls us cs rs (subst (λ (n : ℕ). Count n ls us cs rs) (sym h.lower) h)
+
+pub count : {V : Type 0} (states : ℕ) (ls us : List V) (cs rs : List ℕ) → Count states ls us cs rs → length (ranked_of ls us cs rs) ≡ states
+count {V} states ls us cs rs h =
+    sym (length-map (ranked_of ls us cs rs) (λ (x : RankedEntry V). x.lower)) ∙ ap (λ (t : Lists V). length t.0) (back states ls us cs rs h) ∙ h.lower
 
 pub ranked-of : {V : Type 0} (xs : List (RankedEntry V)) → ranked_of (map (λ x. x.lower) xs) (map (λ x. x.upper) xs) (map (λ x. x.choice) xs) (map (λ x. x.rank) xs) ≡ xs
 ranked-of [] = refl

@@ -7,7 +7,7 @@ use Rattle.mdp_text.specs.declared.error.CertKind.TheVariants as kind
 use Rattle.mdp_text.specs.declared.error.Refusal.{Refusal}
 use Rattle.mdp_text.specs.Lines.{◌>>=◌, refused, refuse_if, or_refused, is_line, Place, place, line_by, nothing_behind}
 use Rattle.mdp_text.specs.Words.{first_of, words_behind, whole_at}
-use Rattle.mdp_text.specs.Heads.{states_at, init_parse}
+use Rattle.mdp_text.specs.Heads.{init_parse, Head, head_by}
 use Rattle.mdp_cert.specs.declared.version.Version.TheVariants.{Two}
 use Rattle.mdp_cert.specs.Cert.{PlainClaim, upper, reach, reward, mean, witness, may_be_infinite}
 use Rattle.mdp_cert.specs.Claims.{fraction_value, reward_value}
@@ -46,18 +46,12 @@ between_at infinite states n text = do
 unfoldable pub init_at : Bool → ℕ → ℕ → List ℕ → Result BoundsInit Refusal
 init_at infinite states n text = if bytes_eq text (codes "init -") then Ok Missing else between_at infinite states n text
 
-pub record Head : Type 0 where
-  pub claim : PlainClaim
-  pub states : ℕ
-  pub init : BoundsInit
+abbrev pub BoundsHead : Type 0
+BoundsHead = Head PlainClaim BoundsInit
 
 -- these three lines
-unfoldable pub head_from : Place → Result (Head × Place) Refusal
-head_from p = do
-  claim ← line_by bounds_claim_at p
-  states ← line_by states_at claim.1
-  init ← line_by (init_at (may_be_infinite claim.0) states.0) states.1
-  Ok (record { claim = claim.0; states = states.0; init = init.0 }, init.1)
+unfoldable pub head_from : Place → Result (BoundsHead × Place) Refusal
+head_from p = head_by bounds_claim_at (λ claim. init_at (may_be_infinite claim)) p
 
 -- ---- the lines behind them
 

@@ -1,6 +1,5 @@
 ghost use Rattle.std.specs.Prelude.{◌≡◌, Ok, MatchResult};
 ghost use Rattle.mdp_text.specs.Answer.{Refuses};
-ghost use Rattle.mdp_text.specs.Heads.{init_parse};
 ghost use Rattle.mdp_text.specs.Lines.{place};
 ghost use Rattle.mdp_cert.specs.Cert.{plain_claim};
 ghost use Rattle.mdp_bounds_text.specs.Cert.{is_of_bounds};
@@ -10,10 +9,10 @@ ghost use Rattle.mdp_bounds_text.specs.Reading.{bounds_claim_at, init_value_at, 
 use crate::head::Head;
 use crate::init::BoundsInit;
 use mdp_cert::{Claim, claim_at, may_be_infinite};
-use mdp_num::{Frac, read_canonical};
+use mdp_num::Frac;
 use mdp_text::{
-    CertError, CertKind, Refusal, cut_word, next_line, only_word, refuse_if, reward_of, states_at,
-    whole_at, words_behind,
+    CertError, CertKind, Refusal, cut_word, init_parse, next_line, only_word, or_refused,
+    refuse_if, states_at, whole_at, words_behind,
 };
 use std::alloc::Global;
 
@@ -37,24 +36,11 @@ fn bounds_claim_at(alloc: Global, line: u64, text: &[u8]) -> Result<Claim, CertE
     Ok(claim)
 }
 
-/// The value that a word spells: a fraction, or `inf` where values may be infinite.
-fn init_parse(infinite: bool, word: &[u8]) -> Option<Option<Frac>>
-    ensures { result ≡ init_parse infinite word.now }
-{
-    if infinite {
-        return reward_of(word);
-    }
-    Some(Some(read_canonical(word)?))
-}
-
 /// The value that a word in this line spells, or `Number`.
 fn init_value_at(infinite: bool, line: u64, word: &[u8]) -> Result<Option<Frac>, Refusal>
     ensures { result ≡ init_value_at infinite line word.now }
 {
-    init_parse(infinite, word).ok_or(Refusal {
-        kind: CertKind::Number,
-        line,
-    })
+    or_refused(CertKind::Number, line, init_parse(infinite, word))
 }
 
 /// The initial state, its lower and its upper value, of the line `init S LOWER UPPER`.

@@ -1,11 +1,11 @@
-ghost use Rattle.std.specs.Prelude.{◌≡◌, IfOk, map};
+ghost use Rattle.std.specs.Prelude.{◌≡◌, ◌<◌, IfOk, length, map, slice_index_or};
 ghost use Rattle.mdp_bounds_text.specs.Cert.{probabilities, rewards};
 ghost use Rattle.mdp_bounds_text.specs.Entries.{ranked_columns, ranked_of};
 ghost use Rattle.mdp_bounds_text.specs.Reading.{reach_body, reward_body};
 
 use crate::ranked_entry::RankedEntry;
 use mdp_bounds::{ReachBoundsCert, RewardBoundsCert};
-use mdp_cert::{Entry, Lists, Value};
+use mdp_cert::{Entry, Lists, Value, push_value};
 use mdp_num::{Frac, Memory};
 use mdp_text::{cut_word, only_word, push_word, whole_of};
 use std::alloc::{AllocError, Global};
@@ -32,8 +32,7 @@ impl<V: Value> Entry for RankedEntry<V> {
 
     fn push_words(&self, out: &mut Vec<u8>) -> Result<(), Memory> {
         self.lower.push_word(out)?;
-        out.extend_from_slice(b" ")?;
-        self.upper.push_word(out)?;
+        push_value(out, &self.upper)?;
         push_word(out, u64::from(self.choice))?;
         push_word(out, u64::from(self.rank))
     }
@@ -43,6 +42,26 @@ impl<V: Value> Entry for RankedEntry<V> {
             && self.upper.is_same_value(&other.upper)
             && self.choice == other.choice
             && self.rank == other.rank
+    }
+}
+
+/// The entry of a state, in lists of lower and upper values, choices and ranks.
+fn entry_in<V: Copy>(
+    lower: &[V],
+    upper: &[V],
+    choices: &[u32],
+    ranks: &[u32],
+    state: u32,
+) -> RankedEntry<V>
+    requires { state < length (ranked_of lower.now upper.now choices.now ranks.now) }
+    ensures { result ≡ slice_index_or (ranked_of lower.now upper.now choices.now ranks.now) state result }
+{
+    let place = state as usize;
+    RankedEntry {
+        lower: lower[place],
+        upper: upper[place],
+        choice: choices[place],
+        rank: ranks[place],
     }
 }
 
@@ -58,13 +77,8 @@ impl Lists for LentReach<'_> {
     ghost entries = { λ c. ranked_of c.cert.now.lower.items c.cert.now.upper.items c.cert.now.choices.items c.cert.now.ranks.items };
 
     fn entry(&self, state: u32) -> RankedEntry<Frac> {
-        let place = state as usize;
-        RankedEntry {
-            lower: self.cert.lower[place],
-            upper: self.cert.upper[place],
-            choice: self.cert.choices[place],
-            rank: self.cert.ranks[place],
-        }
+        let cert = self.cert;
+        entry_in(&cert.lower, &cert.upper, &cert.choices, &cert.ranks, state)
     }
 }
 
@@ -80,13 +94,8 @@ impl Lists for LentReward<'_> {
     ghost entries = { λ c. ranked_of c.cert.now.lower.items c.cert.now.upper.items c.cert.now.choices.items c.cert.now.ranks.items };
 
     fn entry(&self, state: u32) -> RankedEntry<Option<Frac>> {
-        let place = state as usize;
-        RankedEntry {
-            lower: self.cert.lower[place],
-            upper: self.cert.upper[place],
-            choice: self.cert.choices[place],
-            rank: self.cert.ranks[place],
-        }
+        let cert = self.cert;
+        entry_in(&cert.lower, &cert.upper, &cert.choices, &cert.ranks, state)
     }
 }
 

@@ -1,7 +1,6 @@
-ghost use Rattle.std.specs.Prelude.{◌≡◌, ◌++◌, ◌∷◌, OnOk, OnErr};
+ghost use Rattle.std.specs.Prelude.{◌≡◌, ◌++◌, OnOk, OnErr};
 ghost use Rattle.mdp_text.specs.Answer.{Keeps};
 ghost use Rattle.mdp_text.specs.Spelling.{line};
-ghost use Rattle.mdp_cert.specs.Claims.{reward_text};
 ghost use Rattle.mdp_bounds_text.specs.declared.init.BoundsInit.TheVariants.{Between};
 ghost use Rattle.mdp_bounds_text.specs.Cert.{plain_body};
 ghost use Rattle.mdp_bounds_text.specs.Plain.{plain};
@@ -12,9 +11,9 @@ use crate::cert::BoundsCert;
 use crate::gains_lines::LentMean;
 use crate::init::BoundsInit;
 use crate::ranked_lines::{LentReach, LentReward};
-use mdp_cert::{Value, Version, push_claim, push_spread, push_to_end};
+use mdp_cert::{Version, push_claim, push_spread, push_to_end, push_value};
 use mdp_num::{Frac, Memory};
-use mdp_text::{push_number, push_whole};
+use mdp_text::{or_cut_back, push_number, push_start};
 
 /// Appends the line of the version.
 fn push_version(out: &mut Vec<u8>) -> Result<(), Memory>
@@ -23,15 +22,6 @@ fn push_version(out: &mut Vec<u8>) -> Result<(), Memory>
 {
     out.extend_from_slice(b"mdp-bounds 1\n")?;
     Ok(())
-}
-
-/// Appends a blank and a value, which may be infinite.
-fn push_bound(out: &mut Vec<u8>, value: &Option<Frac>) -> Result<(), Memory>
-    ensures text { OnOk result (out.new.items ≡ out.old.items ++ (32 ∷ reward_text value.now)) }
-    ensures front { Keeps out.old.items out.new.items }
-{
-    out.extend_from_slice(b" ")?;
-    value.push_word(out)
 }
 
 /// Appends the line of a given initial state with its lower and its upper value.
@@ -44,10 +34,9 @@ fn push_between(
     ensures text { OnOk result (out.new.items ≡ out.old.items ++ line (init_text (Between state lower.now upper.now))) }
     ensures front { Keeps out.old.items out.new.items }
 {
-    out.extend_from_slice(b"init ")?;
-    push_whole(out, u64::from(state))?;
-    push_bound(out, lower)?;
-    push_bound(out, upper)?;
+    push_start(out, state)?;
+    push_value(out, lower)?;
+    push_value(out, upper)?;
     out.extend_from_slice(b"\n")?;
     Ok(())
 }
@@ -111,8 +100,5 @@ pub fn write_bounds(cert: &BoundsCert, out: &mut Vec<u8>) -> Result<(), Memory>
 {
     let start = out.len();
     let answer = push_lines(out, cert);
-    if answer.is_err() {
-        out.truncate(start);
-    }
-    answer
+    or_cut_back(out, start, answer)
 }

@@ -19,22 +19,13 @@ use Rattle.mdp_num.proofs.Spellings.{sound, complete}
 use Rattle.mdp_cert.specs.Cert.{PlainClaim, upper, reach, reward, mean, witness, are_names, is_at_least_zero, has_threshold, IsClaimInWidth}
 use Rattle.mdp_text.specs.Lines.{or_refused}
 use Rattle.mdp_cert.specs.Spelling.{claim_text}
-use Rattle.mdp_text.specs.Words.{behind, is_quote}
+use Rattle.mdp_text.specs.Words.{behind, is_quote, name_and_rest}
 use Rattle.mdp_cert.specs.Reading.{closed_name, name_behind, two_names, upper_claim, reach_front}
 use Rattle.mdp_cert.specs.Reading.{reach_claim, reward_front, reward_claim, mean_front, mean_claim, threshold_of, name_and_threshold, witness_front, witness_claim, claim_to, claim_of, claim_at}
 use Rattle.mdp_text.proofs.Pieces.{Free, free-append, free-name, quote-free-name, free-spelling}
-use Rattle.mdp_text.proofs.Cuts.{bytes_same, bytes_self}
-use Rattle.mdp_text.proofs.Feeds.{found_ok, byte-after}
-
-behind-found : (front text rest : List ℕ) → behind front text ≡ Some rest → text ≡ front ++ rest
-behind-found front text rest e = by (bytes_eq (take (length front) text) front) refl e
-  where
-    by : (b : Bool) → bytes_eq (take (length front) text) front ≡ b → cond b (Some (drop (length front) text)) None ≡ Some rest → text ≡ front ++ rest
-    by true t e = let back : drop (length front) text ≡ rest = cc in sym (take-append-drop (length front) text) ∙ ap₂ (λ (xs ys : List ℕ). xs ++ ys) (bytes_same _ front t) back
-    by false t e = absurd cc
-
-behind-again : (front rest : List ℕ) → behind front (front ++ rest) ≡ Some rest
-behind-again front rest = rw (take-append_seam front rest, drop-append_seam front rest, bytes_self front) refl
+use Rattle.mdp_text.proofs.Cuts.{bytes_same}
+use Rattle.mdp_text.proofs.Feeds.{found_ok, or-found, byte-after}
+use Rattle.mdp_text.proofs.Behind.{behind-found, behind-again, rest-found, rest-again}
 
 closed-found : (text name : List ℕ) → closed_name text ≡ Some name → (text ≡ name ++ 34 ∷ []) × (is_name name ≡ true)
 closed-found text name e = by (bytes_eq (drop (length text - 1) text) (34 ∷ []) && is_name (take (length text - 1) text)) refl e
@@ -110,29 +101,22 @@ threshold-found word t e = by (canonical_of word) refl e
 
 said-found : (text : List ℕ) (said : List ℕ × ℚ) → name_and_threshold text ≡ Some said
     → (text ≡ said.0 ++ (34 ∷ 32 ∷ spelling said.1)) × (is_name said.0 ≡ true) × (is_at_least_zero said.1 ≡ true) × IsNarrow said.1
-said-found text said e = by (is_name (before_first is_quote text)) refl (behind (codes "\" ") (drop (position_or_len is_quote text) text)) refl e
+said-found text said e = by (name_and_rest text) refl e
   where
-    by : (b : Bool) → is_name (before_first is_quote text) ≡ b → (o : Option (List ℕ)) → behind (codes "\" ") (drop (position_or_len is_quote text) text) ≡ o
-        → cond b (option_map (λ t. (before_first is_quote text, t)) (option_and_then threshold_of o)) None ≡ Some said
+    by : (o : Option (List ℕ × List ℕ)) → name_and_rest text ≡ o → option_and_then (λ p. option_map (λ t. (p.0, t)) (threshold_of p.1)) o ≡ Some said
         → (text ≡ said.0 ++ (34 ∷ 32 ∷ spelling said.1)) × (is_name said.0 ≡ true) × (is_at_least_zero said.1 ≡ true) × IsNarrow said.1
-    by false h o f e = absurd cc
-    by true h None f e = absurd cc
-    by true h (Some word) f e =
-        let m = map-some (λ (t : ℚ). let p : List ℕ × ℚ = (before_first is_quote text, t) in p) (threshold_of word) said e in
-        let t = threshold-found word m.0 m.1 in
-        subst (λ (p : List ℕ × ℚ). (text ≡ p.0 ++ (34 ∷ 32 ∷ spelling p.1)) × (is_name p.0 ≡ true) × (is_at_least_zero p.1 ≡ true) × IsNarrow p.1) m.2 (
-          sym (take-append-drop (position_or_len is_quote text) text)
-              ∙ ap (λ (ys : List ℕ). before_first is_quote text ++ ys) (behind-found (codes "\" ") (drop (position_or_len is_quote text) text) word f ∙ ap (λ (w : List ℕ). 34 ∷ 32 ∷ w) t.0),
-          h,
-          t.1,
-          t.2,
-        )
+    by None f e = absurd cc
+    by (Some p) f e =
+        let m = map-some (λ (t : ℚ). let q : List ℕ × ℚ = (p.0, t) in q) (threshold_of p.1) said e in
+        let g = rest-found text p f in
+        let t = threshold-found p.1 m.0 m.1 in
+        subst (λ (q : List ℕ × ℚ). (text ≡ q.0 ++ (34 ∷ 32 ∷ spelling q.1)) × (is_name q.0 ≡ true) × (is_at_least_zero q.1 ≡ true) × IsNarrow q.1) m.2
+        (g.0 ∙ ap (λ (w : List ℕ). p.0 ++ (34 ∷ 32 ∷ w)) t.0, g.1, t.1, t.2)
 
 said-again : (name : List ℕ) (t : ℚ) → is_name name ≡ true → is_at_least_zero t ≡ true → IsNarrow t → name_and_threshold (name ++ (34 ∷ 32 ∷ spelling t)) ≡ Some (name, t)
 said-again name t h z narrow =
-    let at : position_or_len is_quote (name ++ (34 ∷ 32 ∷ spelling t)) ≡ length name = byte-after 34 name (32 ∷ spelling t) (quote-free-name name h) in
     let read : threshold_of (spelling t) ≡ Some t = rw (complete t narrow, z) refl in
-    rw (at, take-append_seam name (34 ∷ 32 ∷ spelling t), drop-append_seam name (34 ∷ 32 ∷ spelling t), h, read) refl
+    ap (option_and_then (λ p. option_map (λ u. let q : List ℕ × ℚ = (p.0, u) in q) (threshold_of p.1))) (rest-again name (spelling t) h) ∙ ap (option_map (λ u. let q : List ℕ × ℚ = (name, u) in q)) read
 
 -- ---- each claim
 
@@ -144,10 +128,6 @@ pub record IsRight (c : PlainClaim) : Type 0 where
 
 abbrev IsClaim : List ℕ → PlainClaim → Type 0
 IsClaim text c = (text ≡ claim_text c) × IsRight c
-
-or-found : {A : Type 0} (a b : Option A) (x : A) → option_or a b ≡ Some x → (a ≡ Some x) ⊎ (b ≡ Some x)
-or-found None b x e = inr e
-or-found (Some y) b x e = inl e
 
 upper-found : (text : List ℕ) (c : PlainClaim) → upper_claim text ≡ Some c → IsClaim text c
 upper-found text c e =

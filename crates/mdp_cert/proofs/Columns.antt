@@ -21,7 +21,7 @@ use Rattle.mdp_cert.specs.Claims.{Value, fraction_value, reward_value, reward_te
 use Rattle.mdp_cert.specs.Claims.{policy_columns, policy_parse, bound_parse, IsPolicyInWidth, mean_columns, mean_parse, IsMeanInWidth}
 use Rattle.mdp_cert.specs.Laws.{IsSameWords}
 use Rattle.mdp_text.proofs.Pieces.{Free, free-spelling}
-use Rattle.mdp_text.proofs.Cuts.{bytes_same}
+use Rattle.mdp_text.proofs.Cuts.{bytes_same, bytes_self}
 use Rattle.mdp_text.proofs.Feeds.{found_ok, whole-found, whole-again}
 use Rattle.mdp_text.proofs.Joined.{AllFree, free-whole}
 
@@ -77,42 +77,59 @@ pub record IsValue {V : Type 0} (k : Value V) (IsInWidth : V → Type 0) : Type 
 pub fraction-is_value : IsValue fraction_value IsNarrow
 fraction-is_value = record { found = sound; again = complete; free = free-spelling; same = same-ℚ; itself = itself-ℚ }
 
-pub reward-found : (w : List ℕ) (x : Option ℚ) → reward_parse w ≡ Some x → (w ≡ reward_text x) × IsValueNarrow x
-reward-found w x e = by (bytes_eq w (codes "inf")) refl (canonical_of w) refl e
-  where
-    by : (b : Bool) → bytes_eq w (codes "inf") ≡ b → (o : Option ℚ) → canonical_of w ≡ o
-        → cond b (let r : Option (Option ℚ) = Some None in r) (option_map Some o) ≡ Some x → (w ≡ reward_text x) × IsValueNarrow x
-    by true t o f e = let is : None ≡ x = cc in subst (λ (y : Option ℚ). (w ≡ reward_text y) × IsValueNarrow y) is (bytes_same w (codes "inf") t, tt)
-    by false t None f e = absurd cc
-    by false t (Some y) f e = let is : Some y ≡ x = cc in subst (λ (y : Option ℚ). (w ≡ reward_text y) × IsValueNarrow y) is (sound w y f)
+-- a fraction, or this word where there is none
+module _ (missing : List ℕ) (none : canonical_of missing ≡ None) (text : Option ℚ → List ℕ) (of-none : text None ≡ missing) (of-some : (x : ℚ) → text (Some x) ≡ spelling x) where
+  abbrev parse-or : List ℕ → Option (Option ℚ)
+  parse-or w = cond (bytes_eq w missing) (Some None) (option_map Some (canonical_of w))
+
+  pub or-found : (w : List ℕ) (x : Option ℚ) → parse-or w ≡ Some x → (w ≡ text x) × IsValueNarrow x
+  or-found w x e = by (bytes_eq w missing) refl (canonical_of w) refl e
+    where
+      by : (b : Bool) → bytes_eq w missing ≡ b → (o : Option ℚ) → canonical_of w ≡ o
+          → cond b (let r : Option (Option ℚ) = Some None in r) (option_map Some o) ≡ Some x → (w ≡ text x) × IsValueNarrow x
+      by true t o f e = let is : None ≡ x = cc in subst (λ (y : Option ℚ). (w ≡ text y) × IsValueNarrow y) is (bytes_same w missing t ∙ sym of-none, tt)
+      by false t None f e = absurd cc
+      by false t (Some y) f e =
+          let is : Some y ≡ x = cc in
+          let s = sound w y f in
+          subst (λ (y : Option ℚ). (w ≡ text y) × IsValueNarrow y) is (s.0 ∙ sym (of-some y), s.1)
+
+  -- the word spells no fraction
+  not-missing : (x : ℚ) → IsNarrow x → bytes_eq (spelling x) missing ≡ false
+  not-missing x h = by (bytes_eq (spelling x) missing) refl
+    where
+      by : (b : Bool) → bytes_eq (spelling x) missing ≡ b → b ≡ false
+      by false t = refl
+      by true t =
+          let e : None ≡ Some x = sym none ∙ ap canonical_of (sym (bytes_same (spelling x) missing t)) ∙ complete x h in
+          absurd cc
+
+  pub or-again : (x : Option ℚ) → IsValueNarrow x → parse-or (text x) ≡ Some x
+  or-again None h = rw (of-none, bytes_self missing) refl
+  or-again (Some x) h = rw (of-some x, not-missing x h, complete x h) refl
+
+  pub free-or : (c : ℕ) (x : Option ℚ) → Free c missing → c < 45 → IsValueNarrow x → Free c (text x)
+  free-or c None free lt h = rw of-none free
+  free-or c (Some x) free lt h = rw (of-some x) (free-spelling c x lt h)
 
 inf-none : canonical_of (codes "inf") ≡ None
 unfolding canonical_of
 inf-none = refl
 
--- `inf` spells no fraction
-not-inf : (x : ℚ) → IsNarrow x → bytes_eq (spelling x) (codes "inf") ≡ false
-not-inf x h = by (bytes_eq (spelling x) (codes "inf")) refl
-  where
-    by : (b : Bool) → bytes_eq (spelling x) (codes "inf") ≡ b → b ≡ false
-    by false t = refl
-    by true t =
-        let e : None ≡ Some x = sym inf-none ∙ ap canonical_of (sym (bytes_same (spelling x) (codes "inf") t)) ∙ complete x h in
-        absurd cc
-
-pub reward-again : (x : Option ℚ) → IsValueNarrow x → reward_parse (reward_text x) ≡ Some x
-reward-again None h = refl
-reward-again (Some x) h = rw (not-inf x h, complete x h) refl
-
-pub free-reward : (c : ℕ) (x : Option ℚ) → c < 45 → IsValueNarrow x → Free c (reward_text x)
-free-reward c None lt h = free-inf
+free-inf : (c : ℕ) → c < 45 → Free c (codes "inf")
+free-inf c lt = rw (other 105 (omega arith), other 110 (omega arith), other 102 (omega arith)) refl
   where
     other : (d : ℕ) → 45 ≤ d → eqb d c ≡ false
     other d le = grind (arith, nat_tests)
 
-    free-inf : Free c (codes "inf")
-    free-inf = rw (other 105 (omega arith), other 110 (omega arith), other 102 (omega arith)) refl
-free-reward c (Some x) lt h = free-spelling c x lt h
+pub reward-found : (w : List ℕ) (x : Option ℚ) → reward_parse w ≡ Some x → (w ≡ reward_text x) × IsValueNarrow x
+reward-found = or-found (codes "inf") inf-none reward_text refl (λ y. refl)
+
+pub reward-again : (x : Option ℚ) → IsValueNarrow x → reward_parse (reward_text x) ≡ Some x
+reward-again = or-again (codes "inf") inf-none reward_text refl (λ y. refl)
+
+pub free-reward : (c : ℕ) (x : Option ℚ) → c < 45 → IsValueNarrow x → Free c (reward_text x)
+free-reward c x lt h = free-or (codes "inf") inf-none reward_text refl (λ y. refl) c x (free-inf c lt) lt h
 
 reward-same : (x y : Option ℚ) → reward_same x y ≡ true → x ≡ y
 reward-same None None e = refl

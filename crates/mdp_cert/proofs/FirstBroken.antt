@@ -30,7 +30,7 @@ use Rattle.mdp_cert.specs.Claims.{fraction_value, reward_value, bound_columns, p
 use Rattle.mdp_text.specs.Spelling.{line, end_text}
 use Rattle.mdp_cert.specs.Spelling.{version_text}
 use Rattle.mdp_text.specs.Heads.{states_at, init_parse, init_of, given_at, valued_at, start_at}
-use Rattle.mdp_cert.specs.Reading.{version_at, claim_of, claim_at, init_at, Head, head_from, entry_at, state_at, run_at}
+use Rattle.mdp_cert.specs.Reading.{version_at, claim_of, claim_at, init_at, CertHead, head_from, entry_at, state_at, run_at}
 use Rattle.mdp_cert.specs.Reading.{is_same, line_of_states, longest_at, run_in, onto_run, runs_from, entries_from}
 use Rattle.mdp_cert.specs.Reading.{listed_at, before_others, listed_from, listed_to_end, entries_to_end, policy_body, reward_body, mean_body, spread_at, body_from, outcome}
 use Rattle.mdp_cert.specs.Laws.{first_lines, LacksAtMost}
@@ -39,7 +39,8 @@ use Rattle.mdp_text.proofs.Feeds.{bind_ok, ok-is, line-found, line-again}
 use Rattle.mdp_text.proofs.States.{states-number, states-range}
 use Rattle.mdp_cert.proofs.Numbered.{init-state, init-value, init-inside, start-state, start-inside}
 use Rattle.mdp_cert.proofs.OneByOne.{enough}
-use Rattle.mdp_cert.proofs.Parts.{head-states, whole, whole-end, whole-body, whole-head}
+use Rattle.mdp_text.proofs.HeadLines.{with-claim, with-states}
+use Rattle.mdp_cert.proofs.Parts.{whole, whole-end, whole-body, whole-head}
 
 abbrev pub missing : ℕ → Refusal
 missing n = record { kind = kind.End; line = n }
@@ -486,10 +487,9 @@ floor-line-judges states before n text =
 head-cuts : Cuts head_from
 unfolding head_from
 head-cuts =
-    next (line_by claim_at) (λ claim p. head-states (claim, p)) (lined claim_at claim-judges) (λ claim.
-    next (line_by states_at) (λ states p. line_by (init_at claim states) p >>= λ init. Ok (record { claim = claim; states = states; init = init.0 }, init.1))
-    (lined states_at states-judges) (λ states.
-    mapped (line_by (init_at claim states)) (λ init. let h : Head = record { claim = claim; states = states; init = init } in h) (lined (init_at claim states) (init-judges claim states))))
+    next (line_by claim_at) (λ claim p. with-claim init_at (claim, p)) (lined claim_at claim-judges) (λ claim.
+    next (line_by states_at) (λ states p. with-states init_at claim (states, p)) (lined states_at states-judges) (λ states.
+    mapped (line_by (init_at claim states)) (λ init. let h : CertHead = record { claim = claim; states = states; init = init } in h) (lined (init_at claim states) (init-judges claim states))))
 
 spread-judges : (n : ℕ) (text : List ℕ) → Judges n (spread_at n text)
 unfolding spread_at
@@ -508,7 +508,7 @@ body-cuts v (witness Max label t) states = mapped (listed_to_end flow_listed sta
 body-cuts v (witness Min label t) states = mapped (listed_to_end floor_listed states) floor_body (to_end-cuts floor_listed states (floor-line-judges states))
 
 -- all lines
-abbrev top-body : Version → Head × Place → Result (Certificate × Place) Refusal
+abbrev top-body : Version → CertHead × Place → Result (Certificate × Place) Refusal
 top-body v head = body_from v head.0.claim head.0.states head.1 >>= λ body. Ok (whole head.0 body.0, body.1)
 
 abbrev top-head : Version × Place → Result (Certificate × Place) Refusal
@@ -530,11 +530,11 @@ outcome-is : (bytes : List ℕ) → outcome bytes ≡ (top (place 1 bytes) >>= t
 unfolding outcome
 outcome-is bytes = by (line_by version_at (place 1 bytes))
   where
-    third : (h : Head) (r : Result (PlainBody × Place) Refusal) → (r >>= whole-end h) ≡ ((r >>= λ body. Ok (whole h body.0, body.1)) >>= top-end)
+    third : (h : CertHead) (r : Result (PlainBody × Place) Refusal) → (r >>= whole-end h) ≡ ((r >>= λ body. Ok (whole h body.0, body.1)) >>= top-end)
     third h (Ok b) = refl
     third h (Err e) = refl
 
-    second : (v : Version) (r : Result (Head × Place) Refusal) → (r >>= whole-body v) ≡ ((r >>= top-body v) >>= top-end)
+    second : (v : Version) (r : Result (CertHead × Place) Refusal) → (r >>= whole-body v) ≡ ((r >>= top-body v) >>= top-end)
     second v (Ok h) = third h.0 (body_from v h.0.claim h.0.states h.1)
     second v (Err e) = refl
 

@@ -25,6 +25,7 @@ use Rattle.mdp_text.proofs.Pieces.{Free, free-spelling}
 use Rattle.mdp_text.proofs.Cuts.{bytes_same, same-number, number-same}
 use Rattle.mdp_text.proofs.Feeds.{bind_ok, ok-is, refuse_ok, whole-found, whole-again, frac-found, frac-again}
 use Rattle.mdp_text.proofs.Joined.{free-join, free-whole, behind-again, behind-text}
+use Rattle.mdp_text.proofs.States.{two-words, three-words, four-words}
 use Rattle.mdp_cert.proofs.Bodies.{Each}
 use Rattle.mdp_cert.proofs.OneByOne.{IsListed, AreNext}
 
@@ -60,27 +61,12 @@ free-mark-feed : (wide : Bool) → Free 10 (mark_text wide)
 free-mark-feed true = refl
 free-mark-feed false = refl
 
-two-words : (ws : List (List ℕ)) → length ws ≡ 2 → ws ≡ first_of ws ∷ first_of (drop 1 ws) ∷ []
-two-words [] e = absurd (omega arith)
-two-words (w ∷ []) e = absurd (omega arith)
-two-words (w ∷ v ∷ []) e = refl
-two-words (w ∷ v ∷ u ∷ ws) e = absurd (omega arith)
+-- the lists of the lines for `min`
+abbrev pub FloorLists : Type 0
+FloorLists = List ℕ × List Bool × List ℚ × List ℕ
 
-three-words : (ws : List (List ℕ)) → length ws ≡ 3 → ws ≡ first_of ws ∷ first_of (drop 1 ws) ∷ first_of (drop 1 (drop 1 ws)) ∷ []
-three-words [] e = absurd (omega arith)
-three-words (w ∷ []) e = absurd (omega arith)
-three-words (w ∷ v ∷ []) e = absurd (omega arith)
-three-words (w ∷ v ∷ u ∷ []) e = refl
-three-words (w ∷ v ∷ u ∷ t ∷ ws) e = absurd (omega arith)
-
-four-words : (ws : List (List ℕ)) → length ws ≡ 4
-    → ws ≡ first_of ws ∷ first_of (drop 1 ws) ∷ first_of (drop 1 (drop 1 ws)) ∷ first_of (drop 1 (drop 1 (drop 1 ws))) ∷ []
-four-words [] e = absurd (omega arith)
-four-words (w ∷ []) e = absurd (omega arith)
-four-words (w ∷ v ∷ []) e = absurd (omega arith)
-four-words (w ∷ v ∷ u ∷ []) e = absurd (omega arith)
-four-words (w ∷ v ∷ u ∷ t ∷ []) e = refl
-four-words (w ∷ v ∷ u ∷ t ∷ s ∷ ws) e = absurd (omega arith)
+abbrev pub lists-of-floors : List FloorLine → FloorLists
+lists-of-floors xs = (map (λ x. x.state) xs, map (λ x. x.wide) xs, map (λ x. x.value) xs, map (λ x. x.rank) xs)
 
 -- ---- for `max`
 
@@ -488,27 +474,13 @@ module _ (states : ℕ) (limit : states ≤ 2 ^ 20) where
       )
   next-floors before bk kept wide values ranks e ok p q = tt
 
-  -- the lists of the lines
-  pub record FloorsBack (kept : List ℕ) (wide : List Bool) (values : List ℚ) (ranks : List ℕ) : Type 0 where
-    pub count : length (floor_lines kept wide values ranks) ≡ length kept
-    pub kept_is : map (λ x. x.state) (floor_lines kept wide values ranks) ≡ kept
-    pub wide_is : map (λ x. x.wide) (floor_lines kept wide values ranks) ≡ wide
-    pub values_are : map (λ x. x.value) (floor_lines kept wide values ranks) ≡ values
-    pub ranks_are : map (λ x. x.rank) (floor_lines kept wide values ranks) ≡ ranks
-
-  pub floors-back : (kept : List ℕ) (wide : List Bool) (values : List ℚ) (ranks : List ℕ) → FloorEntries kept wide values ranks → FloorsBack kept wide values ranks
-  floors-back [] [] [] [] h = record { count = refl; kept_is = refl; wide_is = refl; values_are = refl; ranks_are = refl }
+  pub floors-back : (kept : List ℕ) (wide : List Bool) (values : List ℚ) (ranks : List ℕ) → FloorEntries kept wide values ranks
+      → lists-of-floors (floor_lines kept wide values ranks) ≡ (kept, wide, values, ranks)
+  floors-back [] [] [] [] h = refl
   floors-back (s ∷ kept) (w ∷ wide) (z ∷ values) (r ∷ ranks) h =
-      let p =
-      floors-back kept wide values ranks
-      (record { marks_count = omega (arith, h.marks_count); values_count = omega (arith, h.values_count); ranks_count = omega (arith, h.ranks_count) }) in
-      record {
-        count = ap suc p.count;
-        kept_is = ap (λ (xs : List ℕ). s ∷ xs) p.kept_is;
-        wide_is = ap (λ (xs : List Bool). w ∷ xs) p.wide_is;
-        values_are = ap (λ (xs : List ℚ). z ∷ xs) p.values_are;
-        ranks_are = ap (λ (xs : List ℕ). r ∷ xs) p.ranks_are;
-      }
+      ap (λ (t : FloorLists). let q : FloorLists = (s ∷ t.0, w ∷ t.1, z ∷ t.2, r ∷ t.3) in q)
+      (floors-back kept wide values ranks
+      (record { marks_count = omega (arith, h.marks_count); values_count = omega (arith, h.values_count); ranks_count = omega (arith, h.ranks_count) }))
   floors-back kept wide values ranks h = absurd (omega (arith, h.marks_count, h.values_count, h.ranks_count))
 
   pub floors-next : (kept : List ℕ) (wide : List Bool) (values : List ℚ) (ranks : List ℕ) → are_kept states None kept ≡ true → Each IsNarrow values → Each (λ r. r < 2 ^ 32) ranks

@@ -27,7 +27,7 @@ use Rattle.mdp_cert.specs.Reading.{version_at, init_at}
 use Rattle.mdp_text.proofs.Pieces.{Free, decimal-some}
 use Rattle.mdp_text.proofs.Cuts.{bytes_same}
 use Rattle.mdp_text.proofs.Feeds.{bind_ok, ok-is, refuse_ok, found_ok, whole-found, whole-again}
-use Rattle.mdp_text.proofs.States.{one-word}
+use Rattle.mdp_text.proofs.States.{one-word, two-words}
 use Rattle.mdp_text.proofs.Joined.{free-join, free-whole, behind-again, behind-text}
 use Rattle.mdp_cert.proofs.Columns.{reward-found, reward-again, free-reward}
 
@@ -62,12 +62,6 @@ init-value infinite states n behind state = or_refused Number n (init_parse infi
 
 abbrev pub init-state : Bool → ℕ → ℕ → List (List ℕ) → Result Init Refusal
 init-state infinite states n behind = whole_at n (first_of behind) >>= init-value infinite states n behind
-
-two-words : (ws : List (List ℕ)) → length ws ≡ 2 → ws ≡ first_of ws ∷ first_of (drop 1 ws) ∷ []
-two-words [] e = absurd (omega arith)
-two-words (w ∷ []) e = absurd (omega arith)
-two-words (w ∷ v ∷ []) e = refl
-two-words (w ∷ v ∷ u ∷ ws) e = absurd (omega arith)
 
 -- an infinite value stands only where there are some
 abbrev pub IsAllowed : Bool → Option ℚ → Type 0

@@ -1,15 +1,13 @@
 -- The parts of a text are read exactly where they are the texts of what is read.
-use Rattle.std.proofs.Common.{◌≡◌, ◌↔◌, ◌⊎◌, inl, inr, ℕ, suc, ◌+◌, ◌<◌, ◌≤◌, ◌^◌, Bool, true, false, eqb, ltb, ◌&&◌}
+use Rattle.std.proofs.Common.{◌≡◌, ◌↔◌, ◌⊎◌, inl, inr, ℕ, suc, ◌+◌, ◌<◌, ◌≤◌, ◌^◌, Bool, true, false, eqb, ◌&&◌}
 use Rattle.std.proofs.Common.{List, [], ◌∷◌, ◌++◌, length, map, Option, None, Result, Ok, Err, refl, sym, ap, subst, ◌∙◌, append_assoc, arith}
 use Rattle.std.specs.Prelude.{codes}
-use Rattle.std.specs.List.{All, join_with_byte}
-use Rattle.std.proofs.lemmas.Bool.{both_ways, lt-ltb}
+use Rattle.std.specs.List.{All}
 use Rattle.std.proofs.lemmas.List.{length-map, append-nil}
 use Rattle.std.proofs.lemmas.List.Elements.{All-cons}
 use Rattle.mdp_math.specs.Rational.{ℚ}
-use Rattle.mdp_num.specs.Value.{spelling, IsNarrow}
+use Rattle.mdp_num.specs.Value.{IsNarrow}
 use Rattle.mdp_rows.specs.declared.dir.Dir.{Dir}
-use Rattle.mdp_text.specs.declared.error.CertKind.TheVariants.{End}
 use Rattle.mdp_text.specs.declared.error.Refusal.{Refusal}
 use Rattle.mdp_text.specs.declared.init.Init.{Init}
 use Rattle.mdp_cert.specs.declared.mean_entry.MeanEntry.{MeanEntry}
@@ -21,92 +19,61 @@ use Rattle.mdp_subsystem_rules.specs.declared.flow.Flow.{Flow}
 use Rattle.mdp_cert.specs.declared.flow_line.FlowLine.{FlowLine}
 use Rattle.mdp_cert.specs.declared.floor_line.FloorLine.{FloorLine}
 use Rattle.mdp_cert.specs.Cert.{PlainClaim, upper, reach, reward, mean, witness, PlainBody, bounds, policy, rewards, gains, flow, floor, Certificate}
-use Rattle.mdp_text.specs.Heads.{IsInitInWidth, states_at}
+use Rattle.mdp_text.specs.Heads.{IsInitInWidth}
 use Rattle.mdp_cert.specs.Cert.{are_kept, are_flows, is_init_of, is_body_of, IsValueNarrow, IsFlowInWidth, IsBodyInWidth, Fits}
 use Rattle.mdp_cert.specs.Witness.{flow_listed, flow_lines, flow_body, floor_listed, floor_lines, floor_body}
 use Rattle.mdp_text.specs.Lines.{◌>>=◌, Place, place, line_by, nothing_behind}
-use Rattle.mdp_text.specs.Words.{first_of, words_behind, frac_at}
 use Rattle.mdp_cert.specs.Claims.{Value, fraction_value, reward_value, bound_columns, policy_columns, policies, IsPolicyInWidth, mean_columns, means, IsMeanInWidth}
-use Rattle.mdp_text.specs.Spelling.{◌␣◌, line, states_text, init_text}
+use Rattle.mdp_text.specs.Spelling.{line, init_text}
 use Rattle.mdp_cert.specs.Spelling.{spread_text, version_text, claim_text, closed_lines, listed_lines, body_text, text_in, text_of, old_text_of}
+use Rattle.mdp_cert.specs.Runs.{Columns}
 use Rattle.mdp_cert.specs.Laws.{AreSameWords}
-use Rattle.mdp_cert.specs.Reading.{version_at, claim_at, init_at, Head, head_from, entries_to_end, policy_body, reward_body, mean_body, spread_at, listed_to_end, body_from, outcome}
+use Rattle.mdp_cert.specs.Reading.{version_at, claim_at, init_at, CertHead, head_from, entries_to_end, policy_body, reward_body, mean_body, spread_at, listed_to_end, body_from, outcome}
 use Rattle.mdp_text.proofs.Cuts.{same-number, number-same}
-use Rattle.mdp_text.proofs.Pieces.{Free, free-spelling}
-use Rattle.mdp_text.proofs.Joined.{free-join, behind-again, behind-text}
-use Rattle.mdp_text.proofs.Feeds.{ok-is, bind_ok, refuse_ok, judged-found, judged-again, frac-found, frac-again}
+use Rattle.mdp_text.proofs.Pieces.{Free}
+use Rattle.mdp_text.proofs.Feeds.{ok-is, bind_ok, judged-found, judged-again, nothing-found}
 use Rattle.mdp_cert.proofs.Claims.{IsRight, claim-found, claim-again, free-claim}
-use Rattle.mdp_text.proofs.States.{one-word, states-found, states-again, free-states}
+use Rattle.mdp_text.proofs.States.{fraction-found, fraction-again, free-fraction}
+use Rattle.mdp_text.proofs.HeadLines as heads
 use Rattle.mdp_cert.proofs.Numbered.{version-found, version-again, free-version, init-found, init-again, free-init}
-use Rattle.mdp_cert.proofs.Columns.{IsValue, fraction-is_value, reward-is_value, bound-is_columns, policy-is_columns, mean-is_columns, same-words}
+use Rattle.mdp_cert.proofs.Columns.{IsColumns, IsValue, fraction-is_value, reward-is_value, bound-is_columns, policy-is_columns, mean-is_columns, same-words}
 use Rattle.mdp_cert.proofs.Growth.{three-entries, four-entries}
 use Rattle.mdp_cert.proofs.Means.{back, means-of}
 use Rattle.mdp_cert.proofs.Bodies.{Each, closed-found, closed-again}
 use Rattle.mdp_cert.proofs.OneByOne.{to_end-found, to_end-again}
 use Rattle.mdp_cert.proofs.Kept.{IsNextLine, flow-is_listed, lines-of, flow-entries, flow-width, flows-again}
-use Rattle.mdp_cert.proofs.Kept.{IsNextFloor, floor-is_listed, floors-of, floor-values, floor-ranks, floor-entries, floor-counts, floors-back, floors-next}
+use Rattle.mdp_cert.proofs.Kept.{FloorLists, IsNextFloor, floor-is_listed, floors-of, floor-values, floor-ranks, floor-entries, floor-counts, floors-back, floors-next}
 use Rattle.mdp_cert.proofs.Policies.{length-policies, values-policies, choices-policies, ranks-policies, policies-of}
 
 -- ---- the head
 
-pub record IsHead (h : Head) : Type 0 where
-  pub some : 0 < h.states
-  pub limit : h.states ≤ 2 ^ 20
-  pub claim : IsRight h.claim
-  pub inside : is_init_of h.claim h.states h.init ≡ true
-  pub width : IsInitInWidth h.init
+pub record IsInit (claim : PlainClaim) (states : ℕ) (init : Init) : Type 0 where
+  pub inside : is_init_of claim states init ≡ true
+  pub width : IsInitInWidth init
 
-abbrev pub lines-of-head : Head → List ℕ
-lines-of-head h = line (claim_text h.claim) ++ (line (states_text h.states) ++ line (init_text h.init))
+abbrev pub IsHead : CertHead → Type 0
+IsHead = heads.IsHead claim_at init_at claim_text init_text IsRight IsInit
 
-abbrev pub head-init : PlainClaim × Place → ℕ × Place → Result (Head × Place) Refusal
-head-init claim states = line_by (init_at claim.0 states.0) states.1 >>= λ init. Ok (record { claim = claim.0; states = states.0; init = init.0 }, init.1)
+abbrev pub lines-of-head : CertHead → List ℕ
+lines-of-head = heads.lines-of-head claim_at init_at claim_text init_text IsRight IsInit
 
-abbrev pub head-states : PlainClaim × Place → Result (Head × Place) Refusal
-head-states claim = line_by states_at claim.1 >>= head-init claim
+forms : heads.AreForms claim_at init_at claim_text init_text IsRight IsInit
+forms = record {
+  claim_found = claim-found;
+  claim_again = claim-again;
+  claim_free = free-claim;
+  init_found = λ c states n text i e. (let f = init-found c states n text i e in (f.0, record { inside = f.1; width = f.2 }));
+  init_again = λ c states n i limit h. init-again c states n i h.inside limit h.width;
+  init_free = λ c states i limit h. free-init c states i h.inside limit h.width;
+}
 
-pub record FoundHead (p : Place) (h : Head) (q : Place) : Type 0 where
-  pub text : p.rest ≡ lines-of-head h ++ q.rest
-  pub is : IsHead h
-
-pub head-found : (p : Place) (h : Head) (q : Place) → head_from p ≡ Ok (h, q) → FoundHead p h q
+pub head-found : (p : Place) (h : CertHead) (q : Place) → head_from p ≡ Ok (h, q) → heads.FoundHead claim_at init_at claim_text init_text IsRight IsInit p h q
 unfolding head_from
-head-found p h q e =
-    let one = bind_ok (line_by claim_at p) head-states (h, q) e in
-    let two = bind_ok (line_by states_at one.0.1) (head-init one.0) (h, q) one.2 in
-    let three = bind_ok (line_by (init_at one.0.0 two.0.0) two.0.1) (λ init. Ok (record { claim = one.0.0; states = two.0.0; init = init.0 }, init.1)) (h, q) two.2 in
-    let same : (let r : Head × Place = (record { claim = one.0.0; states = two.0.0; init = three.0.0 }, three.0.1) in r) ≡ (h, q) = ok-is _ _ three.2 in
-    let c = judged-found claim_at p one.0.0 one.0.1 one.1 in
-    let s = judged-found states_at one.0.1 two.0.0 two.0.1 two.1 in
-    let i = judged-found (init_at one.0.0 two.0.0) two.0.1 three.0.0 three.0.1 three.1 in
-    let claim = claim-found p.line c.text one.0.0 c.said in
-    let states = states-found one.0.1.line s.text two.0.0 s.said in
-    let init = init-found one.0.0 two.0.0 two.0.1.line i.text three.0.0 i.said in
-    subst (λ (r : Head × Place). FoundHead p r.0 r.1) same (record {
-      text = joined _ _ _ _ _ _ _ _ _ _ c.is.front s.is.front i.is.front claim.0 states.0 init.0;
-      is = record { some = states.1; limit = states.2; claim = claim.1; inside = init.1; width = init.2 };
-    })
-  where
-    joined : (a b c d t u v a' t' v' : List ℕ) → a ≡ line t ++ b → b ≡ line u ++ c → c ≡ line v ++ d → t ≡ a' → u ≡ t' → v ≡ v' → a ≡ (line a' ++ (line t' ++ line v')) ++ d
-    joined a b c d t u v a' t' v' p q r x y z =
-        rw (p, q, r, x, y, z) (sym (append_assoc (line a') (line t' ++ line v') d ∙ ap (λ (w : List ℕ). line a' ++ w) (append_assoc (line t') (line v') d)))
+head-found p h q e = heads.head-found claim_at init_at claim_text init_text IsRight IsInit forms p h q e
 
-pub head-again : (n : ℕ) (h : Head) (rest : List ℕ) → IsHead h → head_from (place n (lines-of-head h ++ rest)) ≡ Ok (h, place (n + 1 + 1 + 1) rest)
+pub head-again : (n : ℕ) (h : CertHead) (rest : List ℕ) → IsHead h → head_from (place n (lines-of-head h ++ rest)) ≡ Ok (h, place (n + 1 + 1 + 1) rest)
 unfolding head_from
-head-again n h rest ok =
-    rw (
-      append_assoc (line (claim_text h.claim)) (line (states_text h.states) ++ line (init_text h.init)) rest,
-      append_assoc (line (states_text h.states)) (line (init_text h.init)) rest,
-    ) (
-    ap (λ (r : Result (PlainClaim × Place) Refusal). r >>= head-states)
-    (judged-again claim_at n (claim_text h.claim) (line (states_text h.states) ++ (line (init_text h.init) ++ rest)) h.claim (free-claim h.claim ok.claim) (claim-again n h.claim ok.claim))
-    ∙ ap (λ (r : Result (ℕ × Place) Refusal). r >>= head-init (h.claim, place (n + 1) (line (states_text h.states) ++ (line (init_text h.init) ++ rest))))
-    (judged-again states_at (n + 1) (states_text h.states) (line (init_text h.init) ++ rest) h.states (free-states h.states ok.limit) (states-again (n + 1) h.states ok.some ok.limit))
-    ∙ ap (λ (r : Result (Init × Place) Refusal). r >>= λ init. let q : Result (Head × Place) Refusal = Ok
-    (record { claim = h.claim; states = h.states; init = init.0 }, init.1) in q)
-    (judged-again (init_at h.claim h.states) (n + 1 + 1) (init_text h.init) rest h.init (free-init h.claim h.states h.init ok.inside ok.limit ok.width)
-    (init-again h.claim h.states (n + 1 + 1) h.init ok.inside ok.limit ok.width))
-    )
+head-again n h rest is = heads.head-again claim_at init_at claim_text init_text IsRight IsInit forms n h rest is
 
 -- ---- the body
 
@@ -126,21 +93,17 @@ pub all-each : {A : Type 0} (P : A → Type 0) (xs : List A) → All P xs → Ea
 all-each P [] h = tt
 all-each P (x ∷ xs) h = (h 0 x (omega arith), all-each P xs (λ i d lt. h (suc i) d (omega arith)))
 
+-- what holds of each entry, of one thing that it says
+pub all-of : {A B : Type 0} (P : A → Type 0) (Q : B → Type 0) (f : A → B) → ((x : A) → P x → Q (f x)) → (xs : List A) → Each P xs → All Q (map f xs)
+all-of {A} P Q f of xs h = each-all Q (map f xs) (each xs h)
+  where
+    each : (ys : List A) → Each P ys → Each Q (map f ys)
+    each [] h = tt
+    each (y ∷ ys) h = (of y h.0, each ys h.1)
+
 -- ---- the lines of a policy
 
 module _ {V : Type 0} (k : Value V) (IsInWidth : V → Type 0) (is : IsValue k IsInWidth) (states : ℕ) (limit : states ≤ 2 ^ 20) (v : Version) where
-  values-width : (xs : List (PolicyEntry V)) → Each (IsPolicyInWidth IsInWidth) xs → Each IsInWidth (map (λ x. x.value) xs)
-  values-width [] h = tt
-  values-width (x ∷ xs) h = (h.0.value, values-width xs h.1)
-
-  choices-width : (xs : List (PolicyEntry V)) → Each (IsPolicyInWidth IsInWidth) xs → Each (λ c. c < 2 ^ 32) (map (λ x. x.choice) xs)
-  choices-width [] h = tt
-  choices-width (x ∷ xs) h = (h.0.choice, choices-width xs h.1)
-
-  ranks-width : (xs : List (PolicyEntry V)) → Each (IsPolicyInWidth IsInWidth) xs → Each (λ r. r < 2 ^ 32) (map (λ x. x.rank) xs)
-  ranks-width [] h = tt
-  ranks-width (x ∷ xs) h = (h.0.rank, ranks-width xs h.1)
-
   policies-width : (zs : List V) (cs rs : List ℕ) → Each IsInWidth zs → Each (λ c. c < 2 ^ 32) cs → Each (λ r. r < 2 ^ 32) rs → Each (IsPolicyInWidth IsInWidth) (policies zs cs rs)
   policies-width (z ∷ zs) (c ∷ cs) (r ∷ rs) p q o = (record { value = p.0; choice = q.0; rank = o.0 }, policies-width zs cs rs p.1 q.1 o.1)
   policies-width zs cs rs p q o = tt
@@ -159,7 +122,11 @@ module _ {V : Type 0} (k : Value V) (IsInWidth : V → Type 0) (is : IsValue k I
       record {
         text = f.text ∙ ap (λ (ys : List (PolicyEntry V)). closed_lines v (policy_columns k) ys ++ q.rest) (sym (policies-of xs));
         entries = rw (each V (λ x. x.value), each ℕ (λ x. x.choice), each ℕ (λ x. x.rank)) refl;
-        width = (each-all IsInWidth _ (values-width xs f.width), each-all (λ c. c < 2 ^ 32) _ (choices-width xs f.width), each-all (λ r. r < 2 ^ 32) _ (ranks-width xs f.width));
+        width = (
+          all-of (IsPolicyInWidth IsInWidth) IsInWidth (λ x. x.value) (λ x h. h.value) xs f.width,
+          all-of (IsPolicyInWidth IsInWidth) (λ c. c < 2 ^ 32) (λ x. x.choice) (λ x h. h.choice) xs f.width,
+          all-of (IsPolicyInWidth IsInWidth) (λ r. r < 2 ^ 32) (λ x. x.rank) (λ x h. h.rank) xs f.width,
+        );
       }
 
   -- the entries of three lists, and the lists of these entries
@@ -183,75 +150,88 @@ module _ {V : Type 0} (k : Value V) (IsInWidth : V → Type 0) (is : IsValue k I
 
 -- ---- the lines of mean payoffs
 
-pub free-spread : (k : ℚ) → IsNarrow k → Free 10 (spread_text k)
-free-spread k h = free-join 10 (codes "spread" ∷ spelling k ∷ []) refl (refl, (free-spelling 10 k (omega arith) h, tt))
+free-spread : (k : ℚ) → IsNarrow k → Free 10 (spread_text k)
+free-spread k h = free-fraction (codes "spread") k refl h
 
-pub spread-found : (n : ℕ) (text : List ℕ) (k : ℚ) → spread_at n text ≡ Ok k → (text ≡ spread_text k) × IsNarrow k
+spread-found : (n : ℕ) (text : List ℕ) (k : ℚ) → spread_at n text ≡ Ok k → (text ≡ spread_text k) × IsNarrow k
 unfolding spread_at
-spread-found n text k e =
-    let one = bind_ok (words_behind (codes "spread") 1 n text) (λ behind. frac_at n (first_of behind)) k e in
-    let f = frac-found n (first_of one.0) k one.2 in
-    let t = behind-text (codes "spread") 1 n text one.0 one.1 in
-    (t.0 ∙ ap (λ (ws : List (List ℕ)). join_with_byte 32 (codes "spread" ∷ ws)) (one-word one.0 t.1) ∙ ap (λ (w : List ℕ). codes "spread" ␣ w) f.0, f.1)
+spread-found n text k e = fraction-found (codes "spread") n text k e
 
-pub spread-again : (n : ℕ) (k : ℚ) → IsNarrow k → spread_at n (spread_text k) ≡ Ok k
+spread-again : (n : ℕ) (k : ℚ) → IsNarrow k → spread_at n (spread_text k) ≡ Ok k
 unfolding spread_at
-spread-again n k h =
-    let ws : words_behind (codes "spread") 1 n (spread_text k) ≡ Ok (spelling k ∷ []) = behind-again (codes "spread") 1 n (spelling k ∷ []) refl refl (free-spelling 32 k (omega arith) h, tt) in
-    rw (ws, frac-again n k h) refl
+spread-again n k h = fraction-again (codes "spread") n k refl h
 
-gains-width : (xs : List MeanEntry) → Each IsMeanInWidth xs → Each IsNarrow (map (λ x. x.gain) xs)
-gains-width [] h = tt
-gains-width (x ∷ xs) h = (h.0.gain, gains-width xs h.1)
+-- what is read behind the line of the spread, and the body that is made of both
+abbrev pub spread-entries : {A B : Type 0} → Version → Columns A → ℕ → (ℚ → List A → B) → ℚ × Place → Result (B × Place) Refusal
+spread-entries v k states body spread = entries_to_end v k states spread.1 >>= λ xs. Ok (body spread.0 xs.0, xs.1)
 
-bounds-width : (xs : List MeanEntry) → Each IsMeanInWidth xs → Each IsNarrow (map (λ x. x.bound) xs)
-bounds-width [] h = tt
-bounds-width (x ∷ xs) h = (h.0.bound, bounds-width xs h.1)
+module _ {A : Type 0} (k : Columns A) (IsInWidth : A → Type 0) (is : IsColumns k IsInWidth) (states : ℕ) (limit : states ≤ 2 ^ 20) (v : Version) where
+  -- the line of the spread, and entries with their lines
+  pub record FoundSpread (p : Place) (spread : ℚ) (xs : List A) (q : Place) : Type 0 where
+    pub text : (ys : List A) → ys ≡ xs → p.rest ≡ (line (spread_text spread) ++ closed_lines v k ys) ++ q.rest
+    pub narrow : IsNarrow spread
+    pub count : length xs ≡ states
+    pub width : Each IsInWidth xs
 
-biases-width : (xs : List MeanEntry) → Each IsMeanInWidth xs → Each IsNarrow (map (λ x. x.bias) xs)
-biases-width [] h = tt
-biases-width (x ∷ xs) h = (h.0.bias, biases-width xs h.1)
+  pub spread-entries-found : {B : Type 0} (body : ℚ → List A → B) (p : Place) (b : B) (q : Place) → (line_by spread_at p >>= spread-entries v k states body) ≡ Ok (b, q)
+      → (spread : ℚ) × (xs : List A) × (body spread xs ≡ b) × FoundSpread p spread xs q
+  spread-entries-found {B} body p b q e =
+      let one = bind_ok (line_by spread_at p) (spread-entries v k states body) (b, q) e in
+      let two = bind_ok (entries_to_end v k states one.0.1) (λ xs. Ok (body one.0.0 xs.0, xs.1)) (b, q) one.2 in
+      let same : (let r : B × Place = (body one.0.0 two.0.0, two.0.1) in r) ≡ (b, q) = ok-is _ _ two.2 in
+      let j = judged-found spread_at p one.0.0 one.0.1 one.1 in
+      let s = spread-found p.line j.text one.0.0 j.said in
+      let f = closed-found k IsInWidth is states limit v one.0.1 two.0.0 two.0.1 two.1 in (
+        one.0.0,
+        two.0.0,
+        ap (λ (r : B × Place). r.0) same,
+        subst (λ (r : Place). FoundSpread p one.0.0 two.0.0 r) (ap (λ (r : B × Place). r.1) same) (record {
+          text = λ ys e. joined p.rest j.text (spread_text one.0.0) one.0.1.rest (closed_lines v k two.0.0) (closed_lines v k ys) two.0.1.rest j.is.front s.0 f.text (ap (closed_lines v k) (sym e));
+          narrow = s.1;
+          count = f.count;
+          width = f.width;
+        }),
+      )
+    where
+      joined : (a t u r c d z : List ℕ) → a ≡ line t ++ r → t ≡ u → r ≡ c ++ z → c ≡ d → a ≡ (line u ++ d) ++ z
+      joined a t u r c d z p q o e = rw (p, q, o, e) (sym (append_assoc (line u) d z))
 
-mean-choices-width : (xs : List MeanEntry) → Each IsMeanInWidth xs → Each (λ c. c < 2 ^ 32) (map (λ x. x.choice) xs)
-mean-choices-width [] h = tt
-mean-choices-width (x ∷ xs) h = (h.0.choice, mean-choices-width xs h.1)
+  pub spread-entries-again : {B : Type 0} (body : ℚ → List A → B) (n : ℕ) (spread : ℚ) (xs : List A) (rest : List ℕ) → IsNarrow spread → length xs ≡ states → Each IsInWidth xs
+      → (m : ℕ) × ((line_by spread_at (place n ((line (spread_text spread) ++ closed_lines v k xs) ++ rest)) >>= spread-entries v k states body) ≡ Ok (body spread xs, place m rest))
+  spread-entries-again {B} body n spread xs rest narrow count width =
+      let r = closed-again k IsInWidth is states limit v (n + 1) xs rest count width in (
+        r.0,
+        ap (λ (t : List ℕ). line_by spread_at (place n t) >>= spread-entries v k states body) (append_assoc (line (spread_text spread)) (closed_lines v k xs) rest)
+            ∙ ap (λ (q : Result (ℚ × Place) Refusal). q >>= spread-entries v k states body)
+            (judged-again spread_at n (spread_text spread) (closed_lines v k xs ++ rest) spread (free-spread spread narrow) (spread-again n spread narrow))
+            ∙ ap (λ (q : Result (List A × Place) Refusal). q >>= λ ys. let z : Result (B × Place) Refusal = Ok (body spread ys.0, ys.1) in z) r.1,
+      )
 
 means-width : (gs zs bs : List ℚ) (cs : List ℕ) → Each IsNarrow gs → Each IsNarrow zs → Each IsNarrow bs → Each (λ c. c < 2 ^ 32) cs → Each IsMeanInWidth (means gs zs bs cs)
 means-width (g ∷ gs) (z ∷ zs) (b ∷ bs) (c ∷ cs) p q o t = (record { gain = p.0; bound = q.0; bias = o.0; choice = t.0 }, means-width gs zs bs cs p.1 q.1 o.1 t.1)
 means-width gs zs bs cs p q o t = tt
 
-abbrev means-behind : Version → ℕ → ℚ × Place → Result (PlainBody × Place) Refusal
-means-behind v states spread = entries_to_end v mean_columns states spread.1 >>= λ xs. Ok (mean_body spread.0 xs.0, xs.1)
-
 mean-found : (v : Version) (dir : Dir) (name : List ℕ) (states : ℕ) (p : Place) (b : PlainBody) (q : Place) → states ≤ 2 ^ 20 → body_from v (mean dir name) states p ≡ Ok (b, q)
     → FoundBody v (mean dir name) states p b q
 unfolding body_from
 mean-found v dir name states p b q limit e =
-    let spread = bind_ok (line_by spread_at p) (means-behind v states) (b, q) e in
-    let all = bind_ok (entries_to_end v mean_columns states spread.0.1) (λ xs. Ok (mean_body spread.0.0 xs.0, xs.1)) (b, q) spread.2 in
-    let xs = all.0.0 in
-    let same : (let r : PlainBody × Place = (mean_body spread.0.0 xs, all.0.1) in r) ≡ (b, q) = ok-is _ _ all.2 in
-    let j = judged-found spread_at p spread.0.0 spread.0.1 spread.1 in
-    let k = spread-found p.line j.text spread.0.0 j.said in
-    let f = closed-found mean_columns IsMeanInWidth mean-is_columns states limit v spread.0.1 xs all.0.1 all.1 in
+    let s = spread-entries-found mean_columns IsMeanInWidth mean-is_columns states limit v mean_body p b q e in
+    let xs = s.1 in
+    let f = s.3 in
     let each : (X : Type 0) (g : MeanEntry → X) → eqb (length (map g xs)) states ≡ true = λ X g. same-number _ states (length-map xs g ∙ f.count) in
-    subst (λ (r : PlainBody × Place). FoundBody v (mean dir name) states p r.0 r.1) same (record {
-      text = joined p.rest j.text (spread_text spread.0.0) spread.0.1.rest (closed_lines v mean_columns xs) (closed_lines v mean_columns (means _ _ _ _)) all.0.1.rest
-          j.is.front k.0 f.text (ap (λ (ys : List MeanEntry). closed_lines v mean_columns ys) (sym (means-of xs)));
+    subst (λ (c : PlainBody). FoundBody v (mean dir name) states p c q) s.2 (record {
+      text = f.text _ (means-of xs);
       fits = record {
         entries = rw (each ℚ (λ x. x.gain), each ℚ (λ x. x.bound), each ℚ (λ x. x.bias), each ℕ (λ x. x.choice)) refl;
         width = (
-          each-all IsNarrow _ (gains-width xs f.width),
-          each-all IsNarrow _ (bounds-width xs f.width),
-          each-all IsNarrow _ (biases-width xs f.width),
-          each-all (λ c. c < 2 ^ 32) _ (mean-choices-width xs f.width),
-          k.1,
+          all-of IsMeanInWidth IsNarrow (λ x. x.gain) (λ x h. h.gain) xs f.width,
+          all-of IsMeanInWidth IsNarrow (λ x. x.bound) (λ x h. h.bound) xs f.width,
+          all-of IsMeanInWidth IsNarrow (λ x. x.bias) (λ x h. h.bias) xs f.width,
+          all-of IsMeanInWidth (λ c. c < 2 ^ 32) (λ x. x.choice) (λ x h. h.choice) xs f.width,
+          f.narrow,
         );
       };
     })
-  where
-    joined : (a t u r c d z : List ℕ) → a ≡ line t ++ r → t ≡ u → r ≡ c ++ z → c ≡ d → a ≡ (line u ++ d) ++ z
-    joined a t u r c d z p q o e = rw (p, q, o, e) (sym (append_assoc (line u) d z))
 
 mean-again : (v : Version) (dir : Dir) (name : List ℕ) (states n : ℕ) (gs zs bs : List ℚ) (cs : List ℕ) (k : ℚ) (rest : List ℕ) → states ≤ 2 ^ 20
     → FitsBody (mean dir name) states (gains gs zs bs cs k)
@@ -261,15 +241,9 @@ mean-again v dir name states n gs zs bs cs k rest limit ok =
     let l = four-entries states gs zs bs cs ok.entries in
     let b = back gs zs bs cs (record { bounds = omega (arith, l.gains, l.bounds); biases = omega (arith, l.gains, l.biases); choices = omega (arith, l.gains, l.choices) }) in
     let r =
-    closed-again mean_columns IsMeanInWidth mean-is_columns states limit v (n + 1) (means gs zs bs cs) rest (b.count ∙ l.gains)
-    (means-width gs zs bs cs (all-each IsNarrow gs ok.width.0) (all-each IsNarrow zs ok.width.1) (all-each IsNarrow bs ok.width.2) (all-each (λ c. c < 2 ^ 32) cs ok.width.3)) in (
-      r.0,
-      ap (λ (t : List ℕ). line_by spread_at (place n t) >>= means-behind v states) (append_assoc (line (spread_text k)) (closed_lines v mean_columns (means gs zs bs cs)) rest)
-          ∙ ap (λ (q : Result (ℚ × Place) Refusal). q >>= means-behind v states)
-          (judged-again spread_at n (spread_text k) (closed_lines v mean_columns (means gs zs bs cs) ++ rest) k (free-spread k ok.width.4) (spread-again n k ok.width.4))
-          ∙ ap (λ (q : Result (List MeanEntry × Place) Refusal). q >>= λ xs. let z : Result (PlainBody × Place) Refusal = Ok (mean_body k xs.0, xs.1) in z) r.1
-          ∙ ap (λ (c : PlainBody). let z : Result (PlainBody × Place) Refusal = Ok (c, place r.0 rest) in z) (parts _ _ _ _ _ _ _ _ b.gains b.bounds b.biases b.choices),
-    )
+    spread-entries-again mean_columns IsMeanInWidth mean-is_columns states limit v mean_body n k (means gs zs bs cs) rest ok.width.4 (b.count ∙ l.gains)
+    (means-width gs zs bs cs (all-each IsNarrow gs ok.width.0) (all-each IsNarrow zs ok.width.1) (all-each IsNarrow bs ok.width.2) (all-each (λ c. c < 2 ^ 32) cs ok.width.3)) in
+    (r.0, r.1 ∙ ap (λ (c : PlainBody). let z : Result (PlainBody × Place) Refusal = Ok (c, place r.0 rest) in z) (parts _ _ _ _ _ _ _ _ b.gains b.bounds b.biases b.choices))
   where
     parts : (a b c d e f : List ℚ) (g h : List ℕ) → a ≡ b → c ≡ d → e ≡ f → g ≡ h → gains a c e g k ≡ gains b d f h k
     parts a b c d e f g h p q o t = rw (p, q, o, t) refl
@@ -329,16 +303,12 @@ floors-read : (v : Version) (states n : ℕ) (kept : List ℕ) (wide : List Bool
     → (m : ℕ) × ((listed_to_end floor_listed states (place n (body_text v (floor kept wide values ranks) ++ rest)) >>= floors-behind) ≡ Ok (floor kept wide values ranks, place m rest))
 floors-read v states n kept wide values ranks rest limit ok width =
     let c = floor-counts states limit kept wide values ranks ok in
-    let a = floors-back states limit kept wide values ranks c.1 in
     let next = floors-next states limit kept wide values ranks c.0 (all-each IsNarrow values width.0) (all-each (λ r. r < 2 ^ 32) ranks width.1) in
     let r = to_end-again floor_listed states (IsNextFloor states limit) (floor-is_listed states limit) n (floor_lines kept wide values ranks) rest next in (
       r.0,
       ap (λ (q : Result (List FloorLine × Place) Refusal). q >>= floors-behind) r.1
-          ∙ ap (λ (b : PlainBody). let z : Result (PlainBody × Place) Refusal = Ok (b, place r.0 rest) in z) (parts _ _ _ _ _ _ _ _ a.kept_is a.wide_is a.values_are a.ranks_are),
+          ∙ ap (λ (t : FloorLists). let z : Result (PlainBody × Place) Refusal = Ok (floor t.0 t.1 t.2 t.3, place r.0 rest) in z) (floors-back states limit kept wide values ranks c.1),
     )
-  where
-    parts : (a b : List ℕ) (c d : List Bool) (f g : List ℚ) (s t : List ℕ) → a ≡ b → c ≡ d → f ≡ g → s ≡ t → floor a c f s ≡ floor b d g t
-    parts a b c d f g s t p q o r = rw (p, q, o, r) refl
 
 -- ---- by the claim
 
@@ -448,25 +418,15 @@ body-again v (witness Min label t) states n (gains gs zs bs cs k) rest limit ok 
 body-again v (witness Min label t) states n (flow kept wide flows) rest limit ok = absurd (let t = ok.entries in cc)
 body-again v (witness Min label t) states n (floor kept wide values ranks) rest limit ok = floors-read v states n kept wide values ranks rest limit ok.entries ok.width
 
--- ---- the end
-
-none-is : (xs : List ℕ) → ltb 0 (length xs) ≡ false → xs ≡ []
-none-is [] h = refl
-none-is (x ∷ xs) h = absurd (both_ways _ h (lt-ltb 0 (length (x ∷ xs)) (omega arith)))
-
-pub nothing-found : (p : Place) (u : Unit {0}) → nothing_behind p ≡ Ok u → p.rest ≡ []
-unfolding nothing_behind
-nothing-found p u e = none-is p.rest (refuse_ok _ End p.line u e)
-
 -- ---- the whole text
 
-abbrev pub whole : Head → PlainBody → Certificate
+abbrev pub whole : CertHead → PlainBody → Certificate
 whole h b = record { claim = h.claim; states = h.states; init = h.init; body = b }
 
-abbrev pub whole-end : Head → PlainBody × Place → Result Certificate Refusal
+abbrev pub whole-end : CertHead → PlainBody × Place → Result Certificate Refusal
 whole-end h body = nothing_behind body.1 >>= λ nothing. Ok (whole h body.0)
 
-abbrev pub whole-body : Version → Head × Place → Result Certificate Refusal
+abbrev pub whole-body : Version → CertHead × Place → Result Certificate Refusal
 whole-body v head = body_from v head.0.claim head.0.states head.1 >>= whole-end head.0
 
 abbrev pub whole-head : Version × Place → Result Certificate Refusal
@@ -500,10 +460,10 @@ text-found bytes c e =
         limit = h.is.limit;
         names = h.is.claim.names;
         threshold = h.is.claim.threshold;
-        inside = h.is.inside;
+        inside = h.is.init.inside;
         entries = b.fits.entries;
         claim_width = h.is.claim.width;
-        init_width = h.is.width;
+        init_width = h.is.init.width;
         body_width = b.fits.width;
       };
     })
@@ -514,13 +474,13 @@ text-found bytes c e =
 pub text-again : (v : Version) (c : Certificate) → Fits c → outcome (text_in v c) ≡ Ok c
 unfolding outcome text_in nothing_behind
 text-again v c ok =
-    let h : Head = record { claim = c.claim; states = c.states; init = c.init } in
+    let h : CertHead = record { claim = c.claim; states = c.states; init = c.init } in
     let claim : IsRight c.claim = record { names = ok.names; threshold = ok.threshold; width = ok.claim_width } in
-    let head : IsHead h = record { some = ok.some; limit = ok.limit; claim = claim; inside = ok.inside; width = ok.init_width } in
+    let head : IsHead h = record { some = ok.some; limit = ok.limit; claim = claim; init = record { inside = ok.inside; width = ok.init_width } } in
     let body : FitsBody c.claim c.states c.body = record { entries = ok.entries; width = ok.body_width } in
     let b = body-again v c.claim c.states (1 + 1 + 1 + 1 + 1) c.body [] ok.limit body in
     ap (λ (r : Result (Version × Place) Refusal). r >>= whole-head) (judged-again version_at 1 (version_text v) (lines-of-head h ++ body_text v c.body) v (free-version v) (version-again 1 v))
-    ∙ ap (λ (r : Result (Head × Place) Refusal). r >>= whole-body v) (head-again (1 + 1) h (body_text v c.body) head)
+    ∙ ap (λ (r : Result (CertHead × Place) Refusal). r >>= whole-body v) (head-again (1 + 1) h (body_text v c.body) head)
     ∙ ap (λ (t : List ℕ). body_from v c.claim c.states (place (1 + 1 + 1 + 1 + 1) t) >>= whole-end h) (sym (append-nil (body_text v c.body)))
     ∙ ap (λ (r : Result (PlainBody × Place) Refusal). r >>= whole-end h) b.1
 

@@ -5,9 +5,9 @@ use Rattle.mdp_cert.specs.declared.version.Version.{Version}
 use Rattle.mdp_cert.specs.declared.version.Version.TheVariants.{One, Two}
 use Rattle.mdp_cert.specs.Cert.{plain_claim}
 use Rattle.mdp_cert.specs.Runs.{Columns}
-use Rattle.mdp_cert.specs.Reading as read
+use Rattle.mdp_cert.specs.Reading.{CertHead}
 
-abbrev pub plain_head : Head → read.Head
+abbrev pub plain_head : Head → CertHead
 plain_head h = record { claim = plain_claim h.claim; states = h.states; init = h.init }
 
 -- ---- the first run of a list

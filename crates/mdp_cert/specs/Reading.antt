@@ -19,8 +19,8 @@ use Rattle.mdp_cert.specs.declared.mean_entry.MeanEntry.{MeanEntry}
 use Rattle.mdp_cert.specs.declared.policy_entry.PolicyEntry.{PolicyEntry}
 use Rattle.mdp_cert.specs.Cert.{PlainClaim, upper, reach, reward, mean, witness, may_be_infinite, is_witness, is_at_least_zero, PlainBody, bounds, policy, rewards, gains, Certificate}
 use Rattle.mdp_text.specs.Lines.{◌>>=◌, refused, refuse_if, or_refused, is_line, Place, place, line_by, nothing_behind}
-use Rattle.mdp_text.specs.Heads.{states_at, valued_at, start_at}
-use Rattle.mdp_text.specs.Words.{words, first_of, begins_with, words_behind, whole_at, frac_at, behind, is_quote}
+use Rattle.mdp_text.specs.Heads.{valued_at, start_at, Head, head_by}
+use Rattle.mdp_text.specs.Words.{words, first_of, begins_with, words_behind, whole_at, frac_at, behind, is_quote, name_and_rest}
 use Rattle.mdp_cert.specs.Runs.{Columns, Run, run, single, entries_of}
 use Rattle.mdp_cert.specs.Claims.{fraction_value, reward_value, bound_columns, policy_columns, mean_columns}
 use Rattle.mdp_cert.specs.Listed.{Listed}
@@ -81,10 +81,7 @@ threshold_of word = option_and_then (λ t. if is_at_least_zero t then Some t els
 
 -- a name, `" `, and a threshold; the name ends at the first `"`
 abbrev pub name_and_threshold : List ℕ → Option (List ℕ × ℚ)
-name_and_threshold text =
-    if is_name (before_first is_quote text)
-    then option_map (λ t. (before_first is_quote text, t)) (option_and_then threshold_of (behind (codes "\" ") (drop (position_or_len is_quote text) text)))
-    else None
+name_and_threshold text = option_and_then (λ p. option_map (λ t. (p.0, t)) (threshold_of p.1)) (name_and_rest text)
 
 abbrev pub witness_front : Dir → List ℕ
 witness_front Max = codes "claim max witness \""
@@ -109,18 +106,12 @@ claim_at n text = or_refused kind.Claim n (claim_of text)
 abbrev pub init_at : PlainClaim → ℕ → ℕ → List ℕ → Result Init Refusal
 init_at claim states n text = if is_witness claim then start_at states n text else valued_at (may_be_infinite claim) states n text
 
-pub record Head : Type 0 where
-  pub claim : PlainClaim
-  pub states : ℕ
-  pub init : Init
+abbrev pub CertHead : Type 0
+CertHead = Head PlainClaim Init
 
 -- these three lines
-unfoldable pub head_from : Place → Result (Head × Place) Refusal
-head_from p = do
-  claim ← line_by claim_at p
-  states ← line_by states_at claim.1
-  init ← line_by (init_at claim.0 states.0) states.1
-  Ok (record { claim = claim.0; states = states.0; init = init.0 }, init.1)
+unfoldable pub head_from : Place → Result (CertHead × Place) Refusal
+head_from p = head_by claim_at init_at p
 
 -- ---- the lines of the states
 
@@ -223,17 +214,27 @@ listed_from (suc most) k states before p = line_by (listed_at k states before) p
 unfoldable pub listed_to_end : {A : Type 0} → Listed A → ℕ → Place → Result (List A × Place) Refusal
 listed_to_end k states p = listed_from (suc (length p.rest)) k states None p
 
--- the lines behind the head, by the claim, with the line `end`
+-- ---- the lines behind the head, with the line `end`
+
+-- of a mean payoff
+abbrev pub mean_from : Version → ℕ → Place → Result (PlainBody × Place) Refusal
+mean_from v states p = do
+  spread ← line_by spread_at p
+  xs ← entries_to_end v mean_columns states spread.1
+  Ok (mean_body spread.0 xs.0, xs.1)
+
+-- of a subsystem
+abbrev pub kept_from : Dir → ℕ → Place → Result (PlainBody × Place) Refusal
+kept_from Max states p = listed_to_end flow_listed states p >>= λ xs. Ok (flow_body xs.0, xs.1)
+kept_from Min states p = listed_to_end floor_listed states p >>= λ xs. Ok (floor_body xs.0, xs.1)
+
+-- by the claim
 unfoldable pub body_from : Version → PlainClaim → ℕ → Place → Result (PlainBody × Place) Refusal
 body_from v (upper label) states p = entries_to_end v bound_columns states p >>= λ xs. Ok (bounds xs.0, xs.1)
 body_from v (reach dir label) states p = entries_to_end v (policy_columns fraction_value) states p >>= λ xs. Ok (policy_body xs.0, xs.1)
 body_from v (reward dir name label) states p = entries_to_end v (policy_columns reward_value) states p >>= λ xs. Ok (reward_body xs.0, xs.1)
-body_from v (mean dir name) states p = do
-  spread ← line_by spread_at p
-  xs ← entries_to_end v mean_columns states spread.1
-  Ok (mean_body spread.0 xs.0, xs.1)
-body_from v (witness Max label threshold) states p = listed_to_end flow_listed states p >>= λ xs. Ok (flow_body xs.0, xs.1)
-body_from v (witness Min label threshold) states p = listed_to_end floor_listed states p >>= λ xs. Ok (floor_body xs.0, xs.1)
+body_from v (mean dir name) states p = mean_from v states p
+body_from v (witness dir label threshold) states p = kept_from dir states p
 
 -- ---- the whole
 

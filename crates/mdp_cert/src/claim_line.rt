@@ -1,7 +1,7 @@
 ghost use Rattle.std.specs.Prelude.{◌≡◌, Ok, Some, None, IfOk, MatchResult, MatchOption, option_and_then, option_map};
 ghost use Rattle.mdp_rows.specs.Name.{is_name};
 ghost use Rattle.mdp_cert.specs.Cert.{plain_claim};
-ghost use Rattle.mdp_text.specs.Words.{behind};
+ghost use Rattle.mdp_text.specs.Words.{behind, name_and_rest};
 ghost use Rattle.mdp_cert.specs.Reading.{closed_name, name_behind, two_names, upper_claim, reach_front};
 ghost use Rattle.mdp_cert.specs.Reading.{reach_claim, reward_front, reward_claim, mean_front, mean_claim, threshold_of, name_and_threshold, witness_front, witness_claim, claim_to, claim_of, claim_at};
 ghost use Rattle.mdp_text.specs.Answer.{Refuses};
@@ -9,7 +9,7 @@ ghost use Rattle.mdp_text.specs.Answer.{Refuses};
 use crate::claim::Claim;
 use mdp_num::{Frac, read_canonical};
 use mdp_rows::Dir;
-use mdp_text::{CertError, CertKind, before_quote, is_name};
+use mdp_text::{CertError, CertKind, before_quote, is_name, name_and_rest};
 use std::alloc::{AllocError, Global};
 
 /// The name that stands before the quote at the text's end.
@@ -138,12 +138,8 @@ fn threshold_of(word: &[u8]) -> Option<Frac>
 fn name_and_threshold(text: &[u8]) -> Option<(&[u8], Frac)>
     ensures { MatchOption result (name_and_threshold text.now ≡ None) (λ said. name_and_threshold text.now ≡ Some (said.0.now, said.1)) }
 {
-    let end = before_quote(text);
-    let name = &text[..end];
-    if !is_name(name) {
-        return None;
-    }
-    let threshold = threshold_of(text[end..].strip_prefix(b"\" ")?)?;
+    let (name, word) = name_and_rest(text)?;
+    let threshold = threshold_of(word)?;
     Some((name, threshold))
 }
 

@@ -50,6 +50,6 @@ pub use mean_lines::spread_at;
 pub use push::{push_claim, push_spread};
 pub use read::read_cert;
 pub use state_lines::entries_to_end;
-pub use values::Value;
+pub use values::{Value, push_value};
 pub use version::Version;
 pub use write::{push_to_end, write_cert, write_old};

@@ -1,4 +1,4 @@
-ghost use Rattle.std.specs.Prelude.{◌≡◌, IfOk, map};
+ghost use Rattle.std.specs.Prelude.{◌≡◌, ◌<◌, IfOk, length, map, slice_index_or};
 ghost use Rattle.mdp_cert.specs.Cert.{policy, rewards};
 ghost use Rattle.mdp_cert.specs.Claims.{policy_columns, policies};
 ghost use Rattle.mdp_cert.specs.Reading.{policy_body, reward_body};
@@ -42,18 +42,26 @@ impl<V: Value> Entry for PolicyEntry<V> {
     }
 }
 
+/// The entry of a state, in lists of values, choices and ranks.
+fn entry_in<V: Copy>(values: &[V], choices: &[u32], ranks: &[u32], state: u32) -> PolicyEntry<V>
+    requires { state < length (policies values.now choices.now ranks.now) }
+    ensures { result ≡ slice_index_or (policies values.now choices.now ranks.now) state result }
+{
+    let place = state as usize;
+    PolicyEntry {
+        value: values[place],
+        choice: choices[place],
+        rank: ranks[place],
+    }
+}
+
 impl Lists for ReachCert {
     type Item = PolicyEntry<Frac>;
 
     ghost entries = { λ c. policies c.values.items c.choices.items c.ranks.items };
 
     fn entry(&self, state: u32) -> PolicyEntry<Frac> {
-        let place = state as usize;
-        PolicyEntry {
-            value: self.values[place],
-            choice: self.choices[place],
-            rank: self.ranks[place],
-        }
+        entry_in(&self.values, &self.choices, &self.ranks, state)
     }
 }
 
@@ -63,12 +71,7 @@ impl Lists for RewardCert {
     ghost entries = { λ c. policies c.values.items c.choices.items c.ranks.items };
 
     fn entry(&self, state: u32) -> PolicyEntry<Option<Frac>> {
-        let place = state as usize;
-        PolicyEntry {
-            value: self.values[place],
-            choice: self.choices[place],
-            rank: self.ranks[place],
-        }
+        entry_in(&self.values, &self.choices, &self.ranks, state)
     }
 }
 

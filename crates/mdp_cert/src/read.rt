@@ -2,7 +2,7 @@ ghost use Rattle.std.specs.Prelude.{◌≡◌, Ok, IfOk, IfErr, MatchResult};
 ghost use Rattle.mdp_cert.specs.Cert.{plain_claim, plain_body};
 ghost use Rattle.mdp_cert.specs.Plain.{plain};
 ghost use Rattle.mdp_text.specs.Lines.{place, nothing_behind};
-ghost use Rattle.mdp_cert.specs.Reading.{body_from, outcome};
+ghost use Rattle.mdp_cert.specs.Reading.{mean_from, kept_from, body_from, outcome};
 ghost use Rattle.mdp_text.specs.Answer.{Refuses};
 
 use crate::body::Body;
@@ -20,6 +20,42 @@ use mdp_farkas::UpperCert;
 use mdp_rows::Dir;
 use mdp_text::{CertError, next_line, nothing_behind};
 use std::alloc::Global;
+
+/// Reads the lines from line 5 on of a mean payoff, with the line `end`, and gives the number of the line behind it and the bytes from there on.
+fn mean_from(
+    alloc: Global,
+    version: Version,
+    states: u32,
+    bytes: &[u8],
+) -> Result<(Body, u64, &[u8]), CertError>
+    ensures { let read = mean_from version states (place 5 bytes.now) in MatchResult result (λ p. read ≡ Ok (plain_body p.0, place p.1 p.2.now)) (λ e. Refuses e read) }
+{
+    let (text, rest) = next_line(5, bytes)?;
+    let spread = spread_at(5, text)?;
+    let (entries, line, rest) = entries_to_end(alloc, version, states, 6, rest)?;
+    Ok((Body::Mean(mean_cert(alloc, spread, &entries)?), line, rest))
+}
+
+/// The same of a subsystem.
+fn kept_from(
+    alloc: Global,
+    dir: Dir,
+    states: u32,
+    bytes: &[u8],
+) -> Result<(Body, u64, &[u8]), CertError>
+    ensures { let read = kept_from dir states (place 5 bytes.now) in MatchResult result (λ p. read ≡ Ok (plain_body p.0, place p.1 p.2.now)) (λ e. Refuses e read) }
+{
+    match dir {
+        Dir::Max => {
+            let (lines, line, rest) = listed_to_end(alloc, states, 5, bytes)?;
+            Ok((Body::Flow(flow_cert(alloc, &lines)?), line, rest))
+        }
+        Dir::Min => {
+            let (lines, line, rest) = listed_to_end(alloc, states, 5, bytes)?;
+            Ok((Body::Floor(floor_cert(alloc, &lines)?), line, rest))
+        }
+    }
+}
 
 /// Reads the lines from line 5 on, by the claim, with the line `end`, and gives the number of the line behind it and the bytes from there on.
 #[tactic(auto, unfolding(crate::specs::Reading::body_from))]
@@ -45,20 +81,8 @@ fn body_from<'a>(
             let (entries, line, rest) = entries_to_end(alloc, version, states, 5, bytes)?;
             Ok((Body::Reward(reward_cert(alloc, &entries)?), line, rest))
         }
-        Claim::Mean { .. } => {
-            let (text, rest) = next_line(5, bytes)?;
-            let spread = spread_at(5, text)?;
-            let (entries, line, rest) = entries_to_end(alloc, version, states, 6, rest)?;
-            Ok((Body::Mean(mean_cert(alloc, spread, &entries)?), line, rest))
-        }
-        Claim::Witness { dir: Dir::Max, .. } => {
-            let (lines, line, rest) = listed_to_end(alloc, states, 5, bytes)?;
-            Ok((Body::Flow(flow_cert(alloc, &lines)?), line, rest))
-        }
-        Claim::Witness { dir: Dir::Min, .. } => {
-            let (lines, line, rest) = listed_to_end(alloc, states, 5, bytes)?;
-            Ok((Body::Floor(floor_cert(alloc, &lines)?), line, rest))
-        }
+        Claim::Mean { .. } => mean_from(alloc, version, states, bytes),
+        Claim::Witness { dir, .. } => kept_from(alloc, *dir, states, bytes),
     }
 }
 

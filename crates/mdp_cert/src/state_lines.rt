@@ -9,8 +9,8 @@ ghost use Rattle.mdp_cert.specs.Reading.{entry_at, state_at, run_at, is_same, li
 use crate::entries::Entry;
 use crate::version::Version;
 use mdp_text::{
-    CertError, CertKind, Refusal, begins_with, cut_word, is_line, next_line, refuse_if, whole_at,
-    words_behind,
+    CertError, CertKind, Refusal, begins_with, cut_word, is_line, next_line, or_refused, refuse_if,
+    whole_at, words_behind,
 };
 use std::alloc::{AllocError, Global};
 
@@ -20,10 +20,7 @@ fn entry_at<E: Entry>(line: u64, text: &[u8]) -> Result<E, Refusal>
     requires { length (words text.now) ≡ E.columns.width }
     ensures { result ≡ entry_at E.columns line (words text.now) }
 {
-    E::read(text).ok_or(Refusal {
-        kind: CertKind::Number,
-        line,
-    })
+    or_refused(CertKind::Number, line, E::read(text))
 }
 
 /// The entry of the line `state S WORDS`, where S is the state that is due, and that no more states follow in it.

@@ -1,4 +1,4 @@
-ghost use Rattle.std.specs.Prelude.{◌≡◌, ◌++◌, OnOk};
+ghost use Rattle.std.specs.Prelude.{◌≡◌, ◌++◌, ◌∷◌, OnOk};
 ghost use Rattle.mdp_text.specs.Answer.{Keeps};
 ghost use Rattle.mdp_cert.specs.Claims.{Value, fraction_value, reward_value};
 
@@ -21,6 +21,15 @@ pub trait Value: Copy + Drop {
     /// Whether two values are the same.
     fn is_same_value(&self, other: &Self) -> bool
         ensures { result ≡ value.same self.now other.now };
+}
+
+/// Appends a blank and the word of a value.
+pub fn push_value<V: Value>(out: &mut Vec<u8>, value: &V) -> Result<(), Memory>
+    ensures text { OnOk result (out.new.items ≡ out.old.items ++ (32 ∷ V.value.spell value.now)) }
+    ensures front { Keeps out.old.items out.new.items }
+{
+    out.extend_from_slice(b" ")?;
+    value.push_word(out)
 }
 
 /// A fraction.

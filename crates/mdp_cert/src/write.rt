@@ -15,7 +15,7 @@ use crate::listed::push_listed;
 use crate::push::{push_claim, push_run, push_spread};
 use crate::version::Version;
 use mdp_num::Memory;
-use mdp_text::{push_end, push_init, push_number};
+use mdp_text::{or_cut_back, push_end, push_init, push_number};
 
 /// Appends the line of the version.
 fn push_version(out: &mut Vec<u8>, version: Version) -> Result<(), Memory>
@@ -144,10 +144,7 @@ fn write_in(version: Version, cert: &Cert, out: &mut Vec<u8>) -> Result<(), Memo
 {
     let start = out.len();
     let answer = push_lines(out, version, cert);
-    if answer.is_err() {
-        out.truncate(start);
-    }
-    answer
+    or_cut_back(out, start, answer)
 }
 
 /// Appends the certificate's text in version 2, with a line for each longest run of states with the same words. After `Memory` the text is as

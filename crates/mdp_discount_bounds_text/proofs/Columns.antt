@@ -1,21 +1,17 @@
 -- What is shown of the words of a state's line.
-use Rattle.std.proofs.Common.{◌≡◌, ℕ, ◌<◌, ◌≤◌, Bool, true, false, cond, eqb, ◌&&◌, List, [], ◌∷◌, decimal, Option, Some, None, refl, sym, ap, subst, ◌∙◌, arith}
+use Rattle.std.proofs.Common.{◌≡◌, ℕ, ◌<◌, ◌≤◌, true, false, eqb, ◌&&◌, List, [], ◌∷◌, decimal, Option, Some, None, refl, subst, arith}
 use Rattle.std.specs.Prelude.{codes}
-use Rattle.std.specs.Option.{option_and_then, option_map}
-use Rattle.std.specs.Str.{bytes_eq}
+use Rattle.std.specs.Option.{option_and_then}
 use Rattle.std.proofs.lemmas.Bool.{and_parts}
 use Rattle.std.proofs.lemmas.Bool.Decides.{nat_tests}
 use Rattle.mdp_math.specs.Rational.{ℚ}
-use Rattle.mdp_num.specs.Value.{spelling, IsNarrow}
 use Rattle.mdp_num.specs.Canonical.{canonical_of}
-use Rattle.mdp_num.proofs.Spellings.{sound, complete}
 use Rattle.mdp_text.specs.Words.{whole_of, reward_parse}
-use Rattle.mdp_text.proofs.Pieces.{Free, free-spelling}
-use Rattle.mdp_text.proofs.Cuts.{bytes_same}
+use Rattle.mdp_text.proofs.Pieces.{Free}
 use Rattle.mdp_text.proofs.Joined.{AllFree, free-whole}
 use Rattle.mdp_cert.specs.Cert as cert
 use Rattle.mdp_cert.specs.Claims.{reward_text, reward_same}
-use Rattle.mdp_cert.proofs.Columns.{IsColumns, and_then-some, whole-of-found, whole-of-again, reward-found, reward-again, free-reward, reward-is_value, number-same, number-itself}
+use Rattle.mdp_cert.proofs.Columns.{IsColumns, or-found, or-again, free-or, and_then-some, whole-of-found, whole-of-again, reward-found, reward-again, free-reward, reward-is_value, number-same, number-itself}
 use Rattle.mdp_discount_bounds.specs.Cert.{IsValueNarrow}
 use Rattle.mdp_discount_bounds_text.specs.declared.entry.BoundsEntry.{BoundsEntry}
 use Rattle.mdp_discount_bounds_text.specs.Entries.{lower_text, lower_parse, between_parse, between_columns, IsEntryInWidth}
@@ -43,42 +39,24 @@ free-upper c x lt h = free-reward c x lt (as-cert x h)
 
 -- ---- a lower value
 
-pub lower-found : (w : List ℕ) (x : Option ℚ) → lower_parse w ≡ Some x → (w ≡ lower_text x) × IsValueNarrow x
-lower-found w x e = by (bytes_eq w (codes "-inf")) refl (canonical_of w) refl e
-  where
-    by : (b : Bool) → bytes_eq w (codes "-inf") ≡ b → (o : Option ℚ) → canonical_of w ≡ o
-        → cond b (let r : Option (Option ℚ) = Some None in r) (option_map Some o) ≡ Some x → (w ≡ lower_text x) × IsValueNarrow x
-    by true t o f e = let is : None ≡ x = cc in subst (λ (y : Option ℚ). (w ≡ lower_text y) × IsValueNarrow y) is (bytes_same w (codes "-inf") t, tt)
-    by false t None f e = absurd cc
-    by false t (Some y) f e = let is : Some y ≡ x = cc in subst (λ (y : Option ℚ). (w ≡ lower_text y) × IsValueNarrow y) is (sound w y f)
-
 inf-none : canonical_of (codes "-inf") ≡ None
 unfolding canonical_of
 inf-none = refl
 
--- `-inf` spells no fraction
-not-inf : (x : ℚ) → IsNarrow x → bytes_eq (spelling x) (codes "-inf") ≡ false
-not-inf x h = by (bytes_eq (spelling x) (codes "-inf")) refl
-  where
-    by : (b : Bool) → bytes_eq (spelling x) (codes "-inf") ≡ b → b ≡ false
-    by false t = refl
-    by true t =
-        let e : None ≡ Some x = sym inf-none ∙ ap canonical_of (sym (bytes_same (spelling x) (codes "-inf") t)) ∙ complete x h in
-        absurd cc
-
-pub lower-again : (x : Option ℚ) → IsValueNarrow x → lower_parse (lower_text x) ≡ Some x
-lower-again None h = refl
-lower-again (Some x) h = rw (not-inf x h, complete x h) refl
-
-pub free-lower : (c : ℕ) (x : Option ℚ) → c < 45 → IsValueNarrow x → Free c (lower_text x)
-free-lower c None lt h = free-inf
+free-inf : (c : ℕ) → c < 45 → Free c (codes "-inf")
+free-inf c lt = rw (other 45 (omega arith), other 105 (omega arith), other 110 (omega arith), other 102 (omega arith)) refl
   where
     other : (d : ℕ) → 45 ≤ d → eqb d c ≡ false
     other d le = grind (arith, nat_tests)
 
-    free-inf : Free c (codes "-inf")
-    free-inf = rw (other 45 (omega arith), other 105 (omega arith), other 110 (omega arith), other 102 (omega arith)) refl
-free-lower c (Some x) lt h = free-spelling c x lt h
+pub lower-found : (w : List ℕ) (x : Option ℚ) → lower_parse w ≡ Some x → (w ≡ lower_text x) × IsValueNarrow x
+lower-found w x e = let s = or-found (codes "-inf") inf-none lower_text refl (λ y. refl) w x e in (s.0, of-cert x s.1)
+
+pub lower-again : (x : Option ℚ) → IsValueNarrow x → lower_parse (lower_text x) ≡ Some x
+lower-again x h = or-again (codes "-inf") inf-none lower_text refl (λ y. refl) x (as-cert x h)
+
+pub free-lower : (c : ℕ) (x : Option ℚ) → c < 45 → IsValueNarrow x → Free c (lower_text x)
+free-lower c x lt h = free-or (codes "-inf") inf-none lower_text refl (λ y. refl) c x (free-inf c lt) lt (as-cert x h)
 
 -- ---- a lower value, an upper value and a choice
 

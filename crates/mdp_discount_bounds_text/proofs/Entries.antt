@@ -8,7 +8,7 @@ use Rattle.mdp_cert.specs.declared.version.Version.TheVariants.{Two}
 use Rattle.mdp_cert.specs.Spelling.{closed_lines}
 use Rattle.mdp_cert.specs.Reading.{entries_to_end}
 use Rattle.mdp_cert.proofs.Bodies.{Each, closed-found, closed-again}
-use Rattle.mdp_cert.proofs.Parts.{each-all, all-each}
+use Rattle.mdp_cert.proofs.Parts.{all-each, all-of}
 use Rattle.mdp_discount_bounds.specs.Cert.{IsValueNarrow}
 use Rattle.mdp_discount_bounds_text.specs.declared.entry.BoundsEntry.{BoundsEntry}
 use Rattle.mdp_discount_bounds_text.specs.Entries.{between_columns, IsEntryInWidth, entries_of}
@@ -35,42 +35,27 @@ entry-at (x ∷ ls) (y ∷ us) (b ∷ cs) zero l u c d h p q o = rw (p, q, o) re
 entry-at (x ∷ ls) (y ∷ us) (b ∷ cs) (suc i) l u c d h p q o = entry-at ls us cs i l u c d (omega arith) p q o
 entry-at ls us cs i l u c d h p q o = absurd (omega arith)
 
--- the lists of the entries
-pub record Back (ls us : List (Option ℚ)) (cs : List ℕ) : Type 0 where
-  pub count : length (entries_of ls us cs) ≡ length ls
-  pub lower : map (λ x. x.lower) (entries_of ls us cs) ≡ ls
-  pub upper : map (λ x. x.upper) (entries_of ls us cs) ≡ us
-  pub choices : map (λ x. x.choice) (entries_of ls us cs) ≡ cs
+abbrev pub Lists : Type 0
+Lists = List (Option ℚ) × List (Option ℚ) × List ℕ
 
-pub back : (ls us : List (Option ℚ)) (cs : List ℕ) → length us ≡ length ls → length cs ≡ length ls → Back ls us cs
-back [] [] [] h k = record { count = refl; lower = refl; upper = refl; choices = refl }
+-- the lists of entries
+abbrev pub lists-of : List BoundsEntry → Lists
+lists-of xs = (map (λ x. x.lower) xs, map (λ x. x.upper) xs, map (λ x. x.choice) xs)
+
+pub back : (ls us : List (Option ℚ)) (cs : List ℕ) → length us ≡ length ls → length cs ≡ length ls → lists-of (entries_of ls us cs) ≡ (ls, us, cs)
+back [] [] [] h k = refl
 back (l ∷ ls) (u ∷ us) (c ∷ cs) h k =
-    let p = back ls us cs (omega (arith, h)) (omega (arith, k)) in
-    record {
-      count = ap suc p.count;
-      lower = ap (λ (xs : List (Option ℚ)). l ∷ xs) p.lower;
-      upper = ap (λ (xs : List (Option ℚ)). u ∷ xs) p.upper;
-      choices = ap (λ (xs : List ℕ). c ∷ xs) p.choices;
-    }
+    ap (λ (t : Lists). let r : Lists = (l ∷ t.0, u ∷ t.1, c ∷ t.2) in r) (back ls us cs (omega (arith, h)) (omega (arith, k)))
 back ls us cs h k = absurd (omega (arith, h, k))
+
+pub count : (ls us : List (Option ℚ)) (cs : List ℕ) → length us ≡ length ls → length cs ≡ length ls → length (entries_of ls us cs) ≡ length ls
+count ls us cs h k = sym (length-map (entries_of ls us cs) (λ (x : BoundsEntry). x.lower)) ∙ ap (λ (t : Lists). length t.0) (back ls us cs h k)
 
 entries-of : (xs : List BoundsEntry) → entries_of (map (λ x. x.lower) xs) (map (λ x. x.upper) xs) (map (λ x. x.choice) xs) ≡ xs
 entries-of [] = refl
 entries-of (x ∷ xs) = ap (λ (ys : List BoundsEntry). x ∷ ys) (entries-of xs)
 
 -- ---- in width
-
-lower-width : (xs : List BoundsEntry) → Each IsEntryInWidth xs → Each IsValueNarrow (map (λ x. x.lower) xs)
-lower-width [] h = tt
-lower-width (x ∷ xs) h = (h.0.lower, lower-width xs h.1)
-
-upper-width : (xs : List BoundsEntry) → Each IsEntryInWidth xs → Each IsValueNarrow (map (λ x. x.upper) xs)
-upper-width [] h = tt
-upper-width (x ∷ xs) h = (h.0.upper, upper-width xs h.1)
-
-choices-width : (xs : List BoundsEntry) → Each IsEntryInWidth xs → Each (λ c. c < 2 ^ 32) (map (λ x. x.choice) xs)
-choices-width [] h = tt
-choices-width (x ∷ xs) h = (h.0.choice, choices-width xs h.1)
 
 entries-width : (ls us : List (Option ℚ)) (cs : List ℕ) → Each IsValueNarrow ls → Each IsValueNarrow us → Each (λ c. c < 2 ^ 32) cs → Each IsEntryInWidth (entries_of ls us cs)
 entries-width (l ∷ ls) (u ∷ us) (c ∷ cs) p q o = (record { lower = p.0; upper = q.0; choice = o.0 }, entries-width ls us cs p.1 q.1 o.1)
@@ -97,9 +82,9 @@ entries-found states limit p xs q e =
       lower = length-map xs (λ x. x.lower) ∙ f.count;
       upper = length-map xs (λ x. x.upper) ∙ f.count;
       choices = length-map xs (λ x. x.choice) ∙ f.count;
-      lower_width = each-all IsValueNarrow _ (lower-width xs f.width);
-      upper_width = each-all IsValueNarrow _ (upper-width xs f.width);
-      choices_width = each-all (λ c. c < 2 ^ 32) _ (choices-width xs f.width);
+      lower_width = all-of IsEntryInWidth IsValueNarrow (λ x. x.lower) (λ x h. h.lower) xs f.width;
+      upper_width = all-of IsEntryInWidth IsValueNarrow (λ x. x.upper) (λ x h. h.upper) xs f.width;
+      choices_width = all-of IsEntryInWidth (λ c. c < 2 ^ 32) (λ x. x.choice) (λ x h. h.choice) xs f.width;
     }
 
 pub entries-again : (ls us : List (Option ℚ)) (cs : List ℕ) (n : ℕ) (rest : List ℕ) → length ls ≤ 2 ^ 20 → length us ≡ length ls → length cs ≡ length ls
@@ -107,6 +92,6 @@ pub entries-again : (ls us : List (Option ℚ)) (cs : List ℕ) (n : ℕ) (rest 
     → (m : ℕ) × (entries_to_end Two between_columns (length ls) (place n (closed_lines Two between_columns (entries_of ls us cs) ++ rest)) ≡ Ok (entries_of ls us cs, place m rest))
 entries-again ls us cs n rest limit above each low high choices =
     let r =
-    closed-again between_columns IsEntryInWidth between-is_columns (length ls) limit Two n (entries_of ls us cs) rest (Back.count (back ls us cs above each))
+    closed-again between_columns IsEntryInWidth between-is_columns (length ls) limit Two n (entries_of ls us cs) rest (count ls us cs above each)
     (entries-width ls us cs (all-each IsValueNarrow ls low) (all-each IsValueNarrow us high) (all-each (λ c. c < 2 ^ 32) cs choices)) in
     (r.0, r.1)

@@ -8,10 +8,9 @@ use Rattle.mdp_text.specs.declared.error.CertKind.TheVariants as kind
 use Rattle.mdp_text.specs.declared.error.Refusal.{Refusal}
 use Rattle.mdp_text.specs.Lines.{◌>>=◌, refuse_if, or_refused, is_line, Place, place, next_line, line_by, nothing_behind}
 use Rattle.mdp_text.specs.Words.{first_of, words_behind, whole_at, reward_parse, behind}
-use Rattle.mdp_text.specs.Heads.{states_at}
 use Rattle.mdp_cert.specs.declared.version.Version.TheVariants.{Two}
 use Rattle.mdp_cert.specs.Reading.{entries_to_end}
-use Rattle.mdp_discount_text.specs.Text.{Claim, claim_at, remainder_at}
+use Rattle.mdp_discount_text.specs.Text.{DiscountHead, head_with}
 use Rattle.mdp_discount_bounds.specs.Cert.{Certificate}
 use Rattle.mdp_discount_bounds.specs.declared.init.InitialBounds.{InitialBounds}
 use Rattle.mdp_discount_bounds_text.specs.declared.entry.BoundsEntry.{BoundsEntry}
@@ -41,28 +40,20 @@ init_at states n text = if bytes_eq text (codes "init -") then Ok None else betw
 
 -- ---- the lines before those of the states
 
-pub record Head : Type 0 where
-  pub claim : Claim
-  pub states : ℕ
-  pub init : Option InitialBounds
-  pub remainder : ℚ
+abbrev pub BoundsHead : Type 0
+BoundsHead = DiscountHead (Option InitialBounds)
 
-unfoldable pub head_from : Place → Result (Head × Place) Refusal
-head_from p = do
-  claim ← line_by claim_at p
-  states ← line_by states_at claim.1
-  init ← line_by (init_at states.0) states.1
-  remainder ← line_by remainder_at init.1
-  Ok (record { claim = claim.0; states = states.0; init = init.0; remainder = remainder.0 }, remainder.1)
+unfoldable pub head_from : Place → Result (BoundsHead × Place) Refusal
+head_from p = head_with init_at p
 
 -- ---- the whole
 
-abbrev pub certificate_of : Head → List BoundsEntry → Certificate
+abbrev pub certificate_of : BoundsHead → List BoundsEntry → Certificate
 certificate_of head xs = record {
-  dir = head.claim.dir;
-  name = head.claim.name;
-  factor = head.claim.factor;
-  init = head.init;
+  dir = head.front.claim.dir;
+  name = head.front.claim.name;
+  factor = head.front.claim.factor;
+  init = head.front.init;
   remainder = head.remainder;
   lower = map (λ x. x.lower) xs;
   upper = map (λ x. x.upper) xs;
@@ -74,7 +65,7 @@ unfoldable pub outcome : List ℕ → Result Certificate Refusal
 outcome bytes = do
   version ← line_by (is_line kind.Version version_text) (place 1 bytes)
   head ← head_from version.1
-  xs ← entries_to_end Two between_columns head.0.states head.1
+  xs ← entries_to_end Two between_columns head.0.front.states head.1
   nothing ← nothing_behind xs.1
   Ok (certificate_of head.0 xs.0)
 

@@ -2,15 +2,15 @@ ghost use Rattle.std.specs.Prelude.{◌≡◌, Ok, MatchResult};
 ghost use Rattle.mdp_text.specs.Answer.{Refuses};
 ghost use Rattle.mdp_text.specs.Lines.{place};
 ghost use Rattle.mdp_discount_bounds_text.specs.Code.{plain_head};
-ghost use Rattle.mdp_discount_bounds_text.specs.Reading.{lower_at, upper_at, between_at, init_at, head_from, begins_so, is_discount_claim};
+ghost use Rattle.mdp_discount_bounds_text.specs.Reading.{between_at, init_at, head_from, begins_so, is_discount_claim};
 
 use crate::lower::lower_of;
 use mdp_discount_bounds::InitialBounds;
 use mdp_discount_text::{ClaimLine, claim_at, remainder_at};
 use mdp_num::Frac;
 use mdp_text::{
-    CertError, CertKind, Refusal, cut_word, next_line, only_word, refuse_if, reward_of, states_at,
-    whole_at, words_behind,
+    CertError, CertKind, Refusal, cut_word, next_line, only_word, or_refused, refuse_if, reward_of,
+    states_at, whole_at, words_behind,
 };
 use std::alloc::Global;
 
@@ -41,26 +41,6 @@ pub fn is_discount_claim(bytes: &[u8]) -> bool
     }
 }
 
-/// The lower value that a word in this line spells, or `Number`.
-fn lower_at(line: u64, word: &[u8]) -> Result<Option<Frac>, Refusal>
-    ensures { result ≡ lower_at line word.now }
-{
-    lower_of(word).ok_or(Refusal {
-        kind: CertKind::Number,
-        line,
-    })
-}
-
-/// The upper value that a word in this line spells, or `Number`.
-fn upper_at(line: u64, word: &[u8]) -> Result<Option<Frac>, Refusal>
-    ensures { result ≡ upper_at line word.now }
-{
-    reward_of(word).ok_or(Refusal {
-        kind: CertKind::Number,
-        line,
-    })
-}
-
 /// The initial state, its lower and its upper value, of the line `init S LOWER UPPER`.
 #[tactic(auto, unfolding(crate::specs::Reading::between_at))]
 fn between_at(states: u32, line: u64, text: &[u8]) -> Result<Option<InitialBounds>, Refusal>
@@ -70,8 +50,8 @@ fn between_at(states: u32, line: u64, text: &[u8]) -> Result<Option<InitialBound
     let (word, behind) = cut_word(behind);
     let state = whole_at(line, word)?;
     let (word, behind) = cut_word(behind);
-    let lower = lower_at(line, word)?;
-    let upper = upper_at(line, only_word(behind))?;
+    let lower = or_refused(CertKind::Number, line, lower_of(word))?;
+    let upper = or_refused(CertKind::Number, line, reward_of(only_word(behind)))?;
     refuse_if(CertKind::Count, line, state >= states)?;
     Ok(Some(InitialBounds {
         state,

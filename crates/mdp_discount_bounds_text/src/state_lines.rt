@@ -3,7 +3,7 @@ ghost use Rattle.mdp_discount_bounds_text.specs.Entries.{between_columns, entrie
 
 use crate::entry::BoundsEntry;
 use crate::lower::{lower_of, push_lower};
-use mdp_cert::{Entry, Lists, Value};
+use mdp_cert::{Entry, Lists, Value, push_value};
 use mdp_discount_bounds::DiscountBounds;
 use mdp_num::{Frac, Memory};
 use mdp_text::{cut_word, only_word, push_word, reward_of, whole_of};
@@ -29,8 +29,7 @@ impl Entry for BoundsEntry {
 
     fn push_words(&self, out: &mut Vec<u8>) -> Result<(), Memory> {
         push_lower(out, &self.lower)?;
-        out.extend_from_slice(b" ")?;
-        self.upper.push_word(out)?;
+        push_value(out, &self.upper)?;
         push_word(out, u64::from(self.choice))
     }
 

@@ -2,7 +2,6 @@ ghost use Rattle.std.specs.Prelude.{◌≡◌, ◌++◌, ◌∷◌, Some, OnOk, 
 ghost use Rattle.mdp_text.specs.Answer.{Keeps};
 ghost use Rattle.mdp_text.specs.Spelling.{line};
 ghost use Rattle.mdp_cert.specs.declared.version.Version.TheVariants.{Two};
-ghost use Rattle.mdp_cert.specs.Claims.{reward_text};
 ghost use Rattle.mdp_cert.specs.Spelling.{closed_lines};
 ghost use Rattle.mdp_discount_bounds.specs.Plain.{plain};
 ghost use Rattle.mdp_discount_bounds_text.specs.Entries.{lower_text, between_columns, entries_of};
@@ -10,11 +9,11 @@ ghost use Rattle.mdp_discount_bounds_text.specs.Spelling.{version_text, init_tex
 
 use crate::lower::push_lower;
 use crate::state_lines::LentBounds;
-use mdp_cert::{Value, Version, push_to_end};
+use mdp_cert::{Version, push_to_end, push_value};
 use mdp_discount_bounds::{DiscountBoundsCert, InitialBounds};
 use mdp_discount_text::{push_claim, push_remainder};
 use mdp_num::{Frac, Memory};
-use mdp_text::{push_number, push_whole};
+use mdp_text::{or_cut_back, push_number, push_start};
 
 /// Appends the line of the version.
 fn push_version(out: &mut Vec<u8>) -> Result<(), Memory>
@@ -34,24 +33,14 @@ fn push_lower_word(out: &mut Vec<u8>, value: &Option<Frac>) -> Result<(), Memory
     push_lower(out, value)
 }
 
-/// Appends a blank and an upper value.
-fn push_upper_word(out: &mut Vec<u8>, value: &Option<Frac>) -> Result<(), Memory>
-    ensures text { OnOk result (out.new.items ≡ out.old.items ++ (32 ∷ reward_text value.now)) }
-    ensures front { Keeps out.old.items out.new.items }
-{
-    out.extend_from_slice(b" ")?;
-    value.push_word(out)
-}
-
 /// Appends the line of a given initial state with its lower and its upper value.
 fn push_between(out: &mut Vec<u8>, init: &InitialBounds) -> Result<(), Memory>
     ensures text { OnOk result (out.new.items ≡ out.old.items ++ line (init_text (Some init.now))) }
     ensures front { Keeps out.old.items out.new.items }
 {
-    out.extend_from_slice(b"init ")?;
-    push_whole(out, u64::from(init.state))?;
+    push_start(out, init.state)?;
     push_lower_word(out, &init.lower)?;
-    push_upper_word(out, &init.upper)?;
+    push_value(out, &init.upper)?;
     out.extend_from_slice(b"\n")?;
     Ok(())
 }
@@ -110,8 +99,5 @@ pub fn write_discount_bounds(cert: &DiscountBoundsCert, out: &mut Vec<u8>) -> Re
 {
     let start = out.len();
     let answer = push_lines(out, cert);
-    if answer.is_err() {
-        out.truncate(start);
-    }
-    answer
+    or_cut_back(out, start, answer)
 }

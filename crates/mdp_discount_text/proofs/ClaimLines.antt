@@ -1,12 +1,8 @@
 -- The line of the claim is read exactly where it is the text of what is read.
-use Rattle.std.proofs.Common.{◌≡◌, ◌⊎◌, inl, inr, ℕ, Bool, true, false, cond, List, [], ◌∷◌, ◌++◌, length, take, drop, Option, Some, None, Ok, refl, sym, ap}
-use Rattle.std.proofs.Common.{ap₂, subst, ◌∙◌, append_assoc, arith}
+use Rattle.std.proofs.Common.{◌≡◌, ◌⊎◌, inl, inr, ℕ, Bool, true, false, cond, List, [], ◌∷◌, ◌++◌, Option, Some, None, Ok, refl, sym, ap}
+use Rattle.std.proofs.Common.{subst, ◌∙◌, append_assoc, arith}
 use Rattle.std.specs.Prelude.{codes}
-use Rattle.std.specs.List.{position_or_len, before_first}
 use Rattle.std.specs.Option.{option_and_then, option_map, option_or}
-use Rattle.std.specs.Str.{bytes_eq}
-use Rattle.std.proofs.lemmas.List.{take-append-drop}
-use Rattle.std.proofs.Math.Seq.{take-append_seam, drop-append_seam}
 use Rattle.mdp_math.specs.Rational.{ℚ}
 use Rattle.mdp_num.specs.Canonical.{canonical_of}
 use Rattle.mdp_num.specs.Value.{spelling, IsNarrow}
@@ -15,26 +11,12 @@ use Rattle.mdp_rows.specs.declared.dir.Dir.{Dir}
 use Rattle.mdp_rows.specs.declared.dir.Dir.TheVariants.{Max, Min}
 use Rattle.mdp_text.specs.declared.error.CertKind.TheVariants as kind
 use Rattle.mdp_text.specs.Lines.{or_refused}
-use Rattle.mdp_text.specs.Words.{frac_at, behind, is_quote}
-use Rattle.mdp_text.proofs.Pieces.{Free, free-append, free-name, quote-free-name, free-spelling}
-use Rattle.mdp_text.proofs.Cuts.{bytes_same, bytes_self}
-use Rattle.mdp_text.proofs.Feeds.{found_ok, byte-after, frac-found, frac-again}
+use Rattle.mdp_text.specs.Words.{frac_at, behind, name_and_rest}
+use Rattle.mdp_text.proofs.Pieces.{Free, free-append, free-name, free-spelling}
+use Rattle.mdp_text.proofs.Feeds.{found_ok, or-found, frac-found, frac-again}
+use Rattle.mdp_text.proofs.Behind.{behind-found, behind-again, rest-found, rest-again}
 use Rattle.mdp_discount_text.specs.Spelling.{claim_text}
-use Rattle.mdp_discount_text.specs.Text.{Claim, is_factor, factor_of, name_and_rest, claim_with, claim_front, claim_to, claim_of, claim_at}
-
--- ---- fronts
-
-behind-found : (front text rest : List ℕ) → behind front text ≡ Some rest → text ≡ front ++ rest
-behind-found front text rest e = by (bytes_eq (take (length front) text) front) refl e
-  where
-    by : (b : Bool) → bytes_eq (take (length front) text) front ≡ b → cond b (Some (drop (length front) text)) None ≡ Some rest → text ≡ front ++ rest
-    by true t e =
-        let back : drop (length front) text ≡ rest = cc in
-        sym (take-append-drop (length front) text) ∙ ap₂ (λ (xs ys : List ℕ). xs ++ ys) (bytes_same _ front t) back
-    by false t e = absurd cc
-
-behind-again : (front rest : List ℕ) → behind front (front ++ rest) ≡ Some rest
-behind-again front rest = rw (take-append_seam front rest, drop-append_seam front rest, bytes_self front) refl
+use Rattle.mdp_discount_text.specs.Text.{Claim, is_factor, factor_of, claim_with, claim_front, claim_to, claim_of, claim_at}
 
 -- ---- a factor
 
@@ -68,26 +50,6 @@ factor-found word f e = by (canonical_of word) refl e
 factor-again : (f : ℚ) → IsNarrow f → is_factor f ≡ true → factor_of (spelling f) ≡ Some f
 factor-again f narrow t =
     ap (option_and_then (λ x. cond (is_factor x) (Some x) None)) (spells f narrow) ∙ ap (λ (b : Bool). cond b (Some f) None) t
-
--- ---- a name, and what stands behind it
-
-rest-found : (text : List ℕ) (p : List ℕ × List ℕ) → name_and_rest text ≡ Some p → (text ≡ p.0 ++ (34 ∷ 32 ∷ p.1)) × (is_name p.0 ≡ true)
-rest-found text p e = by (is_name (before_first is_quote text)) refl (behind (codes "\" ") (drop (position_or_len is_quote text) text)) refl e
-  where
-    by : (b : Bool) → is_name (before_first is_quote text) ≡ b → (o : Option (List ℕ)) → behind (codes "\" ") (drop (position_or_len is_quote text) text) ≡ o
-        → cond b (option_map (λ rest. (before_first is_quote text, rest)) o) None ≡ Some p → (text ≡ p.0 ++ (34 ∷ 32 ∷ p.1)) × (is_name p.0 ≡ true)
-    by false t o f e = absurd cc
-    by true t None f e = absurd cc
-    by true t (Some rest) f e =
-        let is : (let q : List ℕ × List ℕ = (before_first is_quote text, rest) in q) ≡ p = cc in
-        let g = behind-found (codes "\" ") (drop (position_or_len is_quote text) text) rest f in
-        subst (λ (q : List ℕ × List ℕ). (text ≡ q.0 ++ (34 ∷ 32 ∷ q.1)) × (is_name q.0 ≡ true)) is
-        (sym (take-append-drop (position_or_len is_quote text) text) ∙ ap (λ (ys : List ℕ). before_first is_quote text ++ ys) g, t)
-
-rest-again : (name rest : List ℕ) → is_name name ≡ true → name_and_rest (name ++ (34 ∷ 32 ∷ rest)) ≡ Some (name, rest)
-rest-again name rest h =
-    let at : position_or_len is_quote (name ++ (34 ∷ 32 ∷ rest)) ≡ length name = byte-after 34 name (32 ∷ rest) (quote-free-name name h) in
-    rw (at, take-append_seam name (34 ∷ 32 ∷ rest), drop-append_seam name (34 ∷ 32 ∷ rest), h) refl
 
 -- ---- the claim
 
@@ -134,10 +96,6 @@ to-again c named narrow factor =
     ∙ ap (λ (o : Option (List ℕ)). option_and_then (claim_with c.dir) (option_and_then name_and_rest o)) (behind-again (claim_front c.dir) (c.name ++ (34 ∷ 32 ∷ spelling c.factor)))
     ∙ ap (option_and_then (claim_with c.dir)) (rest-again c.name (spelling c.factor) named)
     ∙ ap (option_map (λ f. record { dir = c.dir; name = c.name; factor = f })) (factor-again c.factor narrow factor)
-
-or-found : {A : Type 0} (a b : Option A) (x : A) → option_or a b ≡ Some x → (a ≡ Some x) ⊎ (b ≡ Some x)
-or-found None b x e = inr e
-or-found (Some y) b x e = inl e
 
 pub claim-found : (n : ℕ) (text : List ℕ) (c : Claim) → claim_at n text ≡ Ok c → IsClaimLine text c
 unfolding claim_at claim_of

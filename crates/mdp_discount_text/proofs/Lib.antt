@@ -1,5 +1,6 @@
 pub mod Factors
 pub mod ClaimLines
 pub mod Reading
+pub mod FourLines
 pub mod Outcomes
 mod Examples

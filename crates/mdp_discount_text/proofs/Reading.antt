@@ -18,6 +18,7 @@ use Rattle.mdp_text.proofs.Pieces.{Free, free-spelling}
 use Rattle.mdp_text.proofs.Cuts.{number-same, same-number}
 use Rattle.mdp_text.proofs.Feeds.{bind_ok, ok-is, refuse_ok, judged-found, judged-again, whole-found, whole-again, frac-found, frac-again}
 use Rattle.mdp_text.proofs.Joined.{free-join, free-whole, behind-again, behind-text}
+use Rattle.mdp_text.proofs.States.{three-words}
 use Rattle.mdp_discount_text.specs.Spelling.{state_text, state_lines}
 use Rattle.mdp_discount_text.specs.Text.{Columns, state_at, before_others, states_from}
 use Rattle.mdp_discount_text.specs.declared.state_lines.StateLine.{StateLine}
@@ -67,13 +68,6 @@ last-state vs cs states s p e =
     rw none (ap₂ (λ (v : List ℚ) (c : List ℕ). let q : Result (Columns × Place) Refusal = Ok (record { values = v; choices = c }, p) in q) (append-nil vs) (append-nil cs))
 
 -- ---- the line of a state
-
-three-words : (ws : List (List ℕ)) → length ws ≡ 3 → ws ≡ first_of ws ∷ first_of (drop 1 ws) ∷ first_of (drop 1 (drop 1 ws)) ∷ []
-three-words [] e = absurd (omega arith)
-three-words (w ∷ []) e = absurd (omega arith)
-three-words (w ∷ v ∷ []) e = absurd (omega arith)
-three-words (w ∷ v ∷ u ∷ []) e = refl
-three-words (w ∷ v ∷ u ∷ t ∷ ws) e = absurd (omega arith)
 
 abbrev in-order : ℕ → ℕ → ℕ → ℚ → ℕ → Result StateLine Refusal
 in-order due n state value choice = refuse_if Count n (not (eqb state due)) >>= λ order. Ok (record { value = value; choice = choice })

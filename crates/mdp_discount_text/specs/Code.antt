@@ -1,5 +1,6 @@
 -- What the code has read, as the definitions see it.
-use Rattle.mdp_discount_text.specs.Text.{Claim}
+use Rattle.mdp_text.specs.declared.init.Init.{Init}
+use Rattle.mdp_discount_text.specs.Text.{Claim, DiscountHead}
 use Rattle.mdp_discount_text.specs.Text as read
 use Rattle.mdp_discount_text.specs.declared.claim_line.ClaimLine.{ClaimLine}
 use Rattle.mdp_discount_text.specs.declared.head_lines.Head.{Head}
@@ -8,8 +9,8 @@ use Rattle.mdp_discount_text.specs.declared.state_lines.Columns.{Columns}
 abbrev pub plain_claim : ClaimLine → Claim
 plain_claim c = record { dir = c.dir; name = c.name.items; factor = c.factor }
 
-abbrev pub plain_head : Head → read.Head
-plain_head h = record { claim = plain_claim h.claim; states = h.states; init = h.init; remainder = h.remainder }
+abbrev pub plain_head : Head → DiscountHead Init
+plain_head h = record { front = record { claim = plain_claim h.claim; states = h.states; init = h.init }; remainder = h.remainder }
 
 abbrev pub plain_columns : Columns → read.Columns
 plain_columns c = record { values = c.values.items; choices = c.choices.items }

@@ -1,19 +1,17 @@
 -- Reading the text of a certificate of the discounted reward line by line: the certificate, or the first line that breaks a rule. Each line is judged
 -- by its shape first, then by its numbers from left to right, then by what they count.
 use Rattle.std.specs.Prelude.{ℕ, zero, suc, ◌&&◌, not, Bool, false, List, [], ◌∷◌, drop, codes, Option, Some, None, option_and_then, option_map, Result, Ok, ◌==◌, if◌then◌else◌, pos}
-use Rattle.std.specs.List.{before_first, position_or_len}
 use Rattle.std.specs.Option.{option_or}
 use Rattle.mdp_math.specs.Rational.{ℚ, of_int, le_ℚ, lt_ℚ}
 use Rattle.mdp_num.specs.Canonical.{canonical_of}
-use Rattle.mdp_rows.specs.Name.{is_name}
 use Rattle.mdp_rows.specs.declared.dir.Dir.{Dir}
 use Rattle.mdp_rows.specs.declared.dir.Dir.TheVariants.{Max, Min}
 use Rattle.mdp_text.specs.declared.error.CertKind.TheVariants as kind
 use Rattle.mdp_text.specs.declared.error.Refusal.{Refusal}
 use Rattle.mdp_text.specs.declared.init.Init.{Init}
 use Rattle.mdp_text.specs.Lines.{◌>>=◌, refuse_if, or_refused, is_line, Place, place, line_by, nothing_behind}
-use Rattle.mdp_text.specs.Words.{first_of, words_behind, whole_at, frac_at, behind, is_quote}
-use Rattle.mdp_text.specs.Heads.{states_at, valued_at}
+use Rattle.mdp_text.specs.Words.{first_of, words_behind, whole_at, frac_at, behind, name_and_rest}
+use Rattle.mdp_text.specs.Heads.{valued_at, Head, head_by}
 use Rattle.mdp_text.specs.Spelling.{end_text}
 use Rattle.mdp_discount_text.specs.Spelling.{version_text}
 use Rattle.mdp_discount_rules.specs.Cert.{Certificate}
@@ -32,13 +30,6 @@ is_factor f = le_ℚ (of_int (pos 0)) f && lt_ℚ f (of_int (pos 1))
 
 abbrev pub factor_of : List ℕ → Option ℚ
 factor_of word = option_and_then (λ f. if is_factor f then Some f else None) (canonical_of word)
-
--- a name up to the first `"`, and what stands behind `" `
-abbrev pub name_and_rest : List ℕ → Option (List ℕ × List ℕ)
-name_and_rest text =
-    if is_name (before_first is_quote text)
-    then option_map (λ rest. (before_first is_quote text, rest)) (behind (codes "\" ") (drop (position_or_len is_quote text) text))
-    else None
 
 abbrev pub claim_with : Dir → List ℕ × List ℕ → Option Claim
 claim_with dir p = option_map (λ f. record { dir = dir; name = p.0; factor = f }) (factor_of p.1)
@@ -68,19 +59,20 @@ init_at states n text = valued_at false states n text
 unfoldable pub remainder_at : ℕ → List ℕ → Result ℚ Refusal
 remainder_at n text = words_behind (codes "remainder") 1 n text >>= λ behind. frac_at n (first_of behind)
 
-pub record Head : Type 0 where
-  pub claim : Claim
-  pub states : ℕ
-  pub init : Init
+-- what the lines before those of the states say, whatever the line `init` says
+pub record DiscountHead (I : Type 0) : Type 0 where
+  pub front : Head Claim I
   pub remainder : ℚ
 
-unfoldable pub head_from : Place → Result (Head × Place) Refusal
-head_from p = do
-  claim ← line_by claim_at p
-  states ← line_by states_at claim.1
-  init ← line_by (init_at states.0) states.1
-  remainder ← line_by remainder_at init.1
-  Ok (record { claim = claim.0; states = states.0; init = init.0; remainder = remainder.0 }, remainder.1)
+-- the lines of claim, states, init and remainder, where the line `init` is judged so
+abbrev pub head_with : {I : Type 0} → (ℕ → ℕ → List ℕ → Result I Refusal) → Place → Result (DiscountHead I × Place) Refusal
+head_with init_at p = do
+  front ← head_by claim_at (λ claim. init_at) p
+  remainder ← line_by remainder_at front.1
+  Ok (record { front = front.0; remainder = remainder.0 }, remainder.1)
+
+unfoldable pub head_from : Place → Result (DiscountHead Init × Place) Refusal
+head_from p = head_with init_at p
 
 -- ---- the lines of the states
 
@@ -108,12 +100,12 @@ states_from (suc left) due p = line_by (state_at due) p >>= λ said. before_othe
 
 -- ---- the whole
 
-abbrev pub certificate_of : Head → Columns → Certificate
+abbrev pub certificate_of : DiscountHead Init → Columns → Certificate
 certificate_of head columns = record {
-  dir = head.claim.dir;
-  name = head.claim.name;
-  factor = head.claim.factor;
-  init = head.init;
+  dir = head.front.claim.dir;
+  name = head.front.claim.name;
+  factor = head.front.claim.factor;
+  init = head.front.init;
   remainder = head.remainder;
   values = columns.values;
   choices = columns.choices;
@@ -124,7 +116,7 @@ unfoldable pub outcome : List ℕ → Result Certificate Refusal
 outcome bytes = do
   version ← line_by (is_line kind.Version version_text) (place 1 bytes)
   head ← head_from version.1
-  columns ← states_from head.0.states 0 head.1
+  columns ← states_from head.0.front.states 0 head.1
   end ← line_by (is_line kind.Shape end_text) columns.1
   nothing ← nothing_behind end.1
   Ok (certificate_of head.0 columns.0)

@@ -1,13 +1,12 @@
 ghost use Rattle.std.specs.Prelude.{◌≡◌, Ok, Some, None, IfOk, MatchResult, MatchOption};
 ghost use Rattle.std.specs.Option.{option_map};
-ghost use Rattle.mdp_rows.specs.Name.{is_name};
 ghost use Rattle.mdp_text.specs.Answer.{Refuses};
-ghost use Rattle.mdp_discount_text.specs.Text.{is_factor, factor_of, name_and_rest, claim_front, claim_names, claim_to, claim_of, claim_at};
+ghost use Rattle.mdp_discount_text.specs.Text.{is_factor, factor_of, claim_front, claim_names, claim_to, claim_of, claim_at};
 ghost use Rattle.mdp_discount_text.specs.Code.{plain_claim};
 
 use mdp_num::{Frac, read_canonical};
 use mdp_rows::Dir;
-use mdp_text::{CertError, CertKind, before_quote, is_name};
+use mdp_text::{CertError, CertKind, name_and_rest};
 use std::alloc::{AllocError, Global};
 
 /// What the line of the claim says.
@@ -16,19 +15,6 @@ pub struct ClaimLine {
     pub dir: Dir,
     pub name: Vec<u8>,
     pub factor: Frac,
-}
-
-/// The name before the first quote, and what stands behind that quote and a blank.
-fn name_and_rest(text: &[u8]) -> Option<(&[u8], &[u8])>
-    ensures { MatchOption result (name_and_rest text.now ≡ None) (λ p. name_and_rest text.now ≡ Some (p.0.now, p.1.now)) }
-{
-    let end = before_quote(text);
-    let name = &text[..end];
-    if !is_name(name) {
-        return None;
-    }
-    let rest = text[end..].strip_prefix(b"\" ")?;
-    Some((name, rest))
 }
 
 /// Whether a fraction is a discount factor: at least 0 and below 1.

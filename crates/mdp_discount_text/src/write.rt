@@ -6,7 +6,7 @@ ghost use Rattle.mdp_discount_text.specs.Spelling.{head_text, text_of};
 use crate::push::{push_claim, push_remainder, push_states, push_version};
 use mdp_discount_rules::DiscountCert;
 use mdp_num::Memory;
-use mdp_text::{push_end, push_init, push_number};
+use mdp_text::{or_cut_back, push_end, push_init, push_number};
 
 /// Appends the lines before those of the states.
 fn push_head(out: &mut Vec<u8>, cert: &DiscountCert) -> Result<(), Memory>
@@ -39,8 +39,5 @@ pub fn write_discount(cert: &DiscountCert, out: &mut Vec<u8>) -> Result<(), Memo
 {
     let start = out.len();
     let answer = push_lines(out, cert);
-    if answer.is_err() {
-        out.truncate(start);
-    }
-    answer
+    or_cut_back(out, start, answer)
 }

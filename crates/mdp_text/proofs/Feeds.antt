@@ -1,10 +1,10 @@
 -- Each line is read exactly where it is its text.
-use Rattle.std.proofs.Common.{◌≡◌, ℕ, ◌+◌, ◌<◌, ◌^◌, Bool, true, false, not, cond, eqb, ltb, ◌||◌, List, [], ◌∷◌, ◌++◌, length, take, drop}
+use Rattle.std.proofs.Common.{◌≡◌, ◌⊎◌, inl, inr, ℕ, ◌+◌, ◌<◌, ◌^◌, Bool, true, false, not, cond, eqb, ltb, ◌||◌, List, [], ◌∷◌, ◌++◌, length, take, drop}
 use Rattle.std.proofs.Common.{get_or, decimal, Option, Some, None, Result, Ok, Err, refl, sym, ap, subst, ◌∙◌, append_assoc, arith, lit<, ℤ, pos, negsuc, unsigned_abs}
 use Rattle.std.specs.List.{position_or_len, before_first, after_first}
-use Rattle.std.specs.Option.{option_and_then}
+use Rattle.std.specs.Option.{option_and_then, option_or}
 use Rattle.std.specs.Str.{bytes_eq}
-use Rattle.std.proofs.lemmas.Bool.{not-false}
+use Rattle.std.proofs.lemmas.Bool.{not-false, both_ways, lt-ltb}
 use Rattle.std.proofs.lemmas.Bool.Decides.{nat_tests}
 use Rattle.std.proofs.lemmas.List.{length-append, get_or-take}
 use Rattle.std.proofs.lemmas.List.Folds.{list_any_none, length-prefix_len}
@@ -19,7 +19,7 @@ use Rattle.mdp_num.proofs.Spellings.{sound, complete}
 use Rattle.mdp_text.specs.declared.error.CertKind.{CertKind}
 use Rattle.mdp_text.specs.declared.error.CertKind.TheVariants.{Number, End}
 use Rattle.mdp_text.specs.declared.error.Refusal.{Refusal}
-use Rattle.mdp_text.specs.Lines.{◌>>=◌, refuse_if, or_refused, Place, place, next_line, line_by, is_line, is_line_feed}
+use Rattle.mdp_text.specs.Lines.{◌>>=◌, refuse_if, or_refused, Place, place, next_line, line_by, is_line, is_line_feed, nothing_behind}
 use Rattle.mdp_text.specs.Spelling.{line}
 use Rattle.mdp_text.specs.Words.{whole_part, whole_of, whole_at, frac_at}
 use Rattle.mdp_text.proofs.Cuts.{guard_ok, bytes_same, bytes_self}
@@ -39,6 +39,10 @@ refuse_ok false kind n u e = refl
 pub found_ok : {A : Type 0} (o : Option A) (kind : CertKind) (n : ℕ) (x : A) → or_refused kind n o ≡ Ok x → o ≡ Some x
 found_ok None kind n x e = absurd cc
 found_ok (Some y) kind n x e = cc
+
+pub or-found : {A : Type 0} (a b : Option A) (x : A) → option_or a b ≡ Some x → (a ≡ Some x) ⊎ (b ≡ Some x)
+or-found None b x e = inr e
+or-found (Some y) b x e = inl e
 
 -- ---- a line and its line feed
 
@@ -134,6 +138,16 @@ due-line kind n text due u e = bytes_same text due (not-false _ (refuse_ok (not 
 
 pub due-again : (kind : CertKind) (n : ℕ) (due : List ℕ) → is_line kind due n due ≡ Ok tt
 due-again kind n due = rw (bytes_self due) refl
+
+-- ---- the end
+
+none-is : (xs : List ℕ) → ltb 0 (length xs) ≡ false → xs ≡ []
+none-is [] h = refl
+none-is (x ∷ xs) h = absurd (both_ways _ h (lt-ltb 0 (length (x ∷ xs)) (omega arith)))
+
+pub nothing-found : (p : Place) (u : Unit {0}) → nothing_behind p ≡ Ok u → p.rest ≡ []
+unfolding nothing_behind
+nothing-found p u e = none-is p.rest (refuse_ok _ End p.line u e)
 
 -- ---- numbers
 

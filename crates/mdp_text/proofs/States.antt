@@ -1,16 +1,18 @@
--- The line of the number of states is read exactly where it is its text.
-use Rattle.std.proofs.Common.{◌≡◌, ℕ, ◌<◌, ◌≤◌, ◌^◌, false, eqb, ltb, ◌||◌, List, [], ◌∷◌, length, decimal, Result, Ok, refl, ap, ◌∙◌, arith}
+-- The line of the number of states, and one of a word and a fraction, are read exactly where they are their texts. So many words, one by one.
+use Rattle.std.proofs.Common.{◌≡◌, ℕ, ◌<◌, ◌≤◌, ◌^◌, false, eqb, ltb, ◌||◌, List, [], ◌∷◌, length, drop, decimal, Result, Ok, refl, ap, ◌∙◌, arith}
 use Rattle.std.specs.Prelude.{codes}
 use Rattle.std.specs.List.{join_with_byte}
 use Rattle.std.proofs.lemmas.Bool.Decides.{nat_tests}
+use Rattle.mdp_math.specs.Rational.{ℚ}
+use Rattle.mdp_num.specs.Value.{spelling, IsNarrow}
 use Rattle.mdp_text.specs.declared.error.CertKind.TheVariants.{Count}
 use Rattle.mdp_text.specs.declared.error.Refusal.{Refusal}
 use Rattle.mdp_text.specs.Lines.{◌>>=◌, refuse_if}
-use Rattle.mdp_text.specs.Words.{first_of, words_behind, whole_at}
+use Rattle.mdp_text.specs.Words.{first_of, words_behind, whole_at, frac_at}
 use Rattle.mdp_text.specs.Heads.{states_at}
 use Rattle.mdp_text.specs.Spelling.{◌␣◌, states_text}
-use Rattle.mdp_text.proofs.Pieces.{Free}
-use Rattle.mdp_text.proofs.Feeds.{bind_ok, ok-is, refuse_ok, whole-found, whole-again}
+use Rattle.mdp_text.proofs.Pieces.{Free, free-spelling}
+use Rattle.mdp_text.proofs.Feeds.{bind_ok, ok-is, refuse_ok, whole-found, whole-again, frac-found, frac-again}
 use Rattle.mdp_text.proofs.Joined.{free-join, free-whole, behind-again, behind-text}
 
 abbrev pub states-range : ℕ → ℕ → Result ℕ Refusal
@@ -23,6 +25,19 @@ pub one-word : (ws : List (List ℕ)) → length ws ≡ 1 → ws ≡ first_of ws
 one-word [] e = absurd (omega arith)
 one-word (w ∷ []) e = refl
 one-word (w ∷ v ∷ ws) e = absurd (omega arith)
+
+pub two-words : (ws : List (List ℕ)) → length ws ≡ 2 → ws ≡ first_of ws ∷ first_of (drop 1 ws) ∷ []
+two-words [] e = absurd (omega arith)
+two-words (w ∷ ws) e = ap (λ (us : List (List ℕ)). w ∷ us) (one-word ws (omega arith))
+
+pub three-words : (ws : List (List ℕ)) → length ws ≡ 3 → ws ≡ first_of ws ∷ first_of (drop 1 ws) ∷ first_of (drop 1 (drop 1 ws)) ∷ []
+three-words [] e = absurd (omega arith)
+three-words (w ∷ ws) e = ap (λ (us : List (List ℕ)). w ∷ us) (two-words ws (omega arith))
+
+pub four-words : (ws : List (List ℕ)) → length ws ≡ 4
+    → ws ≡ first_of ws ∷ first_of (drop 1 ws) ∷ first_of (drop 1 (drop 1 ws)) ∷ first_of (drop 1 (drop 1 (drop 1 ws))) ∷ []
+four-words [] e = absurd (omega arith)
+four-words (w ∷ ws) e = ap (λ (us : List (List ℕ)). w ∷ us) (three-words ws (omega arith))
 
 pub states-found : (n : ℕ) (text : List ℕ) (states : ℕ) → states_at n text ≡ Ok states → (text ≡ states_text states) × (0 < states) × (states ≤ 2 ^ 20)
 unfolding states_at
@@ -54,3 +69,21 @@ states-again n states some limit =
 
 pub free-states : (states : ℕ) → states ≤ 2 ^ 20 → Free 10 (states_text states)
 free-states states h = free-join 10 (codes "states" ∷ decimal states ∷ []) refl (refl, (free-whole 10 states (omega arith) (omega arith), tt))
+
+-- ---- a line of a word and a fraction
+
+pub fraction-found : (due : List ℕ) (n : ℕ) (text : List ℕ) (k : ℚ) → (words_behind due 1 n text >>= λ behind. frac_at n (first_of behind)) ≡ Ok k
+    → (text ≡ due ␣ spelling k) × IsNarrow k
+fraction-found due n text k e =
+    let one = bind_ok (words_behind due 1 n text) (λ behind. frac_at n (first_of behind)) k e in
+    let f = frac-found n (first_of one.0) k one.2 in
+    let t = behind-text due 1 n text one.0 one.1 in
+    (t.0 ∙ ap (λ (ws : List (List ℕ)). join_with_byte 32 (due ∷ ws)) (one-word one.0 t.1) ∙ ap (λ (w : List ℕ). due ␣ w) f.0, f.1)
+
+pub fraction-again : (due : List ℕ) (n : ℕ) (k : ℚ) → Free 32 due → IsNarrow k → (words_behind due 1 n (due ␣ spelling k) >>= λ behind. frac_at n (first_of behind)) ≡ Ok k
+fraction-again due n k free h =
+    let ws : words_behind due 1 n (due ␣ spelling k) ≡ Ok (spelling k ∷ []) = behind-again due 1 n (spelling k ∷ []) refl free (free-spelling 32 k (omega arith) h, tt) in
+    rw (ws, frac-again n k h) refl
+
+pub free-fraction : (due : List ℕ) (k : ℚ) → Free 10 due → IsNarrow k → Free 10 (due ␣ spelling k)
+free-fraction due k free h = free-join 10 (due ∷ spelling k ∷ []) refl (free, (free-spelling 10 k (omega arith) h, tt))

@@ -9,7 +9,7 @@ use Rattle.mdp_text.specs.declared.error.CertKind.TheVariants as kind
 use Rattle.mdp_text.specs.declared.error.Refusal.{Refusal}
 use Rattle.mdp_text.specs.declared.init.Init.{Init}
 use Rattle.mdp_text.specs.declared.init.Init.TheVariants.{Missing, Finite, Infinite, Start}
-use Rattle.mdp_text.specs.Lines.{◌>>=◌, refuse_if, or_refused}
+use Rattle.mdp_text.specs.Lines.{◌>>=◌, refuse_if, or_refused, Place, line_by}
 use Rattle.mdp_text.specs.Words.{first_of, words_behind, whole_at, reward_parse}
 
 -- from 1 to 2^20
@@ -48,6 +48,21 @@ start_at states n text = do
   state ← whole_at n (first_of behind)
   inside ← refuse_if kind.Count n (not (nat_lt state states))
   Ok (Start state)
+
+-- ---- the lines of claim, states and init
+
+pub record Head (C I : Type 0) : Type 0 where
+  pub claim : C
+  pub states : ℕ
+  pub init : I
+
+-- these three lines, where the lines of claim and init are judged so; the form of the line `init` may be the claim's
+abbrev pub head_by : {C I : Type 0} → (ℕ → List ℕ → Result C Refusal) → (C → ℕ → ℕ → List ℕ → Result I Refusal) → Place → Result (Head C I × Place) Refusal
+head_by claim_at init_at p = do
+  claim ← line_by claim_at p
+  states ← line_by states_at claim.1
+  init ← line_by (init_at claim.0 states.0) states.1
+  Ok (record { claim = claim.0; states = states.0; init = init.0 }, init.1)
 
 -- ---- what the line says of a model
 

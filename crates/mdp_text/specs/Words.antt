@@ -1,10 +1,11 @@
 -- The words of a line, what stands behind a front of a text, and the numbers that words are.
 use Rattle.std.specs.Prelude.{ℕ, suc, ◌^◌, ℤ, pos, negsuc, Bool, ◌&&◌, List, [], ◌∷◌, length, take}
 use Rattle.std.specs.Prelude.{drop, codes, Option, Some, None, option_and_then, option_map, Result, Ok, nat_lt, ◌==◌, if◌then◌else◌}
-use Rattle.std.specs.List.{slice_split}
+use Rattle.std.specs.List.{slice_split, position_or_len, before_first}
 use Rattle.std.specs.Str.{bytes_eq}
 use Rattle.mdp_math.specs.Rational.{ℚ}
 use Rattle.mdp_num.specs.Canonical.{canonical_of}
+use Rattle.mdp_rows.specs.Name.{is_name}
 use Rattle.mdp_text.specs.declared.error.CertKind.TheVariants as kind
 use Rattle.mdp_text.specs.declared.error.Refusal.{Refusal}
 use Rattle.mdp_text.specs.Lines.{refused, or_refused}
@@ -33,6 +34,13 @@ behind front text = if bytes_eq (take (length front) text) front then Some (drop
 
 abbrev pub is_quote : ℕ → Bool
 is_quote c = c == 34
+
+-- a name up to the first `"`, and what stands behind `" `
+abbrev pub name_and_rest : List ℕ → Option (List ℕ × List ℕ)
+name_and_rest text =
+    if is_name (before_first is_quote text)
+    then option_map (λ rest. (before_first is_quote text, rest)) (behind (codes "\" ") (drop (position_or_len is_quote text) text))
+    else None
 
 -- ---- numbers
 

@@ -3,7 +3,7 @@ ghost use Rattle.mdp_text.specs.Heads.{states_at, init_parse, init_of, given_at,
 
 use crate::error::{CertKind, Refusal};
 use crate::init::Init;
-use crate::lines::refuse_if;
+use crate::lines::{or_refused, refuse_if};
 use crate::numbers::{reward_of, whole_at};
 use crate::words::{cut_word, only_word, words_behind};
 use mdp_num::{Frac, read_canonical};
@@ -20,7 +20,7 @@ pub fn states_at(line: u64, text: &[u8]) -> Result<u32, Refusal>
 }
 
 /// The value that a word spells: a fraction, or `inf` where values may be infinite.
-fn init_parse(infinite: bool, word: &[u8]) -> Option<Option<Frac>>
+pub fn init_parse(infinite: bool, word: &[u8]) -> Option<Option<Frac>>
     ensures { result ≡ init_parse infinite word.now }
 {
     if infinite {
@@ -47,10 +47,11 @@ fn given_at(infinite: bool, states: u32, line: u64, text: &[u8]) -> Result<Init,
     let behind = words_behind(line, text, b"init", 2)?;
     let (word, behind) = cut_word(behind);
     let state = whole_at(line, word)?;
-    let value = init_parse(infinite, only_word(behind)).ok_or(Refusal {
-        kind: CertKind::Number,
+    let value = or_refused(
+        CertKind::Number,
         line,
-    })?;
+        init_parse(infinite, only_word(behind)),
+    )?;
     refuse_if(CertKind::Count, line, state >= states)?;
     Ok(init_of(state, value))
 }

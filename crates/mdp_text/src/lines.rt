@@ -1,6 +1,6 @@
 ghost use Rattle.std.specs.Prelude.{◌≡◌, ◌+◌, Ok, Err, MatchResult};
 ghost use Rattle.std.specs.List.{position_or_len};
-ghost use Rattle.mdp_text.specs.Lines.{is_line_feed, place, next_line, is_line, refuse_if, nothing_behind};
+ghost use Rattle.mdp_text.specs.Lines.{is_line_feed, place, next_line, is_line, refuse_if, or_refused, nothing_behind};
 
 use crate::error::{CertKind, Refusal};
 
@@ -34,6 +34,13 @@ pub fn refuse_if(kind: CertKind, line: u64, is_broken: bool) -> Result<(), Refus
         return Err(Refusal { kind, line });
     }
     Ok(())
+}
+
+/// What was found, or the refusal of this line by this rule.
+pub fn or_refused<T>(kind: CertKind, line: u64, found: Option<T>) -> Result<T, Refusal>
+    ensures { result ≡ or_refused kind line found }
+{
+    found.ok_or(Refusal { kind, line })
 }
 
 /// The line has the text that is due, or is refused by this rule.

@@ -1,7 +1,7 @@
-ghost use Rattle.std.specs.Prelude.{◌≡◌, ◌==◌, ◌||◌};
+ghost use Rattle.std.specs.Prelude.{◌≡◌, ◌==◌, ◌||◌, Some, None, MatchOption};
 ghost use Rattle.std.specs.List.{list_any, position_or_len};
 ghost use Rattle.mdp_rows.specs.Name.{is_name};
-ghost use Rattle.mdp_text.specs.Words.{is_quote};
+ghost use Rattle.mdp_text.specs.Words.{is_quote, name_and_rest};
 
 /// Whether a quote or a line feed is among the bytes.
 fn has_quote_or_line_feed(text: &[u8]) -> bool
@@ -25,4 +25,17 @@ pub fn before_quote(text: &[u8]) -> usize
     ensures { result ≡ position_or_len is_quote text.now }
 {
     text.iter().take_while(|byte| **byte != b'"').count()
+}
+
+/// The name before the first quote, and what stands behind that quote and a blank.
+pub fn name_and_rest(text: &[u8]) -> Option<(&[u8], &[u8])>
+    ensures { MatchOption result (name_and_rest text.now ≡ None) (λ p. name_and_rest text.now ≡ Some (p.0.now, p.1.now)) }
+{
+    let end = before_quote(text);
+    let name = &text[..end];
+    if !is_name(name) {
+        return None;
+    }
+    let rest = text[end..].strip_prefix(b"\" ")?;
+    Some((name, rest))
 }

@@ -1,6 +1,6 @@
 ghost use Rattle.std.specs.Prelude.{◌≡◌, ◌++◌, ◌∷◌, [], take, decimal, OnOk, OnErr};
 ghost use Rattle.mdp_num.specs.Value.{spelling};
-ghost use Rattle.mdp_text.specs.declared.init.Init.TheVariants.{Finite, Infinite, Start};
+ghost use Rattle.mdp_text.specs.declared.init.Init.TheVariants.{Start};
 ghost use Rattle.mdp_text.specs.Answer.{Keeps};
 ghost use Rattle.mdp_text.specs.Spelling.{line, states_text, init_text, value_text, value_lines, end_text};
 
@@ -9,7 +9,11 @@ use itoa::Buffer;
 use mdp_num::{Frac, Memory};
 
 /// Ends a call that appended parts. After `Memory` it cuts the text back to where it began.
-fn or_cut_back(out: &mut Vec<u8>, start: usize, answer: Result<(), Memory>) -> Result<(), Memory>
+pub fn or_cut_back(
+    out: &mut Vec<u8>,
+    start: usize,
+    answer: Result<(), Memory>,
+) -> Result<(), Memory>
     ensures same { result ≡ answer }
     ensures kept { OnOk answer (out.new.items ≡ out.old.items) }
     ensures cut { OnErr answer (out.new.items ≡ take start out.old.items) }
@@ -114,36 +118,13 @@ pub fn push_number(out: &mut Vec<u8>, states: u64) -> Result<(), Memory>
     or_cut_back(out, start, answer)
 }
 
-/// Appends the line of a given initial state and its value.
-fn push_finite(out: &mut Vec<u8>, state: u32, value: &Frac) -> Result<(), Memory>
-    ensures text { OnOk result (out.new.items ≡ out.old.items ++ line (init_text (Finite state value.now))) }
+/// Appends the word `init` and the initial state: a line's front, or all but the end of a line without a value. After `Memory` the text begins as before.
+pub fn push_start(out: &mut Vec<u8>, state: u32) -> Result<(), Memory>
+    ensures text { OnOk result (out.new.items ≡ out.old.items ++ init_text (Start state)) }
     ensures front { Keeps out.old.items out.new.items }
 {
-    out.extend_from_slice(b"init ")?;
-    push_whole(out, u64::from(state))?;
-    push_fraction_end(out, value)
-}
-
-/// Appends the line of a given initial state of infinite value.
-fn push_infinite(out: &mut Vec<u8>, state: u32) -> Result<(), Memory>
-    ensures text { OnOk result (out.new.items ≡ out.old.items ++ line (init_text (Infinite state))) }
-    ensures front { Keeps out.old.items out.new.items }
-{
-    out.extend_from_slice(b"init ")?;
-    push_whole(out, u64::from(state))?;
-    out.extend_from_slice(b" inf\n")?;
-    Ok(())
-}
-
-/// Appends the line of an initial state without a value.
-fn push_start(out: &mut Vec<u8>, state: u32) -> Result<(), Memory>
-    ensures text { OnOk result (out.new.items ≡ out.old.items ++ line (init_text (Start state))) }
-    ensures front { Keeps out.old.items out.new.items }
-{
-    out.extend_from_slice(b"init ")?;
-    push_whole(out, u64::from(state))?;
-    out.extend_from_slice(b"\n")?;
-    Ok(())
+    out.extend_from_slice(b"init")?;
+    push_word(out, u64::from(state))
 }
 
 /// Appends the line of the initial state, in parts.
@@ -152,14 +133,21 @@ fn append_init(out: &mut Vec<u8>, init: &Init) -> Result<(), Memory>
     ensures front { Keeps out.old.items out.new.items }
 {
     match init {
-        Init::Missing => {
-            out.extend_from_slice(b"init -\n")?;
-            Ok(())
+        Init::Missing => out.extend_from_slice(b"init -\n")?,
+        Init::Finite(state, value) => {
+            push_start(out, *state)?;
+            push_fraction_end(out, value)?;
         }
-        Init::Finite(state, value) => push_finite(out, *state, value),
-        Init::Infinite(state) => push_infinite(out, *state),
-        Init::Start(state) => push_start(out, *state),
+        Init::Infinite(state) => {
+            push_start(out, *state)?;
+            out.extend_from_slice(b" inf\n")?;
+        }
+        Init::Start(state) => {
+            push_start(out, *state)?;
+            out.extend_from_slice(b"\n")?;
+        }
     }
+    Ok(())
 }
 
 /// Appends the line of the initial state.

@@ -16,6 +16,6 @@ invariant_of-result c =
       some = head.is.some;
       limit = head.is.limit;
       names = head.is.claim.right.names;
-      inside = head.is.inside;
+      inside = head.is.init.inside;
       entries = body.fits.entries;
     }

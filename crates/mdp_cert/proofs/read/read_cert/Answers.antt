@@ -15,6 +15,6 @@ invariant_of-result c =
       limit = head.is.limit;
       names = head.is.claim.names;
       threshold = head.is.claim.threshold;
-      inside = head.is.inside;
+      inside = head.is.init.inside;
       entries = body.fits.entries;
     }
