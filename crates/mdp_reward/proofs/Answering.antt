@@ -16,8 +16,8 @@ use Rattle.mdp_policy_iteration.specs.Iteration.{EndsWith}
 use Rattle.mdp_policy_iteration.specs.Ends.{Ends, error_of_part}
 use Rattle.mdp_wide.specs.Term.{WideTerm}
 use Rattle.mdp_policy_iteration.specs.Queries.{term_of_check, Solves}
-use Rattle.mdp_policy_iteration.specs.declared.solution.PathError.{PathError}
-use Rattle.mdp_policy_iteration.specs.declared.solution.PathError.TheVariants as path
+use Rattle.mdp_policy_iteration.specs.Errors.{PathError}
+use Rattle.mdp_wide.specs.declared.unfinished.Unfinished.TheVariants as path
 use Rattle.mdp_farkas.specs.Verdict.{verdict_of}
 use Rattle.mdp_farkas.specs.Reward.{reward_checks, MeetsReward, IsReward}
 use Rattle.mdp_farkas.specs.declared.verdict.Verdict.{Verdict}

@@ -13,7 +13,7 @@ use crate::rewards::rewards_of;
 use crate::start::start_of;
 use mdp_farkas::{RewardCert, Verdict, holds_reward};
 use mdp_graph::{along_law, meet_law, rounds_law, sure_all_law};
-use mdp_policy_iteration::improve;
+use mdp_policy_iteration::{improve, in_part};
 use mdp_rows::{Dir, Marks, Model};
 use mdp_wide::{Kind, Part, SolveError, TooWide};
 use std::alloc::Global;
@@ -54,7 +54,7 @@ pub fn solve_reward(
     };
     let found = match improve(alloc, &problem, first) {
         Ok(found) => found,
-        Err(error) => return Err(error.in_part(Part::Whole)),
+        Err(error) => return Err(in_part(error, Part::Whole)),
     };
     let ranks = ranks_of(alloc, model, goals, &finite, dir, known, &found.policy)?;
     let cert = RewardCert {

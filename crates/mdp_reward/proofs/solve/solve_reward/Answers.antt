@@ -1,7 +1,7 @@
 use Rattle.std.proofs.Common.{◌≡◌, ◌∙◌, ℕ, List, Option, Ok, Err, Result, length, sym, ap, subst}
 use Rattle.mdp_math.specs.Rational.{ℚ}
 use Rattle.mdp_spec.specs.Tree.{IsPolicy}
-use Rattle.mdp_wide.specs.declared.too_wide.SolveError.{SolveError}
+use Rattle.mdp_wide.specs.Errors.{SolveError}
 use Rattle.mdp_farkas.specs.Verdict.{verdict_of}
 use Rattle.mdp_farkas.specs.Reward.{reward_checks}
 use Rattle.mdp_farkas.specs.declared.verdict.Verdict.TheVariants.{Yes, No, Wide}
@@ -16,6 +16,7 @@ use Rattle.mdp_reward.proofs.Certificate.{rewards-len}
 use Rattle.mdp_reward.proofs.Answering.{pass_laws, meets-reward, ranks-count, ends-refused, ends-answered, ends-wide}
 use Rattle.mdp_farkas.proofs.RewardRules.{reward_never_no}
 use Rattle.mdp_reward.proofs.solve.solve_reward.Goals as goal
+use Rattle.mdp_reward.proofs.solve.solve_reward.Goals.{After-cert-2-1}
 
 pub invariant_of-problem : goal.invariant_of-problem
 invariant_of-problem c = record {
@@ -67,24 +68,21 @@ holds_reward-requires-clause-ranks c =
     (start-known c.args.dir c.args.model.now c.args.goals.now c.in_ok-start.start.finite c.in_ok-start.start.policy.items c.in_ok-start.start.known.items c.known.ensures.mdp
     (c.in_ok-start.ensures {u = tt})) (c.in_ok-ranks.ensures {u = tt})
 
+-- the certificate has the ranks of what was found
+are_ranks : (c : After-cert-2-1) → AreRanks c.args.dir c.args.model.now c.args.goals.now c.in_ok-start.start.finite c.in_ok-start.start.known.items c.in-Ok.found.policy.items c.in_ok-ranks.ranks.items
+are_ranks c =
+    subst (λ (policy : List ℕ). AreRanks c.args.dir c.args.model.now c.args.goals.now c.in_ok-start.start.finite c.in_ok-start.start.known.items policy c.in_ok-ranks.ranks.items)
+    c.deref.ensures.value (c.in_ok-ranks.ensures {u = tt})
+
 pub returns-in-Yes-clause-path : goal.returns-in-Yes-clause-path
 returns-in-Yes-clause-path c =
-    let dir = c.args.dir in
-    let m = c.args.model.now in
-    let goals = c.args.goals.now in
-    let finite = c.in_ok-start.start.finite in
-    let start = c.in_ok-start.start.policy.items in
-    let known = c.in_ok-start.start.known.items in
-    let policy = c.in-Ok.found.policy.items in
-    let ranks = c.in_ok-ranks.ranks.items in
-    let x = c.in-Ok.found.values.items in
-    let are : AreRanks dir m goals finite known policy ranks =
-    subst (λ (policy : List ℕ). AreRanks dir m goals finite known policy ranks) c.deref.ensures.value (c.in_ok-ranks.ensures {u = tt}) in
-    let values = c.in_ok-rewards_of.ensures {u = tt} ∙ ap (rewards_of m finite) c.deref-2.ensures.value in
+    let values = c.in_ok-rewards_of.ensures {u = tt} ∙ ap (rewards_of c.args.model.now c.in_ok-start.start.finite) c.deref-2.ensures.value in
     let end = (c.in-Ok.ensures {u = tt}).path in
-    subst (λ (v : List (Option ℚ)). EndsSo dir m c.args.m goals (let a : Result Answer WideTerm = Ok (record { values = v; choices = policy; ranks = ranks }) in a)) (sym values)
-    (ends-answered dir m c.args.m goals finite start known (c.in_ok-start.ensures {u = tt}) end.0 policy ranks x end.2 are
-    (subst (λ (v : List (Option ℚ)). Yes ≡ verdict_of (reward_checks dir m c.args.m goals v policy ranks)) values (sym c.in-Yes.is ∙ c.holds_reward.ensures.verdict)))
+    subst (λ (v : List (Option ℚ)). EndsSo c.args.dir c.args.model.now c.args.m c.args.goals.now
+    (let a : Result Answer WideTerm = Ok (record { values = v; choices = c.in-Ok.found.policy.items; ranks = c.in_ok-ranks.ranks.items }) in a)) (sym values)
+    (ends-answered c.args.dir c.args.model.now c.args.m c.args.goals.now c.in_ok-start.start.finite c.in_ok-start.start.policy.items c.in_ok-start.start.known.items (c.in_ok-start.ensures {u = tt}) end.0 c.in-Ok.found.policy.items c.in_ok-ranks.ranks.items c.in-Ok.found.values.items end.2
+    (are_ranks (goal.at.returns-in-Yes-clause-path c).After-cert-2-1)
+    (subst (λ (v : List (Option ℚ)). Yes ≡ verdict_of (reward_checks c.args.dir c.args.model.now c.args.m c.args.goals.now v c.in-Ok.found.policy.items c.in_ok-ranks.ranks.items)) values (sym c.in-Yes.is ∙ c.holds_reward.ensures.verdict)))
 
 pub returns-in-Yes-clause-each : goal.returns-in-Yes-clause-each
 returns-in-Yes-clause-each c = record {
@@ -97,44 +95,23 @@ returns-in-Yes-clause-each c = record {
 
 pub unreachable-requires : goal.unreachable-requires
 unreachable-requires c =
-    let dir = c.args.dir in
-    let m = c.args.model.now in
-    let goals = c.args.goals.now in
-    let finite = c.in_ok-start.start.finite in
-    let start = c.in_ok-start.start.policy.items in
-    let known = c.in_ok-start.start.known.items in
-    let policy = c.in-Ok.found.policy.items in
-    let ranks = c.in_ok-ranks.ranks.items in
-    let x = c.in-Ok.found.values.items in
-    let are : AreRanks dir m goals finite known policy ranks =
-    subst (λ (policy : List ℕ). AreRanks dir m goals finite known policy ranks) c.deref.ensures.value (c.in_ok-ranks.ensures {u = tt}) in
-    let values = c.in_ok-rewards_of.ensures {u = tt} ∙ ap (rewards_of m finite) c.deref-2.ensures.value in
-    reward_never_no m c.args.m goals (rewards_of m finite x) policy ranks (λ s k. reward-nonneg m c.args.m c.requires.none_negative s k) dir
-    (meets-reward dir m c.args.m goals finite start known policy ranks x
+    let values = c.in_ok-rewards_of.ensures {u = tt} ∙ ap (rewards_of c.args.model.now c.in_ok-start.start.finite) c.deref-2.ensures.value in
+    reward_never_no c.args.model.now c.args.m c.args.goals.now (rewards_of c.args.model.now c.in_ok-start.start.finite c.in-Ok.found.values.items) c.in-Ok.found.policy.items c.in_ok-ranks.ranks.items
+    (λ s k. reward-nonneg c.args.model.now c.args.m c.requires.none_negative s k) c.args.dir
+    (meets-reward c.args.dir c.args.model.now c.args.m c.args.goals.now c.in_ok-start.start.finite c.in_ok-start.start.policy.items c.in_ok-start.start.known.items c.in-Ok.found.policy.items c.in_ok-ranks.ranks.items c.in-Ok.found.values.items
     (record { model = c.known.ensures.mdp; named = c.requires.name; none_negative = c.requires.none_negative })
     (pass_laws c.sure_all_law.ensures.stays c.meet_law.ensures.rest c.along_law.ensures.falls c.along_law.ensures.rest c.rounds_law.ensures.fall c.rounds_law.ensures.zero)
-    (c.in_ok-start.ensures {u = tt}) (c.in-Ok.ensures {u = tt}).best are)
+    (c.in_ok-start.ensures {u = tt}) (c.in-Ok.ensures {u = tt}).best (are_ranks (goal.at.unreachable-requires c).After-cert-2-1))
     c.in-No.field-0
-    (subst (λ (v : List (Option ℚ)). verdict_of (reward_checks dir m c.args.m goals v policy ranks) ≡ No c.in-No.field-0) values (sym c.holds_reward.ensures.verdict ∙ c.in-No.is))
+    (subst (λ (v : List (Option ℚ)). verdict_of (reward_checks c.args.dir c.args.model.now c.args.m c.args.goals.now v c.in-Ok.found.policy.items c.in_ok-ranks.ranks.items) ≡ No c.in-No.field-0) values (sym c.holds_reward.ensures.verdict ∙ c.in-No.is))
 
 pub returns-clause-path : goal.returns-clause-path
 returns-clause-path c =
-    let dir = c.args.dir in
-    let m = c.args.model.now in
-    let goals = c.args.goals.now in
-    let finite = c.in_ok-start.start.finite in
-    let start = c.in_ok-start.start.policy.items in
-    let known = c.in_ok-start.start.known.items in
-    let policy = c.in-Ok.found.policy.items in
-    let ranks = c.in_ok-ranks.ranks.items in
-    let x = c.in-Ok.found.values.items in
-    let are : AreRanks dir m goals finite known policy ranks =
-    subst (λ (policy : List ℕ). AreRanks dir m goals finite known policy ranks) c.deref.ensures.value (c.in_ok-ranks.ensures {u = tt}) in
-    let values = c.in_ok-rewards_of.ensures {u = tt} ∙ ap (rewards_of m finite) c.deref-2.ensures.value in
+    let values = c.in_ok-rewards_of.ensures {u = tt} ∙ ap (rewards_of c.args.model.now c.in_ok-start.start.finite) c.deref-2.ensures.value in
     let end = (c.in-Ok.ensures {u = tt}).path in (
       end.0,
       end.1,
-      ends-wide dir m c.args.m goals finite start known (c.in_ok-start.ensures {u = tt}) end.0 policy ranks x end.2 are c.in-Wide.state c.in-Wide.choice
-          (subst (λ (v : List (Option ℚ)). Wide c.in-Wide.state c.in-Wide.choice ≡ verdict_of (reward_checks dir m c.args.m goals v policy ranks)) values
-          (sym c.in-Wide.is ∙ c.holds_reward.ensures.verdict)),
+      ends-wide c.args.dir c.args.model.now c.args.m c.args.goals.now c.in_ok-start.start.finite c.in_ok-start.start.policy.items c.in_ok-start.start.known.items (c.in_ok-start.ensures {u = tt}) end.0 c.in-Ok.found.policy.items c.in_ok-ranks.ranks.items c.in-Ok.found.values.items end.2
+          (are_ranks (goal.at.returns-clause-path c).After-cert-2-1) c.in-Wide.state c.in-Wide.choice
+          (subst (λ (v : List (Option ℚ)). Wide c.in-Wide.state c.in-Wide.choice ≡ verdict_of (reward_checks c.args.dir c.args.model.now c.args.m c.args.goals.now v c.in-Ok.found.policy.items c.in_ok-ranks.ranks.items)) values (sym c.in-Wide.is ∙ c.holds_reward.ensures.verdict)),
     )
