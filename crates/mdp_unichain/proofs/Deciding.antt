@@ -5,6 +5,7 @@ use Rattle.std.specs.List.{All, Any, range_with_len}
 use Rattle.std.specs.Prelude.{slice_index}
 use Rattle.std.proofs.lemmas.List.FromFn.{get_or-map-range_with_len, length-map-range_with_len}
 use Rattle.std.proofs.Math.ListN.{get_or-eq_default}
+use Rattle.mdp_math.proofs.Booleans.{and-left, and-right, and-both}
 use Rattle.mdp_math.proofs.Numbers.{le_or, eqb-same}
 use Rattle.mdp_spec.specs.Mdp.{Entry}
 use Rattle.mdp_unichain.specs.Chain.{IsChain, AllLeadTo, IsReference, IsClosedClass, AllLeadInto}
@@ -59,26 +60,14 @@ module _ (states : ℕ → Bool) (n : ℕ) (row : ℕ → List Entry) (chain : I
     both : ℕ → Bool
     both s = class s && lost s
 
-    both_true : (a b : Bool) → a ≡ true → b ≡ true → (a && b) ≡ true
-    both_true true b e h = h
-    both_true false b e h = cc
-
-    both_first : (a b : Bool) → (a && b) ≡ true → a ≡ true
-    both_first true b e = refl
-    both_first false b e = e
-
-    both_second : (a b : Bool) → (a && b) ≡ true → b ≡ true
-    both_second true b e = e
-    both_second false b e = cc
-
     not_in : Split.reached to_lost u ≡ true → class u ≡ true → ⊥
     unfolding both
     not_in h k =
         let v = comes (suc (Split.rank to_lost u)) u (omega arith) h k in
-        let e : (class u && lost u) ≡ true = holds class n row (class-chain states n row chain class c) (λ s. class s && lost s) (λ s q. both_first (class s) (lost s) q)
-        (λ s q j d l. both_true _ _ (c.closed s (both_first (class s) (lost s) q) j d l) (lost-closed s (both_second (class s) (lost s) q) j d l)) u (c.connected u k) v.0
-        (both_true (class v.0) (lost v.0) v.1 v.2) in
-        clash_test (lost u) (both_second (class u) (lost u) e) not_lost
+        let e : (class u && lost u) ≡ true = holds class n row (class-chain states n row chain class c) (λ s. class s && lost s) (λ s q. and-left (class s) (lost s) q)
+        (λ s q j d l. and-both _ _ (c.closed s (and-left (class s) (lost s) q) j d l) (lost-closed s (and-right (class s) (lost s) q) j d l)) u (c.connected u k) v.0
+        (and-both (class v.0) (lost v.0) v.1 v.2) in
+        clash_test (lost u) (and-right (class u) (lost u) e) not_lost
 
   -- else the states that lead to no lost one all lead to u, and hold a class
   abbrev near : ℕ → Bool

@@ -2,6 +2,7 @@
 -- better, or as good with the same reference and a bias that is at least as good everywhere and better somewhere.
 use Rattle.std.proofs.Common.{◌≡◌, ℕ, zero, suc, ◌+◌, ◌<◌, ◌⊎◌, inl, inr, Bool, true, false, ◌&&◌, ◌||◌, eqb, List, [], ◌∷◌, length, get_or, refl, sym, ◌∙◌, ap, subst, arith}
 use Rattle.std.specs.Prelude.{slice_index}
+use Rattle.std.proofs.lemmas.Bool.{or_left, or_right, or_cases}
 use Rattle.mdp_math.specs.Rational.{ℚ, le_ℚ, lt_ℚ, ◌≤ℚ◌, ◌<ℚ◌}
 use Rattle.mdp_math.proofs.Numbers.{eqb-same}
 use Rattle.mdp_math.proofs.Order.{≤ℚ_of_eq, <ℚ-≤ℚ_trans, <ℚ_trans}
@@ -20,18 +21,6 @@ use Rattle.mdp_policy_iteration.proofs.LeavesAgain.{test_irrefl}
 use Rattle.mdp_policy_iteration.proofs.Ordered.{less_all, less_all-after, less_all-own, less_all-from}
 use Rattle.mdp_policy_iteration.proofs.Products.{number, number-lt, within_from}
 
-or_first : (a b : Bool) → a ≡ true → (a || b) ≡ true
-or_first true b e = refl
-or_first false b e = cc
-
-or_second : (a b : Bool) → b ≡ true → (a || b) ≡ true
-or_second true b e = refl
-or_second false b e = e
-
-or_either : (a b : Bool) → (a || b) ≡ true → (a ≡ true) ⊎ (b ≡ true)
-or_either true b e = inl refl
-or_either false b e = inr e
-
 or_none : (a b : Bool) → a ≡ false → b ≡ false → (a || b) ≡ false
 or_none true b e h = cc
 or_none false b e h = h
@@ -49,17 +38,17 @@ record Rises (n t : ℕ) (g : ℚ) (h : ℕ → ℚ) (u : ℕ) (k : ℚ) (j : �
 
 module _ (n t u v : ℕ) (g k m : ℚ) (h j l : ℕ → ℚ) where
   less-after_gain : g <ℚ k → less n u k j v m l ≡ true → less n t g h v m l ≡ true
-  less-after_gain a e = or_first (lt_ℚ g m) _ (elim (or_either (lt_ℚ k m) _ e) as (λ _. lt_ℚ g m ≡ true) [
+  less-after_gain a e = or_left (lt_ℚ g m) _ (elim (or_cases (lt_ℚ k m) _ e) as (λ _. lt_ℚ g m ≡ true) [
     | inl b ↦ test_of_lt g m (<ℚ_trans g k m a (lt_of_test k m b))
     | inr b ↦ test_of_lt g m (<ℚ-≤ℚ_trans g k m a (le_of_test k m (and-left (le_ℚ k m) (eqb u v && less_all j l n) b)))
   ])
 
   less-after_bias : Rises n t g h u k j → less n u k j v m l ≡ true → less n t g h v m l ≡ true
-  less-after_bias r e = elim (or_either (lt_ℚ k m) _ e) as (λ _. less n t g h v m l ≡ true) [
-    | inl b ↦ or_first (lt_ℚ g m) _ (ap (λ (q : ℚ). lt_ℚ q m) r.gain ∙ b)
+  less-after_bias r e = elim (or_cases (lt_ℚ k m) _ e) as (λ _. less n t g h v m l ≡ true) [
+    | inl b ↦ or_left (lt_ℚ g m) _ (ap (λ (q : ℚ). lt_ℚ q m) r.gain ∙ b)
     | inr b ↦
         let rest = and-right (le_ℚ k m) (eqb u v && less_all j l n) b in
-        or_second (lt_ℚ g m) _
+        or_right (lt_ℚ g m) _
         (and-both (le_ℚ g m) (eqb t v && less_all h l n) (ap (λ (q : ℚ). le_ℚ q m) r.gain ∙ and-left (le_ℚ k m) (eqb u v && less_all j l n) b)
         (and-both (eqb t v) (less_all h l n) (ap (λ (i : ℕ). eqb i v) r.reference ∙ and-left (eqb u v) (less_all j l n) rest)
         (less_all-after h j l n (λ s i. r.bias s) (and-right (eqb u v) (less_all j l n) rest))))
@@ -75,11 +64,11 @@ less-own n t g h = or_none (lt_ℚ g g) _ (test_irrefl g) (none (le_ℚ g g) (eq
 
 module _ (n t u : ℕ) (g k : ℚ) (h j : ℕ → ℚ) where
   less-gain : g <ℚ k → less n t g h u k j ≡ true
-  less-gain a = or_first (lt_ℚ g k) _ (test_of_lt g k a)
+  less-gain a = or_left (lt_ℚ g k) _ (test_of_lt g k a)
 
   less-bias : Rises n t g h u k j → (s : ℕ) → s < n → h s <ℚ j s → less n t g h u k j ≡ true
   less-bias r s l a =
-      or_second (lt_ℚ g k) _
+      or_right (lt_ℚ g k) _
       (and-both (le_ℚ g k) (eqb t u && less_all h j n) (test_of_le g k (≤ℚ_of_eq g k r.gain))
       (and-both (eqb t u) (less_all h j n) (ap (λ (i : ℕ). eqb i u) r.reference ∙ eqb-same u) (less_all-from h j n s (λ v i. r.bias v) l a)))
 

@@ -28,6 +28,7 @@ use Rattle.mdp_elim.specs.Elimination.{solution}
 use Rattle.mdp_elim.specs.System.{is_active, row_of, inner, column_at, equation_of, system, Leaves, IsSolution, SolveEach}
 use Rattle.mdp_elim.specs.Solve.{columns_of, kept, written_solution}
 use Rattle.mdp_elim.specs.Laws.{LeavingChain, GivesSolutions}
+use Rattle.mdp_policy_iteration.proofs.Chain.{loop}
 use Rattle.mdp_unichain.specs.Chain.{AllLeadTo}
 use Rattle.mdp_unichain.specs.Component.{Component, count, is_state, row_by, reward_by, IsPolicy, IsComponent}
 use Rattle.mdp_unichain.proofs.Gains.{steps-ge_one}
@@ -52,16 +53,6 @@ map_same f g h (x ∷ xs) = ap₂ (λ y ys. y ∷ ys) (h x) (map_same f g h xs)
 row_of_state : (b : Bool) (s : ℕ) (row : List Entry) → b ≡ true → row_or_loop b s row ≡ row
 row_of_state true s row e = refl
 row_of_state false s row e = cc
-
-loop : (n s : ℕ) → s < n → IsRow n (let y : Entry = record { target = s; prob = of_int (pos 1) } in y ∷ [])
-loop n s l = let y : Entry = record { target = s; prob = of_int (pos 1) } in record {
-  distribution = record {
-    ascending = search rules;
-    positive = All-cons (λ x. of_int (pos 0) <ℚ x.prob) y [] one-pos (All-nil (λ x. of_int (pos 0) <ℚ x.prob));
-    total = ring rat_ring 0 (lit (pos 1) ⊕ lit (pos 0)) (lit (pos 1)) refl;
-  };
-  in_range = All-cons (λ x. x.target < n) y [] l (All-nil (λ x. x.target < n));
-}
 
 module _ (p : Component) (policy : List ℕ) (t : ℕ) (known : IsComponent p) (is : IsPolicy p policy) (leads : AllLeadTo (is_state p) (row_by p policy) t) where
   -- ---- the chain that is handed over

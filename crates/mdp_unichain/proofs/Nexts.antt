@@ -5,6 +5,7 @@ use Rattle.std.specs.Prelude.{slice_index}
 use Rattle.std.proofs.lemmas.List.FromFn.{fill_by_all}
 use Rattle.std.proofs.lemmas.List.Folds.{Any-from_list_any, list_any_at}
 use Rattle.std.proofs.lemmas.List.{get_or_default}
+use Rattle.mdp_math.proofs.Booleans.{and-left, and-right, and-both}
 use Rattle.mdp_math.proofs.Numbers.{le_or, last_or}
 use Rattle.mdp_spec.specs.Mdp.{Entry}
 use Rattle.mdp_unichain.specs.Chain.{IsChain, IsClosedClass}
@@ -35,25 +36,13 @@ exact_is_next p policy improved after (inr g) = inr (
 
 -- ---- one class
 
-both_true : (a b : Bool) → a ≡ true → b ≡ true → (a && b) ≡ true
-both_true true b e h = h
-both_true false b e h = cc
-
-both_first : (a b : Bool) → (a && b) ≡ true → a ≡ true
-both_first true b e = refl
-both_first false b e = e
-
-both_second : (a b : Bool) → (a && b) ≡ true → b ≡ true
-both_second true b e = e
-both_second false b e = cc
-
 -- closed classes that share a state are the same
 pub class-within : (states : ℕ → Bool) (n : ℕ) (row : ℕ → List Entry) → IsChain states n row → (one other : ℕ → Bool) → IsClosedClass states row one → IsClosedClass states row other
     → (t : ℕ) → one t ≡ true → other t ≡ true → (s : ℕ) → one s ≡ true → other s ≡ true
 class-within states n row chain one other c d t h k s i =
-    both_second (one s) (other s)
-    (holds one n row (class-chain states n row chain one c) (λ v. one v && other v) (λ v q. both_first (one v) (other v) q)
-    (λ v q j x l. both_true _ _ (c.closed v (both_first (one v) (other v) q) j x l) (d.closed v (both_second (one v) (other v) q) j x l)) s (c.connected s i) t (both_true (one t) (other t) h k))
+    and-right (one s) (other s)
+    (holds one n row (class-chain states n row chain one c) (λ v. one v && other v) (λ v q. and-left (one v) (other v) q)
+    (λ v q j x l. and-both _ _ (c.closed v (and-left (one v) (other v) q) j x l) (d.closed v (and-right (one v) (other v) q) j x l)) s (c.connected s i) t (and-both (one t) (other t) h k))
 
 pub same_tests : (a b : Bool) → (a ≡ true → b ≡ true) → (b ≡ true → a ≡ true) → a ≡ b
 same_tests true b h k = sym (h refl)
@@ -219,7 +208,7 @@ module _ (p : Component) (known : IsComponent p) (class : ℕ → Bool) (u : ℕ
   near_by k s c h a =
       or_right (near k s) (list_any (enters (near k)) (choices_at p s))
       (list_any_at (enters (near k)) (choices_at p s) c no_choice (inner-below p s c h)
-      (both_true (Choice.inner (choice_at p s c)) (list_any (λ y. near k y.target) (Choice.row (choice_at p s c))) h
+      (and-both (Choice.inner (choice_at p s c)) (list_any (λ y. near k y.target) (Choice.row (choice_at p s c))) h
       (list_any_at (λ y. near k y.target) (Choice.row (choice_at p s c)) a.0 a.1 a.2 (ap (λ (y : Entry). near k y.target) a.3 ∙ a.4))))
 
   far : (fuel s : ℕ) → CanReach.rank (known.connected u u_is) s < fuel → is_state p s ≡ true → (k : ℕ) × (near k s ≡ true)
@@ -263,8 +252,8 @@ module _ (p : Component) (known : IsComponent p) (class : ℕ → Bool) (u : ℕ
       let n : near (suc k) s ≡ true = subst (λ i. near i s ≡ true) e (rank_near s (test_or_not (is_state p s)) h) in
       let a = Any-from_list_any (enters (near k)) (choices_at p s) (or_rest (near k s) (list_any (enters (near k)) (choices_at p s)) n (no_less k s e (near k s) refl)) in
       let is_choice : choice_at p s a.0 ≡ a.1 = get_or_default (choices_at p s) a.0 no_choice a.1 a.2 ∙ a.3 in
-      let i : IsInner p s a.0 = ap Choice.inner is_choice ∙ both_first (Choice.inner a.1) (list_any (λ y. near k y.target) (Choice.row a.1)) a.4 in
-      let y = Any-from_list_any (λ y. near k y.target) (Choice.row a.1) (both_second (Choice.inner a.1) (list_any (λ y. near k y.target) (Choice.row a.1)) a.4) in (
+      let i : IsInner p s a.0 = ap Choice.inner is_choice ∙ and-left (Choice.inner a.1) (list_any (λ y. near k y.target) (Choice.row a.1)) a.4 in
+      let y = Any-from_list_any (λ y. near k y.target) (Choice.row a.1) (and-right (Choice.inner a.1) (list_any (λ y. near k y.target) (Choice.row a.1)) a.4) in (
         a.0,
         (
           i,
@@ -292,7 +281,7 @@ module _ (p : Component) (known : IsComponent p) (class : ℕ → Bool) (u : ℕ
   test_of : (s c : ℕ) → LeadsNearer p rank_of s c → nearest_test s c ≡ true
   unfolding nearest_test
   test_of s c h =
-      both_true (Choice.inner (choice_at p s c)) (list_any (λ y. nat_lt (rank_of y.target) (rank_of s)) (Choice.row (choice_at p s c))) h.0
+      and-both (Choice.inner (choice_at p s c)) (list_any (λ y. nat_lt (rank_of y.target) (rank_of s)) (Choice.row (choice_at p s c))) h.0
       (list_any_at (λ y. nat_lt (rank_of y.target) (rank_of s)) (Choice.row (choice_at p s c)) h.1.0 h.1.1 h.1.2
       (ap (λ (y : Entry). nat_lt (rank_of y.target) (rank_of s)) h.1.3 ∙ lt_test (rank_of (target h.1.1)) (rank_of s) h.1.4))
     where
@@ -304,8 +293,8 @@ module _ (p : Component) (known : IsComponent p) (class : ℕ → Bool) (u : ℕ
   of_test s c h =
       let a =
       Any-from_list_any (λ y. nat_lt (rank_of y.target) (rank_of s)) (Choice.row (choice_at p s c))
-      (both_second (Choice.inner (choice_at p s c)) (list_any (λ y. nat_lt (rank_of y.target) (rank_of s)) (Choice.row (choice_at p s c))) h) in (
-        both_first (Choice.inner (choice_at p s c)) (list_any (λ y. nat_lt (rank_of y.target) (rank_of s)) (Choice.row (choice_at p s c))) h,
+      (and-right (Choice.inner (choice_at p s c)) (list_any (λ y. nat_lt (rank_of y.target) (rank_of s)) (Choice.row (choice_at p s c))) h) in (
+        and-left (Choice.inner (choice_at p s c)) (list_any (λ y. nat_lt (rank_of y.target) (rank_of s)) (Choice.row (choice_at p s c))) h,
         (a.0, a.1, a.2, a.3, test_lt (rank_of (target a.1)) (rank_of s) a.4),
       )
     where

@@ -3,6 +3,7 @@ use Rattle.std.proofs.Common.{◌≡◌, ◌≢◌, ℕ, zero, suc, ◌<◌, ◌
 use Rattle.std.proofs.Common.{◌&&◌, ◌||◌, eqb, if◌then◌else◌, List, [], ◌∷◌, refl, sym, ◌∙◌, ap, subst, arith}
 use Rattle.std.specs.List.{All, Any}
 use Rattle.std.proofs.lemmas.List.Elements.{All-nil, All-cons}
+use Rattle.std.proofs.lemmas.Bool.{or_left, or_right, or_cases}
 use Rattle.mdp_math.proofs.Numbers.{last_or, le_or, eqb-same}
 use Rattle.mdp_spec.specs.Mdp.{Entry}
 use Rattle.mdp_unichain.specs.Chain.{IsChain, AllLeadTo, IsClosedClass}
@@ -56,18 +57,6 @@ pub and_second : (a b : Bool) → (a && not b) ≡ true → b ≡ false
 and_second true true e = cc
 and_second true false e = refl
 and_second false b e = cc
-
-or_left : (a b : Bool) → a ≡ true → (a || b) ≡ true
-or_left true b e = refl
-or_left false b e = cc
-
-or_right : (a b : Bool) → b ≡ true → (a || b) ≡ true
-or_right true b e = refl
-or_right false b e = e
-
-or_cases : (a b : Bool) → (a || b) ≡ true → (a ≡ true) ⊎ (b ≡ true)
-or_cases true b e = inl refl
-or_cases false b e = inr e
 
 or_neither : (a b : Bool) → (a || b) ≡ false → (a ≡ false) × (b ≡ false)
 or_neither true b e = cc
