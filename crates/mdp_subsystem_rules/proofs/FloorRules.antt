@@ -27,6 +27,7 @@ use Rattle.mdp_farkas.proofs.Comparing.{le_of_at_least, at_least_of_le, le_of_at
 use Rattle.mdp_farkas.proofs.Holds.{Each, Holds, Sound, each_of_yes, yes_of_each, told_of_each, holds_of_sound, never_no, if_yes, each_append, each_left, each_right, each_flat, each_flat_at}
 use Rattle.mdp_farkas.proofs.Holds.{each_map, each_map_at, each_if, each_if_true, each_if_false}
 use Rattle.mdp_farkas.proofs.Inequalities.{sum_stands_of, of_sum_stands}
+use Rattle.mdp_farkas.proofs.ReachRules.{end_of, no_end_of}
 use Rattle.mdp_farkas.proofs.Tests.{some_passed, some_passes}
 use Rattle.mdp_subsystem_rules.specs.Floor.{MeetsFloor, counted_value, counted_sum}
 use Rattle.mdp_subsystem_rules.specs.FloorChecks.{spread_values, spread_ranks, line_value, line_rank, line_values, cover_check, cover_checks}
@@ -40,16 +41,6 @@ use Rattle.mdp_subsystem_rules.proofs.Kept.{each_kept, each_place, spread-at, lo
 use Rattle.mdp_subsystem_rules.proofs.Parts.{unmarked}
 
 -- ---- tests
-
-end_of : (g l : Bool) → (g ≡ true) ⊎ (l ≡ false) → (g || not l) ≡ true
-end_of true l h = refl
-end_of false true h = ⊎_elim (λ e. e) (λ e. sym e) h
-end_of false false h = refl
-
-no_end_of : (g l : Bool) → g ≡ false → l ≡ true → (g || not l) ≡ false
-no_end_of true l e f = absurd (true≢false e)
-no_end_of false true e f = refl
-no_end_of false false e f = absurd (true≢false (sym f))
 
 of_end : (g l : Bool) → g ≡ false → (g || not l) ≡ true → l ≡ false
 of_end true l g e = absurd (true≢false g)

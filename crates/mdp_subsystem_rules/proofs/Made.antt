@@ -38,7 +38,7 @@ neither_stays : (g k : Bool) → g ≡ false → k ≡ false → g || k ≡ fals
 neither_stays g k e f = ap (λ (b : Bool). b || k) e ∙ f
 
 -- a loop leads to no smaller rank
-loop_falls : (names : List (List ℕ)) (s : ℕ) (rank : ℕ → ℕ) → Any (λ y. rank y.target < rank s) (Choice.row (get_or (loop_at names s ∷ []) 0 no_choice)) → ⊥
+pub loop_falls : (names : List (List ℕ)) (s : ℕ) (rank : ℕ → ℕ) → Any (λ y. rank y.target < rank s) (Choice.row (get_or (loop_at names s ∷ []) 0 no_choice)) → ⊥
 loop_falls names s rank any = loop_by any.0 any.1 any.2 any.3 any.4
   where
     loop_by : (k : ℕ) (y : Entry) → k < 1 → get_or (record { target = s; prob = of_int (pos 1) } ∷ []) k y ≡ y → rank y.target < rank s → ⊥

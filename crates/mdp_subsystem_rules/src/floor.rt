@@ -1,4 +1,4 @@
-ghost use Rattle.std.specs.Prelude.{◌≡◌, ◌<◌, ◌↔◌, ◌||◌, not, length, [], ◌∷◌, All, nat_lt};
+ghost use Rattle.std.specs.Prelude.{◌≡◌, ◌<◌, ◌↔◌, ◌||◌, not, length, [], ◌∷◌, ◌++◌, All, MatchOption, nat_lt, slice_index, false};
 ghost use Rattle.std.specs.List.{list_any};
 ghost use Rattle.std.specs.Result.{result_ok};
 ghost use Rattle.mdp_math.specs.Rational.{lt_ℚ};
@@ -13,7 +13,8 @@ ghost use Rattle.mdp_farkas.specs.Verdict.{at_choices, verdict_of, IsYes, IfYes,
 ghost use Rattle.mdp_rows.specs.declared.dir.Dir.TheVariants.{Min};
 ghost use Rattle.mdp_subsystem_rules.specs.FloorChecks.{line_rank, line_values, value_checks, cover_check, cover_checks, fall_check};
 ghost use Rattle.mdp_subsystem_rules.specs.FloorChecks.{rank_checks, line_checks, checks_of_line, each_line, start_check, floor_checks, HoldsFloor};
-ghost use Rattle.mdp_subsystem_rules.specs.Kept.{kept_marks};
+ghost use Rattle.mdp_subsystem_rules.specs.FlowChecks.{kept_check};
+ghost use Rattle.mdp_subsystem_rules.specs.Kept.{is_listed, kept_marks};
 ghost use Rattle.mdp_subsystem_rules.specs.Shape.{IsFloorShape};
 
 use crate::flow::kept_at;
@@ -54,6 +55,14 @@ impl ValuesOf for Claimed<'_> {
 }
 
 impl Claimed<'_> {
+    /// On which line state `s` stands, if it is kept.
+    fn line_of(self, s: u32) -> Option<usize>
+        ensures { MatchOption result (is_listed self.entry.cert.now.kept.items s ≡ false)
+            (λ i. (i < length self.entry.cert.now.kept.items) × (slice_index self.entry.cert.now.kept.items i ≡ s)) }
+    {
+        place_of(self.cert.kept.as_slice(), s)
+    }
+
     /// What state `s` counts as: a goal as 1, a kept state as the value of its line, any other state as 0.
     fn counted(self, s: u32) -> Frac
         requires { s < states_of self.model.now }
@@ -62,7 +71,7 @@ impl Claimed<'_> {
         if self.goals.at(s) {
             return Frac::whole(1);
         }
-        match place_of(self.cert.kept.as_slice(), s) {
+        match self.line_of(s) {
             Some(line) => self.cert.values[line],
             None => Frac::whole(0),
         }
@@ -76,7 +85,7 @@ impl Claimed<'_> {
         if self.goals.at(s) {
             return 0;
         }
-        match place_of(self.cert.kept.as_slice(), s) {
+        match self.line_of(s) {
             Some(line) => self.cert.ranks[line],
             None => 0,
         }
@@ -179,6 +188,21 @@ impl Claimed<'_> {
         self.falls_at(s, rank)
     }
 
+    /// That the value and the rank of the kept state `s` stand so to those of its targets, and that it is no goal.
+    #[tactic(auto, using(mdp_farkas::proofs::Objections::walked))]
+    fn rules_at(self, s: u32, value: &Frac, rank: u32) -> Result<(), Objection>
+        requires { s < states_of self.model.now }
+        ensures { result ≡ objection_to (cover_checks self.entry.model.now self.entry.goals.now
+            (line_values self.entry.model.now self.entry.goals.now self.entry.cert.now.kept.items self.entry.cert.now.values.items) s value.now
+            ++ (rank_checks self.entry.model.now self.entry.goals.now
+            (line_rank self.entry.model.now self.entry.goals.now self.entry.cert.now.kept.items self.entry.cert.now.ranks.items) s value.now rank
+            ++ kept_check self.entry.goals.now s ∷ [])) }
+    {
+        self.covers_at(s, value)?;
+        self.rank_at(s, value, rank)?;
+        kept_at(self.goals, s)
+    }
+
     /// The rules at the kept state `s` of this value and rank.
     fn state_at(self, s: u32, value: &Frac, rank: u32) -> Result<(), Objection>
         requires { s < states_of self.model.now }
@@ -186,9 +210,7 @@ impl Claimed<'_> {
             self.entry.cert.now.values.items self.entry.cert.now.ranks.items s value.now rank) }
     {
         probability_at(s, value)?;
-        self.covers_at(s, value)?;
-        self.rank_at(s, value, rank)?;
-        kept_at(self.goals, s)
+        self.rules_at(s, value, rank)
     }
 
     /// The rules at the kept state of line `i`.

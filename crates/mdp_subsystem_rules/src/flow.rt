@@ -73,53 +73,6 @@ fn amount_at(kept: &Marks, flow: &Flow) -> Result<(), Objection>
     judged(Ok(flows), Rule::StateIsKept, flow.state, Some(flow.choice))
 }
 
-/// The rules at a flow, which is then added to the sums.
-fn flow_at(
-    model: &Model,
-    goals: &Marks,
-    kept: &Marks,
-    sums: &mut Sums,
-    flow: &Flow,
-) -> Result<(), Objection>
-    requires goals { length goals.now ≡ states_of model.now }
-    requires kept { length kept.now ≡ states_of model.now }
-    requires sums { AreSums (states_of model.now) sums.old }
-    requires state { flow.now.state < states_of model.now }
-    ensures verdict { result ≡ objection_to (checks_at model.now goals.now kept.now sums.old flow.now) }
-    ensures sums { OnOk result (sums.new ≡ after_flow model.now goals.now sums.old flow.now) }
-{
-    choice_at(model, flow)?;
-    amount_at(kept, flow)?;
-    match sums.add_flow(model, goals, flow) {
-        Ok(()) => Ok(()),
-        Err(Wide) => Err(Objection::PastWidth {
-            state: Some(flow.state),
-            choice: Some(flow.choice),
-        }),
-    }
-}
-
-/// The same at each flow.
-fn each_flow_at(
-    model: &Model,
-    goals: &Marks,
-    kept: &Marks,
-    sums: &mut Sums,
-    flows: &[Flow],
-) -> Result<(), Objection>
-    requires goals { length goals.now ≡ states_of model.now }
-    requires kept { length kept.now ≡ states_of model.now }
-    requires sums { AreSums (states_of model.now) sums.old }
-    requires states { All (λ f. f.state < states_of model.now) flows.now }
-    ensures verdict { result ≡ objection_to (each_flow model.now goals.now kept.now sums.old flows.now) }
-    ensures sums { OnOk result (sums.new ≡ after_flows model.now goals.now sums.old flows.now) }
-{
-    for flow in flows {
-        flow_at(model, goals, kept, sums, flow)?;
-    }
-    Ok(())
-}
-
 /// What leaves the kept state `s` is at most what comes in.
 fn balance_at(sums: &Sums, s: u32) -> Result<(), Objection>
     requires outflow { s < length sums.now.outflows }
@@ -165,42 +118,68 @@ fn sums_at(sums: &Sums, kept: &[u32], threshold: &Frac) -> Result<(), Objection>
     arrival_at(sums, threshold)
 }
 
-/// The rules at the flows and on their sums.
-fn flows_walk(
-    model: &Model,
-    goals: &Marks,
-    threshold: &Frac,
-    cert: &FlowCert,
-    kept: &Marks,
-    sums: &mut Sums,
-) -> Result<(), Objection>
-    requires goals { length goals.now ≡ states_of model.now }
-    requires shape { IsFlowShape model.now cert.now.kept.items cert.now.wide.items cert.now.flows.items }
-    requires kept { kept.now ≡ kept_marks (states_of model.now) cert.now.kept.items }
-    requires sums { AreSums (states_of model.now) sums.old }
-    ensures { result ≡ objection_to (checks_from model.now goals.now threshold.now cert.now.kept.items cert.now.flows.items sums.old) }
-{
-    each_flow_at(model, goals, kept, sums, cert.flows.as_slice())?;
-    sums_at(sums, cert.kept.as_slice(), threshold)
+/// Kept states and flows that are held against a model, with a mark for each kept state.
+#[derive(Clone, Copy)]
+struct Claimed<'a> {
+    model: &'a Model,
+    goals: &'a Marks,
+    cert: &'a FlowCert,
+    kept: &'a Marks,
+    ghost goals_each: { length goals.now ≡ states_of model.now },
+    ghost shape: { IsFlowShape model.now cert.now.kept.items cert.now.wide.items cert.now.flows.items },
+    ghost marks: { kept.now ≡ kept_marks (states_of model.now) cert.now.kept.items },
+    ghost marks_each: { length kept.now ≡ states_of model.now },
 }
 
-/// All rules: those at the kept states, at the flows and on their sums.
-fn flow_walk(
-    model: &Model,
-    goals: &Marks,
-    threshold: &Frac,
-    cert: &FlowCert,
-    kept: &Marks,
-    sums: &mut Sums,
-) -> Result<(), Objection>
-    requires goals { length goals.now ≡ states_of model.now }
-    requires shape { IsFlowShape model.now cert.now.kept.items cert.now.wide.items cert.now.flows.items }
-    requires kept { kept.now ≡ kept_marks (states_of model.now) cert.now.kept.items }
-    requires sums { AreSums (states_of model.now) sums.old }
-    ensures { result ≡ objection_to (map (kept_check goals.now) cert.now.kept.items ++ checks_from model.now goals.now threshold.now cert.now.kept.items cert.now.flows.items sums.old) }
-{
-    each_kept_at(goals, cert.kept.as_slice())?;
-    flows_walk(model, goals, threshold, cert, kept, sums)
+impl Claimed<'_> {
+    /// The rules at a flow, which is then added to the sums.
+    fn flow_at(self, sums: &mut Sums, flow: &Flow) -> Result<(), Objection>
+        requires sums { AreSums (states_of self.model.now) sums.old }
+        requires state { flow.now.state < states_of self.model.now }
+        ensures verdict { result ≡ objection_to (checks_at self.entry.model.now self.entry.goals.now self.entry.kept.now sums.old flow.now) }
+        ensures sums { OnOk result (sums.new ≡ after_flow self.entry.model.now self.entry.goals.now sums.old flow.now) }
+    {
+        choice_at(self.model, flow)?;
+        amount_at(self.kept, flow)?;
+        match sums.add_flow(self.model, self.goals, flow) {
+            Ok(()) => Ok(()),
+            Err(Wide) => Err(Objection::PastWidth {
+                state: Some(flow.state),
+                choice: Some(flow.choice),
+            }),
+        }
+    }
+
+    /// The same at each flow.
+    fn each_flow_at(self, sums: &mut Sums, flows: &[Flow]) -> Result<(), Objection>
+        requires sums { AreSums (states_of self.model.now) sums.old }
+        requires states { All (λ f. f.state < states_of self.model.now) flows.now }
+        ensures verdict { result ≡ objection_to (each_flow self.entry.model.now self.entry.goals.now self.entry.kept.now sums.old flows.now) }
+        ensures sums { OnOk result (sums.new ≡ after_flows self.entry.model.now self.entry.goals.now sums.old flows.now) }
+    {
+        for flow in flows {
+            self.flow_at(sums, flow)?;
+        }
+        Ok(())
+    }
+
+    /// The rules at the flows and on their sums.
+    fn flows_walk(self, threshold: &Frac, sums: &mut Sums) -> Result<(), Objection>
+        requires sums { AreSums (states_of self.model.now) sums.old }
+        ensures { result ≡ objection_to (checks_from self.entry.model.now self.entry.goals.now threshold.now self.entry.cert.now.kept.items self.entry.cert.now.flows.items sums.old) }
+    {
+        self.each_flow_at(sums, self.cert.flows.as_slice())?;
+        sums_at(sums, self.cert.kept.as_slice(), threshold)
+    }
+
+    /// All rules: those at the kept states, at the flows and on their sums.
+    fn walk(self, threshold: &Frac, sums: &mut Sums) -> Result<(), Objection>
+        requires sums { AreSums (states_of self.model.now) sums.old }
+        ensures { result ≡ objection_to (map (kept_check self.entry.goals.now) self.entry.cert.now.kept.items ++ checks_from self.entry.model.now self.entry.goals.now threshold.now self.entry.cert.now.kept.items self.entry.cert.now.flows.items sums.old) }
+    {
+        each_kept_at(self.goals, self.cert.kept.as_slice())?;
+        self.flows_walk(threshold, sums)
+    }
 }
 
 /// Whether the flow shows that some policy of the subsystem with these kept states reaches a goal from the start with a probability of at least
@@ -226,6 +205,12 @@ pub fn holds_flow(
     model.known();
     let kept = kept_marks_of(alloc, model.states(), cert.kept.as_slice())?;
     let mut sums = Sums::new(alloc, model.states(), goals, start)?;
-    let walk = flow_walk(model, goals, &threshold, cert, &kept, &mut sums);
+    let claimed = Claimed {
+        model,
+        goals,
+        cert,
+        kept: &kept,
+    };
+    let walk = claimed.walk(&threshold, &mut sums);
     Ok(verdict_after(walk))
 }

@@ -1,10 +1,23 @@
-use Rattle.std.proofs.Common.{◌≡◌, ℕ, ◌++◌, map, ap, ◌∙◌}
+use Rattle.std.proofs.Common.{◌≡◌, ℕ, Bool, List, ◌++◌, length, map, ap, ◌∙◌}
+use Rattle.mdp_spec.specs.Mdp.{states_of}
 use Rattle.mdp_farkas.specs.Verdict.{verdict_of}
 use Rattle.mdp_subsystem_rules.specs.FlowChecks.{kept_check, checks_from, flow_checks}
+use Rattle.mdp_subsystem_rules.specs.Kept.{kept_marks}
 use Rattle.mdp_subsystem_rules.specs.Sums.{FlowSums, first_sums}
 use Rattle.mdp_farkas.specs.Verdict.{objection_to, verdict}
+use Rattle.mdp_subsystem_rules.proofs.Kept.{length-kept_marks}
 use Rattle.mdp_subsystem_rules.proofs.FlowRules.{flow_rules, flow_sub_max, flow_within}
 use Rattle.mdp_subsystem_rules.proofs.flow.holds_flow.Goals as goal
+
+pub invariant_of-claimed-clause-marks : goal.invariant_of-claimed-clause-marks
+invariant_of-claimed-clause-marks c =
+    c.in_ok-kept.ensures {u = tt}
+    ∙ ap (λ (n : ℕ). kept_marks n c.as_slice.result.now) c.states.ensures
+    ∙ ap (λ (kept : List ℕ). kept_marks (states_of c.args.model.now) kept) c.as_slice.ensures.value
+
+pub invariant_of-claimed-clause-marks_each : goal.invariant_of-claimed-clause-marks_each
+invariant_of-claimed-clause-marks_each c =
+    ap (λ (marks : List Bool). length marks) (c.in_ok-kept.ensures {u = tt}) ∙ length-kept_marks c.states.result c.as_slice.result.now ∙ c.states.ensures
 
 pub returns : goal.returns
 returns c =
@@ -19,7 +32,7 @@ returns c =
     let e : c.verdict_after.result
     ≡ verdict_of (flow_checks c.args.model.now c.args.goals.now c.args.start c.args.threshold c.args.cert.now.kept.items c.args.cert.now.flows.items) =
     c.verdict_after.ensures
-    ∙ ap verdict c.flow_walk-walk.ensures
+    ∙ ap verdict c.walk-walk.ensures
     ∙ ap (λ (sums : FlowSums). verdict (objection_to (map (kept_check goals) kept ++ checks_from m goals threshold kept flows sums)))
     (c.in_ok-sums.ensures {u = tt} ∙ ap (λ (n : ℕ). first_sums n goals start) c.states-2.ensures)
     in

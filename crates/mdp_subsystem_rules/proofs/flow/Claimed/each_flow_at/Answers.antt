@@ -8,13 +8,13 @@ use Rattle.mdp_subsystem_rules.specs.Sums.{FlowSums, AreSums, after_flow, after_
 use Rattle.mdp_farkas.specs.Verdict.{objection_to}
 use Rattle.mdp_farkas.proofs.Objections.{halts, goes_on}
 use Rattle.mdp_subsystem_rules.proofs.Sizes.{sized_after}
-use Rattle.mdp_subsystem_rules.proofs.flow.each_flow_at.Goals as goal
+use Rattle.mdp_subsystem_rules.proofs.flow.Claimed.each_flow_at.Goals as goal
 
 pub returns-in_err-flow_at-clause-verdict : goal.returns-in_err-flow_at-clause-verdict
 returns-in_err-flow_at-clause-verdict c =
-    let m = c.args.model.now in
-    let goals = c.args.goals.now in
-    let kept = c.args.kept.now in
+    let m = c.args.self.model.now in
+    let goals = c.args.self.goals.now in
+    let kept = c.args.self.kept.now in
     let rest = drop (c.loop-flow.flow-index + 1) c.args.flows.now in
     let x = c.flow-item.result in
     let next = drop_more c.args.flows.now c.loop-flow.flow-index x c.loop-flow-test.true ∙ ap (λ (f : Flow). f ∷ rest) (sym c.flow-item.is) in
@@ -26,9 +26,9 @@ returns-in_err-flow_at-clause-verdict c =
 
 pub loop-flow-preserved : goal.loop-flow-preserved
 loop-flow-preserved c =
-    let m = c.args.model.now in
-    let goals = c.args.goals.now in
-    let kept = c.args.kept.now in
+    let m = c.args.self.model.now in
+    let goals = c.args.self.goals.now in
+    let kept = c.args.self.kept.now in
     let rest = drop (c.loop-flow.flow-index + 1) c.args.flows.now in
     let x = c.flow-item.result in
     let next = drop_more c.args.flows.now c.loop-flow.flow-index x c.loop-flow-test.true ∙ ap (λ (f : Flow). f ∷ rest) (sym c.flow-item.is) in
