@@ -65,15 +65,19 @@ abbrev pub mean_body : ℚ → List GainsEntry → PlainBounds
 mean_body spread xs =
     gains (map (λ x. x.lower) xs) (map (λ x. x.upper) xs) (map (λ x. x.bound) xs) (map (λ x. x.bias) xs) (map (λ x. x.choice) xs) spread
 
+-- those of a mean payoff, with the line `end`
+abbrev pub mean_from : ℕ → Place → Result (PlainBounds × Place) Refusal
+mean_from states p = do
+  spread ← line_by spread_at p
+  xs ← entries_to_end Two gains_columns states spread.1
+  Ok (mean_body spread.0 xs.0, xs.1)
+
 -- by the claim, with the line `end`; other claims are refused before
 unfoldable pub body_from : PlainClaim → ℕ → Place → Result (PlainBounds × Place) Refusal
 body_from (upper label) states p = refused kind.Claim p.line
 body_from (reach dir label) states p = entries_to_end Two (ranked_columns fraction_value) states p >>= λ xs. Ok (reach_body xs.0, xs.1)
 body_from (reward dir name label) states p = entries_to_end Two (ranked_columns reward_value) states p >>= λ xs. Ok (reward_body xs.0, xs.1)
-body_from (mean dir name) states p = do
-  spread ← line_by spread_at p
-  xs ← entries_to_end Two gains_columns states spread.1
-  Ok (mean_body spread.0 xs.0, xs.1)
+body_from (mean dir name) states p = mean_from states p
 body_from (witness dir label threshold) states p = refused kind.Claim p.line
 
 -- ---- the whole

@@ -4,7 +4,7 @@ ghost use Rattle.mdp_text.specs.Lines.{place, nothing_behind};
 ghost use Rattle.mdp_cert.specs.Cert.{plain_claim};
 ghost use Rattle.mdp_bounds_text.specs.Cert.{plain_body};
 ghost use Rattle.mdp_bounds_text.specs.Plain.{plain};
-ghost use Rattle.mdp_bounds_text.specs.Reading.{body_from, outcome};
+ghost use Rattle.mdp_bounds_text.specs.Reading.{mean_from, body_from, outcome};
 
 use crate::body::BoundsBody;
 use crate::cert::BoundsCert;
@@ -14,6 +14,21 @@ use crate::ranked_lines::{reach_cert, reward_cert};
 use mdp_cert::{Claim, Version, entries_to_end, spread_at};
 use mdp_text::{CertError, CertKind, is_line, next_line, nothing_behind};
 use std::alloc::Global;
+
+/// Reads the lines from line 5 on of a mean payoff, with the line `end`, and gives the number of the line behind it and the bytes from there on.
+fn mean_from(
+    alloc: Global,
+    states: u32,
+    bytes: &[u8],
+) -> Result<(BoundsBody, u64, &[u8]), CertError>
+    ensures { let read = mean_from states (place 5 bytes.now) in MatchResult result (λ p. read ≡ Ok (plain_body p.0, place p.1 p.2.now)) (λ e. Refuses e read) }
+{
+    let (text, rest) = next_line(5, bytes)?;
+    let spread = spread_at(5, text)?;
+    let (entries, line, rest) = entries_to_end(alloc, Version::Two, states, 6, rest)?;
+    let cert = mean_cert(alloc, spread, &entries)?;
+    Ok((BoundsBody::Mean(cert), line, rest))
+}
 
 /// Reads the lines from line 5 on, by the claim, with the line `end`, and gives the number of the line behind it and the bytes from there on.
 #[tactic(auto, unfolding(crate::specs::Reading::body_from))]
@@ -38,16 +53,7 @@ fn body_from<'a>(
                 rest,
             ))
         }
-        Claim::Mean { .. } => {
-            let (text, rest) = next_line(5, bytes)?;
-            let spread = spread_at(5, text)?;
-            let (entries, line, rest) = entries_to_end(alloc, Version::Two, states, 6, rest)?;
-            Ok((
-                BoundsBody::Mean(mean_cert(alloc, spread, &entries)?),
-                line,
-                rest,
-            ))
-        }
+        Claim::Mean { .. } => mean_from(alloc, states, bytes),
         Claim::Upper { .. } | Claim::Witness { .. } => Err(CertError::At {
             line: 5,
             kind: CertKind::Claim,
