@@ -112,14 +112,14 @@ impl<'a> Biases<'a> {
 
     /// The gain that goes with corrections by policies, or by many sweeps where elimination fails. The first policy has the rows of the sweeps.
     fn by_policies(&mut self, alloc: Global, gains: &[f64]) -> Result<f64, AllocError> {
-        let mut policies = match self.policies.take() {
-            Some(policies) => policies,
-            None => Unichain::new(alloc, self.component, self.sweeps.best_rows())?,
-        };
-        let found = policies.run(alloc, gains)?;
-        self.policies = Some(policies);
-        if let Some(gain) = found {
-            return Ok(gain);
+        if self.policies.is_none() {
+            let first = self.sweeps.best_rows();
+            self.policies = Some(Unichain::new(alloc, self.component, first)?);
+        }
+        if let Some(policies) = &mut self.policies {
+            if let Some(gain) = policies.run(alloc, gains)? {
+                return Ok(gain);
+            }
         }
         self.way = Way::ManySweeps;
         self.sweeps.slow_down(SLOWEST);

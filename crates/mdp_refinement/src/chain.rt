@@ -3,7 +3,7 @@
 use crate::coarse::{Counted, Grouping};
 use crate::component::{Component, FloatRow};
 use crate::equations::Equations;
-use crate::lists::{add_at, float_at, number, put};
+use crate::lists::{add_at, earned_by, float_at, number, put, sum_over};
 use crate::sweeps::Change;
 use std::alloc::{AllocError, Global};
 use std::mem;
@@ -37,11 +37,7 @@ pub(crate) struct Visits {
 
 /// What a node's row has over its value and the gain, from values in which that of the node is `own`.
 fn lacking(link: Link, entries: &[(u32, f64)], gain: f64, own: f64, values: &[f64]) -> f64 {
-    let mut more = link.earned - gain - link.total * own;
-    for (target, prob) in entries {
-        more += *prob * float_at(values, *target);
-    }
-    more
+    sum_over(link.earned - gain - link.total * own, entries, values)
 }
 
 impl Visits {
@@ -56,10 +52,17 @@ impl Visits {
     /// Makes the shares the visits, and all shares 0, and passes the visits on along a chain. How often rows are taken in all.
     pub(crate) fn step(&mut self, chain: &Chain) -> f64 {
         mem::swap(&mut self.visits, &mut self.shares);
-        for share in self.shares.iter_mut() {
-            *share = 0.0;
-        }
+        self.shares.fill(0.0);
         chain.pass_all(self)
+    }
+
+    /// What they come to after a few steps along a chain of so many nodes, each of which is begun at once.
+    pub(crate) fn few(alloc: Global, chain: &Chain, nodes: usize) -> Result<Visits, AllocError> {
+        let mut visits = Visits::each_once(alloc, nodes)?;
+        for _ in 0..FEW_STEPS {
+            visits.step(chain);
+        }
+        Ok(visits)
     }
 }
 
@@ -80,9 +83,7 @@ impl Chain {
         earned: f64,
         repeats: f64,
     ) -> Result<(), AllocError> {
-        for entry in component.entries_of(row) {
-            self.entries.push(*entry)?;
-        }
+        self.entries.extend_from_slice(component.entries_of(row))?;
         self.links.push(Link {
             end: self.entries.len(),
             total: row.total,
@@ -106,7 +107,7 @@ impl Chain {
         self.entries.clear();
         for at in rows {
             if let Some(row) = component.rows.get(*at) {
-                let earned = gains.get(*at).copied().unwrap_or(0.0);
+                let earned = earned_by(gains, *at);
                 self.push(component, row, earned, pace / row.total.max(least))?;
             }
         }
@@ -142,10 +143,7 @@ impl Chain {
         gain: f64,
         values: &mut [f64],
     ) -> Result<Vec<f64>, AllocError> {
-        let mut changes = Vec::with_capacity(alloc, values.len())?;
-        for value in values.iter() {
-            changes.push(*value)?;
-        }
+        let mut changes = values.to_vec(alloc)?;
         self.sweep(gain, values, &[]);
         for (change, value) in changes.iter_mut().zip(values.iter()) {
             *change = *value - *change;
@@ -181,8 +179,11 @@ impl Chain {
 
     /// Where the entries of the node at a place begin.
     fn start_of(&self, place: usize) -> usize {
-        match place.checked_sub(1) {
-            Some(before) => self.links.get(before).map_or(0, |link| link.end),
+        let Some(before) = place.checked_sub(1) else {
+            return 0;
+        };
+        match self.links.get(before) {
+            Some(link) => link.end,
             None => 0,
         }
     }

@@ -1,7 +1,7 @@
 //! Corrections that are one number for all nodes of a group, where sweeps come forward slowly: nodes whose values change alike are in a group, and the
 //! equations of all groups are solved at once (adaptive aggregation, Bertsekas and Castañon 1989).
 
-use crate::chain::{Chain, Visits};
+use crate::chain::Chain;
 use crate::equations::Equations;
 use crate::lists::{float_at, number_at, put};
 use std::alloc::{AllocError, Global};
@@ -123,9 +123,7 @@ impl Grouping {
 
     /// Puts all nodes into one group.
     fn join(&mut self) {
-        for group in self.groups.iter_mut() {
-            *group = 0;
-        }
+        self.groups.fill(0);
         self.count = 1;
     }
 
@@ -168,25 +166,25 @@ impl Grouping {
         }
     }
 
-    /// Sweeps along a chain once, and adds corrections by groups of nodes whose values changed alike to the values and to the gain, if there is one. Each node
-    /// counts as often as its row is taken.
+    /// Sweeps along a chain once, and adds corrections by groups of nodes whose values changed alike to the values. The correction of the gain, if there is
+    /// one. Each node counts as often as its row is taken.
     pub(crate) fn correct(
         &mut self,
         alloc: Global,
         chain: &Chain,
-        visits: &Visits,
-        gain: &mut Option<f64>,
+        visits: &[f64],
+        gain: Option<f64>,
         values: &mut [f64],
-    ) -> Result<(), AllocError> {
-        let changes = chain.changes(alloc, gain.unwrap_or(0.0), values)?;
-        self.split(alloc, &changes)?;
-        let mut equations = chain.equations(alloc, self, *gain, values, &visits.visits)?;
+    ) -> Result<f64, AllocError> {
+        self.split(alloc, &chain.changes(alloc, gain.unwrap_or(0.0), values)?)?;
+        let mut equations = chain.equations(alloc, self, gain, values, visits)?;
         let mut corrections = equations.solve(alloc)?;
-        if let Some(gain) = gain {
-            *gain += float_at(&corrections, 0);
+        let mut more = 0.0;
+        if gain.is_some() {
+            more = float_at(&corrections, 0);
             put(&mut corrections, 0, 0.0);
         }
         self.add(&corrections, values);
-        Ok(())
+        Ok(more)
     }
 }

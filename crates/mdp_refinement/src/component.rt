@@ -1,5 +1,5 @@
 use crate::convert::{nearest, to_float};
-use crate::lists::{Groups, float_at, number, put};
+use crate::lists::{Groups, float_at, number, put, sum_over};
 use crate::outside::{Outside, Widening};
 use crate::rows::{Rows, WholeRow};
 use crate::strong::Components;
@@ -56,6 +56,7 @@ struct Gathering<'a> {
     values: &'a [Value],
     units: Vec<f64>,
     rows: Vec<FloatRow>,
+    starts: Vec<usize>,
     entries: Vec<(u32, f64)>,
     pending: Vec<(u32, f64)>,
     outside: Widening,
@@ -126,22 +127,29 @@ impl Gathering<'_> {
         }
     }
 
+    /// The sum of a first number and of the probabilities in `pending`, and what rounding of the values to their units may cost in a row of the node at a
+    /// place of the component.
+    fn weigh(&self, first: f64, node: u32, row: &WholeRow) -> (f64, f64) {
+        let mut total = first;
+        let mut rounding = 0.0;
+        for (place, prob) in &self.pending {
+            total += *prob;
+            rounding += *prob * float_at(&self.units, *place);
+        }
+        if !self.is_exact(row) {
+            rounding += total * float_at(&self.units, node);
+        }
+        (total, rounding / 2.0)
+    }
+
     /// Appends the row at a place, of the node at a place of the component, if it leads to no node outside whose value isn't known.
     fn push(&mut self, node: u32, place: usize, row: &WholeRow) -> Result<(), AllocError> {
         let Some(exit) = self.take_entries(row)? else {
             return Ok(());
         };
+        let (total, slack) = self.weigh(exit, node, row);
         let first = number(self.entries.len());
-        let mut total = exit;
-        let mut rounding = 0.0;
-        for entry in &self.pending {
-            total += entry.1;
-            rounding += entry.1 * float_at(&self.units, entry.0);
-            self.entries.push(*entry)?;
-        }
-        if !self.is_exact(row) {
-            rounding += total * float_at(&self.units, node);
-        }
+        self.entries.extend_from_slice(&self.pending)?;
         self.rows.push(FloatRow {
             node,
             place: number(place),
@@ -149,7 +157,7 @@ impl Gathering<'_> {
             end: number(self.entries.len()),
             exit,
             total,
-            slack: rounding / 2.0,
+            slack,
         })?;
         Ok(())
     }
@@ -166,15 +174,14 @@ impl Gathering<'_> {
         Ok(())
     }
 
-    /// Appends the rows of all nodes. Where those of each begin, and behind the last node where they end.
-    fn push_nodes(&mut self, alloc: Global, nodes: &[u32]) -> Result<Vec<usize>, AllocError> {
-        let mut starts = Vec::new(alloc);
+    /// Appends the rows of all nodes, and where those of each begin, and behind the last node where they end.
+    fn push_nodes(&mut self, nodes: &[u32]) -> Result<(), AllocError> {
         for (place, node) in nodes.iter().enumerate() {
-            starts.push(self.rows.len())?;
+            self.starts.push(self.rows.len())?;
             self.push_node(number(place), *node)?;
         }
-        starts.push(self.rows.len())?;
-        Ok(starts)
+        self.starts.push(self.rows.len())?;
+        Ok(())
     }
 }
 
@@ -198,33 +205,10 @@ fn units_of(alloc: Global, rows: &Rows, nodes: &[u32]) -> Result<Vec<f64>, Alloc
     Ok(units)
 }
 
-/// The place of the row of each entry.
-fn owners_of(alloc: Global, rows: &[FloatRow]) -> Result<Vec<u32>, AllocError> {
-    let mut owners = Vec::new(alloc);
-    for (place, row) in rows.iter().enumerate() {
-        for _ in row.range() {
-            owners.push(number(place))?;
-        }
-    }
-    Ok(owners)
-}
-
-/// The node that each entry leads to.
-fn targets_of(alloc: Global, entries: &[(u32, f64)]) -> Result<Vec<u32>, AllocError> {
-    let mut targets = Vec::new(alloc);
-    for entry in entries {
-        targets.push(entry.0)?;
-    }
-    Ok(targets)
-}
-
-/// A copy of a list of nodes.
-fn listed(alloc: Global, members: &[u32]) -> Result<Vec<u32>, AllocError> {
-    let mut nodes = Vec::new(alloc);
-    for node in members {
-        nodes.push(*node)?;
-    }
-    Ok(nodes)
+/// The value that is so many units more, rounded to them. None past 128 bits, or where one isn't a number.
+fn moved(value: Option<i128>, steps: f64, unit: i128) -> Option<i128> {
+    let more = nearest(steps)?.checked_mul(unit)?;
+    value?.checked_add(more)
 }
 
 impl Component {
@@ -236,7 +220,7 @@ impl Component {
         component: usize,
         values: &[Value],
     ) -> Result<Component, AllocError> {
-        let nodes = listed(alloc, components.nodes_of(component))?;
+        let nodes = components.nodes_of(component).to_vec(alloc)?;
         let (most_rows, most_entries) = sizes_of(rows, &nodes);
         let mut gathering = Gathering {
             whole_rows: rows,
@@ -245,16 +229,17 @@ impl Component {
             values,
             units: units_of(alloc, rows, &nodes)?,
             rows: Vec::with_capacity(alloc, most_rows)?,
+            starts: Vec::new(alloc),
             entries: Vec::with_capacity(alloc, most_entries)?,
             pending: Vec::new(alloc),
             outside: Widening::empty(),
         };
-        let starts = gathering.push_nodes(alloc, &nodes)?;
+        gathering.push_nodes(&nodes)?;
         Ok(Component {
             nodes,
             units: gathering.units,
             rows: gathering.rows,
-            starts,
+            starts: gathering.starts,
             entries: gathering.entries,
             outside: gathering.outside.outside(),
         })
@@ -267,26 +252,13 @@ impl Component {
         }
     }
 
-    /// Adds a correction to the value of the node at a place, rounded to its unit. None where it is past 128 bits or not a number.
-    fn add_at(
-        &self,
-        rows: &Rows,
-        place: usize,
-        correction: f64,
-        values: &mut [Value],
-    ) -> Option<()> {
-        let node = self.nodes.get(place).copied()?;
-        let steps = nearest(correction / self.units.get(place).copied()?)?;
-        let more = steps.checked_mul(rows.unit_of(node))?;
-        let sum = value_at(values, node)?.checked_add(more)?;
-        put(values, node, Value::known(sum));
-        Some(())
-    }
-
     /// Adds corrections to the values of its nodes, rounded to their units. None where one is past 128 bits or not a number.
     pub(crate) fn add(&self, rows: &Rows, corrections: &[f64], values: &mut [Value]) -> Option<()> {
-        for (place, correction) in corrections.iter().enumerate() {
-            self.add_at(rows, place, *correction, values)?;
+        for (place, node) in self.nodes.iter().enumerate() {
+            let at = number(place);
+            let steps = float_at(corrections, at) / float_at(&self.units, at);
+            let sum = moved(value_at(values, *node), steps, rows.unit_of(*node))?;
+            put(values, *node, Value::known(sum));
         }
         Some(())
     }
@@ -324,11 +296,39 @@ impl Component {
         self.entries.get(row.range()).unwrap_or(&[])
     }
 
+    /// The entries of the row at a place, none where there is no such row.
+    pub(crate) fn entries_at(&self, place: usize) -> &[(u32, f64)] {
+        match self.rows.get(place) {
+            Some(row) => self.entries_of(row),
+            None => &[],
+        }
+    }
+
+    /// What the row at a place gives to nodes outside, 0 where there is no such row.
+    pub(crate) fn exit_at(&self, place: usize) -> f64 {
+        match self.rows.get(place) {
+            Some(row) => row.exit,
+            None => 0.0,
+        }
+    }
+
+    /// The place of the whole row of the row at a place, if there is such a row.
+    pub(crate) fn pick_at(&self, place: usize) -> Option<usize> {
+        Some(self.rows.get(place)?.place())
+    }
+
+    /// The row at a place, and what it earns.
+    pub(crate) fn earning(&self, place: usize, gains: &[f64]) -> Option<(&FloatRow, f64)> {
+        Some((self.rows.get(place)?, gains.get(place).copied()?))
+    }
+
     /// The places of the rows that have an entry to each node.
     pub(crate) fn leading(&self, alloc: Global) -> Result<Groups, AllocError> {
-        let owners = owners_of(alloc, &self.rows)?;
-        let targets = targets_of(alloc, &self.entries)?;
-        Groups::new(alloc, &targets, &owners, self.nodes.len())
+        let mut leading = Groups::with_places(alloc, &self.entries, self.nodes.len())?;
+        for (place, row) in self.rows.iter().enumerate() {
+            leading.put_each(self.entries_of(row), number(place));
+        }
+        Ok(leading)
     }
 
     /// The least unit of a node.
@@ -351,10 +351,11 @@ impl Component {
 
     /// What a row makes of a gain and of values within the component.
     pub(crate) fn sum(&self, row: &FloatRow, gain: f64, values: &[f64]) -> f64 {
-        let mut total = gain;
-        for (target, prob) in self.entries_of(row) {
-            total += *prob * float_at(values, *target);
-        }
-        total
+        sum_over(gain, self.entries_of(row), values)
+    }
+
+    /// What a row that earns so much over the gain has over the value of its node, from values within the component.
+    pub(crate) fn over(&self, row: &FloatRow, earned: f64, values: &[f64]) -> f64 {
+        self.sum(row, earned, values) - row.total * float_at(values, row.node)
     }
 }

@@ -1,11 +1,11 @@
 //! Corrections of the values of a component, in floats: the best values that gains come to, by sweeps or by policies.
 
-use crate::chain::{Chain, FEW_STEPS, Visits};
+use crate::chain::{Chain, Visits};
 use crate::coarse::Grouping;
-use crate::component::{Component, FloatRow};
+use crate::component::Component;
 use crate::eliminate::{Elimination, Factors, eliminated, most_products};
 use crate::leaving::proper;
-use crate::lists::{Groups, float_at, number, put};
+use crate::lists::{Groups, earned_by, float_at, number, put};
 use crate::sweeps::{Change, FEW_SWEEPS, Forecast, Outlook, Progress, WINDOW, many_sweeps};
 use std::alloc::{AllocError, Global};
 
@@ -51,7 +51,7 @@ pub(crate) struct Corrector<'a> {
     sense: f64,
     unit: f64,
     way: Way,
-    start: Vec<usize>,
+    start: &'a [usize],
     policy: Vec<usize>,
     values: Vec<f64>,
     factors: Option<Factors>,
@@ -67,7 +67,7 @@ impl<'a> Corrector<'a> {
         component: &'a Component,
         leading: &'a Groups,
         sense: f64,
-        start: &[usize],
+        start: &'a [usize],
     ) -> Result<Corrector<'a>, AllocError> {
         Ok(Corrector {
             component,
@@ -79,8 +79,8 @@ impl<'a> Corrector<'a> {
             } else {
                 Way::Policies
             },
-            start: listed(alloc, start)?,
-            policy: listed(alloc, start)?,
+            start,
+            policy: start.to_vec(alloc)?,
             values: vec![in alloc; 0.0; component.len()]?,
             factors: None,
             factors_policy: Vec::new(alloc),
@@ -94,11 +94,6 @@ impl<'a> Corrector<'a> {
         &self.policy
     }
 
-    /// The row of each node, to keep.
-    pub(crate) fn into_policy(self) -> Vec<usize> {
-        self.policy
-    }
-
     /// The corrections.
     pub(crate) fn values(&self) -> &[f64] {
         &self.values
@@ -109,8 +104,7 @@ impl<'a> Corrector<'a> {
         let (from, to) = self.component.range_of(place);
         let mut best = None;
         for at in from..to {
-            let row = self.component.rows.get(at)?;
-            let gain = gains.get(at).copied()?;
+            let (row, gain) = self.component.earning(at, gains)?;
             let value = self.component.sum(row, gain, &self.values) / row.total;
             match best {
                 Some((old, _)) if !((value - old) * self.sense > 0.0) => {}
@@ -132,13 +126,6 @@ impl<'a> Corrector<'a> {
             }
         }
         change
-    }
-
-    /// Sets all values to 0.
-    fn clear(&mut self) {
-        for value in self.values.iter_mut() {
-            *value = 0.0;
-        }
     }
 
     /// Sweeps until the changes are small, at most so many times. Whether they became so.
@@ -168,12 +155,10 @@ impl<'a> Corrector<'a> {
     ) -> Result<(), AllocError> {
         let mut chain = Chain::empty(alloc);
         chain.take(self.component, greedy, gains, 1.0, LEAST_TOTAL)?;
-        let mut visits = Visits::each_once(alloc, greedy.len())?;
-        for _ in 0..FEW_STEPS {
-            visits.step(&chain);
-        }
+        let visits = Visits::few(alloc, &chain, greedy.len())?.visits;
         self.grouping
-            .correct(alloc, &chain, &visits, &mut None, &mut self.values)
+            .correct(alloc, &chain, &visits, None, &mut self.values)?;
+        Ok(())
     }
 
     /// Sweeps until the changes are small. Whether they became so. Where a forecast says that they won't, groups of nodes are corrected; it stops where that
@@ -184,14 +169,14 @@ impl<'a> Corrector<'a> {
         gains: &[f64],
         greedy: &mut [usize],
     ) -> Result<bool, AllocError> {
-        self.clear();
+        self.values.fill(0.0);
         let mut forecast = Forecast::new(FEW_SWEEPS, self.unit, SWEEP_LOSS);
         let mut progress = Progress::none();
         for sweep in 0..FEW_SWEEPS {
             let change = self.sweep(gains, greedy);
             match forecast.after(sweep, change) {
                 Outlook::Settled => return Ok(true),
-                Outlook::Hopeless if progress.goes_on(change.most()) => {
+                Outlook::Hopeless if progress.goes_on(change.most) => {
                     self.correct_groups(alloc, gains, greedy)?;
                     forecast.begin_anew();
                 }
@@ -209,18 +194,12 @@ impl<'a> Corrector<'a> {
         greedy: &mut [usize],
         before: &mut [f64],
     ) -> Option<f64> {
-        let first = self.sweep(gains, greedy).most();
-        let second = self.sweep(gains, greedy).most();
+        let first = self.sweep(gains, greedy).most;
+        let second = self.sweep(gains, greedy).most;
         for (old, value) in before.iter_mut().zip(&self.values) {
             *old = *value;
         }
-        let third = self.sweep(gains, greedy).most();
-        let ratio = third / second;
-        let left = 1.0 - ratio;
-        if left > 0.0 && (ratio - second / first).abs() <= EVEN * left {
-            return Some(ratio / left);
-        }
-        None
+        further(first, second, self.sweep(gains, greedy).most)
     }
 
     /// Sweeps many times, and lets the values go on where changes shrink evenly.
@@ -232,7 +211,7 @@ impl<'a> Corrector<'a> {
         greedy: &mut [usize],
     ) -> Result<(), AllocError> {
         let mut before = vec![in alloc; 0.0; self.values.len()]?;
-        self.clear();
+        self.values.fill(0.0);
         for _ in 0..sweeps / WINDOW {
             if self.sweep_some(gains, EVEN_SWEEPS, greedy) {
                 break;
@@ -245,11 +224,17 @@ impl<'a> Corrector<'a> {
         Ok(())
     }
 
+    /// Takes these rows for the policy, but those to begin with at the nodes from which they don't leave.
+    fn take(&mut self, alloc: Global, greedy: &[usize]) -> Result<(), AllocError> {
+        self.policy = proper(alloc, self.component, self.leading, greedy, self.start)?;
+        Ok(())
+    }
+
     /// Corrections by few sweeps. Whether they came to an end.
     fn by_few_sweeps(&mut self, alloc: Global, gains: &[f64]) -> Result<bool, AllocError> {
-        let mut greedy = self.start.clone()?;
+        let mut greedy = self.start.to_vec(alloc)?;
         let is_settled = self.sweep_on(alloc, gains, &mut greedy)?;
-        self.policy = proper(alloc, self.component, self.leading, &greedy, &self.start)?;
+        self.take(alloc, &greedy)?;
         Ok(is_settled)
     }
 
@@ -260,26 +245,20 @@ impl<'a> Corrector<'a> {
         gains: &[f64],
         sweeps: usize,
     ) -> Result<(), AllocError> {
-        let mut greedy = self.start.clone()?;
+        let mut greedy = self.start.to_vec(alloc)?;
         self.sweep_far(alloc, gains, sweeps, &mut greedy)?;
-        self.policy = proper(alloc, self.component, self.leading, &greedy, &self.start)?;
-        Ok(())
-    }
-
-    /// How much a row gains over the value of its node, for whoever chooses.
-    fn gain_of(&self, row: &FloatRow, gain: f64, value: f64) -> f64 {
-        (self.component.sum(row, gain, &self.values) - row.total * value) * self.sense
+        self.take(alloc, &greedy)
     }
 
     /// The row of the node at a place that gains most over the policy's, where it gains enough.
     fn improved(&self, gains: &[f64], place: usize, chosen: usize) -> Option<usize> {
-        let value = self.values.get(place).copied()?;
+        let value = float_at(&self.values, number(place));
         let mut best = (self.unit * SMALL_GAIN).max(value.abs() * GAIN_LOSS);
         let mut better = None;
         let (from, to) = self.component.range_of(place);
         for at in from..to {
-            let row = self.component.rows.get(at)?;
-            let more = self.gain_of(row, gains.get(at).copied()?, value);
+            let (row, gain) = self.component.earning(at, gains)?;
+            let more = self.component.over(row, gain, &self.values) * self.sense;
             if at != chosen && more > best {
                 best = more;
                 better = Some(at);
@@ -305,7 +284,7 @@ impl<'a> Corrector<'a> {
     fn evaluate(&mut self, alloc: Global, gains: &[f64]) -> Result<(), AllocError> {
         let mut own = Vec::new(alloc);
         for row in &self.policy {
-            own.push(gains.get(*row).copied().unwrap_or(0.0))?;
+            own.push(earned_by(gains, *row))?;
         }
         if let Some(factors) = &self.factors {
             factors.solve(&mut own, &mut self.values);
@@ -327,7 +306,7 @@ impl<'a> Corrector<'a> {
         }
         match eliminated(alloc, self.component, &self.policy, self.products_left)? {
             Elimination::Done(factors) => {
-                self.products_left = self.products_left.saturating_sub(factors.products());
+                self.products_left = self.products_left.saturating_sub(factors.products);
                 self.factors = Some(factors);
                 self.factors_policy = self.policy.clone()?;
                 Ok(Factored::New)
@@ -389,11 +368,13 @@ enum Factored {
     Dense,
 }
 
-/// A copy of a list.
-fn listed(alloc: Global, places: &[usize]) -> Result<Vec<usize>, AllocError> {
-    let mut copy = Vec::new(alloc);
-    for place in places {
-        copy.push(*place)?;
+/// What all further changes come to, as a multiple of the last one, where these three shrink evenly.
+fn further(first: f64, second: f64, third: f64) -> Option<f64> {
+    let ratio = third / second;
+    let left = 1.0 - ratio;
+    if left > 0.0 && (ratio - second / first).abs() <= EVEN * left {
+        Some(ratio / left)
+    } else {
+        None
     }
-    Ok(copy)
 }

@@ -14,18 +14,30 @@ pub(crate) struct Matrix {
     exits: Vec<f64>,
 }
 
-/// The probabilities of entries, each at the place of its node, of so many places.
-fn listed(
+/// The place of each of these nodes, of so many in all; the greatest number for the others.
+fn places_of(alloc: Global, nodes: &[u32], all: usize) -> Result<Vec<u32>, AllocError> {
+    let mut places = vec![in alloc; u32::MAX; all]?;
+    for (place, node) in nodes.iter().enumerate() {
+        put(&mut places, *node, number(place));
+    }
+    Ok(places)
+}
+
+/// The probabilities of a node's entries, each at the place of the node that it leads to, of so many places.
+fn probs_of(
     alloc: Global,
-    entries: &[(u32, f64)],
+    rows: &[Entries],
+    node: u32,
     places: &[u32],
     count: usize,
 ) -> Result<Vec<f64>, AllocError> {
-    let mut row = vec![in alloc; 0.0; count]?;
-    for (node, prob) in entries {
-        put(&mut row, number_at(places, *node), *prob);
+    let mut probs = vec![in alloc; 0.0; count]?;
+    if let Some(entries) = rows.get(node as usize) {
+        for (target, prob) in entries {
+            put(&mut probs, number_at(places, *target), *prob);
+        }
     }
-    Ok(row)
+    Ok(probs)
 }
 
 /// Adds to each sum so many times the number at its place.
@@ -45,6 +57,23 @@ fn sum_of(numbers: &[f64]) -> f64 {
 }
 
 impl Matrix {
+    /// Appends the row of each node, of all those with rows and exits.
+    fn push_rows(
+        &mut self,
+        alloc: Global,
+        rows: &[Entries],
+        exits: &[f64],
+        places: &[u32],
+    ) -> Result<(), AllocError> {
+        let count = self.nodes.len();
+        for node in &self.nodes {
+            self.rows
+                .push(probs_of(alloc, rows, *node, places, count)?)?;
+            self.exits.push(float_at(exits, *node))?;
+        }
+        Ok(())
+    }
+
     /// These nodes, of all those with rows and exits; no row has an entry to another node.
     pub(crate) fn new(
         alloc: Global,
@@ -52,26 +81,13 @@ impl Matrix {
         rows: &[Entries],
         exits: &[f64],
     ) -> Result<Matrix, AllocError> {
-        let mut places = vec![in alloc; u32::MAX; rows.len()]?;
-        for (place, node) in nodes.iter().enumerate() {
-            put(&mut places, *node, number(place));
-        }
         let mut matrix = Matrix {
-            nodes: Vec::new(alloc),
+            nodes,
             rows: Vec::new(alloc),
             exits: Vec::new(alloc),
         };
-        for node in &nodes {
-            let entries = match rows.get(*node as usize) {
-                Some(entries) => entries.as_slice(),
-                None => &[],
-            };
-            matrix
-                .rows
-                .push(listed(alloc, entries, &places, nodes.len())?)?;
-            matrix.exits.push(float_at(exits, *node))?;
-        }
-        matrix.nodes = nodes;
+        let places = places_of(alloc, &matrix.nodes, rows.len())?;
+        matrix.push_rows(alloc, rows, exits, &places)?;
         Ok(matrix)
     }
 
@@ -103,6 +119,24 @@ impl Matrix {
         share
     }
 
+    /// The shares that the nodes behind a place take of the node there, of what it gives to them.
+    fn column(
+        &mut self,
+        alloc: Global,
+        place: usize,
+        given: &[f64],
+        pivot: f64,
+    ) -> Result<Entries, AllocError> {
+        let mut column = Vec::new(alloc);
+        for other in place.saturating_add(1)..self.rows.len() {
+            let share = self.fold_into(other, place, given, pivot);
+            if share > 0.0 {
+                column.push((number_at(&self.nodes, number(other)), share))?;
+            }
+        }
+        Ok(column)
+    }
+
     /// Eliminates the node at a place, before which all have gone; none where it doesn't leave.
     fn eliminate(&mut self, alloc: Global, place: usize) -> Result<Option<Step>, AllocError> {
         let Some(row) = self.rows.get_mut(place) else {
@@ -115,18 +149,11 @@ impl Matrix {
         if !(pivot > 0.0) {
             return Ok(None);
         }
-        let mut column = Vec::new(alloc);
-        for other in behind..self.rows.len() {
-            let share = self.fold_into(other, place, given, pivot);
-            if share > 0.0 {
-                column.push((number_at(&self.nodes, number(other)), share))?;
-            }
-        }
         Ok(Some(Step {
             node: number_at(&self.nodes, number(place)),
             pivot,
+            column: self.column(alloc, place, given, pivot)?,
             row: self.entries(alloc, behind, given)?,
-            column,
         }))
     }
 

@@ -3,7 +3,7 @@
 
 use crate::component::Component;
 use crate::dense::Matrix;
-use crate::lists::{add_at, flag_at, float_at, number, put};
+use crate::lists::{add_at, add_over, flag_at, float_at, number, put, sum_over};
 use std::alloc::{AllocError, Global};
 use std::cmp::Reverse;
 use std::collections::BinaryHeap;
@@ -52,7 +52,7 @@ pub(crate) enum Elimination {
 #[derive(Drop)]
 pub(crate) struct Factors {
     steps: Vec<Step>,
-    products: usize,
+    pub(crate) products: usize,
 }
 
 /// How many products the eliminations of a search may take, for so many nodes.
@@ -64,28 +64,18 @@ pub(crate) fn most_products(nodes: usize) -> usize {
 }
 
 impl Factors {
-    /// How many products the elimination took.
-    pub(crate) fn products(&self) -> usize {
-        self.products
-    }
-
     /// Brings gains forward through the steps.
     fn forward(&self, gains: &mut [f64]) {
         for step in &self.steps {
             let gain = float_at(gains, step.node);
-            for (node, share) in &step.column {
-                add_at(gains, *node, *share * gain);
-            }
+            add_over(gains, &step.column, gain);
         }
     }
 
     /// The values from gains that were brought forward, the last node first.
     fn back(&self, gains: &[f64], values: &mut [f64]) {
         for step in self.steps.iter().rev() {
-            let mut total = float_at(gains, step.node);
-            for (node, prob) in &step.row {
-                total += *prob * float_at(values, *node);
-            }
+            let total = sum_over(float_at(gains, step.node), &step.row, values);
             put(values, step.node, total / step.pivot);
         }
     }
@@ -95,9 +85,7 @@ impl Factors {
         for step in &self.steps {
             let visits = float_at(mass, step.node) / step.pivot;
             put(mass, step.node, visits);
-            for (node, prob) in &step.row {
-                add_at(mass, *node, visits * *prob);
-            }
+            add_over(mass, &step.row, visits);
         }
     }
 
@@ -105,10 +93,7 @@ impl Factors {
     pub(crate) fn visit(&self, mass: &mut [f64]) {
         self.pass_down(mass);
         for step in self.steps.iter().rev() {
-            let mut more = 0.0;
-            for (node, share) in &step.column {
-                more += *share * float_at(mass, *node);
-            }
+            let more = sum_over(0.0, &step.column, mass);
             add_at(mass, step.node, more);
         }
     }
@@ -120,19 +105,98 @@ impl Factors {
     }
 }
 
-/// The rows that are left. Each node that is left waits in the queue with the number of products in `queued`, and may stand there with greater ones, which
-/// count no more.
+/// The nodes whose rows have an entry to each node, those that have gone among them, and how many of them are left.
+#[derive(Drop)]
+struct Preds {
+    lists: Vec<Vec<u32>>,
+    counts: Vec<usize>,
+}
+
+impl Preds {
+    /// None yet, of so many nodes.
+    fn empty(alloc: Global, nodes: usize) -> Result<Preds, AllocError> {
+        let mut lists = Vec::new(alloc);
+        for _ in 0..nodes {
+            lists.push(Vec::new(alloc))?;
+        }
+        Ok(Preds {
+            lists,
+            counts: vec![in alloc; 0usize; nodes]?,
+        })
+    }
+
+    /// Those of these rows.
+    fn of(alloc: Global, rows: &[Entries]) -> Result<Preds, AllocError> {
+        let mut preds = Preds::empty(alloc, rows.len())?;
+        for (node, row) in rows.iter().enumerate() {
+            preds.count(number(node), row)?;
+        }
+        Ok(preds)
+    }
+
+    /// Notes that a node's row has these entries more.
+    fn count(&mut self, node: u32, entries: &[(u32, f64)]) -> Result<(), AllocError> {
+        for (target, _) in entries {
+            if let Some(list) = self.lists.get_mut(*target as usize) {
+                list.push(node)?;
+            }
+            if let Some(count) = self.counts.get_mut(*target as usize) {
+                *count = count.saturating_add(1);
+            }
+        }
+        Ok(())
+    }
+
+    /// Notes that a node's row leads nowhere any more.
+    fn uncount(&mut self, row: &[(u32, f64)]) {
+        for (target, _) in row {
+            if let Some(count) = self.counts.get_mut(*target as usize) {
+                *count = count.saturating_sub(1);
+            }
+        }
+    }
+}
+
+/// A queue in which each node that is left waits with the number of products in `products`, and may stand with greater ones, which count no more.
+#[derive(Drop)]
+struct Waiting {
+    queue: BinaryHeap<Reverse<(usize, u32)>>,
+    products: Vec<usize>,
+}
+
+impl Waiting {
+    /// None of so many nodes.
+    fn none(alloc: Global, nodes: usize) -> Result<Waiting, AllocError> {
+        Ok(Waiting {
+            queue: BinaryHeap::new(alloc),
+            products: vec![in alloc; usize::MAX; nodes]?,
+        })
+    }
+
+    /// The products with which a node waits.
+    fn products_of(&self, node: u32) -> usize {
+        self.products.get(node as usize).copied().unwrap_or(0)
+    }
+
+    /// Has a node wait with so many products.
+    fn push(&mut self, node: u32, products: usize) -> Result<(), AllocError> {
+        put(&mut self.products, node, products);
+        self.queue.push(Reverse((products, node)))?;
+        Ok(())
+    }
+}
+
+/// The rows that are left, those of the nodes that wait, and the steps by which the others went.
 #[derive(Drop)]
 struct System {
     rows: Vec<Entries>,
-    preds: Vec<Vec<u32>>,
-    counts: Vec<usize>,
+    preds: Preds,
     exits: Vec<f64>,
     is_gone: Vec<bool>,
-    queue: BinaryHeap<Reverse<(usize, u32)>>,
-    queued: Vec<usize>,
+    waiting: Waiting,
     merged: Entries,
     missing: Entries,
+    steps: Vec<Step>,
 }
 
 /// Takes the entry to a target out of a row, which is ordered by target. Its probability.
@@ -202,31 +266,9 @@ fn rows_of(
 ) -> Result<Vec<Entries>, AllocError> {
     let mut rows = Vec::new(alloc);
     for place in policy {
-        let mut row = Vec::new(alloc);
-        if let Some(chosen) = component.rows.get(*place) {
-            for entry in component.entries_of(chosen) {
-                row.push(*entry)?;
-            }
-        }
-        rows.push(row)?;
+        rows.push(component.entries_at(*place).to_vec(alloc)?)?;
     }
     Ok(rows)
-}
-
-/// The nodes that have an entry to each.
-fn preds_of(alloc: Global, rows: &[Entries]) -> Result<Vec<Vec<u32>>, AllocError> {
-    let mut preds = Vec::new(alloc);
-    for _ in 0..rows.len() {
-        preds.push(Vec::new(alloc))?;
-    }
-    for (node, row) in rows.iter().enumerate() {
-        for (target, _) in row {
-            if let Some(list) = preds.get_mut(*target as usize) {
-                list.push(number(node))?;
-            }
-        }
-    }
-    Ok(preds)
 }
 
 /// What a policy's row at each node gives to nodes outside.
@@ -237,80 +279,50 @@ fn exits_of(
 ) -> Result<Vec<f64>, AllocError> {
     let mut exits = Vec::new(alloc);
     for place in policy {
-        exits.push(component.rows.get(*place).map_or(0.0, |row| row.exit))?;
+        exits.push(component.exit_at(*place))?;
     }
     Ok(exits)
-}
-
-/// How many items each list has.
-fn counts_of(alloc: Global, lists: &[Vec<u32>]) -> Result<Vec<usize>, AllocError> {
-    let mut counts = Vec::new(alloc);
-    for list in lists {
-        counts.push(list.len())?;
-    }
-    Ok(counts)
 }
 
 impl System {
     /// These rows and what each gives to nodes outside, with all nodes waiting.
     fn new(alloc: Global, rows: Vec<Entries>, exits: Vec<f64>) -> Result<System, AllocError> {
-        let preds = preds_of(alloc, &rows)?;
-        let counts = counts_of(alloc, &preds)?;
-        let nodes = rows.len();
         let mut system = System {
-            rows,
-            preds,
-            counts,
-            exits,
-            is_gone: vec![in alloc; false; nodes]?,
-            queue: BinaryHeap::new(alloc),
-            queued: vec![in alloc; usize::MAX; nodes]?,
+            preds: Preds::of(alloc, &rows)?,
+            is_gone: vec![in alloc; false; rows.len()]?,
+            waiting: Waiting::none(alloc, rows.len())?,
             merged: Vec::new(alloc),
             missing: Vec::new(alloc),
+            steps: Vec::new(alloc),
+            rows,
+            exits,
         };
-        for node in 0..number(nodes) {
-            system.push_fewer(node)?;
-        }
+        system.push_all()?;
         Ok(system)
+    }
+
+    /// Has all nodes wait.
+    fn push_all(&mut self) -> Result<(), AllocError> {
+        for node in 0..number(self.rows.len()) {
+            self.push_fewer(node)?;
+        }
+        Ok(())
     }
 
     /// How many products it takes to eliminate a node now.
     fn key(&self, node: u32) -> usize {
-        let entries = self.rows.get(node as usize).map_or(0, |row| row.len());
-        let preds = self.counts.get(node as usize).copied().unwrap_or(0);
-        entries.saturating_mul(preds)
-    }
-
-    /// The products with which a node waits in the queue.
-    fn queued(&self, node: u32) -> usize {
-        self.queued.get(node as usize).copied().unwrap_or(0)
-    }
-
-    /// Has a node wait with so many products.
-    fn push(&mut self, node: u32, key: usize) -> Result<(), AllocError> {
-        put(&mut self.queued, node, key);
-        self.queue.push(Reverse((key, node)))?;
-        Ok(())
+        let preds = self.preds.counts.get(node as usize).copied().unwrap_or(0);
+        match self.rows.get(node as usize) {
+            Some(row) => row.len().saturating_mul(preds),
+            None => 0,
+        }
     }
 
     /// Has a node wait with the products that it takes now, if these are fewer.
     fn push_fewer(&mut self, node: u32) -> Result<(), AllocError> {
         let key = self.key(node);
-        if key < self.queued(node) {
-            self.push(node, key)?;
-        }
-        Ok(())
-    }
-
-    /// Notes that a node has a row to one more.
-    fn note_added(&mut self, pred: u32) -> Result<(), AllocError> {
-        for (target, _) in &self.missing {
-            if let Some(list) = self.preds.get_mut(*target as usize) {
-                list.push(pred)?;
-            }
-            if let Some(count) = self.counts.get_mut(*target as usize) {
-                *count = count.saturating_add(1);
-            }
+        if key < self.waiting.products_of(node) {
+            self.waiting.push(node, key)?;
         }
         Ok(())
     }
@@ -334,7 +346,7 @@ impl System {
         }
         let exit = float_at(&self.exits, gone);
         add_at(&mut self.exits, pred, share * exit);
-        self.note_added(pred)?;
+        self.preds.count(pred, &self.missing)?;
         Ok(share)
     }
 
@@ -342,20 +354,20 @@ impl System {
     fn take(&mut self, node: u32) -> Option<(Entries, Vec<u32>)> {
         let alloc = *self.rows.allocator();
         let row = self.rows.get_mut(node as usize)?;
-        let preds = self.preds.get_mut(node as usize)?;
+        let preds = self.preds.lists.get_mut(node as usize)?;
         Some((
             mem::replace(row, Vec::new(alloc)),
             mem::replace(preds, Vec::new(alloc)),
         ))
     }
 
-    /// Notes that a node's row leads nowhere any more.
-    fn uncount(&mut self, row: &[(u32, f64)]) {
-        for (target, _) in row {
-            if let Some(count) = self.counts.get_mut(*target as usize) {
-                *count = count.saturating_sub(1);
-            }
+    /// What a node with this row gives to others.
+    fn pivot_of(&self, node: u32, row: &[(u32, f64)]) -> f64 {
+        let mut pivot = float_at(&self.exits, node);
+        for (_, prob) in row {
+            pivot += *prob;
         }
+        pivot
     }
 
     /// The shares that the nodes which are left take of a node.
@@ -376,24 +388,27 @@ impl System {
         Ok(column)
     }
 
+    /// Has nodes wait with the products that they take now, if these are fewer.
+    fn push_each(&mut self, column: &[(u32, f64)]) -> Result<(), AllocError> {
+        for (pred, _) in column {
+            self.push_fewer(*pred)?;
+        }
+        Ok(())
+    }
+
     /// Eliminates a node; none where it doesn't leave.
     fn eliminate(&mut self, node: u32) -> Result<Option<Step>, AllocError> {
         let Some((row, preds)) = self.take(node) else {
             return Ok(None);
         };
-        let mut pivot = float_at(&self.exits, node);
-        for (_, prob) in &row {
-            pivot += *prob;
-        }
+        let pivot = self.pivot_of(node, &row);
         if !(pivot > 0.0) {
             return Ok(None);
         }
         put(&mut self.is_gone, node, true);
-        self.uncount(&row);
+        self.preds.uncount(&row);
         let column = self.fold_all(node, &row, &preds, pivot)?;
-        for (pred, _) in &column {
-            self.push_fewer(*pred)?;
-        }
+        self.push_each(&column)?;
         Ok(Some(Step {
             node,
             pivot,
@@ -405,17 +420,17 @@ impl System {
     /// The node to go next, and its products; none where all have gone. Nodes whose products have become more wait longer.
     fn next(&mut self) -> Result<Option<(u32, usize)>, AllocError> {
         for _ in 0..usize::MAX {
-            let Some(Reverse((key, node))) = self.queue.pop() else {
+            let Some(Reverse((key, node))) = self.waiting.queue.pop() else {
                 break;
             };
-            if flag_at(&self.is_gone, node) || key != self.queued(node) {
+            if flag_at(&self.is_gone, node) || key != self.waiting.products_of(node) {
                 continue;
             }
             let now = self.key(node);
             if now <= key {
                 return Ok(Some((node, now)));
             }
-            self.push(node, now)?;
+            self.waiting.push(node, now)?;
         }
         Ok(None)
     }
@@ -444,13 +459,13 @@ impl System {
         Ok(left)
     }
 
-    /// Eliminates the nodes that are left, of which there are so many, most of them with an entry to most others, after so many products.
+    /// Eliminates the nodes that are left, of which there are so many, most of them with an entry to most others, after so many products. It may take so many
+    /// in all.
     fn eliminate_rest(
         &mut self,
         left: usize,
         products: usize,
         most: usize,
-        steps: &mut Vec<Step>,
     ) -> Result<End, AllocError> {
         let alloc = *self.rows.allocator();
         let all = left.saturating_mul(left).saturating_mul(left) / PART_OF_ALL;
@@ -459,20 +474,16 @@ impl System {
             return Ok(End::Dense);
         }
         let mut matrix = Matrix::new(alloc, self.left(alloc)?, &self.rows, &self.exits)?;
-        if matrix.eliminate_all(alloc, steps)? {
+        if matrix.eliminate_all(alloc, &mut self.steps)? {
             Ok(End::Done(products))
         } else {
             Ok(End::Improper)
         }
     }
 
-    /// Eliminates all nodes, of which there are so many, and appends the steps. It ends once it is seen that this takes more than so many products.
-    fn eliminate_all(
-        &mut self,
-        nodes: usize,
-        most: usize,
-        steps: &mut Vec<Step>,
-    ) -> Result<End, AllocError> {
+    /// Eliminates all nodes. It ends once it is seen that this takes more than so many products.
+    fn eliminate_all(&mut self, most: usize) -> Result<End, AllocError> {
+        let nodes = self.rows.len();
         let mut products = 0usize;
         for gone in 0..nodes {
             let Some((node, more)) = self.next()? else {
@@ -480,14 +491,14 @@ impl System {
             };
             let left = nodes.saturating_sub(gone);
             if more.saturating_mul(PART_OF_DENSE) >= left.saturating_mul(left) {
-                return self.eliminate_rest(left, products, most, steps);
+                return self.eliminate_rest(left, products, most);
             }
             if products.saturating_add(more.saturating_mul(left) / PART_OF_ALL) > most {
                 return Ok(End::Dense);
             }
             products = products.saturating_add(more);
             match self.eliminate(node)? {
-                Some(step) => steps.push(step)?,
+                Some(step) => self.steps.push(step)?,
                 None => return Ok(End::Improper),
             }
         }
@@ -502,11 +513,12 @@ pub(crate) fn eliminated_rows(
     exits: Vec<f64>,
     most: usize,
 ) -> Result<Elimination, AllocError> {
-    let nodes = rows.len();
     let mut system = System::new(alloc, rows, exits)?;
-    let mut steps = Vec::new(alloc);
-    match system.eliminate_all(nodes, most, &mut steps)? {
-        End::Done(products) => Ok(Elimination::Done(Factors { steps, products })),
+    match system.eliminate_all(most)? {
+        End::Done(products) => Ok(Elimination::Done(Factors {
+            steps: system.steps,
+            products,
+        })),
         End::Improper => Ok(Elimination::Improper),
         End::Dense => Ok(Elimination::Dense),
     }

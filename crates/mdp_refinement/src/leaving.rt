@@ -12,9 +12,9 @@ fn is_of(policy: Option<&[usize]>, node: u32, row: usize) -> bool {
     }
 }
 
-/// A search backwards for ways out of a component: the row of each node that has one, and those nodes in the order in which they got it.
+/// A search backwards for ways out of a component, or to some of its nodes: the row of each node that has one, and those nodes in the order in which they got it.
 #[derive(Drop)]
-struct Leaving<'a> {
+pub(crate) struct Leaving<'a> {
     component: &'a Component,
     leading: &'a Groups,
     chosen: Vec<Option<usize>>,
@@ -22,8 +22,8 @@ struct Leaving<'a> {
 }
 
 impl<'a> Leaving<'a> {
-    /// A search with no way out yet.
-    fn new(
+    /// A search with no way yet.
+    pub(crate) fn new(
         alloc: Global,
         component: &'a Component,
         leading: &'a Groups,
@@ -37,7 +37,7 @@ impl<'a> Leaving<'a> {
     }
 
     /// Gives a node its row, unless it has one.
-    fn lead(&mut self, node: u32, row: usize) -> Result<(), AllocError> {
+    pub(crate) fn lead(&mut self, node: u32, row: usize) -> Result<(), AllocError> {
         if let Some(slot) = self.chosen.get_mut(node as usize) {
             if slot.is_none() {
                 *slot = Some(row);
@@ -62,8 +62,18 @@ impl<'a> Leaving<'a> {
         Ok(())
     }
 
+    /// Leads the nodes whose row of a policy leaves.
+    fn lead_out(&mut self, policy: &[usize]) -> Result<(), AllocError> {
+        for (node, row) in policy.iter().enumerate() {
+            if self.component.exit_at(*row) > 0.0 {
+                self.lead(number(node), *row)?;
+            }
+        }
+        Ok(())
+    }
+
     /// Leads on to all nodes that were led, by the policy's rows or by all.
-    fn spread(&mut self, policy: Option<&[usize]>) -> Result<(), AllocError> {
+    pub(crate) fn spread(&mut self, policy: Option<&[usize]>) -> Result<(), AllocError> {
         for place in 0..self.chosen.len() {
             let Some(target) = self.queue.get(place).copied() else {
                 break;
@@ -83,6 +93,20 @@ impl<'a> Leaving<'a> {
             policy.push(row)?;
         }
         Ok(Some(policy))
+    }
+
+    /// The row of each node, that of another policy where it has none.
+    pub(crate) fn policy_or(
+        &self,
+        alloc: Global,
+        other: &[usize],
+    ) -> Result<Vec<usize>, AllocError> {
+        let mut policy = Vec::new(alloc);
+        for (node, chosen) in self.chosen.iter().enumerate() {
+            let instead = other.get(node).copied().unwrap_or(0);
+            policy.push(chosen.unwrap_or(instead))?;
+        }
+        Ok(policy)
     }
 }
 
@@ -112,16 +136,7 @@ pub(crate) fn proper(
     other: &[usize],
 ) -> Result<Vec<usize>, AllocError> {
     let mut search = Leaving::new(alloc, component, leading)?;
-    for (node, row) in policy.iter().enumerate() {
-        if component.rows.get(*row).is_some_and(|row| row.exit > 0.0) {
-            search.lead(number(node), *row)?;
-        }
-    }
+    search.lead_out(policy)?;
     search.spread(Some(policy))?;
-    let mut chosen = Vec::new(alloc);
-    for (node, given) in search.chosen.iter().enumerate() {
-        let instead = other.get(node).copied().unwrap_or(0);
-        chosen.push(given.unwrap_or(instead))?;
-    }
-    Ok(chosen)
+    search.policy_or(alloc, other)
 }

@@ -6,7 +6,7 @@ use crate::component::Component;
 use crate::convert::{nearest, to_float};
 use crate::graph::Graph;
 use crate::intervals::greatest_unit;
-use crate::lists::{float_at, number, put};
+use crate::lists::{float_at, greatest_size, number, put};
 use crate::rows::{Excess, Rows, Scale, WholeRow};
 use crate::strong::{Components, strong_components};
 use crate::value::{Value, value_at};
@@ -223,13 +223,9 @@ impl Estimate {
     /// Follows corrections of the bias and of the gain. Biases were rounded to units of at most `unit`.
     fn follow(&mut self, component: &Component, corrections: &[f64], more: f64, unit: f64) {
         for (gain, row) in self.gains.iter_mut().zip(&component.rows) {
-            *gain += component.sum(row, -more, corrections)
-                - row.total * float_at(corrections, row.node);
+            *gain += component.over(row, -more, corrections);
         }
-        let mut most = 0.0f64;
-        for correction in corrections {
-            most = most.max(correction.abs());
-        }
+        let most = greatest_size(corrections);
         self.blur += BLUR * (2.0 * most + more.abs()) + 2.0 * unit;
     }
 
@@ -260,22 +256,16 @@ struct Refinement<'a> {
     unit: i128,
 }
 
-impl Refinement<'_> {
-    /// Nothing measured yet, over a bias that is 0 or not, but an estimate.
-    fn unmeasured(
-        self,
-        alloc: Global,
-        estimate: Estimate,
-        is_zero: bool,
-    ) -> Result<Measured, AllocError> {
-        Ok(Measured {
-            estimate,
-            policy: vec![in alloc; 0; self.component.len()]?,
-            is_zero,
-            is_kept: false,
-        })
+/// The range of a node's gain and its row whose lower gain is the greatest, where one more row has this range.
+fn raised_by(best: Option<(Range, usize)>, range: Range, at: usize) -> (Range, usize) {
+    match best {
+        Some((old, chosen)) if range.lower <= old.lower => (old.raised(range), chosen),
+        Some((old, _)) => (old.raised(range), at),
+        None => (range, at),
     }
+}
 
+impl Refinement<'_> {
     /// What a row has over the bias of its node. None past 128 bits.
     fn excess(self, row: &WholeRow, bias: &[Value], is_zero: bool) -> Option<Excess> {
         if is_zero {
@@ -283,6 +273,12 @@ impl Refinement<'_> {
         } else {
             self.rows.exact_excess(row, bias)
         }
+    }
+
+    /// What the row at a place gains over a bias that is 0 at all nodes or not. None past 128 bits.
+    fn gained(self, at: usize, bias: &[Value], is_zero: bool, gain: SplitGain) -> Option<Gained> {
+        let row = self.rows.row(self.component.pick_at(at)?)?;
+        row_gained(row, self.excess(row, bias, is_zero)?, gain)
     }
 
     /// Measures the rows of a node over a bias that may be the best. The range of its gain. None past 128 bits, or where it has no row.
@@ -293,7 +289,6 @@ impl Refinement<'_> {
         gain: SplitGain,
         measured: &mut Measured,
     ) -> Option<Range> {
-        let node = number(place);
         let (from, to) = self.component.range_of(place);
         let least = measured.estimate.least_of(from, to);
         let mut best: Option<(Range, usize)> = None;
@@ -301,20 +296,12 @@ impl Refinement<'_> {
             if !measured.estimate.is_due(at, least) {
                 continue;
             }
-            let row = self.rows.row(self.component.rows.get(at)?.place())?;
-            let excess = self.excess(row, bias, measured.is_zero)?;
-            let found = row_gained(row, excess, gain)?;
+            let found = self.gained(at, bias, measured.is_zero, gain)?;
             put(&mut measured.estimate.gains, number(at), found.over);
-            best = match best {
-                Some((old, chosen)) if found.range.lower <= old.lower => {
-                    Some((old.raised(found.range), chosen))
-                }
-                Some((old, _)) => Some((old.raised(found.range), at)),
-                None => Some((found.range, at)),
-            };
+            best = Some(raised_by(best, found.range, at));
         }
         let (range, chosen) = best?;
-        put(&mut measured.policy, node, chosen);
+        put(&mut measured.policy, number(place), chosen);
         Some(range)
     }
 
@@ -324,7 +311,10 @@ impl Refinement<'_> {
         let mut all: Option<Range> = None;
         for place in 0..self.component.len() {
             let own = self.measure_node(place, bias, gain, measured)?;
-            all = Some(all.map_or(own, |old| old.widened(own)));
+            all = match all {
+                Some(old) => Some(old.widened(own)),
+                None => Some(own),
+            };
         }
         all
     }
@@ -333,19 +323,18 @@ impl Refinement<'_> {
     fn correct(
         self,
         alloc: Global,
-        biases: &mut Biases<'_>,
-        measured: &mut Measured,
+        search: &mut Search<'_>,
         bias: &mut [Value],
         gain: i128,
     ) -> Result<Option<i128>, AllocError> {
-        let more = biases.correct(alloc, &measured.estimate.gains)?;
-        let component = self.component;
-        let unit = to_float(self.unit);
+        let measured = &mut search.measured;
+        let more = search.biases.correct(alloc, &measured.estimate.gains)?;
+        let values = search.biases.values();
         measured.is_zero = false;
         measured
             .estimate
-            .follow(component, biases.values(), more, unit);
-        if component.add(self.rows, biases.values(), bias).is_none() {
+            .follow(self.component, values, more, to_float(self.unit));
+        if self.component.add(self.rows, values, bias).is_none() {
             return Ok(None);
         }
         Ok(nearest(more).and_then(|more| gain.checked_add(more)))
@@ -367,6 +356,51 @@ impl Known {
             estimate: None,
             left: Left::none(alloc, component)?,
         })
+    }
+}
+
+/// The search for the gains of an end component.
+#[derive(Drop)]
+struct Search<'a> {
+    biases: Biases<'a>,
+    measured: Measured,
+}
+
+impl<'a> Search<'a> {
+    /// A search that goes on from what another one left, over a bias that is 0 at all nodes or not.
+    fn new(
+        alloc: Global,
+        component: &'a Component,
+        known: Known,
+        is_zero: bool,
+    ) -> Result<Search<'a>, AllocError> {
+        let Known { estimate, left } = known;
+        let estimate = match estimate {
+            Some(estimate) => estimate,
+            None => Estimate::none(alloc, component.rows.len())?,
+        };
+        Ok(Search {
+            biases: Biases::new(alloc, component, left)?,
+            measured: Measured {
+                estimate,
+                policy: vec![in alloc; 0; component.len()]?,
+                is_zero,
+                is_kept: false,
+            },
+        })
+    }
+
+    /// What it leaves.
+    fn into_known(self) -> Known {
+        let measured = self.measured;
+        Known {
+            estimate: if measured.is_kept {
+                Some(measured.estimate)
+            } else {
+                None
+            },
+            left: self.biases.into_left(),
+        }
     }
 }
 
@@ -392,8 +426,7 @@ impl Found {
     fn keep(&mut self, component: &Component, policy: &[usize], bias: &[Value]) {
         for (node, place) in component.nodes.iter().zip(policy) {
             put(&mut self.bias, *node, Value::of(value_at(bias, *node)));
-            let pick = component.rows.get(*place).map(|row| row.place());
-            put(&mut self.picks, *node, pick);
+            put(&mut self.picks, *node, component.pick_at(*place));
         }
     }
 
@@ -402,13 +435,13 @@ impl Found {
         &mut self,
         alloc: Global,
         refinement: Refinement<'_>,
-        biases: &mut Biases<'_>,
-        measured: &mut Measured,
+        search: &mut Search<'_>,
         bias: &mut [Value],
         gain: i128,
     ) -> Result<Option<Range>, AllocError> {
         let mut nearest = Nearest::none(refinement.unit, gain);
         for round in 0..MOST_ROUNDS {
+            let measured = &mut search.measured;
             let Some(range) = refinement.measure(bias, nearest.gain, measured) else {
                 break;
             };
@@ -420,7 +453,7 @@ impl Found {
                 measured.is_kept = is_nearer;
                 break;
             }
-            match refinement.correct(alloc, biases, measured, bias, nearest.gain)? {
+            match refinement.correct(alloc, search, bias, nearest.gain)? {
                 Some(next) => nearest.gain = next,
                 None => break,
             }
@@ -428,39 +461,36 @@ impl Found {
         Ok(nearest.range)
     }
 
-    /// Refines a bias of the component, from what is known and what another search left, and keeps that of the nearest gains that it comes to.
+    /// Refines a bias of the component, from what another search left, if one did, and keeps that of the nearest gains that it comes to. The range of these,
+    /// and what it leaves in turn, in the place of that.
     fn solve(
         &mut self,
         alloc: Global,
         rows: &Rows,
         component: &Component,
         first: &mut First<'_>,
-        known: Known,
-    ) -> Result<(Option<Range>, Known), AllocError> {
-        let unit = greatest_unit(rows, &component.nodes);
+        known: &mut Option<Known>,
+    ) -> Result<Option<Range>, AllocError> {
         let refinement = Refinement {
             rows,
             component,
-            unit,
+            unit: greatest_unit(rows, &component.nodes),
         };
         let gain = first.gain_of(component);
-        let mut biases = Biases::new(alloc, component, known.left)?;
-        let estimate = match known.estimate {
-            Some(estimate) => estimate,
-            None => Estimate::none(alloc, component.rows.len())?,
+        let before = match known.take() {
+            Some(before) => before,
+            None => Known::none(alloc, component)?,
         };
-        let mut measured = refinement.unmeasured(alloc, estimate, first.gains.is_empty())?;
-        let bias = &mut first.bias;
-        let range = self.refine(alloc, refinement, &mut biases, &mut measured, bias, gain)?;
-        let known = Known {
-            estimate: if measured.is_kept {
-                Some(measured.estimate)
-            } else {
-                None
-            },
-            left: biases.into_left(),
-        };
-        Ok((range, known))
+        let mut search = Search::new(alloc, component, before, first.gains.is_empty())?;
+        let range = self.refine(alloc, refinement, &mut search, &mut first.bias, gain)?;
+        *known = Some(search.into_known());
+        Ok(range)
+    }
+
+    /// A bound of the gain of a component, if it is known.
+    fn gain(&self, component: u32, bound: Bound) -> Option<i128> {
+        let range = self.ranges.get(component as usize).copied()?;
+        Some(range?.end(bound))
     }
 
     /// A gain of each node: that of its component.
@@ -472,9 +502,8 @@ impl Found {
     ) -> Result<Vec<Value>, AllocError> {
         let mut gains = Vec::with_capacity(alloc, self.bias.len())?;
         for node in 0..self.bias.len() {
-            let place = components.of(number(node)) as usize;
-            let range = self.ranges.get(place).copied().and_then(|range| range);
-            gains.push(Value::of(range.map(|range| range.end(bound))))?;
+            let component = components.of(number(node));
+            gains.push(Value::of(self.gain(component, bound)))?;
         }
         Ok(gains)
     }
@@ -512,11 +541,6 @@ fn graph_within(alloc: Global, rows: &Rows, parts: &[Option<u32>]) -> Result<Gra
     Ok(graph)
 }
 
-/// Whether a row of some node was too wide.
-fn is_any_wide(rows: &Rows, nodes: usize) -> bool {
-    (0..number(nodes)).any(|node| rows.has_wide(node))
-}
-
 /// The components of the open nodes.
 fn open_components(
     alloc: Global,
@@ -534,7 +558,7 @@ fn sought_components(
     parts: &[Option<u32>],
     known: Option<Components>,
 ) -> Result<Components, AllocError> {
-    if is_any_wide(rows, parts.len()) {
+    if rows.has_any_wide() {
         return open_components(alloc, rows, parts);
     }
     match known {
@@ -579,32 +603,12 @@ impl Only {
     /// Goes on with values of which there are so many times more units.
     fn rescale(&mut self, rows: &Rows, times: f64) {
         let unit = self.component.greatest_unit();
-        if let Some(estimate) = self
-            .known
-            .as_mut()
-            .and_then(|known| known.estimate.as_mut())
-        {
-            estimate.scale(times, unit);
+        if let Some(known) = &mut self.known {
+            if let Some(estimate) = &mut known.estimate {
+                estimate.scale(times, unit);
+            }
         }
         self.component.rescale(rows);
-    }
-
-    /// The greatest gains of the component.
-    fn solve(
-        &mut self,
-        alloc: Global,
-        rows: &Rows,
-        found: &mut Found,
-        first: &mut First<'_>,
-    ) -> Result<Option<Range>, AllocError> {
-        let component = &self.component;
-        let known = match self.known.take() {
-            Some(known) => known,
-            None => Known::none(alloc, component)?,
-        };
-        let (range, known) = found.solve(alloc, rows, component, first, known)?;
-        self.known = Some(known);
-        Ok(range)
     }
 }
 
@@ -662,12 +666,10 @@ impl EndSearch {
         first: &mut First<'_>,
     ) -> Result<Option<Range>, AllocError> {
         if let Some(only) = &mut self.only {
-            return only.solve(alloc, &self.rows, found, first);
+            return found.solve(alloc, &self.rows, &only.component, first, &mut only.known);
         }
         let component = Component::new(alloc, &self.rows, &self.components, place, &[])?;
-        let known = Known::none(alloc, &component)?;
-        let (range, _) = found.solve(alloc, &self.rows, &component, first, known)?;
-        Ok(range)
+        found.solve(alloc, &self.rows, &component, first, &mut None)
     }
 
     /// The greatest gains of the maximal end components that nodes are in, and biases for them.

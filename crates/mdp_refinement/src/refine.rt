@@ -122,18 +122,21 @@ impl Setting<'_> {
         Some(lack)
     }
 
-    /// Moves all values of the component so far that the rows hold which lack this, in steps of the greatest unit. None where a row doesn't leave it.
-    fn move_all(self, lack: Lack, growth: f64, values: &mut [Value]) -> Option<()> {
+    /// How far values are moved so that the rows hold which lack this, in steps of the greatest unit. None where a row doesn't leave the component.
+    fn way(self, lack: Lack, growth: f64) -> Option<i128> {
         if !(lack.exit > 0.0) {
             return None;
         }
         let unit = greatest_unit(self.rows, &self.component.nodes);
         let least = lack.most * growth / (lack.exit * to_float(unit));
-        let steps = nearest(self.task.side() * (least + 1.0))?;
-        let more = steps.checked_mul(unit)?;
+        nearest(self.task.side() * (least + 1.0))?.checked_mul(unit)
+    }
+
+    /// Moves all values of the component so far. None past 128 bits.
+    fn move_all(self, way: i128, values: &mut [Value]) -> Option<()> {
         for node in &self.component.nodes {
-            let slot = values.get_mut(*node as usize)?;
-            *slot = Value::known(slot.units()?.checked_add(more)?);
+            let moved = value_at(values, *node)?.checked_add(way)?;
+            put(values, *node, Value::known(moved));
         }
         Some(())
     }
@@ -146,7 +149,7 @@ impl Setting<'_> {
             if !lack.is_there {
                 return Some(true);
             }
-            self.move_all(lack, growth, values)?;
+            self.move_all(self.way(lack, growth)?, values)?;
             growth *= 2.0;
         }
         Some(false)
@@ -221,17 +224,17 @@ impl Setting<'_> {
     }
 }
 
-/// Values of a component that meet the bound on the rows, and the policy for it; the search begins with the first values. None where it finds none; the
-/// values are changed then too.
+/// Comes to values of a component that meet the bound on the rows, and to a policy for it, which the corrector has then; it begins with the first values.
+/// Whether it came to them; the values are changed otherwise too.
 pub(crate) fn refine(
     alloc: Global,
     rows: &Rows,
     component: &Component,
     task: Task,
     first: &[Value],
-    mut corrector: Corrector<'_>,
+    corrector: &mut Corrector<'_>,
     values: &mut [Value],
-) -> Result<Option<Vec<usize>>, AllocError> {
+) -> Result<bool, AllocError> {
     let setting = Setting {
         rows,
         component,
@@ -239,13 +242,9 @@ pub(crate) fn refine(
     };
     let mut gains = vec![in alloc; 0.0; component.rows.len()]?;
     setting.begin(first, values);
-    let is_held = match setting.rounds(alloc, &mut corrector, &mut gains, values)? {
-        End::Held => true,
-        End::Failed => false,
-        End::Open => setting.move_until(corrector.policy(), values) == Some(true),
-    };
-    if is_held {
-        return Ok(Some(corrector.into_policy()));
+    match setting.rounds(alloc, corrector, &mut gains, values)? {
+        End::Held => Ok(true),
+        End::Failed => Ok(false),
+        End::Open => Ok(setting.move_until(corrector.policy(), values) == Some(true)),
     }
-    Ok(None)
 }

@@ -5,7 +5,7 @@
 use crate::chain::{Chain, FEW_STEPS, Visits};
 use crate::coarse::Grouping;
 use crate::component::{Component, FloatRow};
-use crate::lists::{float_at, number, put};
+use crate::lists::{earned_by, float_at, number, put};
 use crate::sweeps::{Change, Forecast, Outlook, Progress, WINDOW};
 use std::alloc::{AllocError, Global};
 
@@ -118,14 +118,14 @@ impl<'a> Relative<'a> {
 
     /// What a row that earns so much over the gain makes of its node's value. It is taken until it leaves its node, but for slow ones.
     fn value_of(&self, row: &FloatRow, earned: f64, old: f64) -> f64 {
-        let more = self.component.sum(row, earned, &self.values) - row.total * old;
+        let more = self.component.over(row, earned, &self.values);
         old + more * self.followed.pace / row.total.max(LEAST_TOTAL)
     }
 
     /// What a row of the node at a place is to earn so that it may be better than the one that was best, where values are no greater than in the last sweep.
     fn least_due(&self, gains: &[f64], place: usize) -> f64 {
         match self.followed.best_rows.get(place) {
-            Some(row) => gains.get(*row).copied().unwrap_or(0.0) - FAR * self.size,
+            Some(row) => earned_by(gains, *row) - FAR * self.size,
             None => f64::NEG_INFINITY,
         }
     }
@@ -136,11 +136,10 @@ impl<'a> Relative<'a> {
         let least = self.least_due(gains, place);
         let mut best = None;
         for at in from..to {
-            let earned = gains.get(at).copied()?;
+            let (row, earned) = self.component.earning(at, gains)?;
             if earned < least {
                 continue;
             }
-            let row = self.component.rows.get(at)?;
             let value = self.value_of(row, earned - self.gain, old);
             match best {
                 Some((most, _)) if !(value > most) => {}
@@ -201,7 +200,7 @@ impl<'a> Relative<'a> {
     /// Brings the gain nearer by a sweep's change.
     fn correct_gain(&mut self, change: Change) {
         if self.followed.steps > 0.0 {
-            self.gain += change.drift() / self.followed.steps;
+            self.gain += change.drift / self.followed.steps;
         }
     }
 
@@ -218,18 +217,16 @@ impl<'a> Relative<'a> {
         self.gain = 0.0;
         self.size = f64::INFINITY;
         self.is_taken = false;
-        for value in self.values.iter_mut() {
-            *value = 0.0;
-        }
+        self.values.fill(0.0);
     }
 
     /// Sweeps along the chain, and corrects the values and the gain by groups of nodes whose values changed alike.
     fn correct_groups(&mut self, alloc: Global) -> Result<(), AllocError> {
-        let mut gain = Some(self.gain);
-        let (chain, visits) = (&self.chain, &self.followed.visits);
-        self.grouping
-            .correct(alloc, chain, visits, &mut gain, &mut self.values)?;
-        self.gain = gain.unwrap_or(self.gain);
+        let (chain, visits) = (&self.chain, &self.followed.visits.visits);
+        let gain = Some(self.gain);
+        self.gain += self
+            .grouping
+            .correct(alloc, chain, visits, gain, &mut self.values)?;
         Ok(())
     }
 
@@ -241,7 +238,7 @@ impl<'a> Relative<'a> {
             self.chain
                 .sweep(self.gain, &mut self.values, &self.followed.visits.shares)
         };
-        self.size = change.size();
+        self.size = change.size;
         if tries_all || self.is_steady {
             self.step_shares();
         }
@@ -269,7 +266,7 @@ impl<'a> Relative<'a> {
             following = match forecast.after(sweep, change) {
                 Outlook::Settled if tries_all => return Ok(true),
                 Outlook::Settled => 0,
-                Outlook::Hopeless if progress.goes_on(change.most()) => {
+                Outlook::Hopeless if progress.goes_on(change.most) => {
                     self.correct_groups(alloc)?;
                     forecast.begin_anew();
                     0

@@ -150,6 +150,15 @@ impl Rows {
         Ok(())
     }
 
+    /// Goes on to a node, which is the next one or the last. Whether it is the next.
+    pub fn go_to(&mut self, node: u32) -> Result<bool, AllocError> {
+        let is_next = self.starts.len() <= node as usize;
+        if is_next {
+            self.push_node()?;
+        }
+        Ok(is_next)
+    }
+
     /// The node whose rows are pushed.
     fn last_node(&self) -> u32 {
         number(self.starts.len().saturating_sub(1))
@@ -394,6 +403,11 @@ impl Rows {
         power_of_ten(self.scale.digits.saturating_sub(digits))
     }
 
+    /// Whether a row of some node was too wide to be kept.
+    pub fn has_any_wide(&self) -> bool {
+        self.has_wide.contains(&true)
+    }
+
     /// Whether a row of the node was too wide to be kept.
     pub fn has_wide(&self, node: u32) -> bool {
         flag_at(&self.has_wide, node)
@@ -413,6 +427,19 @@ impl Rows {
     /// A row by its place.
     pub fn row(&self, place: usize) -> Option<&WholeRow> {
         self.rows.get(place)
+    }
+
+    /// The row that was picked by its place, if one was.
+    pub fn picked(&self, pick: Option<usize>) -> Option<&WholeRow> {
+        self.rows.get(pick?)
+    }
+
+    /// The choice of the row that was picked by its place, the first where none was.
+    pub fn choice_of(&self, pick: Option<usize>) -> u32 {
+        match self.picked(pick) {
+            Some(row) => row.choice,
+            None => 0,
+        }
     }
 
     /// The rows of a node.
@@ -478,17 +505,28 @@ impl Rows {
         self.exact_excess(row, values)?.rounded(bound)
     }
 
-    /// What the row has over the value of its node, exactly. None past 128 bits, or where a value isn't known.
-    pub(crate) fn exact_excess(&self, row: &WholeRow, values: &[Value]) -> Option<Excess> {
+    /// What the row has over the value of its node, in two parts. None past 128 bits, or where a value isn't known.
+    fn over(&self, row: &WholeRow, values: &[Value]) -> Option<Over> {
         let (total, own) = self.sum_of_others(row, values)?;
         let others = row.denominator.checked_sub(own)?;
         let (steps, rest) = divided(value_at(values, row.node)?, row.unit())?;
+        let above = total.checked_sub(others.checked_mul(steps)?)?;
+        Some(Over {
+            above,
+            others,
+            rest,
+        })
+    }
+
+    /// What the row has over the value of its node, exactly. None past 128 bits, or where a value isn't known.
+    pub(crate) fn exact_excess(&self, row: &WholeRow, values: &[Value]) -> Option<Excess> {
+        let over = self.over(row, values)?;
         Some(Excess {
-            above: total.checked_sub(others.checked_mul(steps)?)?,
-            less: if rest == 0 {
+            above: over.above,
+            less: if over.rest == 0 {
                 0
             } else {
-                others.checked_mul(rest)?
+                over.others.checked_mul(over.rest)?
             },
             unit: row.unit(),
         })
@@ -505,13 +543,15 @@ impl Rows {
 
     /// How the row's value lies to that of its node. None past 128 bits, or where a value isn't known.
     pub(crate) fn gap(&self, row: &WholeRow, values: &[Value]) -> Option<Gap> {
-        let (total, own) = self.sum_of_others(row, values)?;
-        let others = row.denominator.checked_sub(own)?;
-        let (steps, rest) = divided(value_at(values, row.node)?, row.unit())?;
-        let excess = total.checked_sub(others.checked_mul(steps)?)?;
-        let scaled = to_float(excess) * to_float(row.unit()) - to_float(others) * to_float(rest);
+        let unit = row.unit();
+        let Over {
+            above,
+            others,
+            rest,
+        } = self.over(row, values)?;
+        let scaled = to_float(above) * to_float(unit) - to_float(others) * to_float(rest);
         Some(Gap {
-            order: compare_scaled(excess, row.unit(), others, rest),
+            order: compare_scaled(above, unit, others, rest),
             size: scaled / to_float(row.denominator),
         })
     }
@@ -528,6 +568,14 @@ impl Rows {
         let steps = in_unit(unit, row.unit())?;
         quotient(total, others.checked_mul(steps)?, bound)?.checked_mul(unit)
     }
+}
+
+/// What a row has over the value of its node, in the row's denominator: `above` times the row's unit, less `others` times `rest`, which is less than the unit.
+#[derive(Clone, Copy)]
+struct Over {
+    above: i128,
+    others: i128,
+    rest: i128,
 }
 
 /// What a row has over the value of its node, in the row's denominator times its unit: `above`, less the part `less` of that unit.
@@ -578,9 +626,9 @@ fn rounded_finely(
         let Some(scaled) = rest.checked_mul(10) else {
             break;
         };
-        let digit = scaled.checked_div(others)?;
-        rest = scaled.checked_sub(digit.checked_mul(others)?)?;
+        let (digit, left) = divided(scaled, others)?;
         value = value.checked_mul(10)?.checked_add(digit)?;
+        rest = left;
         reached /= 10;
     }
     if bound == Bound::Upper && rest > 0 {

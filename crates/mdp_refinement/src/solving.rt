@@ -36,21 +36,28 @@ impl Solution {
     }
 }
 
-/// The rows of a component's nodes that were picked; none where one of them has none.
-fn picked(
-    alloc: Global,
-    component: &Component,
-    picks: &[Option<usize>],
-) -> Result<Option<Vec<usize>>, AllocError> {
-    let mut policy = Vec::new(alloc);
-    for (place, node) in component.nodes.iter().enumerate() {
-        let pick = picks.get(*node as usize).copied().unwrap_or(None);
-        match pick.and_then(|pick| component.row_of(place, pick)) {
-            Some(row) => policy.push(row)?,
-            None => return Ok(None),
-        }
+impl Solution {
+    /// The row of a component that was picked for its node at a place, if one was.
+    fn row_at(&self, component: &Component, place: usize, node: u32) -> Option<usize> {
+        let pick = self.picks.get(node as usize).copied()?;
+        component.row_of(place, pick?)
     }
-    Ok(Some(policy))
+
+    /// The rows of a component's nodes that were picked; none where one of them has none.
+    fn policy(
+        &self,
+        alloc: Global,
+        component: &Component,
+    ) -> Result<Option<Vec<usize>>, AllocError> {
+        let mut policy = Vec::new(alloc);
+        for (place, node) in component.nodes.iter().enumerate() {
+            match self.row_at(component, place, *node) {
+                Some(row) => policy.push(row)?,
+                None => return Ok(None),
+            }
+        }
+        Ok(Some(policy))
+    }
 }
 
 /// The search for one bound, which may begin with what that for the other came to.
@@ -78,15 +85,27 @@ impl Solver<'_> {
         }
     }
 
+    /// Whether a row of a node leads out of its component to a value that isn't known.
+    fn misses_value(&self, node: u32) -> bool {
+        let own = self.components.of(node);
+        for entry in self.rows.edges_of(node) {
+            if self.components.of(entry.node) != own
+                && value_at(&self.solution.values, entry.node).is_none()
+            {
+                return true;
+            }
+        }
+        false
+    }
+
     /// Whether a row of a component leads out of it to a value that isn't known.
     fn leads_to_unknown(&self, component: usize) -> bool {
-        let components = self.components;
-        components.nodes_of(component).iter().any(|node| {
-            self.rows.edges_of(*node).iter().any(|entry| {
-                components.of(entry.node) != number(component)
-                    && value_at(&self.solution.values, entry.node).is_none()
-            })
-        })
+        for node in self.components.nodes_of(component) {
+            if self.misses_value(*node) {
+                return true;
+            }
+        }
+        false
     }
 
     /// A component with one node, exactly.
@@ -103,8 +122,7 @@ impl Solver<'_> {
     /// Gives the nodes of a component the rows of a policy.
     fn pick(&mut self, component: &Component, policy: &[usize]) {
         for (node, row) in component.nodes.iter().zip(policy) {
-            let place = component.rows.get(*row).map(|row| row.place());
-            put(&mut self.solution.picks, *node, place);
+            put(&mut self.solution.picks, *node, component.pick_at(*row));
         }
     }
 
@@ -146,36 +164,56 @@ impl Solver<'_> {
             return Ok(());
         }
         let task = self.task;
-        let corrector = Corrector::new(alloc, component, leading, task.sense(), start)?;
+        let mut corrector = Corrector::new(alloc, component, leading, task.sense(), start)?;
         let first = match self.other {
             Some(other) => other.values.as_slice(),
             None => &[],
         };
         let values = &mut self.solution.values;
-        match refine(alloc, self.rows, component, task, first, corrector, values)? {
-            Some(policy) => self.pick(component, &policy),
-            None if task.to_end => {
-                self.solve_by_intervals(component, outside.start(task.bound), start);
-            }
-            None => self.solution.is_full = false,
+        if refine(
+            alloc,
+            self.rows,
+            component,
+            task,
+            first,
+            &mut corrector,
+            values,
+        )? {
+            self.pick(component, corrector.policy());
+        } else if task.to_end {
+            self.solve_by_intervals(component, outside.start(task.bound), start);
+        } else {
+            self.solution.is_full = false;
         }
         Ok(())
     }
 
-    /// The policy to begin with: that of the other bound, changed to this one where it doesn't leave the component, or else this one.
+    /// The policy of the other bound, if there is one.
+    fn other_policy(
+        &self,
+        alloc: Global,
+        component: &Component,
+    ) -> Result<Option<Vec<usize>>, AllocError> {
+        match self.other {
+            Some(other) => other.policy(alloc, component),
+            None => Ok(None),
+        }
+    }
+
+    /// The policy to begin with: that of the other bound, changed to one that leaves the component where it doesn't, or else the latter. None where a node
+    /// can't leave.
     fn start(
         &self,
         alloc: Global,
         component: &Component,
         leading: &Groups,
-        exit: Vec<usize>,
-    ) -> Result<Vec<usize>, AllocError> {
-        let Some(other) = self.other else {
-            return Ok(exit);
+    ) -> Result<Option<Vec<usize>>, AllocError> {
+        let Some(exit) = exit_policy(alloc, component, leading)? else {
+            return Ok(None);
         };
-        match picked(alloc, component, &other.picks)? {
-            Some(policy) => proper(alloc, component, leading, &policy, &exit),
-            None => Ok(exit),
+        match self.other_policy(alloc, component)? {
+            Some(policy) => Ok(Some(proper(alloc, component, leading, &policy, &exit)?)),
+            None => Ok(Some(exit)),
         }
     }
 
@@ -184,16 +222,13 @@ impl Solver<'_> {
         let values = &self.solution.values;
         let component = Component::new(alloc, self.rows, self.components, number, values)?;
         let leading = component.leading(alloc)?;
-        match (exit_policy(alloc, &component, &leading)?, component.outside) {
-            (Some(exit), Some(outside)) => {
-                let start = self.start(alloc, &component, &leading, exit)?;
-                self.solve_leaving(alloc, &component, outside, &leading, &start)
-            }
-            _ => {
-                self.give_up_all(number);
-                Ok(())
+        if let Some(outside) = component.outside {
+            if let Some(start) = self.start(alloc, &component, &leading)? {
+                return self.solve_leaving(alloc, &component, outside, &leading, &start);
             }
         }
+        self.give_up_all(number);
+        Ok(())
     }
 
     /// The component of this number, whose successors are solved.

@@ -28,9 +28,9 @@ pub(crate) fn many_sweeps(entries: usize) -> usize {
 /// The greatest change of a sweep, the greatest value, and the sum of all changes times the shares of the nodes.
 #[derive(Clone, Copy)]
 pub(crate) struct Change {
-    most: f64,
-    size: f64,
-    drift: f64,
+    pub(crate) most: f64,
+    pub(crate) size: f64,
+    pub(crate) drift: f64,
 }
 
 impl Change {
@@ -49,21 +49,6 @@ impl Change {
         self.most = self.most.max(more.abs());
         self.size = self.size.max(new.abs());
         self.drift += share * more;
-    }
-
-    /// The greatest change.
-    pub(crate) fn most(self) -> f64 {
-        self.most
-    }
-
-    /// The greatest value.
-    pub(crate) fn size(self) -> f64 {
-        self.size
-    }
-
-    /// The sum of all changes times shares.
-    pub(crate) fn drift(self) -> f64 {
-        self.drift
     }
 
     /// Whether the greatest change is small enough.

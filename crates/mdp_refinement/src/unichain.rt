@@ -1,9 +1,10 @@
 //! Policies of an end component with one recurrent class, improved in floats until none has a greater gain (Howard 1960).
 
-use crate::component::{Component, FloatRow};
+use crate::component::Component;
 use crate::eliminate::{Elimination, Entries, Factors, eliminated_rows, most_products};
 use crate::graph::Graph;
-use crate::lists::{Groups, flag_at, float_at, number, put};
+use crate::leaving::Leaving;
+use crate::lists::{Groups, earned_by, flag_at, float_at, greatest_size, number, put, sum_over};
 use crate::strong::{Components, strong_components};
 use std::alloc::{AllocError, Global};
 
@@ -46,25 +47,6 @@ struct Classes {
     references: Vec<u32>,
 }
 
-/// The nodes that are led to a class, in the order in which they were.
-#[derive(Drop)]
-struct Led {
-    is_led: Vec<bool>,
-    queue: Vec<u32>,
-}
-
-impl Led {
-    /// Takes in a node, unless it is in. Whether it was not.
-    fn take(&mut self, node: u32) -> Result<bool, AllocError> {
-        if flag_at(&self.is_led, node) {
-            return Ok(false);
-        }
-        put(&mut self.is_led, node, true);
-        self.queue.push(node)?;
-        Ok(true)
-    }
-}
-
 impl<'a> Unichain<'a> {
     /// A policy to begin with.
     pub(crate) fn new(
@@ -72,14 +54,10 @@ impl<'a> Unichain<'a> {
         component: &'a Component,
         first: &[usize],
     ) -> Result<Unichain<'a>, AllocError> {
-        let mut policy = Vec::new(alloc);
-        for row in first {
-            policy.push(*row)?;
-        }
         Ok(Unichain {
             component,
             leading: component.leading(alloc)?,
-            policy,
+            policy: first.to_vec(alloc)?,
             values: vec![in alloc; 0.0; component.len()]?,
             evaluated: None,
             products_left: most_products(component.len()),
@@ -107,13 +85,14 @@ impl<'a> Unichain<'a> {
         &self.values
     }
 
+    /// The policy's row at a node, the first of all where there is no such node.
+    fn row_at(&self, node: u32) -> usize {
+        self.policy.get(node as usize).copied().unwrap_or(0)
+    }
+
     /// The entries of the policy's row at a node.
     fn entries_at(&self, node: u32) -> &[(u32, f64)] {
-        let chosen = self.policy.get(node as usize).copied();
-        match chosen.and_then(|place| self.component.rows.get(place)) {
-            Some(row) => self.component.entries_of(row),
-            None => &[],
-        }
+        self.component.entries_at(self.row_at(node))
     }
 
     /// Appends the edges of the policy's row at a node.
@@ -135,13 +114,24 @@ impl<'a> Unichain<'a> {
         strong_components(alloc, &graph, &open)
     }
 
+    /// Whether the policy's row at a node leads to nodes of its component alone.
+    fn stays(&self, parts: &Components, node: u32) -> bool {
+        for entry in self.entries_at(node) {
+            if parts.of(entry.0) != parts.of(node) {
+                return false;
+            }
+        }
+        true
+    }
+
     /// Whether the policy doesn't leave the component of a number.
     fn is_closed(&self, parts: &Components, part: usize) -> bool {
-        parts.nodes_of(part).iter().all(|node| {
-            self.entries_at(*node)
-                .iter()
-                .all(|entry| parts.of(entry.0) == number(part))
-        })
+        for node in parts.nodes_of(part) {
+            if !self.stays(parts, *node) {
+                return false;
+            }
+        }
+        true
     }
 
     /// The recurrent classes.
@@ -233,7 +223,7 @@ impl<'a> Unichain<'a> {
         let exits = self.exits(alloc, &is_reference)?;
         match eliminated_rows(alloc, rows, exits, self.products_left)? {
             Elimination::Done(factors) => {
-                self.products_left = self.products_left.saturating_sub(factors.products());
+                self.products_left = self.products_left.saturating_sub(factors.products);
                 Ok(Some(factors))
             }
             Elimination::Improper | Elimination::Dense => Ok(None),
@@ -250,7 +240,7 @@ impl<'a> Unichain<'a> {
     ) -> Result<Vec<f64>, AllocError> {
         let mut earned = Vec::new(alloc);
         for place in &self.policy {
-            earned.push(gains.get(*place).copied().unwrap_or(0.0) - gain)?;
+            earned.push(earned_by(gains, *place) - gain)?;
         }
         for node in references {
             put(&mut earned, *node, 0.0);
@@ -260,11 +250,7 @@ impl<'a> Unichain<'a> {
 
     /// The sum of values over the policy's row at a node.
     fn follow(&self, node: u32, values: &[f64]) -> f64 {
-        let mut total = 0.0;
-        for (target, prob) in self.entries_at(node) {
-            total += *prob * float_at(values, *target);
-        }
-        total
+        sum_over(0.0, self.entries_at(node), values)
     }
 
     /// One step at each node but the reference nodes.
@@ -281,17 +267,16 @@ impl<'a> Unichain<'a> {
         &self,
         alloc: Global,
         factors: &Factors,
-        constants: &mut [f64],
+        mut constants: Vec<f64>,
     ) -> Result<Vec<f64>, AllocError> {
         let mut values = vec![in alloc; 0.0; self.policy.len()]?;
-        factors.solve(constants, &mut values);
+        factors.solve(&mut constants, &mut values);
         Ok(values)
     }
 
     /// The gain of a reference node's class, from what is earned and the number of steps until a reference node.
     fn gain_at(&self, gains: &[f64], node: u32, totals: &[f64], steps: &[f64]) -> f64 {
-        let place = self.policy.get(node as usize).copied().unwrap_or(0);
-        let own = gains.get(place).copied().unwrap_or(0.0);
+        let own = earned_by(gains, self.row_at(node));
         (own + self.follow(node, totals)) / (1.0 + self.follow(node, steps))
     }
 
@@ -303,10 +288,9 @@ impl<'a> Unichain<'a> {
         factors: &Factors,
         references: &[u32],
     ) -> Result<Vec<f64>, AllocError> {
-        let mut one_each = self.one_each(alloc, references)?;
-        let steps = self.solved(alloc, factors, &mut one_each)?;
-        let mut earned = self.earned(alloc, gains, 0.0, references)?;
-        let totals = self.solved(alloc, factors, &mut earned)?;
+        let steps = self.solved(alloc, factors, self.one_each(alloc, references)?)?;
+        let earned = self.earned(alloc, gains, 0.0, references)?;
+        let totals = self.solved(alloc, factors, earned)?;
         let mut found = Vec::new(alloc);
         for node in references {
             found.push(self.gain_at(gains, *node, &totals, &steps))?;
@@ -314,47 +298,20 @@ impl<'a> Unichain<'a> {
         Ok(found)
     }
 
-    /// Leads to a node others, by the policy's rows alone or by any.
-    fn lead_to(&mut self, node: u32, led: &mut Led, keeps_policy: bool) -> Result<(), AllocError> {
-        for row in self.leading.of(node) {
-            let place = *row as usize;
-            if let Some(before) = self.component.rows.get(place).map(|row| row.node) {
-                let is_chosen = self.policy.get(before as usize).copied() == Some(place);
-                if (is_chosen || !keeps_policy) && led.take(before)? {
-                    put(&mut self.policy, before, place);
-                }
-            }
-        }
-        Ok(())
-    }
-
-    /// Leads to the nodes that are led already all that can be, by the policy's rows alone or by any.
-    fn lead_all(&mut self, led: &mut Led, keeps_policy: bool) -> Result<(), AllocError> {
-        for place in 0..self.policy.len() {
-            let Some(node) = led.queue.get(place).copied() else {
-                break;
-            };
-            self.lead_to(node, led, keeps_policy)?;
-        }
-        Ok(())
-    }
-
-    /// Leads all nodes to the class of a reference node: those that the policy leads there keep their rows.
-    fn lead_to_class(
-        &mut self,
+    /// The policy that leads all nodes to the class of a reference node: those that this one leads there keep their rows.
+    fn led_to_class(
+        &self,
         alloc: Global,
         parts: &Components,
         reference: u32,
-    ) -> Result<(), AllocError> {
-        let mut led = Led {
-            is_led: vec![in alloc; false; self.policy.len()]?,
-            queue: Vec::new(alloc),
-        };
+    ) -> Result<Vec<usize>, AllocError> {
+        let mut search = Leaving::new(alloc, self.component, &self.leading)?;
         for node in parts.nodes_of(parts.of(reference) as usize) {
-            led.take(*node)?;
+            search.lead(*node, self.row_at(*node))?;
         }
-        self.lead_all(&mut led, true)?;
-        self.lead_all(&mut led, false)
+        search.spread(Some(&self.policy))?;
+        search.spread(None)?;
+        search.policy_or(alloc, &self.policy)
     }
 
     /// The reference node of the policy that was evaluated last, where it is in the component of a node; else that node.
@@ -369,21 +326,31 @@ impl<'a> Unichain<'a> {
         }
     }
 
+    /// The reference node of the class of greatest gain. None where elimination fails.
+    fn best_class(
+        &mut self,
+        alloc: Global,
+        gains: &[f64],
+        references: &[u32],
+    ) -> Result<Option<u32>, AllocError> {
+        let Some(factors) = self.eliminated(alloc, references)? else {
+            return Ok(None);
+        };
+        let found = self.gains_of(alloc, gains, &factors, references)?;
+        Ok(greatest(&found, references))
+    }
+
     /// A node of the recurrent class of greatest gain, to which all nodes are led. None where elimination fails.
     fn joined(&mut self, alloc: Global, gains: &[f64]) -> Result<Option<u32>, AllocError> {
         let classes = self.classes(alloc)?;
         if let [only] = classes.references.as_slice() {
             return Ok(Some(self.reference_in(&classes.parts, *only)));
         }
-        let Some(factors) = self.eliminated(alloc, &classes.references)? else {
-            return Ok(None);
-        };
-        let found = self.gains_of(alloc, gains, &factors, &classes.references)?;
-        let Some(reference) = greatest(&found, &classes.references) else {
-            return Ok(None);
-        };
-        self.lead_to_class(alloc, &classes.parts, reference)?;
-        Ok(Some(reference))
+        let best = self.best_class(alloc, gains, &classes.references)?;
+        if let Some(reference) = best {
+            self.policy = self.led_to_class(alloc, &classes.parts, reference)?;
+        }
+        Ok(best)
     }
 
     /// The node that is visited most often between two visits of a reference node, where that is much more often; else that node.
@@ -462,21 +429,16 @@ impl<'a> Unichain<'a> {
         Ok(Some(gain))
     }
 
-    /// What a row comes to over the value of its node.
-    fn advantage(&self, row: &FloatRow, gain: f64) -> f64 {
-        self.component.sum(row, gain, &self.values) - row.total * float_at(&self.values, row.node)
-    }
-
     /// The row of the node at a place that has more advantage than the policy's, and most of all.
     fn improved(&self, gains: &[f64], place: usize, least: f64) -> Option<usize> {
         let chosen = self.policy.get(place).copied()?;
-        let own = self.component.rows.get(chosen)?;
-        let mut best = self.advantage(own, gains.get(chosen).copied()?) + least;
+        let (own, gain) = self.component.earning(chosen, gains)?;
+        let mut best = self.component.over(own, gain, &self.values) + least;
         let mut better = None;
         let (from, to) = self.component.range_of(place);
         for at in from..to {
-            let row = self.component.rows.get(at)?;
-            let more = self.advantage(row, gains.get(at).copied()?);
+            let (row, gain) = self.component.earning(at, gains)?;
+            let more = self.component.over(row, gain, &self.values);
             if more > best {
                 best = more;
                 better = Some(at);
@@ -485,18 +447,9 @@ impl<'a> Unichain<'a> {
         better
     }
 
-    /// The greatest absolute value.
-    fn size(&self) -> f64 {
-        let mut size = 0.0f64;
-        for value in &self.values {
-            size = size.max(value.abs());
-        }
-        size
-    }
-
     /// Improves the policy by the values. Whether it changed.
     fn improve(&mut self, gains: &[f64], gain: f64) -> bool {
-        let least = LOSS * (self.size() + gain.abs()) + LEAST_ADVANTAGE;
+        let least = LOSS * (greatest_size(&self.values) + gain.abs()) + LEAST_ADVANTAGE;
         let mut is_changed = false;
         for place in 0..self.policy.len() {
             if let Some(row) = self.improved(gains, place, least) {
@@ -536,5 +489,6 @@ fn greatest(values: &[f64], nodes: &[u32]) -> Option<u32> {
             _ => best = Some((*value, *node)),
         }
     }
-    best.map(|(_, node)| node)
+    let (_, node) = best?;
+    Some(node)
 }
