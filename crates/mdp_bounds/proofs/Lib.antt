@@ -1,3 +1,4 @@
+pub mod Parts
 pub mod Comparing
 pub mod Sums
 pub mod Values

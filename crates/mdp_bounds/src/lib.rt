@@ -2,8 +2,8 @@
 //! never too wide, and a row whose truth needs no arithmetic makes no written term. Laws say what a no means.
 #![tactic(auto)]
 
+mod column;
 mod compare;
-mod earning;
 mod finite;
 mod laws;
 mod mean;

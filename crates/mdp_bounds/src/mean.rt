@@ -1,4 +1,4 @@
-ghost use Rattle.std.specs.Prelude.{◌≡◌, ◌<◌, ◌↔◌, IsTrue, length, [], ◌∷◌, slice_index};
+ghost use Rattle.std.specs.Prelude.{◌≡◌, ◌<◌, ◌↔◌, IsTrue, length, [], ◌∷◌};
 ghost use Rattle.std.specs.List.{list_all};
 ghost use Rattle.std.specs.Result.{result_ok};
 ghost use Rattle.mdp_spec.specs.Mdp.{states_of, choices_at};
@@ -80,46 +80,6 @@ impl<'a> Gains<'a> {
     }
 }
 
-/// Whether the upper gain of state `s` is at least, or the lower one at most, the sum of the gains over the row of its choice `c`.
-fn gain_stands_at(model: &Model, dir: Dir, gains: Gains<'_>, s: u32, c: u32) -> Result<bool, Wide>
-    requires gains { length gains.values.now ≡ states_of model.now }
-    requires state { s < states_of model.now }
-    requires choice { c < length (choices_at model.now s) }
-    ensures { result_ok result ≡ gain_stands dir model.now gains.entry.values.now s c }
-{
-    if gains.are_one {
-        model.known();
-        return Ok(true);
-    }
-    let gains = gains.values;
-    let sum = row_sum(model.row(s, c), &Frac::whole(0), gains)?;
-    Ok(value_stands(dir, &gains[s as usize], &sum))
-}
-
-/// That of state `s` and its choice `c`.
-fn gain_at(model: &Model, dir: Dir, gains: Gains<'_>, s: u32, c: u32) -> Result<(), Objection>
-    requires gains { length gains.values.now ≡ states_of model.now }
-    requires state { s < states_of model.now }
-    requires choice { c < length (choices_at model.now s) }
-    ensures { result ≡ objection_to (gain_check dir model.now gains.entry.values.now s c ∷ []) }
-{
-    judged(
-        gain_stands_at(model, dir, gains, s, c),
-        Rule::GainOnEachChoice,
-        s,
-        Some(c),
-    )
-}
-
-/// The same of each choice.
-fn gains_at_state(model: &Model, dir: Dir, gains: Gains<'_>, s: u32) -> Result<(), Objection>
-    requires gains { length gains.values.now ≡ states_of model.now }
-    requires state { s < states_of model.now }
-    ensures { result ≡ objection_to (at_choices model.now s (gain_check dir model.now gains.entry.values.now s)) }
-{
-    each_choice(model, s, |c| gain_at(model, dir, gains, s, c))
-}
-
 /// The gain and a relative value of state `s` together.
 fn step_at(gains: Gains<'_>, relative: &[Frac], s: u32) -> Result<Frac, Wide>
     requires gains { s < length gains.values.now }
@@ -127,72 +87,6 @@ fn step_at(gains: Gains<'_>, relative: &[Frac], s: u32) -> Result<Frac, Wide>
     ensures { result_ok result ≡ told_step gains.entry.values.now relative.now s }
 {
     plain_sum(&gains.values[s as usize], &relative[s as usize])
-}
-
-/// Whether the upper gain and the bound of state `s` together are at least, or the lower one and the bound at most, what its choice `c` earns by
-/// the bound: its reward and the sum over its row.
-fn bound_stands_at(
-    model: &Model,
-    m: u32,
-    dir: Dir,
-    gains: Gains<'_>,
-    bound: &[Frac],
-    s: u32,
-    c: u32,
-) -> Result<bool, Wide>
-    requires name { m < length model.now.names }
-    requires gains { length gains.values.now ≡ states_of model.now }
-    requires bound { length bound.now ≡ states_of model.now }
-    requires state { s < states_of model.now }
-    requires choice { c < length (choices_at model.now s) }
-    ensures { result_ok result ≡ bound_stands dir model.now m gains.entry.values.now bound.now s c }
-{
-    let step = step_at(gains, bound, s)?;
-    let sum = row_sum(model.row(s, c), &model.reward(m, s, c), bound)?;
-    Ok(value_stands(dir, &step, &sum))
-}
-
-/// That of state `s` and its choice `c`.
-fn bound_at(
-    model: &Model,
-    m: u32,
-    dir: Dir,
-    gains: Gains<'_>,
-    bound: &[Frac],
-    s: u32,
-    c: u32,
-) -> Result<(), Objection>
-    requires name { m < length model.now.names }
-    requires gains { length gains.values.now ≡ states_of model.now }
-    requires bound { length bound.now ≡ states_of model.now }
-    requires state { s < states_of model.now }
-    requires choice { c < length (choices_at model.now s) }
-    ensures { result ≡ objection_to (relative_check dir model.now m gains.entry.values.now bound.now s c ∷ []) }
-{
-    judged(
-        bound_stands_at(model, m, dir, gains, bound, s, c),
-        Rule::BoundOnEachChoice,
-        s,
-        Some(c),
-    )
-}
-
-/// The same of each choice.
-fn bounds_at_state(
-    model: &Model,
-    m: u32,
-    dir: Dir,
-    gains: Gains<'_>,
-    bound: &[Frac],
-    s: u32,
-) -> Result<(), Objection>
-    requires name { m < length model.now.names }
-    requires gains { length gains.values.now ≡ states_of model.now }
-    requires bound { length bound.now ≡ states_of model.now }
-    requires state { s < states_of model.now }
-    ensures { result ≡ objection_to (at_choices model.now s (relative_check dir model.now m gains.entry.values.now bound.now s)) }
-{
-    each_choice(model, s, |c| bound_at(model, m, dir, gains, bound, s, c))
 }
 
 /// Whether the spread is that of bounds and biases.
@@ -203,119 +97,209 @@ fn spread_holds(bound: &[Frac], bias: &[Frac], spread: &Frac) -> Result<bool, Wi
     Ok(*spread == widest)
 }
 
-/// The rules of each choice of state `s`.
-fn cover_at_state(
-    model: &Model,
-    m: u32,
+/// The gains of one column with a bound or a bias, which are held against a model.
+#[derive(Clone, Copy)]
+struct Half<'a> {
     dir: Dir,
-    gains: Gains<'_>,
-    bound: &[Frac],
-    s: u32,
-) -> Result<(), Objection>
-    requires name { m < length model.now.names }
-    requires gains { length gains.values.now ≡ states_of model.now }
-    requires bound { length bound.now ≡ states_of model.now }
-    requires state { s < states_of model.now }
-    ensures { result ≡ objection_to (gains_cover dir model.now m gains.entry.values.now bound.now s) }
-{
-    gains_at_state(model, dir, gains, s)?;
-    bounds_at_state(model, m, dir, gains, bound, s)
+    model: &'a Model,
+    name: u32,
+    gains: Gains<'a>,
+    relative: &'a [Frac],
+    ghost named: { name < length model.now.names },
+    ghost gains_each: { length gains.values.now ≡ states_of model.now },
+    ghost relative_each: { length relative.now ≡ states_of model.now },
 }
 
-/// Those of the half on each choice.
-fn cover_bounds(
-    model: &Model,
-    m: u32,
-    dir: Dir,
-    lower: Gains<'_>,
-    upper: Gains<'_>,
-    bound: &[Frac],
-    s: u32,
-) -> Result<(), Objection>
-    requires name { m < length model.now.names }
-    requires lower { length lower.values.now ≡ states_of model.now }
-    requires upper { length upper.values.now ≡ states_of model.now }
-    requires bound { length bound.now ≡ states_of model.now }
-    requires state { s < states_of model.now }
-    ensures { result ≡ objection_to (gains_cover dir model.now m (covering dir lower.entry.values.now upper.entry.values.now) bound.now s) }
-{
-    match dir {
-        Dir::Max => cover_at_state(model, m, Dir::Max, upper, bound, s),
-        Dir::Min => cover_at_state(model, m, Dir::Min, lower, bound, s),
+impl Half<'_> {
+    /// Whether the upper gain of state `s` is at least, or the lower one at most, the sum of the gains over the row of its choice `c`.
+    fn gain_stands(self, dir: Dir, s: u32, c: u32) -> Result<bool, Wide>
+        requires state { s < states_of self.model.now }
+        requires choice { c < length (choices_at self.model.now s) }
+        ensures { result_ok result ≡ gain_stands dir self.entry.model.now self.entry.gains.values.now s c }
+    {
+        let gains = self.gains;
+        if gains.are_one {
+            self.model.known();
+            return Ok(true);
+        }
+        let gains = gains.values;
+        let sum = row_sum(self.model.row(s, c), &Frac::whole(0), gains)?;
+        Ok(value_stands(dir, &gains[s as usize], &sum))
+    }
+
+    /// Whether the upper gain and the bound of state `s` together are at least, or the lower one and the bound at most, what its choice `c` earns by
+    /// the bound: its reward and the sum over its row.
+    fn bound_stands(self, dir: Dir, s: u32, c: u32) -> Result<bool, Wide>
+        requires state { s < states_of self.model.now }
+        requires choice { c < length (choices_at self.model.now s) }
+        ensures { result_ok result ≡ bound_stands dir self.entry.model.now self.entry.name self.entry.gains.values.now self.entry.relative.now s c }
+    {
+        let step = step_at(self.gains, self.relative, s)?;
+        let reward = self.model.reward(self.name, s, c);
+        let sum = row_sum(self.model.row(s, c), &reward, self.relative)?;
+        Ok(value_stands(dir, &step, &sum))
+    }
+
+    /// The gains at state `s` and its choice `c`.
+    fn gain_at(self, s: u32, c: u32) -> Result<(), Objection>
+        requires state { s < states_of self.model.now }
+        requires choice { c < length (choices_at self.model.now s) }
+        ensures { result ≡ objection_to (gain_check self.entry.dir self.entry.model.now self.entry.gains.values.now s c ∷ []) }
+    {
+        let stands = self.gain_stands(self.dir, s, c);
+        judged(stands, Rule::GainOnEachChoice, s, Some(c))
+    }
+
+    /// The same of each choice.
+    fn gains_at(self, s: u32) -> Result<(), Objection>
+        requires { s < states_of self.model.now }
+        ensures { result ≡ objection_to (at_choices self.entry.model.now s (gain_check self.entry.dir self.entry.model.now self.entry.gains.values.now s)) }
+    {
+        each_choice(self.model, s, |c| self.gain_at(s, c))
+    }
+
+    /// The bound at state `s` and its choice `c`.
+    fn bound_at(self, s: u32, c: u32) -> Result<(), Objection>
+        requires state { s < states_of self.model.now }
+        requires choice { c < length (choices_at self.model.now s) }
+        ensures { result ≡ objection_to (relative_check self.entry.dir self.entry.model.now self.entry.name self.entry.gains.values.now self.entry.relative.now s c ∷ []) }
+    {
+        let stands = self.bound_stands(self.dir, s, c);
+        judged(stands, Rule::BoundOnEachChoice, s, Some(c))
+    }
+
+    /// The same of each choice.
+    fn bounds_at(self, s: u32) -> Result<(), Objection>
+        requires { s < states_of self.model.now }
+        ensures { result ≡ objection_to (at_choices self.entry.model.now s (relative_check self.entry.dir self.entry.model.now self.entry.name self.entry.gains.values.now self.entry.relative.now s)) }
+    {
+        each_choice(self.model, s, |c| self.bound_at(s, c))
+    }
+
+    /// The rules of each choice of state `s`.
+    fn on_each(self, s: u32) -> Result<(), Objection>
+        requires { s < states_of self.model.now }
+        ensures { result ≡ objection_to (gains_cover self.entry.dir self.entry.model.now self.entry.name self.entry.gains.values.now self.entry.relative.now s) }
+    {
+        self.gains_at(s)?;
+        self.bounds_at(s)
+    }
+
+    /// The rules of the policy's choice `c` at state `s`.
+    fn on_policy(self, s: u32, c: u32) -> Result<(), Objection>
+        requires state { s < states_of self.model.now }
+        requires choice { c < length (choices_at self.model.now s) }
+        ensures { result ≡ objection_to (gains_follow self.entry.dir self.entry.model.now self.entry.name self.entry.gains.values.now self.entry.relative.now s c) }
+    {
+        let keeps = self.gain_stands(reversed(self.dir), s, c);
+        judged(keeps, Rule::GainOnPolicy, s, Some(c))?;
+        let earns = self.bound_stands(reversed(self.dir), s, c);
+        judged(earns, Rule::BiasOnPolicy, s, Some(c))
     }
 }
 
-/// The rules of the policy's choice at state `s`.
-fn follow_at_state(
-    model: &Model,
-    m: u32,
+/// Lower and upper gains, a bound and a bias that are held against a model.
+#[derive(Clone, Copy)]
+struct Claimed<'a> {
     dir: Dir,
-    gains: Gains<'_>,
-    bias: &[Frac],
-    s: u32,
-    choice: u32,
-) -> Result<(), Objection>
-    requires name { m < length model.now.names }
-    requires gains { length gains.values.now ≡ states_of model.now }
-    requires bias { length bias.now ≡ states_of model.now }
-    requires state { s < states_of model.now }
-    requires choice { choice < length (choices_at model.now s) }
-    ensures { result ≡ objection_to (gains_follow dir model.now m gains.entry.values.now bias.now s choice) }
-{
-    let keeps = gain_stands_at(model, reversed(dir), gains, s, choice);
-    judged(keeps, Rule::GainOnPolicy, s, Some(choice))?;
-    let earns = bound_stands_at(model, m, reversed(dir), gains, bias, s, choice);
-    judged(earns, Rule::BiasOnPolicy, s, Some(choice))
+    model: &'a Model,
+    name: u32,
+    lower: Gains<'a>,
+    upper: Gains<'a>,
+    bound: &'a [Frac],
+    bias: &'a [Frac],
+    ghost named: { name < length model.now.names },
+    ghost lower_each: { length lower.values.now ≡ states_of model.now },
+    ghost upper_each: { length upper.values.now ≡ states_of model.now },
+    ghost bound_each: { length bound.now ≡ states_of model.now },
+    ghost bias_each: { length bias.now ≡ states_of model.now },
 }
 
-/// Those of the half on the policy's choice.
-fn follow_bounds(
-    model: &Model,
-    m: u32,
-    dir: Dir,
-    lower: Gains<'_>,
-    upper: Gains<'_>,
-    bias: &[Frac],
-    s: u32,
-    choice: u32,
-) -> Result<(), Objection>
-    requires name { m < length model.now.names }
-    requires lower { length lower.values.now ≡ states_of model.now }
-    requires upper { length upper.values.now ≡ states_of model.now }
-    requires bias { length bias.now ≡ states_of model.now }
-    requires state { s < states_of model.now }
-    requires choice { choice < length (choices_at model.now s) }
-    ensures { result ≡ objection_to (gains_follow dir model.now m (followed dir lower.entry.values.now upper.entry.values.now) bias.now s choice) }
-{
-    match dir {
-        Dir::Max => follow_at_state(model, m, Dir::Max, lower, bias, s, choice),
-        Dir::Min => follow_at_state(model, m, Dir::Min, upper, bias, s, choice),
+impl<'a> Claimed<'a> {
+    /// The gains that the half on each choice is asked of in this direction.
+    fn covering(self, dir: Dir) -> Gains<'a>
+        ensures values { result.values.now ≡ covering dir self.entry.lower.values.now self.entry.upper.values.now }
+        ensures one_each { length result.values.now ≡ states_of self.entry.model.now }
+    {
+        match dir {
+            Dir::Max => self.upper,
+            Dir::Min => self.lower,
+        }
     }
-}
 
-/// The rules at state `s`, where the policy takes this choice: the first that fails, or the first sum past width.
-fn rules_at_state(
-    model: &Model,
-    m: u32,
-    dir: Dir,
-    lower: Gains<'_>,
-    upper: Gains<'_>,
-    bound: &[Frac],
-    bias: &[Frac],
-    s: u32,
-    choice: u32,
-) -> Result<(), Objection>
-    requires name { m < length model.now.names }
-    requires lower { length lower.values.now ≡ states_of model.now }
-    requires upper { length upper.values.now ≡ states_of model.now }
-    requires bound { length bound.now ≡ states_of model.now }
-    requires bias { length bias.now ≡ states_of model.now }
-    requires state { s < states_of model.now }
-    ensures { result ≡ objection_to (mean_bounds_at dir model.now m lower.entry.values.now upper.entry.values.now bound.now bias.now s choice) }
-{
-    choice_at(model, s, choice)?;
-    cover_bounds(model, m, dir, lower, upper, bound, s)?;
-    follow_bounds(model, m, dir, lower, upper, bias, s, choice)
+    /// The half on each choice, at state `s`.
+    fn covers(self, s: u32) -> Result<(), Objection>
+        requires { s < states_of self.model.now }
+        ensures { result ≡ objection_to (gains_cover self.entry.dir self.entry.model.now self.entry.name
+            (covering self.entry.dir self.entry.lower.values.now self.entry.upper.values.now) self.entry.bound.now s) }
+    {
+        let half = Half {
+            dir: self.dir,
+            model: self.model,
+            name: self.name,
+            gains: self.covering(self.dir),
+            relative: self.bound,
+        };
+        half.on_each(s)
+    }
+
+    /// The half on the policy's choice, at state `s`.
+    fn follows(self, s: u32, choice: u32) -> Result<(), Objection>
+        requires state { s < states_of self.model.now }
+        requires choice { choice < length (choices_at self.model.now s) }
+        ensures { result ≡ objection_to (gains_follow self.entry.dir self.entry.model.now self.entry.name
+            (followed self.entry.dir self.entry.lower.values.now self.entry.upper.values.now) self.entry.bias.now s choice) }
+    {
+        let half = Half {
+            dir: self.dir,
+            model: self.model,
+            name: self.name,
+            gains: self.covering(reversed(self.dir)),
+            relative: self.bias,
+        };
+        half.on_policy(s, choice)
+    }
+
+    /// The rules at state `s`, where the policy takes this choice.
+    fn state_at(self, s: u32, choice: u32) -> Result<(), Objection>
+        requires { s < states_of self.model.now }
+        ensures { result ≡ objection_to (mean_bounds_at self.entry.dir self.entry.model.now self.entry.name
+            self.entry.lower.values.now self.entry.upper.values.now self.entry.bound.now self.entry.bias.now s choice) }
+    {
+        choice_at(self.model, s, choice)?;
+        self.covers(s)?;
+        self.follows(s, choice)
+    }
+
+    /// The rules at each state, from 0 on.
+    fn states(self, choices: &[u32]) -> Result<(), Objection>
+        requires { length choices.now ≡ states_of self.model.now }
+        ensures { result ≡ objection_to (state_bounds_checks self.entry.dir self.entry.model.now self.entry.name
+            self.entry.lower.values.now self.entry.upper.values.now self.entry.bound.now self.entry.bias.now choices.now) }
+    {
+        each_below(
+            self.model.states(),
+            |s| self.state_at(s, choices[s as usize]),
+        )
+    }
+
+    /// The spread is that of bounds and biases.
+    fn spread(self, spread: &Frac) -> Result<(), Objection>
+        ensures { result ≡ objection_to (spread_check self.entry.bound.now self.entry.bias.now spread.now ∷ []) }
+    {
+        let holds = spread_holds(self.bound, self.bias, spread);
+        judged_at(holds, Rule::SpreadIsGreatest, None, None)
+    }
+
+    /// All rules: those at each state, and that of the spread.
+    fn walk(self, choices: &[u32], spread: &Frac) -> Result<(), Objection>
+        requires { length choices.now ≡ states_of self.model.now }
+        ensures { result ≡ objection_to (mean_bounds_checks self.entry.dir self.entry.model.now self.entry.name
+            self.entry.lower.values.now self.entry.upper.values.now self.entry.bound.now self.entry.bias.now spread.now choices.now) }
+    {
+        self.states(choices)?;
+        self.spread(spread)
+    }
 }
 
 /// The rules at state `s`, where the policy takes this choice: the first that fails, or the first sum past width. Gains and relative values are one per
@@ -339,85 +323,16 @@ pub fn mean_bounds_at_state(
     requires state { s < states_of model.now }
     ensures { result ≡ objection_to (mean_bounds_at dir model.now m lower.now upper.now bound.now bias.now s choice) }
 {
-    rules_at_state(
-        model,
-        m,
+    let claimed = Claimed {
         dir,
-        Gains::any(lower),
-        Gains::any(upper),
+        model,
+        name: m,
+        lower: Gains::any(lower),
+        upper: Gains::any(upper),
         bound,
         bias,
-        s,
-        choice,
-    )
-}
-
-/// The rules at each state, from 0 on.
-fn mean_bounds_at_states(
-    model: &Model,
-    m: u32,
-    dir: Dir,
-    lower: &[Frac],
-    upper: &[Frac],
-    bound: &[Frac],
-    bias: &[Frac],
-    choices: &[u32],
-) -> Result<(), Objection>
-    requires name { m < length model.now.names }
-    requires lower { length lower.now ≡ states_of model.now }
-    requires upper { length upper.now ≡ states_of model.now }
-    requires bound { length bound.now ≡ states_of model.now }
-    requires bias { length bias.now ≡ states_of model.now }
-    requires choices { length choices.now ≡ states_of model.now }
-    ensures { result ≡ objection_to (state_bounds_checks dir model.now m lower.now upper.now bound.now bias.now choices.now) }
-{
-    let lower = Gains::new(lower);
-    let upper = Gains::new(upper);
-    each_below(model.states(), |s| {
-        rules_at_state(
-            model,
-            m,
-            dir,
-            lower,
-            upper,
-            bound,
-            bias,
-            s,
-            choices[s as usize],
-        )
-    })
-}
-
-/// All rules: those at each state, and that of the spread.
-fn mean_bounds_walk(model: &Model, m: u32, dir: Dir, cert: &MeanBoundsCert) -> Result<(), Objection>
-    requires name { m < length model.now.names }
-    requires lower { length cert.now.lower.items ≡ states_of model.now }
-    requires upper { length cert.now.upper.items ≡ states_of model.now }
-    requires bound { length cert.now.bound.items ≡ states_of model.now }
-    requires bias { length cert.now.bias.items ≡ states_of model.now }
-    requires choices { length cert.now.choices.items ≡ states_of model.now }
-    ensures { result ≡ objection_to (mean_bounds_checks dir model.now m cert.now.lower.items cert.now.upper.items cert.now.bound.items cert.now.bias.items cert.now.spread cert.now.choices.items) }
-{
-    let lower = cert.lower.as_slice();
-    let upper = cert.upper.as_slice();
-    let bound = cert.bound.as_slice();
-    let bias = cert.bias.as_slice();
-    mean_bounds_at_states(
-        model,
-        m,
-        dir,
-        lower,
-        upper,
-        bound,
-        bias,
-        cert.choices.as_slice(),
-    )?;
-    judged_at(
-        spread_holds(bound, bias, &cert.spread),
-        Rule::SpreadIsGreatest,
-        None,
-        None,
-    )
+    };
+    claimed.state_at(s, choice)
 }
 
 /// Whether the greatest, or the least, mean payoffs of the reward name of place `m` lie between the gains, and those of the policy too: what
@@ -440,5 +355,14 @@ pub fn holds_bounds_mean(model: &Model, m: u32, dir: Dir, cert: &MeanBoundsCert)
     ensures trivial { IsTrivialMean model.now m cert.now.lower.items cert.now.upper.items cert.now.bound.items cert.now.bias.items cert.now.spread cert.now.choices.items → IsYes result }
 {
     model.known();
-    verdict_after(mean_bounds_walk(model, m, dir, cert))
+    let claimed = Claimed {
+        dir,
+        model,
+        name: m,
+        lower: Gains::new(cert.lower.as_slice()),
+        upper: Gains::new(cert.upper.as_slice()),
+        bound: cert.bound.as_slice(),
+        bias: cert.bias.as_slice(),
+    };
+    verdict_after(claimed.walk(cert.choices.as_slice(), &cert.spread))
 }

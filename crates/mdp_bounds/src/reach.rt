@@ -1,11 +1,11 @@
-ghost use Rattle.std.specs.Prelude.{◌≡◌, ◌<◌, ◌↔◌, length, [], ◌∷◌, slice_index};
+ghost use Rattle.std.specs.Prelude.{◌≡◌, ◌<◌, ◌↔◌, length, [], ◌∷◌};
 ghost use Rattle.std.specs.Result.{result_ok};
 ghost use Rattle.mdp_spec.specs.Mdp.{states_of, choices_at};
 ghost use Rattle.mdp_spec.specs.Row.{entries};
 ghost use Rattle.mdp_spec.specs.Between.{ReachMaxBetween, ReachMinBetween};
-ghost use Rattle.mdp_bounds.specs.Reach.{covering, followed, probability_checks, goal_check, outermost, stands_to_row, stands_at, bound_check, policy_check};
+ghost use Rattle.mdp_bounds.specs.Reach.{covering, followed, probability_checks, goal_check, outermost, stands_at, bound_check};
 ghost use Rattle.mdp_farkas.specs.Reach.{IsReach};
-ghost use Rattle.mdp_farkas.specs.Verdict.{objection_to, verdict_of, at_choices, IsYes, IfYes};
+ghost use Rattle.mdp_farkas.specs.Verdict.{objection_to, verdict_of, IsYes, IfYes};
 ghost use Rattle.mdp_rows.specs.declared.dir.Dir.TheVariants.{Max, Min};
 ghost use Rattle.mdp_bounds.specs.Reach.{cover_at, follow_at, bounds_at, bounds_checks, IsReachBounds, IsTrivialReach};
 
@@ -71,152 +71,156 @@ fn outermost_value(dir: Dir) -> Frac
     }
 }
 
-/// Whether the upper value of state `s` is at least, or the lower one at most, the sum over the row of its choice `c`. The greatest upper
-/// value and the least lower one stand to any row: for them no sum is made.
-fn choice_stands(model: &Model, dir: Dir, values: &[Frac], s: u32, c: u32) -> Result<bool, Wide>
-    requires values { length values.now ≡ states_of model.now }
-    requires state { s < states_of model.now }
-    requires choice { c < length (choices_at model.now s) }
-    ensures { result_ok result ≡ stands_at dir model.now values.now s c }
-{
-    let value = values[s as usize];
-    if value == outermost_value(dir) {
-        return Ok(true);
+/// The values of one column, which are held against a model.
+#[derive(Clone, Copy)]
+struct Half<'a> {
+    dir: Dir,
+    model: &'a Model,
+    goals: &'a Marks,
+    values: &'a [Frac],
+    ghost goals_each: { length goals.now ≡ states_of model.now },
+    ghost one_each: { length values.now ≡ states_of model.now },
+}
+
+impl Half<'_> {
+    /// Whether the upper value of state `s` is at least, or the lower one at most, the sum over the row of its choice `c`. The greatest upper
+    /// value and the least lower one stand to any row: for them no sum is made.
+    fn stands(self, dir: Dir, s: u32, c: u32) -> Result<bool, Wide>
+        requires state { s < states_of self.model.now }
+        requires choice { c < length (choices_at self.model.now s) }
+        ensures { result_ok result ≡ stands_at dir self.entry.model.now self.entry.values.now s c }
+    {
+        let value = self.values[s as usize];
+        if value == outermost_value(dir) {
+            return Ok(true);
+        }
+        let sum = row_sum(self.model.row(s, c), &Frac::whole(0), self.values)?;
+        Ok(value_stands(dir, &value, &sum))
     }
-    let sum = row_sum(model.row(s, c), &Frac::whole(0), values)?;
-    Ok(value_stands(dir, &value, &sum))
-}
 
-/// The inequality at state `s` and its choice `c`.
-fn bound_at(model: &Model, dir: Dir, values: &[Frac], s: u32, c: u32) -> Result<(), Objection>
-    requires values { length values.now ≡ states_of model.now }
-    requires state { s < states_of model.now }
-    requires choice { c < length (choices_at model.now s) }
-    ensures { result ≡ objection_to (bound_check dir model.now values.now s c ∷ []) }
-{
-    judged(
-        choice_stands(model, dir, values, s, c),
-        Rule::ValueOnEachChoice,
-        s,
-        Some(c),
-    )
-}
+    /// The inequality at state `s` and its choice `c`.
+    fn on_choice(self, s: u32, c: u32) -> Result<(), Objection>
+        requires state { s < states_of self.model.now }
+        requires choice { c < length (choices_at self.model.now s) }
+        ensures { result ≡ objection_to (bound_check self.entry.dir self.entry.model.now self.entry.values.now s c ∷ []) }
+    {
+        judged(
+            self.stands(self.dir, s, c),
+            Rule::ValueOnEachChoice,
+            s,
+            Some(c),
+        )
+    }
 
-/// The inequality at each choice of state `s`.
-fn bounds_at_choices(model: &Model, dir: Dir, values: &[Frac], s: u32) -> Result<(), Objection>
-    requires values { length values.now ≡ states_of model.now }
-    requires state { s < states_of model.now }
-    ensures { result ≡ objection_to (at_choices model.now s (bound_check dir model.now values.now s)) }
-{
-    each_choice(model, s, |c| bound_at(model, dir, values, s, c))
-}
+    /// The value of state `s` is a probability and 1 at a goal; else it stands to the rows of all choices.
+    fn on_each(self, s: u32) -> Result<(), Objection>
+        requires { s < states_of self.model.now }
+        ensures { result ≡ objection_to (cover_at self.entry.dir self.entry.model.now self.entry.goals.now self.entry.values.now s) }
+    {
+        probability_at(self.values, s)?;
+        if self.goals.at(s) {
+            return goal_at(self.values, s);
+        }
+        each_choice(self.model, s, |c| self.on_choice(s, c))
+    }
 
-/// The inequality of the other values, at the policy's choice.
-fn policy_meets(
-    model: &Model,
-    dir: Dir,
-    values: &[Frac],
-    s: u32,
-    choice: u32,
-) -> Result<(), Objection>
-    requires values { length values.now ≡ states_of model.now }
-    requires state { s < states_of model.now }
-    requires choice { choice < length (choices_at model.now s) }
-    ensures { result ≡ objection_to (policy_check dir model.now values.now s choice ∷ []) }
-{
-    judged(
-        choice_stands(model, reversed(dir), values, s, choice),
-        Rule::ValueOnPolicy,
-        s,
-        Some(choice),
-    )
-}
-
-/// The value of state `s` is a probability and 1 at a goal; else it stands to the rows of all choices.
-fn cover_at_state(
-    model: &Model,
-    goals: &Marks,
-    dir: Dir,
-    values: &[Frac],
-    s: u32,
-) -> Result<(), Objection>
-    requires goals { length goals.now ≡ states_of model.now }
-    requires values { length values.now ≡ states_of model.now }
-    requires state { s < states_of model.now }
-    ensures { result ≡ objection_to (cover_at dir model.now goals.now values.now s) }
-{
-    probability_at(values, s)?;
-    if goals.at(s) {
-        goal_at(values, s)
-    } else {
-        bounds_at_choices(model, dir, values, s)
+    /// The value of state `s` is a probability and 1 at a goal; else it stands to the row of the policy's choice `c`.
+    fn on_policy(self, s: u32, c: u32) -> Result<(), Objection>
+        requires state { s < states_of self.model.now }
+        requires choice { c < length (choices_at self.model.now s) }
+        ensures { result ≡ objection_to (follow_at self.entry.dir self.entry.model.now self.entry.goals.now self.entry.values.now s c) }
+    {
+        probability_at(self.values, s)?;
+        if self.goals.at(s) {
+            return goal_at(self.values, s);
+        }
+        judged(
+            self.stands(reversed(self.dir), s, c),
+            Rule::ValueOnPolicy,
+            s,
+            Some(c),
+        )
     }
 }
 
-/// The value of state `s` is a probability and 1 at a goal; else it stands to the row of the policy's choice.
-fn follow_at_state(
-    model: &Model,
-    goals: &Marks,
+/// Lower and upper values and ranks that are held against a model.
+#[derive(Clone, Copy)]
+struct Claimed<'a> {
     dir: Dir,
-    values: &[Frac],
-    s: u32,
-    choice: u32,
-) -> Result<(), Objection>
-    requires goals { length goals.now ≡ states_of model.now }
-    requires values { length values.now ≡ states_of model.now }
-    requires state { s < states_of model.now }
-    requires choice { choice < length (choices_at model.now s) }
-    ensures { result ≡ objection_to (follow_at dir model.now goals.now values.now s choice) }
-{
-    probability_at(values, s)?;
-    if goals.at(s) {
-        goal_at(values, s)
-    } else {
-        policy_meets(model, dir, values, s, choice)
-    }
+    model: &'a Model,
+    goals: &'a Marks,
+    lower: &'a [Frac],
+    upper: &'a [Frac],
+    ranks: &'a [u32],
+    ghost goals_each: { length goals.now ≡ states_of model.now },
+    ghost lower_each: { length lower.now ≡ states_of model.now },
+    ghost upper_each: { length upper.now ≡ states_of model.now },
+    ghost ranks_each: { length ranks.now ≡ states_of model.now },
 }
 
-/// The half on each choice, at state `s`.
-fn cover_bounds(
-    model: &Model,
-    goals: &Marks,
-    dir: Dir,
-    lower: &[Frac],
-    upper: &[Frac],
-    s: u32,
-) -> Result<(), Objection>
-    requires goals { length goals.now ≡ states_of model.now }
-    requires lower { length lower.now ≡ states_of model.now }
-    requires upper { length upper.now ≡ states_of model.now }
-    requires state { s < states_of model.now }
-    ensures { result ≡ objection_to (cover_at dir model.now goals.now (covering dir lower.now upper.now) s) }
-{
-    match dir {
-        Dir::Max => cover_at_state(model, goals, Dir::Max, upper, s),
-        Dir::Min => cover_at_state(model, goals, Dir::Min, lower, s),
+impl<'a> Claimed<'a> {
+    /// The values that the half on each choice is asked of in this direction.
+    fn covering(self, dir: Dir) -> &'a [Frac]
+        ensures values { result.now ≡ covering dir self.entry.lower.now self.entry.upper.now }
+        ensures one_each { length result.now ≡ states_of self.entry.model.now }
+    {
+        match dir {
+            Dir::Max => self.upper,
+            Dir::Min => self.lower,
+        }
     }
-}
 
-/// The half on the policy's choice, at state `s`.
-fn follow_bounds(
-    model: &Model,
-    goals: &Marks,
-    dir: Dir,
-    lower: &[Frac],
-    upper: &[Frac],
-    s: u32,
-    choice: u32,
-) -> Result<(), Objection>
-    requires goals { length goals.now ≡ states_of model.now }
-    requires lower { length lower.now ≡ states_of model.now }
-    requires upper { length upper.now ≡ states_of model.now }
-    requires state { s < states_of model.now }
-    requires choice { choice < length (choices_at model.now s) }
-    ensures { result ≡ objection_to (follow_at dir model.now goals.now (followed dir lower.now upper.now) s choice) }
-{
-    match dir {
-        Dir::Max => follow_at_state(model, goals, Dir::Max, lower, s, choice),
-        Dir::Min => follow_at_state(model, goals, Dir::Min, upper, s, choice),
+    /// The half on each choice, at state `s`.
+    fn covers(self, s: u32) -> Result<(), Objection>
+        requires { s < states_of self.model.now }
+        ensures { result ≡ objection_to (cover_at self.entry.dir self.entry.model.now self.entry.goals.now (covering self.entry.dir self.entry.lower.now self.entry.upper.now) s) }
+    {
+        let half = Half {
+            dir: self.dir,
+            model: self.model,
+            goals: self.goals,
+            values: self.covering(self.dir),
+        };
+        half.on_each(s)
+    }
+
+    /// The half on the policy's choice, at state `s`.
+    fn follows(self, s: u32, choice: u32) -> Result<(), Objection>
+        requires state { s < states_of self.model.now }
+        requires choice { choice < length (choices_at self.model.now s) }
+        ensures { result ≡ objection_to (follow_at self.entry.dir self.entry.model.now self.entry.goals.now (followed self.entry.dir self.entry.lower.now self.entry.upper.now) s choice) }
+    {
+        let half = Half {
+            dir: self.dir,
+            model: self.model,
+            goals: self.goals,
+            values: self.covering(reversed(self.dir)),
+        };
+        half.on_policy(s, choice)
+    }
+
+    /// The rules at state `s`, where the policy takes this choice.
+    fn state_at(self, s: u32, choice: u32) -> Result<(), Objection>
+        requires { s < states_of self.model.now }
+        ensures { result ≡ objection_to (bounds_at self.entry.dir self.entry.model.now self.entry.goals.now self.entry.lower.now self.entry.upper.now self.entry.ranks.now s choice) }
+    {
+        choice_at(self.model, s, choice)?;
+        self.covers(s)?;
+        self.follows(s, choice)?;
+        rank_at_state(
+            self.model, self.goals, self.dir, self.lower, self.ranks, s, choice,
+        )
+    }
+
+    /// The rules at each state, from 0 on.
+    fn states(self, choices: &[u32]) -> Result<(), Objection>
+        requires { length choices.now ≡ states_of self.model.now }
+        ensures { result ≡ objection_to (bounds_checks self.entry.dir self.entry.model.now self.entry.goals.now self.entry.lower.now self.entry.upper.now choices.now self.entry.ranks.now) }
+    {
+        each_below(
+            self.model.states(),
+            |s| self.state_at(s, choices[s as usize]),
+        )
     }
 }
 
@@ -238,41 +242,15 @@ pub fn reach_bounds_at_state(
     requires state { s < states_of model.now }
     ensures { result ≡ objection_to (bounds_at dir model.now goals.now lower.now upper.now ranks.now s choice) }
 {
-    choice_at(model, s, choice)?;
-    cover_bounds(model, goals, dir, lower, upper, s)?;
-    follow_bounds(model, goals, dir, lower, upper, s, choice)?;
-    rank_at_state(model, goals, dir, lower, ranks, s, choice)
-}
-
-/// The rules at each state, from 0 on.
-fn bounds_at_states(
-    model: &Model,
-    goals: &Marks,
-    dir: Dir,
-    lower: &[Frac],
-    upper: &[Frac],
-    choices: &[u32],
-    ranks: &[u32],
-) -> Result<(), Objection>
-    requires goals { length goals.now ≡ states_of model.now }
-    requires lower { length lower.now ≡ states_of model.now }
-    requires upper { length upper.now ≡ states_of model.now }
-    requires choices { length choices.now ≡ states_of model.now }
-    requires ranks { length ranks.now ≡ states_of model.now }
-    ensures { result ≡ objection_to (bounds_checks dir model.now goals.now lower.now upper.now choices.now ranks.now) }
-{
-    each_below(model.states(), |s| {
-        reach_bounds_at_state(
-            model,
-            goals,
-            dir,
-            lower,
-            upper,
-            ranks,
-            s,
-            choices[s as usize],
-        )
-    })
+    let claimed = Claimed {
+        dir,
+        model,
+        goals,
+        lower,
+        upper,
+        ranks,
+    };
+    claimed.state_at(s, choice)
 }
 
 /// Whether the greatest, or the least, probabilities lie between the values, and those of the policy too: what rules 2 to 8 say of the
@@ -293,14 +271,13 @@ pub fn holds_bounds_reach(model: &Model, goals: &Marks, dir: Dir, cert: &ReachBo
     ensures trivial { IsTrivialReach model.now goals.now cert.now.lower.items cert.now.upper.items cert.now.choices.items cert.now.ranks.items → IsYes result }
 {
     model.known();
-    let walk = bounds_at_states(
+    let claimed = Claimed {
+        dir,
         model,
         goals,
-        dir,
-        cert.lower.as_slice(),
-        cert.upper.as_slice(),
-        cert.choices.as_slice(),
-        cert.ranks.as_slice(),
-    );
-    verdict_after(walk)
+        lower: cert.lower.as_slice(),
+        upper: cert.upper.as_slice(),
+        ranks: cert.ranks.as_slice(),
+    };
+    verdict_after(claimed.states(cert.choices.as_slice()))
 }

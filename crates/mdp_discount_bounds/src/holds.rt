@@ -1,11 +1,12 @@
 ghost use Rattle.std.specs.Prelude.{◌≡◌, ◌<◌, ◌↔◌, length, [], ◌∷◌};
-ghost use Rattle.mdp_spec.specs.Mdp.{states_of};
-ghost use Rattle.mdp_farkas.specs.Verdict.{objection_to, verdict_of, IsYes, IfYes};
+ghost use Rattle.mdp_spec.specs.Mdp.{states_of, choices_at};
+ghost use Rattle.mdp_farkas.specs.Reach.{other};
+ghost use Rattle.mdp_farkas.specs.Verdict.{at_choices, objection_to, verdict_of, IsYes, IfYes};
 ghost use Rattle.mdp_rows.specs.declared.dir.Dir.TheVariants.{Max, Min};
 ghost use Rattle.mdp_bounds.specs.Says.{covering_rewards};
 ghost use Rattle.mdp_discount_rules.specs.Rules.{IsFactor};
 ghost use Rattle.mdp_discount_bounds.specs.Between.{DiscountMaxBetween, DiscountMinBetween};
-ghost use Rattle.mdp_discount_bounds.specs.Checks.{remainder_check, bounds_at, state_checks, discount_bounds_checks, IsDiscountBounds, IsTrivialDiscount};
+ghost use Rattle.mdp_discount_bounds.specs.Checks.{each_check, policy_check, remainder_check, bounds_at, state_checks, discount_bounds_checks, IsDiscountBounds, IsTrivialDiscount};
 
 use crate::bounds::DiscountBounds;
 use crate::half::Half;
@@ -16,18 +17,103 @@ use mdp_farkas::{
 use mdp_num::Frac;
 use mdp_rows::{Dir, Model};
 
-/// The values that the half on each choice is asked of.
-fn covering<'a>(
+/// Lower and upper values that are held against a model.
+#[derive(Clone, Copy)]
+struct Claimed<'a> {
     dir: Dir,
+    model: &'a Model,
+    name: u32,
+    factor: &'a Frac,
     lower: &'a [Option<Frac>],
     upper: &'a [Option<Frac>],
-) -> &'a [Option<Frac>]
-    ensures values { result.now ≡ covering_rewards dir lower.now upper.now }
-    ensures one_each { length upper.now ≡ length lower.now → length result.now ≡ length lower.now }
-{
-    match dir {
-        Dir::Max => upper,
-        Dir::Min => lower,
+    ghost named: { name < length model.now.names },
+    ghost lower_each: { length lower.now ≡ states_of model.now },
+    ghost upper_each: { length upper.now ≡ states_of model.now },
+}
+
+impl<'a> Claimed<'a> {
+    /// The values of the half in this direction: the upper ones for `Max`, and the lower ones for `Min`.
+    fn covering(self, dir: Dir) -> &'a [Option<Frac>]
+        ensures values { result.now ≡ covering_rewards dir self.entry.lower.now self.entry.upper.now }
+        ensures one_each { length result.now ≡ states_of self.entry.model.now }
+    {
+        match dir {
+            Dir::Max => self.upper,
+            Dir::Min => self.lower,
+        }
+    }
+
+    /// The half on each choice, at state `s`.
+    fn covers(self, s: u32) -> Result<(), Objection>
+        requires { s < states_of self.model.now }
+        ensures { result ≡ objection_to (at_choices self.entry.model.now s (each_check self.entry.dir self.entry.model.now self.entry.name self.entry.factor.now
+            (covering_rewards self.entry.dir self.entry.lower.now self.entry.upper.now) s)) }
+    {
+        let half = Half {
+            dir: self.dir,
+            model: self.model,
+            name: self.name,
+            factor: self.factor,
+            values: self.covering(self.dir),
+        };
+        half.on_each(s)
+    }
+
+    /// The half on the policy's choice, at state `s`.
+    fn follows(self, s: u32, choice: u32) -> Result<(), Objection>
+        requires state { s < states_of self.model.now }
+        requires choice { choice < length (choices_at self.model.now s) }
+        ensures { result ≡ objection_to (policy_check (other self.entry.dir) self.entry.model.now self.entry.name self.entry.factor.now
+            (covering_rewards (other self.entry.dir) self.entry.lower.now self.entry.upper.now) s choice ∷ []) }
+    {
+        let dir = reversed(self.dir);
+        let half = Half {
+            dir,
+            model: self.model,
+            name: self.name,
+            factor: self.factor,
+            values: self.covering(dir),
+        };
+        half.on_policy(s, choice)
+    }
+
+    /// The rules at state `s`, where the policy takes this choice.
+    fn state_at(self, s: u32, choice: u32) -> Result<(), Objection>
+        requires { s < states_of self.model.now }
+        ensures { result ≡ objection_to (bounds_at self.entry.dir self.entry.model.now self.entry.name self.entry.factor.now self.entry.lower.now self.entry.upper.now s choice) }
+    {
+        choice_at(self.model, s, choice)?;
+        self.covers(s)?;
+        self.follows(s, choice)
+    }
+
+    /// The rules at each state, from 0 on.
+    fn states(self, choices: &[u32]) -> Result<(), Objection>
+        requires { length choices.now ≡ states_of self.model.now }
+        ensures { result ≡ objection_to (state_checks self.entry.dir self.entry.model.now self.entry.name self.entry.factor.now self.entry.lower.now self.entry.upper.now choices.now) }
+    {
+        each_below(
+            self.model.states(),
+            |s| self.state_at(s, choices[s as usize]),
+        )
+    }
+
+    /// The remainder is the greatest magnitude of the values.
+    fn remainder(self, remainder: &Frac) -> Result<(), Objection>
+        ensures { result ≡ objection_to (remainder_check self.entry.lower.now self.entry.upper.now remainder.now ∷ []) }
+    {
+        let holds = *remainder == greatest_magnitude(self.lower, self.upper);
+        judged_at(Ok(holds), Rule::RemainderIsGreatest, None, None)
+    }
+
+    /// All rules: those at each state, and that of the remainder.
+    fn walk(self, choices: &[u32], remainder: &Frac) -> Result<(), Objection>
+        requires { length choices.now ≡ states_of self.model.now }
+        ensures { result ≡ objection_to (discount_bounds_checks self.entry.dir self.entry.model.now self.entry.name self.entry.factor.now
+            self.entry.lower.now self.entry.upper.now remainder.now choices.now) }
+    {
+        self.states(choices)?;
+        self.remainder(remainder)
     }
 }
 
@@ -49,89 +135,15 @@ pub fn discount_bounds_at_state(
     requires state { s < states_of model.now }
     ensures { result ≡ objection_to (bounds_at dir model.now m factor.now lower.now upper.now s choice) }
 {
-    choice_at(model, s, choice)?;
-    let each = Half {
+    let claimed = Claimed {
         dir,
         model,
         name: m,
-        factor,
-        values: covering(dir, lower, upper),
-    };
-    each.on_each(s)?;
-    let taken = Half {
-        dir: reversed(dir),
-        model,
-        name: m,
-        factor,
-        values: covering(reversed(dir), lower, upper),
-    };
-    taken.on_policy(s, choice)
-}
-
-/// The rules at each state, from 0 on.
-fn bounds_at_states(
-    model: &Model,
-    m: u32,
-    dir: Dir,
-    factor: &Frac,
-    lower: &[Option<Frac>],
-    upper: &[Option<Frac>],
-    choices: &[u32],
-) -> Result<(), Objection>
-    requires name { m < length model.now.names }
-    requires lower { length lower.now ≡ states_of model.now }
-    requires upper { length upper.now ≡ states_of model.now }
-    requires choices { length choices.now ≡ states_of model.now }
-    ensures { result ≡ objection_to (state_checks dir model.now m factor.now lower.now upper.now choices.now) }
-{
-    each_below(model.states(), |s| {
-        discount_bounds_at_state(model, m, dir, factor, lower, upper, s, choices[s as usize])
-    })
-}
-
-/// The remainder is the greatest magnitude of the values.
-fn remainder_holds(
-    lower: &[Option<Frac>],
-    upper: &[Option<Frac>],
-    remainder: &Frac,
-) -> Result<(), Objection>
-    ensures { result ≡ objection_to (remainder_check lower.now upper.now remainder.now ∷ []) }
-{
-    let greatest = greatest_magnitude(lower, upper);
-    judged_at(
-        Ok(*remainder == greatest),
-        Rule::RemainderIsGreatest,
-        None,
-        None,
-    )
-}
-
-/// All rules: those at each state, and that of the remainder.
-fn bounds_walk(
-    model: &Model,
-    m: u32,
-    dir: Dir,
-    factor: &Frac,
-    bounds: &DiscountBounds,
-) -> Result<(), Objection>
-    requires name { m < length model.now.names }
-    requires lower { length bounds.now.lower.items ≡ states_of model.now }
-    requires upper { length bounds.now.upper.items ≡ states_of model.now }
-    requires choices { length bounds.now.choices.items ≡ states_of model.now }
-    ensures { result ≡ objection_to (discount_bounds_checks dir model.now m factor.now bounds.now.lower.items bounds.now.upper.items bounds.now.remainder bounds.now.choices.items) }
-{
-    let lower = bounds.lower.as_slice();
-    let upper = bounds.upper.as_slice();
-    bounds_at_states(
-        model,
-        m,
-        dir,
         factor,
         lower,
         upper,
-        bounds.choices.as_slice(),
-    )?;
-    remainder_holds(lower, upper, &bounds.remainder)
+    };
+    claimed.state_at(s, choice)
 }
 
 /// Whether the greatest, or the least, discounted rewards of the reward name of place `m` lie between the values, and those of the policy too: what
@@ -156,5 +168,13 @@ pub fn holds_bounds_discount(
     ensures trivial { IsTrivialDiscount model.now bounds.now.lower.items bounds.now.upper.items bounds.now.remainder bounds.now.choices.items → IsYes result }
 {
     model.known();
-    verdict_after(bounds_walk(model, m, dir, factor, bounds))
+    let claimed = Claimed {
+        dir,
+        model,
+        name: m,
+        factor,
+        lower: bounds.lower.as_slice(),
+        upper: bounds.upper.as_slice(),
+    };
+    verdict_after(claimed.walk(bounds.choices.as_slice(), &bounds.remainder))
 }

@@ -1,5 +1,6 @@
-use Rattle.std.proofs.Common.{ap, ◌∙◌}
-use Rattle.mdp_farkas.specs.Verdict.{verdict}
+use Rattle.std.proofs.Common.{◌≡◌, ap, sym, ◌∙◌}
+use Rattle.mdp_farkas.specs.Verdict.{verdict, verdict_of}
+use Rattle.mdp_bounds.specs.Mean.{mean_bounds_checks}
 use Rattle.mdp_bounds.proofs.MeanRules.{mean_bounds_rules, mean_bounds_max, mean_bounds_min}
 use Rattle.mdp_bounds.proofs.MeanExact.{mean_of_exact}
 use Rattle.mdp_bounds.proofs.MeanTrivial.{trivial_yes}
@@ -14,7 +15,9 @@ returns c =
     let b = c.args.cert.now.bias.items in
     let spread = c.args.cert.now.spread in
     let policy = c.args.cert.now.choices.items in
-    let e = c.verdict_after.ensures ∙ ap verdict c.mean_bounds_walk.ensures in
+    let e : c.verdict_after.result ≡ verdict_of (mean_bounds_checks c.args.dir m c.args.m low high a b spread policy) =
+    rw (sym (c.new.ensures ∙ c.as_slice.ensures.value), sym (c.new-2.ensures ∙ c.as_slice-2.ensures.value), sym c.as_slice-3.ensures.value, sym c.as_slice-4.ensures.value, sym c.as_slice-5.ensures.value)
+    (c.verdict_after.ensures ∙ ap verdict c.walk.ensures) in
     let rules =
     mean_bounds_rules m c.known.ensures.mdp c.args.m low high a b spread policy c.args.dir c.verdict_after.result
     c.requires.name c.requires.bound c.requires.bias c.requires.choices e in

@@ -1,4 +1,4 @@
-use Rattle.std.proofs.Common.{◌≡◌, ap, ◌∙◌}
+use Rattle.std.proofs.Common.{◌≡◌, ap, sym, ◌∙◌}
 use Rattle.mdp_bounds.specs.Reach.{bounds_checks}
 use Rattle.mdp_farkas.specs.Verdict.{verdict, verdict_of}
 use Rattle.mdp_bounds.proofs.ReachRules.{bounds_rules, bounds_max, bounds_min}
@@ -14,15 +14,8 @@ returns c =
     let high = c.args.cert.now.upper.items in
     let policy = c.args.cert.now.choices.items in
     let ranks = c.args.cert.now.ranks.items in
-    let e : c.verdict_after.result ≡ verdict_of
-    (bounds_checks c.args.dir c.args.model.now c.args.goals.now c.args.cert.now.lower.items c.args.cert.now.upper.items c.args.cert.now.choices.items c.args.cert.now.ranks.items) =
-    c.verdict_after.ensures
-    ∙ ap verdict c.bounds_at_states-walk.ensures
-    ∙ ap (λ z. verdict_of (bounds_checks c.args.dir c.args.model.now c.args.goals.now z c.as_slice-2.result.now c.as_slice-3.result.now c.as_slice-4.result.now)) c.as_slice.ensures.value
-    ∙ ap (λ z. verdict_of (bounds_checks c.args.dir c.args.model.now c.args.goals.now c.args.cert.now.lower.items z c.as_slice-3.result.now c.as_slice-4.result.now)) c.as_slice-2.ensures.value
-    ∙ ap (λ p. verdict_of (bounds_checks c.args.dir c.args.model.now c.args.goals.now c.args.cert.now.lower.items c.args.cert.now.upper.items p c.as_slice-4.result.now)) c.as_slice-3.ensures.value
-    ∙ ap (λ r. verdict_of (bounds_checks c.args.dir c.args.model.now c.args.goals.now c.args.cert.now.lower.items c.args.cert.now.upper.items c.args.cert.now.choices.items r)) c.as_slice-4.ensures.value
-    in
+    let e : c.verdict_after.result ≡ verdict_of (bounds_checks c.args.dir m goals low high policy ranks) =
+    rw (sym c.as_slice.ensures.value, sym c.as_slice-2.ensures.value, sym c.as_slice-3.ensures.value, sym c.as_slice-4.ensures.value) (c.verdict_after.ensures ∙ ap verdict c.states.ensures) in
     record {
       verdict = e;
       rules = bounds_rules m c.known.ensures.mdp goals low high policy ranks c.args.dir c.verdict_after.result c.requires.choices e;

@@ -1,4 +1,4 @@
-use Rattle.std.proofs.Common.{◌≡◌, ap, ◌∙◌}
+use Rattle.std.proofs.Common.{◌≡◌, ap, sym, ◌∙◌}
 use Rattle.mdp_bounds.specs.Reward.{reward_bounds_checks}
 use Rattle.mdp_farkas.specs.Verdict.{verdict, verdict_of}
 use Rattle.mdp_bounds.proofs.RewardRules.{reward_bounds_rules, reward_bounds_max, reward_bounds_min}
@@ -14,16 +14,8 @@ returns c =
     let high = c.args.cert.now.upper.items in
     let policy = c.args.cert.now.choices.items in
     let ranks = c.args.cert.now.ranks.items in
-    let e : c.verdict_after.result ≡ verdict_of (reward_bounds_checks c.args.dir c.args.model.now c.args.m c.args.goals.now
-    c.args.cert.now.lower.items c.args.cert.now.upper.items c.args.cert.now.choices.items c.args.cert.now.ranks.items) =
-    c.verdict_after.ensures
-    ∙ ap verdict c.reward_bounds_at_states-walk.ensures
-    ∙ ap (λ x. verdict_of (reward_bounds_checks c.args.dir c.args.model.now c.args.m c.args.goals.now x c.as_slice-2.result.now c.as_slice-3.result.now c.as_slice-4.result.now)) c.as_slice.ensures.value
-    ∙ ap (λ x. verdict_of (reward_bounds_checks c.args.dir c.args.model.now c.args.m c.args.goals.now c.args.cert.now.lower.items x c.as_slice-3.result.now c.as_slice-4.result.now)) c.as_slice-2.ensures.value
-    ∙ ap (λ x. verdict_of (reward_bounds_checks c.args.dir c.args.model.now c.args.m c.args.goals.now c.args.cert.now.lower.items c.args.cert.now.upper.items x c.as_slice-4.result.now)) c.as_slice-3.ensures.value
-    ∙ ap (λ x. verdict_of (reward_bounds_checks c.args.dir c.args.model.now c.args.m c.args.goals.now c.args.cert.now.lower.items c.args.cert.now.upper.items c.args.cert.now.choices.items x))
-    c.as_slice-4.ensures.value
-    in
+    let e : c.verdict_after.result ≡ verdict_of (reward_bounds_checks c.args.dir m c.args.m goals low high policy ranks) =
+    rw (sym c.as_slice.ensures.value, sym c.as_slice-2.ensures.value, sym c.as_slice-3.ensures.value, sym c.as_slice-4.ensures.value) (c.verdict_after.ensures ∙ ap verdict c.states.ensures) in
     let rules =
     reward_bounds_rules m c.known.ensures.mdp c.args.m goals low high policy ranks c.args.dir c.verdict_after.result
     c.requires.name c.requires.lower c.requires.upper c.requires.choices e in

@@ -1,5 +1,6 @@
-use Rattle.std.proofs.Common.{ap, ◌∙◌}
-use Rattle.mdp_farkas.specs.Verdict.{verdict}
+use Rattle.std.proofs.Common.{◌≡◌, ap, sym, ◌∙◌}
+use Rattle.mdp_farkas.specs.Verdict.{verdict, verdict_of}
+use Rattle.mdp_discount_bounds.specs.Checks.{discount_bounds_checks}
 use Rattle.mdp_discount_bounds.proofs.Rules.{bounds_rules, bounds_max, bounds_min}
 use Rattle.mdp_discount_bounds.proofs.Trivial.{trivial_yes}
 use Rattle.mdp_discount_bounds.proofs.holds.holds_bounds_discount.Goals as goal
@@ -13,7 +14,8 @@ returns c =
     let b = c.args.bounds.now in
     let k = c.known.ensures.mdp in
     let q = c.requires in
-    let e = c.verdict_after.ensures ∙ ap verdict c.bounds_walk.ensures in
+    let e : c.verdict_after.result ≡ verdict_of (discount_bounds_checks d m r f b.lower.items b.upper.items b.remainder b.choices.items) =
+    rw (sym c.as_slice.ensures.value, sym c.as_slice-2.ensures.value, sym c.as_slice-3.ensures.value) (c.verdict_after.ensures ∙ ap verdict c.walk.ensures) in
     record {
       verdict = e;
       rules = bounds_rules d m r f b.lower.items b.upper.items b.remainder b.choices.items k c.verdict_after.result q.name q.lower q.upper q.choices e;
