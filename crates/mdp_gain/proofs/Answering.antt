@@ -1,14 +1,19 @@
 -- Where the comparison of the choices of a state is refused.
+use Rattle.std.specs.Result.{IsErrAnd}
+use Rattle.std.proofs.lemmas.Result.{err_from_is_err_and}
 use Rattle.std.proofs.Common.{◌≡◌, ℕ, zero, suc, ◌<◌, ◌≤◌, ◌⊎◌, inl, inr, List, length, Some, None, Result, Ok, Err, sym, ◌∙◌, ap, arith}
 use Rattle.mdp_math.specs.Rational.{ℚ}
 use Rattle.mdp_math.specs.Result.{◌>>=◌}
-use Rattle.mdp_policy_iteration.specs.Places.{Place, at_place}
+use Rattle.mdp_policy_iteration.specs.Places.{Place, at_place, up_to}
 use Rattle.mdp_policy_iteration.specs.Candidates.{Best}
-use Rattle.std.specs.Prelude.{slice_index}
 use Rattle.mdp_policy_iteration.specs.Path.{comparing, or_kept}
+use Rattle.mdp_policy_iteration.specs.Faults.{Answers}
+use Rattle.mdp_policy_iteration.specs.declared.errors.RoundError.{RoundError}
+use Rattle.mdp_policy_iteration.proofs.Answering.{up_to-refused, Says-then, says_of, says_same, answers_err}
 use Rattle.mdp_unichain.specs.Component.{Component, choices_at, choice_at}
 use Rattle.mdp_unichain.specs.Sums.{compared}
-use Rattle.mdp_unichain.specs.Written.{then_compared, best_of, choice_over}
+use Rattle.mdp_unichain.specs.Written.{then_compared, best_of}
+use Rattle.mdp_gain.specs.Code.{choice_over}
 
 -- ---- the comparison at a node
 
@@ -29,17 +34,23 @@ module _ (p : Component) (x : List ℚ) (s : ℕ) (present : ℚ) where
       le_or_next : (c n : ℕ) → c ≤ suc n → (c ≡ suc n) ⊎ (c ≤ n)
       le_or_next c n l = grind arith
 
-  pub wide-from : (c : ℕ) (best : Best) → best_of p x s present c ≡ Ok best → compared p.dir x c (choice_at p s c) best ≡ None → c < length (choices_at p s)
+  wide-from : (c : ℕ) (best : Best) → best_of p x s present c ≡ Ok best → compared p.dir x c (choice_at p s c) best ≡ None → c < length (choices_at p s)
       → best_of p x s present (length (choices_at p s)) ≡ Err (comparing s c)
   wide-from c best h e l = wide_stays (suc c) (length (choices_at p s)) (comparing s c) (wide_at c best h e) (omega arith)
+
+  -- so the choice over the present value is refused there
+  pub wide-over : (kept c : ℕ) (best : Best) → best_of p x s present c ≡ Ok best → compared p.dir x c (choice_at p s c) best ≡ None → c < length (choices_at p s)
+      → choice_over p x s kept present ≡ Err (comparing s c)
+  wide-over kept c best h e l = ap (λ (r : Result Best Place). r >>= (λ b. Ok (or_kept b.choice kept))) (wide-from c best h e l)
 
   pub best_of-more : (c n : ℕ) (best after : Best) → best_of p x s present c ≡ Ok best → compared p.dir x c (choice_at p s c) best ≡ Some after → n ≡ suc c
       → best_of p x s present n ≡ Ok after
   best_of-more c n best after h e q = ap (best_of p x s present) q ∙ ap (after_choice c) h ∙ ap (at_place (comparing s c)) e
 
--- so the choice over the present value is refused there
-pub wide-over : (p : Component) (policy : List ℕ) (gain : ℚ) (bias : List ℚ) (s : ℕ) (present : ℚ) (c : ℕ) (best : Best) → best_of p bias s present c ≡ Ok best
-    → compared p.dir bias c (choice_at p s c) best ≡ None → c < length (choices_at p s)
-    → choice_over p policy (record { gain = gain; bias = bias }) s present ≡ Err (comparing s c)
-wide-over p policy gain bias s present c best h e l =
-    ap (λ (r : Result Best Place). r >>= (λ b. Ok (or_kept b.choice (slice_index policy s)))) (wide-from p bias s present c best h e l)
+-- a list of answers is refused where the next one is
+pub up_to-stops : {A V : Type 0} (f : ℕ → Result A Place) (s n : ℕ) (xs : List A) → up_to f s ≡ Ok xs → s < n → (call : Result A RoundError) (e : RoundError)
+    → Answers (λ x. x) call (f s) → call ≡ Err e → (view : V → List A) (result : Result V RoundError) → IsErrAnd result (λ d. d ≡ e) → Answers view result (up_to f n)
+up_to-stops f s n xs done l call e told was view result h =
+    let d = err_from_is_err_and result h in
+    answers_err view result d.0 (up_to f n) d.1
+    (says_same d.0 e (up_to f n) d.2 (Says-then e (f s) (up_to f n) (λ w q. up_to-refused f s n xs w done q l) (says_of (λ x. x) call e (f s) told was)))

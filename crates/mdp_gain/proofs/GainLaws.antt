@@ -1,5 +1,5 @@
 -- The laws of a query of the best gain.
-use Rattle.std.proofs.Common.{◌≡◌, ℕ, ◌<◌, true, List, map, Option, Result, Ok, Err, refl, sym, ◌∙◌, ap, subst, arith, zero-add}
+use Rattle.std.proofs.Common.{◌≡◌, ℕ, ◌<◌, true, List, map, Option, Result, Ok, Err, IfOk, refl, sym, ◌∙◌, ap, subst, arith, zero-add}
 use Rattle.std.specs.List.{All, range_with_len}
 use Rattle.std.proofs.lemmas.List.FromFn.{get_or-map-range_with_len, length-map-range_with_len}
 use Rattle.mdp_math.specs.Rational.{ℚ, ◌-ℚ◌, ◌≤ℚ◌}
@@ -27,7 +27,10 @@ use Rattle.mdp_unichain.proofs.Starts.{has_one_first}
 use Rattle.mdp_unichain.proofs.Trees.{no_tree_earns_more, no_tree_earns_less}
 use Rattle.mdp_ends.specs.Ends.{IsEnd, IsMaximal, AreEnds}
 use Rattle.mdp_unichain.proofs.Parts.{part-state}
-use Rattle.mdp_gain.specs.Query.{Answer, answer_of, refusal_at, after_path, EndsSo}
+use Rattle.mdp_wide.specs.declared.too_wide.SolveError.{SolveError}
+use Rattle.mdp_policy_iteration.specs.Queries.{Solves}
+use Rattle.mdp_gain.specs.declared.inner.Inner as code
+use Rattle.mdp_gain.specs.Query.{Answer, answer_of, refusal_at, after_path, plain, EndsSo}
 use Rattle.mdp_gain.specs.Best.{bias_at, taken_at, IsBestInner}
 use Rattle.mdp_gain.specs.Laws.{HasOneEnd, AnswersAreBest, HasOneGain, NoPolicyIsBetter, NoTreeEarnsMore, NoTreeEarnsLess}
 use Rattle.mdp_gain.proofs.BestInner.{known, best_inner, none_is_better, has_best}
@@ -73,6 +76,12 @@ has_one_query_end gives dir m parts i r k = one_query_end gives dir m parts i r 
 
 pub answers_are_best : GivesSolutions → AnswersAreBest
 answers_are_best gives dir m parts i r a k h = answered gives dir m parts i r k a h.start h.is_first h.end h.path h.after
+
+-- so what is said of its end has it too
+pub solves_best : GivesSolutions → (dir : Dir) (m : Mdp) (parts : List (Option ℕ)) (i r : ℕ) → IsPart m parts i → (said : Result code.Inner SolveError)
+    → Solves plain (EndsSo dir m parts i r) said → IfOk said (λ found. IsBestInner dir m parts i r (plain found))
+solves_best gives dir m parts i r k (Ok found) h = answers_are_best gives dir m parts i r (plain found) k h
+solves_best gives dir m parts i r k (Err e) h = tt
 
 pub has_one_gain : HasOneGain
 has_one_gain dir m parts i r a b k x y =

@@ -1,8 +1,10 @@
 -- The component that the code holds, in terms of its model.
 use Rattle.std.proofs.Common.{◌≡◌, ℕ, ◌<◌, true, false, ◌&&◌, List, [], length, Option, Some, None, refl, sym, ◌∙◌, ap, arith}
+use Rattle.std.proofs.Math.Bool.{Bool-set}
+use Rattle.std.proofs.Math.Logic.{∥∥₁_elim}
+use Rattle.std.proofs.Math.Nat.{ℕ_set}
 use Rattle.mdp_spec.specs.Mdp as mdp
 use Rattle.mdp_spec.specs.Mdp.{Entry, Mdp, states_of, row_at}
-use Rattle.mdp_spec.specs.Row.{IsMdp}
 use Rattle.mdp_spec.specs.Unit.{reward_of}
 use Rattle.mdp_graph.specs.Sets.{marked}
 use Rattle.std.proofs.Common.{eqb, ◌⊎◌, inl, inr, map, zero-add}
@@ -16,10 +18,12 @@ use Rattle.mdp_unichain.proofs.Reaching.{test_or_not}
 use Rattle.std.specs.Option.{option_eq}
 use Rattle.std.specs.Prelude.{slice_index_or}
 use Rattle.mdp_ends.specs.Ends.{has_number, in_part, is_inside}
-use Rattle.mdp_unichain.specs.Component.{Choice, count, choices_at, choice_at, is_state, IsPolicy, row_by}
+use Rattle.mdp_parts.specs.FoundEnds.{AreEndsOf}
+use Rattle.mdp_unichain.specs.Component.{Choice, count, choices_at, choice_at, is_state, row_by, IsComponent}
 use Rattle.mdp_unichain.specs.Part.{IsPart, is_inner}
-use Rattle.mdp_unichain.proofs.Parts.{part-state, part-count, part-choices, part-choice}
-use Rattle.mdp_gain.specs.Code.{IsGiven, component_in}
+use Rattle.mdp_unichain.proofs.Parts.{part-component, part-state, part-count, part-choices, part-choice}
+use Rattle.mdp_gain.specs.Code.{component_in}
+use Rattle.mdp_gain.specs.declared.chosen.Chosen.{Chosen}
 use Rattle.mdp_gain.specs.declared.component.EndComponent.{EndComponent}
 
 module _ (x : EndComponent) where
@@ -48,56 +52,73 @@ module _ (x : EndComponent) where
     pub inner-is : (choice_at (component_in x) s c).inner ≡ is_inner m x.ends.now.parts x.number s c
     inner-is = ap Choice.inner (part-choice x.dir m x.ends.now.parts x.number x.name s c (state-below s l) (choice-below s c l k))
 
-  module _ (g : IsGiven x) where
-    pub parts-len : length x.ends.now.parts ≡ states_of m
-    parts-len = g.ends.ends.count
+  pub part-of : AreEndsOf x.model.now x.ends.now → IsPart x.model.now x.ends.now.parts x.number
+  part-of ends = record { model = x.mdp; ends = ends.ends; below = x.below }
 
-    pub part_of-given : IsMdp m → IsPart m x.ends.now.parts x.number
-    part_of-given known = record { model = known; ends = g.ends.ends; below = g.below }
+  pub is-component : AreEndsOf x.model.now x.ends.now → IsComponent (component_in x)
+  is-component ends = part-component m x.ends.now.parts x.number (part-of ends) x.dir x.name
 
-    pub member-is : IsMdp m → (s : ℕ) → is_state (component_in x) s ≡ in_part x.ends.now.parts x.number s
-    member-is known s = part-state m x.ends.now.parts x.number (part_of-given known) x.dir x.name s
+  pub parts-len : length x.ends.now.parts ≡ states_of m
+  parts-len = ∥∥₁_elim x.found (ℕ_set _ _) (λ (ends : AreEndsOf x.model.now x.ends.now). ends.ends.count)
+
+  pub member-is : (s : ℕ) → is_state (component_in x) s ≡ in_part x.ends.now.parts x.number s
+  member-is s = ∥∥₁_elim x.found (Bool-set _ _) (λ (ends : AreEndsOf x.model.now x.ends.now). part-state m x.ends.now.parts x.number (part-of ends) x.dir x.name s)
+
+  pub inner-count : length x.ends.now.inner ≡ states_of m
+  inner-count = ∥∥₁_elim x.found (ℕ_set _ _) (λ (ends : AreEndsOf x.model.now x.ends.now). ends.count)
+
+  pub inner-width : (s : ℕ) → s < states_of x.model.now → length (slice_index_or x.ends.now.inner s []) ≡ length (mdp.choices_at x.model.now s)
+  inner-width s l = ∥∥₁_elim x.found (ℕ_set _ _) (λ (ends : AreEndsOf x.model.now x.ends.now). ends.width s l)
+
+  inside-is : (s c : ℕ) → s < states_of m → c < length (mdp.choices_at m s) → marked (slice_index_or x.ends.now.inner s []) c ≡ is_inside m x.ends.now.parts s c
+  inside-is s c l k = ∥∥₁_elim x.found (Bool-set _ _) (λ (ends : AreEndsOf x.model.now x.ends.now). ends.inner s c l k)
 
 -- the test of a part's number
 pub number-eq : (n : ℕ) (o : Option ℕ) → option_eq eqb o (Some n) ≡ has_number n o
 number-eq n None = refl
 number-eq n (Some j) = refl
 
-module _ (x : EndComponent) (g : IsGiven x) (known : IsMdp x.model.now) (s c : ℕ) (l : s < count (component_in x)) (k : c < length (choices_at (component_in x) s)) where
+module _ (x : EndComponent) (s c : ℕ) (l : s < count (component_in x)) (k : c < length (choices_at (component_in x) s)) where
   pub inner-in : is_state (component_in x) s ≡ true → marked (slice_index_or x.ends.now.inner s []) c ≡ (choice_at (component_in x) s c).inner
   inner-in h =
-      g.ends.inner s c (state-below x s l) (choice-below x s c l k)
-      ∙ ap (λ b. b && is_inside x.model.now x.ends.now.parts s c) (sym (sym (member-is x g known s) ∙ h))
+      inside-is x s c (state-below x s l) (choice-below x s c l k)
+      ∙ ap (λ b. b && is_inside x.model.now x.ends.now.parts s c) (sym (sym (member-is x s) ∙ h))
       ∙ sym (inner-is x s c l k)
 
   pub inner-out : is_state (component_in x) s ≡ false → false ≡ (choice_at (component_in x) s c).inner
-  inner-out h = ap (λ b. b && is_inside x.model.now x.ends.now.parts s c) (sym (sym (member-is x g known s) ∙ h)) ∙ sym (inner-is x s c l k)
+  inner-out h = ap (λ b. b && is_inside x.model.now x.ends.now.parts s c) (sym (sym (member-is x s) ∙ h)) ∙ sym (inner-is x s c l k)
 
 -- a policy has a choice for each state of the model
-module _ (x : EndComponent) (known : IsMdp x.model.now) (policy : List ℕ) (is : IsPolicy (component_in x) policy) where
+module _ (y : Chosen) where
+  abbrev x : EndComponent
+  x = y.component
+
+  abbrev policy : List ℕ
+  policy = y.policy.now
+
   policy_by : (s : ℕ) → s < count (component_in x) → (is_state (component_in x) s ≡ true) ⊎ (is_state (component_in x) s ≡ false)
       → slice_index policy s < length (choices_at (component_in x) s)
-  policy_by s l (inl h) = inner-below (component_in x) s (slice_index policy s) (is.inner s h)
+  policy_by s l (inl h) = inner-below (component_in x) s (slice_index policy s) (y.is.inner s h)
   policy_by s l (inr h) =
       let n = choices-are x s l in
-      let e = is.outside s h in
-      let some = known.choice s (state-below x s l) in
+      let e = y.is.outside s h in
+      let some = x.mdp.choice s (state-below x s l) in
       omega arith
 
-  pub policy-below : (s : ℕ) → s < count (component_in x) → slice_index policy s < length (choices_at (component_in x) s)
+  pub policy-below : (s : ℕ) → s < count (component_in y.component) → slice_index y.policy.now s < length (choices_at (component_in y.component) s)
   policy-below s l = policy_by s l (test_or_not (is_state (component_in x) s))
 
-  pub model-policy : tree.IsPolicy x.model.now policy
+  pub model-policy : tree.IsPolicy y.component.model.now y.policy.now
   model-policy = record {
-    one_each = is.len ∙ count-is x;
+    one_each = y.is.len ∙ count-is x;
     in_range = λ s l.
         let n = count-is x in
         let b : s < count (component_in x) = omega (arith, l, n) in
         choice-below x s (slice_index policy s) b (policy-below s b);
   }
 
-  pub row-of-policy : (s : ℕ) → is_state (component_in x) s ≡ true
-      → slice_index_or (map (λ s. row_at x.model.now s (slice_index policy s)) (range_with_len 0 (states_of x.model.now))) s [] ≡ row_by (component_in x) policy s
+  pub row-of-policy : (s : ℕ) → is_state (component_in y.component) s ≡ true
+      → slice_index_or (map (λ s. row_at y.component.model.now s (slice_index y.policy.now s)) (range_with_len 0 (states_of y.component.model.now))) s [] ≡ row_by (component_in y.component) y.policy.now s
   row-of-policy s h =
       let b = state-below-of (component_in x) s h in
       get_or-map-range_with_len (λ s. row_at x.model.now s (slice_index policy s)) 0 (states_of x.model.now) s s [] (state-below x s b) (zero-add s)

@@ -5,7 +5,6 @@ use Rattle.std.proofs.Math.ListN.{get_or-eq_default}
 use Rattle.std.proofs.lemmas.List.FromFn.{get_or-map-range_with_len, length-map-range_with_len}
 use Rattle.mdp_math.proofs.Numbers.{le_or}
 use Rattle.mdp_spec.specs.Mdp.{states_of}
-use Rattle.mdp_spec.specs.Row.{IsMdp}
 use Rattle.mdp_graph.specs.Sets.{marked}
 use Rattle.mdp_graph.specs.Choices.{AreLeast}
 use Rattle.mdp_ends.specs.Ends.{in_part}
@@ -16,23 +15,30 @@ use Rattle.mdp_unichain.specs.Next.{IsPicked, IsNearest, IsExactNext}
 use Rattle.mdp_unichain.proofs.Improving.{state-below}
 use Rattle.mdp_unichain.proofs.Reaching.{test_or_not, clash_test}
 use Rattle.mdp_unichain.proofs.Toward.{ranks_toward, nearest_choice, outside_choice}
-use Rattle.mdp_gain.specs.Code.{IsGiven, component_in, joined}
+use Rattle.mdp_parts.specs.FoundEnds.{AreEndsOf}
+use Rattle.mdp_gain.specs.Code.{component_in, joined}
+use Rattle.mdp_gain.specs.declared.chosen.Chosen.{Chosen}
 use Rattle.mdp_gain.specs.declared.component.EndComponent.{EndComponent}
-use Rattle.mdp_gain.proofs.Given.{count-is, part_of-given, member-is}
+use Rattle.mdp_gain.proofs.Given.{count-is, part-of, member-is}
 
-module _ (x : EndComponent) (g : IsGiven x) (known : IsMdp x.model.now) (policy improved : List ℕ) (is : IsPolicy (component_in x) improved) (class : List Bool)
-    (pick : IsPicked (component_in x) policy improved (marked class)) where
+module _ (y : Chosen) (ends : AreEndsOf y.component.model.now y.component.ends.now) (policy : List ℕ) (class : List Bool) (pick : IsPicked (component_in y.component) policy y.policy.now (marked class)) where
+  abbrev x : EndComponent
+  x = y.component
+
   abbrev p : Component
   p = component_in x
+
+  abbrev improved : List ℕ
+  improved = y.policy.now
 
   class_state : (s : ℕ) → marked class s ≡ true → is_state p s ≡ true
   class_state s h = IsClosedClass.states (IsPicked.class_is pick) s h
 
   class_member : (s : ℕ) → marked class s ≡ true → in_part x.ends.now.parts x.number s ≡ true
-  class_member s h = sym (member-is x g known s) ∙ class_state s h
+  class_member s h = sym (member-is x s) ∙ class_state s h
 
   -- some state of the part is a target
-  pub some_target : (s : ℕ) × (s < states_of x.model.now) × (in_part x.ends.now.parts x.number s ≡ true) × (marked class s ≡ true)
+  pub some_target : (s : ℕ) × (s < states_of y.component.model.now) × (in_part y.component.ends.now.parts y.component.number s ≡ true) × (marked class s ≡ true)
   some_target =
       let s = IsClosedClass.some (IsPicked.class_is pick) in
       let n = count-is x in
@@ -47,8 +53,9 @@ module _ (x : EndComponent) (g : IsGiven x) (known : IsMdp x.model.now) (policy 
   same : (s : ℕ) → target_in x.ends.now.parts x.number class s ≡ marked class s
   same s = same_by (in_part x.ends.now.parts x.number s) (marked class s) (class_member s)
 
-  module _ (marks : List Bool) (ranks choices : List ℕ) (pass : IsToward x.model.now x.ends.now.parts x.number class marks ranks choices)
-      (marks_are : (s : ℕ) → s < states_of x.model.now → marked marks s ≡ in_part x.ends.now.parts x.number s) (after : List ℕ) (made : after ≡ joined class improved choices) where
+  module _ (marks : List Bool) (ranks choices : List ℕ) (pass : IsToward y.component.model.now y.component.ends.now.parts y.component.number class marks ranks choices)
+      (marks_are : (s : ℕ) → s < states_of y.component.model.now → marked marks s ≡ in_part y.component.ends.now.parts y.component.number s) (after : List ℕ)
+      (made : after ≡ joined class y.policy.now choices) where
     choices-len : length choices ≡ count p
     choices-len = AreLeast.count (IsToward.chosen pass) ∙ sym (count-is x)
 
@@ -77,10 +84,10 @@ module _ (x : EndComponent) (g : IsGiven x) (known : IsMdp x.model.now) (policy 
     nearest : (s : ℕ) → is_state p s ≡ true → marked class s ≡ false → IsNearest p (slice_index ranks) s (slice_index after s)
     nearest s h o =
         subst (λ c. IsNearest p (slice_index ranks) s c) (sym (after_out s (state-below p s h) o))
-        (nearest_choice x.dir x.model.now x.ends.now.parts x.number x.name (part_of-given x g known) class marks ranks choices pass marks_are (marked class) same s h o)
+        (nearest_choice x.dir x.model.now x.ends.now.parts x.number x.name (part-of x ends) class marks ranks choices pass marks_are (marked class) same s h o)
 
     inner_by : (s : ℕ) → is_state p s ≡ true → (marked class s ≡ true) ⊎ (marked class s ≡ false) → IsInner p s (slice_index after s)
-    inner_by s h (inl e) = subst (IsInner p s) (sym (after_in s e)) (IsPolicy.inner is s h)
+    inner_by s h (inl e) = subst (IsInner p s) (sym (after_in s e)) (IsPolicy.inner y.is s h)
     inner_by s h (inr o) = (IsNearest.nearer (nearest s h o)).0
 
     not_in : (s : ℕ) → is_state p s ≡ false → (marked class s ≡ true) ⊎ (marked class s ≡ false) → marked class s ≡ false
@@ -91,16 +98,16 @@ module _ (x : EndComponent) (g : IsGiven x) (known : IsMdp x.model.now) (policy 
     outside_by s h (inl l) = let n = after-len in get_or-eq_default after 0 (omega (arith, n, l))
     outside_by s h (inr l) =
         after_out s l (not_in s h (test_or_not (marked class s)))
-        ∙ outside_choice x.dir x.model.now x.ends.now.parts x.number x.name (part_of-given x g known) class marks ranks choices pass marks_are (marked class) same s
+        ∙ outside_choice x.dir x.model.now x.ends.now.parts x.number x.name (part-of x ends) class marks ranks choices pass marks_are (marked class) same s
         (let n = count-is x in omega arith) h
 
-    pub exact_next : IsExactNext p policy improved after
+    pub exact_next : IsExactNext (component_in y.component) policy y.policy.now after
     exact_next = inr (
       marked class,
       slice_index ranks,
       record {
         picked = pick;
-        ranks = ranks_toward x.dir x.model.now x.ends.now.parts x.number x.name (part_of-given x g known) class marks ranks choices pass marks_are (marked class) same;
+        ranks = ranks_toward x.dir x.model.now x.ends.now.parts x.number x.name (part-of x ends) class marks ranks choices pass marks_are (marked class) same;
         kept = after_in;
         toward = nearest;
         is = record {

@@ -13,9 +13,7 @@ use Rattle.mdp_elim.specs.Entries.{each}
 use Rattle.mdp_elim.specs.Elimination.{Eliminated, divided, substituted, eliminated, evaluated, at_state, ◌and_then◌, solution}
 use Rattle.mdp_elim.specs.System.{is_active, inner, row_of, column_at, equation_of, system}
 use Rattle.mdp_elim.specs.Solve.{columns_of, kept, written_solution}
-
-abbrev pub zeros : ℕ → List ℚ
-zeros n = map (λ t. of_int (pos 0)) (range_with_len 0 n)
+use Rattle.mdp_gain.specs.OnlyTerms.{zeros}
 
 nones : ℕ → List Equation
 nones zero = []

@@ -6,8 +6,7 @@ use Rattle.std.specs.Option.{unwrap_or}
 use Rattle.std.specs.Prelude.{slice_index}
 use Rattle.mdp_math.specs.Rational.{ℚ, of_int}
 use Rattle.mdp_elim.specs.Laws.{GivesSolutions}
-use Rattle.mdp_spec.specs.Mdp.{Mdp, states_of, value_at}
-use Rattle.mdp_rows.specs.declared.dir.Dir.{Dir}
+use Rattle.mdp_spec.specs.Mdp.{states_of, value_at}
 use Rattle.mdp_wide.specs.declared.too_wide.Kind.{Kind}
 use Rattle.mdp_wide.specs.declared.too_wide.Part.TheVariants.{Inner}
 use Rattle.mdp_wide.specs.Term.{WideTerm}
@@ -21,25 +20,35 @@ use Rattle.mdp_policy_iteration.specs.declared.solution.PathError.{PathError}
 use Rattle.mdp_policy_iteration.specs.declared.solution.PathError.TheVariants as error
 use Rattle.mdp_unichain.specs.Component.{Component, count, choices_at, choice_at, IsInner, row_by, IsPolicy, IsComponent}
 use Rattle.mdp_unichain.specs.Iteration.{EndsWith}
-use Rattle.mdp_unichain.specs.Part.{IsPart, members, inner_component}
+use Rattle.mdp_unichain.specs.Part.{members}
 use Rattle.mdp_unichain.specs.Path as path
 use Rattle.mdp_unichain.specs.Path.{Found, IsStart}
 use Rattle.mdp_unichain.proofs.Ending.{better_left}
 use Rattle.mdp_unichain.proofs.Best.{inner_of_state}
 use Rattle.mdp_unichain.proofs.Improving.{inner-below}
-use Rattle.mdp_unichain.proofs.Parts.{member-below, part-state}
+use Rattle.mdp_unichain.proofs.Parts.{member-below}
 use Rattle.mdp_unichain.proofs.Picking.{IsFirst}
+use Rattle.mdp_wide.specs.declared.too_wide.SolveError.{SolveError}
+use Rattle.mdp_parts.specs.FoundEnds.{AreEndsOf}
+use Rattle.mdp_gain.specs.Code.{component_in}
+use Rattle.mdp_gain.specs.declared.component.EndComponent.{EndComponent}
+use Rattle.mdp_gain.specs.declared.only_state.Only.{Only}
+use Rattle.mdp_gain.proofs.Given.{part-of, member-is}
 use Rattle.mdp_gain.specs.Only.{IsOnly, policy_of, values_of, Makes, Ends, IsErrorOf}
+use Rattle.mdp_gain.specs.OnlyTerms.{zeros}
 use Rattle.mdp_gain.specs.Query.{Answer, answer_of, plain, EndsSo}
 use Rattle.mdp_policy_iteration.specs.declared.errors.RoundError.{RoundError}
 use Rattle.mdp_policy_iteration.specs.declared.errors.RoundError.TheVariants as fault
 use Rattle.mdp_gain.specs.declared.only_round.Settled.{Settled}
+use Rattle.mdp_gain.specs.declared.only_round.Turn.{Turn}
 use Rattle.mdp_gain.specs.declared.only_round.Turn.TheVariants as turn
 use Rattle.mdp_gain.proofs.Flagging.{find-or}
 use Rattle.mdp_gain.proofs.OnlyState.{policy-at, policy-is, only-reference, only-first}
-use Rattle.mdp_gain.proofs.OnlyColumns.{zeros}
 use Rattle.mdp_gain.proofs.OnlySums.{zero-at}
 use Rattle.mdp_gain.proofs.Rounds.{goes_on, ends_done, next_start, next_fewer}
+
+pub made_as : (p : Component) (s n c : ℕ) (result : Result Turn RoundError) → ((k : ℕ) → Makes p s k c result) → (r : Result Turn RoundError) → result ≡ r → Makes p s n c r
+made_as p s n c result made r was = subst (λ (q : Result Turn RoundError). Makes p s n c q) was (made n)
 
 module _ (p : Component) (s : ℕ) (o : IsOnly p s) where
   abbrev at : ℕ → ℕ → Round
@@ -88,21 +97,6 @@ module _ (p : Component) (s : ℕ) (o : IsOnly p s) where
   error-ends start n c round fault.Memory (error.TooWide w) a capped rest m = absurd a
   error-ends start n c round fault.Memory error.Memory a capped rest m = tt
 
--- ---- the start
-
-module _ (p : Component) (s : ℕ) (o : IsOnly p s) (start : ℕ) (is : start ≡ unwrap_or (find (λ c. (choice_at p s c).inner) (range_with_len 0 (length (choices_at p s)))) 0) where
-  start-first : IsFirst (λ c. (choice_at p s c).inner) (length (choices_at p s)) start
-  start-first =
-      let c = inner_of_state p s (IsOnly.state o) in
-      subst (λ (c : ℕ). IsFirst (λ c. (choice_at p s c).inner) (length (choices_at p s)) c) (sym is)
-      (find-or (λ c. (choice_at p s c).inner) (length (choices_at p s)) c.0 0 (inner-below p s c.0 c.1) c.1)
-
-  pub start-inner : IsInner p s start
-  start-inner = IsFirst.passes start-first
-
-  pub start-least : (d : ℕ) → IsInner p s d → start ≤ d
-  start-least d i = IsFirst.least start-first d (inner-below p s d i) i
-
 -- ---- the states of the part
 
 module _ (test : ℕ → Bool) where
@@ -138,54 +132,83 @@ module _ (test : ℕ → Bool) where
     filter-only a zero l k = absurd (omega arith)
     filter-only a (suc n) l k = filter_by a n (test a) refl l k (λ h. filter-only (a + 1) n h (omega arith))
 
-module _ (dir : Dir) (m : Mdp) (parts : List (Option ℕ)) (i r s : ℕ) (k : IsPart m parts i) (o : IsOnly (inner_component dir m parts i r) s) where
+-- ---- the start and the end
+
+module _ (q : Only) (ends : AreEndsOf q.component.model.now q.component.ends.now) where
+  abbrev x : EndComponent
+  x = q.component
+
   abbrev p : Component
-  p = inner_component dir m parts i r
+  p = component_in x
 
-  member : (t : ℕ) → in_part parts i t ≡ true → t ≡ s
-  member t h = IsOnly.only o t (part-state m parts i k dir r t ∙ h)
+  abbrev s : ℕ
+  s = q.s
 
-  own : in_part parts i s ≡ true
-  own = sym (part-state m parts i k dir r s) ∙ IsOnly.state o
+  member : (t : ℕ) → in_part x.ends.now.parts x.number t ≡ true → t ≡ s
+  member t h = IsOnly.only q.only t (member-is x t ∙ h)
 
-  members-only : members m parts i ≡ s ∷ []
+  own : in_part x.ends.now.parts x.number s ≡ true
+  own = sym (member-is x s) ∙ IsOnly.state q.only
+
+  members-only : members x.model.now x.ends.now.parts x.number ≡ s ∷ []
   members-only =
-      let l = member-below m parts i k s own in
-      filter-only (in_part parts i) s own member 0 (states_of m) (omega arith) (omega (arith, l))
+      let l = member-below x.model.now x.ends.now.parts x.number (part-of x ends) s own in
+      filter-only (in_part x.ends.now.parts x.number) s own member 0 (states_of x.model.now) (omega arith) (omega (arith, l))
 
-  module _ (start : ℕ) (inner : IsInner p s start) (least : (d : ℕ) → IsInner p s d → start ≤ d) where
+  module _ (start : ℕ)
+      (is : start ≡ unwrap_or (find (λ c. (choice_at (component_in q.component) q.s c).inner) (range_with_len 0 (length (choices_at (component_in q.component) q.s)))) 0) where
+    start-first : IsFirst (λ c. (choice_at p s c).inner) (length (choices_at p s)) start
+    start-first =
+        let c = inner_of_state p s (IsOnly.state q.only) in
+        subst (λ (c : ℕ). IsFirst (λ c. (choice_at p s c).inner) (length (choices_at p s)) c) (sym is)
+        (find-or (λ c. (choice_at p s c).inner) (length (choices_at p s)) c.0 0 (inner-below p s c.0 c.1) c.1)
+
+    pub start-inner : IsInner (component_in q.component) q.s start
+    start-inner = IsFirst.passes start-first
+
+    first_policy : path.IsFirst p (policy_of p s start)
+    first_policy = only-first p s q.only start start-inner (λ d i. IsFirst.least start-first d (inner-below p s d i) i)
+
     abbrev answer : ℕ → ℚ → ℚ → Answer
     answer c bias gain = record { states = s ∷ []; gain = gain; bias = bias ∷ []; choices = c ∷ [] }
 
-    pub answer-ends : (found : Settled) (a : Answer) → Ends p s start (Ok found) → a ≡ record { states = s ∷ []; gain = found.gain; bias = of_int (pos 0) ∷ []; choices = found.choice ∷ [] }
-        → EndsSo dir m parts i r (Ok a)
-    answer-ends found a h q = record {
-      start = policy_of p s start;
-      is_first = only-first p s o start inner least;
-      end = Ok (record { policy = policy_of p s found.choice; reference = s; values = values_of p found.gain });
-      path = h;
-      after =
-          ap (λ (x : Answer). (let y : Result Answer WideTerm = Ok x in y)) q
-          ∙ ap (λ (x : ℚ). (let y : Result Answer WideTerm = Ok (answer found.choice x found.gain) in y)) (sym (zero-at (count p) s))
-          ∙ ap (λ (c : ℕ). (let y : Result Answer WideTerm = Ok (answer c (value_at (zeros (count p)) s) found.gain) in y)) (sym (policy-at p s o found.choice))
-          ∙ ap (λ (ss : List ℕ). (let y : Result Answer WideTerm = Ok (answer_of ss (record { policy = policy_of p s found.choice; reference = s; values = values_of p found.gain })) in y)) (sym members-only);
-    }
-
     abbrev term : ℕ → List ℕ → Kind → ℕ → ℕ → Result Answer WideTerm
-    term n policy kind t d = Err (record { part = Inner i; number = n; policy = policy; kind = kind; state = Some t; choice = Some d })
+    term n policy kind t d = Err (record { part = Inner x.number; number = n; policy = policy; kind = kind; state = Some t; choice = Some d })
 
-    pub error-solves : (x : PathError) → Ends p s start (Err x) → Solves plain (EndsSo dir m parts i r) (Err (error_of_part (Inner i) x))
-    error-solves (error.TooWide w) h = (
+    error_by : (y : PathError) → Ends p s start (Err y) → Solves plain (EndsSo x.dir x.model.now x.ends.now.parts x.number x.name) (Err (error_of_part (Inner x.number) y))
+    error_by (error.TooWide w) h = (
       h.0,
       h.2,
       record {
         start = policy_of p s start;
-        is_first = only-first p s o start inner least;
+        is_first = first_policy;
         end = Err (record { number = h.0; policy = policy_of p s h.1; place = record { kind = w.kind; node = w.node; choice = w.choice } });
         path = h.4;
         after =
             ap (λ (xs : List ℕ). term h.0 xs w.kind w.node w.choice)
-            (h.3 ∙ ap (λ (c : ℕ). c ∷ []) (sym (policy-at p s o h.1)) ∙ ap (map (slice_index (policy_of p s h.1))) (sym members-only));
+            (h.3 ∙ ap (λ (c : ℕ). c ∷ []) (sym (policy-at p s q.only h.1)) ∙ ap (map (slice_index (policy_of p s h.1))) (sym members-only));
       },
     )
-    error-solves error.Memory h = tt
+    error_by error.Memory h = tt
+
+    module _ (end : Result Settled PathError) (done : Ends (component_in q.component) q.s start end) where
+      pub answer-ends : (found : Settled) → end ≡ Ok found → (a : Answer)
+          → a ≡ record { states = q.s ∷ []; gain = found.gain; bias = of_int (pos 0) ∷ []; choices = found.choice ∷ [] }
+          → EndsSo q.component.dir q.component.model.now q.component.ends.now.parts q.component.number q.component.name (Ok a)
+      answer-ends found was a e = record {
+        start = policy_of p s start;
+        is_first = first_policy;
+        end = Ok (record { policy = policy_of p s found.choice; reference = s; values = values_of p found.gain });
+        path = subst (Ends p s start) was done;
+        after =
+            ap (λ (x : Answer). (let y : Result Answer WideTerm = Ok x in y)) e
+            ∙ ap (λ (x : ℚ). (let y : Result Answer WideTerm = Ok (answer found.choice x found.gain) in y)) (sym (zero-at (count p) s))
+            ∙ ap (λ (c : ℕ). (let y : Result Answer WideTerm = Ok (answer c (value_at (zeros (count p)) s) found.gain) in y)) (sym (policy-at p s q.only found.choice))
+            ∙ ap (λ (ss : List ℕ). (let y : Result Answer WideTerm = Ok (answer_of ss (record { policy = policy_of p s found.choice; reference = s; values = values_of p found.gain })) in y))
+            (sym members-only);
+      }
+
+      pub error-solves : (y : PathError) → end ≡ Err y → (said : SolveError) → said ≡ error_of_part (Inner q.component.number) y
+          → Solves plain (EndsSo q.component.dir q.component.model.now q.component.ends.now.parts q.component.number q.component.name) (Err said)
+      error-solves y was said e =
+          subst (λ (z : SolveError). Solves plain (EndsSo x.dir x.model.now x.ends.now.parts x.number x.name) (Err z)) (sym e) (error_by y (subst (Ends p s start) was done))

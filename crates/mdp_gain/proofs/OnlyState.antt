@@ -18,27 +18,27 @@ use Rattle.mdp_spec.specs.Mdp.{Entry}
 use Rattle.mdp_elim.specs.System.{is_active}
 use Rattle.mdp_wide.specs.declared.too_wide.Kind.TheVariants.{Evaluate}
 use Rattle.mdp_policy_iteration.specs.Places.{Place, at_place, up_to}
-use Rattle.mdp_policy_iteration.specs.Candidates.{Best}
-use Rattle.mdp_policy_iteration.specs.Path.{evaluating, placed, comparing, or_kept}
+use Rattle.mdp_policy_iteration.specs.Path.{evaluating, placed, comparing}
 use Rattle.mdp_policy_iteration.proofs.Answering.{up_to-refused}
 use Rattle.mdp_unichain.specs.Chain.{AllLeadTo, IsReference, IsClosedClass}
-use Rattle.mdp_unichain.specs.Component.{Component, count, choices_at, choice_at, IsInner, is_state, row_by, IsPolicy, IsComponent}
+use Rattle.mdp_unichain.specs.Component.{Component, count, choice_at, IsInner, is_state, row_by, IsPolicy, IsComponent}
 use Rattle.mdp_unichain.specs.Evaluation.{active}
 use Rattle.mdp_unichain.specs.Next.{IsPicked, AreRanksToward, IsExactNext}
 use Rattle.mdp_unichain.specs.Path.{IsFirst}
 use Rattle.mdp_unichain.specs.Sums.{written_ratio}
 use Rattle.mdp_unichain.specs.Written as written
-use Rattle.mdp_unichain.specs.Written.{rows_of, row_or_loop, active_of, columns_of, written_columns, bias_of, written_values, then_compared, best_of, improved_choice, improved_at, written_improved}
+use Rattle.mdp_unichain.specs.Written.{rows_of, row_or_loop, active_of, columns_of, written_columns, bias_of, written_values, improved_choice, improved_at, written_improved}
 use Rattle.mdp_unichain.proofs.Chains.{same_number}
 use Rattle.mdp_unichain.proofs.Improving.{state-below}
 use Rattle.mdp_unichain.proofs.Reaching.{clash_test}
 use Rattle.mdp_policy_iteration.specs.Faults.{placed_at, Answers}
-use Rattle.mdp_gain.specs.Only.{IsOnly, policy_of, values_of, choice_over}
-use Rattle.mdp_gain.specs.OnlyTerms.{ratio_of}
+use Rattle.mdp_gain.specs.Code.{choice_over}
+use Rattle.mdp_gain.specs.Only.{IsOnly, policy_of, values_of}
+use Rattle.mdp_gain.specs.OnlyTerms.{zeros, ratio_of}
 use Rattle.mdp_policy_iteration.specs.declared.errors.RoundError.{RoundError}
 use Rattle.mdp_policy_iteration.specs.declared.errors.RoundError.TheVariants as fault
-use Rattle.mdp_gain.proofs.OnlyColumns.{zeros, no-solution}
-use Rattle.mdp_gain.proofs.OnlySums.{zero-at, zeros-ratio, zeros-compared}
+use Rattle.mdp_gain.proofs.OnlyColumns.{no-solution}
+use Rattle.mdp_gain.proofs.OnlySums.{zero-at}
 use Rattle.mdp_gain.proofs.Told.{bias-zero}
 
 -- ---- lists of answers
@@ -195,20 +195,20 @@ module _ (p : Component) (s : ℕ) (o : IsOnly p s) where
     biases : (gain : ℚ) (x y : List ℚ) → written.written_bias_list p policy s gain x y ≡ Ok (zeros (count p))
     biases gain x y = up_to-listed (bias_of p policy s gain x y) (λ t. of_int (pos 0)) (count p) (λ t l. bias-zero p policy s gain x y t (none_active t))
 
-    ratio : written_ratio p (policy_of p s c) s (zeros (count p)) (zeros (count p)) ≡ ratio_of (choice_at p s c)
-    ratio = zeros-ratio p policy s (count p) ∙ ap (λ (d : ℕ). ratio_of (choice_at p s d)) (policy-at c)
+    ratio : written_ratio p (policy_of p s c) s (zeros (count p)) (zeros (count p)) ≡ ratio_of (count p) (choice_at p s c)
+    ratio = ap (λ (d : ℕ). ratio_of (count p) (choice_at p s d)) (policy-at c)
 
     abbrev with_gain : Result ℚ Place → Result written.Values Place
     with_gain r = r >>= (λ gain. Ok (values_of p gain))
 
-    values : written_values p (policy_of p s c) s ≡ with_gain (at_place (evaluating policy s) (ratio_of (choice_at p s c)))
+    values : written_values p (policy_of p s c) s ≡ with_gain (at_place (evaluating policy s) (ratio_of (count p) (choice_at p s c)))
     values =
         ap (λ (r : Result (List (List ℚ)) Place). r >>= written.from_columns p policy s) columns
         ∙ then_same (written.written_gain p policy s (zeros (count p)) (zeros (count p))) (written.with_biases p policy s (zeros (count p)) (zeros (count p))) (λ gain. Ok (values_of p gain))
         (λ gain. ap (λ (r : Result (List ℚ) Place). r >>= (λ bias. Ok (let v : written.Values = record { gain = gain; bias = bias } in v))) (biases gain (zeros (count p)) (zeros (count p))))
         ∙ ap (λ o. with_gain (at_place (evaluating policy s) o)) ratio
 
-    pub gain-told : (step : Result ℚ Wide) → result_ok step ≡ ratio_of (choice_at p s c) → Answers (values_of p) (placed_at Evaluate s c step) (written_values p (policy_of p s c) s)
+    pub gain-told : (step : Result ℚ Wide) → result_ok step ≡ ratio_of (count p) (choice_at p s c) → Answers (values_of p) (placed_at Evaluate s c step) (written_values p (policy_of p s c) s)
     gain-told (Ok gain) h = values ∙ ap (λ o. with_gain (at_place (evaluating policy s) o)) (sym h)
     gain-told (Err w) h =
         values ∙ ap (λ o. with_gain (at_place (evaluating policy s) o)) (sym h)
@@ -220,23 +220,14 @@ module _ (p : Component) (s : ℕ) (o : IsOnly p s) where
       abbrev v : written.Values
       v = values_of p gain
 
-      best_same : (present : ℚ) (k : ℕ) → best_of p (zeros (count p)) s present k ≡ best_of p [] s present k
-      best_same present zero = refl
-      best_same present (suc k) =
-          ap (λ (r : Result Best Place). r >>= then_compared p (zeros (count p)) s k) (best_same present k)
-          ∙ then_same (best_of p [] s present k) (then_compared p (zeros (count p)) s k) (then_compared p [] s k)
-          (λ best. ap (at_place (comparing s k)) (zeros-compared p.dir (count p) k (choice_at p s k) best))
+      over_same : (present : ℚ) → written.choice_over p policy v s present ≡ choice_over p (zeros (count p)) s c present
+      over_same present = ap (λ (d : ℕ). choice_over p (zeros (count p)) s d present) (policy-at c)
 
-      over_same : (present : ℚ) → written.choice_over p policy v s present ≡ choice_over p s c present
-      over_same present =
-          ap (λ (r : Result Best Place). r >>= (λ best. Ok (or_kept best.choice (slice_index policy s)))) (best_same present (length (choices_at p s)))
-          ∙ ap (λ (d : ℕ). best_of p [] s present (length (choices_at p s)) >>= (λ best. Ok (or_kept best.choice d))) (policy-at c)
-
-      choice-is : improved_choice p policy v s ≡ (at_place (comparing s c) (written_add gain 0ℚ) >>= choice_over p s c)
+      choice-is : improved_choice p policy v s ≡ (at_place (comparing s c) (written_add gain 0ℚ) >>= choice_over p (zeros (count p)) s c)
       choice-is =
           ap (λ (x : ℚ). at_place (comparing s (slice_index policy s)) (written_add gain x) >>= written.choice_over p policy v s) (zero-at (count p) s)
           ∙ ap (λ (d : ℕ). at_place (comparing s d) (written_add gain 0ℚ) >>= written.choice_over p policy v s) (policy-at c)
-          ∙ then_same (at_place (comparing s c) (written_add gain 0ℚ)) (written.choice_over p policy v s) (choice_over p s c) over_same
+          ∙ then_same (at_place (comparing s c) (written_add gain 0ℚ)) (written.choice_over p policy v s) (choice_over p (zeros (count p)) s c) over_same
 
       here : (r : Result ℕ Place) → improved_choice p policy v s ≡ r → improved_at p policy v s ≡ r
       here r e = ap (λ (b : Bool). if b then improved_choice p policy v s else Ok 0) o.state ∙ e
@@ -255,5 +246,5 @@ module _ (p : Component) (s : ℕ) (o : IsOnly p s) where
           (up_to-listed (improved_at p policy v) (λ t. 0) s (λ t l. there t (λ same. omega (arith, l, same)))) (here (Err w) e) below
 
       pub improved-is : written_improved p (policy_of p s c) (values_of p gain) ≡
-          ((at_place (comparing s c) (written_add gain 0ℚ) >>= choice_over p s c) >>= (λ d. Ok (policy_of p s d)))
+          ((at_place (comparing s c) (written_add gain 0ℚ) >>= choice_over p (zeros (count p)) s c) >>= (λ d. Ok (policy_of p s d)))
       improved-is = improved_by _ choice-is

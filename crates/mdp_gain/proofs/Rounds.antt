@@ -20,11 +20,15 @@ use Rattle.mdp_unichain.proofs.Classes.{one_reference}
 use Rattle.mdp_unichain.proofs.Ending.{better_left, next_by}
 use Rattle.mdp_unichain.proofs.Nexts.{exact_is_next}
 use Rattle.mdp_unichain.proofs.Paths.{Goes_on, evaluation_next, now, imp, after, keeps, some_changed}
-use Rattle.mdp_gain.specs.Code.{Makes, Ends, HasEntries, path_error}
+use Rattle.mdp_parts.specs.FoundEnds.{AreEndsOf}
+use Rattle.mdp_gain.specs.Code.{component_in, Makes, Ends, HasEntries, path_error}
 use Rattle.mdp_policy_iteration.specs.Faults.{Says}
 use Rattle.mdp_policy_iteration.specs.declared.errors.RoundError.{RoundError}
 use Rattle.mdp_policy_iteration.specs.declared.errors.RoundError.TheVariants as fault
+use Rattle.mdp_gain.specs.declared.component.EndComponent.{EndComponent}
 use Rattle.mdp_gain.specs.declared.round.RoundEnd.{RoundEnd}
+use Rattle.mdp_gain.specs.declared.round.RoundEnd.TheVariants as end
+use Rattle.mdp_gain.proofs.Given.{is-component}
 
 -- ---- one round
 
@@ -69,9 +73,9 @@ pub makes_err : (p : Component) (n : ℕ) (policy : List ℕ) (result : Result R
 makes_err p n policy result e q h = subst (Makes p n policy) (sym q) h
 
 -- what was answered to a round of the same policy
-pub made_at : (p : Component) (n : ℕ) (held policy : List ℕ) (result : Result RoundEnd RoundError) → held ≡ policy → Makes p n held result
+pub made_at : (p : Component) (n : ℕ) (held policy : List ℕ) (result : Result RoundEnd RoundError) → held ≡ policy → ((k : ℕ) → Makes p k held result)
     → (r : Result RoundEnd RoundError) → result ≡ r → Makes p n policy r
-made_at p n held policy result same made r e = subst (λ (xs : List ℕ). Makes p n xs r) same (subst (λ (q : Result RoundEnd RoundError). Makes p n held q) e made)
+made_at p n held policy result same made r e = subst (λ (xs : List ℕ). Makes p n xs r) same (subst (λ (q : Result RoundEnd RoundError). Makes p n held q) e (made n))
 
 -- ---- the path
 
@@ -123,3 +127,19 @@ module _ (p : Component) (known : IsComponent p) (gives : GivesSolutions) (a b :
       (next_by p known a.policy (Goes_on.improved on) b.policy m.0 e.0 (written.Values.gain (Goes_on.v on)) e.1 (value_at (written.Values.bias (Goes_on.v on))) e.2
       (now p known gives a b k m.0 m.1 on) (imp p known gives a b k m.0 m.1 on) c.0 c.1 e.3
       (exact_is_next p a.policy (Goes_on.improved on) b.policy (Goes_on.exact on))))
+
+-- a round that goes on: the next policy is a start, and fewer policies are better than it
+pub record IsTurn (p : Component) (n : ℕ) (policy after : List ℕ) : Type 0 where
+  pub step : path.Makes p (record { number = n; policy = policy }) (next (record { number = n + 1; policy = after }))
+  pub start : IsStart p after
+  pub fewer : (t u : ℕ) → IsReference (is_state p) (row_by p policy) t → IsReference (is_state p) (row_by p after) u → better_left p u after < better_left p t policy
+
+pub turned : (x : EndComponent) → AreEndsOf x.model.now x.ends.now → GivesSolutions → (n : ℕ) (policy : List ℕ) → IsStart (component_in x) policy → (held : List ℕ) → held ≡ policy
+    → (result : Result RoundEnd RoundError) → ((k : ℕ) → Makes (component_in x) k held result) → (after : Vec ℕ Global) → result ≡ Ok (end.Next after)
+    → IsTurn (component_in x) n policy after.items
+turned x ends gives n policy k held same result made after was =
+    let p = component_in x in
+    let a : Round = record { number = n; policy = policy } in
+    let b : Round = record { number = n + 1; policy = after.items } in
+    let step : path.Makes p a (next b) = made_at p n held policy result same made (Ok (end.Next after)) was in
+    record { step = step; start = next_start p (is-component x ends) gives a b k step; fewer = next_fewer p (is-component x ends) gives a b k step }

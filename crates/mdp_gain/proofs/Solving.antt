@@ -19,8 +19,12 @@ use Rattle.mdp_unichain.specs.Part.{IsPart, members, inner_component}
 use Rattle.mdp_unichain.specs.Path.{IsFirst}
 use Rattle.mdp_unichain.proofs.Parts.{part-state, part-count}
 use Rattle.mdp_gain.specs.Query.{Answer, plain, EndsSo}
-use Rattle.mdp_gain.specs.Code.{Ends, AtStates, FitsStates, HasEntries, answer_at, values_in}
+use Rattle.mdp_wide.specs.declared.too_wide.SolveError.{SolveError}
+use Rattle.mdp_parts.specs.FoundEnds.{AreEndsOf}
+use Rattle.mdp_gain.proofs.Given.{part-of}
+use Rattle.mdp_gain.specs.Code.{component_in, Ends, AtStates, FitsStates, HasEntries, answer_at, values_in}
 use Rattle.mdp_gain.specs.declared.best_policy.Found as code
+use Rattle.mdp_gain.specs.declared.component.EndComponent.{EndComponent}
 
 -- ---- the states
 
@@ -40,43 +44,73 @@ states-below test n states e l q =
     (All-filter test (λ s. s < l) (range_with_len 0 n)
     (λ k d h. let b = length-range_with_len 0 n in let v = get_or-range_with_len 0 n k d (omega (arith, b, h)) in omega (arith, b, h, v, q)))
 
-pub fits_states : (p : Component) (states : List ℕ) (e : PathError) → ((l : ℕ) → l ≡ count p → All (λ s. s < l) states) → HasEntries p (Err e) → FitsStates states e
-fits_states p states (error.TooWide w) h n = h (length w.policy.items) n
-fits_states p states error.Memory h n = tt
+module _ (x : EndComponent) (states : List ℕ) (e : states ≡ filter (is_state (component_in x)) (range_with_len 0 (count (component_in x)))) where
+  abbrev p : Component
+  p = component_in x
 
--- ---- the query
+  below : (l : ℕ) → l ≡ count p → All (λ s. s < l) states
+  below = states-below (is_state p) (count p) states e
 
-module _ (dir : Dir) (m : Mdp) (parts : List (Option ℕ)) (i r : ℕ) (start : List ℕ) (is : IsFirst (inner_component dir m parts i r) start) (states : List ℕ) (e : states ≡ members m parts i) where
-  pub answer_ends : (found : code.Found) (a : Answer) → Ends (inner_component dir m parts i r) start (Ok found) → a ≡ answer_at states found.policy.items (values_in found.values)
-      → EndsSo dir m parts i r (Ok a)
-  answer_ends found a h q = record {
-    start = start;
-    is_first = is;
-    end = Ok (record { policy = found.policy.items; reference = h.0; values = values_in found.values });
-    path = h.1;
-    after = ap (λ (x : Answer). (let y : Result Answer WideTerm = Ok x in y))
-        (q ∙ ap (λ (ss : List ℕ). answer_at ss found.policy.items (values_in found.values)) e);
-  }
+  -- what was found has an entry for each state, and so has the policy of an error
+  pub found_fits : (end : Result code.Found PathError) → HasEntries (component_in x) end → (found : code.Found) → end ≡ Ok found
+      → All (λ s. s < length found.policy.items) states × All (λ s. s < length found.values.bias.items) states
+  found_fits end h found was =
+      let entries = subst (HasEntries p) was h in
+      (below (length found.policy.items) entries.0, below (length found.values.bias.items) entries.1)
 
-  abbrev term : ℕ → List ℕ → Kind → ℕ → ℕ → Result Answer WideTerm
-  term n policy kind s c = Err (record { part = Inner i; number = n; policy = policy; kind = kind; state = Some s; choice = Some c })
+  fits_by : (error : PathError) → HasEntries p (Err error) → FitsStates states error
+  fits_by (error.TooWide w) h = below (length w.policy.items) h
+  fits_by error.Memory h = tt
 
-  pub error_ends : (x y : PathError) → Ends (inner_component dir m parts i r) start (Err x) → AtStates states x y → Solves plain (EndsSo dir m parts i r) (Err (error_of_part (Inner i) y))
-  error_ends (error.TooWide w) (error.TooWide v) h a = (
-    h.0,
-    a.0 ∙ h.1,
-    record {
-      start = start;
-      is_first = is;
-      end = Err (record { number = h.0; policy = w.policy.items; place = record { kind = w.kind; node = w.node; choice = w.choice } });
-      path = h.2;
-      after =
-          ap (λ (xs : List ℕ). term h.0 xs v.kind v.node v.choice) (a.1 ∙ ap (map (slice_index w.policy.items)) e)
-          ∙ ap (λ (k : Kind). term h.0 (map (slice_index w.policy.items) (members m parts i)) k v.node v.choice) a.2
-          ∙ ap (λ (s : ℕ). term h.0 (map (slice_index w.policy.items) (members m parts i)) w.kind s v.choice) a.3
-          ∙ ap (λ (c : ℕ). term h.0 (map (slice_index w.policy.items) (members m parts i)) w.kind w.node c) a.4;
-    },
-  )
-  error_ends (error.TooWide w) error.Memory h a = tt
-  error_ends error.Memory (error.TooWide v) h a = absurd a
-  error_ends error.Memory error.Memory h a = tt
+  pub error_fits : (end : Result code.Found PathError) → HasEntries (component_in x) end → (error : PathError) → end ≡ Err error → (held : List ℕ) → held ≡ states → FitsStates held error
+  error_fits end h error was held same = subst (λ (ss : List ℕ). FitsStates ss error) (sym same) (fits_by error (subst (HasEntries p) was h))
+
+  -- ---- the query
+
+  module _ (ends : AreEndsOf x.model.now x.ends.now) (start : List ℕ) (is : IsFirst (component_in x) start) (end : Result code.Found PathError) (path : Ends (component_in x) start end) where
+    are_members : states ≡ members x.model.now x.ends.now.parts x.number
+    are_members = e ∙ states-members x.dir x.model.now x.ends.now.parts x.number x.name (part-of x ends)
+
+    pub found_ends : (found : code.Found) → end ≡ Ok found → (a : Answer) → a ≡ answer_at states found.policy.items (values_in found.values)
+        → EndsSo x.dir x.model.now x.ends.now.parts x.number x.name (Ok a)
+    found_ends found was a q =
+        let h = subst (Ends p start) was path in
+        record {
+          start = start;
+          is_first = is;
+          end = Ok (record { policy = found.policy.items; reference = h.0; values = values_in found.values });
+          path = h.1;
+          after = ap (λ (x : Answer). (let y : Result Answer WideTerm = Ok x in y))
+              (q ∙ ap (λ (ss : List ℕ). answer_at ss found.policy.items (values_in found.values)) are_members);
+        }
+
+    abbrev term : ℕ → List ℕ → Kind → ℕ → ℕ → Result Answer WideTerm
+    term n policy kind s c = Err (record { part = Inner x.number; number = n; policy = policy; kind = kind; state = Some s; choice = Some c })
+
+    ends_by : (error y : PathError) → Ends p start (Err error) → AtStates states error y
+        → Solves plain (EndsSo x.dir x.model.now x.ends.now.parts x.number x.name) (Err (error_of_part (Inner x.number) y))
+    ends_by (error.TooWide w) (error.TooWide v) h a =
+        let all = members x.model.now x.ends.now.parts x.number in (
+          h.0,
+          a.0 ∙ h.1,
+          record {
+            start = start;
+            is_first = is;
+            end = Err (record { number = h.0; policy = w.policy.items; place = record { kind = w.kind; node = w.node; choice = w.choice } });
+            path = h.2;
+            after =
+                ap (λ (xs : List ℕ). term h.0 xs v.kind v.node v.choice) (a.1 ∙ ap (map (slice_index w.policy.items)) are_members)
+                ∙ ap (λ (k : Kind). term h.0 (map (slice_index w.policy.items) all) k v.node v.choice) a.2
+                ∙ ap (λ (s : ℕ). term h.0 (map (slice_index w.policy.items) all) w.kind s v.choice) a.3
+                ∙ ap (λ (c : ℕ). term h.0 (map (slice_index w.policy.items) all) w.kind w.node c) a.4;
+          },
+        )
+    ends_by (error.TooWide w) error.Memory h a = tt
+    ends_by error.Memory (error.TooWide v) h a = absurd a
+    ends_by error.Memory error.Memory h a = tt
+
+    pub error_ends : (error : PathError) → end ≡ Err error → (held : List ℕ) → held ≡ states → (y : PathError) → AtStates held error y → (said : SolveError)
+        → said ≡ error_of_part (Inner x.number) y → Solves plain (EndsSo x.dir x.model.now x.ends.now.parts x.number x.name) (Err said)
+    error_ends error was held same y a said is_error =
+        subst (λ (e : SolveError). Solves plain (EndsSo x.dir x.model.now x.ends.now.parts x.number x.name) (Err e)) (sym is_error)
+        (ends_by error y (subst (Ends p start) was path) (subst (λ (ss : List ℕ). AtStates ss error y) same a))

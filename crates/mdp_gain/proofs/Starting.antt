@@ -10,7 +10,6 @@ use Rattle.std.proofs.lemmas.List.FromFn.{get_or-map-range_with_len, length-map-
 use Rattle.std.proofs.lemmas.Grind.{get_or-set_at}
 use Rattle.mdp_math.proofs.Numbers.{le_or}
 use Rattle.mdp_spec.specs.Mdp.{states_of}
-use Rattle.mdp_spec.specs.Row.{IsMdp}
 use Rattle.mdp_graph.specs.Sets.{marked}
 use Rattle.mdp_graph.specs.Choices.{AreLeast}
 use Rattle.mdp_ends.specs.Ends.{in_part, IsEnd, IsMaximal, AreEnds}
@@ -24,29 +23,37 @@ use Rattle.mdp_unichain.proofs.Improving.{state-below, inner-below}
 use Rattle.mdp_unichain.proofs.Picking.{IsFirst}
 use Rattle.mdp_unichain.proofs.Reaching.{clash_test}
 use Rattle.mdp_unichain.proofs.Toward.{ranks_toward, nearest_choice, outside_choice}
-use Rattle.mdp_gain.specs.Code.{IsGiven, component_in}
+use Rattle.mdp_parts.specs.FoundEnds.{AreEndsOf}
+use Rattle.mdp_gain.specs.Code.{component_in}
 use Rattle.mdp_gain.specs.declared.component.EndComponent.{EndComponent}
 use Rattle.mdp_gain.proofs.Flagging.{find-or}
-use Rattle.mdp_gain.proofs.Given.{count-is, part_of-given, member-is}
+use Rattle.mdp_gain.proofs.Given.{count-is, part-of, member-is}
 
 pub choices-len : (x : EndComponent) {target marks : List Bool} {ranks choices : List ℕ} → IsToward x.model.now x.ends.now.parts x.number target marks ranks choices
     → length choices ≡ count (component_in x)
 choices-len x pass = AreLeast.count (IsToward.chosen pass) ∙ sym (count-is x)
 
-module _ (x : EndComponent) (g : IsGiven x) (known : IsMdp x.model.now) where
+module _ (x : EndComponent) (ends : AreEndsOf x.model.now x.ends.now) where
   abbrev p : Component
   p = component_in x
 
   some_state : (s : ℕ) × (is_state p s ≡ true)
   some_state =
-      let e = IsEnd.some (IsMaximal.is_end (AreEnds.maximal g.ends.ends x.number g.below)) in
-      (e.0, member-is x g known e.0 ∙ e.2)
+      let e = IsEnd.some (IsMaximal.is_end (AreEnds.maximal ends.ends x.number x.below)) in
+      (e.0, member-is x e.0 ∙ e.2)
 
   -- the least state
-  pub least-first : IsFirst (is_state p) (count p) (unwrap_or (find (is_state p) (range_with_len 0 (count p))) 0)
+  least-first : IsFirst (is_state p) (count p) (unwrap_or (find (is_state p) (range_with_len 0 (count p))) 0)
   least-first = let s = some_state in find-or (is_state p) (count p) s.0 0 (state-below p s.0 s.1) s.1
 
-  module _ (t : ℕ) (f : IsFirst (is_state p) (count p) t) (target : List Bool) (target_is : target ≡ map (λ s. s == t) (range_with_len 0 (count p))) where
+  pub first_state : (t : ℕ) → t ≡ unwrap_or (find (is_state (component_in x)) (range_with_len 0 (count (component_in x)))) 0
+      → IsFirst (is_state (component_in x)) (count (component_in x)) t
+  first_state t is = subst (λ (t : ℕ). IsFirst (is_state p) (count p) t) (sym is) least-first
+
+  module _ (t : ℕ) (is : t ≡ unwrap_or (find (is_state (component_in x)) (range_with_len 0 (count (component_in x)))) 0) (target : List Bool) (target_is : target ≡ map (λ s. s == t) (range_with_len 0 (count p))) where
+    f : IsFirst (is_state p) (count p) t
+    f = first_state t is
+
     target-at : (s : ℕ) → s < count p → marked target s ≡ (s == t)
     target-at s l = ap (λ (xs : List Bool). marked xs s) target_is ∙ get_or-map-range_with_len (λ s. s == t) 0 (count p) s s false l (zero-add s)
 
@@ -54,7 +61,7 @@ module _ (x : EndComponent) (g : IsGiven x) (known : IsMdp x.model.now) where
     target-len = ap (λ (xs : List Bool). length xs) target_is ∙ length-map-range_with_len (λ s. s == t) 0 (count p) ∙ count-is x
 
     member_t : in_part x.ends.now.parts x.number t ≡ true
-    member_t = sym (member-is x g known t) ∙ IsFirst.passes f
+    member_t = sym (member-is x t) ∙ IsFirst.passes f
 
     pub some_target : (s : ℕ) × (s < states_of x.model.now) × (in_part x.ends.now.parts x.number s ≡ true) × (marked target s ≡ true)
     some_target =
@@ -114,7 +121,7 @@ module _ (x : EndComponent) (g : IsGiven x) (known : IsMdp x.model.now) where
       nearest : (s : ℕ) → is_state p s ≡ true → s ≢ t → IsNearest p (slice_index ranks) s (slice_index start s)
       nearest s h o =
           subst (λ (c : ℕ). IsNearest p (slice_index ranks) s c) (sym (other-at s o))
-          (nearest_choice x.dir x.model.now x.ends.now.parts x.number x.name (part_of-given x g known) target marks ranks choices pass marks_are (λ s. s == t) same s h (ne_eqb s t o))
+          (nearest_choice x.dir x.model.now x.ends.now.parts x.number x.name (part-of x ends) target marks ranks choices pass marks_are (λ s. s == t) same s h (ne_eqb s t o))
 
       own_inner : IsInner p t (slice_index start t)
       own_inner = subst (IsInner p t) (sym own-at) (IsFirst.passes own-first)
@@ -127,7 +134,7 @@ module _ (x : EndComponent) (g : IsGiven x) (known : IsMdp x.model.now) where
       outside_by s h (inl l) = let n = start-len in get_or-eq_default start 0 (omega (arith, n, l))
       outside_by s h (inr l) =
           other-at s (λ e. clash_test (is_state p s) (ap (is_state p) e ∙ IsFirst.passes f) h)
-          ∙ outside_choice x.dir x.model.now x.ends.now.parts x.number x.name (part_of-given x g known) target marks ranks choices pass marks_are (λ s. s == t) same s
+          ∙ outside_choice x.dir x.model.now x.ends.now.parts x.number x.name (part-of x ends) target marks ranks choices pass marks_are (λ s. s == t) same s
           (let n = count-is x in omega arith) h
 
       pub first_start : path.IsFirst p start
@@ -136,7 +143,7 @@ module _ (x : EndComponent) (g : IsGiven x) (known : IsMdp x.model.now) where
         is_least = (IsFirst.passes f, λ s h. IsFirst.least f s (state-below p s h) h);
         own = (own_inner, λ c h. let l = IsFirst.least own-first c (inner-below p t c h) h in subst (λ (d : ℕ). d ≤ c) (sym own-at) l);
         rank = slice_index ranks;
-        ranks = ranks_toward x.dir x.model.now x.ends.now.parts x.number x.name (part_of-given x g known) target marks ranks choices pass marks_are (λ s. s == t) same;
+        ranks = ranks_toward x.dir x.model.now x.ends.now.parts x.number x.name (part-of x ends) target marks ranks choices pass marks_are (λ s. s == t) same;
         toward = nearest;
         is = record {
           len = start-len;

@@ -2,21 +2,23 @@
 use Rattle.std.specs.Prelude.{◌≡◌, ℕ, ◌+◌, ◌<◌, Bool, List, length, map, slice_index, Result, Ok, Err, Vec, if◌then◌else◌}
 use Rattle.std.specs.Global.{Global}
 use Rattle.std.specs.List.{All, range_with_len}
+use Rattle.mdp_math.specs.Rational.{ℚ}
+use Rattle.mdp_math.specs.Result.{◌>>=◌}
 use Rattle.mdp_graph.specs.Sets.{marked}
-use Rattle.mdp_ends.specs.Ends.{count_of}
-use Rattle.mdp_parts.specs.FoundEnds.{AreEndsOf}
 use Rattle.mdp_policy_iteration.specs.Iteration.{next, done, refused}
+use Rattle.mdp_policy_iteration.specs.Places.{Place}
+use Rattle.mdp_policy_iteration.specs.Path.{or_kept}
 use Rattle.mdp_policy_iteration.specs.Laws.{first}
 use Rattle.mdp_policy_iteration.specs.Ends.{capped}
 use Rattle.mdp_policy_iteration.specs.declared.solution.PathError.{PathError}
 use Rattle.mdp_policy_iteration.specs.declared.solution.PathError.TheVariants as error
-use Rattle.mdp_unichain.specs.Component.{Component, count}
+use Rattle.mdp_unichain.specs.Component.{Component, count, choices_at}
 use Rattle.mdp_unichain.specs.Written as written
 use Rattle.mdp_unichain.specs.Iteration.{EndsWith}
 use Rattle.mdp_unichain.specs.Path as path
 use Rattle.mdp_gain.specs.Query.{Answer, answer_of, inner_component}
 use Rattle.mdp_gain.specs.declared.component.EndComponent.{EndComponent}
-use Rattle.mdp_gain.specs.declared.evaluation.Values.{Values}
+use Rattle.mdp_gain.specs.declared.values.Values.{Values}
 use Rattle.mdp_gain.specs.declared.best_policy.Found.{Found}
 use Rattle.mdp_policy_iteration.specs.declared.errors.RoundError.{RoundError}
 use Rattle.mdp_policy_iteration.specs.declared.errors.RoundError.TheVariants as fault
@@ -30,6 +32,10 @@ component_in p = inner_component p.dir p.model.now p.ends.now.parts p.number p.n
 -- the gain and the biases, as the code holds them
 abbrev pub values_in : Values → written.Values
 values_in v = record { gain = v.gain; bias = v.bias.items }
+
+-- the choice of state s that is best where it is better than the present value under these biases, or the one that is kept
+abbrev pub choice_over : Component → List ℚ → ℕ → ℕ → ℚ → Result ℕ Place
+choice_over p bias s kept present = written.best_of p bias s present (length (choices_at p s)) >>= (λ best. Ok (or_kept best.choice kept))
 
 -- one list at the marked states, another at the others
 abbrev pub joined : List Bool → List ℕ → List ℕ → List ℕ
@@ -85,9 +91,3 @@ AtStates states e error.Memory = Unit {0}
 -- what was found, at these states
 abbrev pub answer_at : List ℕ → List ℕ → written.Values → Answer
 answer_at states policy v = answer_of states (record { policy = policy; reference = 0; values = v })
-
--- what the code holds: one of the maximal end components of its model, and one of the model's reward names
-pub record IsGiven (p : EndComponent) : Type 0 where
-  pub ends : AreEndsOf p.model.now p.ends.now
-  pub below : p.number < count_of p.ends.now.parts
-  pub named : p.name < length p.model.now.names

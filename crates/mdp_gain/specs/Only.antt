@@ -1,22 +1,20 @@
 -- An end component of one state: each of its policies takes one choice there, with bias 0.
-use Rattle.std.specs.Prelude.{◌≡◌, ℕ, ◌+◌, ◌==◌, Bool, not, ◌||◌, true, List, [], ◌∷◌, length, map, Result, Ok, Err, if◌then◌else◌, pos}
+use Rattle.std.specs.Prelude.{◌≡◌, ℕ, ◌+◌, ◌==◌, Bool, not, ◌||◌, true, List, [], ◌∷◌, map, Result, Ok, Err, if◌then◌else◌}
 use Rattle.std.specs.List.{list_all, range_with_len}
-use Rattle.mdp_math.specs.Rational.{ℚ, of_int}
-use Rattle.mdp_math.specs.Result.{◌>>=◌}
+use Rattle.mdp_math.specs.Rational.{ℚ}
 use Rattle.mdp_spec.specs.Mdp.{Entry}
 use Rattle.mdp_policy_iteration.specs.Iteration.{next, done, refused}
-use Rattle.mdp_policy_iteration.specs.Places.{Place}
-use Rattle.mdp_policy_iteration.specs.Path.{or_kept}
 use Rattle.mdp_policy_iteration.specs.Laws.{first}
 use Rattle.mdp_policy_iteration.specs.Ends.{capped}
 use Rattle.mdp_policy_iteration.specs.declared.solution.PathError.{PathError}
 use Rattle.mdp_policy_iteration.specs.declared.solution.PathError.TheVariants as error
-use Rattle.mdp_unichain.specs.Component.{Component, count, choices_at, choice_at, is_state}
-use Rattle.mdp_unichain.specs.Written.{Values, best_of}
+use Rattle.mdp_unichain.specs.Component.{Component, count, choice_at, is_state}
+use Rattle.mdp_unichain.specs.Written.{Values}
 use Rattle.mdp_unichain.specs.Iteration.{EndsWith}
 use Rattle.mdp_unichain.specs.Path as path
 use Rattle.mdp_policy_iteration.specs.declared.errors.RoundError.{RoundError}
 use Rattle.mdp_policy_iteration.specs.declared.errors.RoundError.TheVariants as fault
+use Rattle.mdp_gain.specs.OnlyTerms.{zeros}
 use Rattle.mdp_gain.specs.declared.only_round.Settled.{Settled}
 use Rattle.mdp_gain.specs.declared.only_round.Turn.{Turn}
 use Rattle.mdp_gain.specs.declared.only_round.Turn.TheVariants as turn
@@ -40,11 +38,7 @@ policy_of p s c = map (λ t. if t == s then c else 0) (range_with_len 0 (count p
 
 -- its values with this gain
 abbrev pub values_of : Component → ℚ → Values
-values_of p gain = record { gain = gain; bias = map (λ t. of_int (pos 0)) (range_with_len 0 (count p)) }
-
--- the choice of state s that is best, or the one that it has, where the present value is this and all biases are 0
-abbrev pub choice_over : Component → ℕ → ℕ → ℚ → Result ℕ Place
-choice_over p s kept present = best_of p [] s present (length (choices_at p s)) >>= (λ best. Ok (or_kept best.choice kept))
+values_of p gain = record { gain = gain; bias = zeros (count p) }
 
 -- round n of the policy that takes choice c: its end, the next choice, the place of the first term past width, or want of memory
 abbrev pub Makes : Component → ℕ → ℕ → ℕ → Result Turn RoundError → Type 0

@@ -1,59 +1,28 @@
 ghost use Rattle.std.specs.Prelude.{ℕ, ◌==◌, not, ◌≡◌, ◌<◌, ◌^◌, length, map, slice_index, IfOk};
 ghost use Rattle.std.specs.List.{All, list_any, find, range_with_len};
+ghost use Rattle.mdp_parts.specs.FoundEnds.{AreEndsOf};
 ghost use Rattle.mdp_spec.specs.Mdp.{states_of};
 ghost use Rattle.mdp_graph.specs.Sets.{marked};
 ghost use Rattle.mdp_parts.specs.Allowed.{AreChoices};
-ghost use Rattle.mdp_unichain.specs.Chain.{AllLeadTo, IsReference};
+ghost use Rattle.mdp_unichain.specs.Chain.{IsReference};
 ghost use Rattle.mdp_unichain.specs.Component.{count, is_state, row_by, IsPolicy};
-ghost use Rattle.mdp_gain.specs.Code.{IsGiven, component_in};
+ghost use Rattle.mdp_unichain.specs.Path.{IsStart};
+ghost use Rattle.mdp_gain.specs.Code.{component_in};
 ghost use Rattle.mdp_gain.specs.Classes.{TakesAt, TakesAll};
 ghost use Rattle.mdp_unichain.specs.Classes.{takes, leaves, differs, has_flag, shares_part, AreClasses, is_in_class, is_in_changed_class, Picks};
 
+use crate::chosen::Chosen;
 use crate::component::EndComponent;
 use mdp_num::Memory;
 use mdp_parts::{Allowed, components};
 use mdp_rows::Marks;
 use std::alloc::{AllocError, Global};
 
-/// Whether choice `c` of state `s` is the policy's, at a state of the component.
-fn takes(component: &EndComponent<'_, '_>, policy: &[u32], s: u32, c: u32) -> bool
-    requires given { IsGiven component.now }
-    requires policy { length policy.now ≡ count (component_in component.now) }
-    requires state { s < count (component_in component.now) }
-    ensures { result ≡ takes (component_in component.now) policy.now s c }
-{
-    component.holds(s) && c == policy[s as usize]
-}
-
-/// Allows the policy's choice of state `s`, where it is one of the component, and forbids its other choices.
-fn allow_at(component: &EndComponent<'_, '_>, policy: &[u32], allowed: &mut Allowed, s: u32)
-    requires given { IsGiven component.now }
-    requires policy { IsPolicy (component_in component.now) policy.now }
-    requires state { s < states_of component.now.model.now }
-    requires sizes { AreChoices component.now.model.now allowed.old }
-    ensures { TakesAt component.now.model.now (component_in component.now) policy.now s allowed.old allowed.new }
-{
-    for c in 0..component.model.choices(s) {
-        allowed.set(s, c, takes(component, policy, s, c));
-    }
-}
-
-/// The choices of a policy at the states of the component.
-fn policy_choices(
-    alloc: Global,
-    component: &EndComponent<'_, '_>,
-    policy: &[u32],
-) -> Result<Allowed, Memory>
-    requires given { IsGiven component.now }
-    requires policy { IsPolicy (component_in component.now) policy.now }
-    ensures sizes { IfOk result (λ allowed. AreChoices component.now.model.now allowed) }
-    ensures taken { IfOk result (λ allowed. TakesAll component.now.model.now (component_in component.now) policy.now allowed) }
-{
-    let mut allowed = Allowed::all(alloc, component.model)?;
-    for s in 0..component.count() {
-        allow_at(component, policy, &mut allowed, s);
-    }
-    Ok(allowed)
+/// The parts of a policy's chain, and which of them it leaves. A part that it doesn't leave is a closed class.
+#[derive(Drop)]
+struct Classes {
+    parts: Vec<u32>,
+    left: Marks,
 }
 
 /// Whether one of these states is in another part.
@@ -62,37 +31,6 @@ fn has_other(targets: &[u32], parts: &[u32], part: u32) -> bool
     ensures { result ≡ list_any (λ t. not (slice_index parts.now t == part)) targets.now }
 {
     targets.iter().any(|t| parts[*t as usize] != part)
-}
-
-/// Whether the policy leads from state `s` of the component to another part.
-fn leaves(component: &EndComponent<'_, '_>, policy: &[u32], parts: &[u32], s: u32) -> bool
-    requires given { IsGiven component.now }
-    requires policy { IsPolicy (component_in component.now) policy.now }
-    requires parts { length parts.now ≡ count (component_in component.now) }
-    requires state { s < count (component_in component.now) }
-    ensures { result ≡ leaves (component_in component.now) policy.now parts.now s }
-{
-    component.known();
-    let row = component.row(s, policy[s as usize]);
-    let other = has_other(row.targets, parts, parts[s as usize]);
-    component.holds(s) && other
-}
-
-/// For each state whether it leaves its part.
-fn leaving(
-    alloc: Global,
-    component: &EndComponent<'_, '_>,
-    policy: &[u32],
-    parts: &[u32],
-) -> Result<Vec<bool>, AllocError>
-    requires given { IsGiven component.now }
-    requires policy { IsPolicy (component_in component.now) policy.now }
-    requires parts { length parts.now ≡ count (component_in component.now) }
-    ensures { IfOk result (λ flags. flags.items ≡ map (leaves (component_in component.now) policy.now parts.now) (range_with_len 0 (count (component_in component.now)))) }
-{
-    (0..component.count())
-        .map(|s| leaves(component, policy, parts, s))
-        .collect(alloc)
 }
 
 /// Whether two choices differ.
@@ -131,153 +69,182 @@ fn flagged_parts(alloc: Global, flags: &[bool], parts: &[u32]) -> Result<Marks, 
     Ok(marks)
 }
 
-/// The parts of a policy's chain, and which of them it leaves. A part that it doesn't leave is a closed class.
-#[derive(Drop)]
-struct Classes {
-    parts: Vec<u32>,
-    left: Marks,
-}
-
-/// The parts of a policy's chain.
-fn find_classes(
-    alloc: Global,
-    component: &EndComponent<'_, '_>,
-    policy: &[u32],
-) -> Result<Classes, Memory>
-    requires given { IsGiven component.now }
-    requires policy { IsPolicy (component_in component.now) policy.now }
-    ensures { IfOk result (λ classes. AreClasses (component_in component.now) policy.now classes.parts.items classes.left) }
-{
-    component.known();
-    let allowed = policy_choices(alloc, component, policy)?;
-    let parts = components(alloc, component.model, &allowed)?;
-    let flags = leaving(alloc, component, policy, &parts)?;
-    let left = flagged_parts(alloc, &flags, &parts)?;
-    Ok(Classes { parts, left })
-}
-
-/// Whether state `s` is in a closed class.
-fn in_class(component: &EndComponent<'_, '_>, classes: &Classes, s: u32) -> bool
-    requires given { IsGiven component.now }
-    requires parts { length classes.now.parts.items ≡ count (component_in component.now) }
-    requires below { slice_index classes.now.parts.items s < count (component_in component.now) }
-    requires left { length classes.now.left ≡ count (component_in component.now) }
-    requires state { s < count (component_in component.now) }
-    ensures { result ≡ is_in_class (component_in component.now) classes.now.parts.items classes.now.left s }
-{
-    component.holds(s) && !classes.left.at(classes.parts[s as usize])
-}
-
-/// The least state of a closed class.
-fn least_in_class(component: &EndComponent<'_, '_>, classes: &Classes) -> Option<u32>
-    requires given { IsGiven component.now }
-    requires parts { length classes.now.parts.items ≡ count (component_in component.now) }
-    requires below { (s : ℕ) → s < count (component_in component.now) → slice_index classes.now.parts.items s < count (component_in component.now) }
-    requires left { length classes.now.left ≡ count (component_in component.now) }
-    ensures { result ≡ find (is_in_class (component_in component.now) classes.now.parts.items classes.now.left) (range_with_len 0 (count (component_in component.now))) }
-{
-    (0..component.count()).find(|s| in_class(component, classes, *s))
-}
-
-/// The reference of a policy with one closed class: the least state of this class.
-pub(crate) fn reference(
-    alloc: Global,
-    component: &EndComponent<'_, '_>,
-    policy: &[u32],
-) -> Result<u32, Memory>
-    requires given { IsGiven component.now }
-    requires policy { IsPolicy (component_in component.now) policy.now }
-    requires one { (t : ℕ) × AllLeadTo (is_state (component_in component.now)) (row_by (component_in component.now) policy.now) t }
-    ensures { IfOk result (λ t. IsReference (is_state (component_in component.now)) (row_by (component_in component.now) policy.now) t) }
-{
-    component.known();
-    let classes = find_classes(alloc, component, policy)?;
-    Ok(least_in_class(component, &classes).unwrap_or(0))
-}
-
-/// Whether state `s` of the component is in the part of state `t`.
-fn shares_part(component: &EndComponent<'_, '_>, parts: &[u32], t: u32, s: u32) -> bool
-    requires given { IsGiven component.now }
-    requires parts { length parts.now ≡ count (component_in component.now) }
-    requires target { t < count (component_in component.now) }
-    requires state { s < count (component_in component.now) }
-    ensures { result ≡ shares_part (component_in component.now) parts.now t s }
-{
-    component.holds(s) && parts[s as usize] == parts[t as usize]
-}
-
-/// The states of the component in the part of state `t`.
-fn class_of(
-    alloc: Global,
-    component: &EndComponent<'_, '_>,
-    parts: &[u32],
-    t: u32,
-) -> Result<Marks, AllocError>
-    requires given { IsGiven component.now }
-    requires parts { length parts.now ≡ count (component_in component.now) }
-    requires state { t < count (component_in component.now) }
-    ensures { IfOk result (λ class. class ≡ map (shares_part (component_in component.now) parts.now t) (range_with_len 0 (count (component_in component.now)))) }
-{
-    let mut class = Vec::new(alloc);
-    for s in 0..component.count() {
-        class.push(shares_part(component, parts, t, s))?;
+impl EndComponent<'_> {
+    /// Whether state `s` of the component is in the part of state `t`.
+    fn shares_part(&self, parts: &[u32], t: u32, s: u32) -> bool
+        requires parts { length parts.now ≡ count (component_in self.now) }
+        requires target { t < count (component_in self.now) }
+        requires state { s < count (component_in self.now) }
+        ensures { result ≡ shares_part (component_in self.now) parts.now t s }
+    {
+        self.holds(s) && parts[s as usize] == parts[t as usize]
     }
-    Ok(Marks::from_values(class))
+
+    /// The states of the component in the part of state `t`.
+    fn class_of(&self, alloc: Global, parts: &[u32], t: u32) -> Result<Marks, AllocError>
+        requires parts { length parts.now ≡ count (component_in self.now) }
+        requires state { t < count (component_in self.now) }
+        ensures { IfOk result (λ class. class ≡ map (shares_part (component_in self.now) parts.now t) (range_with_len 0 (count (component_in self.now)))) }
+    {
+        let mut class = Vec::new(alloc);
+        for s in 0..self.count() {
+            class.push(self.shares_part(parts, t, s))?;
+        }
+        Ok(Marks::from_values(class))
+    }
 }
 
-/// Whether state `s` is in a closed class with a changed state.
-fn in_changed_class(
-    component: &EndComponent<'_, '_>,
-    classes: &Classes,
-    changed: &Marks,
-    s: u32,
-) -> bool
-    requires given { IsGiven component.now }
-    requires parts { length classes.now.parts.items ≡ count (component_in component.now) }
-    requires below { slice_index classes.now.parts.items s < count (component_in component.now) }
-    requires left { length classes.now.left ≡ count (component_in component.now) }
-    requires changed { length changed.now ≡ count (component_in component.now) }
-    requires state { s < count (component_in component.now) }
-    ensures { result ≡ is_in_changed_class (component_in component.now) classes.now.parts.items classes.now.left changed.now s }
-{
-    let part = classes.parts[s as usize];
-    component.holds(s) && !classes.left.at(part) && changed.at(part)
+impl Chosen<'_> {
+    /// Whether choice `c` of state `s` is the policy's, at a state of the component.
+    fn takes(&self, s: u32, c: u32) -> bool
+        requires { s < count (component_in self.now.component) }
+        ensures { result ≡ takes (component_in self.now.component) self.now.policy.now s c }
+    {
+        self.component.holds(s) && c == self.policy[s as usize]
+    }
+
+    /// Allows the policy's choice of state `s`, where it is one of the component, and forbids its other choices.
+    fn allow_at(&self, allowed: &mut Allowed, s: u32)
+        requires state { s < states_of self.now.component.model.now }
+        requires sizes { AreChoices self.now.component.model.now allowed.old }
+        ensures { TakesAt self.now.component.model.now (component_in self.now.component) self.now.policy.now s allowed.old allowed.new }
+    {
+        for c in 0..self.component.model.choices(s) {
+            allowed.set(s, c, self.takes(s, c));
+        }
+    }
+
+    /// The policy's choices at the states of the component.
+    fn choices(&self, alloc: Global) -> Result<Allowed, Memory>
+        ensures sizes { IfOk result (λ allowed. AreChoices self.now.component.model.now allowed) }
+        ensures taken { IfOk result (λ allowed. TakesAll self.now.component.model.now (component_in self.now.component) self.now.policy.now allowed) }
+    {
+        let mut allowed = Allowed::all(alloc, self.component.model)?;
+        for s in 0..self.component.count() {
+            self.allow_at(&mut allowed, s);
+        }
+        Ok(allowed)
+    }
+
+    /// Whether the policy leads from state `s` of the component to another part.
+    fn leaves(&self, parts: &[u32], s: u32) -> bool
+        requires parts { length parts.now ≡ count (component_in self.now.component) }
+        requires state { s < count (component_in self.now.component) }
+        ensures { result ≡ leaves (component_in self.now.component) self.now.policy.now parts.now s }
+    {
+        let row = self.component.row(s, self.policy[s as usize]);
+        let other = has_other(row.targets, parts, parts[s as usize]);
+        self.component.holds(s) && other
+    }
+
+    /// For each state whether it leaves its part.
+    fn leaving(&self, alloc: Global, parts: &[u32]) -> Result<Vec<bool>, AllocError>
+        requires { length parts.now ≡ count (component_in self.now.component) }
+        ensures { IfOk result (λ flags. flags.items ≡ map (leaves (component_in self.now.component) self.now.policy.now parts.now) (range_with_len 0 (count (component_in self.now.component)))) }
+    {
+        let mut flags = Vec::new(alloc);
+        for s in 0..self.component.count() {
+            flags.push(self.leaves(parts, s))?;
+        }
+        Ok(flags)
+    }
+
+    /// For each number whether the policy leaves the part of this number.
+    fn left(&self, alloc: Global, parts: &[u32]) -> Result<Marks, Memory>
+        requires parts { length parts.now ≡ count (component_in self.now.component) }
+        requires below { All (λ k. k < length parts.now) parts.now }
+        ensures count { IfOk result (λ marks. length marks ≡ count (component_in self.now.component)) }
+        ensures left { IfOk result (λ marks. (k : ℕ) → k < count (component_in self.now.component) → marked marks k ≡ has_flag (map (leaves (component_in self.now.component) self.now.policy.now parts.now) (range_with_len 0 (count (component_in self.now.component)))) parts.now (count (component_in self.now.component)) k) }
+    {
+        let flags = self.leaving(alloc, parts)?;
+        flagged_parts(alloc, &flags, parts)
+    }
+
+    /// The parts of the policy's chain.
+    fn classes(&self, alloc: Global) -> Result<Classes, Memory>
+        requires given { AreEndsOf self.now.component.model.now self.now.component.ends.now }
+        ensures { IfOk result (λ classes. AreClasses (component_in self.now.component) self.now.policy.now classes.parts.items classes.left) }
+    {
+        let allowed = self.choices(alloc)?;
+        let parts = components(alloc, self.component.model, &allowed)?;
+        let left = self.left(alloc, &parts)?;
+        Ok(Classes { parts, left })
+    }
+
+    /// Whether state `s` is in a closed class.
+    fn in_class(&self, classes: &Classes, s: u32) -> bool
+        requires are { AreClasses (component_in self.now.component) self.now.policy.now classes.now.parts.items classes.now.left }
+        requires state { s < count (component_in self.now.component) }
+        ensures { result ≡ is_in_class (component_in self.now.component) classes.now.parts.items classes.now.left s }
+    {
+        self.component.holds(s) && !classes.left.at(classes.parts[s as usize])
+    }
+
+    /// The least state of a closed class.
+    fn least_in_class(&self, classes: &Classes) -> Option<u32>
+        requires { AreClasses (component_in self.now.component) self.now.policy.now classes.now.parts.items classes.now.left }
+        ensures { result ≡ find (is_in_class (component_in self.now.component) classes.now.parts.items classes.now.left) (range_with_len 0 (count (component_in self.now.component))) }
+    {
+        (0..self.component.count()).find(|s| self.in_class(classes, *s))
+    }
+
+    /// Whether state `s` is in a closed class with a changed state.
+    fn in_changed_class(&self, classes: &Classes, changed: &Marks, s: u32) -> bool
+        requires are { AreClasses (component_in self.now.component) self.now.policy.now classes.now.parts.items classes.now.left }
+        requires changed { length changed.now ≡ count (component_in self.now.component) }
+        requires state { s < count (component_in self.now.component) }
+        ensures { result ≡ is_in_changed_class (component_in self.now.component) classes.now.parts.items classes.now.left changed.now s }
+    {
+        self.in_class(classes, s) && changed.at(classes.parts[s as usize])
+    }
+
+    /// The least state of a closed class with a changed state.
+    fn least_changed(&self, classes: &Classes, changed: &Marks) -> Option<u32>
+        requires are { AreClasses (component_in self.now.component) self.now.policy.now classes.now.parts.items classes.now.left }
+        requires changed { length changed.now ≡ count (component_in self.now.component) }
+        ensures { result ≡ find (is_in_changed_class (component_in self.now.component) classes.now.parts.items classes.now.left changed.now) (range_with_len 0 (count (component_in self.now.component))) }
+    {
+        (0..self.component.count()).find(|s| self.in_changed_class(classes, changed, *s))
+    }
+
+    /// For each number whether the part of this number has a state where the policy differs from another one.
+    fn changed(&self, alloc: Global, classes: &Classes, policy: &[u32]) -> Result<Marks, Memory>
+        requires are { AreClasses (component_in self.now.component) self.now.policy.now classes.now.parts.items classes.now.left }
+        requires policy { IsPolicy (component_in self.now.component) policy.now }
+        ensures count { IfOk result (λ changed. length changed ≡ count (component_in self.now.component)) }
+        ensures changed { IfOk result (λ changed. (s : ℕ) → s < count (component_in self.now.component) → marked changed (slice_index classes.now.parts.items s) ≡ has_flag (map (differs policy.now self.now.policy.now) (range_with_len 0 (count (component_in self.now.component)))) classes.now.parts.items (count (component_in self.now.component)) (slice_index classes.now.parts.items s)) }
+    {
+        let flags = differing(alloc, policy, self.policy)?;
+        flagged_parts(alloc, &flags, &classes.parts)
+    }
+
+    /// Of the closed classes that hold a state where the policy differs from another one, the one with the least state.
+    pub(crate) fn picked(&self, alloc: Global, policy: &[u32]) -> Result<Option<Marks>, Memory>
+        requires given { AreEndsOf self.now.component.model.now self.now.component.ends.now }
+        requires policy { IsPolicy (component_in self.now.component) policy.now }
+        ensures { IfOk result (λ class. Picks (component_in self.now.component) policy.now self.now.policy.now class) }
+    {
+        let classes = self.classes(alloc)?;
+        let changed = self.changed(alloc, &classes, policy)?;
+        match self.least_changed(&classes, &changed) {
+            Some(t) => Ok(Some(self.component.class_of(alloc, &classes.parts, t)?)),
+            None => Ok(None),
+        }
+    }
 }
 
-/// The least state of a closed class with a changed state.
-fn least_changed(
-    component: &EndComponent<'_, '_>,
-    classes: &Classes,
-    changed: &Marks,
-) -> Option<u32>
-    requires given { IsGiven component.now }
-    requires parts { length classes.now.parts.items ≡ count (component_in component.now) }
-    requires below { (s : ℕ) → s < count (component_in component.now) → slice_index classes.now.parts.items s < count (component_in component.now) }
-    requires left { length classes.now.left ≡ count (component_in component.now) }
-    requires changed { length changed.now ≡ count (component_in component.now) }
-    ensures { result ≡ find (is_in_changed_class (component_in component.now) classes.now.parts.items classes.now.left changed.now) (range_with_len 0 (count (component_in component.now))) }
-{
-    (0..component.count()).find(|s| in_changed_class(component, classes, changed, *s))
-}
-
-/// Of the closed classes of the improved policy that hold a state where it differs from the policy, the one with the least state.
-pub(crate) fn picked(
-    alloc: Global,
-    component: &EndComponent<'_, '_>,
-    policy: &[u32],
-    improved: &[u32],
-) -> Result<Option<Marks>, Memory>
-    requires given { IsGiven component.now }
-    requires policy { IsPolicy (component_in component.now) policy.now }
-    requires improved { IsPolicy (component_in component.now) improved.now }
-    ensures { IfOk result (λ class. Picks (component_in component.now) policy.now improved.now class) }
-{
-    component.known();
-    let classes = find_classes(alloc, component, improved)?;
-    let flags = differing(alloc, policy, improved)?;
-    let changed = flagged_parts(alloc, &flags, &classes.parts)?;
-    match least_changed(component, &classes, &changed) {
-        Some(t) => Ok(Some(class_of(alloc, component, &classes.parts, t)?)),
-        None => Ok(None),
+impl EndComponent<'_> {
+    /// The reference of a policy with one closed class: the least state of this class.
+    pub(crate) fn reference(&self, alloc: Global, policy: &[u32]) -> Result<u32, Memory>
+        requires given { AreEndsOf self.now.model.now self.now.ends.now }
+        requires start { IsStart (component_in self.now) policy.now }
+        ensures { IfOk result (λ t. IsReference (is_state (component_in self.now)) (row_by (component_in self.now) policy.now) t) }
+    {
+        let chosen = Chosen {
+            component: *self,
+            policy,
+        };
+        let classes = chosen.classes(alloc)?;
+        Ok(chosen.least_in_class(&classes).unwrap_or(0))
     }
 }

@@ -1,18 +1,22 @@
 ghost use Rattle.std.specs.Prelude.{◌≡◌, ◌<◌, length, map, pos, IfOk};
 ghost use Rattle.std.specs.Result.{result_ok};
 ghost use Rattle.std.specs.List.{All};
+ghost use Rattle.mdp_parts.specs.FoundEnds.{AreEndsOf};
 ghost use Rattle.mdp_math.specs.Rational.{of_int, ◌+ℚ◌, ◌≤ℚ◌};
 ghost use Rattle.mdp_spec.specs.Mdp.{value_at};
 ghost use Rattle.mdp_wide.specs.declared.too_wide.Kind.TheVariants.{Evaluate};
 ghost use Rattle.mdp_unichain.specs.Chain.{AllLeadTo};
-ghost use Rattle.mdp_unichain.specs.Component.{count, is_state, row_by, IsPolicy};
+ghost use Rattle.mdp_unichain.specs.Component.{count, is_state, row_by};
 ghost use Rattle.mdp_unichain.specs.Evaluation.{active, mean};
 ghost use Rattle.mdp_unichain.specs.Sums.{written_ratio, written_bias};
-ghost use Rattle.mdp_unichain.specs.Written.{active_of, rewards_of, ones_of, written_columns, bias_of, written_bias_list, written_values};
-ghost use Rattle.mdp_gain.specs.Code.{IsGiven, component_in, values_in};
+ghost use Rattle.mdp_unichain.specs.Written.{active_of, rewards_of, ones_of, columns_of, written_columns, bias_of, written_bias_list, written_biases, written_values};
+ghost use Rattle.mdp_gain.specs.Code.{component_in, values_in};
 ghost use Rattle.mdp_policy_iteration.specs.Faults.{Answers};
 
+use crate::chosen::Chosen;
 use crate::component::EndComponent;
+use crate::referred::Referred;
+use crate::values::Values;
 use mdp_elim::{ElimError, solution_law, solve_leaving};
 use mdp_num::{Frac, Wide};
 use mdp_policy_iteration::{RoundError, at_node};
@@ -20,124 +24,59 @@ use mdp_rows::{Marks, PolicyRows};
 use mdp_wide::Kind;
 use std::alloc::{AllocError, Global};
 
-/// The gain and the biases of a policy: one bias for each state of the model, 0 outside the component.
-#[derive(Drop)]
-pub(crate) struct Values {
-    pub(crate) gain: Frac,
-    pub(crate) bias: Vec<Frac>,
-}
-
-/// Whether state `s` is one of the component, and not `t`.
-fn is_active(component: &EndComponent<'_, '_>, t: u32, s: u32) -> bool
-    requires given { IsGiven component.now }
-    requires state { s < count (component_in component.now) }
-    ensures { result ≡ active (is_state (component_in component.now)) t s }
-{
-    component.holds(s) && s != t
-}
-
-/// The states of the component but `t`.
-fn active_states(
-    alloc: Global,
-    component: &EndComponent<'_, '_>,
-    t: u32,
-) -> Result<Marks, AllocError>
-    requires given { IsGiven component.now }
-    ensures { IfOk result (λ marks. marks ≡ active_of (component_in component.now) t) }
-{
-    let mut marks = Vec::new(alloc);
-    for s in 0..component.count() {
-        marks.push(is_active(component, t, s))?;
+impl EndComponent<'_> {
+    /// Whether state `s` is one of the component, and not `t`.
+    fn is_active(&self, t: u32, s: u32) -> bool
+        requires { s < count (component_in self.now) }
+        ensures { result ≡ active (is_state (component_in self.now)) t s }
+    {
+        self.holds(s) && s != t
     }
-    Ok(Marks::from_values(marks))
-}
 
-/// What the policy earns at each state.
-fn rewards(
-    alloc: Global,
-    component: &EndComponent<'_, '_>,
-    policy: &[u32],
-) -> Result<Vec<Frac>, AllocError>
-    requires given { IsGiven component.now }
-    requires policy { IsPolicy (component_in component.now) policy.now }
-    ensures { IfOk result (λ rewards. rewards.items ≡ rewards_of (component_in component.now) policy.now) }
-{
-    component.known();
-    let mut rewards = Vec::new(alloc);
-    for s in 0..component.count() {
-        rewards.push(component.reward(s, policy[s as usize]))?;
+    /// The states of the component but `t`.
+    fn active_states(&self, alloc: Global, t: u32) -> Result<Marks, AllocError>
+        ensures { IfOk result (λ marks. marks ≡ active_of (component_in self.now) t) }
+    {
+        let mut marks = Vec::new(alloc);
+        for s in 0..self.count() {
+            marks.push(self.is_active(t, s))?;
+        }
+        Ok(Marks::from_values(marks))
     }
-    Ok(rewards)
-}
 
-/// One step at each state.
-fn steps(alloc: Global, component: &EndComponent<'_, '_>) -> Result<Vec<Frac>, AllocError>
-    requires given { IsGiven component.now }
-    ensures { IfOk result (λ ones. ones.items ≡ ones_of (component_in component.now)) }
-{
-    let mut ones = Vec::new(alloc);
-    for _s in 0..component.count() {
-        ones.push(Frac::whole(1))?;
-    }
-    Ok(ones)
-}
-
-/// What is earned from each state until `t`, and the number of steps.
-fn columns(
-    alloc: Global,
-    component: &EndComponent<'_, '_>,
-    policy: &[u32],
-    t: u32,
-) -> Result<Vec<Vec<Frac>>, RoundError>
-    requires given { IsGiven component.now }
-    requires policy { IsPolicy (component_in component.now) policy.now }
-    requires leads { AllLeadTo (is_state (component_in component.now)) (row_by (component_in component.now) policy.now) t }
-    ensures value { Answers (λ columns. map (λ x. x.items) columns.items) result (written_columns (component_in component.now) policy.now t) }
-    ensures count { IfOk result (λ columns. length columns.items ≡ 2) }
-    ensures lengths { IfOk result (λ columns. All (λ x. length x.items ≡ count (component_in component.now)) columns.items) }
-{
-    component.model.known();
-    let rows = PolicyRows {
-        model: component.model,
-        policy,
-    };
-    let active = active_states(alloc, component, t)?;
-    let mut columns = Vec::new(alloc);
-    columns.push(rewards(alloc, component, policy)?)?;
-    columns.push(steps(alloc, component)?)?;
-    match solve_leaving(alloc, &rows, &active, &columns) {
-        Ok(solutions) => Ok(solutions),
-        Err(ElimError::Wide { state }) => Err(RoundError::Wide {
-            kind: Kind::Evaluate,
-            node: state,
-            choice: policy[state as usize],
-        }),
-        Err(ElimError::Memory) => Err(RoundError::Memory),
+    /// One step at each state.
+    fn steps(&self, alloc: Global) -> Result<Vec<Frac>, AllocError>
+        ensures { IfOk result (λ ones. ones.items ≡ ones_of (component_in self.now)) }
+    {
+        let mut ones = Vec::new(alloc);
+        for _s in 0..self.count() {
+            ones.push(Frac::whole(1))?;
+        }
+        Ok(ones)
     }
 }
 
-/// What is earned on a way from `t` back to `t`, by the number of its steps.
-fn ratio(
-    component: &EndComponent<'_, '_>,
-    policy: &[u32],
-    t: u32,
-    x: &[Frac],
-    y: &[Frac],
-) -> Result<Frac, Wide>
-    requires given { IsGiven component.now }
-    requires policy { IsPolicy (component_in component.now) policy.now }
-    requires reference { t < count (component_in component.now) }
-    requires earned { length x.now ≡ count (component_in component.now) }
-    requires steps { length y.now ≡ count (component_in component.now) }
-    requires positive { of_int (pos 1) ≤ℚ of_int (pos 1) +ℚ mean (row_by (component_in component.now) policy.now t) (value_at y.now) }
-    ensures { result_ok result ≡ written_ratio (component_in component.now) policy.now t x.now y.now }
-{
-    component.known();
-    let choice = policy[t as usize];
-    let row = component.row(t, choice);
-    let earned = row.sum(&component.reward(t, choice), x)?;
-    let steps = row.sum(&Frac::whole(1), y)?;
-    earned.div(&steps)
+impl Chosen<'_> {
+    /// What the policy earns at each state.
+    fn rewards(&self, alloc: Global) -> Result<Vec<Frac>, AllocError>
+        ensures { IfOk result (λ rewards. rewards.items ≡ rewards_of (component_in self.now.component) self.now.policy.now) }
+    {
+        let mut rewards = Vec::new(alloc);
+        for s in 0..self.component.count() {
+            rewards.push(self.component.reward(s, self.policy[s as usize]))?;
+        }
+        Ok(rewards)
+    }
+}
+
+/// What is earned from each state until the reference, and the number of steps.
+#[derive(Clone, Copy)]
+struct Columns<'a> {
+    of: Referred<'a>,
+    earned: &'a [Frac],
+    steps: &'a [Frac],
+    ghost earned_each: { length earned.now ≡ count (component_in of.chosen.component) },
+    ghost steps_each: { length steps.now ≡ count (component_in of.chosen.component) },
 }
 
 /// What is earned, less the gain for each step.
@@ -148,71 +87,108 @@ fn bias(gain: &Frac, x: &Frac, y: &Frac) -> Result<Frac, Wide>
     x.sub(&paid)
 }
 
-/// The bias of state `s` to a gain: 0 at `t` and outside the component.
-fn bias_at(
-    component: &EndComponent<'_, '_>,
-    policy: &[u32],
-    t: u32,
-    gain: &Frac,
-    x: &[Frac],
-    y: &[Frac],
-    s: u32,
-) -> Result<Frac, RoundError>
-    requires given { IsGiven component.now }
-    requires policy { IsPolicy (component_in component.now) policy.now }
-    requires earned { length x.now ≡ count (component_in component.now) }
-    requires steps { length y.now ≡ count (component_in component.now) }
-    requires state { s < count (component_in component.now) }
-    ensures { Answers (λ bias. bias) result (bias_of (component_in component.now) policy.now t gain.now x.now y.now s) }
-{
-    if !is_active(component, t, s) {
-        return Ok(Frac::whole(0));
+impl Columns<'_> {
+    /// What is earned on a way from the reference back to it, by the number of its steps.
+    fn ratio(&self) -> Result<Frac, Wide>
+        requires { of_int (pos 1) ≤ℚ of_int (pos 1) +ℚ mean (row_by (component_in self.now.of.chosen.component) self.now.of.chosen.policy.now self.now.of.t) (value_at self.now.steps.now) }
+        ensures { result_ok result ≡ written_ratio (component_in self.now.of.chosen.component) self.now.of.chosen.policy.now self.now.of.t self.now.earned.now self.now.steps.now }
+    {
+        let t = self.of.t;
+        let choice = self.of.chosen.policy[t as usize];
+        let row = self.of.chosen.component.row(t, choice);
+        let reward = self.of.chosen.component.reward(t, choice);
+        let earned = row.sum(&reward, self.earned)?;
+        let steps = row.sum(&Frac::whole(1), self.steps)?;
+        earned.div(&steps)
     }
-    at_node(bias(gain, &x[s as usize], &y[s as usize]), policy, s)
+
+    /// The bias of state `s` to a gain: 0 at the reference and outside the component.
+    fn bias_at(&self, gain: &Frac, s: u32) -> Result<Frac, RoundError>
+        requires { s < count (component_in self.now.of.chosen.component) }
+        ensures { Answers (λ bias. bias) result (bias_of (component_in self.now.of.chosen.component) self.now.of.chosen.policy.now self.now.of.t gain.now self.now.earned.now self.now.steps.now s) }
+    {
+        if !self.of.chosen.component.is_active(self.of.t, s) {
+            return Ok(Frac::whole(0));
+        }
+        let bias = bias(gain, &self.earned[s as usize], &self.steps[s as usize]);
+        at_node(bias, self.of.chosen.policy, s)
+    }
+
+    /// The biases to a gain.
+    fn biases(&self, alloc: Global, gain: &Frac) -> Result<Vec<Frac>, RoundError>
+        ensures { Answers (λ biases. biases.items) result (written_bias_list (component_in self.now.of.chosen.component) self.now.of.chosen.policy.now self.now.of.t gain.now self.now.earned.now self.now.steps.now) }
+    {
+        let mut biases = Vec::new(alloc);
+        for s in 0..self.of.chosen.component.count() {
+            let bias = self.bias_at(gain, s)?;
+            biases.push(bias)?;
+        }
+        Ok(biases)
+    }
+
+    /// The gain and the biases.
+    fn values(&self, alloc: Global) -> Result<Values, RoundError>
+        requires { of_int (pos 1) ≤ℚ of_int (pos 1) +ℚ mean (row_by (component_in self.now.of.chosen.component) self.now.of.chosen.policy.now self.now.of.t) (value_at self.now.steps.now) }
+        ensures value { Answers values_in result (written_biases (component_in self.now.of.chosen.component) self.now.of.chosen.policy.now self.now.of.t self.now.earned.now self.now.steps.now) }
+        ensures count { IfOk result (λ values. length values.bias.items ≡ count (component_in self.now.of.chosen.component)) }
+    {
+        let gain = at_node(self.ratio(), self.of.chosen.policy, self.of.t)?;
+        let bias = self.biases(alloc, &gain)?;
+        Ok(Values { gain, bias })
+    }
 }
 
-/// The biases to a gain.
-fn biases(
-    alloc: Global,
-    component: &EndComponent<'_, '_>,
-    policy: &[u32],
-    t: u32,
-    gain: &Frac,
-    x: &[Frac],
-    y: &[Frac],
-) -> Result<Vec<Frac>, RoundError>
-    requires given { IsGiven component.now }
-    requires policy { IsPolicy (component_in component.now) policy.now }
-    requires earned { length x.now ≡ count (component_in component.now) }
-    requires steps { length y.now ≡ count (component_in component.now) }
-    ensures { Answers (λ biases. biases.items) result (written_bias_list (component_in component.now) policy.now t gain.now x.now y.now) }
-{
-    let mut biases = Vec::new(alloc);
-    for s in 0..component.count() {
-        let bias = bias_at(component, policy, t, gain, x, y, s)?;
-        biases.push(bias)?;
+impl Referred<'_> {
+    /// What the policy earns at each state, and one step there.
+    fn sides(&self, alloc: Global) -> Result<Vec<Vec<Frac>>, AllocError>
+        ensures columns { IfOk result (λ sides. map (λ x. x.items) sides.items ≡ columns_of (component_in self.now.chosen.component) self.now.chosen.policy.now) }
+        ensures count { IfOk result (λ sides. length sides.items ≡ 2) }
+    {
+        let mut sides = Vec::new(alloc);
+        sides.push(self.chosen.rewards(alloc)?)?;
+        sides.push(self.chosen.component.steps(alloc)?)?;
+        Ok(sides)
     }
-    Ok(biases)
-}
 
-/// The gain and the biases of a policy of which all states lead to `t`, or the first place at which a written term is past width.
-pub(crate) fn evaluate(
-    alloc: Global,
-    component: &EndComponent<'_, '_>,
-    policy: &[u32],
-    t: u32,
-) -> Result<Values, RoundError>
-    requires given { IsGiven component.now }
-    requires policy { IsPolicy (component_in component.now) policy.now }
-    requires leads { AllLeadTo (is_state (component_in component.now)) (row_by (component_in component.now) policy.now) t }
-    ensures value { Answers values_in result (written_values (component_in component.now) policy.now t) }
-    ensures count { IfOk result (λ values. length values.bias.items ≡ count (component_in component.now)) }
-{
-    component.known();
-    solution_law();
-    let columns = columns(alloc, component, policy, t)?;
-    let (x, y) = (&columns[0], &columns[1]);
-    let gain = at_node(ratio(component, policy, t, x, y), policy, t)?;
-    let bias = biases(alloc, component, policy, t, &gain, x, y)?;
-    Ok(Values { gain, bias })
+    /// What is earned from each state until the reference, and the number of steps.
+    fn columns(&self, alloc: Global) -> Result<Vec<Vec<Frac>>, RoundError>
+        requires given { AreEndsOf self.now.chosen.component.model.now self.now.chosen.component.ends.now }
+        requires leads { AllLeadTo (is_state (component_in self.now.chosen.component)) (row_by (component_in self.now.chosen.component) self.now.chosen.policy.now) self.now.t }
+        ensures value { Answers (λ columns. map (λ x. x.items) columns.items) result (written_columns (component_in self.now.chosen.component) self.now.chosen.policy.now self.now.t) }
+        ensures count { IfOk result (λ columns. length columns.items ≡ 2) }
+        ensures lengths { IfOk result (λ columns. All (λ x. length x.items ≡ count (component_in self.now.chosen.component)) columns.items) }
+    {
+        let rows = PolicyRows {
+            model: self.chosen.component.model,
+            policy: self.chosen.policy,
+        };
+        let active = self.chosen.component.active_states(alloc, self.t)?;
+        let sides = self.sides(alloc)?;
+        match solve_leaving(alloc, &rows, &active, &sides) {
+            Ok(solutions) => Ok(solutions),
+            Err(ElimError::Wide { state }) => Err(RoundError::Wide {
+                kind: Kind::Evaluate,
+                node: state,
+                choice: self.chosen.policy[state as usize],
+            }),
+            Err(ElimError::Memory) => Err(RoundError::Memory),
+        }
+    }
+
+    /// The gain and the biases of the policy, or the first place at which a written term is past width.
+    pub(crate) fn evaluate(&self, alloc: Global) -> Result<Values, RoundError>
+        requires given { AreEndsOf self.now.chosen.component.model.now self.now.chosen.component.ends.now }
+        requires leads { AllLeadTo (is_state (component_in self.now.chosen.component)) (row_by (component_in self.now.chosen.component) self.now.chosen.policy.now) self.now.t }
+        ensures value { Answers values_in result (written_values (component_in self.now.chosen.component) self.now.chosen.policy.now self.now.t) }
+        ensures count { IfOk result (λ values. length values.bias.items ≡ count (component_in self.now.chosen.component)) }
+    {
+        solution_law();
+        let found = self.columns(alloc)?;
+        let columns = Columns {
+            of: *self,
+            earned: &found[0],
+            steps: &found[1],
+        };
+        columns.values(alloc)
+    }
 }

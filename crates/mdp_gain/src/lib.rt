@@ -3,6 +3,7 @@
 
 mod access;
 mod best_policy;
+mod chosen;
 mod classes;
 mod comparison;
 mod component;
@@ -13,9 +14,12 @@ mod next_policy;
 mod only;
 mod only_path;
 mod only_round;
+mod only_state;
+mod referred;
 mod round;
 mod solve;
 mod start;
+mod values;
 
 pub use inner::Inner;
 pub use laws::{gain_law, improvement_law};

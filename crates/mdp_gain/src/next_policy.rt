@@ -1,11 +1,11 @@
 ghost use Rattle.std.specs.Prelude.{◌≡◌, ◌<◌, ◌^◌, length, slice_index, if◌then◌else◌, IfOk};
+ghost use Rattle.mdp_parts.specs.FoundEnds.{AreEndsOf};
 ghost use Rattle.mdp_graph.specs.Sets.{marked};
 ghost use Rattle.mdp_unichain.specs.Component.{count, IsPolicy};
 ghost use Rattle.mdp_unichain.specs.Next.{IsPicked, IsExactNext};
-ghost use Rattle.mdp_gain.specs.Code.{IsGiven, component_in, joined};
+ghost use Rattle.mdp_gain.specs.Code.{component_in, joined};
 
-use crate::classes::picked;
-use crate::component::EndComponent;
+use crate::chosen::Chosen;
 use mdp_num::Memory;
 use mdp_parts::toward;
 use mdp_rows::Marks;
@@ -45,46 +45,40 @@ fn joined(
     Ok(both)
 }
 
-/// The policy that keeps the improved choices on a closed class, and goes toward it from the other states of the component.
-fn toward_class(
-    alloc: Global,
-    component: &EndComponent<'_, '_>,
-    policy: &[u32],
-    improved: &[u32],
-    class: &Marks,
-) -> Result<Vec<u32>, Memory>
-    requires given { IsGiven component.now }
-    requires improved { IsPolicy (component_in component.now) improved.now }
-    requires picked { IsPicked (component_in component.now) policy.now improved.now (marked class.now) }
-    requires count { length class.now ≡ count (component_in component.now) }
-    ensures { IfOk result (λ next. IsExactNext (component_in component.now) policy.now improved.now next.items) }
-{
-    component.known();
-    let pass = toward(
-        alloc,
-        component.model,
-        component.ends,
-        component.number,
-        class,
-    )?;
-    Ok(joined(alloc, class, improved, &pass.choices)?)
-}
+impl Chosen<'_> {
+    /// The policy that keeps its choices on a closed class, which was picked for them against another policy, and goes toward it from the other states of
+    /// the component.
+    fn toward_class(&self, alloc: Global, policy: &[u32], class: &Marks) -> Result<Vec<u32>, Memory>
+        requires given { AreEndsOf self.now.component.model.now self.now.component.ends.now }
+        requires picked { IsPicked (component_in self.now.component) policy.now self.now.policy.now (marked class.now) }
+        requires count { length class.now ≡ count (component_in self.now.component) }
+        ensures { IfOk result (λ next. IsExactNext (component_in self.now.component) policy.now self.now.policy.now next.items) }
+    {
+        let component = &self.component;
+        let pass = toward(
+            alloc,
+            component.model,
+            component.ends,
+            component.number,
+            class,
+        )?;
+        Ok(joined(alloc, class, self.policy, &pass.choices)?)
+    }
 
-/// The next policy: the improved one where none of its closed classes holds a state where it differs; else one such class keeps its choices, and the
-/// other states go toward it.
-pub(crate) fn next_policy(
-    alloc: Global,
-    component: &EndComponent<'_, '_>,
-    policy: &[u32],
-    improved: Vec<u32>,
-) -> Result<Vec<u32>, Memory>
-    requires given { IsGiven component.now }
-    requires policy { IsPolicy (component_in component.now) policy.now }
-    requires improved { IsPolicy (component_in component.now) improved.items }
-    ensures { IfOk result (λ next. IsExactNext (component_in component.now) policy.now improved.items next.items) }
-{
-    match picked(alloc, component, policy, &improved)? {
-        Some(class) => toward_class(alloc, component, policy, &improved, &class),
-        None => Ok(improved),
+    /// The next policy: the improved one where none of its closed classes holds a state where it differs; else one such class keeps its choices, and the
+    /// other states go toward it.
+    pub(crate) fn next_policy(&self, alloc: Global, improved: Vec<u32>) -> Result<Vec<u32>, Memory>
+        requires given { AreEndsOf self.now.component.model.now self.now.component.ends.now }
+        requires improved { IsPolicy (component_in self.now.component) improved.items }
+        ensures { IfOk result (λ next. IsExactNext (component_in self.now.component) self.now.policy.now improved.items next.items) }
+    {
+        let better = Chosen {
+            component: self.component,
+            policy: &improved,
+        };
+        match better.picked(alloc, self.policy)? {
+            Some(class) => better.toward_class(alloc, self.policy, &class),
+            None => Ok(improved),
+        }
     }
 }

@@ -1,9 +1,10 @@
+ghost use Rattle.mdp_parts.specs.FoundEnds.{AreEndsOf};
 ghost use Rattle.mdp_unichain.specs.Component.{IsInner};
-ghost use Rattle.mdp_gain.specs.Code.{IsGiven, component_in};
-ghost use Rattle.mdp_gain.specs.Only.{IsOnly, IsErrorOf, Ends};
+ghost use Rattle.mdp_gain.specs.Code.{component_in};
+ghost use Rattle.mdp_gain.specs.Only.{IsErrorOf, Ends};
 
-use crate::component::EndComponent;
-use crate::only_round::{Settled, Turn, round_of};
+use crate::only_round::{Settled, Turn};
+use crate::only_state::Only;
 use mdp_elim::solution_law;
 use mdp_policy_iteration::{PathError, RoundError, WideAt};
 use std::alloc::Global;
@@ -32,30 +33,25 @@ fn path_error(alloc: Global, error: RoundError, round: u64, choice: u32) -> Path
     }
 }
 
-/// Policy iteration at the only state, from a choice.
-pub(crate) fn settle(
-    alloc: Global,
-    component: &EndComponent<'_, '_>,
-    s: u32,
-    start: u32,
-) -> Result<Settled, PathError>
-    requires given { IsGiven component.now }
-    requires only { IsOnly (component_in component.now) s }
-    requires start { IsInner (component_in component.now) s start }
-    ensures { Ends (component_in component.now) s start result }
-{
-    component.known();
-    solution_law();
-    let mut choice = start;
-    let mut round = 0u64;
-    'rounds: loop {
-        match round_of(component, s, choice) {
-            Ok(Turn::Done(settled)) => return Ok(settled),
-            Ok(Turn::Next(next)) => {
-                choice = next;
-                round = round.saturating_add(1);
+impl Only<'_> {
+    /// Policy iteration from a choice.
+    pub(crate) fn settle(&self, alloc: Global, start: u32) -> Result<Settled, PathError>
+        requires given { AreEndsOf self.now.component.model.now self.now.component.ends.now }
+        requires start { IsInner (component_in self.now.component) self.now.s start }
+        ensures { Ends (component_in self.now.component) self.now.s start result }
+    {
+        solution_law();
+        let mut choice = start;
+        let mut round = 0u64;
+        'rounds: loop {
+            match self.round(choice) {
+                Ok(Turn::Done(settled)) => return Ok(settled),
+                Ok(Turn::Next(next)) => {
+                    choice = next;
+                    round = round.saturating_add(1);
+                }
+                Err(error) => return Err(path_error(alloc, error, round, choice)),
             }
-            Err(error) => return Err(path_error(alloc, error, round, choice)),
         }
     }
 }

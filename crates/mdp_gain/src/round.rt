@@ -1,14 +1,13 @@
 ghost use Rattle.std.specs.Prelude.{ℕ, ◌≡◌, ◌≢◌, true, false};
+ghost use Rattle.mdp_parts.specs.FoundEnds.{AreEndsOf};
 ghost use Rattle.mdp_unichain.specs.Chain.{IsReference};
 ghost use Rattle.mdp_unichain.specs.Component.{is_state, row_by};
-ghost use Rattle.mdp_unichain.specs.Path.{IsStart};
-ghost use Rattle.mdp_gain.specs.Code.{IsGiven, component_in, Makes, HasBiases};
+ghost use Rattle.mdp_gain.specs.Code.{component_in, Makes, HasBiases};
 
-use crate::comparison::improved;
-use crate::component::EndComponent;
-use crate::evaluation::{Values, evaluate};
-use crate::next_policy::next_policy;
-use mdp_elim::solution_law;
+use crate::chosen::Chosen;
+use crate::comparison::Valued;
+use crate::referred::Referred;
+use crate::values::Values;
 use mdp_policy_iteration::RoundError;
 use std::alloc::Global;
 
@@ -29,25 +28,24 @@ fn is_same(policy: &[u32], other: &[u32]) -> bool
     policy == other
 }
 
-/// One round of a policy with reference `t`: its gain and biases, and the choices that improve it.
-pub(crate) fn round_of(
-    alloc: Global,
-    component: &EndComponent<'_, '_>,
-    policy: &[u32],
-    t: u32,
-) -> Result<RoundEnd, RoundError>
-    requires given { IsGiven component.now }
-    requires start { IsStart (component_in component.now) policy.now }
-    requires reference { IsReference (is_state (component_in component.now)) (row_by (component_in component.now) policy.now) t }
-    ensures made { (n : ℕ) → Makes (component_in component.now) n policy.now result }
-    ensures biases { HasBiases (component_in component.now) result }
-{
-    component.known();
-    solution_law();
-    let values = evaluate(alloc, component, policy, t)?;
-    let improved = improved(alloc, component, policy, &values)?;
-    if is_same(&improved, policy) {
-        return Ok(RoundEnd::Done(values, t));
+impl Chosen<'_> {
+    /// One round, where `t` is the policy's reference: its gain and biases, and the choices that improve it.
+    pub(crate) fn round(&self, alloc: Global, t: u32) -> Result<RoundEnd, RoundError>
+        requires given { AreEndsOf self.now.component.model.now self.now.component.ends.now }
+        requires reference { IsReference (is_state (component_in self.now.component)) (row_by (component_in self.now.component) self.now.policy.now) t }
+        ensures made { (n : ℕ) → Makes (component_in self.now.component) n self.now.policy.now result }
+        ensures biases { HasBiases (component_in self.now.component) result }
+    {
+        let referred = Referred { chosen: *self, t };
+        let values = referred.evaluate(alloc)?;
+        let valued = Valued {
+            chosen: *self,
+            values: &values,
+        };
+        let improved = valued.improved(alloc)?;
+        if is_same(&improved, self.policy) {
+            return Ok(RoundEnd::Done(values, t));
+        }
+        Ok(RoundEnd::Next(self.next_policy(alloc, improved)?))
     }
-    Ok(RoundEnd::Next(next_policy(alloc, component, policy, improved)?))
 }

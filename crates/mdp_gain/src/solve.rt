@@ -1,19 +1,20 @@
-ghost use Rattle.std.specs.Prelude.{◌≡◌, ◌<◌, true, length, map, filter, slice_index, IfOk};
+ghost use Rattle.std.specs.Prelude.{ℕ, ◌≡◌, ◌<◌, true, length, map, filter, List, slice_index, IfOk};
 ghost use Rattle.std.specs.List.{All, range_with_len};
 ghost use Rattle.mdp_spec.specs.Mdp.{value_at};
 ghost use Rattle.mdp_ends.specs.Ends.{count_of, in_part};
 ghost use Rattle.mdp_parts.specs.FoundEnds.{AreEndsOf};
 ghost use Rattle.mdp_policy_iteration.specs.Queries.{Solves};
 ghost use Rattle.mdp_unichain.specs.Component.{count, is_state};
-ghost use Rattle.mdp_gain.specs.Code.{IsGiven, component_in, values_in, FitsStates, AtStates, answer_at};
+ghost use Rattle.mdp_unichain.specs.Path.{IsFirst};
+ghost use Rattle.mdp_gain.specs.Code as code;
+ghost use Rattle.mdp_gain.specs.Code.{component_in, values_in, HasEntries, FitsStates, AtStates, answer_at};
 ghost use Rattle.mdp_gain.specs.Query.{plain, EndsSo};
 ghost use Rattle.mdp_gain.specs.Best.{IsBestInner};
 
-use crate::best_policy::{Found, improve};
+use crate::best_policy::Found;
 use crate::component::EndComponent;
 use crate::inner::Inner;
-use crate::only::{is_only, solve_only};
-use crate::start::start_of;
+use crate::only_state::Only;
 use mdp_elim::solution_law;
 use mdp_num::Frac;
 use mdp_parts::Ends;
@@ -21,16 +22,6 @@ use mdp_policy_iteration::{PathError, WideAt};
 use mdp_rows::{Dir, Model};
 use mdp_wide::{Part, SolveError};
 use std::alloc::{AllocError, Global};
-
-/// The states of the component, ascending.
-fn states_in(alloc: Global, component: &EndComponent<'_, '_>) -> Result<Vec<u32>, AllocError>
-    requires given { IsGiven component.now }
-    ensures { IfOk result (λ states. states.items ≡ filter (is_state (component_in component.now)) (range_with_len 0 (count (component_in component.now)))) }
-{
-    (0..component.count())
-        .filter(|s| component.holds(*s))
-        .collect(alloc)
-}
 
 /// The choices of these states.
 fn choices_at(alloc: Global, states: &[u32], policy: &[u32]) -> Result<Vec<u32>, AllocError>
@@ -90,6 +81,39 @@ fn at_states(alloc: Global, states: &[u32], error: PathError) -> PathError
     }
 }
 
+impl EndComponent<'_> {
+    /// The states of the component, ascending.
+    fn states(&self, alloc: Global) -> Result<Vec<u32>, AllocError>
+        ensures { IfOk result (λ states. states.items ≡ filter (is_state (component_in self.now)) (range_with_len 0 (count (component_in self.now)))) }
+    {
+        (0..self.count()).filter(|s| self.holds(*s)).collect(alloc)
+    }
+
+    /// The end of the path as that of the query.
+    fn outcome(&self, alloc: Global, end: Result<Found, PathError>) -> Result<Inner, SolveError>
+        requires given { AreEndsOf self.now.model.now self.now.ends.now }
+        requires path { (start : List ℕ) × IsFirst (component_in self.now) start × code.Ends (component_in self.now) start end }
+        requires entries { HasEntries (component_in self.now) end }
+        ensures { Solves plain (EndsSo self.now.dir self.now.model.now self.now.ends.now.parts self.now.number self.now.name) result }
+    {
+        let states = self.states(alloc)?;
+        match end {
+            Ok(found) => Ok(inner_of(alloc, states, &found)?),
+            Err(error) => Err(at_states(alloc, &states, error).in_part(Part::Inner(self.number))),
+        }
+    }
+
+    /// The best gain, by policy iteration.
+    fn solve(&self, alloc: Global) -> Result<Inner, SolveError>
+        requires given { AreEndsOf self.now.model.now self.now.ends.now }
+        ensures { Solves plain (EndsSo self.now.dir self.now.model.now self.now.ends.now.parts self.now.number self.now.name) result }
+    {
+        let start = self.start(alloc)?;
+        let end = self.improve(alloc, start);
+        self.outcome(alloc, end)
+    }
+}
+
 /// The greatest or the least gain of end component `i`, under the reward name of place `m`, by policy iteration (Howard 1960): the component's states,
 /// the gain, a bias, and a policy with one closed class. `TooWide` is the first written term past width; its policy lists the component's states,
 /// ascending. A round takes time in proportion to the model's states and entries, and that of one elimination over the component's states.
@@ -107,6 +131,7 @@ pub fn solve_inner(
     ensures path { Solves plain (EndsSo dir model.now ends.now.parts i m) result }
     ensures best { IfOk result (λ found. IsBestInner dir model.now ends.now.parts i m (plain found)) }
 {
+    model.known();
     solution_law();
     let component = EndComponent {
         dir,
@@ -115,13 +140,7 @@ pub fn solve_inner(
         number: i,
         name: m,
     };
-    component.known();
-    let start = start_of(alloc, &component)?;
-    let states = states_in(alloc, &component)?;
-    match improve(alloc, &component, start) {
-        Ok(found) => Ok(inner_of(alloc, states, &found)?),
-        Err(error) => Err(at_states(alloc, &states, error).in_part(Part::Inner(i))),
-    }
+    component.solve(alloc)
 }
 
 /// The same of the end component that holds state `s`. Where `s` is its only state, that takes time in proportion to the choices and entries of `s`.
@@ -141,6 +160,8 @@ pub fn solve_inner_of(
     ensures path { Solves plain (EndsSo dir model.now ends.now.parts i m) result }
     ensures best { IfOk result (λ found. IsBestInner dir model.now ends.now.parts i m (plain found)) }
 {
+    model.known();
+    solution_law();
     let component = EndComponent {
         dir,
         model,
@@ -148,9 +169,9 @@ pub fn solve_inner_of(
         number: i,
         name: m,
     };
-    component.known();
-    if is_only(&component, s) {
-        return solve_only(alloc, &component, s);
+    if component.is_only(s) {
+        let only = Only { component, s };
+        return only.solve(alloc);
     }
     solve_inner(alloc, model, ends, i, m, dir)
 }

@@ -7,7 +7,7 @@ use Rattle.mdp_gain.proofs.component.EndComponent.holds.Goals as goal
 
 pub of-requires : goal.of-requires
 of-requires c =
-    let n = parts-len c.args.self.now c.requires.given in
+    let n = parts-len c.args.self.now in
     let l = state-below c.args.self.now c.args.s c.requires.state in
     omega arith
 
@@ -15,4 +15,4 @@ pub returns : goal.returns
 returns c =
     c.eq.ensures ∙ ap (λ (o : Option ℕ). option_eq eqb o (Some c.args.self.now.number)) c.of.ensures
     ∙ number-eq c.args.self.now.number (part_of c.args.self.now.ends.now.parts c.args.s)
-    ∙ sym (member-is c.args.self.now c.requires.given c.known.ensures.mdp c.args.s)
+    ∙ sym (member-is c.args.self.now c.args.s)

@@ -1,8 +1,0 @@
-use Rattle.std.proofs.Common.{◌≡◌, map}
-use Rattle.std.specs.List.{range_with_len}
-use Rattle.mdp_unichain.specs.Classes.{shares_part}
-use Rattle.mdp_gain.specs.Code.{component_in}
-use Rattle.mdp_gain.proofs.classes.class_of.Given as goal
-
-abbrev pub invariant-loop-s : goal.invariant-loop-s
-invariant-loop-s l = l.class.items ≡ map (shares_part (component_in l.component) l.parts l.t) (range_with_len 0 l.s)

@@ -1,7 +1,0 @@
-use Rattle.std.proofs.Common.{◌≡◌, Ok}
-use Rattle.mdp_unichain.specs.Written.{best_of}
-use Rattle.mdp_gain.specs.Code.{component_in}
-use Rattle.mdp_gain.proofs.comparison.choice_over.Given as goal
-
-abbrev pub invariant-loop-c : goal.invariant-loop-c
-invariant-loop-c l = best_of (component_in l.component) l.values.bias.items l.s l.fn.present l.c ≡ Ok (record { value = l.best.value; choice = l.best.choice })

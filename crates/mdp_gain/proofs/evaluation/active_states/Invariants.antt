@@ -1,9 +1,0 @@
-use Rattle.std.proofs.Common.{◌≡◌, map}
-use Rattle.std.specs.List.{range_with_len}
-use Rattle.mdp_unichain.specs.Component.{is_state}
-use Rattle.mdp_unichain.specs.Evaluation.{active}
-use Rattle.mdp_gain.specs.Code.{component_in}
-use Rattle.mdp_gain.proofs.evaluation.active_states.Given as goal
-
-abbrev pub invariant-loop-s : goal.invariant-loop-s
-invariant-loop-s l = l.marks.items ≡ map (active (is_state (component_in l.component)) l.t) (range_with_len 0 l.s)

@@ -1,0 +1,38 @@
+use Rattle.std.proofs.Common.{◌∙◌, Ok, Err, map, ap, arith, rules}
+use Rattle.mdp_elim.specs.System.{IsSolution}
+use Rattle.mdp_gain.proofs.Given.{model-policy}
+use Rattle.mdp_gain.proofs.Columns.{sides_long, each_long, rows-count, leave, solution-told}
+use Rattle.mdp_gain.proofs.referred.Referred.columns.Goals as goal
+
+pub invariant_of-rows : goal.invariant_of-rows
+invariant_of-rows c = record { chosen = model-policy c.args.self.now.chosen }
+
+pub solve_leaving-requires-clause-leaves : goal.solve_leaving-requires-clause-leaves
+solve_leaving-requires-clause-leaves c = leave c.args.self.now c.requires.given c.requires.leads c.in_ok-active.active (c.in_ok-active.ensures {u = tt})
+
+pub solve_leaving-requires-clause-columns : goal.solve_leaving-requires-clause-columns
+solve_leaving-requires-clause-columns c =
+    sides_long c.args.self.now (λ x. x.items) c.deref.result.now (ap (map (λ x. x.items)) c.deref.ensures.value ∙ (c.in_ok-sides.ensures {u = tt}).columns)
+
+pub returns-in-Ok-clause-value : goal.returns-in-Ok-clause-value
+returns-in-Ok-clause-value c =
+    solution-told c.args.self.now c.requires.given c.requires.leads c.in_ok-active.active (c.in_ok-active.ensures {u = tt}) (map (λ x. x.items) c.deref.result.now)
+    (ap (map (λ x. x.items)) c.deref.ensures.value ∙ (c.in_ok-sides.ensures {u = tt}).columns) (Ok (map (λ x. x.items) c.in-Ok.solutions.items)) (c.in-Ok.ensures {u = tt}).value
+
+pub returns-in-Ok-clause-lengths : goal.returns-in-Ok-clause-lengths
+returns-in-Ok-clause-lengths c =
+    let n = rows-count c.args.self.now in
+    let each = (c.in-Ok.ensures {u = tt}).solves in
+    each_long (λ x. x.items) c.in-Ok.solutions.items _ (λ k l. IsSolution.len (each.1 k (omega (arith, l, each.0))) ∙ n)
+
+pub bounds-self-state : goal.bounds-self-state
+bounds-self-state c =
+    let n = rows-count c.args.self.now in
+    let l = ((c.in-Err-Wide.ensures {u = tt}).place c.in-Err-Wide.state (search rules)).0 in
+    let m = c.args.self.now.chosen.is.len in
+    omega (arith, n, l, m)
+
+pub returns-in-Err-Wide-clause-value : goal.returns-in-Err-Wide-clause-value
+returns-in-Err-Wide-clause-value c =
+    solution-told c.args.self.now c.requires.given c.requires.leads c.in_ok-active.active (c.in_ok-active.ensures {u = tt}) (map (λ x. x.items) c.deref.result.now)
+    (ap (map (λ x. x.items)) c.deref.ensures.value ∙ (c.in_ok-sides.ensures {u = tt}).columns) (Err c.in-Err-Wide.state) ((c.in-Err-Wide.ensures {u = tt}).wide c.in-Err-Wide.state (search rules))
