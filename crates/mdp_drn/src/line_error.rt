@@ -17,7 +17,7 @@ impl LineError {
         ensures { result ≡ error_at line self }
     {
         match self {
-            LineError::Kind(kind) => kind.at(line),
+            LineError::Kind(kind) => DrnError::At { line, kind },
             LineError::Memory => DrnError::Memory,
         }
     }
