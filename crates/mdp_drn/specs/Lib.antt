@@ -15,5 +15,6 @@ pub mod Outcome
 pub mod Parsing
 pub mod Pieces
 pub mod Reading
+pub mod Ending
 pub mod Values
 pub mod Writing

@@ -34,38 +34,14 @@ impl Body {
         ensures { result ≡ error_of (view self.now) line error }
     {
         match error {
-            RowsError::RowSum { .. } => DrnError::At {
-                line: self.action_line,
-                kind: DrnKind::RowSum,
-            },
-            RowsError::RowWide { .. } => DrnError::At {
-                line: self.action_line,
-                kind: DrnKind::RowWide,
-            },
-            RowsError::NoChoice { .. } => DrnError::At {
-                line: self.state_line,
-                kind: DrnKind::NoChoice,
-            },
-            RowsError::Twice => DrnError::At {
-                line,
-                kind: DrnKind::Twice,
-            },
-            RowsError::TooMany => DrnError::At {
-                line,
-                kind: DrnKind::TooMany,
-            },
-            RowsError::Target => DrnError::At {
-                line,
-                kind: DrnKind::Target,
-            },
-            RowsError::Large => DrnError::At {
-                line,
-                kind: DrnKind::Large,
-            },
-            RowsError::Count => DrnError::At {
-                line,
-                kind: DrnKind::Count,
-            },
+            RowsError::RowSum { .. } => DrnKind::RowSum.at(self.action_line),
+            RowsError::RowWide { .. } => DrnKind::RowWide.at(self.action_line),
+            RowsError::NoChoice { .. } => DrnKind::NoChoice.at(self.state_line),
+            RowsError::Twice => DrnKind::Twice.at(line),
+            RowsError::TooMany => DrnKind::TooMany.at(line),
+            RowsError::Target => DrnKind::Target.at(line),
+            RowsError::Large => DrnKind::Large.at(line),
+            RowsError::Count => DrnKind::Count.at(line),
             RowsError::Memory => DrnError::Memory,
         }
     }

@@ -3,6 +3,7 @@ ghost use Rattle.mdp_drn.specs.Header.{names_or_one, or_else};
 ghost use Rattle.mdp_drn.specs.Header as header_spec;
 ghost use Rattle.mdp_drn.specs.HeaderView as header_view;
 ghost use Rattle.mdp_drn.specs.BodyView.{IsOneLine};
+ghost use Rattle.mdp_drn.specs.Ending.{ended};
 ghost use Rattle.mdp_drn.specs.Lines.{is_comment};
 ghost use Rattle.mdp_drn.specs.Labels.{begins_blank};
 ghost use Rattle.mdp_drn.specs.Reading.{named, at_line, at_end, begun, nothing_read, kept_line};
@@ -168,9 +169,22 @@ impl Document {
         Ok(())
     }
 
+    /// Judges a last line without a line feed, unless it is empty, and then the end.
+    pub(crate) fn end(self, alloc: Global, tail: &[u8]) -> Result<Model, DrnError>
+        requires part { IsPart self.part }
+        requires plain { IsOneLine tail.now }
+        ensures { Gives (λ model said. model ≡ said) result (ended self.rule (document_in self) tail.now) }
+    {
+        let mut document = self;
+        if !tail.is_empty() {
+            document.take_line(alloc, tail)?;
+        }
+        document.finish()
+    }
+
     /// Judges the end.
     #[tactic(auto, unfolding(crate::specs::Reading::at_end))]
-    pub(crate) fn finish(self) -> Result<Model, DrnError>
+    fn finish(self) -> Result<Model, DrnError>
         requires { IsPart self.part }
         ensures { Gives (λ model said. model ≡ said) result (at_end (document_in self)) }
     {

@@ -51,6 +51,13 @@ pub enum DrnKind {
 }
 
 impl DrnKind {
+    /// The refusal of this kind at a line.
+    pub(crate) fn at(self, line: u64) -> DrnError
+        ensures { result ≡ DrnError.At line self }
+    {
+        DrnError::At { line, kind: self }
+    }
+
     /// The word that names the kind in a refusal.
     #[tactic(auto, unfolding(crate::specs::Kinds::drn_word))]
     pub fn word(self) -> &'static str

@@ -137,16 +137,13 @@ impl Feed {
     {
         let Feed {
             alloc,
-            mut document,
+            document,
             tail,
             refused,
         } = self;
-        if let Some(refused) = refused {
-            return Err(refused);
+        match refused {
+            Some(refused) => Err(refused),
+            None => document.end(alloc, &tail),
         }
-        if !tail.is_empty() {
-            document.take_line(alloc, &tail)?;
-        }
-        document.finish()
     }
 }

@@ -1,6 +1,6 @@
 -- What the steps of a feed leave.
 use Rattle.std.proofs.Common.{◌≡◌, ℕ, ◌+◌, ◌-◌, ◌<◌, ◌≤◌, Bool, true, false, cond, ltb, List, [], ◌∷◌}
-use Rattle.std.proofs.Common.{◌++◌, length, Option, Some, None, Result, Ok, is_some, refl, sym, ap, subst, ◌∙◌, arith}
+use Rattle.std.proofs.Common.{◌++◌, length, Option, Some, None, Result, Ok, is_some, sym, ap, subst, ◌∙◌, arith}
 use Rattle.std.specs.Prelude.{IfSome}
 use Rattle.std.specs.List.{All}
 use Rattle.std.proofs.lemmas.List.{length-append}
@@ -13,6 +13,7 @@ use Rattle.mdp_drn.specs.Lines.{is_line_feed}
 use Rattle.mdp_drn.specs.Outcome.{◌>>=◌, Refusal}
 use Rattle.mdp_drn.specs.Reading.{Document}
 use Rattle.mdp_drn.specs.Reading.{named, longest_line, at_line, at_end, outcome}
+use Rattle.mdp_drn.specs.Ending.{ended}
 use Rattle.mdp_drn.specs.Feeding.{Refusing, Reading, stand_from, stand_of, stand_with, Fails}
 use Rattle.mdp_drn.proofs.PiecesFed.StandGrows.{stand-tail, stand-closed, stand-whole, end-reading, end-refusing, keeps}
 
@@ -79,23 +80,19 @@ module _ (rule : RowRule) (d : Document) (tail : List ℕ) where
       by error.Memory h = tt
       by (error.At line kind) h = end-refusing rule xs (record { kind = kind; line = line }) h
 
-  abbrev pub IsNone : Option DrnError → Type 0
-  IsNone o = (e : DrnError) → o ≡ Some e → ⊥
+  pub end-standing : (refused : Option DrnError) (xs : List ℕ) → refused ≡ None → Stood refused xs → outcome rule xs ≡ ended rule d tail
+  end-standing refused xs none at = end-reading rule xs d tail (subst (λ (r : Option DrnError). Stood r xs) none at)
 
-  standing : (refused : Option DrnError) (xs : List ℕ) → IsNone refused → Stood refused xs → Reading d tail ≡ stand_of rule xs
-  standing None xs none at = at
-  standing (Some e) xs none at = absurd (none e refl)
-
-  pub end-line : (refused : Option DrnError) (xs : List ℕ) → IsNone refused → Stood refused xs → 0 < length tail → outcome rule xs ≡ (at_line rule d tail >>= at_end)
-  end-line refused xs none at some =
+  pub ended-line : 0 < length tail → ended rule d tail ≡ (at_line rule d tail >>= at_end)
+  ended-line some =
       let test : ltb 0 (length tail) ≡ true = grind (arith, nat_tests) in
-      end-reading rule xs d tail (standing refused xs none at) ∙ ap (λ (b : Bool). cond b (at_line rule d tail) (Ok d) >>= at_end) test
+      ap (λ (b : Bool). cond b (at_line rule d tail) (Ok d) >>= at_end) test
 
-  pub end-bare : (refused : Option DrnError) (xs : List ℕ) → IsNone refused → Stood refused xs → length tail ≡ 0 → outcome rule xs ≡ at_end d
-  end-bare refused xs none at empty =
+  pub ended-bare : length tail ≡ 0 → ended rule d tail ≡ at_end d
+  ended-bare empty =
       let test : ltb 0 (length tail) ≡ false = grind (arith, nat_tests) in
-      end-reading rule xs d tail (standing refused xs none at) ∙ ap (λ (b : Bool). cond b (at_line rule d tail) (Ok d) >>= at_end) test
+      ap (λ (b : Bool). cond b (at_line rule d tail) (Ok d) >>= at_end) test
 
-  pub fails-line : (refused : Option DrnError) (xs : List ℕ) (e : DrnError) → IsNone refused → Stood refused xs → 0 < length tail → Fails e (at_line rule d tail) → Fails e (outcome rule xs)
-  fails-line refused xs error.Memory none at some said = tt
-  fails-line refused xs (error.At line kind) none at some said = end-line refused xs none at some ∙ ap (λ (r : Result Document Refusal). r >>= at_end) said
+  pub ended-fails : (e : DrnError) → 0 < length tail → Fails e (at_line rule d tail) → Fails e (ended rule d tail)
+  ended-fails error.Memory some said = tt
+  ended-fails (error.At line kind) some said = ended-line some ∙ ap (λ (r : Result Document Refusal). r >>= at_end) said
