@@ -1,34 +1,17 @@
-use Rattle.std.proofs.Common.{◌∙◌, ◌<◌, ℕ, List, sym, ap, subst, length}
-use Rattle.std.specs.List.{All}
+use Rattle.std.proofs.Common.{◌∙◌, List, ap, subst, length}
 use Rattle.mdp_math.specs.Rational.{ℚ}
 use Rattle.mdp_policy_iteration.specs.Problem.{count}
-use Rattle.mdp_policy_iteration.specs.Changes.{Ascend, spread}
+use Rattle.mdp_policy_iteration.specs.Changes.{spread}
 use Rattle.mdp_policy_iteration.specs.Faults.{Answers}
 use Rattle.mdp_policy_iteration.specs.Path.{improvements}
-use Rattle.mdp_policy_iteration.specs.Evaluated.{IsEvaluated, CanServe}
-use Rattle.mdp_policy_iteration.specs.Scope.{Scope}
+use Rattle.mdp_policy_iteration.specs.Evaluated.{IsEvaluated}
 use Rattle.mdp_policy_iteration.proofs.RoundFacts.{values-len, makes_answer}
 use Rattle.mdp_policy_iteration.proofs.round.round_of.Goals as goal
-
-pub evaluate-requires-clause-in_range : goal.evaluate-requires-clause-in_range
-evaluate-requires-clause-in_range g c = subst (λ (xs : List ℕ). All (λ s. s < count (g.P.ShortestPath.problem c.args.problem.now)) xs) (sym (c.deref.ensures.value ∙ ap Scope.affected c.scope.view_is)) c.requires.affected_below
-
-pub evaluate-requires-clause-ascend : goal.evaluate-requires-clause-ascend
-evaluate-requires-clause-ascend g c = subst Ascend (sym (c.deref.ensures.value ∙ ap Scope.affected c.scope.view_is)) c.requires.affected_ascend
-
-pub evaluate-requires-clause-others : goal.evaluate-requires-clause-others
-evaluate-requires-clause-others g c = subst (λ (xs : List ℕ). CanServe (g.P.ShortestPath.problem c.args.problem.now) xs c.args.policy.now c.args.evaluation.now) (sym (c.deref.ensures.value ∙ ap Scope.affected c.scope.view_is)) c.requires.serves
 
 pub improvements-requires-clause-values : goal.improvements-requires-clause-values
 improvements-requires-clause-values g c =
     let p = g.P.ShortestPath.problem c.args.problem.now in
     ap length c.values.ensures ∙ values-len p c.args.policy.now c.evaluate.new.self.values (IsEvaluated.written (c.in_ok-evaluate.ensures {u = tt}).evaluated)
-
-pub improvements-requires-clause-in_range : goal.improvements-requires-clause-in_range
-improvements-requires-clause-in_range g c = subst (λ (xs : List ℕ). All (λ s. s < count (g.P.ShortestPath.problem c.args.problem.now)) xs) (sym (c.deref-2.ensures.value ∙ ap Scope.compared c.scope.view_is)) c.requires.compared_below
-
-pub improvements-requires-clause-ascend : goal.improvements-requires-clause-ascend
-improvements-requires-clause-ascend g c = subst Ascend (sym (c.deref-2.ensures.value ∙ ap Scope.compared c.scope.view_is)) c.requires.compared_ascend
 
 pub returns-clause-step : goal.returns-clause-step
 returns-clause-step g c = λ n.

@@ -8,11 +8,8 @@ use Rattle.mdp_policy_iteration.specs.Problem.{count}
 use Rattle.mdp_policy_iteration.specs.Path.{evaluating, fits}
 use Rattle.mdp_policy_iteration.specs.Evaluated.{Evaluation, equations_of}
 use Rattle.mdp_policy_iteration.proofs.Results.{all_pass-at}
-use Rattle.mdp_policy_iteration.proofs.EvaluatedAgain.{written_back, kept-len, filled-elsewhere, others-fit, others-marked, others-stop, others-constant, others-filled, serves-elimination}
+use Rattle.mdp_policy_iteration.proofs.EvaluatedAgain.{written_back, kept-len, filled-elsewhere, others-marked, others-stop, others-constant, others-filled, serves-elimination}
 use Rattle.mdp_policy_iteration.proofs.evaluation.Evaluation.evaluate.Goals as goal
-
-pub check_rows_at-requires-clause-others : goal.check_rows_at-requires-clause-others
-check_rows_at-requires-clause-others g c = others-fit (g.P.ShortestPath.problem c.args.problem.now) c.args.nodes.now c.args.policy.now c.args.self.now c.requires.others
 
 pub mark_active-requires-clause-others : goal.mark_active-requires-clause-others
 mark_active-requires-clause-others g c = λ s l out.
