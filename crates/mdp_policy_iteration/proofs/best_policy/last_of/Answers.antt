@@ -1,19 +1,17 @@
 use Rattle.std.proofs.Common.{◌≡◌, ◌∙◌, ◌<◌, ℕ, List, Ok, Err, refl, sym, ap, subst, inl, true≢false, arith, rules}
 use Rattle.std.specs.List.{All, range_with_len}
 use Rattle.mdp_rows.specs.Preds.{is_among}
-use Rattle.mdp_policy_iteration.specs.Problem.{IsPolicy, count}
+use Rattle.mdp_policy_iteration.specs.Problem.{count}
 use Rattle.mdp_policy_iteration.specs.Iteration.{Step, done}
 use Rattle.mdp_policy_iteration.specs.Path.{Round, Found, Refusal, path_step}
 use Rattle.mdp_policy_iteration.specs.Laws.{first}
-use Rattle.mdp_policy_iteration.specs.Values.{CanLeave}
 use Rattle.mdp_policy_iteration.specs.Changes.{Ascend}
-use Rattle.mdp_policy_iteration.specs.Evaluated.{IsEvaluated}
 use Rattle.mdp_policy_iteration.specs.Ends.{IsRefused}
 use Rattle.mdp_policy_iteration.specs.Errors.{PathError}
 use Rattle.mdp_policy_iteration.proofs.AllNodes.{all-below, all-ascend, all-among}
 use Rattle.mdp_policy_iteration.proofs.Ending.{start-keeps, done-best}
 use Rattle.mdp_policy_iteration.proofs.Iterations.{ends-done}
-use Rattle.mdp_policy_iteration.proofs.Rounds.{is_none, is_some}
+use Rattle.mdp_policy_iteration.proofs.Rounds.{is_none}
 use Rattle.mdp_policy_iteration.proofs.Walking.{done_at, ends_by}
 use Rattle.mdp_policy_iteration.proofs.best_policy.last_of.Given.{Over}
 use Rattle.mdp_policy_iteration.proofs.best_policy.last_of.Goals.{After-drop-loops-in-Ok-2}
@@ -51,28 +49,6 @@ round_of-requires-clause-others g c = λ x agree s l out.
     let p = g.P.ShortestPath.problem c.args.problem.now in
     let is = c.in_ok-all_nodes-2.ensures {u = tt} ∙ ap (range_with_len 0) c.count-3.ensures in
     absurd (true≢false (sym (ap (is_among s) is ∙ all-among (count p) s l) ∙ out))
-
-pub round_of-requires-clause-policy : goal.round_of-requires-clause-policy
-round_of-requires-clause-policy g c = subst (λ (xs : List ℕ). IsPolicy (g.P.ShortestPath.problem c.args.problem.now) xs) (sym c.deref.ensures.value) c.requires.solvable.policy
-
-pub round_of-requires-clause-leaves : goal.round_of-requires-clause-leaves
-round_of-requires-clause-leaves g c = subst (λ (xs : List ℕ). CanLeave (g.P.ShortestPath.problem c.args.problem.now) xs) (sym c.deref.ensures.value) c.requires.solvable.leaves
-
-pub improve_further-requires-clause-evaluated : goal.improve_further-requires-clause-evaluated
-improve_further-requires-clause-evaluated g c =
-    subst (λ (xs : List ℕ). IsEvaluated (g.P.ShortestPath.problem c.args.problem.now) xs c.round_of.new.evaluation) c.deref.ensures.value c.in-Ok.ensures.evaluated
-
-pub improve_further-requires-clause-some : goal.improve_further-requires-clause-some
-improve_further-requires-clause-some g c = is_some c.in-Ok.changes.len c.in-Ok.changes.items c.is_empty.result c.is_empty.ensures c.if-is_empty.false c.in-Ok.changes.ok.0
-
-pub improve_further-requires-clause-changes : goal.improve_further-requires-clause-changes
-improve_further-requires-clause-changes g c = c.in-Ok.ensures.changes
-
-pub improve_further-requires-clause-each : goal.improve_further-requires-clause-each
-improve_further-requires-clause-each g c = c.in-Ok.ensures.each
-
-pub improve_further-requires-clause-ascend : goal.improve_further-requires-clause-ascend
-improve_further-requires-clause-ascend g c = c.in-Ok.ensures.ascend
 
 -- a start policy that has no changes is the path's end
 stepped : (g : Over) (c : After-drop-loops-in-Ok-2 g) → path_step (g.P.ShortestPath.problem c.args.problem.now) (first c.args.start.items)
