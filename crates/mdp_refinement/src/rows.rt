@@ -150,15 +150,6 @@ impl Rows {
         Ok(())
     }
 
-    /// Goes on to a node, which is the next one or the last. Whether it is the next.
-    pub fn go_to(&mut self, node: u32) -> Result<bool, AllocError> {
-        let is_next = self.starts.len() <= node as usize;
-        if is_next {
-            self.push_node()?;
-        }
-        Ok(is_next)
-    }
-
     /// The node whose rows are pushed.
     fn last_node(&self) -> u32 {
         number(self.starts.len().saturating_sub(1))
@@ -427,19 +418,6 @@ impl Rows {
     /// A row by its place.
     pub fn row(&self, place: usize) -> Option<&WholeRow> {
         self.rows.get(place)
-    }
-
-    /// The row that was picked by its place, if one was.
-    pub fn picked(&self, pick: Option<usize>) -> Option<&WholeRow> {
-        self.rows.get(pick?)
-    }
-
-    /// The choice of the row that was picked by its place, the first where none was.
-    pub fn choice_of(&self, pick: Option<usize>) -> u32 {
-        match self.picked(pick) {
-            Some(row) => row.choice,
-            None => 0,
-        }
     }
 
     /// The rows of a node.
