@@ -1,9 +1,12 @@
-ghost use Rattle.std.specs.Prelude.{◌≡◌, ◌<◌, length, [], ◌∷◌};
+ghost use Rattle.std.specs.Prelude.{◌≡◌, ◌<◌, ◌==◌, ◌&&◌, length, [], ◌∷◌, All, nat_lt, slice_index};
+ghost use Rattle.std.specs.List.{list_all, list_any};
+ghost use Rattle.mdp_spec.specs.Bounds.{infinite};
+ghost use Rattle.mdp_spec.specs.Tree.{is_marked};
 ghost use Rattle.mdp_spec.specs.Mdp.{states_of, choices_at};
 ghost use Rattle.mdp_farkas.specs.Reward.{falls_infinite, stays_infinite, miss_check, all_miss_check, infinite_checks};
 ghost use Rattle.mdp_farkas.specs.Verdict.{objection_to, at_choices};
 
-use crate::falls::{all_stay_infinite, some_falls_infinite};
+use crate::finite::is_infinite_at;
 use crate::rule::Rule;
 use crate::verdict::{Objection, judged};
 use crate::walk::each_choice;
@@ -21,14 +24,29 @@ struct Missing<'a> {
 }
 
 impl Missing<'_> {
+    /// Whether a target has an infinite value and a rank below `rank`.
+    fn some_falls(self, targets: &[u32], rank: u32) -> bool
+        requires { All (λ t. t < states_of self.model.now) targets.now }
+        ensures { result ≡ list_any (λ t. is_marked (infinite self.entry.values.now) t && nat_lt (slice_index self.entry.ranks.now t) rank) targets.now }
+    {
+        targets.iter().any(|t| is_infinite_at(self.values, *t) && self.ranks[*t as usize] < rank)
+    }
+
+    /// Whether all targets have an infinite value and this rank.
+    fn all_stay(self, targets: &[u32], rank: u32) -> bool
+        requires { All (λ t. t < states_of self.model.now) targets.now }
+        ensures { result ≡ list_all (λ t. is_marked (infinite self.entry.values.now) t && (slice_index self.entry.ranks.now t == rank)) targets.now }
+    {
+        targets.iter().all(|t| is_infinite_at(self.values, *t) && self.ranks[*t as usize] == rank)
+    }
+
     /// Whether an entry of the row of choice `c` at state `s` leads to an infinite value of smaller rank.
     fn falls(self, s: u32, c: u32) -> bool
         requires state { s < states_of self.model.now }
         requires choice { c < length (choices_at self.model.now s) }
         ensures { result ≡ falls_infinite self.entry.model.now self.entry.values.now self.entry.ranks.now s c }
     {
-        let targets = self.model.row(s, c).targets;
-        some_falls_infinite(targets, self.values, self.ranks, self.ranks[s as usize])
+        self.some_falls(self.model.row(s, c).targets, self.ranks[s as usize])
     }
 
     /// Whether each entry of the row of choice `c` at state `s` leads to an infinite value of the rank of `s`.
@@ -37,8 +55,7 @@ impl Missing<'_> {
         requires choice { c < length (choices_at self.model.now s) }
         ensures { result ≡ stays_infinite self.entry.model.now self.entry.values.now self.entry.ranks.now s c }
     {
-        let targets = self.model.row(s, c).targets;
-        all_stay_infinite(targets, self.values, self.ranks, self.ranks[s as usize])
+        self.all_stay(self.model.row(s, c).targets, self.ranks[s as usize])
     }
 
     /// An entry of the row of the policy's choice leads to an infinite value of smaller rank; or the rank is 0, and each entry leads to an infinite

@@ -4,7 +4,6 @@
 
 mod bellman;
 mod compare;
-mod falls;
 mod finite;
 mod infinite;
 mod initial;

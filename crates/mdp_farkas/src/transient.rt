@@ -1,9 +1,9 @@
-ghost use Rattle.std.specs.Prelude.{◌≡◌, ◌<◌, length, [], ◌∷◌};
+ghost use Rattle.std.specs.Prelude.{◌≡◌, ◌<◌, length, [], ◌∷◌, All, nat_lt, slice_index};
+ghost use Rattle.std.specs.List.{list_any};
 ghost use Rattle.mdp_spec.specs.Mdp.{states_of, choices_at};
-ghost use Rattle.mdp_farkas.specs.Reward.{stay_check, stay_checks, is_looked_at, rank_fall_check, rank_fall_checks};
+ghost use Rattle.mdp_farkas.specs.Reward.{stay_check, stay_checks, is_looked_at, falls, rank_fall_check, rank_fall_checks};
 ghost use Rattle.mdp_farkas.specs.Verdict.{objection_to};
 
-use crate::falls::falls_at;
 use crate::finite::stays_finite_at;
 use crate::rule::Rule;
 use crate::verdict::{Objection, judged};
@@ -56,6 +56,24 @@ pub fn is_held_against(model: &Model, dir: Dir, values: &[Option<Frac>], s: u32,
         Dir::Max => true,
         Dir::Min => stays_finite_at(model, values, s, c),
     }
+}
+
+/// Whether a target has a rank below `rank`.
+fn some_falls(targets: &[u32], ranks: &[u32], rank: u32) -> bool
+    requires { All (λ t. t < length ranks.now) targets.now }
+    ensures { result ≡ list_any (λ t. nat_lt (slice_index ranks.now t) rank) targets.now }
+{
+    targets.iter().any(|t| ranks[*t as usize] < rank)
+}
+
+/// Whether an entry of the row of choice `c` at state `s` leads to a smaller rank.
+fn falls_at(model: &Model, ranks: &[u32], s: u32, c: u32) -> bool
+    requires ranks { length ranks.now ≡ states_of model.now }
+    requires state { s < states_of model.now }
+    requires choice { c < length (choices_at model.now s) }
+    ensures { result ≡ falls model.now ranks.now s c }
+{
+    some_falls(model.row(s, c).targets, ranks, ranks[s as usize])
 }
 
 /// An entry of the row of choice `c` leads to a smaller rank.

@@ -6,6 +6,6 @@ use Rattle.mdp_farkas.proofs.infinite.Missing.stays.Goals as goal
 
 pub returns : goal.returns
 returns c =
-    c.all_stay_infinite.ensures
+    c.all_stay.ensures
     ∙ all_of_row (λ (t : ℕ). is_marked (infinite c.args.self.values.now) t && (slice_index c.args.self.ranks.now t == slice_index c.args.self.ranks.now c.args.s))
     c.row.result.targets.now c.row.result.probs.now _ c.row.result.same_length c.row.ensures.row

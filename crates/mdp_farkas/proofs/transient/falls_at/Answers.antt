@@ -1,6 +1,6 @@
 use Rattle.std.proofs.Common.{ℕ, nat_lt, slice_index, ◌∙◌}
 use Rattle.mdp_farkas.proofs.Entries.{any_of_row}
-use Rattle.mdp_farkas.proofs.falls.falls_at.Goals as goal
+use Rattle.mdp_farkas.proofs.transient.falls_at.Goals as goal
 
 pub returns : goal.returns
 returns c =
