@@ -7,7 +7,8 @@ use Rattle.mdp_graph.specs.Sets.{stays_in}
 use Rattle.mdp_ends.specs.Walks.{chosen_step, comes_to, Reaches}
 use Rattle.mdp_ends.specs.Ends.{IsEnd}
 use Rattle.mdp_ends.proofs.Walking.{stays-by, step-has, step-by, here, one_more, target-below, and_then, stays_along}
-use Rattle.mdp_ends.proofs.Saturating.{count_below, count-same, least_below, saturated}
+use Rattle.mdp_graph.proofs.Settling.{count_below}
+use Rattle.mdp_ends.proofs.Saturating.{count-same, least_below, saturated}
 
 module _ (m : Mdp) (ok : IsMdp m) (chosen : ℕ → ℕ → Bool) where
   pub chosen-rises : (p q : ℕ → Bool) → ((t : ℕ) → t < states_of m → p t ≡ true → q t ≡ true)

@@ -14,7 +14,8 @@ use Rattle.mdp_ends.specs.Rounds.{KeepsEnds, keeps_part, still_allowed, IsSettle
 use Rattle.mdp_ends.proofs.Walking.{any-range, range-any, stays-at, stays-by, and_then, target-below}
 use Rattle.mdp_ends.proofs.NumberingFound.{find_below, AreNumbers, numbers_exist}
 use Rattle.mdp_ends.proofs.RoundLaws.{number-has, inside-is, all_kept, round_kept, ends_found}
-use Rattle.mdp_ends.proofs.Saturating.{count_below, count-more, count-same, enough}
+use Rattle.mdp_graph.proofs.Settling.{count_below, count-more}
+use Rattle.mdp_ends.proofs.Saturating.{count-same, enough}
 use Rattle.mdp_ends.proofs.Closing.{chosen-rises, reaches, reaches_by}
 
 -- ---- a list in which each has a number

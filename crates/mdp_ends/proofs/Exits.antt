@@ -37,11 +37,10 @@ Contains-filter p (y ∷ xs) x e (suc k, l, same) =
 
 -- ---- the choices of a model
 
-IsChoice : Mdp → Pred → Type 0
+abbrev pub IsChoice : Mdp → Pred → Type 0
 IsChoice m x = (x.state < states_of m) × (x.choice < length (choices_at m x.state))
 
-all_choices : (m : Mdp) → All (IsChoice m) (choices_below m (states_of m))
-unfolding IsChoice
+pub all_choices : (m : Mdp) → All (IsChoice m) (choices_below m (states_of m))
 all_choices m =
     All-flat_map (IsChoice m) (choices_of m) (range_with_len 0 (states_of m))
     (λ k d l.
@@ -69,7 +68,6 @@ module _ (m : Mdp) (ends : List (Option ℕ)) (nodes : List ℕ) where
       × (Pred.choice (exit_at m ends nodes q i) < length (choices_at m (Pred.state (exit_at m ends nodes q i))))
       × (get_or nodes (Pred.state (exit_at m ends nodes q i)) 0 ≡ q)
       × (is_inside m ends (Pred.state (exit_at m ends nodes q i)) (Pred.choice (exit_at m ends nodes q i)) ≡ false)
-  unfolding IsChoice
   exit_known q i l =
       let x : Pred = exit_at m ends nodes q i in
       let known : IsChoice m x = All-filter (is_exit q) (IsChoice m) (choices_below m (states_of m)) (all_choices m) i (pair 0 0) l in

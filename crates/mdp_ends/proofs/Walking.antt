@@ -1,7 +1,7 @@
 -- Walks by chosen choices.
-use Rattle.std.proofs.Common.{◌≡◌, inl, inr, ℕ, suc, zero, ◌<◌, Bool, true, ◌||◌, ◌&&◌, ◌==◌, List, [], ◌∷◌, length, get_or, refl, sym, ap, ◌∙◌, subst, arith, pos}
+use Rattle.std.proofs.Common.{◌≡◌, inl, inr, ℕ, suc, zero, ◌<◌, Bool, true, ◌&&◌, ◌==◌, List, [], ◌∷◌, length, get_or, refl, sym, ap, ◌∙◌, subst, arith, pos}
 use Rattle.std.specs.List.{list_any, range_with_len, All}
-use Rattle.std.proofs.lemmas.Bool.{false≢true, eqb-true, eq-eqb, cases_Bool, or_cases, or_left, or_right, and_parts, and_from}
+use Rattle.std.proofs.lemmas.Bool.{false≢true, eqb-true, eq-eqb, or_cases, or_left, or_right, and_parts, and_from}
 use Rattle.std.proofs.lemmas.List.FromFn.{length-range_with_len, get_or-range_with_len}
 use Rattle.mdp_math.specs.Rational.{of_int}
 use Rattle.mdp_spec.specs.Mdp.{Entry, Mdp, states_of, choices_at, row_at}
@@ -9,21 +9,16 @@ use Rattle.mdp_spec.specs.Row.{IsMdp}
 use Rattle.mdp_rows.specs.Preds.{leads_to}
 use Rattle.mdp_graph.specs.Sets.{can_enter, stays_in}
 use Rattle.mdp_graph.specs.Layers.{reached}
+use Rattle.mdp_graph.proofs.RowSets.{list_any-at, list_any-by}
 use Rattle.mdp_ends.specs.Walks.{chosen_step, comes_to, Reaches, AreJoined}
 
 -- ---- lists
 
 pub any-some : {X : Type 0} (p : X → Bool) (xs : List X) (d : X) → list_any p xs ≡ true → (i : ℕ) × (i < length xs) × (p (get_or xs i d) ≡ true)
-any-some p [] d e = absurd (false≢true e)
-any-some p (x ∷ xs) d e = elim (cases_Bool (p x)) [
-  | inl here ↦ (0, omega arith, here)
-  | inr not_here ↦ (let w = any-some p xs d (sym (ap (λ b. b || list_any p xs) not_here) ∙ e) in (suc w.0, omega (arith, w.1), w.2))
-]
+any-some p xs d e = list_any-at p xs d e
 
 pub some-any : {X : Type 0} (p : X → Bool) (xs : List X) (d : X) (i : ℕ) → i < length xs → p (get_or xs i d) ≡ true → list_any p xs ≡ true
-some-any p [] d i h e = absurd (omega arith)
-some-any p (x ∷ xs) d zero h e = ap (λ b. b || list_any p xs) e
-some-any p (x ∷ xs) d (suc i) h e = or_right (p x) (list_any p xs) (some-any p xs d i (omega arith) e)
+some-any p xs d i h e = list_any-by p xs d i h e
 
 pub any-range : (p : ℕ → Bool) (n : ℕ) → list_any p (range_with_len 0 n) ≡ true → (c : ℕ) × (c < n) × (p c ≡ true)
 any-range p n e =

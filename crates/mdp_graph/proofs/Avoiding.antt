@@ -17,7 +17,8 @@ use Rattle.mdp_graph.proofs.EdgeFacts.{all-as-stays}
 use Rattle.mdp_graph.proofs.Falls.{IsFirst, case-any, firsts, firsts_count}
 use Rattle.mdp_graph.proofs.RankFacts.{some-same}
 use Rattle.mdp_graph.proofs.Reached.{at_most-some}
-use Rattle.mdp_graph.proofs.Meeting.{none_is, is_ranked, must_respects, some_at_most}
+use Rattle.mdp_graph.specs.NextLayer.{is_ranked}
+use Rattle.mdp_graph.proofs.Meeting.{none_is, must_respects, some_at_most}
 use Rattle.mdp_math.proofs.Booleans.{and-both, or-right_false}
 use Rattle.mdp_graph.proofs.RowSets.{list_any-at, list_any-by, list_all-at, list_all-fails, enters-at, stays-at, stays-outside}
 

@@ -11,7 +11,8 @@ use Rattle.mdp_graph.specs.Reach.{may_step}
 use Rattle.mdp_graph.specs.Sure.{inside_step}
 use Rattle.mdp_graph.specs.Layers.{reached, rank_at, at_most, AreRanks}
 use Rattle.mdp_graph.specs.Ranking.{unranked}
-use Rattle.mdp_graph.proofs.Meeting.{is_ranked, Respects, IsMeeting, met_all}
+use Rattle.mdp_graph.specs.NextLayer.{is_ranked}
+use Rattle.mdp_graph.proofs.Meeting.{Respects, IsMeeting, met_all}
 use Rattle.mdp_math.proofs.Booleans.{and-left, and-right}
 use Rattle.mdp_graph.proofs.RowSets.{enters-same}
 

@@ -149,3 +149,31 @@ from_all n preds (t ∷ layer) each all s c e = elim (cases_Bool (is_one_of (get
       from_all n preds layer each (λ k d l. all (suc k) d (omega (arith, l))) s c
       (sym (one-of-append (get_or preds t []) (leading_to preds layer) s c ∙ ap (λ b. b || is_one_of (leading_to preds layer) s c) other) ∙ e)
 ]
+
+-- ---- the choices that lead to more states are more
+
+led-one : (preds : List (List Pred)) (ys : List ℕ) (t s c : ℕ) → is_among t ys ≡ true → is_one_of (get_or preds t []) s c ≡ true → is_one_of (leading_to preds ys) s c ≡ true
+led-one preds [] t s c a e = absurd (false≢true a)
+led-one preds (y ∷ ys) t s c a e = one-of-append (get_or preds y []) (leading_to preds ys) s c ∙ (elim (cases_eq y t) [
+  | inl same ↦ ap (λ b. b || is_one_of (leading_to preds ys) s c) (ap (λ j. is_one_of (get_or preds j []) s c) same ∙ e)
+  | inr other ↦
+      ap (λ b. is_one_of (get_or preds y []) s c || b) (led-one preds ys t s c (sym (ap (λ b. b || is_among t ys) (ne_eqb y t other)) ∙ a) e)
+      ∙ or-true (is_one_of (get_or preds y []) s c)
+])
+
+led-more : (preds : List (List Pred)) (xs ys : List ℕ) → ((t : ℕ) → is_among t xs ≡ true → is_among t ys ≡ true) → (s c : ℕ)
+    → is_one_of (leading_to preds xs) s c ≡ true → is_one_of (leading_to preds ys) s c ≡ true
+led-more preds [] ys within s c e = absurd (false≢true e)
+led-more preds (x ∷ xs) ys within s c e = elim (cases_Bool (is_one_of (get_or preds x []) s c)) [
+  | inl here ↦ led-one preds ys x s c (within x (ap (λ b. b || is_among x xs) (eq-eqb x x refl))) here
+  | inr other ↦
+      led-more preds xs ys (λ t a. within t (ap (λ b. (x == t) || b) a ∙ or-true (x == t))) s c
+      (sym (one-of-append (get_or preds x []) (leading_to preds xs) s c ∙ ap (λ b. b || is_one_of (leading_to preds xs) s c) other) ∙ e)
+]
+
+pub led-none : (preds : List (List Pred)) (xs ys : List ℕ) → ((t : ℕ) → is_among t xs ≡ true → is_among t ys ≡ true) → (s c : ℕ)
+    → is_one_of (leading_to preds ys) s c ≡ false → is_one_of (leading_to preds xs) s c ≡ false
+led-none preds xs ys within s c e = elim (cases_Bool (is_one_of (leading_to preds xs) s c)) [
+  | inl is ↦ absurd (false≢true (sym e ∙ led-more preds xs ys within s c is))
+  | inr not ↦ not
+]

@@ -12,16 +12,13 @@ use Rattle.mdp_graph.specs.Layers.{reached, rank_at, at_most, AreRanks}
 use Rattle.mdp_graph.specs.Choices.{plain_rank, is_before}
 use Rattle.mdp_graph.specs.Ranking.{given, unranked, IsGiven}
 use Rattle.mdp_graph.specs.Meet.{must_step, AllFall}
+use Rattle.mdp_graph.specs.NextLayer.{is_ranked}
 use Rattle.mdp_graph.proofs.Among.{cases_rank}
 use Rattle.mdp_graph.proofs.RankFacts.{none_among, started, some-same, cond_some}
 use Rattle.mdp_graph.proofs.Reached.{rank_of, at_most-some}
 use Rattle.mdp_graph.proofs.Passes.{has_rank, mark-is, falls-is}
 use Rattle.mdp_math.proofs.Booleans.{and-left, same_truth}
 use Rattle.mdp_graph.proofs.RowSets.{list_all-at, list_all-same, enters-at, enters-by, enters-same}
-
--- the states that have a rank
-abbrev pub is_ranked : List (Option ℕ) → ℕ → Bool
-is_ranked ranks s = is_some (rank_at ranks s)
 
 -- a step depends on the states below n alone
 abbrev pub Respects : ((ℕ → Bool) → ℕ → Bool) → ℕ → Type 0
@@ -41,19 +38,18 @@ pub record IsMeeting (step : (ℕ → Bool) → ℕ → Bool) (first : ℕ → B
   pub below : (s : ℕ) → is_among s layer ≡ true → s < n
   pub left : k + unranked ranks ≤ n
 
-seen_as : (ranks : List (Option ℕ)) (layer : List ℕ) (k : ℕ) (new : List (Option ℕ)) (given_now none_yet seen : List ℕ)
-    → IsGiven ranks none_yet new given_now seen (k + 1) → none_yet ≡ [] → seen ≡ layer → IsGiven ranks [] new given_now layer (suc k)
-seen_as ranks layer k new given_now none_yet seen g e1 e2 =
+seen_as : (ranks : List (Option ℕ)) (layer : List ℕ) (k : ℕ) (new : List (Option ℕ)) (given_now seen : List ℕ)
+    → IsGiven ranks [] new given_now seen (k + 1) → seen ≡ layer → IsGiven ranks [] new given_now layer (suc k)
+seen_as ranks layer k new given_now seen g same =
     let e : k + 1 ≡ suc k = omega arith in
-    subst (λ (j : ℕ). IsGiven ranks [] new given_now layer j) e
-    (subst (λ (x : List ℕ). IsGiven ranks [] new given_now x (k + 1)) e2 (subst (λ (x : List ℕ). IsGiven ranks x new given_now seen (k + 1)) e1 g))
+    subst (λ (j : ℕ). IsGiven ranks [] new given_now layer j) e (subst (λ (x : List ℕ). IsGiven ranks [] new given_now x (k + 1)) same g)
 
-pub meeting : (step : (ℕ → Bool) → ℕ → Bool) (first : ℕ → Bool) (n : ℕ) (old : List (Option ℕ)) (none_yet : List ℕ) (ranks : List (Option ℕ)) (given_now list layer : List ℕ)
-    → old ≡ replicate n None → none_yet ≡ [] → IsGiven old none_yet ranks given_now list 0 → ((s : ℕ) → s < n → is_among s list ≡ first s)
+pub meeting : (step : (ℕ → Bool) → ℕ → Bool) (first : ℕ → Bool) (n : ℕ) (old ranks : List (Option ℕ)) (given_now list layer : List ℕ)
+    → old ≡ replicate n None → IsGiven old [] ranks given_now list 0 → ((s : ℕ) → s < n → is_among s list ≡ first s)
     → ((s : ℕ) → s < n → is_among s layer ≡ (is_none (rank_at ranks s) && step (is_ranked ranks) s)) → ((s : ℕ) → is_among s layer ≡ true → s < n) → IsMeeting step first n ranks layer 0
 unfolding reached
-meeting step first n old none_yet ranks given_now list layer e1 e2 g at met below =
-    let l = started [] first n old none_yet ranks given_now list e1 e2 g at in
+meeting step first n old ranks given_now list layer e g at met below =
+    let l = started [] first n old [] ranks given_now list e refl g at in
     record {
       count = l.count;
       at = λ j s low h. (let z : j ≡ 0 = omega (arith, low) in
@@ -191,17 +187,17 @@ module _ (step : (ℕ → Bool) → ℕ → Bool) (first : ℕ → Bool) (n : �
 
 -- the same with the lists as the code lends them
 pub fewer_seen : (step : (ℕ → Bool) → ℕ → Bool) (first : ℕ → Bool) (n : ℕ) (respects : Respects step n) (ranks : List (Option ℕ)) (layer : List ℕ) (k : ℕ) → IsMeeting step first n ranks layer k
-    → (new : List (Option ℕ)) (given_now none_yet seen : List ℕ) → IsGiven ranks none_yet new given_now seen (k + 1) → none_yet ≡ [] → seen ≡ layer → 0 < length layer → unranked new < unranked ranks
-fewer_seen step first n respects ranks layer k l new given_now none_yet seen g e1 e2 some =
-    fewer_left step first n respects ranks layer k l new given_now (seen_as ranks layer k new given_now none_yet seen g e1 e2) some
+    → (new : List (Option ℕ)) (given_now seen : List ℕ) → IsGiven ranks [] new given_now seen (k + 1) → seen ≡ layer → 0 < length layer → unranked new < unranked ranks
+fewer_seen step first n respects ranks layer k l new given_now seen g same some =
+    fewer_left step first n respects ranks layer k l new given_now (seen_as ranks layer k new given_now seen g same) some
 
 pub meeting_seen : (step : (ℕ → Bool) → ℕ → Bool) (first : ℕ → Bool) (n : ℕ) (respects : Respects step n) (ranks : List (Option ℕ)) (layer : List ℕ) (k : ℕ) → IsMeeting step first n ranks layer k
-    → (new : List (Option ℕ)) (given_now none_yet seen : List ℕ) → IsGiven ranks none_yet new given_now seen (k + 1) → none_yet ≡ [] → seen ≡ layer → 0 < length layer
+    → (new : List (Option ℕ)) (given_now seen : List ℕ) → IsGiven ranks [] new given_now seen (k + 1) → seen ≡ layer → 0 < length layer
     → (next : List ℕ) → ((s : ℕ) → s < n → is_among s next ≡ (is_none (rank_at new s) && step (is_ranked new) s)) → ((s : ℕ) → is_among s next ≡ true → s < n)
     → IsMeeting step first n new next (k + 1)
-meeting_seen step first n respects ranks layer k l new given_now none_yet seen g e1 e2 some next met below =
+meeting_seen step first n respects ranks layer k l new given_now seen g same some next met below =
     let more : IsMeeting step first n new next (suc k) = meeting_more step first n respects ranks layer k l new given_now
-    (seen_as ranks layer k new given_now none_yet seen g e1 e2) next met below some in
+    (seen_as ranks layer k new given_now seen g same) next met below some in
     let e : suc k ≡ k + 1 = omega arith in
     subst (λ (j : ℕ). IsMeeting step first n new next j) e more
 

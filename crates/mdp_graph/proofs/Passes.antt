@@ -1,13 +1,13 @@
 -- What a pass answers, from the ranks that were found.
-use Rattle.std.proofs.Common.{◌≡◌, inl, inr, ℕ, zero, suc, ◌<◌, Bool, true, false, ◌||◌, ◌&&◌, nat_lt, lt-ltb, le-ltb, List, length, map, get_or, refl, sym, ap, ◌∙◌}
+use Rattle.std.proofs.Common.{◌≡◌, inl, inr, ℕ, zero, suc, ◌<◌, Bool, true, false, ◌||◌, ◌&&◌, nat_lt, lt-ltb, le-ltb, List, length, map, get_or, refl, sym, ap, subst, ◌∙◌}
 use Rattle.std.proofs.Common.{arith, Option, Some, None, is_some}
 use Rattle.std.proofs.lemmas.Bool.{false≢true, cases_Bool}
 use Rattle.std.proofs.lemmas.List.{get_or-map, length-map}
 use Rattle.mdp_spec.specs.Mdp.{Mdp, states_of, choices_at, row_at}
 use Rattle.mdp_spec.specs.Row.{IsMdp}
-use Rattle.mdp_graph.specs.Sets.{marked, can_enter, stays_in}
+use Rattle.mdp_graph.specs.Sets.{marked, can_enter}
 use Rattle.mdp_graph.specs.Layers.{reached, rank_at, AreRanks, AreReached, AreLeastRanks}
-use Rattle.mdp_graph.specs.Choices.{plain_rank, is_before, may_fall, first_passing, AreLeast}
+use Rattle.mdp_graph.specs.Choices.{plain_rank, is_before, first_passing, AreLeast}
 use Rattle.mdp_graph.specs.Reach.{falls}
 use Rattle.mdp_graph.proofs.Falls.{IsFirst, case-any, firsts, firsts_count}
 use Rattle.mdp_graph.proofs.RankFacts.{some-same}
@@ -55,6 +55,9 @@ module _ (step : (ℕ → Bool) → ℕ → Bool) (first : ℕ → Bool) (n : �
     zero = λ s h e. plain-is ranks s (within s h) ∙ ap plain_rank (no_rank (rank_at ranks s) (sym (mark-is ranks s (within s h)) ∙ e));
   }
 
+pub ranks_seen : (step : (ℕ → Bool) → ℕ → Bool) (first : ℕ → Bool) (n : ℕ) (ranks seen : List (Option ℕ)) → seen ≡ ranks → AreRanks step first n ranks → AreRanks step first n seen
+ranks_seen step first n ranks seen e a = subst (λ (x : List (Option ℕ)). AreRanks step first n x) (sym e) a
+
 -- the choices
 before-is : (r : ℕ) (o : Option ℕ) → is_before r o ≡ (is_some o && nat_lt (plain_rank o) r)
 before-is r None = refl
@@ -79,17 +82,21 @@ falls-is m ok ranks count s c h k =
       plain-is ranks s (omega (arith, h, count)),
     ) refl)
 
--- where each step is a choice that stays inside, the least choices are found by the ranks
-module _ (m : Mdp) (ok : IsMdp m) (inside targets : List Bool) (step : (ℕ → Bool) → ℕ → Bool) (ranks : List (Option ℕ)) (a : AreRanks step (marked targets) (states_of m) ranks)
+-- a choice that is one of some, and has a successor of a rank below that of its state
+abbrev pub can_lower : Mdp → (ℕ → ℕ → Bool) → List (Option ℕ) → ℕ → ℕ → Bool
+can_lower m may ranks s c = may s c && can_enter (λ t. is_before (plain_rank (rank_at ranks s)) (rank_at ranks t)) (row_at m s c)
+
+-- where each step is one of these choices, the least choices are found by the ranks
+module _ (m : Mdp) (ok : IsMdp m) (may : ℕ → ℕ → Bool) (targets : List Bool) (step : (ℕ → Bool) → ℕ → Bool) (ranks : List (Option ℕ)) (a : AreRanks step (marked targets) (states_of m) ranks)
     (way : (set : ℕ → Bool) (s : ℕ) → s < states_of m → step set s ≡ true
-    → (c : ℕ) × (c < length (choices_at m s)) × (stays_in (marked inside) (row_at m s c) ≡ true) × (can_enter set (row_at m s c) ≡ true))
-    (test : ℕ → ℕ → Bool) (same : (s c : ℕ) → s < states_of m → c < length (choices_at m s) → may_fall m inside ranks s c ≡ test s c) where
+    → (c : ℕ) × (c < length (choices_at m s)) × (may s c ≡ true) × (can_enter set (row_at m s c) ≡ true))
+    (test : ℕ → ℕ → Bool) (same : (s c : ℕ) → s < states_of m → c < length (choices_at m s) → can_lower m may ranks s c ≡ test s c) where
   here : (s : ℕ) → s < states_of m → s < length ranks
   here s h = omega (arith, a.count)
 
   -- a step from the ranks below q leads below q + 1
   by-step : (s q : ℕ) → s < states_of m → rank_at ranks s ≡ Some (suc q) → step (reached step (marked targets) q) s ≡ true
-      → (c : ℕ) × (c < length (choices_at m s)) × (may_fall m inside ranks s c ≡ true)
+      → (c : ℕ) × (c < length (choices_at m s)) × (can_lower m may ranks s c ≡ true)
   by-step s q h e stepped =
       let w = way (reached step (marked targets) q) s h stepped in
       let row = ok.row s w.0 h w.1 in
@@ -102,7 +109,7 @@ module _ (m : Mdp) (ok : IsMdp m) (inside targets : List Bool) (step : (ℕ → 
       )
 
   -- a marked state that is no target has such a choice
-  some-falls : (s r : ℕ) → s < states_of m → rank_at ranks s ≡ Some r → marked targets s ≡ false → (c : ℕ) × (c < length (choices_at m s)) × (may_fall m inside ranks s c ≡ true)
+  some-falls : (s r : ℕ) → s < states_of m → rank_at ranks s ≡ Some r → marked targets s ≡ false → (c : ℕ) × (c < length (choices_at m s)) × (can_lower m may ranks s c ≡ true)
   unfolding reached
   some-falls s zero h e not_target = absurd (false≢true (sym not_target ∙ sym (a.least 0 s h) ∙ at_most-some 0 0 (rank_at ranks s) e (omega arith)))
   some-falls s (suc q) h e not_target = elim (cases_Bool (reached step (marked targets) q s)) [
@@ -115,21 +122,21 @@ module _ (m : Mdp) (ok : IsMdp m) (inside targets : List Bool) (step : (ℕ → 
   ]
 
   -- a state of rank 0 has none
-  none-falls : (s c : ℕ) → plain_rank (rank_at ranks s) ≡ 0 → may_fall m inside ranks s c ≡ false
+  none-falls : (s c : ℕ) → plain_rank (rank_at ranks s) ≡ 0 → can_lower m may ranks s c ≡ false
   none-falls s c e =
-      ap (λ b. stays_in (marked inside) (row_at m s c) && b) (enters-never (row_at m s c) (λ t. is_before (plain_rank (rank_at ranks s)) (rank_at ranks t))
+      ap (λ b. may s c && b) (enters-never (row_at m s c) (λ t. is_before (plain_rank (rank_at ranks s)) (rank_at ranks t))
       (λ t. ap (λ r. is_before r (rank_at ranks t)) e ∙ before-zero (rank_at ranks t)))
-      ∙ and-false (stays_in (marked inside) (row_at m s c))
+      ∙ and-false (may s c)
 
   target-zero : (s : ℕ) → s < states_of m → marked targets s ≡ true → plain_rank (rank_at ranks s) ≡ 0
   unfolding reached
   target-zero s h e = let w = rank_of 0 (rank_at ranks s) (a.least 0 s h ∙ e) in ap plain_rank w.1 ∙ omega (arith, w.2)
 
-  pub least_choices : (choices : List ℕ) → choices ≡ first_passing m (may_fall m inside ranks) → AreLeast m targets (map is_some ranks) test choices
+  pub least_choices : (choices : List ℕ) → choices ≡ first_passing m (can_lower m may ranks) → AreLeast m targets (map is_some ranks) test choices
   least_choices choices is =
-      let count = firsts_count m (may_fall m inside ranks) choices is in
-      let first = firsts m (may_fall m inside ranks) choices is in
-      let in_range : (s : ℕ) → s < states_of m → get_or choices s 0 < length (choices_at m s) = λ s h. elim (case-any (may_fall m inside ranks s) (length (choices_at m s))) [
+      let count = firsts_count m (can_lower m may ranks) choices is in
+      let first = firsts m (can_lower m may ranks) choices is in
+      let in_range : (s : ℕ) → s < states_of m → get_or choices s 0 < length (choices_at m s) = λ s h. elim (case-any (can_lower m may ranks s) (length (choices_at m s))) [
         | inl w ↦ (let l = IsFirst.least (first s h) w.0 w.1 w.2 in omega (arith, l.1, w.1))
         | inr none ↦ (let z = IsFirst.none (first s h) none in let k = ok.choice s h in omega (arith, z, k))
       ] in

@@ -6,7 +6,7 @@ use Rattle.std.specs.List.{All}
 use Rattle.mdp_math.proofs.Booleans.{and-left, and-right, and-both}
 use Rattle.mdp_spec.specs.Mdp.{Mdp, Entry, Choice, no_choice, states_of, choices_at, row_at}
 use Rattle.mdp_spec.specs.Row.{IsMdp}
-use Rattle.mdp_graph.specs.Sets.{marked, can_enter, some_choice}
+use Rattle.mdp_graph.specs.Sets.{marked, can_enter, stays_in, some_choice}
 use Rattle.mdp_graph.specs.Layers.{rank_at, AreRanks}
 use Rattle.mdp_graph.specs.Choices.{plain_rank, is_before, may_fall, first_passing, AreLeast}
 use Rattle.mdp_graph.specs.Reach.{may_step, row_step, falls}
@@ -52,7 +52,7 @@ module _ (m : Mdp) (ok : IsMdp m) where
       → (choices : List ℕ) × AreLeast m targets (map is_some ranks) (falls m (map is_some ranks) (map plain_rank ranks)) choices
   ways_exist blocked targets ranks a = (
     first_passing m (may_fall m everywhere ranks),
-    least_choices m ok everywhere targets (may_step m blocked) ranks a
+    least_choices m ok (λ s c. stays_in (marked everywhere) (row_at m s c)) targets (may_step m blocked) ranks a
         (λ set s h e. (let w = list_any-at (λ (x : Choice). can_enter set x.row) (choices_at m s) no_choice (and-right (not (marked blocked s)) (some_choice (can_enter set) m s) e) in
         let row = ok.row s w.0 h w.1 in (w.0, w.1, stays-everywhere (states_of m) (row_at m s w.0) row.in_range, w.2)))
         (falls m (map is_some ranks) (map plain_rank ranks))

@@ -6,7 +6,7 @@ use Rattle.std.specs.List.{range_with_len}
 use Rattle.std.proofs.lemmas.Bool.{false≢true, cases_lt, cases_Bool, cases_eq, ne_eqb, eqb-true}
 use Rattle.std.proofs.lemmas.List.{get_or-replicate, length-replicate, length-map}
 use Rattle.std.proofs.lemmas.List.Folds.{sum_by-replicate}
-use Rattle.mdp_spec.specs.Mdp.{Mdp, states_of, row_at}
+use Rattle.mdp_spec.specs.Mdp.{Mdp, states_of}
 use Rattle.mdp_spec.specs.Row.{IsMdp}
 use Rattle.mdp_rows.specs.Preds.{is_among}
 use Rattle.mdp_rows.specs.declared.preds.Pred.{Pred}
@@ -16,18 +16,18 @@ use Rattle.mdp_graph.specs.Layers.{rank_at}
 use Rattle.mdp_graph.specs.Choices.{plain_rank}
 use Rattle.mdp_graph.specs.Ranking.{given, unranked, IsGiven}
 use Rattle.mdp_graph.specs.Rounds.{left_after, CanStay, AreRounds}
-use Rattle.mdp_graph.specs.Waiting.{is_one_of, AreWaiting, AreReleased}
+use Rattle.mdp_graph.specs.Waiting.{is_one_of, AreWaiting, leading_to}
 use Rattle.mdp_graph.specs.Forest.{way_at, attached, IsUncut, IsForest, IsAttaching, AreFrom, AreKnown, all_preds}
 use Rattle.mdp_graph.specs.Falling.{left_by, left_at, IsFalling, IsRound}
+use Rattle.mdp_graph.proofs.Cutting.{led-none}
 use Rattle.mdp_graph.proofs.Growing.{nothing, attached_stays, stays_attached}
-use Rattle.mdp_graph.proofs.Meeting.{is_ranked}
+use Rattle.mdp_graph.specs.NextLayer.{is_ranked}
 use Rattle.mdp_graph.proofs.NextMet.{in_preds}
 use Rattle.mdp_graph.proofs.PredLists.{list-is, led-in, led-back}
 use Rattle.mdp_graph.proofs.Passes.{plain-is}
 use Rattle.mdp_graph.proofs.Pruning.{cases_way, or-cases, or-left, or-right, some-in, way-in}
 use Rattle.mdp_graph.proofs.RankFacts.{some-same}
 use Rattle.mdp_graph.proofs.LeftAfter.{stays-alike}
-use Rattle.mdp_graph.proofs.RowSets.{enters-same}
 use Rattle.mdp_graph.proofs.StepsInside.{reached-more}
 use Rattle.mdp_math.proofs.Booleans.{or-false, and-right, and-both, same_truth, not_true, not-not}
 
@@ -86,20 +86,15 @@ all-unranked n = let none : Option ℕ = None in let one : cond {A = ℕ} (is_no
 
 -- before the first round
 pub first_round : (m : Mdp) (ok : IsMdp m) (goals : List Bool) (rounds : List (Option ℕ)) (lists : List (List Bool)) (old ways : List (Option Way)) (broken fell : List ℕ)
-    → rounds ≡ replicate (states_of m) None → AreWaiting m (λ _. false) lists → broken ≡ range_with_len 0 (states_of m) → IsAttaching m goals lists old ways broken fell
+    → rounds ≡ replicate (states_of m) None → AreWaiting m (is_ranked rounds) lists → broken ≡ range_with_len 0 (states_of m) → IsAttaching m goals lists old ways broken fell
     → IsRound m goals rounds 0 lists ways fell
-first_round m ok goals rounds lists old ways broken fell e w eb a =
+first_round m ok goals rounds lists old ways broken fell e waiting eb a =
     let n = states_of m in
     let none : Option ℕ = None in
     let at : (s : ℕ) → s < n → rank_at rounds s ≡ None = λ s h. ap (λ (x : List (Option ℕ)). rank_at x s) e ∙ get_or-replicate n s none none h in
     let free : (s : ℕ) → s < n → is_ranked rounds s ≡ false = λ s h. ap is_some (at s h) in
     let all : (s : ℕ) → s < n → is_among s broken ≡ true = λ s h. ap (is_among s) eb ∙ among-range s 0 n (omega arith) (omega (arith, h)) in
     let below : (s : ℕ) → is_among s fell ≡ true → s < n = λ s x. (let h = range-below s 0 n (sym (ap (is_among s) eb) ∙ a.below s x) in omega (arith, h)) in
-    let waiting : AreWaiting m (is_ranked rounds) lists = record {
-      count = w.count;
-      width = w.width;
-      at = λ s c h k. w.at s c h k ∙ ap not (let row = ok.row s c h k in enters-same (λ _. false) (is_ranked rounds) (row_at m s c) n row.in_range (λ t l. sym (free t l)));
-    } in
     record {
       falling = record {
         count = ap length e ∙ length-replicate n none;
@@ -164,10 +159,9 @@ left-of k None e = refl
 left-of k (Some r) e = absurd (false≢true (sym e))
 
 module _ (m : Mdp) (ok : IsMdp m) (goals : List Bool) (rounds : List (Option ℕ)) (k : ℕ) (lists : List (List Bool)) (ways : List (Option Way)) (fell : List ℕ)
-    (r : IsRound m goals rounds k lists ways fell) (new : List (Option ℕ)) (none_yet noted seen : List ℕ) (g : IsGiven rounds none_yet new noted seen (k + 1))
-    (start : none_yet ≡ []) (same : seen ≡ fell) where
+    (r : IsRound m goals rounds k lists ways fell) (new : List (Option ℕ)) (noted : List ℕ) (g : IsGiven rounds [] new noted fell (k + 1)) where
   at : (s : ℕ) → s < states_of m → rank_at new s ≡ given (k + 1) (is_among s fell) (rank_at rounds s)
-  at s h = g.at s (let f = r.falling in let c = f.count in omega (arith, h, c)) ∙ ap (λ (x : List ℕ). given (k + 1) (is_among s x) (rank_at rounds s)) same
+  at s h = g.at s (let f = r.falling in let c = f.count in omega (arith, h, c))
 
   alike : (j s : ℕ) → j ≤ k → s < states_of m → left_at new j s ≡ left_at rounds j s
   alike j s l h = ap (left_by j) (at s h) ∙ left-given k j (is_among s fell) (rank_at rounds s) l
@@ -183,18 +177,24 @@ module _ (m : Mdp) (ok : IsMdp m) (goals : List Bool) (rounds : List (Option ℕ
   listed : (s : ℕ) → s < states_of m → is_among s noted ≡ is_among s fell
   listed s h =
       g.listed s (let f = r.falling in let c = f.count in omega (arith, h, c))
-      ∙ ap (λ (x : List ℕ). is_among s x || (is_none (rank_at rounds s) && is_among s seen)) start
-      ∙ ap (λ (x : List ℕ). is_none (rank_at rounds s) && is_among s x) same ∙ same_truth (is_none (rank_at rounds s) && is_among s fell) (is_among s fell)
+      ∙ same_truth (is_none (rank_at rounds s) && is_among s fell) (is_among s fell)
       (and-right (is_none (rank_at rounds s)) (is_among s fell)) (λ e. and-both (is_none (rank_at rounds s)) (is_among s fell) (unranked-none (rank_at rounds s) (r.fresh s e)) e)
 
-  pub more_ranked : (s : ℕ) → s < states_of m → is_ranked new s ≡ (is_ranked rounds s || is_among s noted)
-  more_ranked s h = ap is_some (at s h) ∙ given-some (k + 1) (is_among s fell) (rank_at rounds s) ∙ ap (λ b. is_ranked rounds s || b) (sym (listed s h))
-
-  pub noted_below : (s : ℕ) → is_among s noted ≡ true → s < states_of m
-  noted_below s e = elim (g.below s e) [
-    | inl x ↦ absurd (false≢true (sym (ap (is_among s) start) ∙ x))
-    | inr h ↦ (let f = r.falling in let c = f.count in omega (arith, h, c))
+  noted_fell : (s : ℕ) → is_among s noted ≡ true → is_among s fell ≡ true
+  noted_fell s e = elim (g.below s e) [
+    | inl x ↦ absurd (false≢true x)
+    | inr h ↦ (let f = r.falling in let c = f.count in sym (listed s (omega (arith, h, c))) ∙ e)
   ]
+
+  -- the choices that lead to the states that fell are those that lead to the states whose round was noted
+  pub uncut_noted : (preds : List (List Pred)) (cut : List (Option Way)) (broken : List ℕ) → IsUncut ways cut (leading_to preds fell) broken → IsUncut ways cut (leading_to preds noted) broken
+  uncut_noted preds cut broken u = record {
+    count = u.count;
+    kept = λ s w e. (let k = u.kept s w e in (k.0, led-none preds noted fell noted_fell s w.choice k.1));
+    gone = u.gone;
+    over = u.over;
+    below = u.below;
+  }
 
   pub fewer : 0 < length fell → unranked new < unranked rounds
   fewer some =
@@ -202,8 +202,7 @@ module _ (m : Mdp) (ok : IsMdp m) (goals : List Bool) (rounds : List (Option ℕ
       let h = r.below x.0 x.1 in
       let l = has-one x.0 noted (listed x.0 h ∙ x.1) in
       let left = g.left in
-      let z : length none_yet ≡ 0 = ap length start in
-      omega (arith, left, l, z)
+      omega (arith, left, l)
 
   falling_more : 0 < length fell → IsFalling m goals new (k + 1)
   falling_more some =
@@ -228,9 +227,9 @@ module _ (m : Mdp) (ok : IsMdp m) (goals : List Bool) (rounds : List (Option ℕ
         small = (let l = fewer some in let u = f.small in omega (arith, l, u));
       }
 
-  pub next_round : 0 < length fell → (after : List (List Bool)) (cut more : List (Option Way)) (pairs : List Pred) (broken next : List ℕ) → AreReleased lists after pairs
+  pub next_round : 0 < length fell → (after : List (List Bool)) (cut more : List (Option Way)) (pairs : List Pred) (broken next : List ℕ)
       → AreWaiting m (is_ranked new) after → IsUncut ways cut pairs broken → IsAttaching m goals after cut more broken next → IsRound m goals new (k + 1) after more next
-  next_round some after cut more pairs broken next rel w u a =
+  next_round some after cut more pairs broken next w u a =
       let n = states_of m in
       let falling = falling_more some in
       let lower : (t : ℕ) → t < n → left_at new (k + 1) t ≡ true → left_at rounds k t ≡ true = λ t h e.

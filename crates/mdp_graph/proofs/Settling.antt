@@ -12,7 +12,7 @@ use Rattle.mdp_graph.proofs.Reaching.{stays-reached, one-later}
 
 -- ---- how many numbers below n are in a set
 
-unfoldable count_below : (ℕ → Bool) → ℕ → ℕ
+unfoldable pub count_below : (ℕ → Bool) → ℕ → ℕ
 count_below p zero = 0
 count_below p (suc n) = count_below p n + cond (p n) 1 0
 
@@ -24,7 +24,7 @@ count-le p (suc n) = let l = count-le p n in elim (cases_Bool (p n)) [
   | inr e ↦ rw e (omega (arith, l))
 ]
 
-count-more : (p q : ℕ → Bool) (n : ℕ) → ((s : ℕ) → s < n → p s ≡ true → q s ≡ true) → count_below p n ≤ count_below q n
+pub count-more : (p q : ℕ → Bool) (n : ℕ) → ((s : ℕ) → s < n → p s ≡ true → q s ≡ true) → count_below p n ≤ count_below q n
 unfolding count_below
 count-more p q zero h = omega arith
 count-more p q (suc n) h =

@@ -36,7 +36,7 @@ module _ (m : Mdp) (goals : List Bool) (ranks : List (Option ℕ)) (f : IsSettle
   pub sure_choices : (ok : IsMdp m) (choices : List ℕ) (inside : List Bool) (seen : List (Option ℕ)) → inside ≡ map is_some ranks → seen ≡ ranks
       → choices ≡ first_passing m (may_fall m inside seen) → AreLeast m goals (map is_some ranks) (stays_and_falls m (map is_some ranks) (map plain_rank ranks)) choices
   sure_choices ok choices inside seen ei es is =
-      least_choices m ok (map is_some ranks) goals (inside_step m (marked (map is_some ranks))) ranks f.ranked (λ set s h e. inside-choice m (marked (map is_some ranks)) set s e)
+      least_choices m ok (λ s c. stays_in (marked (map is_some ranks)) (row_at m s c)) goals (inside_step m (marked (map is_some ranks))) ranks f.ranked (λ set s h e. inside-choice m (marked (map is_some ranks)) set s e)
       (stays_and_falls m (map is_some ranks) (map plain_rank ranks)) (λ s c h k. ap (λ b. stays_in (marked (map is_some ranks)) (row_at m s c) && b)
       (falls-is m ok ranks f.ranked.count s c h k)) choices
       (is ∙ ap₂ (λ (x : List Bool) (y : List (Option ℕ)). first_passing m (may_fall m x y)) ei es)

@@ -17,3 +17,4 @@ pub mod SureAll
 pub mod Laws
 pub mod Forest
 pub mod Falling
+pub mod NextLayer

@@ -1,8 +1,10 @@
 -- Ranks by the edges of a graph.
 use Rattle.std.specs.Prelude.{◌≡◌, ℕ, ◌+◌, ◌<◌, ◌⊎◌, Bool, true, List, length, Option, Some, None, cond, ◌||◌, ◌&&◌, is_none}
 use Rattle.std.specs.List.{count_by}
+use Rattle.mdp_spec.specs.Mdp.{Mdp, states_of}
 use Rattle.mdp_rows.specs.Preds.{is_among}
-use Rattle.mdp_graph.specs.Edges.{has_edge}
+use Rattle.mdp_graph.specs.Sets.{marked}
+use Rattle.mdp_graph.specs.Edges.{has_edge, leads}
 use Rattle.mdp_graph.specs.Layers.{rank_at, at_most}
 
 -- each state of the first set has rank 0; any other has an edge to one of the rank before; an edge raises the rank by 1 at most
@@ -28,3 +30,9 @@ pub record IsGiven (old : List (Option ℕ)) (old_list : List ℕ) (new : List (
   pub listed : (s : ℕ) → s < length old → is_among s new_list ≡ (is_among s old_list || (is_none (rank_at old s) && is_among s states))
   pub below : (s : ℕ) → is_among s new_list ≡ true → (is_among s old_list ≡ true) ⊎ (s < length old)
   pub left : unranked new + length new_list ≡ unranked old + length old_list
+
+-- the ranks along the edges of a model, by choices that stay inside and no choice of a blocked state
+pub record AreRanksAlong (m : Mdp) (inside blocked target : List Bool) (ranks : List (Option ℕ)) : Type 0 where
+  pub edges : List (List ℕ)
+  pub leading : (s t : ℕ) → s < states_of m → t < states_of m → has_edge edges s t ≡ leads m inside blocked s t
+  pub by_edges : AreRankedBy edges (marked target) (states_of m) ranks

@@ -3,11 +3,11 @@ ghost use Rattle.mdp_spec.specs.Mdp.{states_of};
 ghost use Rattle.mdp_graph.specs.Sets.{marked};
 ghost use Rattle.mdp_graph.specs.Layers.{rank_at, AreLeastRanks};
 ghost use Rattle.mdp_graph.specs.Meet.{must_step};
-ghost use Rattle.mdp_graph.specs.SureAll.{IsSureAll};
+ghost use Rattle.mdp_graph.specs.SureAll.{IsSureAll, AreSureRanks};
 
 use crate::avoid::marks_without;
 use crate::meet::meeting_ranks;
-use crate::pass::{Pass, marks_by, plain_ranks, zeros};
+use crate::pass::Pass;
 use crate::reach::may_reach;
 use mdp_num::Memory;
 use mdp_rows::{Marks, Model};
@@ -27,6 +27,19 @@ fn drop_ranks(ranks: &mut Vec<Option<u32>>, marks: &Marks, states: u32)
     }
 }
 
+/// The ranks of `must_meet`, of the states that can't reach a state of `may_avoid` without passing a goal.
+fn sure_ranks(alloc: Global, model: &Model, goals: &Marks) -> Result<Vec<Option<u32>>, Memory>
+    requires goals { length goals.now ≡ states_of model.now }
+    ensures { IfOk result (λ ranks. AreSureRanks model.now goals.now ranks.items) }
+{
+    model.known();
+    let mut ranks = meeting_ranks(alloc, model, goals)?;
+    let avoiding = marks_without(alloc, &ranks)?;
+    let reaching = may_reach(alloc, model, &avoiding, goals)?;
+    drop_ranks(&mut ranks, &reaching.marks, model.states());
+    Ok(ranks)
+}
+
 /// The states from which every policy reaches a goal with certainty: those that can't reach a state of `may_avoid` without passing a goal.
 /// The ranks are those of `must_meet`. Choices are 0.
 ///
@@ -37,14 +50,6 @@ pub fn sure_all(alloc: Global, model: &Model, goals: &Marks) -> Result<Pass, Mem
     ensures ranks { IfOk result (λ pass. AreLeastRanks (must_step model.now) (marked goals.now) (states_of model.now) pass.marks pass.ranks.items) }
     ensures choices { IfOk result (λ pass. pass.choices.items ≡ replicate (states_of model.now) 0) }
 {
-    model.known();
-    let mut ranks = meeting_ranks(alloc, model, goals)?;
-    let avoiding = marks_without(alloc, &ranks)?;
-    let reaching = may_reach(alloc, model, &avoiding, goals)?;
-    drop_ranks(&mut ranks, &reaching.marks, model.states());
-    Ok(Pass {
-        marks: marks_by(alloc, &ranks)?,
-        ranks: plain_ranks(alloc, &ranks)?,
-        choices: zeros(alloc, model.states() as usize)?,
-    })
+    let ranks = sure_ranks(alloc, model, goals)?;
+    Ok(Pass::without_choices(alloc, &ranks)?)
 }

@@ -6,6 +6,7 @@ mod avoid;
 mod falling;
 mod forest;
 mod laws;
+mod layers;
 mod meet;
 mod pass;
 mod predecessors;
@@ -22,7 +23,7 @@ pub use laws::{
     along_law, avoid_law, meet_law, reach_law, rounds_law, sure_all_law, sure_some_law,
 };
 pub use meet::must_meet;
-pub use pass::Pass;
+pub use pass::{Pass, plain_ranks, some_before};
 pub use predecessors::{Edges, Predecessors};
 pub use ranking::{give_rank, next_layer, no_ranks, ranks_by};
 pub use reach::{along, may_reach};

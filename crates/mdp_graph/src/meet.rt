@@ -4,15 +4,14 @@ ghost use Rattle.mdp_graph.specs.Sets.{marked};
 ghost use Rattle.mdp_graph.specs.Layers.{AreRanks, AreReached, AreLeastRanks};
 ghost use Rattle.mdp_graph.specs.Meet.{must_step, AllFall};
 
-use crate::pass::{Pass, marks_by, plain_ranks, zeros};
-use crate::ranking::{give_rank, marked_states, no_ranks};
-use crate::waiting::Waiting;
+use crate::layers::Layers;
+use crate::pass::Pass;
+use crate::ranking::marked_states;
 use mdp_num::Memory;
-use mdp_rows::{Marks, Model, preds_of};
+use mdp_rows::{Marks, Model};
 use std::alloc::{AllocError, Global};
 
-/// The least ranks by which states meet a target whatever is chosen; none where they don't. Each entry is looked at once, so the time grows
-/// with their number.
+/// The least ranks by which states meet a target whatever is chosen; none where they don't.
 pub(crate) fn meeting_ranks(
     alloc: Global,
     model: &Model,
@@ -22,21 +21,15 @@ pub(crate) fn meeting_ranks(
     ensures { IfOk result (λ ranks. AreRanks (must_step model.now) (marked target.now) (states_of model.now) ranks.items) }
 {
     model.known();
-    let preds = preds_of(alloc, model)?;
-    let mut waiting = Waiting::all(alloc, model)?;
-    let mut ranks = no_ranks(alloc, model.states())?;
-    let first = marked_states(alloc, target, model.states())?;
-    let mut layer = Vec::new(alloc);
-    give_rank(&mut ranks, &mut layer, &first, 0)?;
-    let mut met = waiting.met_by(alloc, &preds, &ranks, &layer)?;
+    let mut layers = Layers::new(alloc, model)?;
+    let mut met = marked_states(alloc, target, model.states())?;
+    met = layers.next(alloc, model, &met, 0)?;
     let mut rank = 0;
     while !met.is_empty() {
         rank += 1;
-        let mut layer = Vec::new(alloc);
-        give_rank(&mut ranks, &mut layer, &met, rank)?;
-        met = waiting.met_by(alloc, &preds, &ranks, &layer)?;
+        met = layers.next(alloc, model, &met, rank)?;
     }
-    Ok(ranks)
+    Ok(layers.ranks)
 }
 
 /// What `must_meet` answers, by its ranks.
@@ -53,11 +46,8 @@ pub(crate) fn meeting_pass(
     ensures choices { IfOk result (λ pass. pass.choices.items ≡ replicate (states_of model.now) 0) }
 {
     model.known();
-    Ok(Pass {
-        marks: marks_by(alloc, ranks)?,
-        ranks: plain_ranks(alloc, ranks)?,
-        choices: zeros(alloc, model.states() as usize)?,
-    })
+    let pass = Pass::without_choices(alloc, ranks)?;
+    Ok(pass)
 }
 
 /// The states that meet a target whatever is chosen. Targets have rank 0. Each choice of any other marked state has a marked successor of

@@ -1,8 +1,8 @@
-ghost use Rattle.std.specs.Prelude.{◌≡◌, ◌<◌, ◌&&◌, length, map, is_some, replicate, IfOk};
+ghost use Rattle.std.specs.Prelude.{◌≡◌, ◌<◌, ◌&&◌, ℕ, Bool, length, map, is_some, replicate, IfOk};
 ghost use Rattle.std.specs.List.{All, list_any, find, range_with_len};
 ghost use Rattle.mdp_spec.specs.Mdp.{states_of, choices_at};
 ghost use Rattle.mdp_graph.specs.Sets.{marked};
-ghost use Rattle.mdp_graph.specs.Layers.{rank_at};
+ghost use Rattle.mdp_graph.specs.Layers.{rank_at, AreRanks, AreReached, AreLeastRanks};
 ghost use Rattle.mdp_graph.specs.Choices.{plain_rank, is_before, may_fall, first_passing};
 
 use crate::predecessors::all_marked;
@@ -32,10 +32,43 @@ pub(crate) fn marks_by(alloc: Global, ranks: &[Option<u32>]) -> Result<Marks, Al
 }
 
 /// The ranks; 0 where there is none.
-pub(crate) fn plain_ranks(alloc: Global, ranks: &[Option<u32>]) -> Result<Vec<u32>, AllocError>
+pub fn plain_ranks(alloc: Global, ranks: &[Option<u32>]) -> Result<Vec<u32>, AllocError>
     ensures { IfOk result (λ plain. plain.items ≡ map plain_rank ranks.now) }
 {
     ranks.iter().map(|rank| rank.unwrap_or(0)).collect(alloc)
+}
+
+impl Pass {
+    /// The states that have a rank, with these choices.
+    pub fn by_ranks(
+        alloc: Global,
+        ranks: &[Option<u32>],
+        choices: Vec<u32>,
+    ) -> Result<Pass, AllocError>
+        ensures marks { IfOk result (λ pass. pass.marks ≡ map is_some ranks.now) }
+        ensures ranks { IfOk result (λ pass. pass.ranks.items ≡ map plain_rank ranks.now) }
+        ensures choices { IfOk result (λ pass. pass.choices.items ≡ choices.items) }
+        ensures reached { IfOk result (λ pass. (step : (ℕ → Bool) → ℕ → Bool) (first : ℕ → Bool) (n : ℕ) → AreRanks step first n ranks.now → AreReached step first n pass.marks) }
+        ensures least { IfOk result (λ pass. (step : (ℕ → Bool) → ℕ → Bool) (first : ℕ → Bool) (n : ℕ) → AreRanks step first n ranks.now → AreLeastRanks step first n pass.marks pass.ranks.items) }
+    {
+        Ok(Pass {
+            marks: marks_by(alloc, ranks)?,
+            ranks: plain_ranks(alloc, ranks)?,
+            choices,
+        })
+    }
+
+    /// The states that have a rank. Choices are 0.
+    pub(crate) fn without_choices(alloc: Global, ranks: &[Option<u32>]) -> Result<Pass, AllocError>
+        ensures marks { IfOk result (λ pass. pass.marks ≡ map is_some ranks.now) }
+        ensures ranks { IfOk result (λ pass. pass.ranks.items ≡ map plain_rank ranks.now) }
+        ensures choices { IfOk result (λ pass. pass.choices.items ≡ replicate (length ranks.now) 0) }
+        ensures reached { IfOk result (λ pass. (step : (ℕ → Bool) → ℕ → Bool) (first : ℕ → Bool) (n : ℕ) → AreRanks step first n ranks.now → AreReached step first n pass.marks) }
+        ensures least { IfOk result (λ pass. (step : (ℕ → Bool) → ℕ → Bool) (first : ℕ → Bool) (n : ℕ) → AreRanks step first n ranks.now → AreLeastRanks step first n pass.marks pass.ranks.items) }
+    {
+        let choices = zeros(alloc, ranks.len())?;
+        Pass::by_ranks(alloc, ranks, choices)
+    }
 }
 
 /// So many zeros.
@@ -53,7 +86,7 @@ fn is_below(rank: Option<u32>, limit: u32) -> bool
 }
 
 /// Whether a target has a rank below `rank`.
-fn some_before(targets: &[u32], ranks: &[Option<u32>], rank: u32) -> bool
+pub fn some_before(targets: &[u32], ranks: &[Option<u32>], rank: u32) -> bool
     requires { All (λ t. t < length ranks.now) targets.now }
     ensures { result ≡ list_any (λ t. is_before rank (rank_at ranks.now t)) targets.now }
 {

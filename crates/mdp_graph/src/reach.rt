@@ -1,11 +1,12 @@
 ghost use Rattle.std.specs.Prelude.{◌≡◌, length, true, replicate, IfOk};
 ghost use Rattle.mdp_spec.specs.Mdp.{states_of};
 ghost use Rattle.mdp_graph.specs.Sets.{marked};
-ghost use Rattle.mdp_graph.specs.Layers.{AreReached, AreLeastRanks};
+ghost use Rattle.mdp_graph.specs.Layers.{AreRanks, AreReached, AreLeastRanks};
 ghost use Rattle.mdp_graph.specs.Choices.{AreLeast};
 ghost use Rattle.mdp_graph.specs.Reach.{may_step, row_step, falls};
+ghost use Rattle.mdp_graph.specs.Ranking.{AreRanksAlong};
 
-use crate::pass::{Pass, least_choices, marks_by, plain_ranks, zeros};
+use crate::pass::{Pass, least_choices};
 use crate::predecessors::Predecessors;
 use crate::ranking::ranks_by;
 use mdp_num::Memory;
@@ -17,6 +18,25 @@ pub(crate) fn all_true(alloc: Global, count: u32) -> Result<Marks, AllocError>
     ensures { IfOk result (λ marks. marks ≡ replicate count true) }
 {
     Ok(Marks::from_values(vec![in alloc; true; count as usize]?))
+}
+
+/// The least ranks by which states reach a target by choices that stay inside, without taking a choice of a blocked state.
+pub(crate) fn ranks_along(
+    alloc: Global,
+    model: &Model,
+    inside: &Marks,
+    blocked: &Marks,
+    target: &Marks,
+) -> Result<Vec<Option<u32>>, AllocError>
+    requires inside { length inside.now ≡ states_of model.now }
+    requires blocked { length blocked.now ≡ states_of model.now }
+    requires target { length target.now ≡ states_of model.now }
+    ensures { IfOk result (λ ranks. AreRanksAlong model.now inside.now blocked.now target.now ranks.items) }
+{
+    model.known();
+    let preds = Predecessors::of_model(alloc, model, inside, blocked)?;
+    let ranks = ranks_by(alloc, &preds, target, model.states())?;
+    Ok(ranks)
 }
 
 /// The states from which a target can be reached without taking a choice of a blocked state. Targets have rank 0, also where they are blocked.
@@ -34,14 +54,25 @@ pub fn may_reach(
     ensures choices { IfOk result (λ pass. AreLeast model.now target.now pass.marks (falls model.now pass.marks pass.ranks.items) pass.choices.items) }
 {
     model.known();
-    let inside = all_true(alloc, model.states())?;
-    let preds = Predecessors::of_model(alloc, model, &inside, blocked)?;
-    let ranks = ranks_by(alloc, &preds, target, model.states())?;
-    Ok(Pass {
-        marks: marks_by(alloc, &ranks)?,
-        ranks: plain_ranks(alloc, &ranks)?,
-        choices: least_choices(alloc, model, &inside, &ranks)?,
-    })
+    let all = all_true(alloc, model.states())?;
+    let ranks = ranks_along(alloc, model, &all, blocked, target)?;
+    let choices = least_choices(alloc, model, &all, &ranks)?;
+    Ok(Pass::by_ranks(alloc, &ranks, choices)?)
+}
+
+/// The least ranks by which states reach a target by the rows.
+fn row_ranks<R: RowsOf>(
+    alloc: Global,
+    rows: &R,
+    target: &Marks,
+) -> Result<Vec<Option<u32>>, AllocError>
+    requires target { length target.now ≡ length (R.rows rows.now) }
+    ensures { IfOk result (λ ranks. AreRanks (row_step (R.rows rows.now)) (marked target.now) (length (R.rows rows.now)) ranks.items) }
+{
+    rows.known();
+    let preds = Predecessors::of_rows(alloc, rows)?;
+    let ranks = ranks_by(alloc, &preds, target, rows.count())?;
+    Ok(ranks)
 }
 
 /// The states from which a target can be reached by the rows, one per state. Targets have rank 0. Choices are 0.
@@ -51,12 +82,6 @@ pub fn along<R: RowsOf>(alloc: Global, rows: &R, target: &Marks) -> Result<Pass,
     ensures ranks { IfOk result (λ pass. AreLeastRanks (row_step (R.rows rows.now)) (marked target.now) (length (R.rows rows.now)) pass.marks pass.ranks.items) }
     ensures choices { IfOk result (λ pass. pass.choices.items ≡ replicate (length (R.rows rows.now)) 0) }
 {
-    rows.known();
-    let preds = Predecessors::of_rows(alloc, rows)?;
-    let ranks = ranks_by(alloc, &preds, target, rows.count())?;
-    Ok(Pass {
-        marks: marks_by(alloc, &ranks)?,
-        ranks: plain_ranks(alloc, &ranks)?,
-        choices: zeros(alloc, rows.count() as usize)?,
-    })
+    let ranks = row_ranks(alloc, rows, target)?;
+    Ok(Pass::without_choices(alloc, &ranks)?)
 }

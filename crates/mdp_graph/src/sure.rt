@@ -7,8 +7,7 @@ ghost use Rattle.mdp_graph.specs.Sure.{inside_step, IsGreatestSure, stays_and_fa
 
 use crate::falling::{SureRounds, sure_rounds};
 use crate::pass::Pass;
-use crate::predecessors::Predecessors;
-use crate::ranking::ranks_by;
+use crate::reach::ranks_along;
 use mdp_num::Memory;
 use mdp_rows::{Marks, Model};
 use std::alloc::Global;
@@ -26,8 +25,7 @@ pub(crate) fn ranks_inside(
 {
     model.known();
     let none = Marks::empty(alloc, model.states())?;
-    let preds = Predecessors::of_model(alloc, model, inside, &none)?;
-    Ok(ranks_by(alloc, &preds, goals, model.states())?)
+    Ok(ranks_along(alloc, model, inside, &none, goals)?)
 }
 
 /// The states from which some policy reaches a goal with certainty: the greatest set that holds the goals and from each state of which a goal

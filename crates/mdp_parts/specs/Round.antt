@@ -2,7 +2,8 @@
 use Rattle.std.specs.Prelude.{◌≡◌, ℕ, ◌<◌, Bool, true, false, cond, List, length, Option, Some, None, slice_index}
 use Rattle.std.specs.List.{list_any, range_with_len}
 use Rattle.mdp_spec.specs.Mdp.{Mdp, states_of, choices_at}
-use Rattle.mdp_ends.specs.Rounds.{keeps_part, still_allowed}
+use Rattle.mdp_ends.specs.Walks.{AreComponents}
+use Rattle.mdp_ends.specs.Rounds.{keeps_part, still_allowed, KeepsEnds}
 use Rattle.mdp_parts.specs.Allowed.{allowed_at, AreChoices}
 
 -- some choice of state s is allowed
@@ -31,3 +32,10 @@ pub record IsRound (m : Mdp) (parts : List ℕ) (old new : List (List Bool)) (an
   pub at : (s c : ℕ) → s < states_of m → c < length (choices_at m s) → allowed_at new s c ≡ still_allowed m (allowed_at old) parts s c
   pub some : any ≡ true → (s : ℕ) × (s < states_of m) × Leaves m parts old s
   pub none : any ≡ false → (s c : ℕ) → s < states_of m → c < length (choices_at m s) → allowed_at old s c ≡ true → keeps_part m parts s c ≡ true
+
+-- the strong components of the allowed choices, none of which leaves its own
+pub record AreLastParts (m : Mdp) (allowed : List (List Bool)) (parts : List ℕ) : Type 0 where
+  pub before : List (List Bool)
+  pub round : IsRound m parts before allowed false
+  pub components : AreComponents m (allowed_at before) parts
+  pub keeps : KeepsEnds m (allowed_at before)

@@ -1,19 +1,18 @@
 ghost use Rattle.std.specs.Prelude.{◌≡◌, ◌<◌, ◌↔◌, ◌&&◌, ℕ, true, length, map, IfOk};
-ghost use Rattle.std.specs.List.{All, list_any, find, range_with_len};
+ghost use Rattle.std.specs.List.{find, range_with_len};
 ghost use Rattle.mdp_spec.specs.Mdp.{states_of, choices_at};
 ghost use Rattle.mdp_graph.specs.Sets.{marked};
-ghost use Rattle.mdp_graph.specs.Layers.{rank_at};
-ghost use Rattle.mdp_graph.specs.Choices.{is_before, first_passing};
+ghost use Rattle.mdp_graph.specs.Layers.{AreRanks};
+ghost use Rattle.mdp_graph.specs.Choices.{first_passing};
 ghost use Rattle.mdp_ends.specs.Ends.{in_part, count_of};
-ghost use Rattle.mdp_ends.specs.Toward.{target_in, IsToward};
+ghost use Rattle.mdp_ends.specs.Toward.{target_in, inner_step, IsToward};
 ghost use Rattle.mdp_parts.specs.FoundEnds.{AreEndsOf};
 ghost use Rattle.mdp_parts.specs.Inner.{may_fall_inside};
 ghost use Rattle.mdp_parts.specs.TowardTargets.{IsTowardTargets, HasTarget};
 
 use crate::edges::{edges_of, reversed};
 use crate::ends::Ends;
-use crate::ranking::{marks_by, plain_numbers};
-use mdp_graph::{Pass, ranks_by};
+use mdp_graph::{Pass, ranks_by, some_before};
 use mdp_num::Memory;
 use mdp_rows::{Marks, Model};
 use std::alloc::{AllocError, Global};
@@ -45,21 +44,6 @@ fn targets_in(
     (0..states)
         .map(|s| is_target(ends, i, target, s))
         .collect(alloc)
-}
-
-/// Whether there is a rank, and it is below `limit`.
-fn is_below(rank: Option<u32>, limit: u32) -> bool
-    ensures { result ≡ is_before limit rank }
-{
-    rank.is_some_and(|r| r < limit)
-}
-
-/// Whether a target has a rank below `rank`.
-fn some_before(targets: &[u32], ranks: &[Option<u32>], rank: u32) -> bool
-    requires { All (λ t. t < length ranks.now) targets.now }
-    ensures { result ≡ list_any (λ t. is_before rank (rank_at ranks.now t)) targets.now }
-{
-    targets.iter().any(|t| is_below(ranks[*t as usize], rank))
 }
 
 /// Whether choice `c` of state `s` is inside and has a successor of a rank below that of `s`.
@@ -100,6 +84,24 @@ fn least_choices(
         .collect(alloc)
 }
 
+/// The least ranks by which states reach a target by inner choices; none where they don't.
+fn inner_ranks(
+    alloc: Global,
+    model: &Model,
+    ends: &Ends,
+    target: &Marks,
+) -> Result<Vec<Option<u32>>, AllocError>
+    requires ends { AreEndsOf model.now ends.now }
+    requires target { length target.now ≡ states_of model.now }
+    ensures { IfOk result (λ ranks. AreRanks (inner_step model.now ends.now.parts) (marked target.now) (states_of model.now) ranks.items) }
+{
+    model.known();
+    let edges = edges_of(alloc, model, ends.choices())?;
+    let back = reversed(alloc, &edges, model.states())?;
+    let ranks = ranks_by(alloc, &back, target, model.states())?;
+    Ok(ranks)
+}
+
 /// A pass toward the targets by inner choices, over all end components at once. It marks exactly the targets and the states of the end components
 /// that hold one. Targets have rank 0. The choice of any other marked state is the least inner one that has a successor of smaller rank. The time
 /// grows with the entries.
@@ -115,14 +117,9 @@ pub fn toward_targets(
     ensures marks { IfOk result (λ pass. (s : ℕ) → s < states_of model.now → (marked pass.marks s ≡ true) ↔ HasTarget model.now ends.now.parts target.now s) }
 {
     model.known();
-    let edges = edges_of(alloc, model, ends.choices())?;
-    let back = reversed(alloc, &edges, model.states())?;
-    let ranks = ranks_by(alloc, &back, target, model.states())?;
-    Ok(Pass {
-        marks: marks_by(alloc, &ranks)?,
-        ranks: plain_numbers(alloc, &ranks)?,
-        choices: least_choices(alloc, model, ends, &ranks)?,
-    })
+    let ranks = inner_ranks(alloc, model, ends, target)?;
+    let choices = least_choices(alloc, model, ends, &ranks)?;
+    Ok(Pass::by_ranks(alloc, &ranks, choices)?)
 }
 
 /// A pass over end component `i` toward the targets in it, by inner choices. It marks exactly the states of the component. Targets of the

@@ -9,7 +9,6 @@ mod inward;
 mod laws;
 mod losing;
 mod numbering;
-mod ranking;
 mod search;
 mod strong;
 

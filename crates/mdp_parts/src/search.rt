@@ -4,7 +4,7 @@ ghost use Rattle.mdp_spec.specs.Mdp.{states_of, choices_at};
 ghost use Rattle.mdp_ends.specs.Rounds.{keeps_part};
 ghost use Rattle.mdp_parts.specs.Allowed.{AreChoices};
 ghost use Rattle.mdp_parts.specs.FoundEnds.{AreEndsOf};
-ghost use Rattle.mdp_parts.specs.Round.{some_allowed, key_of, IsRound, IsForbidden};
+ghost use Rattle.mdp_parts.specs.Round.{AreLastParts, some_allowed, key_of, IsRound, IsForbidden};
 
 use crate::allowed::Allowed;
 use crate::ends::Ends;
@@ -104,6 +104,22 @@ fn left_parts(
         .collect(alloc)
 }
 
+/// The end components, by their parts and the choices that are allowed.
+fn ends_of(
+    alloc: Global,
+    model: &Model,
+    allowed: Allowed,
+    parts: &[u32],
+) -> Result<Ends, AllocError>
+    requires { AreLastParts model.now allowed parts.now }
+    ensures { IfOk result (λ ends. AreEndsOf model.now ends) }
+{
+    model.known();
+    let keys = left_parts(alloc, model, &allowed, parts)?;
+    let numbering = numbered(alloc, &keys, model.states())?;
+    Ok(Ends::from_parts(numbering.numbers, allowed, numbering.count))
+}
+
 /// All maximal end components of a model, numbered by their least states.
 ///
 /// Each round takes the strong components of the allowed choices and forbids each choice that leaves its own, and then, one after the other, those
@@ -121,7 +137,5 @@ pub fn end_components(alloc: Global, model: &Model) -> Result<Ends, Memory>
         forbid_losing(alloc, model, &preds, &mut allowed)?;
         parts = components(alloc, model, &allowed)?;
     }
-    let keys = left_parts(alloc, model, &allowed, &parts)?;
-    let numbering = numbered(alloc, &keys, model.states())?;
-    Ok(Ends::from_parts(numbering.numbers, allowed, numbering.count))
+    Ok(ends_of(alloc, model, allowed, &parts)?)
 }

@@ -6,7 +6,7 @@ use crate::allowed::Allowed;
 use crate::depth::depth_order;
 use crate::edges::{edges_of, reversed};
 use crate::numbering::{group_back, numbered};
-use crate::ranking::plain_numbers;
+use mdp_graph::plain_ranks;
 use mdp_num::Memory;
 use mdp_rows::Model;
 use std::alloc::Global;
@@ -26,5 +26,5 @@ pub fn components(alloc: Global, model: &Model, allowed: &Allowed) -> Result<Vec
     let order = depth_order(alloc, &edges, model.states())?;
     let groups = group_back(alloc, &back, &order, model.states())?;
     let numbering = numbered(alloc, &groups, model.states())?;
-    Ok(plain_numbers(alloc, &numbering.numbers)?)
+    Ok(plain_ranks(alloc, &numbering.numbers)?)
 }

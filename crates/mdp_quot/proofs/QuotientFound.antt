@@ -1,21 +1,22 @@
 -- The parts that were found are the quotient, and it has the shape that each quotient keeps.
-use Rattle.std.proofs.Common.{◌≡◌, ℕ, suc, ◌<◌, ◌≤◌, ◌^◌, Bool, true, false, ◌==◌, nat_le, cond, List, []}
+use Rattle.std.proofs.Common.{◌≡◌, ℕ, ◌<◌, ◌≤◌, ◌^◌, Bool, true, false, ◌==◌, nat_le, cond, List, []}
 use Rattle.std.proofs.Common.{◌∷◌, length, get_or, map, refl, sym, ap, ap₂, ◌∙◌, subst, arith, Option, None}
-use Rattle.std.specs.List.{range_with_len, flat_map, All}
+use Rattle.std.specs.List.{range_with_len, All}
 use Rattle.std.proofs.lemmas.Bool.{ne_eqb, and_from, le-leb}
 use Rattle.std.proofs.lemmas.List.{length-map, get_or-map, get_or_default}
-use Rattle.std.proofs.lemmas.List.Elements.{All-append, All-filter, All-map, All-cons, All-nil}
-use Rattle.std.proofs.lemmas.List.FromFn.{length-range_with_len, get_or-range_with_len, length-map-range_with_len, get_or-map-range_with_len, fill_by_all}
+use Rattle.std.proofs.lemmas.List.Elements.{All-filter, All-cons, All-nil}
+use Rattle.std.proofs.lemmas.List.FromFn.{length-map-range_with_len, get_or-map-range_with_len, fill_by_all}
 use Rattle.mdp_math.specs.Rational.{ℚ, ◌<ℚ◌}
 use Rattle.mdp_math.proofs.Laws.{+ℚ_comm, zero-+ℚ}
 use Rattle.mdp_math.proofs.Order.{0ℚ, 1ℚ}
 use Rattle.mdp_math.proofs.Whole.{one-pos}
-use Rattle.mdp_spec.specs.Mdp.{Entry, Mdp, states_of, choices_at}
+use Rattle.mdp_spec.specs.Mdp.{Entry, Mdp, states_of}
 use Rattle.mdp_spec.specs.Row.{entries, IsDistribution, IsRow, IsMdp}
 use Rattle.mdp_rows.specs.declared.preds.Pred.{Pred}
-use Rattle.mdp_rows.specs.Preds.{pair, choices_of, choices_below}
+use Rattle.mdp_rows.specs.Preds.{choices_below}
 use Rattle.mdp_ends.specs.Ends.{AreEnds}
 use Rattle.mdp_ends.specs.Quotient.{AreNodes, nodes_in, exits_of, node_row}
+use Rattle.mdp_ends.proofs.Exits.{IsChoice, all_choices}
 use Rattle.mdp_ends.proofs.Leaving.{node_row-is}
 use Rattle.mdp_quot.specs.Numbering.{IsNumbering}
 use Rattle.mdp_quot.specs.ExitLists.{is_exit, AreExits}
@@ -48,23 +49,6 @@ loop_is n k h = record { distribution = loop_distribution k; in_range = All-cons
 
 -- ---- exits
 
-abbrev pub IsChoice : Mdp → Pred → Type 0
-IsChoice m x = (x.state < states_of m) × (x.choice < length (choices_at m x.state))
-
-All-flat_map : {A X : Type 0} (P : X → Type 0) (f : A → List X) (xs : List A) → All (λ a. All P (f a)) xs → All P (flat_map f xs)
-All-flat_map P f [] h = λ k d l. absurd (omega (arith, l))
-All-flat_map P f (a ∷ xs) h = All-append P (f a) (flat_map f xs) (h 0 a (omega arith)) (All-flat_map P f xs (λ k d l. h (suc k) d (omega (arith, l))))
-
-all_choices : (m : Mdp) → All (IsChoice m) (choices_below m (states_of m))
-all_choices m =
-    All-flat_map (IsChoice m) (choices_of m) (range_with_len 0 (states_of m))
-    (λ k d l.
-    (let z : k < states_of m = omega (arith, l, length-range_with_len 0 (states_of m)) in
-    let s : ℕ = get_or (range_with_len 0 (states_of m)) k d in
-    let hs : s < states_of m = omega (arith, z, get_or-range_with_len 0 (states_of m) k d z) in
-    All-map (IsChoice m) (pair s) (range_with_len 0 (length (choices_at m s)))
-    (λ c e u. (let v : c < length (choices_at m s) = omega (arith, u, length-range_with_len 0 (length (choices_at m s))) in (hs, omega (arith, v, get_or-range_with_len 0 (length (choices_at m s)) c e v))))))
-
 pub lists-choices : (m : Mdp) (parts : List (Option ℕ)) (nodes : List ℕ) (n : ℕ) (lists : List (List Pred)) → AreExits m parts nodes n (choices_below m (states_of m)) lists → All (All (IsChoice m)) lists
 lists-choices m parts nodes n lists a k d l =
     subst (λ (xs : List Pred). All (IsChoice m) xs) (sym (a.each k (omega (arith, l, a.count))) ∙ get_or_default lists k [] d l)
@@ -93,6 +77,21 @@ module _ (m : Mdp) (parts : List (Option ℕ)) (nodes : List ℕ) (components fi
         (length-map-range_with_len (λ k. rows_by m nodes k (get_or lists k [])) 0 (length lists) ∙ x.count ∙ sym a.next)
         (λ k h. get_or-map-range_with_len (λ k. rows_by m nodes k (get_or lists k [])) 0 (length lists) k k []
         (omega (arith, h, a.next, x.count)) (omega arith) ∙ ap (rows_by m nodes k) (x.each k (omega (arith, h, a.next))))
+
+-- the same by the lists as the code lends them, and the nodes as they lie in the arena
+pub quotient_laid : (m : Mdp) (parts : List (Option ℕ)) (nodes : List ℕ) (components first : List (Option ℕ)) (lists : List (List Pred)) → length parts ≡ states_of m
+    → IsNumbering parts (states_of m) nodes components first
+    → (read : List ℕ) → read ≡ nodes → (count : ℕ) → count ≡ length components → AreExits m parts read count (choices_below m (states_of m)) lists
+    → (seen : List (List Pred)) → seen ≡ lists → (made : List Node) → map (λ (y : Node). y.component) made ≡ components → map (λ (y : Node). y.exits.now) made ≡ seen
+    → map rows_in made ≡ map (λ k. rows_by m nodes k (get_or seen k [])) (range_with_len 0 (length seen))
+    → (node_of : List ℕ) → node_of ≡ nodes → (kept : List Node) → kept ≡ made → IsQuotient m parts (quotient_in node_of kept)
+quotient_laid m parts nodes components first lists many i read er count ec x seen es made mc me mr node_of en kept ek =
+    let y : AreExits m parts nodes (length components) (choices_below m (states_of m)) lists =
+    subst (λ n. AreExits m parts nodes n (choices_below m (states_of m)) lists) ec (subst (λ (ns : List ℕ). AreExits m parts ns count (choices_below m (states_of m)) lists) er x) in
+    quotient_found m parts nodes components first lists many i y (quotient_in node_of kept) en
+    (ap (λ (xs : List Node). map (λ (z : Node). z.component) xs) ek ∙ mc)
+    (ap (λ (xs : List Node). map (λ (z : Node). z.exits.now) xs) ek ∙ me ∙ es)
+    (ap (λ (xs : List Node). map rows_in xs) ek ∙ mr ∙ ap (λ (ls : List (List Pred)). map (λ k. rows_by m nodes k (get_or ls k [])) (range_with_len 0 (length ls))) es)
 
 -- ---- the shape
 

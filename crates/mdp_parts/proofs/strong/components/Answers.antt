@@ -27,7 +27,7 @@ numbered-requires-clause-below c = λ s k h e.
 pub returns : goal.returns
 returns c =
     let m = c.args.model.now in
-    rw (c.in_ok-plain_numbers.ensures, c.deref-3.ensures.value)
+    rw (c.in_ok-plain_ranks.ensures, c.deref-3.ensures.value)
     (components_found m c.known.ensures.mdp (allowed_at c.args.allowed.now) c.in_ok-edges.edges c.in_ok-back.back c.in_ok-order.order.items c.in_ok-groups.groups.items
     c.in_ok-numbering.numbering.numbers.items c.states-3.result c.states-3.ensures c.in_ok-edges.ensures c.in_ok-back.ensures c.in_ok-order.ensures
     (subst (λ (xs : List ℕ). AreGrouped c.in_ok-back.back xs c.states-3.result c.in_ok-groups.groups.items) c.deref.ensures.value c.in_ok-groups.ensures)

@@ -5,42 +5,42 @@ use Rattle.mdp_graph.specs.Forest.{way_at, attached, IsFound, IsGrown, IsFoundWa
 use Rattle.mdp_graph.proofs.Among.{below-all}
 use Rattle.mdp_graph.proofs.Growing.{forest_grown, found_good, closed_found, still, taken-below}
 use Rattle.mdp_math.proofs.Booleans.{and-left}
-use Rattle.mdp_graph.proofs.falling.attach.Goals as goal
+use Rattle.mdp_graph.proofs.falling.Falling.attach.Goals as goal
 
 pub attach_all-requires-clause-below : goal.attach_all-requires-clause-below
 attach_all-requires-clause-below c =
-    below-all _ _ (λ s e. (let h = taken-below c.args.ways.now.items c.take_found.new.ways.items [] c.in_ok-layer.layer.items c.in_ok-layer.ensures.taken refl s e in
-    omega (arith, h, c.in_ok-layer.ensures.grown.count, c.requires.forest.count)))
+    below-all _ _ (λ s e. (let h = taken-below c.args.self.now.ways.items c.take_found.new.ways.items [] c.in_ok-first.first.items c.in_ok-first.ensures.taken refl s e in
+    omega (arith, h, c.in_ok-first.ensures.grown.count, c.requires.forest.count)))
 
 pub attach_all-requires-clause-forest : goal.attach_all-requires-clause-forest
 attach_all-requires-clause-forest c =
     let m = c.args.model.now in
     let goals = c.args.goals.now in
-    let lists = c.args.allowed.now in
-    let old = c.args.ways.now.items in
+    let lists = c.args.self.now.layers.waiting in
+    let old = c.args.self.now.ways.items in
     let broken = c.args.broken.now in
     let found = c.in_ok-found.found.items in
     let each : (i : ℕ) → i < length broken → IsFound m goals lists old (get_or broken i 0) (way_at found i) =
     subst (λ (x : List (Option Way)). (i : ℕ) → i < length broken → IsFound m goals lists x (get_or broken i 0) (way_at found i)) c.deref.ensures.value c.in_ok-found.ensures.each in
-    let grown = subst (λ (x : List (Option Way)). IsGrown goals old c.take_found.new.ways.items (IsFoundWay broken x) (HasFound broken x)) c.deref-2.ensures.value c.in_ok-layer.ensures.grown in
+    let grown = subst (λ (x : List (Option Way)). IsGrown goals old c.take_found.new.ways.items (IsFoundWay broken x) (HasFound broken x)) c.deref-2.ensures.value c.in_ok-first.ensures.grown in
     forest_grown m goals lists old c.take_found.new.ways.items (IsFoundWay broken found) (HasFound broken found) c.requires.forest grown (found_good m goals lists old found broken each)
 
-pub returns : goal.returns
-returns c =
+pub returns-clause-attaching : goal.returns-clause-attaching
+returns-clause-attaching c =
     let m = c.args.model.now in
     let goals = c.args.goals.now in
-    let lists = c.args.allowed.now in
-    let old = c.args.ways.now.items in
+    let lists = c.args.self.now.layers.waiting in
+    let old = c.args.self.now.ways.items in
     let mid = c.take_found.new.ways.items in
     let broken = c.args.broken.now in
     let found = c.in_ok-found.found.items in
     let each : (i : ℕ) → i < length broken → IsFound m goals lists old (get_or broken i 0) (way_at found i) =
     subst (λ (x : List (Option Way)). (i : ℕ) → i < length broken → IsFound m goals lists x (get_or broken i 0) (way_at found i)) c.deref.ensures.value c.in_ok-found.ensures.each in
-    let grown = subst (λ (x : List (Option Way)). IsGrown goals old mid (IsFoundWay broken x) (HasFound broken x)) c.deref-2.ensures.value c.in_ok-layer.ensures.grown in
+    let grown = subst (λ (x : List (Option Way)). IsGrown goals old mid (IsFoundWay broken x) (HasFound broken x)) c.deref-2.ensures.value c.in_ok-first.ensures.grown in
     let all = c.in_ok-attach_all.ensures in
     record {
       forest = all.forest;
-      closed = all.closed broken (closed_found m goals lists old mid found broken [] c.in_ok-layer.layer.items grown c.in_ok-layer.ensures.taken each);
+      closed = all.closed broken (closed_found m goals lists old mid found broken [] c.in_ok-first.first.items grown c.in_ok-first.ensures.taken each);
       kept = λ s e. all.kept s (still goals old mid grown.kept s e);
       fell_is = λ s h. c.in_ok-fell.ensures s ∙ ap (λ (x : List (Option Way)). is_among s broken && not (attached goals x s)) c.deref-3.ensures.value;
       below = λ s e. and-left (is_among s broken) (not (attached goals c.deref-3.result.now s)) (sym (c.in_ok-fell.ensures s) ∙ e);

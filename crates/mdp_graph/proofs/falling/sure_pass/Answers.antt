@@ -1,0 +1,20 @@
+use Rattle.mdp_graph.proofs.LeftRanks.{inside_ranked, settled_left}
+use Rattle.mdp_graph.proofs.SureSome.{sure_marks, sure_ranks, sure_choices}
+use Rattle.mdp_graph.proofs.falling.sure_pass.Goals as goal
+
+pub returns-clause-marks : goal.returns-clause-marks
+returns-clause-marks c =
+    rw (c.in_ok-by_ranks.ensures.marks, c.deref-2.ensures.value)
+    (sure_marks _ _ _ (settled_left _ _ _ _ _ c.known.ensures.mdp c.requires.rounds c.in_ok-inside.ensures c.in_ok-ranks.ensures))
+
+pub returns-clause-ranks : goal.returns-clause-ranks
+returns-clause-ranks c =
+    rw (c.in_ok-by_ranks.ensures.marks, c.in_ok-by_ranks.ensures.ranks, c.deref-2.ensures.value)
+    (sure_ranks _ _ _ (settled_left _ _ _ _ _ c.known.ensures.mdp c.requires.rounds c.in_ok-inside.ensures c.in_ok-ranks.ensures))
+
+pub returns-clause-choices : goal.returns-clause-choices
+returns-clause-choices c =
+    let ok = c.known.ensures.mdp in
+    rw (c.in_ok-by_ranks.ensures.marks, c.in_ok-by_ranks.ensures.ranks, c.in_ok-by_ranks.ensures.choices, c.deref-2.ensures.value)
+    (sure_choices _ _ _ (settled_left _ _ _ _ _ ok c.requires.rounds c.in_ok-inside.ensures c.in_ok-ranks.ensures) ok _ _ _
+    (inside_ranked _ _ _ _ _ ok c.requires.rounds c.in_ok-inside.ensures c.in_ok-ranks.ensures) c.deref.ensures.value c.in_ok-choices.ensures)
