@@ -1,6 +1,6 @@
 -- The path of an end component of one state, choice by choice.
 use Rattle.std.proofs.Common.{◌≡◌, ◌≢◌, ℕ, zero, suc, ◌+◌, ◌-◌, ◌<◌, ◌≤◌, ◌^◌, min, Bool, true, false, if◌then◌else◌}
-use Rattle.std.proofs.Common.{List, [], ◌∷◌, length, map, filter, Option, Some, Result, Ok, Err, refl, sym, ◌∙◌, ap, subst, arith, pos}
+use Rattle.std.proofs.Common.{List, [], ◌∷◌, length, map, filter, Some, Result, Ok, Err, refl, sym, ◌∙◌, ap, subst, arith, pos}
 use Rattle.std.specs.List.{find, range_with_len}
 use Rattle.std.specs.Option.{unwrap_or}
 use Rattle.std.specs.Prelude.{slice_index}
