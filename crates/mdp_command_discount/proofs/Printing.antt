@@ -10,7 +10,7 @@ use Rattle.mdp_num.specs.OrderView.{equal_decides}
 use Rattle.mdp_spec.specs.Labels.{place_of, initial_of}
 use Rattle.mdp_spec.specs.Mdp.{Mdp, states_of, value_at}
 use Rattle.mdp_rows.specs.declared.dir.Dir.{Dir}
-use Rattle.mdp_wide.specs.declared.too_wide.SolveError.TheVariants as error
+use Rattle.mdp_wide.specs.declared.unfinished.Unfinished.TheVariants as error
 use Rattle.mdp_wide.specs.declared.too_wide.TooWide.{TooWide}
 use Rattle.mdp_policy_iteration.specs.Path.{Found, Refusal}
 use Rattle.mdp_wide.specs.Term.{shown}

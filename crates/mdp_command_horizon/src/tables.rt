@@ -4,7 +4,7 @@ ghost use Rattle.mdp_job.specs.Refusal.{plain_refusal};
 ghost use Rattle.mdp_command_horizon.specs.Due.{most_choices};
 ghost use Rattle.mdp_command_horizon.specs.Code.{refused};
 
-use mdp_horizon::HorizonError;
+use mdp_horizon::{HorizonError, HorizonPlace};
 use mdp_job::Refusal;
 use mdp_rows::Model;
 
@@ -23,11 +23,11 @@ pub(crate) fn refusal_of(error: HorizonError) -> Refusal
     ensures { plain_refusal result ≡ refused error }
 {
     match error {
-        HorizonError::Wide {
+        HorizonError::TooWide(HorizonPlace {
             depth,
             state,
             choice,
-        } => Refusal::HorizonWide {
+        }) => Refusal::HorizonWide {
             depth,
             state,
             choice,

@@ -8,7 +8,7 @@ use Rattle.mdp_policy_iteration.specs.Places.{Place, at_place, up_to}
 use Rattle.mdp_policy_iteration.specs.Candidates.{Best}
 use Rattle.mdp_policy_iteration.specs.Path.{comparing, or_kept}
 use Rattle.mdp_policy_iteration.specs.Faults.{Answers}
-use Rattle.mdp_policy_iteration.specs.declared.errors.RoundError.{RoundError}
+use Rattle.mdp_policy_iteration.specs.Errors.{RoundError}
 use Rattle.mdp_policy_iteration.proofs.Answering.{up_to-refused, Says-then, says_of, says_same, answers_err}
 use Rattle.mdp_unichain.specs.Component.{Component, choices_at, choice_at}
 use Rattle.mdp_unichain.specs.Sums.{compared}

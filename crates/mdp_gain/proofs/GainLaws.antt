@@ -27,7 +27,7 @@ use Rattle.mdp_unichain.proofs.Starts.{has_one_first}
 use Rattle.mdp_unichain.proofs.Trees.{no_tree_earns_more, no_tree_earns_less}
 use Rattle.mdp_ends.specs.Ends.{IsEnd, IsMaximal, AreEnds}
 use Rattle.mdp_unichain.proofs.Parts.{part-state}
-use Rattle.mdp_wide.specs.declared.too_wide.SolveError.{SolveError}
+use Rattle.mdp_wide.specs.Errors.{SolveError}
 use Rattle.mdp_policy_iteration.specs.Queries.{Solves}
 use Rattle.mdp_gain.specs.declared.inner.Inner as code
 use Rattle.mdp_gain.specs.Query.{Answer, answer_of, refusal_at, after_path, plain, EndsSo}

@@ -8,8 +8,8 @@ use Rattle.mdp_unichain.proofs.Compares.{improves_exactly}
 use Rattle.mdp_gain.specs.Code as code
 use Rattle.mdp_policy_iteration.specs.Faults.{Says}
 use Rattle.mdp_gain.specs.Only.{IsOnly, policy_of, values_of, Makes}
-use Rattle.mdp_policy_iteration.specs.declared.errors.RoundError.{RoundError}
-use Rattle.mdp_policy_iteration.specs.declared.errors.RoundError.TheVariants as fault
+use Rattle.mdp_policy_iteration.specs.Errors.{RoundError}
+use Rattle.mdp_wide.specs.declared.unfinished.Unfinished.TheVariants as fault
 use Rattle.mdp_gain.specs.declared.only_round.Turn.{Turn}
 use Rattle.mdp_gain.specs.declared.only_round.Turn.TheVariants as turn
 use Rattle.mdp_gain.proofs.OnlyState.{policy-at, policy-is, only-reference, only-next, only-changed}
@@ -20,7 +20,7 @@ module _ (p : Component) (s : ℕ) where
   makes-err n c result e q h = subst (Makes p s n c) (sym q) h
 
   refused-so : (n c : ℕ) (e : RoundError) → code.Makes p n (policy_of p s c) (Err e) → Makes p s n c (Err e)
-  refused-so n c (fault.Wide kind t d) h = h
+  refused-so n c (fault.TooWide place) h = h
   refused-so n c fault.Memory h = tt
 
   module _ (c : ℕ) (o : IsOnly p s) (n : ℕ) where

@@ -16,8 +16,8 @@ use Rattle.mdp_policy_iteration.specs.Path.{Round, Refusal}
 use Rattle.mdp_policy_iteration.specs.Laws.{first}
 use Rattle.mdp_policy_iteration.specs.Ends.{error_of_part}
 use Rattle.mdp_policy_iteration.specs.Queries.{Solves}
-use Rattle.mdp_policy_iteration.specs.declared.solution.PathError.{PathError}
-use Rattle.mdp_policy_iteration.specs.declared.solution.PathError.TheVariants as error
+use Rattle.mdp_policy_iteration.specs.Errors.{PathError, RoundError}
+use Rattle.mdp_wide.specs.declared.unfinished.Unfinished.TheVariants as error
 use Rattle.mdp_unichain.specs.Component.{Component, count, choices_at, choice_at, IsInner, row_by, IsPolicy, IsComponent}
 use Rattle.mdp_unichain.specs.Iteration.{EndsWith}
 use Rattle.mdp_unichain.specs.Part.{members}
@@ -28,7 +28,7 @@ use Rattle.mdp_unichain.proofs.Best.{inner_of_state}
 use Rattle.mdp_unichain.proofs.Improving.{inner-below}
 use Rattle.mdp_unichain.proofs.Parts.{member-below}
 use Rattle.mdp_unichain.proofs.Picking.{IsFirst}
-use Rattle.mdp_wide.specs.declared.too_wide.SolveError.{SolveError}
+use Rattle.mdp_wide.specs.Errors.{SolveError}
 use Rattle.mdp_parts.specs.FoundEnds.{AreEndsOf}
 use Rattle.mdp_gain.specs.Code.{component_in}
 use Rattle.mdp_gain.specs.declared.component.EndComponent.{EndComponent}
@@ -37,8 +37,6 @@ use Rattle.mdp_gain.proofs.Given.{part-of, member-is}
 use Rattle.mdp_gain.specs.Only.{IsOnly, policy_of, values_of, Makes, Ends, IsErrorOf}
 use Rattle.mdp_gain.specs.OnlyTerms.{zeros}
 use Rattle.mdp_gain.specs.Query.{Answer, answer_of, plain, EndsSo}
-use Rattle.mdp_policy_iteration.specs.declared.errors.RoundError.{RoundError}
-use Rattle.mdp_policy_iteration.specs.declared.errors.RoundError.TheVariants as fault
 use Rattle.mdp_gain.specs.declared.only_round.Settled.{Settled}
 use Rattle.mdp_gain.specs.declared.only_round.Turn.{Turn}
 use Rattle.mdp_gain.specs.declared.only_round.Turn.TheVariants as turn
@@ -83,19 +81,19 @@ module _ (p : Component) (s : ℕ) (o : IsOnly p s) where
   wide n c kind t d = Err (record { number = n; policy = policy_of p s c; place = record { kind = kind; node = t; choice = d } })
 
   pub error-ends : (start n c round : ℕ) (e : RoundError) (x : PathError) → IsErrorOf e round c x → round ≡ min n (2 ^ 64 - 1) → Rest start n c → Makes p s n c (Err e) → Ends p s start (Err x)
-  error-ends start n c round (fault.Wide kind t d) (error.TooWide w) a capped rest m = (
+  error-ends start n c round (error.TooWide place) (error.TooWide w) a capped rest m = (
     n,
     c,
     a.0 ∙ capped,
     a.1,
     subst (λ (k : Kind). EndsWith (path.Makes p) (first (policy_of p s start)) (wide n c k w.node w.choice)) (sym a.2)
-        (subst (λ (u : ℕ). EndsWith (path.Makes p) (first (policy_of p s start)) (wide n c kind u w.choice)) (sym a.3)
-        (subst (λ (u : ℕ). EndsWith (path.Makes p) (first (policy_of p s start)) (wide n c kind t u)) (sym a.4)
-        (rest (wide n c kind t d) (1, (refused (record { number = n; policy = policy_of p s c; place = record { kind = kind; node = t; choice = d } }), m, refl))))),
+        (subst (λ (u : ℕ). EndsWith (path.Makes p) (first (policy_of p s start)) (wide n c place.kind u w.choice)) (sym a.3)
+        (subst (λ (u : ℕ). EndsWith (path.Makes p) (first (policy_of p s start)) (wide n c place.kind place.node u)) (sym a.4)
+        (rest (wide n c place.kind place.node place.choice) (1, (refused (record { number = n; policy = policy_of p s c; place = place }), m, refl))))),
   )
-  error-ends start n c round (fault.Wide kind t d) error.Memory a capped rest m = tt
-  error-ends start n c round fault.Memory (error.TooWide w) a capped rest m = absurd a
-  error-ends start n c round fault.Memory error.Memory a capped rest m = tt
+  error-ends start n c round (error.TooWide place) error.Memory a capped rest m = tt
+  error-ends start n c round error.Memory (error.TooWide w) a capped rest m = absurd a
+  error-ends start n c round error.Memory error.Memory a capped rest m = tt
 
 -- ---- the states of the part
 

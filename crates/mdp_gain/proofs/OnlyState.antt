@@ -35,8 +35,8 @@ use Rattle.mdp_policy_iteration.specs.Faults.{placed_at, Answers}
 use Rattle.mdp_gain.specs.Code.{choice_over}
 use Rattle.mdp_gain.specs.Only.{IsOnly, policy_of, values_of}
 use Rattle.mdp_gain.specs.OnlyTerms.{zeros, ratio_of}
-use Rattle.mdp_policy_iteration.specs.declared.errors.RoundError.{RoundError}
-use Rattle.mdp_policy_iteration.specs.declared.errors.RoundError.TheVariants as fault
+use Rattle.mdp_policy_iteration.specs.Errors.{RoundError}
+use Rattle.mdp_wide.specs.declared.unfinished.Unfinished.TheVariants as fault
 use Rattle.mdp_gain.proofs.OnlyColumns.{no-solution}
 use Rattle.mdp_gain.proofs.OnlySums.{zero-at}
 use Rattle.mdp_gain.proofs.Told.{bias-zero}
@@ -64,7 +64,7 @@ then_same (Err e) f g h = refl
 pub answers_mapped : {A B : Type 0} (f : A → B) (result : Result A RoundError) (r : Result A Place) (w : Result B Place) → Answers (λ x. x) result r → w ≡ (r >>= (λ x. Ok (f x)))
     → Answers f result w
 answers_mapped f (Ok x) r w h e = e ∙ ap (λ (q : Result _ Place). q >>= (λ x. Ok (f x))) h
-answers_mapped f (Err (fault.Wide kind s c)) r w h e = e ∙ ap (λ (q : Result _ Place). q >>= (λ x. Ok (f x))) h
+answers_mapped f (Err (fault.TooWide place)) r w h e = e ∙ ap (λ (q : Result _ Place). q >>= (λ x. Ok (f x))) h
 answers_mapped f (Err fault.Memory) r w h e = tt
 
 module _ (p : Component) (s : ℕ) (o : IsOnly p s) where

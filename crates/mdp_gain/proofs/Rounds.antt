@@ -23,8 +23,8 @@ use Rattle.mdp_unichain.proofs.Paths.{Goes_on, evaluation_next, now, imp, after,
 use Rattle.mdp_parts.specs.FoundEnds.{AreEndsOf}
 use Rattle.mdp_gain.specs.Code.{component_in, Makes, Ends, HasEntries, path_error}
 use Rattle.mdp_policy_iteration.specs.Faults.{Says}
-use Rattle.mdp_policy_iteration.specs.declared.errors.RoundError.{RoundError}
-use Rattle.mdp_policy_iteration.specs.declared.errors.RoundError.TheVariants as fault
+use Rattle.mdp_policy_iteration.specs.Errors.{RoundError}
+use Rattle.mdp_wide.specs.declared.unfinished.Unfinished.TheVariants as fault
 use Rattle.mdp_gain.specs.declared.component.EndComponent.{EndComponent}
 use Rattle.mdp_gain.specs.declared.round.RoundEnd.{RoundEnd}
 use Rattle.mdp_gain.specs.declared.round.RoundEnd.TheVariants as end
@@ -38,10 +38,10 @@ module _ (p : Component) (policy : List ℕ) (t : ℕ) (is : IsReference (is_sta
 
   -- a term of the evaluation is past width
   pub values_refused : (e : RoundError) → Says e (written_values p policy t) → Makes p n policy (Err e)
-  values_refused (fault.Wide kind s c) h = (
+  values_refused (fault.TooWide place) h = (
     t,
     is,
-    subst (λ (r : Result written.Values Place). AfterEvaluation p a t r (refused (record { number = n; policy = policy; place = record { kind = kind; node = s; choice = c } })))
+    subst (λ (r : Result written.Values Place). AfterEvaluation p a t r (refused (record { number = n; policy = policy; place = place })))
         (sym h) refl,
   )
   values_refused fault.Memory h = tt
@@ -52,9 +52,9 @@ module _ (p : Component) (policy : List ℕ) (t : ℕ) (is : IsReference (is_sta
 
     -- a term of the comparison is past width
     pub improved_refused : (e : RoundError) → Says e (written_improved p policy v) → Makes p n policy (Err e)
-    improved_refused (fault.Wide kind s c) h =
-        after_values (refused (record { number = n; policy = policy; place = record { kind = kind; node = s; choice = c } }))
-        (subst (λ (r : Result (List ℕ) Place). AfterComparison p a t v r (refused (record { number = n; policy = policy; place = record { kind = kind; node = s; choice = c } }))) (sym h) refl)
+    improved_refused (fault.TooWide place) h =
+        after_values (refused (record { number = n; policy = policy; place = place }))
+        (subst (λ (r : Result (List ℕ) Place). AfterComparison p a t v r (refused (record { number = n; policy = policy; place = place }))) (sym h) refl)
     improved_refused fault.Memory h = tt
 
     module _ (improved : List ℕ) (made : written_improved p policy v ≡ Ok improved) where
@@ -92,19 +92,19 @@ ends_refused p a x m = (1, (refused x, m, refl))
 pub ends_by : (p : Component) (n : ℕ) (policy start : List ℕ) (round : ℕ) (held : Vec ℕ Global) (e : RoundError) → held.items ≡ policy → round ≡ min n (2 ^ 64 - 1)
     → ((r : Result Found Refusal) → EndsWith (path.Makes p) (record { number = n; policy = policy }) r → EndsWith (path.Makes p) (first start) r) → Makes p n policy (Err e)
     → Ends p start (Err (path_error e round held))
-ends_by p n policy start round held (fault.Wide kind s c) q m rest h = (
+ends_by p n policy start round held (fault.TooWide place) q m rest h = (
   n,
   m,
   subst (λ (policy : List ℕ). EndsWith (path.Makes p) (first start)
-      (let e : Result Found Refusal = Err (record { number = n; policy = policy; place = record { kind = kind; node = s; choice = c } }) in e))
+      (let e : Result Found Refusal = Err (record { number = n; policy = policy; place = place }) in e))
       (sym q)
-      (rest (Err (record { number = n; policy = policy; place = record { kind = kind; node = s; choice = c } }))
-      (ends_refused p (record { number = n; policy = policy }) (record { number = n; policy = policy; place = record { kind = kind; node = s; choice = c } }) h)),
+      (rest (Err (record { number = n; policy = policy; place = place }))
+      (ends_refused p (record { number = n; policy = policy }) (record { number = n; policy = policy; place = place }) h)),
 )
 ends_by p n policy start round held fault.Memory q m rest h = tt
 
 pub error_entries : (p : Component) (e : RoundError) (round : ℕ) (held : Vec ℕ Global) → length held.items ≡ count p → HasEntries p (Err (path_error e round held))
-error_entries p (fault.Wide kind s c) round held h = h
+error_entries p (fault.TooWide place) round held h = h
 error_entries p fault.Memory round held h = tt
 
 -- ---- a next round is a start, and fewer policies are better

@@ -12,14 +12,14 @@ use Rattle.mdp_ends.specs.Ends.{in_part}
 use Rattle.mdp_policy_iteration.specs.Ends.{error_of_part}
 use Rattle.mdp_wide.specs.Term.{WideTerm}
 use Rattle.mdp_policy_iteration.specs.Queries.{Solves}
-use Rattle.mdp_policy_iteration.specs.declared.solution.PathError.{PathError}
-use Rattle.mdp_policy_iteration.specs.declared.solution.PathError.TheVariants as error
+use Rattle.mdp_policy_iteration.specs.Errors.{PathError}
+use Rattle.mdp_wide.specs.declared.unfinished.Unfinished.TheVariants as error
 use Rattle.mdp_unichain.specs.Component.{Component, count, is_state}
 use Rattle.mdp_unichain.specs.Part.{IsPart, members, inner_component}
 use Rattle.mdp_unichain.specs.Path.{IsFirst}
 use Rattle.mdp_unichain.proofs.Parts.{part-state, part-count}
 use Rattle.mdp_gain.specs.Query.{Answer, plain, EndsSo}
-use Rattle.mdp_wide.specs.declared.too_wide.SolveError.{SolveError}
+use Rattle.mdp_wide.specs.Errors.{SolveError}
 use Rattle.mdp_parts.specs.FoundEnds.{AreEndsOf}
 use Rattle.mdp_gain.proofs.Given.{part-of}
 use Rattle.mdp_gain.specs.Code.{component_in, Ends, AtStates, FitsStates, HasEntries, answer_at, values_in}

@@ -10,8 +10,8 @@ use Rattle.mdp_policy_iteration.specs.Places.{Place}
 use Rattle.mdp_policy_iteration.specs.Path.{or_kept}
 use Rattle.mdp_policy_iteration.specs.Laws.{first}
 use Rattle.mdp_policy_iteration.specs.Ends.{capped}
-use Rattle.mdp_policy_iteration.specs.declared.solution.PathError.{PathError}
-use Rattle.mdp_policy_iteration.specs.declared.solution.PathError.TheVariants as error
+use Rattle.mdp_policy_iteration.specs.Errors.{PathError, RoundError}
+use Rattle.mdp_wide.specs.declared.unfinished.Unfinished.TheVariants as error
 use Rattle.mdp_unichain.specs.Component.{Component, count, choices_at}
 use Rattle.mdp_unichain.specs.Written as written
 use Rattle.mdp_unichain.specs.Iteration.{EndsWith}
@@ -20,8 +20,6 @@ use Rattle.mdp_gain.specs.Query.{Answer, answer_of, inner_component}
 use Rattle.mdp_gain.specs.declared.component.EndComponent.{EndComponent}
 use Rattle.mdp_gain.specs.declared.values.Values.{Values}
 use Rattle.mdp_gain.specs.declared.best_policy.Found.{Found}
-use Rattle.mdp_policy_iteration.specs.declared.errors.RoundError.{RoundError}
-use Rattle.mdp_policy_iteration.specs.declared.errors.RoundError.TheVariants as fault
 use Rattle.mdp_gain.specs.declared.round.RoundEnd.{RoundEnd}
 use Rattle.mdp_gain.specs.declared.round.RoundEnd.TheVariants as end
 
@@ -46,9 +44,9 @@ abbrev pub Makes : Component → ℕ → List ℕ → Result RoundEnd RoundError
 Makes p n policy (Ok (end.Done values t)) =
     path.Makes p (record { number = n; policy = policy }) (done (record { policy = policy; reference = t; values = values_in values }))
 Makes p n policy (Ok (end.Next after)) = path.Makes p (record { number = n; policy = policy }) (next (record { number = n + 1; policy = after.items }))
-Makes p n policy (Err (fault.Wide kind s c)) =
-    path.Makes p (record { number = n; policy = policy }) (refused (record { number = n; policy = policy; place = record { kind = kind; node = s; choice = c } }))
-Makes p n policy (Err fault.Memory) = Unit {0}
+Makes p n policy (Err (error.TooWide place)) =
+    path.Makes p (record { number = n; policy = policy }) (refused (record { number = n; policy = policy; place = place }))
+Makes p n policy (Err error.Memory) = Unit {0}
 
 -- the biases of a round's end have an entry for each number
 abbrev pub HasBiases : Component → Result RoundEnd RoundError → Type 0
@@ -73,8 +71,8 @@ Ends p start (Err error.Memory) = Unit {0}
 
 -- the error of a round, with the round and its policy
 abbrev pub path_error : RoundError → ℕ → Vec ℕ Global → PathError
-path_error (fault.Wide kind s c) round policy = error.TooWide (record { round = round; policy = policy; kind = kind; node = s; choice = c })
-path_error fault.Memory round policy = error.Memory
+path_error (error.TooWide place) round policy = error.TooWide (record { round = round; policy = policy; kind = place.kind; node = place.node; choice = place.choice })
+path_error error.Memory round policy = error.Memory
 
 -- an error's policy has a choice for each of these states
 abbrev pub FitsStates : List ℕ → PathError → Type 0

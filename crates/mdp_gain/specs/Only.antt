@@ -6,14 +6,12 @@ use Rattle.mdp_spec.specs.Mdp.{Entry}
 use Rattle.mdp_policy_iteration.specs.Iteration.{next, done, refused}
 use Rattle.mdp_policy_iteration.specs.Laws.{first}
 use Rattle.mdp_policy_iteration.specs.Ends.{capped}
-use Rattle.mdp_policy_iteration.specs.declared.solution.PathError.{PathError}
-use Rattle.mdp_policy_iteration.specs.declared.solution.PathError.TheVariants as error
+use Rattle.mdp_policy_iteration.specs.Errors.{PathError, RoundError}
+use Rattle.mdp_wide.specs.declared.unfinished.Unfinished.TheVariants as error
 use Rattle.mdp_unichain.specs.Component.{Component, count, choice_at, is_state}
 use Rattle.mdp_unichain.specs.Written.{Values}
 use Rattle.mdp_unichain.specs.Iteration.{EndsWith}
 use Rattle.mdp_unichain.specs.Path as path
-use Rattle.mdp_policy_iteration.specs.declared.errors.RoundError.{RoundError}
-use Rattle.mdp_policy_iteration.specs.declared.errors.RoundError.TheVariants as fault
 use Rattle.mdp_gain.specs.OnlyTerms.{zeros}
 use Rattle.mdp_gain.specs.declared.only_round.Settled.{Settled}
 use Rattle.mdp_gain.specs.declared.only_round.Turn.{Turn}
@@ -46,10 +44,10 @@ Makes p s n c (Ok (turn.Done found)) =
     path.Makes p (record { number = n; policy = policy_of p s c })
     (done (record { policy = policy_of p s found.choice; reference = s; values = values_of p found.gain }))
 Makes p s n c (Ok (turn.Next d)) = path.Makes p (record { number = n; policy = policy_of p s c }) (next (record { number = n + 1; policy = policy_of p s d }))
-Makes p s n c (Err (fault.Wide kind t d)) =
+Makes p s n c (Err (error.TooWide place)) =
     path.Makes p (record { number = n; policy = policy_of p s c })
-    (refused (record { number = n; policy = policy_of p s c; place = record { kind = kind; node = t; choice = d } }))
-Makes p s n c (Err fault.Memory) = Unit {0}
+    (refused (record { number = n; policy = policy_of p s c; place = place }))
+Makes p s n c (Err error.Memory) = Unit {0}
 
 -- the path's end, from a choice
 abbrev pub Ends : Component → ℕ → ℕ → Result Settled PathError → Type 0
@@ -63,6 +61,6 @@ Ends p s start (Err error.Memory) = Unit {0}
 
 -- the error of a round, with the round and its choice, or want of memory
 abbrev pub IsErrorOf : RoundError → ℕ → ℕ → PathError → Type 0
-IsErrorOf (fault.Wide kind t d) round c (error.TooWide w) = (w.round ≡ round) × (w.policy.items ≡ c ∷ []) × (w.kind ≡ kind) × (w.node ≡ t) × (w.choice ≡ d)
-IsErrorOf fault.Memory round c (error.TooWide w) = ⊥
+IsErrorOf (error.TooWide place) round c (error.TooWide w) = (w.round ≡ round) × (w.policy.items ≡ c ∷ []) × (w.kind ≡ place.kind) × (w.node ≡ place.node) × (w.choice ≡ place.choice)
+IsErrorOf error.Memory round c (error.TooWide w) = ⊥
 IsErrorOf e round c error.Memory = Unit {0}

@@ -19,7 +19,7 @@ use crate::referred::Referred;
 use crate::values::Values;
 use mdp_elim::{ElimError, solution_law, solve_leaving};
 use mdp_num::{Frac, Wide};
-use mdp_policy_iteration::{RoundError, at_node};
+use mdp_policy_iteration::{NodePlace, RoundError, at_node};
 use mdp_rows::{Marks, PolicyRows};
 use mdp_wide::Kind;
 use std::alloc::{AllocError, Global};
@@ -166,11 +166,11 @@ impl Referred<'_> {
         let sides = self.sides(alloc)?;
         match solve_leaving(alloc, &rows, &active, &sides) {
             Ok(solutions) => Ok(solutions),
-            Err(ElimError::Wide { state }) => Err(RoundError::Wide {
+            Err(ElimError::TooWide(state)) => Err(RoundError::TooWide(NodePlace {
                 kind: Kind::Evaluate,
                 node: state,
                 choice: self.chosen.policy[state as usize],
-            }),
+            })),
             Err(ElimError::Memory) => Err(RoundError::Memory),
         }
     }

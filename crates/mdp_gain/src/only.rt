@@ -13,6 +13,7 @@ use crate::inner::Inner;
 use crate::only_round::Settled;
 use crate::only_state::Only;
 use mdp_num::Frac;
+use mdp_policy_iteration::in_part;
 use mdp_wide::{Part, SolveError};
 use std::alloc::{AllocError, Global};
 
@@ -67,7 +68,7 @@ impl Only<'_> {
         let start = self.component.least_choice(self.s).unwrap_or(0);
         match self.settle(alloc, start) {
             Ok(found) => Ok(inner_of(alloc, self.s, &found)?),
-            Err(error) => Err(error.in_part(Part::Inner(self.component.number))),
+            Err(error) => Err(in_part(error, Part::Inner(self.component.number))),
         }
     }
 }

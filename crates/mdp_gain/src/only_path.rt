@@ -6,18 +6,18 @@ ghost use Rattle.mdp_gain.specs.Only.{IsErrorOf, Ends};
 use crate::only_round::{Settled, Turn};
 use crate::only_state::Only;
 use mdp_elim::solution_law;
-use mdp_policy_iteration::{PathError, RoundError, WideAt};
+use mdp_policy_iteration::{NodePlace, PathError, RoundError, WideAt};
 use std::alloc::Global;
 
 /// The error of a round, with the round and its choice.
 fn path_error(alloc: Global, error: RoundError, round: u64, choice: u32) -> PathError
     ensures { IsErrorOf error round choice result }
 {
-    let RoundError::Wide {
+    let RoundError::TooWide(NodePlace {
         kind,
         node,
         choice: wide,
-    } = error
+    }) = error
     else {
         return PathError::Memory;
     };

@@ -11,7 +11,7 @@ ghost use Rattle.mdp_gain.specs.OnlyTerms.{ratio_of};
 
 use crate::only_state::Only;
 use mdp_num::{Frac, Wide};
-use mdp_policy_iteration::{RoundError, at_choice};
+use mdp_policy_iteration::{NodePlace, RoundError, at_choice};
 use mdp_wide::Kind;
 
 /// The last choice of the path at the only state, and its gain.
@@ -36,11 +36,11 @@ fn at_evaluation(step: Result<Frac, Wide>, s: u32, c: u32) -> Result<Frac, Round
 {
     match step {
         Ok(value) => Ok(value),
-        Err(Wide) => Err(RoundError::Wide {
+        Err(Wide) => Err(RoundError::TooWide(NodePlace {
             kind: Kind::Evaluate,
             node: s,
             choice: c,
-        }),
+        })),
     }
 }
 

@@ -18,7 +18,7 @@ use crate::only_state::Only;
 use mdp_elim::solution_law;
 use mdp_num::Frac;
 use mdp_parts::Ends;
-use mdp_policy_iteration::{PathError, WideAt};
+use mdp_policy_iteration::{PathError, WideAt, in_part};
 use mdp_rows::{Dir, Model};
 use mdp_wide::{Part, SolveError};
 use std::alloc::{AllocError, Global};
@@ -99,7 +99,7 @@ impl EndComponent<'_> {
         let states = self.states(alloc)?;
         match end {
             Ok(found) => Ok(inner_of(alloc, states, &found)?),
-            Err(error) => Err(at_states(alloc, &states, error).in_part(Part::Inner(self.number))),
+            Err(error) => Err(in_part(at_states(alloc, &states, error), Part::Inner(self.number))),
         }
     }
 

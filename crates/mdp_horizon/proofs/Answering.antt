@@ -14,7 +14,7 @@ use Rattle.mdp_horizon.specs.Laws.{GreatestLies, LeastLies, GreatestTotalLies, L
 use Rattle.mdp_horizon.specs.Written.{Answer, Place, written_values, written_until, written_total}
 use Rattle.mdp_horizon.specs.Answer.{Answers, plain}
 use Rattle.mdp_horizon.specs.declared.bounded.Bounded.{Bounded}
-use Rattle.mdp_horizon.specs.declared.error.HorizonError.{HorizonError}
+use Rattle.mdp_horizon.specs.Errors.{HorizonError}
 use Rattle.mdp_horizon.proofs.Backward.{IsBest, HasBounds, best_of_halves, best-one, best-bounded}
 use Rattle.mdp_horizon.proofs.Exact.{written_is_exact}
 

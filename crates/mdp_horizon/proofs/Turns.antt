@@ -5,8 +5,8 @@ use Rattle.mdp_math.proofs.Numbers.{last_or}
 use Rattle.mdp_num.specs.declared.errors.Wide.{Wide}
 use Rattle.mdp_horizon.specs.Written.{Place, at_place, in_turn}
 use Rattle.mdp_horizon.specs.Answer.{Says, Answers, placed}
-use Rattle.mdp_horizon.specs.declared.error.HorizonError.{HorizonError}
-use Rattle.mdp_horizon.specs.declared.error.HorizonError.TheVariants as error
+use Rattle.mdp_horizon.specs.Errors.{HorizonError}
+use Rattle.mdp_wide.specs.declared.unfinished.Unfinished.TheVariants as error
 
 pub ok_same : {A R : Type 0} (x y : A) → (let r : Result A R = Ok x in r) ≡ Ok y → x ≡ y
 ok_same x y h = cc
@@ -50,7 +50,7 @@ module _ {A R : Type 0} (f : ℕ → A → Result A R) (start : Result A R) wher
 pub record IsPlaced {A : Type 0} (depth s c : ℕ) (step : Result A Wide) (e : HorizonError) : Type 0 where
   pub cause : Wide
   pub step_is : step ≡ Err cause
-  pub error_is : e ≡ error.Wide depth s c
+  pub error_is : e ≡ error.TooWide (record { depth = depth; state = s; choice = c })
 
 pub placed-err : {A : Type 0} (depth s c : ℕ) (step : Result A Wide) (e : HorizonError) → placed depth s c step ≡ Err e → IsPlaced depth s c step e
 placed-err depth s c (Ok x) e h = cc
@@ -61,13 +61,13 @@ placed-ok depth s c (Ok y) x h = cc
 placed-ok depth s c (Err w) x h = cc
 
 -- a placed error says so
-pub says : {B : Type 0} (depth s c : ℕ) (e : HorizonError) (r : Result B Place) → e ≡ error.Wide depth s c
+pub says : {B : Type 0} (depth s c : ℕ) (e : HorizonError) (r : Result B Place) → e ≡ error.TooWide (record { depth = depth; state = s; choice = c })
     → r ≡ Err (let w : Place = record { depth = depth; state = s; choice = c } in w) → Says e r
 says depth s c e r q h = subst (λ (e : HorizonError). Says e r) (sym q) h
 
 -- what a computation is refused at, another one that begins with it is refused at
 pub says_then : {A B : Type 0} (e : HorizonError) (r : Result A Place) (q : Result B Place) → ((w : Place) → r ≡ Err w → q ≡ Err w) → Says e r → Says e q
-says_then (error.Wide depth s c) r q h k = h (record { depth = depth; state = s; choice = c }) k
+says_then (error.TooWide place) r q h k = h place k
 says_then error.Memory r q h k = tt
 
 -- an error that is returned

@@ -4,15 +4,15 @@ use Rattle.std.specs.Global.{Global}
 use Rattle.mdp_num.specs.declared.errors.Wide.{Wide}
 use Rattle.mdp_horizon.specs.Choices.{Best}
 use Rattle.mdp_horizon.specs.Written.{Place, Row, Answer}
-use Rattle.mdp_horizon.specs.declared.error.HorizonError.{HorizonError}
-use Rattle.mdp_horizon.specs.declared.error.HorizonError.TheVariants as error
+use Rattle.mdp_horizon.specs.Errors.{HorizonError}
+use Rattle.mdp_wide.specs.declared.unfinished.Unfinished.TheVariants as error
 use Rattle.mdp_horizon.specs.declared.bounded.Bounded.{Bounded}
 use Rattle.mdp_horizon.specs.declared.backup.Leader.{Leader}
 use Rattle.mdp_horizon.specs.declared.backup.Backups.{Backups}
 
 -- an error says that a computation ends at its place; want of memory says nothing
 abbrev pub Says : {B : Type 0} → HorizonError → Result B Place → Type 0
-Says (error.Wide depth s c) r = r ≡ Err (record { depth = depth; state = s; choice = c })
+Says (error.TooWide place) r = r ≡ Err place
 Says error.Memory r = Unit {0}
 
 -- what the code answers to a computation: its value seen by f, its place, or want of memory
@@ -37,4 +37,4 @@ row_of b = record { values = b.values.items; choices = b.choices.items }
 -- a step for a choice of a state
 abbrev pub placed : {A : Type 0} → ℕ → ℕ → ℕ → Result A Wide → Result A HorizonError
 placed depth s c (Ok x) = Ok x
-placed depth s c (Err e) = Err (error.Wide depth s c)
+placed depth s c (Err e) = Err (error.TooWide (record { depth = depth; state = s; choice = c }))

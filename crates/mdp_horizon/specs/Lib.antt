@@ -8,3 +8,4 @@ pub mod Code
 pub mod Answer
 pub mod Spelling
 pub mod Laws
+pub mod Errors

@@ -9,6 +9,7 @@ use Rattle.mdp_rows.specs.declared.dir.Dir.{Dir}
 use Rattle.mdp_horizon.specs.Objective.{Objective, stops, ending}
 use Rattle.mdp_horizon.specs.Objective.Objective.{until, total}
 use Rattle.mdp_horizon.specs.Choices.{Best, best, sum_of_choice, compared}
+use Rattle.mdp_horizon.specs.declared.error.HorizonPlace.{HorizonPlace}
 
 -- f 0, .., f (n - 1) in turn, from a start on; the first refusal ends it
 abbrev pub in_turn : {A R : Type 0} → (ℕ → A → Result A R) → Result A R → ℕ → Result A R
@@ -16,10 +17,8 @@ in_turn f start zero = start
 in_turn f start (suc n) = in_turn f start n >>= f n
 
 -- where a term is past width: how many steps are left, the state, and the choice whose sum is made or compared
-pub record Place : Type 0 where
-  pub depth : ℕ
-  pub state : ℕ
-  pub choice : ℕ
+abbrev pub Place : Type 0
+Place = HorizonPlace
 
 abbrev pub at_place : {A : Type 0} → ℕ → ℕ → ℕ → Option A → Result A Place
 at_place depth s c None = Err (record { depth = depth; state = s; choice = c })

@@ -6,7 +6,7 @@ ghost use Rattle.mdp_horizon.specs.Written.{best_choice, backup, backups, ending
 ghost use Rattle.mdp_horizon.specs.Code.{plain_objective, IsObjectiveOf, IsObjectiveOf-prop};
 ghost use Rattle.mdp_horizon.specs.Answer.{Answers, placed, shown, row_of};
 
-use crate::error::HorizonError;
+use crate::error::{HorizonError, HorizonPlace};
 use crate::objective::Objective;
 use mdp_num::{Frac, Wide};
 use mdp_rows::{Dir, Model};
@@ -56,11 +56,11 @@ fn placed<T>(step: Result<T, Wide>, depth: u32, s: u32, c: u32) -> Result<T, Hor
 {
     match step {
         Ok(value) => Ok(value),
-        Err(Wide) => Err(HorizonError::Wide {
+        Err(Wide) => Err(HorizonError::TooWide(HorizonPlace {
             depth,
             state: s,
             choice: c,
-        }),
+        })),
     }
 }
 

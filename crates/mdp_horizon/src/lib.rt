@@ -14,7 +14,7 @@ mod totals;
 mod write;
 
 pub use bounded::Bounded;
-pub use error::HorizonError;
+pub use error::{HorizonError, HorizonPlace};
 pub use induction::{total, until};
 pub use laws::{between_law, total_law, until_law};
 pub use push::push_steps;

@@ -8,14 +8,14 @@ use Rattle.mdp_wide.specs.declared.too_wide.Kind.{Kind}
 use Rattle.mdp_policy_iteration.specs.Places.{at_place}
 use Rattle.mdp_mean.specs.Join.{Place, steps_to}
 use Rattle.mdp_mean.specs.Faults.{placed_at, Says, Answers}
-use Rattle.mdp_mean.specs.declared.errors.JoinError.{JoinError}
-use Rattle.mdp_mean.specs.declared.errors.JoinError.TheVariants as fault
+use Rattle.mdp_mean.specs.Errors.{JoinError}
+use Rattle.mdp_wide.specs.declared.unfinished.Unfinished.TheVariants as fault
 
 -- an error of a step: its term is past width, and the error names the place
 pub record IsPlaced {A : Type 0} (kind : Kind) (s c : Option ℕ) (step : Result A Wide) (e : JoinError) : Type 0 where
   pub cause : Wide
   pub step_is : step ≡ Err cause
-  pub error_is : e ≡ fault.Wide kind s c
+  pub error_is : e ≡ fault.TooWide (record { kind = kind; state = s; choice = c })
 
 pub placed-err : {A : Type 0} (kind : Kind) (s c : Option ℕ) (step : Result A Wide) (e : JoinError) → placed_at kind s c step ≡ Err e → IsPlaced kind s c step e
 placed-err kind s c (Ok x) e h = cc
@@ -29,7 +29,7 @@ abbrev pub place_of : Kind → Option ℕ → Option ℕ → Place
 place_of kind s c = record { kind = kind; state = s; choice = c }
 
 -- a placed error says so
-pub says : {B : Type 0} (kind : Kind) (s c : Option ℕ) (e : JoinError) (r : Result B Place) → e ≡ fault.Wide kind s c → r ≡ Err (place_of kind s c) → Says e r
+pub says : {B : Type 0} (kind : Kind) (s c : Option ℕ) (e : JoinError) (r : Result B Place) → e ≡ fault.TooWide (record { kind = kind; state = s; choice = c }) → r ≡ Err (place_of kind s c) → Says e r
 says kind s c e r q h = subst (λ (e : JoinError). Says e r) (sym q) h
 
 pub says_memory : {B : Type 0} (e : JoinError) (r : Result B Place) → e ≡ fault.Memory → Says e r
@@ -37,7 +37,7 @@ says_memory e r q = subst (λ (e : JoinError). Says e r) (sym q) tt
 
 -- what a computation is refused at, another one that begins with it is refused at
 pub Says-then : {A B : Type 0} (e : JoinError) (r : Result A Place) (q : Result B Place) → ((w : Place) → r ≡ Err w → q ≡ Err w) → Says e r → Says e q
-Says-then (fault.Wide kind s c) r q h k = h (place_of kind s c) k
+Says-then (fault.TooWide place) r q h k = h (place_of place.kind place.state place.choice) k
 Says-then fault.Memory r q h k = tt
 
 -- an error that is returned

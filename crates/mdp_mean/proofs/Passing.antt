@@ -4,8 +4,8 @@ use Rattle.std.specs.Global.{Global}
 use Rattle.mdp_math.specs.Rational.{ℚ}
 use Rattle.mdp_spec.specs.Mdp.{Mdp}
 use Rattle.mdp_rows.specs.declared.dir.Dir.{Dir}
-use Rattle.mdp_wide.specs.declared.too_wide.SolveError.{SolveError}
-use Rattle.mdp_wide.specs.declared.too_wide.SolveError.TheVariants as solve
+use Rattle.mdp_wide.specs.Errors.{SolveError}
+use Rattle.mdp_wide.specs.declared.unfinished.Unfinished.TheVariants as error
 use Rattle.mdp_wide.specs.Term.{WideTerm}
 use Rattle.mdp_policy_iteration.specs.Queries.{Solves}
 use Rattle.mdp_ends.specs.Ends.{AreEnds}
@@ -18,8 +18,7 @@ use Rattle.mdp_mean.specs.Join.{Place, Joined, written_join}
 use Rattle.mdp_mean.specs.Faults.{Says, in_join}
 use Rattle.mdp_mean.specs.Inners.{Inners, InnersEndSo}
 use Rattle.mdp_mean.specs.Query.{Answer, plain, joining, answer_of, term_at, Held, checked, AfterJoin, JoinEndsSo, EndsSo}
-use Rattle.mdp_mean.specs.declared.errors.JoinError.{JoinError}
-use Rattle.mdp_mean.specs.declared.errors.JoinError.TheVariants as fault
+use Rattle.mdp_mean.specs.Errors.{JoinError}
 
 -- an error that is returned
 pub solves-err : {A B : Type 0} (f : A → B) (Ends : Result B WideTerm → Type 0) (result : Result A SolveError) (e d : SolveError) → result ≡ Err e → e ≡ d → Solves f Ends (Err d) → Solves f Ends result
@@ -29,14 +28,14 @@ solves-err f Ends result e d q p h =
 -- a term past width in a part is one of the query
 pub passed-on : {A B C D : Type 0} (f : A → B) (g : C → D) (Part : Result B WideTerm → Type 0) (Ends : Result D WideTerm → Type 0) (e : SolveError)
     → ((w : WideTerm) → Part (Err w) → Ends (Err w)) → Solves f Part (Err e) → Solves g Ends (Err e)
-passed-on f g Part Ends (solve.TooWide w) h s = (s.0, s.1, h _ s.2)
-passed-on f g Part Ends solve.Memory h s = tt
+passed-on f g Part Ends (error.TooWide w) h s = (s.0, s.1, h _ s.2)
+passed-on f g Part Ends error.Memory h s = tt
 
 -- what a part answers serves the query
 pub goes-through : {A B : Type 0} (f : A → B) (Part Ends : Result B WideTerm → Type 0) (x : Result A SolveError) → ((p : Result B WideTerm) → Part p → Ends p) → Solves f Part x → Solves f Ends x
 goes-through f Part Ends (Ok x) h s = h _ s
-goes-through f Part Ends (Err (solve.TooWide w)) h s = (s.0, s.1, h _ s.2)
-goes-through f Part Ends (Err solve.Memory) h s = tt
+goes-through f Part Ends (Err (error.TooWide w)) h s = (s.0, s.1, h _ s.2)
+goes-through f Part Ends (Err error.Memory) h s = tt
 
 -- ---- in the order of the parts
 
@@ -73,8 +72,8 @@ module _ (j : Joining) where
       subst (λ (w : Result Joined Place). AfterJoin j w (Err (term_at policy x))) (sym e) (ap (λ (p : List ℕ). let r : Result Answer WideTerm = Err (term_at p x) in r) p)
 
   pub join-refused : (e : JoinError) (policy : Vec ℕ Global) → policy.items ≡ j.policy → Says e (written_join j) → Solves plain (JoinEndsSo j) (Err (in_join e policy))
-  join-refused (fault.Wide kind s c) policy p h = (0, refl, refused_by policy.items (written_join j) (record { kind = kind; state = s; choice = c }) p h)
-  join-refused fault.Memory policy p h = tt
+  join-refused (error.TooWide place) policy p h = (0, refl, refused_by policy.items (written_join j) place p h)
+  join-refused error.Memory policy p h = tt
 
   pub join-held : (a : Answer) (y : Joined) (result : Result MeanCert SolveError) → a ≡ answer_of j y → written_join j ≡ Ok y → Solves plain (Held a (checked j.dir j.model j.name a)) result
       → Solves plain (JoinEndsSo j) result

@@ -10,6 +10,7 @@ use Rattle.mdp_spec.specs.Mdp.{Entry, states_of, choices_at, row_at, value_at}
 use Rattle.mdp_elim.specs.System.{is_active}
 use Rattle.mdp_elim.specs.Solve.{written_solution}
 use Rattle.mdp_wide.specs.declared.too_wide.Kind.{Kind}
+use Rattle.mdp_mean.specs.declared.errors.JoinPlace.{JoinPlace}
 use Rattle.mdp_wide.specs.declared.too_wide.Kind.TheVariants.{Evaluate, Compare}
 use Rattle.mdp_policy_iteration.specs.Places.{at_place, up_to}
 use Rattle.mdp_ends.specs.Ends.{is_inside}
@@ -18,10 +19,8 @@ use Rattle.mdp_farkas.specs.Spread.{written_spread}
 use Rattle.mdp_mean.specs.Terms.{Joining, constant_by, greater_excess, bound_by}
 
 -- what was computed, and for which state and choice, where there is one
-pub record Place : Type 0 where
-  pub kind : Kind
-  pub state : Option ℕ
-  pub choice : Option ℕ
+abbrev pub Place : Type 0
+Place = JoinPlace
 
 abbrev pub place : Kind → ℕ → ℕ → Place
 place kind s c = record { kind = kind; state = Some s; choice = Some c }

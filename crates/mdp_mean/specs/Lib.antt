@@ -7,3 +7,4 @@ pub mod Best
 pub mod Query
 pub mod PartsCode
 pub mod Laws
+pub mod Errors

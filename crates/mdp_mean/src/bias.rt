@@ -9,7 +9,7 @@ ghost use Rattle.mdp_mean.specs.Faults.{placed_at, Answers};
 ghost use Rattle.mdp_mean.specs.Join.{constant, policy_rows, eliminated, filled_by, filled, written_bias};
 ghost use Rattle.mdp_mean.specs.Terms.{constant_by};
 
-use crate::errors::JoinError;
+use crate::errors::{JoinError, JoinPlace};
 use crate::joining::Joining;
 use mdp_elim::{ElimError, solve_leaving};
 use mdp_num::{Frac, Wide};
@@ -39,11 +39,11 @@ fn at_state<T>(step: Result<T, Wide>, policy: &[u32], s: u32) -> Result<T, JoinE
 {
     match step {
         Ok(value) => Ok(value),
-        Err(Wide) => Err(JoinError::Wide {
+        Err(Wide) => Err(JoinError::TooWide(JoinPlace {
             kind: Kind::Evaluate,
             state: Some(s),
             choice: Some(policy[s as usize]),
-        }),
+        })),
     }
 }
 
@@ -82,11 +82,11 @@ fn solution_of(
             let mut solutions = solutions;
             Ok(solutions.remove(0))
         }
-        Err(ElimError::Wide { state }) => Err(JoinError::Wide {
+        Err(ElimError::TooWide(state)) => Err(JoinError::TooWide(JoinPlace {
             kind: Kind::Evaluate,
             state: Some(state),
             choice: Some(join.policy[state as usize]),
-        }),
+        })),
         Err(ElimError::Memory) => Err(JoinError::Memory),
     }
 }

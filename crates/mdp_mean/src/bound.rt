@@ -7,7 +7,7 @@ ghost use Rattle.mdp_mean.specs.Faults.{placed_at, Answers};
 ghost use Rattle.mdp_mean.specs.Join.{written_bound};
 ghost use Rattle.mdp_mean.specs.Terms.{written_moved, bound_by};
 
-use crate::errors::JoinError;
+use crate::errors::{JoinError, JoinPlace};
 use crate::joining::Joining;
 use mdp_num::{Frac, Wide};
 use mdp_rows::Dir;
@@ -40,11 +40,11 @@ fn at_state(step: Result<Frac, Wide>, policy: &[u32], s: u32) -> Result<Frac, Jo
 {
     match step {
         Ok(value) => Ok(value),
-        Err(Wide) => Err(JoinError::Wide {
+        Err(Wide) => Err(JoinError::TooWide(JoinPlace {
             kind: Kind::Compare,
             state: Some(s),
             choice: Some(policy[s as usize]),
-        }),
+        })),
     }
 }
 

@@ -9,7 +9,7 @@ ghost use Rattle.mdp_mean.specs.Faults.{placed_at, Answers};
 ghost use Rattle.mdp_mean.specs.Join.{after_choice, after_state, written_excess};
 ghost use Rattle.mdp_mean.specs.Terms.{excess_over, excess_at, greater_excess};
 
-use crate::errors::JoinError;
+use crate::errors::{JoinError, JoinPlace};
 use crate::joining::Joining;
 use mdp_num::{Frac, Wide};
 use mdp_rows::Dir;
@@ -65,11 +65,11 @@ fn at_choice(step: Result<Frac, Wide>, s: u32, c: u32) -> Result<Frac, JoinError
 {
     match step {
         Ok(value) => Ok(value),
-        Err(Wide) => Err(JoinError::Wide {
+        Err(Wide) => Err(JoinError::TooWide(JoinPlace {
             kind: Kind::Compare,
             state: Some(s),
             choice: Some(c),
-        }),
+        })),
     }
 }
 

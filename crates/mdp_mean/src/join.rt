@@ -7,7 +7,7 @@ ghost use Rattle.mdp_mean.specs.Join.{policy_rows, written_join};
 
 use crate::bias::bias_of;
 use crate::bound::bound_of;
-use crate::errors::JoinError;
+use crate::errors::{JoinError, JoinPlace};
 use crate::excess::greatest_excess;
 use crate::joining::Joining;
 use mdp_farkas::spread_of;
@@ -29,11 +29,11 @@ fn at_no_state(step: Result<Frac, Wide>) -> Result<Frac, JoinError>
 {
     match step {
         Ok(value) => Ok(value),
-        Err(Wide) => Err(JoinError::Wide {
+        Err(Wide) => Err(JoinError::TooWide(JoinPlace {
             kind: Kind::Compare,
             state: None,
             choice: None,
-        }),
+        })),
     }
 }
 

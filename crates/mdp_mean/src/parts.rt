@@ -14,7 +14,7 @@ ghost use Rattle.mdp_mean.specs.Query.{plain, at_nodes, leaving, JoinEndsSo};
 ghost use Rattle.mdp_mean.specs.Faults.{in_join};
 
 use crate::certificate::held;
-use crate::errors::JoinError;
+use crate::errors::{JoinError, JoinPlace};
 use crate::inners::Inners;
 use crate::join::joined;
 use crate::joining::Joining;
@@ -97,11 +97,11 @@ fn in_join(error: JoinError, policy: Vec<u32>) -> SolveError
     ensures { result ≡ in_join error policy }
 {
     match error {
-        JoinError::Wide {
+        JoinError::TooWide(JoinPlace {
             kind,
             state,
             choice,
-        } => SolveError::TooWide(TooWide {
+        }) => SolveError::TooWide(TooWide {
             part: Part::Join,
             round: 0,
             policy,

@@ -4,7 +4,7 @@ use Rattle.std.specs.Prelude.{Result}
 use Rattle.mdp_spec.specs.Mdp.{Mdp}
 use Rattle.mdp_rows.specs.declared.dir.Dir.{Dir}
 use Rattle.mdp_rows.specs.Limits.{IsModel}
-use Rattle.mdp_wide.specs.declared.too_wide.SolveError.{SolveError}
+use Rattle.mdp_wide.specs.Errors.{SolveError}
 use Rattle.mdp_ends.specs.Ends.{AreEnds, count_of}
 use Rattle.mdp_policy_iteration.specs.Queries.{Solves}
 use Rattle.mdp_unichain.specs.Part.{IsPart}

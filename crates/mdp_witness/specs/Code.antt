@@ -2,8 +2,8 @@
 use Rattle.std.specs.Prelude.{◌≡◌, ℕ, Result, Ok, Err}
 use Rattle.mdp_math.specs.Rational.{ℚ}
 use Rattle.mdp_wide.specs.declared.too_wide.Part.TheVariants as part
-use Rattle.mdp_wide.specs.declared.too_wide.SolveError.{SolveError}
-use Rattle.mdp_wide.specs.declared.too_wide.SolveError.TheVariants as solve
+use Rattle.mdp_wide.specs.Errors.{SolveError}
+use Rattle.mdp_wide.specs.declared.unfinished.Unfinished.TheVariants as solve
 use Rattle.mdp_policy_iteration.specs.Ends.{capped}
 use Rattle.mdp_wide.specs.Term.{shown}
 use Rattle.mdp_subsystem_rules.specs.declared.flow.FlowCert.{FlowCert}

@@ -131,7 +131,7 @@ pub(crate) fn flow_witness(
     };
     let found = match policy.evaluate(alloc, &first) {
         Ok(found) => found,
-        Err(ElimError::Wide { state }) => return Err(visiting(whole.choices, state)),
+        Err(ElimError::TooWide(state)) => return Err(visiting(whole.choices, state)),
         Err(ElimError::Memory) => return Err(WitnessError::Memory),
     };
     let left = policy.trials(alloc, &threshold, first, found)?;

@@ -7,8 +7,8 @@ use Rattle.mdp_math.proofs.Numbers.{le_or}
 use Rattle.mdp_spec.specs.Mdp.{Entry, Mdp, row_at, value_at}
 use Rattle.mdp_spec.specs.Tree.{is_marked}
 use Rattle.mdp_elim.specs.Visits.{AreVisits}
-use Rattle.mdp_elim.specs.declared.errors.ElimError.{ElimError}
-use Rattle.mdp_elim.specs.declared.errors.ElimError.TheVariants as refused
+use Rattle.mdp_elim.specs.Errors.{ElimError}
+use Rattle.mdp_wide.specs.declared.unfinished.Unfinished.TheVariants as refused
 use Rattle.mdp_witness_trials.specs.Evaluation.{with_arrivals, placed, arrivals_below}
 use Rattle.mdp_witness_trials.specs.EvaluationCode.{Answers}
 
@@ -40,7 +40,7 @@ module _ (m : Mdp) (goals : List Bool) (policy : List ℕ) (start : ℕ) (set : 
   ]
 
   pub below-err : (e : ElimError) (s n : ℕ) (sum : ℚ) → s < n → below s ≡ Ok sum → is_marked set s ≡ true → Answers (λ (x : ℚ). x) (Err e) (at s sum) → Answers (λ (x : ℚ). x) (Err e) (below n)
-  below-err (refused.Wide t) s n sum l b a h = err_up t n (s + 1) (omega arith) (below-in s sum (Err t) b a h)
+  below-err (refused.TooWide t) s n sum l b a h = err_up t n (s + 1) (omega arith) (below-in s sum (Err t) b a h)
   below-err refused.Memory s n sum l b a h = tt
 
 -- there is one number of visits per state
@@ -51,8 +51,8 @@ visits-count rows set start n (Err e) l h = tt
 
 -- an error at a step is one of all steps
 pub err_then : {A B : Type 0} {C D : Type 0} (f : A → C) (g : B → D) (e : ElimError) (r : Result C ℕ) (next : C → Result D ℕ) → Answers f (Err e) r → Answers g (Err e) (r >>= next)
-err_then f g (refused.Wide t) r next h = ap (λ o. o >>= next) h
+err_then f g (refused.TooWide t) r next h = ap (λ o. o >>= next) h
 err_then f g refused.Memory r next h = tt
 
-pub answers_wide : {A B : Type 0} (f : A → B) (e : ElimError) (s : ℕ) (r : Result B ℕ) → e ≡ refused.Wide s → Answers f (Err e) r → r ≡ Err s
+pub answers_wide : {A B : Type 0} (f : A → B) (e : ElimError) (s : ℕ) (r : Result B ℕ) → e ≡ refused.TooWide s → Answers f (Err e) r → r ≡ Err s
 answers_wide f e s r is h = subst (λ (e : ElimError). Answers f (Err e) r) is h

@@ -6,8 +6,8 @@ use Rattle.mdp_spec.specs.Sub.{sub_of}
 use Rattle.mdp_spec.proofs.Subsystem.{sub-states}
 use Rattle.mdp_rows.specs.declared.dir.Dir.TheVariants.{Min}
 use Rattle.mdp_wide.specs.declared.too_wide.TooWide.{TooWide}
-use Rattle.mdp_wide.specs.declared.too_wide.SolveError.{SolveError}
-use Rattle.mdp_wide.specs.declared.too_wide.SolveError.TheVariants as solve
+use Rattle.mdp_wide.specs.Errors.{SolveError}
+use Rattle.mdp_wide.specs.declared.unfinished.Unfinished.TheVariants as solve
 use Rattle.mdp_farkas.specs.declared.reach.ReachCert.{ReachCert}
 use Rattle.mdp_graph.specs.Laws.{RestMeets}
 use Rattle.mdp_policy_iteration.specs.Laws.{EndsAtBest}

@@ -56,7 +56,7 @@ impl Policy<'_, '_, '_, '_> {
                     Trial::Needed | Trial::PastWidth => Ok(last),
                 }
             }
-            Err(ElimError::Wide { state: _ }) => {
+            Err(ElimError::TooWide(_)) => {
                 Trial::PastWidth.mark(s, kept, wide);
                 Ok(last)
             }

@@ -13,6 +13,7 @@ ghost use Rattle.mdp_witness_trials.specs.EvaluationCode.{plain, placed_at, Answ
 use mdp_elim::{Chain, ElimError, visits};
 use mdp_num::{Frac, Wide};
 use mdp_rows::{Marks, Model, PolicyRows, Row};
+use mdp_wide::Unfinished;
 use std::alloc::{AllocError, Global};
 
 /// The policy of the greatest probability, with the ranks by which it leads to a goal, and where it starts.
@@ -91,7 +92,7 @@ fn placed(s: u32, sum: Result<Frac, Wide>) -> Result<Frac, ElimError>
 {
     match sum {
         Ok(x) => Ok(x),
-        Err(Wide) => Err(ElimError::Wide { state: s }),
+        Err(Wide) => Err(ElimError::TooWide(s)),
     }
 }
 
@@ -101,7 +102,7 @@ impl Policy<'_, '_, '_, '_> {
         requires state { s < states_of self.now.model.now }
         requires visits { length visits.now ≡ states_of self.now.model.now }
         ensures sum { Answers (λ x. x) result (placed s (with_arrivals self.now.goals.now (value_at visits.now s) sum.now (row_at self.now.model.now s (slice_index self.now.choices.now s)))) }
-        ensures place { (t : ℕ) → result ≡ Err (ElimError.Wide t) → t ≡ s }
+        ensures place { (t : ℕ) → result ≡ Err (Unfinished.TooWide t) → t ≡ s }
     {
         let row = self.model.row(s, self.choices[s as usize]);
         placed(s, with_arrivals(self.goals, &visits[s as usize], sum, row))
@@ -111,7 +112,7 @@ impl Policy<'_, '_, '_, '_> {
     fn arrivals(&self, set: &Marks, visits: &[Frac]) -> Result<Frac, ElimError>
         requires set { length set.now ≡ states_of self.now.model.now }
         requires visits { length visits.now ≡ states_of self.now.model.now }
-        ensures place { (s : ℕ) → result ≡ Err (ElimError.Wide s) → s < states_of self.now.model.now }
+        ensures place { (s : ℕ) → result ≡ Err (Unfinished.TooWide s) → s < states_of self.now.model.now }
         ensures sum { Answers (λ x. x) result (arrivals_below self.now.model.now self.now.goals.now self.now.choices.now self.now.start set.now visits.now (states_of self.now.model.now)) }
     {
         let mut sum = goal_source(self.goals, self.start);
@@ -132,7 +133,7 @@ impl Policy<'_, '_, '_, '_> {
         requires leaves { Leaves (policy_rows self.now.model.now self.now.choices.now) set.now self.now.ranks.now }
         ensures visits { Answers (λ y. y.items) result (visits_on self.now.model.now self.now.choices.now self.now.start set.now) }
         ensures count { IfOk result (λ y. length y.items ≡ states_of self.now.model.now) }
-        ensures place { (s : ℕ) → result ≡ Err (ElimError.Wide s) → s < states_of self.now.model.now }
+        ensures place { (s : ℕ) → result ≡ Err (Unfinished.TooWide s) → s < states_of self.now.model.now }
     {
         if !set.at(self.start) {
             return Ok(vec![in alloc; Frac::whole(0); self.model.states() as usize]?);
@@ -154,7 +155,7 @@ impl Policy<'_, '_, '_, '_> {
     pub fn evaluate(&self, alloc: Global, set: &Marks) -> Result<Visited, ElimError>
         requires set { length set.now ≡ states_of self.now.model.now }
         requires leaves { Leaves (policy_rows self.now.model.now self.now.choices.now) set.now self.now.ranks.now }
-        ensures place { (s : ℕ) → result ≡ Err (ElimError.Wide s) → s < states_of self.now.model.now }
+        ensures place { (s : ℕ) → result ≡ Err (Unfinished.TooWide s) → s < states_of self.now.model.now }
         ensures count { IfOk result (λ v. length v.visits.items ≡ states_of self.now.model.now) }
         ensures found { Answers plain result (visited self.now.model.now self.now.goals.now self.now.choices.now self.now.start set.now) }
     {

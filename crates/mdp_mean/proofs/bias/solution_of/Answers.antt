@@ -23,7 +23,7 @@ returns-in-Ok-clause-count c =
 pub bounds-join-state : goal.bounds-join-state
 bounds-join-state c =
     let j = joining_in c.args.join.now in
-    let l = written_solution-below (policy_rows j) _ _ c.in-Err-Wide.state ((c.in-Err-Wide.ensures {u = tt}).wide c.in-Err-Wide.state (search rules)) in
+    let l = written_solution-below (policy_rows j) _ _ c.in-Err-TooWide.state ((c.in-Err-TooWide.ensures {u = tt}).wide c.in-Err-TooWide.state (search rules)) in
     let n : length (policy_rows j) ≡ states_of j.model = length-map-range_with_len (λ s. row_at j.model s (slice_index j.policy s)) 0 (states_of j.model) in
     let m = c.args.join.now.chosen.one_each in
     omega (arith, l, n, m)

@@ -2,7 +2,7 @@ use Rattle.std.proofs.Common.{◌≡◌, ◌∙◌, ◌<◌, ℕ, List, Ok, Err,
 use Rattle.mdp_math.specs.Rational.{ℚ}
 use Rattle.mdp_spec.specs.Tree.{IsPolicy}
 use Rattle.mdp_elim.specs.System.{Leaves}
-use Rattle.mdp_wide.specs.declared.too_wide.SolveError.{SolveError}
+use Rattle.mdp_wide.specs.Errors.{SolveError}
 use Rattle.mdp_policy_iteration.specs.Queries.{Solves}
 use Rattle.mdp_ends.specs.Toward.{IsOuter, lifted}
 use Rattle.mdp_quot.specs.Lifting.{IsInner}

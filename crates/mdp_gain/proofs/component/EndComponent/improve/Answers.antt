@@ -1,6 +1,6 @@
 use Rattle.std.proofs.Common.{◌≡◌, ℕ, ◌+◌, List, Ok, Err, refl, sym, subst, arith, rules}
 use Rattle.mdp_policy_iteration.specs.Path.{Round}
-use Rattle.mdp_policy_iteration.specs.declared.solution.PathError.{PathError}
+use Rattle.mdp_policy_iteration.specs.Errors.{PathError}
 use Rattle.mdp_unichain.specs.Chain.{IsReference}
 use Rattle.mdp_unichain.specs.Component.{is_state, row_by, IsPolicy}
 use Rattle.mdp_unichain.specs.Path.{Found, IsStart}

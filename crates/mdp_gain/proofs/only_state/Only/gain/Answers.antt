@@ -5,7 +5,7 @@ use Rattle.mdp_unichain.proofs.Improving.{inner-below}
 use Rattle.mdp_gain.specs.Code.{component_in}
 use Rattle.mdp_policy_iteration.specs.Faults.{Answers}
 use Rattle.mdp_gain.specs.Only.{policy_of, values_of}
-use Rattle.mdp_policy_iteration.specs.declared.errors.RoundError.{RoundError}
+use Rattle.mdp_policy_iteration.specs.Errors.{RoundError}
 use Rattle.mdp_gain.proofs.OnlyState.{gain-told}
 use Rattle.mdp_gain.proofs.only_state.Only.gain.Goals as goal
 

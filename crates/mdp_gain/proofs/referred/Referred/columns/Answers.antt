@@ -28,11 +28,11 @@ returns-in-Ok-clause-lengths c =
 pub bounds-self-state : goal.bounds-self-state
 bounds-self-state c =
     let n = rows-count c.args.self.now in
-    let l = ((c.in-Err-Wide.ensures {u = tt}).place c.in-Err-Wide.state (search rules)).0 in
+    let l = ((c.in-Err-TooWide.ensures {u = tt}).place c.in-Err-TooWide.state (search rules)).0 in
     let m = c.args.self.now.chosen.is.len in
     omega (arith, n, l, m)
 
-pub returns-in-Err-Wide-clause-value : goal.returns-in-Err-Wide-clause-value
-returns-in-Err-Wide-clause-value c =
+pub returns-in-Err-TooWide-clause-value : goal.returns-in-Err-TooWide-clause-value
+returns-in-Err-TooWide-clause-value c =
     solution-told c.args.self.now c.requires.given c.requires.leads c.in_ok-active.active (c.in_ok-active.ensures {u = tt}) (map (λ x. x.items) c.deref.result.now)
-    (ap (map (λ x. x.items)) c.deref.ensures.value ∙ (c.in_ok-sides.ensures {u = tt}).columns) (Err c.in-Err-Wide.state) ((c.in-Err-Wide.ensures {u = tt}).wide c.in-Err-Wide.state (search rules))
+    (ap (map (λ x. x.items)) c.deref.ensures.value ∙ (c.in_ok-sides.ensures {u = tt}).columns) (Err c.in-Err-TooWide.state) ((c.in-Err-TooWide.ensures {u = tt}).wide c.in-Err-TooWide.state (search rules))

@@ -32,14 +32,14 @@ returns-in-Needed c = record {
       (kept_last c.of-trial.result (Ok (plain c.in-Ok.found)) (plain c.args.last) c.in-Needed.is);
 }
 
-pub returns-in-Err-Wide : goal.returns-in-Err-Wide
-returns-in-Err-Wide c = record {
+pub returns-in-Err-TooWide : goal.returns-in-Err-TooWide
+returns-in-Err-TooWide c = record {
   step =
       step_by (Visits c.args.self.now.model.now c.args.self.now.goals.now c.args.self.now.choices.now c.args.self.now.start) visited_value c.args.threshold.now c.args.s c.args.kept.now
-      c.args.wide.now c.set.new.self (plain c.args.last) c.mark-in-Err-Wide.new.kept
-      c.mark-in-Err-Wide.new.wide (plain c.args.last) (omega arith) c.set.ensures (Err c.in-Err-Wide.field-0-0) PastWidth refl
-      (sym (answers_wide plain c.in-Err-Wide.field-0 c.in-Err-Wide.field-0-0 (visited c.args.self.now.model.now c.args.self.now.goals.now c.args.self.now.choices.now
-      c.args.self.now.start c.set.new.self) c.in-Err-Wide.field-0-is
-      (c.in-Err-Wide.ensures {u = tt}).found))
-      c.mark-in-Err-Wide.ensures.kept c.mark-in-Err-Wide.ensures.wide refl;
+      c.args.wide.now c.set.new.self (plain c.args.last) c.mark-in-Err-TooWide.new.kept
+      c.mark-in-Err-TooWide.new.wide (plain c.args.last) (omega arith) c.set.ensures (Err c.in-Err-TooWide.field-0-0) PastWidth refl
+      (sym (answers_wide plain c.in-Err-TooWide.field-0 c.in-Err-TooWide.field-0-0 (visited c.args.self.now.model.now c.args.self.now.goals.now c.args.self.now.choices.now
+      c.args.self.now.start c.set.new.self) c.in-Err-TooWide.field-0-is
+      (c.in-Err-TooWide.ensures {u = tt}).found))
+      c.mark-in-Err-TooWide.ensures.kept c.mark-in-Err-TooWide.ensures.wide refl;
 }
