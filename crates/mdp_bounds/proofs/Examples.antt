@@ -14,12 +14,12 @@ use Rattle.mdp_bounds.specs.Sum.{plain_add, told_sum}
 use Rattle.mdp_bounds.specs.Reach.{bounds_checks}
 use Rattle.mdp_bounds.specs.Says.{ReachSays, RewardSays, MeanSays}
 use Rattle.mdp_rows.specs.declared.dir.Dir.TheVariants.{Max}
-use Rattle.mdp_farkas.specs.declared.verdict.Verdict.{Verdict}
-use Rattle.mdp_farkas.specs.declared.verdict.Verdict.TheVariants.{Yes, No, Wide}
+use Rattle.mdp_claims.specs.declared.verdict.Verdict.{Verdict}
+use Rattle.mdp_claims.specs.declared.verdict.Verdict.TheVariants.{Yes, No, Wide}
 use Rattle.mdp_bounds.specs.Reward.{reward_bounds_checks}
 use Rattle.mdp_bounds.specs.Mean.{mean_bounds_checks}
-use Rattle.mdp_farkas.specs.declared.rule.Rule.TheVariants.{BiasOnPolicy, BoundOnEachChoice, RewardOnPolicy, RewardValue, ValueOnEachChoice, ValueOnPolicy}
-use Rattle.mdp_farkas.specs.declared.rule.Rule.{Rule}
+use Rattle.mdp_claims.specs.declared.rule.Rule.TheVariants.{BiasOnPolicy, BoundOnEachChoice, RewardOnPolicy, RewardValue, ValueOnEachChoice, ValueOnPolicy}
+use Rattle.mdp_claims.specs.declared.rule.Rule.{Rule}
 
 -- a number of which a third has a denominator past width
 abbrev narrowest : ℚ

@@ -20,9 +20,9 @@ use Rattle.mdp_bounds.specs.Mean.{MeetsMeanBetween}
 use Rattle.mdp_bounds.specs.Mean.{gain_check, relative_check, told_spread, spread_check, gains_cover, gains_follow, mean_bounds_at, state_bounds_checks, mean_bounds_checks, IsMeanBounds}
 use Rattle.mdp_rows.specs.declared.dir.Dir.{Dir}
 use Rattle.mdp_rows.specs.declared.dir.Dir.TheVariants.{Max, Min}
-use Rattle.mdp_farkas.specs.declared.verdict.Fault.{Fault}
-use Rattle.mdp_farkas.specs.declared.verdict.Verdict.{Verdict}
-use Rattle.mdp_farkas.specs.declared.verdict.Verdict.TheVariants.{No}
+use Rattle.mdp_claims.specs.declared.verdict.Fault.{Fault}
+use Rattle.mdp_claims.specs.declared.verdict.Verdict.{Verdict}
+use Rattle.mdp_claims.specs.declared.verdict.Verdict.TheVariants.{No}
 use Rattle.mdp_farkas.proofs.Holds.{Each, Holds, Sound, each_of_yes, yes_of_each, told_of_each, if_yes, holds_of_sound, never_no}
 use Rattle.mdp_farkas.proofs.Holds.{each_append, each_left, each_right, each_flat, each_flat_at, each_map, each_map_at}
 use Rattle.mdp_bounds.proofs.Sums.{mapped_holds, mapped_sound}

@@ -10,8 +10,8 @@ use Rattle.mdp_spec.specs.MeanRules.{spread_of}
 use Rattle.mdp_farkas.specs.Verdict.{verdict_of, at_choices}
 use Rattle.mdp_farkas.specs.Reach.{other, choice_exists}
 use Rattle.mdp_rows.specs.declared.dir.Dir.{Dir}
-use Rattle.mdp_farkas.specs.declared.verdict.Fault.{Fault}
-use Rattle.mdp_farkas.specs.declared.verdict.Verdict.TheVariants.{No}
+use Rattle.mdp_claims.specs.declared.verdict.Fault.{Fault}
+use Rattle.mdp_claims.specs.declared.verdict.Verdict.TheVariants.{No}
 use Rattle.mdp_bounds.specs.Reach.{covering, followed}
 use Rattle.mdp_bounds.specs.Mean.{gain_check, relative_check, follow_gain_check, follow_bias_check, told_spread, spread_check, gains_cover, gains_follow}
 use Rattle.mdp_bounds.specs.Mean.{mean_bounds_at, state_bounds_checks, mean_bounds_checks}

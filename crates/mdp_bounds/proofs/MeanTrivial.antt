@@ -21,7 +21,7 @@ use Rattle.mdp_spec.specs.Unit.{reward_of}
 use Rattle.mdp_spec.specs.Tree.{IsPolicy}
 use Rattle.mdp_spec.specs.Written.{written_sum}
 use Rattle.mdp_farkas.specs.Verdict.{Check, verdict_of, at_choices}
-use Rattle.mdp_farkas.specs.declared.verdict.Verdict.TheVariants.{Yes}
+use Rattle.mdp_claims.specs.declared.verdict.Verdict.TheVariants.{Yes}
 use Rattle.mdp_farkas.specs.Compare.{0ℚ}
 use Rattle.mdp_farkas.specs.Reach.{other}
 use Rattle.mdp_bounds.specs.Reach.{covering, followed}

@@ -4,7 +4,7 @@ use Rattle.std.specs.Prelude.{Result, Ok, Err, IsErrAnd}
 use Rattle.std.proofs.lemmas.Result.{err_from_is_err_and}
 use Rattle.mdp_math.specs.Result.{◌>>=◌}
 use Rattle.mdp_farkas.specs.Verdict.{Check, objection_to}
-use Rattle.mdp_farkas.specs.declared.verdict.Objection.{Objection}
+use Rattle.mdp_claims.specs.declared.verdict.Objection.{Objection}
 use Rattle.mdp_farkas.proofs.Objections.{objection_to-append}
 
 -- what stands against two parts, by what stands against each

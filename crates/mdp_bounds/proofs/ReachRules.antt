@@ -16,9 +16,9 @@ use Rattle.mdp_farkas.specs.Reach.{other, fall_check, fall_checks, rank_checks}
 use Rattle.mdp_bounds.specs.Reach.{covering, followed, MeetsReachBetween, cover_at, follow_at, bounds_at, bounds_checks, IsReachBounds}
 use Rattle.mdp_rows.specs.declared.dir.Dir.{Dir}
 use Rattle.mdp_rows.specs.declared.dir.Dir.TheVariants.{Max, Min}
-use Rattle.mdp_farkas.specs.declared.verdict.Fault.{Fault}
-use Rattle.mdp_farkas.specs.declared.verdict.Verdict.{Verdict}
-use Rattle.mdp_farkas.specs.declared.verdict.Verdict.TheVariants.{No}
+use Rattle.mdp_claims.specs.declared.verdict.Fault.{Fault}
+use Rattle.mdp_claims.specs.declared.verdict.Verdict.{Verdict}
+use Rattle.mdp_claims.specs.declared.verdict.Verdict.TheVariants.{No}
 use Rattle.mdp_farkas.proofs.Holds.{Each, Holds, Sound, each_of_yes, yes_of_each, told_of_each, if_yes, sound_of_holds, holds_of_sound, never_no}
 use Rattle.mdp_farkas.proofs.Holds.{each_append, each_left, each_right, each_flat, each_flat_at, each_map, each_map_at}
 use Rattle.mdp_farkas.proofs.Inequalities.{Stands}

@@ -15,9 +15,9 @@ use Rattle.mdp_farkas.specs.Compare.{0ℚ, 1ℚ}
 use Rattle.mdp_farkas.specs.Reach.{other, choice_exists, ends, rank_check, fall_check, fall_checks, rank_checks}
 use Rattle.mdp_rows.specs.declared.dir.Dir.{Dir}
 use Rattle.mdp_rows.specs.declared.dir.Dir.TheVariants.{Max, Min}
-use Rattle.mdp_farkas.specs.declared.verdict.Fault.{Fault}
-use Rattle.mdp_farkas.specs.declared.verdict.Verdict.TheVariants.{No}
-use Rattle.mdp_farkas.specs.declared.rule.Rule.TheVariants.{Probability}
+use Rattle.mdp_claims.specs.declared.verdict.Fault.{Fault}
+use Rattle.mdp_claims.specs.declared.verdict.Verdict.TheVariants.{No}
+use Rattle.mdp_claims.specs.declared.rule.Rule.TheVariants.{Probability}
 use Rattle.mdp_farkas.proofs.Holds.{Each, Holds}
 use Rattle.mdp_farkas.proofs.Inequalities.{Stands}
 use Rattle.mdp_farkas.proofs.ReachRules.{falls_max, falls_min}

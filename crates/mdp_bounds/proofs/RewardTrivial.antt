@@ -15,7 +15,7 @@ use Rattle.mdp_spec.specs.Bounds.{reward_at, finite_part, infinite}
 use Rattle.mdp_spec.specs.RewardRules.{IsTransient}
 use Rattle.mdp_spec.proofs.Values.{finite_of_some, infinite_of_none}
 use Rattle.mdp_farkas.specs.Verdict.{Check, verdict_of}
-use Rattle.mdp_farkas.specs.declared.verdict.Verdict.TheVariants.{Yes}
+use Rattle.mdp_claims.specs.declared.verdict.Verdict.TheVariants.{Yes}
 use Rattle.mdp_farkas.specs.Compare.{0ℚ}
 use Rattle.mdp_farkas.specs.Reward.{stay_check, stay_checks, is_looked_at, rank_fall_check, rank_fall_checks, all_miss_check, infinite_checks}
 use Rattle.mdp_bounds.specs.Reward.{lower_on_each, goal_checks, earning_check, sign_check, sign_checks, half_checks, finite_checks, kind_checks}

@@ -19,7 +19,7 @@ use Rattle.mdp_spec.specs.Row.{IsRow, entries, row_sum}
 use Rattle.mdp_spec.specs.Written.{written_sum}
 use Rattle.mdp_spec.proofs.Rows.{probs_nonneg, row_weigh-const}
 use Rattle.mdp_farkas.specs.Compare.{0ℚ}
-use Rattle.mdp_farkas.proofs.Summing.{written_sum-some}
+use Rattle.mdp_spec.proofs.Summed.{written_sum-some}
 use Rattle.mdp_bounds.specs.Sum.{first_value, have_one_value, plain_add, targets_of, one_sum, or_else, told_sum}
 
 pub plain_add-zero : (x : ℚ) → x +ℚ 0ℚ ≡ x

@@ -9,7 +9,7 @@ use Rattle.mdp_spec.specs.Mdp.{Mdp, states_of, choices_at, row_at, value_at}
 use Rattle.mdp_spec.specs.Tree.{IsPolicy, is_marked}
 use Rattle.mdp_spec.specs.Rules.{AreProbabilities}
 use Rattle.mdp_farkas.specs.Verdict.{Check, verdict_of, at_choices}
-use Rattle.mdp_farkas.specs.declared.verdict.Verdict.TheVariants.{Yes}
+use Rattle.mdp_claims.specs.declared.verdict.Verdict.TheVariants.{Yes}
 use Rattle.mdp_farkas.specs.Compare.{0ℚ, 1ℚ}
 use Rattle.mdp_farkas.specs.Reach.{other, rank_checks}
 use Rattle.mdp_bounds.specs.Reach.{covering, followed, outermost, stands_at, bound_check, policy_check, cover_at, follow_at, bounds_at, bounds_checks, IsTrivialReach}

@@ -10,9 +10,9 @@ use Rattle.mdp_bounds.specs.Reward.{reward_bounds_checks, NoneNegative, MeetsRew
 use Rattle.mdp_bounds.specs.Mean.{mean_bounds_checks, MeetsMeanBetween}
 use Rattle.mdp_bounds.specs.Says.{ReachSays, RewardSays, MeanSays}
 use Rattle.mdp_rows.specs.declared.dir.Dir.{Dir}
-use Rattle.mdp_farkas.specs.declared.rule.Rule.{Rule}
-use Rattle.mdp_farkas.specs.declared.verdict.Fault.{Fault}
-use Rattle.mdp_farkas.specs.declared.verdict.Verdict.TheVariants.{No}
+use Rattle.mdp_claims.specs.declared.rule.Rule.{Rule}
+use Rattle.mdp_claims.specs.declared.verdict.Fault.{Fault}
+use Rattle.mdp_claims.specs.declared.verdict.Verdict.TheVariants.{No}
 
 -- ---- bounds that meet their rules are never answered no
 

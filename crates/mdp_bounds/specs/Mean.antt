@@ -26,7 +26,7 @@ use Rattle.mdp_rows.specs.declared.dir.Dir.{Dir}
 use Rattle.mdp_rows.specs.declared.dir.Dir.TheVariants.{Max, Min}
 use Rattle.mdp_bounds.specs.Sum.{stands, plain_add, told_sum}
 use Rattle.mdp_bounds.specs.Reach.{covering, followed}
-use Rattle.mdp_farkas.specs.declared.rule.Rule.TheVariants.{BiasOnPolicy, BoundOnEachChoice, GainOnEachChoice, GainOnPolicy, SpreadIsGreatest}
+use Rattle.mdp_claims.specs.declared.rule.Rule.TheVariants.{BiasOnPolicy, BoundOnEachChoice, GainOnEachChoice, GainOnPolicy, SpreadIsGreatest}
 
 -- ---- gains and what choices earn
 

@@ -25,7 +25,7 @@ use Rattle.mdp_spec.specs.BetweenRules.{MeetsReachMaxBetween, MeetsReachMinBetwe
 use Rattle.mdp_rows.specs.declared.dir.Dir.{Dir}
 use Rattle.mdp_rows.specs.declared.dir.Dir.TheVariants.{Max, Min}
 use Rattle.mdp_bounds.specs.Sum.{stands, told_sum}
-use Rattle.mdp_farkas.specs.declared.rule.Rule.TheVariants.{GoalValue, Probability, ValueOnEachChoice, ValueOnPolicy}
+use Rattle.mdp_claims.specs.declared.rule.Rule.TheVariants.{GoalValue, Probability, ValueOnEachChoice, ValueOnPolicy}
 
 -- the values that the half on each choice is asked of
 abbrev pub covering : Dir → List ℚ → List ℚ → List ℚ

@@ -26,7 +26,7 @@ use Rattle.mdp_farkas.specs.Reward.{stay_checks, is_looked_at, rank_fall_checks,
 use Rattle.mdp_rows.specs.declared.dir.Dir.{Dir}
 use Rattle.mdp_rows.specs.declared.dir.Dir.TheVariants.{Max, Min}
 use Rattle.mdp_bounds.specs.Sum.{stands, told_sum}
-use Rattle.mdp_farkas.specs.declared.rule.Rule.TheVariants.{RewardNotNegative, RewardOnEachChoice, RewardOnPolicy, RewardValue}
+use Rattle.mdp_claims.specs.declared.rule.Rule.TheVariants.{RewardNotNegative, RewardOnEachChoice, RewardOnPolicy, RewardValue}
 
 -- ---- rule 9
 

@@ -14,24 +14,13 @@ ghost use Rattle.mdp_bounds.specs.Mean.{mean_bounds_at, state_bounds_checks, mea
 use crate::compare::value_stands;
 use crate::spread::spread_of;
 use crate::sum::{plain_sum, row_sum};
+use mdp_claims::MeanBoundsCert;
 use mdp_farkas::{
     Objection, Rule, Verdict, choice_at, each_below, each_choice, judged, judged_at, reversed,
     verdict_after,
 };
 use mdp_num::{Frac, Wide};
 use mdp_rows::{Dir, Model};
-
-/// Lower and upper gains and a memoryless policy, between which the greatest or the least mean payoffs are said to lie: two gains, a bound, a
-/// bias and a choice per state, and the spread of bounds and biases.
-#[derive(Drop)]
-pub struct MeanBoundsCert {
-    pub lower: Vec<Frac>,
-    pub upper: Vec<Frac>,
-    pub bound: Vec<Frac>,
-    pub bias: Vec<Frac>,
-    pub choices: Vec<u32>,
-    pub spread: Frac,
-}
 
 /// Gains, one for each state. `are_one` is set only where all are one number: then the sum over each row is that number too.
 #[derive(Clone, Copy)]

@@ -11,22 +11,13 @@ ghost use Rattle.mdp_bounds.specs.Reach.{cover_at, follow_at, bounds_at, bounds_
 
 use crate::compare::{at_most, value_stands};
 use crate::sum::row_sum;
+use mdp_claims::ReachBoundsCert;
 use mdp_farkas::{
     Objection, Rule, Verdict, choice_at, each_below, each_choice, judged, rank_at_state, reversed,
     verdict_after,
 };
 use mdp_num::{Frac, Wide};
 use mdp_rows::{Dir, Marks, Model};
-
-/// Lower and upper values, a memoryless policy and ranks, between which the greatest or the least probabilities of reaching a goal are said
-/// to lie: one per state.
-#[derive(Drop)]
-pub struct ReachBoundsCert {
-    pub lower: Vec<Frac>,
-    pub upper: Vec<Frac>,
-    pub choices: Vec<u32>,
-    pub ranks: Vec<u32>,
-}
 
 /// The value of state `s` is from 0 to 1.
 fn probability_at(values: &[Frac], s: u32) -> Result<(), Objection>

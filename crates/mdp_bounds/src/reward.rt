@@ -8,22 +8,13 @@ ghost use Rattle.mdp_bounds.specs.Reward.{order_check, sign_check, sign_checks, 
 
 use crate::column::Column;
 use crate::compare::at_most;
+use mdp_claims::RewardBoundsCert;
 use mdp_farkas::{
     Objection, Rule, Verdict, choice_at, each_below, each_choice, is_infinite_at, judged,
     verdict_after,
 };
 use mdp_num::Frac;
 use mdp_rows::{Dir, Marks, Model};
-
-/// Lower and upper rewards until a goal, a memoryless policy and ranks, between which the greatest or the least rewards are said to lie: one of
-/// each per state. A value of none is infinite; an infinite upper value above a finite lower one claims no upper bound.
-#[derive(Drop)]
-pub struct RewardBoundsCert {
-    pub lower: Vec<Option<Frac>>,
-    pub upper: Vec<Option<Frac>>,
-    pub choices: Vec<u32>,
-    pub ranks: Vec<u32>,
-}
 
 /// Lower and upper values and ranks that are held against a model.
 #[derive(Clone, Copy)]

@@ -1,4 +1,4 @@
-use mdp_bounds::{MeanBoundsCert, ReachBoundsCert, RewardBoundsCert};
+use mdp_claims::{MeanBoundsCert, ReachBoundsCert, RewardBoundsCert};
 
 /// What a certificate of bounds says of each state.
 #[derive(Drop)]

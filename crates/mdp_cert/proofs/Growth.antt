@@ -8,7 +8,7 @@ use Rattle.mdp_math.specs.Rational.{ℚ}
 use Rattle.mdp_cert.specs.declared.version.Version.{Version}
 use Rattle.mdp_cert.specs.declared.version.Version.TheVariants.{One, Two}
 use Rattle.mdp_rows.specs.declared.dir.Dir.TheVariants.{Max, Min}
-use Rattle.mdp_subsystem_rules.specs.declared.flow.Flow.{Flow}
+use Rattle.mdp_claims.specs.declared.subsystem.Flow.{Flow}
 use Rattle.mdp_cert.specs.Cert.{PlainClaim, upper, reach, reward, mean, witness, bounds, policy, rewards, gains, flow, floor, are_kept, are_flows, is_body_of}
 use Rattle.mdp_cert.specs.declared.flow_line.FlowLine.TheVariants.{Send}
 use Rattle.mdp_cert.specs.Witness.{flow_lines, floor_lines}

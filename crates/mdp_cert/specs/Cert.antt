@@ -5,7 +5,7 @@ use Rattle.mdp_num.specs.Value.{IsNarrow}
 use Rattle.mdp_rows.specs.Name.{is_name}
 use Rattle.mdp_rows.specs.declared.dir.Dir.{Dir}
 use Rattle.mdp_rows.specs.declared.dir.Dir.TheVariants.{Max, Min}
-use Rattle.mdp_subsystem_rules.specs.declared.flow.Flow.{Flow}
+use Rattle.mdp_claims.specs.declared.subsystem.Flow.{Flow}
 use Rattle.mdp_cert.specs.declared.claim.Claim.{Claim}
 use Rattle.mdp_cert.specs.declared.claim.Claim.TheVariants.{Upper, Reach, Reward, Mean, Witness}
 use Rattle.mdp_text.specs.declared.init.Init.{Init}

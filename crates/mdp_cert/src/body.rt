@@ -1,5 +1,5 @@
-use mdp_farkas::{MeanCert, ReachCert, RewardCert, UpperCert};
-use mdp_subsystem_rules::{FloorCert, FlowCert};
+use mdp_claims::{MeanCert, ReachCert, RewardCert, UpperCert};
+use mdp_claims::{FloorCert, FlowCert};
 
 /// What a certificate says of each state, or of each kept state of a subsystem.
 #[derive(Drop)]

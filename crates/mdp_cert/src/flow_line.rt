@@ -1,4 +1,4 @@
-use mdp_subsystem_rules::Flow;
+use mdp_claims::Flow;
 
 /// What a line of the body says for the claim `max witness`.
 #[derive(Clone, Copy)]

@@ -6,7 +6,7 @@ use crate::flow_line::FlowLine;
 use crate::listed::{Line, Lines};
 use crate::mark::{mark_at, push_mark};
 use mdp_num::Memory;
-use mdp_subsystem_rules::{Flow, FlowCert};
+use mdp_claims::{Flow, FlowCert};
 use mdp_text::{
     CertKind, Refusal, begins_with, cut_word, frac_at, only_word, push_fraction, push_word,
     refuse_if, whole_at, words_behind,

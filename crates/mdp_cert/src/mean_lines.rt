@@ -5,7 +5,7 @@ ghost use Rattle.mdp_cert.specs.Reading.{mean_body, spread_at};
 
 use crate::entries::{Entry, Lists};
 use crate::mean_entry::MeanEntry;
-use mdp_farkas::MeanCert;
+use mdp_claims::MeanCert;
 use mdp_num::{Frac, Memory, read_canonical};
 use mdp_text::{
     Refusal, cut_word, frac_at, only_word, push_fraction, push_word, whole_of, words_behind,

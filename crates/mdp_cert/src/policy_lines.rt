@@ -6,7 +6,7 @@ ghost use Rattle.mdp_cert.specs.Reading.{policy_body, reward_body};
 use crate::entries::{Entry, Lists};
 use crate::policy_entry::PolicyEntry;
 use crate::values::Value;
-use mdp_farkas::{ReachCert, RewardCert};
+use mdp_claims::{ReachCert, RewardCert};
 use mdp_num::{Frac, Memory};
 use mdp_text::{cut_word, only_word, push_word, whole_of};
 use std::alloc::{AllocError, Global};

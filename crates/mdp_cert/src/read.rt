@@ -16,7 +16,7 @@ use crate::mean_lines::{mean_cert, spread_at};
 use crate::policy_lines::{reach_cert, reward_cert};
 use crate::state_lines::entries_to_end;
 use crate::version::Version;
-use mdp_farkas::UpperCert;
+use mdp_claims::UpperCert;
 use mdp_rows::Dir;
 use mdp_text::{CertError, next_line, nothing_behind};
 use std::alloc::Global;

@@ -1,7 +1,7 @@
 ghost use Rattle.mdp_cert.specs.Claims.{bound_columns};
 
 use crate::entries::{Entry, Lists};
-use mdp_farkas::UpperCert;
+use mdp_claims::UpperCert;
 use mdp_num::{Frac, Memory, read_canonical};
 use mdp_text::only_word;
 

@@ -18,13 +18,13 @@ use Rattle.mdp_farkas.proofs.MeanRules.{mean_rules, mean_max, mean_min}
 use Rattle.mdp_farkas.proofs.UpperRules.{upper_rules, upper_bound}
 use Rattle.mdp_farkas.proofs.ReachRules.{reach_rules, reach_max, reach_min}
 use Rattle.mdp_farkas.proofs.RewardRules.{reward_rules, reward_max, reward_min}
-use Rattle.mdp_farkas.specs.declared.verdict.Verdict.{Verdict}
-use Rattle.mdp_farkas.specs.declared.verdict.Verdict.TheVariants as verdict
+use Rattle.mdp_claims.specs.declared.verdict.Verdict.{Verdict}
+use Rattle.mdp_claims.specs.declared.verdict.Verdict.TheVariants as verdict
 use Rattle.mdp_rows.specs.declared.dir.Dir.{Dir}
 use Rattle.mdp_rows.specs.declared.dir.Dir.TheVariants.{Max, Min}
 use Rattle.mdp_cert.specs.Cert.{PlainClaim, upper, reach, reward, mean, witness, PlainBody, bounds, policy, rewards, gains, flow, floor, Certificate, is_body_of}
 use Rattle.mdp_cert.proofs.Growth.{policy-entries, reward-entries, gains-entries}
-use Rattle.mdp_subsystem_rules.specs.declared.flow.Flow.{Flow}
+use Rattle.mdp_claims.specs.declared.subsystem.Flow.{Flow}
 use Rattle.mdp_subsystem_rules.specs.FlowChecks.{flow_checks, HoldsFlow}
 use Rattle.mdp_subsystem_rules.specs.FloorChecks.{floor_checks, HoldsFloor}
 use Rattle.mdp_subsystem_rules.proofs.FlowRules.{flow_rules, flow_sub_max, flow_within}

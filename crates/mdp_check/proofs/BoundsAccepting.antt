@@ -8,8 +8,8 @@ use Rattle.mdp_rows.specs.declared.dir.Dir.{Dir}
 use Rattle.mdp_rows.specs.declared.dir.Dir.TheVariants.{Max, Min}
 use Rattle.mdp_farkas.specs.Initial.{init_fault}
 use Rattle.mdp_farkas.specs.Verdict.{verdict_of}
-use Rattle.mdp_farkas.specs.declared.verdict.Verdict.{Verdict}
-use Rattle.mdp_farkas.specs.declared.verdict.Verdict.TheVariants as verdict
+use Rattle.mdp_claims.specs.declared.verdict.Verdict.{Verdict}
+use Rattle.mdp_claims.specs.declared.verdict.Verdict.TheVariants as verdict
 use Rattle.mdp_bounds.specs.Reach.{bounds_checks, IsReachBounds}
 use Rattle.mdp_bounds.specs.Reward.{reward_bounds_checks, IsRewardBounds}
 use Rattle.mdp_bounds.specs.Mean.{mean_bounds_checks, IsMeanBounds}

@@ -6,8 +6,8 @@ use Rattle.mdp_math.specs.Rational.{ℚ, of_int, ratio, le_ℚ, lt_ℚ, neg_ℚ,
 use Rattle.mdp_math.specs.Written.{narrow, narrow_ℚ, written_add, written_mul}
 use Rattle.mdp_spec.proofs.Small.{half, nought, one}
 use Rattle.mdp_rows.specs.declared.dir.Dir.TheVariants.{Max, Min}
-use Rattle.mdp_farkas.specs.declared.rule.Rule.{Rule}
-use Rattle.mdp_farkas.specs.declared.rule.Rule.TheVariants.{BiasOnPolicy, InitialState, RewardOnPolicy, ValueOnEachChoice, ValueOnPolicy}
+use Rattle.mdp_claims.specs.declared.rule.Rule.{Rule}
+use Rattle.mdp_claims.specs.declared.rule.Rule.TheVariants.{BiasOnPolicy, InitialState, RewardOnPolicy, ValueOnEachChoice, ValueOnPolicy}
 use Rattle.mdp_cert.specs.Cert.{reach, reward, mean}
 use Rattle.mdp_bounds_text.specs.Cert.{probabilities, rewards, gains, Certificate}
 use Rattle.mdp_bounds_text.specs.declared.init.BoundsInit.{BoundsInit}

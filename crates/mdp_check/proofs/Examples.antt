@@ -14,8 +14,8 @@ use Rattle.mdp_text.specs.declared.init.Init.TheVariants.{Missing, Finite, Infin
 use Rattle.mdp_cert.specs.Cert.{upper, reach, reward, mean, witness, bounds, policy, rewards, gains, flow, floor, Certificate}
 use Rattle.mdp_check.specs.Check.{answer_to}
 use Rattle.mdp_check.specs.declared.answer.Answer.TheVariants.{Yes, No, NoReward, NoLabel, Size}
-use Rattle.mdp_farkas.specs.declared.rule.Rule.TheVariants.{BoundOnEachChoice, ChoiceExists, FiniteRankFalls, FlowsReachGoals, InitialState, RankFalls}
-use Rattle.mdp_farkas.specs.declared.rule.Rule.TheVariants.{StartReachesThreshold}
+use Rattle.mdp_claims.specs.declared.rule.Rule.TheVariants.{BoundOnEachChoice, ChoiceExists, FiniteRankFalls, FlowsReachGoals, InitialState, RankFalls}
+use Rattle.mdp_claims.specs.declared.rule.Rule.TheVariants.{StartReachesThreshold}
 
 abbrev row : List Entry → Choice
 row entries = record { row = entries; rewards = [] }

@@ -12,8 +12,8 @@ use Rattle.mdp_text.proofs.InitialState.{initial_below}
 use Rattle.mdp_text.specs.declared.init.Init.{Init}
 use Rattle.mdp_text.specs.declared.init.Init.TheVariants.{Missing, Finite, Infinite, Start}
 use Rattle.mdp_cert.specs.Cert.{witness, PlainBody, bounds, policy, rewards, gains, flow, floor, is_init_of, are_kept, are_flows}
-use Rattle.mdp_farkas.specs.declared.verdict.Verdict.TheVariants as verdict
-use Rattle.mdp_subsystem_rules.specs.declared.flow.Flow.{Flow}
+use Rattle.mdp_claims.specs.declared.verdict.Verdict.TheVariants as verdict
+use Rattle.mdp_claims.specs.declared.subsystem.Flow.{Flow}
 use Rattle.mdp_subsystem_rules.specs.Kept.{Ascends}
 use Rattle.mdp_subsystem_rules.specs.Shape.{is_before, no_flow, FlowsAscend, IsFlowShape, IsFloorShape}
 use Rattle.mdp_check.specs.Initial.{init_check, start_of, is_subsystem, has_value}

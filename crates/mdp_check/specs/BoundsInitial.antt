@@ -2,8 +2,8 @@
 use Rattle.std.specs.Prelude.{ℕ, Bool, false, Option, Some, None, ◌&&◌}
 use Rattle.mdp_math.specs.Rational.{ℚ}
 use Rattle.mdp_farkas.specs.Initial.{init_fault, is_value, state_check}
-use Rattle.mdp_farkas.specs.declared.verdict.Verdict.{Verdict}
-use Rattle.mdp_farkas.specs.declared.verdict.Verdict.TheVariants.{Yes}
+use Rattle.mdp_claims.specs.declared.verdict.Verdict.{Verdict}
+use Rattle.mdp_claims.specs.declared.verdict.Verdict.TheVariants.{Yes}
 use Rattle.mdp_bounds_text.specs.Cert.{PlainBounds, probabilities, rewards, gains}
 use Rattle.mdp_bounds_text.specs.declared.init.BoundsInit.{BoundsInit}
 use Rattle.mdp_bounds_text.specs.declared.init.BoundsInit.TheVariants.{Missing, Between}

@@ -15,8 +15,8 @@ use Rattle.mdp_subsystem_rules.specs.Flow.{flow_total}
 use Rattle.mdp_subsystem_rules.specs.Kept.{kept_marks}
 use Rattle.mdp_subsystem_rules.specs.FlowChecks.{flow_checks, HoldsFlow}
 use Rattle.mdp_subsystem_rules.specs.FloorChecks.{floor_checks, HoldsFloor}
-use Rattle.mdp_farkas.specs.declared.verdict.Verdict.{Verdict}
-use Rattle.mdp_farkas.specs.declared.verdict.Verdict.TheVariants as verdict
+use Rattle.mdp_claims.specs.declared.verdict.Verdict.{Verdict}
+use Rattle.mdp_claims.specs.declared.verdict.Verdict.TheVariants as verdict
 use Rattle.mdp_check.specs.Initial.{init_check, start_of}
 use Rattle.mdp_farkas.specs.Initial.{init_fault}
 use Rattle.mdp_check.specs.declared.answer.Answer.{Answer}

@@ -6,8 +6,8 @@ use Rattle.mdp_cert.specs.Cert.{PlainBody, bounds, policy, rewards, gains, flow,
 use Rattle.mdp_cert.specs.Claims.{reward_same}
 use Rattle.mdp_text.specs.declared.init.Init.{Init}
 use Rattle.mdp_text.specs.declared.init.Init.TheVariants.{Missing, Finite, Infinite, Start}
-use Rattle.mdp_farkas.specs.declared.verdict.Verdict.{Verdict}
-use Rattle.mdp_farkas.specs.declared.verdict.Verdict.TheVariants.{Yes}
+use Rattle.mdp_claims.specs.declared.verdict.Verdict.{Verdict}
+use Rattle.mdp_claims.specs.declared.verdict.Verdict.TheVariants.{Yes}
 use Rattle.mdp_farkas.specs.Initial.{init_fault, is_value, state_check}
 
 -- there is a value of state s, which may be infinite, and it is this one

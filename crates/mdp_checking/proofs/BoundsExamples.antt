@@ -8,7 +8,7 @@ use Rattle.mdp_math.specs.Written.{narrow, narrow_ℚ, written_add, written_mul}
 use Rattle.mdp_spec.specs.Mdp.{Entry, Choice, State, Mdp}
 use Rattle.mdp_rows.specs.declared.dir.Dir.TheVariants.{Max}
 use Rattle.mdp_text.specs.declared.error.CertKind.TheVariants.{Number}
-use Rattle.mdp_farkas.specs.declared.rule.Rule.TheVariants.{InitialState, ValueOnPolicy}
+use Rattle.mdp_claims.specs.declared.rule.Rule.TheVariants.{InitialState, ValueOnPolicy}
 use Rattle.mdp_cert.specs.Cert.{reach, reward}
 use Rattle.mdp_bounds_text.specs.Cert.{probabilities, rewards, Certificate}
 use Rattle.mdp_bounds_text.specs.declared.init.BoundsInit.{BoundsInit}

@@ -15,7 +15,7 @@ use Rattle.mdp_job.specs.Refusal.{PlainRefusal, query_size, query_reward, denied
 use Rattle.mdp_command.specs.Answered.{said_of}
 use Rattle.mdp_command.specs.Said.{Said}
 use Rattle.mdp_checking.specs.Kinds.{discounted}
-use Rattle.mdp_farkas.specs.declared.rule.Rule.TheVariants.{DiscountedOnEachChoice, InitialState}
+use Rattle.mdp_claims.specs.declared.rule.Rule.TheVariants.{DiscountedOnEachChoice, InitialState}
 
 -- what is said to what was read as a certificate, or was not
 abbrev said_to_certificate : Mdp → Result Certificate PlainRefusal → Said

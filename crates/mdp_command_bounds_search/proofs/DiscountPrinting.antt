@@ -7,7 +7,7 @@ use Rattle.mdp_spec.specs.Labels.{place_of}
 use Rattle.mdp_spec.specs.Mdp.{Mdp}
 use Rattle.mdp_spec.specs.Row.{IsMdp}
 use Rattle.mdp_rows.specs.declared.dir.Dir.{Dir}
-use Rattle.mdp_farkas.specs.declared.verdict.Verdict.TheVariants.{Yes}
+use Rattle.mdp_claims.specs.declared.verdict.Verdict.TheVariants.{Yes}
 use Rattle.mdp_discount_bounds.specs.Cert.{Certificate, Fits}
 use Rattle.mdp_discount_bounds.specs.Check.{same_value, is_value, init_check, IsAccepted}
 use Rattle.mdp_discount_bounds.specs.Laws.{AcceptedIsBound}

@@ -8,7 +8,7 @@ use Rattle.mdp_math.specs.Written.{narrow, narrow_ℚ, written_add, written_mul}
 use Rattle.mdp_spec.specs.Mdp.{Entry, Choice, Mdp}
 use Rattle.mdp_spec.proofs.Small.{entry, labelled, number}
 use Rattle.mdp_rows.specs.declared.dir.Dir.TheVariants.{Max, Min}
-use Rattle.mdp_farkas.specs.declared.rule.Rule.TheVariants.{ValueOnEachChoice}
+use Rattle.mdp_claims.specs.declared.rule.Rule.TheVariants.{ValueOnEachChoice}
 use Rattle.mdp_cert.specs.Cert as claim
 use Rattle.mdp_bounds_text.specs.Cert.{probabilities, rewards, gains, Certificate}
 use Rattle.mdp_bounds_text.specs.declared.init.BoundsInit.TheVariants.{Missing, Between}

@@ -13,7 +13,7 @@ use Rattle.mdp_rows.proofs.FoundNames.{found_among, name_of_reward}
 use Rattle.mdp_rows.specs.Name.{IsName, IsRewardName}
 use Rattle.mdp_rows.specs.declared.dir.Dir.{Dir}
 use Rattle.mdp_farkas.specs.Initial.{init_fault, is_value}
-use Rattle.mdp_farkas.specs.declared.verdict.Verdict.TheVariants.{Yes}
+use Rattle.mdp_claims.specs.declared.verdict.Verdict.TheVariants.{Yes}
 use Rattle.mdp_bounds.specs.Reach.{IsReachBounds}
 use Rattle.mdp_bounds.specs.Reward.{IsRewardBounds}
 use Rattle.mdp_bounds.specs.Mean.{IsMeanBounds}

@@ -16,8 +16,8 @@ use Rattle.mdp_policy_iteration.specs.Path.{Found, Refusal}
 use Rattle.mdp_wide.specs.Term.{shown}
 use Rattle.mdp_policy_iteration.specs.Queries.{Solves}
 use Rattle.mdp_farkas.specs.Verdict.{verdict_of}
-use Rattle.mdp_farkas.specs.declared.verdict.Verdict.{Verdict}
-use Rattle.mdp_farkas.specs.declared.verdict.Verdict.TheVariants as verdict
+use Rattle.mdp_claims.specs.declared.verdict.Verdict.{Verdict}
+use Rattle.mdp_claims.specs.declared.verdict.Verdict.TheVariants as verdict
 use Rattle.mdp_discount_rules.specs.Bounds.{DiscountBound}
 use Rattle.mdp_discount_rules.specs.Cert.{Certificate, Fits}
 use Rattle.mdp_discount_rules.specs.Check.{init_check, IsAccepted, IsBound}

@@ -20,8 +20,8 @@ use Rattle.mdp_farkas.specs.Reach.{MeetsReach, IsReach, reach_checks}
 use Rattle.mdp_farkas.specs.Reward.{MeetsReward, IsReward, reward_checks}
 use Rattle.mdp_farkas.specs.Mean.{MeetsMean, IsMean}
 use Rattle.mdp_farkas.specs.Verdict.{verdict_of}
-use Rattle.mdp_farkas.specs.declared.verdict.Verdict.{Verdict}
-use Rattle.mdp_farkas.specs.declared.verdict.Verdict.TheVariants.{Yes, No, Wide}
+use Rattle.mdp_claims.specs.declared.verdict.Verdict.{Verdict}
+use Rattle.mdp_claims.specs.declared.verdict.Verdict.TheVariants.{Yes, No, Wide}
 use Rattle.mdp_reach.specs.Problem.{reach_problem}
 use Rattle.mdp_reach.specs.Query.{Answer, AreRanks, Held, AfterPath, EndsSo}
 use Rattle.mdp_reach.proofs.Nodes.{reach-count}

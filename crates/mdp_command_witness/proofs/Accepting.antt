@@ -6,7 +6,7 @@ use Rattle.mdp_spec.specs.Labels.{place_of, marks_of, initial_of}
 use Rattle.mdp_spec.specs.Mdp.{Mdp, states_of}
 use Rattle.mdp_rows.specs.declared.dir.Dir.{Dir}
 use Rattle.mdp_rows.specs.declared.dir.Dir.TheVariants.{Max, Min}
-use Rattle.mdp_farkas.specs.declared.verdict.Verdict.TheVariants as verdict
+use Rattle.mdp_claims.specs.declared.verdict.Verdict.TheVariants as verdict
 use Rattle.mdp_cert.specs.Cert as certificate
 use Rattle.mdp_cert.specs.Cert.{PlainBody, is_body_of}
 use Rattle.mdp_text.specs.declared.init.Init.TheVariants.{Start}

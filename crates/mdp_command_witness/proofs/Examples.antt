@@ -10,7 +10,7 @@ use Rattle.mdp_spec.proofs.Small.{half}
 use Rattle.mdp_rows.specs.declared.dir.Dir.TheVariants.{Max, Min}
 use Rattle.mdp_wide.specs.declared.too_wide.Kind.TheVariants.{Evaluate}
 use Rattle.mdp_wide.specs.declared.too_wide.Part.TheVariants as part
-use Rattle.mdp_subsystem_rules.specs.declared.flow.Flow.{Flow}
+use Rattle.mdp_claims.specs.declared.subsystem.Flow.{Flow}
 use Rattle.mdp_text.specs.Spelling.{line}
 use Rattle.mdp_cert.specs.Spelling.{text_in, text_of, listed_lines}
 use Rattle.mdp_job.specs.Refusal as job

@@ -6,7 +6,7 @@ use Rattle.mdp_math.specs.Rational.{ℚ, of_int, lt_ℚ}
 use Rattle.mdp_spec.specs.Mdp.{Mdp, states_of}
 use Rattle.mdp_rows.specs.declared.dir.Dir.{Dir}
 use Rattle.mdp_rows.specs.declared.dir.Dir.TheVariants.{Max, Min}
-use Rattle.mdp_subsystem_rules.specs.declared.flow.Flow.{Flow}
+use Rattle.mdp_claims.specs.declared.subsystem.Flow.{Flow}
 use Rattle.mdp_subsystem_rules.specs.Visits.{visit_flow, visit_flows}
 use Rattle.mdp_reach.specs.Query.{Answer}
 use Rattle.mdp_witness_trials.specs.Evaluation.{visited}

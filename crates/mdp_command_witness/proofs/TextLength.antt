@@ -9,7 +9,7 @@ use Rattle.mdp_spec.specs.Mdp.{Mdp, states_of}
 use Rattle.mdp_rows.specs.Name.{is_name}
 use Rattle.mdp_rows.specs.declared.dir.Dir.{Dir}
 use Rattle.mdp_rows.specs.declared.dir.Dir.TheVariants.{Max, Min}
-use Rattle.mdp_subsystem_rules.specs.declared.flow.Flow.{Flow}
+use Rattle.mdp_claims.specs.declared.subsystem.Flow.{Flow}
 use Rattle.mdp_subsystem_rules.specs.Kept.{Ascends}
 use Rattle.mdp_subsystem_rules.specs.Shape.{IsFlowShape, IsFloorShape}
 use Rattle.mdp_text.specs.declared.init.Init.TheVariants.{Start}

@@ -9,8 +9,8 @@ use Rattle.mdp_policy_iteration.specs.Iteration.{EndsWith}
 use Rattle.mdp_wide.specs.Term.{WideTerm}
 use Rattle.mdp_policy_iteration.proofs.Iterations.{one_end}
 use Rattle.mdp_farkas.specs.Verdict.{verdict_of}
-use Rattle.mdp_farkas.specs.declared.verdict.Verdict.{Verdict}
-use Rattle.mdp_farkas.specs.declared.verdict.Verdict.TheVariants.{Yes, No, Wide}
+use Rattle.mdp_claims.specs.declared.verdict.Verdict.{Verdict}
+use Rattle.mdp_claims.specs.declared.verdict.Verdict.TheVariants.{Yes, No, Wide}
 use Rattle.mdp_discount.specs.Problem.{discount_problem}
 use Rattle.mdp_discount_rules.specs.Checks.{written_greatest, discount_checks, IsDiscount}
 use Rattle.mdp_discount_rules.specs.Cert.{Certificate}

@@ -12,8 +12,8 @@ use Rattle.mdp_policy_iteration.specs.Laws.{first}
 use Rattle.mdp_wide.specs.Term.{WideTerm}
 use Rattle.mdp_policy_iteration.specs.Queries.{term_of, term_of_check}
 use Rattle.mdp_farkas.specs.Verdict.{verdict_of}
-use Rattle.mdp_farkas.specs.declared.verdict.Verdict.{Verdict}
-use Rattle.mdp_farkas.specs.declared.verdict.Verdict.TheVariants.{Yes, No, Wide}
+use Rattle.mdp_claims.specs.declared.verdict.Verdict.{Verdict}
+use Rattle.mdp_claims.specs.declared.verdict.Verdict.TheVariants.{Yes, No, Wide}
 use Rattle.mdp_text.specs.Heads.{init_by}
 use Rattle.mdp_discount_rules.specs.Checks.{written_greatest, discount_checks}
 use Rattle.mdp_discount.specs.Problem.{discount_problem}

@@ -8,9 +8,9 @@ use Rattle.mdp_spec.specs.Mdp.{Mdp, states_of, choices_at}
 use Rattle.mdp_spec.specs.Row.{IsMdp}
 use Rattle.mdp_farkas.specs.Reach.{other}
 use Rattle.mdp_farkas.specs.Verdict.{Check, verdict_of, InWidth, at_choices, IsYes, IfYes}
-use Rattle.mdp_farkas.specs.declared.verdict.Fault.{Fault}
-use Rattle.mdp_farkas.specs.declared.verdict.Verdict.{Verdict}
-use Rattle.mdp_farkas.specs.declared.verdict.Verdict.TheVariants.{No}
+use Rattle.mdp_claims.specs.declared.verdict.Fault.{Fault}
+use Rattle.mdp_claims.specs.declared.verdict.Verdict.{Verdict}
+use Rattle.mdp_claims.specs.declared.verdict.Verdict.TheVariants.{No}
 use Rattle.mdp_farkas.proofs.Holds.{Each, Holds, Sound, each_of_yes, yes_of_each, told_of_each, if_yes, holds_of_sound, never_no}
 use Rattle.mdp_farkas.proofs.Holds.{each_append, each_left, each_right, each_flat, each_flat_at, each_map, each_map_at}
 use Rattle.mdp_rows.specs.declared.dir.Dir.{Dir}

@@ -2,7 +2,7 @@
 use Rattle.std.proofs.Common.{◌≡◌, ℕ, ◌<◌, List, length, slice_index, Some, None, sym, subst}
 use Rattle.mdp_spec.specs.Mdp.{choices_at}
 use Rattle.mdp_farkas.specs.Reach.{other}
-use Rattle.mdp_farkas.specs.declared.rule.Rule.TheVariants.{ChoiceExists, DiscountedOnEachChoice, DiscountedOnPolicy, RemainderIsGreatest}
+use Rattle.mdp_claims.specs.declared.rule.Rule.TheVariants.{ChoiceExists, DiscountedOnEachChoice, DiscountedOnPolicy, RemainderIsGreatest}
 use Rattle.mdp_bounds.specs.Says.{covering_rewards}
 use Rattle.mdp_discount_bounds.specs.Rules.{Allows}
 use Rattle.mdp_discount_bounds.specs.Laws.{DiscountMeetsSays}

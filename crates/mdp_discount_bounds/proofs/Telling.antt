@@ -8,7 +8,7 @@ use Rattle.mdp_spec.specs.Row.{IsMdp}
 use Rattle.mdp_farkas.specs.Verdict.{at_choices}
 use Rattle.mdp_farkas.specs.Reach.{other, choice_exists}
 use Rattle.mdp_rows.specs.declared.dir.Dir.{Dir}
-use Rattle.mdp_farkas.specs.declared.verdict.Fault.{Fault}
+use Rattle.mdp_claims.specs.declared.verdict.Fault.{Fault}
 use Rattle.mdp_bounds.specs.Says.{IsChoice, covering_rewards}
 use Rattle.mdp_farkas.proofs.Telling.{refuted, Tells, tells_first, tells_one, tells_append, tells_flat, tells_map}
 use Rattle.mdp_discount_bounds.specs.Rules.{Allows, greatest_magnitude}

@@ -12,7 +12,7 @@ use Rattle.mdp_spec.specs.Bounds.{reward_at, finite_part}
 use Rattle.mdp_farkas.specs.Compare.{0ℚ}
 use Rattle.mdp_farkas.specs.Reach.{other}
 use Rattle.mdp_farkas.specs.Verdict.{verdict_of, at_choices}
-use Rattle.mdp_farkas.specs.declared.verdict.Verdict.TheVariants.{Yes}
+use Rattle.mdp_claims.specs.declared.verdict.Verdict.TheVariants.{Yes}
 use Rattle.mdp_farkas.proofs.Holds.{Each, Holds, yes_of_each, each_append, each_map, each_flat}
 use Rattle.mdp_rows.specs.declared.dir.Dir.{Dir}
 use Rattle.mdp_rows.specs.declared.dir.Dir.TheVariants.{Max, Min}

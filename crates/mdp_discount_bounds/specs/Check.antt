@@ -7,8 +7,8 @@ use Rattle.mdp_spec.specs.Bounds.{reward_at}
 use Rattle.mdp_spec.specs.Labels.{place_of, initial_of}
 use Rattle.mdp_farkas.specs.Initial.{init_fault, state_check}
 use Rattle.mdp_farkas.specs.Verdict.{verdict_of}
-use Rattle.mdp_farkas.specs.declared.verdict.Verdict.{Verdict}
-use Rattle.mdp_farkas.specs.declared.verdict.Verdict.TheVariants as verdict
+use Rattle.mdp_claims.specs.declared.verdict.Verdict.{Verdict}
+use Rattle.mdp_claims.specs.declared.verdict.Verdict.TheVariants as verdict
 use Rattle.mdp_discount_rules.specs.Check.{answer_of, then_verdict}
 use Rattle.mdp_discount_rules.specs.declared.answer.DiscountAnswer.{DiscountAnswer}
 use Rattle.mdp_discount_rules.specs.declared.answer.DiscountAnswer.TheVariants.{NoReward, Size}

@@ -24,7 +24,7 @@ use Rattle.mdp_rows.specs.declared.dir.Dir.{Dir}
 use Rattle.mdp_bounds.specs.Says.{covering_rewards}
 use Rattle.mdp_bounds.specs.Sum.{stands, plain_add, told_sum}
 use Rattle.mdp_discount_bounds.specs.Rules.{greatest_magnitude, MeetsDiscountBetween}
-use Rattle.mdp_farkas.specs.declared.rule.Rule.TheVariants.{DiscountedOnEachChoice, DiscountedOnPolicy, RemainderIsGreatest}
+use Rattle.mdp_claims.specs.declared.rule.Rule.TheVariants.{DiscountedOnEachChoice, DiscountedOnPolicy, RemainderIsGreatest}
 
 -- what the value x leaves to the reward, by written terms
 abbrev pub told_left : Mdp → ℚ → ℕ → ℕ → List (Option ℚ) → ℚ → Option ℚ

@@ -4,8 +4,8 @@ use Rattle.mdp_math.specs.Rational.{ℚ}
 use Rattle.mdp_spec.specs.Mdp.{Mdp, states_of}
 use Rattle.mdp_farkas.specs.Reach.{other}
 use Rattle.mdp_rows.specs.declared.dir.Dir.{Dir}
-use Rattle.mdp_farkas.specs.declared.rule.Rule.{Rule}
-use Rattle.mdp_farkas.specs.declared.rule.Rule.TheVariants.{ChoiceExists, DiscountedOnEachChoice, DiscountedOnPolicy, RemainderIsGreatest}
+use Rattle.mdp_claims.specs.declared.rule.Rule.{Rule}
+use Rattle.mdp_claims.specs.declared.rule.Rule.TheVariants.{ChoiceExists, DiscountedOnEachChoice, DiscountedOnPolicy, RemainderIsGreatest}
 use Rattle.mdp_bounds.specs.Says.{IsChoice, IsTaken, covering_rewards}
 use Rattle.mdp_discount_bounds.specs.Rules.{Allows, greatest_magnitude}
 

@@ -5,8 +5,8 @@ use Rattle.std.proofs.lemmas.Bool.Decides.{Decides-eqb}
 use Rattle.std.proofs.lemmas.List.Quantifiers.{position-Some}
 use Rattle.mdp_spec.specs.Mdp.{Mdp, states_of}
 use Rattle.mdp_spec.specs.Labels.{place_of, initial_of}
-use Rattle.mdp_farkas.specs.declared.verdict.Verdict.{Verdict}
-use Rattle.mdp_farkas.specs.declared.verdict.Verdict.TheVariants as verdict
+use Rattle.mdp_claims.specs.declared.verdict.Verdict.{Verdict}
+use Rattle.mdp_claims.specs.declared.verdict.Verdict.TheVariants as verdict
 use Rattle.mdp_discount_rules.specs.Cert.{Certificate}
 use Rattle.mdp_discount_rules.specs.Check.{init_check, answer_of, then_verdict, checks_of, at_reward, answer_to, IsAccepted}
 use Rattle.mdp_discount_rules.specs.Laws.{YesIsAccepted, AcceptedIsBound}

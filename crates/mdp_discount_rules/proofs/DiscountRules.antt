@@ -15,14 +15,14 @@ use Rattle.mdp_spec.specs.Written.{written_sum}
 use Rattle.mdp_farkas.specs.Verdict.{Check, verdict_of, InWidth, at_choices, IsYes, IfYes}
 use Rattle.mdp_farkas.specs.Compare.{0ℚ, is_equal}
 use Rattle.mdp_farkas.specs.Bellman.{stands}
-use Rattle.mdp_farkas.specs.declared.verdict.Fault.{Fault}
-use Rattle.mdp_farkas.specs.declared.verdict.Verdict.{Verdict}
-use Rattle.mdp_farkas.specs.declared.verdict.Verdict.TheVariants.{No}
+use Rattle.mdp_claims.specs.declared.verdict.Fault.{Fault}
+use Rattle.mdp_claims.specs.declared.verdict.Verdict.{Verdict}
+use Rattle.mdp_claims.specs.declared.verdict.Verdict.TheVariants.{No}
 use Rattle.mdp_farkas.proofs.Holds.{Each, Holds, Sound, each_of_yes, yes_of_each, told_of_each, if_yes, holds_of_sound, never_no}
 use Rattle.mdp_farkas.proofs.Holds.{each_append, each_left, each_right, each_flat, each_flat_at, each_map, each_map_at}
 use Rattle.mdp_farkas.proofs.Comparing.{le_of_at_least, at_least_of_le, le_of_at_most, at_most_of_le, same_of_equal, equal_of_same}
 use Rattle.mdp_farkas.proofs.Asking.{asked_holds, asked_sound}
-use Rattle.mdp_farkas.proofs.Summing.{written_sum-some}
+use Rattle.mdp_spec.proofs.Summed.{written_sum-some}
 use Rattle.mdp_rows.specs.declared.dir.Dir.{Dir}
 use Rattle.mdp_rows.specs.declared.dir.Dir.TheVariants.{Max, Min}
 use Rattle.mdp_rows.specs.Better.{IsAsGood}

@@ -19,7 +19,7 @@ use Rattle.mdp_farkas.specs.Spread.{written_extreme}
 use Rattle.mdp_rows.specs.declared.dir.Dir.{Dir}
 use Rattle.mdp_rows.specs.declared.dir.Dir.TheVariants.{Max}
 use Rattle.mdp_discount_rules.specs.Rules.{magnitude, MeetsDiscount}
-use Rattle.mdp_farkas.specs.declared.rule.Rule.TheVariants.{DiscountedOnEachChoice, DiscountedOnPolicy, RemainderIsGreatest}
+use Rattle.mdp_claims.specs.declared.rule.Rule.TheVariants.{DiscountedOnEachChoice, DiscountedOnPolicy, RemainderIsGreatest}
 
 -- what choice c at s earns under the values v
 abbrev pub written_discounted : Mdp → ℕ → ℚ → ℕ → ℕ → List ℚ → Option ℚ

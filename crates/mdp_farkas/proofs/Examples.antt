@@ -14,11 +14,11 @@ use Rattle.mdp_farkas.specs.Reach.{reach_checks}
 use Rattle.mdp_farkas.specs.Says.{UpperSays, ReachSays}
 use Rattle.mdp_farkas.proofs.ReachTelling.{upper_refuted, reach_refuted}
 use Rattle.mdp_rows.specs.declared.dir.Dir.TheVariants.{Max, Min}
-use Rattle.mdp_farkas.specs.declared.verdict.Verdict.{Verdict}
-use Rattle.mdp_farkas.specs.declared.verdict.Verdict.TheVariants.{Yes, No, Wide}
-use Rattle.mdp_farkas.specs.declared.rule.Rule.TheVariants.{BiasOnPolicy, ChoiceExists, GoalValue, Probability, RankFalls, RankZero, ValueOnEachChoice}
-use Rattle.mdp_farkas.specs.declared.rule.Rule.TheVariants.{ValueOnPolicy}
-use Rattle.mdp_farkas.specs.declared.rule.Rule.{Rule}
+use Rattle.mdp_claims.specs.declared.verdict.Verdict.{Verdict}
+use Rattle.mdp_claims.specs.declared.verdict.Verdict.TheVariants.{Yes, No, Wide}
+use Rattle.mdp_claims.specs.declared.rule.Rule.TheVariants.{BiasOnPolicy, ChoiceExists, GoalValue, Probability, RankFalls, RankZero, ValueOnEachChoice}
+use Rattle.mdp_claims.specs.declared.rule.Rule.TheVariants.{ValueOnPolicy}
+use Rattle.mdp_claims.specs.declared.rule.Rule.{Rule}
 
 abbrev row : List Entry → Choice
 row entries = record { row = entries; rewards = [] }

@@ -14,10 +14,10 @@ use Rattle.mdp_farkas.specs.Mean.{mean_checks}
 use Rattle.mdp_farkas.specs.Says.{MeanSays}
 use Rattle.mdp_farkas.proofs.MeanTelling.{mean_refuted}
 use Rattle.mdp_rows.specs.declared.dir.Dir.TheVariants.{Max, Min}
-use Rattle.mdp_farkas.specs.declared.verdict.Verdict.{Verdict}
-use Rattle.mdp_farkas.specs.declared.verdict.Verdict.TheVariants.{Yes, No, Wide}
-use Rattle.mdp_farkas.specs.declared.rule.Rule.TheVariants.{BiasOnPolicy, BoundOnEachChoice, ChoiceExists, GainOnEachChoice, GainOnPolicy, SpreadIsGreatest}
-use Rattle.mdp_farkas.specs.declared.rule.Rule.{Rule}
+use Rattle.mdp_claims.specs.declared.verdict.Verdict.{Verdict}
+use Rattle.mdp_claims.specs.declared.verdict.Verdict.TheVariants.{Yes, No, Wide}
+use Rattle.mdp_claims.specs.declared.rule.Rule.TheVariants.{BiasOnPolicy, BoundOnEachChoice, ChoiceExists, GainOnEachChoice, GainOnPolicy, SpreadIsGreatest}
+use Rattle.mdp_claims.specs.declared.rule.Rule.{Rule}
 
 abbrev turns : Mdp
 turns = model (state (to 1 (number 1) ∷ []) ∷ state (to 0 (number 0) ∷ []) ∷ [])

@@ -14,11 +14,11 @@ use Rattle.mdp_farkas.specs.Says.{RewardSays}
 use Rattle.mdp_farkas.proofs.RewardTelling.{reward_refuted}
 use Rattle.mdp_rows.specs.declared.dir.Dir.{Dir}
 use Rattle.mdp_rows.specs.declared.dir.Dir.TheVariants.{Max, Min}
-use Rattle.mdp_farkas.specs.declared.verdict.Verdict.{Verdict}
-use Rattle.mdp_farkas.specs.declared.verdict.Verdict.TheVariants.{Yes, No, Wide}
-use Rattle.mdp_farkas.specs.declared.rule.Rule.TheVariants.{ChoiceExists, EachChoiceMisses, FiniteRankFalls, FiniteTargets, PolicyMisses, RewardNotNegative}
-use Rattle.mdp_farkas.specs.declared.rule.Rule.TheVariants.{RewardOnEachChoice, RewardOnPolicy, RewardValue}
-use Rattle.mdp_farkas.specs.declared.rule.Rule.{Rule}
+use Rattle.mdp_claims.specs.declared.verdict.Verdict.{Verdict}
+use Rattle.mdp_claims.specs.declared.verdict.Verdict.TheVariants.{Yes, No, Wide}
+use Rattle.mdp_claims.specs.declared.rule.Rule.TheVariants.{ChoiceExists, EachChoiceMisses, FiniteRankFalls, FiniteTargets, PolicyMisses, RewardNotNegative}
+use Rattle.mdp_claims.specs.declared.rule.Rule.TheVariants.{RewardOnEachChoice, RewardOnPolicy, RewardValue}
+use Rattle.mdp_claims.specs.declared.rule.Rule.{Rule}
 
 abbrev value : ℕ → Option ℚ
 value n = Some (number n)

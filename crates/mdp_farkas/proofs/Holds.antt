@@ -4,10 +4,10 @@ use Rattle.std.specs.List.{flat_map, range_with_len, AllByRecursion}
 use Rattle.std.specs.Option.{IsSome}
 use Rattle.mdp_math.proofs.Numbers.{last_or}
 use Rattle.mdp_farkas.specs.Verdict.{Check, objection, objection_to, verdict, verdict_of, InWidth, IfYes}
-use Rattle.mdp_farkas.specs.declared.verdict.Fault.{Fault}
-use Rattle.mdp_farkas.specs.declared.verdict.Verdict.{Verdict}
-use Rattle.mdp_farkas.specs.declared.verdict.Verdict.TheVariants.{Yes, No, Wide}
-use Rattle.mdp_farkas.specs.declared.verdict.Objection.{Objection}
+use Rattle.mdp_claims.specs.declared.verdict.Fault.{Fault}
+use Rattle.mdp_claims.specs.declared.verdict.Verdict.{Verdict}
+use Rattle.mdp_claims.specs.declared.verdict.Verdict.TheVariants.{Yes, No, Wide}
+use Rattle.mdp_claims.specs.declared.verdict.Objection.{Objection}
 use Rattle.mdp_math.specs.Result.{◌>>=◌}
 use Rattle.mdp_math.proofs.Lists.{flat_more, map_more}
 use Rattle.std.specs.Prelude.{Result}

@@ -13,7 +13,7 @@ use Rattle.mdp_rows.specs.declared.dir.Dir.{Dir}
 use Rattle.mdp_rows.specs.declared.dir.Dir.TheVariants.{Max, Min}
 use Rattle.mdp_farkas.proofs.Comparing.{le_of_at_least, at_least_of_le, le_of_at_most, at_most_of_le}
 use Rattle.mdp_farkas.proofs.Asking.{asked_holds, asked_sound}
-use Rattle.mdp_farkas.proofs.Summing.{written_sum-some}
+use Rattle.mdp_spec.proofs.Summed.{written_sum-some}
 
 abbrev pub Stands : Dir → ℚ → ℚ → Type 0
 Stands dir value sum = IsBound dir value sum

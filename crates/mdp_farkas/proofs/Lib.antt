@@ -18,7 +18,6 @@ mod MeanTelling
 mod Saying
 mod Places
 mod Named
-mod Numbers
 mod Examples
 mod ExamplesReward
 mod ExamplesMean

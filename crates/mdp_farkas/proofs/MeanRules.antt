@@ -23,14 +23,14 @@ use Rattle.mdp_farkas.specs.Mean.{gain_check, written_step, bound_stands, relati
 use Rattle.mdp_farkas.specs.Mean.{mean_checks_at, state_checks, mean_checks, MeetsMean, IsMean}
 use Rattle.mdp_rows.specs.declared.dir.Dir.{Dir}
 use Rattle.mdp_rows.specs.declared.dir.Dir.TheVariants.{Max, Min}
-use Rattle.mdp_farkas.specs.declared.verdict.Fault.{Fault}
-use Rattle.mdp_farkas.specs.declared.verdict.Verdict.{Verdict}
-use Rattle.mdp_farkas.specs.declared.verdict.Verdict.TheVariants.{No}
+use Rattle.mdp_claims.specs.declared.verdict.Fault.{Fault}
+use Rattle.mdp_claims.specs.declared.verdict.Verdict.{Verdict}
+use Rattle.mdp_claims.specs.declared.verdict.Verdict.TheVariants.{No}
 use Rattle.mdp_farkas.proofs.Holds.{Each, Holds, Sound, each_of_yes, yes_of_each, told_of_each, if_yes, holds_of_sound, never_no}
 use Rattle.mdp_farkas.proofs.Holds.{each_append, each_left, each_right, each_flat, each_flat_at, each_map, each_map_at}
 use Rattle.mdp_farkas.proofs.Comparing.{same_of_equal, equal_of_same}
 use Rattle.mdp_farkas.proofs.Asking.{asked_holds, asked_sound}
-use Rattle.mdp_farkas.proofs.Summing.{written_sum-some}
+use Rattle.mdp_spec.proofs.Summed.{written_sum-some}
 use Rattle.mdp_farkas.proofs.Inequalities.{Stands, stands_at_of, of_stands_at, sum_stands_of, of_sum_stands}
 use Rattle.mdp_farkas.proofs.Spreading.{written_spread-some}
 

@@ -12,8 +12,8 @@ use Rattle.mdp_farkas.specs.Spread.{written_spread}
 use Rattle.mdp_farkas.specs.Mean.{gain_check, relative_check, policy_gain_check, policy_bias_check, spread_check, mean_checks_at, state_checks, mean_checks}
 use Rattle.mdp_farkas.specs.Says.{IsBound, IsChoice, IsRowBound, MeanSays}
 use Rattle.mdp_rows.specs.declared.dir.Dir.{Dir}
-use Rattle.mdp_farkas.specs.declared.verdict.Fault.{Fault}
-use Rattle.mdp_farkas.specs.declared.verdict.Verdict.TheVariants.{No}
+use Rattle.mdp_claims.specs.declared.verdict.Fault.{Fault}
+use Rattle.mdp_claims.specs.declared.verdict.Verdict.TheVariants.{No}
 use Rattle.mdp_farkas.proofs.Comparing.{equal_of_same}
 use Rattle.mdp_farkas.proofs.Asking.{asked_sound}
 use Rattle.mdp_farkas.proofs.Inequalities.{of_stands_at}

@@ -5,7 +5,7 @@ use Rattle.std.specs.List.{flat_map, range_with_len}
 use Rattle.mdp_math.specs.Result.{◌>>=◌}
 use Rattle.mdp_math.proofs.Lists.{flat_more}
 use Rattle.mdp_farkas.specs.Verdict.{Check, objection, objection_to}
-use Rattle.mdp_farkas.specs.declared.verdict.Objection.{Objection}
+use Rattle.mdp_claims.specs.declared.verdict.Objection.{Objection}
 
 step_append : (c : Check) (h : Option Bool) (xs ys : List Check) → objection_to (xs ++ ys) ≡ objection_to xs >>= (λ ok. objection_to ys)
     → objection c h >>= (λ ok. objection_to (xs ++ ys)) ≡ (objection c h >>= (λ ok. objection_to xs)) >>= (λ ok. objection_to ys)

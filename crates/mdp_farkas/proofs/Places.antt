@@ -7,11 +7,11 @@ use Rattle.mdp_spec.specs.Mdp.{Mdp, states_of}
 use Rattle.mdp_farkas.specs.Says.{UpperSays, ReachSays, RewardSays, MeanSays}
 use Rattle.mdp_farkas.specs.Laws.{IsInModel}
 use Rattle.mdp_rows.specs.declared.dir.Dir.{Dir}
-use Rattle.mdp_farkas.specs.declared.rule.Rule.{Rule}
-use Rattle.mdp_farkas.specs.declared.rule.Rule.TheVariants.{ChoiceExists, Probability, GoalValue, ValueOnEachChoice, ValueOnPolicy, RankZero, RankFalls}
-use Rattle.mdp_farkas.specs.declared.rule.Rule.TheVariants.{RewardValue, FiniteTargets, RewardOnEachChoice, RewardOnPolicy, FiniteRankFalls, PolicyMisses, EachChoiceMisses}
-use Rattle.mdp_farkas.specs.declared.rule.Rule.TheVariants.{RewardNotNegative, GainOnEachChoice, BoundOnEachChoice, GainOnPolicy, BiasOnPolicy, SpreadIsGreatest}
-use Rattle.mdp_farkas.specs.declared.verdict.Fault.{Fault}
+use Rattle.mdp_claims.specs.declared.rule.Rule.{Rule}
+use Rattle.mdp_claims.specs.declared.rule.Rule.TheVariants.{ChoiceExists, Probability, GoalValue, ValueOnEachChoice, ValueOnPolicy, RankZero, RankFalls}
+use Rattle.mdp_claims.specs.declared.rule.Rule.TheVariants.{RewardValue, FiniteTargets, RewardOnEachChoice, RewardOnPolicy, FiniteRankFalls, PolicyMisses, EachChoiceMisses}
+use Rattle.mdp_claims.specs.declared.rule.Rule.TheVariants.{RewardNotNegative, GainOnEachChoice, BoundOnEachChoice, GainOnPolicy, BiasOnPolicy, SpreadIsGreatest}
+use Rattle.mdp_claims.specs.declared.verdict.Fault.{Fault}
 
 no_state : (m : Mdp) (t s : ℕ) → Some t ≡ Some s → states_of m ≤ s → t < states_of m → ⊥
 no_state m t s e h l = let same = Some_same t s e in omega arith

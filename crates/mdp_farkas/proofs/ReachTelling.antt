@@ -14,9 +14,9 @@ use Rattle.mdp_farkas.specs.Reach.{other, choice_exists, policy_check, value_che
 use Rattle.mdp_farkas.specs.Says.{IsChoice, IsRowBound, LeadsOn, IsProbability, UpperSays, ReachSays}
 use Rattle.mdp_rows.specs.declared.dir.Dir.{Dir}
 use Rattle.mdp_rows.specs.declared.dir.Dir.TheVariants.{Max, Min}
-use Rattle.mdp_farkas.specs.declared.verdict.Fault.{Fault}
-use Rattle.mdp_farkas.specs.declared.verdict.Verdict.TheVariants.{No}
-use Rattle.mdp_farkas.specs.declared.rule.Rule.TheVariants.{GoalValue, Probability, ValueOnEachChoice}
+use Rattle.mdp_claims.specs.declared.verdict.Fault.{Fault}
+use Rattle.mdp_claims.specs.declared.verdict.Verdict.TheVariants.{No}
+use Rattle.mdp_claims.specs.declared.rule.Rule.TheVariants.{GoalValue, Probability, ValueOnEachChoice}
 use Rattle.mdp_farkas.proofs.Comparing.{le_of_at_least, at_least_of_le, at_most_of_le, equal_of_same}
 use Rattle.mdp_farkas.proofs.Inequalities.{of_stands_at}
 use Rattle.mdp_farkas.proofs.ReachRules.{of_end, of_no_end, falls_max, falls_min}

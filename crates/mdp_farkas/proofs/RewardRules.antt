@@ -22,9 +22,9 @@ use Rattle.mdp_farkas.specs.Reward.{falls, rank_fall_check, rank_fall_checks, tr
 use Rattle.mdp_farkas.specs.Reward.{sign_check, sign_checks, reward_checks_at, reward_checks, MeetsReward, IsReward}
 use Rattle.mdp_rows.specs.declared.dir.Dir.{Dir}
 use Rattle.mdp_rows.specs.declared.dir.Dir.TheVariants.{Max, Min}
-use Rattle.mdp_farkas.specs.declared.verdict.Fault.{Fault}
-use Rattle.mdp_farkas.specs.declared.verdict.Verdict.{Verdict}
-use Rattle.mdp_farkas.specs.declared.verdict.Verdict.TheVariants.{No}
+use Rattle.mdp_claims.specs.declared.verdict.Fault.{Fault}
+use Rattle.mdp_claims.specs.declared.verdict.Verdict.{Verdict}
+use Rattle.mdp_claims.specs.declared.verdict.Verdict.TheVariants.{No}
 use Rattle.mdp_farkas.proofs.Holds.{Each, Holds, Sound, each_of_yes, yes_of_each, told_of_each, if_yes, holds_of_sound, never_no}
 use Rattle.mdp_farkas.proofs.Holds.{each_append, each_left, each_right, each_flat, each_flat_at, each_map, each_map_at, each_if, each_if_true, each_if_false}
 use Rattle.mdp_farkas.proofs.Comparing.{le_of_at_least, at_least_of_le, same_of_equal, equal_of_same}

@@ -16,9 +16,9 @@ use Rattle.mdp_farkas.specs.Reward.{reward_checks_at, reward_checks}
 use Rattle.mdp_farkas.specs.Says.{IsChoice, IsSeen, IsEarningBound, Misses, MayMiss, RewardSays}
 use Rattle.mdp_rows.specs.declared.dir.Dir.{Dir}
 use Rattle.mdp_rows.specs.declared.dir.Dir.TheVariants.{Max, Min}
-use Rattle.mdp_farkas.specs.declared.verdict.Fault.{Fault}
-use Rattle.mdp_farkas.specs.declared.verdict.Verdict.TheVariants.{No}
-use Rattle.mdp_farkas.specs.declared.rule.Rule.TheVariants.{RewardValue}
+use Rattle.mdp_claims.specs.declared.verdict.Fault.{Fault}
+use Rattle.mdp_claims.specs.declared.verdict.Verdict.TheVariants.{No}
+use Rattle.mdp_claims.specs.declared.rule.Rule.TheVariants.{RewardValue}
 use Rattle.mdp_farkas.proofs.Comparing.{at_least_of_le}
 use Rattle.mdp_farkas.proofs.Inequalities.{of_sum_stands}
 use Rattle.mdp_farkas.proofs.RewardRules.{nonneg_sound, zero_sound, stays_of_test, test_of_stays, test_of_falls, test_of_misses, test_of_all_misses}

@@ -8,9 +8,9 @@ use Rattle.mdp_math.proofs.Lists.{flat_more, map_more}
 use Rattle.mdp_math.proofs.Options.{Some_same}
 use Rattle.mdp_farkas.specs.Verdict.{Check, objection, objection_to, verdict, verdict_of}
 use Rattle.mdp_farkas.proofs.Holds.{Each, Holds}
-use Rattle.mdp_farkas.specs.declared.verdict.Fault.{Fault}
-use Rattle.mdp_farkas.specs.declared.verdict.Verdict.{Verdict}
-use Rattle.mdp_farkas.specs.declared.verdict.Verdict.TheVariants.{Yes, No, Wide}
+use Rattle.mdp_claims.specs.declared.verdict.Fault.{Fault}
+use Rattle.mdp_claims.specs.declared.verdict.Verdict.{Verdict}
+use Rattle.mdp_claims.specs.declared.verdict.Verdict.TheVariants.{Yes, No, Wide}
 
 -- what is named where the check is false
 abbrev pub fault_of : Check → Fault

@@ -8,7 +8,7 @@ use Rattle.mdp_farkas.specs.Compare.{0ℚ, is_at_least, is_at_most}
 use Rattle.mdp_farkas.specs.Verdict.{Check, at_choice, at_choices}
 use Rattle.mdp_rows.specs.declared.dir.Dir.{Dir}
 use Rattle.mdp_rows.specs.declared.dir.Dir.TheVariants.{Max, Min}
-use Rattle.mdp_farkas.specs.declared.rule.Rule.TheVariants.{ValueOnEachChoice}
+use Rattle.mdp_claims.specs.declared.rule.Rule.TheVariants.{ValueOnEachChoice}
 
 -- how a value stands to a sum: at least for Max, at most for Min
 abbrev pub stands : Dir → ℚ → ℚ → Option Bool

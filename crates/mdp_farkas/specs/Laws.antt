@@ -14,9 +14,9 @@ use Rattle.mdp_farkas.specs.Reward.{reward_checks, MeetsReward}
 use Rattle.mdp_farkas.specs.Mean.{mean_checks, MeetsMean}
 use Rattle.mdp_farkas.specs.Says.{UpperSays, ReachSays, RewardSays, MeanSays}
 use Rattle.mdp_rows.specs.declared.dir.Dir.{Dir}
-use Rattle.mdp_farkas.specs.declared.rule.Rule.{Rule}
-use Rattle.mdp_farkas.specs.declared.verdict.Fault.{Fault}
-use Rattle.mdp_farkas.specs.declared.verdict.Verdict.TheVariants.{No}
+use Rattle.mdp_claims.specs.declared.rule.Rule.{Rule}
+use Rattle.mdp_claims.specs.declared.verdict.Fault.{Fault}
+use Rattle.mdp_claims.specs.declared.verdict.Verdict.TheVariants.{No}
 
 -- the check is of the rule and at the place that the fault names, and it is false
 abbrev pub IsFalse : Fault → Check → Type 0

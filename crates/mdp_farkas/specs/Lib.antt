@@ -7,6 +7,5 @@ pub mod Reward
 pub mod Spread
 pub mod Upper
 pub mod Verdict
-pub mod RuleNumber
 pub mod Initial
 pub mod Says

@@ -22,7 +22,7 @@ use Rattle.mdp_farkas.specs.Reach.{choice_exists}
 use Rattle.mdp_farkas.specs.Spread.{written_spread}
 use Rattle.mdp_rows.specs.declared.dir.Dir.{Dir}
 use Rattle.mdp_rows.specs.declared.dir.Dir.TheVariants.{Max, Min}
-use Rattle.mdp_farkas.specs.declared.rule.Rule.TheVariants.{BiasOnPolicy, BoundOnEachChoice, GainOnEachChoice, GainOnPolicy, SpreadIsGreatest}
+use Rattle.mdp_claims.specs.declared.rule.Rule.TheVariants.{BiasOnPolicy, BoundOnEachChoice, GainOnEachChoice, GainOnPolicy, SpreadIsGreatest}
 
 -- rule 16
 abbrev pub gain_check : Dir → Mdp → List ℚ → ℕ → ℕ → Check

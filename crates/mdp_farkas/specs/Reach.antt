@@ -20,7 +20,7 @@ use Rattle.mdp_farkas.specs.Bellman.{stands_at, bound_checks}
 use Rattle.mdp_farkas.specs.Upper.{probability_checks, goal_check}
 use Rattle.mdp_rows.specs.declared.dir.Dir.{Dir}
 use Rattle.mdp_rows.specs.declared.dir.Dir.TheVariants.{Max, Min}
-use Rattle.mdp_farkas.specs.declared.rule.Rule.TheVariants.{ChoiceExists, RankFalls, RankZero, ValueOnPolicy}
+use Rattle.mdp_claims.specs.declared.rule.Rule.TheVariants.{ChoiceExists, RankFalls, RankZero, ValueOnPolicy}
 
 -- rule 2
 abbrev pub choice_exists : Mdp → ℕ → ℕ → Check

@@ -30,8 +30,8 @@ use Rattle.mdp_farkas.specs.Bellman.{sum_stands}
 use Rattle.mdp_farkas.specs.Reach.{choice_exists, other}
 use Rattle.mdp_rows.specs.declared.dir.Dir.{Dir}
 use Rattle.mdp_rows.specs.declared.dir.Dir.TheVariants.{Max, Min}
-use Rattle.mdp_farkas.specs.declared.rule.Rule.TheVariants.{EachChoiceMisses, FiniteRankFalls, FiniteTargets, PolicyMisses, RewardNotNegative, RewardOnEachChoice}
-use Rattle.mdp_farkas.specs.declared.rule.Rule.TheVariants.{RewardOnPolicy, RewardValue}
+use Rattle.mdp_claims.specs.declared.rule.Rule.TheVariants.{EachChoiceMisses, FiniteRankFalls, FiniteTargets, PolicyMisses, RewardNotNegative, RewardOnEachChoice}
+use Rattle.mdp_claims.specs.declared.rule.Rule.TheVariants.{RewardOnPolicy, RewardValue}
 
 -- ---- rule 9
 

@@ -12,7 +12,7 @@ use Rattle.mdp_farkas.specs.Compare.{0ℚ, 1ℚ, is_at_least, is_at_most, is_equ
 use Rattle.mdp_farkas.specs.Verdict.{Check, InWidth, at_state}
 use Rattle.mdp_farkas.specs.Bellman.{bound_checks}
 use Rattle.mdp_rows.specs.declared.dir.Dir.TheVariants.{Max}
-use Rattle.mdp_farkas.specs.declared.rule.Rule.TheVariants.{GoalValue, Probability}
+use Rattle.mdp_claims.specs.declared.rule.Rule.TheVariants.{GoalValue, Probability}
 
 -- rule 3
 abbrev pub probability_checks : List ℚ → ℕ → List Check

@@ -8,9 +8,9 @@ ghost use Rattle.mdp_farkas.specs.Verdict.{at_choice, at_choices, objection_to};
 
 use crate::compare::{at_least, at_most};
 use crate::reach::reversed;
-use crate::rule::Rule;
-use crate::verdict::{Objection, judged};
+use crate::verdict::judged;
 use crate::walk::each_choice;
+use mdp_claims::{Objection, Rule};
 use mdp_num::{Frac, Wide};
 use mdp_rows::{Dir, Model, Row};
 

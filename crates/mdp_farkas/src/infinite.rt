@@ -7,9 +7,9 @@ ghost use Rattle.mdp_farkas.specs.Reward.{falls_infinite, stays_infinite, miss_c
 ghost use Rattle.mdp_farkas.specs.Verdict.{objection_to, at_choices};
 
 use crate::finite::is_infinite_at;
-use crate::rule::Rule;
-use crate::verdict::{Objection, judged};
+use crate::verdict::judged;
 use crate::walk::each_choice;
+use mdp_claims::{Objection, Rule};
 use mdp_num::Frac;
 use mdp_rows::{Dir, Model};
 

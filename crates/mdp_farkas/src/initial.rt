@@ -1,8 +1,7 @@
 ghost use Rattle.std.specs.Prelude.{◌≡◌};
 ghost use Rattle.mdp_farkas.specs.Initial.{init_fault, is_value, state_check};
 
-use crate::rule::Rule;
-use crate::verdict::{Fault, Verdict};
+use mdp_claims::{Fault, Rule, Verdict};
 use mdp_num::Frac;
 
 /// That rule 1 is false, with the state of the line `init`, where it has one.

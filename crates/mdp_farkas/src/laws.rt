@@ -1,4 +1,3 @@
-ghost use Rattle.mdp_farkas.specs.RuleNumber.{OneRuleEach, NumbersFromOne};
 ghost use Rattle.mdp_farkas.specs.Laws.{NoIsFalse, UpperNeverNo, ReachNeverNo, RewardNeverNo, MeanNeverNo};
 ghost use Rattle.mdp_farkas.specs.Laws.{UpperNoRefutes, ReachNoRefutes, RewardNoRefutes, MeanNoRefutes};
 ghost use Rattle.mdp_farkas.specs.Laws.{UpperSaysAll, ReachSaysAll, RewardSaysAll, MeanSaysAll};
@@ -27,10 +26,4 @@ pub fn says_law()
     ensures reach { ReachSaysAll }
     ensures reward { RewardSaysAll }
     ensures mean { MeanSaysAll }
-{}
-
-/// Each rule has a number of its own, and the numbers are those from 1 to 28.
-pub fn numbers_law()
-    ensures one_each { OneRuleEach }
-    ensures all { NumbersFromOne }
 {}

@@ -10,23 +10,12 @@ ghost use Rattle.mdp_rows.specs.declared.dir.Dir.TheVariants.{Max, Min};
 use crate::bellman::{Held, row_stands};
 use crate::compare::equal;
 use crate::reach::choice_at;
-use crate::rule::Rule;
 use crate::spread::spread_of;
-use crate::verdict::{Objection, Verdict, judged, judged_at, verdict_after};
+use crate::verdict::{judged, judged_at, verdict_after};
 use crate::walk::{each_below, each_choice};
+use mdp_claims::{MeanCert, Objection, Rule, Verdict};
 use mdp_num::{Frac, Wide};
 use mdp_rows::{Dir, Model};
-
-/// Gains and a memoryless policy that are said to be the greatest or the least mean payoffs: a gain, a bound, a bias and a choice per state, and the
-/// spread of bounds and biases.
-#[derive(Drop)]
-pub struct MeanCert {
-    pub gains: Vec<Frac>,
-    pub bound: Vec<Frac>,
-    pub bias: Vec<Frac>,
-    pub choices: Vec<u32>,
-    pub spread: Frac,
-}
 
 /// Gains, a policy and two relative values that are held against a model.
 #[derive(Clone, Copy)]

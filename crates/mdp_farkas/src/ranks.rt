@@ -7,9 +7,9 @@ ghost use Rattle.mdp_farkas.specs.Compare.{0ℚ};
 ghost use Rattle.mdp_farkas.specs.Reach.{ends, leads_down, fall_check, rank_checks};
 ghost use Rattle.mdp_farkas.specs.Verdict.{at_choices, objection_to};
 
-use crate::rule::Rule;
-use crate::verdict::{Objection, judged};
+use crate::verdict::judged;
 use crate::walk::each_choice;
+use mdp_claims::{Objection, Rule};
 use mdp_num::Frac;
 use mdp_rows::{Dir, Marks, Model, Row};
 

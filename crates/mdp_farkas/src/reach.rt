@@ -8,20 +8,12 @@ ghost use Rattle.mdp_spec.specs.Bounds.{ReachMax, ReachMin};
 
 use crate::bellman::Held;
 use crate::ranks::rank_at_state;
-use crate::rule::Rule;
 use crate::upper::{goal_at, probability_at};
-use crate::verdict::{Objection, Verdict, judged, verdict_after};
+use crate::verdict::{judged, verdict_after};
 use crate::walk::each_below;
+use mdp_claims::{Objection, ReachCert, Rule, Verdict};
 use mdp_num::Frac;
 use mdp_rows::{Dir, Marks, Model};
-
-/// Values, a memoryless policy and ranks that are said to be the greatest or the least probabilities of reaching a goal: one per state.
-#[derive(Drop)]
-pub struct ReachCert {
-    pub values: Vec<Frac>,
-    pub choices: Vec<u32>,
-    pub ranks: Vec<u32>,
-}
 
 /// The other direction.
 pub fn reversed(dir: Dir) -> Dir

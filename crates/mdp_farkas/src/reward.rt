@@ -13,21 +13,12 @@ use crate::compare::{at_least, equal};
 use crate::finite::{finite_at, finite_sum, is_infinite_at};
 use crate::infinite::infinite_state;
 use crate::reach::{choice_at, reversed};
-use crate::rule::Rule;
 use crate::transient::{is_held_against, rank_falls_at_state, stays_at_state};
-use crate::verdict::{Objection, Verdict, judged, verdict_after};
+use crate::verdict::{judged, verdict_after};
 use crate::walk::{each_below, each_choice};
+use mdp_claims::{Objection, RewardCert, Rule, Verdict};
 use mdp_num::{Frac, Wide};
 use mdp_rows::{Dir, Marks, Model};
-
-/// Rewards until a goal, a memoryless policy and ranks that are said to be the greatest or the least rewards: one of each per state. A value of none is
-/// infinite.
-#[derive(Drop)]
-pub struct RewardCert {
-    pub values: Vec<Option<Frac>>,
-    pub choices: Vec<u32>,
-    pub ranks: Vec<u32>,
-}
 
 /// Whether a value is at least 0, as an infinite one is.
 fn at_least_zero(value: Option<Frac>) -> Result<bool, Wide>

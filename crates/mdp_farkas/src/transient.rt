@@ -5,9 +5,9 @@ ghost use Rattle.mdp_farkas.specs.Reward.{stay_check, stay_checks, is_looked_at,
 ghost use Rattle.mdp_farkas.specs.Verdict.{objection_to};
 
 use crate::finite::stays_finite_at;
-use crate::rule::Rule;
-use crate::verdict::{Objection, judged};
+use crate::verdict::judged;
 use crate::walk::each_choice;
+use mdp_claims::{Objection, Rule};
 use mdp_num::Frac;
 use mdp_rows::{Dir, Model};
 

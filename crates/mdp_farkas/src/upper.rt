@@ -6,17 +6,11 @@ ghost use Rattle.mdp_spec.specs.Bounds.{Above};
 
 use crate::bellman::Held;
 use crate::compare::{at_least, at_most, equal};
-use crate::rule::Rule;
-use crate::verdict::{Objection, Verdict, judged, verdict_after};
+use crate::verdict::{judged, verdict_after};
 use crate::walk::each_below;
+use mdp_claims::{Objection, Rule, UpperCert, Verdict};
 use mdp_num::Frac;
 use mdp_rows::{Dir, Marks, Model};
-
-/// Values that are said to bound the probability of reaching a goal from above: one per state.
-#[derive(Drop)]
-pub struct UpperCert {
-    pub values: Vec<Frac>,
-}
 
 /// The value of state `s` is from 0 to 1.
 pub(crate) fn probability_at(values: &[Frac], s: u32) -> Result<(), Objection>

@@ -3,7 +3,7 @@ ghost use Rattle.std.specs.List.{flat_map, range_with_len};
 ghost use Rattle.mdp_spec.specs.Mdp.{states_of, choices_at};
 ghost use Rattle.mdp_farkas.specs.Verdict.{Check, at_choices, objection_to};
 
-use crate::verdict::Objection;
+use mdp_claims::Objection;
 use mdp_rows::Model;
 
 /// The checks at each number below `count`, in order: the first objection ends the walk.

@@ -9,7 +9,7 @@ use Rattle.mdp_math.proofs.Options.{Some_same, step_told}
 use Rattle.mdp_math.proofs.Written.{written_compare-some}
 use Rattle.mdp_spec.specs.Mdp.{Mdp, choices_at, row_at}
 use Rattle.mdp_rows.specs.declared.dir.Dir.{Dir}
-use Rattle.mdp_farkas.proofs.Summing.{written_sum-some}
+use Rattle.mdp_spec.proofs.Summed.{written_sum-some}
 use Rattle.mdp_horizon.specs.Objective.{Objective, earns}
 use Rattle.mdp_rows.specs.Better.{is_better}
 use Rattle.mdp_horizon.specs.Choices.{Best, best, judged, sum_of_choice, compared}

@@ -3,7 +3,7 @@ use Rattle.std.specs.Prelude.{ℕ, Option}
 use Rattle.mdp_math.specs.Rational.{ℚ}
 use Rattle.mdp_text.specs.declared.error.CertKind.{CertKind}
 use Rattle.mdp_drn.specs.declared.error.DrnKind.{DrnKind}
-use Rattle.mdp_farkas.specs.declared.verdict.Fault.{Fault}
+use Rattle.mdp_claims.specs.declared.verdict.Fault.{Fault}
 use Rattle.mdp_wide.specs.Term.{WideTerm, shown}
 use Rattle.mdp_job.specs.declared.refusal.Refusal.{Refusal}
 use Rattle.mdp_job.specs.declared.refusal.Refusal.TheVariants.{Words, Model, QuerySize, QueryReward, QueryLabel, QueryInit, QueryNegative, QuerySteps, QueryChoice}

@@ -9,9 +9,9 @@ use Rattle.mdp_wide.specs.declared.too_wide.Kind.{Kind}
 use Rattle.mdp_wide.specs.declared.too_wide.Kind.TheVariants.{Evaluate, Compare, Check}
 use Rattle.mdp_wide.specs.declared.too_wide.Part.{Part}
 use Rattle.mdp_wide.specs.declared.too_wide.Part.TheVariants.{Whole, Inner, Outer, Steps, Join, Flow, Floor}
-use Rattle.mdp_farkas.specs.RuleNumber.{number_of}
-use Rattle.mdp_farkas.specs.declared.rule.Rule.{Rule}
-use Rattle.mdp_farkas.specs.declared.verdict.Fault.{Fault}
+use Rattle.mdp_claims.specs.RuleNumber.{number_of}
+use Rattle.mdp_claims.specs.declared.rule.Rule.{Rule}
+use Rattle.mdp_claims.specs.declared.verdict.Fault.{Fault}
 use Rattle.mdp_wide.specs.Term.{WideTerm}
 use Rattle.mdp_job.specs.Refusal.{PlainRefusal, no_job, model_text, query_size, query_reward, query_label, query_init, query_negative, query_steps, query_choice, too_wide, check_wide, horizon_wide}
 use Rattle.mdp_job.specs.Refusal.{denied, read_model, read_certificate, long_model, long_certificate, cert_text, policy_text, below, no_memory}

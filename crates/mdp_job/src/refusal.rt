@@ -10,7 +10,7 @@ use crate::status::Status;
 use crate::words_error::WordsError;
 use itoa::Buffer;
 use mdp_drn::DrnKind;
-use mdp_farkas::{Fault, Rule};
+use mdp_claims::{Fault, Rule};
 use mdp_num::{Frac, Memory};
 use mdp_text::CertKind;
 use mdp_wide::{Kind, Part, TooWide};

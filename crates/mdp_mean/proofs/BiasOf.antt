@@ -22,7 +22,7 @@ use Rattle.mdp_policy_iteration.specs.Path.{outer}
 use Rattle.mdp_policy_iteration.specs.Places.{up_to}
 use Rattle.mdp_policy_iteration.proofs.Results.{ok_same, ok_part, place_part, IsUpTo, up_to-is}
 use Rattle.mdp_farkas.specs.Compare.{0ℚ}
-use Rattle.mdp_farkas.proofs.Summing.{written_sum-some}
+use Rattle.mdp_spec.proofs.Summed.{written_sum-some}
 use Rattle.mdp_mean.specs.Terms.{Joining, reward_at, constant_by}
 use Rattle.mdp_mean.specs.Join.{evaluating, constant, policy_rows, placed, eliminated, filled_by, filled, solved, written_bias}
 

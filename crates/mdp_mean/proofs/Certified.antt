@@ -10,7 +10,7 @@ use Rattle.mdp_gain.specs.Laws as gain
 use Rattle.mdp_quot_exits.specs.OfModel.{IsOfModel}
 use Rattle.mdp_quot_exits.specs.Laws.{StepsAreLongest, OuterIsBest}
 use Rattle.mdp_farkas.specs.Mean.{MeetsMean, IsMean}
-use Rattle.mdp_farkas.specs.declared.verdict.Verdict.TheVariants.{Yes}
+use Rattle.mdp_claims.specs.declared.verdict.Verdict.TheVariants.{Yes}
 use Rattle.mdp_farkas.proofs.MeanRules.{mean_rules}
 use Rattle.mdp_mean.specs.Terms.{Joining}
 use Rattle.mdp_mean.specs.Join.{Joined, written_join}

@@ -15,7 +15,7 @@ use Rattle.mdp_rows.specs.declared.dir.Dir.TheVariants.{Max, Min}
 use Rattle.mdp_ends.specs.Quotient.{exits_of}
 use Rattle.mdp_ends.specs.Toward.{first_below}
 use Rattle.mdp_quot.specs.Quotient.{Quotient, node_rows}
-use Rattle.mdp_farkas.specs.declared.verdict.Verdict.TheVariants.{Wide}
+use Rattle.mdp_claims.specs.declared.verdict.Verdict.TheVariants.{Wide}
 use Rattle.mdp_mean.specs.Terms.{Joining}
 use Rattle.mdp_mean.specs.Join.{Joined, Place, place, written_join}
 use Rattle.mdp_mean.specs.Query.{joining, answer_of, checked}

@@ -20,7 +20,7 @@ use Rattle.mdp_policy_iteration.proofs.Results.{ok_same, ok_part, place_part, up
 use Rattle.mdp_farkas.specs.Compare.{0ℚ}
 use Rattle.mdp_rows.specs.Better.{is_better}
 use Rattle.mdp_farkas.specs.Spread.{written_best}
-use Rattle.mdp_farkas.proofs.Summing.{written_sum-some}
+use Rattle.mdp_spec.proofs.Summed.{written_sum-some}
 use Rattle.mdp_rows.specs.declared.dir.Dir.{Dir}
 use Rattle.mdp_rows.specs.declared.dir.Dir.TheVariants.{Max, Min}
 use Rattle.mdp_mean.specs.Terms.{Joining, reward_at, excess_over, excess_at, greater_excess, written_moved, bound_by}

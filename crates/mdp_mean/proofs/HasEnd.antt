@@ -13,9 +13,9 @@ use Rattle.mdp_quot_exits.specs.OfModel.{IsOfModel}
 use Rattle.mdp_quot_exits.specs.Steps.{StepsEndSo}
 use Rattle.mdp_quot_exits.specs.Laws.{StepsEnd, OuterEnds}
 use Rattle.mdp_farkas.specs.Laws.{MeanNeverNo}
-use Rattle.mdp_farkas.specs.declared.verdict.Fault.{Fault}
-use Rattle.mdp_farkas.specs.declared.verdict.Verdict.{Verdict}
-use Rattle.mdp_farkas.specs.declared.verdict.Verdict.TheVariants.{Yes, No, Wide}
+use Rattle.mdp_claims.specs.declared.verdict.Fault.{Fault}
+use Rattle.mdp_claims.specs.declared.verdict.Verdict.{Verdict}
+use Rattle.mdp_claims.specs.declared.verdict.Verdict.TheVariants.{Yes, No, Wide}
 use Rattle.mdp_mean.specs.Terms.{Joining}
 use Rattle.mdp_mean.specs.Join.{Place, Joined, written_join}
 use Rattle.mdp_mean.specs.Inners.{Inners, InnersEndSo}

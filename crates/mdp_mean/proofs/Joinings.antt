@@ -8,8 +8,8 @@ use Rattle.mdp_ends.specs.Ends.{AreEnds}
 use Rattle.mdp_quot.specs.Quotient.{Quotient, IsQuotient}
 use Rattle.mdp_quot_exits.specs.Outer as outer
 use Rattle.mdp_quot_exits.specs.Steps.{StepsEndSo}
-use Rattle.mdp_farkas.specs.declared.verdict.Verdict.{Verdict}
-use Rattle.mdp_farkas.specs.declared.verdict.Verdict.TheVariants.{Yes, No, Wide}
+use Rattle.mdp_claims.specs.declared.verdict.Verdict.{Verdict}
+use Rattle.mdp_claims.specs.declared.verdict.Verdict.TheVariants.{Yes, No, Wide}
 use Rattle.mdp_mean.specs.Terms.{Joining}
 use Rattle.mdp_mean.specs.Join.{Place, Joined, written_join}
 use Rattle.mdp_mean.specs.Inners.{Inners, InnersEndSo}

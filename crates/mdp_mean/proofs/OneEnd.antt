@@ -22,8 +22,8 @@ use Rattle.mdp_gain.specs.Laws as gain
 use Rattle.mdp_quot_exits.specs.Outer as outer
 use Rattle.mdp_quot_exits.specs.Laws.{StepsHaveOneEnd, OuterHasOneEnd}
 use Rattle.mdp_farkas.specs.Compare.{0ℚ}
-use Rattle.mdp_farkas.specs.declared.verdict.Verdict.{Verdict}
-use Rattle.mdp_farkas.specs.declared.verdict.Verdict.TheVariants.{Yes, No, Wide}
+use Rattle.mdp_claims.specs.declared.verdict.Verdict.{Verdict}
+use Rattle.mdp_claims.specs.declared.verdict.Verdict.TheVariants.{Yes, No, Wide}
 use Rattle.mdp_graph.proofs.OnePass.{same_list}
 use Rattle.mdp_mean.specs.Terms.{Joining}
 use Rattle.mdp_mean.specs.Join.{Place, Joined, written_join}

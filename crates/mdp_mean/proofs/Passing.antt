@@ -12,7 +12,7 @@ use Rattle.mdp_ends.specs.Ends.{AreEnds}
 use Rattle.mdp_quot.specs.Quotient.{Quotient, IsQuotient}
 use Rattle.mdp_quot_exits.specs.Outer as outer
 use Rattle.mdp_quot_exits.specs.Steps.{StepsEndSo}
-use Rattle.mdp_farkas.specs.declared.mean.MeanCert.{MeanCert}
+use Rattle.mdp_claims.specs.declared.exact.MeanCert.{MeanCert}
 use Rattle.mdp_mean.specs.Terms.{Joining}
 use Rattle.mdp_mean.specs.Join.{Place, Joined, written_join}
 use Rattle.mdp_mean.specs.Faults.{Says, in_join}

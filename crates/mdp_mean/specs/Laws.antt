@@ -7,7 +7,7 @@ use Rattle.mdp_rows.specs.declared.dir.Dir.{Dir}
 use Rattle.mdp_rows.specs.declared.dir.Dir.TheVariants.{Max, Min}
 use Rattle.mdp_wide.specs.Term.{WideTerm}
 use Rattle.mdp_farkas.specs.Mean.{MeetsMean, IsMean}
-use Rattle.mdp_farkas.specs.declared.verdict.Verdict.TheVariants.{Yes}
+use Rattle.mdp_claims.specs.declared.verdict.Verdict.TheVariants.{Yes}
 use Rattle.mdp_mean.specs.Terms.{Joining}
 use Rattle.mdp_mean.specs.Join.{Joined, written_join}
 use Rattle.mdp_mean.specs.Query.{Answer, answer_of, checked, JoinEndsSo, IsJoining, EndsSo}

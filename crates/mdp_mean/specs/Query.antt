@@ -18,9 +18,9 @@ use Rattle.mdp_quot_exits.specs.Outer as outer
 use Rattle.mdp_quot_exits.specs.Steps.{StepsEndSo}
 use Rattle.mdp_farkas.specs.Mean.{mean_checks}
 use Rattle.mdp_farkas.specs.Verdict.{verdict_of}
-use Rattle.mdp_farkas.specs.declared.mean.MeanCert.{MeanCert}
-use Rattle.mdp_farkas.specs.declared.verdict.Verdict.{Verdict}
-use Rattle.mdp_farkas.specs.declared.verdict.Verdict.TheVariants.{Yes, No, Wide}
+use Rattle.mdp_claims.specs.declared.exact.MeanCert.{MeanCert}
+use Rattle.mdp_claims.specs.declared.verdict.Verdict.{Verdict}
+use Rattle.mdp_claims.specs.declared.verdict.Verdict.TheVariants.{Yes, No, Wide}
 use Rattle.mdp_mean.specs.Terms.{Joining}
 use Rattle.mdp_mean.specs.Join.{Place, Joined, written_join}
 use Rattle.mdp_mean.specs.Inners.{Inners, InnersEndSo}

@@ -20,7 +20,7 @@ use Rattle.mdp_policy_iteration.specs.Path.{comparing}
 use Rattle.mdp_policy_iteration.specs.Places.{Place}
 use Rattle.mdp_policy_iteration.proofs.Turned.{better_by, worse_by}
 use Rattle.mdp_policy_iteration.proofs.Results.{ok_same, ok_part, place_part}
-use Rattle.mdp_farkas.proofs.Summing.{written_sum-some}
+use Rattle.mdp_spec.proofs.Summed.{written_sum-some}
 use Rattle.mdp_policy.specs.Choices.{sum_of_choice, compared}
 use Rattle.mdp_policy.specs.Written.{next_choice, own, best_of, taken_at, change_at, next_state, first_change}
 use Rattle.mdp_policy.specs.declared.value.Change.{Change}

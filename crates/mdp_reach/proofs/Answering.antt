@@ -18,8 +18,8 @@ use Rattle.mdp_policy_iteration.specs.Errors.{PathError}
 use Rattle.mdp_wide.specs.declared.unfinished.Unfinished.TheVariants as path
 use Rattle.mdp_farkas.specs.Verdict.{verdict_of}
 use Rattle.mdp_farkas.specs.Reach.{reach_checks, MeetsReach, IsReach}
-use Rattle.mdp_farkas.specs.declared.verdict.Verdict.{Verdict}
-use Rattle.mdp_farkas.specs.declared.verdict.Verdict.TheVariants.{Yes, No, Wide}
+use Rattle.mdp_claims.specs.declared.verdict.Verdict.{Verdict}
+use Rattle.mdp_claims.specs.declared.verdict.Verdict.TheVariants.{Yes, No, Wide}
 use Rattle.mdp_farkas.proofs.ReachRules.{reach_rules}
 use Rattle.mdp_reach.specs.Problem.{reach_problem}
 use Rattle.mdp_reach.specs.Query.{Answer, IsStart, AreRanks, Held, AfterPath, EndsSo}

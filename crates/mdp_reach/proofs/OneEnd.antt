@@ -18,8 +18,8 @@ use Rattle.mdp_wide.specs.Term.{WideTerm}
 use Rattle.mdp_policy_iteration.proofs.Iterations.{one_end}
 use Rattle.mdp_farkas.specs.Verdict.{verdict_of}
 use Rattle.mdp_farkas.specs.Reach.{reach_checks}
-use Rattle.mdp_farkas.specs.declared.verdict.Verdict.{Verdict}
-use Rattle.mdp_farkas.specs.declared.verdict.Verdict.TheVariants.{Yes, No, Wide}
+use Rattle.mdp_claims.specs.declared.verdict.Verdict.{Verdict}
+use Rattle.mdp_claims.specs.declared.verdict.Verdict.TheVariants.{Yes, No, Wide}
 use Rattle.mdp_reach.specs.Problem.{reach_problem}
 use Rattle.mdp_reach.specs.Query.{Answer, none_blocked, policy_rows, ending, IsMaxStart, IsMinStart, IsStart, AreRanks, Held, AfterPath, EndsSo}
 use Rattle.mdp_reach.specs.Round.{last_round, EndsWithRound}

@@ -20,8 +20,8 @@ use Rattle.mdp_policy_iteration.specs.Errors.{PathError}
 use Rattle.mdp_wide.specs.declared.unfinished.Unfinished.TheVariants as path
 use Rattle.mdp_farkas.specs.Verdict.{verdict_of}
 use Rattle.mdp_farkas.specs.Reward.{reward_checks, MeetsReward, IsReward}
-use Rattle.mdp_farkas.specs.declared.verdict.Verdict.{Verdict}
-use Rattle.mdp_farkas.specs.declared.verdict.Verdict.TheVariants.{Yes, No, Wide}
+use Rattle.mdp_claims.specs.declared.verdict.Verdict.{Verdict}
+use Rattle.mdp_claims.specs.declared.verdict.Verdict.TheVariants.{Yes, No, Wide}
 use Rattle.mdp_farkas.proofs.RewardRules.{reward_rules}
 use Rattle.mdp_reward.specs.Problem.{reward_problem}
 use Rattle.mdp_reward.specs.Query.{Answer, plain, rewards_of, IsStart, AreRanks, Held, AfterPath, EndsSo}

@@ -17,11 +17,11 @@ use Rattle.mdp_policy_iteration.specs.Path.{Found, Refusal, path_step}
 use Rattle.mdp_policy_iteration.specs.Laws.{first}
 use Rattle.mdp_farkas.specs.Verdict.{verdict_of}
 use Rattle.mdp_farkas.specs.Reward.{reward_checks}
-use Rattle.mdp_farkas.specs.declared.verdict.Fault.{Fault}
-use Rattle.mdp_farkas.specs.declared.verdict.Verdict.TheVariants.{Yes, No}
+use Rattle.mdp_claims.specs.declared.verdict.Fault.{Fault}
+use Rattle.mdp_claims.specs.declared.verdict.Verdict.TheVariants.{Yes, No}
 use Rattle.mdp_reward.specs.Problem.{may_take, is_transient, reward_problem}
 use Rattle.mdp_reward.specs.Query.{split, unmarked, rewards_of, HasOneEach}
-use Rattle.mdp_farkas.specs.declared.rule.Rule.TheVariants.{FiniteRankFalls}
+use Rattle.mdp_claims.specs.declared.rule.Rule.TheVariants.{FiniteRankFalls}
 
 -- a choice that leads to one state, with a reward
 abbrev goes : ℕ → ℕ → Choice

@@ -18,8 +18,8 @@ use Rattle.mdp_wide.specs.Term.{WideTerm}
 use Rattle.mdp_policy_iteration.proofs.Iterations.{one_end}
 use Rattle.mdp_farkas.specs.Verdict.{verdict_of}
 use Rattle.mdp_farkas.specs.Reward.{reward_checks}
-use Rattle.mdp_farkas.specs.declared.verdict.Verdict.{Verdict}
-use Rattle.mdp_farkas.specs.declared.verdict.Verdict.TheVariants.{Yes, No, Wide}
+use Rattle.mdp_claims.specs.declared.verdict.Verdict.{Verdict}
+use Rattle.mdp_claims.specs.declared.verdict.Verdict.TheVariants.{Yes, No, Wide}
 use Rattle.mdp_reward.specs.Problem.{reward_problem}
 use Rattle.mdp_reward.specs.Query.{Answer, split, unmarked, MaxPasses, IsMaxStart, IsMinStart, IsStart, policy_rows, rewards_of, AreRanks, Held, AfterPath, EndsSo}
 use Rattle.mdp_graph.proofs.OnePass.{same_list, one_reached, one_ranks, both_ranks, one_choices}

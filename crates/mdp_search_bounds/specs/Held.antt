@@ -5,9 +5,9 @@ use Rattle.mdp_rows.specs.declared.dir.Dir.{Dir}
 use Rattle.mdp_bounds.specs.Reach.{IsReachBounds}
 use Rattle.mdp_bounds.specs.Reward.{IsRewardBounds}
 use Rattle.mdp_bounds.specs.Mean.{IsMeanBounds}
-use Rattle.mdp_bounds.specs.declared.reach.ReachBoundsCert.{ReachBoundsCert}
-use Rattle.mdp_bounds.specs.declared.reward.RewardBoundsCert.{RewardBoundsCert}
-use Rattle.mdp_bounds.specs.declared.mean.MeanBoundsCert.{MeanBoundsCert}
+use Rattle.mdp_claims.specs.declared.bounds.ReachBoundsCert.{ReachBoundsCert}
+use Rattle.mdp_claims.specs.declared.bounds.RewardBoundsCert.{RewardBoundsCert}
+use Rattle.mdp_claims.specs.declared.bounds.MeanBoundsCert.{MeanBoundsCert}
 
 -- ---- reaching a goal
 

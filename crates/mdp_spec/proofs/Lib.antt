@@ -18,6 +18,7 @@ pub mod Enters
 pub mod Reward
 pub mod Trapped
 pub mod Unique
+pub mod Summed
 pub mod Small
 mod Examples
 mod ExamplesBounds

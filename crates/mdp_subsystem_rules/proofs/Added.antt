@@ -12,7 +12,7 @@ use Rattle.mdp_math.proofs.Laws.{rat_ring, +ℚ_assoc}
 use Rattle.mdp_math.proofs.Written.{written_mul-some, written_add-some}
 use Rattle.mdp_spec.specs.Mdp.{Entry, Mdp, value_at}
 use Rattle.mdp_spec.specs.Tree.{is_marked}
-use Rattle.mdp_subsystem_rules.specs.declared.flow.Flow.{Flow}
+use Rattle.mdp_claims.specs.declared.subsystem.Flow.{Flow}
 use Rattle.mdp_subsystem_rules.specs.Flow.{flow_row, prob_to, prob_to_goals, outflow, inflow, goal_flow}
 use Rattle.mdp_subsystem_rules.specs.Sums.{FlowSums, AreSums, with_outflow, with_goal, with_inflow, with_entry, with_row, with_flow}
 use Rattle.mdp_subsystem_rules.proofs.Sizes.{sized_outflow, sized_entry}

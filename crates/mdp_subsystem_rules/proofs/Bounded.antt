@@ -20,7 +20,7 @@ use Rattle.mdp_spec.specs.Sub.{sub_of, policy_on}
 use Rattle.mdp_spec.proofs.Hits.{hit-goal, hit-end}
 use Rattle.mdp_spec.proofs.Above.{row_weigh, hit-nonneg}
 use Rattle.mdp_spec.proofs.Keeping.{unfolded_fits}
-use Rattle.mdp_subsystem_rules.specs.declared.flow.Flow.{Flow}
+use Rattle.mdp_claims.specs.declared.subsystem.Flow.{Flow}
 use Rattle.mdp_subsystem_rules.specs.Flow.{IsFlow, prob_to, prob_to_goals, flow_row, outflow, inflow, goal_flow, flow_value, source, goal_source}
 use Rattle.mdp_subsystem_rules.specs.Policy.{AreOfPolicy, hit_on}
 use Rattle.mdp_spec.proofs.Subsystem.{stays, stays-kept, sub-states, stays-row, sub_is_mdp, policy_on-stays, policy_on_sub}

@@ -17,7 +17,7 @@ use Rattle.mdp_subsystem_rules.specs.Listed.{listed, marks_at, values_at, ranks_
 use Rattle.mdp_subsystem_rules.specs.Visits.{visit_flows}
 use Rattle.mdp_subsystem_rules.specs.Policy.{hit_on}
 use Rattle.mdp_subsystem_rules.specs.Floor.{counted_value, counted_rank, counted_sum, MeetsFloor}
-use Rattle.mdp_subsystem_rules.specs.declared.flow.Flow.{Flow}
+use Rattle.mdp_claims.specs.declared.subsystem.Flow.{Flow}
 use Rattle.mdp_subsystem_rules.specs.Flow.{IsFlow, MeetsFlow, outflow, inflow, goal_flow, flow_total, source, goal_source}
 
 abbrev four : Mdp

@@ -7,14 +7,14 @@ use Rattle.mdp_math.specs.Written.{narrow, narrow_ℚ, written_add, written_mul,
 use Rattle.mdp_spec.specs.Mdp.{Mdp}
 use Rattle.mdp_spec.proofs.Small.{choice, entry, half, nought, one, state, third, two, two_thirds}
 use Rattle.mdp_farkas.specs.Verdict.{verdict_of}
-use Rattle.mdp_farkas.specs.declared.verdict.Verdict.{Verdict}
-use Rattle.mdp_farkas.specs.declared.verdict.Verdict.TheVariants.{Yes, No, Wide}
-use Rattle.mdp_subsystem_rules.specs.declared.flow.Flow.{Flow}
+use Rattle.mdp_claims.specs.declared.verdict.Verdict.{Verdict}
+use Rattle.mdp_claims.specs.declared.verdict.Verdict.TheVariants.{Yes, No, Wide}
+use Rattle.mdp_claims.specs.declared.subsystem.Flow.{Flow}
 use Rattle.mdp_subsystem_rules.specs.FloorChecks.{floor_checks}
 use Rattle.mdp_subsystem_rules.specs.FlowChecks.{flow_checks}
-use Rattle.mdp_farkas.specs.declared.rule.Rule.TheVariants.{ChoiceExists, FlowsBalance, FlowsReachGoals, Probability, RankFalls, RankZero}
-use Rattle.mdp_farkas.specs.declared.rule.Rule.TheVariants.{StartReachesThreshold, StateIsKept, ValueOnEachChoice}
-use Rattle.mdp_farkas.specs.declared.rule.Rule.{Rule}
+use Rattle.mdp_claims.specs.declared.rule.Rule.TheVariants.{ChoiceExists, FlowsBalance, FlowsReachGoals, Probability, RankFalls, RankZero}
+use Rattle.mdp_claims.specs.declared.rule.Rule.TheVariants.{StartReachesThreshold, StateIsKept, ValueOnEachChoice}
+use Rattle.mdp_claims.specs.declared.rule.Rule.{Rule}
 
 -- half of it is past width
 abbrev tiny : ℚ

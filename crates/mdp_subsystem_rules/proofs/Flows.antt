@@ -19,7 +19,7 @@ use Rattle.mdp_spec.specs.Sub.{sub_of}
 use Rattle.mdp_spec.specs.Bounds.{SubMax, SubMaxWithin, part, whole}
 use Rattle.mdp_spec.proofs.Rows.{choices_at-past, probs_nonneg}
 use Rattle.mdp_spec.proofs.Above.{row_weigh}
-use Rattle.mdp_subsystem_rules.specs.declared.flow.Flow.{Flow}
+use Rattle.mdp_claims.specs.declared.subsystem.Flow.{Flow}
 use Rattle.mdp_subsystem_rules.specs.Flow.{IsFlow, MeetsFlow, prob_to, prob_to_goals, flow_row, outflow, inflow, goal_flow, flow_total, source, goal_source}
 use Rattle.mdp_spec.proofs.Subsystem.{stays-kept, sub-states, sub-stays, stays-row, sub_is_mdp}
 use Rattle.mdp_subsystem_rules.proofs.Picks.{greatest_place, greatest_place-below, greatest_place-ge}

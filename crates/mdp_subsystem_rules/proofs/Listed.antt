@@ -11,7 +11,7 @@ use Rattle.mdp_math.proofs.Order.{0ℚ}
 use Rattle.mdp_math.proofs.Sums.{sum_of-same}
 use Rattle.mdp_spec.specs.Mdp.{Entry, Mdp, states_of, row_at, value_at}
 use Rattle.mdp_spec.specs.Tree.{is_marked}
-use Rattle.mdp_subsystem_rules.specs.declared.flow.Flow.{Flow}
+use Rattle.mdp_claims.specs.declared.subsystem.Flow.{Flow}
 use Rattle.mdp_subsystem_rules.specs.Floor.{MeetsFloor, counted_value, counted_rank, counted_sum}
 use Rattle.mdp_subsystem_rules.specs.FloorChecks.{spread_values, spread_ranks}
 use Rattle.mdp_subsystem_rules.specs.Kept.{is_listed, kept_marks, looked_up, Ascends}

@@ -18,7 +18,7 @@ use Rattle.mdp_spec.specs.Tree.{IsPolicy}
 use Rattle.mdp_spec.specs.Rules.{AreProbabilities, MeetsReachMin}
 use Rattle.mdp_spec.proofs.Above.{row_weigh}
 use Rattle.mdp_subsystem_rules.specs.Floor.{counted_value, counted_rank, MeetsFloor}
-use Rattle.mdp_subsystem_rules.specs.declared.flow.Flow.{Flow}
+use Rattle.mdp_claims.specs.declared.subsystem.Flow.{Flow}
 use Rattle.mdp_subsystem_rules.specs.Flow.{IsFlow, MeetsFlow, prob_to, prob_to_goals, flow_row, outflow, inflow, goal_flow, flow_value, source}
 use Rattle.mdp_subsystem_rules.specs.Visits.{AreVisitsOn, visit_flow, visit_flows}
 use Rattle.mdp_subsystem_rules.specs.Policy.{AreOfPolicy, hit_on}

@@ -16,7 +16,7 @@ use Rattle.mdp_spec.specs.Bounds.{ReachMin, SubMin, part}
 use Rattle.mdp_spec.proofs.Hits.{hit-goal}
 use Rattle.mdp_spec.proofs.Above.{row_weigh, hit-nonneg, hit-le_one}
 use Rattle.mdp_spec.proofs.Keeping.{unfolded_fits, unfolded_is_strategy}
-use Rattle.mdp_subsystem_rules.specs.declared.flow.Flow.{Flow}
+use Rattle.mdp_claims.specs.declared.subsystem.Flow.{Flow}
 use Rattle.mdp_subsystem_rules.specs.Flow.{IsFlow, MeetsFlow, flow_row, flow_total}
 use Rattle.mdp_subsystem_rules.specs.Fewer.{IsIncluded}
 use Rattle.mdp_subsystem_rules.specs.Policy.{AreOfPolicy, hit_on, PolicyWithin, FallsShort}

@@ -19,7 +19,7 @@ use Rattle.mdp_rows.specs.declared.dir.Dir.TheVariants.{Min}
 use Rattle.mdp_subsystem_rules.specs.Floor.{MeetsFloor, counted_value, counted_rank}
 use Rattle.mdp_subsystem_rules.specs.FlowChecks.{kept_check}
 use Rattle.mdp_subsystem_rules.specs.Kept.{kept_marks, spread}
-use Rattle.mdp_farkas.specs.declared.rule.Rule.TheVariants.{Probability, RankFalls, RankZero, StartReachesThreshold, ValueOnEachChoice}
+use Rattle.mdp_claims.specs.declared.rule.Rule.TheVariants.{Probability, RankFalls, RankZero, StartReachesThreshold, ValueOnEachChoice}
 
 -- the values of a certificate's lines, one per state, and the ranks
 abbrev pub spread_values : Mdp → List ℕ → List ℚ → List ℚ

@@ -6,7 +6,7 @@ use Rattle.mdp_math.specs.Pivot.{entry_at}
 use Rattle.mdp_math.specs.Sum.{sum_of}
 use Rattle.mdp_spec.specs.Mdp.{Entry, Mdp, states_of, choices_at, row_at}
 use Rattle.mdp_spec.specs.Tree.{is_marked}
-use Rattle.mdp_subsystem_rules.specs.declared.flow.Flow.{Flow}
+use Rattle.mdp_claims.specs.declared.subsystem.Flow.{Flow}
 
 -- the probability that a row leads to state t, and to a goal
 abbrev pub prob_to : List Entry → ℕ → ℚ

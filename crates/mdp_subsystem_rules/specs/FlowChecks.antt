@@ -15,11 +15,11 @@ use Rattle.mdp_spec.specs.Tree.{is_marked}
 use Rattle.mdp_farkas.specs.Compare.{is_at_least, is_at_most}
 use Rattle.mdp_farkas.specs.Reach.{choice_exists}
 use Rattle.mdp_farkas.specs.Verdict.{Check, InWidth, at_state, at_choice}
-use Rattle.mdp_subsystem_rules.specs.declared.flow.Flow.{Flow}
+use Rattle.mdp_claims.specs.declared.subsystem.Flow.{Flow}
 use Rattle.mdp_subsystem_rules.specs.Flow.{MeetsFlow}
 use Rattle.mdp_subsystem_rules.specs.Kept.{kept_marks}
 use Rattle.mdp_subsystem_rules.specs.Sums.{FlowSums, first_sums, with_flow, after_flow, after_flows}
-use Rattle.mdp_farkas.specs.declared.rule.Rule.TheVariants.{FlowsBalance, FlowsReachGoals, StateIsKept}
+use Rattle.mdp_claims.specs.declared.rule.Rule.TheVariants.{FlowsBalance, FlowsReachGoals, StateIsKept}
 
 -- rule 21 at a kept state, and at a flow
 abbrev pub kept_check : List Bool → ℕ → Check

@@ -6,7 +6,7 @@ use Rattle.mdp_spec.specs.Tree.{unfolded}
 use Rattle.mdp_spec.specs.Hit.{hit}
 use Rattle.mdp_spec.specs.Sub.{sub_of}
 use Rattle.mdp_spec.specs.Bounds.{part, whole}
-use Rattle.mdp_subsystem_rules.specs.declared.flow.Flow.{Flow}
+use Rattle.mdp_claims.specs.declared.subsystem.Flow.{Flow}
 
 -- each flow takes the choice of the policy
 abbrev pub AreOfPolicy : List ℕ → List Flow → Type 0

@@ -3,7 +3,7 @@
 use Rattle.std.specs.Prelude.{◌≡◌, ◌==◌, ℕ, ◌<◌, Bool, true, ◌&&◌, ◌||◌, nat_lt, List, length, slice_index_or, All, pos}
 use Rattle.mdp_math.specs.Rational.{ℚ, of_int}
 use Rattle.mdp_spec.specs.Mdp.{Mdp, states_of}
-use Rattle.mdp_subsystem_rules.specs.declared.flow.Flow.{Flow}
+use Rattle.mdp_claims.specs.declared.subsystem.Flow.{Flow}
 use Rattle.mdp_subsystem_rules.specs.Kept.{Ascends}
 
 -- whether a flow stands before another one

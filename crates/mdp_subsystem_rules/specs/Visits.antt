@@ -5,7 +5,7 @@ use Rattle.mdp_math.specs.Rational.{ℚ, of_int, lt_ℚ, ◌+ℚ◌, ◌*ℚ◌,
 use Rattle.mdp_math.specs.Sum.{sum_of}
 use Rattle.mdp_spec.specs.Mdp.{Mdp, states_of, row_at, value_at}
 use Rattle.mdp_spec.specs.Tree.{is_marked}
-use Rattle.mdp_subsystem_rules.specs.declared.flow.Flow.{Flow}
+use Rattle.mdp_claims.specs.declared.subsystem.Flow.{Flow}
 use Rattle.mdp_subsystem_rules.specs.Flow.{prob_to, source}
 
 -- a kept state is visited once at the start, and after the visits of the states that lead to it; any other state isn't

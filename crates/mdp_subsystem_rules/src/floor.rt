@@ -20,21 +20,12 @@ ghost use Rattle.mdp_subsystem_rules.specs.Shape.{IsFloorShape};
 use crate::flow::kept_at;
 use crate::lines::place_of;
 use crate::walk::each_place;
+use mdp_claims::FloorCert;
 use mdp_farkas::{
     Objection, Rule, Verdict, at_least, at_most, each_choice, judged, judged_at, verdict_after,
 };
 use mdp_num::{Frac, Wide};
 use mdp_rows::{Marks, Model, Row, ValuesOf};
-
-/// Values and ranks that are said to show that each policy of a subsystem reaches a goal with a probability of at least a threshold: the states that
-/// are kept, strictly ascending, and for each whether it was kept since a number was too wide to try without it, its value and its rank.
-#[derive(Drop)]
-pub struct FloorCert {
-    pub kept: Vec<u32>,
-    pub wide: Vec<bool>,
-    pub values: Vec<Frac>,
-    pub ranks: Vec<u32>,
-}
 
 /// Values and ranks of kept states that are held against a model.
 #[derive(Clone, Copy)]

@@ -12,27 +12,11 @@ ghost use Rattle.mdp_subsystem_rules.specs.Sums.{AreSums, after_flow, after_flow
 use crate::lines::kept_marks_of;
 use crate::sums::Sums;
 use crate::walk::each_place;
+use mdp_claims::{Flow, FlowCert};
 use mdp_farkas::{Objection, Rule, Verdict, at_least, at_most, judged, judged_at, verdict_after};
 use mdp_num::{Frac, Memory, Wide};
 use mdp_rows::{Marks, Model};
 use std::alloc::Global;
-
-/// How much of a flow takes a choice of a state.
-#[derive(Clone, Copy)]
-pub struct Flow {
-    pub state: u32,
-    pub choice: u32,
-    pub amount: Frac,
-}
-
-/// A flow that is said to show that a subsystem reaches a goal with a probability of at least a threshold: the states that are kept, strictly
-/// ascending, for each whether it was kept since a number was too wide to try without it, and the flows, strictly ascending by state and choice.
-#[derive(Drop)]
-pub struct FlowCert {
-    pub kept: Vec<u32>,
-    pub wide: Vec<bool>,
-    pub flows: Vec<Flow>,
-}
 
 /// The kept state `s` is no goal.
 pub(crate) fn kept_at(goals: &Marks, s: u32) -> Result<(), Objection>

@@ -10,6 +10,7 @@ mod lines;
 mod sums;
 mod walk;
 
-pub use floor::{FloorCert, holds_floor};
-pub use flow::{Flow, FlowCert, holds_flow};
+pub use mdp_claims::{FloorCert, Flow, FlowCert};
+pub use floor::holds_floor;
+pub use flow::holds_flow;
 pub use laws::{fewer_law, floor_law, flow_law, listed_law, made_law, never_no_law, short_law};

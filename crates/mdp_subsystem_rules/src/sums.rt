@@ -4,7 +4,7 @@ ghost use Rattle.mdp_spec.specs.Row.{entries};
 ghost use Rattle.mdp_subsystem_rules.specs.Flow.{goal_source};
 ghost use Rattle.mdp_subsystem_rules.specs.Sums.{AreSums, first_sums, with_outflow, with_goal, with_inflow, with_entry, with_row, with_flow};
 
-use crate::flow::Flow;
+use mdp_claims::Flow;
 use mdp_num::{Frac, Memory, Wide};
 use mdp_rows::{Marks, Model, Row};
 use std::alloc::Global;

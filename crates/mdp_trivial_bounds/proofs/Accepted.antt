@@ -4,7 +4,7 @@ use Rattle.mdp_math.specs.Rational.{ℚ}
 use Rattle.mdp_spec.specs.Mdp.{Mdp, states_of}
 use Rattle.mdp_spec.specs.Row.{IsMdp}
 use Rattle.mdp_rows.specs.declared.dir.Dir.{Dir}
-use Rattle.mdp_farkas.specs.declared.verdict.Verdict.TheVariants.{Yes}
+use Rattle.mdp_claims.specs.declared.verdict.Verdict.TheVariants.{Yes}
 use Rattle.mdp_bounds.specs.Reward.{IsTrivialReward, IsRewardBounds}
 use Rattle.mdp_bounds.specs.Mean.{IsTrivialMean, IsMeanBounds}
 use Rattle.mdp_bounds.proofs.RewardRules.{reward_bounds_rules}

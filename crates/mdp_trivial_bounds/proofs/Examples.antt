@@ -9,9 +9,9 @@ use Rattle.mdp_spec.proofs.Small.{number, state}
 use Rattle.mdp_rows.specs.declared.dir.Dir.{Dir}
 use Rattle.mdp_rows.specs.declared.dir.Dir.TheVariants.{Max, Min}
 use Rattle.mdp_farkas.specs.Verdict.{verdict_of}
-use Rattle.mdp_farkas.specs.declared.verdict.Verdict.{Verdict}
-use Rattle.mdp_farkas.specs.declared.verdict.Verdict.TheVariants.{Yes, No}
-use Rattle.mdp_farkas.specs.declared.rule.Rule.TheVariants.{BoundOnEachChoice, FiniteRankFalls}
+use Rattle.mdp_claims.specs.declared.verdict.Verdict.{Verdict}
+use Rattle.mdp_claims.specs.declared.verdict.Verdict.TheVariants.{Yes, No}
+use Rattle.mdp_claims.specs.declared.rule.Rule.TheVariants.{BoundOnEachChoice, FiniteRankFalls}
 use Rattle.mdp_bounds.specs.Reward.{reward_bounds_checks}
 use Rattle.mdp_bounds.specs.Mean.{mean_bounds_checks}
 use Rattle.mdp_trivial_bounds.specs.Extent.{IsExtreme}

@@ -11,7 +11,7 @@ use Rattle.mdp_elim.specs.System.{equation_of}
 use Rattle.mdp_wide.specs.declared.too_wide.Part.TheVariants as part
 use Rattle.mdp_wide.specs.declared.too_wide.Kind.TheVariants.{Evaluate, Compare, Check}
 use Rattle.mdp_rows.specs.declared.dir.Dir.TheVariants.{Max}
-use Rattle.mdp_farkas.specs.declared.verdict.Verdict.TheVariants.{Yes, No, Wide}
+use Rattle.mdp_claims.specs.declared.verdict.Verdict.TheVariants.{Yes, No, Wide}
 use Rattle.mdp_reach.specs.Query.{Answer}
 use Rattle.mdp_witness_trials.specs.Evaluation.{Visited, visited, visited_value}
 use Rattle.mdp_witness_trials.specs.Trial.{trial_set, trial_of, is_wide}
@@ -19,7 +19,7 @@ use Rattle.mdp_witness_trials.proofs.Examples.{five, goals, greatest, least, bes
 use Rattle.mdp_witness.specs.Query.{PlainSubsystem, flow, floor, Refusal, below, too_wide, visiting, in_floor, flow_of, floor_of, verdict_on, FlowHeld, FloorHeld}
 use Rattle.mdp_witness.specs.Query.{AfterComparison, FromFirst}
 use Rattle.mdp_witness.specs.Shown.{kept_of, kept_in, HasShape, Holds}
-use Rattle.mdp_farkas.specs.declared.rule.Rule.TheVariants.{FlowsBalance, FlowsReachGoals, StateIsKept, ValueOnEachChoice}
+use Rattle.mdp_claims.specs.declared.rule.Rule.TheVariants.{FlowsBalance, FlowsReachGoals, StateIsKept, ValueOnEachChoice}
 
 -- the answers to the queries of the greatest and of the least probability
 abbrev at_most : Answer

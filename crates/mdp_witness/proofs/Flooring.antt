@@ -21,8 +21,8 @@ use Rattle.mdp_graph.specs.Laws.{RestMeets}
 use Rattle.mdp_policy_iteration.specs.Laws.{EndsAtBest}
 use Rattle.mdp_farkas.specs.Compare.{not_less, is_at_least}
 use Rattle.mdp_farkas.specs.Verdict.{verdict_of, InWidth}
-use Rattle.mdp_farkas.specs.declared.verdict.Verdict.{Verdict}
-use Rattle.mdp_farkas.specs.declared.verdict.Verdict.TheVariants.{Yes}
+use Rattle.mdp_claims.specs.declared.verdict.Verdict.{Verdict}
+use Rattle.mdp_claims.specs.declared.verdict.Verdict.TheVariants.{Yes}
 use Rattle.mdp_farkas.proofs.Comparing.{le_of_at_least}
 use Rattle.mdp_subsystem_rules.specs.FloorChecks.{floor_checks, HoldsFloor}
 use Rattle.mdp_subsystem_rules.specs.Laws.{WholeIsModel, LeastGrows, ListedMeetsFloor, ListedFloorShape}

@@ -10,7 +10,7 @@ use Rattle.mdp_subsystem_rules.specs.Kept.{kept_marks}
 use Rattle.mdp_subsystem_rules.specs.Laws.{ListedAreMarks, ListedFlowShape}
 use Rattle.mdp_subsystem_rules.specs.Shape.{IsFlowShape}
 use Rattle.mdp_subsystem_rules.specs.Visits.{visit_flows}
-use Rattle.mdp_subsystem_rules.specs.declared.flow.Flow.{Flow}
+use Rattle.mdp_claims.specs.declared.subsystem.Flow.{Flow}
 use Rattle.mdp_reach.specs.Laws.{AnswersMeetRules}
 use Rattle.mdp_reach.specs.Query.{Answer, EndsSo}
 use Rattle.mdp_witness_trials.specs.First.{IsFirst}

@@ -6,8 +6,8 @@ use Rattle.mdp_rows.specs.declared.dir.Dir.{Dir}
 use Rattle.mdp_rows.specs.declared.dir.Dir.TheVariants.{Max, Min}
 use Rattle.mdp_wide.specs.Term.{WideTerm}
 use Rattle.mdp_farkas.specs.Compare.{is_at_least}
-use Rattle.mdp_farkas.specs.declared.verdict.Verdict.{Verdict}
-use Rattle.mdp_farkas.specs.declared.verdict.Verdict.TheVariants.{Yes, No, Wide}
+use Rattle.mdp_claims.specs.declared.verdict.Verdict.{Verdict}
+use Rattle.mdp_claims.specs.declared.verdict.Verdict.TheVariants.{Yes, No, Wide}
 use Rattle.mdp_reach.specs.Query.{Answer}
 use Rattle.mdp_reach.specs.Query as reach
 use Rattle.mdp_reach.specs.Round.{EndsWithRound}

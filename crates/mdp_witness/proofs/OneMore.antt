@@ -8,7 +8,7 @@ use Rattle.mdp_math.proofs.Lists.{range_more, map_more}
 use Rattle.mdp_math.proofs.Order.{0ℚ}
 use Rattle.mdp_spec.specs.Mdp.{value_at}
 use Rattle.mdp_spec.specs.Tree.{is_marked}
-use Rattle.mdp_subsystem_rules.specs.declared.flow.Flow.{Flow}
+use Rattle.mdp_claims.specs.declared.subsystem.Flow.{Flow}
 use Rattle.mdp_subsystem_rules.specs.Listed.{listed}
 use Rattle.mdp_subsystem_rules.proofs.Listed.{listed-in_range}
 use Rattle.mdp_subsystem_rules.specs.Visits.{visit_flow, visit_flows}

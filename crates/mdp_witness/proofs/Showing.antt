@@ -27,7 +27,7 @@ use Rattle.mdp_subsystem_rules.specs.Laws.{FloorShows, FlowShows, PolicyShows, L
 use Rattle.mdp_subsystem_rules.specs.Listed.{listed, marks_at, values_at, ranks_at}
 use Rattle.mdp_subsystem_rules.specs.Policy.{PolicyWithin, FallsShort}
 use Rattle.mdp_subsystem_rules.specs.Visits.{visit_flows}
-use Rattle.mdp_subsystem_rules.specs.declared.flow.Flow.{Flow}
+use Rattle.mdp_claims.specs.declared.subsystem.Flow.{Flow}
 use Rattle.mdp_subsystem_rules.proofs.FlowRules.{flow_rules}
 use Rattle.mdp_subsystem_rules.proofs.FloorRules.{floor_rules}
 use Rattle.mdp_subsystem_rules.proofs.Kept.{listed-at}

@@ -6,8 +6,8 @@ use Rattle.mdp_wide.specs.Errors.{SolveError}
 use Rattle.mdp_wide.specs.declared.unfinished.Unfinished.TheVariants as solve
 use Rattle.mdp_policy_iteration.specs.Ends.{capped}
 use Rattle.mdp_wide.specs.Term.{shown}
-use Rattle.mdp_subsystem_rules.specs.declared.flow.FlowCert.{FlowCert}
-use Rattle.mdp_subsystem_rules.specs.declared.floor.FloorCert.{FloorCert}
+use Rattle.mdp_claims.specs.declared.subsystem.FlowCert.{FlowCert}
+use Rattle.mdp_claims.specs.declared.subsystem.FloorCert.{FloorCert}
 use Rattle.mdp_witness.specs.Query.{PlainSubsystem, flow, floor, Refusal, below, too_wide}
 use Rattle.mdp_witness.specs.declared.subsystem.Subsystem.{Subsystem}
 use Rattle.mdp_witness.specs.declared.subsystem.Subsystem.TheVariants as subsystem

@@ -15,9 +15,9 @@ use Rattle.mdp_wide.specs.declared.too_wide.Kind.TheVariants.{Evaluate, Compare,
 use Rattle.mdp_wide.specs.Term.{WideTerm}
 use Rattle.mdp_farkas.specs.Compare.{is_at_least}
 use Rattle.mdp_farkas.specs.Verdict.{verdict_of}
-use Rattle.mdp_farkas.specs.declared.verdict.Verdict.{Verdict}
-use Rattle.mdp_farkas.specs.declared.verdict.Verdict.TheVariants.{Yes, No, Wide}
-use Rattle.mdp_subsystem_rules.specs.declared.flow.Flow.{Flow}
+use Rattle.mdp_claims.specs.declared.verdict.Verdict.{Verdict}
+use Rattle.mdp_claims.specs.declared.verdict.Verdict.TheVariants.{Yes, No, Wide}
+use Rattle.mdp_claims.specs.declared.subsystem.Flow.{Flow}
 use Rattle.mdp_subsystem_rules.specs.FlowChecks.{flow_checks}
 use Rattle.mdp_subsystem_rules.specs.FloorChecks.{floor_checks}
 use Rattle.mdp_subsystem_rules.specs.Listed.{listed, marks_at, values_at, ranks_at}

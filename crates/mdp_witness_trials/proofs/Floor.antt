@@ -8,7 +8,7 @@ use Rattle.mdp_rows.specs.declared.dir.Dir.TheVariants.{Min}
 use Rattle.mdp_wide.specs.declared.too_wide.TooWide.{TooWide}
 use Rattle.mdp_wide.specs.Errors.{SolveError}
 use Rattle.mdp_wide.specs.declared.unfinished.Unfinished.TheVariants as solve
-use Rattle.mdp_farkas.specs.declared.reach.ReachCert.{ReachCert}
+use Rattle.mdp_claims.specs.declared.exact.ReachCert.{ReachCert}
 use Rattle.mdp_graph.specs.Laws.{RestMeets}
 use Rattle.mdp_policy_iteration.specs.Laws.{EndsAtBest}
 use Rattle.mdp_policy_iteration.specs.Ends.{capped}

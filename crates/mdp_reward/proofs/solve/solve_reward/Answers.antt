@@ -4,7 +4,7 @@ use Rattle.mdp_spec.specs.Tree.{IsPolicy}
 use Rattle.mdp_wide.specs.Errors.{SolveError}
 use Rattle.mdp_farkas.specs.Verdict.{verdict_of}
 use Rattle.mdp_farkas.specs.Reward.{reward_checks}
-use Rattle.mdp_farkas.specs.declared.verdict.Verdict.TheVariants.{Yes, No, Wide}
+use Rattle.mdp_claims.specs.declared.verdict.Verdict.TheVariants.{Yes, No, Wide}
 use Rattle.mdp_wide.specs.Term.{WideTerm}
 use Rattle.mdp_policy_iteration.specs.Queries.{Solves}
 use Rattle.mdp_reward.specs.Query.{Answer, plain, rewards_of, AreRanks, EndsSo}

@@ -1,6 +1,6 @@
 use Rattle.std.proofs.Common.{sym, ◌∙◌, ap, subst, length, Ok}
 use Rattle.mdp_rows.specs.declared.dir.Dir.TheVariants.{Min}
-use Rattle.mdp_subsystem_rules.specs.declared.floor.FloorCert.{FloorCert}
+use Rattle.mdp_claims.specs.declared.subsystem.FloorCert.{FloorCert}
 use Rattle.mdp_reach.specs.Query.{plain}
 use Rattle.mdp_witness_trials.proofs.Lengths.{sized}
 use Rattle.mdp_witness.specs.Query.{FromFirst}

@@ -6,7 +6,7 @@ use Rattle.mdp_spec.specs.Mdp.{Mdp}
 use Rattle.mdp_rows.specs.declared.dir.Dir.{Dir}
 use Rattle.mdp_farkas.specs.Reach.{other, choice_exists}
 use Rattle.mdp_farkas.specs.Verdict.{Check, at_choices, objection_to}
-use Rattle.mdp_farkas.specs.declared.verdict.Objection.{Objection}
+use Rattle.mdp_claims.specs.declared.verdict.Objection.{Objection}
 use Rattle.mdp_bounds.specs.Says.{covering_rewards}
 use Rattle.mdp_bounds.proofs.Parts.{both, handed}
 use Rattle.mdp_discount_bounds.specs.Checks.{each_check, policy_check, bounds_at}

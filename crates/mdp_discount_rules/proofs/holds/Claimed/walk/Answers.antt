@@ -1,7 +1,7 @@
 use Rattle.std.proofs.Common.{Bool, Option, [], ◌∷◌, List, None, ap, ◌∙◌}
 use Rattle.std.proofs.lemmas.Result.{err_from_is_err_and}
 use Rattle.mdp_farkas.specs.Verdict.{Check, objection_to}
-use Rattle.mdp_farkas.specs.declared.rule.Rule.TheVariants.{RemainderIsGreatest}
+use Rattle.mdp_claims.specs.declared.rule.Rule.TheVariants.{RemainderIsGreatest}
 use Rattle.mdp_farkas.proofs.Objections.{halts, goes_on}
 use Rattle.mdp_discount_rules.specs.Checks.{state_checks, remainder_check}
 use Rattle.mdp_discount_rules.proofs.holds.Claimed.walk.Goals as goal

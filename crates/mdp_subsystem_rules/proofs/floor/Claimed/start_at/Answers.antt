@@ -4,7 +4,7 @@ use Rattle.mdp_farkas.specs.Compare.{is_at_least}
 use Rattle.mdp_farkas.specs.Verdict.{objection_to}
 use Rattle.mdp_subsystem_rules.proofs.Counted.{line_values-at}
 use Rattle.mdp_subsystem_rules.proofs.floor.Claimed.start_at.Goals as goal
-use Rattle.mdp_farkas.specs.declared.rule.Rule.TheVariants.{StartReachesThreshold}
+use Rattle.mdp_claims.specs.declared.rule.Rule.TheVariants.{StartReachesThreshold}
 
 pub returns : goal.returns
 returns c =

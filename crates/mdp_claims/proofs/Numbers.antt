@@ -1,13 +1,13 @@
 -- The rule of a number.
 use Rattle.std.proofs.Common.{◌≡◌, ℕ, zero, suc, ◌+◌, ◌-◌, ◌<◌, ◌≤◌, Bool, true, ◌&&◌, eqb, eqb-true, List, [], ◌∷◌, length, refl, sym, ap, ◌∙◌, arith}
 use Rattle.mdp_math.proofs.Booleans.{and-parts}
-use Rattle.mdp_farkas.specs.RuleNumber.{number_of}
-use Rattle.mdp_farkas.specs.declared.rule.Rule.{Rule}
-use Rattle.mdp_farkas.specs.declared.rule.Rule.TheVariants.{InitialState, ChoiceExists, Probability, GoalValue, ValueOnEachChoice, ValueOnPolicy}
-use Rattle.mdp_farkas.specs.declared.rule.Rule.TheVariants.{RankZero, RankFalls, RewardValue, FiniteTargets, RewardOnEachChoice, RewardOnPolicy}
-use Rattle.mdp_farkas.specs.declared.rule.Rule.TheVariants.{FiniteRankFalls, PolicyMisses, EachChoiceMisses, GainOnEachChoice, BoundOnEachChoice, GainOnPolicy}
-use Rattle.mdp_farkas.specs.declared.rule.Rule.TheVariants.{BiasOnPolicy, SpreadIsGreatest, StateIsKept, FlowsBalance, FlowsReachGoals, StartReachesThreshold}
-use Rattle.mdp_farkas.specs.declared.rule.Rule.TheVariants.{RewardNotNegative, DiscountedOnEachChoice, DiscountedOnPolicy, RemainderIsGreatest}
+use Rattle.mdp_claims.specs.RuleNumber.{number_of}
+use Rattle.mdp_claims.specs.declared.rule.Rule.{Rule}
+use Rattle.mdp_claims.specs.declared.rule.Rule.TheVariants.{InitialState, ChoiceExists, Probability, GoalValue, ValueOnEachChoice, ValueOnPolicy}
+use Rattle.mdp_claims.specs.declared.rule.Rule.TheVariants.{RankZero, RankFalls, RewardValue, FiniteTargets, RewardOnEachChoice, RewardOnPolicy}
+use Rattle.mdp_claims.specs.declared.rule.Rule.TheVariants.{FiniteRankFalls, PolicyMisses, EachChoiceMisses, GainOnEachChoice, BoundOnEachChoice, GainOnPolicy}
+use Rattle.mdp_claims.specs.declared.rule.Rule.TheVariants.{BiasOnPolicy, SpreadIsGreatest, StateIsKept, FlowsBalance, FlowsReachGoals, StartReachesThreshold}
+use Rattle.mdp_claims.specs.declared.rule.Rule.TheVariants.{RewardNotNegative, DiscountedOnEachChoice, DiscountedOnPolicy, RemainderIsGreatest}
 
 -- the rules in the order of their numbers
 abbrev rules : List Rule

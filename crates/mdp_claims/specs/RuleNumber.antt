@@ -1,11 +1,11 @@
 -- The number of a rule, by which the program names it.
 use Rattle.std.specs.Prelude.{◌≡◌, ℕ, ◌≤◌, ◌↔◌}
-use Rattle.mdp_farkas.specs.declared.rule.Rule.{Rule}
-use Rattle.mdp_farkas.specs.declared.rule.Rule.TheVariants.{InitialState, ChoiceExists, Probability, GoalValue, ValueOnEachChoice, ValueOnPolicy}
-use Rattle.mdp_farkas.specs.declared.rule.Rule.TheVariants.{RankZero, RankFalls, RewardValue, FiniteTargets, RewardOnEachChoice, RewardOnPolicy}
-use Rattle.mdp_farkas.specs.declared.rule.Rule.TheVariants.{FiniteRankFalls, PolicyMisses, EachChoiceMisses, GainOnEachChoice, BoundOnEachChoice, GainOnPolicy}
-use Rattle.mdp_farkas.specs.declared.rule.Rule.TheVariants.{BiasOnPolicy, SpreadIsGreatest, StateIsKept, FlowsBalance, FlowsReachGoals, StartReachesThreshold}
-use Rattle.mdp_farkas.specs.declared.rule.Rule.TheVariants.{RewardNotNegative, DiscountedOnEachChoice, DiscountedOnPolicy, RemainderIsGreatest}
+use Rattle.mdp_claims.specs.declared.rule.Rule.{Rule}
+use Rattle.mdp_claims.specs.declared.rule.Rule.TheVariants.{InitialState, ChoiceExists, Probability, GoalValue, ValueOnEachChoice, ValueOnPolicy}
+use Rattle.mdp_claims.specs.declared.rule.Rule.TheVariants.{RankZero, RankFalls, RewardValue, FiniteTargets, RewardOnEachChoice, RewardOnPolicy}
+use Rattle.mdp_claims.specs.declared.rule.Rule.TheVariants.{FiniteRankFalls, PolicyMisses, EachChoiceMisses, GainOnEachChoice, BoundOnEachChoice, GainOnPolicy}
+use Rattle.mdp_claims.specs.declared.rule.Rule.TheVariants.{BiasOnPolicy, SpreadIsGreatest, StateIsKept, FlowsBalance, FlowsReachGoals, StartReachesThreshold}
+use Rattle.mdp_claims.specs.declared.rule.Rule.TheVariants.{RewardNotNegative, DiscountedOnEachChoice, DiscountedOnPolicy, RemainderIsGreatest}
 
 abbrev pub number_of : Rule → ℕ
 number_of InitialState = 1

@@ -1,5 +1,5 @@
-use Rattle.mdp_farkas.proofs.Numbers.{one_rule_each, number-in_range, rule_has_number}
-use Rattle.mdp_farkas.proofs.laws.numbers_law.Goals as goal
+use Rattle.mdp_claims.proofs.Numbers.{one_rule_each, number-in_range, rule_has_number}
+use Rattle.mdp_claims.proofs.laws.numbers_law.Goals as goal
 
 pub returns-clause-one_each : goal.returns-clause-one_each
 returns-clause-one_each c = one_rule_each

@@ -1,5 +1,5 @@
 ghost use Rattle.std.specs.Prelude.{◌≡◌};
-ghost use Rattle.mdp_farkas.specs.RuleNumber.{number_of};
+ghost use Rattle.mdp_claims.specs.RuleNumber.{number_of};
 
 /// A rule of certificates, of bounds, of subsystems or of discounted rewards. docs/certificates.md has each.
 #[derive(Clone, Copy)]
