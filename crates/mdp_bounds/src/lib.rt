@@ -12,10 +12,10 @@ mod reward;
 mod spread;
 mod sum;
 
-pub use mdp_claims::{MeanBoundsCert, ReachBoundsCert, RewardBoundsCert};
 pub use compare::value_stands;
 pub use finite::finite_row_sum;
 pub use laws::{never_no_law, refuted_law, says_law};
+pub use mdp_claims::{MeanBoundsCert, ReachBoundsCert, RewardBoundsCert};
 pub use mdp_rows::Dir;
 pub use mean::{holds_bounds_mean, mean_bounds_at_state};
 pub use reach::{holds_bounds_reach, reach_bounds_at_state};

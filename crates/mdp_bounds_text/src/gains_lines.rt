@@ -4,8 +4,8 @@ ghost use Rattle.mdp_bounds_text.specs.Entries.{gains_columns, gains_of};
 ghost use Rattle.mdp_bounds_text.specs.Reading.{mean_body};
 
 use crate::gains_entry::GainsEntry;
-use mdp_claims::MeanBoundsCert;
 use mdp_cert::{Entry, Lists};
+use mdp_claims::MeanBoundsCert;
 use mdp_num::{Frac, Memory, read_canonical};
 use mdp_text::{cut_word, only_word, push_fraction, push_word, whole_of};
 use std::alloc::{AllocError, Global};

@@ -4,8 +4,8 @@ ghost use Rattle.mdp_bounds_text.specs.Entries.{ranked_columns, ranked_of};
 ghost use Rattle.mdp_bounds_text.specs.Reading.{reach_body, reward_body};
 
 use crate::ranked_entry::RankedEntry;
-use mdp_claims::{ReachBoundsCert, RewardBoundsCert};
 use mdp_cert::{Entry, Lists, Value, push_value};
+use mdp_claims::{ReachBoundsCert, RewardBoundsCert};
 use mdp_num::{Frac, Memory};
 use mdp_text::{cut_word, only_word, push_word, whole_of};
 use std::alloc::{AllocError, Global};

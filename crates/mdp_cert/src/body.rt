@@ -1,5 +1,4 @@
-use mdp_claims::{MeanCert, ReachCert, RewardCert, UpperCert};
-use mdp_claims::{FloorCert, FlowCert};
+use mdp_claims::{FloorCert, FlowCert, MeanCert, ReachCert, RewardCert, UpperCert};
 
 /// What a certificate says of each state, or of each kept state of a subsystem.
 #[derive(Drop)]

@@ -6,8 +6,8 @@ use crate::floor_line::FloorLine;
 use crate::flow_lines::is_next;
 use crate::listed::{Line, Lines};
 use crate::mark::{mark_at, push_mark};
-use mdp_num::{Frac, Memory};
 use mdp_claims::FloorCert;
+use mdp_num::{Frac, Memory};
 use mdp_text::{
     CertKind, Refusal, cut_word, frac_at, only_word, push_fraction, push_word, refuse_if, whole_at,
     words_behind,

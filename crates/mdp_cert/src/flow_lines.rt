@@ -5,8 +5,8 @@ ghost use Rattle.mdp_cert.specs.Witness.{keep_at, flow_at, flow_line_at, kept_in
 use crate::flow_line::FlowLine;
 use crate::listed::{Line, Lines};
 use crate::mark::{mark_at, push_mark};
-use mdp_num::Memory;
 use mdp_claims::{Flow, FlowCert};
+use mdp_num::Memory;
 use mdp_text::{
     CertKind, Refusal, begins_with, cut_word, frac_at, only_word, push_fraction, push_word,
     refuse_if, whole_at, words_behind,

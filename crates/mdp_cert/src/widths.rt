@@ -4,8 +4,8 @@ ghost use Rattle.mdp_cert.specs.Cert.{plain_claim, plain_body, IsClaimInWidth, I
 
 use crate::body::Body;
 use crate::claim::Claim;
-use mdp_num::Frac;
 use mdp_claims::Flow;
+use mdp_num::Frac;
 use mdp_text::{Init, all_narrow, all_short};
 
 /// The threshold of a claim is in width, as its type keeps it.

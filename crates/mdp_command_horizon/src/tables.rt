@@ -23,11 +23,13 @@ pub(crate) fn refusal_of(error: HorizonError) -> Refusal
     ensures { plain_refusal result ≡ refused error }
 {
     match error {
-        HorizonError::TooWide(HorizonPlace {
-            depth,
-            state,
-            choice,
-        }) => Refusal::HorizonWide {
+        HorizonError::TooWide(
+            HorizonPlace {
+                depth,
+                state,
+                choice,
+            },
+        ) => Refusal::HorizonWide {
             depth,
             state,
             choice,

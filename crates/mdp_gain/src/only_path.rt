@@ -13,11 +13,13 @@ use std::alloc::Global;
 fn path_error(alloc: Global, error: RoundError, round: u64, choice: u32) -> PathError
     ensures { IsErrorOf error round choice result }
 {
-    let RoundError::TooWide(NodePlace {
-        kind,
-        node,
-        choice: wide,
-    }) = error
+    let RoundError::TooWide(
+        NodePlace {
+            kind,
+            node,
+            choice: wide,
+        },
+    ) = error
     else {
         return PathError::Memory;
     };

@@ -97,11 +97,13 @@ fn in_join(error: JoinError, policy: Vec<u32>) -> SolveError
     ensures { result ≡ in_join error policy }
 {
     match error {
-        JoinError::TooWide(JoinPlace {
-            kind,
-            state,
-            choice,
-        }) => SolveError::TooWide(TooWide {
+        JoinError::TooWide(
+            JoinPlace {
+                kind,
+                state,
+                choice,
+            },
+        ) => SolveError::TooWide(TooWide {
             part: Part::Join,
             round: 0,
             policy,

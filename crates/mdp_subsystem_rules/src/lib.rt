@@ -10,7 +10,7 @@ mod lines;
 mod sums;
 mod walk;
 
-pub use mdp_claims::{FloorCert, Flow, FlowCert};
 pub use floor::holds_floor;
 pub use flow::holds_flow;
 pub use laws::{fewer_law, floor_law, flow_law, listed_law, made_law, never_no_law, short_law};
+pub use mdp_claims::{FloorCert, Flow, FlowCert};
