@@ -4,7 +4,8 @@ ghost use Rattle.mdp_bounds.specs.Mean.{IsMeanBounds};
 ghost use Rattle.mdp_search_bounds.specs.Held.{HasMeanSizes, IsHeldMean};
 
 use crate::simplest::simplest_mean;
-use mdp_bounds::{MeanBoundsCert, Verdict, holds_bounds_mean, mean_bounds_at_state};
+use mdp_bounds::{MeanBoundsCert, holds_bounds_mean, mean_bounds_at_state};
+use mdp_claims::Verdict;
 use mdp_ladder::{Search, bounds_by, fractions, numbers};
 use mdp_near_mean::{NearMean, near_mean, nearer_mean};
 use mdp_num::Memory;

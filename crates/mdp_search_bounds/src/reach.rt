@@ -5,7 +5,8 @@ ghost use Rattle.mdp_search_bounds.specs.Held.{HasReachSizes, IsHeldReach};
 
 use crate::simplest::simplest_reach;
 use crate::trivial::trivial_reach;
-use mdp_bounds::{ReachBoundsCert, Verdict, holds_bounds_reach, reach_bounds_at_state};
+use mdp_bounds::{ReachBoundsCert, holds_bounds_reach, reach_bounds_at_state};
+use mdp_claims::Verdict;
 use mdp_ladder::{Search, bounds_by, fractions, numbers};
 use mdp_near::{NearReach, near_reach};
 use mdp_num::Memory;

@@ -5,7 +5,8 @@ ghost use Rattle.mdp_bounds.specs.Reward.{IsRewardBounds};
 ghost use Rattle.mdp_search_bounds.specs.Held.{HasRewardSizes, IsHeldReward};
 
 use crate::simplest::simplest_rewards_of;
-use mdp_bounds::{RewardBoundsCert, Verdict, holds_bounds_reward, reward_bounds_at_state};
+use mdp_bounds::{RewardBoundsCert, holds_bounds_reward, reward_bounds_at_state};
+use mdp_claims::Verdict;
 use mdp_ladder::{Search, bounds_by, listed, numbers};
 use mdp_near_reward::{NearReward, near_reward};
 use mdp_num::Memory;
