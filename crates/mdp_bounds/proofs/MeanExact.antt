@@ -7,12 +7,11 @@ use Rattle.mdp_math.specs.Rational.{ℚ, neg_ℚ}
 use Rattle.mdp_math.specs.Written.{written_compare}
 use Rattle.mdp_math.proofs.Options.{Some_same, step_told}
 use Rattle.mdp_math.proofs.Written.{written_compare-some}
-use Rattle.mdp_math.proofs.Order.{≤ℚ_of_eq}
 use Rattle.mdp_num.specs.Equal.{eq_ℚ}
 use Rattle.mdp_num.specs.Written.{written_sub}
 use Rattle.mdp_spec.specs.Mdp.{Mdp, states_of, choices_at, choice_at, row_at, value_at}
 use Rattle.mdp_spec.specs.Unit.{reward_of}
-use Rattle.mdp_spec.specs.MeanRules.{IsEvaluation}
+use Rattle.mdp_spec.proofs.Mean.{mean_max_both, mean_min_both}
 use Rattle.mdp_farkas.specs.Verdict.{Check, InWidth, at_choices}
 use Rattle.mdp_farkas.specs.Compare.{is_equal}
 use Rattle.mdp_farkas.specs.Bellman as bellman
@@ -115,24 +114,8 @@ module _ (dir : Dir) (m : Mdp) (r : ℕ) (g a b : List ℚ) (policy : List ℕ) 
 
 module _ (m : Mdp) (r : ℕ) (g a b : List ℚ) (spread : ℚ) (policy : List ℕ) where
   meets_both : (dir : Dir) → MeetsMean dir m r g a b spread policy → MeetsMeanBetween dir m r g g a b spread policy
-  meets_both Max k = record {
-    named = k.named;
-    choices = k.choices;
-    spreads = k.spreads;
-    gain_covers = k.gain_covers;
-    bound_covers = k.bound_covers;
-    gain_reached = λ s l. ≤ℚ_of_eq _ _ (sym (IsEvaluation.gain k.evaluation s l));
-    bias_reached = λ s l. ≤ℚ_of_eq _ _ (sym (IsEvaluation.bias k.evaluation s l));
-  }
-  meets_both Min k = record {
-    named = k.named;
-    choices = k.choices;
-    spreads = k.spreads;
-    gain_covered = k.gain_covered;
-    bound_covered = k.bound_covered;
-    gain_reached = λ s l. ≤ℚ_of_eq _ _ (IsEvaluation.gain k.evaluation s l);
-    bias_reached = λ s l. ≤ℚ_of_eq _ _ (IsEvaluation.bias k.evaluation s l);
-  }
+  meets_both Max k = mean_max_both m r g a b spread policy k
+  meets_both Min k = mean_min_both m r g a b spread policy k
 
   state_some : (dir : Dir) (s : ℕ) → Each InWidth (mean_checks_at dir m r g a b s (slice_index policy s)) → Each InWidth (mean_bounds_at dir m r g g a b s (slice_index policy s))
   state_some Max s w = (refl, both_some Max m r g a b policy s w)

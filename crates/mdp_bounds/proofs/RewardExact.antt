@@ -8,6 +8,7 @@ use Rattle.mdp_spec.specs.Unit.{reward_of}
 use Rattle.mdp_spec.specs.Tree.{is_marked}
 use Rattle.mdp_spec.specs.Bounds.{finite_part, infinite}
 use Rattle.mdp_spec.specs.Written.{written_sum}
+use Rattle.mdp_spec.proofs.Reward.{reward_max_both, reward_min_both}
 use Rattle.mdp_farkas.specs.Verdict.{Check, InWidth}
 use Rattle.mdp_farkas.specs.Bellman as bellman
 use Rattle.mdp_farkas.specs.Reach.{other}
@@ -116,36 +117,8 @@ module _ (m : Mdp) (r : ℕ) (goals : List Bool) (v : List (Option ℚ)) (policy
 
 module _ (m : Mdp) (r : ℕ) (goals : List Bool) (v : List (Option ℚ)) (policy ranks : List ℕ) where
   meets_both : (dir : Dir) → MeetsReward dir m r goals v policy ranks → MeetsRewardBetween dir m r goals v v policy ranks
-  meets_both Max k = record {
-    named = k.named;
-    one_each = k.one_each;
-    one_above = k.one_each;
-    choices = k.choices;
-    lower_values = k.values;
-    upper_values = k.values;
-    ordered = λ s i. i.1;
-    upper_stays = k.stays;
-    covers = k.covers;
-    stays = k.stays;
-    reached = k.reached;
-    falls = k.falls;
-    misses = k.misses;
-  }
-  meets_both Min k = record {
-    named = k.named;
-    one_each = k.one_each;
-    one_above = k.one_each;
-    choices = k.choices;
-    lower_values = k.values;
-    upper_values = k.values;
-    ordered = λ s i. i.1;
-    upper_stays = k.stays;
-    reached = k.reached;
-    stays = k.stays;
-    covered = k.covered;
-    falls = k.falls;
-    misses = k.misses;
-  }
+  meets_both Max k = reward_max_both m r goals v policy ranks k
+  meets_both Min k = reward_min_both m r goals v policy ranks k
 
   both_in_width : (dir : Dir) → Each InWidth (reward_checks dir m r goals v policy ranks) → Each InWidth (reward_bounds_checks dir m r goals v v policy ranks)
   both_in_width dir w =

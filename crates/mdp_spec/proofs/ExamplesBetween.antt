@@ -1,70 +1,27 @@
 -- Lower and upper values that meet the rules, where no value is both: so the exact values lie between them; and values that don't.
-use Rattle.std.proofs.Common.{◌≡◌, ℕ, zero, suc, ◌<◌, ◌⊎◌, Bool, true, false, true≢false, List, [], ◌∷◌, length, slice_index, Option, Some, None, pos, refl, sym, arith, inl, inr}
-use Rattle.std.specs.List.{Any}
+use Rattle.std.proofs.Common.{ℕ, Bool, true, false, List, [], ◌∷◌, Option, Some, None, pos, arith}
 use Rattle.mdp_math.specs.Gcd.{gcd, gcd_with_fuel}
-use Rattle.mdp_math.specs.Rational.{ℚ, of_int, ratio, ◌+ℚ◌, ◌*ℚ◌, le_ℚ, lt_ℚ, ◌≤ℚ◌, ◌<ℚ◌}
-use Rattle.mdp_math.proofs.Order.{≤ℚ_of_eq}
-use Rattle.mdp_spec.specs.Mdp.{choices_at, row_at, value_at}
-use Rattle.mdp_spec.specs.Row.{row_sum}
-use Rattle.mdp_spec.specs.Tree.{is_marked}
+use Rattle.mdp_math.specs.Rational.{ℚ, of_int, ratio, ◌+ℚ◌, ◌*ℚ◌, le_ℚ, lt_ℚ, ◌≤ℚ◌}
 use Rattle.mdp_spec.specs.Between.{ReachMaxBetween, ReachMinBetween, RewardMaxBetween, RewardMinBetween, MeanMaxBetween}
 use Rattle.mdp_spec.specs.BetweenRules.{MeetsReachMaxBetween}
 use Rattle.mdp_spec.proofs.Reach.{reach_max_between_of_rules, reach_max_lies, reach_min_lies}
 use Rattle.mdp_spec.proofs.Unique.{reward_max_lies, reward_min_lies, mean_max_lies}
 use Rattle.mdp_spec.proofs.Examples.{three, goals}
-use Rattle.mdp_spec.proofs.ExamplesBounds.{below_3, goes_on, policy_three, three_model, greatest_chances, three_max, least_chances, loops, three_min}
+use Rattle.mdp_spec.proofs.ExamplesBounds.{chances, goes_on, goes_on_rules, three_model, greatest_chances, three_max, least_chances, loops, three_min}
 use Rattle.mdp_spec.proofs.ExamplesRules.{trip, trip_model, most, pays, trip_most, least, tries, trip_least, job, job_model, gains, job_gains}
-use Rattle.mdp_spec.proofs.Small.{entry, nought, number, one, third}
+use Rattle.mdp_spec.proofs.Small.{nought, number, third}
 
 -- ---- the greatest probability from state 0, 1/3, lies between 1/4 and 1/2
 
 abbrev quarter : List ℚ
-quarter = ratio (pos 1) 4 ∷ one ∷ nought ∷ []
+quarter = chances (ratio (pos 1) 4)
 
 abbrev half : List ℚ
-half = ratio (pos 1) 2 ∷ one ∷ nought ∷ []
+half = chances (ratio (pos 1) 2)
 
 between_rules : MeetsReachMaxBetween three goals quarter half goes_on (1 ∷ 0 ∷ 0 ∷ [])
 unfolding gcd gcd_with_fuel ratio of_int ◌+ℚ◌ ◌*ℚ◌ le_ℚ lt_ℚ
-between_rules = record {
-  choices = policy_three;
-  lower_values = record {
-    at_least_zero = below_3 (λ s. nought ≤ℚ value_at quarter s) (record { le = tt }) (record { le = tt }) (record { le = tt });
-    at_most_one = below_3 (λ s. value_at quarter s ≤ℚ one) (record { le = tt }) (record { le = tt }) (record { le = tt });
-    at_goal = below_3 (λ s. is_marked goals s ≡ true → value_at quarter s ≡ one) (λ g. absurd (true≢false (sym g))) (λ g. refl) (λ g. absurd (true≢false (sym g)));
-  };
-  upper_values = record {
-    at_least_zero = below_3 (λ s. nought ≤ℚ value_at half s) (record { le = tt }) (record { le = tt }) (record { le = tt });
-    at_most_one = below_3 (λ s. value_at half s ≤ℚ one) (record { le = tt }) (record { le = tt }) (record { le = tt });
-    at_goal = below_3 (λ s. is_marked goals s ≡ true → value_at half s ≡ one) (λ g. absurd (true≢false (sym g))) (λ g. refl) (λ g. absurd (true≢false (sym g)));
-  };
-  covers = covered;
-  reached =
-      below_3 (λ s. is_marked goals s ≡ false → value_at quarter s ≤ℚ row_sum (row_at three s (slice_index goes_on s)) quarter)
-      (λ g. record { le = tt }) (λ g. absurd (true≢false g)) (λ g. record { le = tt });
-  ends = λ s h which. ranks s h which;
-  falls = below_3
-      (λ s. is_marked goals s ≡ false → nought <ℚ value_at quarter s
-      → Any (λ y. (nought <ℚ value_at quarter y.target) × (slice_index (1 ∷ 0 ∷ 0 ∷ []) y.target < slice_index (1 ∷ 0 ∷ 0 ∷ []) s)) (row_at three s (slice_index goes_on s)))
-      (λ g p. (0, entry 1 third, omega arith, refl, (record { lt = tt }, omega arith)))
-      (λ g p. absurd (true≢false g)) (λ g p. absurd p.lt);
-}
-  where
-    covered : (s c : ℕ) → s < 3 → is_marked goals s ≡ false → c < length (choices_at three s) → row_sum (row_at three s c) half ≤ℚ value_at half s
-    covered zero zero h g l = record { le = tt }
-    covered zero (suc zero) h g l = record { le = tt }
-    covered zero (suc (suc c)) h g l = absurd (omega arith)
-    covered (suc zero) c h g l = absurd (true≢false g)
-    covered (suc (suc zero)) zero h g l = record { le = tt }
-    covered (suc (suc zero)) (suc c) h g l = absurd (omega arith)
-    covered (suc (suc (suc s))) c h g l = absurd (omega arith)
-
-    ranks : (s : ℕ) → s < 3 → (is_marked goals s ≡ true) ⊎ (value_at quarter s ≡ nought) → slice_index (1 ∷ 0 ∷ 0 ∷ []) s ≡ 0
-    ranks zero h (inl g) = absurd (true≢false (sym g))
-    ranks zero h (inr e) = let h : ratio (pos 1) 4 ≤ℚ nought = ≤ℚ_of_eq (ratio (pos 1) 4) nought e in absurd h.le
-    ranks (suc zero) h which = refl
-    ranks (suc (suc zero)) h which = refl
-    ranks (suc (suc (suc s))) h which = absurd (omega arith)
+between_rules = goes_on_rules (ratio (pos 1) 4) (ratio (pos 1) 2) (record { lt = tt }) (record { le = tt }) (record { le = tt }) (record { le = tt }) (record { le = tt })
 
 three_between : ReachMaxBetween three goals quarter half goes_on
 three_between = reach_max_between_of_rules three goals quarter half goes_on (1 ∷ 0 ∷ 0 ∷ []) three_model between_rules

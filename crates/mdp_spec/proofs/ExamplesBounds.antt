@@ -1,11 +1,11 @@
 -- Of each bound: values and a policy that meet it, and what it refuses: a policy that isn't one, a reward name that the model doesn't have, a
 -- start past the last state, values and constants that are too great or too small.
-use Rattle.std.proofs.Common.{◌≡◌, ℕ, zero, suc, ◌<◌, ◌⊎◌, Bool, true, false, true≢false, List, [], ◌∷◌, length, slice_index, Option, Some, None, pos, refl, sym, arith, inl, inr}
+use Rattle.std.proofs.Common.{◌≡◌, ℕ, zero, suc, ◌<◌, ◌⊎◌, Bool, true, false, true≢false, List, [], ◌∷◌, length, slice_index, Option, Some, None, pos, refl, sym, subst, arith, inl, inr}
 use Rattle.std.proofs.lemmas.List.Elements.{All-from_recursion}
 use Rattle.std.specs.List.{Any}
 use Rattle.mdp_math.specs.Gcd.{gcd, gcd_with_fuel}
 use Rattle.mdp_math.specs.Rational.{ℚ, of_int, ratio, ◌+ℚ◌, ◌*ℚ◌, ◌-ℚ◌, neg_ℚ, le_ℚ, lt_ℚ, ◌≤ℚ◌, ◌<ℚ◌}
-use Rattle.mdp_math.proofs.Order.{≤ℚ_of_eq, ratio-nonneg}
+use Rattle.mdp_math.proofs.Order.{≤ℚ_of_eq, ≤ℚ_of_lt, ≤ℚ_trans, ratio-nonneg}
 use Rattle.mdp_math.proofs.Ring.{◌⊕◌, lit}
 use Rattle.mdp_math.proofs.Linear.{linear, known}
 use Rattle.mdp_spec.specs.Mdp.{Mdp, states_of, choices_at, row_at, value_at}
@@ -15,7 +15,8 @@ use Rattle.mdp_spec.specs.Tree.{IsStrategy, IsPolicy, unfolded, is_marked}
 use Rattle.mdp_spec.specs.Hit.{hit}
 use Rattle.mdp_spec.specs.Pay.{pay, total, Enters}
 use Rattle.mdp_spec.specs.Sub.{sub_of, policy_on}
-use Rattle.mdp_spec.specs.Rules.{MeetsReachMax, MeetsReachMin}
+use Rattle.mdp_spec.specs.Rules.{AreProbabilities, MeetsReachMax, MeetsReachMin}
+use Rattle.mdp_spec.specs.BetweenRules.{MeetsReachMaxBetween}
 use Rattle.mdp_spec.specs.Bounds.{ReachMax, ReachMin, RewardMax, RewardMin, MaxFinite, MinFinite, MeanMax, MeanMin, SubMax, SubMaxWithin, SubMin, Above, greatest_finite, infinite, part, whole}
 use Rattle.mdp_spec.proofs.Keeping.{unfolded_is_strategy}
 use Rattle.mdp_spec.proofs.Reach.{reach_max_of_rules, reach_min_of_rules, reach_max_unique, reach_min_unique, above_of_rules}
@@ -96,59 +97,77 @@ three_model = record { some = omega arith; few = omega arith; choice = below_3 (
 
 -- ---- the greatest probabilities: 1/3 from state 0, by going on
 
-abbrev pub greatest_chances : List ℚ
-greatest_chances = third ∷ one ∷ nought ∷ []
+-- z at state 0, where 1 is the goal and state 2 never leads there
+abbrev pub chances : ℚ → List ℚ
+chances z = z ∷ one ∷ nought ∷ []
 
-max_rules : MeetsReachMax three goals greatest_chances goes_on (1 ∷ 0 ∷ 0 ∷ [])
+probabilities_three : (z : ℚ) → nought ≤ℚ z → z ≤ℚ one → AreProbabilities three goals (chances z)
+unfolding of_int le_ℚ
+probabilities_three z low high = record {
+  at_least_zero = below_3 (λ s. nought ≤ℚ value_at (chances z) s) low (record { le = tt }) (record { le = tt });
+  at_most_one = below_3 (λ s. value_at (chances z) s ≤ℚ one) high (record { le = tt }) (record { le = tt });
+  at_goal = below_3 (λ s. is_marked goals s ≡ true → value_at (chances z) s ≡ one) (λ g. absurd (true≢false (sym g))) (λ g. refl) (λ g. absurd (true≢false (sym g)));
+}
+
+-- the choices at the states that are no goal
+each_choice : (C : ℕ → ℕ → Type 0) → C 0 0 → C 0 1 → C 2 0 → (s c : ℕ) → s < 3 → is_marked goals s ≡ false → c < length (choices_at three s) → C s c
+each_choice C a b d zero zero h g l = a
+each_choice C a b d zero (suc zero) h g l = b
+each_choice C a b d zero (suc (suc c)) h g l = absurd (omega arith)
+each_choice C a b d (suc zero) c h g l = absurd (true≢false g)
+each_choice C a b d (suc (suc zero)) zero h g l = d
+each_choice C a b d (suc (suc zero)) (suc c) h g l = absurd (omega arith)
+each_choice C a b d (suc (suc (suc s))) c h g l = absurd (omega arith)
+
+-- going on meets the rules with lower values up to 1/3 and upper ones from there
+pub goes_on_rules : (low high : ℚ) → nought <ℚ low → low ≤ℚ third → third ≤ℚ high → high ≤ℚ one → row_sum (row_at three 0 0) (chances high) ≤ℚ high
+    → MeetsReachMaxBetween three goals (chances low) (chances high) goes_on (1 ∷ 0 ∷ 0 ∷ [])
 unfolding gcd gcd_with_fuel ratio of_int ◌+ℚ◌ ◌*ℚ◌ le_ℚ lt_ℚ
-max_rules = record {
+goes_on_rules low high above at_most at_least below loop = record {
   choices = policy_three;
-  probabilities = record {
-    at_least_zero = below_3 (λ s. nought ≤ℚ value_at greatest_chances s) (record { le = tt }) (record { le = tt }) (record { le = tt });
-    at_most_one = below_3 (λ s. value_at greatest_chances s ≤ℚ one) (record { le = tt }) (record { le = tt }) (record { le = tt });
-    at_goal = below_3 (λ s. is_marked goals s ≡ true → value_at greatest_chances s ≡ one) (λ g. absurd (true≢false (sym g))) (λ g. refl) (λ g. absurd (true≢false (sym g)));
-  };
-  covers = covered;
+  lower_values = probabilities_three low (≤ℚ_of_lt nought low above) (≤ℚ_trans low third one at_most (record { le = tt }));
+  upper_values = probabilities_three high (≤ℚ_trans nought third high (record { le = tt }) at_least) below;
+  covers = each_choice (λ s c. row_sum (row_at three s c) (chances high) ≤ℚ value_at (chances high) s) loop at_least (record { le = tt });
   reached =
-      below_3 (λ s. is_marked goals s ≡ false → value_at greatest_chances s ≤ℚ row_sum (row_at three s (slice_index goes_on s)) greatest_chances)
-      (λ g. record { le = tt }) (λ g. absurd (true≢false g)) (λ g. record { le = tt });
+      below_3 (λ s. is_marked goals s ≡ false → value_at (chances low) s ≤ℚ row_sum (row_at three s (slice_index goes_on s)) (chances low))
+      (λ g. at_most) (λ g. absurd (true≢false g)) (λ g. record { le = tt });
   ends = λ s h which. ranks s h which;
   falls = below_3
-      (λ s. is_marked goals s ≡ false → nought <ℚ value_at greatest_chances s
-      → Any (λ y. (nought <ℚ value_at greatest_chances y.target) × (slice_index (1 ∷ 0 ∷ 0 ∷ []) y.target < slice_index (1 ∷ 0 ∷ 0 ∷ []) s)) (row_at three s (slice_index goes_on s)))
+      (λ s. is_marked goals s ≡ false → nought <ℚ value_at (chances low) s
+      → Any (λ y. (nought <ℚ value_at (chances low) y.target) × (slice_index (1 ∷ 0 ∷ 0 ∷ []) y.target < slice_index (1 ∷ 0 ∷ 0 ∷ []) s)) (row_at three s (slice_index goes_on s)))
       (λ g p. (0, entry 1 third, omega arith, refl, (record { lt = tt }, omega arith)))
       (λ g p. absurd (true≢false g)) (λ g p. absurd p.lt);
 }
   where
-    covered : (s c : ℕ) → s < 3 → is_marked goals s ≡ false → c < length (choices_at three s) → row_sum (row_at three s c) greatest_chances ≤ℚ value_at greatest_chances s
-    covered zero zero h g l = record { le = tt }
-    covered zero (suc zero) h g l = record { le = tt }
-    covered zero (suc (suc c)) h g l = absurd (omega arith)
-    covered (suc zero) c h g l = absurd (true≢false g)
-    covered (suc (suc zero)) zero h g l = record { le = tt }
-    covered (suc (suc zero)) (suc c) h g l = absurd (omega arith)
-    covered (suc (suc (suc s))) c h g l = absurd (omega arith)
-
-    ranks : (s : ℕ) → s < 3 → (is_marked goals s ≡ true) ⊎ (value_at greatest_chances s ≡ nought) → slice_index (1 ∷ 0 ∷ 0 ∷ []) s ≡ 0
+    ranks : (s : ℕ) → s < 3 → (is_marked goals s ≡ true) ⊎ (value_at (chances low) s ≡ nought) → slice_index (1 ∷ 0 ∷ 0 ∷ []) s ≡ 0
     ranks zero h (inl g) = absurd (true≢false (sym g))
-    ranks zero h (inr e) = let h : third ≤ℚ nought = ≤ℚ_of_eq third nought e in absurd h.le
+    ranks zero h (inr e) = let h : nought <ℚ nought = subst (λ (x : ℚ). nought <ℚ x) e above in absurd h.lt
     ranks (suc zero) h which = refl
     ranks (suc (suc zero)) h which = refl
     ranks (suc (suc (suc s))) h which = absurd (omega arith)
+
+abbrev pub greatest_chances : List ℚ
+greatest_chances = chances third
+
+max_rules : MeetsReachMax three goals greatest_chances goes_on (1 ∷ 0 ∷ 0 ∷ [])
+unfolding gcd gcd_with_fuel ratio of_int ◌+ℚ◌ ◌*ℚ◌ le_ℚ lt_ℚ
+max_rules =
+    let k = goes_on_rules third third (record { lt = tt }) (record { le = tt }) (record { le = tt }) (record { le = tt }) (record { le = tt }) in
+    record { choices = k.choices; probabilities = k.lower_values; covers = k.covers; reached = k.reached; ends = k.ends; falls = k.falls }
 
 pub three_max : ReachMax three goals greatest_chances goes_on
 three_max = reach_max_of_rules three goals greatest_chances goes_on (1 ∷ 0 ∷ 0 ∷ []) three_model max_rules
 
 -- nothing comes close to 1/2, so no policy meets the bound with it
-not_half : (policy : List ℕ) → ReachMax three goals (ratio (pos 1) 2 ∷ one ∷ nought ∷ []) policy → ⊥
+not_half : (policy : List ℕ) → ReachMax three goals (chances (ratio (pos 1) 2)) policy → ⊥
 unfolding gcd gcd_with_fuel ratio of_int le_ℚ
 not_half policy b =
     let h : ratio (pos 1) 2 ≤ℚ third = ≤ℚ_of_eq (ratio (pos 1) 2) third
-    (reach_max_unique three goals three_model (ratio (pos 1) 2 ∷ one ∷ nought ∷ []) greatest_chances policy goes_on 0 b three_max (omega arith)) in
+    (reach_max_unique three goals three_model (chances (ratio (pos 1) 2)) greatest_chances policy goes_on 0 b three_max (omega arith)) in
     h.le
 
 -- 1/4 is passed by the tree that goes on
-not_quarter : (policy : List ℕ) → ReachMax three goals (ratio (pos 1) 4 ∷ one ∷ nought ∷ []) policy → ⊥
+not_quarter : (policy : List ℕ) → ReachMax three goals (chances (ratio (pos 1) 4)) policy → ⊥
 unfolding gcd gcd_with_fuel ratio of_int le_ℚ unit_of hit
 not_quarter policy b =
     let h : hit three goals 1 1 (unfolded three goes_on 1 0) 0 ≤ℚ ratio (pos 1) 4 = b.above.above 1 1 (unfolded three goes_on 1 0) 0 (omega arith)
@@ -164,18 +183,15 @@ policy_loops : IsPolicy three loops
 policy_loops = record { one_each = refl; in_range = below_3 (λ s. slice_index loops s < length (choices_at three s)) (omega arith) (omega arith) (omega arith) }
 
 abbrev pub least_chances : List ℚ
-least_chances = nought ∷ one ∷ nought ∷ []
+least_chances = chances nought
 
 min_rules : MeetsReachMin three goals least_chances loops loops
 unfolding gcd gcd_with_fuel ratio of_int ◌+ℚ◌ ◌*ℚ◌ le_ℚ lt_ℚ
 min_rules = record {
   choices = policy_loops;
-  probabilities = record {
-    at_least_zero = below_3 (λ s. nought ≤ℚ value_at least_chances s) (record { le = tt }) (record { le = tt }) (record { le = tt });
-    at_most_one = below_3 (λ s. value_at least_chances s ≤ℚ one) (record { le = tt }) (record { le = tt }) (record { le = tt });
-    at_goal = below_3 (λ s. is_marked goals s ≡ true → value_at least_chances s ≡ one) (λ g. absurd (true≢false (sym g))) (λ g. refl) (λ g. absurd (true≢false (sym g)));
-  };
-  covered = covered;
+  probabilities = probabilities_three nought (record { le = tt }) (record { le = tt });
+  covered =
+      each_choice (λ s c. value_at least_chances s ≤ℚ row_sum (row_at three s c) least_chances) (record { le = tt }) (record { le = tt }) (record { le = tt });
   reached =
       below_3 (λ s. is_marked goals s ≡ false → row_sum (row_at three s (slice_index loops s)) least_chances ≤ℚ value_at least_chances s) (λ g. record { le = tt })
       (λ g. absurd (true≢false g)) (λ g. record { le = tt });
@@ -184,15 +200,6 @@ min_rules = record {
       below_3 (λ s. is_marked goals s ≡ false → nought <ℚ value_at least_chances s → Any (λ y. slice_index loops y.target < slice_index loops s) (row_at three s c)) (λ g p. absurd p.lt)
       (λ g p. absurd (true≢false g)) (λ g p. absurd p.lt) s h g p;
 }
-  where
-    covered : (s c : ℕ) → s < 3 → is_marked goals s ≡ false → c < length (choices_at three s) → value_at least_chances s ≤ℚ row_sum (row_at three s c) least_chances
-    covered zero zero h g l = record { le = tt }
-    covered zero (suc zero) h g l = record { le = tt }
-    covered zero (suc (suc c)) h g l = absurd (omega arith)
-    covered (suc zero) c h g l = absurd (true≢false g)
-    covered (suc (suc zero)) zero h g l = record { le = tt }
-    covered (suc (suc zero)) (suc c) h g l = absurd (omega arith)
-    covered (suc (suc (suc s))) c h g l = absurd (omega arith)
 
 pub three_min : ReachMin three goals least_chances loops
 three_min = reach_min_of_rules three goals least_chances loops loops three_model min_rules

@@ -241,43 +241,44 @@ module _ (m : Mdp) (r : ℕ) (goals : List Bool) (v : List (Option ℚ)) (policy
   pub reward_min_exact : RewardMinBetween m r goals policy v v → RewardMin m r goals policy v
   reward_min_exact b = record { takes = b.takes; named = b.named; one_each = b.one_each; value = λ s h. min_value s (reward_at v s) (b.at_least s h) (b.at_most s h) }
 
-  module _ (ranks : List ℕ) (known_ : IsMdp m) where
-    pub reward_max_of_rules : MeetsRewardMax m r goals v policy ranks → RewardMax m r goals policy v
-    reward_max_of_rules rules =
-        reward_max_exact
-        (reward_max_between_of_rules m r goals v v policy ranks known_
-        (record {
-          named = rules.named;
-          one_each = rules.one_each;
-          one_above = rules.one_each;
-          choices = rules.choices;
-          lower_values = rules.values;
-          upper_values = rules.values;
-          ordered = λ s i. i.1;
-          upper_stays = rules.stays;
-          covers = rules.covers;
-          stays = rules.stays;
-          reached = rules.reached;
-          falls = rules.falls;
-          misses = rules.misses;
-        }))
+  module _ (ranks : List ℕ) where
+    -- values that meet the rules meet them as lower and as upper values
+    pub reward_max_both : MeetsRewardMax m r goals v policy ranks → MeetsRewardMaxBetween m r goals v v policy ranks
+    reward_max_both rules = record {
+      named = rules.named;
+      one_each = rules.one_each;
+      one_above = rules.one_each;
+      choices = rules.choices;
+      lower_values = rules.values;
+      upper_values = rules.values;
+      ordered = λ s i. i.1;
+      upper_stays = rules.stays;
+      covers = rules.covers;
+      stays = rules.stays;
+      reached = rules.reached;
+      falls = rules.falls;
+      misses = rules.misses;
+    }
 
-    pub reward_min_of_rules : MeetsRewardMin m r goals v policy ranks → RewardMin m r goals policy v
-    reward_min_of_rules rules =
-        reward_min_exact
-        (reward_min_between_of_rules m r goals v v policy ranks known_
-        (record {
-          named = rules.named;
-          one_each = rules.one_each;
-          one_above = rules.one_each;
-          choices = rules.choices;
-          lower_values = rules.values;
-          upper_values = rules.values;
-          ordered = λ s i. i.1;
-          upper_stays = rules.stays;
-          reached = rules.reached;
-          stays = rules.stays;
-          covered = rules.covered;
-          falls = rules.falls;
-          misses = rules.misses;
-        }))
+    pub reward_min_both : MeetsRewardMin m r goals v policy ranks → MeetsRewardMinBetween m r goals v v policy ranks
+    reward_min_both rules = record {
+      named = rules.named;
+      one_each = rules.one_each;
+      one_above = rules.one_each;
+      choices = rules.choices;
+      lower_values = rules.values;
+      upper_values = rules.values;
+      ordered = λ s i. i.1;
+      upper_stays = rules.stays;
+      reached = rules.reached;
+      stays = rules.stays;
+      covered = rules.covered;
+      falls = rules.falls;
+      misses = rules.misses;
+    }
+
+    pub reward_max_of_rules : IsMdp m → MeetsRewardMax m r goals v policy ranks → RewardMax m r goals policy v
+    reward_max_of_rules known_ rules = reward_max_exact (reward_max_between_of_rules m r goals v v policy ranks known_ (reward_max_both rules))
+
+    pub reward_min_of_rules : IsMdp m → MeetsRewardMin m r goals v policy ranks → RewardMin m r goals policy v
+    reward_min_of_rules known_ rules = reward_min_exact (reward_min_between_of_rules m r goals v v policy ranks known_ (reward_min_both rules))

@@ -7,7 +7,7 @@ use Rattle.mdp_spec.specs.Mdp.{Mdp, states_of, value_at}
 use Rattle.mdp_spec.specs.Tree.{Tree, IsStrategy, IsPolicy, unfolded, is_marked}
 use Rattle.mdp_spec.specs.Hit.{hit}
 use Rattle.mdp_spec.specs.Pay.{pay, total, Enters}
-use Rattle.mdp_spec.specs.Bounds.{part, whole, Above, reward_at, greatest_finite, infinite, MaxInfinite, MinInfinite}
+use Rattle.mdp_spec.specs.Bounds.{part, whole, Above, PolicyConverges, TreesConverge, reward_at, greatest_finite, infinite, MaxInfinite, MinInfinite}
 
 -- ---- reaching a goal
 
@@ -15,17 +15,13 @@ use Rattle.mdp_spec.specs.Bounds.{part, whole, Above, reward_at, greatest_finite
 pub record ReachMaxBetween (m : Mdp) (goals : List Bool) (lower upper : List ℚ) (policy : List ℕ) : Type 0 where
   pub takes : IsPolicy m policy
   pub above : Above m goals upper
-  pub close : (s k : ℕ) → s < states_of m → 1 ≤ k → (n : ℕ) × (value_at lower s ≤ℚ hit m goals 1 n (unfolded m policy n s) s +ℚ part k)
+  pub close : PolicyConverges m goals lower policy
 
 -- the least probability: the policy doesn't pass the upper values, and each deep tree comes close to the lower ones
 pub record ReachMinBetween (m : Mdp) (goals : List Bool) (lower upper : List ℚ) (policy : List ℕ) : Type 0 where
   pub takes : IsPolicy m policy
   pub below : (n s : ℕ) → s < states_of m → hit m goals 1 n (unfolded m policy n s) s ≤ℚ value_at upper s
-  pub close :
-      (s k : ℕ)
-      → s < states_of m
-      → 1 ≤ k
-      → (n : ℕ) × ((d u : ℕ) (t : Tree) → n ≤ d → IsStrategy m u d t s → value_at lower s ≤ℚ hit m goals u d t s +ℚ part k)
+  pub close : TreesConverge m goals lower
 
 -- ---- the reward of name r until a goal. A value is a fraction, or nothing where it is infinite
 

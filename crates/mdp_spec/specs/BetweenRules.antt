@@ -2,15 +2,14 @@
 -- half on its own values. Where a value is the greatest, the half on each choice is asked of the upper values, and the half on the policy's
 -- choice, with the ranks, of the lower ones; for the least the half on each choice, with the ranks, is asked of the lower values, and the
 -- half on the policy's choice of the upper ones.
-use Rattle.std.specs.Prelude.{◌≡◌, ℕ, ◌<◌, ◌⊎◌, Bool, true, false, List, length, slice_index, Option, pos}
-use Rattle.std.specs.List.{Any}
-use Rattle.mdp_math.specs.Rational.{ℚ, of_int, ◌+ℚ◌, ◌≤ℚ◌, ◌<ℚ◌}
+use Rattle.std.specs.Prelude.{◌≡◌, ℕ, ◌<◌, Bool, true, false, List, length, slice_index, Option}
+use Rattle.mdp_math.specs.Rational.{ℚ, ◌+ℚ◌, ◌≤ℚ◌}
 use Rattle.mdp_spec.specs.Mdp.{Mdp, states_of, choices_at, row_at, value_at}
 use Rattle.mdp_spec.specs.Row.{row_sum}
 use Rattle.mdp_spec.specs.Tree.{IsPolicy, is_marked}
 use Rattle.mdp_spec.specs.Bounds.{finite_part, infinite}
-use Rattle.mdp_spec.specs.Rules.{AreProbabilities, Covers, IsCovered, RanksEnd}
-use Rattle.mdp_spec.specs.RewardRules.{backup, IsInfinite, IsTransient, StaysFinite, Falls, FallsInfinite, StaysInfinite, AreRewards}
+use Rattle.mdp_spec.specs.Rules.{AreProbabilities, Covers, IsCovered, RanksEnd, PolicyFalls, EachFalls}
+use Rattle.mdp_spec.specs.RewardRules.{backup, IsInfinite, IsTransient, StaysFinite, Falls, IsCoveredWhereFinite, InfiniteUnderPolicy, InfiniteOnEach, AreRewards}
 use Rattle.mdp_spec.specs.MeanRules.{HasSpread}
 
 -- ---- reaching a goal
@@ -22,13 +21,7 @@ pub record MeetsReachMaxBetween (m : Mdp) (goals : List Bool) (lower upper : Lis
   pub covers : Covers m goals upper
   pub reached : (s : ℕ) → s < states_of m → is_marked goals s ≡ false → value_at lower s ≤ℚ row_sum (row_at m s (slice_index policy s)) lower
   pub ends : RanksEnd m goals lower ranks
-  -- an entry of the policy's row leads to a state of lower value above 0 and smaller rank
-  pub falls :
-      (s : ℕ)
-      → s < states_of m
-      → is_marked goals s ≡ false
-      → of_int (pos 0) <ℚ value_at lower s
-      → Any (λ y. (of_int (pos 0) <ℚ value_at lower y.target) × (slice_index ranks y.target < slice_index ranks s)) (row_at m s (slice_index policy s))
+  pub falls : PolicyFalls m goals lower policy ranks
 
 pub record MeetsReachMinBetween (m : Mdp) (goals : List Bool) (lower upper : List ℚ) (policy ranks : List ℕ) : Type 0 where
   pub choices : IsPolicy m policy
@@ -37,14 +30,7 @@ pub record MeetsReachMinBetween (m : Mdp) (goals : List Bool) (lower upper : Lis
   pub covered : IsCovered m goals lower
   pub reached : (s : ℕ) → s < states_of m → is_marked goals s ≡ false → row_sum (row_at m s (slice_index policy s)) upper ≤ℚ value_at upper s
   pub ends : RanksEnd m goals lower ranks
-  -- an entry of each row leads to a state of smaller rank
-  pub falls :
-      (s c : ℕ)
-      → s < states_of m
-      → is_marked goals s ≡ false
-      → of_int (pos 0) <ℚ value_at lower s
-      → c < length (choices_at m s)
-      → Any (λ y. slice_index ranks y.target < slice_index ranks s) (row_at m s c)
+  pub falls : EachFalls m goals lower ranks
 
 -- ---- the reward of name r until a goal
 
@@ -64,11 +50,7 @@ pub record MeetsRewardMaxBetween (m : Mdp) (r : ℕ) (goals : List Bool) (lower 
   pub stays : (s c : ℕ) → IsTransient m goals lower s → c < length (choices_at m s) → StaysFinite m lower s c
   pub reached : (s : ℕ) → IsTransient m goals lower s → value_at (finite_part lower) s ≤ℚ backup m r s (slice_index policy s) (finite_part lower)
   pub falls : (s c : ℕ) → IsTransient m goals lower s → c < length (choices_at m s) → Falls m ranks s c
-  -- at a state of infinite lower value the policy comes, with some chance, to the states of rank 0, which it never leaves
-  pub misses :
-      (s : ℕ)
-      → IsInfinite m lower s
-      → ((slice_index ranks s ≡ 0) × StaysInfinite m lower ranks 0 s (slice_index policy s)) ⊎ FallsInfinite m lower ranks s (slice_index policy s)
+  pub misses : InfiniteUnderPolicy m lower policy ranks
 
 pub record MeetsRewardMinBetween (m : Mdp) (r : ℕ) (goals : List Bool) (lower upper : List (Option ℚ)) (policy ranks : List ℕ) : Type 0 where
   pub named : r < length m.names
@@ -84,19 +66,9 @@ pub record MeetsRewardMinBetween (m : Mdp) (r : ℕ) (goals : List Bool) (lower 
   -- at a state of finite lower value that is no goal: the policy's choice leads to finite lower values only, and to a smaller rank; no choice
   -- that leads to finite lower values only earns less than the lower value
   pub stays : (s : ℕ) → IsTransient m goals lower s → StaysFinite m lower s (slice_index policy s)
-  pub covered :
-      (s c : ℕ)
-      → IsTransient m goals lower s
-      → c < length (choices_at m s)
-      → StaysFinite m lower s c
-      → value_at (finite_part lower) s ≤ℚ backup m r s c (finite_part lower)
+  pub covered : IsCoveredWhereFinite m r goals lower
   pub falls : (s : ℕ) → IsTransient m goals lower s → Falls m ranks s (slice_index policy s)
-  -- at a state of infinite lower value each choice leads, with some chance, to a smaller rank of these states, or to this rank alone
-  pub misses :
-      (s c : ℕ)
-      → IsInfinite m lower s
-      → c < length (choices_at m s)
-      → FallsInfinite m lower ranks s c ⊎ StaysInfinite m lower ranks (slice_index ranks s) s c
+  pub misses : InfiniteOnEach m lower ranks
 
 -- ---- mean payoff: the bound a belongs to the half on each choice, the bias b to the half on the policy's choice
 

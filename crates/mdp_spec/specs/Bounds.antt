@@ -23,21 +23,29 @@ whole n = of_int (pos n)
 pub record Above (m : Mdp) (goals : List Bool) (z : List ℚ) : Type 0 where
   pub above : (n u : ℕ) (t : Tree) (s : ℕ) → s < states_of m → IsStrategy m u n t s → hit m goals u n t s ≤ℚ value_at z s
 
+-- the policy's trees come as close to the values as one asks
+abbrev pub PolicyConverges : Mdp → List Bool → List ℚ → List ℕ → Type 0
+PolicyConverges m goals z policy = (s k : ℕ) → s < states_of m → 1 ≤ k → (n : ℕ) × (value_at z s ≤ℚ hit m goals 1 n (unfolded m policy n s) s +ℚ part k)
+
+-- so does each tree that is deep enough
+abbrev pub TreesConverge : Mdp → List Bool → List ℚ → Type 0
+TreesConverge m goals z =
+    (s k : ℕ)
+    → s < states_of m
+    → 1 ≤ k
+    → (n : ℕ) × ((d u : ℕ) (t : Tree) → n ≤ d → IsStrategy m u d t s → value_at z s ≤ℚ hit m goals u d t s +ℚ part k)
+
 -- the greatest probability: no tree passes the values, and the policy comes close to them
 pub record ReachMax (m : Mdp) (goals : List Bool) (z : List ℚ) (policy : List ℕ) : Type 0 where
   pub takes : IsPolicy m policy
   pub above : Above m goals z
-  pub close : (s k : ℕ) → s < states_of m → 1 ≤ k → (n : ℕ) × (value_at z s ≤ℚ hit m goals 1 n (unfolded m policy n s) s +ℚ part k)
+  pub close : PolicyConverges m goals z policy
 
 -- the least probability: the policy doesn't pass the values, and each deep tree comes close to them
 pub record ReachMin (m : Mdp) (goals : List Bool) (z : List ℚ) (policy : List ℕ) : Type 0 where
   pub takes : IsPolicy m policy
   pub below : (n s : ℕ) → s < states_of m → hit m goals 1 n (unfolded m policy n s) s ≤ℚ value_at z s
-  pub close :
-      (s k : ℕ)
-      → s < states_of m
-      → 1 ≤ k
-      → (n : ℕ) × ((d u : ℕ) (t : Tree) → n ≤ d → IsStrategy m u d t s → value_at z s ≤ℚ hit m goals u d t s +ℚ part k)
+  pub close : TreesConverge m goals z
 
 -- ---- the reward of name r until a goal. A value is a fraction, or nothing where it is infinite
 

@@ -38,6 +38,30 @@ FallsInfinite m v ranks s c = Any (λ y. (is_marked (infinite v) y.target ≡ tr
 abbrev pub StaysInfinite : Mdp → List (Option ℚ) → List ℕ → ℕ → ℕ → ℕ → Type 0
 StaysInfinite m v ranks k s c = All (λ y. (is_marked (infinite v) y.target ≡ true) × (slice_index ranks y.target ≡ k)) (row_at m s c)
 
+-- at a transient state no choice that leads to finite values only earns less than the value
+abbrev pub IsCoveredWhereFinite : Mdp → ℕ → List Bool → List (Option ℚ) → Type 0
+IsCoveredWhereFinite m r goals v =
+    (s c : ℕ)
+    → IsTransient m goals v s
+    → c < length (choices_at m s)
+    → StaysFinite m v s c
+    → value_at (finite_part v) s ≤ℚ backup m r s c (finite_part v)
+
+-- at a state of infinite value the policy comes, with some chance, to the states of rank 0, which it never leaves
+abbrev pub InfiniteUnderPolicy : Mdp → List (Option ℚ) → List ℕ → List ℕ → Type 0
+InfiniteUnderPolicy m v policy ranks =
+    (s : ℕ)
+    → IsInfinite m v s
+    → ((slice_index ranks s ≡ 0) × StaysInfinite m v ranks 0 s (slice_index policy s)) ⊎ FallsInfinite m v ranks s (slice_index policy s)
+
+-- at a state of infinite value each choice leads, with some chance, to a smaller rank of these states, or to this rank alone
+abbrev pub InfiniteOnEach : Mdp → List (Option ℚ) → List ℕ → Type 0
+InfiniteOnEach m v ranks =
+    (s c : ℕ)
+    → IsInfinite m v s
+    → c < length (choices_at m s)
+    → FallsInfinite m v ranks s c ⊎ StaysInfinite m v ranks (slice_index ranks s) s c
+
 -- no finite value is below 0, and a goal has the value 0 and rank 0
 pub record AreRewards (m : Mdp) (goals : List Bool) (v : List (Option ℚ)) (ranks : List ℕ) : Type 0 where
   pub at_least_zero : (s : ℕ) (x : ℚ) → s < states_of m → reward_at v s ≡ Some x → of_int (pos 0) ≤ℚ x
@@ -53,31 +77,16 @@ pub record MeetsRewardMax (m : Mdp) (r : ℕ) (goals : List Bool) (v : List (Opt
   pub covers : (s c : ℕ) → IsTransient m goals v s → c < length (choices_at m s) → backup m r s c (finite_part v) ≤ℚ value_at (finite_part v) s
   pub reached : (s : ℕ) → IsTransient m goals v s → value_at (finite_part v) s ≤ℚ backup m r s (slice_index policy s) (finite_part v)
   pub falls : (s c : ℕ) → IsTransient m goals v s → c < length (choices_at m s) → Falls m ranks s c
-  -- at a state of infinite value the policy comes, with some chance, to the states of rank 0, which it never leaves
-  pub misses :
-      (s : ℕ)
-      → IsInfinite m v s
-      → ((slice_index ranks s ≡ 0) × StaysInfinite m v ranks 0 s (slice_index policy s)) ⊎ FallsInfinite m v ranks s (slice_index policy s)
+  pub misses : InfiniteUnderPolicy m v policy ranks
 
 pub record MeetsRewardMin (m : Mdp) (r : ℕ) (goals : List Bool) (v : List (Option ℚ)) (policy ranks : List ℕ) : Type 0 where
   pub named : r < length m.names
   pub one_each : length v ≡ states_of m
   pub choices : IsPolicy m policy
   pub values : AreRewards m goals v ranks
-  -- at a transient state: the policy's choice leads to finite values only and to a smaller rank, and the value covers it; no choice that leads
-  -- to finite values only earns less than the value
+  -- at a transient state the policy's choice leads to finite values only and to a smaller rank, and the value covers it
   pub stays : (s : ℕ) → IsTransient m goals v s → StaysFinite m v s (slice_index policy s)
-  pub covered :
-      (s c : ℕ)
-      → IsTransient m goals v s
-      → c < length (choices_at m s)
-      → StaysFinite m v s c
-      → value_at (finite_part v) s ≤ℚ backup m r s c (finite_part v)
+  pub covered : IsCoveredWhereFinite m r goals v
   pub reached : (s : ℕ) → IsTransient m goals v s → backup m r s (slice_index policy s) (finite_part v) ≤ℚ value_at (finite_part v) s
   pub falls : (s : ℕ) → IsTransient m goals v s → Falls m ranks s (slice_index policy s)
-  -- at a state of infinite value each choice leads, with some chance, to a smaller rank of these states, or to this rank alone
-  pub misses :
-      (s c : ℕ)
-      → IsInfinite m v s
-      → c < length (choices_at m s)
-      → FallsInfinite m v ranks s c ⊎ StaysInfinite m v ranks (slice_index ranks s) s c
+  pub misses : InfiniteOnEach m v ranks

@@ -26,6 +26,25 @@ IsCovered m goals z = (s c : ℕ) → s < states_of m → is_marked goals s ≡ 
 abbrev pub RanksEnd : Mdp → List Bool → List ℚ → List ℕ → Type 0
 RanksEnd m goals z ranks = (s : ℕ) → s < states_of m → (is_marked goals s ≡ true) ⊎ (value_at z s ≡ of_int (pos 0)) → slice_index ranks s ≡ 0
 
+-- at a state of value above 0 that is no goal, an entry of the policy's row leads to a state of value above 0 and smaller rank
+abbrev pub PolicyFalls : Mdp → List Bool → List ℚ → List ℕ → List ℕ → Type 0
+PolicyFalls m goals z policy ranks =
+    (s : ℕ)
+    → s < states_of m
+    → is_marked goals s ≡ false
+    → of_int (pos 0) <ℚ value_at z s
+    → Any (λ y. (of_int (pos 0) <ℚ value_at z y.target) × (slice_index ranks y.target < slice_index ranks s)) (row_at m s (slice_index policy s))
+
+-- and an entry of each row leads to a state of smaller rank
+abbrev pub EachFalls : Mdp → List Bool → List ℚ → List ℕ → Type 0
+EachFalls m goals z ranks =
+    (s c : ℕ)
+    → s < states_of m
+    → is_marked goals s ≡ false
+    → of_int (pos 0) <ℚ value_at z s
+    → c < length (choices_at m s)
+    → Any (λ y. slice_index ranks y.target < slice_index ranks s) (row_at m s c)
+
 pub record MeetsUpper (m : Mdp) (goals : List Bool) (z : List ℚ) : Type 0 where
   pub probabilities : AreProbabilities m goals z
   pub covers : Covers m goals z
@@ -36,13 +55,7 @@ pub record MeetsReachMax (m : Mdp) (goals : List Bool) (z : List ℚ) (policy ra
   pub covers : Covers m goals z
   pub reached : (s : ℕ) → s < states_of m → is_marked goals s ≡ false → value_at z s ≤ℚ row_sum (row_at m s (slice_index policy s)) z
   pub ends : RanksEnd m goals z ranks
-  -- an entry of the policy's row leads to a state of value above 0 and smaller rank
-  pub falls :
-      (s : ℕ)
-      → s < states_of m
-      → is_marked goals s ≡ false
-      → of_int (pos 0) <ℚ value_at z s
-      → Any (λ y. (of_int (pos 0) <ℚ value_at z y.target) × (slice_index ranks y.target < slice_index ranks s)) (row_at m s (slice_index policy s))
+  pub falls : PolicyFalls m goals z policy ranks
 
 pub record MeetsReachMin (m : Mdp) (goals : List Bool) (z : List ℚ) (policy ranks : List ℕ) : Type 0 where
   pub choices : IsPolicy m policy
@@ -50,11 +63,4 @@ pub record MeetsReachMin (m : Mdp) (goals : List Bool) (z : List ℚ) (policy ra
   pub covered : IsCovered m goals z
   pub reached : (s : ℕ) → s < states_of m → is_marked goals s ≡ false → row_sum (row_at m s (slice_index policy s)) z ≤ℚ value_at z s
   pub ends : RanksEnd m goals z ranks
-  -- an entry of each row leads to a state of smaller rank
-  pub falls :
-      (s c : ℕ)
-      → s < states_of m
-      → is_marked goals s ≡ false
-      → of_int (pos 0) <ℚ value_at z s
-      → c < length (choices_at m s)
-      → Any (λ y. slice_index ranks y.target < slice_index ranks s) (row_at m s c)
+  pub falls : EachFalls m goals z ranks
