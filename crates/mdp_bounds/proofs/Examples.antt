@@ -7,7 +7,7 @@ use Rattle.mdp_math.proofs.Extremes.{le_of_test, test_of_le}
 use Rattle.mdp_spec.specs.Mdp.{Entry, Choice, Mdp, row_at}
 use Rattle.mdp_spec.specs.Row.{row_sum}
 use Rattle.mdp_spec.specs.RewardRules.{backup}
-use Rattle.mdp_spec.proofs.Small.{entry, half, number, third}
+use Rattle.mdp_spec.proofs.Small.{entry, half, number, third, split, split_goals}
 use Rattle.mdp_farkas.specs.Verdict.{verdict_of}
 use Rattle.mdp_farkas.specs.Upper.{upper_checks}
 use Rattle.mdp_bounds.specs.Sum.{plain_add, told_sum}
@@ -43,28 +43,11 @@ exact_order : cmp_ℚ near_one nearer_one ≡ Less
 unfolding gcd gcd_with_fuel ratio of_int
 exact_order = refl
 
--- ---- reaching a goal: state 0 has a loop, and a choice that goes on to 1 with 1/3 and to 2 with 2/3; 1 is the goal, and 2 is left nowhere
-
-abbrev row : List Entry → Choice
-row entries = record { row = entries; rewards = [] }
-
-abbrev three : Mdp
-three = record {
-  names = [];
-  labels = [];
-  states =
-      record { labels = []; choices = row (entry 0 (number 1) ∷ []) ∷ row (entry 1 third ∷ entry 2 (ratio (pos 2) 3) ∷ []) ∷ [] }
-      ∷ record { labels = []; choices = row (entry 1 (number 1) ∷ []) ∷ [] }
-      ∷ record { labels = []; choices = row (entry 2 (number 1) ∷ []) ∷ [] }
-      ∷ [];
-}
-
-abbrev goals : List Bool
-goals = false ∷ true ∷ false ∷ []
+-- ---- reaching a goal, in the model `split`
 
 abbrev reached : ℚ → ℚ → ℚ → Verdict
 reached low high last =
-    verdict_of (bounds_checks Max three goals (low ∷ number 1 ∷ number 0 ∷ []) (high ∷ number 1 ∷ last ∷ []) (1 ∷ 0 ∷ 0 ∷ []) (1 ∷ 0 ∷ 0 ∷ []))
+    verdict_of (bounds_checks Max split split_goals (low ∷ number 1 ∷ number 0 ∷ []) (high ∷ number 1 ∷ last ∷ []) (1 ∷ 0 ∷ 0 ∷ []) (1 ∷ 0 ∷ 0 ∷ []))
 
 -- the greatest probability, 1/3 at state 0, lies between 1/4 and 1/2
 between : reached (ratio (pos 1) 4) half (number 0) ≡ Yes
@@ -90,16 +73,16 @@ unfolding gcd gcd_with_fuel ratio of_int le_ℚ lt_ℚ ◌+ℚ◌ ◌*ℚ◌ nar
 no_sum = refl
 
 -- by written terms the same upper bounds are too wide
-written_too_wide : verdict_of (upper_checks three goals (number 1 ∷ number 1 ∷ narrowest ∷ [])) ≡ Wide (Some 0) (Some 1)
+written_too_wide : verdict_of (upper_checks split split_goals (number 1 ∷ number 1 ∷ narrowest ∷ [])) ≡ Wide (Some 0) (Some 1)
 unfolding gcd gcd_with_fuel ratio of_int lt_ℚ ◌+ℚ◌ ◌*ℚ◌ narrow narrow_ℚ written_add written_mul written_compare
 written_too_wide = refl
 
 -- what the rule of a no says there: the lower value is at most the sum over the row, which 1/4 is and 1/2 isn't
 abbrev at_most_row : ℚ → Bool
-at_most_row low = le_ℚ low (row_sum (row_at three 0 1) (low ∷ number 1 ∷ number 0 ∷ []))
+at_most_row low = le_ℚ low (row_sum (row_at split 0 1) (low ∷ number 1 ∷ number 0 ∷ []))
 
 abbrev reach_says : ℚ → Rule → Option ℕ → Option ℕ → Type 0
-reach_says low = ReachSays Max three goals (low ∷ number 1 ∷ number 0 ∷ []) (number 1 ∷ number 1 ∷ number 0 ∷ []) (1 ∷ 0 ∷ 0 ∷ []) (1 ∷ 0 ∷ 0 ∷ [])
+reach_says low = ReachSays Max split split_goals (low ∷ number 1 ∷ number 0 ∷ []) (number 1 ∷ number 1 ∷ number 0 ∷ []) (1 ∷ 0 ∷ 0 ∷ []) (1 ∷ 0 ∷ 0 ∷ [])
 
 quarter_passes : at_most_row (ratio (pos 1) 4) ≡ true
 unfolding gcd gcd_with_fuel ratio of_int le_ℚ ◌+ℚ◌ ◌*ℚ◌

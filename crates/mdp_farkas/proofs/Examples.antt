@@ -1,5 +1,4 @@
--- Verdicts, computed, on a model of three states: state 0 has a loop, and a choice that goes on to 1 with 1/3 and to 2 with 2/3; 1 is the
--- goal, and 2 is left nowhere.
+-- Verdicts, computed, on the model `split`.
 use Rattle.std.proofs.Common.{◌≡◌, ℕ, ◌+◌, ◌^◌, ◌∙◌, Bool, true, false, true≢false, List, [], ◌∷◌, refl, sym, pos, Option, Some, None, arith}
 use Rattle.mdp_math.specs.Gcd.{gcd, gcd_with_fuel}
 use Rattle.mdp_math.specs.Rational.{ℚ, of_int, ratio, le_ℚ, lt_ℚ, ◌+ℚ◌, ◌*ℚ◌}
@@ -7,7 +6,7 @@ use Rattle.mdp_math.specs.Written.{narrow, narrow_ℚ, written_add, written_mul,
 use Rattle.mdp_math.proofs.Extremes.{le_of_test, test_of_le}
 use Rattle.mdp_spec.specs.Mdp.{Entry, Choice, Mdp, row_at}
 use Rattle.mdp_spec.specs.Row.{row_sum}
-use Rattle.mdp_spec.proofs.Small.{entry, nought, one, third}
+use Rattle.mdp_spec.proofs.Small.{entry, nought, one, third, split, split_goals}
 use Rattle.mdp_farkas.specs.Verdict.{verdict_of}
 use Rattle.mdp_farkas.specs.Upper.{upper_checks}
 use Rattle.mdp_farkas.specs.Reach.{reach_checks}
@@ -20,79 +19,62 @@ use Rattle.mdp_claims.specs.declared.rule.Rule.TheVariants.{BiasOnPolicy, Choice
 use Rattle.mdp_claims.specs.declared.rule.Rule.TheVariants.{ValueOnPolicy}
 use Rattle.mdp_claims.specs.declared.rule.Rule.{Rule}
 
-abbrev row : List Entry → Choice
-row entries = record { row = entries; rewards = [] }
-
-abbrev three : Mdp
-three = record {
-  names = [];
-  labels = [];
-  states =
-      record { labels = []; choices = row (entry 0 one ∷ []) ∷ row (entry 1 third ∷ entry 2 (ratio (pos 2) 3) ∷ []) ∷ [] }
-      ∷ record { labels = []; choices = row (entry 1 one ∷ []) ∷ [] }
-      ∷ record { labels = []; choices = row (entry 2 one ∷ []) ∷ [] }
-      ∷ [];
-}
-
-abbrev goals : List Bool
-goals = false ∷ true ∷ false ∷ []
-
 abbrev fault : Rule → ℕ → Option ℕ → Verdict
 fault rule state choice = No (record { rule = rule; state = Some state; choice = choice })
 
 -- the loop alone carries the value 1 at state 0, so its rank doesn't fall
-loop_alone : verdict_of (reach_checks Max three goals (one ∷ one ∷ nought ∷ []) (0 ∷ 0 ∷ 0 ∷ []) (1 ∷ 0 ∷ 0 ∷ [])) ≡ fault RankFalls 0 (Some 0)
+loop_alone : verdict_of (reach_checks Max split split_goals (one ∷ one ∷ nought ∷ []) (0 ∷ 0 ∷ 0 ∷ []) (1 ∷ 0 ∷ 0 ∷ [])) ≡ fault RankFalls 0 (Some 0)
 unfolding gcd gcd_with_fuel ratio of_int lt_ℚ ◌+ℚ◌ ◌*ℚ◌ narrow narrow_ℚ written_add written_mul written_compare
 loop_alone = refl
 
-greatest : verdict_of (reach_checks Max three goals (third ∷ one ∷ nought ∷ []) (1 ∷ 0 ∷ 0 ∷ []) (1 ∷ 0 ∷ 0 ∷ [])) ≡ Yes
+greatest : verdict_of (reach_checks Max split split_goals (third ∷ one ∷ nought ∷ []) (1 ∷ 0 ∷ 0 ∷ []) (1 ∷ 0 ∷ 0 ∷ [])) ≡ Yes
 unfolding gcd gcd_with_fuel ratio of_int lt_ℚ ◌+ℚ◌ ◌*ℚ◌ narrow narrow_ℚ written_add written_mul written_compare
 greatest = refl
 
 -- the second choice would do better
-too_small : verdict_of (reach_checks Max three goals (nought ∷ one ∷ nought ∷ []) (0 ∷ 0 ∷ 0 ∷ []) (0 ∷ 0 ∷ 0 ∷ [])) ≡ fault ValueOnEachChoice 0 (Some 1)
+too_small : verdict_of (reach_checks Max split split_goals (nought ∷ one ∷ nought ∷ []) (0 ∷ 0 ∷ 0 ∷ []) (0 ∷ 0 ∷ 0 ∷ [])) ≡ fault ValueOnEachChoice 0 (Some 1)
 unfolding gcd gcd_with_fuel ratio of_int lt_ℚ ◌+ℚ◌ ◌*ℚ◌ narrow narrow_ℚ written_add written_mul written_compare
 too_small = refl
 
 -- for the least probability the loop is the answer
-least : verdict_of (reach_checks Min three goals (nought ∷ one ∷ nought ∷ []) (0 ∷ 0 ∷ 0 ∷ []) (0 ∷ 0 ∷ 0 ∷ [])) ≡ Yes
+least : verdict_of (reach_checks Min split split_goals (nought ∷ one ∷ nought ∷ []) (0 ∷ 0 ∷ 0 ∷ []) (0 ∷ 0 ∷ 0 ∷ [])) ≡ Yes
 unfolding gcd gcd_with_fuel ratio of_int lt_ℚ ◌+ℚ◌ ◌*ℚ◌ narrow narrow_ℚ written_add written_mul written_compare
 least = refl
 
 -- a policy that takes a choice that the state has not
-no_such_choice : verdict_of (reach_checks Max three goals (third ∷ one ∷ nought ∷ []) (1 ∷ 1 ∷ 0 ∷ []) (1 ∷ 0 ∷ 0 ∷ [])) ≡ fault ChoiceExists 1 (Some 1)
+no_such_choice : verdict_of (reach_checks Max split split_goals (third ∷ one ∷ nought ∷ []) (1 ∷ 1 ∷ 0 ∷ []) (1 ∷ 0 ∷ 0 ∷ [])) ≡ fault ChoiceExists 1 (Some 1)
 unfolding gcd gcd_with_fuel ratio of_int lt_ℚ ◌+ℚ◌ ◌*ℚ◌ narrow narrow_ℚ written_add written_mul written_compare
 no_such_choice = refl
 
 -- a policy that falls short of the value
-short : verdict_of (reach_checks Max three goals (ratio (pos 1) 2 ∷ one ∷ nought ∷ []) (1 ∷ 0 ∷ 0 ∷ []) (1 ∷ 0 ∷ 0 ∷ [])) ≡ fault ValueOnPolicy 0 (Some 1)
+short : verdict_of (reach_checks Max split split_goals (ratio (pos 1) 2 ∷ one ∷ nought ∷ []) (1 ∷ 0 ∷ 0 ∷ []) (1 ∷ 0 ∷ 0 ∷ [])) ≡ fault ValueOnPolicy 0 (Some 1)
 unfolding gcd gcd_with_fuel ratio of_int lt_ℚ ◌+ℚ◌ ◌*ℚ◌ narrow narrow_ℚ written_add written_mul written_compare
 short = refl
 
 -- a goal has rank 0
-goal_rank : verdict_of (reach_checks Max three goals (third ∷ one ∷ nought ∷ []) (1 ∷ 0 ∷ 0 ∷ []) (2 ∷ 1 ∷ 0 ∷ [])) ≡ fault RankZero 1 None
+goal_rank : verdict_of (reach_checks Max split split_goals (third ∷ one ∷ nought ∷ []) (1 ∷ 0 ∷ 0 ∷ []) (2 ∷ 1 ∷ 0 ∷ [])) ≡ fault RankZero 1 None
 unfolding gcd gcd_with_fuel ratio of_int lt_ℚ ◌+ℚ◌ ◌*ℚ◌ narrow narrow_ℚ written_add written_mul written_compare
 goal_rank = refl
 
 -- upper bounds
-upper : verdict_of (upper_checks three goals (one ∷ one ∷ nought ∷ [])) ≡ Yes
+upper : verdict_of (upper_checks split split_goals (one ∷ one ∷ nought ∷ [])) ≡ Yes
 unfolding gcd gcd_with_fuel ratio of_int ◌+ℚ◌ ◌*ℚ◌ narrow narrow_ℚ written_add written_mul written_compare
 upper = refl
 
-no_upper : verdict_of (upper_checks three goals (ratio (pos 1) 4 ∷ one ∷ nought ∷ [])) ≡ fault ValueOnEachChoice 0 (Some 1)
+no_upper : verdict_of (upper_checks split split_goals (ratio (pos 1) 4 ∷ one ∷ nought ∷ [])) ≡ fault ValueOnEachChoice 0 (Some 1)
 unfolding gcd gcd_with_fuel ratio of_int ◌+ℚ◌ ◌*ℚ◌ narrow narrow_ℚ written_add written_mul written_compare
 no_upper = refl
 
-goal_below_one : verdict_of (upper_checks three goals (one ∷ third ∷ nought ∷ [])) ≡ fault GoalValue 1 None
+goal_below_one : verdict_of (upper_checks split split_goals (one ∷ third ∷ nought ∷ [])) ≡ fault GoalValue 1 None
 unfolding gcd gcd_with_fuel ratio of_int ◌+ℚ◌ ◌*ℚ◌ narrow narrow_ℚ written_add written_mul written_compare
 goal_below_one = refl
 
-above_one : verdict_of (upper_checks three goals (ratio (pos 3) 2 ∷ one ∷ nought ∷ [])) ≡ fault Probability 0 None
+above_one : verdict_of (upper_checks split split_goals (ratio (pos 3) 2 ∷ one ∷ nought ∷ [])) ≡ fault Probability 0 None
 unfolding gcd gcd_with_fuel ratio of_int ◌+ℚ◌ ◌*ℚ◌ narrow narrow_ℚ written_add written_mul written_compare
 above_one = refl
 
 -- a product of the row has the denominator 3(2^126 + 1), which is past width: its place is said, before any rule that is false
-wide : verdict_of (upper_checks three goals (one ∷ one ∷ ratio (pos 1) (2 ^ 126 + 1) ∷ [])) ≡ Wide (Some 0) (Some 1)
+wide : verdict_of (upper_checks split split_goals (one ∷ one ∷ ratio (pos 1) (2 ^ 126 + 1) ∷ [])) ≡ Wide (Some 0) (Some 1)
 unfolding gcd gcd_with_fuel ratio of_int ◌+ℚ◌ ◌*ℚ◌ narrow narrow_ℚ written_add written_mul written_compare
 wide = refl
 
@@ -100,10 +82,10 @@ wide = refl
 
 -- at state 0 the value 1/3 is at least the sum over the row of its second choice, and 1/4 isn't
 abbrev upper_says : ℚ → Rule → Option ℕ → Option ℕ → Type 0
-upper_says x = UpperSays three goals (x ∷ one ∷ nought ∷ [])
+upper_says x = UpperSays split split_goals (x ∷ one ∷ nought ∷ [])
 
 abbrev at_least_row : ℚ → Bool
-at_least_row x = le_ℚ (row_sum (row_at three 0 1) (x ∷ one ∷ nought ∷ [])) x
+at_least_row x = le_ℚ (row_sum (row_at split 0 1) (x ∷ one ∷ nought ∷ [])) x
 
 third_passes : at_least_row third ≡ true
 unfolding gcd gcd_with_fuel ratio of_int le_ℚ ◌+ℚ◌ ◌*ℚ◌
@@ -121,14 +103,14 @@ quarter_refused says = true≢false (sym (test_of_le _ _ (says (omega arith) ref
 
 -- which is what the no says
 quarter_refuted : upper_says (ratio (pos 1) 4) ValueOnEachChoice (Some 0) (Some 1) → ⊥
-quarter_refuted = upper_refuted three goals (ratio (pos 1) 4 ∷ one ∷ nought ∷ []) (record { rule = ValueOnEachChoice; state = Some 0; choice = Some 1 }) no_upper
+quarter_refuted = upper_refuted split split_goals (ratio (pos 1) 4 ∷ one ∷ nought ∷ []) (record { rule = ValueOnEachChoice; state = Some 0; choice = Some 1 }) no_upper
 
 -- of a policy that takes the loop at state 0, with the value 1
 abbrev loop_says : Rule → Option ℕ → Option ℕ → Type 0
-loop_says = ReachSays Max three goals (one ∷ one ∷ nought ∷ []) (0 ∷ 0 ∷ 0 ∷ []) (1 ∷ 0 ∷ 0 ∷ [])
+loop_says = ReachSays Max split split_goals (one ∷ one ∷ nought ∷ []) (0 ∷ 0 ∷ 0 ∷ []) (1 ∷ 0 ∷ 0 ∷ [])
 
 loop_refuted : loop_says RankFalls (Some 0) (Some 0) → ⊥
-loop_refuted = reach_refuted Max three goals (one ∷ one ∷ nought ∷ []) (0 ∷ 0 ∷ 0 ∷ []) (1 ∷ 0 ∷ 0 ∷ []) (record { rule = RankFalls; state = Some 0; choice = Some 0 }) loop_alone
+loop_refuted = reach_refuted Max split split_goals (one ∷ one ∷ nought ∷ []) (0 ∷ 0 ∷ 0 ∷ []) (1 ∷ 0 ∷ 0 ∷ []) (record { rule = RankFalls; state = Some 0; choice = Some 0 }) loop_alone
 
 -- nothing is said of a choice that the policy doesn't take, of a state that isn't there, or by a rule of mean payoffs
 not_taken : loop_says RankFalls (Some 0) (Some 1)

@@ -1,5 +1,5 @@
 -- What the small models of examples are made of.
-use Rattle.std.proofs.Common.{ℕ, List, [], ◌∷◌, pos}
+use Rattle.std.proofs.Common.{ℕ, Bool, true, false, List, [], ◌∷◌, pos}
 use Rattle.mdp_math.specs.Rational.{ℚ, of_int, ratio, neg_ℚ}
 use Rattle.mdp_spec.specs.Mdp.{Entry, Choice, State, Mdp}
 
@@ -65,6 +65,29 @@ bare states = record { names = []; labels = []; states = states }
 
 abbrev pub model : List State → Mdp
 model states = record { names = (45 ∷ []) ∷ []; labels = []; states = states }
+
+-- in `split` state 0 has a loop, and a choice that goes on to 1 with 1/3 and to 2 with 2/3; 1 is the goal, and 2 is left nowhere
+abbrev pub split : Mdp
+split = bare
+    (state (choice (entry 0 one ∷ []) ∷ choice (entry 1 third ∷ entry 2 two_thirds ∷ []) ∷ [])
+    ∷ state (choice (entry 1 one ∷ []) ∷ [])
+    ∷ state (choice (entry 2 one ∷ []) ∷ [])
+    ∷ [])
+
+abbrev pub split_goals : List Bool
+split_goals = false ∷ true ∷ false ∷ []
+
+-- in `back` state 0 goes to 1 or 3 with 1/2 each, or to 1; 1 goes back to 0 or to the goal 2 with 1/2 each, and 3 is left nowhere
+abbrev pub back : Mdp
+back = bare
+    (state (choice (entry 1 half ∷ entry 3 half ∷ []) ∷ choice (entry 1 one ∷ []) ∷ [])
+    ∷ state (choice (entry 0 half ∷ entry 2 half ∷ []) ∷ [])
+    ∷ state (choice (entry 2 one ∷ []) ∷ [])
+    ∷ state (choice (entry 3 one ∷ []) ∷ [])
+    ∷ [])
+
+abbrev pub back_goals : List Bool
+back_goals = false ∷ false ∷ true ∷ false ∷ []
 
 -- `wait` stays at 0 for 1 in each step, or moves to 1, which earns 3 in each step
 abbrev pub wait : Mdp

@@ -5,7 +5,7 @@ use Rattle.mdp_math.specs.Gcd.{gcd, gcd_with_fuel}
 use Rattle.mdp_math.specs.Rational.{ℚ, of_int, ratio, lt_ℚ, ◌+ℚ◌, ◌*ℚ◌}
 use Rattle.mdp_math.specs.Written.{narrow, narrow_ℚ, written_add, written_mul, written_compare}
 use Rattle.mdp_spec.specs.Mdp.{Mdp}
-use Rattle.mdp_spec.proofs.Small.{choice, entry, half, nought, one, state, third, two, two_thirds}
+use Rattle.mdp_spec.proofs.Small.{choice, entry, half, nought, one, state, third, two, two_thirds, back, back_goals}
 use Rattle.mdp_farkas.specs.Verdict.{verdict_of}
 use Rattle.mdp_claims.specs.declared.verdict.Verdict.{Verdict}
 use Rattle.mdp_claims.specs.declared.verdict.Verdict.TheVariants.{Yes, No, Wide}
@@ -20,31 +20,16 @@ use Rattle.mdp_claims.specs.declared.rule.Rule.{Rule}
 abbrev tiny : ℚ
 tiny = ratio (pos 1) (2 ^ 126 + 1)
 
-abbrev four : Mdp
-four = record {
-  names = [];
-  labels = [];
-  states =
-      state (choice (entry 1 half ∷ entry 3 half ∷ []) ∷ choice (entry 1 one ∷ []) ∷ [])
-      ∷ state (choice (entry 0 half ∷ entry 2 half ∷ []) ∷ [])
-      ∷ state (choice (entry 2 one ∷ []) ∷ [])
-      ∷ state (choice (entry 3 one ∷ []) ∷ [])
-      ∷ [];
-}
-
-abbrev goals : List Bool
-goals = false ∷ false ∷ true ∷ false ∷ []
-
 abbrev flow : ℕ → ℕ → ℚ → Flow
 flow s c a = record { state = s; choice = c; amount = a }
 
 -- of a flow from this start with these kept states
 abbrev flow_verdict : ℕ → ℚ → List ℕ → List Flow → Verdict
-flow_verdict start threshold kept flows = verdict_of (flow_checks four goals start threshold kept flows)
+flow_verdict start threshold kept flows = verdict_of (flow_checks back back_goals start threshold kept flows)
 
 -- of a floor
 abbrev floor_verdict : ℕ → ℚ → List ℕ → List ℚ → List ℕ → Verdict
-floor_verdict start threshold kept values ranks = verdict_of (floor_checks four goals start threshold kept values ranks)
+floor_verdict start threshold kept values ranks = verdict_of (floor_checks back back_goals start threshold kept values ranks)
 
 abbrev fault : Rule → ℕ → Option ℕ → Verdict
 fault rule state choice = No (record { rule = rule; state = Some state; choice = choice })
