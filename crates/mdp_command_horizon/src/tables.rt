@@ -6,16 +6,13 @@ ghost use Rattle.mdp_command_horizon.specs.Code.{refused};
 
 use mdp_horizon::{HorizonError, HorizonPlace};
 use mdp_job::Refusal;
-use mdp_rows::Model;
+use mdp_rows::{MAX_CHOICES, Model};
 
-/// The most choices that a table may have, one for each state and each step.
-const MOST_CHOICES: u64 = 4_194_304;
-
-/// Whether the table of so many steps is too large.
+/// Whether the table of so many steps, with one choice for each state and each step, has more choices than a model may have.
 pub(crate) fn is_too_long(model: &Model, steps: u32) -> bool
     ensures { result ≡ nat_lt most_choices (steps * states_of model.now) }
 {
-    u64::from(steps) * u64::from(model.states()) > MOST_CHOICES
+    u64::from(steps) * u64::from(model.states()) > u64::from(MAX_CHOICES)
 }
 
 /// Why there is no answer, as a refusal.

@@ -13,13 +13,8 @@ use crate::error::DrnKind;
 use crate::line::{is_blank, trim_start};
 use crate::line_error::LineError;
 use crate::names::read_names;
+use mdp_rows::{MAX_CHOICES, MAX_STATES};
 use std::alloc::Global;
-
-/// The most states.
-const MAX_STATES: u32 = 1_048_576;
-
-/// The most choices.
-const MAX_CHOICES: u32 = 4_194_304;
 
 /// What a file is of: Markov decision processes and Markov chains are read.
 #[derive(Clone, Copy)]

@@ -11,7 +11,7 @@ ghost use Rattle.mdp_job.specs.Words.{bounds_check_of, other_of, job_by};
 use crate::digits::whole_word;
 use crate::words_error::WordsError;
 use mdp_num::{Frac, read_numeral};
-use mdp_rows::{Dir, RowRule};
+use mdp_rows::{Dir, MAX_STATES, RowRule};
 
 /// What is to be solved.
 #[derive(Clone, Copy)]
@@ -549,7 +549,7 @@ fn bounds_check_of<'a>(words: &'a [String]) -> Result<Job<'a>, WordsError>
 }
 
 /// The most states in the layers of a model that is drawn.
-const MOST_STATES: u128 = (1 << 20) - 2;
+const MOST_STATES: u128 = MAX_STATES as u128 - 2;
 
 /// The job with these numbers, where they are in range.
 fn drill_by<'a>(number: u128, layers: u128, width: u128) -> Result<Job<'a>, WordsError>

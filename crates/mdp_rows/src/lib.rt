@@ -29,6 +29,7 @@ pub use builder::Builder;
 pub use dir::Dir;
 pub use error::RowsError;
 pub use laws::replay_law;
+pub use limits::{MAX_CHOICES, MAX_STATES};
 pub use marks::Marks;
 pub use model::Model;
 pub use policy_rows::PolicyRows;

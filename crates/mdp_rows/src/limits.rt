@@ -3,6 +3,9 @@
 /// The greatest common denominator of a row, and the greatest magnitude of a term of a summed reward: 10^36.
 pub const MAX_TERM: u128 = 1_000_000_000_000_000_000_000_000_000_000_000_000;
 
+/// The most states, 2^20.
+pub const MAX_STATES: u32 = 1_048_576;
+
 /// The most choices, 2^22.
 pub const MAX_CHOICES: u32 = 4_194_304;
 

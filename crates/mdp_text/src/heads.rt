@@ -7,6 +7,7 @@ use crate::lines::{or_refused, refuse_if};
 use crate::numbers::{reward_of, whole_at};
 use crate::words::{cut_word, only_word, words_behind};
 use mdp_num::{Frac, read_canonical};
+use mdp_rows::MAX_STATES;
 
 /// The number of states, from 1 to 2^20, of the line `states N`.
 #[tactic(auto, unfolding(crate::specs::Heads::states_at))]
@@ -15,7 +16,7 @@ pub fn states_at(line: u64, text: &[u8]) -> Result<u32, Refusal>
 {
     let word = words_behind(line, text, b"states", 1)?;
     let states = whole_at(line, only_word(word))?;
-    refuse_if(CertKind::Count, line, states == 0 || states > 1 << 20)?;
+    refuse_if(CertKind::Count, line, states == 0 || states > MAX_STATES)?;
     Ok(states)
 }
 
