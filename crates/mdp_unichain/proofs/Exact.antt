@@ -1,21 +1,18 @@
 -- Written evaluation gives the gain and the bias, where no term is past width.
 use Rattle.std.proofs.Common.{◌≡◌, ℕ, ◌<◌, ◌≤◌, ◌⊎◌, inl, inr, Bool, true, false, if◌then◌else◌, List, [], ◌∷◌}
 use Rattle.std.proofs.Common.{length, map, Some, Result, Ok, Err, refl, sym, ◌∙◌, ap, ap₂, subst, arith, pos}
-use Rattle.std.proofs.Common.{negsuc, zero-add, rules}
+use Rattle.std.proofs.Common.{negsuc, zero-add}
 use Rattle.std.specs.List.{Any, range_with_len}
 use Rattle.std.specs.Prelude.{slice_index, slice_index_or}
 use Rattle.std.proofs.Math.ListN.{get_or-eq_default}
 use Rattle.std.proofs.lemmas.List.FromFn.{get_or-map-range_with_len, length-map-range_with_len}
-use Rattle.std.proofs.lemmas.List.Elements.{All-nil, All-cons}
 use Rattle.std.proofs.lemmas.List.{get_or_default}
-use Rattle.mdp_math.specs.Rational.{ℚ, of_int, ◌+ℚ◌, ◌*ℚ◌, ◌-ℚ◌, ◌≤ℚ◌, ◌<ℚ◌}
+use Rattle.mdp_math.specs.Rational.{ℚ, ◌+ℚ◌, ◌*ℚ◌, ◌-ℚ◌, ◌≤ℚ◌}
 use Rattle.mdp_math.specs.Written.{written_mul, ◌>>=◌}
 use Rattle.mdp_math.proofs.Written.{written_add-some, written_mul-some}
-use Rattle.mdp_math.proofs.Ring.{◌⊕◌, ◌⊗◌, ⊖, lit, ring}
-use Rattle.mdp_math.proofs.Laws.{rat_ring}
+use Rattle.mdp_math.proofs.Ring.{◌⊕◌, ◌⊗◌, ⊖, lit}
 use Rattle.mdp_math.proofs.Linear.{combine, equal}
 use Rattle.mdp_math.proofs.Numbers.{le_or}
-use Rattle.mdp_math.proofs.Whole.{one-pos}
 use Rattle.mdp_math.proofs.Order.{0ℚ, 1ℚ, ◌/ℚ◌}
 use Rattle.mdp_math.proofs.Kernel.{Any-and}
 use Rattle.mdp_math.proofs.Solutions.{Solves}

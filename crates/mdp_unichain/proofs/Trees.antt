@@ -1,20 +1,13 @@
 -- What a gain says of trees: where no choice of the component is better, no tree of its choices earns more than the gain in each step.
-use Rattle.std.proofs.Common.{◌≡◌, ℕ, suc, ◌<◌, ◌≤◌, Bool, true, false, true≢false, List, [], ◌∷◌, length, refl, sym, ◌∙◌, ap, subst, pos, zero-add, map}
+use Rattle.std.proofs.Common.{◌≡◌, ℕ, ◌<◌, Bool, true, false, List, [], length, sym, ◌∙◌, ap, subst, zero-add, map}
 use Rattle.std.specs.Prelude.{slice_index_or}
 use Rattle.std.specs.List.{range_with_len}
 use Rattle.std.proofs.lemmas.List.FromFn.{get_or-map-range_with_len}
-use Rattle.mdp_math.specs.Rational.{ℚ, ◌+ℚ◌, ◌*ℚ◌, ◌-ℚ◌, neg_ℚ, ◌≤ℚ◌}
-use Rattle.mdp_math.proofs.Ring.{◌⊕◌, ◌⊗◌, ⊖, lit}
-use Rattle.mdp_math.proofs.Linear.{linear, equal, at_most, known}
-use Rattle.mdp_math.proofs.Order.{0ℚ, 1ℚ, ≤ℚ_refl, ≤ℚ_of_eq}
-use Rattle.mdp_math.proofs.Whole.{of_nat-nonneg, of_nat-suc}
+use Rattle.mdp_math.specs.Rational.{ℚ, ◌+ℚ◌, ◌-ℚ◌, ◌≤ℚ◌}
+use Rattle.mdp_math.proofs.Order.{≤ℚ_refl, ≤ℚ_of_eq}
 use Rattle.mdp_spec.specs.Mdp.{Mdp, states_of, choices_at, row_at}
 use Rattle.mdp_spec.specs.Row.{IsMdp}
-use Rattle.mdp_spec.specs.Unit.{reward_of}
 use Rattle.mdp_spec.specs.Tree.{Tree}
-use Rattle.mdp_spec.specs.Pay.{total}
-use Rattle.mdp_spec.specs.Bounds.{whole}
-use Rattle.mdp_spec.proofs.Earnings.{total-end}
 use Rattle.mdp_spec.proofs.Above.{row_weigh}
 use Rattle.mdp_rows.specs.declared.dir.Dir.{Dir}
 use Rattle.mdp_rows.specs.declared.dir.Dir.TheVariants.{Max, Min}
@@ -22,10 +15,9 @@ use Rattle.mdp_unichain.specs.Component as component
 use Rattle.mdp_math.specs.Sum.{EachAt}
 use Rattle.mdp_math.proofs.SumsAt.{EachAt_mono, EachAt_both}
 use Rattle.mdp_spec.specs.Row.{IsRow}
-use Rattle.mdp_spec.proofs.Rows.{rows_known, targets_at, row_weigh-scale, row_weigh-line, row_weigh-const}
+use Rattle.mdp_spec.proofs.Rows.{rows_known, targets_at, row_weigh-const}
 use Rattle.mdp_spec.proofs.Steps.{Uses}
 use Rattle.mdp_spec.proofs.Mean.{total-le_by, total-ge_by}
-use Rattle.mdp_spec.specs.Mdp as mdp
 use Rattle.mdp_unichain.specs.Model.{choice_of, component_of, Takes, NoTreeEarnsMore, NoTreeEarnsLess}
 
 -- trees that take choices by a test, at states of the model
