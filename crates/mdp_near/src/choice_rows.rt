@@ -78,13 +78,8 @@ pub(crate) fn open_rows(
 ) -> Result<Rows, AllocError> {
     let scale = Scale { digits, room: 0 };
     let mut rows = sized_rows(alloc, model, nodes.count(), is_open, scale)?;
-    let mut last = None;
     for state in nodes.order() {
-        let node = nodes.of(*state);
-        if last != Some(node) {
-            rows.push_node()?;
-            last = Some(node);
-        }
+        rows.go_to(nodes.of(*state))?;
         if flag_at(is_open, *state) {
             push_state(&mut rows, model, nodes, *state)?;
         }

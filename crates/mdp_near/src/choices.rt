@@ -1,4 +1,4 @@
-use mdp_refinement::flag_at;
+use mdp_refinement::{append, flag_at, group_of, item_at};
 use mdp_rows::Model;
 use std::alloc::{AllocError, Global};
 
@@ -20,14 +20,12 @@ impl ChoiceFlags {
 
     /// Goes on to the next state, whose flags are pushed from now on.
     pub fn push_state(&mut self) -> Result<(), AllocError> {
-        self.starts.push(self.flags.len())?;
-        Ok(())
+        append(&mut self.starts, self.flags.len())
     }
 
     /// Appends the flag of the next choice of the last state.
     pub fn push(&mut self, flag: bool) -> Result<(), AllocError> {
-        self.flags.push(flag)?;
-        Ok(())
+        append(&mut self.flags, flag)
     }
 
     /// All choices of a model, flagged.
@@ -42,16 +40,9 @@ impl ChoiceFlags {
         Ok(all)
     }
 
-    /// Where the flags of a state begin.
-    fn start_of(&self, s: usize) -> usize {
-        self.starts.get(s).copied().unwrap_or(self.flags.len())
-    }
-
     /// The flags of a state's choices.
     pub fn of(&self, s: u32) -> &[bool] {
-        let from = self.start_of(s as usize);
-        let to = self.start_of((s as usize).saturating_add(1));
-        self.flags.get(from..to).unwrap_or(&[])
+        group_of(&self.flags, &self.starts, s as usize)
     }
 
     /// Whether a choice is flagged.
@@ -61,13 +52,12 @@ impl ChoiceFlags {
 
     /// Takes the flag from a choice. Whether it had it.
     pub fn clear(&mut self, s: u32, c: u32) -> bool {
-        let start = self.start_of(s as usize);
-        match self.flags.get_mut(start.saturating_add(c as usize)) {
-            Some(flag) if *flag => {
-                *flag = false;
-                true
-            }
-            _ => false,
+        let start = item_at(&self.starts, s as usize, self.flags.len());
+        let place = start.saturating_add(c as usize);
+        let was_flagged = item_at(&self.flags, place, false);
+        if was_flagged && place < self.flags.len() {
+            self.flags[place] = false;
         }
+        was_flagged
     }
 }

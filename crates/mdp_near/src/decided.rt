@@ -3,6 +3,7 @@ ghost use Rattle.mdp_spec.specs.Mdp.{states_of};
 
 use mdp_graph::{may_avoid, may_reach, sure_some};
 use mdp_num::Memory;
+use mdp_refinement::{item_at, put};
 use mdp_rows::{Dir, Marks, Model};
 use std::alloc::{AllocError, Global};
 
@@ -26,52 +27,28 @@ pub(crate) struct Decided {
 
 /// The kind of a state at a place; `Between` outside.
 pub(crate) fn kind_at(kinds: &[Kind], state: u32) -> Kind {
-    kinds.get(state as usize).copied().unwrap_or(Kind::Between)
+    item_at(kinds, state as usize, Kind::Between)
 }
 
-/// The kind of a state from which goals are surely reached, or never.
-fn kind_of(is_never: bool, is_sure: bool) -> Kind {
-    if is_sure {
-        Kind::Surely
-    } else if is_never {
-        Kind::Never
-    } else {
-        Kind::Between
-    }
-}
-
-/// The kinds for the greatest probability, from marks of the states from which a goal can be reached, and of those from which some policy surely
-/// reaches one.
-fn max_kinds(
+/// The kinds of states: one of those that are marked, and another one of those from which no such state is reached.
+fn kinds_of(
     alloc: Global,
     states: u32,
+    marks: &Marks,
+    of_marked: Kind,
     reaching: &Marks,
-    sure: &Marks,
+    of_others: Kind,
 ) -> Result<Vec<Kind>, AllocError>
+    requires marked { length marks.now ≡ states }
     requires reaching { length reaching.now ≡ states }
-    requires sure { length sure.now ≡ states }
 {
-    let mut kinds = Vec::new(alloc);
+    let mut kinds = vec![in alloc; Kind::Between; states as usize]?;
     for s in 0..states {
-        kinds.push(kind_of(!reaching.at(s), sure.at(s)))?;
-    }
-    Ok(kinds)
-}
-
-/// The kinds for the least probability, from marks of the states from which some policy avoids the goals, and of those from which one can come to such a
-/// state.
-fn min_kinds(
-    alloc: Global,
-    states: u32,
-    avoiding: &Marks,
-    missing: &Marks,
-) -> Result<Vec<Kind>, AllocError>
-    requires avoiding { length avoiding.now ≡ states }
-    requires missing { length missing.now ≡ states }
-{
-    let mut kinds = Vec::new(alloc);
-    for s in 0..states {
-        kinds.push(kind_of(avoiding.at(s), !missing.at(s)))?;
+        if marks.at(s) {
+            put(&mut kinds, s, of_marked);
+        } else if !reaching.at(s) {
+            put(&mut kinds, s, of_others);
+        }
     }
     Ok(kinds)
 }
@@ -84,7 +61,15 @@ fn max_decided(alloc: Global, model: &Model, goals: &Marks) -> Result<Decided, M
     let none = Marks::empty(alloc, model.states())?;
     let reaching = may_reach(alloc, model, goals, &none)?;
     let sure = sure_some(alloc, model, goals)?;
-    let kinds = max_kinds(alloc, model.states(), &reaching.marks, &sure.marks)?;
+    let states = model.states();
+    let kinds = kinds_of(
+        alloc,
+        states,
+        &sure.marks,
+        Kind::Surely,
+        &reaching.marks,
+        Kind::Never,
+    )?;
     Ok(Decided {
         kinds,
         choices: sure.choices,
@@ -98,7 +83,15 @@ fn min_decided(alloc: Global, model: &Model, goals: &Marks) -> Result<Decided, M
     model.known();
     let avoiding = may_avoid(alloc, model, goals)?;
     let missing = may_reach(alloc, model, &avoiding.marks, goals)?;
-    let kinds = min_kinds(alloc, model.states(), &avoiding.marks, &missing.marks)?;
+    let states = model.states();
+    let kinds = kinds_of(
+        alloc,
+        states,
+        &avoiding.marks,
+        Kind::Never,
+        &missing.marks,
+        Kind::Surely,
+    )?;
     Ok(Decided {
         kinds,
         choices: avoiding.choices,

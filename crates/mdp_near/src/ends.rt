@@ -5,43 +5,54 @@ ghost use Rattle.mdp_spec.specs.Mdp.{states_of, choices_at};
 
 use crate::backward::Backward;
 use crate::choices::ChoiceFlags;
-use crate::decided::{Kind, kind_at};
+use crate::decided::Kind;
 use mdp_graph::may_avoid;
 use mdp_num::Memory;
 use mdp_refinement::{Components, Graph, flag_at, number, number_at, put, strong_components};
 use mdp_rows::{Dir, Marks, Model, Pred};
 use std::alloc::{AllocError, Global};
 
-/// The choices that are left, how many each state has, and the states that have none, in the order in which they lost the last.
+/// The choices that are left, how many each state has, and the states that have none, so many, in the order in which they lost the last.
 #[derive(Drop)]
 struct Left {
     choices: ChoiceFlags,
     counts: Vec<u32>,
     gone: Vec<u32>,
+    gone_count: usize,
 }
 
 /// How many flags are set.
 fn count_set(flags: &[bool]) -> u32 {
-    number(flags.iter().filter(|flag| **flag).count())
+    let mut count = 0u32;
+    for flag in flags {
+        count = count.saturating_add(u32::from(*flag));
+    }
+    count
 }
 
 impl Left {
     /// The flagged choices.
     fn new(alloc: Global, model: &Model, choices: ChoiceFlags) -> Result<Left, AllocError> {
-        let mut counts = Vec::new(alloc);
-        let mut gone = Vec::new(alloc);
-        for s in 0..model.states() {
-            let count = count_set(choices.of(s));
-            counts.push(count)?;
-            if count == 0 {
-                gone.push(s)?;
-            }
-        }
-        Ok(Left {
+        let mut left = Left {
             choices,
-            counts,
-            gone,
-        })
+            counts: vec![in alloc; 0; model.states() as usize]?,
+            gone: vec![in alloc; 0; model.states() as usize]?,
+            gone_count: 0,
+        };
+        for s in 0..model.states() {
+            let count = count_set(left.choices.of(s));
+            left.set_count(s, count);
+        }
+        Ok(left)
+    }
+
+    /// Notes how many choices of a state are left, of which it had more before, or none was counted.
+    fn set_count(&mut self, s: u32, count: u32) {
+        put(&mut self.counts, s, count);
+        if count == 0 {
+            put(&mut self.gone, number(self.gone_count), s);
+            self.gone_count = self.gone_count.saturating_add(1);
+        }
     }
 
     /// Whether each choice of a state is left.
@@ -50,89 +61,82 @@ impl Left {
     }
 
     /// Forbids choice `c` of state `s`, if it is left.
-    fn forbid(&mut self, s: u32, c: u32) -> Result<(), AllocError> {
+    fn forbid(&mut self, s: u32, c: u32) {
         if self.choices.clear(s, c) {
             let count = number_at(&self.counts, s).saturating_sub(1);
-            put(&mut self.counts, s, count);
-            if count == 0 {
-                self.gone.push(s)?;
-            }
+            self.set_count(s, count);
         }
-        Ok(())
     }
 
     /// Forbids all choices of a state.
-    fn forbid_state(&mut self, s: u32, choices: u32) -> Result<(), AllocError> {
+    fn forbid_state(&mut self, s: u32, choices: u32) {
         for c in 0..choices {
-            self.forbid(s, c)?;
+            self.forbid(s, c);
         }
-        Ok(())
     }
 
     /// Forbids the choices of the states that aren't marked.
-    fn keep_marked(&mut self, model: &Model, marks: &Marks) -> Result<(), AllocError>
+    fn keep_marked(&mut self, model: &Model, marks: &Marks)
         requires { length marks.now ≡ states_of model.now }
     {
         for s in 0..model.states() {
             if !marks.at(s) {
-                self.forbid_state(s, model.choices(s))?;
+                self.forbid_state(s, model.choices(s));
             }
         }
-        Ok(())
     }
 
     /// Forbids choices.
-    fn forbid_each(&mut self, choices: &[Pred]) -> Result<(), AllocError> {
+    fn forbid_each(&mut self, choices: &[Pred]) {
         for choice in choices {
-            self.forbid(choice.state, choice.choice)?;
+            self.forbid(choice.state, choice.choice);
         }
-        Ok(())
     }
 
     /// Forbids the choices that lead to a state without a choice, of those from a place in their order on. How many such states there are then.
-    fn spread(&mut self, backward: &Backward, from: usize) -> Result<usize, AllocError> {
+    fn spread(&mut self, backward: &Backward, from: usize) -> usize {
         for place in from..self.counts.len() {
-            let Some(s) = self.gone.get(place).copied() else {
+            if place >= self.gone_count {
                 break;
-            };
-            self.forbid_each(backward.of(s))?;
+            }
+            let s = number_at(&self.gone, number(place));
+            self.forbid_each(backward.of(s));
         }
-        Ok(self.gone.len())
+        self.gone_count
     }
 
     /// Forbids the choices of a state that are left and leave its part. Whether there were any.
-    fn forbid_leaving_at(
-        &mut self,
-        model: &Model,
-        parts: &Components,
-        s: u32,
-    ) -> Result<bool, AllocError>
+    fn forbid_leaving_at(&mut self, model: &Model, parts: &Components, s: u32) -> bool
         requires { s < states_of model.now }
     {
         let mut any = false;
         for c in 0..model.choices(s) {
             if flag_at(self.of(s), c) && !stays(model, parts, s, c) {
-                self.forbid(s, c)?;
+                self.forbid(s, c);
                 any = true;
             }
         }
-        Ok(any)
+        any
     }
 
     /// Forbids the choices that are left and leave the part of their state. Whether there were any.
-    fn forbid_leaving(&mut self, model: &Model, parts: &Components) -> Result<bool, AllocError> {
+    fn forbid_leaving(&mut self, model: &Model, parts: &Components) -> bool {
         let mut any = false;
         for s in 0..model.states() {
-            if self.forbid_leaving_at(model, parts, s)? {
+            if self.forbid_leaving_at(model, parts, s) {
                 any = true;
             }
         }
-        Ok(any)
+        any
     }
 
     /// Whether each state has a choice.
     fn have_choice(&self, alloc: Global) -> Result<Vec<bool>, AllocError> {
-        self.counts.iter().map(|count| *count > 0).collect(alloc)
+        let mut flags = vec![in alloc; false; self.counts.len()]?;
+        for s in 0..number(self.counts.len()) {
+            put(&mut flags, s, number_at(&self.counts, s) > 0);
+        }
+        Ok(flags)
     }
 }
 
@@ -142,8 +146,12 @@ fn stays(model: &Model, parts: &Components, s: u32, c: u32) -> bool
     requires choice { c < length (choices_at model.now s) }
 {
     let part = parts.of(s);
-    let targets = model.row(s, c).targets;
-    targets.iter().all(|t| parts.of(*t) == part)
+    for target in model.row(s, c).targets {
+        if parts.of(*target) != part {
+            return false;
+        }
+    }
+    true
 }
 
 /// The part of a state; none where it is in none.
@@ -197,14 +205,14 @@ pub fn end_components(
     requires { length inside.now ≡ states_of model.now }
 {
     let mut left = Left::new(alloc, model, choices)?;
-    left.keep_marked(model, inside)?;
-    let mut spread = left.spread(backward, 0)?;
+    left.keep_marked(model, inside);
+    let mut spread = left.spread(backward, 0);
     let mut parts = components_of(alloc, model, &left)?;
     for _ in 0..model.states() {
-        if !left.forbid_leaving(model, &parts)? {
+        if !left.forbid_leaving(model, &parts) {
             break;
         }
-        spread = left.spread(backward, spread)?;
+        spread = left.spread(backward, spread);
         parts = components_of(alloc, model, &left)?;
     }
     Ok(parts)
@@ -216,9 +224,11 @@ pub fn parts_in(
     model: &Model,
     parts: &Components,
 ) -> Result<Vec<Option<u32>>, AllocError> {
-    (0..model.states())
-        .map(|s| part_of(parts, s))
-        .collect(alloc)
+    let mut found = no_parts(alloc, model)?;
+    for s in 0..model.states() {
+        put(&mut found, s, part_of(parts, s));
+    }
+    Ok(found)
 }
 
 /// The maximal end component of each state, if it is in one, of those inside a set of states by the flagged choices.
@@ -239,16 +249,23 @@ pub fn ends_inside(
 fn are_decided(alloc: Global, states: u32, kinds: &[Kind]) -> Result<Vec<bool>, AllocError>
     ensures { IfOk result (λ list. length list.items ≡ states) }
 {
-    (0..states)
-        .map(|s| kind_at(kinds, s) != Kind::Between)
-        .collect(alloc)
+    let mut list = vec![in alloc; false; states as usize]?;
+    for place in 0..list.len().min(kinds.len()) {
+        list[place] = kinds[place] != Kind::Between;
+    }
+    Ok(list)
 }
 
 /// Whether some state is marked.
 fn is_any(states: u32, marks: &Marks) -> bool
     requires { length marks.now ≡ states }
 {
-    (0..states).any(|s| marks.at(s))
+    for s in 0..states {
+        if marks.at(s) {
+            return true;
+        }
+    }
+    false
 }
 
 /// No end component at any state.

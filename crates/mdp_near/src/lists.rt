@@ -2,6 +2,7 @@
 
 ghost use Rattle.std.specs.Prelude.{◌≡◌, length};
 
+use mdp_refinement::put;
 use mdp_rows::Marks;
 use std::alloc::{AllocError, Global};
 
@@ -9,5 +10,9 @@ use std::alloc::{AllocError, Global};
 pub fn flags_of(alloc: Global, states: u32, marks: &Marks) -> Result<Vec<bool>, AllocError>
     requires { length marks.now ≡ states }
 {
-    (0..states).map(|s| marks.at(s)).collect(alloc)
+    let mut flags = vec![in alloc; false; states as usize]?;
+    for s in 0..states {
+        put(&mut flags, s, marks.at(s));
+    }
+    Ok(flags)
 }

@@ -2,7 +2,7 @@
 
 use crate::backward::Backward;
 use crate::choices::ChoiceFlags;
-use mdp_refinement::{Nodes, Rows, WholeRow, flag_at, put};
+use mdp_refinement::{Nodes, Rows, flag_at, number, number_at, put};
 use mdp_rows::{Model, Pred};
 use std::alloc::{AllocError, Global};
 
@@ -31,72 +31,56 @@ impl Gathered<'_> {
     }
 }
 
-/// A policy in the making, with the states that have their choice, in the order in which they got it.
+/// A policy in the making, with the states that have their choice, so many, in the order in which they got it.
 #[derive(Drop)]
 struct Routes {
     policy: Vec<u32>,
     has_choice: Vec<bool>,
     queue: Vec<u32>,
+    queued: usize,
 }
 
 impl Routes {
-    /// Gives a state its choice, unless it has one.
-    fn choose(&mut self, state: u32, choice: u32) -> Result<(), AllocError> {
-        if !flag_at(&self.has_choice, state) {
-            put(&mut self.has_choice, state, true);
-            put(&mut self.policy, state, choice);
-            self.queue.push(state)?;
-        }
-        Ok(())
+    /// The given choices, of which each may be changed.
+    fn new(alloc: Global, given: &[u32]) -> Result<Routes, AllocError> {
+        Ok(Routes {
+            policy: given.to_vec(alloc)?,
+            has_choice: vec![in alloc; false; given.len()]?,
+            queue: vec![in alloc; 0; given.len()]?,
+            queued: 0,
+        })
     }
 
-    /// Gives the states of rows the choices of those.
-    fn choose_picked(&mut self, picked: &[WholeRow]) -> Result<(), AllocError> {
-        for row in picked {
-            self.choose(row.state, row.choice)?;
+    /// Gives a state its choice, unless it has one.
+    fn choose(&mut self, state: u32, choice: u32) {
+        let place = state as usize;
+        if place < self.has_choice.len() && !self.has_choice[place] {
+            self.has_choice[place] = true;
+            put(&mut self.policy, state, choice);
+            put(&mut self.queue, number(self.queued), state);
+            self.queued = self.queued.saturating_add(1);
         }
-        Ok(())
+    }
+
+    /// Gives the states of the rows that were picked the choices of those.
+    fn choose_picked(&mut self, rows: &Rows, picks: &[Option<usize>]) {
+        for pick in picks {
+            if let Some(row) = rows.picked(*pick) {
+                self.choose(row.state, row.choice);
+            }
+        }
     }
 
     /// Leads to a state those that come to it by choices within its node.
-    fn lead_to(&mut self, gathered: Gathered<'_>, state: u32) -> Result<(), AllocError> {
+    fn lead_to(&mut self, gathered: Gathered<'_>, state: u32) {
         let nodes = gathered.nodes;
         for pred in gathered.backward.of(state) {
             let is_near = nodes.of(pred.state) == nodes.of(state);
             if is_near && !flag_at(&self.has_choice, pred.state) && gathered.stays(*pred) {
-                self.choose(pred.state, pred.choice)?;
+                self.choose(pred.state, pred.choice);
             }
         }
-        Ok(())
     }
-}
-
-/// The rows that were picked.
-fn picked(
-    alloc: Global,
-    rows: &Rows,
-    picks: &[Option<usize>],
-) -> Result<Vec<WholeRow>, AllocError> {
-    let mut picked = Vec::new(alloc);
-    for pick in picks {
-        if let Some(row) = pick.and_then(|place| rows.row(place)) {
-            picked.push(*row)?;
-        }
-    }
-    Ok(picked)
-}
-
-/// The given choices, of which each may be changed.
-fn start_routes(alloc: Global, given: &[u32]) -> Result<Routes, AllocError> {
-    let mut policy = Vec::new(alloc);
-    for choice in given {
-        policy.push(*choice)?;
-    }
-    Ok(Routes {
-        policy,
-        has_choice: vec![in alloc; false; given.len()]?,
-        queue: Vec::new(alloc),
-    })
 }
 
 /// The choice of each state: that which was picked for its node, where the node's other states are led to the one that has it; else the given one.
@@ -107,13 +91,14 @@ pub fn policy_of(
     picks: &[Option<usize>],
     given: &[u32],
 ) -> Result<Vec<u32>, AllocError> {
-    let mut routes = start_routes(alloc, given)?;
-    routes.choose_picked(&picked(alloc, rows, picks)?)?;
+    let mut routes = Routes::new(alloc, given)?;
+    routes.choose_picked(rows, picks);
     for place in 0..given.len() {
-        let Some(state) = routes.queue.get(place).copied() else {
+        if place >= routes.queued {
             break;
-        };
-        routes.lead_to(gathered, state)?;
+        }
+        let state = number_at(&routes.queue, number(place));
+        routes.lead_to(gathered, state);
     }
     Ok(routes.policy)
 }

@@ -10,16 +10,17 @@ use crate::policy::{Gathered, policy_of};
 use crate::ranks::{max_ranks, min_ranks};
 use mdp_ladder::MOST_DIGITS;
 use mdp_num::Memory;
-use mdp_refinement::{Bound, Nodes, Rows, Solution, Task, Value, put, solve, value_at};
+use mdp_refinement::{Bound, Nodes, Rows, Solution, Task, Value, number, put, solve, value_at};
 use mdp_rows::{Dir, Marks, Model};
 use std::alloc::{AllocError, Global};
 
 /// Whether the value of each state is to be found.
 fn are_open(alloc: Global, kinds: &[Kind]) -> Result<Vec<bool>, AllocError> {
-    kinds
-        .iter()
-        .map(|kind| *kind == Kind::Between)
-        .collect(alloc)
+    let mut is_open = vec![in alloc; false; kinds.len()]?;
+    for state in 0..number(kinds.len()) {
+        put(&mut is_open, state, kind_at(kinds, state) == Kind::Between);
+    }
+    Ok(is_open)
 }
 
 /// The values of nodes that the graph decides.
@@ -57,14 +58,20 @@ fn spread(
     values: &[Value],
     one: i128,
 ) -> Result<Vec<i128>, AllocError> {
-    (0..states)
-        .map(|s| clamped(nodes, values, one, s))
-        .collect(alloc)
+    let mut found = vec![in alloc; 0i128; states as usize]?;
+    for s in 0..states {
+        put(&mut found, s, clamped(nodes, values, one, s));
+    }
+    Ok(found)
 }
 
 /// Whether each value is 0.
 fn are_zero(alloc: Global, values: &[i128]) -> Result<Vec<bool>, AllocError> {
-    values.iter().map(|value| *value == 0).collect(alloc)
+    let mut is_zero = vec![in alloc; false; values.len()]?;
+    for place in 0..values.len() {
+        put(&mut is_zero, number(place), values[place] == 0);
+    }
+    Ok(is_zero)
 }
 
 /// Proposed bounds of probabilities: for each state a lower and an upper value in units of 1 over `one`, a choice and a rank. Nothing is promised of them, nor
@@ -141,12 +148,14 @@ impl Search<'_> {
 
     /// Lower bounds that hold by the graph alone.
     fn least(self, alloc: Global) -> Result<Vec<i128>, AllocError> {
-        let one = self.rows.one();
-        self.decided
-            .kinds
-            .iter()
-            .map(|kind| if *kind == Kind::Surely { one } else { 0 })
-            .collect(alloc)
+        let kinds = self.decided.kinds.as_slice();
+        let mut least = vec![in alloc; 0i128; kinds.len()]?;
+        for state in 0..number(kinds.len()) {
+            if kind_at(kinds, state) == Kind::Surely {
+                put(&mut least, state, self.rows.one());
+            }
+        }
+        Ok(least)
     }
 
     /// Lower bounds and the ranks that go with them: the given ones, or, where those have no ranks, such as hold by the graph alone.

@@ -3,7 +3,7 @@
 use crate::coarse::{Counted, Grouping};
 use crate::component::{Component, FloatRow};
 use crate::equations::Equations;
-use crate::lists::{add_at, earned_by, float_at, number, put, sum_over};
+use crate::lists::{add_at, append, earned_by, float_at, number, part_of, put, sum_over};
 use crate::sweeps::Change;
 use std::alloc::{AllocError, Global};
 use std::mem;
@@ -38,6 +38,13 @@ pub(crate) struct Visits {
 /// What a node's row has over its value and the gain, from values in which that of the node is `own`.
 fn lacking(link: Link, entries: &[(u32, f64)], gain: f64, own: f64, values: &[f64]) -> f64 {
     sum_over(link.earned - gain - link.total * own, entries, values)
+}
+
+/// Takes each number from the value at its place.
+fn take_from(numbers: &mut [f64], values: &[f64]) {
+    for place in 0..numbers.len().min(values.len()) {
+        numbers[place] = values[place] - numbers[place];
+    }
 }
 
 impl Visits {
@@ -84,13 +91,13 @@ impl Chain {
         repeats: f64,
     ) -> Result<(), AllocError> {
         self.entries.extend_from_slice(component.entries_of(row))?;
-        self.links.push(Link {
+        let link = Link {
             end: self.entries.len(),
             total: row.total,
             repeats,
             earned,
-        })?;
-        Ok(())
+        };
+        append(&mut self.links, link)
     }
 
     /// Takes these rows of a component, which earn `gains`, in the place of those before. Each is taken `pace` times until it leaves its node, where that
@@ -106,9 +113,10 @@ impl Chain {
         self.links.clear();
         self.entries.clear();
         for at in rows {
-            if let Some(row) = component.rows.get(*at) {
+            if *at < component.rows.len() {
+                let row = component.rows[*at];
                 let earned = earned_by(gains, *at);
-                self.push(component, row, earned, pace / row.total.max(least))?;
+                self.push(component, &row, earned, pace / row.total.max(least))?;
             }
         }
         Ok(())
@@ -116,7 +124,7 @@ impl Chain {
 
     /// The entries from a place on, up to the end of a row.
     fn entries_from(&self, first: usize, link: Link) -> &[(u32, f64)] {
-        self.entries.get(first..link.end).unwrap_or(&[])
+        part_of(&self.entries, first, link.end)
     }
 
     /// Gives each node in turn the value that its row makes of the values, where the gain is this. The change, with that of each node counted by its share.
@@ -124,10 +132,11 @@ impl Chain {
         let mut change = Change::none();
         change.take(gain, gain, 0.0);
         let mut first = 0usize;
-        for (place, link) in self.links.iter().enumerate() {
+        for place in 0..self.links.len() {
+            let link = self.links[place];
             let node = number(place);
             let old = float_at(values, node);
-            let more = lacking(*link, self.entries_from(first, *link), gain, old, values);
+            let more = lacking(link, self.entries_from(first, link), gain, old, values);
             let value = old + more * link.repeats;
             change.take(old, value, float_at(shares, node));
             put(values, node, value);
@@ -145,9 +154,7 @@ impl Chain {
     ) -> Result<Vec<f64>, AllocError> {
         let mut changes = values.to_vec(alloc)?;
         self.sweep(gain, values, &[]);
-        for (change, value) in changes.iter_mut().zip(values.iter()) {
-            *change = *value - *change;
-        }
+        take_from(&mut changes, values);
         Ok(changes)
     }
 
@@ -163,12 +170,13 @@ impl Chain {
         let mut equations = grouping.equations(alloc, gain.is_some())?;
         let spent = gain.unwrap_or(0.0);
         let mut first = 0usize;
-        for (place, link) in self.links.iter().enumerate() {
+        for place in 0..self.links.len() {
+            let link = self.links[place];
             let node = number(place);
-            let entries = self.entries_from(first, *link);
+            let entries = self.entries_from(first, link);
             let counted = Counted {
                 weight: float_at(visits, node) * link.repeats,
-                lacking: lacking(*link, entries, spent, float_at(values, node), values),
+                lacking: lacking(link, entries, spent, float_at(values, node), values),
                 total: link.total,
             };
             grouping.add_row(&mut equations, node, counted, entries);
@@ -179,12 +187,9 @@ impl Chain {
 
     /// Where the entries of the node at a place begin.
     fn start_of(&self, place: usize) -> usize {
-        let Some(before) = place.checked_sub(1) else {
-            return 0;
-        };
-        match self.links.get(before) {
-            Some(link) => link.end,
-            None => 0,
+        match place.checked_sub(1) {
+            Some(before) if before < self.links.len() => self.links[before].end,
+            _ => 0,
         }
     }
 
@@ -192,11 +197,11 @@ impl Chain {
     fn pass_on(&self, node: u32, link: Link, visits: &mut Visits) -> f64 {
         let own = float_at(&visits.visits, node);
         let steps = own * link.repeats;
-        for (target, prob) in self.entries_from(self.start_of(node as usize), link) {
-            if *target < node {
-                add_at(&mut visits.visits, *target, steps * *prob);
+        for entry in self.entries_from(self.start_of(node as usize), link) {
+            if entry.0 < node {
+                add_at(&mut visits.visits, entry.0, steps * entry.1);
             } else {
-                add_at(&mut visits.shares, *target, steps * *prob);
+                add_at(&mut visits.shares, entry.0, steps * entry.1);
             }
         }
         let stays = (own - steps * link.total).max(0.0);
@@ -207,8 +212,8 @@ impl Chain {
     /// Passes all visits on: a step of the chain that goes on until it comes to a node whose value is an old one in a sweep. How often rows are taken in all.
     fn pass_all(&self, visits: &mut Visits) -> f64 {
         let mut steps = 0.0;
-        for (place, link) in self.links.iter().enumerate().rev() {
-            steps += self.pass_on(number(place), *link, visits);
+        for place in (0..self.links.len()).rev() {
+            steps += self.pass_on(number(place), self.links[place], visits);
         }
         steps
     }

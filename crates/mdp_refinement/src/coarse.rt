@@ -3,7 +3,7 @@
 
 use crate::chain::Chain;
 use crate::equations::Equations;
-use crate::lists::{float_at, number_at, put};
+use crate::lists::{item_at, number_at, set_at};
 use std::alloc::{AllocError, Global};
 use std::num::saturating_f64_to_i64;
 
@@ -69,14 +69,21 @@ impl Numbering {
     /// The number of the nodes of a group that lie in a part.
     fn number_of(&mut self, group: u32, part: usize) -> u32 {
         let place = (group as usize).saturating_mul(PARTS).saturating_add(part);
-        match self.numbers.get_mut(place) {
-            Some(number) if *number == NO_NUMBER => {
-                *number = self.next;
-                self.next = self.next.saturating_add(1);
-                *number
-            }
-            Some(number) => *number,
-            None => 0,
+        let known = item_at(&self.numbers, place, 0);
+        if known != NO_NUMBER {
+            return known;
+        }
+        let fresh = self.next;
+        set_at(&mut self.numbers, place, fresh);
+        self.next = fresh.saturating_add(1);
+        fresh
+    }
+
+    /// Gives each node the number of its group and of the part in which its change lies.
+    fn renumber(&mut self, groups: &mut [u32], changes: &[f64]) {
+        let spread = Spread::of(changes);
+        for place in 0..groups.len().min(changes.len()) {
+            groups[place] = self.number_of(groups[place], spread.part(changes[place]));
         }
     }
 }
@@ -112,11 +119,8 @@ impl Grouping {
 
     /// Splits each group into those of its nodes whose changes lie in one part of the range.
     fn split_each(&mut self, alloc: Global, changes: &[f64]) -> Result<(), AllocError> {
-        let spread = Spread::of(changes);
         let mut numbering = Numbering::new(alloc, self.count)?;
-        for (group, change) in self.groups.iter_mut().zip(changes) {
-            *group = numbering.number_of(*group, spread.part(*change));
-        }
+        numbering.renumber(&mut self.groups, changes);
         self.count = numbering.next;
         Ok(())
     }
@@ -154,15 +158,15 @@ impl Grouping {
         let weight = counted.weight;
         equations.add_gain(own, weight, counted.lacking);
         equations.add_factor(own, own, weight * counted.total);
-        for (target, prob) in entries {
-            equations.add_factor(own, self.of(*target), -(weight * *prob));
+        for entry in entries {
+            equations.add_factor(own, self.of(entry.0), -(weight * entry.1));
         }
     }
 
     /// Adds to each value the correction of its group.
-    fn add(&self, corrections: &[f64], values: &mut [f64]) {
-        for (value, group) in values.iter_mut().zip(&self.groups) {
-            *value += float_at(corrections, *group);
+    fn add(&self, equations: &Equations, values: &mut [f64]) {
+        for place in 0..values.len().min(self.groups.len()) {
+            values[place] += equations.correction(self.groups[place] as usize);
         }
     }
 
@@ -178,13 +182,8 @@ impl Grouping {
     ) -> Result<f64, AllocError> {
         self.split(alloc, &chain.changes(alloc, gain.unwrap_or(0.0), values)?)?;
         let mut equations = chain.equations(alloc, self, gain, values, visits)?;
-        let mut corrections = equations.solve(alloc)?;
-        let mut more = 0.0;
-        if gain.is_some() {
-            more = float_at(&corrections, 0);
-            put(&mut corrections, 0, 0.0);
-        }
-        self.add(&corrections, values);
-        Ok(more)
+        equations.solve();
+        self.add(&equations, values);
+        Ok(equations.gain())
     }
 }

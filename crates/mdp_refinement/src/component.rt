@@ -1,11 +1,12 @@
 use crate::convert::{nearest, to_float};
-use crate::lists::{Groups, float_at, number, put, sum_over};
+use crate::lists::{
+    Groups, append, earned_by, end_at, float_at, item_at, number, number_at, part_of, put, sum_over,
+};
 use crate::outside::{Outside, Widening};
 use crate::rows::{Rows, WholeRow};
 use crate::strong::Components;
 use crate::value::{Value, value_at};
 use std::alloc::{AllocError, Global};
-use std::ops::Range;
 
 /// A row of a node of a component, in floats: `total` times the node's value is the row's reward, the sum of probability times value over the entries,
 /// and what goes to nodes outside or stops, with probability `exit`. The node's own entry is left out, so `total` is what remains of 1.
@@ -28,12 +29,18 @@ impl FloatRow {
     pub(crate) fn place(&self) -> usize {
         self.place as usize
     }
-
-    /// The places of its entries.
-    fn range(&self) -> Range<usize> {
-        self.first as usize..self.end as usize
-    }
 }
+
+/// A row of nothing.
+const NO_ROW: FloatRow = FloatRow {
+    node: u32::MAX,
+    place: u32::MAX,
+    first: 0,
+    end: 0,
+    exit: 0.0,
+    total: 0.0,
+    slack: 0.0,
+};
 
 /// A strong component with more than one node, in floats: its rows that lead to no node outside whose value isn't known. Nodes are named by their places in
 /// it, mostly behind those that they lead to; an entry is the place of a node and its probability.
@@ -44,144 +51,76 @@ pub(crate) struct Component {
     pub(crate) rows: Vec<FloatRow>,
     starts: Vec<usize>,
     entries: Vec<(u32, f64)>,
-    pub(crate) outside: Option<Outside>,
-}
-
-/// Gathers the rows of a component.
-#[derive(Drop)]
-struct Gathering<'a> {
-    whole_rows: &'a Rows,
-    components: &'a Components,
-    number: u32,
-    values: &'a [Value],
-    units: Vec<f64>,
-    rows: Vec<FloatRow>,
-    starts: Vec<usize>,
-    entries: Vec<(u32, f64)>,
-    pending: Vec<(u32, f64)>,
     outside: Widening,
 }
 
-impl Gathering<'_> {
-    /// Takes the entries of a row that stay in the component into `pending`, and gives the denominator of the row less what stays. None where the row leads to
-    /// a node outside whose value isn't known.
-    fn take_inside(
-        &mut self,
-        row: &WholeRow,
-        denominator: f64,
-    ) -> Result<Option<i128>, AllocError> {
-        self.pending.clear();
-        let mut leaving = row.denominator;
-        for entry in self.whole_rows.entries_of(row) {
-            if let Some(place) = self.components.place_in(self.number, entry.node) {
-                leaving = leaving.saturating_sub(entry.numerator());
-                if entry.node != row.node {
-                    self.pending
-                        .push((place, to_float(entry.numerator()) / denominator))?;
-                }
-            } else if value_at(self.values, entry.node).is_none() {
-                return Ok(None);
-            }
-        }
-        Ok(Some(leaving))
+/// What the rows of a component are gathered from.
+#[derive(Clone, Copy)]
+struct Source<'a> {
+    rows: &'a Rows,
+    components: &'a Components,
+    number: u32,
+    values: &'a [Value],
+}
+
+impl Source<'_> {
+    /// Whether a node lies in the component.
+    fn has(self, node: u32) -> bool {
+        self.components.of(node) == self.number
     }
 
-    /// Takes the entries of a row that stay in the component into `pending`, ordered by place, and gives the probability that leaves. None where the row leads
-    /// to a node outside whose value isn't known.
-    fn take_entries(&mut self, row: &WholeRow) -> Result<Option<f64>, AllocError> {
+    /// Whether a row leads to no node outside whose value isn't known.
+    fn is_known(self, row: &WholeRow) -> bool {
+        for entry in self.rows.entries_of(row) {
+            if !self.has(entry.node) && value_at(self.values, entry.node).is_none() {
+                return false;
+            }
+        }
+        true
+    }
+
+    /// The denominator of a row less what stays in the component.
+    fn leaving(self, row: &WholeRow) -> i128 {
+        let mut leaving = row.denominator;
+        for entry in self.rows.entries_of(row) {
+            if self.has(entry.node) {
+                leaving = leaving.saturating_sub(entry.numerator());
+            }
+        }
+        leaving
+    }
+
+    /// Appends the entries of a row to other nodes of the component.
+    fn push_entries(self, row: &WholeRow, entries: &mut Vec<(u32, f64)>) -> Result<(), AllocError> {
         let denominator = to_float(row.denominator);
-        let Some(leaving) = self.take_inside(row, denominator)? else {
-            return Ok(None);
-        };
-        self.pending.sort_unstable_by_key(|entry| entry.0);
-        self.take_outside(row, leaving);
-        Ok(Some(to_float(leaving) / denominator))
+        for entry in self.rows.entries_of(row) {
+            if entry.node != row.node && self.has(entry.node) {
+                let prob = to_float(entry.numerator()) / denominator;
+                entries.push((self.components.place_of(entry.node), prob))?;
+            }
+        }
+        Ok(())
     }
 
     /// Whether the row stops with a value that needs no rounding.
-    fn is_exact(&self, row: &WholeRow) -> bool {
-        let unit = self.whole_rows.unit_of(row.node);
-        row.is_stop() && row.reward.checked_rem(unit) == Some(0)
+    fn is_exact(self, row: &WholeRow) -> bool {
+        row.is_stop() && row.reward.checked_rem(self.rows.unit_of(row.node)) == Some(0)
     }
 
-    /// Takes in where a row leads out, or stops, and what it earns, where so much of its denominator leads out.
-    fn take_outside(&mut self, row: &WholeRow, leaving: i128) {
+    /// What leads out of the component, also by a row of which so much of the denominator leads out.
+    fn widened(self, outside: Widening, row: &WholeRow, leaving: i128) -> Widening {
         if row.is_stop() {
-            self.outside.take(row.reward);
-            return;
+            return outside.with(row.reward);
         }
-        self.outside.take_reward(row.reward);
+        let mut wider = outside.with_reward(row.reward);
         if leaving != 0 {
-            self.take_values_outside(row);
-        }
-    }
-
-    /// Takes in the values of the nodes outside to which a row leads.
-    fn take_values_outside(&mut self, row: &WholeRow) {
-        for entry in self.whole_rows.entries_of(row) {
-            if self.components.of(entry.node) != self.number {
-                if let Some(value) = value_at(self.values, entry.node) {
-                    self.outside.take(value);
+            for entry in self.rows.entries_of(row) {
+                if !self.has(entry.node) {
+                    wider = wider.with(value_at(self.values, entry.node).unwrap_or(0));
                 }
             }
         }
-    }
-
-    /// The sum of a first number and of the probabilities in `pending`, and what rounding of the values to their units may cost in a row of the node at a
-    /// place of the component.
-    fn weigh(&self, first: f64, node: u32, row: &WholeRow) -> (f64, f64) {
-        let mut total = first;
-        let mut rounding = 0.0;
-        for (place, prob) in &self.pending {
-            total += *prob;
-            rounding += *prob * float_at(&self.units, *place);
-        }
-        if !self.is_exact(row) {
-            rounding += total * float_at(&self.units, node);
-        }
-        (total, rounding / 2.0)
-    }
-
-    /// Appends the row at a place, of the node at a place of the component, if it leads to no node outside whose value isn't known.
-    fn push(&mut self, node: u32, place: usize, row: &WholeRow) -> Result<(), AllocError> {
-        let Some(exit) = self.take_entries(row)? else {
-            return Ok(());
-        };
-        let (total, slack) = self.weigh(exit, node, row);
-        let first = number(self.entries.len());
-        self.entries.extend_from_slice(&self.pending)?;
-        self.rows.push(FloatRow {
-            node,
-            place: number(place),
-            first,
-            end: number(self.entries.len()),
-            exit,
-            total,
-            slack,
-        })?;
-        Ok(())
-    }
-
-    /// Appends the rows of a node, which has a place in the component.
-    fn push_node(&mut self, place: u32, node: u32) -> Result<(), AllocError> {
-        let whole_rows = self.whole_rows;
-        let (from, to) = whole_rows.range_of(node);
-        for at in from..to {
-            if let Some(row) = whole_rows.row(at) {
-                self.push(place, at, row)?;
-            }
-        }
-        Ok(())
-    }
-
-    /// Appends the rows of all nodes, and where those of each begin, and behind the last node where they end.
-    fn push_nodes(&mut self, nodes: &[u32]) -> Result<(), AllocError> {
-        for (place, node) in nodes.iter().enumerate() {
-            self.starts.push(self.rows.len())?;
-            self.push_node(number(place), *node)?;
-        }
-        self.starts.push(self.rows.len())?;
-        Ok(())
+        wider
     }
 }
 
@@ -196,13 +135,11 @@ fn sizes_of(rows: &Rows, nodes: &[u32]) -> (usize, usize) {
     (most_rows, most_entries)
 }
 
-/// The units of nodes, in floats.
-fn units_of(alloc: Global, rows: &Rows, nodes: &[u32]) -> Result<Vec<f64>, AllocError> {
-    let mut units = Vec::new(alloc);
-    for node in nodes {
-        units.push(to_float(rows.unit_of(*node)))?;
+/// Puts the units of nodes, in floats.
+fn put_units(units: &mut [f64], rows: &Rows, nodes: &[u32]) {
+    for place in 0..units.len().min(nodes.len()) {
+        units[place] = to_float(rows.unit_of(nodes[place]));
     }
-    Ok(units)
 }
 
 /// The value that is so many units more, rounded to them. None past 128 bits, or where one isn't a number.
@@ -212,6 +149,84 @@ fn moved(value: Option<i128>, steps: f64, unit: i128) -> Option<i128> {
 }
 
 impl Component {
+    /// The sum of a first number and of the probabilities of the entries from a place on, and what rounding of the values to their units may cost in
+    /// such a row of the node at a place; that isn't rounded itself where it is exact.
+    fn weigh(&self, exit: f64, from: usize, node: u32, is_exact: bool) -> (f64, f64) {
+        let mut total = exit;
+        let mut rounding = 0.0;
+        for entry in part_of(&self.entries, from, self.entries.len()) {
+            total += entry.1;
+            rounding += entry.1 * float_at(&self.units, entry.0);
+        }
+        if !is_exact {
+            rounding += total * float_at(&self.units, node);
+        }
+        (total, rounding / 2.0)
+    }
+
+    /// Appends a row of the node at a place, which stands at another place of all rows. It leads to no node outside whose value isn't known.
+    fn push(
+        &mut self,
+        source: Source<'_>,
+        node: u32,
+        place: usize,
+        row: &WholeRow,
+    ) -> Result<(), AllocError> {
+        let from = self.entries.len();
+        source.push_entries(row, &mut self.entries)?;
+        if let Some(entries) = self.entries.as_mut_slice().get_mut(from..) {
+            entries.sort_unstable_by_key(|entry| entry.0);
+        }
+        let leaving = source.leaving(row);
+        self.outside = source.widened(self.outside, row, leaving);
+        let exit = to_float(leaving) / to_float(row.denominator);
+        let (total, slack) = self.weigh(exit, from, node, source.is_exact(row));
+        let row = FloatRow {
+            node,
+            place: number(place),
+            first: number(from),
+            end: number(self.entries.len()),
+            exit,
+            total,
+            slack,
+        };
+        append(&mut self.rows, row)
+    }
+
+    /// Appends the rows of the node at a place.
+    fn push_node(&mut self, source: Source<'_>, place: u32) -> Result<(), AllocError> {
+        let (from, to) = source.rows.range_of(number_at(&self.nodes, place));
+        for at in from..to {
+            match source.rows.row(at) {
+                Some(row) if source.is_known(row) => self.push(source, place, at, row)?,
+                _ => {}
+            }
+        }
+        Ok(())
+    }
+
+    /// Appends the rows of all nodes, and where those of each begin, and behind the last node where they end.
+    fn push_nodes(&mut self, source: Source<'_>) -> Result<(), AllocError> {
+        for place in 0..number(self.nodes.len()) {
+            append(&mut self.starts, self.rows.len())?;
+            self.push_node(source, place)?;
+        }
+        append(&mut self.starts, self.rows.len())
+    }
+
+    /// These nodes, without rows, but with memory for them.
+    fn empty(alloc: Global, rows: &Rows, nodes: &[u32]) -> Result<Component, AllocError> {
+        let (most_rows, most_entries) = sizes_of(rows, nodes);
+        Ok(Component {
+            nodes: nodes.to_vec(alloc)?,
+            units: vec![in alloc; 0.0; nodes.len()]?,
+            rows: Vec::with_capacity(alloc, most_rows)?,
+            starts: Vec::new(alloc),
+            entries: Vec::with_capacity(alloc, most_entries)?,
+            outside: Widening::empty(),
+        })
+    }
+
     /// The component of this number.
     pub(crate) fn new(
         alloc: Global,
@@ -220,47 +235,39 @@ impl Component {
         component: usize,
         values: &[Value],
     ) -> Result<Component, AllocError> {
-        let nodes = components.nodes_of(component).to_vec(alloc)?;
-        let (most_rows, most_entries) = sizes_of(rows, &nodes);
-        let mut gathering = Gathering {
-            whole_rows: rows,
+        let mut found = Component::empty(alloc, rows, components.nodes_of(component))?;
+        found.rescale(rows);
+        let source = Source {
+            rows,
             components,
             number: number(component),
             values,
-            units: units_of(alloc, rows, &nodes)?,
-            rows: Vec::with_capacity(alloc, most_rows)?,
-            starts: Vec::new(alloc),
-            entries: Vec::with_capacity(alloc, most_entries)?,
-            pending: Vec::new(alloc),
-            outside: Widening::empty(),
         };
-        gathering.push_nodes(&nodes)?;
-        Ok(Component {
-            nodes,
-            units: gathering.units,
-            rows: gathering.rows,
-            starts: gathering.starts,
-            entries: gathering.entries,
-            outside: gathering.outside.outside(),
-        })
+        found.push_nodes(source)?;
+        Ok(found)
     }
 
-    /// Takes the units of its nodes from rows that were written for another scale. What rounding may cost stays that of the first scale.
+    /// Takes the units of its nodes from rows, which may be written for another scale. What rounding may cost stays that of the first scale.
     pub(crate) fn rescale(&mut self, rows: &Rows) {
-        for (unit, node) in self.units.iter_mut().zip(&self.nodes) {
-            *unit = to_float(rows.unit_of(*node));
-        }
+        put_units(&mut self.units, rows, &self.nodes);
     }
 
-    /// Adds corrections to the values of its nodes, rounded to their units. None where one is past 128 bits or not a number.
-    pub(crate) fn add(&self, rows: &Rows, corrections: &[f64], values: &mut [Value]) -> Option<()> {
-        for (place, node) in self.nodes.iter().enumerate() {
-            let at = number(place);
-            let steps = float_at(corrections, at) / float_at(&self.units, at);
-            let sum = moved(value_at(values, *node), steps, rows.unit_of(*node))?;
-            put(values, *node, Value::known(sum));
+    /// Adds corrections to the values of its nodes, rounded to their units. Not where one is past 128 bits or not a number: whether none was.
+    pub(crate) fn add(&self, rows: &Rows, corrections: &[f64], values: &mut [Value]) -> bool {
+        for place in 0..number(self.nodes.len()) {
+            let node = number_at(&self.nodes, place);
+            let steps = float_at(corrections, place) / float_at(&self.units, place);
+            match moved(value_at(values, node), steps, rows.unit_of(node)) {
+                Some(sum) => put(values, node, Value::known(sum)),
+                None => return false,
+            }
         }
-        Some(())
+        true
+    }
+
+    /// What leads out of it, if anything does.
+    pub(crate) fn outside(&self) -> Option<Outside> {
+        self.outside.outside()
     }
 
     /// How many nodes there are.
@@ -275,16 +282,15 @@ impl Component {
 
     /// Where the rows of the node at a place begin and end.
     pub(crate) fn range_of(&self, place: usize) -> (usize, usize) {
-        let from = self.starts.get(place).copied().unwrap_or(0);
-        let to = self.starts.get(place.saturating_add(1)).copied();
-        (from, to.unwrap_or(0))
+        let to = end_at(&self.starts, place.saturating_add(1));
+        (end_at(&self.starts, place), to)
     }
 
     /// Which of the rows of the node at a place stands at this place of all rows.
     pub(crate) fn row_of(&self, place: usize, pick: usize) -> Option<usize> {
         let (from, to) = self.range_of(place);
         for at in from..to {
-            if self.rows.get(at)?.place() == pick {
+            if self.pick_at(at) == Some(pick) {
                 return Some(at);
             }
         }
@@ -293,40 +299,38 @@ impl Component {
 
     /// The entries of a row, ordered by place.
     pub(crate) fn entries_of(&self, row: &FloatRow) -> &[(u32, f64)] {
-        self.entries.get(row.range()).unwrap_or(&[])
+        part_of(&self.entries, row.first as usize, row.end as usize)
+    }
+
+    /// The row at a place, one of nothing where there is no such row.
+    pub(crate) fn row_at(&self, place: usize) -> FloatRow {
+        item_at(&self.rows, place, NO_ROW)
     }
 
     /// The entries of the row at a place, none where there is no such row.
     pub(crate) fn entries_at(&self, place: usize) -> &[(u32, f64)] {
-        match self.rows.get(place) {
-            Some(row) => self.entries_of(row),
-            None => &[],
-        }
+        self.entries_of(&self.row_at(place))
     }
 
     /// What the row at a place gives to nodes outside, 0 where there is no such row.
     pub(crate) fn exit_at(&self, place: usize) -> f64 {
-        match self.rows.get(place) {
-            Some(row) => row.exit,
-            None => 0.0,
-        }
+        self.row_at(place).exit
     }
 
     /// The place of the whole row of the row at a place, if there is such a row.
     pub(crate) fn pick_at(&self, place: usize) -> Option<usize> {
-        Some(self.rows.get(place)?.place())
-    }
-
-    /// The row at a place, and what it earns.
-    pub(crate) fn earning(&self, place: usize, gains: &[f64]) -> Option<(&FloatRow, f64)> {
-        Some((self.rows.get(place)?, gains.get(place).copied()?))
+        if place < self.rows.len() {
+            Some(self.rows[place].place())
+        } else {
+            None
+        }
     }
 
     /// The places of the rows that have an entry to each node.
     pub(crate) fn leading(&self, alloc: Global) -> Result<Groups, AllocError> {
         let mut leading = Groups::with_places(alloc, &self.entries, self.nodes.len())?;
-        for (place, row) in self.rows.iter().enumerate() {
-            leading.put_each(self.entries_of(row), number(place));
+        for place in 0..self.rows.len() {
+            leading.put_each(self.entries_at(place), number(place));
         }
         Ok(leading)
     }
@@ -357,5 +361,24 @@ impl Component {
     /// What a row that earns so much over the gain has over the value of its node, from values within the component.
     pub(crate) fn over(&self, row: &FloatRow, earned: f64, values: &[f64]) -> f64 {
         self.sum(row, earned, values) - row.total * float_at(values, row.node)
+    }
+
+    /// What the row at a place has over the value of its node, where the rows earn this, from values within the component.
+    pub(crate) fn gained(&self, place: usize, gains: &[f64], values: &[f64]) -> f64 {
+        self.over(&self.row_at(place), earned_by(gains, place), values)
+    }
+
+    /// Adds to the gain of each row what it has over the value of its node, where it earns this.
+    pub(crate) fn add_over(&self, gains: &mut [f64], earned: f64, values: &[f64]) {
+        for at in 0..gains.len().min(self.rows.len()) {
+            gains[at] += self.over(&self.rows[at], earned, values);
+        }
+    }
+
+    /// Picks for each of its nodes the whole row of a policy's.
+    pub(crate) fn pick(&self, policy: &[usize], picks: &mut [Option<usize>]) {
+        for place in 0..self.nodes.len().min(policy.len()) {
+            put(picks, self.nodes[place], self.pick_at(policy[place]));
+        }
     }
 }

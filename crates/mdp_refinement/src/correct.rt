@@ -4,8 +4,8 @@ use crate::chain::{Chain, Visits};
 use crate::coarse::Grouping;
 use crate::component::Component;
 use crate::eliminate::{Elimination, Factors, eliminated, most_products};
-use crate::leaving::proper;
-use crate::lists::{Groups, earned_by, float_at, number, put};
+use crate::leaving::Leaving;
+use crate::lists::{Groups, copy_over, earned_by, item_at, put_earned, set_at};
 use crate::sweeps::{Change, FEW_SWEEPS, Forecast, Outlook, Progress, WINDOW, many_sweeps};
 use std::alloc::{AllocError, Global};
 
@@ -43,21 +43,147 @@ enum Way {
     ManySweeps(usize),
 }
 
-/// The search for corrections, with the policy that it has come to.
-#[derive(Drop)]
-pub(crate) struct Corrector<'a> {
+/// The rows of which corrections are sought, whether greater values are better or less, the least unit of a node, and a policy from which each node leaves.
+#[derive(Clone, Copy)]
+struct Setting<'a> {
     component: &'a Component,
-    leading: &'a Groups,
     sense: f64,
     unit: f64,
-    way: Way,
     start: &'a [usize],
+}
+
+impl Setting<'_> {
+    /// The best value of the node at a place, and the row that gives it.
+    fn best(self, gains: &[f64], place: usize, values: &[f64]) -> Option<(f64, usize)> {
+        let (from, to) = self.component.range_of(place);
+        let mut best = None;
+        for at in from..to {
+            let row = self.component.row_at(at);
+            let value = self.component.sum(&row, earned_by(gains, at), values) / row.total;
+            match best {
+                Some((old, _)) if !((value - old) * self.sense > 0.0) => {}
+                _ => best = Some((value, at)),
+            }
+        }
+        best
+    }
+
+    /// Gives each node its best value in turn, and its row in `greedy`.
+    fn sweep(self, gains: &[f64], values: &mut [f64], greedy: &mut [usize]) -> Change {
+        let mut change = Change::none();
+        for place in 0..values.len() {
+            if let Some((value, row)) = self.best(gains, place, values) {
+                change.take(values[place], value, 0.0);
+                set_at(values, place, value);
+                set_at(greedy, place, row);
+            }
+        }
+        change
+    }
+
+    /// Sweeps until the changes are small, at most so many times. Whether they became so.
+    fn sweep_some(
+        self,
+        gains: &[f64],
+        sweeps: usize,
+        values: &mut [f64],
+        greedy: &mut [usize],
+    ) -> bool {
+        for _ in 0..sweeps {
+            if self
+                .sweep(gains, values, greedy)
+                .is_small(self.unit, SWEEP_LOSS)
+            {
+                return true;
+            }
+        }
+        false
+    }
+
+    /// Sweeps three times more. What all further changes come to, as a multiple of the last one, where they shrink evenly.
+    fn sweep_evenly(
+        self,
+        gains: &[f64],
+        values: &mut [f64],
+        greedy: &mut [usize],
+        before: &mut [f64],
+    ) -> Option<f64> {
+        let first = self.sweep(gains, values, greedy).most;
+        let second = self.sweep(gains, values, greedy).most;
+        copy_over(before, values);
+        further(first, second, self.sweep(gains, values, greedy).most)
+    }
+
+    /// Sweeps many times, and lets the values go on where changes shrink evenly.
+    fn sweep_far(
+        self,
+        gains: &[f64],
+        sweeps: usize,
+        values: &mut [f64],
+        greedy: &mut [usize],
+        before: &mut [f64],
+    ) {
+        values.fill(0.0);
+        for _ in 0..sweeps / WINDOW {
+            if self.sweep_some(gains, EVEN_SWEEPS, values, greedy) {
+                break;
+            }
+            if let Some(more) = self.sweep_evenly(gains, values, greedy, before) {
+                go_on(values, more, before);
+            }
+        }
+        self.sweep_some(gains, EVEN_SWEEPS, values, greedy);
+    }
+
+    /// The row of the node at a place that gains most over the policy's, where it gains enough.
+    fn improved(self, gains: &[f64], place: usize, chosen: usize, values: &[f64]) -> Option<usize> {
+        let value = item_at(values, place, 0.0);
+        let mut best = (self.unit * SMALL_GAIN).max(value.abs() * GAIN_LOSS);
+        let mut better = None;
+        let (from, to) = self.component.range_of(place);
+        for at in from..to {
+            let more = self.component.gained(at, gains, values) * self.sense;
+            if at != chosen && more > best {
+                best = more;
+                better = Some(at);
+            }
+        }
+        better
+    }
+
+    /// Improves a policy by its values. Whether it changed.
+    fn improve(self, gains: &[f64], values: &[f64], policy: &mut [usize]) -> bool {
+        let mut is_changed = false;
+        for place in 0..policy.len() {
+            if let Some(row) = self.improved(gains, place, policy[place], values) {
+                set_at(policy, place, row);
+                is_changed = true;
+            }
+        }
+        is_changed
+    }
+}
+
+/// Adds to each value this multiple of what it has over the one before.
+fn go_on(values: &mut [f64], more: f64, before: &[f64]) {
+    for place in 0..values.len().min(before.len()) {
+        values[place] += more * (values[place] - before[place]);
+    }
+}
+
+/// The search for corrections, with the policy that it has come to. Between calls `spare` and `leaving` have nothing that is needed.
+#[derive(Drop)]
+pub(crate) struct Corrector<'a> {
+    setting: Setting<'a>,
+    way: Way,
     policy: Vec<usize>,
     values: Vec<f64>,
     factors: Option<Factors>,
     factors_policy: Vec<usize>,
     products_left: usize,
     grouping: Grouping,
+    spare: Vec<f64>,
+    leaving: Leaving<'a>,
 }
 
 impl<'a> Corrector<'a> {
@@ -69,23 +195,28 @@ impl<'a> Corrector<'a> {
         sense: f64,
         start: &'a [usize],
     ) -> Result<Corrector<'a>, AllocError> {
-        Ok(Corrector {
+        let setting = Setting {
             component,
-            leading,
             sense,
             unit: component.least_unit(),
-            way: if component.len() > FEW_NODES {
+            start,
+        };
+        let nodes = component.len();
+        Ok(Corrector {
+            setting,
+            way: if nodes > FEW_NODES {
                 Way::FewSweeps
             } else {
                 Way::Policies
             },
-            start,
             policy: start.to_vec(alloc)?,
-            values: vec![in alloc; 0.0; component.len()]?,
+            values: vec![in alloc; 0.0; nodes]?,
             factors: None,
-            factors_policy: Vec::new(alloc),
-            products_left: most_products(component.len()),
-            grouping: Grouping::new(alloc, component.len())?,
+            factors_policy: start.to_vec(alloc)?,
+            products_left: most_products(nodes),
+            grouping: Grouping::new(alloc, nodes)?,
+            spare: vec![in alloc; 0.0; nodes]?,
+            leaving: Leaving::new(alloc, component, leading, start)?,
         })
     }
 
@@ -99,85 +230,35 @@ impl<'a> Corrector<'a> {
         &self.values
     }
 
-    /// The best value of the node at a place, and the row that gives it.
-    fn best(&self, gains: &[f64], place: usize) -> Option<(f64, usize)> {
-        let (from, to) = self.component.range_of(place);
-        let mut best = None;
-        for at in from..to {
-            let (row, gain) = self.component.earning(at, gains)?;
-            let value = self.component.sum(row, gain, &self.values) / row.total;
-            match best {
-                Some((old, _)) if !((value - old) * self.sense > 0.0) => {}
-                _ => best = Some((value, at)),
-            }
-        }
-        best
-    }
-
-    /// Gives each node its best value in turn, and its row in `greedy`.
-    fn sweep(&mut self, gains: &[f64], greedy: &mut [usize]) -> Change {
-        let mut change = Change::none();
-        for place in 0..self.values.len() {
-            if let Some((value, row)) = self.best(gains, place) {
-                let node = number(place);
-                change.take(float_at(&self.values, node), value, 0.0);
-                put(&mut self.values, node, value);
-                put(greedy, node, row);
-            }
-        }
-        change
-    }
-
-    /// Sweeps until the changes are small, at most so many times. Whether they became so.
-    fn sweep_some(&mut self, gains: &[f64], sweeps: usize, greedy: &mut [usize]) -> bool {
-        for _ in 0..sweeps {
-            let change = self.sweep(gains, greedy);
-            if change.is_small(self.unit, SWEEP_LOSS) {
-                return true;
-            }
-        }
-        false
-    }
-
-    /// Adds to each value this multiple of what it has over the one before.
-    fn go_on(&mut self, more: f64, before: &[f64]) {
-        for (value, old) in self.values.iter_mut().zip(before) {
-            *value += more * (*value - *old);
-        }
-    }
-
-    /// Corrects the values by groups of nodes whose values change alike in a sweep along these rows.
-    fn correct_groups(
-        &mut self,
-        alloc: Global,
-        gains: &[f64],
-        greedy: &[usize],
-    ) -> Result<(), AllocError> {
+    /// Corrects the values by groups of nodes whose values change alike in a sweep along the policy's rows.
+    fn correct_groups(&mut self, alloc: Global, gains: &[f64]) -> Result<(), AllocError> {
         let mut chain = Chain::empty(alloc);
-        chain.take(self.component, greedy, gains, 1.0, LEAST_TOTAL)?;
-        let visits = Visits::few(alloc, &chain, greedy.len())?.visits;
+        chain.take(
+            self.setting.component,
+            &self.policy,
+            gains,
+            1.0,
+            LEAST_TOTAL,
+        )?;
+        let visits = Visits::few(alloc, &chain, self.policy.len())?.visits;
         self.grouping
             .correct(alloc, &chain, &visits, None, &mut self.values)?;
         Ok(())
     }
 
-    /// Sweeps until the changes are small. Whether they became so. Where a forecast says that they won't, groups of nodes are corrected; it stops where that
-    /// makes the changes hardly smaller.
-    fn sweep_on(
-        &mut self,
-        alloc: Global,
-        gains: &[f64],
-        greedy: &mut [usize],
-    ) -> Result<bool, AllocError> {
+    /// Sweeps until the changes are small, and takes the best rows for the policy. Whether they became so. Where a forecast says that they won't, groups of nodes
+    /// are corrected; it stops where that makes the changes hardly smaller.
+    fn sweep_on(&mut self, alloc: Global, gains: &[f64]) -> Result<bool, AllocError> {
+        let setting = self.setting;
         self.values.fill(0.0);
-        let mut forecast = Forecast::new(FEW_SWEEPS, self.unit, SWEEP_LOSS);
+        let mut forecast = Forecast::new(FEW_SWEEPS, setting.unit, SWEEP_LOSS);
         let mut progress = Progress::none();
         for sweep in 0..FEW_SWEEPS {
-            let change = self.sweep(gains, greedy);
+            let change = setting.sweep(gains, &mut self.values, &mut self.policy);
             match forecast.after(sweep, change) {
                 Outlook::Settled => return Ok(true),
                 Outlook::Hopeless if progress.goes_on(change.most) => {
-                    self.correct_groups(alloc, gains, greedy)?;
+                    self.correct_groups(alloc, gains)?;
                     forecast.begin_anew();
                 }
                 Outlook::Hopeless => return Ok(false),
@@ -187,116 +268,49 @@ impl<'a> Corrector<'a> {
         Ok(false)
     }
 
-    /// Sweeps three times more. What all further changes come to, as a multiple of the last one, where they shrink evenly.
-    fn sweep_evenly(
-        &mut self,
-        gains: &[f64],
-        greedy: &mut [usize],
-        before: &mut [f64],
-    ) -> Option<f64> {
-        let first = self.sweep(gains, greedy).most;
-        let second = self.sweep(gains, greedy).most;
-        for (old, value) in before.iter_mut().zip(&self.values) {
-            *old = *value;
-        }
-        further(first, second, self.sweep(gains, greedy).most)
-    }
-
-    /// Sweeps many times, and lets the values go on where changes shrink evenly.
-    fn sweep_far(
-        &mut self,
-        alloc: Global,
-        gains: &[f64],
-        sweeps: usize,
-        greedy: &mut [usize],
-    ) -> Result<(), AllocError> {
-        let mut before = vec![in alloc; 0.0; self.values.len()]?;
-        self.values.fill(0.0);
-        for _ in 0..sweeps / WINDOW {
-            if self.sweep_some(gains, EVEN_SWEEPS, greedy) {
-                break;
-            }
-            if let Some(more) = self.sweep_evenly(gains, greedy, &mut before) {
-                self.go_on(more, &before);
-            }
-        }
-        self.sweep_some(gains, EVEN_SWEEPS, greedy);
-        Ok(())
-    }
-
-    /// Takes these rows for the policy, but those to begin with at the nodes from which they don't leave.
-    fn take(&mut self, alloc: Global, greedy: &[usize]) -> Result<(), AllocError> {
-        self.policy = proper(alloc, self.component, self.leading, greedy, self.start)?;
-        Ok(())
-    }
-
-    /// Corrections by few sweeps. Whether they came to an end.
+    /// Corrections by few sweeps. Whether they came to an end. The policy has the best rows, but those to begin with at the nodes from which they don't leave.
     fn by_few_sweeps(&mut self, alloc: Global, gains: &[f64]) -> Result<bool, AllocError> {
-        let mut greedy = self.start.to_vec(alloc)?;
-        let is_settled = self.sweep_on(alloc, gains, &mut greedy)?;
-        self.take(alloc, &greedy)?;
+        let start = self.setting.start;
+        copy_over(&mut self.policy, start);
+        let is_settled = self.sweep_on(alloc, gains)?;
+        self.leaving.make_proper(&mut self.policy, start);
         Ok(is_settled)
     }
 
-    /// Corrections by many sweeps.
-    fn by_many_sweeps(
-        &mut self,
-        alloc: Global,
-        gains: &[f64],
-        sweeps: usize,
-    ) -> Result<(), AllocError> {
-        let mut greedy = self.start.to_vec(alloc)?;
-        self.sweep_far(alloc, gains, sweeps, &mut greedy)?;
-        self.take(alloc, &greedy)
+    /// Corrections by many sweeps. The policy has the best rows, but those to begin with at the nodes from which they don't leave.
+    fn by_many_sweeps(&mut self, gains: &[f64], sweeps: usize) {
+        let setting = self.setting;
+        let policy = self.policy.as_mut_slice();
+        copy_over(policy, setting.start);
+        setting.sweep_far(gains, sweeps, &mut self.values, policy, &mut self.spare);
+        self.leaving.make_proper(policy, setting.start);
     }
 
-    /// The row of the node at a place that gains most over the policy's, where it gains enough.
-    fn improved(&self, gains: &[f64], place: usize, chosen: usize) -> Option<usize> {
-        let value = float_at(&self.values, number(place));
-        let mut best = (self.unit * SMALL_GAIN).max(value.abs() * GAIN_LOSS);
-        let mut better = None;
-        let (from, to) = self.component.range_of(place);
-        for at in from..to {
-            let (row, gain) = self.component.earning(at, gains)?;
-            let more = self.component.over(row, gain, &self.values) * self.sense;
-            if at != chosen && more > best {
-                best = more;
-                better = Some(at);
-            }
+    /// The values of the policy, of which the factors are at hand.
+    fn evaluate(&mut self, gains: &[f64]) {
+        put_earned(&mut self.spare, &self.policy, gains, 0.0);
+        if let Some(factors) = &self.factors {
+            factors.solve(&mut self.spare, &mut self.values);
         }
-        better
     }
 
     /// Improves the policy by the values. Whether it changed.
     fn improve(&mut self, gains: &[f64]) -> bool {
-        let mut is_changed = false;
-        for place in 0..self.policy.len() {
-            let chosen = self.policy.get(place).copied().unwrap_or(0);
-            if let Some(row) = self.improved(gains, place, chosen) {
-                put(&mut self.policy, number(place), row);
-                is_changed = true;
-            }
-        }
-        is_changed
-    }
-
-    /// The values of the policy, of which the factors are at hand.
-    fn evaluate(&mut self, alloc: Global, gains: &[f64]) -> Result<(), AllocError> {
-        let mut own = Vec::new(alloc);
-        for row in &self.policy {
-            own.push(earned_by(gains, *row))?;
-        }
-        if let Some(factors) = &self.factors {
-            factors.solve(&mut own, &mut self.values);
-        }
-        Ok(())
+        self.setting.improve(gains, &self.values, &mut self.policy)
     }
 
     /// Corrections by sweeps alone from now on, since elimination takes too long.
-    fn give_up_policies(&mut self, alloc: Global, gains: &[f64]) -> Result<(), AllocError> {
-        let sweeps = many_sweeps(self.component.size());
+    fn give_up_policies(&mut self, gains: &[f64]) {
+        let sweeps = many_sweeps(self.setting.component.size());
         self.way = Way::ManySweeps(sweeps);
-        self.by_many_sweeps(alloc, gains, sweeps)
+        self.by_many_sweeps(gains, sweeps);
+    }
+
+    /// Keeps the factors of the policy.
+    fn keep(&mut self, factors: Factors) {
+        self.products_left = self.products_left.saturating_sub(factors.products);
+        self.factors = Some(factors);
+        copy_over(&mut self.factors_policy, &self.policy);
     }
 
     /// Has the factors of the policy at hand. An improper policy gives way to the last one that was proper.
@@ -304,15 +318,18 @@ impl<'a> Corrector<'a> {
         if self.factors.is_some() && self.factors_policy == self.policy {
             return Ok(Factored::Same);
         }
-        match eliminated(alloc, self.component, &self.policy, self.products_left)? {
+        match eliminated(
+            alloc,
+            self.setting.component,
+            &self.policy,
+            self.products_left,
+        )? {
             Elimination::Done(factors) => {
-                self.products_left = self.products_left.saturating_sub(factors.products);
-                self.factors = Some(factors);
-                self.factors_policy = self.policy.clone()?;
+                self.keep(factors);
                 Ok(Factored::New)
             }
             Elimination::Improper if self.factors.is_some() => {
-                self.policy = self.factors_policy.clone()?;
+                copy_over(&mut self.policy, &self.factors_policy);
                 Ok(Factored::Back)
             }
             Elimination::Improper => Ok(Factored::Failed),
@@ -327,10 +344,10 @@ impl<'a> Corrector<'a> {
             match factored {
                 Factored::Failed => return Ok(false),
                 Factored::Dense => {
-                    self.give_up_policies(alloc, gains)?;
+                    self.give_up_policies(gains);
                     return Ok(true);
                 }
-                _ => self.evaluate(alloc, gains)?,
+                _ => self.evaluate(gains),
             }
             if matches!(factored, Factored::Back) || !self.improve(gains) {
                 break;
@@ -351,7 +368,7 @@ impl<'a> Corrector<'a> {
             }
             Way::Policies => self.by_policies(alloc, gains),
             Way::ManySweeps(sweeps) => {
-                self.by_many_sweeps(alloc, gains, sweeps)?;
+                self.by_many_sweeps(gains, sweeps);
                 Ok(true)
             }
         }

@@ -1,10 +1,9 @@
 //! Elimination of the last nodes of a component, where most have an entry to most others: a row is the list of all probabilities, so that a product takes a
 //! fraction of the time that one of two lists of entries takes.
 
-use crate::eliminate::{Entries, Step};
-use crate::lists::{add_at, float_at, number, number_at, put};
+use crate::eliminate::{Entries, Step, take_list};
+use crate::lists::{add_at, float_at, item_at, number, number_at, part_of, put};
 use std::alloc::{AllocError, Global};
-use std::mem;
 
 /// The nodes that are left; for each the probabilities that it gives to them, in their order, and what it gives to nodes outside.
 #[derive(Drop)]
@@ -17,33 +16,30 @@ pub(crate) struct Matrix {
 /// The place of each of these nodes, of so many in all; the greatest number for the others.
 fn places_of(alloc: Global, nodes: &[u32], all: usize) -> Result<Vec<u32>, AllocError> {
     let mut places = vec![in alloc; u32::MAX; all]?;
-    for (place, node) in nodes.iter().enumerate() {
-        put(&mut places, *node, number(place));
+    for place in 0..nodes.len() {
+        put(&mut places, nodes[place], number(place));
     }
     Ok(places)
 }
 
-/// The probabilities of a node's entries, each at the place of the node that it leads to, of so many places.
+/// The probabilities of entries, each at the place of the node that it leads to, of so many places.
 fn probs_of(
     alloc: Global,
-    rows: &[Entries],
-    node: u32,
+    entries: &[(u32, f64)],
     places: &[u32],
     count: usize,
 ) -> Result<Vec<f64>, AllocError> {
     let mut probs = vec![in alloc; 0.0; count]?;
-    if let Some(entries) = rows.get(node as usize) {
-        for (target, prob) in entries {
-            put(&mut probs, number_at(places, *target), *prob);
-        }
+    for entry in entries {
+        put(&mut probs, number_at(places, entry.0), entry.1);
     }
     Ok(probs)
 }
 
 /// Adds to each sum so many times the number at its place.
 fn add_times(sums: &mut [f64], times: f64, numbers: &[f64]) {
-    for (sum, number) in sums.iter_mut().zip(numbers) {
-        *sum += times * *number;
+    for place in 0..sums.len().min(numbers.len()) {
+        sums[place] += times * numbers[place];
     }
 }
 
@@ -56,20 +52,27 @@ fn sum_of(numbers: &[f64]) -> f64 {
     sum
 }
 
+/// Puts what each of some nodes gives to nodes outside, of all exits.
+fn put_exits(own: &mut [f64], nodes: &[u32], exits: &[f64]) {
+    for place in 0..own.len().min(nodes.len()) {
+        own[place] = float_at(exits, nodes[place]);
+    }
+}
+
 impl Matrix {
-    /// Appends the row of each node, of all those with rows and exits.
+    /// Appends the row of each node, of all those with rows.
     fn push_rows(
         &mut self,
         alloc: Global,
         rows: &[Entries],
-        exits: &[f64],
         places: &[u32],
     ) -> Result<(), AllocError> {
-        let count = self.nodes.len();
         for node in &self.nodes {
-            self.rows
-                .push(probs_of(alloc, rows, *node, places, count)?)?;
-            self.exits.push(float_at(exits, *node))?;
+            let place = *node as usize;
+            if place < rows.len() {
+                let probs = probs_of(alloc, &rows[place], places, self.nodes.len())?;
+                self.rows.push(probs)?;
+            }
         }
         Ok(())
     }
@@ -81,23 +84,24 @@ impl Matrix {
         rows: &[Entries],
         exits: &[f64],
     ) -> Result<Matrix, AllocError> {
+        let places = places_of(alloc, &nodes, rows.len())?;
         let mut matrix = Matrix {
+            exits: vec![in alloc; 0.0; nodes.len()]?,
             nodes,
             rows: Vec::new(alloc),
-            exits: Vec::new(alloc),
         };
-        let places = places_of(alloc, &matrix.nodes, rows.len())?;
-        matrix.push_rows(alloc, rows, exits, &places)?;
+        matrix.push_rows(alloc, rows, &places)?;
+        put_exits(&mut matrix.exits, &matrix.nodes, exits);
         Ok(matrix)
     }
 
     /// The entries of probabilities to the nodes from a place on, but for those of 0.
     fn entries(&self, alloc: Global, from: usize, probs: &[f64]) -> Result<Entries, AllocError> {
         let mut entries = Vec::new(alloc);
-        let nodes = self.nodes.get(from..).unwrap_or(&[]);
-        for (node, prob) in nodes.iter().zip(probs) {
-            if *prob > 0.0 {
-                entries.push((*node, *prob))?;
+        for place in 0..probs.len() {
+            if probs[place] > 0.0 {
+                let node = item_at(&self.nodes, from.saturating_add(place), u32::MAX);
+                entries.push((node, probs[place]))?;
             }
         }
         Ok(entries)
@@ -105,12 +109,13 @@ impl Matrix {
 
     /// Puts the row of the node at a place, what it gives to those behind it, into the row at another place. The share that this takes.
     fn fold_into(&mut self, other: usize, place: usize, given: &[f64], pivot: f64) -> f64 {
-        let Some(row) = self.rows.get_mut(other) else {
+        if other >= self.rows.len() {
             return 0.0;
-        };
-        let share = row.get(place).copied().unwrap_or(0.0) / pivot;
+        }
+        let row = self.rows[other].as_mut_slice();
+        let share = item_at(row, place, 0.0) / pivot;
         if share > 0.0 {
-            if let Some(sums) = row.as_mut_slice().get_mut(place.saturating_add(1)..) {
+            if let Some(sums) = row.get_mut(place.saturating_add(1)..) {
                 add_times(sums, share, given);
             }
             let exit = float_at(&self.exits, number(place));
@@ -139,12 +144,9 @@ impl Matrix {
 
     /// Eliminates the node at a place, before which all have gone; none where it doesn't leave.
     fn eliminate(&mut self, alloc: Global, place: usize) -> Result<Option<Step>, AllocError> {
-        let Some(row) = self.rows.get_mut(place) else {
-            return Ok(None);
-        };
-        let row = mem::replace(row, Vec::new(alloc));
+        let row = take_list(alloc, &mut self.rows, place);
         let behind = place.saturating_add(1);
-        let given = row.get(behind..).unwrap_or(&[]);
+        let given = part_of(&row, behind, row.len());
         let pivot = float_at(&self.exits, number(place)) + sum_of(given);
         if !(pivot > 0.0) {
             return Ok(None);

@@ -28,18 +28,18 @@ impl Discount<'_> {
     }
 }
 
-impl Rows {
-    /// Makes the entries of `pending` so many times as great. Whether that was possible.
-    fn scale_pending(&mut self, times: i128) -> bool {
-        for entry in self.pending.iter_mut() {
-            match entry.numerator().checked_mul(times) {
-                Some(scaled) => *entry = Entry::new(entry.node, scaled),
-                None => return false,
-            }
+/// Makes entries so many times as great. Whether that was possible.
+fn scale(entries: &mut [Entry], times: i128) -> bool {
+    for entry in entries {
+        match entry.numerator().checked_mul(times) {
+            Some(scaled) => *entry = Entry::new(entry.node, scaled),
+            None => return false,
         }
-        true
     }
+    true
+}
 
+impl Rows {
     /// Takes the entries of a discounted row into `pending`, ordered by node. Whether all could be taken.
     fn take_discounted(
         &mut self,
@@ -55,7 +55,7 @@ impl Rows {
         let Some(rest) = discount.rest(times) else {
             return Ok(false);
         };
-        if !self.take_entries(nodes, row, times)? || !self.scale_pending(factor.num()) {
+        if !self.take_entries(nodes, row, times)? || !scale(&mut self.pending, factor.num()) {
             return Ok(false);
         }
         self.pending.push(rest)?;
@@ -70,9 +70,10 @@ impl Rows {
         reward: &Frac,
         discount: Discount<'_>,
     ) -> Result<(), AllocError> {
-        let numbers = discount
-            .denominator_of(row, reward)
-            .and_then(|denominator| self.numbers_over(denominator, reward));
+        let numbers = match discount.denominator_of(row, reward) {
+            Some(denominator) => self.numbers_over(denominator, reward),
+            None => None,
+        };
         if let Some(numbers) = numbers {
             if self.take_discounted(nodes, row, numbers, discount)? {
                 return self.push_pending(row, numbers);

@@ -3,7 +3,9 @@
 
 use crate::component::Component;
 use crate::dense::Matrix;
-use crate::lists::{add_at, add_over, flag_at, float_at, number, put, sum_over};
+use crate::lists::{
+    add_at, add_over, count_at, flag_at, float_at, item_at, number, part_of, put, set_at, sum_over,
+};
 use std::alloc::{AllocError, Global};
 use std::cmp::Reverse;
 use std::collections::BinaryHeap;
@@ -74,7 +76,8 @@ impl Factors {
 
     /// The values from gains that were brought forward, the last node first.
     fn back(&self, gains: &[f64], values: &mut [f64]) {
-        for step in self.steps.iter().rev() {
+        for place in (0..self.steps.len()).rev() {
+            let step = &self.steps[place];
             let total = sum_over(float_at(gains, step.node), &step.row, values);
             put(values, step.node, total / step.pivot);
         }
@@ -92,7 +95,8 @@ impl Factors {
     /// Puts in the place of a mass at the nodes how often each node is visited, where the mass is passed on until it has left.
     pub(crate) fn visit(&self, mass: &mut [f64]) {
         self.pass_down(mass);
-        for step in self.steps.iter().rev() {
+        for place in (0..self.steps.len()).rev() {
+            let step = &self.steps[place];
             let more = sum_over(0.0, &step.column, mass);
             add_at(mass, step.node, more);
         }
@@ -128,32 +132,40 @@ impl Preds {
     /// Those of these rows.
     fn of(alloc: Global, rows: &[Entries]) -> Result<Preds, AllocError> {
         let mut preds = Preds::empty(alloc, rows.len())?;
-        for (node, row) in rows.iter().enumerate() {
-            preds.count(number(node), row)?;
+        for node in 0..rows.len() {
+            preds.count(number(node), &rows[node])?;
         }
         Ok(preds)
     }
 
     /// Notes that a node's row has these entries more.
     fn count(&mut self, node: u32, entries: &[(u32, f64)]) -> Result<(), AllocError> {
-        for (target, _) in entries {
-            if let Some(list) = self.lists.get_mut(*target as usize) {
-                list.push(node)?;
-            }
-            if let Some(count) = self.counts.get_mut(*target as usize) {
-                *count = count.saturating_add(1);
+        for entry in entries {
+            let target = entry.0 as usize;
+            count_at(&mut self.counts, target);
+            if target < self.lists.len() {
+                self.lists[target].push(node)?;
             }
         }
         Ok(())
     }
+}
 
-    /// Notes that a node's row leads nowhere any more.
-    fn uncount(&mut self, row: &[(u32, f64)]) {
-        for (target, _) in row {
-            if let Some(count) = self.counts.get_mut(*target as usize) {
-                *count = count.saturating_sub(1);
-            }
+/// Counts one less at the target of each entry.
+fn uncount(counts: &mut [usize], row: &[(u32, f64)]) {
+    for entry in row {
+        let target = entry.0 as usize;
+        if target < counts.len() {
+            counts[target] = counts[target].saturating_sub(1);
         }
+    }
+}
+
+/// Takes the list at a place, an empty one outside.
+pub(crate) fn take_list<T>(alloc: Global, lists: &mut [Vec<T>], place: usize) -> Vec<T> {
+    match lists.get_mut(place) {
+        Some(list) => mem::replace(list, Vec::new(alloc)),
+        None => Vec::new(alloc),
     }
 }
 
@@ -175,7 +187,7 @@ impl Waiting {
 
     /// The products with which a node waits.
     fn products_of(&self, node: u32) -> usize {
-        self.products.get(node as usize).copied().unwrap_or(0)
+        item_at(&self.products, node as usize, 0)
     }
 
     /// Has a node wait with so many products.
@@ -209,14 +221,12 @@ fn take_entry(row: &mut Entries, target: u32) -> f64 {
 
 /// The first place from one on at which an entry leads to a target or to a later node.
 fn place_of(own: &[(u32, f64)], from: usize, target: u32) -> usize {
-    let mut place = from;
-    for entry in own.get(from..).unwrap_or(&[]) {
-        if entry.0 >= target {
-            break;
+    for place in from..own.len() {
+        if own[place].0 >= target {
+            return place;
         }
-        place = place.saturating_add(1);
     }
-    place
+    from.max(own.len())
 }
 
 /// Adds `share` times `row` to the entries of the row `own` of node `own_node`. The entries to targets that are new to it are put into `missing`; what would
@@ -230,12 +240,13 @@ fn add_row(
 ) -> Result<(), AllocError> {
     missing.clear();
     let mut next = 0usize;
-    for (target, prob) in row {
-        next = place_of(own, next, *target);
-        match own.get_mut(next) {
-            Some(entry) if entry.0 == *target => entry.1 += share * *prob,
-            _ if *target != own_node => missing.push((*target, share * *prob))?,
-            _ => {}
+    for entry in row {
+        let more = share * entry.1;
+        next = place_of(own, next, entry.0);
+        if next < own.len() && own[next].0 == entry.0 {
+            own[next].1 += more;
+        } else if entry.0 != own_node {
+            missing.push((entry.0, more))?;
         }
     }
     Ok(())
@@ -251,11 +262,11 @@ fn merge(
     let mut next = 0usize;
     for entry in missing {
         let end = place_of(own, next, entry.0);
-        merged.extend_from_slice(own.get(next..end).unwrap_or(&[]))?;
+        merged.extend_from_slice(part_of(own, next, end))?;
         merged.push(*entry)?;
         next = end;
     }
-    merged.extend_from_slice(own.get(next..).unwrap_or(&[]))
+    merged.extend_from_slice(part_of(own, next, own.len()))
 }
 
 /// The entries of a policy's row at each node.
@@ -277,9 +288,9 @@ fn exits_of(
     component: &Component,
     policy: &[usize],
 ) -> Result<Vec<f64>, AllocError> {
-    let mut exits = Vec::new(alloc);
-    for place in policy {
-        exits.push(component.exit_at(*place))?;
+    let mut exits = vec![in alloc; 0.0; policy.len()]?;
+    for node in 0..policy.len() {
+        set_at(&mut exits, node, component.exit_at(policy[node]));
     }
     Ok(exits)
 }
@@ -311,11 +322,12 @@ impl System {
 
     /// How many products it takes to eliminate a node now.
     fn key(&self, node: u32) -> usize {
-        let preds = self.preds.counts.get(node as usize).copied().unwrap_or(0);
-        match self.rows.get(node as usize) {
-            Some(row) => row.len().saturating_mul(preds),
-            None => 0,
+        let place = node as usize;
+        if place >= self.rows.len() {
+            return 0;
         }
+        let preds = item_at(&self.preds.counts, place, 0);
+        self.rows[place].len().saturating_mul(preds)
     }
 
     /// Has a node wait with the products that it takes now, if these are fewer.
@@ -350,22 +362,11 @@ impl System {
         Ok(share)
     }
 
-    /// Takes a node's row and the nodes that lead to it.
-    fn take(&mut self, node: u32) -> Option<(Entries, Vec<u32>)> {
-        let alloc = *self.rows.allocator();
-        let row = self.rows.get_mut(node as usize)?;
-        let preds = self.preds.lists.get_mut(node as usize)?;
-        Some((
-            mem::replace(row, Vec::new(alloc)),
-            mem::replace(preds, Vec::new(alloc)),
-        ))
-    }
-
     /// What a node with this row gives to others.
     fn pivot_of(&self, node: u32, row: &[(u32, f64)]) -> f64 {
         let mut pivot = float_at(&self.exits, node);
-        for (_, prob) in row {
-            pivot += *prob;
+        for entry in row {
+            pivot += entry.1;
         }
         pivot
     }
@@ -390,23 +391,23 @@ impl System {
 
     /// Has nodes wait with the products that they take now, if these are fewer.
     fn push_each(&mut self, column: &[(u32, f64)]) -> Result<(), AllocError> {
-        for (pred, _) in column {
-            self.push_fewer(*pred)?;
+        for entry in column {
+            self.push_fewer(entry.0)?;
         }
         Ok(())
     }
 
     /// Eliminates a node; none where it doesn't leave.
     fn eliminate(&mut self, node: u32) -> Result<Option<Step>, AllocError> {
-        let Some((row, preds)) = self.take(node) else {
-            return Ok(None);
-        };
+        let alloc = *self.rows.allocator();
+        let row = take_list(alloc, &mut self.rows, node as usize);
         let pivot = self.pivot_of(node, &row);
         if !(pivot > 0.0) {
             return Ok(None);
         }
         put(&mut self.is_gone, node, true);
-        self.preds.uncount(&row);
+        uncount(&mut self.preds.counts, &row);
+        let preds = take_list(alloc, &mut self.preds.lists, node as usize);
         let column = self.fold_all(node, &row, &preds, pivot)?;
         self.push_each(&column)?;
         Ok(Some(Step {
@@ -417,20 +418,24 @@ impl System {
         }))
     }
 
+    /// Whether a node is left and waits with so many products.
+    fn is_waiting(&self, node: u32, products: usize) -> bool {
+        !flag_at(&self.is_gone, node) && products == self.waiting.products_of(node)
+    }
+
     /// The node to go next, and its products; none where all have gone. Nodes whose products have become more wait longer.
     fn next(&mut self) -> Result<Option<(u32, usize)>, AllocError> {
         for _ in 0..usize::MAX {
             let Some(Reverse((key, node))) = self.waiting.queue.pop() else {
                 break;
             };
-            if flag_at(&self.is_gone, node) || key != self.waiting.products_of(node) {
-                continue;
+            if self.is_waiting(node, key) {
+                let now = self.key(node);
+                if now <= key {
+                    return Ok(Some((node, now)));
+                }
+                self.waiting.push(node, now)?;
             }
-            let now = self.key(node);
-            if now <= key {
-                return Ok(Some((node, now)));
-            }
-            self.waiting.push(node, now)?;
         }
         Ok(None)
     }

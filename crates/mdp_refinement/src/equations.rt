@@ -1,5 +1,6 @@
 //! A few linear equations in floats, by Gaussian elimination.
 
+use crate::lists::{item_at, set_at};
 use std::alloc::{AllocError, Global};
 
 /// As many equations as unknowns: the factors of the unknowns, and behind them what they come to. The unknowns are the corrections of the groups of these
@@ -34,16 +35,13 @@ impl Equations {
 
     /// A number of an equation.
     fn at(&self, equation: usize, unknown: usize) -> f64 {
-        let place = self.place(equation, unknown);
-        self.cells.get(place).copied().unwrap_or(0.0)
+        item_at(&self.cells, self.place(equation, unknown), 0.0)
     }
 
     /// Gives an equation a number.
     fn set(&mut self, equation: usize, unknown: usize, value: f64) {
         let place = self.place(equation, unknown);
-        if let Some(cell) = self.cells.get_mut(place) {
-            *cell = value;
-        }
+        set_at(&mut self.cells, place, value);
     }
 
     /// Adds to a number of an equation.
@@ -125,15 +123,24 @@ impl Equations {
         if value.is_finite() { value } else { 0.0 }
     }
 
-    /// The unknowns; 0 for those that the equations don't give.
-    pub(crate) fn solve(&mut self, alloc: Global) -> Result<Vec<f64>, AllocError> {
+    /// Eliminates each unknown from all equations but one.
+    pub(crate) fn solve(&mut self) {
         for unknown in 0..self.size {
             self.eliminate(unknown);
         }
-        let mut found = Vec::with_capacity(alloc, self.size)?;
-        for unknown in 0..self.size {
-            found.push(self.unknown(unknown))?;
+    }
+
+    /// The correction of a group, once the equations are solved; 0 for one that has none.
+    pub(crate) fn correction(&self, group: usize) -> f64 {
+        if group == 0 && self.has_gain {
+            0.0
+        } else {
+            self.unknown(group)
         }
-        Ok(found)
+    }
+
+    /// The correction of the gain, once the equations are solved; 0 where there is none.
+    pub(crate) fn gain(&self) -> f64 {
+        if self.has_gain { self.unknown(0) } else { 0.0 }
     }
 }

@@ -1,5 +1,6 @@
 //! Directed graphs in flat lists.
 
+use crate::lists::{append, group_of};
 use std::alloc::{AllocError, Global};
 
 /// A directed graph: the targets of each node's edges, node by node.
@@ -20,25 +21,17 @@ impl Graph {
 
     /// Appends a node without an edge.
     pub fn push_node(&mut self) -> Result<(), AllocError> {
-        self.starts.push(self.targets.len())?;
-        Ok(())
+        append(&mut self.starts, self.targets.len())
     }
 
     /// Appends an edge from the last node.
     pub fn push_edge(&mut self, target: u32) -> Result<(), AllocError> {
-        self.targets.push(target)?;
-        Ok(())
+        append(&mut self.targets, target)
     }
 
     /// The targets of a node's edges.
     pub(crate) fn targets_of(&self, node: u32) -> &[u32] {
-        let Some(from) = self.starts.get(node as usize).copied() else {
-            return &[];
-        };
-        let to = self.starts.get((node as usize).saturating_add(1)).copied();
-        self.targets
-            .get(from..to.unwrap_or(self.targets.len()))
-            .unwrap_or(&[])
+        group_of(&self.targets, &self.starts, node as usize)
     }
 
     /// How many edges there are in all.

@@ -1,112 +1,107 @@
 //! Policies by which each node leaves its component.
 
 use crate::component::Component;
-use crate::lists::{Groups, number};
+use crate::lists::{Groups, copy_over, number, number_at, set_at, takes};
 use std::alloc::{AllocError, Global};
 
 /// Whether a policy, where there is one, takes this row at this node.
 fn is_of(policy: Option<&[usize]>, node: u32, row: usize) -> bool {
     match policy {
-        Some(policy) => policy.get(node as usize).copied() == Some(row),
+        Some(policy) => takes(policy, node, row),
         None => true,
     }
 }
 
-/// A search backwards for ways out of a component, or to some of its nodes: the row of each node that has one, and those nodes in the order in which they got it.
+/// A search backwards for ways out of a component, or to some of its nodes: a row of each node, whether it has one by which it is led, and the nodes that are
+/// led, in the order in which they got their rows.
 #[derive(Drop)]
 pub(crate) struct Leaving<'a> {
     component: &'a Component,
     leading: &'a Groups,
-    chosen: Vec<Option<usize>>,
+    policy: Vec<usize>,
+    is_led: Vec<bool>,
     queue: Vec<u32>,
+    queued: usize,
 }
 
 impl<'a> Leaving<'a> {
-    /// A search with no way yet.
+    /// A search with no way yet. The nodes keep the rows of this policy until they are led.
     pub(crate) fn new(
         alloc: Global,
         component: &'a Component,
         leading: &'a Groups,
+        policy: &[usize],
     ) -> Result<Leaving<'a>, AllocError> {
-        Ok(Leaving {
+        let nodes = component.len();
+        let mut search = Leaving {
             component,
             leading,
-            chosen: vec![in alloc; None; component.len()]?,
-            queue: Vec::new(alloc),
-        })
+            policy: vec![in alloc; 0; nodes]?,
+            is_led: vec![in alloc; false; nodes]?,
+            queue: vec![in alloc; 0; nodes]?,
+            queued: 0,
+        };
+        copy_over(&mut search.policy, policy);
+        Ok(search)
     }
 
-    /// Gives a node its row, unless it has one.
-    pub(crate) fn lead(&mut self, node: u32, row: usize) -> Result<(), AllocError> {
-        if let Some(slot) = self.chosen.get_mut(node as usize) {
-            if slot.is_none() {
-                *slot = Some(row);
-                self.queue.push(node)?;
-            }
+    /// Changes a policy to another one at the nodes from which it doesn't leave the component.
+    pub(crate) fn make_proper(&mut self, policy: &mut [usize], other: &[usize]) {
+        self.is_led.fill(false);
+        self.queued = 0;
+        copy_over(&mut self.policy, other);
+        self.lead_out(policy);
+        self.spread(Some(policy));
+        copy_over(policy, &self.policy);
+    }
+
+    /// Gives a node its row, unless it is led.
+    pub(crate) fn lead(&mut self, node: u32, row: usize) {
+        let place = node as usize;
+        if place < self.is_led.len() && !self.is_led[place] {
+            self.is_led[place] = true;
+            set_at(&mut self.policy, place, row);
+            set_at(&mut self.queue, self.queued, node);
+            self.queued = self.queued.saturating_add(1);
         }
-        Ok(())
     }
 
     /// Leads the nodes that have an entry to this one, by the policy's rows or by all.
-    fn lead_to(&mut self, target: u32, policy: Option<&[usize]>) -> Result<(), AllocError> {
+    fn lead_to(&mut self, target: u32, policy: Option<&[usize]>) {
         let component = self.component;
         let leading = self.leading;
         for place in leading.of(target) {
             let at = *place as usize;
-            if let Some(row) = component.rows.get(at) {
-                if is_of(policy, row.node, at) {
-                    self.lead(row.node, at)?;
-                }
+            let node = component.row_at(at).node;
+            if is_of(policy, node, at) {
+                self.lead(node, at);
             }
         }
-        Ok(())
     }
 
     /// Leads the nodes whose row of a policy leaves.
-    fn lead_out(&mut self, policy: &[usize]) -> Result<(), AllocError> {
-        for (node, row) in policy.iter().enumerate() {
-            if self.component.exit_at(*row) > 0.0 {
-                self.lead(number(node), *row)?;
+    fn lead_out(&mut self, policy: &[usize]) {
+        for node in 0..policy.len() {
+            if self.component.exit_at(policy[node]) > 0.0 {
+                self.lead(number(node), policy[node]);
             }
         }
-        Ok(())
     }
 
     /// Leads on to all nodes that were led, by the policy's rows or by all.
-    pub(crate) fn spread(&mut self, policy: Option<&[usize]>) -> Result<(), AllocError> {
-        for place in 0..self.chosen.len() {
-            let Some(target) = self.queue.get(place).copied() else {
+    pub(crate) fn spread(&mut self, policy: Option<&[usize]>) {
+        for place in 0..self.queue.len() {
+            if place >= self.queued {
                 break;
-            };
-            self.lead_to(target, policy)?;
+            }
+            let target = number_at(&self.queue, number(place));
+            self.lead_to(target, policy);
         }
-        Ok(())
     }
 
-    /// The row of each node, where each has one.
-    fn policy(&self, alloc: Global) -> Result<Option<Vec<usize>>, AllocError> {
-        let mut policy = Vec::new(alloc);
-        for chosen in &self.chosen {
-            let Some(row) = *chosen else {
-                return Ok(None);
-            };
-            policy.push(row)?;
-        }
-        Ok(Some(policy))
-    }
-
-    /// The row of each node, that of another policy where it has none.
-    pub(crate) fn policy_or(
-        &self,
-        alloc: Global,
-        other: &[usize],
-    ) -> Result<Vec<usize>, AllocError> {
-        let mut policy = Vec::new(alloc);
-        for (node, chosen) in self.chosen.iter().enumerate() {
-            let instead = other.get(node).copied().unwrap_or(0);
-            policy.push(chosen.unwrap_or(instead))?;
-        }
-        Ok(policy)
+    /// The row of each node.
+    pub(crate) fn into_policy(self) -> Vec<usize> {
+        self.policy
     }
 }
 
@@ -117,14 +112,18 @@ pub(crate) fn exit_policy(
     component: &Component,
     leading: &Groups,
 ) -> Result<Option<Vec<usize>>, AllocError> {
-    let mut search = Leaving::new(alloc, component, leading)?;
-    for (place, row) in component.rows.iter().enumerate() {
+    let mut search = Leaving::new(alloc, component, leading, &[])?;
+    for place in 0..component.rows.len() {
+        let row = component.rows[place];
         if row.exit > 0.0 {
-            search.lead(row.node, place)?;
+            search.lead(row.node, place);
         }
     }
-    search.spread(None)?;
-    search.policy(alloc)
+    search.spread(None);
+    if search.queued < component.len() {
+        return Ok(None);
+    }
+    Ok(Some(search.into_policy()))
 }
 
 /// A policy, changed to another one at the nodes from which it doesn't leave the component.
@@ -135,8 +134,8 @@ pub(crate) fn proper(
     policy: &[usize],
     other: &[usize],
 ) -> Result<Vec<usize>, AllocError> {
-    let mut search = Leaving::new(alloc, component, leading)?;
-    search.lead_out(policy)?;
-    search.spread(Some(policy))?;
-    search.policy_or(alloc, other)
+    let mut search = Leaving::new(alloc, component, leading, other)?;
+    search.lead_out(policy);
+    search.spread(Some(policy));
+    Ok(search.into_policy())
 }

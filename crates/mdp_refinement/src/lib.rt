@@ -34,7 +34,7 @@ mod whole;
 pub use bound::{Bound, Task};
 pub use discounted::Discount;
 pub use graph::Graph;
-pub use lists::{flag_at, number, number_at, put};
+pub use lists::{append, flag_at, group_of, item_at, number, number_at, part_of, put};
 pub use nodes::Nodes;
 pub use recurrent::{EndGains, EndSearch, First};
 pub use rows::{ChoiceRow, Entry, Rows, Scale, WholeRow};

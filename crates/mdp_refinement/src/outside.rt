@@ -20,7 +20,7 @@ impl Outside {
             return None;
         }
         for node in &component.nodes {
-            if self.least.checked_rem(rows.unit_of(*node))? != 0 {
+            if self.least.checked_rem(rows.unit_of(*node)) != Some(0) {
                 return None;
             }
         }
@@ -55,18 +55,25 @@ impl Widening {
         }
     }
 
-    /// Takes in a value that leads out.
-    pub(crate) fn take(&mut self, value: i128) {
-        self.range = match self.range {
-            Some((least, greatest)) => Some((least.min(value), greatest.max(value))),
-            None => Some((value, value)),
+    /// With a value more that leads out.
+    pub(crate) fn with(self, value: i128) -> Widening {
+        let range = match self.range {
+            Some((least, greatest)) => (least.min(value), greatest.max(value)),
+            None => (value, value),
         };
+        Widening {
+            range: Some(range),
+            ..self
+        }
     }
 
-    /// Takes in what a row earns.
-    pub(crate) fn take_reward(&mut self, reward: i128) {
-        self.has_gain = self.has_gain || reward > 0;
-        self.has_loss = self.has_loss || reward < 0;
+    /// With what a row more earns.
+    pub(crate) fn with_reward(self, reward: i128) -> Widening {
+        Widening {
+            has_gain: self.has_gain || reward > 0,
+            has_loss: self.has_loss || reward < 0,
+            ..self
+        }
     }
 
     /// All that was taken in; none where nothing leads out.

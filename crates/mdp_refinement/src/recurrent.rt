@@ -6,8 +6,8 @@ use crate::component::Component;
 use crate::convert::{nearest, to_float};
 use crate::graph::Graph;
 use crate::intervals::greatest_unit;
-use crate::lists::{float_at, greatest_size, number, put};
-use crate::rows::{Excess, Rows, Scale, WholeRow};
+use crate::lists::{float_at, greatest_size, item_at, number, part_of, put, put_each};
+use crate::rows::{Entry, Excess, Rows, Scale, WholeRow};
 use crate::strong::{Components, strong_components};
 use crate::value::{Value, value_at};
 use crate::whole::{divided, quotient};
@@ -51,14 +51,6 @@ impl Range {
         self.upper.saturating_sub(self.lower)
     }
 
-    /// The gain that is this bound.
-    fn end(self, bound: Bound) -> i128 {
-        match bound {
-            Bound::Upper => self.upper,
-            Bound::Lower => self.lower,
-        }
-    }
-
     /// Takes in the range of another node: the gains of all lie between.
     fn widened(self, other: Range) -> Range {
         Range {
@@ -76,10 +68,9 @@ impl Range {
     }
 }
 
-/// The nearest bounds of a gain so far, and the gain for which the bias is corrected next.
+/// How far the nearest bounds of a gain lie apart so far, and the gain for which the bias is corrected next.
 #[derive(Clone, Copy)]
 struct Nearest {
-    range: Option<Range>,
     width: i128,
     near: i128,
     gain: i128,
@@ -89,7 +80,6 @@ impl Nearest {
     /// No bounds yet, of values whose greatest unit is this. The bias is first corrected for a gain.
     fn none(unit: i128, gain: i128) -> Nearest {
         Nearest {
-            range: None,
             width: i128::MAX,
             near: unit.saturating_mul(NEAR),
             gain,
@@ -101,7 +91,6 @@ impl Nearest {
         let is_nearer = range.width() < self.width;
         if is_nearer {
             self.width = range.width();
-            self.range = Some(range);
         }
         is_nearer
     }
@@ -206,10 +195,16 @@ impl Estimate {
         })
     }
 
+    /// Knows nothing any more.
+    fn clear(&mut self) {
+        self.gains.fill(0.0);
+        self.blur = 0.0;
+    }
+
     /// What a row must gain, of those from a place to another, so that it may be the best of them.
     fn least_of(&self, from: usize, to: usize) -> f64 {
         let mut most = f64::NEG_INFINITY;
-        for gain in self.gains.get(from..to).unwrap_or(&[]) {
+        for gain in part_of(&self.gains, from, to) {
             most = most.max(*gain);
         }
         most - self.blur
@@ -222,9 +217,7 @@ impl Estimate {
 
     /// Follows corrections of the bias and of the gain. Biases were rounded to units of at most `unit`.
     fn follow(&mut self, component: &Component, corrections: &[f64], more: f64, unit: f64) {
-        for (gain, row) in self.gains.iter_mut().zip(&component.rows) {
-            *gain += component.over(row, -more, corrections);
-        }
+        component.add_over(&mut self.gains, -more, corrections);
         let most = greatest_size(corrections);
         self.blur += BLUR * (2.0 * most + more.abs()) + 2.0 * unit;
     }
@@ -246,6 +239,27 @@ struct Measured {
     policy: Vec<usize>,
     is_zero: bool,
     is_kept: bool,
+}
+
+impl Measured {
+    /// Nothing of a component.
+    fn none(alloc: Global, component: &Component) -> Result<Measured, AllocError> {
+        Ok(Measured {
+            estimate: Estimate::none(alloc, component.rows.len())?,
+            policy: vec![in alloc; 0; component.len()]?,
+            is_zero: false,
+            is_kept: false,
+        })
+    }
+
+    /// Begins anew, over a bias that is 0 at all nodes or not. What rows gain is known where that is the one that was kept.
+    fn begin(&mut self, is_zero: bool) {
+        if !self.is_kept {
+            self.estimate.clear();
+        }
+        self.is_zero = is_zero;
+        self.is_kept = false;
+    }
 }
 
 /// An end component whose bias is refined.
@@ -334,18 +348,20 @@ impl Refinement<'_> {
         measured
             .estimate
             .follow(self.component, values, more, to_float(self.unit));
-        if self.component.add(self.rows, values, bias).is_none() {
+        if !self.component.add(self.rows, values, bias) {
             return Ok(None);
         }
-        Ok(nearest(more).and_then(|more| gain.checked_add(more)))
+        match nearest(more) {
+            Some(more) => Ok(gain.checked_add(more)),
+            None => Ok(None),
+        }
     }
 }
 
-/// What a search leaves to one that goes on in smaller units: about how much rows gain over the bias that it kept, if it measured that last, and what the
-/// search for corrections left.
+/// What a search leaves to one that goes on in smaller units: what it measured, and what the search for corrections left.
 #[derive(Drop)]
 struct Known {
-    estimate: Option<Estimate>,
+    measured: Measured,
     left: Left,
 }
 
@@ -353,7 +369,7 @@ impl Known {
     /// Nothing of a component.
     fn none(alloc: Global, component: &Component) -> Result<Known, AllocError> {
         Ok(Known {
-            estimate: None,
+            measured: Measured::none(alloc, component)?,
             left: Left::none(alloc, component)?,
         })
     }
@@ -374,63 +390,49 @@ impl<'a> Search<'a> {
         known: Known,
         is_zero: bool,
     ) -> Result<Search<'a>, AllocError> {
-        let Known { estimate, left } = known;
-        let estimate = match estimate {
-            Some(estimate) => estimate,
-            None => Estimate::none(alloc, component.rows.len())?,
-        };
+        let Known { mut measured, left } = known;
+        measured.begin(is_zero);
         Ok(Search {
             biases: Biases::new(alloc, component, left)?,
-            measured: Measured {
-                estimate,
-                policy: vec![in alloc; 0; component.len()]?,
-                is_zero,
-                is_kept: false,
-            },
+            measured,
         })
     }
 
     /// What it leaves.
     fn into_known(self) -> Known {
-        let measured = self.measured;
         Known {
-            estimate: if measured.is_kept {
-                Some(measured.estimate)
-            } else {
-                None
-            },
+            measured: self.measured,
             left: self.biases.into_left(),
         }
     }
 }
 
-/// Biases and rows of nodes, in the making, with the gains of components.
-#[derive(Drop)]
-struct Found {
-    bias: Vec<Value>,
-    picks: Vec<Option<usize>>,
-    ranges: Vec<Option<Range>>,
-}
-
-impl Found {
+impl EndGains {
     /// Nothing known, of so many nodes.
-    fn empty(alloc: Global, nodes: usize) -> Result<Found, AllocError> {
-        Ok(Found {
+    fn none(alloc: Global, nodes: usize) -> Result<EndGains, AllocError> {
+        Ok(EndGains {
             bias: vec![in alloc; Value::none(); nodes]?,
+            upper: vec![in alloc; Value::none(); nodes]?,
+            lower: vec![in alloc; Value::none(); nodes]?,
             picks: vec![in alloc; None; nodes]?,
-            ranges: Vec::new(alloc),
         })
     }
 
     /// Gives the nodes of a component these biases and rows.
     fn keep(&mut self, component: &Component, policy: &[usize], bias: &[Value]) {
-        for (node, place) in component.nodes.iter().zip(policy) {
+        for node in &component.nodes {
             put(&mut self.bias, *node, Value::of(value_at(bias, *node)));
-            put(&mut self.picks, *node, component.pick_at(*place));
         }
+        component.pick(policy, &mut self.picks);
     }
 
-    /// Corrects a bias until the gains that it comes to are near to each other or come no nearer, and keeps that of the nearest ones.
+    /// Gives the nodes of a component these bounds of its gain.
+    fn bound(&mut self, component: &Component, range: Range) {
+        put_each(&mut self.upper, &component.nodes, Value::known(range.upper));
+        put_each(&mut self.lower, &component.nodes, Value::known(range.lower));
+    }
+
+    /// Corrects a bias until the gains that it comes to are near to each other or come no nearer, and keeps that of the nearest ones. These are the bounds.
     fn refine(
         &mut self,
         alloc: Global,
@@ -438,7 +440,7 @@ impl Found {
         search: &mut Search<'_>,
         bias: &mut [Value],
         gain: i128,
-    ) -> Result<Option<Range>, AllocError> {
+    ) -> Result<(), AllocError> {
         let mut nearest = Nearest::none(refinement.unit, gain);
         for round in 0..MOST_ROUNDS {
             let measured = &mut search.measured;
@@ -448,6 +450,7 @@ impl Found {
             let is_nearer = nearest.take(range);
             if is_nearer {
                 self.keep(refinement.component, &measured.policy, bias);
+                self.bound(refinement.component, range);
             }
             if nearest.is_enough(is_nearer, round) {
                 measured.is_kept = is_nearer;
@@ -458,85 +461,49 @@ impl Found {
                 None => break,
             }
         }
-        Ok(nearest.range)
-    }
-
-    /// Refines a bias of the component, from what another search left, if one did, and keeps that of the nearest gains that it comes to. The range of these,
-    /// and what it leaves in turn, in the place of that.
-    fn solve(
-        &mut self,
-        alloc: Global,
-        rows: &Rows,
-        component: &Component,
-        first: &mut First<'_>,
-        known: &mut Option<Known>,
-    ) -> Result<Option<Range>, AllocError> {
-        let refinement = Refinement {
-            rows,
-            component,
-            unit: greatest_unit(rows, &component.nodes),
-        };
-        let gain = first.gain_of(component);
-        let before = match known.take() {
-            Some(before) => before,
-            None => Known::none(alloc, component)?,
-        };
-        let mut search = Search::new(alloc, component, before, first.gains.is_empty())?;
-        let range = self.refine(alloc, refinement, &mut search, &mut first.bias, gain)?;
-        *known = Some(search.into_known());
-        Ok(range)
-    }
-
-    /// A bound of the gain of a component, if it is known.
-    fn gain(&self, component: u32, bound: Bound) -> Option<i128> {
-        let range = self.ranges.get(component as usize).copied()?;
-        Some(range?.end(bound))
-    }
-
-    /// A gain of each node: that of its component.
-    fn gains(
-        &self,
-        alloc: Global,
-        components: &Components,
-        bound: Bound,
-    ) -> Result<Vec<Value>, AllocError> {
-        let mut gains = Vec::with_capacity(alloc, self.bias.len())?;
-        for node in 0..self.bias.len() {
-            let component = components.of(number(node));
-            gains.push(Value::of(self.gain(component, bound)))?;
-        }
-        Ok(gains)
+        Ok(())
     }
 }
 
 /// The end component of a node, if it is in one.
 fn part_at(parts: &[Option<u32>], node: u32) -> Option<u32> {
-    match parts.get(node as usize).copied() {
-        Some(part) => part,
-        None => None,
-    }
+    item_at(parts, node as usize, None)
 }
 
 /// Which nodes are to be solved: those of end components that have rows, of which none was too wide.
 fn open_nodes(alloc: Global, rows: &Rows, parts: &[Option<u32>]) -> Result<Vec<bool>, AllocError> {
-    let mut open = Vec::new(alloc);
-    for (place, part) in parts.iter().enumerate() {
-        let node = number(place);
-        open.push(part.is_some() && !rows.has_wide(node) && !rows.rows_of(node).is_empty())?;
+    let mut open = vec![in alloc; false; parts.len()]?;
+    for node in 0..number(parts.len()) {
+        put(
+            &mut open,
+            node,
+            part_at(parts, node).is_some() && rows.has_narrow(node),
+        );
     }
     Ok(open)
+}
+
+/// Appends the edges of the last node to nodes of a part.
+fn push_edges(
+    graph: &mut Graph,
+    edges: &[Entry],
+    parts: &[Option<u32>],
+    part: Option<u32>,
+) -> Result<(), AllocError> {
+    for entry in edges {
+        if part_at(parts, entry.node) == part {
+            graph.push_edge(entry.node)?;
+        }
+    }
+    Ok(())
 }
 
 /// The graph of the edges within end components.
 fn graph_within(alloc: Global, rows: &Rows, parts: &[Option<u32>]) -> Result<Graph, AllocError> {
     let mut graph = Graph::empty(alloc);
-    for (place, part) in parts.iter().enumerate() {
+    for node in 0..number(parts.len()) {
         graph.push_node()?;
-        for entry in rows.edges_of(number(place)) {
-            if part_at(parts, entry.node) == *part {
-                graph.push_edge(entry.node)?;
-            }
-        }
+        push_edges(&mut graph, rows.edges_of(node), parts, part_at(parts, node))?;
     }
     Ok(graph)
 }
@@ -578,24 +545,29 @@ pub struct First<'a> {
 impl First<'_> {
     /// The gain of a component: that of its first node.
     fn gain_of(&self, component: &Component) -> i128 {
-        let node = component.nodes.first().copied().unwrap_or(0);
-        let gain = self.gains.get(node as usize).copied().unwrap_or(0);
+        let node = item_at(&component.nodes, 0, 0);
+        let gain = item_at(self.gains, node as usize, 0);
         gain.checked_mul(self.times).unwrap_or(0)
     }
 }
 
-/// The component in floats, where there is one alone, and what another search left.
+/// A component in floats, and what the last search for its gains left, if there was one.
 #[derive(Drop)]
-struct Only {
+struct Part {
     component: Component,
     known: Option<Known>,
 }
 
-impl Only {
-    /// The only component, of which nothing is known.
-    fn new(alloc: Global, rows: &Rows, components: &Components) -> Result<Only, AllocError> {
-        Ok(Only {
-            component: Component::new(alloc, rows, components, 0, &[])?,
+impl Part {
+    /// The component of a number, of which nothing is known.
+    fn new(
+        alloc: Global,
+        rows: &Rows,
+        components: &Components,
+        component: usize,
+    ) -> Result<Part, AllocError> {
+        Ok(Part {
+            component: Component::new(alloc, rows, components, component, &[])?,
             known: None,
         })
     }
@@ -604,11 +576,41 @@ impl Only {
     fn rescale(&mut self, rows: &Rows, times: f64) {
         let unit = self.component.greatest_unit();
         if let Some(known) = &mut self.known {
-            if let Some(estimate) = &mut known.estimate {
-                estimate.scale(times, unit);
+            if known.measured.is_kept {
+                known.measured.estimate.scale(times, unit);
             }
         }
         self.component.rescale(rows);
+    }
+
+    /// What a search begins with: what the last one left, or nothing.
+    fn take_known(&mut self, alloc: Global) -> Result<Known, AllocError> {
+        match self.known.take() {
+            Some(known) => Ok(known),
+            None => Known::none(alloc, &self.component),
+        }
+    }
+
+    /// Refines a bias of the component, from what another search left, if one did, and keeps that of the nearest gains that it comes to.
+    fn solve(
+        &mut self,
+        alloc: Global,
+        rows: &Rows,
+        found: &mut EndGains,
+        first: &mut First<'_>,
+    ) -> Result<(), AllocError> {
+        let known = self.take_known(alloc)?;
+        let component = &self.component;
+        let refinement = Refinement {
+            rows,
+            component,
+            unit: greatest_unit(rows, &component.nodes),
+        };
+        let gain = first.gain_of(component);
+        let mut search = Search::new(alloc, component, known, first.gains.is_empty())?;
+        found.refine(alloc, refinement, &mut search, &mut first.bias, gain)?;
+        self.known = Some(search.into_known());
+        Ok(())
     }
 }
 
@@ -617,7 +619,7 @@ impl Only {
 pub struct EndSearch {
     rows: Rows,
     components: Components,
-    only: Option<Only>,
+    only: Option<Part>,
 }
 
 impl EndSearch {
@@ -631,7 +633,7 @@ impl EndSearch {
     ) -> Result<EndSearch, AllocError> {
         let components = sought_components(alloc, &rows, parts, known)?;
         let only = if components.count() == 1 {
-            Some(Only::new(alloc, &rows, &components)?)
+            Some(Part::new(alloc, &rows, &components, 0)?)
         } else {
             None
         };
@@ -657,34 +659,39 @@ impl EndSearch {
         }
     }
 
-    /// The greatest gains of a component.
+    /// Finds the greatest gains of a component.
     fn solve(
         &mut self,
         alloc: Global,
-        found: &mut Found,
         place: usize,
+        found: &mut EndGains,
         first: &mut First<'_>,
-    ) -> Result<Option<Range>, AllocError> {
+    ) -> Result<(), AllocError> {
         if let Some(only) = &mut self.only {
-            return found.solve(alloc, &self.rows, &only.component, first, &mut only.known);
+            return only.solve(alloc, &self.rows, found, first);
         }
-        let component = Component::new(alloc, &self.rows, &self.components, place, &[])?;
-        found.solve(alloc, &self.rows, &component, first, &mut None)
+        let mut part = Part::new(alloc, &self.rows, &self.components, place)?;
+        part.solve(alloc, &self.rows, found, first)
+    }
+
+    /// Finds the greatest gains of all components.
+    fn solve_all(
+        &mut self,
+        alloc: Global,
+        found: &mut EndGains,
+        first: &mut First<'_>,
+    ) -> Result<(), AllocError> {
+        for place in 0..self.components.count() {
+            self.solve(alloc, place, found, first)?;
+        }
+        Ok(())
     }
 
     /// The greatest gains of the maximal end components that nodes are in, and biases for them.
     pub fn gains(&mut self, alloc: Global, first: First<'_>) -> Result<EndGains, AllocError> {
         let mut first = first;
-        let mut found = Found::empty(alloc, first.bias.len())?;
-        for place in 0..self.components.count() {
-            let range = self.solve(alloc, &mut found, place, &mut first)?;
-            found.ranges.push(range)?;
-        }
-        Ok(EndGains {
-            upper: found.gains(alloc, &self.components, Bound::Upper)?,
-            lower: found.gains(alloc, &self.components, Bound::Lower)?,
-            bias: found.bias,
-            picks: found.picks,
-        })
+        let mut found = EndGains::none(alloc, first.bias.len())?;
+        self.solve_all(alloc, &mut found, &mut first)?;
+        Ok(found)
     }
 }

@@ -6,7 +6,7 @@ use crate::component::{Component, FloatRow};
 use crate::convert::{nearest, to_float};
 use crate::correct::Corrector;
 use crate::intervals::greatest_unit;
-use crate::lists::put;
+use crate::lists::{put, takes};
 use crate::rows::{Gap, Rows};
 use crate::value::{Value, value_at};
 use std::alloc::{AllocError, Global};
@@ -51,6 +51,14 @@ struct Lack {
     exit: f64,
 }
 
+/// The value of a node and so much more. None past 128 bits.
+fn moved(values: &[Value], node: u32, way: i128) -> Option<i128> {
+    match value_at(values, node) {
+        Some(value) => value.checked_add(way),
+        None => None,
+    }
+}
+
 /// What stays the same in all rounds.
 #[derive(Clone, Copy)]
 struct Setting<'a> {
@@ -89,19 +97,27 @@ impl Setting<'_> {
         gains: &mut [f64],
     ) -> Option<Held> {
         let mut held = Held::Tightly;
-        for (at, row) in self.component.rows.iter().enumerate() {
-            let gap = self.rows.gap(self.rows.row(row.place())?, values)?;
-            let is_chosen = policy.get(row.node as usize).copied() == Some(at);
-            held = self.judge(held, row, gap, is_chosen);
-            let gain = gains.get_mut(at)?;
-            *gain = gap.size + self.task.side() * room * row.slack;
+        for at in 0..self.component.rows.len().min(gains.len()) {
+            let row = self.component.rows[at];
+            let gap = self.gap(&row, values)?;
+            let is_chosen = takes(policy, row.node, at);
+            held = self.judge(held, &row, gap, is_chosen);
+            gains[at] = gap.size + self.task.side() * room * row.slack;
         }
         Some(held)
     }
 
+    /// How a row's value lies to that of its node. None past 128 bits.
+    fn gap(self, row: &FloatRow, values: &[Value]) -> Option<Gap> {
+        match self.rows.row(row.place()) {
+            Some(whole) => self.rows.gap(whole, values),
+            None => None,
+        }
+    }
+
     /// Whether the row at a place is to hold.
     fn is_to_hold(self, policy: &[usize], node: u32, at: usize) -> bool {
-        self.task.is_each() || policy.get(node as usize).copied() == Some(at)
+        self.task.is_each() || takes(policy, node, at)
     }
 
     /// What the rows that are to hold lack. None past 128 bits.
@@ -111,9 +127,10 @@ impl Setting<'_> {
             most: 0.0,
             exit: 1.0,
         };
-        for (at, row) in self.component.rows.iter().enumerate() {
+        for at in 0..self.component.rows.len() {
+            let row = self.component.rows[at];
             if self.is_to_hold(policy, row.node, at) {
-                let gap = self.rows.gap(self.rows.row(row.place())?, values)?;
+                let gap = self.gap(&row, values)?;
                 lack.is_there = lack.is_there || self.task.is_broken(gap.order);
                 lack.most = lack.most.max(gap.size * self.task.side());
                 lack.exit = lack.exit.min(row.exit);
@@ -132,27 +149,33 @@ impl Setting<'_> {
         nearest(self.task.side() * (least + 1.0))?.checked_mul(unit)
     }
 
-    /// Moves all values of the component so far. None past 128 bits.
-    fn move_all(self, way: i128, values: &mut [Value]) -> Option<()> {
+    /// Moves all values of the component so far. Not past 128 bits: whether none was.
+    fn move_all(self, way: i128, values: &mut [Value]) -> bool {
         for node in &self.component.nodes {
-            let moved = value_at(values, *node)?.checked_add(way)?;
-            put(values, *node, Value::known(moved));
+            match moved(values, *node, way) {
+                Some(value) => put(values, *node, Value::known(value)),
+                None => return false,
+            }
         }
-        Some(())
+        true
     }
 
     /// Moves the values until the rows hold that are to hold, where each of those leaves the component. Whether they do.
-    fn move_until(self, policy: &[usize], values: &mut [Value]) -> Option<bool> {
+    fn move_until(self, policy: &[usize], values: &mut [Value]) -> bool {
         let mut growth = MOVE_GROWTH;
         for _ in 0..MOST_MOVES {
-            let lack = self.lack(policy, values)?;
+            let Some(lack) = self.lack(policy, values) else {
+                return false;
+            };
             if !lack.is_there {
-                return Some(true);
+                return true;
             }
-            self.move_all(self.way(lack, growth)?, values)?;
-            growth *= 2.0;
+            match self.way(lack, growth) {
+                Some(way) if self.move_all(way, values) => growth *= 2.0,
+                _ => return false,
+            }
         }
-        Some(false)
+        false
     }
 }
 
@@ -191,9 +214,10 @@ impl Setting<'_> {
         if !corrector.correct(alloc, gains)? {
             return Ok(End::Failed);
         }
-        match self.component.add(self.rows, corrector.values(), values) {
-            Some(()) => Ok(End::Open),
-            None => Ok(End::Failed),
+        if self.component.add(self.rows, corrector.values(), values) {
+            Ok(End::Open)
+        } else {
+            Ok(End::Failed)
         }
     }
 
@@ -245,6 +269,6 @@ pub(crate) fn refine(
     match setting.rounds(alloc, corrector, &mut gains, values)? {
         End::Held => Ok(true),
         End::Failed => Ok(false),
-        End::Open => Ok(setting.move_until(corrector.policy(), values) == Some(true)),
+        End::Open => Ok(setting.move_until(corrector.policy(), values)),
     }
 }

@@ -4,8 +4,8 @@
 
 use crate::chain::{Chain, FEW_STEPS, Visits};
 use crate::coarse::Grouping;
-use crate::component::{Component, FloatRow};
-use crate::lists::{earned_by, float_at, number, put};
+use crate::component::Component;
+use crate::lists::{earned_by, float_at, item_at, number, put, set_at};
 use crate::sweeps::{Change, Forecast, Outlook, Progress, WINDOW};
 use std::alloc::{AllocError, Global};
 
@@ -48,11 +48,19 @@ pub(crate) struct Relative<'a> {
     grouping: Grouping,
 }
 
+/// Makes the values of nodes relative to that of the last one.
+fn shift(values: &mut [f64]) {
+    let last = item_at(values, values.len().saturating_sub(1), 0.0);
+    for value in values {
+        *value -= last;
+    }
+}
+
 /// The first row of each node.
 fn first_rows(alloc: Global, component: &Component) -> Result<Vec<usize>, AllocError> {
-    let mut first = Vec::new(alloc);
+    let mut first = vec![in alloc; 0usize; component.len()]?;
     for place in 0..component.len() {
-        first.push(component.range_of(place).0)?;
+        set_at(&mut first, place, component.range_of(place).0);
     }
     Ok(first)
 }
@@ -116,18 +124,17 @@ impl<'a> Relative<'a> {
         &self.followed.best_rows
     }
 
-    /// What a row that earns so much over the gain makes of its node's value. It is taken until it leaves its node, but for slow ones.
-    fn value_of(&self, row: &FloatRow, earned: f64, old: f64) -> f64 {
-        let more = self.component.over(row, earned, &self.values);
+    /// What the row at a place, which earns so much over the gain, makes of its node's value. It is taken until it leaves its node, but for slow ones.
+    fn value_of(&self, at: usize, earned: f64, old: f64) -> f64 {
+        let row = self.component.row_at(at);
+        let more = self.component.over(&row, earned, &self.values);
         old + more * self.followed.pace / row.total.max(LEAST_TOTAL)
     }
 
     /// What a row of the node at a place is to earn so that it may be better than the one that was best, where values are no greater than in the last sweep.
     fn least_due(&self, gains: &[f64], place: usize) -> f64 {
-        match self.followed.best_rows.get(place) {
-            Some(row) => earned_by(gains, *row) - FAR * self.size,
-            None => f64::NEG_INFINITY,
-        }
+        let row = item_at(&self.followed.best_rows, place, 0);
+        earned_by(gains, row) - FAR * self.size
     }
 
     /// The best value of the node at a place, and the row that gives it.
@@ -136,14 +143,13 @@ impl<'a> Relative<'a> {
         let least = self.least_due(gains, place);
         let mut best = None;
         for at in from..to {
-            let (row, earned) = self.component.earning(at, gains)?;
-            if earned < least {
-                continue;
-            }
-            let value = self.value_of(row, earned - self.gain, old);
-            match best {
-                Some((most, _)) if !(value > most) => {}
-                _ => best = Some((value, at)),
+            let earned = earned_by(gains, at);
+            if !(earned < least) {
+                let value = self.value_of(at, earned - self.gain, old);
+                match best {
+                    Some((most, _)) if !(value > most) => {}
+                    _ => best = Some((value, at)),
+                }
             }
         }
         best
@@ -151,12 +157,10 @@ impl<'a> Relative<'a> {
 
     /// Makes a row the best one of a node.
     fn prefer(&mut self, node: u32, row: usize) {
-        if let Some(best) = self.followed.best_rows.get_mut(node as usize) {
-            if *best != row {
-                *best = row;
-                self.is_steady = false;
-                self.followed.steps_left = FEW_STEPS;
-            }
+        if item_at(&self.followed.best_rows, node as usize, row) != row {
+            put(&mut self.followed.best_rows, node, row);
+            self.is_steady = false;
+            self.followed.steps_left = FEW_STEPS;
         }
     }
 
@@ -204,14 +208,6 @@ impl<'a> Relative<'a> {
         }
     }
 
-    /// Makes the values relative to that of the last node.
-    fn shift(&mut self) {
-        let last = self.values.last().copied().unwrap_or(0.0);
-        for value in self.values.iter_mut() {
-            *value -= last;
-        }
-    }
-
     /// Sets the values and the gain to 0, for rows that earn something else.
     fn clear(&mut self) {
         self.gain = 0.0;
@@ -243,7 +239,7 @@ impl<'a> Relative<'a> {
             self.step_shares();
         }
         self.correct_gain(change);
-        self.shift();
+        shift(&mut self.values);
         Ok(change)
     }
 

@@ -1,6 +1,6 @@
 use crate::bound::Bound;
 use crate::convert::to_float;
-use crate::lists::{flag_at, number, number_at, put};
+use crate::lists::{append, flag_at, group_of, item_at, number, number_at, part_of, put, set_at};
 use crate::nodes::Nodes;
 use crate::value::{Value, value_at};
 use crate::whole::{
@@ -109,6 +109,33 @@ pub struct Rows {
     pub(crate) pending: Vec<Entry>,
 }
 
+/// Makes the entries of one node one, where those of each node stand together. How many there are then, at the front.
+fn join(entries: &mut [Entry]) -> usize {
+    let mut count = 0usize;
+    let mut last = Entry::new(0, 0);
+    for place in 0..entries.len() {
+        let entry = entries[place];
+        if count > 0 && last.node == entry.node {
+            let total = last.numerator().saturating_add(entry.numerator());
+            last = Entry::new(entry.node, total);
+            set_at(entries, count.saturating_sub(1), last);
+        } else {
+            last = entry;
+            set_at(entries, count, last);
+            count = count.saturating_add(1);
+        }
+    }
+    count
+}
+
+/// Leaves so many digits to the nodes of entries.
+fn limit(node_digits: &mut [u32], entries: &[Entry], digits: u32) {
+    for entry in entries {
+        let least = number_at(node_digits, entry.node).min(digits);
+        put(node_digits, entry.node, least);
+    }
+}
+
 /// The numbers of a row that is pushed now, but for its entries.
 #[derive(Clone, Copy)]
 pub(crate) struct Numbers {
@@ -146,21 +173,21 @@ impl Rows {
 
     /// Goes on to the next node, whose rows are pushed from now on. The first call goes to node 0.
     pub fn push_node(&mut self) -> Result<(), AllocError> {
-        self.starts.push(self.rows.len())?;
-        Ok(())
+        append(&mut self.starts, self.rows.len())
+    }
+
+    /// Goes on to a node, the next one, unless its rows are pushed already. Whether it went on.
+    pub fn go_to(&mut self, node: u32) -> Result<bool, AllocError> {
+        if (node as usize) < self.starts.len() {
+            return Ok(false);
+        }
+        self.push_node()?;
+        Ok(true)
     }
 
     /// The node whose rows are pushed.
     fn last_node(&self) -> u32 {
         number(self.starts.len().saturating_sub(1))
-    }
-
-    /// Leaves so many digits to the nodes of the entries from a place to another.
-    fn limit(&mut self, first: usize, end: usize, digits: u32) {
-        for entry in self.entries.get(first..end).unwrap_or(&[]) {
-            let least = number_at(&self.node_digits, entry.node).min(digits);
-            put(&mut self.node_digits, entry.node, least);
-        }
     }
 
     /// Takes the entries of a row into `pending`, ordered by node. Whether all could be taken.
@@ -170,33 +197,19 @@ impl Rows {
         row: ChoiceRow<'_>,
         denominator: i128,
     ) -> Result<bool, AllocError> {
+        let mut is_taken = true;
         self.pending.clear();
-        for (target, prob) in row.targets.iter().zip(row.probs) {
-            let Some(numerator) = times_multiple(prob, denominator) else {
-                return Ok(false);
-            };
-            let node = nodes.of(*target);
-            self.pending.push(Entry::new(node, numerator))?;
-        }
-        self.pending.sort_unstable_by_key(|entry| entry.node);
-        Ok(true)
-    }
-
-    /// Appends the entries of `pending`, those of one node as one.
-    fn push_entries(&mut self) -> Result<(), AllocError> {
-        let mut last = None;
-        for entry in &self.pending {
-            if last == Some(entry.node) {
-                if let Some(sum) = self.entries.last_mut() {
-                    let total = sum.numerator().saturating_add(entry.numerator());
-                    *sum = Entry::new(entry.node, total);
+        for place in 0..row.targets.len().min(row.probs.len()) {
+            match times_multiple(&row.probs[place], denominator) {
+                Some(numerator) => {
+                    let entry = Entry::new(nodes.of(row.targets[place]), numerator);
+                    self.pending.push(entry)?;
                 }
-            } else {
-                self.entries.push(*entry)?;
-                last = Some(entry.node);
+                None => is_taken = false,
             }
         }
-        Ok(())
+        self.pending.sort_unstable_by_key(|entry| entry.node);
+        Ok(is_taken)
     }
 
     /// The numbers of a row with this reward; none where it is too wide.
@@ -245,11 +258,14 @@ impl Rows {
         numbers: Numbers,
     ) -> Result<(), AllocError> {
         let first = self.entries.len();
-        self.push_entries()?;
+        let count = join(&mut self.pending);
+        self.entries
+            .extend_from_slice(part_of(&self.pending, 0, count))?;
         let end = self.entries.len();
         let lost = self.scale.digits.saturating_sub(numbers.digits);
         if lost > 0 {
-            self.limit(first, end, numbers.digits);
+            let entries = part_of(&self.entries, first, end);
+            limit(&mut self.node_digits, entries, numbers.digits);
         }
         let row = WholeRow {
             state: of.state,
@@ -261,8 +277,7 @@ impl Rows {
             first,
             end,
         };
-        self.rows.push(row)?;
-        Ok(())
+        append(&mut self.rows, row)
     }
 
     /// Appends the row of a choice, with its reward, to the last node. One that stays in the node is left out, and one that is too wide is only noted.
@@ -313,38 +328,18 @@ impl Rows {
             first: place,
             end: place,
         };
-        self.rows.push(row)?;
-        Ok(())
+        append(&mut self.rows, row)
     }
 
     /// Gives the row at a place another reward, in the row's denominator times its unit.
     pub fn set_reward(&mut self, place: usize, reward: i128) {
-        if let Some(row) = self.rows.get_mut(place) {
-            row.reward = reward;
-        }
-    }
-
-    /// Writes a row for a scale of more digits by taking its reward so many times, where that is at most `most` and the row kept all digits and keeps them.
-    /// Whether it did.
-    fn lengthen_row(&mut self, place: usize, times: i128, most: i128) -> bool {
-        let most_denominator = self.most;
-        match self.rows.get_mut(place) {
-            Some(row) if row.lost == 0 && row.denominator <= most_denominator => {
-                if row.reward.saturating_abs() > most {
-                    return false;
-                }
-                row.reward = row.reward.saturating_mul(times);
-                true
-            }
-            _ => false,
+        if place < self.rows.len() {
+            self.rows[place].reward = reward;
         }
     }
 
     /// Writes a row for the scale, which was written for values of so many digits.
-    fn rescale_row(&mut self, place: usize, digits: u32) {
-        let Some(row) = self.rows.get(place).copied() else {
-            return;
-        };
+    fn rescaled(&mut self, row: WholeRow, digits: u32) -> WholeRow {
         let earned = row
             .reward
             .checked_div(power_of_ten(digits.saturating_sub(row.lost)))
@@ -352,12 +347,14 @@ impl Rows {
         let kept = self.digits_for(row.denominator, earned.saturating_abs());
         let lost = self.scale.digits.saturating_sub(kept);
         if lost > 0 {
-            self.limit(row.first, row.end, kept);
+            let entries = part_of(&self.entries, row.first, row.end);
+            limit(&mut self.node_digits, entries, kept);
         }
         let reward = earned.checked_mul(self.power_of(kept)).unwrap_or(0);
-        if let Some(slot) = self.rows.get_mut(place) {
-            slot.reward = reward;
-            slot.lost = lost;
+        WholeRow {
+            lost,
+            reward,
+            ..row
         }
     }
 
@@ -367,9 +364,7 @@ impl Rows {
         self.scale = scale;
         self.one = power_of_ten(scale.digits);
         self.most = greatest_with_digits(scale.digits.saturating_add(scale.room));
-        for left in self.node_digits.iter_mut() {
-            *left = scale.digits;
-        }
+        self.node_digits.fill(scale.digits);
         let times = power_of_ten(scale.digits.saturating_sub(digits));
         let most = if scale.digits < digits {
             -1
@@ -377,10 +372,27 @@ impl Rows {
             self.most.saturating_mul(power_of_ten(digits))
         };
         for place in 0..self.rows.len() {
-            if !self.lengthen_row(place, times, most) {
-                self.rescale_row(place, digits);
-            }
+            self.rescale_row(place, digits, times, most);
         }
+    }
+
+    /// Writes the row at a place for the scale, which was written for values of so many digits. Where it kept all and keeps them, and its reward is at
+    /// most `most`, that is taken so many times.
+    fn rescale_row(&mut self, place: usize, digits: u32, times: i128, most: i128) {
+        if place >= self.rows.len() {
+            return;
+        }
+        let row = self.rows[place];
+        let is_short = row.lost == 0 && row.denominator <= self.most;
+        let row = if is_short && row.reward.saturating_abs() <= most {
+            WholeRow {
+                reward: row.reward.saturating_mul(times),
+                ..row
+            }
+        } else {
+            self.rescaled(row, digits)
+        };
+        set_at(&mut self.rows, place, row);
     }
 
     /// The value 1 in units.
@@ -404,15 +416,16 @@ impl Rows {
         flag_at(&self.has_wide, node)
     }
 
-    /// Where the rows of a node begin.
-    fn start_of(&self, node: usize) -> usize {
-        self.starts.get(node).copied().unwrap_or(self.rows.len())
+    /// Whether the node has rows, of which none was too wide.
+    pub(crate) fn has_narrow(&self, node: u32) -> bool {
+        !self.has_wide(node) && !self.rows_of(node).is_empty()
     }
 
     /// Where the rows of a node begin and end.
     pub fn range_of(&self, node: u32) -> (usize, usize) {
-        let place = node as usize;
-        (self.start_of(place), self.start_of(place.saturating_add(1)))
+        let (place, all) = (node as usize, self.rows.len());
+        let from = item_at(&self.starts, place, all);
+        (from, item_at(&self.starts, place.saturating_add(1), all))
     }
 
     /// A row by its place.
@@ -420,21 +433,49 @@ impl Rows {
         self.rows.get(place)
     }
 
+    /// A row that was picked by its place, if one was.
+    pub fn picked(&self, pick: Option<usize>) -> Option<&WholeRow> {
+        match pick {
+            Some(place) => self.rows.get(place),
+            None => None,
+        }
+    }
+
+    /// The choice of a row that was picked; the first where none was.
+    fn choice_of(&self, pick: Option<usize>) -> u32 {
+        match self.picked(pick) {
+            Some(row) => row.choice,
+            None => 0,
+        }
+    }
+
+    /// The choices of the rows that were picked, the first where none was.
+    pub fn choices_of(
+        &self,
+        alloc: Global,
+        picks: &[Option<usize>],
+    ) -> Result<Vec<u32>, AllocError> {
+        let mut choices = vec![in alloc; 0; picks.len()]?;
+        for place in 0..picks.len() {
+            set_at(&mut choices, place, self.choice_of(picks[place]));
+        }
+        Ok(choices)
+    }
+
     /// The rows of a node.
     pub fn rows_of(&self, node: u32) -> &[WholeRow] {
-        let (from, to) = self.range_of(node);
-        self.rows.get(from..to).unwrap_or(&[])
+        group_of(&self.rows, &self.starts, node as usize)
     }
 
     /// The entries of a row, ordered by node.
     pub fn entries_of(&self, row: &WholeRow) -> &[Entry] {
-        self.entries.get(row.first..row.end).unwrap_or(&[])
+        part_of(&self.entries, row.first, row.end)
     }
 
     /// The entries of all rows of a node.
     pub fn edges_of(&self, node: u32) -> &[Entry] {
         match self.rows_of(node) {
-            [first, .., last] => self.entries.get(first.first..last.end).unwrap_or(&[]),
+            [first, .., last] => part_of(&self.entries, first.first, last.end),
             [only] => self.entries_of(only),
             [] => &[],
         }
@@ -451,7 +492,7 @@ impl Rows {
             if entry.node == row.node {
                 own = entry.numerator();
             } else {
-                let value = in_unit(value_at(values, entry.node)?, unit)?;
+                let value = value_in_unit(values, entry.node, unit)?;
                 if value.unsigned_abs().leading_zeros().saturating_add(zeros) < ZEROS_OF_NARROW {
                     return self.wide_sum_of_others(row, values);
                 }
@@ -470,8 +511,7 @@ impl Rows {
             if entry.node == row.node {
                 own = entry.numerator();
             } else {
-                let value = in_unit(value_at(values, entry.node)?, unit)?;
-                total = total.checked_add(entry.numerator().checked_mul(value)?)?;
+                total = plus_product(total, *entry, value_in_unit(values, entry.node, unit)?)?;
             }
         }
         Some((total, own))
@@ -598,14 +638,16 @@ fn rounded_finely(
     let (mut value, mut rest) = divided(total, others)?;
     let mut reached = unit;
     for _ in 0..36 {
-        if reached <= finer {
-            break;
-        }
-        let Some(scaled) = rest.checked_mul(10) else {
+        let scaled = if reached > finer {
+            rest.checked_mul(10)
+        } else {
+            None
+        };
+        let Some(scaled) = scaled else {
             break;
         };
         let (digit, left) = divided(scaled, others)?;
-        value = value.checked_mul(10)?.checked_add(digit)?;
+        value = with_digit(value, digit)?;
         rest = left;
         reached /= 10;
     }
@@ -615,10 +657,34 @@ fn rounded_finely(
     value.checked_mul(reached)
 }
 
+/// A number with a digit more; none past 128 bits.
+fn with_digit(number: i128, digit: i128) -> Option<i128> {
+    match number.checked_mul(10) {
+        Some(scaled) => scaled.checked_add(digit),
+        None => None,
+    }
+}
+
 /// A value that is a multiple of a unit, in that unit.
 fn in_unit(value: i128, unit: i128) -> Option<i128> {
     if unit == 1 {
         return Some(value);
     }
     value.checked_div(unit)
+}
+
+/// The value of a node, in a unit of which it is a multiple; none where it isn't known.
+fn value_in_unit(values: &[Value], node: u32, unit: i128) -> Option<i128> {
+    match value_at(values, node) {
+        Some(value) => in_unit(value, unit),
+        None => None,
+    }
+}
+
+/// A sum with an entry's numerator times a value more; none past 128 bits.
+fn plus_product(total: i128, entry: Entry, value: i128) -> Option<i128> {
+    match entry.numerator().checked_mul(value) {
+        Some(product) => total.checked_add(product),
+        None => None,
+    }
 }

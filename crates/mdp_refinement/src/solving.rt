@@ -6,10 +6,10 @@ use crate::correct::Corrector;
 use crate::graph::Graph;
 use crate::intervals::{best_rounded, sweep_exact};
 use crate::leaving::{exit_policy, proper};
-use crate::lists::{Groups, number, put};
+use crate::lists::{Groups, item_at, number, put};
 use crate::outside::Outside;
 use crate::refine::refine;
-use crate::rows::Rows;
+use crate::rows::{Entry, Rows};
 use crate::strong::{Components, strong_components};
 use crate::value::{Value, value_at};
 use std::alloc::{AllocError, Global};
@@ -34,29 +34,25 @@ impl Solution {
         put(&mut self.values, node, Value::known(value));
         put(&mut self.picks, node, pick);
     }
-}
 
-impl Solution {
     /// The row of a component that was picked for its node at a place, if one was.
     fn row_at(&self, component: &Component, place: usize, node: u32) -> Option<usize> {
-        let pick = self.picks.get(node as usize).copied()?;
-        component.row_of(place, pick?)
+        match item_at(&self.picks, node as usize, None) {
+            Some(pick) => component.row_of(place, pick),
+            None => None,
+        }
     }
 
-    /// The rows of a component's nodes that were picked; none where one of them has none.
-    fn policy(
-        &self,
-        alloc: Global,
-        component: &Component,
-    ) -> Result<Option<Vec<usize>>, AllocError> {
-        let mut policy = Vec::new(alloc);
-        for (place, node) in component.nodes.iter().enumerate() {
-            match self.row_at(component, place, *node) {
-                Some(row) => policy.push(row)?,
-                None => return Ok(None),
+    /// Puts the rows of a component's nodes that were picked. Whether each of them has one.
+    fn put_policy(&self, component: &Component, policy: &mut [usize]) -> bool {
+        let mut is_full = true;
+        for place in 0..policy.len().min(component.nodes.len()) {
+            match self.row_at(component, place, component.nodes[place]) {
+                Some(row) => policy[place] = row,
+                None => is_full = false,
             }
         }
-        Ok(Some(policy))
+        is_full
     }
 }
 
@@ -121,9 +117,7 @@ impl Solver<'_> {
 
     /// Gives the nodes of a component the rows of a policy.
     fn pick(&mut self, component: &Component, policy: &[usize]) {
-        for (node, row) in component.nodes.iter().zip(policy) {
-            put(&mut self.solution.picks, *node, component.pick_at(*row));
-        }
+        component.pick(policy, &mut self.solution.picks);
     }
 
     /// A component all of whose ways out have one value.
@@ -188,18 +182,6 @@ impl Solver<'_> {
         Ok(())
     }
 
-    /// The policy of the other bound, if there is one.
-    fn other_policy(
-        &self,
-        alloc: Global,
-        component: &Component,
-    ) -> Result<Option<Vec<usize>>, AllocError> {
-        match self.other {
-            Some(other) => other.policy(alloc, component),
-            None => Ok(None),
-        }
-    }
-
     /// The policy to begin with: that of the other bound, changed to one that leaves the component where it doesn't, or else the latter. None where a node
     /// can't leave.
     fn start(
@@ -211,24 +193,37 @@ impl Solver<'_> {
         let Some(exit) = exit_policy(alloc, component, leading)? else {
             return Ok(None);
         };
-        match self.other_policy(alloc, component)? {
-            Some(policy) => Ok(Some(proper(alloc, component, leading, &policy, &exit)?)),
-            None => Ok(Some(exit)),
+        let Some(other) = self.other else {
+            return Ok(Some(exit));
+        };
+        let mut policy = vec![in alloc; 0usize; component.len()]?;
+        if !other.put_policy(component, &mut policy) {
+            return Ok(Some(exit));
         }
+        Ok(Some(proper(alloc, component, leading, &policy, &exit)?))
     }
 
     /// A component with several nodes.
     fn solve_many(&mut self, alloc: Global, number: usize) -> Result<(), AllocError> {
         let values = &self.solution.values;
         let component = Component::new(alloc, self.rows, self.components, number, values)?;
-        let leading = component.leading(alloc)?;
-        if let Some(outside) = component.outside {
-            if let Some(start) = self.start(alloc, &component, &leading)? {
-                return self.solve_leaving(alloc, &component, outside, &leading, &start);
-            }
+        if !self.leave(alloc, &component)? {
+            self.give_up_all(number);
         }
-        self.give_up_all(number);
         Ok(())
+    }
+
+    /// A component with several nodes, if each node can leave it. Whether it can.
+    fn leave(&mut self, alloc: Global, component: &Component) -> Result<bool, AllocError> {
+        let Some(outside) = component.outside() else {
+            return Ok(false);
+        };
+        let leading = component.leading(alloc)?;
+        let Some(start) = self.start(alloc, component, &leading)? else {
+            return Ok(false);
+        };
+        self.solve_leaving(alloc, component, outside, &leading, &start)?;
+        Ok(true)
     }
 
     /// The component of this number, whose successors are solved.
@@ -247,6 +242,19 @@ impl Solver<'_> {
     }
 }
 
+impl Solver<'_> {
+    /// All components, successors first, unless it ends with the first one that isn't refined.
+    fn solve_all(&mut self, alloc: Global) -> Result<(), AllocError> {
+        for component in 0..self.components.count() {
+            self.solve_component(alloc, component)?;
+            if !self.solution.is_full && !self.task.to_end {
+                break;
+            }
+        }
+        Ok(())
+    }
+}
+
 /// Which nodes are to be solved: those that have no given value but rows, of which none that is to hold was too wide.
 fn open_nodes(
     alloc: Global,
@@ -254,13 +262,22 @@ fn open_nodes(
     given: &[Value],
     task: Task,
 ) -> Result<Vec<bool>, AllocError> {
-    let mut open = Vec::new(alloc);
-    for (place, value) in given.iter().enumerate() {
-        let node = number(place);
+    let mut open = vec![in alloc; false; given.len()]?;
+    for node in 0..number(given.len()) {
         let is_kept = !(task.is_each() && rows.has_wide(node));
-        open.push(!value.is_known() && is_kept && !rows.rows_of(node).is_empty())?;
+        let is_open = value_at(given, node).is_none() && is_kept;
+        put(&mut open, node, is_open && !rows.rows_of(node).is_empty());
     }
     Ok(open)
+}
+
+/// Puts a value in the place of those that aren't known.
+fn put_unknown(values: &mut [Value], other: Value) {
+    for value in values {
+        if !value.is_known() {
+            *value = other;
+        }
+    }
 }
 
 /// The given values, and elsewhere those that hold anyway.
@@ -269,14 +286,8 @@ fn first_solution(
     given: &[Value],
     anyway: Option<i128>,
 ) -> Result<Solution, AllocError> {
-    let mut values = Vec::new(alloc);
-    for value in given {
-        values.push(if value.is_known() {
-            *value
-        } else {
-            Value::of(anyway)
-        })?;
-    }
+    let mut values = given.to_vec(alloc)?;
+    put_unknown(&mut values, Value::of(anyway));
     Ok(Solution {
         values,
         picks: vec![in alloc; None; given.len()]?,
@@ -284,16 +295,34 @@ fn first_solution(
     })
 }
 
+/// Appends an edge of the last node for each entry.
+fn push_edges(graph: &mut Graph, edges: &[Entry]) -> Result<(), AllocError> {
+    for entry in edges {
+        graph.push_edge(entry.node)?;
+    }
+    Ok(())
+}
+
 /// The graph of the nodes: an edge for each entry.
 fn graph_of(alloc: Global, rows: &Rows, nodes: u32) -> Result<Graph, AllocError> {
     let mut graph = Graph::empty(alloc);
     for node in 0..nodes {
         graph.push_node()?;
-        for entry in rows.edges_of(node) {
-            graph.push_edge(entry.node)?;
-        }
+        push_edges(&mut graph, rows.edges_of(node))?;
     }
     Ok(graph)
+}
+
+/// The strong components of the nodes that are to be solved.
+fn open_components(
+    alloc: Global,
+    rows: &Rows,
+    given: &[Value],
+    task: Task,
+) -> Result<Components, AllocError> {
+    let open = open_nodes(alloc, rows, given, task)?;
+    let graph = graph_of(alloc, rows, number(given.len()))?;
+    strong_components(alloc, &graph, &open)
 }
 
 /// Finds values that are to meet the bound on the rows, for the nodes that are not given theirs. A row that leads to a value which isn't known is left out
@@ -306,9 +335,7 @@ pub fn solve(
     task: Task,
     other: Option<&Solution>,
 ) -> Result<Solution, AllocError> {
-    let open = open_nodes(alloc, rows, given, task)?;
-    let graph = graph_of(alloc, rows, number(given.len()))?;
-    let components = strong_components(alloc, &graph, &open)?;
+    let components = open_components(alloc, rows, given, task)?;
     let solution = first_solution(alloc, given, task.anyway)?;
     let mut solver = Solver {
         rows,
@@ -317,11 +344,6 @@ pub fn solve(
         other,
         solution,
     };
-    for component in 0..components.count() {
-        solver.solve_component(alloc, component)?;
-        if !solver.solution.is_full && !task.to_end {
-            break;
-        }
-    }
+    solver.solve_all(alloc)?;
     Ok(solver.solution)
 }

@@ -4,7 +4,10 @@ use crate::component::Component;
 use crate::eliminate::{Elimination, Entries, Factors, eliminated_rows, most_products};
 use crate::graph::Graph;
 use crate::leaving::Leaving;
-use crate::lists::{Groups, earned_by, flag_at, float_at, greatest_size, number, put, sum_over};
+use crate::lists::{
+    Groups, earned_by, flag_at, greatest_size, item_at, number, part_of, put, put_each, put_earned,
+    sum_over,
+};
 use crate::strong::{Components, strong_components};
 use std::alloc::{AllocError, Global};
 
@@ -30,6 +33,26 @@ pub(crate) struct Unichain<'a> {
     values: Vec<f64>,
     evaluated: Option<Evaluated>,
     products_left: usize,
+    totals: Totals,
+}
+
+/// For each node the constants of a system, and what it has until a reference node: the number of steps, and what is earned.
+#[derive(Drop)]
+struct Totals {
+    constants: Vec<f64>,
+    steps: Vec<f64>,
+    earned: Vec<f64>,
+}
+
+impl Totals {
+    /// All 0, for so many nodes.
+    fn none(alloc: Global, nodes: usize) -> Result<Totals, AllocError> {
+        Ok(Totals {
+            constants: vec![in alloc; 0.0; nodes]?,
+            steps: vec![in alloc; 0.0; nodes]?,
+            earned: vec![in alloc; 0.0; nodes]?,
+        })
+    }
 }
 
 /// A policy with one recurrent class, and its factors as if it ended at a reference node of that.
@@ -61,6 +84,7 @@ impl<'a> Unichain<'a> {
             values: vec![in alloc; 0.0; component.len()]?,
             evaluated: None,
             products_left: most_products(component.len()),
+            totals: Totals::none(alloc, component.len())?,
         })
     }
 
@@ -87,7 +111,7 @@ impl<'a> Unichain<'a> {
 
     /// The policy's row at a node, the first of all where there is no such node.
     fn row_at(&self, node: u32) -> usize {
-        self.policy.get(node as usize).copied().unwrap_or(0)
+        item_at(&self.policy, node as usize, 0)
     }
 
     /// The entries of the policy's row at a node.
@@ -134,26 +158,28 @@ impl<'a> Unichain<'a> {
         true
     }
 
+    /// A node of each component that the policy doesn't leave.
+    fn references(&self, alloc: Global, parts: &Components) -> Result<Vec<u32>, AllocError> {
+        let mut references = Vec::new(alloc);
+        for part in 0..parts.count() {
+            if self.is_closed(parts, part) {
+                references.extend_from_slice(part_of(parts.nodes_of(part), 0, 1))?;
+            }
+        }
+        Ok(references)
+    }
+
     /// The recurrent classes.
     fn classes(&self, alloc: Global) -> Result<Classes, AllocError> {
         let parts = self.parts(alloc)?;
-        let mut references = Vec::new(alloc);
-        for part in 0..parts.count() {
-            if self.is_closed(&parts, part) {
-                if let Some(first) = parts.nodes_of(part).first() {
-                    references.push(*first)?;
-                }
-            }
-        }
+        let references = self.references(alloc, &parts)?;
         Ok(Classes { parts, references })
     }
 
     /// Which nodes are reference nodes.
     fn flagged(&self, alloc: Global, references: &[u32]) -> Result<Vec<bool>, AllocError> {
         let mut is_reference = vec![in alloc; false; self.policy.len()]?;
-        for node in references {
-            put(&mut is_reference, *node, true);
-        }
+        put_each(&mut is_reference, references, true);
         Ok(is_reference)
     }
 
@@ -195,9 +221,9 @@ impl<'a> Unichain<'a> {
             return 1.0;
         }
         let mut exit = 0.0;
-        for (target, prob) in self.entries_at(node) {
-            if flag_at(is_reference, *target) {
-                exit += *prob;
+        for entry in self.entries_at(node) {
+            if flag_at(is_reference, entry.0) {
+                exit += entry.1;
             }
         }
         exit
@@ -205,9 +231,9 @@ impl<'a> Unichain<'a> {
 
     /// The probability of the entries to reference nodes of each of the policy's rows.
     fn exits(&self, alloc: Global, is_reference: &[bool]) -> Result<Vec<f64>, AllocError> {
-        let mut exits = Vec::new(alloc);
+        let mut exits = vec![in alloc; 0.0; self.policy.len()]?;
         for node in 0..number(self.policy.len()) {
-            exits.push(self.exit_at(is_reference, node))?;
+            put(&mut exits, node, self.exit_at(is_reference, node));
         }
         Ok(exits)
     }
@@ -230,72 +256,41 @@ impl<'a> Unichain<'a> {
         }
     }
 
-    /// What the policy's row at each node earns, less a gain; 0 at the reference nodes.
-    fn earned(
-        &self,
-        alloc: Global,
-        gains: &[f64],
-        gain: f64,
-        references: &[u32],
-    ) -> Result<Vec<f64>, AllocError> {
-        let mut earned = Vec::new(alloc);
-        for place in &self.policy {
-            earned.push(earned_by(gains, *place) - gain)?;
-        }
-        for node in references {
-            put(&mut earned, *node, 0.0);
-        }
-        Ok(earned)
-    }
-
     /// The sum of values over the policy's row at a node.
     fn follow(&self, node: u32, values: &[f64]) -> f64 {
         sum_over(0.0, self.entries_at(node), values)
     }
 
-    /// One step at each node but the reference nodes.
-    fn one_each(&self, alloc: Global, references: &[u32]) -> Result<Vec<f64>, AllocError> {
-        let mut one_each = vec![in alloc; 1.0; self.policy.len()]?;
-        for node in references {
-            put(&mut one_each, *node, 0.0);
-        }
-        Ok(one_each)
+    /// Finds how many steps are made from each node until a reference node, and what is earned in these.
+    fn total(&mut self, gains: &[f64], factors: &Factors, references: &[u32]) {
+        let totals = &mut self.totals;
+        totals.constants.fill(1.0);
+        put_each(&mut totals.constants, references, 0.0);
+        factors.solve(&mut totals.constants, &mut totals.steps);
+        put_earned(&mut totals.constants, &self.policy, gains, 0.0);
+        put_each(&mut totals.constants, references, 0.0);
+        factors.solve(&mut totals.constants, &mut totals.earned);
     }
 
-    /// The values that go with these constants.
-    fn solved(
-        &self,
-        alloc: Global,
-        factors: &Factors,
-        mut constants: Vec<f64>,
-    ) -> Result<Vec<f64>, AllocError> {
-        let mut values = vec![in alloc; 0.0; self.policy.len()]?;
-        factors.solve(&mut constants, &mut values);
-        Ok(values)
-    }
-
-    /// The gain of a reference node's class, from what is earned and the number of steps until a reference node.
-    fn gain_at(&self, gains: &[f64], node: u32, totals: &[f64], steps: &[f64]) -> f64 {
+    /// The gain of a reference node's class: what is earned between two visits, over the steps that it takes. The totals are at hand.
+    fn gain_at(&self, gains: &[f64], node: u32) -> f64 {
         let own = earned_by(gains, self.row_at(node));
-        (own + self.follow(node, totals)) / (1.0 + self.follow(node, steps))
+        let earned = own + self.follow(node, &self.totals.earned);
+        earned / (1.0 + self.follow(node, &self.totals.steps))
     }
 
-    /// The gain of the class of each reference node: what is earned between two visits, over the steps that it takes.
-    fn gains_of(
-        &self,
-        alloc: Global,
-        gains: &[f64],
-        factors: &Factors,
-        references: &[u32],
-    ) -> Result<Vec<f64>, AllocError> {
-        let steps = self.solved(alloc, factors, self.one_each(alloc, references)?)?;
-        let earned = self.earned(alloc, gains, 0.0, references)?;
-        let totals = self.solved(alloc, factors, earned)?;
-        let mut found = Vec::new(alloc);
+    /// The node of the greatest gain, the first of equal ones. The totals are at hand.
+    fn greatest(&self, gains: &[f64], references: &[u32]) -> Option<u32> {
+        let mut most = 0.0;
+        let mut best = None;
         for node in references {
-            found.push(self.gain_at(gains, *node, &totals, &steps))?;
+            let gain = self.gain_at(gains, *node);
+            if best.is_none() || gain > most {
+                most = gain;
+                best = Some(*node);
+            }
         }
-        Ok(found)
+        best
     }
 
     /// The policy that leads all nodes to the class of a reference node: those that this one leads there keep their rows.
@@ -305,13 +300,13 @@ impl<'a> Unichain<'a> {
         parts: &Components,
         reference: u32,
     ) -> Result<Vec<usize>, AllocError> {
-        let mut search = Leaving::new(alloc, self.component, &self.leading)?;
+        let mut search = Leaving::new(alloc, self.component, &self.leading, &self.policy)?;
         for node in parts.nodes_of(parts.of(reference) as usize) {
-            search.lead(*node, self.row_at(*node))?;
+            search.lead(*node, self.row_at(*node));
         }
-        search.spread(Some(&self.policy))?;
-        search.spread(None)?;
-        search.policy_or(alloc, &self.policy)
+        search.spread(Some(&self.policy));
+        search.spread(None);
+        Ok(search.into_policy())
     }
 
     /// The reference node of the policy that was evaluated last, where it is in the component of a node; else that node.
@@ -336,8 +331,8 @@ impl<'a> Unichain<'a> {
         let Some(factors) = self.eliminated(alloc, references)? else {
             return Ok(None);
         };
-        let found = self.gains_of(alloc, gains, &factors, references)?;
-        Ok(greatest(&found, references))
+        self.total(gains, &factors, references);
+        Ok(self.greatest(gains, references))
     }
 
     /// A node of the recurrent class of greatest gain, to which all nodes are led. None where elimination fails.
@@ -361,18 +356,20 @@ impl<'a> Unichain<'a> {
         reference: u32,
     ) -> Result<u32, AllocError> {
         let mut visits = vec![in alloc; 0.0; self.policy.len()]?;
-        for (node, prob) in self.entries_at(reference) {
-            put(&mut visits, *node, *prob);
+        for entry in self.entries_at(reference) {
+            put(&mut visits, entry.0, entry.1);
         }
         put(&mut visits, reference, 0.0);
         factors.visit(&mut visits);
-        let mut best = (MUCH_MORE, reference);
-        for (place, times) in visits.iter().enumerate() {
-            if *times > best.0 {
-                best = (*times, number(place));
+        let mut most = MUCH_MORE;
+        let mut best = reference;
+        for place in 0..visits.len() {
+            if visits[place] > most {
+                most = visits[place];
+                best = number(place);
             }
         }
-        Ok(best.1)
+        Ok(best)
     }
 
     /// The policy's factors with a reference node that is visited often, of its only class, and that node. None where elimination fails.
@@ -388,8 +385,10 @@ impl<'a> Unichain<'a> {
         if better == reference {
             return Ok(Some((factors, reference)));
         }
-        let factors = self.eliminated(alloc, &[better])?;
-        Ok(factors.map(|factors| (factors, better)))
+        match self.eliminated(alloc, &[better])? {
+            Some(factors) => Ok(Some((factors, better))),
+            None => Ok(None),
+        }
     }
 
     /// The policy with factors, which are at hand where it was evaluated last. None where elimination fails.
@@ -421,24 +420,23 @@ impl<'a> Unichain<'a> {
         };
         let factors = &evaluated.factors;
         let references = [evaluated.reference];
-        let found = self.gains_of(alloc, gains, factors, &references)?;
-        let gain = float_at(&found, 0);
-        let mut earned = self.earned(alloc, gains, gain, &references)?;
-        factors.solve(&mut earned, &mut self.values);
+        self.total(gains, factors, &references);
+        let gain = self.gain_at(gains, evaluated.reference);
+        put_earned(&mut self.totals.constants, &self.policy, gains, gain);
+        put_each(&mut self.totals.constants, &references, 0.0);
+        factors.solve(&mut self.totals.constants, &mut self.values);
         self.evaluated = Some(evaluated);
         Ok(Some(gain))
     }
 
     /// The row of the node at a place that has more advantage than the policy's, and most of all.
     fn improved(&self, gains: &[f64], place: usize, least: f64) -> Option<usize> {
-        let chosen = self.policy.get(place).copied()?;
-        let (own, gain) = self.component.earning(chosen, gains)?;
-        let mut best = self.component.over(own, gain, &self.values) + least;
+        let chosen = item_at(&self.policy, place, 0);
+        let mut best = self.component.gained(chosen, gains, &self.values) + least;
         let mut better = None;
         let (from, to) = self.component.range_of(place);
         for at in from..to {
-            let (row, gain) = self.component.earning(at, gains)?;
-            let more = self.component.over(row, gain, &self.values);
+            let more = self.component.gained(at, gains, &self.values);
             if more > best {
                 best = more;
                 better = Some(at);
@@ -478,17 +476,4 @@ impl<'a> Unichain<'a> {
         }
         Ok(found)
     }
-}
-
-/// The node of the greatest of these values, the first of equal ones.
-fn greatest(values: &[f64], nodes: &[u32]) -> Option<u32> {
-    let mut best = None;
-    for (value, node) in values.iter().zip(nodes) {
-        match best {
-            Some((old, _)) if !(*value > old) => {}
-            _ => best = Some((*value, *node)),
-        }
-    }
-    let (_, node) = best?;
-    Some(node)
 }

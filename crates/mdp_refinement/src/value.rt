@@ -1,5 +1,7 @@
 //! Values that may not be known, in 16 bytes each.
 
+use crate::lists::item_at;
+
 /// A value in units, or none.
 #[derive(Clone, Copy)]
 pub struct Value {
@@ -44,5 +46,5 @@ impl Value {
 
 /// The value of a node, in units; none where it isn't known.
 pub fn value_at(values: &[Value], node: u32) -> Option<i128> {
-    values.get(node as usize).copied()?.units()
+    item_at(values, node as usize, Value::none()).units()
 }
