@@ -1,3 +1,5 @@
+use Rattle.std.proofs.Common.{ap, ◌∙◌, length, ◌==◌, ℕ}
+use Rattle.std.proofs.lemmas.List.{length-map}
 use Rattle.mdp_graph.proofs.LeftRanks.{inside_ranked, settled_left}
 use Rattle.mdp_graph.proofs.SureSome.{sure_marks, sure_ranks, sure_choices}
 use Rattle.mdp_graph.proofs.falling.sure_pass.Goals as goal
@@ -18,3 +20,12 @@ returns-clause-choices c =
     rw (c.in_ok-by_ranks.ensures.marks, c.in_ok-by_ranks.ensures.ranks, c.in_ok-by_ranks.ensures.choices, c.deref-2.ensures.value)
     (sure_choices _ _ _ (settled_left _ _ _ _ _ ok c.requires.rounds c.in_ok-inside.ensures c.in_ok-ranks.ensures) ok _ _ _
     (inside_ranked _ _ _ _ _ ok c.requires.rounds c.in_ok-inside.ensures c.in_ok-ranks.ensures) c.deref.ensures.value c.in_ok-choices.ensures)
+
+pub ranks_inside-requires-clause-inside : goal.ranks_inside-requires-clause-inside
+ranks_inside-requires-clause-inside c = ap length c.in_ok-inside.ensures ∙ length-map c.args.rounds.now (λ (r : ℕ). r == 0) ∙ c.requires.rounds.count
+
+pub least_choices-requires-clause-inside : goal.least_choices-requires-clause-inside
+least_choices-requires-clause-inside c = ap length c.in_ok-inside.ensures ∙ length-map c.args.rounds.now (λ (r : ℕ). r == 0) ∙ c.requires.rounds.count
+
+pub least_choices-requires-clause-ranks : goal.least_choices-requires-clause-ranks
+least_choices-requires-clause-ranks c = ap length c.deref.ensures.value ∙ c.in_ok-ranks.ensures.count

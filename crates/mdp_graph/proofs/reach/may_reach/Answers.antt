@@ -1,4 +1,5 @@
-use Rattle.std.proofs.Common.{ap, ◌∙◌, ℕ, true, replicate}
+use Rattle.std.proofs.Common.{ap, ◌∙◌, ℕ, true, replicate, length, arith}
+use Rattle.std.proofs.lemmas.List.{length-replicate}
 use Rattle.mdp_graph.proofs.MayReach.{may_seen, may_choices}
 use Rattle.mdp_graph.proofs.reach.may_reach.Goals as goal
 
@@ -16,3 +17,12 @@ pub returns-clause-choices : goal.returns-clause-choices
 returns-clause-choices c =
     rw (c.in_ok-by_ranks.ensures.marks, c.in_ok-by_ranks.ensures.ranks, c.in_ok-by_ranks.ensures.choices, c.deref-2.ensures.value)
     (may_choices _ c.known.ensures.mdp _ _ _ (c.in_ok-all.ensures ∙ ap (λ (n : ℕ). replicate n true) c.states.ensures) _ c.in_ok-ranks.ensures _ _ c.deref.ensures.value c.in_ok-choices.ensures)
+
+pub ranks_along-requires-clause-inside : goal.ranks_along-requires-clause-inside
+ranks_along-requires-clause-inside c = ap length c.in_ok-all.ensures ∙ length-replicate c.states.result true ∙ c.states.ensures
+
+pub least_choices-requires-clause-inside : goal.least_choices-requires-clause-inside
+least_choices-requires-clause-inside c = ap length c.in_ok-all.ensures ∙ length-replicate c.states.result true ∙ c.states.ensures
+
+pub least_choices-requires-clause-ranks : goal.least_choices-requires-clause-ranks
+least_choices-requires-clause-ranks c = ap length c.deref.ensures.value ∙ c.in_ok-ranks.ensures.by_edges.count
