@@ -166,18 +166,15 @@ pub struct SureRounds {
     pub rounds: Vec<u32>,
 }
 
-/// Whether each round is 0.
-fn are_zero(alloc: Global, rounds: &[u32]) -> Result<Vec<bool>, AllocError>
-    ensures { IfOk result (λ zero. zero.items ≡ map (λ r. r == 0) rounds.now) }
-{
-    rounds.iter().map(|round| *round == 0).collect(alloc)
-}
-
 /// The states of round 0.
 fn zero_marks(alloc: Global, rounds: &[u32]) -> Result<Marks, AllocError>
     ensures { IfOk result (λ marks. marks ≡ map (λ r. r == 0) rounds.now) }
 {
-    Ok(Marks::from_values(are_zero(alloc, rounds)?))
+    let mut values = Vec::with_capacity(alloc, rounds.len())?;
+    for round in rounds {
+        values.push(*round == 0)?;
+    }
+    Ok(Marks::from_values(values))
 }
 
 /// What `sure_some` answers, by the rounds: the states of round 0 are the greatest sure set.
