@@ -16,7 +16,7 @@ use crate::forest::{
     Way, attach_all, cut_below, cut_choices, found_ways, no_ways, take_found, unattached,
 };
 use crate::layers::Layers;
-use crate::pass::{Pass, least_choices};
+use crate::pass::Pass;
 use crate::rounds::rounds_outside;
 use crate::sure::ranks_inside;
 use mdp_num::Memory;
@@ -49,8 +49,7 @@ fn cut_ways(
     ensures { IfOk result (λ broken. IsUncut ways.old.items ways.new.items (leading_to preds.now fell.now) broken.items) }
 {
     let first = cut_choices(alloc, ways, preds, fell)?;
-    let broken = cut_below(alloc, ways, preds, first)?;
-    Ok(broken)
+    cut_below(alloc, ways, preds, first)
 }
 
 /// The states that fell so far, with their rounds as ranks, and a way to a goal for each that is left after the last round.
@@ -188,8 +187,7 @@ fn sure_pass(alloc: Global, model: &Model, goals: &Marks, rounds: &[u32]) -> Res
     model.known();
     let inside = zero_marks(alloc, rounds)?;
     let ranks = ranks_inside(alloc, model, &inside, goals)?;
-    let choices = least_choices(alloc, model, &inside, &ranks)?;
-    Ok(Pass::by_ranks(alloc, &ranks, choices)?)
+    Ok(Pass::with_least_choices(alloc, model, &inside, &ranks)?)
 }
 
 /// What `sure_some` and `rounds_outside` answer, in one call. Each round begins at the states that fell in the one before.

@@ -59,6 +59,25 @@ impl Pass {
         })
     }
 
+    /// The states that have a rank, each with the least of its choices that stay inside and have a successor of smaller rank.
+    pub(crate) fn with_least_choices(
+        alloc: Global,
+        model: &Model,
+        inside: &Marks,
+        ranks: &[Option<u32>],
+    ) -> Result<Pass, AllocError>
+        requires inside { length inside.now ≡ states_of model.now }
+        requires ranks { length ranks.now ≡ states_of model.now }
+        ensures marks { IfOk result (λ pass. pass.marks ≡ map is_some ranks.now) }
+        ensures ranks { IfOk result (λ pass. pass.ranks.items ≡ map plain_rank ranks.now) }
+        ensures choices { IfOk result (λ pass. pass.choices.items ≡ first_passing model.now (may_fall model.now inside.now ranks.now)) }
+        ensures reached { IfOk result (λ pass. (step : (ℕ → Bool) → ℕ → Bool) (first : ℕ → Bool) (n : ℕ) → AreRanks step first n ranks.now → AreReached step first n pass.marks) }
+        ensures least { IfOk result (λ pass. (step : (ℕ → Bool) → ℕ → Bool) (first : ℕ → Bool) (n : ℕ) → AreRanks step first n ranks.now → AreLeastRanks step first n pass.marks pass.ranks.items) }
+    {
+        let choices = least_choices(alloc, model, inside, ranks)?;
+        Pass::by_ranks(alloc, ranks, choices)
+    }
+
     /// The states that have a rank. Choices are 0.
     pub(crate) fn without_choices(alloc: Global, ranks: &[Option<u32>]) -> Result<Pass, AllocError>
         ensures marks { IfOk result (λ pass. pass.marks ≡ map is_some ranks.now) }
@@ -131,7 +150,7 @@ fn least_choice(model: &Model, inside: &Marks, ranks: &[Option<u32>], s: u32) ->
 }
 
 /// The least such choice of each state; 0 where there is none.
-pub(crate) fn least_choices(
+fn least_choices(
     alloc: Global,
     model: &Model,
     inside: &Marks,

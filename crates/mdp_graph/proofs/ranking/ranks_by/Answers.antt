@@ -3,6 +3,8 @@ use Rattle.std.proofs.lemmas.List.{length-replicate}
 use Rattle.mdp_rows.specs.Preds.{is_among}
 use Rattle.mdp_graph.proofs.Among.{below-all}
 use Rattle.mdp_graph.proofs.RankFacts.{started, layered_from}
+use Rattle.std.proofs.Common.{subst, List}
+use Rattle.mdp_graph.specs.Edges.{AreEdges}
 use Rattle.mdp_graph.proofs.ranking.ranks_by.Goals as goal
 
 pub give_rank-requires : goal.give_rank-requires
@@ -24,3 +26,6 @@ next_layer-requires-clause-in_range c =
 
 pub loop-alloc-preserved : goal.loop-alloc-preserved
 loop-alloc-preserved c = layered_from _ _ _ _ _ _ _ _ _ c.loop-alloc.invariant c.in_ok-layer.ensures c.deref-in-loop-alloc.ensures.value (first_of (omega arith, grind arith))
+
+pub next_layer-requires-clause-edges : goal.next_layer-requires-clause-edges
+next_layer-requires-clause-edges c = subst (λ (n : ℕ). AreEdges n c.args.preds.now) (sym c.loop-alloc.invariant.count) c.requires.edges
