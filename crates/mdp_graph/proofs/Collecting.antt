@@ -16,6 +16,9 @@ pub collected : {A : Type 0} → (f : ℕ → A) (n : ℕ) (old new : List A) (x
 collected {A} f n old new x was e is =
     e ∙ ap (λ (ys : List A). ys ++ x ∷ []) was ∙ ap (λ (y : A). map f (range_with_len 0 n) ++ y ∷ []) is ∙ sym (map_more f n)
 
+pub all_collected : {A : Type 0} → (f : ℕ → A) (n k : ℕ) (list : List A) → list ≡ map f (range_with_len 0 k) → k ≡ n → list ≡ map f (range_with_len 0 n)
+all_collected f n k list was e = was ∙ ap (λ j. map f (range_with_len 0 j)) e
+
 -- one element for each of the first ones of a list
 pub mapped : {A B : Type 0} → (f : A → B) (xs : List A) (i : ℕ) (d : A) (old new : List B) (x : B) → old ≡ map f (take i xs) → new ≡ old ++ x ∷ [] → i < length xs → x ≡ f (get_or xs i d)
     → new ≡ map f (take (i + 1) xs)

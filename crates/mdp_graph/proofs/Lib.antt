@@ -40,3 +40,4 @@ pub mod Settling
 pub mod Rising
 pub mod OnePass
 pub mod Collecting
+pub mod ModelBy

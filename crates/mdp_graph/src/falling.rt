@@ -73,6 +73,13 @@ impl Falling {
         })
     }
 
+    /// The rounds in which the states fell.
+    fn into_ranks(self) -> Vec<Option<u32>>
+        ensures { result.items ≡ self.layers.ranks.items }
+    {
+        self.layers.into_ranks()
+    }
+
     /// Gives the broken states ways, where they have some by choices that wait. Answers those that have none.
     fn attach(
         &mut self,
@@ -155,7 +162,7 @@ pub(crate) fn falling_rounds(
         fell = falling.next(alloc, model, goals, &fell, round)?;
         round += 1;
     }
-    Ok(falling.layers.ranks)
+    Ok(falling.into_ranks())
 }
 
 /// The greatest sure set, with ranks and choices, and the rounds of the states outside.
