@@ -6,6 +6,7 @@ use Rattle.mdp_math.specs.Rational.{ℚ, of_int, ratio, ◌+ℚ◌, ◌<ℚ◌, 
 use Rattle.mdp_spec.specs.Mdp.{Mdp, choices_at, row_at}
 use Rattle.mdp_spec.specs.Row.{IsRow, IsMdp}
 use Rattle.mdp_rows.specs.Preds.{pair}
+use Rattle.mdp_graph.proofs.ModelBy.{model_by, one_row}
 use Rattle.mdp_ends.specs.Ends.{is_inside, count_of, AreEnds}
 use Rattle.mdp_ends.specs.Quotient.{AreNodes, exits_of, nodes_in, node_row}
 use Rattle.mdp_graph.specs.Layers.{reached}
@@ -101,27 +102,6 @@ way_nodes = 0 ∷ 1 ∷ []
 
 -- ---- all are models
 
-row_0 : IsRow 3 (entry 0 one ∷ [])
-unfolding gcd gcd_with_fuel ratio of_int ◌+ℚ◌ lt_ℚ
-row_0 = record {
-  distribution = record { ascending = refl; positive = All-from_recursion (λ x. of_int (pos 0) <ℚ x.prob) (entry 0 one ∷ []) (record { lt = tt }, tt); total = refl };
-  in_range = All-from_recursion (λ x. x.target < 3) (entry 0 one ∷ []) (omega arith, tt);
-}
-
-row_1 : IsRow 3 (entry 1 one ∷ [])
-unfolding gcd gcd_with_fuel ratio of_int ◌+ℚ◌ lt_ℚ
-row_1 = record {
-  distribution = record { ascending = refl; positive = All-from_recursion (λ x. of_int (pos 0) <ℚ x.prob) (entry 1 one ∷ []) (record { lt = tt }, tt); total = refl };
-  in_range = All-from_recursion (λ x. x.target < 3) (entry 1 one ∷ []) (omega arith, tt);
-}
-
-row_2 : IsRow 3 (entry 2 one ∷ [])
-unfolding gcd gcd_with_fuel ratio of_int ◌+ℚ◌ lt_ℚ
-row_2 = record {
-  distribution = record { ascending = refl; positive = All-from_recursion (λ x. of_int (pos 0) <ℚ x.prob) (entry 2 one ∷ []) (record { lt = tt }, tt); total = refl };
-  in_range = All-from_recursion (λ x. x.target < 3) (entry 2 one ∷ []) (omega arith, tt);
-}
-
 row_halves : IsRow 3 (entry 1 half ∷ entry 2 half ∷ [])
 unfolding gcd gcd_with_fuel ratio of_int ◌+ℚ◌ lt_ℚ
 row_halves = record {
@@ -141,92 +121,21 @@ row_quarters = record {
   in_range = All-from_recursion (λ x. x.target < 3) (entry 0 half ∷ entry 1 quarter ∷ entry 2 quarter ∷ []) (omega arith, (omega arith, (omega arith, tt)));
 }
 
-first_row : IsRow 2 (entry 0 one ∷ [])
-unfolding gcd gcd_with_fuel ratio of_int ◌+ℚ◌ lt_ℚ
-first_row = record {
-  distribution = record { ascending = refl; positive = All-from_recursion (λ x. of_int (pos 0) <ℚ x.prob) (entry 0 one ∷ []) (record { lt = tt }, tt); total = refl };
-  in_range = All-from_recursion (λ x. x.target < 2) (entry 0 one ∷ []) (omega arith, tt);
-}
-
-last_row : IsRow 2 (entry 1 one ∷ [])
-unfolding gcd gcd_with_fuel ratio of_int ◌+ℚ◌ lt_ℚ
-last_row = record {
-  distribution = record { ascending = refl; positive = All-from_recursion (λ x. of_int (pos 0) <ℚ x.prob) (entry 1 one ∷ []) (record { lt = tt }, tt); total = refl };
-  in_range = All-from_recursion (λ x. x.target < 2) (entry 1 one ∷ []) (omega arith, tt);
-}
-
 three_parts-model : IsMdp three_parts
-three_parts-model = record { some = omega arith; few = omega arith; choice = choices; row = rows }
-  where
-    choices : (s : ℕ) → s < 3 → 0 < length (choices_at three_parts s)
-    choices zero h = omega arith
-    choices (suc zero) h = omega arith
-    choices (suc (suc zero)) h = omega arith
-    choices (suc (suc (suc s))) h = absurd (omega arith)
-
-    rows : (s c : ℕ) → s < 3 → c < length (choices_at three_parts s) → IsRow 3 (row_at three_parts s c)
-    rows zero zero h l = row_0
-    rows zero (suc zero) h l = row_halves
-    rows zero (suc (suc c)) h l = absurd (omega arith)
-    rows (suc zero) zero h l = row_1
-    rows (suc zero) (suc c) h l = absurd (omega arith)
-    rows (suc (suc zero)) zero h l = row_2
-    rows (suc (suc zero)) (suc c) h l = absurd (omega arith)
-    rows (suc (suc (suc s))) c h l = absurd (omega arith)
+three_parts-model =
+    model_by three_parts (omega arith) (omega arith)
+    ((omega arith, (one_row 3 0 (omega arith), (row_halves, tt))), ((omega arith, (one_row 3 1 (omega arith), tt)), ((omega arith, (one_row 3 2 (omega arith), tt)), tt)))
 
 two_parts-model : IsMdp two_parts
-two_parts-model = record { some = omega arith; few = omega arith; choice = choices; row = rows }
-  where
-    choices : (s : ℕ) → s < 3 → 0 < length (choices_at two_parts s)
-    choices zero h = omega arith
-    choices (suc zero) h = omega arith
-    choices (suc (suc zero)) h = omega arith
-    choices (suc (suc (suc s))) h = absurd (omega arith)
-
-    rows : (s c : ℕ) → s < 3 → c < length (choices_at two_parts s) → IsRow 3 (row_at two_parts s c)
-    rows zero zero h l = row_1
-    rows zero (suc zero) h l = row_2
-    rows zero (suc (suc c)) h l = absurd (omega arith)
-    rows (suc zero) zero h l = row_0
-    rows (suc zero) (suc c) h l = absurd (omega arith)
-    rows (suc (suc zero)) zero h l = row_2
-    rows (suc (suc zero)) (suc c) h l = absurd (omega arith)
-    rows (suc (suc (suc s))) c h l = absurd (omega arith)
+two_parts-model =
+    model_by two_parts (omega arith) (omega arith)
+    ((omega arith, (one_row 3 1 (omega arith), (one_row 3 2 (omega arith), tt))), ((omega arith, (one_row 3 0 (omega arith), tt)), ((omega arith, (one_row 3 2 (omega arith), tt)), tt)))
 
 splits-model : IsMdp splits
-splits-model = record { some = omega arith; few = omega arith; choice = choices; row = rows }
-  where
-    choices : (s : ℕ) → s < 3 → 0 < length (choices_at splits s)
-    choices zero h = omega arith
-    choices (suc zero) h = omega arith
-    choices (suc (suc zero)) h = omega arith
-    choices (suc (suc (suc s))) h = absurd (omega arith)
-
-    rows : (s c : ℕ) → s < 3 → c < length (choices_at splits s) → IsRow 3 (row_at splits s c)
-    rows zero zero h l = row_halves
-    rows zero (suc zero) h l = row_quarters
-    rows zero (suc (suc c)) h l = absurd (omega arith)
-    rows (suc zero) zero h l = row_1
-    rows (suc zero) (suc c) h l = absurd (omega arith)
-    rows (suc (suc zero)) zero h l = row_2
-    rows (suc (suc zero)) (suc c) h l = absurd (omega arith)
-    rows (suc (suc (suc s))) c h l = absurd (omega arith)
+splits-model = model_by splits (omega arith) (omega arith) ((omega arith, (row_halves, (row_quarters, tt))), ((omega arith, (one_row 3 1 (omega arith), tt)), ((omega arith, (one_row 3 2 (omega arith), tt)), tt)))
 
 one_way-model : IsMdp one_way
-one_way-model = record { some = omega arith; few = omega arith; choice = choices; row = rows }
-  where
-    choices : (s : ℕ) → s < 2 → 0 < length (choices_at one_way s)
-    choices zero h = omega arith
-    choices (suc zero) h = omega arith
-    choices (suc (suc s)) h = absurd (omega arith)
-
-    rows : (s c : ℕ) → s < 2 → c < length (choices_at one_way s) → IsRow 2 (row_at one_way s c)
-    rows zero zero h l = first_row
-    rows zero (suc zero) h l = last_row
-    rows zero (suc (suc c)) h l = absurd (omega arith)
-    rows (suc zero) zero h l = last_row
-    rows (suc zero) (suc c) h l = absurd (omega arith)
-    rows (suc (suc s)) c h l = absurd (omega arith)
+one_way-model = model_by one_way (omega arith) (omega arith) ((omega arith, (one_row 2 0 (omega arith), (one_row 2 1 (omega arith), tt))), ((omega arith, (one_row 2 1 (omega arith), tt)), tt))
 
 -- ---- their end components and nodes
 

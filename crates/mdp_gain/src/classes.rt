@@ -154,7 +154,8 @@ impl Chosen<'_> {
         requires parts { length parts.now ≡ count (component_in self.now.component) }
         requires below { All (λ k. k < length parts.now) parts.now }
         ensures count { IfOk result (λ marks. length marks ≡ count (component_in self.now.component)) }
-        ensures left { IfOk result (λ marks. (k : ℕ) → k < count (component_in self.now.component) → marked marks k ≡ has_flag (map (leaves (component_in self.now.component) self.now.policy.now parts.now) (range_with_len 0 (count (component_in self.now.component)))) parts.now (count (component_in self.now.component)) k) }
+        ensures left { IfOk result (λ marks. (k : ℕ) → k < count (component_in self.now.component) → marked marks k
+            ≡ has_flag (map (leaves (component_in self.now.component) self.now.policy.now parts.now) (range_with_len 0 (count (component_in self.now.component)))) parts.now (count (component_in self.now.component)) k) }
     {
         let flags = self.leaving(alloc, parts)?;
         flagged_parts(alloc, &flags, parts)
@@ -185,7 +186,12 @@ impl Chosen<'_> {
         requires { AreClasses (component_in self.now.component) self.now.policy.now classes.now.parts.items classes.now.left }
         ensures { result ≡ find (is_in_class (component_in self.now.component) classes.now.parts.items classes.now.left) (range_with_len 0 (count (component_in self.now.component))) }
     {
-        (0..self.component.count()).find(|s| self.in_class(classes, *s))
+        for s in 0..self.component.count() {
+            if self.in_class(classes, s) {
+                return Some(s);
+            }
+        }
+        None
     }
 
     /// Whether state `s` is in a closed class with a changed state.
@@ -204,7 +210,12 @@ impl Chosen<'_> {
         requires changed { length changed.now ≡ count (component_in self.now.component) }
         ensures { result ≡ find (is_in_changed_class (component_in self.now.component) classes.now.parts.items classes.now.left changed.now) (range_with_len 0 (count (component_in self.now.component))) }
     {
-        (0..self.component.count()).find(|s| self.in_changed_class(classes, changed, *s))
+        for s in 0..self.component.count() {
+            if self.in_changed_class(classes, changed, s) {
+                return Some(s);
+            }
+        }
+        None
     }
 
     /// For each number whether the part of this number has a state where the policy differs from another one.
@@ -212,7 +223,9 @@ impl Chosen<'_> {
         requires are { AreClasses (component_in self.now.component) self.now.policy.now classes.now.parts.items classes.now.left }
         requires policy { IsPolicy (component_in self.now.component) policy.now }
         ensures count { IfOk result (λ changed. length changed ≡ count (component_in self.now.component)) }
-        ensures changed { IfOk result (λ changed. (s : ℕ) → s < count (component_in self.now.component) → marked changed (slice_index classes.now.parts.items s) ≡ has_flag (map (differs policy.now self.now.policy.now) (range_with_len 0 (count (component_in self.now.component)))) classes.now.parts.items (count (component_in self.now.component)) (slice_index classes.now.parts.items s)) }
+        ensures changed { IfOk result (λ changed. (s : ℕ) → s < count (component_in self.now.component) → marked changed (slice_index classes.now.parts.items s)
+            ≡ has_flag (map (differs policy.now self.now.policy.now) (range_with_len 0 (count (component_in self.now.component))))
+            classes.now.parts.items (count (component_in self.now.component)) (slice_index classes.now.parts.items s)) }
     {
         let flags = differing(alloc, policy, self.policy)?;
         flagged_parts(alloc, &flags, &classes.parts)

@@ -67,7 +67,8 @@ impl Only<'_> {
 
     /// The choice that improves choice `c`, which has this gain.
     fn improved(&self, c: u32, gain: &Frac) -> Result<u32, RoundError>
-        ensures { Answers (policy_of (component_in self.now.component) self.now.s) result (written_improved (component_in self.now.component) (policy_of (component_in self.now.component) self.now.s c) (values_of (component_in self.now.component) gain.now)) }
+        ensures { Answers (policy_of (component_in self.now.component) self.now.s) result
+            (written_improved (component_in self.now.component) (policy_of (component_in self.now.component) self.now.s c) (values_of (component_in self.now.component) gain.now)) }
     {
         let present = at_choice(gain.add(&Frac::whole(0)), self.s, c)?;
         self.component.choice_over(self, self.s, c, present)

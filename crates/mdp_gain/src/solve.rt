@@ -28,7 +28,11 @@ fn choices_at(alloc: Global, states: &[u32], policy: &[u32]) -> Result<Vec<u32>,
     requires { All (λ s. s < length policy.now) states.now }
     ensures { IfOk result (λ choices. choices.items ≡ map (slice_index policy.now) states.now) }
 {
-    states.iter().map(|s| policy[*s as usize]).collect(alloc)
+    let mut choices = Vec::with_capacity(alloc, states.len())?;
+    for s in states {
+        choices.push(policy[*s as usize])?;
+    }
+    Ok(choices)
 }
 
 /// The value of state `s`.
@@ -44,7 +48,11 @@ fn values_at(alloc: Global, states: &[u32], values: &[Frac]) -> Result<Vec<Frac>
     requires { All (λ s. s < length values.now) states.now }
     ensures { IfOk result (λ list. list.items ≡ map (value_at values.now) states.now) }
 {
-    states.iter().map(|s| value_of(values, *s)).collect(alloc)
+    let mut list = Vec::with_capacity(alloc, states.len())?;
+    for s in states {
+        list.push(value_of(values, *s))?;
+    }
+    Ok(list)
 }
 
 /// What was found, at these states.
@@ -86,7 +94,13 @@ impl EndComponent<'_> {
     fn states(&self, alloc: Global) -> Result<Vec<u32>, AllocError>
         ensures { IfOk result (λ states. states.items ≡ filter (is_state (component_in self.now)) (range_with_len 0 (count (component_in self.now)))) }
     {
-        (0..self.count()).filter(|s| self.holds(*s)).collect(alloc)
+        let mut states = Vec::new(alloc);
+        for s in 0..self.count() {
+            if self.holds(s) {
+                states.push(s)?;
+            }
+        }
+        Ok(states)
     }
 
     /// The end of the path as that of the query.

@@ -27,7 +27,12 @@ impl EndComponent<'_> {
     fn least_state(&self) -> Option<u32>
         ensures { result ≡ find (is_state (component_in self.now)) (range_with_len 0 (count (component_in self.now))) }
     {
-        (0..self.count()).find(|s| self.holds(*s))
+        for s in 0..self.count() {
+            if self.holds(s) {
+                return Some(s);
+            }
+        }
+        None
     }
 
     /// The least choice of state `s` that is one of the component.
@@ -35,7 +40,12 @@ impl EndComponent<'_> {
         requires { s < count (component_in self.now) }
         ensures { result ≡ find (λ c. (choice_at (component_in self.now) s c).inner) (range_with_len 0 (length (choices_at (component_in self.now) s))) }
     {
-        (0..self.choices(s)).find(|c| self.is_inner(s, *c))
+        for c in 0..self.choices(s) {
+            if self.is_inner(s, c) {
+                return Some(c);
+            }
+        }
+        None
     }
 
     /// The start policy: it goes toward the least state of the component, and takes the least choice of the component there.

@@ -7,6 +7,7 @@ use Rattle.mdp_math.specs.Gcd.{gcd, gcd_with_fuel}
 use Rattle.mdp_math.specs.Rational.{of_int, ratio, ◌+ℚ◌, ◌<ℚ◌, lt_ℚ}
 use Rattle.mdp_spec.specs.Mdp.{Entry, State, Mdp, states_of, choices_at, row_at}
 use Rattle.mdp_spec.specs.Row.{IsRow, IsMdp}
+use Rattle.mdp_graph.proofs.ModelBy.{model_by, one_row}
 use Rattle.mdp_graph.specs.Sets.{marked, can_enter}
 use Rattle.mdp_graph.specs.Layers.{reached, rank_at, AreRanks, AreReached, AreLeastRanks}
 use Rattle.mdp_graph.specs.Choices.{AreLeast}
@@ -85,56 +86,11 @@ zero_two = record {
   in_range = All-from_recursion (λ x. x.target < 3) (halves 0 2) (omega arith, (omega arith, tt));
 }
 
-one_alone : IsRow 3 (only 1)
-unfolding gcd gcd_with_fuel ratio of_int ◌+ℚ◌ lt_ℚ
-one_alone = record {
-  distribution = record { ascending = refl; positive = All-from_recursion (λ x. of_int (pos 0) <ℚ x.prob) (only 1) (record { lt = tt }, tt); total = refl };
-  in_range = All-from_recursion (λ x. x.target < 3) (only 1) (omega arith, tt);
-}
-
-two_alone : IsRow 3 (only 2)
-unfolding gcd gcd_with_fuel ratio of_int ◌+ℚ◌ lt_ℚ
-two_alone = record {
-  distribution = record { ascending = refl; positive = All-from_recursion (λ x. of_int (pos 0) <ℚ x.prob) (only 2) (record { lt = tt }, tt); total = refl };
-  in_range = All-from_recursion (λ x. x.target < 3) (only 2) (omega arith, tt);
-}
-
 pub splits_model : IsMdp splits
-splits_model = record { some = omega arith; few = omega arith; choice = choices; row = rows }
-  where
-    choices : (s : ℕ) → s < 3 → 0 < length (choices_at splits s)
-    choices zero h = omega arith
-    choices (suc zero) h = omega arith
-    choices (suc (suc zero)) h = omega arith
-    choices (suc (suc (suc s))) h = absurd (omega arith)
-
-    rows : (s c : ℕ) → s < 3 → c < length (choices_at splits s) → IsRow 3 (row_at splits s c)
-    rows zero zero h l = one_two
-    rows zero (suc c) h l = absurd (omega arith)
-    rows (suc zero) zero h l = one_alone
-    rows (suc zero) (suc c) h l = absurd (omega arith)
-    rows (suc (suc zero)) zero h l = two_alone
-    rows (suc (suc zero)) (suc c) h l = absurd (omega arith)
-    rows (suc (suc (suc s))) c h l = absurd (omega arith)
+splits_model = model_by splits (omega arith) (omega arith) ((omega arith, (one_two, tt)), ((omega arith, (one_row 3 1 (omega arith), tt)), ((omega arith, (one_row 3 2 (omega arith), tt)), tt)))
 
 pub trap_model : IsMdp trap
-trap_model = record { some = omega arith; few = omega arith; choice = choices; row = rows }
-  where
-    choices : (s : ℕ) → s < 3 → 0 < length (choices_at trap s)
-    choices zero h = omega arith
-    choices (suc zero) h = omega arith
-    choices (suc (suc zero)) h = omega arith
-    choices (suc (suc (suc s))) h = absurd (omega arith)
-
-    rows : (s c : ℕ) → s < 3 → c < length (choices_at trap s) → IsRow 3 (row_at trap s c)
-    rows zero zero h l = one_alone
-    rows zero (suc zero) h l = zero_two
-    rows zero (suc (suc c)) h l = absurd (omega arith)
-    rows (suc zero) zero h l = one_alone
-    rows (suc zero) (suc c) h l = absurd (omega arith)
-    rows (suc (suc zero)) zero h l = two_alone
-    rows (suc (suc zero)) (suc c) h l = absurd (omega arith)
-    rows (suc (suc (suc s))) c h l = absurd (omega arith)
+trap_model = model_by trap (omega arith) (omega arith) ((omega arith, (one_row 3 1 (omega arith), (zero_two, tt))), ((omega arith, (one_row 3 1 (omega arith), tt)), ((omega arith, (one_row 3 2 (omega arith), tt)), tt)))
 
 -- ---- state 0 that splits
 

@@ -39,3 +39,5 @@ pub mod Taking
 pub mod Settling
 pub mod Rising
 pub mod OnePass
+pub mod Collecting
+pub mod ModelBy

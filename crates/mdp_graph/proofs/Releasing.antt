@@ -2,7 +2,7 @@
 use Rattle.std.proofs.Common.{◌≡◌, ◌≢◌, inl, inr, ℕ, zero, suc, ◌+◌, ◌-◌, ◌<◌, Bool, true, false}
 use Rattle.std.proofs.Common.{◌||◌, ◌&&◌, ◌==◌, not, cond, List, [], ◌∷◌, ◌++◌, length, map, replicate, take}
 use Rattle.std.proofs.Common.{get_or, set, refl, sym, ap, ◌∙◌, arith, eq-eqb, Option, is_none}
-use Rattle.std.specs.List.{list_any, range_with_len}
+use Rattle.std.specs.List.{list_any, range_with_len, flat_map}
 use Rattle.std.proofs.lemmas.Bool.{ne_eqb, false≢true, cases_eq}
 use Rattle.std.proofs.lemmas.List.{get_or-map, length-map, length-replicate, get_or-replicate, get_or-set_other, length-set, map-set, take_more, append-nil}
 use Rattle.std.proofs.lemmas.List.Folds.{sum_by-replicate, list_any-append}
@@ -314,8 +314,8 @@ within_part lists preds (t ∷ layer) (suc i) h w =
     within_part lists preds layer i (omega arith)
     (λ s c e. w s c (one-of-append (get_or preds t []) (leading_to preds layer) s c ∙ ap (λ b. is_one_of (get_or preds t []) s c || b) e ∙ or-true (is_one_of (get_or preds t []) s c)))
 
-pub leading-more : (preds : List (List Pred)) (layer : List ℕ) (i : ℕ) → i < length layer
-    → leading_to preds (take (i + 1) layer) ≡ leading_to preds (take i layer) ++ get_or preds (get_or layer i 0) []
-leading-more preds layer i h =
-    ap (leading_to preds) (take_more layer i 0 h) ∙ flat_map-append (λ t. get_or preds t []) (take i layer) (get_or layer i 0 ∷ [])
-    ∙ ap (λ (x : List Pred). leading_to preds (take i layer) ++ x) (append-nil (get_or preds (get_or layer i 0) []))
+pub leading-more : {A : Type 0} → (lists : List (List A)) (layer : List ℕ) (i : ℕ) → i < length layer
+    → flat_map (λ t. get_or lists t []) (take (i + 1) layer) ≡ flat_map (λ t. get_or lists t []) (take i layer) ++ get_or lists (get_or layer i 0) []
+leading-more {A} lists layer i h =
+    ap (flat_map (λ t. get_or lists t [])) (take_more layer i 0 h) ∙ flat_map-append (λ t. get_or lists t []) (take i layer) (get_or layer i 0 ∷ [])
+    ∙ ap (λ (x : List A). flat_map (λ t. get_or lists t []) (take i layer) ++ x) (append-nil (get_or lists (get_or layer i 0) []))

@@ -1,9 +1,8 @@
-ghost use Rattle.std.specs.Prelude.{◌≡◌, ◌<◌, ◌&&◌, length, map, is_none, replicate, IfOk};
-ghost use Rattle.std.specs.List.{find, range_with_len};
+ghost use Rattle.std.specs.Prelude.{◌≡◌, ◌<◌, length, map, is_none, replicate, IfOk};
 ghost use Rattle.mdp_spec.specs.Mdp.{states_of, choices_at};
 ghost use Rattle.mdp_graph.specs.Sets.{marked};
 ghost use Rattle.mdp_graph.specs.Layers.{AreRanks, AreReached, AreLeastRanks};
-ghost use Rattle.mdp_graph.specs.Choices.{first_passing, AreLeast};
+ghost use Rattle.mdp_graph.specs.Choices.{first_below, first_passing, AreLeast};
 ghost use Rattle.mdp_graph.specs.Meet.{must_step, AllFall};
 ghost use Rattle.mdp_graph.specs.Avoid.{IsGreatestAvoiding, keeps};
 
@@ -14,18 +13,15 @@ use mdp_num::Memory;
 use mdp_rows::{Marks, Model};
 use std::alloc::{AllocError, Global};
 
-/// Whether each state has no rank.
-fn lack_rank(alloc: Global, ranks: &[Option<u32>]) -> Result<Vec<bool>, AllocError>
-    ensures { IfOk result (λ lack. lack.items ≡ map is_none ranks.now) }
-{
-    ranks.iter().map(|rank| rank.is_none()).collect(alloc)
-}
-
 /// The states that have no rank.
 pub(crate) fn marks_without(alloc: Global, ranks: &[Option<u32>]) -> Result<Marks, AllocError>
     ensures { IfOk result (λ marks. marks ≡ map is_none ranks.now) }
 {
-    Ok(Marks::from_values(lack_rank(alloc, ranks)?))
+    let mut values = Vec::with_capacity(alloc, ranks.len())?;
+    for rank in ranks {
+        values.push(rank.is_none())?;
+    }
+    Ok(Marks::from_values(values))
 }
 
 /// Whether state `s` is marked and its choice `c` keeps all successors marked.
@@ -38,13 +34,18 @@ fn keeps_marked(model: &Model, marks: &Marks, s: u32, c: u32) -> bool
     marks.at(s) && all_marked(model.row(s, c).targets, marks)
 }
 
-/// The least choice of state `s` that keeps all successors marked, if the state is marked and has one.
-fn keeping_choice(model: &Model, marks: &Marks, s: u32) -> Option<u32>
+/// The least choice of state `s` that keeps all successors marked; 0 if the state isn't marked or has none.
+fn keeping_choice(model: &Model, marks: &Marks, s: u32) -> u32
     requires state { s < states_of model.now }
     requires marks { length marks.now ≡ states_of model.now }
-    ensures { result ≡ find (keeps model.now marks.now s) (range_with_len 0 (length (choices_at model.now s))) }
+    ensures { result ≡ first_below (keeps model.now marks.now s) (length (choices_at model.now s)) }
 {
-    (0..model.choices(s)).find(|c| keeps_marked(model, marks, s, *c))
+    for c in 0..model.choices(s) {
+        if keeps_marked(model, marks, s, c) {
+            return c;
+        }
+    }
+    0
 }
 
 /// The least such choice of each state; 0 where there is none.
@@ -52,9 +53,11 @@ fn keeping_choices(alloc: Global, model: &Model, marks: &Marks) -> Result<Vec<u3
     requires marks { length marks.now ≡ states_of model.now }
     ensures { IfOk result (λ choices. choices.items ≡ first_passing model.now (keeps model.now marks.now)) }
 {
-    (0..model.states())
-        .map(|s| keeping_choice(model, marks, s).unwrap_or(0))
-        .collect(alloc)
+    let mut choices = Vec::with_capacity(alloc, model.states() as usize)?;
+    for s in 0..model.states() {
+        choices.push(keeping_choice(model, marks, s))?;
+    }
+    Ok(choices)
 }
 
 /// What `may_avoid` answers, by the ranks of `must_meet`.

@@ -16,7 +16,7 @@ use crate::forest::{
     Way, attach_all, cut_below, cut_choices, found_ways, no_ways, take_found, unattached,
 };
 use crate::layers::Layers;
-use crate::pass::{Pass, least_choices};
+use crate::pass::Pass;
 use crate::rounds::rounds_outside;
 use crate::sure::ranks_inside;
 use mdp_num::Memory;
@@ -49,8 +49,7 @@ fn cut_ways(
     ensures { IfOk result (λ broken. IsUncut ways.old.items ways.new.items (leading_to preds.now fell.now) broken.items) }
 {
     let first = cut_choices(alloc, ways, preds, fell)?;
-    let broken = cut_below(alloc, ways, preds, first)?;
-    Ok(broken)
+    cut_below(alloc, ways, preds, first)
 }
 
 /// The states that fell so far, with their rounds as ranks, and a way to a goal for each that is left after the last round.
@@ -72,6 +71,13 @@ impl Falling {
             layers: Layers::new(alloc, model)?,
             ways: no_ways(alloc, model.states())?,
         })
+    }
+
+    /// The rounds in which the states fell.
+    fn into_ranks(self) -> Vec<Option<u32>>
+        ensures { result.items ≡ self.layers.ranks.items }
+    {
+        self.layers.into_ranks()
     }
 
     /// Gives the broken states ways, where they have some by choices that wait. Answers those that have none.
@@ -156,7 +162,7 @@ pub(crate) fn falling_rounds(
         fell = falling.next(alloc, model, goals, &fell, round)?;
         round += 1;
     }
-    Ok(falling.layers.ranks)
+    Ok(falling.into_ranks())
 }
 
 /// The greatest sure set, with ranks and choices, and the rounds of the states outside.
@@ -166,18 +172,15 @@ pub struct SureRounds {
     pub rounds: Vec<u32>,
 }
 
-/// Whether each round is 0.
-fn are_zero(alloc: Global, rounds: &[u32]) -> Result<Vec<bool>, AllocError>
-    ensures { IfOk result (λ zero. zero.items ≡ map (λ r. r == 0) rounds.now) }
-{
-    rounds.iter().map(|round| *round == 0).collect(alloc)
-}
-
 /// The states of round 0.
 fn zero_marks(alloc: Global, rounds: &[u32]) -> Result<Marks, AllocError>
     ensures { IfOk result (λ marks. marks ≡ map (λ r. r == 0) rounds.now) }
 {
-    Ok(Marks::from_values(are_zero(alloc, rounds)?))
+    let mut values = Vec::with_capacity(alloc, rounds.len())?;
+    for round in rounds {
+        values.push(*round == 0)?;
+    }
+    Ok(Marks::from_values(values))
 }
 
 /// What `sure_some` answers, by the rounds: the states of round 0 are the greatest sure set.
@@ -191,8 +194,7 @@ fn sure_pass(alloc: Global, model: &Model, goals: &Marks, rounds: &[u32]) -> Res
     model.known();
     let inside = zero_marks(alloc, rounds)?;
     let ranks = ranks_inside(alloc, model, &inside, goals)?;
-    let choices = least_choices(alloc, model, &inside, &ranks)?;
-    Ok(Pass::by_ranks(alloc, &ranks, choices)?)
+    Ok(Pass::with_least_choices(alloc, model, &inside, &ranks)?)
 }
 
 /// What `sure_some` and `rounds_outside` answer, in one call. Each round begins at the states that fell in the one before.

@@ -29,7 +29,7 @@ pub(crate) fn meeting_ranks(
         rank += 1;
         met = layers.next(alloc, model, &met, rank)?;
     }
-    Ok(layers.ranks)
+    Ok(layers.into_ranks())
 }
 
 /// What `must_meet` answers, by its ranks.

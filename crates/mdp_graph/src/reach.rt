@@ -6,7 +6,7 @@ ghost use Rattle.mdp_graph.specs.Choices.{AreLeast};
 ghost use Rattle.mdp_graph.specs.Reach.{may_step, row_step, falls};
 ghost use Rattle.mdp_graph.specs.Ranking.{AreRanksAlong};
 
-use crate::pass::{Pass, least_choices};
+use crate::pass::Pass;
 use crate::predecessors::Predecessors;
 use crate::ranking::ranks_by;
 use mdp_num::Memory;
@@ -35,8 +35,7 @@ pub(crate) fn ranks_along(
 {
     model.known();
     let preds = Predecessors::of_model(alloc, model, inside, blocked)?;
-    let ranks = ranks_by(alloc, &preds, target, model.states())?;
-    Ok(ranks)
+    ranks_by(alloc, &preds, target, model.states())
 }
 
 /// The states from which a target can be reached without taking a choice of a blocked state. Targets have rank 0, also where they are blocked.
@@ -56,8 +55,7 @@ pub fn may_reach(
     model.known();
     let all = all_true(alloc, model.states())?;
     let ranks = ranks_along(alloc, model, &all, blocked, target)?;
-    let choices = least_choices(alloc, model, &all, &ranks)?;
-    Ok(Pass::by_ranks(alloc, &ranks, choices)?)
+    Ok(Pass::with_least_choices(alloc, model, &all, &ranks)?)
 }
 
 /// The least ranks by which states reach a target by the rows.
@@ -71,8 +69,7 @@ fn row_ranks<R: RowsOf>(
 {
     rows.known();
     let preds = Predecessors::of_rows(alloc, rows)?;
-    let ranks = ranks_by(alloc, &preds, target, rows.count())?;
-    Ok(ranks)
+    ranks_by(alloc, &preds, target, rows.count())
 }
 
 /// The states from which a target can be reached by the rows, one per state. Targets have rank 0. Choices are 0.

@@ -32,7 +32,11 @@ impl std::marker::Model for Waiting {
 fn choice_counts(alloc: Global, model: &Model) -> Result<Vec<u32>, AllocError>
     ensures { IfOk result (λ counts. counts.items ≡ map (λ s. length (choices_at model.now s)) (range_with_len 0 (states_of model.now))) }
 {
-    (0..model.states()).map(|s| model.choices(s)).collect(alloc)
+    let mut counts = Vec::with_capacity(alloc, model.states() as usize)?;
+    for s in 0..model.states() {
+        counts.push(model.choices(s))?;
+    }
+    Ok(counts)
 }
 
 impl Waiting {

@@ -1,5 +1,7 @@
 -- The choices that lead to a state without an allowed choice are forbidden, one after the other.
-use Rattle.std.proofs.Common.{◌≡◌, ◌⊎◌, inl, inr, ℕ, ◌+◌, ◌<◌, ◌≤◌, Bool, true, false, ◌&&◌, ◌==◌, List, [], length, map, get_or, set, refl, sym, ap, ◌∙◌, arith}
+use Rattle.std.proofs.Common.{◌≡◌, ◌⊎◌, inl, inr, ℕ, ◌+◌, ◌<◌, ◌≤◌, Bool, true, false, ◌&&◌, ◌==◌, List, [], ◌∷◌, ◌++◌, length, map, get_or, set, refl, sym, ap, ◌∙◌, arith, subst}
+use Rattle.std.proofs.lemmas.List.{get_or_append_left, length-append}
+use Rattle.std.proofs.Math.Seq.{get_or-append_seam}
 use Rattle.std.specs.List.{range_with_len}
 use Rattle.std.proofs.lemmas.Bool.{false≢true, cases_Bool, cases_eq, eq-eqb, and_parts}
 use Rattle.mdp_math.proofs.Booleans.{and-both, and-false}
@@ -29,6 +31,35 @@ module _ (m : Mdp) where
 
   pub lost_kept : (old new : List (List Bool)) → IsPruned m old new → (s : ℕ) → s < states_of m → IsLost m old s → IsLost m new s
   lost_kept old new p s h lost c l = still_false old new p s c h l (lost c l)
+
+  pub pruned_none : (a : List (List Bool)) → AreChoices m a → IsPruned m a a
+  pruned_none a sizes = record { sizes = sizes; fewer = λ s d h l e. e; keeps = λ k. k }
+
+  -- the last of the states that are lost, and the others
+  pub lost_last : (lists : List (List Bool)) (first lost rest : List ℕ) (t : ℕ) → AreLosing m lists first lost → lost ≡ rest ++ t ∷ [] → (t < states_of m) × IsLost m lists t
+  lost_last lists first lost rest t a e =
+      let last : get_or lost (length rest) 0 ≡ t = ap (λ (x : List ℕ). get_or x (length rest) 0) e ∙ get_or-append_seam rest t [] 0 in
+      let h : length rest < length lost = omega (arith, ap length e, length-append rest (t ∷ [])) in
+      (subst (λ (x : ℕ). x < states_of m) last (a.below (length rest) h), subst (λ (x : ℕ). IsLost m lists x) last (a.without (length rest) h))
+
+  pub lost_rest : (lists : List (List Bool)) (first lost rest : List ℕ) (t : ℕ) → AreLosing m lists first lost → lost ≡ rest ++ t ∷ [] → AreLosing m lists first rest
+  lost_rest lists first lost rest t a e =
+      let same : (k : ℕ) → k < length rest → get_or lost k 0 ≡ get_or rest k 0 = λ k l. ap (λ (x : List ℕ). get_or x k 0) e ∙ get_or_append_left rest (t ∷ []) 0 k l in
+      let many : length lost ≡ length rest + 1 = ap length e ∙ length-append rest (t ∷ []) in
+      record {
+        count = a.count;
+        before = a.before;
+        below = λ k l. subst (λ (x : ℕ). x < states_of m) (same k l) (a.below k (omega (arith, l, many)));
+        without = λ k l. subst (λ (x : ℕ). IsLost m lists x) (same k l) (a.without k (omega (arith, l, many)));
+      }
+
+  pub losing_kept : (old new : List (List Bool)) (first lost : List ℕ) → IsPruned m old new → AreLosing m old first lost → AreLosing m new first lost
+  losing_kept old new first lost p a = record {
+    count = a.count;
+    before = λ s c h l b. still_false old new p s c h l (a.before s c h l b);
+    below = a.below;
+    without = λ k l. lost_kept old new p (get_or lost k 0) (a.below k l) (a.without k l);
+  }
 
   -- ---- a choice is forbidden
 
@@ -94,7 +125,7 @@ module _ (m : Mdp) where
 
   module _ (old now : List (List Bool)) (first old_lost lost : List ℕ) (a : IsForbiddingInto old now first old_lost lost) (s c t : ℕ) (hs : s < states_of m)
       (hc : c < length (choices_at m s)) (to : leads_to t (row_at m s c) ≡ true) (ht : t < states_of m) (none : IsLost m old t) where
-    one_pruned : IsPruned m now (set now s (set (get_or now s []) c false))
+    pub one_pruned : IsPruned m now (set now s (set (get_or now s []) c false))
     one_pruned = forbidden_pruned now (IsPruned.sizes a.pruned) s c t hs hc to ht (lost_kept old now a.pruned t ht none)
 
     pub into_more : (new : List (List Bool)) (more_first more_lost : List ℕ) → new ≡ set now s (set (get_or now s []) c false) → allowed_at now s c ≡ true → AreLosing m new more_first more_lost

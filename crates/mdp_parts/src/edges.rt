@@ -62,6 +62,5 @@ pub(crate) fn reversed(
     for s in 0..states {
         back.push_row(s, edges.of(s))?;
     }
-    let lists = back.sorted(alloc)?;
-    Ok(lists)
+    back.sorted(alloc)
 }

@@ -1,9 +1,9 @@
 ghost use Rattle.std.specs.Prelude.{◌≡◌, ◌<◌, ◌↔◌, ◌&&◌, ℕ, true, length, map, IfOk};
-ghost use Rattle.std.specs.List.{find, range_with_len};
+ghost use Rattle.std.specs.List.{range_with_len};
 ghost use Rattle.mdp_spec.specs.Mdp.{states_of, choices_at};
 ghost use Rattle.mdp_graph.specs.Sets.{marked};
 ghost use Rattle.mdp_graph.specs.Layers.{AreRanks};
-ghost use Rattle.mdp_graph.specs.Choices.{first_passing};
+ghost use Rattle.mdp_graph.specs.Choices.{first_below, first_passing};
 ghost use Rattle.mdp_ends.specs.Ends.{in_part, count_of};
 ghost use Rattle.mdp_ends.specs.Toward.{target_in, inner_step, IsToward};
 ghost use Rattle.mdp_parts.specs.FoundEnds.{AreEndsOf};
@@ -36,14 +36,16 @@ fn targets_in(
     i: u32,
     target: &Marks,
     states: u32,
-) -> Result<Vec<bool>, AllocError>
+) -> Result<Marks, AllocError>
     requires ends { length ends.now.parts ≡ states }
     requires target { length target.now ≡ states }
-    ensures { IfOk result (λ values. values.items ≡ map (target_in ends.now.parts i target.now) (range_with_len 0 states)) }
+    ensures { IfOk result (λ marks. marks ≡ map (target_in ends.now.parts i target.now) (range_with_len 0 states)) }
 {
-    (0..states)
-        .map(|s| is_target(ends, i, target, s))
-        .collect(alloc)
+    let mut values = Vec::with_capacity(alloc, states as usize)?;
+    for s in 0..states {
+        values.push(is_target(ends, i, target, s))?;
+    }
+    Ok(Marks::from_values(values))
 }
 
 /// Whether choice `c` of state `s` is inside and has a successor of a rank below that of `s`.
@@ -58,14 +60,19 @@ fn can_fall(model: &Model, ends: &Ends, ranks: &[Option<u32>], s: u32, c: u32) -
     ends.inside(s, c) && some_before(model.row(s, c).targets, ranks, rank)
 }
 
-/// The least such choice of state `s`, if there is one.
-fn least_choice(model: &Model, ends: &Ends, ranks: &[Option<u32>], s: u32) -> Option<u32>
+/// The least such choice of state `s`; 0 if there is none.
+fn least_choice(model: &Model, ends: &Ends, ranks: &[Option<u32>], s: u32) -> u32
     requires state { s < states_of model.now }
     requires ends { AreEndsOf model.now ends.now }
     requires ranks { length ranks.now ≡ states_of model.now }
-    ensures { result ≡ find (may_fall_inside model.now ends.now.parts ranks.now s) (range_with_len 0 (length (choices_at model.now s))) }
+    ensures { result ≡ first_below (may_fall_inside model.now ends.now.parts ranks.now s) (length (choices_at model.now s)) }
 {
-    (0..model.choices(s)).find(|c| can_fall(model, ends, ranks, s, *c))
+    for c in 0..model.choices(s) {
+        if can_fall(model, ends, ranks, s, c) {
+            return c;
+        }
+    }
+    0
 }
 
 /// The least such choice of each state; 0 where there is none.
@@ -79,9 +86,11 @@ fn least_choices(
     requires ranks { length ranks.now ≡ states_of model.now }
     ensures { IfOk result (λ choices. choices.items ≡ first_passing model.now (may_fall_inside model.now ends.now.parts ranks.now)) }
 {
-    (0..model.states())
-        .map(|s| least_choice(model, ends, ranks, s).unwrap_or(0))
-        .collect(alloc)
+    let mut choices = Vec::with_capacity(alloc, model.states() as usize)?;
+    for s in 0..model.states() {
+        choices.push(least_choice(model, ends, ranks, s))?;
+    }
+    Ok(choices)
 }
 
 /// The least ranks by which states reach a target by inner choices; none where they don't.
@@ -98,8 +107,7 @@ fn inner_ranks(
     model.known();
     let edges = edges_of(alloc, model, ends.choices())?;
     let back = reversed(alloc, &edges, model.states())?;
-    let ranks = ranks_by(alloc, &back, target, model.states())?;
-    Ok(ranks)
+    ranks_by(alloc, &back, target, model.states())
 }
 
 /// A pass toward the targets by inner choices, over all end components at once. It marks exactly the targets and the states of the end components
@@ -139,7 +147,6 @@ pub fn toward(
     ensures marks { IfOk result (λ pass. (s : ℕ) → s < states_of model.now → marked pass.marks s ≡ in_part ends.now.parts i s) }
 {
     model.known();
-    let values = targets_in(alloc, ends, i, target, model.states())?;
-    let first = Marks::from_values(values);
+    let first = targets_in(alloc, ends, i, target, model.states())?;
     toward_targets(alloc, model, ends, &first)
 }

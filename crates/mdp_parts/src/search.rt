@@ -99,9 +99,11 @@ fn left_parts(
     requires allowed { AreChoices model.now allowed.now }
     ensures { IfOk result (λ keys. keys.items ≡ map (key_of model.now allowed.now parts.now) (range_with_len 0 (states_of model.now))) }
 {
-    (0..model.states())
-        .map(|s| left_part(model, allowed, parts, s))
-        .collect(alloc)
+    let mut keys = Vec::with_capacity(alloc, model.states() as usize)?;
+    for s in 0..model.states() {
+        keys.push(left_part(model, allowed, parts, s))?;
+    }
+    Ok(keys)
 }
 
 /// The end components, by their parts and the choices that are allowed.

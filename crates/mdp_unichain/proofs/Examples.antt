@@ -1,9 +1,10 @@
 -- A component of two states, computed. At state 0 one can stay and earn 1, or earn nothing and come to state 1 with probability 1/2; at state 1 stay and
 -- earn 3, or go to state 0. The policy that stays at 0 earns 1 in each step. Staying at 1 is better there, and then {0} and {1} are closed classes: {1}
 -- holds the changed state, so the next policy keeps it and goes toward it from 0, and earns 3.
-use Rattle.std.proofs.Common.{◌≡◌, ◌≢◌, ℕ, zero, suc, ◌<◌, ◌≤◌, inr, Bool, true, false, List, [], ◌∷◌, refl, sym, ap, arith, pos, negsuc, rules}
+use Rattle.std.proofs.Common.{◌≡◌, ◌≢◌, ℕ, zero, suc, ◌<◌, ◌≤◌, inr, Bool, true, false, true≢false, List, [], ◌∷◌, refl, sym, ap, arith, pos, negsuc, rules}
 use Rattle.std.specs.List.{All, Any}
 use Rattle.std.specs.Prelude.{slice_index}
+use Rattle.std.proofs.lemmas.Bool.{false≢true}
 use Rattle.std.proofs.lemmas.List.Elements.{All-nil, All-cons}
 use Rattle.mdp_math.specs.Gcd.{gcd, gcd_with_fuel}
 use Rattle.mdp_math.specs.Rational.{ℚ, of_int, ratio, ◌+ℚ◌, ◌*ℚ◌, neg_ℚ, inv_ℚ, ◌<ℚ◌}
@@ -112,22 +113,22 @@ halves = record {
 rows_two : (s c : ℕ) → IsInner two s c → IsDistribution (choice_at two s c).row
 rows_two zero zero h = single 0
 rows_two zero (suc zero) h = halves
-rows_two zero (suc (suc c)) h = cc
+rows_two zero (suc (suc c)) h = absurd (false≢true h)
 rows_two (suc zero) zero h = single 1
 rows_two (suc zero) (suc zero) h = single 0
-rows_two (suc zero) (suc (suc c)) h = cc
-rows_two (suc (suc s)) c h = cc
+rows_two (suc zero) (suc (suc c)) h = absurd (false≢true h)
+rows_two (suc (suc s)) c h = absurd (false≢true h)
 
 stays_two : (s c : ℕ) → IsInner two s c → All (λ y. is_state two y.target ≡ true) (choice_at two s c).row
 stays_two zero zero h = one_entry 0 refl
 stays_two zero (suc zero) h =
     All-cons (λ y. is_state two y.target ≡ true) (to 0 (ratio (pos 1) 2)) (to 1 (ratio (pos 1) 2) ∷ []) refl
     (All-cons (λ y. is_state two y.target ≡ true) (to 1 (ratio (pos 1) 2)) [] refl (All-nil (λ y. is_state two y.target ≡ true)))
-stays_two zero (suc (suc c)) h = cc
+stays_two zero (suc (suc c)) h = absurd (false≢true h)
 stays_two (suc zero) zero h = one_entry 1 refl
 stays_two (suc zero) (suc zero) h = one_entry 0 refl
-stays_two (suc zero) (suc (suc c)) h = cc
-stays_two (suc (suc s)) c h = cc
+stays_two (suc zero) (suc (suc c)) h = absurd (false≢true h)
+stays_two (suc (suc s)) c h = absurd (false≢true h)
 
 reach_two : (t : ℕ) → is_state two t ≡ true → CanReach two t
 reach_two zero h = record { rank = λ s. s; falls = falls }
@@ -135,14 +136,14 @@ reach_two zero h = record { rank = λ s. s; falls = falls }
     falls : (s : ℕ) → is_state two s ≡ true → s ≢ zero → (c : ℕ) × IsInner two s c × Any (λ y. y.target < s) (choice_at two s c).row
     falls zero k o = absurd (o refl)
     falls (suc zero) k o = (1, refl, (0, to 0 (of_int (pos 1)), omega arith, refl, omega arith))
-    falls (suc (suc s)) k o = cc
+    falls (suc (suc s)) k o = absurd (false≢true k)
 reach_two (suc zero) h = record { rank = rank_1; falls = falls }
   where
     falls : (s : ℕ) → is_state two s ≡ true → s ≢ 1 → (c : ℕ) × IsInner two s c × Any (λ y. rank_1 y.target < rank_1 s) (choice_at two s c).row
     falls zero k o = (1, refl, (1, to 1 (ratio (pos 1) 2), omega arith, refl, omega arith))
     falls (suc zero) k o = absurd (o refl)
-    falls (suc (suc s)) k o = cc
-reach_two (suc (suc t)) h = cc
+    falls (suc (suc s)) k o = absurd (false≢true k)
+reach_two (suc (suc t)) h = absurd (false≢true h)
 
 two-is : IsComponent two
 two-is = record { rows = rows_two; stays = stays_two; connected = reach_two }
@@ -162,21 +163,21 @@ one_class : IsClosedClass (is_state two) (row_by two both) one
 one_class = record { some = (1, refl); states = states; closed = closed; connected = connected }
   where
     states : (s : ℕ) → one s ≡ true → is_state two s ≡ true
-    states zero h = cc
+    states zero h = absurd (false≢true h)
     states (suc zero) h = refl
-    states (suc (suc s)) h = cc
+    states (suc (suc s)) h = absurd (false≢true h)
 
     closed : (s : ℕ) → one s ≡ true → All (λ y. one y.target ≡ true) (row_by two both s)
-    closed zero h = cc
+    closed zero h = absurd (false≢true h)
     closed (suc zero) h = All-cons (λ y. one y.target ≡ true) (to 1 (of_int (pos 1))) [] refl (All-nil (λ y. one y.target ≡ true))
-    closed (suc (suc s)) h = cc
+    closed (suc (suc s)) h = absurd (false≢true h)
 
     same : (s t : ℕ) → one s ≡ true → one t ≡ true → s ≡ t
     same (suc zero) (suc zero) h k = refl
-    same zero t h k = cc
-    same (suc zero) zero h k = cc
-    same (suc zero) (suc (suc t)) h k = cc
-    same (suc (suc s)) t h k = cc
+    same zero t h k = absurd (false≢true h)
+    same (suc zero) zero h k = absurd (false≢true k)
+    same (suc zero) (suc (suc t)) h k = absurd (false≢true k)
+    same (suc (suc s)) t h k = absurd (false≢true h)
 
     connected : (t : ℕ) → one t ≡ true → AllLeadTo one (row_by two both) t
     connected t h = record { state = h; rank = λ s. 0; falls = λ s k o. absurd (o (same s t k h)) }
@@ -188,9 +189,9 @@ goes = inr (one, rank_1, record { picked = picked; ranks = ranks; kept = kept; t
     changed_1 e = cc
 
     kept : (s : ℕ) → one s ≡ true → slice_index second s ≡ slice_index both s
-    kept zero h = cc
+    kept zero h = absurd (false≢true h)
     kept (suc zero) h = refl
-    kept (suc (suc s)) h = cc
+    kept (suc (suc s)) h = absurd (false≢true h)
 
     -- the other class holds no changed state
     least : (other : ℕ → Bool) → IsClosedClass (is_state two) (row_by two both) other → HoldsChanged first both other → (u : ℕ) → other u ≡ true → 1 ≤ u
@@ -219,13 +220,13 @@ goes = inr (one, rank_1, record { picked = picked; ranks = ranks; kept = kept; t
     ranks = record { zero = zeros; falls = falls; least = small }
       where
         zeros : (s : ℕ) → one s ≡ true → rank_1 s ≡ 0
-        zeros zero h = cc
+        zeros zero h = absurd (false≢true h)
         zeros (suc s) h = refl
 
         falls : (s : ℕ) → is_state two s ≡ true → one s ≡ false → (c : ℕ) × LeadsNearer two rank_1 s c
         falls zero h k = (1, nearer)
-        falls (suc zero) h k = cc
-        falls (suc (suc s)) h k = cc
+        falls (suc zero) h k = absurd (true≢false k)
+        falls (suc (suc s)) h k = absurd (false≢true h)
 
         at_most : (s : ℕ) → rank_1 s ≤ 1
         at_most zero = omega arith
@@ -241,15 +242,15 @@ goes = inr (one, rank_1, record { picked = picked; ranks = ranks; kept = kept; t
         least_choice zero (i, (zero, y, l, e, f)) = let q : rank_1 y.target ≡ 1 = ap (λ (x : Entry). rank_1 x.target) (sym e) in absurd (omega arith)
         least_choice zero (i, (suc k, y, l, e, f)) = absurd (omega arith)
         least_choice (suc d) n = omega arith
-    toward (suc zero) h k = cc
-    toward (suc (suc s)) h k = cc
+    toward (suc zero) h k = absurd (true≢false k)
+    toward (suc (suc s)) h k = absurd (false≢true h)
 
     inner : (s : ℕ) → is_state two s ≡ true → IsInner two s (slice_index second s)
     inner zero h = refl
     inner (suc zero) h = refl
-    inner (suc (suc s)) h = cc
+    inner (suc (suc s)) h = absurd (false≢true h)
 
     outside : (s : ℕ) → is_state two s ≡ false → slice_index second s ≡ 0
-    outside zero h = cc
-    outside (suc zero) h = cc
+    outside zero h = absurd (true≢false h)
+    outside (suc zero) h = absurd (true≢false h)
     outside (suc (suc s)) h = refl

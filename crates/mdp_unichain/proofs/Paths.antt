@@ -1,5 +1,5 @@
 -- The path has exactly one end, and where no term is past width this is a policy of the best gain.
-use Rattle.std.proofs.Common.{◌≡◌, ◌≢◌, ℕ, zero, suc, ◌+◌, ◌<◌, ◌⊎◌, inl, inr, true, false, List, Result, Ok, Err, refl, sym, ◌∙◌, ap, subst, arith}
+use Rattle.std.proofs.Common.{◌≡◌, ◌≢◌, ℕ, zero, suc, ◌+◌, ◌<◌, ◌⊎◌, inl, inr, true, false, true≢false, List, Result, Ok, Err, refl, sym, ◌∙◌, ap, subst, arith}
 use Rattle.std.specs.Prelude.{slice_index}
 use Rattle.std.proofs.lemmas.List.FromFn.{fill_by_all}
 use Rattle.mdp_math.specs.Rational.{ℚ}
@@ -41,11 +41,29 @@ changed_or_same p policy improved is now =
         → IsChanged p policy improved s ⊎ (is_state p s ≡ true → slice_index improved s ≡ slice_index policy s)
     by s (inl h) (inl e) = inr (λ k. e)
     by s (inl h) (inr o) = inl (h, o)
-    by s (inr h) q = inr (λ k. absurd (let z : true ≡ false = sym k ∙ h in cc))
+    by s (inr h) q = inr (λ k. absurd (true≢false (sym k ∙ h)))
 
     at : (s : ℕ) → (is_state p s ≡ true) ⊎ (is_state p s ≡ false) → (is_state p s ≡ true → slice_index improved s ≡ slice_index policy s) → slice_index improved s ≡ slice_index policy s
     at s (inl h) q = q h
     at s (inr h) q = IsPolicy.outside now s h ∙ sym (IsPolicy.outside is s h)
+
+-- ---- the steps differ
+
+next-done : (b : Round) (f : Found) → (let s : Step Round Found Refusal = next b in s) ≡ done f → ⊥
+next-done b f e = cc
+
+next-refused : (b : Round) (x : Refusal) → (let s : Step Round Found Refusal = next b in s) ≡ refused x → ⊥
+next-refused b x e = cc
+
+done-refused : (f : Found) (x : Refusal) → (let s : Step Round Found Refusal = done f in s) ≡ refused x → ⊥
+done-refused f x e = cc
+
+next_policy : (n : ℕ) (after : List ℕ) (b : Round) → (let s : Step Round Found Refusal = next b in s) ≡ next (record { number = n; policy = after }) → after ≡ b.policy
+next_policy n after b e = let same : b ≡ (let r : Round = record { number = n; policy = after } in r) = cc in sym (ap Round.policy same)
+
+done_found : (a : Round) (t : ℕ) (v : Values) (f : Found) → (let s : Step Round Found Refusal = done f in s) ≡ done (record { policy = a.policy; reference = t; values = v })
+    → (let g : Found = record { policy = a.policy; reference = t; values = v } in g) ≡ f
+done_found a t v f e = cc
 
 module _ (p : Component) (known : IsComponent p) (gives : GivesSolutions) where
   abbrev P : Round → Type 0
@@ -110,13 +128,10 @@ module _ (p : Component) (known : IsComponent p) (gives : GivesSolutions) where
     pub changed : improved ≢ a.policy
     pub exact : IsExactNext p a.policy improved b.policy
 
-  next_policy : (n : ℕ) (after : List ℕ) (b : Round) → (let s : Step Round Found Refusal = next b in s) ≡ next (record { number = n; policy = after }) → after ≡ b.policy
-  next_policy n after b e = let same : b ≡ (let r : Round = record { number = n; policy = after } in r) = cc in sym (ap Round.policy same)
-
   comparison_next : (a b : Round) (t : ℕ) (v : Values) (r : Result (List ℕ) Place) → written_values p a.policy t ≡ Ok v → written_improved p a.policy v ≡ r → AfterComparison p a t v r (next b)
       → Goes_on a b t
-  comparison_next a b t v (Err place) w e h = cc
-  comparison_next a b t v (Ok improved) w e (inl h) = absurd (let k = h.1 in cc)
+  comparison_next a b t v (Err place) w e h = absurd (next-refused b _ h)
+  comparison_next a b t v (Ok improved) w e (inl h) = absurd (next-done b _ h.1)
   comparison_next a b t v (Ok improved) w e (inr h) =
       record {
         v = v;
@@ -129,7 +144,7 @@ module _ (p : Component) (known : IsComponent p) (gives : GivesSolutions) where
       }
 
   pub evaluation_next : (a b : Round) (t : ℕ) (r : Result Values Place) → written_values p a.policy t ≡ r → AfterEvaluation p a t r (next b) → Goes_on a b t
-  evaluation_next a b t (Err place) w h = cc
+  evaluation_next a b t (Err place) w h = absurd (next-refused b _ h)
   evaluation_next a b t (Ok v) w h = comparison_next a b t v (written_improved p a.policy v) w refl h
 
   -- the next policy keeps one closed class, and fewer are better
@@ -162,14 +177,10 @@ module _ (p : Component) (known : IsComponent p) (gives : GivesSolutions) where
 
   -- ---- the end
 
-  done_found : (a : Round) (t : ℕ) (v : Values) (f : Found) → (let s : Step Round Found Refusal = done f in s) ≡ done (record { policy = a.policy; reference = t; values = v })
-      → (let g : Found = record { policy = a.policy; reference = t; values = v } in g) ≡ f
-  done_found a t v f e = cc
-
   comparison_done : (a : Round) (t : ℕ) (v : Values) (f : Found) (r : Result (List ℕ) Place) → P a → IsReference (is_state p) (row_by p a.policy) t → written_values p a.policy t ≡ Ok v
       → written_improved p a.policy v ≡ r → AfterComparison p a t v r (done f) → IsBestGain p f
-  comparison_done a t v f (Err place) k w x e h = cc
-  comparison_done a t v f (Ok improved) k w x e (inr h) = absurd (let q = h.1.2 in cc)
+  comparison_done a t v f (Err place) k w x e h = absurd (done-refused f _ h)
+  comparison_done a t v f (Ok improved) k w x e (inr h) = absurd (next-done _ f (sym h.1.2))
   comparison_done a t v f (Ok improved) k w x e (inl h) =
       let now = evaluated a.policy t v k.is w x in
       let i = improves_exactly p a.policy improved v k.is e in
@@ -178,7 +189,7 @@ module _ (p : Component) (known : IsComponent p) (gives : GivesSolutions) where
 
   evaluation_done : (a : Round) (t : ℕ) (f : Found) (r : Result Values Place) → P a → IsReference (is_state p) (row_by p a.policy) t → written_values p a.policy t ≡ r
       → AfterEvaluation p a t r (done f) → IsBestGain p f
-  evaluation_done a t f (Err place) k w x h = cc
+  evaluation_done a t f (Err place) k w x h = absurd (done-refused f _ h)
   evaluation_done a t f (Ok v) k w x h = comparison_done a t v f (written_improved p a.policy v) k w x refl h
 
   last : (a : Round) (f : Found) → P a → Makes p a (done f) → IsBestGain p f

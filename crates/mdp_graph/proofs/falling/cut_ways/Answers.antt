@@ -1,4 +1,5 @@
 use Rattle.std.proofs.Common.{refl, sym, ◌∙◌, arith, []}
+use Rattle.std.proofs.lemmas.Result.{IfOk-weaker}
 use Rattle.mdp_graph.proofs.Among.{below-all}
 use Rattle.mdp_graph.proofs.Cutting.{from_all}
 use Rattle.mdp_graph.proofs.Pruning.{uncut, first-below, left-way}
@@ -15,4 +16,4 @@ pub cut_below-requires-clause-known : goal.cut_below-requires-clause-known
 cut_below-requires-clause-known c = λ s w e. c.requires.known s w (left-way _ _ w (sym (c.in_ok-first.ensures.at s) ∙ e)).1
 
 pub returns : goal.returns
-returns c = uncut _ _ _ _ c.in_ok-first.first.items [] _ c.in_ok-first.ensures refl c.in_ok-broken.ensures
+returns c = IfOk-weaker _ _ _ (λ broken e. uncut _ _ _ _ c.in_ok-first.first.items [] _ c.in_ok-first.ensures refl e) c.cut_below.ensures

@@ -10,4 +10,5 @@ next-requires-clause-before c =
     (sym c.deref.ensures.value) c.loop-alloc.invariant.1
 
 pub returns : goal.returns
-returns c = last_round _ c.known.ensures.mdp _ _ _ _ _ _ c.loop-alloc.invariant.1 (omega (arith, is_zero _ c.loop-alloc-test.ensures))
+returns c =
+    rw c.into_ranks.ensures (last_round _ c.known.ensures.mdp _ _ _ _ _ _ c.loop-alloc.invariant.1 (omega (arith, is_zero _ c.loop-alloc-test.ensures)))

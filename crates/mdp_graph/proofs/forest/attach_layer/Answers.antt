@@ -1,7 +1,10 @@
 use Rattle.std.proofs.Common.{[], sym, subst, List}
 use Rattle.mdp_rows.specs.declared.preds.Pred.{Pred}
 use Rattle.mdp_graph.specs.Waiting.{AreWithin}
-use Rattle.mdp_graph.proofs.Taking.{into_more, taken_more}
+use Rattle.mdp_graph.proofs.Taking.{grown_start, taken_none, into_more, taken_more}
+use Rattle.std.proofs.lemmas.Bool.{false≢true}
+use Rattle.std.proofs.lemmas.List.{take_all}
+use Rattle.std.proofs.Common.{arith}
 use Rattle.mdp_graph.proofs.forest.attach_layer.Goals as goal
 
 pub attach_to-requires-clause-within : goal.attach_to-requires-clause-within
@@ -17,3 +20,18 @@ loop-t-preserved c =
           c.of.result.now c.of.ensures inv.grown step.grown;
       taken = taken_more c.args.ways.now.items c.loop-t.ways.items _ [] c.loop-t.next.items _ inv.grown.kept step.grown.kept inv.taken step.taken;
     }
+
+pub loop-t-init : goal.loop-t-init
+loop-t-init c = record { grown = grown_start _ _ _ _ (λ s z. absurd (false≢true z.1)); taken = rw c.new-next.ensures.items (taken_none _ _) }
+
+pub of-requires : goal.of-requires
+of-requires c = c.requires.below c.loop-t.t-index 0 c.loop-t-test.true
+
+pub attach_to-requires-clause-ways : goal.attach_to-requires-clause-ways
+attach_to-requires-clause-ways c = omega (arith, c.loop-t.invariant.grown.count, c.requires.ways)
+
+pub returns : goal.returns
+returns c = record {
+  grown = rw (take_all c.loop-t.t-index c.args.layer.now c.loop-t-test.false) at c.loop-t.invariant.grown;
+  taken = c.loop-t.invariant.taken;
+}

@@ -5,7 +5,9 @@ use Rattle.mdp_graph.specs.declared.forest.Way.{Way}
 use Rattle.mdp_graph.specs.Waiting.{waits}
 use Rattle.mdp_graph.specs.Forest.{attached}
 use Rattle.mdp_graph.proofs.Releasing.{within_at}
-use Rattle.mdp_graph.proofs.Taking.{grown_set, taken_set, taken_more, to_taken, to_kept}
+use Rattle.mdp_graph.proofs.Taking.{grown_start, grown_set, taken_none, taken_set, taken_more, to_taken, to_kept}
+use Rattle.std.proofs.lemmas.Bool.{false≢true}
+use Rattle.std.proofs.lemmas.List.{take_all}
 use Rattle.mdp_graph.proofs.forest.attach_to.Goals.{then-at+then-not-is_attached+in_ok-push, else-at, else-at-via-then-at+else-not-is_attached, else-at-via-else-at}
 use Rattle.mdp_math.proofs.Booleans.{and-false}
 use Rattle.mdp_graph.proofs.forest.attach_to.Goals as goal
@@ -15,6 +17,24 @@ at-requires-clause-state c = (within_at c.args.allowed.now c.args.preds.now c.lo
 
 pub at-requires-clause-choice : goal.at-requires-clause-choice
 at-requires-clause-choice c = (within_at c.args.allowed.now c.args.preds.now c.loop-pred.pred-index (pair 0 0) c.requires.within c.loop-pred-test.true).1
+
+pub loop-pred-init : goal.loop-pred-init
+loop-pred-init c = record { grown = grown_start _ _ _ _ (λ s z. absurd (false≢true z.1)); taken = taken_none _ _ }
+
+pub is_attached-requires-clause-goals : goal.is_attached-requires-clause-goals
+is_attached-requires-clause-goals c =
+    let w = within_at c.args.allowed.now c.args.preds.now c.loop-pred.pred-index (pair 0 0) c.requires.within c.loop-pred-test.true in
+    omega (arith, w.0, c.requires.goals)
+
+pub is_attached-requires-clause-ways : goal.is_attached-requires-clause-ways
+is_attached-requires-clause-ways c =
+    let w = within_at c.args.allowed.now c.args.preds.now c.loop-pred.pred-index (pair 0 0) c.requires.within c.loop-pred-test.true in
+    omega (arith, w.0, c.loop-pred.invariant.grown.count, c.requires.ways, ap length c.deref.ensures.value)
+
+pub index_mut-requires : goal.index_mut-requires
+index_mut-requires c =
+    let w = within_at c.args.allowed.now c.args.preds.now c.loop-pred.pred-index (pair 0 0) c.requires.within c.loop-pred-test.true in
+    omega (arith, w.0, c.loop-pred.invariant.grown.count, c.requires.ways)
 
 pub loop-pred-preserved : goal.loop-pred-preserved
 loop-pred-preserved c =
@@ -50,3 +70,9 @@ loop-pred-preserved c =
             taken = inv.taken;
           })
     ]
+
+pub returns : goal.returns
+returns c = record {
+  grown = rw (take_all c.loop-pred.pred-index c.args.preds.now c.loop-pred-test.false) at c.loop-pred.invariant.grown;
+  taken = c.loop-pred.invariant.taken;
+}

@@ -1,10 +1,10 @@
 use Rattle.std.proofs.Common.{◌<◌, ◌∷◌, [], take, get_or, length, sym, refl, ap, ◌∙◌, arith, Option}
-use Rattle.std.proofs.lemmas.List.{take_more}
+use Rattle.std.proofs.lemmas.List.{take_more, take_all}
 use Rattle.mdp_rows.specs.Preds.{pair}
 use Rattle.mdp_rows.specs.declared.preds.Pred.{Pred}
 use Rattle.mdp_graph.specs.declared.forest.Way.{Way}
 use Rattle.mdp_graph.specs.Forest.{uses}
-use Rattle.mdp_graph.proofs.Cutting.{cut_more, cut_one, cut_skip, from_at, read-way}
+use Rattle.mdp_graph.proofs.Cutting.{cut_none, cut_more, cut_one, cut_skip, from_at, read-way}
 use Rattle.mdp_graph.proofs.forest.cut.Goals.{then-uses+in_ok-push, else-uses}
 use Rattle.mdp_graph.proofs.forest.cut.Goals as goal
 
@@ -35,3 +35,9 @@ loop-pred-preserved c =
           (cut_skip c.loop-pred.ways.items c.loop-pred.list.items pred.state pred.choice c.args.only (sym read ∙ w.if-uses.false))
     ])
     (take_more c.args.preds.now c.loop-pred.pred-index (pair 0 0) c.loop-pred-test.true)
+
+pub loop-pred-init : goal.loop-pred-init
+loop-pred-init c = cut_none _ _ _
+
+pub returns : goal.returns
+returns c = rw (take_all c.loop-pred.pred-index c.args.preds.now c.loop-pred-test.false) at c.loop-pred.invariant

@@ -1,5 +1,6 @@
-use Rattle.std.proofs.Common.{◌≡◌, ◌++◌, ◌∷◌, []}
-use Rattle.mdp_graph.proofs.Pruning.{pruning_more, popped_below}
+use Rattle.std.proofs.Common.{◌≡◌, ◌++◌, ◌∷◌, [], ap, ◌∙◌, length, length-append}
+use Rattle.mdp_graph.proofs.Pruning.{pruning, pruning_more, popped_below}
+use Rattle.std.proofs.Common.{arith}
 use Rattle.mdp_graph.proofs.forest.cut_below.Goals as goal
 
 pub of-requires : goal.of-requires
@@ -12,3 +13,11 @@ loop-b-preserved c =
     let w : c.loop-b.pending.items ≡ c.pop.new.self.items ++ c.in-Some.b ∷ [] = rw c.in-Some.is at c.pop.ensures.items in
     pruning_more c.args.preds.now c.args.ways.now.items c.loop-b.ways.items c.cut.new.ways.items c.args.first.items c.loop-b.pending.items c.pop.new.self.items c.cut.new.list.items
     c.loop-b.broken.items c.push.new.self.items c.in-Some.b c.of.result.now c.loop-b.invariant w c.in_ok-push.ensures.items c.in_ok-cut.ensures c.of.ensures c.requires.known
+
+pub loop-b-init : goal.loop-b-init
+loop-b-init c = pruning _ _ _ c.new-broken.ensures.items
+
+pub loop-b-smaller : goal.loop-b-smaller
+loop-b-smaller c =
+    let w : c.loop-b.pending.items ≡ c.pop.new.self.items ++ c.in-Some.b ∷ [] = rw c.in-Some.is at c.pop.ensures.items in
+    omega (arith, c.in_ok-cut.ensures.left, ap length w ∙ length-append c.pop.new.self.items (c.in-Some.b ∷ []))

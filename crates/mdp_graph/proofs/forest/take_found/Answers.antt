@@ -6,6 +6,8 @@ use Rattle.mdp_graph.proofs.Seeking.{found_taken, found_kept}
 use Rattle.mdp_graph.proofs.Taking.{grown_set, taken_set, taken_more}
 use Rattle.mdp_math.proofs.Booleans.{and-false}
 use Rattle.mdp_graph.proofs.forest.take_found.Goals.{in-Some+then-not-is_attached+in_ok-push, in-Some+else-not-is_attached, in_default}
+use Rattle.std.proofs.Common.{ℕ}
+use Rattle.mdp_graph.proofs.Taking.{grown_start, taken_none}
 use Rattle.mdp_graph.proofs.forest.take_found.Goals as goal
 
 pub loop-i-preserved : goal.loop-i-preserved
@@ -45,3 +47,18 @@ loop-i-preserved c =
             taken = inv.taken;
           }))
     ]
+
+pub loop-i-init : goal.loop-i-init
+loop-i-init c = record {
+  grown = grown_start _ _ _ _ (λ s z. (let l = z.1.1 in absurd (omega (arith, l))));
+  taken = rw c.new-layer.ensures.items (taken_none _ _);
+}
+
+pub is_attached-requires-clause-goals : goal.is_attached-requires-clause-goals
+is_attached-requires-clause-goals c = omega (arith, c.requires.below c.loop-i.i 0 c.loop-i-test.true, c.requires.goals)
+
+pub is_attached-requires-clause-ways : goal.is_attached-requires-clause-ways
+is_attached-requires-clause-ways c = omega (arith, c.requires.below c.loop-i.i 0 c.loop-i-test.true, c.loop-i.invariant.grown.count, ap length c.deref.ensures.value)
+
+pub index_mut-requires : goal.index_mut-requires
+index_mut-requires c = omega (arith, c.requires.below c.loop-i.i 0 c.loop-i-test.true, c.loop-i.invariant.grown.count)

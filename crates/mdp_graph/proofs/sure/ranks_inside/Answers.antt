@@ -6,6 +6,8 @@ use Rattle.mdp_graph.specs.Edges.{has_edge, has_choice_to}
 use Rattle.mdp_graph.specs.Sure.{inside_step}
 use Rattle.mdp_graph.proofs.Reached.{ranked}
 use Rattle.mdp_graph.proofs.StepsInside.{inside_leads, inside_follows}
+use Rattle.std.proofs.Common.{length}
+use Rattle.std.proofs.lemmas.List.{length-replicate}
 use Rattle.mdp_graph.proofs.sure.ranks_inside.Goals as goal
 
 pub returns : goal.returns
@@ -18,3 +20,6 @@ returns c =
     ∙ ap (λ b. not b && has_choice_to m inside s t) (ap (λ (x : List Bool). marked x s) c.in_ok-none.ensures ∙ get_or-replicate c.states.result s false false (omega (arith, c.states.ensures))) in
     ranked (inside_step m (marked inside)) (marked c.args.goals.now) (states_of m) found.edges c.in_ok-ranks_along.field-0.items found.by_edges
     (inside_leads m c.known.ensures.mdp inside found.edges are) (inside_follows m c.known.ensures.mdp inside found.edges are)
+
+pub ranks_along-requires-clause-blocked : goal.ranks_along-requires-clause-blocked
+ranks_along-requires-clause-blocked c = ap length c.in_ok-none.ensures ∙ length-replicate c.states.result false ∙ c.states.ensures

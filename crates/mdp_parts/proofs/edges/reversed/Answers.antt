@@ -1,5 +1,6 @@
 use Rattle.std.proofs.Common.{◌<◌, sym, ap, ◌∙◌, arith, get_or, length, [], ℕ, List, ◌||◌, ◌&&◌, ◌==◌, subst}
 use Rattle.std.proofs.lemmas.List.{length-replicate}
+use Rattle.std.proofs.lemmas.Result.{IfOk-weaker}
 use Rattle.mdp_rows.specs.Preds.{is_among}
 use Rattle.mdp_graph.specs.Edges.{has_edge}
 use Rattle.mdp_graph.proofs.Among.{below-all}
@@ -33,5 +34,6 @@ push_row-requires c =
 
 pub returns : goal.returns
 returns c =
-    subst (λ (x : List (List ℕ)). AreReversed c.args.edges.now x) (sym c.in_ok-lists.ensures)
-    (reversed_are c.args.edges.now _ c.args.states c.loop-s.s c.requires.states c.loop-s.invariant (omega arith))
+    IfOk-weaker c.sorted.result _ (λ (back : List (List ℕ)). AreReversed c.args.edges.now back)
+    (λ back e. subst (λ (x : List (List ℕ)). AreReversed c.args.edges.now x) (sym e)
+    (reversed_are c.args.edges.now _ c.args.states c.loop-s.s c.requires.states c.loop-s.invariant (omega arith))) c.sorted.ensures

@@ -24,7 +24,8 @@ returns-in_err-next c = λ n.
 
 pub returns-then-next-c : goal.returns-then-next-c
 returns-then-next-c c = λ n.
-    turn-done (component_in c.args.self.now.component) c.args.self.now.s c.args.c c.args.self.now.only n c.in_ok-gain.gain (c.in_ok-gain.ensures {u = tt}) c.in_ok-next.next (c.in_ok-next.ensures {u = tt}) c.if-next-c.true
+    turn-done (component_in c.args.self.now.component) c.args.self.now.s c.args.c c.args.self.now.only n c.in_ok-gain.gain (c.in_ok-gain.ensures {u = tt}) c.in_ok-next.next (c.in_ok-next.ensures {u = tt})
+    c.if-next-c.true
 
 pub returns : goal.returns
 returns c = λ n.

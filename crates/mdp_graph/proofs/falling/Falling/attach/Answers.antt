@@ -5,6 +5,10 @@ use Rattle.mdp_graph.specs.Forest.{way_at, attached, IsFound, IsGrown, IsFoundWa
 use Rattle.mdp_graph.proofs.Among.{below-all}
 use Rattle.mdp_graph.proofs.Growing.{forest_grown, found_good, closed_found, still, taken-below}
 use Rattle.mdp_math.proofs.Booleans.{and-left}
+use Rattle.std.proofs.Common.{is_some, is_none}
+use Rattle.mdp_graph.specs.Sets.{marked}
+use Rattle.mdp_math.proofs.Booleans.{and-right}
+use Rattle.mdp_graph.proofs.Pruning.{or-right}
 use Rattle.mdp_graph.proofs.falling.Falling.attach.Goals as goal
 
 pub attach_all-requires-clause-below : goal.attach_all-requires-clause-below
@@ -45,3 +49,25 @@ returns-clause-attaching c =
       fell_is = λ s h. c.in_ok-fell.ensures s ∙ ap (λ (x : List (Option Way)). is_among s broken && not (attached goals x s)) c.deref-3.ensures.value;
       below = λ s e. and-left (is_among s broken) (not (attached goals c.deref-3.result.now s)) (sym (c.in_ok-fell.ensures s) ∙ e);
     }
+
+pub found_ways-requires-clause-ways : goal.found_ways-requires-clause-ways
+found_ways-requires-clause-ways c = ap length c.deref.ensures.value ∙ c.requires.forest.count
+
+pub take_found-requires-clause-below : goal.take_found-requires-clause-below
+take_found-requires-clause-below c = λ k d l. (let h = c.requires.below k d l in let n = c.requires.forest.count in omega (arith, h, n))
+
+pub take_found-requires-clause-goals : goal.take_found-requires-clause-goals
+take_found-requires-clause-goals c = c.requires.goals ∙ sym c.requires.forest.count
+
+pub take_found-requires-clause-found : goal.take_found-requires-clause-found
+take_found-requires-clause-found c = ap length c.deref-2.ensures.value ∙ c.in_ok-found.ensures.count
+
+pub attach_all-requires-clause-attached : goal.attach_all-requires-clause-attached
+attach_all-requires-clause-attached c = λ t e. or-right (marked c.args.goals.now t) (is_some (way_at c.take_found.new.ways.items t))
+    (and-right (is_none (way_at c.args.self.now.ways.items t)) (is_some (way_at c.take_found.new.ways.items t)) (sym (c.in_ok-first.ensures.taken.listed t) ∙ e))
+
+pub unattached-requires-clause-goals : goal.unattached-requires-clause-goals
+unattached-requires-clause-goals c = λ k d l. (let h = c.requires.below k d l in omega (arith, h, c.requires.goals))
+
+pub unattached-requires-clause-ways : goal.unattached-requires-clause-ways
+unattached-requires-clause-ways c = ap length c.deref-3.ensures.value ∙ c.in_ok-attach_all.ensures.forest.count ∙ sym c.requires.goals

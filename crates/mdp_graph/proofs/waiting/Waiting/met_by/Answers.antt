@@ -1,7 +1,9 @@
 use Rattle.std.proofs.Common.{◌++◌, [], take, List, sym, ap, subst, ◌∙◌}
 use Rattle.mdp_rows.specs.declared.preds.Pred.{Pred}
 use Rattle.mdp_graph.specs.Waiting.{AreWithin, leading_to}
-use Rattle.mdp_graph.proofs.Releasing.{within_now, within_part, met_more, leading-more}
+use Rattle.mdp_graph.proofs.Releasing.{within_now, within_part, met_none, met_more, leading-more}
+use Rattle.std.proofs.lemmas.List.{take_all}
+use Rattle.std.proofs.Common.{arith}
 use Rattle.mdp_graph.proofs.waiting.Waiting.met_by.Goals as goal
 
 pub release_all-requires-clause-within : goal.release_all-requires-clause-within
@@ -16,3 +18,15 @@ loop-t-preserved c =
     c.of.result.now _ c.args.ranks.now [] c.loop-t.met.items c.release_all.new.met.items c.loop-t.invariant c.in_ok-release_all.ensures
     (leading-more c.args.preds.now c.args.layer.now c.loop-t.t-index c.loop-t-test.true
     ∙ ap (λ (x : List Pred). leading_to c.args.preds.now (take c.loop-t.t-index c.args.layer.now) ++ x) (sym c.of.ensures))
+
+pub loop-t-init : goal.loop-t-init
+loop-t-init c = rw c.new-met.ensures.items (met_none _ _ _)
+
+pub of-requires : goal.of-requires
+of-requires c = c.requires.layer c.loop-t.t-index 0 c.loop-t-test.true
+
+pub release_all-requires-clause-ranks : goal.release_all-requires-clause-ranks
+release_all-requires-clause-ranks c = omega (arith, c.loop-t.invariant.released.count, c.requires.ranks)
+
+pub returns : goal.returns
+returns c = rw (take_all c.loop-t.t-index c.args.layer.now c.loop-t-test.false) at c.loop-t.invariant

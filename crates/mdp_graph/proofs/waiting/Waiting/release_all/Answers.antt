@@ -4,9 +4,10 @@ use Rattle.mdp_rows.specs.Preds.{pair}
 use Rattle.mdp_rows.specs.declared.preds.Pred.{Pred}
 use Rattle.mdp_graph.specs.Waiting.{some_waits}
 use Rattle.mdp_graph.specs.Layers.{rank_at}
-use Rattle.mdp_graph.proofs.Releasing.{within_now, within_at, met_more, met_push, met_skip}
+use Rattle.mdp_graph.proofs.Releasing.{within_now, within_at, met_none, met_more, met_push, met_skip}
 use Rattle.mdp_graph.proofs.waiting.Waiting.release_all.Goals.{then-release+then-is_none+in_ok-push, else-release, else-release-via-then-release+else-is_none, else-release-via-else-release}
 use Rattle.mdp_math.proofs.Booleans.{and-false}
+use Rattle.std.proofs.lemmas.List.{take_all}
 use Rattle.mdp_graph.proofs.waiting.Waiting.release_all.Goals as goal
 
 pub release-requires-clause-state : goal.release-requires-clause-state
@@ -42,3 +43,9 @@ loop-pred-preserved c =
       ])
     ])
     (take_more c.args.preds.now c.loop-pred.pred-index (pair 0 0) c.loop-pred-test.true)
+
+pub loop-pred-init : goal.loop-pred-init
+loop-pred-init c = met_none _ _ _
+
+pub returns : goal.returns
+returns c = rw (take_all c.loop-pred.pred-index c.args.preds.now c.loop-pred-test.false) at c.loop-pred.invariant

@@ -3,7 +3,8 @@ use Rattle.mdp_rows.specs.Preds.{pair}
 use Rattle.mdp_graph.proofs.NextMet.{in_preds}
 use Rattle.mdp_parts.specs.Allowed.{AreChoices}
 use Rattle.mdp_parts.specs.Losing.{IsPruned}
-use Rattle.mdp_parts.proofs.Pruning.{pred_at, into_more}
+use Rattle.mdp_parts.proofs.Forbidding.{forbidden_sizes}
+use Rattle.mdp_parts.proofs.Pruning.{pruned_none, losing_kept, one_pruned, pred_at, into_more}
 use Rattle.mdp_parts.proofs.losing.Losing.forbid_into.Goals.{then-at+in_ok-look_at, else-at}
 use Rattle.mdp_parts.proofs.losing.Losing.forbid_into.Goals as goal
 
@@ -31,3 +32,38 @@ loop-pred-preserved c =
           c.requires.state c.requires.lost _ _ _ w.set.ensures (sym c.at.ensures ∙ w.if-at.true) w.in_ok-look_at.ensures.losing w.in_ok-look_at.ensures.more)
       | else-at w ↦ rw (w.self-is, w.allowed-is) c.loop-pred.invariant
     ]
+
+pub loop-pred-init : goal.loop-pred-init
+loop-pred-init c = record { pruned = pruned_none c.args.model.now c.args.allowed.now c.requires.allowed; losing = c.requires.losing; less = omega arith }
+
+pub set-requires-clause-state : goal.set-requires-clause-state
+set-requires-clause-state c =
+    let w = pred_at c.args.model.now c.args.preds.now c.requires.preds c.args.t c.requires.state c.of-pred-items.result.now c.of-pred-items.ensures c.loop-pred.pred-index (pair 0 0) c.loop-pred-test.true in
+    omega (arith, w.0, AreChoices.count (IsPruned.sizes c.loop-pred.invariant.pruned))
+
+pub set-requires-clause-choice : goal.set-requires-clause-choice
+set-requires-clause-choice c =
+    let w = pred_at c.args.model.now c.args.preds.now c.requires.preds c.args.t c.requires.state c.of-pred-items.result.now c.of-pred-items.ensures c.loop-pred.pred-index (pair 0 0) c.loop-pred-test.true in
+    let k = AreChoices.width (IsPruned.sizes c.loop-pred.invariant.pruned) _ w.0 in
+    omega (arith, w.1, k)
+
+pub look_at-requires-clause-state : goal.look_at-requires-clause-state
+look_at-requires-clause-state c =
+    let w = pred_at c.args.model.now c.args.preds.now c.requires.preds c.args.t c.requires.state c.of-pred-items.result.now c.of-pred-items.ensures c.loop-pred.pred-index (pair 0 0) c.loop-pred-test.true in
+    w.0
+
+pub look_at-requires-clause-allowed : goal.look_at-requires-clause-allowed
+look_at-requires-clause-allowed c =
+    let w = pred_at c.args.model.now c.args.preds.now c.requires.preds c.args.t c.requires.state c.of-pred-items.result.now c.of-pred-items.ensures c.loop-pred.pred-index (pair 0 0) c.loop-pred-test.true in
+    rw c.set.ensures (forbidden_sizes c.args.model.now c.loop-pred.allowed (IsPruned.sizes c.loop-pred.invariant.pruned) _ _ w.0 w.1)
+
+pub look_at-requires-clause-losing : goal.look_at-requires-clause-losing
+look_at-requires-clause-losing c =
+    let w = pred_at c.args.model.now c.args.preds.now c.requires.preds c.args.t c.requires.state c.of-pred-items.result.now c.of-pred-items.ensures c.loop-pred.pred-index (pair 0 0) c.loop-pred-test.true in
+    rw c.set.ensures
+    (losing_kept c.args.model.now c.loop-pred.allowed _ c.loop-pred.self.first.items c.loop-pred.self.lost.items
+    (one_pruned c.args.model.now c.args.allowed.now c.loop-pred.allowed c.loop-pred.self.first.items c.args.self.now.lost.items c.loop-pred.self.lost.items c.loop-pred.invariant _ _ c.args.t
+    w.0 w.1 w.2 c.requires.state c.requires.lost) c.loop-pred.invariant.losing)
+
+pub returns : goal.returns
+returns c = record { pruned = c.loop-pred.invariant.pruned; losing = c.loop-pred.invariant.losing; less = c.loop-pred.invariant.less }
