@@ -9,6 +9,8 @@ mod initial;
 mod lines;
 mod names;
 mod numbers;
+mod part;
+mod parts;
 mod push;
 mod widths;
 mod words;

@@ -3,6 +3,8 @@ ghost use Rattle.std.specs.List.{list_any, position_or_len};
 ghost use Rattle.mdp_rows.specs.Name.{is_name};
 ghost use Rattle.mdp_text.specs.Words.{is_quote, name_and_rest};
 
+use crate::words::before;
+
 /// Whether a quote or a line feed is among the bytes.
 fn has_quote_or_line_feed(text: &[u8]) -> bool
     ensures { result ≡ list_any (λ b. b == 34 || b == 10) text.now }
@@ -24,7 +26,7 @@ pub fn is_name(name: &[u8]) -> bool
 pub fn before_quote(text: &[u8]) -> usize
     ensures { result ≡ position_or_len is_quote text.now }
 {
-    text.iter().take_while(|byte| **byte != b'"').count()
+    before(text, b'"')
 }
 
 /// The name before the first quote, and what stands behind that quote and a blank.
