@@ -3,13 +3,13 @@ ghost use Rattle.mdp_cert.specs.Cert.{floor};
 ghost use Rattle.mdp_cert.specs.Witness.{floor_line_at, floor_listed, floor_lines, floor_body};
 
 use crate::floor_line::FloorLine;
-use crate::flow_lines::is_next;
+use crate::flow_lines::is_in_order;
 use crate::listed::{Line, Lines};
-use crate::mark::{mark_at, push_mark};
+use crate::mark::{mark_at, mark_word};
 use mdp_claims::FloorCert;
 use mdp_num::{Frac, Memory};
 use mdp_text::{
-    CertKind, Refusal, cut_word, frac_at, only_word, push_fraction, push_word, refuse_if, whole_at,
+    CertKind, Part, Refusal, cut_word, frac_at, only_word, push_parts, refuse_if, whole_at,
     words_behind,
 };
 use std::alloc::{AllocError, Global};
@@ -46,7 +46,7 @@ impl Line for FloorLine {
         refuse_if(
             CertKind::Count,
             line,
-            !(is_next(state_before(before), state) && state < states),
+            !is_in_order(state_before(before), state, states),
         )?;
         Ok(FloorLine {
             state,
@@ -57,11 +57,19 @@ impl Line for FloorLine {
     }
 
     fn push_words(&self, out: &mut Vec<u8>) -> Result<(), Memory> {
-        out.extend_from_slice(b"keep")?;
-        push_word(out, u64::from(self.state))?;
-        push_fraction(out, &self.value)?;
-        push_word(out, u64::from(self.rank))?;
-        push_mark(out, self.wide)
+        push_parts(
+            out,
+            &[
+                Part::Bytes(b"keep "),
+                Part::Whole(u64::from(self.state)),
+                Part::Bytes(b" "),
+                Part::Fraction(self.value),
+                Part::Bytes(b" "),
+                Part::Whole(u64::from(self.rank)),
+                Part::Bytes(b" "),
+                Part::Bytes(mark_word(self.wide)),
+            ],
+        )
     }
 }
 

@@ -7,9 +7,7 @@ use crate::entries::{Entry, Lists};
 use crate::mean_entry::MeanEntry;
 use mdp_claims::MeanCert;
 use mdp_num::{Frac, Memory, read_canonical};
-use mdp_text::{
-    Refusal, cut_word, frac_at, only_word, push_fraction, push_word, whole_of, words_behind,
-};
+use mdp_text::{Part, Refusal, cut_word, frac_at, only_word, push_parts, whole_of, words_behind};
 use std::alloc::{AllocError, Global};
 
 /// The line of a state for the claim `DIR mean`: a gain, a bound, a bias and a choice.
@@ -33,10 +31,18 @@ impl Entry for MeanEntry {
     }
 
     fn push_words(&self, out: &mut Vec<u8>) -> Result<(), Memory> {
-        self.gain.push_text(out)?;
-        push_fraction(out, &self.bound)?;
-        push_fraction(out, &self.bias)?;
-        push_word(out, u64::from(self.choice))
+        push_parts(
+            out,
+            &[
+                Part::Fraction(self.gain),
+                Part::Bytes(b" "),
+                Part::Fraction(self.bound),
+                Part::Bytes(b" "),
+                Part::Fraction(self.bias),
+                Part::Bytes(b" "),
+                Part::Whole(u64::from(self.choice)),
+            ],
+        )
     }
 
     fn is_same(&self, other: &MeanEntry) -> bool {

@@ -60,7 +60,11 @@ pub fn push_fraction_end(out: &mut Vec<u8>, value: &Frac) -> Result<(), Memory>
 {
     push_parts(
         out,
-        &[Part::Bytes(b" "), Part::Fraction(*value), Part::Bytes(b"\n")],
+        &[
+            Part::Bytes(b" "),
+            Part::Fraction(*value),
+            Part::Bytes(b"\n"),
+        ],
     )
 }
 
@@ -72,7 +76,11 @@ pub fn push_number(out: &mut Vec<u8>, states: u64) -> Result<(), Memory>
 {
     push_parts(
         out,
-        &[Part::Bytes(b"states "), Part::Whole(states), Part::Bytes(b"\n")],
+        &[
+            Part::Bytes(b"states "),
+            Part::Whole(states),
+            Part::Bytes(b"\n"),
+        ],
     )
 }
 
