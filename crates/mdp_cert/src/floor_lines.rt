@@ -1,7 +1,8 @@
-ghost use Rattle.std.specs.Prelude.{◌≡◌, IfOk, map, option_map};
+ghost use Rattle.std.specs.Prelude.{◌≡◌, IfOk, option_map};
 ghost use Rattle.mdp_cert.specs.Cert.{floor};
 ghost use Rattle.mdp_cert.specs.Witness.{floor_line_at, floor_listed, floor_lines, floor_body};
 
+use crate::column::{Column, column_of};
 use crate::floor_line::FloorLine;
 use crate::flow_lines::is_in_order;
 use crate::listed::{Line, Lines};
@@ -88,32 +89,56 @@ impl Lines for FloorCert {
     }
 }
 
-/// The states of these lines.
-fn states_of(alloc: Global, lines: &[FloorLine]) -> Result<Vec<u32>, AllocError>
-    ensures { IfOk result (λ v. v.items ≡ map (λ x. x.state) lines.now) }
-{
-    lines.iter().map(|line| line.state).collect(alloc)
+/// The column of kept states.
+struct KeptState;
+
+impl Column<FloorLine> for KeptState {
+    type Item = u32;
+
+    ghost field = { λ x. x.state };
+
+    fn of(entry: &FloorLine) -> u32 {
+        entry.state
+    }
 }
 
-/// The marks of these lines.
-fn marks_of(alloc: Global, lines: &[FloorLine]) -> Result<Vec<bool>, AllocError>
-    ensures { IfOk result (λ v. v.items ≡ map (λ x. x.wide) lines.now) }
-{
-    lines.iter().map(|line| line.wide).collect(alloc)
+/// The column of marks.
+struct Mark;
+
+impl Column<FloorLine> for Mark {
+    type Item = bool;
+
+    ghost field = { λ x. x.wide };
+
+    fn of(entry: &FloorLine) -> bool {
+        entry.wide
+    }
 }
 
-/// The values of these lines.
-fn values_of(alloc: Global, lines: &[FloorLine]) -> Result<Vec<Frac>, AllocError>
-    ensures { IfOk result (λ v. v.items ≡ map (λ x. x.value) lines.now) }
-{
-    lines.iter().map(|line| line.value).collect(alloc)
+/// The column of values.
+struct Value;
+
+impl Column<FloorLine> for Value {
+    type Item = Frac;
+
+    ghost field = { λ x. x.value };
+
+    fn of(entry: &FloorLine) -> Frac {
+        entry.value
+    }
 }
 
-/// The ranks of these lines.
-fn ranks_of(alloc: Global, lines: &[FloorLine]) -> Result<Vec<u32>, AllocError>
-    ensures { IfOk result (λ v. v.items ≡ map (λ x. x.rank) lines.now) }
-{
-    lines.iter().map(|line| line.rank).collect(alloc)
+/// The column of ranks.
+struct Rank;
+
+impl Column<FloorLine> for Rank {
+    type Item = u32;
+
+    ghost field = { λ x. x.rank };
+
+    fn of(entry: &FloorLine) -> u32 {
+        entry.rank
+    }
 }
 
 /// The kept states with their marks, values and ranks, of these lines.
@@ -121,9 +146,9 @@ pub(crate) fn floor_cert(alloc: Global, lines: &[FloorLine]) -> Result<FloorCert
     ensures { IfOk result (λ c. floor c.kept.items c.wide.items c.values.items c.ranks.items ≡ floor_body lines.now) }
 {
     Ok(FloorCert {
-        kept: states_of(alloc, lines)?,
-        wide: marks_of(alloc, lines)?,
-        values: values_of(alloc, lines)?,
-        ranks: ranks_of(alloc, lines)?,
+        kept: column_of::<KeptState, _>(alloc, lines)?,
+        wide: column_of::<Mark, _>(alloc, lines)?,
+        values: column_of::<Value, _>(alloc, lines)?,
+        ranks: column_of::<Rank, _>(alloc, lines)?,
     })
 }
