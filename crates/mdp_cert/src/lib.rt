@@ -15,6 +15,7 @@ mod body;
 mod cert;
 mod claim;
 mod claim_line;
+mod claim_words;
 mod column;
 mod entries;
 mod floor_line;

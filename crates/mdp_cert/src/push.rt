@@ -54,8 +54,7 @@ pub(crate) fn push_run<E: Entry>(
 {
     push_states(out, first, last)?;
     entry.push_words(out)?;
-    out.extend_from_slice(b"\n")?;
-    Ok(())
+    push_parts(out, &[Part::Bytes(b"\n")])
 }
 
 /// Appends a line of this front and a name in quotes; the front ends with the first quote.

@@ -20,7 +20,7 @@ pub use heads::{init_of, init_parse, start_at, states_at, states_from, valued_at
 pub use init::Init;
 pub use initial::{init_with, init_with_rewards};
 pub use lines::{is_line, next_line, nothing_behind, or_refused, refuse_if};
-pub use names::{before_quote, is_name, name_and_rest};
+pub use names::{before_quote, cut_name, is_name, name_and_rest};
 pub use numbers::{frac_at, reward_of, whole_at, whole_of};
 pub use part::Part;
 pub use parts::push_parts;
