@@ -1,13 +1,13 @@
-ghost use Rattle.std.specs.Prelude.{◌≡◌, IfOk, map};
+ghost use Rattle.std.specs.Prelude.{◌≡◌, IfOk};
 ghost use Rattle.mdp_bounds_text.specs.Cert.{gains};
 ghost use Rattle.mdp_bounds_text.specs.Entries.{gains_columns, gains_of};
 ghost use Rattle.mdp_bounds_text.specs.Reading.{mean_body};
 
 use crate::gains_entry::GainsEntry;
-use mdp_cert::{Entry, Lists};
+use mdp_cert::{Column, Entry, Lists, column_of};
 use mdp_claims::MeanBoundsCert;
 use mdp_num::{Frac, Memory, read_canonical};
-use mdp_text::{cut_word, only_word, push_fraction, push_word, whole_of};
+use mdp_text::{Part, cut_word, only_word, push_parts, whole_of};
 use std::alloc::{AllocError, Global};
 
 /// The line of a state for the claim `DIR mean`: two gains, a bound, a bias and a choice.
@@ -33,11 +33,20 @@ impl Entry for GainsEntry {
     }
 
     fn push_words(&self, out: &mut Vec<u8>) -> Result<(), Memory> {
-        self.lower.push_text(out)?;
-        push_fraction(out, &self.upper)?;
-        push_fraction(out, &self.bound)?;
-        push_fraction(out, &self.bias)?;
-        push_word(out, u64::from(self.choice))
+        push_parts(
+            out,
+            &[
+                Part::Fraction(self.lower),
+                Part::Bytes(b" "),
+                Part::Fraction(self.upper),
+                Part::Bytes(b" "),
+                Part::Fraction(self.bound),
+                Part::Bytes(b" "),
+                Part::Fraction(self.bias),
+                Part::Bytes(b" "),
+                Part::Whole(u64::from(self.choice)),
+            ],
+        )
     }
 
     fn is_same(&self, other: &GainsEntry) -> bool {
@@ -72,39 +81,69 @@ impl Lists for LentMean<'_> {
     }
 }
 
-/// The lower gains of these entries.
-fn lower_of(alloc: Global, entries: &[GainsEntry]) -> Result<Vec<Frac>, AllocError>
-    ensures { IfOk result (λ v. v.items ≡ map (λ x. x.lower) entries.now) }
-{
-    entries.iter().map(|entry| entry.lower).collect(alloc)
+/// The column of lower gains.
+struct Lower;
+
+impl Column<GainsEntry> for Lower {
+    type Item = Frac;
+
+    ghost field = { λ x. x.lower };
+
+    fn of(entry: &GainsEntry) -> Frac {
+        entry.lower
+    }
 }
 
-/// The upper gains of these entries.
-fn upper_of(alloc: Global, entries: &[GainsEntry]) -> Result<Vec<Frac>, AllocError>
-    ensures { IfOk result (λ v. v.items ≡ map (λ x. x.upper) entries.now) }
-{
-    entries.iter().map(|entry| entry.upper).collect(alloc)
+/// The column of upper gains.
+struct Upper;
+
+impl Column<GainsEntry> for Upper {
+    type Item = Frac;
+
+    ghost field = { λ x. x.upper };
+
+    fn of(entry: &GainsEntry) -> Frac {
+        entry.upper
+    }
 }
 
-/// The bounds of these entries.
-fn bounds_of(alloc: Global, entries: &[GainsEntry]) -> Result<Vec<Frac>, AllocError>
-    ensures { IfOk result (λ v. v.items ≡ map (λ x. x.bound) entries.now) }
-{
-    entries.iter().map(|entry| entry.bound).collect(alloc)
+/// The column of bounds.
+struct Bound;
+
+impl Column<GainsEntry> for Bound {
+    type Item = Frac;
+
+    ghost field = { λ x. x.bound };
+
+    fn of(entry: &GainsEntry) -> Frac {
+        entry.bound
+    }
 }
 
-/// The biases of these entries.
-fn biases_of(alloc: Global, entries: &[GainsEntry]) -> Result<Vec<Frac>, AllocError>
-    ensures { IfOk result (λ v. v.items ≡ map (λ x. x.bias) entries.now) }
-{
-    entries.iter().map(|entry| entry.bias).collect(alloc)
+/// The column of biases.
+struct Bias;
+
+impl Column<GainsEntry> for Bias {
+    type Item = Frac;
+
+    ghost field = { λ x. x.bias };
+
+    fn of(entry: &GainsEntry) -> Frac {
+        entry.bias
+    }
 }
 
-/// The choices of these entries.
-fn choices_of(alloc: Global, entries: &[GainsEntry]) -> Result<Vec<u32>, AllocError>
-    ensures { IfOk result (λ v. v.items ≡ map (λ x. x.choice) entries.now) }
-{
-    entries.iter().map(|entry| entry.choice).collect(alloc)
+/// The column of choices.
+struct Choice;
+
+impl Column<GainsEntry> for Choice {
+    type Item = u32;
+
+    ghost field = { λ x. x.choice };
+
+    fn of(entry: &GainsEntry) -> u32 {
+        entry.choice
+    }
 }
 
 /// The gains, the bounds, the biases and the choices of these entries, and the spread.
@@ -116,11 +155,11 @@ pub(crate) fn mean_cert(
     ensures { IfOk result (λ c. gains c.lower.items c.upper.items c.bound.items c.bias.items c.choices.items c.spread ≡ mean_body spread entries.now) }
 {
     Ok(MeanBoundsCert {
-        lower: lower_of(alloc, entries)?,
-        upper: upper_of(alloc, entries)?,
-        bound: bounds_of(alloc, entries)?,
-        bias: biases_of(alloc, entries)?,
-        choices: choices_of(alloc, entries)?,
+        lower: column_of::<Lower, _>(alloc, entries)?,
+        upper: column_of::<Upper, _>(alloc, entries)?,
+        bound: column_of::<Bound, _>(alloc, entries)?,
+        bias: column_of::<Bias, _>(alloc, entries)?,
+        choices: column_of::<Choice, _>(alloc, entries)?,
         spread,
     })
 }

@@ -12,7 +12,7 @@ use mdp_cert::{Claim, claim_at, may_be_infinite};
 use mdp_num::Frac;
 use mdp_text::{
     CertError, CertKind, Refusal, cut_word, init_parse, next_line, only_word, or_refused,
-    refuse_if, states_at, whole_at, words_behind,
+    refuse_if, states_from, whole_at, words_behind,
 };
 use std::alloc::Global;
 
@@ -76,8 +76,7 @@ pub(crate) fn head_from(alloc: Global, bytes: &[u8]) -> Result<(Head, &[u8]), Ce
 {
     let (text, rest) = next_line(2, bytes)?;
     let claim = bounds_claim_at(alloc, 2, text)?;
-    let (text, rest) = next_line(3, rest)?;
-    let states = states_at(3, text)?;
+    let (states, rest) = states_from(3, rest)?;
     let (text, rest) = next_line(4, rest)?;
     let init = init_at(may_be_infinite(&claim), states, 4, text)?;
     Ok((

@@ -1,10 +1,10 @@
-ghost use Rattle.std.specs.Prelude.{◌≡◌, ◌<◌, IfOk, length, map, slice_index_or};
+ghost use Rattle.std.specs.Prelude.{◌≡◌, ◌<◌, IfOk, length, slice_index_or};
 ghost use Rattle.mdp_bounds_text.specs.Cert.{probabilities, rewards};
 ghost use Rattle.mdp_bounds_text.specs.Entries.{ranked_columns, ranked_of};
 ghost use Rattle.mdp_bounds_text.specs.Reading.{reach_body, reward_body};
 
 use crate::ranked_entry::RankedEntry;
-use mdp_cert::{Entry, Lists, Value, push_value};
+use mdp_cert::{Column, Entry, Lists, Value, column_of, push_value};
 use mdp_claims::{ReachBoundsCert, RewardBoundsCert};
 use mdp_num::{Frac, Memory};
 use mdp_text::{cut_word, only_word, push_word, whole_of};
@@ -99,38 +99,56 @@ impl Lists for LentReward<'_> {
     }
 }
 
-/// The lower values of these entries.
-fn lower_of<V: Copy + Drop>(alloc: Global, entries: &[RankedEntry<V>]) -> Result<Vec<V>, AllocError>
-    ensures { IfOk result (λ v. v.items ≡ map (λ x. x.lower) entries.now) }
-{
-    entries.iter().map(|entry| entry.lower).collect(alloc)
+/// The column of lower values.
+struct Lower;
+
+impl<V: Copy + Drop> Column<RankedEntry<V>> for Lower {
+    type Item = V;
+
+    ghost field = { λ x. x.lower };
+
+    fn of(entry: &RankedEntry<V>) -> V {
+        entry.lower
+    }
 }
 
-/// The upper values of these entries.
-fn upper_of<V: Copy + Drop>(alloc: Global, entries: &[RankedEntry<V>]) -> Result<Vec<V>, AllocError>
-    ensures { IfOk result (λ v. v.items ≡ map (λ x. x.upper) entries.now) }
-{
-    entries.iter().map(|entry| entry.upper).collect(alloc)
+/// The column of upper values.
+struct Upper;
+
+impl<V: Copy + Drop> Column<RankedEntry<V>> for Upper {
+    type Item = V;
+
+    ghost field = { λ x. x.upper };
+
+    fn of(entry: &RankedEntry<V>) -> V {
+        entry.upper
+    }
 }
 
-/// The choices of these entries.
-fn choices_of<V: Copy + Drop>(
-    alloc: Global,
-    entries: &[RankedEntry<V>],
-) -> Result<Vec<u32>, AllocError>
-    ensures { IfOk result (λ v. v.items ≡ map (λ x. x.choice) entries.now) }
-{
-    entries.iter().map(|entry| entry.choice).collect(alloc)
+/// The column of choices.
+struct Choice;
+
+impl<V: Copy + Drop> Column<RankedEntry<V>> for Choice {
+    type Item = u32;
+
+    ghost field = { λ x. x.choice };
+
+    fn of(entry: &RankedEntry<V>) -> u32 {
+        entry.choice
+    }
 }
 
-/// The ranks of these entries.
-fn ranks_of<V: Copy + Drop>(
-    alloc: Global,
-    entries: &[RankedEntry<V>],
-) -> Result<Vec<u32>, AllocError>
-    ensures { IfOk result (λ v. v.items ≡ map (λ x. x.rank) entries.now) }
-{
-    entries.iter().map(|entry| entry.rank).collect(alloc)
+/// The column of ranks.
+struct Rank;
+
+impl<V: Copy + Drop> Column<RankedEntry<V>> for Rank {
+    type Item = u32;
+
+    ghost field = { λ x. x.rank };
+
+    fn of(entry: &RankedEntry<V>) -> u32 {
+        entry.rank
+    }
 }
 
 /// The lower and the upper values, the choices and the ranks of these entries.
@@ -141,10 +159,10 @@ pub(crate) fn reach_cert(
     ensures { IfOk result (λ c. probabilities c.lower.items c.upper.items c.choices.items c.ranks.items ≡ reach_body entries.now) }
 {
     Ok(ReachBoundsCert {
-        lower: lower_of(alloc, entries)?,
-        upper: upper_of(alloc, entries)?,
-        choices: choices_of(alloc, entries)?,
-        ranks: ranks_of(alloc, entries)?,
+        lower: column_of::<Lower, _>(alloc, entries)?,
+        upper: column_of::<Upper, _>(alloc, entries)?,
+        choices: column_of::<Choice, _>(alloc, entries)?,
+        ranks: column_of::<Rank, _>(alloc, entries)?,
     })
 }
 
@@ -156,9 +174,9 @@ pub(crate) fn reward_cert(
     ensures { IfOk result (λ c. rewards c.lower.items c.upper.items c.choices.items c.ranks.items ≡ reward_body entries.now) }
 {
     Ok(RewardBoundsCert {
-        lower: lower_of(alloc, entries)?,
-        upper: upper_of(alloc, entries)?,
-        choices: choices_of(alloc, entries)?,
-        ranks: ranks_of(alloc, entries)?,
+        lower: column_of::<Lower, _>(alloc, entries)?,
+        upper: column_of::<Upper, _>(alloc, entries)?,
+        choices: column_of::<Choice, _>(alloc, entries)?,
+        ranks: column_of::<Rank, _>(alloc, entries)?,
     })
 }

@@ -3,9 +3,19 @@ use Rattle.std.specs.Prelude.{ℕ, suc, Bool, false, List, [], ◌∷◌, if◌t
 use Rattle.mdp_cert.specs.declared.head.Head.{Head}
 use Rattle.mdp_cert.specs.declared.version.Version.{Version}
 use Rattle.mdp_cert.specs.declared.version.Version.TheVariants.{One, Two}
-use Rattle.mdp_cert.specs.Cert.{plain_claim}
+use Rattle.mdp_cert.specs.declared.claim_words.ClaimWords.{ClaimWords}
+use Rattle.mdp_cert.specs.declared.claim_words.ClaimWords.TheVariants as words
+use Rattle.mdp_cert.specs.Cert.{PlainClaim, upper, reach, reward, mean, witness, plain_claim}
 use Rattle.mdp_cert.specs.Runs.{Columns}
 use Rattle.mdp_cert.specs.Reading.{CertHead}
+
+-- the claim that these words say
+abbrev pub said_claim : ClaimWords → PlainClaim
+said_claim (words.Upper label) = upper label.now
+said_claim (words.Reach dir label) = reach dir label.now
+said_claim (words.Reward dir name label) = reward dir name.now label.now
+said_claim (words.Mean dir name) = mean dir name.now
+said_claim (words.Witness dir label threshold) = witness dir label.now threshold
 
 abbrev pub plain_head : Head → CertHead
 plain_head h = record { claim = plain_claim h.claim; states = h.states; init = h.init }

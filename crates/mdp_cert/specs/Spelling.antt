@@ -38,6 +38,10 @@ entry_text k x = join_with_byte 32 (k.words x)
 unfoldable pub run_text : {A : Type 0} → Columns A → ℕ → Run A → List ℕ
 run_text k state r = if r.more == 0 then codes "state" ␣ decimal state ␣ entry_text k r.entry else codes "run" ␣ decimal state ␣ decimal (state + r.more) ␣ entry_text k r.entry
 
+-- what stands before its words
+abbrev pub states_front : ℕ → ℕ → List ℕ
+states_front state more = if more == 0 then codes "state" ␣ decimal state ␣ [] else codes "run" ␣ decimal state ␣ decimal (state + more) ␣ []
+
 unfoldable pub run_lines : {A : Type 0} → Columns A → ℕ → List (Run A) → List ℕ
 run_lines k state [] = []
 run_lines k state (r ∷ rs) = line (run_text k state r) ++ run_lines k (state + r.more + 1) rs

@@ -5,11 +5,13 @@ ghost use Rattle.mdp_text.specs.Words.{behind, name_and_rest};
 ghost use Rattle.mdp_cert.specs.Reading.{closed_name, name_behind, two_names, upper_claim, reach_front};
 ghost use Rattle.mdp_cert.specs.Reading.{reach_claim, reward_front, reward_claim, mean_front, mean_claim, threshold_of, name_and_threshold, witness_front, witness_claim, claim_to, claim_of, claim_at};
 ghost use Rattle.mdp_text.specs.Answer.{Refuses};
+ghost use Rattle.mdp_cert.specs.Answer.{said_claim};
 
 use crate::claim::Claim;
+use crate::claim_words::ClaimWords;
 use mdp_num::{Frac, read_canonical};
 use mdp_rows::Dir;
-use mdp_text::{CertError, CertKind, before_quote, is_name, name_and_rest};
+use mdp_text::{CertError, CertKind, cut_name, is_name, name_and_rest};
 use std::alloc::{AllocError, Global};
 
 /// The name that stands before the quote at the text's end.
@@ -31,24 +33,17 @@ fn name_behind<'a>(front: &[u8], text: &'a [u8]) -> Option<&'a [u8]>
 fn two_names(text: &[u8]) -> Option<(&[u8], &[u8])>
     ensures { MatchOption result (two_names text.now ≡ None) (λ names. two_names text.now ≡ Some (names.0.now, names.1.now)) }
 {
-    let end = before_quote(text);
-    let name = &text[..end];
-    if !is_name(name) {
-        return None;
-    }
-    let label = name_behind(b"\" \"", &text[end..])?;
+    let (name, rest) = cut_name(text)?;
+    let label = name_behind(b"\" \"", rest)?;
     Some((name, label))
 }
 
 /// The claim `upper reach` of this line.
-fn upper_claim(alloc: Global, text: &[u8]) -> Result<Option<Claim>, AllocError>
-    ensures { IfOk result (λ c. option_map plain_claim c ≡ upper_claim text.now) }
+fn upper_claim(text: &[u8]) -> Option<ClaimWords<'_>>
+    ensures { option_map said_claim result ≡ upper_claim text.now }
 {
-    let Some(name) = name_behind(b"claim upper reach \"", text) else {
-        return Ok(None);
-    };
-    let label = Vec::from_slice(alloc, name)?;
-    Ok(Some(Claim::Upper { label }))
+    let label = name_behind(b"claim upper reach \"", text)?;
+    Some(ClaimWords::Upper(label))
 }
 
 /// What stands before the label in the claim `DIR reach`.
@@ -62,14 +57,11 @@ pub(crate) fn reach_front(dir: Dir) -> &'static [u8]
 }
 
 /// The claim `DIR reach` of this line.
-fn reach_claim(alloc: Global, dir: Dir, text: &[u8]) -> Result<Option<Claim>, AllocError>
-    ensures { IfOk result (λ c. option_map plain_claim c ≡ reach_claim dir text.now) }
+fn reach_claim(dir: Dir, text: &[u8]) -> Option<ClaimWords<'_>>
+    ensures { option_map said_claim result ≡ reach_claim dir text.now }
 {
-    let Some(name) = name_behind(reach_front(dir), text) else {
-        return Ok(None);
-    };
-    let label = Vec::from_slice(alloc, name)?;
-    Ok(Some(Claim::Reach { dir, label }))
+    let label = name_behind(reach_front(dir), text)?;
+    Some(ClaimWords::Reach(dir, label))
 }
 
 /// What stands before the names in the claim `DIR reward`.
@@ -82,23 +74,12 @@ pub(crate) fn reward_front(dir: Dir) -> &'static [u8]
     }
 }
 
-/// The names of the claim `DIR reward` of this line.
-fn reward_names(dir: Dir, text: &[u8]) -> Option<(&[u8], &[u8])>
-    ensures { let due = option_and_then two_names (behind (reward_front dir) text.now) in MatchOption result (due ≡ None) (λ names. due ≡ Some (names.0.now, names.1.now)) }
-{
-    two_names(text.strip_prefix(reward_front(dir))?)
-}
-
 /// The claim `DIR reward` of this line.
-fn reward_claim(alloc: Global, dir: Dir, text: &[u8]) -> Result<Option<Claim>, AllocError>
-    ensures { IfOk result (λ c. option_map plain_claim c ≡ reward_claim dir text.now) }
+fn reward_claim(dir: Dir, text: &[u8]) -> Option<ClaimWords<'_>>
+    ensures { option_map said_claim result ≡ reward_claim dir text.now }
 {
-    let Some((name, label)) = reward_names(dir, text) else {
-        return Ok(None);
-    };
-    let name = Vec::from_slice(alloc, name)?;
-    let label = Vec::from_slice(alloc, label)?;
-    Ok(Some(Claim::Reward { dir, name, label }))
+    let (name, label) = two_names(text.strip_prefix(reward_front(dir))?)?;
+    Some(ClaimWords::Reward(dir, name, label))
 }
 
 /// What stands before the name in the claim `DIR mean`.
@@ -112,14 +93,11 @@ pub(crate) fn mean_front(dir: Dir) -> &'static [u8]
 }
 
 /// The claim `DIR mean` of this line.
-fn mean_claim(alloc: Global, dir: Dir, text: &[u8]) -> Result<Option<Claim>, AllocError>
-    ensures { IfOk result (λ c. option_map plain_claim c ≡ mean_claim dir text.now) }
+fn mean_claim(dir: Dir, text: &[u8]) -> Option<ClaimWords<'_>>
+    ensures { option_map said_claim result ≡ mean_claim dir text.now }
 {
-    let Some(name) = name_behind(mean_front(dir), text) else {
-        return Ok(None);
-    };
-    let name = Vec::from_slice(alloc, name)?;
-    Ok(Some(Claim::Mean { dir, name }))
+    let name = name_behind(mean_front(dir), text)?;
+    Some(ClaimWords::Mean(dir, name))
 }
 
 /// The fraction from 0 on that a word spells.
@@ -153,57 +131,82 @@ pub(crate) fn witness_front(dir: Dir) -> &'static [u8]
     }
 }
 
-/// The label and the threshold of the claim `DIR witness` of this line.
-fn witness_parts(dir: Dir, text: &[u8]) -> Option<(&[u8], Frac)>
-    ensures { let due = option_and_then name_and_threshold (behind (witness_front dir) text.now) in MatchOption result (due ≡ None) (λ said. due ≡ Some (said.0.now, said.1)) }
-{
-    name_and_threshold(text.strip_prefix(witness_front(dir))?)
-}
-
 /// The claim `DIR witness` of this line.
-fn witness_claim(alloc: Global, dir: Dir, text: &[u8]) -> Result<Option<Claim>, AllocError>
-    ensures { IfOk result (λ c. option_map plain_claim c ≡ witness_claim dir text.now) }
+fn witness_claim(dir: Dir, text: &[u8]) -> Option<ClaimWords<'_>>
+    ensures { option_map said_claim result ≡ witness_claim dir text.now }
 {
-    let Some((label, threshold)) = witness_parts(dir, text) else {
-        return Ok(None);
-    };
-    let label = Vec::from_slice(alloc, label)?;
-    Ok(Some(Claim::Witness {
-        dir,
-        label,
-        threshold,
-    }))
+    match name_and_threshold(text.strip_prefix(witness_front(dir))?) {
+        Some((label, threshold)) => Some(ClaimWords::Witness(dir, label, threshold)),
+        None => None,
+    }
 }
 
 /// The claim of this direction in this line.
 #[tactic(auto, unfolding(crate::specs::Reading::claim_to))]
-fn claim_to(alloc: Global, dir: Dir, text: &[u8]) -> Result<Option<Claim>, AllocError>
-    ensures { IfOk result (λ c. option_map plain_claim c ≡ claim_to dir text.now) }
+fn claim_to(dir: Dir, text: &[u8]) -> Option<ClaimWords<'_>>
+    ensures { option_map said_claim result ≡ claim_to dir text.now }
 {
-    if let Some(claim) = reach_claim(alloc, dir, text)? {
-        return Ok(Some(claim));
+    if let Some(claim) = reach_claim(dir, text) {
+        return Some(claim);
     }
-    if let Some(claim) = reward_claim(alloc, dir, text)? {
-        return Ok(Some(claim));
+    if let Some(claim) = reward_claim(dir, text) {
+        return Some(claim);
     }
-    if let Some(claim) = mean_claim(alloc, dir, text)? {
-        return Ok(Some(claim));
+    if let Some(claim) = mean_claim(dir, text) {
+        return Some(claim);
     }
-    witness_claim(alloc, dir, text)
+    witness_claim(dir, text)
 }
 
 /// The claim of this line, where it has one.
 #[tactic(auto, unfolding(crate::specs::Reading::claim_of))]
-fn claim_of(alloc: Global, text: &[u8]) -> Result<Option<Claim>, AllocError>
-    ensures { IfOk result (λ c. option_map plain_claim c ≡ claim_of text.now) }
+fn claim_of(text: &[u8]) -> Option<ClaimWords<'_>>
+    ensures { option_map said_claim result ≡ claim_of text.now }
 {
-    if let Some(claim) = upper_claim(alloc, text)? {
-        return Ok(Some(claim));
+    if let Some(claim) = upper_claim(text) {
+        return Some(claim);
     }
-    if let Some(claim) = claim_to(alloc, Dir::Max, text)? {
-        return Ok(Some(claim));
+    if let Some(claim) = claim_to(Dir::Max, text) {
+        return Some(claim);
     }
-    claim_to(alloc, Dir::Min, text)
+    claim_to(Dir::Min, text)
+}
+
+/// The claim that these words say, with its names copied.
+fn owned_claim(alloc: Global, said: &ClaimWords<'_>) -> Result<Claim, AllocError>
+    ensures { IfOk result (λ c. plain_claim c ≡ said_claim said.now) }
+{
+    match said {
+        ClaimWords::Upper(label) => {
+            let label = Vec::from_slice(alloc, label)?;
+            Ok(Claim::Upper { label })
+        }
+        ClaimWords::Reach(dir, label) => {
+            let label = Vec::from_slice(alloc, label)?;
+            Ok(Claim::Reach { dir: *dir, label })
+        }
+        ClaimWords::Reward(dir, name, label) => {
+            let name = Vec::from_slice(alloc, name)?;
+            let label = Vec::from_slice(alloc, label)?;
+            Ok(Claim::Reward {
+                dir: *dir,
+                name,
+                label,
+            })
+        }
+        ClaimWords::Mean(dir, name) => {
+            let name = Vec::from_slice(alloc, name)?;
+            Ok(Claim::Mean { dir: *dir, name })
+        }
+        ClaimWords::Witness(dir, label, threshold) => {
+            let label = Vec::from_slice(alloc, label)?;
+            Ok(Claim::Witness {
+                dir: *dir,
+                label,
+                threshold: *threshold,
+            })
+        }
+    }
 }
 
 /// The claim of this line.
@@ -211,8 +214,8 @@ fn claim_of(alloc: Global, text: &[u8]) -> Result<Option<Claim>, AllocError>
 pub fn claim_at(alloc: Global, line: u64, text: &[u8]) -> Result<Claim, CertError>
     ensures { MatchResult result (λ c. claim_at line text.now ≡ Ok (plain_claim c)) (λ e. Refuses e (claim_at line text.now)) }
 {
-    match claim_of(alloc, text)? {
-        Some(claim) => Ok(claim),
+    match claim_of(text) {
+        Some(said) => Ok(owned_claim(alloc, &said)?),
         None => Err(CertError::At {
             line,
             kind: CertKind::Claim,

@@ -1,15 +1,16 @@
-ghost use Rattle.std.specs.Prelude.{◌≡◌, IfOk, map, option_map};
+ghost use Rattle.std.specs.Prelude.{◌≡◌, IfOk, option_map};
 ghost use Rattle.mdp_cert.specs.Cert.{floor};
 ghost use Rattle.mdp_cert.specs.Witness.{floor_line_at, floor_listed, floor_lines, floor_body};
 
+use crate::column::{Column, column_of};
 use crate::floor_line::FloorLine;
-use crate::flow_lines::is_next;
+use crate::flow_lines::is_in_order;
 use crate::listed::{Line, Lines};
-use crate::mark::{mark_at, push_mark};
+use crate::mark::{mark_at, mark_word};
 use mdp_claims::FloorCert;
 use mdp_num::{Frac, Memory};
 use mdp_text::{
-    CertKind, Refusal, cut_word, frac_at, only_word, push_fraction, push_word, refuse_if, whole_at,
+    CertKind, Part, Refusal, cut_word, frac_at, only_word, push_parts, refuse_if, whole_at,
     words_behind,
 };
 use std::alloc::{AllocError, Global};
@@ -46,7 +47,7 @@ impl Line for FloorLine {
         refuse_if(
             CertKind::Count,
             line,
-            !(is_next(state_before(before), state) && state < states),
+            !is_in_order(state_before(before), state, states),
         )?;
         Ok(FloorLine {
             state,
@@ -57,11 +58,19 @@ impl Line for FloorLine {
     }
 
     fn push_words(&self, out: &mut Vec<u8>) -> Result<(), Memory> {
-        out.extend_from_slice(b"keep")?;
-        push_word(out, u64::from(self.state))?;
-        push_fraction(out, &self.value)?;
-        push_word(out, u64::from(self.rank))?;
-        push_mark(out, self.wide)
+        push_parts(
+            out,
+            &[
+                Part::Bytes(b"keep "),
+                Part::Whole(u64::from(self.state)),
+                Part::Bytes(b" "),
+                Part::Fraction(self.value),
+                Part::Bytes(b" "),
+                Part::Whole(u64::from(self.rank)),
+                Part::Bytes(b" "),
+                Part::Bytes(mark_word(self.wide)),
+            ],
+        )
     }
 }
 
@@ -80,32 +89,56 @@ impl Lines for FloorCert {
     }
 }
 
-/// The states of these lines.
-fn states_of(alloc: Global, lines: &[FloorLine]) -> Result<Vec<u32>, AllocError>
-    ensures { IfOk result (λ v. v.items ≡ map (λ x. x.state) lines.now) }
-{
-    lines.iter().map(|line| line.state).collect(alloc)
+/// The column of kept states.
+struct KeptState;
+
+impl Column<FloorLine> for KeptState {
+    type Item = u32;
+
+    ghost field = { λ x. x.state };
+
+    fn of(entry: &FloorLine) -> u32 {
+        entry.state
+    }
 }
 
-/// The marks of these lines.
-fn marks_of(alloc: Global, lines: &[FloorLine]) -> Result<Vec<bool>, AllocError>
-    ensures { IfOk result (λ v. v.items ≡ map (λ x. x.wide) lines.now) }
-{
-    lines.iter().map(|line| line.wide).collect(alloc)
+/// The column of marks.
+struct Mark;
+
+impl Column<FloorLine> for Mark {
+    type Item = bool;
+
+    ghost field = { λ x. x.wide };
+
+    fn of(entry: &FloorLine) -> bool {
+        entry.wide
+    }
 }
 
-/// The values of these lines.
-fn values_of(alloc: Global, lines: &[FloorLine]) -> Result<Vec<Frac>, AllocError>
-    ensures { IfOk result (λ v. v.items ≡ map (λ x. x.value) lines.now) }
-{
-    lines.iter().map(|line| line.value).collect(alloc)
+/// The column of values.
+struct Value;
+
+impl Column<FloorLine> for Value {
+    type Item = Frac;
+
+    ghost field = { λ x. x.value };
+
+    fn of(entry: &FloorLine) -> Frac {
+        entry.value
+    }
 }
 
-/// The ranks of these lines.
-fn ranks_of(alloc: Global, lines: &[FloorLine]) -> Result<Vec<u32>, AllocError>
-    ensures { IfOk result (λ v. v.items ≡ map (λ x. x.rank) lines.now) }
-{
-    lines.iter().map(|line| line.rank).collect(alloc)
+/// The column of ranks.
+struct Rank;
+
+impl Column<FloorLine> for Rank {
+    type Item = u32;
+
+    ghost field = { λ x. x.rank };
+
+    fn of(entry: &FloorLine) -> u32 {
+        entry.rank
+    }
 }
 
 /// The kept states with their marks, values and ranks, of these lines.
@@ -113,9 +146,9 @@ pub(crate) fn floor_cert(alloc: Global, lines: &[FloorLine]) -> Result<FloorCert
     ensures { IfOk result (λ c. floor c.kept.items c.wide.items c.values.items c.ranks.items ≡ floor_body lines.now) }
 {
     Ok(FloorCert {
-        kept: states_of(alloc, lines)?,
-        wide: marks_of(alloc, lines)?,
-        values: values_of(alloc, lines)?,
-        ranks: ranks_of(alloc, lines)?,
+        kept: column_of::<KeptState, _>(alloc, lines)?,
+        wide: column_of::<Mark, _>(alloc, lines)?,
+        values: column_of::<Value, _>(alloc, lines)?,
+        ranks: column_of::<Rank, _>(alloc, lines)?,
     })
 }

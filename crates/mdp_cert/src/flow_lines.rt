@@ -1,26 +1,43 @@
-ghost use Rattle.std.specs.Prelude.{◌≡◌, ◌&&◌, IfOk, length, filter_map, option_and_then};
+ghost use Rattle.std.specs.Prelude.{◌≡◌, ◌&&◌, ◌++◌, nat_lt, IfOk, OnOk, length, filter_map, option_and_then};
+ghost use Rattle.std.specs.List.{join_with_byte};
+ghost use Rattle.mdp_text.specs.Answer.{Keeps};
+ghost use Rattle.mdp_cert.specs.declared.flow_line.FlowLine.TheVariants.{Keep, Send};
 ghost use Rattle.mdp_cert.specs.Cert.{is_next, is_next_flow, flow};
-ghost use Rattle.mdp_cert.specs.Witness.{keep_at, flow_at, flow_line_at, kept_in, mark_in, flow_in, flow_listed, keep_lines, flow_lines, flow_body};
+ghost use Rattle.mdp_cert.specs.Witness.{keep_at, flow_at, flow_line_at, kept_in, mark_in, flow_in, flow_line_words, flow_listed, keep_lines, flow_lines, flow_body};
 
 use crate::flow_line::FlowLine;
 use crate::listed::{Line, Lines};
-use crate::mark::{mark_at, push_mark};
+use crate::mark::{mark_at, mark_word};
 use mdp_claims::{Flow, FlowCert};
 use mdp_num::Memory;
 use mdp_text::{
-    CertKind, Refusal, begins_with, cut_word, frac_at, only_word, push_fraction, push_word,
-    refuse_if, whole_at, words_behind,
+    CertKind, Part, Refusal, begins_with, cut_word, frac_at, only_word, push_parts, refuse_if,
+    whole_at, words_behind,
 };
 use std::alloc::{AllocError, Global};
 
 /// Whether a state's number may stand behind this one.
-pub(crate) fn is_next(before: Option<u32>, state: u32) -> bool
+fn is_next(before: Option<u32>, state: u32) -> bool
     ensures { result ≡ is_next before state }
 {
     match before {
         Some(before) => before < state,
         None => true,
     }
+}
+
+/// Whether a state of so many may stand behind this one.
+pub(crate) fn is_in_order(before: Option<u32>, state: u32, states: u32) -> bool
+    ensures { result ≡ (is_next before state && nat_lt state states) }
+{
+    is_next(before, state) && state < states
+}
+
+/// Whether a flow on so many states may stand behind this one.
+fn is_flow_in_order(before: &Option<Flow>, flow: &Flow, states: u32) -> bool
+    ensures { result ≡ (is_next_flow before.now flow.now && nat_lt flow.now.state states) }
+{
+    is_next_flow(before, flow) && flow.state < states
 }
 
 /// Whether a flow may stand behind this one.
@@ -94,11 +111,7 @@ fn keep_at(states: u32, before: Option<u32>, line: u64, text: &[u8]) -> Result<F
     let (number, mark) = cut_word(behind);
     let wide = mark_at(line, only_word(mark))?;
     let state = whole_at(line, number)?;
-    refuse_if(
-        CertKind::Count,
-        line,
-        !(is_next(before, state) && state < states),
-    )?;
+    refuse_if(CertKind::Count, line, !is_in_order(before, state, states))?;
     Ok(FlowLine::Keep { state, wide })
 }
 
@@ -121,9 +134,43 @@ fn flow_at(states: u32, before: &Option<Flow>, line: u64, text: &[u8]) -> Result
     refuse_if(
         CertKind::Count,
         line,
-        !(is_next_flow(before, &flow) && state < states),
+        !is_flow_in_order(before, &flow, states),
     )?;
     Ok(FlowLine::Send(flow))
+}
+
+/// Appends the words of a kept state.
+fn push_keep(out: &mut Vec<u8>, state: u32, wide: bool) -> Result<(), Memory>
+    ensures text { OnOk result (out.new.items ≡ out.old.items ++ join_with_byte 32 (flow_line_words (Keep state wide))) }
+    ensures front { Keeps out.old.items out.new.items }
+{
+    push_parts(
+        out,
+        &[
+            Part::Bytes(b"keep "),
+            Part::Whole(u64::from(state)),
+            Part::Bytes(b" "),
+            Part::Bytes(mark_word(wide)),
+        ],
+    )
+}
+
+/// Appends the words of a flow.
+fn push_flow(out: &mut Vec<u8>, flow: &Flow) -> Result<(), Memory>
+    ensures text { OnOk result (out.new.items ≡ out.old.items ++ join_with_byte 32 (flow_line_words (Send flow.now))) }
+    ensures front { Keeps out.old.items out.new.items }
+{
+    push_parts(
+        out,
+        &[
+            Part::Bytes(b"flow "),
+            Part::Whole(u64::from(flow.state)),
+            Part::Bytes(b" "),
+            Part::Whole(u64::from(flow.choice)),
+            Part::Bytes(b" "),
+            Part::Fraction(flow.amount),
+        ],
+    )
 }
 
 /// The lines of the claim `max witness`: the kept states, and behind them the flows.
@@ -147,17 +194,8 @@ impl Line for FlowLine {
 
     fn push_words(&self, out: &mut Vec<u8>) -> Result<(), Memory> {
         match self {
-            FlowLine::Keep { state, wide } => {
-                out.extend_from_slice(b"keep")?;
-                push_word(out, u64::from(*state))?;
-                push_mark(out, *wide)
-            }
-            FlowLine::Send(flow) => {
-                out.extend_from_slice(b"flow")?;
-                push_word(out, u64::from(flow.state))?;
-                push_word(out, u64::from(flow.choice))?;
-                push_fraction(out, &flow.amount)
-            }
+            FlowLine::Keep { state, wide } => push_keep(out, *state, *wide),
+            FlowLine::Send(flow) => push_flow(out, flow),
         }
     }
 }

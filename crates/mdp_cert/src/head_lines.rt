@@ -10,7 +10,7 @@ use crate::claim::Claim;
 use crate::claim_line::claim_at;
 use crate::head::Head;
 use crate::version::Version;
-use mdp_text::{CertError, CertKind, Init, Refusal, next_line, start_at, states_at, valued_at};
+use mdp_text::{CertError, CertKind, Init, Refusal, next_line, start_at, states_from, valued_at};
 use std::alloc::Global;
 
 /// The version that the first line names.
@@ -61,8 +61,7 @@ pub(crate) fn head_from(alloc: Global, bytes: &[u8]) -> Result<(Head, &[u8]), Ce
 {
     let (text, rest) = next_line(2, bytes)?;
     let claim = claim_at(alloc, 2, text)?;
-    let (text, rest) = next_line(3, rest)?;
-    let states = states_at(3, text)?;
+    let (states, rest) = states_from(3, rest)?;
     let (text, rest) = next_line(4, rest)?;
     let init = init_at(&claim, states, 4, text)?;
     Ok((

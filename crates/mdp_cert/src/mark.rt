@@ -1,8 +1,6 @@
-ghost use Rattle.std.specs.Prelude.{◌≡◌, ◌++◌, ◌∷◌, OnOk};
-ghost use Rattle.mdp_text.specs.Answer.{Keeps};
+ghost use Rattle.std.specs.Prelude.{◌≡◌};
 ghost use Rattle.mdp_cert.specs.Witness.{mark_text, mark_at};
 
-use mdp_num::Memory;
 use mdp_text::{CertKind, Refusal};
 
 /// Whether the word of a kept state says that it stays because without it a number is past width.
@@ -21,15 +19,9 @@ pub(crate) fn mark_at(line: u64, word: &[u8]) -> Result<bool, Refusal>
     })
 }
 
-/// Appends a blank and the word of a kept state.
-pub(crate) fn push_mark(out: &mut Vec<u8>, wide: bool) -> Result<(), Memory>
-    ensures text { OnOk result (out.new.items ≡ out.old.items ++ (32 ∷ mark_text wide)) }
-    ensures front { Keeps out.old.items out.new.items }
+/// The word of a kept state.
+pub(crate) fn mark_word(wide: bool) -> &'static [u8]
+    ensures { result.now ≡ mark_text wide }
 {
-    if wide {
-        out.extend_from_slice(b" wide")?;
-    } else {
-        out.extend_from_slice(b" kept")?;
-    }
-    Ok(())
+    if wide { b"wide" } else { b"kept" }
 }

@@ -1,15 +1,14 @@
-ghost use Rattle.std.specs.Prelude.{◌≡◌, IfOk, map};
+ghost use Rattle.std.specs.Prelude.{◌≡◌, IfOk};
 ghost use Rattle.mdp_cert.specs.Cert.{gains};
 ghost use Rattle.mdp_cert.specs.Claims.{mean_columns, means};
 ghost use Rattle.mdp_cert.specs.Reading.{mean_body, spread_at};
 
+use crate::column::{Column, column_of};
 use crate::entries::{Entry, Lists};
 use crate::mean_entry::MeanEntry;
 use mdp_claims::MeanCert;
 use mdp_num::{Frac, Memory, read_canonical};
-use mdp_text::{
-    Refusal, cut_word, frac_at, only_word, push_fraction, push_word, whole_of, words_behind,
-};
+use mdp_text::{Part, Refusal, cut_word, frac_at, only_word, push_parts, whole_of, words_behind};
 use std::alloc::{AllocError, Global};
 
 /// The line of a state for the claim `DIR mean`: a gain, a bound, a bias and a choice.
@@ -33,10 +32,18 @@ impl Entry for MeanEntry {
     }
 
     fn push_words(&self, out: &mut Vec<u8>) -> Result<(), Memory> {
-        self.gain.push_text(out)?;
-        push_fraction(out, &self.bound)?;
-        push_fraction(out, &self.bias)?;
-        push_word(out, u64::from(self.choice))
+        push_parts(
+            out,
+            &[
+                Part::Fraction(self.gain),
+                Part::Bytes(b" "),
+                Part::Fraction(self.bound),
+                Part::Bytes(b" "),
+                Part::Fraction(self.bias),
+                Part::Bytes(b" "),
+                Part::Whole(u64::from(self.choice)),
+            ],
+        )
     }
 
     fn is_same(&self, other: &MeanEntry) -> bool {
@@ -63,32 +70,56 @@ impl Lists for MeanCert {
     }
 }
 
-/// The gains of these entries.
-fn gains_of(alloc: Global, entries: &[MeanEntry]) -> Result<Vec<Frac>, AllocError>
-    ensures { IfOk result (λ v. v.items ≡ map (λ x. x.gain) entries.now) }
-{
-    entries.iter().map(|entry| entry.gain).collect(alloc)
+/// The column of gains.
+struct Gain;
+
+impl Column<MeanEntry> for Gain {
+    type Item = Frac;
+
+    ghost field = { λ x. x.gain };
+
+    fn of(entry: &MeanEntry) -> Frac {
+        entry.gain
+    }
 }
 
-/// The bounds of these entries.
-fn bounds_of(alloc: Global, entries: &[MeanEntry]) -> Result<Vec<Frac>, AllocError>
-    ensures { IfOk result (λ v. v.items ≡ map (λ x. x.bound) entries.now) }
-{
-    entries.iter().map(|entry| entry.bound).collect(alloc)
+/// The column of bounds.
+struct Bound;
+
+impl Column<MeanEntry> for Bound {
+    type Item = Frac;
+
+    ghost field = { λ x. x.bound };
+
+    fn of(entry: &MeanEntry) -> Frac {
+        entry.bound
+    }
 }
 
-/// The biases of these entries.
-fn biases_of(alloc: Global, entries: &[MeanEntry]) -> Result<Vec<Frac>, AllocError>
-    ensures { IfOk result (λ v. v.items ≡ map (λ x. x.bias) entries.now) }
-{
-    entries.iter().map(|entry| entry.bias).collect(alloc)
+/// The column of biases.
+struct Bias;
+
+impl Column<MeanEntry> for Bias {
+    type Item = Frac;
+
+    ghost field = { λ x. x.bias };
+
+    fn of(entry: &MeanEntry) -> Frac {
+        entry.bias
+    }
 }
 
-/// The choices of these entries.
-fn choices_of(alloc: Global, entries: &[MeanEntry]) -> Result<Vec<u32>, AllocError>
-    ensures { IfOk result (λ v. v.items ≡ map (λ x. x.choice) entries.now) }
-{
-    entries.iter().map(|entry| entry.choice).collect(alloc)
+/// The column of choices.
+struct Choice;
+
+impl Column<MeanEntry> for Choice {
+    type Item = u32;
+
+    ghost field = { λ x. x.choice };
+
+    fn of(entry: &MeanEntry) -> u32 {
+        entry.choice
+    }
 }
 
 /// The gains, the bounds, the biases and the choices of these entries, and the spread.
@@ -100,10 +131,10 @@ pub(crate) fn mean_cert(
     ensures { IfOk result (λ c. gains c.gains.items c.bound.items c.bias.items c.choices.items c.spread ≡ mean_body spread entries.now) }
 {
     Ok(MeanCert {
-        gains: gains_of(alloc, entries)?,
-        bound: bounds_of(alloc, entries)?,
-        bias: biases_of(alloc, entries)?,
-        choices: choices_of(alloc, entries)?,
+        gains: column_of::<Gain, _>(alloc, entries)?,
+        bound: column_of::<Bound, _>(alloc, entries)?,
+        bias: column_of::<Bias, _>(alloc, entries)?,
+        choices: column_of::<Choice, _>(alloc, entries)?,
         spread,
     })
 }

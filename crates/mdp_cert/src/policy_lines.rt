@@ -1,8 +1,9 @@
-ghost use Rattle.std.specs.Prelude.{◌≡◌, ◌<◌, IfOk, length, map, slice_index_or};
+ghost use Rattle.std.specs.Prelude.{◌≡◌, ◌<◌, IfOk, length, slice_index_or};
 ghost use Rattle.mdp_cert.specs.Cert.{policy, rewards};
 ghost use Rattle.mdp_cert.specs.Claims.{policy_columns, policies};
 ghost use Rattle.mdp_cert.specs.Reading.{policy_body, reward_body};
 
+use crate::column::{Column, column_of};
 use crate::entries::{Entry, Lists};
 use crate::policy_entry::PolicyEntry;
 use crate::values::Value;
@@ -75,34 +76,43 @@ impl Lists for RewardCert {
     }
 }
 
-/// The values of these entries.
-fn values_of<V: Copy + Drop>(
-    alloc: Global,
-    entries: &[PolicyEntry<V>],
-) -> Result<Vec<V>, AllocError>
-    ensures { IfOk result (λ v. v.items ≡ map (λ x. x.value) entries.now) }
-{
-    entries.iter().map(|entry| entry.value).collect(alloc)
+/// The column of values.
+struct StateValue;
+
+impl<V: Copy + Drop> Column<PolicyEntry<V>> for StateValue {
+    type Item = V;
+
+    ghost field = { λ x. x.value };
+
+    fn of(entry: &PolicyEntry<V>) -> V {
+        entry.value
+    }
 }
 
-/// The choices of these entries.
-fn choices_of<V: Copy + Drop>(
-    alloc: Global,
-    entries: &[PolicyEntry<V>],
-) -> Result<Vec<u32>, AllocError>
-    ensures { IfOk result (λ v. v.items ≡ map (λ x. x.choice) entries.now) }
-{
-    entries.iter().map(|entry| entry.choice).collect(alloc)
+/// The column of choices.
+struct Choice;
+
+impl<V: Copy + Drop> Column<PolicyEntry<V>> for Choice {
+    type Item = u32;
+
+    ghost field = { λ x. x.choice };
+
+    fn of(entry: &PolicyEntry<V>) -> u32 {
+        entry.choice
+    }
 }
 
-/// The ranks of these entries.
-fn ranks_of<V: Copy + Drop>(
-    alloc: Global,
-    entries: &[PolicyEntry<V>],
-) -> Result<Vec<u32>, AllocError>
-    ensures { IfOk result (λ v. v.items ≡ map (λ x. x.rank) entries.now) }
-{
-    entries.iter().map(|entry| entry.rank).collect(alloc)
+/// The column of ranks.
+struct Rank;
+
+impl<V: Copy + Drop> Column<PolicyEntry<V>> for Rank {
+    type Item = u32;
+
+    ghost field = { λ x. x.rank };
+
+    fn of(entry: &PolicyEntry<V>) -> u32 {
+        entry.rank
+    }
 }
 
 /// The values, the choices and the ranks of these entries.
@@ -113,9 +123,9 @@ pub(crate) fn reach_cert(
     ensures { IfOk result (λ c. policy c.values.items c.choices.items c.ranks.items ≡ policy_body entries.now) }
 {
     Ok(ReachCert {
-        values: values_of(alloc, entries)?,
-        choices: choices_of(alloc, entries)?,
-        ranks: ranks_of(alloc, entries)?,
+        values: column_of::<StateValue, _>(alloc, entries)?,
+        choices: column_of::<Choice, _>(alloc, entries)?,
+        ranks: column_of::<Rank, _>(alloc, entries)?,
     })
 }
 
@@ -127,8 +137,8 @@ pub(crate) fn reward_cert(
     ensures { IfOk result (λ c. rewards c.values.items c.choices.items c.ranks.items ≡ reward_body entries.now) }
 {
     Ok(RewardCert {
-        values: values_of(alloc, entries)?,
-        choices: choices_of(alloc, entries)?,
-        ranks: ranks_of(alloc, entries)?,
+        values: column_of::<StateValue, _>(alloc, entries)?,
+        choices: column_of::<Choice, _>(alloc, entries)?,
+        ranks: column_of::<Rank, _>(alloc, entries)?,
     })
 }

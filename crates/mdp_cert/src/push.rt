@@ -3,51 +3,45 @@ ghost use Rattle.mdp_num.specs.Value.{spelling};
 ghost use Rattle.mdp_cert.specs.Cert.{plain_claim};
 ghost use Rattle.mdp_cert.specs.Runs.{run};
 ghost use Rattle.mdp_text.specs.Spelling.{line};
-ghost use Rattle.mdp_cert.specs.Spelling.{claim_text, entry_text, run_text, spread_text};
+ghost use Rattle.mdp_cert.specs.Spelling.{claim_text, states_front, run_text, spread_text};
 ghost use Rattle.mdp_text.specs.Answer.{Keeps};
 
 use crate::claim::Claim;
 use crate::claim_line::{mean_front, reach_front, reward_front, witness_front};
 use crate::entries::Entry;
 use mdp_num::{Frac, Memory};
-use mdp_text::{push_fraction_end, push_whole, push_word};
+use mdp_text::{Part, push_parts};
 
-/// Appends a blank, the words of an entry and the line's end.
-fn push_entry_end<E: Entry>(out: &mut Vec<u8>, entry: &E) -> Result<(), Memory>
-    ensures text { OnOk result (out.new.items ≡ out.old.items ++ (32 ∷ (entry_text E.columns entry.now ++ 10 ∷ []))) }
+/// Appends what stands before the words of the line of the states from the first to the last.
+fn push_states(out: &mut Vec<u8>, first: u32, last: u32) -> Result<(), Memory>
+    requires { first ≤ last }
+    ensures text { OnOk result (out.new.items ≡ out.old.items ++ states_front first (last - first)) }
     ensures front { Keeps out.old.items out.new.items }
 {
-    out.extend_from_slice(b" ")?;
-    entry.push_words(out)?;
-    out.extend_from_slice(b"\n")?;
-    Ok(())
-}
-
-/// Appends the line of a state.
-#[tactic(auto, unfolding(crate::specs::Spelling::run_text))]
-fn push_state<E: Entry>(out: &mut Vec<u8>, state: u32, entry: &E) -> Result<(), Memory>
-    ensures text { OnOk result (out.new.items ≡ out.old.items ++ line (run_text E.columns state (run entry.now 0))) }
-    ensures front { Keeps out.old.items out.new.items }
-{
-    out.extend_from_slice(b"state ")?;
-    push_whole(out, u64::from(state))?;
-    push_entry_end(out, entry)
-}
-
-/// Appends the line of the states from the first to the last, which are two or more.
-#[tactic(auto, unfolding(crate::specs::Spelling::run_text))]
-fn push_states<E: Entry>(out: &mut Vec<u8>, first: u32, last: u32, entry: &E) -> Result<(), Memory>
-    requires { first < last }
-    ensures text { OnOk result (out.new.items ≡ out.old.items ++ line (run_text E.columns first (run entry.now (last - first)))) }
-    ensures front { Keeps out.old.items out.new.items }
-{
-    out.extend_from_slice(b"run ")?;
-    push_whole(out, u64::from(first))?;
-    push_word(out, u64::from(last))?;
-    push_entry_end(out, entry)
+    if first == last {
+        return push_parts(
+            out,
+            &[
+                Part::Bytes(b"state "),
+                Part::Whole(u64::from(first)),
+                Part::Bytes(b" "),
+            ],
+        );
+    }
+    push_parts(
+        out,
+        &[
+            Part::Bytes(b"run "),
+            Part::Whole(u64::from(first)),
+            Part::Bytes(b" "),
+            Part::Whole(u64::from(last)),
+            Part::Bytes(b" "),
+        ],
+    )
 }
 
 /// Appends the line of the states from the first to the last.
+#[tactic(auto, unfolding(crate::specs::Spelling::run_text))]
 pub(crate) fn push_run<E: Entry>(
     out: &mut Vec<u8>,
     first: u32,
@@ -58,48 +52,64 @@ pub(crate) fn push_run<E: Entry>(
     ensures text { OnOk result (out.new.items ≡ out.old.items ++ line (run_text E.columns first (run entry.now (last - first)))) }
     ensures front { Keeps out.old.items out.new.items }
 {
-    if first == last {
-        push_state(out, first, entry)
-    } else {
-        push_states(out, first, last, entry)
-    }
+    push_states(out, first, last)?;
+    entry.push_words(out)?;
+    push_parts(out, &[Part::Bytes(b"\n")])
 }
 
 /// Appends a line of this front and a name in quotes; the front ends with the first quote.
-fn push_quoted(out: &mut Vec<u8>, front: &[u8], name: &[u8]) -> Result<(), Memory>
+fn push_quoted<'a>(out: &mut Vec<u8>, front: &'a [u8], name: &'a [u8]) -> Result<(), Memory>
     ensures text { OnOk result (out.new.items ≡ out.old.items ++ line (front.now ++ (name.now ++ 34 ∷ []))) }
     ensures front { Keeps out.old.items out.new.items }
 {
-    out.extend_from_slice(front)?;
-    out.extend_from_slice(name)?;
-    out.extend_from_slice(b"\"\n")?;
-    Ok(())
+    push_parts(
+        out,
+        &[Part::Bytes(front), Part::Bytes(name), Part::Bytes(b"\"\n")],
+    )
 }
 
 /// Appends a line of this front and two names in quotes; the front ends with the first quote.
-fn push_two_quoted(out: &mut Vec<u8>, front: &[u8], name: &[u8], label: &[u8]) -> Result<(), Memory>
+fn push_two_quoted<'a>(
+    out: &mut Vec<u8>,
+    front: &'a [u8],
+    name: &'a [u8],
+    label: &'a [u8],
+) -> Result<(), Memory>
     ensures text { OnOk result (out.new.items ≡ out.old.items ++ line (front.now ++ (name.now ++ 34 ∷ 32 ∷ 34 ∷ (label.now ++ 34 ∷ [])))) }
     ensures front { Keeps out.old.items out.new.items }
 {
-    out.extend_from_slice(front)?;
-    out.extend_from_slice(name)?;
-    push_quoted(out, b"\" \"", label)
+    push_parts(
+        out,
+        &[
+            Part::Bytes(front),
+            Part::Bytes(name),
+            Part::Bytes(b"\" \""),
+            Part::Bytes(label),
+            Part::Bytes(b"\"\n"),
+        ],
+    )
 }
 
 /// Appends a line of this front, a name in quotes and a fraction; the front ends with the first quote.
-fn push_threshold(
+fn push_threshold<'a>(
     out: &mut Vec<u8>,
-    front: &[u8],
-    name: &[u8],
+    front: &'a [u8],
+    name: &'a [u8],
     threshold: &Frac,
 ) -> Result<(), Memory>
     ensures text { OnOk result (out.new.items ≡ out.old.items ++ line (front.now ++ (name.now ++ 34 ∷ 32 ∷ spelling threshold.now))) }
     ensures front { Keeps out.old.items out.new.items }
 {
-    out.extend_from_slice(front)?;
-    out.extend_from_slice(name)?;
-    out.extend_from_slice(b"\"")?;
-    push_fraction_end(out, threshold)
+    push_parts(
+        out,
+        &[
+            Part::Bytes(front),
+            Part::Bytes(name),
+            Part::Bytes(b"\" "),
+            Part::Fraction(*threshold),
+            Part::Bytes(b"\n"),
+        ],
+    )
 }
 
 /// Appends the line of the claim.
@@ -127,6 +137,12 @@ pub fn push_spread(out: &mut Vec<u8>, spread: &Frac) -> Result<(), Memory>
     ensures text { OnOk result (out.new.items ≡ out.old.items ++ line (spread_text spread.now)) }
     ensures front { Keeps out.old.items out.new.items }
 {
-    out.extend_from_slice(b"spread")?;
-    push_fraction_end(out, spread)
+    push_parts(
+        out,
+        &[
+            Part::Bytes(b"spread "),
+            Part::Fraction(*spread),
+            Part::Bytes(b"\n"),
+        ],
+    )
 }

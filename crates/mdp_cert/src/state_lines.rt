@@ -1,4 +1,4 @@
-ghost use Rattle.std.specs.Prelude.{◌≡◌, ◌+◌, ◌<◌, ◌≤◌, ◌^◌, ◌++◌, Ok, Err, OnOk, IfOk, MatchResult, length};
+ghost use Rattle.std.specs.Prelude.{◌≡◌, [], ◌+◌, ◌<◌, ◌≤◌, ◌^◌, ◌++◌, ◌==◌, ◌||◌, not, nat_lt, Ok, Err, OnOk, IfOk, MatchResult, length};
 ghost use Rattle.std.proofs.Math.ListN.{replicate};
 ghost use Rattle.mdp_text.specs.Answer.{Refuses};
 ghost use Rattle.mdp_text.specs.Lines.{place};
@@ -37,6 +37,13 @@ fn state_at<E: Entry>(due: u32, line: u64, text: &[u8]) -> Result<(E, u32), Refu
     Ok((entry, 0))
 }
 
+/// Whether these states are no run of two or more of so many states, from the one that is due on.
+fn is_no_run(states: u32, due: u32, first: u32, last: u32) -> bool
+    ensures { result ≡ (not (first == due) || not (nat_lt first last) || not (nat_lt last states)) }
+{
+    first != due || first >= last || last >= states
+}
+
 /// The entry of the line `run A B WORDS`, where A is the state that is due, and how many states follow A.
 #[tactic(auto, unfolding(crate::specs::Reading::run_at))]
 fn run_at<E: Entry>(states: u32, due: u32, line: u64, text: &[u8]) -> Result<(E, u32), Refusal>
@@ -49,11 +56,7 @@ fn run_at<E: Entry>(states: u32, due: u32, line: u64, text: &[u8]) -> Result<(E,
     let (word, behind) = cut_word(behind);
     let last = whole_at(line, word)?;
     let entry = entry_at(line, behind)?;
-    refuse_if(
-        CertKind::Count,
-        line,
-        first != due || first >= last || last >= states,
-    )?;
+    refuse_if(CertKind::Count, line, is_no_run(states, due, first, last))?;
     Ok((entry, last - first))
 }
 
@@ -132,20 +135,20 @@ fn push_times<E: Entry>(entries: &mut Vec<E>, entry: E, times: u32) -> Result<()
     Ok(())
 }
 
-/// Reads the lines of the states, the first of which has this number, and gives their entries, the number of the line behind them and the
-/// bytes from there on.
-fn entries_from<E: Entry>(
-    alloc: Global,
+/// Reads the lines of the states, the first of which has this number, into an empty list of entries, and gives the number of the line behind
+/// them and the bytes from there on.
+fn entries_from<'a, E: Entry>(
+    entries: &mut Vec<E>,
     version: Version,
     states: u32,
     line: u64,
-    bytes: &[u8],
-) -> Result<(Vec<E>, u64, &[u8]), CertError>
-    requires { line < 2 ^ 32 }
-    ensures said { let read = entries_from version E.columns states (place line bytes.now) in MatchResult result (λ p. read ≡ Ok (p.0.items, place p.1 p.2.now)) (λ e. Refuses e read) }
-    ensures lines { IfOk result (λ p. p.1 ≤ line + states) }
+    bytes: &'a [u8],
+) -> Result<(u64, &'a [u8]), CertError>
+    requires empty { entries.now.items ≡ [] }
+    requires line { line < 2 ^ 32 }
+    ensures said { let read = entries_from version E.columns states (place line bytes.now) in MatchResult result (λ p. read ≡ Ok (entries.new.items, place p.0 p.1.now)) (λ e. Refuses e read) }
+    ensures lines { IfOk result (λ p. p.0 ≤ line + states) }
 {
-    let mut entries = Vec::new(alloc);
     let mut before = None;
     let mut due = 0;
     let mut next = line;
@@ -153,17 +156,35 @@ fn entries_from<E: Entry>(
     while due < states {
         let (text, behind) = next_line(next, rest)?;
         let (entry, more) = run_in(version, states, due, &before, next, text)?;
-        push_times(&mut entries, entry, more + 1)?;
+        push_times(entries, entry, more + 1)?;
         before = Some(entry);
         due += more + 1;
         next += 1;
         rest = behind;
     }
-    Ok((entries, next, rest))
+    Ok((next, rest))
+}
+
+/// The same with the line `end`.
+#[tactic(auto, unfolding(crate::specs::Reading::entries_to_end))]
+fn lines_to_end<'a, E: Entry>(
+    entries: &mut Vec<E>,
+    version: Version,
+    states: u32,
+    line: u64,
+    bytes: &'a [u8],
+) -> Result<(u64, &'a [u8]), CertError>
+    requires empty { entries.now.items ≡ [] }
+    requires line { line < 2 ^ 32 }
+    ensures { let read = entries_to_end version E.columns states (place line bytes.now) in MatchResult result (λ p. read ≡ Ok (entries.new.items, place p.0 p.1.now)) (λ e. Refuses e read) }
+{
+    let (next, rest) = entries_from(entries, version, states, line, bytes)?;
+    let (text, rest) = next_line(next, rest)?;
+    is_line(CertKind::Shape, b"end", next, text)?;
+    Ok((next + 1, rest))
 }
 
 /// Reads the lines of the states and the line `end`, and gives the entries, the number of the line behind it and the bytes from there on.
-#[tactic(auto, unfolding(crate::specs::Reading::entries_to_end))]
 pub fn entries_to_end<E: Entry>(
     alloc: Global,
     version: Version,
@@ -174,8 +195,7 @@ pub fn entries_to_end<E: Entry>(
     requires { line < 2 ^ 32 }
     ensures { let read = entries_to_end version E.columns states (place line bytes.now) in MatchResult result (λ p. read ≡ Ok (p.0.items, place p.1 p.2.now)) (λ e. Refuses e read) }
 {
-    let (entries, next, rest) = entries_from(alloc, version, states, line, bytes)?;
-    let (text, rest) = next_line(next, rest)?;
-    is_line(CertKind::Shape, b"end", next, text)?;
-    Ok((entries, next + 1, rest))
+    let mut entries = Vec::new(alloc);
+    let (next, rest) = lines_to_end(&mut entries, version, states, line, bytes)?;
+    Ok((entries, next, rest))
 }

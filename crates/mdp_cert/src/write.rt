@@ -15,18 +15,18 @@ use crate::listed::push_listed;
 use crate::push::{push_claim, push_run, push_spread};
 use crate::version::Version;
 use mdp_num::Memory;
-use mdp_text::{or_cut_back, push_end, push_init, push_number};
+use mdp_text::{Part, or_cut_back, push_end, push_init, push_number, push_parts};
 
 /// Appends the line of the version.
 fn push_version(out: &mut Vec<u8>, version: Version) -> Result<(), Memory>
     ensures text { OnOk result (out.new.items ≡ out.old.items ++ line (version_text version)) }
     ensures front { Keeps out.old.items out.new.items }
 {
-    match version {
-        Version::One => out.extend_from_slice(b"mdp-certificate 1\n")?,
-        Version::Two => out.extend_from_slice(b"mdp-certificate 2\n")?,
-    }
-    Ok(())
+    let version = match version {
+        Version::One => b"mdp-certificate 1\n",
+        Version::Two => b"mdp-certificate 2\n",
+    };
+    push_parts(out, &[Part::Bytes(version)])
 }
 
 /// Appends the lines of claim, states and init.

@@ -8,15 +8,16 @@ ghost use Rattle.mdp_horizon.specs.Answer.{lists, plain};
 use crate::bounded::Bounded;
 use mdp_num::Memory;
 use mdp_rows::{Dir, Model};
-use mdp_text::{init_with, push_end, push_init, push_number, push_values, push_whole, push_word};
+use mdp_text::{
+    Part, init_with, push_end, push_init, push_number, push_parts, push_values, push_word,
+};
 
 /// Appends the line of the version.
 pub(crate) fn push_version(out: &mut Vec<u8>) -> Result<(), Memory>
     ensures text { OnOk result (out.new.items ≡ out.old.items ++ line version_text) }
     ensures front { Keeps out.old.items out.new.items }
 {
-    out.extend_from_slice(b"mdp-horizon 1\n")?;
-    Ok(())
+    push_parts(out, &[Part::Bytes(b"mdp-horizon 1\n")])
 }
 
 /// The words before the labels of a bounded until.
@@ -30,24 +31,28 @@ fn until_words(dir: Dir) -> &'static [u8]
 }
 
 /// Appends the line of the claim of a bounded until.
-pub(crate) fn push_until(
+pub(crate) fn push_until<'a>(
     out: &mut Vec<u8>,
     dir: Dir,
-    stay: &[u8],
-    label: &[u8],
+    stay: &'a [u8],
+    label: &'a [u8],
     steps: u64,
 ) -> Result<(), Memory>
     ensures text { OnOk result (out.new.items ≡ out.old.items ++ line (until_claim dir stay.now label.now steps)) }
     ensures front { Keeps out.old.items out.new.items }
 {
-    out.extend_from_slice(until_words(dir))?;
-    out.extend_from_slice(stay)?;
-    out.extend_from_slice(b"\" \"")?;
-    out.extend_from_slice(label)?;
-    out.extend_from_slice(b"\" ")?;
-    push_whole(out, steps)?;
-    out.extend_from_slice(b"\n")?;
-    Ok(())
+    push_parts(
+        out,
+        &[
+            Part::Bytes(until_words(dir)),
+            Part::Bytes(stay),
+            Part::Bytes(b"\" \""),
+            Part::Bytes(label),
+            Part::Bytes(b"\" "),
+            Part::Whole(steps),
+            Part::Bytes(b"\n"),
+        ],
+    )
 }
 
 /// The words before the name of a total reward.
@@ -65,12 +70,16 @@ pub(crate) fn push_total(out: &mut Vec<u8>, dir: Dir, name: &[u8], steps: u64) -
     ensures text { OnOk result (out.new.items ≡ out.old.items ++ line (total_claim dir name.now steps)) }
     ensures front { Keeps out.old.items out.new.items }
 {
-    out.extend_from_slice(total_words(dir))?;
-    out.extend_from_slice(name)?;
-    out.extend_from_slice(b"\" ")?;
-    push_whole(out, steps)?;
-    out.extend_from_slice(b"\n")?;
-    Ok(())
+    push_parts(
+        out,
+        &[
+            Part::Bytes(total_words(dir)),
+            Part::Bytes(name),
+            Part::Bytes(b"\" "),
+            Part::Whole(steps),
+            Part::Bytes(b"\n"),
+        ],
+    )
 }
 
 /// Appends each choice behind a blank.
@@ -89,11 +98,9 @@ fn push_step(out: &mut Vec<u8>, left: u64, choices: &[u32]) -> Result<(), Memory
     ensures text { OnOk result (out.new.items ≡ out.old.items ++ line (step_text left choices.now)) }
     ensures front { Keeps out.old.items out.new.items }
 {
-    out.extend_from_slice(b"step ")?;
-    push_whole(out, left)?;
+    push_parts(out, &[Part::Bytes(b"step "), Part::Whole(left)])?;
     push_choices(out, choices)?;
-    out.extend_from_slice(b"\n")?;
-    Ok(())
+    push_parts(out, &[Part::Bytes(b"\n")])
 }
 
 /// Appends the lines of the steps, the first step first.

@@ -8,6 +8,7 @@ use crate::bounded::Bounded;
 use crate::push::{push_answer, push_total, push_version};
 use mdp_num::Memory;
 use mdp_rows::{Dir, Model};
+use mdp_text::or_cut_back;
 
 /// Appends all lines; after `Memory` the text begins as before.
 #[tactic(auto, unfolding(crate::specs::Spelling::total_text))]
@@ -42,8 +43,5 @@ pub fn write_total(
 {
     let start = out.len();
     let answer = push_lines(out, model, dir, name, bounded);
-    if answer.is_err() {
-        out.truncate(start);
-    }
-    answer
+    or_cut_back(out, start, answer)
 }

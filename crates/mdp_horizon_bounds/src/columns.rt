@@ -173,9 +173,9 @@ impl Query<'_> {
         ensures choices { IfOk result (λ made. made.choices.items ≡ choices_next self.entry.dir self.entry.one self.entry.model.now (plain_objective self.entry.objective) follow.now) }
     {
         let mut made = Columns {
-            cover: Vec::with_capacity(alloc, cover.len())?,
-            follow: Vec::with_capacity(alloc, cover.len())?,
-            choices: Vec::with_capacity(alloc, cover.len())?,
+            cover: Vec::new(alloc),
+            follow: Vec::new(alloc),
+            choices: Vec::new(alloc),
         };
         for s in 0..self.model.states() {
             let choices = rows[s as usize].as_slice();

@@ -1,23 +1,22 @@
 ghost use Rattle.std.specs.Prelude.{◌≡◌, ◌<◌, ◌++◌, ◌∷◌, [], codes, decimal, length, OnOk};
-ghost use Rattle.mdp_num.specs.Value.{spelling};
 ghost use Rattle.mdp_spec.specs.Mdp.{states_of};
 ghost use Rattle.mdp_spec.specs.Labels.{initial_of};
 ghost use Rattle.mdp_text.specs.Answer.{Keeps};
+ghost use Rattle.mdp_text.specs.Parts.{part_text};
 ghost use Rattle.mdp_text.specs.Spelling.{line, dir_text, quoted};
 ghost use Rattle.mdp_horizon_bounds.specs.Spelling.{version_text, claim_text, objective_text, plain_claim, lower_text, upper_text, start_text, init_text, state_text, state_lines};
 
 use crate::claim::Claim;
 use mdp_num::{Frac, Memory};
 use mdp_rows::{Dir, Model};
-use mdp_text::{push_fraction, push_fraction_end, push_whole};
+use mdp_text::{Part, push_parts};
 
 /// Appends the line of the version.
 pub(crate) fn push_version(out: &mut Vec<u8>) -> Result<(), Memory>
     ensures text { OnOk result (out.new.items ≡ out.old.items ++ line version_text) }
     ensures front { Keeps out.old.items out.new.items }
 {
-    out.extend_from_slice(b"mdp-horizon-bounds 1\n")?;
-    Ok(())
+    push_parts(out, &[Part::Bytes(b"mdp-horizon-bounds 1\n")])
 }
 
 /// The word of a direction, with the blanks around it.
@@ -36,19 +35,25 @@ fn push_objective(out: &mut Vec<u8>, claim: Claim<'_>) -> Result<(), Memory>
     ensures front { Keeps out.old.items out.new.items }
 {
     match claim {
-        Claim::Until(stay, label) => {
-            out.extend_from_slice(b"until \"")?;
-            out.extend_from_slice(stay)?;
-            out.extend_from_slice(b"\" \"")?;
-            out.extend_from_slice(label)?;
-        }
-        Claim::Total(name) => {
-            out.extend_from_slice(b"total \"")?;
-            out.extend_from_slice(name)?;
-        }
+        Claim::Until(stay, label) => push_parts(
+            out,
+            &[
+                Part::Bytes(b"until \""),
+                Part::Bytes(stay),
+                Part::Bytes(b"\" \""),
+                Part::Bytes(label),
+                Part::Bytes(b"\""),
+            ],
+        ),
+        Claim::Total(name) => push_parts(
+            out,
+            &[
+                Part::Bytes(b"total \""),
+                Part::Bytes(name),
+                Part::Bytes(b"\""),
+            ],
+        ),
     }
-    out.extend_from_slice(b"\"")?;
-    Ok(())
 }
 
 /// Appends the line of the claim.
@@ -61,55 +66,57 @@ pub(crate) fn push_claim(
     ensures text { OnOk result (out.new.items ≡ out.old.items ++ line (claim_text dir (plain_claim claim.entry) steps)) }
     ensures front { Keeps out.old.items out.new.items }
 {
-    out.extend_from_slice(front_of(dir))?;
+    push_parts(out, &[Part::Bytes(front_of(dir))])?;
     push_objective(out, claim)?;
-    out.extend_from_slice(b" ")?;
-    push_whole(out, steps)?;
-    out.extend_from_slice(b"\n")?;
-    Ok(())
+    push_parts(
+        out,
+        &[Part::Bytes(b" "), Part::Whole(steps), Part::Bytes(b"\n")],
+    )
 }
 
-/// Appends a blank and a lower value, `-inf` where it is missing.
-fn push_lower(out: &mut Vec<u8>, value: &Option<Frac>) -> Result<(), Memory>
-    ensures text { OnOk result (out.new.items ≡ out.old.items ++ (32 ∷ lower_text value.now)) }
-    ensures front { Keeps out.old.items out.new.items }
+/// A lower value, `-inf` where it is missing.
+fn lower_part(value: &Option<Frac>) -> Part<'static>
+    ensures { part_text result ≡ lower_text value.now }
 {
     match value {
-        Some(value) => push_fraction(out, value),
-        None => {
-            out.extend_from_slice(b" -inf")?;
-            Ok(())
-        }
+        Some(value) => Part::Fraction(*value),
+        None => Part::Bytes(b"-inf"),
     }
 }
 
-/// Appends a blank, an upper value, `inf` where it is missing, and the line's end.
-fn push_upper(out: &mut Vec<u8>, value: &Option<Frac>) -> Result<(), Memory>
-    ensures text { OnOk result (out.new.items ≡ out.old.items ++ (32 ∷ (upper_text value.now ++ 10 ∷ []))) }
-    ensures front { Keeps out.old.items out.new.items }
+/// An upper value, `inf` where it is missing.
+fn upper_part(value: &Option<Frac>) -> Part<'static>
+    ensures { part_text result ≡ upper_text value.now }
 {
     match value {
-        Some(value) => push_fraction_end(out, value),
-        None => {
-            out.extend_from_slice(b" inf\n")?;
-            Ok(())
-        }
+        Some(value) => Part::Fraction(*value),
+        None => Part::Bytes(b"inf"),
     }
 }
 
-/// Appends a state, its values and the line's end.
+/// Appends a front, a state, its values and the line's end.
 fn push_values(
     out: &mut Vec<u8>,
+    front: &[u8],
     state: u64,
     lower: &Option<Frac>,
     upper: &Option<Frac>,
 ) -> Result<(), Memory>
-    ensures text { OnOk result (out.new.items ≡ out.old.items ++ (decimal state ++ (32 ∷ (lower_text lower.now ++ (32 ∷ (upper_text upper.now ++ 10 ∷ [])))))) }
+    ensures text { OnOk result (out.new.items ≡ out.old.items ++ (front.now ++ (decimal state ++ (32 ∷ (lower_text lower.now ++ (32 ∷ (upper_text upper.now ++ 10 ∷ []))))))) }
     ensures front { Keeps out.old.items out.new.items }
 {
-    push_whole(out, state)?;
-    push_lower(out, lower)?;
-    push_upper(out, upper)
+    push_parts(
+        out,
+        &[
+            Part::Bytes(front),
+            Part::Whole(state),
+            Part::Bytes(b" "),
+            lower_part(lower),
+            Part::Bytes(b" "),
+            upper_part(upper),
+            Part::Bytes(b"\n"),
+        ],
+    )
 }
 
 /// Appends the line of a given initial state.
@@ -122,8 +129,7 @@ fn push_start(
     ensures text { OnOk result (out.new.items ≡ out.old.items ++ line (start_text state lower.now upper.now)) }
     ensures front { Keeps out.old.items out.new.items }
 {
-    out.extend_from_slice(b"init ")?;
-    push_values(out, state, lower, upper)
+    push_values(out, b"init ", state, lower, upper)
 }
 
 /// Appends the line of the initial state.
@@ -144,10 +150,7 @@ pub(crate) fn push_init(
             let high = upper[state as usize];
             push_start(out, u64::from(state), &low, &high)
         }
-        None => {
-            out.extend_from_slice(b"init -\n")?;
-            Ok(())
-        }
+        None => push_parts(out, &[Part::Bytes(b"init -\n")]),
     }
 }
 
@@ -161,8 +164,7 @@ fn push_state(
     ensures text { OnOk result (out.new.items ≡ out.old.items ++ line (state_text state lower.now upper.now)) }
     ensures front { Keeps out.old.items out.new.items }
 {
-    out.extend_from_slice(b"state ")?;
-    push_values(out, state, lower, upper)
+    push_values(out, b"state ", state, lower, upper)
 }
 
 /// Appends a line for each state.

@@ -10,7 +10,7 @@ use crate::push::{push_claim, push_init, push_states, push_version};
 use mdp_horizon::push_steps;
 use mdp_num::Memory;
 use mdp_rows::{Dir, Model};
-use mdp_text::{push_end, push_number};
+use mdp_text::{or_cut_back, push_end, push_number};
 
 /// Appends the lines before those of the states.
 fn push_head(
@@ -67,8 +67,5 @@ pub fn write_horizon_bounds(
 {
     let start = out.len();
     let answer = push_lines(out, model, dir, claim, bounds);
-    if answer.is_err() {
-        out.truncate(start);
-    }
-    answer
+    or_cut_back(out, start, answer)
 }

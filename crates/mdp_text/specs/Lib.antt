@@ -4,3 +4,4 @@ pub mod Heads
 pub mod Kinds
 pub mod Spelling
 pub mod Answer
+pub mod Parts

@@ -1,9 +1,11 @@
-ghost use Rattle.std.specs.Prelude.{◌≡◌};
+ghost use Rattle.std.specs.Prelude.{◌≡◌, ◌+◌, Ok, MatchResult};
+ghost use Rattle.mdp_text.specs.Answer.{Refuses};
+ghost use Rattle.mdp_text.specs.Lines.{place, line_by};
 ghost use Rattle.mdp_text.specs.Heads.{states_at, init_parse, init_of, given_at, valued_at, start_at};
 
-use crate::error::{CertKind, Refusal};
+use crate::error::{CertError, CertKind, Refusal};
 use crate::init::Init;
-use crate::lines::{or_refused, refuse_if};
+use crate::lines::{next_line, or_refused, refuse_if};
 use crate::numbers::{reward_of, whole_at};
 use crate::words::{cut_word, only_word, words_behind};
 use mdp_num::{Frac, read_canonical};
@@ -18,6 +20,15 @@ pub fn states_at(line: u64, text: &[u8]) -> Result<u32, Refusal>
     let states = whole_at(line, only_word(word))?;
     refuse_if(CertKind::Count, line, states == 0 || states > MAX_STATES)?;
     Ok(states)
+}
+
+/// Reads the line of the number of states, which has this number, and gives the bytes behind it.
+pub fn states_from(line: u64, bytes: &[u8]) -> Result<(u32, &[u8]), CertError>
+    ensures { let read = line_by states_at (place line bytes.now) in MatchResult result (λ p. read ≡ Ok (p.0, place (line + 1) p.1.now)) (λ e. Refuses e read) }
+{
+    let (text, rest) = next_line(line, bytes)?;
+    let states = states_at(line, text)?;
+    Ok((states, rest))
 }
 
 /// The value that a word spells: a fraction, or `inf` where values may be infinite.

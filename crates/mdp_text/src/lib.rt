@@ -9,17 +9,21 @@ mod initial;
 mod lines;
 mod names;
 mod numbers;
+mod part;
+mod parts;
 mod push;
 mod widths;
 mod words;
 
 pub use error::{CertError, CertKind, Refusal};
-pub use heads::{init_of, init_parse, start_at, states_at, valued_at};
+pub use heads::{init_of, init_parse, start_at, states_at, states_from, valued_at};
 pub use init::Init;
 pub use initial::{init_with, init_with_rewards};
 pub use lines::{is_line, next_line, nothing_behind, or_refused, refuse_if};
-pub use names::{before_quote, is_name, name_and_rest};
+pub use names::{before_quote, cut_name, is_name, name_and_rest};
 pub use numbers::{frac_at, reward_of, whole_at, whole_of};
+pub use part::Part;
+pub use parts::push_parts;
 pub use push::{
     or_cut_back, push_end, push_fraction, push_fraction_end, push_init, push_number, push_start,
     push_values, push_whole, push_word,

@@ -1,21 +1,14 @@
 ghost use Rattle.std.specs.Prelude.{◌≡◌, ◌+◌, Ok, Err, MatchResult};
-ghost use Rattle.std.specs.List.{position_or_len};
-ghost use Rattle.mdp_text.specs.Lines.{is_line_feed, place, next_line, is_line, refuse_if, or_refused, nothing_behind};
+ghost use Rattle.mdp_text.specs.Lines.{place, next_line, is_line, refuse_if, or_refused, nothing_behind};
 
 use crate::error::{CertKind, Refusal};
-
-/// How many bytes stand before the first line feed, or all where there is none.
-fn before_line_feed(bytes: &[u8]) -> usize
-    ensures { result ≡ position_or_len is_line_feed bytes.now }
-{
-    bytes.iter().take_while(|byte| **byte != b'\n').count()
-}
+use crate::words::before;
 
 /// The next line, which has this number (from 1), and the bytes behind its line feed; `End` where there is no line feed.
 pub fn next_line(line: u64, bytes: &[u8]) -> Result<(&[u8], &[u8]), Refusal>
     ensures { MatchResult result (λ p. next_line (place line bytes.now) ≡ Ok (p.0.now, place (line + 1) p.1.now)) (λ e. next_line (place line bytes.now) ≡ Err e) }
 {
-    let end = before_line_feed(bytes);
+    let end = before(bytes, b'\n');
     if end < bytes.len() {
         Ok((&bytes[..end], &bytes[end + 1..]))
     } else {

@@ -1,11 +1,12 @@
-ghost use Rattle.std.specs.Prelude.{◌≡◌, ◌++◌, ◌∷◌, [], take, decimal, OnOk, OnErr};
+ghost use Rattle.std.specs.Prelude.{◌≡◌, ◌++◌, ◌∷◌, [], take, codes, decimal, OnOk, OnErr};
 ghost use Rattle.mdp_num.specs.Value.{spelling};
-ghost use Rattle.mdp_text.specs.declared.init.Init.TheVariants.{Start};
+ghost use Rattle.mdp_text.specs.declared.init.Init.TheVariants.{Finite, Start};
 ghost use Rattle.mdp_text.specs.Answer.{Keeps};
-ghost use Rattle.mdp_text.specs.Spelling.{line, states_text, init_text, value_text, value_lines, end_text};
+ghost use Rattle.mdp_text.specs.Spelling.{line, ◌␣◌, states_text, init_text, value_text, value_lines, end_text};
 
 use crate::init::Init;
-use itoa::Buffer;
+use crate::part::Part;
+use crate::parts::push_parts;
 use mdp_num::{Frac, Memory};
 
 /// Ends a call that appended parts. After `Memory` it cuts the text back to where it began.
@@ -30,18 +31,7 @@ pub fn push_whole(out: &mut Vec<u8>, number: u64) -> Result<(), Memory>
     ensures front { Keeps out.old.items out.new.items }
     ensures unchanged { OnErr result (out.new.items ≡ out.old.items) }
 {
-    let mut buffer = Buffer::new();
-    out.extend_from_slice(buffer.format(number).as_bytes())?;
-    Ok(())
-}
-
-/// Appends a blank and the whole number, in parts.
-fn append_word(out: &mut Vec<u8>, number: u64) -> Result<(), Memory>
-    ensures text { OnOk result (out.new.items ≡ out.old.items ++ (32 ∷ decimal number)) }
-    ensures front { Keeps out.old.items out.new.items }
-{
-    out.extend_from_slice(b" ")?;
-    push_whole(out, number)
+    push_parts(out, &[Part::Whole(number)])
 }
 
 /// Appends a blank and the whole number.
@@ -50,18 +40,7 @@ pub fn push_word(out: &mut Vec<u8>, number: u64) -> Result<(), Memory>
     ensures front { Keeps out.old.items out.new.items }
     ensures unchanged { OnErr result (out.new.items ≡ out.old.items) }
 {
-    let start = out.len();
-    let answer = append_word(out, number);
-    or_cut_back(out, start, answer)
-}
-
-/// Appends a blank and the fraction, in parts.
-fn append_fraction(out: &mut Vec<u8>, value: &Frac) -> Result<(), Memory>
-    ensures text { OnOk result (out.new.items ≡ out.old.items ++ (32 ∷ spelling value.now)) }
-    ensures front { Keeps out.old.items out.new.items }
-{
-    out.extend_from_slice(b" ")?;
-    value.push_text(out)
+    push_parts(out, &[Part::Bytes(b" "), Part::Whole(number)])
 }
 
 /// Appends a blank and the fraction.
@@ -70,19 +49,7 @@ pub fn push_fraction(out: &mut Vec<u8>, value: &Frac) -> Result<(), Memory>
     ensures front { Keeps out.old.items out.new.items }
     ensures unchanged { OnErr result (out.new.items ≡ out.old.items) }
 {
-    let start = out.len();
-    let answer = append_fraction(out, value);
-    or_cut_back(out, start, answer)
-}
-
-/// Appends a blank, the fraction and the line's end, in parts.
-fn append_fraction_end(out: &mut Vec<u8>, value: &Frac) -> Result<(), Memory>
-    ensures text { OnOk result (out.new.items ≡ out.old.items ++ (32 ∷ (spelling value.now ++ 10 ∷ []))) }
-    ensures front { Keeps out.old.items out.new.items }
-{
-    push_fraction(out, value)?;
-    out.extend_from_slice(b"\n")?;
-    Ok(())
+    push_parts(out, &[Part::Bytes(b" "), Part::Fraction(*value)])
 }
 
 /// Appends a blank, the fraction and the line's end.
@@ -91,20 +58,14 @@ pub fn push_fraction_end(out: &mut Vec<u8>, value: &Frac) -> Result<(), Memory>
     ensures front { Keeps out.old.items out.new.items }
     ensures unchanged { OnErr result (out.new.items ≡ out.old.items) }
 {
-    let start = out.len();
-    let answer = append_fraction_end(out, value);
-    or_cut_back(out, start, answer)
-}
-
-/// Appends the line of the number of states, in parts.
-fn append_number(out: &mut Vec<u8>, states: u64) -> Result<(), Memory>
-    ensures text { OnOk result (out.new.items ≡ out.old.items ++ line (states_text states)) }
-    ensures front { Keeps out.old.items out.new.items }
-{
-    out.extend_from_slice(b"states")?;
-    push_word(out, states)?;
-    out.extend_from_slice(b"\n")?;
-    Ok(())
+    push_parts(
+        out,
+        &[
+            Part::Bytes(b" "),
+            Part::Fraction(*value),
+            Part::Bytes(b"\n"),
+        ],
+    )
 }
 
 /// Appends the line of the number of states.
@@ -113,9 +74,14 @@ pub fn push_number(out: &mut Vec<u8>, states: u64) -> Result<(), Memory>
     ensures front { Keeps out.old.items out.new.items }
     ensures unchanged { OnErr result (out.new.items ≡ out.old.items) }
 {
-    let start = out.len();
-    let answer = append_number(out, states);
-    or_cut_back(out, start, answer)
+    push_parts(
+        out,
+        &[
+            Part::Bytes(b"states "),
+            Part::Whole(states),
+            Part::Bytes(b"\n"),
+        ],
+    )
 }
 
 /// Appends the word `init` and the initial state: a line's front, or all but the end of a line without a value. After `Memory` the text begins as before.
@@ -123,31 +89,41 @@ pub fn push_start(out: &mut Vec<u8>, state: u32) -> Result<(), Memory>
     ensures text { OnOk result (out.new.items ≡ out.old.items ++ init_text (Start state)) }
     ensures front { Keeps out.old.items out.new.items }
 {
-    out.extend_from_slice(b"init")?;
-    push_word(out, u64::from(state))
+    push_ended(out, state, b"")
 }
 
-/// Appends the line of the initial state, in parts.
-fn append_init(out: &mut Vec<u8>, init: &Init) -> Result<(), Memory>
-    ensures text { OnOk result (out.new.items ≡ out.old.items ++ line (init_text init.now)) }
+/// Appends the word `init`, the initial state and these bytes.
+fn push_ended(out: &mut Vec<u8>, state: u32, end: &[u8]) -> Result<(), Memory>
+    ensures text { OnOk result (out.new.items ≡ out.old.items ++ (codes "init" ␣ (decimal state ++ end.now))) }
     ensures front { Keeps out.old.items out.new.items }
+    ensures unchanged { OnErr result (out.new.items ≡ out.old.items) }
 {
-    match init {
-        Init::Missing => out.extend_from_slice(b"init -\n")?,
-        Init::Finite(state, value) => {
-            push_start(out, *state)?;
-            push_fraction_end(out, value)?;
-        }
-        Init::Infinite(state) => {
-            push_start(out, *state)?;
-            out.extend_from_slice(b" inf\n")?;
-        }
-        Init::Start(state) => {
-            push_start(out, *state)?;
-            out.extend_from_slice(b"\n")?;
-        }
-    }
-    Ok(())
+    push_parts(
+        out,
+        &[
+            Part::Bytes(b"init "),
+            Part::Whole(u64::from(state)),
+            Part::Bytes(end),
+        ],
+    )
+}
+
+/// Appends the line of the initial state and its value.
+fn push_finite(out: &mut Vec<u8>, state: u32, value: &Frac) -> Result<(), Memory>
+    ensures text { OnOk result (out.new.items ≡ out.old.items ++ line (init_text (Finite state value.now))) }
+    ensures front { Keeps out.old.items out.new.items }
+    ensures unchanged { OnErr result (out.new.items ≡ out.old.items) }
+{
+    push_parts(
+        out,
+        &[
+            Part::Bytes(b"init "),
+            Part::Whole(u64::from(state)),
+            Part::Bytes(b" "),
+            Part::Fraction(*value),
+            Part::Bytes(b"\n"),
+        ],
+    )
 }
 
 /// Appends the line of the initial state.
@@ -156,9 +132,12 @@ pub fn push_init(out: &mut Vec<u8>, init: &Init) -> Result<(), Memory>
     ensures front { Keeps out.old.items out.new.items }
     ensures unchanged { OnErr result (out.new.items ≡ out.old.items) }
 {
-    let start = out.len();
-    let answer = append_init(out, init);
-    or_cut_back(out, start, answer)
+    match init {
+        Init::Missing => push_parts(out, &[Part::Bytes(b"init -\n")]),
+        Init::Finite(state, value) => push_finite(out, *state, value),
+        Init::Infinite(state) => push_ended(out, *state, b" inf\n"),
+        Init::Start(state) => push_ended(out, *state, b"\n"),
+    }
 }
 
 /// Appends the line of a state and its value.
@@ -166,9 +145,16 @@ fn push_value(out: &mut Vec<u8>, state: u64, value: &Frac) -> Result<(), Memory>
     ensures text { OnOk result (out.new.items ≡ out.old.items ++ line (value_text state value.now)) }
     ensures front { Keeps out.old.items out.new.items }
 {
-    out.extend_from_slice(b"state ")?;
-    push_whole(out, state)?;
-    push_fraction_end(out, value)
+    push_parts(
+        out,
+        &[
+            Part::Bytes(b"state "),
+            Part::Whole(state),
+            Part::Bytes(b" "),
+            Part::Fraction(*value),
+            Part::Bytes(b"\n"),
+        ],
+    )
 }
 
 /// Appends a line for each state, with its value, in parts.
@@ -199,6 +185,5 @@ pub fn push_end(out: &mut Vec<u8>) -> Result<(), Memory>
     ensures front { Keeps out.old.items out.new.items }
     ensures unchanged { OnErr result (out.new.items ≡ out.old.items) }
 {
-    out.extend_from_slice(b"end\n")?;
-    Ok(())
+    push_parts(out, &[Part::Bytes(b"end\n")])
 }

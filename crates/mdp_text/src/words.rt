@@ -6,18 +6,18 @@ ghost use Rattle.mdp_text.specs.Words.{is_blank, words, first_of, begins_with, w
 
 use crate::error::{CertKind, Refusal};
 
-/// How many bytes stand before the first blank, or all where there is none.
-fn before_blank(text: &[u8]) -> usize
-    ensures { result ≡ position_or_len is_blank text.now }
+/// How many bytes stand before the first one that is this byte, or all where there is none.
+pub(crate) fn before(text: &[u8], byte: u8) -> usize
+    ensures { result ≡ position_or_len (λ b. b == byte) text.now }
 {
-    text.iter().take_while(|byte| **byte != b' ').count()
+    text.iter().take_while(|each| **each != byte).count()
 }
 
 /// The first word and the text behind its blank; none where the text is one word.
 fn first_word(text: &[u8]) -> Option<(&[u8], &[u8])>
     ensures { MatchOption result (words text.now ≡ text.now ∷ []) (λ p. words text.now ≡ p.0.now ∷ words p.1.now) }
 {
-    let end = before_blank(text);
+    let end = before(text, b' ');
     if end < text.len() {
         Some((&text[..end], &text[end + 1..]))
     } else {

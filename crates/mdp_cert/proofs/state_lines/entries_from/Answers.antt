@@ -10,7 +10,7 @@ loop-due-init g c = (
   omega arith,
   omega arith,
   ap (λ xs. onto c.args.version g.E.Entry.columns c.args.states xs
-      (runs_from (c.args.states - 0) c.args.version g.E.Entry.columns c.args.states 0 _ (place c.args.line c.args.bytes.now))) c.new-entries.ensures.items
+      (runs_from (c.args.states - 0) c.args.version g.E.Entry.columns c.args.states 0 _ (place c.args.line c.args.bytes.now))) c.requires.empty
       ∙ first-line c.args.version g.E.Entry.columns c.args.states (place c.args.line c.args.bytes.now),
 )
 

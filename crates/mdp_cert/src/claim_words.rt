@@ -1,0 +1,17 @@
+use mdp_num::Frac;
+use mdp_rows::Dir;
+
+/// What the line of a claim says, with the names lent from the text.
+#[derive(Drop)]
+pub(crate) enum ClaimWords<'a> {
+    /// A bound on the probability of this label.
+    Upper(&'a [u8]),
+    /// The probability of this label.
+    Reach(Dir, &'a [u8]),
+    /// The reward of this name up to this label.
+    Reward(Dir, &'a [u8], &'a [u8]),
+    /// The mean payoff of the reward of this name.
+    Mean(Dir, &'a [u8]),
+    /// A subsystem for this label and threshold.
+    Witness(Dir, &'a [u8], Frac),
+}
